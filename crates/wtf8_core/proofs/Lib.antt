@@ -1,0 +1,9 @@
+pub mod Reading
+pub mod Forms
+pub mod Sound
+pub mod Complete
+pub mod FirstErr
+pub mod Instances
+pub mod UnitsLemmas
+pub mod EncoderLemmas
+pub mod DecoderLemmas

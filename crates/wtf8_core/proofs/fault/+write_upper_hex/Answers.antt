@@ -1,0 +1,27 @@
+use Rattle.std.proofs.Common.{◌≡◌, ℕ, zero, suc, ◌-◌, ◌<◌, ◌/◌, ◌%◌, [], ◌∷◌, ◌++◌, refl, sym, ap, ◌∙◌, arith, rules, sub-one}
+use Rattle.std.proofs.Output.{has_written_append, has_written_of_eq}
+use Rattle.std.proofs.lemmas.Str.{encode_ascii}
+use Rattle.std.proofs.lemmas.Grind.{common_steps}
+use Rattle.wtf8_core.specs.FaultText.{upper_hex, upper_hex_digit}
+use Rattle.wtf8_core.proofs.fault.+write_upper_hex.Goals as goal
+
+upper_hex-none : (k n : ℕ) → k ≡ 0 → upper_hex k n ≡ []
+unfolding upper_hex
+upper_hex-none zero n e = refl
+upper_hex-none (suc k) n e = cc
+
+upper_hex-more : (k n : ℕ) → 0 < k → upper_hex k n ≡ upper_hex (k - 1) (n / 16) ++ upper_hex_digit (n % 16) ∷ []
+unfolding upper_hex
+upper_hex-more zero n h = absurd (omega arith)
+upper_hex-more (suc k) n h = rw sub-one refl
+
+pub returns-then-digits-eq0 : goal.returns-then-digits-eq0
+returns-then-digits-eq0 g t c = search (rules, common_steps, upper_hex-none)
+
+pub returns : goal.returns
+returns g t c = λ p ok.
+    let e = upper_hex-more c.args.digits c.args.value (omega arith) in
+    let d = encode_ascii c.upper_hex_digit.result c.upper_hex_digit.ensures.ascii in
+    let first = c.in_ok-write_upper_hex.ensures p refl in
+    let last = c.write_char.ensures.writes first.plain ok in
+    has_written_of_eq _ _ _ _ _ (sym e) (has_written_append _ _ _ _ _ _ first (has_written_of_eq _ _ _ _ _ (d ∙ ap (λ x. x ∷ []) c.upper_hex_digit.ensures.value) last))

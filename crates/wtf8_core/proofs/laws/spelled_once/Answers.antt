@@ -1,0 +1,5 @@
+use Rattle.wtf8_core.proofs.Complete.{spelled_once}
+use Rattle.wtf8_core.proofs.laws.spelled_once.Goals as goal
+
+pub returns : goal.returns
+returns c = spelled_once

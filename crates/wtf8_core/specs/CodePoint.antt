@@ -1,0 +1,28 @@
+-- Code points, their bytes and their units.
+use Rattle.std.specs.Prelude.{ℕ, ◌+◌, ◌-◌, ◌/◌, ◌%◌, ◌≤◌, nat_lt, if◌then◌else◌, List, [], ◌∷◌}
+use Rattle.std.specs.Int.{IsInRange}
+
+abbrev pub IsCodePoint : ℕ → Type 0
+IsCodePoint c = c ≤ 0x10_FFFF
+
+-- a high (or leading) surrogate
+abbrev pub IsHigh : ℕ → Type 0
+IsHigh c = IsInRange 0xD800 0xDBFF c
+
+-- a low (or trailing) surrogate
+abbrev pub IsLow : ℕ → Type 0
+IsLow c = IsInRange 0xDC00 0xDFFF c
+
+-- the bytes of a code point (RFC 3629, section 3; of a surrogate WTF-8, generalized UTF-8)
+unfoldable pub form : ℕ → List ℕ
+form c =
+    if nat_lt c 0x80 then c ∷ []
+    else (if nat_lt c 0x800 then (0xC0 + c / 0x40) ∷ (0x80 + c % 0x40) ∷ []
+    else (if nat_lt c 0x1_0000 then (0xE0 + c / 0x1000) ∷ (0x80 + (c / 0x40) % 0x40) ∷ (0x80 + c % 0x40) ∷ []
+    else (0xF0 + c / 0x4_0000) ∷ (0x80 + (c / 0x1000) % 0x40) ∷ (0x80 + (c / 0x40) % 0x40) ∷ (0x80 + c % 0x40) ∷ []))
+
+-- the 16-bit units of a code point (RFC 2781, section 2.1)
+unfoldable pub wide : ℕ → List ℕ
+wide c =
+    if nat_lt c 0x1_0000 then c ∷ []
+    else (0xD800 + (c - 0x1_0000) / 0x400) ∷ (0xDC00 + (c - 0x1_0000) % 0x400) ∷ []

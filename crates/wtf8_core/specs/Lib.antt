@@ -1,0 +1,9 @@
+pub mod Byte
+pub mod CodePoint
+pub mod Wtf8
+pub mod Fault
+pub mod Items
+pub mod FaultText
+pub mod Reader
+pub mod Encoder
+pub mod Decoder

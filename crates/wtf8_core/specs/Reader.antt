@@ -1,0 +1,67 @@
+-- The reader, step by step: what `CodePoints` has left. No contract of another crate names these; `AreItems` says what the items are.
+use Rattle.std.specs.Prelude.{ℕ, zero, suc, ◌+◌, ◌*◌, ◌%◌, Bool, nat_lt, ◌&&◌, ◌||◌, if◌then◌else◌, List, [], ◌∷◌, Result, Ok, Err}
+use Rattle.std.specs.Int.{is_in_range}
+use Rattle.wtf8_core.specs.Byte.{needed_continuations}
+use Rattle.wtf8_core.specs.declared.fault.EncodingError.{EncodingError}
+use Rattle.wtf8_core.specs.declared.fault.EncodingError.TheVariants.{Byte, CodePoint, End}
+
+-- the value with the bits of n continuations joined to it, or what stands where one of them is missing
+unfoldable pub with_continuations : ℕ → ℕ → List ℕ → Result ℕ EncodingError
+with_continuations value zero bytes = Ok value
+with_continuations value (suc n) [] = Err End
+with_continuations value (suc n) (x ∷ bytes) =
+    if is_in_range 0x80 0xBF x then with_continuations (value * 0x40 + x % 0x40) n bytes else Err (Byte x)
+
+abbrev pub lead_bits : ℕ → ℕ
+lead_bits lead = if nat_lt lead 0xE0 then lead % 0x20 else lead % 0x10
+
+-- the least value of a form with n continuations
+abbrev pub least_value : ℕ → ℕ
+least_value n = if nat_lt n 2 then 0x80 else (if nat_lt n 3 then 0x800 else 0x1_0000)
+
+abbrev pub is_high : ℕ → Bool
+is_high c = is_in_range 0xD800 0xDBFF c
+
+abbrev pub is_low : ℕ → Bool
+is_low c = is_in_range 0xDC00 0xDFFF c
+
+-- what a shape of n continuations and this value is, behind a high surrogate or not
+unfoldable pub checked_value : Bool → ℕ → ℕ → Result ℕ EncodingError
+checked_value after_high n value =
+    if nat_lt value (least_value n) || nat_lt 0x10_FFFF value || (after_high && is_low value)
+    then Err (CodePoint value) else Ok value
+
+unfoldable pub and_then_checked : Bool → ℕ → Result ℕ EncodingError → Result ℕ EncodingError
+and_then_checked after_high n (Ok value) = checked_value after_high n value
+and_then_checked after_high n (Err fault) = Err fault
+
+-- how many continuations stand in front, n at most
+unfoldable pub continuations : ℕ → List ℕ → ℕ
+continuations zero bytes = 0
+continuations (suc n) [] = 0
+continuations (suc n) (x ∷ bytes) = if is_in_range 0x80 0xBF x then suc (continuations n bytes) else 0
+
+-- how many bytes behind a first byte belong to its item
+unfoldable pub behind_item : ℕ → List ℕ → ℕ
+behind_item b bytes = if nat_lt b 0xC2 then 0 else continuations (needed_continuations b) bytes
+
+-- the first code point, or the fault with which the bytes begin
+unfoldable pub first_item : Bool → ℕ → List ℕ → Result ℕ EncodingError
+first_item after_high b bytes =
+    if nat_lt b 0x80 then Ok b
+    else (if nat_lt b 0xC2 then Err (Byte b)
+    else and_then_checked after_high (needed_continuations b) (with_continuations (lead_bits b) (needed_continuations b) bytes))
+
+-- a code point and the items behind it, or a fault alone
+abbrev pub then_items : Result ℕ EncodingError → (Bool → List (Result ℕ EncodingError)) → List (Result ℕ EncodingError)
+then_items (Ok c) behind = Ok c ∷ behind (is_high c)
+then_items (Err fault) behind = Err fault ∷ []
+
+-- the items of the bytes behind the first n
+unfoldable pub items_behind : ℕ → Bool → List ℕ → List (Result ℕ EncodingError)
+items_behind n after_high [] = []
+items_behind (suc n) after_high (b ∷ bytes) = items_behind n after_high bytes
+items_behind zero after_high (b ∷ bytes) = then_items (first_item after_high b bytes) (λ h. items_behind (behind_item b bytes) h bytes)
+
+abbrev pub items_after : Bool → List ℕ → List (Result ℕ EncodingError)
+items_after after_high bytes = items_behind 0 after_high bytes

@@ -1,0 +1,30 @@
+//! Classes of bytes.
+ghost use Rattle.std.specs.Prelude.{◌≡◌, ◌↔◌, ◌≤◌, IsTrue};
+ghost use Rattle.wtf8_core.specs.Byte.{IsContinuation, needed_continuations};
+
+/// Whether a byte continues a sequence, that is whether it is one of 80 to BF
+/// (hexadecimal; RFC 3629, section 3).
+///
+/// `is_continuation(0xA9)` is true, `is_continuation(0xC3)` is false.
+#[inline(always)]
+pub fn is_continuation(byte: u8) -> bool
+    ensures { IsTrue result ↔ IsContinuation byte }
+{
+    (0x80..=0xBF).contains(&byte)
+}
+
+/// How many continuations a lead needs.
+#[inline(always)]
+pub(crate) fn needed_continuations(lead: u8) -> u8
+    ensures value { result ≡ needed_continuations lead }
+    ensures some { 1 ≤ result }
+    ensures few { result ≤ 3 }
+{
+    if lead < 0xE0 {
+        1
+    } else if lead < 0xF0 {
+        2
+    } else {
+        3
+    }
+}

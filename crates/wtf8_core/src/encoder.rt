@@ -1,0 +1,79 @@
+//! The units of bytes.
+ghost use Rattle.std.specs.Prelude.{◌≡◌, ◌∷◌};
+ghost use Rattle.std.specs.Iterator.{YieldsFirst, item_count};
+ghost use Rattle.wtf8_core.specs.Items.{AreUnitItems, unit_items};
+ghost use Rattle.wtf8_core.specs.Encoder.{pending_items, IsCodePointItem};
+
+use crate::code_points::CodePoints;
+use crate::fault::EncodingError;
+use std::marker::Model;
+
+/// The units of the code points that bytes spell up to their first fault, and then the fault.
+#[derive(Drop)]
+pub struct EncodeWide<'a> {
+    code_points: CodePoints<'a>,
+    pending: Option<u16>,
+}
+
+impl<'a> Model for EncodeWide<'a> {
+    ghost use Rattle.std.specs.Prelude.{List, ℕ, Result};
+    ghost use Rattle.std.specs.List.{AllByRecursion};
+    ghost use Rattle.wtf8_core.specs.declared.fault.EncodingError.{EncodingError};
+
+    ghost Value = { List (Result ℕ EncodingError) };
+
+    ghost use Rattle.wtf8_core.specs.Encoder.{encoder_items, IsCodePointItem};
+
+    ghost view = { λ it. encoder_items it.pending it.code_points };
+
+    ghost invariant = { λ it. AllByRecursion IsCodePointItem it.code_points };
+}
+
+/// The units of bytes.
+pub fn encode_wide<'a>(bytes: &'a [u8]) -> EncodeWide<'a>
+    ensures { AreUnitItems bytes.now result }
+{
+    EncodeWide {
+        code_points: CodePoints::new(bytes),
+        pending: None,
+    }
+}
+
+/// The first unit of a code point and the one behind it, or the fault.
+#[tactic(auto, using(crate::proofs::EncoderLemmas::one_unit, crate::proofs::EncoderLemmas::two_units))]
+fn first_unit(item: Result<u32, EncodingError>) -> (Result<u16, EncodingError>, Option<u16>)
+    requires { IsCodePointItem item }
+    ensures { unit_items item ≡ result.0 ∷ pending_items result.1 }
+{
+    match item {
+        Err(fault) => (Err(fault), None),
+        Ok(c) => {
+            if c < 0x1_0000 {
+                return (Ok(c as u16), None);
+            }
+            let offset = c - 0x1_0000;
+            let high = 0xD800 + offset / 0x400;
+            let low = 0xDC00 + offset % 0x400;
+            (Ok(high as u16), Some(low as u16))
+        }
+    }
+}
+
+impl<'a> Iterator for EncodeWide<'a> {
+    type Item = Result<u16, EncodingError>;
+
+    ghost next_gives = { YieldsFirst (λ rest. rest) };
+
+    ghost remaining = { item_count (λ rest. rest) };
+
+    fn next(&mut self) -> Option<Result<u16, EncodingError>> {
+        if let Some(unit) = self.pending {
+            self.pending = None;
+            return Some(Ok(unit));
+        }
+        let item = self.code_points.next()?;
+        let (unit, pending) = first_unit(item);
+        self.pending = pending;
+        Some(unit)
+    }
+}

@@ -1,0 +1,117 @@
+//! The faults of bytes, and their texts.
+ghost use Rattle.std.specs.Prelude.{◌≡◌, ◌∷◌, [], ◌<◌, ◌≤◌, Some};
+ghost use Rattle.std.specs.Char.{encode_utf8};
+ghost use Rattle.std.specs.Fmt.{WritesOnOk};
+ghost use Rattle.wtf8_core.specs.FaultText.{upper_hex, upper_hex_digit, code_point_digits, fault_text};
+
+use std::error::Error;
+use std::fmt;
+
+/// The reason why bytes spell no string of a platform.
+#[derive(Clone, Copy, Debug, PartialEq, Eq)]
+pub enum EncodingError {
+    Byte(u8),
+    CodePoint(u32),
+    End,
+    Utf8 {
+        valid_up_to: usize,
+        error_len: Option<u8>,
+    },
+}
+
+/// A digit from `0` to `9` or from `A` to `F`.
+fn upper_hex_digit(digit: u32) -> char
+    requires { digit < 16 }
+    ensures value { result ≡ upper_hex_digit digit }
+    ensures ascii { result < 128 }
+{
+    let digit = digit as u8;
+    if digit < 10 {
+        char::from(b'0' + digit)
+    } else {
+        char::from(b'A' + (digit - 10))
+    }
+}
+
+/// Writes the last `digits` digits of a number.
+fn write_upper_hex<W: fmt::Write>(value: u32, digits: u32, f: &mut fmt::Formatter<W>) -> fmt::Result
+    ensures { WritesOnOk W.write_str_gives f.old result (upper_hex digits value) f.new }
+{
+    if digits == 0 {
+        return Ok(());
+    }
+    write_upper_hex(value / 16, digits - 1, f)?;
+    f.write_char(upper_hex_digit(value % 16))
+}
+
+/// How many digits are written of a code point.
+fn code_point_digits(value: u32) -> u32
+    ensures { result ≡ code_point_digits value }
+{
+    match value {
+        0..=0xFFFF => 4,
+        0x1_0000..=0xF_FFFF => 5,
+        0x10_0000..=0xFF_FFFF => 6,
+        0x100_0000..=0xFFF_FFFF => 7,
+        _ => 8,
+    }
+}
+
+/// The last digits of a number.
+#[derive(Clone, Copy)]
+struct UpperHex {
+    value: u32,
+    digits: u32,
+}
+
+impl fmt::Display for UpperHex {
+    ghost output = { λ n. Some (upper_hex n.digits n.value) };
+
+    fn fmt<W: fmt::Write>(&self, f: &mut fmt::Formatter<W>) -> fmt::Result {
+        write_upper_hex(self.value, self.digits, f)
+    }
+}
+
+impl fmt::Display for EncodingError {
+    ghost output = { λ fault. Some (fault_text fault) };
+
+    fn fmt<W: fmt::Write>(&self, f: &mut fmt::Formatter<W>) -> fmt::Result {
+        match *self {
+            EncodingError::Byte(byte) => {
+                let digits = UpperHex {
+                    value: u32::from(byte),
+                    digits: 2,
+                };
+                f.write_str(NOT_REPRESENTABLE)?;
+                write!(f, "byte b'\\x{digits}'")
+            }
+            EncodingError::CodePoint(value) => {
+                let digits = UpperHex {
+                    value,
+                    digits: code_point_digits(value),
+                };
+                f.write_str(NOT_REPRESENTABLE)?;
+                write!(f, "code point U+{digits}")
+            }
+            EncodingError::End => {
+                f.write_str(NOT_REPRESENTABLE)?;
+                f.write_str("end of string")
+            }
+            EncodingError::Utf8 {
+                valid_up_to,
+                error_len,
+            } => match error_len {
+                Some(len) => write!(
+                    f,
+                    "invalid utf-8 sequence of {len} bytes from index {valid_up_to}"
+                ),
+                None => write!(f, "incomplete utf-8 byte sequence from index {valid_up_to}"),
+            },
+        }
+    }
+}
+
+impl Error for EncodingError {}
+
+const NOT_REPRESENTABLE: &str =
+    "byte sequence is not representable in the platform encoding; error at ";

@@ -1,0 +1,26 @@
+//! Bytes, code points and 16-bit units of Windows strings, kept as WTF-8.
+//!
+//! The crate knows no platform and takes no memory. It reads bytes as code points
+//! ([`CodePoints`]) and as units ([`encode_wide`]), spells units as bytes
+//! ([`DecodeWide`]), and names the first fault of bytes that spell nothing
+//! ([`EncodingError`]). The module [`laws`] has what holds of the definitions.
+//!
+//! Sources: RFC 3629 for the forms of code points, RFC 2781 for their units, and the
+//! WTF-8 encoding for surrogates. All lengths and places are numbers of bytes.
+#![tactic(auto)]
+
+mod byte;
+mod code_points;
+mod decoder;
+mod encoder;
+mod fault;
+pub mod laws;
+
+pub use byte::is_continuation;
+pub use code_points::CodePoints;
+pub use decoder::DecodeWide;
+pub use encoder::{EncodeWide, encode_wide};
+pub use fault::EncodingError;
+
+#[cfg(test)]
+mod tests;
