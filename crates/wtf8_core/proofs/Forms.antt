@@ -190,4 +190,11 @@ no_form b ks s w c p e =
         let m : least_value (needed_continuations b) ≤ c = subst (λ x. least_value (needed_continuations x) ≤ c) same f.least in
         ⊎_elim (λ h. clash _ _ _ v m h) (λ h. past _ _ v p h) w
 
-pub ruleset forms = (form_1, form_2, form_3, form_4)
+-- a form has one to four bytes
+pub form_bounds : (c : ℕ) → (1 ≤ length (form c)) × (length (form c) ≤ 4)
+form_bounds c =
+    ⊎_elim (λ h. rw (form_1 c h) (omega arith, omega arith))
+    (λ h. ⊎_elim (λ k. rw (form_2 c h k) (omega arith, omega arith))
+    (λ k. ⊎_elim (λ l. rw (form_3 c k l) (omega arith, omega arith)) (λ l. rw (form_4 c l) (omega arith, omega arith)) (cases_lt c 0x1_0000))
+    (cases_lt c 0x800))
+    (cases_lt c 0x80)

@@ -74,7 +74,7 @@ and_then_whole h n c bs (Ok v) k e = k v refl
 and_then_whole h n c bs (Err f) k e = cc
 
 -- behind a lead whose continuations are all there, these belong to it
-behind_code_point : (h : Bool) (b c : ℕ) (bs : List ℕ) → 0x80 ≤ b → first_item h b bs ≡ Ok c → behind_item b bs ≡ needed_continuations b
+pub behind_code_point : (h : Bool) (b c : ℕ) (bs : List ℕ) → 0x80 ≤ b → first_item h b bs ≡ Ok c → behind_item b bs ≡ needed_continuations b
 unfolding first_item behind_item
 behind_code_point h b c bs l e =
     let n = needed_continuations b in

@@ -1,6 +1,6 @@
 -- Code points, their bytes and their units.
-use Rattle.std.specs.Prelude.{ℕ, ◌+◌, ◌-◌, ◌/◌, ◌%◌, ◌≤◌, nat_lt, if◌then◌else◌, List, [], ◌∷◌}
-use Rattle.std.specs.Int.{IsInRange}
+use Rattle.std.specs.Prelude.{ℕ, ◌+◌, ◌-◌, ◌/◌, ◌%◌, ◌≤◌, Bool, nat_lt, if◌then◌else◌, List, [], ◌∷◌}
+use Rattle.std.specs.Int.{IsInRange, is_in_range}
 
 abbrev pub IsCodePoint : ℕ → Type 0
 IsCodePoint c = c ≤ 0x10_FFFF
@@ -12,6 +12,9 @@ IsHigh c = IsInRange 0xD800 0xDBFF c
 -- a low (or trailing) surrogate
 abbrev pub IsLow : ℕ → Type 0
 IsLow c = IsInRange 0xDC00 0xDFFF c
+
+abbrev pub is_surrogate : ℕ → Bool
+is_surrogate c = is_in_range 0xD800 0xDFFF c
 
 -- the bytes of a code point (RFC 3629, section 3; of a surrogate WTF-8, generalized UTF-8)
 unfoldable pub form : ℕ → List ℕ

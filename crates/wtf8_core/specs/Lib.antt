@@ -7,3 +7,11 @@ pub mod FaultText
 pub mod Reader
 pub mod Encoder
 pub mod Decoder
+pub mod Standing
+pub mod UnitPlace
+pub mod Character
+pub mod Covered
+pub mod Boundary
+pub mod Utf8
+pub mod Lossy
+pub mod UnitsOf

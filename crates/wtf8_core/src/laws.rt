@@ -1,9 +1,19 @@
-//! What holds of the definitions, each law as the contract of a function that does nothing.
-ghost use Rattle.std.specs.Prelude.{◌≡◌, ◌⊎◌, ◌<◌, ◌^◌, ℕ, List, Result};
+//! What holds of the definitions: each law is the contract of a function that does nothing.
+//!
+//! A caller that needs a law calls its function, and so knows it.
+ghost use Rattle.std.specs.Prelude.{◌≡◌, ◌⊎◌, ◌+◌, ◌-◌, ◌<◌, ◌≤◌, ◌^◌, ◌++◌, length, take, drop, ℕ, List, Option, Result};
 ghost use Rattle.std.specs.List.{All};
+ghost use Rattle.std.specs.Str.{IsUtf8, IsCharBoundary};
+ghost use Rattle.std.specs.Str.Lossy.{utf8_lossy};
 ghost use Rattle.wtf8_core.specs.Wtf8.{Spells, IsWtf8, HasUnits};
 ghost use Rattle.wtf8_core.specs.Fault.{IsFirstFault};
 ghost use Rattle.wtf8_core.specs.Items.{AreItems};
+ghost use Rattle.wtf8_core.specs.Standing.{StandsAt};
+ghost use Rattle.wtf8_core.specs.Character.{WholeCharacter};
+ghost use Rattle.wtf8_core.specs.Boundary.{IsBoundary};
+ghost use Rattle.wtf8_core.specs.Utf8.{IsUtf8Fault, part_end};
+ghost use Rattle.wtf8_core.specs.Lossy.{IsLossyText, IsWtf8LossyText};
+ghost use Rattle.wtf8_core.specs.UnitsOf.{units_of, wtf8_lossy};
 ghost use Rattle.wtf8_core.specs.declared.fault.EncodingError.{EncodingError};
 
 /// Bytes spell at most one list of code points.
@@ -13,10 +23,11 @@ pub fn spelled_once()
 
 /// Bytes have at most one first fault.
 pub fn one_first_fault()
-    ensures { (bytes : List ℕ) → (cs : List ℕ) → (ds : List ℕ) → (f : EncodingError) → (g : EncodingError) → IsFirstFault bytes cs f → IsFirstFault bytes ds g → (cs ≡ ds) × (f ≡ g) }
+    ensures { (bytes : List ℕ) → (cs : List ℕ) → (ds : List ℕ) → (f : EncodingError) → (g : EncodingError)
+        → IsFirstFault bytes cs f → IsFirstFault bytes ds g → (cs ≡ ds) × (f ≡ g) }
 {}
 
-/// Bytes with a first fault spell nothing.
+/// Bytes are WTF-8 or have a first fault, and never both.
 pub fn spelled_or_faulty()
     ensures either { (bytes : List ℕ) → All (λ b. b < 256) bytes → IsWtf8 bytes ⊎ ((cs : List ℕ) × (f : EncodingError) × IsFirstFault bytes cs f) }
     ensures never_both { (bytes : List ℕ) → (cs : List ℕ) → (f : EncodingError) → IsWtf8 bytes → IsFirstFault bytes cs f → ⊥ }
@@ -27,9 +38,52 @@ pub fn one_list_of_items()
     ensures { (bytes : List ℕ) → (xs : List (Result ℕ EncodingError)) → (ys : List (Result ℕ EncodingError)) → AreItems bytes xs → AreItems bytes ys → xs ≡ ys }
 {}
 
-/// Bytes with equal units are equal, each list of units is that of some bytes, and bytes have one list of units.
+/// The law of spelling: WTF-8 bytes with equal units are equal, each list of units is that of
+/// some bytes, and bytes have one list of units.
 pub fn spelling()
     ensures units_once { (bytes : List ℕ) → (others : List ℕ) → (us : List ℕ) → HasUnits bytes us → HasUnits others us → bytes ≡ others }
     ensures units_spelled { (us : List ℕ) → All (λ u. u < 2 ^ 16) us → (bytes : List ℕ) × HasUnits bytes us }
     ensures one_list_of_units { (bytes : List ℕ) → (us : List ℕ) → (vs : List ℕ) → HasUnits bytes us → HasUnits bytes vs → us ≡ vs }
+{}
+
+/// The functions of the units and of the lossy text of WTF-8 bytes give what the relations say.
+pub fn functions()
+    ensures units { (bytes : List ℕ) → IsWtf8 bytes → HasUnits bytes (units_of bytes) }
+    ensures lossy { (bytes : List ℕ) → IsWtf8 bytes → IsWtf8LossyText bytes (wtf8_lossy bytes) }
+{}
+
+/// Each byte list has one lossy text by maximal ill-formed parts, which is std's.
+pub fn lossy_text()
+    ensures is_std { (bytes : List ℕ) → IsLossyText bytes (utf8_lossy bytes) }
+    ensures only_std { (bytes : List ℕ) → (text : List ℕ) → IsLossyText bytes text → text ≡ utf8_lossy bytes }
+{}
+
+/// Whole characters don't overlap: two are one and the same, or one ends before the other starts.
+pub fn characters()
+    ensures { (s : List ℕ) → (i : ℕ) → (j : ℕ) → (a : ℕ) → (b : ℕ) → WholeCharacter s i j → WholeCharacter s a b
+        → ((i ≡ a) × (j ≡ b)) ⊎ ((j ≤ a) ⊎ (b ≤ i)) }
+{}
+
+/// Where a text stands that isn't empty, both its edges are boundaries. Of two boundaries the
+/// first is one of the front up to the second, the second one of the rest from the first on.
+pub fn boundaries()
+    ensures edges { (p : List ℕ) → (s : List ℕ) → (i : ℕ) → IsUtf8 p → 0 < length p → StandsAt p s i → IsBoundary s i × IsBoundary s (i + length p) }
+    ensures in_front { (s : List ℕ) → (i : ℕ) → (j : ℕ) → i ≤ j → IsBoundary s i → IsBoundary s j → IsBoundary (take j s) i }
+    ensures in_rest { (s : List ℕ) → (i : ℕ) → (j : ℕ) → i ≤ j → IsBoundary s i → IsBoundary s j → IsBoundary (drop i s) (j - i) }
+    ensures of_str { (s : List ℕ) → (i : ℕ) → IsUtf8 s → IsBoundary s i → IsCharBoundary s i }
+{}
+
+/// The law of cuts: at a boundary both parts of WTF-8 bytes are WTF-8, and their units joined
+/// are those of the whole; of a text both parts are texts.
+pub fn cuts()
+    ensures parts { (bytes : List ℕ) → (i : ℕ) → IsWtf8 bytes → IsBoundary bytes i → IsWtf8 (take i bytes) × IsWtf8 (drop i bytes) }
+    ensures units { (bytes : List ℕ) → (i : ℕ) → IsWtf8 bytes → IsBoundary bytes i → units_of bytes ≡ units_of (take i bytes) ++ units_of (drop i bytes) }
+    ensures texts { (bytes : List ℕ) → (i : ℕ) → IsUtf8 bytes → IsBoundary bytes i → IsUtf8 (take i bytes) × IsUtf8 (drop i bytes) }
+{}
+
+/// Each whole character ends before the maximal ill-formed part of a fault, or starts behind it:
+/// none starts or ends strictly inside the part, and none lies across its edges.
+pub fn ill_formed_parts()
+    ensures { (s : List ℕ) → (valid_up_to : ℕ) → (error_len : Option ℕ) → IsUtf8Fault s valid_up_to error_len
+        → (i : ℕ) → (j : ℕ) → WholeCharacter s i j → (j ≤ valid_up_to) ⊎ (part_end s valid_up_to error_len ≤ i) }
 {}

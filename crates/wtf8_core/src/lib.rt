@@ -10,17 +10,21 @@
 #![tactic(auto)]
 
 mod byte;
+mod character;
 mod code_points;
 mod decoder;
 mod encoder;
 mod fault;
 pub mod laws;
+mod utf8;
 
 pub use byte::is_continuation;
+pub use character::char_at;
 pub use code_points::CodePoints;
 pub use decoder::DecodeWide;
 pub use encoder::{EncodeWide, encode_wide};
 pub use fault::EncodingError;
+pub use utf8::utf8_fault;
 
 #[cfg(test)]
 mod tests;

@@ -1,0 +1,16 @@
+use Rattle.wtf8_core.proofs.Cuts.{char_boundary}
+use Rattle.wtf8_core.proofs.Edges.{edges_of_text}
+use Rattle.wtf8_core.proofs.Overlaps.{boundary_in_front, boundary_in_rest}
+use Rattle.wtf8_core.proofs.laws.boundaries.Goals as goal
+
+pub returns-clause-edges : goal.returns-clause-edges
+returns-clause-edges c = edges_of_text
+
+pub returns-clause-in_front : goal.returns-clause-in_front
+returns-clause-in_front c = boundary_in_front
+
+pub returns-clause-in_rest : goal.returns-clause-in_rest
+returns-clause-in_rest c = boundary_in_rest
+
+pub returns-clause-of_str : goal.returns-clause-of_str
+returns-clause-of_str c = char_boundary

@@ -1,0 +1,16 @@
+-- Whole characters (documentation of `OsStr`: a cut is allowed beside a valid UTF-8 substring that isn't empty).
+use Rattle.std.specs.Prelude.{◌≡◌, ℕ, ◌+◌, List, length, Option, MatchOption}
+use Rattle.std.specs.Char.{IsScalar}
+use Rattle.wtf8_core.specs.CodePoint.{form}
+use Rattle.wtf8_core.specs.Standing.{StandsAt}
+
+-- a whole character stands in s from byte i to byte j: the form of a scalar
+pub record WholeCharacter (s : List ℕ) (i j : ℕ) : Type 0 where
+  pub char : ℕ
+  pub scalar : IsScalar char
+  pub stands : StandsAt (form char) s i
+  pub end : j ≡ i + length (form char)
+
+-- r is the length of the whole character that starts in s at i, None where none starts there
+abbrev pub IsCharacterAt : List ℕ → ℕ → Option ℕ → Type 0
+IsCharacterAt s i r = MatchOption r ((j : ℕ) → ¬ (WholeCharacter s i j)) (λ n. WholeCharacter s i (i + n))

@@ -1,0 +1,26 @@
+-- Lossy texts: U+FFFD in the place of what is no text.
+use Rattle.std.specs.Prelude.{◌≡◌, ℕ, ◌+◌, if◌then◌else◌, List, [], ◌∷◌, ◌++◌, take, drop, map}
+use Rattle.std.specs.List.{flat_map}
+use Rattle.std.specs.Str.{IsUtf8, IsValidUpTo}
+use Rattle.wtf8_core.specs.CodePoint.{form, is_surrogate}
+use Rattle.wtf8_core.specs.Wtf8.{Spells}
+use Rattle.wtf8_core.specs.Utf8.{IsIllFormedPart}
+
+-- the bytes of U+FFFD
+abbrev pub replacement : List ℕ
+replacement = 0xEF ∷ 0xBF ∷ 0xBD ∷ []
+
+-- of any bytes: one U+FFFD stands for each maximal ill-formed part
+pub data IsLossyText : List ℕ → List ℕ → Type 0 where
+  text : {b : List ℕ} → IsUtf8 b → IsLossyText b b
+  replaced : {b lossy : List ℕ} (n m : ℕ) → IsValidUpTo b n → IsIllFormedPart (drop n b) m → IsLossyText (drop (n + m) b) lossy → IsLossyText b (take n b ++ (replacement ++ lossy))
+
+-- U+FFFD for a surrogate
+abbrev pub without_surrogate : ℕ → ℕ
+without_surrogate c = if is_surrogate c then 0xFFFD else c
+
+-- of WTF-8 bytes: one U+FFFD stands for each surrogate
+pub record IsWtf8LossyText (bytes lossy : List ℕ) : Type 0 where
+  pub code_points : List ℕ
+  pub spelled : Spells bytes code_points
+  pub are : lossy ≡ flat_map form (map without_surrogate code_points)

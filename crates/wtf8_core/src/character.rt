@@ -1,0 +1,50 @@
+//! Whole characters of any bytes.
+ghost use Rattle.std.specs.Prelude.{◌≡◌};
+ghost use Rattle.wtf8_core.specs.Character.{IsCharacterAt};
+ghost use Rattle.wtf8_core.specs.CodePoint.{is_surrogate};
+
+use crate::byte::needed_continuations;
+use crate::code_points::first_item;
+
+/// How many bytes the whole character has that starts at byte place `at`, `None` where none
+/// starts there, also at the bytes' length and past it.
+///
+/// A whole character is the form of a scalar (RFC 3629, section 3), so a surrogate's form is
+/// none: `char_at(b"a\xC3\xA9", 1)` is `Some(2)`, at 2 and at 3 it is `None`.
+pub fn char_at(bytes: &[u8], at: usize) -> Option<usize>
+    ensures { IsCharacterAt bytes.now at result }
+{
+    if at < bytes.len() {
+        first_char(&bytes[at..])
+    } else {
+        None
+    }
+}
+
+/// How many bytes the whole character has with which bytes begin.
+fn first_char(bytes: &[u8]) -> Option<usize>
+    ensures { IsCharacterAt bytes.now 0 result }
+{
+    let Some((first, behind)) = bytes.split_first() else {
+        return None;
+    };
+    if *first < 0x80 {
+        return Some(1);
+    }
+    match first_item(false, *first, behind) {
+        Ok(c) => {
+            if is_surrogate(c) {
+                None
+            } else {
+                Some(1 + usize::from(needed_continuations(*first)))
+            }
+        }
+        Err(_) => None,
+    }
+}
+
+fn is_surrogate(code_point: u32) -> bool
+    ensures { result ≡ is_surrogate code_point }
+{
+    (0xD800..=0xDFFF).contains(&code_point)
+}

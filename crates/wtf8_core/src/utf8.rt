@@ -1,0 +1,22 @@
+//! The first fault of bytes that aren't UTF-8.
+ghost use Rattle.std.specs.Prelude.{MatchOption};
+ghost use Rattle.std.specs.Str.{IsUtf8};
+ghost use Rattle.wtf8_core.specs.Utf8.{IsUtf8Fault};
+
+/// The first fault of bytes that aren't UTF-8, `None` for UTF-8 (RFC 3629).
+///
+/// The first number is the length of the longest front that is UTF-8. The second is the
+/// length of the maximal ill-formed part behind it, one to three, or `None` where the bytes
+/// end within a character: `utf8_fault(b"a\xE2\x82A")` is `Some((1, Some(2)))`,
+/// `utf8_fault(b"a\xE2\x82")` is `Some((1, None))`.
+pub fn utf8_fault(bytes: &[u8]) -> Option<(usize, Option<u8>)>
+    ensures { MatchOption result (IsUtf8 bytes.now) (λ fault. IsUtf8Fault bytes.now fault.0 fault.1) }
+{
+    match str::from_utf8(bytes) {
+        Ok(_) => None,
+        Err(e) => match e.error_len() {
+            Some(len) => Some((e.valid_up_to(), Some(len as u8))),
+            None => Some((e.valid_up_to(), None)),
+        },
+    }
+}
