@@ -65,7 +65,7 @@ units_of_oks (c ∷ cs) rest =
     ∙ sym (append_assoc (oks (wide c)) (oks (units cs)) (flat_map unit_items rest))
     ∙ ap (λ l. l ++ flat_map unit_items rest) (sym (map-append Ok (wide c) (units cs)))
 
-units_whole : (cs : List ℕ) (items : List Item) → items ≡ oks cs → flat_map unit_items items ≡ oks (units cs)
+pub units_whole : (cs : List ℕ) (items : List Item) → items ≡ oks cs → flat_map unit_items items ≡ oks (units cs)
 units_whole cs items e = ap (flat_map unit_items) (e ∙ sym (append-nil (oks cs))) ∙ units_of_oks cs [] ∙ append-nil (oks (units cs))
 
 units_all : (bytes us : List ℕ) (items : List Item) → AreItems bytes items → oks us ≡ flat_map unit_items items → HasUnits bytes us

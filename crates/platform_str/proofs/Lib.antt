@@ -1,0 +1,4 @@
+pub mod FirstFault
+pub mod LossyLoops
+pub mod InPlace
+pub mod WideLemmas

@@ -1,0 +1,31 @@
+-- The bytes of what is borrowed or owned.
+use Rattle.std.specs.Prelude.{ℕ, List}
+use Rattle.std.specs.String.{string_bytes}
+use Rattle.platform_str.specs.declared.platform.Platform.{Ghosts}
+use Rattle.platform_str.specs.declared.cow.OsStrCow.{OsStrCow}
+use Rattle.platform_str.specs.declared.cow.OsStrCow.TheVariants as string
+use Rattle.platform_str.specs.declared.cow.PathCow.{PathCow}
+use Rattle.platform_str.specs.declared.cow.PathCow.TheVariants as path
+use Rattle.platform_str.specs.declared.cow.ByteCow.{ByteCow}
+use Rattle.platform_str.specs.declared.cow.ByteCow.TheVariants as byte
+use Rattle.platform_str.specs.declared.cow.StrCow.{StrCow}
+use Rattle.platform_str.specs.declared.cow.StrCow.TheVariants as text
+use Rattle.platform_str.specs.Strings.{bytes, path_bytes, string_vec_of, path_vec_of}
+
+module _ {E A : Type 0} {P : Ghosts E} where
+  abbrev pub cow_bytes : OsStrCow E A P → List ℕ
+  cow_bytes (string.Borrowed s) = bytes s
+  cow_bytes (string.Owned s) = (string_vec_of s).items
+
+  abbrev pub path_cow_bytes : PathCow E A P → List ℕ
+  path_cow_bytes (path.Borrowed p) = path_bytes p
+  path_cow_bytes (path.Owned p) = (path_vec_of p).items
+
+module _ {A : Type 0} where
+  abbrev pub byte_cow_bytes : ByteCow A → List ℕ
+  byte_cow_bytes (byte.Borrowed b) = b.now
+  byte_cow_bytes (byte.Owned v) = v.items
+
+  abbrev pub str_cow_bytes : StrCow A → List ℕ
+  str_cow_bytes (text.Borrowed s) = s.now
+  str_cow_bytes (text.Owned s) = string_bytes s

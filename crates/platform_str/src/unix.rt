@@ -1,0 +1,58 @@
+//! The strings of Unix: any bytes. Their units are their bytes, and none are refused.
+ghost use Rattle.std.specs.Str.Lossy.{utf8_lossy};
+ghost use Rattle.wtf8_core.specs.Utf8.{IsIllFormedPart};
+ghost use Rattle.platform_str.specs.Platforms.{AreBytes, itself, IsNoFault};
+ghost use Rattle.platform_str.specs.UnixLaws.{bytes_prop, unix_laws};
+
+use crate::marker::Unix;
+use crate::platform::Platform;
+use std::alloc::Global;
+use wtf8_core::{EncodingError, utf8_fault};
+
+pub type OsStr<'a> = crate::OsStr<'a, Unix>;
+
+pub type OsString<A = Global> = crate::OsString<Unix, A>;
+
+pub type OsStrCow<'a, A = Global> = crate::OsStrCow<'a, Unix, A>;
+
+pub type Path<'a> = crate::Path<'a, Unix>;
+
+pub type PathBuf<A = Global> = crate::PathBuf<Unix, A>;
+
+pub type PathCow<'a, A = Global> = crate::PathCow<'a, Unix, A>;
+
+impl Platform for Unix {
+    ghost well_formed = { AreBytes };
+
+    ghost well_formed_prop = { bytes_prop };
+
+    ghost units = { itself };
+
+    ghost is_unit_list = { AreBytes };
+
+    ghost io_safe = { AreBytes };
+
+    ghost first_fault = { IsNoFault };
+
+    ghost lossy = { utf8_lossy };
+
+    ghost replaces = { IsIllFormedPart };
+
+    ghost laws = { unix_laws };
+
+    fn check(_bytes: &[u8]) -> Result<(), EncodingError> {
+        Ok(())
+    }
+
+    fn is_io_safe(_bytes: &[u8]) -> bool {
+        true
+    }
+
+    fn lossy_len(bytes: &[u8]) -> usize {
+        match utf8_fault(bytes) {
+            Some((_, Some(len))) => usize::from(len),
+            Some((_, None)) => bytes.len(),
+            None => 0,
+        }
+    }
+}

@@ -1,0 +1,60 @@
+//! The strings of WebAssembly: UTF-8. Their units are their bytes.
+ghost use Rattle.std.specs.Str.{IsUtf8};
+ghost use Rattle.wtf8_core.proofs.Propositions.{utf8_prop};
+ghost use Rattle.platform_str.specs.Platforms.{itself, IsTextFault, IsThree};
+ghost use Rattle.platform_str.specs.WasmLaws.{wasm_laws};
+
+use crate::marker::Wasm;
+use crate::platform::Platform;
+use std::alloc::Global;
+use wtf8_core::{EncodingError, utf8_fault};
+
+pub type OsStr<'a> = crate::OsStr<'a, Wasm>;
+
+pub type OsString<A = Global> = crate::OsString<Wasm, A>;
+
+pub type OsStrCow<'a, A = Global> = crate::OsStrCow<'a, Wasm, A>;
+
+pub type Path<'a> = crate::Path<'a, Wasm>;
+
+pub type PathBuf<A = Global> = crate::PathBuf<Wasm, A>;
+
+pub type PathCow<'a, A = Global> = crate::PathCow<'a, Wasm, A>;
+
+impl Platform for Wasm {
+    ghost well_formed = { IsUtf8 };
+
+    ghost well_formed_prop = { utf8_prop };
+
+    ghost units = { itself };
+
+    ghost is_unit_list = { IsUtf8 };
+
+    ghost io_safe = { IsUtf8 };
+
+    ghost first_fault = { IsTextFault };
+
+    ghost lossy = { itself };
+
+    ghost replaces = { IsThree };
+
+    ghost laws = { wasm_laws };
+
+    fn check(bytes: &[u8]) -> Result<(), EncodingError> {
+        match utf8_fault(bytes) {
+            Some((valid_up_to, error_len)) => Err(EncodingError::Utf8 {
+                valid_up_to,
+                error_len,
+            }),
+            None => Ok(()),
+        }
+    }
+
+    fn is_io_safe(bytes: &[u8]) -> bool {
+        str::from_utf8(bytes).is_ok()
+    }
+
+    fn lossy_len(_bytes: &[u8]) -> usize {
+        3
+    }
+}

@@ -1,0 +1,74 @@
+//! The units of Windows strings.
+ghost use Rattle.std.specs.Prelude.{◌≡◌, IfOk};
+ghost use Rattle.std.specs.Iterator.{YieldsFirst, item_count};
+ghost use Rattle.wtf8_core.specs.Wtf8.{HasUnits};
+ghost use Rattle.platform_str.specs.Strings.{bytes, string_vec_of};
+
+use crate::marker::Windows;
+use crate::os_str::OsStr;
+use crate::os_string::OsString;
+use std::alloc::{AllocError, Allocator};
+use std::marker::Model;
+use wtf8_core::{DecodeWide, EncodeWide};
+
+/// The 16-bit units of a Windows string, from the first on, and then `None` for ever.
+#[derive(Drop)]
+pub struct WideUnits<'a> {
+    items: EncodeWide<'a>,
+}
+
+impl<'a> Model for WideUnits<'a> {
+    ghost use Rattle.std.specs.Prelude.{List, ℕ, ◌≡◌, map, Ok};
+    ghost use Rattle.wtf8_core.specs.UnitsOf.{ok_values};
+
+    ghost Value = { List ℕ };
+
+    ghost view = { λ it. ok_values it.items };
+
+    ghost invariant = { λ it. it.items ≡ map Ok (ok_values it.items) };
+}
+
+impl<'a> Iterator for WideUnits<'a> {
+    type Item = u16;
+
+    ghost next_gives = { YieldsFirst (λ rest. rest) };
+
+    ghost remaining = { item_count (λ rest. rest) };
+
+    #[inline(always)]
+    fn next(&mut self) -> Option<u16> {
+        let item = self.items.next()?;
+        if let Ok(unit) = item {
+            return Some(unit);
+        }
+        None
+    }
+}
+
+impl<'a> OsStr<'a, Windows> {
+    /// The string's 16-bit units (RFC 2781; a surrogate stands for itself). It takes no memory.
+    ///
+    /// The units of the bytes F0 9F 98 80 ED B0 80 (hexadecimal) are D83D, DE00, DC00.
+    pub fn encode_wide(self) -> WideUnits<'a>
+        ensures { HasUnits (bytes self.entry) result }
+    {
+        WideUnits {
+            items: wtf8_core::encode_wide(self.as_encoded_bytes()),
+        }
+    }
+}
+
+impl<A: Allocator> OsString<Windows, A> {
+    /// The one string with these 16-bit units.
+    ///
+    /// The units D83D, DE00 (hexadecimal) give the bytes F0 9F 98 80.
+    pub fn from_wide(alloc: A, units: &[u16]) -> Result<Self, AllocError>
+        ensures { IfOk result (λ string. HasUnits (string_vec_of string).items units.now) }
+    {
+        let mut vec = Vec::with_capacity(alloc, units.len())?;
+        for byte in DecodeWide::new(units) {
+            vec.push(byte)?;
+        }
+        Ok(OsString::from_encoded_bytes_unchecked(vec))
+    }
+}
