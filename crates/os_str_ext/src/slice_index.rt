@@ -1,0 +1,124 @@
+//! Ranges of places in strings.
+ghost use Rattle.std.specs.Prelude.{◌≡◌, ◌+◌, ◌↔◌, ℕ, IsTrue, length, take, drop};
+ghost use Rattle.std.specs.Range.{range_inclusive_start, range_inclusive_end};
+ghost use Rattle.platform_str.specs.Strings.{bytes};
+ghost use Rattle.os_str_ext.specs.Range.{FitsIn};
+
+use crate::part::part;
+use crate::range::{fits, fits_inclusive};
+use platform_str::{OsStr, Platform};
+use std::ops::{Range, RangeFrom, RangeFull, RangeInclusive, RangeTo, RangeToInclusive};
+
+/// A range of byte places in a string: std's six range types of `usize`.
+///
+/// Its ghost members are its first place, and the place behind its last in a string of some
+/// length. An inclusive end counts as the place behind it, without bound, so that
+/// `..=usize::MAX` never fits, and `3..=2` is the empty range at 3.
+pub trait SliceIndex: Sized {
+    ghost first_place: { Self → ℕ };
+
+    ghost end_place: { Self → ℕ → ℕ };
+
+    /// Whether the range fits: its start is at most its end, both are boundaries, and the end
+    /// is at most the string's length.
+    fn fits<E: Platform>(&self, string: OsStr<'_, E>) -> bool
+        ensures { IsTrue result ↔ FitsIn (bytes string.entry) (first_place self.now) (end_place self.now (length (bytes string.entry))) };
+
+    /// The bytes of the string in the range, which fits (test: [`SliceIndex::fits`]).
+    fn index<'a, E: Platform>(self, string: OsStr<'a, E>) -> OsStr<'a, E>
+        requires { FitsIn (bytes string) (first_place self) (end_place self (length (bytes string))) }
+        ensures { bytes result ≡ drop (first_place self) (take (end_place self (length (bytes string.entry))) (bytes string.entry)) };
+
+    /// The same as [`SliceIndex::index`].
+    fn get_unchecked<'a, E: Platform>(self, string: OsStr<'a, E>) -> OsStr<'a, E>
+        requires { FitsIn (bytes string) (first_place self) (end_place self (length (bytes string))) }
+        ensures { bytes result ≡ drop (first_place self) (take (end_place self (length (bytes string.entry))) (bytes string.entry)) }
+    {
+        self.index(string)
+    }
+}
+
+impl SliceIndex for Range<usize> {
+    ghost first_place = { λ range. range.start };
+
+    ghost end_place = { λ range _. range.end };
+
+    fn fits<E: Platform>(&self, string: OsStr<'_, E>) -> bool {
+        fits(string, self.start, self.end)
+    }
+
+    fn index<'a, E: Platform>(self, string: OsStr<'a, E>) -> OsStr<'a, E> {
+        part(string, self.start, self.end)
+    }
+}
+
+impl SliceIndex for RangeFrom<usize> {
+    ghost first_place = { λ range. range.start };
+
+    ghost end_place = { λ _ len. len };
+
+    fn fits<E: Platform>(&self, string: OsStr<'_, E>) -> bool {
+        fits(string, self.start, string.len())
+    }
+
+    fn index<'a, E: Platform>(self, string: OsStr<'a, E>) -> OsStr<'a, E> {
+        part(string, self.start, string.len())
+    }
+}
+
+impl SliceIndex for RangeFull {
+    ghost first_place = { λ _. 0 };
+
+    ghost end_place = { λ _ len. len };
+
+    fn fits<E: Platform>(&self, _string: OsStr<'_, E>) -> bool {
+        true
+    }
+
+    fn index<'a, E: Platform>(self, string: OsStr<'a, E>) -> OsStr<'a, E> {
+        string
+    }
+}
+
+impl SliceIndex for RangeInclusive<usize> {
+    ghost first_place = { range_inclusive_start };
+
+    ghost end_place = { λ range _. range_inclusive_end range + 1 };
+
+    fn fits<E: Platform>(&self, string: OsStr<'_, E>) -> bool {
+        fits_inclusive(string, *self.start(), *self.end())
+    }
+
+    fn index<'a, E: Platform>(self, string: OsStr<'a, E>) -> OsStr<'a, E> {
+        let (start, last) = self.into_inner();
+        part(string, start, last + 1)
+    }
+}
+
+impl SliceIndex for RangeTo<usize> {
+    ghost first_place = { λ _. 0 };
+
+    ghost end_place = { λ range _. range.end };
+
+    fn fits<E: Platform>(&self, string: OsStr<'_, E>) -> bool {
+        fits(string, 0, self.end)
+    }
+
+    fn index<'a, E: Platform>(self, string: OsStr<'a, E>) -> OsStr<'a, E> {
+        part(string, 0, self.end)
+    }
+}
+
+impl SliceIndex for RangeToInclusive<usize> {
+    ghost first_place = { λ _. 0 };
+
+    ghost end_place = { λ range _. range.end + 1 };
+
+    fn fits<E: Platform>(&self, string: OsStr<'_, E>) -> bool {
+        fits_inclusive(string, 0, self.end)
+    }
+
+    fn index<'a, E: Platform>(self, string: OsStr<'a, E>) -> OsStr<'a, E> {
+        part(string, 0, self.end + 1)
+    }
+}
