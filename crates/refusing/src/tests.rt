@@ -52,6 +52,10 @@ fn growing_and_shrinking(rt: HostRuntime) -> Result<(), AllocError> {
     assert!(rt; !heap.refused());
     assert_eq!(rt; bytes.capacity(), 3);
     assert_eq!(rt; bytes.as_slice(), [1, 2, 3].as_slice());
+
+    heap.restart(Plan::Never);
+    assert!(rt; Vec::<u8, _>::with_capacity(&heap, 1 << 63).is_err());
+    assert_eq!(rt; heap.asked(), 0);
     Ok(())
 }
 

@@ -7,7 +7,7 @@ use std::alloc::{AllocError, Allocator};
 
 /// Calls `test` with the plan `Nth(1)`, then `Nth(2)`, and so on, each time with an allocator
 /// of its own that refuses nothing yet, until a run in which nothing was refused. Answers how
-/// many runs had a refusal, which is how many requests the tested call makes.
+/// many runs had a refusal: as many as there are requests in the call that is tested.
 ///
 /// `test` makes what it needs, calls [`Refusing::restart`] with the plan, makes the tested
 /// call, and asks [`Refusing::refused`] which answer is right:
@@ -29,8 +29,9 @@ use std::alloc::{AllocError, Allocator};
 /// assert_eq!(rt; requests, 1);
 /// ```
 ///
-/// A count that is compared also shows that the plan was set. The first `Err` of `test`
-/// ends the runs and is the answer, and so does the end of the numbers, after 2^64 - 1 runs.
+/// Compare the count: at 0 no request was refused, as where `test` leaves out `restart`. The
+/// first `Err` of `test` ends the runs and is the answer. After 2^64 - 1 runs with a refusal
+/// each the answer is `Err` too.
 pub fn for_each_refusal<A, F>(alloc: A, mut test: F) -> Result<u64, AllocError>
 where
     A: Allocator + Copy,
