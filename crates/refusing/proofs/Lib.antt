@@ -1,0 +1,3 @@
+pub mod Handle
+pub mod Steps
+pub mod TurnsLemmas

@@ -1,0 +1,6 @@
+-- What stands behind an allocator that refuses.
+use Rattle.refusing.specs.declared.allocator.Refusing.{Refusing}
+
+-- the allocator to which requests are passed on
+abbrev pub allocator_of : {A : Type 0} → Refusing A → A
+allocator_of heap = heap.alloc

@@ -1,0 +1,14 @@
+-- What it means that a closure ran under one plan after another.
+use Rattle.std.specs.Prelude.{ℕ, List, Result, Ok, map}
+use Rattle.std.specs.List.{FoldsTo, range_with_len}
+use Rattle.std.specs.declared.alloc.AllocError.{AllocError}
+use Rattle.refusing.specs.declared.plan.Plan.{Plan}
+use Rattle.refusing.specs.declared.plan.Plan.TheVariants.{Nth}
+
+-- the plans that refuse the first request, the second, and so on, as many as `turns`
+unfoldable pub each_request : ℕ → List Plan
+each_request turns = map Nth (range_with_len 1 turns)
+
+-- one call for each of the plans, in their order and at some allocator, took the closure from `first` to `last`, and each answered `Ok`
+unfoldable pub RanUnder : {Test Heap : Type 0} → (Test → Heap → Plan → Result (Unit {0}) AllocError → Test → Type 0) → Test → List Plan → Test → Type 0
+RanUnder {Heap} step first plans last = FoldsTo (λ before plan after. (heap : Heap) × step before heap plan (Ok tt) after) first plans last

@@ -1,0 +1,24 @@
+//! For tests: an allocator that refuses requests, so that each path on which memory runs out is run.
+//!
+//! [`Refusing`] stands before another allocator and refuses the requests that a [`Plan`]
+//! names. [`for_each_refusal`] refuses each request of a call in turn.
+//!
+//! What is proved is that memory is safe: a block that [`Refusing`] hands out is the inner
+//! allocator's own, a refusal hands out nothing, and each block goes back to where it came
+//! from. Proved too is which requests a plan refuses ([`Plan::refuses`]), and that
+//! [`for_each_refusal`] runs under one plan after another. The counts lie in cells, and no
+//! contract can say what a cell holds. So it is only tested that requests are counted, and
+//! that the request with the plan's number is the one refused.
+#![tactic(auto)]
+
+mod allocator;
+mod plan;
+mod requests;
+mod turns;
+
+pub use allocator::Refusing;
+pub use plan::Plan;
+pub use turns::for_each_refusal;
+
+#[cfg(test)]
+mod tests;
