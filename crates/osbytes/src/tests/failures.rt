@@ -4,8 +4,8 @@ use crate::command::{Command, Os};
 use crate::fault::Fault;
 use crate::marked::Marked;
 use crate::run::run;
+use platform_str::EncodingError;
 use std::test::Fail;
-use wtf8_core::EncodingError;
 
 /// How the reader and the writer behave, and what a run over them answers and writes.
 #[derive(Clone, Copy)]
@@ -110,6 +110,14 @@ fn texts_and_statuses(rt: HostRuntime) -> Result<(), Fail> {
             Fault::Refused(EncodingError::End),
             1,
             "byte sequence is not representable in the platform encoding; error at end of string",
+        ),
+        (
+            Fault::Refused(EncodingError::Utf8 {
+                valid_up_to: 1,
+                error_len: None,
+            }),
+            1,
+            "incomplete utf-8 byte sequence from index 1",
         ),
         (Fault::BadLine(12), 1, "line 12 is not a unit"),
         (
