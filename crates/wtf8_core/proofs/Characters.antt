@@ -3,11 +3,12 @@ use Rattle.std.proofs.Common.{◌≡◌, ⊎_elim, ℕ, suc, ◌+◌, ◌-◌, �
 use Rattle.std.specs.Char.{IsScalar}
 use Rattle.std.proofs.lemmas.Bool.{cases_lt, lt-ltb, le-ltb, le-leb}
 use Rattle.wtf8_core.specs.Byte.{needed_continuations}
-use Rattle.wtf8_core.specs.CodePoint.{IsCodePoint, IsLow, is_surrogate, form}
+use Rattle.wtf8_core.specs.CodePoint.{IsCodePoint, IsHigh, IsLow, is_surrogate, form}
 use Rattle.wtf8_core.specs.Character.{WholeCharacter, IsCharacterAt}
 use Rattle.wtf8_core.specs.Reader.{first_item, behind_item, is_high, items_behind}
 use Rattle.wtf8_core.proofs.Reading.{items-ok, items-err, behind_item_fits, behind_code_point}
-use Rattle.wtf8_core.proofs.Sound.{IsPoint, FirstIs, first_sound, in_range-true, in_range-false}
+use Rattle.wtf8_core.proofs.Ranges.{in_range, in_range-true, in_range-false}
+use Rattle.wtf8_core.proofs.Sound.{IsPoint, FirstIs, first_sound}
 use Rattle.wtf8_core.proofs.Forms.{form_1, form_bounds}
 use Rattle.wtf8_core.proofs.FormsByStd.{form_encode, form_same}
 use Rattle.std.specs.Str.{IsUtf8}
@@ -16,7 +17,7 @@ use Rattle.std.proofs.lemmas.List.{take_at, drop_at, length-take-le}
 use Rattle.wtf8_core.proofs.Complete.{item_of_form}
 use Rattle.std.specs.Option.{MatchOption}
 use Rattle.std.proofs.lemmas.Grind.{common_steps}
-use lib.Utf8.{scalar_cases, low_scalar}
+use Rattle.std.proofs.Math.Utf8.{scalar_cases, low_scalar}
 use Rattle.wtf8_core.specs.declared.fault.EncodingError.{EncodingError}
 
 -- the bytes begin with a whole character of n bytes
@@ -27,24 +28,35 @@ pub record BeginsWithChar (bytes : List ℕ) (n : ℕ) : Type 0 where
   pub is : bytes ≡ form char ++ rest
   pub long : n ≡ length (form char)
 
+-- the bytes begin with no whole character
 abbrev pub NoChar : List ℕ → Type 0
 NoChar bytes = (n : ℕ) → BeginsWithChar bytes n → ⊥
 
+-- scalars are code points, and no surrogates
 pub scalar_point : (c : ℕ) → IsScalar c → IsCodePoint c
 scalar_point c s = ⊎_elim (λ h. omega arith) (λ h. omega (arith, h.1)) (scalar_cases c s)
-
-scalar_no_low : (c : ℕ) → IsScalar c → IsLow c → ⊥
-scalar_no_low c s l = ⊎_elim (λ h. omega (arith, l.0)) (λ h. omega (arith, h.0, l.1)) (scalar_cases c s)
 
 pub scalar_no_surrogate : (c : ℕ) → IsScalar c → is_surrogate c ≡ true → ⊥
 scalar_no_surrogate c s e = let r = in_range-true 0xD800 0xDFFF c e in ⊎_elim (λ h. omega (arith, r.0)) (λ h. omega (arith, h.0, r.1)) (scalar_cases c s)
 
+scalar_no_low : (c : ℕ) → IsScalar c → IsLow c → ⊥
+scalar_no_low c s l = scalar_no_surrogate c s (in_range 0xD800 0xDFFF c (omega (arith, l.0), l.1))
+
+pub scalar_no_high : (c : ℕ) → IsScalar c → IsHigh c → ⊥
+scalar_no_high c s h = scalar_no_surrogate c s (in_range 0xD800 0xDFFF c (h.0, omega (arith, h.1)))
+
+-- a code point above the surrogates is a scalar
+pub high_scalar : (c : ℕ) → 0xE000 ≤ c → IsCodePoint c → IsScalar c
+high_scalar c l h = rw (le-ltb c 0xD800 (omega arith), le-leb 0xE000 c l, lt-ltb c 0x11_0000 (omega arith)) refl
+
+-- a code point that is no surrogate is a scalar
 pub is_scalar : (c : ℕ) → IsCodePoint c → is_surrogate c ≡ false → IsScalar c
 is_scalar c p e =
-    ⊎_elim (λ h. rw (lt-ltb c 0xD800 h) refl)
-    (λ h. ⊎_elim (λ k. absurd (in_range-false 0xD800 0xDFFF c e (h, omega arith))) (λ k. rw (le-ltb c 0xD800 h, le-leb 0xE000 c k, lt-ltb c 0x11_0000 (omega arith)) refl) (cases_lt c 0xE000))
+    ⊎_elim (low_scalar c)
+    (λ h. ⊎_elim (λ k. absurd (in_range-false 0xD800 0xDFFF c e (h, omega arith))) (λ k. high_scalar c k p) (cases_lt c 0xE000))
     (cases_lt c 0xD800)
 
+-- how many bytes the first item has, where it is a code point
 point_length : (b c : ℕ) (bs : List ℕ) → first_item false b bs ≡ Ok c → IsPoint 0 b bs c → 1 + behind_item b bs ≡ length (form c)
 point_length b c bs e i =
     let f : behind_item b bs ≤ length bs = behind_item_fits b bs in
@@ -56,26 +68,26 @@ point_length b c bs e i =
 at_point : (b c : ℕ) (bs : List ℕ) → b < 256 → first_item false b bs ≡ Ok c → IsPoint 0 b bs c
 at_point b c bs u e = subst (FirstIs 0 b bs) e (first_sound 0 b bs u)
 
+-- a first item that is no surrogate is a whole character
 char_found : (bytes : List ℕ) (b c : ℕ) (bs : List ℕ) → bytes ≡ b ∷ bs → b < 256 → first_item false b bs ≡ Ok c → is_surrogate c ≡ false → BeginsWithChar bytes (1 + behind_item b bs)
 char_found bytes b c bs d u e s =
     let i = at_point b c bs u e in
     record { char = c; scalar = is_scalar c i.code_point s; rest = drop (behind_item b bs) bs; is = d ∙ i.is; long = point_length b c bs e i }
 
+-- the items of bytes that begin with a whole character
+items_of_char : (bytes : List ℕ) (b n : ℕ) (bs : List ℕ) → bytes ≡ b ∷ bs → (w : BeginsWithChar bytes n) → items_behind 0 false (b ∷ bs) ≡ Ok w.char ∷ items_behind 0 (is_high w.char) w.rest
+items_of_char bytes b n bs d w = ap (items_behind 0 false) (sym d ∙ w.is) ∙ item_of_form 0 w.char w.rest (scalar_point w.char w.scalar) (λ h l. scalar_no_low w.char w.scalar l)
+
 -- the character that starts there is the first item
 first_of_char : (bytes : List ℕ) (b n : ℕ) (bs : List ℕ) → bytes ≡ b ∷ bs → (w : BeginsWithChar bytes n) → (r : Result ℕ EncodingError) → first_item false b bs ≡ r → r ≡ Ok w.char
 first_of_char bytes b n bs d w (Ok c) e =
-    let i = item_of_form 0 w.char w.rest (scalar_point w.char w.scalar) (λ h l. scalar_no_low w.char w.scalar l) in
-    let j = ap (items_behind 0 false) (sym d ∙ w.is) in
-    let k = items-ok false b c bs e in
-    let h : Ok c ∷ items_behind (behind_item b bs) (is_high c) bs ≡ Ok w.char ∷ items_behind 0 (is_high w.char) w.rest = sym k ∙ j ∙ i in
+    let h : Ok c ∷ items_behind (behind_item b bs) (is_high c) bs ≡ Ok w.char ∷ items_behind 0 (is_high w.char) w.rest = sym (items-ok false b c bs e) ∙ items_of_char bytes b n bs d w in
     cc
 first_of_char bytes b n bs d w (Err f) e =
-    let i = item_of_form 0 w.char w.rest (scalar_point w.char w.scalar) (λ h l. scalar_no_low w.char w.scalar l) in
-    let j = ap (items_behind 0 false) (sym d ∙ w.is) in
-    let k = items-err false b f bs e in
-    let h : Err f ∷ [] ≡ Ok w.char ∷ items_behind 0 (is_high w.char) w.rest = sym k ∙ j ∙ i in
+    let h : Err f ∷ [] ≡ Ok w.char ∷ items_behind 0 (is_high w.char) w.rest = sym (items-err false b f bs e) ∙ items_of_char bytes b n bs d w in
     cc
 
+-- a surrogate, a fault and the end begin no character
 no_char_surrogate : (bytes : List ℕ) (b c : ℕ) (bs : List ℕ) → bytes ≡ b ∷ bs → first_item false b bs ≡ Ok c → is_surrogate c ≡ true → NoChar bytes
 no_char_surrogate bytes b c bs d e s n w =
     let o : Ok c ≡ Ok w.char = first_of_char bytes b n bs d w (Ok c) e in
@@ -102,6 +114,7 @@ whole_at s i n h w = record {
   end = ap (λ k. i + k) w.long;
 }
 
+-- and the other way round
 pub begins_at : (s : List ℕ) (i j : ℕ) → (w : WholeCharacter s i j) → BeginsWithChar (drop i s) (length (form w.char))
 begins_at s i j w = record {
   char = w.char;
@@ -111,6 +124,7 @@ begins_at s i j w = record {
   long = refl;
 }
 
+-- where no character begins none starts, at a place and at the front
 pub none_at : (s : List ℕ) (i : ℕ) → NoChar (drop i s) → (j : ℕ) → WholeCharacter s i j → ⊥
 none_at s i h j w = h (length (form w.char)) (begins_at s i j w)
 
@@ -127,6 +141,7 @@ pub character_found : (bytes : List ℕ) (b c : ℕ) (bs : List ℕ) → bytes �
 character_found bytes b c bs d u l e s =
     subst (λ n. WholeCharacter bytes 0 (0 + (1 + n))) (behind_code_point false b c bs l e) (whole_at bytes 0 (1 + behind_item b bs) (omega arith) (char_found bytes b c bs d u e s))
 
+-- an ASCII byte is a whole character
 pub ascii_found : (bytes : List ℕ) (b : ℕ) (bs : List ℕ) → bytes ≡ b ∷ bs → b < 0x80 → WholeCharacter bytes 0 (0 + 1)
 ascii_found bytes b bs d h =
     let f = form_1 b h in
@@ -165,6 +180,7 @@ character_fits s i j w =
     let l : length s ≡ length w.stands.before + (length (form w.char) + length w.stands.behind) = ap length w.stands.joined ∙ length-append w.stands.before (form w.char ++ w.stands.behind) ∙ ap (λ n. length w.stands.before + n) (length-append (form w.char) w.stands.behind) in
     (omega arith, omega arith, omega arith)
 
+-- none starts at the end or past it
 pub none_past : (s : List ℕ) (i : ℕ) → length s ≤ i → (j : ℕ) → WholeCharacter s i j → ⊥
 none_past s i h j w = let f = character_fits s i j w in omega arith
 

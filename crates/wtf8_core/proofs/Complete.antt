@@ -1,12 +1,12 @@
 -- The reader gives what the definitions say, whatever stands at the front: so bytes have one list of items.
-use Rattle.std.proofs.Common.{◌≡◌, inl, inr, ⊎_elim, ℕ, zero, suc, ◌+◌, ◌*◌, ◌%◌, ◌<◌, Bool, false, List, [], ◌∷◌, ◌++◌, length, drop, map, Result, Ok, Err, refl, sym, ap, ◌∙◌, subst, arith, append_assoc}
+use Rattle.std.proofs.Common.{◌≡◌, inl, inr, ⊎_elim, ℕ, Bool, false, List, [], ◌∷◌, ◌++◌, length, drop, map, Result, Ok, Err, refl, sym, ap, ◌∙◌, subst, arith, append_assoc}
 use Rattle.std.proofs.Math.Seq.{drop-append_seam}
 use Rattle.std.proofs.lemmas.List.{append-nil}
 use Rattle.wtf8_core.proofs.FirstErr.{same_oks, no_err, same_faulty}
-use Rattle.std.proofs.lemmas.Bool.{lt-ltb, le-ltb, cases_lt, cond-true, cond-false, false_from_ne_true}
-use Rattle.std.specs.List.{AllByRecursion, fold, flat_map}
-use Rattle.std.specs.Int.{is_in_range, IsInRange}
-use Rattle.wtf8_core.specs.Byte.{IsContinuation, IsLead, needed_continuations}
+use Rattle.std.proofs.lemmas.Bool.{lt-ltb, le-ltb, cases_lt, cond-true, cond-false}
+use Rattle.std.specs.List.{AllByRecursion, flat_map}
+use Rattle.std.specs.Int.{IsInRange}
+use Rattle.wtf8_core.specs.Byte.{IsLead, needed_continuations}
 use Rattle.wtf8_core.specs.CodePoint.{IsCodePoint, IsHigh, IsLow, form}
 use Rattle.wtf8_core.specs.Wtf8.{IsPairedFree, last_behind, Spells}
 use Rattle.wtf8_core.specs.Fault.{IsShape, shape_value, IsBadShape, IsRefused, BeginsFault, IsFirstFault}
@@ -15,35 +15,12 @@ use Rattle.wtf8_core.specs.Items.{AreItems}
 use Rattle.wtf8_core.specs.Items.AreItems.{Whole, Faulty}
 use Rattle.wtf8_core.proofs.Reading.{items-ok, items-err, items_behind-drop, first_ascii}
 use Rattle.wtf8_core.proofs.Forms.{form_1, shape_is_form, long_form, LongForm}
-use Rattle.wtf8_core.proofs.Sound.{Join, IsBad, IsGood, Checked, checked, in_range, in_range-true, behind_item-none, behind_item-lead}
+use Rattle.wtf8_core.proofs.Continuations.{joins_all, joins_end, joins_broken, counts_all}
+use Rattle.wtf8_core.proofs.Sound.{IsBad, IsGood, Checked, checked, behind_item-none, behind_item-lead}
 use Rattle.wtf8_core.specs.declared.fault.EncodingError.{EncodingError}
 use Rattle.wtf8_core.specs.declared.fault.EncodingError.TheVariants.{Byte, CodePoint, End, Utf8}
 
-not_in_range : (a b x : ℕ) → (IsInRange a b x → ⊥) → is_in_range a b x ≡ false
-not_in_range a b x h = false_from_ne_true _ (λ e. h (in_range-true a b x e))
-
-joins_all : (v : ℕ) (ks rest : List ℕ) → AllByRecursion IsContinuation ks → with_continuations v (length ks) (ks ++ rest) ≡ Ok (fold Join v ks)
-unfolding with_continuations
-joins_all v [] rest a = refl
-joins_all v (k ∷ ks) rest a = cond-true _ _ _ (in_range 0x80 0xBF k a.0) ∙ joins_all (v * 0x40 + k % 0x40) ks rest a.1
-
-joins_end : (v n : ℕ) (ks : List ℕ) → AllByRecursion IsContinuation ks → length ks < n → with_continuations v n ks ≡ Err End
-unfolding with_continuations
-joins_end v zero ks a h = absurd (omega arith)
-joins_end v (suc n) [] a h = refl
-joins_end v (suc n) (k ∷ ks) a h = cond-true _ _ _ (in_range 0x80 0xBF k a.0) ∙ joins_end (v * 0x40 + k % 0x40) n ks a.1 (omega arith)
-
-joins_broken : (v n : ℕ) (ks : List ℕ) (x : ℕ) (rest : List ℕ) → AllByRecursion IsContinuation ks → length ks < n → (IsContinuation x → ⊥) → with_continuations v n (ks ++ x ∷ rest) ≡ Err (Byte x)
-unfolding with_continuations
-joins_broken v zero ks x rest a h b = absurd (omega arith)
-joins_broken v (suc n) [] x rest a h b = cond-false _ _ _ (not_in_range 0x80 0xBF x b)
-joins_broken v (suc n) (k ∷ ks) x rest a h b = cond-true _ _ _ (in_range 0x80 0xBF k a.0) ∙ joins_broken (v * 0x40 + k % 0x40) n ks x rest a.1 (omega arith) b
-
-counts_all : (ks rest : List ℕ) → AllByRecursion IsContinuation ks → continuations (length ks) (ks ++ rest) ≡ length ks
-unfolding continuations
-counts_all [] rest a = refl
-counts_all (k ∷ ks) rest a = cond-true _ _ _ (in_range 0x80 0xBF k a.0) ∙ ap suc (counts_all ks rest a.1)
-
+-- the first item of a lead, and of a shape
 first_lead : (h : Bool) (b : ℕ) (bs : List ℕ) → IsLead b → first_item h b bs ≡ and_then_checked h (needed_continuations b) (with_continuations (lead_bits b) (needed_continuations b) bs)
 unfolding first_item
 first_lead h b bs l = cond-false _ _ _ (le-ltb b 0x80 (omega (arith, l.0))) ∙ cond-false _ _ _ (le-ltb b 0xC2 l.0)
@@ -55,6 +32,7 @@ first_shape h b ks rest s =
     ∙ ap (λ n. and_then_checked h (needed_continuations b) (with_continuations (lead_bits b) n (ks ++ rest))) (sym s.whole)
     ∙ ap (and_then_checked h (needed_continuations b)) (joins_all (lead_bits b) ks rest s.begun.continued)
 
+-- a value is refused or not, never both
 not_both : (p n v : ℕ) → IsGood p n v → IsBad p n v → ⊥
 not_both p n v g (inl (inl h)) = omega (arith, g.low)
 not_both p n v g (inl (inr h)) = omega (arith, g.high)
@@ -68,6 +46,7 @@ when_bad : (p n v : ℕ) (r : Result ℕ EncodingError) → Checked p n v r → 
 when_bad p n v (Ok c) k b = absurd (not_both p n v k.1 b)
 when_bad p n v (Err f) k b = ap Err k.0
 
+-- the first item of a form of two bytes or more
 item_of_long : (p c : ℕ) (rest : List ℕ) → IsCodePoint c → (IsHigh p → IsLow c → ⊥) → LongForm c
     → items_behind 0 (is_high p) (form c ++ rest) ≡ Ok c ∷ items_behind 0 (is_high c) rest
 item_of_long p c rest k free (lead, behind, f) =
@@ -81,6 +60,7 @@ item_of_long p c rest k free (lead, behind, f) =
     ∙ items-ok (is_high p) lead c (behind ++ rest) o
     ∙ ap (λ x. Ok c ∷ x) (items_behind-drop (behind_item lead (behind ++ rest)) (is_high c) (behind ++ rest) ∙ ap (λ m. items_behind 0 (is_high c) (drop m (behind ++ rest))) n ∙ ap (items_behind 0 (is_high c)) (drop-append_seam behind rest))
 
+-- the first item of a form, where its code point may stand
 pub item_of_form : (p c : ℕ) (rest : List ℕ) → IsCodePoint c → (IsHigh p → IsLow c → ⊥) → items_behind 0 (is_high p) (form c ++ rest) ≡ Ok c ∷ items_behind 0 (is_high c) rest
 item_of_form p c rest k free =
     ⊎_elim
@@ -89,6 +69,7 @@ item_of_form p c rest k free =
     (λ h. item_of_long p c rest k free (long_form c h k))
     (cases_lt c 0x80)
 
+-- the items of forms in front of a rest
 pub items_of_spelled : (p : ℕ) (cs rest : List ℕ) → AllByRecursion IsCodePoint cs → IsPairedFree (p ∷ cs)
     → items_behind 0 (is_high p) (flat_map form cs ++ rest) ≡ map Ok cs ++ items_behind 0 (is_high (last_behind p cs)) rest
 items_of_spelled p [] rest a f = refl
@@ -97,6 +78,7 @@ items_of_spelled p (c ∷ cs) rest a f =
     ∙ item_of_form p c (flat_map form cs ++ rest) a.0 f.0
     ∙ ap (λ x. Ok c ∷ x) (items_of_spelled c cs rest a.1 f.1)
 
+-- the first item of a stray byte
 first_stray : (h : Bool) (x : ℕ) (bs : List ℕ) → IsInRange 0x80 0xC1 x → first_item h x bs ≡ Err (Byte x)
 unfolding first_item
 first_stray h x bs s = cond-false _ _ _ (le-ltb x 0x80 s.0) ∙ cond-true _ _ _ (lt-ltb x 0xC2 (omega (arith, s.1)))
@@ -104,6 +86,7 @@ first_stray h x bs s = cond-false _ _ _ (le-ltb x 0x80 s.0) ∙ cond-true _ _ _ 
 err_at : (h : Bool) (b : ℕ) (bs r : List ℕ) (f : EncodingError) → r ≡ b ∷ bs → first_item h b bs ≡ Err f → items_behind 0 h r ≡ Err f ∷ []
 err_at h b bs r f e k = ap (items_behind 0 h) e ∙ items-err h b f bs k
 
+-- a bad shape has a value that the reader refuses
 is_bad : (p value : ℕ) (r : List ℕ) (s : IsBadShape p r value) → IsBad p (needed_continuations s.lead) (shape_value s.lead s.behind)
 is_bad p value r s =
     let v = shape_value s.lead s.behind in
@@ -115,6 +98,7 @@ is_bad p value r s =
     s.bad)
     (cases_lt v (least_value n))
 
+-- the item of a part that is refused, and so of a fault
 item_of_refused : (p : ℕ) (refused rest : List ℕ) (f : EncodingError) → IsRefused p refused rest f → items_behind 0 (is_high p) (refused ++ rest) ≡ Err f ∷ []
 unfolding and_then_checked
 item_of_refused p refused rest (Byte x) (inl s) =
@@ -141,6 +125,7 @@ behind_zero : (cs : List ℕ) → IsPairedFree cs → IsPairedFree (0 ∷ cs)
 behind_zero [] f = (tt, f)
 behind_zero (c ∷ cs) f = ((λ h l. omega (arith, h.0)), f)
 
+-- what spells code points, or has a first fault, has these items
 pub items_if_spelled : (bytes cs : List ℕ) → Spells bytes cs → items_after false bytes ≡ map Ok cs
 unfolding items_behind
 items_if_spelled bytes cs s =
@@ -158,6 +143,7 @@ pub items_if : (bytes : List ℕ) (items : List (Result ℕ EncodingError)) → 
 items_if bytes items (Whole r) = items_if_spelled bytes r.code_points r.spelled ∙ sym r.are
 items_if bytes items (Faulty r) = items_if_faulty bytes r.code_points r.fault r.first ∙ sym r.are
 
+-- so bytes spell one list, have one first fault, never both, and one list of items
 pub spelled_once : (bytes cs ds : List ℕ) → Spells bytes cs → Spells bytes ds → cs ≡ ds
 spelled_once bytes cs ds s t = same_oks cs ds (sym (items_if_spelled bytes cs s) ∙ items_if_spelled bytes ds t)
 

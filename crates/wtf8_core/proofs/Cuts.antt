@@ -1,8 +1,8 @@
 -- Where strings of forms are cut.
 use Rattle.wtf8_core.proofs.Characters.{character_fits}
-use Rattle.std.proofs.Common.{◌≡◌, ⊎_elim, ℕ, zero, suc, ◌+◌, ◌/◌, ◌%◌, ◌≤◌, true, List, [], ◌∷◌, ◌++◌, length, take, drop, refl, sym, ap, ◌∙◌, subst, arith, length-append, append_assoc, take-append-drop}
-use Rattle.std.proofs.lemmas.Bool.{cases_lt, and_parts}
-use Rattle.std.proofs.lemmas.List.{append-nil, take_at, drop_at}
+use Rattle.std.proofs.Common.{◌≡◌, ⊎_elim, ℕ, ◌+◌, ◌/◌, ◌%◌, ◌≤◌, true, List, [], ◌∷◌, ◌++◌, length, take, drop, refl, sym, ap, ◌∙◌, subst, arith, length-append, append_assoc, take-append-drop}
+use Rattle.std.proofs.lemmas.Bool.{and_parts}
+use Rattle.std.proofs.lemmas.List.{append-nil, take_at, drop_at, take-take}
 use Rattle.std.proofs.lemmas.Grind.{flat_map-append}
 use Rattle.std.proofs.lemmas.Str.{IsCharBoundary-from_drop}
 use Rattle.std.specs.List.{AllByRecursion, flat_map}
@@ -12,9 +12,9 @@ use Rattle.wtf8_core.specs.CodePoint.{IsCodePoint, form}
 use Rattle.wtf8_core.specs.Wtf8.{IsPairedFree, Spells, IsWtf8}
 use Rattle.wtf8_core.specs.Character.{WholeCharacter}
 use Rattle.wtf8_core.specs.Boundary.{IsBoundary}
-use Rattle.wtf8_core.proofs.Forms.{form_1, form_2, form_3, form_4}
+use Rattle.wtf8_core.proofs.Forms.{form_cases}
 use Rattle.wtf8_core.proofs.FormsByStd.{forms_encode, forms_front}
-use lib.Utf8.{scalar}
+use Rattle.std.proofs.Math.Utf8.{scalar}
 
 -- a byte that is no continuation, and then continuations
 pub record FormParts (c : ℕ) : Type 0 where
@@ -24,16 +24,16 @@ pub record FormParts (c : ℕ) : Type 0 where
   pub begins : IsContinuation lead → ⊥
   pub continued : AllByRecursion IsContinuation behind
 
+-- each form is one
 pub form_parts : (c : ℕ) → FormParts c
-form_parts c =
-    ⊎_elim (λ h. record { lead = c; behind = []; is = form_1 c h; begins = λ k. omega (arith, k.0); continued = tt })
-    (λ h. ⊎_elim (λ k. record { lead = 0xC0 + c / 0x40; behind = (0x80 + c % 0x40) ∷ []; is = form_2 c h k; begins = λ m. omega (arith, m.1); continued = ((omega arith, omega arith), tt) })
-    (λ k. ⊎_elim (λ l. record { lead = 0xE0 + c / 0x1000; behind = (0x80 + (c / 0x40) % 0x40) ∷ (0x80 + c % 0x40) ∷ []; is = form_3 c k l; begins = λ m. omega (arith, m.1); continued = ((omega arith, omega arith), ((omega arith, omega arith), tt)) })
-    (λ l. record { lead = 0xF0 + c / 0x4_0000; behind = (0x80 + (c / 0x1000) % 0x40) ∷ (0x80 + (c / 0x40) % 0x40) ∷ (0x80 + c % 0x40) ∷ []; is = form_4 c l; begins = λ m. omega (arith, m.1); continued = ((omega arith, omega arith), ((omega arith, omega arith), ((omega arith, omega arith), tt))) })
-    (cases_lt c 0x1_0000))
-    (cases_lt c 0x800))
-    (cases_lt c 0x80)
+form_parts c = form_cases (λ xs. form c ≡ xs → FormParts c) c
+    (λ h e. record { lead = c; behind = []; is = e; begins = λ k. omega (arith, k.0); continued = tt })
+    (λ l h e. record { lead = 0xC0 + c / 0x40; behind = (0x80 + c % 0x40) ∷ []; is = e; begins = λ k. omega (arith, k.1); continued = ((omega arith, omega arith), tt) })
+    (λ l h e. record { lead = 0xE0 + c / 0x1000; behind = (0x80 + (c / 0x40) % 0x40) ∷ (0x80 + c % 0x40) ∷ []; is = e; begins = λ k. omega (arith, k.1); continued = ((omega arith, omega arith), ((omega arith, omega arith), tt)) })
+    (λ l e. record { lead = 0xF0 + c / 0x4_0000; behind = (0x80 + (c / 0x1000) % 0x40) ∷ (0x80 + (c / 0x40) % 0x40) ∷ (0x80 + c % 0x40) ∷ []; is = e; begins = λ k. omega (arith, k.1); continued = ((omega arith, omega arith), ((omega arith, omega arith), ((omega arith, omega arith), tt))) })
+    refl
 
+-- where a byte that is no continuation stands behind continuations
 record Past (ks rest before : List ℕ) (x : ℕ) (t : List ℕ) : Type 0 where
   middle : List ℕ
   front : before ≡ ks ++ middle
@@ -56,6 +56,16 @@ pub record Between (cs before behind : List ℕ) : Type 0 where
   pub before_is : flat_map form front ≡ before
   pub behind_is : flat_map form back ≡ behind
 
+-- one more code point in front
+more_before : (c : ℕ) (cs middle before behind : List ℕ) → form c ++ middle ≡ before → Between cs middle behind → Between (c ∷ cs) before behind
+more_before c cs middle before behind e w = record {
+  front = c ∷ w.front;
+  back = w.back;
+  are = ap (λ l. c ∷ l) w.are;
+  before_is = ap (λ l. form c ++ l) w.before_is ∙ e;
+  behind_is = w.behind_is;
+}
+
 -- a byte that is no continuation begins a form
 pub between : (cs before : List ℕ) (x : ℕ) (t : List ℕ) → (IsContinuation x → ⊥) → flat_map form cs ≡ before ++ x ∷ t → Between cs before (x ∷ t)
 between cs [] x t n e = record { front = []; back = cs; are = refl; before_is = refl; behind_is = e }
@@ -66,15 +76,10 @@ between (c ∷ cs) (b ∷ before) x t n e =
     let h : f.lead ≡ b = cc in
     let r : f.behind ++ flat_map form cs ≡ before ++ x ∷ t = cc in
     let p = past f.behind (flat_map form cs) before x t f.continued n r in
-    let q = between cs p.middle x t n p.back in
-    record {
-      front = c ∷ q.front;
-      back = q.back;
-      are = ap (λ l. c ∷ l) q.are;
-      before_is = ap (λ l. form c ++ l) q.before_is ∙ ap (λ l. l ++ p.middle) f.is ∙ ap (λ m. m ∷ f.behind ++ p.middle) h ∙ ap (λ l. b ∷ l) (sym p.front);
-      behind_is = q.behind_is;
-    }
+    let e : form c ++ p.middle ≡ b ∷ before = ap (λ l. l ++ p.middle) f.is ∙ ap (λ m. m ∷ f.behind ++ p.middle) h ∙ ap (λ l. b ∷ l) (sym p.front) in
+    more_before c cs p.middle (b ∷ before) (x ∷ t) e (between cs p.middle x t n p.back)
 
+-- parts that are equal
 same_parts : (cs p q r s : List ℕ) → p ≡ q → r ≡ s → Between cs p r → Between cs q s
 same_parts cs p q r s e f w = record { front = w.front; back = w.back; are = w.are; before_is = w.before_is ∙ e; behind_is = w.behind_is ∙ f }
 
@@ -113,10 +118,12 @@ boundary_between b cs i e k =
     (length-append w.stands.before (form w.char) ∙ ap (λ n. n + length (form w.char)) w.stands.place ∙ sym w.end) (at_end b cs s.0 i e w))))
     k.is
 
+-- what holds of each element holds of those of both parts
 pub all_parts : (P : ℕ → Type 0) (ds es : List ℕ) → AllByRecursion P (ds ++ es) → AllByRecursion P ds × AllByRecursion P es
 all_parts P [] es a = (tt, a)
 all_parts P (d ∷ ds) es a = let r = all_parts P ds es a.1 in ((a.0, r.0), r.1)
 
+-- both parts of a paired-free list are paired-free
 pub paired_front : (ds es : List ℕ) → IsPairedFree (ds ++ es) → IsPairedFree ds
 paired_front [] es f = tt
 paired_front (d ∷ []) es f = (tt, tt)
@@ -145,16 +152,11 @@ pub record Middle (cs b : List ℕ) (i j : ℕ) : Type 0 where
   pub both_are : flat_map form (front ++ middle) ≡ take j b
   pub middle_is : flat_map form middle ≡ drop i (take j b)
 
-take_less : (b : List ℕ) (i j : ℕ) → i ≤ j → take i (take j b) ≡ take i b
-take_less b zero j h = refl
-take_less [] (suc i) zero h = absurd (omega arith)
-take_less [] (suc i) (suc j) h = refl
-take_less (x ∷ b) (suc i) zero h = absurd (omega arith)
-take_less (x ∷ b) (suc i) (suc j) h = ap (λ l. x ∷ l) (take_less b i j (omega arith))
-
+-- a front, and the part from a place in it on
 front_of_front : (b : List ℕ) (i j : ℕ) → i ≤ j → take j b ≡ take i b ++ drop i (take j b)
-front_of_front b i j h = sym (ap (λ x. x ++ drop i (take j b)) (sym (take_less b i j h)) ∙ take-append-drop i (take j b))
+front_of_front b i j h = sym (ap (λ x. x ++ drop i (take j b)) (sym (take-take i j b h)) ∙ take-append-drop i (take j b))
 
+-- two boundaries are between code points
 pub middle_between : (b cs : List ℕ) (i j : ℕ) → b ≡ flat_map form cs → IsBoundary b i → IsBoundary b j → i ≤ j → Middle cs b i j
 middle_between b cs i j e k l h =
     let v = boundary_between b cs i e k in
@@ -170,12 +172,14 @@ middle_between b cs i j e k l h =
       middle_is = f.2;
     }
 
+-- at a boundary both parts of WTF-8 are WTF-8
 pub wtf8_cut : (b : List ℕ) (i : ℕ) → IsWtf8 b → IsBoundary b i → IsWtf8 (take i b) × IsWtf8 (drop i b)
 wtf8_cut b i s k =
     let w = boundary_between b s.0 i s.1.joined k in
     let p = spells_parts b s.0 _ _ s.1 w in
     ((w.front, p.0), (w.back, p.1))
 
+-- both parts of a list of scalars are scalars
 scalars_parts : (ds es : List ℕ) → all_scalars (ds ++ es) ≡ true → (all_scalars ds ≡ true) × (all_scalars es ≡ true)
 scalars_parts [] es e = (refl, e)
 scalars_parts (d ∷ ds) es e =
@@ -192,6 +196,7 @@ utf8_cut b i u k =
       (w.back, (s.1, sym (forms_encode w.back) ∙ w.behind_is)),
     )
 
+-- a boundary is at most the length
 pub boundary_within : (b : List ℕ) (i : ℕ) → IsBoundary b i → i ≤ length b
 boundary_within b i k =
     ⊎_elim (λ z. omega arith)
@@ -203,6 +208,7 @@ boundary_within b i k =
 pub char_boundary : (b : List ℕ) (i : ℕ) → IsUtf8 b → IsBoundary b i → IsCharBoundary b i
 char_boundary b i u k = IsCharBoundary-from_drop b i (boundary_within b i k) (utf8_cut b i u k).1
 
+-- the part between two boundaries is WTF-8, of a text a text
 pub wtf8_part : (b : List ℕ) (i j : ℕ) → IsWtf8 b → IsBoundary b i → IsBoundary b j → i ≤ j → IsWtf8 (drop i (take j b))
 wtf8_part b i j s k l h =
     let m = middle_between b s.0 i j s.1.joined k l h in
@@ -218,6 +224,7 @@ utf8_part b i j u k l h =
     let s = scalars_parts (m.front ++ m.middle) m.back (ap all_scalars (sym m.are) ∙ u.1.0) in
     (m.middle, ((scalars_parts m.front m.middle s.0).1, sym (forms_encode m.middle) ∙ m.middle_is))
 
+-- what follows a text at the front of a text is a text
 pub utf8_behind : (b : List ℕ) (n : ℕ) → IsUtf8 b → IsUtf8 (take n b) → IsUtf8 (drop n b)
 utf8_behind b n u v =
     let f = forms_front v.0 u.0 (drop n b) (forms_encode u.0 ∙ u.1.1 ∙ sym (take-append-drop n b) ∙ ap (λ x. x ++ drop n b) (sym v.1.1 ∙ sym (forms_encode v.0))) in

@@ -9,8 +9,9 @@ use Rattle.wtf8_core.specs.CodePoint.{form}
 use Rattle.wtf8_core.specs.Standing.{StandsAt}
 use Rattle.wtf8_core.specs.Boundary.{IsBoundary}
 use Rattle.wtf8_core.proofs.FormsByStd.{forms_encode}
-use lib.Utf8.{scalar}
+use Rattle.std.proofs.Math.Utf8.{scalar}
 
+-- the bytes of code points
 abbrev Forms : List ℕ → List ℕ
 Forms cs = flat_map form cs
 
@@ -21,6 +22,7 @@ last_character c (d ∷ ds) u =
     let later = last_character d ds (and_parts (scalar c) _ u).1 in
     (form c ++ later.0, later.1, later.2, ap (λ r. form c ++ r) later.3 ∙ sym (append_assoc (form c) later.0 (form later.1)))
 
+-- a boundary is where the first character starts, and where the last ends
 before : (s : List ℕ) (c : ℕ) (cs : List ℕ) (i : ℕ) → all_scalars (c ∷ cs) ≡ true → StandsAt (Forms (c ∷ cs)) s i → IsBoundary s i
 before s c cs i u h = record {
   is = inr (inr (inl (
@@ -56,10 +58,12 @@ behind s c cs i u h =
       )));
     }
 
+-- both edges, of the characters of a text
 edges : (s : List ℕ) (cs : List ℕ) (i : ℕ) → all_scalars cs ≡ true → 0 < length (Forms cs) → StandsAt (Forms cs) s i → IsBoundary s i × IsBoundary s (i + length (Forms cs))
 edges s [] i u some h = absurd (omega (arith, some))
 edges s (c ∷ cs) i u some h = (before s c cs i u h, behind s c cs i u h)
 
+-- and of the text
 pub edges_of_text : (p s : List ℕ) (i : ℕ) → IsUtf8 p → 0 < length p → StandsAt p s i → IsBoundary s i × IsBoundary s (i + length p)
 edges_of_text p s i u some h =
     let P : List ℕ → Type 0 = λ q. 0 < length q → StandsAt q s i → IsBoundary s i × IsBoundary s (i + length q) in

@@ -9,18 +9,22 @@ use Rattle.wtf8_core.specs.Items.{AreItems, AreUnitItems, unit_items}
 use Rattle.wtf8_core.specs.Items.AreItems.{Whole, Faulty}
 use Rattle.wtf8_core.specs.declared.fault.EncodingError.{EncodingError}
 
+-- an item of bytes
 abbrev Item : Type 0
 Item = Result ℕ EncodingError
 
+-- items that are all code points
 abbrev pub oks : List ℕ → List (Result ℕ EncodingError)
 oks cs = map Ok cs
 
+-- items that are all Ok have no fault
 pub no_err : (cs ds : List ℕ) (f : EncodingError) (later : List Item) → oks cs ≡ oks ds ++ Err f ∷ later → ⊥
 no_err [] [] f l e = cc
 no_err [] (d ∷ ds) f l e = cc
 no_err (c ∷ cs) [] f l e = cc
 no_err (c ∷ cs) (d ∷ ds) f l e = let t : oks cs ≡ oks ds ++ Err f ∷ l = cc in no_err cs ds f l t
 
+-- items before a fault, and the fault, are decided by the list
 pub same_faulty : (cs ds : List ℕ) (f g : EncodingError) (l m : List Item) → oks cs ++ Err f ∷ l ≡ oks ds ++ Err g ∷ m → (cs ≡ ds) × (f ≡ g) × (l ≡ m)
 same_faulty [] [] f g l m e = (refl, cc, cc)
 same_faulty [] (d ∷ ds) f g l m e = cc
@@ -32,6 +36,7 @@ same_faulty (c ∷ cs) (d ∷ ds) f g l m e =
     let v = u.0 in
     (cc, u.1, u.2)
 
+-- and so are items that are all Ok
 pub same_oks : (cs ds : List ℕ) → oks cs ≡ oks ds → cs ≡ ds
 same_oks [] [] e = refl
 same_oks [] (d ∷ ds) e = cc
@@ -47,10 +52,12 @@ pub one_more_ok : (cs : List ℕ) (c : ℕ) (rest : List (Result ℕ EncodingErr
 one_more_ok [] c rest = refl
 one_more_ok (x ∷ cs) c rest = ap (λ l. Ok x ∷ l) (one_more_ok cs c rest)
 
+-- bytes whose items are all Ok spell them
 pub items_all_ok : (bytes cs : List ℕ) → AreItems bytes (oks cs) → Spells bytes cs
 items_all_ok bytes cs (Whole r) = subst (Spells bytes) (sym (same_oks cs r.code_points r.are)) r.spelled
 items_all_ok bytes cs (Faulty r) = absurd (no_err cs r.code_points r.fault [] r.are)
 
+-- the first Err is the first fault
 pub items_first_err : (bytes cs : List ℕ) (f : EncodingError) (rest : List (Result ℕ EncodingError)) → AreItems bytes (oks cs ++ Err f ∷ rest) → IsFirstFault bytes cs f
 items_first_err bytes cs f rest (Whole r) = absurd (no_err r.code_points cs f rest (sym r.are))
 items_first_err bytes cs f rest (Faulty r) =
@@ -65,6 +72,7 @@ units_of_oks (c ∷ cs) rest =
     ∙ sym (append_assoc (oks (wide c)) (oks (units cs)) (flat_map unit_items rest))
     ∙ ap (λ l. l ++ flat_map unit_items rest) (sym (map-append Ok (wide c) (units cs)))
 
+-- the units of items that are all Ok
 pub units_whole : (cs : List ℕ) (items : List Item) → items ≡ oks cs → flat_map unit_items items ≡ oks (units cs)
 units_whole cs items e = ap (flat_map unit_items) (e ∙ sym (append-nil (oks cs))) ∙ units_of_oks cs [] ∙ append-nil (oks (units cs))
 
@@ -73,6 +81,7 @@ units_all bytes us items (Whole r) e = record { code_points = r.code_points; spe
 units_all bytes us items (Faulty r) e =
     absurd (no_err us (units r.code_points) r.fault [] (e ∙ ap (flat_map unit_items) r.are ∙ units_of_oks r.code_points (Err r.fault ∷ [])))
 
+-- bytes whose unit items are all Ok have these units
 pub units_all_ok : (bytes us : List ℕ) → AreUnitItems bytes (oks us) → HasUnits bytes us
 units_all_ok bytes us w = units_all bytes us w.items w.are_items w.are
 
@@ -88,5 +97,6 @@ units_err bytes us f rest items (Faulty r) e =
     let s = same_faulty us (units r.code_points) f r.fault rest [] (e ∙ ap (flat_map unit_items) r.are ∙ units_of_oks r.code_points (Err r.fault ∷ [])) in
     record { code_points = r.code_points; first = subst (IsFirstFault bytes r.code_points) (sym s.1) r.first; are = s.0 }
 
+-- the units before the first Err, and its fault
 pub units_first_err : (bytes us : List ℕ) (f : EncodingError) (rest : List (Result ℕ EncodingError)) → AreUnitItems bytes (oks us ++ Err f ∷ rest) → UnitsBefore bytes us f
 units_first_err bytes us f rest w = units_err bytes us f rest w.items w.are_items w.are

@@ -7,6 +7,7 @@ use Rattle.wtf8_core.specs.CodePoint.{IsCodePoint, form}
 use Rattle.wtf8_core.specs.Fault.{IsShape, shape_value}
 use Rattle.wtf8_core.specs.Reader.{least_value}
 
+-- the form of a code point, by how many bytes it has
 pub form_1 : (c : ℕ) → c < 0x80 → form c ≡ c ∷ []
 unfolding form
 form_1 c h = rw (lt-ltb c 0x80 h) refl
@@ -23,6 +24,20 @@ pub form_4 : (c : ℕ) → 0x1_0000 ≤ c → form c ≡ (0xF0 + c / 0x4_0000) �
 unfolding form
 form_4 c l = rw (le-ltb c 0x80 (omega arith), le-ltb c 0x800 (omega arith), le-ltb c 0x1_0000 l) refl
 
+-- what holds of a form, by how many bytes it has
+pub form_cases : (P : List ℕ → Type 0) (c : ℕ)
+    → (c < 0x80 → P (c ∷ []))
+    → (0x80 ≤ c → c < 0x800 → P ((0xC0 + c / 0x40) ∷ (0x80 + c % 0x40) ∷ []))
+    → (0x800 ≤ c → c < 0x1_0000 → P ((0xE0 + c / 0x1000) ∷ (0x80 + (c / 0x40) % 0x40) ∷ (0x80 + c % 0x40) ∷ []))
+    → (0x1_0000 ≤ c → P ((0xF0 + c / 0x4_0000) ∷ (0x80 + (c / 0x1000) % 0x40) ∷ (0x80 + (c / 0x40) % 0x40) ∷ (0x80 + c % 0x40) ∷ []))
+    → P (form c)
+form_cases P c one two three four =
+    ⊎_elim (λ h. subst P (sym (form_1 c h)) (one h))
+    (λ l. ⊎_elim (λ h. subst P (sym (form_2 c l h)) (two l h))
+    (λ k. ⊎_elim (λ h. subst P (sym (form_3 c k h)) (three k h)) (λ m. subst P (sym (form_4 c m)) (four m)) (cases_lt c 0x1_0000))
+    (cases_lt c 0x800))
+    (cases_lt c 0x80)
+
 -- a form of two bytes or more, as a shape
 pub record IsLongForm (c lead : ℕ) (behind : List ℕ) : Type 0 where
   pub is : form c ≡ lead ∷ behind
@@ -30,6 +45,7 @@ pub record IsLongForm (c lead : ℕ) (behind : List ℕ) : Type 0 where
   pub value : shape_value lead behind ≡ c
   pub least : least_value (needed_continuations lead) ≤ c
 
+-- how many continuations a lead needs, and the value of its shape
 needed_1 : (b : ℕ) → b < 0xE0 → needed_continuations b ≡ 1
 needed_1 b h = rw (lt-ltb b 0xE0 h) refl
 
@@ -48,6 +64,7 @@ value_2 b x y h = rw (le-ltb b 0xE0 h) refl
 value_3 : (b x y z : ℕ) → 0xE0 ≤ b → shape_value b (x ∷ y ∷ z ∷ []) ≡ ((b % 0x10 * 0x40 + x % 0x40) * 0x40 + y % 0x40) * 0x40 + z % 0x40
 value_3 b x y z h = rw (le-ltb b 0xE0 h) refl
 
+-- a form of two bytes or more is a shape
 abbrev pub LongForm : ℕ → Type 0
 LongForm c = (lead : ℕ) × (behind : List ℕ) × IsLongForm c lead behind
 
@@ -100,6 +117,7 @@ long_form c l h =
     (λ a. ⊎_elim (λ b. long_3 c a b) (λ b. long_4 c b h) (cases_lt c 0x1_0000))
     (cases_lt c 0x800)
 
+-- a shape of at least the least value is the form of its value, by how many continuations it has
 pub shape_1 : (b x : ℕ) → 0xC2 ≤ b → b < 0xE0 → IsContinuation x → 0x80 ≤ b % 0x20 * 0x40 + x % 0x40
     → form (b % 0x20 * 0x40 + x % 0x40) ≡ b ∷ x ∷ []
 shape_1 b x l h k m =
@@ -131,6 +149,7 @@ shape_3 b x y z l h k j i m =
     let g : form v ≡ (0xF0 + v / 0x4_0000) ∷ (0x80 + (v / 0x1000) % 0x40) ∷ (0x80 + (v / 0x40) % 0x40) ∷ (0x80 + v % 0x40) ∷ [] = form_4 v m in
     cc
 
+-- the same in one statement
 abbrev IsFormOfValue : ℕ → List ℕ → Type 0
 IsFormOfValue b ks = least_value (needed_continuations b) ≤ shape_value b ks → form (shape_value b ks) ≡ b ∷ ks
 
@@ -167,6 +186,7 @@ shape_is_form b ks s m =
     (cases_lt b 0xF0))
     (cases_lt b 0xE0)
 
+-- contradictions of `no_form`
 clash : (s m c : ℕ) → s ≡ c → m ≤ c → s < m → ⊥
 clash s m c v k h = omega arith
 
@@ -193,8 +213,4 @@ no_form b ks s w c p e =
 -- a form has one to four bytes
 pub form_bounds : (c : ℕ) → (1 ≤ length (form c)) × (length (form c) ≤ 4)
 form_bounds c =
-    ⊎_elim (λ h. rw (form_1 c h) (omega arith, omega arith))
-    (λ h. ⊎_elim (λ k. rw (form_2 c h k) (omega arith, omega arith))
-    (λ k. ⊎_elim (λ l. rw (form_3 c k l) (omega arith, omega arith)) (λ l. rw (form_4 c l) (omega arith, omega arith)) (cases_lt c 0x1_0000))
-    (cases_lt c 0x800))
-    (cases_lt c 0x80)
+    form_cases (λ xs. (1 ≤ length xs) × (length xs ≤ 4)) c (λ _. (omega arith, omega arith)) (λ _ _. (omega arith, omega arith)) (λ _ _. (omega arith, omega arith)) (λ _. (omega arith, omega arith))

@@ -7,6 +7,7 @@ use Rattle.std.proofs.lemmas.Str.{encode_same}
 use Rattle.wtf8_core.specs.CodePoint.{form}
 use Rattle.wtf8_core.proofs.Forms.{form_bounds}
 
+-- a form is std's, and so are forms
 pub form_encode : (c : ℕ) → form c ≡ encode_utf8 c
 unfolding form encode_utf8
 form_encode c = refl

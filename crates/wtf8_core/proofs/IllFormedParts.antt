@@ -15,7 +15,7 @@ use Rattle.wtf8_core.proofs.FormsByStd.{forms_encode}
 use Rattle.wtf8_core.proofs.Characters.{whole_at, none_at, character_fits, same_end}
 use Rattle.wtf8_core.proofs.Overlaps.{form_behind, no_start, no_start_inside}
 use Rattle.wtf8_core.proofs.Utf8Lemmas.{no_char}
-use lib.Utf8.{scalar}
+use Rattle.std.proofs.Math.Utf8.{scalar}
 
 -- past a whole character no other lies across
 seam_past : (s : List ℕ) (i j : ℕ) → IsSeam s i → WholeCharacter s i j → IsSeam s j
@@ -26,6 +26,7 @@ seam_past s i j h w a b v low high =
     (λ ne. ⊎_elim (λ lt. h a b v lt (omega arith)) (λ ge. no_start_inside s i j a b w v (omega arith) low) (cases_lt a i))
     (cases_eq a i)
 
+-- none lies across the end of characters
 seam_behind : (s : List ℕ) (cs : List ℕ) (i : ℕ) (r : List ℕ) → i ≤ length s → all_scalars cs ≡ true → drop i s ≡ flat_map form cs ++ r → IsSeam s i → IsSeam s (i + length (flat_map form cs))
 seam_behind s [] i r l k e h = let z : i ≡ i + 0 = omega arith in subst (IsSeam s) z h
 seam_behind s (c ∷ cs) i r l k e h =
@@ -48,6 +49,7 @@ seam_behind_text s v l u =
     let z : 0 + length (flat_map form u.0) ≡ v = omega arith in
     subst (IsSeam s) z (seam_behind s u.0 0 (drop v s) (omega arith) u.1.0 e (λ a b w low high. omega arith))
 
+-- behind the first byte of a front of a character stand continuations
 front_behind : (xs : List ℕ) → IsFrontOfCharacter xs → (m : ℕ) → 0 < m → m < length xs → IsContinuation (get_or xs m 0)
 front_behind xs w m low high =
     let l : length (form w.char) ≡ length xs + length w.rest = ap length w.is ∙ length-append xs w.rest in

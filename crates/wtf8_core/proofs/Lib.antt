@@ -1,4 +1,7 @@
+pub mod Lists
+pub mod Ranges
 pub mod Reading
+pub mod Continuations
 pub mod Forms
 pub mod FormsByStd
 pub mod Sound
@@ -9,6 +12,7 @@ pub mod EncoderLemmas
 pub mod DecoderLemmas
 pub mod Characters
 pub mod Cuts
+pub mod CharacterBytes
 pub mod Utf8Lemmas
 pub mod Propositions
 pub mod UnitsOfLemmas

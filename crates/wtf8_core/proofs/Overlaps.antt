@@ -1,5 +1,5 @@
 -- Whole characters don't overlap, so a boundary stays one in a part that ends or starts at a boundary.
-use Rattle.std.proofs.Common.{◌≡◌, ◌⊎◌, inl, inr, ⊎_elim, ℕ, zero, suc, ◌+◌, ◌-◌, ◌<◌, ◌≤◌, List, [], ◌∷◌, ◌++◌, length, take, drop, get_or, sym, ap, ◌∙◌, subst, arith, length-append, length-drop, append_assoc}
+use Rattle.std.proofs.Common.{◌≡◌, ◌⊎◌, inl, inr, ⊎_elim, ℕ, zero, suc, ◌+◌, ◌-◌, ◌<◌, ◌≤◌, List, ◌++◌, length, take, drop, get_or, sym, ap, ◌∙◌, subst, arith, length-append, length-drop, append_assoc}
 use Rattle.std.proofs.Math.Seq.{take-append-add}
 use Rattle.std.proofs.lemmas.Bool.{cases_lt, cases_eq}
 use Rattle.std.proofs.lemmas.List.{drop_at, drop-append-le, length-take-le, get_or-drop, get_or_append_left}
@@ -10,12 +10,7 @@ use Rattle.wtf8_core.specs.Boundary.{IsBoundary}
 use Rattle.wtf8_core.proofs.Forms.{form_bounds}
 use Rattle.wtf8_core.proofs.Cuts.{form_parts, boundary_within}
 use Rattle.wtf8_core.proofs.Characters.{character_fits, same_end}
-use Rattle.std.specs.List.{AllByRecursion}
-
-all_at : (xs : List ℕ) (m : ℕ) → AllByRecursion IsContinuation xs → m < length xs → IsContinuation (get_or xs m 0)
-all_at [] m a h = absurd (omega arith)
-all_at (x ∷ xs) zero a h = a.0
-all_at (x ∷ xs) (suc m) a h = all_at xs m a.1 (omega arith)
+use Rattle.std.proofs.lemmas.List.Elements.{All-from_recursion, All-get_or}
 
 -- the bytes of a form behind the first are continuations, and the first is none
 pub form_behind : (c m : ℕ) → 0 < m → m < length (form c) → IsContinuation (get_or (form c) m 0)
@@ -23,16 +18,19 @@ form_behind c zero l h = absurd (omega arith)
 form_behind c (suc m) l h =
     let p = form_parts c in
     let n : length (form c) ≡ suc (length p.behind) = ap length p.is in
-    subst IsContinuation (sym (ap (λ x. get_or x (suc m) 0) p.is)) (all_at p.behind m p.continued (omega arith))
+    subst IsContinuation (sym (ap (λ x. get_or x (suc m) 0) p.is)) (All-get_or IsContinuation p.behind m 0 (omega arith) (All-from_recursion IsContinuation p.behind p.continued))
 
+-- the first byte of a form is no continuation
 pub form_first : (c : ℕ) → IsContinuation (get_or (form c) 0 0) → ⊥
 form_first c h = let p = form_parts c in p.begins (subst IsContinuation (ap (λ x. get_or x 0 0) p.is) h)
 
+-- the bytes of a whole character
 byte_of : (s : List ℕ) (i j m : ℕ) → (w : WholeCharacter s i j) → m < length (form w.char) → get_or s (i + m) 0 ≡ get_or (form w.char) m 0
 byte_of s i j m w h =
     let e : drop i s ≡ form w.char ++ w.stands.behind = ap (drop i) w.stands.joined ∙ drop_at w.stands.before (form w.char ++ w.stands.behind) i w.stands.place in
     sym (get_or-drop i s m 0) ∙ ap (λ x. get_or x m 0) e ∙ get_or_append_left (form w.char) w.stands.behind 0 m h
 
+-- those behind the first are continuations
 pub continued : (s : List ℕ) (i j k : ℕ) → WholeCharacter s i j → i < k → k < j → IsContinuation (get_or s k 0)
 continued s i j k w low high =
     let m = k - i in
@@ -41,6 +39,7 @@ continued s i j k w low high =
     let z : i + m ≡ k = omega arith in
     subst (λ n. IsContinuation (get_or s n 0)) z (subst IsContinuation (sym b) (form_behind w.char m (omega arith) (omega arith)))
 
+-- so none starts at a continuation
 pub no_start : (s : List ℕ) (i j : ℕ) → IsContinuation (get_or s i 0) → WholeCharacter s i j → ⊥
 no_start s i j k w =
     let b : get_or s (i + 0) 0 ≡ get_or (form w.char) 0 0 = byte_of s i j 0 w (form_bounds w.char).0 in

@@ -1,85 +1,24 @@
 -- What the reader finds at the front of bytes is what the definitions say.
-use Rattle.std.proofs.Common.{◌≡◌, ◌⊎◌, inl, inr, ⊎_elim, ℕ, zero, suc, ◌+◌, ◌*◌, ◌%◌, ◌<◌, ◌≤◌, true, false, ltb, leb, ◌&&◌, ◌||◌, List, [], ◌∷◌, ◌++◌, length, drop, map, Result, Ok, Err, refl, sym, ap, ◌∙◌, subst, arith, append_assoc, Fits, w8, get_or}
-use Rattle.std.proofs.lemmas.Bool.{cond_both, ltb-true, ltb-false, leb-true, leb-false, lt-ltb, le-ltb, cases_lt, le-leb, cond-true, cond-false, and_from, and_parts, and_cases, or_cases, or_parts}
-use Rattle.std.specs.List.{AllByRecursion, fold, flat_map}
-use Rattle.std.specs.Int.{is_in_range, IsInRange}
-use Rattle.wtf8_core.specs.Byte.{IsContinuation, needed_continuations}
+use Rattle.std.proofs.Common.{◌≡◌, ◌⊎◌, inl, inr, ⊎_elim, ℕ, zero, suc, ◌<◌, ◌≤◌, true, false, ltb, ◌&&◌, ◌||◌, List, [], ◌∷◌, ◌++◌, length, drop, map, Result, Ok, Err, refl, sym, ap, ◌∙◌, subst, arith, append_assoc, length-drop, Fits, w8, get_or}
+use Rattle.std.proofs.lemmas.Bool.{cond_both, ltb-true, ltb-false, lt-ltb, le-ltb, cases_lt, cond-true, cond-false, and_parts, and_cases, or_cases, or_parts}
+use Rattle.std.specs.List.{AllByRecursion, flat_map}
+use Rattle.std.specs.Int.{is_in_range}
+use Rattle.wtf8_core.specs.Byte.{IsByte, needed_continuations}
 use Rattle.wtf8_core.specs.CodePoint.{IsCodePoint, IsHigh, IsLow, form}
 use Rattle.wtf8_core.specs.Wtf8.{IsPairedFree, last_behind, IsWtf8}
 use Rattle.wtf8_core.specs.Fault.{IsShape, shape_value, BeginsFault, IsFirstFault}
-use Rattle.wtf8_core.specs.Reader.{with_continuations, lead_bits, least_value, checked_value, and_then_checked, continuations, behind_item, first_item, is_high, then_items, items_behind, items_after}
+use Rattle.wtf8_core.specs.Reader.{lead_bits, least_value, checked_value, and_then_checked, continuations, behind_item, first_item, is_high, then_items, items_behind, items_after}
 use Rattle.wtf8_core.proofs.Reading.{items_behind-drop}
+use Rattle.wtf8_core.proofs.Continuations.{Has, Joined, joined}
+pub use Rattle.wtf8_core.proofs.Ranges.{in_range, in_range-true, in_range-false}
 use Rattle.wtf8_core.specs.Items.{AreItems}
 use Rattle.wtf8_core.specs.Items.AreItems.{Whole, Faulty}
 use Rattle.std.specs.List.{All}
 use Rattle.std.proofs.lemmas.List.{append-nil}
-use Rattle.std.proofs.lemmas.List.Elements.{recursion_from_All}
+use Rattle.std.proofs.lemmas.List.Elements.{All-drop, All-tail, All-from_get_or}
 use Rattle.wtf8_core.proofs.Forms.{form_1, shape_is_form, no_form}
 use Rattle.wtf8_core.specs.declared.fault.EncodingError.{EncodingError}
 use Rattle.wtf8_core.specs.declared.fault.EncodingError.TheVariants.{Byte, CodePoint, End, Utf8}
-
-abbrev pub Join : ℕ → ℕ → ℕ
-Join value x = value * 0x40 + x % 0x40
-
-pub in_range-true : (a b x : ℕ) → is_in_range a b x ≡ true → IsInRange a b x
-in_range-true a b x e = let p = and_parts (leb a x) (leb x b) e in (leb-true a x p.0, leb-true x b p.1)
-
-pub in_range-false : (a b x : ℕ) → is_in_range a b x ≡ false → IsInRange a b x → ⊥
-in_range-false a b x e h = ⊎_elim (λ k. absurd (let l = leb-false a x k in omega (arith, h.0))) (λ k. let l = leb-false x b k in omega (arith, h.1)) (and_cases (leb a x) (leb x b) e)
-
-pub in_range : (a b x : ℕ) → IsInRange a b x → is_in_range a b x ≡ true
-in_range a b x h = and_from _ _ (le-leb a x h.0) (le-leb x b h.1)
-
--- all the continuations are there, in front of rest
-record Has (v n : ℕ) (bs : List ℕ) (value : ℕ) : Type 0 where
-  behind : List ℕ
-  rest : List ℕ
-  is : bs ≡ behind ++ rest
-  past : drop (continuations n bs) bs ≡ rest
-  whole : length behind ≡ n
-  continued : AllByRecursion IsContinuation behind
-  value_is : fold Join v behind ≡ value
-
-record Ends (n : ℕ) (bs : List ℕ) : Type 0 where
-  continued : AllByRecursion IsContinuation bs
-  past : drop (continuations n bs) bs ≡ []
-  short : length bs < n
-
-record Breaks (n : ℕ) (bs : List ℕ) (x : ℕ) : Type 0 where
-  behind : List ℕ
-  rest : List ℕ
-  is : bs ≡ behind ++ x ∷ rest
-  past : drop (continuations n bs) bs ≡ x ∷ rest
-  continued : AllByRecursion IsContinuation behind
-  short : length behind < n
-  breaks : IsContinuation x → ⊥
-
-abbrev Joined : ℕ → ℕ → List ℕ → Result ℕ EncodingError → Type 0
-Joined v n bs (Ok value) = Has v n bs value
-Joined v n bs (Err (Byte x)) = Breaks n bs x
-Joined v n bs (Err End) = Ends n bs
-Joined v n bs (Err (CodePoint value)) = ⊥
-Joined v n bs (Err (Utf8 i n')) = ⊥
-
-one_more_past : (n x : ℕ) (bs rest : List ℕ) → IsContinuation x → drop (continuations n bs) bs ≡ rest → drop (continuations (suc n) (x ∷ bs)) (x ∷ bs) ≡ rest
-unfolding continuations
-one_more_past n x bs rest c e = ap (λ k. drop k (x ∷ bs)) (cond-true _ _ _ (in_range 0x80 0xBF x c)) ∙ e
-
-one_more : (v n x : ℕ) (bs : List ℕ) (r : Result ℕ EncodingError) → IsContinuation x → Joined (Join v x) n bs r → Joined v (suc n) (x ∷ bs) r
-one_more v n x bs (Ok value) c h = record { behind = x ∷ h.behind; rest = h.rest; is = ap (λ l. x ∷ l) h.is; past = one_more_past n x bs h.rest c h.past; whole = ap suc h.whole; continued = (c, h.continued); value_is = h.value_is }
-one_more v n x bs (Err (Byte y)) c h = record { behind = x ∷ h.behind; rest = h.rest; is = ap (λ l. x ∷ l) h.is; past = one_more_past n x bs (y ∷ h.rest) c h.past; continued = (c, h.continued); short = omega (arith, h.short); breaks = h.breaks }
-one_more v n x bs (Err End) c h = record { continued = (c, h.continued); past = one_more_past n x bs [] c h.past; short = omega (arith, h.short) }
-one_more v n x bs (Err (CodePoint value)) c h = h
-one_more v n x bs (Err (Utf8 i j)) c h = h
-
-joined : (v n : ℕ) (bs : List ℕ) → Joined v n bs (with_continuations v n bs)
-unfolding with_continuations continuations
-joined v zero bs = record { behind = []; rest = bs; is = refl; past = refl; whole = refl; continued = tt; value_is = refl }
-joined v (suc n) [] = record { continued = tt; past = refl; short = omega arith }
-joined v (suc n) (x ∷ bs) =
-    cond_both (is_in_range 0x80 0xBF x) _ _ (λ r. Joined v (suc n) (x ∷ bs) r)
-    (λ e. one_more v n x bs _ (in_range-true 0x80 0xBF x e) (joined (v * 0x40 + x % 0x40) n bs))
-    (λ e. record { behind = []; rest = bs; is = refl; past = ap (λ k. drop k (x ∷ bs)) (cond-false _ _ _ e); continued = tt; short = omega arith; breaks = in_range-false 0x80 0xBF x e })
 
 -- what stands at the front of b ∷ bs, behind the code point p
 pub record IsPoint (p b : ℕ) (bs : List ℕ) (c : ℕ) : Type 0 where
@@ -92,10 +31,12 @@ pub record IsFault (p b : ℕ) (bs : List ℕ) (f : EncodingError) : Type 0 wher
   pub begins : BeginsFault p (b ∷ bs) f
   pub past : begins.rest ≡ drop (behind_item b bs) bs
 
+-- what a first item says of the bytes
 abbrev pub FirstIs : ℕ → ℕ → List ℕ → Result ℕ EncodingError → Type 0
 FirstIs p b bs (Ok c) = IsPoint p b bs c
 FirstIs p b bs (Err f) = IsFault p b bs f
 
+-- how many bytes behind the first belong to its item
 pub behind_item-none : (b : ℕ) (bs : List ℕ) → b < 0xC2 → behind_item b bs ≡ 0
 unfolding behind_item
 behind_item-none b bs h = cond-true _ _ _ (lt-ltb b 0xC2 h)
@@ -107,18 +48,22 @@ behind_item-lead b bs h = cond-false _ _ _ (le-ltb b 0xC2 h)
 past_lead : (b : ℕ) (bs rest : List ℕ) → 0xC2 ≤ b → drop (continuations (needed_continuations b) bs) bs ≡ rest → drop (behind_item b bs) bs ≡ rest
 past_lead b bs rest l e = ap (λ n. drop n bs) (behind_item-lead b bs l) ∙ e
 
+-- a value that is refused behind the code point p, with n continuations
 abbrev pub IsBad : ℕ → ℕ → ℕ → Type 0
 IsBad p n value = ((value < least_value n) ⊎ (0x10_FFFF < value)) ⊎ ((IsHigh p × IsLow value) × (least_value n ≤ value))
 
+-- a value that is not
 pub record IsGood (p n value : ℕ) : Type 0 where
   pub low : least_value n ≤ value
   pub high : value ≤ 0x10_FFFF
   pub free : IsHigh p → IsLow value → ⊥
 
+-- what an answer of `checked_value` says
 abbrev pub Checked : ℕ → ℕ → ℕ → Result ℕ EncodingError → Type 0
 Checked p n value (Ok c) = (c ≡ value) × IsGood p n value
 Checked p n value (Err f) = (f ≡ CodePoint value) × IsBad p n value
 
+-- each answer says what `Checked` has
 pub checked : (p n value : ℕ) → Checked p n value (checked_value (is_high p) n value)
 unfolding checked_value
 checked p n value =
@@ -143,9 +88,7 @@ checked p n value =
           free = λ h l. ⊎_elim (λ k. in_range-false 0xD800 0xDBFF p k h) (λ k. in_range-false 0xDC00 0xDFFF value k l) (and_cases (is_high p) (is_in_range 0xDC00 0xDFFF value) q.1);
         }
 
-same_lists : {a b : ℕ} {xs ys : List ℕ} → a ≡ b → xs ≡ ys → a ∷ xs ≡ b ∷ ys
-same_lists e f = cc
-
+-- a shape that is a code point
 point : (p b value : ℕ) (bs : List ℕ) (c : ℕ) → 0xC2 ≤ b → b < 256 → Has (lead_bits b) (needed_continuations b) bs value
     → c ≡ value → IsGood p (needed_continuations b) value → IsPoint p b bs c
 point p b value bs c l u h e g =
@@ -160,6 +103,7 @@ point p b value bs c l u h e g =
       is = ap (λ x. b ∷ x) h.is ∙ ap (λ x. x ++ h.rest) (sym fc) ∙ ap (λ x. form c ++ x) (sym r);
     }
 
+-- a shape that is refused
 bad_shape : (p b value : ℕ) (bs : List ℕ) → 0xC2 ≤ b → b < 256 → Has (lead_bits b) (needed_continuations b) bs value
     → IsBad p (needed_continuations b) value → IsFault p b bs (CodePoint value)
 bad_shape p b value bs l u h w =
@@ -184,11 +128,13 @@ bad_shape p b value bs l u h w =
       };
     }
 
+-- either, by the answer
 checked_first : (p b value : ℕ) (bs : List ℕ) → 0xC2 ≤ b → b < 256 → Has (lead_bits b) (needed_continuations b) bs value
     → (r : Result ℕ EncodingError) → Checked p (needed_continuations b) value r → FirstIs p b bs r
 checked_first p b value bs l u h (Ok c) k = point p b value bs c l u h k.0 k.1
 checked_first p b value bs l u h (Err f) k = subst (IsFault p b bs) (sym k.0) (bad_shape p b value bs l u h k.1)
 
+-- the first item of a lead
 joined_first : (p b : ℕ) (bs : List ℕ) → 0xC2 ≤ b → b < 256 → (r : Result ℕ EncodingError) → Joined (lead_bits b) (needed_continuations b) bs r
     → FirstIs p b bs (and_then_checked (is_high p) (needed_continuations b) r)
 unfolding and_then_checked
@@ -219,6 +165,7 @@ joined_first p b bs l u (Err End) h = record {
 joined_first p b bs l u (Err (CodePoint value)) h = absurd h
 joined_first p b bs l u (Err (Utf8 i j)) h = absurd h
 
+-- the first item of any byte
 pub first_sound : (p b : ℕ) (bs : List ℕ) → b < 256 → FirstIs p b bs (first_item (is_high p) b bs)
 unfolding first_item
 first_sound p b bs u =
@@ -240,11 +187,13 @@ pub record SpelledBehind (p : ℕ) (bytes cs : List ℕ) : Type 0 where
   pub paired_free : IsPairedFree (p ∷ cs)
   pub joined : bytes ≡ flat_map form cs
 
+-- the items are all code points
 record WholeBehind (p : ℕ) (bytes : List ℕ) (items : List (Result ℕ EncodingError)) : Type 0 where
   cs : List ℕ
   spelled : SpelledBehind p bytes cs
   are : items ≡ map Ok cs
 
+-- the items end in a fault
 record FaultyBehind (p : ℕ) (bytes : List ℕ) (items : List (Result ℕ EncodingError)) : Type 0 where
   cs : List ℕ
   fault : EncodingError
@@ -255,9 +204,11 @@ record FaultyBehind (p : ℕ) (bytes : List ℕ) (items : List (Result ℕ Encod
   begins : BeginsFault (last_behind p cs) from fault
   are : items ≡ map Ok cs ++ Err fault ∷ []
 
+-- either
 abbrev Reads : ℕ → List ℕ → List (Result ℕ EncodingError) → Type 0
 Reads p bytes items = WholeBehind p bytes items ⊎ FaultyBehind p bytes items
 
+-- one more code point in front
 more_spelled : (p b c : ℕ) (bs w cs : List ℕ) → IsPoint p b bs c → SpelledBehind c w cs → SpelledBehind p (form c ++ w) (c ∷ cs)
 more_spelled p b c bs w cs i s = record {
   code_points = (i.code_point, s.code_points);
@@ -265,6 +216,7 @@ more_spelled p b c bs w cs i s = record {
   joined = ap (λ x. form c ++ x) s.joined;
 }
 
+-- one more item in front
 one_more_item : (p b c : ℕ) (bs : List ℕ) (items : List (Result ℕ EncodingError)) → IsPoint p b bs c → Reads c (drop (behind_item b bs) bs) items → Reads p (b ∷ bs) (Ok c ∷ items)
 one_more_item p b c bs items i (inl r) = inl (record {
   cs = c ∷ r.cs;
@@ -282,19 +234,7 @@ one_more_item p b c bs items i (inr r) = inr (record {
   are = ap (λ x. Ok c ∷ x) r.are;
 })
 
-abbrev pub IsByte : ℕ → Type 0
-IsByte b = b < 256
-
-bytes-drop : (n : ℕ) (bs : List ℕ) → AllByRecursion IsByte bs → AllByRecursion IsByte (drop n bs)
-bytes-drop zero bs a = a
-bytes-drop (suc n) [] a = a
-bytes-drop (suc n) (b ∷ bs) a = bytes-drop n bs a.1
-
-drop_short : (n m : ℕ) (bs : List ℕ) → length bs ≤ m → length (drop n bs) ≤ m
-drop_short zero m bs h = h
-drop_short (suc n) m [] h = h
-drop_short (suc n) m (b ∷ bs) h = drop_short n m bs (omega arith)
-
+-- behind nothing these are the items of the bytes
 are_items : (bs : List ℕ) (items : List (Result ℕ EncodingError)) → Reads 0 bs items → AreItems bs items
 are_items bs items (inl r) = Whole (record {
   code_points = r.cs;
@@ -314,6 +254,7 @@ are_items bs items (inr r) = Faulty (record {
   are = r.are;
 })
 
+-- the first item and the items behind it
 first_reads : (p b : ℕ) (bs : List ℕ) (r : Result ℕ EncodingError) → FirstIs p b bs r → ((q : ℕ) → Reads q (drop (behind_item b bs) bs) (items_behind 0 (is_high q) (drop (behind_item b bs) bs)))
     → Reads p (b ∷ bs) (then_items r (λ h. items_behind (behind_item b bs) h bs))
 first_reads p b bs (Ok c) i k =
@@ -329,24 +270,28 @@ first_reads p b bs (Err f) i k = inr (record {
   are = refl;
 })
 
-reads : (n p : ℕ) (bs : List ℕ) → length bs ≤ n → AllByRecursion IsByte bs → Reads p bs (items_behind 0 (is_high p) bs)
+-- the items of any bytes
+reads : (n p : ℕ) (bs : List ℕ) → length bs ≤ n → All IsByte bs → Reads p bs (items_behind 0 (is_high p) bs)
 unfolding items_behind
 reads n p [] h a = inl (record { cs = []; spelled = record { code_points = tt; paired_free = (tt, tt); joined = refl }; are = refl })
 reads zero p (b ∷ bs) h a = absurd (omega arith)
 reads (suc n) p (b ∷ bs) h a =
-    first_reads p b bs _ (first_sound p b bs a.0)
-    (λ c. reads n c (drop (behind_item b bs) bs) (drop_short (behind_item b bs) n bs (omega arith)) (bytes-drop (behind_item b bs) bs a.1))
+    let m = behind_item b bs in
+    let below : b < 256 = a 0 0 (omega arith) in
+    first_reads p b bs _ (first_sound p b bs below)
+    (λ c. reads n c (drop m bs) (omega (arith, length-drop m bs)) (All-drop IsByte m bs (All-tail IsByte b bs a)))
 
-all_bytes : (bs : List ℕ) → ((i : ℕ) → Fits w8 (get_or bs i 0)) → AllByRecursion IsByte bs
-all_bytes [] h = tt
-all_bytes (b ∷ bs) h = (omega (arith, h 0), all_bytes bs (λ i. h (suc i)))
+-- what a slice of bytes has are bytes
+all_bytes : (bs : List ℕ) → ((i : ℕ) → Fits w8 (get_or bs i 0)) → All IsByte bs
+all_bytes bs h = All-from_get_or IsByte bs 0 (λ i _. omega (arith, h i))
 
 -- the reader's items are those of the definitions
 pub items_sound : (bs : List ℕ) → ((i : ℕ) → Fits w8 (get_or bs i 0)) → AreItems bs (items_after false bs)
 items_sound bs h = are_items bs _ (reads (length bs) 0 bs (omega arith) (all_bytes bs h))
 
+-- bytes are WTF-8 or have a first fault
 pub either : (bs : List ℕ) → All IsByte bs → IsWtf8 bs ⊎ ((cs : List ℕ) × (f : EncodingError) × IsFirstFault bs cs f)
-either bs h = by (are_items bs _ (reads (length bs) 0 bs (omega arith) (recursion_from_All IsByte bs h)))
+either bs h = by (are_items bs _ (reads (length bs) 0 bs (omega arith) h))
   where
     by : AreItems bs (items_behind 0 false bs) → IsWtf8 bs ⊎ ((cs : List ℕ) × (f : EncodingError) × IsFirstFault bs cs f)
     by (Whole r) = inl (r.code_points, r.spelled)

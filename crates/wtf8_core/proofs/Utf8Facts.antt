@@ -21,38 +21,45 @@ use Rattle.wtf8_core.specs.Lossy.IsLossyText.{text, replaced}
 use Rattle.wtf8_core.proofs.Forms.{form_3}
 use Rattle.wtf8_core.proofs.FormsByStd.{forms_encode, forms_front}
 use Rattle.wtf8_core.proofs.Characters.{is_scalar, scalar_no_surrogate}
-use Rattle.wtf8_core.proofs.Sound.{in_range-true}
+use Rattle.wtf8_core.proofs.Ranges.{in_range-true}
 use Rattle.wtf8_core.proofs.Cuts.{all_parts, paired_back}
 use Rattle.wtf8_core.proofs.UnitsOfLemmas.{code_points_in-spelled}
 use Rattle.wtf8_core.proofs.Utf8Lemmas.{fault_is}
-use lib.Utf8.{scalar}
+use Rattle.std.proofs.Math.Utf8.{scalar}
 
+-- bytes with a fault are no text
 pub no_text : (b : List ℕ) (n : ℕ) → IsValidUpTo b n → IsUtf8 b → ⊥
 no_text b n v u = v.longest (length b) v.short (subst IsUtf8 (sym (take-length b)) u)
 
+-- bytes have one longest front
 pub one_valid : (b : List ℕ) (n m : ℕ) → IsValidUpTo b n → IsValidUpTo b m → n ≡ m
 one_valid b n m v w = sym (utf8_valid_len-IsValidUpTo b n v) ∙ utf8_valid_len-IsValidUpTo b m w
 
+-- a longer part is longest too
 not_less : (r : List ℕ) (k m : ℕ) → IsIllFormed r k → IsIllFormed r m → k < m → ⊥
 not_less r k m i j h =
     let s = i.some in
     i.longest m h j.within (j.front (omega arith))
 
+-- bytes begin with one ill-formed part
 pub one_part : (r : List ℕ) (k m : ℕ) → IsIllFormed r k → IsIllFormed r m → k ≡ m
 one_part r k m i j =
     ⊎_elim (λ h. absurd (not_less r k m i j h)) (λ h. ⊎_elim (λ l. absurd (not_less r m k j i l)) (λ l. omega arith) (cases_lt m k)) (cases_lt k m)
 
+-- the lengths of a fault are equal
 same_len : (r : List ℕ) (l k : Option ℕ) → MatchOption l (IsProperFront r) (IsIllFormed r) → MatchOption k (IsProperFront r) (IsIllFormed r) → l ≡ k
 same_len r None None p q = refl
 same_len r None (Some k) p q = absurd (q.closed p)
 same_len r (Some l) None p q = absurd (p.closed q)
 same_len r (Some l) (Some k) p q = ap Some (one_part r l k p q)
 
+-- bytes have one fault of UTF-8
 pub one_utf8_fault : (b : List ℕ) (n m : ℕ) (l k : Option ℕ) → IsUtf8Fault b n l → IsUtf8Fault b m k → (n ≡ m) × (l ≡ k)
 one_utf8_fault b n m l k f g =
     let e = one_valid b n m f.valid g.valid in
     (e, same_len (drop n b) l k f.part (subst (λ x. MatchOption k (IsProperFront (drop x b)) (IsIllFormed (drop x b))) (sym e) g.part))
 
+-- the part's length, by std's answer
 part_len : (r : List ℕ) (m : ℕ) (o : Option ℕ) → MatchOption o (IsProperFront r) (IsIllFormed r) → IsIllFormedPart r m → unwrap_or o (length r) ≡ m
 part_len r m None p (inl q) = sym q.1
 part_len r m None p (inr q) = absurd (q.closed p)
@@ -74,9 +81,11 @@ pub lossy_text_is : (b t : List ℕ) → IsLossyText b t → utf8_lossy b ≡ t
 lossy_text_is b t (text u) = utf8_lossy-IsUtf8 b u
 lossy_text_is b t (replaced n m v p w) = lossy_step b n m v p ∙ ap (λ x. take n b ++ (replacement ++ x)) (lossy_text_is _ _ w)
 
+-- a code point is a scalar or a surrogate
 pub is_point_scalar : (c : ℕ) → IsCodePoint c → IsScalar c ⊎ (is_surrogate c ≡ true)
 is_point_scalar c h = ⊎_elim (λ e. inr e) (λ e. inl (is_scalar c h e)) (cases_Bool (is_surrogate c))
 
+-- scalars stay in lossy texts
 pub kept : (ts : List ℕ) → all_scalars ts ≡ true → map without_surrogate ts ≡ ts
 kept [] e = refl
 kept (t ∷ ts) e =
@@ -93,6 +102,7 @@ pub record BehindText (b cs : List ℕ) (n : ℕ) : Type 0 where
   pub text_is : flat_map form texts ≡ take n b
   pub spelled : Spells (drop n b) others
 
+-- what follows a text at the front
 pub behind_text : (b cs : List ℕ) (n : ℕ) → Spells b cs → IsUtf8 (take n b) → BehindText b cs n
 behind_text b cs n s u =
     let f = forms_front u.0 cs (drop n b) (sym s.joined ∙ sym (take-append-drop n b) ∙ ap (λ x. x ++ drop n b) (sym u.1.1 ∙ sym (forms_encode u.0))) in
@@ -121,6 +131,7 @@ wtf8_lossy_front b n w u =
     ∙ ap (λ l. l ++ ws t.others) t.text_is
     ∙ ap (λ l. take n b ++ ws l) (sym (code_points_in-spelled (drop n b) t.others t.spelled))
 
+-- the form of U+FFFD
 form_fffd : form 0xFFFD ≡ replacement
 unfolding form
 form_fffd = refl
@@ -131,6 +142,7 @@ pub record SurrogateFirst (b : List ℕ) : Type 0 where
   pub rest : IsWtf8 (drop 3 b)
   pub lossy : wtf8_lossy b ≡ replacement ++ wtf8_lossy (drop 3 b)
 
+-- bytes that begin with no character begin with a surrogate
 pub surrogate_first : (b : List ℕ) → IsWtf8 b → 0 < length b → ((n : ℕ) → BeginsWithChar b n → ⊥) → SurrogateFirst b
 surrogate_first b w h k = by w.0 w.1
   where

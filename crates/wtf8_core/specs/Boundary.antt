@@ -1,4 +1,4 @@
--- Where a string may be cut (documentation of `OsStr::slice_encoded_bytes`).
+-- Where a string may be cut (std's `OsStr::slice_encoded_bytes`).
 use Rattle.std.specs.Prelude.{◌≡◌, ◌⊎◌, ℕ, List, length}
 use Rattle.wtf8_core.specs.Character.{WholeCharacter}
 

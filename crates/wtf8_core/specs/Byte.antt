@@ -1,19 +1,19 @@
--- Classes of bytes (RFC 3629, section 3; the leads F5 to FF are this library's own reading).
-use Rattle.std.specs.Prelude.{ℕ, nat_lt, if◌then◌else◌}
+-- Classes of bytes (RFC 3629, sections 3 and 4). That F5 to FF are leads too is this project's own reading; os_str_bytes 7.2.1 reads them so.
+use Rattle.std.specs.Prelude.{ℕ, ◌<◌, nat_lt, if◌then◌else◌}
 use Rattle.std.specs.Int.{IsInRange}
 
 -- a number that fits a byte
 abbrev pub IsByte : ℕ → Type 0
-IsByte b = IsInRange 0 0xFF b
+IsByte b = b < 256
 
--- a byte that continues a sequence
+-- a byte that continues a sequence (`UTF8-tail` of RFC 3629, section 4)
 abbrev pub IsContinuation : ℕ → Type 0
 IsContinuation b = IsInRange 0x80 0xBF b
 
--- a byte that begins a sequence of two bytes or more; F5 to FF begin one too, which is no form
+-- a byte that begins a sequence of two bytes or more; what F5 to FF begin is never the form of a code point
 abbrev pub IsLead : ℕ → Type 0
 IsLead b = IsInRange 0xC2 0xFF b
 
--- how many continuations a lead needs
+-- how many continuations a lead needs: one up to DF, two up to EF, three above
 abbrev pub needed_continuations : ℕ → ℕ
 needed_continuations b = if nat_lt b 0xE0 then 1 else (if nat_lt b 0xF0 then 2 else 3)

@@ -1,4 +1,4 @@
--- Whole characters (documentation of `OsStr`: a cut is allowed beside a valid UTF-8 substring that isn't empty).
+-- Whole characters: the forms beside which std's `OsStr::slice_encoded_bytes` allows a cut (a valid UTF-8 substring that isn't empty).
 use Rattle.std.specs.Prelude.{◌≡◌, ℕ, ◌+◌, List, length, Option, MatchOption}
 use Rattle.std.specs.Char.{IsScalar}
 use Rattle.wtf8_core.specs.CodePoint.{form}

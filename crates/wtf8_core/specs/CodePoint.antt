@@ -1,22 +1,24 @@
--- Code points, their bytes and their units.
+-- Code points, their bytes (RFC 3629, section 3) and their units (RFC 2781, section 2.1); for surrogates WTF-8.
 use Rattle.std.specs.Prelude.{ℕ, ◌+◌, ◌-◌, ◌/◌, ◌%◌, ◌≤◌, Bool, nat_lt, if◌then◌else◌, List, [], ◌∷◌}
 use Rattle.std.specs.Int.{IsInRange, is_in_range}
 
+-- a number that Unicode has as a code point
 abbrev pub IsCodePoint : ℕ → Type 0
 IsCodePoint c = c ≤ 0x10_FFFF
 
--- a high (or leading) surrogate
+-- a high surrogate, which begins a pair of units (WTF-8: a lead surrogate)
 abbrev pub IsHigh : ℕ → Type 0
 IsHigh c = IsInRange 0xD800 0xDBFF c
 
--- a low (or trailing) surrogate
+-- a low surrogate, which ends one (WTF-8: a trail surrogate)
 abbrev pub IsLow : ℕ → Type 0
 IsLow c = IsInRange 0xDC00 0xDFFF c
 
+-- whether a code point is a surrogate, high or low
 abbrev pub is_surrogate : ℕ → Bool
 is_surrogate c = is_in_range 0xD800 0xDFFF c
 
--- the bytes of a code point (RFC 3629, section 3; of a surrogate WTF-8, generalized UTF-8)
+-- the bytes of a code point (RFC 3629, section 3); of a surrogate those of generalized UTF-8 (WTF-8)
 unfoldable pub form : ℕ → List ℕ
 form c =
     if nat_lt c 0x80 then c ∷ []

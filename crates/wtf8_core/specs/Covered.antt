@@ -1,4 +1,4 @@
--- Which bytes lie in whole characters.
+-- Which bytes lie in whole characters, and which in none (this project's own words for `OsStr`'s valid UTF-8 substrings).
 use Rattle.std.specs.Prelude.{ℕ, ◌<◌, ◌≤◌, List}
 use Rattle.wtf8_core.specs.Character.{WholeCharacter}
 

@@ -1,4 +1,4 @@
--- The first fault of bytes that aren't WTF-8.
+-- The first fault of bytes that aren't WTF-8: this project's own order of what RFC 3629, section 3, and WTF-8 leave out, as os_str_bytes 7.2.1 reads.
 use Rattle.std.specs.Prelude.{◌≡◌, ◌≢◌, ℕ, ◌+◌, ◌*◌, ◌%◌, ◌<◌, ◌⊎◌, nat_lt, if◌then◌else◌, List, ◌∷◌, ◌++◌, length, []}
 use Rattle.std.specs.List.{fold, AllByRecursion}
 use Rattle.std.specs.Int.{IsInRange}
@@ -18,7 +18,7 @@ pub record IsShape (lead : ℕ) (behind : List ℕ) : Type 0 where
   pub begun : IsBegun lead behind
   pub whole : length behind ≡ needed_continuations lead
 
--- the low bits of the lead, five or four, and then six bits of each continuation
+-- the low bits of the lead, five up to DF and four above, also of F5 to FF (this project's own reading), and then six bits of each continuation
 abbrev pub shape_value : ℕ → List ℕ → ℕ
 shape_value lead behind =
     fold (λ value x. value * 0x40 + x % 0x40) (if nat_lt lead 0xE0 then lead % 0x20 else lead % 0x10) behind
@@ -36,7 +36,7 @@ pub record IsShort (refused : List ℕ) : Type 0 where
   pub begun : IsBegun lead behind
   pub short : length behind < needed_continuations lead
 
--- the same, and then a byte that is no continuation
+-- a lead with fewer continuations than it needs, and behind it a byte that is no continuation
 pub record IsBroken (refused rest : List ℕ) (x : ℕ) : Type 0 where
   pub begun : IsShort refused
   pub after : List ℕ

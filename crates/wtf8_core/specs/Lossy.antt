@@ -1,4 +1,4 @@
--- Lossy texts: U+FFFD in the place of what is no text.
+-- Lossy texts: U+FFFD in the place of what is no text (std's `String::from_utf8_lossy`; WTF-8: conversion to UTF-8).
 use Rattle.std.specs.Prelude.{◌≡◌, ℕ, ◌+◌, if◌then◌else◌, List, [], ◌∷◌, ◌++◌, take, drop, map}
 use Rattle.std.specs.List.{flat_map}
 use Rattle.std.specs.Str.{IsUtf8, IsValidUpTo}

@@ -12,6 +12,7 @@ with_continuations value (suc n) [] = Err End
 with_continuations value (suc n) (x ∷ bytes) =
     if is_in_range 0x80 0xBF x then with_continuations (value * 0x40 + x % 0x40) n bytes else Err (Byte x)
 
+-- the low bits of a lead, five up to DF and four above
 abbrev pub lead_bits : ℕ → ℕ
 lead_bits lead = if nat_lt lead 0xE0 then lead % 0x20 else lead % 0x10
 
@@ -19,9 +20,11 @@ lead_bits lead = if nat_lt lead 0xE0 then lead % 0x20 else lead % 0x10
 abbrev pub least_value : ℕ → ℕ
 least_value n = if nat_lt n 2 then 0x80 else (if nat_lt n 3 then 0x800 else 0x1_0000)
 
+-- whether a code point is a high surrogate
 abbrev pub is_high : ℕ → Bool
 is_high c = is_in_range 0xD800 0xDBFF c
 
+-- whether a code point is a low surrogate
 abbrev pub is_low : ℕ → Bool
 is_low c = is_in_range 0xDC00 0xDFFF c
 
@@ -31,6 +34,7 @@ checked_value after_high n value =
     if nat_lt value (least_value n) || nat_lt 0x10_FFFF value || (after_high && is_low value)
     then Err (CodePoint value) else Ok value
 
+-- the same of a value that is there, or the fault in its place
 unfoldable pub and_then_checked : Bool → ℕ → Result ℕ EncodingError → Result ℕ EncodingError
 and_then_checked after_high n (Ok value) = checked_value after_high n value
 and_then_checked after_high n (Err fault) = Err fault
@@ -63,5 +67,6 @@ items_behind n after_high [] = []
 items_behind (suc n) after_high (b ∷ bytes) = items_behind n after_high bytes
 items_behind zero after_high (b ∷ bytes) = then_items (first_item after_high b bytes) (λ h. items_behind (behind_item b bytes) h bytes)
 
+-- the items of bytes, behind a high surrogate or not
 abbrev pub items_after : Bool → List ℕ → List (Result ℕ EncodingError)
 items_after after_high bytes = items_behind 0 after_high bytes

@@ -1,4 +1,4 @@
--- The byte places of unit places, for any rule of what is well formed and any units of bytes.
+-- The byte places of unit places, for any rule of what is well formed and any units of bytes (this project's own).
 use Rattle.std.specs.Prelude.{◌≡◌, ℕ, List, ◌++◌, length, Option, MatchOption}
 use Rattle.wtf8_core.specs.Standing.{StandsNowhere}
 

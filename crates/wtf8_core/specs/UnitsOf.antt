@@ -7,6 +7,7 @@ use Rattle.wtf8_core.specs.Lossy.{without_surrogate}
 use Rattle.wtf8_core.specs.Reader.{items_after}
 use Rattle.wtf8_core.specs.declared.fault.EncodingError.{EncodingError}
 
+-- the code points among items
 abbrev pub ok_values : List (Result ℕ EncodingError) → List ℕ
 ok_values [] = []
 ok_values (Ok c ∷ items) = c ∷ ok_values items

@@ -1,4 +1,4 @@
--- The first fault of bytes that aren't UTF-8, and the maximal ill-formed part (RFC 3629, section 3 and 4; Unicode, section 3.9).
+-- The first fault of bytes that aren't UTF-8 (RFC 3629, section 4), and the maximal ill-formed part (std's `Utf8Error`; Unicode, section 3.9).
 use Rattle.std.specs.Prelude.{◌≡◌, ◌⊎◌, ℕ, ◌+◌, ◌<◌, ◌≤◌, List, ◌++◌, length, take, drop, Option, Some, None, MatchOption}
 use Rattle.std.specs.Char.{IsScalar}
 use Rattle.std.specs.Str.{IsValidUpTo}
@@ -11,12 +11,12 @@ pub record IsFrontOfCharacter (xs : List ℕ) : Type 0 where
   pub rest : List ℕ
   pub is : form char ≡ xs ++ rest
 
--- the same, and it isn't the whole form
+-- xs is a front of some character's form, and not the whole form
 pub record IsProperFront (xs : List ℕ) : Type 0 where
   pub front : IsFrontOfCharacter xs
   pub proper : 0 < length front.rest
 
--- the longest front of r that is a front of some character has k bytes, or it has none and k is 1; all of r is no proper front
+-- k is the length of the longest front of r that is a front of some character, or 1 where that is empty; all of r is no proper front
 pub record IsIllFormed (r : List ℕ) (k : ℕ) : Type 0 where
   pub closed : ¬ (IsProperFront r)
   pub some : 0 < k

@@ -2,8 +2,8 @@
 ghost use Rattle.std.specs.Prelude.{◌≡◌, ◌↔◌, ◌≤◌, IsTrue};
 ghost use Rattle.wtf8_core.specs.Byte.{IsContinuation, needed_continuations};
 
-/// Whether a byte continues a sequence, that is whether it is one of 80 to BF
-/// (hexadecimal; RFC 3629, section 3).
+/// Whether a byte continues a sequence: whether it is one of 80 to BF (hexadecimal;
+/// `UTF8-tail` of RFC 3629, section 4).
 ///
 /// `is_continuation(0xA9)` is true, `is_continuation(0xC3)` is false.
 #[inline(always)]

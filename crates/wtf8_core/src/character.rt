@@ -6,11 +6,16 @@ ghost use Rattle.wtf8_core.specs.CodePoint.{is_surrogate};
 use crate::byte::needed_continuations;
 use crate::code_points::first_item;
 
-/// How many bytes the whole character has that starts at byte place `at`, `None` where none
-/// starts there, also at the bytes' length and past it.
+/// How many bytes the whole character has that starts at byte place `at`: one to four, or
+/// `None` where none starts there.
 ///
-/// A whole character is the form of a scalar (RFC 3629, section 3), so a surrogate's form is
-/// none: `char_at(b"a\xC3\xA9", 1)` is `Some(2)`, at 2 and at 3 it is `None`.
+/// A whole character is the form of a scalar value (RFC 3629, section 3). So there is none at
+/// the form of a surrogate, at an overlong or cut off sequence, at a continuation, and none at
+/// the bytes' length or past it. The bytes around it are not asked: they may be any bytes. At
+/// both ends of a whole character a string may be cut, by the rule of std's
+/// `OsStr::slice_encoded_bytes`.
+///
+/// `char_at(b"a\xC3\xA9", 1)` is `Some(2)`; at 2 and at 3 it is `None`.
 pub fn char_at(bytes: &[u8], at: usize) -> Option<usize>
     ensures { IsCharacterAt bytes.now at result }
 {

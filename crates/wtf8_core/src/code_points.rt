@@ -10,11 +10,13 @@ use std::marker::Model;
 
 /// The code points that bytes spell up to their first fault, and then the fault.
 ///
-/// Behind the fault, or behind the last code point, it answers `None`, and goes on to.
-/// Bytes spell code points by WTF-8: the form of a high surrogate is never directly
-/// followed by that of a low one. The faults are those of [`EncodingError`].
+/// Bytes spell code points by WTF-8: they are the forms of the code points one after the other
+/// (RFC 3629, section 3, and for surrogates the same rule), where the form of a high surrogate
+/// is never directly followed by that of a low one. The faults are `Byte`, `CodePoint` and
+/// `End` of [`EncodingError`]. Behind the fault, or behind the last code point, each answer is
+/// `None`. It takes no memory.
 ///
-/// The items for ED A0 80 C0 (hexadecimal) are `Ok(0xD800)`, `Err(EncodingError::Byte(0xC0))`.
+/// The items of ED A0 80 C0 (hexadecimal) are `Ok(0xD800)`, `Err(EncodingError::Byte(0xC0))`.
 #[derive(Drop)]
 pub struct CodePoints<'a> {
     rest: &'a [u8],
@@ -33,7 +35,9 @@ impl<'a> Model for CodePoints<'a> {
 }
 
 impl<'a> CodePoints<'a> {
-    /// The items of these bytes.
+    /// The items of any bytes: all are `Ok` exactly where the bytes are WTF-8.
+    ///
+    /// `CodePoints::new(b"\xC3\xA9")` has the one item `Ok(0xE9)`.
     #[inline(always)]
     pub fn new(bytes: &'a [u8]) -> CodePoints<'a>
         ensures { AreItems bytes.now result }

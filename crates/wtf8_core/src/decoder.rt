@@ -7,7 +7,13 @@ ghost use Rattle.wtf8_core.specs.Decoder.{is_pair, paired, code_points_of, last_
 
 use std::marker::Model;
 
-/// The bytes that spell units.
+/// The bytes that spell 16-bit units: the one WTF-8 list of bytes with these units.
+///
+/// A high unit and a low one directly behind it are one code point of four bytes (RFC 2781,
+/// section 2.2); every other unit is a code point of its own, a half that stands alone too.
+/// Behind the last byte each answer is `None`. It takes no memory.
+///
+/// The bytes of D83D, D83D, DE00 (hexadecimal) are ED A0 BD F0 9F 98 80.
 #[derive(Drop)]
 pub struct DecodeWide<'a> {
     rest: &'a [u16],
@@ -30,6 +36,9 @@ impl<'a> Model for DecodeWide<'a> {
 }
 
 impl<'a> DecodeWide<'a> {
+    /// The bytes of any units.
+    ///
+    /// `DecodeWide::new(&[0xE9])` gives C3 and A9.
     pub fn new(units: &'a [u16]) -> DecodeWide<'a>
         ensures { HasUnits result units.now }
     {

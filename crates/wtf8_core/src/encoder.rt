@@ -8,7 +8,10 @@ use crate::code_points::CodePoints;
 use crate::fault::EncodingError;
 use std::marker::Model;
 
-/// The units of the code points that bytes spell up to their first fault, and then the fault.
+/// The 16-bit units of the code points that bytes spell up to their first fault, and then the
+/// fault.
+///
+/// [`encode_wide`] makes it. Behind the fault, or behind the last unit, each answer is `None`.
 #[derive(Drop)]
 pub struct EncodeWide<'a> {
     code_points: CodePoints<'a>,
@@ -29,7 +32,15 @@ impl<'a> Model for EncodeWide<'a> {
     ghost invariant = { λ it. AllByRecursion IsCodePointItem it.code_points };
 }
 
-/// The units of bytes.
+/// The 16-bit units of bytes: those of the code points that the bytes spell as WTF-8 (RFC 2781,
+/// section 2.1), up to the first fault, and then the fault.
+///
+/// A code point below 10000 (hexadecimal) is one unit, any other a pair. The items are those of
+/// [`CodePoints`], unit by unit, with the same fault. It takes no memory. The bytes that
+/// [`DecodeWide`](crate::DecodeWide) gives for units have exactly these units.
+///
+/// The items of F0 90 80 80 C0 are `Ok(0xD800)`, `Ok(0xDC00)`,
+/// `Err(EncodingError::Byte(0xC0))`.
 pub fn encode_wide<'a>(bytes: &'a [u8]) -> EncodeWide<'a>
     ensures { AreUnitItems bytes.now result }
 {

@@ -7,14 +7,41 @@ ghost use Rattle.wtf8_core.specs.FaultText.{upper_hex, upper_hex_digit, code_poi
 use std::error::Error;
 use std::fmt;
 
-/// The reason why bytes spell no string of a platform.
+/// The first fault of bytes that are no string of a platform.
+///
+/// Bytes that aren't WTF-8 have one of the first three faults (RFC 3629, section 3, and WTF-8),
+/// bytes that aren't UTF-8 the last (RFC 3629, section 4). Where a sequence lacks a
+/// continuation, that is its fault, whatever its value would be. Its text says what it is and,
+/// for UTF-8, where.
+///
+/// The text of `CodePoint(0xDC00)` is `byte sequence is not representable in the platform
+/// encoding; error at code point U+DC00`.
 #[derive(Clone, Copy, Debug, PartialEq, Eq)]
 pub enum EncodingError {
+    /// A byte that can't stand where it stands: one of 80 to C1 where a code point should
+    /// begin, or one that is no continuation where a lead needs one more.
+    ///
+    /// C0 is `Byte(0xC0)`; E2 82 41 is `Byte(0x41)` (bytes in hexadecimal).
     Byte(u8),
+    /// The value, at most 3FFFFF, of a lead with all its continuations, where it is overlong,
+    /// is past 10FFFF, or is a low surrogate whose form stands directly behind a high one's.
+    ///
+    /// E0 80 80 is `CodePoint(0)`; ED A0 80 ED B0 80 is `CodePoint(0xDC00)`. F5 80 80 80 is
+    /// `CodePoint(0x14_0000)`: that F5 to FF are leads whose four low bits count is this
+    /// project's own reading, and that of os_str_bytes 7.2.1.
     CodePoint(u32),
+    /// The bytes end where a lead needs one more continuation.
+    ///
+    /// E2 82 is `End`.
     End,
+    /// The bytes aren't UTF-8: what [`utf8_fault`](crate::utf8_fault) answers for them.
+    ///
+    /// 61 E2 82 41 is `Utf8 { valid_up_to: 1, error_len: Some(2) }`.
     Utf8 {
+        /// The length in bytes of the longest front that is UTF-8.
         valid_up_to: usize,
+        /// The length of the maximal ill-formed part behind it, one to three bytes, or `None`
+        /// where the bytes end within a character.
         error_len: Option<u8>,
     },
 }

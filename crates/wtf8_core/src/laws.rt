@@ -1,10 +1,13 @@
 //! What holds of the definitions: each law is the contract of a function that does nothing.
 //!
-//! A caller that needs a law calls its function, and so knows it.
+//! A caller that needs a law calls its function, as `laws::spelling()`, and so knows it. The
+//! laws speak of lists of numbers: bytes, code points (`cs`, `ds`), units (`us`, `vs`) and
+//! places, which are numbers of bytes.
 ghost use Rattle.std.specs.Prelude.{◌≡◌, ◌⊎◌, ◌+◌, ◌-◌, ◌<◌, ◌≤◌, ◌^◌, ◌++◌, length, take, drop, ℕ, List, Option, Result};
 ghost use Rattle.std.specs.List.{All};
 ghost use Rattle.std.specs.Str.{IsUtf8, IsCharBoundary};
 ghost use Rattle.std.specs.Str.Lossy.{utf8_lossy};
+ghost use Rattle.wtf8_core.specs.Byte.{IsByte};
 ghost use Rattle.wtf8_core.specs.Wtf8.{Spells, IsWtf8, HasUnits};
 ghost use Rattle.wtf8_core.specs.Fault.{IsFirstFault};
 ghost use Rattle.wtf8_core.specs.Items.{AreItems};
@@ -16,12 +19,12 @@ ghost use Rattle.wtf8_core.specs.Lossy.{IsLossyText, IsWtf8LossyText};
 ghost use Rattle.wtf8_core.specs.UnitsOf.{units_of, wtf8_lossy};
 ghost use Rattle.wtf8_core.specs.declared.fault.EncodingError.{EncodingError};
 
-/// Bytes spell at most one list of code points.
+/// Bytes spell at most one list of code points (WTF-8).
 pub fn spelled_once()
     ensures { (bytes : List ℕ) → (cs : List ℕ) → (ds : List ℕ) → Spells bytes cs → Spells bytes ds → cs ≡ ds }
 {}
 
-/// Bytes have at most one first fault.
+/// Bytes have at most one first fault, with one list of code points before it.
 pub fn one_first_fault()
     ensures { (bytes : List ℕ) → (cs : List ℕ) → (ds : List ℕ) → (f : EncodingError) → (g : EncodingError)
         → IsFirstFault bytes cs f → IsFirstFault bytes ds g → (cs ≡ ds) × (f ≡ g) }
@@ -29,17 +32,17 @@ pub fn one_first_fault()
 
 /// Bytes are WTF-8 or have a first fault, and never both.
 pub fn spelled_or_faulty()
-    ensures either { (bytes : List ℕ) → All (λ b. b < 256) bytes → IsWtf8 bytes ⊎ ((cs : List ℕ) × (f : EncodingError) × IsFirstFault bytes cs f) }
+    ensures either { (bytes : List ℕ) → All IsByte bytes → IsWtf8 bytes ⊎ ((cs : List ℕ) × (f : EncodingError) × IsFirstFault bytes cs f) }
     ensures never_both { (bytes : List ℕ) → (cs : List ℕ) → (f : EncodingError) → IsWtf8 bytes → IsFirstFault bytes cs f → ⊥ }
 {}
 
-/// Bytes have one list of items.
+/// Bytes have at most one list of items.
 pub fn one_list_of_items()
     ensures { (bytes : List ℕ) → (xs : List (Result ℕ EncodingError)) → (ys : List (Result ℕ EncodingError)) → AreItems bytes xs → AreItems bytes ys → xs ≡ ys }
 {}
 
-/// The law of spelling: WTF-8 bytes with equal units are equal, each list of units is that of
-/// some bytes, and bytes have one list of units.
+/// The law of spelling: WTF-8 bytes with equal units are equal, each list of 16-bit units is
+/// that of some bytes, and bytes have at most one list of units.
 pub fn spelling()
     ensures units_once { (bytes : List ℕ) → (others : List ℕ) → (us : List ℕ) → HasUnits bytes us → HasUnits others us → bytes ≡ others }
     ensures units_spelled { (us : List ℕ) → All (λ u. u < 2 ^ 16) us → (bytes : List ℕ) × HasUnits bytes us }
@@ -52,7 +55,8 @@ pub fn functions()
     ensures lossy { (bytes : List ℕ) → IsWtf8 bytes → IsWtf8LossyText bytes (wtf8_lossy bytes) }
 {}
 
-/// Each byte list has one lossy text by maximal ill-formed parts, which is std's.
+/// Each byte list has one lossy text by maximal ill-formed parts, which is that of std's
+/// `String::from_utf8_lossy`.
 pub fn lossy_text()
     ensures is_std { (bytes : List ℕ) → IsLossyText bytes (utf8_lossy bytes) }
     ensures only_std { (bytes : List ℕ) → (text : List ℕ) → IsLossyText bytes text → text ≡ utf8_lossy bytes }
@@ -66,6 +70,7 @@ pub fn characters()
 
 /// Where a text stands that isn't empty, both its edges are boundaries. Of two boundaries the
 /// first is one of the front up to the second, the second one of the rest from the first on.
+/// Of a text each boundary is one of a `str`.
 pub fn boundaries()
     ensures edges { (p : List ℕ) → (s : List ℕ) → (i : ℕ) → IsUtf8 p → 0 < length p → StandsAt p s i → IsBoundary s i × IsBoundary s (i + length p) }
     ensures in_front { (s : List ℕ) → (i : ℕ) → (j : ℕ) → i ≤ j → IsBoundary s i → IsBoundary s j → IsBoundary (take j s) i }

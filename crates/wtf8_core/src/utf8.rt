@@ -3,12 +3,16 @@ ghost use Rattle.std.specs.Prelude.{MatchOption};
 ghost use Rattle.std.specs.Str.{IsUtf8};
 ghost use Rattle.wtf8_core.specs.Utf8.{IsUtf8Fault};
 
-/// The first fault of bytes that aren't UTF-8, `None` for UTF-8 (RFC 3629).
+/// The first fault of bytes that aren't UTF-8, `None` for UTF-8 (RFC 3629, section 4).
 ///
-/// The first number is the length of the longest front that is UTF-8. The second is the
-/// length of the maximal ill-formed part behind it, one to three, or `None` where the bytes
-/// end within a character: `utf8_fault(b"a\xE2\x82A")` is `Some((1, Some(2)))`,
-/// `utf8_fault(b"a\xE2\x82")` is `Some((1, None))`.
+/// The first number is the length in bytes of the longest front that is UTF-8, and so the byte
+/// place of the fault. The second is the length of the maximal ill-formed part that begins
+/// there, one to three bytes, or `None` where the bytes end within a character and might go on.
+/// That part is the longest front of the rest with which some character begins, and one byte
+/// where there is none. The numbers are those of std's `Utf8Error`.
+///
+/// `utf8_fault(b"a\xE2\x82A")` is `Some((1, Some(2)))`, `utf8_fault(b"a\xE2\x82")` is
+/// `Some((1, None))`.
 pub fn utf8_fault(bytes: &[u8]) -> Option<(usize, Option<u8>)>
     ensures { MatchOption result (IsUtf8 bytes.now) (λ fault. IsUtf8Fault bytes.now fault.0 fault.1) }
 {
