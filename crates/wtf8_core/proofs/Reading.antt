@@ -1,8 +1,7 @@
 -- The reader's definitions, one step at a time.
-use Rattle.std.proofs.Common.{◌≡◌, ℕ, zero, suc, ◌+◌, ◌-◌, ◌*◌, ◌%◌, ◌<◌, ◌≤◌, Bool, true, false, cond, ltb, leb, ◌&&◌, List, [], ◌∷◌, length, take, drop, Result, Ok, Err, refl, sym, ap, ◌∙◌, subst, arith, sub-one}
+use Rattle.std.proofs.Common.{◌≡◌, ℕ, zero, suc, ◌+◌, ◌-◌, ◌*◌, ◌%◌, ◌<◌, ◌≤◌, Bool, true, false, cond, ltb, leb, ◌&&◌, List, [], ◌∷◌, length, drop, Result, Ok, Err, refl, sym, ap, ◌∙◌, arith, sub-one}
 use Rattle.std.specs.Int.{is_in_range}
 use Rattle.wtf8_core.specs.Reader.{with_continuations, first_item, and_then_checked, continuations, behind_item, items_behind, then_items, is_high, lead_bits}
-use Rattle.std.proofs.lemmas.Grind.{common_steps}
 use Rattle.wtf8_core.specs.Byte.{needed_continuations}
 use Rattle.std.proofs.lemmas.Bool.{cond_both, cond-true, cond-false, lt-ltb, le-ltb, lt-leb}
 use Rattle.wtf8_core.specs.declared.fault.EncodingError.{EncodingError}
@@ -83,18 +82,13 @@ behind_code_point h b c bs l e =
     elim (ltb b 0xC2) as P [ true ↦ λ k. cc | false ↦ λ k. and_then_whole h n c bs r (λ v. whole_count (lead_bits b) n v bs) k ]
     (sym (cond-false _ _ _ (le-ltb b 0x80 l)) ∙ e)
 
-pub code_point_fits : (h : Bool) (b c : ℕ) (bs : List ℕ) → 0x80 ≤ b → first_item h b bs ≡ Ok c → needed_continuations b ≤ length bs
-code_point_fits h b c bs l e = subst (λ n. n ≤ length bs) (behind_code_point h b c bs l e) (behind_item_fits b bs)
-
--- what follows a code point, as the code has it: a part of the bytes behind the lead
-pub items-step : (h : Bool) (b c : ℕ) (bs : List ℕ) → 0x80 ≤ b → first_item h b bs ≡ Ok c
-    → items_behind 0 h (b ∷ bs) ≡ Ok c ∷ items_behind 0 (is_high c) (take (length bs - needed_continuations b) (drop (needed_continuations b) bs))
-items-step h b c bs l e =
-    let n = needed_continuations b in
-    let t : take (length bs - n) (drop n bs) ≡ drop n bs = grind (arith, common_steps) in
+-- what follows a code point
+pub items-step : (h : Bool) (b c : ℕ) (bs rest : List ℕ) → 0x80 ≤ b → first_item h b bs ≡ Ok c → rest ≡ drop (needed_continuations b) bs
+    → items_behind 0 h (b ∷ bs) ≡ Ok c ∷ items_behind 0 (is_high c) rest
+items-step h b c bs rest l e d =
     items-ok h b c bs e
-    ∙ ap (λ m. Ok c ∷ items_behind m (is_high c) bs) (behind_code_point h b c bs l e)
-    ∙ ap (λ r. Ok c ∷ r) (items_behind-drop n (is_high c) bs ∙ ap (items_behind 0 (is_high c)) (sym t))
+    ∙ ap (λ n. Ok c ∷ items_behind n (is_high c) bs) (behind_code_point h b c bs l e)
+    ∙ ap (λ r. Ok c ∷ r) (items_behind-drop (needed_continuations b) (is_high c) bs ∙ ap (items_behind 0 (is_high c)) (sym d))
 
 pub first_ascii : (h : Bool) (b : ℕ) (bs : List ℕ) → b < 0x80 → first_item h b bs ≡ Ok b
 unfolding first_item
@@ -113,4 +107,4 @@ items-ascii h b bs l =
     ∙ ap (λ n. Ok b ∷ items_behind n (is_high b) bs) (behind_ascii b bs l)
     ∙ ap (λ t. Ok b ∷ items_behind 0 t bs) (ascii_low b l)
 
-pub ruleset reading = (with_continuations-none, with_continuations-end, with_continuations-cons, items-nil, items-step, items-err, items-ascii, code_point_fits)
+pub ruleset reading = (with_continuations-none, with_continuations-end, with_continuations-cons, items-nil, items-step, items-err, items-ascii)

@@ -1,10 +1,11 @@
 //! The code points that bytes spell.
-ghost use Rattle.std.specs.Prelude.{◌≡◌, ◌∷◌, ◌<◌, ◌^◌, [], MatchOption};
+ghost use Rattle.std.specs.Prelude.{◌≡◌, ℕ, suc, ◌∷◌, ◌+◌, ◌*◌, ◌<◌, ◌≤◌, ◌^◌, [], Ok, Err, drop, IfOk, MatchOption, MatchResult};
+ghost use Rattle.wtf8_core.specs.Byte.{needed_continuations};
 ghost use Rattle.std.specs.Iterator.{YieldsFirst, item_count};
 ghost use Rattle.wtf8_core.specs.Items.{AreItems};
-ghost use Rattle.wtf8_core.specs.Reader.{with_continuations, first_item, checked_value, is_high, is_low, items_after};
+ghost use Rattle.wtf8_core.specs.Reader.{with_continuations, first_item, is_high, is_low, items_after};
 
-use crate::byte::{is_continuation, needed_continuations};
+use crate::byte::is_continuation;
 use crate::fault::EncodingError;
 use std::marker::Model;
 
@@ -76,19 +77,49 @@ fn next_item(after_high: bool, bytes: &[u8]) -> Option<(Result<u32, EncodingErro
     if *first < 0x80 {
         return Some((Ok(u32::from(*first)), false, behind));
     }
-    let item = first_item(after_high, *first, behind);
-    match item {
-        Ok(c) => Some((
-            item,
-            is_high(c),
-            &behind[usize::from(needed_continuations(*first))..],
-        )),
-        Err(_) => Some((item, false, &[])),
+    match split_item(after_high, *first, behind) {
+        Ok((code_point, is_high, rest)) => Some((Ok(code_point), is_high, rest)),
+        Err(fault) => Some((Err(fault), false, &[])),
+    }
+}
+
+/// The code point with which `first` and the bytes behind it begin, whether it is a high
+/// surrogate, and the bytes behind it; or the fault with which they begin.
+#[tactic(auto, unfolding(crate::specs::Reader::first_item, crate::specs::Reader::and_then_checked, crate::specs::Reader::checked_value))]
+#[inline(always)]
+fn split_item(
+    after_high: bool,
+    first: u8,
+    behind: &[u8],
+) -> Result<(u32, bool, &[u8]), EncodingError>
+    requires not_ascii { 0x80 ≤ first }
+    ensures { MatchResult result
+        (λ step. (first_item after_high first behind.now ≡ Ok step.0) × (step.1 ≡ is_high step.0) × (step.2.now ≡ drop (needed_continuations first) behind.now))
+        (λ fault. first_item after_high first behind.now ≡ Err fault) }
+{
+    if first < 0xC2 {
+        return Err(EncodingError::Byte(first));
+    }
+    if first < 0xE0 {
+        let (value, rest) = with_one(u32::from(first % 0x20), behind)?;
+        Ok((value, false, rest))
+    } else if first < 0xF0 {
+        let (value, rest) = with_two(u32::from(first % 0x10), behind)?;
+        if value < 0x800 || after_high && is_low(value) {
+            return Err(EncodingError::CodePoint(value));
+        }
+        Ok((value, is_high(value), rest))
+    } else {
+        let (value, rest) = with_three(u32::from(first % 0x10), behind)?;
+        if value < 0x1_0000 || value > 0x10_FFFF {
+            return Err(EncodingError::CodePoint(value));
+        }
+        Ok((value, false, rest))
     }
 }
 
 /// The code point or the fault with which `first` and the bytes behind it begin.
-#[tactic(auto, unfolding(crate::specs::Reader::first_item, crate::specs::Reader::and_then_checked))]
+#[tactic(auto, using(crate::proofs::Reading::first_ascii))]
 #[inline(always)]
 pub(crate) fn first_item(after_high: bool, first: u8, behind: &[u8]) -> Result<u32, EncodingError>
     ensures { result ≡ first_item after_high first behind.now }
@@ -96,87 +127,72 @@ pub(crate) fn first_item(after_high: bool, first: u8, behind: &[u8]) -> Result<u
     if first < 0x80 {
         return Ok(u32::from(first));
     }
-    if first < 0xC2 {
-        return Err(EncodingError::Byte(first));
-    }
-    if first < 0xE0 {
-        let value = with_one(u32::from(first % 0x20), behind)?;
-        checked_value(after_high, 1, value)
-    } else if first < 0xF0 {
-        let value = with_two(u32::from(first % 0x10), behind)?;
-        checked_value(after_high, 2, value)
-    } else {
-        let value = with_three(u32::from(first % 0x10), behind)?;
-        checked_value(after_high, 3, value)
-    }
+    let (code_point, _, _) = split_item(after_high, first, behind)?;
+    Ok(code_point)
 }
 
-/// The value with the bits of one continuation joined to it.
+/// The low bits of the continuation with which the bytes begin, and the bytes behind it.
 #[tactic(auto, using(crate::proofs::Reading::reading))]
 #[inline(always)]
-fn with_one(value: u32, bytes: &[u8]) -> Result<u32, EncodingError>
+fn first_continuation(bytes: &[u8]) -> Result<(u32, &[u8]), EncodingError>
+    ensures joined { (value n : ℕ) → MatchResult result
+        (λ first. with_continuations value (suc n) bytes.now ≡ with_continuations (value * 0x40 + first.0) n first.1.now)
+        (λ fault. with_continuations value (suc n) bytes.now ≡ Err fault) }
+    ensures behind { IfOk result (λ first. first.1.now ≡ drop 1 bytes.now) }
+    ensures few { IfOk result (λ first. first.0 < 0x40) }
+{
+    let Some((first, rest)) = bytes.split_first() else {
+        return Err(EncodingError::End);
+    };
+    if !is_continuation(*first) {
+        return Err(EncodingError::Byte(*first));
+    }
+    Ok((u32::from(*first % 0x40), rest))
+}
+
+/// The value with the bits of one continuation joined to it, and the bytes behind that.
+#[tactic(auto, using(crate::proofs::Reading::reading))]
+#[inline(always)]
+fn with_one(value: u32, bytes: &[u8]) -> Result<(u32, &[u8]), EncodingError>
     requires room { value < 2 ^ 16 }
-    ensures { result ≡ with_continuations value 1 bytes.now }
+    ensures joined { MatchResult result
+        (λ joined. (with_continuations value 1 bytes.now ≡ Ok joined.0) × (joined.1.now ≡ drop 1 bytes.now))
+        (λ fault. with_continuations value 1 bytes.now ≡ Err fault) }
+    ensures least { IfOk result (λ joined. value * 2 ^ 6 ≤ joined.0) }
+    ensures most { IfOk result (λ joined. joined.0 < (value + 1) * 2 ^ 6) }
 {
-    let Some((first, _)) = bytes.split_first() else {
-        return Err(EncodingError::End);
-    };
-    if !is_continuation(*first) {
-        return Err(EncodingError::Byte(*first));
-    }
-    Ok(value * 0x40 + u32::from(*first % 0x40))
+    let (bits, rest) = first_continuation(bytes)?;
+    Ok((value * 0x40 + bits, rest))
 }
 
-/// The value with the bits of two continuations joined to it.
+/// The value with the bits of two continuations joined to it, and the bytes behind them.
 #[tactic(auto, using(crate::proofs::Reading::reading))]
 #[inline(always)]
-fn with_two(value: u32, bytes: &[u8]) -> Result<u32, EncodingError>
+fn with_two(value: u32, bytes: &[u8]) -> Result<(u32, &[u8]), EncodingError>
     requires room { value < 2 ^ 10 }
-    ensures { result ≡ with_continuations value 2 bytes.now }
+    ensures joined { MatchResult result
+        (λ joined. (with_continuations value 2 bytes.now ≡ Ok joined.0) × (joined.1.now ≡ drop 2 bytes.now))
+        (λ fault. with_continuations value 2 bytes.now ≡ Err fault) }
+    ensures least { IfOk result (λ joined. value * 2 ^ 12 ≤ joined.0) }
+    ensures most { IfOk result (λ joined. joined.0 < (value + 1) * 2 ^ 12) }
 {
-    let Some((first, rest)) = bytes.split_first() else {
-        return Err(EncodingError::End);
-    };
-    if !is_continuation(*first) {
-        return Err(EncodingError::Byte(*first));
-    }
-    with_one(value * 0x40 + u32::from(*first % 0x40), rest)
+    let (bits, rest) = first_continuation(bytes)?;
+    with_one(value * 0x40 + bits, rest)
 }
 
-/// The value with the bits of three continuations joined to it.
+/// The value with the bits of three continuations joined to it, and the bytes behind them.
 #[tactic(auto, using(crate::proofs::Reading::reading))]
 #[inline(always)]
-fn with_three(value: u32, bytes: &[u8]) -> Result<u32, EncodingError>
+fn with_three(value: u32, bytes: &[u8]) -> Result<(u32, &[u8]), EncodingError>
     requires room { value < 2 ^ 4 }
-    ensures { result ≡ with_continuations value 3 bytes.now }
+    ensures joined { MatchResult result
+        (λ joined. (with_continuations value 3 bytes.now ≡ Ok joined.0) × (joined.1.now ≡ drop 3 bytes.now))
+        (λ fault. with_continuations value 3 bytes.now ≡ Err fault) }
+    ensures least { IfOk result (λ joined. value * 2 ^ 18 ≤ joined.0) }
+    ensures most { IfOk result (λ joined. joined.0 < (value + 1) * 2 ^ 18) }
 {
-    let Some((first, rest)) = bytes.split_first() else {
-        return Err(EncodingError::End);
-    };
-    if !is_continuation(*first) {
-        return Err(EncodingError::Byte(*first));
-    }
-    with_two(value * 0x40 + u32::from(*first % 0x40), rest)
-}
-
-/// The value of a lead and its continuations, if it is a code point that may stand here.
-#[tactic(auto, unfolding(crate::specs::Reader::checked_value))]
-#[inline(always)]
-fn checked_value(after_high: bool, needed: u8, value: u32) -> Result<u32, EncodingError>
-    ensures { result ≡ checked_value after_high needed value }
-{
-    let least = if needed < 2 {
-        0x80
-    } else if needed < 3 {
-        0x800
-    } else {
-        0x1_0000
-    };
-    if value < least || value > 0x10_FFFF || after_high && is_low(value) {
-        Err(EncodingError::CodePoint(value))
-    } else {
-        Ok(value)
-    }
+    let (bits, rest) = first_continuation(bytes)?;
+    with_two(value * 0x40 + bits, rest)
 }
 
 #[inline(always)]

@@ -1,9 +1,9 @@
 //! The bytes of units.
-ghost use Rattle.std.specs.Prelude.{◌≡◌, ◌∷◌, ◌≤◌, ◌-◌, [], ℕ, true, MatchOption};
+ghost use Rattle.std.specs.Prelude.{◌≡◌, ◌∷◌, ◌<◌, ◌^◌, [], ℕ, true, IfSome, MatchOption};
 ghost use Rattle.std.specs.Iterator.{YieldsFirst, item_count};
 ghost use Rattle.wtf8_core.specs.CodePoint.{IsCodePoint, form};
 ghost use Rattle.wtf8_core.specs.Wtf8.{HasUnits};
-ghost use Rattle.wtf8_core.specs.Decoder.{is_pair, paired, code_points_of, last_bytes};
+ghost use Rattle.wtf8_core.specs.Decoder.{is_pair, paired, code_points_of, packed_bytes, decoder_bytes};
 
 use std::marker::Model;
 
@@ -17,39 +17,38 @@ use std::marker::Model;
 #[derive(Drop)]
 pub struct DecodeWide<'a> {
     rest: &'a [u16],
-    code_point: u32,
-    // How many bytes of its form are left.
-    left: u8,
+    // The bytes of a form that are still to come, the next one lowest; 0 where none is.
+    pending: u32,
 }
 
 impl<'a> Model for DecodeWide<'a> {
-    ghost use Rattle.std.specs.Prelude.{List, ℕ, ◌≤◌};
+    ghost use Rattle.std.specs.Prelude.{List, ℕ, ◌<◌, ◌^◌};
 
     ghost Value = { List ℕ };
 
     ghost use Rattle.wtf8_core.specs.Decoder.{decoder_bytes};
-    ghost use Rattle.wtf8_core.specs.CodePoint.{IsCodePoint};
 
-    ghost view = { λ it. decoder_bytes it.left it.code_point it.rest.now };
+    ghost view = { λ it. decoder_bytes it.pending it.rest.now };
 
-    ghost invariant = { λ it. IsCodePoint it.code_point × (it.left ≤ 3) };
+    ghost invariant = { λ it. it.pending < 2 ^ 24 };
 }
 
 impl<'a> DecodeWide<'a> {
     /// The bytes of any units.
     ///
     /// `DecodeWide::new(&[0xE9])` gives C3 and A9.
+    #[inline(always)]
     pub fn new(units: &'a [u16]) -> DecodeWide<'a>
         ensures { HasUnits result units.now }
     {
         DecodeWide {
             rest: units,
-            code_point: 0,
-            left: 0,
+            pending: 0,
         }
     }
 }
 
+#[inline(always)]
 fn is_pair(high: u16, low: u16) -> bool
     ensures { result ≡ is_pair high low }
 {
@@ -58,6 +57,7 @@ fn is_pair(high: u16, low: u16) -> bool
 
 /// The code point of a pair.
 #[tactic(auto, using(crate::proofs::UnitsLemmas::pair_bounds))]
+#[inline(always)]
 fn paired(high: u16, low: u16) -> u32
     requires { is_pair high low ≡ true }
     ensures value { result ≡ paired high low }
@@ -68,6 +68,7 @@ fn paired(high: u16, low: u16) -> u32
 
 /// The first code point of units, and the units behind it.
 #[tactic(auto, using(crate::proofs::DecoderLemmas::decoding))]
+#[inline(always)]
 fn first_code_point(units: &[u16]) -> Option<(u32, &[u16])>
     ensures { MatchOption result (code_points_of units.now ≡ [])
         (λ r. (code_points_of units.now ≡ r.0 ∷ code_points_of r.1.now) × IsCodePoint r.0) }
@@ -81,36 +82,44 @@ fn first_code_point(units: &[u16]) -> Option<(u32, &[u16])>
     Some((u32::from(*first), rest))
 }
 
-/// The first byte of a form, and how many follow it.
+/// The first byte of a form, and those behind it in one number, the first of them lowest.
 #[tactic(auto, using(crate::proofs::DecoderLemmas::decoding))]
-fn first_byte(code_point: u32) -> (u8, u8)
+#[inline(always)]
+fn split_form(code_point: u32) -> (u8, u32)
     requires { IsCodePoint code_point }
-    ensures form { form code_point ≡ result.0 ∷ last_bytes result.1 code_point }
-    ensures few { result.1 ≤ 3 }
+    ensures form { form code_point ≡ result.0 ∷ packed_bytes 3 result.1 }
+    ensures few { result.1 < 2 ^ 24 }
 {
+    let last = 0x80 + code_point % 0x40;
     if code_point < 0x80 {
-        (code_point as u8, 0)
-    } else if code_point < 0x800 {
-        ((0xC0 + code_point / 0x40) as u8, 1)
-    } else if code_point < 0x1_0000 {
-        ((0xE0 + code_point / 0x1000) as u8, 2)
-    } else {
-        ((0xF0 + code_point / 0x4_0000) as u8, 3)
+        return (code_point as u8, 0);
     }
+    if code_point < 0x800 {
+        return ((0xC0 + code_point / 0x40) as u8, last);
+    }
+    let last_two = 0x80 + code_point / 0x40 % 0x40 + last * 0x100;
+    if code_point < 0x1_0000 {
+        return ((0xE0 + code_point / 0x1000) as u8, last_two);
+    }
+    let last_three = 0x80 + code_point / 0x1000 % 0x40 + last_two * 0x100;
+    ((0xF0 + code_point / 0x4_0000) as u8, last_three)
 }
 
-/// The first of the last `left` bytes of a form.
-fn next_byte(code_point: u32, left: u8) -> u8
-    requires some { 1 ≤ left }
-    requires few { left ≤ 3 }
-    ensures { last_bytes left code_point ≡ result ∷ last_bytes (left - 1) code_point }
+/// The first byte of units, the others of its form in one number, and the units behind it.
+#[tactic(auto, using(crate::proofs::DecoderLemmas::decoding))]
+#[inline(always)]
+fn next_bytes(units: &[u16]) -> Option<(u8, u32, &[u16])>
+    ensures bytes { MatchOption result (decoder_bytes 0 units.now ≡ [])
+        (λ r. decoder_bytes 0 units.now ≡ r.0 ∷ decoder_bytes r.1 r.2.now) }
+    ensures few { IfSome result (λ r. r.1 < 2 ^ 24) }
 {
-    let bits = match left {
-        1 => code_point,
-        2 => code_point / 0x40,
-        _ => code_point / 0x1000,
-    };
-    0x80 + (bits % 0x40) as u8
+    let (first, rest) = units.split_first()?;
+    if *first < 0x80 {
+        return Some((*first as u8, 0, rest));
+    }
+    let (code_point, rest) = first_code_point(units)?;
+    let (byte, pending) = split_form(code_point);
+    Some((byte, pending, rest))
 }
 
 impl<'a> Iterator for DecodeWide<'a> {
@@ -120,17 +129,16 @@ impl<'a> Iterator for DecodeWide<'a> {
 
     ghost remaining = { item_count (λ rest. rest) };
 
+    #[inline(always)]
     fn next(&mut self) -> Option<u8> {
-        if self.left > 0 {
-            let byte = next_byte(self.code_point, self.left);
-            self.left -= 1;
+        if self.pending > 0 {
+            let byte = (self.pending % 0x100) as u8;
+            self.pending /= 0x100;
             return Some(byte);
         }
-        let (code_point, rest) = first_code_point(self.rest)?;
-        let (byte, left) = first_byte(code_point);
+        let (byte, pending, rest) = next_bytes(self.rest)?;
+        self.pending = pending;
         self.rest = rest;
-        self.code_point = code_point;
-        self.left = left;
         Some(byte)
     }
 }

@@ -41,6 +41,7 @@ impl<'a> Model for EncodeWide<'a> {
 ///
 /// The items of F0 90 80 80 C0 are `Ok(0xD800)`, `Ok(0xDC00)`,
 /// `Err(EncodingError::Byte(0xC0))`.
+#[inline(always)]
 pub fn encode_wide<'a>(bytes: &'a [u8]) -> EncodeWide<'a>
     ensures { AreUnitItems bytes.now result }
 {
@@ -52,6 +53,7 @@ pub fn encode_wide<'a>(bytes: &'a [u8]) -> EncodeWide<'a>
 
 /// The first unit of a code point and the one behind it, or the fault.
 #[tactic(auto, using(crate::proofs::EncoderLemmas::one_unit, crate::proofs::EncoderLemmas::two_units))]
+#[inline(always)]
 fn first_unit(item: Result<u32, EncodingError>) -> (Result<u16, EncodingError>, Option<u16>)
     requires { IsCodePointItem item }
     ensures { unit_items item ≡ result.0 ∷ pending_items result.1 }
@@ -77,6 +79,7 @@ impl<'a> Iterator for EncodeWide<'a> {
 
     ghost remaining = { item_count (λ rest. rest) };
 
+    #[inline(always)]
     fn next(&mut self) -> Option<Result<u16, EncodingError>> {
         if let Some(unit) = self.pending {
             self.pending = None;

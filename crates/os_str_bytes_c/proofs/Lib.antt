@@ -1,0 +1,2 @@
+mod Filling
+mod Room

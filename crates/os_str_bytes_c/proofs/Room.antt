@@ -1,0 +1,82 @@
+-- Bytes have no more units than bytes.
+use Rattle.std.proofs.Common.{◌≡◌, ⊎_elim, ℕ, ◌+◌, ◌<◌, ◌≤◌, List, [], ◌∷◌, ◌++◌, length, Result, Ok, Err, subst, sym, ap, ◌∙◌, arith}
+use Rattle.std.proofs.lemmas.Bool.{cases_lt}
+use Rattle.std.proofs.lemmas.List.{length-append, length-map, append-nil}
+use Rattle.std.specs.List.{flat_map}
+use Rattle.wtf8_core.specs.CodePoint.{form, wide}
+use Rattle.wtf8_core.specs.Wtf8.{units}
+use Rattle.wtf8_core.specs.Items.{AreItems, AreUnitItems, unit_items}
+use Rattle.wtf8_core.specs.Items.AreItems.{Whole, Faulty}
+use Rattle.wtf8_core.specs.Fault.{IsRefused}
+use Rattle.wtf8_core.specs.declared.fault.EncodingError.{EncodingError}
+use Rattle.wtf8_core.specs.declared.fault.EncodingError.TheVariants.{Byte, CodePoint, End, Utf8}
+use Rattle.wtf8_core.proofs.Forms.{form_1, form_2, form_3, form_4}
+use Rattle.wtf8_core.proofs.UnitsLemmas.{wide_1, wide_2}
+use Rattle.wtf8_core.proofs.FirstErr.{oks}
+
+one_byte : (c : ℕ) → 1 ≤ length (form c)
+one_byte c =
+    ⊎_elim (λ h. subst (λ b. 1 ≤ length b) (sym (form_1 c h)) (omega arith))
+    (λ l. ⊎_elim (λ h. subst (λ b. 1 ≤ length b) (sym (form_2 c l h)) (omega arith))
+    (λ l. ⊎_elim (λ h. subst (λ b. 1 ≤ length b) (sym (form_3 c l h)) (omega arith))
+    (λ l. subst (λ b. 1 ≤ length b) (sym (form_4 c l)) (omega arith)) (cases_lt c 0x1_0000)) (cases_lt c 0x800)) (cases_lt c 0x80)
+
+few_units : (c : ℕ) → length (wide c) ≤ length (form c)
+few_units c =
+    ⊎_elim (λ h. subst (λ u. length u ≤ length (form c)) (sym (wide_1 c h)) (one_byte c))
+    (λ l. let u = ap length (wide_2 c l) in let b = ap length (form_4 c l) in omega arith)
+    (cases_lt c 0x1_0000)
+
+units_fit : (cs : List ℕ) → length (units cs) ≤ length (flat_map form cs)
+units_fit [] = omega arith
+units_fit (c ∷ cs) =
+    let u = length-append (wide c) (units cs) in
+    let b = length-append (form c) (flat_map form cs) in
+    let first = few_units c in
+    let rest = units_fit cs in
+    omega arith
+
+oks_length : (us : List ℕ) → length (oks us) ≡ length us
+oks_length us = length-map us (λ u. Ok u)
+
+units_of_oks : (cs : List ℕ) (rest : List (Result ℕ EncodingError))
+    → length (flat_map unit_items (oks cs ++ rest)) ≡ length (units cs) + length (flat_map unit_items rest)
+units_of_oks [] rest = omega arith
+units_of_oks (c ∷ cs) rest =
+    let all : length (flat_map unit_items (oks (c ∷ cs) ++ rest)) ≡ length (oks (wide c)) + length (flat_map unit_items (oks cs ++ rest)) =
+    length-append (oks (wide c)) (flat_map unit_items (oks cs ++ rest)) in
+    let both : length (units (c ∷ cs)) ≡ length (wide c) + length (units cs) = length-append (wide c) (units cs) in
+    let first = oks_length (wide c) in
+    let others = units_of_oks cs rest in
+    omega arith
+
+refused_some : (last : ℕ) (refused rest : List ℕ) (fault : EncodingError) → IsRefused last refused rest fault → 1 ≤ length refused
+refused_some last refused rest (Byte x) r =
+    ⊎_elim (λ s. let e = ap length s.is in omega arith) (λ s. let e = ap length s.begun.is in omega arith) r
+refused_some last refused rest End r = let e = ap length r.0.is in omega arith
+refused_some last refused rest (CodePoint value) r = let e = ap length r.is in omega arith
+refused_some last refused rest (Utf8 valid_up_to error_len) r = absurd r
+
+items_fit : (bytes : List ℕ) (items : List (Result ℕ EncodingError)) → AreItems bytes items → length (flat_map unit_items items) ≤ length bytes
+items_fit bytes items (Whole r) =
+    let all = ap (λ x. length (flat_map unit_items x)) (r.are ∙ sym (append-nil (oks r.code_points))) ∙ units_of_oks r.code_points [] in
+    let joined = ap length r.spelled.joined in
+    let fit = units_fit r.code_points in
+    omega arith
+items_fit bytes items (Faulty r) =
+    let all = ap (λ x. length (flat_map unit_items x)) r.are ∙ units_of_oks r.code_points (Err r.fault ∷ []) in
+    let before = ap length r.first.spelled.joined in
+    let parts = ap length r.first.joined ∙ length-append r.first.before r.first.from in
+    let last = ap length r.first.begins.is ∙ length-append r.first.begins.refused r.first.begins.rest in
+    let some = refused_some _ _ _ _ r.first.begins.refusal in
+    let fit = units_fit r.code_points in
+    omega arith
+
+-- where one more unit comes, there are fewer before it than bytes
+pub unit_fits : (bytes us : List ℕ) (item : Result ℕ EncodingError) (rest : List (Result ℕ EncodingError))
+    → AreUnitItems bytes (oks us ++ item ∷ rest) → length us < length bytes
+unit_fits bytes us item rest all =
+    let fit : length (oks us ++ item ∷ rest) ≤ length bytes = subst (λ x. length x ≤ length bytes) (sym all.are) (items_fit bytes all.items all.are_items) in
+    let parts = length-append (oks us) (item ∷ rest) in
+    let before = oks_length us in
+    omega arith

@@ -1,0 +1,15 @@
+-- What the exports answer.
+use Rattle.std.specs.Prelude.{◌≡◌, ℕ, ◌≤◌, List, length, take, drop}
+use Rattle.wtf8_core.specs.declared.fault.EncodingError.{EncodingError}
+use Rattle.platform_str.specs.Platforms.{IsWtf8Fault}
+
+-- the bytes aren't WTF-8: they have a first fault
+abbrev pub IsFaulty : List ℕ → Type 0
+IsFaulty bytes = (fault : EncodingError) × IsWtf8Fault bytes fault
+
+-- the first `count` items of the new list are wanted ones, and those behind them are as they were
+pub record IsFilled (Wanted : List ℕ → Type 0) (old new : List ℕ) (count : ℕ) : Type 0 where
+  pub same_length : length new ≡ length old
+  pub within : count ≤ length new
+  pub front : Wanted (take count new)
+  pub behind : drop count new ≡ drop count old

@@ -1,0 +1,11 @@
+//! The calls that are timed, for a program in C or Rust: [`check`] the check of Windows,
+//! [`wide`] bytes to units and back, [`lossy`] lossy texts.
+//!
+//! Each export is a call of the libraries below it, and nothing else. A slice crosses as a
+//! pointer and a length, and an allocator as nothing: what it takes is the program's own
+//! `malloc`. The caller keeps what each export asks.
+#![tactic(auto)]
+
+pub mod check;
+pub mod lossy;
+pub mod wide;

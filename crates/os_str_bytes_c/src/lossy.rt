@@ -1,0 +1,37 @@
+//! Lossy texts.
+ghost use Rattle.std.specs.Prelude.{◌≡◌, ◌≢◌, length};
+ghost use Rattle.std.specs.Str.Lossy.{utf8_lossy};
+ghost use Rattle.wtf8_core.specs.Wtf8.{IsWtf8};
+ghost use Rattle.wtf8_core.specs.UnitsOf.{wtf8_lossy};
+ghost use Rattle.platform_str.specs.Strings.{bytes};
+
+use platform_str::{OsStr, Platform, Unix, Windows};
+use std::alloc::Global;
+
+/// How many bytes the lossy text of a string has, or `usize::MAX` where memory was refused.
+fn lossy_len<E: Platform>(alloc: Global, string: OsStr<E>) -> usize
+    ensures { result ≢ usize.MAX → result ≡ length (E.lossy (bytes string.entry)) }
+{
+    match string.to_string_lossy(alloc) {
+        Ok(text) => text.as_str().len(),
+        Err(_) => usize::MAX,
+    }
+}
+
+/// How many bytes the lossy text of the bytes has on Unix, or `usize::MAX` where memory was
+/// refused.
+#[unsafe(no_mangle)]
+pub extern "C" fn port_lossy(alloc: Global, raw: &[u8]) -> usize
+    ensures { result ≢ usize.MAX → result ≡ length (utf8_lossy raw.now) }
+{
+    lossy_len(alloc, OsStr::<Unix>::from_encoded_bytes_unchecked(raw))
+}
+
+/// The same on Windows, for bytes that are WTF-8.
+#[unsafe(no_mangle)]
+pub extern "C" fn port_win_lossy(alloc: Global, raw: &[u8]) -> usize
+    requires { IsWtf8 raw.now }
+    ensures { result ≢ usize.MAX → result ≡ length (wtf8_lossy raw.now) }
+{
+    lossy_len(alloc, OsStr::<Windows>::from_encoded_bytes_unchecked(raw))
+}
