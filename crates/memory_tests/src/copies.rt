@@ -1,0 +1,55 @@
+//! Copies of strings.
+use crate::answer::{bytes_of, is_right};
+use platform_str::{OsStr, Platform, Unix, Wasm, Windows};
+use refusing::for_each_refusal;
+use std::alloc::AllocError;
+use std::process::Abort;
+
+/// A copy is one request, and none where the string is empty.
+#[test]
+fn copies(rt: HostRuntime) -> Result<(), AllocError> {
+    for (text, requests) in [("", 0), ("foobar", 1)] {
+        copies_on::<Unix, _>(&rt, text, requests)?;
+        copies_on::<Windows, _>(&rt, text, requests)?;
+        copies_on::<Wasm, _>(&rt, text, requests)?;
+    }
+    Ok(())
+}
+
+fn copies_on<E: Platform, R: AllocGlobal + Abort>(
+    rt: &R,
+    text: &str,
+    requests: u64,
+) -> Result<(), AllocError> {
+    let view = OsStr::<E>::new(text);
+    assert_eq!(rt; to_owned(rt, view)?, requests, "to_owned of {text:?}");
+    assert_eq!(rt; clone(rt, view)?, requests, "clone of {text:?}");
+    Ok(())
+}
+
+fn to_owned<'a, E: Platform + 'a, R: AllocGlobal + Abort>(
+    rt: &R,
+    view: OsStr<'a, E>,
+) -> Result<u64, AllocError> {
+    for_each_refusal(rt.alloc(), move |heap, plan| {
+        heap.restart(plan);
+        let copy = view.to_owned(heap);
+        is_right(rt, heap, bytes_of(&copy), view.as_encoded_bytes());
+        Ok(())
+    })
+}
+
+/// A string is as it was where its copy is refused.
+fn clone<'a, E: Platform + 'a, R: AllocGlobal + Abort>(
+    rt: &R,
+    view: OsStr<'a, E>,
+) -> Result<u64, AllocError> {
+    for_each_refusal(rt.alloc(), move |heap, plan| {
+        let string = view.to_owned(heap)?;
+        heap.restart(plan);
+        let copy = string.clone();
+        is_right(rt, heap, bytes_of(&copy), view.as_encoded_bytes());
+        assert!(rt; string.as_os_str() == view);
+        Ok(())
+    })
+}
