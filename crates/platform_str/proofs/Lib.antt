@@ -2,3 +2,4 @@ pub mod FirstFault
 pub mod LossyLoops
 pub mod InPlace
 pub mod WideLemmas
+mod ByteOrder

@@ -1,7 +1,6 @@
 -- One step of a loop over a string's faults.
-use Rattle.std.proofs.Common.{◌≡◌, ℕ, ◌+◌, ◌<◌, ◌≤◌, List, ◌++◌, length, take, drop, refl, sym, ap, ◌∙◌, subst, arith, append_assoc, length-drop}
-use Rattle.std.specs.Str.{IsUtf8, IsValidUpTo}
-use Rattle.wtf8_core.specs.Utf8.{IsUtf8Fault}
+use Rattle.std.proofs.Common.{◌≡◌, ℕ, ◌<◌, ◌≤◌, List, ◌++◌, length, take, drop, refl, sym, ap, ◌∙◌, subst, arith, append_assoc, length-drop}
+use Rattle.std.specs.Str.{IsValidUpTo}
 use Rattle.wtf8_core.specs.Lossy.{replacement}
 use Rattle.wtf8_core.specs.declared.fault.EncodingError.{EncodingError}
 use Rattle.wtf8_core.proofs.Utf8Lemmas.{no_char}
@@ -12,26 +11,26 @@ use Rattle.platform_str.specs.Laws.{PlatformLaws}
 use Rattle.platform_str.specs.Lossy.{IsLeft}
 
 -- no whole character starts at a fault
-pub bare_at : (b behind : List ℕ) (n : ℕ) → behind ≡ drop n b → IsValidUpTo b n → StartsBare behind
-bare_at b behind n e v = subst StartsBare (sym e) (none_at (drop n b) 0 (no_char b n v))
+pub bare_at : {b behind : List ℕ} {n : ℕ} → behind ≡ drop n b → IsValidUpTo b n → StartsBare behind
+bare_at {b} {behind} {n} e v = subst StartsBare (sym e) (none_at (drop n b) 0 (no_char b n v))
 
-pub some_at : (b behind : List ℕ) (n : ℕ) → behind ≡ drop n b → IsValidUpTo b n → 0 < length behind
-some_at b behind n e v = let s = v.short in omega (arith, length-drop n b, ap length e)
+some_at : {b behind : List ℕ} {n : ℕ} → behind ≡ drop n b → IsValidUpTo b n → 0 < length behind
+some_at {b} {behind} {n} e v = let s = v.short in omega (arith, length-drop n b, ap length e)
 
 encode_fffd : encode_utf8 0xFFFD ≡ replacement
 unfolding encode_utf8
 encode_fffd = refl
 
-module _ (faults : List ℕ → EncodingError → Type 0) (formed : List ℕ → Type 0) (units : List ℕ → List ℕ) (listed safe : List ℕ → Type 0) (lossy : List ℕ → List ℕ) (replaces : List ℕ → ℕ → Type 0) (laws : PlatformLaws faults formed units listed safe lossy replaces) where
+module _ {faults : List ℕ → EncodingError → Type 0} {formed : List ℕ → Type 0} {units : List ℕ → List ℕ} {listed safe : List ℕ → Type 0} {lossy : List ℕ → List ℕ} {replaces : List ℕ → ℕ → Type 0} (laws : PlatformLaws faults formed units listed safe lossy replaces) where
   pub record Step (all made rest behind : List ℕ) (n m : ℕ) : Type 0 where
     pub some : 0 < m
     pub within : m ≤ length behind
     pub left : IsLeft formed lossy all ((made ++ take n rest) ++ replacement) (drop m behind)
 
-  pub step : (all made rest behind : List ℕ) (n m : ℕ) → behind ≡ drop n rest → IsValidUpTo rest n → IsLeft formed lossy all made rest → replaces behind m → Step all made rest behind n m
-  step all made rest behind n m e v i r =
+  pub step : {all made rest behind : List ℕ} {n m : ℕ} → behind ≡ drop n rest → IsValidUpTo rest n → IsLeft formed lossy all made rest → replaces behind m → Step all made rest behind n m
+  step {all} {made} {rest} {behind} {n} {m} e v i r =
       let f : formed behind = subst formed (sym e) (laws.behind_text rest n i.formed_is v.front) in
-      let p = laws.lossy_step behind m f (some_at rest behind n e v) (bare_at rest behind n e v) r in
+      let p = laws.lossy_step behind m f (some_at e v) (bare_at e v) r in
       record {
         some = p.some;
         within = p.within;
@@ -43,12 +42,12 @@ module _ (faults : List ℕ → EncodingError → Type 0) (formed : List ℕ →
       }
 
   -- as code has it
-  pub next : (all made front behind left rest text after : List ℕ) (n m : ℕ) → behind ≡ drop n rest → front ≡ take n rest → left ≡ drop m behind → text ≡ made ++ front → after ≡ text ++ encode_utf8 0xFFFD
+  pub next : {all made front behind left rest text after : List ℕ} {n m : ℕ} → behind ≡ drop n rest → front ≡ take n rest → left ≡ drop m behind → text ≡ made ++ front → after ≡ text ++ encode_utf8 0xFFFD
       → IsValidUpTo rest n → IsLeft formed lossy all made rest → replaces behind m → IsLeft formed lossy all after left
-  next all made front behind left rest text after n m e f l t a v i r =
-      let s = (step all made rest behind n m e v i r).left in
+  next {all} {made} {front} {behind} {left} {rest} {text} {after} {n} {m} e f l t a v i r =
+      let s = (step e v i r).left in
       let made_is : after ≡ (made ++ take n rest) ++ replacement = a ∙ ap (λ x. x ++ encode_utf8 0xFFFD) (t ∙ ap (λ x. made ++ x) f) ∙ ap (λ x. (made ++ take n rest) ++ x) encode_fffd in
       record { formed_is = subst formed (sym l) s.formed_is; lossy_is = s.lossy_is ∙ ap (λ x. x ++ lossy (drop m behind)) (sym made_is) ∙ ap (λ x. after ++ lossy x) (sym l) }
 
-  pub shorter : (behind left rest : List ℕ) (n m : ℕ) → behind ≡ drop n rest → left ≡ drop m behind → 0 < m → IsValidUpTo rest n → length left < length rest
-  shorter behind left rest n m e l p v = let s = v.short in omega (arith, ap length l, ap length e, length-drop m behind, length-drop n rest)
+pub shorter : {behind left rest : List ℕ} {n m : ℕ} → behind ≡ drop n rest → left ≡ drop m behind → 0 < m → IsValidUpTo rest n → length left < length rest
+shorter {behind} {left} {rest} {n} {m} e l p v = let s = v.short in omega (arith, ap length l, ap length e, length-drop m behind, length-drop n rest)

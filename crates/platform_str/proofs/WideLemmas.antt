@@ -17,8 +17,8 @@ pub record OkUnits (b : List ℕ) (items : List Item) : Type 0 where
   pub all_ok : items ≡ map Ok (ok_values items)
   pub has : HasUnits b (ok_values items)
 
-pub ok_units : (b : List ℕ) (items : List Item) → IsWtf8 b → AreUnitItems b items → OkUnits b items
-ok_units b items w a = by a.items a.are_items a.are
+pub ok_units : {b : List ℕ} {items : List Item} → IsWtf8 b → AreUnitItems b items → OkUnits b items
+ok_units {b} {items} w a = by a.items a.are_items a.are
   where
     by : (code_points : List Item) → AreItems b code_points → items ≡ flat_map unit_items code_points → OkUnits b items
     by code_points (Whole r) e =
@@ -31,11 +31,11 @@ no_err : (f : EncodingError) (rest : List Item) (us : List ℕ) → Err f ∷ re
 no_err f rest [] e = cc
 no_err f rest (u ∷ us) e = cc
 
-pub first_ok : (items rest : List Item) (u : ℕ) → items ≡ map Ok (ok_values items) → items ≡ Ok u ∷ rest → (rest ≡ map Ok (ok_values rest)) × (ok_values items ≡ u ∷ ok_values rest)
-first_ok items rest u a e =
+pub first_ok : {items rest : List Item} {u : ℕ} → items ≡ map Ok (ok_values items) → items ≡ Ok u ∷ rest → (rest ≡ map Ok (ok_values rest)) × (ok_values items ≡ u ∷ ok_values rest)
+first_ok {items} {rest} {u} a e =
     let v : ok_values items ≡ u ∷ ok_values rest = ap ok_values e in
     let w : Ok u ∷ rest ≡ Ok u ∷ map Ok (ok_values rest) = sym e ∙ a ∙ ap (λ l. map Ok l) v in
     (cc, v)
 
-pub first_err : (items rest : List Item) (f : EncodingError) → items ≡ map Ok (ok_values items) → items ≡ Err f ∷ rest → ⊥
-first_err items rest f a e = no_err f rest (ok_values items) (sym e ∙ a)
+pub first_err : {items rest : List Item} {f : EncodingError} → items ≡ map Ok (ok_values items) → items ≡ Err f ∷ rest → ⊥
+first_err {items} {rest} {f} a e = no_err f rest (ok_values items) (sym e ∙ a)

@@ -1,5 +1,5 @@
 -- The laws of Unix, proved.
-use Rattle.std.proofs.Common.{◌≡◌, ℕ, ◌<◌, List, take, drop, refl, sym, take-append-drop}
+use Rattle.std.proofs.Common.{ℕ, ◌<◌, List, refl, sym, take-append-drop}
 use Rattle.std.specs.Str.Lossy.{utf8_lossy}
 use Rattle.std.proofs.Math.Bridge.{le_prop}
 use Rattle.std.proofs.lemmas.Str.{utf8_lossy-IsUtf8}

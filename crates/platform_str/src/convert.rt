@@ -119,7 +119,8 @@ pub trait OsStringBytes: Sized {
     fn into_io_vec_lossy(self) -> Self::Vec
         ensures { IsIoLossy Self.Platform.io_safe Self.Platform.lossy (items_of (vec_of self)) (items_of result) };
 
-    /// The string's vector.
+    /// The string's vector, whose bytes are well formed.
     fn into_raw_vec(self) -> Self::Vec
-        ensures { result ≡ vec_of self };
+        ensures value { result ≡ vec_of self }
+        ensures formed { Self.Platform.well_formed (items_of result) };
 }

@@ -7,8 +7,11 @@
 //! and give their bytes; [`OsStr::encode_wide`] and [`OsString::from_wide`] do so with units.
 //!
 //! The bytes of a string are its raw bytes, its encoded bytes and, where it is IO-safe, its
-//! IO bytes. So an accepted conversion borrows or moves. What takes no memory has no allocator
-//! in its signature and never fails for want of it.
+//! IO bytes. So an accepted conversion borrows or moves.
+//!
+//! What takes memory is handed an allocator first, or uses that of its vector, and answers
+//! [`std::alloc::AllocError`] where the memory is refused: what was lent is then as it was,
+//! what was moved in is dropped. Every other call takes no memory and never fails for want of it.
 #![tactic(auto)]
 
 mod convert;

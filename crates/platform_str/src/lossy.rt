@@ -17,7 +17,7 @@ pub(crate) fn text<E: Platform, A: Allocator>(
     requires { E.well_formed bytes.now }
     ensures { IfOk result (λ text. string_bytes text ≡ E.lossy bytes.now) }
 {
-    let mut text = String::new(alloc);
+    let mut text = String::with_capacity(alloc, bytes.len())?;
     let mut rest = bytes;
     while let Some((valid, _)) = utf8_fault(rest) {
         let (front, behind) = rest.split_at(valid);

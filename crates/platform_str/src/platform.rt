@@ -8,30 +8,38 @@ use wtf8_core::EncodingError;
 
 /// The strings of a platform, as lists of bytes.
 ///
-/// The ghost members say which bytes are well formed, what their units are, which lists are
-/// unit lists, which bytes are IO-safe, what the first fault of refused bytes is, what their
-/// lossy text is and how many bytes one U+FFFD stands for. Whoever implements the trait
-/// proves its laws, which are all that generic code knows of a platform: each list of units
-/// has one spelling; texts are strings, and what follows a text at the front is well formed;
-/// at a boundary both parts are well formed, and their units joined are the string's.
+/// Whoever implements the trait proves its laws, which are all that generic code knows of a
+/// platform: each list of units has one spelling; texts are strings, and what follows a text
+/// at the front is well formed; at a boundary both parts are well formed, and their units
+/// joined are the string's. The module `laws` states them one by one.
 pub trait Platform {
+    // which bytes are a string
     ghost well_formed: { List ℕ → Type 0 };
 
+    // any two proofs of that are one
     ghost well_formed_prop: { (b : List ℕ) → IsProp (well_formed b) };
 
+    // a string's units
     ghost units: { List ℕ → List ℕ };
 
+    // which lists are the units of a string
     ghost is_unit_list: { List ℕ → Type 0 };
 
+    // which bytes file reads and writes take
     ghost io_safe: { List ℕ → Type 0 };
 
+    // the first fault of bytes that are no string
     ghost first_fault: { List ℕ → EncodingError → Type 0 };
 
+    // a string's lossy text
     ghost lossy: { List ℕ → List ℕ };
 
+    // how many bytes at the front one U+FFFD stands for there
     ghost replaces: { List ℕ → ℕ → Type 0 };
 
-    /// `Ok` exactly for well-formed bytes, else their first fault. It takes no memory.
+    /// `Ok` exactly for well-formed bytes, else their first fault: on Windows the first that
+    /// `wtf8_core::CodePoints` answers, on wasm that of `wtf8_core::utf8_fault`, on Unix none.
+    /// It takes no memory.
     ///
     /// `Windows::check(b"\xED\xA0\x80")` is `Ok(())`, since a surrogate has a form there;
     /// `Wasm::check` of the same bytes is an error, and `Unix::check` answers no error at all.

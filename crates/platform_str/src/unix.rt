@@ -9,16 +9,22 @@ use crate::platform::Platform;
 use std::alloc::Global;
 use wtf8_core::{EncodingError, utf8_fault};
 
+/// A borrowed string of Unix.
 pub type OsStr<'a> = crate::OsStr<'a, Unix>;
 
+/// An owned string of Unix.
 pub type OsString<A = Global> = crate::OsString<Unix, A>;
 
+/// A string of Unix that is borrowed or owned.
 pub type OsStrCow<'a, A = Global> = crate::OsStrCow<'a, Unix, A>;
 
+/// A borrowed path of Unix.
 pub type Path<'a> = crate::Path<'a, Unix>;
 
+/// An owned path of Unix.
 pub type PathBuf<A = Global> = crate::PathBuf<Unix, A>;
 
+/// A path of Unix that is borrowed or owned.
 pub type PathCow<'a, A = Global> = crate::PathCow<'a, Unix, A>;
 
 impl Platform for Unix {

@@ -1,4 +1,4 @@
-//! The strings of WebAssembly: UTF-8. Their units are their bytes.
+//! The strings of WebAssembly: UTF-8 (RFC 3629). Their units are their bytes.
 ghost use Rattle.std.specs.Str.{IsUtf8};
 ghost use Rattle.wtf8_core.proofs.Propositions.{utf8_prop};
 ghost use Rattle.platform_str.specs.Platforms.{itself, IsTextFault, IsThree};
@@ -9,16 +9,22 @@ use crate::platform::Platform;
 use std::alloc::Global;
 use wtf8_core::{EncodingError, utf8_fault};
 
+/// A borrowed string of wasm.
 pub type OsStr<'a> = crate::OsStr<'a, Wasm>;
 
+/// An owned string of wasm.
 pub type OsString<A = Global> = crate::OsString<Wasm, A>;
 
+/// A string of wasm that is borrowed or owned.
 pub type OsStrCow<'a, A = Global> = crate::OsStrCow<'a, Wasm, A>;
 
+/// A borrowed path of wasm.
 pub type Path<'a> = crate::Path<'a, Wasm>;
 
+/// An owned path of wasm.
 pub type PathBuf<A = Global> = crate::PathBuf<Wasm, A>;
 
+/// A path of wasm that is borrowed or owned.
 pub type PathCow<'a, A = Global> = crate::PathCow<'a, Wasm, A>;
 
 impl Platform for Wasm {

@@ -1,4 +1,4 @@
-//! The strings of Windows: any 16-bit units, kept as WTF-8.
+//! The strings of Windows: any 16-bit units (RFC 2781), kept as WTF-8.
 ghost use Rattle.std.specs.Str.{IsUtf8};
 ghost use Rattle.wtf8_core.specs.Wtf8.{IsWtf8};
 ghost use Rattle.wtf8_core.specs.UnitsOf.{units_of, wtf8_lossy};
@@ -11,16 +11,22 @@ use crate::platform::Platform;
 use std::alloc::Global;
 use wtf8_core::{CodePoints, EncodingError};
 
+/// A borrowed string of Windows.
 pub type OsStr<'a> = crate::OsStr<'a, Windows>;
 
+/// An owned string of Windows.
 pub type OsString<A = Global> = crate::OsString<Windows, A>;
 
+/// A string of Windows that is borrowed or owned.
 pub type OsStrCow<'a, A = Global> = crate::OsStrCow<'a, Windows, A>;
 
+/// A borrowed path of Windows.
 pub type Path<'a> = crate::Path<'a, Windows>;
 
+/// An owned path of Windows.
 pub type PathBuf<A = Global> = crate::PathBuf<Windows, A>;
 
+/// A path of Windows that is borrowed or owned.
 pub type PathCow<'a, A = Global> = crate::PathCow<'a, Windows, A>;
 
 impl Platform for Windows {

@@ -1,4 +1,4 @@
-use Rattle.std.proofs.Common.{◌≡◌, ℕ, ◌++◌, length}
+use Rattle.std.proofs.Common.{length}
 use Rattle.std.specs.String.{string_bytes}
 use Rattle.platform_str.specs.Lossy.{IsLeft}
 use Rattle.platform_str.proofs.lossy.text.Given as goal

@@ -5,7 +5,7 @@ use Rattle.platform_str.proofs.WideLemmas.{ok_units}
 use Rattle.platform_str.proofs.wide.OsStr+Windows.encode_wide.Goals as goal
 
 pub invariant_of-result : goal.invariant_of-result
-invariant_of-result c = (ok_units c.as_encoded_bytes.result.now c.encode_wide.result c.as_encoded_bytes.ensures.formed c.encode_wide.ensures).all_ok
+invariant_of-result c = (ok_units c.as_encoded_bytes.ensures.formed c.encode_wide.ensures).all_ok
 
 pub returns : goal.returns
-returns c = subst (λ b. HasUnits b (ok_values c.encode_wide.result)) c.as_encoded_bytes.ensures.value (ok_units c.as_encoded_bytes.result.now c.encode_wide.result c.as_encoded_bytes.ensures.formed c.encode_wide.ensures).has
+returns c = subst (λ b. HasUnits b (ok_values c.encode_wide.result)) c.as_encoded_bytes.ensures.value (ok_units c.as_encoded_bytes.ensures.formed c.encode_wide.ensures).has
