@@ -1,0 +1,2 @@
+pub mod AnswerFileLemmas
+pub mod HexTextLemmas

@@ -1,0 +1,4 @@
+pub mod AnswerFile
+pub mod Column
+pub mod HexText
+pub mod Row

@@ -1,0 +1,44 @@
+//! Files `lossy`: any bytes, their first fault as UTF-8, their lossy text on Unix, their first
+//! fault on Windows, and their lossy reading there.
+use crate::column::Column;
+use crate::error::LineError;
+use crate::fault_text::fault_text;
+use crate::hex_text::{bytes_text, read_bytes};
+use crate::platforms::string;
+use platform_str::{EncodingError, Platform, Unix, Wasm, Windows};
+use std::alloc::Global;
+use wtf8_core::utf8_fault;
+
+/// What a row asks, and what the calls answer.
+pub fn ask<'a>(alloc: Global, row: &[&'a str]) -> Result<Vec<Column<'a>>, LineError> {
+    let [raw, utf8, lossy, windows, _] = row else {
+        return Err(LineError::column_count(row, 5));
+    };
+    let raw = read_bytes(alloc, raw)?;
+    let fault = fault_text(alloc, utf8_check(&raw))?;
+    let wasm_check = fault_text(alloc, Wasm::check(&raw))?;
+    let text = lossy_text(alloc, &raw)?;
+    let windows_check = fault_text(alloc, Windows::check(&raw))?;
+    Ok(vec![in alloc;
+        Column::asked("utf8_fault", "wtf8_core::utf8_fault", utf8, fault),
+        Column::asked("utf8_fault", "Wasm::check", utf8, wasm_check),
+        Column::asked("lossy text on Unix", "OsStr::to_string_lossy", lossy, text),
+        Column::asked("check on Windows", "Windows::check", windows, windows_check),
+        Column::not_asked("read_lossy on Windows"),
+    ]?)
+}
+
+fn utf8_check(raw: &[u8]) -> Result<(), EncodingError> {
+    match utf8_fault(raw) {
+        None => Ok(()),
+        Some((valid_up_to, error_len)) => Err(EncodingError::Utf8 {
+            valid_up_to,
+            error_len,
+        }),
+    }
+}
+
+fn lossy_text(alloc: Global, raw: &[u8]) -> Result<String, LineError> {
+    let text = string::<Unix>(raw)?.to_string_lossy(alloc)?;
+    Ok(bytes_text(alloc, text.as_str().as_bytes())?)
+}

@@ -1,0 +1,74 @@
+//! The program `conformance`: asks the crates' public calls for the rows of answer files.
+//!
+//! An answer file ([`answer_file`]) has, a row a line, what some calls are given and what they
+//! have to answer; its kind ([`kinds`]) says which. The program's words are files' names. It
+//! prints how many rows each file has, how many of them differ from what the calls answer now,
+//! and the first of these ([`summary`]). Its status is 0 where no row differs, 1 where one
+//! does, and 2 where something keeps it from asking all rows ([`error`]), as a row that can't
+//! be read.
+#![tactic(auto)]
+
+ghost use Rattle.std.specs.Prelude.{◌≡◌, if◌then◌else◌, MatchResult};
+
+mod answer_file;
+mod column;
+mod error;
+mod fault_text;
+mod hex_text;
+mod kinds;
+mod platforms;
+mod summary;
+#[cfg(test)]
+mod tests;
+
+use error::Failure;
+use std::process::ExitCode;
+use std::rt::{Env, Files};
+use std::{env, fs};
+
+fn main(rt: HostRuntime) -> ExitCode {
+    let asked = ask_files(&rt);
+    if let Err(failure) = &asked {
+        // Where standard error can't be written to, only the status tells of the failure.
+        let _ = eprintln!(rt; "conformance: {failure}");
+    }
+    ExitCode::from(status(&asked))
+}
+
+/// The status that the program ends with.
+fn status(asked: &Result<bool, Failure>) -> u8
+    ensures { MatchResult asked.now (λ same. result ≡ (if same then 0 else 1)) (λ _. result ≡ 2) }
+{
+    match asked {
+        Ok(true) => 0,
+        Ok(false) => 1,
+        Err(_) => 2,
+    }
+}
+
+/// Asks the files that the words name, and answers whether no row of them differs.
+fn ask_files(rt: &(impl Env + Files + Print + AllocGlobal)) -> Result<bool, Failure> {
+    let names: Vec<String> = env::args(rt)?.skip(1).collect(rt.alloc())?;
+    if names.is_empty() {
+        return Err(Failure::Usage);
+    }
+    let mut same = true;
+    for name in names {
+        same &= ask_file(rt, name)?;
+    }
+    Ok(same)
+}
+
+/// Asks a file, prints what came of it, and answers whether no row of it differs.
+fn ask_file(rt: &(impl Files + Print + AllocGlobal), name: String) -> Result<bool, Failure> {
+    let text = match fs::read_to_string(rt, name.as_str()) {
+        Ok(text) => text,
+        Err(cause) => return Err(Failure::Unread { name, cause }),
+    };
+    let summary = match summary::ask(rt.alloc(), text.as_str()) {
+        Ok(summary) => summary,
+        Err(cause) => return Err(Failure::Refused { name, cause }),
+    };
+    println!(rt; "{name}: {summary}")?;
+    Ok(summary.differing == 0)
+}
