@@ -9,11 +9,13 @@ use Rattle.conformance.specs.AnswerFile.{columns_of, is_row}
 abbrev pub rows_among : List (List ℕ) → List (List (List ℕ))
 rows_among lines = map columns_of (filter is_row lines)
 
+-- the rows of joined lines are joined
 rows_among-append : (a b : List (List ℕ)) → rows_among (a ++ b) ≡ rows_among a ++ rows_among b
 rows_among-append a b =
     ap (map columns_of) (filter-append is_row a b)
     ∙ map-append columns_of (filter is_row a) (filter is_row b)
 
+-- a line more
 one_more : (lines : List (List ℕ)) (i : ℕ) (line : List ℕ) → i < length lines → get_or lines i [] ≡ line
     → rows_among (take (i + 1) lines) ≡ rows_among (take i lines) ++ rows_among (line ∷ [])
 one_more lines i line lt e =

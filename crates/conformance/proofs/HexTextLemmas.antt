@@ -34,6 +34,7 @@ pub two_bytes_each : (units : List ℕ) → length (flat_map (to_be_bytes w16) u
 two_bytes_each [] = refl
 two_bytes_each (unit ∷ units) = let e = two_bytes_each units in omega (arith, e)
 
+-- the bytes of units are bytes
 bytes_of_units : (units : List ℕ) → IsBytes (flat_map (to_be_bytes w16) units)
 bytes_of_units [] i = omega arith
 bytes_of_units (unit ∷ units) zero = omega arith

@@ -11,7 +11,7 @@
 //! - `!` is `None`, or a condition that isn't met;
 //! - a fault is `byte c0`, `cp dc00` (at least four digits), `end`, `utf8 1 2` or `utf8 1 none`
 //!   (the place and the length of an ill-formed part), and `ok` says that there is none.
-ghost use Rattle.std.specs.Prelude.{◌≡◌, ◌<◌, ◌↔◌, ◌⊎◌, IsOk, IsErrOf, IfOk, IfErr, map, vec_len};
+ghost use Rattle.std.specs.Prelude.{◌≡◌, ◌<◌, ◌↔◌, IsOk, IsErrOf, IfOk, IfErr, map, vec_len};
 ghost use Rattle.std.specs.Str.Lines.{lines};
 ghost use Rattle.conformance.specs.AnswerFile.{columns_of, is_row, rows_of};
 ghost use Rattle.conformance.specs.Row.{columns};
@@ -55,8 +55,8 @@ impl<'a> AnswerFile<'a> {
     pub fn check_count(&self) -> Result<(), LineError>
         ensures ok { IsOk result ↔ ((0 < vec_len self.now.rows) × (vec_len self.now.rows ≡ self.now.expected_rows)) }
         ensures no_rows { vec_len self.now.rows ≡ 0 → IsErrOf result LineError.NoRows }
-        ensures other { IfErr result (λ error. (error ≡ LineError.NoRows)
-            ⊎ (error ≡ LineError.RowCount self.now.expected_rows (vec_len self.now.rows))) }
+        ensures other_count { 0 < vec_len self.now.rows
+            → IfErr result (λ error. error ≡ LineError.RowCount self.now.expected_rows (vec_len self.now.rows)) }
     {
         let expected = self.expected_rows;
         let found = self.rows.len();
@@ -79,7 +79,6 @@ fn head(line: &str) -> Option<(&str, usize)> {
 }
 
 /// The rows of a text: its lines that don't begin with `#`.
-#[tactic(auto, using(crate::proofs::AnswerFileLemmas::row_more, crate::proofs::AnswerFileLemmas::comment_more))]
 fn rows<'a>(alloc: Global, text: &'a str) -> Result<Vec<Row<'a>>, AllocError>
     ensures { IfOk result (λ rows. map columns rows.items ≡ rows_of text.now) }
 {

@@ -43,7 +43,6 @@ pub fn read_bytes(alloc: Global, text: &str) -> Result<Vec<u8>, LineError>
 }
 
 /// The units that have a text.
-#[tactic(auto, using(crate::proofs::HexTextLemmas::no_bytes))]
 pub fn read_units(alloc: Global, text: &str) -> Result<Vec<u16>, LineError>
     ensures read { IfOk result (λ units. units_text units.items ≡ text.now) }
     ensures refused { IfErr result (IsUnread (HasNoUnits text.now)) }

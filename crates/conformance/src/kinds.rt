@@ -1,7 +1,8 @@
 //! The kinds of answer files.
 //!
-//! A kind is a file below this one, with a function `ask`: it names the columns of a row and
-//! asks for each the calls that answer it.
+//! A kind is a file below this one: it names the columns of a row, and asks for each the calls
+//! that answer it, or says that none stands yet. Where rows begin with a platform, it is a
+//! [`platforms::PlatformKind`].
 use crate::column::Column;
 use crate::error::LineError;
 use crate::platforms;

@@ -1,19 +1,23 @@
 use crate::hex_text::{bytes_text, read_bytes, read_units, units_text};
 use crate::{status, summary};
-use std::alloc::{AllocError, Global};
+use std::process::Abort;
 use std::test::Fail;
 
-/// What is wrong with the file of a text.
-fn refusal(alloc: Global, text: &str) -> Result<String, AllocError> {
-    match summary::ask(alloc, text) {
-        Ok(_) => String::from_str(alloc, "nothing"),
-        Err(error) => format!(in alloc; "{error}"),
+/// Asks the file of a text, which has to be refused for the reason of another.
+fn refused(rt: &(impl Abort + AllocGlobal), text: &str, reason: &str) -> Result<(), Fail> {
+    match summary::ask(rt.alloc(), text) {
+        Ok(_) => assert!(rt; false, "accepted {text:?}"),
+        Err(error) => {
+            let said = format!(in rt.alloc(); "{error}")?;
+            assert_eq!(rt; said.as_str(), reason, "for {text:?}");
+        }
     }
+    Ok(())
 }
 
 #[test]
 fn a_row_that_differs(rt: HostRuntime) -> Result<(), Fail> {
-    let text = "# windows_decode.tsv (test); rows: 3; inputs: three\n\
+    let text = "# windows_decode.tsv; rows: 3;\n\
         # columns: ..\n\
         eda080edb080\td800\tcp dc00\n\
         eda080\td800\tend\n\
@@ -33,7 +37,7 @@ fn a_row_that_differs(rt: HostRuntime) -> Result<(), Fail> {
 
 #[test]
 fn the_first_differences(rt: HostRuntime) -> Result<(), Fail> {
-    let text = "# windows_encode.tsv (test); rows: 5; inputs: five\n\
+    let text = "# windows_encode.tsv; rows: 5;\n\
         0041\t42\n0041\t41\n0042\t41\n0043\t41\n0044\t41\n";
     let summary = summary::ask(rt.alloc(), text)?;
     assert_eq!(rt; summary.differing, 4);
@@ -47,65 +51,37 @@ fn the_first_differences(rt: HostRuntime) -> Result<(), Fail> {
 }
 
 #[test]
-fn refused_files(rt: HostRuntime) -> Result<(), Fail> {
-    let refused = [
-        (
-            "",
-            "line 1: an answer file begins with a line '# KIND.tsv ..; rows: N; ..'",
-        ),
-        (
-            "0041\t41\n",
-            "line 1: an answer file begins with a line '# KIND.tsv ..; rows: N; ..'",
-        ),
-        (
-            "# windows_encode.tsv (test)\n",
-            "line 1: an answer file begins with a line '# KIND.tsv ..; rows: N; ..'",
-        ),
-        (
-            "# nothing.tsv (test); rows: 1; ..\n-\n",
-            "line 1: no calls are asked for files of the kind 'nothing'",
-        ),
-        (
-            "# windows_encode.tsv (test); rows: 0; ..\n",
-            "line 1: an answer file has rows",
-        ),
-        (
-            "# windows_encode.tsv (test); rows: 2; ..\n-\t-\n",
-            "line 1: the file has 1 rows, and its head says 2",
-        ),
-        (
-            "# windows_encode.tsv (test); rows: 1; ..\n-\t-\t-\n",
-            "line 2: the row has 3 columns, and rows of this kind have 2",
-        ),
-        (
-            "# windows_encode.tsv (test); rows: 2; ..\n-\t-\n00E9\tc3a9\n",
-            "line 3: an input is no list: two lower-case digits a byte, four a unit, or '-'",
-        ),
-        (
-            "# windows_decode.tsv (test); rows: 1; ..\n4\t-\tend\n",
-            "line 2: an input is no list: two lower-case digits a byte, four a unit, or '-'",
-        ),
-        (
-            "# ranges.tsv (test); rows: 1; ..\nmacos\t41\t..\t41\n",
-            "line 2: an input is no platform",
-        ),
-        (
-            "# ranges.tsv (test); rows: 1; ..\nwasm\ta9\t..\ta9\n",
-            "line 2: an input is no string of its platform",
-        ),
-        (
-            "# ranges.tsv (test); rows: 1; ..\nunix\t41\t0...1\t41\n",
-            "line 2: an input is no range of places",
-        ),
-    ];
-    for (text, expected) in refused {
-        assert_eq!(rt;
-            refusal(rt.alloc(), text)?.as_str(),
-            expected,
-            "for {text:?}"
-        );
-    }
-    Ok(())
+fn refused_heads(rt: HostRuntime) -> Result<(), Fail> {
+    let no_head = "line 1: an answer file begins with a line '# KIND.tsv ..; rows: N; ..'";
+    refused(&rt, "", no_head)?;
+    refused(&rt, "0041\t41\n", no_head)?;
+    refused(&rt, "# windows_encode.tsv\n", no_head)?;
+    let unknown = "line 1: no calls are asked for files of the kind 'nothing'";
+    refused(&rt, "# nothing.tsv; rows: 1;\n-\n", unknown)?;
+    let no_rows = "line 1: an answer file has rows";
+    refused(&rt, "# windows_encode.tsv; rows: 0;\n", no_rows)?;
+    let cut = "line 1: the file has 1 rows, and its head says 2";
+    refused(&rt, "# windows_encode.tsv; rows: 2;\n-\t-\n", cut)
+}
+
+#[test]
+fn refused_rows(rt: HostRuntime) -> Result<(), Fail> {
+    let columns = "line 2: the row has 3 columns, and rows of this kind have 2";
+    refused(&rt, "# windows_encode.tsv; rows: 1;\n-\t-\t-\n", columns)?;
+    let list = "line 2: an input is no list: two lower-case digits a byte, four a unit, or '-'";
+    refused(&rt, "# windows_encode.tsv; rows: 1;\n00E9\tc3a9\n", list)?;
+    refused(&rt, "# windows_encode.tsv; rows: 1;\n00\t00\n", list)?;
+    refused(&rt, "# windows_decode.tsv; rows: 1;\n4\t-\tend\n", list)?;
+    let platform = "line 2: an input is no platform";
+    refused(&rt, "# ranges.tsv; rows: 1;\nmacos\t41\t..\t41\n", platform)?;
+    let string = "line 2: an input is no string of its platform";
+    refused(&rt, "# ranges.tsv; rows: 1;\nwasm\ta9\t..\ta9\n", string)?;
+    let range = "line 4: an input is no range of places";
+    refused(
+        &rt,
+        "# ranges.tsv; rows: 2;\n#\nunix\t41\t..\t41\nunix\t41\t0...1\t41\n",
+        range,
+    )
 }
 
 #[test]
