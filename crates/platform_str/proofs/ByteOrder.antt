@@ -5,10 +5,12 @@ use Rattle.std.specs.declared.cmp.Ordering.{Ordering}
 use Rattle.std.specs.declared.cmp.Ordering.TheVariants.{Less, Equal, Greater}
 use Rattle.std.specs.Cmp.Lexicographic.{slice_cmp, slice_partial_cmp, lists_agrees}
 
+-- a field in which all values are equal decides nothing
 then_equal : (o : Ordering) → partial_ordering_then (Some o) (Some Equal) ≡ Some o
 then_equal Less = refl
 then_equal Equal = refl
 then_equal Greater = refl
 
+-- the partial order is the order
 pub byte_order : (xs ys : List ℕ) → partial_ordering_then (slice_partial_cmp (λ x y. Some (nat_cmp x y)) xs ys) (Some Equal) ≡ Some (slice_cmp nat_cmp xs ys)
 byte_order xs ys = ap (λ o. partial_ordering_then o (Some Equal)) (lists_agrees (λ x y. refl) xs ys) ∙ then_equal (slice_cmp nat_cmp xs ys)

@@ -16,6 +16,7 @@ use Rattle.platform_str.proofs.LossyLoops.{step, bare_at}
 abbrev written : List ℕ → ℕ → List ℕ
 written b s = slice_set (slice_set (slice_set b s 0xEF) (s + 1) 0xBF) (s + 2) 0xBD
 
+-- the front up to the place behind them
 take-written : (b : List ℕ) (s n : ℕ) → n ≡ s + 3 → n ≤ length b → take n (written b s) ≡ take s b ++ replacement
 take-written b s n e h =
     let y = set b s 0xEF in
@@ -28,6 +29,7 @@ take-written b s n e h =
     p ∙ ap (λ t. t ++ 0xBD ∷ []) (q ∙ ap (λ t. t ++ 0xBF ∷ []) r)
     ∙ append_assoc (take s b ++ 0xEF ∷ []) (0xBF ∷ []) (0xBD ∷ []) ∙ append_assoc (take s b) (0xEF ∷ []) (0xBF ∷ 0xBD ∷ [])
 
+-- what follows stays
 drop-written : (b : List ℕ) (s n : ℕ) → n ≡ s + 3 → drop n (written b s) ≡ drop n b
 drop-written b s n e =
     drop-set-lt n (set (set b s 0xEF) (s + 1) 0xBF) (s + 2) 0xBD (omega arith)
@@ -47,6 +49,7 @@ pub record IsWritten (formed : List ℕ → Type 0) (lossy : List ℕ → List �
   pub replaced : IsReplacedUpTo formed lossy all (written bytes (at + n)) (at + n + m)
 
 module _ {faults : List ℕ → EncodingError → Type 0} {formed : List ℕ → Type 0} {units : List ℕ → List ℕ} {listed safe : List ℕ → Type 0} {lossy : List ℕ → List ℕ} {replaces : List ℕ → ℕ → Type 0} where
+  -- so it is where some string isn't IO-safe
   pub put : (laws : PlatformLaws faults formed units listed safe lossy replaces) {all bytes rest behind : List ℕ} {at n m : ℕ} → formed all → ¬ (safe all) → rest ≡ drop at bytes → behind ≡ drop (at + n) bytes
       → IsValidUpTo rest n → IsReplacedUpTo formed lossy all bytes at → replaces behind m → IsWritten formed lossy all bytes at n m
   put laws {all} {bytes} {rest} {behind} {at} {n} {m} f u e d v i r =
@@ -71,5 +74,6 @@ module _ {faults : List ℕ → EncodingError → Type 0} {formed : List ℕ →
         };
       }
 
+-- no whole character starts at a fault, also where the rest is given by a place
 pub bare_behind : (bytes : List ℕ) {rest behind : List ℕ} (at : ℕ) {n : ℕ} → rest ≡ drop at bytes → behind ≡ drop (at + n) bytes → IsValidUpTo rest n → StartsBare behind
 bare_behind bytes at {n} e d v = bare_at (d ∙ drop_twice bytes at n ∙ ap (drop n) (sym e)) v

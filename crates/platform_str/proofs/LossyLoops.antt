@@ -14,14 +14,17 @@ use Rattle.platform_str.specs.Lossy.{IsLeft}
 pub bare_at : {b behind : List ℕ} {n : ℕ} → behind ≡ drop n b → IsValidUpTo b n → StartsBare behind
 bare_at {b} {behind} {n} e v = subst StartsBare (sym e) (none_at (drop n b) 0 (no_char b n v))
 
+-- some byte stands there
 some_at : {b behind : List ℕ} {n : ℕ} → behind ≡ drop n b → IsValidUpTo b n → 0 < length behind
 some_at {b} {behind} {n} e v = let s = v.short in omega (arith, length-drop n b, ap length e)
 
+-- as std encodes it
 encode_fffd : encode_utf8 0xFFFD ≡ replacement
 unfolding encode_utf8
 encode_fffd = refl
 
 module _ {faults : List ℕ → EncodingError → Type 0} {formed : List ℕ → Type 0} {units : List ℕ → List ℕ} {listed safe : List ℕ → Type 0} {lossy : List ℕ → List ℕ} {replaces : List ℕ → ℕ → Type 0} (laws : PlatformLaws faults formed units listed safe lossy replaces) where
+  -- behind the text at the front of the rest, one U+FFFD stands for the first m bytes
   pub record Step (all made rest behind : List ℕ) (n m : ℕ) : Type 0 where
     pub some : 0 < m
     pub within : m ≤ length behind
@@ -41,7 +44,7 @@ module _ {faults : List ℕ → EncodingError → Type 0} {formed : List ℕ →
         };
       }
 
-  -- as code has it
+  -- the same, of the slices and the text that the loop has
   pub next : {all made front behind left rest text after : List ℕ} {n m : ℕ} → behind ≡ drop n rest → front ≡ take n rest → left ≡ drop m behind → text ≡ made ++ front → after ≡ text ++ encode_utf8 0xFFFD
       → IsValidUpTo rest n → IsLeft formed lossy all made rest → replaces behind m → IsLeft formed lossy all after left
   next {all} {made} {front} {behind} {left} {rest} {text} {after} {n} {m} e f l t a v i r =
@@ -49,5 +52,6 @@ module _ {faults : List ℕ → EncodingError → Type 0} {formed : List ℕ →
       let made_is : after ≡ (made ++ take n rest) ++ replacement = a ∙ ap (λ x. x ++ encode_utf8 0xFFFD) (t ∙ ap (λ x. made ++ x) f) ∙ ap (λ x. (made ++ take n rest) ++ x) encode_fffd in
       record { formed_is = subst formed (sym l) s.formed_is; lossy_is = s.lossy_is ∙ ap (λ x. x ++ lossy (drop m behind)) (sym made_is) ∙ ap (λ x. after ++ lossy x) (sym l) }
 
+-- the rest becomes shorter
 pub shorter : {behind left rest : List ℕ} {n m : ℕ} → behind ≡ drop n rest → left ≡ drop m behind → 0 < m → IsValidUpTo rest n → length left < length rest
 shorter {behind} {left} {rest} {n} {m} e l p v = let s = v.short in omega (arith, ap length l, ap length e, length-drop m behind, length-drop n rest)

@@ -13,10 +13,12 @@ use Rattle.wtf8_core.proofs.UnitsOfLemmas.{ok_values_of_oks}
 abbrev pub Item : Type 0
 Item = Result ℕ EncodingError
 
+-- no item is a fault, and the values are the units of the bytes
 pub record OkUnits (b : List ℕ) (items : List Item) : Type 0 where
   pub all_ok : items ≡ map Ok (ok_values items)
   pub has : HasUnits b (ok_values items)
 
+-- so it is where the bytes are WTF-8
 pub ok_units : {b : List ℕ} {items : List Item} → IsWtf8 b → AreUnitItems b items → OkUnits b items
 ok_units {b} {items} w a = by a.items a.are_items a.are
   where
@@ -27,15 +29,18 @@ ok_units {b} {items} w a = by a.items a.are_items a.are
         record { all_ok = all ∙ ap (λ l. map Ok l) (sym values); has = record { code_points = r.code_points; spelled = r.spelled; are = values } }
     by code_points (Faulty r) e = absurd (never_both b w.0 r.code_points r.fault w.1 r.first)
 
+-- a list that has no fault doesn't begin with one
 no_err : (f : EncodingError) (rest : List Item) (us : List ℕ) → Err f ∷ rest ≡ map Ok us → ⊥
 no_err f rest [] e = cc
 no_err f rest (u ∷ us) e = cc
 
+-- the first unit is the first value, and no fault comes behind it
 pub first_ok : {items rest : List Item} {u : ℕ} → items ≡ map Ok (ok_values items) → items ≡ Ok u ∷ rest → (rest ≡ map Ok (ok_values rest)) × (ok_values items ≡ u ∷ ok_values rest)
 first_ok {items} {rest} {u} a e =
     let v : ok_values items ≡ u ∷ ok_values rest = ap ok_values e in
     let w : Ok u ∷ rest ≡ Ok u ∷ map Ok (ok_values rest) = sym e ∙ a ∙ ap (λ l. map Ok l) v in
     (cc, v)
 
+-- the first item is no fault
 pub first_err : {items rest : List Item} {f : EncodingError} → items ≡ map Ok (ok_values items) → items ≡ Err f ∷ rest → ⊥
 first_err {items} {rest} {f} a e = no_err f rest (ok_values items) (sym e ∙ a)

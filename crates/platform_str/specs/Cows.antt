@@ -13,19 +13,23 @@ use Rattle.platform_str.specs.declared.cow.StrCow.TheVariants as text
 use Rattle.platform_str.specs.Strings.{bytes, path_bytes, string_vec_of, path_vec_of}
 
 module _ {E A : Type 0} {P : Ghosts E} where
+  -- of a string
   abbrev pub cow_bytes : OsStrCow E A P → List ℕ
   cow_bytes (string.Borrowed s) = bytes s
   cow_bytes (string.Owned s) = (string_vec_of s).items
 
+  -- of a path
   abbrev pub path_cow_bytes : PathCow E A P → List ℕ
   path_cow_bytes (path.Borrowed p) = path_bytes p
   path_cow_bytes (path.Owned p) = (path_vec_of p).items
 
 module _ {A : Type 0} where
+  -- of bytes
   abbrev pub byte_cow_bytes : ByteCow A → List ℕ
   byte_cow_bytes (byte.Borrowed b) = b.now
   byte_cow_bytes (byte.Owned v) = v.items
 
+  -- of a text
   abbrev pub str_cow_bytes : StrCow A → List ℕ
   str_cow_bytes (text.Borrowed s) = s.now
   str_cow_bytes (text.Owned s) = string_bytes s

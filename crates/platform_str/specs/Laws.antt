@@ -13,6 +13,7 @@ pub record IsReplaced (formed : List ℕ → Type 0) (lossy : List ℕ → List 
   pub behind : formed (drop n b)
   pub lossy_is : lossy b ≡ replacement ++ lossy (drop n b)
 
+-- the laws, of a platform's faults, well-formed bytes, units, unit lists, IO-safe bytes, lossy texts and lossy lengths
 pub record PlatformLaws (faults : List ℕ → EncodingError → Type 0) (formed : List ℕ → Type 0) (units : List ℕ → List ℕ) (listed safe : List ℕ → Type 0) (lossy : List ℕ → List ℕ) (replaces : List ℕ → ℕ → Type 0) : Type 0 where
   -- faults: refused bytes aren't well formed, and have one fault
   pub faulty : (b : List ℕ) (f : EncodingError) → faults b f → ¬ (formed b)

@@ -10,6 +10,7 @@ use Rattle.wtf8_core.proofs.Texts.{text_bytes, lossy_front, part_first}
 use Rattle.platform_str.specs.Laws.{PlatformLaws}
 use Rattle.platform_str.specs.Platforms.{AreBytes, itself, IsNoFault}
 
+-- that numbers are bytes has one proof
 pub bytes_prop : (b : List ℕ) → IsProp (AreBytes b)
 bytes_prop b = hlevel le_prop
 

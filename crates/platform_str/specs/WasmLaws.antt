@@ -12,6 +12,7 @@ use Rattle.wtf8_core.proofs.Texts.{text_begins}
 use Rattle.platform_str.specs.Laws.{PlatformLaws}
 use Rattle.platform_str.specs.Platforms.{itself, IsTextFault, IsThree}
 
+-- the first fault is one
 one_fault : (b : List ℕ) (f g : EncodingError) → IsTextFault b f → IsTextFault b g → f ≡ g
 one_fault b (Utf8 n l) (Utf8 m k) p q = let e = one_utf8_fault b n m l k p q in ap (λ x. Utf8 x l) e.0 ∙ ap (λ x. Utf8 m x) e.1
 one_fault b (Utf8 n l) (Byte x) p q = absurd q
@@ -21,6 +22,7 @@ one_fault b (Byte x) g p q = absurd p
 one_fault b (CodePoint x) g p q = absurd p
 one_fault b End g p q = absurd p
 
+-- bytes with a fault are no text
 faulty : (b : List ℕ) (f : EncodingError) → IsTextFault b f → IsUtf8 b → ⊥
 faulty b (Utf8 n l) p u = no_text b n p.valid u
 faulty b (Byte x) p u = p
