@@ -4,7 +4,7 @@ use Rattle.std.specs.Char.{IsScalar}
 use Rattle.wtf8_core.specs.CodePoint.{form}
 use Rattle.wtf8_core.specs.Standing.{StandsAt}
 
--- a whole character stands in s from byte i to byte j: the form of a scalar
+-- a whole character stands in s from byte i to byte j: the form of a scalar value (a code point that is no surrogate)
 pub record WholeCharacter (s : List ℕ) (i j : ℕ) : Type 0 where
   pub char : ℕ
   pub scalar : IsScalar char

@@ -1,22 +1,10 @@
--- Code points, their bytes (RFC 3629, section 3) and their units (RFC 2781, section 2.1); for surrogates WTF-8.
-use Rattle.std.specs.Prelude.{ℕ, ◌+◌, ◌-◌, ◌/◌, ◌%◌, ◌≤◌, Bool, nat_lt, if◌then◌else◌, List, [], ◌∷◌}
-use Rattle.std.specs.Int.{IsInRange, is_in_range}
+-- Code points, their bytes (RFC 3629, section 3) and their units, 16-bit code units (RFC 2781, section 2.1); for surrogates WTF-8.
+use Rattle.std.specs.Prelude.{ℕ, ◌+◌, ◌/◌, ◌%◌, ◌≤◌, nat_lt, if◌then◌else◌, List, [], ◌∷◌}
+use Rattle.wtf8_core.specs.Surrogate.{high_unit, low_unit}
 
 -- a number that Unicode has as a code point
 abbrev pub IsCodePoint : ℕ → Type 0
 IsCodePoint c = c ≤ 0x10_FFFF
-
--- a high surrogate, which begins a pair of units (WTF-8: a lead surrogate)
-abbrev pub IsHigh : ℕ → Type 0
-IsHigh c = IsInRange 0xD800 0xDBFF c
-
--- a low surrogate, which ends one (WTF-8: a trail surrogate)
-abbrev pub IsLow : ℕ → Type 0
-IsLow c = IsInRange 0xDC00 0xDFFF c
-
--- whether a code point is a surrogate, high or low
-abbrev pub is_surrogate : ℕ → Bool
-is_surrogate c = is_in_range 0xD800 0xDFFF c
 
 -- the bytes of a code point (RFC 3629, section 3); of a surrogate those of generalized UTF-8 (WTF-8)
 unfoldable pub form : ℕ → List ℕ
@@ -30,4 +18,4 @@ form c =
 unfoldable pub wide : ℕ → List ℕ
 wide c =
     if nat_lt c 0x1_0000 then c ∷ []
-    else (0xD800 + (c - 0x1_0000) / 0x400) ∷ (0xDC00 + (c - 0x1_0000) % 0x400) ∷ []
+    else high_unit c ∷ low_unit c ∷ []

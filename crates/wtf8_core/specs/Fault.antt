@@ -3,7 +3,8 @@ use Rattle.std.specs.Prelude.{◌≡◌, ◌≢◌, ℕ, ◌+◌, ◌*◌, ◌%�
 use Rattle.std.specs.List.{fold, AllByRecursion}
 use Rattle.std.specs.Int.{IsInRange}
 use Rattle.wtf8_core.specs.Byte.{IsContinuation, IsLead, needed_continuations}
-use Rattle.wtf8_core.specs.CodePoint.{IsCodePoint, IsHigh, IsLow, form}
+use Rattle.wtf8_core.specs.Surrogate.{IsHigh, IsLow}
+use Rattle.wtf8_core.specs.CodePoint.{IsCodePoint, form}
 use Rattle.wtf8_core.specs.Wtf8.{Spells, last_behind}
 use Rattle.wtf8_core.specs.declared.fault.EncodingError.{EncodingError}
 use Rattle.wtf8_core.specs.declared.fault.EncodingError.TheVariants.{Byte, CodePoint, End, Utf8}

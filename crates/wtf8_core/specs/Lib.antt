@@ -1,4 +1,5 @@
 pub mod Byte
+pub mod Surrogate
 pub mod CodePoint
 pub mod Wtf8
 pub mod Fault
@@ -8,10 +9,16 @@ pub mod Reader
 pub mod Encoder
 pub mod Decoder
 pub mod Standing
+pub mod StandingLaws
+pub mod Join
 pub mod UnitPlace
 pub mod Character
 pub mod Covered
+pub mod Chunks
+pub mod Runs
 pub mod Boundary
+pub mod Pieces
 pub mod Utf8
 pub mod Lossy
 pub mod UnitsOf
+pub mod PartUnits

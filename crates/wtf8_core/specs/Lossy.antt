@@ -2,7 +2,8 @@
 use Rattle.std.specs.Prelude.{◌≡◌, ℕ, ◌+◌, if◌then◌else◌, List, [], ◌∷◌, ◌++◌, take, drop, map}
 use Rattle.std.specs.List.{flat_map}
 use Rattle.std.specs.Str.{IsUtf8, IsValidUpTo}
-use Rattle.wtf8_core.specs.CodePoint.{form, is_surrogate}
+use Rattle.wtf8_core.specs.Surrogate.{is_surrogate}
+use Rattle.wtf8_core.specs.CodePoint.{form}
 use Rattle.wtf8_core.specs.Wtf8.{Spells}
 use Rattle.wtf8_core.specs.Utf8.{IsIllFormedPart}
 

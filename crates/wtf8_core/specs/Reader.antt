@@ -2,6 +2,7 @@
 use Rattle.std.specs.Prelude.{ℕ, zero, suc, ◌+◌, ◌*◌, ◌%◌, Bool, nat_lt, ◌&&◌, ◌||◌, if◌then◌else◌, List, [], ◌∷◌, Result, Ok, Err}
 use Rattle.std.specs.Int.{is_in_range}
 use Rattle.wtf8_core.specs.Byte.{needed_continuations}
+use Rattle.wtf8_core.specs.Surrogate.{is_high, is_low}
 use Rattle.wtf8_core.specs.declared.fault.EncodingError.{EncodingError}
 use Rattle.wtf8_core.specs.declared.fault.EncodingError.TheVariants.{Byte, CodePoint, End}
 
@@ -19,14 +20,6 @@ lead_bits lead = if nat_lt lead 0xE0 then lead % 0x20 else lead % 0x10
 -- the least value of a form with n continuations
 abbrev pub least_value : ℕ → ℕ
 least_value n = if nat_lt n 2 then 0x80 else (if nat_lt n 3 then 0x800 else 0x1_0000)
-
--- whether a code point is a high surrogate
-abbrev pub is_high : ℕ → Bool
-is_high c = is_in_range 0xD800 0xDBFF c
-
--- whether a code point is a low surrogate
-abbrev pub is_low : ℕ → Bool
-is_low c = is_in_range 0xDC00 0xDFFF c
 
 -- what a shape of n continuations and this value is, behind a high surrogate or not
 unfoldable pub checked_value : Bool → ℕ → ℕ → Result ℕ EncodingError

@@ -1,4 +1,4 @@
--- Where one list stands in another: a front, an end, the least and the greatest place.
+-- Where one list stands in another: a front (a prefix), an end (a suffix), the least and the greatest place.
 use Rattle.std.specs.Prelude.{◌≡◌, ℕ, ◌<◌, List, ◌++◌, length, Option, MatchOption}
 
 -- p stands in s at place i

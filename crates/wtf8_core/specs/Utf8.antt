@@ -1,4 +1,4 @@
--- The first fault of bytes that aren't UTF-8 (RFC 3629, section 4), and the maximal ill-formed part (std's `Utf8Error`; Unicode, section 3.9).
+-- The first fault of bytes that aren't UTF-8 (RFC 3629, section 4), and the maximal ill-formed part (a maximal subpart; Unicode, section 3.9, and std's `Utf8Error`).
 use Rattle.std.specs.Prelude.{◌≡◌, ◌⊎◌, ℕ, ◌+◌, ◌<◌, ◌≤◌, List, ◌++◌, length, take, drop, Option, Some, None, MatchOption}
 use Rattle.std.specs.Char.{IsScalar}
 use Rattle.std.specs.Str.{IsValidUpTo}

@@ -5,6 +5,9 @@ ghost use Rattle.wtf8_core.specs.Byte.{IsContinuation, needed_continuations};
 /// Whether a byte continues a sequence: whether it is one of 80 to BF (hexadecimal;
 /// `UTF8-tail` of RFC 3629, section 4).
 ///
+/// Equivalent to `byte & 0xC0 == 0x80`: no character of a text starts at such a byte, so std's
+/// `str::is_char_boundary` is false there.
+///
 /// `is_continuation(0xA9)` is true, `is_continuation(0xC3)` is false.
 #[inline(always)]
 pub fn is_continuation(byte: u8) -> bool

@@ -1,13 +1,15 @@
 //! Whole characters of any bytes.
-ghost use Rattle.std.specs.Prelude.{◌≡◌};
 ghost use Rattle.wtf8_core.specs.Character.{IsCharacterAt};
-ghost use Rattle.wtf8_core.specs.CodePoint.{is_surrogate};
 
 use crate::byte::needed_continuations;
 use crate::code_points::first_item;
+use crate::surrogate::is_surrogate;
 
 /// How many bytes the whole character has that starts at byte place `at`: one to four, or
 /// `None` where none starts there.
+///
+/// Of a text, at a place where `str::is_char_boundary` is true, it is equivalent to
+/// `text[at..].chars().next().map(char::len_utf8)`.
 ///
 /// A whole character is the form of a scalar value (RFC 3629, section 3). So there is none at
 /// the form of a surrogate, at an overlong or cut off sequence, at a continuation, and none at
@@ -46,10 +48,4 @@ fn first_char(bytes: &[u8]) -> Option<usize>
         }
         Err(_) => None,
     }
-}
-
-fn is_surrogate(code_point: u32) -> bool
-    ensures { result ≡ is_surrogate code_point }
-{
-    (0xD800..=0xDFFF).contains(&code_point)
 }

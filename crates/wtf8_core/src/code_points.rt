@@ -3,10 +3,12 @@ ghost use Rattle.std.specs.Prelude.{◌≡◌, ℕ, suc, ◌∷◌, ◌+◌, ◌
 ghost use Rattle.wtf8_core.specs.Byte.{needed_continuations};
 ghost use Rattle.std.specs.Iterator.{YieldsFirst, item_count};
 ghost use Rattle.wtf8_core.specs.Items.{AreItems};
-ghost use Rattle.wtf8_core.specs.Reader.{with_continuations, first_item, is_high, is_low, items_after};
+ghost use Rattle.wtf8_core.specs.Surrogate.{is_high};
+ghost use Rattle.wtf8_core.specs.Reader.{with_continuations, first_item, items_after};
 
 use crate::byte::is_continuation;
 use crate::fault::EncodingError;
+use crate::surrogate::{is_high, is_low};
 use std::marker::Model;
 
 /// The code points that bytes spell up to their first fault, and then the fault.
@@ -16,6 +18,9 @@ use std::marker::Model;
 /// is never directly followed by that of a low one. The faults are `Byte`, `CodePoint` and
 /// `End` of [`EncodingError`]. Behind the fault, or behind the last code point, each answer is
 /// `None`. It takes no memory.
+///
+/// Of UTF-8 the code points are those of std's `str::chars`. os_str_bytes 7.2.1 has it as the
+/// private `CodePoints`, over any iterator of bytes.
 ///
 /// The items of ED A0 80 C0 (hexadecimal) are `Ok(0xD800)`, `Err(EncodingError::Byte(0xC0))`.
 #[derive(Drop)]
@@ -67,7 +72,7 @@ impl<'a> Iterator for CodePoints<'a> {
 }
 
 /// The first item of bytes that aren't empty, and the state behind it.
-#[tactic(auto, using(crate::proofs::Reading::reading))]
+#[tactic(auto, using(crate::proofs::lemmas::Reading::reading))]
 #[inline(always)]
 fn next_item(after_high: bool, bytes: &[u8]) -> Option<(Result<u32, EncodingError>, bool, &[u8])>
     ensures { MatchOption result (items_after after_high bytes.now ≡ [])
@@ -119,7 +124,7 @@ fn split_item(
 }
 
 /// The code point or the fault with which `first` and the bytes behind it begin.
-#[tactic(auto, using(crate::proofs::Reading::first_ascii))]
+#[tactic(auto, unfolding(crate::specs::Reader::first_item))]
 #[inline(always)]
 pub(crate) fn first_item(after_high: bool, first: u8, behind: &[u8]) -> Result<u32, EncodingError>
     ensures { result ≡ first_item after_high first behind.now }
@@ -132,7 +137,7 @@ pub(crate) fn first_item(after_high: bool, first: u8, behind: &[u8]) -> Result<u
 }
 
 /// The low bits of the continuation with which the bytes begin, and the bytes behind it.
-#[tactic(auto, using(crate::proofs::Reading::reading))]
+#[tactic(auto, unfolding(crate::specs::Reader::with_continuations))]
 #[inline(always)]
 fn first_continuation(bytes: &[u8]) -> Result<(u32, &[u8]), EncodingError>
     ensures joined { (value n : ℕ) → MatchResult result
@@ -151,7 +156,7 @@ fn first_continuation(bytes: &[u8]) -> Result<(u32, &[u8]), EncodingError>
 }
 
 /// The value with the bits of one continuation joined to it, and the bytes behind that.
-#[tactic(auto, using(crate::proofs::Reading::reading))]
+#[tactic(auto, using(crate::proofs::lemmas::Reading::reading))]
 #[inline(always)]
 fn with_one(value: u32, bytes: &[u8]) -> Result<(u32, &[u8]), EncodingError>
     requires room { value < 2 ^ 16 }
@@ -166,7 +171,7 @@ fn with_one(value: u32, bytes: &[u8]) -> Result<(u32, &[u8]), EncodingError>
 }
 
 /// The value with the bits of two continuations joined to it, and the bytes behind them.
-#[tactic(auto, using(crate::proofs::Reading::reading))]
+#[tactic(auto, using(crate::proofs::lemmas::Reading::reading))]
 #[inline(always)]
 fn with_two(value: u32, bytes: &[u8]) -> Result<(u32, &[u8]), EncodingError>
     requires room { value < 2 ^ 10 }
@@ -181,7 +186,7 @@ fn with_two(value: u32, bytes: &[u8]) -> Result<(u32, &[u8]), EncodingError>
 }
 
 /// The value with the bits of three continuations joined to it, and the bytes behind them.
-#[tactic(auto, using(crate::proofs::Reading::reading))]
+#[tactic(auto, using(crate::proofs::lemmas::Reading::reading))]
 #[inline(always)]
 fn with_three(value: u32, bytes: &[u8]) -> Result<(u32, &[u8]), EncodingError>
     requires room { value < 2 ^ 4 }
@@ -193,18 +198,4 @@ fn with_three(value: u32, bytes: &[u8]) -> Result<(u32, &[u8]), EncodingError>
 {
     let (bits, rest) = first_continuation(bytes)?;
     with_two(value * 0x40 + bits, rest)
-}
-
-#[inline(always)]
-fn is_high(code_point: u32) -> bool
-    ensures { result ≡ is_high code_point }
-{
-    (0xD800..=0xDBFF).contains(&code_point)
-}
-
-#[inline(always)]
-fn is_low(code_point: u32) -> bool
-    ensures { result ≡ is_low code_point }
-{
-    (0xDC00..=0xDFFF).contains(&code_point)
 }

@@ -1,17 +1,22 @@
 //! The bytes of units.
-ghost use Rattle.std.specs.Prelude.{◌≡◌, ◌∷◌, ◌<◌, ◌^◌, [], ℕ, true, IfSome, MatchOption};
+ghost use Rattle.std.specs.Prelude.{◌≡◌, ◌∷◌, ◌<◌, ◌^◌, [], ℕ, IfSome, MatchOption};
 ghost use Rattle.std.specs.Iterator.{YieldsFirst, item_count};
 ghost use Rattle.wtf8_core.specs.CodePoint.{IsCodePoint, form};
 ghost use Rattle.wtf8_core.specs.Wtf8.{HasUnits};
-ghost use Rattle.wtf8_core.specs.Decoder.{is_pair, paired, code_points_of, packed_bytes, decoder_bytes};
+ghost use Rattle.wtf8_core.specs.Decoder.{code_points_of, packed_bytes, decoder_bytes};
 
+use crate::surrogate::{is_pair, paired};
 use std::marker::Model;
 
 /// The bytes that spell 16-bit units: the one WTF-8 list of bytes with these units.
 ///
 /// A high unit and a low one directly behind it are one code point of four bytes (RFC 2781,
-/// section 2.2); every other unit is a code point of its own, a half that stands alone too.
+/// section 2.2); every other unit is a code point of its own, a half that stands alone too (WTF-8).
 /// Behind the last byte each answer is `None`. It takes no memory.
+///
+/// They are the bytes of the string that `std::os::windows::ffi::OsStringExt::from_wide` makes;
+/// where no half stands alone, those of the text that `String::from_utf16` makes. os_str_bytes
+/// 7.2.1 has it as the private `DecodeWide`, over any iterator of units.
 ///
 /// The bytes of D83D, D83D, DE00 (hexadecimal) are ED A0 BD F0 9F 98 80.
 #[derive(Drop)]
@@ -48,26 +53,8 @@ impl<'a> DecodeWide<'a> {
     }
 }
 
-#[inline(always)]
-fn is_pair(high: u16, low: u16) -> bool
-    ensures { result ≡ is_pair high low }
-{
-    (0xD800..=0xDBFF).contains(&high) && (0xDC00..=0xDFFF).contains(&low)
-}
-
-/// The code point of a pair.
-#[tactic(auto, using(crate::proofs::UnitsLemmas::pair_bounds))]
-#[inline(always)]
-fn paired(high: u16, low: u16) -> u32
-    requires { is_pair high low ≡ true }
-    ensures value { result ≡ paired high low }
-    ensures code_point { IsCodePoint result }
-{
-    0x1_0000 + u32::from(high - 0xD800) * 0x400 + u32::from(low - 0xDC00)
-}
-
 /// The first code point of units, and the units behind it.
-#[tactic(auto, using(crate::proofs::DecoderLemmas::decoding))]
+#[tactic(auto, unfolding(crate::specs::Decoder::code_points_of))]
 #[inline(always)]
 fn first_code_point(units: &[u16]) -> Option<(u32, &[u16])>
     ensures { MatchOption result (code_points_of units.now ≡ [])
@@ -83,7 +70,7 @@ fn first_code_point(units: &[u16]) -> Option<(u32, &[u16])>
 }
 
 /// The first byte of a form, and those behind it in one number, the first of them lowest.
-#[tactic(auto, using(crate::proofs::DecoderLemmas::decoding))]
+#[tactic(auto, unfolding(crate::specs::CodePoint::form))]
 #[inline(always)]
 fn split_form(code_point: u32) -> (u8, u32)
     requires { IsCodePoint code_point }
@@ -106,7 +93,7 @@ fn split_form(code_point: u32) -> (u8, u32)
 }
 
 /// The first byte of units, the others of its form in one number, and the units behind it.
-#[tactic(auto, using(crate::proofs::DecoderLemmas::decoding))]
+#[tactic(auto, using(crate::proofs::lemmas::UnitsLemmas::bytes_none, crate::proofs::lemmas::UnitsLemmas::bytes_ascii))]
 #[inline(always)]
 fn next_bytes(units: &[u16]) -> Option<(u8, u32, &[u16])>
     ensures bytes { MatchOption result (decoder_bytes 0 units.now ≡ [])

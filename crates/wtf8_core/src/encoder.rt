@@ -6,12 +6,14 @@ ghost use Rattle.wtf8_core.specs.Encoder.{pending_items, IsCodePointItem};
 
 use crate::code_points::CodePoints;
 use crate::fault::EncodingError;
+use crate::surrogate::pair_units;
 use std::marker::Model;
 
 /// The 16-bit units of the code points that bytes spell up to their first fault, and then the
 /// fault.
 ///
 /// [`encode_wide`] makes it. Behind the fault, or behind the last unit, each answer is `None`.
+/// os_str_bytes 7.2.1 has it as the private `EncodeWide`, over any iterator of bytes.
 #[derive(Drop)]
 pub struct EncodeWide<'a> {
     code_points: CodePoints<'a>,
@@ -39,6 +41,9 @@ impl<'a> Model for EncodeWide<'a> {
 /// [`CodePoints`], unit by unit, with the same fault. It takes no memory. The bytes that
 /// [`DecodeWide`](crate::DecodeWide) gives for units have exactly these units.
 ///
+/// They are the units that `std::os::windows::ffi::OsStrExt::encode_wide` gives of the string
+/// with these bytes; of UTF-8, those of `str::encode_utf16`.
+///
 /// The items of F0 90 80 80 C0 are `Ok(0xD800)`, `Ok(0xDC00)`,
 /// `Err(EncodingError::Byte(0xC0))`.
 #[inline(always)]
@@ -52,7 +57,7 @@ pub fn encode_wide<'a>(bytes: &'a [u8]) -> EncodeWide<'a>
 }
 
 /// The first unit of a code point and the one behind it, or the fault.
-#[tactic(auto, using(crate::proofs::EncoderLemmas::one_unit, crate::proofs::EncoderLemmas::two_units))]
+#[tactic(auto, unfolding(crate::specs::CodePoint::wide))]
 #[inline(always)]
 fn first_unit(item: Result<u32, EncodingError>) -> (Result<u16, EncodingError>, Option<u16>)
     requires { IsCodePointItem item }
@@ -64,10 +69,8 @@ fn first_unit(item: Result<u32, EncodingError>) -> (Result<u16, EncodingError>, 
             if c < 0x1_0000 {
                 return (Ok(c as u16), None);
             }
-            let offset = c - 0x1_0000;
-            let high = 0xD800 + offset / 0x400;
-            let low = 0xDC00 + offset % 0x400;
-            (Ok(high as u16), Some(low as u16))
+            let (high, low) = pair_units(c);
+            (Ok(high), Some(low))
         }
     }
 }

@@ -12,7 +12,8 @@ use std::fmt;
 /// Bytes that aren't WTF-8 have one of the first three faults (RFC 3629, section 3, and WTF-8),
 /// bytes that aren't UTF-8 the last (RFC 3629, section 4). Where a sequence lacks a
 /// continuation, that is its fault, whatever its value would be. Its text says what it is and,
-/// for UTF-8, where.
+/// for UTF-8, where. os_str_bytes 7.2.1 has it under the same name, with std's `Utf8Error` in
+/// the place of the fields of `Utf8`.
 ///
 /// The text of `CodePoint(0xDC00)` is `byte sequence is not representable in the platform
 /// encoding; error at code point U+DC00`.
@@ -36,7 +37,8 @@ pub enum EncodingError {
     End,
     /// The bytes aren't UTF-8: what [`utf8_fault`](crate::utf8_fault) answers for them.
     ///
-    /// 61 E2 82 41 is `Utf8 { valid_up_to: 1, error_len: Some(2) }`.
+    /// 61 E2 82 41 is `Utf8 { valid_up_to: 1, error_len: Some(2) }`, whose text is `invalid
+    /// utf-8 sequence of 2 bytes from index 1`.
     Utf8 {
         /// The length in bytes of the longest front that is UTF-8.
         valid_up_to: usize,

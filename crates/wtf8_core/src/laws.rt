@@ -3,8 +3,10 @@
 //! A caller that needs a law calls its function, as `laws::spelling()`, and so knows it. The
 //! laws speak of lists of numbers: bytes, code points (`cs`, `ds`), units (`us`, `vs`) and
 //! places, which are numbers of bytes.
-ghost use Rattle.std.specs.Prelude.{◌≡◌, ◌⊎◌, ◌+◌, ◌-◌, ◌<◌, ◌≤◌, ◌^◌, ◌++◌, length, take, drop, ℕ, List, Option, Result};
+ghost use Rattle.std.specs.Prelude.{◌≡◌, ◌↔◌, ◌⊎◌, ◌+◌, ◌-◌, ◌<◌, ◌≤◌, ◌^◌, ◌++◌, length, take, drop, map, ℕ, List, Option, Result};
 ghost use Rattle.std.specs.List.{All};
+ghost use Rattle.std.specs.Ordering.{nat_cmp};
+ghost use Rattle.std.specs.Cmp.Lexicographic.{slice_cmp};
 ghost use Rattle.std.specs.Str.{IsUtf8, IsCharBoundary};
 ghost use Rattle.std.specs.Str.Lossy.{utf8_lossy};
 ghost use Rattle.wtf8_core.specs.Byte.{IsByte};
@@ -12,8 +14,11 @@ ghost use Rattle.wtf8_core.specs.Wtf8.{Spells, IsWtf8, HasUnits};
 ghost use Rattle.wtf8_core.specs.Fault.{IsFirstFault};
 ghost use Rattle.wtf8_core.specs.Items.{AreItems};
 ghost use Rattle.wtf8_core.specs.Standing.{StandsAt};
+ghost use Rattle.wtf8_core.specs.StandingLaws.{StandingLaws};
 ghost use Rattle.wtf8_core.specs.Character.{WholeCharacter};
 ghost use Rattle.wtf8_core.specs.Boundary.{IsBoundary};
+ghost use Rattle.wtf8_core.specs.Chunks.{Chunk, AreChunks};
+ghost use Rattle.wtf8_core.specs.Runs.{AreRuns, form_chunk};
 ghost use Rattle.wtf8_core.specs.Utf8.{IsUtf8Fault, part_end};
 ghost use Rattle.wtf8_core.specs.Lossy.{IsLossyText, IsWtf8LossyText};
 ghost use Rattle.wtf8_core.specs.UnitsOf.{units_of, wtf8_lossy};
@@ -37,6 +42,7 @@ pub fn spelled_or_faulty()
 {}
 
 /// Bytes have at most one list of items.
+#[tactic(auto, using(crate::proofs::lemmas::Complete::one_list_of_items))]
 pub fn one_list_of_items()
     ensures { (bytes : List ℕ) → (xs : List (Result ℕ EncodingError)) → (ys : List (Result ℕ EncodingError)) → AreItems bytes xs → AreItems bytes ys → xs ≡ ys }
 {}
@@ -49,33 +55,52 @@ pub fn spelling()
     ensures one_list_of_units { (bytes : List ℕ) → (us : List ℕ) → (vs : List ℕ) → HasUnits bytes us → HasUnits bytes vs → us ≡ vs }
 {}
 
+/// The order of bytes as lists is that of the code points that they spell, and so not that of
+/// their units.
+#[tactic(auto, using(crate::proofs::lemmas::Order::order_of_spelled))]
+pub fn order()
+    ensures { (bytes : List ℕ) → (others : List ℕ) → (cs : List ℕ) → (ds : List ℕ) → Spells bytes cs → Spells others ds
+        → slice_cmp nat_cmp bytes others ≡ slice_cmp nat_cmp cs ds }
+{}
+
 /// The functions of the units and of the lossy text of WTF-8 bytes give what the relations say.
 pub fn functions()
-    ensures units { (bytes : List ℕ) → IsWtf8 bytes → HasUnits bytes (units_of bytes) }
+    ensures units { (bytes : List ℕ) → (us : List ℕ) → HasUnits bytes us ↔ (IsWtf8 bytes × (us ≡ units_of bytes)) }
     ensures lossy { (bytes : List ℕ) → IsWtf8 bytes → IsWtf8LossyText bytes (wtf8_lossy bytes) }
 {}
 
 /// Each byte list has one lossy text by maximal ill-formed parts, which is that of std's
-/// `String::from_utf8_lossy`.
+/// `String::from_utf8_lossy`. It is UTF-8, and so is the lossy text of WTF-8 bytes.
 pub fn lossy_text()
     ensures is_std { (bytes : List ℕ) → IsLossyText bytes (utf8_lossy bytes) }
     ensures only_std { (bytes : List ℕ) → (text : List ℕ) → IsLossyText bytes text → text ≡ utf8_lossy bytes }
+    ensures utf8 { (bytes : List ℕ) → IsUtf8 (utf8_lossy bytes) }
+    ensures wtf8 { (bytes : List ℕ) → IsWtf8 bytes → IsUtf8 (wtf8_lossy bytes) }
 {}
 
-/// Whole characters don't overlap: two are one and the same, or one ends before the other starts.
+/// Bytes have at most one fault of UTF-8.
+#[tactic(auto, using(crate::proofs::lemmas::Utf8Facts::one_utf8_fault))]
+pub fn one_utf8_fault()
+    ensures { (bytes : List ℕ) → (n : ℕ) → (m : ℕ) → (l : Option ℕ) → (k : Option ℕ)
+        → IsUtf8Fault bytes n l → IsUtf8Fault bytes m k → (n ≡ m) × (l ≡ k) }
+{}
+
+/// A whole character has one to four bytes and lies within its string. Whole characters don't
+/// overlap: two are one and the same, or one ends before the other starts.
 pub fn characters()
-    ensures { (s : List ℕ) → (i : ℕ) → (j : ℕ) → (a : ℕ) → (b : ℕ) → WholeCharacter s i j → WholeCharacter s a b
+    ensures fits { (s : List ℕ) → (i : ℕ) → (j : ℕ) → WholeCharacter s i j → (i + 1 ≤ j) × (j ≤ i + 4) × (j ≤ length s) }
+    ensures apart { (s : List ℕ) → (i : ℕ) → (j : ℕ) → (a : ℕ) → (b : ℕ) → WholeCharacter s i j → WholeCharacter s a b
         → ((i ≡ a) × (j ≡ b)) ⊎ ((j ≤ a) ⊎ (b ≤ i)) }
 {}
 
 /// Where a text stands that isn't empty, both its edges are boundaries. Of two boundaries the
 /// first is one of the front up to the second, the second one of the rest from the first on.
-/// Of a text each boundary is one of a `str`.
+/// Of a text the boundaries are those of a `str` (std's `is_char_boundary`).
 pub fn boundaries()
     ensures edges { (p : List ℕ) → (s : List ℕ) → (i : ℕ) → IsUtf8 p → 0 < length p → StandsAt p s i → IsBoundary s i × IsBoundary s (i + length p) }
     ensures in_front { (s : List ℕ) → (i : ℕ) → (j : ℕ) → i ≤ j → IsBoundary s i → IsBoundary s j → IsBoundary (take j s) i }
     ensures in_rest { (s : List ℕ) → (i : ℕ) → (j : ℕ) → i ≤ j → IsBoundary s i → IsBoundary s j → IsBoundary (drop i s) (j - i) }
-    ensures of_str { (s : List ℕ) → (i : ℕ) → IsUtf8 s → IsBoundary s i → IsCharBoundary s i }
+    ensures of_str { (s : List ℕ) → (i : ℕ) → IsUtf8 s → (IsBoundary s i ↔ IsCharBoundary s i) }
 {}
 
 /// The law of cuts: at a boundary both parts of WTF-8 bytes are WTF-8, and their units joined
@@ -91,4 +116,20 @@ pub fn cuts()
 pub fn ill_formed_parts()
     ensures { (s : List ℕ) → (valid_up_to : ℕ) → (error_len : Option ℕ) → IsUtf8Fault s valid_up_to error_len
         → (i : ℕ) → (j : ℕ) → WholeCharacter s i j → (j ≤ valid_up_to) ⊎ (part_end s valid_up_to error_len ≤ i) }
+{}
+
+/// The laws of standing and of joins: a text that isn't empty stands in WTF-8 bytes exactly where
+/// its units stand in their units, and what stands before it or behind it is WTF-8 again; some
+/// WTF-8 bytes have the units of two joined.
+pub fn standing()
+    ensures { StandingLaws IsWtf8 units_of }
+{}
+
+/// A string has exactly one list of chunks. On WTF-8 its chunks are the bytes of the maximal
+/// runs of surrogates of the code points that it spells, each with the scalars behind it.
+pub fn chunks()
+    ensures some { (s : List ℕ) → (chunks : List Chunk) × AreChunks s chunks }
+    ensures once { (s : List ℕ) → (chunks : List Chunk) → (others : List Chunk) → AreChunks s chunks → AreChunks s others → chunks ≡ others }
+    ensures runs { (s : List ℕ) → (cs : List ℕ) → (chunks : List Chunk) → Spells s cs → AreChunks s chunks
+        → (runs : List Chunk) × (AreRuns cs runs × (chunks ≡ map form_chunk runs)) }
 {}

@@ -5,11 +5,14 @@ ghost use Rattle.wtf8_core.specs.Utf8.{IsUtf8Fault};
 
 /// The first fault of bytes that aren't UTF-8, `None` for UTF-8 (RFC 3629, section 4).
 ///
-/// The first number is the length in bytes of the longest front that is UTF-8, and so the byte
-/// place of the fault. The second is the length of the maximal ill-formed part that begins
-/// there, one to three bytes, or `None` where the bytes end within a character and might go on.
-/// That part is the longest front of the rest with which some character begins, and one byte
-/// where there is none. The numbers are those of std's `Utf8Error`.
+/// Equivalent to `str::from_utf8(bytes).err()`: the two numbers are those that std's
+/// `Utf8Error` has as `valid_up_to` and `error_len`.
+///
+/// The first is the length in bytes of the longest front that is UTF-8, and so the byte place
+/// of the fault. The second is the length of the maximal ill-formed part that begins there (a
+/// maximal subpart; Unicode, section 3.9), one to three bytes, or `None` where the bytes end
+/// within a character and might go on. That part is the longest front of the rest with which
+/// some character begins, and one byte where there is none.
 ///
 /// `utf8_fault(b"a\xE2\x82A")` is `Some((1, Some(2)))`, `utf8_fault(b"a\xE2\x82")` is
 /// `Some((1, None))`.

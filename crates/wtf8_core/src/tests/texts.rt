@@ -14,10 +14,6 @@ fn texts_of_faults(rt: HostRuntime) -> Result<(), Fail> {
             "byte sequence is not representable in the platform encoding; error at byte b'\\x0A'",
         ),
         (
-            EncodingError::CodePoint(0xDC00),
-            "byte sequence is not representable in the platform encoding; error at code point U+DC00",
-        ),
-        (
             EncodingError::CodePoint(0),
             "byte sequence is not representable in the platform encoding; error at code point U+0000",
         ),
@@ -28,13 +24,6 @@ fn texts_of_faults(rt: HostRuntime) -> Result<(), Fail> {
         (
             EncodingError::End,
             "byte sequence is not representable in the platform encoding; error at end of string",
-        ),
-        (
-            EncodingError::Utf8 {
-                valid_up_to: 12,
-                error_len: Some(1),
-            },
-            "invalid utf-8 sequence of 1 bytes from index 12",
         ),
         (
             EncodingError::Utf8 {

@@ -1,7 +1,7 @@
 //! Units of bytes, and the bytes of units.
 use crate::EncodingError::{Byte, CodePoint, End};
 use crate::tests::gives;
-use crate::{DecodeWide, EncodingError, encode_wide};
+use crate::{DecodeWide, EncodingError, encode_wide, pair_between};
 use std::process::Abort;
 use std::test::Fail;
 
@@ -33,9 +33,8 @@ fn units_up_to_the_first_fault(rt: HostRuntime) {
 
 #[test]
 fn units_and_their_bytes(rt: HostRuntime) {
-    let table: [(&[u16], &[u8]); 15] = [
+    let table: [(&[u16], &[u8]); 13] = [
         (&[], b""),
-        (&[0xE9], b"\xC3\xA9"),
         (&[0x20AC], b"\xE2\x82\xAC"),
         (&[0xD800], b"\xED\xA0\x80"),
         (&[0xD83D], b"\xED\xA0\xBD"),
@@ -47,7 +46,6 @@ fn units_and_their_bytes(rt: HostRuntime) {
         (&[0xD83D, 0xDE00], b"\xF0\x9F\x98\x80"),
         (&[0xDC00, 0xD800], b"\xED\xB0\x80\xED\xA0\x80"),
         (&[0x20AC, 0x41], b"\xE2\x82\xACA"),
-        (&[0xD83D, 0xD83D, 0xDE00], b"\xED\xA0\xBD\xF0\x9F\x98\x80"),
         (&[0xD83D, 0xDE00, 0xDE00], b"\xF0\x9F\x98\x80\xED\xB8\x80"),
     ];
     for (units, bytes) in table {
@@ -85,4 +83,17 @@ fn has_units(rt: &impl Abort, bytes: &[u8], units: &[u16]) {
         assert!(rt; items.next() == Some(Ok(*unit)), "of {units:?}");
     }
     assert!(rt; items.next() == None, "behind {units:?}");
+}
+
+#[test]
+fn pairs_between_strings(rt: HostRuntime) {
+    let high = b"A\xED\xA0\xBD";
+    let low = b"\xED\xB8\x80A";
+    assert_eq!(rt; pair_between(high, low), Some(0x1_F600));
+    assert_eq!(rt; pair_between(low, high), None);
+    assert_eq!(rt; pair_between(high, high), None);
+    assert_eq!(rt; pair_between(low, low), None);
+    assert_eq!(rt; pair_between(high, b"\xF0\x9F\x98\x80"), None);
+    assert_eq!(rt; pair_between(b"\xF0\x9F\x98\x80", low), None);
+    assert_eq!(rt; pair_between(high, b""), None);
 }

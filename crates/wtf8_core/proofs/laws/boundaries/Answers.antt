@@ -1,6 +1,6 @@
-use Rattle.wtf8_core.proofs.Cuts.{char_boundary}
-use Rattle.wtf8_core.proofs.Edges.{edges_of_text}
-use Rattle.wtf8_core.proofs.Overlaps.{boundary_in_front, boundary_in_rest}
+use Rattle.wtf8_core.proofs.lemmas.Cuts.{char_boundary, boundary_of_str}
+use Rattle.wtf8_core.proofs.lemmas.Edges.{edges_of_text}
+use Rattle.wtf8_core.proofs.lemmas.Overlaps.{boundary_in_front, boundary_in_rest}
 use Rattle.wtf8_core.proofs.laws.boundaries.Goals as goal
 
 pub returns-clause-edges : goal.returns-clause-edges
@@ -13,4 +13,4 @@ pub returns-clause-in_rest : goal.returns-clause-in_rest
 returns-clause-in_rest c = boundary_in_rest
 
 pub returns-clause-of_str : goal.returns-clause-of_str
-returns-clause-of_str c = char_boundary
+returns-clause-of_str c = λ s i u. (char_boundary s i u, boundary_of_str s i u)

@@ -1,5 +1,9 @@
-use Rattle.wtf8_core.proofs.Overlaps.{apart}
+use Rattle.wtf8_core.proofs.lemmas.Characters.{character_fits}
+use Rattle.wtf8_core.proofs.lemmas.Overlaps.{apart}
 use Rattle.wtf8_core.proofs.laws.characters.Goals as goal
 
-pub returns : goal.returns
-returns c = apart
+pub returns-clause-fits : goal.returns-clause-fits
+returns-clause-fits c = character_fits
+
+pub returns-clause-apart : goal.returns-clause-apart
+returns-clause-apart c = apart

@@ -1,4 +1,4 @@
-use Rattle.wtf8_core.proofs.Utf8Lemmas.{fault_of}
+use Rattle.wtf8_core.proofs.lemmas.Utf8Lemmas.{fault_of}
 use Rattle.wtf8_core.proofs.utf8.utf8_fault.Goals as goal
 
 pub returns-in-Some : goal.returns-in-Some

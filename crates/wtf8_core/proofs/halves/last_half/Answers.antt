@@ -1,0 +1,15 @@
+use Rattle.std.proofs.Common.{arith}
+use Rattle.wtf8_core.proofs.lemmas.HalvesAtEdges.{four_long, too_short, no_past_form, half_of}
+use Rattle.wtf8_core.proofs.halves.last_half.Goals as goal
+
+pub returns-in_default : goal.returns-in_default
+returns-in_default c = λ front d h e. too_short c.args.string.now front _ 4 c.in_default.ensures.cases (four_long d h) e
+
+pub returns-then-lead-lt240 : goal.returns-then-lead-lt240
+returns-then-lead-lt240 c = λ front d h e. no_past_form c.args.string.now c.in-Some.last.now front d c.in-Some.ensures.cases.1 h e c.if-lead-lt240.true
+
+pub returns : goal.returns
+returns c =
+    let cases = c.in-Some.ensures.cases in
+    let w = half_of c.args.string.now c.in-Some.last.now c.requires (omega (arith, cases.2)) cases.1 c.if-lead-lt240.false in
+    rw (c.from.ensures, c.from-2.ensures) w

@@ -1,0 +1,11 @@
+use Rattle.std.proofs.Common.{◌∙◌, subst, sym}
+use Rattle.wtf8_core.specs.Surrogate.{IsHigh}
+use Rattle.wtf8_core.proofs.lemmas.Ranges.{in_range-false, high_surrogate}
+use Rattle.wtf8_core.proofs.lemmas.Forms.{length-form_surrogate}
+use Rattle.wtf8_core.proofs.lemmas.HalvesAtEdges.{same_last}
+use Rattle.wtf8_core.proofs.halves.split_last_high.Goals as goal
+
+pub returns-else-is_high : goal.returns-else-is_high
+returns-else-is_high c = λ other d h e.
+    let q = same_last c.args.string.now _ other c.in-Some.c d c.in-Some.ensures.1 e (length-form_surrogate c.in-Some.c c.in-Some.ensures.0 ∙ sym (length-form_surrogate d (high_surrogate d h))) in
+    in_range-false _ _ _ (sym c.is_high.ensures ∙ c.if-is_high.false) (subst IsHigh (sym (c.from.ensures ∙ q)) h)

@@ -1,0 +1,105 @@
+-- What a caller that stops at the first `Err` knows. None of these statements speaks of what comes behind that `Err`.
+use Rattle.std.proofs.Common.{◌≡◌, ℕ, List, [], ◌∷◌, ◌++◌, map, Result, Ok, Err, refl, sym, ap, ◌∙◌, subst, append_assoc}
+use Rattle.std.specs.List.{AllByRecursion, flat_map}
+use Rattle.std.proofs.lemmas.List.{append-nil, map-append}
+use Rattle.wtf8_core.specs.CodePoint.{IsCodePoint, wide}
+use Rattle.wtf8_core.specs.Wtf8.{Spells, HasUnits, units}
+use Rattle.wtf8_core.specs.Fault.{IsFirstFault}
+use Rattle.wtf8_core.specs.Items.{AreItems, AreUnitItems, unit_items}
+use Rattle.wtf8_core.specs.Items.AreItems.{Whole, Faulty}
+use Rattle.wtf8_core.specs.Encoder.{IsCodePointItem}
+use Rattle.wtf8_core.specs.declared.fault.EncodingError.{EncodingError}
+
+-- an item of bytes
+abbrev Item : Type 0
+Item = Result ℕ EncodingError
+
+-- items that are all code points
+abbrev pub oks : List ℕ → List (Result ℕ EncodingError)
+oks cs = map Ok cs
+
+-- items that are all Ok have no fault
+pub no_err : (cs ds : List ℕ) (f : EncodingError) (later : List Item) → oks cs ≡ oks ds ++ Err f ∷ later → ⊥
+no_err [] [] f l e = cc
+no_err [] (d ∷ ds) f l e = cc
+no_err (c ∷ cs) [] f l e = cc
+no_err (c ∷ cs) (d ∷ ds) f l e = no_err cs ds f l (cc)
+
+-- items before a fault, and the fault, are decided by the list
+pub same_faulty : (cs ds : List ℕ) (f g : EncodingError) (l m : List Item) → oks cs ++ Err f ∷ l ≡ oks ds ++ Err g ∷ m → (cs ≡ ds) × (f ≡ g) × (l ≡ m)
+same_faulty [] [] f g l m e = (refl, cc, cc)
+same_faulty [] (d ∷ ds) f g l m e = cc
+same_faulty (c ∷ cs) [] f g l m e = cc
+same_faulty (c ∷ cs) (d ∷ ds) f g l m e = let u = same_faulty cs ds f g l m (cc) in (cc (u.0), u.1, u.2)
+
+-- and so are items that are all Ok
+pub same_oks : (cs ds : List ℕ) → oks cs ≡ oks ds → cs ≡ ds
+same_oks [] [] e = refl
+same_oks [] (d ∷ ds) e = cc
+same_oks (c ∷ cs) [] e = cc
+same_oks (c ∷ cs) (d ∷ ds) e = cc (same_oks cs ds (cc))
+
+-- one more item was Ok: for the invariant of a loop
+pub one_more_ok : (cs : List ℕ) (c : ℕ) (rest : List (Result ℕ EncodingError)) → oks cs ++ Ok c ∷ rest ≡ oks (cs ++ c ∷ []) ++ rest
+one_more_ok [] c rest = refl
+one_more_ok (x ∷ cs) c rest = ap (λ l. Ok x ∷ l) (one_more_ok cs c rest)
+
+-- bytes whose items are all Ok spell them
+pub items_all_ok : (bytes cs : List ℕ) → AreItems bytes (oks cs) → Spells bytes cs
+items_all_ok bytes cs (Whole r) = subst (Spells bytes) (sym (same_oks cs r.code_points r.are)) r.spelled
+items_all_ok bytes cs (Faulty r) = absurd (no_err cs r.code_points r.fault [] r.are)
+
+-- the first Err is the first fault
+pub items_first_err : (bytes cs : List ℕ) (f : EncodingError) (rest : List (Result ℕ EncodingError)) → AreItems bytes (oks cs ++ Err f ∷ rest) → IsFirstFault bytes cs f
+items_first_err bytes cs f rest (Whole r) = absurd (no_err r.code_points cs f rest (sym r.are))
+items_first_err bytes cs f rest (Faulty r) =
+    let s = same_faulty cs r.code_points f r.fault rest [] r.are in
+    subst (λ x. IsFirstFault bytes cs x) (sym s.1) (subst (λ x. IsFirstFault bytes x r.fault) (sym s.0) r.first)
+
+-- the same for units
+units_of_oks : (cs : List ℕ) (rest : List Item) → flat_map unit_items (oks cs ++ rest) ≡ oks (units cs) ++ flat_map unit_items rest
+units_of_oks [] rest = refl
+units_of_oks (c ∷ cs) rest =
+    ap (λ l. oks (wide c) ++ l) (units_of_oks cs rest)
+    ∙ sym (append_assoc (oks (wide c)) (oks (units cs)) (flat_map unit_items rest))
+    ∙ ap (λ l. l ++ flat_map unit_items rest) (sym (map-append Ok (wide c) (units cs)))
+
+-- the units of items that are all Ok
+pub units_whole : (cs : List ℕ) (items : List Item) → items ≡ oks cs → flat_map unit_items items ≡ oks (units cs)
+units_whole cs items e = ap (flat_map unit_items) (e ∙ sym (append-nil (oks cs))) ∙ units_of_oks cs [] ∙ append-nil (oks (units cs))
+
+units_all : (bytes us : List ℕ) (items : List Item) → AreItems bytes items → oks us ≡ flat_map unit_items items → HasUnits bytes us
+units_all bytes us items (Whole r) e = record { code_points = r.code_points; spelled = r.spelled; are = same_oks us (units r.code_points) (e ∙ units_whole r.code_points items r.are) }
+units_all bytes us items (Faulty r) e =
+    absurd (no_err us (units r.code_points) r.fault [] (e ∙ ap (flat_map unit_items) r.are ∙ units_of_oks r.code_points (Err r.fault ∷ [])))
+
+-- bytes whose unit items are all Ok have these units
+pub units_all_ok : (bytes us : List ℕ) → AreUnitItems bytes (oks us) → HasUnits bytes us
+units_all_ok bytes us w = units_all bytes us w.items w.are_items w.are
+
+-- the code points before the first fault, and their units
+pub record UnitsBefore (bytes us : List ℕ) (f : EncodingError) : Type 0 where
+  pub code_points : List ℕ
+  pub first : IsFirstFault bytes code_points f
+  pub are : us ≡ units code_points
+
+units_err : (bytes us : List ℕ) (f : EncodingError) (rest items : List Item) → AreItems bytes items → oks us ++ Err f ∷ rest ≡ flat_map unit_items items → UnitsBefore bytes us f
+units_err bytes us f rest items (Whole r) e = absurd (no_err (units r.code_points) us f rest (sym (e ∙ units_whole r.code_points items r.are)))
+units_err bytes us f rest items (Faulty r) e =
+    let s = same_faulty us (units r.code_points) f r.fault rest [] (e ∙ ap (flat_map unit_items) r.are ∙ units_of_oks r.code_points (Err r.fault ∷ [])) in
+    record { code_points = r.code_points; first = subst (IsFirstFault bytes r.code_points) (sym s.1) r.first; are = s.0 }
+
+-- the units before the first Err, and its fault
+pub units_first_err : (bytes us : List ℕ) (f : EncodingError) (rest : List (Result ℕ EncodingError)) → AreUnitItems bytes (oks us ++ Err f ∷ rest) → UnitsBefore bytes us f
+units_first_err bytes us f rest w = units_err bytes us f rest w.items w.are_items w.are
+
+-- items that are code points, and so those of bytes
+oks_are_code_points : (cs : List ℕ) (rest : List Item) → AllByRecursion IsCodePoint cs → AllByRecursion IsCodePointItem rest → AllByRecursion IsCodePointItem (oks cs ++ rest)
+oks_are_code_points [] rest a h = h
+oks_are_code_points (c ∷ cs) rest a h = (a.0, oks_are_code_points cs rest a.1 h)
+
+pub items_are_code_points : (bytes : List ℕ) (items : List Item) → AreItems bytes items → AllByRecursion IsCodePointItem items
+items_are_code_points bytes items (Whole r) =
+    subst (AllByRecursion IsCodePointItem) (sym (r.are ∙ sym (append-nil (oks r.code_points)))) (oks_are_code_points r.code_points [] r.spelled.code_points tt)
+items_are_code_points bytes items (Faulty r) =
+    subst (AllByRecursion IsCodePointItem) (sym r.are) (oks_are_code_points r.code_points (Err r.fault ∷ []) r.first.spelled.code_points (tt, tt))

@@ -1,0 +1,59 @@
+-- The order of bytes is that of the code points that they spell.
+use Rattle.std.proofs.Common.{◌≡◌, ⊎_elim, ℕ, ◌<◌, List, [], ◌∷◌, ◌++◌, refl, sym, ap, ◌∙◌, arith}
+use Rattle.std.specs.Ordering.{nat_cmp, ordering_then, ordering_reverse}
+use Rattle.std.specs.Cmp.{nat_cmp_is}
+use Rattle.std.specs.Cmp.Lexicographic.{slice_cmp, nat_list_cmp_total}
+use Rattle.std.specs.declared.cmp.Ordering.{Ordering}
+use Rattle.std.specs.declared.cmp.Ordering.TheVariants.{Less, Equal, Greater}
+use Rattle.std.specs.List.{flat_map}
+use Rattle.std.proofs.lemmas.Bool.{cases_order}
+use Rattle.std.proofs.lemmas.Bool.Decides.{nat_tests}
+use Rattle.wtf8_core.specs.CodePoint.{form}
+use Rattle.wtf8_core.specs.Wtf8.{Spells}
+
+-- the lexicographic order
+abbrev Cmp : List ℕ → List ℕ → Ordering
+Cmp = slice_cmp nat_cmp
+
+-- a smaller number is less, and equal ones are equal
+cmp_less : (x y : ℕ) → x < y → nat_cmp x y ≡ Less
+cmp_less x y h = sym (nat_cmp_is x y Less h)
+
+cmp_equal : (x y : ℕ) → x ≡ y → nat_cmp x y ≡ Equal
+cmp_equal x y h = sym (nat_cmp_is x y Equal h)
+
+-- the form of a smaller code point is less, whatever stands behind
+form_less : (c d : ℕ) (xs ys : List ℕ) → c < d → Cmp (form c ++ xs) (form d ++ ys) ≡ Less
+unfolding form
+form_less c d xs ys h = grind (arith, nat_tests, cmp_less, cmp_equal)
+
+-- no form is empty
+empty_less : (d : ℕ) (ys : List ℕ) → Cmp [] (form d ++ ys) ≡ Less
+unfolding form
+empty_less d ys = grind (arith, nat_tests)
+
+-- what stands behind equal fronts decides
+same_front : (zs xs ys : List ℕ) → Cmp (zs ++ xs) (zs ++ ys) ≡ Cmp xs ys
+same_front [] xs ys = refl
+same_front (z ∷ zs) xs ys = ap (λ o. ordering_then o (Cmp (zs ++ xs) (zs ++ ys))) (cmp_equal z z refl) ∙ same_front zs xs ys
+
+reversed : (xs ys : List ℕ) → Cmp ys xs ≡ Less → Cmp xs ys ≡ Greater
+reversed xs ys e = nat_list_cmp_total.antisymm xs ys ∙ ap ordering_reverse e
+
+-- forms stand in the order of their code points
+order_of_forms : (cs ds : List ℕ) → Cmp (flat_map form cs) (flat_map form ds) ≡ Cmp cs ds
+order_of_forms [] [] = refl
+order_of_forms [] (d ∷ ds) = empty_less d (flat_map form ds)
+order_of_forms (c ∷ cs) [] = reversed (form c ++ flat_map form cs) [] (empty_less c (flat_map form cs))
+order_of_forms (c ∷ cs) (d ∷ ds) =
+    let x = flat_map form cs in
+    let y = flat_map form ds in
+    let first = λ (o : Ordering). ordering_then o (Cmp cs ds) in
+    ⊎_elim
+    (λ e. ap (λ n. Cmp (form c ++ x) (form n ++ y)) (sym e) ∙ same_front (form c) x y ∙ order_of_forms cs ds ∙ sym (ap first (cmp_equal c d e)))
+    (⊎_elim (λ h. form_less c d x y h ∙ sym (ap first (cmp_less c d h))) (λ h. reversed (form c ++ x) (form d ++ y) (form_less d c y x h) ∙ ap first (nat_cmp_is c d Greater h)))
+    (cases_order c d)
+
+-- and so do the bytes that spell them
+pub order_of_spelled : (b a cs ds : List ℕ) → Spells b cs → Spells a ds → Cmp b a ≡ Cmp cs ds
+order_of_spelled b a cs ds s t = ap (λ x. Cmp x a) s.joined ∙ ap (Cmp (flat_map form cs)) t.joined ∙ order_of_forms cs ds

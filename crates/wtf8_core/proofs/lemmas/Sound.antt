@@ -1,0 +1,133 @@
+-- Any bytes are forms up to their end or a fault, so the reader's items are those of the definitions.
+use Rattle.std.proofs.Common.{◌≡◌, ◌⊎◌, inl, inr, ⊎_elim, ℕ, zero, suc, ◌+◌, ◌≤◌, false, List, [], ◌∷◌, ◌++◌, length, drop, Result, Ok, Err, refl, sym, ap, ◌∙◌, subst, arith, append_assoc, length-append, Fits, w8, get_or}
+use Rattle.std.proofs.Math.Seq.{drop-append_seam}
+use Rattle.std.proofs.lemmas.Bool.{cases_lt}
+use Rattle.std.proofs.lemmas.List.{append-nil}
+use Rattle.std.proofs.lemmas.List.Elements.{All-drop, All-from_get_or}
+use Rattle.std.specs.List.{All, AllByRecursion, flat_map}
+use Rattle.wtf8_core.specs.Byte.{IsByte, needed_continuations}
+use Rattle.wtf8_core.specs.Surrogate.{IsHigh, IsLow, is_high}
+use Rattle.wtf8_core.specs.CodePoint.{IsCodePoint, form}
+use Rattle.wtf8_core.specs.Wtf8.{IsPairedFree, last_behind, IsWtf8}
+use Rattle.wtf8_core.specs.Fault.{IsBegun, IsShape, shape_value, BeginsFault, IsFirstFault}
+use Rattle.wtf8_core.specs.Items.{AreItems}
+use Rattle.wtf8_core.specs.Items.AreItems.{Whole, Faulty}
+use Rattle.wtf8_core.specs.Reader.{least_value, behind_item, first_item, items_behind, items_after}
+use Rattle.wtf8_core.proofs.lemmas.Ranges.{range_cases}
+use Rattle.wtf8_core.proofs.lemmas.Forms.{form_ascii, form_bounds, shape_is_form, no_form}
+use Rattle.wtf8_core.proofs.lemmas.Continuations.{Stops, split}
+use Rattle.wtf8_core.proofs.lemmas.Continuations.Stops.{whole, ends, breaks}
+use Rattle.wtf8_core.proofs.lemmas.Reading.{items-ok}
+use Rattle.wtf8_core.proofs.lemmas.Complete.{item_of_form, items_of_fault, items_if}
+use Rattle.wtf8_core.specs.declared.fault.EncodingError.{EncodingError}
+use Rattle.wtf8_core.specs.declared.fault.EncodingError.TheVariants.{Byte, CodePoint, End}
+
+-- behind the code point p the bytes begin with a form
+pub record BeginsForm (p : ℕ) (bs : List ℕ) : Type 0 where
+  pub c : ℕ
+  pub rest : List ℕ
+  pub code_point : IsCodePoint c
+  pub free : IsHigh p → IsLow c → ⊥
+  pub is : bs ≡ form c ++ rest
+
+-- with a fault
+abbrev SomeFault : ℕ → List ℕ → Type 0
+SomeFault p bs = (f : EncodingError) × BeginsFault p bs f
+
+-- a shape is a form or a fault
+of_shape : (p b : ℕ) (ks rest : List ℕ) → IsShape b ks → BeginsForm p (b ∷ ks ++ rest) ⊎ SomeFault p (b ∷ ks ++ rest)
+of_shape p b ks rest s =
+    ⊎_elim (λ low. bad (inl (no_form b ks s (inl low))))
+    (λ least. ⊎_elim (λ high. bad (inl (no_form b ks s (inr high))))
+    (λ most. let f = shape_is_form b ks s least in
+    let low : IsLow v ⊎ (IsLow v → ⊥) = range_cases _ _ v in
+    let high : IsHigh p ⊎ (IsHigh p → ⊥) = range_cases _ _ p in
+    let good : (IsHigh p → IsLow v → ⊥) → BeginsForm p (b ∷ ks ++ rest) = λ free. record { c = v; rest = rest; code_point = most; free = free; is = ap (λ l. l ++ rest) (sym f) } in
+    ⊎_elim (λ h. ⊎_elim (λ l. bad (inr (f, l, h))) (λ l. inl (good (λ _. l))) low) (λ h. inl (good (λ k _. h k))) high)
+    (cases_lt 0x10_FFFF v))
+    (cases_lt v (least_value (needed_continuations b)))
+  where
+    v : ℕ
+    v = shape_value b ks
+
+    bad : ((c : ℕ) → IsCodePoint c → ¬ (form c ≡ b ∷ ks)) ⊎ ((form v ≡ b ∷ ks) × IsLow v × IsHigh p) → BeginsForm p (b ∷ ks ++ rest) ⊎ SomeFault p (b ∷ ks ++ rest)
+    bad w = inr (CodePoint v, record { refused = b ∷ ks; rest = rest; is = refl; refusal = record { lead = b; behind = ks; is = refl; shape = s; value_is = refl; bad = w } })
+
+-- what stands behind a lead
+of_lead : (p b : ℕ) (ks rest : List ℕ) → IsBegun b ks → Stops (needed_continuations b) ks rest → BeginsForm p (b ∷ ks ++ rest) ⊎ SomeFault p (b ∷ ks ++ rest)
+of_lead p b ks rest g (whole e) = of_shape p b ks rest (record { begun = g; whole = e })
+of_lead p b ks rest g (ends h) = inr (End, record { refused = b ∷ ks; rest = []; is = refl; refusal = (record { lead = b; behind = ks; is = refl; begun = g; short = h }, refl) })
+of_lead p b ks rest g (breaks x t h k) =
+    inr (Byte x, record { refused = b ∷ ks; rest = x ∷ t; is = refl; refusal = inr (record { begun = record { lead = b; behind = ks; is = refl; begun = g; short = h }; after = t; next = refl; breaks = k }) })
+
+-- any byte begins a form or a fault
+begins : (p b : ℕ) (bs : List ℕ) → IsByte b → BeginsForm p (b ∷ bs) ⊎ SomeFault p (b ∷ bs)
+begins p b bs u =
+    ⊎_elim (λ h. inl (record { c = b; rest = bs; code_point = omega arith; free = λ i j. omega (arith, j.0); is = ap (λ l. l ++ bs) (sym (form_ascii b h)) }))
+    (λ l. ⊎_elim (λ h. inr (Byte b, record { refused = b ∷ []; rest = bs; is = refl; refusal = inl (record { is = refl; stray = (l, omega arith) }) }))
+    (λ m. let s = split (needed_continuations b) bs in
+    subst (λ x. BeginsForm p (b ∷ x) ⊎ SomeFault p (b ∷ x)) (sym s.is) (of_lead p b s.behind s.rest (record { lead_is = (m, omega arith); continued = s.continued }) s.stops))
+    (cases_lt b 0xC2))
+    (cases_lt b 0x80)
+
+-- forms behind the code point p, and where they stop
+record Run (p : ℕ) (bs : List ℕ) : Type 0 where
+  cs : List ℕ
+  from : List ℕ
+  points : AllByRecursion IsCodePoint cs
+  free : IsPairedFree (p ∷ cs)
+  joined : bs ≡ flat_map form cs ++ from
+  stop : (from ≡ []) ⊎ SomeFault (last_behind p cs) from
+
+-- one more form in front
+one_more : (p : ℕ) (bs : List ℕ) → (i : BeginsForm p bs) → Run i.c i.rest → Run p bs
+one_more p bs i r = record {
+  cs = i.c ∷ r.cs;
+  from = r.from;
+  points = (i.code_point, r.points);
+  free = (i.free, r.free);
+  joined = i.is ∙ ap (λ x. form i.c ++ x) r.joined ∙ sym (append_assoc (form i.c) (flat_map form r.cs) r.from);
+  stop = r.stop;
+}
+
+-- any bytes are a run
+run : (n p : ℕ) (bs : List ℕ) → length bs ≤ n → All IsByte bs → Run p bs
+run n p [] h a = record { cs = []; from = []; points = tt; free = (tt, tt); joined = refl; stop = inl refl }
+run zero p (b ∷ bs) h a = absurd (omega arith)
+run (suc n) p (b ∷ bs) h a = ⊎_elim (more (λ q r. run n q r)) (λ f. record { cs = []; from = b ∷ bs; points = tt; free = (tt, tt); joined = refl; stop = inr f }) (begins p b bs (a 0 0 (omega arith)))
+  where
+    more : ((q : ℕ) (rest : List ℕ) → length rest ≤ n → All IsByte rest → Run q rest) → BeginsForm p (b ∷ bs) → Run p (b ∷ bs)
+    more go i =
+        let l = form_bounds i.c in
+        let e : length (b ∷ bs) ≡ length (form i.c) + length i.rest = ap length i.is ∙ length-append (form i.c) i.rest in
+        one_more p (b ∷ bs) i (go i.c i.rest (omega arith) (subst (All IsByte) (ap (drop (length (form i.c))) i.is ∙ drop-append_seam (form i.c) i.rest) (All-drop IsByte (length (form i.c)) (b ∷ bs) a)))
+
+-- bytes are WTF-8 or have a first fault
+pub either : (bs : List ℕ) → All IsByte bs → IsWtf8 bs ⊎ ((cs : List ℕ) × (f : EncodingError) × IsFirstFault bs cs f)
+either bs a =
+    let r = run (length bs) 0 bs (omega arith) a in
+    ⊎_elim (λ e. inl (r.cs, record { code_points = r.points; paired_free = r.free.1; joined = r.joined ∙ ap (λ x. flat_map form r.cs ++ x) e ∙ append-nil (flat_map form r.cs) }))
+    (λ w. inr (r.cs, w.0, record { before = flat_map form r.cs; from = r.from; joined = r.joined; spelled = record { code_points = r.points; paired_free = r.free.1; joined = refl }; begins = w.1 }))
+    r.stop
+
+-- the reader's items are those of the definitions
+pub items_of_bytes : (bs : List ℕ) → All IsByte bs → AreItems bs (items_after false bs)
+items_of_bytes bs a =
+    ⊎_elim (λ w. by _ (Whole (record { code_points = w.0; spelled = w.1; are = refl })))
+    (λ w. by _ (Faulty (record { code_points = w.0; fault = w.1; first = w.2; are = refl })))
+    (either bs a)
+  where
+    by : (items : List (Result ℕ EncodingError)) → AreItems bs items → AreItems bs (items_after false bs)
+    by items w = subst (AreItems bs) (sym (items_if bs items w)) w
+
+pub items_sound : (bs : List ℕ) → ((i : ℕ) → Fits w8 (get_or bs i 0)) → AreItems bs (items_after false bs)
+items_sound bs h = items_of_bytes bs (All-from_get_or IsByte bs 0 (λ i _. omega (arith, h i)))
+
+-- where the first item is a code point, its form stands at the front
+pub first_form : (b c : ℕ) (bs : List ℕ) → IsByte b → first_item false b bs ≡ Ok c → (rest : List ℕ) × IsCodePoint c × (b ∷ bs ≡ form c ++ rest)
+first_form b c bs u e = ⊎_elim
+    (λ i. let q : Ok c ∷ items_behind (behind_item b bs) (is_high c) bs ≡ Ok i.c ∷ items_behind 0 (is_high i.c) i.rest = sym (items-ok false b c bs e) ∙ ap (items_behind 0 false) i.is ∙ item_of_form 0 i.c i.rest i.code_point i.free in
+    let same : i.c ≡ c = cc in
+    (i.rest, subst IsCodePoint same i.code_point, i.is ∙ ap (λ x. form x ++ i.rest) same))
+    (λ f. let q : Ok c ∷ items_behind (behind_item b bs) (is_high c) bs ≡ Err f.0 ∷ [] = sym (items-ok false b c bs e) ∙ items_of_fault 0 (b ∷ bs) f.0 f.1 in cc)
+    (begins 0 b bs u)

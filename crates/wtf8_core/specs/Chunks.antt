@@ -1,0 +1,25 @@
+-- A string as parts without whole characters and texts (this project's own words; std's `[u8]::utf8_chunks` cuts at other places).
+use Rattle.std.specs.Prelude.{◌≡◌, ℕ, ◌+◌, ◌<◌, ◌≤◌, List, [], ◌∷◌, ◌++◌, length}
+use Rattle.wtf8_core.specs.Covered.{IsCovered}
+
+-- a part, and the text behind it
+abbrev pub Chunk : Type 0
+Chunk = List ℕ × List ℕ
+
+-- the bytes of the chunks, one after the other
+abbrev pub joined : List Chunk → List ℕ
+joined [] = []
+joined (c ∷ behind) = c.0 ++ (c.1 ++ joined behind)
+
+-- the chunk c stands in s from i on, between these others
+pub record IsPair (s : List ℕ) (i : ℕ) (before : List Chunk) (c : Chunk) (behind : List Chunk) : Type 0 where
+  pub some : 0 < length (c.0 ++ c.1)
+  pub bare : (k : ℕ) → i ≤ k → k < i + length c.0 → ¬ (IsCovered s k)
+  pub covered : (k : ℕ) → i + length c.0 ≤ k → k < i + length (c.0 ++ c.1) → IsCovered s k
+  pub part_first : c.0 ≡ [] → before ≡ []
+  pub text_last : c.1 ≡ [] → behind ≡ []
+
+-- the chunks of s
+pub record AreChunks (s : List ℕ) (cs : List Chunk) : Type 0 where
+  pub joins : joined cs ≡ s
+  pub each : (before behind : List Chunk) (c : Chunk) → cs ≡ before ++ c ∷ behind → IsPair s (length (joined before)) before c behind

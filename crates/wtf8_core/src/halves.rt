@@ -1,0 +1,178 @@
+//! Fronts, ends and joins of WTF-8 by units, where a half of a pair counts.
+ghost use Rattle.std.specs.Prelude.{◌≡◌, ◌∷◌, ◌++◌, ◌≤◌, ◌↔◌, ℕ, List, [], IsTrue, MatchOption};
+ghost use Rattle.wtf8_core.specs.Surrogate.{IsHigh, IsLow, IsSurrogate};
+ghost use Rattle.wtf8_core.specs.CodePoint.{form};
+ghost use Rattle.wtf8_core.specs.Wtf8.{IsWtf8};
+ghost use Rattle.wtf8_core.specs.UnitsOf.{units_of};
+ghost use Rattle.wtf8_core.specs.Standing.{IsFront, IsEnd};
+ghost use Rattle.wtf8_core.specs.Join.{IsPairBetween};
+
+use crate::byte::is_continuation;
+use crate::encoder::encode_wide;
+use crate::surrogate::{is_high, is_low, paired};
+
+/// Whether the units of `front` are a front of those of `string`. Both are WTF-8 (test:
+/// [`CodePoints`](crate::CodePoints) answers no fault). It takes no memory.
+///
+/// A half of a pair counts: the string of the units D83D, DE00 (hexadecimal; the bytes
+/// F0 9F 98 80) starts with that of D83D (ED A0 BD), although its bytes don't. It is the test
+/// of std's `str::starts_with`, by units (RFC 2781) in the place of characters.
+pub fn starts_with(string: &[u8], front: &[u8]) -> bool
+    requires string { IsWtf8 string.now }
+    requires front { IsWtf8 front.now }
+    ensures { IsTrue result ↔ IsFront (units_of front.now) (units_of string.now) }
+{
+    let Some((before, high)) = split_last_high(front) else {
+        return string.starts_with(front);
+    };
+    let Some(rest) = string.strip_prefix(before) else {
+        return false;
+    };
+    begins_with_unit(rest, high)
+}
+
+/// Whether the units of `end` are an end of those of `string`. Both are WTF-8 (test:
+/// [`CodePoints`](crate::CodePoints) answers no fault). It takes no memory.
+///
+/// A half of a pair counts: the string of the units D83D, DE00 (hexadecimal; the bytes
+/// F0 9F 98 80) ends with that of DE00 (ED B8 80), although its bytes don't. It is the test of
+/// std's `str::ends_with`, by units (RFC 2781) in the place of characters.
+pub fn ends_with(string: &[u8], end: &[u8]) -> bool
+    requires string { IsWtf8 string.now }
+    requires end { IsWtf8 end.now }
+    ensures { IsTrue result ↔ IsEnd (units_of end.now) (units_of string.now) }
+{
+    let Some((low, behind)) = split_first_low(end) else {
+        return string.ends_with(end);
+    };
+    let Some(rest) = string.strip_suffix(behind) else {
+        return false;
+    };
+    ends_with_low(rest, low)
+}
+
+/// The code point of the pair that arises where a second string is put behind a first: where
+/// the first ends with a high surrogate and the second begins with a low one (own call; WTF-8:
+/// concatenation). The strings may be any bytes. It takes no memory.
+///
+/// Of ED A0 BD and ED B8 80 (hexadecimal) it is 1F600; of ED A0 BD and F0 9F 98 80 `None`.
+#[tactic(auto, using(std::proofs::lemmas::Bool::Decides::nat_tests))]
+pub fn pair_between(string: &[u8], more: &[u8]) -> Option<u32>
+    ensures { MatchOption result ((c : ℕ) → ¬ (IsPairBetween string.now more.now c)) (λ c. IsPairBetween string.now more.now c) }
+{
+    let Some((low, _)) = split_first_low(more) else {
+        return None;
+    };
+    let Some((_, high)) = split_last_high(string) else {
+        return None;
+    };
+    Some(paired(high, low))
+}
+
+/// The surrogate whose form three bytes are.
+#[tactic(auto, using(std::proofs::lemmas::Bool::Decides::nat_tests), unfolding(crate::specs::CodePoint::form))]
+fn surrogate(bytes: &[u8; 3]) -> Option<u16>
+    ensures { MatchOption result ((c : ℕ) → IsSurrogate c → bytes.now ≡ form c → ⊥) (λ c. IsSurrogate c × (bytes.now ≡ form c)) }
+{
+    let [lead, second, third] = *bytes;
+    if lead == 0xED && (0xA0..=0xBF).contains(&second) && is_continuation(third) {
+        return Some(0xD000 + u16::from(second % 0x40) * 0x40 + u16::from(third % 0x40));
+    }
+    None
+}
+
+/// The bytes before the surrogate with which bytes end, and that surrogate.
+fn split_last_surrogate(string: &[u8]) -> Option<(&[u8], u16)>
+    ensures { MatchOption result
+        ((front : List ℕ) → (c : ℕ) → IsSurrogate c → string.now ≡ front ++ form c → ⊥)
+        (λ r. IsSurrogate r.1 × (string.now ≡ r.0.now ++ form r.1)) }
+{
+    let Some((front, last)) = string.split_last_chunk::<3>() else {
+        return None;
+    };
+    let Some(c) = surrogate(last) else {
+        return None;
+    };
+    Some((front, c))
+}
+
+/// The bytes before the high surrogate with which bytes end, and that surrogate.
+#[tactic(auto, using(std::proofs::lemmas::Bool::Decides::nat_tests))]
+fn split_last_high(string: &[u8]) -> Option<(&[u8], u16)>
+    ensures { MatchOption result
+        ((front : List ℕ) → (c : ℕ) → IsHigh c → string.now ≡ front ++ form c → ⊥)
+        (λ r. IsHigh r.1 × (string.now ≡ r.0.now ++ form r.1)) }
+{
+    let Some((front, c)) = split_last_surrogate(string) else {
+        return None;
+    };
+    if is_high(u32::from(c)) {
+        Some((front, c))
+    } else {
+        None
+    }
+}
+
+/// The low surrogate with which bytes begin, and the bytes behind it.
+#[tactic(auto, using(std::proofs::lemmas::Bool::Decides::nat_tests))]
+fn split_first_low(string: &[u8]) -> Option<(u16, &[u8])>
+    ensures { MatchOption result
+        ((c : ℕ) → (rest : List ℕ) → IsLow c → string.now ≡ form c ++ rest → ⊥)
+        (λ r. IsLow r.0 × (string.now ≡ form r.0 ++ r.1.now)) }
+{
+    let Some((first, rest)) = string.split_first_chunk::<3>() else {
+        return None;
+    };
+    let Some(c) = surrogate(first) else {
+        return None;
+    };
+    if is_low(u32::from(c)) {
+        Some((c, rest))
+    } else {
+        None
+    }
+}
+
+/// Whether this is the first unit of a string.
+fn begins_with_unit(string: &[u8], unit: u16) -> bool
+    requires { IsWtf8 string.now }
+    ensures { IsTrue result ↔ IsFront (unit ∷ []) (units_of string.now) }
+{
+    match encode_wide(string).next() {
+        None => false,
+        Some(Err(_)) => false,
+        Some(Ok(first)) => first == unit,
+    }
+}
+
+/// The low half of the pair with which a string ends.
+fn last_half(string: &[u8]) -> Option<u16>
+    requires { IsWtf8 string.now }
+    ensures { MatchOption result
+        ((front : List ℕ) → (c : ℕ) → 0x1_0000 ≤ c → string.now ≡ front ++ form c → ⊥)
+        (λ low. (us : List ℕ) × (units_of string.now ≡ us ++ low ∷ [])) }
+{
+    let Some((_, last)) = string.split_last_chunk::<4>() else {
+        return None;
+    };
+    let [lead, _, third, fourth] = *last;
+    if lead < 0xF0 {
+        return None;
+    }
+    Some(0xDC00 + u16::from(third % 0x10) * 0x40 + u16::from(fourth % 0x40))
+}
+
+/// Whether this low surrogate is the last unit of a string.
+fn ends_with_low(string: &[u8], low: u16) -> bool
+    requires string { IsWtf8 string.now }
+    requires low { IsLow low }
+    ensures { IsTrue result ↔ IsEnd (low ∷ []) (units_of string.now) }
+{
+    if let Some((_, c)) = split_last_surrogate(string) {
+        return c == low;
+    }
+    match last_half(string) {
+        None => false,
+        Some(half) => half == low,
+    }
+}

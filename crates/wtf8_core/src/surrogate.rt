@@ -1,0 +1,61 @@
+//! Surrogates, as code points and as units, and their pairs.
+ghost use Rattle.std.specs.Prelude.{◌≡◌, ◌≤◌, true};
+ghost use Rattle.wtf8_core.specs.CodePoint.{IsCodePoint};
+ghost use Rattle.wtf8_core.specs.Surrogate.{is_high, is_low, is_surrogate, is_pair, high_unit, low_unit, paired};
+
+/// Whether a code point or a unit is a high surrogate.
+#[inline(always)]
+pub(crate) fn is_high(code_point: u32) -> bool
+    ensures { result ≡ is_high code_point }
+{
+    (0xD800..=0xDBFF).contains(&code_point)
+}
+
+/// Whether it is a low one.
+#[inline(always)]
+pub(crate) fn is_low(code_point: u32) -> bool
+    ensures { result ≡ is_low code_point }
+{
+    (0xDC00..=0xDFFF).contains(&code_point)
+}
+
+/// Whether it is a surrogate, high or low.
+#[inline(always)]
+pub(crate) fn is_surrogate(code_point: u32) -> bool
+    ensures { result ≡ is_surrogate code_point }
+{
+    (0xD800..=0xDFFF).contains(&code_point)
+}
+
+/// Whether two units are a pair: a high surrogate and then a low one.
+#[inline(always)]
+pub(crate) fn is_pair(high: u16, low: u16) -> bool
+    ensures { result ≡ is_pair high low }
+{
+    is_high(u32::from(high)) && is_low(u32::from(low))
+}
+
+/// The units of a code point past FFFF (hexadecimal), the high one and the low one (RFC 2781,
+/// section 2.1).
+#[inline(always)]
+pub(crate) fn pair_units(code_point: u32) -> (u16, u16)
+    requires past { 0x1_0000 ≤ code_point }
+    requires code_point { IsCodePoint code_point }
+    ensures high { result.0 ≡ high_unit code_point }
+    ensures low { result.1 ≡ low_unit code_point }
+{
+    let offset = code_point - 0x1_0000;
+    let high = 0xD800 + offset / 0x400;
+    let low = 0xDC00 + offset % 0x400;
+    (high as u16, low as u16)
+}
+
+/// The code point of a pair (RFC 2781, section 2.2).
+#[inline(always)]
+pub(crate) fn paired(high: u16, low: u16) -> u32
+    requires { is_pair high low ≡ true }
+    ensures value { result ≡ paired high low }
+    ensures code_point { IsCodePoint result }
+{
+    0x1_0000 + u32::from(high - 0xD800) * 0x400 + u32::from(low - 0xDC00)
+}
