@@ -1,5 +1,6 @@
 -- The bytes of what is borrowed or owned.
-use Rattle.std.specs.Prelude.{ℕ, List}
+use Rattle.std.specs.Prelude.{◌≡◌, ℕ, List}
+use Rattle.std.specs.declared.vec.Vec.{Vec}
 use Rattle.std.specs.String.{string_bytes}
 use Rattle.platform_str.specs.declared.platform.Platform.{Ghosts}
 use Rattle.platform_str.specs.declared.cow.OsStrCow.{OsStrCow}
@@ -18,10 +19,19 @@ module _ {E A : Type 0} {P : Ghosts E} where
   cow_bytes (string.Borrowed s) = bytes s
   cow_bytes (string.Owned s) = (string_vec_of s).items
 
+  -- it is owned, in this vector
+  abbrev pub IsOwnedString : OsStrCow E A P → Vec ℕ A → Type 0
+  IsOwnedString (string.Borrowed s) vec = ⊥
+  IsOwnedString (string.Owned s) vec = string_vec_of s ≡ vec
+
   -- of a path
   abbrev pub path_cow_bytes : PathCow E A P → List ℕ
   path_cow_bytes (path.Borrowed p) = path_bytes p
   path_cow_bytes (path.Owned p) = (path_vec_of p).items
+
+  abbrev pub IsOwnedPath : PathCow E A P → Vec ℕ A → Type 0
+  IsOwnedPath (path.Borrowed p) vec = ⊥
+  IsOwnedPath (path.Owned p) vec = path_vec_of p ≡ vec
 
 module _ {A : Type 0} where
   -- of bytes

@@ -7,32 +7,33 @@ use Rattle.wtf8_core.specs.Lossy.{replacement}
 use Rattle.wtf8_core.specs.declared.fault.EncodingError.{EncodingError}
 
 -- one U+FFFD stands for the first n bytes, and what follows them is well formed
-pub record IsReplaced (formed : List ℕ → Type 0) (lossy : List ℕ → List ℕ) (b : List ℕ) (n : ℕ) : Type 0 where
+pub record IsReplaced (well_formed : List ℕ → Type 0) (lossy : List ℕ → List ℕ) (b : List ℕ) (n : ℕ) : Type 0 where
   pub some : 0 < n
   pub within : n ≤ length b
-  pub behind : formed (drop n b)
+  pub behind : well_formed (drop n b)
   pub lossy_is : lossy b ≡ replacement ++ lossy (drop n b)
 
--- the laws, of a platform's faults, well-formed bytes, units, unit lists, IO-safe bytes, lossy texts and lossy lengths
-pub record PlatformLaws (faults : List ℕ → EncodingError → Type 0) (formed : List ℕ → Type 0) (units : List ℕ → List ℕ) (listed safe : List ℕ → Type 0) (lossy : List ℕ → List ℕ) (replaces : List ℕ → ℕ → Type 0) : Type 0 where
-  -- faults: refused bytes aren't well formed, and have one fault
-  pub faulty : (b : List ℕ) (f : EncodingError) → faults b f → ¬ (formed b)
-  pub one_fault : (b : List ℕ) (f g : EncodingError) → faults b f → faults b g → f ≡ g
+-- the laws of a platform
+pub record PlatformLaws (first_fault : List ℕ → EncodingError → Type 0) (well_formed : List ℕ → Type 0) (units : List ℕ → List ℕ) (is_unit_list io_safe : List ℕ → Type 0) (lossy : List ℕ → List ℕ) (replaces : List ℕ → ℕ → Type 0) : Type 0 where
+  -- faults: refused bytes aren't well formed, and have one first fault
+  pub faulty : (b : List ℕ) (f : EncodingError) → first_fault b f → ¬ (well_formed b)
+  pub one_fault : (b : List ℕ) (f g : EncodingError) → first_fault b f → first_fault b g → f ≡ g
   -- spelling: each list of units has one spelling
-  pub one_spelling : (b c : List ℕ) → formed b → formed c → units b ≡ units c → b ≡ c
-  pub some_spelling : (us : List ℕ) → listed us → (b : List ℕ) × (formed b × (units b ≡ us))
-  pub units_listed : (b : List ℕ) → formed b → listed (units b)
+  pub one_spelling : (b c : List ℕ) → well_formed b → well_formed c → units b ≡ units c → b ≡ c
+  pub some_spelling : (us : List ℕ) → is_unit_list us → (b : List ℕ) × (well_formed b × (units b ≡ us))
+  pub unit_list : (b : List ℕ) → well_formed b → is_unit_list (units b)
   -- texts: they are strings and IO-safe, what is IO-safe is a string, and so is what follows a text at the front
-  pub text : (b : List ℕ) → IsUtf8 b → formed b
-  pub text_safe : (b : List ℕ) → IsUtf8 b → safe b
-  pub safe_formed : (b : List ℕ) → safe b → formed b
-  pub behind_text : (b : List ℕ) (n : ℕ) → formed b → IsUtf8 (take n b) → formed (drop n b)
-  pub three : (b c : List ℕ) (n : ℕ) → formed b → ¬ (safe b) → replaces c n → n ≡ 3
+  pub text : (b : List ℕ) → IsUtf8 b → well_formed b
+  pub text_io_safe : (b : List ℕ) → IsUtf8 b → io_safe b
+  pub io_safe_string : (b : List ℕ) → io_safe b → well_formed b
+  pub behind_text : (b : List ℕ) (n : ℕ) → well_formed b → IsUtf8 (take n b) → well_formed (drop n b)
+  pub three : (b c : List ℕ) (n : ℕ) → well_formed b → ¬ (io_safe b) → replaces c n → n ≡ 3
   -- cuts: at a boundary both parts are strings, and their units joined are the string's
-  pub cut_front : (b : List ℕ) (i : ℕ) → formed b → IsBoundary b i → formed (take i b)
-  pub cut_back : (b : List ℕ) (i : ℕ) → formed b → IsBoundary b i → formed (drop i b)
-  pub cut_units : (b : List ℕ) (i : ℕ) → formed b → IsBoundary b i → units b ≡ units (take i b) ++ units (drop i b)
-  -- lossy texts: a text is its own, a text at the front stays, and one U+FFFD stands for what `replaces` says
+  pub cut_front : (b : List ℕ) (i : ℕ) → well_formed b → IsBoundary b i → well_formed (take i b)
+  pub cut_back : (b : List ℕ) (i : ℕ) → well_formed b → IsBoundary b i → well_formed (drop i b)
+  pub cut_units : (b : List ℕ) (i : ℕ) → well_formed b → IsBoundary b i → units b ≡ units (take i b) ++ units (drop i b)
+  -- lossy texts: they are texts, a text is its own, a text at the front stays, and one U+FFFD stands for what `replaces` says
+  pub lossy_utf8 : (b : List ℕ) → well_formed b → IsUtf8 (lossy b)
   pub lossy_text : (b : List ℕ) → IsUtf8 b → lossy b ≡ b
-  pub lossy_front : (b : List ℕ) (n : ℕ) → formed b → IsValidUpTo b n → lossy b ≡ take n b ++ lossy (drop n b)
-  pub lossy_step : (b : List ℕ) (n : ℕ) → formed b → 0 < length b → StartsBare b → replaces b n → IsReplaced formed lossy b n
+  pub lossy_front : (b : List ℕ) (n : ℕ) → well_formed b → IsValidUpTo b n → lossy b ≡ take n b ++ lossy (drop n b)
+  pub lossy_step : (b : List ℕ) (n : ℕ) → well_formed b → 0 < length b → StartsBare b → replaces b n → IsReplaced well_formed lossy b n

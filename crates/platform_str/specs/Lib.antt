@@ -1,8 +1,10 @@
 pub mod Laws
+pub mod Standing
 pub mod Platforms
 pub mod UnixLaws
 pub mod WasmLaws
 pub mod WindowsLaws
+pub mod PartLaws
 pub mod Lossy
 pub mod Strings
 pub mod Cows

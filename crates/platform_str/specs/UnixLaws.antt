@@ -5,8 +5,8 @@ use Rattle.std.proofs.Math.Bridge.{le_prop}
 use Rattle.std.proofs.lemmas.Str.{utf8_lossy-IsUtf8}
 use Rattle.std.proofs.lemmas.List.Elements.{All-take, All-drop}
 use Rattle.wtf8_core.specs.Utf8.{IsIllFormedPart}
-use Rattle.wtf8_core.proofs.Characters.{none_begins}
-use Rattle.wtf8_core.proofs.Texts.{text_bytes, lossy_front, part_first}
+use Rattle.wtf8_core.proofs.lemmas.Characters.{none_begins}
+use Rattle.wtf8_core.proofs.lemmas.Texts.{text_bytes, lossy_front, lossy_text, lossy_is_utf8, part_first}
 use Rattle.platform_str.specs.Laws.{PlatformLaws}
 use Rattle.platform_str.specs.Platforms.{AreBytes, itself, IsNoFault}
 
@@ -20,15 +20,16 @@ unix_laws = record {
   one_fault = λ b f g k l. absurd k;
   one_spelling = λ b c h k e. e;
   some_spelling = λ us h. (us, (h, refl));
-  units_listed = λ b h. h;
+  unit_list = λ b h. h;
   text = text_bytes;
-  text_safe = text_bytes;
-  safe_formed = λ b h. h;
+  text_io_safe = text_bytes;
+  io_safe_string = λ b h. h;
   behind_text = λ b n h u. All-drop (λ x. x < 256) n b h;
   three = λ b c n h k r. absurd (k h);
   cut_front = λ b i h k. All-take (λ x. x < 256) i b h;
   cut_back = λ b i h k. All-drop (λ x. x < 256) i b h;
   cut_units = λ b i h k. sym (take-append-drop i b);
+  lossy_utf8 = λ b h. lossy_is_utf8 b _ (lossy_text b);
   lossy_text = utf8_lossy-IsUtf8;
   lossy_front = λ b n h v. lossy_front b n v;
   lossy_step = λ b n h s k r.

@@ -5,10 +5,10 @@ use Rattle.std.proofs.Math.Seq.{take-length}
 use Rattle.wtf8_core.specs.Covered.{StartsBare}
 use Rattle.wtf8_core.specs.declared.fault.EncodingError.{EncodingError}
 use Rattle.wtf8_core.specs.declared.fault.EncodingError.TheVariants.{Byte, CodePoint, End, Utf8}
-use Rattle.wtf8_core.proofs.Characters.{none_begins}
-use Rattle.wtf8_core.proofs.Cuts.{utf8_cut, utf8_behind}
-use Rattle.wtf8_core.proofs.Utf8Facts.{no_text, one_utf8_fault}
-use Rattle.wtf8_core.proofs.Texts.{text_begins}
+use Rattle.wtf8_core.proofs.lemmas.Characters.{none_begins}
+use Rattle.wtf8_core.proofs.lemmas.Cuts.{utf8_cut, utf8_behind}
+use Rattle.wtf8_core.proofs.lemmas.Utf8Facts.{no_text, one_utf8_fault}
+use Rattle.wtf8_core.proofs.lemmas.Texts.{no_text_begins}
 use Rattle.platform_str.specs.Laws.{PlatformLaws}
 use Rattle.platform_str.specs.Platforms.{itself, IsTextFault, IsThree}
 
@@ -33,8 +33,7 @@ faulty b End p u = p
 pub never_bare : (b : List ℕ) → IsUtf8 b → 0 < length b → StartsBare b → ⊥
 never_bare b u s k =
     let e = take-length b in
-    let w = text_begins b (length b) (subst IsUtf8 (sym e) u) (subst (λ x. 0 < length x) (sym e) s) in
-    none_begins b k w.0 w.1
+    no_text_begins b (length b) (none_begins b k) (subst IsUtf8 (sym e) u) (subst (λ x. 0 < length x) (sym e) s)
 
 pub wasm_laws : PlatformLaws IsTextFault IsUtf8 itself IsUtf8 IsUtf8 itself IsThree
 wasm_laws = record {
@@ -42,15 +41,16 @@ wasm_laws = record {
   one_fault = one_fault;
   one_spelling = λ b c h k e. e;
   some_spelling = λ us h. (us, (h, refl));
-  units_listed = λ b h. h;
+  unit_list = λ b h. h;
   text = λ b h. h;
-  text_safe = λ b h. h;
-  safe_formed = λ b h. h;
+  text_io_safe = λ b h. h;
+  io_safe_string = λ b h. h;
   behind_text = utf8_behind;
   three = λ b c n h k r. r;
   cut_front = λ b i h k. (utf8_cut b i h k).0;
   cut_back = λ b i h k. (utf8_cut b i h k).1;
   cut_units = λ b i h k. sym (take-append-drop i b);
+  lossy_utf8 = λ b h. h;
   lossy_text = λ b h. refl;
   lossy_front = λ b n h v. sym (take-append-drop n b);
   lossy_step = λ b n h s k r. absurd (never_bare b h s k);

@@ -4,12 +4,12 @@ use Rattle.std.specs.Str.{IsUtf8}
 use Rattle.wtf8_core.specs.Wtf8.{IsWtf8}
 use Rattle.wtf8_core.specs.UnitsOf.{units_of, wtf8_lossy}
 use Rattle.wtf8_core.specs.Lossy.{replacement}
-use Rattle.wtf8_core.proofs.Complete.{never_both, one_fault}
-use Rattle.wtf8_core.proofs.UnitsOfLemmas.{one_spelling, some_spelling, units_listed, units_cut}
-use Rattle.wtf8_core.proofs.Characters.{none_begins}
-use Rattle.wtf8_core.proofs.Cuts.{wtf8_cut}
-use Rattle.wtf8_core.proofs.Utf8Facts.{wtf8_lossy_front, surrogate_first}
-use Rattle.wtf8_core.proofs.Texts.{wtf8_of_text, wtf8_lossy_text, wtf8_behind_text}
+use Rattle.wtf8_core.proofs.lemmas.Complete.{never_both, one_fault}
+use Rattle.wtf8_core.proofs.lemmas.UnitsOfLemmas.{one_spelling, some_spelling, units_listed, units_cut}
+use Rattle.wtf8_core.proofs.lemmas.Characters.{none_begins}
+use Rattle.wtf8_core.proofs.lemmas.Cuts.{wtf8_cut}
+use Rattle.wtf8_core.proofs.lemmas.Utf8Facts.{wtf8_lossy_front, surrogate_first}
+use Rattle.wtf8_core.proofs.lemmas.Texts.{wtf8_of_text, wtf8_lossy_text, wtf8_lossy_is_utf8, wtf8_behind_text}
 use Rattle.platform_str.specs.Laws.{PlatformLaws}
 use Rattle.platform_str.specs.Platforms.{AreWideUnits, IsWtf8Fault, IsThree}
 
@@ -19,15 +19,16 @@ windows_laws = record {
   one_fault = λ b f g k l. (one_fault b k.0 l.0 f g k.1 l.1).1;
   one_spelling = one_spelling;
   some_spelling = some_spelling;
-  units_listed = units_listed;
+  unit_list = units_listed;
   text = wtf8_of_text;
-  text_safe = λ b h. h;
-  safe_formed = wtf8_of_text;
+  text_io_safe = λ b h. h;
+  io_safe_string = wtf8_of_text;
   behind_text = wtf8_behind_text;
   three = λ b c n h k r. r;
   cut_front = λ b i h k. (wtf8_cut b i h k).0;
   cut_back = λ b i h k. (wtf8_cut b i h k).1;
   cut_units = units_cut;
+  lossy_utf8 = wtf8_lossy_is_utf8;
   lossy_text = wtf8_lossy_text;
   lossy_front = λ b n h v. wtf8_lossy_front b n h v.front;
   lossy_step = λ b n h s k r.

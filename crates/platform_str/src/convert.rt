@@ -1,5 +1,7 @@
-//! Strings and paths from bytes, and their bytes.
+//! Strings and paths from bytes, and their bytes, as os_str_bytes 7.2.1 has them.
 ghost use Rattle.std.specs.Prelude.{◌≡◌, ℕ, List, IsOk, IfOk, MatchOption, MatchResult};
+ghost use Rattle.std.specs.declared.alloc.Global.{Global};
+ghost use Rattle.std.specs.declared.vec.Vec.{Vec};
 ghost use Rattle.platform_str.specs.Cows.{byte_cow_bytes};
 ghost use Rattle.platform_str.specs.Lossy.{IsIoLossy};
 
@@ -9,37 +11,43 @@ use crate::platform::Platform;
 use std::alloc::{AllocError, Allocator};
 use wtf8_core::EncodingError;
 
-mod os_str;
-mod os_string;
-mod path;
-mod path_buf;
-
-/// Borrowed strings that are read from bytes: [`crate::OsStr`] and [`crate::Path`].
+/// Borrowed strings that are read from bytes: [`crate::OsStr`] and [`crate::Path`] (the
+/// `OsStrBytes` of os_str_bytes).
 ///
 /// Raw bytes are the string's own; IO bytes are those that file reads and writes take, which
 /// on Windows and wasm must be UTF-8. No conversion copies, and but for
 /// [`OsStrBytes::to_io_bytes_lossy`] none takes memory.
-pub trait OsStrBytes<'a>: Sized {
+pub trait OsStrBytes<'a>: Sized + Copy {
     type Platform: Platform + 'a;
 
     type Cow: HasBytes + Drop;
 
     ghost bytes_of: { Self → List ℕ };
 
+    // it is owned, in this vector
+    ghost is_owned: { Self.Cow → Vec ℕ Global → Type 0 };
+
     /// The string's bytes (own call, on which the others stand).
+    ///
+    /// `OsStr::<Unix>::new("a").encoded_bytes()` is `b"a"`.
     fn encoded_bytes(self) -> &'a [u8]
         ensures value { result.now ≡ bytes_of self }
         ensures formed { Self.Platform.well_formed result.now };
 
     /// The string of well-formed raw bytes (test: [`OsStrBytes::from_raw_bytes`]).
+    ///
+    /// `OsStr::<Unix>::assert_from_raw_bytes(b"a\x80").bytes()` is `b"a\x80"`.
     fn assert_from_raw_bytes(raw: &'a [u8]) -> Self::Cow
         requires { Self.Platform.well_formed raw.now }
         ensures { Self.Cow.bytes_of result ≡ raw.now };
 
     /// The string of well-formed raw bytes, moved (test: [`OsStrBytes::from_raw_bytes_owned`]).
+    ///
+    /// Of the vector of `b"a\x80"` it is a string of Unix with these bytes.
     fn assert_from_raw_bytes_owned(raw: Vec<u8>) -> Self::Cow
         requires { Self.Platform.well_formed raw.items }
-        ensures { Self.Cow.bytes_of result ≡ raw.items };
+        ensures bytes { Self.Cow.bytes_of result ≡ raw.items }
+        ensures vec { is_owned result raw };
 
     /// The string of raw bytes, or their first fault where they aren't well formed.
     ///
@@ -50,23 +58,34 @@ pub trait OsStrBytes<'a>: Sized {
         ensures cases { MatchResult result (λ _. Self.Platform.well_formed raw.now) (λ fault. Self.Platform.first_fault raw.now fault) };
 
     /// The string of raw bytes, moved, or their first fault; a refused vector is dropped.
+    ///
+    /// On wasm the vector of C3 A9 (hexadecimal) is accepted, that of C3 is refused with
+    /// `EncodingError::Utf8 { valid_up_to: 0, error_len: None }`.
     fn from_raw_bytes_owned(raw: Vec<u8>) -> Result<Self::Cow, EncodingError>
         ensures bytes { IfOk result (λ cow. Self.Cow.bytes_of cow ≡ raw.items) }
+        ensures vec { IfOk result (λ cow. is_owned cow raw) }
         ensures cases { MatchResult result (λ _. Self.Platform.well_formed raw.items) (λ fault. Self.Platform.first_fault raw.items fault) };
 
     /// The string of IO-safe bytes, `None` where they aren't.
+    ///
+    /// Of 61 80 (hexadecimal) it is a string on Unix, and `None` on Windows.
     fn from_io_bytes(raw: &'a [u8]) -> Option<Self>
         ensures bytes { MatchOption result (Unit {0}) (λ string. bytes_of string ≡ raw.now) }
         ensures cases { MatchOption result (¬ (Self.Platform.io_safe raw.now)) (λ _. Self.Platform.io_safe raw.now) };
 
     /// The string's bytes where they are IO-safe, else `None`.
+    ///
+    /// Of the Windows string of ED A0 80 (hexadecimal), a surrogate, it is `None`.
     fn to_io_bytes(self) -> Option<&'a [u8]>
         ensures bytes { MatchOption result (Unit {0}) (λ io. io.now ≡ bytes_of self) }
         ensures cases { MatchOption result (¬ (Self.Platform.io_safe (bytes_of self))) (λ _. Self.Platform.io_safe (bytes_of self)) };
 
-    /// The string's raw bytes.
+    /// The string's raw bytes, which [`OsStrBytes::from_raw_bytes`] accepts.
+    ///
+    /// `OsStr::<Wasm>::new("a").to_raw_bytes().as_bytes()` is `b"a"`.
     fn to_raw_bytes(self) -> ByteCow<'a>
-        ensures { byte_cow_bytes result ≡ bytes_of self };
+        ensures value { byte_cow_bytes result ≡ bytes_of self }
+        ensures formed { Self.Platform.well_formed (byte_cow_bytes result) };
 
     /// The string's bytes where they are IO-safe, which takes no memory, else those of its
     /// lossy text.
@@ -78,49 +97,92 @@ pub trait OsStrBytes<'a>: Sized {
     {
         lossy::io_bytes::<Self::Platform, A>(alloc, self.encoded_bytes())
     }
+
+    // the bytes of a string are well formed
+    ghost formed: { (string : Self) → Self.Platform.well_formed (bytes_of string) };
 }
 
-/// Owned strings that are read from vectors: [`crate::OsString`] and [`crate::PathBuf`].
+/// A vector of bytes, over any allocator.
+pub trait ByteVec: Sized + Drop {
+    type Alloc: Allocator;
+
+    ghost as_vec: { Self → Vec ℕ Self.Alloc };
+
+    /// The vector itself (own call).
+    ///
+    /// `string.into_raw_vec().into_vec().len()` is the number of the string's bytes.
+    fn into_vec(self) -> Vec<u8, Self::Alloc>
+        ensures { result ≡ as_vec self };
+}
+
+impl<A: Allocator> ByteVec for Vec<u8, A> {
+    type Alloc = A;
+
+    ghost as_vec = { λ vec. vec };
+
+    fn into_vec(self) -> Vec<u8, A> {
+        self
+    }
+}
+
+/// Owned strings that are read from vectors: [`crate::OsString`] and [`crate::PathBuf`] (the
+/// `OsStringBytes` of os_str_bytes).
 ///
 /// Each call moves the vector and takes no memory.
-pub trait OsStringBytes: Sized {
+pub trait OsStringBytes: Sized + Drop {
     type Platform: Platform;
 
-    type Vec;
+    type Alloc: Allocator;
+
+    type Vec: ByteVec<Alloc = Self::Alloc>;
 
     ghost vec_of: { Self → Self.Vec };
 
-    ghost items_of: { Self.Vec → List ℕ };
-
     /// The string of a vector of well-formed raw bytes (test: [`OsStringBytes::from_raw_vec`]).
+    ///
+    /// Of the vector of `b"a\x80"` it is a string of Unix with these bytes.
     fn assert_from_raw_vec(raw: Self::Vec) -> Self
-        requires { Self.Platform.well_formed (items_of raw) }
+        requires { Self.Platform.well_formed (Self.Vec.as_vec raw).items }
         ensures { vec_of result ≡ raw };
 
     /// The string of a vector of raw bytes, or their first fault where they aren't well
     /// formed; a refused vector is dropped.
+    ///
+    /// On Windows the vector of C0 (hexadecimal) is refused with `EncodingError::Byte(0xC0)`.
     fn from_raw_vec(raw: Self::Vec) -> Result<Self, EncodingError>
         ensures vec { IfOk result (λ string. vec_of string ≡ raw) }
-        ensures cases { MatchResult result (λ _. Self.Platform.well_formed (items_of raw)) (λ fault. Self.Platform.first_fault (items_of raw) fault) };
+        ensures cases { MatchResult result (λ _. Self.Platform.well_formed (Self.Vec.as_vec raw).items) (λ fault. Self.Platform.first_fault (Self.Vec.as_vec raw).items fault) };
 
     /// The string of a vector of IO-safe bytes; a refused vector is dropped.
+    ///
+    /// Of the vector of 61 80 (hexadecimal) it is a string on Unix, and `None` on wasm.
     fn from_io_vec(raw: Self::Vec) -> Option<Self>
         ensures vec { MatchOption result (Unit {0}) (λ string. vec_of string ≡ raw) }
-        ensures cases { MatchOption result (¬ (Self.Platform.io_safe (items_of raw))) (λ _. Self.Platform.io_safe (items_of raw)) };
+        ensures cases { MatchOption result (¬ (Self.Platform.io_safe (Self.Vec.as_vec raw).items)) (λ _. Self.Platform.io_safe (Self.Vec.as_vec raw).items) };
 
     /// The string's vector where its bytes are IO-safe; else the string is dropped.
+    ///
+    /// Of the Windows string of ED A0 80 (hexadecimal), a surrogate, it is `None`.
     fn into_io_vec(self) -> Option<Self::Vec>
         ensures vec { MatchOption result (Unit {0}) (λ io. io ≡ vec_of self) }
-        ensures cases { MatchOption result (¬ (Self.Platform.io_safe (items_of (vec_of self)))) (λ _. Self.Platform.io_safe (items_of (vec_of self))) };
+        ensures cases { MatchOption result (¬ (Self.Platform.io_safe (Self.Vec.as_vec (vec_of self)).items)) (λ _. Self.Platform.io_safe (Self.Vec.as_vec (vec_of self)).items) };
 
     /// The string's vector where its bytes are IO-safe, else with the bytes of the lossy text,
     /// written in place. It takes no memory: on Windows the form of a surrogate and that of
     /// U+FFFD both have three bytes, and on the other platforms each string is IO-safe.
+    ///
+    /// On Windows ED A0 80 (hexadecimal) gives EF BF BD, on Unix it gives itself.
     fn into_io_vec_lossy(self) -> Self::Vec
-        ensures { IsIoLossy Self.Platform.io_safe Self.Platform.lossy (items_of (vec_of self)) (items_of result) };
+        ensures bytes { IsIoLossy Self.Platform.io_safe Self.Platform.lossy (Self.Vec.as_vec (vec_of self)).items (Self.Vec.as_vec result).items }
+        ensures same { Self.Platform.io_safe (Self.Vec.as_vec (vec_of self)).items → result ≡ vec_of self };
 
-    /// The string's vector, whose bytes are well formed.
+    /// The string's vector, which [`OsStringBytes::from_raw_vec`] accepts.
+    ///
+    /// `OsStr::<Wasm>::new("a").to_owned(alloc)?.into_raw_vec()` is the vector of `b"a"`.
     fn into_raw_vec(self) -> Self::Vec
         ensures value { result ≡ vec_of self }
-        ensures formed { Self.Platform.well_formed (items_of result) };
+        ensures formed { Self.Platform.well_formed (Self.Vec.as_vec result).items };
+
+    // the bytes of a string are well formed
+    ghost formed: { (string : Self) → Self.Platform.well_formed (Self.Vec.as_vec (vec_of string)).items };
 }

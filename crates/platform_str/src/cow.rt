@@ -1,4 +1,4 @@
-//! What is borrowed or owned.
+//! What is borrowed or owned, as std's `Cow`.
 ghost use Rattle.std.specs.Prelude.{◌≡◌, ℕ, List};
 
 use crate::os_str::OsStr;
@@ -7,41 +7,127 @@ use crate::path::{Path, PathBuf};
 use crate::platform::Platform;
 use std::alloc::{Allocator, Global};
 
-mod methods;
+/// What has the bytes of a string.
+pub trait HasBytes {
+    ghost bytes_of: { Self → List ℕ };
 
-/// A string that is borrowed or owned.
+    /// The bytes of the string (std's `OsStr::as_encoded_bytes` of a `Cow`).
+    ///
+    /// `OsStrCow::Borrowed(OsStr::<Unix>::new("a")).bytes()` is `b"a"`.
+    fn bytes(&self) -> &[u8]
+        ensures { result.now ≡ bytes_of self.now };
+}
+
+/// A string that is borrowed or owned (std's `Cow<'a, OsStr>`).
 #[derive(Drop)]
 pub enum OsStrCow<'a, E: Platform + 'a, A: Allocator = Global> {
     Borrowed(OsStr<'a, E>),
     Owned(OsString<E, A>),
 }
 
-/// A path that is borrowed or owned.
+impl<'a, E: Platform, A: Allocator> OsStrCow<'a, E, A> {
+    ghost use Rattle.platform_str.specs.Strings.{bytes};
+    ghost use Rattle.platform_str.specs.Cows.{cow_bytes};
+
+    /// A view of the string (std's `Cow::as_ref`).
+    ///
+    /// `OsStrCow::Owned(OsString::<Unix>::new(alloc)).as_os_str()` is `OsStr::new("")`.
+    pub fn as_os_str(&self) -> OsStr<'_, E>
+        ensures { bytes result ≡ cow_bytes self.now }
+    {
+        match self {
+            OsStrCow::Borrowed(string) => *string,
+            OsStrCow::Owned(string) => string.as_os_str(),
+        }
+    }
+}
+
+impl<'a, E: Platform, A: Allocator> HasBytes for OsStrCow<'a, E, A> {
+    ghost use Rattle.platform_str.specs.Cows.{cow_bytes};
+
+    ghost bytes_of = { cow_bytes };
+
+    fn bytes(&self) -> &[u8] {
+        self.as_os_str().as_encoded_bytes()
+    }
+}
+
+/// A path that is borrowed or owned (std's `Cow<'a, Path>`).
 #[derive(Drop)]
 pub enum PathCow<'a, E: Platform + 'a, A: Allocator = Global> {
     Borrowed(Path<'a, E>),
     Owned(PathBuf<E, A>),
 }
 
-/// Bytes that are borrowed or owned.
+impl<'a, E: Platform, A: Allocator> PathCow<'a, E, A> {
+    ghost use Rattle.platform_str.specs.Strings.{path_bytes};
+    ghost use Rattle.platform_str.specs.Cows.{path_cow_bytes};
+
+    /// A view of the path (std's `Cow::as_ref`).
+    ///
+    /// `PathCow::Owned(PathBuf::<Unix>::new(alloc)).as_path().as_os_str()` is `OsStr::new("")`.
+    pub fn as_path(&self) -> Path<'_, E>
+        ensures { path_bytes result ≡ path_cow_bytes self.now }
+    {
+        match self {
+            PathCow::Borrowed(path) => *path,
+            PathCow::Owned(path) => path.as_path(),
+        }
+    }
+}
+
+impl<'a, E: Platform, A: Allocator> HasBytes for PathCow<'a, E, A> {
+    ghost use Rattle.platform_str.specs.Cows.{path_cow_bytes};
+
+    ghost bytes_of = { path_cow_bytes };
+
+    fn bytes(&self) -> &[u8] {
+        self.as_path().as_os_str().as_encoded_bytes()
+    }
+}
+
+/// Bytes that are borrowed or owned (std's `Cow<'a, [u8]>`).
 #[derive(Drop)]
 pub enum ByteCow<'a, A: Allocator = Global> {
     Borrowed(&'a [u8]),
     Owned(Vec<u8, A>),
 }
 
-/// A text that is borrowed or owned.
+impl<'a, A: Allocator> ByteCow<'a, A> {
+    ghost use Rattle.platform_str.specs.Cows.{byte_cow_bytes};
+
+    /// A view of the bytes (std's `Cow::as_ref`).
+    ///
+    /// `OsStr::<Unix>::new("a").to_raw_bytes().as_bytes()` is `b"a"`.
+    pub fn as_bytes(&self) -> &[u8]
+        ensures { result.now ≡ byte_cow_bytes self.now }
+    {
+        match self {
+            ByteCow::Borrowed(bytes) => bytes,
+            ByteCow::Owned(vec) => vec.as_slice(),
+        }
+    }
+}
+
+/// A text that is borrowed or owned (std's `Cow<'a, str>`).
 #[derive(Drop)]
 pub enum StrCow<'a, A: Allocator = Global> {
     Borrowed(&'a str),
     Owned(String<A>),
 }
 
-/// What has the bytes of a string.
-pub trait HasBytes {
-    ghost bytes_of: { Self → List ℕ };
+impl<'a, A: Allocator> StrCow<'a, A> {
+    ghost use Rattle.platform_str.specs.Cows.{str_cow_bytes};
 
-    /// The bytes of the string.
-    fn bytes(&self) -> &[u8]
-        ensures { result.now ≡ bytes_of self.now };
+    /// A view of the text (std's `Cow::as_ref`).
+    ///
+    /// `OsStr::<Unix>::new("a").to_string_lossy(alloc)?.as_str()` is "a".
+    pub fn as_str(&self) -> &str
+        ensures { result.now ≡ str_cow_bytes self.now }
+    {
+        match self {
+            StrCow::Borrowed(text) => text,
+            StrCow::Owned(text) => text.as_str(),
+        }
+    }
 }

@@ -2,10 +2,15 @@
 ghost use Rattle.std.specs.Prelude.{◌≡◌, ◌<◌, ◌↔◌, ℕ, List, ◌++◌, length, take, drop, IsTrue, Some};
 ghost use Rattle.std.specs.Cmp.Lexicographic.{slice_cmp};
 ghost use Rattle.std.specs.Ordering.{nat_cmp};
+ghost use Rattle.std.specs.List.{flat_map};
 ghost use Rattle.std.specs.Str.{IsUtf8, IsValidUpTo};
 ghost use Rattle.wtf8_core.specs.Character.{WholeCharacter};
 ghost use Rattle.wtf8_core.specs.Boundary.{IsBoundary};
-ghost use Rattle.wtf8_core.specs.Covered.{StartsBare};
+ghost use Rattle.wtf8_core.specs.Covered.{StartsBare, IsBare};
+ghost use Rattle.wtf8_core.specs.PartUnits.{unit_bytes};
+ghost use Rattle.wtf8_core.specs.Standing.{StandsAt, IsFront};
+ghost use Rattle.wtf8_core.specs.UnitPlace.{IsBytePlace};
+ghost use Rattle.wtf8_core.specs.Join.{IsJoin};
 ghost use Rattle.wtf8_core.specs.declared.fault.EncodingError.{EncodingError};
 ghost use Rattle.platform_str.specs.Laws.{IsReplaced};
 ghost use Rattle.platform_str.specs.Strings.{bytes, string_vec_of};
@@ -17,48 +22,80 @@ use std::alloc::Allocator;
 
 /// Refused bytes aren't well formed, and have one first fault.
 pub fn faults<E: Platform>()
-    ensures refused { (b : List ℕ) → (f : EncodingError) → E.first_fault b f → ¬ (E.well_formed b) }
-    ensures one { (b : List ℕ) → (f : EncodingError) → (g : EncodingError) → E.first_fault b f → E.first_fault b g → f ≡ g }
+    ensures faulty { (b : List ℕ) → (f : EncodingError) → E.first_fault b f → ¬ (E.well_formed b) }
+    ensures one_fault { (b : List ℕ) → (f : EncodingError) → (g : EncodingError) → E.first_fault b f → E.first_fault b g → f ≡ g }
 {}
 
 /// Strings with equal units are equal, each list of units is that of some string, and the
 /// units of a string are such a list.
 pub fn spelling<E: Platform>()
-    ensures once { (b : List ℕ) → (c : List ℕ) → E.well_formed b → E.well_formed c → E.units b ≡ E.units c → b ≡ c }
-    ensures some { (us : List ℕ) → E.is_unit_list us → (b : List ℕ) × (E.well_formed b × (E.units b ≡ us)) }
-    ensures listed { (b : List ℕ) → E.well_formed b → E.is_unit_list (E.units b) }
+    ensures one_spelling { (b : List ℕ) → (c : List ℕ) → E.well_formed b → E.well_formed c → E.units b ≡ E.units c → b ≡ c }
+    ensures some_spelling { (us : List ℕ) → E.is_unit_list us → (b : List ℕ) × (E.well_formed b × (E.units b ≡ us)) }
+    ensures unit_list { (b : List ℕ) → E.well_formed b → E.is_unit_list (E.units b) }
 {}
 
 /// UTF-8 is well formed and IO-safe, IO-safe bytes are well formed, what follows a whole
 /// character at a string's front is well formed, and where some string isn't IO-safe one
 /// U+FFFD always stands for three bytes.
 pub fn texts<E: Platform>()
-    ensures formed { (b : List ℕ) → IsUtf8 b → E.well_formed b }
-    ensures safe { (b : List ℕ) → IsUtf8 b → E.io_safe b }
-    ensures safe_formed { (b : List ℕ) → E.io_safe b → E.well_formed b }
-    ensures behind { (b : List ℕ) → (j : ℕ) → E.well_formed b → WholeCharacter b 0 j → E.well_formed (drop j b) }
+    ensures text { (b : List ℕ) → IsUtf8 b → E.well_formed b }
+    ensures text_io_safe { (b : List ℕ) → IsUtf8 b → E.io_safe b }
+    ensures io_safe_string { (b : List ℕ) → E.io_safe b → E.well_formed b }
+    ensures behind_text { (b : List ℕ) → (j : ℕ) → E.well_formed b → WholeCharacter b 0 j → E.well_formed (drop j b) }
     ensures three { (b : List ℕ) → (c : List ℕ) → (n : ℕ) → E.well_formed b → ¬ (E.io_safe b) → E.replaces c n → n ≡ 3 }
 {}
 
-/// A text is its own lossy text, a text at the front stays, and where no whole character
-/// starts one U+FFFD stands for the bytes that [`Platform::lossy_len`] counts; what follows
-/// them is well formed.
+/// A string's lossy text is UTF-8, and so IO-safe. A text is its own lossy text, a text at the
+/// front stays, and where no whole character starts one U+FFFD stands for the bytes that
+/// [`Platform::lossy_len`] counts; what follows them is well formed.
 pub fn lossy_texts<E: Platform>()
-    ensures text { (b : List ℕ) → IsUtf8 b → E.lossy b ≡ b }
-    ensures front { (b : List ℕ) → (n : ℕ) → E.well_formed b → IsValidUpTo b n → E.lossy b ≡ take n b ++ E.lossy (drop n b) }
-    ensures replaced { (b : List ℕ) → (n : ℕ) → E.well_formed b → 0 < length b → StartsBare b → E.replaces b n
+    ensures lossy_utf8 { (b : List ℕ) → E.well_formed b → IsUtf8 (E.lossy b) }
+    ensures lossy_text { (b : List ℕ) → IsUtf8 b → E.lossy b ≡ b }
+    ensures lossy_front { (b : List ℕ) → (n : ℕ) → E.well_formed b → IsValidUpTo b n → E.lossy b ≡ take n b ++ E.lossy (drop n b) }
+    ensures lossy_step { (b : List ℕ) → (n : ℕ) → E.well_formed b → 0 < length b → StartsBare b → E.replaces b n
         → IsReplaced E.well_formed E.lossy b n }
 {}
 
 /// At a boundary both parts of a string are strings, and their units joined are the string's.
 pub fn cuts<E: Platform>()
-    ensures front { (b : List ℕ) → (i : ℕ) → E.well_formed b → IsBoundary b i → E.well_formed (take i b) }
-    ensures back { (b : List ℕ) → (i : ℕ) → E.well_formed b → IsBoundary b i → E.well_formed (drop i b) }
-    ensures units { (b : List ℕ) → (i : ℕ) → E.well_formed b → IsBoundary b i → E.units b ≡ E.units (take i b) ++ E.units (drop i b) }
+    ensures cut_front { (b : List ℕ) → (i : ℕ) → E.well_formed b → IsBoundary b i → E.well_formed (take i b) }
+    ensures cut_back { (b : List ℕ) → (i : ℕ) → E.well_formed b → IsBoundary b i → E.well_formed (drop i b) }
+    ensures cut_units { (b : List ℕ) → (i : ℕ) → E.well_formed b → IsBoundary b i → E.units b ≡ E.units (take i b) ++ E.units (drop i b) }
+{}
+
+/// In a string without whole characters each unit's bytes are its own: that one byte for a unit
+/// below 100 (hexadecimal), else its form. On Unix such units are at least 80, on Windows they
+/// are surrogates with no high one directly before a low one, on wasm there are none.
+pub fn parts<E: Platform>()
+    ensures spelled { (b : List ℕ) → E.well_formed b → IsBare b → b ≡ flat_map unit_bytes (E.units b) }
+    ensures units { (b : List ℕ) → E.well_formed b → IsBare b → E.part_units (E.units b) }
+{}
+
+/// A text that isn't empty stands in a string at a byte place exactly where its units stand at a
+/// unit place whose byte place that is; each unit place at which they stand has a byte place,
+/// and no unit place has two.
+pub fn standing<E: Platform>()
+    ensures alike { (p : List ℕ) → (s : List ℕ) → (j : ℕ) → IsUtf8 p → 0 < length p → E.well_formed s
+        → (StandsAt p s j ↔ ((i : ℕ) × (IsBytePlace E.well_formed E.units s i j × StandsAt (E.units p) (E.units s) i))) }
+    ensures placed { (p : List ℕ) → (s : List ℕ) → (i : ℕ) → IsUtf8 p → 0 < length p → E.well_formed s → StandsAt (E.units p) (E.units s) i
+        → (j : ℕ) × (IsBytePlace E.well_formed E.units s i j × StandsAt p s j) }
+    ensures one_place { (s : List ℕ) → (i : ℕ) → (j : ℕ) → (k : ℕ) → IsBytePlace E.well_formed E.units s i j → IsBytePlace E.well_formed E.units s i k → j ≡ k }
+{}
+
+/// Two strings have one join. Joining three strings gives the same string whichever two are
+/// joined first, and a string starts with another exactly where it is the join of that one and
+/// some string.
+pub fn joins<E: Platform>()
+    ensures some { (a : List ℕ) → (b : List ℕ) → E.well_formed a → E.well_formed b → (w : List ℕ) × IsJoin E.well_formed E.units a b w }
+    ensures one { (a : List ℕ) → (b : List ℕ) → (v : List ℕ) → (w : List ℕ) → IsJoin E.well_formed E.units a b v → IsJoin E.well_formed E.units a b w → v ≡ w }
+    ensures associative { (a : List ℕ) → (b : List ℕ) → (c : List ℕ) → (ab : List ℕ) → (bc : List ℕ) → (v : List ℕ) → (w : List ℕ)
+        → IsJoin E.well_formed E.units a b ab → IsJoin E.well_formed E.units ab c v → IsJoin E.well_formed E.units b c bc → IsJoin E.well_formed E.units a bc w → v ≡ w }
+    ensures fronts { (p : List ℕ) → (s : List ℕ) → E.well_formed p → E.well_formed s
+        → (IsFront (E.units p) (E.units s) ↔ ((q : List ℕ) × (E.well_formed q × IsJoin E.well_formed E.units p q s))) }
 {}
 
 /// Borrowed strings are equal where their bytes are, and are ordered as lists of bytes are.
-#[tactic(auto, using(crate::proofs::ByteOrder::byte_order))]
+#[tactic(auto, using(crate::proofs::lemmas::ByteOrder::byte_order))]
 pub fn comparisons<'a, E: Platform>(a: &OsStr<'a, E>, b: &OsStr<'a, E>)
     ensures equal { IsTrue (⟦<OsStr<'a, E> as PartialEq>⟧.eq a.now b.now) ↔ (bytes a.now ≡ bytes b.now) }
     ensures order { ⟦<OsStr<'a, E> as Ord>⟧.cmp a.now b.now ≡ slice_cmp nat_cmp (bytes a.now) (bytes b.now) }
@@ -66,7 +103,7 @@ pub fn comparisons<'a, E: Platform>(a: &OsStr<'a, E>, b: &OsStr<'a, E>)
 {}
 
 /// Owned strings are equal where their bytes are, and are ordered as lists of bytes are.
-#[tactic(auto, using(crate::proofs::ByteOrder::byte_order))]
+#[tactic(auto, using(crate::proofs::lemmas::ByteOrder::byte_order))]
 pub fn owned_comparisons<E: Platform, A: Allocator>(a: &OsString<E, A>, b: &OsString<E, A>)
     ensures equal { IsTrue (⟦<OsString<E, A> as PartialEq>⟧.eq a.now b.now) ↔ ((string_vec_of a.now).items ≡ (string_vec_of b.now).items) }
     ensures order { ⟦<OsString<E, A> as Ord>⟧.cmp a.now b.now ≡ slice_cmp nat_cmp (string_vec_of a.now).items (string_vec_of b.now).items }

@@ -1,10 +1,11 @@
 //! Platform strings for Unix, Windows and wasm, side by side.
 //!
 //! A platform is a type that implements [`Platform`]: [`Unix`], whose strings are any bytes,
-//! [`Windows`], whose strings are any 16-bit units kept as WTF-8, and [`Wasm`], whose strings
-//! are UTF-8. [`OsStr`] and [`OsString`] are its borrowed and its owned strings, [`Path`] and
-//! [`PathBuf`] the same as paths. [`OsStrBytes`] and [`OsStringBytes`] read them from bytes
-//! and give their bytes; [`OsStr::encode_wide`] and [`OsString::from_wide`] do so with units.
+//! [`Windows`], whose strings are any 16-bit code units, here called units, kept as WTF-8
+//! (UTF-8 that has forms for surrogates too), and [`Wasm`], whose strings are UTF-8.
+//! [`OsStr`] and [`OsString`] are its borrowed and its owned strings, [`Path`] and [`PathBuf`]
+//! the same as paths. [`OsStrBytes`] and [`OsStringBytes`] read them from bytes and give their
+//! bytes; [`OsStr::encode_wide`] and [`OsString::from_wide`] do so with units.
 //!
 //! The bytes of a string are its raw bytes, its encoded bytes and, where it is IO-safe, its
 //! IO bytes. So an accepted conversion borrows or moves.
@@ -16,9 +17,9 @@
 
 mod convert;
 mod cow;
+mod join;
 pub mod laws;
 mod lossy;
-mod marker;
 mod os_str;
 mod os_string;
 mod path;
@@ -28,13 +29,12 @@ pub mod wasm;
 mod wide;
 pub mod windows;
 
-pub use convert::{OsStrBytes, OsStringBytes};
+pub use convert::{ByteVec, OsStrBytes, OsStringBytes};
 pub use cow::{ByteCow, HasBytes, OsStrCow, PathCow, StrCow};
-pub use marker::{Unix, Wasm, Windows};
 pub use os_str::OsStr;
 pub use os_string::OsString;
 pub use path::{Path, PathBuf};
-pub use platform::Platform;
+pub use platform::{Platform, Unix, Wasm, Windows};
 pub use wide::WideUnits;
 pub use wtf8_core::EncodingError;
 

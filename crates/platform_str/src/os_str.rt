@@ -1,13 +1,17 @@
 //! Borrowed strings.
-ghost use Rattle.std.specs.Prelude.{◌≡◌};
+ghost use Rattle.std.specs.Prelude.{◌≡◌, ◌↔◌, [], length, IsTrue, IsOk, IfOk, MatchOption};
+ghost use Rattle.std.specs.Str.{IsUtf8};
 
+use crate::convert::OsStrBytes;
+use crate::cow::{ByteCow, OsStrCow, StrCow};
+use crate::lossy;
+use crate::os_string::OsString;
 use crate::platform::Platform;
-use std::alloc::AllocError;
+use std::alloc::{AllocError, Allocator};
 use std::marker::PhantomData;
+use wtf8_core::EncodingError;
 
-mod methods;
-
-/// A borrowed string of a platform: a view of well-formed bytes.
+/// A borrowed string of a platform: a view of well-formed bytes, as std's `&OsStr`.
 ///
 /// Strings are equal where their bytes are, and are ordered as their bytes are. Equal strings
 /// hash alike.
@@ -29,3 +33,152 @@ impl<'a, E: Platform> Clone for OsStr<'a, E> {
 }
 
 impl<'a, E: Platform> Copy for OsStr<'a, E> {}
+
+impl<'a, E: Platform> OsStr<'a, E> {
+    ghost use Rattle.platform_str.specs.Strings.{bytes, string_vec_of};
+    ghost use Rattle.platform_str.specs.Cows.{str_cow_bytes};
+
+    /// The string of a text, which is a string of every platform (std's `OsStr::new`).
+    ///
+    /// `OsStr::<Windows>::new("a\u{E9}").to_str()` is `Some("a\u{E9}")`.
+    pub fn new(text: &'a str) -> Self
+        ensures { bytes result ≡ text.now }
+    {
+        OsStr {
+            bytes: text.as_bytes(),
+            platform: PhantomData,
+        }
+    }
+
+    /// The string of well-formed bytes (test: [`Platform::check`]); std's
+    /// `OsStr::from_encoded_bytes_unchecked`, with its condition proved.
+    ///
+    /// `OsStr::<Unix>::from_encoded_bytes_unchecked(b"a\x80").len()` is 2.
+    pub fn from_encoded_bytes_unchecked(encoded: &'a [u8]) -> Self
+        requires { E.well_formed encoded.now }
+        ensures { bytes result ≡ encoded.now }
+    {
+        OsStr {
+            bytes: encoded,
+            platform: PhantomData,
+        }
+    }
+
+    /// The string's bytes, which are its raw bytes (std's `OsStr::as_encoded_bytes`).
+    ///
+    /// `OsStr::<Wasm>::new("a").as_encoded_bytes()` is `b"a"`.
+    pub fn as_encoded_bytes(self) -> &'a [u8]
+        ensures value { result.now ≡ bytes self.entry }
+        ensures formed { E.well_formed result.now }
+    {
+        self.bytes
+    }
+
+    /// How many bytes the string has (std's `OsStr::len`).
+    ///
+    /// `OsStr::<Unix>::new("\u{20AC}").len()` is 3.
+    pub fn len(self) -> usize
+        ensures { result ≡ length (bytes self.entry) }
+    {
+        self.bytes.len()
+    }
+
+    /// Whether the string has no byte (std's `OsStr::is_empty`).
+    ///
+    /// `OsStr::<Unix>::new("").is_empty()` is true.
+    pub fn is_empty(self) -> bool
+        ensures { IsTrue result ↔ (bytes self.entry ≡ []) }
+    {
+        self.bytes.is_empty()
+    }
+
+    /// The string as a text, `None` where it isn't UTF-8 (std's `OsStr::to_str`). It takes no
+    /// memory.
+    ///
+    /// Of the Windows string of the bytes ED A0 80 (hexadecimal), a surrogate, it is `None`.
+    pub fn to_str(self) -> Option<&'a str>
+        ensures { MatchOption result (¬ (IsUtf8 (bytes self.entry))) (λ text. text.now ≡ bytes self.entry) }
+    {
+        str::from_utf8(self.bytes).ok()
+    }
+
+    /// The lossy text: the string itself where it is UTF-8, which takes no memory, else a text
+    /// with U+FFFD for what is no text, on Windows one for each surrogate, on Unix one for
+    /// each maximal ill-formed part (Unicode's maximal subpart), as in std's
+    /// `OsStr::to_string_lossy`.
+    ///
+    /// The Unix string of the bytes 61 E2 82 41 (hexadecimal) has the lossy text "a\u{FFFD}A".
+    pub fn to_string_lossy<A: Allocator>(self, alloc: A) -> Result<StrCow<'a, A>, AllocError>
+        ensures text { IfOk result (λ text. str_cow_bytes text ≡ E.lossy (bytes self.entry)) }
+        ensures without_memory { IsUtf8 (bytes self.entry) → IsOk result }
+    {
+        match self.to_str() {
+            Some(text) => Ok(StrCow::Borrowed(text)),
+            None => Ok(StrCow::Owned(lossy::text::<E, A>(alloc, self.bytes)?)),
+        }
+    }
+
+    /// An owned copy (std's `OsStr::to_os_string`).
+    ///
+    /// `OsStr::<Unix>::new("a").to_owned(alloc)?.as_os_str()` is `OsStr::new("a")`.
+    pub fn to_owned<A: Allocator>(self, alloc: A) -> Result<OsString<E, A>, AllocError>
+        ensures { IfOk result (λ owned. (string_vec_of owned).items ≡ bytes self.entry) }
+    {
+        let vec = Vec::from_slice(alloc, self.bytes)?;
+        Ok(OsString::from_encoded_bytes_unchecked(vec))
+    }
+}
+
+impl<'a, E: Platform + 'a> OsStrBytes<'a> for OsStr<'a, E> {
+    ghost use Rattle.platform_str.specs.Strings.{bytes};
+    ghost use Rattle.platform_str.specs.Cows.{IsOwnedString};
+
+    type Platform = E;
+
+    type Cow = OsStrCow<'a, E>;
+
+    ghost bytes_of = { bytes };
+
+    ghost is_owned = { IsOwnedString };
+
+    ghost formed = { λ string. string.ok };
+
+    fn encoded_bytes(self) -> &'a [u8] {
+        self.as_encoded_bytes()
+    }
+
+    fn assert_from_raw_bytes(raw: &'a [u8]) -> OsStrCow<'a, E> {
+        OsStrCow::Borrowed(OsStr::from_encoded_bytes_unchecked(raw))
+    }
+
+    fn assert_from_raw_bytes_owned(raw: Vec<u8>) -> OsStrCow<'a, E> {
+        OsStrCow::Owned(OsString::from_encoded_bytes_unchecked(raw))
+    }
+
+    fn from_raw_bytes(raw: &'a [u8]) -> Result<OsStrCow<'a, E>, EncodingError> {
+        E::check(raw)?;
+        Ok(Self::assert_from_raw_bytes(raw))
+    }
+
+    fn from_raw_bytes_owned(raw: Vec<u8>) -> Result<OsStrCow<'a, E>, EncodingError> {
+        E::check(raw.as_slice())?;
+        Ok(Self::assert_from_raw_bytes_owned(raw))
+    }
+
+    fn from_io_bytes(raw: &'a [u8]) -> Option<Self> {
+        if E::is_io_safe(raw) {
+            Some(OsStr::from_encoded_bytes_unchecked(raw))
+        } else {
+            None
+        }
+    }
+
+    fn to_io_bytes(self) -> Option<&'a [u8]> {
+        let io = self.as_encoded_bytes();
+        if E::is_io_safe(io) { Some(io) } else { None }
+    }
+
+    fn to_raw_bytes(self) -> ByteCow<'a> {
+        ByteCow::Borrowed(self.as_encoded_bytes())
+    }
+}

@@ -1,11 +1,17 @@
 //! Owned strings.
+ghost use Rattle.std.specs.Prelude.{◌≡◌, ◌++◌, [], IfOk, IfErr, OnOk, OnErr, MatchResult};
+ghost use Rattle.std.specs.Str.{IsUtf8};
+ghost use Rattle.std.specs.String.{string_vec};
+
+use crate::convert::OsStringBytes;
+use crate::lossy;
+use crate::os_str::OsStr;
 use crate::platform::Platform;
-use std::alloc::{Allocator, Global};
+use std::alloc::{AllocError, Allocator, Global};
 use std::marker::PhantomData;
+use wtf8_core::EncodingError;
 
-mod methods;
-
-/// An owned string of a platform: a vector of well-formed bytes.
+/// An owned string of a platform: a vector of well-formed bytes, as std's `OsString`.
 ///
 /// Strings are equal where their bytes are, and are ordered as their bytes are. Equal strings
 /// hash alike.
@@ -15,4 +21,163 @@ pub struct OsString<E: Platform, A: Allocator = Global> {
     vec: Vec<u8, A>,
     platform: PhantomData<E>,
     pub ghost ok: { E.well_formed vec.items } by { E.well_formed_prop vec.items },
+}
+
+impl<E: Platform, A: Allocator> OsString<E, A> {
+    ghost use Rattle.platform_str.specs.Strings.{bytes, string_vec_of};
+
+    /// The empty string (std's `OsString::new`). It takes no memory.
+    ///
+    /// `OsString::<Unix>::new(alloc).as_os_str().is_empty()` is true.
+    pub fn new(alloc: A) -> Self
+        ensures { (string_vec_of result).items ≡ [] }
+    {
+        OsString {
+            vec: Vec::new(alloc),
+            platform: PhantomData,
+        }
+    }
+
+    /// The string of well-formed bytes (test: [`Platform::check`]), in their own vector; std's
+    /// `OsString::from_encoded_bytes_unchecked`, with its condition proved.
+    ///
+    /// Of the vector of the bytes 61 80 (hexadecimal) it is a string of Unix with two bytes.
+    pub fn from_encoded_bytes_unchecked(vec: Vec<u8, A>) -> Self
+        requires { E.well_formed vec.items }
+        ensures { string_vec_of result ≡ vec }
+    {
+        OsString {
+            vec,
+            platform: PhantomData,
+        }
+    }
+
+    /// A view of the string (std's `OsString::as_os_str`).
+    ///
+    /// `OsString::<Unix>::new(alloc).as_os_str()` is `OsStr::new("")`.
+    pub fn as_os_str(&self) -> OsStr<'_, E>
+        ensures { bytes result ≡ (string_vec_of self.now).items }
+    {
+        OsStr::from_encoded_bytes_unchecked(self.vec.as_slice())
+    }
+
+    /// The string's bytes, in its own vector (std's `OsString::into_encoded_bytes`).
+    ///
+    /// `OsStr::<Unix>::new("a").to_owned(alloc)?.into_encoded_bytes()` is the vector of `b"a"`.
+    pub fn into_encoded_bytes(self) -> Vec<u8, A>
+        ensures value { result ≡ string_vec_of self }
+        ensures formed { E.well_formed result.items }
+    {
+        self.vec
+    }
+
+    /// The string as a text in its own memory, or else the same string again (std's
+    /// `OsString::into_string`). It takes no memory.
+    ///
+    /// The Windows string of the bytes ED A0 80 (hexadecimal), a surrogate, comes back.
+    pub fn into_string(self) -> Result<String<A>, Self>
+        ensures text { IfOk result (λ text. string_vec text ≡ string_vec_of self) }
+        ensures same { IfErr result (λ string. string_vec_of string ≡ string_vec_of self) }
+        ensures cases { MatchResult result (λ _. IsUtf8 (string_vec_of self).items) (λ _. ¬ (IsUtf8 (string_vec_of self).items)) }
+    {
+        match String::from_utf8(self.vec) {
+            Ok(text) => Ok(text),
+            Err(error) => Err(OsString {
+                vec: error.into_bytes(),
+                platform: PhantomData,
+            }),
+        }
+    }
+
+    /// Puts a string behind this one: the units are those of both, one after the other (std's
+    /// `OsString::push`). On Windows two halves of a pair that meet become one code point. Where
+    /// the memory is refused the string is as it was.
+    ///
+    /// The Windows string of D83D (hexadecimal) with that of DE00 pushed is F0 9F 98 80.
+    pub fn push(&mut self, string: OsStr<'_, E>) -> Result<(), AllocError>
+        ensures ok { OnOk result (E.units (string_vec_of self.new).items ≡ E.units (string_vec_of self.old).items ++ E.units (bytes string.entry)) }
+        ensures err { OnErr result ((string_vec_of self.new).items ≡ (string_vec_of self.old).items) }
+    {
+        E::push_bytes(&mut self.vec, string.as_encoded_bytes())
+    }
+
+    /// A copy in memory of its own (std's `OsString::clone`).
+    ///
+    /// `OsStr::<Unix>::new("a").to_owned(alloc)?.clone()?.as_os_str()` is `OsStr::new("a")`.
+    pub fn clone(&self) -> Result<Self, AllocError>
+    where
+        A: Clone,
+        ensures { IfOk result (λ copy. (string_vec_of copy).items ≡ (string_vec_of self.now).items) }
+    {
+        let alloc = self.vec.allocator().clone()?;
+        self.as_os_str().to_owned(alloc)
+    }
+}
+
+/// The string of a text, in the text's memory (std's `OsString::from`).
+///
+/// `OsString::<Wasm>::from(text).as_os_str()` is `OsStr::new("a")` where the text is "a".
+impl<E: Platform, A: Allocator> From<String<A>> for OsString<E, A> {
+    ghost use Rattle.platform_str.specs.Strings.{string_vec_of};
+
+    ghost from_gives = { λ text string. string_vec_of string ≡ string_vec text };
+
+    fn from(text: String<A>) -> Self {
+        OsString {
+            vec: text.into_bytes(),
+            platform: PhantomData,
+        }
+    }
+}
+
+impl<E: Platform, A: Allocator> OsStringBytes for OsString<E, A> {
+    ghost use Rattle.platform_str.specs.Strings.{string_vec_of};
+
+    type Platform = E;
+
+    type Alloc = A;
+
+    type Vec = Vec<u8, A>;
+
+    ghost vec_of = { string_vec_of };
+
+    ghost formed = { λ string. string.ok };
+
+    fn assert_from_raw_vec(raw: Vec<u8, A>) -> Self {
+        OsString::from_encoded_bytes_unchecked(raw)
+    }
+
+    fn from_raw_vec(raw: Vec<u8, A>) -> Result<Self, EncodingError> {
+        E::check(raw.as_slice())?;
+        Ok(OsString::from_encoded_bytes_unchecked(raw))
+    }
+
+    fn from_io_vec(raw: Vec<u8, A>) -> Option<Self> {
+        if E::is_io_safe(raw.as_slice()) {
+            Some(OsString::from_encoded_bytes_unchecked(raw))
+        } else {
+            None
+        }
+    }
+
+    fn into_io_vec(self) -> Option<Vec<u8, A>> {
+        let vec = self.into_encoded_bytes();
+        if E::is_io_safe(vec.as_slice()) {
+            Some(vec)
+        } else {
+            None
+        }
+    }
+
+    fn into_io_vec_lossy(self) -> Vec<u8, A> {
+        let mut vec = self.into_encoded_bytes();
+        if !E::is_io_safe(vec.as_slice()) {
+            lossy::replace_in_place::<E>(&mut vec);
+        }
+        vec
+    }
+
+    fn into_raw_vec(self) -> Vec<u8, A> {
+        self.into_encoded_bytes()
+    }
 }

@@ -1,19 +1,201 @@
-//! Strings as paths. Nothing is known here of their components.
+//! Strings as paths, borrowed and owned. Nothing is known here of their components.
+ghost use Rattle.std.specs.Prelude.{◌≡◌, []};
+ghost use Rattle.platform_str.specs.Strings.{bytes, string_vec_of};
+
+use crate::convert::{OsStrBytes, OsStringBytes};
+use crate::cow::{ByteCow, PathCow};
 use crate::os_str::OsStr;
 use crate::os_string::OsString;
 use crate::platform::Platform;
 use std::alloc::{Allocator, Global};
+use wtf8_core::EncodingError;
 
-mod methods;
-
-/// A borrowed string of a platform, as a path.
+/// A borrowed string of a platform, as a path (std's `&Path`).
 #[derive_where(Clone, Copy)]
 pub struct Path<'a, E: Platform + 'a> {
     inner: OsStr<'a, E>,
 }
 
-/// An owned string of a platform, as a path.
+impl<'a, E: Platform> Path<'a, E> {
+    ghost use Rattle.platform_str.specs.Strings.{path_bytes};
+
+    /// The path of a string, each of which is one (std's `Path::new`).
+    ///
+    /// `Path::<Unix>::new(OsStr::new("a/b"))` has the bytes of "a/b".
+    pub fn new(string: OsStr<'a, E>) -> Self
+        ensures { path_bytes result ≡ bytes string.entry }
+    {
+        Path { inner: string }
+    }
+
+    /// The path as a string (std's `Path::as_os_str`).
+    ///
+    /// `Path::<Unix>::new(OsStr::new("a/b")).as_os_str()` is `OsStr::new("a/b")`.
+    pub fn as_os_str(self) -> OsStr<'a, E>
+        ensures { bytes result ≡ path_bytes self.entry }
+    {
+        self.inner
+    }
+}
+
+impl<'a, E: Platform + 'a> OsStrBytes<'a> for Path<'a, E> {
+    ghost use Rattle.platform_str.specs.Strings.{path_bytes};
+    ghost use Rattle.platform_str.specs.Cows.{IsOwnedPath};
+
+    type Platform = E;
+
+    type Cow = PathCow<'a, E>;
+
+    ghost bytes_of = { path_bytes };
+
+    ghost is_owned = { IsOwnedPath };
+
+    ghost formed = { λ path. path.inner.ok };
+
+    fn encoded_bytes(self) -> &'a [u8] {
+        self.as_os_str().as_encoded_bytes()
+    }
+
+    fn assert_from_raw_bytes(raw: &'a [u8]) -> PathCow<'a, E> {
+        PathCow::Borrowed(Path::new(OsStr::from_encoded_bytes_unchecked(raw)))
+    }
+
+    fn assert_from_raw_bytes_owned(raw: Vec<u8>) -> PathCow<'a, E> {
+        PathCow::Owned(PathBuf::assert_from_raw_vec(raw))
+    }
+
+    fn from_raw_bytes(raw: &'a [u8]) -> Result<PathCow<'a, E>, EncodingError> {
+        E::check(raw)?;
+        Ok(Self::assert_from_raw_bytes(raw))
+    }
+
+    fn from_raw_bytes_owned(raw: Vec<u8>) -> Result<PathCow<'a, E>, EncodingError> {
+        Ok(PathCow::Owned(PathBuf::from_raw_vec(raw)?))
+    }
+
+    fn from_io_bytes(raw: &'a [u8]) -> Option<Self> {
+        let string = OsStr::from_io_bytes(raw)?;
+        Some(Path::new(string))
+    }
+
+    fn to_io_bytes(self) -> Option<&'a [u8]> {
+        self.as_os_str().to_io_bytes()
+    }
+
+    fn to_raw_bytes(self) -> ByteCow<'a> {
+        self.as_os_str().to_raw_bytes()
+    }
+}
+
+/// An owned string of a platform, as a path (std's `PathBuf`).
 #[derive(Drop)]
 pub struct PathBuf<E: Platform, A: Allocator = Global> {
     inner: OsString<E, A>,
+}
+
+impl<E: Platform, A: Allocator> PathBuf<E, A> {
+    ghost use Rattle.platform_str.specs.Strings.{path_bytes, path_vec_of};
+
+    /// The empty path (std's `PathBuf::new`). It takes no memory.
+    ///
+    /// `PathBuf::<Unix>::new(alloc).as_os_str().is_empty()` is true.
+    pub fn new(alloc: A) -> Self
+        ensures { (path_vec_of result).items ≡ [] }
+    {
+        PathBuf {
+            inner: OsString::new(alloc),
+        }
+    }
+
+    /// A view of the path (std's `PathBuf::as_path`).
+    ///
+    /// `PathBuf::<Unix>::new(alloc).as_path().as_os_str()` is `OsStr::new("")`.
+    pub fn as_path(&self) -> Path<'_, E>
+        ensures { path_bytes result ≡ (path_vec_of self.now).items }
+    {
+        Path::new(self.as_os_str())
+    }
+
+    /// A view of the path as a string (std's `Path::as_os_str` of a `PathBuf`).
+    ///
+    /// `PathBuf::<Unix>::new(alloc).as_os_str()` is `OsStr::new("")`.
+    pub fn as_os_str(&self) -> OsStr<'_, E>
+        ensures { bytes result ≡ (path_vec_of self.now).items }
+    {
+        self.inner.as_os_str()
+    }
+
+    /// The path as a string, in its own vector (std's `PathBuf::into_os_string`).
+    ///
+    /// `PathBuf::<Unix>::new(alloc).into_os_string()` is the empty string.
+    pub fn into_os_string(self) -> OsString<E, A>
+        ensures { string_vec_of result ≡ path_vec_of self }
+    {
+        let PathBuf { inner } = self;
+        inner
+    }
+}
+
+/// The path of a string, in the string's vector (std's `PathBuf::from`).
+///
+/// `PathBuf::from(string).into_os_string()` is the string again.
+impl<E: Platform, A: Allocator> From<OsString<E, A>> for PathBuf<E, A> {
+    ghost use Rattle.platform_str.specs.Strings.{path_vec_of};
+
+    ghost from_gives = { λ string path. path_vec_of path ≡ string_vec_of string };
+
+    fn from(string: OsString<E, A>) -> Self {
+        PathBuf { inner: string }
+    }
+}
+
+/// The path as a string, in the path's vector (std's `OsString::from`).
+///
+/// `PathBuf::from(OsString::from(path))` is the path again.
+impl<E: Platform, A: Allocator> From<PathBuf<E, A>> for OsString<E, A> {
+    ghost use Rattle.platform_str.specs.Strings.{path_vec_of};
+
+    ghost from_gives = { λ path string. string_vec_of string ≡ path_vec_of path };
+
+    fn from(path: PathBuf<E, A>) -> Self {
+        path.into_os_string()
+    }
+}
+
+impl<E: Platform, A: Allocator> OsStringBytes for PathBuf<E, A> {
+    ghost use Rattle.platform_str.specs.Strings.{path_vec_of};
+
+    type Platform = E;
+
+    type Alloc = A;
+
+    type Vec = Vec<u8, A>;
+
+    ghost vec_of = { path_vec_of };
+
+    ghost formed = { λ path. path.inner.ok };
+
+    fn assert_from_raw_vec(raw: Vec<u8, A>) -> Self {
+        PathBuf::from(OsString::assert_from_raw_vec(raw))
+    }
+
+    fn from_raw_vec(raw: Vec<u8, A>) -> Result<Self, EncodingError> {
+        Ok(PathBuf::from(OsString::from_raw_vec(raw)?))
+    }
+
+    fn from_io_vec(raw: Vec<u8, A>) -> Option<Self> {
+        Some(PathBuf::from(OsString::from_io_vec(raw)?))
+    }
+
+    fn into_io_vec(self) -> Option<Vec<u8, A>> {
+        self.into_os_string().into_io_vec()
+    }
+
+    fn into_io_vec_lossy(self) -> Vec<u8, A> {
+        self.into_os_string().into_io_vec_lossy()
+    }
+
+    fn into_raw_vec(self) -> Vec<u8, A> {
+        self.into_os_string().into_raw_vec()
+    }
 }

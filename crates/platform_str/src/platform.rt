@@ -1,9 +1,13 @@
-//! What a platform is.
-ghost use Rattle.std.specs.Prelude.{◌<◌, ◌↔◌, ℕ, List, length, IsTrue, MatchResult};
+//! What a platform is, and the three that stand here.
+ghost use Rattle.std.specs.Prelude.{◌≡◌, ◌<◌, ◌↔◌, ◌++◌, ℕ, List, length, IsTrue, MatchResult, OnOk, OnErr};
 ghost use Rattle.wtf8_core.specs.Covered.{StartsBare};
+ghost use Rattle.wtf8_core.specs.Standing.{IsFront, IsEnd};
+ghost use Rattle.wtf8_core.specs.StandingLaws.{StandingLaws};
 ghost use Rattle.wtf8_core.specs.declared.fault.EncodingError.{EncodingError};
 ghost use Rattle.platform_str.specs.Laws.{PlatformLaws};
+ghost use Rattle.platform_str.specs.PartLaws.{PartLaws, IsFirstUnit};
 
+use std::alloc::{AllocError, Allocator};
 use wtf8_core::EncodingError;
 
 /// The strings of a platform, as lists of bytes.
@@ -11,7 +15,8 @@ use wtf8_core::EncodingError;
 /// Whoever implements the trait proves its laws, which are all that generic code knows of a
 /// platform: each list of units has one spelling; texts are strings, and what follows a text
 /// at the front is well formed; at a boundary both parts are well formed, and their units
-/// joined are the string's. The module `laws` states them one by one.
+/// joined are the string's; a text stands in a string's bytes where its units stand in the
+/// string's; some string has the units of two joined. The module `laws` states them one by one.
 pub trait Platform {
     // which bytes are a string
     ghost well_formed: { List ℕ → Type 0 };
@@ -37,6 +42,9 @@ pub trait Platform {
     // how many bytes at the front one U+FFFD stands for there
     ghost replaces: { List ℕ → ℕ → Type 0 };
 
+    // what the units of a string are in which no whole character stands
+    ghost part_units: { List ℕ → Type 0 };
+
     /// `Ok` exactly for well-formed bytes, else their first fault: on Windows the first that
     /// `wtf8_core::CodePoints` answers, on wasm that of `wtf8_core::utf8_fault`, on Unix none.
     /// It takes no memory.
@@ -48,6 +56,8 @@ pub trait Platform {
 
     /// Whether bytes may be handed to reads and writes of files as they are: on Unix always,
     /// else where they are UTF-8. It takes no memory.
+    ///
+    /// `Unix::is_io_safe(b"\x80")` is true, `Windows::is_io_safe(b"\xED\xA0\x80")` is false.
     fn is_io_safe(bytes: &[u8]) -> bool
         ensures { IsTrue result ↔ io_safe bytes.now };
 
@@ -56,11 +66,78 @@ pub trait Platform {
     /// The bytes are well formed (test: [`Platform::check`]), they aren't empty, and no whole
     /// character starts at their front (test: `wtf8_core::char_at` at 0). What follows these
     /// bytes is well formed. On Windows it is three, a surrogate's form.
+    ///
+    /// `Unix::lossy_len(b"\xE2\x82A")` is 2, `Windows::lossy_len(b"\xED\xA0\x80a")` is 3.
     fn lossy_len(bytes: &[u8]) -> usize
         requires formed { well_formed bytes.now }
         requires some { 0 < length bytes.now }
         requires bare { StartsBare bytes.now }
         ensures { replaces bytes.now result };
 
+    /// The first unit of a string that begins with no whole character, and how many bytes it has.
+    ///
+    /// The bytes are well formed (test: [`Platform::check`]), they aren't empty, and no whole
+    /// character starts at their front (test: `wtf8_core::char_at` at 0). What follows these
+    /// bytes is well formed and has the other units. On Unix a unit is one byte, on Windows it
+    /// is a surrogate of three; on wasm no bytes are so.
+    ///
+    /// `Windows::first_unit(b"\xED\xA0\x80a")` is `(0xD800, 3)`.
+    fn first_unit(bytes: &[u8]) -> (u16, usize)
+        requires formed { well_formed bytes.now }
+        requires some { 0 < length bytes.now }
+        requires bare { StartsBare bytes.now }
+        ensures { IsFirstUnit well_formed units bytes.now result.0 result.1 };
+
+    /// Whether the units of `front` are a front of those of `string` (on Windows
+    /// `wtf8_core::starts_with`, else std's `starts_with` of slices). Both are well formed
+    /// (test: [`Platform::check`]). It takes no memory.
+    ///
+    /// A half of a pair counts: `Windows::starts_with_os(b"\xF0\x9F\x98\x80", b"\xED\xA0\xBD")`
+    /// is true, of the units D83D, DE00 and D83D (hexadecimal).
+    fn starts_with_os(string: &[u8], front: &[u8]) -> bool
+        requires string { well_formed string.now }
+        requires front { well_formed front.now }
+        ensures { IsTrue result ↔ IsFront (units front.now) (units string.now) };
+
+    /// Whether the units of `end` are an end of those of `string` (on Windows
+    /// `wtf8_core::ends_with`, else std's `ends_with` of slices). Both are well formed
+    /// (test: [`Platform::check`]). It takes no memory.
+    ///
+    /// A half of a pair counts: `Windows::ends_with_os(b"\xF0\x9F\x98\x80", b"\xED\xB8\x80")`
+    /// is true, of the units D83D, DE00 and DE00 (hexadecimal).
+    fn ends_with_os(string: &[u8], end: &[u8]) -> bool
+        requires string { well_formed string.now }
+        requires end { well_formed end.now }
+        ensures { IsTrue result ↔ IsEnd (units end.now) (units string.now) };
+
+    /// Puts a string behind another: the units are those of both, one after the other (std's
+    /// `OsString::push`). On Windows two halves of a pair that meet become one code point
+    /// (WTF-8: concatenation). Both are well formed (test: [`Platform::check`]). It grows the
+    /// vector; where the memory is refused the vector's bytes are as they were.
+    ///
+    /// On Windows ED A0 BD with ED B8 80 pushed (hexadecimal) is F0 9F 98 80.
+    fn push_bytes<A: Allocator>(string: &mut Vec<u8, A>, more: &[u8]) -> Result<(), AllocError>
+        requires string { well_formed string.old.items }
+        requires more { well_formed more.now }
+        ensures formed { well_formed string.new.items }
+        ensures ok { OnOk result (units string.new.items ≡ units string.old.items ++ units more.now) }
+        ensures err { OnErr result (string.new.items ≡ string.old.items) };
+
+    ghost standing: { StandingLaws well_formed units };
+
     ghost laws: { PlatformLaws first_fault well_formed units is_unit_list io_safe lossy replaces };
+
+    ghost parts: { PartLaws well_formed units part_units };
 }
+
+/// Unix, and each system whose strings are any bytes.
+#[derive(Clone, Copy)]
+pub struct Unix;
+
+/// Windows and UEFI, whose strings are any 16-bit units, kept as WTF-8.
+#[derive(Clone, Copy)]
+pub struct Windows;
+
+/// WebAssembly, whose strings are UTF-8.
+#[derive(Clone, Copy)]
+pub struct Wasm;

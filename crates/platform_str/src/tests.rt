@@ -1,8 +1,7 @@
 //! Answers at fixed bytes and units, with ample memory, on all three platforms.
+mod aliases;
 mod checks;
 mod conversions;
-mod cows;
+mod examples;
 mod lossy;
-mod paths;
-mod strings;
-mod wide;
+mod order;

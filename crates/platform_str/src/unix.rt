@@ -3,10 +3,12 @@ ghost use Rattle.std.specs.Str.Lossy.{utf8_lossy};
 ghost use Rattle.wtf8_core.specs.Utf8.{IsIllFormedPart};
 ghost use Rattle.platform_str.specs.Platforms.{AreBytes, itself, IsNoFault};
 ghost use Rattle.platform_str.specs.UnixLaws.{bytes_prop, unix_laws};
+ghost use Rattle.platform_str.specs.Standing.{unix_standing};
+ghost use Rattle.platform_str.specs.PartLaws.{AreAboveAscii, unix_parts};
 
-use crate::marker::Unix;
-use crate::platform::Platform;
-use std::alloc::Global;
+use crate::join::append;
+use crate::platform::{Platform, Unix};
+use std::alloc::{AllocError, Allocator, Global};
 use wtf8_core::{EncodingError, utf8_fault};
 
 /// A borrowed string of Unix.
@@ -44,7 +46,13 @@ impl Platform for Unix {
 
     ghost replaces = { IsIllFormedPart };
 
+    ghost standing = { unix_standing };
+
     ghost laws = { unix_laws };
+
+    ghost part_units = { AreAboveAscii };
+
+    ghost parts = { unix_parts };
 
     fn check(_bytes: &[u8]) -> Result<(), EncodingError> {
         Ok(())
@@ -60,5 +68,21 @@ impl Platform for Unix {
             Some((_, None)) => bytes.len(),
             None => 0,
         }
+    }
+
+    fn first_unit(bytes: &[u8]) -> (u16, usize) {
+        (u16::from(bytes[0]), 1)
+    }
+
+    fn starts_with_os(string: &[u8], front: &[u8]) -> bool {
+        string.starts_with(front)
+    }
+
+    fn ends_with_os(string: &[u8], end: &[u8]) -> bool {
+        string.ends_with(end)
+    }
+
+    fn push_bytes<A: Allocator>(string: &mut Vec<u8, A>, more: &[u8]) -> Result<(), AllocError> {
+        append(string, more)
     }
 }

@@ -1,12 +1,14 @@
 //! The strings of WebAssembly: UTF-8 (RFC 3629). Their units are their bytes.
 ghost use Rattle.std.specs.Str.{IsUtf8};
-ghost use Rattle.wtf8_core.proofs.Propositions.{utf8_prop};
+ghost use Rattle.wtf8_core.proofs.lemmas.Propositions.{utf8_prop};
 ghost use Rattle.platform_str.specs.Platforms.{itself, IsTextFault, IsThree};
 ghost use Rattle.platform_str.specs.WasmLaws.{wasm_laws};
+ghost use Rattle.platform_str.specs.Standing.{wasm_standing};
+ghost use Rattle.platform_str.specs.PartLaws.{AreNone, wasm_parts};
 
-use crate::marker::Wasm;
-use crate::platform::Platform;
-use std::alloc::Global;
+use crate::join::append;
+use crate::platform::{Platform, Wasm};
+use std::alloc::{AllocError, Allocator, Global};
 use wtf8_core::{EncodingError, utf8_fault};
 
 /// A borrowed string of wasm.
@@ -44,7 +46,13 @@ impl Platform for Wasm {
 
     ghost replaces = { IsThree };
 
+    ghost standing = { wasm_standing };
+
     ghost laws = { wasm_laws };
+
+    ghost part_units = { AreNone };
+
+    ghost parts = { wasm_parts };
 
     fn check(bytes: &[u8]) -> Result<(), EncodingError> {
         match utf8_fault(bytes) {
@@ -62,5 +70,21 @@ impl Platform for Wasm {
 
     fn lossy_len(_bytes: &[u8]) -> usize {
         3
+    }
+
+    fn first_unit(_bytes: &[u8]) -> (u16, usize) {
+        unreachable!()
+    }
+
+    fn starts_with_os(string: &[u8], front: &[u8]) -> bool {
+        string.starts_with(front)
+    }
+
+    fn ends_with_os(string: &[u8], end: &[u8]) -> bool {
+        string.ends_with(end)
+    }
+
+    fn push_bytes<A: Allocator>(string: &mut Vec<u8, A>, more: &[u8]) -> Result<(), AllocError> {
+        append(string, more)
     }
 }

@@ -1,12 +1,12 @@
 //! The units of Windows strings.
-ghost use Rattle.std.specs.Prelude.{◌≡◌, IfOk};
+ghost use Rattle.std.specs.Prelude.{◌≡◌, [], IsOk, IfOk};
 ghost use Rattle.std.specs.Iterator.{YieldsFirst, item_count};
 ghost use Rattle.wtf8_core.specs.Wtf8.{HasUnits};
 ghost use Rattle.platform_str.specs.Strings.{bytes, string_vec_of};
 
-use crate::marker::Windows;
 use crate::os_str::OsStr;
 use crate::os_string::OsString;
+use crate::platform::{Platform, Windows};
 use std::alloc::{AllocError, Allocator};
 use std::marker::Model;
 use wtf8_core::{DecodeWide, EncodeWide};
@@ -46,11 +46,13 @@ impl<'a> Iterator for WideUnits<'a> {
 }
 
 impl<'a> OsStr<'a, Windows> {
-    /// The string's 16-bit units (RFC 2781; a surrogate stands for itself). It takes no memory.
+    /// The string's 16-bit units (RFC 2781; a surrogate stands for itself), as std's
+    /// `OsStrExt::encode_wide` on Windows. It takes no memory.
     ///
     /// The units of the bytes F0 9F 98 80 ED B0 80 (hexadecimal) are D83D, DE00, DC00.
     pub fn encode_wide(self) -> WideUnits<'a>
-        ensures { HasUnits (bytes self.entry) result }
+        ensures has_units { HasUnits (bytes self.entry) result }
+        ensures units { result ≡ ⟦<Windows as Platform>⟧.units (bytes self.entry) }
     {
         WideUnits {
             items: wtf8_core::encode_wide(self.as_encoded_bytes()),
@@ -59,11 +61,15 @@ impl<'a> OsStr<'a, Windows> {
 }
 
 impl<A: Allocator> OsString<Windows, A> {
-    /// The one string with these 16-bit units.
+    /// The one string with these 16-bit units, as std's `OsStringExt::from_wide` on Windows;
+    /// of the units that [`OsStr::encode_wide`] gives, the same string again. For no units it
+    /// takes no memory.
     ///
     /// The units D83D, DE00 (hexadecimal) give the bytes F0 9F 98 80.
     pub fn from_wide(alloc: A, units: &[u16]) -> Result<Self, AllocError>
-        ensures { IfOk result (λ string. HasUnits (string_vec_of string).items units.now) }
+        ensures has_units { IfOk result (λ string. HasUnits (string_vec_of string).items units.now) }
+        ensures units { IfOk result (λ string. ⟦<Windows as Platform>⟧.units (string_vec_of string).items ≡ units.now) }
+        ensures without_memory { units.now ≡ [] → IsOk result }
     {
         let mut vec = Vec::with_capacity(alloc, units.len())?;
         for byte in DecodeWide::new(units) {

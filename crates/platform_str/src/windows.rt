@@ -2,14 +2,17 @@
 ghost use Rattle.std.specs.Str.{IsUtf8};
 ghost use Rattle.wtf8_core.specs.Wtf8.{IsWtf8};
 ghost use Rattle.wtf8_core.specs.UnitsOf.{units_of, wtf8_lossy};
-ghost use Rattle.wtf8_core.proofs.Propositions.{wtf8_prop};
+ghost use Rattle.wtf8_core.proofs.lemmas.Propositions.{wtf8_prop};
+ghost use Rattle.wtf8_core.proofs.lemmas.TextsInStrings.{wtf8_standing};
 ghost use Rattle.platform_str.specs.Platforms.{AreWideUnits, IsWtf8Fault, IsThree};
 ghost use Rattle.platform_str.specs.WindowsLaws.{windows_laws};
+ghost use Rattle.wtf8_core.specs.PartUnits.{AreLoneSurrogates};
+ghost use Rattle.platform_str.specs.PartLaws.{windows_parts};
 
-use crate::marker::Windows;
-use crate::platform::Platform;
-use std::alloc::Global;
-use wtf8_core::{CodePoints, EncodingError};
+use crate::join::push_wtf8;
+use crate::platform::{Platform, Windows};
+use std::alloc::{AllocError, Allocator, Global};
+use wtf8_core::{CodePoints, EncodingError, encode_wide};
 
 /// A borrowed string of Windows.
 pub type OsStr<'a> = crate::OsStr<'a, Windows>;
@@ -29,6 +32,9 @@ pub type PathBuf<A = Global> = crate::PathBuf<Windows, A>;
 /// A path of Windows that is borrowed or owned.
 pub type PathCow<'a, A = Global> = crate::PathCow<'a, Windows, A>;
 
+/// How many bytes the form of a surrogate has.
+const SURROGATE_LEN: usize = 3;
+
 impl Platform for Windows {
     ghost well_formed = { IsWtf8 };
 
@@ -46,7 +52,13 @@ impl Platform for Windows {
 
     ghost replaces = { IsThree };
 
+    ghost standing = { wtf8_standing };
+
     ghost laws = { windows_laws };
+
+    ghost part_units = { AreLoneSurrogates };
+
+    ghost parts = { windows_parts };
 
     fn check(bytes: &[u8]) -> Result<(), EncodingError> {
         for item in CodePoints::new(bytes) {
@@ -62,6 +74,26 @@ impl Platform for Windows {
     }
 
     fn lossy_len(_bytes: &[u8]) -> usize {
-        3
+        SURROGATE_LEN
+    }
+
+    fn first_unit(bytes: &[u8]) -> (u16, usize) {
+        match encode_wide(bytes).next() {
+            Some(Ok(unit)) => (unit, SURROGATE_LEN),
+            Some(Err(_)) => unreachable!(),
+            None => unreachable!(),
+        }
+    }
+
+    fn starts_with_os(string: &[u8], front: &[u8]) -> bool {
+        wtf8_core::starts_with(string, front)
+    }
+
+    fn ends_with_os(string: &[u8], end: &[u8]) -> bool {
+        wtf8_core::ends_with(string, end)
+    }
+
+    fn push_bytes<A: Allocator>(string: &mut Vec<u8, A>, more: &[u8]) -> Result<(), AllocError> {
+        push_wtf8(string, more)
     }
 }

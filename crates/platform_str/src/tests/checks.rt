@@ -4,35 +4,6 @@ use crate::{EncodingError, Platform, Unix, Wasm, Windows};
 use wtf8_core::char_at;
 
 #[test]
-fn first_faults_on_windows(rt: HostRuntime) {
-    let table: [(&[u8], Result<(), EncodingError>); 17] = [
-        (b"", Ok(())),
-        (b"a\xC3\xA9\xE2\x82\xAC\xF0\x9F\x98\x80", Ok(())),
-        // surrogates stand alone, and a low one before a high one
-        (b"\xED\xA0\x80", Ok(())),
-        (b"\xED\xB0\x80\xED\xA0\x80", Ok(())),
-        (b"\xED\xA0\x80\xED\xB0\x80", Err(CodePoint(0xDC00))),
-        (b"\xED\xA0\x80\xED\xB0", Err(End)),
-        (b"\xED\xA0\x80\xED\xB0A", Err(Byte(0x41))),
-        // bytes that begin nothing, and sequences that are cut off
-        (b"\xC0", Err(Byte(0xC0))),
-        (b"\xE2\x82", Err(End)),
-        (b"\xE0\x80", Err(End)),
-        (b"\xFF", Err(End)),
-        (b"\xFFA", Err(Byte(0x41))),
-        (b"\xF5\x80A", Err(Byte(0x41))),
-        // overlong, and past the last code point
-        (b"\xE0\x80\x80", Err(CodePoint(0))),
-        (b"\xF0\x8F\xBF\xBF", Err(CodePoint(0xFFFF))),
-        (b"\xF4\x90\x80\x80", Err(CodePoint(0x11_0000))),
-        (b"\xFF\xBF\xBF\xBF", Err(CodePoint(0x3F_FFFF))),
-    ];
-    for (bytes, wanted) in table {
-        assert_eq!(rt; Windows::check(bytes), wanted, "{bytes:?}");
-    }
-}
-
-#[test]
 fn first_faults_side_by_side(rt: HostRuntime) {
     let at = |valid_up_to: usize, error_len: Option<u8>| {
         Err(Utf8 {
@@ -40,8 +11,9 @@ fn first_faults_side_by_side(rt: HostRuntime) {
             error_len,
         })
     };
-    let table: [(&[u8], Result<(), EncodingError>, Result<(), EncodingError>); 5] = [
+    let table: [(&[u8], Result<(), EncodingError>, Result<(), EncodingError>); 6] = [
         (b"a\xE2\x82", Err(End), at(1, None)),
+        (b"\xE0\x80\x80", Err(CodePoint(0)), at(0, Some(1))),
         (b"a\xE2\x82A", Err(Byte(0x41)), at(1, Some(2))),
         (b"\xED\xA0\x80", Ok(()), at(0, Some(1))),
         (b"\x80", Err(Byte(0x80)), at(0, Some(1))),
@@ -80,6 +52,34 @@ fn lossy_lengths(rt: HostRuntime) {
 fn lossy_len<E: Platform>(bytes: &[u8]) -> Option<usize> {
     match char_at(bytes, 0) {
         None if !bytes.is_empty() && E::check(bytes).is_ok() => Some(E::lossy_len(bytes)),
+        _ => None,
+    }
+}
+
+#[test]
+fn first_units(rt: HostRuntime) {
+    let table: [(&[u8], Option<(u16, usize)>, Option<(u16, usize)>); 5] = [
+        (b"\x80\xFF", Some((0x80, 1)), None),
+        (b"\xFF", Some((0xFF, 1)), None),
+        (b"\xED\xA0\x80a", Some((0xED, 1)), Some((0xD800, 3))),
+        (
+            b"\xED\xB0\x80\xED\xA0\x80",
+            Some((0xED, 1)),
+            Some((0xDC00, 3)),
+        ),
+        (b"a\x80", None, None),
+    ];
+    for (bytes, unix, windows) in table {
+        assert_eq!(rt; first_unit::<Unix>(bytes), unix, "{bytes:?}");
+        assert_eq!(rt; first_unit::<Windows>(bytes), windows, "{bytes:?}");
+        assert_eq!(rt; first_unit::<Wasm>(bytes), None, "{bytes:?}");
+    }
+}
+
+/// The first unit and its length, `None` where the bytes are no string or begin with a character.
+fn first_unit<E: Platform>(bytes: &[u8]) -> Option<(u16, usize)> {
+    match char_at(bytes, 0) {
+        None if !bytes.is_empty() && E::check(bytes).is_ok() => Some(E::first_unit(bytes)),
         _ => None,
     }
 }

@@ -1,6 +1,6 @@
 use Rattle.std.proofs.Common.{◌++◌, ap, ◌∙◌}
 use Rattle.std.specs.String.{string_bytes}
-use Rattle.platform_str.proofs.LossyLoops.{bare_at, step, next, shorter}
+use Rattle.platform_str.proofs.lemmas.LossyLoops.{bare_at, step, next, shorter}
 use Rattle.platform_str.proofs.lossy.text.Goals as goal
 
 pub lossy_len-requires-clause-bare : goal.lossy_len-requires-clause-bare

@@ -1,6 +1,6 @@
 use Rattle.std.proofs.Common.{refl}
-use Rattle.wtf8_core.proofs.Characters.{none_begins}
-use Rattle.wtf8_core.proofs.Texts.{part_of}
+use Rattle.wtf8_core.proofs.lemmas.Characters.{none_begins}
+use Rattle.wtf8_core.proofs.lemmas.Texts.{part_of}
 use Rattle.platform_str.specs.WasmLaws.{never_bare}
 use Rattle.platform_str.proofs.unix.UnixPlatform.lossy_len.Goals as goal
 

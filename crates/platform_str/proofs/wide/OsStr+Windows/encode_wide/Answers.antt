@@ -1,11 +1,14 @@
-use Rattle.std.proofs.Common.{subst}
+use Rattle.std.proofs.Common.{sym, subst}
 use Rattle.wtf8_core.specs.Wtf8.{HasUnits}
 use Rattle.wtf8_core.specs.UnitsOf.{ok_values}
-use Rattle.platform_str.proofs.WideLemmas.{ok_units}
+use Rattle.wtf8_core.proofs.lemmas.UnitsOfLemmas.{units_of-is}
+use Rattle.platform_str.proofs.lemmas.WideLemmas.{ok_units}
 use Rattle.platform_str.proofs.wide.OsStr+Windows.encode_wide.Goals as goal
 
 pub invariant_of-result : goal.invariant_of-result
 invariant_of-result c = (ok_units c.as_encoded_bytes.ensures.formed c.encode_wide.ensures).all_ok
 
 pub returns : goal.returns
-returns c = subst (λ b. HasUnits b (ok_values c.encode_wide.result)) c.as_encoded_bytes.ensures.value (ok_units c.as_encoded_bytes.ensures.formed c.encode_wide.ensures).has
+returns c =
+    let has = subst (λ b. HasUnits b (ok_values c.encode_wide.result)) c.as_encoded_bytes.ensures.value (ok_units c.as_encoded_bytes.ensures.formed c.encode_wide.ensures).has in
+    record { has_units = has; units = sym (units_of-is _ _ has) }

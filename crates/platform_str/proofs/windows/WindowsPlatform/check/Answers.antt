@@ -1,4 +1,4 @@
-use Rattle.platform_str.proofs.FirstFault.{at_ok, at_err, at_end}
+use Rattle.platform_str.proofs.lemmas.FirstFault.{at_ok, at_err, at_end}
 use Rattle.platform_str.proofs.windows.WindowsPlatform.check.Goals as goal
 
 pub returns-in-Err : goal.returns-in-Err

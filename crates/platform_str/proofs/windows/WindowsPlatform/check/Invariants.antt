@@ -1,4 +1,4 @@
-use Rattle.platform_str.proofs.FirstFault.{AreLeft}
+use Rattle.platform_str.proofs.lemmas.FirstFault.{AreLeft}
 use Rattle.platform_str.proofs.windows.WindowsPlatform.check.Given as goal
 
 abbrev pub invariant-loop-item : goal.invariant-loop-item

@@ -1,0 +1,7 @@
+pub mod FirstFault
+pub mod LossyLoops
+pub mod InPlace
+pub mod FirstUnits
+pub mod FourBytes
+pub mod WideLemmas
+pub mod ByteOrder

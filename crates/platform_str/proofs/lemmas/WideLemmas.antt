@@ -1,0 +1,58 @@
+-- The units of a string, where no fault comes.
+use Rattle.std.proofs.Common.{◌≡◌, ℕ, List, [], ◌∷◌, ◌++◌, length, map, Result, Ok, Err, refl, sym, ap, ◌∙◌, subst, arith, length-append}
+use Rattle.std.specs.List.{flat_map}
+use Rattle.wtf8_core.specs.Wtf8.{IsWtf8, HasUnits, units}
+use Rattle.wtf8_core.specs.Items.{AreItems, AreUnitItems, unit_items}
+use Rattle.wtf8_core.specs.Items.AreItems.{Whole, Faulty}
+use Rattle.wtf8_core.specs.UnitsOf.{ok_values}
+use Rattle.wtf8_core.specs.declared.fault.EncodingError.{EncodingError}
+use Rattle.wtf8_core.proofs.lemmas.Complete.{never_both}
+use Rattle.wtf8_core.proofs.lemmas.FirstErr.{units_whole}
+use Rattle.wtf8_core.proofs.lemmas.UnitsLemmas.{units_once}
+use Rattle.wtf8_core.proofs.lemmas.UnitsOfLemmas.{ok_values_of_oks}
+
+abbrev pub Item : Type 0
+Item = Result ℕ EncodingError
+
+-- no item is a fault, and the values are the units of the bytes
+pub record OkUnits (b : List ℕ) (items : List Item) : Type 0 where
+  pub all_ok : items ≡ map Ok (ok_values items)
+  pub has : HasUnits b (ok_values items)
+
+-- so it is where the bytes are WTF-8
+pub ok_units : {b : List ℕ} {items : List Item} → IsWtf8 b → AreUnitItems b items → OkUnits b items
+ok_units {b} {items} w a = by a.items a.are_items a.are
+  where
+    by : (code_points : List Item) → AreItems b code_points → items ≡ flat_map unit_items code_points → OkUnits b items
+    by code_points (Whole r) e =
+        let all : items ≡ map Ok (units r.code_points) = e ∙ units_whole r.code_points code_points r.are in
+        let values : ok_values items ≡ units r.code_points = ap ok_values all ∙ ok_values_of_oks (units r.code_points) in
+        record { all_ok = all ∙ ap (λ l. map Ok l) (sym values); has = record { code_points = r.code_points; spelled = r.spelled; are = values } }
+    by code_points (Faulty r) e = absurd (never_both b w.0 r.code_points r.fault w.1 r.first)
+
+-- a list that has no fault doesn't begin with one
+no_err : (f : EncodingError) (rest : List Item) (us : List ℕ) → Err f ∷ rest ≡ map Ok us → ⊥
+no_err f rest [] e = cc
+no_err f rest (u ∷ us) e = cc
+
+-- the first unit is the first value, and no fault comes behind it
+pub first_ok : {items rest : List Item} {u : ℕ} → items ≡ map Ok (ok_values items) → items ≡ Ok u ∷ rest → (rest ≡ map Ok (ok_values rest)) × (ok_values items ≡ u ∷ ok_values rest)
+first_ok {items} {rest} {u} a e =
+    let v : ok_values items ≡ u ∷ ok_values rest = ap ok_values e in
+    let w : Ok u ∷ rest ≡ Ok u ∷ map Ok (ok_values rest) = sym e ∙ a ∙ ap (λ l. map Ok l) v in
+    (cc, v)
+
+-- the first item is no fault
+pub first_err : {items rest : List Item} {f : EncodingError} → items ≡ map Ok (ok_values items) → items ≡ Err f ∷ rest → ⊥
+first_err {items} {rest} {f} a e = no_err f rest (ok_values items) (sym e ∙ a)
+
+-- no units are those of no bytes alone
+no_bytes : (b : List ℕ) → HasUnits b [] → b ≡ []
+no_bytes b h = units_once b [] [] h (record { code_points = []; spelled = record { code_points = tt; paired_free = tt; joined = refl }; are = refl })
+
+-- so no byte comes of no units
+pub none_comes : (written left : List ℕ) {rest us : List ℕ} {byte : ℕ} → HasUnits (written ++ left) us → left ≡ byte ∷ rest → us ≡ [] → ⊥
+none_comes written left {rest} {us} {byte} h e none =
+    let empty : length (written ++ left) ≡ 0 = ap length (no_bytes (written ++ left) (subst (HasUnits (written ++ left)) none h)) in
+    let some : length left ≡ length (byte ∷ rest) = ap length e in
+    omega (arith, length-append written left)

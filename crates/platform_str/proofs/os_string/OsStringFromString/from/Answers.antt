@@ -1,0 +1,6 @@
+use Rattle.std.proofs.lemmas.Str.{IsUtf8-string_bytes}
+use Rattle.platform_str.proofs.os_string.OsStringFromString.from.Goals as goal
+
+-- a text is a string of every platform
+pub invariant_of-result : goal.invariant_of-result
+invariant_of-result g c = record { ok = g.met.E.Platform.laws.text _ (rw c.into_bytes.ensures.value (IsUtf8-string_bytes c.args.text)) }

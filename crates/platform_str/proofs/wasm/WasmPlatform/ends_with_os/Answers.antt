@@ -1,0 +1,5 @@
+use Rattle.wtf8_core.proofs.lemmas.HalvesAtEdges.{end_tested}
+use Rattle.platform_str.proofs.wasm.WasmPlatform.ends_with_os.Goals as goal
+
+pub returns : goal.returns
+returns c = end_tested c.args.string.now c.args.end.now c.ends_with.result c.ends_with.ensures.value

@@ -1,0 +1,64 @@
+//! Joins of strings: of bytes, and of Windows strings.
+ghost use Rattle.std.specs.Prelude.{◌≡◌, ◌++◌, ◌+◌, ◌≤◌, take, drop, length, OnOk, OnErr};
+ghost use Rattle.wtf8_core.specs.CodePoint.{IsCodePoint, form};
+ghost use Rattle.wtf8_core.specs.Wtf8.{IsWtf8};
+ghost use Rattle.wtf8_core.specs.UnitsOf.{units_of};
+
+use std::alloc::{AllocError, Allocator};
+use wtf8_core::pair_between;
+
+/// Puts a Windows string behind another (WTF-8: concatenation). Where a pair arises, its form
+/// stands in the place of both surrogates. A refusal changes nothing: the memory is asked for
+/// first, and then the form is written in place.
+pub(crate) fn push_wtf8<A: Allocator>(
+    string: &mut Vec<u8, A>,
+    more: &[u8],
+) -> Result<(), AllocError>
+    requires string { IsWtf8 string.old.items }
+    requires more { IsWtf8 more.now }
+    ensures formed { IsWtf8 string.new.items }
+    ensures ok { OnOk result (units_of string.new.items ≡ units_of string.old.items ++ units_of more.now) }
+    ensures err { OnErr result (string.new.items ≡ string.old.items) }
+{
+    let bytes = string.as_slice();
+    let Some(pair) = pair_between(bytes, more) else {
+        return append(string, more);
+    };
+    let at = bytes.len() - 3;
+    let (_, behind) = more.split_at(2);
+    append(string, behind)?;
+    write_form_at(string, at, pair);
+    Ok(())
+}
+
+/// Puts bytes behind others.
+pub(crate) fn append<A: Allocator>(bytes: &mut Vec<u8, A>, more: &[u8]) -> Result<(), AllocError>
+    ensures ok { OnOk result (bytes.new.items ≡ bytes.old.items ++ more.now) }
+    ensures err { OnErr result (bytes.new.items ≡ bytes.old.items) }
+{
+    bytes.extend_from_slice(more)
+}
+
+/// Writes the form of a code point past FFFF (hexadecimal) over the four bytes from `at` on.
+fn write_form_at<A: Allocator>(bytes: &mut Vec<u8, A>, at: usize, c: u32)
+    requires room { at + 4 ≤ length bytes.old.items }
+    requires past { 0x1_0000 ≤ c }
+    requires code_point { IsCodePoint c }
+    ensures { bytes.new.items ≡ take at bytes.old.items ++ (form c ++ drop (at + 4) bytes.old.items) }
+{
+    write_form(bytes.as_mut_slice(), at, c);
+}
+
+/// The same, of a slice.
+#[tactic(auto, using(crate::proofs::lemmas::FourBytes::form_written))]
+fn write_form(bytes: &mut [u8], at: usize, c: u32)
+    requires room { at + 4 ≤ length bytes.old }
+    requires past { 0x1_0000 ≤ c }
+    requires code_point { IsCodePoint c }
+    ensures { bytes.new ≡ take at bytes.old ++ (form c ++ drop (at + 4) bytes.old) }
+{
+    bytes[at] = (0xF0 + c / 0x4_0000) as u8;
+    bytes[at + 1] = (0x80 + c / 0x1000 % 0x40) as u8;
+    bytes[at + 2] = (0x80 + c / 0x40 % 0x40) as u8;
+    bytes[at + 3] = (0x80 + c % 0x40) as u8;
+}
