@@ -1,1 +1,5 @@
 pub mod Range
+pub mod Patterns
+pub mod PiecesLeft
+pub mod Chunks
+pub mod Parts

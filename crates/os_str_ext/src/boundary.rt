@@ -1,15 +1,19 @@
-//! Where bytes may be cut.
-ghost use Rattle.std.specs.Prelude.{◌≤◌, ◌-◌, ◌↔◌, IsTrue};
+//! Where strings may be cut, and the parts at such places.
+ghost use Rattle.std.specs.Prelude.{◌≡◌, ◌≤◌, ◌-◌, ◌↔◌, ◌++◌, IsTrue, take, drop};
 ghost use Rattle.wtf8_core.specs.Character.{WholeCharacter};
 ghost use Rattle.wtf8_core.specs.Boundary.{IsBoundary};
+ghost use Rattle.platform_str.specs.Strings.{bytes};
+ghost use Rattle.os_str_ext.specs.Range.{FitsIn};
 
-use wtf8_core::char_at;
+use platform_str::{OsStr, Platform};
+use wtf8_core::{char_at, laws};
 
 /// Whether bytes may be cut at a place. A whole character has four bytes at most, so at most
 /// seven bytes are looked at.
 pub(crate) fn is_boundary(bytes: &[u8], at: usize) -> bool
     ensures { IsTrue result ↔ IsBoundary bytes.now at }
 {
+    laws::characters();
     if at == 0 || at == bytes.len() {
         return true;
     }
@@ -32,8 +36,38 @@ fn ends_character(bytes: &[u8], at: usize, size: usize) -> bool
     requires { size ≤ at }
     ensures { IsTrue result ↔ WholeCharacter bytes.now (at - size) at }
 {
+    laws::characters();
     match char_at(bytes, at - size) {
         Some(found) => found == size,
         None => false,
     }
+}
+
+/// The two parts of a string that is cut at a boundary.
+#[inline(always)]
+pub(crate) fn split_at<'a, E: Platform>(
+    string: OsStr<'a, E>,
+    at: usize,
+) -> (OsStr<'a, E>, OsStr<'a, E>)
+    requires { IsBoundary (bytes string) at }
+    ensures front { bytes result.0 ≡ take at (bytes string.entry) }
+    ensures back { bytes result.1 ≡ drop at (bytes string.entry) }
+    ensures units { E.units (bytes string.entry) ≡ E.units (bytes result.0) ++ E.units (bytes result.1) }
+{
+    let (front, back) = string.as_encoded_bytes().split_at(at);
+    (
+        OsStr::from_encoded_bytes_unchecked(front),
+        OsStr::from_encoded_bytes_unchecked(back),
+    )
+}
+
+/// The part of a string from one boundary to another.
+pub(crate) fn part<'a, E: Platform>(string: OsStr<'a, E>, start: usize, end: usize) -> OsStr<'a, E>
+    requires { FitsIn (bytes string) start end }
+    ensures { bytes result ≡ drop start (take end (bytes string.entry)) }
+{
+    laws::boundaries();
+    let (front, _) = split_at(string, end);
+    let (_, part) = split_at(front, start);
+    part
 }

@@ -1,42 +1,246 @@
 //! The calls that every string of a platform has beyond its conversions.
-ghost use Rattle.std.specs.Prelude.{◌≡◌, ◌↔◌, ◌++◌, IsTrue, length, take, drop};
+ghost use Rattle.std.specs.Prelude.{◌≡◌, ◌<◌, ◌↔◌, ◌++◌, ◌+◌, ◌*◌, ◌^◌, IsTrue, IsOk, IsErr, IfOk, IfSome, length, take, drop, map};
+ghost use Rattle.wtf8_core.specs.Standing.{Finds, IsLeastPlace, IsGreatestPlace, IsFront, IsEnd};
+ghost use Rattle.wtf8_core.specs.UnitPlace.{FindsInUnits};
 ghost use Rattle.wtf8_core.specs.Boundary.{IsBoundary};
+ghost use Rattle.wtf8_core.specs.Chunks.{AreChunks};
+ghost use Rattle.wtf8_core.specs.Pieces.{StandsSomewhere, MayBeCutAround, StripsFront, StripsEnd, SplitsOnce, IsStartTrim, IsEndTrim, IsTrim, IsSplit, IsRSplit};
+ghost use Rattle.std.specs.List.{repeat};
+ghost use Rattle.platform_str.specs.Strings.{string_vec_of};
 ghost use Rattle.os_str_ext.specs.Range.{FitsIn};
 
+use crate::chunks::Utf8Chunks;
+use crate::iter::{RSplit, Split};
+use crate::pattern::{Encoded, Pattern};
 use crate::slice_index::SliceIndex;
-use crate::{boundary, part};
-use platform_str::{OsStr, OsStrBytes, Platform};
+use crate::{boundary, parts, repeat, search};
+use platform_str::{OsStr, OsStrBytes, OsString, Platform};
+use std::alloc::{AllocError, Allocator};
 
-/// Boundaries and cuts of strings. All places are places of bytes.
+/// Searches, cuts and pieces of strings, each equivalent to the call of its name on std's `str`.
+/// All places are places of bytes. No call takes memory.
 ///
 /// A boundary is 0, the length, or a place where a whole character starts or ends, as in the
-/// documentation of std's `OsStr::slice_encoded_bytes`.
+/// documentation of std's `OsStr::slice_encoded_bytes`. A search looks for its pattern's text.
 pub trait OsStrBytesExt<'a>: OsStrBytes<'a> {
-    /// Whether the string may be cut at a place; past its length it may not (own call).
+    // Cuts.
+
+    /// Whether the string may be cut at a place, as std's `str::is_char_boundary`; past its
+    /// length it may not (own call).
     ///
     /// The Unix string of the bytes 80 C3 A9 (hexadecimal) may be cut at 0, 1 and 3.
     fn is_boundary(self, at: usize) -> bool
         ensures { IsTrue result ↔ IsBoundary (Self.bytes_of self) at };
 
-    /// The parts before and behind a boundary (test: [`OsStrBytesExt::is_boundary`]). Their
-    /// units joined are the string's.
+    /// The parts before and behind a boundary (test: [`OsStrBytesExt::is_boundary`]), as std's
+    /// `str::split_at`. Their units joined are the string's.
+    ///
+    /// "foobar" at 2 is "fo" and "obar".
     fn split_at(self, at: usize) -> (Self, Self)
         requires { IsBoundary (Self.bytes_of self) at }
         ensures front { Self.bytes_of result.0 ≡ take at (Self.bytes_of self) }
         ensures back { Self.bytes_of result.1 ≡ drop at (Self.bytes_of self) }
         ensures units { Self.Platform.units (Self.bytes_of self) ≡ Self.Platform.units (Self.bytes_of result.0) ++ Self.Platform.units (Self.bytes_of result.1) };
 
-    /// The part in a range that fits (test: [`SliceIndex::fits`]).
+    /// The part in a range that fits (test: [`SliceIndex::fits`]), as std's indexing of `str`.
     ///
     /// `index(0..=5)` of "foobar" is the whole string, `index(3..=2)` is empty.
     fn index<I: SliceIndex>(self, range: I) -> Self
         requires { FitsIn (Self.bytes_of self) (I.first_place range) (I.end_place range (length (Self.bytes_of self))) }
         ensures { Self.bytes_of result ≡ drop (I.first_place range) (take (I.end_place range (length (Self.bytes_of self))) (Self.bytes_of self)) };
 
-    /// The same as [`OsStrBytesExt::index`].
+    /// The same as [`OsStrBytesExt::index`], as std's `str::get_unchecked`, but safe.
+    ///
+    /// `get_unchecked(3..)` of "foobar" is "bar".
     fn get_unchecked<I: SliceIndex>(self, range: I) -> Self
         requires { FitsIn (Self.bytes_of self) (I.first_place range) (I.end_place range (length (Self.bytes_of self))) }
         ensures { Self.bytes_of result ≡ drop (I.first_place range) (take (I.end_place range (length (Self.bytes_of self))) (Self.bytes_of self)) };
+
+    // Searches.
+
+    /// The least place at which a pattern stands, `None` where it stands nowhere. The string
+    /// may be cut there and behind the pattern, at `place + text.len()`.
+    ///
+    /// In "foobar" `find("o")` is `Some(1)`, `find("of")` is `None` and `find("")` is `Some(0)`.
+    fn find<P: Pattern>(self, pattern: P) -> Option<usize>
+        ensures bytes { Finds IsLeastPlace (P.text pattern) (Self.bytes_of self) result }
+        ensures units { 0 < length (P.text pattern) → FindsInUnits IsLeastPlace Self.Platform.well_formed Self.Platform.units (P.text pattern) (Self.bytes_of self) result }
+        ensures edges { MayBeCutAround (Self.bytes_of self) (length (P.text pattern)) result }
+        ensures behind { IfSome result (λ at. at + length (P.text pattern) < 2 ^ 64) };
+
+    /// The greatest place at which a pattern stands, `None` where it stands nowhere. The string
+    /// may be cut there and behind the pattern, at `place + text.len()`.
+    ///
+    /// In "foobar" `rfind("o")` is `Some(2)` and `rfind("")` is `Some(6)`.
+    fn rfind<P: Pattern>(self, pattern: P) -> Option<usize>
+        ensures bytes { Finds IsGreatestPlace (P.text pattern) (Self.bytes_of self) result }
+        ensures units { 0 < length (P.text pattern) → FindsInUnits IsGreatestPlace Self.Platform.well_formed Self.Platform.units (P.text pattern) (Self.bytes_of self) result }
+        ensures edges { MayBeCutAround (Self.bytes_of self) (length (P.text pattern)) result }
+        ensures behind { IfSome result (λ at. at + length (P.text pattern) < 2 ^ 64) };
+
+    /// Whether a pattern stands somewhere.
+    ///
+    /// "foobar" contains "oba" and 'r', and not "of".
+    fn contains<P: Pattern>(self, pattern: P) -> bool
+        ensures bytes { IsTrue result ↔ StandsSomewhere (P.text pattern) (Self.bytes_of self) }
+        ensures units { 0 < length (P.text pattern) → (IsTrue result ↔ StandsSomewhere (Self.Platform.units (P.text pattern)) (Self.Platform.units (Self.bytes_of self))) };
+
+    /// Whether a pattern stands at the front.
+    ///
+    /// "foobar" starts with "foo" and "", and not with 'b'.
+    fn starts_with<P: Pattern>(self, pattern: P) -> bool
+        ensures bytes { IsTrue result ↔ IsFront (P.text pattern) (Self.bytes_of self) }
+        ensures units { IsTrue result ↔ IsFront (Self.Platform.units (P.text pattern)) (Self.Platform.units (Self.bytes_of self)) };
+
+    /// Whether a pattern stands at the end.
+    ///
+    /// "foobar" ends with "bar" and "", and not with 'b'.
+    fn ends_with<P: Pattern>(self, pattern: P) -> bool
+        ensures bytes { IsTrue result ↔ IsEnd (P.text pattern) (Self.bytes_of self) }
+        ensures units { IsTrue result ↔ IsEnd (Self.Platform.units (P.text pattern)) (Self.Platform.units (Self.bytes_of self)) };
+
+    /// Whether the units of `front` are a front of the string's; a half of a pair counts.
+    ///
+    /// The Windows string of D83D, DE00 (hexadecimal) starts with that of D83D.
+    fn starts_with_os(self, front: Self) -> bool
+        ensures { IsTrue result ↔ IsFront (Self.Platform.units (Self.bytes_of front)) (Self.Platform.units (Self.bytes_of self)) };
+
+    /// Whether the units of `end` are an end of the string's; a half of a pair counts.
+    ///
+    /// The Windows string of D83D, DE00 (hexadecimal) ends with that of DE00.
+    fn ends_with_os(self, end: Self) -> bool
+        ensures { IsTrue result ↔ IsEnd (Self.Platform.units (Self.bytes_of end)) (Self.Platform.units (Self.bytes_of self)) };
+
+    // Strips and trims.
+
+    /// What follows a pattern at the front, `None` where it doesn't stand there.
+    ///
+    /// `strip_prefix("1")` of "111foo" is "11foo", `strip_prefix("o")` is `None`.
+    fn strip_prefix<P: Pattern>(self, pattern: P) -> Option<Self>
+        ensures bytes { StripsFront Self.bytes_of (P.text pattern) (Self.bytes_of self) result }
+        ensures units { StripsFront (λ part. Self.Platform.units (Self.bytes_of part)) (Self.Platform.units (P.text pattern)) (Self.Platform.units (Self.bytes_of self)) result };
+
+    /// What stands before a pattern at the end, `None` where it doesn't stand there.
+    ///
+    /// `strip_suffix("1")` of "bar111" is "bar11".
+    fn strip_suffix<P: Pattern>(self, pattern: P) -> Option<Self>
+        ensures bytes { StripsEnd Self.bytes_of (P.text pattern) (Self.bytes_of self) result }
+        ensures units { StripsEnd (λ part. Self.Platform.units (Self.bytes_of part)) (Self.Platform.units (P.text pattern)) (Self.Platform.units (Self.bytes_of self)) result };
+
+    /// The string without each pattern at its front; the whole where the pattern is empty.
+    ///
+    /// `trim_start_matches("1")` of "111foo1" is "foo1".
+    fn trim_start_matches<P: Pattern>(self, pattern: P) -> Self
+        ensures bytes { 0 < length (P.text pattern) → IsStartTrim (P.text pattern) (Self.bytes_of self) (Self.bytes_of result) }
+        ensures units { 0 < length (P.text pattern) → IsStartTrim (Self.Platform.units (P.text pattern)) (Self.Platform.units (Self.bytes_of self)) (Self.Platform.units (Self.bytes_of result)) }
+        ensures whole { length (P.text pattern) ≡ 0 → Self.bytes_of result ≡ Self.bytes_of self };
+
+    /// The string without each pattern at its end; the whole where the pattern is empty.
+    ///
+    /// `trim_end_matches('1')` of "1bar111" is "1bar".
+    fn trim_end_matches<P: Pattern>(self, pattern: P) -> Self
+        ensures bytes { 0 < length (P.text pattern) → IsEndTrim (P.text pattern) (Self.bytes_of self) (Self.bytes_of result) }
+        ensures units { 0 < length (P.text pattern) → IsEndTrim (Self.Platform.units (P.text pattern)) (Self.Platform.units (Self.bytes_of self)) (Self.Platform.units (Self.bytes_of result)) }
+        ensures whole { length (P.text pattern) ≡ 0 → Self.bytes_of result ≡ Self.bytes_of self };
+
+    /// The string without each pattern at its front, and then without each at its end; the
+    /// whole where the pattern is empty. std has it for some patterns only.
+    ///
+    /// `trim_matches("1")` of "111foo1bar111" is "foo1bar", `trim_matches("aa")` of "aaa" is "a".
+    fn trim_matches<P: Pattern>(self, pattern: P) -> Self
+        ensures bytes { 0 < length (P.text pattern) → IsTrim (P.text pattern) (Self.bytes_of self) (Self.bytes_of result) }
+        ensures units { 0 < length (P.text pattern) → IsTrim (Self.Platform.units (P.text pattern)) (Self.Platform.units (Self.bytes_of self)) (Self.Platform.units (Self.bytes_of result)) }
+        ensures whole { length (P.text pattern) ≡ 0 → Self.bytes_of result ≡ Self.bytes_of self };
+
+    // Pieces.
+
+    /// The parts before and behind the least place of a pattern, `None` where it stands nowhere.
+    ///
+    /// `split_once("o")` of "foobar" is "f" and "obar", `split_once("")` is "" and "foobar".
+    fn split_once<P: Pattern>(self, pattern: P) -> Option<(Self, Self)>
+        ensures bytes { SplitsOnce IsLeastPlace Self.bytes_of (P.text pattern) (Self.bytes_of self) result }
+        ensures units { 0 < length (P.text pattern) → SplitsOnce IsLeastPlace (λ part. Self.Platform.units (Self.bytes_of part)) (Self.Platform.units (P.text pattern)) (Self.Platform.units (Self.bytes_of self)) result };
+
+    /// The parts before and behind the greatest place of a pattern, `None` where it stands
+    /// nowhere.
+    ///
+    /// `rsplit_once("o")` of "foobar" is "fo" and "bar", `rsplit_once("")` is "foobar" and "".
+    fn rsplit_once<P: Pattern>(self, pattern: P) -> Option<(Self, Self)>
+        ensures bytes { SplitsOnce IsGreatestPlace Self.bytes_of (P.text pattern) (Self.bytes_of self) result }
+        ensures units { 0 < length (P.text pattern) → SplitsOnce IsGreatestPlace (λ part. Self.Platform.units (Self.bytes_of part)) (Self.Platform.units (P.text pattern)) (Self.Platform.units (Self.bytes_of self)) result };
+
+    /// The pieces between the places of a pattern, each cut at the least place in what is left.
+    /// The pattern isn't empty (test: `str::is_empty`; a `char` never is).
+    ///
+    /// `split("o")` of "foobar" gives "f", "" and "bar", `split("aa")` of "aaa" gives "" and "a".
+    final fn split<P: Pattern>(self, pattern: P) -> Split<'a, Self::Platform, P>
+        requires { P.not_empty pattern }
+        ensures bytes { IsSplit (P.text pattern) (Self.bytes_of self) result }
+        ensures units { IsSplit (Self.Platform.units (P.text pattern)) (Self.Platform.units (Self.bytes_of self)) (map Self.Platform.units result) }
+    {
+        Split::new(
+            OsStr::from_encoded_bytes_unchecked(self.encoded_bytes()),
+            pattern,
+        )
+    }
+
+    /// The pieces between the places of a pattern from the end, each cut at the greatest place
+    /// in what is left. The pattern isn't empty (test: `str::is_empty`; a `char` never is).
+    ///
+    /// `rsplit("o")` of "foobar" gives "bar", "" and "f", `rsplit("aa")` of "aaa" gives "" and
+    /// "a".
+    final fn rsplit<P: Pattern>(self, pattern: P) -> RSplit<'a, Self::Platform, P>
+        requires { P.not_empty pattern }
+        ensures bytes { IsRSplit (P.text pattern) (Self.bytes_of self) result }
+        ensures units { IsRSplit (Self.Platform.units (P.text pattern)) (Self.Platform.units (Self.bytes_of self)) (map Self.Platform.units result) }
+    {
+        RSplit::new(
+            OsStr::from_encoded_bytes_unchecked(self.encoded_bytes()),
+            pattern,
+        )
+    }
+
+    // Chunks.
+
+    /// The string's chunks: its parts in which no whole character stands, each with the text
+    /// behind it. Only the first part may be empty, and only the last text; never both of one
+    /// chunk. All chunks joined are the string, and it has no other list of them. std's
+    /// `[u8]::utf8_chunks` puts each text first and ends a part at each fault.
+    ///
+    /// The Unix string of the bytes 66 6F 80 FF 6F (hexadecimal) has the chunks "", "fo" and
+    /// 80 FF, "o".
+    final fn utf8_chunks(self) -> Utf8Chunks<'a, Self::Platform>
+        ensures { AreChunks (Self.bytes_of self) result }
+    {
+        Utf8Chunks::new(OsStr::from_encoded_bytes_unchecked(self.encoded_bytes()))
+    }
+
+    // Joins.
+
+    /// The string `count` times over: its units, one time after the other (std's `str::repeat`).
+    /// On Windows two halves of a pair that meet become one code point.
+    ///
+    /// It takes the memory at once. `AllocError` is also answered where `count` times the number
+    /// of bytes passes `usize::MAX`. No times, and the empty string any number of times, take no
+    /// memory.
+    ///
+    /// `repeat(3)` of "foo" is "foofoofoo". On Windows `repeat(2)` of the string of DC00, D800
+    /// (hexadecimal) is that of DC00, D800, DC00, D800: ED B0 80 F0 90 80 80 ED A0 80.
+    final fn repeat<A: Allocator>(
+        self,
+        alloc: A,
+        count: usize,
+    ) -> Result<OsString<Self::Platform, A>, AllocError>
+        ensures units { IfOk result (λ made. Self.Platform.units (string_vec_of made).items ≡ repeat count (Self.Platform.units (Self.bytes_of self))) }
+        ensures empty { count * length (Self.bytes_of self) ≡ 0 → IsOk result }
+        ensures overflow { usize.MAX < count * length (Self.bytes_of self) → IsErr result }
+    {
+        repeat::repeat(
+            alloc,
+            OsStr::from_encoded_bytes_unchecked(self.encoded_bytes()),
+            count,
+        )
+    }
 }
 
 impl<'a, E: Platform + 'a> OsStrBytesExt<'a> for OsStr<'a, E> {
@@ -45,7 +249,7 @@ impl<'a, E: Platform + 'a> OsStrBytesExt<'a> for OsStr<'a, E> {
     }
 
     fn split_at(self, at: usize) -> (Self, Self) {
-        part::split_at(self, at)
+        boundary::split_at(self, at)
     }
 
     fn index<I: SliceIndex>(self, range: I) -> Self {
@@ -54,5 +258,84 @@ impl<'a, E: Platform + 'a> OsStrBytesExt<'a> for OsStr<'a, E> {
 
     fn get_unchecked<I: SliceIndex>(self, range: I) -> Self {
         range.get_unchecked(self)
+    }
+
+    #[inline(always)]
+    fn find<P: Pattern>(self, pattern: P) -> Option<usize> {
+        let encoded = pattern.encode();
+        search::find(self.as_encoded_bytes(), encoded.as_str())
+    }
+
+    #[inline(always)]
+    fn rfind<P: Pattern>(self, pattern: P) -> Option<usize> {
+        let encoded = pattern.encode();
+        search::rfind(self.as_encoded_bytes(), encoded.as_str())
+    }
+
+    #[inline(always)]
+    #[tactic(auto, using(crate::proofs::lemmas::Searches::found_somewhere))]
+    fn contains<P: Pattern>(self, pattern: P) -> bool {
+        self.find(pattern).is_some()
+    }
+
+    #[inline(always)]
+    fn starts_with<P: Pattern>(self, pattern: P) -> bool {
+        let encoded = pattern.encode();
+        search::starts_with(self.as_encoded_bytes(), encoded.as_str())
+    }
+
+    #[inline(always)]
+    fn ends_with<P: Pattern>(self, pattern: P) -> bool {
+        let encoded = pattern.encode();
+        search::ends_with(self.as_encoded_bytes(), encoded.as_str())
+    }
+
+    #[inline(always)]
+    fn starts_with_os(self, front: Self) -> bool {
+        E::starts_with_os(self.as_encoded_bytes(), front.as_encoded_bytes())
+    }
+
+    #[inline(always)]
+    fn ends_with_os(self, end: Self) -> bool {
+        E::ends_with_os(self.as_encoded_bytes(), end.as_encoded_bytes())
+    }
+
+    #[inline(always)]
+    fn strip_prefix<P: Pattern>(self, pattern: P) -> Option<Self> {
+        let encoded = pattern.encode();
+        parts::strip_prefix(self, encoded.as_str())
+    }
+
+    #[inline(always)]
+    fn strip_suffix<P: Pattern>(self, pattern: P) -> Option<Self> {
+        let encoded = pattern.encode();
+        parts::strip_suffix(self, encoded.as_str())
+    }
+
+    fn trim_start_matches<P: Pattern>(self, pattern: P) -> Self {
+        let encoded = pattern.encode();
+        parts::trim_start(self, encoded.as_str())
+    }
+
+    fn trim_end_matches<P: Pattern>(self, pattern: P) -> Self {
+        let encoded = pattern.encode();
+        parts::trim_end(self, encoded.as_str())
+    }
+
+    fn trim_matches<P: Pattern>(self, pattern: P) -> Self {
+        let encoded = pattern.encode();
+        parts::trim_end(parts::trim_start(self, encoded.as_str()), encoded.as_str())
+    }
+
+    #[inline(always)]
+    fn split_once<P: Pattern>(self, pattern: P) -> Option<(Self, Self)> {
+        let encoded = pattern.encode();
+        parts::split_once(self, encoded.as_str())
+    }
+
+    #[inline(always)]
+    fn rsplit_once<P: Pattern>(self, pattern: P) -> Option<(Self, Self)> {
+        let encoded = pattern.encode();
+        parts::rsplit_once(self, encoded.as_str())
     }
 }

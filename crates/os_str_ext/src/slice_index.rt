@@ -4,8 +4,7 @@ ghost use Rattle.std.specs.Range.{range_inclusive_start, range_inclusive_end};
 ghost use Rattle.platform_str.specs.Strings.{bytes};
 ghost use Rattle.os_str_ext.specs.Range.{FitsIn};
 
-use crate::part::part;
-use crate::range::{fits, fits_inclusive};
+use crate::boundary::{is_boundary, part};
 use platform_str::{OsStr, Platform};
 use std::ops::{Range, RangeFrom, RangeFull, RangeInclusive, RangeTo, RangeToInclusive};
 
@@ -121,4 +120,24 @@ impl SliceIndex for RangeToInclusive<usize> {
     fn index<'a, E: Platform>(self, string: OsStr<'a, E>) -> OsStr<'a, E> {
         part(string, 0, self.end + 1)
     }
+}
+
+/// Whether the bytes from place `start` to place `end` are a part that may be cut out.
+fn fits<E: Platform>(string: OsStr<'_, E>, start: usize, end: usize) -> bool
+    ensures { IsTrue result ↔ FitsIn (bytes string.entry) start end }
+{
+    fits_in_bytes(string.as_encoded_bytes(), start, end)
+}
+
+/// The same from place `start` to the place behind `last`.
+fn fits_inclusive<E: Platform>(string: OsStr<'_, E>, start: usize, last: usize) -> bool
+    ensures { IsTrue result ↔ FitsIn (bytes string.entry) start (last + 1) }
+{
+    last < string.len() && fits(string, start, last + 1)
+}
+
+fn fits_in_bytes(bytes: &[u8], start: usize, end: usize) -> bool
+    ensures { IsTrue result ↔ FitsIn bytes.now start end }
+{
+    start <= end && end <= bytes.len() && is_boundary(bytes, start) && is_boundary(bytes, end)
 }

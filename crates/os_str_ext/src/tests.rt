@@ -2,7 +2,12 @@
 use crate::{OsStr, OsStrBytes, OsStrBytesExt, Platform, SliceIndex, Unix, Wasm, Windows};
 use std::process::Abort;
 
+mod chunks;
+mod halves;
+mod pieces;
 mod ranges;
+mod repeats;
+mod searches;
 
 /// The string of raw bytes.
 fn string<'a, E: Platform>(rt: &impl Abort, raw: &'a [u8]) -> OsStr<'a, E> {
@@ -50,14 +55,4 @@ fn cuts(rt: HostRuntime) {
     cut_in_two(&rt, OsStr::<Unix>::new("foobar"));
     cut_in_two(&rt, OsStr::<Windows>::new("foobar"));
     cut_in_two(&rt, OsStr::<Wasm>::new("foobar"));
-}
-
-#[test]
-fn callers(rt: HostRuntime) {
-    let text = OsStr::<Windows>::new("\u{E9}a");
-    assert!(rt; crate::callers::front(text, 2) == Some(OsStr::new("\u{E9}")));
-    assert!(rt; crate::callers::front(text, 1) == None);
-    assert!(rt; crate::callers::part(text, 2..3) == Some(OsStr::new("a")));
-    assert!(rt; crate::callers::part(text, 1..3) == None);
-    assert!(rt; text.encoded_bytes() == "\u{E9}a".as_bytes());
 }

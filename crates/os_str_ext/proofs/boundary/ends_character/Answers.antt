@@ -1,7 +1,6 @@
-use Rattle.std.proofs.Common.{◌≡◌, ◌+◌, ◌-◌, ℕ, arith, subst}
+use Rattle.std.proofs.Common.{◌≡◌, ◌+◌, ◌-◌, ℕ, arith, subst, ⊎_elim}
 use Rattle.std.proofs.lemmas.Bool.{false≢true, eqb-true, eq-eqb}
 use Rattle.wtf8_core.specs.Character.{WholeCharacter}
-use Rattle.wtf8_core.proofs.Characters.{same_end}
 use Rattle.os_str_ext.proofs.boundary.ends_character.Goals as goal
 
 pub returns-in-None : goal.returns-in-None
@@ -18,5 +17,11 @@ returns-in-Some c =
           let same = eqb-true m c.args.size e in
           let end : i + m ≡ c.args.at = omega arith in
           subst P end c.in-Some.ensures,
-      λ h. let end = same_end s i _ _ c.in-Some.ensures h in eq-eqb m c.args.size (omega arith),
+      λ h.
+          let one = c.characters.ensures.fits s i _ c.in-Some.ensures in
+          let other = c.characters.ensures.fits s i _ h in
+          ⊎_elim
+          (λ same. let end = same.1 in eq-eqb m c.args.size (omega arith))
+          (⊎_elim (λ le. absurd (omega arith)) (λ le. absurd (omega arith)))
+          (c.characters.ensures.apart s i _ i _ c.in-Some.ensures h),
     )

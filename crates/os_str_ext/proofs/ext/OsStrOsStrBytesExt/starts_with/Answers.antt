@@ -1,0 +1,11 @@
+use Rattle.std.proofs.Common.{subst}
+use Rattle.std.specs.Str.{IsUtf8}
+use Rattle.wtf8_core.proofs.lemmas.PiecesInUnits.{front_alike}
+use Rattle.platform_str.specs.Strings.{bytes}
+use Rattle.os_str_ext.proofs.ext.OsStrOsStrBytesExt.starts_with.Goals as goal
+
+pub returns-clause-units : goal.returns-clause-units
+returns-clause-units g c =
+    let b = rw (c.as_str.ensures, c.encode-encoded.ensures.value, c.as_encoded_bytes.ensures.value) at c.starts_with.ensures.front in
+    let u = front_alike g.E.Platform.well_formed g.E.Platform.units g.met.E.Platform.standing (g.P.Pattern.text c.args.pattern) (bytes c.args.self) (subst IsUtf8 c.encode-encoded.ensures.value c.encode-encoded.ensures.utf8) c.args.self.ok in
+    (λ t. u.0 (b.0 t), λ f. b.1 (u.1 f))

@@ -1,0 +1,134 @@
+-- The first chunk by its ends, and the chunks behind it.
+use Rattle.std.proofs.Common.{◌≡◌, ⊎_elim, inl, inr, ℕ, ◌+◌, ◌<◌, ◌≤◌, List, [], ◌∷◌, ◌++◌, length, take, drop, sym, ap, ◌∙◌, subst, arith, length-append, length-drop, take-append-drop, append_assoc}
+use Rattle.std.proofs.lemmas.Bool.{cases_lt, cases_eq}
+use Rattle.std.proofs.lemmas.List.{length-take-le, take-take, drop_all, drop-append-le}
+use Rattle.std.proofs.lemmas.Str.{IsUtf8-append, IsUtf8-encode}
+use Rattle.std.proofs.Math.Seq.{take-add, take-append_seam}
+use Rattle.std.specs.Str.{IsUtf8}
+use Rattle.wtf8_core.specs.Boundary.{IsBoundary}
+use Rattle.wtf8_core.specs.Character.{WholeCharacter}
+use Rattle.wtf8_core.specs.Covered.{IsCovered, IsSeam, IsBare}
+use Rattle.wtf8_core.specs.Chunks.{Chunk}
+use Rattle.wtf8_core.specs.Standing.{StandsAt}
+use Rattle.wtf8_core.specs.CodePoint.{form}
+use Rattle.wtf8_core.proofs.lemmas.Characters.{character_fits, begins_at}
+use Rattle.wtf8_core.proofs.lemmas.FormsByStd.{form_encode}
+use Rattle.wtf8_core.proofs.lemmas.ChunkLemmas.{some_chunks, chunks_once, one_more_chunk}
+use Rattle.wtf8_core.proofs.lemmas.Edges.{edges_of_text}
+use Rattle.wtf8_core.proofs.lemmas.Seams.{Bare, text_covered, seam_behind_bare, whole_within}
+use Rattle.os_str_ext.specs.Chunks.{chunks_of, IsFirstChunk}
+
+-- what the two ends say
+pub record HasEnds (s : List ℕ) (m e : ℕ) : Type 0 where
+  pub bare : (k j : ℕ) → k < m → WholeCharacter s k j → ⊥
+  pub started : m < length s → (j : ℕ) × WholeCharacter s m j
+  pub ordered : m ≤ e
+  pub within : e ≤ length s
+  pub text : IsUtf8 (drop m (take e s))
+  pub ended : (j : ℕ) → WholeCharacter s e j → ⊥
+
+-- the parts of a string that is cut twice
+cut_twice : (s : List ℕ) (m e : ℕ) → m ≤ e → s ≡ take m s ++ (drop m (take e s) ++ drop e s)
+cut_twice s m e le =
+    sym (take-append-drop e s) ∙ ap (λ x. x ++ drop e s) (sym (take-append-drop m (take e s)) ∙ ap (λ x. x ++ drop m (take e s)) (take-take m e s le)) ∙ append_assoc (take m s) (drop m (take e s)) (drop e s)
+
+module _ (s : List ℕ) (m e : ℕ) (ordered : m ≤ e) (within : e ≤ length s) where
+  front_size : length (take m s) ≡ m
+  front_size = length-take-le m s (omega arith)
+
+  text_size : length (take m s) + length (drop m (take e s)) ≡ e
+  text_size = omega (arith, front_size, length-take-le e s within, length-drop m (take e s))
+
+  -- the front's bytes lie in no whole character
+  bare_in_front : ((k : ℕ) → k < m → ¬ (IsCovered s k)) → Bare s 0 (take m s)
+  bare_in_front h k low high = h k (omega (arith, front_size))
+
+  -- behind the front a text's bytes lie in whole characters
+  text_in_rest : ((k : ℕ) → k < m → ¬ (IsCovered s k)) → IsUtf8 (drop m (take e s)) → IsSeam s e
+  text_in_rest h u = subst (IsSeam s) text_size (text_covered s (take m s) (drop m (take e s)) (drop e s) (cut_twice s m e ordered) u (seam_behind_bare s (take m s) (bare_in_front h))).1
+
+-- the ends are those of the first chunk
+pub first_from_ends : (s : List ℕ) (m e : ℕ) → HasEnds s m e → IsFirstChunk s m e
+first_from_ends s m e h = record {
+  ordered = h.ordered;
+  within = h.within;
+  bare = bare;
+  text = h.text;
+  some = λ lt. ⊎_elim (λ q. absurd (let w = h.started lt in h.ended w.0 (subst (λ x. WholeCharacter s x w.0) q w.1))) (λ ne. omega (arith, h.ordered)) (cases_eq m e);
+  ended = λ lt c.
+      let from = c.from in
+      ⊎_elim (λ q. h.ended c.end (subst (λ x. WholeCharacter s x c.end) q c.whole)) (λ ne. text_in_rest s m e h.ordered h.within bare h.text c.start c.end c.whole (omega arith) c.below) (cases_eq c.start e);
+}
+  where
+    bare : (k : ℕ) → k < m → ¬ (IsCovered s k)
+    bare k lt c = let from = c.from in h.bare c.start c.end (omega arith) c.whole
+
+module _ (s : List ℕ) (m e : ℕ) (h : IsFirstChunk s m e) where
+  -- where the text isn't empty, both its edges are boundaries
+  text_edges : m < e → IsBoundary s m × IsBoundary s e
+  text_edges lt =
+      let ordered = h.ordered in
+      let t = drop m (take e s) in
+      let size = text_size s m e h.ordered h.within in
+      let front = front_size s m e h.ordered h.within in
+      let z : m + length t ≡ e = omega arith in
+      let stands : StandsAt t s m = record { before = take m s; behind = drop e s; joined = cut_twice s m e h.ordered; place = front } in
+      subst (λ x. IsBoundary s m × IsBoundary s x) z (edges_of_text t s m h.text (omega arith) stands)
+
+  -- so are those of an empty one
+  pub edges : IsBoundary s m × IsBoundary s e
+  edges =
+      let ordered = h.ordered in
+      let within = h.within in
+      ⊎_elim text_edges (λ ge. ⊎_elim (λ lt. absurd (let some = h.some lt in omega arith))
+      (λ end. let p : m ≡ length s = omega arith in let q : e ≡ length s = omega arith in (record { is = inr (inl p) }, record { is = inr (inl q) })) (cases_lt m (length s))) (cases_lt m e)
+
+  -- the part has no whole character
+  pub part_is_bare : IsBare (take m s)
+  part_is_bare i j w =
+      let f = character_fits (take m s) i j w in
+      let size = front_size s m e h.ordered h.within in
+      let v = whole_within s [] (take m s) (drop m s) i j (sym (take-append-drop m s)) w in
+      h.bare i (omega arith) (record { start = 0 + i; end = 0 + j; whole = v; from = omega arith; below = omega arith })
+
+  -- and the chunks are the first and those of the rest
+  pub first_and_rest : 0 < length s → chunks_of s ≡ (take m s, drop m (take e s)) ∷ chunks_of (drop e s)
+  first_and_rest some =
+      let ordered = h.ordered in
+      let within = h.within in
+      let p = take m s in
+      let t = drop m (take e s) in
+      let r = drop e s in
+      let bare = bare_in_front s m e h.ordered h.within h.bare in
+      let size : length (p ++ t) ≡ e = length-append p t ∙ text_size s m e h.ordered h.within in
+      let text = text_covered s p t r (cut_twice s m e h.ordered) h.text (seam_behind_bare s p bare) in
+      let last : t ≡ [] → r ≡ [] = λ none.
+      let l : length t ≡ 0 = ap length none in
+      let a = text_size s m e h.ordered h.within in
+      let b = front_size s m e h.ordered h.within in
+      drop_all e s (⊎_elim (λ lt. absurd (let c = h.some lt in omega arith)) (λ ge. omega arith) (cases_lt m (length s))) in
+      chunks_once s (chunks_of s) ((p, t) ∷ chunks_of r) (some_chunks s).1
+      (one_more_chunk s p t r (chunks_of r) (cut_twice s m e h.ordered) some bare text.0 (subst (IsSeam s) (sym size) (text_in_rest s m e h.ordered h.within h.bare h.text)) last (λ lt. subst (λ n. ¬ (IsCovered s n)) (sym size) (h.ended (omega (arith, length-drop e s)))) (some_chunks r).1)
+
+-- chunks of equal bytes
+pub same_first : {p q t u r v : List ℕ} → p ≡ q → t ≡ u → r ≡ v → (p, t) ∷ chunks_of r ≡ (q, u) ∷ chunks_of v
+same_first {p} {q} {t} {u} {r} {v} e f g = ap (λ x. (x, t) ∷ chunks_of r) e ∙ ap (λ x. (q, x) ∷ chunks_of r) f ∙ ap (λ x. (q, u) ∷ chunks_of x) g
+
+-- no bytes have no chunks
+pub no_chunks : (s : List ℕ) → s ≡ [] → chunks_of s ≡ []
+no_chunks s e = chunks_once s (chunks_of s) [] (some_chunks s).1 (record { joins = sym e; each = λ before behind c q. absurd (never before c behind q) })
+  where
+    never : (before : List Chunk) (c : Chunk) (behind : List Chunk) → [] ≡ before ++ c ∷ behind → ⊥
+    never [] c behind q = cc
+    never (b ∷ before) c behind q = cc
+
+-- one more character of a text
+pub text_grows : (s : List ℕ) (i j k : ℕ) → i ≤ j → IsUtf8 (drop i (take j s)) → WholeCharacter s j k → IsUtf8 (drop i (take k s))
+text_grows s i j k le u w =
+    let f = character_fits s j k w in
+    let end = w.end in
+    let short : length (take j s) ≡ j = length-take-le j s (omega arith) in
+    let n = length (form w.char) in
+    let split : take k s ≡ take j s ++ form w.char =
+    ap (λ m. take m s) end ∙ take-add j n s ∙ ap (λ x. take j s ++ take n x) (begins_at s j k w) ∙ ap (λ x. take j s ++ x) (take-append_seam (form w.char) w.stands.behind) in
+    subst IsUtf8 (sym (ap (drop i) split ∙ drop-append-le i (take j s) (form w.char) (omega arith))) (IsUtf8-append _ _ u (subst IsUtf8 (sym (form_encode w.char)) (IsUtf8-encode w.char w.scalar)))

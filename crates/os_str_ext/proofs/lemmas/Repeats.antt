@@ -1,0 +1,34 @@
+-- Strings some number of times over, by the laws of standing.
+use Rattle.std.proofs.Common.{◌≡◌, ℕ, zero, suc, ◌+◌, List, [], ◌∷◌, ◌++◌, length, refl, sym, ap, ◌∙◌, subst, arith, append_assoc, append-nil}
+use Rattle.std.specs.List.{repeat}
+use Rattle.wtf8_core.specs.StandingLaws.{StandingLaws}
+use Rattle.wtf8_core.proofs.lemmas.PlacesInUnits.{nil_formed, no_units}
+
+-- no list
+abbrev empty : List ℕ
+empty = []
+
+-- the empty list any number of times over
+repeat-nil : (n : ℕ) → repeat n empty ≡ []
+repeat-nil zero = refl
+repeat-nil (suc n) = repeat-nil n
+
+-- a list one time more
+repeat-more : (n : ℕ) (xs : List ℕ) → repeat (n + 1) xs ≡ repeat n xs ++ xs
+repeat-more zero xs = append-nil xs
+repeat-more (suc n) xs = let e : suc n + 1 ≡ suc (n + 1) = omega arith in rw e (ap (λ ys. xs ++ ys) (repeat-more n xs) ∙ sym (append_assoc xs (repeat n xs) xs))
+
+module _ (wf : List ℕ → Type 0) (units : List ℕ → List ℕ) (laws : StandingLaws wf units) where
+  -- v has the units of s so many times over
+  abbrev pub IsRepeated : List ℕ → ℕ → List ℕ → Type 0
+  IsRepeated s n v = wf v × (units v ≡ repeat n (units s))
+
+  pub no_times : (s v : List ℕ) (n : ℕ) → v ≡ [] → n ≡ 0 → IsRepeated s n v
+  no_times s v n e h = (subst wf (sym e) (nil_formed wf units laws), ap units e ∙ no_units wf units laws ∙ ap (λ k. repeat k (units s)) (sym h))
+
+  pub of_nothing : (s v : List ℕ) (n : ℕ) → v ≡ [] → length s ≡ 0 → IsRepeated s n v
+  of_nothing [] v n e h = (subst wf (sym e) (nil_formed wf units laws), ap units e ∙ no_units wf units laws ∙ sym (repeat-nil n) ∙ ap (repeat n) (sym (no_units wf units laws)))
+  of_nothing (x ∷ s) v n e h = absurd (omega arith)
+
+  pub once_more : (s v w : List ℕ) (n : ℕ) → IsRepeated s n v → wf w → units w ≡ units v ++ units s → IsRepeated s (n + 1) w
+  once_more s v w n r f e = (f, e ∙ ap (λ z. z ++ units s) r.1 ∙ sym (repeat-more n (units s)))

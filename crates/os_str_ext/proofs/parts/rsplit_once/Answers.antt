@@ -1,0 +1,12 @@
+use Rattle.wtf8_core.specs.Standing.{IsGreatestPlace}
+use Rattle.platform_str.specs.Strings.{bytes}
+use Rattle.os_str_ext.proofs.lemmas.Searches.{parts_around}
+use Rattle.os_str_ext.proofs.parts.rsplit_once.Goals as goal
+
+pub returns-in_default : goal.returns-in_default
+returns-in_default g c = rw c.as_encoded_bytes.ensures.value at c.in_default.ensures.place
+
+pub returns : goal.returns
+returns g c =
+    let found = rw c.as_encoded_bytes.ensures.value at c.in-Some.ensures.place in
+    parts_around IsGreatestPlace c.args.text.now (bytes c.args.string) _ _ c.in-Some.at found found.stands c.around.ensures.front c.around.ensures.back

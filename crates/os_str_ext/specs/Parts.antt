@@ -1,0 +1,15 @@
+-- What clauses see of a part and of its units: the bytes, and a unit's number.
+use Rattle.std.specs.Prelude.{ℕ, List}
+use Rattle.platform_str.specs.declared.platform.Platform.{Ghosts}
+use Rattle.platform_str.specs.Strings.{bytes}
+use Rattle.os_str_ext.specs.declared.os_units.NonUnicodeOsStr.{NonUnicodeOsStr}
+use Rattle.os_str_ext.specs.declared.os_units.OsUnit.{OsUnit}
+
+module _ {E : Type 0} {P : Ghosts E} where
+  -- the bytes of a part
+  abbrev pub part_bytes : NonUnicodeOsStr E P → List ℕ
+  part_bytes part = bytes part.string
+
+-- the number of a unit
+abbrev pub unit_number : OsUnit → ℕ
+unit_number unit = unit.number

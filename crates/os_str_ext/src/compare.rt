@@ -1,0 +1,71 @@
+//! Whether bytes are the same: of a pattern and of the string at its front or end.
+ghost use Rattle.std.specs.Prelude.{◌≡◌, ◌+◌, ◌≤◌, ◌↔◌, IsTrue, length, take};
+ghost use Rattle.std.specs.Int.{from_le_bytes, to_le_bytes, w32, w64};
+
+/// Whether two lists of bytes of one length are the same. From four to sixteen bytes, those at
+/// the front and those at the end are compared as numbers.
+#[inline(always)]
+pub(crate) fn are_same(a: &[u8], b: &[u8]) -> bool
+    requires { length a.now ≡ length b.now }
+    ensures { IsTrue result ↔ (a.now ≡ b.now) }
+{
+    if a.len() < 4 || 16 < a.len() {
+        return a == b;
+    }
+    if a.len() <= 8 {
+        return are_same_by_four(a, b);
+    }
+    are_same_by_eight(a, b)
+}
+
+/// The same of four to eight bytes.
+#[inline(always)]
+fn are_same_by_four(a: &[u8], b: &[u8]) -> bool
+    requires lengths { length a.now ≡ length b.now }
+    requires at_least { 4 ≤ length a.now }
+    requires at_most { length a.now ≤ 8 }
+    ensures { IsTrue result ↔ (a.now ≡ b.now) }
+{
+    let (_, a_back) = a.split_at(a.len() - 4);
+    let (_, b_back) = b.split_at(b.len() - 4);
+    first_four(a) == first_four(b) && first_four(a_back) == first_four(b_back)
+}
+
+/// The same of eight to sixteen bytes.
+#[inline(always)]
+fn are_same_by_eight(a: &[u8], b: &[u8]) -> bool
+    requires lengths { length a.now ≡ length b.now }
+    requires at_least { 8 ≤ length a.now }
+    requires at_most { length a.now ≤ 16 }
+    ensures { IsTrue result ↔ (a.now ≡ b.now) }
+{
+    let (_, a_back) = a.split_at(a.len() - 8);
+    let (_, b_back) = b.split_at(b.len() - 8);
+    first_eight(a) == first_eight(b) && first_eight(a_back) == first_eight(b_back)
+}
+
+/// The first four bytes as a number, from which they can be had back.
+#[inline(always)]
+fn first_four(bytes: &[u8]) -> u32
+    requires { 4 ≤ length bytes.now }
+    ensures number { result ≡ from_le_bytes w32 (take 4 bytes.now) }
+    ensures written { to_le_bytes w32 result ≡ take 4 bytes.now }
+{
+    match bytes.first_chunk::<4>() {
+        Some(chunk) => u32::from_le_bytes(*chunk),
+        None => 0,
+    }
+}
+
+/// The first eight bytes as a number, from which they can be had back.
+#[inline(always)]
+fn first_eight(bytes: &[u8]) -> u64
+    requires { 8 ≤ length bytes.now }
+    ensures number { result ≡ from_le_bytes w64 (take 8 bytes.now) }
+    ensures written { to_le_bytes w64 result ≡ take 8 bytes.now }
+{
+    match bytes.first_chunk::<8>() {
+        Some(chunk) => u64::from_le_bytes(*chunk),
+        None => 0,
+    }
+}

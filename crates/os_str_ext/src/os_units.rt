@@ -1,0 +1,156 @@
+//! Parts, the strings in which no whole character stands, and their units.
+ghost use Rattle.std.specs.Prelude.{◌≡◌, ◌∷◌, ◌<◌, length};
+ghost use Rattle.wtf8_core.specs.Covered.{IsBare};
+ghost use Rattle.platform_str.specs.Strings.{bytes};
+
+use platform_str::{OsStr, Platform};
+use std::alloc::AllocError;
+use std::marker::Model;
+
+/// A string in which no whole character stands: the part of a chunk.
+///
+/// Parts are equal where their bytes are, and are ordered as their bytes are. Equal parts hash
+/// alike.
+#[derive_where(PartialEq, Eq, PartialOrd, Ord, Hash)]
+pub struct NonUnicodeOsStr<'a, E: Platform + 'a> {
+    string: OsStr<'a, E>,
+    pub ghost bare: { IsBare (bytes string) },
+}
+
+impl<'a, E: Platform> Clone for NonUnicodeOsStr<'a, E> {
+    ghost is_clone = { λ x y. y ≡ x };
+
+    ghost is_infallible = { λ _. Unit {0} };
+
+    fn clone(&self) -> Result<Self, AllocError> {
+        Ok(*self)
+    }
+}
+
+impl<'a, E: Platform> Copy for NonUnicodeOsStr<'a, E> {}
+
+impl<'a, E: Platform> NonUnicodeOsStr<'a, E> {
+    ghost use Rattle.std.specs.List.{flat_map};
+    ghost use Rattle.wtf8_core.specs.PartUnits.{unit_bytes};
+    ghost use Rattle.os_str_ext.specs.Parts.{part_bytes, unit_number};
+
+    pub(crate) fn new(string: OsStr<'a, E>) -> Self
+        requires { IsBare (bytes string) }
+        ensures { part_bytes result ≡ bytes string.entry }
+    {
+        NonUnicodeOsStr { string }
+    }
+
+    /// The part as a string.
+    pub fn as_os_str(self) -> OsStr<'a, E>
+        ensures value { bytes result ≡ part_bytes self.entry }
+        ensures bare { IsBare (bytes result) }
+    {
+        self.string
+    }
+
+    /// The part's units, from the first on.
+    ///
+    /// On Unix they are its bytes, each at least 80 (hexadecimal), on Windows surrogates of
+    /// which no high one stands directly before a low one; on wasm a part is empty. The units
+    /// of the Windows part ED B0 80 ED A0 80 are DC00 and D800. The part's bytes are those of
+    /// its units: the byte of a unit below 100, the form of any other.
+    pub fn os_units(self) -> OsUnits<'a, E>
+        ensures units { result ≡ E.units (part_bytes self.entry) }
+        ensures spelled { part_bytes self.entry ≡ flat_map unit_bytes result }
+        ensures kind { E.part_units result }
+    {
+        OsUnits { rest: self }
+    }
+
+    /// The first unit of a part that isn't empty, and the rest of the part.
+    fn split_first(self) -> (OsUnit, Self)
+        requires { 0 < length (part_bytes self) }
+        ensures { E.units (part_bytes self.entry) ≡ unit_number result.0 ∷ E.units (part_bytes result.1) }
+    {
+        let bytes = self.string.as_encoded_bytes();
+        let (number, size) = E::first_unit(bytes);
+        let (_, rest) = bytes.split_at(size);
+        let rest = OsStr::from_encoded_bytes_unchecked(rest);
+        (OsUnit { number }, NonUnicodeOsStr::new(rest))
+    }
+}
+
+/// A unit of a part.
+///
+/// Units are equal where their numbers are, and are ordered as those are. Equal units hash
+/// alike.
+#[derive(Clone, Copy, PartialEq, Eq, PartialOrd, Ord, Hash)]
+pub struct OsUnit {
+    number: u16,
+}
+
+impl OsUnit {
+    ghost use Rattle.os_str_ext.specs.Parts.{unit_number};
+
+    /// The unit's number, which no other unit has.
+    pub fn to_u64(&self) -> u64
+        ensures { result ≡ unit_number self.now }
+    {
+        u64::from(self.number)
+    }
+}
+
+impl From<OsUnit> for u64 {
+    ghost use Rattle.os_str_ext.specs.Parts.{unit_number};
+
+    ghost from_gives = { λ unit number. number ≡ unit_number unit };
+
+    /// The unit's number, as [`OsUnit::to_u64`].
+    fn from(unit: OsUnit) -> u64 {
+        unit.to_u64()
+    }
+}
+
+/// The units of a part that are left, from the first on, and then `None` for ever.
+///
+/// [`NonUnicodeOsStr::os_units`] makes it. A clone has the same units left; it takes no memory,
+/// and its answer is always `Ok`.
+#[derive(Drop)]
+pub struct OsUnits<'a, E: Platform + 'a> {
+    rest: NonUnicodeOsStr<'a, E>,
+}
+
+impl<'a, E: Platform> Model for OsUnits<'a, E> {
+    ghost use Rattle.std.specs.Prelude.{ℕ, List};
+    ghost use Rattle.os_str_ext.specs.Parts.{part_bytes};
+
+    ghost Value = { List ℕ };
+
+    ghost view = { λ it. E.units (part_bytes it.rest) };
+}
+
+impl<'a, E: Platform> Clone for OsUnits<'a, E> {
+    ghost is_clone = { λ x y. y ≡ x };
+
+    ghost is_infallible = { λ _. Unit {0} };
+
+    fn clone(&self) -> Result<Self, AllocError> {
+        Ok(OsUnits { rest: self.rest })
+    }
+}
+
+impl<'a, E: Platform> Iterator for OsUnits<'a, E> {
+    ghost use Rattle.std.specs.Iterator.{YieldsFirstBy, item_count};
+    ghost use Rattle.os_str_ext.specs.Parts.{unit_number};
+
+    type Item = OsUnit;
+
+    ghost next_gives = { YieldsFirstBy unit_number (λ left. left) };
+
+    ghost remaining = { item_count (λ left. left) };
+
+    fn next(&mut self) -> Option<OsUnit> {
+        if self.rest.as_os_str().is_empty() {
+            return None;
+        }
+        let (unit, rest) = self.rest.split_first();
+        self.rest = rest;
+        Some(unit)
+    }
+}

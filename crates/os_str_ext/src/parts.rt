@@ -1,0 +1,116 @@
+//! Parts of strings before, behind and between texts.
+ghost use Rattle.std.specs.Prelude.{◌≡◌, ◌<◌, length, take, drop};
+ghost use Rattle.wtf8_core.specs.Standing.{IsLeastPlace, IsGreatestPlace};
+ghost use Rattle.wtf8_core.specs.Boundary.{IsBoundary};
+ghost use Rattle.wtf8_core.specs.Pieces.{StripsFront, StripsEnd, SplitsOnce, IsStartTrim, IsEndTrim};
+ghost use Rattle.platform_str.specs.Strings.{bytes};
+
+use crate::boundary::split_at;
+use crate::search::{ends_with, find, rfind, starts_with};
+use platform_str::{OsStr, Platform};
+
+/// What follows a text at the front.
+#[inline(always)]
+pub(crate) fn strip_prefix<'a, E: Platform>(
+    string: OsStr<'a, E>,
+    text: &str,
+) -> Option<OsStr<'a, E>>
+    ensures { StripsFront bytes text.now (bytes string.entry) result }
+{
+    if !starts_with(string.as_encoded_bytes(), text) {
+        return None;
+    }
+    let (_, rest) = split_at(string, text.len());
+    Some(rest)
+}
+
+/// What stands before a text at the end.
+#[inline(always)]
+pub(crate) fn strip_suffix<'a, E: Platform>(
+    string: OsStr<'a, E>,
+    text: &str,
+) -> Option<OsStr<'a, E>>
+    ensures { StripsEnd bytes text.now (bytes string.entry) result }
+{
+    if !ends_with(string.as_encoded_bytes(), text) {
+        return None;
+    }
+    let (rest, _) = split_at(string, string.len() - text.len());
+    Some(rest)
+}
+
+/// What follows a text at the front, as often as it stands there; the whole where it is empty.
+pub(crate) fn trim_start<'a, E: Platform>(string: OsStr<'a, E>, text: &str) -> OsStr<'a, E>
+    ensures trim { 0 < length text.now → IsStartTrim text.now (bytes string.entry) (bytes result) }
+    ensures whole { length text.now ≡ 0 → bytes result ≡ bytes string.entry }
+{
+    if text.is_empty() {
+        return string;
+    }
+    let mut rest = string;
+    while let Some(shorter) = strip_prefix(rest, text) {
+        rest = shorter;
+    }
+    rest
+}
+
+/// What stands before a text at the end, as often as it stands there; the whole where it is
+/// empty.
+pub(crate) fn trim_end<'a, E: Platform>(string: OsStr<'a, E>, text: &str) -> OsStr<'a, E>
+    ensures trim { 0 < length text.now → IsEndTrim text.now (bytes string.entry) (bytes result) }
+    ensures whole { length text.now ≡ 0 → bytes result ≡ bytes string.entry }
+{
+    if text.is_empty() {
+        return string;
+    }
+    let mut rest = string;
+    while let Some(shorter) = strip_suffix(rest, text) {
+        rest = shorter;
+    }
+    rest
+}
+
+/// The parts around the least place of a text.
+#[inline(always)]
+pub(crate) fn split_once<'a, E: Platform>(
+    string: OsStr<'a, E>,
+    text: &str,
+) -> Option<(OsStr<'a, E>, OsStr<'a, E>)>
+    ensures { SplitsOnce IsLeastPlace bytes text.now (bytes string.entry) result }
+{
+    let Some(at) = find(string.as_encoded_bytes(), text) else {
+        return None;
+    };
+    Some(around(string, at, at + text.len()))
+}
+
+/// The parts around the greatest place of a text.
+#[inline(always)]
+pub(crate) fn rsplit_once<'a, E: Platform>(
+    string: OsStr<'a, E>,
+    text: &str,
+) -> Option<(OsStr<'a, E>, OsStr<'a, E>)>
+    ensures { SplitsOnce IsGreatestPlace bytes text.now (bytes string.entry) result }
+{
+    let Some(at) = rfind(string.as_encoded_bytes(), text) else {
+        return None;
+    };
+    Some(around(string, at, at + text.len()))
+}
+
+/// The parts before one boundary and behind another.
+#[inline(always)]
+fn around<'a, E: Platform>(
+    string: OsStr<'a, E>,
+    start: usize,
+    end: usize,
+) -> (OsStr<'a, E>, OsStr<'a, E>)
+    requires before { IsBoundary (bytes string) start }
+    requires behind { IsBoundary (bytes string) end }
+    ensures front { bytes result.0 ≡ take start (bytes string.entry) }
+    ensures back { bytes result.1 ≡ drop end (bytes string.entry) }
+{
+    let (front, _) = split_at(string, start);
+    let (_, back) = split_at(string, end);
+    (front, back)
+}

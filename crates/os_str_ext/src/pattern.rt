@@ -1,0 +1,148 @@
+//! Patterns of searches.
+ghost use Rattle.std.specs.Prelude.{◌≡◌, ◌<◌, ◌≤◌, ◌↔◌, ℕ, List, length, take};
+ghost use Rattle.std.specs.Char.{encode_utf8};
+ghost use Rattle.std.specs.Str.{IsUtf8};
+ghost use Rattle.std.specs.String.{string_bytes};
+ghost use Rattle.os_str_ext.specs.Patterns.{itself, char_has_bytes};
+
+use std::alloc::AllocError;
+
+/// What can be searched for: a `char`, a `&str` or a `&String`, as a text.
+///
+/// It is std's `Pattern` without closures and sets of characters. A search encodes its pattern
+/// once.
+pub trait Pattern {
+    type __Encoded: Copy + Encoded;
+
+    // the bytes that are looked for
+    ghost text: { Self → List ℕ };
+
+    // that there are any; of a `char` it needs no proof
+    ghost not_empty: { Self → Type 0 };
+
+    ghost not_empty_is: { (pattern : Self) → not_empty pattern ↔ (0 < length (text pattern)) };
+
+    /// The pattern, ready for searches. It takes no memory.
+    ///
+    /// `'\u{E9}'.encode().as_bytes()` is C3 A9 (hexadecimal), as is that of `"\u{E9}"`.
+    fn encode(self) -> Self::__Encoded
+        ensures value { Self.__Encoded.text result ≡ text self }
+        ensures utf8 { IsUtf8 (Self.__Encoded.text result) };
+}
+
+/// An encoded pattern.
+pub trait Encoded {
+    // the bytes that are looked for
+    ghost text: { Self → List ℕ };
+
+    /// The pattern's bytes, which are UTF-8.
+    ///
+    /// `"a".encode().as_bytes()` is `b"a"`.
+    fn as_bytes(&self) -> &[u8]
+        ensures value { result.now ≡ text self.now }
+        ensures utf8 { IsUtf8 result.now };
+
+    /// The pattern as a text.
+    ///
+    /// `'\u{E9}'.encode().as_str()` is `"\u{E9}"`.
+    fn as_str(&self) -> &str
+        ensures { result.now ≡ text self.now };
+}
+
+impl Encoded for &str {
+    ghost text = { λ s. s.now };
+
+    #[inline(always)]
+    fn as_bytes(&self) -> &[u8] {
+        str::as_bytes(*self)
+    }
+
+    #[inline(always)]
+    fn as_str(&self) -> &str {
+        *self
+    }
+}
+
+impl<'a> Pattern for &'a str {
+    type __Encoded = &'a str;
+
+    ghost text = { λ s. s.now };
+
+    ghost not_empty = { λ s. 0 < length s.now };
+
+    ghost not_empty_is = { λ s. itself s.now };
+
+    #[inline(always)]
+    fn encode(self) -> &'a str {
+        self
+    }
+}
+
+impl<'a> Pattern for &'a String {
+    type __Encoded = &'a str;
+
+    ghost text = { λ s. string_bytes s.now };
+
+    ghost not_empty = { λ s. 0 < length (string_bytes s.now) };
+
+    ghost not_empty_is = { λ s. itself (string_bytes s.now) };
+
+    #[inline(always)]
+    fn encode(self) -> &'a str {
+        self.as_str()
+    }
+}
+
+impl Pattern for char {
+    type __Encoded = EncodedChar;
+
+    ghost text = { encode_utf8 };
+
+    ghost not_empty = { λ _. Unit {0} };
+
+    ghost not_empty_is = { char_has_bytes };
+
+    #[inline(always)]
+    fn encode(self) -> EncodedChar {
+        let mut scratch = [0; 4];
+        let text = self.encode_utf8(&mut scratch).as_bytes();
+        let length = text.len();
+        let mut buffer = [0; 4];
+        buffer[..length].copy_from_slice(text);
+        EncodedChar { buffer, length }
+    }
+}
+
+/// The bytes of a `char`.
+pub struct EncodedChar {
+    buffer: [u8; 4],
+    length: usize,
+    ghost fits: { length ≤ 4 },
+    ghost is_text: { ∥ IsUtf8 (take length buffer) ∥₁ },
+}
+
+impl Clone for EncodedChar {
+    ghost is_clone = { λ x y. y ≡ x };
+
+    ghost is_infallible = { λ _. Unit {0} };
+
+    fn clone(&self) -> Result<EncodedChar, AllocError> {
+        Ok(*self)
+    }
+}
+
+impl Copy for EncodedChar {}
+
+impl Encoded for EncodedChar {
+    ghost text = { λ e. take e.length e.buffer };
+
+    #[inline(always)]
+    fn as_bytes(&self) -> &[u8] {
+        &self.buffer[..self.length]
+    }
+
+    #[inline(always)]
+    fn as_str(&self) -> &str {
+        unsafe { str::from_utf8_unchecked(&self.buffer[..self.length]) }
+    }
+}

@@ -1,0 +1,83 @@
+//! Where a text stands in bytes.
+ghost use Rattle.std.specs.Prelude.{◌+◌, ◌-◌, ◌^◌, ◌↔◌, ◌<◌, ◌≤◌, IsTrue, IfSome, length};
+ghost use Rattle.memchr.specs.Find.{FindsNeedle, FindsLastNeedle};
+ghost use Rattle.wtf8_core.specs.Standing.{Finds, IsLeastPlace, IsGreatestPlace, IsFront, IsEnd};
+ghost use Rattle.wtf8_core.specs.Boundary.{IsBoundary};
+ghost use Rattle.wtf8_core.specs.Pieces.{MayBeCutAround};
+
+use crate::compare::are_same;
+use memchr::{memchr, memmem, memrchr};
+use wtf8_core::laws;
+
+/// The least place of a text.
+#[inline(always)]
+pub(crate) fn find(bytes: &[u8], text: &str) -> Option<usize>
+    ensures place { Finds IsLeastPlace text.now bytes.now result }
+    ensures edges { MayBeCutAround bytes.now (length text.now) result }
+    ensures behind { IfSome result (λ at. at + length text.now < 2 ^ 64) }
+{
+    laws::boundaries();
+    first_of(bytes, text.as_bytes())
+}
+
+/// The greatest place of a text.
+#[inline(always)]
+pub(crate) fn rfind(bytes: &[u8], text: &str) -> Option<usize>
+    ensures place { Finds IsGreatestPlace text.now bytes.now result }
+    ensures edges { MayBeCutAround bytes.now (length text.now) result }
+    ensures behind { IfSome result (λ at. at + length text.now < 2 ^ 64) }
+{
+    laws::boundaries();
+    last_of(bytes, text.as_bytes())
+}
+
+/// Whether a text stands at the front.
+#[inline(always)]
+pub(crate) fn starts_with(bytes: &[u8], text: &str) -> bool
+    ensures front { IsTrue result ↔ IsFront text.now bytes.now }
+    ensures edge { IsTrue result → IsBoundary bytes.now (length text.now) }
+{
+    laws::boundaries();
+    if bytes.len() < text.len() {
+        return false;
+    }
+    let (front, _) = bytes.split_at(text.len());
+    are_same(front, text.as_bytes())
+}
+
+/// Whether a text stands at the end.
+#[inline(always)]
+pub(crate) fn ends_with(bytes: &[u8], text: &str) -> bool
+    ensures end { IsTrue result ↔ IsEnd text.now bytes.now }
+    ensures edge { IsTrue result → IsBoundary bytes.now (length bytes.now - length text.now) }
+    ensures fits { IsTrue result → length text.now ≤ length bytes.now }
+{
+    laws::boundaries();
+    if bytes.len() < text.len() {
+        return false;
+    }
+    let (_, end) = bytes.split_at(bytes.len() - text.len());
+    are_same(end, text.as_bytes())
+}
+
+/// The first place of a needle; one of a single byte is looked for as a byte.
+#[inline(always)]
+fn first_of(bytes: &[u8], needle: &[u8]) -> Option<usize>
+    ensures { FindsNeedle bytes.now needle.now 0 result }
+{
+    if needle.len() == 1 {
+        return memchr(needle[0], bytes);
+    }
+    memmem::find(bytes, needle)
+}
+
+/// The last place of a needle; one of a single byte is looked for as a byte.
+#[inline(always)]
+fn last_of(bytes: &[u8], needle: &[u8]) -> Option<usize>
+    ensures { FindsLastNeedle bytes.now needle.now result }
+{
+    if needle.len() == 1 {
+        return memrchr(needle[0], bytes);
+    }
+    memmem::rfind(bytes, needle)
+}
