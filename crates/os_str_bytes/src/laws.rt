@@ -1,0 +1,33 @@
+//! The laws of every platform and of raw strings: each is the contract of a function that does
+//! nothing. Those of bytes, code points and units stand in [`crate::wtf8_laws`].
+ghost use Rattle.std.specs.Prelude.{◌≡◌, ◌↔◌, IsTrue, Some};
+ghost use Rattle.std.specs.Cmp.Lexicographic.{slice_cmp};
+ghost use Rattle.std.specs.Ordering.{nat_cmp};
+ghost use Rattle.os_str_bytes.specs.Raw.{raw_bytes, raw_vec_of};
+
+use crate::{Platform, RawOsStr, RawOsString};
+pub use os_str_ext::laws::{
+    comparisons, cuts, faults, lossy_texts, owned_comparisons, spelling, texts,
+};
+use std::alloc::Allocator;
+
+/// Borrowed raw strings are equal where their bytes are, and are ordered as lists of bytes are.
+pub fn raw_comparisons<'a, E: Platform>(a: &RawOsStr<'a, E>, b: &RawOsStr<'a, E>)
+    ensures equal { IsTrue (⟦<RawOsStr<'a, E> as PartialEq>⟧.eq a.now b.now) ↔ (raw_bytes a.now ≡ raw_bytes b.now) }
+    ensures order { ⟦<RawOsStr<'a, E> as Ord>⟧.cmp a.now b.now ≡ slice_cmp nat_cmp (raw_bytes a.now) (raw_bytes b.now) }
+    ensures partial_order { ⟦<RawOsStr<'a, E> as PartialOrd>⟧.partial_cmp a.now b.now ≡ Some (slice_cmp nat_cmp (raw_bytes a.now) (raw_bytes b.now)) }
+{
+    comparisons(&a.as_os_str(), &b.as_os_str());
+}
+
+/// Owned raw strings are equal where their bytes are, and are ordered as lists of bytes are.
+pub fn raw_owned_comparisons<E: Platform, A: Allocator>(
+    a: &RawOsString<E, A>,
+    b: &RawOsString<E, A>,
+)
+    ensures equal { IsTrue (⟦<RawOsString<E, A> as PartialEq>⟧.eq a.now b.now) ↔ ((raw_vec_of a.now).items ≡ (raw_vec_of b.now).items) }
+    ensures order { ⟦<RawOsString<E, A> as Ord>⟧.cmp a.now b.now ≡ slice_cmp nat_cmp (raw_vec_of a.now).items (raw_vec_of b.now).items }
+    ensures partial_order { ⟦<RawOsString<E, A> as PartialOrd>⟧.partial_cmp a.now b.now ≡ Some (slice_cmp nat_cmp (raw_vec_of a.now).items (raw_vec_of b.now).items) }
+{
+    comparisons(&a.as_os_str(), &b.as_os_str());
+}

@@ -1,0 +1,96 @@
+//! Raw strings that are borrowed or owned.
+ghost use Rattle.std.specs.Prelude.{◌≡◌, ℕ, List};
+ghost use Rattle.platform_str.specs.Cows.{cow_bytes};
+
+use crate::raw_str::RawOsStr;
+use crate::raw_string::RawOsString;
+use os_str_ext::{OsStrCow, Platform};
+use std::alloc::{Allocator, Global};
+
+/// A raw string that is borrowed or owned: the crate's `Cow<RawOsStr>`.
+#[derive(Drop)]
+pub enum CowRawOsStr<'a, E: Platform + 'a, A: Allocator = Global> {
+    Borrowed(RawOsStr<'a, E>),
+    Owned(RawOsString<E, A>),
+}
+
+/// What [`CowRawOsStr`] has beyond a view: the way from the platform's own type and back.
+pub trait RawOsStrCow<'a, E: Platform + 'a>: Sized {
+    type OsStrCow;
+
+    ghost bytes_of: { Self → List ℕ };
+
+    ghost os_bytes_of: { Self.OsStrCow → List ℕ };
+
+    /// The same string, borrowed or moved.
+    fn from_os_str(string: Self::OsStrCow) -> Self
+        ensures { bytes_of result ≡ os_bytes_of string };
+
+    /// The same string, borrowed or moved.
+    fn into_os_str(self) -> Self::OsStrCow
+        ensures { os_bytes_of result ≡ bytes_of self };
+}
+
+impl<'a, E: Platform + 'a, A: Allocator> RawOsStrCow<'a, E> for CowRawOsStr<'a, E, A> {
+    ghost use Rattle.platform_str.specs.Cows.{cow_bytes};
+    ghost use Rattle.os_str_bytes.specs.RawCow.{raw_cow_bytes};
+
+    type OsStrCow = OsStrCow<'a, E, A>;
+
+    ghost bytes_of = { raw_cow_bytes };
+
+    ghost os_bytes_of = { cow_bytes };
+
+    fn from_os_str(string: OsStrCow<'a, E, A>) -> Self {
+        match string {
+            OsStrCow::Borrowed(string) => CowRawOsStr::Borrowed(RawOsStr::new(string)),
+            OsStrCow::Owned(string) => CowRawOsStr::Owned(RawOsString::new(string)),
+        }
+    }
+
+    fn into_os_str(self) -> OsStrCow<'a, E, A> {
+        match self {
+            CowRawOsStr::Borrowed(raw) => OsStrCow::Borrowed(raw.as_os_str()),
+            CowRawOsStr::Owned(raw) => OsStrCow::Owned(raw.into_os_string()),
+        }
+    }
+}
+
+impl<'a, E: Platform, A: Allocator> CowRawOsStr<'a, E, A> {
+    ghost use Rattle.os_str_bytes.specs.Raw.{raw_bytes};
+    ghost use Rattle.os_str_bytes.specs.RawCow.{raw_cow_bytes};
+
+    /// A view of the string (own call, in the place of `Deref`).
+    pub fn as_raw(&self) -> RawOsStr<'_, E>
+        ensures { raw_bytes result ≡ raw_cow_bytes self.now }
+    {
+        match self {
+            CowRawOsStr::Borrowed(raw) => *raw,
+            CowRawOsStr::Owned(raw) => raw.as_raw(),
+        }
+    }
+}
+
+impl<'a, E: Platform + 'a, A: Allocator> From<RawOsStr<'a, E>> for CowRawOsStr<'a, E, A> {
+    ghost use Rattle.std.specs.Prelude.{◌≡◌};
+    ghost use Rattle.os_str_bytes.specs.Raw.{raw_bytes};
+    ghost use Rattle.os_str_bytes.specs.RawCow.{raw_cow_bytes};
+
+    ghost from_gives = { λ raw cow. raw_cow_bytes cow ≡ raw_bytes raw };
+
+    fn from(raw: RawOsStr<'a, E>) -> Self {
+        CowRawOsStr::Borrowed(raw)
+    }
+}
+
+impl<'a, E: Platform + 'a, A: Allocator> From<RawOsString<E, A>> for CowRawOsStr<'a, E, A> {
+    ghost use Rattle.std.specs.Prelude.{◌≡◌};
+    ghost use Rattle.os_str_bytes.specs.Raw.{raw_vec_of};
+    ghost use Rattle.os_str_bytes.specs.RawCow.{raw_cow_bytes};
+
+    ghost from_gives = { λ raw cow. raw_cow_bytes cow ≡ (raw_vec_of raw).items };
+
+    fn from(raw: RawOsString<E, A>) -> Self {
+        CowRawOsStr::Owned(raw)
+    }
+}

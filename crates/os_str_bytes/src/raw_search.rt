@@ -1,0 +1,300 @@
+//! Searches, cuts and pieces of raw strings: the calls of [`crate::OsStrBytesExt`] under the same
+//! contracts.
+ghost use Rattle.std.specs.Prelude.{◌≡◌, ◌<◌, ◌↔◌, ◌++◌, ◌*◌, IsTrue, IsOk, IsErr, IfOk, length, take, drop, map};
+ghost use Rattle.std.specs.List.{repeat};
+ghost use Rattle.wtf8_core.specs.Standing.{Finds, IsLeastPlace, IsGreatestPlace, IsFront, IsEnd};
+ghost use Rattle.wtf8_core.specs.UnitPlace.{FindsInUnits};
+ghost use Rattle.wtf8_core.specs.Boundary.{IsBoundary};
+ghost use Rattle.wtf8_core.specs.Chunks.{AreChunks};
+ghost use Rattle.wtf8_core.specs.Pieces.{StandsSomewhere, MayBeCutAround, StripsFront, StripsEnd, SplitsOnce, IsStartTrim, IsEndTrim, IsTrim, IsSplit, IsRSplit};
+ghost use Rattle.os_str_ext.specs.Range.{FitsIn};
+ghost use Rattle.os_str_bytes.specs.Raw.{raw_bytes, raw_units, raw_vec_of};
+
+use crate::iter::{RawRSplit, RawSplit};
+use crate::raw_str::RawOsStr;
+use crate::raw_string::RawOsString;
+use os_str_ext::{OsStrBytesExt, Pattern, Platform, SliceIndex, Utf8Chunks};
+use std::alloc::{AllocError, Allocator};
+
+/// All places are places of bytes. No call takes memory but [`RawOsStr::repeat`].
+impl<'a, E: Platform> RawOsStr<'a, E> {
+    // Cuts.
+
+    /// Whether the string may be cut at a place; past its length it may not (own call).
+    ///
+    /// The Unix string of the bytes 80 C3 A9 (hexadecimal) may be cut at 0, 1 and 3.
+    pub fn is_boundary(self, at: usize) -> bool
+        ensures { IsTrue result ↔ IsBoundary (raw_bytes self.entry) at }
+    {
+        self.string.is_boundary(at)
+    }
+
+    /// The parts before and behind a boundary (test: [`RawOsStr::is_boundary`]), as std's
+    /// `str::split_at`. Their units joined are the string's.
+    ///
+    /// "foobar" at 2 is "fo" and "obar".
+    pub fn split_at(self, at: usize) -> (Self, Self)
+        requires { IsBoundary (raw_bytes self) at }
+        ensures front { raw_bytes result.0 ≡ take at (raw_bytes self.entry) }
+        ensures back { raw_bytes result.1 ≡ drop at (raw_bytes self.entry) }
+        ensures units { raw_units self.entry ≡ raw_units result.0 ++ raw_units result.1 }
+    {
+        let (front, back) = self.string.split_at(at);
+        (RawOsStr::new(front), RawOsStr::new(back))
+    }
+
+    /// Whether a range fits: its start is at most its end, both are boundaries, and the end is at
+    /// most the string's length (own call).
+    ///
+    /// In "foobar" `3..=2` fits and `..7` doesn't.
+    pub fn fits<I: SliceIndex>(self, range: &I) -> bool
+        ensures { IsTrue result ↔ FitsIn (raw_bytes self.entry) (I.first_place range.now) (I.end_place range.now (length (raw_bytes self.entry))) }
+    {
+        range.fits(self.string)
+    }
+
+    /// The part in a range that fits (test: [`RawOsStr::fits`]), as std's indexing of `str`.
+    ///
+    /// `index(0..=5)` of "foobar" is the whole string, `index(3..=2)` is empty.
+    pub fn index<I: SliceIndex>(self, range: I) -> Self
+        requires { FitsIn (raw_bytes self) (I.first_place range) (I.end_place range (length (raw_bytes self))) }
+        ensures { raw_bytes result ≡ drop (I.first_place range) (take (I.end_place range (length (raw_bytes self.entry))) (raw_bytes self.entry)) }
+    {
+        RawOsStr::new(range.index(self.string))
+    }
+
+    /// The same as [`RawOsStr::index`], as std's `str::get_unchecked`, but safe.
+    ///
+    /// `get_unchecked(3..)` of "foobar" is "bar".
+    pub fn get_unchecked<I: SliceIndex>(self, range: I) -> Self
+        requires { FitsIn (raw_bytes self) (I.first_place range) (I.end_place range (length (raw_bytes self))) }
+        ensures { raw_bytes result ≡ drop (I.first_place range) (take (I.end_place range (length (raw_bytes self.entry))) (raw_bytes self.entry)) }
+    {
+        self.index(range)
+    }
+
+    // Searches.
+
+    /// The least place at which a pattern stands, `None` where it stands nowhere. The string
+    /// may be cut there and behind the pattern.
+    ///
+    /// In "foobar" `find("o")` is `Some(1)`, `find("of")` is `None` and `find("")` is `Some(0)`.
+    pub fn find<P: Pattern>(self, pattern: P) -> Option<usize>
+        ensures bytes { Finds IsLeastPlace (P.text pattern) (raw_bytes self.entry) result }
+        ensures units { 0 < length (P.text pattern) → FindsInUnits IsLeastPlace E.well_formed E.units (P.text pattern) (raw_bytes self.entry) result }
+        ensures edges { MayBeCutAround (raw_bytes self.entry) (length (P.text pattern)) result }
+    {
+        self.string.find(pattern)
+    }
+
+    /// The greatest place at which a pattern stands, `None` where it stands nowhere. The string
+    /// may be cut there and behind the pattern.
+    ///
+    /// In "foobar" `rfind("o")` is `Some(2)` and `rfind("")` is `Some(6)`.
+    pub fn rfind<P: Pattern>(self, pattern: P) -> Option<usize>
+        ensures bytes { Finds IsGreatestPlace (P.text pattern) (raw_bytes self.entry) result }
+        ensures units { 0 < length (P.text pattern) → FindsInUnits IsGreatestPlace E.well_formed E.units (P.text pattern) (raw_bytes self.entry) result }
+        ensures edges { MayBeCutAround (raw_bytes self.entry) (length (P.text pattern)) result }
+    {
+        self.string.rfind(pattern)
+    }
+
+    /// Whether a pattern stands somewhere.
+    ///
+    /// "foobar" contains "oba" and 'r', and not "of".
+    pub fn contains<P: Pattern>(self, pattern: P) -> bool
+        ensures bytes { IsTrue result ↔ StandsSomewhere (P.text pattern) (raw_bytes self.entry) }
+        ensures units { 0 < length (P.text pattern) → (IsTrue result ↔ StandsSomewhere (E.units (P.text pattern)) (raw_units self.entry)) }
+    {
+        self.string.contains(pattern)
+    }
+
+    /// Whether a pattern stands at the front.
+    ///
+    /// "foobar" starts with "foo" and "", and not with 'b'.
+    pub fn starts_with<P: Pattern>(self, pattern: P) -> bool
+        ensures bytes { IsTrue result ↔ IsFront (P.text pattern) (raw_bytes self.entry) }
+        ensures units { IsTrue result ↔ IsFront (E.units (P.text pattern)) (raw_units self.entry) }
+    {
+        self.string.starts_with(pattern)
+    }
+
+    /// Whether a pattern stands at the end.
+    ///
+    /// "foobar" ends with "bar" and "", and not with 'b'.
+    pub fn ends_with<P: Pattern>(self, pattern: P) -> bool
+        ensures bytes { IsTrue result ↔ IsEnd (P.text pattern) (raw_bytes self.entry) }
+        ensures units { IsTrue result ↔ IsEnd (E.units (P.text pattern)) (raw_units self.entry) }
+    {
+        self.string.ends_with(pattern)
+    }
+
+    /// Whether the units of `front` are a front of the string's; a half of a pair counts.
+    ///
+    /// The Windows string of D83D, DE00 (hexadecimal) starts with that of D83D.
+    pub fn starts_with_os(self, front: Self) -> bool
+        ensures { IsTrue result ↔ IsFront (raw_units front.entry) (raw_units self.entry) }
+    {
+        self.string.starts_with_os(front.string)
+    }
+
+    /// Whether the units of `end` are an end of the string's; a half of a pair counts.
+    ///
+    /// The Windows string of D83D, DE00 (hexadecimal) ends with that of DE00.
+    pub fn ends_with_os(self, end: Self) -> bool
+        ensures { IsTrue result ↔ IsEnd (raw_units end.entry) (raw_units self.entry) }
+    {
+        self.string.ends_with_os(end.string)
+    }
+
+    // Strips and trims.
+
+    /// What follows a pattern at the front, `None` where it doesn't stand there.
+    ///
+    /// `strip_prefix("1")` of "111foo" is "11foo", `strip_prefix("o")` is `None`.
+    pub fn strip_prefix<P: Pattern>(self, pattern: P) -> Option<Self>
+        ensures bytes { StripsFront raw_bytes (P.text pattern) (raw_bytes self.entry) result }
+        ensures units { StripsFront raw_units (E.units (P.text pattern)) (raw_units self.entry) result }
+    {
+        match self.string.strip_prefix(pattern) {
+            Some(rest) => Some(RawOsStr::new(rest)),
+            None => None,
+        }
+    }
+
+    /// What stands before a pattern at the end, `None` where it doesn't stand there.
+    ///
+    /// `strip_suffix("1")` of "bar111" is "bar11".
+    pub fn strip_suffix<P: Pattern>(self, pattern: P) -> Option<Self>
+        ensures bytes { StripsEnd raw_bytes (P.text pattern) (raw_bytes self.entry) result }
+        ensures units { StripsEnd raw_units (E.units (P.text pattern)) (raw_units self.entry) result }
+    {
+        match self.string.strip_suffix(pattern) {
+            Some(rest) => Some(RawOsStr::new(rest)),
+            None => None,
+        }
+    }
+
+    /// The string without each pattern at its front; the whole where the pattern is empty.
+    ///
+    /// `trim_start_matches("1")` of "111foo1" is "foo1".
+    pub fn trim_start_matches<P: Pattern>(self, pattern: P) -> Self
+        ensures bytes { 0 < length (P.text pattern) → IsStartTrim (P.text pattern) (raw_bytes self.entry) (raw_bytes result) }
+        ensures units { 0 < length (P.text pattern) → IsStartTrim (E.units (P.text pattern)) (raw_units self.entry) (raw_units result) }
+        ensures whole { length (P.text pattern) ≡ 0 → raw_bytes result ≡ raw_bytes self.entry }
+    {
+        RawOsStr::new(self.string.trim_start_matches(pattern))
+    }
+
+    /// The string without each pattern at its end; the whole where the pattern is empty.
+    ///
+    /// `trim_end_matches('1')` of "1bar111" is "1bar".
+    pub fn trim_end_matches<P: Pattern>(self, pattern: P) -> Self
+        ensures bytes { 0 < length (P.text pattern) → IsEndTrim (P.text pattern) (raw_bytes self.entry) (raw_bytes result) }
+        ensures units { 0 < length (P.text pattern) → IsEndTrim (E.units (P.text pattern)) (raw_units self.entry) (raw_units result) }
+        ensures whole { length (P.text pattern) ≡ 0 → raw_bytes result ≡ raw_bytes self.entry }
+    {
+        RawOsStr::new(self.string.trim_end_matches(pattern))
+    }
+
+    /// The string without each pattern at its front, and then without each at its end; the
+    /// whole where the pattern is empty.
+    ///
+    /// `trim_matches("1")` of "111foo1bar111" is "foo1bar", `trim_matches("aa")` of "aaa" is "a".
+    pub fn trim_matches<P: Pattern>(self, pattern: P) -> Self
+        ensures bytes { 0 < length (P.text pattern) → IsTrim (P.text pattern) (raw_bytes self.entry) (raw_bytes result) }
+        ensures units { 0 < length (P.text pattern) → IsTrim (E.units (P.text pattern)) (raw_units self.entry) (raw_units result) }
+        ensures whole { length (P.text pattern) ≡ 0 → raw_bytes result ≡ raw_bytes self.entry }
+    {
+        RawOsStr::new(self.string.trim_matches(pattern))
+    }
+
+    // Pieces.
+
+    /// The parts before and behind the least place of a pattern, `None` where it stands nowhere.
+    ///
+    /// `split_once("o")` of "foobar" is "f" and "obar", `split_once("")` is "" and "foobar".
+    pub fn split_once<P: Pattern>(self, pattern: P) -> Option<(Self, Self)>
+        ensures bytes { SplitsOnce IsLeastPlace raw_bytes (P.text pattern) (raw_bytes self.entry) result }
+        ensures units { 0 < length (P.text pattern) → SplitsOnce IsLeastPlace raw_units (E.units (P.text pattern)) (raw_units self.entry) result }
+    {
+        match self.string.split_once(pattern) {
+            Some((front, back)) => Some((RawOsStr::new(front), RawOsStr::new(back))),
+            None => None,
+        }
+    }
+
+    /// The parts before and behind the greatest place of a pattern, `None` where it stands
+    /// nowhere.
+    ///
+    /// `rsplit_once("o")` of "foobar" is "fo" and "bar", `rsplit_once("")` is "foobar" and "".
+    pub fn rsplit_once<P: Pattern>(self, pattern: P) -> Option<(Self, Self)>
+        ensures bytes { SplitsOnce IsGreatestPlace raw_bytes (P.text pattern) (raw_bytes self.entry) result }
+        ensures units { 0 < length (P.text pattern) → SplitsOnce IsGreatestPlace raw_units (E.units (P.text pattern)) (raw_units self.entry) result }
+    {
+        match self.string.rsplit_once(pattern) {
+            Some((front, back)) => Some((RawOsStr::new(front), RawOsStr::new(back))),
+            None => None,
+        }
+    }
+
+    /// The pieces between the places of a pattern, each cut at the least place in what is left.
+    /// The pattern isn't empty (test: `str::is_empty`; a `char` never is).
+    ///
+    /// `split("o")` of "foobar" gives "f", "" and "bar", `split("aa")` of "aaa" gives "" and "a".
+    pub fn split<P: Pattern>(self, pattern: P) -> RawSplit<'a, E, P>
+        requires { 0 < length (P.text pattern) }
+        ensures bytes { IsSplit (P.text pattern) (raw_bytes self.entry) result }
+        ensures units { IsSplit (E.units (P.text pattern)) (raw_units self.entry) (map E.units result) }
+    {
+        RawSplit::new(self.string.split(pattern))
+    }
+
+    /// The pieces between the places of a pattern from the end, each cut at the greatest place
+    /// in what is left. The pattern isn't empty (test: `str::is_empty`; a `char` never is).
+    ///
+    /// `rsplit("o")` of "foobar" gives "bar", "" and "f".
+    pub fn rsplit<P: Pattern>(self, pattern: P) -> RawRSplit<'a, E, P>
+        requires { 0 < length (P.text pattern) }
+        ensures bytes { IsRSplit (P.text pattern) (raw_bytes self.entry) result }
+        ensures units { IsRSplit (E.units (P.text pattern)) (raw_units self.entry) (map E.units result) }
+    {
+        RawRSplit::new(self.string.rsplit(pattern))
+    }
+
+    // Chunks.
+
+    /// The string's chunks: its parts in which no whole character stands, each with the text
+    /// behind it. Only the first part may be empty, and only the last text; never both of one
+    /// chunk. All chunks joined are the string, and it has no other list of them.
+    ///
+    /// The Unix string of the bytes 66 6F 80 FF 6F (hexadecimal) has the chunks "", "fo" and
+    /// 80 FF, "o".
+    pub fn utf8_chunks(self) -> Utf8Chunks<'a, E>
+        ensures { AreChunks (raw_bytes self.entry) result }
+    {
+        self.string.utf8_chunks()
+    }
+
+    // Joins.
+
+    /// The string `count` times over: its units, one time after the other (std's `str::repeat`).
+    /// On Windows two halves of a pair that meet become one code point.
+    ///
+    /// It takes the memory at once. `AllocError` is also answered where `count` times the number
+    /// of bytes passes `usize::MAX`. No times, and the empty string any number of times, take no
+    /// memory.
+    ///
+    /// `repeat(3)` of "foo" is "foofoofoo".
+    pub fn repeat<A: Allocator>(
+        self,
+        alloc: A,
+        count: usize,
+    ) -> Result<RawOsString<E, A>, AllocError>
+        ensures units { IfOk result (λ made. E.units (raw_vec_of made).items ≡ repeat count (raw_units self.entry)) }
+        ensures empty { count * length (raw_bytes self.entry) ≡ 0 → IsOk result }
+        ensures overflow { usize.MAX < count * length (raw_bytes self.entry) → IsErr result }
+    {
+        Ok(RawOsString::new(self.string.repeat(alloc, count)?))
+    }
+}

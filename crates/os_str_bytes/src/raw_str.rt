@@ -1,0 +1,175 @@
+//! Borrowed raw strings.
+ghost use Rattle.std.specs.Prelude.{◌≡◌, ◌↔◌, [], IsTrue, IsOk, IfOk, MatchOption, MatchResult};
+ghost use Rattle.std.specs.Str.{IsUtf8};
+ghost use Rattle.platform_str.specs.Strings.{bytes};
+ghost use Rattle.platform_str.specs.Cows.{byte_cow_bytes, cow_bytes, str_cow_bytes};
+
+use crate::raw_cow::CowRawOsStr;
+use crate::raw_string::RawOsString;
+use os_str_ext::{ByteCow, EncodingError, OsStr, OsStrCow, Platform, StrCow};
+use std::alloc::{AllocError, Allocator};
+
+/// A borrowed string of a platform, with the calls of the crate's `RawOsStr`.
+///
+/// Strings are equal where their bytes are, and are ordered as their bytes are. Equal strings
+/// hash alike.
+#[derive_where(Clone, Copy, PartialEq, Eq, PartialOrd, Ord, Hash)]
+pub struct RawOsStr<'a, E: Platform + 'a> {
+    pub(crate) string: OsStr<'a, E>,
+}
+
+impl<'a, E: Platform> Default for RawOsStr<'a, E> {
+    ghost use Rattle.std.specs.Prelude.{◌≡◌, []};
+    ghost use Rattle.os_str_bytes.specs.Raw.{raw_bytes};
+
+    ghost is_default = { λ string. raw_bytes string ≡ [] };
+
+    fn default() -> Self {
+        RawOsStr::from_str("")
+    }
+}
+
+impl<'a, E: Platform> RawOsStr<'a, E> {
+    ghost use Rattle.os_str_bytes.specs.Raw.{raw_bytes, raw_vec_of};
+    ghost use Rattle.os_str_bytes.specs.RawCow.{raw_cow_bytes};
+
+    /// The raw form of a string.
+    ///
+    /// `RawOsStr::new(OsStr::<Unix>::new("a")).as_encoded_bytes()` is `b"a"`.
+    pub fn new(string: OsStr<'a, E>) -> Self
+        ensures { raw_bytes result ≡ bytes string.entry }
+    {
+        RawOsStr { string }
+    }
+
+    /// The same as [`RawOsStr::new`].
+    pub fn from_os_str(string: OsStr<'a, E>) -> Self
+        ensures { raw_bytes result ≡ bytes string.entry }
+    {
+        RawOsStr::new(string)
+    }
+
+    /// The raw string of a text, which is a string of every platform.
+    ///
+    /// `RawOsStr::<Wasm>::from_str("foo").as_encoded_bytes()` is `b"foo"`.
+    pub fn from_str(text: &'a str) -> Self
+        ensures { raw_bytes result ≡ text.now }
+    {
+        RawOsStr::new(OsStr::new(text))
+    }
+
+    /// The raw string of well-formed bytes (test: [`Platform::check`]); safe, and the
+    /// counterpart of std's `OsStr::from_encoded_bytes_unchecked`.
+    pub fn from_encoded_bytes_unchecked(encoded: &'a [u8]) -> Self
+        requires { E.well_formed encoded.now }
+        ensures { raw_bytes result ≡ encoded.now }
+    {
+        RawOsStr::new(OsStr::from_encoded_bytes_unchecked(encoded))
+    }
+
+    /// The raw string of well-formed bytes (test: [`RawOsStr::cow_from_raw_bytes`]).
+    pub fn assert_cow_from_raw_bytes(raw: &'a [u8]) -> CowRawOsStr<'a, E>
+        requires { E.well_formed raw.now }
+        ensures { raw_cow_bytes result ≡ raw.now }
+    {
+        CowRawOsStr::Borrowed(RawOsStr::from_encoded_bytes_unchecked(raw))
+    }
+
+    /// The same as [`RawOsStr::assert_cow_from_raw_bytes`].
+    pub fn cow_from_raw_bytes_unchecked(raw: &'a [u8]) -> CowRawOsStr<'a, E>
+        requires { E.well_formed raw.now }
+        ensures { raw_cow_bytes result ≡ raw.now }
+    {
+        RawOsStr::assert_cow_from_raw_bytes(raw)
+    }
+
+    /// The raw string of raw bytes, or their first fault where they aren't well formed. It
+    /// takes no memory.
+    ///
+    /// On Windows ED A0 80 ED B0 80 (hexadecimal) is refused with
+    /// `EncodingError::CodePoint(0xDC00)`.
+    pub fn cow_from_raw_bytes(raw: &'a [u8]) -> Result<CowRawOsStr<'a, E>, EncodingError>
+        ensures bytes { IfOk result (λ cow. raw_cow_bytes cow ≡ raw.now) }
+        ensures cases { MatchResult result (λ _. E.well_formed raw.now) (λ fault. E.first_fault raw.now fault) }
+    {
+        E::check(raw)?;
+        Ok(RawOsStr::assert_cow_from_raw_bytes(raw))
+    }
+
+    /// The string's bytes, which are its raw bytes.
+    ///
+    /// `RawOsStr::<Unix>::from_str("foo").as_encoded_bytes()` is `b"foo"`.
+    pub fn as_encoded_bytes(self) -> &'a [u8]
+        ensures value { result.now ≡ raw_bytes self.entry }
+        ensures formed { E.well_formed result.now }
+    {
+        self.string.as_encoded_bytes()
+    }
+
+    /// The string as the platform's own type.
+    pub fn as_os_str(self) -> OsStr<'a, E>
+        ensures { bytes result ≡ raw_bytes self.entry }
+    {
+        self.string
+    }
+
+    /// The same, as what might be owned. It takes no memory.
+    pub fn to_os_str(self) -> OsStrCow<'a, E>
+        ensures { cow_bytes result ≡ raw_bytes self.entry }
+    {
+        OsStrCow::Borrowed(self.string)
+    }
+
+    /// The string's raw bytes.
+    pub fn to_raw_bytes(self) -> ByteCow<'a>
+        ensures bytes { byte_cow_bytes result ≡ raw_bytes self.entry }
+        ensures formed { E.well_formed (byte_cow_bytes result) }
+    {
+        ByteCow::Borrowed(self.as_encoded_bytes())
+    }
+
+    /// The string as a text, `None` where it isn't UTF-8 (std's `OsStr::to_str`). It takes no
+    /// memory.
+    pub fn to_str(self) -> Option<&'a str>
+        ensures { MatchOption result (¬ (IsUtf8 (raw_bytes self.entry))) (λ text. text.now ≡ raw_bytes self.entry) }
+    {
+        self.string.to_str()
+    }
+
+    /// The lossy text (std's `OsStr::to_string_lossy`): the string itself where it is UTF-8,
+    /// which takes no memory, else a text with U+FFFD for what is no text.
+    pub fn to_str_lossy<A: Allocator>(self, alloc: A) -> Result<StrCow<'a, A>, AllocError>
+        ensures text { IfOk result (λ text. str_cow_bytes text ≡ E.lossy (raw_bytes self.entry)) }
+        ensures without_memory { IsUtf8 (raw_bytes self.entry) → IsOk result }
+    {
+        self.string.to_string_lossy(alloc)
+    }
+
+    /// Whether the string has no byte.
+    pub fn is_empty(self) -> bool
+        ensures { IsTrue result ↔ (raw_bytes self.entry ≡ []) }
+    {
+        self.string.is_empty()
+    }
+
+    /// An owned copy.
+    pub fn to_owned<A: Allocator>(self, alloc: A) -> Result<RawOsString<E, A>, AllocError>
+        ensures { IfOk result (λ owned. (raw_vec_of owned).items ≡ raw_bytes self.entry) }
+    {
+        Ok(RawOsString::new(self.string.to_owned(alloc)?))
+    }
+
+    /// Whether the string is this text (own call; the crate's `==` between the types).
+    pub fn eq_str(self, text: &str) -> bool
+        ensures { IsTrue result ↔ (raw_bytes self.entry ≡ text.now) }
+    {
+        self == RawOsStr::from_str(text)
+    }
+
+    /// Whether the string is this one (own call; the crate's `==` between the types).
+    pub fn eq_os_str(self, other: OsStr<'_, E>) -> bool
+        ensures { IsTrue result ↔ (raw_bytes self.entry ≡ bytes other.entry) }
+    {
+        self.string == other
+    }
+}

@@ -1,0 +1,302 @@
+//! Owned raw strings.
+ghost use Rattle.std.specs.Prelude.{◌≡◌, ◌↔◌, [], IsTrue, IsOk, IfOk, IfErr, OnOk, OnErr, MatchResult, length, take, drop};
+ghost use Rattle.std.specs.Str.{IsUtf8};
+ghost use Rattle.std.specs.String.{string_vec};
+ghost use Rattle.wtf8_core.specs.Boundary.{IsBoundary};
+ghost use Rattle.os_str_ext.specs.Range.{FitsIn};
+ghost use Rattle.platform_str.specs.Strings.{bytes, string_vec_of};
+
+use crate::raw_box::RawOsStrBox;
+use crate::raw_str::RawOsStr;
+use os_str_ext::{EncodingError, OsStr, OsString, Platform, SliceIndex};
+use std::alloc::{AllocError, Allocator, Global};
+use std::marker::PhantomData;
+
+/// An owned string of a platform, with the calls of the crate's `RawOsString`.
+///
+/// Strings are equal where their bytes are, and are ordered as their bytes are. Equal strings
+/// hash alike.
+#[derive(Drop)]
+#[derive_where(PartialEq, Eq, PartialOrd, Ord, Hash)]
+pub struct RawOsString<E: Platform, A: Allocator = Global> {
+    vec: Vec<u8, A>,
+    platform: PhantomData<E>,
+    pub ghost ok: { E.well_formed vec.items } by { E.well_formed_prop vec.items },
+}
+
+impl<E: Platform, A: Allocator> RawOsString<E, A> {
+    ghost use Rattle.os_str_bytes.specs.Raw.{MayTruncate, raw_bytes, raw_vec_of, box_bytes};
+
+    /// The raw form of an owned string, in its own memory.
+    pub fn new(string: OsString<E, A>) -> Self
+        ensures { raw_vec_of result ≡ string_vec_of string }
+    {
+        RawOsString::from_encoded_vec_unchecked(string.into_encoded_bytes())
+    }
+
+    /// The empty string (own call, in the place of `Default`). It takes no memory.
+    pub fn empty(alloc: A) -> Self
+        ensures { (raw_vec_of result).items ≡ [] }
+    {
+        RawOsString::new(OsString::new(alloc))
+    }
+
+    /// The string of an owned text, in its own memory.
+    pub fn from_string(text: String<A>) -> Self
+        ensures { raw_vec_of result ≡ string_vec text }
+    {
+        RawOsString::new(OsString::from(text))
+    }
+
+    /// The string of a vector of well-formed bytes (test: [`Platform::check`]).
+    pub fn from_encoded_vec_unchecked(encoded: Vec<u8, A>) -> Self
+        requires { E.well_formed encoded.items }
+        ensures { raw_vec_of result ≡ encoded }
+    {
+        RawOsString {
+            vec: encoded,
+            platform: PhantomData,
+        }
+    }
+
+    /// The string of a vector of well-formed raw bytes (test: [`RawOsString::from_raw_vec`]).
+    pub fn assert_from_raw_vec(raw: Vec<u8, A>) -> Self
+        requires { E.well_formed raw.items }
+        ensures { raw_vec_of result ≡ raw }
+    {
+        RawOsString::from_encoded_vec_unchecked(raw)
+    }
+
+    /// The same as [`RawOsString::assert_from_raw_vec`].
+    pub fn from_raw_vec_unchecked(raw: Vec<u8, A>) -> Self
+        requires { E.well_formed raw.items }
+        ensures { raw_vec_of result ≡ raw }
+    {
+        RawOsString::from_encoded_vec_unchecked(raw)
+    }
+
+    /// The string of a vector of raw bytes, or their first fault where they aren't well
+    /// formed; a refused vector is dropped.
+    pub fn from_raw_vec(raw: Vec<u8, A>) -> Result<Self, EncodingError>
+        ensures vec { IfOk result (λ string. raw_vec_of string ≡ raw) }
+        ensures cases { MatchResult result (λ _. E.well_formed raw.items) (λ fault. E.first_fault raw.items fault) }
+    {
+        E::check(raw.as_slice())?;
+        Ok(RawOsString::from_encoded_vec_unchecked(raw))
+    }
+
+    /// A view of the string.
+    pub fn as_raw(&self) -> RawOsStr<'_, E>
+        ensures { raw_bytes result ≡ (raw_vec_of self.now).items }
+    {
+        RawOsStr::from_encoded_bytes_unchecked(self.vec.as_slice())
+    }
+
+    /// A view of the string, as the platform's own type.
+    pub fn as_os_str(&self) -> OsStr<'_, E>
+        ensures { bytes result ≡ (raw_vec_of self.now).items }
+    {
+        self.as_raw().as_os_str()
+    }
+
+    /// Whether the string may be cut at a place; past its length it may not (own call).
+    pub fn is_boundary(&self, at: usize) -> bool
+        ensures { IsTrue result ↔ IsBoundary (raw_vec_of self.now).items at }
+    {
+        self.as_raw().is_boundary(at)
+    }
+
+    /// The part in a range that fits (test: [`SliceIndex::fits`]).
+    pub fn index<I: SliceIndex>(&self, range: I) -> RawOsStr<'_, E>
+        requires { FitsIn (raw_vec_of self.now).items (I.first_place range) (I.end_place range (length (raw_vec_of self.now).items)) }
+        ensures { raw_bytes result ≡ drop (I.first_place range) (take (I.end_place range (length (raw_vec_of self.now).items)) (raw_vec_of self.now).items) }
+    {
+        self.as_raw().index(range)
+    }
+
+    /// Leaves the empty string. It takes no memory and gives none back.
+    pub fn clear(&mut self)
+        ensures { (raw_vec_of self.new).items ≡ [] }
+    {
+        self.truncate(0);
+    }
+
+    /// Leaves the bytes before a boundary; a place past the length changes nothing (test:
+    /// [`RawOsString::is_boundary`], or a comparison with the length).
+    ///
+    /// `truncate(3)` of "foobar" leaves "foo", `truncate(9)` leaves "foobar".
+    pub fn truncate(&mut self, at: usize)
+        requires { MayTruncate (raw_vec_of self.old).items at }
+        ensures { (raw_vec_of self.new).items ≡ take at (raw_vec_of self.old).items }
+    {
+        self.vec.truncate(at);
+    }
+
+    /// The bytes behind a boundary (test: [`RawOsString::is_boundary`]), in a string of their
+    /// own; those before it stay. Where memory is refused nothing changes.
+    ///
+    /// `split_off(3)` of "foobar" gives "bar" and leaves "foo".
+    pub fn split_off(&mut self, at: usize) -> Result<Self, AllocError>
+    where
+        A: Clone,
+        requires { IsBoundary (raw_vec_of self.old).items at }
+        ensures front { OnOk result ((raw_vec_of self.new).items ≡ take at (raw_vec_of self.old).items) }
+        ensures back { IfOk result (λ back. (raw_vec_of back).items ≡ drop at (raw_vec_of self.old).items) }
+        ensures unchanged { OnErr result ((raw_vec_of self.new).items ≡ (raw_vec_of self.old).items) }
+    {
+        let alloc = self.vec.allocator().clone()?;
+        let back = self.copy_from(alloc, at)?;
+        self.truncate(at);
+        Ok(back)
+    }
+
+    /// A copy of the bytes behind a boundary.
+    fn copy_from(&self, alloc: A, at: usize) -> Result<Self, AllocError>
+        requires { IsBoundary (raw_vec_of self.now).items at }
+        ensures { IfOk result (λ back. (raw_vec_of back).items ≡ drop at (raw_vec_of self.now).items) }
+    {
+        let (_, back) = self.as_raw().split_at(at);
+        back.to_owned(alloc)
+    }
+
+    /// A copy in memory of its own.
+    pub fn clone(&self) -> Result<Self, AllocError>
+    where
+        A: Clone,
+        ensures { IfOk result (λ copy. (raw_vec_of copy).items ≡ (raw_vec_of self.now).items) }
+    {
+        self.as_raw().to_owned(self.vec.allocator().clone()?)
+    }
+
+    /// Gives back the memory that the string doesn't fill; the string is the same after both
+    /// answers. `AllocError` where some of it couldn't be given back.
+    pub fn shrink_to_fit(&mut self) -> Result<(), AllocError>
+        ensures { (raw_vec_of self.new).items ≡ (raw_vec_of self.old).items }
+    {
+        self.vec.shrink_to_fit();
+        if self.vec.capacity() > self.vec.len() {
+            return Err(AllocError);
+        }
+        Ok(())
+    }
+
+    /// The string in a block of its own length (the crate's `into_box`, and its `From`); the
+    /// string is dropped where memory is refused.
+    pub fn into_box(mut self) -> Result<RawOsStrBox<E, A>, AllocError>
+        ensures { IfOk result (λ boxed. box_bytes boxed ≡ (raw_vec_of self).items) }
+    {
+        self.shrink_to_fit()?;
+        Ok(self.into_block())
+    }
+
+    /// The string in its own block, whatever that has room for.
+    pub(crate) fn into_block(self) -> RawOsStrBox<E, A>
+        ensures { box_bytes result ≡ (raw_vec_of self).items }
+    {
+        RawOsStrBox::from_encoded_bytes(self.vec.into_boxed_slice())
+    }
+
+    /// The string's vector, whose bytes are well formed.
+    pub fn into_encoded_vec(self) -> Vec<u8, A>
+        ensures value { result ≡ raw_vec_of self }
+        ensures formed { E.well_formed result.items }
+    {
+        self.vec
+    }
+
+    /// The string's vector of raw bytes, which are well formed.
+    pub fn into_raw_vec(self) -> Vec<u8, A>
+        ensures value { result ≡ raw_vec_of self }
+        ensures formed { E.well_formed result.items }
+    {
+        self.into_encoded_vec()
+    }
+
+    /// The string as the platform's own type, in its own memory.
+    pub fn into_os_string(self) -> OsString<E, A>
+        ensures { string_vec_of result ≡ raw_vec_of self }
+    {
+        OsString::from_encoded_bytes_unchecked(self.vec)
+    }
+
+    /// The string as a text in its own memory, or else the same string again. It takes no
+    /// memory.
+    pub fn into_string(self) -> Result<String<A>, Self>
+        ensures text { IfOk result (λ text. string_vec text ≡ raw_vec_of self) }
+        ensures same { IfErr result (λ string. raw_vec_of string ≡ raw_vec_of self) }
+        ensures cases { MatchResult result (λ _. IsUtf8 (raw_vec_of self).items) (λ _. ¬ (IsUtf8 (raw_vec_of self).items)) }
+    {
+        match self.into_os_string().into_string() {
+            Ok(text) => Ok(text),
+            Err(string) => Err(RawOsString::new(string)),
+        }
+    }
+
+    /// Whether the string is this text (own call; the crate's `==` between the types).
+    pub fn eq_str(&self, text: &str) -> bool
+        ensures { IsTrue result ↔ ((raw_vec_of self.now).items ≡ text.now) }
+    {
+        self.as_raw().eq_str(text)
+    }
+
+    /// Whether the string is this one (own call; the crate's `==` between the types).
+    pub fn eq_os_str(&self, other: OsStr<'_, E>) -> bool
+        ensures { IsTrue result ↔ ((raw_vec_of self.now).items ≡ bytes other.entry) }
+    {
+        self.as_raw().eq_os_str(other)
+    }
+
+    /// Whether the string is this one (own call; the crate's `==` between the types).
+    pub fn eq_raw(&self, other: RawOsStr<'_, E>) -> bool
+        ensures { IsTrue result ↔ ((raw_vec_of self.now).items ≡ raw_bytes other.entry) }
+    {
+        self.as_raw() == other
+    }
+}
+
+impl<E: Platform, A: Allocator> From<OsString<E, A>> for RawOsString<E, A> {
+    ghost use Rattle.std.specs.Prelude.{◌≡◌};
+    ghost use Rattle.platform_str.specs.Strings.{string_vec_of};
+    ghost use Rattle.os_str_bytes.specs.Raw.{raw_vec_of};
+
+    ghost from_gives = { λ string raw. raw_vec_of raw ≡ string_vec_of string };
+
+    fn from(string: OsString<E, A>) -> Self {
+        RawOsString::new(string)
+    }
+}
+
+impl<E: Platform, A: Allocator> From<String<A>> for RawOsString<E, A> {
+    ghost use Rattle.std.specs.Prelude.{◌≡◌};
+    ghost use Rattle.std.specs.String.{string_vec};
+    ghost use Rattle.os_str_bytes.specs.Raw.{raw_vec_of};
+
+    ghost from_gives = { λ text raw. raw_vec_of raw ≡ string_vec text };
+
+    fn from(text: String<A>) -> Self {
+        RawOsString::from_string(text)
+    }
+}
+
+impl<E: Platform, A: Allocator> From<RawOsStrBox<E, A>> for RawOsString<E, A> {
+    ghost use Rattle.std.specs.Prelude.{◌≡◌};
+    ghost use Rattle.os_str_bytes.specs.Raw.{box_bytes, raw_vec_of};
+
+    ghost from_gives = { λ boxed raw. (raw_vec_of raw).items ≡ box_bytes boxed };
+
+    fn from(boxed: RawOsStrBox<E, A>) -> Self {
+        RawOsString::from_encoded_vec_unchecked(boxed.into_encoded_bytes().into_vec())
+    }
+}
+
+impl<E: Platform, A: Allocator> From<RawOsString<E, A>> for OsString<E, A> {
+    ghost use Rattle.std.specs.Prelude.{◌≡◌};
+    ghost use Rattle.platform_str.specs.Strings.{string_vec_of};
+    ghost use Rattle.os_str_bytes.specs.Raw.{raw_vec_of};
+
+    ghost from_gives = { λ raw string. string_vec_of string ≡ raw_vec_of raw };
+
+    fn from(raw: RawOsString<E, A>) -> Self {
+        raw.into_os_string()
+    }
+}

@@ -1,0 +1,77 @@
+//! Conversions of raw strings: each holds the bytes that went in.
+use super::raw;
+use crate::{
+    CowRawOsStr, EncodingError, OsStr, OsStrCow, OsString, Platform, RawOsStr, RawOsStrBox,
+    RawOsStrCow, RawOsString, Unix, Wasm, Windows,
+};
+use std::boxed::BoxedStr;
+use std::process::Abort;
+use std::test::Fail;
+
+#[test]
+fn views(rt: HostRuntime) -> Result<(), Fail> {
+    views_on::<Unix, _>(&rt, "foobar")?;
+    views_on::<Windows, _>(&rt, "foobar")?;
+    views_on::<Wasm, _>(&rt, "foobar")
+}
+
+fn views_on<'a, E: Platform + 'a, R: AllocGlobal + Abort>(
+    rt: &R,
+    text: &'a str,
+) -> Result<(), Fail> {
+    let string = OsStr::<E>::new(text);
+    let view = RawOsStr::from_str(text);
+    assert!(rt; view == RawOsStr::new(string) && view == RawOsStr::from_os_str(string));
+    assert!(rt; view.as_os_str() == string && view.to_os_str().as_os_str() == string);
+    assert!(rt; view.eq_os_str(string) && view.eq_str(text) && !view.eq_str("fooba"));
+    assert_eq!(rt; view.to_raw_bytes().as_bytes(), view.as_encoded_bytes());
+    assert_eq!(rt; view.to_str(), Some(text));
+    assert!(rt; !view.is_empty());
+    let cow = RawOsStr::<E>::cow_from_raw_bytes(text.as_bytes())?;
+    assert!(rt; cow.as_raw() == view && cow.into_os_str().as_os_str() == string);
+    let same = RawOsStr::assert_cow_from_raw_bytes(view.as_encoded_bytes());
+    let too = RawOsStr::<E>::cow_from_raw_bytes_unchecked(view.as_encoded_bytes());
+    assert!(rt; same.as_raw() == view && too.as_raw() == view);
+    let borrowed: CowRawOsStr<'a, E> = CowRawOsStr::from(view);
+    assert!(rt; borrowed.as_raw() == view);
+
+    let owned = string.to_owned(rt.alloc())?;
+    let owned = RawOsString::new(owned);
+    let moved = OsString::from(owned);
+    let cow: CowRawOsStr<'a, E> = CowRawOsStr::from_os_str(OsStrCow::Owned(moved));
+    assert!(rt; cow.as_raw() == view);
+    let owned = RawOsString::<E>::from_raw_vec(text.as_bytes().to_vec(rt.alloc())?)?;
+    let cow: CowRawOsStr<'a, E> = CowRawOsStr::from(owned);
+    assert!(rt; cow.as_raw() == view);
+    let boxed = RawOsStrBox::<E>::from(BoxedStr::from(String::from_str(rt.alloc(), text)?));
+    assert!(rt; boxed.as_raw() == view);
+    let vec = RawOsString::<E>::from(boxed).into_raw_vec();
+    let owned = RawOsString::<E>::assert_from_raw_vec(vec);
+    let owned = RawOsString::<E>::from_raw_vec_unchecked(owned.into_encoded_vec());
+    match owned.into_string() {
+        Ok(same) => assert_eq!(rt; same.as_str(), text),
+        Err(_) => assert!(rt; false, "{text:?} is a text"),
+    }
+    Ok(())
+}
+
+#[test]
+fn lossy_texts(rt: HostRuntime) -> Result<(), Fail> {
+    let bytes = b"a\xED\xA0\x80b";
+    let windows = raw::<Windows>(&rt, bytes).to_str_lossy(rt.alloc())?;
+    assert_eq!(rt; windows.as_str(), "a\u{FFFD}b");
+    let unix = raw::<Unix>(&rt, bytes).to_str_lossy(rt.alloc())?;
+    assert_eq!(rt; unix.as_str(), "a\u{FFFD}\u{FFFD}\u{FFFD}b");
+    assert_eq!(rt; raw::<Unix>(&rt, bytes).to_str(), None);
+    Ok(())
+}
+
+#[test]
+fn refused_bytes(rt: HostRuntime) -> Result<(), Fail> {
+    let bytes = b"\xED\xA0\x80\xED\xB0\x80";
+    let refused = RawOsStr::<Windows>::cow_from_raw_bytes(bytes);
+    assert!(rt; refused.err() == Some(EncodingError::CodePoint(0xDC00)));
+    let refused = RawOsString::<Windows>::from_raw_vec(bytes.to_vec(rt.alloc())?);
+    assert!(rt; refused.err() == Some(EncodingError::CodePoint(0xDC00)));
+    Ok(())
+}
