@@ -5,3 +5,5 @@ pub mod Lines
 pub mod Strings
 pub mod Output
 pub mod Run
+pub mod Ended
+pub mod Program

@@ -1,0 +1,4 @@
+pub mod Pieces
+pub mod UnitLines
+pub mod OneAnswer
+pub mod SameWords

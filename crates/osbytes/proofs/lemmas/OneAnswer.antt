@@ -1,0 +1,100 @@
+-- A command has an output for its input or refuses it, never both, and refuses it with one fault.
+use Rattle.std.proofs.Common.{◌≡◌, ◌⊎◌, ℕ, List, Option, Result, Err, ap, subst, ◌∙◌, inl, inr}
+use Rattle.std.proofs.KnownBytes.{Consumes-whole}
+use Rattle.std.specs.Io.KnownBytes.{Consumes, IsAtEnd}
+use Rattle.wtf8_core.specs.declared.fault.EncodingError.{EncodingError}
+use Rattle.platform_str.specs.Laws.{PlatformLaws}
+use Rattle.platform_str.specs.UnixLaws.{unix_laws}
+use Rattle.platform_str.specs.WasmLaws.{wasm_laws}
+use Rattle.platform_str.specs.WindowsLaws.{windows_laws}
+use Rattle.osbytes.specs.declared.command.Os.{Os}
+use Rattle.osbytes.specs.declared.command.Os.TheVariants.{Unix, Windows, Wasm}
+use Rattle.osbytes.specs.declared.command.Command.{Command}
+use Rattle.osbytes.specs.declared.command.Command.TheVariants.{Units, Raw, Find, Split, Chunks}
+use Rattle.osbytes.specs.declared.fault.Fault.{Fault}
+use Rattle.osbytes.specs.declared.fault.Fault.TheVariants.{Refused, BadLine, Usage, Memory, Read, Write}
+use Rattle.osbytes.specs.Command.{os_of}
+use Rattle.osbytes.specs.Strings.{strings}
+use Rattle.osbytes.specs.Output.{IsOutput, IsRefusal, HasFaultOn, HasBadLine}
+use Rattle.osbytes.specs.Run.{AnswersRefusal}
+use Rattle.osbytes.proofs.lemmas.UnitLines.{one_list_of_lines, one_bad_line, no_bad_line}
+
+-- the laws of the platform
+laws : (os : Os) → PlatformLaws (strings os).first_fault (strings os).well_formed (strings os).units (strings os).is_unit_list (strings os).io_safe (strings os).lossy (strings os).replaces
+laws Unix = unix_laws
+laws Windows = windows_laws
+laws Wasm = wasm_laws
+
+-- the first fault of the command's input, on its platform
+abbrev HasFault : Command → List ℕ → EncodingError → Type 0
+HasFault command = HasFaultOn (strings (os_of command)) command
+
+output_or_fault : (command : Command) (input output : List ℕ) (error : EncodingError) → IsOutput command input output → HasFault command input error → ⊥
+output_or_fault (Units os) input output error h k = (laws os).faulty input error k h.0
+output_or_fault (Find os pattern) input output error h k = (laws os).faulty input error k h.0
+output_or_fault (Split os pattern) input output error h k = (laws os).faulty input error k.1 h.0
+output_or_fault (Chunks os) input output error h k = (laws os).faulty input error k h.0
+output_or_fault (Raw os) input output error h k =
+    k.2 (subst (strings os).is_unit_list (one_list_of_lines os input ((strings os).units output) k.0 h.1 k.1) ((laws os).unit_list output h.0))
+
+output_or_bad_line : (command : Command) (input output : List ℕ) (number : ℕ) → IsOutput command input output → HasBadLine command input number → ⊥
+output_or_bad_line (Units os) input output number h k = k
+output_or_bad_line (Find os pattern) input output number h k = k
+output_or_bad_line (Split os pattern) input output number h k = k
+output_or_bad_line (Chunks os) input output number h k = k
+output_or_bad_line (Raw os) input output number h k = no_bad_line os input ((strings os).units output) number h.1 k
+
+pub output_or_refusal : (command : Command) (input output : List ℕ) (fault : Fault) → IsOutput command input output → IsRefusal command input fault → ⊥
+output_or_refusal command input output (Refused error) h k = output_or_fault command input output error h k
+output_or_refusal command input output (BadLine number) h k = output_or_bad_line command input output number h k
+output_or_refusal command input output Usage h k = k
+output_or_refusal command input output Memory h k = k
+output_or_refusal command input output Read h k = k
+output_or_refusal command input output Write h k = k
+
+one_fault : (command : Command) (input : List ℕ) (d e : EncodingError) → HasFault command input d → HasFault command input e → d ≡ e
+one_fault (Units os) input d e h k = (laws os).one_fault input d e h k
+one_fault (Find os pattern) input d e h k = (laws os).one_fault input d e h k
+one_fault (Split os pattern) input d e h k = (laws os).one_fault input d e h.1 k.1
+one_fault (Chunks os) input d e h k = (laws os).one_fault input d e h k
+one_fault (Raw os) input d e h k =
+    (laws os).one_fault h.0 d e h.3 (subst (λ us. (strings os).first_fault us e) (one_list_of_lines os input k.0 h.0 k.1 h.1) k.3)
+
+one_bad : (command : Command) (input : List ℕ) (m n : ℕ) → HasBadLine command input m → HasBadLine command input n → m ≡ n
+one_bad (Units os) input m n h k = absurd h
+one_bad (Find os pattern) input m n h k = absurd h
+one_bad (Split os pattern) input m n h k = absurd h
+one_bad (Chunks os) input m n h k = absurd h
+one_bad (Raw os) input m n h k = one_bad_line os input m n h k
+
+fault_or_bad_line : (command : Command) (input : List ℕ) (error : EncodingError) (number : ℕ) → HasFault command input error → HasBadLine command input number → ⊥
+fault_or_bad_line (Units os) input error number h k = k
+fault_or_bad_line (Find os pattern) input error number h k = k
+fault_or_bad_line (Split os pattern) input error number h k = k
+fault_or_bad_line (Chunks os) input error number h k = k
+fault_or_bad_line (Raw os) input error number h k = no_bad_line os input h.0 number h.1 k
+
+pub one_refusal : (command : Command) (input : List ℕ) (f g : Fault) → IsRefusal command input f → IsRefusal command input g → f ≡ g
+one_refusal command input (Refused d) (Refused e) h k = ap Refused (one_fault command input d e h k)
+one_refusal command input (Refused d) (BadLine n) h k = absurd (fault_or_bad_line command input d n h k)
+one_refusal command input (BadLine m) (Refused e) h k = absurd (fault_or_bad_line command input e m k h)
+one_refusal command input (BadLine m) (BadLine n) h k = ap BadLine (one_bad command input m n h k)
+one_refusal command input (Refused d) _ h k = absurd k
+one_refusal command input (BadLine m) _ h k = absurd k
+one_refusal command input _ g h k = absurd h
+
+-- the answer of a run that read all the input, and then had no memory for it or refused it
+pub refused : {T : Type 0} (command : Command) (input left : Option (List ℕ)) (bytes : List ℕ) (answer : Result T Fault) (given : Fault)
+    → Consumes input left bytes → IsAtEnd left → answer ≡ Err given → (given ≡ Memory) ⊎ IsRefusal command bytes given → AnswersRefusal command input answer
+refused command input left bytes answer given read end is (inl memory) =
+    Consumes-whole input left bytes _ read end (λ fault refusal. inr (inr (is ∙ ap Err memory)))
+refused command input left bytes answer given read end is (inr refusal) =
+    Consumes-whole input left bytes _ read end (λ fault other. inl (is ∙ ap Err (one_refusal command bytes given fault refusal other)))
+
+-- the answer of a run that read all the input, and had an output for it
+pub not_refused : {T : Type 0} (command : Command) (input left : Option (List ℕ)) (bytes output : List ℕ) (answer : Result T Fault)
+    → Consumes input left bytes → IsAtEnd left → IsOutput command bytes output → AnswersRefusal command input answer
+not_refused command input left bytes output answer read end given =
+    Consumes-whole input left bytes _ read end (λ fault refusal. absurd (output_or_refusal command bytes output fault given refusal))
+
+pub ruleset one_answer = (refused, not_refused)
