@@ -1,6 +1,6 @@
 //! Each request of a call, refused in turn.
-ghost use Rattle.std.specs.Prelude.{◌+◌, IfOk};
-ghost use Rattle.refusing.specs.Turns.{each_request, RanUnder};
+ghost use Rattle.std.specs.Prelude.{◌+◌, IfOk, IfErr};
+ghost use Rattle.refusing.specs.Turns.{each_request, RanUnder, EndedIn};
 
 use crate::{Plan, Refusing};
 use std::alloc::{AllocError, Allocator};
@@ -29,15 +29,19 @@ use std::alloc::{AllocError, Allocator};
 /// assert_eq!(rt; requests, 1);
 /// ```
 ///
-/// Compare the count: at 0 no request was refused, as where `test` leaves out `restart`. The
-/// first `Err` of `test` ends the runs and is the answer. After 2^64 - 1 runs with a refusal
-/// each the answer is `Err` too.
+/// Compare the count: at 0 no request was refused, as where `test` leaves out `restart`.
+///
+/// # Errors
+///
+/// The first `Err` of `test` ends the runs and is the answer. Else the answer is `Err` only
+/// after 2^64 - 1 runs, each with a refusal.
 pub fn for_each_refusal<A, F>(alloc: A, mut test: F) -> Result<u64, AllocError>
 where
     A: Allocator + Copy,
     F: FnMut(&Refusing<A>, Plan) -> Result<(), AllocError>,
     requires { F.IsAlwaysCallable test }
-    ensures { IfOk result (λ refused. (last : F) × RanUnder F.step test (each_request (refused + 1)) last) }
+    ensures turns { IfOk result (λ refused. (last : F) × RanUnder F.step test (each_request (refused + 1)) last) }
+    ensures ended { IfErr result (EndedIn F.step test) }
 {
     for refused in 0..u64::MAX {
         let heap = Refusing::new(alloc, Plan::Never);
