@@ -1,14 +1,17 @@
 //! Copies of strings.
 use crate::answer::{bytes_of, is_right};
+use crate::fixture::many;
 use platform_str::{OsStr, Platform, Unix, Wasm, Windows};
 use refusing::for_each_refusal;
 use std::alloc::AllocError;
 use std::process::Abort;
+use std::test::Fail;
 
 /// A copy is one request, and none where the string is empty.
 #[test]
-fn copies(rt: HostRuntime) -> Result<(), AllocError> {
-    for (text, requests) in [("", 0), ("foobar", 1)] {
+fn copies(rt: HostRuntime) -> Result<(), Fail> {
+    let long = String::from_utf8(many(rt.alloc(), "foobar".as_bytes())?)?;
+    for (text, requests) in [("", 0), ("foobar", 1), (long.as_str(), 1)] {
         copies_on::<Unix, _>(&rt, text, requests)?;
         copies_on::<Windows, _>(&rt, text, requests)?;
         copies_on::<Wasm, _>(&rt, text, requests)?;

@@ -1,7 +1,7 @@
-//! Strings in a heap that refuses.
+//! Strings in a heap that refuses, and long inputs.
 use platform_str::{OsString, OsStringBytes, Platform};
 use refusing::{Plan, Refusing};
-use std::alloc::Global;
+use std::alloc::{AllocError, Global};
 use std::test::Fail;
 
 /// The string of these bytes, in a heap that refuses each further request.
@@ -13,4 +13,16 @@ pub(crate) fn string_in<'h, E: Platform>(
     let string = OsString::from_raw_vec(Vec::from_slice(heap, raw)?)?;
     heap.restart(Plan::Always);
     Ok(string)
+}
+
+/// How often [`many`] repeats its piece. Pieces of four bytes make more than 64 KiB.
+const COPIES: usize = 20_000;
+
+/// A piece, one copy behind another: an input that is too long for any buffer of a fixed size.
+pub(crate) fn many<T: Copy>(alloc: Global, piece: &[T]) -> Result<Vec<T>, AllocError> {
+    let mut copies = Vec::new(alloc);
+    for _ in 0..COPIES {
+        copies.extend_from_slice(piece)?;
+    }
+    Ok(copies)
 }

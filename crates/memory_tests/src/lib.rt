@@ -13,9 +13,13 @@ mod copies;
 #[cfg(test)]
 mod fixture;
 #[cfg(test)]
+mod joins;
+#[cfg(test)]
 mod lossy;
 #[cfg(test)]
 mod moves;
+#[cfg(test)]
+mod repeats;
 #[cfg(test)]
 mod vectors;
 #[cfg(test)]

@@ -1,6 +1,6 @@
 //! Lossy texts and IO-lossy bytes.
 use crate::answer::is_right;
-use crate::fixture::string_in;
+use crate::fixture::{many, string_in};
 use platform_str::{OsStr, OsStrBytes, Platform, Unix, Wasm, Windows};
 use refusing::{Plan, Refusing, for_each_refusal};
 use std::alloc::{AllocError, Global};
@@ -8,32 +8,21 @@ use std::process::Abort;
 use std::test::Fail;
 
 #[test]
-fn on_unix(rt: HostRuntime) -> Result<(), Fail> {
-    let table: [(&[u8], &str); 3] = [
-        (b"a\xE2\x82A\xF0\x9F", "a\u{FFFD}A\u{FFFD}"),
-        (b"\xF5\x80", "\u{FFFD}\u{FFFD}"),
-        (b"a\xED\xA0\x80b", "a\u{FFFD}\u{FFFD}\u{FFFD}b"),
-    ];
-    for (raw, text) in table {
-        lossy_on::<Unix, _>(&rt, raw, text.as_bytes(), raw)?;
-    }
-    Ok(())
+fn replaced(rt: HostRuntime) -> Result<(), Fail> {
+    let raw = b"a\xED\xA0\x80b";
+    let unix = "a\u{FFFD}\u{FFFD}\u{FFFD}b".as_bytes();
+    lossy_on::<Unix, _>(&rt, raw, unix, raw)?;
+    let windows = "a\u{FFFD}b".as_bytes();
+    lossy_on::<Windows, _>(&rt, raw, windows, windows)
 }
 
 #[test]
-fn on_windows(rt: HostRuntime) -> Result<(), Fail> {
-    let table: [(&[u8], &str); 3] = [
-        (b"a\xED\xA0\x80b", "a\u{FFFD}b"),
-        (b"\xED\xB0\x80\xED\xA0\x80", "\u{FFFD}\u{FFFD}"),
-        (
-            b"foobar\xED\xB0\x80foobar\xED\xA0\x80",
-            "foobar\u{FFFD}foobar\u{FFFD}",
-        ),
-    ];
-    for (raw, text) in table {
-        lossy_on::<Windows, _>(&rt, raw, text.as_bytes(), text.as_bytes())?;
-    }
-    Ok(())
+fn replaced_in_long_strings(rt: HostRuntime) -> Result<(), Fail> {
+    let raw = many(rt.alloc(), b"foobar\xED\xA0\x80")?;
+    let unix = many(rt.alloc(), "foobar\u{FFFD}\u{FFFD}\u{FFFD}".as_bytes())?;
+    lossy_on::<Unix, _>(&rt, &raw, &unix, &raw)?;
+    let windows = many(rt.alloc(), "foobar\u{FFFD}".as_bytes())?;
+    lossy_on::<Windows, _>(&rt, &raw, &windows, &windows)
 }
 
 /// Memory is asked for exactly where something is replaced. How often is left open.

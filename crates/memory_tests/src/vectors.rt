@@ -1,7 +1,7 @@
 //! Strings and paths from vectors and back, with every request refused.
 use platform_str::{OsString, OsStringBytes, PathBuf, Platform, Unix, Wasm, Windows};
 use refusing::{Plan, Refusing};
-use std::alloc::Global;
+use std::alloc::{Allocator, Global};
 use std::process::Abort;
 use std::test::Fail;
 
@@ -20,24 +20,27 @@ fn accepted_on<E: Platform>(
     raw: &[u8],
     io: &[u8],
 ) -> Result<(), Fail> {
-    accepted_by::<OsString<E, _>>(rt, heap, raw, io)?;
-    accepted_by::<PathBuf<E, _>>(rt, heap, raw, io)
+    accepted_by::<OsString<E, _>, _>(rt, heap, heap, raw, io)?;
+    accepted_by::<PathBuf<E, _>, _>(rt, heap, heap, raw, io)
 }
 
 /// Each call from a vector to a string, and each back. What isn't IO-safe is repaired in place.
-fn accepted_by<'h, O>(
+/// The vectors are made at `heap`, which is `alloc` too.
+fn accepted_by<O, A>(
     rt: &impl Abort,
-    heap: &'h Refusing<Global>,
+    heap: &Refusing<Global>,
+    alloc: A,
     raw: &[u8],
     io: &[u8],
 ) -> Result<(), Fail>
 where
-    O: OsStringBytes<Vec = Vec<u8, &'h Refusing<Global>>> + Drop,
+    O: OsStringBytes<Alloc = A, Vec = Vec<u8, A>>,
+    A: Allocator + Copy,
 {
     heap.restart(Plan::Never);
-    let checked = Vec::from_slice(heap, raw)?;
-    let io_checked = Vec::from_slice(heap, raw)?;
-    let repaired = Vec::from_slice(heap, raw)?;
+    let checked = Vec::from_slice(alloc, raw)?;
+    let io_checked = Vec::from_slice(alloc, raw)?;
+    let repaired = Vec::from_slice(alloc, raw)?;
     heap.restart(Plan::Always);
     let vec = O::from_raw_vec(checked)?.into_raw_vec();
     assert_eq!(rt;

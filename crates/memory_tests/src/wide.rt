@@ -1,5 +1,6 @@
 //! Windows strings from units.
 use crate::answer::{bytes_of, is_right};
+use crate::fixture::many;
 use platform_str::windows::OsString;
 use refusing::for_each_refusal;
 use std::alloc::AllocError;
@@ -8,7 +9,9 @@ use std::process::Abort;
 /// Memory is asked for exactly where there is a unit. How often is left open.
 #[test]
 fn units(rt: HostRuntime) -> Result<(), AllocError> {
-    let table: [(&[u16], &[u8]); 4] = [
+    let long_units = many(rt.alloc(), &[0x41u16, 0xD83D, 0xDE00])?;
+    let long_bytes = many(rt.alloc(), b"A\xF0\x9F\x98\x80")?;
+    let table: [(&[u16], &[u8]); 5] = [
         (&[], b""),
         (&[0x41], b"A"),
         (&[0xD83D, 0xDE00], b"\xF0\x9F\x98\x80"),
@@ -16,6 +19,7 @@ fn units(rt: HostRuntime) -> Result<(), AllocError> {
             &[0x20AC; 6],
             "\u{20AC}\u{20AC}\u{20AC}\u{20AC}\u{20AC}\u{20AC}".as_bytes(),
         ),
+        (&long_units, &long_bytes),
     ];
     for (units, bytes) in table {
         let requests = from_wide(&rt, units, bytes)?;
