@@ -1,0 +1,12 @@
+-- What follows of an `Option` or a `Result` from what each variant says.
+use Rattle.std.proofs.Common.{◌≡◌, ap, Option, None, Some, IfSome, MatchOption, Result, Ok, Err, MatchResult}
+
+-- what follows of a value follows where there is one
+pub where_some : {A : Type 0} (P : Type 0) {Q R : A → Type 0} → ((x : A) → Q x → R x) → (o : Option A) → MatchOption o P Q → IfSome o R
+where_some P f None none = tt
+where_some P f (Some x) some = f x some
+
+-- where it can't be `Ok`, and each error is this one
+pub only_err : {A B : Type 0} (P : Type 0) {Q : B → Type 0} {error : B} → (r : Result A B) → MatchResult r (λ _. P) Q → ¬ P → ((x : B) → Q x → x ≡ error) → r ≡ Err error
+only_err P (Ok x) ok none one = absurd (none ok)
+only_err P (Err x) err none one = ap Err (one x err)

@@ -1,0 +1,84 @@
+//! Bytes as code points, and their faults.
+ghost use Rattle.std.specs.Prelude.{◌≡◌, ◌↔◌, ◌⊎◌, ◌<◌, ◌≤◌, ℕ, Err, IfSome, IsTrue};
+ghost use Rattle.wtf8_core.specs.Wtf8.{Spells, IsWtf8};
+ghost use Rattle.wtf8_core.specs.Fault.{IsFirstFault};
+ghost use Rattle.wtf8_core.specs.Character.{WholeCharacter};
+ghost use Rattle.wtf8_core.specs.Utf8.{IsUtf8Fault, part_end};
+
+use platform_str::{EncodingError, Platform, Windows};
+use wtf8_core::{CodePoints, char_at, laws, utf8_fault};
+
+/// Whether bytes are WTF-8.
+pub fn is_wtf8(raw: &[u8]) -> bool
+    ensures { IsTrue result ↔ IsWtf8 raw.now }
+{
+    laws::spelled_or_faulty();
+    match Windows::check(raw) {
+        Ok(()) => true,
+        Err(_) => false,
+    }
+}
+
+/// The check of bytes of which a fault is known, which answers it.
+pub fn check_says(
+    raw: &[u8],
+    code_points: &[u32],
+    fault: EncodingError,
+) -> Result<(), EncodingError>
+    requires { IsFirstFault raw.now code_points.now fault }
+    ensures { result ≡ Err fault }
+{
+    laws::spelled_or_faulty();
+    laws::one_first_fault();
+    Windows::check(raw)
+}
+
+/// Two lists of code points of the same bytes, which are equal.
+pub fn spelled_once(raw: &[u8], code_points: &[u32], others: &[u32])
+    requires first { Spells raw.now code_points.now }
+    requires second { Spells raw.now others.now }
+    ensures { code_points.now ≡ others.now }
+{
+    laws::spelled_once();
+}
+
+/// Two readers of the same bytes, which answer the same.
+pub fn read_twice(raw: &[u8]) -> (CodePoints<'_>, CodePoints<'_>)
+    ensures { result.0 ≡ result.1 }
+{
+    laws::one_list_of_items();
+    (CodePoints::new(raw), CodePoints::new(raw))
+}
+
+/// The fault of bytes that aren't UTF-8, with what is known of each character of theirs.
+pub fn parted_by_fault(raw: &[u8]) -> Option<(usize, Option<u8>)>
+    ensures { IfSome result (λ fault. (i : ℕ) → (j : ℕ) → WholeCharacter raw.now i j
+        → (j ≤ fault.0) ⊎ (part_end raw.now fault.0 fault.1 ≤ i)) }
+{
+    laws::ill_formed_parts();
+    utf8_fault(raw)
+}
+
+/// The fault of bytes of which one is known, which is that one.
+pub fn utf8_fault_says(
+    raw: &[u8],
+    valid_up_to: usize,
+    error_len: Option<u8>,
+) -> Option<(usize, Option<u8>)>
+    requires { IsUtf8Fault raw.now valid_up_to error_len }
+    ensures { IfSome result (λ fault. (fault.0 ≡ valid_up_to) × (fault.1 ≡ error_len)) }
+{
+    laws::one_utf8_fault();
+    utf8_fault(raw)
+}
+
+/// Whether a character ends before a later one begins: it always does.
+pub fn ends_before(raw: &[u8], first: usize, second: usize) -> Option<bool>
+    requires { first < second }
+    ensures { IfSome result (λ before. IsTrue before) }
+{
+    laws::characters();
+    let len = char_at(raw, first)?;
+    char_at(raw, second)?;
+    Some(first + len <= second)
+}

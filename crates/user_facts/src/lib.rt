@@ -1,0 +1,38 @@
+//! For trying: what a user of the strings concludes from the public contracts alone.
+//!
+//! Each function is a caller whose contract is such a conclusion. Nothing here cites a lemma
+//! or a private word of the crates below, so that a contract or a law that says too little
+//! breaks a caller.
+#![tactic(auto)]
+
+mod bytes;
+mod parts;
+mod plan9;
+mod ranges;
+mod raw;
+mod searches;
+mod texts;
+mod units;
+
+pub use bytes::{
+    check_says, ends_before, is_wtf8, parted_by_fault, read_twice, spelled_once, utf8_fault_says,
+};
+pub use parts::{
+    cuts_agree, halves, halves_of_text, part_is_accepted, three_parts, three_parts_from_the_end,
+};
+pub use plan9::Plan9;
+pub use ranges::{between, between_inclusive, from, full, to, to_inclusive};
+pub use raw::{check_again, moved_back, taken_back, taken_back_by_any};
+pub use searches::around_first;
+pub use texts::{
+    behind_first, cut_out, io_is_raw, io_lossy_is_safe, io_lossy_of_text, is_text, lossy_behind,
+    lossy_on_unix, lossy_on_windows, lossy_says, replaced, replaced_by_as_many, text_is_io_safe,
+    text_is_string,
+};
+pub use units::{
+    equal_by_units, listed, order, owned_order, same_owned_string, same_string, spelled,
+    through_string, through_units, units_say,
+};
+
+#[cfg(test)]
+mod tests;

@@ -1,0 +1,92 @@
+//! Parts of strings: joined they are the string, in bytes and in units.
+ghost use Rattle.std.specs.Prelude.{◌≡◌, ◌↔◌, ◌++◌, ◌≤◌, IsOk, IsSome, IfSome, IsTrue};
+ghost use Rattle.std.specs.Str.{IsUtf8};
+ghost use Rattle.wtf8_core.specs.Boundary.{IsBoundary};
+ghost use Rattle.platform_str.specs.Strings.{bytes};
+
+use os_str_ext::OsStrBytesExt;
+use platform_str::{EncodingError, OsStr, Platform, laws};
+
+/// The parts before and behind a place, if the string may be cut there.
+pub fn halves<'a, E: Platform + 'a>(
+    string: OsStr<'a, E>,
+    at: usize,
+) -> Option<(OsStr<'a, E>, OsStr<'a, E>)>
+    ensures cut { IsSome result ↔ IsBoundary (bytes string.entry) at }
+    ensures joined { IfSome result (λ parts. bytes parts.0 ++ bytes parts.1 ≡ bytes string.entry) }
+    ensures units { IfSome result (λ parts. E.units (bytes parts.0) ++ E.units (bytes parts.1) ≡ E.units (bytes string.entry)) }
+{
+    if string.is_boundary(at) {
+        return Some(string.split_at(at));
+    }
+    None
+}
+
+/// The parts before, between and behind two places, if the string may be cut at both.
+pub fn three_parts<'a, E: Platform + 'a>(
+    string: OsStr<'a, E>,
+    start: usize,
+    end: usize,
+) -> Option<(OsStr<'a, E>, OsStr<'a, E>, OsStr<'a, E>)>
+    ensures cut { IsSome result ↔ ((start ≤ end) × IsBoundary (bytes string.entry) start × IsBoundary (bytes string.entry) end) }
+    ensures joined { IfSome result (λ parts. bytes parts.0 ++ (bytes parts.1 ++ bytes parts.2) ≡ bytes string.entry) }
+    ensures units { IfSome result (λ parts. E.units (bytes parts.0) ++ (E.units (bytes parts.1) ++ E.units (bytes parts.2)) ≡ E.units (bytes string.entry)) }
+{
+    if start <= end && string.is_boundary(start) && string.is_boundary(end) {
+        wtf8_core::laws::boundaries();
+        let (front, rest) = string.split_at(start);
+        let (middle, back) = rest.split_at(end - start);
+        return Some((front, middle, back));
+    }
+    None
+}
+
+/// The same parts, cut at the second place first.
+pub fn three_parts_from_the_end<'a, E: Platform + 'a>(
+    string: OsStr<'a, E>,
+    start: usize,
+    end: usize,
+) -> Option<(OsStr<'a, E>, OsStr<'a, E>, OsStr<'a, E>)>
+    ensures joined { IfSome result (λ parts. bytes parts.0 ++ bytes parts.1 ++ bytes parts.2 ≡ bytes string.entry) }
+    ensures units { IfSome result (λ parts. E.units (bytes parts.0) ++ E.units (bytes parts.1) ++ E.units (bytes parts.2) ≡ E.units (bytes string.entry)) }
+{
+    if start <= end && string.is_boundary(start) && string.is_boundary(end) {
+        wtf8_core::laws::boundaries();
+        let (rest, back) = string.split_at(end);
+        let (front, middle) = rest.split_at(start);
+        return Some((front, middle, back));
+    }
+    None
+}
+
+/// Whether a part of a string is accepted as raw bytes: it always is.
+pub fn part_is_accepted<'a, E: Platform + 'a>(
+    string: OsStr<'a, E>,
+    at: usize,
+) -> Result<(), EncodingError>
+    requires { IsBoundary (bytes string) at }
+    ensures { IsOk result }
+{
+    laws::faults::<E>();
+    let (front, _) = string.split_at(at);
+    E::check(front.as_encoded_bytes())
+}
+
+/// Whether both parts of a text are texts: they always are.
+pub fn halves_of_text<'a, E: Platform + 'a>(string: OsStr<'a, E>, at: usize) -> bool
+    requires text { IsUtf8 (bytes string) }
+    requires cut { IsBoundary (bytes string) at }
+    ensures { IsTrue result }
+{
+    wtf8_core::laws::cuts();
+    let (front, back) = string.split_at(at);
+    front.to_str().is_some() && back.to_str().is_some()
+}
+
+/// Whether a text may be cut at a place as a `str` and as a string: never one alone.
+pub fn cuts_agree<E: Platform>(text: &str, at: usize) -> bool
+    ensures { IsTrue result }
+{
+    wtf8_core::laws::boundaries();
+    OsStr::<E>::new(text).is_boundary(at) == text.is_char_boundary(at)
+}

@@ -1,0 +1,67 @@
+//! A fourth platform, written outside: any bytes are a string, as on Unix.
+ghost use Rattle.std.specs.Str.Lossy.{utf8_lossy};
+ghost use Rattle.wtf8_core.specs.Utf8.{IsIllFormedPart};
+ghost use Rattle.platform_str.specs.Platforms.{AreBytes, itself, IsNoFault};
+ghost use Rattle.platform_str.specs.UnixLaws.{bytes_prop, unix_laws};
+ghost use Rattle.platform_str.specs.Standing.{unix_standing};
+ghost use Rattle.platform_str.specs.PartLaws.{AreAboveAscii, unix_parts};
+
+use platform_str::{EncodingError, Platform, Unix};
+use std::alloc::{AllocError, Allocator};
+
+/// The marker of strings that are any bytes.
+pub struct Plan9;
+
+impl Platform for Plan9 {
+    ghost well_formed = { AreBytes };
+
+    ghost well_formed_prop = { bytes_prop };
+
+    ghost units = { itself };
+
+    ghost is_unit_list = { AreBytes };
+
+    ghost io_safe = { AreBytes };
+
+    ghost first_fault = { IsNoFault };
+
+    ghost lossy = { utf8_lossy };
+
+    ghost replaces = { IsIllFormedPart };
+
+    ghost part_units = { AreAboveAscii };
+
+    ghost standing = { unix_standing };
+
+    ghost laws = { unix_laws };
+
+    ghost parts = { unix_parts };
+
+    fn check(bytes: &[u8]) -> Result<(), EncodingError> {
+        Unix::check(bytes)
+    }
+
+    fn is_io_safe(bytes: &[u8]) -> bool {
+        Unix::is_io_safe(bytes)
+    }
+
+    fn lossy_len(bytes: &[u8]) -> usize {
+        Unix::lossy_len(bytes)
+    }
+
+    fn first_unit(bytes: &[u8]) -> (u16, usize) {
+        Unix::first_unit(bytes)
+    }
+
+    fn starts_with_os(string: &[u8], front: &[u8]) -> bool {
+        Unix::starts_with_os(string, front)
+    }
+
+    fn ends_with_os(string: &[u8], end: &[u8]) -> bool {
+        Unix::ends_with_os(string, end)
+    }
+
+    fn push_bytes<A: Allocator>(string: &mut Vec<u8, A>, more: &[u8]) -> Result<(), AllocError> {
+        Unix::push_bytes(string, more)
+    }
+}

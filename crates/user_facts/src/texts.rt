@@ -1,0 +1,165 @@
+//! Texts, lossy texts and IO bytes.
+ghost use Rattle.std.specs.Prelude.{◌≡◌, ◌↔◌, ◌<◌, ◌++◌, IsOk, IfOk, IfSome, IsTrue, length, take, drop};
+ghost use Rattle.std.specs.Str.{IsUtf8, IsValidUpTo};
+ghost use Rattle.wtf8_core.specs.Covered.{StartsBare};
+ghost use Rattle.wtf8_core.specs.Lossy.{replacement, IsLossyText, IsWtf8LossyText};
+ghost use Rattle.wtf8_core.specs.Standing.{StandsAt};
+ghost use Rattle.platform_str.specs.Strings.{bytes};
+ghost use Rattle.platform_str.specs.Cows.{byte_cow_bytes, str_cow_bytes};
+
+use os_str_ext::OsStrBytesExt;
+use platform_str::{
+    ByteCow, EncodingError, OsStr, OsStrBytes, Platform, StrCow, Unix, Windows, laws,
+};
+use std::alloc::{AllocError, Global};
+use wtf8_core::char_at;
+
+/// Whether a string is a text.
+pub fn is_text<'a, E: Platform + 'a>(string: OsStr<'a, E>) -> bool
+    ensures { IsTrue result ↔ IsUtf8 (bytes string.entry) }
+{
+    string.to_str().is_some()
+}
+
+/// The check of a text, which every platform accepts.
+pub fn text_is_string<E: Platform>(text: &str) -> Result<(), EncodingError>
+    ensures { IsOk result }
+{
+    laws::texts::<E>();
+    laws::faults::<E>();
+    E::check(text.as_bytes())
+}
+
+/// Whether a text may be handed to files: it always may.
+pub fn text_is_io_safe<E: Platform>(text: &str) -> bool
+    ensures { IsTrue result }
+{
+    laws::texts::<E>();
+    E::is_io_safe(text.as_bytes())
+}
+
+/// Whether IO-safe bytes are raw bytes: they always are.
+pub fn io_is_raw<E: Platform>(raw: &[u8]) -> bool
+    ensures { IsTrue result }
+{
+    laws::texts::<E>();
+    laws::faults::<E>();
+    !E::is_io_safe(raw) || E::check(raw).is_ok()
+}
+
+/// A text's IO-lossy bytes, which are its own and take no memory.
+pub fn io_lossy_of_text<'a, E: Platform + 'a>(
+    alloc: Global,
+    text: &'a str,
+) -> Result<ByteCow<'a>, AllocError>
+    ensures without_memory { IsOk result }
+    ensures same { IfOk result (λ io. byte_cow_bytes io ≡ text.now) }
+{
+    laws::texts::<E>();
+    laws::lossy_texts::<E>();
+    OsStr::<E>::new(text).to_io_bytes_lossy(alloc)
+}
+
+/// Whether a string's IO-lossy bytes may be handed to files: they always may.
+pub fn io_lossy_is_safe<'a, E: Platform + 'a>(
+    alloc: Global,
+    string: OsStr<'a, E>,
+) -> Result<bool, AllocError>
+    ensures { IfOk result (λ safe. IsTrue safe) }
+{
+    laws::texts::<E>();
+    laws::lossy_texts::<E>();
+    let io = string.to_io_bytes_lossy(alloc)?;
+    Ok(E::is_io_safe(io.as_bytes()))
+}
+
+/// The string behind its first character.
+pub fn behind_first<'a, E: Platform + 'a>(string: OsStr<'a, E>) -> Option<OsStr<'a, E>>
+    ensures { IfSome result (λ rest. length (bytes rest) < length (bytes string.entry)) }
+{
+    wtf8_core::laws::characters();
+    laws::texts::<E>();
+    let raw = string.as_encoded_bytes();
+    let len = char_at(raw, 0)?;
+    Some(OsStr::from_encoded_bytes_unchecked(&raw[len..]))
+}
+
+/// How many bytes U+FFFD stands for at the front of a string's lossy text.
+pub fn replaced<'a, E: Platform + 'a>(string: OsStr<'a, E>) -> usize
+    requires some { 0 < length (bytes string) }
+    requires bare { StartsBare (bytes string) }
+    ensures { E.lossy (bytes string.entry) ≡ replacement ++ E.lossy (drop result (bytes string.entry)) }
+{
+    laws::lossy_texts::<E>();
+    E::lossy_len(string.as_encoded_bytes())
+}
+
+/// The same on a platform of which a string is known that isn't IO-safe.
+pub fn replaced_by_as_many<'a, E: Platform + 'a>(
+    string: OsStr<'a, E>,
+    not_safe: OsStr<'a, E>,
+) -> usize
+    requires some { 0 < length (bytes string) }
+    requires bare { StartsBare (bytes string) }
+    requires not_safe { ¬ (E.io_safe (bytes not_safe)) }
+    ensures { result ≡ length replacement }
+{
+    laws::texts::<E>();
+    let _raw = not_safe.as_encoded_bytes();
+    E::lossy_len(string.as_encoded_bytes())
+}
+
+/// The lossy text of a string that begins with a text.
+pub fn lossy_behind<'a, E: Platform + 'a>(
+    alloc: Global,
+    string: OsStr<'a, E>,
+    len: usize,
+) -> Result<StrCow<'a>, AllocError>
+    requires { IsValidUpTo (bytes string) len }
+    ensures { IfOk result (λ text. str_cow_bytes text ≡ take len (bytes string.entry) ++ E.lossy (drop len (bytes string.entry))) }
+{
+    laws::lossy_texts::<E>();
+    string.to_string_lossy(alloc)
+}
+
+/// The lossy text of a Unix string, by maximal ill-formed parts.
+pub fn lossy_on_unix<'a>(alloc: Global, string: OsStr<'a, Unix>) -> Result<StrCow<'a>, AllocError>
+    ensures { IfOk result (λ text. IsLossyText (bytes string.entry) (str_cow_bytes text)) }
+{
+    wtf8_core::laws::lossy_text();
+    string.to_string_lossy(alloc)
+}
+
+/// The lossy text of a Unix string of which one is known, which is that one.
+pub fn lossy_says<'a>(
+    alloc: Global,
+    string: OsStr<'a, Unix>,
+    known: &str,
+) -> Result<StrCow<'a>, AllocError>
+    requires { IsLossyText (bytes string) known.now }
+    ensures { IfOk result (λ text. str_cow_bytes text ≡ known.now) }
+{
+    wtf8_core::laws::lossy_text();
+    string.to_string_lossy(alloc)
+}
+
+/// The lossy text of a Windows string, by surrogates.
+pub fn lossy_on_windows<'a>(
+    alloc: Global,
+    string: OsStr<'a, Windows>,
+) -> Result<StrCow<'a>, AllocError>
+    ensures { IfOk result (λ text. IsWtf8LossyText (bytes string.entry) (str_cow_bytes text)) }
+{
+    wtf8_core::laws::functions();
+    string.to_string_lossy(alloc)
+}
+
+/// A text that stands in a string, cut out of it.
+pub fn cut_out<'a, E: Platform + 'a>(string: OsStr<'a, E>, text: &str, at: usize) -> OsStr<'a, E>
+    requires some { 0 < length text.now }
+    requires stands { StandsAt text.now (bytes string) at }
+    ensures { bytes result ≡ text.now }
+{
+    wtf8_core::laws::boundaries();
+    string.index(at..at + text.len())
+}
