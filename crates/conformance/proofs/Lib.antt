@@ -1,2 +1,3 @@
 pub mod AnswerFileLemmas
+pub mod AskedLemmas
 pub mod HexTextLemmas

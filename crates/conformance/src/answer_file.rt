@@ -9,6 +9,7 @@
 //!   the empty list;
 //! - a `bool` is `0` or `1`;
 //! - `!` is `None`, or a condition that isn't met;
+//! - `,` stands between parts;
 //! - a fault is `byte c0`, `cp dc00` (at least four digits), `end`, `utf8 1 2` or `utf8 1 none`
 //!   (the place and the length of an ill-formed part), and `ok` says that there is none.
 ghost use Rattle.std.specs.Prelude.{◌≡◌, ◌<◌, ◌↔◌, IsOk, IsErrOf, IfOk, IfErr, map, vec_len};
@@ -17,13 +18,13 @@ ghost use Rattle.conformance.specs.AnswerFile.{columns_of, is_row, rows_of};
 ghost use Rattle.conformance.specs.Row.{columns};
 
 use crate::error::LineError;
-use crate::kinds::Kind;
+use crate::kinds::RowKind;
 use std::alloc::{AllocError, Global};
 
 /// An answer file: its kind, how many rows its head says it has, and its rows.
 #[derive(Drop)]
-pub struct AnswerFile<'a> {
-    pub kind: Kind,
+pub struct AnswerFile<'a, K> {
+    pub kind: K,
     pub expected_rows: usize,
     pub rows: Vec<Row<'a>>,
 }
@@ -35,13 +36,13 @@ pub struct Row<'a> {
     pub columns: Vec<&'a str>,
 }
 
-impl<'a> AnswerFile<'a> {
+impl<'a, K: RowKind + Drop> AnswerFile<'a, K> {
     /// The answer file that a text is, or what is wrong with its head.
     pub fn read(alloc: Global, text: &'a str) -> Result<Self, LineError>
         ensures { IfOk result (λ file. map columns file.rows.items ≡ rows_of text.now) }
     {
         let (name, expected_rows) = text.lines().next().and_then(head).ok_or(LineError::NoHead)?;
-        let Some(kind) = Kind::named(name) else {
+        let Some(kind) = K::named(name) else {
             return Err(LineError::UnknownKind(String::from_str(alloc, name)?));
         };
         Ok(AnswerFile {

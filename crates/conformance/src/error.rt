@@ -21,6 +21,8 @@ pub enum LineError {
     ColumnCount { expected: usize, found: usize },
     #[error("an input is no list: two lower-case digits a byte, four a unit, or '-'")]
     NoList,
+    #[error("an input is no text")]
+    NoText,
     #[error("an input is no platform")]
     NoPlatform,
     #[error("an input is no string of its platform")]

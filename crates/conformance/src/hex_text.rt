@@ -42,6 +42,16 @@ pub fn read_bytes(alloc: Global, text: &str) -> Result<Vec<u8>, LineError>
     }
 }
 
+/// The text whose bytes have a text.
+pub fn read_text(alloc: Global, text: &str) -> Result<String, LineError>
+    ensures { IfOk result (λ read. bytes_text (string_bytes read) ≡ text.now) }
+{
+    match String::from_utf8(read_bytes(alloc, text)?) {
+        Ok(read) => Ok(read),
+        Err(_) => Err(LineError::NoText),
+    }
+}
+
 /// The units that have a text.
 pub fn read_units(alloc: Global, text: &str) -> Result<Vec<u16>, LineError>
     ensures read { IfOk result (λ units. units_text units.items ≡ text.now) }

@@ -3,50 +3,79 @@
 //! A kind is a file below this one: it names the columns of a row, and asks for each the calls
 //! that answer it, or says that none stands yet. Where rows begin with a platform, it is a
 //! [`platforms::PlatformKind`].
+ghost use Rattle.std.specs.Prelude.{ℕ, List, IfOk, ⊤, map};
+ghost use Rattle.conformance.specs.declared.column.Column.{Column};
+
 use crate::column::Column;
 use crate::error::LineError;
 use crate::platforms;
 use ranges::Ranges;
+use search::Search;
 use std::alloc::Global;
 use strings::Strings;
 
 mod lossy;
 mod ranges;
+mod search;
 mod strings;
 mod windows_decode;
 mod windows_encode;
+mod windows_join;
+mod windows_prefix;
 
-/// A kind of answer file: what its rows ask.
+/// What the rows of a kind ask.
+pub trait RowKind: Sized {
+    // which columns asking a row may give
+    ghost answers: { Self → List (List ℕ) → List Column → Type 0 };
+
+    /// The kind of a name, as in the head of a file.
+    fn named(name: &str) -> Option<Self>;
+
+    /// What a row asks, and what the calls answer.
+    fn ask<'a>(&self, alloc: Global, row: &[&'a str]) -> Result<Vec<Column<'a>>, LineError>
+        ensures { IfOk result (λ columns. answers self.now (map (λ column. column.now) row.now) columns.items) };
+}
+
+/// The kinds of answer files.
 #[derive(Clone, Copy)]
 pub enum Kind {
     WindowsDecode,
     WindowsEncode,
+    WindowsPrefix,
+    WindowsJoin,
     Lossy,
     Strings,
     Ranges,
+    Search,
 }
 
-impl Kind {
-    /// The kind of a name, as in the head of a file.
-    pub fn named(name: &str) -> Option<Kind> {
+impl RowKind for Kind {
+    ghost answers = { λ _ _ _. ⊤ };
+
+    fn named(name: &str) -> Option<Kind> {
         match name {
             "windows_decode" => Some(Kind::WindowsDecode),
             "windows_encode" => Some(Kind::WindowsEncode),
+            "windows_prefix" => Some(Kind::WindowsPrefix),
+            "windows_join" => Some(Kind::WindowsJoin),
             "lossy" => Some(Kind::Lossy),
             "strings" => Some(Kind::Strings),
             "ranges" => Some(Kind::Ranges),
+            "search" => Some(Kind::Search),
             _ => None,
         }
     }
 
-    /// What a row asks, and what the calls answer.
-    pub fn ask<'a>(self, alloc: Global, row: &[&'a str]) -> Result<Vec<Column<'a>>, LineError> {
+    fn ask<'a>(&self, alloc: Global, row: &[&'a str]) -> Result<Vec<Column<'a>>, LineError> {
         match self {
             Kind::WindowsDecode => windows_decode::ask(alloc, row),
             Kind::WindowsEncode => windows_encode::ask(alloc, row),
+            Kind::WindowsPrefix => windows_prefix::ask(alloc, row),
+            Kind::WindowsJoin => windows_join::ask(alloc, row),
             Kind::Lossy => lossy::ask(alloc, row),
             Kind::Strings => platforms::ask::<Strings>(alloc, row),
             Kind::Ranges => platforms::ask::<Ranges>(alloc, row),
+            Kind::Search => platforms::ask::<Search>(alloc, row),
         }
     }
 }

@@ -11,9 +11,11 @@
 ghost use Rattle.std.specs.Prelude.{◌≡◌, if◌then◌else◌, MatchResult};
 
 mod answer_file;
+mod asked;
 mod column;
 mod error;
 mod fault_text;
+mod files;
 mod hex_text;
 mod kinds;
 mod platforms;
@@ -22,12 +24,13 @@ mod summary;
 mod tests;
 
 use error::Failure;
+use kinds::Kind;
+use std::env;
 use std::process::ExitCode;
 use std::rt::{Env, Files};
-use std::{env, fs};
 
 fn main(rt: HostRuntime) -> ExitCode {
-    let asked = ask_files(&rt);
+    let asked = ask(&rt);
     if let Err(failure) = &asked {
         // Where standard error can't be written to, only the status tells of the failure.
         let _ = eprintln!(rt; "conformance: {failure}");
@@ -47,28 +50,10 @@ fn status(asked: &Result<bool, Failure>) -> u8
 }
 
 /// Asks the files that the words name, and answers whether no row of them differs.
-fn ask_files(rt: &(impl Env + Files + Print + AllocGlobal)) -> Result<bool, Failure> {
+fn ask(rt: &(impl Env + Files + Print + AllocGlobal)) -> Result<bool, Failure> {
     let names: Vec<String> = env::args(rt)?.skip(1).collect(rt.alloc())?;
     if names.is_empty() {
         return Err(Failure::Usage);
     }
-    let mut same = true;
-    for name in names {
-        same &= ask_file(rt, name)?;
-    }
-    Ok(same)
-}
-
-/// Asks a file, prints what came of it, and answers whether no row of it differs.
-fn ask_file(rt: &(impl Files + Print + AllocGlobal), name: String) -> Result<bool, Failure> {
-    let text = match fs::read_to_string(rt, name.as_str()) {
-        Ok(text) => text,
-        Err(cause) => return Err(Failure::Unread { name, cause }),
-    };
-    let summary = match summary::ask(rt.alloc(), text.as_str()) {
-        Ok(summary) => summary,
-        Err(cause) => return Err(Failure::Refused { name, cause }),
-    };
-    println!(rt; "{name}: {summary}")?;
-    Ok(summary.differing == 0)
+    files::ask::<Kind>(rt, files::read(rt, names)?)
 }

@@ -1,11 +1,13 @@
 //! What asking all rows of an answer file gave.
-ghost use Rattle.std.specs.Prelude.{◌≡◌, ◌+◌, ◌^◌, ◌<◌, ◌≤◌, IfOk, OnOk, length, vec_len};
+ghost use Rattle.std.specs.Prelude.{◌≡◌, ◌+◌, ◌^◌, ◌<◌, ◌≤◌, IfOk, OnOk, length, map};
 ghost use Rattle.conformance.specs.AnswerFile.{rows_of};
-ghost use Rattle.conformance.specs.Column.{RowDiffers};
+ghost use Rattle.conformance.specs.Asked.{Counts, HaveDifferences, TextHasDifferences};
+ghost use Rattle.conformance.specs.Row.{columns};
 
-use crate::answer_file::AnswerFile;
+use crate::answer_file::{AnswerFile, Row};
 use crate::column::{self, Column};
 use crate::error::{FileError, LineError};
+use crate::kinds::RowKind;
 use std::alloc::{AllocError, Global};
 use std::fmt;
 
@@ -33,12 +35,13 @@ pub struct Difference<'a> {
 }
 
 /// Asks all rows of an answer file.
-pub fn ask<'a>(alloc: Global, text: &'a str) -> Result<Summary<'a>, FileError>
+pub fn ask<'a, K: RowKind + Drop>(alloc: Global, text: &'a str) -> Result<Summary<'a>, FileError>
     ensures some { IfOk result (λ summary. 0 < summary.rows) }
     ensures all { IfOk result (λ summary. summary.rows ≡ length (rows_of text.now)) }
+    ensures differing { IfOk result (λ summary. TextHasDifferences K.answers text.now summary.differing) }
 {
-    let file = AnswerFile::read(alloc, text).map_err(in_head)?;
-    let summary = ask_rows(alloc, &file)?;
+    let file = AnswerFile::<K>::read(alloc, text).map_err(in_head)?;
+    let summary = ask_rows(alloc, &file.kind, &file.rows)?;
     file.check_count().map_err(in_head)?;
     Ok(summary)
 }
@@ -47,14 +50,18 @@ fn in_head(cause: LineError) -> FileError {
     FileError { line: 1, cause }
 }
 
-fn ask_rows<'a>(alloc: Global, file: &AnswerFile<'a>) -> Result<Summary<'a>, FileError>
-    ensures { IfOk result (λ summary. summary.rows ≡ vec_len file.now.rows) }
+fn ask_rows<'a, K: RowKind>(
+    alloc: Global,
+    kind: &K,
+    rows: &[Row<'a>],
+) -> Result<Summary<'a>, FileError>
+    ensures all { IfOk result (λ summary. summary.rows ≡ length rows.now) }
+    ensures differing { IfOk result (λ summary. HaveDifferences (K.answers kind.now) (map columns rows.now) summary.differing) }
 {
     let mut summary = Summary::new(alloc);
-    for row in &file.rows {
+    for row in rows {
         let line = row.line;
-        let columns = file
-            .kind
+        let columns = kind
             .ask(alloc, &row.columns)
             .map_err(|cause| FileError { line, cause })?;
         summary.add(alloc, columns).map_err(|_| FileError {
@@ -68,7 +75,8 @@ fn ask_rows<'a>(alloc: Global, file: &AnswerFile<'a>) -> Result<Summary<'a>, Fil
 impl<'a> Summary<'a> {
     /// The summary of no row.
     fn new(alloc: Global) -> Self
-        ensures { result.rows ≡ 0 }
+        ensures rows { result.rows ≡ 0 }
+        ensures differing { result.differing ≡ 0 }
     {
         Summary {
             rows: 0,
@@ -82,8 +90,7 @@ impl<'a> Summary<'a> {
     fn add(&mut self, alloc: Global, columns: Vec<Column<'a>>) -> Result<(), AllocError>
         requires { self.old.rows + 1 < 2 ^ 64 }
         ensures row { OnOk result (self.new.rows ≡ self.old.rows + 1) }
-        ensures differing { OnOk result (RowDiffers columns.entry.items → self.new.differing ≡ self.old.differing + 1) }
-        ensures same { OnOk result (¬ (RowDiffers columns.entry.items) → self.new.differing ≡ self.old.differing) }
+        ensures differing { OnOk result (Counts columns.entry.items self.old.differing self.new.differing) }
     {
         if self.rows == 0 {
             self.not_asked = not_asked(alloc, &columns)?;

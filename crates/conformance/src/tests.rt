@@ -1,52 +1,18 @@
 use crate::hex_text::{bytes_text, read_bytes, read_units, units_text};
-use crate::{status, summary};
+use crate::kinds::Kind;
+use crate::summary;
 use std::process::Abort;
 use std::test::Fail;
 
 /// Asks the file of a text, which has to be refused for the reason of another.
 fn refused(rt: &(impl Abort + AllocGlobal), text: &str, reason: &str) -> Result<(), Fail> {
-    match summary::ask(rt.alloc(), text) {
+    match summary::ask::<Kind>(rt.alloc(), text) {
         Ok(_) => assert!(rt; false, "accepted {text:?}"),
         Err(error) => {
             let said = format!(in rt.alloc(); "{error}")?;
             assert_eq!(rt; said.as_str(), reason, "for {text:?}");
         }
     }
-    Ok(())
-}
-
-#[test]
-fn a_row_that_differs(rt: HostRuntime) -> Result<(), Fail> {
-    let text = "# windows_decode.tsv; rows: 3;\n\
-        # columns: ..\n\
-        eda080edb080\td800\tcp dc00\n\
-        eda080\td800\tend\n\
-        -\t0041\tok\n";
-    let summary = summary::ask(rt.alloc(), text)?;
-    let said = format!(in rt.alloc(); "{summary}")?;
-    assert_eq!(rt;
-        said.as_str(),
-        "rows asked: 3, rows that differ: 2\n    \
-        row 2, fault or ok: expected end, wtf8_core::encode_wide answered ok\n    \
-        row 2, fault or ok: expected end, Windows::check answered ok\n    \
-        row 3, units up to the first fault: expected 0041, wtf8_core::encode_wide answered -"
-    );
-    assert_eq!(rt; status(&Ok(summary.differing == 0)), 1);
-    Ok(())
-}
-
-#[test]
-fn the_first_differences(rt: HostRuntime) -> Result<(), Fail> {
-    let text = "# windows_encode.tsv; rows: 5;\n\
-        0041\t42\n0041\t41\n0042\t41\n0043\t41\n0044\t41\n";
-    let summary = summary::ask(rt.alloc(), text)?;
-    assert_eq!(rt; summary.differing, 4);
-    let rows: Vec<usize> = summary
-        .differences
-        .iter()
-        .map(|it| it.row)
-        .collect(rt.alloc())?;
-    assert_eq!(rt; rows.as_slice(), [1, 3, 4].as_slice());
     Ok(())
 }
 
