@@ -1,5 +1,5 @@
 -- What the exports answer.
-use Rattle.std.specs.Prelude.{◌≡◌, ℕ, ◌≤◌, List, length, take, drop}
+use Rattle.std.specs.Prelude.{◌≡◌, ◌⊎◌, ℕ, ◌≤◌, List, length, take, drop}
 use Rattle.wtf8_core.specs.declared.fault.EncodingError.{EncodingError}
 use Rattle.platform_str.specs.Platforms.{IsWtf8Fault}
 
@@ -13,3 +13,7 @@ pub record IsFilled (Wanted : List ℕ → Type 0) (old new : List ℕ) (count :
   pub within : count ≤ length new
   pub front : Wanted (take count new)
   pub behind : drop count new ≡ drop count old
+
+-- a call answers a place or a length, for which `Is` holds; or `none`, where there is none
+abbrev pub AnswersOr : ℕ → Type 0 → (ℕ → Type 0) → ℕ → Type 0
+AnswersOr none Nothing Is answer = (Nothing × (answer ≡ none)) ⊎ Is answer

@@ -3,6 +3,8 @@ ghost use Rattle.std.specs.Prelude.{◌≡◌, ◌≢◌, ◌≤◌, ℕ, List, 
 ghost use Rattle.wtf8_core.specs.Wtf8.{HasUnits};
 ghost use Rattle.os_str_bytes_c.specs.Answers.{IsFaulty, IsFilled};
 
+use platform_str::windows::OsString;
+use std::alloc::Global;
 use wtf8_core::{DecodeWide, encode_wide};
 
 /// Writes the units of the bytes into `out`, which is at least as long as the bytes, and
@@ -39,4 +41,15 @@ pub extern "C" fn port_decode_wide(units: &[u16], out: &mut [u8]) -> usize
         written += 1;
     }
     written
+}
+
+/// How many bytes the string with the units has, or `usize::MAX` where memory was refused.
+#[unsafe(no_mangle)]
+pub extern "C" fn port_from_wide(alloc: Global, units: &[u16]) -> usize
+    ensures { result ≢ usize.MAX → (bytes : List ℕ) × HasUnits bytes units.now × (result ≡ length bytes) }
+{
+    match OsString::from_wide(alloc, units) {
+        Ok(string) => string.as_os_str().len(),
+        Err(_) => usize::MAX,
+    }
 }

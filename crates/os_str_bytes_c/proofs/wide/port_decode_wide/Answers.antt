@@ -1,7 +1,7 @@
 use Rattle.std.proofs.Common.{◌≡◌, ℕ, ◌<◌, ◌≤◌, List, [], ◌∷◌, ◌++◌, length, take, subst, sym, ap, ◌∙◌, arith, append_assoc}
 use Rattle.std.proofs.lemmas.List.{length-append, length-take-le}
 use Rattle.wtf8_core.specs.Wtf8.{HasUnits}
-use Rattle.os_str_bytes_c.proofs.Filling.{one_more}
+use Rattle.os_str_bytes_c.proofs.lemmas.Filling.{one_more}
 use Rattle.os_str_bytes_c.proofs.wide.port_decode_wide.Goals as goal
 
 -- where one more byte comes, there are fewer before it than fit

@@ -1,6 +1,6 @@
 -- Bytes have no more units than bytes.
 use Rattle.std.proofs.Common.{◌≡◌, ⊎_elim, ℕ, ◌+◌, ◌<◌, ◌≤◌, List, [], ◌∷◌, ◌++◌, length, Result, Ok, Err, subst, sym, ap, ◌∙◌, arith}
-use Rattle.std.proofs.lemmas.Bool.{cases_lt}
+use Rattle.std.proofs.lemmas.Bool.Decides.{nat_tests}
 use Rattle.std.proofs.lemmas.List.{length-append, length-map, append-nil}
 use Rattle.std.specs.List.{flat_map}
 use Rattle.wtf8_core.specs.CodePoint.{form, wide}
@@ -10,22 +10,12 @@ use Rattle.wtf8_core.specs.Items.AreItems.{Whole, Faulty}
 use Rattle.wtf8_core.specs.Fault.{IsRefused}
 use Rattle.wtf8_core.specs.declared.fault.EncodingError.{EncodingError}
 use Rattle.wtf8_core.specs.declared.fault.EncodingError.TheVariants.{Byte, CodePoint, End, Utf8}
-use Rattle.wtf8_core.proofs.Forms.{form_1, form_2, form_3, form_4}
-use Rattle.wtf8_core.proofs.UnitsLemmas.{wide_1, wide_2}
-use Rattle.wtf8_core.proofs.FirstErr.{oks}
+use Rattle.wtf8_core.proofs.lemmas.FirstErr.{oks}
 
-one_byte : (c : ℕ) → 1 ≤ length (form c)
-one_byte c =
-    ⊎_elim (λ h. subst (λ b. 1 ≤ length b) (sym (form_1 c h)) (omega arith))
-    (λ l. ⊎_elim (λ h. subst (λ b. 1 ≤ length b) (sym (form_2 c l h)) (omega arith))
-    (λ l. ⊎_elim (λ h. subst (λ b. 1 ≤ length b) (sym (form_3 c l h)) (omega arith))
-    (λ l. subst (λ b. 1 ≤ length b) (sym (form_4 c l)) (omega arith)) (cases_lt c 0x1_0000)) (cases_lt c 0x800)) (cases_lt c 0x80)
-
+-- a code point has no more units than bytes
 few_units : (c : ℕ) → length (wide c) ≤ length (form c)
-few_units c =
-    ⊎_elim (λ h. subst (λ u. length u ≤ length (form c)) (sym (wide_1 c h)) (one_byte c))
-    (λ l. let u = ap length (wide_2 c l) in let b = ap length (form_4 c l) in omega arith)
-    (cases_lt c 0x1_0000)
+unfolding wide form
+few_units c = grind (arith, nat_tests)
 
 units_fit : (cs : List ℕ) → length (units cs) ≤ length (flat_map form cs)
 units_fit [] = omega arith

@@ -1,0 +1,4 @@
+pub mod Filling
+pub mod Room
+pub mod FewPieces
+pub mod FewChunks

@@ -1,0 +1,18 @@
+-- A string has no more chunks than bytes.
+use Rattle.std.proofs.Common.{◌≡◌, ℕ, ◌<◌, ◌≤◌, List, [], ◌∷◌, ◌++◌, length, refl, ap, sym, subst, arith}
+use Rattle.std.proofs.lemmas.List.{length-append}
+use Rattle.wtf8_core.specs.Chunks.{Chunk, joined, AreChunks}
+
+fewer_than_bytes : (cs : List Chunk) → ((before behind : List Chunk) (c : Chunk) → cs ≡ before ++ c ∷ behind → 0 < length (c.0 ++ c.1)) → length cs ≤ length (joined cs)
+fewer_than_bytes [] some = omega arith
+fewer_than_bytes (c ∷ cs) some =
+    let first = some [] cs c refl in
+    let both = length-append c.0 c.1 in
+    let all = length-append c.0 (c.1 ++ joined cs) in
+    let behind = length-append c.1 (joined cs) in
+    let rest = fewer_than_bytes cs (λ before behind d is. some (c ∷ before) behind d (ap (λ ds. c ∷ ds) is)) in
+    omega arith
+
+pub few_chunks : (s : List ℕ) (cs : List Chunk) → AreChunks s cs → length cs ≤ length s
+few_chunks s cs chunks =
+    subst (λ b. length cs ≤ length b) chunks.joins (fewer_than_bytes cs (λ before behind c is. (chunks.each before behind c is).some))
