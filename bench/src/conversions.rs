@@ -1,0 +1,139 @@
+//! The check on Windows, bytes to units and back, lossy texts.
+use crate::inputs::{self, Long};
+use crate::table::Bench;
+use crate::{ours, theirs};
+use crate_unix::RawOsStr as UnixStr;
+use crate_windows::windows_strings::os::ffi::{OsStrExt, OsStringExt};
+use crate_windows::windows_strings::{OsStr, OsString};
+use crate_windows::{OsStrBytes, RawOsStr as WindowsStr, coders};
+use std::hint::black_box;
+
+pub fn time(bench: &mut Bench) {
+    let strings = inputs::strings();
+    check(bench, &strings);
+    units(bench, &strings);
+    lossy(bench, strings);
+}
+
+fn check(bench: &mut Bench, strings: &[Long]) {
+    bench.table("Check on Windows", "a byte");
+    for string @ Long { name, bytes } in strings {
+        bench.line(
+            "check",
+            name,
+            bytes.len(),
+            [
+                Some(&mut || ours::check(black_box(bytes)) as u64),
+                Some(&mut || OsStr::from_raw_bytes(black_box(bytes)).is_ok() as u64),
+                string.if_text(&mut || str::from_utf8(black_box(bytes)).is_ok() as u64),
+            ],
+        );
+    }
+
+    bench.table("Check of short strings on Windows", "a call");
+    for (name, strings) in [("10,000 paths", inputs::paths()), ("10,000 arguments", inputs::arguments())] {
+        let all = |accepts: fn(&[u8]) -> bool| {
+            let accepts = black_box(accepts);
+            strings.texts().filter(|text| accepts(text.as_bytes())).count() as u64
+        };
+        bench.line(
+            "check",
+            name,
+            strings.count(),
+            [
+                Some(&mut || all(ours::check)),
+                Some(&mut || all(|bytes| OsStr::from_raw_bytes(bytes).is_ok())),
+                Some(&mut || all(|bytes| str::from_utf8(bytes).is_ok())),
+            ],
+        );
+    }
+}
+
+fn units(bench: &mut Bench, strings: &[Long]) {
+    bench.table("Units", "a byte");
+    for Long { name, bytes } in strings {
+        let mut room = vec![0; bytes.len()];
+        let mut pushed = Vec::with_capacity(bytes.len());
+        let mut collected = Vec::with_capacity(bytes.len());
+        bench.line(
+            "encode_wide",
+            name,
+            bytes.len(),
+            [
+                Some(&mut || ours::encode_wide(black_box(bytes), &mut room) as u64),
+                Some(&mut || {
+                    pushed.clear();
+                    assert!(coders::encode_wide_into(black_box(bytes), &mut pushed));
+                    pushed.len() as u64
+                }),
+                Some(&mut || {
+                    collected.clear();
+                    collected.extend(theirs::windows(black_box(bytes)).encode_wide());
+                    collected.len() as u64
+                }),
+            ],
+        );
+
+        let units: Vec<u16> = theirs::windows(bytes).encode_wide().collect();
+        let written = ours::encode_wide(bytes, &mut room);
+        assert!(room[..written] == units, "encode_wide of {name}");
+        let mut room = vec![0; 3 * units.len()];
+        let mut extended = Vec::with_capacity(3 * units.len());
+        bench.line(
+            "DecodeWide",
+            name,
+            bytes.len(),
+            [
+                Some(&mut || ours::decode_wide(black_box(&units), &mut room) as u64),
+                Some(&mut || {
+                    extended.clear();
+                    coders::decode_wide_into(black_box(&units), &mut extended);
+                    extended.len() as u64
+                }),
+                None,
+            ],
+        );
+        let written = ours::decode_wide(&units, &mut room);
+        assert!(room[..written] == bytes[..], "DecodeWide of {name}");
+        bench.line(
+            "from_wide",
+            name,
+            bytes.len(),
+            [
+                Some(&mut || ours::from_wide(black_box(&units)) as u64),
+                None,
+                Some(&mut || OsString::from_wide(black_box(&units)).len() as u64),
+            ],
+        );
+    }
+}
+
+fn lossy(bench: &mut Bench, strings: Vec<Long>) {
+    bench.table("Lossy texts", "a byte");
+    for Long { name, bytes } in &strings {
+        let string = WindowsStr::new(theirs::windows(bytes));
+        bench.line(
+            "Windows to_string_lossy",
+            name,
+            bytes.len(),
+            [
+                Some(&mut || ours::windows_lossy(black_box(bytes)) as u64),
+                Some(&mut || black_box(string).to_str_lossy().len() as u64),
+                None,
+            ],
+        );
+    }
+    for Long { name, bytes } in strings.into_iter().chain(inputs::faulty()) {
+        let string = UnixStr::new(theirs::unix(&bytes));
+        bench.line(
+            "Unix to_string_lossy",
+            &name,
+            bytes.len(),
+            [
+                Some(&mut || ours::unix_lossy(black_box(&bytes)) as u64),
+                Some(&mut || black_box(string).to_str_lossy().len() as u64),
+                Some(&mut || String::from_utf8_lossy(black_box(&bytes)).len() as u64),
+            ],
+        );
+    }
+}

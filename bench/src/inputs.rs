@@ -1,0 +1,238 @@
+//! What the calls are timed on, the same in each run.
+use crate::table::Contestant;
+use crate_windows::windows_strings::OsString;
+use crate_windows::windows_strings::os::ffi::OsStringExt;
+
+const WORDS: [&str; 20] = [
+    "usr",
+    "share",
+    "doc",
+    "lib",
+    "local",
+    "src",
+    "main",
+    "target",
+    "release",
+    "build",
+    "x86_64",
+    "libfoo",
+    "readme",
+    "index",
+    "home",
+    "user",
+    "Projects",
+    "a",
+    "test-data",
+    "v1",
+];
+const OPTIONS: [&str; 8] = ["verbose", "output", "config-file", "color", "jobs", "target-dir", "name", "feature"];
+const ENDINGS: [&str; 4] = [".txt", ".pdf", "-2024", ""];
+
+/// Numbers that look random: splitmix64.
+pub struct Random(u64);
+
+impl Random {
+    fn next(&mut self) -> u64 {
+        self.0 = self.0.wrapping_add(0x9E37_79B9_7F4A_7C15);
+        let mut mixed = self.0;
+        mixed = (mixed ^ (mixed >> 30)).wrapping_mul(0xBF58_476D_1CE4_E5B9);
+        mixed = (mixed ^ (mixed >> 27)).wrapping_mul(0x94D0_49BB_1331_11EB);
+        mixed ^ (mixed >> 31)
+    }
+
+    fn below(&mut self, bound: usize) -> usize {
+        (self.next() % bound as u64) as usize
+    }
+
+    /// True once in `times` calls.
+    fn once_in(&mut self, times: usize) -> bool {
+        self.below(times) == 0
+    }
+
+    fn pick<T: Copy>(&mut self, items: &[T]) -> T {
+        items[self.below(items.len())]
+    }
+
+    fn char(&mut self, first: u32, count: usize) -> char {
+        char::from_u32(first + self.below(count) as u32).expect("the range has no surrogate")
+    }
+}
+
+/// A long string with a name.
+pub struct Long {
+    pub name: String,
+    pub bytes: Vec<u8>,
+}
+
+impl Long {
+    /// What asks a `str`, where the bytes are UTF-8.
+    pub fn if_text<'a>(&self, run: &'a mut dyn FnMut() -> u64) -> Contestant<'a> {
+        str::from_utf8(&self.bytes).is_ok().then_some(run)
+    }
+}
+
+fn named(name: &str, mib: usize, bytes: Vec<u8>) -> Long {
+    Long { name: format!("{name}, {mib} MiB"), bytes }
+}
+
+/// The text cut to `len` bytes, or to fewer and filled up.
+fn cut(mut text: String, len: usize) -> Vec<u8> {
+    text.truncate(text.floor_char_boundary(len));
+    let mut bytes = text.into_bytes();
+    bytes.resize(len, b'x');
+    bytes
+}
+
+/// Paths of ASCII names, one behind the other.
+fn ascii(random: &mut Random, len: usize) -> Vec<u8> {
+    let mut text = String::new();
+    while text.len() < len {
+        text.push('/');
+        text.push_str(random.pick(&WORDS));
+        if random.once_in(9) {
+            text.push_str(".txt");
+        }
+    }
+    cut(text, len)
+}
+
+/// Paths whose names have `least` letters or up to `more - 1` further ones, out of `count` from
+/// `first` on.
+fn letters(random: &mut Random, len: usize, (first, count): (u32, usize), least: usize, more: usize) -> Vec<u8> {
+    let mut text = String::new();
+    while text.len() < len {
+        text.push('/');
+        for _ in 0..least + random.below(more) {
+            text.push(random.char(first, count));
+        }
+        text.push_str(random.pick(&ENDINGS));
+    }
+    cut(text, len)
+}
+
+/// One of one to four bytes: half of them ASCII, a quarter of two bytes.
+fn any_char(random: &mut Random) -> char {
+    match random.below(20) {
+        0..10 => random.char(0x61, 26),
+        10..15 => random.char(0xC0, 0x180),
+        15..18 => random.char(0x4E00, 0x5000),
+        _ => random.char(0x1F600, 0x50),
+    }
+}
+
+/// Random characters of one to four bytes and slashes.
+fn mixed(random: &mut Random, len: usize) -> Vec<u8> {
+    let mut text = String::new();
+    while text.len() < len {
+        text.push(if random.once_in(8) { '/' } else { any_char(random) });
+    }
+    cut(text, len)
+}
+
+/// The same with a lone surrogate in twenty, as WTF-8.
+fn lone_surrogates(random: &mut Random, len: usize) -> Vec<u8> {
+    let mut units = Vec::new();
+    let mut filled = 0;
+    while filled + 4 <= len {
+        if random.once_in(8) {
+            units.push(u16::from(b'/'));
+            filled += 1;
+        } else if random.once_in(20) {
+            // a low one behind a high one would make a pair
+            let after_high = units.last().is_some_and(|unit| (0xD800..0xDC00).contains(unit));
+            let first = if after_high || random.once_in(2) { 0xD800 } else { 0xDC00 };
+            units.push(first + random.below(0x400) as u16);
+            filled += 3;
+        } else {
+            let any = any_char(random);
+            units.extend_from_slice(any.encode_utf16(&mut [0; 2]));
+            filled += any.len_utf8();
+        }
+    }
+    let mut bytes = OsString::from_wide(&units).into_encoded_bytes();
+    bytes.resize(len, b'x');
+    bytes
+}
+
+/// Strings of any platform: one of each kind of 1 MiB, and of three kinds of 16 MiB.
+pub fn strings() -> Vec<Long> {
+    let kinds: [(&str, fn(&mut Random, usize) -> Vec<u8>); 6] = [
+        ("ASCII", ascii),
+        ("mixed", mixed),
+        ("lone surrogates", lone_surrogates),
+        ("Cyrillic", |random, len| letters(random, len, (0x430, 32), 3, 9)),
+        ("CJK", |random, len| letters(random, len, (0x4E00, 0x5000), 2, 6)),
+        ("emoji", |random, len| letters(random, len, (0x1F600, 0x50), 1, 3)),
+    ];
+    let mut random = Random(42);
+    let mut all = Vec::new();
+    for (mib, kinds) in [(1, &kinds[..]), (16, &kinds[..3])] {
+        all.extend(kinds.iter().map(|(name, make)| named(name, mib, make(&mut random, mib << 20))));
+    }
+    all
+}
+
+/// Strings that only Unix has: ASCII paths with an FF once in so many bytes, and random bytes.
+pub fn faulty() -> Vec<Long> {
+    let mut random = Random(3);
+    let mut all = Vec::new();
+    for times in [1000, 100, 30, 8] {
+        let mut bytes = ascii(&mut random, 1 << 20);
+        for byte in &mut bytes {
+            if random.once_in(times) {
+                *byte = 0xFF;
+            }
+        }
+        all.push(named(&format!("a fault in {times} bytes"), 1, bytes));
+    }
+    for mib in [1, 16] {
+        all.push(named("random bytes", mib, (0..mib << 20).map(|_| random.next() as u8).collect()));
+    }
+    all
+}
+
+/// 10,000 short strings.
+pub struct Short(Vec<String>);
+
+impl Short {
+    pub fn texts(&self) -> impl Iterator<Item = &str> {
+        self.0.iter().map(String::as_str)
+    }
+
+    pub fn count(&self) -> usize {
+        self.0.len()
+    }
+}
+
+fn path(random: &mut Random, least: usize, most: usize) -> String {
+    let len = least + random.below(most - least + 1);
+    let mut text = String::new();
+    while text.len() < len {
+        text.push('/');
+        text.push_str(random.pick(&WORDS));
+    }
+    text.truncate(len);
+    text
+}
+
+fn argument(random: &mut Random) -> String {
+    let option = random.pick(&OPTIONS);
+    match random.below(10) {
+        0..7 => format!("--{option}={}", path(random, 3, 14).replace('/', "-")),
+        7 => format!("--{option}"),
+        8 => format!("-{}{}", &option[..1], path(random, 3, 14)),
+        _ => path(random, 5, 30),
+    }
+}
+
+/// Paths of 10 to 80 bytes.
+pub fn paths() -> Short {
+    let mut random = Random(7);
+    Short((0..10_000).map(|_| path(&mut random, 10, 80)).collect())
+}
+
+/// Arguments of up to 30 bytes.
+pub fn arguments() -> Short {
+    let mut random = Random(8);
+    Short((0..10_000).map(|_| argument(&mut random)).collect())
+}

@@ -1,0 +1,19 @@
+//! Times the calls of this repository beside the Rust crate and the standard library, and prints a
+//! table for each family of calls. README.md says what is timed.
+mod chunks;
+mod clock;
+mod conversions;
+mod inputs;
+mod ours;
+mod searches;
+mod splits;
+mod table;
+mod theirs;
+
+fn main() {
+    let mut bench = table::Bench::from_arguments();
+    conversions::time(&mut bench);
+    searches::time(&mut bench);
+    splits::time(&mut bench);
+    chunks::time(&mut bench);
+}

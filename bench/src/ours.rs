@@ -1,0 +1,89 @@
+//! The exports of crates/os_str_bytes_c, which says what each answers.
+//!
+//! A slice crosses as a pointer and a length. The functions here are safe as long as the library
+//! is what its contracts say and the caller keeps what they ask.
+
+mod exports {
+    unsafe extern "C" {
+        pub fn port_check(bytes: *const u8, len: usize) -> u64;
+        pub fn port_encode_wide(bytes: *const u8, len: usize, out: *mut u16, room: usize) -> usize;
+        pub fn port_decode_wide(units: *const u16, len: usize, out: *mut u8, room: usize) -> usize;
+        pub fn port_from_wide(units: *const u16, len: usize) -> usize;
+        pub fn port_lossy(bytes: *const u8, len: usize) -> usize;
+        pub fn port_win_lossy(bytes: *const u8, len: usize) -> usize;
+        pub fn port_chunks(bytes: *const u8, len: usize) -> usize;
+        pub fn port_find(bytes: *const u8, len: usize, pattern: *const u8, pattern_len: usize) -> usize;
+        pub fn port_rfind(bytes: *const u8, len: usize, pattern: *const u8, pattern_len: usize) -> usize;
+        pub fn port_split_once(bytes: *const u8, len: usize, pattern: *const u8, pattern_len: usize) -> usize;
+        pub fn port_strip_prefix(bytes: *const u8, len: usize, pattern: *const u8, pattern_len: usize) -> usize;
+        pub fn port_trim_matches(bytes: *const u8, len: usize, pattern: *const u8, pattern_len: usize) -> usize;
+        pub fn port_split(bytes: *const u8, len: usize, pattern: *const u8, pattern_len: usize) -> usize;
+        pub fn port_rsplit(bytes: *const u8, len: usize, pattern: *const u8, pattern_len: usize) -> usize;
+        pub fn port_starts_with(bytes: *const u8, len: usize, pattern: *const u8, pattern_len: usize) -> bool;
+        pub fn port_ends_with(bytes: *const u8, len: usize, pattern: *const u8, pattern_len: usize) -> bool;
+    }
+}
+
+pub fn check(bytes: &[u8]) -> bool {
+    unsafe { exports::port_check(bytes.as_ptr(), bytes.len()) == 0 }
+}
+
+pub fn encode_wide(bytes: &[u8], out: &mut [u16]) -> usize {
+    unsafe { exports::port_encode_wide(bytes.as_ptr(), bytes.len(), out.as_mut_ptr(), out.len()) }
+}
+
+pub fn decode_wide(units: &[u16], out: &mut [u8]) -> usize {
+    unsafe { exports::port_decode_wide(units.as_ptr(), units.len(), out.as_mut_ptr(), out.len()) }
+}
+
+pub fn from_wide(units: &[u16]) -> usize {
+    unsafe { exports::port_from_wide(units.as_ptr(), units.len()) }
+}
+
+pub fn unix_lossy(bytes: &[u8]) -> usize {
+    unsafe { exports::port_lossy(bytes.as_ptr(), bytes.len()) }
+}
+
+pub fn windows_lossy(bytes: &[u8]) -> usize {
+    unsafe { exports::port_win_lossy(bytes.as_ptr(), bytes.len()) }
+}
+
+pub fn find(bytes: &[u8], pattern: &str) -> usize {
+    unsafe { exports::port_find(bytes.as_ptr(), bytes.len(), pattern.as_ptr(), pattern.len()) }
+}
+
+pub fn rfind(bytes: &[u8], pattern: &str) -> usize {
+    unsafe { exports::port_rfind(bytes.as_ptr(), bytes.len(), pattern.as_ptr(), pattern.len()) }
+}
+
+pub fn split_once(bytes: &[u8], pattern: &str) -> usize {
+    unsafe { exports::port_split_once(bytes.as_ptr(), bytes.len(), pattern.as_ptr(), pattern.len()) }
+}
+
+pub fn strip_prefix(bytes: &[u8], pattern: &str) -> usize {
+    unsafe { exports::port_strip_prefix(bytes.as_ptr(), bytes.len(), pattern.as_ptr(), pattern.len()) }
+}
+
+pub fn trim_matches(bytes: &[u8], pattern: &str) -> usize {
+    unsafe { exports::port_trim_matches(bytes.as_ptr(), bytes.len(), pattern.as_ptr(), pattern.len()) }
+}
+
+pub fn starts_with(bytes: &[u8], pattern: &str) -> bool {
+    unsafe { exports::port_starts_with(bytes.as_ptr(), bytes.len(), pattern.as_ptr(), pattern.len()) }
+}
+
+pub fn ends_with(bytes: &[u8], pattern: &str) -> bool {
+    unsafe { exports::port_ends_with(bytes.as_ptr(), bytes.len(), pattern.as_ptr(), pattern.len()) }
+}
+
+pub fn split(bytes: &[u8], pattern: &str) -> usize {
+    unsafe { exports::port_split(bytes.as_ptr(), bytes.len(), pattern.as_ptr(), pattern.len()) }
+}
+
+pub fn rsplit(bytes: &[u8], pattern: &str) -> usize {
+    unsafe { exports::port_rsplit(bytes.as_ptr(), bytes.len(), pattern.as_ptr(), pattern.len()) }
+}
+
+pub fn chunks(bytes: &[u8]) -> usize {
+    unsafe { exports::port_chunks(bytes.as_ptr(), bytes.len()) }
+}

@@ -1,0 +1,149 @@
+//! Searches, strips and prefix tests on Unix, in many short strings and in long ones.
+use crate::inputs::{self, Long, Short};
+use crate::table::Bench;
+use crate::{ours, theirs};
+use crate_unix::OsStrBytesExt;
+use std::hint::black_box;
+
+/// A call on a string and a pattern: a place or a length, `usize::MAX` where there is none.
+type Search = fn(&[u8], &str) -> usize;
+
+pub fn time(bench: &mut Bench) {
+    let (paths, arguments) = (inputs::paths(), inputs::arguments());
+    bench.table("Searches in short strings", "a call");
+    for (call, contestants, pattern) in [
+        ("find", FIND, "/"),
+        ("find", FIND, "."),
+        ("find", FIND, "lib"),
+        ("find", FIND, ".."),
+        ("find", FIND, "/src"),
+        ("rfind", RFIND, "/"),
+        ("rfind", RFIND, "."),
+        ("rfind", RFIND, "lib"),
+        ("strip_prefix", STRIP_PREFIX, "/usr/"),
+        ("ends_with", ENDS_WITH, ".txt"),
+    ] {
+        short(bench, call, contestants, ("paths", &paths), pattern);
+    }
+    for (call, contestants, pattern) in [
+        ("find", FIND, "--"),
+        ("find", FIND, "file"),
+        ("split_once", SPLIT_ONCE, "="),
+        ("strip_prefix", STRIP_PREFIX, "--"),
+        ("strip_prefix", STRIP_PREFIX, "--output="),
+        ("starts_with", STARTS_WITH, "--"),
+    ] {
+        short(bench, call, contestants, ("arguments", &arguments), pattern);
+    }
+
+    bench.table("Searches in long strings", "a byte");
+    for string in inputs::strings() {
+        absent(bench, &string, "zq/needle.xyz");
+        each(bench, &string, "/");
+    }
+    full(bench, 1);
+    full(bench, 16);
+}
+
+fn or_max(found: Option<usize>) -> usize {
+    found.unwrap_or(usize::MAX)
+}
+
+const FIND: [Search; 3] = [
+    ours::find,
+    |bytes, pattern| or_max(theirs::unix(bytes).find(pattern)),
+    |bytes, pattern| or_max(theirs::text(bytes).find(pattern)),
+];
+const RFIND: [Search; 3] = [
+    ours::rfind,
+    |bytes, pattern| or_max(theirs::unix(bytes).rfind(pattern)),
+    |bytes, pattern| or_max(theirs::text(bytes).rfind(pattern)),
+];
+const STRIP_PREFIX: [Search; 3] = [
+    ours::strip_prefix,
+    |bytes, pattern| or_max(theirs::unix(bytes).strip_prefix(pattern).map(|rest| rest.len())),
+    |bytes, pattern| or_max(theirs::text(bytes).strip_prefix(pattern).map(str::len)),
+];
+const STARTS_WITH: [Search; 3] = [
+    |bytes, pattern| usize::from(ours::starts_with(bytes, pattern)),
+    |bytes, pattern| usize::from(theirs::unix(bytes).starts_with(pattern)),
+    |bytes, pattern| usize::from(theirs::text(bytes).starts_with(pattern)),
+];
+const ENDS_WITH: [Search; 3] = [
+    |bytes, pattern| usize::from(ours::ends_with(bytes, pattern)),
+    |bytes, pattern| usize::from(theirs::unix(bytes).ends_with(pattern)),
+    |bytes, pattern| usize::from(theirs::text(bytes).ends_with(pattern)),
+];
+const SPLIT_ONCE: [Search; 3] = [
+    ours::split_once,
+    |bytes, pattern| or_max(theirs::unix(bytes).split_once(pattern).map(|(front, _)| front.len())),
+    |bytes, pattern| or_max(theirs::text(bytes).split_once(pattern).map(|(front, _)| front.len())),
+];
+
+/// One call for each short string.
+fn short(bench: &mut Bench, call: &str, contestants: [Search; 3], (name, strings): (&str, &Short), pattern: &str) {
+    let all = |search: Search| {
+        let search = black_box(search);
+        strings.texts().fold(0, |sum: usize, string| sum.wrapping_add(search(string.as_bytes(), pattern))) as u64
+    };
+    let [ours, theirs, std] = contestants;
+    bench.line(
+        call,
+        &format!("{name}, `{pattern}`"),
+        strings.count(),
+        [Some(&mut || all(ours)), Some(&mut || all(theirs)), Some(&mut || all(std))],
+    );
+}
+
+/// The search for a pattern that doesn't stand in the string, from both ends.
+fn absent(bench: &mut Bench, string: &Long, pattern: &str) {
+    for (call, [ours, theirs, std]) in [("find", FIND), ("rfind", RFIND)] {
+        let once = |search: Search| black_box(search)(black_box(&string.bytes), pattern) as u64;
+        bench.line(
+            call,
+            &format!("{}, absent", string.name),
+            string.bytes.len(),
+            [Some(&mut || once(ours)), Some(&mut || once(theirs)), string.if_text(&mut || once(std))],
+        );
+    }
+}
+
+/// A search for each place of a pattern of one byte, from behind the one before.
+fn each(bench: &mut Bench, string: &Long, pattern: &str) {
+    let count = |search: Search| {
+        let search = black_box(search);
+        let mut rest = black_box(&string.bytes[..]);
+        let mut count = 0;
+        loop {
+            let at = search(rest, pattern);
+            if at == usize::MAX {
+                return count;
+            }
+            rest = &rest[at + 1..];
+            count += 1;
+        }
+    };
+    let [ours, theirs, std] = FIND;
+    bench.line(
+        "find",
+        &format!("{}, each `{pattern}`", string.name),
+        string.bytes.len(),
+        [Some(&mut || count(ours)), Some(&mut || count(theirs)), string.if_text(&mut || count(std))],
+    );
+}
+
+/// The trim of a string that the pattern fills.
+fn full(bench: &mut Bench, mib: usize) {
+    let string = "ab".repeat(mib << 19);
+    let string = string.as_bytes();
+    bench.line(
+        "trim_matches",
+        &format!("full of `ab`, {mib} MiB"),
+        string.len(),
+        [
+            Some(&mut || ours::trim_matches(black_box(string), "ab") as u64),
+            Some(&mut || theirs::unix(black_box(string)).trim_matches("ab").len() as u64),
+            None,
+        ],
+    );
+}

@@ -1,0 +1,88 @@
+//! Least times of those who answer the same, and tables of them.
+use crate::clock;
+use std::env;
+use std::hint::black_box;
+use std::process;
+use std::time::Duration;
+
+/// How often each contestant has its turn in a line.
+const ROUNDS: usize = 5;
+
+/// Who answers a line: this repository, the crate, the standard library.
+pub type Contestant<'a> = Option<&'a mut dyn FnMut() -> u64>;
+
+pub struct Bench {
+    filters: Vec<String>,
+    /// how long a turn lasts
+    turn: Duration,
+    title: String,
+    /// the head of the table that begins with the next line
+    head: Option<String>,
+}
+
+impl Bench {
+    pub fn from_arguments() -> Self {
+        let seconds: f64 = env::var("BENCH_SECS").map_or(0.25, |text| text.parse().expect("BENCH_SECS is a number"));
+        Self {
+            filters: env::args().skip(1).collect(),
+            turn: Duration::from_secs_f64(seconds / ROUNDS as f64),
+            title: String::new(),
+            head: None,
+        }
+    }
+
+    /// Begins a table, whose times are in nanoseconds for `unit`.
+    pub fn table(&mut self, title: &str, unit: &str) {
+        self.title = title.to_owned();
+        self.head = Some(format!(
+            "\n### {title}, nanoseconds for {unit}\n\n\
+             | Call | Input | Ours | Crate | Ours/crate | Std | Ours/std |\n\
+             |---|---|---|---|---|---|---|"
+        ));
+    }
+
+    /// Whether a filter asks for lines of the table that was begun.
+    pub fn wants(&self, call: &str, input: &str) -> bool {
+        let name = format!("{} {call} {input}", self.title);
+        self.filters.is_empty() || self.filters.iter().any(|filter| name.contains(filter))
+    }
+
+    /// Times a call on an input, which has `count` units of the table. All have to answer the same.
+    pub fn line(&mut self, call: &str, input: &str, count: usize, mut contestants: [Contestant; 3]) {
+        if !self.wants(call, input) {
+            return;
+        }
+        let mut answer = None;
+        let mut least = [None::<Duration>; 3];
+        for _ in 0..ROUNDS {
+            for (run, least) in contestants.iter_mut().zip(&mut least) {
+                let Some(run) = run else { continue };
+                let begin = clock::now();
+                while least.is_none() || clock::now() - begin < self.turn {
+                    let start = clock::now();
+                    let answered = black_box(run());
+                    let time = clock::now() - start;
+                    *least = Some(least.map_or(time, |least| least.min(time)));
+                    if *answer.get_or_insert(answered) != answered {
+                        eprintln!("different answers: {}, {call}, {input}: {answer:?}, {answered}", self.title);
+                        process::exit(1);
+                    }
+                }
+            }
+        }
+        if let Some(head) = self.head.take() {
+            println!("{head}");
+        }
+        let nanoseconds = least.map(|time| time.map(|time| time.as_nanos() as f64 / count as f64));
+        let [ours, theirs @ ..] = nanoseconds;
+        let ours = ours.expect("this repository answers each line");
+        print!("| {call} | {input} | {ours:.3} |");
+        for time in theirs {
+            match time {
+                Some(time) => print!(" {time:.3} | {:.2} |", ours / time),
+                None => print!(" | |"),
+            }
+        }
+        println!();
+    }
+}
