@@ -64,7 +64,7 @@ pub trait OsStrBytesExt<'a>: OsStrBytes<'a> {
     /// In "foobar" `find("o")` is `Some(1)`, `find("of")` is `None` and `find("")` is `Some(0)`.
     fn find<P: Pattern>(self, pattern: P) -> Option<usize>
         ensures bytes { Finds IsLeastPlace (P.text pattern) (Self.bytes_of self) result }
-        ensures units { 0 < length (P.text pattern) → FindsInUnits IsLeastPlace Self.Platform.well_formed Self.Platform.units (P.text pattern) (Self.bytes_of self) result }
+        ensures units { FindsInUnits IsLeastPlace Self.Platform.well_formed Self.Platform.units (P.text pattern) (Self.bytes_of self) result }
         ensures edges { MayBeCutAround (Self.bytes_of self) (length (P.text pattern)) result }
         ensures behind { IfSome result (λ at. at + length (P.text pattern) < 2 ^ 64) };
 
@@ -74,7 +74,7 @@ pub trait OsStrBytesExt<'a>: OsStrBytes<'a> {
     /// In "foobar" `rfind("o")` is `Some(2)` and `rfind("")` is `Some(6)`.
     fn rfind<P: Pattern>(self, pattern: P) -> Option<usize>
         ensures bytes { Finds IsGreatestPlace (P.text pattern) (Self.bytes_of self) result }
-        ensures units { 0 < length (P.text pattern) → FindsInUnits IsGreatestPlace Self.Platform.well_formed Self.Platform.units (P.text pattern) (Self.bytes_of self) result }
+        ensures units { FindsInUnits IsGreatestPlace Self.Platform.well_formed Self.Platform.units (P.text pattern) (Self.bytes_of self) result }
         ensures edges { MayBeCutAround (Self.bytes_of self) (length (P.text pattern)) result }
         ensures behind { IfSome result (λ at. at + length (P.text pattern) < 2 ^ 64) };
 
@@ -83,7 +83,7 @@ pub trait OsStrBytesExt<'a>: OsStrBytes<'a> {
     /// "foobar" contains "oba" and 'r', and not "of".
     fn contains<P: Pattern>(self, pattern: P) -> bool
         ensures bytes { IsTrue result ↔ StandsSomewhere (P.text pattern) (Self.bytes_of self) }
-        ensures units { 0 < length (P.text pattern) → (IsTrue result ↔ StandsSomewhere (Self.Platform.units (P.text pattern)) (Self.Platform.units (Self.bytes_of self))) };
+        ensures units { IsTrue result ↔ StandsSomewhere (Self.Platform.units (P.text pattern)) (Self.Platform.units (Self.bytes_of self)) };
 
     /// Whether a pattern stands at the front.
     ///
@@ -159,7 +159,7 @@ pub trait OsStrBytesExt<'a>: OsStrBytes<'a> {
     /// `split_once("o")` of "foobar" is "f" and "obar", `split_once("")` is "" and "foobar".
     fn split_once<P: Pattern>(self, pattern: P) -> Option<(Self, Self)>
         ensures bytes { SplitsOnce IsLeastPlace Self.bytes_of (P.text pattern) (Self.bytes_of self) result }
-        ensures units { 0 < length (P.text pattern) → SplitsOnce IsLeastPlace (λ part. Self.Platform.units (Self.bytes_of part)) (Self.Platform.units (P.text pattern)) (Self.Platform.units (Self.bytes_of self)) result };
+        ensures units { SplitsOnce IsLeastPlace (λ part. Self.Platform.units (Self.bytes_of part)) (Self.Platform.units (P.text pattern)) (Self.Platform.units (Self.bytes_of self)) result };
 
     /// The parts before and behind the greatest place of a pattern, `None` where it stands
     /// nowhere.
@@ -167,7 +167,7 @@ pub trait OsStrBytesExt<'a>: OsStrBytes<'a> {
     /// `rsplit_once("o")` of "foobar" is "fo" and "bar", `rsplit_once("")` is "foobar" and "".
     fn rsplit_once<P: Pattern>(self, pattern: P) -> Option<(Self, Self)>
         ensures bytes { SplitsOnce IsGreatestPlace Self.bytes_of (P.text pattern) (Self.bytes_of self) result }
-        ensures units { 0 < length (P.text pattern) → SplitsOnce IsGreatestPlace (λ part. Self.Platform.units (Self.bytes_of part)) (Self.Platform.units (P.text pattern)) (Self.Platform.units (Self.bytes_of self)) result };
+        ensures units { SplitsOnce IsGreatestPlace (λ part. Self.Platform.units (Self.bytes_of part)) (Self.Platform.units (P.text pattern)) (Self.Platform.units (Self.bytes_of self)) result };
 
     /// The pieces between the places of a pattern, each cut at the least place in what is left.
     /// The pattern isn't empty (test: `str::is_empty`; a `char` never is).

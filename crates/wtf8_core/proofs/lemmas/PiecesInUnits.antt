@@ -1,6 +1,6 @@
 -- Over the laws of standing alone: pieces, strips and trims in units.
 use Rattle.std.proofs.Common.{◌≡◌, ℕ, zero, suc, ◌<◌, List, [], ◌∷◌, ◌++◌, length, map, Option, Some, None, refl, sym, ap, ◌∙◌, subst, arith, append_assoc, append-nil, length-append}
-use Rattle.std.proofs.lemmas.List.{append_cancel_left}
+use Rattle.std.proofs.lemmas.List.{append_cancel_left, nil_from_length}
 use Rattle.std.specs.List.{repeat}
 use Rattle.std.specs.Str.{IsUtf8}
 use Rattle.wtf8_core.specs.Standing.{IsLeastPlace, IsGreatestPlace, IsFront, IsEnd}
@@ -8,7 +8,7 @@ use Rattle.wtf8_core.specs.UnitPlace.{IsBytePlace, IsUnitPlaceOf}
 use Rattle.wtf8_core.specs.Pieces.{SplitsAt, IsSplit, IsRSplit, IsStartTrim, IsEndTrim, IsTrim, StripsFront, StripsEnd, SplitsOnce}
 use Rattle.wtf8_core.specs.Pieces.FallsInto.{whole, cut}
 use Rattle.wtf8_core.specs.StandingLaws.{StandingLaws}
-use Rattle.wtf8_core.proofs.lemmas.PlacesInUnits.{shorter_front, no_units, nothing, around, least, greatest, nowhere}
+use Rattle.wtf8_core.proofs.lemmas.PlacesInUnits.{shorter_front, no_units, nothing, around, least, greatest, nowhere, nowhere_in_units, none_first, none_last, no_units_first, no_units_last}
 
 -- fronts of one length are one
 same_length : (x y z w : List ℕ) → x ++ z ≡ y ++ w → length x ≡ length y → x ≡ y
@@ -37,14 +37,35 @@ module _ (wf : List ℕ → Type 0) (units : List ℕ → List ℕ) (laws : Stan
   greatest_cut : (p s front back : List ℕ) → IsUtf8 p → 0 < length p → wf s → SplitsAt IsGreatestPlace p s front back → SplitsAt IsGreatestPlace (units p) (units s) (units front) (units back)
   greatest_cut p s front back t h w c = cut_by IsGreatestPlace p s front back t h w c.joined (greatest wf units laws p s (length front) t h w c.found)
 
-  -- one cut, or none
-  pub once_in_units : {T : Type 0} (of : T → List ℕ) (p s : List ℕ) (r : Option (T × T)) → IsUtf8 p → 0 < length p → wf s → SplitsOnce IsLeastPlace of p s r → SplitsOnce IsLeastPlace (λ x. units (of x)) (units p) (units s) r
-  once_in_units of p s None t h w c = nowhere wf units laws p s t h w c
-  once_in_units of p s (Some parts) t h w c = least_cut p s (of parts.0) (of parts.1) t h w c
+  -- a cut around the empty text
+  none_cut : (Is : List ℕ → List ℕ → ℕ → Type 0) (s front back : List ℕ) → units s ≡ units front ++ units back → Is (units []) (units s) (length (units front)) → SplitsAt Is (units []) (units s) (units front) (units back)
+  none_cut Is s front back e f = record { joined = e ∙ ap (λ z. units front ++ (z ++ units back)) (sym (no_units wf units laws)); found = f }
 
-  pub last_once_in_units : {T : Type 0} (of : T → List ℕ) (p s : List ℕ) (r : Option (T × T)) → IsUtf8 p → 0 < length p → wf s → SplitsOnce IsGreatestPlace of p s r → SplitsOnce IsGreatestPlace (λ x. units (of x)) (units p) (units s) r
-  last_once_in_units of p s None t h w c = nowhere wf units laws p s t h w c
-  last_once_in_units of p s (Some parts) t h w c = greatest_cut p s (of parts.0) (of parts.1) t h w c
+  least_cut_of_none : (s front back : List ℕ) → SplitsAt IsLeastPlace [] s front back → SplitsAt IsLeastPlace (units []) (units s) (units front) (units back)
+  least_cut_of_none s front back c =
+      let f : front ≡ [] = nil_from_length front (none_first wf units laws s (length front) c.found) in
+      let e : units front ≡ [] = ap units f ∙ no_units wf units laws in
+      let b : units s ≡ units back = ap units (c.joined ∙ ap (λ z. z ++ back) f) in
+      none_cut IsLeastPlace s front back (b ∙ ap (λ z. z ++ units back) (sym e)) (subst (λ n. IsLeastPlace (units []) (units s) n) (sym (ap length e)) (no_units_first wf units laws (units s)))
+
+  greatest_cut_of_none : (s front back : List ℕ) → SplitsAt IsGreatestPlace [] s front back → SplitsAt IsGreatestPlace (units []) (units s) (units front) (units back)
+  greatest_cut_of_none s front back c =
+      let n : length front ≡ length s = none_last wf units laws s (length front) c.found in
+      let b : back ≡ [] = nil_from_length back (omega (arith, n, ap length c.joined, length-append front back)) in
+      let f : s ≡ front = c.joined ∙ ap (λ z. front ++ z) b ∙ append-nil front in
+      let e : units s ≡ units front ++ units back = ap units f ∙ sym (append-nil (units front)) ∙ ap (λ z. units front ++ z) (sym (ap units b ∙ no_units wf units laws)) in
+      none_cut IsGreatestPlace s front back e (subst (λ n. IsGreatestPlace (units []) (units s) n) (ap (λ z. length (units z)) f) (no_units_last wf units laws (units s)))
+
+  -- one cut, or none
+  pub once_in_units : {T : Type 0} (of : T → List ℕ) (p s : List ℕ) (r : Option (T × T)) → IsUtf8 p → wf s → SplitsOnce IsLeastPlace of p s r → SplitsOnce IsLeastPlace (λ x. units (of x)) (units p) (units s) r
+  once_in_units of p s None t w c = nowhere_in_units wf units laws p s t w c
+  once_in_units of [] s (Some parts) t w c = least_cut_of_none s (of parts.0) (of parts.1) c
+  once_in_units of (x ∷ p) s (Some parts) t w c = least_cut (x ∷ p) s (of parts.0) (of parts.1) t (omega arith) w c
+
+  pub last_once_in_units : {T : Type 0} (of : T → List ℕ) (p s : List ℕ) (r : Option (T × T)) → IsUtf8 p → wf s → SplitsOnce IsGreatestPlace of p s r → SplitsOnce IsGreatestPlace (λ x. units (of x)) (units p) (units s) r
+  last_once_in_units of p s None t w c = nowhere_in_units wf units laws p s t w c
+  last_once_in_units of [] s (Some parts) t w c = greatest_cut_of_none s (of parts.0) (of parts.1) c
+  last_once_in_units of (x ∷ p) s (Some parts) t w c = greatest_cut (x ∷ p) s (of parts.0) (of parts.1) t (omega arith) w c
 
   -- all cuts
   pub split_in_units : (p s : List ℕ) (pieces : List (List ℕ)) → IsUtf8 p → 0 < length p → wf s → IsSplit p s pieces → IsSplit (units p) (units s) (map units pieces)

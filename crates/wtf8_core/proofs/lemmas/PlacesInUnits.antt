@@ -5,7 +5,6 @@ use Rattle.std.proofs.lemmas.List.{append_cancel_left, nil_from_length}
 use Rattle.std.specs.Str.{IsUtf8}
 use Rattle.wtf8_core.specs.Standing.{StandsAt, StandsNowhere, IsLeastPlace, IsGreatestPlace, Finds}
 use Rattle.wtf8_core.specs.UnitPlace.{IsBytePlace, IsUnitPlaceOf, FindsInUnits}
-use Rattle.wtf8_core.specs.Pieces.{StandsSomewhere}
 use Rattle.wtf8_core.specs.StandingLaws.{StandingLaws}
 
 -- of two fronts of a list one is a front of the other
@@ -117,18 +116,57 @@ module _ (wf : List ℕ → Type 0) (units : List ℕ → List ℕ) (laws : Stan
   pub nowhere : (p s : List ℕ) → IsUtf8 p → 0 < length p → wf s → StandsNowhere p s → StandsNowhere (units p) (units s)
   nowhere p s t h w n i st = let c = units_stand p s i t h w st in n c.0 c.1.1
 
+  -- the empty text stands first at the start, and last at the end
+  pub none_first : (s : List ℕ) (j : ℕ) → IsLeastPlace [] s j → j ≡ 0
+  none_first s j l = ⊎_elim (λ m. absurd (l.least 0 m (record { before = []; behind = s; joined = refl; place = refl }))) (λ m. omega arith) (cases_lt 0 j)
+
+  pub none_last : (s : List ℕ) (j : ℕ) → IsGreatestPlace [] s j → j ≡ length s
+  none_last s j g =
+      let n : length s ≡ length g.stands.before + length g.stands.behind = ap length g.stands.joined ∙ length-append g.stands.before g.stands.behind in
+      ⊎_elim
+      (λ m. absurd (g.greatest (length s) m (record { before = s; behind = []; joined = sym (append-nil s); place = refl })))
+      (λ m. omega (arith, n, g.stands.place))
+      (cases_lt j (length s))
+
+  -- so do its units
+  pub no_units_first : (us : List ℕ) → IsLeastPlace (units []) us 0
+  no_units_first us = record {
+    stands = record { before = []; behind = us; joined = ap (λ z. z ++ us) (sym no_units); place = refl };
+    least = λ k b st. absurd (omega (arith, b));
+  }
+
+  pub no_units_last : (us : List ℕ) → IsGreatestPlace (units []) us (length us)
+  no_units_last us = record {
+    stands = record { before = us; behind = []; joined = sym (append-nil us) ∙ ap (λ z. us ++ (z ++ [])) (sym no_units); place = refl };
+    greatest = λ k b st. absurd (omega (arith, b, st.place, ap length st.joined, length-append st.before (units [] ++ st.behind)));
+  }
+
+  least_of_none : (s : List ℕ) (j : ℕ) → wf s → IsLeastPlace [] s j → IsUnitPlaceOf IsLeastPlace wf units [] s j
+  least_of_none s j w l = record {
+    unit_place = 0;
+    is = no_units_first (units s);
+    byte_place = record { front = []; rest = s; joined = refl; formed = nil_formed; many = ap length no_units; place = sym (none_first s j l) };
+  }
+
+  greatest_of_none : (s : List ℕ) (j : ℕ) → wf s → IsGreatestPlace [] s j → IsUnitPlaceOf IsGreatestPlace wf units [] s j
+  greatest_of_none s j w g = record {
+    unit_place = length (units s);
+    is = no_units_last (units s);
+    byte_place = record { front = s; rest = []; joined = sym (append-nil s); formed = w; many = refl; place = sym (none_last s j g) };
+  }
+
+  -- where a text stands nowhere, it isn't empty
+  pub nowhere_in_units : (p s : List ℕ) → IsUtf8 p → wf s → StandsNowhere p s → StandsNowhere (units p) (units s)
+  nowhere_in_units [] s t w n = absurd (n 0 (record { before = []; behind = s; joined = refl; place = refl }))
+  nowhere_in_units (x ∷ p) s t w n = nowhere (x ∷ p) s t (omega arith) w n
+
   -- what is found in bytes is found in units
-  pub finds_first : (p s : List ℕ) (r : Option ℕ) → IsUtf8 p → 0 < length p → wf s → Finds IsLeastPlace p s r → FindsInUnits IsLeastPlace wf units p s r
-  finds_first p s None t h w f = nowhere p s t h w f
-  finds_first p s (Some j) t h w f = least p s j t h w f
+  pub finds_first : (p s : List ℕ) (r : Option ℕ) → IsUtf8 p → wf s → Finds IsLeastPlace p s r → FindsInUnits IsLeastPlace wf units p s r
+  finds_first p s None t w f = nowhere_in_units p s t w f
+  finds_first [] s (Some j) t w f = least_of_none s j w f
+  finds_first (x ∷ p) s (Some j) t w f = least (x ∷ p) s j t (omega arith) w f
 
-  pub finds_last : (p s : List ℕ) (r : Option ℕ) → IsUtf8 p → 0 < length p → wf s → Finds IsGreatestPlace p s r → FindsInUnits IsGreatestPlace wf units p s r
-  finds_last p s None t h w f = nowhere p s t h w f
-  finds_last p s (Some j) t h w f = greatest p s j t h w f
-
-  -- what stands somewhere in bytes stands somewhere in units, and back
-  pub somewhere_alike : (p s : List ℕ) → IsUtf8 p → 0 < length p → wf s → (StandsSomewhere p s → StandsSomewhere (units p) (units s)) × (StandsSomewhere (units p) (units s) → StandsSomewhere p s)
-  somewhere_alike p s t h w = (
-    λ a. let b = bytes_stand p s a.0 t h w a.1 in (b.0, b.1.1),
-    λ a. let b = units_stand p s a.0 t h w a.1 in (b.0, b.1.1),
-  )
+  pub finds_last : (p s : List ℕ) (r : Option ℕ) → IsUtf8 p → wf s → Finds IsGreatestPlace p s r → FindsInUnits IsGreatestPlace wf units p s r
+  finds_last p s None t w f = nowhere_in_units p s t w f
+  finds_last [] s (Some j) t w f = greatest_of_none s j w f
+  finds_last (x ∷ p) s (Some j) t w f = greatest (x ∷ p) s j t (omega arith) w f

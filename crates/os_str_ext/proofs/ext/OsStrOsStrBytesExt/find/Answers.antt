@@ -11,4 +11,4 @@ pub returns-clause-behind : goal.returns-clause-behind
 returns-clause-behind g c = rw (c.as_str.ensures, c.encode-encoded.ensures.value) at c.find.ensures.behind
 
 pub returns-clause-units : goal.returns-clause-units
-returns-clause-units g c = λ h. finds_first g.E.Platform.well_formed g.E.Platform.units g.met.E.Platform.standing (g.P.Pattern.text c.args.pattern) (bytes c.args.self) _ (subst IsUtf8 c.encode-encoded.ensures.value c.encode-encoded.ensures.utf8) h c.args.self.ok (returns-clause-bytes g c)
+returns-clause-units g c = finds_first g.E.Platform.well_formed g.E.Platform.units g.met.E.Platform.standing (g.P.Pattern.text c.args.pattern) (bytes c.args.self) _ (subst IsUtf8 c.encode-encoded.ensures.value c.encode-encoded.ensures.utf8) c.args.self.ok (returns-clause-bytes g c)

@@ -8,4 +8,4 @@ pub returns-clause-bytes : goal.returns-clause-bytes
 returns-clause-bytes g c = rw (c.as_str.ensures, c.encode-encoded.ensures.value) at c.split_once.ensures
 
 pub returns-clause-units : goal.returns-clause-units
-returns-clause-units g c = λ h. once_in_units g.E.Platform.well_formed g.E.Platform.units g.met.E.Platform.standing bytes (g.P.Pattern.text c.args.pattern) (bytes c.args.self) _ (subst IsUtf8 c.encode-encoded.ensures.value c.encode-encoded.ensures.utf8) h c.args.self.ok (returns-clause-bytes g c)
+returns-clause-units g c = once_in_units g.E.Platform.well_formed g.E.Platform.units g.met.E.Platform.standing bytes (g.P.Pattern.text c.args.pattern) (bytes c.args.self) _ (subst IsUtf8 c.encode-encoded.ensures.value c.encode-encoded.ensures.utf8) c.args.self.ok (returns-clause-bytes g c)
