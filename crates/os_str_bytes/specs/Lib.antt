@@ -1,2 +1,3 @@
+pub mod Headline
 pub mod Raw
 pub mod RawCow

@@ -3,13 +3,30 @@
 ghost use Rattle.std.specs.Prelude.{◌≡◌, ◌↔◌, IsTrue, Some};
 ghost use Rattle.std.specs.Cmp.Lexicographic.{slice_cmp};
 ghost use Rattle.std.specs.Ordering.{nat_cmp};
+ghost use Rattle.std.specs.Str.{IsUtf8};
+ghost use Rattle.wtf8_core.specs.Wtf8.{IsWtf8, HasUnits};
+ghost use Rattle.platform_str.specs.Platforms.{AreBytes, AreWideUnits, IsNoFault, IsWtf8Fault, IsTextFault};
 ghost use Rattle.os_str_bytes.specs.Raw.{raw_bytes, raw_vec_of};
+ghost use Rattle.os_str_bytes.specs.Headline.{IsPlatform, AreItself};
 
-use crate::{Platform, RawOsStr, RawOsString};
+use crate::wtf8_laws::functions;
+use crate::{Platform, RawOsStr, RawOsString, Unix, Wasm, Windows};
 pub use os_str_ext::laws::{
-    comparisons, cuts, faults, lossy_texts, owned_comparisons, spelling, texts,
+    comparisons, cuts, faults, joins, lossy_texts, owned_comparisons, parts, spelling, standing,
+    texts,
 };
 use std::alloc::Allocator;
+
+/// What the platforms are. Unix strings are any bytes, which are their units, and none are
+/// refused; Windows strings are WTF-8, their units any 16-bit units (RFC 2781); wasm strings are
+/// UTF-8, whose bytes are their units.
+pub fn platforms()
+    ensures unix { IsPlatform ⟦<Unix as Platform>⟧ AreBytes (AreItself AreBytes) AreBytes IsNoFault }
+    ensures windows { IsPlatform ⟦<Windows as Platform>⟧ IsWtf8 HasUnits AreWideUnits IsWtf8Fault }
+    ensures wasm { IsPlatform ⟦<Wasm as Platform>⟧ IsUtf8 (AreItself IsUtf8) IsUtf8 IsTextFault }
+{
+    functions();
+}
 
 /// Borrowed raw strings are equal where their bytes are, and are ordered as lists of bytes are.
 pub fn raw_comparisons<'a, E: Platform>(a: &RawOsStr<'a, E>, b: &RawOsStr<'a, E>)

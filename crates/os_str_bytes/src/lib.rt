@@ -8,6 +8,7 @@
 //! All places and lengths are numbers of bytes.
 #![tactic(auto)]
 
+pub mod headline;
 pub mod iter;
 pub mod laws;
 mod raw_box;

@@ -81,7 +81,7 @@ impl<'a, E: Platform> RawOsStr<'a, E> {
     /// In "foobar" `find("o")` is `Some(1)`, `find("of")` is `None` and `find("")` is `Some(0)`.
     pub fn find<P: Pattern>(self, pattern: P) -> Option<usize>
         ensures bytes { Finds IsLeastPlace (P.text pattern) (raw_bytes self.entry) result }
-        ensures units { 0 < length (P.text pattern) → FindsInUnits IsLeastPlace E.well_formed E.units (P.text pattern) (raw_bytes self.entry) result }
+        ensures units { FindsInUnits IsLeastPlace E.well_formed E.units (P.text pattern) (raw_bytes self.entry) result }
         ensures edges { MayBeCutAround (raw_bytes self.entry) (length (P.text pattern)) result }
     {
         self.string.find(pattern)
@@ -93,7 +93,7 @@ impl<'a, E: Platform> RawOsStr<'a, E> {
     /// In "foobar" `rfind("o")` is `Some(2)` and `rfind("")` is `Some(6)`.
     pub fn rfind<P: Pattern>(self, pattern: P) -> Option<usize>
         ensures bytes { Finds IsGreatestPlace (P.text pattern) (raw_bytes self.entry) result }
-        ensures units { 0 < length (P.text pattern) → FindsInUnits IsGreatestPlace E.well_formed E.units (P.text pattern) (raw_bytes self.entry) result }
+        ensures units { FindsInUnits IsGreatestPlace E.well_formed E.units (P.text pattern) (raw_bytes self.entry) result }
         ensures edges { MayBeCutAround (raw_bytes self.entry) (length (P.text pattern)) result }
     {
         self.string.rfind(pattern)
@@ -104,7 +104,7 @@ impl<'a, E: Platform> RawOsStr<'a, E> {
     /// "foobar" contains "oba" and 'r', and not "of".
     pub fn contains<P: Pattern>(self, pattern: P) -> bool
         ensures bytes { IsTrue result ↔ StandsSomewhere (P.text pattern) (raw_bytes self.entry) }
-        ensures units { 0 < length (P.text pattern) → (IsTrue result ↔ StandsSomewhere (E.units (P.text pattern)) (raw_units self.entry)) }
+        ensures units { IsTrue result ↔ StandsSomewhere (E.units (P.text pattern)) (raw_units self.entry) }
     {
         self.string.contains(pattern)
     }
@@ -216,7 +216,7 @@ impl<'a, E: Platform> RawOsStr<'a, E> {
     /// `split_once("o")` of "foobar" is "f" and "obar", `split_once("")` is "" and "foobar".
     pub fn split_once<P: Pattern>(self, pattern: P) -> Option<(Self, Self)>
         ensures bytes { SplitsOnce IsLeastPlace raw_bytes (P.text pattern) (raw_bytes self.entry) result }
-        ensures units { 0 < length (P.text pattern) → SplitsOnce IsLeastPlace raw_units (E.units (P.text pattern)) (raw_units self.entry) result }
+        ensures units { SplitsOnce IsLeastPlace raw_units (E.units (P.text pattern)) (raw_units self.entry) result }
     {
         match self.string.split_once(pattern) {
             Some((front, back)) => Some((RawOsStr::new(front), RawOsStr::new(back))),
@@ -230,7 +230,7 @@ impl<'a, E: Platform> RawOsStr<'a, E> {
     /// `rsplit_once("o")` of "foobar" is "fo" and "bar", `rsplit_once("")` is "foobar" and "".
     pub fn rsplit_once<P: Pattern>(self, pattern: P) -> Option<(Self, Self)>
         ensures bytes { SplitsOnce IsGreatestPlace raw_bytes (P.text pattern) (raw_bytes self.entry) result }
-        ensures units { 0 < length (P.text pattern) → SplitsOnce IsGreatestPlace raw_units (E.units (P.text pattern)) (raw_units self.entry) result }
+        ensures units { SplitsOnce IsGreatestPlace raw_units (E.units (P.text pattern)) (raw_units self.entry) result }
     {
         match self.string.rsplit_once(pattern) {
             Some((front, back)) => Some((RawOsStr::new(front), RawOsStr::new(back))),
@@ -243,7 +243,7 @@ impl<'a, E: Platform> RawOsStr<'a, E> {
     ///
     /// `split("o")` of "foobar" gives "f", "" and "bar", `split("aa")` of "aaa" gives "" and "a".
     pub fn split<P: Pattern>(self, pattern: P) -> RawSplit<'a, E, P>
-        requires { 0 < length (P.text pattern) }
+        requires { P.not_empty pattern }
         ensures bytes { IsSplit (P.text pattern) (raw_bytes self.entry) result }
         ensures units { IsSplit (E.units (P.text pattern)) (raw_units self.entry) (map E.units result) }
     {
@@ -255,7 +255,7 @@ impl<'a, E: Platform> RawOsStr<'a, E> {
     ///
     /// `rsplit("o")` of "foobar" gives "bar", "" and "f".
     pub fn rsplit<P: Pattern>(self, pattern: P) -> RawRSplit<'a, E, P>
-        requires { 0 < length (P.text pattern) }
+        requires { P.not_empty pattern }
         ensures bytes { IsRSplit (P.text pattern) (raw_bytes self.entry) result }
         ensures units { IsRSplit (E.units (P.text pattern)) (raw_units self.entry) (map E.units result) }
     {

@@ -1,0 +1,48 @@
+-- The words of the headline.
+use Rattle.std.specs.Prelude.{◌≡◌, ◌↔◌, ◌<◌, ◌++◌, ℕ, List, length, Option, MatchOption, Result, MatchResult}
+use Rattle.wtf8_core.specs.Boundary.{IsBoundary}
+use Rattle.wtf8_core.specs.declared.fault.EncodingError.{EncodingError}
+use Rattle.platform_str.specs.declared.platform.Platform.{Ghosts}
+use Rattle.os_str_bytes.specs.declared.raw_str.RawOsStr.{RawOsStr}
+use Rattle.os_str_bytes.specs.Raw.{raw_bytes, raw_units}
+
+-- the strings of the platform P are the bytes that `formed` says, `has_units` says their units, `listed` which lists are units, and `faults` the first fault of other bytes
+pub record IsPlatform {E : Type 0} (P : Ghosts E) (formed : List ℕ → Type 0) (has_units : List ℕ → List ℕ → Type 0) (listed : List ℕ → Type 0) (faults : List ℕ → EncodingError → Type 0) : Type 0 where
+  pub well_formed : (b : List ℕ) → P.well_formed b ↔ formed b
+  pub units : (b us : List ℕ) → (P.well_formed b × (us ≡ P.units b)) ↔ has_units b us
+  pub unit_lists : (us : List ℕ) → P.is_unit_list us ↔ listed us
+  pub first_fault : (b : List ℕ) (f : EncodingError) → P.first_fault b f ↔ faults b f
+
+-- us are the bytes b themselves, which are so formed
+abbrev pub AreItself : (List ℕ → Type 0) → List ℕ → List ℕ → Type 0
+AreItself formed b us = formed b × (us ≡ b)
+
+-- accepted bytes and lists of units correspond one to one: the units of each string are listed, and each listed list is that of one string
+pub record AreOneToOne (well_formed is_unit_list : List ℕ → Type 0) (units : List ℕ → List ℕ) : Type 0 where
+  pub listed : (b : List ℕ) → well_formed b → is_unit_list (units b)
+  pub some : (us : List ℕ) → is_unit_list us → (b : List ℕ) × (well_formed b × (units b ≡ us))
+  pub once : (b c : List ℕ) → well_formed b → well_formed c → units b ≡ units c → b ≡ c
+
+-- f is the first fault of b, which has no other, and b is no string
+pub record IsOnlyFault (well_formed : List ℕ → Type 0) (first_fault : List ℕ → EncodingError → Type 0) (b : List ℕ) (f : EncodingError) : Type 0 where
+  pub is : first_fault b f
+  pub only : (g : EncodingError) → first_fault b g → g ≡ f
+  pub refused : ¬ (well_formed b)
+
+-- Ok exactly where b is a string, else its only fault
+abbrev pub AcceptsOrRefuses : {T : Type 0} → (List ℕ → Type 0) → (List ℕ → EncodingError → Type 0) → List ℕ → Result T EncodingError → Type 0
+AcceptsOrRefuses well_formed first_fault b r = MatchResult r (λ _. well_formed b) (λ fault. IsOnlyFault well_formed first_fault b fault)
+
+-- what is left, us, of the units of s after trimming by p; all of them where p is empty
+pub record Trims (Is : List ℕ → List ℕ → Type 0) (p s us : List ℕ) : Type 0 where
+  pub trimmed : 0 < length p → Is s us
+  pub whole : length p ≡ 0 → us ≡ s
+
+-- the pieces of s, which Is names; None where p is empty
+abbrev pub Splits : {T : Type 0} → (T → Type 0) → List ℕ → Option T → Type 0
+Splits Is p r = MatchOption r (length p ≡ 0) (λ pieces. (0 < length p) × Is pieces)
+
+module _ {E : Type 0} {P : Ghosts E} where
+  -- r is both parts of s, whose units joined are those of s, and the first has `at` bytes; None where s may not be cut there
+  abbrev pub CutsAt : RawOsStr E P → ℕ → Option (RawOsStr E P × RawOsStr E P) → Type 0
+  CutsAt s at r = MatchOption r (¬ (IsBoundary (raw_bytes s) at)) (λ parts. (raw_bytes s ≡ raw_bytes parts.0 ++ raw_bytes parts.1) × (length (raw_bytes parts.0) ≡ at) × (raw_units s ≡ raw_units parts.0 ++ raw_units parts.1))

@@ -1,0 +1,209 @@
+//! The headline: what this library is for, as the contract of one call.
+ghost use Rattle.std.specs.Prelude.{◌≡◌, ◌↔◌, ◌++◌, IsTrue, IfOk, length, map};
+ghost use Rattle.std.specs.List.{repeat};
+ghost use Rattle.std.specs.Cmp.Lexicographic.{slice_cmp};
+ghost use Rattle.std.specs.Ordering.{nat_cmp};
+ghost use Rattle.wtf8_core.specs.Standing.{IsLeastPlace, IsGreatestPlace, IsFront, IsEnd};
+ghost use Rattle.wtf8_core.specs.UnitPlace.{FindsInUnits};
+ghost use Rattle.wtf8_core.specs.Boundary.{IsBoundary};
+ghost use Rattle.wtf8_core.specs.Chunks.{AreChunks};
+ghost use Rattle.wtf8_core.specs.Pieces.{StandsSomewhere, MayBeCutAround, StripsFront, StripsEnd, SplitsOnce, IsStartTrim, IsEndTrim, IsTrim, IsSplit, IsRSplit};
+ghost use Rattle.platform_str.specs.Strings.{string_vec_of};
+ghost use Rattle.os_str_bytes.specs.Raw.{raw_bytes, raw_units, raw_vec_of};
+ghost use Rattle.os_str_bytes.specs.RawCow.{raw_cow_bytes};
+ghost use Rattle.os_str_bytes.specs.Headline.{AreOneToOne, AcceptsOrRefuses, CutsAt, Trims, Splits};
+
+use crate::iter::{RawRSplit, RawSplit};
+use crate::raw_cow::CowRawOsStr;
+use crate::raw_str::RawOsStr;
+use crate::raw_string::RawOsString;
+use os_str_ext::{Encoded, EncodingError, OsString, Pattern, Platform, Utf8Chunks, laws};
+use std::alloc::{AllocError, Allocator};
+use std::cmp::Ordering;
+
+/// What each call answers: a field is named for the call.
+#[derive(Drop)]
+pub struct Answers<'a, E: Platform + 'a, P: Pattern, A: Allocator> {
+    pub cow_from_raw_bytes: Result<CowRawOsStr<'a, E>, EncodingError>,
+    pub eq: bool,
+    pub cmp: Ordering,
+    pub starts_with_os: bool,
+    pub ends_with_os: bool,
+    pub find: Option<usize>,
+    pub rfind: Option<usize>,
+    pub contains: bool,
+    pub starts_with: bool,
+    pub ends_with: bool,
+    pub strip_prefix: Option<RawOsStr<'a, E>>,
+    pub strip_suffix: Option<RawOsStr<'a, E>>,
+    pub trim_start_matches: RawOsStr<'a, E>,
+    pub trim_end_matches: RawOsStr<'a, E>,
+    pub trim_matches: RawOsStr<'a, E>,
+    pub split_once: Option<(RawOsStr<'a, E>, RawOsStr<'a, E>)>,
+    pub rsplit_once: Option<(RawOsStr<'a, E>, RawOsStr<'a, E>)>,
+    /// `None` where the pattern is empty: nothing is split by it.
+    pub split: Option<RawSplit<'a, E, P>>,
+    /// `None` where the pattern is empty.
+    pub rsplit: Option<RawRSplit<'a, E, P>>,
+    pub is_boundary: bool,
+    /// `None` where the place is no boundary: `split_at` may not be called there.
+    pub split_at: Option<(RawOsStr<'a, E>, RawOsStr<'a, E>)>,
+    pub push: Result<OsString<E, &'a A>, AllocError>,
+    pub repeat: Result<RawOsString<E, &'a A>, AllocError>,
+    pub utf8_chunks: Utf8Chunks<'a, E>,
+}
+
+/// Makes each call once, of any raw bytes, any two strings, any pattern, any place and any
+/// count, and hands out what they answer.
+///
+/// Its contract is what the library is for, and asks nothing of its caller. Units are bytes on
+/// Unix and wasm and 16-bit units on Windows (`laws::platforms` says what each platform is), a
+/// place that is found is a place of bytes.
+pub fn ask<'a, E: Platform + 'a, P: Pattern + Copy, A: Allocator>(
+    alloc: &'a A,
+    raw: &'a [u8],
+    string: RawOsStr<'a, E>,
+    other: RawOsStr<'a, E>,
+    pattern: P,
+    at: usize,
+    count: usize,
+) -> Answers<'a, E, P, A>
+    // The accepted raw byte strings and the platform's unit lists correspond one to one,
+    ensures one_to_one { AreOneToOne E.well_formed E.is_unit_list E.units }
+    ensures accepted { IfOk result.cow_from_raw_bytes (λ cow. raw_cow_bytes cow ≡ raw.now) }
+    // every other byte string is refused by its first fault,
+    ensures refused { AcceptsOrRefuses E.well_formed E.first_fault raw.now result.cow_from_raw_bytes }
+    // and each comparison answers as its definition does on the unit lists, halves of a pair included; the order is that of the bytes.
+    ensures eq { IsTrue result.eq ↔ (raw_units string.entry ≡ raw_units other.entry) }
+    ensures cmp { result.cmp ≡ slice_cmp nat_cmp (raw_bytes string.entry) (raw_bytes other.entry) }
+    ensures starts_with_os { IsTrue result.starts_with_os ↔ IsFront (raw_units other.entry) (raw_units string.entry) }
+    ensures ends_with_os { IsTrue result.ends_with_os ↔ IsEnd (raw_units other.entry) (raw_units string.entry) }
+    // So does each search: the place is that of the least or the greatest unit at which the pattern's units stand,
+    ensures find { FindsInUnits IsLeastPlace E.well_formed E.units (P.text pattern) (raw_bytes string.entry) result.find }
+    ensures rfind { FindsInUnits IsGreatestPlace E.well_formed E.units (P.text pattern) (raw_bytes string.entry) result.rfind }
+    ensures contains { IsTrue result.contains ↔ StandsSomewhere (E.units (P.text pattern)) (raw_units string.entry) }
+    ensures starts_with { IsTrue result.starts_with ↔ IsFront (E.units (P.text pattern)) (raw_units string.entry) }
+    ensures ends_with { IsTrue result.ends_with ↔ IsEnd (E.units (P.text pattern)) (raw_units string.entry) }
+    // and every index answered is a place to cut, and the one behind the match too.
+    ensures find_cuts { MayBeCutAround (raw_bytes string.entry) (length (P.text pattern)) result.find }
+    ensures rfind_cuts { MayBeCutAround (raw_bytes string.entry) (length (P.text pattern)) result.rfind }
+    // Each strip and trim takes units off the front or the end.
+    ensures strip_prefix { StripsFront raw_units (E.units (P.text pattern)) (raw_units string.entry) result.strip_prefix }
+    ensures strip_suffix { StripsEnd raw_units (E.units (P.text pattern)) (raw_units string.entry) result.strip_suffix }
+    ensures trim_start { Trims (IsStartTrim (E.units (P.text pattern))) (P.text pattern) (raw_units string.entry) (raw_units result.trim_start_matches) }
+    ensures trim_end { Trims (IsEndTrim (E.units (P.text pattern))) (P.text pattern) (raw_units string.entry) (raw_units result.trim_end_matches) }
+    ensures trim { Trims (IsTrim (E.units (P.text pattern))) (P.text pattern) (raw_units string.entry) (raw_units result.trim_matches) }
+    // Each split cuts the units at the pattern's.
+    ensures split_once { SplitsOnce IsLeastPlace raw_units (E.units (P.text pattern)) (raw_units string.entry) result.split_once }
+    ensures rsplit_once { SplitsOnce IsGreatestPlace raw_units (E.units (P.text pattern)) (raw_units string.entry) result.rsplit_once }
+    ensures split { Splits (λ pieces. IsSplit (E.units (P.text pattern)) (raw_units string.entry) (map E.units pieces)) (P.text pattern) result.split }
+    ensures rsplit { Splits (λ pieces. IsRSplit (E.units (P.text pattern)) (raw_units string.entry) (map E.units pieces)) (P.text pattern) result.rsplit }
+    // Each cut at a boundary leaves two strings whose units joined are the string's.
+    ensures is_boundary { IsTrue result.is_boundary ↔ IsBoundary (raw_bytes string.entry) at }
+    ensures split_at { CutsAt string.entry at result.split_at }
+    // Each join, unless memory is refused, joins the units, also two halves of a pair.
+    ensures push { IfOk result.push (λ joined. E.units (string_vec_of joined).items ≡ raw_units string.entry ++ raw_units other.entry) }
+    ensures repeat { IfOk result.repeat (λ made. E.units (raw_vec_of made).items ≡ repeat count (raw_units string.entry)) }
+    // The chunks are the parts without whole characters, each with the text behind it.
+    ensures utf8_chunks { AreChunks (raw_bytes string.entry) result.utf8_chunks }
+{
+    Answers {
+        cow_from_raw_bytes: RawOsStr::cow_from_raw_bytes(raw),
+        eq: equal(string, other),
+        cmp: order(string, other),
+        starts_with_os: string.starts_with_os(other),
+        ends_with_os: string.ends_with_os(other),
+        find: string.find(pattern),
+        rfind: string.rfind(pattern),
+        contains: string.contains(pattern),
+        starts_with: string.starts_with(pattern),
+        ends_with: string.ends_with(pattern),
+        strip_prefix: string.strip_prefix(pattern),
+        strip_suffix: string.strip_suffix(pattern),
+        trim_start_matches: string.trim_start_matches(pattern),
+        trim_end_matches: string.trim_end_matches(pattern),
+        trim_matches: string.trim_matches(pattern),
+        split_once: string.split_once(pattern),
+        rsplit_once: string.rsplit_once(pattern),
+        split: pieces(string, pattern),
+        rsplit: pieces_from_the_end(string, pattern),
+        is_boundary: string.is_boundary(at),
+        split_at: parts(string, at),
+        push: joined(alloc, string, other),
+        repeat: string.repeat(alloc, count),
+        utf8_chunks: string.utf8_chunks(),
+    }
+}
+
+/// `==` of two strings.
+fn equal<'a, E: Platform>(string: RawOsStr<'a, E>, other: RawOsStr<'a, E>) -> bool
+    ensures { IsTrue result ↔ (raw_units string.entry ≡ raw_units other.entry) }
+{
+    string == other
+}
+
+/// `cmp` of two strings.
+fn order<'a, E: Platform>(string: RawOsStr<'a, E>, other: RawOsStr<'a, E>) -> Ordering
+    ensures { result ≡ slice_cmp nat_cmp (raw_bytes string.entry) (raw_bytes other.entry) }
+{
+    string.cmp(&other)
+}
+
+/// `split`, where the pattern isn't empty.
+fn pieces<'a, E: Platform, P: Pattern + Copy>(
+    string: RawOsStr<'a, E>,
+    pattern: P,
+) -> Option<RawSplit<'a, E, P>>
+    ensures { Splits (λ pieces. IsSplit (E.units (P.text pattern)) (raw_units string.entry) (map E.units pieces)) (P.text pattern) result }
+{
+    if is_empty(pattern) {
+        return None;
+    }
+    Some(string.split(pattern))
+}
+
+/// `rsplit`, where the pattern isn't empty.
+fn pieces_from_the_end<'a, E: Platform, P: Pattern + Copy>(
+    string: RawOsStr<'a, E>,
+    pattern: P,
+) -> Option<RawRSplit<'a, E, P>>
+    ensures { Splits (λ pieces. IsRSplit (E.units (P.text pattern)) (raw_units string.entry) (map E.units pieces)) (P.text pattern) result }
+{
+    if is_empty(pattern) {
+        return None;
+    }
+    Some(string.rsplit(pattern))
+}
+
+/// Whether a pattern has no byte.
+fn is_empty<P: Pattern>(pattern: P) -> bool
+    ensures { IsTrue result ↔ (length (P.text pattern) ≡ 0) }
+{
+    pattern.encode().as_bytes().is_empty()
+}
+
+/// `split_at`, where the place is a boundary.
+fn parts<'a, E: Platform>(
+    string: RawOsStr<'a, E>,
+    at: usize,
+) -> Option<(RawOsStr<'a, E>, RawOsStr<'a, E>)>
+    ensures { CutsAt string.entry at result }
+{
+    if string.is_boundary(at) {
+        return Some(string.split_at(at));
+    }
+    None
+}
+
+/// One string, with another pushed.
+fn joined<'a, E: Platform, A: Allocator>(
+    alloc: A,
+    string: RawOsStr<'a, E>,
+    other: RawOsStr<'a, E>,
+) -> Result<OsString<E, A>, AllocError>
+    ensures { IfOk result (λ joined. E.units (string_vec_of joined).items ≡ raw_units string.entry ++ raw_units other.entry) }
+{
+    let mut joined = string.as_os_str().to_owned(alloc)?;
+    joined.push(other.as_os_str())?;
+    Ok(joined)
+}
