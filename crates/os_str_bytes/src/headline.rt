@@ -1,12 +1,15 @@
 //! The headline: what this library is for, as the contract of one call.
-ghost use Rattle.std.specs.Prelude.{◌≡◌, ◌↔◌, ◌++◌, IsTrue, IfOk, length, map};
+ghost use Rattle.std.specs.Prelude.{◌≡◌, ◌↔◌, ◌++◌, ℕ, List, IsTrue, IsOk, IfOk, length, map};
 ghost use Rattle.std.specs.List.{repeat};
 ghost use Rattle.std.specs.Cmp.Lexicographic.{slice_cmp};
 ghost use Rattle.std.specs.Ordering.{nat_cmp};
+ghost use Rattle.std.specs.Str.{IsUtf8};
+ghost use Rattle.wtf8_core.specs.Wtf8.{Spells, HasUnits};
 ghost use Rattle.wtf8_core.specs.Standing.{IsLeastPlace, IsGreatestPlace, IsFront, IsEnd};
 ghost use Rattle.wtf8_core.specs.UnitPlace.{FindsInUnits};
 ghost use Rattle.wtf8_core.specs.Boundary.{IsBoundary};
-ghost use Rattle.wtf8_core.specs.Chunks.{AreChunks};
+ghost use Rattle.wtf8_core.specs.Chunks.{Chunk, AreChunks};
+ghost use Rattle.wtf8_core.specs.Runs.{AreRuns, form_chunk};
 ghost use Rattle.wtf8_core.specs.Pieces.{StandsSomewhere, MayBeCutAround, StripsFront, StripsEnd, SplitsOnce, IsStartTrim, IsEndTrim, IsTrim, IsSplit, IsRSplit};
 ghost use Rattle.platform_str.specs.Strings.{string_vec_of};
 ghost use Rattle.os_str_bytes.specs.Raw.{raw_bytes, raw_units, raw_vec_of};
@@ -17,9 +20,13 @@ use crate::iter::{RawRSplit, RawSplit};
 use crate::raw_cow::CowRawOsStr;
 use crate::raw_str::RawOsStr;
 use crate::raw_string::RawOsString;
-use os_str_ext::{Encoded, EncodingError, OsString, Pattern, Platform, Utf8Chunks, laws};
+use os_str_ext::{
+    Encoded, EncodingError, OsStrBytesExt, OsString, Pattern, Platform, Unix, Utf8Chunks, Wasm,
+    WideUnits, Windows, laws,
+};
 use std::alloc::{AllocError, Allocator};
 use std::cmp::Ordering;
+use wtf8_core::laws as wtf8_laws;
 
 /// What each call answers: a field is named for the call.
 #[derive(Drop)]
@@ -133,6 +140,71 @@ pub fn ask<'a, E: Platform + 'a, P: Pattern + Copy, A: Allocator>(
         repeat: string.repeat(alloc, count),
         utf8_chunks: string.utf8_chunks(),
     }
+}
+
+/// What calls answer of Windows strings beside [`Answers`].
+#[derive(Drop)]
+pub struct WindowsAnswers<'a> {
+    pub cmp: Ordering,
+    pub encode_wide: WideUnits<'a>,
+    pub utf8_chunks: Utf8Chunks<'a, Windows>,
+}
+
+/// Makes the calls whose answers say more on Windows, once each.
+pub fn ask_windows<'a>(
+    string: RawOsStr<'a, Windows>,
+    other: RawOsStr<'a, Windows>,
+) -> WindowsAnswers<'a>
+    // The order is that of the lists of code points that the strings spell, and not of their units.
+    ensures cmp { (cs : List ℕ) → (ds : List ℕ) → Spells (raw_bytes string.entry) cs → Spells (raw_bytes other.entry) ds → result.cmp ≡ slice_cmp nat_cmp cs ds }
+    // The units are given one by one.
+    ensures encode_wide { HasUnits (raw_bytes string.entry) result.encode_wide }
+    // The parts that aren't empty are the forms of the maximal runs of surrogates of the list that the string spells.
+    ensures utf8_chunks { (cs : List ℕ) → Spells (raw_bytes string.entry) cs → (runs : List Chunk) × (AreRuns cs runs × (result.utf8_chunks ≡ map form_chunk runs)) }
+{
+    wtf8_laws::order();
+    wtf8_laws::chunks();
+    WindowsAnswers {
+        cmp: order(string, other),
+        encode_wide: string.as_os_str().encode_wide(),
+        utf8_chunks: string.as_os_str().utf8_chunks(),
+    }
+}
+
+/// The strings that calls give of lists of units: a field is named for the platform.
+#[derive(Drop)]
+pub struct Spelled<'a, A: Allocator> {
+    pub unix: Result<CowRawOsStr<'a, Unix>, EncodingError>,
+    pub windows: Result<OsString<Windows, &'a A>, AllocError>,
+    pub wasm: Result<CowRawOsStr<'a, Wasm>, EncodingError>,
+}
+
+/// Makes the calls that give a string of its units: each list of units of a platform is that of
+/// some string, and a call gives it.
+pub fn ask_units<'a, A: Allocator>(alloc: &'a A, bytes: &'a [u8], wide: &[u16]) -> Spelled<'a, A>
+    // Any bytes are the units of a Unix string,
+    ensures unix { IsOk result.unix }
+    ensures unix_units { IfOk result.unix (λ cow. ⟦<Unix as Platform>⟧.units (raw_cow_bytes cow) ≡ bytes.now) }
+    // any 16-bit units, unless memory is refused, those of a Windows string,
+    ensures windows_units { IfOk result.windows (λ string. ⟦<Windows as Platform>⟧.units (string_vec_of string).items ≡ wide.now) }
+    // and the bytes of any text those of a wasm string.
+    ensures wasm { IsUtf8 bytes.now → IsOk result.wasm }
+    ensures wasm_units { IfOk result.wasm (λ cow. ⟦<Wasm as Platform>⟧.units (raw_cow_bytes cow) ≡ bytes.now) }
+{
+    Spelled {
+        unix: accepted(bytes),
+        windows: OsString::from_wide(alloc, wide),
+        wasm: accepted(bytes),
+    }
+}
+
+/// `cow_from_raw_bytes`, which accepts what is well formed.
+fn accepted<'a, E: Platform>(raw: &'a [u8]) -> Result<CowRawOsStr<'a, E>, EncodingError>
+    ensures ok { E.well_formed raw.now → IsOk result }
+    ensures bytes { IfOk result (λ cow. raw_cow_bytes cow ≡ raw.now) }
+{
+    laws::faults::<E>();
+    RawOsStr::cow_from_raw_bytes(raw)
 }
 
 /// `==` of two strings.
