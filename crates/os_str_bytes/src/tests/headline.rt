@@ -2,22 +2,27 @@
 use crate::headline::{ask, ask_units, ask_windows};
 use crate::tests::raw;
 use crate::{Platform, RawOsStr, Unix, Wasm, Windows};
-use std::alloc::AllocError;
+use std::alloc::{AllocError, Allocator};
 use std::cmp::Ordering;
 use std::process::Abort;
 
 #[test]
 fn each_platform(rt: HostRuntime) -> Result<(), AllocError> {
-    texts_on::<Unix, _>(&rt)?;
-    texts_on::<Windows, _>(&rt)?;
-    texts_on::<Wasm, _>(&rt)
+    let alloc = rt.alloc();
+    texts_on::<Unix, _>(&rt, &alloc, "a/b/", "a/")?;
+    texts_on::<Windows, _>(&rt, &alloc, "a/b/", "a/")?;
+    texts_on::<Wasm, _>(&rt, &alloc, "a/b/", "a/")
 }
 
-fn texts_on<E: Platform, R: AllocGlobal + Abort>(rt: &R) -> Result<(), AllocError> {
-    let alloc = rt.alloc();
-    let string = RawOsStr::<E>::from_str("a/b/");
-    let other = RawOsStr::<E>::from_str("a/");
-    let answers = ask(&alloc, b"a/", string, other, "/", 2, 2);
+fn texts_on<'a, E: Platform + 'a, A: Allocator>(
+    rt: &impl Abort,
+    alloc: &'a A,
+    text: &'a str,
+    front: &'a str,
+) -> Result<(), AllocError> {
+    let string = RawOsStr::<E>::from_str(text);
+    let other = RawOsStr::<E>::from_str(front);
+    let answers = ask(alloc, front.as_bytes(), string, other, "/", 2, 2);
     assert!(rt; answers.cow_from_raw_bytes.is_ok() && !answers.eq);
     assert!(rt; answers.cmp == Ordering::Greater);
     assert!(rt; answers.starts_with_os && !answers.ends_with_os);
