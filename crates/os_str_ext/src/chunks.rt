@@ -12,7 +12,7 @@ use crate::os_units::NonUnicodeOsStr;
 use platform_str::{OsStr, Platform};
 use std::alloc::AllocError;
 use std::marker::Model;
-use wtf8_core::char_at;
+use wtf8_core::{char_at, utf8_fault};
 
 /// The chunks of a string that are left, from the first on, and then `None` for ever.
 ///
@@ -119,9 +119,9 @@ fn text_end(bytes: &[u8], start: usize) -> usize
     ensures text { IsUtf8 (drop start (take result bytes.now)) }
     ensures ended { (j : ℕ) → ¬ (WholeCharacter bytes.now result j) }
 {
-    let mut end = start;
-    while let Some(size) = char_at(bytes, end) {
-        end += size;
+    let (_, rest) = bytes.split_at(start);
+    match utf8_fault(rest) {
+        Some((valid_up_to, _)) => start + valid_up_to,
+        None => bytes.len(),
     }
-    end
 }

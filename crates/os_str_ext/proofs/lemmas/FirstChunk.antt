@@ -1,10 +1,10 @@
 -- The first chunk by its ends, and the chunks behind it.
-use Rattle.std.proofs.Common.{◌≡◌, ⊎_elim, inl, inr, ℕ, ◌+◌, ◌<◌, ◌≤◌, List, [], ◌∷◌, ◌++◌, length, take, drop, sym, ap, ◌∙◌, subst, arith, length-append, length-drop, take-append-drop, append_assoc}
+use Rattle.std.proofs.Common.{◌≡◌, ⊎_elim, inl, inr, ℕ, ◌+◌, ◌-◌, ◌<◌, ◌≤◌, List, [], ◌∷◌, ◌++◌, length, take, drop, sym, ap, ◌∙◌, subst, arith, length-append, length-drop, take-append-drop, append_assoc}
 use Rattle.std.proofs.lemmas.Bool.{cases_lt, cases_eq}
-use Rattle.std.proofs.lemmas.List.{length-take-le, take-take, drop_all, drop-append-le}
+use Rattle.std.proofs.lemmas.List.{length-take-le, take-take, drop-take, drop_all, drop-append-le}
 use Rattle.std.proofs.lemmas.Str.{IsUtf8-append, IsUtf8-encode}
 use Rattle.std.proofs.Math.Seq.{take-add, take-append_seam}
-use Rattle.std.specs.Str.{IsUtf8}
+use Rattle.std.specs.Str.{IsUtf8, IsValidUpTo}
 use Rattle.wtf8_core.specs.Boundary.{IsBoundary}
 use Rattle.wtf8_core.specs.Character.{WholeCharacter}
 use Rattle.wtf8_core.specs.Covered.{IsCovered, IsSeam, IsBare}
@@ -15,6 +15,7 @@ use Rattle.wtf8_core.proofs.lemmas.Characters.{character_fits, begins_at}
 use Rattle.wtf8_core.proofs.lemmas.FormsByStd.{form_encode}
 use Rattle.wtf8_core.proofs.lemmas.ChunkLemmas.{some_chunks, chunks_once, one_more_chunk}
 use Rattle.wtf8_core.proofs.lemmas.Edges.{edges_of_text}
+use Rattle.wtf8_core.proofs.lemmas.Overlaps.{in_rest}
 use Rattle.wtf8_core.proofs.lemmas.Seams.{Bare, text_covered, seam_behind_bare, whole_within}
 use Rattle.os_str_ext.specs.Chunks.{chunks_of, IsFirstChunk}
 
@@ -132,3 +133,15 @@ text_grows s i j k le u w =
     let split : take k s ≡ take j s ++ form w.char =
     ap (λ m. take m s) end ∙ take-add j n s ∙ ap (λ x. take j s ++ take n x) (begins_at s j k w) ∙ ap (λ x. take j s ++ x) (take-append_seam (form w.char) w.stands.behind) in
     subst IsUtf8 (sym (ap (drop i) split ∙ drop-append-le i (take j s) (form w.char) (omega arith))) (IsUtf8-append _ _ u (subst IsUtf8 (sym (form_encode w.char)) (IsUtf8-encode w.char w.scalar)))
+
+-- where a fault says that the text from a place on ends: it is text, and no character stands behind it
+module _ (s rest : List ℕ) (i v : ℕ) (is : rest ≡ drop i s) (valid : IsValidUpTo rest v) where
+  pub text_from : IsUtf8 (drop i (take (i + v) s))
+  text_from = subst IsUtf8 (sym (drop-take i v s ∙ ap (take v) (sym is))) valid.front
+
+  pub no_character_behind : (j : ℕ) → ¬ (WholeCharacter s (i + v) j)
+  no_character_behind j w =
+      let f = character_fits s (i + v) j w in
+      let z : i + v - i ≡ v = omega arith in
+      let c : WholeCharacter rest v (j - i) = subst (λ r. WholeCharacter r v (j - i)) (sym is) (subst (λ n. WholeCharacter (drop i s) n (j - i)) z (in_rest s (i + v) j i w (omega arith))) in
+      valid.longest (j - i) (omega arith) (text_grows rest 0 v (j - i) (omega arith) valid.front c)
