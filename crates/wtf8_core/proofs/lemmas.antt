@@ -9,6 +9,9 @@ pub mod FirstErr
 pub mod Complete
 pub mod UnitsLemmas
 pub mod Characters
+pub mod TableEntries
+pub mod TableSteps
+pub mod Fed
 pub mod Cuts
 pub mod Utf8Lemmas
 pub mod Propositions

@@ -18,6 +18,8 @@ pub mod Chunks
 pub mod Runs
 pub mod Boundary
 pub mod Pieces
+pub mod Table
+pub mod Checker
 pub mod Utf8
 pub mod Lossy
 pub mod UnitsOf

@@ -17,6 +17,7 @@
 
 mod byte;
 mod character;
+mod checker;
 mod code_points;
 mod decoder;
 mod encoder;
@@ -24,10 +25,12 @@ mod fault;
 mod halves;
 pub mod laws;
 mod surrogate;
+mod table;
 mod utf8;
 
 pub use byte::is_continuation;
 pub use character::char_at;
+pub use checker::Checker;
 pub use code_points::CodePoints;
 pub use decoder::DecodeWide;
 pub use encoder::{EncodeWide, encode_wide};

@@ -37,7 +37,7 @@ split (suc n) (x ∷ bs) =
     (range_cases 0x80 0xBF x)
 
 -- six more bits
-abbrev Join : ℕ → ℕ → ℕ
+abbrev pub Join : ℕ → ℕ → ℕ
 Join value x = value * 0x40 + x % 0x40
 
 -- all the continuations are joined

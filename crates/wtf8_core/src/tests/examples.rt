@@ -2,7 +2,8 @@
 use crate::EncodingError::{Byte, CodePoint, End};
 use crate::tests::gives;
 use crate::{
-    CodePoints, DecodeWide, EncodingError, char_at, encode_wide, is_continuation, utf8_fault,
+    Checker, CodePoints, DecodeWide, EncodingError, char_at, encode_wide, is_continuation,
+    utf8_fault,
 };
 use std::test::Fail;
 
@@ -13,6 +14,25 @@ fn bytes_and_characters(rt: HostRuntime) {
     assert_eq!(rt; char_at(b"a\xC3\xA9", 1), Some(2));
     assert_eq!(rt; char_at(b"a\xC3\xA9", 2), None);
     assert_eq!(rt; char_at(b"a\xC3\xA9", 3), None);
+}
+
+#[test]
+fn pieces(rt: HostRuntime) {
+    assert_eq!(rt; Checker::new().finish(), Ok(()));
+    let mut euro = Checker::new();
+    assert_eq!(rt; euro.feed(b"\xE2"), Ok(()));
+    assert_eq!(rt; euro.feed(b"\x82\xAC"), Ok(()));
+    let mut halves = Checker::new();
+    assert_eq!(rt; halves.feed(b"\xED\xA0\x80"), Ok(()));
+    assert_eq!(rt; halves.feed(b"\xED\xB0\x80"), Err(CodePoint(0xDC00)));
+    let mut open = Checker::new();
+    assert_eq!(rt; open.feed(b"\xE2\x82"), Ok(()));
+    assert_eq!(rt; open.finish(), Err(End));
+    let mut four = Checker::new();
+    for piece in [b"\xF0".as_slice(), b"\x90\x80", b"\x80"] {
+        assert_eq!(rt; four.feed(piece), Ok(()));
+    }
+    assert_eq!(rt; four.finish(), Ok(()));
 }
 
 #[test]

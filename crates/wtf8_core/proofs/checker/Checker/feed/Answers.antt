@@ -1,0 +1,7 @@
+use Rattle.std.proofs.Common.{◌++◌}
+use Rattle.wtf8_core.proofs.lemmas.Fed.{only_ends, open_progress}
+use Rattle.wtf8_core.proofs.checker.Checker.feed.Goals as goal
+
+pub returns-in-Ok-clause-answer : goal.returns-in-Ok-clause-answer
+returns-in-Ok-clause-answer c b h f g =
+    only_ends c.in-Ok.state c.in-Ok.bits (b ++ c.args.piece.now) (c.in-Ok.ensures b (open_progress c.self.inside.state c.self.inside.bits c.self.inside.fault c.args.self.now b c.self.view_is c.in_default.is h)) f g

@@ -1,0 +1,7 @@
+use Rattle.std.proofs.Common.{sym, ◌∙◌}
+use Rattle.wtf8_core.proofs.lemmas.Fed.{ends, open_progress}
+use Rattle.wtf8_core.proofs.checker.Checker.finish.Goals as goal
+
+pub returns-else-is_between : goal.returns-else-is_between
+returns-else-is_between c b h =
+    ends c.self.inside.state c.self.inside.bits b (sym c.is_between.ensures ∙ c.if-is_between.false) (open_progress c.self.inside.state c.self.inside.bits c.self.inside.fault c.args.self b c.self.view_is c.in_default.is h)

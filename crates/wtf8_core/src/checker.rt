@@ -1,0 +1,182 @@
+//! The check of bytes that come in pieces.
+ghost use Rattle.std.specs.Prelude.{◌≡◌, ℕ, ◌<◌, ◌++◌, List, [], length, IsTrue, MatchResult};
+ghost use Rattle.std.specs.List.{All};
+ghost use Rattle.wtf8_core.specs.Checker.{Stands, StandsFor, IsFaulty, OnlyEnds, HasFirstFault, joined_bits, fault_at, is_between};
+ghost use Rattle.wtf8_core.specs.Wtf8.{IsWtf8};
+
+use crate::byte::is_continuation;
+use crate::fault::EncodingError;
+use crate::table::{State, class_at, next_at};
+use std::marker::Model;
+use std::simd::prelude::*;
+
+/// Whether bytes that come in pieces are WTF-8, or their first fault.
+///
+/// It asks a table byte by byte, holds a few numbers and takes no memory. Its answers are those
+/// for the pieces joined: [`feed`](Checker::feed) names their first fault as soon as it is there,
+/// and [`finish`](Checker::finish) says whether they may end there.
+///
+/// Fed whole, it finds the first `Err` of [`CodePoints`](crate::CodePoints).
+#[derive(Drop)]
+pub struct Checker {
+    state: State,
+    bits: u32,
+    fault: Option<EncodingError>,
+}
+
+impl Model for Checker {
+    ghost use Rattle.wtf8_core.specs.Checker.{Progress, progress};
+
+    ghost Value = { Progress };
+
+    ghost view = { λ it. progress it.state it.bits it.fault };
+}
+
+impl Checker {
+    /// A checker to which nothing was fed: what it stands for is the empty list of bytes, which is
+    /// WTF-8.
+    ///
+    /// `Checker::new().finish()` is `Ok(())`.
+    pub fn new() -> Checker
+        ensures { StandsFor result [] }
+    {
+        Checker {
+            state: State::Between,
+            bits: 0,
+            fault: None,
+        }
+    }
+
+    /// One more piece, of any length: `Err` where the bytes fed so far, joined, have a fault that no
+    /// byte behind them changes.
+    ///
+    /// The fault is the first one of the bytes joined. A sequence that the piece cuts off is no
+    /// fault yet, since the next one may go on with it: `EncodingError::End` comes from
+    /// [`finish`](Checker::finish) alone. Behind an `Err` every later call answers the same one.
+    ///
+    /// Fed E2 (hexadecimal) and then 82 AC a checker answers `Ok(())` twice; fed ED A0 80 and then
+    /// ED B0 80, the two halves of a pair, `Err(EncodingError::CodePoint(0xDC00))` at the second.
+    pub fn feed(&mut self, piece: &[u8]) -> Result<(), EncodingError>
+        ensures stands { (fed : List ℕ) → StandsFor self.old fed → StandsFor self.new (fed ++ piece.now) }
+        ensures answer { (fed : List ℕ) → StandsFor self.old fed → MatchResult result (λ _. OnlyEnds (fed ++ piece.now)) (λ fault. IsFaulty (fed ++ piece.now) fault) }
+    {
+        if let Some(fault) = self.fault {
+            return Err(fault);
+        }
+        match read_blocks(self.state, self.bits, piece) {
+            Ok((state, bits)) => {
+                self.state = state;
+                self.bits = bits;
+                Ok(())
+            }
+            Err(fault) => {
+                self.fault = Some(fault);
+                Err(fault)
+            }
+        }
+    }
+
+    /// Whether all the bytes that were fed, joined, are WTF-8, or their first fault.
+    ///
+    /// It is `EncodingError::End` where they end within a sequence.
+    ///
+    /// Behind E2 82 it is `Err(EncodingError::End)`; behind F0, 90 80 and 80 it is `Ok(())`.
+    pub fn finish(self) -> Result<(), EncodingError>
+        ensures { (fed : List ℕ) → StandsFor self fed → MatchResult result (λ _. IsWtf8 fed) (λ fault. HasFirstFault fed fault) }
+    {
+        if let Some(fault) = self.fault {
+            return Err(fault);
+        }
+        if is_between(self.state) {
+            Ok(())
+        } else {
+            Err(EncodingError::End)
+        }
+    }
+}
+
+/// The bits with the low six of a byte behind them: those of the last four or five bytes.
+#[inline(always)]
+fn joined_bits(bits: u32, byte: u8) -> u32
+    ensures { result ≡ joined_bits bits byte }
+{
+    bits % 0x400_0000 * 0x40 + u32::from(byte % 0x40)
+}
+
+/// The fault of a byte behind which there is no state.
+#[cold]
+fn fault_at(state: State, bits: u32, byte: u8) -> EncodingError
+    ensures { result ≡ fault_at state bits byte }
+{
+    if !is_continuation(byte) {
+        return EncodingError::Byte(byte);
+    }
+    match state {
+        State::BadThird => EncodingError::CodePoint(bits % 0x1_0000),
+        State::BadFourth => EncodingError::CodePoint(bits % 0x40_0000),
+        _ => EncodingError::Byte(byte),
+    }
+}
+
+/// Whether no sequence is open.
+#[inline(always)]
+fn is_between(state: State) -> bool
+    ensures { result ≡ is_between state }
+{
+    matches!(state, State::Between | State::BehindHigh)
+}
+
+/// The state and the bits behind more bytes.
+#[inline(always)]
+fn read(state: State, bits: u32, bytes: &[u8]) -> Result<(State, u32), EncodingError>
+    ensures { (fed : List ℕ) → Stands state bits fed → MatchResult result (λ r. Stands r.0 r.1 (fed ++ bytes.now)) (λ fault. IsFaulty (fed ++ bytes.now) fault) }
+{
+    let mut state = state;
+    let mut bits = bits;
+    for byte in bytes {
+        let next = next_at(state, class_at(*byte));
+        bits = joined_bits(bits, *byte);
+        if let State::Refused = next {
+            return Err(fault_at(state, bits, *byte));
+        }
+        state = next;
+    }
+    Ok((state, bits))
+}
+
+/// Whether 32 bytes are all below 80.
+#[inline(always)]
+fn is_ascii(bytes: &[u8]) -> bool
+    requires { length bytes.now ≡ 32 }
+    ensures { IsTrue result → All (λ b. b < 128) bytes.now }
+{
+    u8x32::from_slice(bytes)
+        .simd_ge(u8x32::splat(0x80))
+        .to_bitmask()
+        == 0
+}
+
+/// The same, going over 32 bytes at once where they are ASCII and no sequence is open.
+fn read_blocks(state: State, bits: u32, bytes: &[u8]) -> Result<(State, u32), EncodingError>
+    ensures { (fed : List ℕ) → Stands state bits fed → MatchResult result (λ r. Stands r.0 r.1 (fed ++ bytes.now)) (λ fault. IsFaulty (fed ++ bytes.now) fault) }
+{
+    let mut state = state;
+    let mut bits = bits;
+    let mut rest = bytes;
+    while rest.len() >= 32 {
+        let (block, behind) = rest.split_at(32);
+        if is_between(state) && is_ascii(block) {
+            state = State::Between;
+        } else {
+            match read(state, bits, block) {
+                Ok((next, joined)) => {
+                    state = next;
+                    bits = joined;
+                }
+                Err(fault) => return Err(fault),
+            }
+        }
+        rest = behind;
+    }
+    read(state, bits, rest)
+}

@@ -1,0 +1,192 @@
+//! The table by which bytes are checked: what stands before a byte, which byte it is, and what
+//! stands behind it.
+ghost use Rattle.std.specs.Prelude.{◌≡◌, ◌<◌};
+ghost use Rattle.wtf8_core.specs.Table.{state_index, class_index, class_at, next_at};
+
+use Class::*;
+use State::*;
+
+/// What stands between the last whole form and the next byte: nothing, or an open sequence.
+#[derive(Clone, Copy, PartialEq, Eq)]
+pub(crate) enum State {
+    /// Nothing, and no high surrogate directly before.
+    Between,
+    /// Nothing, directly behind a high surrogate.
+    BehindHigh,
+    /// A sequence that any one continuation makes a form of no high surrogate.
+    OneMore,
+    /// A sequence that any two continuations make such a form.
+    TwoMore,
+    /// E0, whose next continuations are overlong up to 9F.
+    BehindE0,
+    /// ED, whose next continuations make surrogates from A0 on.
+    BehindEd,
+    /// ED directly behind a high surrogate, where low ones are refused.
+    HighThenEd,
+    /// A sequence that any one continuation makes the form of a high surrogate.
+    LastOfHigh,
+    /// F0, whose next continuations are overlong up to 8F.
+    BehindF0,
+    /// F1 to F3.
+    BehindF1,
+    /// F4, whose next continuations are past the last code point from 90 on.
+    BehindF4,
+    /// F5 to FF, which begin no form.
+    BehindF5,
+    /// A sequence that is refused once two continuations more have come.
+    BadLastTwo,
+    /// A sequence of four bytes that is refused once the last one has come.
+    BadFourth,
+    /// The byte was refused.
+    Refused,
+    /// A sequence of three bytes that is refused once the last one has come.
+    BadThird,
+}
+
+/// Bytes that no state tells apart: from the byte that a class is named after up to the next.
+#[derive(Clone, Copy)]
+pub(crate) enum Class {
+    Ascii,
+    Low80,
+    Low90,
+    LowA0,
+    LowB0,
+    Stray,
+    LeadC2,
+    LeadE0,
+    LeadE1,
+    LeadEd,
+    LeadEe,
+    LeadF0,
+    LeadF1,
+    LeadF4,
+    LeadF5,
+}
+
+/// The place of a state in the table.
+#[inline(always)]
+fn state_index(state: State) -> usize
+    ensures value { result ≡ state_index state }
+    ensures within { result < 16 }
+{
+    state as usize
+}
+
+/// The place of a class in a row of the table.
+#[inline(always)]
+fn class_index(class: Class) -> usize
+    ensures value { result ≡ class_index class }
+    ensures within { result < 16 }
+{
+    class as usize
+}
+
+/// The class of a byte.
+#[inline(always)]
+pub(crate) fn class_at(byte: u8) -> Class
+    ensures { result ≡ class_at byte }
+{
+    CLASSES[byte as usize]
+}
+
+/// The state behind a byte of a class.
+#[inline(always)]
+pub(crate) fn next_at(state: State, class: Class) -> State
+    ensures { result ≡ next_at state class }
+{
+    NEXT[state_index(state)][class_index(class)]
+}
+
+/// The class of each byte.
+static CLASSES: [Class; 256] = [
+    Ascii, Ascii, Ascii, Ascii, Ascii, Ascii, Ascii, Ascii, Ascii, Ascii, Ascii, Ascii, Ascii,
+    Ascii, Ascii, Ascii, Ascii, Ascii, Ascii, Ascii, Ascii, Ascii, Ascii, Ascii, Ascii, Ascii,
+    Ascii, Ascii, Ascii, Ascii, Ascii, Ascii, Ascii, Ascii, Ascii, Ascii, Ascii, Ascii, Ascii,
+    Ascii, Ascii, Ascii, Ascii, Ascii, Ascii, Ascii, Ascii, Ascii, Ascii, Ascii, Ascii, Ascii,
+    Ascii, Ascii, Ascii, Ascii, Ascii, Ascii, Ascii, Ascii, Ascii, Ascii, Ascii, Ascii, Ascii,
+    Ascii, Ascii, Ascii, Ascii, Ascii, Ascii, Ascii, Ascii, Ascii, Ascii, Ascii, Ascii, Ascii,
+    Ascii, Ascii, Ascii, Ascii, Ascii, Ascii, Ascii, Ascii, Ascii, Ascii, Ascii, Ascii, Ascii,
+    Ascii, Ascii, Ascii, Ascii, Ascii, Ascii, Ascii, Ascii, Ascii, Ascii, Ascii, Ascii, Ascii,
+    Ascii, Ascii, Ascii, Ascii, Ascii, Ascii, Ascii, Ascii, Ascii, Ascii, Ascii, Ascii, Ascii,
+    Ascii, Ascii, Ascii, Ascii, Ascii, Ascii, Ascii, Ascii, Ascii, Ascii, Ascii, Low80, Low80,
+    Low80, Low80, Low80, Low80, Low80, Low80, Low80, Low80, Low80, Low80, Low80, Low80, Low80,
+    Low80, Low90, Low90, Low90, Low90, Low90, Low90, Low90, Low90, Low90, Low90, Low90, Low90,
+    Low90, Low90, Low90, Low90, LowA0, LowA0, LowA0, LowA0, LowA0, LowA0, LowA0, LowA0, LowA0,
+    LowA0, LowA0, LowA0, LowA0, LowA0, LowA0, LowA0, LowB0, LowB0, LowB0, LowB0, LowB0, LowB0,
+    LowB0, LowB0, LowB0, LowB0, LowB0, LowB0, LowB0, LowB0, LowB0, LowB0, Stray, Stray, LeadC2,
+    LeadC2, LeadC2, LeadC2, LeadC2, LeadC2, LeadC2, LeadC2, LeadC2, LeadC2, LeadC2, LeadC2, LeadC2,
+    LeadC2, LeadC2, LeadC2, LeadC2, LeadC2, LeadC2, LeadC2, LeadC2, LeadC2, LeadC2, LeadC2, LeadC2,
+    LeadC2, LeadC2, LeadC2, LeadC2, LeadC2, LeadE0, LeadE1, LeadE1, LeadE1, LeadE1, LeadE1, LeadE1,
+    LeadE1, LeadE1, LeadE1, LeadE1, LeadE1, LeadE1, LeadEd, LeadEe, LeadEe, LeadF0, LeadF1, LeadF1,
+    LeadF1, LeadF4, LeadF5, LeadF5, LeadF5, LeadF5, LeadF5, LeadF5, LeadF5, LeadF5, LeadF5, LeadF5,
+    LeadF5,
+];
+
+/// The state behind a byte, by the state before it and by the byte's class; the last column is
+/// no class's, and makes a row 16 long.
+static NEXT: [[State; 16]; 16] = [
+    [
+        Between, Refused, Refused, Refused, Refused, Refused, OneMore, BehindE0, TwoMore, BehindEd,
+        TwoMore, BehindF0, BehindF1, BehindF4, BehindF5, Refused,
+    ],
+    [
+        Between, Refused, Refused, Refused, Refused, Refused, OneMore, BehindE0, TwoMore,
+        HighThenEd, TwoMore, BehindF0, BehindF1, BehindF4, BehindF5, Refused,
+    ],
+    [
+        Refused, Between, Between, Between, Between, Refused, Refused, Refused, Refused, Refused,
+        Refused, Refused, Refused, Refused, Refused, Refused,
+    ],
+    [
+        Refused, OneMore, OneMore, OneMore, OneMore, Refused, Refused, Refused, Refused, Refused,
+        Refused, Refused, Refused, Refused, Refused, Refused,
+    ],
+    [
+        Refused, BadThird, BadThird, OneMore, OneMore, Refused, Refused, Refused, Refused, Refused,
+        Refused, Refused, Refused, Refused, Refused, Refused,
+    ],
+    [
+        Refused, OneMore, OneMore, LastOfHigh, OneMore, Refused, Refused, Refused, Refused,
+        Refused, Refused, Refused, Refused, Refused, Refused, Refused,
+    ],
+    [
+        Refused, OneMore, OneMore, LastOfHigh, BadThird, Refused, Refused, Refused, Refused,
+        Refused, Refused, Refused, Refused, Refused, Refused, Refused,
+    ],
+    [
+        Refused, BehindHigh, BehindHigh, BehindHigh, BehindHigh, Refused, Refused, Refused,
+        Refused, Refused, Refused, Refused, Refused, Refused, Refused, Refused,
+    ],
+    [
+        Refused, BadLastTwo, TwoMore, TwoMore, TwoMore, Refused, Refused, Refused, Refused,
+        Refused, Refused, Refused, Refused, Refused, Refused, Refused,
+    ],
+    [
+        Refused, TwoMore, TwoMore, TwoMore, TwoMore, Refused, Refused, Refused, Refused, Refused,
+        Refused, Refused, Refused, Refused, Refused, Refused,
+    ],
+    [
+        Refused, TwoMore, BadLastTwo, BadLastTwo, BadLastTwo, Refused, Refused, Refused, Refused,
+        Refused, Refused, Refused, Refused, Refused, Refused, Refused,
+    ],
+    [
+        Refused, BadLastTwo, BadLastTwo, BadLastTwo, BadLastTwo, Refused, Refused, Refused,
+        Refused, Refused, Refused, Refused, Refused, Refused, Refused, Refused,
+    ],
+    [
+        Refused, BadFourth, BadFourth, BadFourth, BadFourth, Refused, Refused, Refused, Refused,
+        Refused, Refused, Refused, Refused, Refused, Refused, Refused,
+    ],
+    [
+        Refused, Refused, Refused, Refused, Refused, Refused, Refused, Refused, Refused, Refused,
+        Refused, Refused, Refused, Refused, Refused, Refused,
+    ],
+    [
+        Refused, Refused, Refused, Refused, Refused, Refused, Refused, Refused, Refused, Refused,
+        Refused, Refused, Refused, Refused, Refused, Refused,
+    ],
+    [
+        Refused, Refused, Refused, Refused, Refused, Refused, Refused, Refused, Refused, Refused,
+        Refused, Refused, Refused, Refused, Refused, Refused,
+    ],
+];
