@@ -1,4 +1,3 @@
-pub mod FirstFault
 pub mod LossyLoops
 pub mod InPlace
 pub mod FirstUnits

@@ -12,7 +12,7 @@ ghost use Rattle.platform_str.specs.PartLaws.{windows_parts};
 use crate::join::push_wtf8;
 use crate::platform::{Platform, Windows};
 use std::alloc::{AllocError, Allocator, Global};
-use wtf8_core::{CodePoints, EncodingError, encode_wide};
+use wtf8_core::{Checker, EncodingError, encode_wide};
 
 /// A borrowed string of Windows.
 pub type OsStr<'a> = crate::OsStr<'a, Windows>;
@@ -61,12 +61,9 @@ impl Platform for Windows {
     ghost parts = { windows_parts };
 
     fn check(bytes: &[u8]) -> Result<(), EncodingError> {
-        for item in CodePoints::new(bytes) {
-            if let Err(fault) = item {
-                return Err(fault);
-            }
-        }
-        Ok(())
+        let mut checker = Checker::new();
+        checker.feed(bytes)?;
+        checker.finish()
     }
 
     fn is_io_safe(bytes: &[u8]) -> bool {
