@@ -9,8 +9,14 @@ pub mod FirstErr
 pub mod Complete
 pub mod UnitsLemmas
 pub mod Characters
+pub mod Below
 pub mod TableEntries
 pub mod TableSteps
+pub mod LedForms
+pub mod Wholes
+pub mod Fronts
+pub mod Lanes
+pub mod PairBits
 pub mod Fed
 pub mod Cuts
 pub mod Utf8Lemmas

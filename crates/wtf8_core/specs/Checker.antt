@@ -29,6 +29,11 @@ is_between Between = true
 is_between BehindHigh = true
 is_between s = false
 
+-- whether that, and no high surrogate stands directly before
+abbrev pub is_plain : State → Bool
+is_plain Between = true
+is_plain s = false
+
 -- open sequences: whether a high surrogate stands before, how many continuations are needed and how many are missing, and between what the value so far lies
 pub record Row : Type 0 where
   pub high : Bool

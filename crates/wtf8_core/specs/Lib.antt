@@ -19,6 +19,9 @@ pub mod Runs
 pub mod Boundary
 pub mod Pieces
 pub mod Table
+pub mod Neighbours
+pub mod PairBits
+pub mod SpelledFront
 pub mod Checker
 pub mod Utf8
 pub mod Lossy

@@ -1,18 +1,19 @@
 //! The check of bytes that come in pieces.
-ghost use Rattle.std.specs.Prelude.{◌≡◌, ℕ, ◌<◌, ◌++◌, List, [], length, IsTrue, MatchResult};
-ghost use Rattle.std.specs.List.{All};
-ghost use Rattle.wtf8_core.specs.Checker.{Stands, StandsFor, IsFaulty, OnlyEnds, HasFirstFault, joined_bits, fault_at, is_between};
+ghost use Rattle.std.specs.Prelude.{◌≡◌, ℕ, ◌∷◌, ◌++◌, List, [], MatchResult};
+ghost use Rattle.wtf8_core.specs.Checker.{Stands, StandsFor, IsFaulty, OnlyEnds, HasFirstFault, joined_bits, fault_at, is_between, is_plain};
 ghost use Rattle.wtf8_core.specs.Wtf8.{IsWtf8};
+ghost use Rattle.wtf8_core.specs.declared.table.State.TheVariants.{Between};
 
 use crate::byte::is_continuation;
 use crate::fault::EncodingError;
+use crate::fronts::{front_of, is_behind_high};
 use crate::table::{State, class_at, next_at};
 use std::marker::Model;
-use std::simd::prelude::*;
 
 /// Whether bytes that come in pieces are WTF-8, or their first fault.
 ///
-/// It asks a table byte by byte, holds a few numbers and takes no memory. Its answers are those
+/// It asks a table byte by byte, and where no sequence is open goes over many bytes at once by
+/// vectors. It holds a few numbers and takes no memory. Its answers are those
 /// for the pieces joined: [`feed`](Checker::feed) names their first fault as soon as it is there,
 /// and [`finish`](Checker::finish) says whether they may end there.
 ///
@@ -63,7 +64,7 @@ impl Checker {
         if let Some(fault) = self.fault {
             return Err(fault);
         }
-        match read_blocks(self.state, self.bits, piece) {
+        match read_piece(self.state, self.bits, piece) {
             Ok((state, bits)) => {
                 self.state = state;
                 self.bits = bits;
@@ -126,57 +127,80 @@ fn is_between(state: State) -> bool
     matches!(state, State::Between | State::BehindHigh)
 }
 
-/// The state and the bits behind more bytes.
+/// Whether no sequence is open and no high surrogate stands directly before.
 #[inline(always)]
-fn read(state: State, bits: u32, bytes: &[u8]) -> Result<(State, u32), EncodingError>
+fn is_plain(state: State) -> bool
+    ensures { result ≡ is_plain state }
+{
+    matches!(state, State::Between)
+}
+
+/// The state and the bits behind one more byte, or its fault.
+#[inline(always)]
+fn read_byte(state: State, bits: u32, byte: u8) -> Result<(State, u32), EncodingError>
+    ensures { (fed : List ℕ) → Stands state bits fed → MatchResult result (λ r. Stands r.0 r.1 (fed ++ byte ∷ [])) (λ fault. IsFaulty (fed ++ byte ∷ []) fault) }
+{
+    let next = next_at(state, class_at(byte));
+    let joined = joined_bits(bits, byte);
+    if let State::Refused = next {
+        return Err(fault_at(state, joined, byte));
+    }
+    Ok((next, joined))
+}
+
+/// The same behind more bytes, one by one.
+#[inline(always)]
+fn read_bytes(state: State, bits: u32, bytes: &[u8]) -> Result<(State, u32), EncodingError>
     ensures { (fed : List ℕ) → Stands state bits fed → MatchResult result (λ r. Stands r.0 r.1 (fed ++ bytes.now)) (λ fault. IsFaulty (fed ++ bytes.now) fault) }
 {
     let mut state = state;
     let mut bits = bits;
     for byte in bytes {
-        let next = next_at(state, class_at(*byte));
-        bits = joined_bits(bits, *byte);
-        if let State::Refused = next {
-            return Err(fault_at(state, bits, *byte));
+        match read_byte(state, bits, *byte) {
+            Ok((next, joined)) => {
+                state = next;
+                bits = joined;
+            }
+            Err(fault) => return Err(fault),
         }
-        state = next;
     }
     Ok((state, bits))
 }
 
-/// Whether 32 bytes are all below 80.
+/// The same where no sequence is open and no high surrogate stands directly before: a front that
+/// is WTF-8 is gone over at once.
 #[inline(always)]
-fn is_ascii(bytes: &[u8]) -> bool
-    requires { length bytes.now ≡ 32 }
-    ensures { IsTrue result → All (λ b. b < 128) bytes.now }
+fn read_between(bits: u32, bytes: &[u8]) -> Result<(State, u32), EncodingError>
+    ensures { (fed : List ℕ) → Stands Between bits fed → MatchResult result (λ r. Stands r.0 r.1 (fed ++ bytes.now)) (λ fault. IsFaulty (fed ++ bytes.now) fault) }
 {
-    u8x32::from_slice(bytes)
-        .simd_ge(u8x32::splat(0x80))
-        .to_bitmask()
-        == 0
+    let at = front_of(bytes, true);
+    let (_, rest) = bytes.split_at(at);
+    if is_behind_high(bytes, at) {
+        read_bytes(State::BehindHigh, bits, rest)
+    } else {
+        read_bytes(State::Between, bits, rest)
+    }
 }
 
-/// The same, going over 32 bytes at once where they are ASCII and no sequence is open.
-fn read_blocks(state: State, bits: u32, bytes: &[u8]) -> Result<(State, u32), EncodingError>
-    ensures { (fed : List ℕ) → Stands state bits fed → MatchResult result (λ r. Stands r.0 r.1 (fed ++ bytes.now)) (λ fault. IsFaulty (fed ++ bytes.now) fault) }
+/// The same wherever the bytes begin.
+fn read_piece(state: State, bits: u32, piece: &[u8]) -> Result<(State, u32), EncodingError>
+    ensures { (fed : List ℕ) → Stands state bits fed → MatchResult result (λ r. Stands r.0 r.1 (fed ++ piece.now)) (λ fault. IsFaulty (fed ++ piece.now) fault) }
 {
     let mut state = state;
     let mut bits = bits;
-    let mut rest = bytes;
-    while rest.len() >= 32 {
-        let (block, behind) = rest.split_at(32);
-        if is_between(state) && is_ascii(block) {
-            state = State::Between;
-        } else {
-            match read(state, bits, block) {
-                Ok((next, joined)) => {
-                    state = next;
-                    bits = joined;
-                }
-                Err(fault) => return Err(fault),
+    let mut rest = piece;
+    while !is_plain(state) {
+        let Some((first, behind)) = rest.split_first() else {
+            return Ok((state, bits));
+        };
+        match read_byte(state, bits, *first) {
+            Ok((next, joined)) => {
+                state = next;
+                bits = joined;
             }
+            Err(fault) => return Err(fault),
         }
         rest = behind;
     }
-    read(state, bits, rest)
+    read_between(bits, rest)
 }

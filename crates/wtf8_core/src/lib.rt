@@ -15,6 +15,7 @@
 //! WTF-8 encoding for surrogates. All lengths and places are numbers of bytes.
 #![tactic(auto)]
 
+mod blocks;
 mod byte;
 mod character;
 mod checker;
@@ -22,7 +23,9 @@ mod code_points;
 mod decoder;
 mod encoder;
 mod fault;
+mod fronts;
 mod halves;
+mod lanes;
 pub mod laws;
 mod surrogate;
 mod table;

@@ -7,7 +7,7 @@ use Class::*;
 use State::*;
 
 /// What stands between the last whole form and the next byte: nothing, or an open sequence.
-#[derive(Clone, Copy, PartialEq, Eq)]
+#[derive(Clone, Copy)]
 pub(crate) enum State {
     /// Nothing, and no high surrogate directly before.
     Between,

@@ -125,7 +125,8 @@ item_of_refused p refused rest (Utf8 i j) s = absurd s
 pub items_of_fault : (p : ℕ) (r : List ℕ) (f : EncodingError) → BeginsFault p r f → items_behind 0 (is_high p) r ≡ Err f ∷ []
 items_of_fault p r f s = ap (items_behind 0 (is_high p)) s.is ∙ item_of_refused p s.refused s.rest f s.refusal
 
-behind_zero : (cs : List ℕ) → IsPairedFree cs → IsPairedFree (0 ∷ cs)
+-- what begins nothing may stand before any code points
+pub behind_zero : (cs : List ℕ) → IsPairedFree cs → IsPairedFree (0 ∷ cs)
 behind_zero [] f = (tt, f)
 behind_zero (c ∷ cs) f = ((λ h l. omega (arith, h.0)), f)
 

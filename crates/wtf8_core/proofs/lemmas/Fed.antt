@@ -1,15 +1,17 @@
 -- Pieces, one behind the other.
-use Rattle.std.proofs.Common.{◌≡◌, ◌≢◌, inl, inr, ⊎_elim, ℕ, zero, suc, ◌+◌, ◌<◌, Bool, true, false, List, [], ◌∷◌, ◌++◌, length, take, drop, get_or, Option, None, refl, sym, ap, ◌∙◌, subst, arith, append_assoc}
+use Rattle.std.proofs.Common.{◌≡◌, ◌≢◌, inl, inr, ⊎_elim, ℕ, ◌+◌, ◌<◌, Bool, true, false, List, [], ◌∷◌, ◌++◌, length, take, drop, get_or, take-append-drop, Option, None, refl, sym, ap, ◌∙◌, subst, arith, append_assoc}
 use Rattle.std.proofs.lemmas.List.{append-nil}
-use Rattle.std.specs.List.{AllByRecursion}
 use Rattle.std.proofs.lemmas.Grind.{common_steps}
 use Rattle.wtf8_core.specs.Wtf8.{IsWtf8, Spells, last_behind}
 use Rattle.wtf8_core.specs.Fault.{IsShort, IsRefused}
 use Rattle.wtf8_core.specs.Table.{class_at, next_at}
-use Rattle.wtf8_core.specs.Checker.{Row, rows, SomeRow, IsOpen, Stands, IsFaulty, OnlyEnds, HasFirstFault, joined_bits, fault_at, Progress, progress, StandsFor, is_between}
-use Rattle.wtf8_core.specs.Surrogate.{is_high}
+use Rattle.wtf8_core.specs.Checker.{Row, rows, SomeRow, IsOpen, IsOpenIn, Stands, IsFaulty, OnlyEnds, HasFirstFault, joined_bits, fault_at, Progress, progress, StandsFor, is_between}
+use Rattle.wtf8_core.specs.Surrogate.{IsHigh, is_high}
+use Rattle.wtf8_core.specs.SpelledFront.{IsSpelledFront}
+use Rattle.wtf8_core.proofs.lemmas.Ranges.{in_range, in_range-false, not_in_range, range_cases}
+use Rattle.wtf8_core.proofs.lemmas.Fronts.{spelled_with_front, ends_high}
 use Rattle.wtf8_core.proofs.lemmas.Complete.{never_both, one_fault}
-use Rattle.wtf8_core.proofs.lemmas.TableSteps.{goes, ascii_goes}
+use Rattle.wtf8_core.proofs.lemmas.TableSteps.{goes}
 use Rattle.wtf8_core.specs.declared.fault.EncodingError.{EncodingError}
 use Rattle.wtf8_core.specs.declared.fault.EncodingError.TheVariants.{Byte, CodePoint, End, Utf8}
 use Rattle.wtf8_core.specs.declared.table.State.{State}
@@ -77,52 +79,70 @@ only_ends s bits b m f g =
     (λ h. let e = ends s bits b h m in (one_fault b g.0 e.0 f End g.1 e.1).1)
     (cases_Bool (is_between s))
 
-any_bits : (bits others : ℕ) (b : List ℕ) → Stands Between bits b → Stands Between others b
-any_bits bits others b m = record { code_points = m.code_points; before = m.before; open_bytes = m.open_bytes; joined = m.joined; spelled = m.spelled; opened = m.opened }
-
--- one ASCII byte behind a whole form
-one_ascii : (s : State) (bits : ℕ) (b : List ℕ) (x : ℕ) → is_between s ≡ true → x < 128 → Stands s bits b → Stands Between bits (b ++ x ∷ [])
-one_ascii s bits b x h l m = any_bits _ bits _ (ascii_goes s bits b x h l m)
-
-pub skips : (s : State) (bits : ℕ) (b p : List ℕ) → is_between s ≡ true → AllByRecursion (λ x. x < 128) p → Stands s bits b → 0 < length p → Stands Between bits (b ++ p)
-skips s bits b [] h a m l = absurd (omega arith)
-skips s bits b (x ∷ []) h a m l = one_ascii s bits b x h a.0 m
-skips s bits b (x ∷ y ∷ p) h a m l =
-    subst (Stands Between bits) (append_assoc b (x ∷ []) (y ∷ p)) (skips Between bits (b ++ x ∷ []) (y ∷ p) refl a.1 (one_ascii s bits b x h a.0 m) (omega arith))
-
-take_drop : (n : ℕ) (xs : List ℕ) → take n xs ++ drop n xs ≡ xs
-take_drop zero xs = refl
-take_drop (suc n) [] = refl
-take_drop (suc n) (x ∷ xs) = ap (λ l. x ∷ l) (take_drop n xs)
-
-take_one : (i : ℕ) (xs : List ℕ) → i < length xs → take (i + 1) xs ≡ take i xs ++ get_or xs i 0 ∷ []
-take_one i xs h = grind (arith, common_steps)
-
-more : (b xs : List ℕ) (i : ℕ) → i < length xs → (b ++ take i xs) ++ get_or xs i 0 ∷ [] ≡ b ++ take (i + 1) xs
-more b xs i h = append_assoc b (take i xs) (get_or xs i 0 ∷ []) ∙ ap (λ l. b ++ l) (sym (take_one i xs h))
-
-pub read_on : (s : State) (bits : ℕ) (class : Class) (t : State) (joined : ℕ) (b xs : List ℕ) (i : ℕ) → i < length xs → get_or xs i 0 < 256 → Stands s bits (b ++ take i xs)
-    → class ≡ class_at (get_or xs i 0) → t ≡ next_at s class → joined ≡ joined_bits bits (get_or xs i 0) → t ≢ Refused → Stands t joined (b ++ take (i + 1) xs)
-read_on s bits class t joined b xs i l v m e f g n =
-    let x = get_or xs i 0 in
+-- one more byte
+pub read_on : (s : State) (bits : ℕ) (class : Class) (t : State) (joined : ℕ) (b : List ℕ) (x : ℕ) → x < 256 → Stands s bits b
+    → class ≡ class_at x → t ≡ next_at s class → joined ≡ joined_bits bits x → t ≢ Refused → Stands t joined (b ++ x ∷ [])
+read_on s bits class t joined b x v m e f g n =
     let k : t ≡ next_at s (class_at x) = f ∙ ap (next_at s) e in
-    let o = (goes s bits (b ++ take i xs) x v m).on (λ z. n (k ∙ z)) in
-    subst (Stands t joined) (more b xs i l) (subst (λ z. Stands z joined ((b ++ take i xs) ++ x ∷ [])) (sym k) (subst (λ z. Stands (next_at s (class_at x)) z ((b ++ take i xs) ++ x ∷ [])) (sym g) o))
+    let o = (goes s bits b x v m).on (λ z. n (k ∙ z)) in
+    subst (λ z. Stands z joined (b ++ x ∷ [])) (sym k) (subst (λ z. Stands (next_at s (class_at x)) z (b ++ x ∷ [])) (sym g) o)
 
-pub read_off : (s : State) (bits : ℕ) (class : Class) (t : State) (joined : ℕ) (fault : EncodingError) (b xs : List ℕ) (i : ℕ) → i < length xs → get_or xs i 0 < 256 → Stands s bits (b ++ take i xs)
-    → class ≡ class_at (get_or xs i 0) → t ≡ next_at s class → joined ≡ joined_bits bits (get_or xs i 0) → t ≡ Refused → fault ≡ fault_at s joined (get_or xs i 0) → IsFaulty (b ++ xs) fault
-read_off s bits class t joined fault b xs i l v m e f g n h =
-    let x = get_or xs i 0 in
+pub read_off : (s : State) (bits : ℕ) (class : Class) (t : State) (joined : ℕ) (fault : EncodingError) (b : List ℕ) (x : ℕ) → x < 256 → Stands s bits b
+    → class ≡ class_at x → t ≡ next_at s class → joined ≡ joined_bits bits x → t ≡ Refused → fault ≡ fault_at s joined x → IsFaulty (b ++ x ∷ []) fault
+read_off s bits class t joined fault b x v m e f g n h =
     let k : t ≡ next_at s (class_at x) = f ∙ ap (next_at s) e in
-    let o = (goes s bits (b ++ take i xs) x v m).off (sym k ∙ n) in
-    let p = extends _ (drop (i + 1) xs) _ (subst (λ z. IsFaulty z (fault_at s (joined_bits bits x) x)) (more b xs i l) o) in
-    let q : (b ++ take (i + 1) xs) ++ drop (i + 1) xs ≡ b ++ xs = append_assoc b (take (i + 1) xs) (drop (i + 1) xs) ∙ ap (λ l. b ++ l) (take_drop (i + 1) xs) in
-    subst (λ z. IsFaulty z fault) q (subst (IsFaulty _) (sym (h ∙ ap (λ z. fault_at s z x) g)) p)
+    let o = (goes s bits b x v m).off (sym k ∙ n) in
+    subst (IsFaulty (b ++ x ∷ [])) (sym (h ∙ ap (λ z. fault_at s z x) g)) o
 
-pub cut : (xs front rest block behind : List ℕ) (n : ℕ) → xs ≡ front ++ rest → block ≡ take n rest → behind ≡ drop n rest → xs ≡ (front ++ block) ++ behind
-cut xs front rest block behind n e f g =
-    let h : block ++ behind ≡ rest = ap (λ l. l ++ behind) f ∙ ap (λ l. take n rest ++ l) g ∙ take_drop n rest in
-    e ∙ ap (λ l. front ++ l) (sym h) ∙ sym (append_assoc front block behind)
+-- the bytes up to a place, and one more
+pub one_more_read : (b xs : List ℕ) (i : ℕ) → i < length xs → (b ++ take i xs) ++ get_or xs i 0 ∷ [] ≡ b ++ take (i + 1) xs
+one_more_read b xs i h = append_assoc b (take i xs) (get_or xs i 0 ∷ []) ∙ ap (λ l. b ++ l) (sym (take_one i xs h))
+  where
+    take_one : (i : ℕ) (xs : List ℕ) → i < length xs → take (i + 1) xs ≡ take i xs ++ get_or xs i 0 ∷ []
+    take_one i xs h = grind (arith, common_steps)
+
+-- a fault at a place is one of all the bytes
+pub read_fault : (b xs : List ℕ) (i : ℕ) (f : EncodingError) → i < length xs → IsFaulty ((b ++ take i xs) ++ get_or xs i 0 ∷ []) f → IsFaulty (b ++ xs) f
+read_fault b xs i f l h =
+    let q : (b ++ take (i + 1) xs) ++ drop (i + 1) xs ≡ b ++ xs = append_assoc b (take (i + 1) xs) (drop (i + 1) xs) ∙ ap (λ l. b ++ l) (take-append-drop (i + 1) xs) in
+    subst (λ z. IsFaulty z f) q (extends _ (drop (i + 1) xs) f (subst (λ z. IsFaulty z f) (one_more_read b xs i l) h))
+
+-- the bytes up to a place, and those from it on
+pub with_front : (b piece rest : List ℕ) (at : ℕ) → rest ≡ drop at piece → (b ++ take at piece) ++ rest ≡ b ++ piece
+with_front b piece rest at e = append_assoc b (take at piece) rest ∙ ap (λ l. b ++ l) (ap (λ r. take at piece ++ r) e ∙ take-append-drop at piece)
+
+-- a front that is gone over at once
+module _ (bits : ℕ) (b piece : List ℕ) (at : ℕ) (f : IsSpelledFront true piece at) (m : Stands Between bits b) where
+  same_before : m.before ≡ b
+  same_before = sym (m.joined ∙ ap (λ z. m.before ++ z) m.opened.0 ∙ append-nil m.before)
+
+  before : Spells b m.code_points
+  before = subst (λ z. Spells z m.code_points) same_before m.spelled
+
+  not_behind : IsHigh (last_behind 0 m.code_points) → ⊥
+  not_behind = in_range-false 0xD800 0xDBFF _ m.opened.1
+
+  same_last : is_high (last_behind 0 (m.code_points ++ f.code_points)) ≡ is_high (last_behind 0 f.code_points)
+  same_last =
+      let r = ends_high true b m.code_points piece at before not_behind f in
+      ⊎_elim (λ h. in_range 0xD800 0xDBFF _ (r.1 h) ∙ sym (in_range 0xD800 0xDBFF _ h)) (λ n. not_in_range 0xD800 0xDBFF _ (λ h. n (r.0 h)) ∙ sym (not_in_range 0xD800 0xDBFF _ n))
+      (range_cases 0xD800 0xDBFF (last_behind 0 f.code_points))
+
+  gone : (s : State) (h : Bool) → (is_high (last_behind 0 f.code_points) ≡ h) → ((k : Bool) → k ≡ h → IsOpenIn s k bits []) → Stands s bits (b ++ take at piece)
+  gone s h e o = record {
+    code_points = m.code_points ++ f.code_points;
+    before = b ++ take at piece;
+    open_bytes = [];
+    joined = sym (append-nil (b ++ take at piece));
+    spelled = spelled_with_front true b m.code_points piece at before not_behind f;
+    opened = o _ (same_last ∙ e);
+  }
+
+  pub gone_between : is_high (last_behind 0 f.code_points) ≡ false → Stands Between bits (b ++ take at piece)
+  gone_between e = gone Between false e (λ k h. (refl, h))
+
+  pub gone_behind_high : is_high (last_behind 0 f.code_points) ≡ true → Stands BehindHigh bits (b ++ take at piece)
+  gone_behind_high e = gone BehindHigh true e (λ k h. (refl, h))
 
 pub open_progress : (s : State) (bits : ℕ) (f : Option EncodingError) (p : Progress) (b : List ℕ) → progress s bits f ≡ p → f ≡ None → StandsFor p b → Stands s bits b
 open_progress s bits f p b e n h = subst (λ z. StandsFor (progress s bits z) b) n (subst (λ z. StandsFor z b) (sym e) h)

@@ -1,24 +1,16 @@
 -- What the tables say, by a test over all of their entries.
-use Rattle.std.proofs.Common.{◌≡◌, inl, inr, ℕ, zero, suc, ◌+◌, ◌-◌, ◌*◌, ◌<◌, ◌≤◌, Bool, true, false, ltb, leb, eqb, ◌&&◌, ◌||◌, cond, not, List, [], ◌∷◌, length, get_or, refl, sym, ◌∙◌, subst, arith}
-use Rattle.std.proofs.lemmas.Bool.{and_parts, leb-true, eqb-true, cases_lt, le-leb, cond-true}
+use Rattle.std.proofs.Common.{◌≡◌, ℕ, zero, suc, ◌+◌, ◌-◌, ◌*◌, ◌<◌, ◌≤◌, Bool, true, false, ltb, leb, eqb, ◌&&◌, ◌||◌, cond, not, List, [], ◌∷◌, length, get_or, refl, sym, ◌∙◌, arith}
+use Rattle.std.proofs.lemmas.Bool.{and_parts, leb-true, eqb-true, le-leb, cond-true}
 use mathlib.Core.Bool.{beq}
+use Rattle.wtf8_core.proofs.lemmas.Below.{all_below, each_below}
 use Rattle.wtf8_core.specs.Byte.{needed_continuations}
 use Rattle.wtf8_core.specs.Reader.{lead_bits, least_value}
 use Rattle.wtf8_core.specs.Table.{class_at, next_at}
-use Rattle.wtf8_core.specs.Checker.{Row, rows}
+use Rattle.wtf8_core.specs.Checker.{Row, rows, is_plain}
 use Rattle.wtf8_core.specs.declared.table.State.{State}
 use Rattle.wtf8_core.specs.declared.table.State.TheVariants.{Between, BehindHigh, OneMore, TwoMore, BehindE0, BehindEd, HighThenEd, LastOfHigh, BehindF0, BehindF1, BehindF4, BehindF5, BadLastTwo, BadFourth, Refused, BadThird}
 use Rattle.wtf8_core.specs.declared.table.Class.{Class}
 use Rattle.wtf8_core.specs.declared.table.Class.TheVariants.{Ascii, Low80, Low90, LowA0, LowB0, Stray, LeadC2, LeadE0, LeadE1, LeadEd, LeadEe, LeadF0, LeadF1, LeadF4, LeadF5}
-
-abbrev all_below : (ℕ → Bool) → ℕ → Bool
-all_below test zero = true
-all_below test (suc n) = test n && all_below test n
-
-each_below : (test : ℕ → Bool) (n k : ℕ) → all_below test n ≡ true → k < n → test k ≡ true
-each_below test zero k h l = absurd (omega arith)
-each_below test (suc n) k h l =
-    elim (cases_lt k n) [ inl a ↦ each_below test n k (and_parts (test n) (all_below test n) h).1 a | inr a ↦ let e : n ≡ k = omega arith in subst (λ x. test x ≡ true) e (and_parts (test n) (all_below test n) h).0 ]
 
 -- the first and the last byte of each class
 pub first_of : Class → ℕ
@@ -105,10 +97,6 @@ is_refused s = false
 pub is_refused-true : (s : State) → is_refused s ≡ true → s ≡ Refused
 is_refused-true Refused e = refl
 is_refused-true s e = cc
-
-abbrev pub is_plain : State → Bool
-is_plain Between = true
-is_plain s = false
 
 pub is_plain-true : (s : State) → is_plain s ≡ true → s ≡ Between
 is_plain-true Between e = refl

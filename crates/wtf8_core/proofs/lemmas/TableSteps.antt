@@ -12,11 +12,11 @@ use Rattle.wtf8_core.specs.Wtf8.{Spells, IsPairedFree, last_behind}
 use Rattle.wtf8_core.specs.Fault.{IsBegun, IsShape, shape_value, BeginsFault}
 use Rattle.wtf8_core.specs.Reader.{lead_bits, least_value}
 use Rattle.wtf8_core.specs.Table.{class_at, next_at}
-use Rattle.wtf8_core.specs.Checker.{Row, rows, SomeRow, IsOpen, IsOpenIn, Stands, IsFaulty, kept_bits, joined_bits, fault_at, is_between}
+use Rattle.wtf8_core.specs.Checker.{Row, rows, SomeRow, IsOpen, IsOpenIn, Stands, IsFaulty, kept_bits, joined_bits, fault_at, is_between, is_plain}
 use Rattle.wtf8_core.proofs.lemmas.Forms.{form_ascii, shape_is_form, no_form}
 use Rattle.wtf8_core.proofs.lemmas.Ranges.{in_range, in_range-true}
 use Rattle.wtf8_core.proofs.lemmas.Continuations.{Join}
-use Rattle.wtf8_core.proofs.lemmas.TableEntries.{IsClass, classed, IsPlaced, placed, first_of, last_of, some_row, all_rows_pass, are_continuations, no_continuations, begins, between_passes, least_behind, most_behind, goes_on, all_refused, all_accepted, open_passes, pass, is_refused, is_plain, is_behind_high, is_four, is_three, is_refused-true, is_plain-true, is_behind_high-true, is_four-true, is_three-true}
+use Rattle.wtf8_core.proofs.lemmas.TableEntries.{IsClass, classed, IsPlaced, placed, first_of, last_of, some_row, all_rows_pass, are_continuations, no_continuations, begins, between_passes, least_behind, most_behind, goes_on, all_refused, all_accepted, open_passes, pass, is_refused, is_behind_high, is_four, is_three, is_refused-true, is_plain-true, is_behind_high-true, is_four-true, is_three-true}
 use Rattle.wtf8_core.specs.declared.fault.EncodingError.{EncodingError}
 use Rattle.wtf8_core.specs.declared.fault.EncodingError.TheVariants.{Byte, CodePoint, End}
 use Rattle.wtf8_core.specs.declared.table.State.{State}
@@ -428,12 +428,3 @@ goes s bits b x u m =
     some_and_test (open_passes s (class_at x) (next_at s (class_at x))) (IsOpen (is_high (last_behind 0 m.code_points)) bits m.open_bytes) (Goes s bits b x (next_at s (class_at x))) (rows s) m.opened
     (pass s (class_at x))
     (λ r q e. open_goes s bits (next_at s (class_at x)) x (is_high (last_behind 0 m.code_points)) b m.code_points m.before m.open_bytes r u f q e)
-
-pub ascii_goes : (s : State) (bits : ℕ) (b : List ℕ) (x : ℕ) → is_between s ≡ true → x < 128 → Stands s bits b → Stands Between (joined_bits bits x) (b ++ x ∷ [])
-ascii_goes Between bits b x h l m =
-    (whole_goes Between bits Between x x false b m.code_points m.before [] (record { joined = m.joined ∙ ap (λ z. m.before ++ z) m.opened.0; spelled = m.spelled; high_is = m.opened.1 })
-    (sym (form_ascii x l)) (omega arith) (λ _ j. omega (arith, j.0)) (inl (refl, not_high x (inl (omega arith))))).on (λ e. cc)
-ascii_goes BehindHigh bits b x h l m =
-    (whole_goes BehindHigh bits Between x x true b m.code_points m.before [] (record { joined = m.joined ∙ ap (λ z. m.before ++ z) m.opened.0; spelled = m.spelled; high_is = m.opened.1 })
-    (sym (form_ascii x l)) (omega arith) (λ _ j. omega (arith, j.0)) (inl (refl, not_high x (inl (omega arith))))).on (λ e. cc)
-ascii_goes s bits b x h l m = cc

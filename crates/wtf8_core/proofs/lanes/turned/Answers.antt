@@ -1,0 +1,6 @@
+use Rattle.std.proofs.Common.{bit_xor}
+use Rattle.wtf8_core.proofs.lemmas.Lanes.{lane_with}
+use Rattle.wtf8_core.proofs.lanes.turned.Goals as goal
+
+pub returns : goal.returns
+returns c = lane_with bit_xor c.args.bytes c.args.value c.fits-bytes.0

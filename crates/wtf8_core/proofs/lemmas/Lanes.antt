@@ -1,0 +1,58 @@
+-- The operations on vectors, lane by lane.
+use Rattle.std.proofs.Common.{◌≡◌, ℕ, zero, suc, ◌+◌, ◌-◌, ◌%◌, ◌^◌, ◌<◌, Bool, true, false, cond, eqb, ltb, List, [], ◌∷◌, map, length, get_or, replicate, refl, sym, ap, ◌∙◌, arith, w8, Fits, eqb-true}
+use Rattle.std.proofs.lemmas.List.{length-map, get_or-map}
+use Rattle.std.proofs.lemmas.Simd.{Each1-get_or, get_or-zip2, get_or-replicate, tops_compared, zip2_splat, zip2_splat_left, length-sel_l, get_or-sel_l, mask_l-mod, bitmask_splat}
+use Rattle.std.proofs.lemmas.Bool.Decides.{nat_tests}
+use lib.Lanes.{zip2, sel_l, mask_l, top, Each1}
+
+-- an operator between a vector and one value
+pub lane_with : (f : ℕ → ℕ → ℕ) (xs : List ℕ) (y : ℕ) → length xs ≡ 64 → (i : ℕ) → i < 64 → get_or (zip2 f xs (replicate 64 y)) i 0 ≡ f (get_or xs i 0) y
+lane_with f xs y p i h = get_or-zip2 f xs (replicate 64 y) i 0 0 0 (omega (arith, p, h)) (omega (arith, h)) ∙ ap (f (get_or xs i 0)) (get_or-replicate 64 i y 0 h)
+
+-- the greater of two, less the second, is how far the first is above it
+lifted : (a b : ℕ) → a < 256 → b < 256 → (cond (ltb a b) b a + (2 ^ 8 - b)) % 2 ^ 8 ≡ a - b
+lifted a b l m = grind (arith, nat_tests)
+
+-- the greater of a lane and one value
+greater : (xs : List ℕ) (y : ℕ) → length xs ≡ 64 → (i : ℕ) → i < 64
+    → get_or (sel_l (map (top 7) (zip2 (λ a b. cond (ltb a b) 255 0) xs (replicate 64 y))) (replicate 64 y) xs) i 0 ≡ cond (ltb (get_or xs i 0) y) y (get_or xs i 0)
+greater xs y p i h =
+    let below : List Bool = map (λ x. ltb x y) xs in
+    let many : length below ≡ 64 = length-map xs (λ x. ltb x y) ∙ p in
+    rw (tops_compared w8 ltb xs (replicate 64 y), zip2_splat ltb xs 64 y p)
+    (get_or-sel_l below (replicate 64 y) xs i 0 (omega (arith, many, h)) (omega (arith, h)) (omega (arith, p, h))
+    ∙ rw (get_or-map (λ x. ltb x y) xs i 0 false (omega (arith, p, h)), get_or-replicate 64 i y 0 h) refl)
+
+length-greater : (xs : List ℕ) (y : ℕ) → length xs ≡ 64 → length (sel_l (map (top 7) (zip2 (λ a b. cond (ltb a b) 255 0) xs (replicate 64 y))) (replicate 64 y) xs) ≡ 64
+length-greater xs y p =
+    let below : List Bool = map (λ x. ltb x y) xs in
+    let many : length below ≡ 64 = length-map xs (λ x. ltb x y) ∙ p in
+    rw (tops_compared w8 ltb xs (replicate 64 y), zip2_splat ltb xs 64 y p) (length-sel_l below (replicate 64 y) xs many (many ∙ sym p) ∙ many)
+
+-- `saturating_sub` of one value
+pub lane_above : (xs : List ℕ) (y : ℕ) → length xs ≡ 64 → Each1 (Fits w8) xs → y < 256 → (i : ℕ) → i < 64
+    → get_or (zip2 (λ a b. (a + (2 ^ 8 - b)) % 2 ^ 8) (sel_l (map (top 7) (zip2 (λ a b. cond (ltb a b) 255 0) xs (replicate 64 y))) (replicate 64 y) xs) (replicate 64 y)) i 0 ≡ get_or xs i 0 - y
+lane_above xs y p fits u i h =
+    lane_with (λ a b. (a + (2 ^ 8 - b)) % 2 ^ 8) _ y (length-greater xs y p) i h
+    ∙ ap (λ g. (g + (2 ^ 8 - y)) % 2 ^ 8) (greater xs y p i h)
+    ∙ lifted (get_or xs i 0) y (Each1-get_or (Fits w8) xs i 0 (omega (arith, p, h)) fits).fits u
+
+-- a mask with no bit set
+none_set : (test : ℕ → Bool) (xs : List ℕ) → mask_l (map test xs) ≡ 0 → (i : ℕ) → i < length xs → test (get_or xs i 0) ≡ false
+none_set test [] e i h = absurd (omega (arith, h))
+none_set test (x ∷ xs) e zero h = go (test x) refl (omega (arith, e))
+  where
+    go : (t : Bool) → test x ≡ t → ◌≡◌ {A = ℕ} (cond (test x) 1 0) 0 → test x ≡ false
+    go true p q = absurd (omega (arith, rw p at q))
+    go false p q = p
+none_set test (x ∷ xs) e (suc i) h = none_set test xs (omega (arith, e)) i (omega (arith, h))
+
+pub none_passes : (t : ℕ → ℕ → Bool) (xs : List ℕ) (y : ℕ) → length xs ≡ 64 → eqb (mask_l (map (top 7) (zip2 (λ a b. cond (t a b) 255 0) xs (replicate 64 y))) % 2 ^ 64) 0 ≡ true
+    → (i : ℕ) → i < 64 → t (get_or xs i 0) y ≡ false
+none_passes t xs y p e i h = none_set (λ x. t x y) xs (sym (bitmask_splat w8 t xs 64 y p (omega arith)) ∙ eqb-true _ _ e) i (omega (arith, p, h))
+
+pub none_passes_left : (t : ℕ → ℕ → Bool) (xs : List ℕ) (y : ℕ) → length xs ≡ 64 → eqb (mask_l (map (top 7) (zip2 (λ a b. cond (t a b) 255 0) (replicate 64 y) xs)) % 2 ^ 64) 0 ≡ true
+    → (i : ℕ) → i < 64 → t y (get_or xs i 0) ≡ false
+none_passes_left t xs y p e i h =
+    none_set (t y) xs (sym (mask_l-mod (map (t y) xs) 64 (omega (arith, length-map xs (t y), p)))
+    ∙ rw (tops_compared w8 t (replicate 64 y) xs, zip2_splat_left t y 64 xs p) at (eqb-true _ _ e)) i (omega (arith, p, h))

@@ -1,0 +1,44 @@
+-- WTF-8 by what a byte and the four before it are: where vectors look for it. No contract of another crate names these.
+use Rattle.std.specs.Prelude.{◌≡◌, ℕ, suc, ◌<◌, ◌≤◌, ◌⊎◌, List, slice_index}
+use Rattle.std.specs.Int.{IsInRange}
+use Rattle.wtf8_core.specs.Byte.{IsContinuation}
+use Rattle.wtf8_core.specs.Surrogate.{IsHigh}
+
+-- none of the last three bytes x, y and z leads a form that goes on behind them
+pub record IsClosed (x y z : ℕ) : Type 0 where
+  pub fourth : x < 0xF0
+  pub third : y < 0xE0
+  pub second : z < 0xC0
+
+-- one of them does
+abbrev pub GoesOn : ℕ → ℕ → ℕ → Type 0
+GoesOn x y z = (0xF0 ≤ x) ⊎ ((0xE0 ≤ y) ⊎ (0xC0 ≤ z))
+
+-- the byte b may follow a byte z, as far as the two tell
+pub record MayFollow (z b : ℕ) : Type 0 where
+  pub lead : 0xC0 ≤ z → IsInRange 0xC2 0xF4 z
+  pub three_long : z ≡ 0xE0 → 0xA0 ≤ b
+  pub four_long : z ≡ 0xF0 → 0x90 ≤ b
+  pub within : z ≡ 0xF4 → b < 0x90
+
+-- the byte b may follow w, x, y and z: it continues where a form goes on, begins a code point elsewhere, and makes no pair of surrogates
+pub record MayStand (w x y z b : ℕ) : Type 0 where
+  pub begins : IsClosed x y z → (b < 0x80) ⊎ (0xC0 ≤ b)
+  pub continues : GoesOn x y z → IsContinuation b
+  pub follows : MayFollow z b
+  pub unpaired : w ≡ 0xED → 0xA0 ≤ x → x < 0xB0 → z ≡ 0xED → b < 0xB0
+
+-- each of n bytes behind the first four may follow those before it
+abbrev pub AllMayStand : ℕ → List ℕ → Type 0
+AllMayStand n bs =
+    (i : ℕ) → i < n → MayStand (slice_index bs i) (slice_index bs (suc i)) (slice_index bs (suc (suc i))) (slice_index bs (suc (suc (suc i)))) (slice_index bs (suc (suc (suc (suc i)))))
+
+-- no surrogate begins among n bytes behind the first four
+abbrev pub AllPlain : ℕ → List ℕ → Type 0
+AllPlain n bs = (i : ℕ) → i < n → slice_index bs (suc (suc (suc i))) ≡ 0xED → slice_index bs (suc (suc (suc (suc i)))) < 0xA0
+
+-- behind the bytes x, y and z a code point begins, and the one before it, p, is a high surrogate exactly where they are its form
+pub record IsEdge (p x y z : ℕ) : Type 0 where
+  pub closed : IsClosed x y z
+  pub high : IsHigh p → (x ≡ 0xED) × (0xA0 ≤ y) × (y < 0xB0)
+  pub only_high : x ≡ 0xED → 0xA0 ≤ y → y < 0xB0 → IsHigh p

@@ -1,0 +1,153 @@
+//! What 64 lanes say of neighbouring bytes.
+ghost use Rattle.std.specs.Prelude.{◌≡◌, ◌≢◌, ℕ, ◌+◌, ◌-◌, ◌*◌, ◌/◌, ◌≤◌, ◌<◌, length, IsTrue, slice_index, bit_and, bit_or, bit_xor};
+ghost use Rattle.wtf8_core.specs.PairBits.{pair_bits, later_bit};
+
+use std::simd::prelude::*;
+
+// What can be wrong with a byte behind another, a bit each, as Keiser and Lemire have it
+// ("Validating UTF-8 in less than one instruction per byte"): it is where all three tables have its
+// bit. 01: a lead before no continuation; 02: a continuation behind ASCII; 04, 08 and 10: overlong
+// of two, three and four bytes, or a lead past F4; 20: past the last code point; 40: a surrogate;
+// 80: a continuation behind a continuation. Each table stands four times behind itself.
+
+/// By the high half of the first byte.
+const FIRST_HIGH: [u8; 64] = [
+    2, 2, 2, 2, 2, 2, 2, 2, 128, 128, 128, 128, 5, 1, 73, 49, 2, 2, 2, 2, 2, 2, 2, 2, 128, 128,
+    128, 128, 5, 1, 73, 49, 2, 2, 2, 2, 2, 2, 2, 2, 128, 128, 128, 128, 5, 1, 73, 49, 2, 2, 2, 2,
+    2, 2, 2, 2, 128, 128, 128, 128, 5, 1, 73, 49,
+];
+
+/// By its low half.
+const FIRST_LOW: [u8; 64] = [
+    159, 135, 131, 131, 163, 179, 179, 179, 179, 179, 179, 179, 179, 243, 179, 179, 159, 135, 131,
+    131, 163, 179, 179, 179, 179, 179, 179, 179, 179, 243, 179, 179, 159, 135, 131, 131, 163, 179,
+    179, 179, 179, 179, 179, 179, 179, 243, 179, 179, 159, 135, 131, 131, 163, 179, 179, 179, 179,
+    179, 179, 179, 179, 243, 179, 179,
+];
+
+/// By the high half of the second byte.
+const SECOND_HIGH: [u8; 64] = [
+    1, 1, 1, 1, 1, 1, 1, 1, 158, 174, 230, 230, 1, 1, 1, 1, 1, 1, 1, 1, 1, 1, 1, 1, 158, 174, 230,
+    230, 1, 1, 1, 1, 1, 1, 1, 1, 1, 1, 1, 1, 158, 174, 230, 230, 1, 1, 1, 1, 1, 1, 1, 1, 1, 1, 1,
+    1, 158, 174, 230, 230, 1, 1, 1, 1,
+];
+
+/// The 64 bytes from place `from` on.
+#[inline(always)]
+pub(crate) fn load(bytes: &[u8], from: usize) -> u8x64
+    requires { from + 64 ≤ length bytes.now }
+    ensures { (i : ℕ) → i < 64 → slice_index result i ≡ slice_index bytes.now (from + i) }
+{
+    u8x64::from_slice(&bytes[from..])
+}
+
+/// Each lane's high half.
+#[inline(always)]
+fn high_halves(bytes: u8x64) -> u8x64
+    ensures { (i : ℕ) → i < 64 → slice_index result i ≡ slice_index bytes i / 16 }
+{
+    bytes >> u8x64::splat(4)
+}
+
+/// Each lane's bits that the mask has.
+#[inline(always)]
+pub(crate) fn masked(bytes: u8x64, mask: u8) -> u8x64
+    ensures { (i : ℕ) → i < 64 → slice_index result i ≡ bit_and (slice_index bytes i) mask }
+{
+    bytes & u8x64::splat(mask)
+}
+
+/// Each lane with the bits of a value turned.
+#[inline(always)]
+pub(crate) fn turned(bytes: u8x64, value: u8) -> u8x64
+    ensures { (i : ℕ) → i < 64 → slice_index result i ≡ bit_xor (slice_index bytes i) value }
+{
+    bytes ^ u8x64::splat(value)
+}
+
+/// The bits of both.
+#[inline(always)]
+pub(crate) fn joined(a: u8x64, b: u8x64) -> u8x64
+    ensures { (i : ℕ) → i < 64 → slice_index result i ≡ bit_or (slice_index a i) (slice_index b i) }
+{
+    a | b
+}
+
+/// The bits that both have.
+#[inline(always)]
+fn common(a: u8x64, b: u8x64) -> u8x64
+    ensures { (i : ℕ) → i < 64 → slice_index result i ≡ bit_and (slice_index a i) (slice_index b i) }
+{
+    a & b
+}
+
+/// The bits that one of the two has.
+#[inline(always)]
+pub(crate) fn apart(a: u8x64, b: u8x64) -> u8x64
+    ensures { (i : ℕ) → i < 64 → slice_index result i ≡ bit_xor (slice_index a i) (slice_index b i) }
+{
+    a ^ b
+}
+
+/// How far each lane is above a value, 0 where it is below.
+#[inline(always)]
+fn above(bytes: u8x64, value: u8) -> u8x64
+    ensures { (i : ℕ) → i < 64 → slice_index result i ≡ slice_index bytes i - value }
+{
+    bytes.saturating_sub(u8x64::splat(value))
+}
+
+/// The entries of a table, four copies of 16, at these places.
+#[inline(always)]
+fn entries(table: [u8; 64], places: u8x64) -> u8x64
+    requires copies { (i : ℕ) → i < 64 → (k : ℕ) → k < 16 → slice_index table (i / 16 * 16 + k) ≡ slice_index table k }
+    requires places { (i : ℕ) → i < 64 → slice_index places i < 16 }
+    ensures { (i : ℕ) → i < 64 → slice_index result i ≡ slice_index table (slice_index places i) }
+{
+    u8x64::from_array(table).swizzle_dyn_within::<16>(places)
+}
+
+/// What is wrong with each second byte behind its first.
+#[inline(always)]
+pub(crate) fn pair_bits(first: u8x64, second: u8x64) -> u8x64
+    ensures { (i : ℕ) → i < 64 → slice_index result i ≡ pair_bits (slice_index first i) (slice_index second i) }
+{
+    let by_high = entries(FIRST_HIGH, high_halves(first));
+    let by_low = entries(FIRST_LOW, masked(first, 15));
+    common(
+        common(by_high, by_low),
+        entries(SECOND_HIGH, high_halves(second)),
+    )
+}
+
+/// 128 where the byte three before leads four, or that two before leads three or four, else 0.
+#[inline(always)]
+pub(crate) fn later_bit(three: u8x64, two: u8x64) -> u8x64
+    ensures { (i : ℕ) → i < 64 → slice_index result i ≡ later_bit (slice_index three i) (slice_index two i) }
+{
+    masked(joined(above(three, 0x70), above(two, 0x60)), 0x80)
+}
+
+/// Whether all lanes are 0.
+#[inline(always)]
+pub(crate) fn are_zero(lanes: u8x64) -> bool
+    ensures { IsTrue result → (i : ℕ) → i < 64 → slice_index lanes i ≡ 0 }
+{
+    lanes.simd_ne(u8x64::splat(0)).to_bitmask() == 0
+}
+
+/// Whether no lane is 0.
+#[inline(always)]
+pub(crate) fn are_not_zero(lanes: u8x64) -> bool
+    ensures { IsTrue result → (i : ℕ) → i < 64 → slice_index lanes i ≢ 0 }
+{
+    lanes.simd_eq(u8x64::splat(0)).to_bitmask() == 0
+}
+
+/// Whether all lanes are below 80.
+#[inline(always)]
+pub(crate) fn are_ascii(lanes: u8x64) -> bool
+    ensures { IsTrue result → (i : ℕ) → i < 64 → slice_index lanes i < 0x80 }
+{
+    lanes.simd_ge(u8x64::splat(0x80)).to_bitmask() == 0
+}
