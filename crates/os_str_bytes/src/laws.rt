@@ -1,5 +1,6 @@
 //! The laws of every platform and of raw strings: each is the contract of a function that does
-//! nothing. Those of bytes, code points and units stand in [`crate::wtf8_laws`].
+//! nothing. Those of bytes, code points and units stand in [`crate::wtf8_laws`]; the one that
+//! says what the order of Windows strings is, [`order`], stands here too.
 ghost use Rattle.std.specs.Prelude.{◌≡◌, ◌↔◌, IsTrue, Some};
 ghost use Rattle.std.specs.Cmp.Lexicographic.{slice_cmp};
 ghost use Rattle.std.specs.Ordering.{nat_cmp};
@@ -16,6 +17,7 @@ pub use os_str_ext::laws::{
     texts,
 };
 use std::alloc::Allocator;
+pub use wtf8_core::laws::order;
 
 /// What the platforms are. Unix strings are any bytes, which are their units, and none are
 /// refused; Windows strings are WTF-8, their units any 16-bit units (RFC 2781); wasm strings are

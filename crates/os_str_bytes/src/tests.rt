@@ -1,6 +1,7 @@
 //! Raw strings, boxes and cows at fixed bytes, on all three platforms.
 mod cuts;
 mod headline;
+mod names;
 mod order;
 mod searches;
 mod views;

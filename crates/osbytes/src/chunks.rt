@@ -1,6 +1,6 @@
 //! The command `chunks`: the bytes of a string to its chunks.
 ghost use Rattle.std.specs.Prelude.{◌≡◌, ◌⊎◌, IfOk, IfErr};
-ghost use Rattle.wtf8_core.specs.declared.fault.EncodingError.{EncodingError};
+ghost use Rattle.os_str_bytes.specs.EncodingError.{EncodingError};
 ghost use Rattle.osbytes.specs.Lines.{chunk_lines};
 ghost use Rattle.osbytes.specs.Output.{IsOutputOn, IsRefusalOn};
 ghost use Rattle.osbytes.specs.declared.command.Command.TheVariants.{Chunks};
@@ -8,7 +8,7 @@ ghost use Rattle.osbytes.specs.declared.command.Command.TheVariants.{Chunks};
 use crate::fault::Fault;
 use crate::split::push_piece;
 use crate::target::Target;
-use os_str_ext::{OsStr, OsStrBytesExt, Platform, Utf8Chunks, laws};
+use os_str_bytes::{OsStr, OsStrBytesExt, Platform, Utf8Chunks, laws};
 use std::alloc::{AllocError, Allocator};
 
 /// The lines of the chunks of a string, or the first fault of its bytes.

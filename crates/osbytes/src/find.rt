@@ -1,11 +1,11 @@
 //! The command `find`: where a pattern stands in a string.
 ghost use Rattle.std.specs.Prelude.{◌≡◌, ◌⊎◌, ℕ, Option, IfOk, IfErr};
-ghost use Rattle.wtf8_core.specs.Standing.{Finds, IsLeastPlace};
-ghost use Rattle.wtf8_core.specs.declared.fault.EncodingError.{EncodingError};
+ghost use Rattle.os_str_bytes.specs.Standing.{Finds, IsLeastPlace};
+ghost use Rattle.os_str_bytes.specs.EncodingError.{EncodingError};
 ghost use Rattle.osbytes.specs.Lines.{place_line};
 
 use crate::fault::Fault;
-use os_str_ext::{OsStr, OsStrBytesExt, Platform, laws};
+use os_str_bytes::{OsStr, OsStrBytesExt, Platform, laws};
 use std::alloc::{AllocError, Allocator};
 
 /// The line of the least place of a pattern in a string, or the first fault of its bytes.

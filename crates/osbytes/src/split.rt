@@ -1,12 +1,12 @@
 //! The command `split`: the pieces of a string.
 ghost use Rattle.std.specs.Prelude.{◌≡◌, ◌⊎◌, ◌<◌, ◌++◌, ℕ, List, length, IfOk, IfErr, OnOk};
-ghost use Rattle.wtf8_core.specs.Pieces.{IsSplit};
-ghost use Rattle.wtf8_core.specs.declared.fault.EncodingError.{EncodingError};
+ghost use Rattle.os_str_bytes.specs.Pieces.{IsSplit};
+ghost use Rattle.os_str_bytes.specs.EncodingError.{EncodingError};
 ghost use Rattle.osbytes.specs.Lines.{piece_digits, piece_lines};
 
 use crate::fault::Fault;
 use crate::lines::byte_digits;
-use os_str_ext::{OsStr, OsStrBytesExt, Platform, Split, laws};
+use os_str_bytes::{OsStr, OsStrBytesExt, Platform, Split, laws};
 use std::alloc::{AllocError, Allocator};
 
 /// The lines of the pieces of a string between the places of a pattern, or the first fault of

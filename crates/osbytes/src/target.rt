@@ -4,7 +4,7 @@ ghost use Rattle.osbytes.specs.declared.command.Os.{Os};
 ghost use Rattle.osbytes.specs.Lines.{IsUnit, unit_line, unit_lines, BeginsWithUnitLine};
 
 use crate::lines::{byte_lines, front_byte, front_wide, wide_lines};
-use platform_str::{EncodingError, OsStr, OsString, Platform, Unix, Wasm, Windows, laws};
+use os_str_bytes::{EncodingError, OsStr, OsString, Platform, Unix, Wasm, Windows, laws};
 use std::alloc::{AllocError, Allocator};
 
 /// A platform that a command can name: what commands ask of it beside [`Platform`].

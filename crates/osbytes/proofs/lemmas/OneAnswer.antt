@@ -2,11 +2,11 @@
 use Rattle.std.proofs.Common.{◌≡◌, ◌⊎◌, ℕ, List, Option, Result, Err, ap, subst, ◌∙◌, inl, inr}
 use Rattle.std.proofs.KnownBytes.{Consumes-whole}
 use Rattle.std.specs.Io.KnownBytes.{Consumes, IsAtEnd}
-use Rattle.wtf8_core.specs.declared.fault.EncodingError.{EncodingError}
-use Rattle.platform_str.specs.Laws.{PlatformLaws}
-use Rattle.platform_str.specs.UnixLaws.{unix_laws}
-use Rattle.platform_str.specs.WasmLaws.{wasm_laws}
-use Rattle.platform_str.specs.WindowsLaws.{windows_laws}
+use Rattle.os_str_bytes.specs.EncodingError.{EncodingError}
+use Rattle.os_str_bytes.specs.Laws.{PlatformLaws}
+use Rattle.os_str_bytes.specs.UnixLaws.{unix_laws}
+use Rattle.os_str_bytes.specs.WasmLaws.{wasm_laws}
+use Rattle.os_str_bytes.specs.WindowsLaws.{windows_laws}
 use Rattle.osbytes.specs.declared.command.Os.{Os}
 use Rattle.osbytes.specs.declared.command.Os.TheVariants.{Unix, Windows, Wasm}
 use Rattle.osbytes.specs.declared.command.Command.{Command}

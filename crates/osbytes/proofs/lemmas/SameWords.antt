@@ -2,8 +2,8 @@
 use Rattle.std.proofs.Common.{◌≡◌, ℕ, List, [], Option, Result, length, get_or, refl, sym, ap, subst, ◌∙◌, arith}
 use Rattle.std.specs.Prelude.{take, ◌<◌, IfSome, IfErr, OnOk, Err, ◌⊎◌}
 use Rattle.std.specs.Io.KnownBytes.{Appends}
-use Rattle.wtf8_core.specs.Pieces.{IsSplit}
-use Rattle.wtf8_core.specs.Standing.{Finds, IsLeastPlace}
+use Rattle.os_str_bytes.specs.Pieces.{IsSplit}
+use Rattle.os_str_bytes.specs.Standing.{Finds, IsLeastPlace}
 use Rattle.osbytes.specs.declared.command.Os.{Os}
 use Rattle.osbytes.specs.declared.command.Os.TheVariants.{Unix, Windows, Wasm}
 use Rattle.osbytes.specs.declared.command.Command.{Command}

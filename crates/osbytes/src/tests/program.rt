@@ -4,7 +4,7 @@ use super::owned_words;
 use crate::fault::Fault;
 use crate::marked::Marked;
 use crate::program::execute;
-use platform_str::EncodingError;
+use os_str_bytes::EncodingError;
 use std::io;
 use std::io::ErrorKind;
 use std::process::{ExitCode, Termination};

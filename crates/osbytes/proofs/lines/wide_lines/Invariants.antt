@@ -1,6 +1,6 @@
 use Rattle.std.proofs.Common.{◌≡◌, ◌++◌}
-use Rattle.wtf8_core.specs.UnitsOf.{units_of}
-use Rattle.platform_str.specs.Strings.{bytes}
+use Rattle.os_str_bytes.specs.UnitsOf.{units_of}
+use Rattle.os_str_bytes.specs.Strings.{bytes}
 use Rattle.osbytes.specs.declared.command.Os.TheVariants.{Windows}
 use Rattle.osbytes.specs.Lines.{unit_lines}
 use Rattle.osbytes.proofs.lines.wide_lines.Given as goal
