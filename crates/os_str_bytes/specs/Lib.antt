@@ -2,6 +2,7 @@ pub mod Headline
 pub mod Raw
 pub mod RawCow
 pub use Rattle.wtf8_core.specs.Boundary
+pub use Rattle.wtf8_core.specs.Byte
 pub use Rattle.wtf8_core.specs.Character
 pub use Rattle.wtf8_core.specs.Chunks
 pub use Rattle.wtf8_core.specs.CodePoint
@@ -10,10 +11,13 @@ pub use Rattle.wtf8_core.specs.Fault
 pub use Rattle.wtf8_core.specs.FaultText
 pub use Rattle.wtf8_core.specs.Items
 pub use Rattle.wtf8_core.specs.Join
+pub use Rattle.wtf8_core.specs.Lossy
 pub use Rattle.wtf8_core.specs.PartUnits
 pub use Rattle.wtf8_core.specs.Pieces
 pub use Rattle.wtf8_core.specs.Runs
 pub use Rattle.wtf8_core.specs.Standing
+pub use Rattle.wtf8_core.specs.StandingLaws
+pub use Rattle.wtf8_core.specs.Surrogate
 pub use Rattle.wtf8_core.specs.UnitPlace
 pub use Rattle.wtf8_core.specs.UnitsOf
 pub use Rattle.wtf8_core.specs.Utf8
@@ -21,6 +25,8 @@ pub use Rattle.wtf8_core.specs.Wtf8
 pub use Rattle.wtf8_core.specs.declared.fault.EncodingError
 pub use Rattle.platform_str.specs.Cows
 pub use Rattle.platform_str.specs.Laws
+pub use Rattle.platform_str.specs.Lossy as IoLossy
+pub use Rattle.platform_str.specs.PartLaws
 pub use Rattle.platform_str.specs.Platforms
 pub use Rattle.platform_str.specs.Strings
 pub use Rattle.platform_str.specs.UnixLaws

@@ -30,6 +30,15 @@ fn order_on_windows(rt: HostRuntime) -> Result<(), AllocError> {
             Ordering::Greater,
         ),
         (b"".as_slice(), low.as_slice(), Ordering::Less),
+        (b"".as_slice(), pair.as_slice(), Ordering::Less),
+        (b"".as_slice(), b"\xED\xA0\x80".as_slice(), Ordering::Less),
+        (b"".as_slice(), b"\xEE\x80\x80".as_slice(), Ordering::Less),
+        (
+            b"".as_slice(),
+            b"\xF0\x9F\x98\x80".as_slice(),
+            Ordering::Less,
+        ),
+        (b"".as_slice(), b"\xEF\xBF\xBD".as_slice(), Ordering::Less),
         (pair.as_slice(), pair.as_slice(), Ordering::Equal),
     ];
     for (first, second, wanted) in table {

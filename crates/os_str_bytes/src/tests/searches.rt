@@ -1,5 +1,7 @@
 //! Searches, cuts and pieces of raw strings, on all three platforms.
+use super::raw;
 use crate::{Platform, RawOsStr, Unix, Wasm, Windows};
+use std::alloc::AllocError;
 use std::process::Abort;
 
 #[test]
@@ -95,4 +97,62 @@ fn trims_on<'a, E: Platform + 'a>(rt: &impl Abort, text: &'a str) {
     assert!(rt; string.trim_end_matches('1').eq_str("111foo1bar"));
     assert!(rt; string.trim_matches("1").eq_str("foo1bar"));
     assert!(rt; string.trim_matches("") == string);
+}
+
+/// Patterns that overlap are cut from the side that is asked; the empty string is one piece.
+#[test]
+fn overlaps(rt: HostRuntime) {
+    let string = raw::<Windows>(&rt, b"aaa");
+    let mut split = string.split("aa");
+    assert!(rt; is(split.next(), "") && is(split.next(), "a") && split.next().is_none());
+    let mut rsplit = string.rsplit("aa");
+    assert!(rt; is(rsplit.next(), "") && is(rsplit.next(), "a") && rsplit.next().is_none());
+    assert!(rt; string.trim_matches("aa").eq_str("a"));
+    let mut empty = RawOsStr::<Windows>::default().split("o");
+    assert!(rt; is(empty.next(), "") && empty.next().is_none());
+}
+
+/// A pair behind a high surrogate is found at the place of its bytes.
+#[test]
+fn pair_behind_a_half(rt: HostRuntime) {
+    let string = raw::<Windows>(&rt, b"\xED\xA0\xBD\xF0\x9F\x98\x80");
+    assert_eq!(rt; string.find('\u{1F600}'), Some(3));
+}
+
+#[test]
+fn chunks(rt: HostRuntime) {
+    let mut chunks = raw::<Unix>(&rt, b"fo\x80\xFFo").utf8_chunks();
+    for wanted in [(b"".as_slice(), "fo"), (b"\x80\xFF".as_slice(), "o")] {
+        let chunk = chunks.next();
+        let bytes = chunk.map(|(part, text)| (part.as_os_str().as_encoded_bytes(), text));
+        assert_eq!(rt; bytes, Some(wanted));
+    }
+    assert!(rt; chunks.next().is_none() && chunks.next().is_none());
+    let alone = raw::<Unix>(&rt, b"\x80").utf8_chunks().next();
+    assert!(rt; alone.is_some_and(|(part, text)| part.as_os_str().len() == 1 && text.is_empty()));
+    assert!(rt; RawOsStr::<Unix>::default().utf8_chunks().next().is_none());
+}
+
+/// Halves that meet become a pair; a length past `usize::MAX` is refused.
+#[test]
+fn repeats(rt: HostRuntime) -> Result<(), AllocError> {
+    let halves = raw::<Windows>(&rt, b"\xED\xB0\x80\xED\xA0\x80").repeat(rt.alloc(), 2)?;
+    let joined = raw::<Windows>(&rt, b"\xED\xB0\x80\xF0\x90\x80\x80\xED\xA0\x80");
+    assert!(rt; halves.eq_raw(joined));
+    assert!(rt;
+        raw::<Unix>(&rt, b"foo")
+            .repeat(rt.alloc(), 3)?
+            .eq_str("foofoofoo")
+    );
+    assert!(rt;
+        raw::<Unix>(&rt, b"")
+            .repeat(rt.alloc(), usize::MAX)?
+            .eq_str("")
+    );
+    assert!(rt;
+        raw::<Unix>(&rt, b"ab")
+            .repeat(rt.alloc(), usize::MAX)
+            .is_err()
+    );
+    Ok(())
 }
