@@ -1,2 +1,3 @@
 pub mod Outcomes
+pub mod OnePiece
 pub mod Places

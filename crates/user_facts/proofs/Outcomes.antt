@@ -10,3 +10,8 @@ where_some P f (Some x) some = f x some
 pub only_err : {A B : Type 0} (P : Type 0) {Q : B → Type 0} {error : B} → (r : Result A B) → MatchResult r (λ _. P) Q → ¬ P → ((x : B) → Q x → x ≡ error) → r ≡ Err error
 only_err P (Ok x) ok none one = absurd (none ok)
 only_err P (Err x) err none one = ap Err (one x err)
+
+-- where there must be a value, and each is this one
+pub only_some : {A : Type 0} (P : Type 0) {Q : A → Type 0} {value : A} → (o : Option A) → MatchOption o P Q → ¬ P → ((x : A) → Q x → x ≡ value) → o ≡ Some value
+only_some P None none some one = absurd (some none)
+only_some P (Some x) is some one = ap Some (one x is)

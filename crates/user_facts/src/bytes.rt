@@ -1,12 +1,15 @@
 //! Bytes as code points, and their faults.
-ghost use Rattle.std.specs.Prelude.{◌≡◌, ◌↔◌, ◌⊎◌, ◌<◌, ◌≤◌, ℕ, Err, IfSome, IsTrue};
-ghost use Rattle.wtf8_core.specs.Wtf8.{Spells, IsWtf8};
+ghost use Rattle.std.specs.Prelude.{◌≡◌, ◌↔◌, ◌⊎◌, ◌<◌, ◌≤◌, ◌++◌, ℕ, List, Err, IfSome, IsTrue, length};
+ghost use Rattle.wtf8_core.specs.Wtf8.{Spells, IsWtf8, HasUnits};
 ghost use Rattle.wtf8_core.specs.Fault.{IsFirstFault};
+ghost use Rattle.wtf8_core.specs.Boundary.{IsBoundary};
 ghost use Rattle.wtf8_core.specs.Character.{WholeCharacter};
+ghost use Rattle.wtf8_core.specs.Standing.{StandsAt};
+ghost use Rattle.wtf8_core.specs.UnitsOf.{units_of};
 ghost use Rattle.wtf8_core.specs.Utf8.{IsUtf8Fault, part_end};
 
 use platform_str::{EncodingError, Platform, Windows};
-use wtf8_core::{CodePoints, char_at, laws, utf8_fault};
+use wtf8_core::{CodePoints, char_at, ends_with, laws, starts_with, utf8_fault};
 
 /// Whether bytes are WTF-8.
 pub fn is_wtf8(raw: &[u8]) -> bool
@@ -81,4 +84,43 @@ pub fn ends_before(raw: &[u8], first: usize, second: usize) -> Option<bool>
     let len = char_at(raw, first)?;
     char_at(raw, second)?;
     Some(first + len <= second)
+}
+
+/// Whether WTF-8 bytes start with what stands before a boundary of theirs and end with what
+/// stands behind it, by units: they always do.
+pub fn around_boundary(raw: &[u8], at: usize) -> bool
+    requires wtf8 { IsWtf8 raw.now }
+    requires within { at ≤ length raw.now }
+    requires cut { IsBoundary raw.now at }
+    ensures { IsTrue result }
+{
+    laws::cuts();
+    let (front, back) = raw.split_at(at);
+    starts_with(raw, front) && ends_with(raw, back)
+}
+
+/// Any 16-bit units, which some bytes have.
+pub fn wide_units(units: &[u16])
+    ensures { (raw : List ℕ) × HasUnits raw units.now }
+{
+    laws::spelling();
+}
+
+/// Two lists of units of the same bytes, which are equal.
+pub fn units_once(raw: &[u8], units: &[u16], others: &[u16])
+    requires first { HasUnits raw.now units.now }
+    requires second { HasUnits raw.now others.now }
+    ensures { units.now ≡ others.now }
+{
+    laws::spelling();
+}
+
+/// A text whose units stand among those of WTF-8 bytes, and which stands in the bytes too.
+pub fn stands_in_bytes(raw: &[u8], text: &str, before: &[u16], behind: &[u16])
+    requires wtf8 { IsWtf8 raw.now }
+    requires some { 0 < length text.now }
+    requires stands { units_of raw.now ≡ before.now ++ (units_of text.now ++ behind.now) }
+    ensures { (i : ℕ) × StandsAt text.now raw.now i }
+{
+    laws::standing();
 }

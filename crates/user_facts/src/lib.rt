@@ -6,32 +6,47 @@
 #![tactic(auto)]
 
 mod bytes;
+mod chunks;
+mod joins;
 mod parts;
+mod pieces;
 mod plan9;
 mod ranges;
 mod raw;
 mod searches;
+mod standing;
 mod texts;
 mod units;
 
 pub use bytes::{
-    check_says, ends_before, is_wtf8, parted_by_fault, read_twice, spelled_once, utf8_fault_says,
+    around_boundary, check_says, ends_before, is_wtf8, parted_by_fault, read_twice, spelled_once,
+    stands_in_bytes, units_once, utf8_fault_says, wide_units,
+};
+pub use chunks::{
+    bare_units, chunked_twice, has_chunks, lone_surrogates, no_ascii, no_part, rejoined, runs,
+    same_part, unit_order,
+};
+pub use joins::{
+    has_join, joined_either_way, pushed_alike, starts_as_joined, starts_with_what_was_there,
 };
 pub use parts::{
-    cuts_agree, halves, halves_of_text, part_is_accepted, three_parts, three_parts_from_the_end,
+    cuts_agree, halves, halves_of_bytes, halves_of_text, part_is_accepted, three_parts,
+    three_parts_from_the_end,
 };
+pub use pieces::{uncut, uncut_from_the_end};
 pub use plan9::Plan9;
 pub use ranges::{between, between_inclusive, from, full, to, to_inclusive};
 pub use raw::{check_again, moved_back, taken_back, taken_back_by_any};
 pub use searches::around_first;
+pub use standing::{byte_place, contained_by_units, cut_out_by_units, found_by_units, unit_place};
 pub use texts::{
     behind_first, cut_out, io_is_raw, io_lossy_is_safe, io_lossy_of_text, is_text, lossy_behind,
-    lossy_on_unix, lossy_on_windows, lossy_says, replaced, replaced_by_as_many, text_is_io_safe,
-    text_is_string,
+    lossy_is_text, lossy_on_unix, lossy_on_windows, lossy_says, replaced, replaced_by_as_many,
+    text_is_io_safe, text_is_string, wtf8_lossy_is_text,
 };
 pub use units::{
-    equal_by_units, listed, order, owned_order, same_owned_string, same_string, spelled,
-    through_string, through_units, units_say,
+    equal_by_units, listed, order, order_of_code_points, owned_order, same_owned_string,
+    same_string, spelled, through_string, through_units, units_say,
 };
 
 #[cfg(test)]

@@ -1,5 +1,5 @@
 //! Parts of strings: joined they are the string, in bytes and in units.
-ghost use Rattle.std.specs.Prelude.{◌≡◌, ◌↔◌, ◌++◌, ◌≤◌, IsOk, IsSome, IfSome, IsTrue};
+ghost use Rattle.std.specs.Prelude.{◌≡◌, ◌↔◌, ◌++◌, ◌≤◌, IsOk, IsSome, IfSome, IsTrue, length};
 ghost use Rattle.std.specs.Str.{IsUtf8};
 ghost use Rattle.wtf8_core.specs.Boundary.{IsBoundary};
 ghost use Rattle.platform_str.specs.Strings.{bytes};
@@ -70,6 +70,24 @@ pub fn part_is_accepted<'a, E: Platform + 'a>(
     laws::faults::<E>();
     let (front, _) = string.split_at(at);
     E::check(front.as_encoded_bytes())
+}
+
+/// The strings before and behind a boundary of well-formed bytes.
+pub fn halves_of_bytes<'a, E: Platform + 'a>(
+    raw: &'a [u8],
+    at: usize,
+) -> (OsStr<'a, E>, OsStr<'a, E>)
+    requires formed { E.well_formed raw.now }
+    requires within { at ≤ length raw.now }
+    requires cut { IsBoundary raw.now at }
+    ensures { E.units (bytes result.0) ++ E.units (bytes result.1) ≡ E.units raw.now }
+{
+    laws::cuts::<E>();
+    let (front, back) = raw.split_at(at);
+    (
+        OsStr::from_encoded_bytes_unchecked(front),
+        OsStr::from_encoded_bytes_unchecked(back),
+    )
 }
 
 /// Whether both parts of a text are texts: they always are.

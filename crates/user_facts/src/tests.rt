@@ -1,7 +1,7 @@
 //! The callers on their happy paths.
 use crate::{
-    Plan9, behind_first, between_inclusive, io_lossy_is_safe, same_string, taken_back, three_parts,
-    through_units,
+    Plan9, behind_first, between_inclusive, io_lossy_is_safe, joined_either_way, rejoined,
+    same_string, starts_as_joined, taken_back, three_parts, through_units,
 };
 use platform_str::{HasBytes, OsStr, OsStrBytes, Unix, Windows};
 use std::test::Fail;
@@ -16,6 +16,21 @@ fn on_windows(rt: HostRuntime) -> Result<(), Fail> {
     let again = through_units(rt.alloc(), string)?;
     assert!(rt; same_string(again.as_os_str(), string));
     assert!(rt; io_lossy_is_safe(rt.alloc(), string)?);
+    Ok(())
+}
+
+#[test]
+fn halves(rt: HostRuntime) -> Result<(), Fail> {
+    let high = OsStr::<Windows>::from_raw_bytes(b"\xED\xA0\xBD")?;
+    let low = OsStr::<Windows>::from_raw_bytes(b"\xED\xB8\x80")?;
+    let (high, low) = (high.as_os_str(), low.as_os_str());
+    let (first, second) = joined_either_way(rt.alloc(), high, low, high)?;
+    let joined = b"\xF0\x9F\x98\x80\xED\xA0\xBD".as_slice();
+    assert_eq!(rt; first.as_os_str().as_encoded_bytes(), joined);
+    assert_eq!(rt; second.as_os_str().as_encoded_bytes(), joined);
+    assert!(rt; starts_as_joined(first.as_os_str(), high));
+    assert!(rt; !starts_as_joined(first.as_os_str(), low));
+    assert_eq!(rt; rejoined(rt.alloc(), first.as_os_str())?.as_slice(), joined);
     Ok(())
 }
 

@@ -1,9 +1,12 @@
 //! Texts, lossy texts and IO bytes.
 ghost use Rattle.std.specs.Prelude.{◌≡◌, ◌↔◌, ◌<◌, ◌++◌, IsOk, IfOk, IfSome, IsTrue, length, take, drop};
 ghost use Rattle.std.specs.Str.{IsUtf8, IsValidUpTo};
+ghost use Rattle.std.specs.Str.Lossy.{utf8_lossy};
 ghost use Rattle.wtf8_core.specs.Covered.{StartsBare};
 ghost use Rattle.wtf8_core.specs.Lossy.{replacement, IsLossyText, IsWtf8LossyText};
 ghost use Rattle.wtf8_core.specs.Standing.{StandsAt};
+ghost use Rattle.wtf8_core.specs.UnitsOf.{wtf8_lossy};
+ghost use Rattle.wtf8_core.specs.Wtf8.{IsWtf8};
 ghost use Rattle.platform_str.specs.Strings.{bytes};
 ghost use Rattle.platform_str.specs.Cows.{byte_cow_bytes, str_cow_bytes};
 
@@ -152,6 +155,21 @@ pub fn lossy_on_windows<'a>(
 {
     wtf8_core::laws::functions();
     string.to_string_lossy(alloc)
+}
+
+/// Any bytes, whose lossy text is UTF-8.
+pub fn lossy_is_text(raw: &[u8])
+    ensures { IsUtf8 (utf8_lossy raw.now) }
+{
+    wtf8_core::laws::lossy_text();
+}
+
+/// WTF-8 bytes, whose lossy text by surrogates is UTF-8.
+pub fn wtf8_lossy_is_text(raw: &[u8])
+    requires { IsWtf8 raw.now }
+    ensures { IsUtf8 (wtf8_lossy raw.now) }
+{
+    wtf8_core::laws::lossy_text();
 }
 
 /// A text that stands in a string, cut out of it.

@@ -2,7 +2,7 @@
 ghost use Rattle.std.specs.Prelude.{◌≡◌, ◌↔◌, ℕ, List, IfOk, IsTrue};
 ghost use Rattle.std.specs.Cmp.Lexicographic.{slice_cmp};
 ghost use Rattle.std.specs.Ordering.{nat_cmp};
-ghost use Rattle.wtf8_core.specs.Wtf8.{HasUnits};
+ghost use Rattle.wtf8_core.specs.Wtf8.{Spells, HasUnits};
 ghost use Rattle.platform_str.specs.Strings.{bytes, string_vec_of};
 
 use platform_str::{OsStr, OsString, Platform, WideUnits, Windows, laws};
@@ -22,6 +22,22 @@ pub fn same_string<'a, E: Platform + 'a>(a: OsStr<'a, E>, b: OsStr<'a, E>) -> bo
 pub fn order<'a, E: Platform + 'a>(a: OsStr<'a, E>, b: OsStr<'a, E>) -> Ordering
     ensures { result ≡ slice_cmp nat_cmp (bytes a.entry) (bytes b.entry) }
 {
+    laws::comparisons(&a, &b);
+    a.cmp(&b)
+}
+
+/// How two Windows strings are ordered: as the code points are that they spell.
+pub fn order_of_code_points<'a>(
+    a: OsStr<'a, Windows>,
+    b: OsStr<'a, Windows>,
+    code_points: &[u32],
+    others: &[u32],
+) -> Ordering
+    requires first { Spells (bytes a) code_points.now }
+    requires second { Spells (bytes b) others.now }
+    ensures { result ≡ slice_cmp nat_cmp code_points.now others.now }
+{
+    wtf8_core::laws::order();
     laws::comparisons(&a, &b);
     a.cmp(&b)
 }

@@ -1,0 +1,109 @@
+//! Chunks: one list of them, joined the string; parts and their units.
+ghost use Rattle.std.specs.Prelude.{◌≡◌, ◌↔◌, ◌≤◌, [], ℕ, List, IfOk, IsTrue, map};
+ghost use Rattle.std.specs.List.{All, flat_map};
+ghost use Rattle.std.specs.Ordering.{nat_cmp};
+ghost use Rattle.wtf8_core.specs.Chunks.{Chunk, AreChunks};
+ghost use Rattle.wtf8_core.specs.Covered.{IsBare};
+ghost use Rattle.wtf8_core.specs.PartUnits.{unit_bytes, AreLoneSurrogates};
+ghost use Rattle.wtf8_core.specs.Runs.{AreRuns, form_chunk};
+ghost use Rattle.wtf8_core.specs.Wtf8.{Spells};
+ghost use Rattle.platform_str.specs.Strings.{bytes};
+ghost use Rattle.os_str_ext.specs.Parts.{part_bytes, unit_number};
+
+use os_str_ext::{
+    NonUnicodeOsStr, OsStrBytesExt, OsUnit, OsUnits, Unix, Utf8Chunks, Wasm, Windows, part_laws,
+};
+use platform_str::{OsStr, Platform};
+use std::alloc::{AllocError, Allocator};
+use std::cmp::Ordering;
+
+/// The chunks of a string, taken twice, which are the same.
+pub fn chunked_twice<'a, E: Platform + 'a>(
+    string: OsStr<'a, E>,
+) -> (Utf8Chunks<'a, E>, Utf8Chunks<'a, E>)
+    ensures { result.0 ≡ result.1 }
+{
+    wtf8_core::laws::chunks();
+    (string.utf8_chunks(), string.utf8_chunks())
+}
+
+/// Any bytes, of which there are chunks.
+pub fn has_chunks(raw: &[u8])
+    ensures { (chunks : List Chunk) × AreChunks raw.now chunks }
+{
+    wtf8_core::laws::chunks();
+}
+
+/// The chunks of a Windows string: the maximal runs of surrogates of the code points that it
+/// spells, each with the scalar values behind it.
+pub fn runs<'a>(string: OsStr<'a, Windows>, code_points: &[u32]) -> Utf8Chunks<'a, Windows>
+    requires { Spells (bytes string) code_points.now }
+    ensures { (runs : List Chunk) × (AreRuns code_points.now runs × (result ≡ map form_chunk runs)) }
+{
+    wtf8_core::laws::chunks();
+    string.utf8_chunks()
+}
+
+/// The chunks of a string, joined again, which are the string.
+pub fn rejoined<'a, E: Platform + 'a, A: Allocator>(
+    alloc: A,
+    string: OsStr<'a, E>,
+) -> Result<Vec<u8, A>, AllocError>
+    ensures { IfOk result (λ all. all.items ≡ bytes string.entry) }
+{
+    let mut all = Vec::new(alloc);
+    for (part, text) in string.utf8_chunks() {
+        all.extend_from_slice(part.as_os_str().as_encoded_bytes())?;
+        all.extend_from_slice(text.as_bytes())?;
+    }
+    Ok(all)
+}
+
+/// A string without whole characters, whose bytes are those of its units.
+pub fn bare_units<'a, E: Platform + 'a>(string: OsStr<'a, E>) -> OsStr<'a, E>
+    requires { IsBare (bytes string) }
+    ensures spelled { bytes result ≡ flat_map unit_bytes (E.units (bytes result)) }
+    ensures kind { E.part_units (E.units (bytes result)) }
+{
+    platform_str::laws::parts::<E>();
+    string
+}
+
+/// The units of a part on Windows: surrogates, no high one before a low one.
+pub fn lone_surrogates<'a>(part: NonUnicodeOsStr<'a, Windows>) -> OsUnits<'a, Windows>
+    ensures { AreLoneSurrogates result }
+{
+    part.os_units()
+}
+
+/// The units of a part on Unix: its bytes, none of which is ASCII.
+pub fn no_ascii<'a>(part: NonUnicodeOsStr<'a, Unix>) -> OsUnits<'a, Unix>
+    ensures same { result ≡ part_bytes part.entry }
+    ensures above { All (λ u. 0x80 ≤ u) result }
+{
+    part.os_units()
+}
+
+/// Whether a part on wasm is empty: it always is.
+pub fn no_part<'a>(part: NonUnicodeOsStr<'a, Wasm>) -> bool
+    ensures { IsTrue result }
+{
+    let _units = part.os_units();
+    part.as_os_str().is_empty()
+}
+
+/// Whether two parts are equal: exactly where their bytes are.
+pub fn same_part<'a, E: Platform + 'a>(a: NonUnicodeOsStr<'a, E>, b: NonUnicodeOsStr<'a, E>) -> bool
+    ensures { IsTrue result ↔ (part_bytes a.entry ≡ part_bytes b.entry) }
+{
+    part_laws::part_comparisons(&a, &b);
+    a == b
+}
+
+/// How two units are ordered: as their numbers are.
+pub fn unit_order(a: OsUnit, b: OsUnit) -> Ordering
+    ensures { result ≡ nat_cmp (unit_number a) (unit_number b) }
+{
+    part_laws::unit_comparisons(&a, &b);
+    a.cmp(&b)
+}

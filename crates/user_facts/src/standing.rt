@@ -1,0 +1,76 @@
+//! Where texts stand: by bytes and by units alike.
+ghost use Rattle.std.specs.Prelude.{◌≡◌, ◌<◌, ℕ, Some, IsTrue, length};
+ghost use Rattle.wtf8_core.specs.Standing.{StandsAt, IsLeastPlace};
+ghost use Rattle.wtf8_core.specs.UnitPlace.{IsBytePlace, IsUnitPlaceOf};
+ghost use Rattle.platform_str.specs.Strings.{bytes};
+
+use crate::texts::cut_out;
+use os_str_ext::OsStrBytesExt;
+use platform_str::{OsStr, Platform, laws};
+
+/// A text whose units stand at a unit place of a string, which stands at the byte place of it.
+pub fn byte_place<'a, E: Platform + 'a>(
+    string: OsStr<'a, E>,
+    text: &str,
+    unit_place: usize,
+) -> OsStr<'a, E>
+    requires some { 0 < length text.now }
+    requires stands { StandsAt (E.units text.now) (E.units (bytes string)) unit_place }
+    ensures { (at : ℕ) × (IsBytePlace E.well_formed E.units (bytes result) unit_place at × StandsAt text.now (bytes result) at) }
+{
+    laws::standing::<E>();
+    string
+}
+
+/// A text that stands at a byte place of a string, whose units stand at the unit place of it.
+pub fn unit_place<'a, E: Platform + 'a>(string: OsStr<'a, E>, text: &str, at: usize) -> OsStr<'a, E>
+    requires some { 0 < length text.now }
+    requires stands { StandsAt text.now (bytes string) at }
+    ensures { (i : ℕ) × (IsBytePlace E.well_formed E.units (bytes result) i at × StandsAt (E.units text.now) (E.units (bytes result)) i) }
+{
+    laws::standing::<E>();
+    string
+}
+
+/// A text whose units stand at a unit place of which the byte place is known, cut out there.
+pub fn cut_out_by_units<'a, E: Platform + 'a>(
+    string: OsStr<'a, E>,
+    text: &str,
+    unit_place: usize,
+    at: usize,
+) -> OsStr<'a, E>
+    requires some { 0 < length text.now }
+    requires place { IsBytePlace E.well_formed E.units (bytes string) unit_place at }
+    requires stands { StandsAt (E.units text.now) (E.units (bytes string)) unit_place }
+    ensures { bytes result ≡ text.now }
+{
+    laws::standing::<E>();
+    cut_out(string, text, at)
+}
+
+/// The first place of a text of which the place by units is known, which is its byte place.
+pub fn found_by_units<'a, E: Platform + 'a>(
+    string: OsStr<'a, E>,
+    text: &str,
+    at: usize,
+) -> Option<usize>
+    requires some { 0 < length text.now }
+    requires place { IsUnitPlaceOf IsLeastPlace E.well_formed E.units text.now (bytes string) at }
+    ensures { result ≡ Some at }
+{
+    laws::standing::<E>();
+    string.find(text)
+}
+
+/// Whether a string contains a text whose units stand somewhere in its units: it always does.
+pub fn contained_by_units<'a, E: Platform + 'a>(
+    string: OsStr<'a, E>,
+    text: &str,
+    unit_place: usize,
+) -> bool
+    requires some { 0 < length text.now }
+    requires stands { StandsAt (E.units text.now) (E.units (bytes string)) unit_place }
+    ensures { IsTrue result }
+{
+    string.contains(text)
+}
