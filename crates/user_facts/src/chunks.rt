@@ -17,14 +17,16 @@ use platform_str::{OsStr, Platform};
 use std::alloc::{AllocError, Allocator};
 use std::cmp::Ordering;
 
-/// The chunks of a string, taken twice, which are the same.
-pub fn chunked_twice<'a, E: Platform + 'a>(
+/// The chunks of a string of which some are known, which are those.
+pub fn chunks_say<'a, E: Platform + 'a>(
     string: OsStr<'a, E>,
-) -> (Utf8Chunks<'a, E>, Utf8Chunks<'a, E>)
-    ensures { result.0 ≡ result.1 }
+    known: Utf8Chunks<'a, E>,
+) -> Utf8Chunks<'a, E>
+    requires { AreChunks (bytes string) known }
+    ensures { result ≡ known.entry }
 {
     wtf8_core::laws::chunks();
-    (string.utf8_chunks(), string.utf8_chunks())
+    string.utf8_chunks()
 }
 
 /// Any bytes, of which there are chunks.

@@ -23,7 +23,7 @@ pub use bytes::{
     stands_in_bytes, units_once, utf8_fault_says, wide_units,
 };
 pub use chunks::{
-    bare_units, chunked_twice, has_chunks, lone_surrogates, no_ascii, no_part, rejoined, runs,
+    bare_units, chunks_say, has_chunks, lone_surrogates, no_ascii, no_part, rejoined, runs,
     same_part, unit_order,
 };
 pub use joins::{
