@@ -54,7 +54,6 @@ pub fn found_by_units<'a, E: Platform + 'a>(
     text: &str,
     at: usize,
 ) -> Option<usize>
-    requires some { 0 < length text.now }
     requires place { IsUnitPlaceOf IsLeastPlace E.well_formed E.units text.now (bytes string) at }
     ensures { result ≡ Some at }
 {
@@ -68,7 +67,6 @@ pub fn contained_by_units<'a, E: Platform + 'a>(
     text: &str,
     unit_place: usize,
 ) -> bool
-    requires some { 0 < length text.now }
     requires stands { StandsAt (E.units text.now) (E.units (bytes string)) unit_place }
     ensures { IsTrue result }
 {
