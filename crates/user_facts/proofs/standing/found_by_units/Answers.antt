@@ -7,7 +7,7 @@ use Rattle.user_facts.proofs.standing.found_by_units.Goals as goal
 
 pub returns : goal.returns
 returns g c =
-    let known = c.requires in
+    let known = c.requires.place in
     only_some _ c.find.result c.find.ensures.units
     (λ nowhere. nowhere known.unit_place known.is.stands)
     (λ at found.
