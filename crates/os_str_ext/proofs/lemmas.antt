@@ -1,4 +1,5 @@
 pub mod Comparing
+pub mod Needles
 pub mod OneByte
 pub mod Places
 pub mod Searches
@@ -6,3 +7,4 @@ pub mod Splits
 pub mod FirstChunk
 pub mod PartUnits
 pub mod Repeats
+pub mod Runs

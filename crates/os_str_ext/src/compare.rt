@@ -1,21 +1,40 @@
 //! Whether bytes are the same: of a pattern and of the string at its front or end.
 ghost use Rattle.std.specs.Prelude.{◌≡◌, ◌+◌, ◌≤◌, ◌↔◌, IsTrue, length, take};
-ghost use Rattle.std.specs.Int.{from_le_bytes, to_le_bytes, w32, w64};
+ghost use Rattle.std.specs.Int.{from_le_bytes, to_le_bytes, w16, w32, w64};
 
-/// Whether two lists of bytes of one length are the same. From four to sixteen bytes, those at
+/// Whether two lists of bytes of one length are the same. From two to sixteen bytes, those at
 /// the front and those at the end are compared as numbers.
 #[inline(always)]
 pub(crate) fn are_same(a: &[u8], b: &[u8]) -> bool
     requires { length a.now ≡ length b.now }
     ensures { IsTrue result ↔ (a.now ≡ b.now) }
 {
-    if a.len() < 4 || 16 < a.len() {
+    if a.len() == 1 {
+        return a[0] == b[0];
+    }
+    if a.len() < 2 || 16 < a.len() {
         return a == b;
+    }
+    if a.len() < 4 {
+        return are_same_by_two(a, b);
     }
     if a.len() <= 8 {
         return are_same_by_four(a, b);
     }
     are_same_by_eight(a, b)
+}
+
+/// The same of two to four bytes.
+#[inline(always)]
+fn are_same_by_two(a: &[u8], b: &[u8]) -> bool
+    requires lengths { length a.now ≡ length b.now }
+    requires at_least { 2 ≤ length a.now }
+    requires at_most { length a.now ≤ 4 }
+    ensures { IsTrue result ↔ (a.now ≡ b.now) }
+{
+    let (_, a_back) = a.split_at(a.len() - 2);
+    let (_, b_back) = b.split_at(b.len() - 2);
+    first_two(a) == first_two(b) && first_two(a_back) == first_two(b_back)
 }
 
 /// The same of four to eight bytes.
@@ -42,6 +61,19 @@ fn are_same_by_eight(a: &[u8], b: &[u8]) -> bool
     let (_, a_back) = a.split_at(a.len() - 8);
     let (_, b_back) = b.split_at(b.len() - 8);
     first_eight(a) == first_eight(b) && first_eight(a_back) == first_eight(b_back)
+}
+
+/// The first two bytes as a number, from which they can be had back.
+#[inline(always)]
+fn first_two(bytes: &[u8]) -> u16
+    requires { 2 ≤ length bytes.now }
+    ensures number { result ≡ from_le_bytes w16 (take 2 bytes.now) }
+    ensures written { to_le_bytes w16 result ≡ take 2 bytes.now }
+{
+    match bytes.first_chunk::<2>() {
+        Some(chunk) => u16::from_le_bytes(*chunk),
+        None => 0,
+    }
 }
 
 /// The first four bytes as a number, from which they can be had back.

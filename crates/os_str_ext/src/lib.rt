@@ -11,11 +11,13 @@ mod chunks;
 mod compare;
 mod ext;
 mod iter;
+mod needle;
 mod os_units;
 pub mod part_laws;
 mod parts;
 mod pattern;
 mod repeat;
+mod runs;
 mod search;
 mod slice_index;
 

@@ -6,8 +6,10 @@ ghost use Rattle.wtf8_core.specs.Pieces.{StripsFront, StripsEnd, SplitsOnce, IsS
 ghost use Rattle.platform_str.specs.Strings.{bytes};
 
 use crate::boundary::split_at;
+use crate::runs::{end_run, front_run};
 use crate::search::{ends_with, find, rfind, starts_with};
 use platform_str::{OsStr, Platform};
+use wtf8_core::laws;
 
 /// What follows a text at the front.
 #[inline(always)]
@@ -47,10 +49,9 @@ pub(crate) fn trim_start<'a, E: Platform>(string: OsStr<'a, E>, text: &str) -> O
     if text.is_empty() {
         return string;
     }
-    let mut rest = string;
-    while let Some(shorter) = strip_prefix(rest, text) {
-        rest = shorter;
-    }
+    laws::boundaries();
+    let at = front_run(string.as_encoded_bytes(), text.as_bytes());
+    let (_, rest) = split_at(string, at);
     rest
 }
 
@@ -63,10 +64,9 @@ pub(crate) fn trim_end<'a, E: Platform>(string: OsStr<'a, E>, text: &str) -> OsS
     if text.is_empty() {
         return string;
     }
-    let mut rest = string;
-    while let Some(shorter) = strip_suffix(rest, text) {
-        rest = shorter;
-    }
+    laws::boundaries();
+    let at = end_run(string.as_encoded_bytes(), text.as_bytes());
+    let (rest, _) = split_at(string, at);
     rest
 }
 

@@ -1,12 +1,11 @@
 //! Where a text stands in bytes.
 ghost use Rattle.std.specs.Prelude.{◌+◌, ◌-◌, ◌^◌, ◌↔◌, ◌<◌, ◌≤◌, IsTrue, IfSome, length};
-ghost use Rattle.memchr.specs.Find.{FindsNeedle, FindsLastNeedle};
 ghost use Rattle.wtf8_core.specs.Standing.{Finds, IsLeastPlace, IsGreatestPlace, IsFront, IsEnd};
 ghost use Rattle.wtf8_core.specs.Boundary.{IsBoundary};
 ghost use Rattle.wtf8_core.specs.Pieces.{MayBeCutAround};
 
 use crate::compare::are_same;
-use memchr::{memchr, memmem, memrchr};
+use crate::needle::{first_of, last_of};
 use wtf8_core::laws;
 
 /// The least place of a text.
@@ -58,26 +57,4 @@ pub(crate) fn ends_with(bytes: &[u8], text: &str) -> bool
     }
     let (_, end) = bytes.split_at(bytes.len() - text.len());
     are_same(end, text.as_bytes())
-}
-
-/// The first place of a needle; one of a single byte is looked for as a byte.
-#[inline(always)]
-fn first_of(bytes: &[u8], needle: &[u8]) -> Option<usize>
-    ensures { FindsNeedle bytes.now needle.now 0 result }
-{
-    if needle.len() == 1 {
-        return memchr(needle[0], bytes);
-    }
-    memmem::find(bytes, needle)
-}
-
-/// The last place of a needle; one of a single byte is looked for as a byte.
-#[inline(always)]
-fn last_of(bytes: &[u8], needle: &[u8]) -> Option<usize>
-    ensures { FindsLastNeedle bytes.now needle.now result }
-{
-    if needle.len() == 1 {
-        return memrchr(needle[0], bytes);
-    }
-    memmem::rfind(bytes, needle)
 }

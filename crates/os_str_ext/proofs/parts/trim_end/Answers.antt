@@ -1,5 +1,11 @@
-use Rattle.os_str_ext.proofs.lemmas.Searches.{end_trimmed_more}
+use Rattle.std.proofs.Common.{◌<◌, ◌≢◌, length, false-eqb, arith}
+use Rattle.platform_str.specs.Strings.{bytes}
+use Rattle.os_str_ext.proofs.lemmas.Runs.{cut_before_run}
 use Rattle.os_str_ext.proofs.parts.trim_end.Goals as goal
 
-pub loop-shorter-preserved : goal.loop-shorter-preserved
-loop-shorter-preserved g c = end_trimmed_more c.args.text.now _ _ _ c.loop-shorter.invariant c.in-Some.ensures
+pub split_at-requires : goal.split_at-requires
+split_at-requires g c =
+    let other : length c.args.text.now ≢ 0 = false-eqb _ 0 c.if-is_empty.ensures in
+    let some : 0 < length c.args.text.now = omega arith in
+    let trim = rw (c.as_encoded_bytes.ensures.value, c.as_bytes.ensures.value) at c.end_run-at.ensures.trim in
+    cut_before_run (bytes c.args.string) c.args.text.now c.end_run-at.result (rw c.as_encoded_bytes.ensures.value at c.end_run-at.ensures.within) c.boundaries.ensures.edges c.utf8.text some trim.count trim.trimmed

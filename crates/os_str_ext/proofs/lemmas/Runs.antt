@@ -1,0 +1,110 @@
+-- Runs of a text: lists that are the text over and over.
+use Rattle.std.proofs.Common.{◌≡◌, ℕ, zero, suc, ◌+◌, ◌-◌, ◌<◌, ◌≤◌, List, ◌++◌, length, take, drop, refl, sym, ap, subst, ◌∙◌, arith, inl, inr, append_assoc, length-append, length-drop, take-append-drop, drop_of_length-le}
+use Rattle.std.proofs.lemmas.List.{append-nil, length-take-le, drop-drop}
+use Rattle.std.proofs.Math.Seq.{take-add}
+use Rattle.std.specs.List.{repeat}
+use Rattle.std.specs.Str.{IsUtf8}
+use Rattle.memchr.specs.Find.{OccursAt}
+use Rattle.memchr.proofs.lemmas.MatchLemmas.{OccursAt-part, OccursAt-from_part}
+use Rattle.wtf8_core.specs.Standing.{StandsAt}
+use Rattle.wtf8_core.specs.Boundary.{IsBoundary}
+use Rattle.wtf8_core.specs.Pieces.{IsStartTrim, IsEndTrim}
+use Rattle.os_str_ext.proofs.lemmas.Comparing.{take_from_front, front_fits}
+use Rattle.os_str_ext.proofs.lemmas.Searches.{EdgesOfTexts, occurs_where_it_stands, repeat-behind}
+
+-- x is p over and over
+abbrev pub IsRun : List ℕ → List ℕ → Type 0
+IsRun p x = (n : ℕ) × (x ≡ repeat n p)
+
+repeat-plus : (p : List ℕ) (m n : ℕ) → repeat m p ++ repeat n p ≡ repeat (m + n) p
+repeat-plus p zero n = ap (λ k. repeat k p) {x = n} {y = zero + n} (omega arith)
+repeat-plus p (suc m) n =
+    append_assoc p (repeat m p) (repeat n p) ∙ ap (λ r. p ++ r) (repeat-plus p m n) ∙ ap (λ k. repeat k p) {x = suc (m + n)} {y = suc m + n} (omega arith)
+
+module _ (p : List ℕ) where
+  runs_joined : (x y : List ℕ) → IsRun p x → IsRun p y → IsRun p (x ++ y)
+  runs_joined x y (m, e) (n, f) = (m + n, ap (λ r. r ++ y) e ∙ ap (λ r. repeat m p ++ r) f ∙ repeat-plus p m n)
+
+  run_of_runs : (x : List ℕ) → IsRun p x → (n : ℕ) → IsRun p (repeat n x)
+  run_of_runs x run zero = (0, refl)
+  run_of_runs x run (suc n) = runs_joined x (repeat n x) run (run_of_runs x run n)
+
+  -- a run, runs of it behind it, and the text behind those; the same before
+  pub run_behind : (s : List ℕ) (i j k : ℕ) → IsRun p (take i s) → (m : ℕ) → take j s ≡ take i s ++ repeat m (take i s) → (n : ℕ) → take k s ≡ take j s ++ repeat n p → IsRun p (take k s)
+  run_behind s i j k run m e n f =
+      subst (IsRun p) (sym f) (runs_joined (take j s) (repeat n p) (subst (IsRun p) (sym e) (runs_joined (take i s) (repeat m (take i s)) run (run_of_runs (take i s) run m))) (n, refl))
+
+  pub run_before : (s : List ℕ) (i j k : ℕ) → IsRun p (drop i s) → (m : ℕ) → drop j s ≡ repeat m (drop i s) ++ drop i s → (n : ℕ) → drop k s ≡ repeat n p ++ drop j s → IsRun p (drop k s)
+  run_before s i j k run m e n f =
+      subst (IsRun p) (sym f) (runs_joined (repeat n p) (drop j s) (n, refl) (subst (IsRun p) (sym e) (runs_joined (repeat m (drop i s)) (drop i s) (run_of_runs (drop i s) run m) run)))
+
+module _ (s p : List ℕ) (i : ℕ) (le : i ≤ length s) where
+  -- where no text stands behind a run at the front, that is its trim
+  pub start_trim : IsRun p (take i s) → ¬ (OccursAt s p i) → IsStartTrim p s (drop i s)
+  start_trim run none = record {
+    count = run.0;
+    trimmed = sym (take-append-drop i s) ∙ ap (λ r. r ++ drop i s) run.1;
+    done = λ front.
+        let fits = front_fits p (drop i s) front in
+        let size = length-drop i s in
+        none (OccursAt-from_part s p i (omega arith) (take_from_front p (drop i s) front));
+  }
+
+  pub end_trim : IsRun p (drop i s) → (length p ≤ i → ¬ (OccursAt s p (i - length p))) → IsEndTrim p s (take i s)
+  end_trim run none = record {
+    count = run.0;
+    trimmed = sym (take-append-drop i s) ∙ ap (λ r. take i s ++ r) run.1;
+    done = λ end.
+        let size : i ≡ length end.rest + length p = sym (length-take-le i s le) ∙ ap length end.joined ∙ length-append end.rest p in
+        let place : length end.rest ≡ i - length p = omega arith in
+        none (omega arith) (subst (OccursAt s p) place (occurs_where_it_stands s p (length end.rest) (record {
+          before = end.rest;
+          behind = drop i s;
+          joined = sym (take-append-drop i s) ∙ ap (λ r. r ++ drop i s) end.joined ∙ append_assoc end.rest p (drop i s);
+          place = refl;
+        })));
+  }
+
+  -- and the string may be cut there
+  pub cut_behind_run : EdgesOfTexts → IsUtf8 p → 0 < length p → (n : ℕ) → s ≡ repeat n p ++ drop i s → IsBoundary s i
+  cut_behind_run edges u some zero e =
+      let size : length s ≡ length (drop i s) = ap length e in
+      let left = length-drop i s in
+      record { is = inl (omega arith) }
+  cut_behind_run edges u some (suc n) e =
+      let size : length s ≡ length (repeat (suc n) p) + length (drop i s) = ap length e ∙ length-append (repeat (suc n) p) (drop i s) in
+      let left = length-drop i s in
+      let more : length (repeat n p) + length p ≡ length (repeat (suc n) p) = sym (length-append (repeat n p) p) ∙ ap length (repeat-behind p n) in
+      let stands : StandsAt p s (length (repeat n p)) = record {
+        before = repeat n p;
+        behind = drop i s;
+        joined = e ∙ ap (λ r. r ++ drop i s) (sym (repeat-behind p n)) ∙ append_assoc (repeat n p) p (drop i s);
+        place = refl;
+      } in
+      subst (IsBoundary s) (omega arith) (edges p s (length (repeat n p)) u some stands).1
+
+  pub cut_before_run : EdgesOfTexts → IsUtf8 p → 0 < length p → (n : ℕ) → s ≡ take i s ++ repeat n p → IsBoundary s i
+  cut_before_run edges u some zero e =
+      let size : length s ≡ length (take i s) = ap length (e ∙ append-nil (take i s)) in
+      let left = length-take-le i s le in
+      record { is = inr (inl (omega arith)) }
+  cut_before_run edges u some (suc n) e = (edges p s i u some (record { before = take i s; behind = repeat n p; joined = e; place = length-take-le i s le })).0
+
+-- what ends with the string is the run alone
+pub run_at_end : (s p : List ℕ) (i n : ℕ) → drop i s ≡ repeat n p ++ drop (length s) s → IsRun p (drop i s)
+run_at_end s p i n e = (n, e ∙ ap (λ r. repeat n p ++ r) (drop_of_length-le s (omega arith)) ∙ append-nil (repeat n p))
+
+module _ (s p : List ℕ) (i : ℕ) where
+  -- one more behind what was passed over, and before it
+  pub passed_more : (start n : ℕ) → take i s ≡ take start s ++ repeat n p → OccursAt s p i → take (i + length p) s ≡ take start s ++ repeat (suc n) p
+  passed_more start n e o =
+      take-add i (length p) s ∙ ap (λ r. take i s ++ r) (OccursAt-part s p i o) ∙ ap (λ r. r ++ p) e
+      ∙ append_assoc (take start s) (repeat n p) p ∙ ap (λ r. take start s ++ r) (repeat-behind p n)
+
+  pub passed_back : (start n : ℕ) → drop i s ≡ repeat n p ++ drop start s → length p ≤ i → OccursAt s p (i - length p) → drop (i - length p) s ≡ repeat (suc n) p ++ drop start s
+  passed_back start n e le o =
+      let place : i - length p + length p ≡ i = omega arith in
+      sym (take-append-drop (length p) (drop (i - length p) s))
+      ∙ ap (λ r. r ++ drop (length p) (drop (i - length p) s)) (OccursAt-part s p (i - length p) o)
+      ∙ ap (λ r. p ++ r) (drop-drop (length p) (i - length p) s ∙ ap (λ k. drop k s) place ∙ e)
+      ∙ sym (append_assoc p (repeat n p) (drop start s))

@@ -1,0 +1,167 @@
+//! The first and the last place of a needle. What has to be looked for is left to `memchr`.
+ghost use Rattle.std.specs.Prelude.{◌≡◌, ◌↔◌, ◌+◌, ◌-◌, ◌≤◌, ℕ, List, IsTrue, IfSome, MatchOption, length};
+ghost use Rattle.memchr.specs.Find.{FindsNeedle, FindsLastNeedle, IsFirstByte, NoneBefore, Nowhere, OccursAt, is_byte};
+ghost use Rattle.memchr.specs.Pairs.{IsPairFinderOf, IsPairOf};
+
+use crate::compare::are_same;
+use memchr::arch::all::packedpair::{Finder, Pair};
+use memchr::{memchr_iter, memmem, memrchr};
+
+/// The longest needle that is compared where its ends stand.
+const LONGEST: usize = 32;
+
+/// In longer strings `memmem` has the time to make ready for a needle.
+const SHORT: usize = 128;
+
+/// The first place of a needle, which is often the front.
+#[inline(always)]
+pub(crate) fn first_of(bytes: &[u8], needle: &[u8]) -> Option<usize>
+    ensures { FindsNeedle bytes.now needle.now 0 result }
+{
+    if needle.len() == 1 {
+        return first_byte(needle[0], bytes);
+    }
+    if stands_at(bytes, needle, 0) {
+        return Some(0);
+    }
+    first_by_ends(bytes, needle)
+}
+
+/// The last place of a needle; one of a single byte is looked for as a byte.
+#[inline(always)]
+pub(crate) fn last_of(bytes: &[u8], needle: &[u8]) -> Option<usize>
+    ensures { FindsLastNeedle bytes.now needle.now result }
+{
+    if needle.len() == 1 {
+        return memrchr(needle[0], bytes);
+    }
+    last_by_end(bytes, needle)
+}
+
+/// Whether a needle stands at a place.
+#[inline(always)]
+pub(crate) fn stands_at(bytes: &[u8], needle: &[u8], at: usize) -> bool
+    requires { at ≤ length bytes.now }
+    ensures { IsTrue result ↔ OccursAt bytes.now needle.now at }
+{
+    let (_, rest) = bytes.split_at(at);
+    if rest.len() < needle.len() {
+        return false;
+    }
+    let (front, _) = rest.split_at(needle.len());
+    are_same(front, needle)
+}
+
+/// Whether a needle ends at a place.
+#[inline(always)]
+pub(crate) fn ends_at(bytes: &[u8], needle: &[u8], at: usize) -> bool
+    requires { at ≤ length bytes.now }
+    ensures { IsTrue result ↔ ((length needle.now ≤ at) × OccursAt bytes.now needle.now (at - length needle.now)) }
+{
+    needle.len() <= at && stands_at(bytes, needle, at - needle.len())
+}
+
+/// The first place of a byte. The iterator is the quicker one where that is near.
+#[inline(never)]
+fn first_byte(byte: u8, bytes: &[u8]) -> Option<usize>
+    ensures { IsFirstByte (is_byte byte) bytes.now result }
+{
+    let mut places = memchr_iter(byte, bytes);
+    places.next()
+}
+
+/// The first place of a needle, which in short strings is compared where both its ends stand;
+/// behind four such places where it doesn't stand, and in longer strings, `memmem` looks for it.
+#[inline(never)]
+fn first_by_ends(bytes: &[u8], needle: &[u8]) -> Option<usize>
+    ensures { FindsNeedle bytes.now needle.now 0 result }
+{
+    if SHORT < bytes.len() {
+        return memmem::find(bytes, needle);
+    }
+    let Some(pair) = ends_of(needle) else {
+        return memmem::find(bytes, needle);
+    };
+    let finder = Finder::with_pair(needle, pair);
+    let mut from = 0;
+    for _ in 0..4 {
+        let Some(at) = next_candidate(&finder, bytes, from) else {
+            return None;
+        };
+        if stands_at(bytes, needle, at) {
+            return Some(at);
+        }
+        from = at + 1;
+    }
+    first_from(bytes, needle, from)
+}
+
+/// Both ends of a needle of two bytes or more. The greater byte comes first: in names the lesser
+/// ones, as `/`, `.` and `-`, are common.
+#[inline(always)]
+fn ends_of(needle: &[u8]) -> Option<Pair>
+    ensures { IfSome result (λ pair. IsPairOf pair needle.now) }
+{
+    if needle.len() < 2 || LONGEST < needle.len() {
+        return None;
+    }
+    let last = needle.len() - 1;
+    if needle[0] < needle[last] {
+        Pair::with_indices(needle, last as u8, 0)
+    } else {
+        Pair::with_indices(needle, 0, last as u8)
+    }
+}
+
+/// The first place, from one on, where the pair of a needle stands.
+#[inline(always)]
+fn next_candidate(finder: &Finder, bytes: &[u8], from: usize) -> Option<usize>
+    requires { from ≤ length bytes.now }
+    ensures { (needle : List ℕ) → IsPairFinderOf finder.now needle → MatchOption result
+        (Nowhere (OccursAt bytes.now needle) from (length bytes.now + 1))
+        (NoneBefore (OccursAt bytes.now needle) from (length bytes.now)) }
+{
+    let (_, rest) = bytes.split_at(from);
+    match finder.find_prefilter(rest) {
+        Some(at) => Some(from + at),
+        None => None,
+    }
+}
+
+/// The first place of a needle from a place on.
+#[inline(always)]
+fn first_from(bytes: &[u8], needle: &[u8], from: usize) -> Option<usize>
+    requires { from ≤ length bytes.now }
+    ensures { FindsNeedle bytes.now needle.now from result }
+{
+    let (_, rest) = bytes.split_at(from);
+    match memmem::find(rest, needle) {
+        Some(at) => Some(from + at),
+        None => None,
+    }
+}
+
+/// The last place of a needle, which is compared where its last byte stands; before four such
+/// places where it doesn't end, `memmem` looks for it.
+#[inline(never)]
+fn last_by_end(bytes: &[u8], needle: &[u8]) -> Option<usize>
+    ensures { FindsLastNeedle bytes.now needle.now result }
+{
+    if needle.len() < 2 || LONGEST < needle.len() {
+        return memmem::rfind(bytes, needle);
+    }
+    let last = needle[needle.len() - 1];
+    let mut end = bytes.len();
+    for _ in 0..4 {
+        let (front, _) = bytes.split_at(end);
+        let Some(at) = memrchr(last, front) else {
+            return None;
+        };
+        if ends_at(bytes, needle, at + 1) {
+            return Some(at + 1 - needle.len());
+        }
+        end = at;
+    }
+    let (front, _) = bytes.split_at(end);
+    memmem::rfind(front, needle)
+}
