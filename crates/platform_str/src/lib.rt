@@ -24,6 +24,7 @@ mod os_str;
 mod os_string;
 mod path;
 mod platform;
+mod text;
 pub mod unix;
 pub mod wasm;
 mod wide;

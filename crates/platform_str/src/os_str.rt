@@ -7,6 +7,7 @@ use crate::cow::{ByteCow, OsStrCow, StrCow};
 use crate::lossy;
 use crate::os_string::OsString;
 use crate::platform::Platform;
+use crate::text::is_text;
 use std::alloc::{AllocError, Allocator};
 use std::marker::PhantomData;
 use wtf8_core::EncodingError;
@@ -99,7 +100,10 @@ impl<'a, E: Platform> OsStr<'a, E> {
     pub fn to_str(self) -> Option<&'a str>
         ensures { MatchOption result (¬ (IsUtf8 (bytes self.entry))) (λ text. text.now ≡ bytes self.entry) }
     {
-        str::from_utf8(self.bytes).ok()
+        if !is_text(self.bytes) {
+            return None;
+        }
+        Some(unsafe { str::from_utf8_unchecked(self.bytes) })
     }
 
     /// The lossy text: the string itself where it is UTF-8, which takes no memory, else a text

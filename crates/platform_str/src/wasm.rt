@@ -8,6 +8,7 @@ ghost use Rattle.platform_str.specs.PartLaws.{AreNone, wasm_parts};
 
 use crate::join::append;
 use crate::platform::{Platform, Wasm};
+use crate::text::is_text;
 use std::alloc::{AllocError, Allocator, Global};
 use wtf8_core::{EncodingError, utf8_fault};
 
@@ -65,7 +66,7 @@ impl Platform for Wasm {
     }
 
     fn is_io_safe(bytes: &[u8]) -> bool {
-        str::from_utf8(bytes).is_ok()
+        is_text(bytes)
     }
 
     fn lossy_len(_bytes: &[u8]) -> usize {

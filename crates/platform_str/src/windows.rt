@@ -11,6 +11,7 @@ ghost use Rattle.platform_str.specs.PartLaws.{windows_parts};
 
 use crate::join::push_wtf8;
 use crate::platform::{Platform, Windows};
+use crate::text::is_text;
 use std::alloc::{AllocError, Allocator, Global};
 use wtf8_core::{Checker, EncodingError, encode_wide};
 
@@ -67,7 +68,7 @@ impl Platform for Windows {
     }
 
     fn is_io_safe(bytes: &[u8]) -> bool {
-        str::from_utf8(bytes).is_ok()
+        is_text(bytes)
     }
 
     fn lossy_len(_bytes: &[u8]) -> usize {

@@ -18,6 +18,7 @@ pub mod Fronts
 pub mod Lanes
 pub mod PairBits
 pub mod Fed
+pub mod FaultsInFronts
 pub mod Cuts
 pub mod Utf8Lemmas
 pub mod Propositions

@@ -1,7 +1,9 @@
 //! The first fault of bytes that aren't UTF-8.
-ghost use Rattle.std.specs.Prelude.{MatchOption};
+ghost use Rattle.std.specs.Prelude.{◌≤◌, MatchOption, length, take};
 ghost use Rattle.std.specs.Str.{IsUtf8};
 ghost use Rattle.wtf8_core.specs.Utf8.{IsUtf8Fault};
+
+use crate::fronts::front_of;
 
 /// The first fault of bytes that aren't UTF-8, `None` for UTF-8 (RFC 3629, section 4).
 ///
@@ -16,7 +18,43 @@ ghost use Rattle.wtf8_core.specs.Utf8.{IsUtf8Fault};
 ///
 /// `utf8_fault(b"a\xE2\x82A")` is `Some((1, Some(2)))`, `utf8_fault(b"a\xE2\x82")` is
 /// `Some((1, None))`.
+///
+/// It goes over most of a long text by vectors.
 pub fn utf8_fault(bytes: &[u8]) -> Option<(usize, Option<u8>)>
+    ensures { MatchOption result (IsUtf8 bytes.now) (λ fault. IsUtf8Fault bytes.now fault.0 fault.1) }
+{
+    if bytes.len() <= NEAR {
+        return fault_by_std(bytes);
+    }
+    let (near, _) = bytes.split_at(NEAR);
+    match fault_by_std(near) {
+        Some((valid_up_to, Some(error_len))) => Some((valid_up_to, Some(error_len))),
+        Some((valid_up_to, None)) => fault_behind(bytes, valid_up_to),
+        None => fault_behind(bytes, NEAR),
+    }
+}
+
+/// How far a fault is looked for without vectors: where faults stand close together, a loop over
+/// them doesn't ask vectors in vain.
+const NEAR: usize = 64;
+
+/// The first fault of bytes whose first `at` are UTF-8.
+fn fault_behind(bytes: &[u8], at: usize) -> Option<(usize, Option<u8>)>
+    requires within { at ≤ length bytes.now }
+    requires front { IsUtf8 (take at bytes.now) }
+    ensures { MatchOption result (IsUtf8 bytes.now) (λ fault. IsUtf8Fault bytes.now fault.0 fault.1) }
+{
+    let (_, rest) = bytes.split_at(at);
+    let front = front_of(rest, false);
+    let (_, rest) = rest.split_at(front);
+    match fault_by_std(rest) {
+        Some((valid_up_to, error_len)) => Some((at + front + valid_up_to, error_len)),
+        None => None,
+    }
+}
+
+/// The first fault, by std's reader.
+fn fault_by_std(bytes: &[u8]) -> Option<(usize, Option<u8>)>
     ensures { MatchOption result (IsUtf8 bytes.now) (λ fault. IsUtf8Fault bytes.now fault.0 fault.1) }
 {
     match str::from_utf8(bytes) {

@@ -1,8 +1,10 @@
-use Rattle.wtf8_core.proofs.lemmas.Utf8Lemmas.{fault_of}
+use Rattle.std.proofs.Common.{Some, ◌∙◌, subst, ap, arith}
+use Rattle.wtf8_core.specs.Utf8.{IsUtf8Fault}
+use Rattle.wtf8_core.proofs.lemmas.FaultsInFronts.{fault_in_front}
 use Rattle.wtf8_core.proofs.utf8.utf8_fault.Goals as goal
 
-pub returns-in-Some : goal.returns-in-Some
-returns-in-Some c = fault_of c.args.bytes.now _ _ _ _ c.valid_up_to.ensures c.in-Err.ensures.cases.1 c.in-Err.ensures.fault c.in-Some.ensures
-
-pub returns-in-None : goal.returns-in-None
-returns-in-None c = fault_of c.args.bytes.now _ _ _ _ c.valid_up_to-in-None.ensures c.in-Err.ensures.cases.1 c.in-Err.ensures.fault c.in-None.ensures
+pub returns-in-Some-default-Some : goal.returns-in-Some-default-Some
+returns-in-Some-default-Some c =
+    let s = c.in-Some-default-Some in
+    fault_in_front c.args.bytes.now 64 s.valid_up_to s.error_len (omega (arith, c.if-bytes-le-NEAR.false))
+    (subst (λ x. IsUtf8Fault x s.valid_up_to (Some s.error_len)) c.split_at.ensures.front (subst (IsUtf8Fault c.split_at.result.0.now s.valid_up_to) s.field-0-1-is s.ensures))

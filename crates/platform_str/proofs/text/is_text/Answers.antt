@@ -1,0 +1,7 @@
+use Rattle.std.specs.Str.{IsUtf8}
+use Rattle.wtf8_core.proofs.lemmas.HalvesAtEdges.{never}
+use Rattle.wtf8_core.proofs.lemmas.Utf8Facts.{no_text}
+use Rattle.platform_str.proofs.text.is_text.Goals as goal
+
+pub returns-in-Some : goal.returns-in-Some
+returns-in-Some c = never (IsUtf8 c.args.bytes.now) (no_text c.args.bytes.now _ c.in-Some.ensures.valid)
