@@ -160,7 +160,31 @@ fn at_both_ends(rt: HostRuntime) -> Result<(), AllocError> {
         split_once: Some((b"", b"a")),
         rsplit_once: Some((b"a", b"")),
     };
-    holds(&rt, b"aaa", "aa", &pairs)
+    holds(&rt, b"aaa", "aa", &pairs)?;
+    let only_pairs = Row {
+        rfind: Some(2),
+        strip_prefix: Some(b"aa"),
+        strip_suffix: Some(b"aa"),
+        trim_start: b"",
+        trim_end: b"",
+        trim: b"",
+        split_once: Some((b"", b"aa")),
+        rsplit_once: Some((b"aa", b"")),
+        ..pairs
+    };
+    holds(&rt, b"aaaa", "aa", &only_pairs)?;
+    let overlapping = Row {
+        find: Some(0),
+        rfind: Some(2),
+        strip_prefix: Some(b"ba"),
+        strip_suffix: Some(b"ab"),
+        trim_start: b"ba",
+        trim_end: b"ab",
+        trim: b"ba",
+        split_once: Some((b"", b"ba")),
+        rsplit_once: Some((b"ab", b"")),
+    };
+    holds(&rt, b"ababa", "aba", &overlapping)
 }
 
 /// Beside a lone surrogate a character is found at its own place alone.
