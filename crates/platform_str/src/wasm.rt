@@ -57,10 +57,7 @@ impl Platform for Wasm {
 
     fn check(bytes: &[u8]) -> Result<(), EncodingError> {
         match utf8_fault(bytes) {
-            Some((valid_up_to, error_len)) => Err(EncodingError::Utf8 {
-                valid_up_to,
-                error_len,
-            }),
+            Some(fault) => Err(EncodingError::from(fault)),
             None => Ok(()),
         }
     }

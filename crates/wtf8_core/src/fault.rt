@@ -142,5 +142,22 @@ impl fmt::Display for EncodingError {
 
 impl Error for EncodingError {}
 
+/// The fault of bytes that aren't UTF-8, of the two numbers that
+/// [`utf8_fault`](crate::utf8_fault) answers for them (own call).
+///
+/// `EncodingError::from((1, None))` is `Utf8 { valid_up_to: 1, error_len: None }`.
+impl From<(usize, Option<u8>)> for EncodingError {
+    ghost use Rattle.wtf8_core.specs.declared.fault.EncodingError.TheVariants.{Utf8};
+
+    ghost from_gives = { λ fault error. error ≡ Utf8 fault.0 fault.1 };
+
+    fn from((valid_up_to, error_len): (usize, Option<u8>)) -> Self {
+        EncodingError::Utf8 {
+            valid_up_to,
+            error_len,
+        }
+    }
+}
+
 const NOT_REPRESENTABLE: &str =
     "byte sequence is not representable in the platform encoding; error at ";

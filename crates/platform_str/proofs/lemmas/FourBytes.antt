@@ -1,8 +1,8 @@
 -- Four bytes written over others.
 use Rattle.std.proofs.Common.{◌≡◌, ℕ, zero, suc, ◌+◌, ◌/◌, ◌%◌, ◌<◌, ◌≤◌, List, [], ◌∷◌, ◌++◌, length, take, drop, refl, sym, ap, ◌∙◌, arith}
 use Rattle.std.proofs.Math.ListN.{set}
-use Rattle.std.proofs.lemmas.Bool.Decides.{nat_tests}
 use Rattle.wtf8_core.specs.CodePoint.{form}
+use Rattle.wtf8_core.proofs.lemmas.Forms.{form_past}
 
 -- at the front
 front_written : (s : List ℕ) (a b c d : ℕ) → 3 < length s → set (set (set (set s 0 a) 1 b) 2 c) 3 d ≡ a ∷ b ∷ c ∷ d ∷ drop 4 s
@@ -22,11 +22,6 @@ four_written (x ∷ s) (suc i) a b c d h =
     let e3 : suc i + 3 ≡ suc (i + 3) = omega arith in
     let e4 : suc i + 4 ≡ suc (i + 4) = omega arith in
     rw (e1, e2, e3, e4) (ap (λ l. x ∷ l) (four_written s i a b c d (omega arith)))
-
--- the bytes of a form past FFFF
-form_past : (c : ℕ) → 0x1_0000 ≤ c → form c ≡ (0xF0 + c / 0x4_0000) ∷ (0x80 + (c / 0x1000) % 0x40) ∷ (0x80 + (c / 0x40) % 0x40) ∷ (0x80 + c % 0x40) ∷ []
-unfolding form
-form_past c h = grind (arith, nat_tests)
 
 -- so the form is written
 pub form_written : (s : List ℕ) (i c : ℕ) → i + 4 ≤ length s → 0x1_0000 ≤ c → set (set (set (set s i (0xF0 + c / 0x4_0000)) (i + 1) (0x80 + (c / 0x1000) % 0x40)) (i + 2) (0x80 + (c / 0x40) % 0x40)) (i + 3) (0x80 + c % 0x40) ≡ take i s ++ (form c ++ drop (i + 4) s)

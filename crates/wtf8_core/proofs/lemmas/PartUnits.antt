@@ -18,10 +18,7 @@ use Rattle.wtf8_core.proofs.lemmas.Seams.{whole_within}
 use Rattle.wtf8_core.proofs.lemmas.UnitsLemmas.{wide_single}
 use Rattle.wtf8_core.proofs.lemmas.UnitsOfLemmas.{code_points_in-spelled}
 
--- fronts and rests of bare bytes are bare
-pub bare_front : (b : List ℕ) (n : ℕ) → IsBare b → IsBare (take n b)
-bare_front b n h i j w = h (0 + i) (0 + j) (whole_within b [] (take n b) (drop n b) i j (sym (take-append-drop n b)) w)
-
+-- rests of bare bytes are bare
 pub bare_rest : (b : List ℕ) (n : ℕ) → IsBare b → IsBare (drop n b)
 bare_rest b n h i j w = h (length (take n b) + i) (length (take n b) + j) (whole_within b (take n b) (drop n b) [] i j (sym (take-append-drop n b) ∙ ap (λ x. take n b ++ x) (sym (append-nil (drop n b)))) w)
 

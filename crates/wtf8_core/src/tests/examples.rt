@@ -65,6 +65,7 @@ fn faults(rt: HostRuntime) -> Result<(), Fail> {
         valid_up_to: 1,
         error_len: Some(2),
     };
+    assert_eq!(rt; EncodingError::from((1, Some(2))), fault);
     let text = fault.to_string(rt.alloc())?;
     assert_eq!(rt;
         text.as_str(),
