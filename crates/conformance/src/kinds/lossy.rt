@@ -31,10 +31,7 @@ pub fn ask<'a>(alloc: Global, row: &[&'a str]) -> Result<Vec<Column<'a>>, LineEr
 fn utf8_check(raw: &[u8]) -> Result<(), EncodingError> {
     match utf8_fault(raw) {
         None => Ok(()),
-        Some((valid_up_to, error_len)) => Err(EncodingError::Utf8 {
-            valid_up_to,
-            error_len,
-        }),
+        Some(fault) => Err(EncodingError::from(fault)),
     }
 }
 
