@@ -5,7 +5,7 @@ use Rattle.conformance.specs.declared.column.Column.TheVariants.{Asked, NotAsked
 
 -- a call answers something else than the file has
 abbrev pub Differs : Column → Type 0
-Differs (Asked name call expected answered) = string_bytes answered ≢ expected.now
+Differs (Asked name of call expected answered) = string_bytes answered ≢ expected.now
 Differs (NotAsked name) = ⊥
 
 -- a column of a row differs

@@ -1,7 +1,7 @@
 //! The columns of a row, asked one after another.
 use crate::column::Column;
 use crate::hex_text::bytes_text;
-use platform_str::{OsStr, Platform};
+use crate::views::View;
 use std::alloc::{AllocError, Global};
 
 /// The columns that were asked so far. Each call adds one more, by its name: what the file has
@@ -9,25 +9,27 @@ use std::alloc::{AllocError, Global};
 #[derive(Drop)]
 pub struct Asked<'a> {
     alloc: Global,
+    of: &'static str,
     columns: Vec<Column<'a>>,
 }
 
 impl<'a> Asked<'a> {
-    pub fn new(alloc: Global) -> Self {
+    /// No column yet. The next are calls of this type.
+    pub fn new(alloc: Global, of: &'static str) -> Self {
         Asked {
             alloc,
+            of,
             columns: Vec::new(alloc),
         }
     }
 
-    pub fn into_columns(self) -> Vec<Column<'a>> {
-        self.columns
+    /// The next columns are calls of this type.
+    pub fn turn_to(&mut self, of: &'static str) {
+        self.of = of;
     }
 
-    /// A column whose call doesn't stand yet.
-    pub fn not_asked(&mut self, name: &'static str) -> Result<(), AllocError> {
-        self.columns.push(Column::not_asked(name))?;
-        Ok(())
+    pub fn into_columns(self) -> Vec<Column<'a>> {
+        self.columns
     }
 
     /// A text.
@@ -39,7 +41,7 @@ impl<'a> Asked<'a> {
         answered: String,
     ) -> Result<(), AllocError> {
         self.columns
-            .push(Column::asked(name, call, expected, answered))?;
+            .push(Column::asked(name, self.of, call, expected, answered))?;
         Ok(())
     }
 
@@ -109,13 +111,27 @@ impl<'a> Asked<'a> {
         }
     }
 
-    /// Two strings, if there are any to answer.
-    pub fn pair<E: Platform>(
+    /// A string, if there is one to answer.
+    pub fn view_or_none<V: View>(
         &mut self,
         name: &'static str,
         call: &'static str,
         expected: &'a str,
-        answer: Option<(OsStr<'_, E>, OsStr<'_, E>)>,
+        answer: Option<V>,
+    ) -> Result<(), AllocError> {
+        match answer {
+            Some(view) => self.bytes(name, call, expected, view.as_encoded_bytes()),
+            None => self.none(name, call, expected),
+        }
+    }
+
+    /// Two strings, if there are any to answer.
+    pub fn pair<V: View>(
+        &mut self,
+        name: &'static str,
+        call: &'static str,
+        expected: &'a str,
+        answer: Option<(V, V)>,
     ) -> Result<(), AllocError> {
         match answer {
             Some((front, back)) => {
@@ -126,6 +142,21 @@ impl<'a> Asked<'a> {
             }
             None => self.none(name, call, expected),
         }
+    }
+
+    /// Strings with commas between, or that there is none.
+    pub fn views<V: View>(
+        &mut self,
+        name: &'static str,
+        call: &'static str,
+        expected: &'a str,
+        answer: &[V],
+    ) -> Result<(), AllocError> {
+        let mut texts = Vec::new(self.alloc);
+        for view in answer {
+            texts.push(bytes_text(self.alloc, view.as_encoded_bytes())?)?;
+        }
+        self.list(name, call, expected, &texts)
     }
 
     /// Texts with commas between, or that there is none.

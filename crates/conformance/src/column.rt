@@ -7,9 +7,10 @@ use std::fmt;
 /// A column of a row, by its name.
 #[derive(Drop)]
 pub enum Column<'a> {
-    /// What the file has there, and what a call answers.
+    /// What the file has there, and what a call of a type or a crate answers.
     Asked {
         name: &'static str,
+        of: &'static str,
         call: &'static str,
         expected: &'a str,
         answered: String,
@@ -24,14 +25,16 @@ impl<'a> Column<'a> {
     /// What a file has in the column, and what a call answers.
     pub fn asked(
         name: &'static str,
+        of: &'static str,
         call: &'static str,
         expected: &'a str,
         answered: String,
     ) -> Self
-        ensures { result ≡ Column.Asked name.entry call.entry expected.entry answered }
+        ensures { result ≡ Column.Asked name.entry of.entry call.entry expected.entry answered }
     {
         Column::Asked {
             name,
+            of,
             call,
             expected,
             answered,
@@ -72,10 +75,14 @@ impl<'a> fmt::Display for Column<'a> {
         match self {
             Column::Asked {
                 name,
+                of,
                 call,
                 expected,
                 answered,
-            } => write!(f, "{name}: expected {expected}, {call} answered {answered}"),
+            } => write!(
+                f,
+                "{name}: expected {expected}, {call} of {of} answered {answered}"
+            ),
             Column::NotAsked { name } => write!(f, "{name}: not asked"),
         }
     }

@@ -1,5 +1,5 @@
 //! Faults of bytes as texts.
-use platform_str::EncodingError;
+use os_str_bytes::EncodingError;
 use std::alloc::{AllocError, Global};
 
 /// The text of a fault, `ok` where there is none.

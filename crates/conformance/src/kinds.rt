@@ -10,7 +10,7 @@ use crate::column::Column;
 use crate::error::LineError;
 use crate::platforms;
 use ranges::Ranges;
-use search::Search;
+use search::Searches;
 use std::alloc::Global;
 use strings::Strings;
 
@@ -75,7 +75,7 @@ impl RowKind for Kind {
             Kind::Lossy => lossy::ask(alloc, row),
             Kind::Strings => platforms::ask::<Strings>(alloc, row),
             Kind::Ranges => platforms::ask::<Ranges>(alloc, row),
-            Kind::Search => platforms::ask::<Search>(alloc, row),
+            Kind::Search => platforms::ask::<Searches>(alloc, row),
         }
     }
 }

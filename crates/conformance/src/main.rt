@@ -22,6 +22,7 @@ mod platforms;
 mod summary;
 #[cfg(test)]
 mod tests;
+mod views;
 
 use error::Failure;
 use kinds::Kind;

@@ -1,10 +1,10 @@
 //! Kinds of answer files whose rows begin with a platform.
 ghost use Rattle.std.specs.Prelude.{◌≡◌, IfOk, IfErr};
-ghost use Rattle.platform_str.specs.Strings.{bytes};
+ghost use Rattle.os_str_bytes.specs.Strings.{bytes};
 
 use crate::column::Column;
 use crate::error::LineError;
-use platform_str::{OsStr, Platform, Unix, Wasm, Windows};
+use os_str_bytes::{OsStr, Platform, Unix, Wasm, Windows};
 use std::alloc::Global;
 
 /// A kind of answer file whose first column is the name of a platform.

@@ -5,9 +5,8 @@ use crate::error::LineError;
 use crate::fault_text::fault_text;
 use crate::hex_text::{bytes_text, read_bytes};
 use crate::platforms::string;
-use platform_str::{EncodingError, Platform, Unix, Wasm, Windows};
+use os_str_bytes::{EncodingError, Platform, Unix, Wasm, Windows, utf8_fault};
 use std::alloc::Global;
-use wtf8_core::utf8_fault;
 
 /// What a row asks, and what the calls answer.
 pub fn ask<'a>(alloc: Global, row: &[&'a str]) -> Result<Vec<Column<'a>>, LineError> {
@@ -20,10 +19,22 @@ pub fn ask<'a>(alloc: Global, row: &[&'a str]) -> Result<Vec<Column<'a>>, LineEr
     let text = lossy_text(alloc, &raw)?;
     let windows_check = fault_text(alloc, Windows::check(&raw))?;
     Ok(vec![in alloc;
-        Column::asked("utf8_fault", "wtf8_core::utf8_fault", utf8, fault),
-        Column::asked("utf8_fault", "Wasm::check", utf8, wasm_check),
-        Column::asked("lossy text on Unix", "OsStr::to_string_lossy", lossy, text),
-        Column::asked("check on Windows", "Windows::check", windows, windows_check),
+        Column::asked("utf8_fault", "wtf8_core", "utf8_fault", utf8, fault),
+        Column::asked("utf8_fault", "Wasm", "check", utf8, wasm_check),
+        Column::asked(
+            "lossy text on Unix",
+            "OsStr",
+            "to_string_lossy",
+            lossy,
+            text
+        ),
+        Column::asked(
+            "check on Windows",
+            "Windows",
+            "check",
+            windows,
+            windows_check
+        ),
         Column::not_asked("read_lossy on Windows"),
     ]?)
 }

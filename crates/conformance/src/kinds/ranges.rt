@@ -1,10 +1,11 @@
 //! Files `ranges`: a platform, a string of it, a range of places, and the bytes in the range.
+use crate::asked::Asked;
 use crate::column::Column;
 use crate::error::LineError;
-use crate::hex_text::{bytes_text, read_bytes};
-use crate::platforms::{PlatformKind, string};
-use os_str_ext::{OsStrBytesExt, SliceIndex};
-use platform_str::{OsStr, Platform};
+use crate::hex_text::read_bytes;
+use crate::platforms::PlatformKind;
+use crate::views::{Question, View, ask_each};
+use os_str_bytes::{Platform, SliceIndex};
 use std::alloc::{AllocError, Global};
 
 /// The kind `ranges`.
@@ -19,10 +20,36 @@ impl PlatformKind for Ranges {
             return Err(LineError::column_count(row, 4));
         };
         let raw = read_bytes(alloc, raw)?;
-        let string = string::<E>(&raw)?;
-        let range = read_range(range).ok_or(LineError::NoRange)?;
-        let indexed = index(alloc, string, range)?;
-        Ok(vec![in alloc; Column::asked("bytes of index", "OsStr::index", part, indexed)]?)
+        let index = Index {
+            range: read_range(range).ok_or(LineError::NoRange)?,
+            part,
+        };
+        let mut asked = Asked::new(alloc, "OsStr");
+        ask_each::<E, _>(alloc, &mut asked, &raw, &index)?;
+        Ok(asked.into_columns())
+    }
+}
+
+/// A range, and the bytes that a row has in it.
+#[derive(Clone, Copy)]
+struct Index<'a> {
+    range: PlaceRange,
+    part: &'a str,
+}
+
+impl<'a> Question for Index<'a> {
+    type Columns = Asked<'a>;
+
+    fn ask<V: View>(
+        &self,
+        _alloc: Global,
+        asked: &mut Asked<'a>,
+        of: &'static str,
+        view: V,
+    ) -> Result<(), LineError> {
+        asked.turn_to(of);
+        asked.view_or_none("bytes of index", "index", self.part, part(view, self.range))?;
+        Ok(())
     }
 }
 
@@ -60,29 +87,14 @@ fn read_place(text: &str) -> Option<usize> {
     text.parse().ok()
 }
 
-fn index<E: Platform>(
-    alloc: Global,
-    string: OsStr<'_, E>,
-    range: PlaceRange,
-) -> Result<String, AllocError> {
+/// The part in a range, if it fits.
+fn part<V: View>(view: V, range: PlaceRange) -> Option<V> {
     match range {
-        PlaceRange::Full => part(alloc, string, ..),
-        PlaceRange::From(start) => part(alloc, string, start..),
-        PlaceRange::To(end) => part(alloc, string, ..end),
-        PlaceRange::ToInclusive(last) => part(alloc, string, ..=last),
-        PlaceRange::Between(start, end) => part(alloc, string, start..end),
-        PlaceRange::BetweenInclusive(start, last) => part(alloc, string, start..=last),
-    }
-}
-
-fn part<E: Platform, I: SliceIndex + Drop>(
-    alloc: Global,
-    string: OsStr<'_, E>,
-    range: I,
-) -> Result<String, AllocError> {
-    if range.fits(string) {
-        bytes_text(alloc, string.index(range).as_encoded_bytes())
-    } else {
-        String::from_str(alloc, "!")
+        PlaceRange::Full => view.part(..),
+        PlaceRange::From(start) => view.part(start..),
+        PlaceRange::To(end) => view.part(..end),
+        PlaceRange::ToInclusive(last) => view.part(..=last),
+        PlaceRange::Between(start, end) => view.part(start..end),
+        PlaceRange::BetweenInclusive(start, last) => view.part(start..=last),
     }
 }

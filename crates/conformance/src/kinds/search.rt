@@ -3,14 +3,22 @@
 use crate::asked::Asked;
 use crate::column::Column;
 use crate::error::LineError;
-use crate::hex_text::{bytes_text, read_bytes, read_text};
-use crate::platforms::{PlatformKind, string};
-use os_str_ext::{Encoded, OsStrBytesExt, Pattern};
-use platform_str::{OsStr, Platform};
+use crate::hex_text::{read_bytes, read_text};
+use crate::platforms::PlatformKind;
+use crate::views::{Question, View, ask_each};
+use os_str_bytes::{Encoded, Pattern, Platform};
 use std::alloc::{AllocError, Global};
 
 /// The kind `search`.
-pub struct Search;
+pub struct Searches;
+
+/// A pattern, how it is called, and what a row has for each search for it.
+#[derive(Clone, Copy)]
+struct Search<'a, P> {
+    call: &'static str,
+    pattern: P,
+    answers: Answers<'a>,
+}
 
 /// What a row has for each search.
 #[derive(Clone, Copy)]
@@ -31,7 +39,7 @@ struct Answers<'a> {
     rsplit_once: &'a str,
 }
 
-impl PlatformKind for Search {
+impl PlatformKind for Searches {
     fn ask_on<'a, E: Platform>(
         alloc: Global,
         row: &[&'a str],
@@ -59,7 +67,6 @@ impl PlatformKind for Search {
             return Err(LineError::column_count(row, 17));
         };
         let raw = read_bytes(alloc, raw)?;
-        let string = string::<E>(&raw)?;
         let pattern = read_text(alloc, pattern)?;
         let answers = Answers {
             find,
@@ -77,32 +84,26 @@ impl PlatformKind for Search {
             split_once,
             rsplit_once,
         };
-        let mut asked = Asked::new(alloc);
-        ask(
-            &mut asked,
-            alloc,
-            "a search for a &str",
-            string,
-            pattern.as_str(),
+        let text = Search {
+            call: "a search for a &str",
+            pattern: pattern.as_str(),
             answers,
-        )?;
-        ask(
-            &mut asked,
-            alloc,
-            "a search for a &String",
-            string,
-            &pattern,
+        };
+        let string = Search {
+            call: "a search for a &String",
+            pattern: &pattern,
             answers,
-        )?;
+        };
+        let mut asked = Asked::new(alloc, "OsStr");
+        ask_each::<E, _>(alloc, &mut asked, &raw, &text)?;
+        ask_each::<E, _>(alloc, &mut asked, &raw, &string)?;
         if let Some(character) = only_char(&pattern) {
-            ask(
-                &mut asked,
-                alloc,
-                "a search for a char",
-                string,
-                character,
+            let character = Search {
+                call: "a search for a char",
+                pattern: character,
                 answers,
-            )?;
+            };
+            ask_each::<E, _>(alloc, &mut asked, &raw, &character)?;
         }
         Ok(asked.into_columns())
     }
@@ -118,83 +119,81 @@ fn only_char(text: &str) -> Option<char> {
     }
 }
 
-/// Asks each search for a pattern.
-fn ask<'a, E: Platform, P: Pattern + Copy>(
-    asked: &mut Asked<'a>,
-    alloc: Global,
-    call: &'static str,
-    string: OsStr<'_, E>,
-    pattern: P,
-    answers: Answers<'a>,
-) -> Result<(), AllocError> {
-    ask_places(asked, call, string, pattern, answers)?;
-    ask_ends(asked, call, string, pattern, answers)?;
-    ask_pieces(asked, alloc, call, string, pattern, answers)
-}
+impl<'a, P: Pattern + Copy> Question for Search<'a, P> {
+    type Columns = Asked<'a>;
 
-fn ask_places<'a, E: Platform, P: Pattern + Copy>(
-    asked: &mut Asked<'a>,
-    call: &'static str,
-    string: OsStr<'_, E>,
-    pattern: P,
-    answers: Answers<'a>,
-) -> Result<(), AllocError> {
-    asked.place("find", call, answers.find, string.find(pattern))?;
-    asked.place("rfind", call, answers.rfind, string.rfind(pattern))?;
-    asked.flag("contains", call, answers.contains, string.contains(pattern))?;
-    let starts = string.starts_with(pattern);
-    asked.flag("starts_with", call, answers.starts_with, starts)?;
-    let ends = string.ends_with(pattern);
-    asked.flag("ends_with", call, answers.ends_with, ends)
-}
-
-fn ask_ends<'a, E: Platform, P: Pattern + Copy>(
-    asked: &mut Asked<'a>,
-    call: &'static str,
-    string: OsStr<'_, E>,
-    pattern: P,
-    answers: Answers<'a>,
-) -> Result<(), AllocError> {
-    let rest = string
-        .strip_prefix(pattern)
-        .map(|rest| rest.as_encoded_bytes());
-    asked.bytes_or_none("strip_prefix", call, answers.strip_prefix, rest)?;
-    let rest = string
-        .strip_suffix(pattern)
-        .map(|rest| rest.as_encoded_bytes());
-    asked.bytes_or_none("strip_suffix", call, answers.strip_suffix, rest)?;
-    let rest = string.trim_start_matches(pattern).as_encoded_bytes();
-    asked.bytes("trim_start_matches", call, answers.trim_start_matches, rest)?;
-    let rest = string.trim_end_matches(pattern).as_encoded_bytes();
-    asked.bytes("trim_end_matches", call, answers.trim_end_matches, rest)?;
-    let rest = string.trim_matches(pattern).as_encoded_bytes();
-    asked.bytes("trim_matches", call, answers.trim_matches, rest)
-}
-
-/// Asks the splits; for an empty pattern there are no pieces.
-fn ask_pieces<'a, E: Platform, P: Pattern + Copy>(
-    asked: &mut Asked<'a>,
-    alloc: Global,
-    call: &'static str,
-    string: OsStr<'_, E>,
-    pattern: P,
-    answers: Answers<'a>,
-) -> Result<(), AllocError> {
-    let parts = string.split_once(pattern);
-    asked.pair("split_once", call, answers.split_once, parts)?;
-    let parts = string.rsplit_once(pattern);
-    asked.pair("rsplit_once", call, answers.rsplit_once, parts)?;
-    let mut pieces = Vec::new(alloc);
-    let mut from_the_end = Vec::new(alloc);
-    let encoded = pattern.encode();
-    if !encoded.as_bytes().is_empty() {
-        for piece in string.split(pattern) {
-            pieces.push(bytes_text(alloc, piece.as_encoded_bytes())?)?;
-        }
-        for piece in string.rsplit(pattern) {
-            from_the_end.push(bytes_text(alloc, piece.as_encoded_bytes())?)?;
-        }
+    fn ask<V: View>(
+        &self,
+        alloc: Global,
+        asked: &mut Asked<'a>,
+        of: &'static str,
+        view: V,
+    ) -> Result<(), LineError> {
+        asked.turn_to(of);
+        self.ask_places(asked, view)?;
+        self.ask_ends(asked, view)?;
+        Ok(self.ask_pieces(asked, alloc, view)?)
     }
-    asked.list("split", call, answers.split, &pieces)?;
-    asked.list("rsplit", call, answers.rsplit, &from_the_end)
+}
+
+impl<'a, P: Pattern + Copy> Search<'a, P> {
+    fn ask_places<V: View>(&self, asked: &mut Asked<'a>, view: V) -> Result<(), AllocError> {
+        let Search {
+            call,
+            pattern,
+            answers,
+        } = *self;
+        asked.place("find", call, answers.find, view.find(pattern))?;
+        asked.place("rfind", call, answers.rfind, view.rfind(pattern))?;
+        asked.flag("contains", call, answers.contains, view.contains(pattern))?;
+        let starts = view.starts_with(pattern);
+        asked.flag("starts_with", call, answers.starts_with, starts)?;
+        let ends = view.ends_with(pattern);
+        asked.flag("ends_with", call, answers.ends_with, ends)
+    }
+
+    fn ask_ends<V: View>(&self, asked: &mut Asked<'a>, view: V) -> Result<(), AllocError> {
+        let Search {
+            call,
+            pattern,
+            answers,
+        } = *self;
+        let rest = view.strip_prefix(pattern);
+        asked.view_or_none("strip_prefix", call, answers.strip_prefix, rest)?;
+        let rest = view.strip_suffix(pattern);
+        asked.view_or_none("strip_suffix", call, answers.strip_suffix, rest)?;
+        let rest = Some(view.trim_start_matches(pattern));
+        asked.view_or_none("trim_start_matches", call, answers.trim_start_matches, rest)?;
+        let rest = Some(view.trim_end_matches(pattern));
+        asked.view_or_none("trim_end_matches", call, answers.trim_end_matches, rest)?;
+        let rest = Some(view.trim_matches(pattern));
+        asked.view_or_none("trim_matches", call, answers.trim_matches, rest)
+    }
+
+    /// Asks the splits; for an empty pattern there are no pieces.
+    fn ask_pieces<V: View>(
+        &self,
+        asked: &mut Asked<'a>,
+        alloc: Global,
+        view: V,
+    ) -> Result<(), AllocError> {
+        let Search {
+            call,
+            pattern,
+            answers,
+        } = *self;
+        let parts = view.split_once(pattern);
+        asked.pair("split_once", call, answers.split_once, parts)?;
+        let parts = view.rsplit_once(pattern);
+        asked.pair("rsplit_once", call, answers.rsplit_once, parts)?;
+        let encoded = pattern.encode();
+        if encoded.as_bytes().is_empty() {
+            asked.none("split", call, answers.split)?;
+            return asked.none("rsplit", call, answers.rsplit);
+        }
+        let pieces = view.split(alloc, pattern)?;
+        asked.views("split", call, answers.split, &pieces)?;
+        let pieces = view.rsplit(alloc, pattern)?;
+        asked.views("rsplit", call, answers.rsplit, &pieces)
+    }
 }

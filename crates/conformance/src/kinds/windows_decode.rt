@@ -3,9 +3,8 @@ use crate::column::Column;
 use crate::error::LineError;
 use crate::fault_text::fault_text;
 use crate::hex_text::{read_bytes, units_text};
-use platform_str::{EncodingError, Platform, Windows};
+use os_str_bytes::{EncodingError, Platform, Windows, encode_wide};
 use std::alloc::{AllocError, Global};
-use wtf8_core::encode_wide;
 
 /// What a row asks, and what the calls answer.
 pub fn ask<'a>(alloc: Global, row: &[&'a str]) -> Result<Vec<Column<'a>>, LineError> {
@@ -20,12 +19,19 @@ pub fn ask<'a>(alloc: Global, row: &[&'a str]) -> Result<Vec<Column<'a>>, LineEr
     Ok(vec![in alloc;
         Column::asked(
             "units up to the first fault",
-            "wtf8_core::encode_wide",
+            "wtf8_core",
+            "encode_wide",
             units,
             decoded
         ),
-        Column::asked("fault or ok", "wtf8_core::encode_wide", fault, first_fault),
-        Column::asked("fault or ok", "Windows::check", fault, check),
+        Column::asked(
+            "fault or ok",
+            "wtf8_core",
+            "encode_wide",
+            fault,
+            first_fault
+        ),
+        Column::asked("fault or ok", "Windows", "check", fault, check),
     ]?)
 }
 

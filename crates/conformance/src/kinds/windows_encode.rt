@@ -2,9 +2,9 @@
 use crate::column::Column;
 use crate::error::LineError;
 use crate::hex_text::{bytes_text, read_units};
-use platform_str::windows::OsString;
+use os_str_bytes::DecodeWide;
+use os_str_bytes::windows::OsString;
 use std::alloc::{AllocError, Global};
-use wtf8_core::DecodeWide;
 
 /// What a row asks, and what the calls answer.
 pub fn ask<'a>(alloc: Global, row: &[&'a str]) -> Result<Vec<Column<'a>>, LineError> {
@@ -15,8 +15,8 @@ pub fn ask<'a>(alloc: Global, row: &[&'a str]) -> Result<Vec<Column<'a>>, LineEr
     let decoded = decode_wide(alloc, &units)?;
     let string = from_wide(alloc, &units)?;
     Ok(vec![in alloc;
-        Column::asked("bytes", "wtf8_core::DecodeWide", bytes, decoded),
-        Column::asked("bytes", "OsString::from_wide", bytes, string),
+        Column::asked("bytes", "wtf8_core", "DecodeWide", bytes, decoded),
+        Column::asked("bytes", "OsString", "from_wide", bytes, string),
     ]?)
 }
 

@@ -4,32 +4,60 @@ use crate::asked::Asked;
 use crate::column::Column;
 use crate::error::LineError;
 use crate::hex_text::read_bytes;
-use crate::platforms::string;
-use platform_str::Windows;
+use crate::views::{Question, View, ask_each};
+use os_str_bytes::Windows;
 use std::alloc::Global;
 use std::cmp::Ordering;
 
 /// What a row asks, and what the calls answer.
 pub fn ask<'a>(alloc: Global, row: &[&'a str]) -> Result<Vec<Column<'a>>, LineError> {
-    let [first, second, joined, _three, order] = row else {
+    let [first, second, joined, three, order] = row else {
         return Err(LineError::column_count(row, 5));
     };
     let first = read_bytes(alloc, first)?;
     let second = read_bytes(alloc, second)?;
-    let first = string::<Windows>(&first)?;
-    let second = string::<Windows>(&second)?;
-    let mut both = first.to_owned(alloc)?;
-    both.push(second)?;
-    let mut asked = Asked::new(alloc);
-    let bytes = both.as_os_str().as_encoded_bytes();
-    asked.bytes("a.push(b)", "OsString::push", joined, bytes)?;
-    asked.not_asked("a.repeat(3)")?;
-    let sign = match first.cmp(&second) {
-        Ordering::Less => "<",
-        Ordering::Equal => "=",
-        Ordering::Greater => ">",
+    let join = Join {
+        second: &second,
+        joined,
+        three,
+        order,
     };
-    let sign = String::from_str(alloc, sign)?;
-    asked.text("a.cmp(b)", "OsStr::cmp", order, sign)?;
+    let mut asked = Asked::new(alloc, "OsStr");
+    ask_each::<Windows, _>(alloc, &mut asked, &first, &join)?;
     Ok(asked.into_columns())
+}
+
+/// The second string, and what a row has for the calls.
+#[derive(Clone, Copy)]
+struct Join<'a, 'b> {
+    second: &'b [u8],
+    joined: &'a str,
+    three: &'a str,
+    order: &'a str,
+}
+
+impl<'a, 'b> Question for Join<'a, 'b> {
+    type Columns = Asked<'a>;
+
+    fn ask<V: View>(
+        &self,
+        alloc: Global,
+        asked: &mut Asked<'a>,
+        of: &'static str,
+        view: V,
+    ) -> Result<(), LineError> {
+        asked.turn_to(of);
+        let joined = view.joined(alloc, self.second)?;
+        asked.bytes("a.push(b)", "push to an owned copy", self.joined, &joined)?;
+        let three = view.repeat(alloc, 3)?;
+        asked.bytes("a.repeat(3)", "repeat", self.three, &three)?;
+        let sign = match view.order(self.second)? {
+            Ordering::Less => "<",
+            Ordering::Equal => "=",
+            Ordering::Greater => ">",
+        };
+        let sign = String::from_str(alloc, sign)?;
+        asked.text("a.cmp(b)", "cmp", self.order, sign)?;
+        Ok(())
+    }
 }

@@ -5,8 +5,9 @@ use crate::column::Column;
 use crate::error::LineError;
 use crate::hex_text::read_bytes;
 use crate::platforms::string;
-use platform_str::{Platform, Windows};
-use std::alloc::Global;
+use crate::views::{Question, View, ask_each};
+use os_str_bytes::{Platform, Windows};
+use std::alloc::{AllocError, Global};
 
 /// What a row asks, and what the calls answer.
 pub fn ask<'a>(alloc: Global, row: &[&'a str]) -> Result<Vec<Column<'a>>, LineError> {
@@ -14,13 +15,58 @@ pub fn ask<'a>(alloc: Global, row: &[&'a str]) -> Result<Vec<Column<'a>>, LineEr
         return Err(LineError::column_count(row, 4));
     };
     let raw = read_bytes(alloc, raw)?;
-    let pattern = read_bytes(alloc, pattern)?;
-    let raw = string::<Windows>(&raw)?.as_encoded_bytes();
-    let pattern = string::<Windows>(&pattern)?.as_encoded_bytes();
-    let mut asked = Asked::new(alloc);
-    let answer = Windows::starts_with_os(raw, pattern);
-    asked.flag("starts_with_os", "Windows::starts_with_os", starts, answer)?;
-    let answer = Windows::ends_with_os(raw, pattern);
-    asked.flag("ends_with_os", "Windows::ends_with_os", ends, answer)?;
+    let other = read_bytes(alloc, pattern)?;
+    let prefix = Prefix {
+        other: &other,
+        starts,
+        ends,
+    };
+    let mut asked = Asked::new(alloc, "Windows");
+    prefix.ask_platform(&mut asked, &raw)?;
+    ask_each::<Windows, _>(alloc, &mut asked, &raw, &prefix)?;
     Ok(asked.into_columns())
+}
+
+/// The second string, and what a row has for the two tests.
+#[derive(Clone, Copy)]
+struct Prefix<'a, 'b> {
+    other: &'b [u8],
+    starts: &'a str,
+    ends: &'a str,
+}
+
+impl<'a, 'b> Prefix<'a, 'b> {
+    /// Asks the platform's own calls, which are given bytes.
+    fn ask_platform(&self, asked: &mut Asked<'a>, raw: &[u8]) -> Result<(), LineError> {
+        let raw = string::<Windows>(raw)?.as_encoded_bytes();
+        let other = string::<Windows>(self.other)?.as_encoded_bytes();
+        self.add(
+            asked,
+            Windows::starts_with_os(raw, other),
+            Windows::ends_with_os(raw, other),
+        )?;
+        Ok(())
+    }
+
+    fn add(&self, asked: &mut Asked<'a>, starts: bool, ends: bool) -> Result<(), AllocError> {
+        asked.flag("starts_with_os", "starts_with_os", self.starts, starts)?;
+        asked.flag("ends_with_os", "ends_with_os", self.ends, ends)
+    }
+}
+
+impl<'a, 'b> Question for Prefix<'a, 'b> {
+    type Columns = Asked<'a>;
+
+    fn ask<V: View>(
+        &self,
+        _alloc: Global,
+        asked: &mut Asked<'a>,
+        of: &'static str,
+        view: V,
+    ) -> Result<(), LineError> {
+        asked.turn_to(of);
+        let starts = view.starts_with_os(self.other)?;
+        let ends = view.ends_with_os(self.other)?;
+        Ok(self.add(asked, starts, ends)?)
+    }
 }
