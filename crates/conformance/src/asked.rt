@@ -1,7 +1,7 @@
 //! The columns of a row, asked one after another.
 use crate::column::Column;
 use crate::hex_text::bytes_text;
-use crate::views::View;
+use os_str_bytes::{Platform, RawOsStr};
 use std::alloc::{AllocError, Global};
 
 /// The columns that were asked so far. Each call adds one more, by its name: what the file has
@@ -112,26 +112,26 @@ impl<'a> Asked<'a> {
     }
 
     /// A string, if there is one to answer.
-    pub fn view_or_none<V: View>(
+    pub fn string_or_none<E: Platform>(
         &mut self,
         name: &'static str,
         call: &'static str,
         expected: &'a str,
-        answer: Option<V>,
+        answer: Option<RawOsStr<'_, E>>,
     ) -> Result<(), AllocError> {
         match answer {
-            Some(view) => self.bytes(name, call, expected, view.as_encoded_bytes()),
+            Some(string) => self.bytes(name, call, expected, string.as_encoded_bytes()),
             None => self.none(name, call, expected),
         }
     }
 
     /// Two strings, if there are any to answer.
-    pub fn pair<V: View>(
+    pub fn pair<'s, E: Platform + 's>(
         &mut self,
         name: &'static str,
         call: &'static str,
         expected: &'a str,
-        answer: Option<(V, V)>,
+        answer: Option<(RawOsStr<'s, E>, RawOsStr<'s, E>)>,
     ) -> Result<(), AllocError> {
         match answer {
             Some((front, back)) => {
@@ -145,16 +145,16 @@ impl<'a> Asked<'a> {
     }
 
     /// Strings with commas between, or that there is none.
-    pub fn views<V: View>(
+    pub fn strings<'s, E: Platform + 's>(
         &mut self,
         name: &'static str,
         call: &'static str,
         expected: &'a str,
-        answer: &[V],
+        answer: &[RawOsStr<'s, E>],
     ) -> Result<(), AllocError> {
         let mut texts = Vec::new(self.alloc);
-        for view in answer {
-            texts.push(bytes_text(self.alloc, view.as_encoded_bytes())?)?;
+        for string in answer {
+            texts.push(bytes_text(self.alloc, string.as_encoded_bytes())?)?;
         }
         self.list(name, call, expected, &texts)
     }

@@ -19,10 +19,10 @@ mod files;
 mod hex_text;
 mod kinds;
 mod platforms;
+mod raw_strings;
 mod summary;
 #[cfg(test)]
 mod tests;
-mod views;
 
 use error::Failure;
 use kinds::Kind;

@@ -4,8 +4,8 @@ use crate::column::Column;
 use crate::error::LineError;
 use crate::hex_text::read_bytes;
 use crate::platforms::PlatformKind;
-use crate::views::{Question, View, ask_each};
-use os_str_bytes::{Platform, SliceIndex};
+use crate::raw_strings::{Question, ask_each};
+use os_str_bytes::{Platform, RawOsStr, SliceIndex};
 use std::alloc::{AllocError, Global};
 
 /// The kind `ranges`.
@@ -40,15 +40,16 @@ struct Index<'a> {
 impl<'a> Question for Index<'a> {
     type Columns = Asked<'a>;
 
-    fn ask<V: View>(
+    fn ask<'s, E: Platform + 's>(
         &self,
         _alloc: Global,
         asked: &mut Asked<'a>,
         of: &'static str,
-        view: V,
+        string: RawOsStr<'s, E>,
     ) -> Result<(), LineError> {
         asked.turn_to(of);
-        asked.view_or_none("bytes of index", "index", self.part, part(view, self.range))?;
+        let part = part(string, self.range);
+        asked.string_or_none("bytes of index", "index", self.part, part)?;
         Ok(())
     }
 }
@@ -88,13 +89,26 @@ fn read_place(text: &str) -> Option<usize> {
 }
 
 /// The part in a range, if it fits.
-fn part<V: View>(view: V, range: PlaceRange) -> Option<V> {
+fn part<'s, E: Platform + 's>(
+    string: RawOsStr<'s, E>,
+    range: PlaceRange,
+) -> Option<RawOsStr<'s, E>> {
     match range {
-        PlaceRange::Full => view.part(..),
-        PlaceRange::From(start) => view.part(start..),
-        PlaceRange::To(end) => view.part(..end),
-        PlaceRange::ToInclusive(last) => view.part(..=last),
-        PlaceRange::Between(start, end) => view.part(start..end),
-        PlaceRange::BetweenInclusive(start, last) => view.part(start..=last),
+        PlaceRange::Full => part_in(string, ..),
+        PlaceRange::From(start) => part_in(string, start..),
+        PlaceRange::To(end) => part_in(string, ..end),
+        PlaceRange::ToInclusive(last) => part_in(string, ..=last),
+        PlaceRange::Between(start, end) => part_in(string, start..end),
+        PlaceRange::BetweenInclusive(start, last) => part_in(string, start..=last),
     }
+}
+
+fn part_in<'s, E: Platform + 's, I: SliceIndex + Drop>(
+    string: RawOsStr<'s, E>,
+    range: I,
+) -> Option<RawOsStr<'s, E>> {
+    if string.fits(&range) {
+        return Some(string.index(range));
+    }
+    None
 }

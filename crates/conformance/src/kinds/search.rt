@@ -5,8 +5,8 @@ use crate::column::Column;
 use crate::error::LineError;
 use crate::hex_text::{read_bytes, read_text};
 use crate::platforms::PlatformKind;
-use crate::views::{Question, View, ask_each};
-use os_str_bytes::{Encoded, Pattern, Platform};
+use crate::raw_strings::{Question, ask_each};
+use os_str_bytes::{Pattern, Platform, RawOsStr, headline};
 use std::alloc::{AllocError, Global};
 
 /// The kind `search`.
@@ -122,78 +122,77 @@ fn only_char(text: &str) -> Option<char> {
 impl<'a, P: Pattern + Copy> Question for Search<'a, P> {
     type Columns = Asked<'a>;
 
-    fn ask<V: View>(
+    fn ask<'s, E: Platform + 's>(
         &self,
         alloc: Global,
         asked: &mut Asked<'a>,
         of: &'static str,
-        view: V,
+        string: RawOsStr<'s, E>,
     ) -> Result<(), LineError> {
         asked.turn_to(of);
-        self.ask_places(asked, view)?;
-        self.ask_ends(asked, view)?;
-        Ok(self.ask_pieces(asked, alloc, view)?)
+        let raw = string.as_encoded_bytes();
+        let answers = headline::ask(&alloc, raw, string, string, self.pattern, 0, 0);
+        self.compare_places(asked, &answers)?;
+        self.compare_ends(asked, &answers)?;
+        Ok(self.compare_pieces(asked, alloc, answers)?)
     }
 }
 
 impl<'a, P: Pattern + Copy> Search<'a, P> {
-    fn ask_places<V: View>(&self, asked: &mut Asked<'a>, view: V) -> Result<(), AllocError> {
-        let Search {
-            call,
-            pattern,
-            answers,
-        } = *self;
-        asked.place("find", call, answers.find, view.find(pattern))?;
-        asked.place("rfind", call, answers.rfind, view.rfind(pattern))?;
-        asked.flag("contains", call, answers.contains, view.contains(pattern))?;
-        let starts = view.starts_with(pattern);
-        asked.flag("starts_with", call, answers.starts_with, starts)?;
-        let ends = view.ends_with(pattern);
-        asked.flag("ends_with", call, answers.ends_with, ends)
+    fn compare_places<'s, E: Platform + 's>(
+        &self,
+        asked: &mut Asked<'a>,
+        found: &headline::Answers<'s, E, P, Global>,
+    ) -> Result<(), AllocError> {
+        let Search { call, answers, .. } = *self;
+        asked.place("find", call, answers.find, found.find)?;
+        asked.place("rfind", call, answers.rfind, found.rfind)?;
+        asked.flag("contains", call, answers.contains, found.contains)?;
+        asked.flag("starts_with", call, answers.starts_with, found.starts_with)?;
+        asked.flag("ends_with", call, answers.ends_with, found.ends_with)
     }
 
-    fn ask_ends<V: View>(&self, asked: &mut Asked<'a>, view: V) -> Result<(), AllocError> {
-        let Search {
-            call,
-            pattern,
-            answers,
-        } = *self;
-        let rest = view.strip_prefix(pattern);
-        asked.view_or_none("strip_prefix", call, answers.strip_prefix, rest)?;
-        let rest = view.strip_suffix(pattern);
-        asked.view_or_none("strip_suffix", call, answers.strip_suffix, rest)?;
-        let rest = Some(view.trim_start_matches(pattern));
-        asked.view_or_none("trim_start_matches", call, answers.trim_start_matches, rest)?;
-        let rest = Some(view.trim_end_matches(pattern));
-        asked.view_or_none("trim_end_matches", call, answers.trim_end_matches, rest)?;
-        let rest = Some(view.trim_matches(pattern));
-        asked.view_or_none("trim_matches", call, answers.trim_matches, rest)
+    fn compare_ends<'s, E: Platform + 's>(
+        &self,
+        asked: &mut Asked<'a>,
+        found: &headline::Answers<'s, E, P, Global>,
+    ) -> Result<(), AllocError> {
+        let Search { call, answers, .. } = *self;
+        let rest = found.strip_prefix;
+        asked.string_or_none("strip_prefix", call, answers.strip_prefix, rest)?;
+        let rest = found.strip_suffix;
+        asked.string_or_none("strip_suffix", call, answers.strip_suffix, rest)?;
+        let rest = Some(found.trim_start_matches);
+        asked.string_or_none("trim_start_matches", call, answers.trim_start_matches, rest)?;
+        let rest = Some(found.trim_end_matches);
+        asked.string_or_none("trim_end_matches", call, answers.trim_end_matches, rest)?;
+        let rest = Some(found.trim_matches);
+        asked.string_or_none("trim_matches", call, answers.trim_matches, rest)
     }
 
-    /// Asks the splits; for an empty pattern there are no pieces.
-    fn ask_pieces<V: View>(
+    /// Compares the splits; for an empty pattern there are no pieces.
+    fn compare_pieces<'s, E: Platform + 's>(
         &self,
         asked: &mut Asked<'a>,
         alloc: Global,
-        view: V,
+        found: headline::Answers<'s, E, P, Global>,
     ) -> Result<(), AllocError> {
-        let Search {
-            call,
-            pattern,
-            answers,
-        } = *self;
-        let parts = view.split_once(pattern);
-        asked.pair("split_once", call, answers.split_once, parts)?;
-        let parts = view.rsplit_once(pattern);
-        asked.pair("rsplit_once", call, answers.rsplit_once, parts)?;
-        let encoded = pattern.encode();
-        if encoded.as_bytes().is_empty() {
-            asked.none("split", call, answers.split)?;
-            return asked.none("rsplit", call, answers.rsplit);
+        let Search { call, answers, .. } = *self;
+        asked.pair("split_once", call, answers.split_once, found.split_once)?;
+        asked.pair("rsplit_once", call, answers.rsplit_once, found.rsplit_once)?;
+        match found.split {
+            Some(pieces) => {
+                let pieces: Vec<RawOsStr<'s, E>> = pieces.collect(alloc)?;
+                asked.strings("split", call, answers.split, &pieces)?;
+            }
+            None => asked.none("split", call, answers.split)?,
         }
-        let pieces = view.split(alloc, pattern)?;
-        asked.views("split", call, answers.split, &pieces)?;
-        let pieces = view.rsplit(alloc, pattern)?;
-        asked.views("rsplit", call, answers.rsplit, &pieces)
+        match found.rsplit {
+            Some(pieces) => {
+                let pieces: Vec<RawOsStr<'s, E>> = pieces.collect(alloc)?;
+                asked.strings("rsplit", call, answers.rsplit, &pieces)
+            }
+            None => asked.none("rsplit", call, answers.rsplit),
+        }
     }
 }

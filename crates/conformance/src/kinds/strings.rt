@@ -4,16 +4,18 @@
 use crate::asked::Asked;
 use crate::column::Column;
 use crate::error::LineError;
-use crate::hex_text::read_bytes;
+use crate::hex_text::{bytes_text, read_bytes};
 use crate::platforms::{PlatformKind, string};
-use crate::views::{Question, View, ask_each};
-use os_str_bytes::{OsStr, OsStrBytes, OsStringBytes, Platform};
+use crate::raw_strings::{Question, ask_each};
+use os_str_bytes::{
+    NonUnicodeOsStr, OsStr, OsStrBytes, OsStringBytes, Platform, RawOsStr, Utf8Chunks, headline,
+};
 use std::alloc::{AllocError, Global};
 
 /// The kind `strings`.
 pub struct Strings;
 
-/// What a row has for the calls that views have.
+/// What a row has for the calls of raw strings.
 #[derive(Clone, Copy)]
 struct Answers<'a> {
     boundaries: &'a str,
@@ -75,22 +77,24 @@ impl PlatformKind for Strings {
 impl<'a> Question for Answers<'a> {
     type Columns = Asked<'a>;
 
-    fn ask<V: View>(
+    fn ask<'s, E: Platform + 's>(
         &self,
         alloc: Global,
         asked: &mut Asked<'a>,
         of: &'static str,
-        view: V,
+        string: RawOsStr<'s, E>,
     ) -> Result<(), LineError> {
         asked.turn_to(of);
-        let places = boundary_flags(alloc, view)?;
+        let places = boundary_flags(alloc, string)?;
         asked.text(
             "is_boundary at 0..=len+1",
             "is_boundary",
             self.boundaries,
             places,
         )?;
-        let (chunks, units) = view.utf8_chunks(alloc)?;
+        let raw = string.as_encoded_bytes();
+        let answers = headline::ask(&alloc, raw, string, string, "", 0, 0);
+        let (chunks, units) = chunk_texts(alloc, answers.utf8_chunks)?;
         asked.list("utf8_chunks", "utf8_chunks", self.chunks, &chunks)?;
         asked.list(
             "os_units of the parts",
@@ -98,9 +102,10 @@ impl<'a> Question for Answers<'a> {
             self.part_units,
             &units,
         )?;
-        asked.flag("to_str", "to_str", self.text, view.to_str().is_some())?;
-        let lossy = view.to_str_lossy(alloc)?;
-        asked.bytes("to_str_lossy", "the lossy text", self.lossy, &lossy)?;
+        asked.flag("to_str", "to_str", self.text, string.to_str().is_some())?;
+        let lossy = string.to_str_lossy(alloc)?;
+        let lossy = lossy.as_str().as_bytes();
+        asked.bytes("to_str_lossy", "to_str_lossy", self.lossy, lossy)?;
         Ok(())
     }
 }
@@ -131,10 +136,47 @@ fn ask_io_bytes<'a, E: Platform>(
 }
 
 /// For each place up to one past the length, whether the string may be cut there.
-fn boundary_flags<V: View>(alloc: Global, view: V) -> Result<String, AllocError> {
+fn boundary_flags<'s, E: Platform + 's>(
+    alloc: Global,
+    string: RawOsStr<'s, E>,
+) -> Result<String, AllocError> {
+    let raw = string.as_encoded_bytes();
     let mut text = String::new(alloc);
-    for at in 0..view.as_encoded_bytes().len() + 2 {
-        text.push(if view.is_boundary(at) { '1' } else { '0' })?;
+    for at in 0..raw.len() + 2 {
+        let answers = headline::ask(&alloc, raw, string, string, "", at, 0);
+        text.push(if answers.is_boundary { '1' } else { '0' })?;
+    }
+    Ok(text)
+}
+
+/// The texts of chunks, and of the units of their parts.
+fn chunk_texts<E: Platform>(
+    alloc: Global,
+    chunks: Utf8Chunks<'_, E>,
+) -> Result<(Vec<String>, Vec<String>), AllocError> {
+    let mut texts = Vec::new(alloc);
+    let mut units = Vec::new(alloc);
+    for (part, text) in chunks {
+        let part_text = bytes_text(alloc, part.as_os_str().as_encoded_bytes())?;
+        let behind = bytes_text(alloc, text.as_bytes())?;
+        texts.push(format!(in alloc; "{part_text}:{behind}")?)?;
+        units.push(unit_text(alloc, part)?)?;
+    }
+    Ok((texts, units))
+}
+
+/// The units of a part: two digits a unit, on Windows four.
+fn unit_text<E: Platform>(
+    alloc: Global,
+    part: NonUnicodeOsStr<'_, E>,
+) -> Result<String, AllocError> {
+    let mut text = String::new(alloc);
+    for unit in part.os_units() {
+        let number = unit.to_u64();
+        text.push_str(&format!(in alloc; "{number:02x}")?)?;
+    }
+    if text.is_empty() {
+        text.push('-')?;
     }
     Ok(text)
 }

@@ -4,8 +4,9 @@ use crate::asked::Asked;
 use crate::column::Column;
 use crate::error::LineError;
 use crate::hex_text::read_bytes;
-use crate::views::{Question, View, ask_each};
-use os_str_bytes::Windows;
+use crate::platforms;
+use crate::raw_strings::{Question, ask_each};
+use os_str_bytes::{Platform, RawOsStr, Windows, headline};
 use std::alloc::Global;
 use std::cmp::Ordering;
 
@@ -39,19 +40,22 @@ struct Join<'a, 'b> {
 impl<'a, 'b> Question for Join<'a, 'b> {
     type Columns = Asked<'a>;
 
-    fn ask<V: View>(
+    fn ask<'s, E: Platform + 's>(
         &self,
         alloc: Global,
         asked: &mut Asked<'a>,
         of: &'static str,
-        view: V,
+        string: RawOsStr<'s, E>,
     ) -> Result<(), LineError> {
         asked.turn_to(of);
-        let joined = view.joined(alloc, self.second)?;
+        let second = RawOsStr::new(platforms::string::<E>(self.second)?);
+        let raw = string.as_encoded_bytes();
+        let answers = headline::ask(&alloc, raw, string, second, "", 0, 3);
+        let joined = answers.push?.into_encoded_bytes();
         asked.bytes("a.push(b)", "push to an owned copy", self.joined, &joined)?;
-        let three = view.repeat(alloc, 3)?;
+        let three = answers.repeat?.into_raw_vec();
         asked.bytes("a.repeat(3)", "repeat", self.three, &three)?;
-        let sign = match view.order(self.second)? {
+        let sign = match answers.cmp {
             Ordering::Less => "<",
             Ordering::Equal => "=",
             Ordering::Greater => ">",

@@ -4,9 +4,9 @@ use crate::asked::Asked;
 use crate::column::Column;
 use crate::error::LineError;
 use crate::hex_text::read_bytes;
-use crate::platforms::string;
-use crate::views::{Question, View, ask_each};
-use os_str_bytes::{Platform, Windows};
+use crate::platforms::{self, string};
+use crate::raw_strings::{Question, ask_each};
+use os_str_bytes::{Platform, RawOsStr, Windows, headline};
 use std::alloc::{AllocError, Global};
 
 /// What a row asks, and what the calls answer.
@@ -57,16 +57,17 @@ impl<'a, 'b> Prefix<'a, 'b> {
 impl<'a, 'b> Question for Prefix<'a, 'b> {
     type Columns = Asked<'a>;
 
-    fn ask<V: View>(
+    fn ask<'s, E: Platform + 's>(
         &self,
-        _alloc: Global,
+        alloc: Global,
         asked: &mut Asked<'a>,
         of: &'static str,
-        view: V,
+        string: RawOsStr<'s, E>,
     ) -> Result<(), LineError> {
         asked.turn_to(of);
-        let starts = view.starts_with_os(self.other)?;
-        let ends = view.ends_with_os(self.other)?;
-        Ok(self.add(asked, starts, ends)?)
+        let other = RawOsStr::new(platforms::string::<E>(self.other)?);
+        let raw = string.as_encoded_bytes();
+        let answers = headline::ask(&alloc, raw, string, other, "", 0, 0);
+        Ok(self.add(asked, answers.starts_with_os, answers.ends_with_os)?)
     }
 }
