@@ -1,5 +1,6 @@
 -- What the exports answer.
 use Rattle.std.specs.Prelude.{◌≡◌, ◌⊎◌, ℕ, ◌≤◌, List, length, take, drop}
+use Rattle.std.specs.List.{repeat}
 use Rattle.wtf8_core.specs.declared.fault.EncodingError.{EncodingError}
 use Rattle.platform_str.specs.Platforms.{IsWtf8Fault}
 
@@ -17,3 +18,7 @@ pub record IsFilled (Wanted : List ℕ → Type 0) (old new : List ℕ) (count :
 -- a call answers a place or a length, for which `Is` holds; or `none`, where there is none
 abbrev pub AnswersOr : ℕ → Type 0 → (ℕ → Type 0) → ℕ → Type 0
 AnswersOr none Nothing Is answer = (Nothing × (answer ≡ none)) ⊎ Is answer
+
+-- the string with the units of `part` so many times over has this many bytes
+abbrev pub IsRepeatedLength : (List ℕ → Type 0) → (List ℕ → List ℕ) → List ℕ → ℕ → ℕ → Type 0
+IsRepeatedLength well_formed units part count len = (all : List ℕ) × (well_formed all × (units all ≡ repeat count (units part))) × (len ≡ length all)

@@ -1,5 +1,5 @@
 -- A string has no more chunks than bytes.
-use Rattle.std.proofs.Common.{◌≡◌, ℕ, ◌<◌, ◌≤◌, List, [], ◌∷◌, ◌++◌, length, refl, ap, sym, subst, arith}
+use Rattle.std.proofs.Common.{◌≡◌, ℕ, ◌<◌, ◌≤◌, List, [], ◌∷◌, ◌++◌, length, refl, ap, subst, arith}
 use Rattle.std.proofs.lemmas.List.{length-append}
 use Rattle.wtf8_core.specs.Chunks.{Chunk, joined, AreChunks}
 

@@ -1,4 +1,4 @@
-use Rattle.std.proofs.Common.{◌≡◌, ℕ, ◌+◌, List, length}
+use Rattle.std.proofs.Common.{◌≡◌, ◌+◌, List, length}
 use Rattle.wtf8_core.specs.Chunks.{Chunk, AreChunks}
 use Rattle.os_str_bytes_c.proofs.chunks.port_chunks.Given as goal
 
