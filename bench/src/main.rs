@@ -4,6 +4,7 @@ mod chunks;
 mod clock;
 mod conversions;
 mod inputs;
+mod joins;
 mod ours;
 mod searches;
 mod splits;
@@ -16,4 +17,5 @@ fn main() {
     searches::time(&mut bench);
     splits::time(&mut bench);
     chunks::time(&mut bench);
+    joins::time(&mut bench);
 }

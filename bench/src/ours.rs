@@ -20,6 +20,9 @@ mod exports {
         pub fn port_split(bytes: *const u8, len: usize, pattern: *const u8, pattern_len: usize) -> usize;
         pub fn port_rsplit(bytes: *const u8, len: usize, pattern: *const u8, pattern_len: usize) -> usize;
         pub fn port_starts_with(bytes: *const u8, len: usize, pattern: *const u8, pattern_len: usize) -> bool;
+        pub fn port_push(part: *const u8, len: usize, count: usize) -> usize;
+        pub fn port_repeat(bytes: *const u8, len: usize, count: usize) -> usize;
+        pub fn port_starts_with_os(bytes: *const u8, len: usize, front: *const u8, front_len: usize) -> bool;
         pub fn port_ends_with(bytes: *const u8, len: usize, pattern: *const u8, pattern_len: usize) -> bool;
     }
 }
@@ -82,6 +85,18 @@ pub fn split(bytes: &[u8], pattern: &str) -> usize {
 
 pub fn rsplit(bytes: &[u8], pattern: &str) -> usize {
     unsafe { exports::port_rsplit(bytes.as_ptr(), bytes.len(), pattern.as_ptr(), pattern.len()) }
+}
+
+pub fn push(part: &[u8], count: usize) -> usize {
+    unsafe { exports::port_push(part.as_ptr(), part.len(), count) }
+}
+
+pub fn repeat(bytes: &[u8], count: usize) -> usize {
+    unsafe { exports::port_repeat(bytes.as_ptr(), bytes.len(), count) }
+}
+
+pub fn starts_with_os(bytes: &[u8], front: &[u8]) -> bool {
+    unsafe { exports::port_starts_with_os(bytes.as_ptr(), bytes.len(), front.as_ptr(), front.len()) }
 }
 
 pub fn chunks(bytes: &[u8]) -> usize {
