@@ -20,17 +20,21 @@ use crate::fronts::front_of;
 /// `Some((1, None))`.
 ///
 /// It goes over most of a long text by vectors.
+#[inline(always)]
 pub fn utf8_fault(bytes: &[u8]) -> Option<(usize, Option<u8>)>
     ensures { MatchOption result (IsUtf8 bytes.now) (λ fault. IsUtf8Fault bytes.now fault.0 fault.1) }
 {
-    if bytes.len() <= NEAR {
-        return fault_by_std(bytes);
-    }
-    let (near, _) = bytes.split_at(NEAR);
+    let end = bytes.len().min(NEAR);
+    let (near, _) = bytes.split_at(end);
     match fault_by_std(near) {
         Some((valid_up_to, Some(error_len))) => Some((valid_up_to, Some(error_len))),
         Some((valid_up_to, None)) => fault_behind(bytes, valid_up_to),
-        None => fault_behind(bytes, NEAR),
+        None => {
+            if bytes.len() <= NEAR {
+                return None;
+            }
+            fault_behind(bytes, end)
+        }
     }
 }
 
@@ -54,6 +58,7 @@ fn fault_behind(bytes: &[u8], at: usize) -> Option<(usize, Option<u8>)>
 }
 
 /// The first fault, by std's reader.
+#[inline(always)]
 fn fault_by_std(bytes: &[u8]) -> Option<(usize, Option<u8>)>
     ensures { MatchOption result (IsUtf8 bytes.now) (λ fault. IsUtf8Fault bytes.now fault.0 fault.1) }
 {

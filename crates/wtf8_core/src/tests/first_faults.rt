@@ -1,5 +1,6 @@
-//! The checker answers the first `Err` of the code points, however the bytes come.
-use crate::{Checker, CodePoints, EncodingError};
+//! The checker answers the first `Err` of the code points, however the bytes come, and the fault
+//! of UTF-8 is std's.
+use crate::{Checker, CodePoints, EncodingError, utf8_fault};
 use std::process::Abort;
 
 /// The first `Err` of the code points.
@@ -30,8 +31,25 @@ fn fed_one_by_one(bytes: &[u8]) -> Result<(), EncodingError> {
     checker.finish()
 }
 
+/// Asserts that the fault of UTF-8 is std's.
+fn is_std(rt: &impl Abort, bytes: &[u8]) {
+    match (utf8_fault(bytes), str::from_utf8(bytes)) {
+        (None, Ok(_)) => {}
+        (Some((valid_up_to, error_len)), Err(error)) => {
+            assert_eq!(rt; valid_up_to, error.valid_up_to(), "of {bytes:?}");
+            assert_eq!(rt;
+                error_len.map(usize::from),
+                error.error_len(),
+                "of {bytes:?}"
+            );
+        }
+        (_, _) => assert!(rt; false, "of {bytes:?}"),
+    }
+}
+
 /// Asserts that the first fault is found in the bytes whole, in single bytes and at each cut.
 fn is_found(rt: &impl Abort, bytes: &[u8]) {
+    is_std(rt, bytes);
     let wanted = first_err(bytes);
     assert_eq!(rt; fed(&[bytes]), wanted, "of {bytes:?}");
     assert_eq!(rt; fed_one_by_one(bytes), wanted, "of {bytes:?} one by one");
@@ -112,6 +130,7 @@ fn at_the_edges_of_blocks(rt: HostRuntime) {
                 let mut bytes = filled(text);
                 let (_, back) = bytes.split_at_mut(place);
                 write_over(back, written);
+                is_std(&rt, &bytes);
                 let wanted = first_err(&bytes);
                 assert_eq!(rt;
                     fed(&[&bytes]),
