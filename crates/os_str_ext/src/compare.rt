@@ -9,19 +9,19 @@ pub(crate) fn are_same(a: &[u8], b: &[u8]) -> bool
     requires { length a.now ≡ length b.now }
     ensures { IsTrue result ↔ (a.now ≡ b.now) }
 {
-    if a.len() == 1 {
-        return a[0] == b[0];
-    }
-    if a.len() < 2 || 16 < a.len() {
+    if a.is_empty() || 16 < a.len() {
         return a == b;
     }
-    if a.len() < 4 {
-        return are_same_by_two(a, b);
+    if 8 < a.len() {
+        return are_same_by_eight(a, b);
     }
-    if a.len() <= 8 {
+    if 4 <= a.len() {
         return are_same_by_four(a, b);
     }
-    are_same_by_eight(a, b)
+    if 2 <= a.len() {
+        return are_same_by_two(a, b);
+    }
+    a[0] == b[0]
 }
 
 /// The same of two to four bytes.

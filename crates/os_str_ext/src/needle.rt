@@ -13,16 +13,13 @@ const LONGEST: usize = 32;
 /// In longer strings `memmem` has the time to make ready for a needle.
 const SHORT: usize = 128;
 
-/// The first place of a needle, which is often the front.
+/// The first place of a needle; one of a single byte is looked for as a byte.
 #[inline(always)]
 pub(crate) fn first_of(bytes: &[u8], needle: &[u8]) -> Option<usize>
     ensures { FindsNeedle bytes.now needle.now 0 result }
 {
     if needle.len() == 1 {
         return first_byte(needle[0], bytes);
-    }
-    if stands_at(bytes, needle, 0) {
-        return Some(0);
     }
     first_by_ends(bytes, needle)
 }
@@ -70,12 +67,16 @@ fn first_byte(byte: u8, bytes: &[u8]) -> Option<usize>
     places.next()
 }
 
-/// The first place of a needle, which in short strings is compared where both its ends stand;
-/// behind four such places where it doesn't stand, and in longer strings, `memmem` looks for it.
+/// The first place of a needle, which often is the front. In short strings it is compared where
+/// both its ends stand; behind four such places where it doesn't stand, and in longer strings,
+/// `memmem` looks for it.
 #[inline(never)]
 fn first_by_ends(bytes: &[u8], needle: &[u8]) -> Option<usize>
     ensures { FindsNeedle bytes.now needle.now 0 result }
 {
+    if stands_at(bytes, needle, 0) {
+        return Some(0);
+    }
     if SHORT < bytes.len() {
         return memmem::find(bytes, needle);
     }

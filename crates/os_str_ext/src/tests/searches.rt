@@ -149,6 +149,36 @@ fn at_both_ends(rt: HostRuntime) -> Result<(), AllocError> {
         rsplit_once: Some((b"111foo1bar11", b"")),
     };
     holds(&rt, b"111foo1bar111", "1", &ones)?;
+    let nowhere = Row {
+        find: None,
+        rfind: None,
+        strip_prefix: None,
+        strip_suffix: None,
+        trim_start: b"111foo1bar111",
+        trim_end: b"111foo1bar111",
+        trim: b"111foo1bar111",
+        split_once: None,
+        rsplit_once: None,
+    };
+    holds(&rt, b"111foo1bar111", "of", &nowhere)?;
+    let within = Row {
+        find: Some(4),
+        rfind: Some(5),
+        split_once: Some((b"111f", b"o1bar111")),
+        rsplit_once: Some((b"111fo", b"1bar111")),
+        ..nowhere
+    };
+    holds(&rt, b"111foo1bar111", "o", &within)?;
+    let nothing = Row {
+        find: Some(0),
+        rfind: Some(13),
+        strip_prefix: Some(b"111foo1bar111"),
+        strip_suffix: Some(b"111foo1bar111"),
+        split_once: Some((b"", b"111foo1bar111")),
+        rsplit_once: Some((b"111foo1bar111", b"")),
+        ..nowhere
+    };
+    holds(&rt, b"111foo1bar111", "", &nothing)?;
     let pairs = Row {
         find: Some(0),
         rfind: Some(1),
@@ -161,7 +191,8 @@ fn at_both_ends(rt: HostRuntime) -> Result<(), AllocError> {
         rsplit_once: Some((b"a", b"")),
     };
     holds(&rt, b"aaa", "aa", &pairs)?;
-    let only_pairs = Row {
+    let twice = Row {
+        find: Some(0),
         rfind: Some(2),
         strip_prefix: Some(b"aa"),
         strip_suffix: Some(b"aa"),
@@ -170,9 +201,8 @@ fn at_both_ends(rt: HostRuntime) -> Result<(), AllocError> {
         trim: b"",
         split_once: Some((b"", b"aa")),
         rsplit_once: Some((b"aa", b"")),
-        ..pairs
     };
-    holds(&rt, b"aaaa", "aa", &only_pairs)?;
+    holds(&rt, b"aaaa", "aa", &twice)?;
     let overlapping = Row {
         find: Some(0),
         rfind: Some(2),
@@ -203,6 +233,14 @@ fn beside_surrogates(rt: HostRuntime) -> Result<(), AllocError> {
     };
     let raw = b"\xED\xA0\xBD\xF0\x9F\x98\x80";
     holds_on::<Windows>(&rt, rt.alloc(), raw, "\u{1F600}", &behind_a_high)?;
+    let letter_behind_a_high = Row {
+        find: Some(3),
+        rfind: Some(3),
+        trim_start: b"\xED\xA0\xBDA",
+        ..behind_a_high
+    };
+    let raw = b"\xED\xA0\xBDA";
+    holds_on::<Windows>(&rt, rt.alloc(), raw, "A", &letter_behind_a_high)?;
     let before_a_low = Row {
         find: Some(0),
         rfind: Some(4),

@@ -11,11 +11,11 @@ returns-in_default-next_candidate c =
     (λ far. c.in_default-next_candidate.ensures c.args.needle.now c.with_pair-finder.ensures.value k far high o)
     (cases_lt k c.loop.from)
 
-pub returns-then-stands_at : goal.returns-then-stands_at
-returns-then-stands_at c =
+pub returns-then-stands_at-2 : goal.returns-then-stands_at-2
+returns-then-stands_at-2 c =
     let here = c.in-Some-next_candidate.ensures c.args.needle.now c.with_pair-finder.ensures.value in
     let high = here.high in
-    (record { low = omega arith; high = omega arith; before = λ k low lt o. ⊎_elim (λ near. c.loop.invariant.1 k low near o) (λ far. here.before k far lt o) (cases_lt k c.loop.from) }, c.if-stands_at.ensures.0 refl)
+    (record { low = omega arith; high = omega arith; before = λ k low lt o. ⊎_elim (λ near. c.loop.invariant.1 k low near o) (λ far. here.before k far lt o) (cases_lt k c.loop.from) }, c.if-stands_at-2.ensures.0 refl)
 
 pub loop-preserved : goal.loop-preserved
 loop-preserved c =
@@ -23,7 +23,7 @@ loop-preserved c =
     let high = here.high in (
       omega arith,
       λ k low lt o. ⊎_elim
-          (λ same. false≢true (c.if-stands_at.ensures.1 (subst (OccursAt c.args.bytes.now c.args.needle.now) same o)))
+          (λ same. false≢true (c.if-stands_at-2.ensures.1 (subst (OccursAt c.args.bytes.now c.args.needle.now) same o)))
           (λ other. ⊎_elim (λ near. c.loop.invariant.1 k low near o) (λ far. here.before k far (omega arith) o) (cases_lt k c.loop.from))
           (cases_eq k c.in-Some-next_candidate.at),
     )
