@@ -10,7 +10,12 @@ use Rattle.wtf8_core.specs.Standing.{StandsAt}
 use Rattle.wtf8_core.specs.Boundary.{IsBoundary}
 use Rattle.wtf8_core.specs.Pieces.{IsStartTrim, IsEndTrim}
 use Rattle.os_str_ext.proofs.lemmas.Comparing.{take_from_front, front_fits}
-use Rattle.os_str_ext.proofs.lemmas.Searches.{EdgesOfTexts, occurs_where_it_stands, repeat-behind}
+use Rattle.os_str_ext.proofs.lemmas.Searches.{EdgesOfTexts, occurs_where_it_stands}
+
+-- one more at the front is one more at the end
+repeat-behind : (p : List ℕ) (n : ℕ) → repeat n p ++ p ≡ repeat (suc n) p
+repeat-behind p zero = sym (append-nil p)
+repeat-behind p (suc n) = append_assoc p (repeat n p) p ∙ ap (λ r. p ++ r) (repeat-behind p n)
 
 -- x is p over and over
 abbrev pub IsRun : List ℕ → List ℕ → Type 0

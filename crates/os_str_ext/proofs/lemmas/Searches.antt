@@ -1,11 +1,10 @@
 -- What the searches of `memchr` find, and that a string may be cut around a text.
-use Rattle.std.proofs.Common.{◌≡◌, ℕ, zero, suc, ◌+◌, ◌-◌, ◌<◌, ◌≤◌, true, List, [], ◌++◌, length, take, drop, Option, Some, None, refl, sym, ap, subst, ◌∙◌, arith, inl, inr, ⊎_elim, append_assoc, length-append, take-append-drop}
+use Rattle.std.proofs.Common.{◌≡◌, ℕ, ◌+◌, ◌-◌, ◌<◌, ◌≤◌, true, List, [], ◌++◌, length, take, drop, Option, Some, None, refl, sym, ap, subst, ◌∙◌, arith, inl, inr, ⊎_elim, length-append, take-append-drop}
 use Rattle.std.proofs.lemmas.List.{append-nil, length-take-le, drop_at, nil_from_length}
 use Rattle.std.proofs.lemmas.List.Prefix.{at_from_reads, at_reads}
 use Rattle.std.proofs.lemmas.Bool.{cases_eq, false≢true}
 use Rattle.std.specs.Option.{is_some, IfSome}
 use Rattle.std.specs.Str.{IsUtf8}
-use Rattle.std.specs.List.{repeat}
 use Rattle.memchr.specs.Find.{OccursAt, FindsNeedle, FindsLastNeedle}
 use Rattle.wtf8_core.specs.Standing.{StandsAt, Finds, IsLeastPlace, IsGreatestPlace, IsFront, IsEnd}
 use Rattle.wtf8_core.specs.Boundary.{IsBoundary}
@@ -129,26 +128,6 @@ parts_around Is p s front back i found h f b =
       joined = sym (take-append-drop i s) ∙ ap (λ r. r ++ drop i s) (sym f) ∙ ap (λ r. front ++ r) (at_from_reads 0 s p i o.fits o.reads ∙ ap (λ r. p ++ r) (sym b));
       found = subst (λ n. Is p s n) (sym size) found;
     }
-
--- one more at the front, and at the end
-pub repeat-behind : (p : List ℕ) (n : ℕ) → repeat n p ++ p ≡ repeat (suc n) p
-repeat-behind p zero = sym (append-nil p)
-repeat-behind p (suc n) = append_assoc p (repeat n p) p ∙ ap (λ r. p ++ r) (repeat-behind p n)
-
--- s is some number of p and then r; r and then some number of p
-abbrev pub TrimmedTo : List ℕ → List ℕ → List ℕ → Type 0
-TrimmedTo p s r = (n : ℕ) × (s ≡ repeat n p ++ r)
-
-abbrev pub EndTrimmedTo : List ℕ → List ℕ → List ℕ → Type 0
-EndTrimmedTo p s r = (n : ℕ) × (s ≡ r ++ repeat n p)
-
-pub trimmed_more : (p s was now : List ℕ) → TrimmedTo p s was → was ≡ p ++ now → TrimmedTo p s now
-trimmed_more p s was now h e =
-    (suc h.0, h.1 ∙ ap (λ r. repeat h.0 p ++ r) e ∙ sym (append_assoc (repeat h.0 p) p now) ∙ ap (λ r. r ++ now) (repeat-behind p h.0))
-
-pub end_trimmed_more : (p s was now : List ℕ) → EndTrimmedTo p s was → was ≡ now ++ p → EndTrimmedTo p s now
-end_trimmed_more p s was now h e =
-    (suc h.0, h.1 ∙ ap (λ r. r ++ repeat h.0 p) e ∙ append_assoc now p (repeat h.0 p))
 
 -- a pattern stands somewhere where a search finds it
 pub found_somewhere : (p s : List ℕ) (r : Option ℕ) → Finds IsLeastPlace p s r → (is_some r ≡ true → StandsSomewhere p s) × (StandsSomewhere p s → is_some r ≡ true)
