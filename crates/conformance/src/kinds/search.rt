@@ -178,16 +178,23 @@ impl<'a, P: Pattern + Copy> Search<'a, P> {
         found: headline::Answers<'s, E, P, Global>,
     ) -> Result<(), AllocError> {
         let Search { call, answers, .. } = *self;
-        asked.pair("split_once", call, answers.split_once, found.split_once)?;
-        asked.pair("rsplit_once", call, answers.rsplit_once, found.rsplit_once)?;
-        match found.split {
+        let headline::Answers {
+            split_once,
+            rsplit_once,
+            split,
+            rsplit,
+            ..
+        } = found;
+        asked.pair("split_once", call, answers.split_once, split_once)?;
+        asked.pair("rsplit_once", call, answers.rsplit_once, rsplit_once)?;
+        match split {
             Some(pieces) => {
                 let pieces: Vec<RawOsStr<'s, E>> = pieces.collect(alloc)?;
                 asked.strings("split", call, answers.split, &pieces)?;
             }
             None => asked.none("split", call, answers.split)?,
         }
-        match found.rsplit {
+        match rsplit {
             Some(pieces) => {
                 let pieces: Vec<RawOsStr<'s, E>> = pieces.collect(alloc)?;
                 asked.strings("rsplit", call, answers.rsplit, &pieces)
