@@ -4,3 +4,6 @@ pub mod FirstUnits
 pub mod FourBytes
 pub mod WideLemmas
 pub mod ByteOrder
+pub mod Lanes
+pub mod BulkUnits
+pub mod BulkBytes

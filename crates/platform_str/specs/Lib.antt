@@ -1,3 +1,4 @@
+pub mod Bulk
 pub mod Laws
 pub mod Standing
 pub mod Platforms

@@ -15,6 +15,7 @@
 //! what was moved in is dropped. Every other call takes no memory and never fails for want of it.
 #![tactic(auto)]
 
+mod blocks;
 mod convert;
 mod cow;
 mod join;

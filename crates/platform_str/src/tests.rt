@@ -1,5 +1,6 @@
 //! Answers at fixed bytes and units, with ample memory, on all three platforms.
 mod aliases;
+mod blocks;
 mod checks;
 mod conversions;
 mod examples;

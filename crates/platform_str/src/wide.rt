@@ -4,12 +4,13 @@ ghost use Rattle.std.specs.Iterator.{YieldsFirst, item_count};
 ghost use Rattle.wtf8_core.specs.Wtf8.{HasUnits};
 ghost use Rattle.platform_str.specs.Strings.{bytes, string_vec_of};
 
+use crate::blocks::{bytes_len, push_spelled, push_units};
 use crate::os_str::OsStr;
 use crate::os_string::OsString;
 use crate::platform::{Platform, Windows};
 use std::alloc::{AllocError, Allocator};
 use std::marker::Model;
-use wtf8_core::{DecodeWide, EncodeWide};
+use wtf8_core::EncodeWide;
 
 /// The 16-bit units of a Windows string, from the first on, and then `None` for ever.
 #[derive(Drop)]
@@ -58,12 +59,30 @@ impl<'a> OsStr<'a, Windows> {
             items: wtf8_core::encode_wide(self.as_encoded_bytes()),
         }
     }
+
+    /// The string's 16-bit units, all at once: those that [`OsStr::encode_wide`] gives, in a
+    /// vector. It makes one request for memory, and none where the string is empty.
+    ///
+    /// It is equivalent to `OsStrExt::encode_wide` of std on Windows, collected; of a text to
+    /// `str::encode_utf16`, collected.
+    ///
+    /// The units of the bytes F0 9F 98 80 ED B0 80 (hexadecimal) are D83D, DE00, DC00.
+    pub fn to_wide<A: Allocator>(self, alloc: A) -> Result<Vec<u16, A>, AllocError>
+        ensures has_units { IfOk result (λ wide. HasUnits (bytes self.entry) wide.items) }
+        ensures units { IfOk result (λ wide. ⟦<Windows as Platform>⟧.units (bytes self.entry) ≡ wide.items) }
+        ensures without_memory { bytes self.entry ≡ [] → IsOk result }
+    {
+        let encoded = self.as_encoded_bytes();
+        let mut wide = Vec::with_capacity(alloc, encoded.len())?;
+        push_units(&mut wide, encoded)?;
+        Ok(wide)
+    }
 }
 
 impl<A: Allocator> OsString<Windows, A> {
     /// The one string with these 16-bit units, as std's `OsStringExt::from_wide` on Windows;
-    /// of the units that [`OsStr::encode_wide`] gives, the same string again. For no units it
-    /// takes no memory.
+    /// of the units that [`OsStr::encode_wide`] gives, the same string again. It makes one
+    /// request for memory, and none for no units.
     ///
     /// The units D83D, DE00 (hexadecimal) give the bytes F0 9F 98 80.
     pub fn from_wide(alloc: A, units: &[u16]) -> Result<Self, AllocError>
@@ -71,10 +90,8 @@ impl<A: Allocator> OsString<Windows, A> {
         ensures units { IfOk result (λ string. ⟦<Windows as Platform>⟧.units (string_vec_of string).items ≡ units.now) }
         ensures without_memory { units.now ≡ [] → IsOk result }
     {
-        let mut vec = Vec::with_capacity(alloc, units.len())?;
-        for byte in DecodeWide::new(units) {
-            vec.push(byte)?;
-        }
+        let mut vec = Vec::with_capacity(alloc, bytes_len(units))?;
+        push_spelled(&mut vec, units)?;
         Ok(OsString::from_encoded_bytes_unchecked(vec))
     }
 }

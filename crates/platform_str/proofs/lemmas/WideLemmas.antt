@@ -1,5 +1,5 @@
 -- The units of a string, where no fault comes.
-use Rattle.std.proofs.Common.{◌≡◌, ℕ, List, [], ◌∷◌, ◌++◌, length, map, Result, Ok, Err, refl, sym, ap, ◌∙◌, subst, arith, length-append}
+use Rattle.std.proofs.Common.{◌≡◌, ℕ, List, [], ◌∷◌, map, Result, Ok, Err, sym, ap, ◌∙◌}
 use Rattle.std.specs.List.{flat_map}
 use Rattle.wtf8_core.specs.Wtf8.{IsWtf8, HasUnits, units}
 use Rattle.wtf8_core.specs.Items.{AreItems, AreUnitItems, unit_items}
@@ -8,7 +8,6 @@ use Rattle.wtf8_core.specs.UnitsOf.{ok_values}
 use Rattle.wtf8_core.specs.declared.fault.EncodingError.{EncodingError}
 use Rattle.wtf8_core.proofs.lemmas.Complete.{never_both}
 use Rattle.wtf8_core.proofs.lemmas.FirstErr.{units_whole}
-use Rattle.wtf8_core.proofs.lemmas.UnitsLemmas.{units_once}
 use Rattle.wtf8_core.proofs.lemmas.UnitsOfLemmas.{ok_values_of_oks}
 
 abbrev pub Item : Type 0
@@ -45,14 +44,3 @@ first_ok {items} {rest} {u} a e =
 -- the first item is no fault
 pub first_err : {items rest : List Item} {f : EncodingError} → items ≡ map Ok (ok_values items) → items ≡ Err f ∷ rest → ⊥
 first_err {items} {rest} {f} a e = no_err f rest (ok_values items) (sym e ∙ a)
-
--- no units are those of no bytes alone
-no_bytes : (b : List ℕ) → HasUnits b [] → b ≡ []
-no_bytes b h = units_once b [] [] h (record { code_points = []; spelled = record { code_points = tt; paired_free = tt; joined = refl }; are = refl })
-
--- so no byte comes of no units
-pub none_comes : (written left : List ℕ) {rest us : List ℕ} {byte : ℕ} → HasUnits (written ++ left) us → left ≡ byte ∷ rest → us ≡ [] → ⊥
-none_comes written left {rest} {us} {byte} h e none =
-    let empty : length (written ++ left) ≡ 0 = ap length (no_bytes (written ++ left) (subst (HasUnits (written ++ left)) none h)) in
-    let some : length left ≡ length (byte ∷ rest) = ap length e in
-    omega (arith, length-append written left)

@@ -157,6 +157,8 @@ fn wide_units(rt: HostRuntime) -> Result<(), Fail> {
         assert_eq!(rt; units.next(), Some(unit));
     }
     assert_eq!(rt; units.next(), None);
+    let units = string.as_os_str().to_wide(rt.alloc())?;
+    assert_eq!(rt; units.as_slice(), [0xD83D, 0xDE00, 0xDC00].as_slice());
     let string = windows::OsString::from_wide(rt.alloc(), &[0xD83D, 0xDE00])?;
     let bytes = string.into_encoded_bytes();
     assert_eq!(rt; bytes.as_slice(), b"\xF0\x9F\x98\x80".as_slice());

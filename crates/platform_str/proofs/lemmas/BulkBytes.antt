@@ -1,0 +1,143 @@
+-- The bytes of units, front by front.
+use Rattle.std.proofs.Common.{◌≡◌, ℕ, ◌+◌, ◌*◌, ◌-◌, ◌≤◌, ◌<◌, List, [], ◌∷◌, ◌++◌, length, length-append, take, drop, slice_index, get_or, Fits, w16, vec_len, vec_capacity, refl, sym, ap, ◌∙◌, subst, arith, append_assoc}
+use Rattle.std.proofs.lemmas.Bool.Decides.{nat_tests}
+use Rattle.std.proofs.lemmas.List.{append-nil}
+use Rattle.std.proofs.lemmas.List.Elements.{recursion_from_All, All-from_get_or}
+use Rattle.std.specs.declared.vec.Vec.{Vec}
+use Rattle.std.specs.List.{All, AllByRecursion}
+use Rattle.wtf8_core.specs.Surrogate.{IsHigh, IsLow, paired}
+use Rattle.wtf8_core.specs.CodePoint.{IsCodePoint, form, wide}
+use Rattle.wtf8_core.specs.Wtf8.{MayPrecede, HasUnits, units}
+use Rattle.wtf8_core.proofs.lemmas.Forms.{form_ascii, form_bounds}
+use Rattle.wtf8_core.proofs.lemmas.UnitsLemmas.{IsUnit, wide_single, may_precede, units_once, units_spelled}
+use Rattle.platform_str.specs.Bulk.{SpellsBefore, BeginsPair, BeginsNoPair}
+
+-- before the first unit, and behind the last
+pub spells_none : (all : List ℕ) → SpellsBefore [] all all
+spells_none all = λ b h. h
+
+spells_all : (front all : List ℕ) → SpellsBefore front [] all → HasUnits front all
+spells_all front all s = subst (λ b. HasUnits b all) (append-nil front) (s [] (record { code_points = []; spelled = record { code_points = tt; paired_free = tt; joined = refl }; are = refl }))
+
+pub spells_end : (front rest all : List ℕ) → length rest ≡ 0 → SpellsBefore front rest all → HasUnits front all
+spells_end front [] all e s = spells_all front all s
+spells_end front (x ∷ rest) all e s = absurd (omega arith)
+
+-- one front behind another
+pub spells_both : (front more rest behind all : List ℕ) → SpellsBefore front rest all → SpellsBefore more behind rest → SpellsBefore (front ++ more) behind all
+spells_both front more rest behind all s t = λ b h. subst (λ x. HasUnits x all) (sym (append_assoc front more b)) (s (more ++ b) (t b h))
+
+-- a unit that may precede units may precede their code points
+precedes_points : (u : ℕ) (cs : List ℕ) → MayPrecede u (units cs) → MayPrecede u cs
+precedes_points u [] m = tt
+precedes_points u (d ∷ cs) m = λ h l. subst (MayPrecede u) (ap (λ us. us ++ units cs) (wide_single d (omega (arith, l.1)))) m h l
+
+-- a unit of its own
+pub spells_single : (u : ℕ) (rest : List ℕ) → IsUnit u → MayPrecede u rest → SpellsBefore (form u) rest (u ∷ rest)
+spells_single u rest i m = λ b h. record {
+  code_points = u ∷ h.code_points;
+  spelled = record { code_points = (omega arith, h.spelled.code_points); paired_free = (precedes_points u h.code_points (subst (MayPrecede u) h.are m), h.spelled.paired_free); joined = ap (λ x. form u ++ x) h.spelled.joined };
+  are = ap (λ x. u ∷ x) h.are ∙ ap (λ x. x ++ units h.code_points) (sym (wide_single u i));
+}
+
+-- a pair
+pair_wide : (u v : ℕ) → IsHigh u → IsLow v → wide (paired u v) ≡ u ∷ v ∷ []
+unfolding wide
+pair_wide u v h l = grind (arith, nat_tests, h, l)
+
+pub spells_pair : (u v : ℕ) (rest : List ℕ) → IsHigh u → IsLow v → SpellsBefore (form (paired u v)) rest (u ∷ v ∷ rest)
+spells_pair u v rest i j = λ b h. record {
+  code_points = paired u v ∷ h.code_points;
+  spelled = record { code_points = (omega (arith, i.1, j.1), h.spelled.code_points); paired_free = (may_precede (paired u v) h.code_points (λ k. omega (arith, k.1)), h.spelled.paired_free); joined = ap (λ x. form (paired u v) ++ x) h.spelled.joined };
+  are = ap (λ x. u ∷ v ∷ x) h.are ∙ ap (λ x. x ++ units h.code_points) (sym (pair_wide u v i j));
+}
+
+-- ASCII
+spells_each : (xs rest : List ℕ) → AllByRecursion (λ x. x < 0x80) xs → SpellsBefore xs rest (xs ++ rest)
+spells_each [] rest a = spells_none rest
+spells_each (x ∷ xs) rest a =
+    spells_both (x ∷ []) xs (xs ++ rest) rest (x ∷ xs ++ rest)
+    (subst (λ f. SpellsBefore f (xs ++ rest) (x ∷ xs ++ rest)) (form_ascii x a.0) (spells_single x (xs ++ rest) (omega (arith, a.0)) (may_precede x (xs ++ rest) (λ i. omega (arith, i.0, a.0)))))
+    (spells_each xs rest a.1)
+
+pub spells_ascii : (xs rest all : List ℕ) → All (λ x. x < 0x80) xs → all ≡ xs ++ rest → SpellsBefore xs rest all
+spells_ascii xs rest all a e = subst (SpellsBefore xs rest) (sym e) (spells_each xs rest (recursion_from_All (λ x. x < 0x80) xs a))
+
+-- a form has no more than three bytes for a unit
+pub form_few : (c : ℕ) → c < 0x1_0000 → length (form c) ≤ 3
+unfolding form
+form_few c h = grind (arith, nat_tests)
+
+-- the first code point, of a pair and of a single unit
+pub record FirstCodePoint (us : List ℕ) (c : ℕ) (rest : List ℕ) : Type 0 where
+  pub code_point : IsCodePoint c
+  pub spelled : SpellsBefore (form c) rest us
+  pub shorter : length rest < length us
+  pub len : length (form c) + 3 * length rest ≤ 3 * length us
+  pub behind : (taken : List ℕ) × (us ≡ taken ++ rest)
+
+pub of_pair : {us : List ℕ} {c : ℕ} {rest : List ℕ} → BeginsPair us c rest → FirstCodePoint us c rest
+of_pair {us} {c} {rest} p = record {
+  code_point = omega (arith, p.value, p.is_high.1, p.is_low.1);
+  spelled = subst (λ x. SpellsBefore (form x) rest us) (sym p.value) (subst (SpellsBefore (form (paired p.high p.low)) rest) (sym p.units_are) (spells_pair p.high p.low rest p.is_high p.is_low));
+  shorter = omega (arith, ap length p.units_are);
+  len = omega (arith, ap length p.units_are, (form_bounds c).1);
+  behind = (p.high ∷ p.low ∷ [], p.units_are);
+}
+
+single_precedes : (u : ℕ) (rest : List ℕ) → BeginsNoPair (u ∷ rest) → MayPrecede u rest
+single_precedes u [] n = tt
+single_precedes u (v ∷ rest) n = λ h l. n u v rest refl h l
+
+pub of_single : (us : List ℕ) (u : ℕ) (rest : List ℕ) → us ≡ u ∷ rest → IsUnit u → BeginsNoPair us → FirstCodePoint us u rest
+of_single us u rest e i n = record {
+  code_point = omega arith;
+  spelled = subst (SpellsBefore (form u) rest) (sym e) (spells_single u rest i (single_precedes u rest (subst BeginsNoPair e n)));
+  shorter = omega (arith, ap length e);
+  len = omega (arith, ap length e, form_few u i);
+  behind = (u ∷ [], e);
+}
+
+first_and_rest : (us : List ℕ) → 0 < length us → us ≡ slice_index us 0 ∷ drop 1 us
+first_and_rest [] h = absurd (omega arith)
+first_and_rest (u ∷ us) h = refl
+
+first_of_one : (us : List ℕ) → 0 < length us → slice_index (take 1 us) 0 ≡ slice_index us 0
+first_of_one [] h = refl
+first_of_one (u ∷ us) h = refl
+
+pub of_first : {us front rest : List ℕ} {u : ℕ} → 0 < length us → IsUnit (slice_index us 0) → front ≡ take 1 us → rest ≡ drop 1 us → u ≡ slice_index front 0 → BeginsNoPair us → FirstCodePoint us u rest
+of_first {us} {front} {rest} {u} h i f r e n =
+    let v : u ≡ slice_index us 0 = e ∙ ap (λ x. slice_index x 0) f ∙ first_of_one us h in
+    of_single us u rest (first_and_rest us h ∙ ap (λ x. x ∷ drop 1 us) (sym v) ∙ ap (λ x. u ∷ x) (sym r)) (subst IsUnit (sym v) i) n
+
+-- the units behind others
+pub units_behind : (taken rest all : List ℕ) → all ≡ taken ++ rest → AllByRecursion IsUnit all → AllByRecursion IsUnit rest
+units_behind taken rest all e a = go taken (subst (AllByRecursion IsUnit) e a)
+  where
+    go : (xs : List ℕ) → AllByRecursion IsUnit (xs ++ rest) → AllByRecursion IsUnit rest
+    go [] b = b
+    go (x ∷ xs) b = go xs b.1
+
+pub are_units : (us : List ℕ) → ((i : ℕ) → Fits w16 (get_or us i 0)) → AllByRecursion IsUnit us
+are_units us h = recursion_from_All IsUnit us (All-from_get_or IsUnit us 0 (λ i _. omega (arith, h i)))
+
+-- where there is room for all bytes there is room for those that come next
+pub bytes_room : {Z : Type 0} (old now : Vec ℕ Z) (front next behind string us : List ℕ) → now.items ≡ old.items ++ front → SpellsBefore (front ++ next) behind us → AllByRecursion IsUnit behind → HasUnits string us → vec_capacity old ≤ vec_capacity now
+    → vec_len old + length string ≤ vec_capacity old → vec_len now + length next ≤ vec_capacity now
+bytes_room old now front next behind string us e s a h k r =
+    let b = units_spelled behind a in
+    let same : string ≡ (front ++ next) ++ b.0 = units_once string ((front ++ next) ++ b.0) us h (s b.0 b.1) in
+    omega (arith, ap length same, length-append (front ++ next) b.0, length-append front next, ap length e, length-append old.items front, old.ok.0, now.ok.0)
+
+-- bytes written behind those before
+pub written_both : {now new lanes : List ℕ} (old front more : List ℕ) → now ≡ old ++ front → new ≡ now ++ lanes → lanes ≡ more → new ≡ old ++ (front ++ more)
+written_both {now} {new} {lanes} old front more e n l = n ∙ ap (λ x. now ++ x) l ∙ ap (λ x. x ++ more) e ∙ append_assoc old front more
+
+-- bytes written into an empty vector
+pub written_alone : {none new us : List ℕ} → none ≡ [] → (string : List ℕ) × HasUnits string us × (new ≡ none ++ string) → HasUnits new us
+written_alone {none} {new} {us} e w = subst (λ b. HasUnits b us) (sym (w.2 ∙ ap (λ x. x ++ w.0) e)) w.1
+
+-- no units have no bytes
+pub has_none : (us : List ℕ) → us ≡ [] → HasUnits [] us
+has_none us e = spells_end [] us us (ap length e) (spells_none us)

@@ -1,0 +1,135 @@
+-- The front of a string taken off, and its units with it.
+use Rattle.std.proofs.Common.{◌≡◌, ℕ, ◌+◌, ◌*◌, ◌%◌, ◌≤◌, ◌<◌, List, [], ◌∷◌, ◌++◌, length, take, drop, slice_index, vec_len, vec_capacity, refl, sym, ap, ◌∙◌, subst, arith, append_assoc, length-append}
+use Rattle.std.specs.declared.vec.Vec.{Vec}
+use Rattle.std.proofs.lemmas.List.{take-append-drop}
+use Rattle.wtf8_core.proofs.lemmas.Forms.{form_bounds}
+use Rattle.std.proofs.Math.Seq.{drop-append_seam}
+use Rattle.std.proofs.lemmas.Bool.Decides.{nat_tests}
+use Rattle.std.proofs.lemmas.List.Elements.{recursion_from_All}
+use Rattle.std.specs.List.{All, AllByRecursion, flat_map}
+use Rattle.wtf8_core.specs.CodePoint.{IsCodePoint, form, wide}
+use Rattle.wtf8_core.specs.Wtf8.{Spells, IsWtf8, HasUnits, units}
+use Rattle.wtf8_core.specs.UnitsOf.{units_of}
+use Rattle.wtf8_core.proofs.lemmas.UnitsLemmas.{wide_single}
+use Rattle.wtf8_core.proofs.lemmas.UnitsOfLemmas.{code_points_in-spelled, has_units_of}
+use Rattle.platform_str.specs.Bulk.{BeginsForm}
+
+-- the code point and the length of a form, by its first byte
+abbrev Leads : ℕ → ℕ → ℕ → Type 0
+Leads value len c = (value ≡ c) × (len ≡ length (form c))
+
+pub leads_one : (a b x y c : ℕ) (t behind : List ℕ) → a < 0x80 → IsCodePoint c → form c ++ behind ≡ a ∷ b ∷ x ∷ y ∷ t → Leads a 1 c
+unfolding form
+leads_one a b x y c t behind h p e = (grind (arith, nat_tests, e), grind (arith, nat_tests, e))
+
+pub leads_two : (a b x y c : ℕ) (t behind : List ℕ) → 0x80 ≤ a → a < 0xE0 → IsCodePoint c → form c ++ behind ≡ a ∷ b ∷ x ∷ y ∷ t → Leads ((a % 0x20) * 0x40 + b % 0x40) 2 c
+unfolding form
+leads_two a b x y c t behind l h p e = (grind (arith, nat_tests, e), grind (arith, nat_tests, e))
+
+pub leads_three : (a b x y c : ℕ) (t behind : List ℕ) → 0xE0 ≤ a → a < 0xF0 → IsCodePoint c → form c ++ behind ≡ a ∷ b ∷ x ∷ y ∷ t → Leads ((a % 0x10) * 0x1000 + ((b % 0x40) * 0x40 + x % 0x40)) 3 c
+unfolding form
+leads_three a b x y c t behind l h p e = (grind (arith, nat_tests, e), grind (arith, nat_tests, e))
+
+pub leads_four : (a b x y c : ℕ) (t behind : List ℕ) → 0xF0 ≤ a → IsCodePoint c → form c ++ behind ≡ a ∷ b ∷ x ∷ y ∷ t → Leads ((a % 0x10) * 0x4_0000 + (((b % 0x40) * 0x40 + x % 0x40) * 0x40 + y % 0x40)) 4 c
+unfolding form
+leads_four a b x y c t behind l p e = (grind (arith, nat_tests, e), grind (arith, nat_tests, e))
+
+-- a string that isn't empty begins with a form
+pub first_of : (b : List ℕ) → IsWtf8 b → 0 < length b → (c : ℕ) × (rest : List ℕ) × BeginsForm b c rest
+first_of b w h = by w.0 w.1
+  where
+    by : (cs : List ℕ) → Spells b cs → (c : ℕ) × (rest : List ℕ) × BeginsForm b c rest
+    by [] s = absurd (omega (arith, ap length s.joined))
+    by (c ∷ cs) s =
+        let r : Spells (flat_map form cs) cs = record { code_points = s.code_points.1; paired_free = s.paired_free.1; joined = refl } in (
+          c,
+          flat_map form cs,
+          record {
+            code_point = s.code_points.0;
+            joined = s.joined;
+            formed = (cs, r);
+            units_are = ap units (code_points_in-spelled b (c ∷ cs) s) ∙ ap (λ us. wide c ++ us) (sym (ap units (code_points_in-spelled (flat_map form cs) cs r)));
+          },
+        )
+
+four_first : (b : List ℕ) → 4 ≤ length b → b ≡ slice_index b 0 ∷ slice_index b 1 ∷ slice_index b 2 ∷ slice_index b 3 ∷ drop 4 b
+four_first [] h = absurd (omega arith)
+four_first (x ∷ []) h = absurd (omega arith)
+four_first (x ∷ y ∷ []) h = absurd (omega arith)
+four_first (x ∷ y ∷ z ∷ []) h = absurd (omega arith)
+four_first (x ∷ y ∷ z ∷ u ∷ b) h = refl
+
+-- what is read out of the first four bytes is the first form
+pub taken : (b : List ℕ) (value len : ℕ) → IsWtf8 b → 4 ≤ length b
+    → ((c : ℕ) (behind : List ℕ) → IsCodePoint c → form c ++ behind ≡ slice_index b 0 ∷ slice_index b 1 ∷ slice_index b 2 ∷ slice_index b 3 ∷ drop 4 (form c ++ behind) → Leads value len c)
+    → (len ≤ length b) × BeginsForm b value (drop len b)
+taken b value len w h read =
+    let f = first_of b w (omega arith) in
+    let c = f.0 in
+    let rest = f.1 in
+    let is = f.2 in
+    let l = read c rest is.code_point (sym is.joined ∙ four_first b h ∙ ap (λ t. slice_index b 0 ∷ slice_index b 1 ∷ slice_index b 2 ∷ slice_index b 3 ∷ drop 4 t) is.joined) in
+    let n : length b ≡ length (form c) + length rest = ap length is.joined ∙ length-append (form c) rest in
+    let d : drop len b ≡ rest = ap (λ m. drop m b) l.1 ∙ ap (drop (length (form c))) is.joined ∙ drop-append_seam (form c) rest in
+    (omega (arith, n, l.1), subst (λ r. BeginsForm b value r) (sym d) (subst (λ v. BeginsForm b v rest) (sym l.0) is))
+
+ascii_first : (c x : ℕ) (rest l : List ℕ) → x < 0x80 → x ∷ l ≡ form c ++ rest → (c ≡ x) × (rest ≡ l)
+unfolding form
+ascii_first c x rest l h e = (grind (arith, nat_tests, e), grind (arith, nat_tests, e))
+
+-- ASCII in front of a string is its own units
+ascii_front : (xs r : List ℕ) → AllByRecursion (λ x. x < 0x80) xs → IsWtf8 (xs ++ r) → IsWtf8 r × (units_of (xs ++ r) ≡ xs ++ units_of r)
+ascii_front [] r a w = (w, refl)
+ascii_front (x ∷ xs) r a w =
+    let f = first_of (x ∷ xs ++ r) w (omega arith) in
+    let s = ascii_first f.0 x f.1 (xs ++ r) a.0 f.2.joined in
+    let i = ascii_front xs r a.1 (subst IsWtf8 s.1 f.2.formed) in
+    let one : wide f.0 ≡ x ∷ [] = ap wide s.0 ∙ wide_single x (omega (arith, a.0)) in
+    (i.0, f.2.units_are ∙ ap (λ l. wide f.0 ++ units_of l) s.1 ∙ ap (λ l. l ++ units_of (xs ++ r)) one ∙ ap (λ l. x ∷ l) i.1)
+
+pub ascii_block : (b xs r : List ℕ) → b ≡ xs ++ r → All (λ x. x < 0x80) xs → IsWtf8 b → IsWtf8 r × (units_of b ≡ xs ++ units_of r)
+ascii_block b xs r e a w =
+    let i = ascii_front xs r (recursion_from_All (λ x. x < 0x80) xs a) (subst IsWtf8 e w) in
+    (i.0, ap units_of e ∙ i.1)
+
+-- there are no more units than bytes
+wide_short : (c : ℕ) → length (wide c) ≤ length (form c)
+unfolding form wide
+wide_short c = grind (arith, nat_tests)
+
+units_short : (cs : List ℕ) → length (units cs) ≤ length (flat_map form cs)
+units_short [] = omega arith
+units_short (c ∷ cs) = omega (arith, wide_short c, units_short cs, length-append (wide c) (units cs), length-append (form c) (flat_map form cs))
+
+pub units_fit : (b : List ℕ) → IsWtf8 b → length (units_of b) ≤ length b
+units_fit b w = omega (arith, units_short w.0, ap (λ cs. length (units cs)) (code_points_in-spelled b w.0 w.1), ap length w.1.joined)
+
+-- a block of ASCII at the front of what is left
+pub record AsciiStep (written rest block behind all : List ℕ) : Type 0 where
+  pub formed : IsWtf8 behind
+  pub units_are : (written ++ block) ++ units_of behind ≡ all
+
+pub ascii_step : (written rest block behind all : List ℕ) → block ≡ take 16 rest → behind ≡ drop 16 rest → All (λ x. x < 0x80) block → IsWtf8 rest → written ++ units_of rest ≡ all → AsciiStep written rest block behind all
+ascii_step written rest block behind all f d a w e =
+    let s = ascii_block rest block behind (sym (take-append-drop 16 rest) ∙ ap (λ x. x ++ drop 16 rest) (sym f) ∙ ap (λ x. block ++ x) (sym d)) a w in
+    record { formed = s.0; units_are = append_assoc written block (units_of behind) ∙ ap (λ x. written ++ x) (sym s.1) ∙ e }
+
+-- the first code point of what is left
+pub form_step : (written rest behind all : List ℕ) (c : ℕ) → BeginsForm rest c behind → written ++ units_of rest ≡ all → (written ++ wide c) ++ units_of behind ≡ all
+form_step written rest behind all c b e = append_assoc written (wide c) (units_of behind) ∙ ap (λ x. written ++ x) (sym b.units_are) ∙ e
+
+-- the rest is shorter
+pub form_shorter : {rest behind : List ℕ} {c : ℕ} → BeginsForm rest c behind → length behind < length rest
+form_shorter {rest} {behind} {c} b = omega (arith, ap length b.joined, length-append (form c) behind, (form_bounds c).0)
+
+-- where there is room for all units there is room for those that come next
+pub room_for : {Z : Type 0} (u v : Vec ℕ Z) (next left all : List ℕ) → (v.items ++ next) ++ left ≡ u.items ++ all → vec_capacity u ≤ vec_capacity v → vec_len u + length all ≤ vec_capacity u → vec_len v + length next ≤ vec_capacity v
+room_for u v next left all e c r = omega (arith, ap length e, length-append (v.items ++ next) left, length-append v.items next, length-append u.items all, u.ok.0, v.ok.0)
+
+-- the same of the vector that the block was written to
+pub ascii_written : (before written lanes rest block behind all : List ℕ) → AsciiStep before rest block behind all → written ≡ before ++ lanes → lanes ≡ block → written ++ units_of behind ≡ all
+ascii_written before written lanes rest block behind all s w l = ap (λ x. x ++ units_of behind) (w ∙ ap (λ x. before ++ x) l) ∙ s.units_are
+
+-- units written into an empty vector
+pub has_written : {b e none new : List ℕ} → IsWtf8 e → e ≡ b → none ≡ [] → new ≡ none ++ units_of e → HasUnits b new
+has_written {b} {e} {none} {new} w s n is = subst (λ x. HasUnits x new) s (subst (HasUnits e) (sym (is ∙ ap (λ x. x ++ units_of e) n)) (has_units_of e w))
