@@ -96,7 +96,7 @@ impl Checker {
     }
 }
 
-/// The bits with the low six of a byte behind them: those of the last four or five bytes.
+/// The low six bits of a byte behind the low 26 of the bits.
 #[inline(always)]
 fn joined_bits(bits: u32, byte: u8) -> u32
     ensures { result ≡ joined_bits bits byte }

@@ -3,7 +3,8 @@
 //! The crate knows no platform and takes no memory. It reads bytes as code points
 //! ([`CodePoints`]) and as units ([`encode_wide`]), spells units as bytes
 //! ([`DecodeWide`]), and names the first fault of bytes that spell nothing
-//! ([`EncodingError`]). The module [`laws`] has what holds of the definitions.
+//! ([`EncodingError`]), also where they come in pieces ([`Checker`]). The module [`laws`] has what
+//! holds of the definitions.
 //!
 //! Its words, beside those of the standards: a *unit* is a 16-bit code unit. A *form* is the
 //! bytes of one code point. A *scalar value* is a code point that is no surrogate, and a *whole
