@@ -1,5 +1,5 @@
 //! The right answer where a request may have been refused.
-use platform_str::{OsString, Platform};
+use os_str_bytes::{OsString, Platform, RawOsString};
 use refusing::Refusing;
 use std::alloc::{AllocError, Allocator};
 use std::process::Abort;
@@ -22,6 +22,16 @@ pub(crate) fn bytes_of<E: Platform, A: Allocator>(
 ) -> Option<&[u8]> {
     match answer {
         Ok(string) => Some(string.as_os_str().as_encoded_bytes()),
+        Err(AllocError) => None,
+    }
+}
+
+/// The bytes of a raw string, where one was made.
+pub(crate) fn raw_bytes_of<E: Platform, A: Allocator>(
+    answer: &Result<RawOsString<E, A>, AllocError>,
+) -> Option<&[u8]> {
+    match answer {
+        Ok(string) => Some(string.as_raw().as_encoded_bytes()),
         Err(AllocError) => None,
     }
 }

@@ -1,7 +1,7 @@
 //! Copies of strings.
-use crate::answer::{bytes_of, is_right};
+use crate::answer::{bytes_of, is_right, raw_bytes_of};
 use crate::fixture::many;
-use platform_str::{OsStr, Platform, Unix, Wasm, Windows};
+use os_str_bytes::{OsStr, Platform, RawOsStr, Unix, Wasm, Windows};
 use refusing::for_each_refusal;
 use std::alloc::AllocError;
 use std::process::Abort;
@@ -27,6 +27,13 @@ fn copies_on<E: Platform, R: AllocGlobal + Abort>(
     let view = OsStr::<E>::new(text);
     assert_eq!(rt; to_owned(rt, view)?, requests, "to_owned of {text:?}");
     assert_eq!(rt; clone(rt, view)?, requests, "clone of {text:?}");
+    let raw = RawOsStr::new(view);
+    assert_eq!(rt;
+        raw_to_owned(rt, raw)?,
+        requests,
+        "raw to_owned of {text:?}"
+    );
+    assert_eq!(rt; raw_clone(rt, raw)?, requests, "raw clone of {text:?}");
     Ok(())
 }
 
@@ -53,6 +60,33 @@ fn clone<'a, E: Platform + 'a, R: AllocGlobal + Abort>(
         let copy = string.clone();
         is_right(rt, heap, bytes_of(&copy), view.as_encoded_bytes());
         assert!(rt; string.as_os_str() == view);
+        Ok(())
+    })
+}
+
+fn raw_to_owned<'a, E: Platform + 'a, R: AllocGlobal + Abort>(
+    rt: &R,
+    view: RawOsStr<'a, E>,
+) -> Result<u64, AllocError> {
+    for_each_refusal(rt.alloc(), move |heap, plan| {
+        heap.restart(plan);
+        let copy = view.to_owned(heap);
+        is_right(rt, heap, raw_bytes_of(&copy), view.as_encoded_bytes());
+        Ok(())
+    })
+}
+
+/// A raw string is as it was where its copy is refused.
+fn raw_clone<'a, E: Platform + 'a, R: AllocGlobal + Abort>(
+    rt: &R,
+    view: RawOsStr<'a, E>,
+) -> Result<u64, AllocError> {
+    for_each_refusal(rt.alloc(), move |heap, plan| {
+        let string = view.to_owned(heap)?;
+        heap.restart(plan);
+        let copy = string.clone();
+        is_right(rt, heap, raw_bytes_of(&copy), view.as_encoded_bytes());
+        assert!(rt; string.as_raw() == view);
         Ok(())
     })
 }

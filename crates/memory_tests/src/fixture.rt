@@ -1,5 +1,5 @@
 //! Strings in a heap that refuses, and long inputs.
-use platform_str::{OsString, OsStringBytes, Platform};
+use os_str_bytes::{OsString, OsStringBytes, Platform};
 use refusing::{Plan, Refusing};
 use std::alloc::{AllocError, Global};
 use std::test::Fail;

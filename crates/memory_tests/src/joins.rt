@@ -1,5 +1,5 @@
 //! Strings joined.
-use platform_str::{OsStr, OsStrBytes, Platform, Unix, Wasm, Windows};
+use os_str_bytes::{OsStr, OsStrBytes, Platform, Unix, Wasm, Windows};
 use refusing::{Refusing, for_each_refusal};
 use std::alloc::{AllocError, Allocator};
 use std::process::Abort;

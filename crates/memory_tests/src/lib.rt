@@ -19,6 +19,8 @@ mod lossy;
 #[cfg(test)]
 mod moves;
 #[cfg(test)]
+mod owned_raw;
+#[cfg(test)]
 mod repeats;
 #[cfg(test)]
 mod vectors;

@@ -1,7 +1,7 @@
 //! Lossy texts and IO-lossy bytes.
 use crate::answer::is_right;
 use crate::fixture::{many, string_in};
-use platform_str::{OsStr, OsStrBytes, Platform, Unix, Wasm, Windows};
+use os_str_bytes::{OsStr, OsStrBytes, Platform, RawOsStr, Unix, Wasm, Windows};
 use refusing::{Plan, Refusing, for_each_refusal};
 use std::alloc::{AllocError, Global};
 use std::process::Abort;
@@ -37,6 +37,8 @@ fn lossy_on<E: Platform, R: AllocGlobal + Abort>(
     let view = string.as_os_str();
     let requests = to_string_lossy(rt, view, text)?;
     assert_eq!(rt; requests == 0, raw == text, "{requests} of {raw:?}");
+    let requests = to_str_lossy(rt, RawOsStr::new(view), text)?;
+    assert_eq!(rt; requests == 0, raw == text, "{requests} of the raw {raw:?}");
     let requests = to_io_bytes_lossy(rt, view, io)?;
     assert_eq!(rt; requests == 0, raw == io, "{requests} of {raw:?}");
     Ok(())
@@ -50,6 +52,20 @@ fn to_string_lossy<'a, E: Platform + 'a, R: AllocGlobal + Abort>(
     for_each_refusal(rt.alloc(), move |heap, plan| {
         heap.restart(plan);
         let answer = view.to_string_lossy(heap);
+        let cow = answer.as_ref().ok();
+        is_right(rt, heap, cow.map(|cow| cow.as_str().as_bytes()), text);
+        Ok(())
+    })
+}
+
+fn to_str_lossy<'a, E: Platform + 'a, R: AllocGlobal + Abort>(
+    rt: &R,
+    view: RawOsStr<'a, E>,
+    text: &[u8],
+) -> Result<u64, AllocError> {
+    for_each_refusal(rt.alloc(), move |heap, plan| {
+        heap.restart(plan);
+        let answer = view.to_str_lossy(heap);
         let cow = answer.as_ref().ok();
         is_right(rt, heap, cow.map(|cow| cow.as_str().as_bytes()), text);
         Ok(())
@@ -90,6 +106,7 @@ fn text_on<'a, E: Platform + 'a>(
 ) -> Result<(), AllocError> {
     let view = OsStr::<E>::new(text);
     assert_eq!(rt; view.to_string_lossy(heap)?.as_str(), text);
+    assert_eq!(rt; RawOsStr::new(view).to_str_lossy(heap)?.as_str(), text);
     assert_eq!(rt; view.to_io_bytes_lossy(heap)?.as_bytes(), text.as_bytes());
     Ok(())
 }

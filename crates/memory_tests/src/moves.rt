@@ -1,6 +1,6 @@
 //! Strings, paths and texts made of one another, with every request refused.
 use crate::fixture::string_in;
-use platform_str::{OsString, PathBuf, Platform, Unix, Wasm, Windows};
+use os_str_bytes::{OsString, PathBuf, Platform, Unix, Wasm, Windows};
 use refusing::{Plan, Refusing};
 use std::alloc::Global;
 use std::process::Abort;

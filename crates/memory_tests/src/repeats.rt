@@ -1,6 +1,7 @@
 //! Strings repeated.
-use crate::answer::{bytes_of, is_right};
-use os_str_ext::{OsStr, OsStrBytesExt, Platform, Unix, Wasm, Windows};
+use crate::answer::{bytes_of, is_right, raw_bytes_of};
+use crate::fixture::many;
+use os_str_bytes::{OsStr, OsStrBytesExt, Platform, RawOsStr, Unix, Wasm, Windows};
 use refusing::for_each_refusal;
 use std::alloc::AllocError;
 use std::process::Abort;
@@ -27,6 +28,13 @@ fn repeats(rt: HostRuntime) -> Result<(), AllocError> {
     repeats_on::<Wasm, _>(&rt, b"ab", 2, b"abab", 1)
 }
 
+#[test]
+fn repeats_of_long_strings(rt: HostRuntime) -> Result<(), AllocError> {
+    let once = many(rt.alloc(), b"foobar")?;
+    let twice = many(rt.alloc(), b"foobarfoobar")?;
+    repeats_on::<Windows, _>(&rt, &once, 2, &twice, 1)
+}
+
 fn repeats_on<E: Platform, R: AllocGlobal + Abort>(
     rt: &R,
     raw: &[u8],
@@ -41,6 +49,11 @@ fn repeats_on<E: Platform, R: AllocGlobal + Abort>(
         requests,
         "{count} times {raw:?}"
     );
+    assert_eq!(rt;
+        repeat_raw(rt, RawOsStr::new(string), count, repeated)?,
+        requests,
+        "{count} times the raw {raw:?}"
+    );
     Ok(())
 }
 
@@ -54,6 +67,20 @@ fn repeat<'a, E: Platform + 'a, R: AllocGlobal + Abort>(
         heap.restart(plan);
         let made = string.repeat(heap, count);
         is_right(rt, heap, bytes_of(&made), repeated);
+        Ok(())
+    })
+}
+
+fn repeat_raw<'a, E: Platform + 'a, R: AllocGlobal + Abort>(
+    rt: &R,
+    string: RawOsStr<'a, E>,
+    count: usize,
+    repeated: &[u8],
+) -> Result<u64, AllocError> {
+    for_each_refusal(rt.alloc(), move |heap, plan| {
+        heap.restart(plan);
+        let made = string.repeat(heap, count);
+        is_right(rt, heap, raw_bytes_of(&made), repeated);
         Ok(())
     })
 }

@@ -1,5 +1,5 @@
 //! Strings and paths from vectors and back, with every request refused.
-use platform_str::{OsString, OsStringBytes, PathBuf, Platform, Unix, Wasm, Windows};
+use os_str_bytes::{OsString, OsStringBytes, PathBuf, Platform, Unix, Wasm, Windows};
 use refusing::{Plan, Refusing};
 use std::alloc::{Allocator, Global};
 use std::process::Abort;

@@ -1,7 +1,8 @@
 //! Views of a string and its parts, with every request refused.
 use crate::fixture::string_in;
-use os_str_ext::{OsStrBytesExt, SliceIndex};
-use platform_str::{HasBytes, OsStr, OsStrBytes, Platform, Unix, Wasm, Windows};
+use os_str_bytes::{
+    HasBytes, OsStr, OsStrBytes, OsStrBytesExt, Platform, SliceIndex, Unix, Wasm, Windows,
+};
 use refusing::{Plan, Refusing};
 use std::alloc::Global;
 use std::process::Abort;

@@ -1,7 +1,7 @@
 //! Windows strings from units.
 use crate::answer::{bytes_of, is_right};
 use crate::fixture::many;
-use platform_str::windows::OsString;
+use os_str_bytes::windows::OsString;
 use refusing::for_each_refusal;
 use std::alloc::AllocError;
 use std::process::Abort;
