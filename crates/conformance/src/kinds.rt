@@ -14,6 +14,7 @@ use search::Searches;
 use std::alloc::Global;
 use strings::Strings;
 
+mod checker;
 mod lossy;
 mod ranges;
 mod search;
@@ -43,6 +44,7 @@ pub enum Kind {
     WindowsEncode,
     WindowsPrefix,
     WindowsJoin,
+    Checker,
     Lossy,
     Strings,
     Ranges,
@@ -58,6 +60,7 @@ impl RowKind for Kind {
             "windows_encode" => Some(Kind::WindowsEncode),
             "windows_prefix" => Some(Kind::WindowsPrefix),
             "windows_join" => Some(Kind::WindowsJoin),
+            "checker" => Some(Kind::Checker),
             "lossy" => Some(Kind::Lossy),
             "strings" => Some(Kind::Strings),
             "ranges" => Some(Kind::Ranges),
@@ -72,6 +75,7 @@ impl RowKind for Kind {
             Kind::WindowsEncode => windows_encode::ask(alloc, row),
             Kind::WindowsPrefix => windows_prefix::ask(alloc, row),
             Kind::WindowsJoin => windows_join::ask(alloc, row),
+            Kind::Checker => checker::ask(alloc, row),
             Kind::Lossy => lossy::ask(alloc, row),
             Kind::Strings => platforms::ask::<Strings>(alloc, row),
             Kind::Ranges => platforms::ask::<Ranges>(alloc, row),
