@@ -32,7 +32,7 @@ pub use raw_cow::{CowRawOsStr, RawOsStrCow};
 pub use raw_str::RawOsStr;
 pub use raw_string::RawOsString;
 pub use wtf8_core::{
-    CodePoints, DecodeWide, EncodeWide, char_at, encode_wide, ends_with, is_continuation,
+    Checker, CodePoints, DecodeWide, EncodeWide, char_at, encode_wide, ends_with, is_continuation,
     laws as wtf8_laws, pair_between, starts_with, utf8_fault,
 };
 

@@ -4,9 +4,8 @@ use crate::column::Column;
 use crate::error::LineError;
 use crate::fault_text::fault_text;
 use crate::hex_text::read_bytes;
-use platform_str::EncodingError;
+use os_str_bytes::{Checker, EncodingError};
 use std::alloc::Global;
-use wtf8_core::Checker;
 
 /// What a row asks, and what the calls answer.
 pub fn ask<'a>(alloc: Global, row: &[&'a str]) -> Result<Vec<Column<'a>>, LineError> {
@@ -28,10 +27,11 @@ pub fn ask<'a>(alloc: Global, row: &[&'a str]) -> Result<Vec<Column<'a>>, LineEr
     text.push_str(fault_text(alloc, checker.finish())?.as_str())?;
     let cut = cut_in_two(alloc, &bytes, finished)?;
     Ok(vec![in alloc;
-        Column::asked("answers", "Checker::feed and finish", answers, text),
+        Column::asked("answers", "Checker", "feed and finish", answers, text),
         Column::asked(
             "last answer",
-            "Checker::finish, at every cut into two pieces",
+            "Checker",
+            "finish, at every cut into two pieces",
             finished,
             cut
         ),
