@@ -1,5 +1,5 @@
 //! Joins: what `push` makes, and what a string starts with.
-ghost use Rattle.std.specs.Prelude.{◌≡◌, ◌↔◌, ℕ, List, IfOk, OnOk, IsTrue};
+ghost use Rattle.std.specs.Prelude.{◌≡◌, ◌↔◌, ◌++◌, ℕ, List, IfOk, OnOk, IsTrue};
 ghost use Rattle.wtf8_core.specs.Join.{IsJoin};
 ghost use Rattle.platform_str.specs.Strings.{bytes, string_vec_of};
 
@@ -8,7 +8,8 @@ use std::alloc::{AllocError, Allocator, Global};
 
 /// Two strings, of which there is a join.
 pub fn has_join<'a, E: Platform + 'a>(a: OsStr<'a, E>, b: OsStr<'a, E>) -> OsStr<'a, E>
-    ensures { (joined : List ℕ) × IsJoin E.well_formed E.units (bytes a.entry) (bytes b.entry) joined }
+    ensures same { bytes result ≡ bytes a.entry }
+    ensures some { (joined : List ℕ) × IsJoin E.well_formed E.units (bytes a.entry) (bytes b.entry) joined }
 {
     laws::joins::<E>();
     a
@@ -21,7 +22,8 @@ pub fn pushed_alike<E: Platform, A: Allocator>(
     more: OsStr<'_, E>,
 ) -> Result<(), AllocError>
     requires { (string_vec_of a.old).items ≡ (string_vec_of b.old).items }
-    ensures { OnOk result ((string_vec_of a.new).items ≡ (string_vec_of b.new).items) }
+    ensures alike { OnOk result ((string_vec_of a.new).items ≡ (string_vec_of b.new).items) }
+    ensures units { OnOk result (E.units (string_vec_of a.new).items ≡ E.units (string_vec_of a.old).items ++ E.units (bytes more.entry)) }
 {
     laws::joins::<E>();
     a.push(more)?;
@@ -35,7 +37,8 @@ pub fn joined_either_way<'a, E: Platform + 'a>(
     b: OsStr<'a, E>,
     c: OsStr<'a, E>,
 ) -> Result<(OsString<E>, OsString<E>), AllocError>
-    ensures { IfOk result (λ both. (string_vec_of both.0).items ≡ (string_vec_of both.1).items) }
+    ensures alike { IfOk result (λ both. (string_vec_of both.0).items ≡ (string_vec_of both.1).items) }
+    ensures units { IfOk result (λ both. E.units (string_vec_of both.0).items ≡ E.units (bytes a.entry) ++ E.units (bytes b.entry) ++ E.units (bytes c.entry)) }
 {
     laws::joins::<E>();
     let mut first = a.to_owned(alloc)?;
