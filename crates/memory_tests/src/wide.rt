@@ -1,4 +1,4 @@
-//! Windows strings from units.
+//! Windows strings from units, and their units at once.
 use crate::answer::{bytes_of, is_right};
 use crate::fixture::many;
 use os_str_bytes::windows::OsString;
@@ -6,12 +6,16 @@ use refusing::for_each_refusal;
 use std::alloc::AllocError;
 use std::process::Abort;
 
-/// Memory is asked for exactly where there is a unit. How often is left open.
+/// Either way takes one request, and none where there is no unit.
 #[test]
 fn units(rt: HostRuntime) -> Result<(), AllocError> {
     let long_units = many(rt.alloc(), &[0x41u16, 0xD83D, 0xDE00])?;
     let long_bytes = many(rt.alloc(), b"A\xF0\x9F\x98\x80")?;
-    let table: [(&[u16], &[u8]); 5] = [
+    let mut euros = Vec::new(rt.alloc());
+    for _ in 0..1000 {
+        euros.extend_from_slice("\u{20AC}".as_bytes())?;
+    }
+    let table: [(&[u16], &[u8]); 6] = [
         (&[], b""),
         (&[0x41], b"A"),
         (&[0xD83D, 0xDE00], b"\xF0\x9F\x98\x80"),
@@ -19,11 +23,17 @@ fn units(rt: HostRuntime) -> Result<(), AllocError> {
             &[0x20AC; 6],
             "\u{20AC}\u{20AC}\u{20AC}\u{20AC}\u{20AC}\u{20AC}".as_bytes(),
         ),
+        (&[0x20AC; 1000], &euros),
         (&long_units, &long_bytes),
     ];
     for (units, bytes) in table {
-        let requests = from_wide(&rt, units, bytes)?;
-        assert_eq!(rt; requests == 0, units.is_empty(), "{requests} of {units:?}");
+        let requests = if units.is_empty() { 0 } else { 1 };
+        assert_eq!(rt;
+            from_wide(&rt, units, bytes)?,
+            requests,
+            "from_wide of {units:?}"
+        );
+        assert_eq!(rt; to_wide(&rt, units)?, requests, "to_wide of {units:?}");
     }
     Ok(())
 }
@@ -37,6 +47,21 @@ fn from_wide<R: AllocGlobal + Abort>(
         heap.restart(plan);
         let string = OsString::from_wide(heap, units);
         is_right(rt, heap, bytes_of(&string), bytes);
+        Ok(())
+    })
+}
+
+fn to_wide<R: AllocGlobal + Abort>(rt: &R, units: &[u16]) -> Result<u64, AllocError> {
+    for_each_refusal(rt.alloc(), move |heap, plan| {
+        let string = OsString::from_wide(heap, units)?;
+        heap.restart(plan);
+        let wide = string.as_os_str().to_wide(heap);
+        let answer = match &wide {
+            Ok(wide) => Some(wide.as_slice()),
+            Err(AllocError) => None,
+        };
+        let right = if heap.refused() { None } else { Some(units) };
+        assert_eq!(rt; answer, right, "after {} requests", heap.asked());
         Ok(())
     })
 }
