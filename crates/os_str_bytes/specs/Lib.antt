@@ -4,6 +4,7 @@ pub mod RawCow
 pub use Rattle.wtf8_core.specs.Boundary
 pub use Rattle.wtf8_core.specs.Byte
 pub use Rattle.wtf8_core.specs.Character
+pub use Rattle.wtf8_core.specs.Checker
 pub use Rattle.wtf8_core.specs.Chunks
 pub use Rattle.wtf8_core.specs.CodePoint
 pub use Rattle.wtf8_core.specs.Covered
