@@ -1,5 +1,5 @@
 -- What bulk conversions of Windows strings take off the front, step by step.
-use Rattle.std.specs.Prelude.{◌≡◌, ℕ, ◌<◌, List, ◌∷◌, ◌++◌}
+use Rattle.std.specs.Prelude.{◌≡◌, ℕ, List, ◌∷◌, ◌++◌}
 use Rattle.wtf8_core.specs.Surrogate.{IsHigh, IsLow, paired}
 use Rattle.wtf8_core.specs.CodePoint.{IsCodePoint, form, wide}
 use Rattle.wtf8_core.specs.Wtf8.{IsWtf8, HasUnits}

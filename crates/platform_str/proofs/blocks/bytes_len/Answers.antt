@@ -1,4 +1,4 @@
-use Rattle.std.proofs.Common.{rules, ◌≡◌, ◌++◌, ◌+◌, ℕ, length, length-append, arith, ap, ◌∙◌, sym}
+use Rattle.std.proofs.Common.{rules, ◌≡◌, ◌++◌, length, length-append, arith, ap}
 use Rattle.wtf8_core.specs.CodePoint.{form}
 use Rattle.wtf8_core.proofs.lemmas.UnitsLemmas.{units_once}
 use Rattle.platform_str.proofs.lemmas.BulkBytes.{spells_both, spells_ascii, spells_end}

@@ -1,5 +1,4 @@
-use Rattle.std.proofs.Common.{slice_index, refl, arith}
-use Rattle.wtf8_core.proofs.lemmas.UnitsLemmas.{IsUnit}
+use Rattle.std.proofs.Common.{arith}
 use Rattle.platform_str.proofs.lemmas.BulkBytes.{of_pair, of_first}
 use Rattle.platform_str.proofs.blocks.first_code_point.Goals as goal
 

@@ -1,4 +1,3 @@
-use Rattle.std.proofs.Common.{arith}
 use Rattle.platform_str.proofs.lemmas.BulkUnits.{leads_one, leads_two, leads_three, leads_four}
 use Rattle.platform_str.proofs.blocks.leading.Goals as goal
 

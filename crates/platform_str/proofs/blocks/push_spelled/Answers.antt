@@ -1,4 +1,4 @@
-use Rattle.std.proofs.Common.{rules, ◌≡◌, ◌++◌, ◌+◌, ℕ, [], length, append_assoc, arith, ap, ◌∙◌, sym, refl}
+use Rattle.std.proofs.Common.{rules, ◌≡◌, ◌++◌, [], length, arith, ap, sym, refl}
 use Rattle.std.proofs.lemmas.Bool.{false≢true}
 use Rattle.std.proofs.lemmas.List.{append-nil}
 use Rattle.wtf8_core.specs.CodePoint.{form}

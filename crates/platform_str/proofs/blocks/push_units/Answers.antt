@@ -1,4 +1,4 @@
-use Rattle.std.proofs.Common.{◌≤◌, ◌+◌, [], ◌++◌, length, vec_len, vec_capacity, sym, ap, ◌∙◌, subst, arith}
+use Rattle.std.proofs.Common.{[], length, ap, ◌∙◌, arith}
 use Rattle.std.proofs.lemmas.Bool.{false≢true}
 use Rattle.std.proofs.lemmas.List.{append-nil}
 use Rattle.wtf8_core.specs.CodePoint.{wide}
