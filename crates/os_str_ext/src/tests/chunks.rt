@@ -3,6 +3,7 @@ use super::string;
 use crate::{NonUnicodeOsStr, OsStr, OsStrBytesExt, OsUnit, Platform, Unix, Wasm, Windows};
 use std::hash::{DefaultHasher, Hash, Hasher};
 use std::process::Abort;
+use wtf8_core::char_at;
 
 /// The string of raw bytes has these chunks and no others, and so has a clone.
 fn chunks<E: Platform>(rt: &impl Abort, raw: &[u8], expected: &[(&[u8], &str)]) {
@@ -121,4 +122,57 @@ fn hash_of<T: Hash>(value: &T) -> u64 {
     let mut state = DefaultHasher::new();
     value.hash(&mut state);
     state.finish()
+}
+
+/// The bytes that make or break whole characters of one to four bytes.
+const INTERESTING: [u8; 10] = [0x41, 0x80, 0xA0, 0xBF, 0xC0, 0xC3, 0xE2, 0xED, 0xF0, 0xF5];
+
+/// Whether the byte at a place lies in a whole character.
+fn is_covered(raw: &[u8], at: usize) -> bool {
+    for back in 0..4usize {
+        let start = at.saturating_sub(back);
+        if let Some(len) = char_at(raw, start) {
+            if at < start.saturating_add(len) {
+                return true;
+            }
+        }
+    }
+    false
+}
+
+/// The chunks of a string are those that `char_at` gives at each byte.
+fn chunks_by_characters(rt: &impl Abort, raw: &[u8]) {
+    let mut at = 0usize;
+    for (part, text) in string::<Unix>(rt, raw).utf8_chunks() {
+        let part = part.as_os_str().as_encoded_bytes();
+        assert!(rt; !part.is_empty() || at == 0, "{raw:?}");
+        for byte in part {
+            assert!(rt;
+                raw.get(at) == Some(byte) && !is_covered(raw, at),
+                "{raw:?}"
+            );
+            at = at.saturating_add(1);
+        }
+        assert!(rt; !text.is_empty() || at == raw.len(), "{raw:?}");
+        for byte in text.as_bytes() {
+            assert!(rt; raw.get(at) == Some(byte) && is_covered(raw, at), "{raw:?}");
+            at = at.saturating_add(1);
+        }
+    }
+    assert!(rt; at == raw.len(), "{raw:?}");
+}
+
+#[test]
+fn chunks_of_all_short_strings(rt: HostRuntime) {
+    for count in 0..10_000usize {
+        let raw = [
+            INTERESTING[count % 10],
+            INTERESTING[count / 10 % 10],
+            INTERESTING[count / 100 % 10],
+            INTERESTING[count / 1000],
+        ];
+        for len in 0..=4usize {
+            chunks_by_characters(&rt, &raw[..len]);
+        }
+    }
 }
