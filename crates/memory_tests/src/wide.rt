@@ -56,12 +56,11 @@ fn to_wide<R: AllocGlobal + Abort>(rt: &R, units: &[u16]) -> Result<u64, AllocEr
         let string = OsString::from_wide(heap, units)?;
         heap.restart(plan);
         let wide = string.as_os_str().to_wide(heap);
-        let answer = match &wide {
-            Ok(wide) => Some(wide.as_slice()),
-            Err(AllocError) => None,
+        let right = match &wide {
+            Ok(wide) => !heap.refused() && wide.as_slice() == units,
+            Err(AllocError) => heap.refused(),
         };
-        let right = if heap.refused() { None } else { Some(units) };
-        assert_eq!(rt; answer, right, "after {} requests", heap.asked());
+        assert!(rt; right, "after {} requests", heap.asked());
         Ok(())
     })
 }
