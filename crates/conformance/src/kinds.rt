@@ -3,12 +3,10 @@
 //! A kind is a file below this one: it names the columns of a row, and asks for each the calls
 //! that answer it, or says that none stands yet. Where rows begin with a platform, it is a
 //! [`platforms::PlatformKind`].
-ghost use Rattle.std.specs.Prelude.{ℕ, List, IfOk, ⊤, map};
-ghost use Rattle.conformance.specs.declared.column.Column.{Column};
+ghost use Rattle.std.specs.Prelude.{⊤};
 
-use crate::column::Column;
-use crate::error::LineError;
 use crate::platforms;
+use answer_files::{Column, LineError, RowKind};
 use ranges::Ranges;
 use search::Searches;
 use std::alloc::Global;
@@ -23,19 +21,6 @@ mod windows_decode;
 mod windows_encode;
 mod windows_join;
 mod windows_prefix;
-
-/// What the rows of a kind ask.
-pub trait RowKind: Sized {
-    // which columns asking a row may give
-    ghost answers: { Self → List (List ℕ) → List Column → Type 0 };
-
-    /// The kind of a name, as in the head of a file.
-    fn named(name: &str) -> Option<Self>;
-
-    /// What a row asks, and what the calls answer.
-    fn ask<'a>(&self, alloc: Global, row: &[&'a str]) -> Result<Vec<Column<'a>>, LineError>
-        ensures { IfOk result (λ columns. answers self.now (map (λ column. column.now) row.now) columns.items) };
-}
 
 /// The kinds of answer files.
 #[derive(Clone, Copy)]

@@ -1,29 +1,22 @@
 //! The program `conformance`: asks the crates' public calls for the rows of answer files.
 //!
-//! An answer file ([`answer_file`]) has, a row a line, what some calls are given and what they
+//! An answer file (`answer_files`) has, a row a line, what some calls are given and what they
 //! have to answer; its kind ([`kinds`]) says which. The program's words are files' names. It
 //! prints how many rows each file has, how many of them differ from what the calls answer now,
-//! and the first of these ([`summary`]). Its status is 0 where no row differs, 1 where one
+//! and the first of these. Its status is 0 where no row differs, 1 where one
 //! does, and 2 where something keeps it from asking all rows ([`error`]), as a row that can't
 //! be read.
 #![tactic(auto)]
 
 ghost use Rattle.std.specs.Prelude.{◌≡◌, if◌then◌else◌, MatchResult};
 
-mod answer_file;
-mod asked;
-mod column;
 mod error;
 mod fault_text;
-mod files;
-mod hex_text;
 mod kinds;
 mod platforms;
 mod raw_strings;
-mod summary;
-#[cfg(test)]
-mod tests;
 
+use answer_files::files;
 use error::Failure;
 use kinds::Kind;
 use std::env;
@@ -56,5 +49,5 @@ fn ask(rt: &(impl Env + Files + Print + AllocGlobal)) -> Result<bool, Failure> {
     if names.is_empty() {
         return Err(Failure::Usage);
     }
-    files::ask::<Kind>(rt, files::read(rt, names)?)
+    Ok(files::ask::<Kind>(rt, files::read(rt, names)?)?)
 }

@@ -2,8 +2,7 @@
 ghost use Rattle.std.specs.Prelude.{◌≡◌, IfOk, IfErr};
 ghost use Rattle.os_str_bytes.specs.Strings.{bytes};
 
-use crate::column::Column;
-use crate::error::LineError;
+use answer_files::{Column, LineError};
 use os_str_bytes::{OsStr, Platform, Unix, Wasm, Windows};
 use std::alloc::Global;
 

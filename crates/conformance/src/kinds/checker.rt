@@ -1,9 +1,8 @@
 //! Files `checker`: bytes in pieces, and what a checker answers to each piece and at the end. The
 //! bytes are also fed cut in two at every place.
-use crate::column::Column;
-use crate::error::LineError;
 use crate::fault_text::fault_text;
-use crate::hex_text::read_bytes;
+use answer_files::hex_text::read_bytes;
+use answer_files::{Column, LineError};
 use os_str_bytes::{Checker, EncodingError};
 use std::alloc::Global;
 

@@ -1,10 +1,9 @@
 //! Files `lossy`: any bytes, their first fault as UTF-8, their lossy text on Unix, their first
 //! fault on Windows, and their lossy reading there.
-use crate::column::Column;
-use crate::error::LineError;
 use crate::fault_text::fault_text;
-use crate::hex_text::{bytes_text, read_bytes};
 use crate::platforms::string;
+use answer_files::hex_text::{bytes_text, read_bytes};
+use answer_files::{Column, LineError};
 use os_str_bytes::{EncodingError, Platform, Unix, Wasm, Windows, utf8_fault};
 use std::alloc::Global;
 

@@ -1,10 +1,8 @@
 //! Files `ranges`: a platform, a string of it, a range of places, and the bytes in the range.
-use crate::asked::Asked;
-use crate::column::Column;
-use crate::error::LineError;
-use crate::hex_text::read_bytes;
 use crate::platforms::PlatformKind;
-use crate::raw_strings::{Question, ask_each};
+use crate::raw_strings::{Question, add_string, ask_each};
+use answer_files::hex_text::read_bytes;
+use answer_files::{Asked, Column, LineError};
 use os_str_bytes::{Platform, RawOsStr, SliceIndex};
 use std::alloc::{AllocError, Global};
 
@@ -49,7 +47,7 @@ impl<'a> Question for Index<'a> {
     ) -> Result<(), LineError> {
         asked.turn_to(of);
         let part = part(string, self.range);
-        asked.string_or_none("bytes of index", "index", self.part, part)?;
+        add_string(asked, "bytes of index", "index", self.part, part)?;
         Ok(())
     }
 }

@@ -1,11 +1,9 @@
 //! Files `search`: a platform, a string of it, a pattern, and what each search answers. Each is
 //! asked with the pattern as a `&str`, as a `&String`, and as a `char` where it is one character.
-use crate::asked::Asked;
-use crate::column::Column;
-use crate::error::LineError;
-use crate::hex_text::{read_bytes, read_text};
 use crate::platforms::PlatformKind;
-use crate::raw_strings::{Question, ask_each};
+use crate::raw_strings::{Question, add_pair, add_string, add_strings, ask_each};
+use answer_files::hex_text::{read_bytes, read_text};
+use answer_files::{Asked, Column, LineError};
 use os_str_bytes::{Pattern, Platform, RawOsStr, headline};
 use std::alloc::{AllocError, Global};
 
@@ -159,15 +157,27 @@ impl<'a, P: Pattern + Copy> Search<'a, P> {
     ) -> Result<(), AllocError> {
         let Search { call, answers, .. } = *self;
         let rest = found.strip_prefix;
-        asked.string_or_none("strip_prefix", call, answers.strip_prefix, rest)?;
+        add_string(asked, "strip_prefix", call, answers.strip_prefix, rest)?;
         let rest = found.strip_suffix;
-        asked.string_or_none("strip_suffix", call, answers.strip_suffix, rest)?;
+        add_string(asked, "strip_suffix", call, answers.strip_suffix, rest)?;
         let rest = Some(found.trim_start_matches);
-        asked.string_or_none("trim_start_matches", call, answers.trim_start_matches, rest)?;
+        add_string(
+            asked,
+            "trim_start_matches",
+            call,
+            answers.trim_start_matches,
+            rest,
+        )?;
         let rest = Some(found.trim_end_matches);
-        asked.string_or_none("trim_end_matches", call, answers.trim_end_matches, rest)?;
+        add_string(
+            asked,
+            "trim_end_matches",
+            call,
+            answers.trim_end_matches,
+            rest,
+        )?;
         let rest = Some(found.trim_matches);
-        asked.string_or_none("trim_matches", call, answers.trim_matches, rest)
+        add_string(asked, "trim_matches", call, answers.trim_matches, rest)
     }
 
     /// Compares the splits; for an empty pattern there are no pieces.
@@ -185,19 +195,33 @@ impl<'a, P: Pattern + Copy> Search<'a, P> {
             rsplit,
             ..
         } = found;
-        asked.pair("split_once", call, answers.split_once, split_once)?;
-        asked.pair("rsplit_once", call, answers.rsplit_once, rsplit_once)?;
+        add_pair(
+            asked,
+            alloc,
+            "split_once",
+            call,
+            answers.split_once,
+            split_once,
+        )?;
+        add_pair(
+            asked,
+            alloc,
+            "rsplit_once",
+            call,
+            answers.rsplit_once,
+            rsplit_once,
+        )?;
         match split {
             Some(pieces) => {
                 let pieces: Vec<RawOsStr<'s, E>> = pieces.collect(alloc)?;
-                asked.strings("split", call, answers.split, &pieces)?;
+                add_strings(asked, alloc, "split", call, answers.split, &pieces)?;
             }
             None => asked.none("split", call, answers.split)?,
         }
         match rsplit {
             Some(pieces) => {
                 let pieces: Vec<RawOsStr<'s, E>> = pieces.collect(alloc)?;
-                asked.strings("rsplit", call, answers.rsplit, &pieces)
+                add_strings(asked, alloc, "rsplit", call, answers.rsplit, &pieces)
             }
             None => asked.none("rsplit", call, answers.rsplit),
         }

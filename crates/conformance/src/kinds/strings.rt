@@ -1,12 +1,10 @@
 //! Files `strings`: a platform, a string of it, the string's boundaries, chunks, texts and IO
 //! bytes. The last column, what the Rust crate os_str_bytes answers to `into_io_vec_lossy`,
 //! isn't asked: on Windows the answer here is another.
-use crate::asked::Asked;
-use crate::column::Column;
-use crate::error::LineError;
-use crate::hex_text::{bytes_text, read_bytes};
 use crate::platforms::{PlatformKind, string};
 use crate::raw_strings::{Question, ask_each};
+use answer_files::hex_text::{bytes_text, read_bytes};
+use answer_files::{Asked, Column, LineError};
 use os_str_bytes::{
     NonUnicodeOsStr, OsStr, OsStrBytes, OsStringBytes, Platform, RawOsStr, Utf8Chunks, headline,
 };

@@ -1,8 +1,7 @@
 //! Files `windows_decode`: any bytes, their units up to the first fault, and that fault.
-use crate::column::Column;
-use crate::error::LineError;
 use crate::fault_text::fault_text;
-use crate::hex_text::{read_bytes, units_text};
+use answer_files::hex_text::{read_bytes, units_text};
+use answer_files::{Column, LineError};
 use os_str_bytes::{EncodingError, Platform, Windows, encode_wide};
 use std::alloc::{AllocError, Global};
 

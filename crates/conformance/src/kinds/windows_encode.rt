@@ -1,7 +1,6 @@
 //! Files `windows_encode`: units, and the bytes that spell them.
-use crate::column::Column;
-use crate::error::LineError;
-use crate::hex_text::{bytes_text, read_units};
+use answer_files::hex_text::{bytes_text, read_units};
+use answer_files::{Column, LineError};
 use os_str_bytes::DecodeWide;
 use os_str_bytes::windows::OsString;
 use std::alloc::{AllocError, Global};

@@ -1,11 +1,9 @@
 //! Files `windows_join`: two Windows strings, the second pushed behind the first, the first
 //! three times, and how the two are ordered.
-use crate::asked::Asked;
-use crate::column::Column;
-use crate::error::LineError;
-use crate::hex_text::read_bytes;
 use crate::platforms;
 use crate::raw_strings::{Question, ask_each};
+use answer_files::hex_text::read_bytes;
+use answer_files::{Asked, Column, LineError};
 use os_str_bytes::{Platform, RawOsStr, Windows, headline};
 use std::alloc::Global;
 use std::cmp::Ordering;

@@ -1,11 +1,9 @@
 //! Files `windows_prefix`: two Windows strings, whether the first starts with the second, and
 //! whether it ends with it, both in units.
-use crate::asked::Asked;
-use crate::column::Column;
-use crate::error::LineError;
-use crate::hex_text::read_bytes;
 use crate::platforms::{self, string};
 use crate::raw_strings::{Question, ask_each};
+use answer_files::hex_text::read_bytes;
+use answer_files::{Asked, Column, LineError};
 use os_str_bytes::{Platform, RawOsStr, Windows, headline};
 use std::alloc::{AllocError, Global};
 
