@@ -4,5 +4,6 @@ mod blocks;
 mod checks;
 mod conversions;
 mod examples;
+mod first_faults;
 mod lossy;
 mod order;
