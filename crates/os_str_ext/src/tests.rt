@@ -3,6 +3,7 @@ use crate::{OsStr, OsStrBytes, OsStrBytesExt, Platform, SliceIndex, Unix, Wasm, 
 use std::process::Abort;
 
 mod chunks;
+mod every_byte;
 mod halves;
 mod pieces;
 mod ranges;
