@@ -1,5 +1,6 @@
 //! Raw strings, boxes and cows at fixed bytes, on all three platforms.
 mod cuts;
+mod edges;
 mod headline;
 mod names;
 mod order;
