@@ -8,6 +8,7 @@ pub mod Sound
 pub mod FirstErr
 pub mod Complete
 pub mod UnitsLemmas
+pub mod LossyReadings
 pub mod Characters
 pub mod Below
 pub mod TableEntries
@@ -15,6 +16,7 @@ pub mod TableSteps
 pub mod LedForms
 pub mod Wholes
 pub mod Fronts
+pub mod FaultPlaces
 pub mod Lanes
 pub mod PairBits
 pub mod Fed

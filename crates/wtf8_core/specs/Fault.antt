@@ -74,3 +74,11 @@ pub record IsFirstFault (bytes cs : List ℕ) (fault : EncodingError) : Type 0 w
   pub joined : bytes ≡ before ++ from
   pub spelled : Spells before cs
   pub begins : BeginsFault (last_behind 0 cs) from fault
+
+-- the first fault begins behind so many bytes, and so many are refused with it
+pub record IsFaultAt (bytes : List ℕ) (valid_up_to refused_len : ℕ) : Type 0 where
+  pub code_points : List ℕ
+  pub fault : EncodingError
+  pub first : IsFirstFault bytes code_points fault
+  pub valid_is : valid_up_to ≡ length first.before
+  pub refused_is : refused_len ≡ length first.begins.refused

@@ -25,5 +25,6 @@ pub mod SpelledFront
 pub mod Checker
 pub mod Utf8
 pub mod Lossy
+pub mod LossyReading
 pub mod UnitsOf
 pub mod PartUnits

@@ -1,5 +1,5 @@
 -- The reader, step by step: what `CodePoints` has left. No contract of another crate names these; `AreItems` says what the items are.
-use Rattle.std.specs.Prelude.{ℕ, zero, suc, ◌+◌, ◌*◌, ◌%◌, Bool, nat_lt, ◌&&◌, ◌||◌, if◌then◌else◌, List, [], ◌∷◌, Result, Ok, Err}
+use Rattle.std.specs.Prelude.{ℕ, zero, suc, ◌≡◌, ◌+◌, ◌*◌, ◌%◌, Bool, false, nat_lt, ◌&&◌, ◌||◌, if◌then◌else◌, List, [], ◌∷◌, drop, Result, Ok, Err}
 use Rattle.std.specs.Int.{is_in_range}
 use Rattle.wtf8_core.specs.Byte.{needed_continuations}
 use Rattle.wtf8_core.specs.Surrogate.{is_high, is_low}
@@ -49,16 +49,29 @@ first_item after_high b bytes =
     else (if nat_lt b 0xC2 then Err (Byte b)
     else and_then_checked after_high (needed_continuations b) (with_continuations (lead_bits b) (needed_continuations b) bytes))
 
--- a code point and the items behind it, or a fault alone
+-- an item and the items behind it, where no high surrogate stands before those behind a fault
 abbrev pub then_items : Result ℕ EncodingError → (Bool → List (Result ℕ EncodingError)) → List (Result ℕ EncodingError)
 then_items (Ok c) behind = Ok c ∷ behind (is_high c)
-then_items (Err fault) behind = Err fault ∷ []
+then_items (Err fault) behind = Err fault ∷ behind false
 
 -- the items of the bytes behind the first n
 unfoldable pub items_behind : ℕ → Bool → List ℕ → List (Result ℕ EncodingError)
 items_behind n after_high [] = []
 items_behind (suc n) after_high (b ∷ bytes) = items_behind n after_high bytes
 items_behind zero after_high (b ∷ bytes) = then_items (first_item after_high b bytes) (λ h. items_behind (behind_item b bytes) h bytes)
+
+-- whether an item is a high surrogate
+abbrev pub is_high_item : Result ℕ EncodingError → Bool
+is_high_item (Ok c) = is_high c
+is_high_item (Err fault) = false
+
+-- the item with which bytes begin, and what follows its bytes
+pub record IsFirstItem (after_high : Bool) (bytes : List ℕ) (item : Result ℕ EncodingError) (rest : List ℕ) : Type 0 where
+  pub first : ℕ
+  pub behind : List ℕ
+  pub is : bytes ≡ first ∷ behind
+  pub item_is : first_item after_high first behind ≡ item
+  pub rest_is : rest ≡ drop (behind_item first behind) behind
 
 -- the items of bytes, behind a high surrogate or not
 abbrev pub items_after : Bool → List ℕ → List (Result ℕ EncodingError)

@@ -1,9 +1,18 @@
 -- A front of bytes that spells code points: what vectors find. No contract of another crate names it.
-use Rattle.std.specs.Prelude.{Bool, false, ◌≡◌, ℕ, suc, ◌≤◌, List, ◌∷◌, length, take, slice_index}
+use Rattle.std.specs.Prelude.{Bool, false, ◌≡◌, ℕ, suc, ◌≤◌, List, ◌∷◌, ◌++◌, length, take, slice_index}
 use Rattle.std.specs.List.{AllByRecursion}
 use Rattle.std.specs.Char.{IsScalar}
+use Rattle.wtf8_core.specs.Surrogate.{is_high}
 use Rattle.wtf8_core.specs.Wtf8.{Spells, last_behind}
 use Rattle.wtf8_core.specs.Neighbours.{IsEdge}
+
+-- behind a front that spells code points, the last of them high or not, the rest is still to be read
+pub record IsReadUpTo (bytes : List ℕ) (after_high : Bool) (rest : List ℕ) : Type 0 where
+  pub code_points : List ℕ
+  pub front : List ℕ
+  pub joined : bytes ≡ front ++ rest
+  pub spelled : Spells front code_points
+  pub high_is : is_high (last_behind 0 code_points) ≡ after_high
 
 -- the bytes with four zeros before them
 abbrev pub behind_zeros : List ℕ → List ℕ

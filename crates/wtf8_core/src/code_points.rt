@@ -1,28 +1,33 @@
 //! The code points that bytes spell.
-ghost use Rattle.std.specs.Prelude.{◌≡◌, ℕ, suc, ◌∷◌, ◌+◌, ◌*◌, ◌<◌, ◌≤◌, ◌^◌, [], Ok, Err, drop, IfOk, MatchOption, MatchResult};
+ghost use Rattle.std.specs.Prelude.{◌≡◌, ℕ, suc, ◌∷◌, ◌+◌, ◌*◌, ◌<◌, ◌≤◌, ◌^◌, [], Ok, Err, drop, IfOk, IfSome, MatchOption, MatchResult};
 ghost use Rattle.wtf8_core.specs.Byte.{needed_continuations};
 ghost use Rattle.std.specs.Iterator.{YieldsFirst, item_count};
 ghost use Rattle.wtf8_core.specs.Items.{AreItems};
 ghost use Rattle.wtf8_core.specs.Surrogate.{is_high};
-ghost use Rattle.wtf8_core.specs.Reader.{with_continuations, first_item, items_after};
+ghost use Rattle.wtf8_core.specs.Reader.{with_continuations, continuations, behind_item, first_item, items_after, is_high_item, IsFirstItem};
 
-use crate::byte::is_continuation;
+use crate::byte::{is_continuation, needed_continuations};
 use crate::fault::EncodingError;
 use crate::surrogate::{is_high, is_low};
 use std::marker::Model;
 
-/// The code points that bytes spell up to their first fault, and then the fault.
+/// The code points that bytes spell, and their faults.
 ///
 /// Bytes spell code points by WTF-8: they are the forms of the code points one after the other
 /// (RFC 3629, section 3, and for surrogates the same rule), where the form of a high surrogate
-/// is never directly followed by that of a low one. The faults are `Byte`, `CodePoint` and
-/// `End` of [`EncodingError`]. Behind the fault, or behind the last code point, each answer is
-/// `None`. It takes no memory.
+/// is never directly followed by that of a low one. Where they spell none, the first `Err` is their
+/// first fault, and the items before it are the code points that stand before it. The faults are
+/// `Byte`, `CodePoint` and `End` of [`EncodingError`].
+///
+/// Behind a fault the items are those of the bytes behind the refused part, as if nothing stood
+/// before them ([`wtf8_fault`](crate::wtf8_fault) says how many bytes are refused). Behind the last
+/// byte each answer is `None`. It takes no memory.
 ///
 /// Of UTF-8 the code points are those of std's `str::chars`. os_str_bytes 7.2.1 has it as the
 /// private `CodePoints`, over any iterator of bytes.
 ///
-/// The items of ED A0 80 C0 (hexadecimal) are `Ok(0xD800)`, `Err(EncodingError::Byte(0xC0))`.
+/// The items of ED A0 80 C0 ED B0 80 (hexadecimal) are `Ok(0xD800)`,
+/// `Err(EncodingError::Byte(0xC0))`, `Ok(0xDC00)`.
 #[derive(Drop)]
 pub struct CodePoints<'a> {
     rest: &'a [u8],
@@ -74,9 +79,14 @@ impl<'a> Iterator for CodePoints<'a> {
 /// The first item of bytes that aren't empty, and the state behind it.
 #[tactic(auto, using(crate::proofs::lemmas::Reading::reading))]
 #[inline(always)]
-fn next_item(after_high: bool, bytes: &[u8]) -> Option<(Result<u32, EncodingError>, bool, &[u8])>
-    ensures { MatchOption result (items_after after_high bytes.now ≡ [])
+pub(crate) fn next_item(
+    after_high: bool,
+    bytes: &[u8],
+) -> Option<(Result<u32, EncodingError>, bool, &[u8])>
+    ensures items { MatchOption result (items_after after_high bytes.now ≡ [])
         (λ step. items_after after_high bytes.now ≡ step.0 ∷ items_after step.1 step.2.now) }
+    ensures first { MatchOption result (bytes.now ≡ []) (λ step. IsFirstItem after_high bytes.now step.0 step.2.now) }
+    ensures high { IfSome result (λ step. step.1 ≡ is_high_item step.0) }
 {
     let (first, behind) = bytes.split_first()?;
     if *first < 0x80 {
@@ -84,8 +94,39 @@ fn next_item(after_high: bool, bytes: &[u8]) -> Option<(Result<u32, EncodingErro
     }
     match split_item(after_high, *first, behind) {
         Ok((code_point, is_high, rest)) => Some((Ok(code_point), is_high, rest)),
-        Err(fault) => Some((Err(fault), false, &[])),
+        Err(fault) => Some((Err(fault), false, behind_refused(*first, behind))),
     }
+}
+
+/// The bytes behind the part that is refused where `first`, with those behind it, begins no code
+/// point: behind a lead its continuations belong to that part, as many as there are up to the
+/// number that it needs.
+#[tactic(auto, unfolding(crate::specs::Reader::behind_item))]
+#[inline(always)]
+fn behind_refused(first: u8, behind: &[u8]) -> &[u8]
+    ensures { result.now ≡ drop (behind_item first behind.now) behind.now }
+{
+    if first < 0xC2 {
+        return behind;
+    }
+    behind_continuations(needed_continuations(first), behind)
+}
+
+/// The bytes behind the continuations at the front, `limit` of them at most.
+#[tactic(auto, using(crate::proofs::lemmas::Reading::counting))]
+fn behind_continuations(limit: u8, bytes: &[u8]) -> &[u8]
+    ensures { result.now ≡ drop (continuations limit bytes.now) bytes.now }
+{
+    if limit == 0 {
+        return bytes;
+    }
+    let Some((first, rest)) = bytes.split_first() else {
+        return bytes;
+    };
+    if !is_continuation(*first) {
+        return bytes;
+    }
+    behind_continuations(limit - 1, rest)
 }
 
 /// The code point with which `first` and the bytes behind it begin, whether it is a high

@@ -9,11 +9,11 @@ use crate::fault::EncodingError;
 use crate::surrogate::pair_units;
 use std::marker::Model;
 
-/// The 16-bit units of the code points that bytes spell up to their first fault, and then the
-/// fault.
+/// The 16-bit units of the code points that bytes spell, and their faults.
 ///
-/// [`encode_wide`] makes it. Behind the fault, or behind the last unit, each answer is `None`.
-/// os_str_bytes 7.2.1 has it as the private `EncodeWide`, over any iterator of bytes.
+/// [`encode_wide`] makes it. Behind a fault the items are those of the bytes behind the refused
+/// part; behind the last byte each answer is `None`. os_str_bytes 7.2.1 has it as the private
+/// `EncodeWide`, over any iterator of bytes.
 #[derive(Drop)]
 pub struct EncodeWide<'a> {
     code_points: CodePoints<'a>,
@@ -35,17 +35,17 @@ impl<'a> Model for EncodeWide<'a> {
 }
 
 /// The 16-bit units of bytes: those of the code points that the bytes spell as WTF-8 (RFC 2781,
-/// section 2.1), up to the first fault, and then the fault.
+/// section 2.1), and their faults.
 ///
 /// A code point below 10000 (hexadecimal) is one unit, any other a pair. The items are those of
-/// [`CodePoints`], unit by unit, with the same fault. It takes no memory. The bytes that
+/// [`CodePoints`], unit by unit, with the same faults. It takes no memory. The bytes that
 /// [`DecodeWide`](crate::DecodeWide) gives for units have exactly these units.
 ///
 /// They are the units that `std::os::windows::ffi::OsStrExt::encode_wide` gives of the string
 /// with these bytes; of UTF-8, those of `str::encode_utf16`.
 ///
-/// The items of F0 90 80 80 C0 are `Ok(0xD800)`, `Ok(0xDC00)`,
-/// `Err(EncodingError::Byte(0xC0))`.
+/// The items of F0 90 80 80 C0 41 are `Ok(0xD800)`, `Ok(0xDC00)`,
+/// `Err(EncodingError::Byte(0xC0))`, `Ok(0x41)`.
 #[inline(always)]
 pub fn encode_wide<'a>(bytes: &'a [u8]) -> EncodeWide<'a>
     ensures { AreUnitItems bytes.now result }

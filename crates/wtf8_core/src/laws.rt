@@ -21,6 +21,7 @@ ghost use Rattle.wtf8_core.specs.Chunks.{Chunk, AreChunks};
 ghost use Rattle.wtf8_core.specs.Runs.{AreRuns, form_chunk};
 ghost use Rattle.wtf8_core.specs.Utf8.{IsUtf8Fault, part_end};
 ghost use Rattle.wtf8_core.specs.Lossy.{IsLossyText, IsWtf8LossyText};
+ghost use Rattle.wtf8_core.specs.LossyReading.{IsLossyReading, lossy_forms};
 ghost use Rattle.wtf8_core.specs.UnitsOf.{units_of, wtf8_lossy};
 ghost use Rattle.wtf8_core.specs.declared.fault.EncodingError.{EncodingError};
 
@@ -76,6 +77,16 @@ pub fn lossy_text()
     ensures only_std { (bytes : List ℕ) → (text : List ℕ) → IsLossyText bytes text → text ≡ utf8_lossy bytes }
     ensures utf8 { (bytes : List ℕ) → IsUtf8 (utf8_lossy bytes) }
     ensures wtf8 { (bytes : List ℕ) → IsWtf8 bytes → IsUtf8 (wtf8_lossy bytes) }
+{}
+
+/// Each byte list has one lossy reading, which is WTF-8: the forms of its items joined, with that of
+/// FFFD (hexadecimal) for each fault. WTF-8 is its own.
+pub fn lossy_reading()
+    ensures some { (bytes : List ℕ) → All IsByte bytes → (reading : List ℕ) × IsLossyReading bytes reading }
+    ensures one { (bytes : List ℕ) → (reading : List ℕ) → (other : List ℕ) → IsLossyReading bytes reading → IsLossyReading bytes other → reading ≡ other }
+    ensures wtf8 { (bytes : List ℕ) → (reading : List ℕ) → IsLossyReading bytes reading → IsWtf8 reading }
+    ensures itself { (bytes : List ℕ) → IsWtf8 bytes → IsLossyReading bytes bytes }
+    ensures items { (bytes : List ℕ) → (items : List (Result ℕ EncodingError)) → AreItems bytes items → IsLossyReading bytes (lossy_forms items) }
 {}
 
 /// Bytes have at most one fault of UTF-8.

@@ -31,6 +31,7 @@ pub mod laws;
 mod surrogate;
 mod table;
 mod utf8;
+mod wtf8;
 
 pub use byte::is_continuation;
 pub use character::char_at;
@@ -41,6 +42,7 @@ pub use encoder::{EncodeWide, encode_wide};
 pub use fault::EncodingError;
 pub use halves::{ends_with, pair_between, starts_with};
 pub use utf8::utf8_fault;
+pub use wtf8::wtf8_fault;
 
 #[cfg(test)]
 mod tests;

@@ -53,8 +53,10 @@ items_fit bytes items (Whole r) =
     let joined = ap length r.spelled.joined in
     let fit = units_fit r.code_points in
     omega arith
-items_fit bytes items (Faulty r) =
-    let all = ap (λ x. length (flat_map unit_items x)) r.are ∙ units_of_oks r.code_points (Err r.fault ∷ []) in
+items_fit bytes items (Faulty {rest = rest} {later = later} r l) =
+    let all = ap (λ x. length (flat_map unit_items x)) r.are ∙ units_of_oks r.code_points (Err r.fault ∷ later) in
+    let behind = items_fit rest later l in
+    let rest_is = ap length r.behind in
     let before = ap length r.first.spelled.joined in
     let parts = ap length r.first.joined ∙ length-append r.first.before r.first.from in
     let last = ap length r.first.begins.is ∙ length-append r.first.begins.refused r.first.begins.rest in

@@ -67,3 +67,20 @@ pub counts_all : (ks rest : List ℕ) → AllByRecursion IsContinuation ks → c
 unfolding continuations
 counts_all [] rest a = refl
 counts_all (k ∷ ks) rest a = cond-true _ _ _ (in_range 0x80 0xBF k a.0) ∙ ap suc (counts_all ks rest a.1)
+
+-- also where they are fewer than are asked for, and none stands behind them
+pub counts_short : (n : ℕ) (ks rest : List ℕ) → AllByRecursion IsContinuation ks → length ks < n → ((m : ℕ) → continuations m rest ≡ 0) → continuations n (ks ++ rest) ≡ length ks
+unfolding continuations
+counts_short zero ks rest a h e = absurd (omega arith)
+counts_short (suc n) [] rest a h e = e (suc n)
+counts_short (suc n) (k ∷ ks) rest a h e = cond-true _ _ _ (in_range 0x80 0xBF k a.0) ∙ ap suc (counts_short n ks rest a.1 (omega arith) e)
+
+pub none_counted_at_end : (m : ℕ) → continuations m [] ≡ 0
+unfolding continuations
+none_counted_at_end zero = refl
+none_counted_at_end (suc m) = refl
+
+pub none_counted_at_break : (x : ℕ) (rest : List ℕ) → (IsContinuation x → ⊥) → (m : ℕ) → continuations m (x ∷ rest) ≡ 0
+unfolding continuations
+none_counted_at_break x rest b zero = refl
+none_counted_at_break x rest b (suc m) = cond-false _ _ _ (not_in_range 0x80 0xBF x b)

@@ -47,13 +47,13 @@ one_more_ok (x ∷ cs) c rest = ap (λ l. Ok x ∷ l) (one_more_ok cs c rest)
 -- bytes whose items are all Ok spell them
 pub items_all_ok : (bytes cs : List ℕ) → AreItems bytes (oks cs) → Spells bytes cs
 items_all_ok bytes cs (Whole r) = subst (Spells bytes) (sym (same_oks cs r.code_points r.are)) r.spelled
-items_all_ok bytes cs (Faulty r) = absurd (no_err cs r.code_points r.fault [] r.are)
+items_all_ok bytes cs (Faulty {later = later} r l) = absurd (no_err cs r.code_points r.fault later r.are)
 
 -- the first Err is the first fault
 pub items_first_err : (bytes cs : List ℕ) (f : EncodingError) (rest : List (Result ℕ EncodingError)) → AreItems bytes (oks cs ++ Err f ∷ rest) → IsFirstFault bytes cs f
 items_first_err bytes cs f rest (Whole r) = absurd (no_err r.code_points cs f rest (sym r.are))
-items_first_err bytes cs f rest (Faulty r) =
-    let s = same_faulty cs r.code_points f r.fault rest [] r.are in
+items_first_err bytes cs f rest (Faulty {later = later} r l) =
+    let s = same_faulty cs r.code_points f r.fault rest later r.are in
     subst (λ x. IsFirstFault bytes cs x) (sym s.1) (subst (λ x. IsFirstFault bytes x r.fault) (sym s.0) r.first)
 
 -- the same for units
@@ -70,8 +70,8 @@ units_whole cs items e = ap (flat_map unit_items) (e ∙ sym (append-nil (oks cs
 
 units_all : (bytes us : List ℕ) (items : List Item) → AreItems bytes items → oks us ≡ flat_map unit_items items → HasUnits bytes us
 units_all bytes us items (Whole r) e = record { code_points = r.code_points; spelled = r.spelled; are = same_oks us (units r.code_points) (e ∙ units_whole r.code_points items r.are) }
-units_all bytes us items (Faulty r) e =
-    absurd (no_err us (units r.code_points) r.fault [] (e ∙ ap (flat_map unit_items) r.are ∙ units_of_oks r.code_points (Err r.fault ∷ [])))
+units_all bytes us items (Faulty {later = later} r l) e =
+    absurd (no_err us (units r.code_points) r.fault (flat_map unit_items later) (e ∙ ap (flat_map unit_items) r.are ∙ units_of_oks r.code_points (Err r.fault ∷ later)))
 
 -- bytes whose unit items are all Ok have these units
 pub units_all_ok : (bytes us : List ℕ) → AreUnitItems bytes (oks us) → HasUnits bytes us
@@ -85,8 +85,8 @@ pub record UnitsBefore (bytes us : List ℕ) (f : EncodingError) : Type 0 where
 
 units_err : (bytes us : List ℕ) (f : EncodingError) (rest items : List Item) → AreItems bytes items → oks us ++ Err f ∷ rest ≡ flat_map unit_items items → UnitsBefore bytes us f
 units_err bytes us f rest items (Whole r) e = absurd (no_err (units r.code_points) us f rest (sym (e ∙ units_whole r.code_points items r.are)))
-units_err bytes us f rest items (Faulty r) e =
-    let s = same_faulty us (units r.code_points) f r.fault rest [] (e ∙ ap (flat_map unit_items) r.are ∙ units_of_oks r.code_points (Err r.fault ∷ [])) in
+units_err bytes us f rest items (Faulty {later = later} r l) e =
+    let s = same_faulty us (units r.code_points) f r.fault rest (flat_map unit_items later) (e ∙ ap (flat_map unit_items) r.are ∙ units_of_oks r.code_points (Err r.fault ∷ later)) in
     record { code_points = r.code_points; first = subst (IsFirstFault bytes r.code_points) (sym s.1) r.first; are = s.0 }
 
 -- the units before the first Err, and its fault
@@ -101,5 +101,5 @@ oks_are_code_points (c ∷ cs) rest a h = (a.0, oks_are_code_points cs rest a.1 
 pub items_are_code_points : (bytes : List ℕ) (items : List Item) → AreItems bytes items → AllByRecursion IsCodePointItem items
 items_are_code_points bytes items (Whole r) =
     subst (AllByRecursion IsCodePointItem) (sym (r.are ∙ sym (append-nil (oks r.code_points)))) (oks_are_code_points r.code_points [] r.spelled.code_points tt)
-items_are_code_points bytes items (Faulty r) =
-    subst (AllByRecursion IsCodePointItem) (sym r.are) (oks_are_code_points r.code_points (Err r.fault ∷ []) r.first.spelled.code_points (tt, tt))
+items_are_code_points bytes items (Faulty {rest = rest} {later = later} r l) =
+    subst (AllByRecursion IsCodePointItem) (sym r.are) (oks_are_code_points r.code_points (Err r.fault ∷ later) r.first.spelled.code_points (tt, items_are_code_points rest later l))

@@ -316,7 +316,7 @@ items_of_units b items w a = by a.items a.are_items a.are
   where
     by : (points : List Item) → AreItems b points → items ≡ flat_map unit_items points → items ≡ map Ok (units_of b)
     by points (Whole r) e = e ∙ units_whole r.code_points points r.are ∙ ap (map Ok) (sym (units_of_spelled b r.code_points r.spelled))
-    by points (Faulty r) e = absurd (never_both b w.0 r.code_points r.fault w.1 r.first)
+    by points (Faulty r l) e = absurd (never_both b w.0 r.code_points r.fault w.1 r.first)
 
 -- so the first item tells the first unit
 pub no_first_item : (b : List ℕ) (u : ℕ) (items : List Item) → IsWtf8 b → AreUnitItems b items → items ≡ [] → IsFront (u ∷ []) (units_of b) → ⊥

@@ -1,9 +1,9 @@
 -- The reader's definitions, one step at a time.
-use Rattle.std.proofs.Common.{◌≡◌, ℕ, zero, suc, ◌+◌, ◌*◌, ◌%◌, ◌<◌, ◌≤◌, Bool, true, false, cond, ltb, List, [], ◌∷◌, length, drop, Result, Ok, Err, refl, sym, ap, ◌∙◌, arith}
+use Rattle.std.proofs.Common.{◌≡◌, ℕ, zero, suc, ◌+◌, ◌-◌, ◌*◌, ◌%◌, ◌<◌, ◌≤◌, Bool, true, false, cond, ltb, List, [], ◌∷◌, length, drop, Result, Ok, Err, refl, sym, ap, ◌∙◌, arith, sub-one}
 use Rattle.std.proofs.lemmas.Bool.Decides.{nat_tests}
 use Rattle.std.specs.Int.{is_in_range}
 use Rattle.wtf8_core.specs.Surrogate.{is_high}
-use Rattle.wtf8_core.specs.Reader.{with_continuations, first_item, and_then_checked, continuations, behind_item, items_behind, then_items, lead_bits}
+use Rattle.wtf8_core.specs.Reader.{with_continuations, first_item, and_then_checked, continuations, behind_item, items_behind, then_items, lead_bits, IsFirstItem}
 use Rattle.wtf8_core.specs.Byte.{needed_continuations}
 use Rattle.std.proofs.lemmas.Bool.{cond-false, le-ltb}
 use Rattle.wtf8_core.specs.declared.fault.EncodingError.{EncodingError}
@@ -34,7 +34,7 @@ unfolding items_behind
 items-ok h b c bs e = ap (λ r. then_items r (λ h. items_behind (behind_item b bs) h bs)) e
 
 pub items-err : (h : Bool) (b : ℕ) (f : EncodingError) (bs : List ℕ) → first_item h b bs ≡ Err f
-    → items_behind 0 h (b ∷ bs) ≡ Err f ∷ []
+    → items_behind 0 h (b ∷ bs) ≡ Err f ∷ items_behind (behind_item b bs) false bs
 unfolding items_behind
 items-err h b f bs e = ap (λ r. then_items r (λ h. items_behind (behind_item b bs) h bs)) e
 
@@ -43,6 +43,12 @@ unfolding items_behind
 items_behind-drop zero h bs = refl
 items_behind-drop (suc n) h [] = refl
 items_behind-drop (suc n) h (b ∷ bs) = items_behind-drop n h bs
+
+-- what follows a fault
+pub items-step-err : (h : Bool) (b : ℕ) (f : EncodingError) (bs rest : List ℕ) → first_item h b bs ≡ Err f → rest ≡ drop (behind_item b bs) bs
+    → items_behind 0 h (b ∷ bs) ≡ Err f ∷ items_behind 0 false rest
+items-step-err h b f bs rest e d =
+    items-err h b f bs e ∙ ap (λ r. Err f ∷ r) (items_behind-drop (behind_item b bs) false bs ∙ ap (items_behind 0 false) (sym d))
 
 and_then_whole : (h : Bool) (n c : ℕ) (bs : List ℕ) (r : Result ℕ EncodingError) → ((v : ℕ) → r ≡ Ok v → continuations n bs ≡ n)
     → and_then_checked h n r ≡ Ok c → continuations n bs ≡ n
@@ -85,4 +91,30 @@ items-ascii h b bs l =
     ∙ ap (λ n. Ok b ∷ items_behind n (is_high b) bs) (behind_ascii b bs l)
     ∙ ap (λ t. Ok b ∷ items_behind 0 t bs) (ascii_low b l)
 
-pub ruleset reading = (with_continuations-none, items-nil, items-step, items-err, items-ascii)
+-- the continuations at the front, dropped
+pub no_continuations : (n : ℕ) (bs : List ℕ) → n ≡ 0 → drop (continuations n bs) bs ≡ bs
+unfolding continuations
+no_continuations zero bs e = refl
+no_continuations (suc n) bs e = cc
+
+pub continuations_of_none : (n : ℕ) (bs : List ℕ) → length bs ≡ 0 → drop (continuations n bs) bs ≡ bs
+unfolding continuations
+continuations_of_none zero [] e = refl
+continuations_of_none (suc n) [] e = refl
+continuations_of_none n (b ∷ bs) e = absurd (omega arith)
+
+pub continuations-cons : (n x : ℕ) (bs : List ℕ) → 0 < n → continuations n (x ∷ bs) ≡ cond (is_in_range 0x80 0xBF x) (suc (continuations (n - 1) bs)) 0
+unfolding continuations
+continuations-cons zero x bs h = absurd (omega arith)
+continuations-cons (suc n) x bs h = rw sub-one refl
+
+pub ruleset counting = (no_continuations, continuations_of_none, continuations-cons)
+
+-- the same of the first item
+pub first-ascii : (h : Bool) (b : ℕ) (bs : List ℕ) → b < 0x80 → IsFirstItem h (b ∷ bs) (Ok b) bs
+first-ascii h b bs l = record { first = b; behind = bs; is = refl; item_is = first_ascii h b bs l; rest_is = sym (ap (λ n. drop n bs) (behind_ascii b bs l)) }
+
+pub first-code_point : (h : Bool) (b c : ℕ) (bs rest : List ℕ) → 0x80 ≤ b → first_item h b bs ≡ Ok c → rest ≡ drop (needed_continuations b) bs → IsFirstItem h (b ∷ bs) (Ok c) rest
+first-code_point h b c bs rest l e d = record { first = b; behind = bs; is = refl; item_is = e; rest_is = d ∙ sym (ap (λ n. drop n bs) (behind_code_point h b c bs l e)) }
+
+pub ruleset reading = (first-ascii, first-code_point, with_continuations-none, items-nil, items-step, items-step-err, items-ascii)

@@ -1,5 +1,5 @@
 -- Any bytes are forms up to their end or a fault, so the reader's items are those of the definitions.
-use Rattle.std.proofs.Common.{◌≡◌, ◌⊎◌, inl, inr, ⊎_elim, ℕ, zero, suc, ◌+◌, ◌≤◌, false, List, [], ◌∷◌, ◌++◌, length, drop, Result, Ok, Err, refl, sym, ap, ◌∙◌, subst, arith, append_assoc, length-append, Fits, w8, get_or}
+use Rattle.std.proofs.Common.{◌≡◌, ◌⊎◌, inl, inr, ⊎_elim, ℕ, zero, suc, ◌+◌, ◌<◌, ◌≤◌, false, List, [], ◌∷◌, ◌++◌, length, drop, map, Result, Ok, Err, refl, sym, ap, ◌∙◌, subst, arith, append_assoc, length-append, Fits, w8, get_or}
 use Rattle.std.proofs.Math.Seq.{drop-append_seam}
 use Rattle.std.proofs.lemmas.Bool.{cases_lt}
 use Rattle.std.proofs.lemmas.List.{append-nil}
@@ -9,7 +9,7 @@ use Rattle.wtf8_core.specs.Byte.{IsByte, needed_continuations}
 use Rattle.wtf8_core.specs.Surrogate.{IsHigh, IsLow, is_high}
 use Rattle.wtf8_core.specs.CodePoint.{IsCodePoint, form}
 use Rattle.wtf8_core.specs.Wtf8.{IsPairedFree, last_behind, IsWtf8}
-use Rattle.wtf8_core.specs.Fault.{IsBegun, IsShape, shape_value, BeginsFault, IsFirstFault}
+use Rattle.wtf8_core.specs.Fault.{IsBegun, IsShape, shape_value, IsRefused, BeginsFault, IsFirstFault}
 use Rattle.wtf8_core.specs.Items.{AreItems}
 use Rattle.wtf8_core.specs.Items.AreItems.{Whole, Faulty}
 use Rattle.wtf8_core.specs.Reader.{least_value, behind_item, first_item, items_behind, items_after}
@@ -20,7 +20,7 @@ use Rattle.wtf8_core.proofs.lemmas.Continuations.Stops.{whole, ends, breaks}
 use Rattle.wtf8_core.proofs.lemmas.Reading.{items-ok}
 use Rattle.wtf8_core.proofs.lemmas.Complete.{item_of_form, items_of_fault, items_if}
 use Rattle.wtf8_core.specs.declared.fault.EncodingError.{EncodingError}
-use Rattle.wtf8_core.specs.declared.fault.EncodingError.TheVariants.{Byte, CodePoint, End}
+use Rattle.wtf8_core.specs.declared.fault.EncodingError.TheVariants.{Byte, CodePoint, End, Utf8}
 
 -- behind the code point p the bytes begin with a form
 pub record BeginsForm (p : ℕ) (bs : List ℕ) : Type 0 where
@@ -61,7 +61,7 @@ of_lead p b ks rest g (breaks x t h k) =
     inr (Byte x, record { refused = b ∷ ks; rest = x ∷ t; is = refl; refusal = inr (record { begun = record { lead = b; behind = ks; is = refl; begun = g; short = h }; after = t; next = refl; breaks = k }) })
 
 -- any byte begins a form or a fault
-begins : (p b : ℕ) (bs : List ℕ) → IsByte b → BeginsForm p (b ∷ bs) ⊎ SomeFault p (b ∷ bs)
+pub begins : (p b : ℕ) (bs : List ℕ) → IsByte b → BeginsForm p (b ∷ bs) ⊎ SomeFault p (b ∷ bs)
 begins p b bs u =
     ⊎_elim (λ h. inl (record { c = b; rest = bs; code_point = omega arith; free = λ i j. omega (arith, j.0); is = ap (λ l. l ++ bs) (sym (form_ascii b h)) }))
     (λ l. ⊎_elim (λ h. inr (Byte b, record { refused = b ∷ []; rest = bs; is = refl; refusal = inl (record { is = refl; stray = (l, omega arith) }) }))
@@ -110,15 +110,39 @@ either bs a =
     (λ w. inr (r.cs, w.0, record { before = flat_map form r.cs; from = r.from; joined = r.joined; spelled = record { code_points = r.points; paired_free = r.free.1; joined = refl }; begins = w.1 }))
     r.stop
 
+-- what is refused has a byte
+refused_some : (last : ℕ) (refused rest : List ℕ) (f : EncodingError) → IsRefused last refused rest f → 0 < length refused
+refused_some last refused rest (Byte x) (inl s) = let e = ap length s.is in omega arith
+refused_some last refused rest (Byte x) (inr s) = let e = ap length s.begun.is in omega arith
+refused_some last refused rest End s = let e = ap length s.0.is in omega arith
+refused_some last refused rest (CodePoint value) s = let e = ap length s.is in omega arith
+refused_some last refused rest (Utf8 i j) s = absurd s
+
+-- and so what follows it is shorter than the bytes, and bytes itself
+pub behind_fault : (bs cs : List ℕ) (f : EncodingError) → (s : IsFirstFault bs cs f) → (length s.begins.rest < length bs) × (All IsByte bs → All IsByte s.begins.rest)
+behind_fault bs cs f s =
+    let front = s.before ++ s.begins.refused in
+    let e : bs ≡ front ++ s.begins.rest = s.joined ∙ ap (λ x. s.before ++ x) s.begins.is ∙ sym (append_assoc s.before s.begins.refused s.begins.rest) in
+    let l = ap length e ∙ length-append front s.begins.rest in
+    let m = length-append s.before s.begins.refused in
+    let n = refused_some _ _ _ f s.begins.refusal in
+    (omega arith, λ a. subst (All IsByte) (ap (drop (length front)) e ∙ drop-append_seam front s.begins.rest) (All-drop IsByte (length front) bs a))
+
+-- some list of items is that of the bytes, which are fewer than n
+pub some_items : (n : ℕ) (bs : List ℕ) → length bs < n → All IsByte bs → (items : List (Result ℕ EncodingError)) × AreItems bs items
+some_items zero bs h a = absurd (omega (arith, h))
+some_items (suc n) bs h a =
+    ⊎_elim (λ w. (map Ok w.0, Whole (record { code_points = w.0; spelled = w.1; are = refl })))
+    (λ w. let q = behind_fault bs w.0 w.1 w.2 in
+    let later = some_items n w.2.begins.rest (omega (arith, h, q.0)) (q.1 a) in
+    (map Ok w.0 ++ Err w.1 ∷ later.0, Faulty {rest = w.2.begins.rest} {later = later.0} (record { code_points = w.0; fault = w.1; first = w.2; behind = refl; are = refl }) later.1))
+    (either bs a)
+
 -- the reader's items are those of the definitions
 pub items_of_bytes : (bs : List ℕ) → All IsByte bs → AreItems bs (items_after false bs)
 items_of_bytes bs a =
-    ⊎_elim (λ w. by _ (Whole (record { code_points = w.0; spelled = w.1; are = refl })))
-    (λ w. by _ (Faulty (record { code_points = w.0; fault = w.1; first = w.2; are = refl })))
-    (either bs a)
-  where
-    by : (items : List (Result ℕ EncodingError)) → AreItems bs items → AreItems bs (items_after false bs)
-    by items w = subst (AreItems bs) (sym (items_if bs items w)) w
+    let w = some_items (suc (length bs)) bs (omega arith) a in
+    subst (AreItems bs) (sym (items_if bs w.0 w.1)) w.1
 
 pub items_sound : (bs : List ℕ) → ((i : ℕ) → Fits w8 (get_or bs i 0)) → AreItems bs (items_after false bs)
 items_sound bs h = items_of_bytes bs (All-from_get_or IsByte bs 0 (λ i _. omega (arith, h i)))
@@ -129,5 +153,5 @@ first_form b c bs u e = ⊎_elim
     (λ i. let q : Ok c ∷ items_behind (behind_item b bs) (is_high c) bs ≡ Ok i.c ∷ items_behind 0 (is_high i.c) i.rest = sym (items-ok false b c bs e) ∙ ap (items_behind 0 false) i.is ∙ item_of_form 0 i.c i.rest i.code_point i.free in
     let same : i.c ≡ c = cc in
     (i.rest, subst IsCodePoint same i.code_point, i.is ∙ ap (λ x. form x ++ i.rest) same))
-    (λ f. let q : Ok c ∷ items_behind (behind_item b bs) (is_high c) bs ≡ Err f.0 ∷ [] = sym (items-ok false b c bs e) ∙ items_of_fault 0 (b ∷ bs) f.0 f.1 in cc)
+    (λ f. let q : Ok c ∷ items_behind (behind_item b bs) (is_high c) bs ≡ Err f.0 ∷ items_behind 0 false f.1.rest = sym (items-ok false b c bs e) ∙ items_of_fault 0 (b ∷ bs) f.0 f.1 in cc)
     (begins 0 b bs u)

@@ -3,7 +3,7 @@ use crate::EncodingError::{Byte, CodePoint, End};
 use crate::tests::gives;
 use crate::{
     Checker, CodePoints, DecodeWide, EncodingError, char_at, encode_wide, is_continuation,
-    utf8_fault,
+    utf8_fault, wtf8_fault,
 };
 use std::test::Fail;
 
@@ -37,14 +37,15 @@ fn pieces(rt: HostRuntime) {
 
 #[test]
 fn code_points_and_units(rt: HostRuntime) {
-    let items = [Ok(0xD800), Err(Byte(0xC0))];
-    gives(&rt, CodePoints::new(b"\xED\xA0\x80\xC0"), &items);
+    let items = [Ok(0xD800), Err(Byte(0xC0)), Ok(0xDC00)];
+    let bytes = b"\xED\xA0\x80\xC0\xED\xB0\x80";
+    gives(&rt, CodePoints::new(bytes), &items);
     gives(&rt, CodePoints::new(b"\xC3\xA9"), &[Ok(0xE9)]);
     let bytes = b"\xED\xA0\xBD\xF0\x9F\x98\x80";
     gives(&rt, DecodeWide::new(&[0xD83D, 0xD83D, 0xDE00]), bytes);
     gives(&rt, DecodeWide::new(&[0xE9]), b"\xC3\xA9");
-    let items = [Ok(0xD800), Ok(0xDC00), Err(Byte(0xC0))];
-    gives(&rt, encode_wide(b"\xF0\x90\x80\x80\xC0"), &items);
+    let items = [Ok(0xD800), Ok(0xDC00), Err(Byte(0xC0)), Ok(0x41)];
+    gives(&rt, encode_wide(b"\xF0\x90\x80\x80\xC0A"), &items);
 }
 
 #[test]
@@ -54,7 +55,11 @@ fn faults(rt: HostRuntime) -> Result<(), Fail> {
         "byte sequence is not representable in the platform encoding; error at code point U+DC00";
     assert_eq!(rt; text.as_str(), wanted);
     gives(&rt, CodePoints::new(b"\xC0"), &[Err(Byte(0xC0))]);
-    gives(&rt, CodePoints::new(b"\xE2\x82A"), &[Err(Byte(0x41))]);
+    gives(
+        &rt,
+        CodePoints::new(b"\xE2\x82A"),
+        &[Err(Byte(0x41)), Ok(0x41)],
+    );
     gives(&rt, CodePoints::new(b"\xE0\x80\x80"), &[Err(CodePoint(0))]);
     let items = [Ok(0xD800), Err(CodePoint(0xDC00))];
     gives(&rt, CodePoints::new(b"\xED\xA0\x80\xED\xB0\x80"), &items);
@@ -73,5 +78,8 @@ fn faults(rt: HostRuntime) -> Result<(), Fail> {
     );
     assert_eq!(rt; utf8_fault(b"a\xE2\x82A"), Some((1, Some(2))));
     assert_eq!(rt; utf8_fault(b"a\xE2\x82"), Some((1, None)));
+    assert_eq!(rt; wtf8_fault(b"a\xE2\x82A"), Some((1, 2)));
+    assert_eq!(rt; wtf8_fault(b"\xED\xA0\x80\xED\xB0\x80"), Some((3, 3)));
+    assert_eq!(rt; wtf8_fault(b"\xED\xA0\x80"), None);
     Ok(())
 }

@@ -1,6 +1,6 @@
-//! The checker answers the first `Err` of the code points, however the bytes come, and the fault
-//! of UTF-8 is std's.
-use crate::{Checker, CodePoints, EncodingError, utf8_fault};
+//! The checker answers the first `Err` of the code points, however the bytes come, its place is
+//! found, and the fault of UTF-8 is std's.
+use crate::{Checker, CodePoints, EncodingError, utf8_fault, wtf8_fault};
 use std::process::Abort;
 
 /// The first `Err` of the code points.
@@ -47,10 +47,26 @@ fn is_std(rt: &impl Abort, bytes: &[u8]) {
     }
 }
 
+/// Asserts that the place of the first fault is found: what stands before it is well formed, and
+/// what is refused is not.
+fn is_placed(rt: &impl Abort, bytes: &[u8], fault: Result<(), EncodingError>) {
+    match wtf8_fault(bytes) {
+        None => assert_eq!(rt; fault, Ok(()), "of {bytes:?}"),
+        Some((valid_up_to, refused_len)) => {
+            assert_eq!(rt; first_err(&bytes[..valid_up_to]), Ok(()), "of {bytes:?}");
+            assert!(rt;
+                first_err(&bytes[..valid_up_to + refused_len]) != Ok(()),
+                "of {bytes:?}"
+            );
+        }
+    }
+}
+
 /// Asserts that the first fault is found in the bytes whole, in single bytes and at each cut.
 fn is_found(rt: &impl Abort, bytes: &[u8]) {
     is_std(rt, bytes);
     let wanted = first_err(bytes);
+    is_placed(rt, bytes, wanted);
     assert_eq!(rt; fed(&[bytes]), wanted, "of {bytes:?}");
     assert_eq!(rt; fed_one_by_one(bytes), wanted, "of {bytes:?} one by one");
     for cut in 0..=bytes.len() {
@@ -132,6 +148,7 @@ fn at_the_edges_of_blocks(rt: HostRuntime) {
                 write_over(back, written);
                 is_std(&rt, &bytes);
                 let wanted = first_err(&bytes);
+                is_placed(&rt, &bytes, wanted);
                 assert_eq!(rt;
                     fed(&[&bytes]),
                     wanted,

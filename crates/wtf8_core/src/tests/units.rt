@@ -6,7 +6,7 @@ use std::process::Abort;
 use std::test::Fail;
 
 #[test]
-fn units_up_to_the_first_fault(rt: HostRuntime) {
+fn units_and_faults(rt: HostRuntime) {
     let table: [(&[u8], &[Result<u16, EncodingError>]); 8] = [
         (b"", &[]),
         (b"\xF0\x90\x80\x80", &[Ok(0xD800), Ok(0xDC00)]),
@@ -23,7 +23,7 @@ fn units_up_to_the_first_fault(rt: HostRuntime) {
         (b"A\xE2\x82", &[Ok(0x41), Err(End)]),
         (
             b"\xF0\x90\x80\x80\x80A",
-            &[Ok(0xD800), Ok(0xDC00), Err(Byte(0x80))],
+            &[Ok(0xD800), Ok(0xDC00), Err(Byte(0x80)), Ok(0x41)],
         ),
     ];
     for (bytes, wanted) in table {

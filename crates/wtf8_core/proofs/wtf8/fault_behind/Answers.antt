@@ -1,0 +1,8 @@
+use Rattle.wtf8_core.proofs.lemmas.FaultPlaces.{read_more, fault_read, read_all}
+use Rattle.wtf8_core.proofs.wtf8.fault_behind.Goals as goal
+
+pub returns-in-Err : goal.returns-in-Err
+returns-in-Err c = fault_read c.type_inv.bytes c.loop-item.invariant c.in-Some.ensures.first _ c.in-Err.is
+
+pub loop-item-preserved : goal.loop-item-preserved
+loop-item-preserved c = read_more c.type_inv.bytes c.loop-item.invariant c.in-Some.ensures.first _ _ c.in-Ok.is c.in-Some.ensures.high

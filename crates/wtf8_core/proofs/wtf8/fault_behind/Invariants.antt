@@ -1,0 +1,9 @@
+use Rattle.std.proofs.Common.{ℕ, length}
+use Rattle.wtf8_core.specs.SpelledFront.{IsReadUpTo}
+use Rattle.wtf8_core.proofs.wtf8.fault_behind.Given as goal
+
+abbrev pub invariant-loop-item : goal.invariant-loop-item
+invariant-loop-item l = IsReadUpTo l.bytes l.high l.left
+
+abbrev pub decreases-loop-item : goal.decreases-loop-item
+decreases-loop-item l = length l.left

@@ -1,0 +1,64 @@
+//! The first fault of bytes that aren't WTF-8, and how many bytes are refused with it.
+ghost use Rattle.std.specs.Prelude.{MatchOption};
+ghost use Rattle.wtf8_core.specs.Wtf8.{IsWtf8};
+ghost use Rattle.wtf8_core.specs.Fault.{IsFaultAt};
+ghost use Rattle.wtf8_core.specs.SpelledFront.{IsReadUpTo};
+
+use crate::code_points::next_item;
+use crate::fronts::{front_of, is_behind_high};
+
+/// The place of the first fault of bytes that aren't WTF-8, and how many bytes are refused there,
+/// `None` for WTF-8 (own call).
+///
+/// The first number is the length in bytes of the front that is well formed, which ends where the
+/// fault of [`CodePoints`](crate::CodePoints) begins. The second is the length of the refused part,
+/// one to four bytes: a byte that begins nothing; a lead with the continuations that are there; a
+/// lead with all its continuations where their value is refused. Behind that part the items of
+/// `CodePoints` go on. So it is for WTF-8 what [`utf8_fault`](crate::utf8_fault) is for UTF-8.
+///
+/// `wtf8_fault(b"a\xE2\x82A")` is `Some((1, 2))`; of ED A0 80 ED B0 80 (hexadecimal), the two
+/// halves of a pair, it is `Some((3, 3))`.
+///
+/// It goes over most of long bytes by vectors, and takes no memory.
+pub fn wtf8_fault(bytes: &[u8]) -> Option<(usize, usize)>
+    ensures { MatchOption result (IsWtf8 bytes.now) (λ fault. IsFaultAt bytes.now fault.0 fault.1) }
+{
+    let mut after_high = false;
+    let mut rest = bytes;
+    for _ in 0..NEAR {
+        let (item, is_high, behind) = next_item(after_high, rest)?;
+        match item {
+            Ok(_) => {
+                after_high = is_high;
+                rest = behind;
+            }
+            Err(_) => return Some((bytes.len() - rest.len(), rest.len() - behind.len())),
+        }
+    }
+    let front = front_of(bytes, true);
+    let (_, rest) = bytes.split_at(front);
+    fault_behind(bytes, is_behind_high(bytes, front), rest)
+}
+
+/// How many code points are read before vectors are asked: where faults stand close together, a
+/// loop over them doesn't ask vectors in vain.
+const NEAR: u32 = 32;
+
+/// The same of bytes that were read up to the rest, behind a high surrogate or not.
+fn fault_behind(bytes: &[u8], after_high: bool, rest: &[u8]) -> Option<(usize, usize)>
+    requires { IsReadUpTo bytes.now after_high rest.now }
+    ensures { MatchOption result (IsWtf8 bytes.now) (λ fault. IsFaultAt bytes.now fault.0 fault.1) }
+{
+    let mut high = after_high;
+    let mut left = rest;
+    while let Some((item, is_high, behind)) = next_item(high, left) {
+        match item {
+            Ok(_) => {
+                high = is_high;
+                left = behind;
+            }
+            Err(_) => return Some((bytes.len() - left.len(), left.len() - behind.len())),
+        }
+    }
+    None
+}
