@@ -1,5 +1,5 @@
 //! Owned raw strings.
-ghost use Rattle.std.specs.Prelude.{◌≡◌, ◌↔◌, [], IsTrue, IsOk, IfOk, IfErr, OnOk, OnErr, MatchResult, length, take, drop};
+ghost use Rattle.std.specs.Prelude.{◌≡◌, ◌≤◌, ◌<◌, ◌↔◌, [], IsTrue, IsOk, IfOk, IfErr, OnOk, OnErr, MatchResult, length, take, drop, vec_capacity, vec_len};
 ghost use Rattle.std.specs.Str.{IsUtf8};
 ghost use Rattle.std.specs.String.{string_vec};
 ghost use Rattle.wtf8_core.specs.Boundary.{IsBoundary};
@@ -116,18 +116,21 @@ impl<E: Platform, A: Allocator> RawOsString<E, A> {
 
     /// Leaves the empty string. It takes no memory and gives none back.
     pub fn clear(&mut self)
-        ensures { (raw_vec_of self.new).items ≡ [] }
+        ensures items { (raw_vec_of self.new).items ≡ [] }
+        ensures capacity { vec_capacity (raw_vec_of self.new) ≡ vec_capacity (raw_vec_of self.old) }
     {
         self.truncate(0);
     }
 
     /// Leaves the bytes before a boundary; a place past the length changes nothing (test:
-    /// [`RawOsString::is_boundary`], or a comparison with the length).
+    /// [`RawOsString::is_boundary`], or a comparison with the length). It takes no memory and
+    /// gives none back.
     ///
     /// `truncate(3)` of "foobar" leaves "foo", `truncate(9)` leaves "foobar".
     pub fn truncate(&mut self, at: usize)
         requires { MayTruncate (raw_vec_of self.old).items at }
-        ensures { (raw_vec_of self.new).items ≡ take at (raw_vec_of self.old).items }
+        ensures items { (raw_vec_of self.new).items ≡ take at (raw_vec_of self.old).items }
+        ensures capacity { vec_capacity (raw_vec_of self.new) ≡ vec_capacity (raw_vec_of self.old) }
     {
         self.vec.truncate(at);
     }
@@ -171,7 +174,10 @@ impl<E: Platform, A: Allocator> RawOsString<E, A> {
     /// Gives back the memory that the string doesn't fill; the string is the same after both
     /// answers. `AllocError` where some of it couldn't be given back.
     pub fn shrink_to_fit(&mut self) -> Result<(), AllocError>
-        ensures { (raw_vec_of self.new).items ≡ (raw_vec_of self.old).items }
+        ensures items { (raw_vec_of self.new).items ≡ (raw_vec_of self.old).items }
+        ensures no_more { vec_capacity (raw_vec_of self.new) ≤ vec_capacity (raw_vec_of self.old) }
+        ensures full { OnOk result (vec_capacity (raw_vec_of self.new) ≡ vec_len (raw_vec_of self.new)) }
+        ensures room_left { OnErr result (vec_len (raw_vec_of self.new) < vec_capacity (raw_vec_of self.new)) }
     {
         self.vec.shrink_to_fit();
         if self.vec.capacity() > self.vec.len() {
