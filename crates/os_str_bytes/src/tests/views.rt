@@ -27,22 +27,47 @@ fn views_on<'a, E: Platform + 'a, R: AllocGlobal + Abort>(
     assert_eq!(rt; view.to_raw_bytes().as_bytes(), view.as_encoded_bytes());
     assert_eq!(rt; view.to_str(), Some(text));
     assert!(rt; !view.is_empty());
-    let cow = RawOsStr::<E>::cow_from_raw_bytes(text.as_bytes())?;
-    assert!(rt; cow.as_raw() == view && cow.into_os_str().as_os_str() == string);
-    let same = RawOsStr::assert_cow_from_raw_bytes(view.as_encoded_bytes());
-    let too = RawOsStr::<E>::cow_from_raw_bytes_unchecked(view.as_encoded_bytes());
+    borrowed_cows(rt, view)?;
+    owned_cows(rt, view)?;
+    owned_strings(rt, view, text)
+}
+
+/// Cows that borrow a string.
+fn borrowed_cows<'a, E: Platform + 'a, R: Abort>(
+    rt: &R,
+    view: RawOsStr<'a, E>,
+) -> Result<(), Fail> {
+    let raw = view.as_encoded_bytes();
+    let cow = RawOsStr::<E>::cow_from_raw_bytes(raw)?;
+    assert!(rt; cow.as_raw() == view && cow.into_os_str().as_os_str() == view.as_os_str());
+    let same = RawOsStr::assert_cow_from_raw_bytes(raw);
+    let too = RawOsStr::<E>::cow_from_raw_bytes_unchecked(raw);
     assert!(rt; same.as_raw() == view && too.as_raw() == view);
     let borrowed: CowRawOsStr<'a, E> = CowRawOsStr::from(view);
     assert!(rt; borrowed.as_raw() == view);
+    Ok(())
+}
 
-    let owned = string.to_owned(rt.alloc())?;
-    let owned = RawOsString::new(owned);
-    let moved = OsString::from(owned);
-    let cow: CowRawOsStr<'a, E> = CowRawOsStr::from_os_str(OsStrCow::Owned(moved));
+/// Cows that own a copy of a string.
+fn owned_cows<'a, E: Platform + 'a, R: AllocGlobal + Abort>(
+    rt: &R,
+    view: RawOsStr<'a, E>,
+) -> Result<(), Fail> {
+    let owned = RawOsString::new(view.as_os_str().to_owned(rt.alloc())?);
+    let cow: CowRawOsStr<'a, E> = CowRawOsStr::from_os_str(OsStrCow::Owned(OsString::from(owned)));
     assert!(rt; cow.as_raw() == view);
-    let owned = RawOsString::<E>::from_raw_vec(text.as_bytes().to_vec(rt.alloc())?)?;
-    let cow: CowRawOsStr<'a, E> = CowRawOsStr::from(owned);
+    let vec = view.as_encoded_bytes().to_vec(rt.alloc())?;
+    let cow: CowRawOsStr<'a, E> = CowRawOsStr::from(RawOsString::<E>::from_raw_vec(vec)?);
     assert!(rt; cow.as_raw() == view);
+    Ok(())
+}
+
+/// Boxes and owned strings of a text.
+fn owned_strings<'a, E: Platform + 'a, R: AllocGlobal + Abort>(
+    rt: &R,
+    view: RawOsStr<'a, E>,
+    text: &str,
+) -> Result<(), Fail> {
     let boxed = RawOsStrBox::<E>::from(BoxedStr::from(String::from_str(rt.alloc(), text)?));
     assert!(rt; boxed.as_raw() == view);
     let vec = RawOsString::<E>::from(boxed).into_raw_vec();
