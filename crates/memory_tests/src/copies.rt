@@ -1,39 +1,62 @@
-//! Copies of strings.
+//! Copies of strings: a copy is one request, and none where the string is empty.
 use crate::answer::{bytes_of, is_right, raw_bytes_of};
-use crate::fixture::many;
-use os_str_bytes::{OsStr, Platform, RawOsStr, Unix, Wasm, Windows};
+use crate::fixture::{long_text, owned};
+use os_str_bytes::{OsStr, Platform, RawOsStr, RawOsString, Unix, Wasm, Windows};
 use refusing::for_each_refusal;
 use std::alloc::AllocError;
 use std::process::Abort;
 use std::test::Fail;
 
-/// A copy is one request, and none where the string is empty.
 #[test]
-fn copies(rt: HostRuntime) -> Result<(), Fail> {
-    let long = String::from_utf8(many(rt.alloc(), "foobar".as_bytes())?)?;
+fn of_borrowed(rt: HostRuntime) -> Result<(), Fail> {
+    let long = long_text(rt.alloc())?;
     for (text, requests) in [("", 0), ("foobar", 1), (long.as_str(), 1)] {
-        copies_on::<Unix, _>(&rt, text, requests)?;
-        copies_on::<Windows, _>(&rt, text, requests)?;
-        copies_on::<Wasm, _>(&rt, text, requests)?;
+        assert_eq!(rt; to_owned(&rt, OsStr::<Unix>::new(text))?, requests);
+        assert_eq!(rt; to_owned(&rt, OsStr::<Windows>::new(text))?, requests);
+        assert_eq!(rt; to_owned(&rt, OsStr::<Wasm>::new(text))?, requests);
     }
     Ok(())
 }
 
-fn copies_on<E: Platform, R: AllocGlobal + Abort>(
-    rt: &R,
-    text: &str,
-    requests: u64,
-) -> Result<(), AllocError> {
-    let view = OsStr::<E>::new(text);
-    assert_eq!(rt; to_owned(rt, view)?, requests, "to_owned of {text:?}");
-    assert_eq!(rt; clone(rt, view)?, requests, "clone of {text:?}");
-    let raw = RawOsStr::new(view);
-    assert_eq!(rt;
-        raw_to_owned(rt, raw)?,
-        requests,
-        "raw to_owned of {text:?}"
-    );
-    assert_eq!(rt; raw_clone(rt, raw)?, requests, "raw clone of {text:?}");
+#[test]
+fn of_owned(rt: HostRuntime) -> Result<(), Fail> {
+    let long = long_text(rt.alloc())?;
+    for (text, requests) in [("", 0), ("foobar", 1), (long.as_str(), 1)] {
+        assert_eq!(rt; clone(&rt, OsStr::<Unix>::new(text))?, requests);
+        assert_eq!(rt; clone(&rt, OsStr::<Windows>::new(text))?, requests);
+        assert_eq!(rt; clone(&rt, OsStr::<Wasm>::new(text))?, requests);
+    }
+    Ok(())
+}
+
+#[test]
+fn of_raw_borrowed(rt: HostRuntime) -> Result<(), Fail> {
+    let long = long_text(rt.alloc())?;
+    for (text, requests) in [("", 0), ("foobar", 1), (long.as_str(), 1)] {
+        assert_eq!(rt;
+            raw_to_owned(&rt, RawOsStr::<Unix>::from_str(text))?,
+            requests
+        );
+        assert_eq!(rt;
+            raw_to_owned(&rt, RawOsStr::<Windows>::from_str(text))?,
+            requests
+        );
+        assert_eq!(rt;
+            raw_to_owned(&rt, RawOsStr::<Wasm>::from_str(text))?,
+            requests
+        );
+    }
+    Ok(())
+}
+
+#[test]
+fn of_raw_owned(rt: HostRuntime) -> Result<(), Fail> {
+    let long = long_text(rt.alloc())?;
+    for (text, requests) in [("", 0), ("foobar", 1), (long.as_str(), 1)] {
+        assert_eq!(rt; raw_clone(&rt, OsStr::<Unix>::new(text))?, requests);
+        assert_eq!(rt; raw_clone(&rt, OsStr::<Windows>::new(text))?, requests);
+        assert_eq!(rt; raw_clone(&rt, OsStr::<Wasm>::new(text))?, requests);
+    }
     Ok(())
 }
 
@@ -55,7 +78,7 @@ fn clone<'a, E: Platform + 'a, R: AllocGlobal + Abort>(
     view: OsStr<'a, E>,
 ) -> Result<u64, AllocError> {
     for_each_refusal(rt.alloc(), move |heap, plan| {
-        let string = view.to_owned(heap)?;
+        let string = owned(heap, view)?;
         heap.restart(plan);
         let copy = string.clone();
         is_right(rt, heap, bytes_of(&copy), view.as_encoded_bytes());
@@ -79,14 +102,14 @@ fn raw_to_owned<'a, E: Platform + 'a, R: AllocGlobal + Abort>(
 /// A raw string is as it was where its copy is refused.
 fn raw_clone<'a, E: Platform + 'a, R: AllocGlobal + Abort>(
     rt: &R,
-    view: RawOsStr<'a, E>,
+    view: OsStr<'a, E>,
 ) -> Result<u64, AllocError> {
     for_each_refusal(rt.alloc(), move |heap, plan| {
-        let string = view.to_owned(heap)?;
+        let string = RawOsString::new(owned(heap, view)?);
         heap.restart(plan);
         let copy = string.clone();
         is_right(rt, heap, raw_bytes_of(&copy), view.as_encoded_bytes());
-        assert!(rt; string.as_raw() == view);
+        assert!(rt; string.as_os_str() == view);
         Ok(())
     })
 }

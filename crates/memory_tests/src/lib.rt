@@ -13,6 +13,8 @@ mod copies;
 #[cfg(test)]
 mod fixture;
 #[cfg(test)]
+mod headline;
+#[cfg(test)]
 mod joins;
 #[cfg(test)]
 mod lossy;

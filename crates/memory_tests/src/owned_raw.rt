@@ -1,90 +1,93 @@
 //! What changes an owned raw string, or takes it.
 use crate::answer::{is_right, raw_bytes_of};
-use crate::fixture::many;
+use crate::fixture::{many, owned};
 use os_str_bytes::{Platform, RawOsStr, RawOsString, Unix, Wasm, Windows};
 use refusing::{Plan, Refusing, for_each_refusal};
 use std::alloc::{AllocError, Global};
 use std::process::Abort;
 
-/// What is cut off takes one request, and giving room back one. Nothing takes none.
+/// Raw bytes, a place at which they are cut, and how many requests that is.
+type Row<'r> = (&'r [u8], usize, u64);
+
+const ROWS: [Row<'static>; 3] = [(b"", 0, 0), (b"foobar", 0, 1), (b"foobar", 3, 1)];
+
+/// What is cut off takes one request, and none where it is nothing.
 #[test]
-fn changes(rt: HostRuntime) -> Result<(), AllocError> {
+fn cut_off(rt: HostRuntime) -> Result<(), AllocError> {
     let long = many(rt.alloc(), b"foobar")?;
-    let table: [(&[u8], usize, u64); 4] = [
-        (b"", 0, 0),
-        (b"foobar", 0, 1),
-        (b"foobar", 3, 1),
-        (&long, 60_000, 1),
-    ];
-    for (raw, at, requests) in table {
-        changes_on::<Unix, _>(&rt, raw, at, requests)?;
-        changes_on::<Windows, _>(&rt, raw, at, requests)?;
-        changes_on::<Wasm, _>(&rt, raw, at, requests)?;
+    for row in ROWS {
+        split_off::<Unix, _>(&rt, row)?;
+        split_off::<Windows, _>(&rt, row)?;
+        split_off::<Wasm, _>(&rt, row)?;
+    }
+    split_off::<Windows, _>(&rt, (b"foobar", 6, 0))?;
+    split_off::<Windows, _>(&rt, (&long, 60_000, 1))
+}
+
+/// Giving room back takes one request where something is left, and where there is no room none.
+#[test]
+fn shrunk(rt: HostRuntime) -> Result<(), AllocError> {
+    let long = many(rt.alloc(), b"foobar")?;
+    for row in [ROWS[0], ROWS[1], (long.as_slice(), 0, 1)] {
+        shrink_to_fit::<Unix, _>(&rt, row)?;
+        shrink_to_fit::<Windows, _>(&rt, row)?;
+        shrink_to_fit::<Wasm, _>(&rt, row)?;
+    }
+    no_requests::<Windows>(&rt, rt.alloc(), b"foobar")
+}
+
+#[test]
+fn boxed(rt: HostRuntime) -> Result<(), AllocError> {
+    let long = many(rt.alloc(), b"foobar")?;
+    for row in [ROWS[0], ROWS[1], (long.as_slice(), 0, 1)] {
+        into_box::<Unix, _>(&rt, row)?;
+        into_box::<Windows, _>(&rt, row)?;
+        into_box::<Wasm, _>(&rt, row)?;
     }
     Ok(())
 }
 
-fn changes_on<E: Platform, R: AllocGlobal + Abort>(
-    rt: &R,
-    raw: &[u8],
-    at: usize,
-    requests: u64,
-) -> Result<(), AllocError> {
-    assert!(rt; E::check(raw).is_ok());
-    let view = RawOsStr::<E>::from_encoded_bytes_unchecked(raw);
-    assert_eq!(rt;
-        split_off(rt, view, at)?,
-        requests,
-        "split_off({at}) of {raw:?}"
-    );
-    assert_eq!(rt; split_off(rt, view, raw.len())?, 0, "split_off of nothing");
-    assert_eq!(rt;
-        shrink_to_fit(rt, view)?,
-        requests,
-        "shrink_to_fit of {raw:?}"
-    );
-    assert_eq!(rt; into_box(rt, view)?, requests, "into_box of {raw:?}");
-    no_requests(rt, view)
-}
-
 /// The bytes behind a boundary; where they are refused the string is as it was.
-fn split_off<'a, E: Platform + 'a, R: AllocGlobal + Abort>(
-    rt: &R,
-    view: RawOsStr<'a, E>,
-    at: usize,
-) -> Result<u64, AllocError> {
+fn split_off<E: Platform, R: AllocGlobal + Abort>(rt: &R, row: Row<'_>) -> Result<(), AllocError> {
+    let (raw, at, requests) = row;
+    let view = string::<E>(rt, raw);
     assert!(rt; view.is_boundary(at));
     let (front, back) = view.split_at(at);
-    for_each_refusal(rt.alloc(), move |heap, plan| {
-        let mut string = view.to_owned(heap)?;
+    let refused = for_each_refusal(rt.alloc(), move |heap, plan| {
+        let mut string = RawOsString::new(owned(heap, view.as_os_str())?);
         assert!(rt; string.is_boundary(at));
         heap.restart(plan);
         let answer = string.split_off(at);
         is_right(rt, heap, raw_bytes_of(&answer), back.as_encoded_bytes());
         assert!(rt; string.as_raw() == if heap.refused() { view } else { front });
         Ok(())
-    })
+    })?;
+    assert_eq!(rt; refused, requests, "split_off({at}) of {raw:?}");
+    Ok(())
 }
 
 /// The string is the same after both answers.
-fn shrink_to_fit<'a, E: Platform + 'a, R: AllocGlobal + Abort>(
+fn shrink_to_fit<E: Platform, R: AllocGlobal + Abort>(
     rt: &R,
-    view: RawOsStr<'a, E>,
-) -> Result<u64, AllocError> {
-    for_each_refusal(rt.alloc(), move |heap, plan| {
+    row: Row<'_>,
+) -> Result<(), AllocError> {
+    let (raw, _, requests) = row;
+    let view = string::<E>(rt, raw);
+    let refused = for_each_refusal(rt.alloc(), move |heap, plan| {
         let mut string = with_room(heap, view)?;
         heap.restart(plan);
         assert_eq!(rt; string.shrink_to_fit().is_err(), heap.refused());
         assert!(rt; string.as_raw() == view);
         Ok(())
-    })
+    })?;
+    assert_eq!(rt; refused, requests, "shrink_to_fit of {raw:?}");
+    Ok(())
 }
 
-fn into_box<'a, E: Platform + 'a, R: AllocGlobal + Abort>(
-    rt: &R,
-    view: RawOsStr<'a, E>,
-) -> Result<u64, AllocError> {
-    for_each_refusal(rt.alloc(), move |heap, plan| {
+fn into_box<E: Platform, R: AllocGlobal + Abort>(rt: &R, row: Row<'_>) -> Result<(), AllocError> {
+    let (raw, _, requests) = row;
+    let view = string::<E>(rt, raw);
+    let refused = for_each_refusal(rt.alloc(), move |heap, plan| {
         let string = with_room(heap, view)?;
         heap.restart(plan);
         let answer = string.into_box();
@@ -92,16 +95,16 @@ fn into_box<'a, E: Platform + 'a, R: AllocGlobal + Abort>(
         let bytes = boxed.map(|boxed| boxed.as_raw().as_encoded_bytes());
         is_right(rt, heap, bytes, view.as_encoded_bytes());
         Ok(())
-    })
+    })?;
+    assert_eq!(rt; refused, requests, "into_box of {raw:?}");
+    Ok(())
 }
 
 /// A string that fills its memory gives none back, and asks for none.
-fn no_requests<'a, E: Platform + 'a, R: AllocGlobal + Abort>(
-    rt: &R,
-    view: RawOsStr<'a, E>,
-) -> Result<(), AllocError> {
-    let heap = Refusing::new(rt.alloc(), Plan::Never);
-    let mut string = view.to_owned(&heap)?;
+fn no_requests<E: Platform>(rt: &impl Abort, alloc: Global, raw: &[u8]) -> Result<(), AllocError> {
+    let view = string::<E>(rt, raw);
+    let heap = Refusing::new(alloc, Plan::Never);
+    let mut string = RawOsString::new(owned(&heap, view.as_os_str())?);
     heap.restart(Plan::Always);
     assert!(rt; string.shrink_to_fit().is_ok());
     let boxed = string.into_box()?;
@@ -110,12 +113,18 @@ fn no_requests<'a, E: Platform + 'a, R: AllocGlobal + Abort>(
     Ok(())
 }
 
+/// The raw string of bytes that are well formed.
+fn string<'a, E: Platform>(rt: &impl Abort, raw: &'a [u8]) -> RawOsStr<'a, E> {
+    assert!(rt; E::check(raw).is_ok());
+    RawOsStr::from_encoded_bytes_unchecked(raw)
+}
+
 /// An owned copy whose memory has room for more.
-fn with_room<'h, 'a, E: Platform + 'a>(
+fn with_room<'h, E: Platform>(
     heap: &'h Refusing<Global>,
-    view: RawOsStr<'a, E>,
+    view: RawOsStr<'_, E>,
 ) -> Result<RawOsString<E, &'h Refusing<Global>>, AllocError> {
-    let mut vec = view.to_owned(heap)?.into_encoded_vec();
+    let mut vec = owned(heap, view.as_os_str())?.into_encoded_bytes();
     vec.reserve(1)?;
     Ok(RawOsString::from_encoded_vec_unchecked(vec))
 }

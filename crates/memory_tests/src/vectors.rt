@@ -1,4 +1,5 @@
 //! Strings and paths from vectors and back, with every request refused.
+use crate::fixture::many;
 use os_str_bytes::{OsString, OsStringBytes, PathBuf, Platform, Unix, Wasm, Windows};
 use refusing::{Plan, Refusing};
 use std::alloc::{Allocator, Global};
@@ -11,6 +12,9 @@ fn accepted(rt: HostRuntime) -> Result<(), Fail> {
     accepted_on::<Unix>(&rt, &heap, b"a\x80", b"a\x80")?;
     accepted_on::<Windows>(&rt, &heap, b"a\xED\xA0\x80", b"a\xEF\xBF\xBD")?;
     accepted_on::<Windows>(&rt, &heap, b"a\xC3\xA9", b"a\xC3\xA9")?;
+    let raw = many(rt.alloc(), b"a\xED\xA0\x80")?;
+    let io = many(rt.alloc(), b"a\xEF\xBF\xBD")?;
+    accepted_on::<Windows>(&rt, &heap, &raw, &io)?;
     accepted_on::<Wasm>(&rt, &heap, b"a\xC3\xA9", b"a\xC3\xA9")
 }
 

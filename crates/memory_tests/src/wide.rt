@@ -1,7 +1,8 @@
 //! Windows strings from units, and their units at once.
 use crate::answer::{bytes_of, is_right};
 use crate::fixture::many;
-use os_str_bytes::windows::OsString;
+use os_str_bytes::windows::{OsStr, OsString};
+use os_str_bytes::{Platform, Windows};
 use refusing::for_each_refusal;
 use std::alloc::AllocError;
 use std::process::Abort;
@@ -11,10 +12,7 @@ use std::process::Abort;
 fn units(rt: HostRuntime) -> Result<(), AllocError> {
     let long_units = many(rt.alloc(), &[0x41u16, 0xD83D, 0xDE00])?;
     let long_bytes = many(rt.alloc(), b"A\xF0\x9F\x98\x80")?;
-    let mut euros = Vec::new(rt.alloc());
-    for _ in 0..1000 {
-        euros.extend_from_slice("\u{20AC}".as_bytes())?;
-    }
+    let euros = "\u{20AC}".repeat(rt.alloc(), 1000)?;
     let table: [(&[u16], &[u8]); 6] = [
         (&[], b""),
         (&[0x41], b"A"),
@@ -23,7 +21,7 @@ fn units(rt: HostRuntime) -> Result<(), AllocError> {
             &[0x20AC; 6],
             "\u{20AC}\u{20AC}\u{20AC}\u{20AC}\u{20AC}\u{20AC}".as_bytes(),
         ),
-        (&[0x20AC; 1000], &euros),
+        (&[0x20AC; 1000], euros.as_bytes()),
         (&long_units, &long_bytes),
     ];
     for (units, bytes) in table {
@@ -33,7 +31,11 @@ fn units(rt: HostRuntime) -> Result<(), AllocError> {
             requests,
             "from_wide of {units:?}"
         );
-        assert_eq!(rt; to_wide(&rt, units)?, requests, "to_wide of {units:?}");
+        assert_eq!(rt;
+            to_wide(&rt, units, bytes)?,
+            requests,
+            "to_wide of {units:?}"
+        );
     }
     Ok(())
 }
@@ -51,11 +53,12 @@ fn from_wide<R: AllocGlobal + Abort>(
     })
 }
 
-fn to_wide<R: AllocGlobal + Abort>(rt: &R, units: &[u16]) -> Result<u64, AllocError> {
+fn to_wide<R: AllocGlobal + Abort>(rt: &R, units: &[u16], bytes: &[u8]) -> Result<u64, AllocError> {
+    assert!(rt; Windows::check(bytes).is_ok());
+    let string = OsStr::from_encoded_bytes_unchecked(bytes);
     for_each_refusal(rt.alloc(), move |heap, plan| {
-        let string = OsString::from_wide(heap, units)?;
         heap.restart(plan);
-        let wide = string.as_os_str().to_wide(heap);
+        let wide = string.to_wide(heap);
         let right = match &wide {
             Ok(wide) => !heap.refused() && wide.as_slice() == units,
             Err(AllocError) => heap.refused(),
