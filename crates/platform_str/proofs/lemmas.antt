@@ -1,5 +1,6 @@
 pub mod LossyLoops
 pub mod InPlace
+pub mod Readings
 pub mod FirstUnits
 pub mod FourBytes
 pub mod WideLemmas
@@ -7,3 +8,4 @@ pub mod ByteOrder
 pub mod Lanes
 pub mod BulkUnits
 pub mod BulkBytes
+pub mod Displays

@@ -6,6 +6,8 @@ pub mod UnixLaws
 pub mod WasmLaws
 pub mod WindowsLaws
 pub mod PartLaws
+pub mod ReadingLaws
 pub mod Lossy
 pub mod Strings
+pub mod Display
 pub mod Cows

@@ -2,8 +2,9 @@
 ghost use Rattle.std.specs.Prelude.{◌≡◌, ◌<◌, ◌↔◌, ℕ, List, ◌++◌, length, take, drop, IsTrue, Some};
 ghost use Rattle.std.specs.Cmp.Lexicographic.{slice_cmp};
 ghost use Rattle.std.specs.Ordering.{nat_cmp};
-ghost use Rattle.std.specs.List.{flat_map};
+ghost use Rattle.std.specs.List.{All, flat_map};
 ghost use Rattle.std.specs.Str.{IsUtf8, IsValidUpTo};
+ghost use Rattle.wtf8_core.specs.Byte.{IsByte};
 ghost use Rattle.wtf8_core.specs.Character.{WholeCharacter};
 ghost use Rattle.wtf8_core.specs.Boundary.{IsBoundary};
 ghost use Rattle.wtf8_core.specs.Covered.{StartsBare, IsBare};
@@ -54,6 +55,13 @@ pub fn lossy_texts<E: Platform>()
     ensures lossy_front { (b : List ℕ) → (n : ℕ) → E.well_formed b → IsValidUpTo b n → E.lossy b ≡ take n b ++ E.lossy (drop n b) }
     ensures lossy_step { (b : List ℕ) → (n : ℕ) → E.well_formed b → 0 < length b → StartsBare b → E.replaces b n
         → IsReplaced E.well_formed E.lossy b n }
+{}
+
+/// Any bytes have one lossy reading, which is a string; that of a string is the string itself.
+pub fn readings<E: Platform>()
+    ensures formed { (b : List ℕ) → (c : List ℕ) → All IsByte b → E.reads_as b c → E.well_formed c }
+    ensures itself { (b : List ℕ) → E.well_formed b → E.reads_as b b }
+    ensures one { (b : List ℕ) → (c : List ℕ) → (d : List ℕ) → E.reads_as b c → E.reads_as b d → c ≡ d }
 {}
 
 /// At a boundary both parts of a string are strings, and their units joined are the string's.

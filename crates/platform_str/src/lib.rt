@@ -18,6 +18,7 @@
 mod blocks;
 mod convert;
 mod cow;
+mod display;
 mod join;
 pub mod laws;
 mod lossy;
@@ -25,6 +26,7 @@ mod os_str;
 mod os_string;
 mod path;
 mod platform;
+mod reading;
 mod text;
 pub mod unix;
 pub mod wasm;
@@ -33,6 +35,7 @@ pub mod windows;
 
 pub use convert::{ByteVec, OsStrBytes, OsStringBytes};
 pub use cow::{ByteCow, HasBytes, OsStrCow, PathCow, StrCow};
+pub use display::OsStrDisplay;
 pub use os_str::OsStr;
 pub use os_string::OsString;
 pub use path::{Path, PathBuf};

@@ -1,13 +1,27 @@
 //! Lossy texts, by the laws of the platform.
-ghost use Rattle.std.specs.Prelude.{◌≡◌, ◌<◌, ◌≤◌, ◌+◌, ◌++◌, length, take, drop, IsOk, IfOk};
+ghost use Rattle.std.specs.Prelude.{◌≡◌, ◌<◌, ◌≤◌, ◌+◌, ◌++◌, length, take, drop, IsOk, IfOk, MatchOption};
+ghost use Rattle.std.specs.Str.{IsUtf8};
 ghost use Rattle.std.specs.String.{string_bytes};
 ghost use Rattle.platform_str.specs.Cows.{byte_cow_bytes};
-ghost use Rattle.platform_str.specs.Lossy.{IsIoLossy};
+ghost use Rattle.platform_str.specs.Lossy.{IsIoLossy, IsFirstText};
 
 use crate::cow::ByteCow;
 use crate::platform::Platform;
 use std::alloc::{AllocError, Allocator};
 use wtf8_core::utf8_fault;
+
+/// The text at the front of a string's bytes, and what follows the part behind it for which one
+/// U+FFFD stands; `None` where all is a text.
+#[inline(always)]
+pub(crate) fn first_text<E: Platform>(bytes: &[u8]) -> Option<(&str, &[u8])>
+    requires { E.well_formed bytes.now }
+    ensures { MatchOption result (IsUtf8 bytes.now) (λ first. IsFirstText E.well_formed E.lossy bytes.now first.0.now first.1.now) }
+{
+    let (valid, _) = utf8_fault(bytes)?;
+    let (front, behind) = bytes.split_at(valid);
+    let (_, rest) = behind.split_at(E::lossy_len(behind));
+    Some((unsafe { str::from_utf8_unchecked(front) }, rest))
+}
 
 /// The lossy text of a string's bytes, in new memory.
 pub(crate) fn text<E: Platform, A: Allocator>(
@@ -19,12 +33,10 @@ pub(crate) fn text<E: Platform, A: Allocator>(
 {
     let mut text = String::with_capacity(alloc, bytes.len())?;
     let mut rest = bytes;
-    while let Some((valid, _)) = utf8_fault(rest) {
-        let (front, behind) = rest.split_at(valid);
-        text.push_str(unsafe { str::from_utf8_unchecked(front) })?;
+    while let Some((front, behind)) = first_text::<E>(rest) {
+        text.push_str(front)?;
         text.push('\u{FFFD}')?;
-        let (_, left) = behind.split_at(E::lossy_len(behind));
-        rest = left;
+        rest = behind;
     }
     text.push_str(unsafe { str::from_utf8_unchecked(rest) })?;
     Ok(text)

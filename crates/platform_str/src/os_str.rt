@@ -4,6 +4,7 @@ ghost use Rattle.std.specs.Str.{IsUtf8};
 
 use crate::convert::OsStrBytes;
 use crate::cow::{ByteCow, OsStrCow, StrCow};
+use crate::display::OsStrDisplay;
 use crate::lossy;
 use crate::os_string::OsString;
 use crate::platform::Platform;
@@ -37,7 +38,8 @@ impl<'a, E: Platform> Copy for OsStr<'a, E> {}
 
 impl<'a, E: Platform> OsStr<'a, E> {
     ghost use Rattle.platform_str.specs.Strings.{bytes, string_vec_of};
-    ghost use Rattle.platform_str.specs.Cows.{str_cow_bytes};
+    ghost use Rattle.platform_str.specs.Cows.{cow_bytes, str_cow_bytes};
+    ghost use Rattle.platform_str.specs.Display.{shown_bytes};
 
     /// The string of a text, which is a string of every platform (std's `OsStr::new`).
     ///
@@ -62,6 +64,29 @@ impl<'a, E: Platform> OsStr<'a, E> {
         OsStr {
             bytes: encoded,
             platform: PhantomData,
+        }
+    }
+
+    /// The string of any raw bytes, with U+FFFD for each part that is refused: what
+    /// [`Platform::read_lossy`] gives, or the bytes themselves where they are well formed, which
+    /// takes no memory. Beside it `OsStrBytes::from_raw_bytes` answers the first fault. On wasm it is
+    /// equivalent to std's `String::from_utf8_lossy`.
+    ///
+    /// On Windows ED A0 80 ED B0 80 41 (hexadecimal) reads as ED A0 80 EF BF BD 41.
+    pub fn from_raw_bytes_lossy<A: Allocator>(
+        alloc: A,
+        raw: &'a [u8],
+    ) -> Result<OsStrCow<'a, E, A>, AllocError>
+        ensures reading { IfOk result (λ string. E.reads_as raw.entry.now (cow_bytes string)) }
+        ensures kept { E.well_formed raw.entry.now → IfOk result (λ string. cow_bytes string ≡ raw.entry.now) }
+        ensures without_memory { E.well_formed raw.entry.now → IsOk result }
+    {
+        match E::check(raw) {
+            Ok(()) => Ok(OsStrCow::Borrowed(OsStr::from_encoded_bytes_unchecked(raw))),
+            Err(_) => {
+                let reading = E::read_lossy(alloc, raw)?;
+                Ok(OsStrCow::Owned(OsString::from_encoded_bytes_unchecked(reading)))
+            }
         }
     }
 
@@ -120,6 +145,16 @@ impl<'a, E: Platform> OsStr<'a, E> {
             Some(text) => Ok(StrCow::Borrowed(text)),
             None => Ok(StrCow::Owned(lossy::text::<E, A>(alloc, self.bytes)?)),
         }
+    }
+
+    /// The lossy text, to be printed (std's `OsStr::display`): what `{}` writes of it is the text that
+    /// [`OsStr::to_string_lossy`] gives. It takes no memory.
+    ///
+    /// The Unix string of the bytes 61 E2 82 41 (hexadecimal) is printed as "a\u{FFFD}A".
+    pub fn display(self) -> OsStrDisplay<'a, E>
+        ensures { shown_bytes result ≡ bytes self.entry }
+    {
+        OsStrDisplay::new(self)
     }
 
     /// An owned copy (std's `OsStr::to_os_string`).

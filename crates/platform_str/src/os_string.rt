@@ -1,5 +1,5 @@
 //! Owned strings.
-ghost use Rattle.std.specs.Prelude.{◌≡◌, ◌++◌, [], IfOk, IfErr, OnOk, OnErr, MatchResult};
+ghost use Rattle.std.specs.Prelude.{◌≡◌, ◌++◌, [], IsOk, IfOk, IfErr, OnOk, OnErr, MatchResult};
 ghost use Rattle.std.specs.Str.{IsUtf8};
 ghost use Rattle.std.specs.String.{string_vec};
 
@@ -49,6 +49,29 @@ impl<E: Platform, A: Allocator> OsString<E, A> {
         OsString {
             vec,
             platform: PhantomData,
+        }
+    }
+
+    /// The string of any raw bytes, with U+FFFD for each part that is refused: their own vector
+    /// where they are well formed, which takes no memory, else what [`Platform::read_lossy`] gives,
+    /// in new memory; then the vector is dropped, also where that memory is refused. On wasm it is
+    /// as in std's `String::from_utf8_lossy`.
+    ///
+    /// Of the vector of FF 41 (hexadecimal) it is EF BF BD 41 on Windows and FF 41 on Unix.
+    pub fn from_raw_vec_lossy(raw: Vec<u8, A>) -> Result<Self, AllocError>
+    where
+        A: Clone,
+        ensures reading { IfOk result (λ string. E.reads_as raw.items (string_vec_of string).items) }
+        ensures kept { E.well_formed raw.items → IfOk result (λ string. string_vec_of string ≡ raw) }
+        ensures without_memory { E.well_formed raw.items → IsOk result }
+    {
+        match E::check(raw.as_slice()) {
+            Ok(()) => Ok(OsString::from_encoded_bytes_unchecked(raw)),
+            Err(_) => {
+                let alloc = raw.allocator().clone()?;
+                let reading = E::read_lossy(alloc, raw.as_slice())?;
+                Ok(OsString::from_encoded_bytes_unchecked(reading))
+            }
         }
     }
 

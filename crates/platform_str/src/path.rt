@@ -4,6 +4,7 @@ ghost use Rattle.platform_str.specs.Strings.{bytes, string_vec_of};
 
 use crate::convert::{OsStrBytes, OsStringBytes};
 use crate::cow::{ByteCow, PathCow};
+use crate::display::OsStrDisplay;
 use crate::os_str::OsStr;
 use crate::os_string::OsString;
 use crate::platform::Platform;
@@ -18,6 +19,7 @@ pub struct Path<'a, E: Platform + 'a> {
 
 impl<'a, E: Platform> Path<'a, E> {
     ghost use Rattle.platform_str.specs.Strings.{path_bytes};
+    ghost use Rattle.platform_str.specs.Display.{shown_bytes};
 
     /// The path of a string, each of which is one (std's `Path::new`).
     ///
@@ -26,6 +28,15 @@ impl<'a, E: Platform> Path<'a, E> {
         ensures { path_bytes result ≡ bytes string.entry }
     {
         Path { inner: string }
+    }
+
+    /// The lossy text of the path, to be printed (std's `Path::display`): as [`OsStr::display`].
+    ///
+    /// `Path::<Unix>::new(OsStr::new("a/b")).display()` is printed as "a/b".
+    pub fn display(self) -> OsStrDisplay<'a, E>
+        ensures { shown_bytes result ≡ path_bytes self.entry }
+    {
+        self.inner.display()
     }
 
     /// The path as a string (std's `Path::as_os_str`).

@@ -1,11 +1,12 @@
 //! What a platform is, and the three that stand here.
-ghost use Rattle.std.specs.Prelude.{◌≡◌, ◌<◌, ◌↔◌, ◌++◌, ℕ, List, length, IsTrue, MatchResult, OnOk, OnErr};
+ghost use Rattle.std.specs.Prelude.{◌≡◌, ◌<◌, ◌↔◌, ◌++◌, ℕ, List, length, IsTrue, IfOk, MatchResult, OnOk, OnErr};
 ghost use Rattle.wtf8_core.specs.Covered.{StartsBare};
 ghost use Rattle.wtf8_core.specs.Standing.{IsFront, IsEnd};
 ghost use Rattle.wtf8_core.specs.StandingLaws.{StandingLaws};
 ghost use Rattle.wtf8_core.specs.declared.fault.EncodingError.{EncodingError};
 ghost use Rattle.platform_str.specs.Laws.{PlatformLaws};
 ghost use Rattle.platform_str.specs.PartLaws.{PartLaws, IsFirstUnit};
+ghost use Rattle.platform_str.specs.ReadingLaws.{ReadingLaws};
 
 use std::alloc::{AllocError, Allocator};
 use wtf8_core::EncodingError;
@@ -16,7 +17,8 @@ use wtf8_core::EncodingError;
 /// platform: each list of units has one spelling; texts are strings, and what follows a text
 /// at the front is well formed; at a boundary both parts are well formed, and their units
 /// joined are the string's; a text stands in a string's bytes where its units stand in the
-/// string's; some string has the units of two joined. The module `laws` states them one by one.
+/// string's; some string has the units of two joined; any bytes have one lossy reading, which is
+/// a string. The module `laws` states them one by one.
 pub trait Platform {
     // which bytes are a string
     ghost well_formed: { List ℕ → Type 0 };
@@ -41,6 +43,9 @@ pub trait Platform {
 
     // how many bytes at the front one U+FFFD stands for there
     ghost replaces: { List ℕ → ℕ → Type 0 };
+
+    // what any bytes are read as, where U+FFFD stands for each part that is refused
+    ghost reads_as: { List ℕ → List ℕ → Type 0 };
 
     // what the units of a string are in which no whole character stands
     ghost part_units: { List ℕ → Type 0 };
@@ -123,11 +128,27 @@ pub trait Platform {
         ensures ok { OnOk result (units string.new.items ≡ units string.old.items ++ units more.now) }
         ensures err { OnErr result (string.new.items ≡ string.old.items) };
 
+    /// The lossy reading of any bytes, in new memory: the bytes themselves where they are well
+    /// formed, else what stands before the first part that is refused, U+FFFD, and the reading of
+    /// what follows that part, as if nothing stood before it.
+    ///
+    /// On Windows `wtf8_core::wtf8_fault` says which part is refused, so that the reading is the
+    /// forms of what `wtf8_core::CodePoints` gives, with U+FFFD for each `Err`. On wasm it is the
+    /// maximal ill-formed part (Unicode, section 3.9), as in std's `String::from_utf8_lossy`. On
+    /// Unix nothing is refused. It may take memory also where nothing is replaced.
+    ///
+    /// On Windows ED A0 80 ED B0 80 41 (hexadecimal) reads as ED A0 80 EF BF BD 41.
+    fn read_lossy<A: Allocator>(alloc: A, bytes: &[u8]) -> Result<Vec<u8, A>, AllocError>
+        ensures reading { IfOk result (λ reading. reads_as bytes.now reading.items) }
+        ensures formed { IfOk result (λ reading. well_formed reading.items) };
+
     ghost standing: { StandingLaws well_formed units };
 
     ghost laws: { PlatformLaws first_fault well_formed units is_unit_list io_safe lossy replaces };
 
     ghost parts: { PartLaws well_formed units part_units };
+
+    ghost readings: { ReadingLaws well_formed reads_as };
 }
 
 /// Unix, and each system whose strings are any bytes.

@@ -5,6 +5,7 @@ ghost use Rattle.platform_str.specs.Platforms.{AreBytes, itself, IsNoFault};
 ghost use Rattle.platform_str.specs.UnixLaws.{bytes_prop, unix_laws};
 ghost use Rattle.platform_str.specs.Standing.{unix_standing};
 ghost use Rattle.platform_str.specs.PartLaws.{AreAboveAscii, unix_parts};
+ghost use Rattle.platform_str.specs.ReadingLaws.{IsSame, unix_readings};
 
 use crate::join::append;
 use crate::platform::{Platform, Unix};
@@ -50,9 +51,13 @@ impl Platform for Unix {
 
     ghost laws = { unix_laws };
 
+    ghost reads_as = { IsSame };
+
     ghost part_units = { AreAboveAscii };
 
     ghost parts = { unix_parts };
+
+    ghost readings = { unix_readings };
 
     fn check(_bytes: &[u8]) -> Result<(), EncodingError> {
         Ok(())
@@ -84,5 +89,9 @@ impl Platform for Unix {
 
     fn push_bytes<A: Allocator>(string: &mut Vec<u8, A>, more: &[u8]) -> Result<(), AllocError> {
         append(string, more)
+    }
+
+    fn read_lossy<A: Allocator>(alloc: A, bytes: &[u8]) -> Result<Vec<u8, A>, AllocError> {
+        Vec::from_slice(alloc, bytes)
     }
 }

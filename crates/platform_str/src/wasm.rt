@@ -5,9 +5,12 @@ ghost use Rattle.platform_str.specs.Platforms.{itself, IsTextFault, IsThree};
 ghost use Rattle.platform_str.specs.WasmLaws.{wasm_laws};
 ghost use Rattle.platform_str.specs.Standing.{wasm_standing};
 ghost use Rattle.platform_str.specs.PartLaws.{AreNone, wasm_parts};
+ghost use Rattle.wtf8_core.specs.Lossy.{IsLossyText};
+ghost use Rattle.platform_str.specs.ReadingLaws.{wasm_readings};
 
 use crate::join::append;
-use crate::platform::{Platform, Wasm};
+use crate::lossy;
+use crate::platform::{Platform, Unix, Wasm};
 use crate::text::is_text;
 use std::alloc::{AllocError, Allocator, Global};
 use wtf8_core::{EncodingError, utf8_fault};
@@ -51,9 +54,13 @@ impl Platform for Wasm {
 
     ghost laws = { wasm_laws };
 
+    ghost reads_as = { IsLossyText };
+
     ghost part_units = { AreNone };
 
     ghost parts = { wasm_parts };
+
+    ghost readings = { wasm_readings };
 
     fn check(bytes: &[u8]) -> Result<(), EncodingError> {
         match utf8_fault(bytes) {
@@ -84,5 +91,9 @@ impl Platform for Wasm {
 
     fn push_bytes<A: Allocator>(string: &mut Vec<u8, A>, more: &[u8]) -> Result<(), AllocError> {
         append(string, more)
+    }
+
+    fn read_lossy<A: Allocator>(alloc: A, bytes: &[u8]) -> Result<Vec<u8, A>, AllocError> {
+        Ok(lossy::text::<Unix, A>(alloc, bytes)?.into_bytes())
     }
 }

@@ -8,9 +8,12 @@ ghost use Rattle.platform_str.specs.Platforms.{AreWideUnits, IsWtf8Fault, IsThre
 ghost use Rattle.platform_str.specs.WindowsLaws.{windows_laws};
 ghost use Rattle.wtf8_core.specs.PartUnits.{AreLoneSurrogates};
 ghost use Rattle.platform_str.specs.PartLaws.{windows_parts};
+ghost use Rattle.wtf8_core.specs.LossyReading.{IsLossyReading};
+ghost use Rattle.platform_str.specs.ReadingLaws.{windows_readings};
 
 use crate::join::push_wtf8;
 use crate::platform::{Platform, Windows};
+use crate::reading::read_wtf8;
 use crate::text::is_text;
 use std::alloc::{AllocError, Allocator, Global};
 use wtf8_core::{Checker, EncodingError, encode_wide};
@@ -57,9 +60,13 @@ impl Platform for Windows {
 
     ghost laws = { windows_laws };
 
+    ghost reads_as = { IsLossyReading };
+
     ghost part_units = { AreLoneSurrogates };
 
     ghost parts = { windows_parts };
+
+    ghost readings = { windows_readings };
 
     fn check(bytes: &[u8]) -> Result<(), EncodingError> {
         let mut checker = Checker::new();
@@ -93,5 +100,9 @@ impl Platform for Windows {
 
     fn push_bytes<A: Allocator>(string: &mut Vec<u8, A>, more: &[u8]) -> Result<(), AllocError> {
         push_wtf8(string, more)
+    }
+
+    fn read_lossy<A: Allocator>(alloc: A, bytes: &[u8]) -> Result<Vec<u8, A>, AllocError> {
+        read_wtf8(alloc, bytes)
     }
 }

@@ -10,7 +10,7 @@ use Rattle.wtf8_core.specs.declared.fault.EncodingError.{EncodingError}
 use Rattle.wtf8_core.specs.Covered.{StartsBare}
 use Rattle.platform_str.specs.Laws.{PlatformLaws}
 use Rattle.platform_str.specs.Lossy.{IsLeft, IsReplacedUpTo}
-use Rattle.platform_str.proofs.lemmas.LossyLoops.{step, bare_at}
+use Rattle.platform_str.proofs.lemmas.LossyLoops.{first_part, first_text, made_more, bare_at}
 
 -- the bytes of U+FFFD, written one after the other from place s on
 abbrev written : List ℕ → ℕ → List ℕ
@@ -56,7 +56,8 @@ module _ {first_fault : List ℕ → EncodingError → Type 0} {well_formed : Li
       let t : m ≡ 3 = laws.three all behind m f u r in
       let k : behind ≡ drop n rest = d ∙ drop_twice bytes at n ∙ ap (drop n) (sym e) in
       let j : IsLeft well_formed lossy all (take at bytes) rest = subst (IsLeft well_formed lossy all (take at bytes)) (sym e) i.left in
-      let s = step laws k v j r in
+      let s = first_part laws k v j.rest_is r in
+      let left = made_more j (first_text laws refl k refl v j.rest_is r) in
       let l : length behind ≡ length bytes - (at + n) = ap length d ∙ length-drop (at + n) bytes in
       let b : at + n + 3 ≤ length bytes = omega (arith, s.within, s.some) in
       let p : take (at + n + m) (written bytes (at + n)) ≡ (take at bytes ++ take n rest) ++ replacement =
@@ -68,8 +69,8 @@ module _ {first_fault : List ℕ → EncodingError → Type 0} {well_formed : Li
         replaced = record {
           within = simp length-set (omega arith);
           left = record {
-            rest_is = subst well_formed (sym q) s.left.rest_is;
-            lossy_is = s.left.lossy_is ∙ ap (λ x. x ++ lossy (drop m behind)) (sym p) ∙ ap (λ x. take (at + n + m) (written bytes (at + n)) ++ lossy x) (sym q);
+            rest_is = subst well_formed (sym q) left.rest_is;
+            lossy_is = left.lossy_is ∙ ap (λ x. x ++ lossy (drop m behind)) (sym p) ∙ ap (λ x. take (at + n + m) (written bytes (at + n)) ++ lossy x) (sym q);
           };
         };
       }

@@ -1,5 +1,6 @@
 -- One step of a loop over a string's faults.
 use Rattle.std.proofs.Common.{◌≡◌, ℕ, ◌<◌, ◌≤◌, List, ◌++◌, length, take, drop, refl, sym, ap, ◌∙◌, subst, arith, append_assoc, length-drop}
+use Rattle.std.proofs.lemmas.List.{length-take-le}
 use Rattle.std.specs.Str.{IsValidUpTo}
 use Rattle.wtf8_core.specs.Lossy.{replacement}
 use Rattle.wtf8_core.specs.declared.fault.EncodingError.{EncodingError}
@@ -7,8 +8,8 @@ use Rattle.wtf8_core.proofs.lemmas.Utf8Lemmas.{no_char}
 use Rattle.wtf8_core.proofs.lemmas.Characters.{none_at}
 use Rattle.std.specs.Char.{encode_utf8}
 use Rattle.wtf8_core.specs.Covered.{StartsBare}
-use Rattle.platform_str.specs.Laws.{PlatformLaws}
-use Rattle.platform_str.specs.Lossy.{IsLeft}
+use Rattle.platform_str.specs.Laws.{PlatformLaws, IsReplaced}
+use Rattle.platform_str.specs.Lossy.{IsLeft, IsFirstText}
 
 -- no whole character starts at a fault
 pub bare_at : {b behind : List ℕ} {n : ℕ} → behind ≡ drop n b → IsValidUpTo b n → StartsBare behind
@@ -19,39 +20,39 @@ some_at : {b behind : List ℕ} {n : ℕ} → behind ≡ drop n b → IsValidUpT
 some_at {b} {behind} {n} e v = let s = v.short in omega (arith, length-drop n b, ap length e)
 
 -- as std encodes it
-encode_fffd : encode_utf8 0xFFFD ≡ replacement
+pub encode_fffd : encode_utf8 0xFFFD ≡ replacement
 unfolding encode_utf8
 encode_fffd = refl
 
 module _ {first_fault : List ℕ → EncodingError → Type 0} {well_formed : List ℕ → Type 0} {units : List ℕ → List ℕ} {is_unit_list io_safe : List ℕ → Type 0} {lossy : List ℕ → List ℕ} {replaces : List ℕ → ℕ → Type 0} (laws : PlatformLaws first_fault well_formed units is_unit_list io_safe lossy replaces) where
-  -- behind the text at the front of the rest, one U+FFFD stands for the first m bytes
-  pub record Step (all made rest behind : List ℕ) (n m : ℕ) : Type 0 where
-    pub some : 0 < m
-    pub within : m ≤ length behind
-    pub left : IsLeft well_formed lossy all ((made ++ take n rest) ++ replacement) (drop m behind)
+  -- behind the text at the front, one U+FFFD stands for the first m bytes
+  pub first_part : {bytes behind : List ℕ} {n m : ℕ} → behind ≡ drop n bytes → IsValidUpTo bytes n → well_formed bytes → replaces behind m → IsReplaced well_formed lossy behind m
+  first_part {bytes} {behind} {n} {m} e v w r =
+      laws.lossy_step behind m (subst well_formed (sym e) (laws.behind_text bytes n w v.front)) (some_at e v) (bare_at e v) r
 
-  pub step : {all made rest behind : List ℕ} {n m : ℕ} → behind ≡ drop n rest → IsValidUpTo rest n → IsLeft well_formed lossy all made rest → replaces behind m → Step all made rest behind n m
-  step {all} {made} {rest} {behind} {n} {m} e v i r =
-      let f : well_formed behind = subst well_formed (sym e) (laws.behind_text rest n i.rest_is v.front) in
-      let p = laws.lossy_step behind m f (some_at e v) (bare_at e v) r in
+  pub first_text : {bytes front behind rest : List ℕ} {n m : ℕ} → front ≡ take n bytes → behind ≡ drop n bytes → rest ≡ drop m behind → IsValidUpTo bytes n → well_formed bytes → replaces behind m → IsFirstText well_formed lossy bytes front rest
+  first_text {bytes} {front} {behind} {rest} {n} {m} t e d v w r =
+      let p = first_part e v w r in
+      let s = v.short in
       record {
-        some = p.some;
-        within = p.within;
-        left = record {
-          rest_is = p.behind;
-          lossy_is = i.lossy_is ∙ ap (λ x. made ++ x) (laws.lossy_front rest n i.rest_is v ∙ ap (λ x. take n rest ++ lossy x) (sym e) ∙ ap (λ x. take n rest ++ x) p.lossy_is)
-              ∙ sym (append_assoc made (take n rest) (replacement ++ lossy (drop m behind))) ∙ sym (append_assoc (made ++ take n rest) replacement (lossy (drop m behind)));
-        };
+        rest_is = subst well_formed (sym d) p.behind;
+        lossy_is = laws.lossy_front bytes n w v
+            ∙ ap (λ x. take n bytes ++ lossy x) (sym e)
+            ∙ ap (λ x. take n bytes ++ x) (p.lossy_is ∙ ap (λ x. replacement ++ lossy x) (sym d))
+            ∙ ap (λ x. x ++ (replacement ++ lossy rest)) (sym t);
+        shorter = omega (arith, s, p.some, p.within, ap length t, length-take-le n bytes (omega (arith, s)), ap length e, length-drop n bytes, ap length d, length-drop m behind);
       }
 
-  -- the same, of the slices and the text that the loop has
-  pub next : {all made front behind left rest text after : List ℕ} {n m : ℕ} → behind ≡ drop n rest → front ≡ take n rest → left ≡ drop m behind → text ≡ made ++ front → after ≡ text ++ encode_utf8 0xFFFD
-      → IsValidUpTo rest n → IsLeft well_formed lossy all made rest → replaces behind m → IsLeft well_formed lossy all after left
-  next {all} {made} {front} {behind} {left} {rest} {text} {after} {n} {m} e f l t a v i r =
-      let s = (step e v i r).left in
-      let made_is : after ≡ (made ++ take n rest) ++ replacement = a ∙ ap (λ x. x ++ encode_utf8 0xFFFD) (t ∙ ap (λ x. made ++ x) f) ∙ ap (λ x. (made ++ take n rest) ++ x) encode_fffd in
-      record { rest_is = subst well_formed (sym l) s.rest_is; lossy_is = s.lossy_is ∙ ap (λ x. x ++ lossy (drop m behind)) (sym made_is) ∙ ap (λ x. after ++ lossy x) (sym l) }
+-- one more text and one U+FFFD are made
+pub made_more : {well_formed : List ℕ → Type 0} {lossy : List ℕ → List ℕ} {all made front rest behind : List ℕ} → IsLeft well_formed lossy all made rest → IsFirstText well_formed lossy rest front behind
+    → IsLeft well_formed lossy all ((made ++ front) ++ replacement) behind
+made_more {lossy = lossy} {made = made} {front = front} {behind = behind} i f = record {
+  rest_is = f.rest_is;
+  lossy_is = i.lossy_is ∙ ap (λ x. made ++ x) f.lossy_is ∙ sym (append_assoc made front (replacement ++ lossy behind)) ∙ sym (append_assoc (made ++ front) replacement (lossy behind));
+}
 
--- the rest becomes shorter
-pub shorter : {behind left rest : List ℕ} {n m : ℕ} → behind ≡ drop n rest → left ≡ drop m behind → 0 < m → IsValidUpTo rest n → length left < length rest
-shorter {behind} {left} {rest} {n} {m} e l p v = let s = v.short in omega (arith, ap length l, ap length e, length-drop m behind, length-drop n rest)
+-- the same of the text that the loop has
+pub next : {well_formed : List ℕ → Type 0} {lossy : List ℕ → List ℕ} {all made front rest text after behind : List ℕ} → IsLeft well_formed lossy all made rest → IsFirstText well_formed lossy rest front behind
+    → text ≡ made ++ front → after ≡ text ++ encode_utf8 0xFFFD → IsLeft well_formed lossy all after behind
+next {well_formed} {lossy} {all} {made} {front} {rest} {text} {after} {behind} i f t a =
+    subst (λ x. IsLeft well_formed lossy all x behind) (sym (a ∙ ap (λ x. x ++ encode_utf8 0xFFFD) t ∙ ap (λ x. (made ++ front) ++ x) encode_fffd)) (made_more i f)

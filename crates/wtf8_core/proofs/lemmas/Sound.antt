@@ -111,7 +111,7 @@ either bs a =
     r.stop
 
 -- what is refused has a byte
-refused_some : (last : ℕ) (refused rest : List ℕ) (f : EncodingError) → IsRefused last refused rest f → 0 < length refused
+pub refused_some : (last : ℕ) (refused rest : List ℕ) (f : EncodingError) → IsRefused last refused rest f → 0 < length refused
 refused_some last refused rest (Byte x) (inl s) = let e = ap length s.is in omega arith
 refused_some last refused rest (Byte x) (inr s) = let e = ap length s.begun.is in omega arith
 refused_some last refused rest End s = let e = ap length s.0.is in omega arith

@@ -1,0 +1,21 @@
+use Rattle.std.proofs.Common.{ℕ, ◌-◌, ◌++◌, true, refl, sym, ap, ◌∙◌}
+use Rattle.std.specs.Char.{encode_utf8}
+use Rattle.std.specs.List.{repeat}
+use Rattle.std.specs.Option.{unwrap_or}
+use Rattle.std.specs.Fmt.{char_count, formatter_spec, spec_align, spec_fill, spec_width}
+use Rattle.std.proofs.Output.{has_written_styled_append, has_written_styled_of_eq}
+use Rattle.platform_str.specs.Display.{fill_before, filled}
+use Rattle.platform_str.proofs.lemmas.Displays.{filled_by}
+use Rattle.platform_str.proofs.display.OsStrDisplayDisplay.fmt.Goals as goal
+
+pub returns-in_ok-write_text-in-Some-clause-styled : goal.returns-in_ok-write_text-in-Some-clause-styled
+returns-in_ok-write_text-in-Some-clause-styled g c = λ flush ok.
+    let spec = formatter_spec c.args.f.now in
+    let before = c.in_ok-write_fill-in-Some.ensures flush (refl {a = true}) in
+    let text = c.in_ok-write_text-in-Some.ensures before.flush (refl {a = true}) in
+    let behind = c.write_fill-in-Some.ensures text.flush ok in
+    let all = has_written_styled_append _ _ _ _ _ _ before (has_written_styled_append _ _ _ _ _ _ text behind) in
+    has_written_styled_of_eq _ _ _ _ _
+    (filled_by (spec_fill spec) _ (spec_align spec) (spec_width spec) _ _ _ _ _ _
+    (ap spec_fill (text.spec ∙ before.spec)) (sym c.in-Some.ensures.value) c.lossy_chars.ensures (ap g.E.Platform.lossy c.as_encoded_bytes-encoded.ensures.value) c.saturating_sub-padding.ensures (c.fill_before-before.ensures.value ∙ ap (λ a. fill_before a c.saturating_sub-padding.result) c.align.ensures))
+    all

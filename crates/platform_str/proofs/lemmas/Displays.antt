@@ -1,0 +1,92 @@
+-- Characters of lossy texts, and texts that are filled.
+use Rattle.std.proofs.Common.{◌≡◌, ℕ, ◌+◌, ◌-◌, ◌≤◌, List, [], ◌∷◌, ◌++◌, length, cond, Option, Some, None, refl, sym, ap, ◌∙◌, arith, append_assoc, unwrap_or}
+use Rattle.std.proofs.lemmas.List.{append-nil}
+use Rattle.std.specs.Char.{encode_utf8}
+use Rattle.std.specs.List.{repeat}
+use Rattle.std.specs.Fmt.{is_char_start, char_count}
+use Rattle.std.specs.declared.fmt.Alignment.{Alignment}
+use Rattle.std.specs.declared.fmt.Alignment.TheVariants.{Left, Right, Center}
+use Rattle.wtf8_core.specs.Lossy.{replacement}
+use Rattle.platform_str.specs.Lossy.{IsFirstText}
+use Rattle.platform_str.proofs.lemmas.LossyLoops.{encode_fffd}
+use Rattle.platform_str.specs.Display.{fill_before, filled}
+
+count_none : (text : List ℕ) → length text ≡ 0 → char_count text ≡ 0
+unfolding char_count
+count_none [] e = refl
+count_none (x ∷ text) e = absurd (omega arith)
+
+count_more : (x : ℕ) (text : List ℕ) → char_count (x ∷ text) ≡ cond (is_char_start x) 1 0 + char_count text
+unfolding char_count
+count_more x text = refl
+
+-- a byte more is counted, or not
+pub counted : (count n : ℕ) (all rest behind : List ℕ) (x : ℕ) → rest ≡ x ∷ behind → n ≡ count + cond (is_char_start x) 1 0 → n ≤ count + 1
+    → (count + char_count rest ≡ char_count all) × (count + length rest ≤ length all) → (n + char_count behind ≡ char_count all) × (n + length behind ≤ length all)
+counted count n all rest behind x e k m i =
+    let c = ap char_count e ∙ count_more x behind in
+    let l = ap length e in
+    let total = i.0 in
+    let room = i.1 in
+    (omega arith, omega arith)
+
+pub all_counted : (count : ℕ) (all rest : List ℕ) → length rest ≡ 0 → count + char_count rest ≡ char_count all → count ≡ char_count all
+all_counted count all rest e i = let c = count_none rest e in omega arith
+
+pub count_append : (a b : List ℕ) → char_count (a ++ b) ≡ char_count a + char_count b
+unfolding char_count
+count_append [] b = omega arith
+count_append (x ∷ a) b = ap (λ n. cond (is_char_start x) 1 0 + n) (count_append a b) ∙ omega arith
+
+pub count_replacement : char_count replacement ≡ 1
+unfolding char_count
+count_replacement = refl
+
+-- no padding has no front
+none_before : (align : Option Alignment) → fill_before align 0 ≡ 0
+none_before None = refl
+none_before (Some Left) = refl
+none_before (Some Center) = refl
+none_before (Some Right) = refl
+
+-- the text with so much padding
+abbrev by_padding : ℕ → Option Alignment → List ℕ → ℕ → List ℕ
+by_padding fill align text padding = repeat (fill_before align padding) (encode_utf8 fill) ++ (text ++ repeat (padding - fill_before align padding) (encode_utf8 fill))
+
+no_padding : (n : ℕ) → 0 - n ≡ 0
+no_padding n = omega arith
+
+-- where no width is asked for, nothing is filled
+pub filled_none : (fill : ℕ) (align : Option Alignment) (width : Option ℕ) (text : List ℕ) → width ≡ None → filled fill align width text ≡ text
+filled_none fill align width text e =
+    ap (λ w. filled fill align w text) e
+    ∙ ap (by_padding fill align text) (no_padding (char_count text))
+    ∙ ap (λ before. repeat before (encode_utf8 fill) ++ (text ++ repeat (0 - before) (encode_utf8 fill))) (none_before align)
+    ∙ append-nil text
+
+-- what is written by parts, where a width is asked for
+pub filled_by : (fill later : ℕ) (align : Option Alignment) (width : Option ℕ) (asked count padding before : ℕ) (text written : List ℕ) → later ≡ fill → width ≡ Some asked → count ≡ char_count written → written ≡ text → padding ≡ asked - count → before ≡ fill_before align padding
+    → repeat before (encode_utf8 fill) ++ (written ++ repeat (padding - before) (encode_utf8 later)) ≡ filled fill align width text
+filled_by fill later align width asked count padding before text written l w c t p b =
+    let same : padding ≡ unwrap_or width 0 - char_count text = p ∙ ap (λ n. asked - n) (c ∙ ap char_count t) ∙ ap (λ o. unwrap_or o 0 - char_count text) (sym w) in
+    ap (λ z. repeat before (encode_utf8 fill) ++ (written ++ repeat (padding - before) (encode_utf8 z))) l
+    ∙ ap (λ x. repeat before (encode_utf8 fill) ++ (x ++ repeat (padding - before) (encode_utf8 fill))) t
+    ∙ ap (λ n. repeat n (encode_utf8 fill) ++ (text ++ repeat (padding - n) (encode_utf8 fill))) b
+    ∙ ap (by_padding fill align text) same
+
+module _ {well_formed : List ℕ → Type 0} {lossy : List ℕ → List ℕ} {bytes front rest : List ℕ} (f : IsFirstText well_formed lossy bytes front rest) where
+  -- the characters up to the rest, and one for what is no text
+  pub count_first : char_count (lossy bytes) ≡ (char_count front + 1) + char_count (lossy rest)
+  count_first =
+      let all = ap char_count f.lossy_is ∙ count_append front (replacement ++ lossy rest) in
+      let behind = count_append replacement (lossy rest) in
+      omega (arith, count_replacement)
+
+  -- what is written, with the text and U+FFFD behind it
+  pub write_first : (done all : List ℕ) → done ++ lossy bytes ≡ all → ((done ++ front) ++ encode_utf8 0xFFFD) ++ lossy rest ≡ all
+  write_first done all e =
+      append_assoc (done ++ front) (encode_utf8 0xFFFD) (lossy rest)
+      ∙ append_assoc done front (encode_utf8 0xFFFD ++ lossy rest)
+      ∙ ap (λ x. done ++ (front ++ (x ++ lossy rest))) encode_fffd
+      ∙ ap (λ x. done ++ x) (sym f.lossy_is)
+      ∙ e

@@ -1,0 +1,58 @@
+-- One step of the loop over the faults of bytes that aren't WTF-8.
+use Rattle.std.proofs.Common.{◌≡◌, ℕ, ◌<◌, ◌≤◌, List, ◌++◌, length, take, drop, refl, sym, ap, ◌∙◌, subst, arith, append_assoc, length-append, length-drop}
+use Rattle.std.proofs.lemmas.List.{take_at, drop_at}
+use Rattle.wtf8_core.specs.Wtf8.{IsWtf8}
+use Rattle.wtf8_core.specs.Fault.{IsFaultAt}
+use Rattle.wtf8_core.specs.Lossy.{replacement}
+use Rattle.wtf8_core.specs.LossyReading.{IsLossyReading}
+use Rattle.wtf8_core.specs.LossyReading.IsLossyReading.{formed, replaced}
+use Rattle.wtf8_core.proofs.lemmas.LossyReadings.{reading_wtf8}
+use Rattle.wtf8_core.proofs.lemmas.Sound.{refused_some}
+use Rattle.platform_str.specs.Lossy.{IsLeftToRead}
+
+module _ {rest : List ℕ} {v n : ℕ} (f : IsFaultAt rest v n) where
+  front_is : take v rest ≡ f.first.before
+  front_is = ap (take v) f.first.joined ∙ take_at f.first.before f.first.from v (sym f.valid_is)
+
+  faulty_is : drop v rest ≡ f.first.from
+  faulty_is = ap (drop v) f.first.joined ∙ drop_at f.first.before f.first.from v (sym f.valid_is)
+
+  behind_is : drop n (drop v rest) ≡ f.first.begins.rest
+  behind_is = ap (drop n) (faulty_is ∙ f.first.begins.is) ∙ drop_at f.first.begins.refused f.first.begins.rest n (sym f.refused_is)
+
+  -- the place and the part lie within the bytes
+  pub place_fits : v ≤ length rest
+  place_fits = let all = ap length f.first.joined ∙ length-append f.first.before f.first.from in omega (arith, f.valid_is)
+
+  pub part_fits : {faulty : List ℕ} → faulty ≡ drop v rest → n ≤ length faulty
+  part_fits e =
+      let all = ap length (e ∙ faulty_is ∙ f.first.begins.is) ∙ length-append f.first.begins.refused f.first.begins.rest in
+      omega (arith, f.refused_is)
+
+  -- what is left becomes shorter
+  pub less_left : {faulty behind : List ℕ} → faulty ≡ drop v rest → behind ≡ drop n faulty → length behind < length rest
+  less_left e d =
+      let some = refused_some _ _ _ _ f.first.begins.refusal in
+      let place = ap length e ∙ length-drop v rest in
+      let part = ap length d ∙ length-drop n _ in
+      let fits = part_fits e in
+      omega (arith, f.refused_is, place_fits)
+
+  -- the front and one U+FFFD are made, and what follows the part is left
+  pub read_part : (all made : List ℕ) {front faulty behind once twice : List ℕ} → IsLeftToRead all made rest → front ≡ take v rest → faulty ≡ drop v rest → behind ≡ drop n faulty
+      → once ≡ made ++ front → twice ≡ once ++ replacement → IsLeftToRead all twice behind
+  read_part all made {front} {faulty} {behind} {once} {twice} left a b d o t later r =
+      let front_first : IsLossyReading rest (f.first.before ++ (replacement ++ later)) =
+      replaced f.first (subst (λ x. IsLossyReading x later) (d ∙ ap (drop n) b ∙ behind_is) r) in
+      let made_is : twice ++ later ≡ made ++ (f.first.before ++ (replacement ++ later)) =
+      ap (λ x. x ++ later) (t ∙ ap (λ x. x ++ replacement) (o ∙ ap (λ x. made ++ x) (a ∙ front_is)))
+      ∙ append_assoc (made ++ f.first.before) replacement later
+      ∙ append_assoc made f.first.before (replacement ++ later) in
+      subst (IsLossyReading all) (sym made_is) (left (f.first.before ++ (replacement ++ later)) front_first)
+
+-- where the rest is WTF-8, all is read
+pub read_end : (all made : List ℕ) {rest once : List ℕ} → IsLeftToRead all made rest → IsWtf8 rest → once ≡ made ++ rest → IsLossyReading all once
+read_end all made {rest} {once} left w o = subst (IsLossyReading all) (sym o) (left rest (formed w))
+
+pub read_end_wtf8 : (all made : List ℕ) {rest once : List ℕ} → IsLeftToRead all made rest → IsWtf8 rest → once ≡ made ++ rest → IsWtf8 once
+read_end_wtf8 all made left w o = reading_wtf8 all _ (read_end all made left w o)

@@ -1,0 +1,30 @@
+-- What `{}` writes of a string, and how it is filled to a width (std's `Display` of an `OsStr`, as it is on Unix).
+use Rattle.std.specs.Prelude.{ℕ, ◌-◌, ◌/◌, List, ◌++◌, Option, Some, None}
+use Rattle.std.specs.Option.{unwrap_or}
+use Rattle.std.specs.Char.{encode_utf8}
+use Rattle.std.specs.List.{repeat}
+use Rattle.std.specs.Fmt.{char_count}
+use Rattle.std.specs.declared.fmt.Alignment.{Alignment}
+use Rattle.std.specs.declared.fmt.Alignment.TheVariants.{Left, Right, Center}
+use Rattle.platform_str.specs.declared.platform.Platform.{Ghosts}
+use Rattle.platform_str.specs.declared.display.OsStrDisplay.{OsStrDisplay}
+use Rattle.platform_str.specs.Strings.{bytes}
+
+module _ {E : Type 0} {P : Ghosts E} where
+  -- the bytes of the string that is shown
+  abbrev pub shown_bytes : OsStrDisplay E P → List ℕ
+  shown_bytes shown = bytes shown.string
+
+-- how much of the padding stands before the text: none where no side is asked for
+abbrev pub fill_before : Option Alignment → ℕ → ℕ
+fill_before None padding = 0
+fill_before (Some Left) padding = 0
+fill_before (Some Center) padding = padding / 2
+fill_before (Some Right) padding = padding
+
+-- the text, filled to a width with a character
+abbrev pub filled : ℕ → Option Alignment → Option ℕ → List ℕ → List ℕ
+filled fill align width text =
+    let padding = unwrap_or width 0 - char_count text in
+    let before = fill_before align padding in
+    repeat before (encode_utf8 fill) ++ (text ++ repeat (padding - before) (encode_utf8 fill))

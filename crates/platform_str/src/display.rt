@@ -1,0 +1,133 @@
+//! Strings as texts to be printed, written piece by piece.
+ghost use Rattle.std.specs.Prelude.{◌≡◌, ◌≤◌, length};
+ghost use Rattle.std.specs.Char.{encode_utf8};
+ghost use Rattle.std.specs.List.{repeat};
+ghost use Rattle.std.specs.Fmt.{WritesStyledOnOk, char_count, formatter_spec, is_char_start, spec_fill};
+ghost use Rattle.platform_str.specs.Display.{fill_before};
+ghost use Rattle.platform_str.specs.Strings.{bytes};
+
+use crate::lossy::first_text;
+use crate::os_str::OsStr;
+use crate::platform::Platform;
+use std::fmt;
+
+/// The lossy text of a string, to be printed (std's `std::ffi::os_str::Display`).
+///
+/// `OsStr::display` and its kin make it. `{}` writes the lossy text piece by piece: each text
+/// between what is no text as it stands there, and U+FFFD for each part that is none. That takes no
+/// memory. A width counts characters, U+FFFD as one, and fills as that of std's on Unix does:
+/// behind the text, where no side is asked for. A precision cuts nothing.
+///
+/// Of the Unix string of the bytes 61 E2 82 41 (hexadecimal) `{}` writes "a\u{FFFD}A".
+#[derive(Drop)]
+pub struct OsStrDisplay<'a, E: Platform + 'a> {
+    string: OsStr<'a, E>,
+}
+
+impl<'a, E: Platform> OsStrDisplay<'a, E> {
+    ghost use Rattle.platform_str.specs.Display.{shown_bytes};
+
+    /// The lossy text of this string.
+    pub(crate) fn new(string: OsStr<'a, E>) -> Self
+        ensures { shown_bytes result ≡ bytes string.entry }
+    {
+        OsStrDisplay { string }
+    }
+}
+
+impl<'a, E: Platform> fmt::Display for OsStrDisplay<'a, E> {
+    ghost use Rattle.std.specs.Prelude.{Some};
+    ghost use Rattle.std.specs.Fmt.{spec_fill, spec_align, spec_width};
+    ghost use Rattle.platform_str.specs.Display.{shown_bytes, filled};
+
+    ghost output = { λ shown. Some (E.lossy (shown_bytes shown)) };
+
+    ghost styled_output = { λ shown spec. Some (filled (spec_fill spec) (spec_align spec) (spec_width spec) (E.lossy (shown_bytes shown))) };
+
+    fn fmt<W: fmt::Write>(&self, f: &mut fmt::Formatter<W>) -> fmt::Result {
+        let encoded = self.string.as_encoded_bytes();
+        match f.width() {
+            None => write_text::<E, W>(encoded, f),
+            Some(width) => {
+                let padding = width.saturating_sub(lossy_chars::<E>(encoded));
+                let before = fill_before(f.align(), padding);
+                write_fill(before, f)?;
+                write_text::<E, W>(encoded, f)?;
+                write_fill(padding - before, f)
+            }
+        }
+    }
+}
+
+/// How much of the padding stands before the text.
+fn fill_before(align: Option<fmt::Alignment>, padding: usize) -> usize
+    ensures value { result ≡ fill_before align padding }
+    ensures within { result ≤ padding }
+{
+    match align {
+        Some(fmt::Alignment::Right) => padding,
+        Some(fmt::Alignment::Center) => padding / 2,
+        Some(fmt::Alignment::Left) => 0,
+        None => 0,
+    }
+}
+
+/// Writes the character that fills, so many times.
+fn write_fill<W: fmt::Write>(count: usize, f: &mut fmt::Formatter<W>) -> fmt::Result
+    ensures { WritesStyledOnOk W.write_str_gives f.old result (repeat count (encode_utf8 (spec_fill (formatter_spec f.old)))) f.new }
+{
+    let mut buffer = [0; 4];
+    let fill = f.fill().encode_utf8(&mut buffer);
+    f.write_repeated(fill, count)
+}
+
+/// Writes the lossy text of a string's bytes.
+fn write_text<E: Platform, W: fmt::Write>(encoded: &[u8], f: &mut fmt::Formatter<W>) -> fmt::Result
+    requires { E.well_formed encoded.now }
+    ensures { WritesStyledOnOk W.write_str_gives f.old result (E.lossy encoded.now) f.new }
+{
+    let mut rest = encoded;
+    while let Some((front, behind)) = first_text::<E>(rest) {
+        f.write_str(front)?;
+        f.write_char('\u{FFFD}')?;
+        rest = behind;
+    }
+    f.write_str(unsafe { str::from_utf8_unchecked(rest) })
+}
+
+/// How many characters the lossy text of a string's bytes has.
+fn lossy_chars<E: Platform>(encoded: &[u8]) -> usize
+    requires { E.well_formed encoded.now }
+    ensures { result ≡ char_count (E.lossy encoded.now) }
+{
+    let mut count = 0;
+    let mut rest = encoded;
+    while let Some((front, behind)) = first_text::<E>(rest) {
+        count += chars(front.as_bytes()) + 1;
+        rest = behind;
+    }
+    count + chars(rest)
+}
+
+/// How many characters a text has.
+fn chars(text: &[u8]) -> usize
+    ensures value { result ≡ char_count text.now }
+    ensures few { result ≤ length text.now }
+{
+    let mut count = 0;
+    let mut rest = text;
+    while let Some((first, behind)) = rest.split_first() {
+        if is_char_start(*first) {
+            count += 1;
+        }
+        rest = behind;
+    }
+    count
+}
+
+/// Whether a byte of a text begins a character.
+fn is_char_start(byte: u8) -> bool
+    ensures { result ≡ is_char_start byte }
+{
+    byte < 0x80 || byte >= 0xC0
+}
