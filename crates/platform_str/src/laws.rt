@@ -14,6 +14,7 @@ ghost use Rattle.wtf8_core.specs.UnitPlace.{IsBytePlace};
 ghost use Rattle.wtf8_core.specs.Join.{IsJoin};
 ghost use Rattle.wtf8_core.specs.declared.fault.EncodingError.{EncodingError};
 ghost use Rattle.platform_str.specs.Laws.{IsReplaced};
+ghost use Rattle.platform_str.specs.Platforms.{AreWideUnits};
 ghost use Rattle.platform_str.specs.Strings.{bytes, string_vec_of};
 
 use crate::os_str::OsStr;
@@ -73,10 +74,12 @@ pub fn cuts<E: Platform>()
 
 /// In a string without whole characters each unit's bytes are its own: that one byte for a unit
 /// below 100 (hexadecimal), else its form. On Unix such units are at least 80, on Windows they
-/// are surrogates with no high one directly before a low one, on wasm there are none.
+/// are surrogates with no high one directly before a low one, on wasm there are none. A unit has
+/// at most 16 bits.
 pub fn parts<E: Platform>()
     ensures spelled { (b : List ℕ) → E.well_formed b → IsBare b → b ≡ flat_map unit_bytes (E.units b) }
     ensures units { (b : List ℕ) → E.well_formed b → IsBare b → E.part_units (E.units b) }
+    ensures wide { (b : List ℕ) → E.well_formed b → IsBare b → AreWideUnits (E.units b) }
 {}
 
 /// A text that isn't empty stands in a string at a byte place exactly where its units stand at a
