@@ -1,0 +1,9 @@
+use Rattle.os_quote.specs.Item.{item_texts}
+use Rattle.os_quote.specs.Escape.{items_of}
+use Rattle.os_quote.specs.Escaped.{escaped_text}
+use Rattle.os_quote.proofs.lemmas.Writing.{WritesRest}
+use Rattle.os_quote.proofs.display.EscapedDisplay.fmt.Given as goal
+
+abbrev pub invariant-loop-part : goal.invariant-loop-part
+invariant-loop-part g l =
+    WritesRest g.W.Write.write_str_gives l.fn.f l.f (item_texts (items_of g.E.Platform.units l.part-iterator)) (escaped_text l.fn.self)

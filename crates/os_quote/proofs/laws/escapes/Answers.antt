@@ -1,0 +1,20 @@
+use Rattle.os_quote.proofs.lemmas.Chunks.{are_chunks_of}
+use Rattle.os_quote.proofs.lemmas.Escapes.{some_escape, one_escape, one_string}
+use Rattle.os_quote.proofs.lemmas.Readings.{escape_is_text}
+use Rattle.os_quote.proofs.laws.escapes.Goals as goal
+
+pub returns-clause-some : goal.returns-clause-some
+returns-clause-some g c = λ s w. some_escape g.E.Platform.units s
+
+pub returns-clause-one_escape : goal.returns-clause-one_escape
+returns-clause-one_escape g c = one_escape g.E.Platform.units
+
+pub returns-clause-utf8 : goal.returns-clause-utf8
+returns-clause-utf8 g c =
+    let laws = g.met.E.Platform.laws in
+    escape_is_text g.E.Platform.well_formed g.E.Platform.units g.E.Platform.part_units g.met.E.Platform.parts (are_chunks_of g.E.Platform.well_formed laws.cut_front laws.cut_back)
+
+pub returns-clause-one_string : goal.returns-clause-one_string
+returns-clause-one_string g c =
+    let laws = g.met.E.Platform.laws in
+    one_string g.E.Platform.well_formed g.E.Platform.units g.E.Platform.part_units g.met.E.Platform.parts (are_chunks_of g.E.Platform.well_formed laws.cut_front laws.cut_back)

@@ -1,0 +1,118 @@
+-- Texts: the backslashes in them, and the items of their characters.
+use Rattle.std.proofs.Common.{◌≡◌, ◌≢◌, ⊎_elim, ℕ, zero, suc, ◌+◌, ◌<◌, true, List, [], ◌∷◌, ◌++◌, map, length, take, drop, get_or, refl, sym, ap, ◌∙◌, subst, arith, append_assoc, take-append-drop, length-append}
+use Rattle.std.specs.Char.{IsScalar, encode_utf8}
+use Rattle.std.specs.List.{AllByRecursion, flat_map}
+use Rattle.std.specs.Str.{IsUtf8, IsCharBoundary, chars, all_scalars, encode_utf8_all}
+use Rattle.std.proofs.lemmas.Bool.{and_parts, cases_eq, ne_eqb, eq-eqb, eqb-true}
+use Rattle.std.proofs.lemmas.List.{drop_more, take_at, drop_at}
+use Rattle.std.proofs.lemmas.Str.{IsCharBoundary-after_ascii, IsCharBoundary-from_take, IsUtf8-drop, encode_ascii, chars-append, chars_past_char, encodes-chars, scalars-chars}
+use Rattle.std.proofs.Math.Utf8.{scalar}
+use Rattle.memchr.specs.Find.{Nowhere, NoneBefore, Passes, is_byte}
+use Rattle.os_quote.specs.Item.{Item, backslash, item_text, item_texts, IsItem, character_item}
+use Rattle.os_quote.specs.Reading.{HasNoBackslash, item_bytes}
+
+-- the test of the search for a backslash
+abbrev pub IsPlace : List ℕ → ℕ → Type 0
+IsPlace t = Passes (is_byte backslash) t
+
+no_place : (x : ℕ) → ¬ (is_byte backslash x ≡ true) → x ≢ backslash
+no_place x n e = n (eq-eqb x backslash e)
+
+none_from : (t : List ℕ) (n : ℕ) → ((k : ℕ) → k < n → ¬ (is_byte backslash (get_or t k 0) ≡ true)) → HasNoBackslash (take n t)
+none_from [] zero h = tt
+none_from [] (suc n) h = tt
+none_from (x ∷ t) zero h = tt
+none_from (x ∷ t) (suc n) h = (no_place x (h 0 (omega arith)), none_from t n (λ k lt. h (suc k) (omega arith)))
+
+-- where the search finds no backslash there is none
+pub no_backslash : (t : List ℕ) → Nowhere (IsPlace t) 0 (length t) → HasNoBackslash t
+no_backslash t h = all t (λ k lt. h k (omega arith) lt)
+  where
+    all : (xs : List ℕ) → ((k : ℕ) → k < length xs → ¬ (is_byte backslash (get_or xs k 0) ≡ true)) → HasNoBackslash xs
+    all [] h = tt
+    all (x ∷ xs) h = (no_place x (h 0 (omega arith)), all xs (λ k lt. h (suc k) (omega arith)))
+
+-- where it finds one, that is the first, and the text may be cut behind it
+pub record IsFirstBackslash (t : List ℕ) (i : ℕ) : Type 0 where
+  pub none_before : HasNoBackslash (take i t)
+  pub joined : t ≡ take i t ++ backslash ∷ drop (i + 1) t
+  pub cut : IsCharBoundary t (i + 1)
+
+pub first_backslash : (t : List ℕ) (i : ℕ) → IsUtf8 t → NoneBefore (IsPlace t) 0 (length t) i × IsPlace t i → IsFirstBackslash t i
+first_backslash t i u h =
+    let e : get_or t i 0 ≡ backslash = eqb-true _ _ h.1 in record {
+      none_before = none_from t i (λ k lt. h.0.before k (omega arith) lt);
+      joined = sym (take-append-drop i t) ∙ ap (λ x. take i t ++ x) (drop_more t i 0 h.0.high ∙ ap (λ x. x ∷ drop (i + 1) t) e);
+      cut = IsCharBoundary-after_ascii t i u h.0.high (omega (arith, e));
+    }
+
+-- an ASCII character in front
+slash_in_front : (behind : List ℕ) → backslash ∷ behind ≡ encode_utf8 backslash ++ behind
+slash_in_front behind = ap (λ x. x ++ behind) (sym (encode_ascii backslash (omega arith)))
+
+-- what follows a text within a text is one
+pub text_behind : (x y : List ℕ) → IsUtf8 x → IsUtf8 (x ++ y) → IsUtf8 y
+text_behind x y u v =
+    subst IsUtf8 (drop_at x y (length x) refl) (IsUtf8-drop (x ++ y) (length x) v (IsCharBoundary-from_take (x ++ y) (length x) v (omega (arith, length-append x y)) (subst IsUtf8 (sym (take_at x y (length x) refl)) u)))
+
+pub slash_behind : (front behind : List ℕ) → IsUtf8 front → IsUtf8 (front ++ backslash ∷ behind) → IsUtf8 (backslash ∷ behind)
+slash_behind front behind u v = text_behind front (backslash ∷ behind) u v
+
+-- a character's item is one, and stands for the character
+character_is_item : (c : ℕ) → IsScalar c → IsItem (character_item c) × (item_bytes (character_item c) ≡ encode_utf8 c)
+character_is_item c h =
+    ⊎_elim
+    (λ (e : c ≡ backslash). let P : ℕ → Type 0 = λ x. IsItem (character_item x) × (item_bytes (character_item x) ≡ encode_utf8 x) in subst P (sym e) (tt, sym (encode_ascii backslash (omega arith))))
+    (λ (n : c ≢ backslash). rw (ne_eqb c backslash n) ((h, n), refl))
+    (cases_eq c backslash)
+
+characters_are_items : (cs : List ℕ) → all_scalars cs ≡ true → AllByRecursion IsItem (map character_item cs) × (flat_map item_bytes (map character_item cs) ≡ encode_utf8_all cs)
+characters_are_items [] s = (tt, refl)
+characters_are_items (c ∷ cs) s =
+    let both = and_parts (scalar c) _ s in
+    let i = character_is_item c both.0 in
+    let more = characters_are_items cs both.1 in
+    ((i.0, more.0), ap (λ x. x ++ flat_map item_bytes (map character_item cs)) i.1 ∙ ap (λ x. encode_utf8 c ++ x) more.1)
+
+-- the items of a text's characters, and their texts
+abbrev pub text_items : List ℕ → List Item
+text_items t = map character_item (chars t)
+
+abbrev pub text_escape : List ℕ → List ℕ
+text_escape t = item_texts (text_items t)
+
+pub text_is_items : (t : List ℕ) → IsUtf8 t → AllByRecursion IsItem (text_items t) × (flat_map item_bytes (text_items t) ≡ t)
+text_is_items t u = let r = characters_are_items (chars t) (scalars-chars t u) in (r.0, r.1 ∙ encodes-chars t u)
+
+-- a text without a backslash is its own escape
+front_of : (xs ys : List ℕ) → HasNoBackslash (xs ++ ys) → HasNoBackslash xs × HasNoBackslash ys
+front_of [] ys h = (tt, h)
+front_of (x ∷ xs) ys h = let more = front_of xs ys h.1 in ((h.0, more.0), more.1)
+
+own_characters : (cs : List ℕ) → HasNoBackslash (encode_utf8_all cs) → item_texts (map character_item cs) ≡ encode_utf8_all cs
+own_characters [] h = refl
+own_characters (c ∷ cs) h =
+    let both = front_of (encode_utf8 c) (encode_utf8_all cs) h in
+    let n : c ≢ backslash = λ e. (subst HasNoBackslash (ap encode_utf8 e ∙ encode_ascii backslash (omega arith)) both.0).0 refl in
+    rw (ne_eqb c backslash n) (ap (λ x. encode_utf8 c ++ x) (own_characters cs both.1))
+
+pub own_text : (t : List ℕ) → IsUtf8 t → HasNoBackslash t → text_escape t ≡ t
+own_text t u h = own_characters (chars t) (subst HasNoBackslash (sym (encodes-chars t u)) h) ∙ encodes-chars t u
+
+-- what stands behind a backslash is text again
+pub item_texts-append : (xs ys : List Item) → item_texts (xs ++ ys) ≡ item_texts xs ++ item_texts ys
+item_texts-append [] ys = refl
+item_texts-append (x ∷ xs) ys = ap (λ l. item_text x ++ l) (item_texts-append xs ys) ∙ sym (append_assoc (item_text x) (item_texts xs) (item_texts ys))
+
+map-append : (xs ys : List ℕ) → map character_item (xs ++ ys) ≡ map character_item xs ++ map character_item ys
+map-append [] ys = refl
+map-append (x ∷ xs) ys = ap (λ l. character_item x ∷ l) (map-append xs ys)
+
+-- the escape of a text up to its first backslash, and behind that
+pub one_backslash : (t front behind : List ℕ) → t ≡ front ++ backslash ∷ behind → IsUtf8 front → IsUtf8 (backslash ∷ behind) → HasNoBackslash front → text_escape t ≡ front ++ (backslash ∷ backslash ∷ text_escape behind)
+one_backslash t front behind e u v h =
+    ap text_escape e
+    ∙ ap (λ x. item_texts (map character_item x)) (chars-append front (backslash ∷ behind) u ∙ ap (λ x. chars front ++ x) (chars_past_char (backslash ∷ behind) behind backslash v (slash_in_front behind)))
+    ∙ ap item_texts (map-append (chars front) (backslash ∷ chars behind))
+    ∙ item_texts-append (text_items front) (map character_item (backslash ∷ chars behind))
+    ∙ ap (λ x. x ++ (backslash ∷ backslash ∷ text_escape behind)) (own_text front u h)

@@ -1,0 +1,4 @@
+pub mod Item
+pub mod Escape
+pub mod Escaped
+pub mod Reading

@@ -1,0 +1,50 @@
+-- What has been read of an escape, step by step: only private contracts name these (what an escape is says `IsEscape`).
+use Rattle.std.specs.Prelude.{◌≡◌, ◌≢◌, ℕ, List, [], ◌∷◌, ◌++◌}
+use Rattle.std.specs.List.{flat_map, AllByRecursion}
+use Rattle.std.specs.Char.{encode_utf8}
+use Rattle.std.specs.Str.{IsUtf8}
+use Rattle.wtf8_core.specs.CodePoint.{form}
+use Rattle.os_quote.specs.Item.{Item, Character, Backslash, ByteUnit, WideUnit, backslash, item_texts, IsItem}
+use Rattle.os_quote.specs.Escape.{IsBadEscape}
+use Rattle.os_quote.specs.declared.token.Token.{Token}
+use Rattle.os_quote.specs.declared.token.Token.TheVariants as token
+use Rattle.os_quote.specs.declared.error.QuoteError.{QuoteError}
+use Rattle.os_quote.specs.declared.error.QuoteError.TheVariants.{BadEscape, NotCanonical, Memory}
+
+-- the item that a token is
+abbrev pub token_item : Token → Item
+token_item token.Backslash = Backslash
+token_item (token.Byte u) = ByteUnit u
+token_item (token.Wide u) = WideUnit u
+
+-- the bytes that an item stands for, on each platform
+abbrev pub item_bytes : Item → List ℕ
+item_bytes (Character c) = encode_utf8 c
+item_bytes Backslash = backslash ∷ []
+item_bytes (ByteUnit u) = u ∷ []
+item_bytes (WideUnit u) = form u
+
+-- none of the bytes is a backslash
+abbrev pub HasNoBackslash : List ℕ → Type 0
+HasNoBackslash bs = AllByRecursion (λ b. b ≢ backslash) bs
+
+-- the text is cut at its first backslash, and both sides are text
+pub record IsCutAtBackslash (text front behind : List ℕ) : Type 0 where
+  pub none_before : HasNoBackslash front
+  pub joined : text ≡ front ++ backslash ∷ behind
+  pub front_text : IsUtf8 front
+  pub behind_text : IsUtf8 behind
+
+-- a front of the text is items that stand for these bytes, and the rest is left, which is text too
+pub record IsRead (text bytes rest : List ℕ) : Type 0 where
+  pub items : List Item
+  pub are : AllByRecursion IsItem items
+  pub joined : text ≡ item_texts items ++ rest
+  pub bytes_are : bytes ≡ flat_map item_bytes items
+  pub text_left : IsUtf8 rest
+
+-- why a text isn't read
+abbrev pub IsReadFault : List ℕ → QuoteError → Type 0
+IsReadFault text (BadEscape n) = IsBadEscape text n
+IsReadFault text NotCanonical = ⊥
+IsReadFault text Memory = Unit {0}

@@ -1,0 +1,55 @@
+//! A string that prints as its escape.
+use crate::write::{write_part, write_text};
+use os_str_bytes::{OsStr, OsStrBytesExt, Platform};
+use std::alloc::AllocError;
+use std::fmt;
+
+/// A string that prints as its escape, and takes no memory for it.
+///
+/// [`escaped`](crate::escaped) makes it. It has no width and no precision: `{:>9}` writes what
+/// `{}` does.
+pub struct Escaped<'a, E: Platform + 'a> {
+    string: OsStr<'a, E>,
+}
+
+impl<'a, E: Platform> Clone for Escaped<'a, E> {
+    ghost use Rattle.std.specs.Prelude.{◌≡◌};
+
+    ghost is_clone = { λ x y. y ≡ x };
+
+    ghost is_infallible = { λ _. Unit {0} };
+
+    fn clone(&self) -> Result<Self, AllocError> {
+        Ok(*self)
+    }
+}
+
+impl<'a, E: Platform> Copy for Escaped<'a, E> {}
+
+impl<'a, E: Platform> Escaped<'a, E> {
+    ghost use Rattle.platform_str.specs.Strings.{bytes};
+    ghost use Rattle.os_quote.specs.Escape.{IsEscape};
+    ghost use Rattle.os_quote.specs.Escaped.{escaped_text};
+
+    /// The string, to be written as its escape.
+    pub(crate) fn new(string: OsStr<'a, E>) -> Self
+        ensures { IsEscape E.units (bytes string.entry) (escaped_text result) }
+    {
+        Escaped { string }
+    }
+}
+
+impl<'a, E: Platform> fmt::Display for Escaped<'a, E> {
+    ghost use Rattle.std.specs.Prelude.{Some};
+    ghost use Rattle.os_quote.specs.Escaped.{escaped_text};
+
+    ghost output = { λ e. Some (escaped_text e) };
+
+    fn fmt<W: fmt::Write>(&self, f: &mut fmt::Formatter<W>) -> fmt::Result {
+        for (part, text) in self.string.utf8_chunks() {
+            write_part(part, f)?;
+            write_text(text, f)?;
+        }
+        Ok(())
+    }
+}

@@ -1,0 +1,30 @@
+//! Why a text is no escape.
+use std::alloc::AllocError;
+
+/// Why [`unescape`](crate::unescape) gives no string.
+#[derive(Clone, Copy, Debug, PartialEq, Eq)]
+pub enum QuoteError {
+    /// The byte place of the first backslash that begins no token: `\\`, `\x` with two digits,
+    /// or `\u` with four.
+    ///
+    /// `a\q` is `BadEscape(1)`; `\xff` is `BadEscape(0)`, since a digit is `0` to `9` or `A`
+    /// to `F`.
+    BadEscape(usize),
+    /// Each backslash is in a token, and yet no string of the platform has this escape.
+    ///
+    /// On Unix `\x41` is so, since the escape of that string is `A`.
+    NotCanonical,
+    /// Memory was refused.
+    Memory,
+}
+
+impl From<AllocError> for QuoteError {
+    ghost use Rattle.std.specs.Prelude.{◌≡◌};
+    ghost use Rattle.os_quote.specs.declared.error.QuoteError.TheVariants.{Memory};
+
+    ghost from_gives = { λ _ error. error ≡ Memory };
+
+    fn from(_: AllocError) -> QuoteError {
+        QuoteError::Memory
+    }
+}

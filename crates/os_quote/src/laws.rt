@@ -1,0 +1,21 @@
+//! What holds of escapes: each law is the contract of a function that does nothing.
+ghost use Rattle.std.specs.Prelude.{◌≡◌, ℕ, List};
+ghost use Rattle.std.specs.Str.{IsUtf8};
+ghost use Rattle.os_quote.specs.Escape.{IsEscape, IsBadEscape};
+
+use os_str_bytes::Platform;
+
+/// Each string has one escape, which is UTF-8, and strings with equal escapes are equal.
+pub fn escapes<E: Platform>()
+    ensures some { (s : List ℕ) → E.well_formed s → (text : List ℕ) × IsEscape E.units s text }
+    ensures one_escape { (s : List ℕ) → (text : List ℕ) → (other : List ℕ) → IsEscape E.units s text → IsEscape E.units s other → text ≡ other }
+    ensures utf8 { (s : List ℕ) → (text : List ℕ) → E.well_formed s → IsEscape E.units s text → IsUtf8 text }
+    ensures one_string { (s : List ℕ) → (t : List ℕ) → (text : List ℕ) → E.well_formed s → E.well_formed t → IsEscape E.units s text → IsEscape E.units t text → s ≡ t }
+{}
+
+/// In the escape of a string each backslash is in a token; a text has at most one first
+/// backslash that begins none.
+pub fn bad_escapes<E: Platform>()
+    ensures never { (s : List ℕ) → (text : List ℕ) → (n : ℕ) → E.well_formed s → IsEscape E.units s text → ¬ (IsBadEscape text n) }
+    ensures one_place { (text : List ℕ) → (n : ℕ) → (m : ℕ) → IsBadEscape text n → IsBadEscape text m → n ≡ m }
+{}

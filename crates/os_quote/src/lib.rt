@@ -1,0 +1,24 @@
+//! Reversible escapes: strings of any platform as texts, and back.
+//!
+//! [`escape`] writes a string as a text from which [`unescape`] gives the same string again.
+//! A text without a backslash is its own escape; each backslash is doubled; a unit that is no
+//! part of a text is `\xHH` where it is below 100 (hexadecimal), else `\uHHHH`, with digits
+//! from `0` to `9` and from `A` to `F`. [`escaped`] writes the same without memory. The format
+//! is this project's own.
+#![tactic(auto)]
+
+mod display;
+mod error;
+pub mod laws;
+mod quoting;
+mod reading;
+mod token;
+mod write;
+
+pub use display::Escaped;
+pub use error::QuoteError;
+pub use quoting::{escape, escaped};
+pub use reading::unescape;
+
+#[cfg(test)]
+mod tests;

@@ -1,0 +1,111 @@
+//! From escapes to strings.
+ghost use Rattle.std.specs.Prelude.{◌≡◌, ◌++◌, ◌↔◌, [], IfOk, IfErr, OnOk, IsTrue, MatchResult};
+ghost use Rattle.wtf8_core.specs.CodePoint.{form};
+ghost use Rattle.platform_str.specs.Strings.{bytes, string_vec_of};
+ghost use Rattle.os_quote.specs.Escape.{IsEscape, IsQuoteFault};
+ghost use Rattle.os_quote.specs.Reading.{IsRead, IsReadFault, item_bytes, token_item};
+
+use crate::error::QuoteError;
+use crate::laws::escapes;
+use crate::quoting::escape;
+use crate::token::{Token, first_token, split_backslash};
+use os_str_bytes::{DecodeWide, OsStr, OsString, Platform, laws};
+use std::alloc::{AllocError, Allocator};
+
+/// The string whose escape the text is ([`escape`]).
+///
+/// Of Windows `a\uD800\\` it is the string of the units 61, D800 and 5C (hexadecimal). A text
+/// without a backslash is its own escape.
+///
+/// # Errors
+///
+/// [`QuoteError::BadEscape`] with the byte place of the first backslash that begins no token;
+/// else [`QuoteError::NotCanonical`] where no string of the platform has this escape, as
+/// `\xC3\xA9` on Unix, where these bytes are the text `é`. [`QuoteError::Memory`] may come in
+/// place of either where memory is refused.
+pub fn unescape<E: Platform, A: Allocator>(
+    alloc: A,
+    text: &str,
+) -> Result<OsString<E, A>, QuoteError>
+    ensures string { IfOk result (λ string. IsEscape E.units (string_vec_of string).items text.now) }
+    ensures fault { IfErr result (λ fault. IsQuoteFault E.well_formed E.units text.now fault) }
+{
+    match split_backslash(text) {
+        None => Ok(OsStr::new(text).to_owned(alloc)?),
+        Some(_) => from_items(alloc, text),
+    }
+}
+
+/// The same, token by token: the bytes that the text stands for are a string with this escape,
+/// or no string has it.
+fn from_items<E: Platform, A: Allocator>(alloc: A, text: &str) -> Result<OsString<E, A>, QuoteError>
+    ensures string { IfOk result (λ string. IsEscape E.units (string_vec_of string).items text.now) }
+    ensures fault { IfErr result (λ fault. IsQuoteFault E.well_formed E.units text.now fault) }
+{
+    laws::faults::<E>();
+    let encoded = read(alloc, text)?;
+    let Ok(()) = E::check(&encoded) else {
+        return Err(QuoteError::NotCanonical);
+    };
+    if has_escape::<E, &A>(encoded.allocator(), &encoded, text)? {
+        Ok(OsString::from_encoded_bytes_unchecked(encoded))
+    } else {
+        Err(QuoteError::NotCanonical)
+    }
+}
+
+/// Whether the text is the escape of the string with these bytes.
+fn has_escape<E: Platform, A: Allocator>(
+    alloc: A,
+    encoded: &[u8],
+    text: &str,
+) -> Result<bool, AllocError>
+    requires { E.well_formed encoded.now }
+    ensures { IfOk result (λ same. IsTrue same ↔ IsEscape E.units encoded.now text.now) }
+{
+    escapes::<E>();
+    let string = OsStr::<E>::from_encoded_bytes_unchecked(encoded);
+    let escaped = escape(alloc, string)?;
+    Ok(escaped.as_str() == text)
+}
+
+/// The bytes that the characters and tokens of a text stand for.
+#[tactic(auto, using(crate::proofs::lemmas::Readings::readings))]
+fn read<A: Allocator>(alloc: A, text: &str) -> Result<Vec<u8, A>, QuoteError>
+    ensures { MatchResult result (λ encoded. IsRead text.now encoded.items []) (λ fault. IsReadFault text.now fault) }
+{
+    let mut encoded = Vec::with_capacity(alloc, text.len())?;
+    let mut rest = text;
+    while let Some((front, behind)) = split_backslash(rest) {
+        encoded.extend_from_slice(front.as_bytes())?;
+        let Some((token, after)) = first_token(behind.as_bytes()) else {
+            return Err(QuoteError::BadEscape(text.len() - behind.len() - 1));
+        };
+        push_token(&mut encoded, token)?;
+        rest = unsafe { str::from_utf8_unchecked(after) };
+    }
+    encoded.extend_from_slice(rest.as_bytes())?;
+    Ok(encoded)
+}
+
+/// Appends the bytes that a token stands for.
+fn push_token<A: Allocator>(encoded: &mut Vec<u8, A>, token: Token) -> Result<(), AllocError>
+    ensures { OnOk result (encoded.new.items ≡ encoded.old.items ++ item_bytes (token_item token)) }
+{
+    match token {
+        Token::Backslash => encoded.push(b'\\')?,
+        Token::Byte(unit) => encoded.push(unit)?,
+        Token::Wide(unit) => push_unit(encoded, unit)?,
+    }
+    Ok(())
+}
+
+/// Appends the bytes of one unit of 16 bits.
+fn push_unit<A: Allocator>(encoded: &mut Vec<u8, A>, unit: u16) -> Result<(), AllocError>
+    ensures { OnOk result (encoded.new.items ≡ encoded.old.items ++ form unit) }
+{
+    for byte in DecodeWide::new(&[unit]) {
+        encoded.push(byte)?;
+    }
+    Ok(())
+}

@@ -1,0 +1,83 @@
+//! Tokens, and the backslashes that begin them.
+ghost use Rattle.std.specs.Prelude.{◌≡◌, ◌≢◌, ◌<◌, ◌∷◌, ◌++◌, ℕ, List, MatchOption};
+ghost use Rattle.wtf8_core.specs.FaultText.{upper_hex_digit};
+ghost use Rattle.os_quote.specs.Item.{backslash, byte_digits, item_text, IsItem};
+ghost use Rattle.os_quote.specs.Escape.{BeginsNoToken};
+ghost use Rattle.os_quote.specs.Reading.{HasNoBackslash, IsCutAtBackslash, token_item};
+
+use memchr::memchr;
+
+/// What a backslash begins.
+#[derive(Clone, Copy)]
+pub(crate) enum Token {
+    /// `\\`, a backslash.
+    Backslash,
+    /// `\xHH`, a unit of two digits.
+    Byte(u8),
+    /// `\uHHHH`, a unit of four digits.
+    Wide(u16),
+}
+
+/// What stands before the first backslash of a text, and what stands behind it.
+pub(crate) fn split_backslash(text: &str) -> Option<(&str, &str)>
+    ensures { MatchOption result (HasNoBackslash text.now) (λ parts. IsCutAtBackslash text.now parts.0.now parts.1.now) }
+{
+    let Some(at) = memchr(b'\\', text.as_bytes()) else {
+        return None;
+    };
+    Some((&text[..at], &text[at + 1..]))
+}
+
+/// The token that a backslash begins, of what stands behind the backslash; and what stands
+/// behind the token.
+#[tactic(auto, using(crate::proofs::lemmas::Tokens::tokens))]
+pub(crate) fn first_token(behind: &[u8]) -> Option<(Token, &[u8])>
+    ensures { MatchOption result (BeginsNoToken (backslash ∷ behind.now))
+        (λ read. IsItem (token_item read.0) × (backslash ∷ behind.now ≡ item_text (token_item read.0) ++ read.1.now)) }
+{
+    let Some((kind, digits)) = behind.split_first() else {
+        return None;
+    };
+    if *kind == b'\\' {
+        return Some((Token::Backslash, digits));
+    }
+    if *kind == b'x' {
+        let Some((unit, rest)) = two_digits(digits) else {
+            return None;
+        };
+        return Some((Token::Byte(unit), rest));
+    }
+    if *kind == b'u' {
+        let Some((high, lower)) = two_digits(digits) else {
+            return None;
+        };
+        let Some((low, rest)) = two_digits(lower) else {
+            return None;
+        };
+        return Some((Token::Wide(u16::from(high) * 0x100 + u16::from(low)), rest));
+    }
+    None
+}
+
+/// The byte of two digits at the front, and what stands behind them.
+fn two_digits(bytes: &[u8]) -> Option<(u8, &[u8])>
+    ensures { MatchOption result ((b : ℕ) → b < 0x100 → (after : List ℕ) → bytes.now ≢ byte_digits b ++ after)
+        (λ read. bytes.now ≡ byte_digits read.0 ++ read.1.now) }
+{
+    let (first, behind) = bytes.split_first()?;
+    let (second, rest) = behind.split_first()?;
+    let high = digit(*first)?;
+    let low = digit(*second)?;
+    Some((high * 16 + low, rest))
+}
+
+/// The value of a digit from `0` to `9` or from `A` to `F`.
+fn digit(byte: u8) -> Option<u8>
+    ensures { MatchOption result ((d : ℕ) → d < 16 → upper_hex_digit d ≢ byte) (λ d. (d < 16) × (upper_hex_digit d ≡ byte)) }
+{
+    match byte {
+        b'0'..=b'9' => Some(byte - b'0'),
+        b'A'..=b'F' => Some(byte - b'A' + 10),
+        _ => None,
+    }
+}
