@@ -13,6 +13,7 @@ pub use Rattle.wtf8_core.specs.FaultText
 pub use Rattle.wtf8_core.specs.Items
 pub use Rattle.wtf8_core.specs.Join
 pub use Rattle.wtf8_core.specs.Lossy
+pub use Rattle.wtf8_core.specs.LossyReading
 pub use Rattle.wtf8_core.specs.PartUnits
 pub use Rattle.wtf8_core.specs.Pieces
 pub use Rattle.wtf8_core.specs.Runs
@@ -25,10 +26,12 @@ pub use Rattle.wtf8_core.specs.Utf8
 pub use Rattle.wtf8_core.specs.Wtf8
 pub use Rattle.wtf8_core.specs.declared.fault.EncodingError
 pub use Rattle.platform_str.specs.Cows
+pub use Rattle.platform_str.specs.Display
 pub use Rattle.platform_str.specs.Laws
 pub use Rattle.platform_str.specs.Lossy as IoLossy
 pub use Rattle.platform_str.specs.PartLaws
 pub use Rattle.platform_str.specs.Platforms
+pub use Rattle.platform_str.specs.ReadingLaws
 pub use Rattle.platform_str.specs.Strings
 pub use Rattle.platform_str.specs.UnixLaws
 pub use Rattle.platform_str.specs.WasmLaws

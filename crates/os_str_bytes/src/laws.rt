@@ -1,11 +1,13 @@
 //! The laws of every platform and of raw strings: each is the contract of a function that does
 //! nothing. Those of bytes, code points and units stand in [`crate::wtf8_laws`]; the one that
 //! says what the order of Windows strings is, [`order`], stands here too.
-ghost use Rattle.std.specs.Prelude.{◌≡◌, ◌↔◌, IsTrue, Some};
+ghost use Rattle.std.specs.Prelude.{◌≡◌, ◌↔◌, ℕ, List, IsTrue, Some};
 ghost use Rattle.std.specs.Cmp.Lexicographic.{slice_cmp};
 ghost use Rattle.std.specs.Ordering.{nat_cmp};
 ghost use Rattle.std.specs.Str.{IsUtf8};
 ghost use Rattle.wtf8_core.specs.Wtf8.{IsWtf8, HasUnits};
+ghost use Rattle.wtf8_core.specs.Lossy.{IsLossyText};
+ghost use Rattle.wtf8_core.specs.LossyReading.{IsLossyReading};
 ghost use Rattle.platform_str.specs.Platforms.{AreBytes, AreWideUnits, IsNoFault, IsWtf8Fault, IsTextFault};
 ghost use Rattle.os_str_bytes.specs.Raw.{raw_bytes, raw_vec_of};
 ghost use Rattle.os_str_bytes.specs.Headline.{IsPlatform, AreItself};
@@ -13,8 +15,8 @@ ghost use Rattle.os_str_bytes.specs.Headline.{IsPlatform, AreItself};
 use crate::wtf8_laws::functions;
 use crate::{Platform, RawOsStr, RawOsString, Unix, Wasm, Windows};
 pub use os_str_ext::laws::{
-    comparisons, cuts, faults, joins, lossy_texts, owned_comparisons, parts, spelling, standing,
-    texts,
+    comparisons, cuts, faults, joins, lossy_texts, owned_comparisons, parts, readings, spelling,
+    standing, texts,
 };
 use std::alloc::Allocator;
 pub use wtf8_core::laws::order;
@@ -29,6 +31,14 @@ pub fn platforms()
 {
     functions();
 }
+
+/// How the platforms read any bytes. On Unix they are read as they are; on Windows U+FFFD stands for
+/// each part that is refused, on wasm for each maximal ill-formed part (Unicode, section 3.9).
+pub fn platform_readings()
+    ensures unix { (b : List ℕ) → (c : List ℕ) → ⟦<Unix as Platform>⟧.reads_as b c ↔ (c ≡ b) }
+    ensures windows { (b : List ℕ) → (c : List ℕ) → ⟦<Windows as Platform>⟧.reads_as b c ↔ IsLossyReading b c }
+    ensures wasm { (b : List ℕ) → (c : List ℕ) → ⟦<Wasm as Platform>⟧.reads_as b c ↔ IsLossyText b c }
+{}
 
 /// Borrowed raw strings are equal where their bytes are, and are ordered as lists of bytes are.
 pub fn raw_comparisons<'a, E: Platform>(a: &RawOsStr<'a, E>, b: &RawOsStr<'a, E>)

@@ -23,9 +23,9 @@ pub mod windows;
 pub use iter::{RawRSplit, RawSplit};
 pub use os_str_ext::{
     ByteCow, ByteVec, Encoded, EncodedChar, EncodingError, HasBytes, NonUnicodeOsStr, OsStr,
-    OsStrBytes, OsStrBytesExt, OsStrCow, OsString, OsStringBytes, OsUnit, OsUnits, Path, PathBuf,
-    PathCow, Pattern, Platform, RSplit, SliceIndex, Split, StrCow, Unix, Utf8Chunks, Wasm,
-    WideUnits, Windows, part_laws,
+    OsStrBytes, OsStrBytesExt, OsStrCow, OsStrDisplay, OsString, OsStringBytes, OsUnit, OsUnits,
+    Path, PathBuf, PathCow, Pattern, Platform, RSplit, SliceIndex, Split, StrCow, Unix, Utf8Chunks,
+    Wasm, WideUnits, Windows, part_laws,
 };
 pub use raw_box::RawOsStrBox;
 pub use raw_cow::{CowRawOsStr, RawOsStrCow};
@@ -33,7 +33,7 @@ pub use raw_str::RawOsStr;
 pub use raw_string::RawOsString;
 pub use wtf8_core::{
     Checker, CodePoints, DecodeWide, EncodeWide, char_at, encode_wide, ends_with, is_continuation,
-    laws as wtf8_laws, pair_between, starts_with, utf8_fault,
+    laws as wtf8_laws, pair_between, starts_with, utf8_fault, wtf8_fault,
 };
 
 #[cfg(test)]

@@ -3,10 +3,11 @@ ghost use Rattle.std.specs.Prelude.{◌≡◌, ◌↔◌, [], IsTrue, IsOk, IfOk
 ghost use Rattle.std.specs.Str.{IsUtf8};
 ghost use Rattle.platform_str.specs.Strings.{bytes};
 ghost use Rattle.platform_str.specs.Cows.{byte_cow_bytes, cow_bytes, str_cow_bytes};
+ghost use Rattle.platform_str.specs.Display.{shown_bytes};
 
 use crate::raw_cow::CowRawOsStr;
 use crate::raw_string::RawOsString;
-use os_str_ext::{ByteCow, EncodingError, OsStr, OsStrCow, Platform, StrCow};
+use os_str_ext::{ByteCow, EncodingError, OsStr, OsStrCow, OsStrDisplay, Platform, StrCow};
 use std::alloc::{AllocError, Allocator};
 
 /// A borrowed string of a platform, with the calls of the crate's `RawOsStr`.
@@ -143,6 +144,16 @@ impl<'a, E: Platform> RawOsStr<'a, E> {
         ensures without_memory { IsUtf8 (raw_bytes self.entry) → IsOk result }
     {
         self.string.to_string_lossy(alloc)
+    }
+
+    /// The lossy text, to be printed (std's `OsStr::display`): what `{}` writes of it is the text that
+    /// [`RawOsStr::to_str_lossy`] gives. It takes no memory.
+    ///
+    /// The Windows string of the bytes 61 ED A0 80 (hexadecimal) is printed as "a\u{FFFD}".
+    pub fn display(self) -> OsStrDisplay<'a, E>
+        ensures { shown_bytes result ≡ raw_bytes self.entry }
+    {
+        self.string.display()
     }
 
     /// Whether the string has no byte.

@@ -27,7 +27,7 @@ pub use iter::{RSplit, Split};
 pub use os_units::{NonUnicodeOsStr, OsUnit, OsUnits};
 pub use pattern::{Encoded, EncodedChar, Pattern};
 pub use platform_str::{
-    ByteCow, ByteVec, EncodingError, HasBytes, OsStr, OsStrBytes, OsStrCow, OsString,
+    ByteCow, ByteVec, EncodingError, HasBytes, OsStr, OsStrBytes, OsStrCow, OsStrDisplay, OsString,
     OsStringBytes, Path, PathBuf, PathCow, Platform, StrCow, Unix, Wasm, WideUnits, Windows, laws,
     unix, wasm, windows,
 };

@@ -2,7 +2,7 @@
 use crate::{
     CodePoints, DecodeWide, Encoded, OsStr, OsStrBytesExt, Pattern, Platform, Unix, Wasm, Windows,
     char_at, encode_wide, ends_with, is_continuation, iter, laws, pair_between, part_laws,
-    starts_with, unix, utf8_fault, wasm, windows, wtf8_laws,
+    starts_with, unix, utf8_fault, wasm, windows, wtf8_fault, wtf8_laws,
 };
 use std::process::Abort;
 
@@ -12,6 +12,7 @@ fn laws_by_name() {
     laws_on::<Windows>("a");
     laws_on::<Wasm>("a");
     laws::order();
+    laws::platform_readings();
     wtf8_laws::spelling();
 }
 
@@ -20,6 +21,7 @@ fn laws_on<E: Platform>(text: &str) {
     laws::spelling::<E>();
     laws::texts::<E>();
     laws::lossy_texts::<E>();
+    laws::readings::<E>();
     laws::cuts::<E>();
     laws::parts::<E>();
     laws::standing::<E>();
@@ -35,6 +37,7 @@ fn laws_on<E: Platform>(text: &str) {
 fn calls_by_name(rt: HostRuntime) {
     let pair = b"\xF0\x9F\x98\x80";
     assert!(rt; is_continuation(0x80) && utf8_fault(pair).is_none());
+    assert!(rt; wtf8_fault(pair).is_none());
     assert_eq!(rt; char_at(pair, 0), Some(4));
     assert_eq!(rt; 'a'.encode().as_bytes(), b"a".as_slice());
     let mut points: iter::CodePoints = CodePoints::new(pair);

@@ -92,6 +92,37 @@ fn lossy_texts(rt: HostRuntime) -> Result<(), Fail> {
 }
 
 #[test]
+fn printed_strings(rt: HostRuntime) -> Result<(), Fail> {
+    let shown = raw::<Windows>(&rt, b"a\xED\xA0\x80b").display();
+    assert_eq!(rt; format!(in rt.alloc(); "{shown}")?.as_str(), "a\u{FFFD}b");
+    Ok(())
+}
+
+/// A raw string takes the answer of a lossy reading, borrowed or owned.
+#[test]
+fn lossy_readings(rt: HostRuntime) -> Result<(), Fail> {
+    read_on::<Windows, _>(
+        &rt,
+        b"\xED\xA0\x80\xED\xB0\x80A",
+        b"\xED\xA0\x80\xEF\xBF\xBDA",
+    )?;
+    read_on::<Windows, _>(&rt, b"\xED\xA0\x80A", b"\xED\xA0\x80A")?;
+    read_on::<Wasm, _>(&rt, b"\xFFA", b"\xEF\xBF\xBDA")?;
+    read_on::<Unix, _>(&rt, b"\xFFA", b"\xFFA")
+}
+
+fn read_on<E: Platform, R: AllocGlobal + Abort>(
+    rt: &R,
+    bytes: &[u8],
+    reading: &[u8],
+) -> Result<(), Fail> {
+    let string = OsStr::<E>::from_raw_bytes_lossy(rt.alloc(), bytes)?;
+    let cow = CowRawOsStr::from_os_str(string);
+    assert_eq!(rt; cow.as_raw().as_encoded_bytes(), reading, "{bytes:?}");
+    Ok(())
+}
+
+#[test]
 fn refused_bytes(rt: HostRuntime) -> Result<(), Fail> {
     let bytes = b"\xED\xA0\x80\xED\xB0\x80";
     let refused = RawOsStr::<Windows>::cow_from_raw_bytes(bytes);
