@@ -1,4 +1,4 @@
-//! The check on Windows, bytes to units and back, lossy texts.
+//! The check on Windows, bytes to units and back, lossy texts and readings.
 use crate::inputs::{self, Long};
 use crate::table::Bench;
 use crate::{ours, theirs};
@@ -13,6 +13,7 @@ pub fn time(bench: &mut Bench) {
     check(bench, &strings);
     units(bench, &strings);
     lossy(bench, strings);
+    readings(bench);
 }
 
 fn check(bench: &mut Bench, strings: &[Long]) {
@@ -132,6 +133,32 @@ fn lossy(bench: &mut Bench, strings: Vec<Long>) {
             [
                 Some(&mut || ours::unix_lossy(black_box(&bytes)) as u64),
                 Some(&mut || black_box(string).to_str_lossy().len() as u64),
+                Some(&mut || String::from_utf8_lossy(black_box(&bytes)).len() as u64),
+            ],
+        );
+    }
+}
+
+fn readings(bench: &mut Bench) {
+    bench.table("Lossy readings", "a byte");
+    for Long { name, bytes } in inputs::strings().into_iter().chain(inputs::faulty()) {
+        bench.line(
+            "Windows read_lossy",
+            &name,
+            bytes.len(),
+            [
+                Some(&mut || ours::windows_read_lossy(black_box(&bytes)) as u64),
+                None,
+                None,
+            ],
+        );
+        bench.line(
+            "wasm read_lossy",
+            &name,
+            bytes.len(),
+            [
+                Some(&mut || ours::wasm_read_lossy(black_box(&bytes)) as u64),
+                None,
                 Some(&mut || String::from_utf8_lossy(black_box(&bytes)).len() as u64),
             ],
         );

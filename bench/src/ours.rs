@@ -11,6 +11,8 @@ mod exports {
         pub fn port_from_wide(units: *const u16, len: usize) -> usize;
         pub fn port_lossy(bytes: *const u8, len: usize) -> usize;
         pub fn port_win_lossy(bytes: *const u8, len: usize) -> usize;
+        pub fn port_win_read_lossy(bytes: *const u8, len: usize) -> usize;
+        pub fn port_wasm_read_lossy(bytes: *const u8, len: usize) -> usize;
         pub fn port_chunks(bytes: *const u8, len: usize) -> usize;
         pub fn port_find(bytes: *const u8, len: usize, pattern: *const u8, pattern_len: usize) -> usize;
         pub fn port_rfind(bytes: *const u8, len: usize, pattern: *const u8, pattern_len: usize) -> usize;
@@ -49,6 +51,14 @@ pub fn unix_lossy(bytes: &[u8]) -> usize {
 
 pub fn windows_lossy(bytes: &[u8]) -> usize {
     unsafe { exports::port_win_lossy(bytes.as_ptr(), bytes.len()) }
+}
+
+pub fn windows_read_lossy(bytes: &[u8]) -> usize {
+    unsafe { exports::port_win_read_lossy(bytes.as_ptr(), bytes.len()) }
+}
+
+pub fn wasm_read_lossy(bytes: &[u8]) -> usize {
+    unsafe { exports::port_wasm_read_lossy(bytes.as_ptr(), bytes.len()) }
 }
 
 pub fn find(bytes: &[u8], pattern: &str) -> usize {

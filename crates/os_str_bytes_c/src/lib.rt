@@ -1,5 +1,5 @@
 //! The calls that are timed, for a program in C or Rust: [`check`] the check of Windows,
-//! [`wide`] bytes to units and back, [`lossy`] lossy texts, [`search`] searches,
+//! [`wide`] bytes to units and back, [`lossy`] lossy texts and readings, [`search`] searches,
 //! [`pieces`] splits, [`chunks`] chunks, [`joins`] joins and fronts by units.
 //!
 //! Each export is a call of the libraries below it, and nothing else. A slice crosses as a

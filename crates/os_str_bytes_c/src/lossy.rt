@@ -1,11 +1,13 @@
-//! Lossy texts.
-ghost use Rattle.std.specs.Prelude.{◌≡◌, ◌≢◌, length};
+//! Lossy texts, and lossy readings of any bytes.
+ghost use Rattle.std.specs.Prelude.{◌≡◌, ◌≢◌, ℕ, List, length};
 ghost use Rattle.std.specs.Str.Lossy.{utf8_lossy};
 ghost use Rattle.wtf8_core.specs.Wtf8.{IsWtf8};
+ghost use Rattle.wtf8_core.specs.Lossy.{IsLossyText};
+ghost use Rattle.wtf8_core.specs.LossyReading.{IsLossyReading};
 ghost use Rattle.wtf8_core.specs.UnitsOf.{wtf8_lossy};
 ghost use Rattle.platform_str.specs.Strings.{bytes};
 
-use platform_str::{OsStr, Platform, Unix, Windows};
+use platform_str::{HasBytes, OsStr, Platform, Unix, Wasm, Windows};
 use std::alloc::Global;
 
 /// How many bytes the lossy text of a string has, or `usize::MAX` where memory was refused.
@@ -34,4 +36,31 @@ pub extern "C" fn port_win_lossy(alloc: Global, raw: &[u8]) -> usize
     ensures { result ≢ usize.MAX → result ≡ length (wtf8_lossy raw.now) }
 {
     lossy_len(alloc, OsStr::<Windows>::from_encoded_bytes_unchecked(raw))
+}
+
+/// How many bytes the lossy reading of any bytes has, or `usize::MAX` where memory was refused.
+fn reading_len<E: Platform>(alloc: Global, raw: &[u8]) -> usize
+    ensures { result ≢ usize.MAX → (reading : List ℕ) × E.reads_as raw.now reading × (result ≡ length reading) }
+{
+    match OsStr::<E>::from_raw_bytes_lossy(alloc, raw) {
+        Ok(string) => string.bytes().len(),
+        Err(_) => usize::MAX,
+    }
+}
+
+/// How many bytes the lossy reading of the bytes has on Windows, or `usize::MAX` where memory was
+/// refused.
+#[unsafe(no_mangle)]
+pub extern "C" fn port_win_read_lossy(alloc: Global, raw: &[u8]) -> usize
+    ensures { result ≢ usize.MAX → (reading : List ℕ) × IsLossyReading raw.now reading × (result ≡ length reading) }
+{
+    reading_len::<Windows>(alloc, raw)
+}
+
+/// The same on wasm.
+#[unsafe(no_mangle)]
+pub extern "C" fn port_wasm_read_lossy(alloc: Global, raw: &[u8]) -> usize
+    ensures { result ≢ usize.MAX → (reading : List ℕ) × IsLossyText raw.now reading × (result ≡ length reading) }
+{
+    reading_len::<Wasm>(alloc, raw)
 }

@@ -13,6 +13,7 @@ mod pieces;
 mod plan9;
 mod ranges;
 mod raw;
+mod readings;
 mod searches;
 mod standing;
 mod texts;
@@ -37,6 +38,7 @@ pub use pieces::{uncut, uncut_from_the_end};
 pub use plan9::Plan9;
 pub use ranges::{between, between_inclusive, from, full, to, to_inclusive};
 pub use raw::{check_again, moved_back, taken_back, taken_back_by_any};
+pub use readings::{read_alike, read_by_items, read_from_string, reading_is_accepted};
 pub use searches::around_first;
 pub use standing::{byte_place, contained_by_units, cut_out_by_units, found_by_units, unit_place};
 pub use texts::{

@@ -5,6 +5,7 @@ ghost use Rattle.platform_str.specs.Platforms.{AreBytes, itself, IsNoFault};
 ghost use Rattle.platform_str.specs.UnixLaws.{bytes_prop, unix_laws};
 ghost use Rattle.platform_str.specs.Standing.{unix_standing};
 ghost use Rattle.platform_str.specs.PartLaws.{AreAboveAscii, unix_parts};
+ghost use Rattle.platform_str.specs.ReadingLaws.{IsSame, unix_readings};
 
 use platform_str::{EncodingError, Platform, Unix};
 use std::alloc::{AllocError, Allocator};
@@ -29,6 +30,8 @@ impl Platform for Plan9 {
 
     ghost replaces = { IsIllFormedPart };
 
+    ghost reads_as = { IsSame };
+
     ghost part_units = { AreAboveAscii };
 
     ghost standing = { unix_standing };
@@ -36,6 +39,8 @@ impl Platform for Plan9 {
     ghost laws = { unix_laws };
 
     ghost parts = { unix_parts };
+
+    ghost readings = { unix_readings };
 
     fn check(bytes: &[u8]) -> Result<(), EncodingError> {
         Unix::check(bytes)
@@ -63,5 +68,9 @@ impl Platform for Plan9 {
 
     fn push_bytes<A: Allocator>(string: &mut Vec<u8, A>, more: &[u8]) -> Result<(), AllocError> {
         Unix::push_bytes(string, more)
+    }
+
+    fn read_lossy<A: Allocator>(alloc: A, bytes: &[u8]) -> Result<Vec<u8, A>, AllocError> {
+        Unix::read_lossy(alloc, bytes)
     }
 }

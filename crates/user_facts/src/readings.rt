@@ -1,0 +1,55 @@
+//! Lossy readings of any bytes.
+ghost use Rattle.std.specs.Prelude.{◌≡◌, IsOk, IfOk, IsTrue};
+ghost use Rattle.wtf8_core.specs.LossyReading.{lossy_forms};
+ghost use Rattle.platform_str.specs.Strings.{bytes};
+ghost use Rattle.platform_str.specs.Cows.{cow_bytes};
+
+use platform_str::{OsStr, OsStrCow, Platform, Windows, laws};
+use std::alloc::{AllocError, Global};
+use wtf8_core::CodePoints;
+
+/// Whether the lossy reading of any bytes is accepted: it always is.
+pub fn reading_is_accepted<E: Platform>(alloc: Global, raw: &[u8]) -> Result<bool, AllocError>
+    ensures { IfOk result (λ accepted. IsTrue accepted) }
+{
+    laws::faults::<E>();
+    let reading = E::read_lossy(alloc, raw)?;
+    Ok(E::check(reading.as_slice()).is_ok())
+}
+
+/// The lossy reading of a string's bytes: the string, without memory.
+pub fn read_from_string<'a, E: Platform + 'a>(
+    alloc: Global,
+    string: OsStr<'a, E>,
+) -> Result<OsStrCow<'a, E>, AllocError>
+    ensures without_memory { IsOk result }
+    ensures same { IfOk result (λ read. cow_bytes read ≡ bytes string.entry) }
+{
+    OsStr::from_raw_bytes_lossy(alloc, string.as_encoded_bytes())
+}
+
+/// Two readings of any bytes, which are alike.
+pub fn read_alike<'a, E: Platform + 'a>(
+    alloc: Global,
+    raw: &'a [u8],
+) -> Result<(OsStrCow<'a, E>, OsStrCow<'a, E>), AllocError>
+    ensures { IfOk result (λ both. cow_bytes both.0 ≡ cow_bytes both.1) }
+{
+    laws::readings::<E>();
+    let first = OsStr::from_raw_bytes_lossy(alloc, raw)?;
+    let second = OsStr::from_raw_bytes_lossy(alloc, raw)?;
+    Ok((first, second))
+}
+
+/// The items of any bytes, and their reading on Windows: the forms of the items, with U+FFFD for
+/// each fault.
+pub fn read_by_items<'a>(
+    alloc: Global,
+    raw: &'a [u8],
+) -> Result<(CodePoints<'a>, Vec<u8>), AllocError>
+    ensures { IfOk result (λ read. read.1.items ≡ lossy_forms read.0) }
+{
+    wtf8_core::laws::lossy_reading();
+    let reading = Windows::read_lossy(alloc, raw)?;
+    Ok((CodePoints::new(raw), reading))
+}
