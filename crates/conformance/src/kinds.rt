@@ -7,16 +7,20 @@ ghost use Rattle.std.specs.Prelude.{⊤};
 
 use crate::platforms;
 use answer_files::{Column, LineError, RowKind};
+use quote::Escapes;
 use ranges::Ranges;
 use search::Searches;
 use std::alloc::Global;
 use strings::Strings;
+use unquote::Unescaped;
 
 mod checker;
 mod lossy;
+mod quote;
 mod ranges;
 mod search;
 mod strings;
+mod unquote;
 mod windows_decode;
 mod windows_encode;
 mod windows_join;
@@ -34,6 +38,8 @@ pub enum Kind {
     Strings,
     Ranges,
     Search,
+    Quote,
+    Unquote,
 }
 
 impl RowKind for Kind {
@@ -50,6 +56,8 @@ impl RowKind for Kind {
             "strings" => Some(Kind::Strings),
             "ranges" => Some(Kind::Ranges),
             "search" => Some(Kind::Search),
+            "quote" => Some(Kind::Quote),
+            "unquote" => Some(Kind::Unquote),
             _ => None,
         }
     }
@@ -65,6 +73,8 @@ impl RowKind for Kind {
             Kind::Strings => platforms::ask::<Strings>(alloc, row),
             Kind::Ranges => platforms::ask::<Ranges>(alloc, row),
             Kind::Search => platforms::ask::<Searches>(alloc, row),
+            Kind::Quote => platforms::ask::<Escapes>(alloc, row),
+            Kind::Unquote => platforms::ask::<Unescaped>(alloc, row),
         }
     }
 }

@@ -11,6 +11,8 @@ mod answer;
 #[cfg(test)]
 mod copies;
 #[cfg(test)]
+mod escapes;
+#[cfg(test)]
 mod fixture;
 #[cfg(test)]
 mod headline;

@@ -13,6 +13,7 @@ mod find;
 mod lines;
 mod marked;
 mod program;
+mod quoting;
 mod raw;
 mod run;
 mod split;

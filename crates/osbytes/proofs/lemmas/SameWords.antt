@@ -7,9 +7,9 @@ use Rattle.os_str_bytes.specs.Standing.{Finds, IsLeastPlace}
 use Rattle.osbytes.specs.declared.command.Os.{Os}
 use Rattle.osbytes.specs.declared.command.Os.TheVariants.{Unix, Windows, Wasm}
 use Rattle.osbytes.specs.declared.command.Command.{Command}
-use Rattle.osbytes.specs.declared.command.Command.TheVariants.{Units, Raw, Find, Split, Chunks}
+use Rattle.osbytes.specs.declared.command.Command.TheVariants.{Units, Raw, Find, Split, Chunks, Quote, Unquote}
 use Rattle.osbytes.specs.declared.fault.Fault.{Fault}
-use Rattle.osbytes.specs.declared.fault.Fault.TheVariants.{Refused, BadLine, Usage, Memory, Read, Write}
+use Rattle.osbytes.specs.declared.fault.Fault.TheVariants.{Refused, BadLine, BadQuote, Usage, Memory, Read, Write}
 use Rattle.osbytes.specs.Command.{os_word, words_of, IsUnusable}
 use Rattle.osbytes.specs.Lines.{place_line, piece_lines}
 use Rattle.osbytes.specs.Output.{IsOutput, IsRefusal, IsOfInput}
@@ -20,6 +20,7 @@ use Rattle.osbytes.specs.Strings.{strings}
 abbrev SplitRefusal : Os → List ℕ → List ℕ → Fault → Type 0
 SplitRefusal os text input (Refused error) = (0 < length text) × (strings os).first_fault input error
 SplitRefusal os text input (BadLine number) = ⊥
+SplitRefusal os text input (BadQuote error) = ⊥
 SplitRefusal os text input Usage = ⊥
 SplitRefusal os text input Memory = ⊥
 SplitRefusal os text input Read = ⊥
@@ -36,23 +37,27 @@ same_os Wasm Unix e = let letters : ◌≡◌ {A = ℕ} 119 117 = ap (λ word. g
 same_os Wasm Windows e = let lengths : ◌≡◌ {A = ℕ} 4 7 = ap length e in absurd (omega arith)
 same_os Wasm Wasm e = refl
 
--- the first letter of the command's word
+-- the third letter of the command's word
 abbrev letter : Command → ℕ
-letter (Units os) = 117
-letter (Raw os) = 114
-letter (Find os pattern) = 102
-letter (Split os pattern) = 115
-letter (Chunks os) = 99
+letter (Units os) = 105
+letter (Raw os) = 119
+letter (Find os pattern) = 110
+letter (Split os pattern) = 108
+letter (Chunks os) = 117
+letter (Quote os) = 111
+letter (Unquote os) = 113
 
-letter_is : (c : Command) → letter c ≡ get_or (get_or (words_of c) 0 []) 0 0
+letter_is : (c : Command) → letter c ≡ get_or (get_or (words_of c) 0 []) 2 0
 letter_is (Units os) = refl
 letter_is (Raw os) = refl
 letter_is (Find os pattern) = refl
 letter_is (Split os pattern) = refl
 letter_is (Chunks os) = refl
+letter_is (Quote os) = refl
+letter_is (Unquote os) = refl
 
 same_letter : (c d : Command) → words_of c ≡ words_of d → letter c ≡ letter d
-same_letter c d e = letter_is c ∙ ap (λ words. get_or (get_or words 0 []) 0 0) e ∙ sym (letter_is d)
+same_letter c d e = letter_is c ∙ ap (λ words. get_or (get_or words 0 []) 2 0) e ∙ sym (letter_is d)
 
 -- what is said of one command's output, of its refusals and of whether it can't run is said of another's with the same words
 same_meaning : (M : (List ℕ → List ℕ → Type 0) → (List ℕ → Fault → Type 0) → Type 0 → Type 0) (c d : Command) → words_of c ≡ words_of d
@@ -60,6 +65,8 @@ same_meaning : (M : (List ℕ → List ℕ → Type 0) → (List ℕ → Fault �
 same_meaning M (Units a) (Units b) e m = subst (λ os. M (IsOutput (Units os)) (IsRefusal (Units os)) ⊥) (same_os a b (ap (λ words. get_or words 1 []) e)) m
 same_meaning M (Raw a) (Raw b) e m = subst (λ os. M (IsOutput (Raw os)) (IsRefusal (Raw os)) ⊥) (same_os a b (ap (λ words. get_or words 1 []) e)) m
 same_meaning M (Chunks a) (Chunks b) e m = subst (λ os. M (IsOutput (Chunks os)) (IsRefusal (Chunks os)) ⊥) (same_os a b (ap (λ words. get_or words 1 []) e)) m
+same_meaning M (Quote a) (Quote b) e m = subst (λ os. M (IsOutput (Quote os)) (IsRefusal (Quote os)) ⊥) (same_os a b (ap (λ words. get_or words 1 []) e)) m
+same_meaning M (Unquote a) (Unquote b) e m = subst (λ os. M (IsOutput (Unquote os)) (IsRefusal (Unquote os)) ⊥) (same_os a b (ap (λ words. get_or words 1 []) e)) m
 same_meaning M (Find a p) (Find b q) e m =
     let on_platform = subst (λ os. M (IsOutput (Find os p)) (IsRefusal (Find os p)) ⊥) (same_os a b (ap (λ words. get_or words 1 []) e)) m in
     let same : p.now ≡ q.now = ap (λ words. get_or words 2 []) e in
@@ -70,6 +77,8 @@ same_meaning M (Split a p) (Split b q) e m =
     subst (λ text. M (λ input output. (strings b).well_formed input × ((pieces : List (List ℕ)) × IsSplit text input pieces × (output ≡ piece_lines pieces))) (SplitRefusal b text) (length text ≡ 0)) same on_platform
 same_meaning M (Units a) d e m = let letters = same_letter (Units a) d e in absurd (omega arith)
 same_meaning M (Raw a) d e m = let letters = same_letter (Raw a) d e in absurd (omega arith)
+same_meaning M (Quote a) d e m = let letters = same_letter (Quote a) d e in absurd (omega arith)
+same_meaning M (Unquote a) d e m = let letters = same_letter (Unquote a) d e in absurd (omega arith)
 same_meaning M (Chunks a) d e m = let letters = same_letter (Chunks a) d e in absurd (omega arith)
 same_meaning M (Find a p) d e m = let letters = same_letter (Find a p) d e in absurd (omega arith)
 same_meaning M (Split a p) d e m = let letters = same_letter (Split a p) d e in absurd (omega arith)

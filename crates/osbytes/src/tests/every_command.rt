@@ -13,7 +13,7 @@ use std::process::Abort;
 /// A command, its input and its output.
 type Sample = (Command<'static>, &'static [u8], &'static [u8]);
 
-const SAMPLES: [Sample; 16] = [
+const SAMPLES: [Sample; 22] = [
     (Command::Units(Os::Unix), b"a\x80", b"61\n80\n"),
     (
         Command::Units(Os::Windows),
@@ -54,6 +54,12 @@ const SAMPLES: [Sample; 16] = [
         b"- 61\neda080 62\n",
     ),
     (Command::Chunks(Os::Wasm), b"\xC3\xA9", b"- c3a9\n"),
+    (Command::Quote(Os::Unix), b"fo\x80\xFFo", b"fo\\x80\\xFFo"),
+    (Command::Quote(Os::Windows), b"a\xED\xA0\x80", b"a\\uD800"),
+    (Command::Quote(Os::Wasm), b"a\\", b"a\\\\"),
+    (Command::Unquote(Os::Unix), b"fo\\x80\\xFFo", b"fo\x80\xFFo"),
+    (Command::Unquote(Os::Windows), b"a\\uD800", b"a\xED\xA0\x80"),
+    (Command::Unquote(Os::Wasm), b"foo", b"foo"),
 ];
 
 /// What a run over these ends answers and writes.

@@ -4,6 +4,7 @@ use super::owned_words;
 use crate::fault::Fault;
 use crate::marked::Marked;
 use crate::program::execute;
+use os_quote::QuoteError;
 use os_str_bytes::EncodingError;
 use std::io;
 use std::io::ErrorKind;
@@ -95,6 +96,17 @@ fn texts_and_statuses(rt: HostRuntime) -> Result<(), Fail> {
             "incomplete utf-8 byte sequence from index 1",
         ),
         (Fault::BadLine(12), 1, "line 12 is not a unit"),
+        (
+            Fault::BadQuote(QuoteError::BadEscape(10)),
+            1,
+            "bad escape at byte 10",
+        ),
+        (
+            Fault::BadQuote(QuoteError::NotCanonical),
+            1,
+            "not the escape of a string",
+        ),
+        (Fault::BadQuote(QuoteError::Memory), 1, "out of memory"),
         (
             Fault::Usage,
             2,
