@@ -127,7 +127,7 @@ impl<'a> Asked<'a> {
 }
 
 /// Texts, with a comma between any two.
-fn join(alloc: Global, texts: &[String]) -> Result<String, AllocError> {
+pub fn join(alloc: Global, texts: &[String]) -> Result<String, AllocError> {
     let mut joined = String::new(alloc);
     for (index, text) in texts.iter().enumerate() {
         if index > 0 {

@@ -4,21 +4,15 @@ ghost use Rattle.answer_files.specs.Column.{Differs, RowDiffers};
 
 use std::fmt;
 
-/// A column of a row, by its name.
+/// A column of a row, by its name: what the file has there, and what a call of a type or a crate
+/// answers.
 #[derive(Drop)]
-pub enum Column<'a> {
-    /// What the file has there, and what a call of a type or a crate answers.
-    Asked {
-        name: &'static str,
-        of: &'static str,
-        call: &'static str,
-        expected: &'a str,
-        answered: String,
-    },
-    /// A column whose call doesn't stand yet.
-    NotAsked {
-        name: &'static str,
-    },
+pub struct Column<'a> {
+    name: &'static str,
+    of: &'static str,
+    call: &'static str,
+    expected: &'a str,
+    answered: String,
 }
 
 impl<'a> Column<'a> {
@@ -30,9 +24,13 @@ impl<'a> Column<'a> {
         expected: &'a str,
         answered: String,
     ) -> Self
-        ensures { result ≡ Column.Asked name.entry of.entry call.entry expected.entry answered }
+        ensures name { result.name ≡ name.entry }
+        ensures of { result.of ≡ of.entry }
+        ensures call { result.call ≡ call.entry }
+        ensures expected { result.expected ≡ expected.entry }
+        ensures answered { result.answered ≡ answered }
     {
-        Column::Asked {
+        Column {
             name,
             of,
             call,
@@ -41,25 +39,11 @@ impl<'a> Column<'a> {
         }
     }
 
-    /// A column whose call doesn't stand yet.
-    pub fn not_asked(name: &'static str) -> Self
-        ensures { result ≡ Column.NotAsked name.entry }
-    {
-        Column::NotAsked { name }
-    }
-
     /// Whether a call answers something else than the file has.
     pub fn differs(&self) -> bool
         ensures { IsTrue result ↔ Differs self.now }
     {
-        match self {
-            Column::Asked {
-                expected,
-                answered,
-                ..
-            } => answered.as_str() != *expected,
-            Column::NotAsked { .. } => false,
-        }
+        self.answered.as_str() != self.expected
     }
 }
 
@@ -72,18 +56,16 @@ pub fn row_differs(columns: &[Column<'_>]) -> bool
 
 impl<'a> fmt::Display for Column<'a> {
     fn fmt<W: fmt::Write>(&self, f: &mut fmt::Formatter<W>) -> fmt::Result {
-        match self {
-            Column::Asked {
-                name,
-                of,
-                call,
-                expected,
-                answered,
-            } => write!(
-                f,
-                "{name}: expected {expected}, {call} of {of} answered {answered}"
-            ),
-            Column::NotAsked { name } => write!(f, "{name}: not asked"),
-        }
+        let Column {
+            name,
+            of,
+            call,
+            expected,
+            answered,
+        } = self;
+        write!(
+            f,
+            "{name}: expected {expected}, {call} of {of} answered {answered}"
+        )
     }
 }

@@ -18,7 +18,7 @@ pub mod summary;
 #[cfg(test)]
 mod tests;
 
-pub use asked::Asked;
+pub use asked::{Asked, join};
 pub use column::Column;
 pub use error::{Failure, FileError, LineError};
 pub use kind::RowKind;

@@ -1,8 +1,7 @@
 //! The kinds of answer files.
 //!
 //! A kind is a file below this one: it names the columns of a row, and asks for each the calls
-//! that answer it, or says that none stands yet. Where rows begin with a platform, it is a
-//! [`platforms::PlatformKind`].
+//! that answer it. Where rows begin with a platform, it is a [`platforms::PlatformKind`].
 ghost use Rattle.std.specs.Prelude.{⊤};
 
 use crate::platforms;
@@ -23,6 +22,7 @@ mod strings;
 mod unquote;
 mod windows_decode;
 mod windows_encode;
+mod windows_items;
 mod windows_join;
 mod windows_prefix;
 
@@ -31,6 +31,7 @@ mod windows_prefix;
 pub enum Kind {
     WindowsDecode,
     WindowsEncode,
+    WindowsItems,
     WindowsPrefix,
     WindowsJoin,
     Checker,
@@ -49,6 +50,7 @@ impl RowKind for Kind {
         match name {
             "windows_decode" => Some(Kind::WindowsDecode),
             "windows_encode" => Some(Kind::WindowsEncode),
+            "windows_items" => Some(Kind::WindowsItems),
             "windows_prefix" => Some(Kind::WindowsPrefix),
             "windows_join" => Some(Kind::WindowsJoin),
             "checker" => Some(Kind::Checker),
@@ -66,6 +68,7 @@ impl RowKind for Kind {
         match self {
             Kind::WindowsDecode => windows_decode::ask(alloc, row),
             Kind::WindowsEncode => windows_encode::ask(alloc, row),
+            Kind::WindowsItems => windows_items::ask(alloc, row),
             Kind::WindowsPrefix => windows_prefix::ask(alloc, row),
             Kind::WindowsJoin => windows_join::ask(alloc, row),
             Kind::Checker => checker::ask(alloc, row),

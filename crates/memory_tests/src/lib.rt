@@ -25,6 +25,8 @@ mod moves;
 #[cfg(test)]
 mod owned_raw;
 #[cfg(test)]
+mod readings;
+#[cfg(test)]
 mod repeats;
 #[cfg(test)]
 mod vectors;

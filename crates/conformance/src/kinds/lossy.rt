@@ -1,5 +1,5 @@
-//! Files `lossy`: any bytes, their first fault as UTF-8, their lossy text on Unix, their first
-//! fault on Windows, and their lossy reading there.
+//! Files `lossy`: any bytes, their first fault as UTF-8, their lossy text on Unix, which is their
+//! lossy reading on wasm, their first fault on Windows, and their lossy reading there.
 use crate::fault_text::fault_text;
 use crate::platforms::string;
 use answer_files::hex_text::{bytes_text, read_bytes};
@@ -9,14 +9,16 @@ use std::alloc::Global;
 
 /// What a row asks, and what the calls answer.
 pub fn ask<'a>(alloc: Global, row: &[&'a str]) -> Result<Vec<Column<'a>>, LineError> {
-    let [raw, utf8, lossy, windows, _] = row else {
+    let [raw, utf8, lossy, windows, reading] = row else {
         return Err(LineError::column_count(row, 5));
     };
     let raw = read_bytes(alloc, raw)?;
     let fault = fault_text(alloc, utf8_check(&raw))?;
     let wasm_check = fault_text(alloc, Wasm::check(&raw))?;
     let text = lossy_text(alloc, &raw)?;
+    let wasm_reading = bytes_text(alloc, &Wasm::read_lossy(alloc, &raw)?)?;
     let windows_check = fault_text(alloc, Windows::check(&raw))?;
+    let windows_reading = bytes_text(alloc, &Windows::read_lossy(alloc, &raw)?)?;
     Ok(vec![in alloc;
         Column::asked("utf8_fault", "wtf8_core", "utf8_fault", utf8, fault),
         Column::asked("utf8_fault", "Wasm", "check", utf8, wasm_check),
@@ -28,13 +30,26 @@ pub fn ask<'a>(alloc: Global, row: &[&'a str]) -> Result<Vec<Column<'a>>, LineEr
             text
         ),
         Column::asked(
+            "lossy text on Unix",
+            "Wasm",
+            "read_lossy",
+            lossy,
+            wasm_reading
+        ),
+        Column::asked(
             "check on Windows",
             "Windows",
             "check",
             windows,
             windows_check
         ),
-        Column::not_asked("read_lossy on Windows"),
+        Column::asked(
+            "read_lossy on Windows",
+            "Windows",
+            "read_lossy",
+            reading,
+            windows_reading
+        ),
     ]?)
 }
 

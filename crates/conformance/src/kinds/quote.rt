@@ -1,7 +1,7 @@
 //! Files `quote`: a platform, a string of it, and the string's escape.
+use crate::platforms::{PlatformKind, string};
 use answer_files::hex_text::{bytes_text, read_bytes};
 use answer_files::{Column, LineError};
-use crate::platforms::{PlatformKind, string};
 use os_quote::escape;
 use os_str_bytes::Platform;
 use std::alloc::Global;

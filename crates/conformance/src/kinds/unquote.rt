@@ -1,8 +1,8 @@
 //! Files `unquote`: a platform, any text, and the string whose escape the text is, or why it is
 //! none.
+use crate::platforms::PlatformKind;
 use answer_files::hex_text::{bytes_text, read_text};
 use answer_files::{Column, LineError};
-use crate::platforms::PlatformKind;
 use os_quote::{QuoteError, unescape};
 use os_str_bytes::Platform;
 use std::alloc::{AllocError, Global};
