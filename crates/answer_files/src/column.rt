@@ -4,15 +4,21 @@ ghost use Rattle.answer_files.specs.Column.{Differs, RowDiffers};
 
 use std::fmt;
 
-/// A column of a row, by its name: what the file has there, and what a call of a type or a crate
-/// answers.
+/// A column of a row, by its name.
 #[derive(Drop)]
-pub struct Column<'a> {
-    name: &'static str,
-    of: &'static str,
-    call: &'static str,
-    expected: &'a str,
-    answered: String,
+pub enum Column<'a> {
+    /// What the file has there, and what a call of a type or a crate answers.
+    Asked {
+        name: &'static str,
+        of: &'static str,
+        call: &'static str,
+        expected: &'a str,
+        answered: String,
+    },
+    /// A column whose call doesn't stand yet.
+    NotAsked {
+        name: &'static str,
+    },
 }
 
 impl<'a> Column<'a> {
@@ -24,13 +30,9 @@ impl<'a> Column<'a> {
         expected: &'a str,
         answered: String,
     ) -> Self
-        ensures name { result.name ≡ name.entry }
-        ensures of { result.of ≡ of.entry }
-        ensures call { result.call ≡ call.entry }
-        ensures expected { result.expected ≡ expected.entry }
-        ensures answered { result.answered ≡ answered }
+        ensures { result ≡ Column.Asked name.entry of.entry call.entry expected.entry answered }
     {
-        Column {
+        Column::Asked {
             name,
             of,
             call,
@@ -39,11 +41,25 @@ impl<'a> Column<'a> {
         }
     }
 
+    /// A column whose call doesn't stand yet.
+    pub fn not_asked(name: &'static str) -> Self
+        ensures { result ≡ Column.NotAsked name.entry }
+    {
+        Column::NotAsked { name }
+    }
+
     /// Whether a call answers something else than the file has.
     pub fn differs(&self) -> bool
         ensures { IsTrue result ↔ Differs self.now }
     {
-        self.answered.as_str() != self.expected
+        match self {
+            Column::Asked {
+                expected,
+                answered,
+                ..
+            } => answered.as_str() != *expected,
+            Column::NotAsked { .. } => false,
+        }
     }
 }
 
@@ -56,16 +72,18 @@ pub fn row_differs(columns: &[Column<'_>]) -> bool
 
 impl<'a> fmt::Display for Column<'a> {
     fn fmt<W: fmt::Write>(&self, f: &mut fmt::Formatter<W>) -> fmt::Result {
-        let Column {
-            name,
-            of,
-            call,
-            expected,
-            answered,
-        } = self;
-        write!(
-            f,
-            "{name}: expected {expected}, {call} of {of} answered {answered}"
-        )
+        match self {
+            Column::Asked {
+                name,
+                of,
+                call,
+                expected,
+                answered,
+            } => write!(
+                f,
+                "{name}: expected {expected}, {call} of {of} answered {answered}"
+            ),
+            Column::NotAsked { name } => write!(f, "{name}: not asked"),
+        }
     }
 }
