@@ -7,6 +7,7 @@
 
 mod bytes;
 mod chunks;
+mod escapes;
 mod joins;
 mod parts;
 mod pieces;
@@ -27,6 +28,7 @@ pub use chunks::{
     bare_units, chunks_say, has_chunks, lone_surrogates, no_ascii, no_part, rejoined, runs,
     same_part, unit_order,
 };
+pub use escapes::there_and_back;
 pub use joins::{
     has_join, joined_either_way, pushed_alike, starts_as_joined, starts_with_what_was_there,
 };

@@ -1,7 +1,7 @@
 //! The callers on their happy paths.
 use crate::{
     Plan9, behind_first, between_inclusive, io_lossy_is_safe, joined_either_way, rejoined,
-    same_string, starts_as_joined, taken_back, three_parts, through_units,
+    same_string, starts_as_joined, taken_back, there_and_back, three_parts, through_units,
 };
 use platform_str::{HasBytes, OsStr, OsStrBytes, Unix, Windows};
 use std::test::Fail;
@@ -38,6 +38,8 @@ fn halves(rt: HostRuntime) -> Result<(), Fail> {
 fn outside(rt: HostRuntime) -> Result<(), Fail> {
     let read = OsStr::<Plan9>::from_raw_bytes(b"a\x80\xC3\xA9")?;
     let string = read.as_os_str();
+    let back = there_and_back(rt.alloc(), string)?;
+    assert!(rt; same_string(back.as_os_str(), string));
     match three_parts(string, 1, 2) {
         Some((front, middle, back)) => {
             assert_eq!(rt; front.as_encoded_bytes(), b"a".as_slice());
