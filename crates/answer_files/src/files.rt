@@ -1,5 +1,5 @@
 //! Answer files by their names.
-ghost use Rattle.std.specs.Prelude.{IfOk, map};
+ghost use Rattle.std.specs.Prelude.{◌≡◌, if◌then◌else◌, IfOk, MatchResult, map};
 ghost use Rattle.answer_files.specs.Asked.{AreAsked};
 ghost use Rattle.answer_files.specs.File.{text_of};
 
@@ -46,4 +46,16 @@ pub fn ask<K: RowKind + Drop>(
         same &= summary.differing == 0;
     }
     Ok(same)
+}
+
+/// The status that a program ends with: 0 where no row differs, 1 where one does, and 2 where
+/// something kept it from asking all rows.
+pub fn status<E>(asked: &Result<bool, E>) -> u8
+    ensures { MatchResult asked.now (λ same. result ≡ (if same then 0 else 1)) (λ _. result ≡ 2) }
+{
+    match asked {
+        Ok(true) => 0,
+        Ok(false) => 1,
+        Err(_) => 2,
+    }
 }

@@ -8,8 +8,6 @@
 //! be read.
 #![tactic(auto)]
 
-ghost use Rattle.std.specs.Prelude.{◌≡◌, if◌then◌else◌, MatchResult};
-
 mod error;
 mod fault_text;
 mod kinds;
@@ -29,18 +27,7 @@ fn main(rt: HostRuntime) -> ExitCode {
         // Where standard error can't be written to, only the status tells of the failure.
         let _ = eprintln!(rt; "conformance: {failure}");
     }
-    ExitCode::from(status(&asked))
-}
-
-/// The status that the program ends with.
-fn status(asked: &Result<bool, Failure>) -> u8
-    ensures { MatchResult asked.now (λ same. result ≡ (if same then 0 else 1)) (λ _. result ≡ 2) }
-{
-    match asked {
-        Ok(true) => 0,
-        Ok(false) => 1,
-        Err(_) => 2,
-    }
+    ExitCode::from(files::status(&asked))
 }
 
 /// Asks the files that the words name, and answers whether no row of them differs.

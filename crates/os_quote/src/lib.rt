@@ -19,6 +19,3 @@ pub use display::Escaped;
 pub use error::QuoteError;
 pub use quoting::{escape, escaped};
 pub use reading::unescape;
-
-#[cfg(test)]
-mod tests;

@@ -35,6 +35,3 @@ pub use wtf8_core::{
     Checker, CodePoints, DecodeWide, EncodeWide, char_at, encode_wide, ends_with, is_continuation,
     laws as wtf8_laws, pair_between, starts_with, utf8_fault, wtf8_fault,
 };
-
-#[cfg(test)]
-mod tests;

@@ -32,6 +32,3 @@ pub use platform_str::{
     unix, wasm, windows,
 };
 pub use slice_index::SliceIndex;
-
-#[cfg(test)]
-mod tests;

@@ -42,6 +42,3 @@ pub use path::{Path, PathBuf};
 pub use platform::{Platform, Unix, Wasm, Windows};
 pub use wide::WideUnits;
 pub use wtf8_core::EncodingError;
-
-#[cfg(test)]
-mod tests;

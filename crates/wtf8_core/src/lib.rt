@@ -43,6 +43,3 @@ pub use fault::EncodingError;
 pub use halves::{ends_with, pair_between, starts_with};
 pub use utf8::utf8_fault;
 pub use wtf8::wtf8_fault;
-
-#[cfg(test)]
-mod tests;
