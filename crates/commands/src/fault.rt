@@ -1,0 +1,96 @@
+//! What keeps the program from its output.
+ghost use Rattle.std.specs.Prelude.{◌≡◌, Some};
+ghost use Rattle.commands.specs.declared.fault.Fault.TheVariants.{Refused, Memory};
+
+use os_quote::QuoteError;
+use os_str_bytes::EncodingError;
+use std::alloc::{AllocError, AllocFailed};
+use std::fmt;
+
+/// The reason why a run of the program wrote no output, or not all of it.
+///
+/// Its text is what the program prints of it: that of `BadLine(2)` is `line 2 is not a unit`.
+#[derive(Clone, Copy, PartialEq, Eq)]
+pub enum Fault {
+    /// The input is not the bytes of a string of the platform.
+    Refused(EncodingError),
+    /// This line of the input, counted from 1, is the first that is no unit's.
+    BadLine(usize),
+    /// The input is the escape of no string of the platform. Want of memory is
+    /// [`Fault::Memory`], also in quoting.
+    BadQuote(QuoteError),
+    /// The words ask for no command.
+    Usage,
+    /// A request for memory was refused.
+    Memory,
+    /// A read of the input failed.
+    Read,
+    /// A write of the output failed or took nothing, or the flush failed.
+    Write,
+}
+
+impl Fault {
+    ghost use Rattle.commands.specs.Fault.{status_of};
+
+    /// The status that the program ends with: 1 for input that it refuses, 2 for its
+    /// words, 3 for want of memory, and 4 for a failed read or write. That of `BadLine(2)` is 1.
+    pub fn status(&self) -> u8
+        ensures { result ≡ status_of self.now }
+    {
+        match self {
+            Fault::Refused(_) | Fault::BadLine(_) | Fault::BadQuote(_) => 1,
+            Fault::Usage => 2,
+            Fault::Memory => 3,
+            Fault::Read | Fault::Write => 4,
+        }
+    }
+}
+
+impl fmt::Display for Fault {
+    ghost use Rattle.commands.specs.Fault.{text_of};
+
+    ghost output = { λ fault. Some (text_of fault) };
+
+    fn fmt<W: fmt::Write>(&self, f: &mut fmt::Formatter<W>) -> fmt::Result {
+        match *self {
+            Fault::Refused(error) => write!(f, "{error}"),
+            Fault::BadLine(number) => write!(f, "line {number} is not a unit"),
+            Fault::BadQuote(error) => match error {
+                QuoteError::BadEscape(place) => write!(f, "bad escape at byte {place}"),
+                QuoteError::NotCanonical => write!(f, "not the escape of a string"),
+                QuoteError::Memory => write!(f, "out of memory"),
+            },
+            Fault::Usage => write!(
+                f,
+                "usage: osbytes units|raw|find|split|chunks unix|windows|wasm [PAT]"
+            ),
+            Fault::Memory => write!(f, "out of memory"),
+            Fault::Read => write!(f, "read failed"),
+            Fault::Write => write!(f, "write failed"),
+        }
+    }
+}
+
+impl From<EncodingError> for Fault {
+    ghost from_gives = { λ error fault. fault ≡ Refused error };
+
+    fn from(error: EncodingError) -> Fault {
+        Fault::Refused(error)
+    }
+}
+
+impl From<AllocError> for Fault {
+    ghost from_gives = { λ _ fault. fault ≡ Memory };
+
+    fn from(_error: AllocError) -> Fault {
+        Fault::Memory
+    }
+}
+
+impl<T: Drop> From<AllocFailed<T>> for Fault {
+    ghost from_gives = { λ _ fault. fault ≡ Memory };
+
+    fn from(_error: AllocFailed<T>) -> Fault {
+        Fault::Memory
+    }
+}

@@ -1,0 +1,21 @@
+//! What the program `osbytes` does, over ends of any kind: platform strings as bytes and as units.
+//!
+//! Words are a command ([`Command::parse`](command::Command::parse)). It reads all of its input,
+//! makes the whole output of it, and then writes that ([`run::run`]). Where it can't, the text of
+//! a [`Fault`](fault::Fault) says why ([`program::execute`]).
+#![tactic(auto)]
+
+mod answer;
+mod chunks;
+pub mod command;
+pub mod fault;
+mod find;
+mod lines;
+pub mod marked;
+pub mod program;
+mod quoting;
+mod raw;
+pub mod run;
+mod split;
+mod target;
+mod units;
