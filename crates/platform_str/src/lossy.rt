@@ -1,7 +1,8 @@
 //! Lossy texts, by the laws of the platform.
-ghost use Rattle.std.specs.Prelude.{◌≡◌, ◌<◌, ◌≤◌, ◌+◌, ◌++◌, length, take, drop, IsOk, IfOk, MatchOption};
+ghost use Rattle.std.specs.Prelude.{◌≡◌, ◌<◌, ◌≤◌, ◌+◌, ◌++◌, length, take, drop, IsOk, IfOk, IfSome, MatchOption, OnOk};
 ghost use Rattle.std.specs.Str.{IsUtf8};
 ghost use Rattle.std.specs.String.{string_bytes};
+ghost use Rattle.wtf8_core.specs.Lossy.{replacement};
 ghost use Rattle.platform_str.specs.Cows.{byte_cow_bytes};
 ghost use Rattle.platform_str.specs.Lossy.{IsIoLossy, IsFirstText};
 
@@ -10,17 +11,93 @@ use crate::platform::Platform;
 use std::alloc::{AllocError, Allocator};
 use wtf8_core::utf8_fault;
 
-/// The text at the front of a string's bytes, and what follows the part behind it for which one
-/// U+FFFD stands; `None` where all is a text.
+/// The bytes of U+FFFD.
+const REPLACEMENT: [u8; 3] = [0xEF, 0xBF, 0xBD];
+
+/// How many bytes at the front of a string's are a text, and what follows the part behind it for
+/// which one U+FFFD stands; `None` where all is a text.
+#[inline(always)]
+fn first_replaced<E: Platform>(bytes: &[u8]) -> Option<(usize, &[u8])>
+    requires { E.well_formed bytes.now }
+    ensures within { IfSome result (λ first. first.0 ≤ length bytes.now) }
+    ensures text { IfSome result (λ first. IsUtf8 (take first.0 bytes.now)) }
+    ensures cases { MatchOption result (IsUtf8 bytes.now) (λ first. IsFirstText E.well_formed E.lossy bytes.now (take first.0 bytes.now) first.1.now) }
+{
+    let (valid, _) = utf8_fault(bytes)?;
+    let (_, behind) = bytes.split_at(valid);
+    let (_, rest) = behind.split_at(E::lossy_len(behind));
+    Some((valid, rest))
+}
+
+/// The same with the text itself.
 #[inline(always)]
 pub(crate) fn first_text<E: Platform>(bytes: &[u8]) -> Option<(&str, &[u8])>
     requires { E.well_formed bytes.now }
     ensures { MatchOption result (IsUtf8 bytes.now) (λ first. IsFirstText E.well_formed E.lossy bytes.now first.0.now first.1.now) }
 {
-    let (valid, _) = utf8_fault(bytes)?;
-    let (front, behind) = bytes.split_at(valid);
-    let (_, rest) = behind.split_at(E::lossy_len(behind));
+    let (len, rest) = first_replaced::<E>(bytes)?;
+    let (front, _) = bytes.split_at(len);
     Some((unsafe { str::from_utf8_unchecked(front) }, rest))
+}
+
+/// How many bytes a block has.
+const BLOCK: usize = 16;
+
+/// Writes the first `len` bytes behind others. A short front is written as a block, and what is too
+/// much is cut: that comes next or is replaced, so no more memory is asked for than all take.
+#[inline(always)]
+fn push_front<A: Allocator>(
+    text: &mut Vec<u8, A>,
+    bytes: &[u8],
+    len: usize,
+) -> Result<(), AllocError>
+    requires { len ≤ length bytes.now }
+    ensures { OnOk result (text.new.items ≡ text.old.items ++ take len bytes.now) }
+{
+    if len > BLOCK {
+        let (front, _) = bytes.split_at(len);
+        return text.extend_from_slice(front);
+    }
+    if bytes.len() < BLOCK {
+        let (front, _) = bytes.split_at(len);
+        return text.extend_from_slice(front);
+    }
+    let (block, _) = bytes.split_at(BLOCK);
+    text.extend_from_slice(block)?;
+    text.truncate(text.len() - (BLOCK - len));
+    Ok(())
+}
+
+/// Writes the first `len` bytes and U+FFFD behind others.
+#[inline(always)]
+pub(crate) fn push_replaced<A: Allocator>(
+    text: &mut Vec<u8, A>,
+    bytes: &[u8],
+    len: usize,
+) -> Result<(), AllocError>
+    requires { len ≤ length bytes.now }
+    ensures { OnOk result (text.new.items ≡ (text.old.items ++ take len bytes.now) ++ replacement) }
+{
+    push_front(text, bytes, len)?;
+    text.extend_from_slice(&REPLACEMENT)
+}
+
+/// The bytes of the lossy text of a string, in new memory.
+pub(crate) fn text_bytes<E: Platform, A: Allocator>(
+    alloc: A,
+    bytes: &[u8],
+) -> Result<Vec<u8, A>, AllocError>
+    requires { E.well_formed bytes.now }
+    ensures { IfOk result (λ text. text.items ≡ E.lossy bytes.now) }
+{
+    let mut text = Vec::with_capacity(alloc, bytes.len())?;
+    let mut rest = bytes;
+    while let Some((len, behind)) = first_replaced::<E>(rest) {
+        push_replaced(&mut text, rest, len)?;
+        rest = behind;
+    }
+    text.extend_from_slice(rest)?;
+    Ok(text)
 }
 
 /// The lossy text of a string's bytes, in new memory.
@@ -31,15 +108,8 @@ pub(crate) fn text<E: Platform, A: Allocator>(
     requires { E.well_formed bytes.now }
     ensures { IfOk result (λ text. string_bytes text ≡ E.lossy bytes.now) }
 {
-    let mut text = String::with_capacity(alloc, bytes.len())?;
-    let mut rest = bytes;
-    while let Some((front, behind)) = first_text::<E>(rest) {
-        text.push_str(front)?;
-        text.push('\u{FFFD}')?;
-        rest = behind;
-    }
-    text.push_str(unsafe { str::from_utf8_unchecked(rest) })?;
-    Ok(text)
+    let text = text_bytes::<E, A>(alloc, bytes)?;
+    Ok(unsafe { String::from_utf8_unchecked(text) })
 }
 
 /// The IO-lossy bytes of a string: its own where they are IO-safe, which takes no memory.
@@ -54,7 +124,7 @@ pub(crate) fn io_bytes<'a, E: Platform, A: Allocator>(
     if E::is_io_safe(bytes) {
         return Ok(ByteCow::Borrowed(bytes));
     }
-    Ok(ByteCow::Owned(text::<E, A>(alloc, bytes)?.into_bytes()))
+    Ok(ByteCow::Owned(text_bytes::<E, A>(alloc, bytes)?))
 }
 
 /// Puts U+FFFD in the place of each part that is no text, where some string of the platform

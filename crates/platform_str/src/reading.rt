@@ -3,11 +3,9 @@ ghost use Rattle.std.specs.Prelude.{IfOk};
 ghost use Rattle.wtf8_core.specs.Wtf8.{IsWtf8};
 ghost use Rattle.wtf8_core.specs.LossyReading.{IsLossyReading};
 
+use crate::lossy::push_replaced;
 use std::alloc::{AllocError, Allocator};
 use wtf8_core::wtf8_fault;
-
-/// The bytes of U+FFFD.
-const REPLACEMENT: [u8; 3] = [0xEF, 0xBF, 0xBD];
 
 /// The bytes with U+FFFD in the place of each refused part, in new memory.
 pub(crate) fn read_wtf8<A: Allocator>(alloc: A, bytes: &[u8]) -> Result<Vec<u8, A>, AllocError>
@@ -17,10 +15,9 @@ pub(crate) fn read_wtf8<A: Allocator>(alloc: A, bytes: &[u8]) -> Result<Vec<u8, 
     let mut reading = Vec::with_capacity(alloc, bytes.len())?;
     let mut rest = bytes;
     while let Some((valid_up_to, refused_len)) = wtf8_fault(rest) {
-        let (front, faulty) = rest.split_at(valid_up_to);
+        let (_, faulty) = rest.split_at(valid_up_to);
         let (_, behind) = faulty.split_at(refused_len);
-        reading.extend_from_slice(front)?;
-        reading.extend_from_slice(&REPLACEMENT)?;
+        push_replaced(&mut reading, rest, valid_up_to)?;
         rest = behind;
     }
     reading.extend_from_slice(rest)?;

@@ -94,6 +94,6 @@ impl Platform for Wasm {
     }
 
     fn read_lossy<A: Allocator>(alloc: A, bytes: &[u8]) -> Result<Vec<u8, A>, AllocError> {
-        Ok(lossy::text::<Unix, A>(alloc, bytes)?.into_bytes())
+        lossy::text_bytes::<Unix, A>(alloc, bytes)
     }
 }

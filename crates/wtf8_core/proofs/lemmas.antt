@@ -21,6 +21,7 @@ pub mod Lanes
 pub mod PairBits
 pub mod Fed
 pub mod FaultsInFronts
+pub mod FaultsAtFront
 pub mod Cuts
 pub mod Utf8Lemmas
 pub mod Propositions

@@ -144,6 +144,18 @@ pub(crate) fn are_not_zero(lanes: u8x64) -> bool
     lanes.simd_eq(u8x64::splat(0)).to_bitmask() == 0
 }
 
+/// How many lanes are below 80 before the first that isn't.
+#[inline(always)]
+pub(crate) fn ascii_before(lanes: u8x64) -> usize
+    ensures within { result ≤ 64 }
+    ensures ascii { (i : ℕ) → i < result → slice_index lanes i < 0x80 }
+{
+    lanes
+        .simd_ge(u8x64::splat(0x80))
+        .to_bitmask()
+        .trailing_zeros() as usize
+}
+
 /// Whether all lanes are below 80.
 #[inline(always)]
 pub(crate) fn are_ascii(lanes: u8x64) -> bool

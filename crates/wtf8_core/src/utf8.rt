@@ -1,9 +1,13 @@
 //! The first fault of bytes that aren't UTF-8.
-ghost use Rattle.std.specs.Prelude.{◌≤◌, MatchOption, length, take};
+ghost use Rattle.std.specs.Prelude.{◌≡◌, ◌≤◌, MatchOption, IfSome, Some, length, take};
+ghost use Rattle.std.specs.Int.{is_in_range};
 ghost use Rattle.std.specs.Str.{IsUtf8};
+ghost use Rattle.std.specs.Str.Lossy.{second_byte_min, second_byte_max};
 ghost use Rattle.wtf8_core.specs.Utf8.{IsUtf8Fault};
 
+use crate::byte::is_continuation;
 use crate::fronts::front_of;
+use crate::lanes::{ascii_before, load};
 
 /// The first fault of bytes that aren't UTF-8, `None` for UTF-8 (RFC 3629, section 4).
 ///
@@ -24,23 +28,76 @@ use crate::fronts::front_of;
 pub fn utf8_fault(bytes: &[u8]) -> Option<(usize, Option<u8>)>
     ensures { MatchOption result (IsUtf8 bytes.now) (λ fault. IsUtf8Fault bytes.now fault.0 fault.1) }
 {
-    let end = bytes.len().min(NEAR);
-    let (near, _) = bytes.split_at(end);
-    match fault_by_std(near) {
-        Some((valid_up_to, Some(error_len))) => Some((valid_up_to, Some(error_len))),
-        Some((valid_up_to, None)) => fault_behind(bytes, valid_up_to),
-        None => {
-            if bytes.len() <= NEAR {
-                return None;
-            }
-            fault_behind(bytes, end)
-        }
+    if let Some(error_len) = part_at_front(bytes) {
+        return Some((0, Some(error_len)));
+    }
+    if bytes.len() < 64 {
+        return fault_by_std(bytes);
+    }
+    let at = ascii_before(load(bytes, 0));
+    let (_, rest) = bytes.split_at(at);
+    match part_at_front(rest) {
+        Some(error_len) => Some((at, Some(error_len))),
+        None => fault_behind(bytes, at),
     }
 }
 
-/// How far a fault is looked for without vectors: where faults stand close together, a loop over
-/// them doesn't ask vectors in vain.
-const NEAR: usize = 64;
+/// The length of the maximal ill-formed part at the front, where the first four bytes tell that
+/// one begins there. A loop over faults that stand close together needs nothing more for most of
+/// them.
+#[inline(always)]
+fn part_at_front(bytes: &[u8]) -> Option<u8>
+    ensures { IfSome result (λ len. IsUtf8Fault bytes.now 0 (Some len)) }
+{
+    let [first, second, third, fourth, ..] = bytes else {
+        return None;
+    };
+    if *first < 0x80 {
+        return None;
+    }
+    if !is_lead(*first) {
+        return Some(1);
+    }
+    if !is_second(*first, *second) {
+        return Some(1);
+    }
+    if *first < 0xE0 {
+        return None;
+    }
+    if !is_continuation(*third) {
+        return Some(2);
+    }
+    if *first < 0xF0 {
+        return None;
+    }
+    if is_continuation(*fourth) {
+        None
+    } else {
+        Some(3)
+    }
+}
+
+/// Whether a byte begins characters of two to four bytes.
+#[inline(always)]
+fn is_lead(byte: u8) -> bool
+    ensures { result ≡ is_in_range 0xC2 0xF4 byte }
+{
+    (0xC2..=0xF4).contains(&byte)
+}
+
+/// Whether a byte stands behind such a lead in some character (the table of RFC 3629, section 4).
+#[inline(always)]
+fn is_second(lead: u8, byte: u8) -> bool
+    ensures { result ≡ is_in_range (second_byte_min lead) (second_byte_max lead) byte }
+{
+    match lead {
+        0xE0 => (0xA0..=0xBF).contains(&byte),
+        0xED => (0x80..=0x9F).contains(&byte),
+        0xF0 => (0x90..=0xBF).contains(&byte),
+        0xF4 => (0x80..=0x8F).contains(&byte),
+        _ => is_continuation(byte),
+    }
+}
 
 /// The first fault of bytes whose first `at` are UTF-8.
 fn fault_behind(bytes: &[u8], at: usize) -> Option<(usize, Option<u8>)>

@@ -1,5 +1,6 @@
 -- One step of a loop over a string's faults.
-use Rattle.std.proofs.Common.{◌≡◌, ℕ, ◌<◌, ◌≤◌, List, ◌++◌, length, take, drop, refl, sym, ap, ◌∙◌, subst, arith, append_assoc, length-drop}
+use Rattle.std.proofs.Common.{◌≡◌, ℕ, ◌<◌, ◌≤◌, List, ◌++◌, length, take, drop, refl, sym, ap, ◌∙◌, subst, arith, append_assoc, length-append, length-drop, ◌+◌, ◌-◌, take-take}
+use Rattle.std.proofs.Math.Seq.{take-append-add}
 use Rattle.std.proofs.lemmas.List.{length-take-le}
 use Rattle.std.specs.Str.{IsValidUpTo}
 use Rattle.wtf8_core.specs.Lossy.{replacement}
@@ -52,7 +53,12 @@ made_more {lossy = lossy} {made = made} {front = front} {behind = behind} i f = 
 }
 
 -- the same of the text that the loop has
-pub next : {well_formed : List ℕ → Type 0} {lossy : List ℕ → List ℕ} {all made front rest text after behind : List ℕ} → IsLeft well_formed lossy all made rest → IsFirstText well_formed lossy rest front behind
-    → text ≡ made ++ front → after ≡ text ++ encode_utf8 0xFFFD → IsLeft well_formed lossy all after behind
-next {well_formed} {lossy} {all} {made} {front} {rest} {text} {after} {behind} i f t a =
-    subst (λ x. IsLeft well_formed lossy all x behind) (sym (a ∙ ap (λ x. x ++ encode_utf8 0xFFFD) t ∙ ap (λ x. (made ++ front) ++ x) encode_fffd)) (made_more i f)
+pub next : {well_formed : List ℕ → Type 0} {lossy : List ℕ → List ℕ} {all made front rest after behind : List ℕ} → IsLeft well_formed lossy all made rest → IsFirstText well_formed lossy rest front behind
+    → after ≡ (made ++ front) ++ replacement → IsLeft well_formed lossy all after behind
+next {well_formed} {lossy} {all} {behind = behind} i f a = subst (λ x. IsLeft well_formed lossy all x behind) (sym a) (made_more i f)
+
+-- a front that was written as a block of n bytes, of which the first k are kept
+pub front_of_block : (before bytes block text : List ℕ) (n k : ℕ) → k ≤ n → n ≤ length bytes → block ≡ take n bytes → text ≡ before ++ block → take (length text - (n - k)) text ≡ before ++ take k bytes
+front_of_block before bytes block text n k few room b t =
+    let size : length text - (n - k) ≡ length before + k = omega (arith, few, ap length t, length-append before block, ap length b, length-take-le n bytes room) in
+    ap (λ m. take m text) size ∙ ap (take (length before + k)) (t ∙ ap (λ x. before ++ x) b) ∙ take-append-add before (take n bytes) k ∙ ap (λ x. before ++ x) (take-take k n bytes few)

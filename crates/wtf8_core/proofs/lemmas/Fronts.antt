@@ -157,6 +157,12 @@ all_scalars (c ∷ cs) p = and_from _ _ p.0 (all_scalars cs p.1)
 pub front_is_utf8 : (surrogates : Bool) (bytes : List ℕ) (n : ℕ) → surrogates ≡ false → IsSpelledFront surrogates bytes n → IsUtf8 (take n bytes)
 front_is_utf8 surrogates bytes n e f = (f.code_points, (all_scalars f.code_points (f.plain e), sym (f.spelled.joined ∙ forms_encode f.code_points)))
 
+-- so a front of ASCII is a text
+pub ascii_is_utf8 : (bytes : List ℕ) (n : ℕ) → n ≤ length bytes → ((i : ℕ) → i < n → get_or bytes (0 + i) 0 < 0x80) → IsUtf8 (take n bytes)
+ascii_is_utf8 bytes n h low =
+    let e : 0 + n ≡ n = omega arith in
+    subst (λ m. IsUtf8 (take m bytes)) e (front_is_utf8 false bytes (0 + n) refl (ascii_step false bytes 0 n (omega (arith, h)) (no_front false bytes) low))
+
 -- a window that was copied, with zeros around it
 pub before_bytes : (bytes : List ℕ) (m : ℕ) → m < 4 → get_or (behind_zeros bytes) m 0 ≡ 0
 before_bytes bytes zero h = refl

@@ -1,7 +1,11 @@
 -- The operations on vectors, lane by lane.
-use Rattle.std.proofs.Common.{◌≡◌, ℕ, zero, suc, ◌+◌, ◌-◌, ◌%◌, ◌^◌, ◌<◌, Bool, true, false, cond, eqb, ltb, List, [], ◌∷◌, map, length, get_or, replicate, refl, sym, ap, ◌∙◌, arith, w8, Fits, eqb-true}
+use Rattle.std.proofs.Common.{◌≡◌, inl, inr, ◌⊎◌, ⊎_elim, ℕ, zero, suc, ◌+◌, ◌-◌, ◌%◌, ◌^◌, ◌<◌, Bool, true, false, cond, eqb, ltb, List, [], ◌∷◌, map, length, get_or, replicate, not, refl, sym, ap, ◌∙◌, subst, arith, w8, Fits, eqb-true}
 use Rattle.std.proofs.lemmas.List.{length-map, get_or-map}
-use Rattle.std.proofs.lemmas.Simd.{Each1-get_or, get_or-zip2, get_or-replicate, tops_compared, zip2_splat, zip2_splat_left, length-sel_l, get_or-sel_l, mask_l-mod, bitmask_splat}
+use Rattle.std.proofs.lemmas.Simd.{Each1-get_or, get_or-zip2, get_or-replicate, tops_compared, zip2_splat, zip2_splat_left, length-sel_l, get_or-sel_l, mask_l-mod, bitmask_splat, trailing_mask_l}
+use Rattle.std.proofs.lemmas.Bool.{not-true}
+use Rattle.std.proofs.lemmas.List.Sums.{prefix_len_passes}
+use Rattle.std.proofs.lemmas.Nat.{trailing_le}
+use Rattle.std.specs.Int.Count.{count_trailing_zeros}
 use Rattle.std.proofs.lemmas.Bool.Decides.{nat_tests}
 use lib.Lanes.{zip2, sel_l, mask_l, top, Each1}
 
@@ -56,3 +60,26 @@ pub none_passes_left : (t : ℕ → ℕ → Bool) (xs : List ℕ) (y : ℕ) → 
 none_passes_left t xs y p e i h =
     none_set (t y) xs (sym (mask_l-mod (map (t y) xs) 64 (omega (arith, length-map xs (t y), p)))
     ∙ rw (tops_compared w8 t (replicate 64 y) xs, zip2_splat_left t y 64 xs p) at (eqb-true _ _ e)) i (omega (arith, p, h))
+
+-- before the first bit that is set no lane passes
+none_before : (test : ℕ → Bool) (xs : List ℕ) → length xs ≡ 64 → (i : ℕ) → i < count_trailing_zeros 64 (mask_l (map test xs)) → test (get_or xs i 0) ≡ false
+none_before test xs p i h =
+    ⊎_elim
+    (λ e. none_set test xs e i (omega (arith, p, h, trailing_le 64 (mask_l (map test xs)))))
+    (λ s. not-true _ (prefix_len_passes (λ x. not (test x)) xs i 0 (omega (arith, h, trailing_mask_l test 64 xs (omega (arith, p)) s))))
+    (cases_zero (mask_l (map test xs)))
+  where
+    cases_zero : (n : ℕ) → (n ≡ 0) ⊎ (0 < n)
+    cases_zero zero = inl refl
+    cases_zero (suc n) = inr (omega arith)
+
+pub none_passes_before : (t : ℕ → ℕ → Bool) (xs : List ℕ) (y n : ℕ) → length xs ≡ 64 → n ≡ count_trailing_zeros 64 (mask_l (map (top 7) (zip2 (λ a b. cond (t a b) 255 0) xs (replicate 64 y))) % 2 ^ 64)
+    → (i : ℕ) → i < n → t (get_or xs i 0) y ≡ false
+none_passes_before t xs y n p e i h =
+    none_before (λ x. t x y) xs p i (subst (λ k. i < k) (e ∙ ap (count_trailing_zeros 64) (bitmask_splat w8 t xs 64 y p (omega arith))) h)
+
+pub none_passes_left_before : (t : ℕ → ℕ → Bool) (xs : List ℕ) (y n : ℕ) → length xs ≡ 64 → n ≡ count_trailing_zeros 64 (mask_l (map (top 7) (zip2 (λ a b. cond (t a b) 255 0) (replicate 64 y) xs)) % 2 ^ 64)
+    → (i : ℕ) → i < n → t y (get_or xs i 0) ≡ false
+none_passes_left_before t xs y n p e i h =
+    none_before (t y) xs p i (subst (λ k. i < k)
+    (e ∙ ap (count_trailing_zeros 64) (rw (tops_compared w8 t (replicate 64 y) xs, zip2_splat_left t y 64 xs p) (mask_l-mod (map (t y) xs) 64 (omega (arith, length-map xs (t y), p))))) h)

@@ -26,17 +26,17 @@ abbrev Part : List ℕ → Option ℕ → Type 0
 Part r len = MatchOption len (IsProperFront r) (IsIllFormed r)
 
 -- b begins a form of two bytes or more, and x may follow it (the table of RFC 3629, section 4)
-abbrev First : ℕ → Type 0
+abbrev pub First : ℕ → Type 0
 First b = IsInRange 0xC2 0xF4 b
 
-abbrev Second : ℕ → ℕ → Type 0
+abbrev pub Second : ℕ → ℕ → Type 0
 Second b x = IsInRange (second_byte_min b) (second_byte_max b) x
 
-lead_of : (c : ℕ) → IsScalar c → 0x80 ≤ c → First (get_or (form c) 0 0)
+pub lead_of : (c : ℕ) → IsScalar c → 0x80 ≤ c → First (get_or (form c) 0 0)
 unfolding form
 lead_of c s h = grind (arith, nat_tests, s)
 
-second_of : (c : ℕ) → IsScalar c → 0x80 ≤ c → Second (get_or (form c) 0 0) (get_or (form c) 1 0)
+pub second_of : (c : ℕ) → IsScalar c → 0x80 ≤ c → Second (get_or (form c) 0 0) (get_or (form c) 1 0)
 unfolding form
 second_of c s h = grind (arith, nat_tests, s)
 
@@ -133,7 +133,7 @@ by_third b x y t o f h = cond_both (is_in_range 0x80 0xBF y) _ _ (Part (b ∷ x 
     (λ e. ill (b ∷ x ∷ y ∷ t) 2 (omega arith) (omega arith) (λ _. f.front) (λ w. in_range-false 0x80 0xBF y e (front_behind (b ∷ x ∷ y ∷ []) w 2 (omega arith) (omega arith))))
 
 -- std's answer of four bytes or more
-len_of_four : (b x y z : ℕ) (t : List ℕ) → utf8_error_len (b ∷ x ∷ y ∷ z ∷ t)
+pub len_of_four : (b x y z : ℕ) (t : List ℕ) → utf8_error_len (b ∷ x ∷ y ∷ z ∷ t)
     ≡ (if is_in_range 0xC2 0xF4 b then (if is_in_range (second_byte_min b) (second_byte_max b) x then (if is_in_range 0x80 0xBF y then Some 3 else Some 2) else Some 1) else Some 1)
 unfolding utf8_error_len
 len_of_four b x y z t = grind (arith, nat_tests)

@@ -1,12 +1,7 @@
-use Rattle.std.proofs.Common.{◌∙◌}
-use Rattle.platform_str.proofs.lemmas.LossyLoops.{bare_at, first_part, first_text}
+use Rattle.std.proofs.Common.{sym, ◌∙◌, subst}
+use Rattle.platform_str.specs.Lossy.{IsFirstText}
 use Rattle.platform_str.proofs.lossy.first_text.Goals as goal
 
-pub lossy_len-requires-clause-bare : goal.lossy_len-requires-clause-bare
-lossy_len-requires-clause-bare g c = bare_at c.split_at.ensures.back c.in_ok-valid.ensures.valid
-
-pub split_at-requires-2 : goal.split_at-requires-2
-split_at-requires-2 g c = (first_part g.met.E.Platform.laws c.split_at.ensures.back c.in_ok-valid.ensures.valid c.requires c.lossy_len.ensures).within
-
 pub returns : goal.returns
-returns g c = first_text g.met.E.Platform.laws (c.from_utf8_unchecked.ensures ∙ c.split_at.ensures.front) c.split_at.ensures.back c.split_at-2.ensures.back c.in_ok-valid.ensures.valid c.requires c.lossy_len.ensures
+returns g c =
+    subst (λ x. IsFirstText g.E.Platform.well_formed g.E.Platform.lossy c.args.bytes.now x c.in_ok-len.rest.now) (sym (c.from_utf8_unchecked.ensures ∙ c.split_at.ensures.front)) c.in_ok-len.ensures.cases

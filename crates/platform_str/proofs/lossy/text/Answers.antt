@@ -1,5 +1,6 @@
-use Rattle.platform_str.proofs.lemmas.LossyLoops.{next}
+use Rattle.std.proofs.Common.{sym, subst}
+use Rattle.std.specs.Str.{IsUtf8}
 use Rattle.platform_str.proofs.lossy.text.Goals as goal
 
-pub loop-front-preserved : goal.loop-front-preserved
-loop-front-preserved g c = next c.loop-front.invariant c.in-Some.ensures c.in_ok-push_str.ensures.bytes c.in_ok-push.ensures.bytes
+pub from_utf8_unchecked-requires : goal.from_utf8_unchecked-requires
+from_utf8_unchecked-requires g c = subst IsUtf8 (sym c.in_ok-text.ensures) (g.met.E.Platform.laws.lossy_utf8 c.args.bytes.now c.requires)

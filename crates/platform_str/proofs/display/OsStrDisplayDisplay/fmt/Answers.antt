@@ -1,10 +1,7 @@
-use Rattle.std.proofs.Common.{ℕ, ◌-◌, ◌++◌, true, refl, sym, ap, ◌∙◌}
-use Rattle.std.specs.Char.{encode_utf8}
-use Rattle.std.specs.List.{repeat}
-use Rattle.std.specs.Option.{unwrap_or}
-use Rattle.std.specs.Fmt.{char_count, formatter_spec, spec_align, spec_fill, spec_width}
+use Rattle.std.proofs.Common.{true, refl, sym, ap, ◌∙◌}
+use Rattle.std.specs.Fmt.{formatter_spec, spec_align, spec_fill, spec_width}
 use Rattle.std.proofs.Output.{has_written_styled_append, has_written_styled_of_eq}
-use Rattle.platform_str.specs.Display.{fill_before, filled}
+use Rattle.platform_str.specs.Display.{fill_before}
 use Rattle.platform_str.proofs.lemmas.Displays.{filled_by}
 use Rattle.platform_str.proofs.display.OsStrDisplayDisplay.fmt.Goals as goal
 

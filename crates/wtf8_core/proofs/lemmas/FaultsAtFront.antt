@@ -1,0 +1,89 @@
+-- Four bytes with which no character begins, and the ill-formed part with which they begin.
+use Rattle.std.proofs.Common.{◌≡◌, ℕ, ◌<◌, ◌≤◌, List, ◌∷◌, ◌++◌, length, get_or, Option, Some, true, false, sym, ap, ◌∙◌, subst, arith, refl, drop, []}
+use Rattle.std.specs.Bool.{if◌then◌else◌}
+use Rattle.std.proofs.lemmas.Bool.{cond-true, cond-false}
+use Rattle.std.proofs.lemmas.Bool.Decides.{nat_tests}
+use Rattle.std.proofs.lemmas.List.{get_or_append_left}
+use Rattle.std.specs.Char.{IsScalar}
+use Rattle.std.specs.Int.{is_in_range}
+use Rattle.std.specs.Str.Lossy.{utf8_error_len, second_byte_min, second_byte_max}
+use Rattle.wtf8_core.specs.Byte.{IsContinuation}
+use Rattle.wtf8_core.specs.CodePoint.{form}
+use Rattle.wtf8_core.specs.Utf8.{IsUtf8Fault}
+use Rattle.wtf8_core.proofs.lemmas.Characters.{NoChar}
+use Rattle.wtf8_core.proofs.lemmas.Overlaps.{form_behind}
+use Rattle.wtf8_core.proofs.lemmas.Ranges.{in_range, in_range-false, not_in_range}
+use Rattle.wtf8_core.proofs.lemmas.Texts.{valid_none}
+use Rattle.wtf8_core.proofs.lemmas.Utf8Lemmas.{First, Second, lead_of, second_of, len_of_four, fault_is}
+
+-- how many bytes a form has, by its first
+some_long : (c : ℕ) → 1 ≤ length (form c)
+unfolding form
+some_long c = grind (arith, nat_tests)
+
+past_ascii : (c : ℕ) → 0x80 ≤ get_or (form c) 0 0 → 0x80 ≤ c
+unfolding form
+past_ascii c h = grind (arith, nat_tests, h)
+
+two_long : (c : ℕ) → 0x80 ≤ c → 2 ≤ length (form c)
+unfolding form
+two_long c h = grind (arith, nat_tests, h)
+
+three_long : (c : ℕ) → IsScalar c → 0xE0 ≤ get_or (form c) 0 0 → 3 ≤ length (form c)
+unfolding form
+three_long c s h = grind (arith, nat_tests, s, h)
+
+four_long : (c : ℕ) → IsScalar c → 0xF0 ≤ get_or (form c) 0 0 → 4 ≤ length (form c)
+unfolding form
+four_long c s h = grind (arith, nat_tests, s, h)
+
+-- bytes by their first four
+four_first : (r : List ℕ) → 4 ≤ length r → r ≡ get_or r 0 0 ∷ get_or r 1 0 ∷ get_or r 2 0 ∷ get_or r 3 0 ∷ drop 4 r
+four_first [] h = absurd (omega (arith, h))
+four_first (b ∷ []) h = absurd (omega (arith, h))
+four_first (b ∷ x ∷ []) h = absurd (omega (arith, h))
+four_first (b ∷ x ∷ y ∷ []) h = absurd (omega (arith, h))
+four_first (b ∷ x ∷ y ∷ z ∷ t) h = refl
+
+module _ (r : List ℕ) (long : 4 ≤ length r) (high : 0x80 ≤ get_or r 0 0) where
+  -- what the first four bytes are where a character begins there
+  record IsBegun : Type 0 where
+    first : First (get_or r 0 0)
+    second : Second (get_or r 0 0) (get_or r 1 0)
+    third : 0xE0 ≤ get_or r 0 0 → IsContinuation (get_or r 2 0)
+    fourth : 0xF0 ≤ get_or r 0 0 → IsContinuation (get_or r 3 0)
+
+  begun : (c : ℕ) (rest : List ℕ) → IsScalar c → r ≡ form c ++ rest → IsBegun
+  begun c rest s e =
+      let at : (i : ℕ) → i < length (form c) → get_or r i 0 ≡ get_or (form c) i 0 = λ i h. ap (λ l. get_or l i 0) e ∙ get_or_append_left (form c) rest 0 i h in
+      let b_is = at 0 (some_long c) in
+      let past : 0x80 ≤ c = past_ascii c (subst (λ n. 0x80 ≤ n) b_is high) in
+      record {
+        first = subst First (sym b_is) (lead_of c s past);
+        second = subst (λ n. Second n (get_or r 1 0)) (sym b_is) (subst (Second (get_or (form c) 0 0)) (sym (at 1 (two_long c past))) (second_of c s past));
+        third = λ h. let l = three_long c s (subst (λ n. 0xE0 ≤ n) b_is h) in subst IsContinuation (sym (at 2 l)) (form_behind c 2 (omega arith) l);
+        fourth = λ h. let l = four_long c s (subst (λ n. 0xF0 ≤ n) b_is h) in subst IsContinuation (sym (at 3 l)) (form_behind c 3 (omega arith) l);
+      }
+
+  -- what std says of them
+  std_len : utf8_error_len r
+      ≡ (if is_in_range 0xC2 0xF4 (get_or r 0 0) then (if is_in_range (second_byte_min (get_or r 0 0)) (second_byte_max (get_or r 0 0)) (get_or r 1 0) then (if is_in_range 0x80 0xBF (get_or r 2 0) then Some 3 else Some 2) else Some 1) else Some 1)
+  std_len = ap utf8_error_len (four_first r long) ∙ len_of_four (get_or r 0 0) (get_or r 1 0) (get_or r 2 0) (get_or r 3 0) (drop 4 r)
+
+  -- where one of them is not so, the part is as long as that
+  fault : (k : ℕ) → (IsBegun → ⊥) → utf8_error_len r ≡ Some k → IsUtf8Fault r 0 (Some k)
+  fault k n e = fault_is r 0 (Some k) (valid_none r (omega (arith, long)) (λ c rest s w. n (begun c rest s w))) (sym e)
+
+  pub at_first : is_in_range 0xC2 0xF4 (get_or r 0 0) ≡ false → IsUtf8Fault r 0 (Some 1)
+  at_first f = fault 1 (λ w. in_range-false 0xC2 0xF4 (get_or r 0 0) f w.first) (std_len ∙ cond-false _ _ _ f)
+
+  module _ (f : is_in_range 0xC2 0xF4 (get_or r 0 0) ≡ true) where
+    pub at_second : is_in_range (second_byte_min (get_or r 0 0)) (second_byte_max (get_or r 0 0)) (get_or r 1 0) ≡ false → IsUtf8Fault r 0 (Some 1)
+    at_second g = fault 1 (λ w. in_range-false _ _ (get_or r 1 0) g w.second) (std_len ∙ cond-true _ _ _ f ∙ cond-false _ _ _ g)
+
+    module _ (g : is_in_range (second_byte_min (get_or r 0 0)) (second_byte_max (get_or r 0 0)) (get_or r 1 0) ≡ true) where
+      pub at_third : 0xE0 ≤ get_or r 0 0 → (IsContinuation (get_or r 2 0) → ⊥) → IsUtf8Fault r 0 (Some 2)
+      at_third l n = fault 2 (λ w. n (w.third l)) (std_len ∙ cond-true _ _ _ f ∙ cond-true _ _ _ g ∙ cond-false _ _ _ (not_in_range 0x80 0xBF (get_or r 2 0) n))
+
+      pub at_fourth : 0xF0 ≤ get_or r 0 0 → IsContinuation (get_or r 2 0) → (IsContinuation (get_or r 3 0) → ⊥) → IsUtf8Fault r 0 (Some 3)
+      at_fourth l h n = fault 3 (λ w. n (w.fourth l)) (std_len ∙ cond-true _ _ _ f ∙ cond-true _ _ _ g ∙ cond-true _ _ _ (in_range 0x80 0xBF (get_or r 2 0) h))

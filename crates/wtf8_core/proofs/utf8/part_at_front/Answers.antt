@@ -1,0 +1,21 @@
+use Rattle.std.proofs.Common.{sym, ◌∙◌}
+use Rattle.std.proofs.lemmas.Bool.{false≢true}
+use Rattle.wtf8_core.proofs.lemmas.FaultsAtFront.{at_first, at_second, at_third, at_fourth}
+use Rattle.wtf8_core.proofs.utf8.part_at_front.Goals as goal
+
+pub returns-then-not-is_lead : goal.returns-then-not-is_lead
+returns-then-not-is_lead c = at_first c.args.bytes.now c.in-len4-up.len_at_least c.if-first-lt128.false (sym c.is_lead.ensures ∙ c.if-not-is_lead.true)
+
+pub returns-then-not-is_second : goal.returns-then-not-is_second
+returns-then-not-is_second c =
+    at_second c.args.bytes.now c.in-len4-up.len_at_least c.if-first-lt128.false (sym c.is_lead.ensures ∙ c.if-not-is_lead.false) (sym c.is_second.ensures ∙ c.if-not-is_second.true)
+
+pub returns-then-not-is_continuation : goal.returns-then-not-is_continuation
+returns-then-not-is_continuation c =
+    at_third c.args.bytes.now c.in-len4-up.len_at_least c.if-first-lt128.false (sym c.is_lead.ensures ∙ c.if-not-is_lead.false) (sym c.is_second.ensures ∙ c.if-not-is_second.false) c.if-first-lt224.false
+    (λ k. false≢true (sym c.if-not-is_continuation.true ∙ c.is_continuation.ensures.1 k))
+
+pub returns-else-is_continuation : goal.returns-else-is_continuation
+returns-else-is_continuation c =
+    at_fourth c.args.bytes.now c.in-len4-up.len_at_least c.if-first-lt128.false (sym c.is_lead.ensures ∙ c.if-not-is_lead.false) (sym c.is_second.ensures ∙ c.if-not-is_second.false) c.if-first-lt240.false
+    (c.is_continuation.ensures.0 c.if-not-is_continuation.false) (λ k. false≢true (sym c.if-is_continuation.false ∙ c.is_continuation-2.ensures.1 k))
