@@ -75,6 +75,21 @@ fn units(bench: &mut Bench, strings: &[Long]) {
             ],
         );
 
+        bench.line(
+            "to_wide",
+            name,
+            bytes.len(),
+            [
+                Some(&mut || ours::to_wide(black_box(bytes)) as u64),
+                Some(&mut || {
+                    let mut pushed = Vec::with_capacity(bytes.len());
+                    assert!(coders::encode_wide_into(black_box(bytes), &mut pushed));
+                    pushed.len() as u64
+                }),
+                Some(&mut || theirs::windows(black_box(bytes)).encode_wide().collect::<Vec<u16>>().len() as u64),
+            ],
+        );
+
         let units: Vec<u16> = theirs::windows(bytes).encode_wide().collect();
         let written = ours::encode_wide(bytes, &mut room);
         assert!(room[..written] == units, "encode_wide of {name}");

@@ -9,6 +9,7 @@ mod exports {
         pub fn port_encode_wide(bytes: *const u8, len: usize, out: *mut u16, room: usize) -> usize;
         pub fn port_decode_wide(units: *const u16, len: usize, out: *mut u8, room: usize) -> usize;
         pub fn port_from_wide(units: *const u16, len: usize) -> usize;
+        pub fn port_to_wide(bytes: *const u8, len: usize) -> usize;
         pub fn port_lossy(bytes: *const u8, len: usize) -> usize;
         pub fn port_win_lossy(bytes: *const u8, len: usize) -> usize;
         pub fn port_win_read_lossy(bytes: *const u8, len: usize) -> usize;
@@ -43,6 +44,10 @@ pub fn decode_wide(units: &[u16], out: &mut [u8]) -> usize {
 
 pub fn from_wide(units: &[u16]) -> usize {
     unsafe { exports::port_from_wide(units.as_ptr(), units.len()) }
+}
+
+pub fn to_wide(bytes: &[u8]) -> usize {
+    unsafe { exports::port_to_wide(bytes.as_ptr(), bytes.len()) }
 }
 
 pub fn unix_lossy(bytes: &[u8]) -> usize {

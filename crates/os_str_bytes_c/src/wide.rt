@@ -1,9 +1,9 @@
 //! Bytes to units and back.
 ghost use Rattle.std.specs.Prelude.{◌≡◌, ◌≢◌, ◌≤◌, ℕ, List, length};
-ghost use Rattle.wtf8_core.specs.Wtf8.{HasUnits};
+ghost use Rattle.wtf8_core.specs.Wtf8.{HasUnits, IsWtf8};
 ghost use Rattle.os_str_bytes_c.specs.Answers.{IsFaulty, IsFilled};
 
-use platform_str::windows::OsString;
+use platform_str::windows::{OsStr, OsString};
 use std::alloc::Global;
 use wtf8_core::{DecodeWide, encode_wide};
 
@@ -50,6 +50,19 @@ pub extern "C" fn port_from_wide(alloc: Global, units: &[u16]) -> usize
 {
     match OsString::from_wide(alloc, units) {
         Ok(string) => string.as_os_str().len(),
+        Err(_) => usize::MAX,
+    }
+}
+
+/// How many units the string has that the bytes are, once all are in a vector; `usize::MAX` where
+/// memory was refused.
+#[unsafe(no_mangle)]
+pub extern "C" fn port_to_wide(alloc: Global, bytes: &[u8]) -> usize
+    requires { IsWtf8 bytes.now }
+    ensures { result ≢ usize.MAX → (units : List ℕ) × HasUnits bytes.now units × (result ≡ length units) }
+{
+    match OsStr::from_encoded_bytes_unchecked(bytes).to_wide(alloc) {
+        Ok(units) => units.len(),
         Err(_) => usize::MAX,
     }
 }

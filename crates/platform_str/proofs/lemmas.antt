@@ -9,3 +9,5 @@ pub mod Lanes
 pub mod BulkUnits
 pub mod BulkBytes
 pub mod Displays
+pub mod UnitCounts
+pub mod Puts

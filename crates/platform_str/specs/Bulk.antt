@@ -1,6 +1,6 @@
 -- What bulk conversions of Windows strings take off the front, step by step.
-use Rattle.std.specs.Prelude.{◌≡◌, ℕ, List, ◌∷◌, ◌++◌}
-use Rattle.wtf8_core.specs.Surrogate.{IsHigh, IsLow, paired}
+use Rattle.std.specs.Prelude.{◌≡◌, ℕ, ◌+◌, if◌then◌else◌, List, [], ◌∷◌, ◌++◌}
+use Rattle.wtf8_core.specs.Surrogate.{IsHigh, IsLow, is_pair, paired}
 use Rattle.wtf8_core.specs.CodePoint.{IsCodePoint, form, wide}
 use Rattle.wtf8_core.specs.Wtf8.{IsWtf8, HasUnits}
 use Rattle.wtf8_core.specs.UnitsOf.{units_of}
@@ -27,3 +27,12 @@ pub record BeginsPair (us : List ℕ) (c : ℕ) (rest : List ℕ) : Type 0 where
 
 abbrev pub BeginsNoPair : List ℕ → Type 0
 BeginsNoPair us = (high low : ℕ) (rest : List ℕ) → us ≡ high ∷ low ∷ rest → IsHigh high → IsLow low → ⊥
+
+-- how many pairs of a high and a low surrogate stand among units
+abbrev pub begins_pair : ℕ → List ℕ → ℕ
+begins_pair u [] = 0
+begins_pair u (v ∷ us) = if is_pair u v then 1 else 0
+
+abbrev pub pairs : List ℕ → ℕ
+pairs [] = 0
+pairs (u ∷ us) = begins_pair u us + pairs us

@@ -1,12 +1,12 @@
 //! The units of Windows strings and the bytes of units, many at once: ASCII by blocks of 16, and
 //! code point by code point what stands between.
-ghost use Rattle.std.specs.Prelude.{◌≡◌, ◌++◌, ◌+◌, ◌*◌, ◌≤◌, ◌<◌, ◌∷◌, ℕ, List, true, drop, length, IsOk, IfSome, MatchOption, OnOk, vec_len, vec_capacity};
-ghost use Rattle.std.specs.List.{All};
+ghost use Rattle.std.specs.Prelude.{◌≡◌, ◌++◌, ◌+◌, ◌*◌, ◌≤◌, ◌<◌, ◌∷◌, ℕ, List, true, leb, take, drop, length, IsOk, IfSome, MatchOption, OnOk, vec_len, vec_capacity};
+ghost use Rattle.std.specs.List.{All, count_by};
 ghost use Rattle.wtf8_core.specs.CodePoint.{IsCodePoint, wide, form};
 ghost use Rattle.wtf8_core.specs.Wtf8.{IsWtf8, HasUnits};
 ghost use Rattle.wtf8_core.specs.UnitsOf.{units_of};
 ghost use Rattle.platform_str.specs.Strings.{bytes};
-ghost use Rattle.platform_str.specs.Bulk.{BeginsForm, BeginsPair, BeginsNoPair, SpellsBefore};
+ghost use Rattle.platform_str.specs.Bulk.{BeginsForm, BeginsPair, BeginsNoPair, SpellsBefore, pairs};
 
 use crate::os_str::OsStr;
 use crate::platform::Windows;
@@ -142,13 +142,16 @@ pub(crate) fn push_units<A: Allocator>(
     push_each(units, OsStr::from_encoded_bytes_unchecked(rest))
 }
 
-/// The first 16 units and those behind them, where these 16 are ASCII.
+/// The first 16 units and those behind them, where a block is wanted and these 16 are ASCII.
 #[inline(always)]
-fn first_ascii_block(units: &[u16]) -> Option<(&[u16; 16], &[u16])>
+fn first_ascii_block(units: &[u16], wanted: bool) -> Option<(&[u16; 16], &[u16])>
     ensures joined { IfSome result (λ first. units.now ≡ first.0.now ++ first.1.now) }
     ensures ascii { IfSome result (λ first. All (λ u. u < 0x80) first.0.now) }
     ensures len { IfSome result (λ first. length first.0.now ≡ 16) }
 {
+    if !wanted {
+        return None;
+    }
     let (block, rest) = units.split_first_chunk::<16>()?;
     if are_ascii_units(*block) {
         Some((block, rest))
@@ -191,91 +194,126 @@ fn first_code_point(units: &[u16]) -> (u32, &[u16])
     }
 }
 
-/// How many bytes the form of a code point has.
-#[tactic(auto, unfolding(wtf8_core::specs::CodePoint::form))]
+/// Writes 16 units of ASCII from place `at` on.
 #[inline(always)]
-fn form_len(code_point: u32) -> usize
-    ensures { result ≡ length (form code_point) }
+fn put_ascii(bytes: &mut [u8], at: usize, block: [u16; 16])
+    requires ascii { All (λ u. u < 0x80) block }
+    requires room { at + 16 ≤ length bytes.old }
+    ensures written { take (at + 16) bytes.new ≡ take at bytes.old ++ block }
+    ensures len { length bytes.new ≡ length bytes.old }
 {
-    if code_point < 0x80 {
-        1
-    } else if code_point < 0x800 {
-        2
-    } else if code_point < 0x1_0000 {
-        3
-    } else {
-        4
-    }
+    u8x16::from_array(narrowed(block)).copy_to_slice(&mut bytes[at..]);
 }
 
-/// Writes the form of a code point behind other bytes.
-#[tactic(auto, unfolding(wtf8_core::specs::CodePoint::form))]
+/// Writes the form of a code point from place `at` on, and answers where it ends.
+#[tactic(auto, using(crate::proofs::lemmas::Puts::one_put, crate::proofs::lemmas::Puts::two_put, crate::proofs::lemmas::Puts::three_put, crate::proofs::lemmas::Puts::four_put), unfolding(wtf8_core::specs::CodePoint::form))]
 #[inline(always)]
-fn push_form<A: Allocator>(bytes: &mut Vec<u8, A>, code_point: u32) -> Result<(), AllocError>
-    requires { IsCodePoint code_point }
-    ensures ok { OnOk result (bytes.new.items ≡ bytes.old.items ++ form code_point) }
-    ensures room { vec_len bytes.old + length (form code_point) ≤ vec_capacity bytes.old → IsOk result }
-    ensures capacity { vec_capacity bytes.old ≤ vec_capacity bytes.new }
+fn put_form(bytes: &mut [u8], at: usize, code_point: u32) -> usize
+    requires code_point { IsCodePoint code_point }
+    requires room { at + length (form code_point) ≤ length bytes.old }
+    ensures written { take result bytes.new ≡ take at bytes.old ++ form code_point }
+    ensures end { result ≡ at + length (form code_point) }
+    ensures len { length bytes.new ≡ length bytes.old }
 {
     if code_point < 0x80 {
-        bytes.push(code_point as u8)?;
-        return Ok(());
+        bytes[at] = code_point as u8;
+        return at + 1;
     }
     let last = (0x80 + code_point % 0x40) as u8;
     if code_point < 0x800 {
-        return bytes.extend_from_slice(&[(0xC0 + code_point / 0x40) as u8, last]);
+        bytes[at] = (0xC0 + code_point / 0x40) as u8;
+        bytes[at + 1] = last;
+        return at + 2;
     }
     let third = (0x80 + code_point / 0x40 % 0x40) as u8;
     if code_point < 0x1_0000 {
-        return bytes.extend_from_slice(&[(0xE0 + code_point / 0x1000) as u8, third, last]);
+        bytes[at] = (0xE0 + code_point / 0x1000) as u8;
+        bytes[at + 1] = third;
+        bytes[at + 2] = last;
+        return at + 3;
     }
-    let second = (0x80 + code_point / 0x1000 % 0x40) as u8;
-    bytes.extend_from_slice(&[(0xF0 + code_point / 0x4_0000) as u8, second, third, last])
+    bytes[at] = (0xF0 + code_point / 0x4_0000) as u8;
+    bytes[at + 1] = (0x80 + code_point / 0x1000 % 0x40) as u8;
+    bytes[at + 2] = third;
+    bytes[at + 3] = last;
+    at + 4
 }
 
-/// How many bytes the string with these units has.
+/// How many of the first 16 units are `least` or more.
+#[inline(always)]
+fn count_from(units: &[u16], least: u16) -> usize
+    requires { 16 ≤ length units.now }
+    ensures { result ≡ count_by (leb least) (take 16 units.now) }
+{
+    let ones = u16x16::from_slice(units)
+        .simd_ge(u16x16::splat(least))
+        .to_bitmask()
+        .count_ones();
+    ones as usize
+}
+
+/// How many pairs begin with one of the first 16 units.
+#[inline(always)]
+fn count_pairs(units: &[u16]) -> usize
+    requires { 17 ≤ length units.now }
+    ensures { result + pairs (drop 16 units.now) ≡ pairs units.now }
+{
+    // the six bits that tell what half a unit is, of a unit and of the one behind it
+    let first = u16x16::from_slice(units) >> u16x16::splat(10);
+    let second = u16x16::from_slice(&units[1..]) >> u16x16::splat(10);
+    let ones = ((first << u16x16::splat(6)) + second)
+        .simd_eq(u16x16::splat(0x36 * 0x40 + 0x37))
+        .to_bitmask()
+        .count_ones();
+    ones as usize
+}
+
+/// How many bytes the string with these units has: one for each unit, one more for each from 80
+/// on, one more for each from 800 on, and two less for each pair (hexadecimal).
 pub(crate) fn bytes_len(units: &[u16]) -> usize
     ensures { (string : List ℕ) → HasUnits string units.now → result ≡ length string }
 {
     let mut len = 0;
+    let mut pairs = 0;
     let mut rest = units;
-    while !rest.is_empty() {
-        match first_ascii_block(rest) {
-            Some((_, behind)) => {
-                len += 16;
-                rest = behind;
-            }
-            None => {
-                let (code_point, behind) = first_code_point(rest);
-                len += form_len(code_point);
-                rest = behind;
-            }
+    while let [unit, behind @ ..] = rest {
+        if rest.len() > 16 {
+            len += 16 + count_from(rest, 0x80) + count_from(rest, 0x800);
+            pairs += count_pairs(rest);
+            let (_, behind) = rest.split_at(16);
+            rest = behind;
+        } else {
+            len += 1 + usize::from(*unit >= 0x80) + usize::from(*unit >= 0x800);
+            pairs += usize::from(first_pair(rest).is_some());
+            rest = behind;
         }
     }
-    len
+    len - pairs - pairs
 }
 
-/// Writes the bytes of units behind others. Where there is room for all, no memory is asked for.
-pub(crate) fn push_spelled<A: Allocator>(
-    bytes: &mut Vec<u8, A>,
-    units: &[u16],
-) -> Result<(), AllocError>
-    ensures ok { OnOk result ((string : List ℕ) × HasUnits string units.now × (bytes.new.items ≡ bytes.old.items ++ string)) }
-    ensures room { (string : List ℕ) → HasUnits string units.now → vec_len bytes.old + length string ≤ vec_capacity bytes.old → IsOk result }
+/// Writes the bytes of units over others, which are as many.
+pub(crate) fn spell(units: &[u16], bytes: &mut [u8])
+    requires { (string : List ℕ) → HasUnits string units.now → length bytes.old ≡ length string }
+    ensures { HasUnits bytes.new units.now }
 {
     let mut rest = units;
+    let mut at = 0;
+
+    // where 16 units aren't all ASCII, so many code points are taken before the next test
+    let mut singles: usize = 0;
     while !rest.is_empty() {
-        match first_ascii_block(rest) {
+        match first_ascii_block(rest, singles == 0) {
             Some((block, behind)) => {
-                bytes.extend_from_slice(&narrowed(*block))?;
+                put_ascii(bytes, at, *block);
+                at += 16;
                 rest = behind;
             }
             None => {
                 let (code_point, behind) = first_code_point(rest);
-                push_form(bytes, code_point)?;
+                at = put_form(bytes, at, code_point);
                 rest = behind;
+                singles = (singles + 15) % 16;
             }
         }
     }
-    Ok(())
 }

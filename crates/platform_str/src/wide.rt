@@ -4,7 +4,7 @@ ghost use Rattle.std.specs.Iterator.{YieldsFirst, item_count};
 ghost use Rattle.wtf8_core.specs.Wtf8.{HasUnits};
 ghost use Rattle.platform_str.specs.Strings.{bytes, string_vec_of};
 
-use crate::blocks::{bytes_len, push_spelled, push_units};
+use crate::blocks::{bytes_len, push_units, spell};
 use crate::os_str::OsStr;
 use crate::os_string::OsString;
 use crate::platform::{Platform, Windows};
@@ -90,8 +90,10 @@ impl<A: Allocator> OsString<Windows, A> {
         ensures units { IfOk result (λ string. ⟦<Windows as Platform>⟧.units (string_vec_of string).items ≡ units.now) }
         ensures without_memory { units.now ≡ [] → IsOk result }
     {
-        let mut vec = Vec::with_capacity(alloc, bytes_len(units))?;
-        push_spelled(&mut vec, units)?;
+        let len = bytes_len(units);
+        let mut vec = Vec::with_capacity(alloc, len)?;
+        vec.resize(len, 0)?;
+        spell(units, vec.as_mut_slice());
         Ok(OsString::from_encoded_bytes_unchecked(vec))
     }
 }

@@ -1,15 +1,14 @@
 -- The bytes of units, front by front.
-use Rattle.std.proofs.Common.{◌≡◌, ℕ, ◌+◌, ◌*◌, ◌≤◌, ◌<◌, List, [], ◌∷◌, ◌++◌, length, length-append, take, drop, slice_index, get_or, Fits, w16, vec_len, vec_capacity, refl, sym, ap, ◌∙◌, subst, arith, append_assoc}
+use Rattle.std.proofs.Common.{◌≡◌, ℕ, ◌+◌, ◌*◌, ◌≤◌, ◌<◌, List, [], ◌∷◌, ◌++◌, length, length-append, take, drop, slice_index, get_or, Fits, w16, refl, sym, ap, ◌∙◌, subst, arith, append_assoc}
 use Rattle.std.proofs.lemmas.Bool.Decides.{nat_tests}
-use Rattle.std.proofs.lemmas.List.{append-nil}
+use Rattle.std.proofs.lemmas.List.{append-nil, length-take, take_all}
 use Rattle.std.proofs.lemmas.List.Elements.{recursion_from_All, All-from_get_or}
-use Rattle.std.specs.declared.vec.Vec.{Vec}
 use Rattle.std.specs.List.{All, AllByRecursion}
 use Rattle.wtf8_core.specs.Surrogate.{IsHigh, IsLow, paired}
 use Rattle.wtf8_core.specs.CodePoint.{IsCodePoint, form, wide}
 use Rattle.wtf8_core.specs.Wtf8.{MayPrecede, HasUnits, units}
 use Rattle.wtf8_core.proofs.lemmas.Forms.{form_ascii, form_bounds}
-use Rattle.wtf8_core.proofs.lemmas.UnitsLemmas.{IsUnit, wide_single, may_precede, units_once, units_spelled}
+use Rattle.wtf8_core.proofs.lemmas.UnitsLemmas.{IsUnit, wide_single, may_precede, units_spelled}
 use Rattle.platform_str.specs.Bulk.{SpellsBefore, BeginsPair, BeginsNoPair}
 
 -- before the first unit, and behind the last
@@ -122,21 +121,17 @@ units_behind taken rest all e a = go taken (subst (AllByRecursion IsUnit) e a)
 pub are_units : (us : List ℕ) → ((i : ℕ) → Fits w16 (get_or us i 0)) → AllByRecursion IsUnit us
 are_units us h = recursion_from_All IsUnit us (All-from_get_or IsUnit us 0 (λ i _. omega (arith, h i)))
 
--- where there is room for all bytes there is room for those that come next
-pub bytes_room : {Z : Type 0} (old now : Vec ℕ Z) (front next behind string us : List ℕ) → now.items ≡ old.items ++ front → SpellsBefore (front ++ next) behind us → AllByRecursion IsUnit behind → HasUnits string us → vec_capacity old ≤ vec_capacity now
-    → vec_len old + length string ≤ vec_capacity old → vec_len now + length next ≤ vec_capacity now
-bytes_room old now front next behind string us e s a h k r =
+-- where there is room for the string there is room for the bytes that come next
+pub bytes_fit : (front next behind us : List ℕ) (n : ℕ) → SpellsBefore (front ++ next) behind us → AllByRecursion IsUnit behind → ((string : List ℕ) → HasUnits string us → n ≡ length string) → length front + length next ≤ n
+bytes_fit front next behind us n s a exact =
     let b = units_spelled behind a in
-    let same : string ≡ (front ++ next) ++ b.0 = units_once string ((front ++ next) ++ b.0) us h (s b.0 b.1) in
-    omega (arith, ap length same, length-append (front ++ next) b.0, length-append front next, ap length e, length-append old.items front, old.ok.0, now.ok.0)
+    omega (arith, exact _ (s b.0 b.1), length-append (front ++ next) b.0, length-append front next)
 
--- bytes written behind those before
-pub written_both : {now new lanes : List ℕ} (old front more : List ℕ) → now ≡ old ++ front → new ≡ now ++ lanes → lanes ≡ more → new ≡ old ++ (front ++ more)
-written_both {now} {new} {lanes} old front more e n l = n ∙ ap (λ x. now ++ x) l ∙ ap (λ x. x ++ more) e ∙ append_assoc old front more
-
--- bytes written into an empty vector
-pub written_alone : {none new us : List ℕ} → none ≡ [] → (string : List ℕ) × HasUnits string us × (new ≡ none ++ string) → HasUnits new us
-written_alone {none} {new} {us} e w = subst (λ b. HasUnits b us) (sym (w.2 ∙ ap (λ x. x ++ w.0) e)) w.1
+-- where the bytes written are those of all units they are all
+pub bytes_filled : (at : ℕ) (bytes rest us : List ℕ) → length rest ≡ 0 → at ≤ length bytes → SpellsBefore (take at bytes) rest us → ((string : List ℕ) → HasUnits string us → length bytes ≡ length string) → HasUnits bytes us
+bytes_filled at bytes rest us none fits s exact =
+    let h = spells_end (take at bytes) rest us none s in
+    subst (λ b. HasUnits b us) (take_all at bytes (omega (arith, exact _ h, length-take at bytes))) h
 
 -- no units have no bytes
 pub has_none : (us : List ℕ) → us ≡ [] → HasUnits [] us

@@ -1,36 +1,54 @@
-use Rattle.std.proofs.Common.{rules, ◌≡◌, ◌++◌, length, length-append, arith, ap}
-use Rattle.wtf8_core.specs.CodePoint.{form}
-use Rattle.wtf8_core.proofs.lemmas.UnitsLemmas.{units_once}
-use Rattle.platform_str.proofs.lemmas.BulkBytes.{spells_both, spells_ascii, spells_end}
+use Rattle.std.proofs.Common.{rules, ◌≤◌, ◌<◌, ◌*◌, ◌^◌, length, take, drop, ap, sym, subst, arith}
+use Rattle.std.specs.List.{AllByRecursion}
+use Rattle.std.proofs.lemmas.List.{take-append-drop}
+use Rattle.wtf8_core.proofs.lemmas.UnitsLemmas.{IsUnit}
+use Rattle.platform_str.specs.Bulk.{pairs}
+use Rattle.platform_str.proofs.lemmas.UnitCounts.{counted, counted_front, counted_few, count_few, counted_none, pairs_few, all_counted, string_counted}
+use Rattle.platform_str.proofs.lemmas.BulkBytes.{are_units, units_behind}
 use Rattle.platform_str.proofs.blocks.bytes_len.Goals as goal
 
-pub loop-rest-preserved-in-Some : goal.loop-rest-preserved-in-Some
-loop-rest-preserved-in-Some c =
-    let front = c.loop-rest.invariant.0.0 in
-    let block = c.in-Some.field-0-0.now in
-    let behind = c.in-Some.behind.now in (
-      (
-        front ++ block,
-        spells_both front block c.loop-rest.rest.now behind c.args.units.now c.loop-rest.invariant.0.1 (spells_ascii block behind c.loop-rest.rest.now c.in-Some.ensures.ascii c.in-Some.ensures.joined),
-        omega (arith, length-append front block, c.loop-rest.invariant.0.2, c.in-Some.ensures.len),
-      ),
-      omega (arith, c.loop-rest.invariant.1, ap length c.in-Some.ensures.joined, length-append block behind, c.in-Some.ensures.len),
+pub overflow_add-len : goal.overflow_add-len
+overflow_add-len c = omega (arith, c.count_from.ensures, count_few 16 0x80 c.loop-rest.rest.now)
+
+pub overflow_add-len-then-rest-gt16 : goal.overflow_add-len-then-rest-gt16
+overflow_add-len-then-rest-gt16 c = omega (arith, c.count_from.ensures, c.count_from-then-rest-gt16.ensures, count_few 16 0x80 c.loop-rest.rest.now, count_few 16 0x800 c.loop-rest.rest.now)
+
+pub overflow_add-len-then-rest-gt16-2 : goal.overflow_add-len-then-rest-gt16-2
+overflow_add-len-then-rest-gt16-2 c =
+    let short : 3 * length c.args.units.now < 2 ^ 64 = search rules in
+    omega (arith, short, c.loop-rest.invariant.0, c.count_from.ensures, c.count_from-then-rest-gt16.ensures, counted_front 16 c.loop-rest.rest.now (omega (arith, c.if-rest-gt16.true)), counted_few c.args.units.now)
+
+pub overflow_add-pairs : goal.overflow_add-pairs
+overflow_add-pairs c =
+    let short : 3 * length c.args.units.now < 2 ^ 64 = search rules in
+    omega (arith, short, c.loop-rest.invariant.1, c.count_pairs-pairs.ensures, pairs_few c.args.units.now)
+
+pub overflow_add-pairs-else-rest-gt16 : goal.overflow_add-pairs-else-rest-gt16
+overflow_add-pairs-else-rest-gt16 c =
+    let short : 3 * length c.args.units.now < 2 ^ 64 = search rules in
+    let one : c.from-pairs.result ≤ 1 = search rules in
+    omega (arith, short, c.loop-rest.invariant.1, pairs_few c.args.units.now, one)
+
+pub loop-rest-preserved-then-rest-gt16 : goal.loop-rest-preserved-then-rest-gt16
+loop-rest-preserved-then-rest-gt16 c =
+    let rest = c.loop-rest.rest.now in
+    let behind = c.split_at.ensures.back in (
+      omega (arith, c.loop-rest.invariant.0, c.count_from.ensures, c.count_from-then-rest-gt16.ensures, counted_front 16 rest (omega (arith, c.if-rest-gt16.true)), ap counted behind),
+      omega (arith, c.loop-rest.invariant.1, c.count_pairs-pairs.ensures, ap pairs behind),
+      subst (AllByRecursion IsUnit) (sym behind) (units_behind (take 16 rest) (drop 16 rest) rest (sym (take-append-drop 16 rest)) c.loop-rest.invariant.2),
     )
 
-pub loop-rest-preserved : goal.loop-rest-preserved
-loop-rest-preserved c =
-    let front = c.loop-rest.invariant.0.0 in
-    let more = form c.first_code_point-code_point.result.0 in (
-      (
-        front ++ more,
-        spells_both front more c.loop-rest.rest.now c.first_code_point-code_point.result.1.now c.args.units.now c.loop-rest.invariant.0.1 c.first_code_point-code_point.ensures.spelled,
-        omega (arith, length-append front more, c.loop-rest.invariant.0.2, c.form_len-len.ensures),
-      ),
-      omega (arith, c.loop-rest.invariant.1, c.first_code_point-code_point.ensures.len, c.form_len-len.ensures),
-    )
+pub overflow_sub-result : goal.overflow_sub-result
+overflow_sub-result c =
+    let none = counted_none c.loop-rest.rest.now c.in_default.len_below in
+    omega (arith, c.loop-rest.invariant.0, c.loop-rest.invariant.1, none.0, none.1, all_counted c.args.units.now (are_units c.args.units.now c.type_inv.units))
+
+pub overflow_sub-result-2 : goal.overflow_sub-result-2
+overflow_sub-result-2 c =
+    let none = counted_none c.loop-rest.rest.now c.in_default.len_below in
+    omega (arith, c.loop-rest.invariant.0, c.loop-rest.invariant.1, none.0, none.1, all_counted c.args.units.now (are_units c.args.units.now c.type_inv.units))
 
 pub returns : goal.returns
 returns c = λ string h.
-    let none : length c.loop-rest.rest.now ≡ 0 = search rules in
-    let front = c.loop-rest.invariant.0.0 in
-    omega (arith, c.loop-rest.invariant.0.2, ap length (units_once string front c.args.units.now h (spells_end front c.loop-rest.rest.now c.args.units.now none c.loop-rest.invariant.0.1)))
+    let none = counted_none c.loop-rest.rest.now c.in_default.len_below in
+    omega (arith, c.loop-rest.invariant.0, c.loop-rest.invariant.1, none.0, none.1, string_counted string c.args.units.now (are_units c.args.units.now c.type_inv.units) h)

@@ -1,9 +1,13 @@
-use Rattle.std.proofs.Common.{◌≡◌, ◌+◌, ◌*◌, ◌≤◌, ℕ, List, length}
-use Rattle.platform_str.specs.Bulk.{SpellsBefore}
+use Rattle.std.proofs.Common.{◌≡◌, ◌+◌, length}
+use Rattle.std.specs.List.{AllByRecursion}
+use Rattle.wtf8_core.proofs.lemmas.UnitsLemmas.{IsUnit}
+use Rattle.platform_str.specs.Bulk.{pairs}
+use Rattle.platform_str.proofs.lemmas.UnitCounts.{counted}
 use Rattle.platform_str.proofs.blocks.bytes_len.Given as goal
 
 abbrev pub invariant-loop-rest : goal.invariant-loop-rest
-invariant-loop-rest l = ((front : List ℕ) × SpellsBefore front l.rest l.units × (length front ≡ l.len)) × (l.len + 3 * length l.rest ≤ 3 * length l.units)
+invariant-loop-rest l =
+    (l.len + counted l.rest ≡ counted l.units) × (l.pairs + pairs l.rest ≡ pairs l.units) × AllByRecursion IsUnit l.rest
 
 abbrev pub decreases-loop-rest : goal.decreases-loop-rest
 decreases-loop-rest l = length l.rest

@@ -1,24 +1,16 @@
-use Rattle.std.proofs.Common.{[], sym, subst, arith}
+use Rattle.std.proofs.Common.{rules, ◌≡◌, [], length, sym, subst}
 use Rattle.std.proofs.lemmas.Bool.{false≢true}
+use Rattle.std.proofs.lemmas.List.{with_items_is}
 use Rattle.wtf8_core.specs.Wtf8.{HasUnits}
-use Rattle.wtf8_core.proofs.lemmas.UnitsLemmas.{units_spelled}
 use Rattle.wtf8_core.proofs.lemmas.UnitsOfLemmas.{units_of-is}
-use Rattle.platform_str.proofs.lemmas.BulkBytes.{are_units, has_none, written_alone}
+use Rattle.platform_str.proofs.lemmas.BulkBytes.{has_none}
 use Rattle.platform_str.proofs.wide.OsString+Windows+A.from_wide.Goals as goal
 
 pub returns-in_err-vec-clause-without_memory : goal.returns-in_err-vec-clause-without_memory
-returns-in_err-vec-clause-without_memory g c = λ none. absurd (false≢true (c.in_err-vec.ensures.succeeds (c.bytes_len.ensures [] (has_none c.args.units.now none))))
-
-pub returns-in_err-push_spelled-clause-without_memory : goal.returns-in_err-push_spelled-clause-without_memory
-returns-in_err-push_spelled-clause-without_memory g c = λ _.
-    let s = units_spelled c.args.units.now (are_units c.args.units.now c.type_inv.units) in
-    absurd (false≢true (c.in_err-push_spelled.ensures.room s.0 s.1 (omega (arith, c.in_ok-vec.ensures.len, c.in_ok-vec.ensures.capacity, c.bytes_len.ensures s.0 s.1))))
-
-pub from_encoded_bytes_unchecked-requires : goal.from_encoded_bytes_unchecked-requires
-from_encoded_bytes_unchecked-requires g c = let w = written_alone c.in_ok-vec.ensures.items c.in_ok-push_spelled.ensures.ok in (w.code_points, w.spelled)
-
-pub returns-clause-has_units : goal.returns-clause-has_units
-returns-clause-has_units g c = subst (λ vec. HasUnits vec.items c.args.units.now) (sym c.from_encoded_bytes_unchecked.ensures) (written_alone c.in_ok-vec.ensures.items c.in_ok-push_spelled.ensures.ok)
+returns-in_err-vec-clause-without_memory g c = λ none. absurd (false≢true (c.in_err-vec.ensures.succeeds (c.bytes_len-len.ensures [] (has_none c.args.units.now none))))
 
 pub returns-clause-units : goal.returns-clause-units
-returns-clause-units g c = units_of-is _ _ (returns-clause-has_units g c)
+returns-clause-units g c =
+    let len : length c.spell.new.bytes ≡ c.resize.new.self.len = search rules in
+    let has = subst (λ b. HasUnits b c.args.units.now) (sym (with_items_is c.resize.new.self c.spell.new.bytes len)) c.spell.ensures in
+    units_of-is _ _ (subst (λ vec. HasUnits vec.items c.args.units.now) (sym c.from_encoded_bytes_unchecked.ensures) has)

@@ -1,0 +1,74 @@
+use Rattle.std.proofs.Common.{rules, ◌≡◌, length, take, sym, subst, arith, ◌∙◌}
+use Rattle.std.proofs.lemmas.List.{length-take-le}
+use Rattle.wtf8_core.specs.CodePoint.{form}
+use Rattle.platform_str.specs.Bulk.{SpellsBefore}
+use Rattle.platform_str.proofs.lemmas.BulkBytes.{spells_both, spells_ascii, units_behind, bytes_fit, bytes_filled}
+use Rattle.platform_str.proofs.blocks.spell.Goals as goal
+
+pub put_ascii-requires-clause-room : goal.put_ascii-requires-clause-room
+put_ascii-requires-clause-room c =
+    let front = take c.loop-rest.at c.loop-rest.bytes in
+    let block = c.in-Some.block.now in
+    let behind = c.in-Some.behind.now in
+    let rest = c.loop-rest.rest.now in
+    let s = spells_both front block rest behind c.args.units.now c.loop-rest.invariant.0 (spells_ascii block behind rest c.in-Some.ensures.ascii c.in-Some.ensures.joined) in
+    omega (
+      arith,
+      bytes_fit front block behind c.args.units.now _ s (units_behind block behind rest c.in-Some.ensures.joined c.loop-rest.invariant.4) c.requires,
+      length-take-le c.loop-rest.at c.loop-rest.bytes c.loop-rest.invariant.1,
+      c.loop-rest.invariant.2,
+      c.in-Some.ensures.len,
+    )
+
+pub loop-rest-preserved-in-Some : goal.loop-rest-preserved-in-Some
+loop-rest-preserved-in-Some c =
+    let front = take c.loop-rest.at c.loop-rest.bytes in
+    let block = c.in-Some.block.now in
+    let behind = c.in-Some.behind.now in
+    let rest = c.loop-rest.rest.now in
+    let s = spells_both front block rest behind c.args.units.now c.loop-rest.invariant.0 (spells_ascii block behind rest c.in-Some.ensures.ascii c.in-Some.ensures.joined) in
+    let us = units_behind block behind rest c.in-Some.ensures.joined c.loop-rest.invariant.4 in
+    let fit = bytes_fit front block behind c.args.units.now _ s us c.requires in (
+      subst (λ b. SpellsBefore b behind c.args.units.now) (sym c.put_ascii.ensures.written) s,
+      omega (arith, fit, length-take-le c.loop-rest.at c.loop-rest.bytes c.loop-rest.invariant.1, c.loop-rest.invariant.2, c.in-Some.ensures.len, c.put_ascii.ensures.len),
+      c.put_ascii.ensures.len ∙ c.loop-rest.invariant.2,
+      c.loop-rest.invariant.3,
+      us,
+    )
+
+pub put_form-at-requires-clause-room : goal.put_form-at-requires-clause-room
+put_form-at-requires-clause-room c =
+    let front = take c.loop-rest.at c.loop-rest.bytes in
+    let more = form c.first_code_point-code_point.result.0 in
+    let behind = c.first_code_point-code_point.result.1.now in
+    let rest = c.loop-rest.rest.now in
+    let k = c.first_code_point-code_point.ensures.behind in
+    let s = spells_both front more rest behind c.args.units.now c.loop-rest.invariant.0 c.first_code_point-code_point.ensures.spelled in
+    omega (
+      arith,
+      bytes_fit front more behind c.args.units.now _ s (units_behind k.0 behind rest k.1 c.loop-rest.invariant.4) c.requires,
+      length-take-le c.loop-rest.at c.loop-rest.bytes c.loop-rest.invariant.1,
+      c.loop-rest.invariant.2,
+    )
+
+pub loop-rest-preserved : goal.loop-rest-preserved
+loop-rest-preserved c =
+    let front = take c.loop-rest.at c.loop-rest.bytes in
+    let more = form c.first_code_point-code_point.result.0 in
+    let behind = c.first_code_point-code_point.result.1.now in
+    let rest = c.loop-rest.rest.now in
+    let k = c.first_code_point-code_point.ensures.behind in
+    let s = spells_both front more rest behind c.args.units.now c.loop-rest.invariant.0 c.first_code_point-code_point.ensures.spelled in
+    let us = units_behind k.0 behind rest k.1 c.loop-rest.invariant.4 in
+    let fit = bytes_fit front more behind c.args.units.now _ s us c.requires in (
+      subst (λ b. SpellsBefore b behind c.args.units.now) (sym c.put_form-at.ensures.written) s,
+      omega (arith, fit, length-take-le c.loop-rest.at c.loop-rest.bytes c.loop-rest.invariant.1, c.loop-rest.invariant.2, c.put_form-at.ensures.end, c.put_form-at.ensures.len),
+      c.put_form-at.ensures.len ∙ c.loop-rest.invariant.2,
+      omega arith,
+      us,
+    )
+
+pub returns : goal.returns
+returns c =
+    let none : length c.loop-rest.rest.now ≡ 0 = search rules in
+    bytes_filled c.loop-rest.at c.loop-rest.bytes c.loop-rest.rest.now c.args.units.now none c.loop-rest.invariant.1 c.loop-rest.invariant.0 (λ string h. c.loop-rest.invariant.2 ∙ c.requires string h)
