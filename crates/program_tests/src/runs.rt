@@ -1,9 +1,9 @@
 //! A run over ends that never fail.
+use crate::ends::{Reader, Writer};
 use commands::command::Command;
 use commands::fault::Fault;
 use commands::marked::Marked;
 use commands::run::run;
-use crate::ends::{Reader, Writer};
 use std::alloc::{AllocError, Allocator, Global};
 
 /// The words as the program is given them.

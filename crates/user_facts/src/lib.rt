@@ -52,6 +52,3 @@ pub use units::{
     equal_by_units, listed, order, order_of_code_points, owned_order, same_owned_string,
     same_string, spelled, through_string, through_units, units_say,
 };
-
-#[cfg(test)]
-mod tests;

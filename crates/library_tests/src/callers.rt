@@ -1,5 +1,5 @@
 //! The callers on their happy paths.
-use crate::{
+use user_facts::{
     Plan9, behind_first, between_inclusive, io_lossy_is_safe, joined_either_way, rejoined,
     same_string, starts_as_joined, taken_back, there_and_back, three_parts, through_units,
 };
