@@ -6,7 +6,8 @@ ghost use Rattle.wtf8_core.specs.Neighbours.{AllMayStand, AllPlain};
 
 use crate::byte::is_continuation;
 use crate::lanes::{
-    apart, joined, later_bit, load, masked, others_before, pair_bits, turned, zeros_before,
+    apart, are_zero, joined, later_bit, load, masked, others_before, pair_bits, turned,
+    zeros_before,
 };
 use std::simd::prelude::*;
 
@@ -47,12 +48,11 @@ pub(crate) fn kept_len(window: &[u8], surrogates: bool) -> usize
     ensures plain { IsFalse surrogates → AllPlain result window.now }
 {
     let wrong = wrong_bits(window);
-    let clear = zeros_before(wrong);
-    if clear == 64 {
-        return clear;
+    if are_zero(wrong) {
+        return 64;
     }
     if !surrogates {
-        return clear;
+        return zeros_before(wrong);
     }
     zeros_before(masked(wrong, 0xBF)).min(others_before(unlike_pair(window)))
 }

@@ -128,6 +128,14 @@ pub(crate) fn later_bit(three: u8x64, two: u8x64) -> u8x64
     masked(joined(above(three, 0x70), above(two, 0x60)), 0x80)
 }
 
+/// Whether all lanes are 0.
+#[inline(always)]
+pub(crate) fn are_zero(lanes: u8x64) -> bool
+    ensures { IsTrue result → (i : ℕ) → i < 64 → slice_index lanes i ≡ 0 }
+{
+    lanes.simd_ne(u8x64::splat(0)).to_bitmask() == 0
+}
+
 /// How many lanes are 0 before the first that isn't.
 #[inline(always)]
 pub(crate) fn zeros_before(lanes: u8x64) -> usize
@@ -176,5 +184,5 @@ pub(crate) fn ascii_before(lanes: u8x64) -> usize
 pub(crate) fn are_ascii(lanes: u8x64) -> bool
     ensures { IsTrue result → (i : ℕ) → i < 64 → slice_index lanes i < 0x80 }
 {
-    ascii_before(lanes) == 64
+    lanes.simd_ge(u8x64::splat(0x80)).to_bitmask() == 0
 }

@@ -1,5 +1,5 @@
 -- The operations on vectors, lane by lane.
-use Rattle.std.proofs.Common.{◌≡◌, inl, inr, ◌⊎◌, ⊎_elim, ℕ, zero, suc, ◌+◌, ◌-◌, ◌%◌, ◌^◌, ◌<◌, ◌≤◌, Bool, true, false, cond, ltb, List, [], ◌∷◌, map, length, get_or, replicate, not, refl, sym, ap, ◌∙◌, subst, arith, w8, Fits}
+use Rattle.std.proofs.Common.{◌≡◌, inl, inr, ◌⊎◌, ⊎_elim, ℕ, zero, suc, ◌+◌, ◌-◌, ◌%◌, ◌^◌, ◌<◌, ◌≤◌, Bool, true, false, cond, ltb, List, [], ◌∷◌, map, length, get_or, replicate, not, refl, sym, ap, ◌∙◌, subst, arith, w8, Fits, eqb, eqb-true}
 use Rattle.std.proofs.lemmas.List.{length-map, get_or-map}
 use Rattle.std.proofs.lemmas.Simd.{Each1-get_or, get_or-zip2, get_or-replicate, tops_compared, zip2_splat, zip2_splat_left, length-sel_l, get_or-sel_l, mask_l-mod, bitmask_splat, trailing_mask_l}
 use Rattle.std.proofs.lemmas.Bool.{not-true}
@@ -50,6 +50,16 @@ none_set test (x ∷ xs) e zero h = go (test x) refl (omega (arith, e))
     go true p q = absurd (omega (arith, rw p at q))
     go false p q = p
 none_set test (x ∷ xs) e (suc i) h = none_set test xs (omega (arith, e)) i (omega (arith, h))
+
+pub none_passes : (t : ℕ → ℕ → Bool) (xs : List ℕ) (y : ℕ) → length xs ≡ 64 → eqb (mask_l (map (top 7) (zip2 (λ a b. cond (t a b) 255 0) xs (replicate 64 y))) % 2 ^ 64) 0 ≡ true
+    → (i : ℕ) → i < 64 → t (get_or xs i 0) y ≡ false
+none_passes t xs y p e i h = none_set (λ x. t x y) xs (sym (bitmask_splat w8 t xs 64 y p (omega arith)) ∙ eqb-true _ _ e) i (omega (arith, p, h))
+
+pub none_passes_left : (t : ℕ → ℕ → Bool) (xs : List ℕ) (y : ℕ) → length xs ≡ 64 → eqb (mask_l (map (top 7) (zip2 (λ a b. cond (t a b) 255 0) (replicate 64 y) xs)) % 2 ^ 64) 0 ≡ true
+    → (i : ℕ) → i < 64 → t y (get_or xs i 0) ≡ false
+none_passes_left t xs y p e i h =
+    none_set (t y) xs (sym (mask_l-mod (map (t y) xs) 64 (omega (arith, length-map xs (t y), p)))
+    ∙ rw (tops_compared w8 t (replicate 64 y) xs, zip2_splat_left t y 64 xs p) at (eqb-true _ _ e)) i (omega (arith, p, h))
 
 -- before the first bit that is set no lane passes
 none_before : (test : ℕ → Bool) (xs : List ℕ) → length xs ≤ 64 → (i : ℕ) → i < length xs → i < count_trailing_zeros 64 (mask_l (map test xs)) → test (get_or xs i 0) ≡ false
