@@ -83,5 +83,9 @@ pub(crate) fn whole_len(window: &[u8], surrogates: bool) -> Option<usize>
     ensures begins { IfSome result (λ n. IsContinuation (slice_index window.now (4 + n)) → ⊥) }
     ensures most { IfSome result (λ n. n < 64) }
 {
-    last_start(window, kept_len(window, surrogates))
+    match kept_len(window, surrogates) {
+        // the most frequent one, whose places are constants
+        64 => last_start(window, 64),
+        kept => last_start(window, kept),
+    }
 }
