@@ -43,8 +43,8 @@ pub(crate) fn first_text<E: Platform>(bytes: &[u8]) -> Option<(&str, &[u8])>
 /// How many bytes a block has.
 const BLOCK: usize = 16;
 
-/// Writes the first `len` bytes behind others. A short front is written as a block, and what is too
-/// much is cut: that comes next or is replaced, so no more memory is asked for than all take.
+/// Writes the first `len` bytes behind others. A short front is written as a block, whose length is
+/// fixed, and what is too much is cut.
 #[inline(always)]
 fn push_front<A: Allocator>(
     text: &mut Vec<u8, A>,
@@ -54,11 +54,7 @@ fn push_front<A: Allocator>(
     requires { len ≤ length bytes.now }
     ensures { OnOk result (text.new.items ≡ text.old.items ++ take len bytes.now) }
 {
-    if len > BLOCK {
-        let (front, _) = bytes.split_at(len);
-        return text.extend_from_slice(front);
-    }
-    if bytes.len() < BLOCK {
+    if len > BLOCK || bytes.len() < BLOCK {
         let (front, _) = bytes.split_at(len);
         return text.extend_from_slice(front);
     }

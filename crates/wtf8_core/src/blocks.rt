@@ -1,4 +1,4 @@
-//! Whether 64 bytes may stand where they do.
+//! How many of 64 bytes may stand where they do.
 ghost use Rattle.std.specs.Prelude.{◌≡◌, ◌≢◌, ℕ, suc, ◌+◌, ◌≤◌, ◌<◌, length, IsTrue, IsFalse, IfSome, slice_index, bit_and, bit_or, bit_xor};
 ghost use Rattle.wtf8_core.specs.Byte.{IsContinuation};
 ghost use Rattle.wtf8_core.specs.PairBits.{wrong_bits, unlike_pair};
@@ -6,7 +6,8 @@ ghost use Rattle.wtf8_core.specs.Neighbours.{AllMayStand, AllPlain};
 
 use crate::byte::is_continuation;
 use crate::lanes::{
-    apart, are_not_zero, are_zero, joined, later_bit, load, masked, pair_bits, turned,
+    apart, are_zero, joined, later_bit, load, masked, others_before, pair_bits, turned,
+    zeros_before,
 };
 use std::simd::prelude::*;
 
@@ -37,47 +38,54 @@ fn unlike_pair(window: &[u8]) -> u8x64
     joined(leads, seconds)
 }
 
-/// Whether each of the 64 bytes behind the first four may stand where it does; without
-/// surrogates, also that none begins.
+/// How many of the 64 bytes behind the first four may stand where they do, before one that may
+/// not; without surrogates, before one that begins one, too.
 #[inline(always)]
-pub(crate) fn keeps_pattern(window: &[u8], surrogates: bool) -> bool
+pub(crate) fn kept_len(window: &[u8], surrogates: bool) -> usize
     requires { 68 ≤ length window.now }
-    ensures pattern { IsTrue result → AllMayStand 64 window.now }
-    ensures plain { IsTrue result → IsFalse surrogates → AllPlain 64 window.now }
+    ensures within { result ≤ 64 }
+    ensures pattern { AllMayStand result window.now }
+    ensures plain { IsFalse surrogates → AllPlain result window.now }
 {
     let wrong = wrong_bits(window);
     if are_zero(wrong) {
-        return true;
+        return 64;
     }
     if !surrogates {
-        return false;
+        return zeros_before(wrong);
     }
-    are_zero(masked(wrong, 0xBF)) && are_not_zero(unlike_pair(window))
+    zeros_before(masked(wrong, 0xBF)).min(others_before(unlike_pair(window)))
 }
 
-/// How many of the 64 bytes stand before the last one that begins a code point, `None` where some
-/// may not stand where they do.
+/// How many of these bytes stand before the last one that begins a code point; it is one of the
+/// last four, or there is none.
+#[inline(always)]
+pub(crate) fn last_start(window: &[u8], kept: usize) -> Option<usize>
+    requires window { 68 ≤ length window.now }
+    requires kept { kept ≤ 64 }
+    ensures begins { IfSome result (λ n. IsContinuation (slice_index window.now (4 + n)) → ⊥) }
+    ensures most { IfSome result (λ n. n < kept) }
+{
+    for back in 1..5 {
+        if back <= kept && !is_continuation(window[4 + (kept - back)]) {
+            return Some(kept - back);
+        }
+    }
+    None
+}
+
+/// How many of the 64 bytes keep to the pattern, up to one that begins a code point.
 #[inline(always)]
 pub(crate) fn whole_len(window: &[u8], surrogates: bool) -> Option<usize>
     requires { 68 ≤ length window.now }
     ensures pattern { IfSome result (λ n. AllMayStand (suc n) window.now) }
     ensures plain { IfSome result (λ n. IsFalse surrogates → AllPlain (suc n) window.now) }
     ensures begins { IfSome result (λ n. IsContinuation (slice_index window.now (4 + n)) → ⊥) }
-    ensures least { IfSome result (λ n. 60 ≤ n) }
     ensures most { IfSome result (λ n. n < 64) }
 {
-    if !keeps_pattern(window, surrogates) {
-        return None;
-    }
-    if !is_continuation(window[67]) {
-        Some(63)
-    } else if !is_continuation(window[66]) {
-        Some(62)
-    } else if !is_continuation(window[65]) {
-        Some(61)
-    } else if !is_continuation(window[64]) {
-        Some(60)
-    } else {
-        None
+    match kept_len(window, surrogates) {
+        // the most frequent one, whose places are constants
+        64 => last_start(window, 64),
+        kept => last_start(window, kept),
     }
 }

@@ -7,7 +7,7 @@ ghost use Rattle.wtf8_core.specs.Wtf8.{last_behind};
 ghost use Rattle.wtf8_core.specs.Surrogate.{is_high};
 ghost use Rattle.wtf8_core.specs.SpelledFront.{IsSpelledFront, behind_zeros};
 
-use crate::blocks::{keeps_pattern, whole_len};
+use crate::blocks::{kept_len, last_start, whole_len};
 use crate::lanes::{are_ascii, load};
 
 /// How many bytes at the front are WTF-8 or, without surrogates, UTF-8: all of them where they
@@ -25,16 +25,18 @@ pub(crate) fn front_of(bytes: &[u8], surrogates: bool) -> usize
         if is_ascii_block(bytes, at) {
             at += 64;
         } else {
-            match block_len(bytes, at, surrogates) {
-                Some(len) => at += len,
-                None => return at,
+            let Some(len) = block_len(bytes, at, surrogates) else {
+                return at;
+            };
+            at += len;
+            if len < 60 {
+                return at;
             }
         }
     }
-    if is_whole_rest(bytes, at, surrogates) {
-        bytes.len()
-    } else {
-        at
+    match rest_len(bytes, at, surrogates) {
+        Some(len) => at + len,
+        None => at,
     }
 }
 
@@ -70,13 +72,12 @@ fn is_ascii_block(bytes: &[u8], at: usize) -> bool
     are_ascii(load(bytes, at))
 }
 
-/// How many of the next 64 bytes are well formed, up to the last code point that begins there,
-/// `None` where some are not.
+/// How many of the next 64 bytes are well formed, up to a code point that begins there. Where all
+/// 64 keep to the pattern, that is one of the last four.
 #[inline(always)]
 fn block_len(bytes: &[u8], at: usize, surrogates: bool) -> Option<usize>
     requires { at + 64 ≤ length bytes.now }
     ensures front { IfSome result (λ n. IsSpelledFront surrogates bytes.now at → IsSpelledFront surrogates bytes.now (at + n)) }
-    ensures least { IfSome result (λ n. 60 ≤ n) }
     ensures most { IfSome result (λ n. n < 64) }
 {
     if at < 4 {
@@ -86,13 +87,20 @@ fn block_len(bytes: &[u8], at: usize, surrogates: bool) -> Option<usize>
     }
 }
 
-/// Whether the bytes from a place on, fewer than 64, are well formed.
-fn is_whole_rest(bytes: &[u8], at: usize, surrogates: bool) -> bool
+/// The same of the bytes from a place on, where fewer than 64 are left: all, where all are well
+/// formed.
+fn rest_len(bytes: &[u8], at: usize, surrogates: bool) -> Option<usize>
     requires from { at ≤ length bytes.now }
     requires short { length bytes.now - at < 64 }
-    ensures { IsTrue result → IsSpelledFront surrogates bytes.now at → IsSpelledFront surrogates bytes.now (length bytes.now) }
+    ensures within { IfSome result (λ n. at + n ≤ length bytes.now) }
+    ensures front { IfSome result (λ n. IsSpelledFront surrogates bytes.now at → IsSpelledFront surrogates bytes.now (at + n)) }
 {
-    keeps_pattern(&window_at(bytes, at), surrogates)
+    let window = window_at(bytes, at);
+    let kept = kept_len(&window, surrogates);
+    if kept > bytes.len() - at {
+        return Some(bytes.len() - at);
+    }
+    last_start(&window, kept)
 }
 
 /// The four bytes before a place and the 64 from there on, with zeros around the bytes.

@@ -136,12 +136,35 @@ pub(crate) fn are_zero(lanes: u8x64) -> bool
     lanes.simd_ne(u8x64::splat(0)).to_bitmask() == 0
 }
 
-/// Whether no lane is 0.
+/// How many lanes are 0 before the first that isn't.
 #[inline(always)]
-pub(crate) fn are_not_zero(lanes: u8x64) -> bool
-    ensures { IsTrue result → (i : ℕ) → i < 64 → slice_index lanes i ≢ 0 }
+pub(crate) fn zeros_before(lanes: u8x64) -> usize
+    ensures within { result ≤ 64 }
+    ensures zero { (i : ℕ) → i < result → slice_index lanes i ≡ 0 }
 {
-    lanes.simd_eq(u8x64::splat(0)).to_bitmask() == 0
+    lanes.simd_ne(u8x64::splat(0)).to_bitmask().trailing_zeros() as usize
+}
+
+/// How many lanes aren't 0 before the first that is.
+#[inline(always)]
+pub(crate) fn others_before(lanes: u8x64) -> usize
+    ensures within { result ≤ 64 }
+    ensures other { (i : ℕ) → i < result → slice_index lanes i ≢ 0 }
+{
+    lanes.simd_eq(u8x64::splat(0)).to_bitmask().trailing_zeros() as usize
+}
+
+/// How many of the first 16 bytes are below 80 before the first that isn't.
+#[inline(always)]
+pub(crate) fn ascii_of_16(bytes: &[u8]) -> usize
+    requires { 16 ≤ length bytes.now }
+    ensures within { result ≤ 64 }
+    ensures ascii { (i : ℕ) → i < result → i < 16 → slice_index bytes.now i < 0x80 }
+{
+    u8x16::from_slice(bytes)
+        .simd_ge(u8x16::splat(0x80))
+        .to_bitmask()
+        .trailing_zeros() as usize
 }
 
 /// How many lanes are below 80 before the first that isn't.

@@ -7,7 +7,7 @@ ghost use Rattle.wtf8_core.specs.Utf8.{IsUtf8Fault};
 
 use crate::byte::is_continuation;
 use crate::fronts::front_of;
-use crate::lanes::{ascii_before, load};
+use crate::lanes::{ascii_before, ascii_of_16, load};
 
 /// The first fault of bytes that aren't UTF-8, `None` for UTF-8 (RFC 3629, section 4).
 ///
@@ -28,17 +28,30 @@ use crate::lanes::{ascii_before, load};
 pub fn utf8_fault(bytes: &[u8]) -> Option<(usize, Option<u8>)>
     ensures { MatchOption result (IsUtf8 bytes.now) (λ fault. IsUtf8Fault bytes.now fault.0 fault.1) }
 {
-    if let Some(error_len) = part_at_front(bytes) {
-        return Some((0, Some(error_len)));
-    }
     if bytes.len() < 64 {
-        return fault_by_std(bytes);
+        return near_fault(bytes);
     }
-    let at = ascii_before(load(bytes, 0));
+    let at = ascii_len(bytes);
     let (_, rest) = bytes.split_at(at);
     match part_at_front(rest) {
         Some(error_len) => Some((at, Some(error_len))),
         None => fault_behind(bytes, at),
+    }
+}
+
+/// How many of the first 64 bytes are ASCII before one that isn't. In a loop over faults that
+/// stand close together, that is mostly one of the first 16.
+#[inline(always)]
+fn ascii_len(bytes: &[u8]) -> usize
+    requires { 64 ≤ length bytes.now }
+    ensures within { result ≤ 64 }
+    ensures text { IsUtf8 (take result bytes.now) }
+{
+    let near = ascii_of_16(bytes);
+    if near < 16 {
+        near
+    } else {
+        ascii_before(load(bytes, 0))
     }
 }
 
@@ -108,9 +121,20 @@ fn fault_behind(bytes: &[u8], at: usize) -> Option<(usize, Option<u8>)>
     let (_, rest) = bytes.split_at(at);
     let front = front_of(rest, false);
     let (_, rest) = rest.split_at(front);
-    match fault_by_std(rest) {
+    match near_fault(rest) {
         Some((valid_up_to, error_len)) => Some((at + front + valid_up_to, error_len)),
         None => None,
+    }
+}
+
+/// The first fault, where it isn't far.
+#[inline(always)]
+fn near_fault(bytes: &[u8]) -> Option<(usize, Option<u8>)>
+    ensures { MatchOption result (IsUtf8 bytes.now) (λ fault. IsUtf8Fault bytes.now fault.0 fault.1) }
+{
+    match part_at_front(bytes) {
+        Some(error_len) => Some((0, Some(error_len))),
+        None => fault_by_std(bytes),
     }
 }
 

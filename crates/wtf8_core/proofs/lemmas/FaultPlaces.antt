@@ -1,14 +1,14 @@
 -- Where the first fault stands: bytes that are read up to it.
-use Rattle.std.proofs.Common.{◌≡◌, ⊎_elim, ℕ, suc, ◌+◌, ◌-◌, ◌<◌, Bool, true, false, List, [], ◌∷◌, ◌++◌, length, take, drop, Result, Ok, Err, refl, sym, ap, ◌∙◌, subst, arith, append_assoc, Fits, w8, get_or, length-append, length-drop, take-append-drop}
+use Rattle.std.proofs.Common.{◌≡◌, ⊎_elim, ℕ, ◌-◌, ◌<◌, Bool, true, false, List, [], ◌∷◌, ◌++◌, length, take, drop, Result, Ok, Err, refl, sym, ap, ◌∙◌, subst, arith, append_assoc, Fits, w8, get_or, length-append, length-drop, take-append-drop}
 use Rattle.std.proofs.Math.Seq.{drop-append_seam}
 use Rattle.std.specs.List.{All}
 use Rattle.std.proofs.lemmas.List.{append-nil}
 use Rattle.std.proofs.lemmas.List.Elements.{All-drop, All-from_get_or}
 use Rattle.wtf8_core.specs.Byte.{IsByte}
-use Rattle.wtf8_core.specs.Surrogate.{IsHigh, is_high}
+use Rattle.wtf8_core.specs.Surrogate.{is_high}
 use Rattle.wtf8_core.specs.CodePoint.{form}
 use Rattle.wtf8_core.specs.Wtf8.{Spells, IsWtf8, last_behind}
-use Rattle.wtf8_core.specs.Fault.{BeginsFault, IsFirstFault, IsFaultAt}
+use Rattle.wtf8_core.specs.Fault.{BeginsFault, IsFaultAt}
 use Rattle.wtf8_core.specs.Reader.{first_item, behind_item, items_behind, is_high_item, IsFirstItem}
 use Rattle.wtf8_core.specs.SpelledFront.{IsSpelledFront, IsReadUpTo}
 use Rattle.wtf8_core.specs.declared.fault.EncodingError.{EncodingError}

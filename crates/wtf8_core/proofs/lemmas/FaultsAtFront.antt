@@ -1,5 +1,5 @@
 -- Four bytes with which no character begins, and the ill-formed part with which they begin.
-use Rattle.std.proofs.Common.{◌≡◌, ℕ, ◌<◌, ◌≤◌, List, ◌∷◌, ◌++◌, length, get_or, Option, Some, true, false, sym, ap, ◌∙◌, subst, arith, refl, drop, []}
+use Rattle.std.proofs.Common.{◌≡◌, ℕ, ◌<◌, ◌≤◌, List, ◌∷◌, ◌++◌, length, get_or, Some, true, false, sym, ap, ◌∙◌, subst, arith, refl, drop, []}
 use Rattle.std.specs.Bool.{if◌then◌else◌}
 use Rattle.std.proofs.lemmas.Bool.{cond-true, cond-false}
 use Rattle.std.proofs.lemmas.Bool.Decides.{nat_tests}
@@ -10,7 +10,6 @@ use Rattle.std.specs.Str.Lossy.{utf8_error_len, second_byte_min, second_byte_max
 use Rattle.wtf8_core.specs.Byte.{IsContinuation}
 use Rattle.wtf8_core.specs.CodePoint.{form}
 use Rattle.wtf8_core.specs.Utf8.{IsUtf8Fault}
-use Rattle.wtf8_core.proofs.lemmas.Characters.{NoChar}
 use Rattle.wtf8_core.proofs.lemmas.Overlaps.{form_behind}
 use Rattle.wtf8_core.proofs.lemmas.Ranges.{in_range, in_range-false, not_in_range}
 use Rattle.wtf8_core.proofs.lemmas.Texts.{valid_none}

@@ -182,14 +182,27 @@ past_end bytes n h k =
     let e : get_or (behind_zeros bytes) (4 + n) 0 ≡ 0 = ap (λ m. get_or (behind_zeros bytes) m 0) place ∙ get_or_past bytes n 0 h in
     omega (arith, e, k.0)
 
+front_step : (surrogates : Bool) (bytes : List ℕ) (at : ℕ) (window : List ℕ) (n : ℕ) → at + n ≤ length bytes → n < 64 → ((i : ℕ) → i < 68 → get_or window i 0 ≡ get_or (behind_zeros bytes) (at + i) 0)
+    → AllMayStand (suc n) window → (surrogates ≡ false → AllPlain (suc n) window) → (IsContinuation (get_or window (4 + n) 0) → ⊥) → IsSpelledFront surrogates bytes at → IsSpelledFront surrogates bytes (at + n)
+front_step surrogates bytes at window n room most same pattern plain begins f =
+    let place : at + (4 + n) ≡ 4 + (at + n) = omega arith in
+    let e : get_or window (4 + n) 0 ≡ get_or (behind_zeros bytes) (4 + (at + n)) 0 = same (4 + n) (omega (arith, most)) ∙ ap (λ m. get_or (behind_zeros bytes) m 0) place in
+    step surrogates bytes at n room window f (λ i h. same i (omega (arith, h, most))) pattern plain (λ k. begins (subst IsContinuation (sym e) k))
+
+-- where the window is full of bytes
 pub block_step : (surrogates : Bool) (bytes : List ℕ) (at : ℕ) (window : List ℕ) (found : Option ℕ) → at + 64 ≤ length bytes → ((i : ℕ) → i < 68 → get_or window i 0 ≡ get_or (behind_zeros bytes) (at + i) 0)
     → IfSome found (λ n. AllMayStand (suc n) window) → IfSome found (λ n. surrogates ≡ false → AllPlain (suc n) window) → IfSome found (λ n. IsContinuation (get_or window (4 + n) 0) → ⊥) → IfSome found (λ n. n < 64)
     → IfSome found (λ n. IsSpelledFront surrogates bytes at → IsSpelledFront surrogates bytes (at + n))
 block_step surrogates bytes at window None room same pattern plain begins most = tt
-block_step surrogates bytes at window (Some n) room same pattern plain begins most = λ f.
-    let place : at + (4 + n) ≡ 4 + (at + n) = omega arith in
-    let e : get_or window (4 + n) 0 ≡ get_or (behind_zeros bytes) (4 + (at + n)) 0 = same (4 + n) (omega (arith, most)) ∙ ap (λ m. get_or (behind_zeros bytes) m 0) place in
-    step surrogates bytes at n (omega (arith, room, most)) window f (λ i h. same i (omega (arith, h, most))) pattern plain (λ k. begins (subst IsContinuation (sym e) k))
+block_step surrogates bytes at window (Some n) room same pattern plain begins most = front_step surrogates bytes at window n (omega (arith, room, most)) most same pattern plain begins
+
+-- where the bytes end within it, but not what keeps to the pattern
+pub rest_step : (surrogates : Bool) (bytes : List ℕ) (at : ℕ) (window : List ℕ) (kept : ℕ) (found : Option ℕ) → at ≤ length bytes → kept ≤ length bytes - at → length bytes - at < 64 → ((i : ℕ) → i < 68 → get_or window i 0 ≡ get_or (behind_zeros bytes) (at + i) 0)
+    → AllMayStand kept window → (surrogates ≡ false → AllPlain kept window) → IfSome found (λ n. IsContinuation (get_or window (4 + n) 0) → ⊥) → IfSome found (λ n. n < kept)
+    → IfSome found (λ n. IsSpelledFront surrogates bytes at → IsSpelledFront surrogates bytes (at + n))
+rest_step surrogates bytes at window kept None from few short same pattern plain begins most = tt
+rest_step surrogates bytes at window kept (Some n) from few short same pattern plain begins most =
+    front_step surrogates bytes at window n (omega (arith, from, few, most)) (omega (arith, few, short, most)) same (λ i h. pattern i (omega (arith, h, most))) (λ q i h. plain q i (omega (arith, h, most))) begins
 
 -- a window that stands in the bytes
 inside : (bytes : List ℕ) (at : ℕ) → 4 ≤ at → (i : ℕ) → get_or (drop (at - 4) bytes) i 0 ≡ get_or (behind_zeros bytes) (at + i) 0

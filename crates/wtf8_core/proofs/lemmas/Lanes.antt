@@ -1,5 +1,5 @@
 -- The operations on vectors, lane by lane.
-use Rattle.std.proofs.Common.{◌≡◌, inl, inr, ◌⊎◌, ⊎_elim, ℕ, zero, suc, ◌+◌, ◌-◌, ◌%◌, ◌^◌, ◌<◌, Bool, true, false, cond, eqb, ltb, List, [], ◌∷◌, map, length, get_or, replicate, not, refl, sym, ap, ◌∙◌, subst, arith, w8, Fits, eqb-true}
+use Rattle.std.proofs.Common.{◌≡◌, inl, inr, ◌⊎◌, ⊎_elim, ℕ, zero, suc, ◌+◌, ◌-◌, ◌%◌, ◌^◌, ◌<◌, ◌≤◌, Bool, true, false, cond, ltb, List, [], ◌∷◌, map, length, get_or, replicate, not, refl, sym, ap, ◌∙◌, subst, arith, w8, Fits, eqb, eqb-true}
 use Rattle.std.proofs.lemmas.List.{length-map, get_or-map}
 use Rattle.std.proofs.lemmas.Simd.{Each1-get_or, get_or-zip2, get_or-replicate, tops_compared, zip2_splat, zip2_splat_left, length-sel_l, get_or-sel_l, mask_l-mod, bitmask_splat, trailing_mask_l}
 use Rattle.std.proofs.lemmas.Bool.{not-true}
@@ -62,11 +62,11 @@ none_passes_left t xs y p e i h =
     ∙ rw (tops_compared w8 t (replicate 64 y) xs, zip2_splat_left t y 64 xs p) at (eqb-true _ _ e)) i (omega (arith, p, h))
 
 -- before the first bit that is set no lane passes
-none_before : (test : ℕ → Bool) (xs : List ℕ) → length xs ≡ 64 → (i : ℕ) → i < count_trailing_zeros 64 (mask_l (map test xs)) → test (get_or xs i 0) ≡ false
-none_before test xs p i h =
+none_before : (test : ℕ → Bool) (xs : List ℕ) → length xs ≤ 64 → (i : ℕ) → i < length xs → i < count_trailing_zeros 64 (mask_l (map test xs)) → test (get_or xs i 0) ≡ false
+none_before test xs p i l h =
     ⊎_elim
-    (λ e. none_set test xs e i (omega (arith, p, h, trailing_le 64 (mask_l (map test xs)))))
-    (λ s. not-true _ (prefix_len_passes (λ x. not (test x)) xs i 0 (omega (arith, h, trailing_mask_l test 64 xs (omega (arith, p)) s))))
+    (λ e. none_set test xs e i l)
+    (λ s. not-true _ (prefix_len_passes (λ x. not (test x)) xs i 0 (omega (arith, h, trailing_mask_l test 64 xs p s))))
     (cases_zero (mask_l (map test xs)))
   where
     cases_zero : (n : ℕ) → (n ≡ 0) ⊎ (0 < n)
@@ -76,10 +76,17 @@ none_before test xs p i h =
 pub none_passes_before : (t : ℕ → ℕ → Bool) (xs : List ℕ) (y n : ℕ) → length xs ≡ 64 → n ≡ count_trailing_zeros 64 (mask_l (map (top 7) (zip2 (λ a b. cond (t a b) 255 0) xs (replicate 64 y))) % 2 ^ 64)
     → (i : ℕ) → i < n → t (get_or xs i 0) y ≡ false
 none_passes_before t xs y n p e i h =
-    none_before (λ x. t x y) xs p i (subst (λ k. i < k) (e ∙ ap (count_trailing_zeros 64) (bitmask_splat w8 t xs 64 y p (omega arith))) h)
+    let f = e ∙ ap (count_trailing_zeros 64) (bitmask_splat w8 t xs 64 y p (omega arith)) in
+    none_before (λ x. t x y) xs (omega (arith, p)) i (omega (arith, p, h, f, trailing_le 64 (mask_l (map (λ x. t x y) xs)))) (subst (λ k. i < k) f h)
 
-pub none_passes_left_before : (t : ℕ → ℕ → Bool) (xs : List ℕ) (y n : ℕ) → length xs ≡ 64 → n ≡ count_trailing_zeros 64 (mask_l (map (top 7) (zip2 (λ a b. cond (t a b) 255 0) (replicate 64 y) xs)) % 2 ^ 64)
+-- the same of k lanes, with the value on the left
+pub none_passes_left_before : (t : ℕ → ℕ → Bool) (xs : List ℕ) (k y n : ℕ) → k ≤ 64 → length xs ≡ k → n ≡ count_trailing_zeros 64 (mask_l (map (top 7) (zip2 (λ a b. cond (t a b) 255 0) (replicate k y) xs)) % 2 ^ 64)
+    → (i : ℕ) → i < k → i < n → t y (get_or xs i 0) ≡ false
+none_passes_left_before t xs k y n few p e i l h =
+    none_before (t y) xs (omega (arith, few, p)) i (omega (arith, p, l)) (subst (λ m. i < m)
+    (e ∙ ap (count_trailing_zeros 64) (rw (tops_compared w8 t (replicate k y) xs, zip2_splat_left t y k xs p) (mask_l-mod (map (t y) xs) 64 (omega (arith, length-map xs (t y), p, few))))) h)
+
+pub none_of_64_passes_left_before : (t : ℕ → ℕ → Bool) (xs : List ℕ) (y n : ℕ) → length xs ≡ 64 → n ≡ count_trailing_zeros 64 (mask_l (map (top 7) (zip2 (λ a b. cond (t a b) 255 0) (replicate 64 y) xs)) % 2 ^ 64)
     → (i : ℕ) → i < n → t y (get_or xs i 0) ≡ false
-none_passes_left_before t xs y n p e i h =
-    none_before (t y) xs p i (subst (λ k. i < k)
-    (e ∙ ap (count_trailing_zeros 64) (rw (tops_compared w8 t (replicate 64 y) xs, zip2_splat_left t y 64 xs p) (mask_l-mod (map (t y) xs) 64 (omega (arith, length-map xs (t y), p))))) h)
+none_of_64_passes_left_before t xs y n p e i h =
+    none_passes_left_before t xs 64 y n (omega arith) p e i (omega (arith, h, e, trailing_le 64 (mask_l (map (top 7) (zip2 (λ a b. cond (t a b) 255 0) (replicate 64 y) xs)) % 2 ^ 64))) h

@@ -142,11 +142,11 @@ at_sucs P i p =
     (subst (λ k. P (0 + i) (1 + i) (2 + i) k (suc (suc (suc (suc i))))) d
     (subst (λ k. P (0 + i) (1 + i) (2 + i) (3 + i) k) e p))))
 
-pub kept : (ws wrong masked : List ℕ) → ((k : ℕ) → get_or ws k 0 < 256)
-    → ((i : ℕ) → i < 64 → get_or wrong i 0 ≡ wrong_bits (get_or ws (1 + i) 0) (get_or ws (2 + i) 0) (get_or ws (3 + i) 0) (get_or ws (4 + i) 0))
-    → ((i : ℕ) → i < 64 → get_or masked i 0 ≡ bit_and (get_or wrong i 0) 0xBF) → ((i : ℕ) → i < 64 → get_or masked i 0 ≡ 0)
-    → ((i : ℕ) → i < 64 → (get_or wrong i 0 ≡ 0) ⊎ (unlike_pair (get_or ws (0 + i) 0) (get_or ws (1 + i) 0) (get_or ws (3 + i) 0) (get_or ws (4 + i) 0) ≢ 0)) → AllMayStand 64 ws
-kept ws wrong masked fits bits are zeros unpaired i h =
+pub kept : (n : ℕ) (ws wrong masked : List ℕ) → ((k : ℕ) → get_or ws k 0 < 256)
+    → ((i : ℕ) → i < n → get_or wrong i 0 ≡ wrong_bits (get_or ws (1 + i) 0) (get_or ws (2 + i) 0) (get_or ws (3 + i) 0) (get_or ws (4 + i) 0))
+    → ((i : ℕ) → i < n → get_or masked i 0 ≡ bit_and (get_or wrong i 0) 0xBF) → ((i : ℕ) → i < n → get_or masked i 0 ≡ 0)
+    → ((i : ℕ) → i < n → (get_or wrong i 0 ≡ 0) ⊎ (unlike_pair (get_or ws (0 + i) 0) (get_or ws (1 + i) 0) (get_or ws (3 + i) 0) (get_or ws (4 + i) 0) ≢ 0)) → AllMayStand n ws
+kept n ws wrong masked fits bits are zeros unpaired i h =
     at_sucs (λ a b c d e. MayStand (get_or ws a 0) (get_or ws b 0) (get_or ws c 0) (get_or ws d 0) (get_or ws e 0)) i
     (may_stand (get_or ws (0 + i) 0) _ _ _ _ (fits (1 + i)) (fits (2 + i)) (fits (3 + i)) (fits (4 + i))
     (ap (λ n. bit_and n 0xBF) (sym (bits i h)) ∙ sym (are i h) ∙ zeros i h)
@@ -170,17 +170,17 @@ plain_pair w x y z b ux uy uz ub e s =
         let bits : is_late z (b / 16) ≡ true = eq-eqb _ _ (ap (λ n. bit_and (bit_xor n 0x80) 0xBF) (same_half z b) ∙ ap (λ n. bit_and (bit_xor (pair_bits z b) n) 0xBF) (sym (is_later x y ux uy p)) ∙ right) in
         absurd (omega (arith, s, (late_first z b uz ub bits).1))
 
-pub kept_plain : (ws wrong : List ℕ) → ((k : ℕ) → get_or ws k 0 < 256)
-    → ((i : ℕ) → i < 64 → get_or wrong i 0 ≡ wrong_bits (get_or ws (1 + i) 0) (get_or ws (2 + i) 0) (get_or ws (3 + i) 0) (get_or ws (4 + i) 0))
-    → ((i : ℕ) → i < 64 → get_or wrong i 0 ≡ 0) → AllPlain 64 ws
-kept_plain ws wrong fits bits zeros i h =
+pub kept_plain : (n : ℕ) (ws wrong : List ℕ) → ((k : ℕ) → get_or ws k 0 < 256)
+    → ((i : ℕ) → i < n → get_or wrong i 0 ≡ wrong_bits (get_or ws (1 + i) 0) (get_or ws (2 + i) 0) (get_or ws (3 + i) 0) (get_or ws (4 + i) 0))
+    → ((i : ℕ) → i < n → get_or wrong i 0 ≡ 0) → AllPlain n ws
+kept_plain n ws wrong fits bits zeros i h =
     at_sucs (λ a b c d e. get_or ws d 0 ≡ 0xED → get_or ws e 0 < 0xA0) i
     (plain_pair (get_or ws (0 + i) 0) (get_or ws (1 + i) 0) (get_or ws (2 + i) 0) _ _ (fits (1 + i)) (fits (2 + i)) (fits (3 + i)) (fits (4 + i)) (sym (bits i h) ∙ zeros i h))
 
-pub kept_by_zeros : (ws wrong : List ℕ) → ((k : ℕ) → get_or ws k 0 < 256)
-    → ((i : ℕ) → i < 64 → get_or wrong i 0 ≡ wrong_bits (get_or ws (1 + i) 0) (get_or ws (2 + i) 0) (get_or ws (3 + i) 0) (get_or ws (4 + i) 0))
-    → ((i : ℕ) → i < 64 → get_or wrong i 0 ≡ 0) → AllMayStand 64 ws
-kept_by_zeros ws wrong fits bits zeros i h =
+pub kept_by_zeros : (n : ℕ) (ws wrong : List ℕ) → ((k : ℕ) → get_or ws k 0 < 256)
+    → ((i : ℕ) → i < n → get_or wrong i 0 ≡ wrong_bits (get_or ws (1 + i) 0) (get_or ws (2 + i) 0) (get_or ws (3 + i) 0) (get_or ws (4 + i) 0))
+    → ((i : ℕ) → i < n → get_or wrong i 0 ≡ 0) → AllMayStand n ws
+kept_by_zeros n ws wrong fits bits zeros i h =
     at_sucs (λ a b c d e. MayStand (get_or ws a 0) (get_or ws b 0) (get_or ws c 0) (get_or ws d 0) (get_or ws e 0)) i
     (let z = sym (bits i h) ∙ zeros i h in
     may_stand (get_or ws (0 + i) 0) _ _ _ _ (fits (1 + i)) (fits (2 + i)) (fits (3 + i)) (fits (4 + i)) (ap (λ n. bit_and n 0xBF) z) (inl z))

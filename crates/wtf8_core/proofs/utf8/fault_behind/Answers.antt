@@ -1,4 +1,4 @@
-use Rattle.std.proofs.Common.{◌≡◌, ◌+◌, drop, refl, ◌∙◌, ap, sym, subst, arith}
+use Rattle.std.proofs.Common.{◌≡◌, ◌+◌, refl, subst, arith}
 use Rattle.std.specs.Str.{IsUtf8}
 use Rattle.wtf8_core.specs.Utf8.{IsUtf8Fault}
 use Rattle.wtf8_core.proofs.lemmas.Fronts.{front_is_utf8}
