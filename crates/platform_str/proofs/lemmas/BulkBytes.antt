@@ -7,7 +7,7 @@ use Rattle.std.specs.List.{All, AllByRecursion}
 use Rattle.wtf8_core.specs.Surrogate.{IsHigh, IsLow, paired}
 use Rattle.wtf8_core.specs.CodePoint.{IsCodePoint, form, wide}
 use Rattle.wtf8_core.specs.Wtf8.{MayPrecede, HasUnits, units}
-use Rattle.wtf8_core.proofs.lemmas.Forms.{form_ascii, form_bounds}
+use Rattle.wtf8_core.proofs.lemmas.Forms.{form_ascii}
 use Rattle.wtf8_core.proofs.lemmas.UnitsLemmas.{IsUnit, wide_single, may_precede, units_spelled}
 use Rattle.platform_str.specs.Bulk.{SpellsBefore, BeginsPair, BeginsNoPair}
 
@@ -62,17 +62,11 @@ spells_each (x ∷ xs) rest a =
 pub spells_ascii : (xs rest all : List ℕ) → All (λ x. x < 0x80) xs → all ≡ xs ++ rest → SpellsBefore xs rest all
 spells_ascii xs rest all a e = subst (SpellsBefore xs rest) (sym e) (spells_each xs rest (recursion_from_All (λ x. x < 0x80) xs a))
 
--- a form has no more than three bytes for a unit
-pub form_few : (c : ℕ) → c < 0x1_0000 → length (form c) ≤ 3
-unfolding form
-form_few c h = grind (arith, nat_tests)
-
 -- the first code point, of a pair and of a single unit
 pub record FirstCodePoint (us : List ℕ) (c : ℕ) (rest : List ℕ) : Type 0 where
   pub code_point : IsCodePoint c
   pub spelled : SpellsBefore (form c) rest us
   pub shorter : length rest < length us
-  pub len : length (form c) + 3 * length rest ≤ 3 * length us
   pub behind : (taken : List ℕ) × (us ≡ taken ++ rest)
 
 pub of_pair : {us : List ℕ} {c : ℕ} {rest : List ℕ} → BeginsPair us c rest → FirstCodePoint us c rest
@@ -80,7 +74,6 @@ of_pair {us} {c} {rest} p = record {
   code_point = omega (arith, p.value, p.is_high.1, p.is_low.1);
   spelled = subst (λ x. SpellsBefore (form x) rest us) (sym p.value) (subst (SpellsBefore (form (paired p.high p.low)) rest) (sym p.units_are) (spells_pair p.high p.low rest p.is_high p.is_low));
   shorter = omega (arith, ap length p.units_are);
-  len = omega (arith, ap length p.units_are, (form_bounds c).1);
   behind = (p.high ∷ p.low ∷ [], p.units_are);
 }
 
@@ -93,7 +86,6 @@ of_single us u rest e i n = record {
   code_point = omega arith;
   spelled = subst (SpellsBefore (form u) rest) (sym e) (spells_single u rest i (single_precedes u rest (subst BeginsNoPair e n)));
   shorter = omega (arith, ap length e);
-  len = omega (arith, ap length e, form_few u i);
   behind = (u ∷ [], e);
 }
 
@@ -109,6 +101,11 @@ pub of_first : {us front rest : List ℕ} {u : ℕ} → 0 < length us → IsUnit
 of_first {us} {front} {rest} {u} h i f r e n =
     let v : u ≡ slice_index us 0 = e ∙ ap (λ x. slice_index x 0) f ∙ first_of_one us h in
     of_single us u rest (first_and_rest us h ∙ ap (λ x. x ∷ drop 1 us) (sym v) ∙ ap (λ x. u ∷ x) (sym r)) (subst IsUnit (sym v) i) n
+
+-- a unit below the surrogates begins no pair
+pub begins_none : {us front : List ℕ} → 0 < length us → front ≡ take 1 us → slice_index front 0 < 0xD800 → BeginsNoPair us
+begins_none {us} {front} h f b high low rest e i l =
+    omega (arith, i.0, b, ap (λ x. slice_index x 0) f, first_of_one us h, ap (λ x. slice_index x 0) e)
 
 -- the units behind others
 pub units_behind : (taken rest all : List ℕ) → all ≡ taken ++ rest → AllByRecursion IsUnit all → AllByRecursion IsUnit rest
