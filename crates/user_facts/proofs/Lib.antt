@@ -1,3 +1,4 @@
 pub mod Outcomes
 pub mod OnePiece
 pub mod Places
+pub mod QuoteFaults

@@ -1,10 +1,14 @@
 -- What follows of an `Option` or a `Result` from what each variant says.
-use Rattle.std.proofs.Common.{◌≡◌, ap, Option, None, Some, IfSome, MatchOption, Result, Ok, Err, MatchResult}
+use Rattle.std.proofs.Common.{◌≡◌, ap, Option, None, Some, IfSome, MatchOption, Result, Ok, Err, IfOk, IfErr, IsErrAnd, MatchResult}
 
 -- what follows of a value follows where there is one
 pub where_some : {A : Type 0} (P : Type 0) {Q R : A → Type 0} → ((x : A) → Q x → R x) → (o : Option A) → MatchOption o P Q → IfSome o R
 where_some P f None none = tt
 where_some P f (Some x) some = f x some
+
+pub where_ok : {A B : Type 0} {Q R : A → Type 0} → ((x : A) → Q x → R x) → (r : Result A B) → IfOk r Q → IfOk r R
+where_ok f (Ok x) ok = f x ok
+where_ok f (Err x) ok = tt
 
 -- where it can't be `Ok`, and each error is this one
 pub only_err : {A B : Type 0} (P : Type 0) {Q : B → Type 0} {error : B} → (r : Result A B) → MatchResult r (λ _. P) Q → ¬ P → ((x : B) → Q x → x ≡ error) → r ≡ Err error
@@ -15,3 +19,8 @@ only_err P (Err x) err none one = ap Err (one x err)
 pub only_some : {A : Type 0} (P : Type 0) {Q : A → Type 0} {value : A} → (o : Option A) → MatchOption o P Q → ¬ P → ((x : A) → Q x → x ≡ value) → o ≡ Some value
 only_some P None none some one = absurd (some none)
 only_some P (Some x) is some one = ap Some (one x is)
+
+-- where it can't be `Ok`, what follows of an error follows where there is one
+pub err_and : {A B : Type 0} {P : A → Type 0} {Q R : B → Type 0} → (r : Result A B) → IfOk r P → IfErr r Q → ((x : A) → P x → ⊥) → ((e : B) → Q e → R e) → IsErrAnd r R
+err_and (Ok x) ok err none f = absurd (none x ok)
+err_and (Err e) ok err none f = f e err

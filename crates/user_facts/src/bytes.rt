@@ -45,6 +45,21 @@ pub fn spelled_once(raw: &[u8], code_points: &[u32], others: &[u32])
     laws::spelled_once();
 }
 
+/// Two lists of code points before the first fault of the same bytes, which are equal.
+pub fn fault_once(
+    raw: &[u8],
+    code_points: &[u32],
+    others: &[u32],
+    fault: EncodingError,
+    other: EncodingError,
+)
+    requires first { IsFirstFault raw.now code_points.now fault }
+    requires second { IsFirstFault raw.now others.now other }
+    ensures { code_points.now ≡ others.now }
+{
+    laws::one_first_fault();
+}
+
 /// Two readers of the same bytes, which answer the same.
 pub fn read_twice(raw: &[u8]) -> (CodePoints<'_>, CodePoints<'_>)
     ensures { result.0 ≡ result.1 }

@@ -1,12 +1,14 @@
 //! Chunks: one list of them, joined the string; parts and their units.
-ghost use Rattle.std.specs.Prelude.{◌≡◌, ◌↔◌, ◌≤◌, [], ℕ, List, IfOk, IsTrue, map};
+ghost use Rattle.std.specs.Prelude.{◌≡◌, ◌↔◌, ◌≤◌, [], ℕ, List, IfOk, IsTrue, Some, map};
 ghost use Rattle.std.specs.List.{All, flat_map};
+ghost use Rattle.std.specs.Cmp.Lexicographic.{slice_cmp};
 ghost use Rattle.std.specs.Ordering.{nat_cmp};
 ghost use Rattle.wtf8_core.specs.Chunks.{Chunk, AreChunks};
 ghost use Rattle.wtf8_core.specs.Covered.{IsBare};
 ghost use Rattle.wtf8_core.specs.PartUnits.{unit_bytes, AreLoneSurrogates};
 ghost use Rattle.wtf8_core.specs.Runs.{AreRuns, form_chunk};
 ghost use Rattle.wtf8_core.specs.Wtf8.{Spells};
+ghost use Rattle.platform_str.specs.Platforms.{AreWideUnits};
 ghost use Rattle.platform_str.specs.Strings.{bytes};
 ghost use Rattle.os_str_ext.specs.Parts.{part_bytes, unit_number};
 
@@ -66,6 +68,7 @@ pub fn bare_units<'a, E: Platform + 'a>(string: OsStr<'a, E>) -> OsStr<'a, E>
     requires { IsBare (bytes string) }
     ensures spelled { bytes result ≡ flat_map unit_bytes (E.units (bytes result)) }
     ensures kind { E.part_units (E.units (bytes result)) }
+    ensures wide { AreWideUnits (E.units (bytes result)) }
 {
     platform_str::laws::parts::<E>();
     string
@@ -102,10 +105,31 @@ pub fn same_part<'a, E: Platform + 'a>(a: NonUnicodeOsStr<'a, E>, b: NonUnicodeO
     a == b
 }
 
-/// How two units are ordered: as their numbers are.
-pub fn unit_order(a: OsUnit, b: OsUnit) -> Ordering
-    ensures { result ≡ nat_cmp (unit_number a) (unit_number b) }
+/// How two parts are ordered: as their bytes are.
+pub fn part_order<'a, E: Platform + 'a>(
+    a: NonUnicodeOsStr<'a, E>,
+    b: NonUnicodeOsStr<'a, E>,
+) -> (Ordering, Option<Ordering>)
+    ensures order { result.0 ≡ slice_cmp nat_cmp (part_bytes a.entry) (part_bytes b.entry) }
+    ensures partial_order { result.1 ≡ Some result.0 }
+{
+    part_laws::part_comparisons(&a, &b);
+    (a.cmp(&b), a.partial_cmp(&b))
+}
+
+/// Whether two units are equal: exactly where their numbers are.
+pub fn same_unit(a: OsUnit, b: OsUnit) -> bool
+    ensures { IsTrue result ↔ (unit_number a ≡ unit_number b) }
 {
     part_laws::unit_comparisons(&a, &b);
-    a.cmp(&b)
+    a == b
+}
+
+/// How two units are ordered: as their numbers are.
+pub fn unit_order(a: OsUnit, b: OsUnit) -> (Ordering, Option<Ordering>)
+    ensures order { result.0 ≡ nat_cmp (unit_number a) (unit_number b) }
+    ensures partial_order { result.1 ≡ Some result.0 }
+{
+    part_laws::unit_comparisons(&a, &b);
+    (a.cmp(&b), a.partial_cmp(&b))
 }

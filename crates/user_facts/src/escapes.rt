@@ -1,10 +1,12 @@
-//! Escapes: a string comes back from its own.
-ghost use Rattle.std.specs.Prelude.{◌≡◌, IfOk, IfErr};
+//! Escapes: a string comes back from its own, and has one.
+ghost use Rattle.std.specs.Prelude.{◌≡◌, ◌⊎◌, ℕ, List, IsErrAnd, IfOk, IfErr, string_bytes};
+ghost use Rattle.std.specs.Str.{IsUtf8};
 ghost use Rattle.platform_str.specs.Strings.{bytes, string_vec_of};
+ghost use Rattle.os_quote.specs.Escape.{IsEscape, IsBadEscape};
 
 use os_quote::{QuoteError, escape, laws, unescape};
 use platform_str::{OsStr, OsString, Platform};
-use std::alloc::Allocator;
+use std::alloc::{AllocError, Allocator};
 
 /// The string again, by way of its escape. Nothing but want of memory stands in the way.
 pub fn there_and_back<E: Platform, A: Allocator + Copy>(
@@ -18,4 +20,39 @@ pub fn there_and_back<E: Platform, A: Allocator + Copy>(
     laws::bad_escapes::<E>();
     let text = escape(alloc, string)?;
     unescape(alloc, text.as_str())
+}
+
+/// A string, of which there is an escape.
+pub fn has_escape<'a, E: Platform + 'a>(string: OsStr<'a, E>) -> OsStr<'a, E>
+    ensures { (text : List ℕ) × IsEscape E.units (bytes result) text }
+{
+    laws::escapes::<E>();
+    string
+}
+
+/// The escape of a string of which one is known, which is that one.
+pub fn escape_says<E: Platform, A: Allocator>(
+    alloc: A,
+    string: OsStr<'_, E>,
+    known: &[u8],
+) -> Result<String<A>, AllocError>
+    requires { IsEscape E.units (bytes string) known.now }
+    ensures text { IsUtf8 known.now }
+    ensures same { IfOk result (λ text. string_bytes text ≡ known.now) }
+{
+    laws::escapes::<E>();
+    escape(alloc, string)
+}
+
+/// What comes of a text with a known place at which no token begins: that place, or want of memory.
+pub fn bad_place_says<E: Platform, A: Allocator>(
+    alloc: A,
+    text: &str,
+    at: usize,
+) -> Result<OsString<E, A>, QuoteError>
+    requires { IsBadEscape text.now at }
+    ensures { IsErrAnd result (λ error. (error ≡ QuoteError.BadEscape at) ⊎ (error ≡ QuoteError.Memory)) }
+{
+    laws::bad_escapes::<E>();
+    unescape(alloc, text)
 }

@@ -14,6 +14,7 @@ mod pieces;
 mod plan9;
 mod ranges;
 mod raw;
+mod raw_strings;
 mod readings;
 mod searches;
 mod standing;
@@ -21,14 +22,14 @@ mod texts;
 mod units;
 
 pub use bytes::{
-    around_boundary, check_says, ends_before, is_wtf8, parted_by_fault, read_twice, spelled_once,
-    stands_in_bytes, units_once, utf8_fault_says, wide_units,
+    around_boundary, check_says, ends_before, fault_once, is_wtf8, parted_by_fault, read_twice,
+    spelled_once, stands_in_bytes, units_once, utf8_fault_says, wide_units,
 };
 pub use chunks::{
-    bare_units, chunks_say, has_chunks, lone_surrogates, no_ascii, no_part, rejoined, runs,
-    same_part, unit_order,
+    bare_units, chunks_say, has_chunks, lone_surrogates, no_ascii, no_part, part_order, rejoined,
+    runs, same_part, same_unit, unit_order,
 };
-pub use escapes::there_and_back;
+pub use escapes::{bad_place_says, escape_says, has_escape, there_and_back};
 pub use joins::{
     has_join, joined_either_way, pushed_alike, starts_as_joined, starts_with_what_was_there,
 };
@@ -40,7 +41,14 @@ pub use pieces::{uncut, uncut_from_the_end};
 pub use plan9::Plan9;
 pub use ranges::{between, between_inclusive, from, full, to, to_inclusive};
 pub use raw::{check_again, moved_back, taken_back, taken_back_by_any};
-pub use readings::{read_alike, read_by_items, read_from_string, reading_is_accepted};
+pub use raw_strings::{
+    owned_raw_order, raw_order, raw_wide_units, read_on_wasm, same_owned_raw_string,
+    same_raw_string,
+};
+pub use readings::{
+    has_reading, read_alike, read_by_items, read_from_string, reading_is_accepted,
+    reading_is_string, reads_as_itself, wtf8_reads_as_itself,
+};
 pub use searches::around_first;
 pub use standing::{byte_place, contained_by_units, cut_out_by_units, found_by_units, unit_place};
 pub use texts::{

@@ -1,6 +1,7 @@
 //! Lossy readings of any bytes.
-ghost use Rattle.std.specs.Prelude.{◌≡◌, IsOk, IfOk, IsTrue};
-ghost use Rattle.wtf8_core.specs.LossyReading.{lossy_forms};
+ghost use Rattle.std.specs.Prelude.{◌≡◌, ℕ, List, IsOk, IfOk, IsTrue};
+ghost use Rattle.wtf8_core.specs.LossyReading.{IsLossyReading, lossy_forms};
+ghost use Rattle.wtf8_core.specs.Wtf8.{IsWtf8};
 ghost use Rattle.platform_str.specs.Strings.{bytes};
 ghost use Rattle.platform_str.specs.Cows.{cow_bytes};
 
@@ -52,4 +53,37 @@ pub fn read_by_items<'a>(
     wtf8_core::laws::lossy_reading();
     let reading = Windows::read_lossy(alloc, raw)?;
     Ok((CodePoints::new(raw), reading))
+}
+
+/// Any bytes and their lossy reading, which is a string.
+pub fn reading_is_string<'a, E: Platform + 'a>(raw: &[u8], reading: &'a [u8]) -> OsStr<'a, E>
+    requires { E.reads_as raw.now reading.now }
+    ensures { bytes result ≡ reading.now }
+{
+    laws::readings::<E>();
+    OsStr::from_encoded_bytes_unchecked(reading)
+}
+
+/// A string, which is its own lossy reading.
+pub fn reads_as_itself<'a, E: Platform + 'a>(string: OsStr<'a, E>) -> OsStr<'a, E>
+    ensures { E.reads_as (bytes result) (bytes result) }
+{
+    laws::readings::<E>();
+    string
+}
+
+/// Any bytes, of which there is a lossy reading as WTF-8.
+pub fn has_reading(raw: &[u8])
+    ensures { (reading : List ℕ) × (IsLossyReading raw.now reading × IsWtf8 reading) }
+{
+    wtf8_core::laws::lossy_reading();
+}
+
+/// WTF-8 bytes and their lossy reading, which is those bytes.
+pub fn wtf8_reads_as_itself(raw: &[u8], reading: &[u8])
+    requires wtf8 { IsWtf8 raw.now }
+    requires reading { IsLossyReading raw.now reading.now }
+    ensures { reading.now ≡ raw.now }
+{
+    wtf8_core::laws::lossy_reading();
 }

@@ -1,5 +1,5 @@
 //! Units and comparisons of strings.
-ghost use Rattle.std.specs.Prelude.{◌≡◌, ◌↔◌, ℕ, List, IfOk, IsTrue};
+ghost use Rattle.std.specs.Prelude.{◌≡◌, ◌↔◌, ℕ, List, IfOk, IsTrue, Some};
 ghost use Rattle.std.specs.Cmp.Lexicographic.{slice_cmp};
 ghost use Rattle.std.specs.Ordering.{nat_cmp};
 ghost use Rattle.wtf8_core.specs.Wtf8.{Spells, HasUnits};
@@ -19,11 +19,12 @@ pub fn same_string<'a, E: Platform + 'a>(a: OsStr<'a, E>, b: OsStr<'a, E>) -> bo
 }
 
 /// How two strings are ordered: as their bytes are.
-pub fn order<'a, E: Platform + 'a>(a: OsStr<'a, E>, b: OsStr<'a, E>) -> Ordering
-    ensures { result ≡ slice_cmp nat_cmp (bytes a.entry) (bytes b.entry) }
+pub fn order<'a, E: Platform + 'a>(a: OsStr<'a, E>, b: OsStr<'a, E>) -> (Ordering, Option<Ordering>)
+    ensures order { result.0 ≡ slice_cmp nat_cmp (bytes a.entry) (bytes b.entry) }
+    ensures partial_order { result.1 ≡ Some result.0 }
 {
     laws::comparisons(&a, &b);
-    a.cmp(&b)
+    (a.cmp(&b), a.partial_cmp(&b))
 }
 
 /// How two Windows strings are ordered: as the code points are that they spell.
@@ -51,11 +52,15 @@ pub fn same_owned_string<E: Platform, A: Allocator>(a: &OsString<E, A>, b: &OsSt
 }
 
 /// How two owned strings are ordered: as their bytes are.
-pub fn owned_order<E: Platform, A: Allocator>(a: &OsString<E, A>, b: &OsString<E, A>) -> Ordering
-    ensures { result ≡ slice_cmp nat_cmp (string_vec_of a.now).items (string_vec_of b.now).items }
+pub fn owned_order<E: Platform, A: Allocator>(
+    a: &OsString<E, A>,
+    b: &OsString<E, A>,
+) -> (Ordering, Option<Ordering>)
+    ensures order { result.0 ≡ slice_cmp nat_cmp (string_vec_of a.now).items (string_vec_of b.now).items }
+    ensures partial_order { result.1 ≡ Some result.0 }
 {
     laws::owned_comparisons(a, b);
-    a.cmp(b)
+    (a.cmp(b), a.partial_cmp(b))
 }
 
 /// The units of a Windows string, made a string again, which is the same.
