@@ -1,10 +1,10 @@
 //! The callers on their happy paths.
+use platform_str::{HasBytes, OsStr, OsStrBytes, Unix, Windows};
+use std::test::Fail;
 use user_facts::{
     Plan9, behind_first, between_inclusive, io_lossy_is_safe, joined_either_way, rejoined,
     same_string, starts_as_joined, taken_back, there_and_back, three_parts, through_units,
 };
-use platform_str::{HasBytes, OsStr, OsStrBytes, Unix, Windows};
-use std::test::Fail;
 
 #[test]
 fn on_windows(rt: HostRuntime) -> Result<(), Fail> {
