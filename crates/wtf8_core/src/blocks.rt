@@ -74,6 +74,23 @@ pub(crate) fn last_start(window: &[u8], kept: usize) -> Option<usize>
     None
 }
 
+/// The same where all 64 are kept. Where the last code point begins can't be foreseen, so no branch
+/// depends on it.
+#[inline(always)]
+fn last_start_of_all(window: &[u8]) -> Option<usize>
+    requires { 68 ≤ length window.now }
+    ensures begins { IfSome result (λ n. IsContinuation (slice_index window.now (4 + n)) → ⊥) }
+    ensures most { IfSome result (λ n. n < 64) }
+{
+    let last = u32::from_le_bytes([window[64], window[65], window[66], window[67]]);
+    let starts = last & 0xC0C0_C0C0 ^ 0x8080_8080 | 1;
+    let behind = (starts.leading_zeros() / 8) as usize;
+    if is_continuation(window[67 - behind]) {
+        return None;
+    }
+    Some(63 - behind)
+}
+
 /// How many of the 64 bytes keep to the pattern, up to one that begins a code point.
 #[inline(always)]
 pub(crate) fn whole_len(window: &[u8], surrogates: bool) -> Option<usize>
@@ -84,8 +101,7 @@ pub(crate) fn whole_len(window: &[u8], surrogates: bool) -> Option<usize>
     ensures most { IfSome result (λ n. n < 64) }
 {
     match kept_len(window, surrogates) {
-        // the most frequent one, whose places are constants
-        64 => last_start(window, 64),
+        64 => last_start_of_all(window),
         kept => last_start(window, kept),
     }
 }
