@@ -49,20 +49,6 @@ pub(crate) fn kept_len(window: &[u8], surrogates: bool) -> usize
     if are_zero(wrong) {
         return 64;
     }
-    kept_before(wrong, window, surrogates)
-}
-
-/// The same by what is wrong with each. It stands apart, so that where nothing is wrong no mask of
-/// 64 bits is made.
-#[inline(never)]
-fn kept_before(wrong: u8x64, window: &[u8], surrogates: bool) -> usize
-    requires window { 68 ≤ length window.now }
-    requires wrong { (i : ℕ) → i < 64 → slice_index wrong i
-        ≡ wrong_bits (slice_index window.now (1 + i)) (slice_index window.now (2 + i)) (slice_index window.now (3 + i)) (slice_index window.now (4 + i)) }
-    ensures within { result ≤ 64 }
-    ensures pattern { AllMayStand result window.now }
-    ensures plain { IsFalse surrogates → AllPlain result window.now }
-{
     if !surrogates {
         return zeros_before(wrong);
     }

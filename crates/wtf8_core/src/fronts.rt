@@ -21,7 +21,38 @@ pub(crate) fn front_of(bytes: &[u8], surrogates: bool) -> usize
     if bytes.len() < 16 {
         return 0;
     }
-    let mut end = ascii_end(bytes, 0);
+    if bytes.len() < 64 {
+        return front_with_rest(bytes, 0, surrogates);
+    }
+    let kept = first_len(bytes, surrogates);
+    if kept < 64 {
+        return start_before(bytes, kept);
+    }
+    front_behind_first(bytes, surrogates)
+}
+
+/// How many of the first 64 bytes keep to the pattern, before one that doesn't.
+#[inline(always)]
+fn first_len(bytes: &[u8], surrogates: bool) -> usize
+    requires { 64 ≤ length bytes.now }
+    ensures within { result ≤ 64 }
+    ensures kept { KeepsPattern surrogates bytes.now result }
+{
+    if is_ascii_block(bytes, 0) {
+        return 64;
+    }
+    kept_len(&window_at(bytes, 0), surrogates)
+}
+
+/// The front where the first 64 bytes keep to the pattern.
+#[inline(always)]
+fn front_behind_first(bytes: &[u8], surrogates: bool) -> usize
+    requires room { 64 ≤ length bytes.now }
+    requires kept { KeepsPattern surrogates bytes.now 64 }
+    ensures within { result ≤ length bytes.now }
+    ensures front { IsSpelledFront surrogates bytes.now result }
+{
+    let mut end = ascii_end(bytes, 64);
     while bytes.len() - end >= 64 {
         let kept = block_len(bytes, end, surrogates);
         end += kept;
@@ -60,7 +91,8 @@ fn is_high_second(byte: u8) -> bool
 /// byte than ASCII.
 #[inline(always)]
 fn ascii_end(bytes: &[u8], at: usize) -> usize
-    requires { at ≤ length bytes.now }
+    requires some { 0 < at }
+    requires within { at ≤ length bytes.now }
     ensures from { at ≤ result }
     ensures within { result ≤ length bytes.now }
     ensures kept { (surrogates : Bool) → KeepsPattern surrogates bytes.now at → KeepsPattern surrogates bytes.now result }
@@ -84,27 +116,25 @@ fn is_ascii_block(bytes: &[u8], at: usize) -> bool
     are_ascii(load(bytes, at))
 }
 
-/// Whether the byte before a place is ASCII, or none stands there.
+/// Whether the byte before a place is ASCII.
 #[inline(always)]
 fn is_behind_ascii(bytes: &[u8], at: usize) -> bool
-    requires { at ≤ length bytes.now }
+    requires some { 0 < at }
+    requires within { at ≤ length bytes.now }
     ensures { IsTrue result → slice_index (behind_zeros bytes.now) (3 + at) < 0x80 }
 {
-    at == 0 || bytes[at - 1] < 0x80
+    bytes[at - 1] < 0x80
 }
 
 /// How many of the next 64 bytes keep to the pattern, before one that doesn't.
 #[inline(always)]
 fn block_len(bytes: &[u8], at: usize, surrogates: bool) -> usize
-    requires { at + 64 ≤ length bytes.now }
+    requires from { 4 ≤ at }
+    requires room { at + 64 ≤ length bytes.now }
     ensures within { result ≤ 64 }
     ensures kept { KeepsPattern surrogates bytes.now at → KeepsPattern surrogates bytes.now (at + result) }
 {
-    if at < 4 {
-        kept_len(&window_at(bytes, at), surrogates)
-    } else {
-        kept_len(&bytes[at - 4..], surrogates)
-    }
+    kept_len(&bytes[at - 4..], surrogates)
 }
 
 /// The front of bytes that keep to the pattern up to a place behind which fewer than 64 are left.
@@ -141,6 +171,7 @@ fn start_before(bytes: &[u8], end: usize) -> usize
 }
 
 /// The four bytes before a place and the 64 from there on, with zeros around the bytes.
+#[inline(always)]
 fn window_at(bytes: &[u8], at: usize) -> [u8; 68]
     requires { at ≤ length bytes.now }
     ensures { (i : ℕ) → i < 68 → slice_index result i ≡ slice_index (behind_zeros bytes.now) (at + i) }
