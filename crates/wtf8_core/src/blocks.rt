@@ -52,5 +52,17 @@ pub(crate) fn kept_len(window: &[u8], surrogates: bool) -> usize
     if !surrogates {
         return zeros_before(wrong);
     }
+    kept_with_surrogates(wrong, window)
+}
+
+/// The same by what is wrong with each, where surrogates may stand, but none in a pair.
+#[inline(never)]
+fn kept_with_surrogates(wrong: u8x64, window: &[u8]) -> usize
+    requires window { 68 ≤ length window.now }
+    requires wrong { (i : ℕ) → i < 64 → slice_index wrong i
+        ≡ wrong_bits (slice_index window.now (1 + i)) (slice_index window.now (2 + i)) (slice_index window.now (3 + i)) (slice_index window.now (4 + i)) }
+    ensures within { result ≤ 64 }
+    ensures pattern { AllMayStand result window.now }
+{
     zeros_before(masked(wrong, 0xBF)).min(others_before(unlike_pair(window)))
 }
