@@ -41,7 +41,8 @@ fn first_len(bytes: &[u8], surrogates: bool) -> usize
     if is_ascii_block(bytes, 0) {
         return 64;
     }
-    kept_len(&window_at(bytes, 0), surrogates)
+    let window = window_at(bytes, 0);
+    kept_len(&window, surrogates)
 }
 
 /// The front where the first 64 bytes keep to the pattern.
@@ -145,7 +146,8 @@ fn front_with_rest(bytes: &[u8], at: usize, surrogates: bool) -> usize
     ensures within { result ≤ length bytes.now }
     ensures front { IsSpelledFront surrogates bytes.now result }
 {
-    let kept = kept_len(&window_at(bytes, at), surrogates);
+    let window = window_at(bytes, at);
+    let kept = kept_len(&window, surrogates);
     if kept > bytes.len() - at {
         return bytes.len();
     }

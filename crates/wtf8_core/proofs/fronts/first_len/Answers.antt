@@ -11,4 +11,4 @@ returns-clause-kept c =
     let e = c.kept_len.ensures in
     let place : 0 + c.kept_len.result ≡ c.kept_len.result = omega arith in
     subst (KeepsPattern c.args.surrogates c.args.bytes.now) place
-    (more c.args.surrogates c.args.bytes.now 0 c.window_at.result c.kept_len.result (λ i h. c.window_at.ensures i (omega (arith, h, e.within))) e.pattern e.plain (no_pattern c.args.surrogates c.args.bytes.now))
+    (more c.args.surrogates c.args.bytes.now 0 c.window_at-window.result c.kept_len.result (λ i h. c.window_at-window.ensures i (omega (arith, h, e.within))) e.pattern e.plain (no_pattern c.args.surrogates c.args.bytes.now))
