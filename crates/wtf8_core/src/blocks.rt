@@ -1,5 +1,5 @@
 //! How many of 64 bytes may stand where they do.
-ghost use Rattle.std.specs.Prelude.{◌≡◌, ◌≢◌, ℕ, suc, ◌+◌, ◌≤◌, ◌<◌, length, IsTrue, IsFalse, IfSome, slice_index, bit_and, bit_or, bit_xor};
+ghost use Rattle.std.specs.Prelude.{◌≡◌, ◌≢◌, ℕ, ◌+◌, ◌≤◌, ◌<◌, length, IsTrue, IsFalse, slice_index, bit_and, bit_or, bit_xor};
 ghost use Rattle.wtf8_core.specs.PairBits.{wrong_bits, unlike_pair};
 ghost use Rattle.wtf8_core.specs.Neighbours.{AllMayStand, AllPlain};
 
@@ -55,7 +55,8 @@ pub(crate) fn kept_len(window: &[u8], surrogates: bool) -> usize
     kept_with_surrogates(wrong, window)
 }
 
-/// The same by what is wrong with each, where surrogates may stand, but none in a pair.
+/// The same by what is wrong with each, where surrogates may stand, but none in a pair. It is no
+/// part of the loop over blocks in which nothing is wrong, which is faster so.
 #[inline(never)]
 fn kept_with_surrogates(wrong: u8x64, window: &[u8]) -> usize
     requires window { 68 ≤ length window.now }

@@ -88,8 +88,8 @@ fn is_high_second(byte: u8) -> bool
     (0xA0..=0xAF).contains(&byte)
 }
 
-/// Where the blocks of ASCII end that stand from a place on, one behind another, behind no other
-/// byte than ASCII.
+/// Where the blocks of ASCII from a place on end, if the byte before them is ASCII, too; else that
+/// place.
 #[inline(always)]
 fn ascii_end(bytes: &[u8], at: usize) -> usize
     requires some { 0 < at }
@@ -154,8 +154,8 @@ fn front_with_rest(bytes: &[u8], at: usize, surrogates: bool) -> usize
     start_before(bytes, at + kept)
 }
 
-/// Where the last code point begins that begins before a place up to which bytes keep to the
-/// pattern.
+/// The last place before another at which a code point begins, where bytes keep to the pattern up to
+/// that one.
 #[inline(always)]
 fn start_before(bytes: &[u8], end: usize) -> usize
     requires { end ≤ length bytes.now }

@@ -1,4 +1,4 @@
--- From a window to the bytes: what a step of the front gives.
+-- From windows to the bytes: which front they give.
 use Rattle.std.proofs.Common.{Bool, true, false, ◌≡◌, inl, inr, ⊎_elim, ℕ, zero, suc, ◌+◌, ◌-◌, ◌<◌, ◌≤◌, List, [], ◌∷◌, ◌++◌, length, take, drop, get_or, refl, sym, ap, ◌∙◌, subst, arith, ◌↔◌, min, replicate, append_assoc, get_or-take, get_or-drop, length-take, length-drop}
 use Rattle.std.proofs.lemmas.Bool.{cases_lt}
 use Rattle.std.proofs.lemmas.List.{get_or_append_left, get_or-append_right, get_or_past}
@@ -161,11 +161,11 @@ past_end bytes n h k =
     let e : get_or (behind_zeros bytes) (4 + n) 0 ≡ 0 = ap (λ m. get_or (behind_zeros bytes) m 0) place ∙ get_or_past bytes n 0 h in
     omega (arith, e, k.0)
 
--- no byte, as pattern
+-- none of the bytes
 pub no_pattern : (surrogates : Bool) (bytes : List ℕ) → KeepsPattern surrogates bytes 0
 no_pattern surrogates bytes = record { pattern = λ i h. absurd (omega (arith, h)); plain = λ _ i h. absurd (omega (arith, h)) }
 
--- fewer bytes
+-- fewer of them
 pub fewer : (surrogates : Bool) (bytes : List ℕ) (m n : ℕ) → m ≤ n → KeepsPattern surrogates bytes n → KeepsPattern surrogates bytes m
 fewer surrogates bytes m n l k = record { pattern = λ i h. k.pattern i (omega (arith, h, l)); plain = λ e i h. k.plain e i (omega (arith, h, l)) }
 
