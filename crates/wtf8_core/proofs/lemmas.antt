@@ -12,6 +12,7 @@ pub mod LossyReadings
 pub mod Characters
 pub mod Below
 pub mod TableEntries
+pub mod OneMore
 pub mod TableSteps
 pub mod LedForms
 pub mod Wholes

@@ -1,10 +1,8 @@
 //! How many of 64 bytes may stand where they do.
-ghost use Rattle.std.specs.Prelude.{◌≡◌, ◌≢◌, ℕ, suc, ◌+◌, ◌≤◌, ◌<◌, length, IsTrue, IsFalse, IfSome, slice_index, bit_and, bit_or, bit_xor};
-ghost use Rattle.wtf8_core.specs.Byte.{IsContinuation};
+ghost use Rattle.std.specs.Prelude.{◌≡◌, ◌≢◌, ℕ, ◌+◌, ◌≤◌, ◌<◌, length, IsTrue, IsFalse, slice_index, bit_and, bit_or, bit_xor};
 ghost use Rattle.wtf8_core.specs.PairBits.{wrong_bits, unlike_pair};
 ghost use Rattle.wtf8_core.specs.Neighbours.{AllMayStand, AllPlain};
 
-use crate::byte::is_continuation;
 use crate::lanes::{
     apart, are_zero, joined, later_bit, load, masked, others_before, pair_bits, turned,
     zeros_before,
@@ -54,38 +52,18 @@ pub(crate) fn kept_len(window: &[u8], surrogates: bool) -> usize
     if !surrogates {
         return zeros_before(wrong);
     }
-    zeros_before(masked(wrong, 0xBF)).min(others_before(unlike_pair(window)))
+    kept_with_surrogates(wrong, window)
 }
 
-/// How many of these bytes stand before the last one that begins a code point; it is one of the
-/// last four, or there is none.
-#[inline(always)]
-pub(crate) fn last_start(window: &[u8], kept: usize) -> Option<usize>
+/// The same by what is wrong with each, where surrogates may stand, but none in a pair. It is no
+/// part of the loop over blocks in which nothing is wrong, which is faster so.
+#[inline(never)]
+fn kept_with_surrogates(wrong: u8x64, window: &[u8]) -> usize
     requires window { 68 ≤ length window.now }
-    requires kept { kept ≤ 64 }
-    ensures begins { IfSome result (λ n. IsContinuation (slice_index window.now (4 + n)) → ⊥) }
-    ensures most { IfSome result (λ n. n < kept) }
+    requires wrong { (i : ℕ) → i < 64 → slice_index wrong i
+        ≡ wrong_bits (slice_index window.now (1 + i)) (slice_index window.now (2 + i)) (slice_index window.now (3 + i)) (slice_index window.now (4 + i)) }
+    ensures within { result ≤ 64 }
+    ensures pattern { AllMayStand result window.now }
 {
-    for back in 1..5 {
-        if back <= kept && !is_continuation(window[4 + (kept - back)]) {
-            return Some(kept - back);
-        }
-    }
-    None
-}
-
-/// How many of the 64 bytes keep to the pattern, up to one that begins a code point.
-#[inline(always)]
-pub(crate) fn whole_len(window: &[u8], surrogates: bool) -> Option<usize>
-    requires { 68 ≤ length window.now }
-    ensures pattern { IfSome result (λ n. AllMayStand (suc n) window.now) }
-    ensures plain { IfSome result (λ n. IsFalse surrogates → AllPlain (suc n) window.now) }
-    ensures begins { IfSome result (λ n. IsContinuation (slice_index window.now (4 + n)) → ⊥) }
-    ensures most { IfSome result (λ n. n < 64) }
-{
-    match kept_len(window, surrogates) {
-        // the most frequent one, whose places are constants
-        64 => last_start(window, 64),
-        kept => last_start(window, kept),
-    }
+    zeros_before(masked(wrong, 0xBF)).min(others_before(unlike_pair(window)))
 }

@@ -1,13 +1,14 @@
 //! How far bytes are well formed, 64 at a time.
 //!
 //! A front that is found is well formed; that a front as long as can be is found, nobody relies on.
-ghost use Rattle.std.specs.Prelude.{Bool, ◌≡◌, ◌∷◌, ℕ, suc, ◌+◌, ◌-◌, ◌≤◌, ◌<◌, length, true, IsTrue, IfSome, slice_index};
+ghost use Rattle.std.specs.Prelude.{Bool, ◌≡◌, ◌∷◌, ℕ, suc, ◌+◌, ◌-◌, ◌≤◌, ◌<◌, length, true, IsTrue, slice_index};
 ghost use Rattle.std.specs.Int.{is_in_range};
 ghost use Rattle.wtf8_core.specs.Wtf8.{last_behind};
 ghost use Rattle.wtf8_core.specs.Surrogate.{is_high};
-ghost use Rattle.wtf8_core.specs.SpelledFront.{IsSpelledFront, behind_zeros};
+ghost use Rattle.wtf8_core.specs.SpelledFront.{IsSpelledFront, KeepsPattern, behind_zeros};
 
-use crate::blocks::{kept_len, last_start, whole_len};
+use crate::blocks::kept_len;
+use crate::byte::is_continuation;
 use crate::lanes::{are_ascii, load};
 
 /// How many bytes at the front are WTF-8 or, without surrogates, UTF-8: all of them where they
@@ -20,24 +21,48 @@ pub(crate) fn front_of(bytes: &[u8], surrogates: bool) -> usize
     if bytes.len() < 16 {
         return 0;
     }
-    let mut at = 0;
-    while bytes.len() - at >= 64 {
-        if is_ascii_block(bytes, at) {
-            at += 64;
-        } else {
-            let Some(len) = block_len(bytes, at, surrogates) else {
-                return at;
-            };
-            at += len;
-            if len < 60 {
-                return at;
-            }
+    if bytes.len() < 64 {
+        return front_with_rest(bytes, 0, surrogates);
+    }
+    let kept = first_len(bytes, surrogates);
+    if kept < 64 {
+        return start_before(bytes, kept);
+    }
+    front_behind_first(bytes, surrogates)
+}
+
+/// How many of the first 64 bytes keep to the pattern, before one that doesn't.
+#[inline(always)]
+fn first_len(bytes: &[u8], surrogates: bool) -> usize
+    requires { 64 ≤ length bytes.now }
+    ensures within { result ≤ 64 }
+    ensures kept { KeepsPattern surrogates bytes.now result }
+{
+    if is_ascii_block(bytes, 0) {
+        return 64;
+    }
+    let window = window_at(bytes, 0);
+    kept_len(&window, surrogates)
+}
+
+/// The front where the first 64 bytes keep to the pattern.
+#[inline(always)]
+fn front_behind_first(bytes: &[u8], surrogates: bool) -> usize
+    requires room { 64 ≤ length bytes.now }
+    requires kept { KeepsPattern surrogates bytes.now 64 }
+    ensures within { result ≤ length bytes.now }
+    ensures front { IsSpelledFront surrogates bytes.now result }
+{
+    let mut end = ascii_end(bytes, 64);
+    while bytes.len() - end >= 64 {
+        let kept = block_len(bytes, end, surrogates);
+        end += kept;
+        if kept < 64 {
+            return start_before(bytes, end);
         }
+        end = ascii_end(bytes, end);
     }
-    match rest_len(bytes, at, surrogates) {
-        Some(len) => at + len,
-        None => at,
-    }
+    front_with_rest(bytes, end, surrogates)
 }
 
 /// Whether such a front ends in a high surrogate.
@@ -63,47 +88,92 @@ fn is_high_second(byte: u8) -> bool
     (0xA0..=0xAF).contains(&byte)
 }
 
+/// Where the blocks of ASCII from a place on end, if the byte before them is ASCII, too; else that
+/// place.
+#[inline(always)]
+fn ascii_end(bytes: &[u8], at: usize) -> usize
+    requires some { 0 < at }
+    requires within { at ≤ length bytes.now }
+    ensures from { at ≤ result }
+    ensures within { result ≤ length bytes.now }
+    ensures kept { (surrogates : Bool) → KeepsPattern surrogates bytes.now at → KeepsPattern surrogates bytes.now result }
+{
+    if bytes.len() - at < 64 || !is_ascii_block(bytes, at) || !is_behind_ascii(bytes, at) {
+        return at;
+    }
+    let mut end = at + 64;
+    while bytes.len() - end >= 64 && is_ascii_block(bytes, end) {
+        end += 64;
+    }
+    end
+}
+
 /// Whether the next 64 bytes are ASCII.
 #[inline(always)]
 fn is_ascii_block(bytes: &[u8], at: usize) -> bool
     requires { at + 64 ≤ length bytes.now }
-    ensures { IsTrue result → (surrogates : Bool) → IsSpelledFront surrogates bytes.now at → IsSpelledFront surrogates bytes.now (at + 64) }
+    ensures { IsTrue result → (i : ℕ) → i < 64 → slice_index bytes.now (at + i) < 0x80 }
 {
     are_ascii(load(bytes, at))
 }
 
-/// How many of the next 64 bytes are well formed, up to a code point that begins there. Where all
-/// 64 keep to the pattern, that is one of the last four.
+/// Whether the byte before a place is ASCII.
 #[inline(always)]
-fn block_len(bytes: &[u8], at: usize, surrogates: bool) -> Option<usize>
-    requires { at + 64 ≤ length bytes.now }
-    ensures front { IfSome result (λ n. IsSpelledFront surrogates bytes.now at → IsSpelledFront surrogates bytes.now (at + n)) }
-    ensures most { IfSome result (λ n. n < 64) }
+fn is_behind_ascii(bytes: &[u8], at: usize) -> bool
+    requires some { 0 < at }
+    requires within { at ≤ length bytes.now }
+    ensures { IsTrue result → slice_index (behind_zeros bytes.now) (3 + at) < 0x80 }
 {
-    if at < 4 {
-        whole_len(&window_at(bytes, at), surrogates)
-    } else {
-        whole_len(&bytes[at - 4..], surrogates)
-    }
+    bytes[at - 1] < 0x80
 }
 
-/// The same of the bytes from a place on, where fewer than 64 are left: all, where all are well
-/// formed.
-fn rest_len(bytes: &[u8], at: usize, surrogates: bool) -> Option<usize>
+/// How many of the next 64 bytes keep to the pattern, before one that doesn't.
+#[inline(always)]
+fn block_len(bytes: &[u8], at: usize, surrogates: bool) -> usize
+    requires from { 4 ≤ at }
+    requires room { at + 64 ≤ length bytes.now }
+    ensures within { result ≤ 64 }
+    ensures kept { KeepsPattern surrogates bytes.now at → KeepsPattern surrogates bytes.now (at + result) }
+{
+    kept_len(&bytes[at - 4..], surrogates)
+}
+
+/// The front of bytes that keep to the pattern up to a place behind which fewer than 64 are left.
+fn front_with_rest(bytes: &[u8], at: usize, surrogates: bool) -> usize
     requires from { at ≤ length bytes.now }
     requires short { length bytes.now - at < 64 }
-    ensures within { IfSome result (λ n. at + n ≤ length bytes.now) }
-    ensures front { IfSome result (λ n. IsSpelledFront surrogates bytes.now at → IsSpelledFront surrogates bytes.now (at + n)) }
+    requires kept { KeepsPattern surrogates bytes.now at }
+    ensures within { result ≤ length bytes.now }
+    ensures front { IsSpelledFront surrogates bytes.now result }
 {
     let window = window_at(bytes, at);
     let kept = kept_len(&window, surrogates);
     if kept > bytes.len() - at {
-        return Some(bytes.len() - at);
+        return bytes.len();
     }
-    last_start(&window, kept)
+    start_before(bytes, at + kept)
+}
+
+/// The last place before another at which a code point begins, where bytes keep to the pattern up to
+/// that one.
+#[inline(always)]
+fn start_before(bytes: &[u8], end: usize) -> usize
+    requires { end ≤ length bytes.now }
+    ensures within { result ≤ length bytes.now }
+    ensures front { (surrogates : Bool) → KeepsPattern surrogates bytes.now end → IsSpelledFront surrogates bytes.now result }
+{
+    let mut at = end;
+    while at > 0 {
+        at -= 1;
+        if !is_continuation(bytes[at]) {
+            return at;
+        }
+    }
+    0
 }
 
 /// The four bytes before a place and the 64 from there on, with zeros around the bytes.
+#[inline(always)]
 fn window_at(bytes: &[u8], at: usize) -> [u8; 68]
     requires { at ≤ length bytes.now }
     ensures { (i : ℕ) → i < 68 → slice_index result i ≡ slice_index (behind_zeros bytes.now) (at + i) }

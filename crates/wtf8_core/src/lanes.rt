@@ -128,12 +128,13 @@ pub(crate) fn later_bit(three: u8x64, two: u8x64) -> u8x64
     masked(joined(above(three, 0x70), above(two, 0x60)), 0x80)
 }
 
-/// Whether all lanes are 0.
+/// Whether all lanes are 0. It asks both halves at once, so that no mask of 64 bits is made.
 #[inline(always)]
 pub(crate) fn are_zero(lanes: u8x64) -> bool
     ensures { IsTrue result → (i : ℕ) → i < 64 → slice_index lanes i ≡ 0 }
 {
-    lanes.simd_ne(u8x64::splat(0)).to_bitmask() == 0
+    let both = lanes.extract::<0, 32>() | lanes.extract::<32, 32>();
+    both.simd_ne(u8x32::splat(0)).to_bitmask() == 0
 }
 
 /// How many lanes are 0 before the first that isn't.

@@ -1,5 +1,5 @@
--- From a window to the bytes: what a step of the front gives.
-use Rattle.std.proofs.Common.{Bool, true, false, Option, Some, None, IfSome, ◌≡◌, ⊎_elim, ℕ, zero, suc, ◌+◌, ◌-◌, ◌<◌, ◌≤◌, List, [], ◌∷◌, ◌++◌, length, take, drop, get_or, refl, sym, ap, ◌∙◌, subst, arith, ◌↔◌, min, replicate, append_assoc, get_or-take, get_or-drop, length-take, length-drop, take-add}
+-- From windows to the bytes: which front they give.
+use Rattle.std.proofs.Common.{Bool, true, false, ◌≡◌, inl, inr, ⊎_elim, ℕ, zero, suc, ◌+◌, ◌-◌, ◌<◌, ◌≤◌, List, [], ◌∷◌, ◌++◌, length, take, drop, get_or, refl, sym, ap, ◌∙◌, subst, arith, ◌↔◌, min, replicate, append_assoc, get_or-take, get_or-drop, length-take, length-drop}
 use Rattle.std.proofs.lemmas.Bool.{cases_lt}
 use Rattle.std.proofs.lemmas.List.{get_or_append_left, get_or-append_right, get_or_past}
 use Rattle.std.specs.List.{AllByRecursion, flat_map}
@@ -17,19 +17,20 @@ use Rattle.wtf8_core.specs.CodePoint.{form}
 use Rattle.wtf8_core.specs.Wtf8.{IsPairedFree, Spells, last_behind}
 use Rattle.wtf8_core.proofs.lemmas.Forms.{form_ascii}
 use borrow.Rule.Slice.PartMut.{put_mid}
-use Rattle.wtf8_core.specs.Neighbours.{MayStand, AllMayStand, AllPlain, IsEdge}
-use Rattle.wtf8_core.specs.SpelledFront.{behind_zeros, IsSpelledFront}
+use Rattle.wtf8_core.specs.Neighbours.{IsClosed, GoesOn, MayStand, AllMayStand, AllPlain, IsEdge}
+use Rattle.wtf8_core.specs.SpelledFront.{behind_zeros, KeepsPattern, IsSpelledFront}
 use Rattle.wtf8_core.proofs.lemmas.LedForms.{IsFormOf}
 use Rattle.wtf8_core.proofs.lemmas.Wholes.{SpelledBehind, IsWhole, one_more, whole}
 
+-- the same neighbours in another list
+same_neighbours : (v w x y z a b c d e : ℕ) → v ≡ a → w ≡ b → x ≡ c → y ≡ d → z ≡ e → MayStand v w x y z → MayStand a b c d e
+same_neighbours v w x y z a b c d e p q r s t h =
+    subst (λ k. MayStand k b c d e) p (subst (λ k. MayStand v k c d e) q (subst (λ k. MayStand v w k d e) r (subst (λ k. MayStand v w x k e) s (subst (λ k. MayStand v w x y k) t h))))
+
 -- lists that agree in the first n + 4 places
-pub agree : (n : ℕ) (xs ys : List ℕ) → ((i : ℕ) → i < 4 + n → get_or xs i 0 ≡ get_or ys i 0) → AllMayStand n xs → AllMayStand n ys
+agree : (n : ℕ) (xs ys : List ℕ) → ((i : ℕ) → i < 4 + n → get_or xs i 0 ≡ get_or ys i 0) → AllMayStand n xs → AllMayStand n ys
 agree n xs ys e h i l =
-    subst (λ k. MayStand k (get_or ys (suc i) 0) (get_or ys (suc (suc i)) 0) (get_or ys (suc (suc (suc i))) 0) (get_or ys (suc (suc (suc (suc i)))) 0)) (e i (omega (arith, l)))
-    (subst (λ k. MayStand (get_or xs i 0) k (get_or ys (suc (suc i)) 0) (get_or ys (suc (suc (suc i))) 0) (get_or ys (suc (suc (suc (suc i)))) 0)) (e (suc i) (omega (arith, l)))
-    (subst (λ k. MayStand (get_or xs i 0) (get_or xs (suc i) 0) k (get_or ys (suc (suc (suc i))) 0) (get_or ys (suc (suc (suc (suc i)))) 0)) (e (suc (suc i)) (omega (arith, l)))
-    (subst (λ k. MayStand (get_or xs i 0) (get_or xs (suc i) 0) (get_or xs (suc (suc i)) 0) k (get_or ys (suc (suc (suc (suc i)))) 0)) (e (suc (suc (suc i))) (omega (arith, l)))
-    (subst (λ k. MayStand (get_or xs i 0) (get_or xs (suc i) 0) (get_or xs (suc (suc i)) 0) (get_or xs (suc (suc (suc i))) 0) k) (e (suc (suc (suc (suc i)))) (omega (arith, l))) (h i l)))))
+    same_neighbours _ _ _ _ _ _ _ _ _ _ (e i (omega (arith, l))) (e (suc i) (omega (arith, l))) (e (suc (suc i)) (omega (arith, l))) (e (suc (suc (suc i))) (omega (arith, l))) (e (suc (suc (suc (suc i)))) (omega (arith, l))) (h i l)
 
 -- code points behind code points
 pub last_append : (p : ℕ) (cs ds : List ℕ) → last_behind p (cs ++ ds) ≡ last_behind (last_behind p cs) ds
@@ -59,96 +60,76 @@ ascii_whole p w x y z (a ∷ bs) edge h =
     }) (λ t v. h (suc t) (omega (arith, v))) in
     record { code_points = a ∷ r.code_points; spelled = one_more p a (a ∷ []) bs r.code_points i (λ _ f. omega (arith, f.0, u)) r.spelled; plain = (λ q. (low_scalar a (omega (arith, u)), r.plain (λ t v. q (suc t) (omega (arith, v))))); edge = r.edge }
 
-scalars_append : (cs ds : List ℕ) → AllByRecursion IsScalar cs → AllByRecursion IsScalar ds → AllByRecursion IsScalar (cs ++ ds)
-scalars_append [] ds p q = q
-scalars_append (c ∷ cs) ds p q = (p.0, scalars_append cs ds p.1 q)
-
-module _ (surrogates : Bool) (bytes : List ℕ) (at k : ℕ) (within : at + k ≤ length bytes) where
+-- the first n bytes, where they are whole
+module _ (surrogates : Bool) (bytes : List ℕ) (n : ℕ) (within : n ≤ length bytes) where
   abbrev P : List ℕ
   P = behind_zeros bytes
 
   abbrev Bs : List ℕ
-  Bs = take k (drop at bytes)
+  Bs = take n bytes
 
   abbrev W : List ℕ
-  W = get_or P at 0 ∷ get_or P (suc at) 0 ∷ get_or P (suc (suc at)) 0 ∷ get_or P (suc (suc (suc at))) 0 ∷ Bs
+  W = behind_zeros Bs
 
-  long : length Bs ≡ k
-  long = length-take k (drop at bytes) ∙ omega (arith, length-drop at bytes, within)
+  long : length Bs ≡ n
+  long = length-take n bytes ∙ omega (arith, within)
 
-  -- the bytes from four places before
-  around : (i : ℕ) → i < 4 + k → get_or W i 0 ≡ get_or P (at + i) 0
-  around zero h = let e : at ≡ at + 0 = omega arith in ap (λ n. get_or P n 0) e
-  around (suc zero) h = let e : suc at ≡ at + 1 = omega arith in ap (λ n. get_or P n 0) e
-  around (suc (suc zero)) h = let e : suc (suc at) ≡ at + 2 = omega arith in ap (λ n. get_or P n 0) e
-  around (suc (suc (suc zero))) h = let e : suc (suc (suc at)) ≡ at + 3 = omega arith in ap (λ n. get_or P n 0) e
-  around (suc (suc (suc (suc j)))) h =
-      let place : suc (suc (suc (suc (at + j)))) ≡ at + suc (suc (suc (suc j))) = omega arith in
-      get_or-take k (drop at bytes) j 0 (omega (arith, h)) ∙ get_or-drop at bytes j 0 ∙ ap (λ n. get_or P n 0) place
+  at_start : IsEdge 0 0 0 0
+  at_start = record { closed = record { fourth = omega arith; third = omega arith; second = omega arith }; high = λ h. omega (arith, h.0); only_high = λ e. absurd (omega (arith, e)) }
 
-  at_place : (m n : ℕ) → m < 4 + k → at + m ≡ n → get_or W m 0 ≡ get_or P n 0
-  at_place m n h e = around m h ∙ ap (λ j. get_or P j 0) e
+  same : (i : ℕ) → i < 4 + n → get_or W i 0 ≡ get_or P i 0
+  same zero h = refl
+  same (suc zero) h = refl
+  same (suc (suc zero)) h = refl
+  same (suc (suc (suc zero))) h = refl
+  same (suc (suc (suc (suc i)))) h = get_or-take n bytes i 0 (omega (arith, h))
 
-  -- a front and whole bytes behind it
-  pub more_front : (f : IsSpelledFront surrogates bytes at) → IsWhole (last_behind 0 f.code_points) Bs W → (surrogates ≡ false → AllPlain k W) → IsSpelledFront surrogates bytes (at + k)
-  more_front f r plain =
-      let s : SpelledBehind 0 (take at bytes) f.code_points = record { code_points = f.spelled.code_points; paired_free = behind_zero f.code_points f.spelled.paired_free; joined = f.spelled.joined } in
-      let j = joined_spelled 0 (take at bytes) Bs f.code_points r.code_points s r.spelled in
-      let a = at_place (suc (length Bs)) (suc (at + k)) (omega (arith, long)) (omega (arith, long)) in
-      let b = at_place (suc (suc (length Bs))) (suc (suc (at + k))) (omega (arith, long)) (omega (arith, long)) in
-      let c = at_place (suc (suc (suc (length Bs)))) (suc (suc (suc (at + k)))) (omega (arith, long)) (omega (arith, long)) in
+  by_whole : IsWhole 0 Bs W → (surrogates ≡ false → AllPlain n W) → IsSpelledFront surrogates bytes n
+  by_whole r plain =
+      let a = same (suc n) (omega arith) in
+      let b = same (suc (suc n)) (omega arith) in
+      let c = same (suc (suc (suc n))) (omega arith) in
       record {
         within = within;
-        code_points = f.code_points ++ r.code_points;
-        spelled = record { code_points = j.code_points; paired_free = j.paired_free.1; joined = take-add at k bytes ∙ j.joined };
-        plain = λ e. scalars_append f.code_points r.code_points (f.plain e) (r.plain (λ i h. plain e i (omega (arith, h, long))));
-        edge = subst (λ p. IsEdge p (get_or P (suc (at + k)) 0) (get_or P (suc (suc (at + k))) 0) (get_or P (suc (suc (suc (at + k)))) 0)) (sym (last_append 0 f.code_points r.code_points))
-            (subst (λ x. IsEdge (last_behind (last_behind 0 f.code_points) r.code_points) x (get_or P (suc (suc (at + k))) 0) (get_or P (suc (suc (suc (at + k)))) 0)) a
-            (subst (λ y. IsEdge (last_behind (last_behind 0 f.code_points) r.code_points) (get_or W (suc (length Bs)) 0) y (get_or P (suc (suc (suc (at + k)))) 0)) b
-            (subst (λ z. IsEdge (last_behind (last_behind 0 f.code_points) r.code_points) (get_or W (suc (length Bs)) 0) (get_or W (suc (suc (length Bs))) 0) z) c r.edge)));
+        code_points = r.code_points;
+        spelled = record { code_points = r.spelled.code_points; paired_free = r.spelled.paired_free.1; joined = r.spelled.joined };
+        plain = λ e. r.plain (λ i h. plain e i (omega (arith, h, long)));
+        edge = subst (λ x. IsEdge (last_behind 0 r.code_points) x (get_or P (suc (suc n)) 0) (get_or P (suc (suc (suc n))) 0)) a
+            (subst (λ y. IsEdge (last_behind 0 r.code_points) (get_or W (suc n) 0) y (get_or P (suc (suc (suc n))) 0)) b
+            (subst (λ z. IsEdge (last_behind 0 r.code_points) (get_or W (suc n) 0) (get_or W (suc (suc n)) 0) z) c
+            (subst (λ m. IsEdge (last_behind 0 r.code_points) (get_or W (suc m) 0) (get_or W (suc (suc m)) 0) (get_or W (suc (suc (suc m))) 0)) long r.edge)));
       }
 
   -- the same with the byte behind them
-  with_end : (i : ℕ) → i < 4 + suc k → get_or (W ++ (get_or P (4 + (at + k)) 0 ∷ [])) i 0 ≡ get_or P (at + i) 0
+  with_end : (i : ℕ) → i < 4 + suc n → get_or (W ++ (get_or P (4 + n) 0 ∷ [])) i 0 ≡ get_or P i 0
   with_end i h =
-      let size : length W ≡ 4 + k = omega (arith, long) in
+      let size : length W ≡ 4 + n = omega (arith, long) in
       ⊎_elim
-      (λ l. get_or_append_left W (get_or P (4 + (at + k)) 0 ∷ []) 0 i (omega (arith, size, l)) ∙ around i l)
-      (λ l. let last : i - (4 + k) ≡ 0 = omega (arith, h) in
-      let place : 4 + (at + k) ≡ at + i = omega (arith, h, l) in
-      get_or-append_right W (get_or P (4 + (at + k)) 0 ∷ []) (4 + k) i 0 size l
-      ∙ ap (λ n. get_or (get_or P (4 + (at + k)) 0 ∷ []) n 0) last ∙ ap (λ n. get_or P n 0) place)
-      (cases_lt i (4 + k))
+      (λ l. get_or_append_left W (get_or P (4 + n) 0 ∷ []) 0 i (omega (arith, size, l)) ∙ same i l)
+      (λ l. let last : i - (4 + n) ≡ 0 = omega (arith, h) in
+      let place : 4 + n ≡ i = omega (arith, h, l) in
+      get_or-append_right W (get_or P (4 + n) 0 ∷ []) (4 + n) i 0 size l
+      ∙ ap (λ m. get_or (get_or P (4 + n) 0 ∷ []) m 0) last ∙ ap (λ m. get_or P m 0) place)
+      (cases_lt i (4 + n))
 
-  -- where a window keeps to the pattern up to a byte that begins a code point
-  pub step : (window : List ℕ) → IsSpelledFront surrogates bytes at → ((i : ℕ) → i < 4 + suc k → get_or window i 0 ≡ get_or P (at + i) 0) → AllMayStand (suc k) window → (surrogates ≡ false → AllPlain (suc k) window)
-      → (IsContinuation (get_or P (4 + (at + k)) 0) → ⊥) → IsSpelledFront surrogates bytes (at + k)
-  step window f same pattern plain ends =
-      let kept : AllMayStand (suc k) (W ++ (get_or P (4 + (at + k)) 0 ∷ [])) = agree (suc k) window (W ++ (get_or P (4 + (at + k)) 0 ∷ [])) (λ i h. same i h ∙ sym (with_end i h)) pattern in
-      more_front f (whole (get_or P (4 + (at + k)) 0) ends (last_behind 0 f.code_points) _ _ _ _ Bs f.edge (subst (λ n. AllMayStand (suc n) (W ++ (get_or P (4 + (at + k)) 0 ∷ []))) (sym long) kept))
-      (λ e i h. let a = same (suc (suc (suc i))) (omega (arith, h)) ∙ sym (around (suc (suc (suc i))) (omega (arith, h))) in
-      let b = same (suc (suc (suc (suc i)))) (omega (arith, h)) ∙ sym (around (suc (suc (suc (suc i)))) (omega (arith, h))) in
-      λ q. subst (λ x. x < 0xA0) b (plain e i (omega (arith, h)) (a ∙ q)))
+  -- where they keep to the pattern up to a byte that begins a code point
+  pub by_pattern : KeepsPattern surrogates bytes (suc n) → (IsContinuation (get_or P (4 + n) 0) → ⊥) → IsSpelledFront surrogates bytes n
+  by_pattern k ends =
+      let around : AllMayStand (suc n) (W ++ (get_or P (4 + n) 0 ∷ [])) = agree (suc n) P (W ++ (get_or P (4 + n) 0 ∷ [])) (λ i h. sym (with_end i h)) k.pattern in
+      by_whole (whole (get_or P (4 + n) 0) ends 0 0 0 0 0 Bs at_start (subst (λ m. AllMayStand (suc m) (W ++ (get_or P (4 + n) 0 ∷ []))) (sym long) around))
+      (λ e i h q. let z = same (suc (suc (suc i))) (omega (arith, h)) in
+      let b = same (suc (suc (suc (suc i)))) (omega (arith, h)) in
+      subst (λ x. x < 0xA0) (sym b) (k.plain e i (omega (arith, h)) (sym z ∙ q)))
 
-  -- where the bytes are ASCII
-  pub ascii_step : IsSpelledFront surrogates bytes at → ((i : ℕ) → i < k → get_or bytes (at + i) 0 < 0x80) → IsSpelledFront surrogates bytes (at + k)
-  ascii_step f low =
-      more_front f (ascii_whole (last_behind 0 f.code_points) _ _ _ _ Bs f.edge (λ i h.
-      let l : i < k = omega (arith, h, long) in
-      let e : get_or Bs i 0 ≡ get_or bytes (at + i) 0 = get_or-take k (drop at bytes) i 0 l ∙ get_or-drop at bytes i 0 in
-      omega (arith, e, low i l)))
-      (λ _ i h q. let e : get_or Bs i 0 ≡ get_or bytes (at + i) 0 = get_or-take k (drop at bytes) i 0 h ∙ get_or-drop at bytes i 0 in
-      omega (arith, e, low i h))
+  -- where they are ASCII
+  pub by_ascii : ((i : ℕ) → i < n → get_or bytes i 0 < 0x80) → IsSpelledFront surrogates bytes n
+  by_ascii low =
+      by_whole (ascii_whole 0 0 0 0 0 Bs at_start (λ i h. let l : i < n = omega (arith, h, long) in omega (arith, get_or-take n bytes i 0 l, low i l)))
+      (λ _ i h q. omega (arith, get_or-take n bytes i 0 h, low i h))
 
 -- the front that is empty
 pub no_front : (surrogates : Bool) (bytes : List ℕ) → IsSpelledFront surrogates bytes 0
-no_front surrogates bytes = record {
-  within = omega arith;
-  code_points = [];
-  spelled = record { code_points = tt; paired_free = tt; joined = refl };
-  plain = λ _. tt;
-  edge = record { closed = record { fourth = omega arith; third = omega arith; second = omega arith }; high = λ h. omega (arith, h.0); only_high = λ e. absurd (omega (arith, e)) };
-}
+no_front surrogates bytes = by_ascii surrogates bytes 0 (omega arith) (λ i h. absurd (omega (arith, h)))
 
 all_scalars : (cs : List ℕ) → AllByRecursion IsScalar cs → scalars cs ≡ true
 all_scalars [] p = refl
@@ -159,9 +140,7 @@ front_is_utf8 surrogates bytes n e f = (f.code_points, (all_scalars f.code_point
 
 -- so a front of ASCII is a text
 pub ascii_is_utf8 : (bytes : List ℕ) (n : ℕ) → n ≤ length bytes → ((i : ℕ) → i < n → get_or bytes (0 + i) 0 < 0x80) → IsUtf8 (take n bytes)
-ascii_is_utf8 bytes n h low =
-    let e : 0 + n ≡ n = omega arith in
-    subst (λ m. IsUtf8 (take m bytes)) e (front_is_utf8 false bytes (0 + n) refl (ascii_step false bytes 0 n (omega (arith, h)) (no_front false bytes) low))
+ascii_is_utf8 bytes n h low = front_is_utf8 false bytes n refl (by_ascii false bytes n h (λ i l. let e : 0 + i ≡ i = omega arith in subst (λ k. get_or bytes k 0 < 0x80) e (low i l)))
 
 -- a window that was copied, with zeros around it
 pub before_bytes : (bytes : List ℕ) (m : ℕ) → m < 4 → get_or (behind_zeros bytes) m 0 ≡ 0
@@ -182,27 +161,34 @@ past_end bytes n h k =
     let e : get_or (behind_zeros bytes) (4 + n) 0 ≡ 0 = ap (λ m. get_or (behind_zeros bytes) m 0) place ∙ get_or_past bytes n 0 h in
     omega (arith, e, k.0)
 
-front_step : (surrogates : Bool) (bytes : List ℕ) (at : ℕ) (window : List ℕ) (n : ℕ) → at + n ≤ length bytes → n < 64 → ((i : ℕ) → i < 68 → get_or window i 0 ≡ get_or (behind_zeros bytes) (at + i) 0)
-    → AllMayStand (suc n) window → (surrogates ≡ false → AllPlain (suc n) window) → (IsContinuation (get_or window (4 + n) 0) → ⊥) → IsSpelledFront surrogates bytes at → IsSpelledFront surrogates bytes (at + n)
-front_step surrogates bytes at window n room most same pattern plain begins f =
-    let place : at + (4 + n) ≡ 4 + (at + n) = omega arith in
-    let e : get_or window (4 + n) 0 ≡ get_or (behind_zeros bytes) (4 + (at + n)) 0 = same (4 + n) (omega (arith, most)) ∙ ap (λ m. get_or (behind_zeros bytes) m 0) place in
-    step surrogates bytes at n room window f (λ i h. same i (omega (arith, h, most))) pattern plain (λ k. begins (subst IsContinuation (sym e) k))
+-- none of the bytes
+pub no_pattern : (surrogates : Bool) (bytes : List ℕ) → KeepsPattern surrogates bytes 0
+no_pattern surrogates bytes = record { pattern = λ i h. absurd (omega (arith, h)); plain = λ _ i h. absurd (omega (arith, h)) }
 
--- where the window is full of bytes
-pub block_step : (surrogates : Bool) (bytes : List ℕ) (at : ℕ) (window : List ℕ) (found : Option ℕ) → at + 64 ≤ length bytes → ((i : ℕ) → i < 68 → get_or window i 0 ≡ get_or (behind_zeros bytes) (at + i) 0)
-    → IfSome found (λ n. AllMayStand (suc n) window) → IfSome found (λ n. surrogates ≡ false → AllPlain (suc n) window) → IfSome found (λ n. IsContinuation (get_or window (4 + n) 0) → ⊥) → IfSome found (λ n. n < 64)
-    → IfSome found (λ n. IsSpelledFront surrogates bytes at → IsSpelledFront surrogates bytes (at + n))
-block_step surrogates bytes at window None room same pattern plain begins most = tt
-block_step surrogates bytes at window (Some n) room same pattern plain begins most = front_step surrogates bytes at window n (omega (arith, room, most)) most same pattern plain begins
+-- fewer of them
+pub fewer : (surrogates : Bool) (bytes : List ℕ) (m n : ℕ) → m ≤ n → KeepsPattern surrogates bytes n → KeepsPattern surrogates bytes m
+fewer surrogates bytes m n l k = record { pattern = λ i h. k.pattern i (omega (arith, h, l)); plain = λ e i h. k.plain e i (omega (arith, h, l)) }
 
--- where the bytes end within it, but not what keeps to the pattern
-pub rest_step : (surrogates : Bool) (bytes : List ℕ) (at : ℕ) (window : List ℕ) (kept : ℕ) (found : Option ℕ) → at ≤ length bytes → kept ≤ length bytes - at → length bytes - at < 64 → ((i : ℕ) → i < 68 → get_or window i 0 ≡ get_or (behind_zeros bytes) (at + i) 0)
-    → AllMayStand kept window → (surrogates ≡ false → AllPlain kept window) → IfSome found (λ n. IsContinuation (get_or window (4 + n) 0) → ⊥) → IfSome found (λ n. n < kept)
-    → IfSome found (λ n. IsSpelledFront surrogates bytes at → IsSpelledFront surrogates bytes (at + n))
-rest_step surrogates bytes at window kept None from few short same pattern plain begins most = tt
-rest_step surrogates bytes at window kept (Some n) from few short same pattern plain begins most =
-    front_step surrogates bytes at window n (omega (arith, from, few, most)) (omega (arith, few, short, most)) same (λ i h. pattern i (omega (arith, h, most))) (λ q i h. plain q i (omega (arith, h, most))) begins
+-- as many more as a window keeps
+module _ (surrogates : Bool) (bytes : List ℕ) (at : ℕ) (window : List ℕ) (n : ℕ) (same : (i : ℕ) → i < 4 + n → get_or window i 0 ≡ get_or (behind_zeros bytes) (at + i) 0) where
+  in_window : (i j : ℕ) → at + j ≡ i → j < 4 + n → get_or window j 0 ≡ get_or (behind_zeros bytes) i 0
+  in_window i j e h = same j h ∙ ap (λ m. get_or (behind_zeros bytes) m 0) e
+
+  pub more : AllMayStand n window → (surrogates ≡ false → AllPlain n window) → KeepsPattern surrogates bytes at → KeepsPattern surrogates bytes (at + n)
+  more pattern plain k = record {
+    pattern = λ i h. ⊎_elim (k.pattern i) (λ l.
+        same_neighbours _ _ _ _ _ _ _ _ _ _
+        (in_window i (i - at) (omega (arith, l)) (omega (arith, h, l)))
+        (in_window (suc i) (suc (i - at)) (omega (arith, l)) (omega (arith, h, l)))
+        (in_window (suc (suc i)) (suc (suc (i - at))) (omega (arith, l)) (omega (arith, h, l)))
+        (in_window (suc (suc (suc i))) (suc (suc (suc (i - at)))) (omega (arith, l)) (omega (arith, h, l)))
+        (in_window (suc (suc (suc (suc i)))) (suc (suc (suc (suc (i - at))))) (omega (arith, l)) (omega (arith, h, l)))
+        (pattern (i - at) (omega (arith, h, l)))) (cases_lt i at);
+    plain = λ e i h. ⊎_elim (k.plain e i) (λ l q.
+        let z = in_window (suc (suc (suc i))) (suc (suc (suc (i - at)))) (omega (arith, l)) (omega (arith, h, l)) in
+        let b = in_window (suc (suc (suc (suc i)))) (suc (suc (suc (suc (i - at))))) (omega (arith, l)) (omega (arith, h, l)) in
+        subst (λ x. x < 0xA0) b (plain e (i - at) (omega (arith, h, l)) (z ∙ q))) (cases_lt i at);
+  }
 
 -- a window that stands in the bytes
 inside : (bytes : List ℕ) (at : ℕ) → 4 ≤ at → (i : ℕ) → get_or (drop (at - 4) bytes) i 0 ≡ get_or (behind_zeros bytes) (at + i) 0
@@ -210,11 +196,53 @@ inside bytes at l i =
     let place : suc (suc (suc (suc ((at - 4) + i)))) ≡ at + i = omega (arith, l) in
     get_or-drop (at - 4) bytes i 0 ∙ ap (λ m. get_or (behind_zeros bytes) m 0) place
 
-pub block_step_within : (surrogates : Bool) (bytes : List ℕ) (at : ℕ) (window : List ℕ) (found : Option ℕ) → at + 64 ≤ length bytes → 4 ≤ at → window ≡ drop (at - 4) bytes
-    → IfSome found (λ n. AllMayStand (suc n) window) → IfSome found (λ n. surrogates ≡ false → AllPlain (suc n) window) → IfSome found (λ n. IsContinuation (get_or window (4 + n) 0) → ⊥) → IfSome found (λ n. n < 64)
-    → IfSome found (λ n. IsSpelledFront surrogates bytes at → IsSpelledFront surrogates bytes (at + n))
-block_step_within surrogates bytes at window found room l is pattern plain begins most =
-    block_step surrogates bytes at window found room (λ i _. ap (λ x. get_or x i 0) is ∙ inside bytes at l i) pattern plain begins most
+pub more_inside : (surrogates : Bool) (bytes : List ℕ) (at : ℕ) (window : List ℕ) (n : ℕ) → 4 ≤ at → window ≡ drop (at - 4) bytes
+    → AllMayStand n window → (surrogates ≡ false → AllPlain n window) → KeepsPattern surrogates bytes at → KeepsPattern surrogates bytes (at + n)
+more_inside surrogates bytes at window n l is = more surrogates bytes at window n (λ i _. ap (λ x. get_or x i 0) is ∙ inside bytes at l i)
+
+-- ASCII behind ASCII
+module _ (bytes : List ℕ) where
+  abbrev Q : List ℕ
+  Q = behind_zeros bytes
+
+  -- nothing goes on behind it
+  closed : (n : ℕ) → AllMayStand n Q → get_or Q (suc (suc (suc n))) 0 < 0x80 → IsClosed (get_or Q (suc n) 0) (get_or Q (suc (suc n)) 0) (get_or Q (suc (suc (suc n))) 0)
+  closed zero h u = record { fourth = omega arith; third = omega arith; second = omega (arith, u) }
+  closed (suc n) h u =
+      let more : GoesOn (get_or Q (suc n) 0) (get_or Q (suc (suc n)) 0) (get_or Q (suc (suc (suc n))) 0) → ⊥ = λ g. let c = (h n (omega arith)).continues g in omega (arith, c.0, u) in
+      record {
+        fourth = ⊎_elim (λ l. omega (arith, l)) (λ l. absurd (more (inr (inl (omega (arith, l)))))) (cases_lt (get_or Q (suc (suc n)) 0) 0xE0);
+        third = ⊎_elim (λ l. omega (arith, l)) (λ l. absurd (more (inr (inr l)))) (cases_lt (get_or Q (suc (suc (suc n))) 0) 0xC0);
+        second = omega (arith, u);
+      }
+
+  one_ascii : (surrogates : Bool) (n : ℕ) → get_or Q (suc (suc (suc n))) 0 < 0x80 → get_or Q (suc (suc (suc (suc n)))) 0 < 0x80 → KeepsPattern surrogates bytes n → KeepsPattern surrogates bytes (suc n)
+  one_ascii surrogates n u v k =
+      let z = get_or Q (suc (suc (suc n))) 0 in
+      let stands : MayStand (get_or Q n 0) (get_or Q (suc n) 0) (get_or Q (suc (suc n)) 0) z (get_or Q (suc (suc (suc (suc n)))) 0) = record {
+        begins = λ _. inl v;
+        continues = λ g. let c = closed n k.pattern u in absurd (⊎_elim (λ l. omega (arith, l, c.fourth)) (λ g. ⊎_elim (λ l. omega (arith, l, c.third)) (λ l. omega (arith, l, c.second)) g) g);
+        follows = record { lead = λ s. absurd (omega (arith, s, u)); three_long = λ s. absurd (omega (arith, s, u)); four_long = λ s. absurd (omega (arith, s, u)); within = λ s. absurd (omega (arith, s, u)) };
+        unpaired = λ _ _ _ s. absurd (omega (arith, s, u));
+      } in
+      record {
+        pattern = λ i h. ⊎_elim (k.pattern i) (λ l. let e : n ≡ i = omega (arith, h, l) in
+            subst (λ m. MayStand (get_or Q m 0) (get_or Q (suc m) 0) (get_or Q (suc (suc m)) 0) (get_or Q (suc (suc (suc m))) 0) (get_or Q (suc (suc (suc (suc m)))) 0)) e stands) (cases_lt i n);
+        plain = λ e i h. ⊎_elim (k.plain e i) (λ l s. let f : i ≡ n = omega (arith, h, l) in absurd (omega (arith, ap (λ m. get_or Q (suc (suc (suc m))) 0) f, s, u))) (cases_lt i n);
+      }
+
+  -- the byte before the place at + k
+  pub last_ascii : (at k : ℕ) → ((i : ℕ) → i < k → get_or bytes (at + i) 0 < 0x80) → get_or Q (3 + at) 0 < 0x80 → get_or Q (3 + (at + k)) 0 < 0x80
+  last_ascii at zero low u = let e : 3 + at ≡ 3 + (at + 0) = omega arith in subst (λ m. get_or Q m 0 < 0x80) e u
+  last_ascii at (suc k) low u = let e : suc (suc (suc (suc (at + k)))) ≡ 3 + (at + suc k) = omega arith in subst (λ m. get_or Q m 0 < 0x80) e (low k (omega arith))
+
+  pub more_ascii : (surrogates : Bool) (at k : ℕ) → ((i : ℕ) → i < k → get_or bytes (at + i) 0 < 0x80) → get_or Q (3 + at) 0 < 0x80 → KeepsPattern surrogates bytes at → KeepsPattern surrogates bytes (at + k)
+  more_ascii surrogates at zero low u f = let e : at ≡ at + 0 = omega arith in subst (KeepsPattern surrogates bytes) e f
+  more_ascii surrogates at (suc k) low u f =
+      let less : (i : ℕ) → i < k → get_or bytes (at + i) 0 < 0x80 = λ i h. low i (omega (arith, h)) in
+      let before : 3 + (at + k) ≡ suc (suc (suc (at + k))) = omega arith in
+      let e : suc (at + k) ≡ at + suc k = omega arith in
+      subst (KeepsPattern surrogates bytes) e (one_ascii surrogates (at + k) (subst (λ m. get_or Q m 0 < 0x80) before (last_ascii at k less u)) (low k (omega arith)) (more_ascii surrogates at k less u f))
 
 -- the window that is copied into 68 zeros
 copied_into : (zs : List ℕ) → length zs ≡ 68 → ((k : ℕ) → get_or zs k 0 ≡ 0) → (bytes : List ℕ) (at b n : ℕ) (part : List ℕ) → at ≤ length bytes → b ≡ min at 4 → n ≡ min (length bytes - at) 64

@@ -1,13 +1,14 @@
 -- The operations on vectors, lane by lane.
-use Rattle.std.proofs.Common.{◌≡◌, inl, inr, ◌⊎◌, ⊎_elim, ℕ, zero, suc, ◌+◌, ◌-◌, ◌%◌, ◌^◌, ◌<◌, ◌≤◌, Bool, true, false, cond, ltb, List, [], ◌∷◌, map, length, get_or, replicate, not, refl, sym, ap, ◌∙◌, subst, arith, w8, Fits, eqb, eqb-true}
-use Rattle.std.proofs.lemmas.List.{length-map, get_or-map}
-use Rattle.std.proofs.lemmas.Simd.{Each1-get_or, get_or-zip2, get_or-replicate, tops_compared, zip2_splat, zip2_splat_left, length-sel_l, get_or-sel_l, mask_l-mod, bitmask_splat, trailing_mask_l}
-use Rattle.std.proofs.lemmas.Bool.{not-true}
+use Rattle.std.proofs.Common.{◌≡◌, inl, inr, ◌⊎◌, ⊎_elim, ℕ, zero, suc, ◌+◌, ◌-◌, ◌%◌, ◌^◌, ◌<◌, ◌≤◌, Bool, true, false, cond, ltb, List, [], ◌∷◌, ◌++◌, map, length, length-append, get_or, bit_or, replicate, not, refl, sym, ap, ◌∙◌, subst, arith, w8, Fits, eqb, eqb-true}
+use Rattle.std.proofs.lemmas.List.{length-map, get_or-map, get_or_append_left}
+use Rattle.std.specs.List.{range_with_len}
+use Rattle.std.proofs.lemmas.Simd.{Each1-get_or, get_or-chunk, get_or-zip2, pick_l-range_with_len, get_or-replicate, tops_compared, zip2_splat, zip2_splat_left, length-sel_l, get_or-sel_l, mask_l-mod, bitmask_splat, trailing_mask_l}
+use Rattle.std.proofs.lemmas.Bool.{not-true, not-false, cases_lt}
 use Rattle.std.proofs.lemmas.List.Sums.{prefix_len_passes}
-use Rattle.std.proofs.lemmas.Nat.{trailing_le}
+use Rattle.std.proofs.lemmas.Nat.{trailing_le, le_or_l, le_or_r}
 use Rattle.std.specs.Int.Count.{count_trailing_zeros}
 use Rattle.std.proofs.lemmas.Bool.Decides.{nat_tests}
-use lib.Lanes.{zip2, sel_l, mask_l, top, Each1}
+use lib.Lanes.{zip2, pick_l, sel_l, mask_l, top, Each1}
 
 -- an operator between a vector and one value
 pub lane_with : (f : ℕ → ℕ → ℕ) (xs : List ℕ) (y : ℕ) → length xs ≡ 64 → (i : ℕ) → i < 64 → get_or (zip2 f xs (replicate 64 y)) i 0 ≡ f (get_or xs i 0) y
@@ -51,9 +52,35 @@ none_set test (x ∷ xs) e zero h = go (test x) refl (omega (arith, e))
     go false p q = p
 none_set test (x ∷ xs) e (suc i) h = none_set test xs (omega (arith, e)) i (omega (arith, h))
 
-pub none_passes : (t : ℕ → ℕ → Bool) (xs : List ℕ) (y : ℕ) → length xs ≡ 64 → eqb (mask_l (map (top 7) (zip2 (λ a b. cond (t a b) 255 0) xs (replicate 64 y))) % 2 ^ 64) 0 ≡ true
-    → (i : ℕ) → i < 64 → t (get_or xs i 0) y ≡ false
-none_passes t xs y p e i h = none_set (λ x. t x y) xs (sym (bitmask_splat w8 t xs 64 y p (omega arith)) ∙ eqb-true _ _ e) i (omega (arith, p, h))
+none_passes : (t : ℕ → ℕ → Bool) (xs : List ℕ) (k y : ℕ) → k ≤ 64 → length xs ≡ k → eqb (mask_l (map (top 7) (zip2 (λ a b. cond (t a b) 255 0) xs (replicate k y))) % 2 ^ 64) 0 ≡ true
+    → (i : ℕ) → i < k → t (get_or xs i 0) y ≡ false
+none_passes t xs k y few p e i h = none_set (λ x. t x y) xs (sym (bitmask_splat w8 t xs k y p few) ∙ eqb-true _ _ e) i (omega (arith, p, h))
+
+-- both halves of 64 lanes, bit by bit
+abbrev both_halves : List ℕ → List ℕ
+both_halves xs = zip2 bit_or (pick_l 0 (xs ++ xs) (range_with_len 0 32)) (pick_l 0 (xs ++ xs) (range_with_len 32 32))
+
+pub no_bit_of_both : (xs : List ℕ) → length xs ≡ 64 → eqb (mask_l (map (top 7) (zip2 (λ a b. cond (not (eqb a b)) 255 0) (both_halves xs) (replicate 32 0))) % 2 ^ 64) 0 ≡ true
+    → (i : ℕ) → i < 64 → get_or xs i 0 ≡ 0
+no_bit_of_both xs p e i h =
+    ⊎_elim
+    (λ l. let f : 0 + i ≡ i = omega arith in
+    omega (arith, le_or_l (get_or xs (0 + i) 0) (get_or xs (32 + i) 0), none i l, ap (λ k. get_or xs k 0) f))
+    (λ l. let f : 32 + (i - 32) ≡ i = omega (arith, l) in
+    omega (arith, le_or_r (get_or xs (0 + (i - 32)) 0) (get_or xs (32 + (i - 32)) 0), none (i - 32) (omega (arith, h, l)), ap (λ k. get_or xs k 0) f))
+    (cases_lt i 32)
+  where
+    in_half : (a j : ℕ) → a ≤ 32 → j < 32 → get_or (pick_l 0 (xs ++ xs) (range_with_len a 32)) j 0 ≡ get_or xs (a + j) 0
+    in_half a j few l =
+        ap (λ ys. get_or ys j 0) (pick_l-range_with_len 0 (xs ++ xs) a 32 (omega (arith, length-append xs xs, p, few)))
+        ∙ get_or-chunk a 32 (xs ++ xs) j 0 l ∙ get_or_append_left xs xs 0 (a + j) (omega (arith, p, few, l))
+
+    none : (j : ℕ) → j < 32 → bit_or (get_or xs (0 + j) 0) (get_or xs (32 + j) 0) ≡ 0
+    none j l =
+        ap (λ x. bit_or x (get_or xs (32 + j) 0)) (sym (in_half 0 j (omega arith) l))
+        ∙ ap (bit_or (get_or (pick_l 0 (xs ++ xs) (range_with_len 0 32)) j 0)) (sym (in_half 32 j (omega arith) l))
+        ∙ sym (get_or-zip2 bit_or (pick_l 0 (xs ++ xs) (range_with_len 0 32)) (pick_l 0 (xs ++ xs) (range_with_len 32 32)) j 0 0 0 l l)
+        ∙ eqb-true _ _ (not-false _ (none_passes (λ a b. not (eqb a b)) (both_halves xs) 32 0 (omega arith) refl e j l))
 
 pub none_passes_left : (t : ℕ → ℕ → Bool) (xs : List ℕ) (y : ℕ) → length xs ≡ 64 → eqb (mask_l (map (top 7) (zip2 (λ a b. cond (t a b) 255 0) (replicate 64 y) xs)) % 2 ^ 64) 0 ≡ true
     → (i : ℕ) → i < 64 → t y (get_or xs i 0) ≡ false

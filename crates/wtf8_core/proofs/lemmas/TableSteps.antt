@@ -2,20 +2,19 @@
 use Rattle.std.proofs.Common.{◌≡◌, ◌≢◌, ◌⊎◌, inl, inr, ⊎_elim, ℕ, zero, suc, ◌+◌, ◌-◌, ◌*◌, ◌%◌, ◌<◌, ◌≤◌, Bool, true, false, ltb, leb, eqb, ◌&&◌, ◌||◌, not, List, [], ◌∷◌, ◌++◌, length, refl, sym, ap, ◌∙◌, subst, arith, append_assoc}
 use Rattle.std.proofs.lemmas.Bool.{and_parts, or_cases, leb-true, ltb-true, eqb-true, cases_lt, lt-leb, not-true, and_left, and_right, cond_both, cond-true, cond-false, lt-ltb, le-ltb, cases_Bool}
 use Rattle.std.proofs.lemmas.List.{append-nil}
-use Rattle.std.specs.List.{AllByRecursion, fold, flat_map}
 use mathlib.Core.Bool.{beq}
 use Rattle.std.specs.Int.{is_in_range}
 use Rattle.wtf8_core.specs.Byte.{IsContinuation, needed_continuations}
 use Rattle.wtf8_core.specs.Surrogate.{IsHigh, IsLow, is_high}
 use Rattle.wtf8_core.specs.CodePoint.{IsCodePoint, form}
-use Rattle.wtf8_core.specs.Wtf8.{Spells, IsPairedFree, last_behind}
-use Rattle.wtf8_core.specs.Fault.{IsBegun, IsShape, shape_value, BeginsFault}
+use Rattle.wtf8_core.specs.Wtf8.{Spells, last_behind}
+use Rattle.wtf8_core.specs.Fault.{IsShape, shape_value, BeginsFault}
 use Rattle.wtf8_core.specs.Reader.{lead_bits, least_value}
 use Rattle.wtf8_core.specs.Table.{class_at, next_at}
 use Rattle.wtf8_core.specs.Checker.{Row, rows, SomeRow, IsOpen, IsOpenIn, Stands, IsFaulty, kept_bits, joined_bits, fault_at, is_between, is_plain}
 use Rattle.wtf8_core.proofs.lemmas.Forms.{form_ascii, shape_is_form, no_form}
 use Rattle.wtf8_core.proofs.lemmas.Ranges.{in_range, in_range-true}
-use Rattle.wtf8_core.proofs.lemmas.Continuations.{Join}
+use Rattle.wtf8_core.proofs.lemmas.OneMore.{length_more, value_more, begun_more, last_more, spells_more}
 use Rattle.wtf8_core.proofs.lemmas.TableEntries.{IsClass, classed, IsPlaced, placed, first_of, last_of, some_row, all_rows_pass, are_continuations, no_continuations, begins, between_passes, least_behind, most_behind, goes_on, all_refused, all_accepted, open_passes, pass, is_refused, is_behind_high, is_four, is_three, is_refused-true, is_plain-true, is_behind_high-true, is_four-true, is_three-true}
 use Rattle.wtf8_core.specs.declared.fault.EncodingError.{EncodingError}
 use Rattle.wtf8_core.specs.declared.fault.EncodingError.TheVariants.{Byte, CodePoint, End}
@@ -28,51 +27,6 @@ beq_true true true e = refl
 beq_true false false e = refl
 beq_true true false e = cc
 beq_true false true e = cc
-
-length_more : (ks : List ℕ) (x : ℕ) → length (ks ++ x ∷ []) ≡ suc (length ks)
-length_more [] x = refl
-length_more (k ∷ ks) x = ap suc (length_more ks x)
-
-fold_more : (v : ℕ) (ks : List ℕ) (x : ℕ) → fold Join v (ks ++ x ∷ []) ≡ Join (fold Join v ks) x
-fold_more v [] x = refl
-fold_more v (k ∷ ks) x = fold_more (Join v k) ks x
-
-value_more : (lead : ℕ) (ks : List ℕ) (x : ℕ) → shape_value lead (ks ++ x ∷ []) ≡ shape_value lead ks * 0x40 + x % 0x40
-value_more lead ks x = fold_more (lead_bits lead) ks x
-
-all_more : (P : ℕ → Type 0) (xs : List ℕ) (x : ℕ) → AllByRecursion P xs → P x → AllByRecursion P (xs ++ x ∷ [])
-all_more P [] x a p = (p, tt)
-all_more P (y ∷ ys) x a p = (a.0, all_more P ys x a.1 p)
-
-begun_more : (lead : ℕ) (ks : List ℕ) (x : ℕ) → IsBegun lead ks → IsContinuation x → IsBegun lead (ks ++ x ∷ [])
-begun_more lead ks x b h = record { lead_is = b.lead_is; continued = all_more IsContinuation ks x b.continued h }
-
-free_more : (cs : List ℕ) (c : ℕ) → IsPairedFree cs → (IsHigh (last_behind 0 cs) → IsLow c → ⊥) → IsPairedFree (cs ++ c ∷ [])
-free_more [] c f g = (tt, tt)
-free_more (d ∷ []) c f g = (g, (tt, tt))
-free_more (d ∷ e ∷ cs) c f g = (f.0, free_more (e ∷ cs) c f.1 g)
-
-pub last_more : (p : ℕ) (cs : List ℕ) (c : ℕ) → last_behind p (cs ++ c ∷ []) ≡ c
-last_more p [] c = refl
-last_more p (d ∷ cs) c = last_more d cs c
-
-forms_more : (cs : List ℕ) (c : ℕ) → flat_map form (cs ++ c ∷ []) ≡ flat_map form cs ++ form c
-forms_more [] c = append-nil (form c)
-forms_more (d ∷ cs) c = ap (λ l. form d ++ l) (forms_more cs c) ∙ sym (append_assoc (form d) (flat_map form cs) (form c))
-
-spells_more : (w cs : List ℕ) (c : ℕ) → Spells w cs → IsCodePoint c → (IsHigh (last_behind 0 cs) → IsLow c → ⊥) → Spells (w ++ form c) (cs ++ c ∷ [])
-spells_more w cs c s k g = record {
-  code_points = all_more IsCodePoint cs c s.code_points k;
-  paired_free = free_more cs c s.paired_free g;
-  joined = ap (λ l. l ++ form c) s.joined ∙ sym (forms_more cs c);
-}
-
--- the bytes spell cs and c, and no sequence is open
-with_form : (b before open_bytes whole cs : List ℕ) (c : ℕ) → b ≡ before ++ open_bytes → Spells before cs → whole ≡ form c
-    → IsCodePoint c → (IsHigh (last_behind 0 cs) → IsLow c → ⊥) → (x : ℕ) → open_bytes ++ x ∷ [] ≡ whole → Spells (b ++ x ∷ []) (cs ++ c ∷ [])
-with_form b before open_bytes whole cs c e s f k g x o =
-    let h : b ++ x ∷ [] ≡ before ++ form c = ap (λ l. l ++ x ∷ []) e ∙ append_assoc before open_bytes (x ∷ []) ∙ ap (λ l. before ++ l) (o ∙ f) in
-    subst (λ l. Spells l (cs ++ c ∷ [])) (sym h) (spells_more before cs c s k g)
 
 opened_of_rows : (t : State) (h : Bool) (bits : ℕ) (o : List ℕ) → SomeRow (IsOpen h bits o) (rows t) → IsOpenIn t h bits o
 opened_of_rows Between h bits o r = absurd r

@@ -1,5 +1,5 @@
-use Rattle.std.proofs.Common.{◌≤◌, inr, ◌∙◌, arith}
-use Rattle.wtf8_core.proofs.lemmas.PairBits.{kept, kept_plain, kept_by_zeros}
+use Rattle.std.proofs.Common.{arith}
+use Rattle.wtf8_core.proofs.lemmas.PairBits.{kept_plain, kept_by_zeros}
 use Rattle.wtf8_core.proofs.blocks.kept_len.Goals as goal
 
 pub returns-then-are_zero-clause-pattern : goal.returns-then-are_zero-clause-pattern
@@ -19,13 +19,3 @@ pub returns-then-not-surrogates-clause-plain : goal.returns-then-not-surrogates-
 returns-then-not-surrogates-clause-plain c _ =
     let clear = c.zeros_before.ensures in
     kept_plain _ c.args.window.now c.wrong_bits-wrong.result (λ k. omega (arith, c.type_inv.window k)) (λ i h. c.wrong_bits-wrong.ensures i (omega (arith, h, clear.within))) clear.zero
-
-pub returns-clause-pattern : goal.returns-clause-pattern
-returns-clause-pattern c =
-    let clear = c.zeros_before-2.ensures in
-    let other = c.others_before.ensures in
-    let low : c.min.result ≤ c.zeros_before-2.result = omega (arith, c.min.ensures) in
-    let high : c.min.result ≤ c.others_before.result = omega (arith, c.min.ensures) in
-    kept _ c.args.window.now c.wrong_bits-wrong.result c.masked.result (λ k. omega (arith, c.type_inv.window k))
-    (λ i h. c.wrong_bits-wrong.ensures i (omega (arith, h, low, clear.within))) (λ i h. c.masked.ensures i (omega (arith, h, low, clear.within))) (λ i h. clear.zero i (omega (arith, h, low)))
-    (λ i h. inr (λ e. other.other i (omega (arith, h, high)) (c.unlike_pair.ensures i (omega (arith, h, low, clear.within)) ∙ e)))
