@@ -197,6 +197,26 @@ fn first_code_point(units: &[u16]) -> (u32, &[u16])
     }
 }
 
+/// How many ASCII units come before any other among the first 8, and 0 where there are fewer than 8
+/// units.
+#[inline(always)]
+fn ascii_len(units: &[u16]) -> usize
+    ensures ascii { All (λ u. u < 0x80) (take result units.now) }
+    ensures first { result ≤ 8 }
+    ensures eight { 0 < result → 8 ≤ length units.now }
+{
+    if units.len() < 8 || units[0] >= 0x80 {
+        return 0;
+    }
+    let others = u16x8::from_slice(units)
+        .simd_ge(u16x8::splat(0x80))
+        .to_bitmask();
+    if others == 0 {
+        return 8;
+    }
+    others.trailing_zeros() as usize
+}
+
 /// Writes 16 units of ASCII from place `at` on.
 #[inline(always)]
 fn put_ascii(bytes: &mut [u8], at: usize, block: [u16; 16])
@@ -206,6 +226,20 @@ fn put_ascii(bytes: &mut [u8], at: usize, block: [u16; 16])
     ensures len { length bytes.new ≡ length bytes.old }
 {
     u8x16::from_array(narrowed(block)).copy_to_slice(&mut bytes[at..]);
+}
+
+/// Writes `len` units of ASCII, of 8, from place `at` on, and over the bytes behind them up to 8.
+#[inline(always)]
+fn put_ascii_front(bytes: &mut [u8], at: usize, units: &[u16], len: usize)
+    requires ascii { All (λ u. u < 0x80) (take len units.now) }
+    requires first { len ≤ 8 }
+    requires eight { 8 ≤ length units.now }
+    requires room { at + 8 ≤ length bytes.old }
+    ensures written { take (at + len) bytes.new ≡ take at bytes.old ++ take len units.now }
+    ensures len { length bytes.new ≡ length bytes.old }
+{
+    let low = u16x8::from_slice(units) % u16x8::splat(0x80);
+    low.cast::<u8>().copy_to_slice(&mut bytes[at..]);
 }
 
 /// Writes the form of a code point from place `at` on, and answers where it ends.
@@ -302,20 +336,28 @@ pub(crate) fn spell(units: &[u16], bytes: &mut [u8])
     let mut rest = units;
     let mut at = 0;
 
-    // where 16 units aren't all ASCII, so many code points are taken before the next test
-    let mut singles: usize = 0;
+    // a block of 16 is tried where the 8 units before were ASCII
+    let mut wanted = true;
     while !rest.is_empty() {
-        match first_ascii_block(rest, singles == 0) {
+        match first_ascii_block(rest, wanted) {
             Some((block, behind)) => {
                 put_ascii(bytes, at, *block);
                 at += 16;
                 rest = behind;
             }
             None => {
-                let (code_point, behind) = first_code_point(rest);
-                at = put_form(bytes, at, code_point);
-                rest = behind;
-                singles = (singles + 15) % 16;
+                let len = ascii_len(rest);
+                wanted = len == 8;
+                if len > 0 {
+                    put_ascii_front(bytes, at, rest, len);
+                    at += len;
+                    let (_, behind) = rest.split_at(len);
+                    rest = behind;
+                } else {
+                    let (code_point, behind) = first_code_point(rest);
+                    at = put_form(bytes, at, code_point);
+                    rest = behind;
+                }
             }
         }
     }

@@ -1,0 +1,19 @@
+use Rattle.std.proofs.Common.{◌<◌, w16, take, arith, subst}
+use Rattle.std.proofs.lemmas.Bool.{eq-eqb}
+use Rattle.std.proofs.lemmas.List.{length-take-le}
+use Rattle.std.proofs.lemmas.List.Elements.{All-from_recursion}
+use Rattle.std.specs.List.{All}
+use Rattle.platform_str.proofs.lemmas.Lanes.{all_below_splat, front_below_splat, front_of_front}
+use Rattle.platform_str.proofs.blocks.ascii_len.Goals as goal
+
+pub returns-then-others-eq0-clause-ascii : goal.returns-then-others-eq0-clause-ascii
+returns-then-others-eq0-clause-ascii c = all_below_splat w16 0x80 8 (take 8 c.args.units.now) (length-take-le 8 c.args.units.now c.if-units-lt8.false) (omega arith) (eq-eqb _ 0 c.if-others-eq0.true)
+
+pub returns-clause-ascii : goal.returns-clause-ascii
+returns-clause-ascii c =
+    let us = c.args.units.now in
+    let f = front_below_splat w16 0x80 8 (take 8 us) (length-take-le 8 us c.if-units-lt8.false) (omega arith) (omega (arith, c.if-others-eq0.false)) in
+    subst (λ xs. All (λ u. u < 0x80) xs) (front_of_front _ 8 us f.0) (All-from_recursion (λ u. u < 0x80) _ f.1)
+
+pub returns-clause-first : goal.returns-clause-first
+returns-clause-first c = (front_below_splat w16 0x80 8 (take 8 c.args.units.now) (length-take-le 8 c.args.units.now c.if-units-lt8.false) (omega arith) (omega (arith, c.if-others-eq0.false))).0
