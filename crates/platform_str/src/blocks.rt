@@ -1,6 +1,6 @@
 //! The units of Windows strings and the bytes of units, many at once: ASCII by blocks of 16, and
 //! code point by code point what stands between.
-ghost use Rattle.std.specs.Prelude.{◌≡◌, ◌++◌, ◌+◌, ◌*◌, ◌≤◌, ◌<◌, ◌∷◌, ℕ, List, true, leb, take, drop, length, IsOk, IfSome, MatchOption, OnOk, vec_len, vec_capacity};
+ghost use Rattle.std.specs.Prelude.{◌≡◌, ◌++◌, ◌+◌, ◌*◌, ◌≤◌, ◌<◌, ◌∷◌, ℕ, List, true, leb, take, drop, length, slice_index, IsOk, IfSome, MatchOption, OnOk, vec_len, vec_capacity};
 ghost use Rattle.std.specs.List.{All, count_by};
 ghost use Rattle.wtf8_core.specs.CodePoint.{IsCodePoint, wide, form};
 ghost use Rattle.wtf8_core.specs.Wtf8.{IsWtf8, HasUnits};
@@ -197,16 +197,19 @@ fn first_code_point(units: &[u16]) -> (u32, &[u16])
     }
 }
 
-/// How many ASCII units come before any other among the first 8, and 0 where there are fewer than 8
-/// units.
+/// How many of the first 8 units, of which the first is ASCII, come before any that isn't; 1 where
+/// there are fewer than 8.
 #[inline(always)]
 fn ascii_len(units: &[u16]) -> usize
+    requires some { 0 < length units.now }
+    requires ascii { slice_index units.now 0 < 0x80 }
     ensures ascii { All (λ u. u < 0x80) (take result units.now) }
+    ensures some { 0 < result }
     ensures first { result ≤ 8 }
-    ensures eight { 0 < result → 8 ≤ length units.now }
+    ensures one { length units.now < 8 → result ≡ 1 }
 {
-    if units.len() < 8 || units[0] >= 0x80 {
-        return 0;
+    if units.len() < 8 {
+        return 1;
     }
     let others = u16x8::from_slice(units)
         .simd_ge(u16x8::splat(0x80))
@@ -228,16 +231,22 @@ fn put_ascii(bytes: &mut [u8], at: usize, block: [u16; 16])
     u8x16::from_array(narrowed(block)).copy_to_slice(&mut bytes[at..]);
 }
 
-/// Writes `len` units of ASCII, of 8, from place `at` on, and over the bytes behind them up to 8.
+/// Writes the first `len` units, which are ASCII, from place `at` on, and other bytes behind them
+/// where there are 8 units.
 #[inline(always)]
 fn put_ascii_front(bytes: &mut [u8], at: usize, units: &[u16], len: usize)
     requires ascii { All (λ u. u < 0x80) (take len units.now) }
+    requires some { 0 < length units.now }
     requires first { len ≤ 8 }
-    requires eight { 8 ≤ length units.now }
-    requires room { at + 8 ≤ length bytes.old }
+    requires one { length units.now < 8 → len ≡ 1 }
+    requires room { at + length units.now ≤ length bytes.old }
     ensures written { take (at + len) bytes.new ≡ take at bytes.old ++ take len units.now }
     ensures len { length bytes.new ≡ length bytes.old }
 {
+    if units.len() < 8 {
+        bytes[at] = (units[0] % 0x80) as u8;
+        return;
+    }
     let low = u16x8::from_slice(units) % u16x8::splat(0x80);
     low.cast::<u8>().copy_to_slice(&mut bytes[at..]);
 }
@@ -346,13 +355,14 @@ pub(crate) fn spell(units: &[u16], bytes: &mut [u8])
                 rest = behind;
             }
             None => {
-                let len = ascii_len(rest);
-                wanted = len == 8;
-                if len > 0 {
+                wanted = false;
+                if rest[0] < 0x80 {
+                    let len = ascii_len(rest);
                     put_ascii_front(bytes, at, rest, len);
                     at += len;
                     let (_, behind) = rest.split_at(len);
                     rest = behind;
+                    wanted = len == 8;
                 } else {
                     let (code_point, behind) = first_code_point(rest);
                     at = put_form(bytes, at, code_point);

@@ -40,13 +40,12 @@ put_ascii_front-requires-clause-room c =
     omega (
       arith,
       units_room (take c.loop-rest.at c.loop-rest.bytes) c.loop-rest.rest.now c.args.units.now _ c.loop-rest.invariant.0 c.loop-rest.invariant.3 c.requires,
-      c.ascii_len-len.ensures.eight c.if-len-gt0.true,
       length-take-le c.loop-rest.at c.loop-rest.bytes c.loop-rest.invariant.1,
       c.loop-rest.invariant.2,
     )
 
-pub loop-rest-preserved-then-len-gt0 : goal.loop-rest-preserved-then-len-gt0
-loop-rest-preserved-then-len-gt0 c =
+pub loop-rest-preserved-then-rest-lt128 : goal.loop-rest-preserved-then-rest-lt128
+loop-rest-preserved-then-rest-lt128 c =
     let len = c.ascii_len-len.result in
     let front = take c.loop-rest.at c.loop-rest.bytes in
     let rest = c.loop-rest.rest.now in
@@ -57,7 +56,6 @@ loop-rest-preserved-then-len-gt0 c =
       omega (
         arith,
         units_room front rest c.args.units.now _ c.loop-rest.invariant.0 c.loop-rest.invariant.3 c.requires,
-        c.ascii_len-len.ensures.eight c.if-len-gt0.true,
         c.ascii_len-len.ensures.first,
         length-take-le c.loop-rest.at c.loop-rest.bytes c.loop-rest.invariant.1,
         c.loop-rest.invariant.2,
