@@ -304,6 +304,11 @@ fn count_pairs(units: &[u16]) -> usize
     requires { 17 ≤ length units.now }
     ensures { result + pairs (drop 16 units.now) ≡ pairs units.now }
 {
+    // surrogates are from 800 on (hexadecimal), and the caller has counted these
+    if count_from(units, 0x800) == 0 {
+        return 0;
+    }
+
     // the six bits that tell what half a unit is, of a unit and of the one behind it
     let first = u16x16::from_slice(units) >> u16x16::splat(10);
     let second = u16x16::from_slice(&units[1..]) >> u16x16::splat(10);
