@@ -142,22 +142,13 @@ pub(crate) fn push_units<A: Allocator>(
     push_each(units, OsStr::from_encoded_bytes_unchecked(rest))
 }
 
-/// The first 16 units and those behind them, where a block is wanted and these 16 are ASCII.
+/// Whether there are 16 units and the first 16 are ASCII.
 #[inline(always)]
-fn first_ascii_block(units: &[u16], wanted: bool) -> Option<(&[u16; 16], &[u16])>
-    ensures joined { IfSome result (λ first. units.now ≡ first.0.now ++ first.1.now) }
-    ensures ascii { IfSome result (λ first. All (λ u. u < 0x80) first.0.now) }
-    ensures len { IfSome result (λ first. length first.0.now ≡ 16) }
+fn begins_ascii_block(units: &[u16]) -> bool
+    ensures ascii { result ≡ true → All (λ u. u < 0x80) (take 16 units.now) }
+    ensures room { result ≡ true → 16 ≤ length units.now }
 {
-    if !wanted {
-        return None;
-    }
-    let (block, rest) = units.split_first_chunk::<16>()?;
-    if are_ascii_units(*block) {
-        Some((block, rest))
-    } else {
-        None
-    }
+    units.len() >= 16 && are_ascii_units(u16x16::from_slice(units).to_array())
 }
 
 /// The code point of the pair with which units begin, and the units behind it.
@@ -350,30 +341,27 @@ pub(crate) fn spell(units: &[u16], bytes: &mut [u8])
     let mut rest = units;
     let mut at = 0;
 
-    // a block of 16 is tried where the 8 units before were ASCII
+    // a block of 16 is tried where the last 8 units of ASCII stood together
     let mut wanted = true;
     while !rest.is_empty() {
-        match first_ascii_block(rest, wanted) {
-            Some((block, behind)) => {
-                put_ascii(bytes, at, *block);
+        if rest[0] < 0x80 {
+            if wanted && begins_ascii_block(rest) {
+                put_ascii(bytes, at, u16x16::from_slice(rest).to_array());
                 at += 16;
+                let (_, behind) = rest.split_at(16);
                 rest = behind;
+            } else {
+                let len = ascii_len(rest);
+                put_ascii_front(bytes, at, rest, len);
+                at += len;
+                let (_, behind) = rest.split_at(len);
+                rest = behind;
+                wanted = len == 8;
             }
-            None => {
-                wanted = false;
-                if rest[0] < 0x80 {
-                    let len = ascii_len(rest);
-                    put_ascii_front(bytes, at, rest, len);
-                    at += len;
-                    let (_, behind) = rest.split_at(len);
-                    rest = behind;
-                    wanted = len == 8;
-                } else {
-                    let (code_point, behind) = first_code_point(rest);
-                    at = put_form(bytes, at, code_point);
-                    rest = behind;
-                }
-            }
+        } else {
+            let (code_point, behind) = first_code_point(rest);
+            at = put_form(bytes, at, code_point);
+            rest = behind;
         }
     }
 }
