@@ -1,5 +1,5 @@
-//! The units of Windows strings and the bytes of units, many at once: ASCII by blocks of 16, and
-//! code point by code point what stands between.
+//! The units of Windows strings and the bytes of units, many at once: ASCII by blocks of 16 and, of
+//! units, of 8, and code point by code point what stands between.
 ghost use Rattle.std.specs.Prelude.{◌≡◌, ◌++◌, ◌+◌, ◌*◌, ◌≤◌, ◌<◌, ◌∷◌, ℕ, List, true, leb, take, drop, length, slice_index, IsOk, IfSome, MatchOption, OnOk, vec_len, vec_capacity};
 ghost use Rattle.std.specs.List.{All, count_by};
 ghost use Rattle.wtf8_core.specs.CodePoint.{IsCodePoint, wide, form};
@@ -341,7 +341,7 @@ pub(crate) fn spell(units: &[u16], bytes: &mut [u8])
     let mut rest = units;
     let mut at = 0;
 
-    // a block of 16 is tried where the last 8 units of ASCII stood together
+    // a block of 16 is tried where the last 8 units that were looked at were ASCII
     let mut wanted = true;
     while !rest.is_empty() {
         if rest[0] < 0x80 {

@@ -60,7 +60,7 @@ spells_each (x ∷ xs) rest a =
     (subst (λ f. SpellsBefore f (xs ++ rest) (x ∷ xs ++ rest)) (form_ascii x a.0) (spells_single x (xs ++ rest) (omega (arith, a.0)) (may_precede x (xs ++ rest) (λ i. omega (arith, i.0, a.0)))))
     (spells_each xs rest a.1)
 
-pub spells_ascii : (xs rest all : List ℕ) → All (λ x. x < 0x80) xs → all ≡ xs ++ rest → SpellsBefore xs rest all
+spells_ascii : (xs rest all : List ℕ) → All (λ x. x < 0x80) xs → all ≡ xs ++ rest → SpellsBefore xs rest all
 spells_ascii xs rest all a e = subst (SpellsBefore xs rest) (sym e) (spells_each xs rest (recursion_from_All (λ x. x < 0x80) xs a))
 
 -- the first code point, of a pair and of a single unit
