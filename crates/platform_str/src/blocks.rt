@@ -1,6 +1,6 @@
-//! The units of Windows strings and the bytes of units, many at once: ASCII by blocks of 16, and
-//! code point by code point what stands between.
-ghost use Rattle.std.specs.Prelude.{◌≡◌, ◌++◌, ◌+◌, ◌*◌, ◌≤◌, ◌<◌, ◌∷◌, ℕ, List, true, leb, take, drop, length, IsOk, IfSome, MatchOption, OnOk, vec_len, vec_capacity};
+//! The units of Windows strings and the bytes of units, many at once: ASCII by blocks of 16 and, of
+//! units, of 8, and code point by code point what stands between.
+ghost use Rattle.std.specs.Prelude.{◌≡◌, ◌++◌, ◌+◌, ◌*◌, ◌≤◌, ◌<◌, ◌∷◌, ℕ, List, true, leb, take, drop, length, slice_index, IsOk, IfSome, MatchOption, OnOk, vec_len, vec_capacity};
 ghost use Rattle.std.specs.List.{All, count_by};
 ghost use Rattle.wtf8_core.specs.CodePoint.{IsCodePoint, wide, form};
 ghost use Rattle.wtf8_core.specs.Wtf8.{IsWtf8, HasUnits};
@@ -142,22 +142,13 @@ pub(crate) fn push_units<A: Allocator>(
     push_each(units, OsStr::from_encoded_bytes_unchecked(rest))
 }
 
-/// The first 16 units and those behind them, where a block is wanted and these 16 are ASCII.
+/// Whether there are 16 units and the first 16 are ASCII.
 #[inline(always)]
-fn first_ascii_block(units: &[u16], wanted: bool) -> Option<(&[u16; 16], &[u16])>
-    ensures joined { IfSome result (λ first. units.now ≡ first.0.now ++ first.1.now) }
-    ensures ascii { IfSome result (λ first. All (λ u. u < 0x80) first.0.now) }
-    ensures len { IfSome result (λ first. length first.0.now ≡ 16) }
+fn begins_ascii_block(units: &[u16]) -> bool
+    ensures ascii { result ≡ true → All (λ u. u < 0x80) (take 16 units.now) }
+    ensures room { result ≡ true → 16 ≤ length units.now }
 {
-    if !wanted {
-        return None;
-    }
-    let (block, rest) = units.split_first_chunk::<16>()?;
-    if are_ascii_units(*block) {
-        Some((block, rest))
-    } else {
-        None
-    }
+    units.len() >= 16 && are_ascii_units(u16x16::from_slice(units).to_array())
 }
 
 /// The code point of the pair with which units begin, and the units behind it.
@@ -197,6 +188,29 @@ fn first_code_point(units: &[u16]) -> (u32, &[u16])
     }
 }
 
+/// How many of the first 8 units, of which the first is ASCII, come before any that isn't; 1 where
+/// there are fewer than 8.
+#[inline(always)]
+fn ascii_len(units: &[u16]) -> usize
+    requires some { 0 < length units.now }
+    requires ascii { slice_index units.now 0 < 0x80 }
+    ensures ascii { All (λ u. u < 0x80) (take result units.now) }
+    ensures some { 0 < result }
+    ensures first { result ≤ 8 }
+    ensures one { length units.now < 8 → result ≡ 1 }
+{
+    if units.len() < 8 {
+        return 1;
+    }
+    let others = u16x8::from_slice(units)
+        .simd_ge(u16x8::splat(0x80))
+        .to_bitmask();
+    if others == 0 {
+        return 8;
+    }
+    others.trailing_zeros() as usize
+}
+
 /// Writes 16 units of ASCII from place `at` on.
 #[inline(always)]
 fn put_ascii(bytes: &mut [u8], at: usize, block: [u16; 16])
@@ -206,6 +220,26 @@ fn put_ascii(bytes: &mut [u8], at: usize, block: [u16; 16])
     ensures len { length bytes.new ≡ length bytes.old }
 {
     u8x16::from_array(narrowed(block)).copy_to_slice(&mut bytes[at..]);
+}
+
+/// Writes the first `len` units, which are ASCII, from place `at` on, and other bytes behind them
+/// where there are 8 units.
+#[inline(always)]
+fn put_ascii_front(bytes: &mut [u8], at: usize, units: &[u16], len: usize)
+    requires ascii { All (λ u. u < 0x80) (take len units.now) }
+    requires some { 0 < length units.now }
+    requires first { len ≤ 8 }
+    requires one { length units.now < 8 → len ≡ 1 }
+    requires room { at + length units.now ≤ length bytes.old }
+    ensures written { take (at + len) bytes.new ≡ take at bytes.old ++ take len units.now }
+    ensures len { length bytes.new ≡ length bytes.old }
+{
+    if units.len() < 8 {
+        bytes[at] = (units[0] % 0x80) as u8;
+        return;
+    }
+    let low = u16x8::from_slice(units) % u16x8::splat(0x80);
+    low.cast::<u8>().copy_to_slice(&mut bytes[at..]);
 }
 
 /// Writes the form of a code point from place `at` on, and answers where it ends.
@@ -261,6 +295,11 @@ fn count_pairs(units: &[u16]) -> usize
     requires { 17 ≤ length units.now }
     ensures { result + pairs (drop 16 units.now) ≡ pairs units.now }
 {
+    // surrogates are from 800 on (hexadecimal), and the caller has counted these
+    if count_from(units, 0x800) == 0 {
+        return 0;
+    }
+
     // the six bits that tell what half a unit is, of a unit and of the one behind it
     let first = u16x16::from_slice(units) >> u16x16::splat(10);
     let second = u16x16::from_slice(&units[1..]) >> u16x16::splat(10);
@@ -302,21 +341,27 @@ pub(crate) fn spell(units: &[u16], bytes: &mut [u8])
     let mut rest = units;
     let mut at = 0;
 
-    // where 16 units aren't all ASCII, so many code points are taken before the next test
-    let mut singles: usize = 0;
+    // a block of 16 is tried where the last 8 units that were looked at were ASCII
+    let mut wanted = true;
     while !rest.is_empty() {
-        match first_ascii_block(rest, singles == 0) {
-            Some((block, behind)) => {
-                put_ascii(bytes, at, *block);
+        if rest[0] < 0x80 {
+            if wanted && begins_ascii_block(rest) {
+                put_ascii(bytes, at, u16x16::from_slice(rest).to_array());
                 at += 16;
+                let (_, behind) = rest.split_at(16);
                 rest = behind;
-            }
-            None => {
-                let (code_point, behind) = first_code_point(rest);
-                at = put_form(bytes, at, code_point);
+            } else {
+                let len = ascii_len(rest);
+                put_ascii_front(bytes, at, rest, len);
+                at += len;
+                let (_, behind) = rest.split_at(len);
                 rest = behind;
-                singles = (singles + 15) % 16;
+                wanted = len == 8;
             }
+        } else {
+            let (code_point, behind) = first_code_point(rest);
+            at = put_form(bytes, at, code_point);
+            rest = behind;
         }
     }
 }

@@ -1,7 +1,7 @@
 -- The bytes of units, front by front.
-use Rattle.std.proofs.Common.{◌≡◌, ℕ, ◌+◌, ◌*◌, ◌≤◌, ◌<◌, List, [], ◌∷◌, ◌++◌, length, length-append, take, drop, slice_index, get_or, Fits, w16, refl, sym, ap, ◌∙◌, subst, arith, append_assoc}
+use Rattle.std.proofs.Common.{◌≡◌, ℕ, ◌+◌, ◌≤◌, ◌<◌, List, [], ◌∷◌, ◌++◌, length, length-append, take, drop, slice_index, get_or, Fits, w16, refl, sym, ap, ◌∙◌, subst, arith, append_assoc}
 use Rattle.std.proofs.lemmas.Bool.Decides.{nat_tests}
-use Rattle.std.proofs.lemmas.List.{append-nil, length-take, take_all}
+use Rattle.std.proofs.lemmas.List.{append-nil, length-take, take_all, take-append-drop}
 use Rattle.std.proofs.lemmas.List.Elements.{recursion_from_All, All-from_get_or}
 use Rattle.std.specs.List.{All, AllByRecursion}
 use Rattle.wtf8_core.specs.Surrogate.{IsHigh, IsLow, paired}
@@ -10,6 +10,7 @@ use Rattle.wtf8_core.specs.Wtf8.{MayPrecede, HasUnits, units}
 use Rattle.wtf8_core.proofs.lemmas.Forms.{form_ascii}
 use Rattle.wtf8_core.proofs.lemmas.UnitsLemmas.{IsUnit, wide_single, may_precede, units_spelled}
 use Rattle.platform_str.specs.Bulk.{SpellsBefore, BeginsPair, BeginsNoPair}
+use Rattle.platform_str.proofs.lemmas.BulkUnits.{units_short}
 
 -- before the first unit, and behind the last
 pub spells_none : (all : List ℕ) → SpellsBefore [] all all
@@ -59,7 +60,7 @@ spells_each (x ∷ xs) rest a =
     (subst (λ f. SpellsBefore f (xs ++ rest) (x ∷ xs ++ rest)) (form_ascii x a.0) (spells_single x (xs ++ rest) (omega (arith, a.0)) (may_precede x (xs ++ rest) (λ i. omega (arith, i.0, a.0)))))
     (spells_each xs rest a.1)
 
-pub spells_ascii : (xs rest all : List ℕ) → All (λ x. x < 0x80) xs → all ≡ xs ++ rest → SpellsBefore xs rest all
+spells_ascii : (xs rest all : List ℕ) → All (λ x. x < 0x80) xs → all ≡ xs ++ rest → SpellsBefore xs rest all
 spells_ascii xs rest all a e = subst (SpellsBefore xs rest) (sym e) (spells_each xs rest (recursion_from_All (λ x. x < 0x80) xs a))
 
 -- the first code point, of a pair and of a single unit
@@ -133,3 +134,16 @@ bytes_filled at bytes rest us none fits s exact =
 -- no units have no bytes
 pub has_none : (us : List ℕ) → us ≡ [] → HasUnits [] us
 has_none us e = spells_end [] us us (ap length e) (spells_none us)
+
+-- where there is room for the string there is room for as many bytes as units are left
+pub units_room : (front rest us : List ℕ) (n : ℕ) → SpellsBefore front rest us → AllByRecursion IsUnit rest → ((string : List ℕ) → HasUnits string us → n ≡ length string) → length front + length rest ≤ n
+units_room front rest us n s a exact =
+    let b = units_spelled rest a in
+    let h = b.1 in
+    omega (arith, exact _ (s b.0 h), length-append front b.0, ap length h.are, ap length h.spelled.joined, units_short h.code_points)
+
+-- ASCII at the front of units
+pub spells_ascii_front : (n : ℕ) (behind us : List ℕ) → All (λ x. x < 0x80) (take n us) → behind ≡ drop n us → SpellsBefore (take n us) behind us × (us ≡ take n us ++ behind)
+spells_ascii_front n behind us a e =
+    let joined : us ≡ take n us ++ behind = sym (take-append-drop n us) ∙ ap (λ x. take n us ++ x) (sym e) in
+    (spells_ascii (take n us) behind us a joined, joined)

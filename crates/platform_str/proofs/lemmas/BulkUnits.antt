@@ -97,7 +97,7 @@ wide_short : (c : ℕ) → length (wide c) ≤ length (form c)
 unfolding form wide
 wide_short c = grind (arith, nat_tests)
 
-units_short : (cs : List ℕ) → length (units cs) ≤ length (flat_map form cs)
+pub units_short : (cs : List ℕ) → length (units cs) ≤ length (flat_map form cs)
 units_short [] = omega arith
 units_short (c ∷ cs) = omega (arith, wide_short c, units_short cs, length-append (wide c) (units cs), length-append (form c) (flat_map form cs))
 

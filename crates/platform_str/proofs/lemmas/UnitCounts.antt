@@ -100,3 +100,16 @@ count_few n y us = omega (arith, count_by-le-length (leb y) (take n us), length-
 pub counted_none : (us : List ℕ) → length us < 1 → (counted us ≡ 0) × (pairs us ≡ 0)
 counted_none [] h = (refl, refl)
 counted_none (u ∷ us) h = absurd (omega arith)
+
+-- none where all of the first n units are below 0x800
+begins_none_below : (u : ℕ) (us : List ℕ) → u < 0x800 → begins_pair u us ≡ 0
+begins_none_below u [] h = refl
+begins_none_below u (v ∷ us) h = grind (arith, nat_tests)
+
+pub pairs_below : (n : ℕ) (us : List ℕ) → count_by (leb 0x800) (take n us) ≡ 0 → pairs (drop n us) ≡ pairs us
+pairs_below zero us e = refl
+pairs_below (suc n) [] e = refl
+pairs_below (suc n) (u ∷ us) e =
+    let first = count_first (leb 0x800) u (take n us) in
+    let low : u < 0x800 = grind (arith, nat_tests, first, e) in
+    omega (arith, begins_none_below u us low, pairs_below n us (omega (arith, first, e)))

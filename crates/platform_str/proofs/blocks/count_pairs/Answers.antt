@@ -1,9 +1,9 @@
-use Rattle.std.proofs.Common.{◌≤◌, ◌+◌, length, take, drop, arith, ap, ◌∙◌, length-drop}
+use Rattle.std.proofs.Common.{◌≤◌, ◌+◌, length, take, drop, arith, ap, sym, ◌∙◌, length-drop}
 use Rattle.std.proofs.lemmas.List.{length-take-le}
 use Rattle.platform_str.specs.Bulk.{pairs}
 use Rattle.platform_str.proofs.lemmas.BulkBytes.{are_units}
 use Rattle.platform_str.proofs.lemmas.Lanes.{count_is_splat}
-use Rattle.platform_str.proofs.lemmas.UnitCounts.{pairs_front}
+use Rattle.platform_str.proofs.lemmas.UnitCounts.{pairs_below, pairs_front}
 use Rattle.platform_str.proofs.blocks.count_pairs.Goals as goal
 
 pub returns : goal.returns
@@ -12,3 +12,6 @@ returns c =
     let l : 16 ≤ length (drop 1 us) = omega (arith, length-drop 1 us, c.requires) in
     ap (λ n. n + pairs (drop 16 us)) (count_is_splat 16 3511 (take 16 us) (take 16 (drop 1 us)) (length-take-le 16 us (omega (arith, c.requires))) (length-take-le 16 (drop 1 us) l) (omega arith))
     ∙ pairs_front 16 us (omega (arith, c.requires)) (are_units us c.type_inv.units)
+
+pub returns-then-count_from-eq0 : goal.returns-then-count_from-eq0
+returns-then-count_from-eq0 c = omega (arith, pairs_below 16 c.args.units.now (sym c.count_from.ensures ∙ c.if-count_from-eq0.true))

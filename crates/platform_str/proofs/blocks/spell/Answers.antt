@@ -2,38 +2,70 @@ use Rattle.std.proofs.Common.{rules, ◌≡◌, length, take, sym, subst, arith,
 use Rattle.std.proofs.lemmas.List.{length-take-le}
 use Rattle.wtf8_core.specs.CodePoint.{form}
 use Rattle.platform_str.specs.Bulk.{SpellsBefore}
-use Rattle.platform_str.proofs.lemmas.BulkBytes.{spells_both, spells_ascii, units_behind, bytes_fit, bytes_filled}
+use Rattle.platform_str.proofs.lemmas.BulkBytes.{spells_both, spells_ascii_front, units_behind, units_room, bytes_fit, bytes_filled}
 use Rattle.platform_str.proofs.blocks.spell.Goals as goal
+
+pub put_ascii-requires-clause-ascii : goal.put_ascii-requires-clause-ascii
+put_ascii-requires-clause-ascii c = c.begins_ascii_block.ensures.ascii c.if-begins_ascii_block.true
 
 pub put_ascii-requires-clause-room : goal.put_ascii-requires-clause-room
 put_ascii-requires-clause-room c =
-    let front = take c.loop-rest.at c.loop-rest.bytes in
-    let block = c.in-Some.block.now in
-    let behind = c.in-Some.behind.now in
-    let rest = c.loop-rest.rest.now in
-    let s = spells_both front block rest behind c.args.units.now c.loop-rest.invariant.0 (spells_ascii block behind rest c.in-Some.ensures.ascii c.in-Some.ensures.joined) in
     omega (
       arith,
-      bytes_fit front block behind c.args.units.now _ s (units_behind block behind rest c.in-Some.ensures.joined c.loop-rest.invariant.4) c.requires,
+      units_room (take c.loop-rest.at c.loop-rest.bytes) c.loop-rest.rest.now c.args.units.now _ c.loop-rest.invariant.0 c.loop-rest.invariant.3 c.requires,
+      c.begins_ascii_block.ensures.room c.if-begins_ascii_block.true,
       length-take-le c.loop-rest.at c.loop-rest.bytes c.loop-rest.invariant.1,
       c.loop-rest.invariant.2,
-      c.in-Some.ensures.len,
     )
 
-pub loop-rest-preserved-in-Some : goal.loop-rest-preserved-in-Some
-loop-rest-preserved-in-Some c =
+pub loop-rest-preserved-then-begins_ascii_block : goal.loop-rest-preserved-then-begins_ascii_block
+loop-rest-preserved-then-begins_ascii_block c =
     let front = take c.loop-rest.at c.loop-rest.bytes in
-    let block = c.in-Some.block.now in
-    let behind = c.in-Some.behind.now in
     let rest = c.loop-rest.rest.now in
-    let s = spells_both front block rest behind c.args.units.now c.loop-rest.invariant.0 (spells_ascii block behind rest c.in-Some.ensures.ascii c.in-Some.ensures.joined) in
-    let us = units_behind block behind rest c.in-Some.ensures.joined c.loop-rest.invariant.4 in
-    let fit = bytes_fit front block behind c.args.units.now _ s us c.requires in (
+    let behind = c.split_at.result.1.now in
+    let more = spells_ascii_front 16 behind rest (c.begins_ascii_block.ensures.ascii c.if-begins_ascii_block.true) c.split_at.ensures.back in
+    let s = spells_both front (take 16 rest) rest behind c.args.units.now c.loop-rest.invariant.0 more.0 in (
       subst (λ b. SpellsBefore b behind c.args.units.now) (sym c.put_ascii.ensures.written) s,
-      omega (arith, fit, length-take-le c.loop-rest.at c.loop-rest.bytes c.loop-rest.invariant.1, c.loop-rest.invariant.2, c.in-Some.ensures.len, c.put_ascii.ensures.len),
+      omega (
+        arith,
+        units_room front rest c.args.units.now _ c.loop-rest.invariant.0 c.loop-rest.invariant.3 c.requires,
+        c.begins_ascii_block.ensures.room c.if-begins_ascii_block.true,
+        length-take-le c.loop-rest.at c.loop-rest.bytes c.loop-rest.invariant.1,
+        c.loop-rest.invariant.2,
+        c.put_ascii.ensures.len,
+      ),
       c.put_ascii.ensures.len ∙ c.loop-rest.invariant.2,
-      c.loop-rest.invariant.3,
-      us,
+      units_behind (take 16 rest) behind rest more.1 c.loop-rest.invariant.3,
+    )
+
+pub put_ascii_front-requires-clause-room : goal.put_ascii_front-requires-clause-room
+put_ascii_front-requires-clause-room c =
+    omega (
+      arith,
+      units_room (take c.loop-rest.at c.loop-rest.bytes) c.loop-rest.rest.now c.args.units.now _ c.loop-rest.invariant.0 c.loop-rest.invariant.3 c.requires,
+      length-take-le c.loop-rest.at c.loop-rest.bytes c.loop-rest.invariant.1,
+      c.loop-rest.invariant.2,
+    )
+
+pub loop-rest-preserved-else-wanted : goal.loop-rest-preserved-else-wanted
+loop-rest-preserved-else-wanted c =
+    let len = c.ascii_len-len.result in
+    let front = take c.loop-rest.at c.loop-rest.bytes in
+    let rest = c.loop-rest.rest.now in
+    let behind = c.split_at-else-wanted.result.1.now in
+    let more = spells_ascii_front len behind rest c.ascii_len-len.ensures.ascii c.split_at-else-wanted.ensures.back in
+    let s = spells_both front (take len rest) rest behind c.args.units.now c.loop-rest.invariant.0 more.0 in (
+      subst (λ b. SpellsBefore b behind c.args.units.now) (sym c.put_ascii_front.ensures.written) s,
+      omega (
+        arith,
+        units_room front rest c.args.units.now _ c.loop-rest.invariant.0 c.loop-rest.invariant.3 c.requires,
+        c.ascii_len-len.ensures.first,
+        length-take-le c.loop-rest.at c.loop-rest.bytes c.loop-rest.invariant.1,
+        c.loop-rest.invariant.2,
+        c.put_ascii_front.ensures.len,
+      ),
+      c.put_ascii_front.ensures.len ∙ c.loop-rest.invariant.2,
+      units_behind (take len rest) behind rest more.1 c.loop-rest.invariant.3,
     )
 
 pub put_form-at-requires-clause-room : goal.put_form-at-requires-clause-room
@@ -46,7 +78,7 @@ put_form-at-requires-clause-room c =
     let s = spells_both front more rest behind c.args.units.now c.loop-rest.invariant.0 c.first_code_point-code_point.ensures.spelled in
     omega (
       arith,
-      bytes_fit front more behind c.args.units.now _ s (units_behind k.0 behind rest k.1 c.loop-rest.invariant.4) c.requires,
+      bytes_fit front more behind c.args.units.now _ s (units_behind k.0 behind rest k.1 c.loop-rest.invariant.3) c.requires,
       length-take-le c.loop-rest.at c.loop-rest.bytes c.loop-rest.invariant.1,
       c.loop-rest.invariant.2,
     )
@@ -59,12 +91,11 @@ loop-rest-preserved c =
     let rest = c.loop-rest.rest.now in
     let k = c.first_code_point-code_point.ensures.behind in
     let s = spells_both front more rest behind c.args.units.now c.loop-rest.invariant.0 c.first_code_point-code_point.ensures.spelled in
-    let us = units_behind k.0 behind rest k.1 c.loop-rest.invariant.4 in
+    let us = units_behind k.0 behind rest k.1 c.loop-rest.invariant.3 in
     let fit = bytes_fit front more behind c.args.units.now _ s us c.requires in (
       subst (λ b. SpellsBefore b behind c.args.units.now) (sym c.put_form-at.ensures.written) s,
       omega (arith, fit, length-take-le c.loop-rest.at c.loop-rest.bytes c.loop-rest.invariant.1, c.loop-rest.invariant.2, c.put_form-at.ensures.end, c.put_form-at.ensures.len),
       c.put_form-at.ensures.len ∙ c.loop-rest.invariant.2,
-      omega arith,
       us,
     )
 

@@ -1,4 +1,4 @@
-use Rattle.std.proofs.Common.{◌≡◌, ◌≤◌, ◌<◌, length, take}
+use Rattle.std.proofs.Common.{◌≡◌, ◌≤◌, length, take}
 use Rattle.std.specs.List.{AllByRecursion}
 use Rattle.wtf8_core.proofs.lemmas.UnitsLemmas.{IsUnit}
 use Rattle.platform_str.specs.Bulk.{SpellsBefore}
@@ -6,7 +6,7 @@ use Rattle.platform_str.proofs.blocks.spell.Given as goal
 
 abbrev pub invariant-loop-rest : goal.invariant-loop-rest
 invariant-loop-rest l =
-    SpellsBefore (take l.at l.bytes) l.rest l.units × (l.at ≤ length l.bytes) × (length l.bytes ≡ length l.fn.bytes) × (l.singles < 16) × AllByRecursion IsUnit l.rest
+    SpellsBefore (take l.at l.bytes) l.rest l.units × (l.at ≤ length l.bytes) × (length l.bytes ≡ length l.fn.bytes) × AllByRecursion IsUnit l.rest
 
 abbrev pub decreases-loop-rest : goal.decreases-loop-rest
 decreases-loop-rest l = length l.rest
