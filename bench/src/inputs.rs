@@ -176,7 +176,7 @@ pub fn strings() -> Vec<Long> {
 pub fn faulty() -> Vec<Long> {
     let mut random = Random(3);
     let mut all = Vec::new();
-    for times in [1000, 100, 30, 8] {
+    for times in [1000, 100, 30, 8, 2] {
         let mut bytes = ascii(&mut random, 1 << 20);
         for byte in &mut bytes {
             if random.once_in(times) {
