@@ -7,7 +7,7 @@ use std::hint::black_box;
 
 pub fn time(bench: &mut Bench) {
     bench.table("Chunks", "a byte");
-    for Long { name, bytes } in inputs::strings().into_iter().chain(inputs::faulty()) {
+    for Long { name, bytes } in inputs::strings().into_iter().chain(inputs::faulty()).chain(inputs::periodic()) {
         let string = theirs::unix(&bytes);
         bench.line(
             "utf8_chunks",

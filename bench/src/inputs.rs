@@ -191,6 +191,23 @@ pub fn faulty() -> Vec<Long> {
     all
 }
 
+/// Strings that only Unix has, of one piece again and again, so that a processor foresees every
+/// branch.
+pub fn periodic() -> Vec<Long> {
+    let pieces: [(&str, &[u8]); 9] = [
+        ("path and surrogate", b"/usr/share/d\xC3\xA9\xF0\x9F\x98\x80\xED\xA0\x80.txt"),
+        ("CJK 6 and fault", b"\xE4\xB8\xAD\xE6\x96\x87\xFF"),
+        ("CJK 24 and fault", b"\xE4\xB8\xAD\xE6\x96\x87\xE4\xB8\xAD\xE6\x96\x87\xE4\xB8\xAD\xE6\x96\x87\xE4\xB8\xAD\xE6\x96\x87\xFF"),
+        ("CJK 48 and fault", b"\xE4\xB8\xAD\xE6\x96\x87\xE4\xB8\xAD\xE6\x96\x87\xE4\xB8\xAD\xE6\x96\x87\xE4\xB8\xAD\xE6\x96\x87\xE4\xB8\xAD\xE6\x96\x87\xE4\xB8\xAD\xE6\x96\x87\xE4\xB8\xAD\xE6\x96\x87\xE4\xB8\xAD\xE6\x96\x87\xFF"),
+        ("e and fault", b"\xC3\xA9\xFF"),
+        ("emoji and fault", b"\xF0\x9F\x98\x80\xFF"),
+        ("two emoji and fault", b"\xF0\x9F\x98\x80\xF0\x9F\x98\x80\xFF"),
+        ("a and CJK and fault", b"a\xE4\xB8\xAD\xFF"),
+        ("name in Latin-1", b"/Stra\xDFe/caf\xE9"),
+    ];
+    pieces.map(|(name, piece)| named(name, 1, piece.repeat((1 << 20) / piece.len()))).into()
+}
+
 /// 10,000 short strings.
 pub struct Short(Vec<String>);
 

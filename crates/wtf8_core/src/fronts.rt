@@ -18,42 +18,56 @@ pub(crate) fn front_of(bytes: &[u8], surrogates: bool) -> usize
     ensures within { result ≤ length bytes.now }
     ensures front { IsSpelledFront surrogates bytes.now result }
 {
-    if bytes.len() < 16 {
-        return 0;
-    }
-    if bytes.len() < 64 {
-        return front_with_rest(bytes, 0, surrogates);
-    }
-    let kept = first_len(bytes, surrogates);
-    if kept < 64 {
-        return start_before(bytes, kept);
-    }
-    front_behind_first(bytes, surrogates)
+    front_from(bytes, 0, surrogates)
 }
 
-/// How many of the first 64 bytes keep to the pattern, before one that doesn't.
+/// The front of bytes that keep to the pattern up to a place.
 #[inline(always)]
-fn first_len(bytes: &[u8], surrogates: bool) -> usize
-    requires { 64 ≤ length bytes.now }
-    ensures within { result ≤ 64 }
-    ensures kept { KeepsPattern surrogates bytes.now result }
-{
-    if is_ascii_block(bytes, 0) {
-        return 64;
-    }
-    let window = window_at(bytes, 0);
-    kept_len(&window, surrogates)
-}
-
-/// The front where the first 64 bytes keep to the pattern.
-#[inline(always)]
-fn front_behind_first(bytes: &[u8], surrogates: bool) -> usize
-    requires room { 64 ≤ length bytes.now }
-    requires kept { KeepsPattern surrogates bytes.now 64 }
+pub(crate) fn front_from(bytes: &[u8], at: usize, surrogates: bool) -> usize
+    requires from { at ≤ length bytes.now }
+    requires kept { KeepsPattern surrogates bytes.now at }
     ensures within { result ≤ length bytes.now }
     ensures front { IsSpelledFront surrogates bytes.now result }
 {
-    let mut end = ascii_end(bytes, 64);
+    if bytes.len() - at < 16 {
+        return start_before(bytes, at);
+    }
+    if bytes.len() - at < 64 {
+        return front_with_rest(bytes, at, surrogates);
+    }
+    let kept = next_len(bytes, at, surrogates);
+    if kept < 64 {
+        return start_before(bytes, at + kept);
+    }
+    front_behind_block(bytes, at + 64, surrogates)
+}
+
+/// How many of the 64 bytes from a place on keep to the pattern, before one that doesn't.
+#[inline(always)]
+fn next_len(bytes: &[u8], at: usize, surrogates: bool) -> usize
+    requires { at + 64 ≤ length bytes.now }
+    ensures within { result ≤ 64 }
+    ensures kept { KeepsPattern surrogates bytes.now at → KeepsPattern surrogates bytes.now (at + result) }
+{
+    if at >= 4 {
+        return block_len(bytes, at, surrogates);
+    }
+    if at == 0 && is_ascii_block(bytes, at) {
+        return 64;
+    }
+    window_len(bytes, at, surrogates)
+}
+
+/// The front where a block keeps to the pattern, and what stands before it.
+#[inline(always)]
+fn front_behind_block(bytes: &[u8], at: usize, surrogates: bool) -> usize
+    requires some { 4 ≤ at }
+    requires room { at ≤ length bytes.now }
+    requires kept { KeepsPattern surrogates bytes.now at }
+    ensures within { result ≤ length bytes.now }
+    ensures front { IsSpelledFront surrogates bytes.now result }
+{
+    let mut end = ascii_end(bytes, at);
     while bytes.len() - end >= 64 {
         let kept = block_len(bytes, end, surrogates);
         end += kept;
@@ -146,8 +160,7 @@ fn front_with_rest(bytes: &[u8], at: usize, surrogates: bool) -> usize
     ensures within { result ≤ length bytes.now }
     ensures front { IsSpelledFront surrogates bytes.now result }
 {
-    let window = window_at(bytes, at);
-    let kept = kept_len(&window, surrogates);
+    let kept = window_len(bytes, at, surrogates);
     if kept > bytes.len() - at {
         return bytes.len();
     }
@@ -172,15 +185,16 @@ fn start_before(bytes: &[u8], end: usize) -> usize
     0
 }
 
-/// The four bytes before a place and the 64 from there on, with zeros around the bytes.
+/// How many of the 64 bytes from a place on keep to the pattern, with zeros around the bytes.
 #[inline(always)]
-fn window_at(bytes: &[u8], at: usize) -> [u8; 68]
+fn window_len(bytes: &[u8], at: usize, surrogates: bool) -> usize
     requires { at ≤ length bytes.now }
-    ensures { (i : ℕ) → i < 68 → slice_index result i ≡ slice_index (behind_zeros bytes.now) (at + i) }
+    ensures within { result ≤ 64 }
+    ensures kept { KeepsPattern surrogates bytes.now at → KeepsPattern surrogates bytes.now (at + result) }
 {
     let before = at.min(4);
     let behind = (bytes.len() - at).min(64);
     let mut window = [0; 68];
     window[4 - before..4 + behind].copy_from_slice(&bytes[at - before..at + behind]);
-    window
+    kept_len(&window, surrogates)
 }

@@ -1,12 +1,12 @@
 //! The first fault of bytes that aren't UTF-8.
-ghost use Rattle.std.specs.Prelude.{◌≡◌, ◌≤◌, MatchOption, IfSome, Some, length, take};
+ghost use Rattle.std.specs.Prelude.{◌≡◌, ◌≤◌, ◌<◌, ℕ, MatchOption, IfSome, Some, length, slice_index};
 ghost use Rattle.std.specs.Int.{is_in_range};
 ghost use Rattle.std.specs.Str.{IsUtf8};
 ghost use Rattle.std.specs.Str.Lossy.{second_byte_min, second_byte_max};
 ghost use Rattle.wtf8_core.specs.Utf8.{IsUtf8Fault};
 
 use crate::byte::is_continuation;
-use crate::fronts::front_of;
+use crate::fronts::front_from;
 use crate::lanes::{ascii_before, ascii_of_16, load};
 
 /// The first fault of bytes that aren't UTF-8, `None` for UTF-8 (RFC 3629, section 4).
@@ -45,7 +45,7 @@ pub fn utf8_fault(bytes: &[u8]) -> Option<(usize, Option<u8>)>
 fn ascii_len(bytes: &[u8]) -> usize
     requires { 64 ≤ length bytes.now }
     ensures within { result ≤ 64 }
-    ensures text { IsUtf8 (take result bytes.now) }
+    ensures ascii { (i : ℕ) → i < result → slice_index bytes.now i < 0x80 }
 {
     let near = ascii_of_16(bytes);
     if near < 16 {
@@ -112,17 +112,16 @@ fn is_second(lead: u8, byte: u8) -> bool
     }
 }
 
-/// The first fault of bytes whose first `at` are UTF-8.
+/// The first fault of bytes whose first `at` are ASCII.
 fn fault_behind(bytes: &[u8], at: usize) -> Option<(usize, Option<u8>)>
     requires within { at ≤ length bytes.now }
-    requires front { IsUtf8 (take at bytes.now) }
+    requires ascii { (i : ℕ) → i < at → slice_index bytes.now i < 0x80 }
     ensures { MatchOption result (IsUtf8 bytes.now) (λ fault. IsUtf8Fault bytes.now fault.0 fault.1) }
 {
-    let (_, rest) = bytes.split_at(at);
-    let front = front_of(rest, false);
-    let (_, rest) = rest.split_at(front);
+    let front = front_from(bytes, at, false);
+    let (_, rest) = bytes.split_at(front);
     match near_fault(rest) {
-        Some((valid_up_to, error_len)) => Some((at + front + valid_up_to, error_len)),
+        Some((valid_up_to, error_len)) => Some((front + valid_up_to, error_len)),
         None => None,
     }
 }

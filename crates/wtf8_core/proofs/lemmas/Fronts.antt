@@ -138,10 +138,6 @@ all_scalars (c ∷ cs) p = and_from _ _ p.0 (all_scalars cs p.1)
 pub front_is_utf8 : (surrogates : Bool) (bytes : List ℕ) (n : ℕ) → surrogates ≡ false → IsSpelledFront surrogates bytes n → IsUtf8 (take n bytes)
 front_is_utf8 surrogates bytes n e f = (f.code_points, (all_scalars f.code_points (f.plain e), sym (f.spelled.joined ∙ forms_encode f.code_points)))
 
--- so a front of ASCII is a text
-pub ascii_is_utf8 : (bytes : List ℕ) (n : ℕ) → n ≤ length bytes → ((i : ℕ) → i < n → get_or bytes (0 + i) 0 < 0x80) → IsUtf8 (take n bytes)
-ascii_is_utf8 bytes n h low = front_is_utf8 false bytes n refl (by_ascii false bytes n h (λ i l. let e : 0 + i ≡ i = omega arith in subst (λ k. get_or bytes k 0 < 0x80) e (low i l)))
-
 -- a window that was copied, with zeros around it
 pub before_bytes : (bytes : List ℕ) (m : ℕ) → m < 4 → get_or (behind_zeros bytes) m 0 ≡ 0
 before_bytes bytes zero h = refl
@@ -243,6 +239,17 @@ module _ (bytes : List ℕ) where
       let before : 3 + (at + k) ≡ suc (suc (suc (at + k))) = omega arith in
       let e : suc (at + k) ≡ at + suc k = omega arith in
       subst (KeepsPattern surrogates bytes) e (one_ascii surrogates (at + k) (subst (λ m. get_or Q m 0 < 0x80) before (last_ascii at k less u)) (low k (omega arith)) (more_ascii surrogates at k less u f))
+
+-- ASCII at the front
+module _ (bytes : List ℕ) (n : ℕ) (low : (i : ℕ) → i < n → get_or bytes i 0 < 0x80) where
+  pub ascii_keeps : (surrogates : Bool) → KeepsPattern surrogates bytes n
+  ascii_keeps surrogates =
+      let e : 0 + n ≡ n = omega arith in
+      subst (KeepsPattern surrogates bytes) e
+      (more_ascii bytes surrogates 0 n (λ i h. let f : i ≡ 0 + i = omega arith in subst (λ k. get_or bytes k 0 < 0x80) f (low i h)) (omega arith) (no_pattern surrogates bytes))
+
+  pub ascii_is_utf8 : n ≤ length bytes → IsUtf8 (take n bytes)
+  ascii_is_utf8 h = front_is_utf8 false bytes n refl (by_ascii false bytes n h low)
 
 -- the window that is copied into 68 zeros
 copied_into : (zs : List ℕ) → length zs ≡ 68 → ((k : ℕ) → get_or zs k 0 ≡ 0) → (bytes : List ℕ) (at b n : ℕ) (part : List ℕ) → at ≤ length bytes → b ≡ min at 4 → n ≡ min (length bytes - at) 64

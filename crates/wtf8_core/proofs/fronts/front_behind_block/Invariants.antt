@@ -1,9 +1,9 @@
 use Rattle.std.proofs.Common.{◌-◌, ◌≤◌, length}
 use Rattle.wtf8_core.specs.SpelledFront.{KeepsPattern}
-use Rattle.wtf8_core.proofs.fronts.front_behind_first.Given as goal
+use Rattle.wtf8_core.proofs.fronts.front_behind_block.Given as goal
 
 abbrev pub invariant-loop-end : goal.invariant-loop-end
-invariant-loop-end l = (64 ≤ l.end) × (l.end ≤ length l.bytes) × KeepsPattern l.surrogates l.bytes l.end
+invariant-loop-end l = (4 ≤ l.end) × (l.end ≤ length l.bytes) × KeepsPattern l.surrogates l.bytes l.end
 
 abbrev pub decreases-loop-end : goal.decreases-loop-end
 decreases-loop-end l = length l.bytes - l.end
