@@ -22,7 +22,8 @@ pub mod Lanes
 pub mod PairBits
 pub mod Fed
 pub mod FaultsInFronts
-pub mod FaultsAtFront
+pub mod AtFront
+pub mod KeptTexts
 pub mod Cuts
 pub mod Utf8Lemmas
 pub mod Propositions

@@ -35,30 +35,30 @@ pub(crate) fn front_from(bytes: &[u8], at: usize, surrogates: bool) -> usize
     if bytes.len() - at < 64 {
         return front_with_rest(bytes, at, surrogates);
     }
-    let kept = next_len(bytes, at, surrogates);
+    if at >= 4 {
+        return front_behind_block(bytes, at, surrogates);
+    }
+    let kept = first_len(bytes, at, surrogates);
     if kept < 64 {
         return start_before(bytes, at + kept);
     }
     front_behind_block(bytes, at + 64, surrogates)
 }
 
-/// How many of the 64 bytes from a place on keep to the pattern, before one that doesn't.
+/// How many of the first 64 bytes from a place on keep to the pattern, before one that doesn't.
 #[inline(always)]
-fn next_len(bytes: &[u8], at: usize, surrogates: bool) -> usize
+fn first_len(bytes: &[u8], at: usize, surrogates: bool) -> usize
     requires { at + 64 ≤ length bytes.now }
     ensures within { result ≤ 64 }
     ensures kept { KeepsPattern surrogates bytes.now at → KeepsPattern surrogates bytes.now (at + result) }
 {
-    if at >= 4 {
-        return block_len(bytes, at, surrogates);
-    }
     if at == 0 && is_ascii_block(bytes, at) {
         return 64;
     }
     window_len(bytes, at, surrogates)
 }
 
-/// The front where a block keeps to the pattern, and what stands before it.
+/// The front of bytes that keep to the pattern up to a place, where a window stands before it.
 #[inline(always)]
 fn front_behind_block(bytes: &[u8], at: usize, surrogates: bool) -> usize
     requires some { 4 ≤ at }

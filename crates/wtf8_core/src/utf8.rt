@@ -1,5 +1,5 @@
 //! The first fault of bytes that aren't UTF-8.
-ghost use Rattle.std.specs.Prelude.{◌≡◌, ◌≤◌, ◌<◌, ℕ, MatchOption, IfSome, Some, length, slice_index};
+ghost use Rattle.std.specs.Prelude.{◌≡◌, ◌≤◌, MatchOption, MatchResult, IfSome, IfOk, Some, length, take};
 ghost use Rattle.std.specs.Int.{is_in_range};
 ghost use Rattle.std.specs.Str.{IsUtf8};
 ghost use Rattle.std.specs.Str.Lossy.{second_byte_min, second_byte_max};
@@ -32,10 +32,12 @@ pub fn utf8_fault(bytes: &[u8]) -> Option<(usize, Option<u8>)>
         return near_fault(bytes);
     }
     let at = ascii_len(bytes);
-    let (_, rest) = bytes.split_at(at);
-    match part_at_front(rest) {
-        Some(error_len) => Some((at, Some(error_len))),
-        None => fault_behind(bytes, at),
+    if at == 64 {
+        return fault_behind(bytes, at);
+    }
+    match few_characters(bytes, at) {
+        Ok(at) => fault_behind(bytes, at),
+        Err(fault) => Some(fault),
     }
 }
 
@@ -45,7 +47,7 @@ pub fn utf8_fault(bytes: &[u8]) -> Option<(usize, Option<u8>)>
 fn ascii_len(bytes: &[u8]) -> usize
     requires { 64 ≤ length bytes.now }
     ensures within { result ≤ 64 }
-    ensures ascii { (i : ℕ) → i < result → slice_index bytes.now i < 0x80 }
+    ensures text { IsUtf8 (take result bytes.now) }
 {
     let near = ascii_of_16(bytes);
     if near < 16 {
@@ -55,38 +57,58 @@ fn ascii_len(bytes: &[u8]) -> usize
     }
 }
 
-/// The length of the maximal ill-formed part at the front, where the first four bytes tell that
-/// one begins there. A loop over faults that stand close together needs nothing more for most of
-/// them.
+/// Where the next few characters behind a text end, or the fault among them. Faults mostly stand
+/// close together, and so a loop over them often needs nothing more.
 #[inline(always)]
-fn part_at_front(bytes: &[u8]) -> Option<u8>
-    ensures { IfSome result (λ len. IsUtf8Fault bytes.now 0 (Some len)) }
+fn few_characters(bytes: &[u8], from: usize) -> Result<usize, (usize, Option<u8>)>
+    requires within { from ≤ length bytes.now }
+    requires text { IsUtf8 (take from bytes.now) }
+    ensures within { IfOk result (λ at. at ≤ length bytes.now) }
+    ensures read { MatchResult result (λ at. IsUtf8 (take at bytes.now)) (λ fault. IsUtf8Fault bytes.now fault.0 fault.1) }
+{
+    let mut at = from;
+    for _ in 0..4 {
+        let (_, rest) = bytes.split_at(at);
+        match first_of(rest) {
+            Some(Ok(len)) => at += len,
+            Some(Err(error_len)) => return Err((at, Some(error_len))),
+            None => return Ok(at),
+        }
+    }
+    Ok(at)
+}
+
+/// How many bytes the character at the front has, or the maximal ill-formed part there, by the
+/// first four bytes; `None` where there are fewer.
+#[inline(always)]
+fn first_of(bytes: &[u8]) -> Option<Result<usize, u8>>
+    ensures { IfSome result (λ first. MatchResult first (λ len. (len ≤ length bytes.now) × IsUtf8 (take len bytes.now)) (λ len. IsUtf8Fault bytes.now 0 (Some len))) }
 {
     let [first, second, third, fourth, ..] = bytes else {
         return None;
     };
     if *first < 0x80 {
-        return None;
+        return Some(Ok(1));
     }
     if !is_lead(*first) {
-        return Some(1);
+        return Some(Err(1));
     }
     if !is_second(*first, *second) {
-        return Some(1);
+        return Some(Err(1));
     }
     if *first < 0xE0 {
-        return None;
+        return Some(Ok(2));
     }
     if !is_continuation(*third) {
-        return Some(2);
+        return Some(Err(2));
     }
     if *first < 0xF0 {
-        return None;
+        return Some(Ok(3));
     }
     if is_continuation(*fourth) {
-        None
+        Some(Ok(4))
     } else {
-        Some(3)
+        Some(Err(3))
     }
 }
 
@@ -112,28 +134,40 @@ fn is_second(lead: u8, byte: u8) -> bool
     }
 }
 
-/// The first fault of bytes whose first `at` are ASCII.
+/// The first fault of bytes whose first `at` are UTF-8.
 fn fault_behind(bytes: &[u8], at: usize) -> Option<(usize, Option<u8>)>
     requires within { at ≤ length bytes.now }
-    requires ascii { (i : ℕ) → i < at → slice_index bytes.now i < 0x80 }
+    requires text { IsUtf8 (take at bytes.now) }
     ensures { MatchOption result (IsUtf8 bytes.now) (λ fault. IsUtf8Fault bytes.now fault.0 fault.1) }
 {
-    let front = front_from(bytes, at, false);
-    let (_, rest) = bytes.split_at(front);
-    match near_fault(rest) {
-        Some((valid_up_to, error_len)) => Some((front + valid_up_to, error_len)),
+    match few_characters(bytes, front_from(bytes, at, false)) {
+        Ok(at) => last_fault(bytes, at),
+        Err(fault) => Some(fault),
+    }
+}
+
+/// The same, where the fault isn't far, or the end.
+#[inline(always)]
+fn last_fault(bytes: &[u8], at: usize) -> Option<(usize, Option<u8>)>
+    requires within { at ≤ length bytes.now }
+    requires text { IsUtf8 (take at bytes.now) }
+    ensures { MatchOption result (IsUtf8 bytes.now) (λ fault. IsUtf8Fault bytes.now fault.0 fault.1) }
+{
+    let (_, rest) = bytes.split_at(at);
+    match fault_by_std(rest) {
+        Some((valid_up_to, error_len)) => Some((at + valid_up_to, error_len)),
         None => None,
     }
 }
 
-/// The first fault, where it isn't far.
+/// The first fault of a short string.
 #[inline(always)]
 fn near_fault(bytes: &[u8]) -> Option<(usize, Option<u8>)>
     ensures { MatchOption result (IsUtf8 bytes.now) (λ fault. IsUtf8Fault bytes.now fault.0 fault.1) }
 {
-    match part_at_front(bytes) {
-        Some(error_len) => Some((0, Some(error_len))),
-        None => fault_by_std(bytes),
+    match first_of(bytes) {
+        Some(Err(error_len)) => Some((0, Some(error_len))),
+        _ => fault_by_std(bytes),
     }
 }
 

@@ -212,20 +212,23 @@ module _ (bytes : List ℕ) where
         second = omega (arith, u);
       }
 
+  -- one more byte that may stand where it does
+  pub one_byte : (surrogates : Bool) (n : ℕ) → MayStand (get_or Q n 0) (get_or Q (suc n) 0) (get_or Q (suc (suc n)) 0) (get_or Q (suc (suc (suc n))) 0) (get_or Q (suc (suc (suc (suc n)))) 0)
+      → (get_or Q (suc (suc (suc n))) 0 ≡ 0xED → get_or Q (suc (suc (suc (suc n)))) 0 < 0xA0) → KeepsPattern surrogates bytes n → KeepsPattern surrogates bytes (suc n)
+  one_byte surrogates n stands plain k = record {
+    pattern = λ i h. ⊎_elim (k.pattern i) (λ l. let e : n ≡ i = omega (arith, h, l) in
+        subst (λ m. MayStand (get_or Q m 0) (get_or Q (suc m) 0) (get_or Q (suc (suc m)) 0) (get_or Q (suc (suc (suc m))) 0) (get_or Q (suc (suc (suc (suc m)))) 0)) e stands) (cases_lt i n);
+    plain = λ e i h. ⊎_elim (k.plain e i) (λ l. let f : n ≡ i = omega (arith, h, l) in
+        subst (λ m. get_or Q (suc (suc (suc m))) 0 ≡ 0xED → get_or Q (suc (suc (suc (suc m)))) 0 < 0xA0) f plain) (cases_lt i n);
+  }
+
   one_ascii : (surrogates : Bool) (n : ℕ) → get_or Q (suc (suc (suc n))) 0 < 0x80 → get_or Q (suc (suc (suc (suc n)))) 0 < 0x80 → KeepsPattern surrogates bytes n → KeepsPattern surrogates bytes (suc n)
-  one_ascii surrogates n u v k =
-      let z = get_or Q (suc (suc (suc n))) 0 in
-      let stands : MayStand (get_or Q n 0) (get_or Q (suc n) 0) (get_or Q (suc (suc n)) 0) z (get_or Q (suc (suc (suc (suc n)))) 0) = record {
-        begins = λ _. inl v;
-        continues = λ g. let c = closed n k.pattern u in absurd (⊎_elim (λ l. omega (arith, l, c.fourth)) (λ g. ⊎_elim (λ l. omega (arith, l, c.third)) (λ l. omega (arith, l, c.second)) g) g);
-        follows = record { lead = λ s. absurd (omega (arith, s, u)); three_long = λ s. absurd (omega (arith, s, u)); four_long = λ s. absurd (omega (arith, s, u)); within = λ s. absurd (omega (arith, s, u)) };
-        unpaired = λ _ _ _ s. absurd (omega (arith, s, u));
-      } in
-      record {
-        pattern = λ i h. ⊎_elim (k.pattern i) (λ l. let e : n ≡ i = omega (arith, h, l) in
-            subst (λ m. MayStand (get_or Q m 0) (get_or Q (suc m) 0) (get_or Q (suc (suc m)) 0) (get_or Q (suc (suc (suc m))) 0) (get_or Q (suc (suc (suc (suc m)))) 0)) e stands) (cases_lt i n);
-        plain = λ e i h. ⊎_elim (k.plain e i) (λ l s. let f : i ≡ n = omega (arith, h, l) in absurd (omega (arith, ap (λ m. get_or Q (suc (suc (suc m))) 0) f, s, u))) (cases_lt i n);
-      }
+  one_ascii surrogates n u v k = one_byte surrogates n (record {
+    begins = λ _. inl v;
+    continues = λ g. let c = closed n k.pattern u in absurd (⊎_elim (λ l. omega (arith, l, c.fourth)) (λ g. ⊎_elim (λ l. omega (arith, l, c.third)) (λ l. omega (arith, l, c.second)) g) g);
+    follows = record { lead = λ s. absurd (omega (arith, s, u)); three_long = λ s. absurd (omega (arith, s, u)); four_long = λ s. absurd (omega (arith, s, u)); within = λ s. absurd (omega (arith, s, u)) };
+    unpaired = λ _ _ _ s. absurd (omega (arith, s, u));
+  }) (λ s. absurd (omega (arith, s, u))) k
 
   -- the byte before the place at + k
   pub last_ascii : (at k : ℕ) → ((i : ℕ) → i < k → get_or bytes (at + i) 0 < 0x80) → get_or Q (3 + at) 0 < 0x80 → get_or Q (3 + (at + k)) 0 < 0x80

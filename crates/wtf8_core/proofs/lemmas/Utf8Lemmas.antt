@@ -41,15 +41,19 @@ unfolding form
 second_of c s h = grind (arith, nat_tests, s)
 
 -- b with as many of three continuations as it needs is the form of a scalar
-abbrev Filled : ℕ → ℕ → ℕ → ℕ → List ℕ
+abbrev pub Filled : ℕ → ℕ → ℕ → ℕ → List ℕ
 Filled b x y z = b ∷ take (needed_continuations b) (x ∷ y ∷ z ∷ [])
 
-abbrev IsForm : List ℕ → Type 0
+abbrev pub IsForm : List ℕ → Type 0
 IsForm xs = (c : ℕ) × IsScalar c × (form c ≡ xs)
 
-filled : (b x y z : ℕ) → First b → Second b x → IsContinuation y → IsContinuation z → IsForm (Filled b x y z)
+pub filled : (b x y z : ℕ) → First b → Second b x → IsContinuation y → IsContinuation z → IsForm (Filled b x y z)
 unfolding form
 filled b x y z l s j k = (shape_value b (take (needed_continuations b) (x ∷ y ∷ z ∷ [])), grind (arith, nat_tests, s), grind (arith, nat_tests, s))
+
+-- a form is a text
+pub form_text : (xs : List ℕ) → IsForm xs → IsUtf8 xs
+form_text xs w = subst IsUtf8 (sym (form_encode w.0) ∙ w.2) (IsUtf8-encode w.0 w.1)
 
 -- so it does not stand where no character begins
 not_filled : (b x y z : ℕ) (r rest : List ℕ) → First b → Second b x → IsContinuation y → IsContinuation z → NoChar r → r ≡ Filled b x y z ++ rest → ⊥
@@ -58,7 +62,7 @@ not_filled b x y z r rest l s j k n e =
     n w.0 rest w.1 (e ∙ ap (λ x. x ++ rest) (sym w.2))
 
 -- 80 is a continuation, the least
-least_continuation : IsContinuation 0x80
+pub least_continuation : IsContinuation 0x80
 least_continuation = (omega arith, omega arith)
 
 -- the lead needs more than the continuations that are there

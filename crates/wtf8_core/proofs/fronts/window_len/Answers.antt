@@ -1,4 +1,4 @@
-use Rattle.std.proofs.Common.{◌+◌, arith}
+use Rattle.std.proofs.Common.{arith}
 use Rattle.wtf8_core.proofs.lemmas.Fronts.{copied, more}
 use Rattle.wtf8_core.proofs.fronts.window_len.Goals as goal
 

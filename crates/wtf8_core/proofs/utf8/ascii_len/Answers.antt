@@ -1,11 +1,15 @@
-use Rattle.std.proofs.Common.{◌≡◌, ◌+◌, ◌<◌, get_or, subst, arith}
+use Rattle.std.proofs.Common.{◌+◌, ◌≡◌, ◌<◌, get_or, subst, arith}
+use Rattle.wtf8_core.proofs.lemmas.Fronts.{ascii_is_utf8}
 use Rattle.wtf8_core.proofs.utf8.ascii_len.Goals as goal
 
-pub returns-then-near-lt16-clause-ascii : goal.returns-then-near-lt16-clause-ascii
-returns-then-near-lt16-clause-ascii c i h = c.ascii_of_16-near.ensures.ascii i h (omega (arith, h, c.if-near-lt16.true))
+pub returns-then-near-lt16-clause-text : goal.returns-then-near-lt16-clause-text
+returns-then-near-lt16-clause-text c =
+    let near = c.if-near-lt16.true in
+    ascii_is_utf8 c.args.bytes.now c.ascii_of_16-near.result (λ i h. c.ascii_of_16-near.ensures.ascii i h (omega (arith, h, near))) (omega (arith, near, c.requires))
 
-pub returns-else-near-lt16-clause-ascii : goal.returns-else-near-lt16-clause-ascii
-returns-else-near-lt16-clause-ascii c i h =
+pub returns-else-near-lt16-clause-text : goal.returns-else-near-lt16-clause-text
+returns-else-near-lt16-clause-text c =
     let at = c.ascii_before.ensures in
+    ascii_is_utf8 c.args.bytes.now c.ascii_before.result (λ i h.
     let e : 0 + i ≡ i = omega arith in
-    subst (λ k. get_or c.args.bytes.now k 0 < 0x80) e (subst (λ x. x < 0x80) (c.load.ensures i (omega (arith, h, at.within))) (at.ascii i h))
+    subst (λ k. get_or c.args.bytes.now k 0 < 0x80) e (subst (λ x. x < 0x80) (c.load.ensures i (omega (arith, h, at.within))) (at.ascii i h))) (omega (arith, at.within, c.requires))

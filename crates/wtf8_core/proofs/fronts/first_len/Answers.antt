@@ -1,6 +1,6 @@
 use Rattle.std.proofs.Common.{◌+◌, arith, refl}
 use Rattle.wtf8_core.proofs.lemmas.Fronts.{before_bytes, more_ascii}
-use Rattle.wtf8_core.proofs.fronts.next_len.Goals as goal
+use Rattle.wtf8_core.proofs.fronts.first_len.Goals as goal
 
 pub returns-then-is_ascii_block-clause-kept : goal.returns-then-is_ascii_block-clause-kept
 returns-then-is_ascii_block-clause-kept c k =

@@ -1,26 +1,27 @@
--- Four bytes with which no character begins, and the ill-formed part with which they begin.
-use Rattle.std.proofs.Common.{◌≡◌, ℕ, ◌<◌, ◌≤◌, List, ◌∷◌, ◌++◌, length, get_or, Some, true, false, sym, ap, ◌∙◌, subst, arith, refl, drop, []}
+-- Four bytes, and the character or the ill-formed part with which they begin.
+use Rattle.std.proofs.Common.{◌≡◌, ℕ, ◌<◌, ◌≤◌, List, ◌∷◌, ◌++◌, length, get_or, Some, true, false, sym, ap, ◌∙◌, subst, arith, refl, take, drop, []}
 use Rattle.std.specs.Bool.{if◌then◌else◌}
 use Rattle.std.proofs.lemmas.Bool.{cond-true, cond-false}
 use Rattle.std.proofs.lemmas.Bool.Decides.{nat_tests}
 use Rattle.std.proofs.lemmas.List.{get_or_append_left}
 use Rattle.std.specs.Char.{IsScalar}
 use Rattle.std.specs.Int.{is_in_range}
+use Rattle.std.specs.Str.{IsUtf8}
 use Rattle.std.specs.Str.Lossy.{utf8_error_len, second_byte_min, second_byte_max}
 use Rattle.wtf8_core.specs.Byte.{IsContinuation}
 use Rattle.wtf8_core.specs.CodePoint.{form}
 use Rattle.wtf8_core.specs.Utf8.{IsUtf8Fault}
 use Rattle.wtf8_core.proofs.lemmas.Overlaps.{form_behind}
-use Rattle.wtf8_core.proofs.lemmas.Ranges.{in_range, in_range-false, not_in_range}
+use Rattle.wtf8_core.proofs.lemmas.Ranges.{in_range, in_range-true, in_range-false, not_in_range}
 use Rattle.wtf8_core.proofs.lemmas.Texts.{valid_none}
-use Rattle.wtf8_core.proofs.lemmas.Utf8Lemmas.{First, Second, lead_of, second_of, len_of_four, fault_is}
+use Rattle.wtf8_core.proofs.lemmas.Utf8Lemmas.{First, Second, Filled, filled, form_text, least_continuation, lead_of, second_of, len_of_four, fault_is}
 
 -- how many bytes a form has, by its first
-some_long : (c : ℕ) → 1 ≤ length (form c)
+pub some_long : (c : ℕ) → 1 ≤ length (form c)
 unfolding form
 some_long c = grind (arith, nat_tests)
 
-past_ascii : (c : ℕ) → 0x80 ≤ get_or (form c) 0 0 → 0x80 ≤ c
+pub past_ascii : (c : ℕ) → 0x80 ≤ get_or (form c) 0 0 → 0x80 ≤ c
 unfolding form
 past_ascii c h = grind (arith, nat_tests, h)
 
@@ -43,6 +44,16 @@ four_first (b ∷ []) h = absurd (omega (arith, h))
 four_first (b ∷ x ∷ []) h = absurd (omega (arith, h))
 four_first (b ∷ x ∷ y ∷ []) h = absurd (omega (arith, h))
 four_first (b ∷ x ∷ y ∷ z ∷ t) h = refl
+
+-- how many continuations a lead takes
+two_filled : (b x : ℕ) → 0xC2 ≤ b → b < 0xE0 → b ∷ x ∷ [] ≡ Filled b x 0x80 0x80
+two_filled b x h l = grind (arith, nat_tests)
+
+three_filled : (b x y : ℕ) → 0xE0 ≤ b → b < 0xF0 → b ∷ x ∷ y ∷ [] ≡ Filled b x y 0x80
+three_filled b x y h l = grind (arith, nat_tests)
+
+four_filled : (b x y z : ℕ) → 0xF0 ≤ b → b ∷ x ∷ y ∷ z ∷ [] ≡ Filled b x y z
+four_filled b x y z h = grind (arith, nat_tests)
 
 module _ (r : List ℕ) (long : 4 ≤ length r) (high : 0x80 ≤ get_or r 0 0) where
   -- what the first four bytes are where a character begins there
@@ -81,6 +92,23 @@ module _ (r : List ℕ) (long : 4 ≤ length r) (high : 0x80 ≤ get_or r 0 0) w
     at_second g = fault 1 (λ w. in_range-false _ _ (get_or r 1 0) g w.second) (std_len ∙ cond-true _ _ _ f ∙ cond-false _ _ _ g)
 
     module _ (g : is_in_range (second_byte_min (get_or r 0 0)) (second_byte_max (get_or r 0 0)) (get_or r 1 0) ≡ true) where
+      -- with as many continuations as the first needs they are a character
+      with_continuations : (y z : ℕ) → IsContinuation y → IsContinuation z → (n : ℕ) → take n r ≡ Filled (get_or r 0 0) (get_or r 1 0) y z → IsUtf8 (take n r)
+      with_continuations y z h k n e = subst IsUtf8 (sym e) (form_text _ (filled (get_or r 0 0) (get_or r 1 0) y z (in_range-true 0xC2 0xF4 _ f) (in_range-true _ _ (get_or r 1 0) g) h k))
+
+      pub two_text : get_or r 0 0 < 0xE0 → IsUtf8 (take 2 r)
+      two_text l =
+          let least = least_continuation in
+          with_continuations 0x80 0x80 least least 2 (ap (take 2) (four_first r long) ∙ two_filled (get_or r 0 0) (get_or r 1 0) (in_range-true 0xC2 0xF4 _ f).0 l)
+
+      pub three_text : 0xE0 ≤ get_or r 0 0 → get_or r 0 0 < 0xF0 → IsContinuation (get_or r 2 0) → IsUtf8 (take 3 r)
+      three_text h l y =
+          with_continuations (get_or r 2 0) 0x80 y least_continuation 3 (ap (take 3) (four_first r long) ∙ three_filled (get_or r 0 0) (get_or r 1 0) (get_or r 2 0) h l)
+
+      pub four_text : 0xF0 ≤ get_or r 0 0 → IsContinuation (get_or r 2 0) → IsContinuation (get_or r 3 0) → IsUtf8 (take 4 r)
+      four_text h y z =
+          with_continuations (get_or r 2 0) (get_or r 3 0) y z 4 (ap (take 4) (four_first r long) ∙ four_filled (get_or r 0 0) (get_or r 1 0) (get_or r 2 0) (get_or r 3 0) h)
+
       pub at_third : 0xE0 ≤ get_or r 0 0 → (IsContinuation (get_or r 2 0) → ⊥) → IsUtf8Fault r 0 (Some 2)
       at_third l n = fault 2 (λ w. n (w.third l)) (std_len ∙ cond-true _ _ _ f ∙ cond-true _ _ _ g ∙ cond-false _ _ _ (not_in_range 0x80 0xBF (get_or r 2 0) n))
 
