@@ -1,11 +1,11 @@
 //! The chunks of a string: its parts without whole characters, each with the text behind it.
-ghost use Rattle.std.specs.Prelude.{◌≡◌, ℕ, ◌∷◌, ◌<◌, ◌≤◌, length, take, drop};
+ghost use Rattle.std.specs.Prelude.{◌≡◌, ℕ, ◌∷◌, ◌<◌, ◌≤◌, length, take, drop, MatchOption};
 ghost use Rattle.std.specs.Iterator.{YieldsFirstBy, item_count};
 ghost use Rattle.std.specs.Str.{IsUtf8};
 ghost use Rattle.wtf8_core.specs.Character.{WholeCharacter};
 ghost use Rattle.wtf8_core.specs.Chunks.{AreChunks};
 ghost use Rattle.platform_str.specs.Strings.{bytes};
-ghost use Rattle.os_str_ext.specs.Chunks.{chunks_of, IsFirstChunk};
+ghost use Rattle.os_str_ext.specs.Chunks.{chunks_of, IsFirstCharacter, IsFirstChunk};
 ghost use Rattle.os_str_ext.specs.Parts.{part_bytes};
 
 use crate::os_units::NonUnicodeOsStr;
@@ -92,26 +92,27 @@ fn first_chunk<'a, E: Platform>(
 fn chunk_ends(bytes: &[u8]) -> (usize, usize)
     ensures { IsFirstChunk bytes.now result.0 result.1 }
 {
-    let middle = part_end(bytes);
-    let end = text_end(bytes, middle);
-    (middle, end)
+    match first_character(bytes) {
+        Some((start, end)) => (start, text_end(bytes, end)),
+        None => (bytes.len(), bytes.len()),
+    }
 }
 
-/// Where the first whole character starts, or the length.
-fn part_end(bytes: &[u8]) -> usize
-    ensures within { result ≤ length bytes.now }
-    ensures bare { (k : ℕ) → (j : ℕ) → k < result → ¬ (WholeCharacter bytes.now k j) }
-    ensures ended { result < length bytes.now → (j : ℕ) × WholeCharacter bytes.now result j }
+/// Where the first whole character starts, and where it ends.
+#[inline(always)]
+fn first_character(bytes: &[u8]) -> Option<(usize, usize)>
+    ensures { MatchOption result ((k : ℕ) → (j : ℕ) → ¬ (WholeCharacter bytes.now k j)) (λ ends. IsFirstCharacter bytes.now ends.0 ends.1) }
 {
     for at in 0..bytes.len() {
-        if char_at(bytes, at).is_some() {
-            return at;
+        if let Some(len) = char_at(bytes, at) {
+            return Some((at, at + len));
         }
     }
-    bytes.len()
+    None
 }
 
 /// Where the whole characters end that stand one behind the other from a place on.
+#[inline(always)]
 fn text_end(bytes: &[u8], start: usize) -> usize
     requires { start ≤ length bytes.now }
     ensures ordered { start ≤ result }

@@ -1,8 +1,9 @@
 -- The first fault of bytes that aren't UTF-8 (RFC 3629, section 4), and the maximal ill-formed part (a maximal subpart; Unicode, section 3.9, and std's `Utf8Error`).
-use Rattle.std.specs.Prelude.{◌≡◌, ◌⊎◌, ℕ, ◌+◌, ◌<◌, ◌≤◌, List, ◌++◌, length, take, drop, Option, Some, None, MatchOption}
+use Rattle.std.specs.Prelude.{◌≡◌, ◌⊎◌, ℕ, ◌+◌, ◌<◌, ◌≤◌, List, ◌++◌, length, take, drop, Option, Some, None, MatchOption, Result, MatchResult}
 use Rattle.std.specs.Char.{IsScalar}
 use Rattle.std.specs.Str.{IsValidUpTo}
 use Rattle.wtf8_core.specs.CodePoint.{form}
+use Rattle.wtf8_core.specs.Character.{WholeCharacter}
 
 -- xs is a front of some character's form
 pub record IsFrontOfCharacter (xs : List ℕ) : Type 0 where
@@ -32,6 +33,10 @@ IsIllFormedPart r n = (IsProperFront r × (n ≡ length r)) ⊎ IsIllFormed r n
 pub record IsUtf8Fault (bytes : List ℕ) (valid_up_to : ℕ) (error_len : Option ℕ) : Type 0 where
   pub valid : IsValidUpTo bytes valid_up_to
   pub part : MatchOption error_len (IsProperFront (drop valid_up_to bytes)) (IsIllFormed (drop valid_up_to bytes))
+
+-- a whole character of so many bytes stands at the front, or an ill-formed part of so many
+abbrev pub IsAtFront : List ℕ → Result ℕ ℕ → Type 0
+IsAtFront bytes first = MatchResult first (WholeCharacter bytes 0) (λ n. IsUtf8Fault bytes 0 (Some n))
 
 -- the place behind the ill-formed part of a fault
 abbrev pub part_end : List ℕ → ℕ → Option ℕ → ℕ

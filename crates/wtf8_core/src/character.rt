@@ -4,6 +4,7 @@ ghost use Rattle.wtf8_core.specs.Character.{IsCharacterAt};
 use crate::byte::needed_continuations;
 use crate::code_points::first_item;
 use crate::surrogate::is_surrogate;
+use crate::utf8::first_of;
 
 /// How many bytes the whole character has that starts at byte place `at`: one to four, or
 /// `None` where none starts there.
@@ -29,7 +30,19 @@ pub fn char_at(bytes: &[u8], at: usize) -> Option<usize>
 }
 
 /// How many bytes the whole character has with which bytes begin.
+#[inline(always)]
 fn first_char(bytes: &[u8]) -> Option<usize>
+    ensures { IsCharacterAt bytes.now 0 result }
+{
+    match first_of(bytes) {
+        Some(Ok(len)) => Some(len),
+        Some(Err(_)) => None,
+        None => char_of_few(bytes),
+    }
+}
+
+/// The same by the reader of code points, which takes bytes that are fewer than four, too.
+fn char_of_few(bytes: &[u8]) -> Option<usize>
     ensures { IsCharacterAt bytes.now 0 result }
 {
     let Some((first, behind)) = bytes.split_first() else {

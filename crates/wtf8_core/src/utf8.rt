@@ -3,7 +3,7 @@ ghost use Rattle.std.specs.Prelude.{◌≡◌, ◌≤◌, MatchOption, MatchResu
 ghost use Rattle.std.specs.Int.{is_in_range};
 ghost use Rattle.std.specs.Str.{IsUtf8};
 ghost use Rattle.std.specs.Str.Lossy.{second_byte_min, second_byte_max};
-ghost use Rattle.wtf8_core.specs.Utf8.{IsUtf8Fault};
+ghost use Rattle.wtf8_core.specs.Utf8.{IsUtf8Fault, IsAtFront};
 
 use crate::byte::is_continuation;
 use crate::fronts::front_from;
@@ -81,8 +81,8 @@ fn few_characters(bytes: &[u8], from: usize) -> Result<usize, (usize, Option<u8>
 /// How many bytes the character at the front has, or the maximal ill-formed part there, by the
 /// first four bytes; `None` where there are fewer.
 #[inline(always)]
-fn first_of(bytes: &[u8]) -> Option<Result<usize, u8>>
-    ensures { IfSome result (λ first. MatchResult first (λ len. (len ≤ length bytes.now) × IsUtf8 (take len bytes.now)) (λ len. IsUtf8Fault bytes.now 0 (Some len))) }
+pub(crate) fn first_of(bytes: &[u8]) -> Option<Result<usize, u8>>
+    ensures { IfSome result (IsAtFront bytes.now) }
 {
     let [first, second, third, fourth, ..] = bytes else {
         return None;

@@ -1,20 +1,21 @@
 -- Four bytes, and the character or the ill-formed part with which they begin.
-use Rattle.std.proofs.Common.{◌≡◌, ℕ, ◌<◌, ◌≤◌, List, ◌∷◌, ◌++◌, length, get_or, Some, true, false, sym, ap, ◌∙◌, subst, arith, refl, take, drop, []}
+use Rattle.std.proofs.Common.{◌≡◌, ℕ, ◌+◌, ◌<◌, ◌≤◌, List, ◌∷◌, ◌++◌, length, get_or, Some, true, false, sym, ap, ◌∙◌, subst, arith, refl, drop, []}
 use Rattle.std.specs.Bool.{if◌then◌else◌}
 use Rattle.std.proofs.lemmas.Bool.{cond-true, cond-false}
 use Rattle.std.proofs.lemmas.Bool.Decides.{nat_tests}
 use Rattle.std.proofs.lemmas.List.{get_or_append_left}
 use Rattle.std.specs.Char.{IsScalar}
 use Rattle.std.specs.Int.{is_in_range}
-use Rattle.std.specs.Str.{IsUtf8}
 use Rattle.std.specs.Str.Lossy.{utf8_error_len, second_byte_min, second_byte_max}
 use Rattle.wtf8_core.specs.Byte.{IsContinuation}
 use Rattle.wtf8_core.specs.CodePoint.{form}
+use Rattle.wtf8_core.specs.Character.{WholeCharacter}
 use Rattle.wtf8_core.specs.Utf8.{IsUtf8Fault}
+use Rattle.wtf8_core.proofs.lemmas.Characters.{whole_at}
 use Rattle.wtf8_core.proofs.lemmas.Overlaps.{form_behind}
 use Rattle.wtf8_core.proofs.lemmas.Ranges.{in_range, in_range-true, in_range-false, not_in_range}
 use Rattle.wtf8_core.proofs.lemmas.Texts.{valid_none}
-use Rattle.wtf8_core.proofs.lemmas.Utf8Lemmas.{First, Second, Filled, filled, form_text, least_continuation, lead_of, second_of, len_of_four, fault_is}
+use Rattle.wtf8_core.proofs.lemmas.Utf8Lemmas.{First, Second, Filled, filled, least_continuation, lead_of, second_of, len_of_four, fault_is}
 
 -- how many bytes a form has, by its first
 pub some_long : (c : ℕ) → 1 ≤ length (form c)
@@ -25,20 +26,20 @@ pub past_ascii : (c : ℕ) → 0x80 ≤ get_or (form c) 0 0 → 0x80 ≤ c
 unfolding form
 past_ascii c h = grind (arith, nat_tests, h)
 
-two_long : (c : ℕ) → 0x80 ≤ c → 2 ≤ length (form c)
+two_or_more : (c : ℕ) → 0x80 ≤ c → 2 ≤ length (form c)
 unfolding form
-two_long c h = grind (arith, nat_tests, h)
+two_or_more c h = grind (arith, nat_tests, h)
 
-three_long : (c : ℕ) → IsScalar c → 0xE0 ≤ get_or (form c) 0 0 → 3 ≤ length (form c)
+three_or_more : (c : ℕ) → IsScalar c → 0xE0 ≤ get_or (form c) 0 0 → 3 ≤ length (form c)
 unfolding form
-three_long c s h = grind (arith, nat_tests, s, h)
+three_or_more c s h = grind (arith, nat_tests, s, h)
 
-four_long : (c : ℕ) → IsScalar c → 0xF0 ≤ get_or (form c) 0 0 → 4 ≤ length (form c)
+four_or_more : (c : ℕ) → IsScalar c → 0xF0 ≤ get_or (form c) 0 0 → 4 ≤ length (form c)
 unfolding form
-four_long c s h = grind (arith, nat_tests, s, h)
+four_or_more c s h = grind (arith, nat_tests, s, h)
 
 -- bytes by their first four
-four_first : (r : List ℕ) → 4 ≤ length r → r ≡ get_or r 0 0 ∷ get_or r 1 0 ∷ get_or r 2 0 ∷ get_or r 3 0 ∷ drop 4 r
+pub four_first : (r : List ℕ) → 4 ≤ length r → r ≡ get_or r 0 0 ∷ get_or r 1 0 ∷ get_or r 2 0 ∷ get_or r 3 0 ∷ drop 4 r
 four_first [] h = absurd (omega (arith, h))
 four_first (b ∷ []) h = absurd (omega (arith, h))
 four_first (b ∷ x ∷ []) h = absurd (omega (arith, h))
@@ -70,9 +71,9 @@ module _ (r : List ℕ) (long : 4 ≤ length r) (high : 0x80 ≤ get_or r 0 0) w
       let past : 0x80 ≤ c = past_ascii c (subst (λ n. 0x80 ≤ n) b_is high) in
       record {
         first = subst First (sym b_is) (lead_of c s past);
-        second = subst (λ n. Second n (get_or r 1 0)) (sym b_is) (subst (Second (get_or (form c) 0 0)) (sym (at 1 (two_long c past))) (second_of c s past));
-        third = λ h. let l = three_long c s (subst (λ n. 0xE0 ≤ n) b_is h) in subst IsContinuation (sym (at 2 l)) (form_behind c 2 (omega arith) l);
-        fourth = λ h. let l = four_long c s (subst (λ n. 0xF0 ≤ n) b_is h) in subst IsContinuation (sym (at 3 l)) (form_behind c 3 (omega arith) l);
+        second = subst (λ n. Second n (get_or r 1 0)) (sym b_is) (subst (Second (get_or (form c) 0 0)) (sym (at 1 (two_or_more c past))) (second_of c s past));
+        third = λ h. let l = three_or_more c s (subst (λ n. 0xE0 ≤ n) b_is h) in subst IsContinuation (sym (at 2 l)) (form_behind c 2 (omega arith) l);
+        fourth = λ h. let l = four_or_more c s (subst (λ n. 0xF0 ≤ n) b_is h) in subst IsContinuation (sym (at 3 l)) (form_behind c 3 (omega arith) l);
       }
 
   -- what std says of them
@@ -93,21 +94,23 @@ module _ (r : List ℕ) (long : 4 ≤ length r) (high : 0x80 ≤ get_or r 0 0) w
 
     module _ (g : is_in_range (second_byte_min (get_or r 0 0)) (second_byte_max (get_or r 0 0)) (get_or r 1 0) ≡ true) where
       -- with as many continuations as the first needs they are a character
-      with_continuations : (y z : ℕ) → IsContinuation y → IsContinuation z → (n : ℕ) → take n r ≡ Filled (get_or r 0 0) (get_or r 1 0) y z → IsUtf8 (take n r)
-      with_continuations y z h k n e = subst IsUtf8 (sym e) (form_text _ (filled (get_or r 0 0) (get_or r 1 0) y z (in_range-true 0xC2 0xF4 _ f) (in_range-true _ _ (get_or r 1 0) g) h k))
+      with_continuations : (y z : ℕ) → IsContinuation y → IsContinuation z → (front rest : List ℕ) → front ≡ Filled (get_or r 0 0) (get_or r 1 0) y z → r ≡ front ++ rest → WholeCharacter r 0 (0 + length front)
+      with_continuations y z h k front rest e is =
+          let w = filled (get_or r 0 0) (get_or r 1 0) y z (in_range-true 0xC2 0xF4 _ f) (in_range-true _ _ (get_or r 1 0) g) h k in
+          let form_is : form w.0 ≡ front = w.2 ∙ sym e in
+          subst (λ l. WholeCharacter r 0 (0 + length l)) form_is (whole_at r 0 w.0 rest (omega arith) w.1 (is ∙ ap (λ l. l ++ rest) (sym form_is)))
 
-      pub two_text : get_or r 0 0 < 0xE0 → IsUtf8 (take 2 r)
-      two_text l =
-          let least = least_continuation in
-          with_continuations 0x80 0x80 least least 2 (ap (take 2) (four_first r long) ∙ two_filled (get_or r 0 0) (get_or r 1 0) (in_range-true 0xC2 0xF4 _ f).0 l)
+      pub two_long : get_or r 0 0 < 0xE0 → WholeCharacter r 0 2
+      two_long l =
+          with_continuations 0x80 0x80 least_continuation least_continuation (get_or r 0 0 ∷ get_or r 1 0 ∷ []) (get_or r 2 0 ∷ get_or r 3 0 ∷ drop 4 r) (two_filled (get_or r 0 0) (get_or r 1 0) (in_range-true 0xC2 0xF4 _ f).0 l) (four_first r long)
 
-      pub three_text : 0xE0 ≤ get_or r 0 0 → get_or r 0 0 < 0xF0 → IsContinuation (get_or r 2 0) → IsUtf8 (take 3 r)
-      three_text h l y =
-          with_continuations (get_or r 2 0) 0x80 y least_continuation 3 (ap (take 3) (four_first r long) ∙ three_filled (get_or r 0 0) (get_or r 1 0) (get_or r 2 0) h l)
+      pub three_long : 0xE0 ≤ get_or r 0 0 → get_or r 0 0 < 0xF0 → IsContinuation (get_or r 2 0) → WholeCharacter r 0 3
+      three_long h l y =
+          with_continuations (get_or r 2 0) 0x80 y least_continuation (get_or r 0 0 ∷ get_or r 1 0 ∷ get_or r 2 0 ∷ []) (get_or r 3 0 ∷ drop 4 r) (three_filled (get_or r 0 0) (get_or r 1 0) (get_or r 2 0) h l) (four_first r long)
 
-      pub four_text : 0xF0 ≤ get_or r 0 0 → IsContinuation (get_or r 2 0) → IsContinuation (get_or r 3 0) → IsUtf8 (take 4 r)
-      four_text h y z =
-          with_continuations (get_or r 2 0) (get_or r 3 0) y z 4 (ap (take 4) (four_first r long) ∙ four_filled (get_or r 0 0) (get_or r 1 0) (get_or r 2 0) (get_or r 3 0) h)
+      pub four_long : 0xF0 ≤ get_or r 0 0 → IsContinuation (get_or r 2 0) → IsContinuation (get_or r 3 0) → WholeCharacter r 0 4
+      four_long h y z =
+          with_continuations (get_or r 2 0) (get_or r 3 0) y z (get_or r 0 0 ∷ get_or r 1 0 ∷ get_or r 2 0 ∷ get_or r 3 0 ∷ []) (drop 4 r) (four_filled (get_or r 0 0) (get_or r 1 0) (get_or r 2 0) (get_or r 3 0) h) (four_first r long)
 
       pub at_third : 0xE0 ≤ get_or r 0 0 → (IsContinuation (get_or r 2 0) → ⊥) → IsUtf8Fault r 0 (Some 2)
       at_third l n = fault 2 (λ w. n (w.third l)) (std_len ∙ cond-true _ _ _ f ∙ cond-true _ _ _ g ∙ cond-false _ _ _ (not_in_range 0x80 0xBF (get_or r 2 0) n))

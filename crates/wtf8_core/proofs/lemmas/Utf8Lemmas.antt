@@ -51,10 +51,6 @@ pub filled : (b x y z : ℕ) → First b → Second b x → IsContinuation y →
 unfolding form
 filled b x y z l s j k = (shape_value b (take (needed_continuations b) (x ∷ y ∷ z ∷ [])), grind (arith, nat_tests, s), grind (arith, nat_tests, s))
 
--- a form is a text
-pub form_text : (xs : List ℕ) → IsForm xs → IsUtf8 xs
-form_text xs w = subst IsUtf8 (sym (form_encode w.0) ∙ w.2) (IsUtf8-encode w.0 w.1)
-
 -- so it does not stand where no character begins
 not_filled : (b x y z : ℕ) (r rest : List ℕ) → First b → Second b x → IsContinuation y → IsContinuation z → NoChar r → r ≡ Filled b x y z ++ rest → ⊥
 not_filled b x y z r rest l s j k n e =

@@ -1,8 +1,14 @@
-use Rattle.os_str_ext.proofs.lemmas.FirstChunk.{first_from_ends}
+use Rattle.wtf8_core.proofs.lemmas.Characters.{character_fits}
+use Rattle.os_str_ext.proofs.lemmas.FirstChunk.{with_character, without_character}
 use Rattle.os_str_ext.proofs.chunks.chunk_ends.Goals as goal
 
-pub returns : goal.returns
-returns c =
-    let m = c.part_end-middle.ensures in
-    let e = c.text_end-end.ensures in
-    first_from_ends c.args.bytes.now _ _ (record { bare = m.bare; started = m.ended; ordered = e.ordered; within = e.within; text = e.text; ended = e.ended })
+pub text_end-requires : goal.text_end-requires
+text_end-requires c = (character_fits c.args.bytes.now _ _ c.in-Some.ensures.whole).2
+
+pub returns-in-Some : goal.returns-in-Some
+returns-in-Some c =
+    let e = c.text_end.ensures in
+    with_character c.args.bytes.now _ _ _ c.in-Some.ensures e.ordered e.within e.text e.ended
+
+pub returns-in-None : goal.returns-in-None
+returns-in-None c = without_character c.args.bytes.now c.in-None.ensures
