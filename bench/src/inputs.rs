@@ -191,21 +191,16 @@ pub fn faulty() -> Vec<Long> {
     all
 }
 
-/// Strings that only Unix has, of one piece again and again, so that a processor foresees every
-/// branch.
+/// Strings that only Unix has, one piece again and again, so that a processor foresees every
+/// branch: a path with a lone surrogate, names in Latin-1, and nine ideographs before an FF.
 pub fn periodic() -> Vec<Long> {
-    let pieces: [(&str, &[u8]); 9] = [
-        ("path and surrogate", b"/usr/share/d\xC3\xA9\xF0\x9F\x98\x80\xED\xA0\x80.txt"),
-        ("CJK 6 and fault", b"\xE4\xB8\xAD\xE6\x96\x87\xFF"),
-        ("CJK 24 and fault", b"\xE4\xB8\xAD\xE6\x96\x87\xE4\xB8\xAD\xE6\x96\x87\xE4\xB8\xAD\xE6\x96\x87\xE4\xB8\xAD\xE6\x96\x87\xFF"),
-        ("CJK 48 and fault", b"\xE4\xB8\xAD\xE6\x96\x87\xE4\xB8\xAD\xE6\x96\x87\xE4\xB8\xAD\xE6\x96\x87\xE4\xB8\xAD\xE6\x96\x87\xE4\xB8\xAD\xE6\x96\x87\xE4\xB8\xAD\xE6\x96\x87\xE4\xB8\xAD\xE6\x96\x87\xE4\xB8\xAD\xE6\x96\x87\xFF"),
-        ("e and fault", b"\xC3\xA9\xFF"),
-        ("emoji and fault", b"\xF0\x9F\x98\x80\xFF"),
-        ("two emoji and fault", b"\xF0\x9F\x98\x80\xF0\x9F\x98\x80\xFF"),
-        ("a and CJK and fault", b"a\xE4\xB8\xAD\xFF"),
-        ("name in Latin-1", b"/Stra\xDFe/caf\xE9"),
+    let ideographs = "\u{4E2D}".repeat(9).into_bytes();
+    let pieces: [(&str, &[u8]); 3] = [
+        ("one path", b"/usr/share/d\xC3\xA9\xF0\x9F\x98\x80\xED\xA0\x80.txt"),
+        ("one Latin-1 name", b"/Stra\xDFe/caf\xE9"),
+        ("nine ideographs and a fault", &[&ideographs[..], b"\xFF"].concat()),
     ];
-    pieces.map(|(name, piece)| named(name, 1, piece.repeat((1 << 20) / piece.len()))).into()
+    pieces.map(|(name, piece)| named(&format!("{name}, repeated"), 1, piece.repeat((1 << 20) / piece.len()))).into()
 }
 
 /// 10,000 short strings.

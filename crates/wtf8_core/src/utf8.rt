@@ -31,11 +31,11 @@ pub fn utf8_fault(bytes: &[u8]) -> Option<(usize, Option<u8>)>
     if bytes.len() < 64 {
         return near_fault(bytes);
     }
-    let at = ascii_len(bytes);
-    if at == 64 {
-        return fault_behind(bytes, at);
+    let ascii = ascii_len(bytes);
+    if ascii == 64 {
+        return fault_behind(bytes, ascii);
     }
-    match few_characters(bytes, at) {
+    match few_characters(bytes, ascii) {
         Ok(at) => fault_behind(bytes, at),
         Err(fault) => Some(fault),
     }
@@ -49,6 +49,9 @@ fn ascii_len(bytes: &[u8]) -> usize
     ensures within { result ≤ 64 }
     ensures text { IsUtf8 (take result bytes.now) }
 {
+    if bytes[0] >= 0x80 {
+        return 0;
+    }
     let near = ascii_of_16(bytes);
     if near < 16 {
         near
@@ -66,16 +69,18 @@ fn few_characters(bytes: &[u8], from: usize) -> Result<usize, (usize, Option<u8>
     ensures within { IfOk result (λ at. at ≤ length bytes.now) }
     ensures read { MatchResult result (λ at. IsUtf8 (take at bytes.now)) (λ fault. IsUtf8Fault bytes.now fault.0 fault.1) }
 {
-    let mut at = from;
-    for _ in 0..4 {
-        let (_, rest) = bytes.split_at(at);
+    let (_, mut rest) = bytes.split_at(from);
+    for _ in 0..8 {
         match first_of(rest) {
-            Some(Ok(len)) => at += len,
-            Some(Err(error_len)) => return Err((at, Some(error_len))),
-            None => return Ok(at),
+            Some(Ok(len)) => {
+                let (_, behind) = rest.split_at(len);
+                rest = behind;
+            }
+            Some(Err(error_len)) => return Err((bytes.len() - rest.len(), Some(error_len))),
+            None => return Ok(bytes.len() - rest.len()),
         }
     }
-    Ok(at)
+    Ok(bytes.len() - rest.len())
 }
 
 /// How many bytes the character at the front has, or the maximal ill-formed part there, by the
@@ -93,11 +98,15 @@ pub(crate) fn first_of(bytes: &[u8]) -> Option<Result<usize, u8>>
     if !is_lead(*first) {
         return Some(Err(1));
     }
+    if *first < 0xE0 {
+        return if is_continuation(*second) {
+            Some(Ok(2))
+        } else {
+            Some(Err(1))
+        };
+    }
     if !is_second(*first, *second) {
         return Some(Err(1));
-    }
-    if *first < 0xE0 {
-        return Some(Ok(2));
     }
     if !is_continuation(*third) {
         return Some(Err(2));
