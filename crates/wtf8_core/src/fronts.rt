@@ -24,7 +24,7 @@ pub(crate) fn front_of(bytes: &[u8], surrogates: bool) -> usize
 /// The front of bytes that keep to the pattern up to a place.
 #[inline(always)]
 pub(crate) fn front_from(bytes: &[u8], at: usize, surrogates: bool) -> usize
-    requires from { at ≤ length bytes.now }
+    requires within { at ≤ length bytes.now }
     requires kept { KeepsPattern surrogates bytes.now at }
     ensures within { result ≤ length bytes.now }
     ensures front { IsSpelledFront surrogates bytes.now result }
@@ -36,13 +36,13 @@ pub(crate) fn front_from(bytes: &[u8], at: usize, surrogates: bool) -> usize
         return front_with_rest(bytes, at, surrogates);
     }
     if at >= 4 {
-        return front_behind_block(bytes, at, surrogates);
+        return front_in_place(bytes, at, surrogates);
     }
     let kept = first_len(bytes, at, surrogates);
     if kept < 64 {
         return start_before(bytes, at + kept);
     }
-    front_behind_block(bytes, at + 64, surrogates)
+    front_in_place(bytes, at + 64, surrogates)
 }
 
 /// How many of the first 64 bytes from a place on keep to the pattern, before one that doesn't.
@@ -58,11 +58,12 @@ fn first_len(bytes: &[u8], at: usize, surrogates: bool) -> usize
     window_len(bytes, at, surrogates)
 }
 
-/// The front of bytes that keep to the pattern up to a place, where a window stands before it.
+/// The same where four bytes or more stand before that place, so that each block is tested where
+/// it stands.
 #[inline(always)]
-fn front_behind_block(bytes: &[u8], at: usize, surrogates: bool) -> usize
-    requires some { 4 ≤ at }
-    requires room { at ≤ length bytes.now }
+fn front_in_place(bytes: &[u8], at: usize, surrogates: bool) -> usize
+    requires from { 4 ≤ at }
+    requires within { at ≤ length bytes.now }
     requires kept { KeepsPattern surrogates bytes.now at }
     ensures within { result ≤ length bytes.now }
     ensures front { IsSpelledFront surrogates bytes.now result }

@@ -42,7 +42,7 @@ pub fn utf8_fault(bytes: &[u8]) -> Option<(usize, Option<u8>)>
 }
 
 /// How many of the first 64 bytes are ASCII before one that isn't. In a loop over faults that
-/// stand close together, that is mostly one of the first 16.
+/// stand close together, that is mostly the first, or one of the first 16.
 #[inline(always)]
 fn ascii_len(bytes: &[u8]) -> usize
     requires { 64 ≤ length bytes.now }
@@ -60,8 +60,8 @@ fn ascii_len(bytes: &[u8]) -> usize
     }
 }
 
-/// Where the next few characters behind a text end, or the fault among them. Faults mostly stand
-/// close together, and so a loop over them often needs nothing more.
+/// Where up to eight characters behind a text end, or the fault among them. Where faults stand
+/// close together, a loop over them mostly needs nothing more.
 #[inline(always)]
 fn few_characters(bytes: &[u8], from: usize) -> Result<usize, (usize, Option<u8>)>
     requires within { from ≤ length bytes.now }

@@ -185,7 +185,7 @@ module _ (bytes : List ℕ) where
   characters : (cs : List ℕ) (n : ℕ) (rest : List ℕ) → all_scalars cs ≡ true → drop n bytes ≡ flat_map form cs ++ rest → IsKept n → IsKept (n + length (flat_map form cs))
   characters [] n rest a e k = let same : n ≡ n + 0 = omega arith in subst IsKept same k
   characters (c ∷ cs) n rest a e k =
-      let f = and_parts _ _ a in
+      let f : IsScalar c × (all_scalars cs ≡ true) = and_parts _ _ a in
       let is : drop n bytes ≡ form c ++ (flat_map form cs ++ rest) = e ∙ append_assoc (form c) (flat_map form cs) rest in
       let behind : drop (n + length (form c)) bytes ≡ flat_map form cs ++ rest = sym (drop-drop (length (form c)) n bytes) ∙ ap (drop (length (form c))) is ∙ drop-append_seam (form c) (flat_map form cs ++ rest) in
       let size : n + length (form c) + length (flat_map form cs) ≡ n + length (form c ++ flat_map form cs) = omega (arith, length-append (form c) (flat_map form cs)) in

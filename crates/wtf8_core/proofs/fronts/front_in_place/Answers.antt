@@ -1,8 +1,8 @@
 use Rattle.std.proofs.Common.{arith}
-use Rattle.wtf8_core.proofs.fronts.front_behind_block.Goals as goal
+use Rattle.wtf8_core.proofs.fronts.front_in_place.Goals as goal
 
 pub loop-end-init : goal.loop-end-init
-loop-end-init c = let e = c.ascii_end-end.ensures in (omega (arith, e.from, c.requires.some), e.within, e.kept c.args.surrogates c.requires.kept)
+loop-end-init c = let e = c.ascii_end-end.ensures in (omega (arith, e.from, c.requires.from), e.within, e.kept c.args.surrogates c.requires.kept)
 
 pub overflow_sub-bytes : goal.overflow_sub-bytes
 overflow_sub-bytes c = c.loop-end.invariant.1
