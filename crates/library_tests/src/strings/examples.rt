@@ -20,10 +20,16 @@ fn borrowed_from_bytes(rt: HostRuntime) -> Result<(), Fail> {
     let asserted = OsStr::<Unix>::assert_from_raw_bytes_owned(b"a\x80".to_vec(alloc)?);
     assert_eq!(rt; asserted.bytes(), b"a\x80".as_slice());
     assert!(rt; OsStr::<Windows>::from_raw_bytes(SURROGATE).is_ok());
-    let pair = OsStr::<Windows>::from_raw_bytes(b"\xED\xA0\x80\xED\xB0\x80");
-    assert_eq!(rt; pair.err(), Some(CodePoint(0xDC00)));
     let whole = OsStr::<Wasm>::from_raw_bytes_owned(b"\xC3\xA9".to_vec(alloc)?);
     assert_eq!(rt; whole?.bytes(), b"\xC3\xA9".as_slice());
+    Ok(())
+}
+
+#[test]
+fn borrowed_from_faulty_bytes(rt: HostRuntime) -> Result<(), Fail> {
+    let alloc = rt.alloc();
+    let pair = OsStr::<Windows>::from_raw_bytes(b"\xED\xA0\x80\xED\xB0\x80");
+    assert_eq!(rt; pair.err(), Some(CodePoint(0xDC00)));
     let cut_off = OsStr::<Wasm>::from_raw_bytes_owned(b"\xC3".to_vec(alloc)?);
     let fault = Utf8 {
         valid_up_to: 0,
@@ -32,6 +38,12 @@ fn borrowed_from_bytes(rt: HostRuntime) -> Result<(), Fail> {
     assert_eq!(rt; cut_off.err(), Some(fault));
     assert!(rt; OsStr::<Unix>::from_io_bytes(b"a\x80").is_some());
     assert!(rt; OsStr::<Windows>::from_io_bytes(b"a\x80").is_none());
+    Ok(())
+}
+
+#[test]
+fn raw_and_io_bytes(rt: HostRuntime) -> Result<(), Fail> {
+    let alloc = rt.alloc();
     let surrogate = OsString::<Windows>::from_raw_vec(SURROGATE.to_vec(alloc)?)?;
     assert_eq!(rt; surrogate.as_os_str().to_io_bytes(), None);
     let raw = OsStr::<Wasm>::new("a").to_raw_bytes();

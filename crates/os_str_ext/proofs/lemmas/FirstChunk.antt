@@ -19,6 +19,15 @@ use Rattle.wtf8_core.proofs.lemmas.Overlaps.{in_rest}
 use Rattle.wtf8_core.proofs.lemmas.Seams.{Bare, text_covered, seam_behind_bare, whole_within}
 use Rattle.os_str_ext.specs.Chunks.{chunks_of, IsFirstCharacter, IsFirstChunk}
 
+-- what the two ends say
+pub record HasEnds (s : List ℕ) (m e : ℕ) : Type 0 where
+  pub bare : (k j : ℕ) → k < m → WholeCharacter s k j → ⊥
+  pub started : m < length s → (j : ℕ) × WholeCharacter s m j
+  pub ordered : m ≤ e
+  pub within : e ≤ length s
+  pub text : IsUtf8 (drop m (take e s))
+  pub ended : (j : ℕ) → WholeCharacter s e j → ⊥
+
 -- the parts of a string that is cut twice
 cut_twice : (s : List ℕ) (m e : ℕ) → m ≤ e → s ≡ take m s ++ (drop m (take e s) ++ drop e s)
 cut_twice s m e le =
@@ -54,42 +63,38 @@ text_grows s i j k le u w =
 empty_text : (s : List ℕ) (m : ℕ) → m ≤ length s → IsUtf8 (drop m (take m s))
 empty_text s m h = subst IsUtf8 (sym (drop_all m (take m s) (omega (arith, length-take-le m s h)))) IsUtf8-nil
 
--- where no whole character starts before m, no byte there lies in one
-not_covered : (s : List ℕ) (m : ℕ) → ((k j : ℕ) → k < m → WholeCharacter s k j → ⊥) → (k : ℕ) → k < m → ¬ (IsCovered s k)
-not_covered s m h k lt c = let from = c.from in h c.start c.end (omega arith) c.whole
+-- the ends are those of the first chunk
+pub first_from_ends : (s : List ℕ) (m e : ℕ) → HasEnds s m e → IsFirstChunk s m e
+first_from_ends s m e h = record {
+  ordered = h.ordered;
+  within = h.within;
+  bare = bare;
+  text = h.text;
+  some = λ lt. ⊎_elim (λ q. absurd (let w = h.started lt in h.ended w.0 (subst (λ x. WholeCharacter s x w.0) q w.1))) (λ ne. omega (arith, h.ordered)) (cases_eq m e);
+  ended = λ lt c.
+      let from = c.from in
+      ⊎_elim (λ q. h.ended c.end (subst (λ x. WholeCharacter s x c.end) q c.whole)) (λ ne. text_in_rest s m e h.ordered h.within bare h.text c.start c.end c.whole (omega arith) c.below) (cases_eq c.start e);
+}
+  where
+    bare : (k : ℕ) → k < m → ¬ (IsCovered s k)
+    bare k lt c = let from = c.from in h.bare c.start c.end (omega arith) c.whole
 
 -- the first chunk's text is the first whole character and the text behind it
 pub with_character : (s : List ℕ) (m n e : ℕ) → IsFirstCharacter s m n → n ≤ e → e ≤ length s → IsUtf8 (drop n (take e s)) → ((j : ℕ) → WholeCharacter s e j → ⊥) → IsFirstChunk s m e
 with_character s m n e f ordered within u none =
     let fits = character_fits s m n f.whole in
-    let bare = not_covered s m f.bare in
     let more : m + (n - m) ≡ n = omega (arith, fits) in
     let x = drop m (take e s) in
     let first : IsUtf8 (take (n - m) x) =
     subst IsUtf8 (drop-take m (n - m) (take e s)) (subst (λ k. IsUtf8 (drop m (take k (take e s)))) (sym more) (subst (λ l. IsUtf8 (drop m l)) (sym (take-take n e s ordered)) (text_grows s m m n (omega arith) (empty_text s m (omega (arith, fits))) f.whole))) in
     let behind : drop (n - m) x ≡ drop n (take e s) = drop-drop (n - m) m (take e s) ∙ ap (λ k. drop k (take e s)) more in
     let text : IsUtf8 x = subst IsUtf8 (take-append-drop (n - m) x) (IsUtf8-append (take (n - m) x) (drop (n - m) x) first (subst IsUtf8 (sym behind) u)) in
-    record {
-      ordered = omega (arith, fits, ordered);
-      within = within;
-      bare = bare;
-      text = text;
-      some = λ _. omega (arith, fits, ordered);
-      ended = λ lt c.
-          let from = c.from in
-          ⊎_elim (λ q. none c.end (subst (λ x. WholeCharacter s x c.end) q c.whole)) (λ ne. text_in_rest s m e (omega (arith, fits, ordered)) within bare text c.start c.end c.whole (omega arith) c.below) (cases_eq c.start e);
-    }
+    first_from_ends s m e (record { bare = f.bare; started = λ _. (n, f.whole); ordered = omega (arith, fits, ordered); within = within; text = text; ended = none })
 
 -- and where there is none, all is the part
 pub without_character : (s : List ℕ) → ((k j : ℕ) → WholeCharacter s k j → ⊥) → IsFirstChunk s (length s) (length s)
-without_character s h = record {
-  ordered = omega arith;
-  within = omega arith;
-  bare = not_covered s (length s) (λ k j _. h k j);
-  text = empty_text s (length s) (omega arith);
-  some = λ lt. absurd (omega (arith, lt));
-  ended = λ lt. absurd (omega (arith, lt));
-}
+without_character s h =
+    first_from_ends s (length s) (length s) (record { bare = λ k j _. h k j; started = λ lt. absurd (omega (arith, lt)); ordered = omega arith; within = omega arith; text = empty_text s (length s) (omega arith); ended = h (length s) })
 
 module _ (s : List ℕ) (m e : ℕ) (h : IsFirstChunk s m e) where
   -- where the text isn't empty, both its edges are boundaries
