@@ -42,16 +42,13 @@ pub fn utf8_fault(bytes: &[u8]) -> Option<(usize, Option<u8>)>
 }
 
 /// How many of the first 64 bytes are ASCII before one that isn't. In a loop over faults that
-/// stand close together, that is mostly the first, or one of the first 16.
+/// stand close together, that is mostly one of the first 16.
 #[inline(always)]
 fn ascii_len(bytes: &[u8]) -> usize
     requires { 64 ≤ length bytes.now }
     ensures within { result ≤ 64 }
     ensures text { IsUtf8 (take result bytes.now) }
 {
-    if bytes[0] >= 0x80 {
-        return 0;
-    }
     let near = ascii_of_16(bytes);
     if near < 16 {
         near
@@ -60,7 +57,7 @@ fn ascii_len(bytes: &[u8]) -> usize
     }
 }
 
-/// Where up to eight characters behind a text end, or the fault among them. Where faults stand
+/// Where up to four characters behind a text end, or the fault among them. Where faults stand
 /// close together, a loop over them mostly needs nothing more.
 #[inline(always)]
 fn few_characters(bytes: &[u8], from: usize) -> Result<usize, (usize, Option<u8>)>
@@ -70,7 +67,7 @@ fn few_characters(bytes: &[u8], from: usize) -> Result<usize, (usize, Option<u8>
     ensures read { MatchResult result (λ at. IsUtf8 (take at bytes.now)) (λ fault. IsUtf8Fault bytes.now fault.0 fault.1) }
 {
     let (_, mut rest) = bytes.split_at(from);
-    for _ in 0..8 {
+    for _ in 0..4 {
         match first_of(rest) {
             Some(Ok(len)) => {
                 let (_, behind) = rest.split_at(len);
