@@ -192,15 +192,18 @@ pub fn faulty() -> Vec<Long> {
 }
 
 /// Strings that only Unix has, one piece again and again, so that a processor foresees every
-/// branch: a path with a lone surrogate, names in Latin-1, and five ideographs before an FF.
+/// branch: a path with a lone surrogate, a name in Latin-1, and ideographs before an FF.
 pub fn periodic() -> Vec<Long> {
-    let ideographs = "\u{4E2D}".repeat(5).into_bytes();
-    let pieces: [(&str, &[u8]); 3] = [
-        ("one path", b"/usr/share/d\xC3\xA9\xF0\x9F\x98\x80\xED\xA0\x80.txt"),
-        ("one Latin-1 name", b"/Stra\xDFe/caf\xE9"),
-        ("five ideographs and a fault", &[&ideographs[..], b"\xFF"].concat()),
+    let ideographs = |count: usize| [&"\u{4E2D}".repeat(count).into_bytes()[..], b"\xFF"].concat();
+    let pieces: [(&str, &[u8]); 6] = [
+        ("a path with a surrogate", b"/usr/share/d\xC3\xA9\xF0\x9F\x98\x80\xED\xA0\x80.txt"),
+        ("a name in Latin-1", b"/Stra\xDFe/caf\xE9"),
+        ("two ideographs and FF", &ideographs(2)),
+        ("five ideographs and FF", &ideographs(5)),
+        ("eight ideographs and FF", &ideographs(8)),
+        ("sixteen ideographs and FF", &ideographs(16)),
     ];
-    pieces.map(|(name, piece)| named(&format!("{name}, repeated"), 1, piece.repeat((1 << 20) / piece.len()))).into()
+    pieces.map(|(name, piece)| named(name, 1, piece.repeat((1 << 20) / piece.len()))).into()
 }
 
 /// 10,000 short strings.
