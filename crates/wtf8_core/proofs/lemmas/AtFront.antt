@@ -61,7 +61,7 @@ pub second_of_two : (b x : ℕ) → b < 0xE0 → IsContinuation x → is_in_rang
 second_of_two b x l k = grind (arith, nat_tests, l, k)
 
 pub no_second_of_two : (b x : ℕ) → b < 0xE0 → (IsContinuation x → ⊥) → is_in_range (second_byte_min b) (second_byte_max b) x ≡ false
-no_second_of_two b x l n = ap (λ t. t) (grind (arith, nat_tests, l) ∙ not_in_range 0x80 0xBF x n)
+no_second_of_two b x l n = grind (arith, nat_tests, l) ∙ not_in_range 0x80 0xBF x n
 
 module _ (r : List ℕ) (long : 4 ≤ length r) (high : 0x80 ≤ get_or r 0 0) where
   -- what the first four bytes are where a character begins there

@@ -243,16 +243,9 @@ module _ (bytes : List ℕ) where
       let e : suc (at + k) ≡ at + suc k = omega arith in
       subst (KeepsPattern surrogates bytes) e (one_ascii surrogates (at + k) (subst (λ m. get_or Q m 0 < 0x80) before (last_ascii at k less u)) (low k (omega arith)) (more_ascii surrogates at k less u f))
 
--- ASCII at the front
-module _ (bytes : List ℕ) (n : ℕ) (low : (i : ℕ) → i < n → get_or bytes i 0 < 0x80) where
-  pub ascii_keeps : (surrogates : Bool) → KeepsPattern surrogates bytes n
-  ascii_keeps surrogates =
-      let e : 0 + n ≡ n = omega arith in
-      subst (KeepsPattern surrogates bytes) e
-      (more_ascii bytes surrogates 0 n (λ i h. let f : i ≡ 0 + i = omega arith in subst (λ k. get_or bytes k 0 < 0x80) f (low i h)) (omega arith) (no_pattern surrogates bytes))
-
-  pub ascii_is_utf8 : n ≤ length bytes → IsUtf8 (take n bytes)
-  ascii_is_utf8 h = front_is_utf8 false bytes n refl (by_ascii false bytes n h low)
+-- ASCII at the front is a text
+pub ascii_is_utf8 : (bytes : List ℕ) (n : ℕ) → ((i : ℕ) → i < n → get_or bytes i 0 < 0x80) → n ≤ length bytes → IsUtf8 (take n bytes)
+ascii_is_utf8 bytes n low h = front_is_utf8 false bytes n refl (by_ascii false bytes n h low)
 
 -- the window that is copied into 68 zeros
 copied_into : (zs : List ℕ) → length zs ≡ 68 → ((k : ℕ) → get_or zs k 0 ≡ 0) → (bytes : List ℕ) (at b n : ℕ) (part : List ℕ) → at ≤ length bytes → b ≡ min at 4 → n ≡ min (length bytes - at) 64
