@@ -4,8 +4,8 @@ ghost use Rattle.wtf8_core.specs.PairBits.{wrong_bits, unlike_pair};
 ghost use Rattle.wtf8_core.specs.Neighbours.{AllMayStand, AllPlain};
 
 use crate::lanes::{
-    apart, are_zero, joined, later_bit, load, masked, others_before, pair_bits, turned,
-    zeros_before,
+    apart, are_zero, joined, later_bit, load, masked, others_before, pair_bits, pair_bits_of_16,
+    turned, zeros_before,
 };
 use std::simd::prelude::*;
 
@@ -18,6 +18,17 @@ fn wrong_bits(window: &[u8]) -> u8x64
         ≡ wrong_bits (slice_index window.now (1 + i)) (slice_index window.now (2 + i)) (slice_index window.now (3 + i)) (slice_index window.now (4 + i)) }
 {
     let pairs = pair_bits(load(window, 3), load(window, 4));
+    apart(pairs, later_bit(load(window, 1), load(window, 2)))
+}
+
+/// The same of the 16 bytes behind the first four.
+#[inline(always)]
+fn wrong_bits_of_16(window: &[u8]) -> u8x16
+    requires { 20 ≤ length window.now }
+    ensures { (i : ℕ) → i < 16 → slice_index result i
+        ≡ wrong_bits (slice_index window.now (1 + i)) (slice_index window.now (2 + i)) (slice_index window.now (3 + i)) (slice_index window.now (4 + i)) }
+{
+    let pairs = pair_bits_of_16(load(window, 3), load(window, 4));
     apart(pairs, later_bit(load(window, 1), load(window, 2)))
 }
 
@@ -66,4 +77,16 @@ fn kept_with_surrogates(wrong: u8x64, window: &[u8]) -> usize
     ensures pattern { AllMayStand result window.now }
 {
     zeros_before(masked(wrong, 0xBF)).min(others_before(unlike_pair(window)))
+}
+
+/// How many of the 16 bytes behind the first four may stand where they do in UTF-8, before one
+/// that may not.
+#[inline(always)]
+pub(crate) fn kept_of_16(window: &[u8]) -> usize
+    requires { 20 ≤ length window.now }
+    ensures within { result ≤ 16 }
+    ensures pattern { AllMayStand result window.now }
+    ensures plain { AllPlain result window.now }
+{
+    zeros_before(wrong_bits_of_16(window)).min(16)
 }

@@ -1,13 +1,13 @@
-//! How far bytes are well formed, 64 at a time.
+//! How far bytes are well formed, 64 at a time, or 16 where a fault may be near.
 //!
 //! A front that is found is well formed; that a front as long as can be is found, nobody relies on.
-ghost use Rattle.std.specs.Prelude.{Bool, ◌≡◌, ◌∷◌, ℕ, suc, ◌+◌, ◌-◌, ◌≤◌, ◌<◌, length, true, IsTrue, slice_index};
+ghost use Rattle.std.specs.Prelude.{Bool, ◌≡◌, ◌∷◌, ℕ, suc, ◌+◌, ◌-◌, ◌≤◌, ◌<◌, length, true, false, IsTrue, MatchResult, slice_index};
 ghost use Rattle.std.specs.Int.{is_in_range};
 ghost use Rattle.wtf8_core.specs.Wtf8.{last_behind};
 ghost use Rattle.wtf8_core.specs.Surrogate.{is_high};
 ghost use Rattle.wtf8_core.specs.SpelledFront.{IsSpelledFront, KeepsPattern, behind_zeros};
 
-use crate::blocks::kept_len;
+use crate::blocks::{kept_len, kept_of_16};
 use crate::byte::is_continuation;
 use crate::lanes::{are_ascii, load};
 
@@ -80,6 +80,40 @@ fn front_in_place(bytes: &[u8], at: usize, surrogates: bool) -> usize
     front_with_rest(bytes, end, surrogates)
 }
 
+/// How far bytes that keep to the pattern of UTF-8 up to a place go on to keep to it, by at most
+/// eight steps of 16; or the front where one of them doesn't.
+#[inline(always)]
+pub(crate) fn near_front(bytes: &[u8], at: usize) -> Result<usize, usize>
+    requires within { at ≤ length bytes.now }
+    requires kept { KeepsPattern false bytes.now at }
+    ensures within { MatchResult result (λ end. end ≤ length bytes.now) (λ front. front ≤ length bytes.now) }
+    ensures front { MatchResult result (λ end. KeepsPattern false bytes.now end) (λ front. IsSpelledFront false bytes.now front) }
+{
+    let mut end = at;
+    for _ in 0..8 {
+        if end < 4 || bytes.len() - end < 16 {
+            return Ok(end);
+        }
+        let kept = step_len(bytes, end);
+        end += kept;
+        if kept < 16 {
+            return Err(start_before(bytes, end));
+        }
+    }
+    Ok(end)
+}
+
+/// How many of the next 16 bytes keep to the pattern of UTF-8, before one that doesn't.
+#[inline(always)]
+fn step_len(bytes: &[u8], at: usize) -> usize
+    requires from { 4 ≤ at }
+    requires room { at + 16 ≤ length bytes.now }
+    ensures within { result ≤ 16 }
+    ensures kept { KeepsPattern false bytes.now at → KeepsPattern false bytes.now (at + result) }
+{
+    kept_of_16(&bytes[at - 4..])
+}
+
 /// Whether such a front ends in a high surrogate.
 #[inline(always)]
 pub(crate) fn is_behind_high(bytes: &[u8], at: usize) -> bool
@@ -113,7 +147,7 @@ fn ascii_end(bytes: &[u8], at: usize) -> usize
     ensures within { result ≤ length bytes.now }
     ensures kept { (surrogates : Bool) → KeepsPattern surrogates bytes.now at → KeepsPattern surrogates bytes.now result }
 {
-    if bytes.len() - at < 64 || !is_ascii_block(bytes, at) || !is_behind_ascii(bytes, at) {
+    if bytes.len() - at < 64 || !is_behind_ascii(bytes, at) || !is_ascii_block(bytes, at) {
         return at;
     }
     let mut end = at + 64;

@@ -32,29 +32,29 @@ const SECOND_HIGH: [u8; 64] = [
     1, 158, 174, 230, 230, 1, 1, 1, 1,
 ];
 
-/// The 64 bytes from place `from` on.
+/// The next N bytes from place `from` on.
 #[inline(always)]
-pub(crate) fn load(bytes: &[u8], from: usize) -> u8x64
-    requires { from + 64 ≤ length bytes.now }
-    ensures { (i : ℕ) → i < 64 → slice_index result i ≡ slice_index bytes.now (from + i) }
+pub(crate) fn load<const N: usize>(bytes: &[u8], from: usize) -> Simd<u8, N>
+    requires { from + N ≤ length bytes.now }
+    ensures { (i : ℕ) → i < N → slice_index result i ≡ slice_index bytes.now (from + i) }
 {
-    u8x64::from_slice(&bytes[from..])
+    Simd::from_slice(&bytes[from..])
 }
 
 /// Each lane's high half.
 #[inline(always)]
-fn high_halves(bytes: u8x64) -> u8x64
-    ensures { (i : ℕ) → i < 64 → slice_index result i ≡ slice_index bytes i / 16 }
+fn high_halves<const N: usize>(bytes: Simd<u8, N>) -> Simd<u8, N>
+    ensures { (i : ℕ) → i < N → slice_index result i ≡ slice_index bytes.entry i / 16 }
 {
-    bytes >> u8x64::splat(4)
+    bytes >> Simd::splat(4)
 }
 
 /// Each lane's bits that the mask has.
 #[inline(always)]
-pub(crate) fn masked(bytes: u8x64, mask: u8) -> u8x64
-    ensures { (i : ℕ) → i < 64 → slice_index result i ≡ bit_and (slice_index bytes i) mask }
+pub(crate) fn masked<const N: usize>(bytes: Simd<u8, N>, mask: u8) -> Simd<u8, N>
+    ensures { (i : ℕ) → i < N → slice_index result i ≡ bit_and (slice_index bytes.entry i) mask }
 {
-    bytes & u8x64::splat(mask)
+    bytes & Simd::splat(mask)
 }
 
 /// Each lane with the bits of a value turned.
@@ -67,34 +67,34 @@ pub(crate) fn turned(bytes: u8x64, value: u8) -> u8x64
 
 /// The bits of both.
 #[inline(always)]
-pub(crate) fn joined(a: u8x64, b: u8x64) -> u8x64
-    ensures { (i : ℕ) → i < 64 → slice_index result i ≡ bit_or (slice_index a i) (slice_index b i) }
+pub(crate) fn joined<const N: usize>(a: Simd<u8, N>, b: Simd<u8, N>) -> Simd<u8, N>
+    ensures { (i : ℕ) → i < N → slice_index result i ≡ bit_or (slice_index a.entry i) (slice_index b.entry i) }
 {
     a | b
 }
 
 /// The bits that both have.
 #[inline(always)]
-fn common(a: u8x64, b: u8x64) -> u8x64
-    ensures { (i : ℕ) → i < 64 → slice_index result i ≡ bit_and (slice_index a i) (slice_index b i) }
+fn common<const N: usize>(a: Simd<u8, N>, b: Simd<u8, N>) -> Simd<u8, N>
+    ensures { (i : ℕ) → i < N → slice_index result i ≡ bit_and (slice_index a.entry i) (slice_index b.entry i) }
 {
     a & b
 }
 
 /// The bits that one of the two has.
 #[inline(always)]
-pub(crate) fn apart(a: u8x64, b: u8x64) -> u8x64
-    ensures { (i : ℕ) → i < 64 → slice_index result i ≡ bit_xor (slice_index a i) (slice_index b i) }
+pub(crate) fn apart<const N: usize>(a: Simd<u8, N>, b: Simd<u8, N>) -> Simd<u8, N>
+    ensures { (i : ℕ) → i < N → slice_index result i ≡ bit_xor (slice_index a.entry i) (slice_index b.entry i) }
 {
     a ^ b
 }
 
 /// How far each lane is above a value, 0 where it is below.
 #[inline(always)]
-fn above(bytes: u8x64, value: u8) -> u8x64
-    ensures { (i : ℕ) → i < 64 → slice_index result i ≡ slice_index bytes i - value }
+fn above<const N: usize>(bytes: Simd<u8, N>, value: u8) -> Simd<u8, N>
+    ensures { (i : ℕ) → i < N → slice_index result i ≡ slice_index bytes.entry i - value }
 {
-    bytes.saturating_sub(u8x64::splat(value))
+    bytes.saturating_sub(Simd::splat(value))
 }
 
 /// The entries of a table, four copies of 16, at these places.
@@ -105,6 +105,15 @@ fn entries(table: [u8; 64], places: u8x64) -> u8x64
     ensures { (i : ℕ) → i < 64 → slice_index result i ≡ slice_index table (slice_index places i) }
 {
     u8x64::from_array(table).swizzle_dyn_within::<16>(places)
+}
+
+/// The same of 16 lanes, by one copy.
+#[inline(always)]
+fn entries_of_16(table: [u8; 64], places: u8x16) -> u8x16
+    requires places { (i : ℕ) → i < 16 → slice_index places i < 16 }
+    ensures { (i : ℕ) → i < 16 → slice_index result i ≡ slice_index table (slice_index places i) }
+{
+    u8x16::from_slice(&table).swizzle_dyn_within::<16>(places)
 }
 
 /// What is wrong with each second byte behind its first.
@@ -120,10 +129,23 @@ pub(crate) fn pair_bits(first: u8x64, second: u8x64) -> u8x64
     )
 }
 
+/// The same of 16 lanes.
+#[inline(always)]
+pub(crate) fn pair_bits_of_16(first: u8x16, second: u8x16) -> u8x16
+    ensures { (i : ℕ) → i < 16 → slice_index result i ≡ pair_bits (slice_index first i) (slice_index second i) }
+{
+    let by_high = entries_of_16(FIRST_HIGH, high_halves(first));
+    let by_low = entries_of_16(FIRST_LOW, masked(first, 15));
+    common(
+        common(by_high, by_low),
+        entries_of_16(SECOND_HIGH, high_halves(second)),
+    )
+}
+
 /// 128 where the byte three before leads four, or that two before leads three or four, else 0.
 #[inline(always)]
-pub(crate) fn later_bit(three: u8x64, two: u8x64) -> u8x64
-    ensures { (i : ℕ) → i < 64 → slice_index result i ≡ later_bit (slice_index three i) (slice_index two i) }
+pub(crate) fn later_bit<const N: usize>(three: Simd<u8, N>, two: Simd<u8, N>) -> Simd<u8, N>
+    ensures { (i : ℕ) → i < N → slice_index result i ≡ later_bit (slice_index three.entry i) (slice_index two.entry i) }
 {
     masked(joined(above(three, 0x70), above(two, 0x60)), 0x80)
 }
@@ -139,11 +161,12 @@ pub(crate) fn are_zero(lanes: u8x64) -> bool
 
 /// How many lanes are 0 before the first that isn't.
 #[inline(always)]
-pub(crate) fn zeros_before(lanes: u8x64) -> usize
+pub(crate) fn zeros_before<const N: usize>(lanes: Simd<u8, N>) -> usize
+    requires { N ≤ 64 }
     ensures within { result ≤ 64 }
-    ensures zero { (i : ℕ) → i < result → slice_index lanes i ≡ 0 }
+    ensures zero { (i : ℕ) → i < result → i < N → slice_index lanes.entry i ≡ 0 }
 {
-    lanes.simd_ne(u8x64::splat(0)).to_bitmask().trailing_zeros() as usize
+    lanes.simd_ne(Simd::splat(0)).to_bitmask().trailing_zeros() as usize
 }
 
 /// How many lanes aren't 0 before the first that is.

@@ -1,12 +1,13 @@
 //! The first fault of bytes that aren't UTF-8.
-ghost use Rattle.std.specs.Prelude.{◌≡◌, ◌≤◌, MatchOption, MatchResult, IfSome, IfOk, Some, length, take};
+ghost use Rattle.std.specs.Prelude.{◌≡◌, ◌≤◌, false, MatchOption, MatchResult, IfSome, IfOk, Some, length, take};
 ghost use Rattle.std.specs.Int.{is_in_range};
 ghost use Rattle.std.specs.Str.{IsUtf8};
 ghost use Rattle.std.specs.Str.Lossy.{second_byte_min, second_byte_max};
+ghost use Rattle.wtf8_core.specs.SpelledFront.{KeepsPattern};
 ghost use Rattle.wtf8_core.specs.Utf8.{IsUtf8Fault, IsAtFront};
 
 use crate::byte::is_continuation;
-use crate::fronts::front_from;
+use crate::fronts::{front_from, near_front};
 use crate::lanes::{ascii_before, ascii_of_16, load};
 
 /// The first fault of bytes that aren't UTF-8, `None` for UTF-8 (RFC 3629, section 4).
@@ -36,7 +37,7 @@ pub fn utf8_fault(bytes: &[u8]) -> Option<(usize, Option<u8>)>
         return fault_behind(bytes, ascii);
     }
     match few_characters(bytes, ascii) {
-        Ok(at) => fault_behind(bytes, at),
+        Ok(at) => fault_near(bytes, at),
         Err(fault) => Some(fault),
     }
 }
@@ -57,7 +58,7 @@ fn ascii_len(bytes: &[u8]) -> usize
     }
 }
 
-/// Where up to four characters behind a text end, or the fault among them. Where faults stand
+/// Where up to three characters behind a text end, or the fault among them. Where faults stand
 /// close together, a loop over them mostly needs nothing more.
 #[inline(always)]
 fn few_characters(bytes: &[u8], from: usize) -> Result<usize, (usize, Option<u8>)>
@@ -67,7 +68,7 @@ fn few_characters(bytes: &[u8], from: usize) -> Result<usize, (usize, Option<u8>
     ensures read { MatchResult result (λ at. IsUtf8 (take at bytes.now)) (λ fault. IsUtf8Fault bytes.now fault.0 fault.1) }
 {
     let (_, mut rest) = bytes.split_at(from);
-    for _ in 0..4 {
+    for _ in 0..3 {
         match first_of(rest) {
             Some(Ok(len)) => {
                 let (_, behind) = rest.split_at(len);
@@ -127,32 +128,63 @@ fn is_lead(byte: u8) -> bool
 }
 
 /// Whether a byte stands behind such a lead in some character (the table of RFC 3629, section 4).
+/// By leads of three bytes and of four apart, it stays comparisons, and becomes no table of jumps.
 #[inline(always)]
 fn is_second(lead: u8, byte: u8) -> bool
     ensures { result ≡ is_in_range (second_byte_min lead) (second_byte_max lead) byte }
 {
-    match lead {
-        0xE0 => (0xA0..=0xBF).contains(&byte),
-        0xED => (0x80..=0x9F).contains(&byte),
-        0xF0 => (0x90..=0xBF).contains(&byte),
-        0xF4 => (0x80..=0x8F).contains(&byte),
-        _ => is_continuation(byte),
+    if lead < 0xF0 {
+        match lead {
+            0xE0 => (0xA0..=0xBF).contains(&byte),
+            0xED => (0x80..=0x9F).contains(&byte),
+            _ => is_continuation(byte),
+        }
+    } else {
+        match lead {
+            0xF0 => (0x90..=0xBF).contains(&byte),
+            0xF4 => (0x80..=0x8F).contains(&byte),
+            _ => is_continuation(byte),
+        }
     }
 }
 
-/// The first fault of bytes whose first `at` are UTF-8.
-fn fault_behind(bytes: &[u8], at: usize) -> Option<(usize, Option<u8>)>
+/// The first fault of bytes whose first `at` are UTF-8, which isn't far in most of them.
+#[inline(always)]
+fn fault_near(bytes: &[u8], at: usize) -> Option<(usize, Option<u8>)>
     requires within { at ≤ length bytes.now }
     requires text { IsUtf8 (take at bytes.now) }
     ensures { MatchOption result (IsUtf8 bytes.now) (λ fault. IsUtf8Fault bytes.now fault.0 fault.1) }
 {
-    match few_characters(bytes, front_from(bytes, at, false)) {
+    match near_front(bytes, at) {
+        Ok(end) => fault_behind(bytes, end),
+        Err(front) => fault_from(bytes, front),
+    }
+}
+
+/// The first fault of bytes that keep to the pattern of UTF-8 up to a place.
+fn fault_behind(bytes: &[u8], at: usize) -> Option<(usize, Option<u8>)>
+    requires within { at ≤ length bytes.now }
+    requires kept { KeepsPattern false bytes.now at }
+    ensures { MatchOption result (IsUtf8 bytes.now) (λ fault. IsUtf8Fault bytes.now fault.0 fault.1) }
+{
+    fault_from(bytes, front_from(bytes, at, false))
+}
+
+/// The first fault of bytes whose first `at` are UTF-8, where it or the end is a few characters
+/// behind.
+#[inline(always)]
+fn fault_from(bytes: &[u8], at: usize) -> Option<(usize, Option<u8>)>
+    requires within { at ≤ length bytes.now }
+    requires text { IsUtf8 (take at bytes.now) }
+    ensures { MatchOption result (IsUtf8 bytes.now) (λ fault. IsUtf8Fault bytes.now fault.0 fault.1) }
+{
+    match few_characters(bytes, at) {
         Ok(at) => last_fault(bytes, at),
         Err(fault) => Some(fault),
     }
 }
 
-/// The same, where the fault isn't far, or the end.
+/// The same by std's reader, which reads on to the fault or the end.
 #[inline(always)]
 fn last_fault(bytes: &[u8], at: usize) -> Option<(usize, Option<u8>)>
     requires within { at ≤ length bytes.now }

@@ -1,6 +1,6 @@
 -- The operations on vectors, lane by lane.
 use Rattle.std.proofs.Common.{◌≡◌, inl, inr, ◌⊎◌, ⊎_elim, ℕ, zero, suc, ◌+◌, ◌-◌, ◌%◌, ◌^◌, ◌<◌, ◌≤◌, Bool, true, false, cond, ltb, List, [], ◌∷◌, ◌++◌, map, length, length-append, get_or, bit_or, replicate, not, refl, sym, ap, ◌∙◌, subst, arith, w8, Fits, eqb, eqb-true}
-use Rattle.std.proofs.lemmas.List.{length-map, get_or-map, get_or_append_left}
+use Rattle.std.proofs.lemmas.List.{length-map, length-replicate, get_or-map, get_or_append_left}
 use Rattle.std.specs.List.{range_with_len}
 use Rattle.std.proofs.lemmas.Simd.{Each1-get_or, get_or-chunk, get_or-zip2, pick_l-range_with_len, get_or-replicate, tops_compared, zip2_splat, zip2_splat_left, length-sel_l, get_or-sel_l, mask_l-mod, bitmask_splat, trailing_mask_l}
 use Rattle.std.proofs.lemmas.Bool.{not-true, not-false, cases_lt}
@@ -10,36 +10,36 @@ use Rattle.std.specs.Int.Count.{count_trailing_zeros}
 use Rattle.std.proofs.lemmas.Bool.Decides.{nat_tests}
 use lib.Lanes.{zip2, pick_l, sel_l, mask_l, top, Each1}
 
--- an operator between a vector and one value
-pub lane_with : (f : ℕ → ℕ → ℕ) (xs : List ℕ) (y : ℕ) → length xs ≡ 64 → (i : ℕ) → i < 64 → get_or (zip2 f xs (replicate 64 y)) i 0 ≡ f (get_or xs i 0) y
-lane_with f xs y p i h = get_or-zip2 f xs (replicate 64 y) i 0 0 0 (omega (arith, p, h)) (omega (arith, h)) ∙ ap (f (get_or xs i 0)) (get_or-replicate 64 i y 0 h)
+-- an operator between a vector of n lanes and one value
+pub lane_with : (f : ℕ → ℕ → ℕ) (xs : List ℕ) (n y : ℕ) → length xs ≡ n → (i : ℕ) → i < n → get_or (zip2 f xs (replicate n y)) i 0 ≡ f (get_or xs i 0) y
+lane_with f xs n y p i h = get_or-zip2 f xs (replicate n y) i 0 0 0 (omega (arith, p, h)) (omega (arith, h, length-replicate n y)) ∙ ap (f (get_or xs i 0)) (get_or-replicate n i y 0 h)
 
 -- the greater of two, less the second, is how far the first is above it
 lifted : (a b : ℕ) → a < 256 → b < 256 → (cond (ltb a b) b a + (2 ^ 8 - b)) % 2 ^ 8 ≡ a - b
 lifted a b l m = grind (arith, nat_tests)
 
 -- the greater of a lane and one value
-greater : (xs : List ℕ) (y : ℕ) → length xs ≡ 64 → (i : ℕ) → i < 64
-    → get_or (sel_l (map (top 7) (zip2 (λ a b. cond (ltb a b) 255 0) xs (replicate 64 y))) (replicate 64 y) xs) i 0 ≡ cond (ltb (get_or xs i 0) y) y (get_or xs i 0)
-greater xs y p i h =
+greater : (xs : List ℕ) (n y : ℕ) → length xs ≡ n → (i : ℕ) → i < n
+    → get_or (sel_l (map (top 7) (zip2 (λ a b. cond (ltb a b) 255 0) xs (replicate n y))) (replicate n y) xs) i 0 ≡ cond (ltb (get_or xs i 0) y) y (get_or xs i 0)
+greater xs n y p i h =
     let below : List Bool = map (λ x. ltb x y) xs in
-    let many : length below ≡ 64 = length-map xs (λ x. ltb x y) ∙ p in
-    rw (tops_compared w8 ltb xs (replicate 64 y), zip2_splat ltb xs 64 y p)
-    (get_or-sel_l below (replicate 64 y) xs i 0 (omega (arith, many, h)) (omega (arith, h)) (omega (arith, p, h))
-    ∙ rw (get_or-map (λ x. ltb x y) xs i 0 false (omega (arith, p, h)), get_or-replicate 64 i y 0 h) refl)
+    let many : length below ≡ n = length-map xs (λ x. ltb x y) ∙ p in
+    rw (tops_compared w8 ltb xs (replicate n y), zip2_splat ltb xs n y p)
+    (get_or-sel_l below (replicate n y) xs i 0 (omega (arith, many, h)) (omega (arith, h, length-replicate n y)) (omega (arith, p, h))
+    ∙ rw (get_or-map (λ x. ltb x y) xs i 0 false (omega (arith, p, h)), get_or-replicate n i y 0 h) refl)
 
-length-greater : (xs : List ℕ) (y : ℕ) → length xs ≡ 64 → length (sel_l (map (top 7) (zip2 (λ a b. cond (ltb a b) 255 0) xs (replicate 64 y))) (replicate 64 y) xs) ≡ 64
-length-greater xs y p =
+length-greater : (xs : List ℕ) (n y : ℕ) → length xs ≡ n → length (sel_l (map (top 7) (zip2 (λ a b. cond (ltb a b) 255 0) xs (replicate n y))) (replicate n y) xs) ≡ n
+length-greater xs n y p =
     let below : List Bool = map (λ x. ltb x y) xs in
-    let many : length below ≡ 64 = length-map xs (λ x. ltb x y) ∙ p in
-    rw (tops_compared w8 ltb xs (replicate 64 y), zip2_splat ltb xs 64 y p) (length-sel_l below (replicate 64 y) xs many (many ∙ sym p) ∙ many)
+    let many : length below ≡ n = length-map xs (λ x. ltb x y) ∙ p in
+    rw (tops_compared w8 ltb xs (replicate n y), zip2_splat ltb xs n y p) (length-sel_l below (replicate n y) xs (many ∙ sym (length-replicate n y)) (many ∙ sym p) ∙ many)
 
 -- `saturating_sub` of one value
-pub lane_above : (xs : List ℕ) (y : ℕ) → length xs ≡ 64 → Each1 (Fits w8) xs → y < 256 → (i : ℕ) → i < 64
-    → get_or (zip2 (λ a b. (a + (2 ^ 8 - b)) % 2 ^ 8) (sel_l (map (top 7) (zip2 (λ a b. cond (ltb a b) 255 0) xs (replicate 64 y))) (replicate 64 y) xs) (replicate 64 y)) i 0 ≡ get_or xs i 0 - y
-lane_above xs y p fits u i h =
-    lane_with (λ a b. (a + (2 ^ 8 - b)) % 2 ^ 8) _ y (length-greater xs y p) i h
-    ∙ ap (λ g. (g + (2 ^ 8 - y)) % 2 ^ 8) (greater xs y p i h)
+pub lane_above : (xs : List ℕ) (n y : ℕ) → length xs ≡ n → Each1 (Fits w8) xs → y < 256 → (i : ℕ) → i < n
+    → get_or (zip2 (λ a b. (a + (2 ^ 8 - b)) % 2 ^ 8) (sel_l (map (top 7) (zip2 (λ a b. cond (ltb a b) 255 0) xs (replicate n y))) (replicate n y) xs) (replicate n y)) i 0 ≡ get_or xs i 0 - y
+lane_above xs n y p fits u i h =
+    lane_with (λ a b. (a + (2 ^ 8 - b)) % 2 ^ 8) _ n y (length-greater xs n y p) i h
+    ∙ ap (λ g. (g + (2 ^ 8 - y)) % 2 ^ 8) (greater xs n y p i h)
     ∙ lifted (get_or xs i 0) y (Each1-get_or (Fits w8) xs i 0 (omega (arith, p, h)) fits).fits u
 
 -- a mask with no bit set
@@ -100,11 +100,15 @@ none_before test xs p i l h =
     cases_zero zero = inl refl
     cases_zero (suc n) = inr (omega arith)
 
-pub none_passes_before : (t : ℕ → ℕ → Bool) (xs : List ℕ) (y n : ℕ) → length xs ≡ 64 → n ≡ count_trailing_zeros 64 (mask_l (map (top 7) (zip2 (λ a b. cond (t a b) 255 0) xs (replicate 64 y))) % 2 ^ 64)
+pub none_passes_before : (t : ℕ → ℕ → Bool) (xs : List ℕ) (k y n : ℕ) → k ≤ 64 → length xs ≡ k → n ≡ count_trailing_zeros 64 (mask_l (map (top 7) (zip2 (λ a b. cond (t a b) 255 0) xs (replicate k y))) % 2 ^ 64)
+    → (i : ℕ) → i < n → i < k → t (get_or xs i 0) y ≡ false
+none_passes_before t xs k y n few p e i h l =
+    none_before (λ x. t x y) xs (omega (arith, few, p)) i (omega (arith, p, l)) (subst (λ m. i < m) (e ∙ ap (count_trailing_zeros 64) (bitmask_splat w8 t xs k y p few)) h)
+
+pub none_of_64_passes_before : (t : ℕ → ℕ → Bool) (xs : List ℕ) (y n : ℕ) → length xs ≡ 64 → n ≡ count_trailing_zeros 64 (mask_l (map (top 7) (zip2 (λ a b. cond (t a b) 255 0) xs (replicate 64 y))) % 2 ^ 64)
     → (i : ℕ) → i < n → t (get_or xs i 0) y ≡ false
-none_passes_before t xs y n p e i h =
-    let f = e ∙ ap (count_trailing_zeros 64) (bitmask_splat w8 t xs 64 y p (omega arith)) in
-    none_before (λ x. t x y) xs (omega (arith, p)) i (omega (arith, p, h, f, trailing_le 64 (mask_l (map (λ x. t x y) xs)))) (subst (λ k. i < k) f h)
+none_of_64_passes_before t xs y n p e i h =
+    none_passes_before t xs 64 y n (omega arith) p e i h (omega (arith, h, e, trailing_le 64 (mask_l (map (top 7) (zip2 (λ a b. cond (t a b) 255 0) xs (replicate 64 y))) % 2 ^ 64)))
 
 -- the same of k lanes, with the value on the left
 pub none_passes_left_before : (t : ℕ → ℕ → Bool) (xs : List ℕ) (k y n : ℕ) → k ≤ 64 → length xs ≡ k → n ≡ count_trailing_zeros 64 (mask_l (map (top 7) (zip2 (λ a b. cond (t a b) 255 0) (replicate k y) xs)) % 2 ^ 64)

@@ -13,9 +13,9 @@ returns-then-are_zero-clause-plain c _ =
 pub returns-then-not-surrogates-clause-pattern : goal.returns-then-not-surrogates-clause-pattern
 returns-then-not-surrogates-clause-pattern c =
     let clear = c.zeros_before.ensures in
-    kept_by_zeros _ c.args.window.now c.wrong_bits-wrong.result (λ k. omega (arith, c.type_inv.window k)) (λ i h. c.wrong_bits-wrong.ensures i (omega (arith, h, clear.within))) clear.zero
+    kept_by_zeros _ c.args.window.now c.wrong_bits-wrong.result (λ k. omega (arith, c.type_inv.window k)) (λ i h. c.wrong_bits-wrong.ensures i (omega (arith, h, clear.within))) (λ i h. clear.zero i h (omega (arith, h, clear.within)))
 
 pub returns-then-not-surrogates-clause-plain : goal.returns-then-not-surrogates-clause-plain
 returns-then-not-surrogates-clause-plain c _ =
     let clear = c.zeros_before.ensures in
-    kept_plain _ c.args.window.now c.wrong_bits-wrong.result (λ k. omega (arith, c.type_inv.window k)) (λ i h. c.wrong_bits-wrong.ensures i (omega (arith, h, clear.within))) clear.zero
+    kept_plain _ c.args.window.now c.wrong_bits-wrong.result (λ k. omega (arith, c.type_inv.window k)) (λ i h. c.wrong_bits-wrong.ensures i (omega (arith, h, clear.within))) (λ i h. clear.zero i h (omega (arith, h, clear.within)))

@@ -9,5 +9,5 @@ returns-clause-pattern c =
     let low : c.min.result ≤ c.zeros_before.result = omega (arith, c.min.ensures) in
     let high : c.min.result ≤ c.others_before.result = omega (arith, c.min.ensures) in
     kept _ c.args.window.now c.args.wrong c.masked.result (λ k. omega (arith, c.type_inv.window k))
-    (λ i h. c.requires.wrong i (omega (arith, h, low, clear.within))) (λ i h. c.masked.ensures i (omega (arith, h, low, clear.within))) (λ i h. clear.zero i (omega (arith, h, low)))
+    (λ i h. c.requires.wrong i (omega (arith, h, low, clear.within))) (λ i h. c.masked.ensures i (omega (arith, h, low, clear.within))) (λ i h. clear.zero i (omega (arith, h, low)) (omega (arith, h, low, clear.within)))
     (λ i h. inr (λ e. other.other i (omega (arith, h, high)) (c.unlike_pair.ensures i (omega (arith, h, low, clear.within)) ∙ e)))

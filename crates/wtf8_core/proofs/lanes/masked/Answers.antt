@@ -3,4 +3,4 @@ use Rattle.wtf8_core.proofs.lemmas.Lanes.{lane_with}
 use Rattle.wtf8_core.proofs.lanes.masked.Goals as goal
 
 pub returns : goal.returns
-returns c = lane_with bit_and c.args.bytes c.args.mask c.fits-bytes.0
+returns g c = lane_with bit_and c.args.bytes _ c.args.mask c.fits-bytes.0

@@ -3,4 +3,4 @@ use Rattle.wtf8_core.proofs.lemmas.Lanes.{lane_with}
 use Rattle.wtf8_core.proofs.lanes.turned.Goals as goal
 
 pub returns : goal.returns
-returns c = lane_with bit_xor c.args.bytes c.args.value c.fits-bytes.0
+returns c = lane_with bit_xor c.args.bytes 64 c.args.value c.fits-bytes.0

@@ -4,4 +4,4 @@ use Rattle.wtf8_core.proofs.lemmas.Lanes.{none_passes_before}
 use Rattle.wtf8_core.proofs.lanes.zeros_before.Goals as goal
 
 pub returns-clause-zero : goal.returns-clause-zero
-returns-clause-zero c i h = eqb-true _ _ (not-false _ (none_passes_before (λ a b. not (eqb a b)) c.args.lanes 0 _ c.fits-lanes.0 refl i h))
+returns-clause-zero g c i h l = eqb-true _ _ (not-false _ (none_passes_before (λ a b. not (eqb a b)) c.args.lanes _ 0 _ c.requires c.fits-lanes.0 refl i h l))
