@@ -161,11 +161,7 @@ fn readings(bench: &mut Bench) {
             "Windows read_lossy",
             &name,
             bytes.len(),
-            [
-                Some(&mut || ours::windows_read_lossy(black_box(&bytes)) as u64),
-                None,
-                None,
-            ],
+            [Some(&mut || ours::windows_read_lossy(black_box(&bytes)) as u64), None, None],
         );
         bench.line(
             "wasm read_lossy",

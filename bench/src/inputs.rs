@@ -192,16 +192,18 @@ pub fn faulty() -> Vec<Long> {
 }
 
 /// Strings that only Unix has, one piece again and again, so that a processor foresees every
-/// branch: a path with a lone surrogate, a name in Latin-1, and ideographs before an FF.
+/// branch: a path with a lone surrogate, a name in Latin-1, and so many characters before an FF.
 pub fn periodic() -> Vec<Long> {
-    let ideographs = |count: usize| [&"\u{4E2D}".repeat(count).into_bytes()[..], b"\xFF"].concat();
-    let pieces: [(&str, &[u8]); 6] = [
+    let before_ff = |character: &str, count: usize| [character.repeat(count).as_bytes(), b"\xFF"].concat();
+    let pieces: [(&str, &[u8]); 8] = [
         ("a path with a surrogate", b"/usr/share/d\xC3\xA9\xF0\x9F\x98\x80\xED\xA0\x80.txt"),
         ("a name in Latin-1", b"/Stra\xDFe/caf\xE9"),
-        ("two ideographs and FF", &ideographs(2)),
-        ("five ideographs and FF", &ideographs(5)),
-        ("eight ideographs and FF", &ideographs(8)),
-        ("sixteen ideographs and FF", &ideographs(16)),
+        ("two ideographs and FF", &before_ff("\u{4E2D}", 2)),
+        ("four Cyrillic letters and FF", &before_ff("\u{44F}", 4)),
+        ("four ideographs and FF", &before_ff("\u{4E2D}", 4)),
+        ("four emoji and FF", &before_ff("\u{1F600}", 4)),
+        ("eight ideographs and FF", &before_ff("\u{4E2D}", 8)),
+        ("sixteen ideographs and FF", &before_ff("\u{4E2D}", 16)),
     ];
     pieces.map(|(name, piece)| named(name, 1, piece.repeat((1 << 20) / piece.len()))).into()
 }
