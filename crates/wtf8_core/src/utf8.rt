@@ -29,12 +29,15 @@ use crate::lanes::{ascii_before, ascii_of_16, load};
 pub fn utf8_fault(bytes: &[u8]) -> Option<(usize, Option<u8>)>
     ensures { MatchOption result (IsUtf8 bytes.now) (λ fault. IsUtf8Fault bytes.now fault.0 fault.1) }
 {
-    if bytes.len() < 64 {
-        return near_fault(bytes);
+    if bytes.len() < 16 {
+        return fault_from(bytes, 0);
     }
     let ascii = ascii_len(bytes);
     if ascii == 64 {
         return fault_behind(bytes, ascii);
+    }
+    if ascii >= 16 && bytes.len() < 64 {
+        return last_fault(bytes, ascii);
     }
     match few_characters(bytes, ascii) {
         Ok(at) => fault_near(bytes, at),
@@ -42,17 +45,19 @@ pub fn utf8_fault(bytes: &[u8]) -> Option<(usize, Option<u8>)>
     }
 }
 
-/// How many of the first 64 bytes are ASCII before one that isn't. In a loop over faults that
-/// stand close together, that is mostly one of the first 16.
+/// How many of the first 16 bytes, or 64 where there are as many, are ASCII before one that isn't.
+/// In a loop over faults that stand close together, that is mostly one of the first 16.
 #[inline(always)]
 fn ascii_len(bytes: &[u8]) -> usize
-    requires { 64 ≤ length bytes.now }
-    ensures within { result ≤ 64 }
+    requires { 16 ≤ length bytes.now }
+    ensures within { result ≤ length bytes.now }
     ensures text { IsUtf8 (take result bytes.now) }
 {
     let near = ascii_of_16(bytes);
     if near < 16 {
         near
+    } else if bytes.len() < 64 {
+        16
     } else {
         ascii_before(load(bytes, 0))
     }
@@ -155,6 +160,9 @@ fn fault_near(bytes: &[u8], at: usize) -> Option<(usize, Option<u8>)>
     requires text { IsUtf8 (take at bytes.now) }
     ensures { MatchOption result (IsUtf8 bytes.now) (λ fault. IsUtf8Fault bytes.now fault.0 fault.1) }
 {
+    if bytes.len() - at < 16 {
+        return last_fault(bytes, at);
+    }
     match near_front(bytes, at) {
         Ok(end) => fault_behind(bytes, end),
         Err(front) => fault_from(bytes, front),
@@ -195,17 +203,6 @@ fn last_fault(bytes: &[u8], at: usize) -> Option<(usize, Option<u8>)>
     match fault_by_std(rest) {
         Some((valid_up_to, error_len)) => Some((at + valid_up_to, error_len)),
         None => None,
-    }
-}
-
-/// The first fault of a short string.
-#[inline(always)]
-fn near_fault(bytes: &[u8]) -> Option<(usize, Option<u8>)>
-    ensures { MatchOption result (IsUtf8 bytes.now) (λ fault. IsUtf8Fault bytes.now fault.0 fault.1) }
-{
-    match first_of(bytes) {
-        Some(Err(error_len)) => Some((0, Some(error_len))),
-        _ => fault_by_std(bytes),
     }
 }
 

@@ -1,8 +1,7 @@
-use Rattle.std.proofs.Common.{arith}
 use Rattle.wtf8_core.proofs.lemmas.KeptTexts.{text_keeps}
 use Rattle.wtf8_core.proofs.utf8.utf8_fault.Goals as goal
 
 pub fault_behind-requires-clause-kept : goal.fault_behind-requires-clause-kept
 fault_behind-requires-clause-kept c =
     let e = c.ascii_len-ascii.ensures in
-    text_keeps c.args.bytes.now _ (omega (arith, e.within, c.if-bytes-lt64.false)) e.text
+    text_keeps c.args.bytes.now _ e.within e.text
