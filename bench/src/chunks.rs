@@ -1,5 +1,5 @@
 //! Chunks on Unix.
-use crate::inputs::{self, Long};
+use crate::inputs::{self, Long, Short};
 use crate::table::Bench;
 use crate::{ours, theirs};
 use crate_unix::OsStrBytesExt;
@@ -14,6 +14,27 @@ pub fn time(bench: &mut Bench) {
     for long in inputs::periodic() {
         line(bench, &long);
     }
+    bench.table("Chunks of short strings", "a call");
+    for (name, strings) in [("paths", inputs::paths()), ("arguments", inputs::arguments())] {
+        short(bench, name, &strings);
+    }
+    for (name, strings) in inputs::paths_beyond_ascii() {
+        short(bench, name, &strings);
+    }
+}
+
+/// One call for each short string.
+fn short(bench: &mut Bench, name: &str, strings: &Short) {
+    let all = |chunks: fn(&[u8]) -> usize| {
+        let chunks = black_box(chunks);
+        strings.texts().map(|text| chunks(text.as_bytes()) as u64).sum()
+    };
+    bench.line(
+        "utf8_chunks",
+        name,
+        strings.count(),
+        [Some(&mut || all(ours::chunks)), Some(&mut || all(|bytes| theirs::unix(bytes).utf8_chunks().count())), None],
+    );
 }
 
 fn line(bench: &mut Bench, Long { name, bytes }: &Long) {

@@ -110,6 +110,18 @@ fn letters(random: &mut Random, len: usize, (first, count): (u32, usize), least:
     cut(text, len)
 }
 
+fn cyrillic(random: &mut Random, len: usize) -> Vec<u8> {
+    letters(random, len, (0x430, 32), 3, 9)
+}
+
+fn cjk(random: &mut Random, len: usize) -> Vec<u8> {
+    letters(random, len, (0x4E00, 0x5000), 2, 6)
+}
+
+fn emoji(random: &mut Random, len: usize) -> Vec<u8> {
+    letters(random, len, (0x1F600, 0x50), 1, 3)
+}
+
 /// One of one to four bytes: half of them ASCII, a quarter of two bytes.
 fn any_char(random: &mut Random) -> char {
     match random.below(20) {
@@ -160,9 +172,9 @@ pub fn strings() -> Vec<Long> {
         ("ASCII", ascii),
         ("mixed", mixed),
         ("lone surrogates", lone_surrogates),
-        ("Cyrillic", |random, len| letters(random, len, (0x430, 32), 3, 9)),
-        ("CJK", |random, len| letters(random, len, (0x4E00, 0x5000), 2, 6)),
-        ("emoji", |random, len| letters(random, len, (0x1F600, 0x50), 1, 3)),
+        ("Cyrillic", cyrillic),
+        ("CJK", cjk),
+        ("emoji", emoji),
     ];
     let mut random = Random(42);
     let mut all = Vec::new();
@@ -252,4 +264,19 @@ pub fn paths() -> Short {
 pub fn arguments() -> Short {
     let mut random = Random(8);
     Short((0..10_000).map(|_| argument(&mut random)).collect())
+}
+
+/// Paths of 10 to 80 bytes whose names are letters of two, three and four bytes, and such of one to
+/// four.
+pub fn paths_beyond_ascii() -> [(&'static str, Short); 4] {
+    let kinds: [(&str, fn(&mut Random, usize) -> Vec<u8>); 4] =
+        [("Cyrillic paths", cyrillic), ("CJK paths", cjk), ("emoji paths", emoji), ("mixed paths", mixed)];
+    let mut random = Random(9);
+    kinds.map(|(name, make)| {
+        let mut text = || {
+            let len = 10 + random.below(71);
+            String::from_utf8(make(&mut random, len)).expect("these are texts")
+        };
+        (name, Short((0..10_000).map(|_| text()).collect()))
+    })
 }
