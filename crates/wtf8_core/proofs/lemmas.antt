@@ -46,3 +46,4 @@ pub mod PlacesInUnits
 pub mod PiecesInUnits
 pub mod Instances
 pub mod Order
+pub mod Writing

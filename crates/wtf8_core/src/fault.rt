@@ -1,7 +1,7 @@
 //! The faults of bytes, and their texts.
 ghost use Rattle.std.specs.Prelude.{◌≡◌, ◌∷◌, [], ◌<◌, ◌≤◌, Some};
 ghost use Rattle.std.specs.Char.{encode_utf8};
-ghost use Rattle.std.specs.Fmt.{WritesOnOk};
+ghost use Rattle.std.specs.Fmt.{WritesStyledOnOk, decimal};
 ghost use Rattle.wtf8_core.specs.FaultText.{upper_hex, upper_hex_digit, code_point_digits, fault_text};
 
 use std::error::Error;
@@ -12,7 +12,7 @@ use std::fmt;
 /// Bytes that aren't WTF-8 have one of the first three faults (RFC 3629, section 3, and WTF-8),
 /// bytes that aren't UTF-8 the last (RFC 3629, section 4). Where a sequence lacks a
 /// continuation, that is its fault, whatever its value would be. Its text says what it is and,
-/// for UTF-8, where. os_str_bytes 7.2.1 has it under the same name, with std's `Utf8Error` in
+/// for UTF-8, where; `{:>99}` writes what `{}` does. os_str_bytes 7.2.1 has it under the same name, with std's `Utf8Error` in
 /// the place of the fields of `Utf8`.
 ///
 /// The text of `CodePoint(0xDC00)` is `byte sequence is not representable in the platform
@@ -62,15 +62,26 @@ fn upper_hex_digit(digit: u32) -> char
     }
 }
 
-/// Writes the last `digits` digits of a number.
+/// Writes the last `digits` digits of a number, whatever width is asked for.
 fn write_upper_hex<W: fmt::Write>(value: u32, digits: u32, f: &mut fmt::Formatter<W>) -> fmt::Result
-    ensures { WritesOnOk W.write_str_gives f.old result (upper_hex digits value) f.new }
+    ensures { WritesStyledOnOk W.write_str_gives f.old result (upper_hex digits value) f.new }
 {
     if digits == 0 {
         return Ok(());
     }
     write_upper_hex(value / 16, digits - 1, f)?;
     f.write_char(upper_hex_digit(value % 16))
+}
+
+/// Writes the decimal digits of a number, whatever width is asked for.
+fn write_decimal<W: fmt::Write>(value: usize, f: &mut fmt::Formatter<W>) -> fmt::Result
+    ensures { WritesStyledOnOk W.write_str_gives f.old result (decimal value) f.new }
+{
+    if value < 10 {
+        return f.write_char(char::from(b'0' + value as u8));
+    }
+    write_decimal(value / 10, f)?;
+    f.write_char(char::from(b'0' + (value % 10) as u8))
 }
 
 /// How many digits are written of a code point.
@@ -86,41 +97,23 @@ fn code_point_digits(value: u32) -> u32
     }
 }
 
-/// The last digits of a number.
-#[derive(Clone, Copy)]
-struct UpperHex {
-    value: u32,
-    digits: u32,
-}
-
-impl fmt::Display for UpperHex {
-    ghost output = { λ n. Some (upper_hex n.digits n.value) };
-
-    fn fmt<W: fmt::Write>(&self, f: &mut fmt::Formatter<W>) -> fmt::Result {
-        write_upper_hex(self.value, self.digits, f)
-    }
-}
-
 impl fmt::Display for EncodingError {
     ghost output = { λ fault. Some (fault_text fault) };
+
+    ghost styled_output = { λ fault _. Some (fault_text fault) };
 
     fn fmt<W: fmt::Write>(&self, f: &mut fmt::Formatter<W>) -> fmt::Result {
         match *self {
             EncodingError::Byte(byte) => {
-                let digits = UpperHex {
-                    value: u32::from(byte),
-                    digits: 2,
-                };
                 f.write_str(NOT_REPRESENTABLE)?;
-                write!(f, "byte b'\\x{digits}'")
+                f.write_str("byte b'\\x")?;
+                write_upper_hex(u32::from(byte), 2, f)?;
+                f.write_str("'")
             }
             EncodingError::CodePoint(value) => {
-                let digits = UpperHex {
-                    value,
-                    digits: code_point_digits(value),
-                };
                 f.write_str(NOT_REPRESENTABLE)?;
-                write!(f, "code point U+{digits}")
+                f.write_str("code point U+")?;
+                write_upper_hex(value, code_point_digits(value), f)
             }
             EncodingError::End => {
                 f.write_str(NOT_REPRESENTABLE)?;
@@ -130,11 +123,16 @@ impl fmt::Display for EncodingError {
                 valid_up_to,
                 error_len,
             } => match error_len {
-                Some(len) => write!(
-                    f,
-                    "invalid utf-8 sequence of {len} bytes from index {valid_up_to}"
-                ),
-                None => write!(f, "incomplete utf-8 byte sequence from index {valid_up_to}"),
+                Some(len) => {
+                    f.write_str("invalid utf-8 sequence of ")?;
+                    write_decimal(usize::from(len), f)?;
+                    f.write_str(" bytes from index ")?;
+                    write_decimal(valid_up_to, f)
+                }
+                None => {
+                    f.write_str("incomplete utf-8 byte sequence from index ")?;
+                    write_decimal(valid_up_to, f)
+                }
             },
         }
     }

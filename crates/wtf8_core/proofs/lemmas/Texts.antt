@@ -100,9 +100,9 @@ part_is : (r : List ℕ) (l : Option ℕ) → MatchOption l (IsProperFront r) (I
 part_is r None p = inl (p, refl)
 part_is r (Some m) p = inr p
 
--- the part that `utf8_fault` finds, where no character begins
-pub part_found : (b : List ℕ) (n : ℕ) (l : Option ℕ) → 0 < length b → NoChar b → IsUtf8Fault b n l → IsIllFormedPart b (unwrap_or l (length b))
-part_found b n l h k f = part_is b l (subst (λ x. MatchOption l (IsProperFront (drop x b)) (IsIllFormed (drop x b))) (one_valid b n 0 f.valid (valid_none b h k)) f.part)
+-- what a fault says of its part, where no character begins the bytes
+pub part_at_front : (b : List ℕ) (n : ℕ) (l : Option ℕ) → 0 < length b → NoChar b → IsUtf8Fault b n l → MatchOption l (IsProperFront b) (IsIllFormed b)
+part_at_front b n l h k f = subst (λ x. MatchOption l (IsProperFront (drop x b)) (IsIllFormed (drop x b))) (one_valid b n 0 f.valid (valid_none b h k)) f.part
 
 -- std's lossy text where no character begins
 pub record PartFirst (b : List ℕ) (m : ℕ) : Type 0 where
@@ -132,10 +132,6 @@ lossy_front b n v =
     lossy_step b n m v (part_behind b n v)
     ∙ ap (λ x. take n b ++ (replacement ++ utf8_lossy x)) (sym (drop-drop m n b))
     ∙ ap (λ x. take n b ++ x) (sym (first_behind b n v).lossy)
-
--- the same, as code has it
-pub part_of : (b : List ℕ) (n r : ℕ) (l o : Option ℕ) → 0 < length b → NoChar b → IsUtf8Fault b n l → l ≡ o → r ≡ unwrap_or o (length b) → IsIllFormedPart b r
-part_of b n r l o h k f e i = subst (IsIllFormedPart b) (ap (λ x. unwrap_or x (length b)) e ∙ sym i) (part_found b n l h k f)
 
 -- the longest front that is a text
 record IsLongest (b : List ℕ) (n : ℕ) : Type 0 where

@@ -1,5 +1,5 @@
 use Rattle.std.proofs.Common.{◌≡◌, ℕ, zero, suc, ◌-◌, ◌<◌, ◌/◌, ◌%◌, [], ◌∷◌, ◌++◌, true, refl, sym, ap, ◌∙◌, arith, rules, sub-one}
-use Rattle.std.proofs.Output.{has_written_append, has_written_of_eq}
+use Rattle.std.proofs.Output.{has_written_styled_append, has_written_styled_of_eq}
 use Rattle.std.proofs.lemmas.Str.{encode_ascii}
 use Rattle.std.proofs.lemmas.Grind.{common_steps}
 use Rattle.wtf8_core.specs.FaultText.{upper_hex, upper_hex_digit}
@@ -23,5 +23,5 @@ returns g t c = λ p ok.
     let e = upper_hex-more c.args.digits c.args.value (omega arith) in
     let d = encode_ascii c.upper_hex_digit.result c.upper_hex_digit.ensures.ascii in
     let first = c.in_ok-write_upper_hex.ensures p (refl {a = true}) in
-    let last = c.write_char.ensures.writes first.plain ok in
-    has_written_of_eq _ _ _ _ _ (sym e) (has_written_append _ _ _ _ _ _ first (has_written_of_eq _ _ _ _ _ (d ∙ ap (λ x. x ∷ []) c.upper_hex_digit.ensures.value) last))
+    let last = c.write_char.ensures.styled first.flush ok in
+    has_written_styled_of_eq _ _ _ _ _ (sym e) (has_written_styled_append _ _ _ _ _ _ first (has_written_styled_of_eq _ _ _ _ _ (d ∙ ap (λ x. x ∷ []) c.upper_hex_digit.ensures.value) last))
