@@ -2,6 +2,7 @@
 ghost use Rattle.std.specs.Prelude.{◌≡◌, ℕ, List, IsOk, IfOk, MatchOption, MatchResult};
 ghost use Rattle.std.specs.declared.alloc.Global.{Global};
 ghost use Rattle.std.specs.declared.vec.Vec.{Vec};
+ghost use Rattle.std.specs.Vec.{SameBlock};
 ghost use Rattle.platform_str.specs.Cows.{byte_cow_bytes};
 ghost use Rattle.platform_str.specs.Lossy.{IsIoLossy};
 
@@ -168,13 +169,14 @@ pub trait OsStringBytes: Sized + Drop {
         ensures cases { MatchOption result (¬ (Self.Platform.io_safe (Self.Vec.as_vec (vec_of self)).items)) (λ _. Self.Platform.io_safe (Self.Vec.as_vec (vec_of self)).items) };
 
     /// The string's vector where its bytes are IO-safe, else with the bytes of the lossy text,
-    /// written in place. It takes no memory: on Windows the form of a surrogate and that of
+    /// written in place, in the same block. It takes no memory: on Windows the form of a surrogate and that of
     /// U+FFFD both have three bytes, and on the other platforms each string is IO-safe.
     ///
     /// On Windows ED A0 80 (hexadecimal) gives EF BF BD, on Unix it gives itself.
     fn into_io_vec_lossy(self) -> Self::Vec
         ensures bytes { IsIoLossy Self.Platform.io_safe Self.Platform.lossy (Self.Vec.as_vec (vec_of self)).items (Self.Vec.as_vec result).items }
-        ensures same { Self.Platform.io_safe (Self.Vec.as_vec (vec_of self)).items → result ≡ vec_of self };
+        ensures same { Self.Platform.io_safe (Self.Vec.as_vec (vec_of self)).items → result ≡ vec_of self }
+        ensures block { SameBlock (Self.Vec.as_vec (vec_of self)) (Self.Vec.as_vec result) };
 
     /// The string's vector, which [`OsStringBytes::from_raw_vec`] accepts.
     ///

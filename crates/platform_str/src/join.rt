@@ -1,5 +1,5 @@
 //! Joins of strings: of bytes, and of Windows strings.
-ghost use Rattle.std.specs.Prelude.{◌≡◌, ◌++◌, ◌+◌, ◌≤◌, take, drop, length, OnOk, OnErr};
+ghost use Rattle.std.specs.Prelude.{◌≡◌, ◌++◌, ◌+◌, ◌<◌, ◌≤◌, take, drop, length, OnOk, OnErr, vec_capacity, vec_len};
 ghost use Rattle.wtf8_core.specs.CodePoint.{IsCodePoint, form};
 ghost use Rattle.wtf8_core.specs.Wtf8.{IsWtf8};
 ghost use Rattle.wtf8_core.specs.UnitsOf.{units_of};
@@ -19,6 +19,7 @@ pub(crate) fn push_wtf8<A: Allocator>(
     ensures formed { IsWtf8 string.new.items }
     ensures ok { OnOk result (units_of string.new.items ≡ units_of string.old.items ++ units_of more.now) }
     ensures err { OnErr result (string.new.items ≡ string.old.items) }
+    ensures full { OnErr result (vec_capacity string.old < vec_len string.old + length more.now) }
 {
     let bytes = string.as_slice();
     let Some(pair) = pair_between(bytes, more) else {
@@ -35,6 +36,7 @@ pub(crate) fn push_wtf8<A: Allocator>(
 pub(crate) fn append<A: Allocator>(bytes: &mut Vec<u8, A>, more: &[u8]) -> Result<(), AllocError>
     ensures ok { OnOk result (bytes.new.items ≡ bytes.old.items ++ more.now) }
     ensures err { OnErr result (bytes.new.items ≡ bytes.old.items) }
+    ensures full { OnErr result (vec_capacity bytes.old < vec_len bytes.old + length more.now) }
 {
     bytes.extend_from_slice(more)
 }

@@ -23,9 +23,9 @@ fn first_replaced<E: Platform>(bytes: &[u8]) -> Option<(usize, &[u8])>
     ensures text { IfSome result (λ first. IsUtf8 (take first.0 bytes.now)) }
     ensures cases { MatchOption result (IsUtf8 bytes.now) (λ first. IsFirstText E.well_formed E.lossy bytes.now (take first.0 bytes.now) first.1.now) }
 {
-    let (valid, _) = utf8_fault(bytes)?;
+    let (valid, error_len) = utf8_fault(bytes)?;
     let (_, behind) = bytes.split_at(valid);
-    let (_, rest) = behind.split_at(E::lossy_len(behind));
+    let (_, rest) = behind.split_at(E::replaced_len(behind, error_len));
     Some((valid, rest))
 }
 

@@ -157,13 +157,15 @@ impl<'a, E: Platform> OsStr<'a, E> {
         OsStrDisplay::new(self)
     }
 
-    /// An owned copy (std's `OsStr::to_os_string`).
+    /// An owned copy (std's `OsStr::to_os_string`). Of the empty string it takes no memory.
     ///
     /// `OsStr::<Unix>::new("a").to_owned(alloc)?.as_os_str()` is `OsStr::new("a")`.
     pub fn to_owned<A: Allocator>(self, alloc: A) -> Result<OsString<E, A>, AllocError>
-        ensures { IfOk result (λ owned. (string_vec_of owned).items ≡ bytes self.entry) }
+        ensures bytes { IfOk result (λ owned. (string_vec_of owned).items ≡ bytes self.entry) }
+        ensures empty { length (bytes self.entry) ≡ 0 → IsOk result }
     {
-        let vec = Vec::from_slice(alloc, self.bytes)?;
+        let mut vec = Vec::with_capacity(alloc, self.len())?;
+        vec.extend_from_slice(self.bytes)?;
         Ok(OsString::from_encoded_bytes_unchecked(vec))
     }
 }

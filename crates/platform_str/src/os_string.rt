@@ -1,5 +1,5 @@
 //! Owned strings.
-ghost use Rattle.std.specs.Prelude.{◌≡◌, ◌++◌, [], IsOk, IfOk, IfErr, OnOk, OnErr, MatchResult};
+ghost use Rattle.std.specs.Prelude.{◌≡◌, ◌<◌, ◌+◌, ◌++◌, [], IsOk, IfOk, IfErr, OnOk, OnErr, MatchResult, length, vec_capacity, vec_len};
 ghost use Rattle.std.specs.Str.{IsUtf8};
 ghost use Rattle.std.specs.String.{string_vec};
 
@@ -114,12 +114,14 @@ impl<E: Platform, A: Allocator> OsString<E, A> {
 
     /// Puts a string behind this one: the units are those of both, one after the other (std's
     /// `OsString::push`). On Windows two halves of a pair that meet become one code point. Where
-    /// the memory is refused the string is as it was.
+    /// the memory is refused the string is as it was; a string whose vector has room for the bytes
+    /// of both takes none.
     ///
     /// The Windows string of D83D (hexadecimal) with that of DE00 pushed is F0 9F 98 80.
     pub fn push(&mut self, string: OsStr<'_, E>) -> Result<(), AllocError>
         ensures ok { OnOk result (E.units (string_vec_of self.new).items ≡ E.units (string_vec_of self.old).items ++ E.units (bytes string.entry)) }
         ensures err { OnErr result ((string_vec_of self.new).items ≡ (string_vec_of self.old).items) }
+        ensures full { OnErr result (vec_capacity (string_vec_of self.old) < vec_len (string_vec_of self.old) + length (bytes string.entry)) }
     {
         E::push_bytes(&mut self.vec, string.as_encoded_bytes())
     }

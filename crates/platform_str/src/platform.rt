@@ -1,6 +1,7 @@
 //! What a platform is, and the three that stand here.
-ghost use Rattle.std.specs.Prelude.{◌≡◌, ◌<◌, ◌↔◌, ◌++◌, ℕ, List, length, IsTrue, IfOk, MatchResult, OnOk, OnErr};
+ghost use Rattle.std.specs.Prelude.{◌≡◌, ◌<◌, ◌↔◌, ◌++◌, ◌+◌, ℕ, List, length, IsTrue, IfOk, MatchResult, OnOk, OnErr, vec_capacity, vec_len};
 ghost use Rattle.wtf8_core.specs.Covered.{StartsBare};
+ghost use Rattle.platform_str.specs.Lossy.{IsFaultPart};
 ghost use Rattle.wtf8_core.specs.Standing.{IsFront, IsEnd};
 ghost use Rattle.wtf8_core.specs.StandingLaws.{StandingLaws};
 ghost use Rattle.wtf8_core.specs.declared.fault.EncodingError.{EncodingError};
@@ -79,6 +80,21 @@ pub trait Platform {
         requires bare { StartsBare bytes.now }
         ensures { replaces bytes.now result };
 
+    /// The same number as [`Platform::lossy_len`], for a caller that knows the fault with which
+    /// the bytes begin: `wtf8_core::utf8_fault` of them is `Some((0, error_len))`. So a platform
+    /// doesn't have to find that fault again. Unless it is overridden, it asks `lossy_len`.
+    ///
+    /// `Unix::replaced_len(b"\xE2\x82A", Some(2))` is 2.
+    fn replaced_len(bytes: &[u8], error_len: Option<u8>) -> usize
+        requires formed { well_formed bytes.now }
+        requires some { 0 < length bytes.now }
+        requires bare { StartsBare bytes.now }
+        requires part { IsFaultPart bytes.now error_len }
+        ensures { replaces bytes.now result }
+    {
+        Self::lossy_len(bytes)
+    }
+
     /// The first unit of a string that begins with no whole character, and how many bytes it has.
     ///
     /// The bytes are well formed (test: [`Platform::check`]), they aren't empty, and no whole
@@ -118,7 +134,8 @@ pub trait Platform {
     /// Puts a string behind another: the units are those of both, one after the other (std's
     /// `OsString::push`). On Windows two halves of a pair that meet become one code point
     /// (WTF-8: concatenation). Both are well formed (test: [`Platform::check`]). It grows the
-    /// vector; where the memory is refused the vector's bytes are as they were.
+    /// vector; where the memory is refused the vector's bytes are as they were. A vector with
+    /// room for the bytes of both takes no memory.
     ///
     /// On Windows ED A0 BD with ED B8 80 pushed (hexadecimal) is F0 9F 98 80.
     fn push_bytes<A: Allocator>(string: &mut Vec<u8, A>, more: &[u8]) -> Result<(), AllocError>
@@ -126,7 +143,8 @@ pub trait Platform {
         requires more { well_formed more.now }
         ensures formed { well_formed string.new.items }
         ensures ok { OnOk result (units string.new.items ≡ units string.old.items ++ units more.now) }
-        ensures err { OnErr result (string.new.items ≡ string.old.items) };
+        ensures err { OnErr result (string.new.items ≡ string.old.items) }
+        ensures full { OnErr result (vec_capacity string.old < vec_len string.old + length more.now) };
 
     /// The lossy reading of any bytes, in new memory: the bytes themselves where they are well
     /// formed, else what stands before the first part that is refused, U+FFFD, and the reading of

@@ -69,9 +69,15 @@ impl Platform for Unix {
 
     fn lossy_len(bytes: &[u8]) -> usize {
         match utf8_fault(bytes) {
-            Some((_, Some(len))) => usize::from(len),
-            Some((_, None)) => bytes.len(),
+            Some((_, error_len)) => Unix::replaced_len(bytes, error_len),
             None => 0,
+        }
+    }
+
+    fn replaced_len(bytes: &[u8], error_len: Option<u8>) -> usize {
+        match error_len {
+            Some(len) => usize::from(len),
+            None => bytes.len(),
         }
     }
 

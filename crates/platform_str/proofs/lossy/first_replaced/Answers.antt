@@ -1,12 +1,16 @@
-use Rattle.std.proofs.Common.{refl}
+use Rattle.std.proofs.Common.{refl, sym, subst}
+use Rattle.platform_str.specs.Lossy.{IsFaultPart}
 use Rattle.platform_str.proofs.lemmas.LossyLoops.{bare_at, first_part, first_text}
 use Rattle.platform_str.proofs.lossy.first_replaced.Goals as goal
 
-pub lossy_len-requires-clause-bare : goal.lossy_len-requires-clause-bare
-lossy_len-requires-clause-bare g c = bare_at c.split_at.ensures.back c.in_ok-valid.ensures.valid
+pub replaced_len-requires-clause-bare : goal.replaced_len-requires-clause-bare
+replaced_len-requires-clause-bare g c = bare_at c.split_at.ensures.back c.in_ok-valid.ensures.valid
 
 pub split_at-requires-2 : goal.split_at-requires-2
-split_at-requires-2 g c = (first_part g.met.E.Platform.laws c.split_at.ensures.back c.in_ok-valid.ensures.valid c.requires c.lossy_len.ensures).within
+split_at-requires-2 g c = (first_part g.met.E.Platform.laws c.split_at.ensures.back c.in_ok-valid.ensures.valid c.requires c.replaced_len.ensures).within
 
 pub returns-clause-cases : goal.returns-clause-cases
-returns-clause-cases g c = first_text g.met.E.Platform.laws refl c.split_at.ensures.back c.split_at-2.ensures.back c.in_ok-valid.ensures.valid c.requires c.lossy_len.ensures
+returns-clause-cases g c = first_text g.met.E.Platform.laws refl c.split_at.ensures.back c.split_at-2.ensures.back c.in_ok-valid.ensures.valid c.requires c.replaced_len.ensures
+
+pub replaced_len-requires-clause-part : goal.replaced_len-requires-clause-part
+replaced_len-requires-clause-part g c = subst (λ b. IsFaultPart b c.in_ok-valid.error_len) (sym c.split_at.ensures.back) c.in_ok-valid.ensures.part
