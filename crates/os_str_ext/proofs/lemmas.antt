@@ -1,10 +1,13 @@
 pub mod Comparing
 pub mod Needles
+pub mod BareStart
 pub mod OneByte
 pub mod Places
 pub mod Searches
 pub mod Splits
 pub mod FirstChunk
+pub mod EachChunk
+pub mod AroundPlaces
 pub mod PartUnits
 pub mod Repeats
 pub mod Runs

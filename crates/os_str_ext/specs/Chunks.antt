@@ -1,8 +1,9 @@
 -- The chunks of bytes as a function, and where the first one ends. What chunks are says `AreChunks` of wtf8_core.
-use Rattle.std.specs.Prelude.{ℕ, ◌<◌, ◌≤◌, List, length, take, drop}
+use Rattle.std.specs.Prelude.{ℕ, ◌<◌, ◌≤◌, List, ◌++◌, length, take, drop}
+use Rattle.std.specs.Int.{IsInRange}
 use Rattle.std.specs.Str.{IsUtf8}
 use Rattle.wtf8_core.specs.Character.{WholeCharacter}
-use Rattle.wtf8_core.specs.Covered.{IsCovered}
+use Rattle.wtf8_core.specs.Covered.{IsCovered, IsBare}
 use Rattle.wtf8_core.specs.Chunks.{Chunk}
 use Rattle.wtf8_core.proofs.lemmas.ChunkLemmas.{some_chunks}
 
@@ -10,10 +11,21 @@ use Rattle.wtf8_core.proofs.lemmas.ChunkLemmas.{some_chunks}
 abbrev pub chunks_of : List ℕ → List Chunk
 chunks_of bytes = (some_chunks bytes).0
 
--- the first whole character stands from m to e
-pub record IsFirstCharacter (s : List ℕ) (m e : ℕ) : Type 0 where
-  pub whole : WholeCharacter s m e
-  pub bare : (k : ℕ) → (j : ℕ) → k < m → ¬ (WholeCharacter s k j)
+-- a string without whole characters and a text, not both empty; well_formed says which bytes are a string
+pub record IsChunkOf (well_formed : List ℕ → Type 0) (c : Chunk) : Type 0 where
+  pub formed : well_formed c.0
+  pub bare : IsBare c.0
+  pub text : IsUtf8 c.1
+  pub some : 0 < length (c.0 ++ c.1)
+
+-- no character's form begins with the byte (RFC 3629, section 4)
+abbrev pub BeginsNoCharacter : ℕ → Type 0
+BeginsNoCharacter b = (0x80 ≤ b) × ¬ (IsInRange 0xC2 0xF4 b)
+
+-- at none of the first n bytes a whole character starts
+pub record IsBareUpTo (s : List ℕ) (n : ℕ) : Type 0 where
+  pub within : n ≤ length s
+  pub bare : (k j : ℕ) → k < n → ¬ (WholeCharacter s k j)
 
 -- the first chunk is the part up to m and the text up to e: the part ends where a text begins, and the text where a part begins
 pub record IsFirstChunk (s : List ℕ) (m e : ℕ) : Type 0 where

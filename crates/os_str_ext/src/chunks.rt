@@ -1,18 +1,17 @@
 //! The chunks of a string: its parts without whole characters, each with the text behind it.
-ghost use Rattle.std.specs.Prelude.{◌≡◌, ℕ, ◌∷◌, ◌<◌, ◌≤◌, length, take, drop, MatchOption};
+ghost use Rattle.std.specs.Prelude.{◌≡◌, ◌+◌, ◌∷◌, ◌<◌, ◌≤◌, ◌↔◌, length, drop, IsTrue};
 ghost use Rattle.std.specs.Iterator.{YieldsFirstBy, item_count};
-ghost use Rattle.std.specs.Str.{IsUtf8};
-ghost use Rattle.wtf8_core.specs.Character.{WholeCharacter};
 ghost use Rattle.wtf8_core.specs.Chunks.{AreChunks};
+ghost use Rattle.wtf8_core.specs.Utf8.{IsUtf8Fault, part_end};
 ghost use Rattle.platform_str.specs.Strings.{bytes};
-ghost use Rattle.os_str_ext.specs.Chunks.{chunks_of, IsFirstCharacter, IsFirstChunk};
+ghost use Rattle.os_str_ext.specs.Chunks.{chunks_of, BeginsNoCharacter, IsBareUpTo, IsFirstChunk};
 ghost use Rattle.os_str_ext.specs.Parts.{part_bytes};
 
 use crate::os_units::NonUnicodeOsStr;
 use platform_str::{OsStr, Platform};
 use std::alloc::AllocError;
 use std::marker::Model;
-use wtf8_core::{char_at, utf8_fault};
+use wtf8_core::utf8_fault;
 
 /// The chunks of a string that are left, from the first on, and then `None` for ever.
 ///
@@ -21,17 +20,22 @@ use wtf8_core::{char_at, utf8_fault};
 #[derive(Drop)]
 pub struct Utf8Chunks<'a, E: Platform + 'a> {
     rest: OsStr<'a, E>,
+    // At none of so many bytes at its start does a whole character start: what is known of it from
+    // the fault at which the text before it ended.
+    bare: usize,
 }
 
 impl<'a, E: Platform> Model for Utf8Chunks<'a, E> {
     ghost use Rattle.std.specs.Prelude.{List};
     ghost use Rattle.wtf8_core.specs.Chunks.{Chunk};
     ghost use Rattle.platform_str.specs.Strings.{bytes};
-    ghost use Rattle.os_str_ext.specs.Chunks.{chunks_of};
+    ghost use Rattle.os_str_ext.specs.Chunks.{chunks_of, IsBareUpTo};
 
     ghost Value = { List Chunk };
 
     ghost view = { λ it. chunks_of (bytes it.rest) };
+
+    ghost invariant = { λ it. IsBareUpTo (bytes it.rest) it.bare };
 }
 
 impl<'a, E: Platform> Clone for Utf8Chunks<'a, E> {
@@ -40,16 +44,35 @@ impl<'a, E: Platform> Clone for Utf8Chunks<'a, E> {
     ghost is_infallible = { λ _. Unit {0} };
 
     fn clone(&self) -> Result<Self, AllocError> {
-        Ok(Utf8Chunks { rest: self.rest })
+        Ok(Utf8Chunks {
+            rest: self.rest,
+            bare: self.bare,
+        })
     }
 }
 
 impl<'a, E: Platform> Utf8Chunks<'a, E> {
     /// The chunks of a string.
     pub(crate) fn new(string: OsStr<'a, E>) -> Self
-        ensures { AreChunks (bytes string.entry) result }
+        ensures chunks { AreChunks (bytes string.entry) result }
+        ensures value { result ≡ chunks_of (bytes string.entry) }
     {
-        Utf8Chunks { rest: string }
+        Utf8Chunks {
+            rest: string,
+            bare: 0,
+        }
+    }
+
+    /// The string whose chunks are left, in place in the string that the chunks are of (as std's
+    /// `str::Chars::as_str`). It takes no memory.
+    ///
+    /// Of the Unix string of the bytes 61 80 62 (hexadecimal) that is, once its first chunk was
+    /// given, the string of 80 62; at the end it is empty.
+    pub fn rest(&self) -> OsStr<'a, E>
+        ensures chunks { AreChunks (bytes result) self.now }
+        ensures value { self.now ≡ chunks_of (bytes result) }
+    {
+        self.rest
     }
 }
 
@@ -64,65 +87,106 @@ impl<'a, E: Platform> Iterator for Utf8Chunks<'a, E> {
         if self.rest.is_empty() {
             return None;
         }
-        let (part, text, rest) = first_chunk(self.rest);
-        self.rest = rest;
+        let (part, text, rest) = first_chunk(self.rest, self.bare);
+        *self = rest;
         Some((part, text))
     }
 }
 
-/// The first chunk of a string that isn't empty, and the rest of the string.
+/// The first chunk of a string that isn't empty, and the chunks after it. At none of the string's
+/// first `bare` bytes does a whole character start.
 fn first_chunk<'a, E: Platform>(
     string: OsStr<'a, E>,
-) -> (NonUnicodeOsStr<'a, E>, &'a str, OsStr<'a, E>)
-    requires { 0 < length (bytes string) }
-    ensures { chunks_of (bytes string.entry) ≡ (part_bytes result.0, result.1.now) ∷ chunks_of (bytes result.2) }
+    bare: usize,
+) -> (NonUnicodeOsStr<'a, E>, &'a str, Utf8Chunks<'a, E>)
+    requires some { 0 < length (bytes string) }
+    requires bare { IsBareUpTo (bytes string) bare }
+    ensures { chunks_of (bytes string.entry) ≡ (part_bytes result.0, result.1.now) ∷ result.2 }
 {
     let bytes = string.as_encoded_bytes();
-    let (middle, end) = chunk_ends(bytes);
-    let (front, rest) = bytes.split_at(end);
-    let (part, text) = front.split_at(middle);
+    let ChunkEnds {
+        part_end,
+        text_end,
+        bare_after,
+    } = chunk_ends(bytes, bare);
+    let (front, rest) = bytes.split_at(text_end);
+    let (part, text) = front.split_at(part_end);
     (
         NonUnicodeOsStr::new(OsStr::from_encoded_bytes_unchecked(part)),
         unsafe { str::from_utf8_unchecked(text) },
-        OsStr::from_encoded_bytes_unchecked(rest),
+        Utf8Chunks {
+            rest: OsStr::from_encoded_bytes_unchecked(rest),
+            bare: bare_after,
+        },
     )
 }
 
-/// Where the part and the text of the first chunk end.
-fn chunk_ends(bytes: &[u8]) -> (usize, usize)
-    ensures { IsFirstChunk bytes.now result.0 result.1 }
-{
-    match first_character(bytes) {
-        Some((start, end)) => (start, text_end(bytes, end)),
-        None => (bytes.len(), bytes.len()),
-    }
+/// Where the part and the text of the first chunk end, and at how many bytes after it no whole
+/// character starts, as far as is known.
+struct ChunkEnds {
+    part_end: usize,
+    text_end: usize,
+    bare_after: usize,
 }
 
-/// Where the first whole character starts, and where it ends.
-#[inline(always)]
-fn first_character(bytes: &[u8]) -> Option<(usize, usize)>
-    ensures { MatchOption result ((k : ℕ) → (j : ℕ) → ¬ (WholeCharacter bytes.now k j)) (λ ends. IsFirstCharacter bytes.now ends.0 ends.1) }
+/// The ends of the first chunk, where no whole character starts at any of the first `bare` bytes.
+///
+/// The part is gone over by the lengths of its faults. A byte with which no character begins is one
+/// by itself, which needs no search.
+fn chunk_ends(bytes: &[u8], bare: usize) -> ChunkEnds
+    requires { IsBareUpTo bytes.now bare }
+    ensures ends { IsFirstChunk bytes.now result.part_end result.text_end }
+    ensures bare { IsBareUpTo (drop result.text_end bytes.now) result.bare_after }
 {
-    for at in 0..bytes.len() {
-        if let Some(len) = char_at(bytes, at) {
-            return Some((at, at + len));
+    let mut at = bare;
+    while at < bytes.len() {
+        if begins_no_character(bytes[at]) {
+            at += 1;
+            continue;
         }
+        let (_, rest) = bytes.split_at(at);
+        let Some((valid_up_to, error_len)) = utf8_fault(rest) else {
+            return ChunkEnds {
+                part_end: at,
+                text_end: bytes.len(),
+                bare_after: 0,
+            };
+        };
+        let len = part_len(rest, valid_up_to, error_len);
+        if valid_up_to > 0 {
+            return ChunkEnds {
+                part_end: at,
+                text_end: at + valid_up_to,
+                bare_after: len,
+            };
+        }
+        at += len;
     }
-    None
+    ChunkEnds {
+        part_end: bytes.len(),
+        text_end: bytes.len(),
+        bare_after: 0,
+    }
 }
 
-/// Where the whole characters end that stand one behind the other from a place on.
+/// Whether no character begins with a byte (80 to C1 and F5 to FF, hexadecimal).
 #[inline(always)]
-fn text_end(bytes: &[u8], start: usize) -> usize
-    requires { start ≤ length bytes.now }
-    ensures ordered { start ≤ result }
-    ensures within { result ≤ length bytes.now }
-    ensures text { IsUtf8 (drop start (take result bytes.now)) }
-    ensures ended { (j : ℕ) → ¬ (WholeCharacter bytes.now result j) }
+fn begins_no_character(byte: u8) -> bool
+    ensures { IsTrue result ↔ BeginsNoCharacter byte }
 {
-    let (_, rest) = bytes.split_at(start);
-    match utf8_fault(rest) {
-        Some((valid_up_to, _)) => start + valid_up_to,
-        None => bytes.len(),
+    byte >= 0x80 && !(0xC2..=0xF4).contains(&byte)
+}
+
+/// How many bytes the ill-formed part of a fault has, which may go on to the end.
+#[inline(always)]
+fn part_len(bytes: &[u8], valid_up_to: usize, error_len: Option<u8>) -> usize
+    requires { IsUtf8Fault bytes.now valid_up_to error_len }
+    ensures some { 0 < result }
+    ensures end { part_end bytes.now valid_up_to error_len ≡ valid_up_to + result }
+    ensures within { valid_up_to + result ≤ length bytes.now }
+{
+    match error_len {
+        Some(len) => usize::from(len),
+        None => bytes.len() - valid_up_to,
     }
 }

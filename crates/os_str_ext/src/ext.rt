@@ -7,6 +7,7 @@ ghost use Rattle.wtf8_core.specs.Chunks.{AreChunks};
 ghost use Rattle.wtf8_core.specs.Pieces.{StandsSomewhere, MayBeCutAround, StripsFront, StripsEnd, SplitsOnce, IsStartTrim, IsEndTrim, IsTrim, IsSplit, IsRSplit};
 ghost use Rattle.std.specs.List.{repeat};
 ghost use Rattle.platform_str.specs.Strings.{string_vec_of};
+ghost use Rattle.os_str_ext.specs.Chunks.{chunks_of};
 ghost use Rattle.os_str_ext.specs.Range.{FitsIn};
 
 use crate::chunks::Utf8Chunks;
@@ -210,7 +211,8 @@ pub trait OsStrBytesExt<'a>: OsStrBytes<'a> {
     /// The Unix string of the bytes 66 6F 80 FF 6F (hexadecimal) has the chunks "", "fo" and
     /// 80 FF, "o".
     final fn utf8_chunks(self) -> Utf8Chunks<'a, Self::Platform>
-        ensures { AreChunks (Self.bytes_of self) result }
+        ensures chunks { AreChunks (Self.bytes_of self) result }
+        ensures value { result ≡ chunks_of (Self.bytes_of self) }
     {
         Utf8Chunks::new(OsStr::from_encoded_bytes_unchecked(self.encoded_bytes()))
     }

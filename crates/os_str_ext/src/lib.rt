@@ -7,6 +7,7 @@
 #![tactic(auto)]
 
 mod boundary;
+pub mod chunk_laws;
 mod chunks;
 mod compare;
 mod ext;
@@ -19,6 +20,7 @@ mod pattern;
 mod repeat;
 mod runs;
 mod search;
+pub mod search_laws;
 mod slice_index;
 
 pub use chunks::Utf8Chunks;

@@ -125,6 +125,41 @@ impl<'a, E: Platform> Model for OsUnits<'a, E> {
     ghost view = { λ it. E.units (part_bytes it.rest) };
 }
 
+impl<'a, E: Platform> OsUnits<'a, E> {
+    ghost use Rattle.std.specs.Prelude.{[]};
+    ghost use Rattle.os_str_ext.specs.Parts.{part_bytes};
+
+    /// No units: those of an empty part.
+    ///
+    /// `OsUnits::<Unix>::empty().next()` is `None`.
+    pub fn empty() -> Self
+        ensures { result ≡ [] }
+    {
+        NonUnicodeOsStr::new(OsStr::new("")).os_units()
+    }
+
+    /// The part whose units are left, in place in the part that the units are of. It takes no
+    /// memory.
+    ///
+    /// Of the Unix part 80 FF (hexadecimal) that is, once its first unit was given, the part FF.
+    pub fn rest(&self) -> NonUnicodeOsStr<'a, E>
+        ensures { self.now ≡ E.units (part_bytes result) }
+    {
+        self.rest
+    }
+
+    /// The same as a string (as std's `str::Chars::as_str`).
+    ///
+    /// Of the Unix part 80 FF (hexadecimal) that is, once its first unit was given, the string of
+    /// FF.
+    pub fn as_os_str(&self) -> OsStr<'a, E>
+        ensures units { self.now ≡ E.units (bytes result) }
+        ensures bare { IsBare (bytes result) }
+    {
+        self.rest.as_os_str()
+    }
+}
+
 impl<'a, E: Platform> Clone for OsUnits<'a, E> {
     ghost is_clone = { λ x y. y ≡ x };
 

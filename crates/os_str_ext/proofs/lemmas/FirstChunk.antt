@@ -1,5 +1,5 @@
 -- The first chunk by its ends, and the chunks behind it.
-use Rattle.std.proofs.Common.{◌≡◌, ⊎_elim, inl, inr, ℕ, ◌+◌, ◌-◌, ◌<◌, ◌≤◌, List, [], ◌∷◌, ◌++◌, length, take, drop, sym, ap, ◌∙◌, subst, arith, length-append, length-drop, take-append-drop, append_assoc, drop-drop}
+use Rattle.std.proofs.Common.{◌≡◌, ⊎_elim, inl, inr, ℕ, ◌+◌, ◌-◌, ◌<◌, ◌≤◌, List, [], ◌∷◌, ◌++◌, length, take, drop, sym, ap, ◌∙◌, subst, arith, length-append, length-drop, take-append-drop, append_assoc}
 use Rattle.std.proofs.lemmas.Bool.{cases_lt, cases_eq}
 use Rattle.std.proofs.lemmas.List.{length-take-le, take-take, drop-take, drop_all, drop-append-le}
 use Rattle.std.proofs.lemmas.Str.{IsUtf8-nil, IsUtf8-append, IsUtf8-encode}
@@ -17,16 +17,7 @@ use Rattle.wtf8_core.proofs.lemmas.ChunkLemmas.{some_chunks, chunks_once, one_mo
 use Rattle.wtf8_core.proofs.lemmas.Edges.{edges_of_text}
 use Rattle.wtf8_core.proofs.lemmas.Overlaps.{in_rest}
 use Rattle.wtf8_core.proofs.lemmas.Seams.{Bare, text_covered, seam_behind_bare, whole_within}
-use Rattle.os_str_ext.specs.Chunks.{chunks_of, IsFirstCharacter, IsFirstChunk}
-
--- what the two ends say
-pub record HasEnds (s : List ℕ) (m e : ℕ) : Type 0 where
-  pub bare : (k j : ℕ) → k < m → WholeCharacter s k j → ⊥
-  pub started : m < length s → (j : ℕ) × WholeCharacter s m j
-  pub ordered : m ≤ e
-  pub within : e ≤ length s
-  pub text : IsUtf8 (drop m (take e s))
-  pub ended : (j : ℕ) → WholeCharacter s e j → ⊥
+use Rattle.os_str_ext.specs.Chunks.{chunks_of, IsFirstChunk}
 
 -- the parts of a string that is cut twice
 cut_twice : (s : List ℕ) (m e : ℕ) → m ≤ e → s ≡ take m s ++ (drop m (take e s) ++ drop e s)
@@ -63,38 +54,26 @@ text_grows s i j k le u w =
 empty_text : (s : List ℕ) (m : ℕ) → m ≤ length s → IsUtf8 (drop m (take m s))
 empty_text s m h = subst IsUtf8 (sym (drop_all m (take m s) (omega (arith, length-take-le m s h)))) IsUtf8-nil
 
--- the ends are those of the first chunk
-pub first_from_ends : (s : List ℕ) (m e : ℕ) → HasEnds s m e → IsFirstChunk s m e
-first_from_ends s m e h = record {
-  ordered = h.ordered;
-  within = h.within;
+-- no character in the part, a text behind it, and none behind that
+pub first_of_parts : (s : List ℕ) (m e : ℕ) → ((k j : ℕ) → k < m → WholeCharacter s k j → ⊥) → (m < length s → m < e) → m ≤ e → e ≤ length s → IsUtf8 (drop m (take e s)) → ((j : ℕ) → WholeCharacter s e j → ⊥) → IsFirstChunk s m e
+first_of_parts s m e none some ordered within text last = record {
+  ordered = ordered;
+  within = within;
   bare = bare;
-  text = h.text;
-  some = λ lt. ⊎_elim (λ q. absurd (let w = h.started lt in h.ended w.0 (subst (λ x. WholeCharacter s x w.0) q w.1))) (λ ne. omega (arith, h.ordered)) (cases_eq m e);
+  text = text;
+  some = some;
   ended = λ lt c.
       let from = c.from in
-      ⊎_elim (λ q. h.ended c.end (subst (λ x. WholeCharacter s x c.end) q c.whole)) (λ ne. text_in_rest s m e h.ordered h.within bare h.text c.start c.end c.whole (omega arith) c.below) (cases_eq c.start e);
+      ⊎_elim (λ q. last c.end (subst (λ x. WholeCharacter s x c.end) q c.whole)) (λ ne. text_in_rest s m e ordered within bare text c.start c.end c.whole (omega arith) c.below) (cases_eq c.start e);
 }
   where
     bare : (k : ℕ) → k < m → ¬ (IsCovered s k)
-    bare k lt c = let from = c.from in h.bare c.start c.end (omega arith) c.whole
+    bare k lt c = let from = c.from in none c.start c.end (omega arith) c.whole
 
--- the first chunk's text is the first whole character and the text behind it
-pub with_character : (s : List ℕ) (m n e : ℕ) → IsFirstCharacter s m n → n ≤ e → e ≤ length s → IsUtf8 (drop n (take e s)) → ((j : ℕ) → WholeCharacter s e j → ⊥) → IsFirstChunk s m e
-with_character s m n e f ordered within u none =
-    let fits = character_fits s m n f.whole in
-    let more : m + (n - m) ≡ n = omega (arith, fits) in
-    let x = drop m (take e s) in
-    let first : IsUtf8 (take (n - m) x) =
-    subst IsUtf8 (drop-take m (n - m) (take e s)) (subst (λ k. IsUtf8 (drop m (take k (take e s)))) (sym more) (subst (λ l. IsUtf8 (drop m l)) (sym (take-take n e s ordered)) (text_grows s m m n (omega arith) (empty_text s m (omega (arith, fits))) f.whole))) in
-    let behind : drop (n - m) x ≡ drop n (take e s) = drop-drop (n - m) m (take e s) ∙ ap (λ k. drop k (take e s)) more in
-    let text : IsUtf8 x = subst IsUtf8 (take-append-drop (n - m) x) (IsUtf8-append (take (n - m) x) (drop (n - m) x) first (subst IsUtf8 (sym behind) u)) in
-    first_from_ends s m e (record { bare = f.bare; started = λ _. (n, f.whole); ordered = omega (arith, fits, ordered); within = within; text = text; ended = none })
-
--- and where there is none, all is the part
+-- where no whole character starts, all is the part
 pub without_character : (s : List ℕ) → ((k j : ℕ) → WholeCharacter s k j → ⊥) → IsFirstChunk s (length s) (length s)
 without_character s h =
-    first_from_ends s (length s) (length s) (record { bare = λ k j _. h k j; started = λ lt. absurd (omega (arith, lt)); ordered = omega arith; within = omega arith; text = empty_text s (length s) (omega arith); ended = h (length s) })
+    first_of_parts s (length s) (length s) (λ k j _. h k j) (λ lt. absurd (omega (arith, lt))) (omega arith) (omega arith) (empty_text s (length s) (omega arith)) (h (length s))
 
 module _ (s : List ℕ) (m e : ℕ) (h : IsFirstChunk s m e) where
   -- where the text isn't empty, both its edges are boundaries

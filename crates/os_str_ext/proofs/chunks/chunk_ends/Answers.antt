@@ -1,14 +1,27 @@
-use Rattle.wtf8_core.proofs.lemmas.Characters.{character_fits}
-use Rattle.os_str_ext.proofs.lemmas.FirstChunk.{with_character, without_character}
+use Rattle.std.proofs.Common.{arith}
+use Rattle.os_str_ext.proofs.lemmas.BareStart.{one_more, part_more, text_found, bare_after_text, text_to_end, all_bare}
 use Rattle.os_str_ext.proofs.chunks.chunk_ends.Goals as goal
 
-pub text_end-requires : goal.text_end-requires
-text_end-requires c = (character_fits c.args.bytes.now _ _ c.in-Some.ensures.whole).2
+pub loop-at-preserved-then-begins_no_character : goal.loop-at-preserved-then-begins_no_character
+loop-at-preserved-then-begins_no_character c = one_more c.args.bytes.now c.loop-at.at c.loop-at.invariant c.loop-at-test.true (c.begins_no_character.ensures.0 c.if-begins_no_character.true)
 
-pub returns-in-Some : goal.returns-in-Some
-returns-in-Some c =
-    let e = c.text_end.ensures in
-    with_character c.args.bytes.now _ _ _ c.in-Some.ensures e.ordered e.within e.text e.ended
+pub returns-in_default-clause-ends : goal.returns-in_default-clause-ends
+returns-in_default-clause-ends c = text_to_end c.args.bytes.now c.loop-at.at c.loop-at.invariant _ c.split_at.ensures.back c.loop-at-test.true c.in_default.ensures
 
-pub returns-in-None : goal.returns-in-None
-returns-in-None c = without_character c.args.bytes.now c.in-None.ensures
+pub returns-then-valid_up_to-gt0-clause-ends : goal.returns-then-valid_up_to-gt0-clause-ends
+returns-then-valid_up_to-gt0-clause-ends c =
+    let e = c.part_len-len.ensures in
+    text_found c.args.bytes.now c.loop-at.at c.loop-at.invariant _ c.split_at.ensures.back _ _ _ c.in-Some.ensures e.end e.within c.if-valid_up_to-gt0.true
+
+pub returns-then-valid_up_to-gt0-clause-bare : goal.returns-then-valid_up_to-gt0-clause-bare
+returns-then-valid_up_to-gt0-clause-bare c =
+    let e = c.part_len-len.ensures in
+    bare_after_text c.args.bytes.now c.loop-at.at c.loop-at.invariant _ c.split_at.ensures.back _ _ _ c.in-Some.ensures e.end e.within
+
+pub loop-at-preserved : goal.loop-at-preserved
+loop-at-preserved c =
+    let e = c.part_len-len.ensures in
+    part_more c.args.bytes.now c.loop-at.at c.loop-at.invariant _ c.split_at.ensures.back _ _ _ c.in-Some.ensures e.end e.within (omega (arith, c.if-valid_up_to-gt0.false))
+
+pub returns-clause-ends : goal.returns-clause-ends
+returns-clause-ends c = all_bare c.args.bytes.now c.loop-at.at c.loop-at.invariant c.loop-at-test.false

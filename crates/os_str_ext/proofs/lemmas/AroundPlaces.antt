@@ -1,0 +1,20 @@
+-- What stands around the least and the greatest place of a list holds it no more.
+use Rattle.std.proofs.Common.{◌≡◌, ℕ, ◌<◌, List, ◌++◌, length, sym, ap, ◌∙◌, refl, arith, length-append, append_assoc}
+use Rattle.wtf8_core.specs.Pieces.{SplitsAt}
+use Rattle.wtf8_core.specs.Standing.{StandsNowhere, IsLeastPlace, IsGreatestPlace}
+
+module _ (p s front back : List ℕ) (some : 0 < length p) where
+  pub before_least : SplitsAt IsLeastPlace p s front back → StandsNowhere p front
+  before_least c i h =
+      let split : s ≡ h.before ++ (p ++ (h.behind ++ (p ++ back))) =
+      c.joined ∙ ap (λ x. x ++ (p ++ back)) h.joined ∙ append_assoc h.before (p ++ h.behind) (p ++ back) ∙ ap (λ x. h.before ++ x) (append_assoc p h.behind (p ++ back)) in
+      let size = ap length h.joined ∙ length-append h.before (p ++ h.behind) in
+      c.found.least i (omega (arith, some, size, length-append p h.behind, h.place)) (record { before = h.before; behind = h.behind ++ (p ++ back); joined = split; place = h.place })
+
+  pub after_greatest : SplitsAt IsGreatestPlace p s front back → StandsNowhere p back
+  after_greatest c i h =
+      let front_of = front ++ (p ++ h.before) in
+      let split : s ≡ front_of ++ (p ++ h.behind) =
+      c.joined ∙ ap (λ x. front ++ (p ++ x)) h.joined ∙ ap (λ x. front ++ x) (sym (append_assoc p h.before (p ++ h.behind))) ∙ sym (append_assoc front (p ++ h.before) (p ++ h.behind)) in
+      let size = length-append front (p ++ h.before) in
+      c.found.greatest (length front_of) (omega (arith, some, size, length-append p h.before)) (record { before = front_of; behind = h.behind; joined = split; place = refl })

@@ -1,0 +1,23 @@
+//! Laws of patterns, and of what stands around the place of one.
+//!
+//! Each law is the contract of a function that does nothing. They speak of lists, so each is true of
+//! bytes and of units.
+ghost use Rattle.std.specs.Prelude.{◌≡◌, ◌<◌, [], ◌∷◌, ℕ, List, length};
+ghost use Rattle.std.specs.Char.{encode_utf8};
+ghost use Rattle.wtf8_core.specs.Pieces.{SplitsAt};
+ghost use Rattle.wtf8_core.specs.Standing.{StandsNowhere, IsLeastPlace, IsGreatestPlace};
+
+/// A pattern that isn't empty doesn't occur in what is before its least place, nor in what follows
+/// its greatest one. So it doesn't in what `split_once` gives first, nor in what `rsplit_once` gives
+/// last.
+pub fn around_place()
+    ensures before_least { (p : List ℕ) → (s : List ℕ) → (front : List ℕ) → (back : List ℕ) → 0 < length p
+        → SplitsAt IsLeastPlace p s front back → StandsNowhere p front }
+    ensures after_greatest { (p : List ℕ) → (s : List ℕ) → (front : List ℕ) → (back : List ℕ) → 0 < length p
+        → SplitsAt IsGreatestPlace p s front back → StandsNowhere p back }
+{}
+
+/// The text of a `char` of ASCII is one byte, the character's number (RFC 3629, section 3).
+pub fn ascii_text()
+    ensures { (c : ℕ) → c < 0x80 → encode_utf8 c ≡ c ∷ [] }
+{}
