@@ -22,24 +22,31 @@ pub trait RawOsStrCow<'a, E: Platform + 'a>: Sized {
 
     ghost os_bytes_of: { Self.OsStrCow → List ℕ };
 
-    /// The same string, borrowed or moved.
-    fn from_os_str(string: Self::OsStrCow) -> Self
-        ensures { bytes_of result ≡ os_bytes_of string };
+    // both are borrowed, or both are owned, in one vector
+    ghost is_kept: { Self.OsStrCow → Self → Type 0 };
 
-    /// The same string, borrowed or moved.
+    /// The same string, borrowed or moved in its own vector.
+    fn from_os_str(string: Self::OsStrCow) -> Self
+        ensures bytes { bytes_of result ≡ os_bytes_of string }
+        ensures kept { is_kept string result };
+
+    /// The same string, borrowed or moved in its own vector.
     fn into_os_str(self) -> Self::OsStrCow
-        ensures { os_bytes_of result ≡ bytes_of self };
+        ensures bytes { os_bytes_of result ≡ bytes_of self }
+        ensures kept { is_kept result self };
 }
 
 impl<'a, E: Platform + 'a, A: Allocator> RawOsStrCow<'a, E> for CowRawOsStr<'a, E, A> {
     ghost use Rattle.platform_str.specs.Cows.{cow_bytes};
-    ghost use Rattle.os_str_bytes.specs.RawCow.{raw_cow_bytes};
+    ghost use Rattle.os_str_bytes.specs.RawCow.{raw_cow_bytes, IsKept};
 
     type OsStrCow = OsStrCow<'a, E, A>;
 
     ghost bytes_of = { raw_cow_bytes };
 
     ghost os_bytes_of = { cow_bytes };
+
+    ghost is_kept = { IsKept };
 
     fn from_os_str(string: OsStrCow<'a, E, A>) -> Self {
         match string {
@@ -73,10 +80,9 @@ impl<'a, E: Platform, A: Allocator> CowRawOsStr<'a, E, A> {
 
 impl<'a, E: Platform + 'a, A: Allocator> From<RawOsStr<'a, E>> for CowRawOsStr<'a, E, A> {
     ghost use Rattle.std.specs.Prelude.{◌≡◌};
-    ghost use Rattle.os_str_bytes.specs.Raw.{raw_bytes};
-    ghost use Rattle.os_str_bytes.specs.RawCow.{raw_cow_bytes};
+    ghost use Rattle.os_str_bytes.specs.declared.raw_cow.CowRawOsStr.TheVariants.{Borrowed};
 
-    ghost from_gives = { λ raw cow. raw_cow_bytes cow ≡ raw_bytes raw };
+    ghost from_gives = { λ raw cow. cow ≡ Borrowed raw };
 
     fn from(raw: RawOsStr<'a, E>) -> Self {
         CowRawOsStr::Borrowed(raw)
@@ -85,10 +91,9 @@ impl<'a, E: Platform + 'a, A: Allocator> From<RawOsStr<'a, E>> for CowRawOsStr<'
 
 impl<'a, E: Platform + 'a, A: Allocator> From<RawOsString<E, A>> for CowRawOsStr<'a, E, A> {
     ghost use Rattle.std.specs.Prelude.{◌≡◌};
-    ghost use Rattle.os_str_bytes.specs.Raw.{raw_vec_of};
-    ghost use Rattle.os_str_bytes.specs.RawCow.{raw_cow_bytes};
+    ghost use Rattle.os_str_bytes.specs.declared.raw_cow.CowRawOsStr.TheVariants.{Owned};
 
-    ghost from_gives = { λ raw cow. raw_cow_bytes cow ≡ (raw_vec_of raw).items };
+    ghost from_gives = { λ raw cow. cow ≡ Owned raw };
 
     fn from(raw: RawOsString<E, A>) -> Self {
         CowRawOsStr::Owned(raw)

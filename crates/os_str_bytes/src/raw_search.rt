@@ -7,6 +7,7 @@ ghost use Rattle.wtf8_core.specs.UnitPlace.{FindsInUnits};
 ghost use Rattle.wtf8_core.specs.Boundary.{IsBoundary};
 ghost use Rattle.wtf8_core.specs.Chunks.{AreChunks};
 ghost use Rattle.wtf8_core.specs.Pieces.{StandsSomewhere, MayBeCutAround, StripsFront, StripsEnd, SplitsOnce, IsStartTrim, IsEndTrim, IsTrim, IsSplit, IsRSplit};
+ghost use Rattle.os_str_ext.specs.Chunks.{chunks_of};
 ghost use Rattle.os_str_ext.specs.Range.{FitsIn};
 ghost use Rattle.os_str_bytes.specs.Raw.{raw_bytes, raw_units, raw_vec_of};
 
@@ -271,7 +272,8 @@ impl<'a, E: Platform> RawOsStr<'a, E> {
     /// The Unix string of the bytes 66 6F 80 FF 6F (hexadecimal) has the chunks "", "fo" and
     /// 80 FF, "o".
     pub fn utf8_chunks(self) -> Utf8Chunks<'a, E>
-        ensures { AreChunks (raw_bytes self.entry) result }
+        ensures chunks { AreChunks (raw_bytes self.entry) result }
+        ensures value { result ≡ chunks_of (raw_bytes self.entry) }
     {
         self.string.utf8_chunks()
     }

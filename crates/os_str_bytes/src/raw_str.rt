@@ -1,5 +1,5 @@
 //! Borrowed raw strings.
-ghost use Rattle.std.specs.Prelude.{◌≡◌, ◌↔◌, [], IsTrue, IsOk, IfOk, MatchOption, MatchResult};
+ghost use Rattle.std.specs.Prelude.{◌≡◌, ◌↔◌, [], length, IsTrue, IsOk, IfOk, MatchOption, MatchResult};
 ghost use Rattle.std.specs.Str.{IsUtf8};
 ghost use Rattle.platform_str.specs.Strings.{bytes};
 ghost use Rattle.platform_str.specs.Cows.{byte_cow_bytes, cow_bytes, str_cow_bytes};
@@ -163,9 +163,10 @@ impl<'a, E: Platform> RawOsStr<'a, E> {
         self.string.is_empty()
     }
 
-    /// An owned copy.
+    /// An owned copy. Of the empty string it takes no memory.
     pub fn to_owned<A: Allocator>(self, alloc: A) -> Result<RawOsString<E, A>, AllocError>
-        ensures { IfOk result (λ owned. (raw_vec_of owned).items ≡ raw_bytes self.entry) }
+        ensures bytes { IfOk result (λ owned. (raw_vec_of owned).items ≡ raw_bytes self.entry) }
+        ensures empty { length (raw_bytes self.entry) ≡ 0 → IsOk result }
     {
         Ok(RawOsString::new(self.string.to_owned(alloc)?))
     }

@@ -187,9 +187,10 @@ impl<E: Platform, A: Allocator> RawOsString<E, A> {
     }
 
     /// The string in a block of its own length (the crate's `into_box`, and its `From`); the
-    /// string is dropped where memory is refused.
+    /// string is dropped where memory is refused. A string that fills its memory takes none.
     pub fn into_box(mut self) -> Result<RawOsStrBox<E, A>, AllocError>
-        ensures { IfOk result (λ boxed. box_bytes boxed ≡ (raw_vec_of self).items) }
+        ensures bytes { IfOk result (λ boxed. box_bytes boxed ≡ (raw_vec_of self).items) }
+        ensures room_left { OnErr result (vec_len (raw_vec_of self) < vec_capacity (raw_vec_of self)) }
     {
         self.shrink_to_fit()?;
         Ok(self.into_block())

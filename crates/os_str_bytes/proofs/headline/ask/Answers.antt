@@ -81,4 +81,4 @@ pub returns-clause-repeat : goal.returns-clause-repeat
 returns-clause-repeat g c = c.repeat.ensures.units
 
 pub returns-clause-utf8_chunks : goal.returns-clause-utf8_chunks
-returns-clause-utf8_chunks g c = c.utf8_chunks.ensures
+returns-clause-utf8_chunks g c = c.utf8_chunks.ensures.chunks
