@@ -45,6 +45,8 @@ impl<'a, E: Platform> fmt::Display for Escaped<'a, E> {
 
     ghost output = { λ e. Some (escaped_text e) };
 
+    ghost styled_output = { λ e _. Some (escaped_text e) };
+
     fn fmt<W: fmt::Write>(&self, f: &mut fmt::Formatter<W>) -> fmt::Result {
         for (part, text) in self.string.utf8_chunks() {
             write_part(part, f)?;

@@ -1,5 +1,5 @@
 //! From escapes to strings.
-ghost use Rattle.std.specs.Prelude.{◌≡◌, ◌++◌, ◌↔◌, [], IfOk, IfErr, OnOk, IsTrue, MatchResult};
+ghost use Rattle.std.specs.Prelude.{◌≡◌, ◌++◌, ◌↔◌, [], length, IsOk, IfOk, IfErr, OnOk, IsTrue, MatchResult};
 ghost use Rattle.wtf8_core.specs.CodePoint.{form};
 ghost use Rattle.platform_str.specs.Strings.{bytes, string_vec_of};
 ghost use Rattle.os_quote.specs.Escape.{IsEscape, IsQuoteFault};
@@ -22,13 +22,14 @@ use std::alloc::{AllocError, Allocator};
 /// [`QuoteError::BadEscape`] with the byte place of the first backslash that begins no token;
 /// else [`QuoteError::NotCanonical`] where no string of the platform has this escape, as
 /// `\xC3\xA9` on Unix, where these bytes are the text `é`. [`QuoteError::Memory`] may come in
-/// place of either where memory is refused.
+/// place of either where memory is refused. The empty text takes no memory.
 pub fn unescape<E: Platform, A: Allocator>(
     alloc: A,
     text: &str,
 ) -> Result<OsString<E, A>, QuoteError>
     ensures string { IfOk result (λ string. IsEscape E.units (string_vec_of string).items text.now) }
     ensures fault { IfErr result (λ fault. IsQuoteFault E.well_formed E.units text.now fault) }
+    ensures empty { length text.now ≡ 0 → IsOk result }
 {
     match split_backslash(text) {
         None => Ok(OsStr::new(text).to_owned(alloc)?),

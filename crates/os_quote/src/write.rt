@@ -1,6 +1,6 @@
 //! The escapes of parts and of texts, written piece by piece.
 ghost use Rattle.std.specs.Prelude.{◌≡◌, ◌<◌, map};
-ghost use Rattle.std.specs.Fmt.{WritesOnOk};
+ghost use Rattle.std.specs.Fmt.{WritesStyledOnOk};
 ghost use Rattle.std.specs.Str.{chars};
 ghost use Rattle.os_str_ext.specs.Parts.{part_bytes};
 ghost use Rattle.wtf8_core.specs.FaultText.{upper_hex_digit};
@@ -15,7 +15,7 @@ pub(crate) fn write_part<'a, E: Platform, W: fmt::Write>(
     part: NonUnicodeOsStr<'a, E>,
     f: &mut fmt::Formatter<W>,
 ) -> fmt::Result
-    ensures { WritesOnOk W.write_str_gives f.old result (item_texts (map unit_item (E.units (part_bytes part.entry)))) f.new }
+    ensures { WritesStyledOnOk W.write_str_gives f.old result (item_texts (map unit_item (E.units (part_bytes part.entry)))) f.new }
 {
     for unit in part.os_units() {
         write_unit(unit.to_u64() as u16, f)?;
@@ -25,7 +25,7 @@ pub(crate) fn write_part<'a, E: Platform, W: fmt::Write>(
 
 /// Writes a text with each backslash doubled.
 pub(crate) fn write_text<W: fmt::Write>(text: &str, f: &mut fmt::Formatter<W>) -> fmt::Result
-    ensures { WritesOnOk W.write_str_gives f.old result (item_texts (map character_item (chars text.now))) f.new }
+    ensures { WritesStyledOnOk W.write_str_gives f.old result (item_texts (map character_item (chars text.now))) f.new }
 {
     let mut rest = text;
     while let Some((front, behind)) = split_backslash(rest) {
@@ -38,7 +38,7 @@ pub(crate) fn write_text<W: fmt::Write>(text: &str, f: &mut fmt::Formatter<W>) -
 
 /// Writes a unit: `\xHH` where it is below 100 (hexadecimal), else `\uHHHH`.
 fn write_unit<W: fmt::Write>(unit: u16, f: &mut fmt::Formatter<W>) -> fmt::Result
-    ensures { WritesOnOk W.write_str_gives f.old result (item_text (unit_item unit)) f.new }
+    ensures { WritesStyledOnOk W.write_str_gives f.old result (item_text (unit_item unit)) f.new }
 {
     if unit < 0x100 {
         f.write_str("\\x")?;
@@ -52,7 +52,7 @@ fn write_unit<W: fmt::Write>(unit: u16, f: &mut fmt::Formatter<W>) -> fmt::Resul
 
 /// Writes the two digits of a byte.
 fn write_byte<W: fmt::Write>(byte: u8, f: &mut fmt::Formatter<W>) -> fmt::Result
-    ensures { WritesOnOk W.write_str_gives f.old result (byte_digits byte) f.new }
+    ensures { WritesStyledOnOk W.write_str_gives f.old result (byte_digits byte) f.new }
 {
     f.write_char(upper_hex_digit(byte / 16))?;
     f.write_char(upper_hex_digit(byte % 16))

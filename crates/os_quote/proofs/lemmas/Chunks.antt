@@ -1,97 +1,11 @@
--- What the chunks of a string are: each part is a string without whole characters, each text is text.
-use Rattle.std.proofs.Common.{◌≡◌, ◌⊎◌, inl, inr, ⊎_elim, ℕ, ◌+◌, ◌<◌, ◌≤◌, List, [], ◌∷◌, ◌++◌, length, take, drop, refl, sym, ap, ◌∙◌, subst, arith, length-append, length-drop, append-nil}
-use Rattle.std.specs.List.{AllByRecursion}
-use Rattle.std.specs.Str.{IsUtf8, is_utf8}
-use Rattle.std.specs.Str.Lossy.{utf8_valid_len}
-use Rattle.std.proofs.lemmas.Bool.{cases_eq, cases_Bool, false≢true}
-use Rattle.std.proofs.lemmas.List.{nil_from_length, take_all}
-use Rattle.std.proofs.lemmas.Str.{IsUtf8-from_is_utf8, is_utf8-from_IsUtf8}
-use Rattle.wtf8_core.specs.Boundary.{IsBoundary}
-use Rattle.wtf8_core.specs.Character.{WholeCharacter}
-use Rattle.wtf8_core.specs.Covered.{IsSeam, IsBare}
-use Rattle.wtf8_core.specs.Chunks.{Chunk, joined, AreChunks}
-use Rattle.wtf8_core.proofs.lemmas.Characters.{character_fits}
-use Rattle.wtf8_core.proofs.lemmas.ChunkLemmas.{some_chunks, chunks_once, one_more_chunk}
+-- The chunks of a text.
+use Rattle.std.proofs.Common.{ℕ, ◌+◌, ◌≡◌, List, [], ◌∷◌, length, refl, sym, subst, arith, append-nil}
+use Rattle.std.specs.Str.{IsUtf8}
+use Rattle.wtf8_core.specs.Covered.{IsSeam}
+use Rattle.wtf8_core.specs.Chunks.{Chunk, AreChunks}
+use Rattle.wtf8_core.proofs.lemmas.ChunkLemmas.{some_chunks, one_more_chunk}
 use Rattle.wtf8_core.proofs.lemmas.Seams.{over_none, seam_at_start, text_covered}
-use Rattle.wtf8_core.proofs.lemmas.Texts.{valid_up_to}
-use Rattle.os_str_ext.specs.Chunks.{chunks_of, IsFirstChunk}
-use Rattle.os_str_ext.proofs.lemmas.FirstChunk.{first_from_ends, edges, part_is_bare, first_and_rest, no_chunks, no_character_behind, text_from}
-
-text_or_not : (r : List ℕ) → IsUtf8 r ⊎ (IsUtf8 r → ⊥)
-text_or_not r = ⊎_elim (λ t. inl (IsUtf8-from_is_utf8 r t)) (λ f. inr (λ u. false≢true (sym f ∙ is_utf8-from_IsUtf8 r u))) (cases_Bool (is_utf8 r))
-
--- where the text ends that begins at place m
-record TextEnd (s : List ℕ) (m e : ℕ) : Type 0 where
-  ordered : m ≤ e
-  within : e ≤ length s
-  text : IsUtf8 (drop m (take e s))
-  ended : (j : ℕ) → WholeCharacter s e j → ⊥
-
-text_end : (s : List ℕ) (m : ℕ) → m ≤ length s → (e : ℕ) × TextEnd s m e
-text_end s m within =
-    ⊎_elim
-    (λ u. (
-      length s,
-      record {
-        ordered = within;
-        within = omega arith;
-        text = subst IsUtf8 (ap (drop m) (sym (take_all (length s) s (omega arith)))) u;
-        ended = λ j w. let f = character_fits s (length s) j w in omega arith;
-      },
-    ))
-    (λ n. let v = valid_up_to (drop m s) n in
-    let short = v.short in (
-      m + utf8_valid_len (drop m s),
-      record {
-        ordered = omega arith;
-        within = omega (arith, length-drop m s);
-        text = text_from s (drop m s) m (utf8_valid_len (drop m s)) refl v;
-        ended = no_character_behind s (drop m s) m (utf8_valid_len (drop m s)) refl v;
-      },
-    ))
-    (text_or_not (drop m s))
-
--- the ends of the first chunk
-first_ends : (s : List ℕ) (c : Chunk) (cs : List Chunk) → AreChunks s (c ∷ cs) → (e : ℕ) × IsFirstChunk s (length c.0) e
-first_ends s c cs h =
-    let m = length c.0 in
-    let p = h.each [] cs c refl in
-    let long : length (c.0 ++ (c.1 ++ joined cs)) ≡ length s = ap length h.joins in
-    let size = length-append c.0 (c.1 ++ joined cs) in
-    let t = text_end s m (omega arith) in
-    let bare : (k j : ℕ) → k < m → WholeCharacter s k j → ⊥ = λ k j lt w. let f = character_fits s k j w in p.bare k (omega arith) (omega arith) (record { start = k; end = j; whole = w; from = omega arith; below = omega arith }) in
-    let started : m < length s → (j : ℕ) × WholeCharacter s m j = λ lt.
-    ⊎_elim
-    (λ none. absurd (let last = p.text_last (nil_from_length c.1 none) in omega (arith, length-append c.1 (joined cs), ap (λ x. length (joined x)) last)))
-    (λ some. let q = p.covered m (omega arith) (omega (arith, length-append c.0 c.1)) in
-    let from = q.from in
-    ⊎_elim (λ e. (q.end, subst (λ x. WholeCharacter s x q.end) e q.whole)) (λ ne. absurd (bare q.start q.end (omega arith) q.whole)) (cases_eq q.start m))
-    (cases_eq (length c.1) 0) in
-    (t.0, first_from_ends s m t.0 (record { bare = bare; started = started; ordered = t.1.ordered; within = t.1.within; text = t.1.text; ended = t.1.ended }))
-
--- a part that is a string without whole characters, and a text
-pub record IsChunkOf (well_formed : List ℕ → Type 0) (c : Chunk) : Type 0 where
-  pub formed : well_formed c.0
-  pub bare : IsBare c.0
-  pub text : IsUtf8 c.1
-
-same_head : {c d : Chunk} {cs ds : List Chunk} → c ∷ cs ≡ d ∷ ds → (c ≡ d) × (cs ≡ ds)
-same_head {c} {d} {cs} {ds} e = (cc, cc)
-
-module _ (well_formed : List ℕ → Type 0)
-    (cut_front : (b : List ℕ) (i : ℕ) → well_formed b → IsBoundary b i → well_formed (take i b))
-    (cut_back : (b : List ℕ) (i : ℕ) → well_formed b → IsBoundary b i → well_formed (drop i b)) where
-  pub are_chunks_of : (s : List ℕ) (cs : List Chunk) → well_formed s → AreChunks s cs → AllByRecursion (IsChunkOf well_formed) cs
-  are_chunks_of s [] w h = tt
-  are_chunks_of s (c ∷ cs) w h =
-      let f = first_ends s c cs h in
-      let m = length c.0 in
-      let p = h.each [] cs c refl in
-      let some : 0 < length s = let q = p.some in omega (arith, ap length h.joins, length-append c.0 (c.1 ++ joined cs), length-append c.1 (joined cs), length-append c.0 c.1) in
-      let same = same_head (chunks_once s (c ∷ cs) (chunks_of s) h (some_chunks s).1 ∙ first_and_rest s m f.0 f.1 some) in
-      let ends = edges s m f.0 f.1 in
-      let first : IsChunkOf well_formed (take m s, drop m (take f.0 s)) = record { formed = cut_front s m w ends.0; bare = part_is_bare s m f.0 f.1; text = f.1.text } in
-      (subst (IsChunkOf well_formed) (sym same.0) first, are_chunks_of (drop f.0 s) cs (cut_back s f.0 w ends.1) (subst (AreChunks (drop f.0 s)) (sym same.1) (some_chunks (drop f.0 s)).1))
+use Rattle.os_str_ext.proofs.lemmas.FirstChunk.{no_chunks}
 
 -- the chunks of a text: none, or itself
 abbrev pub own_chunks : List ℕ → List Chunk

@@ -17,7 +17,8 @@ use Rattle.os_quote.specs.Escape.{chunk_items, items_of, IsEscape, IsBadEscape}
 use Rattle.os_quote.specs.Reading.{item_bytes, HasNoBackslash}
 use Rattle.os_quote.proofs.lemmas.Items.{same_items}
 use Rattle.os_quote.proofs.lemmas.Texts.{text_items, text_is_items, own_text}
-use Rattle.os_quote.proofs.lemmas.Chunks.{IsChunkOf, own_chunks, text_chunks}
+use Rattle.os_str_ext.specs.Chunks.{IsChunkOf}
+use Rattle.os_quote.proofs.lemmas.Chunks.{own_chunks, text_chunks}
 
 pub bytes_of-append : (xs ys : List Item) → flat_map item_bytes (xs ++ ys) ≡ flat_map item_bytes xs ++ flat_map item_bytes ys
 bytes_of-append [] ys = refl

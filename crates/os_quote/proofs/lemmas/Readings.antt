@@ -16,7 +16,7 @@ use Rattle.os_quote.specs.Reading.{HasNoBackslash, IsCutAtBackslash, IsRead, ite
 use Rattle.os_quote.proofs.lemmas.Items.{digit_low, digit_high, some_bytes, same_items}
 use Rattle.os_quote.proofs.lemmas.Texts.{text_items, text_is_items, own_text, item_texts-append, text_behind}
 use Rattle.os_quote.proofs.lemmas.Escapes.{all-append, bytes_of-append, one_reading, escape_is_items}
-use Rattle.os_quote.proofs.lemmas.Chunks.{IsChunkOf}
+use Rattle.os_str_ext.specs.Chunks.{IsChunkOf}
 
 -- tokens are ASCII
 ascii_all : (bs : List ℕ) → AllByRecursion (λ b. b < 128) bs → IsAscii bs

@@ -1,27 +1,27 @@
 -- How far a text has been written.
 use Rattle.std.proofs.Common.{◌≡◌, ℕ, List, [], ◌++◌, append_assoc, append-nil, rules, refl, sym, ap, ◌∙◌}
-use Rattle.std.proofs.Output.{has_written_append, has_written_of_eq}
-use Rattle.std.specs.Fmt.{HasWritten, IsPlainFormatter}
+use Rattle.std.proofs.Output.{has_written_styled_append, has_written_styled_of_eq}
+use Rattle.std.specs.Fmt.{HasWrittenStyled, IsFlush}
 use Rattle.std.specs.declared.fmt.Formatter.{Formatter}
 
 -- g is f after a front of `all`, and `left` is to be written
 abbrev pub WritesRest : {W : Type 0} → (W → List ℕ → W → Type 0) → Formatter W → Formatter W → List ℕ → List ℕ → Type 0
-WritesRest took f g left all = IsPlainFormatter f → (done : List ℕ) × HasWritten took f done g × (done ++ left ≡ all)
+WritesRest took f g left all = IsFlush f → (done : List ℕ) × HasWrittenStyled took f done g × (done ++ left ≡ all)
 
 module _ {W : Type 0} (took : W → List ℕ → W → Type 0) where
   pub nothing_yet : (f : Formatter W) (all : List ℕ) → WritesRest took f f all all
-  nothing_yet f all plain = ([], search rules, refl)
+  nothing_yet f all flush = ([], search rules, refl)
 
-  pub one_more : (f g h : Formatter W) (left now rest all : List ℕ) → WritesRest took f g left all → (IsPlainFormatter g → HasWritten took g now h) → left ≡ now ++ rest → WritesRest took f h rest all
-  one_more f g h left now rest all so_far next e plain =
-      let s = so_far plain in
-      (s.0 ++ now, has_written_append _ _ _ _ _ _ s.1 (next s.1.plain), append_assoc s.0 now rest ∙ ap (λ x. s.0 ++ x) (sym e) ∙ s.2)
+  pub one_more : (f g h : Formatter W) (left now rest all : List ℕ) → WritesRest took f g left all → (IsFlush g → HasWrittenStyled took g now h) → left ≡ now ++ rest → WritesRest took f h rest all
+  one_more f g h left now rest all so_far next e flush =
+      let s = so_far flush in
+      (s.0 ++ now, has_written_styled_append _ _ _ _ _ _ s.1 (next s.1.flush), append_assoc s.0 now rest ∙ ap (λ x. s.0 ++ x) (sym e) ∙ s.2)
 
-  pub all_written : (f g : Formatter W) (left all : List ℕ) → WritesRest took f g left all → left ≡ [] → IsPlainFormatter f → HasWritten took f all g
-  all_written f g left all so_far e plain =
-      let s = so_far plain in
-      has_written_of_eq _ _ _ _ _ (sym (append-nil s.0) ∙ ap (λ x. s.0 ++ x) (sym e) ∙ s.2) s.1
+  pub all_written : (f g : Formatter W) (left all : List ℕ) → WritesRest took f g left all → left ≡ [] → IsFlush f → HasWrittenStyled took f all g
+  all_written f g left all so_far e flush =
+      let s = so_far flush in
+      has_written_styled_of_eq _ _ _ _ _ (sym (append-nil s.0) ∙ ap (λ x. s.0 ++ x) (sym e) ∙ s.2) s.1
 
   -- two writes
-  pub both : (f g h : Formatter W) (a b : List ℕ) → (IsPlainFormatter f → HasWritten took f a g) → (IsPlainFormatter g → HasWritten took g b h) → IsPlainFormatter f → HasWritten took f (a ++ b) h
-  both f g h a b first next plain = let p = first plain in has_written_append _ _ _ _ _ _ p (next p.plain)
+  pub both : (f g h : Formatter W) (a b : List ℕ) → (IsFlush f → HasWrittenStyled took f a g) → (IsFlush g → HasWrittenStyled took g b h) → IsFlush f → HasWrittenStyled took f (a ++ b) h
+  both f g h a b first next flush = let p = first flush in has_written_styled_append _ _ _ _ _ _ p (next p.flush)

@@ -1,4 +1,4 @@
-use Rattle.os_quote.proofs.lemmas.Chunks.{are_chunks_of}
+use Rattle.os_str_ext.proofs.lemmas.EachChunk.{are_chunks_of}
 use Rattle.os_quote.proofs.lemmas.Escapes.{never_bad, one_bad_place}
 use Rattle.os_quote.proofs.laws.bad_escapes.Goals as goal
 

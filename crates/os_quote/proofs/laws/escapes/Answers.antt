@@ -1,4 +1,4 @@
-use Rattle.os_quote.proofs.lemmas.Chunks.{are_chunks_of}
+use Rattle.os_str_ext.proofs.lemmas.EachChunk.{are_chunks_of}
 use Rattle.os_quote.proofs.lemmas.Escapes.{some_escape, one_escape, one_string}
 use Rattle.os_quote.proofs.lemmas.Readings.{escape_is_text}
 use Rattle.os_quote.proofs.laws.escapes.Goals as goal

@@ -1,6 +1,6 @@
 use Rattle.std.proofs.Common.{◌≡◌, true, false, sym, subst, ◌∙◌}
 use Rattle.os_quote.specs.Escape.{IsEscape}
-use Rattle.os_quote.proofs.lemmas.Chunks.{are_chunks_of}
+use Rattle.os_str_ext.proofs.lemmas.EachChunk.{are_chunks_of}
 use Rattle.os_quote.proofs.lemmas.Readings.{no_escape}
 use Rattle.os_quote.proofs.reading.from_items.Goals as goal
 

@@ -8,4 +8,4 @@ pub returns-in_ok-to_owned-in-None-clause-string : goal.returns-in_ok-to_owned-i
 returns-in_ok-to_owned-in-None-clause-string g c =
     let P = g.E.Platform in
     let own = own_escape P.well_formed P.units P.part_units g.met.E.Platform.parts c.args.text.now (g.met.E.Platform.laws.text [] IsUtf8-nil) c.utf8.text c.in-None.ensures in
-    subst (λ x. IsEscape P.units x c.args.text.now) (sym (c.in_ok-to_owned-in-None.ensures ∙ c.new.ensures)) own
+    subst (λ x. IsEscape P.units x c.args.text.now) (sym (c.in_ok-to_owned-in-None.ensures.bytes ∙ c.new.ensures)) own

@@ -1,5 +1,5 @@
 use Rattle.std.proofs.Common.{map, ap, ◌∙◌, sym, subst, refl, true}
-use Rattle.std.specs.Fmt.{HasWritten, IsPlainFormatter}
+use Rattle.std.specs.Fmt.{HasWrittenStyled, IsFlush}
 use Rattle.os_str_ext.specs.Parts.{part_bytes, unit_number}
 use Rattle.os_quote.specs.Item.{item_text, item_texts, unit_item}
 use Rattle.os_quote.proofs.lemmas.Writing.{WritesRest, nothing_yet, one_more, all_written}
@@ -16,9 +16,9 @@ pub loop-unit-preserved : goal.loop-unit-preserved
 loop-unit-preserved g c =
     let took = g.W.Write.write_str_gives in
     let unit = unit_number c.in-Some.unit in
-    let wrote : IsPlainFormatter c.loop-unit.f → HasWritten took c.loop-unit.f (item_text (unit_item unit)) c.write_unit.new.f = λ plain. subst (λ x. HasWritten took c.loop-unit.f (item_text (unit_item x)) c.write_unit.new.f) c.to_u64.ensures (c.in_ok-write_unit.ensures plain (refl {a = true})) in
+    let wrote : IsFlush c.loop-unit.f → HasWrittenStyled took c.loop-unit.f (item_text (unit_item unit)) c.write_unit.new.f = λ flush. subst (λ x. HasWrittenStyled took c.loop-unit.f (item_text (unit_item x)) c.write_unit.new.f) c.to_u64.ensures (c.in_ok-write_unit.ensures flush (refl {a = true})) in
     one_more took _ c.loop-unit.f _ _ (item_text (unit_item unit)) (item_texts (map unit_item c.next.new.self)) _ c.loop-unit.invariant wrote (ap (λ us. item_texts (map unit_item us)) c.in-Some.ensures.steps)
 
 pub returns : goal.returns
-returns g c = λ plain _.
-    all_written g.W.Write.write_str_gives _ _ _ _ c.loop-unit.invariant (ap (λ us. item_texts (map unit_item us)) c.in-None.ensures.steps.0) plain
+returns g c = λ flush _.
+    all_written g.W.Write.write_str_gives _ _ _ _ c.loop-unit.invariant (ap (λ us. item_texts (map unit_item us)) c.in-None.ensures.steps.0) flush

@@ -1,5 +1,5 @@
 use Rattle.std.proofs.Common.{◌≡◌, ◌++◌, ◌∷◌, [], ◌∙◌, sym, subst, refl, true, append_assoc, append-nil}
-use Rattle.std.specs.Fmt.{HasWritten, IsPlainFormatter}
+use Rattle.std.specs.Fmt.{HasWrittenStyled, IsFlush}
 use Rattle.std.specs.Str.{IsUtf8}
 use Rattle.os_quote.specs.Item.{backslash}
 use Rattle.os_quote.proofs.lemmas.Texts.{text_escape, one_backslash, slash_behind, own_text}
@@ -13,16 +13,16 @@ loop-front-preserved g c =
     let behind = c.in-Some.behind.now in
     let split = c.in-Some.ensures in
     let slash : IsUtf8 (backslash ∷ behind) = slash_behind front behind split.front_text (subst IsUtf8 split.joined c.loop-front.invariant.0) in
-    let wrote : IsPlainFormatter c.loop-front.f → HasWritten took c.loop-front.f (front ++ backslash ∷ backslash ∷ []) c.write_str-in-Some.new.self =
-    both took _ _ _ front (backslash ∷ backslash ∷ []) (λ plain. c.in_ok-write_str.ensures.writes plain (refl {a = true})) (λ plain. c.in_ok-write_str-2.ensures.writes plain (refl {a = true})) in
+    let wrote : IsFlush c.loop-front.f → HasWrittenStyled took c.loop-front.f (front ++ backslash ∷ backslash ∷ []) c.write_str-in-Some.new.self =
+    both took _ _ _ front (backslash ∷ backslash ∷ []) (λ flush. c.in_ok-write_str.ensures.styled flush (refl {a = true})) (λ flush. c.in_ok-write_str-2.ensures.styled flush (refl {a = true})) in
     let step : text_escape c.loop-front.rest.now ≡ (front ++ backslash ∷ backslash ∷ []) ++ text_escape behind =
     one_backslash _ front behind split.joined split.front_text slash split.none_before ∙ sym (append_assoc front (backslash ∷ backslash ∷ []) (text_escape behind)) in
     (split.behind_text, one_more took _ c.loop-front.f _ _ (front ++ backslash ∷ backslash ∷ []) (text_escape behind) _ c.loop-front.invariant.1 wrote step)
 
 pub returns : goal.returns
-returns g c = λ plain ok.
+returns g c = λ flush ok.
     let took = g.W.Write.write_str_gives in
     let rest = c.loop-front.rest.now in
-    let wrote : IsPlainFormatter c.loop-front.f → HasWritten took c.loop-front.f rest c.write_str-2.new.self = λ p. c.write_str-2.ensures.writes p ok in
+    let wrote : IsFlush c.loop-front.f → HasWrittenStyled took c.loop-front.f rest c.write_str-2.new.self = λ p. c.write_str-2.ensures.styled p ok in
     let last = own_text rest c.loop-front.invariant.0 c.in_default.ensures ∙ sym (append-nil rest) in
-    all_written took _ _ _ _ (one_more took _ c.loop-front.f _ _ rest [] _ c.loop-front.invariant.1 wrote last) refl plain
+    all_written took _ _ _ _ (one_more took _ c.loop-front.f _ _ rest [] _ c.loop-front.invariant.1 wrote last) refl flush
