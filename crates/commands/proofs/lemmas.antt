@@ -2,3 +2,4 @@ pub mod Pieces
 pub mod UnitLines
 pub mod OneAnswer
 pub mod SameWords
+pub mod InlineTexts

@@ -1,9 +1,10 @@
 -- What each command writes for its input, and with which fault it refuses it.
-use Rattle.std.specs.Prelude.{◌≡◌, ◌≢◌, ℕ, ◌<◌, List, length, Option}
+use Rattle.std.specs.Prelude.{◌≡◌, ◌≢◌, ℕ, ◌<◌, List, length, map, Option}
 use Rattle.std.specs.Str.{IsUtf8}
 use Rattle.os_str_bytes.specs.Chunks.{Chunk, AreChunks}
 use Rattle.os_str_bytes.specs.Pieces.{IsSplit}
 use Rattle.os_str_bytes.specs.Standing.{Finds, IsLeastPlace}
+use Rattle.os_str_bytes.specs.UnitPlace.{FindsInUnits}
 use Rattle.os_str_bytes.specs.EncodingError.{EncodingError}
 use Rattle.os_str_bytes.specs.Platform.{Ghosts}
 use Rattle.os_str_bytes.specs.Platforms.{IsTextFault}
@@ -30,12 +31,20 @@ HasBadLine (Unquote os) input number = ⊥
 
 -- on a platform that says this of its strings:
 module _ {E : Type 0} (p : Ghosts E) where
+  -- the least place of the pattern in the input, None where it stands nowhere: in their bytes, and in their units
+  abbrev pub FindsLeast : List ℕ → List ℕ → Option ℕ → Type 0
+  FindsLeast pattern input place = Finds IsLeastPlace pattern input place × FindsInUnits IsLeastPlace p.well_formed p.units pattern input place
+
+  -- the pieces of the input between the places of the pattern: of their bytes, and of their units
+  abbrev pub AreSplit : List ℕ → List ℕ → List (List ℕ) → Type 0
+  AreSplit pattern input pieces = IsSplit pattern input pieces × IsSplit (p.units pattern) (p.units input) (map p.units pieces)
+
   -- `units`: the lines of the string's units; `raw`: the bytes of the string whose units stand on the lines; `find`: the line of the least place of the pattern in the string; `split`: the lines of the string's pieces between the places of the pattern; `chunks`: the lines of the string's chunks; `quote`: the string's escape; `unquote`: the bytes of the string with this escape
   abbrev pub IsOutputOn : Command → List ℕ → List ℕ → Type 0
   IsOutputOn (Units os) input output = p.well_formed input × (output ≡ unit_lines os (p.units input))
   IsOutputOn (Raw os) input output = p.well_formed output × AreUnitLines os input (p.units output)
-  IsOutputOn (Find os pattern) input output = p.well_formed input × ((place : Option ℕ) × Finds IsLeastPlace pattern.now input place × (output ≡ place_line place))
-  IsOutputOn (Split os pattern) input output = p.well_formed input × ((pieces : List (List ℕ)) × IsSplit pattern.now input pieces × (output ≡ piece_lines pieces))
+  IsOutputOn (Find os pattern) input output = p.well_formed input × ((place : Option ℕ) × FindsLeast pattern.now input place × (output ≡ place_line place))
+  IsOutputOn (Split os pattern) input output = p.well_formed input × ((pieces : List (List ℕ)) × AreSplit pattern.now input pieces × (output ≡ piece_lines pieces))
   IsOutputOn (Chunks os) input output = p.well_formed input × ((chunks : List Chunk) × AreChunks input chunks × (output ≡ chunk_lines chunks))
   IsOutputOn (Quote os) input output = p.well_formed input × IsEscape p.units input output
   IsOutputOn (Unquote os) input output = p.well_formed output × IsEscape p.units output input

@@ -1,5 +1,6 @@
 -- The whole program, from the words behind its name to its exit status.
-use Rattle.std.specs.Prelude.{◌≡◌, ℕ, List, ◌++◌, codes, drop, map, Option, IfErr, OnOk, Result, Ok, Err, String, string_bytes}
+use Rattle.std.specs.Prelude.{◌≡◌, ℕ, List, ◌++◌, codes, drop, take, map, Option, IfErr, OnOk, Result, Ok, Err, String, string_bytes}
+use Rattle.std.specs.Io.KnownBytes.{Appends}
 use Rattle.std.specs.Vec.Iter.{into_iter_items}
 use Rattle.std.specs.declared.vec.IntoIter.{IntoIter}
 use Rattle.commands.specs.declared.command.Command.{Command}
@@ -32,6 +33,10 @@ RunsTo words input old new outcome = (command : Command) → words ≡ words_of 
 -- what the program prints of a fault
 abbrev pub message : Fault → List ℕ
 message fault = codes "osbytes: " ++ (text_of fault ++ codes "\n")
+
+-- the contents grew by a beginning of that
+abbrev pub WritesMessageBeginning : Fault → Option (List ℕ) → Option (List ℕ) → Type 0
+WritesMessageBeginning fault old new = (count : ℕ) × Appends old new (take count (message fault))
 
 -- the status that the program ends with
 abbrev pub status_after : {T : Type 0} → Result T Fault → ℕ

@@ -1,15 +1,18 @@
 //! What keeps the program from its output.
-ghost use Rattle.std.specs.Prelude.{◌≡◌, Some};
+ghost use Rattle.std.specs.Prelude.{◌≡◌, Some, decimal};
+ghost use Rattle.std.specs.Fmt.{WritesStyledOnOk};
 ghost use Rattle.commands.specs.declared.fault.Fault.TheVariants.{Refused, Memory};
 
 use os_quote::QuoteError;
 use os_str_bytes::EncodingError;
 use std::alloc::{AllocError, AllocFailed};
 use std::fmt;
+use std::fmt::{Display as _, InlineText, Write as _};
 
 /// The reason why a run of the program wrote no output, or not all of it.
 ///
-/// Its text is what the program prints of it: that of `BadLine(2)` is `line 2 is not a unit`.
+/// Its text is what the program prints of it: that of `BadLine(2)` is `line 2 is not a unit`. It
+/// has no width: `{:>99}` writes what `{}` does.
 #[derive(Clone, Copy, PartialEq, Eq)]
 pub enum Fault {
     /// The input is not the bytes of a string of the platform.
@@ -51,24 +54,41 @@ impl fmt::Display for Fault {
 
     ghost output = { λ fault. Some (text_of fault) };
 
+    ghost styled_output = { λ fault _. Some (text_of fault) };
+
     fn fmt<W: fmt::Write>(&self, f: &mut fmt::Formatter<W>) -> fmt::Result {
         match *self {
-            Fault::Refused(error) => write!(f, "{error}"),
-            Fault::BadLine(number) => write!(f, "line {number} is not a unit"),
+            Fault::Refused(error) => error.fmt(f),
+            Fault::BadLine(number) => {
+                f.write_str("line ")?;
+                write_number(number, f)?;
+                f.write_str(" is not a unit")
+            }
             Fault::BadQuote(error) => match error {
-                QuoteError::BadEscape(place) => write!(f, "bad escape at byte {place}"),
-                QuoteError::NotCanonical => write!(f, "not the escape of a string"),
-                QuoteError::Memory => write!(f, "out of memory"),
+                QuoteError::BadEscape(place) => {
+                    f.write_str("bad escape at byte ")?;
+                    write_number(place, f)
+                }
+                QuoteError::NotCanonical => f.write_str("not the escape of a string"),
+                QuoteError::Memory => f.write_str("out of memory"),
             },
-            Fault::Usage => write!(
-                f,
-                "usage: osbytes units|raw|find|split|chunks unix|windows|wasm [PAT]"
-            ),
-            Fault::Memory => write!(f, "out of memory"),
-            Fault::Read => write!(f, "read failed"),
-            Fault::Write => write!(f, "write failed"),
+            Fault::Usage => {
+                f.write_str("usage: osbytes units|raw|find|split|chunks unix|windows|wasm [PAT]")
+            }
+            Fault::Memory => f.write_str("out of memory"),
+            Fault::Read => f.write_str("read failed"),
+            Fault::Write => f.write_str("write failed"),
         }
     }
+}
+
+/// Writes the decimal digits of a number, whatever width is asked for.
+fn write_number<W: fmt::Write>(number: usize, f: &mut fmt::Formatter<W>) -> fmt::Result
+    ensures { WritesStyledOnOk W.write_str_gives f.old result (decimal number) f.new }
+{
+    let mut digits = InlineText::<20>::new();
+    write!(digits, "{number}")?;
+    f.write_str(digits.as_str())
 }
 
 impl From<EncodingError> for Fault {

@@ -1,8 +1,8 @@
 //! The command `find`: where a pattern stands in a string.
 ghost use Rattle.std.specs.Prelude.{◌≡◌, ◌⊎◌, ℕ, Option, IfOk, IfErr};
-ghost use Rattle.os_str_bytes.specs.Standing.{Finds, IsLeastPlace};
 ghost use Rattle.os_str_bytes.specs.EncodingError.{EncodingError};
 ghost use Rattle.commands.specs.Lines.{place_line};
+ghost use Rattle.commands.specs.Output.{FindsLeast};
 
 use crate::fault::Fault;
 use os_str_bytes::{OsStr, OsStrBytesExt, Platform, laws};
@@ -18,7 +18,7 @@ pub fn find<E: Platform, A: Allocator>(
     pattern: &str,
 ) -> Result<Vec<u8, A>, Fault>
     ensures output { IfOk result (λ output. E.well_formed input.now
-        × ((place : Option ℕ) × Finds IsLeastPlace pattern.now input.now place × (output.items ≡ place_line place))) }
+        × ((place : Option ℕ) × FindsLeast ⟦<E as Platform>⟧ pattern.now input.now place × (output.items ≡ place_line place))) }
     ensures fault { IfErr result (λ fault. (fault ≡ Fault.Memory)
         ⊎ ((error : EncodingError) × (fault ≡ Fault.Refused error) × E.first_fault input.now error)) }
     ensures refused { (error : EncodingError) → E.first_fault input.now error → result ≡ Err (Fault.Refused error) }

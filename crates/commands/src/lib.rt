@@ -18,4 +18,5 @@ mod raw;
 pub mod run;
 mod split;
 mod target;
+mod telling;
 mod units;

@@ -5,12 +5,13 @@ ghost use Rattle.std.specs.IoError.{error_kind};
 ghost use Rattle.std.specs.Vec.Iter.{into_iter_items};
 ghost use Rattle.commands.specs.Ended.{outcome_of, was_told};
 ghost use Rattle.commands.specs.Marked.{marked_inner, has_failed};
-ghost use Rattle.commands.specs.Program.{message, words_behind_name, AreNoCommand, RunsTo};
+ghost use Rattle.commands.specs.Program.{message, WritesMessageBeginning, words_behind_name, AreNoCommand, RunsTo};
 
 use crate::command::Command;
 use crate::fault::Fault;
 use crate::marked::Marked;
 use crate::run::run;
+use crate::telling::tell;
 use std::alloc::{AllocError, Allocator};
 use std::env::Args;
 use std::io;
@@ -42,6 +43,8 @@ impl Ended {
         ensures quiet { OnOk outcome (errors.new ≡ errors.old) }
         ensures told { was_told result ≡ true → IfErr outcome (λ fault.
             Appends (E.contents errors.old) (E.contents errors.new) (message fault)) }
+        ensures beginning { IfErr outcome (λ fault.
+            WritesMessageBeginning fault (E.contents errors.old) (E.contents errors.new)) }
     {
         match outcome {
             Ok(()) => Ended {
@@ -50,7 +53,7 @@ impl Ended {
             },
             Err(fault) => Ended {
                 outcome,
-                told: writeln!(errors, "osbytes: {fault}").is_ok(),
+                told: tell(fault, errors),
             },
         }
     }
@@ -90,7 +93,7 @@ impl Termination for Ended {
 /// The arguments begin with the program's name. Those behind it are the words of a command
 /// ([`Command::parse`]), which is run as [`run`] says. Where no command that can run has them,
 /// where the arguments couldn't be had, or where the run fails, the fault's message goes to `errors`,
-/// and nothing else does. Both marks must be unset ([`Marked::failed`] tells).
+/// or where not all of it is taken a beginning of it, and nothing else does. Both marks must be unset ([`Marked::failed`] tells).
 ///
 /// For the words `units` and `windows` and the input F0 90 80 80 (hexadecimal) it writes
 /// `d800`, a newline, `dc00` and a newline, and its status is 0. For no words it writes the
@@ -127,6 +130,8 @@ pub fn execute<A: Allocator, R: Read, W: Output, E: Messages>(
     ensures quiet { OnOk (outcome_of result) (errors.new ≡ errors.old) }
     ensures told { was_told result ≡ true → IfErr (outcome_of result) (λ fault.
         Appends (E.contents errors.old) (E.contents errors.new) (message fault)) }
+    ensures beginning { IfErr (outcome_of result) (λ fault.
+        WritesMessageBeginning fault (E.contents errors.old) (E.contents errors.new)) }
 {
     match words(&alloc, args) {
         Ok(words) => Ended::telling(run_words(&alloc, &words, reader, writer), errors),

@@ -1,8 +1,8 @@
 //! The command `split`: the pieces of a string.
 ghost use Rattle.std.specs.Prelude.{◌≡◌, ◌⊎◌, ◌<◌, ◌++◌, ℕ, List, length, IfOk, IfErr, OnOk};
-ghost use Rattle.os_str_bytes.specs.Pieces.{IsSplit};
 ghost use Rattle.os_str_bytes.specs.EncodingError.{EncodingError};
 ghost use Rattle.commands.specs.Lines.{piece_digits, piece_lines};
+ghost use Rattle.commands.specs.Output.{AreSplit};
 
 use crate::fault::Fault;
 use crate::lines::byte_digits;
@@ -21,7 +21,7 @@ pub fn split<E: Platform, A: Allocator>(
 ) -> Result<Vec<u8, A>, Fault>
     requires { 0 < length pattern.now }
     ensures output { IfOk result (λ output. E.well_formed input.now
-        × ((pieces : List (List ℕ)) × IsSplit pattern.now input.now pieces × (output.items ≡ piece_lines pieces))) }
+        × ((pieces : List (List ℕ)) × AreSplit ⟦<E as Platform>⟧ pattern.now input.now pieces × (output.items ≡ piece_lines pieces))) }
     ensures fault { IfErr result (λ fault. (fault ≡ Fault.Memory)
         ⊎ ((error : EncodingError) × (fault ≡ Fault.Refused error) × E.first_fault input.now error)) }
     ensures refused { (error : EncodingError) → E.first_fault input.now error → result ≡ Err (Fault.Refused error) }

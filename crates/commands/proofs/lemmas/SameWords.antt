@@ -2,8 +2,6 @@
 use Rattle.std.proofs.Common.{◌≡◌, ℕ, List, [], Option, Result, length, get_or, refl, sym, ap, subst, ◌∙◌, arith}
 use Rattle.std.specs.Prelude.{take, ◌<◌, IfSome, IfErr, OnOk, Err, ◌⊎◌}
 use Rattle.std.specs.Io.KnownBytes.{Appends}
-use Rattle.os_str_bytes.specs.Pieces.{IsSplit}
-use Rattle.os_str_bytes.specs.Standing.{Finds, IsLeastPlace}
 use Rattle.commands.specs.declared.command.Os.{Os}
 use Rattle.commands.specs.declared.command.Os.TheVariants.{Unix, Windows, Wasm}
 use Rattle.commands.specs.declared.command.Command.{Command}
@@ -12,7 +10,7 @@ use Rattle.commands.specs.declared.fault.Fault.{Fault}
 use Rattle.commands.specs.declared.fault.Fault.TheVariants.{Refused, BadLine, BadQuote, Usage, Memory, Read, Write}
 use Rattle.commands.specs.Command.{os_word, words_of, IsUnusable}
 use Rattle.commands.specs.Lines.{place_line, piece_lines}
-use Rattle.commands.specs.Output.{IsOutput, IsRefusal, IsOfInput}
+use Rattle.commands.specs.Output.{IsOutput, IsRefusal, IsOfInput, FindsLeast, AreSplit}
 use Rattle.commands.specs.Program.{IsOutcome}
 use Rattle.commands.specs.Strings.{strings}
 
@@ -70,11 +68,11 @@ same_meaning M (Unquote a) (Unquote b) e m = subst (λ os. M (IsOutput (Unquote 
 same_meaning M (Find a p) (Find b q) e m =
     let on_platform = subst (λ os. M (IsOutput (Find os p)) (IsRefusal (Find os p)) ⊥) (same_os a b (ap (λ words. get_or words 1 []) e)) m in
     let same : p.now ≡ q.now = ap (λ words. get_or words 2 []) e in
-    subst (λ text. M (λ input output. (strings b).well_formed input × ((place : Option ℕ) × Finds IsLeastPlace text input place × (output ≡ place_line place))) (IsRefusal (Find b q)) ⊥) same on_platform
+    subst (λ text. M (λ input output. (strings b).well_formed input × ((place : Option ℕ) × FindsLeast (strings b) text input place × (output ≡ place_line place))) (IsRefusal (Find b q)) ⊥) same on_platform
 same_meaning M (Split a p) (Split b q) e m =
     let on_platform = subst (λ os. M (IsOutput (Split os p)) (IsRefusal (Split os p)) (length p.now ≡ 0)) (same_os a b (ap (λ words. get_or words 1 []) e)) m in
     let same : p.now ≡ q.now = ap (λ words. get_or words 2 []) e in
-    subst (λ text. M (λ input output. (strings b).well_formed input × ((pieces : List (List ℕ)) × IsSplit text input pieces × (output ≡ piece_lines pieces))) (SplitRefusal b text) (length text ≡ 0)) same on_platform
+    subst (λ text. M (λ input output. (strings b).well_formed input × ((pieces : List (List ℕ)) × AreSplit (strings b) text input pieces × (output ≡ piece_lines pieces))) (SplitRefusal b text) (length text ≡ 0)) same on_platform
 same_meaning M (Units a) d e m = let letters = same_letter (Units a) d e in absurd (omega arith)
 same_meaning M (Raw a) d e m = let letters = same_letter (Raw a) d e in absurd (omega arith)
 same_meaning M (Quote a) d e m = let letters = same_letter (Quote a) d e in absurd (omega arith)
