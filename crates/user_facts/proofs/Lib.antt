@@ -1,4 +1,5 @@
-pub mod Outcomes
+pub mod Around
 pub mod OnePiece
+pub mod Outcomes
 pub mod Places
 pub mod QuoteFaults

@@ -5,6 +5,7 @@
 //! breaks a caller.
 #![tactic(auto)]
 
+mod arguments;
 mod bytes;
 mod chunks;
 mod escapes;
@@ -21,6 +22,7 @@ mod standing;
 mod texts;
 mod units;
 
+pub use arguments::{Argument, ArgumentOf, read_argument};
 pub use bytes::{
     around_boundary, check_says, ends_before, fault_once, is_wtf8, parted_by_fault, read_twice,
     spelled_once, stands_in_bytes, units_once, utf8_fault_says, wide_units,
@@ -49,7 +51,7 @@ pub use readings::{
     has_reading, read_alike, read_by_items, read_from_string, reading_is_accepted,
     reading_is_string, reads_as_itself, wtf8_reads_as_itself,
 };
-pub use searches::around_first;
+pub use searches::{around_first, around_last};
 pub use standing::{byte_place, contained_by_units, cut_out_by_units, found_by_units, unit_place};
 pub use texts::{
     behind_first, cut_out, io_is_raw, io_lossy_is_safe, io_lossy_of_text, is_text, lossy_behind,
