@@ -19,7 +19,7 @@ use platform_str::{OsStr, OsStrBytes, OsString, Platform};
 use std::alloc::{AllocError, Allocator};
 
 /// Searches, cuts and pieces of strings, each equivalent to the call of its name on std's `str`.
-/// All places are places of bytes. No call takes memory.
+/// All places are places of bytes. No call but [`OsStrBytesExt::repeat`] takes memory.
 ///
 /// A boundary is 0, the length, or a place where a whole character starts or ends, as in the
 /// documentation of std's `OsStr::slice_encoded_bytes`. A search looks for its pattern's text.

@@ -1,4 +1,4 @@
-//! What 64 lanes say of neighbouring bytes.
+//! What the lanes of a vector say of neighbouring bytes.
 ghost use Rattle.std.specs.Prelude.{◌≡◌, ◌≢◌, ℕ, ◌+◌, ◌-◌, ◌*◌, ◌/◌, ◌≤◌, ◌<◌, length, IsTrue, slice_index, bit_and, bit_or, bit_xor};
 ghost use Rattle.wtf8_core.specs.PairBits.{pair_bits, later_bit};
 
