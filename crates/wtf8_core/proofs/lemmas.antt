@@ -18,6 +18,7 @@ pub mod LedForms
 pub mod Wholes
 pub mod Fronts
 pub mod FaultPlaces
+pub mod OneFaultPlace
 pub mod Lanes
 pub mod PairBits
 pub mod Fed

@@ -3,7 +3,7 @@
 //! A caller that needs a law calls its function, as `laws::spelling()`, and so knows it. The
 //! laws speak of lists of numbers: bytes, code points (`cs`, `ds`), units (`us`, `vs`) and
 //! places, which are numbers of bytes.
-ghost use Rattle.std.specs.Prelude.{◌≡◌, ◌↔◌, ◌⊎◌, ◌+◌, ◌-◌, ◌<◌, ◌≤◌, ◌^◌, ◌++◌, length, take, drop, map, ℕ, List, Option, Result};
+ghost use Rattle.std.specs.Prelude.{◌≡◌, ◌↔◌, ◌⊎◌, ◌+◌, ◌-◌, ◌<◌, ◌≤◌, ◌^◌, ◌++◌, length, take, drop, map, ℕ, List, Option, Result, IsTrue};
 ghost use Rattle.std.specs.List.{All};
 ghost use Rattle.std.specs.Ordering.{nat_cmp};
 ghost use Rattle.std.specs.Cmp.Lexicographic.{slice_cmp};
@@ -11,7 +11,8 @@ ghost use Rattle.std.specs.Str.{IsUtf8, IsCharBoundary};
 ghost use Rattle.std.specs.Str.Lossy.{utf8_lossy};
 ghost use Rattle.wtf8_core.specs.Byte.{IsByte};
 ghost use Rattle.wtf8_core.specs.Wtf8.{Spells, IsWtf8, HasUnits};
-ghost use Rattle.wtf8_core.specs.Fault.{IsFirstFault};
+ghost use Rattle.wtf8_core.specs.Fault.{IsFirstFault, IsFaultAt};
+ghost use Rattle.wtf8_core.specs.Checker.{IsFaulty};
 ghost use Rattle.wtf8_core.specs.Items.{AreItems};
 ghost use Rattle.wtf8_core.specs.Standing.{StandsAt};
 ghost use Rattle.wtf8_core.specs.StandingLaws.{StandingLaws};
@@ -25,6 +26,9 @@ ghost use Rattle.wtf8_core.specs.LossyReading.{IsLossyReading, lossy_forms};
 ghost use Rattle.wtf8_core.specs.UnitsOf.{units_of, wtf8_lossy};
 ghost use Rattle.wtf8_core.specs.declared.fault.EncodingError.{EncodingError};
 
+use crate::checker::Checker;
+use crate::fault::EncodingError;
+
 /// Bytes spell at most one list of code points (WTF-8).
 pub fn spelled_once()
     ensures { (bytes : List ℕ) → (cs : List ℕ) → (ds : List ℕ) → Spells bytes cs → Spells bytes ds → cs ≡ ds }
@@ -34,6 +38,24 @@ pub fn spelled_once()
 pub fn one_first_fault()
     ensures { (bytes : List ℕ) → (cs : List ℕ) → (ds : List ℕ) → (f : EncodingError) → (g : EncodingError)
         → IsFirstFault bytes cs f → IsFirstFault bytes ds g → (cs ≡ ds) × (f ≡ g) }
+{}
+
+/// Bytes have at most one first fault at one place, with one number of bytes refused there: what
+/// [`wtf8_fault`](crate::wtf8_fault) answers.
+pub fn one_fault_place()
+    ensures { (bytes : List ℕ) → (n : ℕ) → (m : ℕ) → (k : ℕ) → (l : ℕ) → IsFaultAt bytes n k → IsFaultAt bytes m l → (n ≡ m) × (k ≡ l) }
+{}
+
+/// A fault that isn't that the bytes end is the same whatever bytes come next. So a
+/// [`Checker`] that answered a fault answers it for ever.
+#[tactic(auto, using(crate::proofs::lemmas::Fed::extends))]
+pub fn fault_stays()
+    ensures { (bytes : List ℕ) → (more : List ℕ) → (f : EncodingError) → IsFaulty bytes f → IsFaulty (bytes ++ more) f }
+{}
+
+/// Faults are equal where they are one, with all their numbers.
+pub fn fault_comparisons(a: &EncodingError, b: &EncodingError)
+    ensures { IsTrue (⟦<EncodingError as PartialEq>⟧.eq a.now b.now) ↔ (a.now ≡ b.now) }
 {}
 
 /// Bytes are WTF-8 or have a first fault, and never both.
