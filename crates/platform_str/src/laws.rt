@@ -2,6 +2,7 @@
 ghost use Rattle.std.specs.Prelude.{◌≡◌, ◌<◌, ◌↔◌, ℕ, List, ◌++◌, length, take, drop, IsTrue, Some};
 ghost use Rattle.std.specs.Cmp.Lexicographic.{slice_cmp};
 ghost use Rattle.std.specs.Ordering.{nat_cmp};
+ghost use Rattle.std.specs.Hash as fed;
 ghost use Rattle.std.specs.List.{All, flat_map};
 ghost use Rattle.std.specs.Str.{IsUtf8, IsValidUpTo};
 ghost use Rattle.wtf8_core.specs.Byte.{IsByte};
@@ -21,6 +22,7 @@ use crate::os_str::OsStr;
 use crate::os_string::OsString;
 use crate::platform::Platform;
 use std::alloc::Allocator;
+use std::hash::Hash;
 
 /// Refused bytes aren't well formed, and have one first fault.
 pub fn faults<E: Platform>()
@@ -63,6 +65,7 @@ pub fn readings<E: Platform>()
     ensures formed { (b : List ℕ) → (c : List ℕ) → All IsByte b → E.reads_as b c → E.well_formed c }
     ensures itself { (b : List ℕ) → E.well_formed b → E.reads_as b b }
     ensures one { (b : List ℕ) → (c : List ℕ) → (d : List ℕ) → E.reads_as b c → E.reads_as b d → c ≡ d }
+    ensures some { (b : List ℕ) → All IsByte b → (c : List ℕ) × E.reads_as b c }
 {}
 
 /// At a boundary both parts of a string are strings, and their units joined are the string's.
@@ -105,18 +108,22 @@ pub fn joins<E: Platform>()
         → (IsFront (E.units p) (E.units s) ↔ ((q : List ℕ) × (E.well_formed q × IsJoin E.well_formed E.units p q s))) }
 {}
 
-/// Borrowed strings are equal where their bytes are, and are ordered as lists of bytes are.
+/// Borrowed strings are equal where their bytes are, and are ordered as lists of bytes are. A hasher
+/// is fed the bytes, as of a slice, so equal strings hash alike.
 #[tactic(auto, using(crate::proofs::lemmas::ByteOrder::byte_order))]
 pub fn comparisons<'a, E: Platform>(a: &OsStr<'a, E>, b: &OsStr<'a, E>)
     ensures equal { IsTrue (⟦<OsStr<'a, E> as PartialEq>⟧.eq a.now b.now) ↔ (bytes a.now ≡ bytes b.now) }
     ensures order { ⟦<OsStr<'a, E> as Ord>⟧.cmp a.now b.now ≡ slice_cmp nat_cmp (bytes a.now) (bytes b.now) }
     ensures partial_order { ⟦<OsStr<'a, E> as PartialOrd>⟧.partial_cmp a.now b.now ≡ Some (slice_cmp nat_cmp (bytes a.now) (bytes b.now)) }
+    ensures hash { ⟦<OsStr<'a, E> as Hash>⟧.hash_input a.now ≡ fed.slice fed.u8 (bytes a.now) }
 {}
 
-/// Owned strings are equal where their bytes are, and are ordered as lists of bytes are.
+/// Owned strings are equal where their bytes are, and are ordered as lists of bytes are. A hasher
+/// is fed the bytes, as of a slice, so equal strings hash alike.
 #[tactic(auto, using(crate::proofs::lemmas::ByteOrder::byte_order))]
 pub fn owned_comparisons<E: Platform, A: Allocator>(a: &OsString<E, A>, b: &OsString<E, A>)
     ensures equal { IsTrue (⟦<OsString<E, A> as PartialEq>⟧.eq a.now b.now) ↔ ((string_vec_of a.now).items ≡ (string_vec_of b.now).items) }
     ensures order { ⟦<OsString<E, A> as Ord>⟧.cmp a.now b.now ≡ slice_cmp nat_cmp (string_vec_of a.now).items (string_vec_of b.now).items }
     ensures partial_order { ⟦<OsString<E, A> as PartialOrd>⟧.partial_cmp a.now b.now ≡ Some (slice_cmp nat_cmp (string_vec_of a.now).items (string_vec_of b.now).items) }
+    ensures hash { ⟦<OsString<E, A> as Hash>⟧.hash_input a.now ≡ fed.slice fed.u8 (string_vec_of a.now).items }
 {}
