@@ -11,3 +11,4 @@ pub mod AroundPlaces
 pub mod PartUnits
 pub mod Repeats
 pub mod Runs
+pub mod CutUnits

@@ -1,5 +1,5 @@
--- Where a range of places fits in a string.
-use Rattle.std.specs.Prelude.{ℕ, ◌≤◌, List, length}
+-- Where a range of places fits in a string, and the units around it.
+use Rattle.std.specs.Prelude.{◌≡◌, ◌≤◌, ◌++◌, ℕ, List, length, take, drop}
 use Rattle.wtf8_core.specs.Boundary.{IsBoundary}
 
 -- the bytes of s from place i to place j are a part that may be cut out
@@ -8,3 +8,7 @@ pub record FitsIn (s : List ℕ) (i j : ℕ) : Type 0 where
   pub within : j ≤ length s
   pub start : IsBoundary s i
   pub end : IsBoundary s j
+
+-- the units of s are those before index i, those of `part`, and those from index j on, one after the other
+abbrev pub IsPartInUnits : (List ℕ → List ℕ) → List ℕ → ℕ → ℕ → List ℕ → Type 0
+IsPartInUnits units s i j part = units s ≡ units (take i s) ++ (units part ++ units (drop j s))

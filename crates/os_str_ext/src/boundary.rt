@@ -3,7 +3,7 @@ ghost use Rattle.std.specs.Prelude.{◌≡◌, ◌≤◌, ◌-◌, ◌↔◌, �
 ghost use Rattle.wtf8_core.specs.Character.{WholeCharacter};
 ghost use Rattle.wtf8_core.specs.Boundary.{IsBoundary};
 ghost use Rattle.platform_str.specs.Strings.{bytes};
-ghost use Rattle.os_str_ext.specs.Range.{FitsIn};
+ghost use Rattle.os_str_ext.specs.Range.{FitsIn, IsPartInUnits};
 
 use platform_str::{OsStr, Platform};
 use wtf8_core::{char_at, laws};
@@ -64,7 +64,8 @@ pub(crate) fn split_at<'a, E: Platform>(
 /// The part of a string from one boundary to another.
 pub(crate) fn part<'a, E: Platform>(string: OsStr<'a, E>, start: usize, end: usize) -> OsStr<'a, E>
     requires { FitsIn (bytes string) start end }
-    ensures { bytes result ≡ drop start (take end (bytes string.entry)) }
+    ensures bytes { bytes result ≡ drop start (take end (bytes string.entry)) }
+    ensures units { IsPartInUnits E.units (bytes string.entry) start end (bytes result) }
 {
     laws::boundaries();
     let (front, _) = split_at(string, end);

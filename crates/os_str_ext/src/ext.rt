@@ -8,7 +8,7 @@ ghost use Rattle.wtf8_core.specs.Pieces.{StandsSomewhere, MayBeCutAround, Strips
 ghost use Rattle.std.specs.List.{repeat};
 ghost use Rattle.platform_str.specs.Strings.{string_vec_of};
 ghost use Rattle.os_str_ext.specs.Chunks.{chunks_of};
-ghost use Rattle.os_str_ext.specs.Range.{FitsIn};
+ghost use Rattle.os_str_ext.specs.Range.{FitsIn, IsPartInUnits};
 
 use crate::chunks::Utf8Chunks;
 use crate::iter::{RSplit, Split};
@@ -43,19 +43,22 @@ pub trait OsStrBytesExt<'a>: OsStrBytes<'a> {
         ensures back { Self.bytes_of result.1 ≡ drop at (Self.bytes_of self) }
         ensures units { Self.Platform.units (Self.bytes_of self) ≡ Self.Platform.units (Self.bytes_of result.0) ++ Self.Platform.units (Self.bytes_of result.1) };
 
-    /// The part in a range that fits (test: [`SliceIndex::fits`]), as std's indexing of `str`.
+    /// The part in a range that fits (test: [`SliceIndex::fits`]), as std's indexing of `str`. The
+    /// units before the range, the part's and those after the range, joined, are the string's.
     ///
     /// `index(0..=5)` of "foobar" is the whole string, `index(3..=2)` is empty.
     fn index<I: SliceIndex>(self, range: I) -> Self
         requires { FitsIn (Self.bytes_of self) (I.first_place range) (I.end_place range (length (Self.bytes_of self))) }
-        ensures { Self.bytes_of result ≡ drop (I.first_place range) (take (I.end_place range (length (Self.bytes_of self))) (Self.bytes_of self)) };
+        ensures bytes { Self.bytes_of result ≡ drop (I.first_place range) (take (I.end_place range (length (Self.bytes_of self))) (Self.bytes_of self)) }
+        ensures units { IsPartInUnits Self.Platform.units (Self.bytes_of self) (I.first_place range) (I.end_place range (length (Self.bytes_of self))) (Self.bytes_of result) };
 
     /// The same as [`OsStrBytesExt::index`], as std's `str::get_unchecked`, but safe.
     ///
     /// `get_unchecked(3..)` of "foobar" is "bar".
     fn get_unchecked<I: SliceIndex>(self, range: I) -> Self
         requires { FitsIn (Self.bytes_of self) (I.first_place range) (I.end_place range (length (Self.bytes_of self))) }
-        ensures { Self.bytes_of result ≡ drop (I.first_place range) (take (I.end_place range (length (Self.bytes_of self))) (Self.bytes_of self)) };
+        ensures bytes { Self.bytes_of result ≡ drop (I.first_place range) (take (I.end_place range (length (Self.bytes_of self))) (Self.bytes_of self)) }
+        ensures units { IsPartInUnits Self.Platform.units (Self.bytes_of self) (I.first_place range) (I.end_place range (length (Self.bytes_of self))) (Self.bytes_of result) };
 
     // Searches.
 

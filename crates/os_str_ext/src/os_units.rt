@@ -1,5 +1,5 @@
 //! Parts, the strings in which no whole character stands, and their units.
-ghost use Rattle.std.specs.Prelude.{◌≡◌, ◌∷◌, ◌<◌, length};
+ghost use Rattle.std.specs.Prelude.{◌≡◌, ◌∷◌, ◌<◌, ◌^◌, length};
 ghost use Rattle.wtf8_core.specs.Covered.{IsBare};
 ghost use Rattle.platform_str.specs.Strings.{bytes};
 
@@ -88,9 +88,10 @@ pub struct OsUnit {
 impl OsUnit {
     ghost use Rattle.os_str_ext.specs.Parts.{unit_number};
 
-    /// The unit's number, which no other unit has.
+    /// The unit's number, which no other unit has. It is at most FFFF (hexadecimal).
     pub fn to_u64(&self) -> u64
-        ensures { result ≡ unit_number self.now }
+        ensures value { result ≡ unit_number self.now }
+        ensures wide { result < 2 ^ 16 }
     {
         u64::from(self.number)
     }
@@ -99,7 +100,7 @@ impl OsUnit {
 impl From<OsUnit> for u64 {
     ghost use Rattle.os_str_ext.specs.Parts.{unit_number};
 
-    ghost from_gives = { λ unit number. number ≡ unit_number unit };
+    ghost from_gives = { λ unit number. (number ≡ unit_number unit) × (number < 2 ^ 16) };
 
     /// The unit's number, as [`OsUnit::to_u64`].
     fn from(unit: OsUnit) -> u64 {

@@ -2,7 +2,7 @@
 ghost use Rattle.std.specs.Prelude.{◌≡◌, ◌+◌, ◌↔◌, ℕ, IsTrue, length, take, drop};
 ghost use Rattle.std.specs.Range.{range_inclusive_start, range_inclusive_end};
 ghost use Rattle.platform_str.specs.Strings.{bytes};
-ghost use Rattle.os_str_ext.specs.Range.{FitsIn};
+ghost use Rattle.os_str_ext.specs.Range.{FitsIn, IsPartInUnits};
 
 use crate::boundary::{is_boundary, part};
 use platform_str::{OsStr, Platform};
@@ -23,15 +23,18 @@ pub trait SliceIndex: Sized {
     fn fits<E: Platform>(&self, string: OsStr<'_, E>) -> bool
         ensures { IsTrue result ↔ FitsIn (bytes string.entry) (first_place self.now) (end_place self.now (length (bytes string.entry))) };
 
-    /// The bytes of the string in the range, which fits (test: [`SliceIndex::fits`]).
+    /// The bytes of the string in the range, which fits (test: [`SliceIndex::fits`]). Its units
+    /// are those of the string without the units before the range and those after it.
     fn index<'a, E: Platform>(self, string: OsStr<'a, E>) -> OsStr<'a, E>
         requires { FitsIn (bytes string) (first_place self) (end_place self (length (bytes string))) }
-        ensures { bytes result ≡ drop (first_place self) (take (end_place self (length (bytes string.entry))) (bytes string.entry)) };
+        ensures bytes { bytes result ≡ drop (first_place self) (take (end_place self (length (bytes string.entry))) (bytes string.entry)) }
+        ensures units { IsPartInUnits E.units (bytes string.entry) (first_place self) (end_place self (length (bytes string.entry))) (bytes result) };
 
     /// The same as [`SliceIndex::index`].
     fn get_unchecked<'a, E: Platform>(self, string: OsStr<'a, E>) -> OsStr<'a, E>
         requires { FitsIn (bytes string) (first_place self) (end_place self (length (bytes string))) }
-        ensures { bytes result ≡ drop (first_place self) (take (end_place self (length (bytes string.entry))) (bytes string.entry)) }
+        ensures bytes { bytes result ≡ drop (first_place self) (take (end_place self (length (bytes string.entry))) (bytes string.entry)) }
+        ensures units { IsPartInUnits E.units (bytes string.entry) (first_place self) (end_place self (length (bytes string.entry))) (bytes result) }
     {
         self.index(string)
     }
