@@ -6,12 +6,16 @@ use Rattle.platform_str.specs.declared.platform.Platform.{Ghosts}
 use Rattle.os_str_bytes.specs.declared.raw_str.RawOsStr.{RawOsStr}
 use Rattle.os_str_bytes.specs.Raw.{raw_bytes, raw_units}
 
--- the strings of the platform P are the bytes that `formed` says, `has_units` says their units, `listed` which lists are units, and `faults` the first fault of other bytes
-pub record IsPlatform {E : Type 0} (P : Ghosts E) (formed : List ℕ → Type 0) (has_units : List ℕ → List ℕ → Type 0) (listed : List ℕ → Type 0) (faults : List ℕ → EncodingError → Type 0) : Type 0 where
+-- the strings of the platform P are the bytes that `formed` says, `has_units` says their units, `listed` which lists are units, and `faults` the first fault of other bytes; `safe` says which bytes are IO-safe, `lossy_is` the lossy text of a string, `replaced` how many bytes one U+FFFD stands for there, and `parts` the units of a part
+pub record IsPlatform {E : Type 0} (P : Ghosts E) (formed : List ℕ → Type 0) (has_units : List ℕ → List ℕ → Type 0) (listed : List ℕ → Type 0) (faults : List ℕ → EncodingError → Type 0) (safe : List ℕ → Type 0) (lossy_is : List ℕ → List ℕ → Type 0) (replaced : List ℕ → ℕ → Type 0) (parts : List ℕ → Type 0) : Type 0 where
   pub well_formed : (b : List ℕ) → P.well_formed b ↔ formed b
   pub units : (b us : List ℕ) → (P.well_formed b × (us ≡ P.units b)) ↔ has_units b us
   pub unit_lists : (us : List ℕ) → P.is_unit_list us ↔ listed us
   pub first_fault : (b : List ℕ) (f : EncodingError) → P.first_fault b f ↔ faults b f
+  pub io_safe : (b : List ℕ) → P.io_safe b ↔ safe b
+  pub lossy : (b : List ℕ) → P.well_formed b → lossy_is b (P.lossy b)
+  pub replaces : (b : List ℕ) (n : ℕ) → P.replaces b n ↔ replaced b n
+  pub part_units : (us : List ℕ) → P.part_units us ↔ parts us
 
 -- us are the bytes b themselves, which are so formed
 abbrev pub AreItself : (List ℕ → Type 0) → List ℕ → List ℕ → Type 0

@@ -4,32 +4,42 @@
 ghost use Rattle.std.specs.Prelude.{◌≡◌, ◌↔◌, ℕ, List, IsTrue, Some};
 ghost use Rattle.std.specs.Cmp.Lexicographic.{slice_cmp};
 ghost use Rattle.std.specs.Ordering.{nat_cmp};
+ghost use Rattle.std.specs.Hash as fed;
 ghost use Rattle.std.specs.Str.{IsUtf8};
 ghost use Rattle.wtf8_core.specs.Wtf8.{IsWtf8, HasUnits};
-ghost use Rattle.wtf8_core.specs.Lossy.{IsLossyText};
+ghost use Rattle.wtf8_core.specs.Lossy.{IsLossyText, IsWtf8LossyText};
+ghost use Rattle.wtf8_core.specs.PartUnits.{AreLoneSurrogates};
+ghost use Rattle.wtf8_core.specs.Utf8.{IsIllFormedPart};
 ghost use Rattle.wtf8_core.specs.LossyReading.{IsLossyReading};
-ghost use Rattle.platform_str.specs.Platforms.{AreBytes, AreWideUnits, IsNoFault, IsWtf8Fault, IsTextFault};
+ghost use Rattle.platform_str.specs.Platforms.{AreBytes, AreWideUnits, IsNoFault, IsWtf8Fault, IsTextFault, IsThree};
+ghost use Rattle.platform_str.specs.PartLaws.{AreAboveAscii, AreNone};
+ghost use Rattle.platform_str.specs.ReadingLaws.{IsSame};
 ghost use Rattle.os_str_bytes.specs.Raw.{raw_bytes, raw_vec_of};
 ghost use Rattle.os_str_bytes.specs.Headline.{IsPlatform, AreItself};
 
-use crate::wtf8_laws::functions;
+use crate::wtf8_laws::{functions, lossy_text};
 use crate::{Platform, RawOsStr, RawOsString, Unix, Wasm, Windows};
 pub use os_str_ext::laws::{
     comparisons, cuts, faults, joins, lossy_texts, owned_comparisons, parts, readings, spelling,
     standing, texts,
 };
 use std::alloc::Allocator;
+use std::hash::Hash;
 pub use wtf8_core::laws::order;
 
 /// What the platforms are. Unix strings are any bytes, which are their units, and none are
 /// refused; Windows strings are WTF-8, their units any 16-bit units (RFC 2781); wasm strings are
-/// UTF-8, whose bytes are their units.
+/// UTF-8, whose bytes are their units. All Unix strings are IO-safe, elsewhere the UTF-8 ones. In a
+/// lossy text U+FFFD stands for each maximal ill-formed part (Unicode, section 3.9) on Unix and for
+/// each surrogate on Windows; on wasm it is the string. The units of a part of a chunk are at least
+/// 80 (hexadecimal) on Unix, lone surrogates on Windows, and on wasm there are none.
 pub fn platforms()
-    ensures unix { IsPlatform ⟦<Unix as Platform>⟧ AreBytes (AreItself AreBytes) AreBytes IsNoFault }
-    ensures windows { IsPlatform ⟦<Windows as Platform>⟧ IsWtf8 HasUnits AreWideUnits IsWtf8Fault }
-    ensures wasm { IsPlatform ⟦<Wasm as Platform>⟧ IsUtf8 (AreItself IsUtf8) IsUtf8 IsTextFault }
+    ensures unix { IsPlatform ⟦<Unix as Platform>⟧ AreBytes (AreItself AreBytes) AreBytes IsNoFault AreBytes IsLossyText IsIllFormedPart AreAboveAscii }
+    ensures windows { IsPlatform ⟦<Windows as Platform>⟧ IsWtf8 HasUnits AreWideUnits IsWtf8Fault IsUtf8 IsWtf8LossyText IsThree AreLoneSurrogates }
+    ensures wasm { IsPlatform ⟦<Wasm as Platform>⟧ IsUtf8 (AreItself IsUtf8) IsUtf8 IsTextFault IsUtf8 IsSame IsThree AreNone }
 {
     functions();
+    lossy_text();
 }
 
 /// How the platforms read any bytes. On Unix they are read as they are; on Windows U+FFFD stands for
@@ -40,16 +50,19 @@ pub fn platform_readings()
     ensures wasm { (b : List ℕ) → (c : List ℕ) → ⟦<Wasm as Platform>⟧.reads_as b c ↔ IsLossyText b c }
 {}
 
-/// Borrowed raw strings are equal where their bytes are, and are ordered as lists of bytes are.
+/// Borrowed raw strings are equal where their bytes are, and are ordered as lists of bytes are. A
+/// hasher is fed the bytes, as of a slice, so equal strings hash alike.
 pub fn raw_comparisons<'a, E: Platform>(a: &RawOsStr<'a, E>, b: &RawOsStr<'a, E>)
     ensures equal { IsTrue (⟦<RawOsStr<'a, E> as PartialEq>⟧.eq a.now b.now) ↔ (raw_bytes a.now ≡ raw_bytes b.now) }
     ensures order { ⟦<RawOsStr<'a, E> as Ord>⟧.cmp a.now b.now ≡ slice_cmp nat_cmp (raw_bytes a.now) (raw_bytes b.now) }
     ensures partial_order { ⟦<RawOsStr<'a, E> as PartialOrd>⟧.partial_cmp a.now b.now ≡ Some (slice_cmp nat_cmp (raw_bytes a.now) (raw_bytes b.now)) }
+    ensures hash { ⟦<RawOsStr<'a, E> as Hash>⟧.hash_input a.now ≡ fed.slice fed.u8 (raw_bytes a.now) }
 {
     comparisons(&a.as_os_str(), &b.as_os_str());
 }
 
-/// Owned raw strings are equal where their bytes are, and are ordered as lists of bytes are.
+/// Owned raw strings are equal where their bytes are, and are ordered as lists of bytes are. A
+/// hasher is fed the bytes, as of a slice, so equal strings hash alike.
 pub fn raw_owned_comparisons<E: Platform, A: Allocator>(
     a: &RawOsString<E, A>,
     b: &RawOsString<E, A>,
@@ -57,6 +70,7 @@ pub fn raw_owned_comparisons<E: Platform, A: Allocator>(
     ensures equal { IsTrue (⟦<RawOsString<E, A> as PartialEq>⟧.eq a.now b.now) ↔ ((raw_vec_of a.now).items ≡ (raw_vec_of b.now).items) }
     ensures order { ⟦<RawOsString<E, A> as Ord>⟧.cmp a.now b.now ≡ slice_cmp nat_cmp (raw_vec_of a.now).items (raw_vec_of b.now).items }
     ensures partial_order { ⟦<RawOsString<E, A> as PartialOrd>⟧.partial_cmp a.now b.now ≡ Some (slice_cmp nat_cmp (raw_vec_of a.now).items (raw_vec_of b.now).items) }
+    ensures hash { ⟦<RawOsString<E, A> as Hash>⟧.hash_input a.now ≡ fed.slice fed.u8 (raw_vec_of a.now).items }
 {
     comparisons(&a.as_os_str(), &b.as_os_str());
 }

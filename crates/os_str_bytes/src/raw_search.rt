@@ -1,6 +1,6 @@
 //! Searches, cuts and pieces of raw strings: the calls of [`crate::OsStrBytesExt`] under the same
 //! contracts.
-ghost use Rattle.std.specs.Prelude.{◌≡◌, ◌<◌, ◌↔◌, ◌++◌, ◌*◌, IsTrue, IsOk, IsErr, IfOk, length, take, drop, map};
+ghost use Rattle.std.specs.Prelude.{◌≡◌, ◌<◌, ◌↔◌, ◌++◌, ◌+◌, ◌*◌, ◌^◌, IsTrue, IsOk, IsErr, IfOk, IfSome, length, take, drop, map};
 ghost use Rattle.std.specs.List.{repeat};
 ghost use Rattle.wtf8_core.specs.Standing.{Finds, IsLeastPlace, IsGreatestPlace, IsFront, IsEnd};
 ghost use Rattle.wtf8_core.specs.UnitPlace.{FindsInUnits};
@@ -8,7 +8,7 @@ ghost use Rattle.wtf8_core.specs.Boundary.{IsBoundary};
 ghost use Rattle.wtf8_core.specs.Chunks.{AreChunks};
 ghost use Rattle.wtf8_core.specs.Pieces.{StandsSomewhere, MayBeCutAround, StripsFront, StripsEnd, SplitsOnce, IsStartTrim, IsEndTrim, IsTrim, IsSplit, IsRSplit};
 ghost use Rattle.os_str_ext.specs.Chunks.{chunks_of};
-ghost use Rattle.os_str_ext.specs.Range.{FitsIn};
+ghost use Rattle.os_str_ext.specs.Range.{FitsIn, IsPartInUnits};
 ghost use Rattle.os_str_bytes.specs.Raw.{raw_bytes, raw_units, raw_vec_of};
 
 use crate::iter::{RawRSplit, RawSplit};
@@ -54,12 +54,14 @@ impl<'a, E: Platform> RawOsStr<'a, E> {
         range.fits(self.string)
     }
 
-    /// The part in a range that fits (test: [`RawOsStr::fits`]), as std's indexing of `str`.
+    /// The part in a range that fits (test: [`RawOsStr::fits`]), as std's indexing of `str`. The
+    /// units before the range, the part's and those after the range, joined, are the string's.
     ///
     /// `index(0..=5)` of "foobar" is the whole string, `index(3..=2)` is empty.
     pub fn index<I: SliceIndex>(self, range: I) -> Self
         requires { FitsIn (raw_bytes self) (I.first_place range) (I.end_place range (length (raw_bytes self))) }
-        ensures { raw_bytes result ≡ drop (I.first_place range) (take (I.end_place range (length (raw_bytes self.entry))) (raw_bytes self.entry)) }
+        ensures bytes { raw_bytes result ≡ drop (I.first_place range) (take (I.end_place range (length (raw_bytes self.entry))) (raw_bytes self.entry)) }
+        ensures units { IsPartInUnits E.units (raw_bytes self.entry) (I.first_place range) (I.end_place range (length (raw_bytes self.entry))) (raw_bytes result) }
     {
         RawOsStr::new(range.index(self.string))
     }
@@ -69,7 +71,8 @@ impl<'a, E: Platform> RawOsStr<'a, E> {
     /// `get_unchecked(3..)` of "foobar" is "bar".
     pub fn get_unchecked<I: SliceIndex>(self, range: I) -> Self
         requires { FitsIn (raw_bytes self) (I.first_place range) (I.end_place range (length (raw_bytes self))) }
-        ensures { raw_bytes result ≡ drop (I.first_place range) (take (I.end_place range (length (raw_bytes self.entry))) (raw_bytes self.entry)) }
+        ensures bytes { raw_bytes result ≡ drop (I.first_place range) (take (I.end_place range (length (raw_bytes self.entry))) (raw_bytes self.entry)) }
+        ensures units { IsPartInUnits E.units (raw_bytes self.entry) (I.first_place range) (I.end_place range (length (raw_bytes self.entry))) (raw_bytes result) }
     {
         self.index(range)
     }
@@ -84,6 +87,7 @@ impl<'a, E: Platform> RawOsStr<'a, E> {
         ensures bytes { Finds IsLeastPlace (P.text pattern) (raw_bytes self.entry) result }
         ensures units { FindsInUnits IsLeastPlace E.well_formed E.units (P.text pattern) (raw_bytes self.entry) result }
         ensures edges { MayBeCutAround (raw_bytes self.entry) (length (P.text pattern)) result }
+        ensures behind { IfSome result (λ at. at + length (P.text pattern) < 2 ^ 64) }
     {
         self.string.find(pattern)
     }
@@ -96,6 +100,7 @@ impl<'a, E: Platform> RawOsStr<'a, E> {
         ensures bytes { Finds IsGreatestPlace (P.text pattern) (raw_bytes self.entry) result }
         ensures units { FindsInUnits IsGreatestPlace E.well_formed E.units (P.text pattern) (raw_bytes self.entry) result }
         ensures edges { MayBeCutAround (raw_bytes self.entry) (length (P.text pattern)) result }
+        ensures behind { IfSome result (λ at. at + length (P.text pattern) < 2 ^ 64) }
     {
         self.string.rfind(pattern)
     }

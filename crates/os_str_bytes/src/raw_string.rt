@@ -1,9 +1,9 @@
 //! Owned raw strings.
-ghost use Rattle.std.specs.Prelude.{◌≡◌, ◌≤◌, ◌<◌, ◌↔◌, [], IsTrue, IsOk, IfOk, IfErr, OnOk, OnErr, MatchResult, length, take, drop, vec_capacity, vec_len};
+ghost use Rattle.std.specs.Prelude.{◌≡◌, ◌≤◌, ◌<◌, ◌↔◌, ◌++◌, [], IsTrue, IsOk, IfOk, IfErr, OnOk, OnErr, MatchResult, length, take, drop, vec_capacity, vec_len};
 ghost use Rattle.std.specs.Str.{IsUtf8};
 ghost use Rattle.std.specs.String.{string_vec};
 ghost use Rattle.wtf8_core.specs.Boundary.{IsBoundary};
-ghost use Rattle.os_str_ext.specs.Range.{FitsIn};
+ghost use Rattle.os_str_ext.specs.Range.{FitsIn, IsPartInUnits};
 ghost use Rattle.platform_str.specs.Strings.{bytes, string_vec_of};
 
 use crate::raw_box::RawOsStrBox;
@@ -109,7 +109,8 @@ impl<E: Platform, A: Allocator> RawOsString<E, A> {
     /// The part in a range that fits (test: [`SliceIndex::fits`]).
     pub fn index<I: SliceIndex>(&self, range: I) -> RawOsStr<'_, E>
         requires { FitsIn (raw_vec_of self.now).items (I.first_place range) (I.end_place range (length (raw_vec_of self.now).items)) }
-        ensures { raw_bytes result ≡ drop (I.first_place range) (take (I.end_place range (length (raw_vec_of self.now).items)) (raw_vec_of self.now).items) }
+        ensures bytes { raw_bytes result ≡ drop (I.first_place range) (take (I.end_place range (length (raw_vec_of self.now).items)) (raw_vec_of self.now).items) }
+        ensures units { IsPartInUnits E.units (raw_vec_of self.now).items (I.first_place range) (I.end_place range (length (raw_vec_of self.now).items)) (raw_bytes result) }
     {
         self.as_raw().index(range)
     }
@@ -123,20 +124,23 @@ impl<E: Platform, A: Allocator> RawOsString<E, A> {
     }
 
     /// Leaves the bytes before a boundary; a place past the length changes nothing (test:
-    /// [`RawOsString::is_boundary`], or a comparison with the length). It takes no memory and
+    /// [`RawOsString::is_boundary`], or a comparison with the length). The units that are left
+    /// and those of the bytes that are cut off, joined, are the string's. It takes no memory and
     /// gives none back.
     ///
     /// `truncate(3)` of "foobar" leaves "foo", `truncate(9)` leaves "foobar".
     pub fn truncate(&mut self, at: usize)
         requires { MayTruncate (raw_vec_of self.old).items at }
         ensures items { (raw_vec_of self.new).items ≡ take at (raw_vec_of self.old).items }
+        ensures units { E.units (raw_vec_of self.old).items ≡ E.units (raw_vec_of self.new).items ++ E.units (drop at (raw_vec_of self.old).items) }
         ensures capacity { vec_capacity (raw_vec_of self.new) ≡ vec_capacity (raw_vec_of self.old) }
     {
         self.vec.truncate(at);
     }
 
     /// The bytes behind a boundary (test: [`RawOsString::is_boundary`]), in a string of their
-    /// own; those before it stay. Where memory is refused nothing changes.
+    /// own; those before it stay. The units of both, joined, are the string's. Where memory is
+    /// refused nothing changes.
     ///
     /// `split_off(3)` of "foobar" gives "bar" and leaves "foo".
     pub fn split_off(&mut self, at: usize) -> Result<Self, AllocError>
@@ -145,6 +149,7 @@ impl<E: Platform, A: Allocator> RawOsString<E, A> {
         requires { IsBoundary (raw_vec_of self.old).items at }
         ensures front { OnOk result ((raw_vec_of self.new).items ≡ take at (raw_vec_of self.old).items) }
         ensures back { IfOk result (λ back. (raw_vec_of back).items ≡ drop at (raw_vec_of self.old).items) }
+        ensures units { IfOk result (λ back. E.units (raw_vec_of self.old).items ≡ E.units (raw_vec_of self.new).items ++ E.units (raw_vec_of back).items) }
         ensures unchanged { OnErr result ((raw_vec_of self.new).items ≡ (raw_vec_of self.old).items) }
     {
         let alloc = self.vec.allocator().clone()?;
