@@ -16,7 +16,7 @@ pub loop-unit-preserved : goal.loop-unit-preserved
 loop-unit-preserved g c =
     let took = g.W.Write.write_str_gives in
     let unit = unit_number c.in-Some.unit in
-    let wrote : IsFlush c.loop-unit.f → HasWrittenStyled took c.loop-unit.f (item_text (unit_item unit)) c.write_unit.new.f = λ flush. subst (λ x. HasWrittenStyled took c.loop-unit.f (item_text (unit_item x)) c.write_unit.new.f) c.to_u64.ensures (c.in_ok-write_unit.ensures flush (refl {a = true})) in
+    let wrote : IsFlush c.loop-unit.f → HasWrittenStyled took c.loop-unit.f (item_text (unit_item unit)) c.write_unit.new.f = λ flush. subst (λ x. HasWrittenStyled took c.loop-unit.f (item_text (unit_item x)) c.write_unit.new.f) c.to_u64.ensures.value (c.in_ok-write_unit.ensures flush (refl {a = true})) in
     one_more took _ c.loop-unit.f _ _ (item_text (unit_item unit)) (item_texts (map unit_item c.next.new.self)) _ c.loop-unit.invariant wrote (ap (λ us. item_texts (map unit_item us)) c.in-Some.ensures.steps)
 
 pub returns : goal.returns
