@@ -12,3 +12,4 @@ pub mod PartUnits
 pub mod Repeats
 pub mod Runs
 pub mod CutUnits
+pub mod SymbolSteps

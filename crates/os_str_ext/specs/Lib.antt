@@ -3,3 +3,4 @@ pub mod Patterns
 pub mod PiecesLeft
 pub mod Chunks
 pub mod Parts
+pub mod Symbols

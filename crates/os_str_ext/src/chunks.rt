@@ -123,17 +123,17 @@ fn first_chunk<'a, E: Platform>(
 
 /// Where the part and the text of the first chunk end, and at how many bytes after it no whole
 /// character starts, as far as is known.
-struct ChunkEnds {
-    part_end: usize,
-    text_end: usize,
-    bare_after: usize,
+pub(crate) struct ChunkEnds {
+    pub(crate) part_end: usize,
+    pub(crate) text_end: usize,
+    pub(crate) bare_after: usize,
 }
 
 /// The ends of the first chunk, where no whole character starts at any of the first `bare` bytes.
 ///
 /// The part is gone over by the lengths of its faults. A byte with which no character begins is one
 /// by itself, which needs no search.
-fn chunk_ends(bytes: &[u8], bare: usize) -> ChunkEnds
+pub(crate) fn chunk_ends(bytes: &[u8], bare: usize) -> ChunkEnds
     requires { IsBareUpTo bytes.now bare }
     ensures ends { IsFirstChunk bytes.now result.part_end result.text_end }
     ensures bare { IsBareUpTo (drop result.text_end bytes.now) result.bare_after }

@@ -9,11 +9,13 @@ ghost use Rattle.std.specs.List.{repeat};
 ghost use Rattle.platform_str.specs.Strings.{string_vec_of};
 ghost use Rattle.os_str_ext.specs.Chunks.{chunks_of};
 ghost use Rattle.os_str_ext.specs.Range.{FitsIn, IsPartInUnits};
+ghost use Rattle.os_str_ext.specs.Symbols.{AreSymbols, symbols_of};
 
 use crate::chunks::Utf8Chunks;
 use crate::iter::{RSplit, Split};
 use crate::pattern::{Encoded, Pattern};
 use crate::slice_index::SliceIndex;
+use crate::symbols::Symbols;
 use crate::{boundary, parts, repeat, search};
 use platform_str::{OsStr, OsStrBytes, OsString, Platform};
 use std::alloc::{AllocError, Allocator};
@@ -218,6 +220,23 @@ pub trait OsStrBytesExt<'a>: OsStrBytes<'a> {
         ensures value { result ≡ chunks_of (Self.bytes_of self) }
     {
         Utf8Chunks::new(OsStr::from_encoded_bytes_unchecked(self.encoded_bytes()))
+    }
+
+    // Symbols.
+
+    /// The string's symbols, one by one: its whole characters, and the units of what is no text
+    /// (own call; of a text std's `str::chars`). They are those of its chunks, of each the units of
+    /// its part and then the characters of its text. Their bytes joined are the string, and it has
+    /// no other list of them. It takes no memory.
+    ///
+    /// The Windows string of the units 61, D83D, D83D, DE00 (hexadecimal) has the symbols 'a', the
+    /// unit D83D and U+1F600.
+    #[inline(always)]
+    final fn symbols(self) -> Symbols<'a, Self::Platform>
+        ensures symbols { AreSymbols Self.Platform.units (Self.bytes_of self) result }
+        ensures value { result ≡ symbols_of Self.Platform.units (Self.bytes_of self) }
+    {
+        Symbols::new(OsStr::from_encoded_bytes_unchecked(self.encoded_bytes()))
     }
 
     // Joins.

@@ -22,6 +22,7 @@ mod runs;
 mod search;
 pub mod search_laws;
 mod slice_index;
+mod symbols;
 
 pub use chunks::Utf8Chunks;
 pub use ext::OsStrBytesExt;
@@ -34,3 +35,4 @@ pub use platform_str::{
     unix, wasm, windows,
 };
 pub use slice_index::SliceIndex;
+pub use symbols::{Symbol, Symbols};

@@ -82,7 +82,7 @@ impl<'a, E: Platform> NonUnicodeOsStr<'a, E> {
 /// alike.
 #[derive(Clone, Copy, PartialEq, Eq, PartialOrd, Ord, Hash)]
 pub struct OsUnit {
-    number: u16,
+    pub(crate) number: u16,
 }
 
 impl OsUnit {

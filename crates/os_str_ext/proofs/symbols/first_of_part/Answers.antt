@@ -1,0 +1,57 @@
+use Rattle.std.proofs.Common.{◌∙◌, ◌-◌, ◌<◌, ◌∷◌, ap, length, subst, sym, take}
+use Rattle.wtf8_core.specs.Covered.{StartsBare}
+use Rattle.wtf8_core.proofs.lemmas.PlacesInUnits.{no_units}
+use Rattle.platform_str.specs.PartLaws.{IsFirstUnit}
+use Rattle.os_str_ext.specs.Symbols.{AreKnown, symbols_of, unit_symbol}
+use Rattle.os_str_ext.proofs.lemmas.FirstChunk.{edges, part_is_bare}
+use Rattle.os_str_ext.proofs.lemmas.SymbolSteps.{known_behind_unit, symbols_by_unit, formed_behind_unit}
+use Rattle.os_str_ext.proofs.symbols.first_of_part.Goals as goal
+
+pub first_unit-number-requires-clause-formed : goal.first_unit-number-requires-clause-formed
+first_unit-number-requires-clause-formed g c =
+    let s = c.as_encoded_bytes-bytes.result.now in
+    let value = sym c.as_encoded_bytes-bytes.ensures.value in
+    let known = subst (λ x. AreKnown x c.args.after_part c.args.after_text c.args.bare) value c.requires.known in
+    let h = known.ends (subst (λ x. c.args.after_text < length x) value c.requires.some) in
+    subst g.E.Platform.well_formed (sym c.split_at.ensures.front) (g.met.E.Platform.laws.cut_front s _ c.as_encoded_bytes-bytes.ensures.formed (edges s _ _ h).0)
+
+pub first_unit-number-requires-clause-bare : goal.first_unit-number-requires-clause-bare
+first_unit-number-requires-clause-bare g c =
+    let s = c.as_encoded_bytes-bytes.result.now in
+    let value = sym c.as_encoded_bytes-bytes.ensures.value in
+    let known = subst (λ x. AreKnown x c.args.after_part c.args.after_text c.args.bare) value c.requires.known in
+    let h = known.ends (subst (λ x. c.args.after_text < length x) value c.requires.some) in
+    subst StartsBare (sym c.split_at.ensures.front) (part_is_bare s _ _ h 0)
+
+pub from_encoded_bytes_unchecked-requires : goal.from_encoded_bytes_unchecked-requires
+from_encoded_bytes_unchecked-requires g c =
+    let s = c.as_encoded_bytes-bytes.result.now in
+    let value = sym c.as_encoded_bytes-bytes.ensures.value in
+    let known = subst (λ x. AreKnown x c.args.after_part c.args.after_text c.args.bare) value c.requires.known in
+    let some = subst (λ x. c.args.after_text < length x) value c.requires.some in
+    let formed = c.as_encoded_bytes-bytes.ensures.formed in
+    let first = subst (λ p. IsFirstUnit g.E.Platform.well_formed g.E.Platform.units p c.first_unit-number.result.0 c.first_unit-number.result.1) c.split_at.ensures.front c.first_unit-number.ensures in
+    subst g.E.Platform.well_formed (sym c.split_at-2.ensures.back)
+    (formed_behind_unit g.E.Platform.well_formed g.E.Platform.units s _ _ _ _ _ some known first g.met.E.Platform.standing formed (g.met.E.Platform.laws.cut_front s _ formed (edges s _ _ (known.ends some)).0))
+
+pub invariant_of-symbols : goal.invariant_of-symbols
+invariant_of-symbols g c =
+    let s = c.as_encoded_bytes-bytes.result.now in
+    let value = sym c.as_encoded_bytes-bytes.ensures.value in
+    let known = subst (λ x. AreKnown x c.args.after_part c.args.after_text c.args.bare) value c.requires.known in
+    let some = subst (λ x. c.args.after_text < length x) value c.requires.some in
+    let first = subst (λ p. IsFirstUnit g.E.Platform.well_formed g.E.Platform.units p c.first_unit-number.result.0 c.first_unit-number.result.1) c.split_at.ensures.front c.first_unit-number.ensures in
+    subst (λ x. AreKnown x c.args.after_part c.args.after_text c.args.bare) (sym (c.from_encoded_bytes_unchecked.ensures ∙ c.split_at-2.ensures.back))
+    (known_behind_unit g.E.Platform.well_formed g.E.Platform.units s _ _ _ _ _ some known first)
+
+pub returns : goal.returns
+returns g c =
+    let s = c.as_encoded_bytes-bytes.result.now in
+    let units = g.E.Platform.units in
+    let value = sym c.as_encoded_bytes-bytes.ensures.value in
+    let known = subst (λ x. AreKnown x c.args.after_part c.args.after_text c.args.bare) value c.requires.known in
+    let some = subst (λ x. c.args.after_text < length x) value c.requires.some in
+    let first = subst (λ p. IsFirstUnit g.E.Platform.well_formed units p c.first_unit-number.result.0 c.first_unit-number.result.1) c.split_at.ensures.front c.first_unit-number.ensures in
+    ap (symbols_of units) value
+    ∙ symbols_by_unit g.E.Platform.well_formed units s _ _ _ _ _ some known first (no_units g.E.Platform.well_formed units g.met.E.Platform.standing)
+    ∙ ap (λ r. unit_symbol c.first_unit-number.result.0 ∷ symbols_of units r) (sym (c.from_encoded_bytes_unchecked.ensures ∙ c.split_at-2.ensures.back))

@@ -1,0 +1,44 @@
+-- A string as symbols, from the first on: the characters of its texts and the units of its parts (this project's own words).
+use Rattle.std.specs.Prelude.{◌≡◌, ◌-◌, ◌<◌, ℕ, List, ◌++◌, map, length, drop}
+use Rattle.std.specs.Char.{encode_utf8}
+use Rattle.std.specs.List.{flat_map}
+use Rattle.std.specs.Str.{chars}
+use Rattle.wtf8_core.specs.Chunks.{Chunk, AreChunks}
+use Rattle.wtf8_core.specs.PartUnits.{unit_bytes}
+use Rattle.os_str_ext.specs.Chunks.{chunks_of, IsBareUpTo, IsFirstChunk}
+use Rattle.os_str_ext.specs.Parts.{unit_number}
+use Rattle.os_str_ext.specs.declared.symbols.Symbol.{Symbol}
+use Rattle.os_str_ext.specs.declared.symbols.Symbol.TheVariants.{Character}
+use Rattle.os_str_ext.specs.declared.symbols.Symbol.TheVariants as symbol
+
+-- the symbol of a unit
+abbrev pub unit_symbol : ℕ → Symbol
+unit_symbol u = symbol.Unit (record { number = u })
+
+-- of a chunk: the units of its part, then the characters of its text
+abbrev pub chunk_symbols : (List ℕ → List ℕ) → Chunk → List Symbol
+chunk_symbols units c = map unit_symbol (units c.0) ++ map Character (chars c.1)
+
+-- of chunks, one after the other
+abbrev pub chunks_symbols : (List ℕ → List ℕ) → List Chunk → List Symbol
+chunks_symbols units chunks = flat_map (chunk_symbols units) chunks
+
+-- these are the symbols of the string s, whose platform says the units of bytes
+pub record AreSymbols (units : List ℕ → List ℕ) (s : List ℕ) (symbols : List Symbol) : Type 0 where
+  pub chunks : List Chunk
+  pub are_chunks : AreChunks s chunks
+  pub are : symbols ≡ chunks_symbols units chunks
+
+-- the bytes of a symbol
+abbrev pub symbol_bytes : Symbol → List ℕ
+symbol_bytes (Character c) = encode_utf8 c
+symbol_bytes (symbol.Unit u) = unit_bytes (unit_number u)
+
+-- the one list of symbols
+abbrev pub symbols_of : (List ℕ → List ℕ) → List ℕ → List Symbol
+symbols_of units s = chunks_symbols units (chunks_of s)
+
+-- what is known of s: how many bytes follow the part and the text of its first chunk, and that no whole character starts at so many bytes after the text
+pub record AreKnown (s : List ℕ) (after_part after_text bare : ℕ) : Type 0 where
+  pub ends : after_text < length s → IsFirstChunk s (length s - after_part) (length s - after_text)
+  pub bare_after : IsBareUpTo (drop (length s - after_text) s) bare
