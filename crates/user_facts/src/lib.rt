@@ -5,60 +5,222 @@
 //! breaks a caller.
 #![tactic(auto)]
 
+mod agreements;
 mod arguments;
 mod bytes;
 mod chunks;
+mod clones;
+mod cows;
+mod ends;
+mod equal;
 mod escapes;
+mod files;
 mod joins;
 mod parts;
+mod paths;
 mod pieces;
 mod plan9;
 mod ranges;
 mod raw;
+mod raw_owned;
+mod raw_ranges;
 mod raw_strings;
 mod readings;
 mod searches;
 mod standing;
 mod texts;
 mod units;
+mod wide;
 
-pub use arguments::{Argument, ArgumentOf, read_argument};
-pub use bytes::{
-    around_boundary, check_says, ends_before, fault_once, is_wtf8, parted_by_fault, read_twice,
-    spelled_once, stands_in_bytes, units_once, utf8_fault_says, wide_units,
-};
-pub use chunks::{
-    bare_units, chunks_say, has_chunks, lone_surrogates, no_ascii, no_part, part_order, rejoined,
-    runs, same_part, same_unit, unit_order,
-};
-pub use escapes::{bad_place_says, escape_says, has_escape, there_and_back};
-pub use joins::{
-    has_join, joined_either_way, pushed_alike, starts_as_joined, starts_with_what_was_there,
-};
-pub use parts::{
-    cuts_agree, halves, halves_of_bytes, halves_of_text, part_is_accepted, three_parts,
-    three_parts_from_the_end,
-};
-pub use pieces::{uncut, uncut_from_the_end};
+pub use agreements::ends_alike;
+pub use agreements::once;
+pub use agreements::put_back;
+pub use agreements::starts_alike;
+pub use agreements::trimmed_at_the_end;
+pub use agreements::trimmed_at_the_start;
+pub use agreements::twice;
+pub use arguments::Argument;
+pub use arguments::ArgumentOf;
+pub use arguments::read_argument;
+pub use bytes::around_boundary;
+pub use bytes::check_says;
+pub use bytes::ends_before;
+pub use bytes::fault_once;
+pub use bytes::is_wtf8;
+pub use bytes::parted_by_fault;
+pub use bytes::read_twice;
+pub use bytes::spelled_once;
+pub use bytes::stands_in_bytes;
+pub use bytes::units_once;
+pub use bytes::utf8_fault_says;
+pub use bytes::wide_units;
+pub use chunks::bare_units;
+pub use chunks::chunks_say;
+pub use chunks::has_chunks;
+pub use chunks::lone_surrogates;
+pub use chunks::no_ascii;
+pub use chunks::no_part;
+pub use chunks::part_order;
+pub use chunks::rejoined;
+pub use chunks::runs;
+pub use chunks::same_part;
+pub use chunks::same_unit;
+pub use chunks::unit_order;
+pub use clones::chunks_again;
+pub use clones::raw_rsplit_again;
+pub use clones::raw_split_again;
+pub use clones::rsplit_again;
+pub use clones::split_again;
+pub use clones::units_again;
+pub use cows::as_raw_cow;
+pub use cows::borrowed_raw;
+pub use cows::boxed_text;
+pub use cows::bytes_of_byte_cow;
+pub use cows::bytes_of_cow;
+pub use cows::bytes_of_text_cow;
+pub use cows::from_raw_cow;
+pub use cows::owned_of_bytes;
+pub use cows::owned_raw;
+pub use cows::seen_in_box;
+pub use cows::seen_in_cow;
+pub use cows::seen_in_raw_cow;
+pub use cows::unboxed;
+pub use ends::chunks_stay_ended;
+pub use ends::code_points_stay_ended;
+pub use ends::decoder_stays_ended;
+pub use ends::encoder_stays_ended;
+pub use ends::raw_rsplit_stays_ended;
+pub use ends::raw_split_stays_ended;
+pub use ends::rsplit_stays_ended;
+pub use ends::split_stays_ended;
+pub use ends::units_stay_ended;
+pub use ends::wide_units_stay_ended;
+pub use equal::empty_as_default;
+pub use equal::equal_in_each_way;
+pub use equal::is_string;
+pub use equal::is_this_text;
+pub use equal::raw_is_text;
+pub use equal::raw_lossy_text;
+pub use equal::raw_text;
+pub use equal::through_bytes;
+pub use equal::through_os_str;
+pub use escapes::bad_place_says;
+pub use escapes::escape_says;
+pub use escapes::has_escape;
+pub use escapes::there_and_back;
+pub use files::kept_for_files;
+pub use files::may_be_handed;
+pub use files::may_be_taken;
+pub use files::moved_back_lossy;
+pub use files::text_there_and_back;
+pub use files::through_file;
+pub use files::vec_for_files;
+pub use joins::has_join;
+pub use joins::joined_either_way;
+pub use joins::pushed_alike;
+pub use joins::starts_as_joined;
+pub use joins::starts_with_what_was_there;
+pub use parts::cuts_agree;
+pub use parts::halves;
+pub use parts::halves_of_bytes;
+pub use parts::halves_of_text;
+pub use parts::part_is_accepted;
+pub use parts::three_parts;
+pub use parts::three_parts_from_the_end;
+pub use paths::bytes_of_path_cow;
+pub use paths::path_in_cow;
+pub use paths::seen_as_path;
+pub use paths::seen_as_string;
+pub use paths::through_owned_path;
+pub use paths::through_owned_string;
+pub use paths::through_path;
+pub use pieces::pieces_joined;
+pub use pieces::pieces_joined_from_the_end;
+pub use pieces::uncut;
+pub use pieces::uncut_from_the_end;
 pub use plan9::Plan9;
-pub use ranges::{between, between_inclusive, from, full, to, to_inclusive};
-pub use raw::{check_again, moved_back, taken_back, taken_back_by_any};
-pub use raw_strings::{
-    owned_raw_order, raw_order, raw_wide_units, read_on_wasm, same_owned_raw_string,
-    same_raw_string,
-};
-pub use readings::{
-    has_reading, read_alike, read_by_items, read_from_string, reading_is_accepted,
-    reading_is_string, reads_as_itself, wtf8_reads_as_itself,
-};
-pub use searches::{around_first, around_last};
-pub use standing::{byte_place, contained_by_units, cut_out_by_units, found_by_units, unit_place};
-pub use texts::{
-    behind_first, cut_out, io_is_raw, io_lossy_is_safe, io_lossy_of_text, is_text, lossy_behind,
-    lossy_is_text, lossy_on_unix, lossy_on_windows, lossy_says, replaced, replaced_by_as_many,
-    text_is_io_safe, text_is_string, wtf8_lossy_is_text,
-};
-pub use units::{
-    equal_by_units, listed, order, order_of_code_points, owned_order, same_owned_string,
-    same_string, spelled, through_string, through_units, units_say,
-};
+pub use ranges::between;
+pub use ranges::between_inclusive;
+pub use ranges::from;
+pub use ranges::full;
+pub use ranges::to;
+pub use ranges::to_inclusive;
+pub use raw::check_again;
+pub use raw::moved_back;
+pub use raw::taken_back;
+pub use raw::taken_back_by_any;
+pub use raw_owned::accepts;
+pub use raw_owned::cleared;
+pub use raw_owned::converted;
+pub use raw_owned::converted_text;
+pub use raw_owned::copied;
+pub use raw_owned::cut_to;
+pub use raw_owned::encoded_moved_back;
+pub use raw_owned::fills;
+pub use raw_owned::is_owned_text;
+pub use raw_owned::none;
+pub use raw_owned::raw_moved_back;
+pub use raw_owned::seen_in_copy;
+pub use raw_owned::taken_off;
+pub use raw_owned::through_box;
+pub use raw_owned::through_owned_raw;
+pub use raw_owned::through_text;
+pub use raw_ranges::part_unchecked;
+pub use raw_ranges::raw_halves;
+pub use raw_ranges::raw_part;
+pub use raw_ranges::raw_part_unchecked;
+pub use raw_strings::owned_raw_order;
+pub use raw_strings::raw_order;
+pub use raw_strings::raw_wide_units;
+pub use raw_strings::read_on_wasm;
+pub use raw_strings::same_owned_raw_string;
+pub use raw_strings::same_raw_string;
+pub use readings::has_reading;
+pub use readings::read_alike;
+pub use readings::read_by_items;
+pub use readings::read_from_string;
+pub use readings::reading_is_accepted;
+pub use readings::reading_is_string;
+pub use readings::reads_as_itself;
+pub use readings::wtf8_reads_as_itself;
+pub use searches::around_first;
+pub use searches::around_last;
+pub use standing::byte_place;
+pub use standing::contained_by_units;
+pub use standing::cut_out_by_units;
+pub use standing::found_by_units;
+pub use standing::unit_place;
+pub use texts::behind_first;
+pub use texts::cut_out;
+pub use texts::io_is_raw;
+pub use texts::io_lossy_is_safe;
+pub use texts::io_lossy_of_text;
+pub use texts::is_text;
+pub use texts::lossy_behind;
+pub use texts::lossy_is_text;
+pub use texts::lossy_on_unix;
+pub use texts::lossy_on_windows;
+pub use texts::lossy_says;
+pub use texts::replaced;
+pub use texts::replaced_by_as_many;
+pub use texts::text_is_io_safe;
+pub use texts::text_is_string;
+pub use texts::wtf8_lossy_is_text;
+pub use units::equal_by_units;
+pub use units::listed;
+pub use units::order;
+pub use units::order_of_code_points;
+pub use units::owned_order;
+pub use units::same_owned_string;
+pub use units::same_string;
+pub use units::spelled;
+pub use units::through_string;
+pub use units::through_units;
+pub use units::units_say;
+pub use wide::bytes_of_units;
+pub use wide::items_of_bytes;
+pub use wide::no_units;
+pub use wide::of_no_units;
+pub use wide::through_wide;
+pub use wide::unit_as_number;
+pub use wide::unit_items_of_bytes;

@@ -1,5 +1,6 @@
 //! Pieces: what splits give.
-ghost use Rattle.std.specs.Prelude.{◌≡◌, [], ◌∷◌, ◌<◌, length};
+ghost use Rattle.std.specs.Prelude.{◌≡◌, [], ◌∷◌, ◌<◌, length, map, reverse};
+ghost use Rattle.std.specs.List.{join_by};
 ghost use Rattle.wtf8_core.specs.Standing.{StandsNowhere};
 ghost use Rattle.platform_str.specs.Strings.{bytes};
 
@@ -23,6 +24,31 @@ pub fn uncut_from_the_end<'a, E: Platform + 'a>(
     requires some { 0 < length text.now }
     requires nowhere { StandsNowhere text.now (bytes string) }
     ensures { result ≡ bytes string.entry ∷ [] }
+{
+    string.rsplit(text)
+}
+
+/// The pieces of a string, which with the pattern between them are the string, in bytes and in units.
+pub fn pieces_joined<'a, E: Platform + 'a>(
+    string: OsStr<'a, E>,
+    text: &'a str,
+) -> Split<'a, E, &'a str>
+    requires { 0 < length text.now }
+    ensures bytes { join_by (λ piece. piece) text.now result ≡ bytes string.entry }
+    ensures units { join_by (λ piece. piece) (E.units text.now) (map E.units result) ≡ E.units (bytes string.entry) }
+{
+    string.split(text)
+}
+
+/// The pieces of a string from the end, which in reverse with the pattern between them are the string,
+/// in bytes and in units.
+pub fn pieces_joined_from_the_end<'a, E: Platform + 'a>(
+    string: OsStr<'a, E>,
+    text: &'a str,
+) -> RSplit<'a, E, &'a str>
+    requires { 0 < length text.now }
+    ensures bytes { join_by (λ piece. piece) text.now (reverse result) ≡ bytes string.entry }
+    ensures units { join_by (λ piece. piece) (E.units text.now) (reverse (map E.units result)) ≡ E.units (bytes string.entry) }
 {
     string.rsplit(text)
 }

@@ -1,0 +1,81 @@
+//! Searches that answer the same question, and cuts of what they find.
+ghost use Rattle.std.specs.Prelude.{◌≡◌, ◌<◌, IfOk, IfSome, IsTrue, length};
+ghost use Rattle.platform_str.specs.Strings.{bytes, string_vec_of};
+
+use os_str_ext::OsStrBytesExt;
+use platform_str::{OsStr, OsString, Platform, laws};
+use std::alloc::{AllocError, Global};
+
+/// Whether a string starts with a pattern exactly where it can be stripped off its start: it is
+/// always so.
+pub fn starts_alike<'a, S: OsStrBytesExt<'a> + Copy>(string: S, pattern: &str) -> bool
+    ensures { IsTrue result }
+{
+    string.starts_with(pattern) == string.strip_prefix(pattern).is_some()
+}
+
+/// Whether a string ends with a pattern exactly where it can be stripped off its end: it is always
+/// so.
+pub fn ends_alike<'a, S: OsStrBytesExt<'a> + Copy>(string: S, pattern: &str) -> bool
+    ensures { IsTrue result }
+{
+    string.ends_with(pattern) == string.strip_suffix(pattern).is_some()
+}
+
+/// Whether what is left of a string without each pattern at its start doesn't start with the pattern:
+/// it never does.
+pub fn trimmed_at_the_start<'a, S: OsStrBytesExt<'a> + Copy>(string: S, pattern: &str) -> bool
+    requires { 0 < length pattern.now }
+    ensures { IsTrue result }
+{
+    !string.trim_start_matches(pattern).starts_with(pattern)
+}
+
+/// Whether what is left of a string without each pattern at its end doesn't end with the pattern: it
+/// never does.
+pub fn trimmed_at_the_end<'a, S: OsStrBytesExt<'a> + Copy>(string: S, pattern: &str) -> bool
+    requires { 0 < length pattern.now }
+    ensures { IsTrue result }
+{
+    !string.trim_end_matches(pattern).ends_with(pattern)
+}
+
+/// The string that a stripped pattern and what follows it make, joined: the string again.
+pub fn put_back<'a, E: Platform + 'a>(
+    alloc: Global,
+    string: OsStr<'a, E>,
+    text: &'a str,
+) -> Result<Option<OsString<E>>, AllocError>
+    ensures { IfOk result (λ again. IfSome again (λ joined. (string_vec_of joined).items ≡ bytes string.entry)) }
+{
+    laws::spelling::<E>();
+    let Some(rest) = string.strip_prefix(text) else {
+        return Ok(None);
+    };
+    let mut joined = OsStr::new(text).to_owned(alloc)?;
+    joined.push(rest)?;
+    Ok(Some(joined))
+}
+
+/// The string twice over, which is the string with itself pushed.
+pub fn twice<'a, E: Platform + 'a>(alloc: Global, string: OsStr<'a, E>) -> Result<bool, AllocError>
+    ensures { IfOk result (λ same. IsTrue same) }
+{
+    laws::spelling::<E>();
+    let repeated = string.repeat(alloc, 2)?;
+    let mut pushed = string.to_owned(alloc)?;
+    pushed.push(string)?;
+    laws::owned_comparisons(&repeated, &pushed);
+    Ok(repeated == pushed)
+}
+
+/// The string once, which is the string.
+pub fn once<'a, E: Platform + 'a>(
+    alloc: Global,
+    string: OsStr<'a, E>,
+) -> Result<OsString<E>, AllocError>
+    ensures { IfOk result (λ same. (string_vec_of same).items ≡ bytes string.entry) }
+{
+    laws::spelling::<E>();
+    string.repeat(alloc, 1)
+}
