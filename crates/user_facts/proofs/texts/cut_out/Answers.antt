@@ -8,4 +8,4 @@ index-requires g c =
     record { ordered = omega arith; within = stands_within _ _ _ c.requires.stands; start = edges.0; end = edges.1 }
 
 pub returns : goal.returns
-returns g c = c.index.ensures ∙ cut_out_there _ _ _ c.requires.stands
+returns g c = c.index.ensures.bytes ∙ cut_out_there _ _ _ c.requires.stands

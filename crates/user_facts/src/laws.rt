@@ -1,0 +1,79 @@
+//! Faults and their one place, equal strings that hash alike, and conversions by `From`.
+ghost use Rattle.std.specs.Prelude.{◌≡◌, ◌<◌, ◌^◌, [], IsTrue, IfSome};
+ghost use Rattle.std.specs.String.{string_vec};
+ghost use Rattle.wtf8_core.specs.Fault.{IsFaultAt};
+ghost use Rattle.platform_str.specs.Strings.{bytes, path_vec_of, string_vec_of};
+ghost use Rattle.os_str_bytes.specs.Raw.{raw_bytes, raw_vec_of};
+
+use os_str_bytes::{OsUnit, RawOsStr, RawOsString};
+use platform_str::{EncodingError, OsStr, OsString, PathBuf, Platform, laws};
+use std::alloc::Allocator;
+use std::hash::Hash;
+use wtf8_core::{laws as wtf8_laws, wtf8_fault};
+
+/// The place of the fault of bytes of which one is known, which is that one.
+pub fn fault_place_says(raw: &[u8], at: usize, len: usize) -> Option<(usize, usize)>
+    requires { IsFaultAt raw.now at len }
+    ensures { IfSome result (λ fault. (fault.0 ≡ at) × (fault.1 ≡ len)) }
+{
+    wtf8_laws::one_fault_place();
+    wtf8_fault(raw)
+}
+
+/// Whether two faults are equal: exactly where they are the same.
+pub fn same_fault(a: EncodingError, b: EncodingError) -> bool
+    ensures { IsTrue result → a ≡ b }
+{
+    wtf8_laws::fault_comparisons(&a, &b);
+    a == b
+}
+
+/// Whether two strings are equal: then a hasher is fed the same of both.
+pub fn hash_alike<'a, E: Platform + 'a>(a: OsStr<'a, E>, b: OsStr<'a, E>) -> bool
+    ensures { IsTrue result → ⟦<OsStr<'a, E> as Hash>⟧.hash_input a.entry ≡ ⟦<OsStr<'a, E> as Hash>⟧.hash_input b.entry }
+{
+    laws::comparisons(&a, &b);
+    a == b
+}
+
+/// The path of an owned string, in its memory.
+pub fn path_of<E: Platform, A: Allocator>(string: OsString<E, A>) -> PathBuf<E, A>
+    ensures { path_vec_of result ≡ string_vec_of string }
+{
+    PathBuf::from(string)
+}
+
+/// The string of an owned path, in its memory.
+pub fn string_of<E: Platform, A: Allocator>(path: PathBuf<E, A>) -> OsString<E, A>
+    ensures { string_vec_of result ≡ path_vec_of path }
+{
+    OsString::from(path)
+}
+
+/// The string of an owned text, in its memory.
+pub fn of_text<E: Platform, A: Allocator>(text: String<A>) -> OsString<E, A>
+    ensures { string_vec_of result ≡ string_vec text }
+{
+    OsString::from(text)
+}
+
+/// The raw string of an owned string, in its memory.
+pub fn raw_of<E: Platform, A: Allocator>(string: OsString<E, A>) -> RawOsString<E, A>
+    ensures { raw_vec_of result ≡ string_vec_of string }
+{
+    RawOsString::from(string)
+}
+
+/// The empty raw string.
+pub fn empty_raw<'a, E: Platform + 'a>() -> RawOsStr<'a, E>
+    ensures { raw_bytes result ≡ [] }
+{
+    RawOsStr::default()
+}
+
+/// The number of a unit, which has at most 16 bits.
+pub fn unit_bits(unit: OsUnit) -> u64
+    ensures { result < 2 ^ 16 }
+{
+    unit.to_u64()
+}
