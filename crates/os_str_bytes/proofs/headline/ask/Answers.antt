@@ -62,6 +62,9 @@ returns-clause-trim g c = record { trimmed = c.trim_matches.ensures.units; whole
 pub returns-clause-split_once : goal.returns-clause-split_once
 returns-clause-split_once g c = c.split_once.ensures.units
 
+pub returns-clause-rsplit_once : goal.returns-clause-rsplit_once
+returns-clause-rsplit_once g c = c.rsplit_once.ensures.units
+
 pub returns-clause-split : goal.returns-clause-split
 returns-clause-split g c = c.pieces.ensures
 
