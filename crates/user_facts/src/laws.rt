@@ -1,5 +1,5 @@
-//! Faults and their one place, equal strings that hash alike, and conversions by `From`.
-ghost use Rattle.std.specs.Prelude.{◌≡◌, ◌<◌, ◌^◌, [], IsTrue, IfSome};
+//! What stays: a fault once it was answered, one place of it, and that equal strings hash alike.
+ghost use Rattle.std.specs.Prelude.{◌≡◌, ◌<◌, ◌^◌, [], Err, IsTrue, IfErr, IfSome};
 ghost use Rattle.std.specs.String.{string_vec};
 ghost use Rattle.wtf8_core.specs.Fault.{IsFaultAt};
 ghost use Rattle.platform_str.specs.Strings.{bytes, path_vec_of, string_vec_of};
@@ -9,7 +9,22 @@ use os_str_bytes::{OsUnit, RawOsStr, RawOsString};
 use platform_str::{EncodingError, OsStr, OsString, PathBuf, Platform, laws};
 use std::alloc::Allocator;
 use std::hash::Hash;
-use wtf8_core::{laws as wtf8_laws, wtf8_fault};
+use wtf8_core::{Checker, laws as wtf8_laws, wtf8_fault};
+
+/// What two feeds of a new checker answer: where the first answers a fault, so does the second.
+pub fn fault_again(
+    piece: &[u8],
+    more: &[u8],
+) -> (Result<(), EncodingError>, Result<(), EncodingError>)
+    ensures { IfErr result.0 (λ fault. result.1 ≡ Err fault) }
+{
+    wtf8_laws::fault_stays();
+    wtf8_laws::one_first_fault();
+    let mut checker = Checker::new();
+    let first = checker.feed(piece);
+    let second = checker.feed(more);
+    (first, second)
+}
 
 /// The place of the fault of bytes of which one is known, which is that one.
 pub fn fault_place_says(raw: &[u8], at: usize, len: usize) -> Option<(usize, usize)>
