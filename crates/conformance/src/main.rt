@@ -8,6 +8,7 @@
 //! be read.
 #![tactic(auto)]
 
+mod asked;
 mod error;
 mod fault_text;
 mod kinds;

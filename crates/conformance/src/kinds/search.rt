@@ -1,5 +1,6 @@
 //! Files `search`: a platform, a string of it, a pattern, and what each search answers. Each is
 //! asked with the pattern as a `&str`, as a `&String`, and as a `char` where it is one character.
+use crate::asked::ask_headline;
 use crate::platforms::PlatformKind;
 use crate::raw_strings::{Question, add_pair, add_string, add_strings, ask_each};
 use answer_files::hex_text::{read_bytes, read_text};
@@ -128,8 +129,7 @@ impl<'a, P: Pattern + Copy> Question for Search<'a, P> {
         string: RawOsStr<'s, E>,
     ) -> Result<(), LineError> {
         asked.turn_to(of);
-        let raw = string.as_encoded_bytes();
-        let answers = headline::ask(&alloc, raw, string, string, self.pattern, 0, 0);
+        let answers = ask_headline(&alloc, string, string, self.pattern, 0, 0);
         self.compare_places(asked, &answers)?;
         self.compare_ends(asked, &answers)?;
         Ok(self.compare_pieces(asked, alloc, answers)?)

@@ -1,12 +1,13 @@
 //! Files `strings`: a platform, a string of it, the string's boundaries, chunks, texts and IO
 //! bytes. The last column, what the Rust crate os_str_bytes answers to `into_io_vec_lossy`,
 //! isn't asked: on Windows the answer here is another.
+use crate::asked::ask_headline;
 use crate::platforms::{PlatformKind, string};
 use crate::raw_strings::{Question, ask_each};
 use answer_files::hex_text::{bytes_text, read_bytes};
 use answer_files::{Asked, Column, LineError};
 use os_str_bytes::{
-    NonUnicodeOsStr, OsStr, OsStrBytes, OsStringBytes, Platform, RawOsStr, Utf8Chunks, headline,
+    NonUnicodeOsStr, OsStr, OsStrBytes, OsStringBytes, Platform, RawOsStr, Utf8Chunks,
 };
 use std::alloc::{AllocError, Global};
 
@@ -90,8 +91,7 @@ impl<'a> Question for Answers<'a> {
             self.boundaries,
             places,
         )?;
-        let raw = string.as_encoded_bytes();
-        let answers = headline::ask(&alloc, raw, string, string, "", 0, 0);
+        let answers = ask_headline(&alloc, string, string, "", 0, 0);
         let (chunks, units) = chunk_texts(alloc, answers.utf8_chunks)?;
         asked.list("utf8_chunks", "utf8_chunks", self.chunks, &chunks)?;
         asked.list(
@@ -138,10 +138,9 @@ fn boundary_flags<'s, E: Platform + 's>(
     alloc: Global,
     string: RawOsStr<'s, E>,
 ) -> Result<String, AllocError> {
-    let raw = string.as_encoded_bytes();
     let mut text = String::new(alloc);
-    for at in 0..raw.len() + 2 {
-        let answers = headline::ask(&alloc, raw, string, string, "", at, 0);
+    for at in 0..string.as_encoded_bytes().len() + 2 {
+        let answers = ask_headline(&alloc, string, string, "", at, 0);
         text.push(if answers.is_boundary { '1' } else { '0' })?;
     }
     Ok(text)

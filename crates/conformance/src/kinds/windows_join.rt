@@ -1,10 +1,11 @@
 //! Files `windows_join`: two Windows strings, the second pushed behind the first, the first
 //! three times, and how the two are ordered.
+use crate::asked::ask_headline;
 use crate::platforms;
 use crate::raw_strings::{Question, ask_each};
 use answer_files::hex_text::read_bytes;
 use answer_files::{Asked, Column, LineError};
-use os_str_bytes::{Platform, RawOsStr, Windows, headline};
+use os_str_bytes::{Platform, RawOsStr, Windows};
 use std::alloc::Global;
 use std::cmp::Ordering;
 
@@ -47,8 +48,7 @@ impl<'a, 'b> Question for Join<'a, 'b> {
     ) -> Result<(), LineError> {
         asked.turn_to(of);
         let second = RawOsStr::new(platforms::string::<E>(self.second)?);
-        let raw = string.as_encoded_bytes();
-        let answers = headline::ask(&alloc, raw, string, second, "", 0, 3);
+        let answers = ask_headline(&alloc, string, second, "", 0, 3);
         let joined = answers.push?.into_encoded_bytes();
         asked.bytes("a.push(b)", "push to an owned copy", self.joined, &joined)?;
         let three = answers.repeat?.into_raw_vec();

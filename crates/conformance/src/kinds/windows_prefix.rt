@@ -1,10 +1,11 @@
 //! Files `windows_prefix`: two Windows strings, whether the first starts with the second, and
 //! whether it ends with it, both in units.
+use crate::asked::ask_headline;
 use crate::platforms::{self, string};
 use crate::raw_strings::{Question, ask_each};
 use answer_files::hex_text::read_bytes;
 use answer_files::{Asked, Column, LineError};
-use os_str_bytes::{Platform, RawOsStr, Windows, headline};
+use os_str_bytes::{Platform, RawOsStr, Windows};
 use std::alloc::{AllocError, Global};
 
 /// What a row asks, and what the calls answer.
@@ -64,8 +65,7 @@ impl<'a, 'b> Question for Prefix<'a, 'b> {
     ) -> Result<(), LineError> {
         asked.turn_to(of);
         let other = RawOsStr::new(platforms::string::<E>(self.other)?);
-        let raw = string.as_encoded_bytes();
-        let answers = headline::ask(&alloc, raw, string, other, "", 0, 0);
+        let answers = ask_headline(&alloc, string, other, "", 0, 0);
         Ok(self.add(asked, answers.starts_with_os, answers.ends_with_os)?)
     }
 }
