@@ -1,7 +1,7 @@
 //! All iterators: those of raw strings, and those of the crates below.
 use crate::raw_str::RawOsStr;
 use os_str_ext::{Pattern, Platform};
-pub use os_str_ext::{OsUnits, RSplit, Split, Utf8Chunks, WideUnits};
+pub use os_str_ext::{OsUnits, RSplit, Split, Symbols, Utf8Chunks, WideUnits};
 use std::alloc::AllocError;
 use std::marker::Model;
 pub use wtf8_core::{CodePoints, DecodeWide, EncodeWide};

@@ -9,12 +9,13 @@ ghost use Rattle.wtf8_core.specs.Chunks.{AreChunks};
 ghost use Rattle.wtf8_core.specs.Pieces.{StandsSomewhere, MayBeCutAround, StripsFront, StripsEnd, SplitsOnce, IsStartTrim, IsEndTrim, IsTrim, IsSplit, IsRSplit};
 ghost use Rattle.os_str_ext.specs.Chunks.{chunks_of};
 ghost use Rattle.os_str_ext.specs.Range.{FitsIn, IsPartInUnits};
+ghost use Rattle.os_str_ext.specs.Symbols.{AreSymbols, symbols_of};
 ghost use Rattle.os_str_bytes.specs.Raw.{raw_bytes, raw_units, raw_vec_of};
 
 use crate::iter::{RawRSplit, RawSplit};
 use crate::raw_str::RawOsStr;
 use crate::raw_string::RawOsString;
-use os_str_ext::{OsStrBytesExt, Pattern, Platform, SliceIndex, Utf8Chunks};
+use os_str_ext::{OsStrBytesExt, Pattern, Platform, SliceIndex, Symbols, Utf8Chunks};
 use std::alloc::{AllocError, Allocator};
 
 /// All places are places of bytes. No call takes memory but [`RawOsStr::repeat`].
@@ -281,6 +282,20 @@ impl<'a, E: Platform> RawOsStr<'a, E> {
         ensures value { result ≡ chunks_of (raw_bytes self.entry) }
     {
         self.string.utf8_chunks()
+    }
+
+    // Symbols.
+
+    /// The string's symbols, one by one: its whole characters, and the units of what is no text
+    /// (own call; of a text std's `str::chars`). It takes no memory.
+    ///
+    /// The Windows string of the units 61, D83D, D83D, DE00 (hexadecimal) has the symbols 'a', the
+    /// unit D83D and U+1F600.
+    pub fn symbols(self) -> Symbols<'a, E>
+        ensures symbols { AreSymbols E.units (raw_bytes self.entry) result }
+        ensures value { result ≡ symbols_of E.units (raw_bytes self.entry) }
+    {
+        self.string.symbols()
     }
 
     // Joins.
