@@ -14,7 +14,7 @@ use Rattle.os_str_bytes.specs.WindowsLaws.{windows_laws}
 use Rattle.os_quote.specs.Escape.{IsEscape, IsQuoteFault}
 use Rattle.os_quote.specs.declared.error.QuoteError.{QuoteError}
 use Rattle.os_quote.specs.declared.error.QuoteError.TheVariants as quote
-use Rattle.os_str_ext.proofs.lemmas.EachChunk.{are_chunks_of}
+use Rattle.os_quote.proofs.lemmas.EachChunk.{are_chunks_of}
 use Rattle.os_quote.proofs.lemmas.Escapes.{never_bad, one_bad_place}
 use Rattle.os_quote.proofs.lemmas.Readings.{escape_is_text}
 use Rattle.commands.specs.declared.command.Os.{Os}
