@@ -105,9 +105,12 @@ impl<'a, E: Platform> Iterator for Symbols<'a, E> {
 
     #[inline(always)]
     fn next(&mut self) -> Option<Symbol> {
-        let Some((symbol, rest)) =
-            first_symbol(self.rest, self.after_part, self.after_text, self.bare)
-        else {
+        let Some((symbol, rest)) = first_symbol(
+            self.rest,
+            self.after_part,
+            self.after_text,
+            self.bare,
+        ) else {
             return None;
         };
         *self = rest;
