@@ -1,4 +1,5 @@
 pub mod Around
+pub mod EqualOrder
 pub mod OnePiece
 pub mod Outcomes
 pub mod PiecesJoined

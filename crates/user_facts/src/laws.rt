@@ -1,7 +1,8 @@
 //! What stays: a fault once it was answered, one place of it, and that equal strings hash alike.
-ghost use Rattle.std.specs.Prelude.{◌≡◌, ◌<◌, ◌^◌, [], Err, IsTrue, IfErr, IfSome};
+ghost use Rattle.std.specs.Prelude.{◌≡◌, ◌↔◌, ◌<◌, ◌^◌, [], Err, IsTrue, IfErr, IfSome};
 ghost use Rattle.std.specs.String.{string_vec};
 ghost use Rattle.wtf8_core.specs.Fault.{IsFaultAt};
+ghost use Rattle.wtf8_core.specs.declared.fault.EncodingError.TheVariants.{Utf8};
 ghost use Rattle.platform_str.specs.Strings.{bytes, path_vec_of, string_vec_of};
 ghost use Rattle.os_str_bytes.specs.Raw.{raw_bytes, raw_vec_of};
 
@@ -37,10 +38,17 @@ pub fn fault_place_says(raw: &[u8], at: usize, len: usize) -> Option<(usize, usi
 
 /// Whether two faults are equal: exactly where they are the same.
 pub fn same_fault(a: EncodingError, b: EncodingError) -> bool
-    ensures { IsTrue result → a ≡ b }
+    ensures { IsTrue result ↔ (a ≡ b) }
 {
     wtf8_laws::fault_comparisons(&a, &b);
     a == b
+}
+
+/// The fault of bytes that aren't UTF-8, of its two numbers.
+pub fn fault_of_text(valid_up_to: usize, error_len: Option<u8>) -> EncodingError
+    ensures { result ≡ Utf8 valid_up_to error_len }
+{
+    EncodingError::from((valid_up_to, error_len))
 }
 
 /// Whether two strings are equal: then a hasher is fed the same of both.

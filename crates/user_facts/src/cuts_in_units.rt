@@ -1,0 +1,106 @@
+//! Cuts in units: the units of the parts, joined, are the string's.
+ghost use Rattle.std.specs.Prelude.{◌≡◌, ◌++◌, drop, take, IfOk, IfSome};
+ghost use Rattle.wtf8_core.specs.Boundary.{IsBoundary};
+ghost use Rattle.platform_str.specs.Strings.{bytes, string_vec_of};
+ghost use Rattle.os_str_bytes.specs.Raw.{raw_bytes, raw_vec_of};
+
+use os_str_bytes::{
+    OsStr, OsStrBytesExt, OsString, Platform, RawOsStr, RawOsString, SliceIndex, laws,
+};
+use std::alloc::{AllocError, Allocator};
+
+/// The part in `start..end`, and the units before it, in it and after it.
+pub fn part_in_units<'a, E: Platform + 'a>(
+    string: OsStr<'a, E>,
+    start: usize,
+    end: usize,
+) -> Option<OsStr<'a, E>>
+    ensures { IfSome result (λ part. E.units (bytes string.entry) ≡ E.units (take start (bytes string.entry)) ++ (E.units (bytes part) ++ E.units (drop end (bytes string.entry)))) }
+{
+    let range = start..end;
+    if range.fits(string) {
+        return Some(string.index(range));
+    }
+    None
+}
+
+/// The same by `get_unchecked`.
+pub fn unchecked_part_in_units<'a, E: Platform + 'a>(
+    string: OsStr<'a, E>,
+    start: usize,
+    end: usize,
+) -> Option<OsStr<'a, E>>
+    ensures { IfSome result (λ part. E.units (bytes string.entry) ≡ E.units (take start (bytes string.entry)) ++ (E.units (bytes part) ++ E.units (drop end (bytes string.entry)))) }
+{
+    let range = start..end;
+    if range.fits(string) {
+        return Some(string.get_unchecked(range));
+    }
+    None
+}
+
+/// The same of a raw string.
+pub fn raw_part_in_units<'a, E: Platform + 'a>(
+    string: RawOsStr<'a, E>,
+    start: usize,
+    end: usize,
+) -> Option<RawOsStr<'a, E>>
+    ensures { IfSome result (λ part. E.units (raw_bytes string.entry) ≡ E.units (take start (raw_bytes string.entry)) ++ (E.units (raw_bytes part) ++ E.units (drop end (raw_bytes string.entry)))) }
+{
+    let range = start..end;
+    if string.fits(&range) {
+        return Some(string.index(range));
+    }
+    None
+}
+
+/// The same of a raw string by `get_unchecked`.
+pub fn raw_unchecked_part_in_units<'a, E: Platform + 'a>(
+    string: RawOsStr<'a, E>,
+    start: usize,
+    end: usize,
+) -> Option<RawOsStr<'a, E>>
+    ensures { IfSome result (λ part. E.units (raw_bytes string.entry) ≡ E.units (take start (raw_bytes string.entry)) ++ (E.units (raw_bytes part) ++ E.units (drop end (raw_bytes string.entry)))) }
+{
+    let range = start..end;
+    if string.fits(&range) {
+        return Some(string.get_unchecked(range));
+    }
+    None
+}
+
+/// The end of an owned raw string from a place on, taken off it.
+pub fn taken_off_in_units<E: Platform, A: Allocator + Clone>(
+    string: &mut RawOsString<E, A>,
+    at: usize,
+) -> Result<RawOsString<E, A>, AllocError>
+    requires { IsBoundary (raw_vec_of string.old).items at }
+    ensures { IfOk result (λ back. E.units (raw_vec_of string.old).items ≡ E.units (raw_vec_of string.new).items ++ E.units (raw_vec_of back).items) }
+{
+    string.split_off(at)
+}
+
+/// The start of an owned raw string up to a place, and nothing else of it.
+pub fn cut_to_in_units<E: Platform, A: Allocator>(string: &mut RawOsString<E, A>, at: usize)
+    requires { IsBoundary (raw_vec_of string.old).items at }
+    ensures { E.units (raw_vec_of string.old).items ≡ E.units (raw_vec_of string.new).items ++ E.units (drop at (raw_vec_of string.old).items) }
+{
+    string.truncate(at);
+}
+
+/// An owned raw string, cut in two and joined again: the same string, in units and in bytes.
+pub fn cut_and_joined<E: Platform, A: Allocator + Clone>(
+    string: RawOsString<E, A>,
+    at: usize,
+) -> Result<OsString<E, A>, AllocError>
+    requires { IsBoundary (raw_vec_of string).items at }
+    ensures units { IfOk result (λ joined. E.units (string_vec_of joined).items ≡ E.units (raw_vec_of string).items) }
+    ensures bytes { IfOk result (λ joined. (string_vec_of joined).items ≡ (raw_vec_of string).items) }
+{
+    laws::spelling::<E>();
+    let mut front = string;
+    let back = front.split_off(at)?;
+    let mut joined = front.into_os_string();
+    joined.push(back.as_os_str())?;
+    Ok(joined)
+}
