@@ -5,3 +5,4 @@ pub mod Outcomes
 pub mod PiecesJoined
 pub mod Places
 pub mod QuoteFaults
+pub mod SomePlace

@@ -1,0 +1,46 @@
+//! Patterns: what each type of them looks for, and where it ends.
+ghost use Rattle.std.specs.Prelude.{◌≡◌, IfSome};
+ghost use Rattle.std.specs.String.{string_bytes};
+ghost use Rattle.wtf8_core.specs.Boundary.{IsBoundary};
+ghost use Rattle.wtf8_core.specs.CodePoint.{form};
+ghost use Rattle.wtf8_core.specs.Standing.{Finds, IsLeastPlace};
+ghost use Rattle.platform_str.specs.Strings.{bytes};
+ghost use Rattle.os_str_bytes.specs.Raw.{raw_bytes};
+
+use os_str_bytes::{OsStr, OsStrBytesExt, Platform, RawOsStr};
+use os_str_ext::search_laws;
+
+/// The first places of a character, of a text and of an owned text.
+pub fn found_by_each<'a, E: Platform + 'a>(
+    string: OsStr<'a, E>,
+    character: char,
+    text: &'a str,
+    owned: &'a String,
+) -> (Option<usize>, Option<usize>, Option<usize>)
+    ensures of_char { Finds IsLeastPlace (form character) (bytes string.entry) result.0 }
+    ensures of_str { Finds IsLeastPlace text.now (bytes string.entry) result.1 }
+    ensures of_string { Finds IsLeastPlace (string_bytes owned.now) (bytes string.entry) result.2 }
+{
+    search_laws::patterns(character, text, owned);
+    (
+        string.find(character),
+        string.find(text),
+        string.find(owned),
+    )
+}
+
+/// Where the first place of a text in a raw string ends, and it may be cut there.
+pub fn raw_behind_first<'a, E: Platform + 'a>(string: RawOsStr<'a, E>, text: &str) -> Option<usize>
+    ensures { IfSome result (λ end. IsBoundary (raw_bytes string.entry) end) }
+{
+    let at = string.find(text)?;
+    Some(at + text.len())
+}
+
+/// The same of the last place.
+pub fn raw_behind_last<'a, E: Platform + 'a>(string: RawOsStr<'a, E>, text: &str) -> Option<usize>
+    ensures { IfSome result (λ end. IsBoundary (raw_bytes string.entry) end) }
+{
+    let at = string.rfind(text)?;
+    Some(at + text.len())
+}

@@ -1,0 +1,63 @@
+//! Symbols: the one list of a string's characters and units.
+ghost use Rattle.std.specs.Prelude.{◌≡◌, [], ◌∷◌, IsOk, IfOk, IsTrue};
+ghost use Rattle.wtf8_core.specs.Chunks.{AreChunks};
+ghost use Rattle.platform_str.specs.Strings.{bytes};
+ghost use Rattle.os_str_ext.specs.Symbols.{AreSymbols, unit_symbol};
+ghost use Rattle.os_str_ext.specs.declared.symbols.Symbol.TheVariants.{Character};
+ghost use Rattle.os_str_bytes.specs.Raw.{raw_bytes};
+
+use os_str_bytes::{OsStr, OsStrBytesExt, Platform, RawOsStr, Symbols, Unix};
+use std::alloc::AllocError;
+
+/// The symbols of a string of which some are known, which are those.
+pub fn symbols_say<'a, E: Platform + 'a>(
+    string: OsStr<'a, E>,
+    known: Symbols<'a, E>,
+) -> Symbols<'a, E>
+    requires { AreSymbols E.units (bytes string) known }
+    ensures { result ≡ known.entry }
+{
+    wtf8_core::laws::chunks();
+    string.symbols()
+}
+
+/// The symbols of a raw string: those of its bytes.
+pub fn raw_symbols<'a, E: Platform + 'a>(string: RawOsStr<'a, E>) -> Symbols<'a, E>
+    ensures { AreSymbols E.units (raw_bytes string.entry) result }
+{
+    string.symbols()
+}
+
+/// The symbols of what is left, which are the symbols that are left.
+pub fn symbols_of_rest<'a, E: Platform + 'a>(symbols: &Symbols<'a, E>) -> Symbols<'a, E>
+    ensures { result ≡ symbols.now }
+{
+    symbols.rest().symbols()
+}
+
+/// Whether symbols stay ended: they always do.
+pub fn symbols_stay_ended<'a, E: Platform + 'a>(symbols: &mut Symbols<'a, E>) -> bool
+    ensures { IsTrue result }
+{
+    symbols.next().is_some() || symbols.next().is_none()
+}
+
+/// The symbols that are left, again. It takes no memory.
+pub fn symbols_again<'a, E: Platform + 'a>(
+    symbols: &Symbols<'a, E>,
+) -> Result<Symbols<'a, E>, AllocError>
+    ensures without_memory { IsOk result }
+    ensures same { IfOk result (λ again. again ≡ symbols.now) }
+{
+    symbols.clone()
+}
+
+/// The symbols of a Unix string of an 'a' and of the byte 80 (hexadecimal): that character and
+/// that unit.
+pub fn one_of_each<'a>(string: OsStr<'a, Unix>) -> Symbols<'a, Unix>
+    requires { AreChunks (bytes string) (([], 0x61 ∷ []) ∷ (0x80 ∷ [], []) ∷ []) }
+    ensures { result ≡ Character 0x61 ∷ unit_symbol 0x80 ∷ [] }
+{
+    wtf8_core::laws::chunks();
+    string.symbols()
+}
