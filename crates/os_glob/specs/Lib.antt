@@ -1,0 +1,4 @@
+pub mod Places
+pub mod Pattern
+pub mod Match
+pub mod Parts

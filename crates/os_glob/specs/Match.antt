@@ -1,0 +1,43 @@
+-- Which strings a pattern matches.
+use Rattle.std.specs.Prelude.{◌≡◌, List, [], ◌∷◌, ◌++◌}
+use Rattle.std.specs.List.{AllByRecursion}
+use Rattle.os_glob.specs.declared.symbols.Symbol.{Symbol}
+use Rattle.os_glob.specs.declared.place.Place.{Place}
+use Rattle.os_glob.specs.declared.place.Place.TheVariants.{Separator, LeadingDot, Ordinary}
+use Rattle.os_glob.specs.declared.token.Wildcard.{Wildcard}
+use Rattle.os_glob.specs.declared.token.Wildcard.TheVariants.{Star, DoubleStar}
+use Rattle.os_glob.specs.Pattern.{Class, Any, Same, Token, Run, One}
+
+-- the run of a wildcard may have this place
+abbrev pub Takes : Wildcard → Place → Type 0
+Takes w (Ordinary s) = Unit {0}
+Takes w LeadingDot = ⊥
+Takes Star Separator = ⊥
+Takes DoubleStar Separator = Unit {0}
+
+-- the class stands for this place
+abbrev pub Fits : Class → Place → Type 0
+Fits Any p = Takes Star p
+Fits (Same q) p = q ≡ p
+
+-- places are a run of a wildcard, and others after it
+pub record BeginsWithRun (w : Wildcard) (Behind : List Place → Type 0) (ps : List Place) : Type 0 where
+  pub run : List Place
+  pub rest : List Place
+  pub joined : ps ≡ run ++ rest
+  pub taken : AllByRecursion (Takes w) run
+  pub behind : Behind rest
+
+-- places are one of a class, and others after it
+pub record BeginsWithOne (x : Class) (Behind : List Place → Type 0) (ps : List Place) : Type 0 where
+  pub first : Place
+  pub rest : List Place
+  pub joined : ps ≡ first ∷ rest
+  pub fits : Fits x first
+  pub behind : Behind rest
+
+-- the places are those for which the tokens stand, one after the other
+abbrev pub Matches : List Token → List Place → Type 0
+Matches [] ps = ps ≡ []
+Matches (Run w ∷ ts) ps = BeginsWithRun w (Matches ts) ps
+Matches (One x ∷ ts) ps = BeginsWithOne x (Matches ts) ps

@@ -1,0 +1,50 @@
+-- What is known after a part of a pattern: only private contracts name this.
+use Rattle.std.specs.Prelude.{◌≤◌, ◌<◌, ◌↔◌, Bool, true, false, List, ◌∷◌, length}
+use Rattle.os_glob.specs.declared.place.Place.{Place}
+use Rattle.os_glob.specs.declared.token.Wildcard.{Wildcard}
+use Rattle.os_glob.specs.declared.token.Wildcard.TheVariants.{Star, DoubleStar}
+use Rattle.os_glob.specs.declared.matching.Piece.{Piece}
+use Rattle.os_glob.specs.declared.matching.Piece.TheVariants as piece
+use Rattle.os_glob.specs.declared.matching.Part.{Part}
+use Rattle.os_glob.specs.declared.matching.Part.TheVariants as part
+use Rattle.os_glob.specs.Pattern.{Token, Run}
+use Rattle.os_glob.specs.Match.{Matches}
+
+-- matching goes on at a wildcard, in what is shorter
+pub record GoesOn (ts : List Token) (ps : List Place) (w : Wildcard) (qs : List Token) (rest : List Place) : Type 0 where
+  pub alike : Matches ts ps ↔ Matches (Run w ∷ qs) rest
+  pub behind : (v : Wildcard) → Matches (Run v ∷ ts) ps → Matches (Run v ∷ Run w ∷ qs) rest
+  pub fewer_tokens : length qs < length ts
+  pub no_more_places : length rest ≤ length ps
+
+-- up to the first wildcard
+abbrev pub PieceSays : List Token → List Place → Piece → Type 0
+PieceSays ts ps piece.All = Matches ts ps
+PieceSays ts ps piece.Differs = ¬ (Matches ts ps)
+PieceSays ts ps piece.Ends = ¬ (Matches (Run DoubleStar ∷ ts) ps)
+PieceSays ts ps (piece.Run w left rest) = GoesOn ts ps w left rest
+
+-- matching goes on at the first `**`
+pub record GoesOnAnywhere (ts : List Token) (ps : List Place) (qs : List Token) (rest : List Place) : Type 0 where
+  pub alike : Matches ts ps ↔ Matches (Run DoubleStar ∷ qs) rest
+  pub behind : Matches (Run DoubleStar ∷ ts) ps → Matches (Run DoubleStar ∷ qs) rest
+  pub fewer_tokens : length qs < length ts
+  pub no_more_places : length rest ≤ length ps
+
+-- up to the first `**`
+abbrev pub PartSays : List Token → List Place → Part → Type 0
+PartSays ts ps part.All = Matches ts ps
+PartSays ts ps part.Differs = ¬ (Matches ts ps)
+PartSays ts ps part.Blocked = ¬ (Matches (Run Star ∷ ts) ps)
+PartSays ts ps part.Ends = ¬ (Matches (Run DoubleStar ∷ ts) ps)
+PartSays ts ps (part.Anywhere left rest) = GoesOnAnywhere ts ps left rest
+
+-- where the tokens match nowhere in a component, `**` goes past it
+pub record GoesPast (ps rest : List Place) : Type 0 where
+  pub alike : (ts : List Token) → ¬ (Matches (Run Star ∷ ts) ps) → Matches (Run DoubleStar ∷ ts) ps ↔ Matches (Run DoubleStar ∷ ts) rest
+  pub fewer_places : length rest < length ps
+
+-- a component is skipped, or nothing after it can be reached
+abbrev pub SkipsComponent : List Place → List Place → Bool → Type 0
+SkipsComponent ps rest true = GoesPast ps rest
+SkipsComponent ps rest false = (ts : List Token) → ¬ (Matches (Run Star ∷ ts) ps) → ¬ (Matches (Run DoubleStar ∷ ts) ps)

@@ -1,0 +1,14 @@
+//! Path patterns over strings of any platform.
+//!
+//! A pattern is made of `*`, `**`, `?` and characters that stand for themselves; `\` quotes the
+//! character after it. What a pattern is matched with are the symbols of a string: whole characters, and
+//! the units of what is no text. No pattern takes a part of a symbol.
+#![tactic(auto)]
+
+mod matching;
+mod options;
+mod place;
+mod symbols;
+mod token;
+
+pub use options::{GlobOptions, Separators};

@@ -1,0 +1,162 @@
+//! Whether places have the tokens of a pattern.
+ghost use Rattle.std.specs.Prelude.{◌≡◌, ◌∷◌, ◌↔◌, IsTrue};
+ghost use Rattle.os_glob.specs.declared.token.Wildcard.TheVariants.{Star, DoubleStar};
+ghost use Rattle.os_glob.specs.Pattern.{Run};
+ghost use Rattle.os_glob.specs.Match.{Matches};
+ghost use Rattle.os_glob.specs.Parts.{PieceSays, PartSays, SkipsComponent};
+
+use crate::place::{Place, Places};
+use crate::token::{Token, Tokens, Wildcard};
+
+/// How far a pattern goes without a wildcard.
+#[derive(Drop)]
+enum Piece<'p, 'a> {
+    /// To its end, which is that of the places.
+    All,
+    /// Not far enough: a place differs, or places are left at the pattern's end.
+    Differs,
+    /// The places end, and so would any fewer.
+    Ends,
+    /// To a wildcard; these are the tokens after it, and the places that are left.
+    Run(Wildcard, Tokens<'p>, Places<'a>),
+}
+
+/// How far a pattern goes without `**`.
+#[derive(Drop)]
+enum Part<'p, 'a> {
+    /// To its end, which is that of the places.
+    All,
+    /// Not far enough.
+    Differs,
+    /// Not far enough, wherever in this component it starts.
+    Blocked,
+    /// The places end, and so would any fewer.
+    Ends,
+    /// To `**`; these are the tokens after it, and the places that are left.
+    Anywhere(Tokens<'p>, Places<'a>),
+}
+
+/// Whether the places have the tokens.
+///
+/// It takes no memory. What it goes back to are the last `**` and the last `*` after that one: an
+/// earlier one could only skip what the later one skips too.
+pub(crate) fn matches(tokens: Tokens<'_>, places: Places<'_>) -> bool
+    ensures { IsTrue result ↔ Matches tokens.entry places.entry }
+{
+    match first_part(tokens, places) {
+        Part::All => true,
+        Part::Differs => false,
+        Part::Blocked => false,
+        Part::Ends => false,
+        Part::Anywhere(left, from) => is_after_double_star(left, from),
+    }
+}
+
+/// Whether the tokens match after a run of `**`.
+fn is_after_double_star(tokens: Tokens<'_>, places: Places<'_>) -> bool
+    ensures { IsTrue result ↔ Matches (Run DoubleStar ∷ tokens.entry) places.entry }
+{
+    let mut left = tokens;
+    let mut from = places;
+    loop {
+        match first_part(left.again(), from.again()) {
+            Part::All => return true,
+            Part::Ends => return false,
+            Part::Anywhere(after, rest) => {
+                left = after;
+                from = rest;
+            }
+            Part::Differs => {
+                let Some(place) = from.next() else {
+                    return false;
+                };
+                if !Wildcard::DoubleStar.takes(place) {
+                    return false;
+                }
+            }
+            Part::Blocked => {
+                if !skip_component(&mut from) {
+                    return false;
+                }
+            }
+        }
+    }
+}
+
+/// Takes off the places up to a first separator, and the separator; whether there was one, before
+/// any leading dot.
+fn skip_component(places: &mut Places<'_>) -> bool
+    ensures { SkipsComponent places.old places.new result }
+{
+    while let Some(place) = places.next() {
+        match place {
+            Place::Separator => return true,
+            Place::LeadingDot => return false,
+            Place::Ordinary(_) => {}
+        }
+    }
+    false
+}
+
+/// The tokens up to the first `**`, against the first places.
+fn first_part<'p, 'a>(tokens: Tokens<'p>, places: Places<'a>) -> Part<'p, 'a>
+    ensures { PartSays tokens.entry places.entry result }
+{
+    match first_piece(tokens, places) {
+        Piece::All => Part::All,
+        Piece::Differs => Part::Differs,
+        Piece::Ends => Part::Ends,
+        Piece::Run(Wildcard::DoubleStar, left, rest) => Part::Anywhere(left, rest),
+        Piece::Run(Wildcard::Star, left, rest) => part_after_star(left, rest),
+    }
+}
+
+/// The tokens after a `*` up to the first `**`, against the first places.
+fn part_after_star<'p, 'a>(tokens: Tokens<'p>, places: Places<'a>) -> Part<'p, 'a>
+    ensures { PartSays (Run Star ∷ tokens.entry) places.entry result }
+{
+    let mut left = tokens;
+    let mut from = places;
+    loop {
+        match first_piece(left.again(), from.again()) {
+            Piece::All => return Part::All,
+            Piece::Ends => return Part::Ends,
+            Piece::Run(Wildcard::DoubleStar, after, rest) => return Part::Anywhere(after, rest),
+            Piece::Run(Wildcard::Star, after, rest) => {
+                left = after;
+                from = rest;
+            }
+            Piece::Differs => {
+                let Some(place) = from.next() else {
+                    return Part::Blocked;
+                };
+                if !Wildcard::Star.takes(place) {
+                    return Part::Blocked;
+                }
+            }
+        }
+    }
+}
+
+/// The tokens up to the first wildcard, against the first places.
+fn first_piece<'p, 'a>(mut tokens: Tokens<'p>, mut places: Places<'a>) -> Piece<'p, 'a>
+    ensures { PieceSays tokens.entry places.entry result }
+{
+    while let Some(token) = tokens.next() {
+        match token {
+            Token::Run(wildcard) => return Piece::Run(wildcard, tokens, places),
+            Token::One(class) => {
+                let Some(place) = places.next() else {
+                    return Piece::Ends;
+                };
+                if !class.fits(place) {
+                    return Piece::Differs;
+                }
+            }
+        }
+    }
+    match places.next() {
+        None => Piece::All,
+        Some(_) => Piece::Differs,
+    }
+}

@@ -1,0 +1,39 @@
+//! How a pattern is matched.
+
+/// Which characters separate the components of a path.
+#[derive(Clone, Copy, PartialEq, Eq)]
+pub enum Separators {
+    /// None.
+    None,
+    /// `/`, as on Unix.
+    Slash,
+    /// `/` and `\`, as on Windows.
+    SlashAndBackslash,
+}
+
+/// How a pattern is matched.
+#[derive(Clone, Copy, PartialEq, Eq)]
+pub struct GlobOptions {
+    /// Which characters no `*`, `?` and class takes.
+    pub separators: Separators,
+    /// Whether a dot at the start, or right after a separator, is only matched by a dot that is first in
+    /// the pattern, or right after a separator there.
+    pub literal_leading_dot: bool,
+}
+
+impl Separators {
+    ghost use Rattle.std.specs.Prelude.{◌≡◌};
+    ghost use Rattle.os_glob.specs.Places.{separates};
+
+    /// Whether a character is one of them.
+    #[inline(always)]
+    pub fn contains(self, character: char) -> bool
+        ensures { result ≡ separates self character }
+    {
+        match self {
+            Separators::None => false,
+            Separators::Slash => character == '/',
+            Separators::SlashAndBackslash => character == '/' || character == '\\',
+        }
+    }
+}
