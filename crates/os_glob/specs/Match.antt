@@ -1,12 +1,15 @@
 -- Which strings a pattern matches.
-use Rattle.std.specs.Prelude.{◌≡◌, List, [], ◌∷◌, ◌++◌}
+use Rattle.std.specs.Prelude.{◌≡◌, true, ℕ, List, [], ◌∷◌, ◌++◌}
 use Rattle.std.specs.List.{AllByRecursion}
+use Rattle.std.specs.Str.{chars}
+use Rattle.os_glob.specs.declared.options.GlobOptions.{GlobOptions}
+use Rattle.os_glob.specs.Places.{places}
 use Rattle.os_glob.specs.declared.symbols.Symbol.{Symbol}
 use Rattle.os_glob.specs.declared.place.Place.{Place}
 use Rattle.os_glob.specs.declared.place.Place.TheVariants.{Separator, LeadingDot, Ordinary}
 use Rattle.os_glob.specs.declared.token.Wildcard.{Wildcard}
 use Rattle.os_glob.specs.declared.token.Wildcard.TheVariants.{Star, DoubleStar}
-use Rattle.os_glob.specs.Pattern.{Class, Any, Same, Token, Run, One}
+use Rattle.os_glob.specs.Pattern.{Class, Any, Same, Token, Run, One, tokens}
 
 -- the run of a wildcard may have this place
 abbrev pub Takes : Wildcard → Place → Type 0
@@ -41,3 +44,7 @@ abbrev pub Matches : List Token → List Place → Type 0
 Matches [] ps = ps ≡ []
 Matches (Run w ∷ ts) ps = BeginsWithRun w (Matches ts) ps
 Matches (One x ∷ ts) ps = BeginsWithOne x (Matches ts) ps
+
+-- the symbols have the pattern
+abbrev pub IsMatch : GlobOptions → List ℕ → List Symbol → Type 0
+IsMatch o pattern symbols = Matches (tokens o (chars pattern)) (places o true symbols)

@@ -5,10 +5,15 @@
 //! the units of what is no text. No pattern takes a part of a symbol.
 #![tactic(auto)]
 
+mod glob;
 mod matching;
 mod options;
 mod place;
 mod symbols;
+#[cfg(test)]
+mod tests;
 mod token;
 
+pub use glob::is_match;
 pub use options::{GlobOptions, Separators};
+pub use symbols::{Symbol, Symbols};

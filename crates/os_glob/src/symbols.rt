@@ -28,6 +28,13 @@ impl<'a> Model for Symbols<'a> {
 }
 
 impl<'a> Symbols<'a> {
+    /// The symbols of a list.
+    pub fn new(symbols: &'a [Symbol]) -> Self
+        ensures { result ≡ symbols.now }
+    {
+        Symbols { rest: symbols }
+    }
+
     /// The same symbols once more.
     pub fn again(&self) -> Self
         ensures { result ≡ self.now }
