@@ -1,7 +1,7 @@
 -- How matching goes on, token by token.
-use Rattle.std.proofs.Common.{◌≡◌, ◌≢◌, ◌⊎◌, ◌↔◌, inl, inr, ◌<◌, ◌≤◌, List, [], ◌∷◌, ◌++◌, length, refl, sym, ap, ◌∙◌, subst, arith, append_assoc}
+use Rattle.std.proofs.Common.{◌≡◌, ◌⊎◌, ◌↔◌, inl, inr, ◌<◌, ◌≤◌, List, [], ◌∷◌, ◌++◌, length, refl, sym, ap, ◌∙◌, subst, arith, append_assoc}
 use Rattle.std.specs.List.{AllByRecursion}
-use Rattle.os_glob.specs.declared.place.Place.TheVariants.{Separator, LeadingDot, Ordinary}
+use Rattle.os_glob.specs.declared.place.Place.TheVariants.{Separator, LeadingDot}
 use Rattle.os_glob.specs.declared.matching.Part.{Part}
 use Rattle.os_glob.specs.declared.matching.Part.TheVariants as part
 use Rattle.os_glob.specs.declared.place.Place.{Place}
@@ -10,7 +10,7 @@ use Rattle.os_glob.specs.declared.token.Wildcard.TheVariants.{Star, DoubleStar}
 use Rattle.os_glob.specs.Pattern.{Class, Token, Run, One}
 use Rattle.os_glob.specs.Match.{Takes, Fits, Matches}
 use Rattle.os_glob.specs.Parts.{GoesOn, GoesOnAnywhere, PartSays, GoesPast}
-use Rattle.os_glob.proofs.Runs.{takes_wider, all_append, empty_run, longer_run, run_cases, run_at_end, run_star, run_anywhere, run_wider, one_place, no_place, run_one}
+use Rattle.os_glob.proofs.Runs.{takes_wider, all_append, empty_run, longer_run, run_cases, run_at_end, run_star, run_anywhere, one_place, no_place, run_one}
 
 -- matching has come from these tokens and places to those, with no wildcard between
 pub record SoFar (ts : List Token) (ps : List Place) (qs : List Token) (rest : List Place) : Type 0 where
@@ -135,17 +135,18 @@ module _ (ts : List Token) (ps : List Place) (qs : List Token) (rest : List Plac
       blocked_at_end e m = never_later Star qs rest here never same e (so_far.alike.0 (run_star Star ts ps m))
 
 -- a part that begins at a `*`
-pub from_star : (ts : List Token) (ps : List Place) (qs : List Token) (rest : List Place) → GoesOn ts ps Star qs rest → (part : Part) → PartSays (Run Star ∷ qs) rest part → PartSays ts ps part
-from_star ts ps qs rest g part.All h = g.alike.1 h
-from_star ts ps qs rest g part.Differs h = λ m. h (g.alike.0 m)
-from_star ts ps qs rest g part.Blocked h = λ m. h (g.behind Star m)
-from_star ts ps qs rest g part.Ends h = λ m. h (g.behind DoubleStar m)
-from_star ts ps qs rest g (part.Anywhere left from) h = record {
-  alike = (λ m. h.alike.0 (g.alike.0 m), λ m. g.alike.1 (h.alike.1 m));
-  behind = λ m. h.behind (g.behind DoubleStar m);
-  fewer_tokens = let n = g.fewer_tokens in let k : length left < length (Run Star ∷ qs) = h.fewer_tokens in omega arith;
-  no_more_places = let n = g.no_more_places in let k = h.no_more_places in omega arith;
-}
+module _ {E : Type 0} where
+  pub from_star : (ts : List Token) (ps : List Place) (qs : List Token) (rest : List Place) → GoesOn ts ps Star qs rest → (part : Part E) → PartSays (Run Star ∷ qs) rest part → PartSays ts ps part
+  from_star ts ps qs rest g part.All h = g.alike.1 h
+  from_star ts ps qs rest g part.Differs h = λ m. h (g.alike.0 m)
+  from_star ts ps qs rest g part.Blocked h = λ m. h (g.behind Star m)
+  from_star ts ps qs rest g part.Ends h = λ m. h (g.behind DoubleStar m)
+  from_star ts ps qs rest g (part.Anywhere left from) h = record {
+    alike = (λ m. h.alike.0 (g.alike.0 m), λ m. g.alike.1 (h.alike.1 m));
+    behind = λ m. h.behind (g.behind DoubleStar m);
+    fewer_tokens = let n = g.fewer_tokens in let k : length left < length (Run Star ∷ qs) = h.fewer_tokens in omega arith;
+    no_more_places = let n = g.no_more_places in let k = h.no_more_places in omega arith;
+  }
 
 -- a part that ends at `**`
 pub at_double_star : (ts : List Token) (ps : List Place) (qs : List Token) (rest : List Place) → GoesOn ts ps DoubleStar qs rest → GoesOnAnywhere ts ps qs rest

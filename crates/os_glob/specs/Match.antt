@@ -4,7 +4,7 @@ use Rattle.std.specs.List.{AllByRecursion}
 use Rattle.std.specs.Str.{chars}
 use Rattle.os_glob.specs.declared.options.GlobOptions.{GlobOptions}
 use Rattle.os_glob.specs.Places.{places}
-use Rattle.os_glob.specs.declared.symbols.Symbol.{Symbol}
+use Rattle.os_str_ext.specs.declared.symbols.Symbol.{Symbol}
 use Rattle.os_glob.specs.declared.place.Place.{Place}
 use Rattle.os_glob.specs.declared.place.Place.TheVariants.{Separator, LeadingDot, Ordinary}
 use Rattle.os_glob.specs.declared.token.Wildcard.{Wildcard}

@@ -18,11 +18,12 @@ pub record GoesOn (ts : List Token) (ps : List Place) (w : Wildcard) (qs : List 
   pub no_more_places : length rest ≤ length ps
 
 -- up to the first wildcard
-abbrev pub PieceSays : List Token → List Place → Piece → Type 0
-PieceSays ts ps piece.All = Matches ts ps
-PieceSays ts ps piece.Differs = ¬ (Matches ts ps)
-PieceSays ts ps piece.Ends = ¬ (Matches (Run DoubleStar ∷ ts) ps)
-PieceSays ts ps (piece.Run w left rest) = GoesOn ts ps w left rest
+module _ {E : Type 0} where
+  abbrev pub PieceSays : List Token → List Place → Piece E → Type 0
+  PieceSays ts ps piece.All = Matches ts ps
+  PieceSays ts ps piece.Differs = ¬ (Matches ts ps)
+  PieceSays ts ps piece.Ends = ¬ (Matches (Run DoubleStar ∷ ts) ps)
+  PieceSays ts ps (piece.Run w left rest) = GoesOn ts ps w left rest
 
 -- matching goes on at the first `**`
 pub record GoesOnAnywhere (ts : List Token) (ps : List Place) (qs : List Token) (rest : List Place) : Type 0 where
@@ -32,12 +33,13 @@ pub record GoesOnAnywhere (ts : List Token) (ps : List Place) (qs : List Token) 
   pub no_more_places : length rest ≤ length ps
 
 -- up to the first `**`
-abbrev pub PartSays : List Token → List Place → Part → Type 0
-PartSays ts ps part.All = Matches ts ps
-PartSays ts ps part.Differs = ¬ (Matches ts ps)
-PartSays ts ps part.Blocked = ¬ (Matches (Run Star ∷ ts) ps)
-PartSays ts ps part.Ends = ¬ (Matches (Run DoubleStar ∷ ts) ps)
-PartSays ts ps (part.Anywhere left rest) = GoesOnAnywhere ts ps left rest
+module _ {E : Type 0} where
+  abbrev pub PartSays : List Token → List Place → Part E → Type 0
+  PartSays ts ps part.All = Matches ts ps
+  PartSays ts ps part.Differs = ¬ (Matches ts ps)
+  PartSays ts ps part.Blocked = ¬ (Matches (Run Star ∷ ts) ps)
+  PartSays ts ps part.Ends = ¬ (Matches (Run DoubleStar ∷ ts) ps)
+  PartSays ts ps (part.Anywhere left rest) = GoesOnAnywhere ts ps left rest
 
 -- where the tokens match nowhere in a component, `**` goes past it
 pub record GoesPast (ps rest : List Place) : Type 0 where

@@ -1,6 +1,6 @@
 -- What a pattern's characters say, token by token.
 use Rattle.std.specs.Prelude.{Bool, true, false, if◌then◌else◌, ℕ, zero, suc, nat_eq, List, [], ◌∷◌}
-use Rattle.os_glob.specs.declared.symbols.Symbol.TheVariants.{Character}
+use Rattle.os_str_ext.specs.declared.symbols.Symbol.TheVariants.{Character}
 use Rattle.os_glob.specs.declared.options.GlobOptions.{GlobOptions}
 use Rattle.os_glob.specs.declared.place.Place.{Place}
 use Rattle.os_glob.specs.declared.token.Wildcard.{Wildcard}

@@ -1,7 +1,7 @@
 -- The places of a string: its symbols, by what patterns see in them.
 use Rattle.std.specs.Prelude.{Bool, true, false, if◌then◌else◌, ℕ, nat_eq, List, [], ◌∷◌, ◌&&◌, ◌||◌}
-use Rattle.os_glob.specs.declared.symbols.Symbol.{Symbol}
-use Rattle.os_glob.specs.declared.symbols.Symbol.TheVariants.{Character, Unit as LoneUnit}
+use Rattle.os_str_ext.specs.declared.symbols.Symbol.{Symbol}
+use Rattle.os_str_ext.specs.declared.symbols.Symbol.TheVariants.{Character, Unit as LoneUnit}
 use Rattle.os_glob.specs.declared.options.GlobOptions.{GlobOptions}
 use Rattle.os_glob.specs.declared.options.Separators.{Separators}
 use Rattle.os_glob.specs.declared.options.Separators.TheVariants as separators

@@ -12,11 +12,7 @@ mod glob;
 mod matching;
 mod options;
 mod place;
-mod symbols;
-#[cfg(test)]
-mod tests;
 mod token;
 
 pub use glob::is_match;
 pub use options::{GlobOptions, Separators};
-pub use symbols::{Symbol, Symbols};

@@ -7,10 +7,11 @@ ghost use Rattle.os_glob.specs.Parts.{PieceSays, PartSays, SkipsComponent};
 
 use crate::place::{Place, Places};
 use crate::token::{Token, Tokens, Wildcard};
+use os_str_ext::Platform;
 
 /// How far a pattern goes without a wildcard.
 #[derive(Drop)]
-enum Piece<'p, 'a> {
+enum Piece<'p, 'a, E: Platform + 'a> {
     /// To its end, which is that of the places.
     All,
     /// Not far enough: a place differs, or places are left at the pattern's end.
@@ -18,12 +19,12 @@ enum Piece<'p, 'a> {
     /// The places end, and so would any fewer.
     Ends,
     /// To a wildcard; these are the tokens after it, and the places that are left.
-    Run(Wildcard, Tokens<'p>, Places<'a>),
+    Run(Wildcard, Tokens<'p>, Places<'a, E>),
 }
 
 /// How far a pattern goes without `**`.
 #[derive(Drop)]
-enum Part<'p, 'a> {
+enum Part<'p, 'a, E: Platform + 'a> {
     /// To its end, which is that of the places.
     All,
     /// Not far enough.
@@ -33,14 +34,14 @@ enum Part<'p, 'a> {
     /// The places end, and so would any fewer.
     Ends,
     /// To `**`; these are the tokens after it, and the places that are left.
-    Anywhere(Tokens<'p>, Places<'a>),
+    Anywhere(Tokens<'p>, Places<'a, E>),
 }
 
 /// Whether the places have the tokens.
 ///
 /// It takes no memory. What it goes back to are the last `**` and the last `*` after that one: an
 /// earlier one could only skip what the later one skips too.
-pub(crate) fn matches(tokens: Tokens<'_>, places: Places<'_>) -> bool
+pub(crate) fn matches<E: Platform>(tokens: Tokens<'_>, places: Places<'_, E>) -> bool
     ensures { IsTrue result ↔ Matches tokens.entry places.entry }
 {
     match first_part(tokens, places) {
@@ -53,7 +54,7 @@ pub(crate) fn matches(tokens: Tokens<'_>, places: Places<'_>) -> bool
 }
 
 /// Whether the tokens match after a run of `**`.
-fn is_after_double_star(tokens: Tokens<'_>, places: Places<'_>) -> bool
+fn is_after_double_star<E: Platform>(tokens: Tokens<'_>, places: Places<'_, E>) -> bool
     ensures { IsTrue result ↔ Matches (Run DoubleStar ∷ tokens.entry) places.entry }
 {
     let mut left = tokens;
@@ -85,7 +86,7 @@ fn is_after_double_star(tokens: Tokens<'_>, places: Places<'_>) -> bool
 
 /// Takes off the places up to a first separator, and the separator; whether there was one, before
 /// any leading dot.
-fn skip_component(places: &mut Places<'_>) -> bool
+fn skip_component<E: Platform>(places: &mut Places<'_, E>) -> bool
     ensures { SkipsComponent places.old places.new result }
 {
     while let Some(place) = places.next() {
@@ -99,7 +100,7 @@ fn skip_component(places: &mut Places<'_>) -> bool
 }
 
 /// The tokens up to the first `**`, against the first places.
-fn first_part<'p, 'a>(tokens: Tokens<'p>, places: Places<'a>) -> Part<'p, 'a>
+fn first_part<'p, 'a, E: Platform>(tokens: Tokens<'p>, places: Places<'a, E>) -> Part<'p, 'a, E>
     ensures { PartSays tokens.entry places.entry result }
 {
     match first_piece(tokens, places) {
@@ -112,7 +113,10 @@ fn first_part<'p, 'a>(tokens: Tokens<'p>, places: Places<'a>) -> Part<'p, 'a>
 }
 
 /// The tokens after a `*` up to the first `**`, against the first places.
-fn part_after_star<'p, 'a>(tokens: Tokens<'p>, places: Places<'a>) -> Part<'p, 'a>
+fn part_after_star<'p, 'a, E: Platform>(
+    tokens: Tokens<'p>,
+    places: Places<'a, E>,
+) -> Part<'p, 'a, E>
     ensures { PartSays (Run Star ∷ tokens.entry) places.entry result }
 {
     let mut left = tokens;
@@ -139,7 +143,10 @@ fn part_after_star<'p, 'a>(tokens: Tokens<'p>, places: Places<'a>) -> Part<'p, '
 }
 
 /// The tokens up to the first wildcard, against the first places.
-fn first_piece<'p, 'a>(mut tokens: Tokens<'p>, mut places: Places<'a>) -> Piece<'p, 'a>
+fn first_piece<'p, 'a, E: Platform>(
+    mut tokens: Tokens<'p>,
+    mut places: Places<'a, E>,
+) -> Piece<'p, 'a, E>
     ensures { PieceSays tokens.entry places.entry result }
 {
     while let Some(token) = tokens.next() {

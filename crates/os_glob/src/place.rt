@@ -3,7 +3,7 @@ ghost use Rattle.std.specs.Prelude.{◌≡◌, ◌∷◌, [], MatchOption};
 ghost use Rattle.os_glob.specs.Places.{place, begins_component};
 
 use crate::options::GlobOptions;
-use crate::symbols::{Symbol, Symbols};
+use os_str_ext::{Platform, Symbol, Symbols};
 use std::marker::Model;
 
 /// What a pattern sees at one symbol.
@@ -48,13 +48,13 @@ impl Place {
 
 /// The places of a string that are left.
 #[derive(Drop)]
-pub(crate) struct Places<'a> {
-    symbols: Symbols<'a>,
+pub(crate) struct Places<'a, E: Platform + 'a> {
+    symbols: Symbols<'a, E>,
     options: GlobOptions,
     begins: bool,
 }
 
-impl<'a> Model for Places<'a> {
+impl<'a, E: Platform> Model for Places<'a, E> {
     ghost use Rattle.std.specs.Prelude.{List};
     ghost use Rattle.os_glob.specs.declared.place.Place.{Place};
     ghost use Rattle.os_glob.specs.Places.{places};
@@ -64,12 +64,12 @@ impl<'a> Model for Places<'a> {
     ghost view = { λ it. places it.options it.begins it.symbols };
 }
 
-impl<'a> Places<'a> {
+impl<'a, E: Platform> Places<'a, E> {
     ghost use Rattle.std.specs.Prelude.{true};
     ghost use Rattle.os_glob.specs.Places.{places};
 
     /// The places of symbols.
-    pub(crate) fn new(options: GlobOptions, symbols: Symbols<'a>) -> Self
+    pub(crate) fn new(options: GlobOptions, symbols: Symbols<'a, E>) -> Self
         ensures { result ≡ places options true symbols.entry }
     {
         Places {
@@ -85,7 +85,7 @@ impl<'a> Places<'a> {
         ensures { result ≡ self.now }
     {
         Places {
-            symbols: self.symbols.again(),
+            symbols: self.symbols.clone().unwrap(),
             options: self.options,
             begins: self.begins,
         }

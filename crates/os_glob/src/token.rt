@@ -6,7 +6,7 @@ ghost use Rattle.os_glob.specs.Match.{Fits, Takes};
 
 use crate::options::GlobOptions;
 use crate::place::{Place, place_of};
-use crate::symbols::Symbol;
+use os_str_ext::Symbol;
 use std::marker::Model;
 
 /// What stands for any run of places.
