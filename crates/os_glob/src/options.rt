@@ -11,13 +11,14 @@ pub enum Separators {
     SlashAndBackslash,
 }
 
-/// How a pattern is matched.
+/// How a pattern is matched. Case is as it is.
 #[derive(Clone, Copy, PartialEq, Eq)]
 pub struct GlobOptions {
-    /// Which characters no `*`, `?` and class takes.
+    /// Which characters no `*` and `?` takes. A separator in a pattern stands for any of them.
     pub separators: Separators,
-    /// Whether a dot at the start, or right after a separator, is only matched by a dot that is first in
-    /// the pattern, or right after a separator there.
+    /// Whether a dot at the start, or right after a separator, is only matched by a dot that is
+    /// first in the pattern, or right after a separator there (POSIX, "Shell Command Language",
+    /// 2.13.3).
     pub literal_leading_dot: bool,
 }
 
@@ -25,7 +26,7 @@ impl Separators {
     ghost use Rattle.std.specs.Prelude.{◌≡◌};
     ghost use Rattle.os_glob.specs.Places.{separates};
 
-    /// Whether a character is one of them.
+    /// Whether a character is one of them. Of [`Separators::Slash`] `/` is one, and `\` is not.
     #[inline(always)]
     pub fn contains(self, character: char) -> bool
         ensures { result ≡ separates self character }
