@@ -52,7 +52,7 @@ pub fn time(bench: &mut Bench) {
     }
 
     let paths = inputs::paths();
-    bench.table("Fronts of short strings on Windows", "a call");
+    bench.table("Prefixes of short strings on Windows", "a call");
     for (name, front) in FRONTS {
         let all = |starts: fn(&[u8], &[u8]) -> bool| {
             let starts = black_box(starts);
