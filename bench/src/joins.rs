@@ -71,7 +71,7 @@ pub fn time(bench: &mut Bench) {
     }
 }
 
-/// The length of the string of one part behind the other, by std.
+/// The length of the string of one part after the other, by std.
 fn pushed(part: &[u8]) -> usize {
     let mut all = OsString::new();
     for _ in 0..COUNT {
