@@ -1,5 +1,5 @@
 //! Borrowed strings.
-ghost use Rattle.std.specs.Prelude.{◌≡◌, ◌↔◌, [], length, IsTrue, IsOk, IfOk, MatchOption};
+ghost use Rattle.std.specs.Prelude.{◌≡◌, ◌↔◌, [], length, IsTrue, IsOk, IfOk, MatchOption, MatchResult};
 ghost use Rattle.std.specs.Str.{IsUtf8};
 
 use crate::convert::OsStrBytes;
@@ -73,6 +73,23 @@ impl<'a, E: Platform> OsStr<'a, E> {
             bytes: encoded,
             platform: PhantomData,
         }
+    }
+
+    /// The string of raw bytes, in place, as a view (own call): [`OsStrBytes::from_raw_bytes`] answers
+    /// what might be owned. It takes no memory.
+    ///
+    /// `OsStr::<Unix>::checked(b"a\x80")` is always `Ok`. On Windows ED A0 80 (hexadecimal) is
+    /// accepted, ED A0 80 ED B0 80 is refused with `EncodingError::CodePoint(0xDC00)`.
+    ///
+    /// # Errors
+    ///
+    /// The first fault of the bytes, where they aren't well formed: what [`Platform::check`] answers.
+    pub fn checked(encoded: &'a [u8]) -> Result<Self, EncodingError>
+        ensures bytes { IfOk result (λ string. bytes string ≡ encoded.now) }
+        ensures cases { MatchResult result (λ _. E.well_formed encoded.now) (λ fault. E.first_fault encoded.now fault) }
+    {
+        E::check(encoded)?;
+        Ok(OsStr::from_encoded_bytes_unchecked(encoded))
     }
 
     /// The string of any raw bytes, with U+FFFD for each part that is refused: what
@@ -257,8 +274,7 @@ impl<'a, E: Platform + 'a> OsStrBytes<'a> for OsStr<'a, E> {
     }
 
     fn from_raw_bytes(raw: &'a [u8]) -> Result<OsStrCow<'a, E>, EncodingError> {
-        E::check(raw)?;
-        Ok(Self::assert_from_raw_bytes(raw))
+        Ok(OsStrCow::Borrowed(OsStr::checked(raw)?))
     }
 
     fn from_raw_bytes_owned(raw: Vec<u8>) -> Result<OsStrCow<'a, E>, EncodingError> {
