@@ -78,12 +78,19 @@ impl<'a, E: Platform> OsStr<'a, E> {
     /// The string of raw bytes, in place, as a view (own call): [`OsStrBytes::from_raw_bytes`] answers
     /// what might be owned. It takes no memory.
     ///
-    /// `OsStr::<Unix>::checked(b"a\x80")` is always `Ok`. On Windows ED A0 80 (hexadecimal) is
-    /// accepted, ED A0 80 ED B0 80 is refused with `EncodingError::CodePoint(0xDC00)`.
+    /// On Windows ED A0 80 (hexadecimal) is accepted, and ED A0 80 ED B0 80 is not.
     ///
     /// # Errors
     ///
     /// The first fault of the bytes, where they aren't well formed: what [`Platform::check`] answers.
+    ///
+    /// ```
+    /// use os_str_bytes::{EncodingError, OsStr, Windows};
+    ///
+    /// assert!(rt; OsStr::<Windows>::checked(b"\xED\xA0\x80").is_ok());
+    /// let fault = OsStr::<Windows>::checked(b"\xED\xA0\x80\xED\xB0\x80").err();
+    /// assert_eq!(rt; fault, Some(EncodingError::CodePoint(0xDC00)));
+    /// ```
     pub fn checked(encoded: &'a [u8]) -> Result<Self, EncodingError>
         ensures bytes { IfOk result (λ string. bytes string ≡ encoded.now) }
         ensures cases { MatchResult result (λ _. E.well_formed encoded.now) (λ fault. E.first_fault encoded.now fault) }
