@@ -7,6 +7,7 @@
 #![tactic(auto)]
 
 mod boundary;
+mod characters;
 pub mod chunk_laws;
 mod chunks;
 mod compare;
@@ -22,6 +23,7 @@ mod runs;
 mod search;
 pub mod search_laws;
 mod slice_index;
+pub mod symbol_laws;
 mod symbols;
 
 pub use chunks::Utf8Chunks;
