@@ -8,6 +8,7 @@
 //! All places and lengths are numbers of bytes.
 #![tactic(auto)]
 
+mod cuts;
 pub mod headline;
 pub mod iter;
 pub mod laws;
