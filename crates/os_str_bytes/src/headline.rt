@@ -68,6 +68,17 @@ pub struct Answers<'a, E: Platform + 'a, P: Pattern, A: Allocator> {
 /// Its contract is what the library is for, and asks nothing of its caller. Units are bytes on
 /// Unix and wasm and 16-bit units on Windows (`laws::platforms` says what each platform is), a
 /// place that is found is a place of bytes.
+///
+/// ```
+/// use os_str_bytes::headline::ask;
+/// use os_str_bytes::{RawOsStr, Unix};
+///
+/// let string = RawOsStr::<Unix>::from_str("a/b");
+/// let answers = ask(&alloc, b"a\x80", string, RawOsStr::from_str("a"), '/', 1, 2);
+/// assert!(rt; answers.cow_from_raw_bytes.is_ok() && answers.starts_with_os);
+/// assert_eq!(rt; answers.find, Some(1));
+/// assert!(rt; answers.repeat?.eq_str("a/ba/b"));
+/// ```
 pub fn ask<'a, E: Platform + 'a, P: Pattern + Copy, A: Allocator>(
     alloc: &'a A,
     raw: &'a [u8],
@@ -153,6 +164,15 @@ pub struct WindowsAnswers<'a> {
 }
 
 /// Makes the calls whose answers say more on Windows, once each.
+///
+/// ```
+/// use os_str_bytes::RawOsStr;
+/// use os_str_bytes::headline::ask_windows;
+/// use std::cmp::Ordering;
+///
+/// let answers = ask_windows(RawOsStr::from_str("\u{E9}"), RawOsStr::from_str("a"));
+/// assert!(rt; answers.cmp == Ordering::Greater);
+/// ```
 pub fn ask_windows<'a>(
     string: RawOsStr<'a, Windows>,
     other: RawOsStr<'a, Windows>,
@@ -183,6 +203,13 @@ pub struct Spelled<'a, A: Allocator> {
 
 /// Makes the calls that give a string of its units: each list of units of a platform is that of
 /// some string, and a call gives it.
+///
+/// ```
+/// use os_str_bytes::headline::ask_units;
+///
+/// let spelled = ask_units(&alloc, b"a\x80", &[0xD800]);
+/// assert!(rt; spelled.unix.is_ok() && spelled.windows.is_ok() && spelled.wasm.is_err());
+/// ```
 pub fn ask_units<'a, A: Allocator>(alloc: &'a A, bytes: &'a [u8], wide: &[u16]) -> Spelled<'a, A>
     // Any bytes are the units of a Unix string,
     ensures unix { IsOk result.unix }
