@@ -40,6 +40,7 @@
 //! `rsplit` (the pattern isn't empty). Every other call of them can be made anywhere.
 #![tactic(auto)]
 
+mod cuts;
 pub mod headline;
 pub mod iter;
 pub mod laws;
