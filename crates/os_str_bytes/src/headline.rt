@@ -16,6 +16,8 @@ ghost use Rattle.os_str_bytes.specs.Raw.{raw_bytes, raw_units, raw_vec_of};
 ghost use Rattle.os_str_bytes.specs.RawCow.{raw_cow_bytes};
 ghost use Rattle.os_str_bytes.specs.Headline.{AreOneToOne, AcceptsOrRefuses, CutsAt, Trims, Splits};
 
+pub use crate::cuts::Cuts;
+use crate::cuts::{both_parts, indexed, indexed_unchecked, split_copy, truncated_copy};
 use crate::iter::{RawRSplit, RawSplit};
 use crate::raw_cow::CowRawOsStr;
 use crate::raw_str::RawOsStr;
@@ -53,8 +55,8 @@ pub struct Answers<'a, E: Platform + 'a, P: Pattern, A: Allocator> {
     /// `None` where the pattern is empty.
     pub rsplit: Option<RawRSplit<'a, E, P>>,
     pub is_boundary: bool,
-    /// `None` where the place is no boundary: `split_at` may not be called there.
-    pub split_at: Option<(RawOsStr<'a, E>, RawOsStr<'a, E>)>,
+    /// `None` where the place is no boundary: the string may not be cut there.
+    pub cuts: Option<Cuts<'a, E, &'a A>>,
     pub push: Result<OsString<E, &'a A>, AllocError>,
     pub repeat: Result<RawOsString<E, &'a A>, AllocError>,
     pub utf8_chunks: Utf8Chunks<'a, E>,
@@ -116,9 +118,9 @@ pub fn ask<'a, E: Platform + 'a, P: Pattern + Copy, A: Allocator>(
     ensures rsplit_once { SplitsOnce IsGreatestPlace raw_units (E.units (P.text pattern)) (raw_units string.entry) result.rsplit_once }
     ensures split { Splits (λ pieces. IsSplit (E.units (P.text pattern)) (raw_units string.entry) (map E.units pieces)) (P.text pattern) result.split }
     ensures rsplit { Splits (λ pieces. IsRSplit (E.units (P.text pattern)) (raw_units string.entry) (map E.units pieces)) (P.text pattern) result.rsplit }
-    // Each cut at a boundary leaves two strings whose units joined are the string's.
+    // Each cut at a boundary gives strings whose units, joined, are the string's.
     ensures is_boundary { IsTrue result.is_boundary ↔ IsBoundary (raw_bytes string.entry) at }
-    ensures split_at { CutsAt string.entry at result.split_at }
+    ensures cuts { CutsAt string.entry at result.cuts }
     // Each join, unless memory is refused, joins the units, also two halves of a pair.
     ensures push { IfOk result.push (λ joined. E.units (string_vec_of joined).items ≡ raw_units string.entry ++ raw_units other.entry) }
     ensures repeat { IfOk result.repeat (λ made. E.units (raw_vec_of made).items ≡ repeat count (raw_units string.entry)) }
@@ -146,7 +148,7 @@ pub fn ask<'a, E: Platform + 'a, P: Pattern + Copy, A: Allocator>(
         split: pieces(string, pattern),
         rsplit: pieces_from_the_end(string, pattern),
         is_boundary: string.is_boundary(at),
-        split_at: parts(string, at),
+        cuts: cuts(alloc, string, at),
         push: joined(alloc, string, other),
         repeat: string.repeat(alloc, count),
         utf8_chunks: string.utf8_chunks(),
@@ -281,17 +283,24 @@ fn is_empty<P: Pattern>(pattern: P) -> bool
     pattern.encode().as_bytes().is_empty()
 }
 
-/// `split_at`, where the place is a boundary.
-fn parts<'a, E: Platform>(
+/// Each cut at a place that is a boundary.
+fn cuts<'a, E: Platform, A: Allocator>(
+    alloc: &'a A,
     string: RawOsStr<'a, E>,
     at: usize,
-) -> Option<(RawOsStr<'a, E>, RawOsStr<'a, E>)>
+) -> Option<Cuts<'a, E, &'a A>>
     ensures { CutsAt string.entry at result }
 {
-    if string.is_boundary(at) {
-        return Some(string.split_at(at));
+    if !string.is_boundary(at) {
+        return None;
     }
-    None
+    Some(Cuts {
+        split_at: both_parts(string, at),
+        index: indexed(string, at),
+        get_unchecked: indexed_unchecked(string, at),
+        split_off: split_copy(alloc, string, at),
+        truncate: truncated_copy(alloc, string, at),
+    })
 }
 
 /// One string, with another pushed.

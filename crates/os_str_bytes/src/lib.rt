@@ -40,6 +40,7 @@
 //! `rsplit` (the pattern isn't empty). Every other call of them can be made anywhere.
 #![tactic(auto)]
 
+mod cuts;
 pub mod headline;
 pub mod iter;
 pub mod laws;
@@ -57,7 +58,7 @@ pub use os_str_ext::{
     ByteCow, ByteVec, Encoded, EncodedChar, EncodingError, HasBytes, NonUnicodeOsStr, OsStr,
     OsStrBytes, OsStrBytesExt, OsStrCow, OsStrDisplay, OsString, OsStringBytes, OsUnit, OsUnits,
     Path, PathBuf, PathCow, Pattern, Platform, RSplit, SliceIndex, Split, StrCow, Symbol, Symbols,
-    Unix, Utf8Chunks, Wasm, WideUnits, Windows, chunk_laws, part_laws, search_laws,
+    Unix, Utf8Chunks, Wasm, WideUnits, Windows, chunk_laws, part_laws, search_laws, symbol_laws,
 };
 pub use raw_box::RawOsStrBox;
 pub use raw_cow::{CowRawOsStr, RawOsStrCow};

@@ -1,12 +1,14 @@
 //! Searches, cuts and pieces of raw strings: the calls of [`crate::OsStrBytesExt`] under the same
 //! contracts.
 ghost use Rattle.std.specs.Prelude.{◌≡◌, ◌<◌, ◌↔◌, ◌++◌, ◌+◌, ◌*◌, ◌^◌, IsTrue, IsOk, IsErr, IfOk, IfSome, length, take, drop, map};
+ghost use Rattle.std.specs.Char.{encode_utf8};
 ghost use Rattle.std.specs.List.{repeat};
 ghost use Rattle.wtf8_core.specs.Standing.{Finds, IsLeastPlace, IsGreatestPlace, IsFront, IsEnd};
 ghost use Rattle.wtf8_core.specs.UnitPlace.{FindsInUnits};
 ghost use Rattle.wtf8_core.specs.Boundary.{IsBoundary};
 ghost use Rattle.wtf8_core.specs.Chunks.{AreChunks};
 ghost use Rattle.wtf8_core.specs.Pieces.{StandsSomewhere, MayBeCutAround, StripsFront, StripsEnd, SplitsOnce, IsStartTrim, IsEndTrim, IsTrim, IsSplit, IsRSplit};
+ghost use Rattle.os_str_ext.specs.Characters.{SplitsFirstChar, SplitsLastChar};
 ghost use Rattle.os_str_ext.specs.Chunks.{chunks_of};
 ghost use Rattle.os_str_ext.specs.Range.{FitsIn, IsPartInUnits};
 ghost use Rattle.os_str_ext.specs.Symbols.{AreSymbols, symbols_of};
@@ -386,6 +388,39 @@ impl<'a, E: Platform> RawOsStr<'a, E> {
         ensures units { IsRSplit (E.units (P.text pattern)) (raw_units self.entry) (map E.units result) }
     {
         RawRSplit::new(self.string.rsplit(pattern))
+    }
+
+    // Characters.
+
+    /// The first character and the rest of the string, `None` where no whole character starts the
+    /// string (own call; of a text std's `str::chars`, of which `next` gives the character and
+    /// `as_str` the rest).
+    ///
+    /// The Unix string of the bytes C3 A9 80 (hexadecimal) is 'é' and the string of 80. Of that
+    /// string and of the empty one it is `None`.
+    pub fn split_first_char(self) -> Option<(char, Self)>
+        ensures bytes { SplitsFirstChar raw_bytes (raw_bytes self.entry) result }
+        ensures units { IfSome result (λ parts. raw_units self.entry ≡ E.units (encode_utf8 parts.0) ++ raw_units parts.1) }
+    {
+        match self.string.split_first_char() {
+            Some((first, rest)) => Some((first, RawOsStr::new(rest))),
+            None => None,
+        }
+    }
+
+    /// The last character and the rest of the string, `None` where no whole character ends the
+    /// string (own call; of a text std's `str::chars` with `next_back`).
+    ///
+    /// The Unix string of the bytes 80 C3 A9 (hexadecimal) is 'é' and the string of 80. Of that
+    /// string and of the empty one it is `None`.
+    pub fn split_last_char(self) -> Option<(char, Self)>
+        ensures bytes { SplitsLastChar raw_bytes (raw_bytes self.entry) result }
+        ensures units { IfSome result (λ parts. raw_units self.entry ≡ raw_units parts.1 ++ E.units (encode_utf8 parts.0)) }
+    {
+        match self.string.split_last_char() {
+            Some((last, rest)) => Some((last, RawOsStr::new(rest))),
+            None => None,
+        }
     }
 
     // Chunks.

@@ -89,6 +89,22 @@ impl<'a, E: Platform> RawOsStr<'a, E> {
         RawOsStr::new(OsStr::from_encoded_bytes_unchecked(encoded))
     }
 
+    /// The raw string of raw bytes, in place, as a view (own call): [`RawOsStr::cow_from_raw_bytes`]
+    /// answers what might be owned. It takes no memory.
+    ///
+    /// `RawOsStr::<Unix>::checked(b"a\x80")` is always `Ok`. On Windows ED A0 80 (hexadecimal) is
+    /// accepted, ED A0 80 ED B0 80 is refused with `EncodingError::CodePoint(0xDC00)`.
+    ///
+    /// # Errors
+    ///
+    /// The first fault of the bytes, where they aren't well formed: what [`Platform::check`] answers.
+    pub fn checked(raw: &'a [u8]) -> Result<Self, EncodingError>
+        ensures bytes { IfOk result (λ string. raw_bytes string ≡ raw.now) }
+        ensures cases { MatchResult result (λ _. E.well_formed raw.now) (λ fault. E.first_fault raw.now fault) }
+    {
+        Ok(RawOsStr::new(OsStr::checked(raw)?))
+    }
+
     /// The raw string of well-formed bytes (test: [`RawOsStr::cow_from_raw_bytes`]).
     ///
     /// ```
@@ -138,8 +154,7 @@ impl<'a, E: Platform> RawOsStr<'a, E> {
         ensures bytes { IfOk result (λ cow. raw_cow_bytes cow ≡ raw.now) }
         ensures cases { MatchResult result (λ _. E.well_formed raw.now) (λ fault. E.first_fault raw.now fault) }
     {
-        E::check(raw)?;
-        Ok(RawOsStr::assert_cow_from_raw_bytes(raw))
+        Ok(CowRawOsStr::Borrowed(RawOsStr::checked(raw)?))
     }
 
     /// The string's bytes, which are its raw bytes.

@@ -5,8 +5,10 @@ ghost use Rattle.wtf8_core.specs.UnitPlace.{FindsInUnits};
 ghost use Rattle.wtf8_core.specs.Boundary.{IsBoundary};
 ghost use Rattle.wtf8_core.specs.Chunks.{AreChunks};
 ghost use Rattle.wtf8_core.specs.Pieces.{StandsSomewhere, MayBeCutAround, StripsFront, StripsEnd, SplitsOnce, IsStartTrim, IsEndTrim, IsTrim, IsSplit, IsRSplit};
+ghost use Rattle.std.specs.Char.{encode_utf8};
 ghost use Rattle.std.specs.List.{repeat};
 ghost use Rattle.platform_str.specs.Strings.{string_vec_of};
+ghost use Rattle.os_str_ext.specs.Characters.{SplitsFirstChar, SplitsLastChar};
 ghost use Rattle.os_str_ext.specs.Chunks.{chunks_of};
 ghost use Rattle.os_str_ext.specs.Range.{FitsIn, IsPartInUnits};
 ghost use Rattle.os_str_ext.specs.Symbols.{AreSymbols, symbols_of};
@@ -16,7 +18,7 @@ use crate::iter::{RSplit, Split};
 use crate::pattern::{Encoded, Pattern};
 use crate::slice_index::SliceIndex;
 use crate::symbols::Symbols;
-use crate::{boundary, parts, repeat, search};
+use crate::{boundary, characters, parts, repeat, search};
 use platform_str::{OsStr, OsStrBytes, OsString, Platform};
 use std::alloc::{AllocError, Allocator};
 
@@ -322,6 +324,27 @@ pub trait OsStrBytesExt<'a>: OsStrBytes<'a> {
         )
     }
 
+    // Characters.
+
+    /// The first character and the rest of the string, `None` where no whole character starts the
+    /// string (own call; of a text std's `str::chars`, of which `next` gives the character and
+    /// `as_str` the rest).
+    ///
+    /// The Unix string of the bytes C3 A9 80 (hexadecimal) is 'é' and the string of 80. Of that
+    /// string and of the empty one it is `None`.
+    fn split_first_char(self) -> Option<(char, Self)>
+        ensures bytes { SplitsFirstChar Self.bytes_of (Self.bytes_of self) result }
+        ensures units { IfSome result (λ parts. Self.Platform.units (Self.bytes_of self) ≡ Self.Platform.units (encode_utf8 parts.0) ++ Self.Platform.units (Self.bytes_of parts.1)) };
+
+    /// The last character and the rest of the string, `None` where no whole character ends the
+    /// string (own call; of a text std's `str::chars` with `next_back`).
+    ///
+    /// The Unix string of the bytes 80 C3 A9 (hexadecimal) is 'é' and the string of 80. Of that
+    /// string and of the empty one it is `None`.
+    fn split_last_char(self) -> Option<(char, Self)>
+        ensures bytes { SplitsLastChar Self.bytes_of (Self.bytes_of self) result }
+        ensures units { IfSome result (λ parts. Self.Platform.units (Self.bytes_of self) ≡ Self.Platform.units (Self.bytes_of parts.1) ++ Self.Platform.units (encode_utf8 parts.0)) };
+
     // Chunks.
 
     /// The string's chunks: its parts in which no whole character stands, each with the text
@@ -509,5 +532,15 @@ impl<'a, E: Platform + 'a> OsStrBytesExt<'a> for OsStr<'a, E> {
     fn rsplit_once<P: Pattern>(self, pattern: P) -> Option<(Self, Self)> {
         let encoded = pattern.encode();
         parts::rsplit_once(self, encoded.as_str())
+    }
+
+    #[inline(always)]
+    fn split_first_char(self) -> Option<(char, Self)> {
+        characters::split_first_char(self)
+    }
+
+    #[inline(always)]
+    fn split_last_char(self) -> Option<(char, Self)> {
+        characters::split_last_char(self)
     }
 }

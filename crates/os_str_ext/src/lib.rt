@@ -16,6 +16,7 @@
 #![tactic(auto)]
 
 mod boundary;
+mod characters;
 pub mod chunk_laws;
 mod chunks;
 mod compare;
@@ -31,6 +32,7 @@ mod runs;
 mod search;
 pub mod search_laws;
 mod slice_index;
+pub mod symbol_laws;
 mod symbols;
 
 pub use chunks::Utf8Chunks;
