@@ -39,7 +39,11 @@ pub(crate) fn is_pair(high: u16, low: u16) -> bool
 /// The units of a code point past FFFF (hexadecimal), the high one and the low one (RFC 2781,
 /// section 2.1; own call).
 ///
-/// They are the two units of `char::encode_utf16`. `pair_units(0x1F600)` is `(0xD83D, 0xDE00)`.
+/// They are the two units of `char::encode_utf16`.
+///
+/// ```
+/// assert_eq!(rt; wtf8_core::pair_units(0x1F600), (0xD83D, 0xDE00));
+/// ```
 #[inline(always)]
 pub fn pair_units(code_point: u32) -> (u16, u16)
     requires past { 0x1_0000 ≤ code_point }
@@ -66,8 +70,11 @@ pub(crate) fn paired(high: u16, low: u16) -> u32
 /// The code point of the pair with which units begin, and the units after the pair; `None` where
 /// they begin with no pair (RFC 2781, section 2.2; own call).
 ///
-/// `first_pair(&[0xD83D, 0xDE00, 0x41])` is `Some((0x1F600, &[0x41]))`; of DE00, D83D
-/// (hexadecimal) it is `None`.
+/// ```
+/// let first = wtf8_core::first_pair(&[0xD83D, 0xDE00, 0x41]);
+/// assert!(rt; matches!(first, Some((0x1F600, [0x41]))));
+/// assert!(rt; wtf8_core::first_pair(&[0xDE00, 0xD83D]).is_none());
+/// ```
 #[tactic(auto, using(std::proofs::lemmas::Bool::Decides::nat_tests))]
 #[inline(always)]
 pub fn first_pair(units: &[u16]) -> Option<(u32, &[u16])>
