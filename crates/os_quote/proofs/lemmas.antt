@@ -5,4 +5,6 @@ pub mod Writing
 pub mod Chunks
 pub mod Escapes
 pub mod Readings
+pub mod Shown
+pub mod Lines
 pub use Rattle.os_str_ext.proofs.lemmas.EachChunk

@@ -1,11 +1,11 @@
 -- What has been read of an escape, step by step: only private contracts name these (what an escape is says `IsEscape`).
-use Rattle.std.specs.Prelude.{◌≡◌, ◌≢◌, ℕ, List, [], ◌∷◌, ◌++◌}
+use Rattle.std.specs.Prelude.{◌≡◌, ◌≢◌, ℕ, Bool, List, [], ◌∷◌, ◌++◌}
 use Rattle.std.specs.List.{flat_map, AllByRecursion}
 use Rattle.std.specs.Char.{encode_utf8}
 use Rattle.std.specs.Str.{IsUtf8}
 use Rattle.wtf8_core.specs.CodePoint.{form}
-use Rattle.os_quote.specs.Item.{Item, Character, Backslash, ByteUnit, WideUnit, backslash, item_texts, IsItem}
-use Rattle.os_quote.specs.Escape.{IsBadEscape}
+use Rattle.os_quote.specs.Item.{Item, Character, Backslash, ByteUnit, WideUnit, LongCharacter, backslash, item_texts, IsItem}
+use Rattle.os_quote.specs.Escape.{IsBadEscapeBy}
 use Rattle.os_quote.specs.declared.token.Token.{Token}
 use Rattle.os_quote.specs.declared.token.Token.TheVariants as token
 use Rattle.os_quote.specs.declared.error.QuoteError.{QuoteError}
@@ -23,6 +23,7 @@ item_bytes (Character c) = encode_utf8 c
 item_bytes Backslash = backslash ∷ []
 item_bytes (ByteUnit u) = u ∷ []
 item_bytes (WideUnit u) = form u
+item_bytes (LongCharacter c) = encode_utf8 c
 
 -- none of the bytes is a backslash
 abbrev pub HasNoBackslash : List ℕ → Type 0
@@ -35,16 +36,16 @@ pub record IsCutAtBackslash (text front behind : List ℕ) : Type 0 where
   pub front_text : IsUtf8 front
   pub behind_text : IsUtf8 behind
 
--- a front of the text is items that stand for these bytes, and the rest is left, which is text too
-pub record IsRead (text bytes rest : List ℕ) : Type 0 where
+-- a front of the text is items of the form that stand for these bytes, and the rest is left, which is text too
+pub record IsRead (shows : ℕ → Bool) (text bytes rest : List ℕ) : Type 0 where
   pub items : List Item
-  pub are : AllByRecursion IsItem items
+  pub are : AllByRecursion (IsItem shows) items
   pub joined : text ≡ item_texts items ++ rest
   pub bytes_are : bytes ≡ flat_map item_bytes items
   pub text_left : IsUtf8 rest
 
 -- why a text isn't read
-abbrev pub IsReadFault : List ℕ → QuoteError → Type 0
-IsReadFault text (BadEscape n) = IsBadEscape text n
-IsReadFault text NotCanonical = ⊥
-IsReadFault text Memory = Unit {0}
+abbrev pub IsReadFault : (ℕ → Bool) → List ℕ → QuoteError → Type 0
+IsReadFault shows text (BadEscape n) = IsBadEscapeBy shows text n
+IsReadFault shows text NotCanonical = ⊥
+IsReadFault shows text Memory = Unit {0}

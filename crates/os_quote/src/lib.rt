@@ -9,13 +9,16 @@
 
 mod display;
 mod error;
+mod form;
 pub mod laws;
 mod quoting;
 mod reading;
+mod standing;
 mod token;
 mod write;
+mod write_token;
 
 pub use display::Escaped;
 pub use error::QuoteError;
-pub use quoting::{escape, escaped};
+pub use quoting::{escape, escape_line, escaped, escaped_line};
 pub use reading::unescape;

@@ -1,10 +1,12 @@
 //! From strings to escapes.
 ghost use Rattle.std.specs.Prelude.{IfOk, string_bytes};
 ghost use Rattle.platform_str.specs.Strings.{bytes};
-ghost use Rattle.os_quote.specs.Escape.{IsEscape};
+ghost use Rattle.os_quote.specs.Shown.{shown_by};
+ghost use Rattle.os_quote.specs.Escape.{IsEscape, IsLineEscape, IsEscapeBy};
 ghost use Rattle.os_quote.specs.Escaped.{escaped_text};
 
 use crate::display::Escaped;
+use crate::form::Form;
 use os_str_bytes::{OsStr, Platform};
 use std::alloc::{AllocError, Allocator};
 
@@ -25,7 +27,7 @@ pub fn escape<E: Platform, A: Allocator>(
 ) -> Result<String<A>, AllocError>
     ensures { IfOk result (λ text. IsEscape E.units (bytes string.entry) (string_bytes text)) }
 {
-    escaped(string).to_string(alloc)
+    escape_by(Form::Text, alloc, string)
 }
 
 /// The string as a value that prints as its escape, as `{}` of a log line. It takes no memory.
@@ -35,5 +37,42 @@ pub fn escape<E: Platform, A: Allocator>(
 pub fn escaped<'a, E: Platform>(string: OsStr<'a, E>) -> Escaped<'a, E>
     ensures { IsEscape E.units (bytes string.entry) (escaped_text result) }
 {
-    Escaped::new(string)
+    Escaped::new(Form::Text, string)
+}
+
+/// The escape of a string on one line, from which [`unescape_line`](crate::unescape_line) gives the
+/// string again.
+///
+/// It is made as by [`escape`], but control characters, the separators U+2028 and U+2029 and the
+/// controls of direction are `\uHHHH` too: nothing in it can break a line or drive a terminal.
+/// The Unix string 61 0A 1B FF is `a\u000A\u001B\xFF`.
+///
+/// # Errors
+///
+/// `AllocError` where memory is refused.
+pub fn escape_line<E: Platform, A: Allocator>(
+    alloc: A,
+    string: OsStr<'_, E>,
+) -> Result<String<A>, AllocError>
+    ensures { IfOk result (λ text. IsLineEscape E.units (bytes string.entry) (string_bytes text)) }
+{
+    escape_by(Form::Line, alloc, string)
+}
+
+/// The string as a value that prints as its escape on one line. It takes no memory.
+pub fn escaped_line<'a, E: Platform>(string: OsStr<'a, E>) -> Escaped<'a, E>
+    ensures { IsLineEscape E.units (bytes string.entry) (escaped_text result) }
+{
+    Escaped::new(Form::Line, string)
+}
+
+/// The escape of a string in a form.
+pub(crate) fn escape_by<E: Platform, A: Allocator>(
+    form: Form,
+    alloc: A,
+    string: OsStr<'_, E>,
+) -> Result<String<A>, AllocError>
+    ensures { IfOk result (λ text. IsEscapeBy (shown_by form) E.units (bytes string.entry) (string_bytes text)) }
+{
+    Escaped::new(form, string).to_string(alloc)
 }

@@ -2,6 +2,7 @@
 ghost use Rattle.std.specs.Prelude.{◌≡◌, ◌++◌, ◌↔◌, [], length, IsOk, IfOk, IfErr, OnOk, IsTrue, MatchResult};
 ghost use Rattle.wtf8_core.specs.CodePoint.{form};
 ghost use Rattle.platform_str.specs.Strings.{bytes, string_vec_of};
+ghost use Rattle.os_quote.specs.Shown.{is_any};
 ghost use Rattle.os_quote.specs.Escape.{IsEscape, IsQuoteFault};
 ghost use Rattle.os_quote.specs.Reading.{IsRead, IsReadFault, item_bytes, token_item};
 
@@ -73,7 +74,7 @@ fn has_escape<E: Platform, A: Allocator>(
 /// The bytes that the characters and tokens of a text stand for.
 #[tactic(auto, using(crate::proofs::lemmas::Readings::readings))]
 fn read<A: Allocator>(alloc: A, text: &str) -> Result<Vec<u8, A>, QuoteError>
-    ensures { MatchResult result (λ encoded. IsRead text.now encoded.items []) (λ fault. IsReadFault text.now fault) }
+    ensures { MatchResult result (λ encoded. IsRead is_any text.now encoded.items []) (λ fault. IsReadFault is_any text.now fault) }
 {
     let mut encoded = Vec::with_capacity(alloc, text.len())?;
     let mut rest = text;

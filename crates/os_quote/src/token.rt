@@ -1,7 +1,8 @@
 //! Tokens, and the backslashes that begin them.
 ghost use Rattle.std.specs.Prelude.{◌≡◌, ◌≢◌, ◌<◌, ◌∷◌, ◌++◌, ℕ, List, MatchOption};
 ghost use Rattle.wtf8_core.specs.FaultText.{upper_hex_digit};
-ghost use Rattle.os_quote.specs.Item.{backslash, byte_digits, item_text, IsItem};
+ghost use Rattle.os_quote.specs.Item.{backslash, byte_digits, wide_digits, item_text, IsItem};
+ghost use Rattle.os_quote.specs.Shown.{is_any};
 ghost use Rattle.os_quote.specs.Escape.{BeginsNoToken};
 ghost use Rattle.os_quote.specs.Reading.{HasNoBackslash, IsCutAtBackslash, token_item};
 
@@ -32,8 +33,8 @@ pub(crate) fn split_backslash(text: &str) -> Option<(&str, &str)>
 /// behind the token.
 #[tactic(auto, using(crate::proofs::lemmas::Tokens::tokens))]
 pub(crate) fn first_token(behind: &[u8]) -> Option<(Token, &[u8])>
-    ensures { MatchOption result (BeginsNoToken (backslash ∷ behind.now))
-        (λ read. IsItem (token_item read.0) × (backslash ∷ behind.now ≡ item_text (token_item read.0) ++ read.1.now)) }
+    ensures { MatchOption result (BeginsNoToken is_any (backslash ∷ behind.now))
+        (λ read. IsItem is_any (token_item read.0) × (backslash ∷ behind.now ≡ item_text (token_item read.0) ++ read.1.now)) }
 {
     let Some((kind, digits)) = behind.split_first() else {
         return None;
@@ -48,15 +49,26 @@ pub(crate) fn first_token(behind: &[u8]) -> Option<(Token, &[u8])>
         return Some((Token::Byte(unit), rest));
     }
     if *kind == b'u' {
-        let Some((high, lower)) = two_digits(digits) else {
+        let Some((unit, rest)) = four_digits(digits) else {
             return None;
         };
-        let Some((low, rest)) = two_digits(lower) else {
-            return None;
-        };
-        return Some((Token::Wide(u16::from(high) * 0x100 + u16::from(low)), rest));
+        return Some((Token::Wide(unit), rest));
     }
     None
+}
+
+/// The number of four digits at the front, and what stands behind them.
+fn four_digits(bytes: &[u8]) -> Option<(u16, &[u8])>
+    ensures { MatchOption result ((u : ℕ) → u < 0x1_0000 → (after : List ℕ) → bytes.now ≢ wide_digits u ++ after)
+        (λ read. bytes.now ≡ wide_digits read.0 ++ read.1.now) }
+{
+    let Some((high, lower)) = two_digits(bytes) else {
+        return None;
+    };
+    let Some((low, rest)) = two_digits(lower) else {
+        return None;
+    };
+    Some((u16::from(high) * 0x100 + u16::from(low), rest))
 }
 
 /// The byte of two digits at the front, and what stands behind them.
