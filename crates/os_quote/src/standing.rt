@@ -17,6 +17,7 @@ pub(crate) fn split_suspect(text: &str) -> Option<(&str, char, &str)>
 }
 
 /// The place of the first byte that may begin a character which doesn't stay as it is.
+#[tactic(auto, using(crate::proofs::lemmas::Suspects::suspects))]
 fn first_suspect(bytes: &[u8]) -> Option<usize>
     ensures { IsFirstByte is_suspect bytes.now result }
 {

@@ -13,11 +13,10 @@ use Rattle.wtf8_core.proofs.lemmas.Forms.{form_bounds}
 use Rattle.platform_str.specs.PartLaws.{PartLaws}
 use Rattle.os_str_ext.specs.Chunks.{chunks_of}
 use Rattle.os_quote.specs.Item.{Item, backslash, item_texts, IsItem, unit_item}
-use Rattle.os_quote.specs.Shown.{is_any}
-use Rattle.os_quote.specs.Escape.{chunk_items, items_of, IsEscapeBy, IsEscape, IsBadEscapeBy}
-use Rattle.os_quote.specs.Reading.{item_bytes, HasNoBackslash}
+use Rattle.os_quote.specs.Escape.{chunk_items, items_of, IsEscapeBy, IsBadEscapeBy}
+use Rattle.os_quote.specs.Reading.{item_bytes}
 use Rattle.os_quote.proofs.lemmas.Items.{same_items}
-use Rattle.os_quote.proofs.lemmas.Texts.{text_items, text_is_items, own_text}
+use Rattle.os_quote.proofs.lemmas.Texts.{text_items, text_escape, text_is_items}
 use Rattle.os_str_ext.specs.Chunks.{IsChunkOf}
 use Rattle.os_quote.proofs.lemmas.Chunks.{own_chunks, text_chunks}
 
@@ -90,19 +89,19 @@ module _ (shows : ℕ → Bool) (well_formed : List ℕ → Type 0) (units : Lis
         let c : ◌≡◌ {A = List ℕ} [] (backslash ∷ b.bad.behind) = q.1 ∙ b.bad.first in
         cc
 
-module _ (well_formed : List ℕ → Type 0) (units : List ℕ → List ℕ) (part_units : List ℕ → Type 0) (parts : PartLaws well_formed units part_units) where
-  -- a text without a backslash is its own escape
-  pub own_escape : (t : List ℕ) → well_formed [] → IsUtf8 t → HasNoBackslash t → IsEscape units t t
-  own_escape t w u h = record { chunks = own_chunks t; are_chunks = text_chunks t u; text_is = by t u h }
+module _ (shows : ℕ → Bool) (well_formed : List ℕ → Type 0) (units : List ℕ → List ℕ) (part_units : List ℕ → Type 0) (parts : PartLaws well_formed units part_units) where
+  -- a text of which each character stands as it is is its own escape
+  pub own_escape : (t : List ℕ) → well_formed [] → IsUtf8 t → text_escape shows t ≡ t → IsEscapeBy shows units t t
+  own_escape t w u own = record { chunks = own_chunks t; are_chunks = text_chunks t u; text_is = by t own }
     where
       bare : IsBare []
       bare i j q = let f = character_fits [] i j q in omega arith
 
-      by : (t : List ℕ) → IsUtf8 t → HasNoBackslash t → t ≡ item_texts (items_of is_any units (own_chunks t))
-      by [] u h = refl
-      by (x ∷ t) u h =
-          sym (own_text (x ∷ t) u h)
-          ∙ ap item_texts (sym (append-nil (text_items is_any (x ∷ t))) ∙ ap (λ us. (map unit_item us ++ text_items is_any (x ∷ t)) ++ []) (sym (no_units (units []) (parts.spelled [] w bare))))
+      by : (t : List ℕ) → text_escape shows t ≡ t → t ≡ item_texts (items_of shows units (own_chunks t))
+      by [] own = refl
+      by (x ∷ t) own =
+          sym own
+          ∙ ap item_texts (sym (append-nil (text_items shows (x ∷ t))) ∙ ap (λ us. (map unit_item us ++ text_items shows (x ∷ t)) ++ []) (sym (no_units (units []) (parts.spelled [] w bare))))
 
 -- a string has one escape
 pub one_escape : (shows : ℕ → Bool) (units : List ℕ → List ℕ) (s text other : List ℕ) → IsEscapeBy shows units s text → IsEscapeBy shows units s other → text ≡ other

@@ -42,16 +42,16 @@ ascii_long c h =
     (cases_lt c 0x10_0000)
 
 -- a token's bytes are ASCII
-abbrev IsAsciiItem : Item → Type 0
+abbrev pub IsAsciiItem : Item → Type 0
 IsAsciiItem i = AllByRecursion (λ b. b < 128) (item_text i)
 
-ascii_byte_unit : (u : ℕ) → u < 0x100 → IsAsciiItem (ByteUnit u)
+pub ascii_byte_unit : (u : ℕ) → u < 0x100 → IsAsciiItem (ByteUnit u)
 ascii_byte_unit u h = (omega arith, (omega arith, (ascii_digit (u / 0x10) (omega arith), (ascii_digit (u % 0x10) (omega arith), tt))))
 
-ascii_wide_unit : (u : ℕ) → u < 0x1_0000 → IsAsciiItem (WideUnit u)
+pub ascii_wide_unit : (u : ℕ) → u < 0x1_0000 → IsAsciiItem (WideUnit u)
 ascii_wide_unit u h = (omega arith, (omega arith, subst (AllByRecursion (λ b. b < 128)) (append-nil (wide_digits u)) (ascii_wide u [] h tt)))
 
-ascii_long_character : (c : ℕ) → IsLong c → IsAsciiItem (LongCharacter c)
+pub ascii_long_character : (c : ℕ) → IsLong c → IsAsciiItem (LongCharacter c)
 ascii_long_character c h = (omega arith, (omega arith, (omega arith, ascii_long c h)))
 
 module _ (shows : ℕ → Bool) where

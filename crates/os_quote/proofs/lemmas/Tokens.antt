@@ -2,21 +2,14 @@
 use Rattle.std.proofs.Common.{◌≡◌, ◌≢◌, ℕ, ◌/◌, ◌%◌, ◌<◌, Bool, List, [], ◌∷◌, ◌++◌, refl, sym, ap, ◌∙◌, arith, append_assoc}
 use Rattle.std.proofs.lemmas.Str.{encode_same, encode_ascii}
 use Rattle.os_quote.specs.Item.{Item, Character, Backslash, ByteUnit, WideUnit, LongCharacter, backslash, byte_digits, wide_digits, long_digits, item_text, IsLong, HasLongTokens, IsItem}
-use Rattle.os_quote.specs.Shown.{is_any}
+use Rattle.os_quote.specs.Shown.{is_any, stays_on_line}
 use Rattle.os_quote.specs.Escape.{BeginsNoToken}
+use Rattle.os_quote.specs.Reading.{HasNoWide, HasNoLong, HasNoNumber}
 use Rattle.os_quote.proofs.lemmas.Items.{tails, byte_same}
 
 -- no byte has its two digits at the front
 abbrev pub HasNoByte : List ℕ → Type 0
 HasNoByte bs = (b : ℕ) → b < 0x100 → (after : List ℕ) → bs ≢ byte_digits b ++ after
-
--- nor a number of 16 bits its four
-abbrev pub HasNoWide : List ℕ → Type 0
-HasNoWide bs = (u : ℕ) → u < 0x1_0000 → (after : List ℕ) → bs ≢ wide_digits u ++ after
-
--- no code point past 16 bits has its digits between braces at the front
-abbrev pub HasNoLong : List ℕ → Type 0
-HasNoLong bs = (c : ℕ) → IsLong c → (after : List ℕ) → bs ≢ 0x7B ∷ (long_digits c ++ 0x7D ∷ after)
 
 module _ (shows : ℕ → Bool) where
   -- what may stand behind the backslash of a token doesn't
@@ -52,14 +45,21 @@ module _ (shows : ℕ → Bool) where
       (λ v h after e. let t = tails (sym is ∙ e) in omega (arith, k, t.0)) (λ l c h after e. let t = tails (sym is ∙ e) in omega (arith, k, t.0))
 
   -- `\u` and no four digits, nor others between braces where the form has long tokens
-  pub no_number : (behind digits : List ℕ) (kind : ℕ) → behind ≡ kind ∷ digits → kind ≡ 0x75 → HasNoWide digits → (HasLongTokens shows → HasNoLong digits) → BeginsNoToken shows (backslash ∷ behind)
-  no_number behind digits kind is k never long =
+  pub no_number : (behind digits : List ℕ) (kind : ℕ) → behind ≡ kind ∷ digits → kind ≡ 0x75 → HasNoNumber shows digits → BeginsNoToken shows (backslash ∷ behind)
+  no_number behind digits kind is k never =
       no_token behind (λ after e. let t = tails (sym is ∙ e) in omega (arith, k, t.0)) (λ v h after e. let t = tails (sym is ∙ e) in omega (arith, k, t.0))
-      (λ v h after e. never v h after (tails (sym is ∙ e)).1) (λ l c h after e. long l c h after (tails (sym is ∙ e)).1)
+      (λ v h after e. never.0 v h after (tails (sym is ∙ e)).1) (λ l c h after e. never.1 l c h after (tails (sym is ∙ e)).1)
 
 -- the form that shows every character has no long tokens
 pub no_long_tokens : {T : Type 0} → HasLongTokens is_any → T
 no_long_tokens h = let n = h.hidden in cc
+
+-- the form on one line has them: tags are written so
+pub line_has_long : HasLongTokens stays_on_line
+line_has_long = record { character = 0xE_0000; past = omega arith; hidden = refl }
+
+pub long_token : (digits : List ℕ) (c : ℕ) (rest : List ℕ) → digits ≡ 0x7B ∷ (long_digits c ++ 0x7D ∷ rest) → backslash ∷ 0x75 ∷ digits ≡ item_text (LongCharacter c) ++ rest
+long_token digits c rest e = ap (λ x. backslash ∷ 0x75 ∷ x) (e ∙ ap (λ x. 0x7B ∷ x) (sym (append_assoc (long_digits c) (0x7D ∷ []) rest)))
 
 -- no two digits, or no further two, are no four
 pub no_high_digits : (digits : List ℕ) → HasNoByte digits → HasNoWide digits

@@ -1,13 +1,20 @@
+use Rattle.std.proofs.Common.{ap, sym, ◌∙◌, ◌∷◌}
 use Rattle.std.proofs.lemmas.List.{nil_from_length}
-use Rattle.os_quote.specs.Shown.{is_any}
-use Rattle.os_quote.proofs.lemmas.Tokens.{nothing_behind, no_digits, no_number, no_long_tokens}
+use Rattle.os_quote.specs.Item.{backslash}
+use Rattle.os_quote.specs.Shown.{shown_by}
+use Rattle.os_quote.proofs.lemmas.Tokens.{nothing_behind, no_digits, no_number}
 use Rattle.os_quote.proofs.token.first_token.Goals as goal
 
 pub returns-in_default : goal.returns-in_default
-returns-in_default c = nothing_behind is_any _ (nil_from_length _ c.in_default.ensures.cases)
+returns-in_default c = nothing_behind (shown_by c.args.form) _ (nil_from_length _ c.in_default.ensures.cases)
 
 pub returns-in_default-two_digits : goal.returns-in_default-two_digits
-returns-in_default-two_digits c = no_digits is_any _ _ _ c.in-Some.ensures.cases.0 c.if-kind-eq120.true c.in_default-two_digits.ensures
+returns-in_default-two_digits c = no_digits (shown_by c.args.form) _ _ _ c.in-Some.ensures.cases.0 c.if-kind-eq120.true c.in_default-two_digits.ensures
 
-pub returns-in_default-four_digits : goal.returns-in_default-four_digits
-returns-in_default-four_digits c = no_number is_any _ _ _ c.in-Some.ensures.cases.0 c.if-kind-eq117.true c.in_default-four_digits.ensures no_long_tokens
+pub returns-in_default-number_token : goal.returns-in_default-number_token
+returns-in_default-number_token c = no_number (shown_by c.args.form) _ _ _ c.in-Some.ensures.cases.0 c.if-kind-eq117.true c.in_default-number_token.ensures
+
+pub returns-in-Some-number_token : goal.returns-in-Some-number_token
+returns-in-Some-number_token c =
+    let t = c.in-Some-number_token.ensures in
+    (t.0, ap (λ x. backslash ∷ x) (c.in-Some.ensures.cases.0 ∙ ap (λ k. k ∷ c.in-Some.digits.now) c.if-kind-eq117.true) ∙ t.1)
