@@ -7,7 +7,7 @@ use std::fmt;
 
 /// A string that prints as its escape, and takes no memory for it.
 ///
-/// [`escaped`](crate::escaped) makes it. It has no width and no precision: `{:>9}` writes what
+/// [`escaped`](crate::escaped) and [`escaped_line`](crate::escaped_line) make it. It has no width and no precision: `{:>9}` writes what
 /// `{}` does.
 pub struct Escaped<'a, E: Platform + 'a> {
     string: OsStr<'a, E>,

@@ -5,6 +5,9 @@
 //! part of a text is `\xHH` where it is below 100 (hexadecimal), else `\uHHHH`, with digits
 //! from `0` to `9` and from `A` to `F`. [`escaped`] writes the same without memory. The format
 //! is this project's own.
+//!
+//! [`escape_line`], [`escaped_line`] and [`unescape_line`] are a second form, for log lines and
+//! terminals: what ends a line, moves the cursor, reorders text or isn't seen is a token, too.
 #![tactic(auto)]
 
 mod display;

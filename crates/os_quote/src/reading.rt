@@ -144,10 +144,7 @@ fn push_unit<A: Allocator>(encoded: &mut Vec<u8, A>, unit: u16) -> Result<(), Al
 }
 
 /// Appends the bytes of a character.
-fn push_character<A: Allocator>(
-    encoded: &mut Vec<u8, A>,
-    character: char,
-) -> Result<(), AllocError>
+fn push_character<A: Allocator>(encoded: &mut Vec<u8, A>, character: char) -> Result<(), AllocError>
     ensures { OnOk result (encoded.new.items ≡ encoded.old.items ++ encode_utf8 character) }
 {
     let mut buffer = [0; 4];

@@ -19,7 +19,7 @@ digit_cases : (d : ℕ) → ((d < 10) × (upper_hex_digit d ≡ 48 + d)) ⊎ ((1
 digit_cases d = ⊎_elim (λ h. inl (h, digit_low d h)) (λ h. inr (h, digit_high d h)) (cases_lt d 10)
 
 -- a digit has one value
-digit_same : (d e : ℕ) → upper_hex_digit d ≡ upper_hex_digit e → d ≡ e
+pub digit_same : (d e : ℕ) → upper_hex_digit d ≡ upper_hex_digit e → d ≡ e
 digit_same d e h =
     ⊎_elim
     (λ (x : (d < 10) × (upper_hex_digit d ≡ 48 + d)). ⊎_elim (λ (y : (e < 10) × (upper_hex_digit e ≡ 48 + e)). omega (arith, x.1, y.1, h)) (λ (y : (10 ≤ e) × (upper_hex_digit e ≡ 55 + e)). omega (arith, x.0, x.1, y.0, y.1, h)) (digit_cases e))
@@ -71,21 +71,21 @@ long_same b c x y e =
     ⊎_elim
     (λ (h : b < 0x10_0000). ⊎_elim
     (λ (k : c < 0x10_0000).
-        let f = tails (ap (λ l. l ++ 0x7D ∷ x) (sym (five_digits b h)) ∙ e ∙ ap (λ l. l ++ 0x7D ∷ y) (five_digits c k)) in
-        let w = wide_same (b % 0x1_0000) (c % 0x1_0000) (0x7D ∷ x) (0x7D ∷ y) f.1 in
-        let p : b / 0x1_0000 ≡ c / 0x1_0000 = digit_same (b / 0x1_0000) (c / 0x1_0000) f.0 in
-        let q : b % 0x1_0000 ≡ c % 0x1_0000 = w.0 in
-        (omega arith, (tails w.1).1))
+    let f = tails (ap (λ l. l ++ 0x7D ∷ x) (sym (five_digits b h)) ∙ e ∙ ap (λ l. l ++ 0x7D ∷ y) (five_digits c k)) in
+    let w = wide_same (b % 0x1_0000) (c % 0x1_0000) (0x7D ∷ x) (0x7D ∷ y) f.1 in
+    let p : b / 0x1_0000 ≡ c / 0x1_0000 = digit_same (b / 0x1_0000) (c / 0x1_0000) f.0 in
+    let q : b % 0x1_0000 ≡ c % 0x1_0000 = w.0 in
+    (omega arith, (tails w.1).1))
     (λ (k : 0x10_0000 ≤ c). absurd (five_or_six b c x y (ap (λ l. l ++ 0x7D ∷ x) (sym (five_digits b h)) ∙ e ∙ ap (λ l. l ++ 0x7D ∷ y) (six_digits c k))))
     (cases_lt c 0x10_0000))
     (λ (h : 0x10_0000 ≤ b). ⊎_elim
     (λ (k : c < 0x10_0000). absurd (five_or_six c b y x (ap (λ l. l ++ 0x7D ∷ y) (sym (five_digits c k)) ∙ sym e ∙ ap (λ l. l ++ 0x7D ∷ x) (six_digits b h))))
     (λ (k : 0x10_0000 ≤ c).
-        let f = byte_same (b / 0x1_0000) (c / 0x1_0000) (wide_digits (b % 0x1_0000) ++ 0x7D ∷ x) (wide_digits (c % 0x1_0000) ++ 0x7D ∷ y) (ap (λ l. l ++ 0x7D ∷ x) (sym (six_digits b h)) ∙ e ∙ ap (λ l. l ++ 0x7D ∷ y) (six_digits c k)) in
-        let w = wide_same (b % 0x1_0000) (c % 0x1_0000) (0x7D ∷ x) (0x7D ∷ y) f.1 in
-        let p : b / 0x1_0000 ≡ c / 0x1_0000 = f.0 in
-        let q : b % 0x1_0000 ≡ c % 0x1_0000 = w.0 in
-        (omega arith, (tails w.1).1))
+    let f = byte_same (b / 0x1_0000) (c / 0x1_0000) (wide_digits (b % 0x1_0000) ++ 0x7D ∷ x) (wide_digits (c % 0x1_0000) ++ 0x7D ∷ y) (ap (λ l. l ++ 0x7D ∷ x) (sym (six_digits b h)) ∙ e ∙ ap (λ l. l ++ 0x7D ∷ y) (six_digits c k)) in
+    let w = wide_same (b % 0x1_0000) (c % 0x1_0000) (0x7D ∷ x) (0x7D ∷ y) f.1 in
+    let p : b / 0x1_0000 ≡ c / 0x1_0000 = f.0 in
+    let q : b % 0x1_0000 ≡ c % 0x1_0000 = w.0 in
+    (omega arith, (tails w.1).1))
     (cases_lt c 0x10_0000))
     (cases_lt b 0x10_0000)
 

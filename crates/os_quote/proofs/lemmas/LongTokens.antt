@@ -17,8 +17,8 @@ no_long bytes digits is six five c h after e =
     ⊎_elim
     (λ l. five (c / 0x1_0000) (omega arith) (omega arith) (c % 0x1_0000) (omega arith) after (t ∙ ap (λ x. x ++ 0x7D ∷ after) (five_digits c l)))
     (λ l.
-        let ten : c / 0x1_0000 ≡ 0x10 = omega arith in
-        six (c % 0x1_0000) (omega arith) after (t ∙ ap (λ x. x ++ 0x7D ∷ after) (six_digits c l ∙ ap (λ n. byte_digits n ++ wide_digits (c % 0x1_0000)) ten)))
+    let ten : c / 0x1_0000 ≡ 0x10 = omega arith in
+    six (c % 0x1_0000) (omega arith) after (t ∙ ap (λ x. x ++ 0x7D ∷ after) (six_digits c l ∙ ap (λ n. byte_digits n ++ wide_digits (c % 0x1_0000)) ten)))
     (cases_lt c 0x10_0000)
 
 pub long_of_six : (bytes digits : List ℕ) (c : ℕ) (rest : List ℕ) → bytes ≡ 0x7B ∷ digits → IsSix digits c rest → IsLong c × (bytes ≡ 0x7B ∷ (long_digits c ++ 0x7D ∷ rest))

@@ -70,4 +70,8 @@ no_low_digits digits lower high two never u h after e =
     let s = byte_same high (u / 0x100) lower (byte_digits (u % 0x100) ++ after) (sym two ∙ e) in
     never (u % 0x100) (omega arith) after s.1
 
-pub ruleset tokens = (nothing_behind, other_kind, no_digits, no_number, no_long_tokens)
+-- `\u` and what number_token reads behind it
+pub number_found : (behind digits whole : List ℕ) (kind : ℕ) → behind ≡ kind ∷ digits → kind ≡ 0x75 → backslash ∷ 0x75 ∷ digits ≡ whole → backslash ∷ behind ≡ whole
+number_found behind digits whole kind is k e = ap (λ x. backslash ∷ x) (is ∙ ap (λ x. x ∷ digits) k) ∙ e
+
+pub ruleset tokens = (nothing_behind, other_kind, no_digits, no_number, number_found)

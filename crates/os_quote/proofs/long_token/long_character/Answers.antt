@@ -10,5 +10,5 @@ returns-in-Some-six_digits c = long_of_six _ _ _ _ c.in-Some.ensures c.in-Some-s
 pub returns-in_default-five_digits : goal.returns-in_default-five_digits
 returns-in_default-five_digits c = no_long _ _ c.in-Some.ensures c.in_default-six_digits.ensures c.in_default-five_digits.ensures
 
-pub returns-in-Some-five_digits : goal.returns-in-Some-five_digits
-returns-in-Some-five_digits c = long_of_five _ _ _ _ c.in-Some.ensures c.in-Some-five_digits.ensures
+pub returns : goal.returns
+returns c = long_of_five _ _ _ _ c.in-Some.ensures c.in-Some-five_digits.ensures

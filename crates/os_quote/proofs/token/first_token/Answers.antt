@@ -1,6 +1,4 @@
-use Rattle.std.proofs.Common.{ap, sym, ◌∙◌, ◌∷◌}
 use Rattle.std.proofs.lemmas.List.{nil_from_length}
-use Rattle.os_quote.specs.Item.{backslash}
 use Rattle.os_quote.specs.Shown.{shown_by}
 use Rattle.os_quote.proofs.lemmas.Tokens.{nothing_behind, no_digits, no_number}
 use Rattle.os_quote.proofs.token.first_token.Goals as goal
@@ -13,8 +11,3 @@ returns-in_default-two_digits c = no_digits (shown_by c.args.form) _ _ _ c.in-So
 
 pub returns-in_default-number_token : goal.returns-in_default-number_token
 returns-in_default-number_token c = no_number (shown_by c.args.form) _ _ _ c.in-Some.ensures.cases.0 c.if-kind-eq117.true c.in_default-number_token.ensures
-
-pub returns-in-Some-number_token : goal.returns-in-Some-number_token
-returns-in-Some-number_token c =
-    let t = c.in-Some-number_token.ensures in
-    (t.0, ap (λ x. backslash ∷ x) (c.in-Some.ensures.cases.0 ∙ ap (λ k. k ∷ c.in-Some.digits.now) c.if-kind-eq117.true) ∙ t.1)

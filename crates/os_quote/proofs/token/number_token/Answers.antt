@@ -1,10 +1,11 @@
-use Rattle.std.proofs.Common.{ap, sym, ◌∙◌, ◌∷◌, ◌++◌, [], refl, arith, append_assoc}
-use Rattle.os_quote.specs.Item.{backslash, long_digits}
+use Rattle.std.proofs.Common.{ap, sym, subst}
+use Rattle.os_quote.specs.Item.{HasLongTokens}
+use Rattle.os_quote.specs.Shown.{shown_by}
 use Rattle.os_quote.proofs.lemmas.Tokens.{no_long_tokens, long_token, line_has_long}
 use Rattle.os_quote.proofs.token.number_token.Goals as goal
 
 pub returns-in-Text : goal.returns-in-Text
-returns-in-Text c = (c.in_default.ensures, no_long_tokens)
+returns-in-Text c = (c.in_default.ensures, λ h. no_long_tokens (subst HasLongTokens (ap shown_by c.in-Text.is) h))
 
 pub returns-in_default-long_character : goal.returns-in_default-long_character
 returns-in_default-long_character c = (c.in_default.ensures, λ _. c.in_default-long_character.ensures)
@@ -12,4 +13,4 @@ returns-in_default-long_character c = (c.in_default.ensures, λ _. c.in_default-
 pub returns-in-Some-long_character : goal.returns-in-Some-long_character
 returns-in-Some-long_character c =
     let t = c.in-Some-long_character.ensures in
-    ((line_has_long, t.0), long_token _ _ _ t.1)
+    ((subst HasLongTokens (sym (ap shown_by c.in-Line.is)) line_has_long, t.0), long_token _ _ _ t.1)

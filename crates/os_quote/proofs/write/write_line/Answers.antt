@@ -18,8 +18,8 @@ loop-front-preserved g c =
     let step : text_escape stays_on_line c.loop-front.rest.now ≡ (front ++ token) ++ left = up_to_suspect _ front _ _ c.loop-front.invariant.0 c.in-Some.ensures in
     (c.in-Some.ensures.behind_text, one_more took _ c.loop-front.f _ _ (front ++ token) left _ c.loop-front.invariant.1 wrote step)
 
-pub loop-front-decreases : goal.loop-front-decreases
-loop-front-decreases g c = cut_is_shorter _ _ _ _ c.in-Some.ensures
+pub loop-front-smaller : goal.loop-front-smaller
+loop-front-smaller g c = cut_is_shorter _ _ _ _ c.in-Some.ensures
 
 pub returns : goal.returns
 returns g c = λ flush ok.
