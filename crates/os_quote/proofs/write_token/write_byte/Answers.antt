@@ -2,7 +2,7 @@ use Rattle.std.proofs.Common.{◌≡◌, [], ◌∷◌, ◌<◌, ℕ, true, refl
 use Rattle.std.proofs.Output.{has_written_styled_append, has_written_styled_of_eq}
 use Rattle.std.proofs.lemmas.Str.{encode_ascii}
 use Rattle.std.specs.Char.{encode_utf8}
-use Rattle.os_quote.proofs.write.write_byte.Goals as goal
+use Rattle.os_quote.proofs.write_token.write_byte.Goals as goal
 
 -- a digit's character is one byte
 one_byte : (c d : ℕ) → c < 128 → c ≡ d → encode_utf8 c ≡ d ∷ []
