@@ -92,12 +92,19 @@ impl<'a, E: Platform> RawOsStr<'a, E> {
     /// The raw string of raw bytes, in place, as a view (own call): [`RawOsStr::cow_from_raw_bytes`]
     /// answers what might be owned. It takes no memory.
     ///
-    /// `RawOsStr::<Unix>::checked(b"a\x80")` is always `Ok`. On Windows ED A0 80 (hexadecimal) is
-    /// accepted, ED A0 80 ED B0 80 is refused with `EncodingError::CodePoint(0xDC00)`.
+    /// On Windows ED A0 80 (hexadecimal) is accepted, and ED A0 80 ED B0 80 is not.
     ///
     /// # Errors
     ///
     /// The first fault of the bytes, where they aren't well formed: what [`Platform::check`] answers.
+    ///
+    /// ```
+    /// use os_str_bytes::{EncodingError, RawOsStr, Windows};
+    ///
+    /// assert!(rt; RawOsStr::<Windows>::checked(b"\xED\xA0\x80").is_ok());
+    /// let fault = RawOsStr::<Windows>::checked(b"\xED\xA0\x80\xED\xB0\x80").err();
+    /// assert_eq!(rt; fault, Some(EncodingError::CodePoint(0xDC00)));
+    /// ```
     pub fn checked(raw: &'a [u8]) -> Result<Self, EncodingError>
         ensures bytes { IfOk result (λ string. raw_bytes string ≡ raw.now) }
         ensures cases { MatchResult result (λ _. E.well_formed raw.now) (λ fault. E.first_fault raw.now fault) }
@@ -152,7 +159,8 @@ impl<'a, E: Platform> RawOsStr<'a, E> {
     /// ```
     pub fn cow_from_raw_bytes(raw: &'a [u8]) -> Result<CowRawOsStr<'a, E>, EncodingError>
         ensures bytes { IfOk result (λ cow. raw_cow_bytes cow ≡ raw.now) }
-        ensures cases { MatchResult result (λ _. E.well_formed raw.now) (λ fault. E.first_fault raw.now fault) }
+        ensures cases { MatchResult result (λ _. E.well_formed raw.now)
+            (λ fault. E.first_fault raw.now fault) }
     {
         Ok(CowRawOsStr::Borrowed(RawOsStr::checked(raw)?))
     }
@@ -223,7 +231,8 @@ impl<'a, E: Platform> RawOsStr<'a, E> {
     /// assert_eq!(rt; RawOsStr::<Unix>::from_encoded_bytes_unchecked(b"a\x80").to_str(), None);
     /// ```
     pub fn to_str(self) -> Option<&'a str>
-        ensures { MatchOption result (¬ (IsUtf8 (raw_bytes self.entry))) (λ text. text.now ≡ raw_bytes self.entry) }
+        ensures { MatchOption result (¬ (IsUtf8 (raw_bytes self.entry)))
+            (λ text. text.now ≡ raw_bytes self.entry) }
     {
         self.string.to_str()
     }
