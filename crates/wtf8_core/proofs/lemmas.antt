@@ -12,7 +12,7 @@ pub mod LossyReadings
 pub mod Characters
 pub mod Below
 pub mod TableEntries
-pub mod OneMore
+pub mod Appending
 pub mod TableSteps
 pub mod LedForms
 pub mod Wholes
@@ -24,7 +24,6 @@ pub mod PairBits
 pub mod Fed
 pub mod FaultsInFronts
 pub mod AtFront
-pub mod KeptTexts
 pub mod Cuts
 pub mod Utf8Lemmas
 pub mod Propositions
@@ -48,3 +47,5 @@ pub mod PiecesInUnits
 pub mod Instances
 pub mod Order
 pub mod Writing
+pub mod FirstForms
+pub mod WrittenForms

@@ -1,7 +1,7 @@
 //! How many of 64 bytes may stand where they do.
-ghost use Rattle.std.specs.Prelude.{◌≡◌, ◌≢◌, ℕ, ◌+◌, ◌≤◌, ◌<◌, length, IsTrue, IsFalse, slice_index, bit_and, bit_or, bit_xor};
+ghost use Rattle.std.specs.Prelude.{◌≡◌, ◌≢◌, ℕ, ◌+◌, ◌≤◌, ◌<◌, length, true, false, slice_index, bit_and, bit_or, bit_xor};
 ghost use Rattle.wtf8_core.specs.PairBits.{wrong_bits, unlike_pair};
-ghost use Rattle.wtf8_core.specs.Neighbours.{AllMayStand, AllPlain};
+ghost use Rattle.wtf8_core.specs.Neighbours.{AllMayStand};
 
 use crate::lanes::{
     apart, are_zero, joined, later_bit, load, masked, others_before, pair_bits, pair_bits_of_16,
@@ -53,8 +53,7 @@ fn unlike_pair(window: &[u8]) -> u8x64
 pub(crate) fn kept_len(window: &[u8], surrogates: bool) -> usize
     requires { 68 ≤ length window.now }
     ensures within { result ≤ 64 }
-    ensures pattern { AllMayStand result window.now }
-    ensures plain { IsFalse surrogates → AllPlain result window.now }
+    ensures pattern { AllMayStand surrogates result window.now }
 {
     let wrong = wrong_bits(window);
     if are_zero(wrong) {
@@ -74,7 +73,7 @@ fn kept_with_surrogates(wrong: u8x64, window: &[u8]) -> usize
     requires wrong { (i : ℕ) → i < 64 → slice_index wrong i
         ≡ wrong_bits (slice_index window.now (1 + i)) (slice_index window.now (2 + i)) (slice_index window.now (3 + i)) (slice_index window.now (4 + i)) }
     ensures within { result ≤ 64 }
-    ensures pattern { AllMayStand result window.now }
+    ensures pattern { AllMayStand true result window.now }
 {
     zeros_before(masked(wrong, 0xBF)).min(others_before(unlike_pair(window)))
 }
@@ -85,8 +84,7 @@ fn kept_with_surrogates(wrong: u8x64, window: &[u8]) -> usize
 pub(crate) fn kept_of_16(window: &[u8]) -> usize
     requires { 20 ≤ length window.now }
     ensures within { result ≤ 16 }
-    ensures pattern { AllMayStand result window.now }
-    ensures plain { AllPlain result window.now }
+    ensures pattern { AllMayStand false result window.now }
 {
     zeros_before(wrong_bits_of_16(window)).min(16)
 }

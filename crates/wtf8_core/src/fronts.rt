@@ -5,7 +5,7 @@ ghost use Rattle.std.specs.Prelude.{Bool, ◌≡◌, ◌∷◌, ℕ, suc, ◌+�
 ghost use Rattle.std.specs.Int.{is_in_range};
 ghost use Rattle.wtf8_core.specs.Wtf8.{last_behind};
 ghost use Rattle.wtf8_core.specs.Surrogate.{is_high};
-ghost use Rattle.wtf8_core.specs.SpelledFront.{IsSpelledFront, KeepsPattern, behind_zeros};
+ghost use Rattle.wtf8_core.specs.SpelledFront.{IsSpelledFront, KeepsPattern};
 
 use crate::blocks::{kept_len, kept_of_16};
 use crate::byte::is_continuation;
@@ -171,7 +171,7 @@ fn is_ascii_block(bytes: &[u8], at: usize) -> bool
 fn is_behind_ascii(bytes: &[u8], at: usize) -> bool
     requires some { 0 < at }
     requires within { at ≤ length bytes.now }
-    ensures { IsTrue result → slice_index (behind_zeros bytes.now) (3 + at) < 0x80 }
+    ensures { IsTrue result → slice_index bytes.now (at - 1) < 0x80 }
 {
     bytes[at - 1] < 0x80
 }

@@ -1,6 +1,5 @@
 -- Tests of all numbers below a bound, by computing them.
-use Rattle.std.proofs.Common.{◌≡◌, inl, inr, ℕ, zero, suc, ◌+◌, ◌-◌, ◌*◌, ◌/◌, ◌<◌, ◌≤◌, Bool, true, ◌&&◌, not, eqb, List, get_or, sym, subst, arith, eqb-true, true≢false}
-use Rattle.std.proofs.lemmas.Bool.{and_parts, cases_lt}
+use Rattle.wtf8_core.proofs.Common.{◌≡◌, inl, inr, ℕ, zero, suc, ◌+◌, ◌-◌, ◌*◌, ◌/◌, ◌<◌, ◌≤◌, Bool, true, ◌&&◌, not, eqb, List, get_or, sym, subst, arith, eqb-true, true≢false, and_parts, cases_lt}
 
 -- whether each number below n passes
 abbrev pub all_below : (ℕ → Bool) → ℕ → Bool

@@ -1,22 +1,9 @@
 -- Where the first fault stands: bytes that are read up to it.
-use Rattle.std.proofs.Common.{◌≡◌, ⊎_elim, ℕ, ◌-◌, ◌<◌, Bool, true, false, List, [], ◌∷◌, ◌++◌, length, take, drop, Result, Ok, Err, refl, sym, ap, ◌∙◌, subst, arith, append_assoc, Fits, w8, get_or, length-append, length-drop, take-append-drop}
-use Rattle.std.proofs.Math.Seq.{drop-append_seam}
-use Rattle.std.specs.List.{All}
-use Rattle.std.proofs.lemmas.List.{append-nil}
-use Rattle.std.proofs.lemmas.List.Elements.{All-drop, All-from_get_or}
-use Rattle.wtf8_core.specs.Byte.{IsByte}
-use Rattle.wtf8_core.specs.Surrogate.{is_high}
-use Rattle.wtf8_core.specs.CodePoint.{form}
-use Rattle.wtf8_core.specs.Wtf8.{Spells, IsWtf8, last_behind}
-use Rattle.wtf8_core.specs.Fault.{BeginsFault, IsFaultAt}
-use Rattle.wtf8_core.specs.Reader.{first_item, behind_item, items_behind, is_high_item, IsFirstItem}
-use Rattle.wtf8_core.specs.SpelledFront.{IsSpelledFront, IsReadUpTo}
-use Rattle.wtf8_core.specs.declared.fault.EncodingError.{EncodingError}
-use Rattle.wtf8_core.proofs.lemmas.Complete.{behind_form, refused_len, item_of_form, items_of_fault, behind_zero}
+use Rattle.wtf8_core.proofs.Common.{◌≡◌, ⊎_elim, ℕ, ◌-◌, Bool, true, false, List, [], ◌∷◌, ◌++◌, length, take, drop, Result, Ok, Err, refl, sym, ap, ◌∙◌, subst, arith, append_assoc, Fits, w8, get_or, length-append, take-append-drop, drop-append_seam, All, append-nil, All-drop, All-from_get_or, IsByte, is_high, form, Spells, IsWtf8, last_behind, BeginsFault, IsFaultAt, first_item, behind_item, items_behind, is_high_item, IsFirstItem, IsSpelledFront, IsReadUpTo, EncodingError, IsCodePoint, IsLow}
+use Rattle.wtf8_core.proofs.lemmas.Complete.{behind_form, refused_len, item_of_form, items_of_fault}
 use Rattle.wtf8_core.proofs.lemmas.Reading.{items-ok, items-err}
 use Rattle.wtf8_core.proofs.lemmas.Sound.{BeginsForm, begins}
-use Rattle.wtf8_core.proofs.lemmas.Wholes.{SpelledBehind}
-use Rattle.wtf8_core.proofs.lemmas.Fronts.{last_append, joined_spelled}
+use Rattle.wtf8_core.proofs.lemmas.Appending.{last_append, spells_more}
 
 -- behind the code point p a code point is read: its form stands there
 first_form_behind : (p b c : ℕ) (bs : List ℕ) → IsByte b → first_item (is_high p) b bs ≡ Ok c → (i : BeginsForm p (b ∷ bs)) × (i.c ≡ c) × (i.rest ≡ drop (behind_item b bs) bs)
@@ -35,13 +22,6 @@ fault_behind p b f bs u e = ⊎_elim
     let same : g.0 ≡ f = cc in
     subst (BeginsFault p (b ∷ bs)) same g.1)
     (begins p b bs u)
-
--- what follows the first item is shorter
-pub behind_item_shorter : {h : Bool} {rest later : List ℕ} {item : Result ℕ EncodingError} → IsFirstItem h rest item later → length later < length rest
-behind_item_shorter i =
-    let all = ap length i.is in
-    let left = ap length i.rest_is ∙ length-drop (behind_item i.first i.behind) i.behind in
-    omega arith
 
 -- at the start nothing is read
 pub read_none : (bytes : List ℕ) → IsReadUpTo bytes false bytes
@@ -78,14 +58,11 @@ module _ {bytes : List ℕ} {h : Bool} {rest later : List ℕ} {item : Result �
   read_more c high e k =
       let w = first_form_behind p i.first c i.behind first_byte (subst (λ t. first_item t i.first i.behind ≡ Ok c) (sym r.high_is) (i.item_is ∙ e)) in
       let f = w.0 in
-      let before : SpelledBehind 0 r.front r.code_points = record { code_points = r.spelled.code_points; paired_free = behind_zero r.code_points r.spelled.paired_free; joined = r.spelled.joined } in
-      let form_alone : SpelledBehind p (form c) (c ∷ []) = subst (λ z. SpelledBehind p (form z) (z ∷ [])) w.1 (record { code_points = (f.code_point, tt); paired_free = (f.free, (tt, tt)); joined = sym (append-nil (form f.c)) }) in
-      let j = joined_spelled 0 r.front (form c) r.code_points (c ∷ []) before form_alone in
       record {
         code_points = r.code_points ++ c ∷ [];
         front = r.front ++ form c;
         joined = r.joined ∙ ap (λ x. r.front ++ x) (i.is ∙ f.is ∙ ap (λ z. form z ++ f.rest) w.1 ∙ ap (λ z. form c ++ z) (w.2 ∙ sym i.rest_is)) ∙ sym (append_assoc r.front (form c) later);
-        spelled = record { code_points = j.code_points; paired_free = j.paired_free.1; joined = j.joined };
+        spelled = spells_more r.front r.code_points c r.spelled (subst IsCodePoint w.1 f.code_point) (λ h l. f.free h (subst IsLow (sym w.1) l));
         high_is = ap is_high (last_append 0 r.code_points (c ∷ [])) ∙ sym (k ∙ ap is_high_item e);
       }
 

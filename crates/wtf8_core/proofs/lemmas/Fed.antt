@@ -1,23 +1,10 @@
 -- Pieces, one behind the other.
-use Rattle.std.proofs.Common.{◌≡◌, ◌≢◌, inl, inr, ⊎_elim, ℕ, ◌+◌, ◌<◌, Bool, true, false, List, [], ◌∷◌, ◌++◌, length, take, drop, get_or, take-append-drop, Option, None, refl, sym, ap, ◌∙◌, subst, arith, append_assoc}
-use Rattle.std.proofs.lemmas.List.{append-nil}
-use Rattle.std.proofs.lemmas.Grind.{common_steps}
-use Rattle.wtf8_core.specs.Wtf8.{IsWtf8, Spells, last_behind}
-use Rattle.wtf8_core.specs.Fault.{IsShort, IsRefused}
-use Rattle.wtf8_core.specs.Table.{class_at, next_at}
-use Rattle.wtf8_core.specs.Checker.{Row, rows, SomeRow, IsOpen, IsOpenIn, Stands, IsFaulty, OnlyEnds, HasFirstFault, joined_bits, fault_at, Progress, progress, StandsFor, is_between}
-use Rattle.wtf8_core.specs.Surrogate.{IsHigh, is_high}
-use Rattle.wtf8_core.specs.SpelledFront.{IsSpelledFront}
-use Rattle.wtf8_core.proofs.lemmas.Ranges.{in_range, in_range-false, not_in_range, range_cases}
-use Rattle.wtf8_core.proofs.lemmas.Fronts.{spelled_with_front, ends_high}
+use Rattle.wtf8_core.proofs.Common.{◌≡◌, ◌≢◌, inl, inr, ⊎_elim, ℕ, ◌+◌, ◌<◌, Bool, true, false, List, [], ◌∷◌, ◌++◌, length, take, drop, get_or, take-append-drop, Option, None, refl, sym, ap, ◌∙◌, subst, arith, append_assoc, append-nil, common_steps, IsWtf8, Spells, last_behind, IsShort, IsRefused, class_at, next_at, Row, rows, SomeRow, IsOpen, IsOpenIn, Stands, IsFaulty, OnlyEnds, HasFirstFault, joined_bits, fault_at, Progress, progress, StandsFor, is_between, IsHigh, is_high, IsSpelledFront, EncodingError, Byte, CodePoint, End, Utf8, State, Between, BehindHigh, Refused, Class, cases_Bool}
+use Rattle.wtf8_core.proofs.lemmas.Ranges.{in_range-false}
+use Rattle.wtf8_core.proofs.lemmas.Appending.{last_append, spells_joined}
+use Rattle.wtf8_core.proofs.lemmas.UnitsLemmas.{may_precede}
 use Rattle.wtf8_core.proofs.lemmas.Complete.{never_both, one_fault}
 use Rattle.wtf8_core.proofs.lemmas.TableSteps.{goes}
-use Rattle.wtf8_core.specs.declared.fault.EncodingError.{EncodingError}
-use Rattle.wtf8_core.specs.declared.fault.EncodingError.TheVariants.{Byte, CodePoint, End, Utf8}
-use Rattle.wtf8_core.specs.declared.table.State.{State}
-use Rattle.wtf8_core.specs.declared.table.State.TheVariants.{Between, BehindHigh, Refused}
-use Rattle.wtf8_core.specs.declared.table.Class.{Class}
-use Rattle.std.proofs.lemmas.Bool.{cases_Bool}
 
 refused_extends : (last : ℕ) (refused rest p : List ℕ) (f : EncodingError) → f ≢ End → IsRefused last refused rest f → IsRefused last refused (rest ++ p) f
 refused_extends last refused rest p (Byte x) n (inl s) = inl s
@@ -123,10 +110,11 @@ module _ (bits : ℕ) (b piece : List ℕ) (at : ℕ) (f : IsSpelledFront true p
   not_behind = in_range-false 0xD800 0xDBFF _ m.opened.1
 
   same_last : is_high (last_behind 0 (m.code_points ++ f.code_points)) ≡ is_high (last_behind 0 f.code_points)
-  same_last =
-      let r = ends_high true b m.code_points piece at before not_behind f in
-      ⊎_elim (λ h. in_range 0xD800 0xDBFF _ (r.1 h) ∙ sym (in_range 0xD800 0xDBFF _ h)) (λ n. not_in_range 0xD800 0xDBFF _ (λ h. n (r.0 h)) ∙ sym (not_in_range 0xD800 0xDBFF _ n))
-      (range_cases 0xD800 0xDBFF (last_behind 0 f.code_points))
+  same_last = ap is_high (last_append 0 m.code_points f.code_points) ∙ by f.code_points
+    where
+      by : (ds : List ℕ) → is_high (last_behind (last_behind 0 m.code_points) ds) ≡ is_high (last_behind 0 ds)
+      by [] = m.opened.1
+      by (d ∷ ds) = refl
 
   gone : (s : State) (h : Bool) → (is_high (last_behind 0 f.code_points) ≡ h) → ((k : Bool) → k ≡ h → IsOpenIn s k bits []) → Stands s bits (b ++ take at piece)
   gone s h e o = record {
@@ -134,7 +122,7 @@ module _ (bits : ℕ) (b piece : List ℕ) (at : ℕ) (f : IsSpelledFront true p
     before = b ++ take at piece;
     open_bytes = [];
     joined = sym (append-nil (b ++ take at piece));
-    spelled = spelled_with_front true b m.code_points piece at before not_behind f;
+    spelled = spells_joined b (take at piece) m.code_points f.code_points before f.spelled (may_precede _ f.code_points not_behind);
     opened = o _ (same_last ∙ e);
   }
 

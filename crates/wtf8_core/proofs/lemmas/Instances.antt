@@ -1,20 +1,6 @@
 -- The definitions at some bytes.
+use Rattle.wtf8_core.proofs.Common.{◌≡◌, inl, inr, ⊎_elim, ℕ, ◌-◌, ◌<◌, false, List, [], ◌∷◌, ◌++◌, map, subst, length, drop, Result, Ok, Err, refl, arith, IsScalar, AllByRecursion, nat_tests, All-from_recursion, IsByte, form, wide, Spells, units, IsFirstFault, AreItems, WholeCharacter, IsBoundary, first_item, and_then_checked, with_continuations, checked_value, items_behind, items_after, behind_item, continuations, EncodingError, Byte, CodePoint, End}
 use borrow.Author.Count.{below_none, below_more}
-use Rattle.std.proofs.Common.{◌≡◌, inl, inr, ⊎_elim, ℕ, ◌-◌, ◌<◌, false, List, [], ◌∷◌, ◌++◌, map, subst, length, drop, Result, Ok, Err, refl, arith}
-use Rattle.std.specs.Char.{IsScalar}
-use Rattle.std.specs.List.{AllByRecursion}
-use Rattle.std.proofs.lemmas.Bool.Decides.{nat_tests}
-use Rattle.std.proofs.lemmas.List.Elements.{All-from_recursion}
-use Rattle.wtf8_core.specs.Byte.{IsByte}
-use Rattle.wtf8_core.specs.CodePoint.{form, wide}
-use Rattle.wtf8_core.specs.Wtf8.{Spells, units}
-use Rattle.wtf8_core.specs.Fault.{IsFirstFault}
-use Rattle.wtf8_core.specs.Items.{AreItems}
-use Rattle.wtf8_core.specs.Character.{WholeCharacter}
-use Rattle.wtf8_core.specs.Boundary.{IsBoundary}
-use Rattle.wtf8_core.specs.Reader.{first_item, and_then_checked, with_continuations, checked_value, items_behind, items_after, behind_item, continuations}
-use Rattle.wtf8_core.specs.declared.fault.EncodingError.{EncodingError}
-use Rattle.wtf8_core.specs.declared.fault.EncodingError.TheVariants.{Byte, CodePoint, End}
 use Rattle.wtf8_core.proofs.lemmas.FirstErr.{items_first_err}
 use Rattle.wtf8_core.proofs.lemmas.Sound.{items_of_bytes}
 use Rattle.wtf8_core.proofs.lemmas.Characters.{NoChar, none_at, begins_at, ascii_found, character_fits}

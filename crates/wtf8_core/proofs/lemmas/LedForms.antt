@@ -1,11 +1,5 @@
 -- A lead and its continuations, where each may follow the other, are the form of a code point.
-use Rattle.std.proofs.Common.{◌≡◌, ℕ, ◌<◌, ◌≤◌, List, [], ◌∷◌, arith}
-use Rattle.std.proofs.lemmas.Bool.Decides.{nat_tests}
-use Rattle.std.specs.Char.{IsScalar}
-use Rattle.wtf8_core.specs.Byte.{IsContinuation}
-use Rattle.wtf8_core.specs.Surrogate.{IsHigh, IsLow}
-use Rattle.wtf8_core.specs.CodePoint.{IsCodePoint, form}
-use Rattle.wtf8_core.specs.Fault.{shape_value}
+use Rattle.wtf8_core.proofs.Common.{◌≡◌, ℕ, ◌<◌, ◌≤◌, List, [], ◌∷◌, arith, nat_tests, IsScalar, IsContinuation, IsHigh, IsLow, IsCodePoint, form, shape_value}
 use Rattle.wtf8_core.proofs.lemmas.Forms.{shape_is_form}
 
 -- the bytes are the form of the code point c

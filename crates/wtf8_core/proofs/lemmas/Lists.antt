@@ -1,7 +1,5 @@
 -- What holds of each element of joined lists.
-use Rattle.std.proofs.Common.{ℕ, List, [], ◌∷◌}
-use Rattle.std.specs.List.{All, AllByRecursion, flat_map}
-use Rattle.std.proofs.lemmas.List.Elements.{All-append, All-nil}
+use Rattle.wtf8_core.proofs.Common.{ℕ, List, [], ◌∷◌, All, AllByRecursion, flat_map, All-append, All-nil}
 
 -- what holds of each element of each piece holds of each element of the pieces joined
 pub all_flat_map : (P Q : ℕ → Type 0) (f : ℕ → List ℕ) → ((x : ℕ) → P x → All Q (f x)) → (xs : List ℕ) → AllByRecursion P xs → All Q (flat_map f xs)

@@ -1,11 +1,5 @@
 -- Bytes have their first fault at one place.
-use Rattle.std.proofs.Common.{◌≡◌, ℕ, suc, false, List, [], ◌∷◌, length, drop, Err, sym, ap, ◌∙◌}
-use Rattle.std.proofs.Math.Seq.{drop-append_seam}
-use Rattle.std.specs.List.{flat_map}
-use Rattle.wtf8_core.specs.CodePoint.{form}
-use Rattle.wtf8_core.specs.Fault.{BeginsFault, IsFaultAt}
-use Rattle.wtf8_core.specs.Reader.{behind_item, items_behind}
-use Rattle.wtf8_core.specs.declared.fault.EncodingError.{EncodingError}
+use Rattle.wtf8_core.proofs.Common.{◌≡◌, ℕ, suc, false, List, [], ◌∷◌, length, drop, Err, sym, ap, ◌∙◌, drop-append_seam, flat_map, form, BeginsFault, IsFaultAt, behind_item, items_behind, EncodingError}
 use Rattle.wtf8_core.proofs.lemmas.Complete.{one_fault, items_of_fault, refused_len}
 
 -- as many bytes are refused, whatever stands before them

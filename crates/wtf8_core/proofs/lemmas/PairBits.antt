@@ -1,10 +1,6 @@
 -- Bytes whose bits say that nothing is wrong may stand where they do.
-use Rattle.std.proofs.Common.{List, get_or, ◌≡◌, ◌≢◌, ◌⊎◌, inl, inr, ⊎_elim, ℕ, suc, ◌+◌, ◌-◌, ◌*◌, ◌/◌, ◌^◌, max, ◌<◌, ◌≤◌, Bool, true, eqb, bit_and, bit_or, bit_xor, refl, sym, ap, ◌∙◌, subst, arith, eq-eqb}
-use Rattle.std.proofs.lemmas.Bool.{cases_lt}
+use Rattle.wtf8_core.proofs.Common.{List, get_or, ◌≡◌, ◌≢◌, ◌⊎◌, inl, inr, ⊎_elim, ℕ, suc, ◌+◌, ◌-◌, ◌*◌, ◌/◌, ◌^◌, max, ◌<◌, ◌≤◌, Bool, true, false, eqb, bit_and, bit_or, bit_xor, refl, sym, ap, ◌∙◌, subst, arith, eq-eqb, cases_lt, bit_at, IsContinuation, MayFollow, MayStand, AllMayStand}
 use Rattle.std.proofs.lemmas.Nat.Bits.{and_pow, and_high_mask, bit_at_or}
-use Rattle.std.specs.Int.{bit_at}
-use Rattle.wtf8_core.specs.Byte.{IsContinuation}
-use Rattle.wtf8_core.specs.Neighbours.{MayFollow, MayStand, AllMayStand, AllPlain}
 use Rattle.wtf8_core.specs.PairBits.{pair_bits, later_bit, wrong_bits, unlike_pair}
 use Rattle.wtf8_core.proofs.lemmas.Below.{fails}
 
@@ -90,8 +86,8 @@ pair_is w x z b u v p q r s l m =
     let low : bit_and b 0xF0 ≡ 0xB0 = and_high_mask 8 4 (omega arith) b v ∙ omega (arith, l, m) in
     rw (p, s, high, low) refl
 
-module _ (w x y z b : ℕ) (ux : x < 256) (uy : y < 256) (uz : z < 256) (ub : b < 256) (right : bit_and (wrong_bits x y z b) 0xBF ≡ 0) (unpaired : (wrong_bits x y z b ≡ 0) ⊎ (unlike_pair w x z b ≢ 0)) where
-  when_early : x < 0xF0 → y < 0xE0 → later_bit x y ≡ 0 → MayStand w x y z b
+module _ (s : Bool) (w x y z b : ℕ) (ux : x < 256) (uy : y < 256) (uz : z < 256) (ub : b < 256) (right : bit_and (wrong_bits x y z b) 0xBF ≡ 0) (unpaired : (wrong_bits x y z b ≡ 0) ⊎ (unlike_pair w x z b ≢ 0)) (plain : s ≡ false → wrong_bits x y z b ≡ 0) where
+  when_early : x < 0xF0 → y < 0xE0 → later_bit x y ≡ 0 → MayStand s w x y z b
   when_early p q e =
       let early : is_early z (b / 16) ≡ true = eq-eqb _ _ (ap (λ n. bit_and (bit_xor n 0) 0xBF) (same_half z b) ∙ ap (λ n. bit_and (bit_xor (pair_bits z b) n) 0xBF) (sym e) ∙ right) in
       let continues = early_continues z b uz ub early in
@@ -99,20 +95,19 @@ module _ (w x y z b : ℕ) (ux : x < 256) (uy : y < 256) (uz : z < 256) (ub : b 
         begins = λ s. early_begins z b uz ub early s.second;
         continues = λ s. ⊎_elim (λ l. absurd (omega (arith, l, p))) (λ t. ⊎_elim (λ l. absurd (omega (arith, l, q))) continues t) s;
         follows = early_follows z b uz ub early;
-        unpaired = λ i j k l.
-            let c = continues (omega (arith, l)) in
-            ⊎_elim (λ m. m)
-            (λ m. ⊎_elim
-            (λ zero_bits. omega (arith, m, no_surrogate b (omega (arith, c.1)) (bits_zero l zero_bits)))
-            (λ n. absurd (n (pair_is w x z b ux ub i j k l m (omega (arith, c.1)))))
-            unpaired)
-            (cases_lt b 0xB0);
+        unpaired = λ i j k l. ⊎_elim (λ m. m) (λ m. ⊎_elim
+            (λ zero_bits. omega (arith, m, when_zero l zero_bits))
+            (λ n. absurd (n (pair_is w x z b ux ub i j k l m (omega (arith, (continues (omega (arith, l))).1)))))
+            unpaired) (cases_lt b 0xB0);
+        plain = λ f l. when_zero l (plain f);
       }
     where
-      bits_zero : z ≡ 0xED → wrong_bits x y z b ≡ 0 → bit_xor (pair_bits 0xED b) 0 ≡ 0
-      bits_zero l n = ap (λ v. bit_xor (pair_bits v b) 0) (sym l) ∙ ap (λ m. bit_xor (pair_bits z b) m) (sym e) ∙ n
+      when_zero : z ≡ 0xED → wrong_bits x y z b ≡ 0 → b < 0xA0
+      when_zero l n =
+          let c = early_continues z b uz ub (eq-eqb _ _ (ap (λ n. bit_and (bit_xor n 0) 0xBF) (same_half z b) ∙ ap (λ n. bit_and (bit_xor (pair_bits z b) n) 0xBF) (sym e) ∙ right)) (omega (arith, l)) in
+          no_surrogate b (omega (arith, c.1)) (ap (λ v. bit_xor (pair_bits v b) 0) (sym l) ∙ ap (λ m. bit_xor (pair_bits z b) m) (sym e) ∙ n)
 
-  when_late : (0xF0 ≤ x) ⊎ (0xE0 ≤ y) → later_bit x y ≡ 0x80 → MayStand w x y z b
+  when_late : (0xF0 ≤ x) ⊎ (0xE0 ≤ y) → later_bit x y ≡ 0x80 → MayStand s w x y z b
   when_late p e =
       let late : is_late z (b / 16) ≡ true = eq-eqb _ _ (ap (λ n. bit_and (bit_xor n 0x80) 0xBF) (same_half z b) ∙ ap (λ n. bit_and (bit_xor (pair_bits z b) n) 0xBF) (sym e) ∙ right) in
       let first = late_first z b uz ub late in
@@ -121,11 +116,12 @@ module _ (w x y z b : ℕ) (ux : x < 256) (uy : y < 256) (uz : z < 256) (ub : b 
         continues = λ _. late_second z b uz ub late;
         follows = record { lead = λ s. absurd (omega (arith, s, first.1)); three_long = λ s. absurd (omega (arith, s, first.1)); four_long = λ s. absurd (omega (arith, s, first.1)); within = λ s. absurd (omega (arith, s, first.1)) };
         unpaired = λ i j k l. absurd (omega (arith, l, first.1));
+        plain = λ f l. absurd (omega (arith, l, first.1));
       }
 
-  pub may_stand : MayStand w x y z b
+  may_stand : MayStand s w x y z b
   may_stand =
-      let late : (0xF0 ≤ x) ⊎ (0xE0 ≤ y) → MayStand w x y z b = λ p. when_late p (is_later x y ux uy p) in
+      let late : (0xF0 ≤ x) ⊎ (0xE0 ≤ y) → MayStand s w x y z b = λ p. when_late p (is_later x y ux uy p) in
       ⊎_elim (λ p. ⊎_elim (λ q. when_early p q (not_later x y p q)) (λ q. late (inr q)) (cases_lt y 0xE0)) (λ p. late (inl p)) (cases_lt x 0xF0)
 
 -- five neighbours, by either spelling of their places
@@ -142,45 +138,15 @@ at_sucs P i p =
     (subst (λ k. P (0 + i) (1 + i) (2 + i) k (suc (suc (suc (suc i))))) d
     (subst (λ k. P (0 + i) (1 + i) (2 + i) (3 + i) k) e p))))
 
-pub kept : (n : ℕ) (ws wrong masked : List ℕ) → ((k : ℕ) → get_or ws k 0 < 256)
-    → ((i : ℕ) → i < n → get_or wrong i 0 ≡ wrong_bits (get_or ws (1 + i) 0) (get_or ws (2 + i) 0) (get_or ws (3 + i) 0) (get_or ws (4 + i) 0))
-    → ((i : ℕ) → i < n → get_or masked i 0 ≡ bit_and (get_or wrong i 0) 0xBF) → ((i : ℕ) → i < n → get_or masked i 0 ≡ 0)
-    → ((i : ℕ) → i < n → (get_or wrong i 0 ≡ 0) ⊎ (unlike_pair (get_or ws (0 + i) 0) (get_or ws (1 + i) 0) (get_or ws (3 + i) 0) (get_or ws (4 + i) 0) ≢ 0)) → AllMayStand n ws
-kept n ws wrong masked fits bits are zeros unpaired i h =
-    at_sucs (λ a b c d e. MayStand (get_or ws a 0) (get_or ws b 0) (get_or ws c 0) (get_or ws d 0) (get_or ws e 0)) i
-    (may_stand (get_or ws (0 + i) 0) _ _ _ _ (fits (1 + i)) (fits (2 + i)) (fits (3 + i)) (fits (4 + i))
-    (ap (λ n. bit_and n 0xBF) (sym (bits i h)) ∙ sym (are i h) ∙ zeros i h)
-    (⊎_elim (λ z. inl (sym (bits i h) ∙ z)) inr (unpaired i h)))
+-- what is wrong with each byte behind the first four, where its bits are these
+module _ (s : Bool) (n : ℕ) (ws wrong : List ℕ) (fits : (k : ℕ) → get_or ws k 0 < 256)
+    (bits : (i : ℕ) → i < n → get_or wrong i 0 ≡ wrong_bits (get_or ws (1 + i) 0) (get_or ws (2 + i) 0) (get_or ws (3 + i) 0) (get_or ws (4 + i) 0)) where
+  pub kept : ((i : ℕ) → i < n → bit_and (get_or wrong i 0) 0xBF ≡ 0)
+      → ((i : ℕ) → i < n → (get_or wrong i 0 ≡ 0) ⊎ (unlike_pair (get_or ws (0 + i) 0) (get_or ws (1 + i) 0) (get_or ws (3 + i) 0) (get_or ws (4 + i) 0) ≢ 0)) → (s ≡ false → (i : ℕ) → i < n → get_or wrong i 0 ≡ 0) → AllMayStand s n ws
+  kept right unpaired plain i h =
+      at_sucs (λ a b c d e. MayStand s (get_or ws a 0) (get_or ws b 0) (get_or ws c 0) (get_or ws d 0) (get_or ws e 0)) i
+      (may_stand s (get_or ws (0 + i) 0) _ _ _ _ (fits (1 + i)) (fits (2 + i)) (fits (3 + i)) (fits (4 + i)) (ap (λ n. bit_and n 0xBF) (sym (bits i h)) ∙ right i h)
+      (⊎_elim (λ z. inl (sym (bits i h) ∙ z)) inr (unpaired i h)) (λ e. sym (bits i h) ∙ plain e i h))
 
--- where no bit is set no surrogate begins
-plain_pair : (w x y z b : ℕ) → x < 256 → y < 256 → z < 256 → b < 256 → wrong_bits x y z b ≡ 0 → z ≡ 0xED → b < 0xA0
-plain_pair w x y z b ux uy uz ub e s =
-    ⊎_elim (λ p. ⊎_elim (λ q. early (not_later x y p q)) (λ q. late (inr q)) (cases_lt y 0xE0)) (λ p. late (inl p)) (cases_lt x 0xF0)
-  where
-    right : bit_and (wrong_bits x y z b) 0xBF ≡ 0
-    right = ap (λ n. bit_and n 0xBF) e
-
-    early : later_bit x y ≡ 0 → b < 0xA0
-    early p =
-        let k = (may_stand w x y z b ux uy uz ub right (inl e)).continues (inr (inr (omega (arith, s)))) in
-        no_surrogate b (omega (arith, k.1)) (ap (λ v. bit_xor (pair_bits v b) 0) (sym s) ∙ ap (λ n. bit_xor (pair_bits z b) n) (sym p) ∙ e)
-
-    late : (0xF0 ≤ x) ⊎ (0xE0 ≤ y) → b < 0xA0
-    late p =
-        let bits : is_late z (b / 16) ≡ true = eq-eqb _ _ (ap (λ n. bit_and (bit_xor n 0x80) 0xBF) (same_half z b) ∙ ap (λ n. bit_and (bit_xor (pair_bits z b) n) 0xBF) (sym (is_later x y ux uy p)) ∙ right) in
-        absurd (omega (arith, s, (late_first z b uz ub bits).1))
-
-pub kept_plain : (n : ℕ) (ws wrong : List ℕ) → ((k : ℕ) → get_or ws k 0 < 256)
-    → ((i : ℕ) → i < n → get_or wrong i 0 ≡ wrong_bits (get_or ws (1 + i) 0) (get_or ws (2 + i) 0) (get_or ws (3 + i) 0) (get_or ws (4 + i) 0))
-    → ((i : ℕ) → i < n → get_or wrong i 0 ≡ 0) → AllPlain n ws
-kept_plain n ws wrong fits bits zeros i h =
-    at_sucs (λ a b c d e. get_or ws d 0 ≡ 0xED → get_or ws e 0 < 0xA0) i
-    (plain_pair (get_or ws (0 + i) 0) (get_or ws (1 + i) 0) (get_or ws (2 + i) 0) _ _ (fits (1 + i)) (fits (2 + i)) (fits (3 + i)) (fits (4 + i)) (sym (bits i h) ∙ zeros i h))
-
-pub kept_by_zeros : (n : ℕ) (ws wrong : List ℕ) → ((k : ℕ) → get_or ws k 0 < 256)
-    → ((i : ℕ) → i < n → get_or wrong i 0 ≡ wrong_bits (get_or ws (1 + i) 0) (get_or ws (2 + i) 0) (get_or ws (3 + i) 0) (get_or ws (4 + i) 0))
-    → ((i : ℕ) → i < n → get_or wrong i 0 ≡ 0) → AllMayStand n ws
-kept_by_zeros n ws wrong fits bits zeros i h =
-    at_sucs (λ a b c d e. MayStand (get_or ws a 0) (get_or ws b 0) (get_or ws c 0) (get_or ws d 0) (get_or ws e 0)) i
-    (let z = sym (bits i h) ∙ zeros i h in
-    may_stand (get_or ws (0 + i) 0) _ _ _ _ (fits (1 + i)) (fits (2 + i)) (fits (3 + i)) (fits (4 + i)) (ap (λ n. bit_and n 0xBF) z) (inl z))
+  pub kept_by_zeros : ((i : ℕ) → i < n → get_or wrong i 0 ≡ 0) → AllMayStand s n ws
+  kept_by_zeros zeros = kept (λ i h. ap (λ n. bit_and n 0xBF) (zeros i h)) (λ i h. inl (zeros i h)) (λ _. zeros)

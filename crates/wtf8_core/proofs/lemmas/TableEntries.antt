@@ -1,16 +1,7 @@
 -- What the tables say, by a test over all of their entries.
-use Rattle.std.proofs.Common.{◌≡◌, ℕ, zero, suc, ◌+◌, ◌-◌, ◌*◌, ◌<◌, ◌≤◌, Bool, true, false, ltb, leb, eqb, ◌&&◌, ◌||◌, cond, not, List, [], ◌∷◌, length, get_or, refl, sym, ◌∙◌, arith}
-use Rattle.std.proofs.lemmas.Bool.{and_parts, leb-true, eqb-true, le-leb, cond-true}
-use mathlib.Core.Bool.{beq}
-use Rattle.wtf8_core.proofs.lemmas.Below.{all_below, each_below}
-use Rattle.wtf8_core.specs.Byte.{needed_continuations}
-use Rattle.wtf8_core.specs.Reader.{lead_bits, least_value}
-use Rattle.wtf8_core.specs.Table.{class_at, next_at}
-use Rattle.wtf8_core.specs.Checker.{Row, rows, is_plain}
-use Rattle.wtf8_core.specs.declared.table.State.{State}
-use Rattle.wtf8_core.specs.declared.table.State.TheVariants.{Between, BehindHigh, OneMore, TwoMore, BehindE0, BehindEd, HighThenEd, LastOfHigh, BehindF0, BehindF1, BehindF4, BehindF5, BadLastTwo, BadFourth, Refused, BadThird}
-use Rattle.wtf8_core.specs.declared.table.Class.{Class}
+use Rattle.wtf8_core.proofs.Common.{◌≡◌, ℕ, zero, suc, ◌+◌, ◌-◌, ◌*◌, ◌<◌, ◌≤◌, Bool, true, false, ltb, leb, eqb, ◌&&◌, ◌||◌, cond, not, List, [], ◌∷◌, length, get_or, refl, sym, ◌∙◌, arith, and_parts, leb-true, eqb-true, le-leb, cond-true, beq, needed_continuations, lead_bits, least_value, class_at, next_at, Row, rows, is_plain, State, Between, BehindHigh, OneMore, TwoMore, BehindE0, BehindEd, HighThenEd, LastOfHigh, BehindF0, BehindF1, BehindF4, BehindF5, BadLastTwo, BadFourth, Refused, BadThird, Class}
 use Rattle.wtf8_core.specs.declared.table.Class.TheVariants.{Ascii, Low80, Low90, LowA0, LowB0, Stray, LeadC2, LeadE0, LeadE1, LeadEd, LeadEe, LeadF0, LeadF1, LeadF4, LeadF5}
+use Rattle.wtf8_core.proofs.lemmas.Below.{all_below, each_below}
 
 -- the first and the last byte of each class
 pub first_of : Class → ℕ

@@ -1,26 +1,9 @@
 -- One more byte: what the state behind it stands for, or the fault.
-use Rattle.std.proofs.Common.{◌≡◌, ◌≢◌, ◌⊎◌, inl, inr, ⊎_elim, ℕ, zero, suc, ◌+◌, ◌-◌, ◌*◌, ◌%◌, ◌<◌, ◌≤◌, Bool, true, false, ltb, leb, eqb, ◌&&◌, ◌||◌, not, List, [], ◌∷◌, ◌++◌, length, refl, sym, ap, ◌∙◌, subst, arith, append_assoc}
-use Rattle.std.proofs.lemmas.Bool.{and_parts, or_cases, leb-true, ltb-true, eqb-true, cases_lt, lt-leb, not-true, and_left, and_right, cond_both, cond-true, cond-false, lt-ltb, le-ltb, cases_Bool}
-use Rattle.std.proofs.lemmas.List.{append-nil}
-use mathlib.Core.Bool.{beq}
-use Rattle.std.specs.Int.{is_in_range}
-use Rattle.wtf8_core.specs.Byte.{IsContinuation, needed_continuations}
-use Rattle.wtf8_core.specs.Surrogate.{IsHigh, IsLow, is_high}
-use Rattle.wtf8_core.specs.CodePoint.{IsCodePoint, form}
-use Rattle.wtf8_core.specs.Wtf8.{Spells, last_behind}
-use Rattle.wtf8_core.specs.Fault.{IsShape, shape_value, BeginsFault}
-use Rattle.wtf8_core.specs.Reader.{lead_bits, least_value}
-use Rattle.wtf8_core.specs.Table.{class_at, next_at}
-use Rattle.wtf8_core.specs.Checker.{Row, rows, SomeRow, IsOpen, IsOpenIn, Stands, IsFaulty, kept_bits, joined_bits, fault_at, is_between, is_plain}
+use Rattle.wtf8_core.proofs.Common.{◌≡◌, ◌≢◌, ◌⊎◌, inl, inr, ⊎_elim, ℕ, zero, suc, ◌+◌, ◌-◌, ◌*◌, ◌%◌, ◌<◌, ◌≤◌, Bool, true, false, ltb, leb, eqb, ◌&&◌, ◌||◌, not, List, [], ◌∷◌, ◌++◌, length, refl, sym, ap, ◌∙◌, subst, arith, append_assoc, and_parts, or_cases, leb-true, ltb-true, eqb-true, cases_lt, lt-leb, not-true, and_left, and_right, cond_both, cond-true, cond-false, lt-ltb, le-ltb, cases_Bool, append-nil, beq, is_in_range, IsContinuation, needed_continuations, IsHigh, IsLow, is_high, IsCodePoint, form, Spells, last_behind, IsShape, shape_value, BeginsFault, lead_bits, least_value, class_at, next_at, Row, rows, SomeRow, IsOpen, IsOpenIn, Stands, IsFaulty, kept_bits, joined_bits, fault_at, is_between, is_plain, EncodingError, Byte, CodePoint, End, State, Between, BehindHigh, BadFourth, Refused, BadThird, Class, length-append}
 use Rattle.wtf8_core.proofs.lemmas.Forms.{form_ascii, shape_is_form, no_form}
 use Rattle.wtf8_core.proofs.lemmas.Ranges.{in_range, in_range-true}
-use Rattle.wtf8_core.proofs.lemmas.OneMore.{length_more, value_more, begun_more, last_more, spells_more}
+use Rattle.wtf8_core.proofs.lemmas.Appending.{value_more, begun_more, last_append, spells_more}
 use Rattle.wtf8_core.proofs.lemmas.TableEntries.{IsClass, classed, IsPlaced, placed, first_of, last_of, some_row, all_rows_pass, are_continuations, no_continuations, begins, between_passes, least_behind, most_behind, goes_on, all_refused, all_accepted, open_passes, pass, is_refused, is_behind_high, is_four, is_three, is_refused-true, is_plain-true, is_behind_high-true, is_four-true, is_three-true}
-use Rattle.wtf8_core.specs.declared.fault.EncodingError.{EncodingError}
-use Rattle.wtf8_core.specs.declared.fault.EncodingError.TheVariants.{Byte, CodePoint, End}
-use Rattle.wtf8_core.specs.declared.table.State.{State}
-use Rattle.wtf8_core.specs.declared.table.State.TheVariants.{Between, BehindHigh, BadFourth, Refused, BadThird}
-use Rattle.wtf8_core.specs.declared.table.Class.{Class}
 
 beq_true : (a b : Bool) → beq a b ≡ true → a ≡ b
 beq_true true true e = refl
@@ -78,7 +61,7 @@ opens_more k h bits x o r s c cont p t =
     let most : most_behind k r ≤ s.most = leb-true _ _ t4.1 in
     let in_range = between (shape_value p.lead p.behind) r.least r.most x (first_of k) (last_of k) p.least_is p.most_is f0 c.least c.most f1 in
     let v = value_more p.lead p.behind x in
-    let n = length_more p.behind x in
+    let n : length (p.behind ++ x ∷ []) ≡ suc (length p.behind) = omega (arith, length-append p.behind (x ∷ [])) in
     let few : r.needed ≤ 3 = subst (λ m. m ≤ 3) (sym p.needed_is) (need_few p.lead) in
     let short : length p.behind ≤ 2 = omega (arith, p.missing_is, p.some_missing) in
     record {
@@ -173,7 +156,7 @@ whole_goes : (s : State) (bits : ℕ) (t : State) (x c : ℕ) (h : Bool) (b cs w
     → ((t ≡ Between) × (is_high c ≡ false)) ⊎ ((t ≡ BehindHigh) × (is_high c ≡ true)) → Goes s bits b x t
 whole_goes s bits t x c h b cs w o f e k g u =
     let sp : Spells (b ++ x ∷ []) (cs ++ c ∷ []) = subst (λ l. Spells l (cs ++ c ∷ [])) (sym (same_joined b w o x f.joined ∙ ap (λ l. w ++ l) e)) (spells_more w cs c f.spelled k g) in
-    let last : is_high (last_behind 0 (cs ++ c ∷ [])) ≡ is_high c = ap is_high (last_more 0 cs c) in
+    let last : is_high (last_behind 0 (cs ++ c ∷ [])) ≡ is_high c = ap is_high (last_append 0 cs (c ∷ [])) in
     ⊎_elim
     (λ a. record {
       on = λ _. subst (λ z. Stands z (joined_bits bits x) (b ++ x ∷ [])) (sym a.0) (record { code_points = cs ++ c ∷ []; before = b ++ x ∷ []; open_bytes = []; joined = sym (append-nil _); spelled = sp; opened = (refl, last ∙ a.1) });
@@ -254,7 +237,7 @@ is_last k h bits x p o r q c cont one e =
     let f0 : 0x80 ≤ first_of k = leb-true _ _ f.0 in
     let f1 : last_of k ≤ 0xBF = leb-true _ _ f.1 in
     let v = value_more q.lead q.behind x in
-    let n = length_more q.behind x in
+    let n : length (q.behind ++ x ∷ []) ≡ suc (length q.behind) = omega (arith, length-append q.behind (x ∷ [])) in
     let i = between (shape_value q.lead q.behind) r.least r.most x (first_of k) (last_of k) q.least_is q.most_is f0 c.least c.most f1 in
     record {
       shape = record { begun = begun_more q.lead q.behind x q.begun (omega (arith, c.least), omega (arith, c.most)); whole = n ∙ omega (arith, q.missing_is) ∙ q.needed_is };

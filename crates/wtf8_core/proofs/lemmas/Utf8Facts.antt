@@ -1,29 +1,13 @@
 -- One fault, and lossy texts.
-use Rattle.std.proofs.Common.{◌≡◌, inl, inr, ⊎_elim, ℕ, ◌+◌, ◌<◌, ◌≤◌, true, false, List, [], ◌∷◌, ◌++◌, length, take, drop, map, Option, Some, None, refl, sym, ap, ◌∙◌, subst, arith, take-append-drop}
-use Rattle.std.specs.Option.{MatchOption, unwrap_or}
-use Rattle.std.specs.List.{flat_map}
-use Rattle.std.specs.Str.{IsUtf8, IsValidUpTo, all_scalars}
-use Rattle.std.specs.Str.Lossy.{utf8_lossy, utf8_error_len, utf8_invalid_len}
-use Rattle.std.proofs.Math.Seq.{take-length}
-use Rattle.std.proofs.lemmas.Bool.{cases_lt, cases_Bool, and_parts, cond-true, cond-false}
-use Rattle.std.proofs.lemmas.List.{map-append}
-use Rattle.std.proofs.lemmas.Grind.{flat_map-append}
-use Rattle.std.proofs.lemmas.Str.{utf8_lossy_step, utf8_lossy-IsUtf8, utf8_valid_len-IsValidUpTo}
-use Rattle.wtf8_core.specs.Surrogate.{is_surrogate}
-use Rattle.wtf8_core.specs.CodePoint.{form}
-use Rattle.wtf8_core.proofs.lemmas.Characters.{NoChar, none_at, scalar_no_surrogate}
-use Rattle.wtf8_core.specs.Wtf8.{Spells, IsWtf8}
-use Rattle.wtf8_core.specs.Utf8.{IsProperFront, IsIllFormed, IsUtf8Fault, IsIllFormedPart}
-use Rattle.wtf8_core.specs.UnitsOf.{wtf8_lossy}
-use Rattle.wtf8_core.specs.Lossy.{replacement, IsLossyText, without_surrogate}
+use Rattle.wtf8_core.proofs.Common.{◌≡◌, inl, inr, ⊎_elim, ℕ, ◌+◌, ◌<◌, ◌≤◌, true, false, List, [], ◌∷◌, ◌++◌, length, take, drop, map, Option, Some, None, refl, sym, ap, ◌∙◌, subst, arith, take-append-drop, MatchOption, unwrap_or, flat_map, IsUtf8, IsValidUpTo, all_scalars, utf8_lossy, utf8_error_len, utf8_invalid_len, take-length, cases_lt, cases_Bool, and_parts, cond-true, cond-false, map-append, flat_map-append, utf8_lossy_step, utf8_lossy-IsUtf8, utf8_valid_len-IsValidUpTo, is_surrogate, form, Spells, IsWtf8, IsProperFront, IsIllFormed, IsUtf8Fault, IsIllFormedPart, wtf8_lossy, replacement, IsLossyText, without_surrogate, scalar}
 use Rattle.wtf8_core.specs.Lossy.IsLossyText.{text, replaced}
+use Rattle.wtf8_core.proofs.lemmas.Characters.{NoChar, none_at, scalar_no_surrogate}
 use Rattle.wtf8_core.proofs.lemmas.FormsByStd.{forms_encode, forms_front}
 use Rattle.wtf8_core.proofs.lemmas.Cuts.{spells_parts}
 use Rattle.wtf8_core.proofs.lemmas.UnitsOfLemmas.{code_points_in-spelled}
 use Rattle.wtf8_core.proofs.lemmas.PartUnits.{begins_surrogate}
 use Rattle.wtf8_core.proofs.lemmas.Ranges.{in_range}
 use Rattle.wtf8_core.proofs.lemmas.Utf8Lemmas.{fault_is}
-use Rattle.std.proofs.Math.Utf8.{scalar}
 
 -- bytes with a fault are no text
 pub no_text : (b : List ℕ) (n : ℕ) → IsValidUpTo b n → IsUtf8 b → ⊥

@@ -1,15 +1,9 @@
-use Rattle.std.proofs.Common.{◌≤◌, arith}
-use Rattle.wtf8_core.proofs.lemmas.PairBits.{kept_plain, kept_by_zeros}
+use Rattle.wtf8_core.proofs.Common.{arith, ◌≤◌}
+use Rattle.wtf8_core.proofs.lemmas.PairBits.{kept_by_zeros}
 use Rattle.wtf8_core.proofs.blocks.kept_of_16.Goals as goal
 
 pub returns-clause-pattern : goal.returns-clause-pattern
 returns-clause-pattern c =
     let few : c.min.result ≤ 16 = omega (arith, c.min.ensures) in
     let low : c.min.result ≤ c.zeros_before.result = omega (arith, c.min.ensures) in
-    kept_by_zeros _ c.args.window.now c.wrong_bits_of_16.result (λ k. omega (arith, c.type_inv.window k)) (λ i h. c.wrong_bits_of_16.ensures i (omega (arith, h, few))) (λ i h. c.zeros_before.ensures.zero i (omega (arith, h, low)) (omega (arith, h, few)))
-
-pub returns-clause-plain : goal.returns-clause-plain
-returns-clause-plain c =
-    let few : c.min.result ≤ 16 = omega (arith, c.min.ensures) in
-    let low : c.min.result ≤ c.zeros_before.result = omega (arith, c.min.ensures) in
-    kept_plain _ c.args.window.now c.wrong_bits_of_16.result (λ k. omega (arith, c.type_inv.window k)) (λ i h. c.wrong_bits_of_16.ensures i (omega (arith, h, few))) (λ i h. c.zeros_before.ensures.zero i (omega (arith, h, low)) (omega (arith, h, few)))
+    kept_by_zeros _ _ c.args.window.now c.wrong_bits_of_16.result (λ k. omega (arith, c.type_inv.window k)) (λ i h. c.wrong_bits_of_16.ensures i (omega (arith, h, few))) (λ i h. c.zeros_before.ensures.zero i (omega (arith, h, low)) (omega (arith, h, few)))

@@ -1,5 +1,4 @@
-use Rattle.std.proofs.Common.{ℕ, ◌+◌, ◌<◌, get_or, sym, ap, ◌∙◌, subst, arith}
-use Rattle.wtf8_core.specs.Character.{WholeCharacter}
+use Rattle.wtf8_core.proofs.Common.{ℕ, ◌+◌, ◌<◌, get_or, sym, ap, ◌∙◌, subst, arith, WholeCharacter}
 use Rattle.wtf8_core.proofs.lemmas.Characters.{ascii_found, character_found, none_at_surrogate, none_at_fault, none_in_none}
 use Rattle.wtf8_core.proofs.character.char_of_few.Goals as goal
 

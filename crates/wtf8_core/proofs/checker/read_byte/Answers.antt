@@ -1,4 +1,4 @@
-use Rattle.std.proofs.Common.{arith}
+use Rattle.wtf8_core.proofs.Common.{arith}
 use Rattle.wtf8_core.proofs.lemmas.Fed.{read_on, read_off}
 use Rattle.wtf8_core.proofs.checker.read_byte.Goals as goal
 

@@ -1,5 +1,4 @@
-use Rattle.std.proofs.Common.{◌++◌, take, subst, arith}
-use Rattle.wtf8_core.specs.Checker.{Stands}
+use Rattle.wtf8_core.proofs.Common.{◌++◌, take, subst, arith, Stands}
 use Rattle.wtf8_core.proofs.lemmas.Fed.{one_more_read, read_fault}
 use Rattle.wtf8_core.proofs.checker.read_bytes.Goals as goal
 

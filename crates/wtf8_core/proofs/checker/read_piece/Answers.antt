@@ -1,5 +1,4 @@
-use Rattle.std.proofs.Common.{◌≡◌, [], ◌∷◌, ◌++◌, MatchResult, sym, ap, ◌∙◌, subst, append_assoc}
-use Rattle.wtf8_core.specs.Checker.{Stands, IsFaulty}
+use Rattle.wtf8_core.proofs.Common.{◌≡◌, [], ◌∷◌, ◌++◌, MatchResult, sym, ap, ◌∙◌, subst, append_assoc, Stands, IsFaulty}
 use Rattle.wtf8_core.proofs.lemmas.Fed.{extends}
 use Rattle.wtf8_core.proofs.lemmas.TableEntries.{is_plain-true}
 use Rattle.wtf8_core.proofs.checker.read_piece.Goals as goal

@@ -1,4 +1,4 @@
-use Rattle.std.proofs.Common.{arith}
+use Rattle.wtf8_core.proofs.Common.{arith}
 use Rattle.wtf8_core.proofs.fronts.front_in_place.Goals as goal
 
 pub loop-end-init : goal.loop-end-init

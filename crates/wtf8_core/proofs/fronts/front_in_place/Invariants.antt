@@ -1,5 +1,4 @@
-use Rattle.std.proofs.Common.{◌-◌, ◌≤◌, length}
-use Rattle.wtf8_core.specs.SpelledFront.{KeepsPattern}
+use Rattle.wtf8_core.proofs.Common.{◌-◌, ◌≤◌, length, KeepsPattern}
 use Rattle.wtf8_core.proofs.fronts.front_in_place.Given as goal
 
 abbrev pub invariant-loop-end : goal.invariant-loop-end

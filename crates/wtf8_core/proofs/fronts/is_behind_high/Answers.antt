@@ -1,4 +1,4 @@
-use Rattle.std.proofs.Common.{◌∙◌}
+use Rattle.wtf8_core.proofs.Common.{◌∙◌}
 use Rattle.wtf8_core.proofs.lemmas.Fronts.{near_start, other_lead, by_second}
 use Rattle.wtf8_core.proofs.fronts.is_behind_high.Goals as goal
 

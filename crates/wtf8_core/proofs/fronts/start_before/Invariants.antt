@@ -1,4 +1,4 @@
-use Rattle.std.proofs.Common.{◌≤◌}
+use Rattle.wtf8_core.proofs.Common.{◌≤◌}
 use Rattle.wtf8_core.proofs.fronts.start_before.Given as goal
 
 abbrev pub invariant-loop-at : goal.invariant-loop-at

@@ -1,4 +1,4 @@
-use Rattle.std.proofs.Common.{arith}
+use Rattle.wtf8_core.proofs.Common.{arith}
 use Rattle.wtf8_core.proofs.lemmas.Lanes.{lane_above}
 use Rattle.wtf8_core.proofs.lanes.above.Goals as goal
 

@@ -1,4 +1,4 @@
-use Rattle.std.proofs.Common.{leb, leb-false}
+use Rattle.wtf8_core.proofs.Common.{leb, leb-false}
 use Rattle.wtf8_core.proofs.lemmas.Lanes.{none_passes_left}
 use Rattle.wtf8_core.proofs.lanes.are_ascii.Goals as goal
 

@@ -1,4 +1,4 @@
-use Rattle.std.proofs.Common.{refl, leb, leb-false}
+use Rattle.wtf8_core.proofs.Common.{refl, leb, leb-false}
 use Rattle.wtf8_core.proofs.lemmas.Lanes.{none_of_64_passes_left_before}
 use Rattle.wtf8_core.proofs.lanes.ascii_before.Goals as goal
 

@@ -1,4 +1,4 @@
-use Rattle.std.proofs.Common.{◌<◌, get_or, take, refl, leb, leb-false, arith, subst, ◌∙◌, length-take, get_or-take}
+use Rattle.wtf8_core.proofs.Common.{◌<◌, get_or, take, refl, leb, leb-false, arith, subst, ◌∙◌, length-take, get_or-take}
 use Rattle.wtf8_core.proofs.lemmas.Lanes.{none_passes_left_before}
 use Rattle.wtf8_core.proofs.lanes.ascii_of_16.Goals as goal
 

@@ -1,5 +1,4 @@
-use Rattle.std.proofs.Common.{refl, eqb}
-use Rattle.std.proofs.lemmas.Bool.{eqb-false}
+use Rattle.wtf8_core.proofs.Common.{refl, eqb, eqb-false}
 use Rattle.wtf8_core.proofs.lemmas.Lanes.{none_of_64_passes_before}
 use Rattle.wtf8_core.proofs.lanes.others_before.Goals as goal
 

@@ -1,4 +1,4 @@
-use Rattle.std.proofs.Common.{refl}
+use Rattle.wtf8_core.proofs.Common.{refl}
 use Rattle.wtf8_core.specs.declared.lanes.TheConstants.{FIRST_HIGH, FIRST_LOW, SECOND_HIGH}
 use Rattle.wtf8_core.proofs.lemmas.Below.{copies}
 use Rattle.wtf8_core.proofs.lanes.pair_bits.Goals as goal

@@ -1,4 +1,4 @@
-use Rattle.std.proofs.Common.{bit_xor}
+use Rattle.wtf8_core.proofs.Common.{bit_xor}
 use Rattle.wtf8_core.proofs.lemmas.Lanes.{lane_with}
 use Rattle.wtf8_core.proofs.lanes.turned.Goals as goal
 

@@ -1,5 +1,4 @@
-use Rattle.std.proofs.Common.{refl, not, eqb, eqb-true}
-use Rattle.std.proofs.lemmas.Bool.{not-false}
+use Rattle.wtf8_core.proofs.Common.{refl, not, eqb, eqb-true, not-false}
 use Rattle.wtf8_core.proofs.lemmas.Lanes.{none_passes_before}
 use Rattle.wtf8_core.proofs.lanes.zeros_before.Goals as goal
 

@@ -1,4 +1,4 @@
-use Rattle.std.proofs.Common.{◌+◌, ◌≡◌, ◌<◌, get_or, subst, arith}
+use Rattle.wtf8_core.proofs.Common.{◌+◌, ◌≡◌, ◌<◌, get_or, subst, arith}
 use Rattle.wtf8_core.proofs.lemmas.Fronts.{ascii_is_utf8}
 use Rattle.wtf8_core.proofs.utf8.ascii_len.Goals as goal
 

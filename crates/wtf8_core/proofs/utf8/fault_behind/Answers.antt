@@ -1,4 +1,4 @@
-use Rattle.std.proofs.Common.{refl, false}
+use Rattle.wtf8_core.proofs.Common.{refl, false}
 use Rattle.wtf8_core.proofs.lemmas.Fronts.{front_is_utf8}
 use Rattle.wtf8_core.proofs.utf8.fault_behind.Goals as goal
 

@@ -1,6 +1,6 @@
-use Rattle.std.proofs.Common.{refl, false}
+use Rattle.wtf8_core.proofs.Common.{refl, false}
 use Rattle.wtf8_core.proofs.lemmas.Fronts.{front_is_utf8}
-use Rattle.wtf8_core.proofs.lemmas.KeptTexts.{text_keeps}
+use Rattle.wtf8_core.proofs.lemmas.Fronts.{text_keeps}
 use Rattle.wtf8_core.proofs.utf8.fault_near.Goals as goal
 
 pub near_front-requires-clause-kept : goal.near_front-requires-clause-kept

@@ -1,7 +1,4 @@
-use Rattle.std.proofs.Common.{List, ℕ, ◌+◌, ◌-◌, ◌≡◌, ◌≤◌, Some, length, take, drop, length-drop, drop-drop, sym, ap, ◌∙◌, subst, arith}
-use Rattle.std.specs.Str.{IsUtf8}
-use Rattle.wtf8_core.specs.Utf8.{IsUtf8Fault, IsAtFront}
-use Rattle.wtf8_core.specs.Character.{WholeCharacter}
+use Rattle.wtf8_core.proofs.Common.{List, ℕ, ◌+◌, ◌-◌, ◌≡◌, ◌≤◌, Some, length, take, drop, length-drop, drop-drop, sym, ap, ◌∙◌, subst, arith, IsUtf8, IsUtf8Fault, IsAtFront, WholeCharacter}
 use Rattle.wtf8_core.proofs.lemmas.Characters.{character_fits, text_of_character}
 use Rattle.wtf8_core.proofs.lemmas.FaultsInFronts.{front_behind, fault_behind}
 use Rattle.wtf8_core.proofs.utf8.few_characters.Goals as goal

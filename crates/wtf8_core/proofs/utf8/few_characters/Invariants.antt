@@ -1,5 +1,4 @@
-use Rattle.std.proofs.Common.{ℕ, ◌≡◌, ◌≤◌, length, take, drop}
-use Rattle.std.specs.Str.{IsUtf8}
+use Rattle.wtf8_core.proofs.Common.{ℕ, ◌≡◌, ◌≤◌, length, take, drop, IsUtf8}
 use Rattle.wtf8_core.proofs.utf8.few_characters.Given as goal
 
 abbrev pub invariant-loop : goal.invariant-loop

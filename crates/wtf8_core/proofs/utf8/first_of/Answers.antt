@@ -1,5 +1,4 @@
-use Rattle.std.proofs.Common.{sym, ◌∙◌}
-use Rattle.std.proofs.lemmas.Bool.{false≢true}
+use Rattle.wtf8_core.proofs.Common.{sym, ◌∙◌, false≢true}
 use Rattle.wtf8_core.proofs.lemmas.Characters.{ascii_found}
 use Rattle.wtf8_core.proofs.lemmas.AtFront.{four_first, at_first, at_second, at_third, at_fourth, second_of_two, no_second_of_two, two_long, three_long, four_long}
 use Rattle.wtf8_core.proofs.utf8.first_of.Goals as goal

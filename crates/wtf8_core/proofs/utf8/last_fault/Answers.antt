@@ -1,6 +1,4 @@
-use Rattle.std.proofs.Common.{subst}
-use Rattle.std.specs.Str.{IsUtf8}
-use Rattle.wtf8_core.specs.Utf8.{IsUtf8Fault}
+use Rattle.wtf8_core.proofs.Common.{subst, IsUtf8, IsUtf8Fault}
 use Rattle.wtf8_core.proofs.lemmas.FaultsInFronts.{text_behind, fault_behind}
 use Rattle.wtf8_core.proofs.utf8.last_fault.Goals as goal
 

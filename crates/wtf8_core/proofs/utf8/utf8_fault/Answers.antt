@@ -1,4 +1,4 @@
-use Rattle.wtf8_core.proofs.lemmas.KeptTexts.{text_keeps}
+use Rattle.wtf8_core.proofs.lemmas.Fronts.{text_keeps}
 use Rattle.wtf8_core.proofs.utf8.utf8_fault.Goals as goal
 
 pub fault_behind-requires-clause-kept : goal.fault_behind-requires-clause-kept

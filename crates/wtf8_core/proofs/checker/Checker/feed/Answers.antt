@@ -1,4 +1,4 @@
-use Rattle.std.proofs.Common.{◌++◌}
+use Rattle.wtf8_core.proofs.Common.{◌++◌}
 use Rattle.wtf8_core.proofs.lemmas.Fed.{only_ends, open_progress}
 use Rattle.wtf8_core.proofs.checker.Checker.feed.Goals as goal
 

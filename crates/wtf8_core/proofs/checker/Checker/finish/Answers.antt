@@ -1,4 +1,4 @@
-use Rattle.std.proofs.Common.{sym, ◌∙◌}
+use Rattle.wtf8_core.proofs.Common.{sym, ◌∙◌}
 use Rattle.wtf8_core.proofs.lemmas.Fed.{ends, open_progress}
 use Rattle.wtf8_core.proofs.checker.Checker.finish.Goals as goal
 

@@ -1,5 +1,5 @@
-use Rattle.platform_str.proofs.lemmas.BulkUnits.{leads_one, leads_two, leads_three, leads_four}
-use Rattle.platform_str.proofs.blocks.leading.Goals as goal
+use Rattle.wtf8_core.proofs.lemmas.FirstForms.{leads_one, leads_two, leads_three, leads_four}
+use Rattle.wtf8_core.proofs.forms.leading.Goals as goal
 
 pub returns-then-first-lt128 : goal.returns-then-first-lt128
 returns-then-first-lt128 c = λ k behind p e. (rw c.from.ensures (leads_one c.args.first c.args.second c.args.third c.args.fourth k _ behind c.if-first-lt128.true p e))
