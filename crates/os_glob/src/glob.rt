@@ -24,6 +24,16 @@ use os_str_ext::{OsStr, OsStrBytesExt, Platform, Symbols};
 /// With the separator `/` the Unix string of the bytes 61 FF 2F 62 (hexadecimal) has the patterns
 /// `a?/b`, `*/*` and `**`, but not `*`; the Windows string of the units D83D and DE00 is one
 /// character, and has the pattern `?`.
+///
+/// ```
+/// use os_glob::{GlobOptions, Separators, is_match};
+/// use os_str_bytes::{OsStr, Unix};
+///
+/// let options = GlobOptions { separators: Separators::Slash, literal_leading_dot: false };
+/// let path = OsStr::<Unix>::from_encoded_bytes_unchecked(b"a\xFF/b");
+/// assert!(rt; is_match(options, "a?/b", path) && is_match(options, "**", path));
+/// assert!(rt; !is_match(options, "*", path));
+/// ```
 pub fn is_match<E: Platform>(options: GlobOptions, pattern: &str, string: OsStr<'_, E>) -> bool
     ensures symbols { (symbols : List Symbol) → AreSymbols E.units (bytes string.entry) symbols → IsTrue result ↔ IsMatch options pattern.now symbols }
     ensures value { IsTrue result ↔ IsMatch options pattern.now (symbols_of E.units (bytes string.entry)) }

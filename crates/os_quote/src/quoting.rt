@@ -19,6 +19,17 @@ use std::alloc::{AllocError, Allocator};
 /// # Errors
 ///
 /// `AllocError` where memory is refused.
+///
+/// ```
+/// use os_quote::escape;
+/// use os_str_bytes::{OsStr, OsString, Unix, Windows};
+///
+/// let string = OsStr::<Unix>::from_encoded_bytes_unchecked(b"fo\x80\xFFo");
+/// assert_eq!(rt; escape(alloc, string)?.as_str(), "fo\\x80\\xFFo");
+///
+/// let string = OsString::<Windows>::from_wide(alloc, &[0x61, 0xD800, 0x5C])?;
+/// assert_eq!(rt; escape(alloc, string.as_os_str())?.as_str(), "a\\uD800\\\\");
+/// ```
 pub fn escape<E: Platform, A: Allocator>(
     alloc: A,
     string: OsStr<'_, E>,
@@ -32,6 +43,14 @@ pub fn escape<E: Platform, A: Allocator>(
 ///
 /// What it writes is the text that [`escape`] gives: of the Unix string 66 6F 80 FF 6F
 /// (hexadecimal) `fo\x80\xFFo`.
+///
+/// ```
+/// use os_quote::escaped;
+/// use os_str_bytes::{OsStr, Unix};
+///
+/// let string = OsStr::<Unix>::from_encoded_bytes_unchecked(b"fo\x80\xFFo");
+/// assert_eq!(rt; escaped(string).to_string(alloc)?.as_str(), "fo\\x80\\xFFo");
+/// ```
 pub fn escaped<'a, E: Platform>(string: OsStr<'a, E>) -> Escaped<'a, E>
     ensures { IsEscape E.units (bytes string.entry) (escaped_text result) }
 {

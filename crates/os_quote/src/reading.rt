@@ -23,6 +23,18 @@ use std::alloc::{AllocError, Allocator};
 /// else [`QuoteError::NotCanonical`] where no string of the platform has this escape, as
 /// `\xC3\xA9` on Unix, where these bytes are the text `é`. [`QuoteError::Memory`] may come in
 /// place of either where memory is refused. The empty text takes no memory.
+///
+/// ```
+/// use os_quote::{QuoteError, unescape};
+/// use os_str_bytes::{OsString, Unix, Windows};
+///
+/// let string: OsString<Windows> = unescape(alloc, "a\\uD800\\\\")?;
+/// let units = string.as_os_str().to_wide(alloc)?;
+/// assert_eq!(rt; units.as_slice(), [0x61, 0xD800, 0x5C].as_slice());
+///
+/// let refused: Result<OsString<Unix>, QuoteError> = unescape(alloc, "\\xC3\\xA9");
+/// assert_eq!(rt; refused.err(), Some(QuoteError::NotCanonical));
+/// ```
 pub fn unescape<E: Platform, A: Allocator>(
     alloc: A,
     text: &str,

@@ -4,3 +4,4 @@ pub mod PiecesLeft
 pub mod Chunks
 pub mod Parts
 pub mod Symbols
+pub mod Characters

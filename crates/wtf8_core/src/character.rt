@@ -21,7 +21,13 @@ use crate::surrogate::is_surrogate;
 /// both ends of a whole character a string may be cut, by the rule of std's
 /// `OsStr::slice_encoded_bytes`.
 ///
-/// `char_at(b"a\xC3\xA9", 1)` is `Some(2)`; at 2 and at 3 it is `None`.
+/// ```
+/// use os_str_bytes::char_at;
+///
+/// assert_eq!(rt; char_at(b"a\xC3\xA9", 1), Some(2));
+/// assert_eq!(rt; char_at(b"a\xC3\xA9", 2), None);
+/// assert_eq!(rt; char_at(b"a\xC3\xA9", 3), None);
+/// ```
 pub fn char_at(bytes: &[u8], at: usize) -> Option<usize>
     ensures { IsCharacterAt bytes.now at result }
 {

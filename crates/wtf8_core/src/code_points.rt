@@ -48,7 +48,15 @@ impl<'a> Model for CodePoints<'a> {
 impl<'a> CodePoints<'a> {
     /// The items of any bytes: all are `Ok` exactly where the bytes are WTF-8.
     ///
-    /// `CodePoints::new(b"\xC3\xA9")` has the one item `Ok(0xE9)`.
+    /// ```
+    /// use os_str_bytes::{CodePoints, EncodingError};
+    ///
+    /// let mut items = CodePoints::new(b"\xED\xA0\x80\xC0\xED\xB0\x80");
+    /// assert_eq!(rt; items.next(), Some(Ok(0xD800)));
+    /// assert_eq!(rt; items.next(), Some(Err(EncodingError::Byte(0xC0))));
+    /// assert_eq!(rt; items.next(), Some(Ok(0xDC00)));
+    /// assert_eq!(rt; items.next(), None);
+    /// ```
     #[inline(always)]
     pub fn new(bytes: &'a [u8]) -> CodePoints<'a>
         ensures { AreItems bytes.now result }

@@ -42,7 +42,14 @@ impl<'a> Model for DecodeWide<'a> {
 impl<'a> DecodeWide<'a> {
     /// The bytes of any units.
     ///
-    /// `DecodeWide::new(&[0xE9])` gives C3 and A9.
+    /// ```
+    /// use os_str_bytes::DecodeWide;
+    ///
+    /// let mut bytes = DecodeWide::new(&[0xE9]);
+    /// assert_eq!(rt; bytes.next(), Some(0xC3));
+    /// assert_eq!(rt; bytes.next(), Some(0xA9));
+    /// assert_eq!(rt; bytes.next(), None);
+    /// ```
     #[inline(always)]
     pub fn new(units: &'a [u16]) -> DecodeWide<'a>
         ensures { HasUnits result units.now }

@@ -21,10 +21,15 @@ use crate::scan::{BLOCK, Encoding, STEP};
 /// within a character and might go on. That part is the longest front of the rest with which
 /// some character begins, and one byte where there is none.
 ///
-/// `utf8_fault(b"a\xE2\x82A")` is `Some((1, Some(2)))`, `utf8_fault(b"a\xE2\x82")` is
-/// `Some((1, None))`.
-///
 /// It goes over most of a long text by vectors.
+///
+/// ```
+/// use os_str_bytes::utf8_fault;
+///
+/// assert_eq!(rt; utf8_fault(b"a\xE2\x82A"), Some((1, Some(2))));
+/// assert_eq!(rt; utf8_fault(b"a\xE2\x82"), Some((1, None)));
+/// assert_eq!(rt; utf8_fault(b"\xC3\xA9"), None);
+/// ```
 #[inline(always)]
 pub fn utf8_fault(bytes: &[u8]) -> Option<(usize, Option<u8>)>
     ensures { MatchOption result (IsUtf8 bytes.now) (λ fault. IsUtf8Fault bytes.now fault.0 fault.1) }
