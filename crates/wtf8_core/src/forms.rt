@@ -11,7 +11,13 @@ ghost use Rattle.wtf8_core.specs.Decoder.{packed_bytes};
 /// Of a character it is `code_point.encode_utf8(&mut bytes[at..])` of std's `char`; a surrogate is
 /// written as generalized UTF-8 has it (WTF-8).
 ///
-/// `write_form(bytes, 1, 0xE9)` writes C3 A9 (hexadecimal) at indices 1 and 2, and answers 3.
+/// ```
+/// use wtf8_core::write_form;
+///
+/// let mut bytes = *b"abcd";
+/// assert_eq!(rt; write_form(&mut bytes, 1, 0xE9), 3);
+/// assert_eq!(rt; bytes.as_slice(), b"a\xC3\xA9d".as_slice());
+/// ```
 #[tactic(auto, using(crate::proofs::lemmas::WrittenForms::writing), unfolding(crate::specs::CodePoint::form))]
 #[inline(always)]
 pub fn write_form(bytes: &mut [u8], at: usize, code_point: u32) -> usize
@@ -52,7 +58,13 @@ pub fn write_form(bytes: &mut [u8], at: usize, code_point: u32) -> usize
 ///
 /// Of a text it is `text.chars().next()`, with `chars.as_str()` after it.
 ///
-/// `first_form(b"\xC3\xA9abc")` is `(0xE9, b"abc")`.
+/// ```
+/// use wtf8_core::first_form;
+///
+/// let (code_point, rest) = first_form(b"\xC3\xA9abc");
+/// assert_eq!(rt; code_point, 0xE9);
+/// assert_eq!(rt; rest, b"abc".as_slice());
+/// ```
 #[inline(always)]
 pub fn first_form(bytes: &[u8]) -> (u32, &[u8])
     requires formed { IsWtf8 bytes.now }

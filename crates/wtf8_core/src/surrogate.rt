@@ -39,7 +39,13 @@ pub(crate) fn is_pair(high: u16, low: u16) -> bool
 /// The units of a code point past FFFF (hexadecimal), the high one and the low one (RFC 2781,
 /// section 2.1; own call).
 ///
-/// They are the two units of `char::encode_utf16`. `pair_units(0x1F600)` is `(0xD83D, 0xDE00)`.
+/// They are the two units of `char::encode_utf16`.
+///
+/// ```
+/// use wtf8_core::pair_units;
+///
+/// assert_eq!(rt; pair_units(0x1F600), (0xD83D, 0xDE00));
+/// ```
 #[inline(always)]
 pub fn pair_units(code_point: u32) -> (u16, u16)
     requires past { 0x1_0000 ≤ code_point }
@@ -66,8 +72,12 @@ pub(crate) fn paired(high: u16, low: u16) -> u32
 /// The code point of the pair with which units begin, and the units after the pair; `None` where
 /// they begin with no pair (RFC 2781, section 2.2; own call).
 ///
-/// `first_pair(&[0xD83D, 0xDE00, 0x41])` is `Some((0x1F600, &[0x41]))`; of DE00, D83D
-/// (hexadecimal) it is `None`.
+/// ```
+/// use wtf8_core::first_pair;
+///
+/// assert_eq!(rt; first_pair(&[0xD83D, 0xDE00, 0x41]), Some((0x1F600, [0x41].as_slice())));
+/// assert_eq!(rt; first_pair(&[0xDE00, 0xD83D]), None);
+/// ```
 #[tactic(auto, using(std::proofs::lemmas::Bool::Decides::nat_tests))]
 #[inline(always)]
 pub fn first_pair(units: &[u16]) -> Option<(u32, &[u16])>
