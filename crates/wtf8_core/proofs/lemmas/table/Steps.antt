@@ -158,7 +158,7 @@ whole_goes s bits t x c h b cs w o f e k g u =
     let sp : Spells (b ++ x ∷ []) (cs ++ c ∷ []) = subst (λ l. Spells l (cs ++ c ∷ [])) (sym (same_joined b w o x f.joined ∙ ap (λ l. w ++ l) e)) (spells_more w cs c f.spelled k g) in
     let last : is_high (last_behind 0 (cs ++ c ∷ [])) ≡ is_high c = ap is_high (last_append 0 cs (c ∷ [])) in
     record {
-      on = λ _. record { code_points = cs ++ c ∷ []; before = b ++ x ∷ []; open_bytes = []; joined = sym (append-nil _); spelled = sp; opened = ⊎_elim (λ a. subst (λ z. IsOpenIn z _ _ []) (sym a.0) (refl, last ∙ a.1)) (λ a. subst (λ z. IsOpenIn z _ _ []) (sym a.0) (refl, last ∙ a.1)) u };
+      on = λ _. record { code_points = cs ++ c ∷ []; before = b ++ x ∷ []; open_bytes = []; joined = sym (append-nil _); spelled = sp; opened = ⊎_elim (λ a. subst (λ z. IsOpenIn z (is_high (last_behind 0 (cs ++ c ∷ []))) (joined_bits bits x) []) (sym a.0) (refl, last ∙ a.1)) (λ a. subst (λ z. IsOpenIn z (is_high (last_behind 0 (cs ++ c ∷ []))) (joined_bits bits x) []) (sym a.0) (refl, last ∙ a.1)) u };
       off = λ z. ⊎_elim (λ a. let y = a.0 in cc) (λ a. let y = a.0 in cc) u;
     }
 

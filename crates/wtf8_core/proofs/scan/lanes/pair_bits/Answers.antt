@@ -1,5 +1,5 @@
 use Rattle.wtf8_core.proofs.Common.{refl}
-use Rattle.wtf8_core.specs.declared.lanes.TheConstants.{FIRST_HIGH, FIRST_LOW, SECOND_HIGH}
+use Rattle.wtf8_core.specs.declared.scan.lanes.TheConstants.{FIRST_HIGH, FIRST_LOW, SECOND_HIGH}
 use Rattle.wtf8_core.proofs.lemmas.scan.ComputedTests.{copies}
 use Rattle.wtf8_core.proofs.scan.lanes.pair_bits.Goals as goal
 
