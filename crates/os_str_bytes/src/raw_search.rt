@@ -396,8 +396,13 @@ impl<'a, E: Platform> RawOsStr<'a, E> {
     /// string (own call; of a text std's `str::chars`, of which `next` gives the character and
     /// `as_str` the rest).
     ///
-    /// The Unix string of the bytes C3 A9 80 (hexadecimal) is 'é' and the string of 80. Of that
-    /// string and of the empty one it is `None`.
+    /// ```
+    /// use os_str_bytes::{RawOsStr, Unix};
+    ///
+    /// let string = RawOsStr::<Unix>::checked(b"\xC3\xA9\x80")?;
+    /// assert!(rt; matches!(string.split_first_char(), Some(('\u{E9}', rest)) if rest.as_encoded_bytes() == b"\x80".as_slice()));
+    /// assert!(rt; RawOsStr::<Unix>::checked(b"\x80")?.split_first_char().is_none());
+    /// ```
     pub fn split_first_char(self) -> Option<(char, Self)>
         ensures bytes { SplitsFirstChar raw_bytes (raw_bytes self.entry) result }
         ensures units { IfSome result (λ parts. raw_units self.entry ≡ E.units (encode_utf8 parts.0) ++ raw_units parts.1) }
@@ -411,8 +416,13 @@ impl<'a, E: Platform> RawOsStr<'a, E> {
     /// The last character and the rest of the string, `None` where no whole character ends the
     /// string (own call; of a text std's `str::chars` with `next_back`).
     ///
-    /// The Unix string of the bytes 80 C3 A9 (hexadecimal) is 'é' and the string of 80. Of that
-    /// string and of the empty one it is `None`.
+    /// ```
+    /// use os_str_bytes::{RawOsStr, Unix};
+    ///
+    /// let string = RawOsStr::<Unix>::checked(b"\x80\xC3\xA9")?;
+    /// assert!(rt; matches!(string.split_last_char(), Some(('\u{E9}', rest)) if rest.as_encoded_bytes() == b"\x80".as_slice()));
+    /// assert!(rt; RawOsStr::<Unix>::checked(b"\x80")?.split_last_char().is_none());
+    /// ```
     pub fn split_last_char(self) -> Option<(char, Self)>
         ensures bytes { SplitsLastChar raw_bytes (raw_bytes self.entry) result }
         ensures units { IfSome result (λ parts. raw_units self.entry ≡ raw_units parts.1 ++ E.units (encode_utf8 parts.0)) }

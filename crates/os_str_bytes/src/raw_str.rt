@@ -92,12 +92,19 @@ impl<'a, E: Platform> RawOsStr<'a, E> {
     /// The raw string of raw bytes, in place, as a view (own call): [`RawOsStr::cow_from_raw_bytes`]
     /// answers what might be owned. It takes no memory.
     ///
-    /// `RawOsStr::<Unix>::checked(b"a\x80")` is always `Ok`. On Windows ED A0 80 (hexadecimal) is
-    /// accepted, ED A0 80 ED B0 80 is refused with `EncodingError::CodePoint(0xDC00)`.
+    /// On Windows ED A0 80 (hexadecimal) is accepted, and ED A0 80 ED B0 80 is not.
     ///
     /// # Errors
     ///
     /// The first fault of the bytes, where they aren't well formed: what [`Platform::check`] answers.
+    ///
+    /// ```
+    /// use os_str_bytes::{EncodingError, RawOsStr, Windows};
+    ///
+    /// assert!(rt; RawOsStr::<Windows>::checked(b"\xED\xA0\x80").is_ok());
+    /// let fault = RawOsStr::<Windows>::checked(b"\xED\xA0\x80\xED\xB0\x80").err();
+    /// assert_eq!(rt; fault, Some(EncodingError::CodePoint(0xDC00)));
+    /// ```
     pub fn checked(raw: &'a [u8]) -> Result<Self, EncodingError>
         ensures bytes { IfOk result (λ string. raw_bytes string ≡ raw.now) }
         ensures cases { MatchResult result (λ _. E.well_formed raw.now) (λ fault. E.first_fault raw.now fault) }

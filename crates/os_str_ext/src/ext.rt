@@ -330,8 +330,13 @@ pub trait OsStrBytesExt<'a>: OsStrBytes<'a> {
     /// string (own call; of a text std's `str::chars`, of which `next` gives the character and
     /// `as_str` the rest).
     ///
-    /// The Unix string of the bytes C3 A9 80 (hexadecimal) is 'é' and the string of 80. Of that
-    /// string and of the empty one it is `None`.
+    /// ```
+    /// use os_str_bytes::{OsStr, OsStrBytesExt, Unix};
+    ///
+    /// let string = OsStr::<Unix>::checked(b"\xC3\xA9\x80")?;
+    /// assert!(rt; matches!(string.split_first_char(), Some(('\u{E9}', rest)) if rest.as_encoded_bytes() == b"\x80".as_slice()));
+    /// assert!(rt; OsStr::<Unix>::checked(b"\x80")?.split_first_char().is_none());
+    /// ```
     fn split_first_char(self) -> Option<(char, Self)>
         ensures bytes { SplitsFirstChar Self.bytes_of (Self.bytes_of self) result }
         ensures units { IfSome result (λ parts. Self.Platform.units (Self.bytes_of self) ≡ Self.Platform.units (encode_utf8 parts.0) ++ Self.Platform.units (Self.bytes_of parts.1)) };
@@ -339,8 +344,13 @@ pub trait OsStrBytesExt<'a>: OsStrBytes<'a> {
     /// The last character and the rest of the string, `None` where no whole character ends the
     /// string (own call; of a text std's `str::chars` with `next_back`).
     ///
-    /// The Unix string of the bytes 80 C3 A9 (hexadecimal) is 'é' and the string of 80. Of that
-    /// string and of the empty one it is `None`.
+    /// ```
+    /// use os_str_bytes::{OsStr, OsStrBytesExt, Unix};
+    ///
+    /// let string = OsStr::<Unix>::checked(b"\x80\xC3\xA9")?;
+    /// assert!(rt; matches!(string.split_last_char(), Some(('\u{E9}', rest)) if rest.as_encoded_bytes() == b"\x80".as_slice()));
+    /// assert!(rt; OsStr::<Unix>::checked(b"\x80")?.split_last_char().is_none());
+    /// ```
     fn split_last_char(self) -> Option<(char, Self)>
         ensures bytes { SplitsLastChar Self.bytes_of (Self.bytes_of self) result }
         ensures units { IfSome result (λ parts. Self.Platform.units (Self.bytes_of self) ≡ Self.Platform.units (Self.bytes_of parts.1) ++ Self.Platform.units (encode_utf8 parts.0)) };

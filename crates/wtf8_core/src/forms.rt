@@ -12,11 +12,9 @@ ghost use Rattle.wtf8_core.specs.Decoder.{packed_bytes};
 /// written as generalized UTF-8 has it (WTF-8).
 ///
 /// ```
-/// use wtf8_core::write_form;
-///
-/// let mut bytes = *b"abcd";
-/// assert_eq!(rt; write_form(&mut bytes, 1, 0xE9), 3);
-/// assert_eq!(rt; bytes.as_slice(), b"a\xC3\xA9d".as_slice());
+/// let mut bytes = [0; 5];
+/// assert_eq!(rt; wtf8_core::write_form(&mut bytes, 1, 0xE9), 3);
+/// assert_eq!(rt; bytes, [0, 0xC3, 0xA9, 0, 0]);
 /// ```
 #[tactic(auto, using(crate::proofs::lemmas::WrittenForms::writing), unfolding(crate::specs::CodePoint::form))]
 #[inline(always)]
@@ -59,9 +57,7 @@ pub fn write_form(bytes: &mut [u8], at: usize, code_point: u32) -> usize
 /// Of a text it is `text.chars().next()`, with `chars.as_str()` after it.
 ///
 /// ```
-/// use wtf8_core::first_form;
-///
-/// let (code_point, rest) = first_form(b"\xC3\xA9abc");
+/// let (code_point, rest) = wtf8_core::first_form(b"\xC3\xA9abc");
 /// assert_eq!(rt; code_point, 0xE9);
 /// assert_eq!(rt; rest, b"abc".as_slice());
 /// ```
