@@ -6,8 +6,8 @@ ghost use Rattle.wtf8_core.specs.Neighbours.{AllMayStand};
 ghost use Rattle.wtf8_core.specs.declared.scan.Encoding.TheVariants.{Utf8, Wtf8};
 
 use crate::scan::lanes::{
-    xor, are_zero, or, continuation_due, load, masked, leading_nonzero, pair_bits, pair_bits_of_16,
-    xor_with, leading_zero,
+    are_zero, continuation_due, leading_nonzero, leading_zero, load, masked, or, pair_bits,
+    pair_bits_of_16, xor, xor_with,
 };
 use crate::scan::{BLOCK, Encoding, STEP};
 use std::simd::prelude::*;
@@ -42,7 +42,10 @@ fn surrogate_pair_difference(window: &[u8]) -> u8x64
     ensures { (i : ℕ) → i < 64 → slice_index result i
         ≡ surrogate_pair_difference (slice_index window.now (0 + i)) (slice_index window.now (1 + i)) (slice_index window.now (3 + i)) (slice_index window.now (4 + i)) }
 {
-    let leads = or(xor_with(load(window, 0), 0xED), xor_with(load(window, 3), 0xED));
+    let leads = or(
+        xor_with(load(window, 0), 0xED),
+        xor_with(load(window, 3), 0xED),
+    );
     let seconds = or(
         xor_with(masked(load(window, 1), 0xF0), 0xA0),
         xor_with(masked(load(window, 4), 0xF0), 0xB0),

@@ -1,7 +1,7 @@
 //! How far bytes are well formed, 64 at a time, or 16 where a fault may be near.
 //!
 //! A front that is found is well formed; that a front as long as can be is found, nobody relies on.
-ghost use Rattle.std.specs.Prelude.{◌≡◌, ◌∷◌, ℕ, suc, ◌+◌, ◌-◌, ◌≤◌, ◌<◌, length,  IsTrue, MatchResult, slice_index};
+ghost use Rattle.std.specs.Prelude.{◌≡◌, ◌∷◌, ℕ, suc, ◌+◌, ◌-◌, ◌≤◌, ◌<◌, length, IsTrue, MatchResult, slice_index};
 ghost use Rattle.std.specs.Int.{is_in_range};
 ghost use Rattle.wtf8_core.specs.Wtf8.{last_behind};
 ghost use Rattle.wtf8_core.specs.Surrogate.{is_high};
@@ -9,8 +9,8 @@ ghost use Rattle.wtf8_core.specs.declared.scan.Encoding.{Encoding};
 ghost use Rattle.wtf8_core.specs.declared.scan.Encoding.TheVariants.{Utf8, Wtf8};
 ghost use Rattle.wtf8_core.specs.SpelledFront.{IsSpelledFront, KeepsPattern};
 
-use crate::scan::error_bits::{kept_len, kept_of_16};
 use crate::byte::is_continuation;
+use crate::scan::error_bits::{kept_len, kept_of_16};
 use crate::scan::lanes::{are_ascii, load};
 use crate::scan::{BEFORE, BLOCK, Encoding, STEP};
 
