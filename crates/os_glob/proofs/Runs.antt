@@ -3,9 +3,9 @@ use Rattle.std.proofs.Common.{◌≡◌, ◌⊎◌, inl, inr, List, [], ◌∷�
 use Rattle.std.specs.List.{AllByRecursion}
 use Rattle.os_glob.specs.declared.place.Place.{Place}
 use Rattle.os_glob.specs.declared.place.Place.TheVariants.{Separator, LeadingDot, Ordinary}
-use Rattle.os_glob.specs.declared.token.Wildcard.{Wildcard}
-use Rattle.os_glob.specs.declared.token.Wildcard.TheVariants.{Star, DoubleStar}
-use Rattle.os_glob.specs.Pattern.{Class, Any, Same, Token, Run, One}
+use Rattle.os_glob.specs.declared.item.Wildcard.{Wildcard}
+use Rattle.os_glob.specs.declared.item.Wildcard.TheVariants.{Star, DoubleStar}
+use Rattle.os_glob.specs.Pattern.{Class, Any, Same, OneOf, Token, Run, One}
 use Rattle.os_glob.specs.Match.{Takes, Fits, Matches, BeginsWithRun, BeginsWithOne}
 
 -- two lists that are one begin alike
@@ -92,6 +92,9 @@ no_place x ts h = let e : ◌≡◌ {A = List Place} [] (h.first ∷ h.rest) = h
 pub fits_alike : (w : Wildcard) (x : Class) (p q : Place) → Fits x p → Takes w p → Fits x q → Takes w q
 fits_alike w Any p q f t g = takes_wider w q g
 fits_alike w (Same r) p q f t g = subst (Takes w) (sym f ∙ g) t
+fits_alike w (OneOf negated ms) p (Ordinary s) f t g = takes_wider w (Ordinary s) tt
+fits_alike w (OneOf negated ms) p LeadingDot f t g = absurd g
+fits_alike w (OneOf negated ms) p Separator f t g = absurd g
 
 -- where the first place fits, a run without it and without the class does
 pub run_one : (w : Wildcard) (x : Class) (ts : List Token) (p : Place) (ps : List Place) → Fits x p → Matches (Run w ∷ One x ∷ ts) (p ∷ ps) → Matches (Run w ∷ ts) ps

@@ -5,8 +5,8 @@ use Rattle.os_glob.specs.declared.place.Place.TheVariants.{Separator, LeadingDot
 use Rattle.os_glob.specs.declared.matching.Part.{Part}
 use Rattle.os_glob.specs.declared.matching.Part.TheVariants as part
 use Rattle.os_glob.specs.declared.place.Place.{Place}
-use Rattle.os_glob.specs.declared.token.Wildcard.{Wildcard}
-use Rattle.os_glob.specs.declared.token.Wildcard.TheVariants.{Star, DoubleStar}
+use Rattle.os_glob.specs.declared.item.Wildcard.{Wildcard}
+use Rattle.os_glob.specs.declared.item.Wildcard.TheVariants.{Star, DoubleStar}
 use Rattle.os_glob.specs.Pattern.{Class, Token, Run, One}
 use Rattle.os_glob.specs.Match.{Takes, Fits, Matches}
 use Rattle.os_glob.specs.Parts.{GoesOn, GoesOnAnywhere, PartSays, GoesPast}

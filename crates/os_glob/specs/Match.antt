@@ -1,15 +1,18 @@
 -- Which strings a pattern matches.
-use Rattle.std.specs.Prelude.{◌≡◌, true, ℕ, List, [], ◌∷◌, ◌++◌}
+use Rattle.std.specs.Prelude.{◌≡◌, Bool, true, false, not, ℕ, List, [], ◌∷◌, ◌++◌, IsTrue}
 use Rattle.std.specs.List.{AllByRecursion}
 use Rattle.std.specs.Str.{chars}
 use Rattle.os_glob.specs.declared.options.GlobOptions.{GlobOptions}
 use Rattle.os_glob.specs.Places.{places}
 use Rattle.os_str_ext.specs.declared.symbols.Symbol.{Symbol}
+use Rattle.os_str_ext.specs.declared.symbols.Symbol.TheVariants.{Character, Unit as LoneUnit}
 use Rattle.os_glob.specs.declared.place.Place.{Place}
 use Rattle.os_glob.specs.declared.place.Place.TheVariants.{Separator, LeadingDot, Ordinary}
-use Rattle.os_glob.specs.declared.token.Wildcard.{Wildcard}
-use Rattle.os_glob.specs.declared.token.Wildcard.TheVariants.{Star, DoubleStar}
-use Rattle.os_glob.specs.Pattern.{Class, Any, Same, Token, Run, One, tokens}
+use Rattle.os_glob.specs.declared.item.Wildcard.{Wildcard}
+use Rattle.os_glob.specs.declared.item.Wildcard.TheVariants.{Star, DoubleStar}
+use Rattle.os_glob.specs.Members.{Member, holds}
+use Rattle.os_glob.specs.Items.{items}
+use Rattle.os_glob.specs.Pattern.{Class, Any, Same, OneOf, Token, Run, One, tokens}
 
 -- the run of a wildcard may have this place
 abbrev pub Takes : Wildcard → Place → Type 0
@@ -18,10 +21,19 @@ Takes w LeadingDot = ⊥
 Takes Star Separator = ⊥
 Takes DoubleStar Separator = Unit {0}
 
+-- a class permits its members or, negated, each other symbol; what is no text is no member
+abbrev pub permits : Bool → List Member → Symbol → Bool
+permits negated ms (LoneUnit u) = negated
+permits false ms (Character c) = holds ms c
+permits true ms (Character c) = not (holds ms c)
+
 -- the class stands for this place
 abbrev pub Fits : Class → Place → Type 0
 Fits Any p = Takes Star p
 Fits (Same q) p = q ≡ p
+Fits (OneOf negated ms) (Ordinary s) = IsTrue (permits negated ms s)
+Fits (OneOf negated ms) LeadingDot = ⊥
+Fits (OneOf negated ms) Separator = ⊥
 
 -- places are a run of a wildcard, and others after it
 pub record BeginsWithRun (w : Wildcard) (Behind : List Place → Type 0) (ps : List Place) : Type 0 where
@@ -47,4 +59,4 @@ Matches (One x ∷ ts) ps = BeginsWithOne x (Matches ts) ps
 
 -- the symbols have the pattern
 abbrev pub IsMatch : GlobOptions → List ℕ → List Symbol → Type 0
-IsMatch o pattern symbols = Matches (tokens o (chars pattern)) (places o true symbols)
+IsMatch o pattern symbols = Matches (tokens o true (items (chars pattern))) (places o true symbols)

@@ -1,8 +1,8 @@
 -- What is known after a part of a pattern: only private contracts name this.
 use Rattle.std.specs.Prelude.{◌≤◌, ◌<◌, ◌↔◌, Bool, true, false, List, ◌∷◌, length}
 use Rattle.os_glob.specs.declared.place.Place.{Place}
-use Rattle.os_glob.specs.declared.token.Wildcard.{Wildcard}
-use Rattle.os_glob.specs.declared.token.Wildcard.TheVariants.{Star, DoubleStar}
+use Rattle.os_glob.specs.declared.item.Wildcard.{Wildcard}
+use Rattle.os_glob.specs.declared.item.Wildcard.TheVariants.{Star, DoubleStar}
 use Rattle.os_glob.specs.declared.matching.Piece.{Piece}
 use Rattle.os_glob.specs.declared.matching.Piece.TheVariants as piece
 use Rattle.os_glob.specs.declared.matching.Part.{Part}

@@ -1,50 +1,116 @@
-//! Whether a string has a pattern.
-ghost use Rattle.std.specs.Prelude.{List, ◌↔◌, IsTrue};
+//! Path patterns.
+ghost use Rattle.std.specs.Prelude.{List, ◌≡◌, ◌↔◌, IsTrue, MatchResult};
 ghost use Rattle.platform_str.specs.Strings.{bytes};
 ghost use Rattle.os_str_ext.specs.Symbols.{AreSymbols, symbols_of};
 ghost use Rattle.os_str_ext.specs.declared.symbols.Symbol.{Symbol};
+ghost use Rattle.os_glob.specs.Items.{IsWellFormed, IsFirstFault};
 ghost use Rattle.os_glob.specs.Match.{IsMatch};
 
+use crate::error::GlobError;
+use crate::item::{Item, first_item};
 use crate::matching::matches;
 use crate::options::GlobOptions;
 use crate::place::Places;
 use crate::token::Tokens;
 use os_str_ext::{OsStr, OsStrBytesExt, Platform, Symbols};
+use std::marker::Model;
 
-/// Whether the whole string has the pattern: its symbols, from the first to the last
-/// (`OsStrBytesExt::symbols`), are those for which the pattern stands. It takes no memory.
+/// A well-formed path pattern.
 ///
-/// `*` stands for any run of symbols without a separator, `**` for any run, `?` for one symbol that
-/// is no separator. `\` quotes the character after it, and each other character stands for itself;
-/// a separator stands for any separator. The characters of classes and alternatives (`[a-z]`,
-/// `{a,b}`) stand for themselves, as does a `\` at the pattern's end. Where
-/// [`GlobOptions::literal_leading_dot`] is set, no wildcard takes a dot that is first in the string,
-/// or right after a separator.
+/// | Part | What it stands for |
+/// |---|---|
+/// | `*` | any run of symbols without a separator |
+/// | `**` | any run of symbols |
+/// | `?` | one symbol that is no separator |
+/// | `[a-z]`, `[aeiou]` | one character of the class that is no separator |
+/// | `[!a-z]` | one symbol, not a character of the class and no separator |
+/// | `\` and a character | that character |
+/// | a separator | any separator |
+/// | another character | itself |
 ///
-/// With the separator `/` the Unix string of the bytes 61 FF 2F 62 (hexadecimal) has the patterns
-/// `a?/b`, `*/*` and `**`, but not `*`; the Windows string of the units D83D and DE00 is one
-/// character, and has the pattern `?`.
+/// In a class, a `]` right after `[` or `[!` is a member, and so is a `-` at either end; a `\`
+/// quotes nothing there and is a member, too. A unit that is no text is no member of a class: of
+/// classes only the negated ones permit it, as `?` does. The characters of alternatives (`{a,b}`)
+/// and of POSIX's named classes (`[:alpha:]`) stand for themselves.
 ///
-/// ```
-/// use os_glob::{GlobOptions, Separators, is_match};
-/// use os_str_bytes::{OsStr, Unix};
-///
-/// let options = GlobOptions { separators: Separators::Slash, literal_leading_dot: false };
-/// let path = OsStr::<Unix>::from_encoded_bytes_unchecked(b"a\xFF/b");
-/// assert!(rt; is_match(options, "a?/b", path) && is_match(options, "**", path));
-/// assert!(rt; !is_match(options, "*", path));
-/// ```
-pub fn is_match<E: Platform>(options: GlobOptions, pattern: &str, string: OsStr<'_, E>) -> bool
-    ensures symbols { (symbols : List Symbol) → AreSymbols E.units (bytes string.entry) symbols → IsTrue result ↔ IsMatch options pattern.now symbols }
-    ensures value { IsTrue result ↔ IsMatch options pattern.now (symbols_of E.units (bytes string.entry)) }
-{
-    wtf8_core::laws::chunks();
-    have_pattern(options, pattern, string.symbols())
+/// A symbol is a whole character, or one unit of what is no text
+/// ([`OsStrBytesExt::symbols`](os_str_ext::OsStrBytesExt::symbols)). Case is as it is.
+#[derive(Drop)]
+pub struct Glob<'p> {
+    pattern: &'p str,
 }
 
-/// Whether the symbols that are left have the pattern.
-fn have_pattern<E: Platform>(options: GlobOptions, pattern: &str, symbols: Symbols<'_, E>) -> bool
-    ensures { IsTrue result ↔ IsMatch options pattern.now symbols.entry }
-{
-    matches(Tokens::new(options, pattern), Places::new(options, symbols))
+impl<'p> Model for Glob<'p> {
+    ghost use Rattle.std.specs.Prelude.{List, ℕ};
+
+    ghost Value = { List ℕ };
+
+    ghost view = { λ it. it.pattern.now };
+}
+
+impl<'p> Glob<'p> {
+    /// The pattern that a text is. It takes no memory.
+    ///
+    /// # Errors
+    ///
+    /// The first fault of the pattern, and its byte index: a class without an end, a reversed range
+    /// in a class, or a `\` at the end.
+    ///
+    /// ```
+    /// use os_glob::{Glob, GlobErrorKind};
+    ///
+    /// assert!(rt; Glob::new("*.[ch]").is_ok());
+    /// let fault = Glob::new("a[z-a]").err();
+    /// assert!(rt; matches!(fault, Some(error) if error.kind == GlobErrorKind::ReversedRange && error.index == 2));
+    /// ```
+    pub fn new(pattern: &'p str) -> Result<Self, GlobError>
+        ensures { MatchResult result (λ glob. (glob ≡ pattern.now) × IsWellFormed pattern.now) (λ error. IsFirstFault pattern.now error) }
+    {
+        let mut rest = pattern;
+        while let Some((item, after)) = first_item(rest) {
+            if let Item::Refused(kind, from) = item {
+                return Err(GlobError {
+                    kind,
+                    index: pattern.len() - from.len(),
+                });
+            }
+            rest = after;
+        }
+        Ok(Glob { pattern })
+    }
+
+    /// Whether the whole string has the pattern: its symbols, from the first to the last
+    /// (`OsStrBytesExt::symbols`), are those for which the pattern stands. It takes no memory.
+    ///
+    /// Where [`GlobOptions::literal_leading_dot`] is set, no wildcard and no class takes a dot that is
+    /// first in the string, or right after a separator.
+    ///
+    /// The Windows string of the units D83D and DE00 is one character, and has the pattern `?`.
+    ///
+    /// ```
+    /// use os_glob::{Glob, GlobOptions, Separators};
+    /// use os_str_bytes::{OsStr, Unix};
+    ///
+    /// let options = GlobOptions { separators: Separators::Slash, literal_leading_dot: false };
+    /// let path = OsStr::<Unix>::from_encoded_bytes_unchecked(b"a\xFF/b");
+    /// let matches = |pattern: &str| Glob::new(pattern).is_ok_and(|glob| glob.is_match(options, path));
+    /// assert!(rt; matches("a[!a-z]/b") && matches("**") && !matches("*"));
+    /// ```
+    pub fn is_match<E: Platform>(&self, options: GlobOptions, string: OsStr<'_, E>) -> bool
+        ensures symbols { (symbols : List Symbol) → AreSymbols E.units (bytes string.entry) symbols → IsTrue result ↔ IsMatch options self.now symbols }
+        ensures value { IsTrue result ↔ IsMatch options self.now (symbols_of E.units (bytes string.entry)) }
+    {
+        wtf8_core::laws::chunks();
+        self.matches_symbols(options, string.symbols())
+    }
+
+    /// Whether the symbols that are left have the pattern.
+    fn matches_symbols<E: Platform>(&self, options: GlobOptions, symbols: Symbols<'_, E>) -> bool
+        ensures { IsTrue result ↔ IsMatch options self.now symbols.entry }
+    {
+        matches(
+            Tokens::new(options, self.pattern),
+            Places::new(options, symbols),
+        )
+    }
 }

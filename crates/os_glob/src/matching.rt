@@ -1,12 +1,13 @@
 //! Whether places have the tokens of a pattern.
 ghost use Rattle.std.specs.Prelude.{◌≡◌, ◌∷◌, ◌↔◌, IsTrue};
-ghost use Rattle.os_glob.specs.declared.token.Wildcard.TheVariants.{Star, DoubleStar};
+ghost use Rattle.os_glob.specs.declared.item.Wildcard.TheVariants.{Star, DoubleStar};
 ghost use Rattle.os_glob.specs.Pattern.{Run};
 ghost use Rattle.os_glob.specs.Match.{Matches};
 ghost use Rattle.os_glob.specs.Parts.{PieceSays, PartSays, SkipsComponent};
 
+use crate::item::Wildcard;
 use crate::place::{Place, Places};
-use crate::token::{Token, Tokens, Wildcard};
+use crate::token::{Token, Tokens};
 use os_str_ext::Platform;
 
 /// How far a pattern goes without a wildcard.

@@ -1,37 +1,33 @@
 //! The tokens of a pattern.
-ghost use Rattle.std.specs.Prelude.{◌≡◌, ◌∷◌, ◌↔◌, [], drop, MatchOption, IfSome, IsTrue};
-ghost use Rattle.std.specs.Str.{IsUtf8, chars};
-ghost use Rattle.os_glob.specs.Pattern.{read, literal_token, token_of, class_of, begins_component_after};
-ghost use Rattle.os_glob.specs.Match.{Fits, Takes};
+ghost use Rattle.std.specs.Prelude.{◌≡◌, ◌∷◌, ◌↔◌, [], true, MatchOption, IsTrue};
+ghost use Rattle.std.specs.Str.{chars};
+ghost use Rattle.os_glob.specs.Members.{members};
+ghost use Rattle.os_glob.specs.Held.{item_of, token_of, class_of, begins_component_after, IsTokenOf};
+ghost use Rattle.os_glob.specs.Match.{Fits, Takes, permits};
 
+use crate::item::{Item, Wildcard, first_item};
+use crate::member::has_member;
 use crate::options::GlobOptions;
 use crate::place::{Place, place_of};
 use os_str_ext::Symbol;
 use std::marker::Model;
 
-/// What stands for any run of places.
-#[derive(Clone, Copy)]
-pub(crate) enum Wildcard {
-    /// `*`, for places within a component.
-    Star,
-    /// `**`, for any but a leading dot.
-    DoubleStar,
-}
-
 /// What stands for one place.
 #[derive(Clone, Copy)]
-pub(crate) enum Class {
+pub(crate) enum Class<'p> {
     /// `?`.
     Any,
     /// A character that stands for itself.
     Same(Place),
+    /// A class: whether it is negated, and the pattern from its first member on.
+    OneOf(bool, &'p str),
 }
 
-/// What a pattern is made of.
+/// What a pattern is made of, by what it says of places.
 #[derive(Clone, Copy)]
-pub(crate) enum Token {
+pub(crate) enum Token<'p> {
     Run(Wildcard),
-    One(Class),
+    One(Class<'p>),
 }
 
 impl Wildcard {
@@ -51,11 +47,11 @@ impl Wildcard {
     }
 }
 
-impl Class {
+impl<'p> Class<'p> {
     /// Whether it stands for this place.
     #[inline(always)]
     pub(crate) fn fits(self, place: Place) -> bool
-        ensures { IsTrue result ↔ Fits (class_of self) place }
+        ensures { IsTrue result ↔ Fits (class_of self.entry) place }
     {
         match self {
             Class::Any => match place {
@@ -63,7 +59,21 @@ impl Class {
                 _ => false,
             },
             Class::Same(same) => same == place,
+            Class::OneOf(negated, text) => match place {
+                Place::Ordinary(symbol) => permits_symbol(negated, text, symbol),
+                _ => false,
+            },
         }
+    }
+}
+
+/// Whether a class permits a symbol.
+fn permits_symbol(negated: bool, text: &str, symbol: Symbol) -> bool
+    ensures { result ≡ permits negated (members true (chars text.now)) symbol }
+{
+    match symbol {
+        Symbol::Character(character) => has_member(text, character) != negated,
+        Symbol::Unit(_) => negated,
     }
 }
 
@@ -78,19 +88,22 @@ pub(crate) struct Tokens<'p> {
 impl<'p> Model for Tokens<'p> {
     ghost use Rattle.std.specs.Prelude.{List};
     ghost use Rattle.std.specs.Str.{chars};
-    ghost use Rattle.os_glob.specs.Pattern.{Token, tokens_behind};
+    ghost use Rattle.os_glob.specs.Items.{items};
+    ghost use Rattle.os_glob.specs.Pattern.{Token, tokens};
 
     ghost Value = { List Token };
 
-    ghost view = { λ it. tokens_behind it.options 0 it.begins (chars it.rest.now) };
+    ghost view = { λ it. tokens it.options it.begins (items (chars it.rest.now)) };
 }
 
 impl<'p> Tokens<'p> {
+    ghost use Rattle.std.specs.Prelude.{true};
+    ghost use Rattle.os_glob.specs.Items.{items};
     ghost use Rattle.os_glob.specs.Pattern.{tokens};
 
     /// The tokens of a pattern.
     pub(crate) fn new(options: GlobOptions, pattern: &'p str) -> Self
-        ensures { result ≡ tokens options (chars pattern.now) }
+        ensures { result ≡ tokens options true (items (chars pattern.now)) }
     {
         Tokens {
             rest: pattern,
@@ -112,24 +125,26 @@ impl<'p> Tokens<'p> {
     }
 
     /// Takes the first token off.
-    pub(crate) fn next(&mut self) -> Option<Token>
+    pub(crate) fn next(&mut self) -> Option<Token<'p>>
         ensures { MatchOption result (self.old ≡ []) (λ token. self.old ≡ token_of token ∷ self.new) }
     {
-        let Some((first, rest)) = first_char(self.rest) else {
+        let Some((item, rest)) = first_item(self.rest) else {
             return None;
         };
-        let (token, rest) = first_token(self.options, self.begins, first, rest);
+        let Some(token) = first_token(self.options, self.begins, item) else {
+            return None;
+        };
         self.rest = rest;
         self.begins = token.ends_component();
         Some(token)
     }
 }
 
-impl Token {
+impl<'p> Token<'p> {
     /// Whether the token after it begins a component.
     #[inline(always)]
     fn ends_component(self) -> bool
-        ensures { result ≡ begins_component_after (token_of self) }
+        ensures { result ≡ begins_component_after (token_of self.entry) }
     {
         match self {
             Token::One(Class::Same(place)) => place.ends_component(),
@@ -138,43 +153,18 @@ impl Token {
     }
 }
 
-/// The token that begins with a character, and what comes after it.
-fn first_token(options: GlobOptions, begins: bool, first: char, rest: &str) -> (Token, &str)
-    ensures token { token_of result.0 ≡ (read options begins first (chars rest.now)).0 }
-    ensures rest { chars result.1.now ≡ drop (read options begins first (chars rest.now)).1 (chars rest.now) }
-    ensures text { IsUtf8 result.1.now }
+/// The token of an item, which may begin a component; `None` of a fault.
+fn first_token(options: GlobOptions, begins: bool, item: Item<'_>) -> Option<Token<'_>>
+    ensures { IsTokenOf options begins (item_of item.entry) result }
 {
-    match first {
-        '*' => match first_char(rest) {
-            Some(('*', after)) => (Token::Run(Wildcard::DoubleStar), after),
-            _ => (Token::Run(Wildcard::Star), rest),
-        },
-        '?' => (Token::One(Class::Any), rest),
-        '\\' => match first_char(rest) {
-            Some((quoted, after)) => (literal(options, begins, quoted), after),
-            None => (literal(options, begins, first), rest),
-        },
-        _ => (literal(options, begins, first), rest),
+    match item {
+        Item::Run(wildcard) => Some(Token::Run(wildcard)),
+        Item::AnyOne => Some(Token::One(Class::Any)),
+        Item::Literal(character) => {
+            let place = place_of(options, begins, Symbol::Character(character));
+            Some(Token::One(Class::Same(place)))
+        }
+        Item::OneOf(negated, members) => Some(Token::One(Class::OneOf(negated, members))),
+        Item::Refused(_, _) => None,
     }
-}
-
-/// A character that stands for itself.
-#[inline(always)]
-fn literal(options: GlobOptions, begins: bool, character: char) -> Token
-    ensures { token_of result ≡ literal_token options begins character }
-{
-    Token::One(Class::Same(place_of(options, begins, Symbol::Character(character))))
-}
-
-/// The first character of a text, and what comes after it.
-#[inline(always)]
-pub(crate) fn first_char(text: &str) -> Option<(char, &str)>
-    ensures first { MatchOption result (chars text.now ≡ []) (λ first. chars text.now ≡ first.0 ∷ chars first.1.now) }
-    ensures text { IfSome result (λ first. IsUtf8 first.1.now) }
-{
-    let mut characters = text.chars();
-    let Some(character) = characters.next() else {
-        return None;
-    };
-    Some((character, characters.as_str()))
 }

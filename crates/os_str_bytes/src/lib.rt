@@ -53,12 +53,13 @@ pub mod unix;
 pub mod wasm;
 pub mod windows;
 
-pub use iter::{RawRSplit, RawSplit};
+pub use iter::{RawPieces, RawRSplit, RawSplit};
 pub use os_str_ext::{
-    ByteCow, ByteVec, Encoded, EncodedChar, EncodingError, HasBytes, NonUnicodeOsStr, OsStr,
-    OsStrBytes, OsStrBytesExt, OsStrCow, OsStrDisplay, OsString, OsStringBytes, OsUnit, OsUnits,
-    Path, PathBuf, PathCow, Pattern, Platform, RSplit, SliceIndex, Split, StrCow, Symbol, Symbols,
-    Unix, Utf8Chunks, Wasm, WideUnits, Windows, chunk_laws, part_laws, search_laws, symbol_laws,
+    ByteCow, ByteVec, Direction, Encoded, EncodedChar, EncodingError, FromEnd, FromStart, HasBytes,
+    NonUnicodeOsStr, OsStr, OsStrBytes, OsStrBytesExt, OsStrCow, OsStrDisplay, OsString,
+    OsStringBytes, OsUnit, OsUnits, Path, PathBuf, PathCow, Pattern, Pieces, Platform, RSplit,
+    SliceIndex, Split, StrCow, Symbol, Symbols, Unix, Utf8Chunks, Wasm, WideUnits, Windows,
+    chunk_laws, part_laws, search_laws, symbol_laws,
 };
 pub use raw_box::RawOsStrBox;
 pub use raw_cow::{CowRawOsStr, RawOsStrCow};

@@ -14,7 +14,7 @@ ghost use Rattle.os_str_ext.specs.Range.{FitsIn, IsPartInUnits};
 ghost use Rattle.os_str_ext.specs.Symbols.{AreSymbols, symbols_of};
 ghost use Rattle.os_str_bytes.specs.Raw.{raw_bytes, raw_units, raw_vec_of};
 
-use crate::iter::{RawRSplit, RawSplit};
+use crate::iter::{RawPieces, RawRSplit, RawSplit};
 use crate::raw_str::RawOsStr;
 use crate::raw_string::RawOsString;
 use os_str_ext::{OsStrBytesExt, Pattern, Platform, SliceIndex, Symbols, Utf8Chunks};
@@ -68,7 +68,8 @@ impl<'a, E: Platform> RawOsStr<'a, E> {
     /// assert!(rt; string.fits(&(3..=2)) && !string.fits(&(..7)));
     /// ```
     pub fn fits<I: SliceIndex>(self, range: &I) -> bool
-        ensures { IsTrue result ↔ FitsIn (raw_bytes self.entry) (I.first_place range.now) (I.end_place range.now (length (raw_bytes self.entry))) }
+        ensures { IsTrue result ↔ FitsIn (raw_bytes self.entry) (I.first_place range.now)
+            (I.end_place range.now (length (raw_bytes self.entry))) }
     {
         range.fits(self.string)
     }
@@ -83,9 +84,12 @@ impl<'a, E: Platform> RawOsStr<'a, E> {
     /// assert!(rt; string.index(0..=5) == string && string.index(3..=2).is_empty());
     /// ```
     pub fn index<I: SliceIndex>(self, range: I) -> Self
-        requires { FitsIn (raw_bytes self) (I.first_place range) (I.end_place range (length (raw_bytes self))) }
-        ensures bytes { raw_bytes result ≡ drop (I.first_place range) (take (I.end_place range (length (raw_bytes self.entry))) (raw_bytes self.entry)) }
-        ensures units { IsPartInUnits E.units (raw_bytes self.entry) (I.first_place range) (I.end_place range (length (raw_bytes self.entry))) (raw_bytes result) }
+        requires { FitsIn (raw_bytes self) (I.first_place range)
+            (I.end_place range (length (raw_bytes self))) }
+        ensures bytes { raw_bytes result ≡ drop (I.first_place range)
+            (take (I.end_place range (length (raw_bytes self.entry))) (raw_bytes self.entry)) }
+        ensures units { IsPartInUnits E.units (raw_bytes self.entry) (I.first_place range)
+            (I.end_place range (length (raw_bytes self.entry))) (raw_bytes result) }
     {
         RawOsStr::new(range.index(self.string))
     }
@@ -98,9 +102,12 @@ impl<'a, E: Platform> RawOsStr<'a, E> {
     /// assert!(rt; RawOsStr::<Unix>::from_str("foobar").get_unchecked(3..).eq_str("bar"));
     /// ```
     pub fn get_unchecked<I: SliceIndex>(self, range: I) -> Self
-        requires { FitsIn (raw_bytes self) (I.first_place range) (I.end_place range (length (raw_bytes self))) }
-        ensures bytes { raw_bytes result ≡ drop (I.first_place range) (take (I.end_place range (length (raw_bytes self.entry))) (raw_bytes self.entry)) }
-        ensures units { IsPartInUnits E.units (raw_bytes self.entry) (I.first_place range) (I.end_place range (length (raw_bytes self.entry))) (raw_bytes result) }
+        requires { FitsIn (raw_bytes self) (I.first_place range)
+            (I.end_place range (length (raw_bytes self))) }
+        ensures bytes { raw_bytes result ≡ drop (I.first_place range)
+            (take (I.end_place range (length (raw_bytes self.entry))) (raw_bytes self.entry)) }
+        ensures units { IsPartInUnits E.units (raw_bytes self.entry) (I.first_place range)
+            (I.end_place range (length (raw_bytes self.entry))) (raw_bytes result) }
     {
         self.index(range)
     }
@@ -120,7 +127,8 @@ impl<'a, E: Platform> RawOsStr<'a, E> {
     /// ```
     pub fn find<P: Pattern>(self, pattern: P) -> Option<usize>
         ensures bytes { Finds IsLeastPlace (P.text pattern) (raw_bytes self.entry) result }
-        ensures units { FindsInUnits IsLeastPlace E.well_formed E.units (P.text pattern) (raw_bytes self.entry) result }
+        ensures units { FindsInUnits IsLeastPlace E.well_formed E.units (P.text pattern)
+            (raw_bytes self.entry) result }
         ensures edges { MayBeCutAround (raw_bytes self.entry) (length (P.text pattern)) result }
         ensures behind { IfSome result (λ at. at + length (P.text pattern) < 2 ^ 64) }
     {
@@ -139,7 +147,8 @@ impl<'a, E: Platform> RawOsStr<'a, E> {
     /// ```
     pub fn rfind<P: Pattern>(self, pattern: P) -> Option<usize>
         ensures bytes { Finds IsGreatestPlace (P.text pattern) (raw_bytes self.entry) result }
-        ensures units { FindsInUnits IsGreatestPlace E.well_formed E.units (P.text pattern) (raw_bytes self.entry) result }
+        ensures units { FindsInUnits IsGreatestPlace E.well_formed E.units (P.text pattern)
+            (raw_bytes self.entry) result }
         ensures edges { MayBeCutAround (raw_bytes self.entry) (length (P.text pattern)) result }
         ensures behind { IfSome result (λ at. at + length (P.text pattern) < 2 ^ 64) }
     {
@@ -156,7 +165,8 @@ impl<'a, E: Platform> RawOsStr<'a, E> {
     /// ```
     pub fn contains<P: Pattern>(self, pattern: P) -> bool
         ensures bytes { IsTrue result ↔ StandsSomewhere (P.text pattern) (raw_bytes self.entry) }
-        ensures units { IsTrue result ↔ StandsSomewhere (E.units (P.text pattern)) (raw_units self.entry) }
+        ensures units { IsTrue result ↔ StandsSomewhere (E.units (P.text pattern))
+            (raw_units self.entry) }
     {
         self.string.contains(pattern)
     }
@@ -234,7 +244,8 @@ impl<'a, E: Platform> RawOsStr<'a, E> {
     /// ```
     pub fn strip_prefix<P: Pattern>(self, pattern: P) -> Option<Self>
         ensures bytes { StripsFront raw_bytes (P.text pattern) (raw_bytes self.entry) result }
-        ensures units { StripsFront raw_units (E.units (P.text pattern)) (raw_units self.entry) result }
+        ensures units { StripsFront raw_units (E.units (P.text pattern)) (raw_units self.entry)
+            result }
     {
         match self.string.strip_prefix(pattern) {
             Some(rest) => Some(RawOsStr::new(rest)),
@@ -252,7 +263,8 @@ impl<'a, E: Platform> RawOsStr<'a, E> {
     /// ```
     pub fn strip_suffix<P: Pattern>(self, pattern: P) -> Option<Self>
         ensures bytes { StripsEnd raw_bytes (P.text pattern) (raw_bytes self.entry) result }
-        ensures units { StripsEnd raw_units (E.units (P.text pattern)) (raw_units self.entry) result }
+        ensures units { StripsEnd raw_units (E.units (P.text pattern)) (raw_units self.entry)
+            result }
     {
         match self.string.strip_suffix(pattern) {
             Some(rest) => Some(RawOsStr::new(rest)),
@@ -268,8 +280,10 @@ impl<'a, E: Platform> RawOsStr<'a, E> {
     /// assert!(rt; RawOsStr::<Unix>::from_str("111foo1").trim_start_matches("1").eq_str("foo1"));
     /// ```
     pub fn trim_start_matches<P: Pattern>(self, pattern: P) -> Self
-        ensures bytes { 0 < length (P.text pattern) → IsStartTrim (P.text pattern) (raw_bytes self.entry) (raw_bytes result) }
-        ensures units { 0 < length (P.text pattern) → IsStartTrim (E.units (P.text pattern)) (raw_units self.entry) (raw_units result) }
+        ensures bytes { 0 < length (P.text pattern)
+            → IsStartTrim (P.text pattern) (raw_bytes self.entry) (raw_bytes result) }
+        ensures units { 0 < length (P.text pattern)
+            → IsStartTrim (E.units (P.text pattern)) (raw_units self.entry) (raw_units result) }
         ensures whole { length (P.text pattern) ≡ 0 → raw_bytes result ≡ raw_bytes self.entry }
     {
         RawOsStr::new(self.string.trim_start_matches(pattern))
@@ -283,8 +297,10 @@ impl<'a, E: Platform> RawOsStr<'a, E> {
     /// assert!(rt; RawOsStr::<Unix>::from_str("1bar111").trim_end_matches('1').eq_str("1bar"));
     /// ```
     pub fn trim_end_matches<P: Pattern>(self, pattern: P) -> Self
-        ensures bytes { 0 < length (P.text pattern) → IsEndTrim (P.text pattern) (raw_bytes self.entry) (raw_bytes result) }
-        ensures units { 0 < length (P.text pattern) → IsEndTrim (E.units (P.text pattern)) (raw_units self.entry) (raw_units result) }
+        ensures bytes { 0 < length (P.text pattern)
+            → IsEndTrim (P.text pattern) (raw_bytes self.entry) (raw_bytes result) }
+        ensures units { 0 < length (P.text pattern)
+            → IsEndTrim (E.units (P.text pattern)) (raw_units self.entry) (raw_units result) }
         ensures whole { length (P.text pattern) ≡ 0 → raw_bytes result ≡ raw_bytes self.entry }
     {
         RawOsStr::new(self.string.trim_end_matches(pattern))
@@ -301,8 +317,10 @@ impl<'a, E: Platform> RawOsStr<'a, E> {
     /// assert!(rt; RawOsStr::<Unix>::from_str("aaa").trim_matches("aa").eq_str("a"));
     /// ```
     pub fn trim_matches<P: Pattern>(self, pattern: P) -> Self
-        ensures bytes { 0 < length (P.text pattern) → IsTrim (P.text pattern) (raw_bytes self.entry) (raw_bytes result) }
-        ensures units { 0 < length (P.text pattern) → IsTrim (E.units (P.text pattern)) (raw_units self.entry) (raw_units result) }
+        ensures bytes { 0 < length (P.text pattern)
+            → IsTrim (P.text pattern) (raw_bytes self.entry) (raw_bytes result) }
+        ensures units { 0 < length (P.text pattern)
+            → IsTrim (E.units (P.text pattern)) (raw_units self.entry) (raw_units result) }
         ensures whole { length (P.text pattern) ≡ 0 → raw_bytes result ≡ raw_bytes self.entry }
     {
         RawOsStr::new(self.string.trim_matches(pattern))
@@ -321,8 +339,10 @@ impl<'a, E: Platform> RawOsStr<'a, E> {
     /// assert!(rt; string.split_once("of") == None);
     /// ```
     pub fn split_once<P: Pattern>(self, pattern: P) -> Option<(Self, Self)>
-        ensures bytes { SplitsOnce IsLeastPlace raw_bytes (P.text pattern) (raw_bytes self.entry) result }
-        ensures units { SplitsOnce IsLeastPlace raw_units (E.units (P.text pattern)) (raw_units self.entry) result }
+        ensures bytes { SplitsOnce IsLeastPlace raw_bytes (P.text pattern) (raw_bytes self.entry)
+            result }
+        ensures units { SplitsOnce IsLeastPlace raw_units (E.units (P.text pattern))
+            (raw_units self.entry) result }
     {
         match self.string.split_once(pattern) {
             Some((front, back)) => Some((RawOsStr::new(front), RawOsStr::new(back))),
@@ -341,8 +361,10 @@ impl<'a, E: Platform> RawOsStr<'a, E> {
     /// assert!(rt; string.rsplit_once("o") == Some((front, back)));
     /// ```
     pub fn rsplit_once<P: Pattern>(self, pattern: P) -> Option<(Self, Self)>
-        ensures bytes { SplitsOnce IsGreatestPlace raw_bytes (P.text pattern) (raw_bytes self.entry) result }
-        ensures units { SplitsOnce IsGreatestPlace raw_units (E.units (P.text pattern)) (raw_units self.entry) result }
+        ensures bytes { SplitsOnce IsGreatestPlace raw_bytes (P.text pattern) (raw_bytes self.entry)
+            result }
+        ensures units { SplitsOnce IsGreatestPlace raw_units (E.units (P.text pattern))
+            (raw_units self.entry) result }
     {
         match self.string.rsplit_once(pattern) {
             Some((front, back)) => Some((RawOsStr::new(front), RawOsStr::new(back))),
@@ -365,9 +387,10 @@ impl<'a, E: Platform> RawOsStr<'a, E> {
     pub fn split<P: Pattern>(self, pattern: P) -> RawSplit<'a, E, P>
         requires { P.not_empty pattern }
         ensures bytes { IsSplit (P.text pattern) (raw_bytes self.entry) result }
-        ensures units { IsSplit (E.units (P.text pattern)) (raw_units self.entry) (map E.units result) }
+        ensures units { IsSplit (E.units (P.text pattern)) (raw_units self.entry)
+            (map E.units result) }
     {
-        RawSplit::new(self.string.split(pattern))
+        RawPieces::new(self.string.split(pattern))
     }
 
     /// The pieces between the places of a pattern from the end, each cut at the greatest place
@@ -385,9 +408,10 @@ impl<'a, E: Platform> RawOsStr<'a, E> {
     pub fn rsplit<P: Pattern>(self, pattern: P) -> RawRSplit<'a, E, P>
         requires { P.not_empty pattern }
         ensures bytes { IsRSplit (P.text pattern) (raw_bytes self.entry) result }
-        ensures units { IsRSplit (E.units (P.text pattern)) (raw_units self.entry) (map E.units result) }
+        ensures units { IsRSplit (E.units (P.text pattern)) (raw_units self.entry)
+            (map E.units result) }
     {
-        RawRSplit::new(self.string.rsplit(pattern))
+        RawPieces::new(self.string.rsplit(pattern))
     }
 
     // Characters.
@@ -504,7 +528,8 @@ impl<'a, E: Platform> RawOsStr<'a, E> {
         alloc: A,
         count: usize,
     ) -> Result<RawOsString<E, A>, AllocError>
-        ensures units { IfOk result (λ made. E.units (raw_vec_of made).items ≡ repeat count (raw_units self.entry)) }
+        ensures units { IfOk result (λ made. E.units (raw_vec_of made).items ≡ repeat count
+            (raw_units self.entry)) }
         ensures empty { count * length (raw_bytes self.entry) ≡ 0 → IsOk result }
         ensures overflow { usize.MAX < count * length (raw_bytes self.entry) → IsErr result }
     {

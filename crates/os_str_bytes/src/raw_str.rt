@@ -159,7 +159,8 @@ impl<'a, E: Platform> RawOsStr<'a, E> {
     /// ```
     pub fn cow_from_raw_bytes(raw: &'a [u8]) -> Result<CowRawOsStr<'a, E>, EncodingError>
         ensures bytes { IfOk result (λ cow. raw_cow_bytes cow ≡ raw.now) }
-        ensures cases { MatchResult result (λ _. E.well_formed raw.now) (λ fault. E.first_fault raw.now fault) }
+        ensures cases { MatchResult result (λ _. E.well_formed raw.now)
+            (λ fault. E.first_fault raw.now fault) }
     {
         Ok(CowRawOsStr::Borrowed(RawOsStr::checked(raw)?))
     }
@@ -230,7 +231,8 @@ impl<'a, E: Platform> RawOsStr<'a, E> {
     /// assert_eq!(rt; RawOsStr::<Unix>::from_encoded_bytes_unchecked(b"a\x80").to_str(), None);
     /// ```
     pub fn to_str(self) -> Option<&'a str>
-        ensures { MatchOption result (¬ (IsUtf8 (raw_bytes self.entry))) (λ text. text.now ≡ raw_bytes self.entry) }
+        ensures { MatchOption result (¬ (IsUtf8 (raw_bytes self.entry)))
+            (λ text. text.now ≡ raw_bytes self.entry) }
     {
         self.string.to_str()
     }

@@ -134,7 +134,8 @@ impl<E: Platform, A: Allocator> RawOsString<E, A> {
     /// ```
     pub fn from_raw_vec(raw: Vec<u8, A>) -> Result<Self, EncodingError>
         ensures vec { IfOk result (λ string. raw_vec_of string ≡ raw) }
-        ensures cases { MatchResult result (λ _. E.well_formed raw.items) (λ fault. E.first_fault raw.items fault) }
+        ensures cases { MatchResult result (λ _. E.well_formed raw.items)
+            (λ fault. E.first_fault raw.items fault) }
     {
         E::check(raw.as_slice())?;
         Ok(RawOsString::from_encoded_vec_unchecked(raw))
@@ -191,9 +192,13 @@ impl<E: Platform, A: Allocator> RawOsString<E, A> {
     /// assert!(rt; string.index(3..).eq_str("bar"));
     /// ```
     pub fn index<I: SliceIndex>(&self, range: I) -> RawOsStr<'_, E>
-        requires { FitsIn (raw_vec_of self.now).items (I.first_place range) (I.end_place range (length (raw_vec_of self.now).items)) }
-        ensures bytes { raw_bytes result ≡ drop (I.first_place range) (take (I.end_place range (length (raw_vec_of self.now).items)) (raw_vec_of self.now).items) }
-        ensures units { IsPartInUnits E.units (raw_vec_of self.now).items (I.first_place range) (I.end_place range (length (raw_vec_of self.now).items)) (raw_bytes result) }
+        requires { FitsIn (raw_vec_of self.now).items (I.first_place range)
+            (I.end_place range (length (raw_vec_of self.now).items)) }
+        ensures bytes { raw_bytes result ≡ drop (I.first_place range)
+            (take (I.end_place range (length (raw_vec_of self.now).items))
+            (raw_vec_of self.now).items) }
+        ensures units { IsPartInUnits E.units (raw_vec_of self.now).items (I.first_place range)
+            (I.end_place range (length (raw_vec_of self.now).items)) (raw_bytes result) }
     {
         self.as_raw().index(range)
     }
@@ -231,7 +236,8 @@ impl<E: Platform, A: Allocator> RawOsString<E, A> {
     pub fn truncate(&mut self, at: usize)
         requires { MayTruncate (raw_vec_of self.old).items at }
         ensures items { (raw_vec_of self.new).items ≡ take at (raw_vec_of self.old).items }
-        ensures units { E.units (raw_vec_of self.old).items ≡ E.units (raw_vec_of self.new).items ++ E.units (drop at (raw_vec_of self.old).items) }
+        ensures units { E.units (raw_vec_of self.old).items ≡ E.units (raw_vec_of self.new).items
+            ++ E.units (drop at (raw_vec_of self.old).items) }
         ensures capacity { vec_capacity (raw_vec_of self.new) ≡ vec_capacity (raw_vec_of self.old) }
     {
         self.vec.truncate(at);
@@ -255,10 +261,14 @@ impl<E: Platform, A: Allocator> RawOsString<E, A> {
     where
         A: Clone,
         requires { IsBoundary (raw_vec_of self.old).items at }
-        ensures front { OnOk result ((raw_vec_of self.new).items ≡ take at (raw_vec_of self.old).items) }
-        ensures back { IfOk result (λ back. (raw_vec_of back).items ≡ drop at (raw_vec_of self.old).items) }
-        ensures units { IfOk result (λ back. E.units (raw_vec_of self.old).items ≡ E.units (raw_vec_of self.new).items ++ E.units (raw_vec_of back).items) }
-        ensures unchanged { OnErr result ((raw_vec_of self.new).items ≡ (raw_vec_of self.old).items) }
+        ensures front { OnOk result ((raw_vec_of self.new).items ≡ take at
+            (raw_vec_of self.old).items) }
+        ensures back { IfOk result (λ back. (raw_vec_of back).items ≡ drop at
+            (raw_vec_of self.old).items) }
+        ensures units { IfOk result (λ back. E.units (raw_vec_of self.old).items ≡ E.units
+            (raw_vec_of self.new).items ++ E.units (raw_vec_of back).items) }
+        ensures unchanged { OnErr result
+            ((raw_vec_of self.new).items ≡ (raw_vec_of self.old).items) }
     {
         let alloc = self.vec.allocator().clone()?;
         let back = self.copy_from(alloc, at)?;
@@ -269,7 +279,8 @@ impl<E: Platform, A: Allocator> RawOsString<E, A> {
     /// A copy of the bytes behind a boundary.
     fn copy_from(&self, alloc: A, at: usize) -> Result<Self, AllocError>
         requires { IsBoundary (raw_vec_of self.now).items at }
-        ensures { IfOk result (λ back. (raw_vec_of back).items ≡ drop at (raw_vec_of self.now).items) }
+        ensures { IfOk result (λ back. (raw_vec_of back).items ≡ drop at
+            (raw_vec_of self.now).items) }
     {
         let (_, back) = self.as_raw().split_at(at);
         back.to_owned(alloc)
@@ -313,8 +324,10 @@ impl<E: Platform, A: Allocator> RawOsString<E, A> {
     pub fn shrink_to_fit(&mut self) -> Result<(), AllocError>
         ensures items { (raw_vec_of self.new).items ≡ (raw_vec_of self.old).items }
         ensures no_more { vec_capacity (raw_vec_of self.new) ≤ vec_capacity (raw_vec_of self.old) }
-        ensures full { OnOk result (vec_capacity (raw_vec_of self.new) ≡ vec_len (raw_vec_of self.new)) }
-        ensures room_left { OnErr result (vec_len (raw_vec_of self.new) < vec_capacity (raw_vec_of self.new)) }
+        ensures full { OnOk result (vec_capacity (raw_vec_of self.new) ≡ vec_len
+            (raw_vec_of self.new)) }
+        ensures room_left { OnErr result
+            (vec_len (raw_vec_of self.new) < vec_capacity (raw_vec_of self.new)) }
     {
         self.vec.shrink_to_fit();
         if self.vec.capacity() > self.vec.len() {
@@ -338,7 +351,8 @@ impl<E: Platform, A: Allocator> RawOsString<E, A> {
     /// ```
     pub fn into_box(mut self) -> Result<RawOsStrBox<E, A>, AllocError>
         ensures bytes { IfOk result (λ boxed. box_bytes boxed ≡ (raw_vec_of self).items) }
-        ensures room_left { OnErr result (vec_len (raw_vec_of self) < vec_capacity (raw_vec_of self)) }
+        ensures room_left { OnErr result
+            (vec_len (raw_vec_of self) < vec_capacity (raw_vec_of self)) }
     {
         self.shrink_to_fit()?;
         Ok(self.into_block())
@@ -413,7 +427,8 @@ impl<E: Platform, A: Allocator> RawOsString<E, A> {
     pub fn into_string(self) -> Result<String<A>, Self>
         ensures text { IfOk result (λ text. string_vec text ≡ raw_vec_of self) }
         ensures same { IfErr result (λ string. raw_vec_of string ≡ raw_vec_of self) }
-        ensures cases { MatchResult result (λ _. IsUtf8 (raw_vec_of self).items) (λ _. ¬ (IsUtf8 (raw_vec_of self).items)) }
+        ensures cases { MatchResult result (λ _. IsUtf8 (raw_vec_of self).items)
+            (λ _. ¬ (IsUtf8 (raw_vec_of self).items)) }
     {
         match self.into_os_string().into_string() {
             Ok(text) => Ok(text),

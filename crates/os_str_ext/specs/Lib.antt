@@ -1,6 +1,7 @@
 pub mod Range
 pub mod Patterns
-pub mod PiecesLeft
+pub mod Cuts
+pub mod SomePieces
 pub mod Chunks
 pub mod Parts
 pub mod Symbols

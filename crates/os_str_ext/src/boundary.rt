@@ -60,7 +60,8 @@ pub(crate) fn split_at<'a, E: Platform>(
     requires { IsBoundary (bytes string) at }
     ensures front { bytes result.0 ≡ take at (bytes string.entry) }
     ensures back { bytes result.1 ≡ drop at (bytes string.entry) }
-    ensures units { E.units (bytes string.entry) ≡ E.units (bytes result.0) ++ E.units (bytes result.1) }
+    ensures units { E.units (bytes string.entry) ≡ E.units (bytes result.0)
+        ++ E.units (bytes result.1) }
 {
     let (front, back) = string.as_encoded_bytes().split_at(at);
     (

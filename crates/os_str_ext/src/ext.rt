@@ -18,7 +18,7 @@ use crate::iter::{RSplit, Split};
 use crate::pattern::{Encoded, Pattern};
 use crate::slice_index::SliceIndex;
 use crate::symbols::Symbols;
-use crate::{boundary, characters, parts, repeat, search};
+use crate::{boundary, characters, iter, parts, repeat, search};
 use platform_str::{OsStr, OsStrBytes, OsString, Platform};
 use std::alloc::{AllocError, Allocator};
 
@@ -56,7 +56,9 @@ pub trait OsStrBytesExt<'a>: OsStrBytes<'a> {
         requires { IsBoundary (Self.bytes_of self) at }
         ensures front { Self.bytes_of result.0 ≡ take at (Self.bytes_of self) }
         ensures back { Self.bytes_of result.1 ≡ drop at (Self.bytes_of self) }
-        ensures units { Self.Platform.units (Self.bytes_of self) ≡ Self.Platform.units (Self.bytes_of result.0) ++ Self.Platform.units (Self.bytes_of result.1) };
+        ensures units { Self.Platform.units (Self.bytes_of self)
+            ≡ Self.Platform.units (Self.bytes_of result.0)
+            ++ Self.Platform.units (Self.bytes_of result.1) };
 
     /// The part in a range that fits (test: [`SliceIndex::fits`]), as std's indexing of `str`. The
     /// units before the range, the part's and those after the range, joined, are the string's.
@@ -69,9 +71,13 @@ pub trait OsStrBytesExt<'a>: OsStrBytes<'a> {
     /// assert!(rt; string.index(3..=2).is_empty());
     /// ```
     fn index<I: SliceIndex>(self, range: I) -> Self
-        requires { FitsIn (Self.bytes_of self) (I.first_place range) (I.end_place range (length (Self.bytes_of self))) }
-        ensures bytes { Self.bytes_of result ≡ drop (I.first_place range) (take (I.end_place range (length (Self.bytes_of self))) (Self.bytes_of self)) }
-        ensures units { IsPartInUnits Self.Platform.units (Self.bytes_of self) (I.first_place range) (I.end_place range (length (Self.bytes_of self))) (Self.bytes_of result) };
+        requires { FitsIn (Self.bytes_of self) (I.first_place range)
+            (I.end_place range (length (Self.bytes_of self))) }
+        ensures bytes { Self.bytes_of result
+            ≡ drop (I.first_place range)
+            (take (I.end_place range (length (Self.bytes_of self))) (Self.bytes_of self)) }
+        ensures units { IsPartInUnits Self.Platform.units (Self.bytes_of self) (I.first_place range)
+            (I.end_place range (length (Self.bytes_of self))) (Self.bytes_of result) };
 
     /// The same as [`OsStrBytesExt::index`], as std's `str::get_unchecked`, but safe.
     ///
@@ -81,9 +87,13 @@ pub trait OsStrBytesExt<'a>: OsStrBytes<'a> {
     /// assert!(rt; OsStr::<Unix>::new("foobar").get_unchecked(3..) == OsStr::new("bar"));
     /// ```
     fn get_unchecked<I: SliceIndex>(self, range: I) -> Self
-        requires { FitsIn (Self.bytes_of self) (I.first_place range) (I.end_place range (length (Self.bytes_of self))) }
-        ensures bytes { Self.bytes_of result ≡ drop (I.first_place range) (take (I.end_place range (length (Self.bytes_of self))) (Self.bytes_of self)) }
-        ensures units { IsPartInUnits Self.Platform.units (Self.bytes_of self) (I.first_place range) (I.end_place range (length (Self.bytes_of self))) (Self.bytes_of result) };
+        requires { FitsIn (Self.bytes_of self) (I.first_place range)
+            (I.end_place range (length (Self.bytes_of self))) }
+        ensures bytes { Self.bytes_of result
+            ≡ drop (I.first_place range)
+            (take (I.end_place range (length (Self.bytes_of self))) (Self.bytes_of self)) }
+        ensures units { IsPartInUnits Self.Platform.units (Self.bytes_of self) (I.first_place range)
+            (I.end_place range (length (Self.bytes_of self))) (Self.bytes_of result) };
 
     // Searches.
 
@@ -100,7 +110,8 @@ pub trait OsStrBytesExt<'a>: OsStrBytes<'a> {
     /// ```
     fn find<P: Pattern>(self, pattern: P) -> Option<usize>
         ensures bytes { Finds IsLeastPlace (P.text pattern) (Self.bytes_of self) result }
-        ensures units { FindsInUnits IsLeastPlace Self.Platform.well_formed Self.Platform.units (P.text pattern) (Self.bytes_of self) result }
+        ensures units { FindsInUnits IsLeastPlace Self.Platform.well_formed Self.Platform.units
+            (P.text pattern) (Self.bytes_of self) result }
         ensures edges { MayBeCutAround (Self.bytes_of self) (length (P.text pattern)) result }
         ensures behind { IfSome result (λ at. at + length (P.text pattern) < 2 ^ 64) };
 
@@ -116,7 +127,8 @@ pub trait OsStrBytesExt<'a>: OsStrBytes<'a> {
     /// ```
     fn rfind<P: Pattern>(self, pattern: P) -> Option<usize>
         ensures bytes { Finds IsGreatestPlace (P.text pattern) (Self.bytes_of self) result }
-        ensures units { FindsInUnits IsGreatestPlace Self.Platform.well_formed Self.Platform.units (P.text pattern) (Self.bytes_of self) result }
+        ensures units { FindsInUnits IsGreatestPlace Self.Platform.well_formed Self.Platform.units
+            (P.text pattern) (Self.bytes_of self) result }
         ensures edges { MayBeCutAround (Self.bytes_of self) (length (P.text pattern)) result }
         ensures behind { IfSome result (λ at. at + length (P.text pattern) < 2 ^ 64) };
 
@@ -130,7 +142,8 @@ pub trait OsStrBytesExt<'a>: OsStrBytes<'a> {
     /// ```
     fn contains<P: Pattern>(self, pattern: P) -> bool
         ensures bytes { IsTrue result ↔ StandsSomewhere (P.text pattern) (Self.bytes_of self) }
-        ensures units { IsTrue result ↔ StandsSomewhere (Self.Platform.units (P.text pattern)) (Self.Platform.units (Self.bytes_of self)) };
+        ensures units { IsTrue result ↔ StandsSomewhere (Self.Platform.units (P.text pattern))
+            (Self.Platform.units (Self.bytes_of self)) };
 
     /// Whether a pattern stands at the front.
     ///
@@ -143,7 +156,8 @@ pub trait OsStrBytesExt<'a>: OsStrBytes<'a> {
     /// ```
     fn starts_with<P: Pattern>(self, pattern: P) -> bool
         ensures bytes { IsTrue result ↔ IsFront (P.text pattern) (Self.bytes_of self) }
-        ensures units { IsTrue result ↔ IsFront (Self.Platform.units (P.text pattern)) (Self.Platform.units (Self.bytes_of self)) };
+        ensures units { IsTrue result ↔ IsFront (Self.Platform.units (P.text pattern))
+            (Self.Platform.units (Self.bytes_of self)) };
 
     /// Whether a pattern stands at the end.
     ///
@@ -156,7 +170,8 @@ pub trait OsStrBytesExt<'a>: OsStrBytes<'a> {
     /// ```
     fn ends_with<P: Pattern>(self, pattern: P) -> bool
         ensures bytes { IsTrue result ↔ IsEnd (P.text pattern) (Self.bytes_of self) }
-        ensures units { IsTrue result ↔ IsEnd (Self.Platform.units (P.text pattern)) (Self.Platform.units (Self.bytes_of self)) };
+        ensures units { IsTrue result ↔ IsEnd (Self.Platform.units (P.text pattern))
+            (Self.Platform.units (Self.bytes_of self)) };
 
     /// Whether the units of `front` are a front of the string's; a half of a pair counts.
     ///
@@ -168,7 +183,8 @@ pub trait OsStrBytesExt<'a>: OsStrBytes<'a> {
     /// assert!(rt; string.as_os_str().starts_with_os(high.as_os_str()));
     /// ```
     fn starts_with_os(self, front: Self) -> bool
-        ensures { IsTrue result ↔ IsFront (Self.Platform.units (Self.bytes_of front)) (Self.Platform.units (Self.bytes_of self)) };
+        ensures { IsTrue result ↔ IsFront (Self.Platform.units (Self.bytes_of front))
+            (Self.Platform.units (Self.bytes_of self)) };
 
     /// Whether the units of `end` are an end of the string's; a half of a pair counts.
     ///
@@ -180,7 +196,8 @@ pub trait OsStrBytesExt<'a>: OsStrBytes<'a> {
     /// assert!(rt; string.as_os_str().ends_with_os(low.as_os_str()));
     /// ```
     fn ends_with_os(self, end: Self) -> bool
-        ensures { IsTrue result ↔ IsEnd (Self.Platform.units (Self.bytes_of end)) (Self.Platform.units (Self.bytes_of self)) };
+        ensures { IsTrue result ↔ IsEnd (Self.Platform.units (Self.bytes_of end))
+            (Self.Platform.units (Self.bytes_of self)) };
 
     // Strips and trims.
 
@@ -195,7 +212,9 @@ pub trait OsStrBytesExt<'a>: OsStrBytes<'a> {
     /// ```
     fn strip_prefix<P: Pattern>(self, pattern: P) -> Option<Self>
         ensures bytes { StripsFront Self.bytes_of (P.text pattern) (Self.bytes_of self) result }
-        ensures units { StripsFront (λ part. Self.Platform.units (Self.bytes_of part)) (Self.Platform.units (P.text pattern)) (Self.Platform.units (Self.bytes_of self)) result };
+        ensures units { StripsFront (λ part. Self.Platform.units (Self.bytes_of part))
+            (Self.Platform.units (P.text pattern)) (Self.Platform.units (Self.bytes_of self))
+            result };
 
     /// What stands before a pattern at the end, `None` where it doesn't stand there.
     ///
@@ -207,7 +226,9 @@ pub trait OsStrBytesExt<'a>: OsStrBytes<'a> {
     /// ```
     fn strip_suffix<P: Pattern>(self, pattern: P) -> Option<Self>
         ensures bytes { StripsEnd Self.bytes_of (P.text pattern) (Self.bytes_of self) result }
-        ensures units { StripsEnd (λ part. Self.Platform.units (Self.bytes_of part)) (Self.Platform.units (P.text pattern)) (Self.Platform.units (Self.bytes_of self)) result };
+        ensures units { StripsEnd (λ part. Self.Platform.units (Self.bytes_of part))
+            (Self.Platform.units (P.text pattern)) (Self.Platform.units (Self.bytes_of self))
+            result };
 
     /// The string without each pattern at its front; the whole where the pattern is empty.
     ///
@@ -218,8 +239,12 @@ pub trait OsStrBytesExt<'a>: OsStrBytes<'a> {
     /// assert!(rt; string.trim_start_matches("1") == OsStr::new("foo1"));
     /// ```
     fn trim_start_matches<P: Pattern>(self, pattern: P) -> Self
-        ensures bytes { 0 < length (P.text pattern) → IsStartTrim (P.text pattern) (Self.bytes_of self) (Self.bytes_of result) }
-        ensures units { 0 < length (P.text pattern) → IsStartTrim (Self.Platform.units (P.text pattern)) (Self.Platform.units (Self.bytes_of self)) (Self.Platform.units (Self.bytes_of result)) }
+        ensures bytes { 0 < length (P.text pattern)
+            → IsStartTrim (P.text pattern) (Self.bytes_of self) (Self.bytes_of result) }
+        ensures units { 0 < length (P.text pattern)
+            → IsStartTrim (Self.Platform.units (P.text pattern))
+            (Self.Platform.units (Self.bytes_of self))
+            (Self.Platform.units (Self.bytes_of result)) }
         ensures whole { length (P.text pattern) ≡ 0 → Self.bytes_of result ≡ Self.bytes_of self };
 
     /// The string without each pattern at its end; the whole where the pattern is empty.
@@ -231,8 +256,12 @@ pub trait OsStrBytesExt<'a>: OsStrBytes<'a> {
     /// assert!(rt; string.trim_end_matches('1') == OsStr::new("1bar"));
     /// ```
     fn trim_end_matches<P: Pattern>(self, pattern: P) -> Self
-        ensures bytes { 0 < length (P.text pattern) → IsEndTrim (P.text pattern) (Self.bytes_of self) (Self.bytes_of result) }
-        ensures units { 0 < length (P.text pattern) → IsEndTrim (Self.Platform.units (P.text pattern)) (Self.Platform.units (Self.bytes_of self)) (Self.Platform.units (Self.bytes_of result)) }
+        ensures bytes { 0 < length (P.text pattern)
+            → IsEndTrim (P.text pattern) (Self.bytes_of self) (Self.bytes_of result) }
+        ensures units { 0 < length (P.text pattern)
+            → IsEndTrim (Self.Platform.units (P.text pattern))
+            (Self.Platform.units (Self.bytes_of self))
+            (Self.Platform.units (Self.bytes_of result)) }
         ensures whole { length (P.text pattern) ≡ 0 → Self.bytes_of result ≡ Self.bytes_of self };
 
     /// The string without each pattern at its front, and then without each at its end; the
@@ -246,8 +275,12 @@ pub trait OsStrBytesExt<'a>: OsStrBytes<'a> {
     /// assert!(rt; OsStr::<Unix>::new("aaa").trim_matches("aa") == OsStr::new("a"));
     /// ```
     fn trim_matches<P: Pattern>(self, pattern: P) -> Self
-        ensures bytes { 0 < length (P.text pattern) → IsTrim (P.text pattern) (Self.bytes_of self) (Self.bytes_of result) }
-        ensures units { 0 < length (P.text pattern) → IsTrim (Self.Platform.units (P.text pattern)) (Self.Platform.units (Self.bytes_of self)) (Self.Platform.units (Self.bytes_of result)) }
+        ensures bytes { 0 < length (P.text pattern)
+            → IsTrim (P.text pattern) (Self.bytes_of self) (Self.bytes_of result) }
+        ensures units { 0 < length (P.text pattern)
+            → IsTrim (Self.Platform.units (P.text pattern))
+            (Self.Platform.units (Self.bytes_of self))
+            (Self.Platform.units (Self.bytes_of result)) }
         ensures whole { length (P.text pattern) ≡ 0 → Self.bytes_of result ≡ Self.bytes_of self };
 
     // Pieces.
@@ -262,8 +295,11 @@ pub trait OsStrBytesExt<'a>: OsStrBytes<'a> {
     /// assert!(rt; string.split_once("") == Some((OsStr::new(""), string)));
     /// ```
     fn split_once<P: Pattern>(self, pattern: P) -> Option<(Self, Self)>
-        ensures bytes { SplitsOnce IsLeastPlace Self.bytes_of (P.text pattern) (Self.bytes_of self) result }
-        ensures units { SplitsOnce IsLeastPlace (λ part. Self.Platform.units (Self.bytes_of part)) (Self.Platform.units (P.text pattern)) (Self.Platform.units (Self.bytes_of self)) result };
+        ensures bytes { SplitsOnce IsLeastPlace Self.bytes_of (P.text pattern) (Self.bytes_of self)
+            result }
+        ensures units { SplitsOnce IsLeastPlace (λ part. Self.Platform.units (Self.bytes_of part))
+            (Self.Platform.units (P.text pattern)) (Self.Platform.units (Self.bytes_of self))
+            result };
 
     /// The parts before and behind the greatest place of a pattern, `None` where it stands
     /// nowhere.
@@ -276,8 +312,12 @@ pub trait OsStrBytesExt<'a>: OsStrBytes<'a> {
     /// assert!(rt; string.rsplit_once("") == Some((string, OsStr::new(""))));
     /// ```
     fn rsplit_once<P: Pattern>(self, pattern: P) -> Option<(Self, Self)>
-        ensures bytes { SplitsOnce IsGreatestPlace Self.bytes_of (P.text pattern) (Self.bytes_of self) result }
-        ensures units { SplitsOnce IsGreatestPlace (λ part. Self.Platform.units (Self.bytes_of part)) (Self.Platform.units (P.text pattern)) (Self.Platform.units (Self.bytes_of self)) result };
+        ensures bytes { SplitsOnce IsGreatestPlace Self.bytes_of (P.text pattern)
+            (Self.bytes_of self) result }
+        ensures units { SplitsOnce IsGreatestPlace
+            (λ part. Self.Platform.units (Self.bytes_of part))
+            (Self.Platform.units (P.text pattern)) (Self.Platform.units (Self.bytes_of self))
+            result };
 
     /// The pieces between the places of a pattern, each cut at the least place in what is left.
     /// The pattern isn't empty (test: `str::is_empty`; a `char` never is).
@@ -294,9 +334,10 @@ pub trait OsStrBytesExt<'a>: OsStrBytes<'a> {
     final fn split<P: Pattern>(self, pattern: P) -> Split<'a, Self::Platform, P>
         requires { P.not_empty pattern }
         ensures bytes { IsSplit (P.text pattern) (Self.bytes_of self) result }
-        ensures units { IsSplit (Self.Platform.units (P.text pattern)) (Self.Platform.units (Self.bytes_of self)) (map Self.Platform.units result) }
+        ensures units { IsSplit (Self.Platform.units (P.text pattern))
+            (Self.Platform.units (Self.bytes_of self)) (map Self.Platform.units result) }
     {
-        Split::new(
+        iter::split(
             OsStr::from_encoded_bytes_unchecked(self.encoded_bytes()),
             pattern,
         )
@@ -316,9 +357,10 @@ pub trait OsStrBytesExt<'a>: OsStrBytes<'a> {
     final fn rsplit<P: Pattern>(self, pattern: P) -> RSplit<'a, Self::Platform, P>
         requires { P.not_empty pattern }
         ensures bytes { IsRSplit (P.text pattern) (Self.bytes_of self) result }
-        ensures units { IsRSplit (Self.Platform.units (P.text pattern)) (Self.Platform.units (Self.bytes_of self)) (map Self.Platform.units result) }
+        ensures units { IsRSplit (Self.Platform.units (P.text pattern))
+            (Self.Platform.units (Self.bytes_of self)) (map Self.Platform.units result) }
     {
-        RSplit::new(
+        iter::rsplit(
             OsStr::from_encoded_bytes_unchecked(self.encoded_bytes()),
             pattern,
         )
@@ -436,7 +478,8 @@ pub trait OsStrBytesExt<'a>: OsStrBytes<'a> {
         alloc: A,
         count: usize,
     ) -> Result<OsString<Self::Platform, A>, AllocError>
-        ensures units { IfOk result (λ made. Self.Platform.units (string_vec_of made).items ≡ repeat count (Self.Platform.units (Self.bytes_of self))) }
+        ensures units { IfOk result (λ made. Self.Platform.units (string_vec_of made).items ≡ repeat
+            count (Self.Platform.units (Self.bytes_of self))) }
         ensures empty { count * length (Self.bytes_of self) ≡ 0 → IsOk result }
         ensures overflow { usize.MAX < count * length (Self.bytes_of self) → IsErr result }
     {

@@ -37,7 +37,7 @@ mod symbols;
 
 pub use chunks::Utf8Chunks;
 pub use ext::OsStrBytesExt;
-pub use iter::{RSplit, Split};
+pub use iter::{Direction, FromEnd, FromStart, Pieces, RSplit, Split};
 pub use os_units::{NonUnicodeOsStr, OsUnit, OsUnits};
 pub use pattern::{Encoded, EncodedChar, Pattern};
 pub use platform_str::{

@@ -87,7 +87,8 @@ impl<'a, E: Platform> NonUnicodeOsStr<'a, E> {
     /// The first unit of a part that isn't empty, and the rest of the part.
     fn split_first(self) -> (OsUnit, Self)
         requires { 0 < length (part_bytes self) }
-        ensures { E.units (part_bytes self.entry) ≡ unit_number result.0 ∷ E.units (part_bytes result.1) }
+        ensures { E.units (part_bytes self.entry)
+            ≡ unit_number result.0 ∷ E.units (part_bytes result.1) }
     {
         let bytes = self.string.as_encoded_bytes();
         let (number, size) = E::first_unit(bytes);

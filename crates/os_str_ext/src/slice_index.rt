@@ -29,7 +29,8 @@ pub trait SliceIndex: Sized {
     /// assert!(rt; !(..7).fits(string) && !(..=usize::MAX).fits(string));
     /// ```
     fn fits<E: Platform>(&self, string: OsStr<'_, E>) -> bool
-        ensures { IsTrue result ↔ FitsIn (bytes string.entry) (first_place self.now) (end_place self.now (length (bytes string.entry))) };
+        ensures { IsTrue result ↔ FitsIn (bytes string.entry) (first_place self.now)
+            (end_place self.now (length (bytes string.entry))) };
 
     /// The bytes of the string in the range, which fits (test: [`SliceIndex::fits`]). Its units
     /// are those of the string without the units before the range and those after it.
@@ -42,9 +43,12 @@ pub trait SliceIndex: Sized {
     /// assert!(rt; (..).index(string) == string);
     /// ```
     fn index<'a, E: Platform>(self, string: OsStr<'a, E>) -> OsStr<'a, E>
-        requires { FitsIn (bytes string) (first_place self) (end_place self (length (bytes string))) }
-        ensures bytes { bytes result ≡ drop (first_place self) (take (end_place self (length (bytes string.entry))) (bytes string.entry)) }
-        ensures units { IsPartInUnits E.units (bytes string.entry) (first_place self) (end_place self (length (bytes string.entry))) (bytes result) };
+        requires { FitsIn (bytes string) (first_place self)
+            (end_place self (length (bytes string))) }
+        ensures bytes { bytes result ≡ drop (first_place self)
+            (take (end_place self (length (bytes string.entry))) (bytes string.entry)) }
+        ensures units { IsPartInUnits E.units (bytes string.entry) (first_place self)
+            (end_place self (length (bytes string.entry))) (bytes result) };
 
     /// The same part as [`SliceIndex::index`], as std's `str::get_unchecked`, but safe.
     ///
@@ -54,9 +58,12 @@ pub trait SliceIndex: Sized {
     /// assert!(rt; (..=1).get_unchecked(OsStr::<Unix>::new("foobar")) == OsStr::new("fo"));
     /// ```
     fn get_unchecked<'a, E: Platform>(self, string: OsStr<'a, E>) -> OsStr<'a, E>
-        requires { FitsIn (bytes string) (first_place self) (end_place self (length (bytes string))) }
-        ensures bytes { bytes result ≡ drop (first_place self) (take (end_place self (length (bytes string.entry))) (bytes string.entry)) }
-        ensures units { IsPartInUnits E.units (bytes string.entry) (first_place self) (end_place self (length (bytes string.entry))) (bytes result) }
+        requires { FitsIn (bytes string) (first_place self)
+            (end_place self (length (bytes string))) }
+        ensures bytes { bytes result ≡ drop (first_place self)
+            (take (end_place self (length (bytes string.entry))) (bytes string.entry)) }
+        ensures units { IsPartInUnits E.units (bytes string.entry) (first_place self)
+            (end_place self (length (bytes string.entry))) (bytes result) }
     {
         self.index(string)
     }

@@ -133,7 +133,8 @@ fn first_symbol<'a, E: Platform>(
     bare: usize,
 ) -> Option<(Symbol, Symbols<'a, E>)>
     requires { AreKnown (bytes string) after_part after_text bare }
-    ensures { MatchOption result (symbols_of E.units (bytes string.entry) ≡ []) (λ first. symbols_of E.units (bytes string.entry) ≡ first.0 ∷ first.1) }
+    ensures { MatchOption result (symbols_of E.units (bytes string.entry) ≡ [])
+        (λ first. symbols_of E.units (bytes string.entry) ≡ first.0 ∷ first.1) }
 {
     if string.len() > after_text {
         return Some(first_of_chunk(string, after_part, after_text, bare));

@@ -1,5 +1,5 @@
 use Rattle.std.proofs.Common.{◌∷◌, ap, ◌∙◌}
-use Rattle.os_glob.specs.Pattern.{token_of}
+use Rattle.os_glob.specs.Held.{token_of}
 use Rattle.os_glob.proofs.Steps.{at_end, one_more}
 use Rattle.os_glob.proofs.matching.first_piece.Goals as goal
 

@@ -1,5 +1,5 @@
 use Rattle.std.proofs.Common.{◌∷◌, ◌↔◌, ◌+◌, length}
-use Rattle.os_glob.specs.declared.token.Wildcard.TheVariants.{DoubleStar}
+use Rattle.os_glob.specs.declared.item.Wildcard.TheVariants.{DoubleStar}
 use Rattle.os_glob.specs.Pattern.{Run}
 use Rattle.os_glob.specs.Match.{Matches}
 use Rattle.os_glob.proofs.matching.is_after_double_star.Given as goal

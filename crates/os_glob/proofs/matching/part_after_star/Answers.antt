@@ -1,5 +1,5 @@
 use Rattle.std.proofs.Common.{◌≡◌, ◌∷◌, true, false, refl, sym, ◌∙◌, subst}
-use Rattle.os_glob.specs.declared.token.Wildcard.TheVariants.{Star, DoubleStar}
+use Rattle.os_glob.specs.declared.item.Wildcard.TheVariants.{Star, DoubleStar}
 use Rattle.os_glob.specs.Pattern.{Run}
 use Rattle.os_glob.specs.Match.{Matches}
 use Rattle.os_glob.specs.Parts.{GoesOn}

@@ -1,7 +1,7 @@
 use Rattle.std.proofs.Common.{◌++◌, sym, ap, ◌∙◌}
 use Rattle.std.specs.Char.{encode_utf8}
 use Rattle.std.proofs.lemmas.Str.{chars_past_char}
-use Rattle.os_glob.proofs.token.first_char.Goals as goal
+use Rattle.os_glob.proofs.text.first_char.Goals as goal
 
 pub returns-clause-first : goal.returns-clause-first
 returns-clause-first c =

@@ -1,0 +1,79 @@
+-- The items of a pattern: what its characters say, from the first on (POSIX, "Shell Command Language", 2.13).
+use Rattle.std.specs.Prelude.{◌≡◌, Bool, true, false, if◌then◌else◌, ℕ, zero, suc, ◌-◌, nat_eq, List, [], ◌∷◌, ◌++◌, length, Option, Some, None}
+use Rattle.std.specs.Str.{chars, encode_utf8_all}
+use Rattle.os_glob.specs.declared.error.GlobError.{GlobError}
+use Rattle.os_glob.specs.declared.error.GlobErrorKind.{GlobErrorKind}
+use Rattle.os_glob.specs.declared.error.GlobErrorKind.TheVariants.{UnclosedClass, ReversedRange, DanglingEscape}
+use Rattle.os_glob.specs.declared.item.Wildcard.{Wildcard}
+use Rattle.os_glob.specs.declared.item.Wildcard.TheVariants.{Star, DoubleStar}
+use Rattle.os_glob.specs.Members.{Member, members, after_class, first_reversed}
+
+-- a wildcard, a `?`, a character that stands for itself, a class with its members, which may be negated, or a fault with the characters from its index on
+pub data Item : Type 0 where
+  Run : Wildcard → Item
+  AnyOne : Item
+  Literal : ℕ → Item
+  OneOf : Bool → List Member → Item
+  Refused : GlobErrorKind → List ℕ → Item
+
+-- what begins with `*`, and what comes after it
+abbrev pub read_star : List ℕ → Item × List ℕ
+read_star [] = (Run Star, [])
+read_star (c ∷ cs) = if nat_eq c 0x2A then (Run DoubleStar, cs) else (Run Star, c ∷ cs)
+
+-- the characters ps, which begin with `\`
+abbrev pub read_quoted : List ℕ → List ℕ → Item × List ℕ
+read_quoted ps [] = (Refused DanglingEscape ps, [])
+read_quoted ps (c ∷ cs) = (Literal c, cs)
+
+-- whether a class is negated, and the characters from its first member on
+abbrev pub class_start : List ℕ → Bool × List ℕ
+class_start [] = (false, [])
+class_start (c ∷ cs) = if nat_eq c 0x21 then (true, cs) else (false, c ∷ cs)
+
+-- a class, by what comes after it and its first reversed range; nothing after a fault is read
+abbrev pub class_item : List ℕ → Bool → List Member → Option (List ℕ) → Option (List ℕ) → Item × List ℕ
+class_item ps negated ms None reversed = (Refused UnclosedClass ps, [])
+class_item ps negated ms (Some rest) (Some from) = (Refused ReversedRange from, [])
+class_item ps negated ms (Some rest) None = (OneOf negated ms, rest)
+
+-- the characters ps, which begin with `[`
+abbrev pub read_class : List ℕ → List ℕ → Item × List ℕ
+read_class ps cs =
+    class_item ps (class_start cs).0 (members true (class_start cs).1) (after_class true (class_start cs).1) (first_reversed (members true (class_start cs).1))
+
+-- what begins with a character
+abbrev pub read : ℕ → List ℕ → Item × List ℕ
+read c cs =
+    if nat_eq c 0x2A then read_star cs else (if nat_eq c 0x3F then (AnyOne, cs) else (if nat_eq c 0x5C then read_quoted (c ∷ cs) cs else (if nat_eq c 0x5B then read_class (c ∷ cs) cs else (Literal c, cs))))
+
+-- the items after so many characters
+abbrev pub items_behind : ℕ → List ℕ → List Item
+items_behind n [] = []
+items_behind (suc n) (c ∷ cs) = items_behind n cs
+items_behind zero (c ∷ cs) = (read c cs).0 ∷ items_behind (length cs - length (read c cs).1) cs
+
+-- the items of a pattern's characters
+abbrev pub items : List ℕ → List Item
+items cs = items_behind 0 cs
+
+-- the first fault, and the characters from its index on
+abbrev pub first_fault : List Item → Option (GlobErrorKind × List ℕ)
+first_fault [] = None
+first_fault (Refused kind from ∷ xs) = Some (kind, from)
+first_fault (Run w ∷ xs) = first_fault xs
+first_fault (AnyOne ∷ xs) = first_fault xs
+first_fault (Literal c ∷ xs) = first_fault xs
+first_fault (OneOf negated ms ∷ xs) = first_fault xs
+
+-- no item of the pattern is refused
+abbrev pub IsWellFormed : List ℕ → Type 0
+IsWellFormed pattern = first_fault (items (chars pattern)) ≡ None
+
+-- this is the pattern's first fault, at the byte index where the characters before it end
+pub record IsFirstFault (pattern : List ℕ) (error : GlobError) : Type 0 where
+  pub before : List ℕ
+  pub from : List ℕ
+  pub joined : chars pattern ≡ before ++ from
+  pub first : first_fault (items (chars pattern)) ≡ Some (error.kind, from)
+  pub index : error.index ≡ length (encode_utf8_all before)
