@@ -1,17 +1,19 @@
 -- What was taken of the words, joined again, is the words.
-use Rattle.std.proofs.Common.{◌≡◌, ◌≢◌, ◌⊎◌, inl, inr, ℕ, suc, ◌+◌, Bool, true, false, List, [], ◌∷◌, ◌++◌, map, drop, length, Option, Some, None, Result, Ok, Err, refl, sym, ap, ◌∙◌, subst, arith, append_assoc, append-nil}
+use Rattle.std.proofs.Common.{◌≡◌, ◌≢◌, ◌⊎◌, inl, inr, ℕ, suc, ◌+◌, ◌<◌, ◌≤◌, Bool, true, false, List, [], ◌∷◌, ◌++◌, map, drop, length, Option, Some, None, Result, Ok, Err, refl, sym, ap, ◌∙◌, subst, arith, append_assoc, append-nil, length-append}
 use Rattle.std.proofs.Math.Seq.{drop-length}
+use Rattle.std.proofs.lemmas.List.{drop-drop}
 use Rattle.std.specs.Char.{encode_utf8}
 use Rattle.std.specs.List.{flat_map}
+use Rattle.os_str_ext.specs.Patterns.{char_has_bytes}
 use Rattle.os_args.specs.Word.{Kind, Long, LongBytes, Short, ShortBytes, Value, dash, dashes, equals, IsNamed, IsFlag, IsLongOption, IsShortOption, IsOperand, IsReadAs, IsValueOf}
 use Rattle.os_args.specs.Reading.{Fault, UnexpectedValue, MissingValue, UnexpectedArgument, Reading, words_left, SkipsDashes, IsReadIn, TakesFlag, TakesNext, TakesNone, TakesWhole, DropsValue, TakesWord, TakesPending, LacksValue, TakesValue, TakesOptionalValue, DropsPending, TakesRest}
-use Rattle.os_args.specs.Joining.{Mark, Bare, Dash, Dashes, Equals, mark_bytes, Piece, Inner, Last, Separator, before_words, pieces_joined, piece_texts, with_pending, all_left, Step, Next, TookValue, TookOptionalValue, TookRest, IsStep, AreSteps, kind_text, fault_texts, step_texts, IsJoinedAgain}
+use Rattle.os_args.specs.Joining.{Mark, Bare, Dash, Dashes, Equals, mark_bytes, Piece, Inner, Last, Separator, joined_to, before_words, pieces_joined, piece_texts, with_pending, all_left, weight, Step, Next, TookValue, TookOptionalValue, TookRest, IsStep, AreSteps, kind_text, fault_texts, step_texts, IsJoinedAgain}
 
 -- these texts were taken, and what is left is `left`, of what was there
-record Joins (all left texts : List (List ℕ)) : Type 0 where
+record Joins (all left ts : List (List ℕ)) : Type 0 where
   pub pieces : List Piece
   pub joined : pieces_joined pieces left ≡ all
-  pub texts : piece_texts pieces ≡ texts
+  pub texts : piece_texts pieces ≡ ts
 
 tails : {A : Type 0} {a b : A} {x y : List A} → a ∷ x ≡ b ∷ y → x ≡ y
 tails e = cc
@@ -90,10 +92,7 @@ word_read false numbers s kind rest words (inr (inr h)) = whole s kind rest word
 
 -- after so many words and one more
 one_more : (n : ℕ) (word : List ℕ) (words more : List (List ℕ)) → drop n words ≡ word ∷ more → drop (n + 1) words ≡ more
-one_more 0 word [] more e = let never = e in cc
-one_more 0 word (x ∷ words) more e = tails e
-one_more (suc n) word [] more e = let never = e in cc
-one_more (suc n) word (x ∷ words) more e = one_more n word words more e
+one_more n word words more e = sym (drop-drop 1 n words) ∙ ap (drop 1) e
 
 -- `--` is skipped
 skipped : (before between : Reading) → SkipsDashes before between → Joins (words_left before) (words_left between) []
@@ -156,7 +155,7 @@ none_taken before after h =
     (subst (λ x. Joins (words_left before) x []) (sym (none_pending after.pending (words_left after) (same_pending before after h.skips ∙ h.none_pending))) (skipped before after h.skips))
 
 -- words as they are
-bare_words : List (List ℕ) → List Piece
+abbrev bare_words : List (List ℕ) → List Piece
 bare_words [] = []
 bare_words (word ∷ words) = Last Bare word ∷ bare_words words
 
@@ -212,3 +211,69 @@ pub nothing_lost : (before : Reading) (steps : List Step) (after : Reading) → 
 nothing_lost before steps after h =
     let j = all_steps before steps after h in
     record { pieces = j.pieces; joined = j.joined; texts = j.texts }
+
+-- no step leaves more
+joined_weight : (s : List ℕ) (words : List (List ℕ)) → weight words ≤ weight (joined_to s words)
+joined_weight s [] = omega arith
+joined_weight s (word ∷ words) = omega (arith, length-append s word)
+
+piece_weight : (piece : Piece) (words : List (List ℕ)) → weight words ≤ weight (before_words piece words)
+piece_weight (Inner m t) words = joined_weight (mark_bytes m ++ t) words
+piece_weight (Last m t) words = omega arith
+piece_weight Separator words = omega arith
+
+pieces_weight : (pieces : List Piece) (words : List (List ℕ)) → weight words ≤ weight (pieces_joined pieces words)
+pieces_weight [] words = omega arith
+pieces_weight (p ∷ pieces) words = omega (arith, pieces_weight pieces words, piece_weight p (pieces_joined pieces words))
+
+joins_weight : (all left texts : List (List ℕ)) → Joins all left texts → weight left ≤ weight all
+joins_weight all left texts h = omega (arith, pieces_weight h.pieces left, ap weight h.joined)
+
+pub never_more : (before : Reading) (step : Step) (after : Reading) → IsStep before step after → weight (all_left after) ≤ weight (all_left before)
+never_more before step after h = joins_weight (all_left before) (all_left after) (step_texts step) (one_step before step after h)
+
+-- what is read leaves less
+shorter : (s front rest : List ℕ) (words : List (List ℕ)) → s ≡ front ++ rest → ((rest ≡ []) ⊎ (0 < length front)) → weight (with_pending rest words) < weight (s ∷ words)
+shorter s front [] words e h = omega arith
+shorter s front (b ∷ rest) words e (inl h) = let never = h in cc
+shorter s front (b ∷ rest) words e (inr h) = omega (arith, h, ap length e, length-append front (b ∷ rest))
+
+flag_shorter : (m : Mark) (s flags : List ℕ) (kind : Kind) (rest : List ℕ) (words : List (List ℕ)) → s ≡ mark_bytes m ++ flags → IsFlag flags kind rest → weight (with_pending rest words) < weight (s ∷ words)
+flag_shorter m s flags (Long n) rest words e h = absurd h
+flag_shorter m s flags (LongBytes n) rest words e h = absurd h
+flag_shorter m s flags (Short c) rest words e h =
+    shorter s (mark_bytes m ++ encode_utf8 c) rest words (e ∙ ap (λ x. mark_bytes m ++ x) h.1 ∙ sym (append_assoc (mark_bytes m) (encode_utf8 c) rest))
+    (inr (omega (arith, length-append (mark_bytes m) (encode_utf8 c), (char_has_bytes c).0 tt)))
+flag_shorter m s flags (ShortBytes all) rest words e h =
+    shorter s s rest words (sym (append-nil s) ∙ ap (λ x. s ++ x) (sym h.1.1.1)) (inl h.1.1.1)
+flag_shorter m s flags (Value v) rest words e h = absurd h
+
+named_shorter : (s text : List ℕ) (kind : Kind) (rest : List ℕ) (words : List (List ℕ)) → s ≡ dashes ++ text → IsNamed text kind rest → weight (with_pending rest words) < weight (s ∷ words)
+named_shorter s text (Long n) rest words e h = shorter s (dashes ++ n) rest words (e ∙ ap (λ x. dashes ++ x) h.1.joined) (inr (omega arith))
+named_shorter s text (LongBytes n) rest words e h = shorter s (dashes ++ n) rest words (e ∙ ap (λ x. dashes ++ x) h.1.joined) (inr (omega arith))
+named_shorter s text (Short c) rest words e h = absurd h
+named_shorter s text (ShortBytes all) rest words e h = absurd h
+named_shorter s text (Value v) rest words e h = absurd h
+
+whole_shorter : (s rest : List ℕ) (words : List (List ℕ)) → rest ≡ [] → weight (with_pending rest words) < weight (s ∷ words)
+whole_shorter s rest words e = shorter s s rest words (sym (append-nil s) ∙ ap (λ x. s ++ x) (sym e)) (inl e)
+
+read_shorter : (ended numbers : Bool) (s : List ℕ) (kind : Kind) (rest : List ℕ) (words : List (List ℕ)) → IsReadIn ended numbers s kind rest → weight (with_pending rest words) < weight (s ∷ words)
+read_shorter true numbers s kind rest words h = whole_shorter s rest words h.1
+read_shorter false numbers s kind rest words (inl h) = named_shorter s h.text kind rest words h.joined h.named
+read_shorter false numbers s kind rest words (inr (inl h)) = flag_shorter Dash s h.flags kind rest words h.joined h.flag
+read_shorter false numbers s kind rest words (inr (inr h)) = whole_shorter s rest words h.whole
+
+pub less_left : (before : Reading) (kind : Kind) (after : Reading) → TakesWord before (Ok (Some kind)) after → weight (all_left after) < weight (all_left before)
+less_left before kind after (inl h) =
+    omega (arith,
+      flag_shorter Bare before.pending before.pending kind after.pending (words_left before) refl h.flag,
+      ap (λ ws. weight (with_pending after.pending ws)) (ap words_left h.same),
+      ap weight (some_pending before.pending (words_left before) h.some))
+less_left before kind after (inr h) =
+    omega (arith,
+      read_shorter h.between.ended h.between.numbers h.word kind after.pending h.more h.read,
+      ap (λ ws. weight (with_pending after.pending ws)) (ap words_left h.same ∙ one_more h.between.place h.word h.between.given h.more h.next),
+      ap weight h.next,
+      joins_weight (words_left before) (words_left h.between) [] (skipped before h.between h.skips),
+      ap weight (none_pending before.pending (words_left before) h.none_pending))

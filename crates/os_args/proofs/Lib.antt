@@ -4,3 +4,4 @@ pub mod FirstFlag
 pub mod NameEnd
 pub mod OneReading
 pub mod Joined
+pub mod Steps

@@ -57,7 +57,7 @@ not_bare s rest c scalar e bare = bare (length (form c)) (record {
   char = c;
   scalar = scalar;
   stands = record { before = []; behind = rest; joined = e ∙ ap (λ x. x ++ rest) (sym (form_encode c)); place = refl };
-  end = refl;
+  end = omega arith;
 })
 
 one_flag : (s : List ℕ) (kind other : Kind) (rest left : List ℕ) → IsFlag s kind rest → IsFlag s other left → (kind ≡ other) × (rest ≡ left)

@@ -1,5 +1,5 @@
 -- The words of a command line, joined again from what was taken of them.
-use Rattle.std.specs.Prelude.{◌≡◌, ℕ, Bool, true, false, List, [], ◌∷◌, ◌++◌, map, Option, Some, None, Result, Ok, Err}
+use Rattle.std.specs.Prelude.{◌≡◌, ℕ, ◌+◌, List, [], ◌∷◌, ◌++◌, length, Option, Some, None, Result, Ok, Err}
 use Rattle.std.specs.Char.{encode_utf8}
 use Rattle.std.specs.List.{flat_map}
 use Rattle.os_args.specs.Word.{Kind, Long, LongBytes, Short, ShortBytes, Value, dash, dashes, equals}
@@ -55,6 +55,11 @@ with_pending (b ∷ s) words = (b ∷ s) ∷ words
 -- all that is left: of the last word that was taken, and the words after it
 abbrev pub all_left : Reading → List (List ℕ)
 all_left r = with_pending r.pending (words_left r)
+
+-- how many words there are, and how many bytes in them
+abbrev pub weight : List (List ℕ) → ℕ
+weight [] = 0
+weight (word ∷ words) = 1 + (length word + weight words)
 
 -- a step, and what it gave
 pub data Step : Type 0 where

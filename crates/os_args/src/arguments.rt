@@ -12,7 +12,30 @@ use crate::word::{Word, read_flag, read_word, value_of};
 use crate::words::{all_after, first_after, is_dashes};
 use os_str_ext::{OsStr, OsStrBytesExt, Platform};
 
-/// The words of a command line, taken step by step.
+/// The words of a command line, taken step by step (lexopt's `Parser`).
+///
+/// [`Arguments::next`] gives options and operands; after an option, [`Arguments::value`] or
+/// [`Arguments::optional_value`] takes its value. Names are compared by `match`:
+///
+/// ```
+/// use os_args::{Arguments, Word};
+/// use os_str_bytes::{OsStr, Unix};
+///
+/// let words = [OsStr::<Unix>::new("-o=a"), OsStr::new("--verbose"), OsStr::new("b")];
+/// let mut arguments = Arguments::new(words.as_slice());
+/// let (mut output, mut verbose, mut file) = (None, false, None);
+/// while let Ok(Some(word)) = arguments.next() {
+///     match word {
+///         Word::Short('o') | Word::Long("output") => output = arguments.value().ok(),
+///         Word::Short('v') | Word::Long("verbose") => verbose = true,
+///         Word::Value(name) => file = Some(name),
+///         _ => break,
+///     }
+/// }
+/// assert!(rt; output == Some(OsStr::new("a")) && verbose && file == Some(OsStr::new("b")));
+/// ```
+///
+/// No call takes memory.
 #[derive(Drop)]
 pub struct Arguments<'s, 'a, E: Platform + 'a> {
     words: &'s [OsStr<'a, E>],
@@ -25,7 +48,19 @@ pub struct Arguments<'s, 'a, E: Platform + 'a> {
 }
 
 impl<'s, 'a, E: Platform> Arguments<'s, 'a, E> {
-    /// The words of a command line, without the program's name.
+    /// The words of a command line, without the program's name (lexopt's `Parser::from_args`).
+    ///
+    /// Of the words `-v` and `file` the first that [`Arguments::next`] gives is `Word::Short('v')`.
+    ///
+    /// ```
+    /// use os_args::{Arguments, Word};
+    /// use os_str_bytes::{OsStr, Unix};
+    ///
+    /// let words = [OsStr::<Unix>::new("-v")];
+    /// let mut arguments = Arguments::new(words.as_slice());
+    /// assert!(rt; matches!(arguments.next(), Ok(Some(Word::Short('v')))));
+    /// assert!(rt; matches!(arguments.next(), Ok(None)));
+    /// ```
     pub fn new(words: &'s [OsStr<'a, E>]) -> Self
         ensures { reading result ≡ record { given = map bytes words.now; place = 0; pending = []; ended = false; numbers = false; last = None } }
     {
@@ -39,7 +74,21 @@ impl<'s, 'a, E: Platform> Arguments<'s, 'a, E> {
         }
     }
 
-    /// The same words, where each that starts as a negative number does is a value.
+    /// The same words, where each that starts with `-` and a digit, or with `-.` and a digit, is a
+    /// value (clap's `allow_negative_numbers`).
+    ///
+    /// Then `-5` and `-.5` are values; else they are the flags `5`, and `.` and `5`.
+    ///
+    /// ```
+    /// use os_args::{Arguments, Word};
+    /// use os_str_bytes::{OsStr, Unix};
+    ///
+    /// let words = [OsStr::<Unix>::new("-5")];
+    /// let mut arguments = Arguments::new(words.as_slice());
+    /// assert!(rt; matches!(arguments.next(), Ok(Some(Word::Short('5')))));
+    /// let mut arguments = Arguments::new(words.as_slice()).numbers_as_values();
+    /// assert!(rt; matches!(arguments.next(), Ok(Some(Word::Value(_)))));
+    /// ```
     pub fn numbers_as_values(mut self) -> Self
         ensures { reading result ≡ with_numbers (reading self.entry) }
     {
@@ -47,7 +96,31 @@ impl<'s, 'a, E: Platform> Arguments<'s, 'a, E> {
         self
     }
 
-    /// Takes one option or operand.
+    /// Takes one option or operand, and `None` once there are no more (lexopt's `Parser::next`).
+    ///
+    /// `--name` and `--name=value` give [`Word::Long`]; the name ends at the first `=`. `-abc` gives
+    /// the flags `a`, `b` and `c`, one at a time: whole characters, and where no character is first,
+    /// all that is left of the word as [`Word::ShortBytes`]. The word `--` is skipped, and each word
+    /// after it is a [`Word::Value`]. So is `-`, the empty word, and one that starts with no dash.
+    ///
+    /// # Errors
+    ///
+    /// [`ArgumentError::UnexpectedValue`] where `=value` is left of an option's word, since nothing
+    /// took it. The value is dropped: the next call goes on after it.
+    ///
+    /// Of the words `-v=1` and `a` the calls give `Word::Short('v')`, that error with the value `1`,
+    /// and `Word::Value` of `a`.
+    ///
+    /// ```
+    /// use os_args::{Arguments, Word};
+    /// use os_str_bytes::{OsStr, Unix};
+    ///
+    /// let words = [OsStr::<Unix>::new("-v=1"), OsStr::new("a")];
+    /// let mut arguments = Arguments::new(words.as_slice());
+    /// assert!(rt; matches!(arguments.next(), Ok(Some(Word::Short('v')))));
+    /// assert!(rt; arguments.next().is_err());
+    /// assert!(rt; matches!(arguments.next(), Ok(Some(Word::Value(_)))));
+    /// ```
     pub fn next(
         &mut self,
     ) -> Result<Option<Word<'a, OsStr<'a, E>>>, ArgumentError<'a, OsStr<'a, E>>>
@@ -90,7 +163,28 @@ impl<'s, 'a, E: Platform> Arguments<'s, 'a, E> {
         }
     }
 
-    /// Takes the value of the option that was read last.
+    /// Takes the value of the option that was read last: the rest of its word without the `=` it
+    /// starts with, or else the whole next word, whatever that is (lexopt's `Parser::value`). It is
+    /// handed over byte for byte.
+    ///
+    /// Of `--name=value`, of `--name` and `value`, of `-nvalue`, of `-n=value`, and of `-n` and
+    /// `value`, after the option was read, it is `value`.
+    ///
+    /// # Errors
+    ///
+    /// [`ArgumentError::MissingValue`] where no word is left.
+    ///
+    /// ```
+    /// use os_args::{Arguments, Word};
+    /// use os_str_bytes::{OsStr, Unix};
+    ///
+    /// let words = [OsStr::<Unix>::new("--name=a=b"), OsStr::new("c")];
+    /// let mut arguments = Arguments::new(words.as_slice());
+    /// assert!(rt; matches!(arguments.next(), Ok(Some(Word::Long("name")))));
+    /// assert!(rt; arguments.value().ok() == Some(OsStr::new("a=b")));
+    /// assert!(rt; arguments.value().ok() == Some(OsStr::new("c")));
+    /// assert!(rt; arguments.value().is_err());
+    /// ```
     pub fn value(&mut self) -> Result<OsStr<'a, E>, ArgumentError<'a, OsStr<'a, E>>>
         ensures { TakesValue (reading self.old) (outcome_of bytes result) (reading self.new) }
     {
@@ -104,7 +198,21 @@ impl<'s, 'a, E: Platform> Arguments<'s, 'a, E> {
         Ok(word)
     }
 
-    /// Takes the value of the option that was read last, where it is in the option's word.
+    /// Takes the value of the option that was read last where it is in the option's own word, else
+    /// `None` (lexopt's `Parser::optional_value`).
+    ///
+    /// Of `--name=value`, `-nvalue` and `-n=value` it is `value`; of `--name` and `value` it is
+    /// `None`, and the next word stays.
+    ///
+    /// ```
+    /// use os_args::{Arguments, Word};
+    /// use os_str_bytes::{OsStr, Unix};
+    ///
+    /// let words = [OsStr::<Unix>::new("-n"), OsStr::new("a")];
+    /// let mut arguments = Arguments::new(words.as_slice());
+    /// assert!(rt; matches!(arguments.next(), Ok(Some(Word::Short('n')))));
+    /// assert!(rt; arguments.optional_value().is_none());
+    /// ```
     pub fn optional_value(&mut self) -> Option<OsStr<'a, E>>
         ensures { TakesOptionalValue (reading self.old) (option_map bytes result) (reading self.new) }
     {
@@ -116,7 +224,26 @@ impl<'s, 'a, E: Platform> Arguments<'s, 'a, E> {
         Some(value)
     }
 
-    /// Takes all words that are left.
+    /// Takes all words that are left as they are, a `--` among them too (lexopt's
+    /// `Parser::raw_args`).
+    ///
+    /// After the flag of `-a`, of the words `-a`, `--` and `b`, they are `--` and `b`.
+    ///
+    /// # Errors
+    ///
+    /// [`ArgumentError::UnexpectedValue`] where a rest of the last word is left, since nothing took
+    /// it. The rest is dropped: the next call gives the words.
+    ///
+    /// ```
+    /// use os_args::{Arguments, Word};
+    /// use os_str_bytes::{OsStr, Unix};
+    ///
+    /// let words = [OsStr::<Unix>::new("-a"), OsStr::new("--"), OsStr::new("b")];
+    /// let mut arguments = Arguments::new(words.as_slice());
+    /// assert!(rt; matches!(arguments.next(), Ok(Some(Word::Short('a')))));
+    /// let Ok(words) = arguments.rest() else { return Ok(()) };
+    /// assert_eq!(rt; words.len(), 2);
+    /// ```
     pub fn rest(&mut self) -> Result<&'s [OsStr<'a, E>], ArgumentError<'a, OsStr<'a, E>>>
         ensures { TakesRest (reading self.old) (outcome_of (λ words. map bytes words.now) result) (reading self.new) }
     {

@@ -31,6 +31,14 @@ impl<'a, S> Word<'a, S> {
     /// The error that says that this word isn't known (lexopt's `Arg::unexpected`).
     ///
     /// That of `Word::Short('x')` prints as `unexpected argument '-x'`.
+    ///
+    /// ```
+    /// use os_args::Word;
+    /// use os_str_bytes::{OsStr, Unix};
+    ///
+    /// let error = Word::<OsStr<'_, Unix>>::Short('x').unexpected();
+    /// assert_eq!(rt; format!(in alloc; "{error}")?.as_str(), "unexpected argument '-x'");
+    /// ```
     pub fn unexpected(self) -> ArgumentError<'a, S>
         ensures { result ≡ UnexpectedArgument self.entry }
     {
@@ -69,7 +77,7 @@ fn write_after<'a, E: Platform, W: fmt::Write>(
     last: Option<Word<'a, OsStr<'a, E>>>,
     f: &mut fmt::Formatter<W>,
 ) -> fmt::Result
-    ensures { WritesStyledOnOk W.write_str_gives f.old result (after_text E.lossy (option_map kind_of last)) f.new }
+    ensures { WritesStyledOnOk W.write_str_gives f.old result (after_text E.lossy (option_map kind_of last.entry)) f.new }
 {
     match last {
         None => f.write_str(""),
@@ -86,7 +94,7 @@ fn write_word<'a, E: Platform, W: fmt::Write>(
     word: Word<'a, OsStr<'a, E>>,
     f: &mut fmt::Formatter<W>,
 ) -> fmt::Result
-    ensures { WritesStyledOnOk W.write_str_gives f.old result (word_text E.lossy (kind_of word)) f.new }
+    ensures { WritesStyledOnOk W.write_str_gives f.old result (word_text E.lossy (kind_of word.entry)) f.new }
 {
     match word {
         Word::Long(name) => {

@@ -1,9 +1,9 @@
 //! What holds of words and of the steps that take them: each law is the contract of a function that
 //! does nothing.
-ghost use Rattle.std.specs.Prelude.{◌≡◌, ℕ, Bool, List};
+ghost use Rattle.std.specs.Prelude.{◌≡◌, ◌<◌, ◌≤◌, ℕ, Bool, List, Some, Ok};
 ghost use Rattle.os_args.specs.Word.{Kind, IsReadAs};
-ghost use Rattle.os_args.specs.Reading.{Reading};
-ghost use Rattle.os_args.specs.Joining.{Step, AreSteps, IsJoinedAgain};
+ghost use Rattle.os_args.specs.Reading.{Reading, TakesWord};
+ghost use Rattle.os_args.specs.Joining.{Step, IsStep, AreSteps, IsJoinedAgain, all_left, weight};
 
 /// A word is read in one way.
 pub fn one_reading()
@@ -16,4 +16,11 @@ pub fn one_reading()
 /// nothing is handed over twice.
 pub fn nothing_lost()
     ensures { (before : Reading) → (steps : List Step) → (after : Reading) → AreSteps before steps after → IsJoinedAgain before steps after }
+{}
+
+/// Each option or operand leaves less, and no step leaves more: a loop over
+/// [`Arguments::next`](crate::Arguments::next) ends.
+pub fn steps_end()
+    ensures next { (before : Reading) → (kind : Kind) → (after : Reading) → TakesWord before (Ok (Some kind)) after → weight (all_left after) < weight (all_left before) }
+    ensures each { (before : Reading) → (step : Step) → (after : Reading) → IsStep before step after → weight (all_left after) ≤ weight (all_left before) }
 {}

@@ -7,7 +7,10 @@ ghost use Rattle.os_args.specs.Kinds.{kind_of};
 use crate::number::starts_as_negative;
 use os_str_ext::{OsStr, OsStrBytesExt, Platform};
 
-/// What one step reads of the words of a command line, of strings `S`.
+/// What one step reads of the words of a command line, of strings `S` (lexopt's `Arg`).
+///
+/// [`Arguments::next`](crate::Arguments::next) gives `Word<'a, OsStr<'a, E>>`. The word is generic in
+/// the strings, as a user's own enum over strings of any platform is.
 #[derive(Clone, Copy)]
 pub enum Word<'a, S> {
     /// The name of `--name` and of `--name=value`.
