@@ -6,7 +6,8 @@ ghost use Rattle.wtf8_core.specs.declared.table.State.TheVariants.{Between};
 
 use crate::byte::is_continuation;
 use crate::fault::EncodingError;
-use crate::fronts::{front_of, is_behind_high};
+use crate::scan::Encoding;
+use crate::scan::fronts::{front_of, is_behind_high};
 use crate::table::{State, class_at, next_at};
 use std::marker::Model;
 
@@ -192,7 +193,7 @@ fn read_bytes(state: State, bits: u32, bytes: &[u8]) -> Result<(State, u32), Enc
 fn read_between(bits: u32, bytes: &[u8]) -> Result<(State, u32), EncodingError>
     ensures { (fed : List ℕ) → Stands Between bits fed → MatchResult result (λ r. Stands r.0 r.1 (fed ++ bytes.now)) (λ fault. IsFaulty (fed ++ bytes.now) fault) }
 {
-    let at = front_of(bytes, true);
+    let at = front_of(bytes, Encoding::Wtf8);
     let (_, rest) = bytes.split_at(at);
     if is_behind_high(bytes, at) {
         read_bytes(State::BehindHigh, bits, rest)

@@ -85,7 +85,7 @@ impl<'a> Iterator for CodePoints<'a> {
 }
 
 /// The first item of bytes that aren't empty, and the state behind it.
-#[tactic(auto, using(crate::proofs::lemmas::Reading::reading))]
+#[tactic(auto, using(crate::proofs::lemmas::reader::Reading::reading))]
 #[inline(always)]
 pub(crate) fn next_item(
     after_high: bool,
@@ -121,7 +121,7 @@ fn behind_refused(first: u8, behind: &[u8]) -> &[u8]
 }
 
 /// The bytes behind the continuations at the front, `limit` of them at most.
-#[tactic(auto, using(crate::proofs::lemmas::Reading::counting))]
+#[tactic(auto, using(crate::proofs::lemmas::reader::Reading::counting))]
 fn behind_continuations(limit: u8, bytes: &[u8]) -> &[u8]
     ensures { result.now ≡ drop (continuations limit bytes.now) bytes.now }
 {
@@ -205,7 +205,7 @@ fn first_continuation(bytes: &[u8]) -> Result<(u32, &[u8]), EncodingError>
 }
 
 /// The value with the bits of one continuation joined to it, and the bytes behind that.
-#[tactic(auto, using(crate::proofs::lemmas::Reading::reading))]
+#[tactic(auto, using(crate::proofs::lemmas::reader::Reading::reading))]
 #[inline(always)]
 fn with_one(value: u32, bytes: &[u8]) -> Result<(u32, &[u8]), EncodingError>
     requires room { value < 2 ^ 16 }
@@ -220,7 +220,7 @@ fn with_one(value: u32, bytes: &[u8]) -> Result<(u32, &[u8]), EncodingError>
 }
 
 /// The value with the bits of two continuations joined to it, and the bytes behind them.
-#[tactic(auto, using(crate::proofs::lemmas::Reading::reading))]
+#[tactic(auto, using(crate::proofs::lemmas::reader::Reading::reading))]
 #[inline(always)]
 fn with_two(value: u32, bytes: &[u8]) -> Result<(u32, &[u8]), EncodingError>
     requires room { value < 2 ^ 10 }
@@ -235,7 +235,7 @@ fn with_two(value: u32, bytes: &[u8]) -> Result<(u32, &[u8]), EncodingError>
 }
 
 /// The value with the bits of three continuations joined to it, and the bytes behind them.
-#[tactic(auto, using(crate::proofs::lemmas::Reading::reading))]
+#[tactic(auto, using(crate::proofs::lemmas::reader::Reading::reading))]
 #[inline(always)]
 fn with_three(value: u32, bytes: &[u8]) -> Result<(u32, &[u8]), EncodingError>
     requires room { value < 2 ^ 4 }

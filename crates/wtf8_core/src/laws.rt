@@ -50,7 +50,7 @@ pub fn one_fault_place()
 
 /// A fault that isn't that the bytes end is the same whatever bytes come next. So a
 /// [`Checker`] that answered a fault answers it for ever.
-#[tactic(auto, using(crate::proofs::lemmas::Fed::extends))]
+#[tactic(auto, using(crate::proofs::lemmas::table::Pieces::extends))]
 pub fn fault_stays()
     ensures { (bytes : List ℕ) → (more : List ℕ) → (f : EncodingError) → IsFaulty bytes f → IsFaulty (bytes ++ more) f }
 {}

@@ -16,7 +16,6 @@
 //! WTF-8 encoding for surrogates. All lengths and places are numbers of bytes.
 #![tactic(auto)]
 
-mod blocks;
 mod byte;
 mod character;
 mod checker;
@@ -25,10 +24,9 @@ mod decoder;
 mod encoder;
 mod fault;
 mod forms;
-mod fronts;
 mod halves;
-mod lanes;
 pub mod laws;
+mod scan;
 mod surrogate;
 mod table;
 mod utf8;

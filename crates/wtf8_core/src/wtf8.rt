@@ -5,7 +5,8 @@ ghost use Rattle.wtf8_core.specs.Fault.{IsFaultAt};
 ghost use Rattle.wtf8_core.specs.SpelledFront.{IsReadUpTo};
 
 use crate::code_points::next_item;
-use crate::fronts::{front_of, is_behind_high};
+use crate::scan::Encoding;
+use crate::scan::fronts::{front_of, is_behind_high};
 
 /// The place of the first fault of bytes that aren't WTF-8, and how many bytes are refused there,
 /// `None` for WTF-8 (own call).
@@ -40,7 +41,7 @@ pub fn wtf8_fault(bytes: &[u8]) -> Option<(usize, usize)>
             Err(_) => return Some((bytes.len() - rest.len(), rest.len() - behind.len())),
         }
     }
-    let front = front_of(bytes, true);
+    let front = front_of(bytes, Encoding::Wtf8);
     let (_, rest) = bytes.split_at(front);
     fault_behind(bytes, is_behind_high(bytes, front), rest)
 }

@@ -1,6 +1,6 @@
 -- Lists joined, and one more at the end: of code points, of the forms that bytes spell, and of a sequence that has begun.
-use Rattle.wtf8_core.proofs.Common.{◌≡◌, ℕ, ◌+◌, ◌*◌, ◌%◌, List, [], ◌∷◌, ◌++◌, refl, sym, ap, ◌∙◌, append-nil, AllByRecursion, fold, flat_map, flat_map-append, IsContinuation, IsHigh, IsLow, IsCodePoint, form, Spells, IsPairedFree, MayPrecede, last_behind, IsBegun, shape_value, lead_bits}
-use Rattle.wtf8_core.proofs.lemmas.Continuations.{Join}
+use Rattle.wtf8_core.proofs.Common.{◌≡◌, ℕ, ◌+◌, ◌*◌, ◌%◌, List, [], ◌∷◌, ◌++◌, refl, sym, ap, ◌∙◌, append-nil, AllByRecursion, fold, flat_map, flat_map-append, IsContinuation, IsHigh, IsLow, IsCodePoint, form, Spells, IsPairedFree, MayPrecede, last_behind, IsBegun, shape_value, lead_bits, All, All-append, All-nil}
+use Rattle.wtf8_core.proofs.lemmas.reader.Continuations.{Join}
 
 -- what holds of each element of two lists holds of each of both joined
 pub all_joined : (P : ℕ → Type 0) (xs ys : List ℕ) → AllByRecursion P xs → AllByRecursion P ys → AllByRecursion P (xs ++ ys)
@@ -42,3 +42,8 @@ value_more lead ks x = fold_more (lead_bits lead) ks x
 
 pub begun_more : (lead : ℕ) (ks : List ℕ) (x : ℕ) → IsBegun lead ks → IsContinuation x → IsBegun lead (ks ++ x ∷ [])
 begun_more lead ks x b h = record { lead_is = b.lead_is; continued = all_joined IsContinuation ks (x ∷ []) b.continued (h, tt) }
+
+-- what holds of each element of each piece holds of each element of the pieces joined
+pub all_flat_map : (P Q : ℕ → Type 0) (f : ℕ → List ℕ) → ((x : ℕ) → P x → All Q (f x)) → (xs : List ℕ) → AllByRecursion P xs → All Q (flat_map f xs)
+all_flat_map P Q f h [] a = All-nil Q
+all_flat_map P Q f h (x ∷ xs) a = All-append Q (f x) (flat_map f xs) (h x a.0) (all_flat_map P Q f h xs a.1)

@@ -1,6 +1,6 @@
 -- Whole characters: where the reader finds them, and what their places are.
 use Rattle.wtf8_core.proofs.Common.{◌≡◌, ℕ, ◌+◌, ◌-◌, ◌<◌, ◌≤◌, true, false, List, ◌∷◌, ◌++◌, length, take, drop, get_or, Option, Some, None, Result, Ok, Err, refl, sym, ap, ◌∙◌, subst, arith, length-append, take-append-drop, IsScalar, needed_continuations, is_surrogate, is_high, IsCodePoint, form, WholeCharacter, IsCharacterAt, first_item, items_behind, IsUtf8, IsUtf8-encode, take_at, drop_at, length-take-le, nat_tests, common_steps, low_scalar, EncodingError}
-use Rattle.wtf8_core.proofs.lemmas.Reading.{items-ok, items-err}
+use Rattle.wtf8_core.proofs.lemmas.reader.Reading.{items-ok, items-err}
 use Rattle.wtf8_core.proofs.lemmas.Sound.{first_form}
 use Rattle.wtf8_core.proofs.lemmas.Forms.{form_ascii, form_bounds}
 use Rattle.wtf8_core.proofs.lemmas.FormsByStd.{form_encode, form_same}

@@ -3,9 +3,9 @@ use Rattle.wtf8_core.proofs.Common.{◌≡◌, ◌⊎◌, inl, inr, ⊎_elim, �
 use Rattle.wtf8_core.specs.Items.AreItems.{Whole, Faulty}
 use Rattle.wtf8_core.proofs.lemmas.Ranges.{range_cases}
 use Rattle.wtf8_core.proofs.lemmas.Forms.{form_ascii, form_bounds, shape_is_form, no_form}
-use Rattle.wtf8_core.proofs.lemmas.Continuations.{Stops, split}
-use Rattle.wtf8_core.proofs.lemmas.Continuations.Stops.{whole, ends, breaks}
-use Rattle.wtf8_core.proofs.lemmas.Reading.{items-ok}
+use Rattle.wtf8_core.proofs.lemmas.reader.Continuations.{Stops, split}
+use Rattle.wtf8_core.proofs.lemmas.reader.Continuations.Stops.{whole, ends, breaks}
+use Rattle.wtf8_core.proofs.lemmas.reader.Reading.{items-ok}
 use Rattle.wtf8_core.proofs.lemmas.Complete.{item_of_form, items_of_fault, items_if}
 
 -- behind the code point p the bytes begin with a form

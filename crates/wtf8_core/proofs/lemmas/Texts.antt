@@ -1,7 +1,7 @@
 -- Texts are WTF-8, and what texts are.
 use Rattle.wtf8_core.proofs.Common.{◌≡◌, inl, inr, ⊎_elim, ℕ, zero, suc, ◌+◌, ◌<◌, ◌≤◌, true, List, [], ◌∷◌, ◌++◌, length, take, drop, map, Option, Some, None, refl, sym, ap, ◌∙◌, subst, arith, length-drop, drop-drop, take-append-drop, append_assoc, encode_utf8, MatchOption, unwrap_or, All, AllByRecursion, flat_map, IsUtf8, IsValidUpTo, all_scalars, is_utf8, utf8_lossy, utf8_error_len, utf8_invalid_len, utf8_valid_len, valid_len_up_to, cases_lt, and_parts, cond_both, cases_Bool, false≢true, nat_tests, All-from_recursion, length-take, take_all, IsUtf8-append, IsUtf8-nil, IsUtf8-from_is_utf8, is_utf8-from_IsUtf8, utf8_lossy-IsUtf8, IsByte, IsCodePoint, form, IsPairedFree, Spells, IsWtf8, IsProperFront, IsIllFormed, IsUtf8Fault, IsIllFormedPart, wtf8_lossy, replacement, IsLossyText, without_surrogate, scalar}
 use Rattle.wtf8_core.specs.Lossy.IsLossyText.{text, replaced}
-use Rattle.wtf8_core.proofs.lemmas.Lists.{all_flat_map}
+use Rattle.wtf8_core.proofs.lemmas.Appending.{all_flat_map}
 use Rattle.wtf8_core.proofs.lemmas.Characters.{NoChar, scalar_point}
 use Rattle.wtf8_core.proofs.lemmas.Forms.{form_bytes}
 use Rattle.wtf8_core.proofs.lemmas.FormsByStd.{forms_encode}

@@ -1,9 +1,0 @@
-use Rattle.wtf8_core.proofs.Common.{refl, subst, sym, IsSpelledFront}
-use Rattle.wtf8_core.proofs.lemmas.Fronts.{no_front, front_keeps, more_ascii}
-use Rattle.wtf8_core.proofs.fronts.first_len.Goals as goal
-
-pub returns-then-is_ascii_block-clause-kept : goal.returns-then-is_ascii_block-clause-kept
-returns-then-is_ascii_block-clause-kept c _ =
-    let s = c.args.surrogates in
-    let bytes = c.args.bytes.now in
-    front_keeps s bytes _ (more_ascii s bytes c.args.at 64 c.requires (c.if-is_ascii_block.ensures refl) (subst (IsSpelledFront s bytes) (sym c.if-at-eq0.true) (no_front s bytes)))
