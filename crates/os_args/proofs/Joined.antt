@@ -266,14 +266,18 @@ read_shorter false numbers s kind rest words (inr (inr h)) = whole_shorter s res
 
 pub less_left : (before : Reading) (kind : Kind) (after : Reading) → TakesWord before (Ok (Some kind)) after → weight (all_left after) < weight (all_left before)
 less_left before kind after (inl h) =
-    omega (arith,
+    omega (
+      arith,
       flag_shorter Bare before.pending before.pending kind after.pending (words_left before) refl h.flag,
       ap (λ ws. weight (with_pending after.pending ws)) (ap words_left h.same),
-      ap weight (some_pending before.pending (words_left before) h.some))
+      ap weight (some_pending before.pending (words_left before) h.some),
+    )
 less_left before kind after (inr h) =
-    omega (arith,
+    omega (
+      arith,
       read_shorter h.between.ended h.between.numbers h.word kind after.pending h.more h.read,
       ap (λ ws. weight (with_pending after.pending ws)) (ap words_left h.same ∙ one_more h.between.place h.word h.between.given h.more h.next),
       ap weight h.next,
       joins_weight (words_left before) (words_left h.between) [] (skipped before h.between h.skips),
-      ap weight (none_pending before.pending (words_left before) h.none_pending))
+      ap weight (none_pending before.pending (words_left before) h.none_pending),
+    )

@@ -14,4 +14,4 @@ pub returns : goal.returns
 returns g c =
     let now = c.skip_dashes.new.self in
     inr (takes_next (reading c.args.self.now) (reading now) (bytes c.in-Some-first_after.word) (drop (now.place + 1) (map bytes now.words.now)) (kind_of c.read_in.result.0) (bytes c.read_in.result.1)
-      (c.is_empty.ensures.0 c.if-not-is_empty.false) c.skip_dashes.ensures c.in-Some-first_after.ensures.first c.read_in.ensures)
+    (c.is_empty.ensures.0 c.if-not-is_empty.false) c.skip_dashes.ensures c.in-Some-first_after.ensures.first c.read_in.ensures)
