@@ -6,3 +6,4 @@ pub mod PiecesJoined
 pub mod Places
 pub mod QuoteFaults
 pub mod SomePlace
+pub mod FirstAndLast
