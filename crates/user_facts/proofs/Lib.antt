@@ -8,3 +8,4 @@ pub mod Places
 pub mod QuoteFaults
 pub mod SomePlace
 pub mod TrimsAgain
+pub mod FirstAndLast

@@ -1,12 +1,14 @@
 //! Symbols: the one list of a string's characters and units.
-ghost use Rattle.std.specs.Prelude.{◌≡◌, [], ◌∷◌, IsOk, IfOk, IsTrue};
+ghost use Rattle.std.specs.Prelude.{◌≡◌, [], ◌∷◌, ℕ, List, IsOk, IfOk, IsTrue};
+ghost use Rattle.std.specs.List.{flat_map};
 ghost use Rattle.wtf8_core.specs.Chunks.{AreChunks};
 ghost use Rattle.platform_str.specs.Strings.{bytes};
-ghost use Rattle.os_str_ext.specs.Symbols.{AreSymbols, unit_symbol};
+ghost use Rattle.os_str_ext.specs.Symbols.{AreSymbols, symbol_bytes, unit_symbol};
+ghost use Rattle.os_str_ext.specs.declared.symbols.Symbol.{Symbol};
 ghost use Rattle.os_str_ext.specs.declared.symbols.Symbol.TheVariants.{Character};
 ghost use Rattle.os_str_bytes.specs.Raw.{raw_bytes};
 
-use os_str_bytes::{OsStr, OsStrBytesExt, Platform, RawOsStr, Symbols, Unix};
+use os_str_bytes::{OsStr, OsStrBytesExt, Platform, RawOsStr, Symbols, Unix, symbol_laws};
 use std::alloc::AllocError;
 
 /// The symbols of a string of which some are known, which are those.
@@ -17,7 +19,22 @@ pub fn symbols_say<'a, E: Platform + 'a>(
     requires { AreSymbols E.units (bytes string) known }
     ensures { result ≡ known.entry }
 {
-    wtf8_core::laws::chunks();
+    symbol_laws::symbols::<E>();
+    string.symbols()
+}
+
+/// Any bytes, of which there are symbols.
+pub fn has_symbols<E: Platform>(raw: &[u8])
+    ensures { (symbols : List Symbol) × AreSymbols E.units raw.now symbols }
+{
+    symbol_laws::symbols::<E>();
+}
+
+/// The symbols of a string, whose bytes joined are the string.
+pub fn symbols_joined<'a, E: Platform + 'a>(string: OsStr<'a, E>) -> Symbols<'a, E>
+    ensures { flat_map symbol_bytes result ≡ bytes string.entry }
+{
+    symbol_laws::symbols::<E>();
     string.symbols()
 }
 

@@ -1,0 +1,52 @@
+//! Views of borrowed bytes: a string's are taken again, others are refused with their fault.
+ghost use Rattle.std.specs.Prelude.{◌≡◌, Err, IsOk, IfOk};
+ghost use Rattle.platform_str.specs.Strings.{bytes};
+ghost use Rattle.os_str_bytes.specs.Raw.{raw_bytes};
+
+use os_str_bytes::{EncodingError, OsStr, Platform, RawOsStr, laws};
+
+/// The bytes of a string, viewed again.
+pub fn viewed_again<'a, E: Platform + 'a>(
+    string: OsStr<'a, E>,
+) -> Result<OsStr<'a, E>, EncodingError>
+    ensures accepted { IsOk result }
+    ensures same { IfOk result (λ again. bytes again ≡ bytes string.entry) }
+{
+    laws::faults::<E>();
+    OsStr::checked(string.as_encoded_bytes())
+}
+
+/// The same of a raw string.
+pub fn raw_viewed_again<'a, E: Platform + 'a>(
+    string: RawOsStr<'a, E>,
+) -> Result<RawOsStr<'a, E>, EncodingError>
+    ensures accepted { IsOk result }
+    ensures same { IfOk result (λ again. raw_bytes again ≡ raw_bytes string.entry) }
+{
+    laws::faults::<E>();
+    RawOsStr::checked(string.as_encoded_bytes())
+}
+
+/// What comes of bytes of which a fault is known: that one.
+pub fn view_refused<'a, E: Platform + 'a>(
+    raw: &'a [u8],
+    known: EncodingError,
+) -> Result<OsStr<'a, E>, EncodingError>
+    requires { E.first_fault raw.now known }
+    ensures { result ≡ Err known }
+{
+    laws::faults::<E>();
+    OsStr::checked(raw)
+}
+
+/// The same of a raw string.
+pub fn raw_view_refused<'a, E: Platform + 'a>(
+    raw: &'a [u8],
+    known: EncodingError,
+) -> Result<RawOsStr<'a, E>, EncodingError>
+    requires { E.first_fault raw.now known }
+    ensures { result ≡ Err known }
+{
+    laws::faults::<E>();
+    RawOsStr::checked(raw)
+}
