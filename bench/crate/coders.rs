@@ -1,7 +1,7 @@
 //! Opens the crate's private coders to the benchmark, each as the crate's own conversions use it.
 use super::DecodeWide;
 
-/// Writes the units of the bytes behind those of `out`, and answers whether there is no fault.
+/// Writes the units of the bytes after those of `out`, and answers whether there is no fault.
 #[inline(never)]
 pub fn encode_wide_into(bytes: &[u8], out: &mut Vec<u16>) -> bool {
     let mut encoder = super::encode_wide(bytes);
@@ -14,7 +14,7 @@ pub fn encode_wide_into(bytes: &[u8], out: &mut Vec<u16>) -> bool {
     true
 }
 
-/// Writes the bytes of the units behind those of `out`.
+/// Writes the bytes of the units after those of `out`.
 #[inline(never)]
 pub fn decode_wide_into(units: &[u16], out: &mut Vec<u8>) {
     out.extend(DecodeWide::new(units.iter().copied()));

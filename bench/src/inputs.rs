@@ -83,7 +83,7 @@ fn cut(mut text: String, len: usize) -> Vec<u8> {
     bytes
 }
 
-/// Paths of ASCII names, one behind the other.
+/// Paths of ASCII names, one after the other.
 fn ascii(random: &mut Random, len: usize) -> Vec<u8> {
     let mut text = String::new();
     while text.len() < len {
@@ -150,7 +150,7 @@ fn lone_surrogates(random: &mut Random, len: usize) -> Vec<u8> {
             units.push(u16::from(b'/'));
             filled += 1;
         } else if random.once_in(20) {
-            // a low one behind a high one would make a pair
+            // a low one after a high one would make a pair
             let after_high = units.last().is_some_and(|unit| (0xD800..0xDC00).contains(unit));
             let first = if after_high || random.once_in(2) { 0xD800 } else { 0xDC00 };
             units.push(first + random.below(0x400) as u16);

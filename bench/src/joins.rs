@@ -52,7 +52,7 @@ pub fn time(bench: &mut Bench) {
     }
 
     let paths = inputs::paths();
-    bench.table("Fronts of short strings on Windows", "a call");
+    bench.table("Prefixes of short strings on Windows", "a call");
     for (name, front) in FRONTS {
         let all = |starts: fn(&[u8], &[u8]) -> bool| {
             let starts = black_box(starts);
@@ -71,7 +71,7 @@ pub fn time(bench: &mut Bench) {
     }
 }
 
-/// The length of the string of one part behind the other, by std.
+/// The length of the string of one part after the other, by std.
 fn pushed(part: &[u8]) -> usize {
     let mut all = OsString::new();
     for _ in 0..COUNT {

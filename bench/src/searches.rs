@@ -95,7 +95,7 @@ fn short(bench: &mut Bench, call: &str, contestants: [Search; 3], (name, strings
     );
 }
 
-/// The search for a pattern that doesn't stand in the string, from both ends.
+/// The search for a pattern that doesn't occur in the string, from both ends.
 fn absent(bench: &mut Bench, string: &Long, pattern: &str) {
     for (call, [ours, theirs, std]) in [("find", FIND), ("rfind", RFIND)] {
         let once = |search: Search| black_box(search)(black_box(&string.bytes), pattern) as u64;
@@ -108,7 +108,7 @@ fn absent(bench: &mut Bench, string: &Long, pattern: &str) {
     }
 }
 
-/// A search for each place of a pattern of one byte, from behind the one before.
+/// A search for each occurrence of a pattern of one byte, from the end of the one before.
 fn each(bench: &mut Bench, string: &Long, pattern: &str) {
     let count = |search: Search| {
         let search = black_box(search);

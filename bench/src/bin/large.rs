@@ -1,5 +1,5 @@
 //! Times calls over an input of 1 GiB, its first half and its first quarter, once each, and prints
-//! what memory they took beside the input.
+//! what memory they took in addition to the input.
 #[allow(dead_code)]
 #[path = "../ours.rs"]
 mod ours;
@@ -13,7 +13,7 @@ const PIECE: &[u8] = b"/usr/share/d\xC3\xA9\xF0\x9F\x98\x80\xED\xA0\x80.txt";
 
 const LEN: usize = 1 << 30;
 
-/// A call, and what it answers of so many whole pieces and a front of another.
+/// A call, and what it answers of so many whole pieces and a prefix of another.
 type Call = (&'static str, fn(&[u8]) -> usize, fn(usize) -> usize);
 
 const CALLS: [Call; 4] = [

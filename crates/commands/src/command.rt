@@ -54,6 +54,12 @@ impl Os {
 
 impl<'a> Command<'a> {
     /// The platform whose strings the command is about.
+    ///
+    /// ```
+    /// use commands::command::{Command, Os};
+    ///
+    /// assert!(rt; Command::Find(Os::Windows, "a").os() == Os::Windows);
+    /// ```
     pub fn os(self) -> Os
         ensures { result ≡ os_of self.entry }
     {
@@ -69,6 +75,13 @@ impl<'a> Command<'a> {
     }
 
     /// Whether the command can't run, as `split` at the empty pattern can't.
+    ///
+    /// ```
+    /// use commands::command::{Command, Os};
+    ///
+    /// assert!(rt; Command::Split(Os::Unix, "").is_unusable());
+    /// assert!(rt; !Command::Find(Os::Unix, "").is_unusable());
+    /// ```
     pub fn is_unusable(self) -> bool
         ensures { IsTrue result ↔ IsUnusable self.entry }
     {
@@ -83,11 +96,24 @@ impl<'a> Command<'a> {
         }
     }
 
-    /// The command that the words behind the program's name ask for.
+    /// The command that the words after the program's name ask for: the command's name, the
+    /// platform's and, for `find` and `split`, the pattern, and nothing else. It takes no memory.
     ///
-    /// They are the command's name, the platform's and, for `find` and `split`, the pattern, and
-    /// nothing else: `units windows` is `Units(Os::Windows)`, and `find windows a` is
-    /// `Find(Os::Windows, "a")`. All other words are [`Fault::Usage`]. It takes no memory.
+    /// # Errors
+    ///
+    /// [`Fault::Usage`] for all other words.
+    ///
+    /// ```
+    /// use commands::command::{Command, Os};
+    /// use commands::fault::Fault;
+    ///
+    /// let mut words = Vec::new(alloc);
+    /// for word in ["find", "windows", "a"] {
+    ///     words.push(String::from_str(alloc, word)?)?;
+    /// }
+    /// assert!(rt; Command::parse(&words) == Ok(Command::Find(Os::Windows, "a")));
+    /// assert!(rt; Command::parse(&words[..2]) == Err(Fault::Usage));
+    /// ```
     pub fn parse(words: &'a [String]) -> Result<Command<'a>, Fault>
         ensures command { IfOk result (λ command. map string_bytes words.now ≡ words_of command) }
         ensures usage { IfErr result (λ fault. fault ≡ Fault.Usage) }

@@ -37,6 +37,13 @@ impl Fault {
 
     /// The status that the program ends with: 1 for input that it refuses, 2 for its
     /// words, 3 for want of memory, and 4 for a failed read or write. That of `BadLine(2)` is 1.
+    ///
+    /// ```
+    /// use commands::fault::Fault;
+    ///
+    /// assert_eq!(rt; Fault::BadLine(2).status(), 1);
+    /// assert_eq!(rt; Fault::Usage.status(), 2);
+    /// ```
     pub fn status(&self) -> u8
         ensures { result ≡ status_of self.now }
     {

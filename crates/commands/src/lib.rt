@@ -3,6 +3,9 @@
 //! Words are a command ([`Command::parse`](command::Command::parse)). It reads all of its input,
 //! makes the whole output of it, and then writes that ([`run::run`]). Where it can't, the text of
 //! a [`Fault`](fault::Fault) says why ([`program::execute`]).
+//!
+//! Two of its calls have a `requires`: [`run::run`] and [`program::execute`] take a reader and a
+//! writer whose marks are unset, as [`marked::Marked::new`] makes them.
 #![tactic(auto)]
 
 mod answer;

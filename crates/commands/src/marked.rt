@@ -21,6 +21,13 @@ impl<T> Marked<T> {
     ghost use Rattle.commands.specs.Marked.{marked_inner, has_failed};
 
     /// The reader or the writer, with its mark unset.
+    ///
+    /// ```
+    /// use commands::marked::Marked;
+    ///
+    /// let input: &[u8] = b"ab";
+    /// assert!(rt; !Marked::new(input).failed());
+    /// ```
     pub fn new(inner: T) -> Marked<T>
         ensures inner { marked_inner result ≡ inner }
         ensures unset { has_failed result ≡ false }
@@ -32,6 +39,15 @@ impl<T> Marked<T> {
     }
 
     /// Whether the mark is set.
+    ///
+    /// ```
+    /// use commands::marked::Marked;
+    ///
+    /// let input: &[u8] = b"ab";
+    /// let mut reader = Marked::new(input);
+    /// let mut piece = [0u8; 4];
+    /// assert!(rt; reader.read(&mut piece).is_ok() && !reader.failed());
+    /// ```
     pub fn failed(&self) -> bool
         ensures { result ≡ has_failed self.now }
     {
@@ -43,6 +59,19 @@ impl<R: Read> Marked<R> {
     ghost use Rattle.commands.specs.Marked.{marked_inner, has_failed};
 
     /// Reads as the reader does, and sets the mark at an error.
+    ///
+    /// # Errors
+    ///
+    /// The reader's own.
+    ///
+    /// ```
+    /// use commands::marked::Marked;
+    ///
+    /// let input: &[u8] = b"ab";
+    /// let mut reader = Marked::new(input);
+    /// let mut piece = [0u8; 4];
+    /// assert_eq!(rt; reader.read(&mut piece).ok(), Some(2));
+    /// ```
     pub fn read(&mut self, buf: &mut [u8]) -> io::Result<usize>
         ensures bound { ReadsAtMost result buf.new }
         ensures bytes { ReadConsumes (R.remaining (marked_inner self.old))
@@ -62,6 +91,19 @@ impl<W: Write> Marked<W> {
 
     /// Writes as the writer does, and sets the mark at an error, or where nothing is taken
     /// of bytes that aren't empty.
+    ///
+    /// # Errors
+    ///
+    /// The writer's own.
+    ///
+    /// ```
+    /// use commands::marked::Marked;
+    ///
+    /// let mut taken = Vec::new(alloc);
+    /// let mut writer = Marked::new(&mut taken);
+    /// assert_eq!(rt; writer.write(b"ab").ok(), Some(2));
+    /// assert!(rt; !writer.failed());
+    /// ```
     pub fn write(&mut self, buf: &[u8]) -> io::Result<usize>
         ensures bound { WritesAtMost result buf.now }
         ensures bytes { WriteAppends (W.contents (marked_inner self.old))
@@ -81,6 +123,18 @@ impl<W: Write> Marked<W> {
     }
 
     /// Flushes the writer, and sets the mark at an error.
+    ///
+    /// # Errors
+    ///
+    /// The writer's own.
+    ///
+    /// ```
+    /// use commands::marked::Marked;
+    ///
+    /// let mut taken: Vec<u8> = Vec::new(alloc);
+    /// let mut writer = Marked::new(&mut taken);
+    /// assert!(rt; writer.flush().is_ok() && !writer.failed());
+    /// ```
     pub fn flush(&mut self) -> io::Result<()>
         ensures bytes { Keeps (W.contents (marked_inner self.old))
             (W.contents (marked_inner self.new)) }

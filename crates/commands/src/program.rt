@@ -59,6 +59,17 @@ impl Ended {
     }
 
     /// What the run answered.
+    ///
+    /// ```
+    /// use commands::fault::Fault;
+    /// use commands::marked::Marked;
+    /// use commands::program::execute;
+    ///
+    /// let no_words = Ok(Vec::new(alloc).into_iter());
+    /// let (mut input, mut output) = (Marked::new(b"".as_slice()), Marked::new(rt.stdout()));
+    /// let ended = execute(alloc, no_words, &mut input, &mut output, &mut rt.stderr());
+    /// assert!(rt; ended.outcome() == Err(Fault::Usage));
+    /// ```
     pub fn outcome(&self) -> Result<(), Fault>
         ensures { result ≡ outcome_of self.now }
     {
@@ -66,6 +77,16 @@ impl Ended {
     }
 
     /// Whether the whole message was taken, where there was one.
+    ///
+    /// ```
+    /// use commands::marked::Marked;
+    /// use commands::program::execute;
+    ///
+    /// let no_words = Ok(Vec::new(alloc).into_iter());
+    /// let (mut input, mut output) = (Marked::new(b"".as_slice()), Marked::new(rt.stdout()));
+    /// let ended = execute(alloc, no_words, &mut input, &mut output, &mut rt.stderr());
+    /// assert!(rt; ended.told());
+    /// ```
     pub fn told(&self) -> bool
         ensures { result ≡ was_told self.now }
     {
@@ -99,6 +120,21 @@ impl Termination for Ended {
 /// `d800`, a newline, `dc00` and a newline, and its status is 0. For no words it writes the
 /// line `osbytes: usage: osbytes units|raw|find|split|chunks unix|windows|wasm [PAT]` to
 /// `errors`, and its status is 2.
+///
+/// ```
+/// use commands::marked::Marked;
+/// use commands::program::execute;
+/// use std::process::{ExitCode, Termination};
+///
+/// let mut words = Vec::new(alloc);
+/// for word in ["osbytes", "raw", "windows"] {
+///     words.push(String::from_str(alloc, word)?)?;
+/// }
+/// let (mut input, mut output) = (Marked::new(b"".as_slice()), Marked::new(rt.stdout()));
+/// let words = Ok(words.into_iter());
+/// let ended = execute(alloc, words, &mut input, &mut output, &mut rt.stderr());
+/// assert!(rt; ended.report(&rt) == ExitCode::from(0));
+/// ```
 pub fn execute<A: Allocator, R: Read, W: Output, E: Messages>(
     alloc: A,
     args: io::Result<Args>,

@@ -13,16 +13,29 @@ use crate::marked::Marked;
 use std::alloc::Allocator;
 use std::io::{Read, Write};
 
-/// Reads all that the reader has, then writes the command's output for it and flushes.
+/// Reads all that the reader has, then writes the command's output for it and flushes. Both marks
+/// must be unset ([`Marked::failed`] tells).
 ///
-/// Both marks must be unset ([`Marked::failed`] tells). [`Fault::Read`] comes exactly where
-/// a read failed, [`Fault::Write`] exactly where a write or the flush did, [`Fault::Memory`]
-/// where memory was refused, and [`Fault::Usage`] exactly where the command can't run
-/// ([`Command::is_unusable`]), with nothing read. Every other fault is that of the whole input. Nothing is written before a fault other than `Write`, and before that one
-/// a beginning of the output.
+/// # Errors
 ///
-/// For `units windows` and the input F0 90 80 80 (hexadecimal) it writes `d800`, a
-/// newline, `dc00` and a newline.
+/// [`Fault::Read`] exactly where a read failed, [`Fault::Write`] exactly where a write or the flush
+/// did, [`Fault::Memory`] where memory was refused, and [`Fault::Usage`] exactly where the command
+/// can't run ([`Command::is_unusable`]), with nothing read. Every other fault is that of the whole
+/// input. Nothing is written before a fault other than `Write`, and before that one a beginning of
+/// the output.
+///
+/// ```
+/// use commands::command::{Command, Os};
+/// use commands::marked::Marked;
+/// use commands::run::run;
+///
+/// let input: &[u8] = b"\xF0\x90\x80\x80";
+/// let mut taken = Vec::new(alloc);
+/// let (mut reader, mut writer) = (Marked::new(input), Marked::new(&mut taken));
+/// let command = Command::Units(Os::Windows);
+/// assert!(rt; run(alloc, command, &mut reader, &mut writer) == Ok(()));
+/// assert_eq!(rt; taken.as_slice(), b"d800\ndc00\n".as_slice());
+/// ```
 #[tactic(auto, using(crate::proofs::lemmas::OneAnswer::one_answer))]
 pub fn run<A: Allocator, R: Read, W: Write>(
     alloc: A,

@@ -27,6 +27,12 @@ impl Separators {
     ghost use Rattle.os_glob.specs.Places.{separates};
 
     /// Whether a character is one of them. Of [`Separators::Slash`] `/` is one, and `\` is not.
+    ///
+    /// ```
+    /// use os_glob::Separators;
+    ///
+    /// assert!(rt; Separators::Slash.contains('/') && !Separators::Slash.contains('\\'));
+    /// ```
     #[inline(always)]
     pub fn contains(self, character: char) -> bool
         ensures { result ≡ separates self character }

@@ -1,8 +1,12 @@
 pub mod Items
 pub mod Tokens
+pub mod LongTokens
 pub mod Texts
 pub mod Writing
 pub mod Chunks
 pub mod Escapes
 pub mod Readings
+pub mod Shown
+pub mod Lines
+pub mod Suspects
 pub use Rattle.os_str_ext.proofs.lemmas.EachChunk

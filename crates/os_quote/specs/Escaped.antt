@@ -1,17 +1,18 @@
 -- The escape as a function, and what `Escaped` writes. What an escape is says `IsEscape`.
-use Rattle.std.specs.Prelude.{ℕ, List}
+use Rattle.std.specs.Prelude.{ℕ, Bool, List}
 use Rattle.platform_str.specs.declared.platform.Platform.{Ghosts}
 use Rattle.platform_str.specs.Strings.{bytes}
 use Rattle.os_str_ext.specs.Chunks.{chunks_of}
 use Rattle.os_quote.specs.Item.{item_texts}
+use Rattle.os_quote.specs.Shown.{shown_by}
 use Rattle.os_quote.specs.Escape.{items_of}
 use Rattle.os_quote.specs.declared.display.Escaped.{Escaped}
 
--- the one escape of the string s
-abbrev pub escape_of : (List ℕ → List ℕ) → List ℕ → List ℕ
-escape_of units s = item_texts (items_of units (chunks_of s))
+-- the one escape of the string s in a form
+abbrev pub escape_of : (ℕ → Bool) → (List ℕ → List ℕ) → List ℕ → List ℕ
+escape_of shows units s = item_texts (items_of shows units (chunks_of s))
 
 module _ {E : Type 0} {P : Ghosts E} where
   -- the text that is written
   abbrev pub escaped_text : Escaped E P → List ℕ
-  escaped_text e = escape_of P.units (bytes e.string)
+  escaped_text e = escape_of (shown_by e.form) P.units (bytes e.string)

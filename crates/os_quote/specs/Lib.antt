@@ -1,4 +1,6 @@
 pub mod Item
+pub mod Shown
+pub mod Standing
 pub mod Escape
 pub mod Escaped
 pub mod Reading

@@ -1,11 +1,12 @@
 -- What has been read of an escape, step by step: only private contracts name these (what an escape is says `IsEscape`).
-use Rattle.std.specs.Prelude.{◌≡◌, ◌≢◌, ℕ, List, [], ◌∷◌, ◌++◌}
+use Rattle.std.specs.Prelude.{◌≡◌, ◌≢◌, ℕ, ◌/◌, ◌%◌, ◌<◌, Bool, List, [], ◌∷◌, ◌++◌}
 use Rattle.std.specs.List.{flat_map, AllByRecursion}
 use Rattle.std.specs.Char.{encode_utf8}
 use Rattle.std.specs.Str.{IsUtf8}
 use Rattle.wtf8_core.specs.CodePoint.{form}
-use Rattle.os_quote.specs.Item.{Item, Character, Backslash, ByteUnit, WideUnit, backslash, item_texts, IsItem}
-use Rattle.os_quote.specs.Escape.{IsBadEscape}
+use Rattle.wtf8_core.specs.FaultText.{upper_hex_digit}
+use Rattle.os_quote.specs.Item.{Item, Character, Backslash, ByteUnit, WideUnit, LongCharacter, backslash, wide_digits, long_digits, item_texts, IsLong, HasLongTokens, IsItem}
+use Rattle.os_quote.specs.Escape.{IsBadEscapeBy}
 use Rattle.os_quote.specs.declared.token.Token.{Token}
 use Rattle.os_quote.specs.declared.token.Token.TheVariants as token
 use Rattle.os_quote.specs.declared.error.QuoteError.{QuoteError}
@@ -16,6 +17,7 @@ abbrev pub token_item : Token → Item
 token_item token.Backslash = Backslash
 token_item (token.Byte u) = ByteUnit u
 token_item (token.Wide u) = WideUnit u
+token_item (token.Long c) = LongCharacter c
 
 -- the bytes that an item stands for, on each platform
 abbrev pub item_bytes : Item → List ℕ
@@ -23,6 +25,7 @@ item_bytes (Character c) = encode_utf8 c
 item_bytes Backslash = backslash ∷ []
 item_bytes (ByteUnit u) = u ∷ []
 item_bytes (WideUnit u) = form u
+item_bytes (LongCharacter c) = encode_utf8 c
 
 -- none of the bytes is a backslash
 abbrev pub HasNoBackslash : List ℕ → Type 0
@@ -35,16 +38,50 @@ pub record IsCutAtBackslash (text front behind : List ℕ) : Type 0 where
   pub front_text : IsUtf8 front
   pub behind_text : IsUtf8 behind
 
--- a front of the text is items that stand for these bytes, and the rest is left, which is text too
-pub record IsRead (text bytes rest : List ℕ) : Type 0 where
+-- a front of the text is items of the form that stand for these bytes, and the rest is left, which is text too
+pub record IsRead (shows : ℕ → Bool) (text bytes rest : List ℕ) : Type 0 where
   pub items : List Item
-  pub are : AllByRecursion IsItem items
+  pub are : AllByRecursion (IsItem shows) items
   pub joined : text ≡ item_texts items ++ rest
   pub bytes_are : bytes ≡ flat_map item_bytes items
   pub text_left : IsUtf8 rest
 
 -- why a text isn't read
-abbrev pub IsReadFault : List ℕ → QuoteError → Type 0
-IsReadFault text (BadEscape n) = IsBadEscape text n
-IsReadFault text NotCanonical = ⊥
-IsReadFault text Memory = Unit {0}
+abbrev pub IsReadFault : (ℕ → Bool) → List ℕ → QuoteError → Type 0
+IsReadFault shows text (BadEscape n) = IsBadEscapeBy shows text n
+IsReadFault shows text NotCanonical = ⊥
+IsReadFault shows text Memory = Unit {0}
+
+-- no number of 16 bits has its four digits at the front
+abbrev pub HasNoWide : List ℕ → Type 0
+HasNoWide bytes = (u : ℕ) → u < 0x1_0000 → (after : List ℕ) → bytes ≢ wide_digits u ++ after
+
+-- no code point past 16 bits has its digits between braces there
+abbrev pub HasNoLong : List ℕ → Type 0
+HasNoLong bytes = (c : ℕ) → IsLong c → (after : List ℕ) → bytes ≢ 0x7B ∷ (long_digits c ++ 0x7D ∷ after)
+
+-- no token that begins with `\u` goes on so
+abbrev pub HasNoNumber : (ℕ → Bool) → List ℕ → Type 0
+HasNoNumber shows bytes = HasNoWide bytes × (HasLongTokens shows → HasNoLong bytes)
+
+-- no four digits and a brace stand at the front
+abbrev pub HasNoClosed : List ℕ → Type 0
+HasNoClosed bytes = (u : ℕ) → u < 0x1_0000 → (after : List ℕ) → bytes ≢ wide_digits u ++ 0x7D ∷ after
+
+-- these are the last four digits of a character with others above them, and a brace
+abbrev pub IsClosed : ℕ → List ℕ → ℕ → List ℕ → Type 0
+IsClosed high bytes c rest = (c / 0x1_0000 ≡ high) × (bytes ≡ wide_digits (c % 0x1_0000) ++ 0x7D ∷ rest)
+
+-- no `10`, four digits and a brace
+abbrev pub HasNoSix : List ℕ → Type 0
+HasNoSix bytes = (u : ℕ) → u < 0x1_0000 → (after : List ℕ) → bytes ≢ 0x31 ∷ 0x30 ∷ (wide_digits u ++ 0x7D ∷ after)
+
+abbrev pub IsSix : List ℕ → ℕ → List ℕ → Type 0
+IsSix bytes c rest = (c / 0x1_0000 ≡ 0x10) × (bytes ≡ 0x31 ∷ 0x30 ∷ (wide_digits (c % 0x1_0000) ++ 0x7D ∷ rest))
+
+-- no five digits, the first of which isn't 0, and a brace
+abbrev pub HasNoFive : List ℕ → Type 0
+HasNoFive bytes = (h : ℕ) → 0 < h → h < 16 → (u : ℕ) → u < 0x1_0000 → (after : List ℕ) → bytes ≢ upper_hex_digit h ∷ (wide_digits u ++ 0x7D ∷ after)
+
+abbrev pub IsFive : List ℕ → ℕ → List ℕ → Type 0
+IsFive bytes c rest = (0 < c / 0x1_0000) × ((c / 0x1_0000 < 16) × (bytes ≡ upper_hex_digit (c / 0x1_0000) ∷ (wide_digits (c % 0x1_0000) ++ 0x7D ∷ rest)))

@@ -1,4 +1,5 @@
 //! A string that prints as its escape.
+use crate::form::Form;
 use crate::write::{write_part, write_text};
 use os_str_bytes::{OsStr, OsStrBytesExt, Platform};
 use std::alloc::AllocError;
@@ -6,10 +7,11 @@ use std::fmt;
 
 /// A string that prints as its escape, and takes no memory for it.
 ///
-/// [`escaped`](crate::escaped) makes it. It has no width and no precision: `{:>9}` writes what
+/// [`escaped`](crate::escaped) and [`escaped_line`](crate::escaped_line) make it. It has no width and no precision: `{:>9}` writes what
 /// `{}` does.
 pub struct Escaped<'a, E: Platform + 'a> {
     string: OsStr<'a, E>,
+    form: Form,
 }
 
 impl<'a, E: Platform> Clone for Escaped<'a, E> {
@@ -28,14 +30,15 @@ impl<'a, E: Platform> Copy for Escaped<'a, E> {}
 
 impl<'a, E: Platform> Escaped<'a, E> {
     ghost use Rattle.platform_str.specs.Strings.{bytes};
-    ghost use Rattle.os_quote.specs.Escape.{IsEscape};
+    ghost use Rattle.os_quote.specs.Shown.{shown_by};
+    ghost use Rattle.os_quote.specs.Escape.{IsEscapeBy};
     ghost use Rattle.os_quote.specs.Escaped.{escaped_text};
 
     /// The string, to be written as its escape.
-    pub(crate) fn new(string: OsStr<'a, E>) -> Self
-        ensures { IsEscape E.units (bytes string.entry) (escaped_text result) }
+    pub(crate) fn new(form: Form, string: OsStr<'a, E>) -> Self
+        ensures { IsEscapeBy (shown_by form) E.units (bytes string.entry) (escaped_text result) }
     {
-        Escaped { string }
+        Escaped { string, form }
     }
 }
 
@@ -50,7 +53,7 @@ impl<'a, E: Platform> fmt::Display for Escaped<'a, E> {
     fn fmt<W: fmt::Write>(&self, f: &mut fmt::Formatter<W>) -> fmt::Result {
         for (part, text) in self.string.utf8_chunks() {
             write_part(part, f)?;
-            write_text(text, f)?;
+            write_text(self.form, text, f)?;
         }
         Ok(())
     }

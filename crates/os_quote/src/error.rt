@@ -1,18 +1,20 @@
 //! Why a text is no escape.
 use std::alloc::AllocError;
 
-/// Why [`unescape`](crate::unescape) gives no string.
+/// Why [`unescape`](crate::unescape) or [`unescape_line`](crate::unescape_line) gives no string.
 #[derive(Clone, Copy, Debug, PartialEq, Eq)]
 pub enum QuoteError {
     /// The byte place of the first backslash that begins no token: `\\`, `\x` with two digits,
-    /// or `\u` with four.
+    /// or `\u` with four; on one line also `\u{`, five or six digits that begin with no `0`, of a
+    /// number up to 10FFFF, and `}`.
     ///
     /// `a\q` is `BadEscape(1)`; `\xff` is `BadEscape(0)`, since a digit is `0` to `9` or `A`
     /// to `F`.
     BadEscape(usize),
     /// Each backslash is in a token, and yet no string of the platform has this escape.
     ///
-    /// On Unix `\x41` is so, since the escape of that string is `A`.
+    /// On Unix `\x41` is so, since the escape of that string is `A`; and on one line a newline, since
+    /// there it is `\u000A`.
     NotCanonical,
     /// Memory was refused.
     Memory,

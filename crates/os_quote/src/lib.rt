@@ -5,17 +5,24 @@
 //! part of a text is `\xHH` where it is below 100 (hexadecimal), else `\uHHHH`, with digits
 //! from `0` to `9` and from `A` to `F`. [`escaped`] writes the same without memory. The format
 //! is this project's own.
+//!
+//! [`escape_line`], [`escaped_line`] and [`unescape_line`] are a second form, for log lines and
+//! terminals: what ends a line, moves the cursor, reorders text or isn't seen is a token, too.
 #![tactic(auto)]
 
 mod display;
 mod error;
+mod form;
 pub mod laws;
+mod long_token;
 mod quoting;
 mod reading;
+mod standing;
 mod token;
 mod write;
+mod write_token;
 
 pub use display::Escaped;
 pub use error::QuoteError;
-pub use quoting::{escape, escaped};
-pub use reading::unescape;
+pub use quoting::{escape, escape_line, escaped, escaped_line};
+pub use reading::{unescape, unescape_line};

@@ -1,10 +1,12 @@
 //! From strings to escapes.
 ghost use Rattle.std.specs.Prelude.{IfOk, string_bytes};
 ghost use Rattle.platform_str.specs.Strings.{bytes};
-ghost use Rattle.os_quote.specs.Escape.{IsEscape};
+ghost use Rattle.os_quote.specs.Shown.{shown_by};
+ghost use Rattle.os_quote.specs.Escape.{IsEscape, IsLineEscape, IsEscapeBy};
 ghost use Rattle.os_quote.specs.Escaped.{escaped_text};
 
 use crate::display::Escaped;
+use crate::form::Form;
 use os_str_bytes::{OsStr, Platform};
 use std::alloc::{AllocError, Allocator};
 
@@ -16,24 +18,116 @@ use std::alloc::{AllocError, Allocator};
 /// and 5C is `a\uD800\\`. The format is this project's own; [`escaped`] writes the same
 /// without memory.
 ///
+/// Control characters stand in it as they are, so a newline in a name is a newline in its escape.
+/// For a log line or a terminal there is [`escape_line`].
+///
 /// # Errors
 ///
 /// `AllocError` where memory is refused.
+///
+/// ```
+/// use os_quote::escape;
+/// use os_str_bytes::{OsStr, OsString, Unix, Windows};
+///
+/// let string = OsStr::<Unix>::from_encoded_bytes_unchecked(b"fo\x80\xFFo");
+/// assert_eq!(rt; escape(alloc, string)?.as_str(), "fo\\x80\\xFFo");
+///
+/// let string = OsString::<Windows>::from_wide(alloc, &[0x61, 0xD800, 0x5C])?;
+/// assert_eq!(rt; escape(alloc, string.as_os_str())?.as_str(), "a\\uD800\\\\");
+/// ```
 pub fn escape<E: Platform, A: Allocator>(
     alloc: A,
     string: OsStr<'_, E>,
 ) -> Result<String<A>, AllocError>
     ensures { IfOk result (λ text. IsEscape E.units (bytes string.entry) (string_bytes text)) }
 {
-    escaped(string).to_string(alloc)
+    escape_by(Form::Text, alloc, string)
 }
 
-/// The string as a value that prints as its escape, as `{}` of a log line. It takes no memory.
+/// The string as a value that prints as its escape. It takes no memory.
 ///
 /// What it writes is the text that [`escape`] gives: of the Unix string 66 6F 80 FF 6F
-/// (hexadecimal) `fo\x80\xFFo`.
+/// (hexadecimal) `fo\x80\xFFo`. Control characters stand in it as they are; as `{}` of a log line
+/// use [`escaped_line`].
+///
+/// ```
+/// use os_quote::escaped;
+/// use os_str_bytes::{OsStr, Unix};
+///
+/// let string = OsStr::<Unix>::from_encoded_bytes_unchecked(b"fo\x80\xFFo");
+/// assert_eq!(rt; escaped(string).to_string(alloc)?.as_str(), "fo\\x80\\xFFo");
+/// ```
 pub fn escaped<'a, E: Platform>(string: OsStr<'a, E>) -> Escaped<'a, E>
     ensures { IsEscape E.units (bytes string.entry) (escaped_text result) }
 {
-    Escaped::new(string)
+    Escaped::new(Form::Text, string)
+}
+
+/// The escape of a string on one line, from which [`unescape_line`](crate::unescape_line) gives the
+/// string again.
+///
+/// It is made as by [`escape`], and these characters of a text are tokens, too, `\uHHHH` or, past
+/// U+FFFF, `\u{H..}` of five or six digits:
+///
+/// - control characters: U+0000 to U+001F and U+007F to U+009F (Unicode, general category Cc)
+/// - the line and the paragraph separator, U+2028 and U+2029 (categories Zl and Zp)
+/// - controls of direction: U+061C, U+200E, U+200F, U+202A to U+202E, U+2066 to U+2069 (property
+///   Bidi_Control)
+/// - spaces and joiners without width: U+200B to U+200D, U+2060, U+FEFF (The Unicode Standard,
+///   section 23.2)
+/// - tags: U+E0000 to U+E007F (section 23.9)
+///
+/// So nothing in it ends the line, moves the cursor, reorders text, or copies or parts text without
+/// being seen. All other characters stand as they are, also those that change how a neighbour
+/// looks, as combining marks and variation selectors do, and letters that look alike.
+///
+/// Rust's `str::escape_debug` has no way back and takes texts alone.
+///
+/// # Errors
+///
+/// `AllocError` where memory is refused.
+///
+/// ```
+/// use os_quote::escape_line;
+/// use os_str_bytes::{OsStr, Unix};
+///
+/// let string = OsStr::<Unix>::from_encoded_bytes_unchecked(b"a\n\x1B\xFF");
+/// assert_eq!(rt; escape_line(alloc, string)?.as_str(), "a\\u000A\\u001B\\xFF");
+/// ```
+pub fn escape_line<E: Platform, A: Allocator>(
+    alloc: A,
+    string: OsStr<'_, E>,
+) -> Result<String<A>, AllocError>
+    ensures { IfOk result (λ text. IsLineEscape E.units (bytes string.entry) (string_bytes text)) }
+{
+    escape_by(Form::Line, alloc, string)
+}
+
+/// The string as a value that prints as its escape on one line, as `{}` of a log line. It takes no
+/// memory.
+///
+/// What it writes is the text that [`escape_line`] gives.
+///
+/// ```
+/// use os_quote::escaped_line;
+/// use os_str_bytes::{OsStr, Windows};
+///
+/// let string = OsStr::<Windows>::new("a\n\u{E0041}");
+/// assert_eq!(rt; escaped_line(string).to_string(alloc)?.as_str(), "a\\u000A\\u{E0041}");
+/// ```
+pub fn escaped_line<'a, E: Platform>(string: OsStr<'a, E>) -> Escaped<'a, E>
+    ensures { IsLineEscape E.units (bytes string.entry) (escaped_text result) }
+{
+    Escaped::new(Form::Line, string)
+}
+
+/// The escape of a string in a form.
+pub(crate) fn escape_by<E: Platform, A: Allocator>(
+    form: Form,
+    alloc: A,
+    string: OsStr<'_, E>,
+) -> Result<String<A>, AllocError>
+    ensures { IfOk result (λ text. IsEscapeBy (shown_by form) E.units (bytes string.entry) (string_bytes text)) }
+{
+    Escaped::new(form, string).to_string(alloc)
 }

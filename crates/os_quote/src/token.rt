@@ -1,10 +1,13 @@
 //! Tokens, and the backslashes that begin them.
 ghost use Rattle.std.specs.Prelude.{◌≡◌, ◌≢◌, ◌<◌, ◌∷◌, ◌++◌, ℕ, List, MatchOption};
 ghost use Rattle.wtf8_core.specs.FaultText.{upper_hex_digit};
-ghost use Rattle.os_quote.specs.Item.{backslash, byte_digits, item_text, IsItem};
+ghost use Rattle.os_quote.specs.Item.{backslash, byte_digits, wide_digits, item_text, IsItem};
+ghost use Rattle.os_quote.specs.Shown.{shown_by};
 ghost use Rattle.os_quote.specs.Escape.{BeginsNoToken};
-ghost use Rattle.os_quote.specs.Reading.{HasNoBackslash, IsCutAtBackslash, token_item};
+ghost use Rattle.os_quote.specs.Reading.{HasNoBackslash, IsCutAtBackslash, HasNoNumber, token_item};
 
+use crate::form::Form;
+use crate::long_token::long_character;
 use memchr::memchr;
 
 /// What a backslash begins.
@@ -14,8 +17,10 @@ pub(crate) enum Token {
     Backslash,
     /// `\xHH`, a unit of two digits.
     Byte(u8),
-    /// `\uHHHH`, a unit of four digits.
+    /// `\uHHHH`, a unit or a character of four digits.
     Wide(u16),
+    /// `\u{H..}`, a character of five or six digits.
+    Long(char),
 }
 
 /// What stands before the first backslash of a text, and what stands behind it.
@@ -28,12 +33,12 @@ pub(crate) fn split_backslash(text: &str) -> Option<(&str, &str)>
     Some((&text[..at], &text[at + 1..]))
 }
 
-/// The token that a backslash begins, of what stands behind the backslash; and what stands
-/// behind the token.
+/// The token of a form that a backslash begins, of what stands behind the backslash; and what
+/// stands behind the token.
 #[tactic(auto, using(crate::proofs::lemmas::Tokens::tokens))]
-pub(crate) fn first_token(behind: &[u8]) -> Option<(Token, &[u8])>
-    ensures { MatchOption result (BeginsNoToken (backslash ∷ behind.now))
-        (λ read. IsItem (token_item read.0) × (backslash ∷ behind.now ≡ item_text (token_item read.0) ++ read.1.now)) }
+pub(crate) fn first_token(form: Form, behind: &[u8]) -> Option<(Token, &[u8])>
+    ensures { MatchOption result (BeginsNoToken (shown_by form) (backslash ∷ behind.now))
+        (λ read. IsItem (shown_by form) (token_item read.0) × (backslash ∷ behind.now ≡ item_text (token_item read.0) ++ read.1.now)) }
 {
     let Some((kind, digits)) = behind.split_first() else {
         return None;
@@ -48,15 +53,46 @@ pub(crate) fn first_token(behind: &[u8]) -> Option<(Token, &[u8])>
         return Some((Token::Byte(unit), rest));
     }
     if *kind == b'u' {
-        let Some((high, lower)) = two_digits(digits) else {
+        let Some((token, rest)) = number_token(form, digits) else {
             return None;
         };
-        let Some((low, rest)) = two_digits(lower) else {
-            return None;
-        };
-        return Some((Token::Wide(u16::from(high) * 0x100 + u16::from(low)), rest));
+        return Some((token, rest));
     }
     None
+}
+
+/// The token of a form that `\u` begins, of what stands behind it; and what stands behind the
+/// token.
+fn number_token(form: Form, digits: &[u8]) -> Option<(Token, &[u8])>
+    ensures { MatchOption result (HasNoNumber (shown_by form) digits.now)
+        (λ read. IsItem (shown_by form) (token_item read.0) × (backslash ∷ 0x75 ∷ digits.now ≡ item_text (token_item read.0) ++ read.1.now)) }
+{
+    if let Some((unit, rest)) = four_digits(digits) {
+        return Some((Token::Wide(unit), rest));
+    }
+    match form {
+        Form::Text => None,
+        Form::Line => {
+            let Some((character, rest)) = long_character(digits) else {
+                return None;
+            };
+            Some((Token::Long(character), rest))
+        }
+    }
+}
+
+/// The number of four digits at the front, and what stands behind them.
+pub(crate) fn four_digits(bytes: &[u8]) -> Option<(u16, &[u8])>
+    ensures { MatchOption result ((u : ℕ) → u < 0x1_0000 → (after : List ℕ) → bytes.now ≢ wide_digits u ++ after)
+        (λ read. bytes.now ≡ wide_digits read.0 ++ read.1.now) }
+{
+    let Some((high, lower)) = two_digits(bytes) else {
+        return None;
+    };
+    let Some((low, rest)) = two_digits(lower) else {
+        return None;
+    };
+    Some((u16::from(high) * 0x100 + u16::from(low), rest))
 }
 
 /// The byte of two digits at the front, and what stands behind them.
@@ -72,7 +108,7 @@ fn two_digits(bytes: &[u8]) -> Option<(u8, &[u8])>
 }
 
 /// The value of a digit from `0` to `9` or from `A` to `F`.
-fn digit(byte: u8) -> Option<u8>
+pub(crate) fn digit(byte: u8) -> Option<u8>
     ensures { MatchOption result ((d : ℕ) → d < 16 → upper_hex_digit d ≢ byte) (λ d. (d < 16) × (upper_hex_digit d ≡ byte)) }
 {
     match byte {

@@ -3,10 +3,13 @@ ghost use Rattle.std.specs.Prelude.{◌≡◌, ◌<◌, map};
 ghost use Rattle.std.specs.Fmt.{WritesStyledOnOk};
 ghost use Rattle.std.specs.Str.{chars};
 ghost use Rattle.os_str_ext.specs.Parts.{part_bytes};
-ghost use Rattle.wtf8_core.specs.FaultText.{upper_hex_digit};
-ghost use Rattle.os_quote.specs.Item.{byte_digits, item_text, item_texts, unit_item, character_item};
+ghost use Rattle.os_quote.specs.Item.{item_text, item_texts, unit_item, character_item};
+ghost use Rattle.os_quote.specs.Shown.{is_any, stays_on_line, shown_by};
 
+use crate::form::{Form, stays_on_line};
+use crate::standing::split_suspect;
 use crate::token::split_backslash;
+use crate::write_token::{write_hidden, write_unit};
 use os_str_bytes::{NonUnicodeOsStr, Platform};
 use std::fmt;
 
@@ -23,9 +26,23 @@ pub(crate) fn write_part<'a, E: Platform, W: fmt::Write>(
     Ok(())
 }
 
+/// Writes a text in a form.
+pub(crate) fn write_text<W: fmt::Write>(
+    form: Form,
+    text: &str,
+    f: &mut fmt::Formatter<W>,
+) -> fmt::Result
+    ensures { WritesStyledOnOk W.write_str_gives f.old result (item_texts (map (character_item (shown_by form)) (chars text.now))) f.new }
+{
+    match form {
+        Form::Text => write_shown(text, f),
+        Form::Line => write_line(text, f),
+    }
+}
+
 /// Writes a text with each backslash doubled.
-pub(crate) fn write_text<W: fmt::Write>(text: &str, f: &mut fmt::Formatter<W>) -> fmt::Result
-    ensures { WritesStyledOnOk W.write_str_gives f.old result (item_texts (map character_item (chars text.now))) f.new }
+fn write_shown<W: fmt::Write>(text: &str, f: &mut fmt::Formatter<W>) -> fmt::Result
+    ensures { WritesStyledOnOk W.write_str_gives f.old result (item_texts (map (character_item is_any) (chars text.now))) f.new }
 {
     let mut rest = text;
     while let Some((front, behind)) = split_backslash(rest) {
@@ -36,37 +53,29 @@ pub(crate) fn write_text<W: fmt::Write>(text: &str, f: &mut fmt::Formatter<W>) -
     f.write_str(rest)
 }
 
-/// Writes a unit: `\xHH` where it is below 100 (hexadecimal), else `\uHHHH`.
-fn write_unit<W: fmt::Write>(unit: u16, f: &mut fmt::Formatter<W>) -> fmt::Result
-    ensures { WritesStyledOnOk W.write_str_gives f.old result (item_text (unit_item unit)) f.new }
+/// Writes a text with each backslash doubled and each character that doesn't stay on a line as a
+/// token.
+fn write_line<W: fmt::Write>(text: &str, f: &mut fmt::Formatter<W>) -> fmt::Result
+    ensures { WritesStyledOnOk W.write_str_gives f.old result (item_texts (map (character_item stays_on_line) (chars text.now))) f.new }
 {
-    if unit < 0x100 {
-        f.write_str("\\x")?;
-        write_byte(unit as u8, f)
-    } else {
-        f.write_str("\\u")?;
-        write_byte((unit / 0x100) as u8, f)?;
-        write_byte((unit % 0x100) as u8, f)
+    let mut rest = text;
+    while let Some((front, character, behind)) = split_suspect(rest) {
+        f.write_str(front)?;
+        write_character(character, f)?;
+        rest = behind;
     }
+    f.write_str(rest)
 }
 
-/// Writes the two digits of a byte.
-fn write_byte<W: fmt::Write>(byte: u8, f: &mut fmt::Formatter<W>) -> fmt::Result
-    ensures { WritesStyledOnOk W.write_str_gives f.old result (byte_digits byte) f.new }
+/// Writes a character as the escape on one line has it.
+fn write_character<W: fmt::Write>(character: char, f: &mut fmt::Formatter<W>) -> fmt::Result
+    ensures { WritesStyledOnOk W.write_str_gives f.old result (item_text (character_item stays_on_line character)) f.new }
 {
-    f.write_char(upper_hex_digit(byte / 16))?;
-    f.write_char(upper_hex_digit(byte % 16))
-}
-
-/// A digit from `0` to `9` or from `A` to `F`.
-fn upper_hex_digit(digit: u8) -> char
-    requires { digit < 16 }
-    ensures value { result ≡ upper_hex_digit digit }
-    ensures ascii { result < 128 }
-{
-    if digit < 10 {
-        char::from(b'0' + digit)
+    if character == '\\' {
+        f.write_str("\\\\")
+    } else if stays_on_line(character) {
+        f.write_char(character)
     } else {
-        char::from(b'A' + (digit - 10))
+        write_hidden(character as u32, f)
     }
 }

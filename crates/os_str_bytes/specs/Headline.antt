@@ -1,10 +1,12 @@
 -- The words of the headline.
-use Rattle.std.specs.Prelude.{◌≡◌, ◌↔◌, ◌<◌, ◌++◌, ℕ, List, length, Option, MatchOption, Result, MatchResult}
+use Rattle.std.specs.Prelude.{◌≡◌, ◌↔◌, ◌<◌, ℕ, List, length, drop, Option, MatchOption, Result, MatchResult, IfOk}
 use Rattle.wtf8_core.specs.Boundary.{IsBoundary}
 use Rattle.wtf8_core.specs.declared.fault.EncodingError.{EncodingError}
 use Rattle.platform_str.specs.declared.platform.Platform.{Ghosts}
 use Rattle.os_str_bytes.specs.declared.raw_str.RawOsStr.{RawOsStr}
-use Rattle.os_str_bytes.specs.Raw.{raw_bytes, raw_units}
+use Rattle.os_str_bytes.specs.declared.cuts.Cuts.{Cuts}
+use Rattle.os_str_bytes.specs.Raw.{raw_bytes, raw_vec_of}
+use Rattle.os_str_bytes.specs.Cuts.{AreBothParts, IsPart}
 
 -- the strings of the platform P are the bytes that `formed` says, `has_units` says their units, `listed` which lists are units, and `faults` the first fault of other bytes; `safe` says which bytes are IO-safe, `lossy_is` the lossy text of a string, `replaced` how many bytes one U+FFFD stands for there, and `parts` the units of a part
 pub record IsPlatform {E : Type 0} (P : Ghosts E) (formed : List ℕ → Type 0) (has_units : List ℕ → List ℕ → Type 0) (listed : List ℕ → Type 0) (faults : List ℕ → EncodingError → Type 0) (safe : List ℕ → Type 0) (lossy_is : List ℕ → List ℕ → Type 0) (replaced : List ℕ → ℕ → Type 0) (parts : List ℕ → Type 0) : Type 0 where
@@ -46,7 +48,15 @@ pub record Trims (Is : List ℕ → List ℕ → Type 0) (p s us : List ℕ) : T
 abbrev pub Splits : {T : Type 0} → (T → Type 0) → List ℕ → Option T → Type 0
 Splits Is p r = MatchOption r (length p ≡ 0) (λ pieces. (0 < length p) × Is pieces)
 
-module _ {E : Type 0} {P : Ghosts E} where
-  -- r is both parts of s, whose units joined are those of s, and the first has `at` bytes; None where s may not be cut there
-  abbrev pub CutsAt : RawOsStr E P → ℕ → Option (RawOsStr E P × RawOsStr E P) → Type 0
-  CutsAt s at r = MatchOption r (¬ (IsBoundary (raw_bytes s) at)) (λ parts. (raw_bytes s ≡ raw_bytes parts.0 ++ raw_bytes parts.1) × (length (raw_bytes parts.0) ≡ at) × (raw_units s ≡ raw_units parts.0 ++ raw_units parts.1))
+module _ {E A : Type 0} {P : Ghosts E} where
+  -- each cut of s at index `at` gives the parts before it and from it on; of a copy, unless memory is refused
+  pub record AreCutsAt (s : RawOsStr E P) (at : ℕ) (cuts : Cuts E A P) : Type 0 where
+    pub split_at : AreBothParts s at (raw_bytes cuts.split_at.0) (raw_bytes cuts.split_at.1)
+    pub index : IsPart s 0 at (raw_bytes cuts.index.0) × IsPart s at (length (raw_bytes s)) (raw_bytes cuts.index.1)
+    pub get_unchecked : IsPart s 0 at (raw_bytes cuts.get_unchecked.0) × IsPart s at (length (raw_bytes s)) (raw_bytes cuts.get_unchecked.1)
+    pub split_off : IfOk cuts.split_off (λ parts. AreBothParts s at (raw_vec_of parts.0).items (raw_vec_of parts.1).items)
+    pub truncate : IfOk cuts.truncate (λ front. AreBothParts s at (raw_vec_of front).items (drop at (raw_bytes s)))
+
+  -- the cuts of s at index `at`; None where s may not be cut there
+  abbrev pub CutsAt : RawOsStr E P → ℕ → Option (Cuts E A P) → Type 0
+  CutsAt s at r = MatchOption r (¬ (IsBoundary (raw_bytes s) at)) (λ cuts. AreCutsAt s at cuts)

@@ -1,3 +1,4 @@
+pub mod Cuts
 pub mod Headline
 pub mod Raw
 pub mod RawCow

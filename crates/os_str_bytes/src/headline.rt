@@ -16,6 +16,8 @@ ghost use Rattle.os_str_bytes.specs.Raw.{raw_bytes, raw_units, raw_vec_of};
 ghost use Rattle.os_str_bytes.specs.RawCow.{raw_cow_bytes};
 ghost use Rattle.os_str_bytes.specs.Headline.{AreOneToOne, AcceptsOrRefuses, CutsAt, Trims, Splits};
 
+pub use crate::cuts::Cuts;
+use crate::cuts::{both_parts, indexed, indexed_unchecked, split_copy, truncated_copy};
 use crate::iter::{RawRSplit, RawSplit};
 use crate::raw_cow::CowRawOsStr;
 use crate::raw_str::RawOsStr;
@@ -53,8 +55,8 @@ pub struct Answers<'a, E: Platform + 'a, P: Pattern, A: Allocator> {
     /// `None` where the pattern is empty.
     pub rsplit: Option<RawRSplit<'a, E, P>>,
     pub is_boundary: bool,
-    /// `None` where the place is no boundary: `split_at` may not be called there.
-    pub split_at: Option<(RawOsStr<'a, E>, RawOsStr<'a, E>)>,
+    /// `None` where the place is no boundary: the string may not be cut there.
+    pub cuts: Option<Cuts<'a, E, &'a A>>,
     pub push: Result<OsString<E, &'a A>, AllocError>,
     pub repeat: Result<RawOsString<E, &'a A>, AllocError>,
     pub utf8_chunks: Utf8Chunks<'a, E>,
@@ -66,6 +68,17 @@ pub struct Answers<'a, E: Platform + 'a, P: Pattern, A: Allocator> {
 /// Its contract is what the library is for, and asks nothing of its caller. Units are bytes on
 /// Unix and wasm and 16-bit units on Windows (`laws::platforms` says what each platform is), a
 /// place that is found is a place of bytes.
+///
+/// ```
+/// use os_str_bytes::headline::ask;
+/// use os_str_bytes::{RawOsStr, Unix};
+///
+/// let string = RawOsStr::<Unix>::from_str("a/b");
+/// let answers = ask(&alloc, b"a\x80", string, RawOsStr::from_str("a"), '/', 1, 2);
+/// assert!(rt; answers.cow_from_raw_bytes.is_ok() && answers.starts_with_os);
+/// assert_eq!(rt; answers.find, Some(1));
+/// assert!(rt; answers.repeat?.eq_str("a/ba/b"));
+/// ```
 pub fn ask<'a, E: Platform + 'a, P: Pattern + Copy, A: Allocator>(
     alloc: &'a A,
     raw: &'a [u8],
@@ -105,9 +118,9 @@ pub fn ask<'a, E: Platform + 'a, P: Pattern + Copy, A: Allocator>(
     ensures rsplit_once { SplitsOnce IsGreatestPlace raw_units (E.units (P.text pattern)) (raw_units string.entry) result.rsplit_once }
     ensures split { Splits (λ pieces. IsSplit (E.units (P.text pattern)) (raw_units string.entry) (map E.units pieces)) (P.text pattern) result.split }
     ensures rsplit { Splits (λ pieces. IsRSplit (E.units (P.text pattern)) (raw_units string.entry) (map E.units pieces)) (P.text pattern) result.rsplit }
-    // Each cut at a boundary leaves two strings whose units joined are the string's.
+    // Each cut at a boundary gives strings whose units, joined, are the string's.
     ensures is_boundary { IsTrue result.is_boundary ↔ IsBoundary (raw_bytes string.entry) at }
-    ensures split_at { CutsAt string.entry at result.split_at }
+    ensures cuts { CutsAt string.entry at result.cuts }
     // Each join, unless memory is refused, joins the units, also two halves of a pair.
     ensures push { IfOk result.push (λ joined. E.units (string_vec_of joined).items ≡ raw_units string.entry ++ raw_units other.entry) }
     ensures repeat { IfOk result.repeat (λ made. E.units (raw_vec_of made).items ≡ repeat count (raw_units string.entry)) }
@@ -135,7 +148,7 @@ pub fn ask<'a, E: Platform + 'a, P: Pattern + Copy, A: Allocator>(
         split: pieces(string, pattern),
         rsplit: pieces_from_the_end(string, pattern),
         is_boundary: string.is_boundary(at),
-        split_at: parts(string, at),
+        cuts: cuts(alloc, string, at),
         push: joined(alloc, string, other),
         repeat: string.repeat(alloc, count),
         utf8_chunks: string.utf8_chunks(),
@@ -151,6 +164,15 @@ pub struct WindowsAnswers<'a> {
 }
 
 /// Makes the calls whose answers say more on Windows, once each.
+///
+/// ```
+/// use os_str_bytes::RawOsStr;
+/// use os_str_bytes::headline::ask_windows;
+/// use std::cmp::Ordering;
+///
+/// let answers = ask_windows(RawOsStr::from_str("\u{E9}"), RawOsStr::from_str("a"));
+/// assert!(rt; answers.cmp == Ordering::Greater);
+/// ```
 pub fn ask_windows<'a>(
     string: RawOsStr<'a, Windows>,
     other: RawOsStr<'a, Windows>,
@@ -181,6 +203,13 @@ pub struct Spelled<'a, A: Allocator> {
 
 /// Makes the calls that give a string of its units: each list of units of a platform is that of
 /// some string, and a call gives it.
+///
+/// ```
+/// use os_str_bytes::headline::ask_units;
+///
+/// let spelled = ask_units(&alloc, b"a\x80", &[0xD800]);
+/// assert!(rt; spelled.unix.is_ok() && spelled.windows.is_ok() && spelled.wasm.is_err());
+/// ```
 pub fn ask_units<'a, A: Allocator>(alloc: &'a A, bytes: &'a [u8], wide: &[u16]) -> Spelled<'a, A>
     // Any bytes are the units of a Unix string,
     ensures unix { IsOk result.unix }
@@ -254,17 +283,24 @@ fn is_empty<P: Pattern>(pattern: P) -> bool
     pattern.encode().as_bytes().is_empty()
 }
 
-/// `split_at`, where the place is a boundary.
-fn parts<'a, E: Platform>(
+/// Each cut at a place that is a boundary.
+fn cuts<'a, E: Platform, A: Allocator>(
+    alloc: &'a A,
     string: RawOsStr<'a, E>,
     at: usize,
-) -> Option<(RawOsStr<'a, E>, RawOsStr<'a, E>)>
+) -> Option<Cuts<'a, E, &'a A>>
     ensures { CutsAt string.entry at result }
 {
-    if string.is_boundary(at) {
-        return Some(string.split_at(at));
+    if !string.is_boundary(at) {
+        return None;
     }
-    None
+    Some(Cuts {
+        split_at: both_parts(string, at),
+        index: indexed(string, at),
+        get_unchecked: indexed_unchecked(string, at),
+        split_off: split_copy(alloc, string, at),
+        truncate: truncated_copy(alloc, string, at),
+    })
 }
 
 /// One string, with another pushed.

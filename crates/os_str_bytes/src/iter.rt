@@ -1,22 +1,30 @@
 //! All iterators: those of raw strings, and those of the crates below.
 use crate::raw_str::RawOsStr;
+pub use os_str_ext::{
+    Direction, FromEnd, FromStart, OsUnits, Pieces, RSplit, Split, Symbols, Utf8Chunks, WideUnits,
+};
 use os_str_ext::{Pattern, Platform};
-pub use os_str_ext::{OsUnits, RSplit, Split, Symbols, Utf8Chunks, WideUnits};
 use std::alloc::AllocError;
 use std::marker::Model;
 pub use wtf8_core::{CodePoints, DecodeWide, EncodeWide};
 
-/// The pieces of a raw string between the places of a pattern, from the front: the items of
-/// [`Split`] as raw strings.
+/// The pieces of a raw string between the matches of a pattern, from one of its ends: the items of
+/// [`Pieces`] as raw strings.
 ///
 /// Its `clone` takes no memory, answers `Ok` and has the same pieces left. After `None` comes
 /// `None`.
 #[derive(Drop)]
-pub struct RawSplit<'a, E: Platform + 'a, P: Pattern> {
-    pieces: Split<'a, E, P>,
+pub struct RawPieces<'a, E: Platform + 'a, P: Pattern, D: Direction> {
+    pieces: Pieces<'a, E, P, D>,
 }
 
-impl<'a, E: Platform, P: Pattern> Model for RawSplit<'a, E, P> {
+/// The pieces of a raw string from its start: the items of [`Split`] as raw strings.
+pub type RawSplit<'a, E, P> = RawPieces<'a, E, P, FromStart>;
+
+/// The pieces of a raw string from its end: the items of [`RSplit`] as raw strings.
+pub type RawRSplit<'a, E, P> = RawPieces<'a, E, P, FromEnd>;
+
+impl<'a, E: Platform, P: Pattern, D: Direction> Model for RawPieces<'a, E, P, D> {
     ghost use Rattle.std.specs.Prelude.{List, ℕ};
 
     ghost Value = { List (List ℕ) };
@@ -24,17 +32,17 @@ impl<'a, E: Platform, P: Pattern> Model for RawSplit<'a, E, P> {
     ghost view = { λ it. it.pieces };
 }
 
-impl<'a, E: Platform, P: Pattern> RawSplit<'a, E, P> {
+impl<'a, E: Platform, P: Pattern, D: Direction> RawPieces<'a, E, P, D> {
     ghost use Rattle.std.specs.Prelude.{◌≡◌};
 
-    pub(crate) fn new(pieces: Split<'a, E, P>) -> Self
+    pub(crate) fn new(pieces: Pieces<'a, E, P, D>) -> Self
         ensures { result ≡ pieces.entry }
     {
-        RawSplit { pieces }
+        RawPieces { pieces }
     }
 }
 
-impl<'a, E: Platform, P: Pattern> Clone for RawSplit<'a, E, P> {
+impl<'a, E: Platform, P: Pattern, D: Direction> Clone for RawPieces<'a, E, P, D> {
     ghost use Rattle.std.specs.Prelude.{◌≡◌};
 
     ghost is_clone = { λ x y. y ≡ x };
@@ -42,73 +50,13 @@ impl<'a, E: Platform, P: Pattern> Clone for RawSplit<'a, E, P> {
     ghost is_infallible = { λ _. Unit {0} };
 
     fn clone(&self) -> Result<Self, AllocError> {
-        Ok(RawSplit {
+        Ok(RawPieces {
             pieces: self.pieces.clone()?,
         })
     }
 }
 
-impl<'a, E: Platform, P: Pattern> Iterator for RawSplit<'a, E, P> {
-    ghost use Rattle.os_str_bytes.specs.Raw.{raw_bytes};
-    ghost use Rattle.std.specs.Iterator.{YieldsFirstBy, item_count};
-
-    type Item = RawOsStr<'a, E>;
-
-    ghost next_gives = { YieldsFirstBy raw_bytes (λ left. left) };
-
-    ghost remaining = { item_count (λ left. left) };
-
-    fn next(&mut self) -> Option<RawOsStr<'a, E>> {
-        match self.pieces.next() {
-            Some(piece) => Some(RawOsStr::new(piece)),
-            None => None,
-        }
-    }
-}
-
-/// The pieces of a raw string between the places of a pattern, from the end: the items of
-/// [`RSplit`] as raw strings.
-///
-/// Its `clone` takes no memory, answers `Ok` and has the same pieces left. After `None` comes
-/// `None`.
-#[derive(Drop)]
-pub struct RawRSplit<'a, E: Platform + 'a, P: Pattern> {
-    pieces: RSplit<'a, E, P>,
-}
-
-impl<'a, E: Platform, P: Pattern> Model for RawRSplit<'a, E, P> {
-    ghost use Rattle.std.specs.Prelude.{List, ℕ};
-
-    ghost Value = { List (List ℕ) };
-
-    ghost view = { λ it. it.pieces };
-}
-
-impl<'a, E: Platform, P: Pattern> RawRSplit<'a, E, P> {
-    ghost use Rattle.std.specs.Prelude.{◌≡◌};
-
-    pub(crate) fn new(pieces: RSplit<'a, E, P>) -> Self
-        ensures { result ≡ pieces.entry }
-    {
-        RawRSplit { pieces }
-    }
-}
-
-impl<'a, E: Platform, P: Pattern> Clone for RawRSplit<'a, E, P> {
-    ghost use Rattle.std.specs.Prelude.{◌≡◌};
-
-    ghost is_clone = { λ x y. y ≡ x };
-
-    ghost is_infallible = { λ _. Unit {0} };
-
-    fn clone(&self) -> Result<Self, AllocError> {
-        Ok(RawRSplit {
-            pieces: self.pieces.clone()?,
-        })
-    }
-}
-
-impl<'a, E: Platform, P: Pattern> Iterator for RawRSplit<'a, E, P> {
+impl<'a, E: Platform, P: Pattern, D: Direction> Iterator for RawPieces<'a, E, P, D> {
     ghost use Rattle.os_str_bytes.specs.Raw.{raw_bytes};
     ghost use Rattle.std.specs.Iterator.{YieldsFirstBy, item_count};
 

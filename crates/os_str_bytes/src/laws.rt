@@ -34,9 +34,12 @@ pub use wtf8_core::laws::order;
 /// each surrogate on Windows; on wasm it is the string. The units of a part of a chunk are at least
 /// 80 (hexadecimal) on Unix, lone surrogates on Windows, and on wasm there are none.
 pub fn platforms()
-    ensures unix { IsPlatform ⟦<Unix as Platform>⟧ AreBytes (AreItself AreBytes) AreBytes IsNoFault AreBytes IsLossyText IsIllFormedPart AreAboveAscii }
-    ensures windows { IsPlatform ⟦<Windows as Platform>⟧ IsWtf8 HasUnits AreWideUnits IsWtf8Fault IsUtf8 IsWtf8LossyText IsThree AreLoneSurrogates }
-    ensures wasm { IsPlatform ⟦<Wasm as Platform>⟧ IsUtf8 (AreItself IsUtf8) IsUtf8 IsTextFault IsUtf8 IsSame IsThree AreNone }
+    ensures unix { IsPlatform ⟦<Unix as Platform>⟧ AreBytes (AreItself AreBytes) AreBytes IsNoFault
+        AreBytes IsLossyText IsIllFormedPart AreAboveAscii }
+    ensures windows { IsPlatform ⟦<Windows as Platform>⟧ IsWtf8 HasUnits AreWideUnits IsWtf8Fault
+        IsUtf8 IsWtf8LossyText IsThree AreLoneSurrogates }
+    ensures wasm { IsPlatform ⟦<Wasm as Platform>⟧ IsUtf8 (AreItself IsUtf8) IsUtf8 IsTextFault
+        IsUtf8 IsSame IsThree AreNone }
 {
     functions();
     lossy_text();
@@ -46,17 +49,23 @@ pub fn platforms()
 /// each part that is refused, on wasm for each maximal ill-formed part (Unicode, section 3.9).
 pub fn platform_readings()
     ensures unix { (b : List ℕ) → (c : List ℕ) → ⟦<Unix as Platform>⟧.reads_as b c ↔ (c ≡ b) }
-    ensures windows { (b : List ℕ) → (c : List ℕ) → ⟦<Windows as Platform>⟧.reads_as b c ↔ IsLossyReading b c }
-    ensures wasm { (b : List ℕ) → (c : List ℕ) → ⟦<Wasm as Platform>⟧.reads_as b c ↔ IsLossyText b c }
+    ensures windows { (b : List ℕ) → (c : List ℕ) → ⟦<Windows as Platform>⟧.reads_as b c
+        ↔ IsLossyReading b c }
+    ensures wasm { (b : List ℕ) → (c : List ℕ) → ⟦<Wasm as Platform>⟧.reads_as b c
+        ↔ IsLossyText b c }
 {}
 
 /// Borrowed raw strings are equal where their bytes are, and are ordered as lists of bytes are. A
 /// hasher is fed the bytes, as of a slice, so equal strings hash alike.
 pub fn raw_comparisons<'a, E: Platform>(a: &RawOsStr<'a, E>, b: &RawOsStr<'a, E>)
-    ensures equal { IsTrue (⟦<RawOsStr<'a, E> as PartialEq>⟧.eq a.now b.now) ↔ (raw_bytes a.now ≡ raw_bytes b.now) }
-    ensures order { ⟦<RawOsStr<'a, E> as Ord>⟧.cmp a.now b.now ≡ slice_cmp nat_cmp (raw_bytes a.now) (raw_bytes b.now) }
-    ensures partial_order { ⟦<RawOsStr<'a, E> as PartialOrd>⟧.partial_cmp a.now b.now ≡ Some (slice_cmp nat_cmp (raw_bytes a.now) (raw_bytes b.now)) }
-    ensures hash { ⟦<RawOsStr<'a, E> as Hash>⟧.hash_input a.now ≡ fed.slice fed.u8 (raw_bytes a.now) }
+    ensures equal { IsTrue (⟦<RawOsStr<'a, E> as PartialEq>⟧.eq a.now b.now)
+        ↔ (raw_bytes a.now ≡ raw_bytes b.now) }
+    ensures order { ⟦<RawOsStr<'a, E> as Ord>⟧.cmp a.now b.now
+        ≡ slice_cmp nat_cmp (raw_bytes a.now) (raw_bytes b.now) }
+    ensures partial_order { ⟦<RawOsStr<'a, E> as PartialOrd>⟧.partial_cmp a.now b.now
+        ≡ Some (slice_cmp nat_cmp (raw_bytes a.now) (raw_bytes b.now)) }
+    ensures hash { ⟦<RawOsStr<'a, E> as Hash>⟧.hash_input a.now
+        ≡ fed.slice fed.u8 (raw_bytes a.now) }
 {
     comparisons(&a.as_os_str(), &b.as_os_str());
 }
@@ -67,10 +76,14 @@ pub fn raw_owned_comparisons<E: Platform, A: Allocator>(
     a: &RawOsString<E, A>,
     b: &RawOsString<E, A>,
 )
-    ensures equal { IsTrue (⟦<RawOsString<E, A> as PartialEq>⟧.eq a.now b.now) ↔ ((raw_vec_of a.now).items ≡ (raw_vec_of b.now).items) }
-    ensures order { ⟦<RawOsString<E, A> as Ord>⟧.cmp a.now b.now ≡ slice_cmp nat_cmp (raw_vec_of a.now).items (raw_vec_of b.now).items }
-    ensures partial_order { ⟦<RawOsString<E, A> as PartialOrd>⟧.partial_cmp a.now b.now ≡ Some (slice_cmp nat_cmp (raw_vec_of a.now).items (raw_vec_of b.now).items) }
-    ensures hash { ⟦<RawOsString<E, A> as Hash>⟧.hash_input a.now ≡ fed.slice fed.u8 (raw_vec_of a.now).items }
+    ensures equal { IsTrue (⟦<RawOsString<E, A> as PartialEq>⟧.eq a.now b.now)
+        ↔ ((raw_vec_of a.now).items ≡ (raw_vec_of b.now).items) }
+    ensures order { ⟦<RawOsString<E, A> as Ord>⟧.cmp a.now b.now
+        ≡ slice_cmp nat_cmp (raw_vec_of a.now).items (raw_vec_of b.now).items }
+    ensures partial_order { ⟦<RawOsString<E, A> as PartialOrd>⟧.partial_cmp a.now b.now
+        ≡ Some (slice_cmp nat_cmp (raw_vec_of a.now).items (raw_vec_of b.now).items) }
+    ensures hash { ⟦<RawOsString<E, A> as Hash>⟧.hash_input a.now
+        ≡ fed.slice fed.u8 (raw_vec_of a.now).items }
 {
     comparisons(&a.as_os_str(), &b.as_os_str());
 }

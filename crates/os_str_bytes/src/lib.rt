@@ -1,13 +1,46 @@
 //! Platform strings without loss, under the names of the Rust crate `os_str_bytes`.
 //!
-//! [`RawOsStr`] and [`RawOsString`] are the raw strings of a platform, which is a type
-//! parameter: [`Unix`], [`Windows`] and [`Wasm`] stand side by side. The modules [`unix`],
-//! [`windows`] and [`wasm`] have every string type without that parameter, the module [`iter`]
-//! every iterator. Each public item of the crates below stands here too.
+//! [`OsStrBytesExt`] is the trait to begin with: it gives an [`OsStr`] the calls that std's `str`
+//! has, also where the string isn't UTF-8.
 //!
-//! All places and lengths are numbers of bytes.
+//! ```
+//! use os_str_bytes::{OsStr, OsStrBytes, OsStrBytesExt, Unix};
+//!
+//! let name = OsStr::<Unix>::from_raw_bytes(b"caf\xE9.txt")?;
+//! if let Some((stem, extension)) = name.as_os_str().rsplit_once('.') {
+//!     assert_eq!(rt; stem.as_encoded_bytes(), b"caf\xE9".as_slice());
+//!     assert_eq!(rt; extension.to_str(), Some("txt"));
+//! }
+//! ```
+//!
+//! | To | use |
+//! |---|---|
+//! | search, trim, cut or split a string | [`OsStrBytesExt`] |
+//! | convert a string from bytes, and to bytes | [`OsStrBytes`], [`OsStringBytes`] |
+//! | convert a Windows string from 16-bit code units, and to them | [`OsString::from_wide`], [`OsStr::encode_wide`] |
+//! | print a string, with U+FFFD for what is no text | [`OsStr::display`] |
+//! | find the text in a string, and what is none | [`OsStrBytesExt::utf8_chunks`], [`OsStrBytesExt::symbols`] |
+//!
+//! The platform is a type parameter: [`Unix`], [`Windows`] and [`Wasm`] are there at once. The
+//! modules [`unix`], [`windows`] and [`wasm`] have every string type without it, the module
+//! [`iter`] has every iterator. [`RawOsStr`] and [`RawOsString`] are the raw strings of the Rust
+//! crate, for code that is written with them; they have the same calls.
+//!
+//! This crate re-exports each public item of the crates below, and proves nothing about bytes anew.
+//! All indices and lengths are numbers of bytes. In examples `rt` is the runtime that `main` or a
+//! test has, and `alloc` is `rt.alloc()`.
+//!
+//! # Calls with a condition
+//!
+//! A call with a `requires` can only be made where it is proved. Of the raw strings these have
+//! one: `from_encoded_bytes_unchecked`, `from_encoded_vec_unchecked`, `assert_cow_from_raw_bytes`,
+//! `cow_from_raw_bytes_unchecked`, `assert_from_raw_vec` and `from_raw_vec_unchecked` (the bytes
+//! are well formed: [`Platform::check`]); `split_at`, `split_off` and `truncate` (the index is a
+//! boundary: `is_boundary`); `index` and `get_unchecked` (the range fits: `fits`); `split` and
+//! `rsplit` (the pattern isn't empty). Every other call of them can be made anywhere.
 #![tactic(auto)]
 
+mod cuts;
 pub mod headline;
 pub mod iter;
 pub mod laws;
@@ -20,12 +53,13 @@ pub mod unix;
 pub mod wasm;
 pub mod windows;
 
-pub use iter::{RawRSplit, RawSplit};
+pub use iter::{RawPieces, RawRSplit, RawSplit};
 pub use os_str_ext::{
-    ByteCow, ByteVec, Encoded, EncodedChar, EncodingError, HasBytes, NonUnicodeOsStr, OsStr,
-    OsStrBytes, OsStrBytesExt, OsStrCow, OsStrDisplay, OsString, OsStringBytes, OsUnit, OsUnits,
-    Path, PathBuf, PathCow, Pattern, Platform, RSplit, SliceIndex, Split, StrCow, Symbol, Symbols,
-    Unix, Utf8Chunks, Wasm, WideUnits, Windows, chunk_laws, part_laws, search_laws,
+    ByteCow, ByteVec, Direction, Encoded, EncodedChar, EncodingError, FromEnd, FromStart, HasBytes,
+    NonUnicodeOsStr, OsStr, OsStrBytes, OsStrBytesExt, OsStrCow, OsStrDisplay, OsString,
+    OsStringBytes, OsUnit, OsUnits, Path, PathBuf, PathCow, Pattern, Pieces, Platform, RSplit,
+    SliceIndex, Split, StrCow, Symbol, Symbols, Unix, Utf8Chunks, Wasm, WideUnits, Windows,
+    chunk_laws, part_laws, search_laws, symbol_laws,
 };
 pub use raw_box::RawOsStrBox;
 pub use raw_cow::{CowRawOsStr, RawOsStrCow};

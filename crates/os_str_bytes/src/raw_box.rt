@@ -42,6 +42,13 @@ impl<E: Platform, A: Allocator> RawOsStrBox<E, A> {
     }
 
     /// A view of the string.
+    ///
+    /// ```
+    /// use os_str_bytes::{RawOsStr, Unix};
+    ///
+    /// let boxed = RawOsStr::<Unix>::from_str("foo").to_owned(alloc)?.into_box()?;
+    /// assert!(rt; boxed.as_raw().eq_str("foo"));
+    /// ```
     pub fn as_raw(&self) -> RawOsStr<'_, E>
         ensures { raw_bytes result ≡ box_bytes self.now }
     {

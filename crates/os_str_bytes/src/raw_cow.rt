@@ -26,11 +26,25 @@ pub trait RawOsStrCow<'a, E: Platform + 'a>: Sized {
     ghost is_kept: { Self.OsStrCow → Self → Type 0 };
 
     /// The same string, borrowed or moved in its own vector.
+    ///
+    /// ```
+    /// use os_str_bytes::{CowRawOsStr, OsStr, OsStrCow, RawOsStrCow, Unix};
+    ///
+    /// let string: OsStrCow<'_, Unix> = OsStrCow::Borrowed(OsStr::new("foo"));
+    /// assert!(rt; CowRawOsStr::from_os_str(string).as_raw().eq_str("foo"));
+    /// ```
     fn from_os_str(string: Self::OsStrCow) -> Self
         ensures bytes { bytes_of result ≡ os_bytes_of string }
         ensures kept { is_kept string result };
 
     /// The same string, borrowed or moved in its own vector.
+    ///
+    /// ```
+    /// use os_str_bytes::{OsStr, RawOsStr, RawOsStrCow, Unix};
+    ///
+    /// let string = RawOsStr::<Unix>::cow_from_raw_bytes(b"foo")?.into_os_str();
+    /// assert!(rt; string.as_os_str() == OsStr::new("foo"));
+    /// ```
     fn into_os_str(self) -> Self::OsStrCow
         ensures bytes { os_bytes_of result ≡ bytes_of self }
         ensures kept { is_kept result self };
@@ -68,6 +82,13 @@ impl<'a, E: Platform, A: Allocator> CowRawOsStr<'a, E, A> {
     ghost use Rattle.os_str_bytes.specs.RawCow.{raw_cow_bytes};
 
     /// A view of the string (own call, in the place of `Deref`).
+    ///
+    /// ```
+    /// use os_str_bytes::{RawOsStr, Unix};
+    ///
+    /// let string = RawOsStr::<Unix>::cow_from_raw_bytes(b"foo")?;
+    /// assert!(rt; string.as_raw().eq_str("foo"));
+    /// ```
     pub fn as_raw(&self) -> RawOsStr<'_, E>
         ensures { raw_bytes result ≡ raw_cow_bytes self.now }
     {

@@ -1,18 +1,20 @@
 //! Searches, cuts and pieces of raw strings: the calls of [`crate::OsStrBytesExt`] under the same
 //! contracts.
 ghost use Rattle.std.specs.Prelude.{◌≡◌, ◌<◌, ◌↔◌, ◌++◌, ◌+◌, ◌*◌, ◌^◌, IsTrue, IsOk, IsErr, IfOk, IfSome, length, take, drop, map};
+ghost use Rattle.std.specs.Char.{encode_utf8};
 ghost use Rattle.std.specs.List.{repeat};
 ghost use Rattle.wtf8_core.specs.Standing.{Finds, IsLeastPlace, IsGreatestPlace, IsFront, IsEnd};
 ghost use Rattle.wtf8_core.specs.UnitPlace.{FindsInUnits};
 ghost use Rattle.wtf8_core.specs.Boundary.{IsBoundary};
 ghost use Rattle.wtf8_core.specs.Chunks.{AreChunks};
 ghost use Rattle.wtf8_core.specs.Pieces.{StandsSomewhere, MayBeCutAround, StripsFront, StripsEnd, SplitsOnce, IsStartTrim, IsEndTrim, IsTrim, IsSplit, IsRSplit};
+ghost use Rattle.os_str_ext.specs.Characters.{SplitsFirstChar, SplitsLastChar};
 ghost use Rattle.os_str_ext.specs.Chunks.{chunks_of};
 ghost use Rattle.os_str_ext.specs.Range.{FitsIn, IsPartInUnits};
 ghost use Rattle.os_str_ext.specs.Symbols.{AreSymbols, symbols_of};
 ghost use Rattle.os_str_bytes.specs.Raw.{raw_bytes, raw_units, raw_vec_of};
 
-use crate::iter::{RawRSplit, RawSplit};
+use crate::iter::{RawPieces, RawRSplit, RawSplit};
 use crate::raw_str::RawOsStr;
 use crate::raw_string::RawOsString;
 use os_str_ext::{OsStrBytesExt, Pattern, Platform, SliceIndex, Symbols, Utf8Chunks};
@@ -24,7 +26,13 @@ impl<'a, E: Platform> RawOsStr<'a, E> {
 
     /// Whether the string may be cut at a place; past its length it may not (own call).
     ///
-    /// The Unix string of the bytes 80 C3 A9 (hexadecimal) may be cut at 0, 1 and 3.
+    /// ```
+    /// use os_str_bytes::{RawOsStr, Unix};
+    ///
+    /// let string = RawOsStr::<Unix>::from_encoded_bytes_unchecked(b"\x80\xC3\xA9");
+    /// assert!(rt; string.is_boundary(0) && string.is_boundary(1) && string.is_boundary(3));
+    /// assert!(rt; !string.is_boundary(2) && !string.is_boundary(4));
+    /// ```
     pub fn is_boundary(self, at: usize) -> bool
         ensures { IsTrue result ↔ IsBoundary (raw_bytes self.entry) at }
     {
@@ -34,7 +42,12 @@ impl<'a, E: Platform> RawOsStr<'a, E> {
     /// The parts before and behind a boundary (test: [`RawOsStr::is_boundary`]), as std's
     /// `str::split_at`. Their units joined are the string's.
     ///
-    /// "foobar" at 2 is "fo" and "obar".
+    /// ```
+    /// use os_str_bytes::{RawOsStr, Unix};
+    ///
+    /// let (front, back) = RawOsStr::<Unix>::from_str("foobar").split_at(2);
+    /// assert!(rt; front.eq_str("fo") && back.eq_str("obar"));
+    /// ```
     pub fn split_at(self, at: usize) -> (Self, Self)
         requires { IsBoundary (raw_bytes self) at }
         ensures front { raw_bytes result.0 ≡ take at (raw_bytes self.entry) }
@@ -48,9 +61,15 @@ impl<'a, E: Platform> RawOsStr<'a, E> {
     /// Whether a range fits: its start is at most its end, both are boundaries, and the end is at
     /// most the string's length (own call).
     ///
-    /// In "foobar" `3..=2` fits and `..7` doesn't.
+    /// ```
+    /// use os_str_bytes::{RawOsStr, Unix};
+    ///
+    /// let string = RawOsStr::<Unix>::from_str("foobar");
+    /// assert!(rt; string.fits(&(3..=2)) && !string.fits(&(..7)));
+    /// ```
     pub fn fits<I: SliceIndex>(self, range: &I) -> bool
-        ensures { IsTrue result ↔ FitsIn (raw_bytes self.entry) (I.first_place range.now) (I.end_place range.now (length (raw_bytes self.entry))) }
+        ensures { IsTrue result ↔ FitsIn (raw_bytes self.entry) (I.first_place range.now)
+            (I.end_place range.now (length (raw_bytes self.entry))) }
     {
         range.fits(self.string)
     }
@@ -58,22 +77,37 @@ impl<'a, E: Platform> RawOsStr<'a, E> {
     /// The part in a range that fits (test: [`RawOsStr::fits`]), as std's indexing of `str`. The
     /// units before the range, the part's and those after the range, joined, are the string's.
     ///
-    /// `index(0..=5)` of "foobar" is the whole string, `index(3..=2)` is empty.
+    /// ```
+    /// use os_str_bytes::{RawOsStr, Unix};
+    ///
+    /// let string = RawOsStr::<Unix>::from_str("foobar");
+    /// assert!(rt; string.index(0..=5) == string && string.index(3..=2).is_empty());
+    /// ```
     pub fn index<I: SliceIndex>(self, range: I) -> Self
-        requires { FitsIn (raw_bytes self) (I.first_place range) (I.end_place range (length (raw_bytes self))) }
-        ensures bytes { raw_bytes result ≡ drop (I.first_place range) (take (I.end_place range (length (raw_bytes self.entry))) (raw_bytes self.entry)) }
-        ensures units { IsPartInUnits E.units (raw_bytes self.entry) (I.first_place range) (I.end_place range (length (raw_bytes self.entry))) (raw_bytes result) }
+        requires { FitsIn (raw_bytes self) (I.first_place range)
+            (I.end_place range (length (raw_bytes self))) }
+        ensures bytes { raw_bytes result ≡ drop (I.first_place range)
+            (take (I.end_place range (length (raw_bytes self.entry))) (raw_bytes self.entry)) }
+        ensures units { IsPartInUnits E.units (raw_bytes self.entry) (I.first_place range)
+            (I.end_place range (length (raw_bytes self.entry))) (raw_bytes result) }
     {
         RawOsStr::new(range.index(self.string))
     }
 
     /// The same as [`RawOsStr::index`], as std's `str::get_unchecked`, but safe.
     ///
-    /// `get_unchecked(3..)` of "foobar" is "bar".
+    /// ```
+    /// use os_str_bytes::{RawOsStr, Unix};
+    ///
+    /// assert!(rt; RawOsStr::<Unix>::from_str("foobar").get_unchecked(3..).eq_str("bar"));
+    /// ```
     pub fn get_unchecked<I: SliceIndex>(self, range: I) -> Self
-        requires { FitsIn (raw_bytes self) (I.first_place range) (I.end_place range (length (raw_bytes self))) }
-        ensures bytes { raw_bytes result ≡ drop (I.first_place range) (take (I.end_place range (length (raw_bytes self.entry))) (raw_bytes self.entry)) }
-        ensures units { IsPartInUnits E.units (raw_bytes self.entry) (I.first_place range) (I.end_place range (length (raw_bytes self.entry))) (raw_bytes result) }
+        requires { FitsIn (raw_bytes self) (I.first_place range)
+            (I.end_place range (length (raw_bytes self))) }
+        ensures bytes { raw_bytes result ≡ drop (I.first_place range)
+            (take (I.end_place range (length (raw_bytes self.entry))) (raw_bytes self.entry)) }
+        ensures units { IsPartInUnits E.units (raw_bytes self.entry) (I.first_place range)
+            (I.end_place range (length (raw_bytes self.entry))) (raw_bytes result) }
     {
         self.index(range)
     }
@@ -83,10 +117,18 @@ impl<'a, E: Platform> RawOsStr<'a, E> {
     /// The least place at which a pattern stands, `None` where it stands nowhere. The string
     /// may be cut there and behind the pattern.
     ///
-    /// In "foobar" `find("o")` is `Some(1)`, `find("of")` is `None` and `find("")` is `Some(0)`.
+    /// ```
+    /// use os_str_bytes::{RawOsStr, Unix};
+    ///
+    /// let string = RawOsStr::<Unix>::from_str("foobar");
+    /// assert_eq!(rt; string.find("o"), Some(1));
+    /// assert_eq!(rt; string.find("of"), None);
+    /// assert_eq!(rt; string.find(""), Some(0));
+    /// ```
     pub fn find<P: Pattern>(self, pattern: P) -> Option<usize>
         ensures bytes { Finds IsLeastPlace (P.text pattern) (raw_bytes self.entry) result }
-        ensures units { FindsInUnits IsLeastPlace E.well_formed E.units (P.text pattern) (raw_bytes self.entry) result }
+        ensures units { FindsInUnits IsLeastPlace E.well_formed E.units (P.text pattern)
+            (raw_bytes self.entry) result }
         ensures edges { MayBeCutAround (raw_bytes self.entry) (length (P.text pattern)) result }
         ensures behind { IfSome result (λ at. at + length (P.text pattern) < 2 ^ 64) }
     {
@@ -96,10 +138,17 @@ impl<'a, E: Platform> RawOsStr<'a, E> {
     /// The greatest place at which a pattern stands, `None` where it stands nowhere. The string
     /// may be cut there and behind the pattern.
     ///
-    /// In "foobar" `rfind("o")` is `Some(2)` and `rfind("")` is `Some(6)`.
+    /// ```
+    /// use os_str_bytes::{RawOsStr, Unix};
+    ///
+    /// let string = RawOsStr::<Unix>::from_str("foobar");
+    /// assert_eq!(rt; string.rfind("o"), Some(2));
+    /// assert_eq!(rt; string.rfind(""), Some(6));
+    /// ```
     pub fn rfind<P: Pattern>(self, pattern: P) -> Option<usize>
         ensures bytes { Finds IsGreatestPlace (P.text pattern) (raw_bytes self.entry) result }
-        ensures units { FindsInUnits IsGreatestPlace E.well_formed E.units (P.text pattern) (raw_bytes self.entry) result }
+        ensures units { FindsInUnits IsGreatestPlace E.well_formed E.units (P.text pattern)
+            (raw_bytes self.entry) result }
         ensures edges { MayBeCutAround (raw_bytes self.entry) (length (P.text pattern)) result }
         ensures behind { IfSome result (λ at. at + length (P.text pattern) < 2 ^ 64) }
     {
@@ -108,17 +157,29 @@ impl<'a, E: Platform> RawOsStr<'a, E> {
 
     /// Whether a pattern stands somewhere.
     ///
-    /// "foobar" contains "oba" and 'r', and not "of".
+    /// ```
+    /// use os_str_bytes::{RawOsStr, Unix};
+    ///
+    /// let string = RawOsStr::<Unix>::from_str("foobar");
+    /// assert!(rt; string.contains("oba") && string.contains('r') && !string.contains("of"));
+    /// ```
     pub fn contains<P: Pattern>(self, pattern: P) -> bool
         ensures bytes { IsTrue result ↔ StandsSomewhere (P.text pattern) (raw_bytes self.entry) }
-        ensures units { IsTrue result ↔ StandsSomewhere (E.units (P.text pattern)) (raw_units self.entry) }
+        ensures units { IsTrue result ↔ StandsSomewhere (E.units (P.text pattern))
+            (raw_units self.entry) }
     {
         self.string.contains(pattern)
     }
 
     /// Whether a pattern stands at the front.
     ///
-    /// "foobar" starts with "foo" and "", and not with 'b'.
+    /// ```
+    /// use os_str_bytes::{RawOsStr, Unix};
+    ///
+    /// let string = RawOsStr::<Unix>::from_str("foobar");
+    /// assert!(rt; string.starts_with("foo") && string.starts_with(""));
+    /// assert!(rt; !string.starts_with('b'));
+    /// ```
     pub fn starts_with<P: Pattern>(self, pattern: P) -> bool
         ensures bytes { IsTrue result ↔ IsFront (P.text pattern) (raw_bytes self.entry) }
         ensures units { IsTrue result ↔ IsFront (E.units (P.text pattern)) (raw_units self.entry) }
@@ -128,7 +189,13 @@ impl<'a, E: Platform> RawOsStr<'a, E> {
 
     /// Whether a pattern stands at the end.
     ///
-    /// "foobar" ends with "bar" and "", and not with 'b'.
+    /// ```
+    /// use os_str_bytes::{RawOsStr, Unix};
+    ///
+    /// let string = RawOsStr::<Unix>::from_str("foobar");
+    /// assert!(rt; string.ends_with("bar") && string.ends_with(""));
+    /// assert!(rt; !string.ends_with('b'));
+    /// ```
     pub fn ends_with<P: Pattern>(self, pattern: P) -> bool
         ensures bytes { IsTrue result ↔ IsEnd (P.text pattern) (raw_bytes self.entry) }
         ensures units { IsTrue result ↔ IsEnd (E.units (P.text pattern)) (raw_units self.entry) }
@@ -138,7 +205,12 @@ impl<'a, E: Platform> RawOsStr<'a, E> {
 
     /// Whether the units of `front` are a front of the string's; a half of a pair counts.
     ///
-    /// The Windows string of D83D, DE00 (hexadecimal) starts with that of D83D.
+    /// ```
+    /// use os_str_bytes::{OsString, RawOsStr, RawOsString, Windows};
+    ///
+    /// let high = RawOsString::new(OsString::<Windows>::from_wide(alloc, &[0xD83D])?);
+    /// assert!(rt; RawOsStr::from_str("\u{1F600}").starts_with_os(high.as_raw()));
+    /// ```
     pub fn starts_with_os(self, front: Self) -> bool
         ensures { IsTrue result ↔ IsFront (raw_units front.entry) (raw_units self.entry) }
     {
@@ -147,7 +219,12 @@ impl<'a, E: Platform> RawOsStr<'a, E> {
 
     /// Whether the units of `end` are an end of the string's; a half of a pair counts.
     ///
-    /// The Windows string of D83D, DE00 (hexadecimal) ends with that of DE00.
+    /// ```
+    /// use os_str_bytes::{OsString, RawOsStr, RawOsString, Windows};
+    ///
+    /// let low = RawOsString::new(OsString::<Windows>::from_wide(alloc, &[0xDE00])?);
+    /// assert!(rt; RawOsStr::from_str("\u{1F600}").ends_with_os(low.as_raw()));
+    /// ```
     pub fn ends_with_os(self, end: Self) -> bool
         ensures { IsTrue result ↔ IsEnd (raw_units end.entry) (raw_units self.entry) }
     {
@@ -158,10 +235,17 @@ impl<'a, E: Platform> RawOsStr<'a, E> {
 
     /// What follows a pattern at the front, `None` where it doesn't stand there.
     ///
-    /// `strip_prefix("1")` of "111foo" is "11foo", `strip_prefix("o")` is `None`.
+    /// ```
+    /// use os_str_bytes::{RawOsStr, Unix};
+    ///
+    /// let string = RawOsStr::<Unix>::from_str("111foo");
+    /// assert!(rt; string.strip_prefix("1") == Some(RawOsStr::from_str("11foo")));
+    /// assert!(rt; string.strip_prefix("o") == None);
+    /// ```
     pub fn strip_prefix<P: Pattern>(self, pattern: P) -> Option<Self>
         ensures bytes { StripsFront raw_bytes (P.text pattern) (raw_bytes self.entry) result }
-        ensures units { StripsFront raw_units (E.units (P.text pattern)) (raw_units self.entry) result }
+        ensures units { StripsFront raw_units (E.units (P.text pattern)) (raw_units self.entry)
+            result }
     {
         match self.string.strip_prefix(pattern) {
             Some(rest) => Some(RawOsStr::new(rest)),
@@ -171,10 +255,16 @@ impl<'a, E: Platform> RawOsStr<'a, E> {
 
     /// What stands before a pattern at the end, `None` where it doesn't stand there.
     ///
-    /// `strip_suffix("1")` of "bar111" is "bar11".
+    /// ```
+    /// use os_str_bytes::{RawOsStr, Unix};
+    ///
+    /// let string = RawOsStr::<Unix>::from_str("bar111");
+    /// assert!(rt; string.strip_suffix("1") == Some(RawOsStr::from_str("bar11")));
+    /// ```
     pub fn strip_suffix<P: Pattern>(self, pattern: P) -> Option<Self>
         ensures bytes { StripsEnd raw_bytes (P.text pattern) (raw_bytes self.entry) result }
-        ensures units { StripsEnd raw_units (E.units (P.text pattern)) (raw_units self.entry) result }
+        ensures units { StripsEnd raw_units (E.units (P.text pattern)) (raw_units self.entry)
+            result }
     {
         match self.string.strip_suffix(pattern) {
             Some(rest) => Some(RawOsStr::new(rest)),
@@ -184,10 +274,16 @@ impl<'a, E: Platform> RawOsStr<'a, E> {
 
     /// The string without each pattern at its front; the whole where the pattern is empty.
     ///
-    /// `trim_start_matches("1")` of "111foo1" is "foo1".
+    /// ```
+    /// use os_str_bytes::{RawOsStr, Unix};
+    ///
+    /// assert!(rt; RawOsStr::<Unix>::from_str("111foo1").trim_start_matches("1").eq_str("foo1"));
+    /// ```
     pub fn trim_start_matches<P: Pattern>(self, pattern: P) -> Self
-        ensures bytes { 0 < length (P.text pattern) → IsStartTrim (P.text pattern) (raw_bytes self.entry) (raw_bytes result) }
-        ensures units { 0 < length (P.text pattern) → IsStartTrim (E.units (P.text pattern)) (raw_units self.entry) (raw_units result) }
+        ensures bytes { 0 < length (P.text pattern)
+            → IsStartTrim (P.text pattern) (raw_bytes self.entry) (raw_bytes result) }
+        ensures units { 0 < length (P.text pattern)
+            → IsStartTrim (E.units (P.text pattern)) (raw_units self.entry) (raw_units result) }
         ensures whole { length (P.text pattern) ≡ 0 → raw_bytes result ≡ raw_bytes self.entry }
     {
         RawOsStr::new(self.string.trim_start_matches(pattern))
@@ -195,10 +291,16 @@ impl<'a, E: Platform> RawOsStr<'a, E> {
 
     /// The string without each pattern at its end; the whole where the pattern is empty.
     ///
-    /// `trim_end_matches('1')` of "1bar111" is "1bar".
+    /// ```
+    /// use os_str_bytes::{RawOsStr, Unix};
+    ///
+    /// assert!(rt; RawOsStr::<Unix>::from_str("1bar111").trim_end_matches('1').eq_str("1bar"));
+    /// ```
     pub fn trim_end_matches<P: Pattern>(self, pattern: P) -> Self
-        ensures bytes { 0 < length (P.text pattern) → IsEndTrim (P.text pattern) (raw_bytes self.entry) (raw_bytes result) }
-        ensures units { 0 < length (P.text pattern) → IsEndTrim (E.units (P.text pattern)) (raw_units self.entry) (raw_units result) }
+        ensures bytes { 0 < length (P.text pattern)
+            → IsEndTrim (P.text pattern) (raw_bytes self.entry) (raw_bytes result) }
+        ensures units { 0 < length (P.text pattern)
+            → IsEndTrim (E.units (P.text pattern)) (raw_units self.entry) (raw_units result) }
         ensures whole { length (P.text pattern) ≡ 0 → raw_bytes result ≡ raw_bytes self.entry }
     {
         RawOsStr::new(self.string.trim_end_matches(pattern))
@@ -207,10 +309,18 @@ impl<'a, E: Platform> RawOsStr<'a, E> {
     /// The string without each pattern at its front, and then without each at its end; the
     /// whole where the pattern is empty.
     ///
-    /// `trim_matches("1")` of "111foo1bar111" is "foo1bar", `trim_matches("aa")` of "aaa" is "a".
+    /// ```
+    /// use os_str_bytes::{RawOsStr, Unix};
+    ///
+    /// let string = RawOsStr::<Unix>::from_str("111foo1bar111");
+    /// assert!(rt; string.trim_matches("1").eq_str("foo1bar"));
+    /// assert!(rt; RawOsStr::<Unix>::from_str("aaa").trim_matches("aa").eq_str("a"));
+    /// ```
     pub fn trim_matches<P: Pattern>(self, pattern: P) -> Self
-        ensures bytes { 0 < length (P.text pattern) → IsTrim (P.text pattern) (raw_bytes self.entry) (raw_bytes result) }
-        ensures units { 0 < length (P.text pattern) → IsTrim (E.units (P.text pattern)) (raw_units self.entry) (raw_units result) }
+        ensures bytes { 0 < length (P.text pattern)
+            → IsTrim (P.text pattern) (raw_bytes self.entry) (raw_bytes result) }
+        ensures units { 0 < length (P.text pattern)
+            → IsTrim (E.units (P.text pattern)) (raw_units self.entry) (raw_units result) }
         ensures whole { length (P.text pattern) ≡ 0 → raw_bytes result ≡ raw_bytes self.entry }
     {
         RawOsStr::new(self.string.trim_matches(pattern))
@@ -220,10 +330,19 @@ impl<'a, E: Platform> RawOsStr<'a, E> {
 
     /// The parts before and behind the least place of a pattern, `None` where it stands nowhere.
     ///
-    /// `split_once("o")` of "foobar" is "f" and "obar", `split_once("")` is "" and "foobar".
+    /// ```
+    /// use os_str_bytes::{RawOsStr, Unix};
+    ///
+    /// let string = RawOsStr::<Unix>::from_str("foobar");
+    /// let (front, back) = (RawOsStr::from_str("f"), RawOsStr::from_str("obar"));
+    /// assert!(rt; string.split_once("o") == Some((front, back)));
+    /// assert!(rt; string.split_once("of") == None);
+    /// ```
     pub fn split_once<P: Pattern>(self, pattern: P) -> Option<(Self, Self)>
-        ensures bytes { SplitsOnce IsLeastPlace raw_bytes (P.text pattern) (raw_bytes self.entry) result }
-        ensures units { SplitsOnce IsLeastPlace raw_units (E.units (P.text pattern)) (raw_units self.entry) result }
+        ensures bytes { SplitsOnce IsLeastPlace raw_bytes (P.text pattern) (raw_bytes self.entry)
+            result }
+        ensures units { SplitsOnce IsLeastPlace raw_units (E.units (P.text pattern))
+            (raw_units self.entry) result }
     {
         match self.string.split_once(pattern) {
             Some((front, back)) => Some((RawOsStr::new(front), RawOsStr::new(back))),
@@ -234,10 +353,18 @@ impl<'a, E: Platform> RawOsStr<'a, E> {
     /// The parts before and behind the greatest place of a pattern, `None` where it stands
     /// nowhere.
     ///
-    /// `rsplit_once("o")` of "foobar" is "fo" and "bar", `rsplit_once("")` is "foobar" and "".
+    /// ```
+    /// use os_str_bytes::{RawOsStr, Unix};
+    ///
+    /// let string = RawOsStr::<Unix>::from_str("foobar");
+    /// let (front, back) = (RawOsStr::from_str("fo"), RawOsStr::from_str("bar"));
+    /// assert!(rt; string.rsplit_once("o") == Some((front, back)));
+    /// ```
     pub fn rsplit_once<P: Pattern>(self, pattern: P) -> Option<(Self, Self)>
-        ensures bytes { SplitsOnce IsGreatestPlace raw_bytes (P.text pattern) (raw_bytes self.entry) result }
-        ensures units { SplitsOnce IsGreatestPlace raw_units (E.units (P.text pattern)) (raw_units self.entry) result }
+        ensures bytes { SplitsOnce IsGreatestPlace raw_bytes (P.text pattern) (raw_bytes self.entry)
+            result }
+        ensures units { SplitsOnce IsGreatestPlace raw_units (E.units (P.text pattern))
+            (raw_units self.entry) result }
     {
         match self.string.rsplit_once(pattern) {
             Some((front, back)) => Some((RawOsStr::new(front), RawOsStr::new(back))),
@@ -248,25 +375,86 @@ impl<'a, E: Platform> RawOsStr<'a, E> {
     /// The pieces between the places of a pattern, each cut at the least place in what is left.
     /// The pattern isn't empty (test: `str::is_empty`; a `char` never is).
     ///
-    /// `split("o")` of "foobar" gives "f", "" and "bar", `split("aa")` of "aaa" gives "" and "a".
+    /// ```
+    /// use os_str_bytes::{RawOsStr, Unix};
+    ///
+    /// let mut pieces = RawOsStr::<Unix>::from_str("foobar").split("o");
+    /// assert!(rt; pieces.next() == Some(RawOsStr::from_str("f")));
+    /// assert!(rt; pieces.next() == Some(RawOsStr::from_str("")));
+    /// assert!(rt; pieces.next() == Some(RawOsStr::from_str("bar")));
+    /// assert!(rt; pieces.next() == None);
+    /// ```
     pub fn split<P: Pattern>(self, pattern: P) -> RawSplit<'a, E, P>
         requires { P.not_empty pattern }
         ensures bytes { IsSplit (P.text pattern) (raw_bytes self.entry) result }
-        ensures units { IsSplit (E.units (P.text pattern)) (raw_units self.entry) (map E.units result) }
+        ensures units { IsSplit (E.units (P.text pattern)) (raw_units self.entry)
+            (map E.units result) }
     {
-        RawSplit::new(self.string.split(pattern))
+        RawPieces::new(self.string.split(pattern))
     }
 
     /// The pieces between the places of a pattern from the end, each cut at the greatest place
     /// in what is left. The pattern isn't empty (test: `str::is_empty`; a `char` never is).
     ///
-    /// `rsplit("o")` of "foobar" gives "bar", "" and "f".
+    /// ```
+    /// use os_str_bytes::{RawOsStr, Unix};
+    ///
+    /// let mut pieces = RawOsStr::<Unix>::from_str("foobar").rsplit("o");
+    /// assert!(rt; pieces.next() == Some(RawOsStr::from_str("bar")));
+    /// assert!(rt; pieces.next() == Some(RawOsStr::from_str("")));
+    /// assert!(rt; pieces.next() == Some(RawOsStr::from_str("f")));
+    /// assert!(rt; pieces.next() == None);
+    /// ```
     pub fn rsplit<P: Pattern>(self, pattern: P) -> RawRSplit<'a, E, P>
         requires { P.not_empty pattern }
         ensures bytes { IsRSplit (P.text pattern) (raw_bytes self.entry) result }
-        ensures units { IsRSplit (E.units (P.text pattern)) (raw_units self.entry) (map E.units result) }
+        ensures units { IsRSplit (E.units (P.text pattern)) (raw_units self.entry)
+            (map E.units result) }
     {
-        RawRSplit::new(self.string.rsplit(pattern))
+        RawPieces::new(self.string.rsplit(pattern))
+    }
+
+    // Characters.
+
+    /// The first character and the rest of the string, `None` where no whole character starts the
+    /// string (own call; of a text std's `str::chars`, of which `next` gives the character and
+    /// `as_str` the rest).
+    ///
+    /// ```
+    /// use os_str_bytes::{RawOsStr, Unix};
+    ///
+    /// let string = RawOsStr::<Unix>::checked(b"\xC3\xA9\x80")?;
+    /// assert!(rt; matches!(string.split_first_char(), Some(('\u{E9}', rest)) if rest.as_encoded_bytes() == b"\x80".as_slice()));
+    /// assert!(rt; RawOsStr::<Unix>::checked(b"\x80")?.split_first_char().is_none());
+    /// ```
+    pub fn split_first_char(self) -> Option<(char, Self)>
+        ensures bytes { SplitsFirstChar raw_bytes (raw_bytes self.entry) result }
+        ensures units { IfSome result (λ parts. raw_units self.entry ≡ E.units (encode_utf8 parts.0) ++ raw_units parts.1) }
+    {
+        match self.string.split_first_char() {
+            Some((first, rest)) => Some((first, RawOsStr::new(rest))),
+            None => None,
+        }
+    }
+
+    /// The last character and the rest of the string, `None` where no whole character ends the
+    /// string (own call; of a text std's `str::chars` with `next_back`).
+    ///
+    /// ```
+    /// use os_str_bytes::{RawOsStr, Unix};
+    ///
+    /// let string = RawOsStr::<Unix>::checked(b"\x80\xC3\xA9")?;
+    /// assert!(rt; matches!(string.split_last_char(), Some(('\u{E9}', rest)) if rest.as_encoded_bytes() == b"\x80".as_slice()));
+    /// assert!(rt; RawOsStr::<Unix>::checked(b"\x80")?.split_last_char().is_none());
+    /// ```
+    pub fn split_last_char(self) -> Option<(char, Self)>
+        ensures bytes { SplitsLastChar raw_bytes (raw_bytes self.entry) result }
+        ensures units { IfSome result (λ parts. raw_units self.entry ≡ raw_units parts.1 ++ E.units (encode_utf8 parts.0)) }
+    {
+        match self.string.split_last_char() {
+            Some((last, rest)) => Some((last, RawOsStr::new(rest))),
+            None => None,
+        }
     }
 
     // Chunks.
@@ -275,8 +463,20 @@ impl<'a, E: Platform> RawOsStr<'a, E> {
     /// behind it. Only the first part may be empty, and only the last text; never both of one
     /// chunk. All chunks joined are the string, and it has no other list of them.
     ///
-    /// The Unix string of the bytes 66 6F 80 FF 6F (hexadecimal) has the chunks "", "fo" and
-    /// 80 FF, "o".
+    /// ```
+    /// use os_str_bytes::{RawOsStr, Unix};
+    ///
+    /// let string = RawOsStr::<Unix>::from_encoded_bytes_unchecked(b"fo\x80\xFFo");
+    /// let mut chunks = string.utf8_chunks();
+    /// if let Some((part, text)) = chunks.next() {
+    ///     assert!(rt; part.as_os_str().is_empty() && text == "fo");
+    /// }
+    /// if let Some((part, text)) = chunks.next() {
+    ///     assert_eq!(rt; part.as_os_str().as_encoded_bytes(), b"\x80\xFF".as_slice());
+    ///     assert_eq!(rt; text, "o");
+    /// }
+    /// assert!(rt; chunks.next().is_none());
+    /// ```
     pub fn utf8_chunks(self) -> Utf8Chunks<'a, E>
         ensures chunks { AreChunks (raw_bytes self.entry) result }
         ensures value { result ≡ chunks_of (raw_bytes self.entry) }
@@ -289,8 +489,16 @@ impl<'a, E: Platform> RawOsStr<'a, E> {
     /// The string's symbols, one by one: its whole characters, and the units of what is no text
     /// (own call; of a text std's `str::chars`). It takes no memory.
     ///
-    /// The Windows string of the units 61, D83D, D83D, DE00 (hexadecimal) has the symbols 'a', the
-    /// unit D83D and U+1F600.
+    /// ```
+    /// use os_str_bytes::{RawOsStr, Symbol, Unix};
+    ///
+    /// let mut symbols = RawOsStr::<Unix>::from_encoded_bytes_unchecked(b"a\x80").symbols();
+    /// assert!(rt; symbols.next() == Some(Symbol::Character('a')));
+    /// if let Some(Symbol::Unit(unit)) = symbols.next() {
+    ///     assert_eq!(rt; unit.to_u64(), 0x80);
+    /// }
+    /// assert!(rt; symbols.next() == None);
+    /// ```
     pub fn symbols(self) -> Symbols<'a, E>
         ensures symbols { AreSymbols E.units (raw_bytes self.entry) result }
         ensures value { result ≡ symbols_of E.units (raw_bytes self.entry) }
@@ -300,20 +508,28 @@ impl<'a, E: Platform> RawOsStr<'a, E> {
 
     // Joins.
 
-    /// The string `count` times over: its units, one time after the other (std's `str::repeat`).
-    /// On Windows two halves of a pair that meet become one code point.
+    /// The string `count` times over: its units, one time after the other (std's `str::repeat`). On
+    /// Windows two halves of a pair that meet become one code point (WTF-8, "Concatenating"). It
+    /// takes the memory at once. No times, and the empty string any number of times, take none.
     ///
-    /// It takes the memory at once. `AllocError` is also answered where `count` times the number
-    /// of bytes passes `usize::MAX`. No times, and the empty string any number of times, take no
-    /// memory.
+    /// # Errors
     ///
-    /// `repeat(3)` of "foo" is "foofoofoo".
+    /// `AllocError` where the memory is refused, and where `count` times the number of bytes passes
+    /// `usize::MAX`.
+    ///
+    /// ```
+    /// use os_str_bytes::{RawOsStr, Unix};
+    ///
+    /// let repeated = RawOsStr::<Unix>::from_str("foo").repeat(alloc, 3)?;
+    /// assert!(rt; repeated.eq_str("foofoofoo"));
+    /// ```
     pub fn repeat<A: Allocator>(
         self,
         alloc: A,
         count: usize,
     ) -> Result<RawOsString<E, A>, AllocError>
-        ensures units { IfOk result (λ made. E.units (raw_vec_of made).items ≡ repeat count (raw_units self.entry)) }
+        ensures units { IfOk result (λ made. E.units (raw_vec_of made).items ≡ repeat count
+            (raw_units self.entry)) }
         ensures empty { count * length (raw_bytes self.entry) ≡ 0 → IsOk result }
         ensures overflow { usize.MAX < count * length (raw_bytes self.entry) → IsErr result }
     {

@@ -36,7 +36,11 @@ impl<'a, E: Platform> RawOsStr<'a, E> {
 
     /// The raw form of a string.
     ///
-    /// `RawOsStr::new(OsStr::<Unix>::new("a")).as_encoded_bytes()` is `b"a"`.
+    /// ```
+    /// use os_str_bytes::{OsStr, RawOsStr, Unix};
+    ///
+    /// assert_eq!(rt; RawOsStr::new(OsStr::<Unix>::new("a")).as_encoded_bytes(), b"a".as_slice());
+    /// ```
     pub fn new(string: OsStr<'a, E>) -> Self
         ensures { raw_bytes result ≡ bytes string.entry }
     {
@@ -44,6 +48,12 @@ impl<'a, E: Platform> RawOsStr<'a, E> {
     }
 
     /// The same as [`RawOsStr::new`].
+    ///
+    /// ```
+    /// use os_str_bytes::{OsStr, RawOsStr, Unix};
+    ///
+    /// assert!(rt; RawOsStr::from_os_str(OsStr::<Unix>::new("a")).eq_str("a"));
+    /// ```
     pub fn from_os_str(string: OsStr<'a, E>) -> Self
         ensures { raw_bytes result ≡ bytes string.entry }
     {
@@ -52,7 +62,11 @@ impl<'a, E: Platform> RawOsStr<'a, E> {
 
     /// The raw string of a text, which is a string of every platform.
     ///
-    /// `RawOsStr::<Wasm>::from_str("foo").as_encoded_bytes()` is `b"foo"`.
+    /// ```
+    /// use os_str_bytes::{RawOsStr, Wasm};
+    ///
+    /// assert_eq!(rt; RawOsStr::<Wasm>::from_str("foo").as_encoded_bytes(), b"foo".as_slice());
+    /// ```
     pub fn from_str(text: &'a str) -> Self
         ensures { raw_bytes result ≡ text.now }
     {
@@ -61,6 +75,13 @@ impl<'a, E: Platform> RawOsStr<'a, E> {
 
     /// The raw string of well-formed bytes (test: [`Platform::check`]); safe, and the
     /// counterpart of std's `OsStr::from_encoded_bytes_unchecked`.
+    ///
+    /// ```
+    /// use os_str_bytes::{RawOsStr, Unix};
+    ///
+    /// let string = RawOsStr::<Unix>::from_encoded_bytes_unchecked(b"a\x80");
+    /// assert_eq!(rt; string.as_encoded_bytes(), b"a\x80".as_slice());
+    /// ```
     pub fn from_encoded_bytes_unchecked(encoded: &'a [u8]) -> Self
         requires { E.well_formed encoded.now }
         ensures { raw_bytes result ≡ encoded.now }
@@ -68,7 +89,37 @@ impl<'a, E: Platform> RawOsStr<'a, E> {
         RawOsStr::new(OsStr::from_encoded_bytes_unchecked(encoded))
     }
 
+    /// The raw string of raw bytes, in place, as a view (own call): [`RawOsStr::cow_from_raw_bytes`]
+    /// answers what might be owned. It takes no memory.
+    ///
+    /// On Windows ED A0 80 (hexadecimal) is accepted, and ED A0 80 ED B0 80 is not.
+    ///
+    /// # Errors
+    ///
+    /// The first fault of the bytes, where they aren't well formed: what [`Platform::check`] answers.
+    ///
+    /// ```
+    /// use os_str_bytes::{EncodingError, RawOsStr, Windows};
+    ///
+    /// assert!(rt; RawOsStr::<Windows>::checked(b"\xED\xA0\x80").is_ok());
+    /// let fault = RawOsStr::<Windows>::checked(b"\xED\xA0\x80\xED\xB0\x80").err();
+    /// assert_eq!(rt; fault, Some(EncodingError::CodePoint(0xDC00)));
+    /// ```
+    pub fn checked(raw: &'a [u8]) -> Result<Self, EncodingError>
+        ensures bytes { IfOk result (λ string. raw_bytes string ≡ raw.now) }
+        ensures cases { MatchResult result (λ _. E.well_formed raw.now) (λ fault. E.first_fault raw.now fault) }
+    {
+        Ok(RawOsStr::new(OsStr::checked(raw)?))
+    }
+
     /// The raw string of well-formed bytes (test: [`RawOsStr::cow_from_raw_bytes`]).
+    ///
+    /// ```
+    /// use os_str_bytes::{RawOsStr, Unix};
+    ///
+    /// let string = RawOsStr::<Unix>::assert_cow_from_raw_bytes(b"a\x80");
+    /// assert_eq!(rt; string.as_raw().as_encoded_bytes(), b"a\x80".as_slice());
+    /// ```
     pub fn assert_cow_from_raw_bytes(raw: &'a [u8]) -> CowRawOsStr<'a, E>
         requires { E.well_formed raw.now }
         ensures { raw_cow_bytes result ≡ raw.now }
@@ -77,6 +128,13 @@ impl<'a, E: Platform> RawOsStr<'a, E> {
     }
 
     /// The same as [`RawOsStr::assert_cow_from_raw_bytes`].
+    ///
+    /// ```
+    /// use os_str_bytes::{RawOsStr, Unix};
+    ///
+    /// let string = RawOsStr::<Unix>::cow_from_raw_bytes_unchecked(b"a\x80");
+    /// assert_eq!(rt; string.as_raw().as_encoded_bytes(), b"a\x80".as_slice());
+    /// ```
     pub fn cow_from_raw_bytes_unchecked(raw: &'a [u8]) -> CowRawOsStr<'a, E>
         requires { E.well_formed raw.now }
         ensures { raw_cow_bytes result ≡ raw.now }
@@ -84,22 +142,36 @@ impl<'a, E: Platform> RawOsStr<'a, E> {
         RawOsStr::assert_cow_from_raw_bytes(raw)
     }
 
-    /// The raw string of raw bytes, or their first fault where they aren't well formed. It
-    /// takes no memory.
+    /// The raw string of raw bytes. It takes no memory.
     ///
-    /// On Windows ED A0 80 ED B0 80 (hexadecimal) is refused with
-    /// `EncodingError::CodePoint(0xDC00)`.
+    /// # Errors
+    ///
+    /// The first fault of the bytes where they aren't well formed ([`Platform::check`]).
+    ///
+    /// ```
+    /// use os_str_bytes::{EncodingError, RawOsStr, Unix, Windows};
+    ///
+    /// let string = RawOsStr::<Unix>::cow_from_raw_bytes(b"a\x80")?;
+    /// assert_eq!(rt; string.as_raw().as_encoded_bytes(), b"a\x80".as_slice());
+    ///
+    /// let pair = RawOsStr::<Windows>::cow_from_raw_bytes(b"\xED\xA0\x80\xED\xB0\x80");
+    /// assert_eq!(rt; pair.err(), Some(EncodingError::CodePoint(0xDC00)));
+    /// ```
     pub fn cow_from_raw_bytes(raw: &'a [u8]) -> Result<CowRawOsStr<'a, E>, EncodingError>
         ensures bytes { IfOk result (λ cow. raw_cow_bytes cow ≡ raw.now) }
-        ensures cases { MatchResult result (λ _. E.well_formed raw.now) (λ fault. E.first_fault raw.now fault) }
+        ensures cases { MatchResult result (λ _. E.well_formed raw.now)
+            (λ fault. E.first_fault raw.now fault) }
     {
-        E::check(raw)?;
-        Ok(RawOsStr::assert_cow_from_raw_bytes(raw))
+        Ok(CowRawOsStr::Borrowed(RawOsStr::checked(raw)?))
     }
 
     /// The string's bytes, which are its raw bytes.
     ///
-    /// `RawOsStr::<Unix>::from_str("foo").as_encoded_bytes()` is `b"foo"`.
+    /// ```
+    /// use os_str_bytes::{RawOsStr, Unix};
+    ///
+    /// assert_eq!(rt; RawOsStr::<Unix>::from_str("foo").as_encoded_bytes(), b"foo".as_slice());
+    /// ```
     pub fn as_encoded_bytes(self) -> &'a [u8]
         ensures value { result.now ≡ raw_bytes self.entry }
         ensures formed { E.well_formed result.now }
@@ -108,13 +180,26 @@ impl<'a, E: Platform> RawOsStr<'a, E> {
     }
 
     /// The string as the platform's own type.
+    ///
+    /// ```
+    /// use os_str_bytes::{OsStr, RawOsStr, Unix};
+    ///
+    /// assert!(rt; RawOsStr::<Unix>::from_str("foo").as_os_str() == OsStr::new("foo"));
+    /// ```
     pub fn as_os_str(self) -> OsStr<'a, E>
         ensures { bytes result ≡ raw_bytes self.entry }
     {
         self.string
     }
 
-    /// The same, as what might be owned. It takes no memory.
+    /// The string as the platform's own type, borrowed, as what might be owned. It takes no memory.
+    ///
+    /// ```
+    /// use os_str_bytes::{OsStr, RawOsStr, Unix};
+    ///
+    /// let string = RawOsStr::<Unix>::from_str("foo").to_os_str();
+    /// assert!(rt; string.as_os_str() == OsStr::new("foo"));
+    /// ```
     pub fn to_os_str(self) -> OsStrCow<'a, E>
         ensures { cow_bytes result ≡ raw_bytes self.entry }
     {
@@ -122,6 +207,13 @@ impl<'a, E: Platform> RawOsStr<'a, E> {
     }
 
     /// The string's raw bytes.
+    ///
+    /// ```
+    /// use os_str_bytes::{RawOsStr, Unix};
+    ///
+    /// let raw = RawOsStr::<Unix>::from_str("foo").to_raw_bytes();
+    /// assert_eq!(rt; raw.as_bytes(), b"foo".as_slice());
+    /// ```
     pub fn to_raw_bytes(self) -> ByteCow<'a>
         ensures bytes { byte_cow_bytes result ≡ raw_bytes self.entry }
         ensures formed { E.well_formed (byte_cow_bytes result) }
@@ -131,14 +223,33 @@ impl<'a, E: Platform> RawOsStr<'a, E> {
 
     /// The string as a text, `None` where it isn't UTF-8 (std's `OsStr::to_str`). It takes no
     /// memory.
+    ///
+    /// ```
+    /// use os_str_bytes::{RawOsStr, Unix};
+    ///
+    /// assert_eq!(rt; RawOsStr::<Unix>::from_str("foo").to_str(), Some("foo"));
+    /// assert_eq!(rt; RawOsStr::<Unix>::from_encoded_bytes_unchecked(b"a\x80").to_str(), None);
+    /// ```
     pub fn to_str(self) -> Option<&'a str>
-        ensures { MatchOption result (¬ (IsUtf8 (raw_bytes self.entry))) (λ text. text.now ≡ raw_bytes self.entry) }
+        ensures { MatchOption result (¬ (IsUtf8 (raw_bytes self.entry)))
+            (λ text. text.now ≡ raw_bytes self.entry) }
     {
         self.string.to_str()
     }
 
     /// The lossy text (std's `OsStr::to_string_lossy`): the string itself where it is UTF-8,
     /// which takes no memory, else a text with U+FFFD for what is no text.
+    ///
+    /// # Errors
+    ///
+    /// `AllocError` where the memory is refused.
+    ///
+    /// ```
+    /// use os_str_bytes::{RawOsStr, Unix};
+    ///
+    /// let string = RawOsStr::<Unix>::from_encoded_bytes_unchecked(b"a\xE2\x82A");
+    /// assert_eq!(rt; string.to_str_lossy(alloc)?.as_str(), "a\u{FFFD}A");
+    /// ```
     pub fn to_str_lossy<A: Allocator>(self, alloc: A) -> Result<StrCow<'a, A>, AllocError>
         ensures text { IfOk result (λ text. str_cow_bytes text ≡ E.lossy (raw_bytes self.entry)) }
         ensures without_memory { IsUtf8 (raw_bytes self.entry) → IsOk result }
@@ -149,7 +260,13 @@ impl<'a, E: Platform> RawOsStr<'a, E> {
     /// The lossy text, to be printed (std's `OsStr::display`): what `{}` writes of it is the text that
     /// [`RawOsStr::to_str_lossy`] gives. It takes no memory.
     ///
-    /// The Windows string of the bytes 61 ED A0 80 (hexadecimal) is printed as "a\u{FFFD}".
+    /// ```
+    /// use os_str_bytes::{OsString, RawOsString, Windows};
+    ///
+    /// let string = RawOsString::new(OsString::<Windows>::from_wide(alloc, &[0x61, 0xD800])?);
+    /// let shown = string.as_raw().display().to_string(alloc)?;
+    /// assert_eq!(rt; shown.as_str(), "a\u{FFFD}");
+    /// ```
     pub fn display(self) -> OsStrDisplay<'a, E>
         ensures { shown_bytes result ≡ raw_bytes self.entry }
     {
@@ -157,6 +274,13 @@ impl<'a, E: Platform> RawOsStr<'a, E> {
     }
 
     /// Whether the string has no byte.
+    ///
+    /// ```
+    /// use os_str_bytes::{RawOsStr, Unix};
+    ///
+    /// assert!(rt; RawOsStr::<Unix>::from_str("").is_empty());
+    /// assert!(rt; !RawOsStr::<Unix>::from_str("foo").is_empty());
+    /// ```
     pub fn is_empty(self) -> bool
         ensures { IsTrue result ↔ (raw_bytes self.entry ≡ []) }
     {
@@ -164,6 +288,17 @@ impl<'a, E: Platform> RawOsStr<'a, E> {
     }
 
     /// An owned copy. Of the empty string it takes no memory.
+    ///
+    /// # Errors
+    ///
+    /// `AllocError` where the memory is refused.
+    ///
+    /// ```
+    /// use os_str_bytes::{RawOsStr, Unix};
+    ///
+    /// let owned = RawOsStr::<Unix>::from_str("foo").to_owned(alloc)?;
+    /// assert!(rt; owned.eq_str("foo"));
+    /// ```
     pub fn to_owned<A: Allocator>(self, alloc: A) -> Result<RawOsString<E, A>, AllocError>
         ensures bytes { IfOk result (λ owned. (raw_vec_of owned).items ≡ raw_bytes self.entry) }
         ensures empty { length (raw_bytes self.entry) ≡ 0 → IsOk result }
@@ -172,6 +307,12 @@ impl<'a, E: Platform> RawOsStr<'a, E> {
     }
 
     /// Whether the string is this text (own call; the crate's `==` between the types).
+    ///
+    /// ```
+    /// use os_str_bytes::{RawOsStr, Unix};
+    ///
+    /// assert!(rt; RawOsStr::<Unix>::from_str("foo").eq_str("foo"));
+    /// ```
     pub fn eq_str(self, text: &str) -> bool
         ensures { IsTrue result ↔ (raw_bytes self.entry ≡ text.now) }
     {
@@ -179,6 +320,12 @@ impl<'a, E: Platform> RawOsStr<'a, E> {
     }
 
     /// Whether the string is this one (own call; the crate's `==` between the types).
+    ///
+    /// ```
+    /// use os_str_bytes::{OsStr, RawOsStr, Unix};
+    ///
+    /// assert!(rt; RawOsStr::<Unix>::from_str("foo").eq_os_str(OsStr::new("foo")));
+    /// ```
     pub fn eq_os_str(self, other: OsStr<'_, E>) -> bool
         ensures { IsTrue result ↔ (raw_bytes self.entry ≡ bytes other.entry) }
     {

@@ -28,6 +28,13 @@ impl<E: Platform, A: Allocator> RawOsString<E, A> {
     ghost use Rattle.os_str_bytes.specs.Raw.{MayTruncate, raw_bytes, raw_vec_of, box_bytes};
 
     /// The raw form of an owned string, in its own memory.
+    ///
+    /// ```
+    /// use os_str_bytes::{OsStr, RawOsString, Unix};
+    ///
+    /// let string = RawOsString::new(OsStr::<Unix>::new("foo").to_owned(alloc)?);
+    /// assert!(rt; string.eq_str("foo"));
+    /// ```
     pub fn new(string: OsString<E, A>) -> Self
         ensures { raw_vec_of result ≡ string_vec_of string }
     {
@@ -35,6 +42,12 @@ impl<E: Platform, A: Allocator> RawOsString<E, A> {
     }
 
     /// The empty string (own call, in the place of `Default`). It takes no memory.
+    ///
+    /// ```
+    /// use os_str_bytes::{RawOsString, Unix};
+    ///
+    /// assert!(rt; RawOsString::<Unix>::empty(alloc).as_raw().is_empty());
+    /// ```
     pub fn empty(alloc: A) -> Self
         ensures { (raw_vec_of result).items ≡ [] }
     {
@@ -42,6 +55,13 @@ impl<E: Platform, A: Allocator> RawOsString<E, A> {
     }
 
     /// The string of an owned text, in its own memory.
+    ///
+    /// ```
+    /// use os_str_bytes::{RawOsString, Unix};
+    ///
+    /// let string = RawOsString::<Unix>::from_string(String::from_str(alloc, "foo")?);
+    /// assert!(rt; string.eq_str("foo"));
+    /// ```
     pub fn from_string(text: String<A>) -> Self
         ensures { raw_vec_of result ≡ string_vec text }
     {
@@ -49,6 +69,13 @@ impl<E: Platform, A: Allocator> RawOsString<E, A> {
     }
 
     /// The string of a vector of well-formed bytes (test: [`Platform::check`]).
+    ///
+    /// ```
+    /// use os_str_bytes::{RawOsString, Unix};
+    ///
+    /// let string = RawOsString::<Unix>::from_encoded_vec_unchecked(b"a\x80".to_vec(alloc)?);
+    /// assert_eq!(rt; string.as_raw().as_encoded_bytes(), b"a\x80".as_slice());
+    /// ```
     pub fn from_encoded_vec_unchecked(encoded: Vec<u8, A>) -> Self
         requires { E.well_formed encoded.items }
         ensures { raw_vec_of result ≡ encoded }
@@ -60,6 +87,13 @@ impl<E: Platform, A: Allocator> RawOsString<E, A> {
     }
 
     /// The string of a vector of well-formed raw bytes (test: [`RawOsString::from_raw_vec`]).
+    ///
+    /// ```
+    /// use os_str_bytes::{RawOsString, Unix};
+    ///
+    /// let string = RawOsString::<Unix>::assert_from_raw_vec(b"a\x80".to_vec(alloc)?);
+    /// assert_eq!(rt; string.as_raw().as_encoded_bytes(), b"a\x80".as_slice());
+    /// ```
     pub fn assert_from_raw_vec(raw: Vec<u8, A>) -> Self
         requires { E.well_formed raw.items }
         ensures { raw_vec_of result ≡ raw }
@@ -67,7 +101,15 @@ impl<E: Platform, A: Allocator> RawOsString<E, A> {
         RawOsString::from_encoded_vec_unchecked(raw)
     }
 
-    /// The same as [`RawOsString::assert_from_raw_vec`].
+    /// The string of a vector of well-formed raw bytes, as [`RawOsString::assert_from_raw_vec`] gives
+    /// it.
+    ///
+    /// ```
+    /// use os_str_bytes::{RawOsString, Unix};
+    ///
+    /// let string = RawOsString::<Unix>::from_raw_vec_unchecked(b"a\x80".to_vec(alloc)?);
+    /// assert_eq!(rt; string.as_raw().as_encoded_bytes(), b"a\x80".as_slice());
+    /// ```
     pub fn from_raw_vec_unchecked(raw: Vec<u8, A>) -> Self
         requires { E.well_formed raw.items }
         ensures { raw_vec_of result ≡ raw }
@@ -75,17 +117,38 @@ impl<E: Platform, A: Allocator> RawOsString<E, A> {
         RawOsString::from_encoded_vec_unchecked(raw)
     }
 
-    /// The string of a vector of raw bytes, or their first fault where they aren't well
-    /// formed; a refused vector is dropped.
+    /// The string of a vector of raw bytes. It takes no memory.
+    ///
+    /// # Errors
+    ///
+    /// The first fault of the bytes where they aren't well formed; the vector is then dropped.
+    ///
+    /// ```
+    /// use os_str_bytes::{EncodingError, RawOsString, Windows};
+    ///
+    /// let string = RawOsString::<Windows>::from_raw_vec(b"\xED\xA0\x80".to_vec(alloc)?)?;
+    /// assert_eq!(rt; string.as_raw().as_encoded_bytes(), b"\xED\xA0\x80".as_slice());
+    ///
+    /// let refused = RawOsString::<Windows>::from_raw_vec(b"\xC0".to_vec(alloc)?);
+    /// assert_eq!(rt; refused.err(), Some(EncodingError::Byte(0xC0)));
+    /// ```
     pub fn from_raw_vec(raw: Vec<u8, A>) -> Result<Self, EncodingError>
         ensures vec { IfOk result (λ string. raw_vec_of string ≡ raw) }
-        ensures cases { MatchResult result (λ _. E.well_formed raw.items) (λ fault. E.first_fault raw.items fault) }
+        ensures cases { MatchResult result (λ _. E.well_formed raw.items)
+            (λ fault. E.first_fault raw.items fault) }
     {
         E::check(raw.as_slice())?;
         Ok(RawOsString::from_encoded_vec_unchecked(raw))
     }
 
     /// A view of the string.
+    ///
+    /// ```
+    /// use os_str_bytes::{RawOsString, Unix};
+    ///
+    /// let string = RawOsString::<Unix>::from_string(String::from_str(alloc, "foo")?);
+    /// assert_eq!(rt; string.as_raw().find("o"), Some(1));
+    /// ```
     pub fn as_raw(&self) -> RawOsStr<'_, E>
         ensures { raw_bytes result ≡ (raw_vec_of self.now).items }
     {
@@ -93,6 +156,13 @@ impl<E: Platform, A: Allocator> RawOsString<E, A> {
     }
 
     /// A view of the string, as the platform's own type.
+    ///
+    /// ```
+    /// use os_str_bytes::{OsStr, RawOsString, Unix};
+    ///
+    /// let string = RawOsString::<Unix>::from_string(String::from_str(alloc, "foo")?);
+    /// assert!(rt; string.as_os_str() == OsStr::new("foo"));
+    /// ```
     pub fn as_os_str(&self) -> OsStr<'_, E>
         ensures { bytes result ≡ (raw_vec_of self.now).items }
     {
@@ -100,6 +170,13 @@ impl<E: Platform, A: Allocator> RawOsString<E, A> {
     }
 
     /// Whether the string may be cut at a place; past its length it may not (own call).
+    ///
+    /// ```
+    /// use os_str_bytes::{RawOsString, Unix};
+    ///
+    /// let string = RawOsString::<Unix>::from_string(String::from_str(alloc, "\u{E9}a")?);
+    /// assert!(rt; !string.is_boundary(1) && string.is_boundary(2) && !string.is_boundary(4));
+    /// ```
     pub fn is_boundary(&self, at: usize) -> bool
         ensures { IsTrue result ↔ IsBoundary (raw_vec_of self.now).items at }
     {
@@ -107,15 +184,34 @@ impl<E: Platform, A: Allocator> RawOsString<E, A> {
     }
 
     /// The part in a range that fits (test: [`SliceIndex::fits`]).
+    ///
+    /// ```
+    /// use os_str_bytes::{RawOsString, Unix};
+    ///
+    /// let string = RawOsString::<Unix>::from_string(String::from_str(alloc, "foobar")?);
+    /// assert!(rt; string.index(3..).eq_str("bar"));
+    /// ```
     pub fn index<I: SliceIndex>(&self, range: I) -> RawOsStr<'_, E>
-        requires { FitsIn (raw_vec_of self.now).items (I.first_place range) (I.end_place range (length (raw_vec_of self.now).items)) }
-        ensures bytes { raw_bytes result ≡ drop (I.first_place range) (take (I.end_place range (length (raw_vec_of self.now).items)) (raw_vec_of self.now).items) }
-        ensures units { IsPartInUnits E.units (raw_vec_of self.now).items (I.first_place range) (I.end_place range (length (raw_vec_of self.now).items)) (raw_bytes result) }
+        requires { FitsIn (raw_vec_of self.now).items (I.first_place range)
+            (I.end_place range (length (raw_vec_of self.now).items)) }
+        ensures bytes { raw_bytes result ≡ drop (I.first_place range)
+            (take (I.end_place range (length (raw_vec_of self.now).items))
+            (raw_vec_of self.now).items) }
+        ensures units { IsPartInUnits E.units (raw_vec_of self.now).items (I.first_place range)
+            (I.end_place range (length (raw_vec_of self.now).items)) (raw_bytes result) }
     {
         self.as_raw().index(range)
     }
 
     /// Leaves the empty string. It takes no memory and gives none back.
+    ///
+    /// ```
+    /// use os_str_bytes::{RawOsString, Unix};
+    ///
+    /// let mut string = RawOsString::<Unix>::from_string(String::from_str(alloc, "foobar")?);
+    /// string.clear();
+    /// assert!(rt; string.as_raw().is_empty());
+    /// ```
     pub fn clear(&mut self)
         ensures items { (raw_vec_of self.new).items ≡ [] }
         ensures capacity { vec_capacity (raw_vec_of self.new) ≡ vec_capacity (raw_vec_of self.old) }
@@ -128,29 +224,51 @@ impl<E: Platform, A: Allocator> RawOsString<E, A> {
     /// and those of the bytes that are cut off, joined, are the string's. It takes no memory and
     /// gives none back.
     ///
-    /// `truncate(3)` of "foobar" leaves "foo", `truncate(9)` leaves "foobar".
+    /// ```
+    /// use os_str_bytes::{RawOsString, Unix};
+    ///
+    /// let mut string = RawOsString::<Unix>::from_string(String::from_str(alloc, "foobar")?);
+    /// string.truncate(9);
+    /// assert!(rt; string.eq_str("foobar"));
+    /// string.truncate(3);
+    /// assert!(rt; string.eq_str("foo"));
+    /// ```
     pub fn truncate(&mut self, at: usize)
         requires { MayTruncate (raw_vec_of self.old).items at }
         ensures items { (raw_vec_of self.new).items ≡ take at (raw_vec_of self.old).items }
-        ensures units { E.units (raw_vec_of self.old).items ≡ E.units (raw_vec_of self.new).items ++ E.units (drop at (raw_vec_of self.old).items) }
+        ensures units { E.units (raw_vec_of self.old).items ≡ E.units (raw_vec_of self.new).items
+            ++ E.units (drop at (raw_vec_of self.old).items) }
         ensures capacity { vec_capacity (raw_vec_of self.new) ≡ vec_capacity (raw_vec_of self.old) }
     {
         self.vec.truncate(at);
     }
 
-    /// The bytes behind a boundary (test: [`RawOsString::is_boundary`]), in a string of their
-    /// own; those before it stay. The units of both, joined, are the string's. Where memory is
-    /// refused nothing changes.
+    /// The bytes from a boundary on (test: [`RawOsString::is_boundary`]), in a string of their own;
+    /// those before it stay. The units of both, joined, are the string's.
     ///
-    /// `split_off(3)` of "foobar" gives "bar" and leaves "foo".
+    /// # Errors
+    ///
+    /// `AllocError` where the memory is refused; the string is then as it was.
+    ///
+    /// ```
+    /// use os_str_bytes::{RawOsString, Unix};
+    ///
+    /// let mut string = RawOsString::<Unix>::from_string(String::from_str(alloc, "foobar")?);
+    /// let back = string.split_off(3)?;
+    /// assert!(rt; string.eq_str("foo") && back.eq_str("bar"));
+    /// ```
     pub fn split_off(&mut self, at: usize) -> Result<Self, AllocError>
     where
         A: Clone,
         requires { IsBoundary (raw_vec_of self.old).items at }
-        ensures front { OnOk result ((raw_vec_of self.new).items ≡ take at (raw_vec_of self.old).items) }
-        ensures back { IfOk result (λ back. (raw_vec_of back).items ≡ drop at (raw_vec_of self.old).items) }
-        ensures units { IfOk result (λ back. E.units (raw_vec_of self.old).items ≡ E.units (raw_vec_of self.new).items ++ E.units (raw_vec_of back).items) }
-        ensures unchanged { OnErr result ((raw_vec_of self.new).items ≡ (raw_vec_of self.old).items) }
+        ensures front { OnOk result ((raw_vec_of self.new).items ≡ take at
+            (raw_vec_of self.old).items) }
+        ensures back { IfOk result (λ back. (raw_vec_of back).items ≡ drop at
+            (raw_vec_of self.old).items) }
+        ensures units { IfOk result (λ back. E.units (raw_vec_of self.old).items ≡ E.units
+            (raw_vec_of self.new).items ++ E.units (raw_vec_of back).items) }
+        ensures unchanged { OnErr result
+            ((raw_vec_of self.new).items ≡ (raw_vec_of self.old).items) }
     {
         let alloc = self.vec.allocator().clone()?;
         let back = self.copy_from(alloc, at)?;
@@ -161,13 +279,25 @@ impl<E: Platform, A: Allocator> RawOsString<E, A> {
     /// A copy of the bytes behind a boundary.
     fn copy_from(&self, alloc: A, at: usize) -> Result<Self, AllocError>
         requires { IsBoundary (raw_vec_of self.now).items at }
-        ensures { IfOk result (λ back. (raw_vec_of back).items ≡ drop at (raw_vec_of self.now).items) }
+        ensures { IfOk result (λ back. (raw_vec_of back).items ≡ drop at
+            (raw_vec_of self.now).items) }
     {
         let (_, back) = self.as_raw().split_at(at);
         back.to_owned(alloc)
     }
 
     /// A copy in memory of its own.
+    ///
+    /// # Errors
+    ///
+    /// `AllocError` where the memory is refused.
+    ///
+    /// ```
+    /// use os_str_bytes::{RawOsString, Unix};
+    ///
+    /// let string = RawOsString::<Unix>::from_string(String::from_str(alloc, "foo")?);
+    /// assert!(rt; string.clone()? == string);
+    /// ```
     pub fn clone(&self) -> Result<Self, AllocError>
     where
         A: Clone,
@@ -177,12 +307,27 @@ impl<E: Platform, A: Allocator> RawOsString<E, A> {
     }
 
     /// Gives back the memory that the string doesn't fill; the string is the same after both
-    /// answers. `AllocError` where some of it couldn't be given back.
+    /// answers.
+    ///
+    /// # Errors
+    ///
+    /// `AllocError` where some of it couldn't be given back.
+    ///
+    /// ```
+    /// use os_str_bytes::{RawOsString, Unix};
+    ///
+    /// let mut string = RawOsString::<Unix>::from_string(String::from_str(alloc, "foobar")?);
+    /// string.truncate(3);
+    /// string.shrink_to_fit()?;
+    /// assert_eq!(rt; string.into_raw_vec().capacity(), 3);
+    /// ```
     pub fn shrink_to_fit(&mut self) -> Result<(), AllocError>
         ensures items { (raw_vec_of self.new).items ≡ (raw_vec_of self.old).items }
         ensures no_more { vec_capacity (raw_vec_of self.new) ≤ vec_capacity (raw_vec_of self.old) }
-        ensures full { OnOk result (vec_capacity (raw_vec_of self.new) ≡ vec_len (raw_vec_of self.new)) }
-        ensures room_left { OnErr result (vec_len (raw_vec_of self.new) < vec_capacity (raw_vec_of self.new)) }
+        ensures full { OnOk result (vec_capacity (raw_vec_of self.new) ≡ vec_len
+            (raw_vec_of self.new)) }
+        ensures room_left { OnErr result
+            (vec_len (raw_vec_of self.new) < vec_capacity (raw_vec_of self.new)) }
     {
         self.vec.shrink_to_fit();
         if self.vec.capacity() > self.vec.len() {
@@ -191,11 +336,23 @@ impl<E: Platform, A: Allocator> RawOsString<E, A> {
         Ok(())
     }
 
-    /// The string in a block of its own length (the crate's `into_box`, and its `From`); the
-    /// string is dropped where memory is refused. A string that fills its memory takes none.
+    /// The string in a block of its own length (the crate's `into_box`, and its `From`). A string
+    /// that fills its memory takes none.
+    ///
+    /// # Errors
+    ///
+    /// `AllocError` where the memory is refused; the string is then dropped.
+    ///
+    /// ```
+    /// use os_str_bytes::{RawOsString, Unix};
+    ///
+    /// let string = RawOsString::<Unix>::from_string(String::from_str(alloc, "foo")?);
+    /// assert!(rt; string.into_box()?.as_raw().eq_str("foo"));
+    /// ```
     pub fn into_box(mut self) -> Result<RawOsStrBox<E, A>, AllocError>
         ensures bytes { IfOk result (λ boxed. box_bytes boxed ≡ (raw_vec_of self).items) }
-        ensures room_left { OnErr result (vec_len (raw_vec_of self) < vec_capacity (raw_vec_of self)) }
+        ensures room_left { OnErr result
+            (vec_len (raw_vec_of self) < vec_capacity (raw_vec_of self)) }
     {
         self.shrink_to_fit()?;
         Ok(self.into_block())
@@ -209,6 +366,13 @@ impl<E: Platform, A: Allocator> RawOsString<E, A> {
     }
 
     /// The string's vector, whose bytes are well formed.
+    ///
+    /// ```
+    /// use os_str_bytes::{RawOsString, Unix};
+    ///
+    /// let string = RawOsString::<Unix>::from_string(String::from_str(alloc, "foo")?);
+    /// assert_eq!(rt; string.into_encoded_vec().as_slice(), b"foo".as_slice());
+    /// ```
     pub fn into_encoded_vec(self) -> Vec<u8, A>
         ensures value { result ≡ raw_vec_of self }
         ensures formed { E.well_formed result.items }
@@ -217,6 +381,13 @@ impl<E: Platform, A: Allocator> RawOsString<E, A> {
     }
 
     /// The string's vector of raw bytes, which are well formed.
+    ///
+    /// ```
+    /// use os_str_bytes::{RawOsString, Unix};
+    ///
+    /// let string = RawOsString::<Unix>::from_string(String::from_str(alloc, "foo")?);
+    /// assert_eq!(rt; string.into_raw_vec().as_slice(), b"foo".as_slice());
+    /// ```
     pub fn into_raw_vec(self) -> Vec<u8, A>
         ensures value { result ≡ raw_vec_of self }
         ensures formed { E.well_formed result.items }
@@ -225,18 +396,39 @@ impl<E: Platform, A: Allocator> RawOsString<E, A> {
     }
 
     /// The string as the platform's own type, in its own memory.
+    ///
+    /// ```
+    /// use os_str_bytes::{OsStr, RawOsString, Unix};
+    ///
+    /// let string = RawOsString::<Unix>::from_string(String::from_str(alloc, "foo")?);
+    /// assert!(rt; string.into_os_string().as_os_str() == OsStr::new("foo"));
+    /// ```
     pub fn into_os_string(self) -> OsString<E, A>
         ensures { string_vec_of result ≡ raw_vec_of self }
     {
         OsString::from_encoded_bytes_unchecked(self.vec)
     }
 
-    /// The string as a text in its own memory, or else the same string again. It takes no
-    /// memory.
+    /// The string as a text in its own memory. It takes no memory.
+    ///
+    /// # Errors
+    ///
+    /// The same string again where it isn't UTF-8.
+    ///
+    /// ```
+    /// use os_str_bytes::{RawOsString, Unix};
+    ///
+    /// let string = RawOsString::<Unix>::from_string(String::from_str(alloc, "foo")?);
+    /// assert!(rt; string.into_string().is_ok());
+    ///
+    /// let string = RawOsString::<Unix>::from_raw_vec(b"a\x80".to_vec(alloc)?)?;
+    /// assert!(rt; string.into_string().is_err());
+    /// ```
     pub fn into_string(self) -> Result<String<A>, Self>
         ensures text { IfOk result (λ text. string_vec text ≡ raw_vec_of self) }
         ensures same { IfErr result (λ string. raw_vec_of string ≡ raw_vec_of self) }
-        ensures cases { MatchResult result (λ _. IsUtf8 (raw_vec_of self).items) (λ _. ¬ (IsUtf8 (raw_vec_of self).items)) }
+        ensures cases { MatchResult result (λ _. IsUtf8 (raw_vec_of self).items)
+            (λ _. ¬ (IsUtf8 (raw_vec_of self).items)) }
     {
         match self.into_os_string().into_string() {
             Ok(text) => Ok(text),
@@ -245,6 +437,13 @@ impl<E: Platform, A: Allocator> RawOsString<E, A> {
     }
 
     /// Whether the string is this text (own call; the crate's `==` between the types).
+    ///
+    /// ```
+    /// use os_str_bytes::{RawOsString, Unix};
+    ///
+    /// let string = RawOsString::<Unix>::from_string(String::from_str(alloc, "foo")?);
+    /// assert!(rt; string.eq_str("foo") && !string.eq_str("fo"));
+    /// ```
     pub fn eq_str(&self, text: &str) -> bool
         ensures { IsTrue result ↔ ((raw_vec_of self.now).items ≡ text.now) }
     {
@@ -252,6 +451,13 @@ impl<E: Platform, A: Allocator> RawOsString<E, A> {
     }
 
     /// Whether the string is this one (own call; the crate's `==` between the types).
+    ///
+    /// ```
+    /// use os_str_bytes::{OsStr, RawOsString, Unix};
+    ///
+    /// let string = RawOsString::<Unix>::from_string(String::from_str(alloc, "foo")?);
+    /// assert!(rt; string.eq_os_str(OsStr::new("foo")));
+    /// ```
     pub fn eq_os_str(&self, other: OsStr<'_, E>) -> bool
         ensures { IsTrue result ↔ ((raw_vec_of self.now).items ≡ bytes other.entry) }
     {
@@ -259,6 +465,13 @@ impl<E: Platform, A: Allocator> RawOsString<E, A> {
     }
 
     /// Whether the string is this one (own call; the crate's `==` between the types).
+    ///
+    /// ```
+    /// use os_str_bytes::{RawOsStr, RawOsString, Unix};
+    ///
+    /// let string = RawOsString::<Unix>::from_string(String::from_str(alloc, "foo")?);
+    /// assert!(rt; string.eq_raw(RawOsStr::from_str("foo")));
+    /// ```
     pub fn eq_raw(&self, other: RawOsStr<'_, E>) -> bool
         ensures { IsTrue result ↔ ((raw_vec_of self.now).items ≡ raw_bytes other.entry) }
     {

@@ -13,3 +13,5 @@ pub mod Repeats
 pub mod Runs
 pub mod CutUnits
 pub mod SymbolSteps
+pub mod EdgeCharacters
+pub mod SymbolBytes

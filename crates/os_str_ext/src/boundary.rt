@@ -3,6 +3,7 @@ ghost use Rattle.std.specs.Prelude.{◌≡◌, ◌≤◌, ◌-◌, ◌↔◌, �
 ghost use Rattle.wtf8_core.specs.Character.{WholeCharacter};
 ghost use Rattle.wtf8_core.specs.Boundary.{IsBoundary};
 ghost use Rattle.platform_str.specs.Strings.{bytes};
+ghost use Rattle.os_str_ext.specs.Characters.{IsCharacterBefore};
 ghost use Rattle.os_str_ext.specs.Range.{FitsIn, IsPartInUnits};
 
 use platform_str::{OsStr, Platform};
@@ -13,7 +14,6 @@ use wtf8_core::{char_at, laws};
 pub(crate) fn is_boundary(bytes: &[u8], at: usize) -> bool
     ensures { IsTrue result ↔ IsBoundary bytes.now at }
 {
-    laws::characters();
     if at == 0 || at == bytes.len() {
         return true;
     }
@@ -23,12 +23,20 @@ pub(crate) fn is_boundary(bytes: &[u8], at: usize) -> bool
     if char_at(bytes, at).is_some() {
         return true;
     }
+    char_before(bytes, at).is_some()
+}
+
+/// How many bytes the whole character has that ends at a place, `None` where none ends there.
+pub(crate) fn char_before(bytes: &[u8], at: usize) -> Option<usize>
+    ensures { IsCharacterBefore bytes.now at result }
+{
+    laws::characters();
     for size in 1..5 {
         if size <= at && ends_character(bytes, at, size) {
-            return true;
+            return Some(size);
         }
     }
-    false
+    None
 }
 
 /// Whether a whole character of `size` bytes ends at a place.
@@ -52,7 +60,8 @@ pub(crate) fn split_at<'a, E: Platform>(
     requires { IsBoundary (bytes string) at }
     ensures front { bytes result.0 ≡ take at (bytes string.entry) }
     ensures back { bytes result.1 ≡ drop at (bytes string.entry) }
-    ensures units { E.units (bytes string.entry) ≡ E.units (bytes result.0) ++ E.units (bytes result.1) }
+    ensures units { E.units (bytes string.entry) ≡ E.units (bytes result.0)
+        ++ E.units (bytes result.1) }
 {
     let (front, back) = string.as_encoded_bytes().split_at(at);
     (

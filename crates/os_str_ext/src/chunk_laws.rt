@@ -10,5 +10,6 @@ use platform_str::Platform;
 
 /// Each chunk of a string is a string without whole characters and a text, and not both are empty.
 pub fn each_chunk<E: Platform>()
-    ensures { (s : List ℕ) → E.well_formed s → (chunks : List Chunk) → AreChunks s chunks → All (IsChunkOf E.well_formed) chunks }
+    ensures { (s : List ℕ) → E.well_formed s → (chunks : List Chunk) → AreChunks s chunks
+        → All (IsChunkOf E.well_formed) chunks }
 {}

@@ -66,8 +66,16 @@ impl<'a, E: Platform> Utf8Chunks<'a, E> {
     /// The string whose chunks are left, in place in the string that the chunks are of (as std's
     /// `str::Chars::as_str`). It takes no memory.
     ///
-    /// Of the Unix string of the bytes 61 80 62 (hexadecimal) that is, once its first chunk was
-    /// given, the string of 80 62; at the end it is empty.
+    /// ```
+    /// use os_str_bytes::{OsStr, OsStrBytesExt, Unix};
+    ///
+    /// let string = OsStr::<Unix>::from_encoded_bytes_unchecked(b"a\x80b");
+    /// let mut chunks = string.utf8_chunks();
+    /// assert!(rt; chunks.next().is_some());
+    /// assert_eq!(rt; chunks.rest().as_encoded_bytes(), b"\x80b".as_slice());
+    /// assert!(rt; chunks.next().is_some());
+    /// assert!(rt; chunks.rest().is_empty());
+    /// ```
     pub fn rest(&self) -> OsStr<'a, E>
         ensures chunks { AreChunks (bytes result) self.now }
         ensures value { self.now ≡ chunks_of (bytes result) }

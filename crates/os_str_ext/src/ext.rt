@@ -5,8 +5,10 @@ ghost use Rattle.wtf8_core.specs.UnitPlace.{FindsInUnits};
 ghost use Rattle.wtf8_core.specs.Boundary.{IsBoundary};
 ghost use Rattle.wtf8_core.specs.Chunks.{AreChunks};
 ghost use Rattle.wtf8_core.specs.Pieces.{StandsSomewhere, MayBeCutAround, StripsFront, StripsEnd, SplitsOnce, IsStartTrim, IsEndTrim, IsTrim, IsSplit, IsRSplit};
+ghost use Rattle.std.specs.Char.{encode_utf8};
 ghost use Rattle.std.specs.List.{repeat};
 ghost use Rattle.platform_str.specs.Strings.{string_vec_of};
+ghost use Rattle.os_str_ext.specs.Characters.{SplitsFirstChar, SplitsLastChar};
 ghost use Rattle.os_str_ext.specs.Chunks.{chunks_of};
 ghost use Rattle.os_str_ext.specs.Range.{FitsIn, IsPartInUnits};
 ghost use Rattle.os_str_ext.specs.Symbols.{AreSymbols, symbols_of};
@@ -16,7 +18,7 @@ use crate::iter::{RSplit, Split};
 use crate::pattern::{Encoded, Pattern};
 use crate::slice_index::SliceIndex;
 use crate::symbols::Symbols;
-use crate::{boundary, parts, repeat, search};
+use crate::{boundary, characters, iter, parts, repeat, search};
 use platform_str::{OsStr, OsStrBytes, OsString, Platform};
 use std::alloc::{AllocError, Allocator};
 
@@ -31,160 +33,311 @@ pub trait OsStrBytesExt<'a>: OsStrBytes<'a> {
     /// Whether the string may be cut at a place, as std's `str::is_char_boundary`; past its
     /// length it may not (own call).
     ///
-    /// The Unix string of the bytes 80 C3 A9 (hexadecimal) may be cut at 0, 1 and 3.
+    /// ```
+    /// use os_str_bytes::{OsStr, OsStrBytesExt, Unix};
+    ///
+    /// let string = OsStr::<Unix>::from_encoded_bytes_unchecked(b"\x80\xC3\xA9");
+    /// assert!(rt; string.is_boundary(0) && string.is_boundary(1) && string.is_boundary(3));
+    /// assert!(rt; !string.is_boundary(2) && !string.is_boundary(4));
+    /// ```
     fn is_boundary(self, at: usize) -> bool
         ensures { IsTrue result ↔ IsBoundary (Self.bytes_of self) at };
 
     /// The parts before and behind a boundary (test: [`OsStrBytesExt::is_boundary`]), as std's
     /// `str::split_at`. Their units joined are the string's.
     ///
-    /// "foobar" at 2 is "fo" and "obar".
+    /// ```
+    /// use os_str_bytes::{OsStr, OsStrBytesExt, Unix};
+    ///
+    /// let (front, back) = OsStr::<Unix>::new("foobar").split_at(2);
+    /// assert!(rt; front == OsStr::new("fo") && back == OsStr::new("obar"));
+    /// ```
     fn split_at(self, at: usize) -> (Self, Self)
         requires { IsBoundary (Self.bytes_of self) at }
         ensures front { Self.bytes_of result.0 ≡ take at (Self.bytes_of self) }
         ensures back { Self.bytes_of result.1 ≡ drop at (Self.bytes_of self) }
-        ensures units { Self.Platform.units (Self.bytes_of self) ≡ Self.Platform.units (Self.bytes_of result.0) ++ Self.Platform.units (Self.bytes_of result.1) };
+        ensures units { Self.Platform.units (Self.bytes_of self)
+            ≡ Self.Platform.units (Self.bytes_of result.0)
+            ++ Self.Platform.units (Self.bytes_of result.1) };
 
     /// The part in a range that fits (test: [`SliceIndex::fits`]), as std's indexing of `str`. The
     /// units before the range, the part's and those after the range, joined, are the string's.
     ///
-    /// `index(0..=5)` of "foobar" is the whole string, `index(3..=2)` is empty.
+    /// ```
+    /// use os_str_bytes::{OsStr, OsStrBytesExt, Unix};
+    ///
+    /// let string = OsStr::<Unix>::new("foobar");
+    /// assert!(rt; string.index(0..=5) == string);
+    /// assert!(rt; string.index(3..=2).is_empty());
+    /// ```
     fn index<I: SliceIndex>(self, range: I) -> Self
-        requires { FitsIn (Self.bytes_of self) (I.first_place range) (I.end_place range (length (Self.bytes_of self))) }
-        ensures bytes { Self.bytes_of result ≡ drop (I.first_place range) (take (I.end_place range (length (Self.bytes_of self))) (Self.bytes_of self)) }
-        ensures units { IsPartInUnits Self.Platform.units (Self.bytes_of self) (I.first_place range) (I.end_place range (length (Self.bytes_of self))) (Self.bytes_of result) };
+        requires { FitsIn (Self.bytes_of self) (I.first_place range)
+            (I.end_place range (length (Self.bytes_of self))) }
+        ensures bytes { Self.bytes_of result
+            ≡ drop (I.first_place range)
+            (take (I.end_place range (length (Self.bytes_of self))) (Self.bytes_of self)) }
+        ensures units { IsPartInUnits Self.Platform.units (Self.bytes_of self) (I.first_place range)
+            (I.end_place range (length (Self.bytes_of self))) (Self.bytes_of result) };
 
     /// The same as [`OsStrBytesExt::index`], as std's `str::get_unchecked`, but safe.
     ///
-    /// `get_unchecked(3..)` of "foobar" is "bar".
+    /// ```
+    /// use os_str_bytes::{OsStr, OsStrBytesExt, Unix};
+    ///
+    /// assert!(rt; OsStr::<Unix>::new("foobar").get_unchecked(3..) == OsStr::new("bar"));
+    /// ```
     fn get_unchecked<I: SliceIndex>(self, range: I) -> Self
-        requires { FitsIn (Self.bytes_of self) (I.first_place range) (I.end_place range (length (Self.bytes_of self))) }
-        ensures bytes { Self.bytes_of result ≡ drop (I.first_place range) (take (I.end_place range (length (Self.bytes_of self))) (Self.bytes_of self)) }
-        ensures units { IsPartInUnits Self.Platform.units (Self.bytes_of self) (I.first_place range) (I.end_place range (length (Self.bytes_of self))) (Self.bytes_of result) };
+        requires { FitsIn (Self.bytes_of self) (I.first_place range)
+            (I.end_place range (length (Self.bytes_of self))) }
+        ensures bytes { Self.bytes_of result
+            ≡ drop (I.first_place range)
+            (take (I.end_place range (length (Self.bytes_of self))) (Self.bytes_of self)) }
+        ensures units { IsPartInUnits Self.Platform.units (Self.bytes_of self) (I.first_place range)
+            (I.end_place range (length (Self.bytes_of self))) (Self.bytes_of result) };
 
     // Searches.
 
     /// The least place at which a pattern stands, `None` where it stands nowhere. The string
     /// may be cut there and behind the pattern, at `place + text.len()`.
     ///
-    /// In "foobar" `find("o")` is `Some(1)`, `find("of")` is `None` and `find("")` is `Some(0)`.
+    /// ```
+    /// use os_str_bytes::{OsStr, OsStrBytesExt, Unix};
+    ///
+    /// let string = OsStr::<Unix>::new("foobar");
+    /// assert_eq!(rt; string.find("o"), Some(1));
+    /// assert_eq!(rt; string.find("of"), None);
+    /// assert_eq!(rt; string.find(""), Some(0));
+    /// ```
     fn find<P: Pattern>(self, pattern: P) -> Option<usize>
         ensures bytes { Finds IsLeastPlace (P.text pattern) (Self.bytes_of self) result }
-        ensures units { FindsInUnits IsLeastPlace Self.Platform.well_formed Self.Platform.units (P.text pattern) (Self.bytes_of self) result }
+        ensures units { FindsInUnits IsLeastPlace Self.Platform.well_formed Self.Platform.units
+            (P.text pattern) (Self.bytes_of self) result }
         ensures edges { MayBeCutAround (Self.bytes_of self) (length (P.text pattern)) result }
         ensures behind { IfSome result (λ at. at + length (P.text pattern) < 2 ^ 64) };
 
     /// The greatest place at which a pattern stands, `None` where it stands nowhere. The string
     /// may be cut there and behind the pattern, at `place + text.len()`.
     ///
-    /// In "foobar" `rfind("o")` is `Some(2)` and `rfind("")` is `Some(6)`.
+    /// ```
+    /// use os_str_bytes::{OsStr, OsStrBytesExt, Unix};
+    ///
+    /// let string = OsStr::<Unix>::new("foobar");
+    /// assert_eq!(rt; string.rfind("o"), Some(2));
+    /// assert_eq!(rt; string.rfind(""), Some(6));
+    /// ```
     fn rfind<P: Pattern>(self, pattern: P) -> Option<usize>
         ensures bytes { Finds IsGreatestPlace (P.text pattern) (Self.bytes_of self) result }
-        ensures units { FindsInUnits IsGreatestPlace Self.Platform.well_formed Self.Platform.units (P.text pattern) (Self.bytes_of self) result }
+        ensures units { FindsInUnits IsGreatestPlace Self.Platform.well_formed Self.Platform.units
+            (P.text pattern) (Self.bytes_of self) result }
         ensures edges { MayBeCutAround (Self.bytes_of self) (length (P.text pattern)) result }
         ensures behind { IfSome result (λ at. at + length (P.text pattern) < 2 ^ 64) };
 
     /// Whether a pattern stands somewhere.
     ///
-    /// "foobar" contains "oba" and 'r', and not "of".
+    /// ```
+    /// use os_str_bytes::{OsStr, OsStrBytesExt, Unix};
+    ///
+    /// let string = OsStr::<Unix>::new("foobar");
+    /// assert!(rt; string.contains("oba") && string.contains('r') && !string.contains("of"));
+    /// ```
     fn contains<P: Pattern>(self, pattern: P) -> bool
         ensures bytes { IsTrue result ↔ StandsSomewhere (P.text pattern) (Self.bytes_of self) }
-        ensures units { IsTrue result ↔ StandsSomewhere (Self.Platform.units (P.text pattern)) (Self.Platform.units (Self.bytes_of self)) };
+        ensures units { IsTrue result ↔ StandsSomewhere (Self.Platform.units (P.text pattern))
+            (Self.Platform.units (Self.bytes_of self)) };
 
     /// Whether a pattern stands at the front.
     ///
-    /// "foobar" starts with "foo" and "", and not with 'b'.
+    /// ```
+    /// use os_str_bytes::{OsStr, OsStrBytesExt, Unix};
+    ///
+    /// let string = OsStr::<Unix>::new("foobar");
+    /// assert!(rt; string.starts_with("foo") && string.starts_with(""));
+    /// assert!(rt; !string.starts_with('b'));
+    /// ```
     fn starts_with<P: Pattern>(self, pattern: P) -> bool
         ensures bytes { IsTrue result ↔ IsFront (P.text pattern) (Self.bytes_of self) }
-        ensures units { IsTrue result ↔ IsFront (Self.Platform.units (P.text pattern)) (Self.Platform.units (Self.bytes_of self)) };
+        ensures units { IsTrue result ↔ IsFront (Self.Platform.units (P.text pattern))
+            (Self.Platform.units (Self.bytes_of self)) };
 
     /// Whether a pattern stands at the end.
     ///
-    /// "foobar" ends with "bar" and "", and not with 'b'.
+    /// ```
+    /// use os_str_bytes::{OsStr, OsStrBytesExt, Unix};
+    ///
+    /// let string = OsStr::<Unix>::new("foobar");
+    /// assert!(rt; string.ends_with("bar") && string.ends_with(""));
+    /// assert!(rt; !string.ends_with('b'));
+    /// ```
     fn ends_with<P: Pattern>(self, pattern: P) -> bool
         ensures bytes { IsTrue result ↔ IsEnd (P.text pattern) (Self.bytes_of self) }
-        ensures units { IsTrue result ↔ IsEnd (Self.Platform.units (P.text pattern)) (Self.Platform.units (Self.bytes_of self)) };
+        ensures units { IsTrue result ↔ IsEnd (Self.Platform.units (P.text pattern))
+            (Self.Platform.units (Self.bytes_of self)) };
 
     /// Whether the units of `front` are a front of the string's; a half of a pair counts.
     ///
-    /// The Windows string of D83D, DE00 (hexadecimal) starts with that of D83D.
+    /// ```
+    /// use os_str_bytes::{OsStrBytesExt, OsString, Windows};
+    ///
+    /// let string = OsString::<Windows>::from_wide(alloc, &[0xD83D, 0xDE00])?;
+    /// let high = OsString::<Windows>::from_wide(alloc, &[0xD83D])?;
+    /// assert!(rt; string.as_os_str().starts_with_os(high.as_os_str()));
+    /// ```
     fn starts_with_os(self, front: Self) -> bool
-        ensures { IsTrue result ↔ IsFront (Self.Platform.units (Self.bytes_of front)) (Self.Platform.units (Self.bytes_of self)) };
+        ensures { IsTrue result ↔ IsFront (Self.Platform.units (Self.bytes_of front))
+            (Self.Platform.units (Self.bytes_of self)) };
 
     /// Whether the units of `end` are an end of the string's; a half of a pair counts.
     ///
-    /// The Windows string of D83D, DE00 (hexadecimal) ends with that of DE00.
+    /// ```
+    /// use os_str_bytes::{OsStrBytesExt, OsString, Windows};
+    ///
+    /// let string = OsString::<Windows>::from_wide(alloc, &[0xD83D, 0xDE00])?;
+    /// let low = OsString::<Windows>::from_wide(alloc, &[0xDE00])?;
+    /// assert!(rt; string.as_os_str().ends_with_os(low.as_os_str()));
+    /// ```
     fn ends_with_os(self, end: Self) -> bool
-        ensures { IsTrue result ↔ IsEnd (Self.Platform.units (Self.bytes_of end)) (Self.Platform.units (Self.bytes_of self)) };
+        ensures { IsTrue result ↔ IsEnd (Self.Platform.units (Self.bytes_of end))
+            (Self.Platform.units (Self.bytes_of self)) };
 
     // Strips and trims.
 
     /// What follows a pattern at the front, `None` where it doesn't stand there.
     ///
-    /// `strip_prefix("1")` of "111foo" is "11foo", `strip_prefix("o")` is `None`.
+    /// ```
+    /// use os_str_bytes::{OsStr, OsStrBytesExt, Unix};
+    ///
+    /// let string = OsStr::<Unix>::new("111foo");
+    /// assert!(rt; string.strip_prefix("1") == Some(OsStr::new("11foo")));
+    /// assert!(rt; string.strip_prefix("o") == None);
+    /// ```
     fn strip_prefix<P: Pattern>(self, pattern: P) -> Option<Self>
         ensures bytes { StripsFront Self.bytes_of (P.text pattern) (Self.bytes_of self) result }
-        ensures units { StripsFront (λ part. Self.Platform.units (Self.bytes_of part)) (Self.Platform.units (P.text pattern)) (Self.Platform.units (Self.bytes_of self)) result };
+        ensures units { StripsFront (λ part. Self.Platform.units (Self.bytes_of part))
+            (Self.Platform.units (P.text pattern)) (Self.Platform.units (Self.bytes_of self))
+            result };
 
     /// What stands before a pattern at the end, `None` where it doesn't stand there.
     ///
-    /// `strip_suffix("1")` of "bar111" is "bar11".
+    /// ```
+    /// use os_str_bytes::{OsStr, OsStrBytesExt, Unix};
+    ///
+    /// let string = OsStr::<Unix>::new("bar111");
+    /// assert!(rt; string.strip_suffix("1") == Some(OsStr::new("bar11")));
+    /// ```
     fn strip_suffix<P: Pattern>(self, pattern: P) -> Option<Self>
         ensures bytes { StripsEnd Self.bytes_of (P.text pattern) (Self.bytes_of self) result }
-        ensures units { StripsEnd (λ part. Self.Platform.units (Self.bytes_of part)) (Self.Platform.units (P.text pattern)) (Self.Platform.units (Self.bytes_of self)) result };
+        ensures units { StripsEnd (λ part. Self.Platform.units (Self.bytes_of part))
+            (Self.Platform.units (P.text pattern)) (Self.Platform.units (Self.bytes_of self))
+            result };
 
     /// The string without each pattern at its front; the whole where the pattern is empty.
     ///
-    /// `trim_start_matches("1")` of "111foo1" is "foo1".
+    /// ```
+    /// use os_str_bytes::{OsStr, OsStrBytesExt, Unix};
+    ///
+    /// let string = OsStr::<Unix>::new("111foo1");
+    /// assert!(rt; string.trim_start_matches("1") == OsStr::new("foo1"));
+    /// ```
     fn trim_start_matches<P: Pattern>(self, pattern: P) -> Self
-        ensures bytes { 0 < length (P.text pattern) → IsStartTrim (P.text pattern) (Self.bytes_of self) (Self.bytes_of result) }
-        ensures units { 0 < length (P.text pattern) → IsStartTrim (Self.Platform.units (P.text pattern)) (Self.Platform.units (Self.bytes_of self)) (Self.Platform.units (Self.bytes_of result)) }
+        ensures bytes { 0 < length (P.text pattern)
+            → IsStartTrim (P.text pattern) (Self.bytes_of self) (Self.bytes_of result) }
+        ensures units { 0 < length (P.text pattern)
+            → IsStartTrim (Self.Platform.units (P.text pattern))
+            (Self.Platform.units (Self.bytes_of self))
+            (Self.Platform.units (Self.bytes_of result)) }
         ensures whole { length (P.text pattern) ≡ 0 → Self.bytes_of result ≡ Self.bytes_of self };
 
     /// The string without each pattern at its end; the whole where the pattern is empty.
     ///
-    /// `trim_end_matches('1')` of "1bar111" is "1bar".
+    /// ```
+    /// use os_str_bytes::{OsStr, OsStrBytesExt, Unix};
+    ///
+    /// let string = OsStr::<Unix>::new("1bar111");
+    /// assert!(rt; string.trim_end_matches('1') == OsStr::new("1bar"));
+    /// ```
     fn trim_end_matches<P: Pattern>(self, pattern: P) -> Self
-        ensures bytes { 0 < length (P.text pattern) → IsEndTrim (P.text pattern) (Self.bytes_of self) (Self.bytes_of result) }
-        ensures units { 0 < length (P.text pattern) → IsEndTrim (Self.Platform.units (P.text pattern)) (Self.Platform.units (Self.bytes_of self)) (Self.Platform.units (Self.bytes_of result)) }
+        ensures bytes { 0 < length (P.text pattern)
+            → IsEndTrim (P.text pattern) (Self.bytes_of self) (Self.bytes_of result) }
+        ensures units { 0 < length (P.text pattern)
+            → IsEndTrim (Self.Platform.units (P.text pattern))
+            (Self.Platform.units (Self.bytes_of self))
+            (Self.Platform.units (Self.bytes_of result)) }
         ensures whole { length (P.text pattern) ≡ 0 → Self.bytes_of result ≡ Self.bytes_of self };
 
     /// The string without each pattern at its front, and then without each at its end; the
     /// whole where the pattern is empty. std has it for some patterns only.
     ///
-    /// `trim_matches("1")` of "111foo1bar111" is "foo1bar", `trim_matches("aa")` of "aaa" is "a".
+    /// ```
+    /// use os_str_bytes::{OsStr, OsStrBytesExt, Unix};
+    ///
+    /// let string = OsStr::<Unix>::new("111foo1bar111");
+    /// assert!(rt; string.trim_matches("1") == OsStr::new("foo1bar"));
+    /// assert!(rt; OsStr::<Unix>::new("aaa").trim_matches("aa") == OsStr::new("a"));
+    /// ```
     fn trim_matches<P: Pattern>(self, pattern: P) -> Self
-        ensures bytes { 0 < length (P.text pattern) → IsTrim (P.text pattern) (Self.bytes_of self) (Self.bytes_of result) }
-        ensures units { 0 < length (P.text pattern) → IsTrim (Self.Platform.units (P.text pattern)) (Self.Platform.units (Self.bytes_of self)) (Self.Platform.units (Self.bytes_of result)) }
+        ensures bytes { 0 < length (P.text pattern)
+            → IsTrim (P.text pattern) (Self.bytes_of self) (Self.bytes_of result) }
+        ensures units { 0 < length (P.text pattern)
+            → IsTrim (Self.Platform.units (P.text pattern))
+            (Self.Platform.units (Self.bytes_of self))
+            (Self.Platform.units (Self.bytes_of result)) }
         ensures whole { length (P.text pattern) ≡ 0 → Self.bytes_of result ≡ Self.bytes_of self };
 
     // Pieces.
 
     /// The parts before and behind the least place of a pattern, `None` where it stands nowhere.
     ///
-    /// `split_once("o")` of "foobar" is "f" and "obar", `split_once("")` is "" and "foobar".
+    /// ```
+    /// use os_str_bytes::{OsStr, OsStrBytesExt, Unix};
+    ///
+    /// let string = OsStr::<Unix>::new("foobar");
+    /// assert!(rt; string.split_once("o") == Some((OsStr::new("f"), OsStr::new("obar"))));
+    /// assert!(rt; string.split_once("") == Some((OsStr::new(""), string)));
+    /// ```
     fn split_once<P: Pattern>(self, pattern: P) -> Option<(Self, Self)>
-        ensures bytes { SplitsOnce IsLeastPlace Self.bytes_of (P.text pattern) (Self.bytes_of self) result }
-        ensures units { SplitsOnce IsLeastPlace (λ part. Self.Platform.units (Self.bytes_of part)) (Self.Platform.units (P.text pattern)) (Self.Platform.units (Self.bytes_of self)) result };
+        ensures bytes { SplitsOnce IsLeastPlace Self.bytes_of (P.text pattern) (Self.bytes_of self)
+            result }
+        ensures units { SplitsOnce IsLeastPlace (λ part. Self.Platform.units (Self.bytes_of part))
+            (Self.Platform.units (P.text pattern)) (Self.Platform.units (Self.bytes_of self))
+            result };
 
     /// The parts before and behind the greatest place of a pattern, `None` where it stands
     /// nowhere.
     ///
-    /// `rsplit_once("o")` of "foobar" is "fo" and "bar", `rsplit_once("")` is "foobar" and "".
+    /// ```
+    /// use os_str_bytes::{OsStr, OsStrBytesExt, Unix};
+    ///
+    /// let string = OsStr::<Unix>::new("foobar");
+    /// assert!(rt; string.rsplit_once("o") == Some((OsStr::new("fo"), OsStr::new("bar"))));
+    /// assert!(rt; string.rsplit_once("") == Some((string, OsStr::new(""))));
+    /// ```
     fn rsplit_once<P: Pattern>(self, pattern: P) -> Option<(Self, Self)>
-        ensures bytes { SplitsOnce IsGreatestPlace Self.bytes_of (P.text pattern) (Self.bytes_of self) result }
-        ensures units { SplitsOnce IsGreatestPlace (λ part. Self.Platform.units (Self.bytes_of part)) (Self.Platform.units (P.text pattern)) (Self.Platform.units (Self.bytes_of self)) result };
+        ensures bytes { SplitsOnce IsGreatestPlace Self.bytes_of (P.text pattern)
+            (Self.bytes_of self) result }
+        ensures units { SplitsOnce IsGreatestPlace
+            (λ part. Self.Platform.units (Self.bytes_of part))
+            (Self.Platform.units (P.text pattern)) (Self.Platform.units (Self.bytes_of self))
+            result };
 
     /// The pieces between the places of a pattern, each cut at the least place in what is left.
     /// The pattern isn't empty (test: `str::is_empty`; a `char` never is).
     ///
-    /// `split("o")` of "foobar" gives "f", "" and "bar", `split("aa")` of "aaa" gives "" and "a".
+    /// ```
+    /// use os_str_bytes::{OsStr, OsStrBytesExt, Unix};
+    ///
+    /// let mut pieces = OsStr::<Unix>::new("foobar").split("o");
+    /// assert!(rt; pieces.next() == Some(OsStr::new("f")));
+    /// assert!(rt; pieces.next() == Some(OsStr::new("")));
+    /// assert!(rt; pieces.next() == Some(OsStr::new("bar")));
+    /// assert!(rt; pieces.next() == None);
+    /// ```
     final fn split<P: Pattern>(self, pattern: P) -> Split<'a, Self::Platform, P>
         requires { P.not_empty pattern }
         ensures bytes { IsSplit (P.text pattern) (Self.bytes_of self) result }
-        ensures units { IsSplit (Self.Platform.units (P.text pattern)) (Self.Platform.units (Self.bytes_of self)) (map Self.Platform.units result) }
+        ensures units { IsSplit (Self.Platform.units (P.text pattern))
+            (Self.Platform.units (Self.bytes_of self)) (map Self.Platform.units result) }
     {
-        Split::new(
+        iter::split(
             OsStr::from_encoded_bytes_unchecked(self.encoded_bytes()),
             pattern,
         )
@@ -193,18 +346,56 @@ pub trait OsStrBytesExt<'a>: OsStrBytes<'a> {
     /// The pieces between the places of a pattern from the end, each cut at the greatest place
     /// in what is left. The pattern isn't empty (test: `str::is_empty`; a `char` never is).
     ///
-    /// `rsplit("o")` of "foobar" gives "bar", "" and "f", `rsplit("aa")` of "aaa" gives "" and
-    /// "a".
+    /// ```
+    /// use os_str_bytes::{OsStr, OsStrBytesExt, Unix};
+    ///
+    /// let mut pieces = OsStr::<Unix>::new("aaa").rsplit("aa");
+    /// assert!(rt; pieces.next() == Some(OsStr::new("")));
+    /// assert!(rt; pieces.next() == Some(OsStr::new("a")));
+    /// assert!(rt; pieces.next() == None);
+    /// ```
     final fn rsplit<P: Pattern>(self, pattern: P) -> RSplit<'a, Self::Platform, P>
         requires { P.not_empty pattern }
         ensures bytes { IsRSplit (P.text pattern) (Self.bytes_of self) result }
-        ensures units { IsRSplit (Self.Platform.units (P.text pattern)) (Self.Platform.units (Self.bytes_of self)) (map Self.Platform.units result) }
+        ensures units { IsRSplit (Self.Platform.units (P.text pattern))
+            (Self.Platform.units (Self.bytes_of self)) (map Self.Platform.units result) }
     {
-        RSplit::new(
+        iter::rsplit(
             OsStr::from_encoded_bytes_unchecked(self.encoded_bytes()),
             pattern,
         )
     }
+
+    // Characters.
+
+    /// The first character and the rest of the string, `None` where no whole character starts the
+    /// string (own call; of a text std's `str::chars`, of which `next` gives the character and
+    /// `as_str` the rest).
+    ///
+    /// ```
+    /// use os_str_bytes::{OsStr, OsStrBytesExt, Unix};
+    ///
+    /// let string = OsStr::<Unix>::checked(b"\xC3\xA9\x80")?;
+    /// assert!(rt; matches!(string.split_first_char(), Some(('\u{E9}', rest)) if rest.as_encoded_bytes() == b"\x80".as_slice()));
+    /// assert!(rt; OsStr::<Unix>::checked(b"\x80")?.split_first_char().is_none());
+    /// ```
+    fn split_first_char(self) -> Option<(char, Self)>
+        ensures bytes { SplitsFirstChar Self.bytes_of (Self.bytes_of self) result }
+        ensures units { IfSome result (λ parts. Self.Platform.units (Self.bytes_of self) ≡ Self.Platform.units (encode_utf8 parts.0) ++ Self.Platform.units (Self.bytes_of parts.1)) };
+
+    /// The last character and the rest of the string, `None` where no whole character ends the
+    /// string (own call; of a text std's `str::chars` with `next_back`).
+    ///
+    /// ```
+    /// use os_str_bytes::{OsStr, OsStrBytesExt, Unix};
+    ///
+    /// let string = OsStr::<Unix>::checked(b"\x80\xC3\xA9")?;
+    /// assert!(rt; matches!(string.split_last_char(), Some(('\u{E9}', rest)) if rest.as_encoded_bytes() == b"\x80".as_slice()));
+    /// assert!(rt; OsStr::<Unix>::checked(b"\x80")?.split_last_char().is_none());
+    /// ```
+    fn split_last_char(self) -> Option<(char, Self)>
+        ensures bytes { SplitsLastChar Self.bytes_of (Self.bytes_of self) result }
+        ensures units { IfSome result (λ parts. Self.Platform.units (Self.bytes_of self) ≡ Self.Platform.units (Self.bytes_of parts.1) ++ Self.Platform.units (encode_utf8 parts.0)) };
 
     // Chunks.
 
@@ -213,8 +404,20 @@ pub trait OsStrBytesExt<'a>: OsStrBytes<'a> {
     /// chunk. All chunks joined are the string, and it has no other list of them. std's
     /// `[u8]::utf8_chunks` puts each text first and ends a part at each fault.
     ///
-    /// The Unix string of the bytes 66 6F 80 FF 6F (hexadecimal) has the chunks "", "fo" and
-    /// 80 FF, "o".
+    /// ```
+    /// use os_str_bytes::{OsStr, OsStrBytesExt, Unix};
+    ///
+    /// let string = OsStr::<Unix>::from_encoded_bytes_unchecked(b"fo\x80\xFFo");
+    /// let mut chunks = string.utf8_chunks();
+    /// if let Some((part, text)) = chunks.next() {
+    ///     assert!(rt; part.as_os_str().is_empty() && text == "fo");
+    /// }
+    /// if let Some((part, text)) = chunks.next() {
+    ///     assert_eq!(rt; part.as_os_str().as_encoded_bytes(), b"\x80\xFF".as_slice());
+    ///     assert_eq!(rt; text, "o");
+    /// }
+    /// assert!(rt; chunks.next().is_none());
+    /// ```
     final fn utf8_chunks(self) -> Utf8Chunks<'a, Self::Platform>
         ensures chunks { AreChunks (Self.bytes_of self) result }
         ensures value { result ≡ chunks_of (Self.bytes_of self) }
@@ -229,8 +432,18 @@ pub trait OsStrBytesExt<'a>: OsStrBytes<'a> {
     /// its part and then the characters of its text. Their bytes joined are the string, and it has
     /// no other list of them. It takes no memory.
     ///
-    /// The Windows string of the units 61, D83D, D83D, DE00 (hexadecimal) has the symbols 'a', the
-    /// unit D83D and U+1F600.
+    /// ```
+    /// use os_str_bytes::{OsStrBytesExt, OsString, Symbol, Windows};
+    ///
+    /// let string = OsString::<Windows>::from_wide(alloc, &[0x61, 0xD83D, 0xD83D, 0xDE00])?;
+    /// let mut symbols = string.as_os_str().symbols();
+    /// assert!(rt; symbols.next() == Some(Symbol::Character('a')));
+    /// if let Some(Symbol::Unit(unit)) = symbols.next() {
+    ///     assert_eq!(rt; unit.to_u64(), 0xD83D);
+    /// }
+    /// assert!(rt; symbols.next() == Some(Symbol::Character('\u{1F600}')));
+    /// assert!(rt; symbols.next() == None);
+    /// ```
     #[inline(always)]
     final fn symbols(self) -> Symbols<'a, Self::Platform>
         ensures symbols { AreSymbols Self.Platform.units (Self.bytes_of self) result }
@@ -242,20 +455,31 @@ pub trait OsStrBytesExt<'a>: OsStrBytes<'a> {
     // Joins.
 
     /// The string `count` times over: its units, one time after the other (std's `str::repeat`).
-    /// On Windows two halves of a pair that meet become one code point.
+    /// On Windows two halves of a pair that meet become one code point (WTF-8, "Concatenating"). It
+    /// takes the memory at once. No times, and the empty string any number of times, take none.
     ///
-    /// It takes the memory at once. `AllocError` is also answered where `count` times the number
-    /// of bytes passes `usize::MAX`. No times, and the empty string any number of times, take no
-    /// memory.
+    /// # Errors
     ///
-    /// `repeat(3)` of "foo" is "foofoofoo". On Windows `repeat(2)` of the string of DC00, D800
-    /// (hexadecimal) is that of DC00, D800, DC00, D800: ED B0 80 F0 90 80 80 ED A0 80.
+    /// `AllocError` where the memory is refused, and where `count` times the number of bytes passes
+    /// `usize::MAX`.
+    ///
+    /// ```
+    /// use os_str_bytes::{OsStr, OsStrBytesExt, OsString, Unix, Windows};
+    ///
+    /// let repeated = OsStr::<Unix>::new("foo").repeat(alloc, 3)?;
+    /// assert!(rt; repeated.as_os_str() == OsStr::new("foofoofoo"));
+    ///
+    /// let halves = OsString::<Windows>::from_wide(alloc, &[0xDC00, 0xD800])?;
+    /// let joined = OsString::<Windows>::from_wide(alloc, &[0xDC00, 0xD800, 0xDC00, 0xD800])?;
+    /// assert!(rt; halves.as_os_str().repeat(alloc, 2)? == joined);
+    /// ```
     final fn repeat<A: Allocator>(
         self,
         alloc: A,
         count: usize,
     ) -> Result<OsString<Self::Platform, A>, AllocError>
-        ensures units { IfOk result (λ made. Self.Platform.units (string_vec_of made).items ≡ repeat count (Self.Platform.units (Self.bytes_of self))) }
+        ensures units { IfOk result (λ made. Self.Platform.units (string_vec_of made).items ≡ repeat
+            count (Self.Platform.units (Self.bytes_of self))) }
         ensures empty { count * length (Self.bytes_of self) ≡ 0 → IsOk result }
         ensures overflow { usize.MAX < count * length (Self.bytes_of self) → IsErr result }
     {
@@ -361,5 +585,15 @@ impl<'a, E: Platform + 'a> OsStrBytesExt<'a> for OsStr<'a, E> {
     fn rsplit_once<P: Pattern>(self, pattern: P) -> Option<(Self, Self)> {
         let encoded = pattern.encode();
         parts::rsplit_once(self, encoded.as_str())
+    }
+
+    #[inline(always)]
+    fn split_first_char(self) -> Option<(char, Self)> {
+        characters::split_first_char(self)
+    }
+
+    #[inline(always)]
+    fn split_last_char(self) -> Option<(char, Self)> {
+        characters::split_last_char(self)
     }
 }

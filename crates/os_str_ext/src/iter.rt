@@ -1,70 +1,178 @@
 //! The pieces of a string.
-ghost use Rattle.std.specs.Prelude.{◌≡◌, ◌<◌, ℕ, List, length, map};
+ghost use Rattle.std.specs.Prelude.{◌≡◌, ◌<◌, ℕ, List, MatchOption, length, map};
 ghost use Rattle.std.specs.Iterator.{YieldsFirstBy, item_count};
 ghost use Rattle.std.specs.Option.{option_map};
+ghost use Rattle.std.specs.Str.{IsUtf8};
+ghost use Rattle.wtf8_core.specs.Standing.{StandsNowhere};
 ghost use Rattle.wtf8_core.specs.Pieces.{IsSplit, IsRSplit};
 ghost use Rattle.platform_str.specs.Strings.{bytes};
-ghost use Rattle.os_str_ext.specs.PiecesLeft.{first_cut, last_cut, pieces_left};
+ghost use Rattle.os_str_ext.specs.Cuts.{FirstCut, LastCut, ArePieces, PiecesOf, CutLaws, pieces_left};
+ghost use Rattle.os_str_ext.specs.SomePieces.{pieces_from_start, pieces_from_end, cuts_from_start, cuts_from_end};
 
 use crate::parts::{rsplit_once, split_once};
 use crate::pattern::{Encoded, Pattern};
 use platform_str::{OsStr, Platform};
 use std::alloc::AllocError;
-use std::marker::Model;
+use std::marker::{Model, PhantomData};
 
-/// The pieces of a string between the places of a pattern, from the front (std's `str::Split`).
-///
-/// It keeps what is left of the string and the encoded pattern, and copies nothing. Its `clone`
-/// takes no memory, answers `Ok` and has the same pieces left. After `None` comes `None`.
-pub struct Split<'a, E: Platform + 'a, P: Pattern> {
-    rest: Option<OsStr<'a, E>>,
-    pattern: P::__Encoded,
+/// From which end a string is split: [`FromStart`] or [`FromEnd`].
+pub trait Direction {
+    // the cuts of a string, of its pattern, the string, the piece that the cut takes off and the rest
+    ghost cuts: { List ℕ → List ℕ → List ℕ → List ℕ → Type 0 };
+
+    // the pieces of each string
+    ghost pieces: { PiecesOf cuts };
+
+    /// The first piece from this end and the rest, cut around the pattern; `None` where it doesn't
+    /// occur.
+    ///
+    /// ```
+    /// use os_str_bytes::{Direction, FromEnd, OsStr, Unix};
+    ///
+    /// let (piece, rest) = (OsStr::new("bar"), OsStr::new("fo"));
+    /// assert!(rt; FromEnd::cut(OsStr::<Unix>::new("foobar"), "o") == Some((piece, rest)));
+    /// ```
+    fn cut<'a, E: Platform>(
+        string: OsStr<'a, E>,
+        text: &str,
+    ) -> Option<(OsStr<'a, E>, OsStr<'a, E>)>
+        ensures { MatchOption result (StandsNowhere text.now (bytes string.entry))
+            (λ cut. cuts text.now (bytes string.entry) (bytes cut.0) (bytes cut.1)) };
+
+    ghost laws: { CutLaws cuts };
 }
 
-impl<'a, E: Platform, P: Pattern> Model for Split<'a, E, P> {
-    ghost Value = { List (List ℕ) };
+/// From the start, each cut at the first index at which the pattern occurs.
+pub struct FromStart;
 
-    ghost view = { λ it. pieces_left (first_cut (P.__Encoded.text it.pattern)) (option_map bytes it.rest) };
+/// From the end, each cut at the last index at which the pattern occurs.
+pub struct FromEnd;
 
-    ghost invariant = { λ it. 0 < length (P.__Encoded.text it.pattern) };
+impl Direction for FromStart {
+    ghost cuts = { FirstCut };
+
+    ghost pieces = { pieces_from_start };
+
+    ghost laws = { cuts_from_start };
+
+    #[inline(always)]
+    fn cut<'a, E: Platform>(
+        string: OsStr<'a, E>,
+        text: &str,
+    ) -> Option<(OsStr<'a, E>, OsStr<'a, E>)> {
+        split_once(string, text)
+    }
 }
 
-impl<'a, E: Platform, P: Pattern> Split<'a, E, P> {
-    pub(crate) fn new(string: OsStr<'a, E>, pattern: P) -> Self
-        requires { 0 < length (P.text pattern) }
-        ensures bytes { IsSplit (P.text pattern) (bytes string.entry) result }
-        ensures units { IsSplit (E.units (P.text pattern)) (E.units (bytes string.entry)) (map E.units result) }
-    {
-        Split {
-            rest: Some(string),
-            pattern: pattern.encode(),
+impl Direction for FromEnd {
+    ghost cuts = { LastCut };
+
+    ghost pieces = { pieces_from_end };
+
+    ghost laws = { cuts_from_end };
+
+    #[inline(always)]
+    fn cut<'a, E: Platform>(
+        string: OsStr<'a, E>,
+        text: &str,
+    ) -> Option<(OsStr<'a, E>, OsStr<'a, E>)> {
+        match rsplit_once(string, text) {
+            Some((rest, piece)) => Some((piece, rest)),
+            None => None,
         }
     }
 }
 
-impl<'a, E: Platform, P: Pattern> Drop for Split<'a, E, P> {
+/// The pieces of a string between the matches of a pattern, from one of its ends: [`Split`] and
+/// [`RSplit`].
+///
+/// It keeps what is left of the string and the encoded pattern, and copies nothing. Its `clone`
+/// takes no memory, answers `Ok` and has the same pieces left. After `None` comes `None`.
+pub struct Pieces<'a, E: Platform + 'a, P: Pattern, D: Direction> {
+    rest: Option<OsStr<'a, E>>,
+    pattern: P::__Encoded,
+    direction: PhantomData<D>,
+}
+
+/// The pieces of a string between the matches of a pattern, from its start (std's `str::Split`).
+pub type Split<'a, E, P> = Pieces<'a, E, P, FromStart>;
+
+/// The pieces of a string between the matches of a pattern, from its end (std's `str::RSplit`).
+pub type RSplit<'a, E, P> = Pieces<'a, E, P, FromEnd>;
+
+impl<'a, E: Platform, P: Pattern, D: Direction> Model for Pieces<'a, E, P, D> {
+    ghost Value = { List (List ℕ) };
+
+    ghost view = { λ it. pieces_left D.pieces (P.__Encoded.text it.pattern) (option_map bytes it.rest) };
+
+    ghost invariant = { λ it. 0 < length (P.__Encoded.text it.pattern) };
+}
+
+impl<'a, E: Platform, P: Pattern, D: Direction> Pieces<'a, E, P, D> {
+    fn new(string: OsStr<'a, E>, pattern: P) -> Self
+        requires { 0 < length (P.text pattern) }
+        ensures pieces { ArePieces D.cuts (P.text pattern) (bytes string.entry) result }
+        ensures utf8 { IsUtf8 (P.text pattern) }
+    {
+        Pieces {
+            rest: Some(string),
+            pattern: pattern.encode(),
+            direction: PhantomData,
+        }
+    }
+}
+
+/// The pieces of a string from its start.
+pub(crate) fn split<'a, E: Platform, P: Pattern>(
+    string: OsStr<'a, E>,
+    pattern: P,
+) -> Split<'a, E, P>
+    requires { 0 < length (P.text pattern) }
+    ensures bytes { IsSplit (P.text pattern) (bytes string.entry) result }
+    ensures units { IsSplit (E.units (P.text pattern)) (E.units (bytes string.entry))
+        (map E.units result) }
+{
+    Pieces::new(string, pattern)
+}
+
+/// The pieces of a string from its end.
+pub(crate) fn rsplit<'a, E: Platform, P: Pattern>(
+    string: OsStr<'a, E>,
+    pattern: P,
+) -> RSplit<'a, E, P>
+    requires { 0 < length (P.text pattern) }
+    ensures bytes { IsRSplit (P.text pattern) (bytes string.entry) result }
+    ensures units { IsRSplit (E.units (P.text pattern)) (E.units (bytes string.entry))
+        (map E.units result) }
+{
+    Pieces::new(string, pattern)
+}
+
+impl<'a, E: Platform, P: Pattern, D: Direction> Drop for Pieces<'a, E, P, D> {
     fn drop(self) {
-        let Split {
+        let Pieces {
             rest: _,
             pattern: _,
+            direction: _,
         } = self;
     }
 }
 
-impl<'a, E: Platform, P: Pattern> Clone for Split<'a, E, P> {
+impl<'a, E: Platform, P: Pattern, D: Direction> Clone for Pieces<'a, E, P, D> {
     ghost is_clone = { λ x y. y ≡ x };
 
     ghost is_infallible = { λ _. Unit {0} };
 
     fn clone(&self) -> Result<Self, AllocError> {
-        Ok(Split {
+        Ok(Pieces {
             rest: self.rest,
             pattern: self.pattern,
+            direction: PhantomData,
         })
     }
 }
 
-impl<'a, E: Platform, P: Pattern> Iterator for Split<'a, E, P> {
+impl<'a, E: Platform, P: Pattern, D: Direction> Iterator for Pieces<'a, E, P, D> {
     type Item = OsStr<'a, E>;
 
     ghost next_gives = { YieldsFirstBy bytes (λ left. left) };
@@ -73,86 +181,12 @@ impl<'a, E: Platform, P: Pattern> Iterator for Split<'a, E, P> {
 
     fn next(&mut self) -> Option<OsStr<'a, E>> {
         let string = self.rest?;
-        match split_once(string, self.pattern.as_str()) {
+        match D::cut(string, self.pattern.as_str()) {
             None => {
                 self.rest = None;
                 Some(string)
             }
             Some((piece, rest)) => {
-                self.rest = Some(rest);
-                Some(piece)
-            }
-        }
-    }
-}
-
-/// The pieces of a string between the places of a pattern, from the end (std's `str::RSplit`).
-///
-/// It keeps what is left of the string and the encoded pattern, and copies nothing. Its `clone`
-/// takes no memory, answers `Ok` and has the same pieces left. After `None` comes `None`.
-pub struct RSplit<'a, E: Platform + 'a, P: Pattern> {
-    rest: Option<OsStr<'a, E>>,
-    pattern: P::__Encoded,
-}
-
-impl<'a, E: Platform, P: Pattern> Model for RSplit<'a, E, P> {
-    ghost Value = { List (List ℕ) };
-
-    ghost view = { λ it. pieces_left (last_cut (P.__Encoded.text it.pattern)) (option_map bytes it.rest) };
-
-    ghost invariant = { λ it. 0 < length (P.__Encoded.text it.pattern) };
-}
-
-impl<'a, E: Platform, P: Pattern> RSplit<'a, E, P> {
-    pub(crate) fn new(string: OsStr<'a, E>, pattern: P) -> Self
-        requires { 0 < length (P.text pattern) }
-        ensures bytes { IsRSplit (P.text pattern) (bytes string.entry) result }
-        ensures units { IsRSplit (E.units (P.text pattern)) (E.units (bytes string.entry)) (map E.units result) }
-    {
-        RSplit {
-            rest: Some(string),
-            pattern: pattern.encode(),
-        }
-    }
-}
-
-impl<'a, E: Platform, P: Pattern> Drop for RSplit<'a, E, P> {
-    fn drop(self) {
-        let RSplit {
-            rest: _,
-            pattern: _,
-        } = self;
-    }
-}
-
-impl<'a, E: Platform, P: Pattern> Clone for RSplit<'a, E, P> {
-    ghost is_clone = { λ x y. y ≡ x };
-
-    ghost is_infallible = { λ _. Unit {0} };
-
-    fn clone(&self) -> Result<Self, AllocError> {
-        Ok(RSplit {
-            rest: self.rest,
-            pattern: self.pattern,
-        })
-    }
-}
-
-impl<'a, E: Platform, P: Pattern> Iterator for RSplit<'a, E, P> {
-    type Item = OsStr<'a, E>;
-
-    ghost next_gives = { YieldsFirstBy bytes (λ left. left) };
-
-    ghost remaining = { item_count (λ left. left) };
-
-    fn next(&mut self) -> Option<OsStr<'a, E>> {
-        let string = self.rest?;
-        match rsplit_once(string, self.pattern.as_str()) {
-            None => {
-                self.rest = None;
-                Some(string)
-            }
-            Some((rest, piece)) => {
                 self.rest = Some(rest);
                 Some(piece)
             }

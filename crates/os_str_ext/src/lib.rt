@@ -1,12 +1,22 @@
 //! Searches, cuts and pieces of platform strings, by the laws of the platform alone.
 //!
 //! [`OsStrBytesExt`] gives a string of any platform its boundaries, its parts and ranges
-//! ([`SliceIndex`]), the searches for a [`Pattern`], and its chunks ([`Utf8Chunks`]). All places
-//! are places of bytes, and what is said of bytes is said of units too. Only
-//! [`OsStrBytesExt::repeat`] takes memory. Each public item of `platform_str` stands here too.
+//! ([`SliceIndex`]), the searches for a [`Pattern`], its chunks ([`Utf8Chunks`]) and its symbols
+//! ([`Symbols`]). All indices are byte indices, and what is said of bytes is said of code units
+//! too. Only [`OsStrBytesExt::repeat`] takes memory. This crate re-exports each public item of
+//! `platform_str`.
+//!
+//! # Calls with a condition
+//!
+//! A call with a `requires` can only be made where it is proved: [`OsStrBytesExt::split_at`] at a
+//! boundary (test: [`OsStrBytesExt::is_boundary`]), [`OsStrBytesExt::index`] and
+//! [`OsStrBytesExt::get_unchecked`], also those of [`SliceIndex`], of a range that fits (test:
+//! [`SliceIndex::fits`]), [`OsStrBytesExt::split`] and [`OsStrBytesExt::rsplit`] at a pattern that
+//! isn't empty (test: `str::is_empty`; a `char` never is). Every other call can be made anywhere.
 #![tactic(auto)]
 
 mod boundary;
+mod characters;
 pub mod chunk_laws;
 mod chunks;
 mod compare;
@@ -22,11 +32,12 @@ mod runs;
 mod search;
 pub mod search_laws;
 mod slice_index;
+pub mod symbol_laws;
 mod symbols;
 
 pub use chunks::Utf8Chunks;
 pub use ext::OsStrBytesExt;
-pub use iter::{RSplit, Split};
+pub use iter::{Direction, FromEnd, FromStart, Pieces, RSplit, Split};
 pub use os_units::{NonUnicodeOsStr, OsUnit, OsUnits};
 pub use pattern::{Encoded, EncodedChar, Pattern};
 pub use platform_str::{

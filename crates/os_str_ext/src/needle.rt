@@ -53,7 +53,8 @@ pub(crate) fn stands_at(bytes: &[u8], needle: &[u8], at: usize) -> bool
 #[inline(always)]
 pub(crate) fn ends_at(bytes: &[u8], needle: &[u8], at: usize) -> bool
     requires { at ≤ length bytes.now }
-    ensures { IsTrue result ↔ ((length needle.now ≤ at) × OccursAt bytes.now needle.now (at - length needle.now)) }
+    ensures { IsTrue result
+        ↔ ((length needle.now ≤ at) × OccursAt bytes.now needle.now (at - length needle.now)) }
 {
     needle.len() <= at && stands_at(bytes, needle, at - needle.len())
 }

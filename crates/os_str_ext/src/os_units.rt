@@ -42,6 +42,15 @@ impl<'a, E: Platform> NonUnicodeOsStr<'a, E> {
     }
 
     /// The part as a string.
+    ///
+    /// ```
+    /// use os_str_bytes::{OsStr, OsStrBytesExt, Unix};
+    ///
+    /// let string = OsStr::<Unix>::from_encoded_bytes_unchecked(b"\x80a");
+    /// if let Some((part, _)) = string.utf8_chunks().next() {
+    ///     assert_eq!(rt; part.as_os_str().as_encoded_bytes(), b"\x80".as_slice());
+    /// }
+    /// ```
     pub fn as_os_str(self) -> OsStr<'a, E>
         ensures value { bytes result ≡ part_bytes self.entry }
         ensures bare { IsBare (bytes result) }
@@ -55,6 +64,18 @@ impl<'a, E: Platform> NonUnicodeOsStr<'a, E> {
     /// which no high one stands directly before a low one; on wasm a part is empty. The units
     /// of the Windows part ED B0 80 ED A0 80 are DC00 and D800. The part's bytes are those of
     /// its units: the byte of a unit below 100, the form of any other.
+    ///
+    /// ```
+    /// use os_str_bytes::{OsStrBytesExt, OsString, Windows};
+    ///
+    /// let string = OsString::<Windows>::from_wide(alloc, &[0xDC00, 0xD800])?;
+    /// if let Some((part, _)) = string.as_os_str().utf8_chunks().next() {
+    ///     let mut units = part.os_units();
+    ///     assert_eq!(rt; units.next().map(u64::from), Some(0xDC00));
+    ///     assert_eq!(rt; units.next().map(u64::from), Some(0xD800));
+    ///     assert!(rt; units.next().is_none());
+    /// }
+    /// ```
     pub fn os_units(self) -> OsUnits<'a, E>
         ensures units { result ≡ E.units (part_bytes self.entry) }
         ensures spelled { part_bytes self.entry ≡ flat_map unit_bytes result }
@@ -66,7 +87,8 @@ impl<'a, E: Platform> NonUnicodeOsStr<'a, E> {
     /// The first unit of a part that isn't empty, and the rest of the part.
     fn split_first(self) -> (OsUnit, Self)
         requires { 0 < length (part_bytes self) }
-        ensures { E.units (part_bytes self.entry) ≡ unit_number result.0 ∷ E.units (part_bytes result.1) }
+        ensures { E.units (part_bytes self.entry)
+            ≡ unit_number result.0 ∷ E.units (part_bytes result.1) }
     {
         let bytes = self.string.as_encoded_bytes();
         let (number, size) = E::first_unit(bytes);
@@ -89,6 +111,15 @@ impl OsUnit {
     ghost use Rattle.os_str_ext.specs.Parts.{unit_number};
 
     /// The unit's number, which no other unit has. It is at most FFFF (hexadecimal).
+    ///
+    /// ```
+    /// use os_str_bytes::{OsStr, OsStrBytesExt, Symbol, Unix};
+    ///
+    /// let string = OsStr::<Unix>::from_encoded_bytes_unchecked(b"\x80");
+    /// if let Some(Symbol::Unit(unit)) = string.symbols().next() {
+    ///     assert_eq!(rt; unit.to_u64(), 0x80);
+    /// }
+    /// ```
     pub fn to_u64(&self) -> u64
         ensures value { result ≡ unit_number self.now }
         ensures wide { result < 2 ^ 16 }
@@ -132,7 +163,11 @@ impl<'a, E: Platform> OsUnits<'a, E> {
 
     /// No units: those of an empty part.
     ///
-    /// `OsUnits::<Unix>::empty().next()` is `None`.
+    /// ```
+    /// use os_str_bytes::{OsUnits, Unix};
+    ///
+    /// assert!(rt; OsUnits::<Unix>::empty().next().is_none());
+    /// ```
     pub fn empty() -> Self
         ensures { result ≡ [] }
     {
@@ -142,17 +177,35 @@ impl<'a, E: Platform> OsUnits<'a, E> {
     /// The part whose units are left, in place in the part that the units are of. It takes no
     /// memory.
     ///
-    /// Of the Unix part 80 FF (hexadecimal) that is, once its first unit was given, the part FF.
+    /// ```
+    /// use os_str_bytes::{OsStr, OsStrBytesExt, Unix};
+    ///
+    /// let string = OsStr::<Unix>::from_encoded_bytes_unchecked(b"\x80\xFF");
+    /// if let Some((part, _)) = string.utf8_chunks().next() {
+    ///     let mut units = part.os_units();
+    ///     assert!(rt; units.next().is_some());
+    ///     assert_eq!(rt; units.rest().as_os_str().as_encoded_bytes(), b"\xFF".as_slice());
+    /// }
+    /// ```
     pub fn rest(&self) -> NonUnicodeOsStr<'a, E>
         ensures { self.now ≡ E.units (part_bytes result) }
     {
         self.rest
     }
 
-    /// The same as a string (as std's `str::Chars::as_str`).
+    /// What [`OsUnits::rest`] gives, as a string (as std's `str::Chars::as_str`). It takes no
+    /// memory.
     ///
-    /// Of the Unix part 80 FF (hexadecimal) that is, once its first unit was given, the string of
-    /// FF.
+    /// ```
+    /// use os_str_bytes::{OsStr, OsStrBytesExt, Unix};
+    ///
+    /// let string = OsStr::<Unix>::from_encoded_bytes_unchecked(b"\x80\xFF");
+    /// if let Some((part, _)) = string.utf8_chunks().next() {
+    ///     let mut units = part.os_units();
+    ///     assert!(rt; units.next().is_some());
+    ///     assert_eq!(rt; units.as_os_str().as_encoded_bytes(), b"\xFF".as_slice());
+    /// }
+    /// ```
     pub fn as_os_str(&self) -> OsStr<'a, E>
         ensures units { self.now ≡ E.units (bytes result) }
         ensures bare { IsBare (bytes result) }

@@ -24,7 +24,12 @@ pub trait Pattern {
 
     /// The pattern, ready for searches. It takes no memory.
     ///
-    /// `'\u{E9}'.encode().as_bytes()` is C3 A9 (hexadecimal), as is that of `"\u{E9}"`.
+    /// ```
+    /// use os_str_bytes::{Encoded, Pattern};
+    ///
+    /// assert_eq!(rt; '\u{E9}'.encode().as_bytes(), b"\xC3\xA9".as_slice());
+    /// assert_eq!(rt; "\u{E9}".encode().as_bytes(), b"\xC3\xA9".as_slice());
+    /// ```
     fn encode(self) -> Self::__Encoded
         ensures value { Self.__Encoded.text result ≡ text self }
         ensures utf8 { IsUtf8 (Self.__Encoded.text result) };
@@ -37,14 +42,22 @@ pub trait Encoded {
 
     /// The pattern's bytes, which are UTF-8.
     ///
-    /// `"a".encode().as_bytes()` is `b"a"`.
+    /// ```
+    /// use os_str_bytes::{Encoded, Pattern};
+    ///
+    /// assert_eq!(rt; 'a'.encode().as_bytes(), b"a".as_slice());
+    /// ```
     fn as_bytes(&self) -> &[u8]
         ensures value { result.now ≡ text self.now }
         ensures utf8 { IsUtf8 result.now };
 
     /// The pattern as a text.
     ///
-    /// `'\u{E9}'.encode().as_str()` is `"\u{E9}"`.
+    /// ```
+    /// use os_str_bytes::{Encoded, Pattern};
+    ///
+    /// assert_eq!(rt; '\u{E9}'.encode().as_str(), "\u{E9}");
+    /// ```
     fn as_str(&self) -> &str
         ensures { result.now ≡ text self.now };
 }

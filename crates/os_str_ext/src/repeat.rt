@@ -12,7 +12,8 @@ pub(crate) fn repeat<E: Platform, A: Allocator>(
     string: OsStr<'_, E>,
     count: usize,
 ) -> Result<OsString<E, A>, AllocError>
-    ensures units { IfOk result (λ made. E.units (string_vec_of made).items ≡ repeat count (E.units (bytes string.entry))) }
+    ensures units { IfOk result (λ made. E.units (string_vec_of made).items ≡ repeat count
+        (E.units (bytes string.entry))) }
     ensures empty { count * length (bytes string.entry) ≡ 0 → IsOk result }
     ensures overflow { usize.MAX < count * length (bytes string.entry) → IsErr result }
 {

@@ -15,9 +15,11 @@ use crate::pattern::Pattern;
 /// its greatest one. So it doesn't in what `split_once` gives first, nor in what `rsplit_once` gives
 /// last.
 pub fn around_place()
-    ensures before_least { (p : List ℕ) → (s : List ℕ) → (front : List ℕ) → (back : List ℕ) → 0 < length p
+    ensures before_least { (p : List ℕ) → (s : List ℕ) → (front : List ℕ) → (back : List ℕ)
+        → 0 < length p
         → SplitsAt IsLeastPlace p s front back → StandsNowhere p front }
-    ensures after_greatest { (p : List ℕ) → (s : List ℕ) → (front : List ℕ) → (back : List ℕ) → 0 < length p
+    ensures after_greatest { (p : List ℕ) → (s : List ℕ) → (front : List ℕ) → (back : List ℕ)
+        → 0 < length p
         → SplitsAt IsGreatestPlace p s front back → StandsNowhere p back }
 {}
 

@@ -20,21 +20,50 @@ pub trait SliceIndex: Sized {
 
     /// Whether the range fits: its start is at most its end, both are boundaries, and the end
     /// is at most the string's length.
+    ///
+    /// ```
+    /// use os_str_bytes::{OsStr, SliceIndex, Unix};
+    ///
+    /// let string = OsStr::<Unix>::new("foobar");
+    /// assert!(rt; (..6).fits(string) && (3..=2).fits(string));
+    /// assert!(rt; !(..7).fits(string) && !(..=usize::MAX).fits(string));
+    /// ```
     fn fits<E: Platform>(&self, string: OsStr<'_, E>) -> bool
-        ensures { IsTrue result ↔ FitsIn (bytes string.entry) (first_place self.now) (end_place self.now (length (bytes string.entry))) };
+        ensures { IsTrue result ↔ FitsIn (bytes string.entry) (first_place self.now)
+            (end_place self.now (length (bytes string.entry))) };
 
     /// The bytes of the string in the range, which fits (test: [`SliceIndex::fits`]). Its units
     /// are those of the string without the units before the range and those after it.
+    ///
+    /// ```
+    /// use os_str_bytes::{OsStr, SliceIndex, Unix};
+    ///
+    /// let string = OsStr::<Unix>::new("foobar");
+    /// assert!(rt; (1..3).index(string) == OsStr::new("oo"));
+    /// assert!(rt; (..).index(string) == string);
+    /// ```
     fn index<'a, E: Platform>(self, string: OsStr<'a, E>) -> OsStr<'a, E>
-        requires { FitsIn (bytes string) (first_place self) (end_place self (length (bytes string))) }
-        ensures bytes { bytes result ≡ drop (first_place self) (take (end_place self (length (bytes string.entry))) (bytes string.entry)) }
-        ensures units { IsPartInUnits E.units (bytes string.entry) (first_place self) (end_place self (length (bytes string.entry))) (bytes result) };
+        requires { FitsIn (bytes string) (first_place self)
+            (end_place self (length (bytes string))) }
+        ensures bytes { bytes result ≡ drop (first_place self)
+            (take (end_place self (length (bytes string.entry))) (bytes string.entry)) }
+        ensures units { IsPartInUnits E.units (bytes string.entry) (first_place self)
+            (end_place self (length (bytes string.entry))) (bytes result) };
 
-    /// The same as [`SliceIndex::index`].
+    /// The same part as [`SliceIndex::index`], as std's `str::get_unchecked`, but safe.
+    ///
+    /// ```
+    /// use os_str_bytes::{OsStr, SliceIndex, Unix};
+    ///
+    /// assert!(rt; (..=1).get_unchecked(OsStr::<Unix>::new("foobar")) == OsStr::new("fo"));
+    /// ```
     fn get_unchecked<'a, E: Platform>(self, string: OsStr<'a, E>) -> OsStr<'a, E>
-        requires { FitsIn (bytes string) (first_place self) (end_place self (length (bytes string))) }
-        ensures bytes { bytes result ≡ drop (first_place self) (take (end_place self (length (bytes string.entry))) (bytes string.entry)) }
-        ensures units { IsPartInUnits E.units (bytes string.entry) (first_place self) (end_place self (length (bytes string.entry))) (bytes result) }
+        requires { FitsIn (bytes string) (first_place self)
+            (end_place self (length (bytes string))) }
+        ensures bytes { bytes result ≡ drop (first_place self)
+            (take (end_place self (length (bytes string.entry))) (bytes string.entry)) }
+        ensures units { IsPartInUnits E.units (bytes string.entry) (first_place self)
+            (end_place self (length (bytes string.entry))) (bytes result) }
     {
         self.index(string)
     }

@@ -86,8 +86,14 @@ impl<'a, E: Platform> Symbols<'a, E> {
     /// The string whose symbols are left, in place in the string that the symbols are of (as std's
     /// `str::Chars::as_str`). It takes no memory.
     ///
-    /// Of the Unix string of the bytes C3 A9 80 62 (hexadecimal) that is, once its first symbol was
-    /// given, the string of 80 62; at the end it is empty.
+    /// ```
+    /// use os_str_bytes::{OsStr, OsStrBytesExt, Symbol, Unix};
+    ///
+    /// let string = OsStr::<Unix>::from_encoded_bytes_unchecked(b"\xC3\xA9\x80b");
+    /// let mut symbols = string.symbols();
+    /// assert!(rt; symbols.next() == Some(Symbol::Character('\u{E9}')));
+    /// assert_eq!(rt; symbols.rest().as_encoded_bytes(), b"\x80b".as_slice());
+    /// ```
     pub fn rest(&self) -> OsStr<'a, E>
         ensures symbols { AreSymbols E.units (bytes result) self.now }
         ensures value { self.now ≡ symbols_of E.units (bytes result) }
@@ -127,7 +133,8 @@ fn first_symbol<'a, E: Platform>(
     bare: usize,
 ) -> Option<(Symbol, Symbols<'a, E>)>
     requires { AreKnown (bytes string) after_part after_text bare }
-    ensures { MatchOption result (symbols_of E.units (bytes string.entry) ≡ []) (λ first. symbols_of E.units (bytes string.entry) ≡ first.0 ∷ first.1) }
+    ensures { MatchOption result (symbols_of E.units (bytes string.entry) ≡ [])
+        (λ first. symbols_of E.units (bytes string.entry) ≡ first.0 ∷ first.1) }
 {
     if string.len() > after_text {
         return Some(first_of_chunk(string, after_part, after_text, bare));

@@ -10,4 +10,3 @@ pub mod BulkUnits
 pub mod BulkBytes
 pub mod Displays
 pub mod UnitCounts
-pub mod Puts

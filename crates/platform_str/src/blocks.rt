@@ -6,12 +6,13 @@ ghost use Rattle.wtf8_core.specs.CodePoint.{IsCodePoint, wide, form};
 ghost use Rattle.wtf8_core.specs.Wtf8.{IsWtf8, HasUnits};
 ghost use Rattle.wtf8_core.specs.UnitsOf.{units_of};
 ghost use Rattle.platform_str.specs.Strings.{bytes};
-ghost use Rattle.platform_str.specs.Bulk.{BeginsForm, BeginsPair, BeginsNoPair, SpellsBefore, pairs};
+ghost use Rattle.platform_str.specs.Bulk.{SpellsBefore, pairs};
 
 use crate::os_str::OsStr;
 use crate::platform::Windows;
 use std::alloc::{AllocError, Allocator};
 use std::simd::prelude::*;
+use wtf8_core::{first_form, first_pair, pair_units, write_form};
 
 /// Whether 16 bytes are ASCII.
 #[inline(always)]
@@ -52,39 +53,6 @@ fn narrowed(block: [u16; 16]) -> [u8; 16]
     u16x16::from_array(block).cast::<u8>().to_array()
 }
 
-/// The code point with whose form four bytes begin, and how many bytes that has.
-#[inline(always)]
-fn leading(first: u8, second: u8, third: u8, fourth: u8) -> (u32, usize)
-    ensures { (c : ℕ) (behind : List ℕ) → IsCodePoint c → form c ++ behind ≡ first ∷ second ∷ third ∷ fourth ∷ drop 4 (form c ++ behind)
-        → (result.0 ≡ c) × (result.1 ≡ length (form c)) }
-{
-    if first < 0x80 {
-        return (u32::from(first), 1);
-    }
-    let last = u32::from(second % 0x40);
-    if first < 0xE0 {
-        return (u32::from(first % 0x20) * 0x40 + last, 2);
-    }
-    let last = last * 0x40 + u32::from(third % 0x40);
-    if first < 0xF0 {
-        return (u32::from(first % 0x10) * 0x1000 + last, 3);
-    }
-    let last = last * 0x40 + u32::from(fourth % 0x40);
-    (u32::from(first % 0x10) * 0x4_0000 + last, 4)
-}
-
-/// The code point with whose form a string of four bytes or more begins, and what follows.
-#[inline(always)]
-fn first_form(bytes: &[u8]) -> (u32, &[u8])
-    requires formed { IsWtf8 bytes.now }
-    requires four { 4 ≤ length bytes.now }
-    ensures { BeginsForm bytes.now result.0 result.1.now }
-{
-    let (code_point, len) = leading(bytes[0], bytes[1], bytes[2], bytes[3]);
-    let (_, rest) = bytes.split_at(len);
-    (code_point, rest)
-}
-
 /// Writes the units of a code point behind others.
 #[tactic(auto, unfolding(wtf8_core::specs::CodePoint::wide))]
 #[inline(always)]
@@ -98,9 +66,9 @@ fn push_wide<A: Allocator>(units: &mut Vec<u16, A>, code_point: u32) -> Result<(
         units.push(code_point as u16)?;
         return Ok(());
     }
-    let offset = code_point - 0x1_0000;
-    units.push((0xD800 + offset / 0x400) as u16)?;
-    units.push((0xDC00 + offset % 0x400) as u16)?;
+    let (high, low) = pair_units(code_point);
+    units.push(high)?;
+    units.push(low)?;
     Ok(())
 }
 
@@ -149,21 +117,6 @@ fn begins_ascii_block(units: &[u16]) -> bool
     ensures room { result ≡ true → 16 ≤ length units.now }
 {
     units.len() >= 16 && are_ascii_units(u16x16::from_slice(units).to_array())
-}
-
-/// The code point of the pair with which units begin, and the units behind it.
-#[inline(always)]
-fn first_pair(units: &[u16]) -> Option<(u32, &[u16])>
-    ensures { MatchOption result (BeginsNoPair units.now) (λ first. BeginsPair units.now first.0 first.1.now) }
-{
-    let [high, low, rest @ ..] = units else {
-        return None;
-    };
-    if !(0xD800..=0xDBFF).contains(high) || !(0xDC00..=0xDFFF).contains(low) {
-        return None;
-    }
-    let offset = u32::from(*high - 0xD800) * 0x400 + u32::from(*low - 0xDC00);
-    Some((0x1_0000 + offset, rest))
 }
 
 /// The first code point of units, and the units behind it.
@@ -240,40 +193,6 @@ fn put_ascii_front(bytes: &mut [u8], at: usize, units: &[u16], len: usize)
     }
     let low = u16x8::from_slice(units) % u16x8::splat(0x80);
     low.cast::<u8>().copy_to_slice(&mut bytes[at..]);
-}
-
-/// Writes the form of a code point from place `at` on, and answers where it ends.
-#[tactic(auto, using(crate::proofs::lemmas::Puts::one_put, crate::proofs::lemmas::Puts::two_put, crate::proofs::lemmas::Puts::three_put, crate::proofs::lemmas::Puts::four_put), unfolding(wtf8_core::specs::CodePoint::form))]
-#[inline(always)]
-fn put_form(bytes: &mut [u8], at: usize, code_point: u32) -> usize
-    requires code_point { IsCodePoint code_point }
-    requires room { at + length (form code_point) ≤ length bytes.old }
-    ensures written { take result bytes.new ≡ take at bytes.old ++ form code_point }
-    ensures end { result ≡ at + length (form code_point) }
-    ensures len { length bytes.new ≡ length bytes.old }
-{
-    if code_point < 0x80 {
-        bytes[at] = code_point as u8;
-        return at + 1;
-    }
-    let last = (0x80 + code_point % 0x40) as u8;
-    if code_point < 0x800 {
-        bytes[at] = (0xC0 + code_point / 0x40) as u8;
-        bytes[at + 1] = last;
-        return at + 2;
-    }
-    let third = (0x80 + code_point / 0x40 % 0x40) as u8;
-    if code_point < 0x1_0000 {
-        bytes[at] = (0xE0 + code_point / 0x1000) as u8;
-        bytes[at + 1] = third;
-        bytes[at + 2] = last;
-        return at + 3;
-    }
-    bytes[at] = (0xF0 + code_point / 0x4_0000) as u8;
-    bytes[at + 1] = (0x80 + code_point / 0x1000 % 0x40) as u8;
-    bytes[at + 2] = third;
-    bytes[at + 3] = last;
-    at + 4
 }
 
 /// How many of the first 16 units are `least` or more.
@@ -360,7 +279,7 @@ pub(crate) fn spell(units: &[u16], bytes: &mut [u8])
             }
         } else {
             let (code_point, behind) = first_code_point(rest);
-            at = put_form(bytes, at, code_point);
+            at = write_form(bytes, at, code_point);
             rest = behind;
         }
     }

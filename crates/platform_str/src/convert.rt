@@ -30,38 +30,71 @@ pub trait OsStrBytes<'a>: Sized + Copy {
 
     /// The string's bytes (own call, on which the others stand).
     ///
-    /// `OsStr::<Unix>::new("a").encoded_bytes()` is `b"a"`.
+    /// ```
+    /// use os_str_bytes::{OsStr, OsStrBytes, Unix};
+    ///
+    /// assert_eq!(rt; OsStr::<Unix>::new("a").encoded_bytes(), b"a".as_slice());
+    /// ```
     fn encoded_bytes(self) -> &'a [u8]
         ensures value { result.now ≡ bytes_of self }
         ensures formed { Self.Platform.well_formed result.now };
 
     /// The string of well-formed raw bytes (test: [`OsStrBytes::from_raw_bytes`]).
     ///
-    /// `OsStr::<Unix>::assert_from_raw_bytes(b"a\x80").bytes()` is `b"a\x80"`.
+    /// ```
+    /// use os_str_bytes::{HasBytes, OsStr, OsStrBytes, Unix};
+    ///
+    /// let string = OsStr::<Unix>::assert_from_raw_bytes(b"a\x80");
+    /// assert_eq!(rt; string.bytes(), b"a\x80".as_slice());
+    /// ```
     fn assert_from_raw_bytes(raw: &'a [u8]) -> Self::Cow
         requires { Self.Platform.well_formed raw.now }
         ensures { Self.Cow.bytes_of result ≡ raw.now };
 
     /// The string of well-formed raw bytes, moved (test: [`OsStrBytes::from_raw_bytes_owned`]).
     ///
-    /// Of the vector of `b"a\x80"` it is a string of Unix with these bytes.
+    /// ```
+    /// use os_str_bytes::{HasBytes, OsStr, OsStrBytes, Unix};
+    ///
+    /// let string = OsStr::<Unix>::assert_from_raw_bytes_owned(b"a\x80".to_vec(alloc)?);
+    /// assert_eq!(rt; string.bytes(), b"a\x80".as_slice());
+    /// ```
     fn assert_from_raw_bytes_owned(raw: Vec<u8>) -> Self::Cow
         requires { Self.Platform.well_formed raw.items }
         ensures bytes { Self.Cow.bytes_of result ≡ raw.items }
         ensures vec { is_owned result raw };
 
-    /// The string of raw bytes, or their first fault where they aren't well formed.
+    /// The string of raw bytes. It takes no memory.
     ///
-    /// On Windows ED A0 80 (hexadecimal) is accepted, ED A0 80 ED B0 80 is refused with
-    /// `EncodingError::CodePoint(0xDC00)`.
+    /// # Errors
+    ///
+    /// The first fault of the bytes where they aren't well formed ([`Platform::check`]).
+    ///
+    /// ```
+    /// use os_str_bytes::{EncodingError, OsStr, OsStrBytes, Windows};
+    ///
+    /// assert!(rt; OsStr::<Windows>::from_raw_bytes(b"\xED\xA0\x80").is_ok());
+    /// let pair = OsStr::<Windows>::from_raw_bytes(b"\xED\xA0\x80\xED\xB0\x80");
+    /// assert_eq!(rt; pair.err(), Some(EncodingError::CodePoint(0xDC00)));
+    /// ```
     fn from_raw_bytes(raw: &'a [u8]) -> Result<Self::Cow, EncodingError>
         ensures bytes { IfOk result (λ cow. Self.Cow.bytes_of cow ≡ raw.now) }
         ensures cases { MatchResult result (λ _. Self.Platform.well_formed raw.now) (λ fault. Self.Platform.first_fault raw.now fault) };
 
-    /// The string of raw bytes, moved, or their first fault; a refused vector is dropped.
+    /// The string of raw bytes, moved.
     ///
-    /// On wasm the vector of C3 A9 (hexadecimal) is accepted, that of C3 is refused with
-    /// `EncodingError::Utf8 { valid_up_to: 0, error_len: None }`.
+    /// # Errors
+    ///
+    /// The first fault of the bytes where they aren't well formed; the vector is then dropped.
+    ///
+    /// ```
+    /// use os_str_bytes::{EncodingError, OsStr, OsStrBytes, Wasm};
+    ///
+    /// assert!(rt; OsStr::<Wasm>::from_raw_bytes_owned(b"\xC3\xA9".to_vec(alloc)?).is_ok());
+    /// let truncated = OsStr::<Wasm>::from_raw_bytes_owned(b"\xC3".to_vec(alloc)?);
+    /// let fault = EncodingError::Utf8 { valid_up_to: 0, error_len: None };
+    /// assert_eq!(rt; truncated.err(), Some(fault));
+    /// ```
     fn from_raw_bytes_owned(raw: Vec<u8>) -> Result<Self::Cow, EncodingError>
         ensures bytes { IfOk result (λ cow. Self.Cow.bytes_of cow ≡ raw.items) }
         ensures vec { IfOk result (λ cow. is_owned cow raw) }
@@ -69,21 +102,37 @@ pub trait OsStrBytes<'a>: Sized + Copy {
 
     /// The string of IO-safe bytes, `None` where they aren't.
     ///
-    /// Of 61 80 (hexadecimal) it is a string on Unix, and `None` on Windows.
+    /// ```
+    /// use os_str_bytes::{OsStr, OsStrBytes, Unix, Windows};
+    ///
+    /// assert!(rt; OsStr::<Unix>::from_io_bytes(b"a\x80").is_some());
+    /// assert!(rt; OsStr::<Windows>::from_io_bytes(b"a\x80").is_none());
+    /// ```
     fn from_io_bytes(raw: &'a [u8]) -> Option<Self>
         ensures bytes { MatchOption result (Unit {0}) (λ string. bytes_of string ≡ raw.now) }
         ensures cases { MatchOption result (¬ (Self.Platform.io_safe raw.now)) (λ _. Self.Platform.io_safe raw.now) };
 
     /// The string's bytes where they are IO-safe, else `None`.
     ///
-    /// Of the Windows string of ED A0 80 (hexadecimal), a surrogate, it is `None`.
+    /// ```
+    /// use os_str_bytes::{OsStr, OsStrBytes, OsString, Windows};
+    ///
+    /// assert_eq!(rt; OsStr::<Windows>::new("a").to_io_bytes(), Some(b"a".as_slice()));
+    /// let surrogate = OsString::<Windows>::from_wide(alloc, &[0xD800])?;
+    /// assert_eq!(rt; surrogate.as_os_str().to_io_bytes(), None);
+    /// ```
     fn to_io_bytes(self) -> Option<&'a [u8]>
         ensures bytes { MatchOption result (Unit {0}) (λ io. io.now ≡ bytes_of self) }
         ensures cases { MatchOption result (¬ (Self.Platform.io_safe (bytes_of self))) (λ _. Self.Platform.io_safe (bytes_of self)) };
 
     /// The string's raw bytes, which [`OsStrBytes::from_raw_bytes`] accepts.
     ///
-    /// `OsStr::<Wasm>::new("a").to_raw_bytes().as_bytes()` is `b"a"`.
+    /// ```
+    /// use os_str_bytes::{OsStr, OsStrBytes, Wasm};
+    ///
+    /// let raw = OsStr::<Wasm>::new("a").to_raw_bytes();
+    /// assert_eq!(rt; raw.as_bytes(), b"a".as_slice());
+    /// ```
     fn to_raw_bytes(self) -> ByteCow<'a>
         ensures value { byte_cow_bytes result ≡ bytes_of self }
         ensures formed { Self.Platform.well_formed (byte_cow_bytes result) };
@@ -91,7 +140,17 @@ pub trait OsStrBytes<'a>: Sized + Copy {
     /// The string's bytes where they are IO-safe, which takes no memory, else those of its
     /// lossy text.
     ///
-    /// On Windows ED A0 80 (hexadecimal) gives EF BF BD, on Unix it gives itself.
+    /// # Errors
+    ///
+    /// `AllocError` where the memory is refused.
+    ///
+    /// ```
+    /// use os_str_bytes::{OsStrBytes, OsString, Windows};
+    ///
+    /// let surrogate = OsString::<Windows>::from_wide(alloc, &[0xD800])?;
+    /// let io = surrogate.as_os_str().to_io_bytes_lossy(alloc)?;
+    /// assert_eq!(rt; io.as_bytes(), b"\xEF\xBF\xBD".as_slice());
+    /// ```
     final fn to_io_bytes_lossy<A: Allocator>(self, alloc: A) -> Result<ByteCow<'a, A>, AllocError>
         ensures bytes { IfOk result (λ io. IsIoLossy Self.Platform.io_safe Self.Platform.lossy (bytes_of self) (byte_cow_bytes io)) }
         ensures without_memory { Self.Platform.io_safe (bytes_of self) → IsOk result }
@@ -111,7 +170,12 @@ pub trait ByteVec: Sized + Drop {
 
     /// The vector itself (own call).
     ///
-    /// `string.into_raw_vec().into_vec().len()` is the number of the string's bytes.
+    /// ```
+    /// use os_str_bytes::{ByteVec, OsStr, OsStringBytes, Unix};
+    ///
+    /// let raw = OsStr::<Unix>::new("a").to_owned(alloc)?.into_raw_vec();
+    /// assert_eq!(rt; raw.into_vec().len(), 1);
+    /// ```
     fn into_vec(self) -> Vec<u8, Self::Alloc>
         ensures { result ≡ as_vec self };
 }
@@ -141,29 +205,52 @@ pub trait OsStringBytes: Sized + Drop {
 
     /// The string of a vector of well-formed raw bytes (test: [`OsStringBytes::from_raw_vec`]).
     ///
-    /// Of the vector of `b"a\x80"` it is a string of Unix with these bytes.
+    /// ```
+    /// use os_str_bytes::{OsString, OsStringBytes, Unix};
+    ///
+    /// let string = OsString::<Unix>::assert_from_raw_vec(b"a\x80".to_vec(alloc)?);
+    /// assert_eq!(rt; string.as_os_str().as_encoded_bytes(), b"a\x80".as_slice());
+    /// ```
     fn assert_from_raw_vec(raw: Self::Vec) -> Self
         requires { Self.Platform.well_formed (Self.Vec.as_vec raw).items }
         ensures { vec_of result ≡ raw };
 
-    /// The string of a vector of raw bytes, or their first fault where they aren't well
-    /// formed; a refused vector is dropped.
+    /// The string of a vector of raw bytes.
     ///
-    /// On Windows the vector of C0 (hexadecimal) is refused with `EncodingError::Byte(0xC0)`.
+    /// # Errors
+    ///
+    /// The first fault of the bytes where they aren't well formed; the vector is then dropped.
+    ///
+    /// ```
+    /// use os_str_bytes::{EncodingError, OsString, OsStringBytes, Windows};
+    ///
+    /// let refused = OsString::<Windows>::from_raw_vec(b"\xC0".to_vec(alloc)?);
+    /// assert_eq!(rt; refused.err(), Some(EncodingError::Byte(0xC0)));
+    /// ```
     fn from_raw_vec(raw: Self::Vec) -> Result<Self, EncodingError>
         ensures vec { IfOk result (λ string. vec_of string ≡ raw) }
         ensures cases { MatchResult result (λ _. Self.Platform.well_formed (Self.Vec.as_vec raw).items) (λ fault. Self.Platform.first_fault (Self.Vec.as_vec raw).items fault) };
 
     /// The string of a vector of IO-safe bytes; a refused vector is dropped.
     ///
-    /// Of the vector of 61 80 (hexadecimal) it is a string on Unix, and `None` on wasm.
+    /// ```
+    /// use os_str_bytes::{OsString, OsStringBytes, Unix, Wasm};
+    ///
+    /// assert!(rt; OsString::<Unix>::from_io_vec(b"a\x80".to_vec(alloc)?).is_some());
+    /// assert!(rt; OsString::<Wasm>::from_io_vec(b"a\x80".to_vec(alloc)?).is_none());
+    /// ```
     fn from_io_vec(raw: Self::Vec) -> Option<Self>
         ensures vec { MatchOption result (Unit {0}) (λ string. vec_of string ≡ raw) }
         ensures cases { MatchOption result (¬ (Self.Platform.io_safe (Self.Vec.as_vec raw).items)) (λ _. Self.Platform.io_safe (Self.Vec.as_vec raw).items) };
 
     /// The string's vector where its bytes are IO-safe; else the string is dropped.
     ///
-    /// Of the Windows string of ED A0 80 (hexadecimal), a surrogate, it is `None`.
+    /// ```
+    /// use os_str_bytes::{OsString, OsStringBytes, Windows};
+    ///
+    /// let surrogate = OsString::<Windows>::from_wide(alloc, &[0xD800])?;
+    /// assert!(rt; surrogate.into_io_vec().is_none());
+    /// ```
     fn into_io_vec(self) -> Option<Self::Vec>
         ensures vec { MatchOption result (Unit {0}) (λ io. io ≡ vec_of self) }
         ensures cases { MatchOption result (¬ (Self.Platform.io_safe (Self.Vec.as_vec (vec_of self)).items)) (λ _. Self.Platform.io_safe (Self.Vec.as_vec (vec_of self)).items) };
@@ -172,7 +259,16 @@ pub trait OsStringBytes: Sized + Drop {
     /// written in place, in the same block. It takes no memory: on Windows the form of a surrogate and that of
     /// U+FFFD both have three bytes, and on the other platforms each string is IO-safe.
     ///
-    /// On Windows ED A0 80 (hexadecimal) gives EF BF BD, on Unix it gives itself.
+    /// ```
+    /// use os_str_bytes::{OsString, OsStringBytes, Unix, Windows};
+    ///
+    /// let surrogate = OsString::<Windows>::from_wide(alloc, &[0xD800])?;
+    /// let io = surrogate.into_io_vec_lossy();
+    /// assert_eq!(rt; io.as_slice(), b"\xEF\xBF\xBD".as_slice());
+    ///
+    /// let same = OsString::<Unix>::from_raw_vec(b"\xED\xA0\x80".to_vec(alloc)?)?;
+    /// assert_eq!(rt; same.into_io_vec_lossy().as_slice(), b"\xED\xA0\x80".as_slice());
+    /// ```
     fn into_io_vec_lossy(self) -> Self::Vec
         ensures bytes { IsIoLossy Self.Platform.io_safe Self.Platform.lossy (Self.Vec.as_vec (vec_of self)).items (Self.Vec.as_vec result).items }
         ensures same { Self.Platform.io_safe (Self.Vec.as_vec (vec_of self)).items → result ≡ vec_of self }
@@ -180,7 +276,12 @@ pub trait OsStringBytes: Sized + Drop {
 
     /// The string's vector, which [`OsStringBytes::from_raw_vec`] accepts.
     ///
-    /// `OsStr::<Wasm>::new("a").to_owned(alloc)?.into_raw_vec()` is the vector of `b"a"`.
+    /// ```
+    /// use os_str_bytes::{OsStr, OsStringBytes, Wasm};
+    ///
+    /// let raw = OsStr::<Wasm>::new("a").to_owned(alloc)?.into_raw_vec();
+    /// assert_eq!(rt; raw.as_slice(), b"a".as_slice());
+    /// ```
     fn into_raw_vec(self) -> Self::Vec
         ensures value { result ≡ vec_of self }
         ensures formed { Self.Platform.well_formed (Self.Vec.as_vec result).items };

@@ -13,7 +13,12 @@ pub trait HasBytes {
 
     /// The bytes of the string (std's `OsStr::as_encoded_bytes` of a `Cow`).
     ///
-    /// `OsStrCow::Borrowed(OsStr::<Unix>::new("a")).bytes()` is `b"a"`.
+    /// ```
+    /// use os_str_bytes::{HasBytes, OsStr, OsStrCow, Unix};
+    ///
+    /// let string: OsStrCow<'_, Unix> = OsStrCow::Borrowed(OsStr::new("a"));
+    /// assert_eq!(rt; string.bytes(), b"a".as_slice());
+    /// ```
     fn bytes(&self) -> &[u8]
         ensures { result.now ≡ bytes_of self.now };
 }
@@ -31,7 +36,12 @@ impl<'a, E: Platform, A: Allocator> OsStrCow<'a, E, A> {
 
     /// A view of the string (std's `Cow::as_ref`).
     ///
-    /// `OsStrCow::Owned(OsString::<Unix>::new(alloc)).as_os_str()` is `OsStr::new("")`.
+    /// ```
+    /// use os_str_bytes::{OsStr, OsStrCow, OsString, Unix};
+    ///
+    /// let string: OsStrCow<'_, Unix> = OsStrCow::Owned(OsString::new(alloc));
+    /// assert!(rt; string.as_os_str() == OsStr::new(""));
+    /// ```
     pub fn as_os_str(&self) -> OsStr<'_, E>
         ensures { bytes result ≡ cow_bytes self.now }
     {
@@ -65,7 +75,12 @@ impl<'a, E: Platform, A: Allocator> PathCow<'a, E, A> {
 
     /// A view of the path (std's `Cow::as_ref`).
     ///
-    /// `PathCow::Owned(PathBuf::<Unix>::new(alloc)).as_path().as_os_str()` is `OsStr::new("")`.
+    /// ```
+    /// use os_str_bytes::{OsStr, PathBuf, PathCow, Unix};
+    ///
+    /// let path: PathCow<'_, Unix> = PathCow::Owned(PathBuf::new(alloc));
+    /// assert!(rt; path.as_path().as_os_str() == OsStr::new(""));
+    /// ```
     pub fn as_path(&self) -> Path<'_, E>
         ensures { path_bytes result ≡ path_cow_bytes self.now }
     {
@@ -98,7 +113,12 @@ impl<'a, A: Allocator> ByteCow<'a, A> {
 
     /// A view of the bytes (std's `Cow::as_ref`).
     ///
-    /// `OsStr::<Unix>::new("a").to_raw_bytes().as_bytes()` is `b"a"`.
+    /// ```
+    /// use os_str_bytes::{OsStr, OsStrBytes, Unix};
+    ///
+    /// let raw = OsStr::<Unix>::new("a").to_raw_bytes();
+    /// assert_eq!(rt; raw.as_bytes(), b"a".as_slice());
+    /// ```
     pub fn as_bytes(&self) -> &[u8]
         ensures { result.now ≡ byte_cow_bytes self.now }
     {
@@ -121,7 +141,12 @@ impl<'a, A: Allocator> StrCow<'a, A> {
 
     /// A view of the text (std's `Cow::as_ref`).
     ///
-    /// `OsStr::<Unix>::new("a").to_string_lossy(alloc)?.as_str()` is "a".
+    /// ```
+    /// use os_str_bytes::{OsStr, Unix};
+    ///
+    /// let text = OsStr::<Unix>::new("a").to_string_lossy(alloc)?;
+    /// assert_eq!(rt; text.as_str(), "a");
+    /// ```
     pub fn as_str(&self) -> &str
         ensures { result.now ≡ str_cow_bytes self.now }
     {

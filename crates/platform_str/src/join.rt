@@ -5,7 +5,7 @@ ghost use Rattle.wtf8_core.specs.Wtf8.{IsWtf8};
 ghost use Rattle.wtf8_core.specs.UnitsOf.{units_of};
 
 use std::alloc::{AllocError, Allocator};
-use wtf8_core::pair_between;
+use wtf8_core::{pair_between, write_form};
 
 /// Puts a Windows string behind another (WTF-8: concatenation). Where a pair arises, its form
 /// stands in the place of both surrogates. A refusal changes nothing: the memory is asked for
@@ -42,6 +42,7 @@ pub(crate) fn append<A: Allocator>(bytes: &mut Vec<u8, A>, more: &[u8]) -> Resul
 }
 
 /// Writes the form of a code point past FFFF (hexadecimal) over the four bytes from `at` on.
+#[tactic(auto, using(crate::proofs::lemmas::FourBytes::pair_written))]
 fn write_form_at<A: Allocator>(bytes: &mut Vec<u8, A>, at: usize, c: u32)
     requires room { at + 4 ≤ length bytes.old.items }
     requires past { 0x1_0000 ≤ c }
@@ -49,18 +50,4 @@ fn write_form_at<A: Allocator>(bytes: &mut Vec<u8, A>, at: usize, c: u32)
     ensures { bytes.new.items ≡ take at bytes.old.items ++ (form c ++ drop (at + 4) bytes.old.items) }
 {
     write_form(bytes.as_mut_slice(), at, c);
-}
-
-/// The same, of a slice.
-#[tactic(auto, using(crate::proofs::lemmas::FourBytes::form_written))]
-fn write_form(bytes: &mut [u8], at: usize, c: u32)
-    requires room { at + 4 ≤ length bytes.old }
-    requires past { 0x1_0000 ≤ c }
-    requires code_point { IsCodePoint c }
-    ensures { bytes.new ≡ take at bytes.old ++ (form c ++ drop (at + 4) bytes.old) }
-{
-    bytes[at] = (0xF0 + c / 0x4_0000) as u8;
-    bytes[at + 1] = (0x80 + c / 0x1000 % 0x40) as u8;
-    bytes[at + 2] = (0x80 + c / 0x40 % 0x40) as u8;
-    bytes[at + 3] = (0x80 + c % 0x40) as u8;
 }

@@ -13,6 +13,14 @@
 //! What takes memory is handed an allocator first, or uses that of its vector, and answers
 //! [`std::alloc::AllocError`] where the memory is refused: what was lent is then as it was,
 //! what was moved in is dropped. Every other call takes no memory and never fails for want of it.
+//!
+//! # Calls with a condition
+//!
+//! A call with a `requires` can only be made where it is proved. Those whose names begin with
+//! `assert_from_raw` or end in `_unchecked` take well-formed bytes (test: [`Platform::check`]), and
+//! so do the calls of [`Platform`] but `check`, `is_io_safe` and `read_lossy`; of these `lossy_len`,
+//! `replaced_len` and `first_unit` take bytes that aren't empty and begin with no whole character
+//! (test: `wtf8_core::char_at` at 0). Every other call can be made anywhere.
 #![tactic(auto)]
 
 mod blocks;

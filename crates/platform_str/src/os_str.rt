@@ -1,5 +1,5 @@
 //! Borrowed strings.
-ghost use Rattle.std.specs.Prelude.{◌≡◌, ◌↔◌, [], length, IsTrue, IsOk, IfOk, MatchOption};
+ghost use Rattle.std.specs.Prelude.{◌≡◌, ◌↔◌, [], length, IsTrue, IsOk, IfOk, MatchOption, MatchResult};
 ghost use Rattle.std.specs.Str.{IsUtf8};
 
 use crate::convert::OsStrBytes;
@@ -43,7 +43,11 @@ impl<'a, E: Platform> OsStr<'a, E> {
 
     /// The string of a text, which is a string of every platform (std's `OsStr::new`).
     ///
-    /// `OsStr::<Windows>::new("a\u{E9}").to_str()` is `Some("a\u{E9}")`.
+    /// ```
+    /// use os_str_bytes::{OsStr, Windows};
+    ///
+    /// assert_eq!(rt; OsStr::<Windows>::new("a\u{E9}").to_str(), Some("a\u{E9}"));
+    /// ```
     pub fn new(text: &'a str) -> Self
         ensures { bytes result ≡ text.now }
     {
@@ -56,7 +60,11 @@ impl<'a, E: Platform> OsStr<'a, E> {
     /// The string of well-formed bytes (test: [`Platform::check`]); std's
     /// `OsStr::from_encoded_bytes_unchecked`, with its condition proved.
     ///
-    /// `OsStr::<Unix>::from_encoded_bytes_unchecked(b"a\x80").len()` is 2.
+    /// ```
+    /// use os_str_bytes::{OsStr, Unix};
+    ///
+    /// assert_eq!(rt; OsStr::<Unix>::from_encoded_bytes_unchecked(b"a\x80").len(), 2);
+    /// ```
     pub fn from_encoded_bytes_unchecked(encoded: &'a [u8]) -> Self
         requires { E.well_formed encoded.now }
         ensures { bytes result ≡ encoded.now }
@@ -67,12 +75,46 @@ impl<'a, E: Platform> OsStr<'a, E> {
         }
     }
 
+    /// The string of raw bytes, in place, as a view (own call): [`OsStrBytes::from_raw_bytes`] answers
+    /// what might be owned. It takes no memory.
+    ///
+    /// On Windows ED A0 80 (hexadecimal) is accepted, and ED A0 80 ED B0 80 is not.
+    ///
+    /// # Errors
+    ///
+    /// The first fault of the bytes, where they aren't well formed: what [`Platform::check`] answers.
+    ///
+    /// ```
+    /// use os_str_bytes::{EncodingError, OsStr, Windows};
+    ///
+    /// assert!(rt; OsStr::<Windows>::checked(b"\xED\xA0\x80").is_ok());
+    /// let fault = OsStr::<Windows>::checked(b"\xED\xA0\x80\xED\xB0\x80").err();
+    /// assert_eq!(rt; fault, Some(EncodingError::CodePoint(0xDC00)));
+    /// ```
+    pub fn checked(encoded: &'a [u8]) -> Result<Self, EncodingError>
+        ensures bytes { IfOk result (λ string. bytes string ≡ encoded.now) }
+        ensures cases { MatchResult result (λ _. E.well_formed encoded.now) (λ fault. E.first_fault encoded.now fault) }
+    {
+        E::check(encoded)?;
+        Ok(OsStr::from_encoded_bytes_unchecked(encoded))
+    }
+
     /// The string of any raw bytes, with U+FFFD for each part that is refused: what
     /// [`Platform::read_lossy`] gives, or the bytes themselves where they are well formed, which
     /// takes no memory. Beside it `OsStrBytes::from_raw_bytes` answers the first fault. On wasm it is
     /// equivalent to std's `String::from_utf8_lossy`.
     ///
-    /// On Windows ED A0 80 ED B0 80 41 (hexadecimal) reads as ED A0 80 EF BF BD 41.
+    /// # Errors
+    ///
+    /// `AllocError` where the memory is refused.
+    ///
+    /// ```
+    /// use os_str_bytes::{HasBytes, OsStr, Windows};
+    ///
+    /// let raw = b"\xED\xA0\x80\xED\xB0\x80A";
+    /// let reading = OsStr::<Windows>::from_raw_bytes_lossy(alloc, raw)?;
+    /// assert_eq!(rt; reading.bytes(), b"\xED\xA0\x80\xEF\xBF\xBDA".as_slice());
+    /// ```
     pub fn from_raw_bytes_lossy<A: Allocator>(
         alloc: A,
         raw: &'a [u8],
@@ -92,7 +134,11 @@ impl<'a, E: Platform> OsStr<'a, E> {
 
     /// The string's bytes, which are its raw bytes (std's `OsStr::as_encoded_bytes`).
     ///
-    /// `OsStr::<Wasm>::new("a").as_encoded_bytes()` is `b"a"`.
+    /// ```
+    /// use os_str_bytes::{OsStr, Wasm};
+    ///
+    /// assert_eq!(rt; OsStr::<Wasm>::new("a").as_encoded_bytes(), b"a".as_slice());
+    /// ```
     pub fn as_encoded_bytes(self) -> &'a [u8]
         ensures value { result.now ≡ bytes self.entry }
         ensures formed { E.well_formed result.now }
@@ -102,7 +148,11 @@ impl<'a, E: Platform> OsStr<'a, E> {
 
     /// How many bytes the string has (std's `OsStr::len`).
     ///
-    /// `OsStr::<Unix>::new("\u{20AC}").len()` is 3.
+    /// ```
+    /// use os_str_bytes::{OsStr, Unix};
+    ///
+    /// assert_eq!(rt; OsStr::<Unix>::new("\u{20AC}").len(), 3);
+    /// ```
     pub fn len(self) -> usize
         ensures { result ≡ length (bytes self.entry) }
     {
@@ -111,7 +161,12 @@ impl<'a, E: Platform> OsStr<'a, E> {
 
     /// Whether the string has no byte (std's `OsStr::is_empty`).
     ///
-    /// `OsStr::<Unix>::new("").is_empty()` is true.
+    /// ```
+    /// use os_str_bytes::{OsStr, Unix};
+    ///
+    /// assert!(rt; OsStr::<Unix>::new("").is_empty());
+    /// assert!(rt; !OsStr::<Unix>::new("a").is_empty());
+    /// ```
     pub fn is_empty(self) -> bool
         ensures { IsTrue result ↔ (bytes self.entry ≡ []) }
     {
@@ -121,7 +176,13 @@ impl<'a, E: Platform> OsStr<'a, E> {
     /// The string as a text, `None` where it isn't UTF-8 (std's `OsStr::to_str`). It takes no
     /// memory.
     ///
-    /// Of the Windows string of the bytes ED A0 80 (hexadecimal), a surrogate, it is `None`.
+    /// ```
+    /// use os_str_bytes::{OsStr, OsString, Windows};
+    ///
+    /// assert_eq!(rt; OsStr::<Windows>::new("a").to_str(), Some("a"));
+    /// let surrogate = OsString::<Windows>::from_wide(alloc, &[0xD800])?;
+    /// assert_eq!(rt; surrogate.as_os_str().to_str(), None);
+    /// ```
     pub fn to_str(self) -> Option<&'a str>
         ensures { MatchOption result (¬ (IsUtf8 (bytes self.entry))) (λ text. text.now ≡ bytes self.entry) }
     {
@@ -136,7 +197,16 @@ impl<'a, E: Platform> OsStr<'a, E> {
     /// each maximal ill-formed part (Unicode's maximal subpart), as in std's
     /// `OsStr::to_string_lossy`.
     ///
-    /// The Unix string of the bytes 61 E2 82 41 (hexadecimal) has the lossy text "a\u{FFFD}A".
+    /// # Errors
+    ///
+    /// `AllocError` where the memory is refused.
+    ///
+    /// ```
+    /// use os_str_bytes::{OsStr, Unix};
+    ///
+    /// let string = OsStr::<Unix>::from_encoded_bytes_unchecked(b"a\xE2\x82A");
+    /// assert_eq!(rt; string.to_string_lossy(alloc)?.as_str(), "a\u{FFFD}A");
+    /// ```
     pub fn to_string_lossy<A: Allocator>(self, alloc: A) -> Result<StrCow<'a, A>, AllocError>
         ensures text { IfOk result (λ text. str_cow_bytes text ≡ E.lossy (bytes self.entry)) }
         ensures without_memory { IsUtf8 (bytes self.entry) → IsOk result }
@@ -150,7 +220,12 @@ impl<'a, E: Platform> OsStr<'a, E> {
     /// The lossy text, to be printed (std's `OsStr::display`): what `{}` writes of it is the text that
     /// [`OsStr::to_string_lossy`] gives. It takes no memory.
     ///
-    /// The Unix string of the bytes 61 E2 82 41 (hexadecimal) is printed as "a\u{FFFD}A".
+    /// ```
+    /// use os_str_bytes::{OsStr, Unix};
+    ///
+    /// let string = OsStr::<Unix>::from_encoded_bytes_unchecked(b"a\xE2\x82A");
+    /// assert_eq!(rt; string.display().to_string(alloc)?.as_str(), "a\u{FFFD}A");
+    /// ```
     pub fn display(self) -> OsStrDisplay<'a, E>
         ensures { shown_bytes result ≡ bytes self.entry }
     {
@@ -159,7 +234,16 @@ impl<'a, E: Platform> OsStr<'a, E> {
 
     /// An owned copy (std's `OsStr::to_os_string`). Of the empty string it takes no memory.
     ///
-    /// `OsStr::<Unix>::new("a").to_owned(alloc)?.as_os_str()` is `OsStr::new("a")`.
+    /// # Errors
+    ///
+    /// `AllocError` where the memory is refused.
+    ///
+    /// ```
+    /// use os_str_bytes::{OsStr, Unix};
+    ///
+    /// let owned = OsStr::<Unix>::new("a").to_owned(alloc)?;
+    /// assert!(rt; owned.as_os_str() == OsStr::new("a"));
+    /// ```
     pub fn to_owned<A: Allocator>(self, alloc: A) -> Result<OsString<E, A>, AllocError>
         ensures bytes { IfOk result (λ owned. (string_vec_of owned).items ≡ bytes self.entry) }
         ensures empty { length (bytes self.entry) ≡ 0 → IsOk result }
@@ -197,8 +281,7 @@ impl<'a, E: Platform + 'a> OsStrBytes<'a> for OsStr<'a, E> {
     }
 
     fn from_raw_bytes(raw: &'a [u8]) -> Result<OsStrCow<'a, E>, EncodingError> {
-        E::check(raw)?;
-        Ok(Self::assert_from_raw_bytes(raw))
+        Ok(OsStrCow::Borrowed(OsStr::checked(raw)?))
     }
 
     fn from_raw_bytes_owned(raw: Vec<u8>) -> Result<OsStrCow<'a, E>, EncodingError> {

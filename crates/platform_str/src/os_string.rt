@@ -28,7 +28,11 @@ impl<E: Platform, A: Allocator> OsString<E, A> {
 
     /// The empty string (std's `OsString::new`). It takes no memory.
     ///
-    /// `OsString::<Unix>::new(alloc).as_os_str().is_empty()` is true.
+    /// ```
+    /// use os_str_bytes::{OsString, Unix};
+    ///
+    /// assert!(rt; OsString::<Unix>::new(alloc).as_os_str().is_empty());
+    /// ```
     pub fn new(alloc: A) -> Self
         ensures { (string_vec_of result).items ≡ [] }
     {
@@ -41,7 +45,12 @@ impl<E: Platform, A: Allocator> OsString<E, A> {
     /// The string of well-formed bytes (test: [`Platform::check`]), in their own vector; std's
     /// `OsString::from_encoded_bytes_unchecked`, with its condition proved.
     ///
-    /// Of the vector of the bytes 61 80 (hexadecimal) it is a string of Unix with two bytes.
+    /// ```
+    /// use os_str_bytes::{OsString, Unix};
+    ///
+    /// let string = OsString::<Unix>::from_encoded_bytes_unchecked(b"a\x80".to_vec(alloc)?);
+    /// assert_eq!(rt; string.as_os_str().len(), 2);
+    /// ```
     pub fn from_encoded_bytes_unchecked(vec: Vec<u8, A>) -> Self
         requires { E.well_formed vec.items }
         ensures { string_vec_of result ≡ vec }
@@ -57,7 +66,19 @@ impl<E: Platform, A: Allocator> OsString<E, A> {
     /// in new memory; then the vector is dropped, also where that memory is refused. On wasm it is
     /// as in std's `String::from_utf8_lossy`.
     ///
-    /// Of the vector of FF 41 (hexadecimal) it is EF BF BD 41 on Windows and FF 41 on Unix.
+    /// # Errors
+    ///
+    /// `AllocError` where the memory is refused.
+    ///
+    /// ```
+    /// use os_str_bytes::{OsString, Unix, Windows};
+    ///
+    /// let reading = OsString::<Windows>::from_raw_vec_lossy(b"\xFFA".to_vec(alloc)?)?;
+    /// assert_eq!(rt; reading.into_encoded_bytes().as_slice(), b"\xEF\xBF\xBDA".as_slice());
+    ///
+    /// let same = OsString::<Unix>::from_raw_vec_lossy(b"\xFFA".to_vec(alloc)?)?;
+    /// assert_eq!(rt; same.into_encoded_bytes().as_slice(), b"\xFFA".as_slice());
+    /// ```
     pub fn from_raw_vec_lossy(raw: Vec<u8, A>) -> Result<Self, AllocError>
     where
         A: Clone,
@@ -77,7 +98,12 @@ impl<E: Platform, A: Allocator> OsString<E, A> {
 
     /// A view of the string (std's `OsString::as_os_str`).
     ///
-    /// `OsString::<Unix>::new(alloc).as_os_str()` is `OsStr::new("")`.
+    /// ```
+    /// use os_str_bytes::{OsStr, OsString, Unix};
+    ///
+    /// let string = OsString::<Unix>::from(String::from_str(alloc, "a")?);
+    /// assert!(rt; string.as_os_str() == OsStr::new("a"));
+    /// ```
     pub fn as_os_str(&self) -> OsStr<'_, E>
         ensures { bytes result ≡ (string_vec_of self.now).items }
     {
@@ -86,7 +112,12 @@ impl<E: Platform, A: Allocator> OsString<E, A> {
 
     /// The string's bytes, in its own vector (std's `OsString::into_encoded_bytes`).
     ///
-    /// `OsStr::<Unix>::new("a").to_owned(alloc)?.into_encoded_bytes()` is the vector of `b"a"`.
+    /// ```
+    /// use os_str_bytes::{OsStr, Unix};
+    ///
+    /// let string = OsStr::<Unix>::new("a").to_owned(alloc)?;
+    /// assert_eq!(rt; string.into_encoded_bytes().as_slice(), b"a".as_slice());
+    /// ```
     pub fn into_encoded_bytes(self) -> Vec<u8, A>
         ensures value { result ≡ string_vec_of self }
         ensures formed { E.well_formed result.items }
@@ -94,10 +125,21 @@ impl<E: Platform, A: Allocator> OsString<E, A> {
         self.vec
     }
 
-    /// The string as a text in its own memory, or else the same string again (std's
-    /// `OsString::into_string`). It takes no memory.
+    /// The string as a text in its own memory (std's `OsString::into_string`). It takes no memory.
     ///
-    /// The Windows string of the bytes ED A0 80 (hexadecimal), a surrogate, comes back.
+    /// # Errors
+    ///
+    /// The same string again where it isn't UTF-8.
+    ///
+    /// ```
+    /// use os_str_bytes::{OsString, Unix, Windows};
+    ///
+    /// let string = OsString::<Unix>::from(String::from_str(alloc, "a")?);
+    /// assert!(rt; string.into_string().is_ok());
+    ///
+    /// let surrogate = OsString::<Windows>::from_wide(alloc, &[0xD800])?;
+    /// assert!(rt; surrogate.into_string().is_err());
+    /// ```
     pub fn into_string(self) -> Result<String<A>, Self>
         ensures text { IfOk result (λ text. string_vec text ≡ string_vec_of self) }
         ensures same { IfErr result (λ string. string_vec_of string ≡ string_vec_of self) }
@@ -113,11 +155,21 @@ impl<E: Platform, A: Allocator> OsString<E, A> {
     }
 
     /// Puts a string behind this one: the units are those of both, one after the other (std's
-    /// `OsString::push`). On Windows two halves of a pair that meet become one code point. Where
-    /// the memory is refused the string is as it was; a string whose vector has room for the bytes
-    /// of both takes none.
+    /// `OsString::push`). On Windows two halves of a pair that meet become one code point (WTF-8,
+    /// "Concatenating"). A string whose vector has room for the bytes of both takes no memory.
     ///
-    /// The Windows string of D83D (hexadecimal) with that of DE00 pushed is F0 9F 98 80.
+    /// # Errors
+    ///
+    /// `AllocError` where the memory is refused; the string is then as it was.
+    ///
+    /// ```
+    /// use os_str_bytes::{OsStr, OsString, Windows};
+    ///
+    /// let mut string = OsString::<Windows>::from_wide(alloc, &[0xD83D])?;
+    /// let low = OsString::<Windows>::from_wide(alloc, &[0xDE00])?;
+    /// string.push(low.as_os_str())?;
+    /// assert!(rt; string.as_os_str() == OsStr::new("\u{1F600}"));
+    /// ```
     pub fn push(&mut self, string: OsStr<'_, E>) -> Result<(), AllocError>
         ensures ok { OnOk result (E.units (string_vec_of self.new).items ≡ E.units (string_vec_of self.old).items ++ E.units (bytes string.entry)) }
         ensures err { OnErr result ((string_vec_of self.new).items ≡ (string_vec_of self.old).items) }
@@ -128,7 +180,16 @@ impl<E: Platform, A: Allocator> OsString<E, A> {
 
     /// A copy in memory of its own (std's `OsString::clone`).
     ///
-    /// `OsStr::<Unix>::new("a").to_owned(alloc)?.clone()?.as_os_str()` is `OsStr::new("a")`.
+    /// # Errors
+    ///
+    /// `AllocError` where the memory is refused.
+    ///
+    /// ```
+    /// use os_str_bytes::{OsStr, Unix};
+    ///
+    /// let string = OsStr::<Unix>::new("a").to_owned(alloc)?;
+    /// assert!(rt; string.clone()? == string);
+    /// ```
     pub fn clone(&self) -> Result<Self, AllocError>
     where
         A: Clone,

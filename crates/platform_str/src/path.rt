@@ -23,7 +23,12 @@ impl<'a, E: Platform> Path<'a, E> {
 
     /// The path of a string, each of which is one (std's `Path::new`).
     ///
-    /// `Path::<Unix>::new(OsStr::new("a/b"))` has the bytes of "a/b".
+    /// ```
+    /// use os_str_bytes::{OsStr, OsStrBytes, Path, Unix};
+    ///
+    /// let path = Path::<Unix>::new(OsStr::new("a/b"));
+    /// assert_eq!(rt; path.encoded_bytes(), b"a/b".as_slice());
+    /// ```
     pub fn new(string: OsStr<'a, E>) -> Self
         ensures { path_bytes result ≡ bytes string.entry }
     {
@@ -32,7 +37,12 @@ impl<'a, E: Platform> Path<'a, E> {
 
     /// The lossy text of the path, to be printed (std's `Path::display`): as [`OsStr::display`].
     ///
-    /// `Path::<Unix>::new(OsStr::new("a/b")).display()` is printed as "a/b".
+    /// ```
+    /// use os_str_bytes::{OsStr, Path, Unix};
+    ///
+    /// let path = Path::<Unix>::new(OsStr::new("a/b"));
+    /// assert_eq!(rt; path.display().to_string(alloc)?.as_str(), "a/b");
+    /// ```
     pub fn display(self) -> OsStrDisplay<'a, E>
         ensures { shown_bytes result ≡ path_bytes self.entry }
     {
@@ -41,7 +51,12 @@ impl<'a, E: Platform> Path<'a, E> {
 
     /// The path as a string (std's `Path::as_os_str`).
     ///
-    /// `Path::<Unix>::new(OsStr::new("a/b")).as_os_str()` is `OsStr::new("a/b")`.
+    /// ```
+    /// use os_str_bytes::{OsStr, Path, Unix};
+    ///
+    /// let string = OsStr::<Unix>::new("a/b");
+    /// assert!(rt; Path::new(string).as_os_str() == string);
+    /// ```
     pub fn as_os_str(self) -> OsStr<'a, E>
         ensures { bytes result ≡ path_bytes self.entry }
     {
@@ -109,7 +124,11 @@ impl<E: Platform, A: Allocator> PathBuf<E, A> {
 
     /// The empty path (std's `PathBuf::new`). It takes no memory.
     ///
-    /// `PathBuf::<Unix>::new(alloc).as_os_str().is_empty()` is true.
+    /// ```
+    /// use os_str_bytes::{PathBuf, Unix};
+    ///
+    /// assert!(rt; PathBuf::<Unix>::new(alloc).as_os_str().is_empty());
+    /// ```
     pub fn new(alloc: A) -> Self
         ensures { (path_vec_of result).items ≡ [] }
     {
@@ -120,7 +139,12 @@ impl<E: Platform, A: Allocator> PathBuf<E, A> {
 
     /// A view of the path (std's `PathBuf::as_path`).
     ///
-    /// `PathBuf::<Unix>::new(alloc).as_path().as_os_str()` is `OsStr::new("")`.
+    /// ```
+    /// use os_str_bytes::{OsStr, PathBuf, Unix};
+    ///
+    /// let path = PathBuf::from(OsStr::<Unix>::new("a/b").to_owned(alloc)?);
+    /// assert!(rt; path.as_path().as_os_str() == OsStr::new("a/b"));
+    /// ```
     pub fn as_path(&self) -> Path<'_, E>
         ensures { path_bytes result ≡ (path_vec_of self.now).items }
     {
@@ -129,7 +153,12 @@ impl<E: Platform, A: Allocator> PathBuf<E, A> {
 
     /// A view of the path as a string (std's `Path::as_os_str` of a `PathBuf`).
     ///
-    /// `PathBuf::<Unix>::new(alloc).as_os_str()` is `OsStr::new("")`.
+    /// ```
+    /// use os_str_bytes::{OsStr, PathBuf, Unix};
+    ///
+    /// let path = PathBuf::from(OsStr::<Unix>::new("a/b").to_owned(alloc)?);
+    /// assert!(rt; path.as_os_str() == OsStr::new("a/b"));
+    /// ```
     pub fn as_os_str(&self) -> OsStr<'_, E>
         ensures { bytes result ≡ (path_vec_of self.now).items }
     {
@@ -138,7 +167,12 @@ impl<E: Platform, A: Allocator> PathBuf<E, A> {
 
     /// The path as a string, in its own vector (std's `PathBuf::into_os_string`).
     ///
-    /// `PathBuf::<Unix>::new(alloc).into_os_string()` is the empty string.
+    /// ```
+    /// use os_str_bytes::{OsStr, PathBuf, Unix};
+    ///
+    /// let path = PathBuf::from(OsStr::<Unix>::new("a/b").to_owned(alloc)?);
+    /// assert!(rt; path.into_os_string().as_os_str() == OsStr::new("a/b"));
+    /// ```
     pub fn into_os_string(self) -> OsString<E, A>
         ensures { string_vec_of result ≡ path_vec_of self }
     {

@@ -51,19 +51,33 @@ pub trait Platform {
     // what the units of a string are in which no whole character stands
     ghost part_units: { List ℕ → Type 0 };
 
-    /// `Ok` exactly for well-formed bytes, else their first fault: on Windows the first that
-    /// `wtf8_core::CodePoints` answers, on wasm that of `wtf8_core::utf8_fault`, on Unix none.
-    /// It takes no memory.
+    /// Whether bytes are well formed. It takes no memory.
     ///
-    /// `Windows::check(b"\xED\xA0\x80")` is `Ok(())`, since a surrogate has a form there;
-    /// `Wasm::check` of the same bytes is an error, and `Unix::check` answers no error at all.
+    /// # Errors
+    ///
+    /// The first fault of bytes that aren't: on Windows the first that `wtf8_core::CodePoints`
+    /// answers, on wasm that of `wtf8_core::utf8_fault`, on Unix none.
+    ///
+    /// ```
+    /// use os_str_bytes::{Platform, Unix, Wasm, Windows};
+    ///
+    /// let surrogate = b"\xED\xA0\x80";
+    /// assert_eq!(rt; Windows::check(surrogate), Ok(()));
+    /// assert!(rt; Wasm::check(surrogate).is_err());
+    /// assert_eq!(rt; Unix::check(surrogate), Ok(()));
+    /// ```
     fn check(bytes: &[u8]) -> Result<(), EncodingError>
         ensures { MatchResult result (λ _. well_formed bytes.now) (λ fault. first_fault bytes.now fault) };
 
     /// Whether bytes may be handed to reads and writes of files as they are: on Unix always,
     /// else where they are UTF-8. It takes no memory.
     ///
-    /// `Unix::is_io_safe(b"\x80")` is true, `Windows::is_io_safe(b"\xED\xA0\x80")` is false.
+    /// ```
+    /// use os_str_bytes::{Platform, Unix, Windows};
+    ///
+    /// assert!(rt; Unix::is_io_safe(b"\x80"));
+    /// assert!(rt; !Windows::is_io_safe(b"\xED\xA0\x80"));
+    /// ```
     fn is_io_safe(bytes: &[u8]) -> bool
         ensures { IsTrue result ↔ io_safe bytes.now };
 
@@ -73,7 +87,12 @@ pub trait Platform {
     /// character starts at their front (test: `wtf8_core::char_at` at 0). What follows these
     /// bytes is well formed. On Windows it is three, a surrogate's form.
     ///
-    /// `Unix::lossy_len(b"\xE2\x82A")` is 2, `Windows::lossy_len(b"\xED\xA0\x80a")` is 3.
+    /// ```
+    /// use os_str_bytes::{Platform, Unix, Windows};
+    ///
+    /// assert_eq!(rt; Unix::lossy_len(b"\xE2\x82A"), 2);
+    /// assert_eq!(rt; Windows::lossy_len(b"\xED\xA0\x80a"), 3);
+    /// ```
     fn lossy_len(bytes: &[u8]) -> usize
         requires formed { well_formed bytes.now }
         requires some { 0 < length bytes.now }
@@ -84,7 +103,12 @@ pub trait Platform {
     /// the bytes begin: `wtf8_core::utf8_fault` of them is `Some((0, error_len))`. So a platform
     /// doesn't have to find that fault again. Unless it is overridden, it asks `lossy_len`.
     ///
-    /// `Unix::replaced_len(b"\xE2\x82A", Some(2))` is 2.
+    /// ```
+    /// use os_str_bytes::{Platform, Unix, utf8_fault};
+    ///
+    /// assert_eq!(rt; utf8_fault(b"\xE2\x82A"), Some((0, Some(2))));
+    /// assert_eq!(rt; Unix::replaced_len(b"\xE2\x82A", Some(2)), 2);
+    /// ```
     fn replaced_len(bytes: &[u8], error_len: Option<u8>) -> usize
         requires formed { well_formed bytes.now }
         requires some { 0 < length bytes.now }
@@ -102,7 +126,11 @@ pub trait Platform {
     /// bytes is well formed and has the other units. On Unix a unit is one byte, on Windows it
     /// is a surrogate of three; on wasm no bytes are so.
     ///
-    /// `Windows::first_unit(b"\xED\xA0\x80a")` is `(0xD800, 3)`.
+    /// ```
+    /// use os_str_bytes::{Platform, Windows};
+    ///
+    /// assert!(rt; Windows::first_unit(b"\xED\xA0\x80a") == (0xD800, 3));
+    /// ```
     fn first_unit(bytes: &[u8]) -> (u16, usize)
         requires formed { well_formed bytes.now }
         requires some { 0 < length bytes.now }
@@ -113,8 +141,14 @@ pub trait Platform {
     /// `wtf8_core::starts_with`, else std's `starts_with` of slices). Both are well formed
     /// (test: [`Platform::check`]). It takes no memory.
     ///
-    /// A half of a pair counts: `Windows::starts_with_os(b"\xF0\x9F\x98\x80", b"\xED\xA0\xBD")`
-    /// is true, of the units D83D, DE00 and D83D (hexadecimal).
+    /// A half of a pair counts:
+    ///
+    /// ```
+    /// use os_str_bytes::{Platform, Windows};
+    ///
+    /// // The units D83D and DE00, and D83D alone.
+    /// assert!(rt; Windows::starts_with_os(b"\xF0\x9F\x98\x80", b"\xED\xA0\xBD"));
+    /// ```
     fn starts_with_os(string: &[u8], front: &[u8]) -> bool
         requires string { well_formed string.now }
         requires front { well_formed front.now }
@@ -124,20 +158,35 @@ pub trait Platform {
     /// `wtf8_core::ends_with`, else std's `ends_with` of slices). Both are well formed
     /// (test: [`Platform::check`]). It takes no memory.
     ///
-    /// A half of a pair counts: `Windows::ends_with_os(b"\xF0\x9F\x98\x80", b"\xED\xB8\x80")`
-    /// is true, of the units D83D, DE00 and DE00 (hexadecimal).
+    /// A half of a pair counts:
+    ///
+    /// ```
+    /// use os_str_bytes::{Platform, Windows};
+    ///
+    /// // The units D83D and DE00, and DE00 alone.
+    /// assert!(rt; Windows::ends_with_os(b"\xF0\x9F\x98\x80", b"\xED\xB8\x80"));
+    /// ```
     fn ends_with_os(string: &[u8], end: &[u8]) -> bool
         requires string { well_formed string.now }
         requires end { well_formed end.now }
         ensures { IsTrue result ↔ IsEnd (units end.now) (units string.now) };
 
     /// Puts a string behind another: the units are those of both, one after the other (std's
-    /// `OsString::push`). On Windows two halves of a pair that meet become one code point
-    /// (WTF-8: concatenation). Both are well formed (test: [`Platform::check`]). It grows the
-    /// vector; where the memory is refused the vector's bytes are as they were. A vector with
-    /// room for the bytes of both takes no memory.
+    /// `OsString::push`). On Windows two halves of a pair that meet become one code point (WTF-8,
+    /// "Concatenating"). Both are well formed (test: [`Platform::check`]). A vector with room for the
+    /// bytes of both takes no memory.
     ///
-    /// On Windows ED A0 BD with ED B8 80 pushed (hexadecimal) is F0 9F 98 80.
+    /// # Errors
+    ///
+    /// `AllocError` where the memory is refused; the vector's bytes are then as they were.
+    ///
+    /// ```
+    /// use os_str_bytes::{Platform, Windows};
+    ///
+    /// let mut string = b"\xED\xA0\xBD".to_vec(alloc)?;
+    /// Windows::push_bytes(&mut string, b"\xED\xB8\x80")?;
+    /// assert_eq!(rt; string.as_slice(), b"\xF0\x9F\x98\x80".as_slice());
+    /// ```
     fn push_bytes<A: Allocator>(string: &mut Vec<u8, A>, more: &[u8]) -> Result<(), AllocError>
         requires string { well_formed string.old.items }
         requires more { well_formed more.now }
@@ -155,7 +204,16 @@ pub trait Platform {
     /// maximal ill-formed part (Unicode, section 3.9), as in std's `String::from_utf8_lossy`. On
     /// Unix nothing is refused. It may take memory also where nothing is replaced.
     ///
-    /// On Windows ED A0 80 ED B0 80 41 (hexadecimal) reads as ED A0 80 EF BF BD 41.
+    /// # Errors
+    ///
+    /// `AllocError` where the memory is refused.
+    ///
+    /// ```
+    /// use os_str_bytes::{Platform, Windows};
+    ///
+    /// let reading = Windows::read_lossy(alloc, b"\xED\xA0\x80\xED\xB0\x80A")?;
+    /// assert_eq!(rt; reading.as_slice(), b"\xED\xA0\x80\xEF\xBF\xBDA".as_slice());
+    /// ```
     fn read_lossy<A: Allocator>(alloc: A, bytes: &[u8]) -> Result<Vec<u8, A>, AllocError>
         ensures reading { IfOk result (λ reading. reads_as bytes.now reading.items) }
         ensures formed { IfOk result (λ reading. well_formed reading.items) };

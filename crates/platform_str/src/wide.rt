@@ -50,7 +50,14 @@ impl<'a> OsStr<'a, Windows> {
     /// The string's 16-bit units (RFC 2781; a surrogate stands for itself), as std's
     /// `OsStrExt::encode_wide` on Windows. It takes no memory.
     ///
-    /// The units of the bytes F0 9F 98 80 ED B0 80 (hexadecimal) are D83D, DE00, DC00.
+    /// ```
+    /// use os_str_bytes::{OsStr, Windows};
+    ///
+    /// let mut units = OsStr::<Windows>::new("\u{1F600}").encode_wide();
+    /// assert_eq!(rt; units.next(), Some(0xD83D));
+    /// assert_eq!(rt; units.next(), Some(0xDE00));
+    /// assert_eq!(rt; units.next(), None);
+    /// ```
     pub fn encode_wide(self) -> WideUnits<'a>
         ensures has_units { HasUnits (bytes self.entry) result }
         ensures units { result ≡ ⟦<Windows as Platform>⟧.units (bytes self.entry) }
@@ -66,7 +73,18 @@ impl<'a> OsStr<'a, Windows> {
     /// It is equivalent to `OsStrExt::encode_wide` of std on Windows, collected; of a text to
     /// `str::encode_utf16`, collected.
     ///
-    /// The units of the bytes F0 9F 98 80 ED B0 80 (hexadecimal) are D83D, DE00, DC00.
+    /// # Errors
+    ///
+    /// `AllocError` where the memory is refused.
+    ///
+    /// ```
+    /// use os_str_bytes::{OsStr, OsStrBytes, OsString, OsStringBytes, Windows};
+    ///
+    /// let raw = b"\xF0\x9F\x98\x80\xED\xB0\x80".to_vec(alloc)?;
+    /// let string = OsString::<Windows>::from_raw_vec(raw)?;
+    /// let units = string.as_os_str().to_wide(alloc)?;
+    /// assert_eq!(rt; units.as_slice(), [0xD83D, 0xDE00, 0xDC00].as_slice());
+    /// ```
     pub fn to_wide<A: Allocator>(self, alloc: A) -> Result<Vec<u16, A>, AllocError>
         ensures has_units { IfOk result (λ wide. HasUnits (bytes self.entry) wide.items) }
         ensures units { IfOk result (λ wide. ⟦<Windows as Platform>⟧.units (bytes self.entry) ≡ wide.items) }
@@ -84,7 +102,16 @@ impl<A: Allocator> OsString<Windows, A> {
     /// of the units that [`OsStr::encode_wide`] gives, the same string again. It makes one
     /// request for memory, and none for no units.
     ///
-    /// The units D83D, DE00 (hexadecimal) give the bytes F0 9F 98 80.
+    /// # Errors
+    ///
+    /// `AllocError` where the memory is refused.
+    ///
+    /// ```
+    /// use os_str_bytes::{OsStr, OsString, Windows};
+    ///
+    /// let string = OsString::<Windows>::from_wide(alloc, &[0xD83D, 0xDE00])?;
+    /// assert!(rt; string.as_os_str() == OsStr::new("\u{1F600}"));
+    /// ```
     pub fn from_wide(alloc: A, units: &[u16]) -> Result<Self, AllocError>
         ensures has_units { IfOk result (λ string. HasUnits (string_vec_of string).items units.now) }
         ensures units { IfOk result (λ string. ⟦<Windows as Platform>⟧.units (string_vec_of string).items ≡ units.now) }

@@ -1,9 +1,11 @@
 pub mod Around
 pub mod EqualOrder
 pub mod GlobFaults
+pub mod NoMatch
 pub mod OnePiece
 pub mod Outcomes
 pub mod PiecesJoined
 pub mod Places
 pub mod QuoteFaults
 pub mod SomePlace
+pub mod TrimsAgain

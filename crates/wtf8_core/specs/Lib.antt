@@ -27,4 +27,5 @@ pub mod Utf8
 pub mod Lossy
 pub mod LossyReading
 pub mod UnitsOf
+pub mod FirstForm
 pub mod PartUnits

@@ -3,6 +3,8 @@ use Rattle.std.specs.Prelude.{◌≡◌, ℕ, suc, ◌<◌, ◌≤◌, ◌⊎◌
 use Rattle.std.specs.Int.{IsInRange}
 use Rattle.wtf8_core.specs.Byte.{IsContinuation}
 use Rattle.wtf8_core.specs.Surrogate.{IsHigh}
+use Rattle.wtf8_core.specs.declared.scan.Encoding.{Encoding}
+use Rattle.wtf8_core.specs.declared.scan.Encoding.TheVariants.{Utf8}
 
 -- none of the last three bytes x, y and z leads a form that goes on behind them
 pub record IsClosed (x y z : ℕ) : Type 0 where
@@ -21,21 +23,18 @@ pub record MayFollow (z b : ℕ) : Type 0 where
   pub four_long : z ≡ 0xF0 → 0x90 ≤ b
   pub within : z ≡ 0xF4 → b < 0x90
 
--- the byte b may follow w, x, y and z: it continues where a form goes on, begins a code point elsewhere, and makes no pair of surrogates
-pub record MayStand (w x y z b : ℕ) : Type 0 where
+-- the byte b may follow w, x, y and z: it continues where a form goes on, begins a code point elsewhere, makes no pair of surrogates and, in UTF-8, begins no surrogate
+pub record MayStand (encoding : Encoding) (w x y z b : ℕ) : Type 0 where
   pub begins : IsClosed x y z → (b < 0x80) ⊎ (0xC0 ≤ b)
   pub continues : GoesOn x y z → IsContinuation b
   pub follows : MayFollow z b
   pub unpaired : w ≡ 0xED → 0xA0 ≤ x → x < 0xB0 → z ≡ 0xED → b < 0xB0
+  pub plain : encoding ≡ Utf8 → z ≡ 0xED → b < 0xA0
 
 -- each of n bytes behind the first four may follow those before it
-abbrev pub AllMayStand : ℕ → List ℕ → Type 0
-AllMayStand n bs =
-    (i : ℕ) → i < n → MayStand (slice_index bs i) (slice_index bs (suc i)) (slice_index bs (suc (suc i))) (slice_index bs (suc (suc (suc i)))) (slice_index bs (suc (suc (suc (suc i)))))
-
--- no surrogate begins among n bytes behind the first four
-abbrev pub AllPlain : ℕ → List ℕ → Type 0
-AllPlain n bs = (i : ℕ) → i < n → slice_index bs (suc (suc (suc i))) ≡ 0xED → slice_index bs (suc (suc (suc (suc i)))) < 0xA0
+abbrev pub AllMayStand : Encoding → ℕ → List ℕ → Type 0
+AllMayStand encoding n bs =
+    (i : ℕ) → i < n → MayStand encoding (slice_index bs i) (slice_index bs (suc i)) (slice_index bs (suc (suc i))) (slice_index bs (suc (suc (suc i)))) (slice_index bs (suc (suc (suc (suc i)))))
 
 -- behind the bytes x, y and z a code point begins, and the one before it, p, is a high surrogate exactly where they are its form
 pub record IsEdge (p x y z : ℕ) : Type 0 where

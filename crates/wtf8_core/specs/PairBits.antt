@@ -1,19 +1,19 @@
 -- What three small tables say of neighbouring bytes, bit by bit (Keiser and Lemire, "Validating UTF-8 in less than one instruction per byte"). Only private contracts name these.
 use Rattle.std.specs.Prelude.{ℕ, ◌-◌, ◌/◌, slice_index, bit_and, bit_or, bit_xor}
-use Rattle.wtf8_core.specs.declared.lanes.TheConstants.{FIRST_HIGH, FIRST_LOW, SECOND_HIGH}
+use Rattle.wtf8_core.specs.declared.scan.lanes.TheConstants.{FIRST_HIGH, FIRST_LOW, SECOND_HIGH}
 
 -- what is wrong with the byte b behind z
 abbrev pub pair_bits : ℕ → ℕ → ℕ
 pair_bits z b = bit_and (bit_and (slice_index FIRST_HIGH (z / 16)) (slice_index FIRST_LOW (bit_and z 15))) (slice_index SECOND_HIGH (b / 16))
 
 -- 80 where x leads four bytes, or y three or four, and else 0
-abbrev pub later_bit : ℕ → ℕ → ℕ
-later_bit x y = bit_and (bit_or (x - 0x70) (y - 0x60)) 0x80
+abbrev pub continuation_due : ℕ → ℕ → ℕ
+continuation_due x y = bit_and (bit_or (x - 0x70) (y - 0x60)) 0x80
 
 -- what is wrong with the byte b behind x, y and z
-abbrev pub wrong_bits : ℕ → ℕ → ℕ → ℕ → ℕ
-wrong_bits x y z b = bit_xor (pair_bits z b) (later_bit x y)
+abbrev pub error_bits : ℕ → ℕ → ℕ → ℕ → ℕ
+error_bits x y z b = bit_xor (pair_bits z b) (continuation_due x y)
 
 -- 0 where b begins a low surrogate behind a high one
-abbrev pub unlike_pair : ℕ → ℕ → ℕ → ℕ → ℕ
-unlike_pair w x z b = bit_or (bit_or (bit_xor w 0xED) (bit_xor z 0xED)) (bit_or (bit_xor (bit_and x 0xF0) 0xA0) (bit_xor (bit_and b 0xF0) 0xB0))
+abbrev pub surrogate_pair_difference : ℕ → ℕ → ℕ → ℕ → ℕ
+surrogate_pair_difference w x z b = bit_or (bit_or (bit_xor w 0xED) (bit_xor z 0xED)) (bit_or (bit_xor (bit_and x 0xF0) 0xA0) (bit_xor (bit_and b 0xF0) 0xB0))

@@ -8,7 +8,11 @@ ghost use Rattle.wtf8_core.specs.Byte.{IsContinuation, needed_continuations};
 /// Equivalent to `byte & 0xC0 == 0x80`: no character of a text starts at such a byte, so std's
 /// `str::is_char_boundary` is false there.
 ///
-/// `is_continuation(0xA9)` is true, `is_continuation(0xC3)` is false.
+/// ```
+/// use os_str_bytes::is_continuation;
+///
+/// assert!(rt; is_continuation(0xA9) && !is_continuation(0xC3));
+/// ```
 #[inline(always)]
 pub fn is_continuation(byte: u8) -> bool
     ensures { IsTrue result ↔ IsContinuation byte }

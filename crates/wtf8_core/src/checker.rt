@@ -6,7 +6,8 @@ ghost use Rattle.wtf8_core.specs.declared.table.State.TheVariants.{Between};
 
 use crate::byte::is_continuation;
 use crate::fault::EncodingError;
-use crate::fronts::{front_of, is_behind_high};
+use crate::scan::Encoding;
+use crate::scan::fronts::{front_of, is_behind_high};
 use crate::table::{State, class_at, next_at};
 use std::marker::Model;
 
@@ -37,7 +38,11 @@ impl Checker {
     /// A checker to which nothing was fed: what it stands for is the empty list of bytes, which is
     /// WTF-8.
     ///
-    /// `Checker::new().finish()` is `Ok(())`.
+    /// ```
+    /// use os_str_bytes::Checker;
+    ///
+    /// assert_eq!(rt; Checker::new().finish(), Ok(()));
+    /// ```
     pub fn new() -> Checker
         ensures { StandsFor result [] }
     {
@@ -55,8 +60,17 @@ impl Checker {
     /// fault yet, since the next one may go on with it: `EncodingError::End` comes from
     /// [`finish`](Checker::finish) alone. Behind an `Err` every later call answers the same one.
     ///
-    /// Fed E2 (hexadecimal) and then 82 AC a checker answers `Ok(())` twice; fed ED A0 80 and then
-    /// ED B0 80, the two halves of a pair, `Err(EncodingError::CodePoint(0xDC00))` at the second.
+    /// ```
+    /// use os_str_bytes::{Checker, EncodingError};
+    ///
+    /// let mut euro = Checker::new();
+    /// assert_eq!(rt; euro.feed(b"\xE2"), Ok(()));
+    /// assert_eq!(rt; euro.feed(b"\x82\xAC"), Ok(()));
+    ///
+    /// let mut halves = Checker::new();
+    /// assert_eq!(rt; halves.feed(b"\xED\xA0\x80"), Ok(()));
+    /// assert_eq!(rt; halves.feed(b"\xED\xB0\x80"), Err(EncodingError::CodePoint(0xDC00)));
+    /// ```
     pub fn feed(&mut self, piece: &[u8]) -> Result<(), EncodingError>
         ensures stands { (fed : List ℕ) → StandsFor self.old fed → StandsFor self.new (fed ++ piece.now) }
         ensures answer { (fed : List ℕ) → StandsFor self.old fed → MatchResult result (λ _. OnlyEnds (fed ++ piece.now)) (λ fault. IsFaulty (fed ++ piece.now) fault) }
@@ -81,7 +95,13 @@ impl Checker {
     ///
     /// It is `EncodingError::End` where they end within a sequence.
     ///
-    /// Behind E2 82 it is `Err(EncodingError::End)`; behind F0, 90 80 and 80 it is `Ok(())`.
+    /// ```
+    /// use os_str_bytes::{Checker, EncodingError};
+    ///
+    /// let mut checker = Checker::new();
+    /// assert_eq!(rt; checker.feed(b"\xE2\x82"), Ok(()));
+    /// assert_eq!(rt; checker.finish(), Err(EncodingError::End));
+    /// ```
     pub fn finish(self) -> Result<(), EncodingError>
         ensures { (fed : List ℕ) → StandsFor self fed → MatchResult result (λ _. IsWtf8 fed) (λ fault. HasFirstFault fed fault) }
     {
@@ -173,7 +193,7 @@ fn read_bytes(state: State, bits: u32, bytes: &[u8]) -> Result<(State, u32), Enc
 fn read_between(bits: u32, bytes: &[u8]) -> Result<(State, u32), EncodingError>
     ensures { (fed : List ℕ) → Stands Between bits fed → MatchResult result (λ r. Stands r.0 r.1 (fed ++ bytes.now)) (λ fault. IsFaulty (fed ++ bytes.now) fault) }
 {
-    let at = front_of(bytes, true);
+    let at = front_of(bytes, Encoding::Wtf8);
     let (_, rest) = bytes.split_at(at);
     if is_behind_high(bytes, at) {
         read_bytes(State::BehindHigh, bits, rest)

@@ -48,7 +48,15 @@ impl<'a> Model for CodePoints<'a> {
 impl<'a> CodePoints<'a> {
     /// The items of any bytes: all are `Ok` exactly where the bytes are WTF-8.
     ///
-    /// `CodePoints::new(b"\xC3\xA9")` has the one item `Ok(0xE9)`.
+    /// ```
+    /// use os_str_bytes::{CodePoints, EncodingError};
+    ///
+    /// let mut items = CodePoints::new(b"\xED\xA0\x80\xC0\xED\xB0\x80");
+    /// assert_eq!(rt; items.next(), Some(Ok(0xD800)));
+    /// assert_eq!(rt; items.next(), Some(Err(EncodingError::Byte(0xC0))));
+    /// assert_eq!(rt; items.next(), Some(Ok(0xDC00)));
+    /// assert_eq!(rt; items.next(), None);
+    /// ```
     #[inline(always)]
     pub fn new(bytes: &'a [u8]) -> CodePoints<'a>
         ensures { AreItems bytes.now result }
@@ -77,7 +85,7 @@ impl<'a> Iterator for CodePoints<'a> {
 }
 
 /// The first item of bytes that aren't empty, and the state behind it.
-#[tactic(auto, using(crate::proofs::lemmas::Reading::reading))]
+#[tactic(auto, using(crate::proofs::lemmas::reader::Reading::reading))]
 #[inline(always)]
 pub(crate) fn next_item(
     after_high: bool,
@@ -113,7 +121,7 @@ fn behind_refused(first: u8, behind: &[u8]) -> &[u8]
 }
 
 /// The bytes behind the continuations at the front, `limit` of them at most.
-#[tactic(auto, using(crate::proofs::lemmas::Reading::counting))]
+#[tactic(auto, using(crate::proofs::lemmas::reader::Reading::counting))]
 fn behind_continuations(limit: u8, bytes: &[u8]) -> &[u8]
     ensures { result.now ≡ drop (continuations limit bytes.now) bytes.now }
 {
@@ -197,7 +205,7 @@ fn first_continuation(bytes: &[u8]) -> Result<(u32, &[u8]), EncodingError>
 }
 
 /// The value with the bits of one continuation joined to it, and the bytes behind that.
-#[tactic(auto, using(crate::proofs::lemmas::Reading::reading))]
+#[tactic(auto, using(crate::proofs::lemmas::reader::Reading::reading))]
 #[inline(always)]
 fn with_one(value: u32, bytes: &[u8]) -> Result<(u32, &[u8]), EncodingError>
     requires room { value < 2 ^ 16 }
@@ -212,7 +220,7 @@ fn with_one(value: u32, bytes: &[u8]) -> Result<(u32, &[u8]), EncodingError>
 }
 
 /// The value with the bits of two continuations joined to it, and the bytes behind them.
-#[tactic(auto, using(crate::proofs::lemmas::Reading::reading))]
+#[tactic(auto, using(crate::proofs::lemmas::reader::Reading::reading))]
 #[inline(always)]
 fn with_two(value: u32, bytes: &[u8]) -> Result<(u32, &[u8]), EncodingError>
     requires room { value < 2 ^ 10 }
@@ -227,7 +235,7 @@ fn with_two(value: u32, bytes: &[u8]) -> Result<(u32, &[u8]), EncodingError>
 }
 
 /// The value with the bits of three continuations joined to it, and the bytes behind them.
-#[tactic(auto, using(crate::proofs::lemmas::Reading::reading))]
+#[tactic(auto, using(crate::proofs::lemmas::reader::Reading::reading))]
 #[inline(always)]
 fn with_three(value: u32, bytes: &[u8]) -> Result<(u32, &[u8]), EncodingError>
     requires room { value < 2 ^ 4 }

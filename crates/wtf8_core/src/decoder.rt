@@ -1,10 +1,11 @@
 //! The bytes of units.
 ghost use Rattle.std.specs.Prelude.{◌≡◌, ◌∷◌, ◌<◌, ◌^◌, [], ℕ, IfSome, MatchOption};
 ghost use Rattle.std.specs.Iterator.{YieldsFirst, item_count};
-ghost use Rattle.wtf8_core.specs.CodePoint.{IsCodePoint, form};
+ghost use Rattle.wtf8_core.specs.CodePoint.{IsCodePoint};
 ghost use Rattle.wtf8_core.specs.Wtf8.{HasUnits};
-ghost use Rattle.wtf8_core.specs.Decoder.{code_points_of, packed_bytes, decoder_bytes};
+ghost use Rattle.wtf8_core.specs.Decoder.{code_points_of, decoder_bytes};
 
+use crate::forms::split_form;
 use crate::surrogate::{is_pair, paired};
 use std::marker::Model;
 
@@ -41,7 +42,14 @@ impl<'a> Model for DecodeWide<'a> {
 impl<'a> DecodeWide<'a> {
     /// The bytes of any units.
     ///
-    /// `DecodeWide::new(&[0xE9])` gives C3 and A9.
+    /// ```
+    /// use os_str_bytes::DecodeWide;
+    ///
+    /// let mut bytes = DecodeWide::new(&[0xE9]);
+    /// assert_eq!(rt; bytes.next(), Some(0xC3));
+    /// assert_eq!(rt; bytes.next(), Some(0xA9));
+    /// assert_eq!(rt; bytes.next(), None);
+    /// ```
     #[inline(always)]
     pub fn new(units: &'a [u16]) -> DecodeWide<'a>
         ensures { HasUnits result units.now }
@@ -67,29 +75,6 @@ fn first_code_point(units: &[u16]) -> Option<(u32, &[u16])>
         }
     }
     Some((u32::from(*first), rest))
-}
-
-/// The first byte of a form, and those behind it in one number, the first of them lowest.
-#[tactic(auto, unfolding(crate::specs::CodePoint::form))]
-#[inline(always)]
-fn split_form(code_point: u32) -> (u8, u32)
-    requires { IsCodePoint code_point }
-    ensures form { form code_point ≡ result.0 ∷ packed_bytes 3 result.1 }
-    ensures few { result.1 < 2 ^ 24 }
-{
-    let last = 0x80 + code_point % 0x40;
-    if code_point < 0x80 {
-        return (code_point as u8, 0);
-    }
-    if code_point < 0x800 {
-        return ((0xC0 + code_point / 0x40) as u8, last);
-    }
-    let last_two = 0x80 + code_point / 0x40 % 0x40 + last * 0x100;
-    if code_point < 0x1_0000 {
-        return ((0xE0 + code_point / 0x1000) as u8, last_two);
-    }
-    let last_three = 0x80 + code_point / 0x1000 % 0x40 + last_two * 0x100;
-    ((0xF0 + code_point / 0x4_0000) as u8, last_three)
 }
 
 /// The first byte of units, the others of its form in one number, and the units behind it.

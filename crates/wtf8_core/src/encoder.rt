@@ -44,8 +44,15 @@ impl<'a> Model for EncodeWide<'a> {
 /// They are the units that `std::os::windows::ffi::OsStrExt::encode_wide` gives of the string
 /// with these bytes; of UTF-8, those of `str::encode_utf16`.
 ///
-/// The items of F0 90 80 80 C0 41 are `Ok(0xD800)`, `Ok(0xDC00)`,
-/// `Err(EncodingError::Byte(0xC0))`, `Ok(0x41)`.
+/// ```
+/// use os_str_bytes::{EncodingError, encode_wide};
+///
+/// let mut units = encode_wide(b"\xF0\x90\x80\x80\xC0A");
+/// assert_eq!(rt; units.next(), Some(Ok(0xD800)));
+/// assert_eq!(rt; units.next(), Some(Ok(0xDC00)));
+/// assert_eq!(rt; units.next(), Some(Err(EncodingError::Byte(0xC0))));
+/// assert_eq!(rt; units.next(), Some(Ok(0x41)));
+/// ```
 #[inline(always)]
 pub fn encode_wide<'a>(bytes: &'a [u8]) -> EncodeWide<'a>
     ensures { AreUnitItems bytes.now result }

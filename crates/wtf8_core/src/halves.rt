@@ -17,6 +17,13 @@ use crate::surrogate::{is_high, is_low, paired};
 /// A half of a pair counts: the string of the units D83D, DE00 (hexadecimal; the bytes
 /// F0 9F 98 80) starts with that of D83D (ED A0 BD), although its bytes don't. It is the test
 /// of std's `str::starts_with`, by units (RFC 2781) in the place of characters.
+///
+/// ```
+/// use os_str_bytes::starts_with;
+///
+/// // The units D83D and DE00, and D83D alone.
+/// assert!(rt; starts_with(b"\xF0\x9F\x98\x80", b"\xED\xA0\xBD"));
+/// ```
 pub fn starts_with(string: &[u8], front: &[u8]) -> bool
     requires string { IsWtf8 string.now }
     requires front { IsWtf8 front.now }
@@ -37,6 +44,13 @@ pub fn starts_with(string: &[u8], front: &[u8]) -> bool
 /// A half of a pair counts: the string of the units D83D, DE00 (hexadecimal; the bytes
 /// F0 9F 98 80) ends with that of DE00 (ED B8 80), although its bytes don't. It is the test of
 /// std's `str::ends_with`, by units (RFC 2781) in the place of characters.
+///
+/// ```
+/// use os_str_bytes::ends_with;
+///
+/// // The units D83D and DE00, and DE00 alone.
+/// assert!(rt; ends_with(b"\xF0\x9F\x98\x80", b"\xED\xB8\x80"));
+/// ```
 pub fn ends_with(string: &[u8], end: &[u8]) -> bool
     requires string { IsWtf8 string.now }
     requires end { IsWtf8 end.now }
@@ -55,7 +69,12 @@ pub fn ends_with(string: &[u8], end: &[u8]) -> bool
 /// the first ends with a high surrogate and the second begins with a low one (own call; WTF-8:
 /// concatenation). The strings may be any bytes. It takes no memory.
 ///
-/// Of ED A0 BD and ED B8 80 (hexadecimal) it is 1F600; of ED A0 BD and F0 9F 98 80 `None`.
+/// ```
+/// use os_str_bytes::pair_between;
+///
+/// assert_eq!(rt; pair_between(b"a\xED\xA0\xBD", b"\xED\xB8\x80"), Some(0x1F600));
+/// assert_eq!(rt; pair_between(b"a", b"\xED\xB8\x80"), None);
+/// ```
 #[tactic(auto, using(std::proofs::lemmas::Bool::Decides::nat_tests))]
 pub fn pair_between(string: &[u8], more: &[u8]) -> Option<u32>
     ensures { MatchOption result ((c : ℕ) → ¬ (IsPairBetween string.now more.now c)) (λ c. IsPairBetween string.now more.now c) }

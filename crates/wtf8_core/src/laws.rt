@@ -5,11 +5,13 @@
 //! places, which are numbers of bytes.
 ghost use Rattle.std.specs.Prelude.{◌≡◌, ◌↔◌, ◌⊎◌, ◌+◌, ◌-◌, ◌<◌, ◌≤◌, ◌^◌, ◌++◌, length, take, drop, map, ℕ, List, Option, Result, IsTrue};
 ghost use Rattle.std.specs.List.{All};
+ghost use Rattle.std.specs.Char.{encode_utf8};
 ghost use Rattle.std.specs.Ordering.{nat_cmp};
 ghost use Rattle.std.specs.Cmp.Lexicographic.{slice_cmp};
 ghost use Rattle.std.specs.Str.{IsUtf8, IsCharBoundary};
 ghost use Rattle.std.specs.Str.Lossy.{utf8_lossy};
 ghost use Rattle.wtf8_core.specs.Byte.{IsByte};
+ghost use Rattle.wtf8_core.specs.CodePoint.{form};
 ghost use Rattle.wtf8_core.specs.Wtf8.{Spells, IsWtf8, HasUnits};
 ghost use Rattle.wtf8_core.specs.Fault.{IsFirstFault, IsFaultAt};
 ghost use Rattle.wtf8_core.specs.Checker.{IsFaulty};
@@ -48,7 +50,7 @@ pub fn one_fault_place()
 
 /// A fault that isn't that the bytes end is the same whatever bytes come next. So a
 /// [`Checker`] that answered a fault answers it for ever.
-#[tactic(auto, using(crate::proofs::lemmas::Fed::extends))]
+#[tactic(auto, using(crate::proofs::lemmas::table::Pieces::extends))]
 pub fn fault_stays()
     ensures { (bytes : List ℕ) → (more : List ℕ) → (f : EncodingError) → IsFaulty bytes f → IsFaulty (bytes ++ more) f }
 {}
@@ -116,6 +118,12 @@ pub fn lossy_reading()
 pub fn one_utf8_fault()
     ensures { (bytes : List ℕ) → (n : ℕ) → (m : ℕ) → (l : Option ℕ) → (k : Option ℕ)
         → IsUtf8Fault bytes n l → IsUtf8Fault bytes m k → (n ≡ m) × (l ≡ k) }
+{}
+
+/// The form of a code point is what std's `char::encode_utf8` writes (RFC 3629, section 3).
+#[tactic(auto, using(crate::proofs::lemmas::FormsByStd::form_encode))]
+pub fn forms()
+    ensures { (c : ℕ) → form c ≡ encode_utf8 c }
 {}
 
 /// A whole character has one to four bytes and lies within its string. Whole characters don't

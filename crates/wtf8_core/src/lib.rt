@@ -16,7 +16,6 @@
 //! WTF-8 encoding for surrogates. All lengths and places are numbers of bytes.
 #![tactic(auto)]
 
-mod blocks;
 mod byte;
 mod character;
 mod checker;
@@ -24,10 +23,10 @@ mod code_points;
 mod decoder;
 mod encoder;
 mod fault;
-mod fronts;
+mod forms;
 mod halves;
-mod lanes;
 pub mod laws;
+mod scan;
 mod surrogate;
 mod table;
 mod utf8;
@@ -40,6 +39,8 @@ pub use code_points::CodePoints;
 pub use decoder::DecodeWide;
 pub use encoder::{EncodeWide, encode_wide};
 pub use fault::EncodingError;
+pub use forms::{first_form, write_form};
 pub use halves::{ends_with, pair_between, starts_with};
+pub use surrogate::{first_pair, pair_units};
 pub use utf8::utf8_fault;
 pub use wtf8::wtf8_fault;

@@ -1,5 +1,6 @@
 //! Surrogates, as code points and as units, and their pairs.
-ghost use Rattle.std.specs.Prelude.{◌≡◌, ◌≤◌, true};
+ghost use Rattle.std.specs.Prelude.{◌≡◌, ◌≤◌, true, MatchOption};
+ghost use Rattle.wtf8_core.specs.FirstForm.{BeginsPair, BeginsNoPair};
 ghost use Rattle.wtf8_core.specs.CodePoint.{IsCodePoint};
 ghost use Rattle.wtf8_core.specs.Surrogate.{is_high, is_low, is_surrogate, is_pair, high_unit, low_unit, paired};
 
@@ -36,9 +37,15 @@ pub(crate) fn is_pair(high: u16, low: u16) -> bool
 }
 
 /// The units of a code point past FFFF (hexadecimal), the high one and the low one (RFC 2781,
-/// section 2.1).
+/// section 2.1; own call).
+///
+/// They are the two units of `char::encode_utf16`.
+///
+/// ```
+/// assert_eq!(rt; wtf8_core::pair_units(0x1F600), (0xD83D, 0xDE00));
+/// ```
 #[inline(always)]
-pub(crate) fn pair_units(code_point: u32) -> (u16, u16)
+pub fn pair_units(code_point: u32) -> (u16, u16)
     requires past { 0x1_0000 ≤ code_point }
     requires code_point { IsCodePoint code_point }
     ensures high { result.0 ≡ high_unit code_point }
@@ -58,4 +65,26 @@ pub(crate) fn paired(high: u16, low: u16) -> u32
     ensures code_point { IsCodePoint result }
 {
     0x1_0000 + u32::from(high - 0xD800) * 0x400 + u32::from(low - 0xDC00)
+}
+
+/// The code point of the pair with which units begin, and the units after the pair; `None` where
+/// they begin with no pair (RFC 2781, section 2.2; own call).
+///
+/// ```
+/// let first = wtf8_core::first_pair(&[0xD83D, 0xDE00, 0x41]);
+/// assert!(rt; matches!(first, Some((0x1F600, [0x41]))));
+/// assert!(rt; wtf8_core::first_pair(&[0xDE00, 0xD83D]).is_none());
+/// ```
+#[tactic(auto, using(std::proofs::lemmas::Bool::Decides::nat_tests))]
+#[inline(always)]
+pub fn first_pair(units: &[u16]) -> Option<(u32, &[u16])>
+    ensures { MatchOption result (BeginsNoPair units.now) (λ first. BeginsPair units.now first.0 first.1.now) }
+{
+    let [high, low, rest @ ..] = units else {
+        return None;
+    };
+    if !is_pair(*high, *low) {
+        return None;
+    }
+    Some((paired(*high, *low), rest))
 }

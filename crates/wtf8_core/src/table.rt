@@ -122,69 +122,85 @@ static CLASSES: [Class; 256] = [
     LeadF5,
 ];
 
-/// The state behind a byte, by the state before it and by the byte's class; the last column is
-/// no class's, and makes a row 16 long.
+/// The state behind a byte, by the state before it, which stands above its row, and by the byte's
+/// class, in the order of [`Class`]; the last column is no class's, and makes a row 16 long.
 static NEXT: [[State; 16]; 16] = [
+    // Between
     [
         Between, Refused, Refused, Refused, Refused, Refused, OneMore, BehindE0, TwoMore, BehindEd,
         TwoMore, BehindF0, BehindF1, BehindF4, BehindF5, Refused,
     ],
+    // BehindHigh
     [
         Between, Refused, Refused, Refused, Refused, Refused, OneMore, BehindE0, TwoMore,
         HighThenEd, TwoMore, BehindF0, BehindF1, BehindF4, BehindF5, Refused,
     ],
+    // OneMore
     [
         Refused, Between, Between, Between, Between, Refused, Refused, Refused, Refused, Refused,
         Refused, Refused, Refused, Refused, Refused, Refused,
     ],
+    // TwoMore
     [
         Refused, OneMore, OneMore, OneMore, OneMore, Refused, Refused, Refused, Refused, Refused,
         Refused, Refused, Refused, Refused, Refused, Refused,
     ],
+    // BehindE0
     [
         Refused, BadThird, BadThird, OneMore, OneMore, Refused, Refused, Refused, Refused, Refused,
         Refused, Refused, Refused, Refused, Refused, Refused,
     ],
+    // BehindEd
     [
         Refused, OneMore, OneMore, LastOfHigh, OneMore, Refused, Refused, Refused, Refused,
         Refused, Refused, Refused, Refused, Refused, Refused, Refused,
     ],
+    // HighThenEd
     [
         Refused, OneMore, OneMore, LastOfHigh, BadThird, Refused, Refused, Refused, Refused,
         Refused, Refused, Refused, Refused, Refused, Refused, Refused,
     ],
+    // LastOfHigh
     [
         Refused, BehindHigh, BehindHigh, BehindHigh, BehindHigh, Refused, Refused, Refused,
         Refused, Refused, Refused, Refused, Refused, Refused, Refused, Refused,
     ],
+    // BehindF0
     [
         Refused, BadLastTwo, TwoMore, TwoMore, TwoMore, Refused, Refused, Refused, Refused,
         Refused, Refused, Refused, Refused, Refused, Refused, Refused,
     ],
+    // BehindF1
     [
         Refused, TwoMore, TwoMore, TwoMore, TwoMore, Refused, Refused, Refused, Refused, Refused,
         Refused, Refused, Refused, Refused, Refused, Refused,
     ],
+    // BehindF4
     [
         Refused, TwoMore, BadLastTwo, BadLastTwo, BadLastTwo, Refused, Refused, Refused, Refused,
         Refused, Refused, Refused, Refused, Refused, Refused, Refused,
     ],
+    // BehindF5
     [
         Refused, BadLastTwo, BadLastTwo, BadLastTwo, BadLastTwo, Refused, Refused, Refused,
         Refused, Refused, Refused, Refused, Refused, Refused, Refused, Refused,
     ],
+    // BadLastTwo
     [
         Refused, BadFourth, BadFourth, BadFourth, BadFourth, Refused, Refused, Refused, Refused,
         Refused, Refused, Refused, Refused, Refused, Refused, Refused,
     ],
+    // BadFourth
     [
         Refused, Refused, Refused, Refused, Refused, Refused, Refused, Refused, Refused, Refused,
         Refused, Refused, Refused, Refused, Refused, Refused,
     ],
+    // Refused
     [
         Refused, Refused, Refused, Refused, Refused, Refused, Refused, Refused, Refused, Refused,
         Refused, Refused, Refused, Refused, Refused, Refused,
     ],
+    // BadThird
     [
         Refused, Refused, Refused, Refused, Refused, Refused, Refused, Refused, Refused, Refused,
         Refused, Refused, Refused, Refused, Refused, Refused,

@@ -1,14 +1,14 @@
 //! The first fault of bytes that aren't UTF-8.
-ghost use Rattle.std.specs.Prelude.{◌≡◌, ◌≤◌, false, MatchOption, MatchResult, IfSome, IfOk, Some, length, take};
-ghost use Rattle.std.specs.Int.{is_in_range};
+ghost use Rattle.std.specs.Prelude.{◌≡◌, ◌≤◌, MatchOption, MatchResult, IfOk, Some, length, take};
 ghost use Rattle.std.specs.Str.{IsUtf8};
-ghost use Rattle.std.specs.Str.Lossy.{second_byte_min, second_byte_max};
 ghost use Rattle.wtf8_core.specs.SpelledFront.{KeepsPattern};
-ghost use Rattle.wtf8_core.specs.Utf8.{IsUtf8Fault, IsAtFront};
+ghost use Rattle.wtf8_core.specs.declared.scan.Encoding.TheVariants.{Utf8};
+ghost use Rattle.wtf8_core.specs.Utf8.{IsUtf8Fault};
 
-use crate::byte::is_continuation;
-use crate::fronts::{front_from, near_front};
-use crate::lanes::{ascii_before, ascii_of_16, load};
+use crate::character::char_or_fault_at_front;
+use crate::scan::fronts::{scan_from, scan_steps};
+use crate::scan::lanes::{ascii_before, ascii_of_16, load};
+use crate::scan::{BLOCK, Encoding, STEP};
 
 /// The first fault of bytes that aren't UTF-8, `None` for UTF-8 (RFC 3629, section 4).
 ///
@@ -21,26 +21,31 @@ use crate::lanes::{ascii_before, ascii_of_16, load};
 /// within a character and might go on. That part is the longest front of the rest with which
 /// some character begins, and one byte where there is none.
 ///
-/// `utf8_fault(b"a\xE2\x82A")` is `Some((1, Some(2)))`, `utf8_fault(b"a\xE2\x82")` is
-/// `Some((1, None))`.
-///
 /// It goes over most of a long text by vectors.
+///
+/// ```
+/// use os_str_bytes::utf8_fault;
+///
+/// assert_eq!(rt; utf8_fault(b"a\xE2\x82A"), Some((1, Some(2))));
+/// assert_eq!(rt; utf8_fault(b"a\xE2\x82"), Some((1, None)));
+/// assert_eq!(rt; utf8_fault(b"\xC3\xA9"), None);
+/// ```
 #[inline(always)]
 pub fn utf8_fault(bytes: &[u8]) -> Option<(usize, Option<u8>)>
     ensures { MatchOption result (IsUtf8 bytes.now) (λ fault. IsUtf8Fault bytes.now fault.0 fault.1) }
 {
-    if bytes.len() < 16 {
-        return fault_from(bytes, 0);
+    if bytes.len() < STEP {
+        return fault_by_characters(bytes, 0);
     }
     let ascii = ascii_len(bytes);
-    if ascii == 64 {
-        return fault_behind(bytes, ascii);
+    if ascii == BLOCK {
+        return fault_by_blocks(bytes, ascii);
     }
-    if ascii >= 16 && bytes.len() < 64 {
-        return last_fault(bytes, ascii);
+    if ascii >= STEP && bytes.len() < BLOCK {
+        return fault_in_rest(bytes, ascii);
     }
-    match few_characters(bytes, ascii) {
-        Ok(at) => fault_near(bytes, at),
+    match after_three_characters(bytes, ascii) {
+        Ok(at) => fault_by_steps(bytes, at),
         Err(fault) => Some(fault),
     }
 }
@@ -54,10 +59,10 @@ fn ascii_len(bytes: &[u8]) -> usize
     ensures text { IsUtf8 (take result bytes.now) }
 {
     let near = ascii_of_16(bytes);
-    if near < 16 {
+    if near < STEP {
         near
-    } else if bytes.len() < 64 {
-        16
+    } else if bytes.len() < BLOCK {
+        STEP
     } else {
         ascii_before(load(bytes, 0))
     }
@@ -66,7 +71,7 @@ fn ascii_len(bytes: &[u8]) -> usize
 /// Where up to three characters behind a text end, or the fault among them. Where faults stand
 /// close together, a loop over them mostly needs nothing more.
 #[inline(always)]
-fn few_characters(bytes: &[u8], from: usize) -> Result<usize, (usize, Option<u8>)>
+fn after_three_characters(bytes: &[u8], from: usize) -> Result<usize, (usize, Option<u8>)>
     requires within { from ≤ length bytes.now }
     requires text { IsUtf8 (take from bytes.now) }
     ensures within { IfOk result (λ at. at ≤ length bytes.now) }
@@ -74,7 +79,7 @@ fn few_characters(bytes: &[u8], from: usize) -> Result<usize, (usize, Option<u8>
 {
     let (_, mut rest) = bytes.split_at(from);
     for _ in 0..3 {
-        match first_of(rest) {
+        match char_or_fault_at_front(rest) {
             Some(Ok(len)) => {
                 let (_, behind) = rest.split_at(len);
                 rest = behind;
@@ -86,115 +91,48 @@ fn few_characters(bytes: &[u8], from: usize) -> Result<usize, (usize, Option<u8>
     Ok(bytes.len() - rest.len())
 }
 
-/// How many bytes the character at the front has, or the maximal ill-formed part there, by the
-/// first four bytes; `None` where there are fewer.
-#[inline(always)]
-pub(crate) fn first_of(bytes: &[u8]) -> Option<Result<usize, u8>>
-    ensures { IfSome result (IsAtFront bytes.now) }
-{
-    let [first, second, third, fourth, ..] = bytes else {
-        return None;
-    };
-    if *first < 0x80 {
-        return Some(Ok(1));
-    }
-    if !is_lead(*first) {
-        return Some(Err(1));
-    }
-    if *first < 0xE0 {
-        return if is_continuation(*second) {
-            Some(Ok(2))
-        } else {
-            Some(Err(1))
-        };
-    }
-    if !is_second(*first, *second) {
-        return Some(Err(1));
-    }
-    if !is_continuation(*third) {
-        return Some(Err(2));
-    }
-    if *first < 0xF0 {
-        return Some(Ok(3));
-    }
-    if is_continuation(*fourth) {
-        Some(Ok(4))
-    } else {
-        Some(Err(3))
-    }
-}
-
-/// Whether a byte begins characters of two to four bytes.
-#[inline(always)]
-fn is_lead(byte: u8) -> bool
-    ensures { result ≡ is_in_range 0xC2 0xF4 byte }
-{
-    (0xC2..=0xF4).contains(&byte)
-}
-
-/// Whether a byte stands behind such a lead in some character (the table of RFC 3629, section 4).
-/// By leads of three bytes and of four apart, it stays comparisons, and becomes no table of jumps.
-#[inline(always)]
-fn is_second(lead: u8, byte: u8) -> bool
-    ensures { result ≡ is_in_range (second_byte_min lead) (second_byte_max lead) byte }
-{
-    if lead < 0xF0 {
-        match lead {
-            0xE0 => (0xA0..=0xBF).contains(&byte),
-            0xED => (0x80..=0x9F).contains(&byte),
-            _ => is_continuation(byte),
-        }
-    } else {
-        match lead {
-            0xF0 => (0x90..=0xBF).contains(&byte),
-            0xF4 => (0x80..=0x8F).contains(&byte),
-            _ => is_continuation(byte),
-        }
-    }
-}
-
 /// The first fault of bytes whose first `at` are UTF-8, which isn't far in most of them.
 #[inline(always)]
-fn fault_near(bytes: &[u8], at: usize) -> Option<(usize, Option<u8>)>
+fn fault_by_steps(bytes: &[u8], at: usize) -> Option<(usize, Option<u8>)>
     requires within { at ≤ length bytes.now }
     requires text { IsUtf8 (take at bytes.now) }
     ensures { MatchOption result (IsUtf8 bytes.now) (λ fault. IsUtf8Fault bytes.now fault.0 fault.1) }
 {
-    if bytes.len() - at < 16 {
-        return last_fault(bytes, at);
+    if bytes.len() - at < STEP {
+        return fault_in_rest(bytes, at);
     }
-    match near_front(bytes, at) {
-        Ok(end) => fault_behind(bytes, end),
-        Err(front) => fault_from(bytes, front),
+    match scan_steps(bytes, at) {
+        Ok(end) => fault_by_blocks(bytes, end),
+        Err(front) => fault_by_characters(bytes, front),
     }
 }
 
 /// The first fault of bytes that keep to the pattern of UTF-8 up to a place.
-fn fault_behind(bytes: &[u8], at: usize) -> Option<(usize, Option<u8>)>
+fn fault_by_blocks(bytes: &[u8], at: usize) -> Option<(usize, Option<u8>)>
     requires within { at ≤ length bytes.now }
-    requires kept { KeepsPattern false bytes.now at }
+    requires kept { KeepsPattern Utf8 bytes.now at }
     ensures { MatchOption result (IsUtf8 bytes.now) (λ fault. IsUtf8Fault bytes.now fault.0 fault.1) }
 {
-    fault_from(bytes, front_from(bytes, at, false))
+    fault_by_characters(bytes, scan_from(bytes, at, Encoding::Utf8))
 }
 
 /// The first fault of bytes whose first `at` are UTF-8, where it or the end is a few characters
 /// behind.
 #[inline(always)]
-fn fault_from(bytes: &[u8], at: usize) -> Option<(usize, Option<u8>)>
+fn fault_by_characters(bytes: &[u8], at: usize) -> Option<(usize, Option<u8>)>
     requires within { at ≤ length bytes.now }
     requires text { IsUtf8 (take at bytes.now) }
     ensures { MatchOption result (IsUtf8 bytes.now) (λ fault. IsUtf8Fault bytes.now fault.0 fault.1) }
 {
-    match few_characters(bytes, at) {
-        Ok(at) => last_fault(bytes, at),
+    match after_three_characters(bytes, at) {
+        Ok(at) => fault_in_rest(bytes, at),
         Err(fault) => Some(fault),
     }
 }
 
 /// The same by std's reader, which reads on to the fault or the end.
 #[inline(always)]
-fn last_fault(bytes: &[u8], at: usize) -> Option<(usize, Option<u8>)>
+fn fault_in_rest(bytes: &[u8], at: usize) -> Option<(usize, Option<u8>)>
     requires within { at ≤ length bytes.now }
     requires text { IsUtf8 (take at bytes.now) }
     ensures { MatchOption result (IsUtf8 bytes.now) (λ fault. IsUtf8Fault bytes.now fault.0 fault.1) }

@@ -5,7 +5,8 @@ ghost use Rattle.wtf8_core.specs.Fault.{IsFaultAt};
 ghost use Rattle.wtf8_core.specs.SpelledFront.{IsReadUpTo};
 
 use crate::code_points::next_item;
-use crate::fronts::{front_of, is_behind_high};
+use crate::scan::Encoding;
+use crate::scan::fronts::{front_of, is_behind_high};
 
 /// The place of the first fault of bytes that aren't WTF-8, and how many bytes are refused there,
 /// `None` for WTF-8 (own call).
@@ -16,10 +17,15 @@ use crate::fronts::{front_of, is_behind_high};
 /// lead with all its continuations where their value is refused. Behind that part the items of
 /// `CodePoints` go on. So it is for WTF-8 what [`utf8_fault`](crate::utf8_fault) is for UTF-8.
 ///
-/// `wtf8_fault(b"a\xE2\x82A")` is `Some((1, 2))`; of ED A0 80 ED B0 80 (hexadecimal), the two
-/// halves of a pair, it is `Some((3, 3))`.
-///
 /// It goes over most of long bytes by vectors, and takes no memory.
+///
+/// ```
+/// use os_str_bytes::wtf8_fault;
+///
+/// assert_eq!(rt; wtf8_fault(b"a\xE2\x82A"), Some((1, 2)));
+/// assert_eq!(rt; wtf8_fault(b"\xED\xA0\x80\xED\xB0\x80"), Some((3, 3)));
+/// assert_eq!(rt; wtf8_fault(b"\xED\xA0\x80"), None);
+/// ```
 pub fn wtf8_fault(bytes: &[u8]) -> Option<(usize, usize)>
     ensures { MatchOption result (IsWtf8 bytes.now) (λ fault. IsFaultAt bytes.now fault.0 fault.1) }
 {
@@ -35,7 +41,7 @@ pub fn wtf8_fault(bytes: &[u8]) -> Option<(usize, usize)>
             Err(_) => return Some((bytes.len() - rest.len(), rest.len() - behind.len())),
         }
     }
-    let front = front_of(bytes, true);
+    let front = front_of(bytes, Encoding::Wtf8);
     let (_, rest) = bytes.split_at(front);
     fault_behind(bytes, is_behind_high(bytes, front), rest)
 }

@@ -1,5 +1,5 @@
 -- Escapes, and the strings that they are of.
-use Rattle.std.proofs.Common.{◌≡◌, ⊎_elim, inl, inr, ℕ, ◌<◌, ◌^◌, List, [], ◌∷◌, ◌++◌, map, length, refl, sym, ap, ◌∙◌, arith, append_assoc, append-nil, length-append}
+use Rattle.std.proofs.Common.{◌≡◌, ⊎_elim, inl, inr, ℕ, ◌<◌, ◌^◌, Bool, List, [], ◌∷◌, ◌++◌, map, length, refl, sym, ap, ◌∙◌, arith, append_assoc, append-nil, length-append}
 use Rattle.std.specs.List.{AllByRecursion, flat_map}
 use Rattle.std.specs.Str.{IsUtf8}
 use Rattle.std.proofs.lemmas.Bool.{lt-ltb, le-ltb, cases_lt}
@@ -13,10 +13,10 @@ use Rattle.wtf8_core.proofs.lemmas.Forms.{form_bounds}
 use Rattle.platform_str.specs.PartLaws.{PartLaws}
 use Rattle.os_str_ext.specs.Chunks.{chunks_of}
 use Rattle.os_quote.specs.Item.{Item, backslash, item_texts, IsItem, unit_item}
-use Rattle.os_quote.specs.Escape.{chunk_items, items_of, IsEscape, IsBadEscape}
-use Rattle.os_quote.specs.Reading.{item_bytes, HasNoBackslash}
+use Rattle.os_quote.specs.Escape.{chunk_items, items_of, IsEscapeBy, IsBadEscapeBy}
+use Rattle.os_quote.specs.Reading.{item_bytes}
 use Rattle.os_quote.proofs.lemmas.Items.{same_items}
-use Rattle.os_quote.proofs.lemmas.Texts.{text_items, text_is_items, own_text}
+use Rattle.os_quote.proofs.lemmas.Texts.{text_items, text_escape, text_is_items}
 use Rattle.os_str_ext.specs.Chunks.{IsChunkOf}
 use Rattle.os_quote.proofs.lemmas.Chunks.{own_chunks, text_chunks}
 
@@ -24,19 +24,19 @@ pub bytes_of-append : (xs ys : List Item) → flat_map item_bytes (xs ++ ys) ≡
 bytes_of-append [] ys = refl
 bytes_of-append (x ∷ xs) ys = ap (λ l. item_bytes x ++ l) (bytes_of-append xs ys) ∙ sym (append_assoc (item_bytes x) (flat_map item_bytes xs) (flat_map item_bytes ys))
 
-pub all-append : (xs ys : List Item) → AllByRecursion IsItem xs → AllByRecursion IsItem ys → AllByRecursion IsItem (xs ++ ys)
-all-append [] ys a b = b
-all-append (x ∷ xs) ys a b = (a.0, all-append xs ys a.1 b)
+pub all-append : (shows : ℕ → Bool) (xs ys : List Item) → AllByRecursion (IsItem shows) xs → AllByRecursion (IsItem shows) ys → AllByRecursion (IsItem shows) (xs ++ ys)
+all-append shows [] ys a b = b
+all-append shows (x ∷ xs) ys a b = (a.0, all-append shows xs ys a.1 b)
 
 -- the items of units
-unit_is_item : (u : ℕ) → u < 2 ^ 16 → IsItem (unit_item u) × (item_bytes (unit_item u) ≡ unit_bytes u)
-unit_is_item u h = ⊎_elim (λ l. rw (lt-ltb u 0x100 l) (l, refl)) (λ l. rw (le-ltb u 0x100 l) (h, refl)) (cases_lt u 0x100)
+unit_is_item : (shows : ℕ → Bool) (u : ℕ) → u < 2 ^ 16 → IsItem shows (unit_item u) × (item_bytes (unit_item u) ≡ unit_bytes u)
+unit_is_item shows u h = ⊎_elim (λ l. rw (lt-ltb u 0x100 l) (l, refl)) (λ l. rw (le-ltb u 0x100 l) (h, refl)) (cases_lt u 0x100)
 
-units_are_items : (us : List ℕ) → AllByRecursion (λ u. u < 2 ^ 16) us → AllByRecursion IsItem (map unit_item us) × (flat_map item_bytes (map unit_item us) ≡ flat_map unit_bytes us)
-units_are_items [] a = (tt, refl)
-units_are_items (u ∷ us) a =
-    let i = unit_is_item u a.0 in
-    let r = units_are_items us a.1 in
+units_are_items : (shows : ℕ → Bool) (us : List ℕ) → AllByRecursion (λ u. u < 2 ^ 16) us → AllByRecursion (IsItem shows) (map unit_item us) × (flat_map item_bytes (map unit_item us) ≡ flat_map unit_bytes us)
+units_are_items shows [] a = (tt, refl)
+units_are_items shows (u ∷ us) a =
+    let i = unit_is_item shows u a.0 in
+    let r = units_are_items shows us a.1 in
     ((i.0, r.0), ap (λ x. x ++ flat_map item_bytes (map unit_item us)) i.1 ∙ ap (λ x. unit_bytes u ++ x) r.1)
 
 some_unit_bytes : (u : ℕ) → 0 < length (unit_bytes u)
@@ -46,72 +46,73 @@ no_units : (us : List ℕ) → [] ≡ flat_map unit_bytes us → us ≡ []
 no_units [] e = refl
 no_units (u ∷ us) e = absurd (let l = ap length e in omega (arith, length-append (unit_bytes u) (flat_map unit_bytes us), some_unit_bytes u))
 
-module _ (well_formed : List ℕ → Type 0) (units : List ℕ → List ℕ) (part_units : List ℕ → Type 0) (parts : PartLaws well_formed units part_units) where
+module _ (shows : ℕ → Bool) (well_formed : List ℕ → Type 0) (units : List ℕ → List ℕ) (part_units : List ℕ → Type 0) (parts : PartLaws well_formed units part_units) where
   -- the items of chunks stand for the chunks' bytes
-  chunk_is_items : (c : Chunk) → IsChunkOf well_formed c → AllByRecursion IsItem (chunk_items units c) × (flat_map item_bytes (chunk_items units c) ≡ c.0 ++ c.1)
+  chunk_is_items : (c : Chunk) → IsChunkOf well_formed c → AllByRecursion (IsItem shows) (chunk_items shows units c) × (flat_map item_bytes (chunk_items shows units c) ≡ c.0 ++ c.1)
   chunk_is_items c h =
-      let u = units_are_items (units c.0) (recursion_from_All (λ v. v < 2 ^ 16) (units c.0) (parts.are_wide c.0 h.formed h.bare)) in
-      let t = text_is_items c.1 h.text in (
-        all-append (map unit_item (units c.0)) (text_items c.1) u.0 t.0,
-        bytes_of-append (map unit_item (units c.0)) (text_items c.1) ∙ ap (λ x. x ++ flat_map item_bytes (text_items c.1)) (u.1 ∙ sym (parts.spelled c.0 h.formed h.bare)) ∙ ap (λ x. c.0 ++ x) t.1,
+      let u = units_are_items shows (units c.0) (recursion_from_All (λ v. v < 2 ^ 16) (units c.0) (parts.are_wide c.0 h.formed h.bare)) in
+      let t = text_is_items shows c.1 h.text in (
+        all-append shows (map unit_item (units c.0)) (text_items shows c.1) u.0 t.0,
+        bytes_of-append (map unit_item (units c.0)) (text_items shows c.1) ∙ ap (λ x. x ++ flat_map item_bytes (text_items shows c.1)) (u.1 ∙ sym (parts.spelled c.0 h.formed h.bare)) ∙ ap (λ x. c.0 ++ x) t.1,
       )
 
-  chunks_are_items : (cs : List Chunk) → AllByRecursion (IsChunkOf well_formed) cs → AllByRecursion IsItem (items_of units cs) × (flat_map item_bytes (items_of units cs) ≡ joined cs)
+  chunks_are_items : (cs : List Chunk) → AllByRecursion (IsChunkOf well_formed) cs → AllByRecursion (IsItem shows) (items_of shows units cs) × (flat_map item_bytes (items_of shows units cs) ≡ joined cs)
   chunks_are_items [] a = (tt, refl)
   chunks_are_items (c ∷ cs) a =
       let i = chunk_is_items c a.0 in
       let r = chunks_are_items cs a.1 in (
-        all-append (chunk_items units c) (items_of units cs) i.0 r.0,
-        bytes_of-append (chunk_items units c) (items_of units cs) ∙ ap (λ x. x ++ flat_map item_bytes (items_of units cs)) i.1 ∙ ap (λ x. (c.0 ++ c.1) ++ x) r.1 ∙ append_assoc c.0 c.1 (joined cs),
+        all-append shows (chunk_items shows units c) (items_of shows units cs) i.0 r.0,
+        bytes_of-append (chunk_items shows units c) (items_of shows units cs) ∙ ap (λ x. x ++ flat_map item_bytes (items_of shows units cs)) i.1 ∙ ap (λ x. (c.0 ++ c.1) ++ x) r.1 ∙ append_assoc c.0 c.1 (joined cs),
       )
 
   module _ (each : (s : List ℕ) (cs : List Chunk) → well_formed s → AreChunks s cs → AllByRecursion (IsChunkOf well_formed) cs) where
     -- what an escape's items are
-    pub escape_is_items : (s text : List ℕ) → well_formed s → (e : IsEscape units s text) → AllByRecursion IsItem (items_of units e.chunks) × (flat_map item_bytes (items_of units e.chunks) ≡ s)
+    pub escape_is_items : (s text : List ℕ) → well_formed s → (e : IsEscapeBy shows units s text) → AllByRecursion (IsItem shows) (items_of shows units e.chunks) × (flat_map item_bytes (items_of shows units e.chunks) ≡ s)
     escape_is_items s text w e = let k = chunks_are_items e.chunks (each s e.chunks w e.are_chunks) in (k.0, k.1 ∙ e.are_chunks.joins)
 
     -- a text that is read whole is the escape of no other string than of what was read
-    pub one_reading : (text : List ℕ) (items : List Item) (s : List ℕ) → AllByRecursion IsItem items → text ≡ item_texts items → well_formed s → IsEscape units s text → s ≡ flat_map item_bytes items
+    pub one_reading : (text : List ℕ) (items : List Item) (s : List ℕ) → AllByRecursion (IsItem shows) items → text ≡ item_texts items → well_formed s → IsEscapeBy shows units s text → s ≡ flat_map item_bytes items
     one_reading text items s a t w e =
         let k = escape_is_items s text w e in
-        let q = same_items (items_of units e.chunks) items [] [] k.0 a (inl refl) (inl refl) (ap (λ x. x ++ []) (sym e.text_is ∙ t)) in
+        let q = same_items shows (items_of shows units e.chunks) items [] [] k.0 a (inl refl) (inl refl) (ap (λ x. x ++ []) (sym e.text_is ∙ t)) in
         sym k.1 ∙ ap (flat_map item_bytes) q.0
 
     -- strings with equal escapes are equal
-    pub one_string : (s t text : List ℕ) → well_formed s → well_formed t → IsEscape units s text → IsEscape units t text → s ≡ t
-    one_string s t text w v e f = let k = escape_is_items t text v f in one_reading text (items_of units f.chunks) s k.0 f.text_is w e ∙ k.1
+    pub one_string : (s t text : List ℕ) → well_formed s → well_formed t → IsEscapeBy shows units s text → IsEscapeBy shows units t text → s ≡ t
+    one_string s t text w v e f = let k = escape_is_items t text v f in one_reading text (items_of shows units f.chunks) s k.0 f.text_is w e ∙ k.1
 
     -- an escape is never bad
-    pub never_bad : (s text : List ℕ) (n : ℕ) → well_formed s → IsEscape units s text → ¬ (IsBadEscape text n)
+    pub never_bad : (s text : List ℕ) (n : ℕ) → well_formed s → IsEscapeBy shows units s text → ¬ (IsBadEscapeBy shows text n)
     never_bad s text n w e b =
         let k = escape_is_items s text w e in
-        let q = same_items (items_of units e.chunks) b.items [] b.rest k.0 b.are (inl refl) (inr b.bad) (append-nil (item_texts (items_of units e.chunks)) ∙ sym e.text_is ∙ b.joined) in
+        let q = same_items shows (items_of shows units e.chunks) b.items [] b.rest k.0 b.are (inl refl) (inr b.bad) (append-nil (item_texts (items_of shows units e.chunks)) ∙ sym e.text_is ∙ b.joined) in
         let c : ◌≡◌ {A = List ℕ} [] (backslash ∷ b.bad.behind) = q.1 ∙ b.bad.first in
         cc
 
-  -- a text without a backslash is its own escape
-  pub own_escape : (t : List ℕ) → well_formed [] → IsUtf8 t → HasNoBackslash t → IsEscape units t t
-  own_escape t w u h = record { chunks = own_chunks t; are_chunks = text_chunks t u; text_is = by t u h }
+module _ (shows : ℕ → Bool) (well_formed : List ℕ → Type 0) (units : List ℕ → List ℕ) (part_units : List ℕ → Type 0) (parts : PartLaws well_formed units part_units) where
+  -- a text of which each character stands as it is is its own escape
+  pub own_escape : (t : List ℕ) → well_formed [] → IsUtf8 t → text_escape shows t ≡ t → IsEscapeBy shows units t t
+  own_escape t w u own = record { chunks = own_chunks t; are_chunks = text_chunks t u; text_is = by t own }
     where
       bare : IsBare []
       bare i j q = let f = character_fits [] i j q in omega arith
 
-      by : (t : List ℕ) → IsUtf8 t → HasNoBackslash t → t ≡ item_texts (items_of units (own_chunks t))
-      by [] u h = refl
-      by (x ∷ t) u h =
-          sym (own_text (x ∷ t) u h)
-          ∙ ap item_texts (sym (append-nil (text_items (x ∷ t))) ∙ ap (λ us. (map unit_item us ++ text_items (x ∷ t)) ++ []) (sym (no_units (units []) (parts.spelled [] w bare))))
+      by : (t : List ℕ) → text_escape shows t ≡ t → t ≡ item_texts (items_of shows units (own_chunks t))
+      by [] own = refl
+      by (x ∷ t) own =
+          sym own
+          ∙ ap item_texts (sym (append-nil (text_items shows (x ∷ t))) ∙ ap (λ us. (map unit_item us ++ text_items shows (x ∷ t)) ++ []) (sym (no_units (units []) (parts.spelled [] w bare))))
 
 -- a string has one escape
-pub one_escape : (units : List ℕ → List ℕ) (s text other : List ℕ) → IsEscape units s text → IsEscape units s other → text ≡ other
-one_escape units s text other e f = e.text_is ∙ ap (λ x. item_texts (items_of units x)) (chunks_once s e.chunks f.chunks e.are_chunks f.are_chunks) ∙ sym f.text_is
+pub one_escape : (shows : ℕ → Bool) (units : List ℕ → List ℕ) (s text other : List ℕ) → IsEscapeBy shows units s text → IsEscapeBy shows units s other → text ≡ other
+one_escape shows units s text other e f = e.text_is ∙ ap (λ x. item_texts (items_of shows units x)) (chunks_once s e.chunks f.chunks e.are_chunks f.are_chunks) ∙ sym f.text_is
 
 -- each string has one
-pub some_escape : (units : List ℕ → List ℕ) (s : List ℕ) → (text : List ℕ) × IsEscape units s text
-some_escape units s = (item_texts (items_of units (chunks_of s)), record { chunks = chunks_of s; are_chunks = (some_chunks s).1; text_is = refl })
+pub some_escape : (shows : ℕ → Bool) (units : List ℕ → List ℕ) (s : List ℕ) → (text : List ℕ) × IsEscapeBy shows units s text
+some_escape shows units s = (item_texts (items_of shows units (chunks_of s)), record { chunks = chunks_of s; are_chunks = (some_chunks s).1; text_is = refl })
 
 -- a text has one place at which no token begins
-pub one_bad_place : (text : List ℕ) (n m : ℕ) → IsBadEscape text n → IsBadEscape text m → n ≡ m
-one_bad_place text n m a b =
-    let q = same_items a.items b.items a.rest b.rest a.are b.are (inr a.bad) (inr b.bad) (sym a.joined ∙ b.joined) in
+pub one_bad_place : (shows : ℕ → Bool) (text : List ℕ) (n m : ℕ) → IsBadEscapeBy shows text n → IsBadEscapeBy shows text m → n ≡ m
+one_bad_place shows text n m a b =
+    let q = same_items shows a.items b.items a.rest b.rest a.are b.are (inr a.bad) (inr b.bad) (sym a.joined ∙ b.joined) in
     a.place ∙ ap (λ x. length (item_texts x)) q.0 ∙ sym b.place

@@ -1,11 +1,11 @@
 -- Items and their texts, one to one: a text is read in one way.
-use Rattle.std.proofs.Common.{◌≡◌, ◌≢◌, ◌⊎◌, inl, inr, ⊎_elim, ℕ, ◌+◌, ◌/◌, ◌%◌, ◌<◌, ◌≤◌, List, [], ◌∷◌, ◌++◌, length, refl, sym, ap, ◌∙◌, arith, append_assoc, length-append}
+use Rattle.std.proofs.Common.{◌≡◌, ◌≢◌, ◌⊎◌, inl, inr, ⊎_elim, ℕ, ◌+◌, ◌/◌, ◌%◌, ◌<◌, ◌≤◌, Bool, List, [], ◌∷◌, ◌++◌, length, refl, sym, ap, ◌∙◌, arith, append_assoc, length-append}
 use Rattle.std.specs.Char.{encode_utf8}
 use Rattle.std.specs.List.{AllByRecursion}
 use Rattle.std.proofs.lemmas.Bool.{lt-ltb, le-ltb, cases_lt}
 use Rattle.std.proofs.lemmas.Str.{encode_same, encode_ascii, length-encode, len_utf8_bounds}
 use Rattle.wtf8_core.specs.FaultText.{upper_hex_digit}
-use Rattle.os_quote.specs.Item.{Item, Character, Backslash, ByteUnit, WideUnit, backslash, byte_digits, item_text, item_texts, IsItem}
+use Rattle.os_quote.specs.Item.{Item, Character, Backslash, ByteUnit, WideUnit, LongCharacter, backslash, byte_digits, wide_digits, long_digits, item_text, item_texts, IsItem}
 use Rattle.os_quote.specs.Escape.{BeginsNoToken}
 
 -- the digits below 10 and from 10 on
@@ -19,7 +19,7 @@ digit_cases : (d : ℕ) → ((d < 10) × (upper_hex_digit d ≡ 48 + d)) ⊎ ((1
 digit_cases d = ⊎_elim (λ h. inl (h, digit_low d h)) (λ h. inr (h, digit_high d h)) (cases_lt d 10)
 
 -- a digit has one value
-digit_same : (d e : ℕ) → upper_hex_digit d ≡ upper_hex_digit e → d ≡ e
+pub digit_same : (d e : ℕ) → upper_hex_digit d ≡ upper_hex_digit e → d ≡ e
 digit_same d e h =
     ⊎_elim
     (λ (x : (d < 10) × (upper_hex_digit d ≡ 48 + d)). ⊎_elim (λ (y : (e < 10) × (upper_hex_digit e ≡ 48 + e)). omega (arith, x.1, y.1, h)) (λ (y : (10 ≤ e) × (upper_hex_digit e ≡ 55 + e)). omega (arith, x.0, x.1, y.0, y.1, h)) (digit_cases e))
@@ -38,6 +38,57 @@ byte_same a b x y e =
     let low = digit_same (a % 0x10) (b % 0x10) second.0 in
     (omega arith, second.1)
 
+-- four digits have one value
+pub wide_same : (u v : ℕ) (x y : List ℕ) → wide_digits u ++ x ≡ wide_digits v ++ y → (u ≡ v) × (x ≡ y)
+wide_same u v x y e =
+    let s = byte_same (u / 0x100) (v / 0x100) (byte_digits (u % 0x100) ++ x) (byte_digits (v % 0x100) ++ y) e in
+    let t = byte_same (u % 0x100) (v % 0x100) x y s.1 in
+    let p : u / 0x100 ≡ v / 0x100 = s.0 in
+    let q : u % 0x100 ≡ v % 0x100 = t.0 in
+    (omega arith, t.1)
+
+-- no digit is a brace
+pub no_brace : (d : ℕ) → d < 16 → upper_hex_digit d < 0x7B
+no_brace d h = ⊎_elim (λ l. omega (arith, digit_low d l)) (λ l. omega (arith, digit_high d l)) (cases_lt d 10)
+
+-- five digits below 10_0000, six from there on
+pub five_digits : (c : ℕ) → c < 0x10_0000 → long_digits c ≡ upper_hex_digit (c / 0x1_0000) ∷ wide_digits (c % 0x1_0000)
+five_digits c h = rw (lt-ltb (c / 0x1_0000) 0x10 (omega arith)) refl
+
+pub six_digits : (c : ℕ) → 0x10_0000 ≤ c → long_digits c ≡ byte_digits (c / 0x1_0000) ++ wide_digits (c % 0x1_0000)
+six_digits c h = rw (le-ltb (c / 0x1_0000) 0x10 (omega arith)) refl
+
+-- five digits and a brace aren't six
+five_or_six : (b c : ℕ) (x y : List ℕ) → (upper_hex_digit (b / 0x1_0000) ∷ wide_digits (b % 0x1_0000)) ++ 0x7D ∷ x ≡ (byte_digits (c / 0x1_0000) ++ wide_digits (c % 0x1_0000)) ++ 0x7D ∷ y → ⊥
+five_or_six b c x y e =
+    let t = tails (tails (tails (tails (tails (tails e).1).1).1).1).1 in
+    let n = no_brace (c % 0x1_0000 % 0x100 % 0x10) (omega arith) in
+    omega (arith, t.0, n)
+
+-- the digits of a code point past 16 bits have one value
+pub long_same : (b c : ℕ) (x y : List ℕ) → long_digits b ++ 0x7D ∷ x ≡ long_digits c ++ 0x7D ∷ y → (b ≡ c) × (x ≡ y)
+long_same b c x y e =
+    ⊎_elim
+    (λ (h : b < 0x10_0000). ⊎_elim
+    (λ (k : c < 0x10_0000).
+    let f = tails (ap (λ l. l ++ 0x7D ∷ x) (sym (five_digits b h)) ∙ e ∙ ap (λ l. l ++ 0x7D ∷ y) (five_digits c k)) in
+    let w = wide_same (b % 0x1_0000) (c % 0x1_0000) (0x7D ∷ x) (0x7D ∷ y) f.1 in
+    let p : b / 0x1_0000 ≡ c / 0x1_0000 = digit_same (b / 0x1_0000) (c / 0x1_0000) f.0 in
+    let q : b % 0x1_0000 ≡ c % 0x1_0000 = w.0 in
+    (omega arith, (tails w.1).1))
+    (λ (k : 0x10_0000 ≤ c). absurd (five_or_six b c x y (ap (λ l. l ++ 0x7D ∷ x) (sym (five_digits b h)) ∙ e ∙ ap (λ l. l ++ 0x7D ∷ y) (six_digits c k))))
+    (cases_lt c 0x10_0000))
+    (λ (h : 0x10_0000 ≤ b). ⊎_elim
+    (λ (k : c < 0x10_0000). absurd (five_or_six c b y x (ap (λ l. l ++ 0x7D ∷ y) (sym (five_digits c k)) ∙ sym e ∙ ap (λ l. l ++ 0x7D ∷ x) (six_digits b h))))
+    (λ (k : 0x10_0000 ≤ c).
+    let f = byte_same (b / 0x1_0000) (c / 0x1_0000) (wide_digits (b % 0x1_0000) ++ 0x7D ∷ x) (wide_digits (c % 0x1_0000) ++ 0x7D ∷ y) (ap (λ l. l ++ 0x7D ∷ x) (sym (six_digits b h)) ∙ e ∙ ap (λ l. l ++ 0x7D ∷ y) (six_digits c k)) in
+    let w = wide_same (b % 0x1_0000) (c % 0x1_0000) (0x7D ∷ x) (0x7D ∷ y) f.1 in
+    let p : b / 0x1_0000 ≡ c / 0x1_0000 = f.0 in
+    let q : b % 0x1_0000 ≡ c % 0x1_0000 = w.0 in
+    (omega arith, (tails w.1).1))
+    (cases_lt c 0x10_0000))
+    (cases_lt b 0x10_0000)
+
 -- a character that is no backslash doesn't begin as a token does
 no_slash : (c : ℕ) (x y : List ℕ) → c ≢ backslash → encode_utf8 c ++ x ≡ backslash ∷ y → ⊥
 no_slash c x y n e = n (encode_same c backslash x y (e ∙ ap (λ l. l ++ y) (sym (encode_ascii backslash (omega arith))))).0
@@ -45,29 +96,43 @@ no_slash c x y n e = n (encode_same c backslash x y (e ∙ ap (λ l. l ++ y) (sy
 second : {a b c d : ℕ} {x y : List ℕ} → a ∷ b ∷ x ≡ c ∷ d ∷ y → b ≡ d
 second {a} {b} {c} {d} {x} {y} e = (tails (tails e).1).0
 
--- an item at the front is one item
-pub item_same : (i j : Item) (x y : List ℕ) → IsItem i → IsItem j → item_text i ++ x ≡ item_text j ++ y → (i ≡ j) × (x ≡ y)
-item_same (Character b) (Character c) x y h k e = let s = encode_same b c x y e in (ap Character s.0, s.1)
-item_same (Character b) Backslash x y h k e = absurd (no_slash b x _ h.1 e)
-item_same (Character b) (ByteUnit u) x y h k e = absurd (no_slash b x _ h.1 e)
-item_same (Character b) (WideUnit u) x y h k e = absurd (no_slash b x _ h.1 e)
-item_same Backslash (Character c) x y h k e = absurd (no_slash c y _ k.1 (sym e))
-item_same Backslash Backslash x y h k e = (refl, (tails (tails e).1).1)
-item_same Backslash (ByteUnit u) x y h k e = let n = second e in absurd (omega arith)
-item_same Backslash (WideUnit u) x y h k e = let n = second e in absurd (omega arith)
-item_same (ByteUnit u) (Character c) x y h k e = absurd (no_slash c y _ k.1 (sym e))
-item_same (ByteUnit u) Backslash x y h k e = let n = second e in absurd (omega arith)
-item_same (ByteUnit u) (ByteUnit v) x y h k e = let s = byte_same u v x y (tails (tails e).1).1 in (ap ByteUnit s.0, s.1)
-item_same (ByteUnit u) (WideUnit v) x y h k e = let n = second e in absurd (omega arith)
-item_same (WideUnit u) (Character c) x y h k e = absurd (no_slash c y _ k.1 (sym e))
-item_same (WideUnit u) Backslash x y h k e = let n = second e in absurd (omega arith)
-item_same (WideUnit u) (ByteUnit v) x y h k e = let n = second e in absurd (omega arith)
-item_same (WideUnit u) (WideUnit v) x y h k e =
-    let s = byte_same (u / 0x100) (v / 0x100) (byte_digits (u % 0x100) ++ x) (byte_digits (v % 0x100) ++ y) (tails (tails e).1).1 in
-    let t = byte_same (u % 0x100) (v % 0x100) x y s.1 in
-    let p : u / 0x100 ≡ v / 0x100 = s.0 in
-    let q : u % 0x100 ≡ v % 0x100 = t.0 in
-    (ap WideUnit (omega arith), t.1)
+-- four digits don't begin as a long token does
+wide_or_long : (u : ℕ) (x y : List ℕ) → u < 0x1_0000 → item_text (WideUnit u) ++ x ≡ backslash ∷ 0x75 ∷ 0x7B ∷ y → ⊥
+wide_or_long u x y h e =
+    let t = (tails (tails (tails e).1).1).0 in
+    let n = no_brace (u / 0x100 / 0x10) (omega arith) in
+    omega (arith, t, n)
+
+module _ (shows : ℕ → Bool) where
+  -- an item at the front is one item
+  pub item_same : (i j : Item) (x y : List ℕ) → IsItem shows i → IsItem shows j → item_text i ++ x ≡ item_text j ++ y → (i ≡ j) × (x ≡ y)
+  item_same (Character b) (Character c) x y h k e = let s = encode_same b c x y e in (ap Character s.0, s.1)
+  item_same (Character b) Backslash x y h k e = absurd (no_slash b x _ h.1 e)
+  item_same (Character b) (ByteUnit u) x y h k e = absurd (no_slash b x _ h.1 e)
+  item_same (Character b) (WideUnit u) x y h k e = absurd (no_slash b x _ h.1 e)
+  item_same (Character b) (LongCharacter c) x y h k e = absurd (no_slash b x _ h.1 e)
+  item_same Backslash (Character c) x y h k e = absurd (no_slash c y _ k.1 (sym e))
+  item_same Backslash Backslash x y h k e = (refl, (tails (tails e).1).1)
+  item_same Backslash (ByteUnit u) x y h k e = let n = second e in absurd (omega arith)
+  item_same Backslash (WideUnit u) x y h k e = let n = second e in absurd (omega arith)
+  item_same Backslash (LongCharacter c) x y h k e = let n = second e in absurd (omega arith)
+  item_same (ByteUnit u) (Character c) x y h k e = absurd (no_slash c y _ k.1 (sym e))
+  item_same (ByteUnit u) Backslash x y h k e = let n = second e in absurd (omega arith)
+  item_same (ByteUnit u) (ByteUnit v) x y h k e = let s = byte_same u v x y (tails (tails e).1).1 in (ap ByteUnit s.0, s.1)
+  item_same (ByteUnit u) (WideUnit v) x y h k e = let n = second e in absurd (omega arith)
+  item_same (ByteUnit u) (LongCharacter c) x y h k e = let n = second e in absurd (omega arith)
+  item_same (WideUnit u) (Character c) x y h k e = absurd (no_slash c y _ k.1 (sym e))
+  item_same (WideUnit u) Backslash x y h k e = let n = second e in absurd (omega arith)
+  item_same (WideUnit u) (ByteUnit v) x y h k e = let n = second e in absurd (omega arith)
+  item_same (WideUnit u) (WideUnit v) x y h k e = let s = wide_same u v x y (tails (tails e).1).1 in (ap WideUnit s.0, s.1)
+  item_same (WideUnit u) (LongCharacter c) x y h k e = absurd (wide_or_long u x _ h e)
+  item_same (LongCharacter b) (Character c) x y h k e = absurd (no_slash c y _ k.1 (sym e))
+  item_same (LongCharacter b) Backslash x y h k e = let n = second e in absurd (omega arith)
+  item_same (LongCharacter b) (ByteUnit u) x y h k e = let n = second e in absurd (omega arith)
+  item_same (LongCharacter b) (WideUnit u) x y h k e = absurd (wide_or_long u y _ k (sym e))
+  item_same (LongCharacter b) (LongCharacter c) x y h k e =
+      let s = long_same b c x y (sym (append_assoc (long_digits b) (0x7D ∷ []) x) ∙ (tails (tails (tails e).1).1).1 ∙ append_assoc (long_digits c) (0x7D ∷ []) y) in
+      (ap LongCharacter s.0, s.1)
 
 -- an item's text isn't empty
 pub some_bytes : (i : Item) → 0 < length (item_text i)
@@ -75,21 +140,23 @@ some_bytes (Character c) = omega (arith, length-encode c, (len_utf8_bounds c).0)
 some_bytes Backslash = omega arith
 some_bytes (ByteUnit u) = omega arith
 some_bytes (WideUnit u) = omega arith
+some_bytes (LongCharacter c) = omega arith
 
--- nothing is left, or what begins with no token
-abbrev pub IsDone : List ℕ → Type 0
-IsDone r = (r ≡ []) ⊎ BeginsNoToken r
+module _ (shows : ℕ → Bool) where
+  -- nothing is left, or what begins with no token
+  abbrev pub IsDone : List ℕ → Type 0
+  IsDone r = (r ≡ []) ⊎ BeginsNoToken shows r
 
-done_item : (i : Item) (r x : List ℕ) → IsItem i → IsDone r → r ≡ item_text i ++ x → ⊥
-done_item i r x h (inl n) e = let l : length (item_text i ++ x) ≡ 0 = ap length (sym e ∙ n) in let m = length-append (item_text i) x in let s = some_bytes i in omega arith
-done_item i r x h (inr s) e = s.none i h x e
+  done_item : (i : Item) (r x : List ℕ) → IsItem shows i → IsDone r → r ≡ item_text i ++ x → ⊥
+  done_item i r x h (inl n) e = let l : length (item_text i ++ x) ≡ 0 = ap length (sym e ∙ n) in let m = length-append (item_text i) x in let s = some_bytes i in omega arith
+  done_item i r x h (inr s) e = s.none i h x e
 
--- a text is read in one way
-pub same_items : (is js : List Item) (r t : List ℕ) → AllByRecursion IsItem is → AllByRecursion IsItem js → IsDone r → IsDone t → item_texts is ++ r ≡ item_texts js ++ t → (is ≡ js) × (r ≡ t)
-same_items [] [] r t a b d f e = (refl, e)
-same_items [] (j ∷ js) r t a b d f e = absurd (done_item j r (item_texts js ++ t) b.0 d (e ∙ append_assoc (item_text j) (item_texts js) t))
-same_items (i ∷ is) [] r t a b d f e = absurd (done_item i t (item_texts is ++ r) a.0 f (sym e ∙ append_assoc (item_text i) (item_texts is) r))
-same_items (i ∷ is) (j ∷ js) r t a b d f e =
-    let s = item_same i j (item_texts is ++ r) (item_texts js ++ t) a.0 b.0 (sym (append_assoc (item_text i) (item_texts is) r) ∙ e ∙ append_assoc (item_text j) (item_texts js) t) in
-    let k = same_items is js r t a.1 b.1 d f s.1 in
-    (ap (λ x. x ∷ is) s.0 ∙ ap (λ x. j ∷ x) k.0, k.1)
+  -- a text is read in one way
+  pub same_items : (is js : List Item) (r t : List ℕ) → AllByRecursion (IsItem shows) is → AllByRecursion (IsItem shows) js → IsDone r → IsDone t → item_texts is ++ r ≡ item_texts js ++ t → (is ≡ js) × (r ≡ t)
+  same_items [] [] r t a b d f e = (refl, e)
+  same_items [] (j ∷ js) r t a b d f e = absurd (done_item j r (item_texts js ++ t) b.0 d (e ∙ append_assoc (item_text j) (item_texts js) t))
+  same_items (i ∷ is) [] r t a b d f e = absurd (done_item i t (item_texts is ++ r) a.0 f (sym e ∙ append_assoc (item_text i) (item_texts is) r))
+  same_items (i ∷ is) (j ∷ js) r t a b d f e =
+      let s = item_same shows i j (item_texts is ++ r) (item_texts js ++ t) a.0 b.0 (sym (append_assoc (item_text i) (item_texts is) r) ∙ e ∙ append_assoc (item_text j) (item_texts js) t) in
+      let k = same_items is js r t a.1 b.1 d f s.1 in
+      (ap (λ x. x ∷ is) s.0 ∙ ap (λ x. j ∷ x) k.0, k.1)

@@ -1,5 +1,5 @@
 -- How far a text has been read.
-use Rattle.std.proofs.Common.{◌≡◌, ⊎_elim, inl, inr, ℕ, zero, suc, ◌-◌, ◌<◌, ◌/◌, ◌%◌, List, [], ◌∷◌, ◌++◌, length, refl, sym, ap, ◌∙◌, subst, arith, append_assoc, append-nil, length-append}
+use Rattle.std.proofs.Common.{◌≡◌, ⊎_elim, inl, inr, ℕ, zero, suc, Bool, ◌-◌, ◌<◌, ◌/◌, ◌%◌, List, [], ◌∷◌, ◌++◌, length, refl, sym, ap, ◌∙◌, subst, arith, append_assoc, append-nil, length-append}
 use Rattle.std.specs.List.{AllByRecursion, flat_map}
 use Rattle.std.specs.Str.{IsUtf8, IsAscii}
 use Rattle.std.proofs.lemmas.Bool.{cases_lt}
@@ -10,96 +10,148 @@ use Rattle.platform_str.specs.PartLaws.{PartLaws}
 use Rattle.wtf8_core.specs.FaultText.{upper_hex_digit}
 use Rattle.wtf8_core.specs.Wtf8.{HasUnits}
 use Rattle.wtf8_core.proofs.lemmas.UnitsLemmas.{units_once, wide_single}
-use Rattle.os_quote.specs.Item.{Item, Character, Backslash, ByteUnit, WideUnit, backslash, item_text, item_texts, IsItem}
-use Rattle.os_quote.specs.Escape.{BeginsNoToken, IsBadEscape, IsEscape, items_of}
+use Rattle.os_quote.specs.Item.{Item, Character, Backslash, ByteUnit, WideUnit, LongCharacter, backslash, wide_digits, long_digits, item_text, item_texts, IsLong, IsItem}
+use Rattle.os_quote.specs.Shown.{is_any}
+use Rattle.os_quote.specs.Escape.{BeginsNoToken, IsBadEscapeBy, IsEscapeBy, items_of}
 use Rattle.os_quote.specs.Reading.{HasNoBackslash, IsCutAtBackslash, IsRead, item_bytes}
-use Rattle.os_quote.proofs.lemmas.Items.{digit_low, digit_high, some_bytes, same_items}
+use Rattle.os_quote.proofs.lemmas.Items.{digit_low, digit_high, five_digits, six_digits, some_bytes, same_items}
 use Rattle.os_quote.proofs.lemmas.Texts.{text_items, text_is_items, own_text, item_texts-append, text_behind}
 use Rattle.os_quote.proofs.lemmas.Escapes.{all-append, bytes_of-append, one_reading, escape_is_items}
 use Rattle.os_str_ext.specs.Chunks.{IsChunkOf}
 
 -- tokens are ASCII
-ascii_all : (bs : List ℕ) → AllByRecursion (λ b. b < 128) bs → IsAscii bs
+pub ascii_all : (bs : List ℕ) → AllByRecursion (λ b. b < 128) bs → IsAscii bs
 ascii_all [] h i = omega arith
 ascii_all (b ∷ bs) h zero = h.0
 ascii_all (b ∷ bs) h (suc i) = ascii_all bs h.1 i
 
-ascii_digit : (d : ℕ) → d < 16 → upper_hex_digit d < 128
+pub ascii_digit : (d : ℕ) → d < 16 → upper_hex_digit d < 128
 ascii_digit d h = ⊎_elim (λ l. omega (arith, digit_low d l)) (λ l. omega (arith, digit_high d l)) (cases_lt d 10)
 
-pub item_is_text : (i : Item) → IsItem i → IsUtf8 (item_text i)
-item_is_text (Character c) h = IsUtf8-encode c h.0
-item_is_text Backslash h = IsUtf8-from_ascii (item_text Backslash) (ascii_all (item_text Backslash) (omega arith, (omega arith, tt)))
-item_is_text (ByteUnit u) h = IsUtf8-from_ascii (item_text (ByteUnit u)) (ascii_all (item_text (ByteUnit u)) (omega arith, (omega arith, (ascii_digit (u / 0x10) (omega arith), (ascii_digit (u % 0x10) (omega arith), tt)))))
-item_is_text (WideUnit u) h =
-    IsUtf8-from_ascii (item_text (WideUnit u)) (ascii_all (item_text (WideUnit u)) (omega arith, (omega arith, (ascii_digit (u / 0x100 / 0x10) (omega arith), (ascii_digit (u / 0x100 % 0x10) (omega arith), (ascii_digit (u % 0x100 / 0x10) (omega arith), (ascii_digit (u % 0x100 % 0x10) (omega arith), tt)))))))
+ascii_wide : (u : ℕ) (after : List ℕ) → u < 0x1_0000 → AllByRecursion (λ b. b < 128) after → AllByRecursion (λ b. b < 128) (wide_digits u ++ after)
+ascii_wide u after h a = (ascii_digit (u / 0x100 / 0x10) (omega arith), (ascii_digit (u / 0x100 % 0x10) (omega arith), (ascii_digit (u % 0x100 / 0x10) (omega arith), (ascii_digit (u % 0x100 % 0x10) (omega arith), a))))
 
-items_are_text : (items : List Item) → AllByRecursion IsItem items → IsUtf8 (item_texts items)
-items_are_text [] h = IsUtf8-nil
-items_are_text (i ∷ items) h = IsUtf8-append (item_text i) (item_texts items) (item_is_text i h.0) (items_are_text items h.1)
+ascii_long : (c : ℕ) → IsLong c → AllByRecursion (λ b. b < 128) (long_digits c ++ 0x7D ∷ [])
+ascii_long c h =
+    let low = h.0 in
+    let high = h.1 in
+    let P : List ℕ → Type 0 = λ l. AllByRecursion (λ b. b < 128) (l ++ 0x7D ∷ []) in
+    ⊎_elim
+    (λ l. subst P (sym (five_digits c l)) (ascii_digit (c / 0x1_0000) (omega arith), ascii_wide (c % 0x1_0000) (0x7D ∷ []) (omega arith) (omega arith, tt)))
+    (λ l. subst P (sym (six_digits c l)) (ascii_digit (c / 0x1_0000 / 0x10) (omega arith), (ascii_digit (c / 0x1_0000 % 0x10) (omega arith), ascii_wide (c % 0x1_0000) (0x7D ∷ []) (omega arith) (omega arith, tt))))
+    (cases_lt c 0x10_0000)
 
--- an escape is text
-pub escape_is_text : (well_formed : List ℕ → Type 0) (units : List ℕ → List ℕ) (part_units : List ℕ → Type 0) (parts : PartLaws well_formed units part_units)
-    (each : (s : List ℕ) (cs : List Chunk) → well_formed s → AreChunks s cs → AllByRecursion (IsChunkOf well_formed) cs)
-    (s text : List ℕ) → well_formed s → IsEscape units s text → IsUtf8 text
-escape_is_text well_formed units part_units parts each s text w e =
-    subst IsUtf8 (sym e.text_is) (items_are_text (items_of units e.chunks) (escape_is_items well_formed units part_units parts each s text w e).0)
+-- a token's bytes are ASCII
+abbrev pub IsAsciiItem : Item → Type 0
+IsAsciiItem i = AllByRecursion (λ b. b < 128) (item_text i)
 
--- nothing has been read
-pub read_none : (text : List ℕ) → IsUtf8 text → IsRead text [] text
-read_none text u = record { items = []; are = tt; joined = refl; bytes_are = refl; text_left = u }
+pub ascii_byte_unit : (u : ℕ) → u < 0x100 → IsAsciiItem (ByteUnit u)
+ascii_byte_unit u h = (omega arith, (omega arith, (ascii_digit (u / 0x10) (omega arith), (ascii_digit (u % 0x10) (omega arith), tt))))
 
--- some items more
-read_items : (text out rest : List ℕ) (items : List Item) (after : List ℕ) → IsRead text out rest → AllByRecursion IsItem items → rest ≡ item_texts items ++ after → IsUtf8 after → IsRead text (out ++ flat_map item_bytes items) after
-read_items text out rest items after r a e u = record {
-  items = r.items ++ items;
-  are = all-append r.items items r.are a;
-  joined = r.joined ∙ ap (λ x. item_texts r.items ++ x) e ∙ sym (append_assoc (item_texts r.items) (item_texts items) after) ∙ ap (λ x. x ++ after) (sym (item_texts-append r.items items));
-  bytes_are = ap (λ x. x ++ flat_map item_bytes items) r.bytes_are ∙ sym (bytes_of-append r.items items);
-  text_left = u;
-}
+pub ascii_wide_unit : (u : ℕ) → u < 0x1_0000 → IsAsciiItem (WideUnit u)
+ascii_wide_unit u h = (omega arith, (omega arith, subst (AllByRecursion (λ b. b < 128)) (append-nil (wide_digits u)) (ascii_wide u [] h tt)))
 
--- a text up to a backslash
-read_front : (text out rest front behind : List ℕ) → IsRead text out rest → IsUtf8 front → HasNoBackslash front → rest ≡ front ++ behind → IsRead text (out ++ front) behind
-read_front text out rest front behind r u h e =
-    let i = text_is_items front u in
-    subst (λ x. IsRead text (out ++ x) behind) i.1 (read_items text out rest (text_items front) behind r i.0 (e ∙ ap (λ x. x ++ behind) (sym (own_text front u h))) (text_behind front behind u (subst IsUtf8 e r.text_left)))
+pub ascii_long_character : (c : ℕ) → IsLong c → IsAsciiItem (LongCharacter c)
+ascii_long_character c h = (omega arith, (omega arith, (omega arith, ascii_long c h)))
 
--- and a token behind it
-pub read_more : (text out rest front behind : List ℕ) (item : Item) (after more now : List ℕ) → IsRead text out rest → IsCutAtBackslash rest front behind
-    → IsItem item → backslash ∷ behind ≡ item_text item ++ after → more ≡ out ++ front → now ≡ more ++ item_bytes item → IsRead text now after
-read_more text out rest front behind item after more now r k i t m n =
-    let f = read_front text out rest front (backslash ∷ behind) r k.front_text k.none_before k.joined in
-    let all : backslash ∷ behind ≡ item_texts (item ∷ []) ++ after = t ∙ ap (λ x. x ++ after) (sym (append-nil (item_text item))) in
-    let g = read_items text (out ++ front) (backslash ∷ behind) (item ∷ []) after f (i, tt) all (text_behind (item_text item) after (item_is_text item i) (subst IsUtf8 t f.text_left)) in
-    subst (λ x. IsRead text x after) (ap (λ x. (out ++ front) ++ x) (append-nil (item_bytes item)) ∙ ap (λ x. x ++ item_bytes item) (sym m) ∙ sym n) g
+module _ (shows : ℕ → Bool) where
+  pub item_is_text : (i : Item) → IsItem shows i → IsUtf8 (item_text i)
+  item_is_text (Character c) h = IsUtf8-encode c h.0
+  item_is_text Backslash h = IsUtf8-from_ascii (item_text Backslash) (ascii_all (item_text Backslash) (omega arith, (omega arith, tt)))
+  item_is_text (ByteUnit u) h = IsUtf8-from_ascii (item_text (ByteUnit u)) (ascii_all (item_text (ByteUnit u)) (ascii_byte_unit u h))
+  item_is_text (WideUnit u) h = IsUtf8-from_ascii (item_text (WideUnit u)) (ascii_all (item_text (WideUnit u)) (ascii_wide_unit u h))
+  item_is_text (LongCharacter c) h = IsUtf8-from_ascii (item_text (LongCharacter c)) (ascii_all (item_text (LongCharacter c)) (ascii_long_character c h.1))
 
--- the text behind the token is left
-pub text_after : (text out rest front behind : List ℕ) (item : Item) (after : List ℕ) → IsRead text out rest → IsCutAtBackslash rest front behind → IsItem item → backslash ∷ behind ≡ item_text item ++ after → IsUtf8 after
-text_after text out rest front behind item after r k i t =
-    text_behind (item_text item) after (item_is_text item i) (subst IsUtf8 t (text_behind front (backslash ∷ behind) k.front_text (subst IsUtf8 k.joined r.text_left)))
+  items_are_text : (items : List Item) → AllByRecursion (IsItem shows) items → IsUtf8 (item_texts items)
+  items_are_text [] h = IsUtf8-nil
+  items_are_text (i ∷ items) h = IsUtf8-append (item_text i) (item_texts items) (item_is_text i h.0) (items_are_text items h.1)
+
+  -- an escape is text
+  pub escape_is_text : (well_formed : List ℕ → Type 0) (units : List ℕ → List ℕ) (part_units : List ℕ → Type 0) (parts : PartLaws well_formed units part_units)
+      (each : (s : List ℕ) (cs : List Chunk) → well_formed s → AreChunks s cs → AllByRecursion (IsChunkOf well_formed) cs)
+      (s text : List ℕ) → well_formed s → IsEscapeBy shows units s text → IsUtf8 text
+  escape_is_text well_formed units part_units parts each s text w e =
+      subst IsUtf8 (sym e.text_is) (items_are_text (items_of shows units e.chunks) (escape_is_items shows well_formed units part_units parts each s text w e).0)
+
+  -- nothing has been read
+  pub read_none : (text : List ℕ) → IsUtf8 text → IsRead shows text [] text
+  read_none text u = record { items = []; are = tt; joined = refl; bytes_are = refl; text_left = u }
+
+  -- some items more
+  read_items : (text out rest : List ℕ) (items : List Item) (after : List ℕ) → IsRead shows text out rest → AllByRecursion (IsItem shows) items → rest ≡ item_texts items ++ after → IsUtf8 after → IsRead shows text (out ++ flat_map item_bytes items) after
+  read_items text out rest items after r a e u = record {
+    items = r.items ++ items;
+    are = all-append shows r.items items r.are a;
+    joined = r.joined ∙ ap (λ x. item_texts r.items ++ x) e ∙ sym (append_assoc (item_texts r.items) (item_texts items) after) ∙ ap (λ x. x ++ after) (sym (item_texts-append r.items items));
+    bytes_are = ap (λ x. x ++ flat_map item_bytes items) r.bytes_are ∙ sym (bytes_of-append r.items items);
+    text_left = u;
+  }
+
+  -- the items of the form that shows every character are items of each form
+  shown_item : (i : Item) → IsItem is_any i → IsItem shows i
+  shown_item (Character c) h = h
+  shown_item Backslash h = tt
+  shown_item (ByteUnit u) h = h
+  shown_item (WideUnit u) h = h
+  shown_item (LongCharacter c) h = let n = h.0.hidden in cc
+
+  shown_items : (items : List Item) → AllByRecursion (IsItem is_any) items → AllByRecursion (IsItem shows) items
+  shown_items [] a = tt
+  shown_items (i ∷ items) a = (shown_item i a.0, shown_items items a.1)
+
+  -- a text up to a backslash
+  read_front : (text out rest front behind : List ℕ) → IsRead shows text out rest → IsUtf8 front → HasNoBackslash front → rest ≡ front ++ behind → IsRead shows text (out ++ front) behind
+  read_front text out rest front behind r u h e =
+      let i = text_is_items is_any front u in
+      subst (λ x. IsRead shows text (out ++ x) behind) i.1 (read_items text out rest (text_items is_any front) behind r (shown_items (text_items is_any front) i.0) (e ∙ ap (λ x. x ++ behind) (sym (own_text front u h))) (text_behind front behind u (subst IsUtf8 e r.text_left)))
+
+  -- and a token behind it
+  pub read_more : (text out rest front behind : List ℕ) (item : Item) (after more now : List ℕ) → IsRead shows text out rest → IsCutAtBackslash rest front behind
+      → IsItem shows item → backslash ∷ behind ≡ item_text item ++ after → more ≡ out ++ front → now ≡ more ++ item_bytes item → IsRead shows text now after
+  read_more text out rest front behind item after more now r k i t m n =
+      let f = read_front text out rest front (backslash ∷ behind) r k.front_text k.none_before k.joined in
+      let all : backslash ∷ behind ≡ item_texts (item ∷ []) ++ after = t ∙ ap (λ x. x ++ after) (sym (append-nil (item_text item))) in
+      let g = read_items text (out ++ front) (backslash ∷ behind) (item ∷ []) after f (i, tt) all (text_behind (item_text item) after (item_is_text item i) (subst IsUtf8 t f.text_left)) in
+      subst (λ x. IsRead shows text x after) (ap (λ x. (out ++ front) ++ x) (append-nil (item_bytes item)) ∙ ap (λ x. x ++ item_bytes item) (sym m) ∙ sym n) g
+
+  -- the text behind the token is left
+  pub text_after : (text out rest front behind : List ℕ) (item : Item) (after : List ℕ) → IsRead shows text out rest → IsCutAtBackslash rest front behind → IsItem shows item → backslash ∷ behind ≡ item_text item ++ after → IsUtf8 after
+  text_after text out rest front behind item after r k i t =
+      text_behind (item_text item) after (item_is_text item i) (subst IsUtf8 t (text_behind front (backslash ∷ behind) k.front_text (subst IsUtf8 k.joined r.text_left)))
+
+  -- all has been read
+  pub read_all : (text out rest now : List ℕ) → IsRead shows text out rest → HasNoBackslash rest → now ≡ out ++ rest → IsRead shows text now []
+  read_all text out rest now r h n = subst (λ x. IsRead shows text x []) (sym n) (read_front text out rest rest [] r r.text_left h (sym (append-nil rest)))
+
+  -- no token begins there
+  pub read_bad : (text out rest front behind : List ℕ) → IsRead shows text out rest → IsCutAtBackslash rest front behind → BeginsNoToken shows (backslash ∷ behind) → IsBadEscapeBy shows text (length text - length behind - 1)
+  read_bad text out rest front behind r k b =
+      let f = read_front text out rest front (backslash ∷ behind) r k.front_text k.none_before k.joined in
+      record { items = f.items; are = f.are; rest = backslash ∷ behind; joined = f.joined; place = omega (arith, ap length f.joined, length-append (item_texts f.items) (backslash ∷ behind)); bad = b }
+
+  -- what has been read whole isn't bad
+  pub read_no_bad : (text out : List ℕ) (n : ℕ) → IsRead shows text out [] → ¬ (IsBadEscapeBy shows text n)
+  read_no_bad text out n r b =
+      let q = same_items shows r.items b.items [] b.rest r.are b.are (inl refl) (inr b.bad) (sym r.joined ∙ b.joined) in
+      let c : ◌≡◌ {A = List ℕ} [] (backslash ∷ b.bad.behind) = q.1 ∙ b.bad.first in
+      cc
+
+  -- what has been read whole is the escape of no string, where the bytes that it stands for are none with this escape
+  pub no_escape : (well_formed : List ℕ → Type 0) (units : List ℕ → List ℕ) (part_units : List ℕ → Type 0) (parts : PartLaws well_formed units part_units)
+      (each : (s : List ℕ) (cs : List Chunk) → well_formed s → AreChunks s cs → AllByRecursion (IsChunkOf well_formed) cs)
+      (text out : List ℕ) → IsRead shows text out [] → (well_formed out → IsEscapeBy shows units out text → ⊥)
+      → ((s : List ℕ) → well_formed s → ¬ (IsEscapeBy shows units s text)) × ((n : ℕ) → ¬ (IsBadEscapeBy shows text n))
+  no_escape well_formed units part_units parts each text out r never = (
+    λ s w e.
+        let same : s ≡ out = one_reading shows well_formed units part_units parts each text r.items s r.are (r.joined ∙ append-nil (item_texts r.items)) w e ∙ sym r.bytes_are in
+        never (subst well_formed same w) (subst (λ x. IsEscapeBy shows units x text) same e),
+    λ n. read_no_bad text out n r,
+  )
 
 pub read_shorter : (rest front behind : List ℕ) (item : Item) (after : List ℕ) → IsCutAtBackslash rest front behind → backslash ∷ behind ≡ item_text item ++ after → length after < length rest
 read_shorter rest front behind item after k t =
     let s = some_bytes item in
     omega (arith, ap length k.joined, length-append front (backslash ∷ behind), ap length t, length-append (item_text item) after)
-
--- all has been read
-pub read_all : (text out rest now : List ℕ) → IsRead text out rest → HasNoBackslash rest → now ≡ out ++ rest → IsRead text now []
-read_all text out rest now r h n = subst (λ x. IsRead text x []) (sym n) (read_front text out rest rest [] r r.text_left h (sym (append-nil rest)))
-
--- no token begins there
-pub read_bad : (text out rest front behind : List ℕ) → IsRead text out rest → IsCutAtBackslash rest front behind → BeginsNoToken (backslash ∷ behind) → IsBadEscape text (length text - length behind - 1)
-read_bad text out rest front behind r k b =
-    let f = read_front text out rest front (backslash ∷ behind) r k.front_text k.none_before k.joined in
-    record { items = f.items; are = f.are; rest = backslash ∷ behind; joined = f.joined; place = omega (arith, ap length f.joined, length-append (item_texts f.items) (backslash ∷ behind)); bad = b }
-
--- what has been read whole isn't bad
-pub read_no_bad : (text out : List ℕ) (n : ℕ) → IsRead text out [] → ¬ (IsBadEscape text n)
-read_no_bad text out n r b =
-    let q = same_items r.items b.items [] b.rest r.are b.are (inl refl) (inr b.bad) (sym r.joined ∙ b.joined) in
-    let c : ◌≡◌ {A = List ℕ} [] (backslash ∷ b.bad.behind) = q.1 ∙ b.bad.first in
-    cc
 
 -- the bytes of one unit
 pub unit_form : (bytes : List ℕ) (u : ℕ) → u < 0x1_0000 → HasUnits bytes (u ∷ []) → bytes ≡ form u
@@ -110,15 +162,3 @@ unit_form bytes u lt h = units_once bytes (form u) (u ∷ []) h (record {
 })
 
 pub ruleset readings = (read_none, read_more, text_after, read_shorter, read_all, read_bad)
-
--- what has been read whole is the escape of no string, where the bytes that it stands for are none with this escape
-pub no_escape : (well_formed : List ℕ → Type 0) (units : List ℕ → List ℕ) (part_units : List ℕ → Type 0) (parts : PartLaws well_formed units part_units)
-    (each : (s : List ℕ) (cs : List Chunk) → well_formed s → AreChunks s cs → AllByRecursion (IsChunkOf well_formed) cs)
-    (text out : List ℕ) → IsRead text out [] → (well_formed out → IsEscape units out text → ⊥)
-    → ((s : List ℕ) → well_formed s → ¬ (IsEscape units s text)) × ((n : ℕ) → ¬ (IsBadEscape text n))
-no_escape well_formed units part_units parts each text out r never = (
-  λ s w e.
-      let same : s ≡ out = one_reading well_formed units part_units parts each text r.items s r.are (r.joined ∙ append-nil (item_texts r.items)) w e ∙ sym r.bytes_are in
-      never (subst well_formed same w) (subst (λ x. IsEscape units x text) same e),
-  λ n. read_no_bad text out n r,
-)

@@ -1,14 +1,16 @@
 -- Texts: the backslashes in them, and the items of their characters.
-use Rattle.std.proofs.Common.{◌≡◌, ◌≢◌, ⊎_elim, ℕ, zero, suc, ◌+◌, ◌<◌, true, List, [], ◌∷◌, ◌++◌, map, length, take, drop, get_or, refl, sym, ap, ◌∙◌, subst, arith, append_assoc, take-append-drop, length-append}
+use Rattle.std.proofs.Common.{◌≡◌, ◌≢◌, ⊎_elim, ℕ, zero, suc, ◌+◌, ◌<◌, ◌≤◌, Bool, true, false, List, [], ◌∷◌, ◌++◌, map, length, take, drop, get_or, refl, sym, ap, ◌∙◌, subst, arith, append_assoc, take-append-drop, length-append}
 use Rattle.std.specs.Char.{IsScalar, encode_utf8}
 use Rattle.std.specs.List.{AllByRecursion, flat_map}
 use Rattle.std.specs.Str.{IsUtf8, IsCharBoundary, chars, all_scalars, encode_utf8_all}
-use Rattle.std.proofs.lemmas.Bool.{and_parts, cases_eq, ne_eqb, eq-eqb, eqb-true}
+use Rattle.std.proofs.lemmas.Bool.{and_parts, cases_eq, cases_lt, cases_Bool, lt-ltb, le-ltb, ne_eqb, eq-eqb, eqb-true}
 use Rattle.std.proofs.lemmas.List.{drop_more, take_at, drop_at}
 use Rattle.std.proofs.lemmas.Str.{IsCharBoundary-after_ascii, IsCharBoundary-from_take, IsUtf8-drop, encode_ascii, chars-append, chars_past_char, encodes-chars, scalars-chars}
-use Rattle.std.proofs.Math.Utf8.{scalar}
+use Rattle.std.proofs.Math.Utf8.{scalar, scalar_cases}
 use Rattle.memchr.specs.Find.{Nowhere, NoneBefore, Passes, is_byte}
-use Rattle.os_quote.specs.Item.{Item, backslash, item_text, item_texts, IsItem, character_item}
+use Rattle.wtf8_core.proofs.lemmas.FormsByStd.{form_encode}
+use Rattle.os_quote.specs.Item.{Item, backslash, item_text, item_texts, IsItem, hidden_item, character_item}
+use Rattle.os_quote.specs.Shown.{is_any}
 use Rattle.os_quote.specs.Reading.{HasNoBackslash, item_bytes}
 
 -- the test of the search for a backslash
@@ -58,45 +60,58 @@ text_behind x y u v =
 pub slash_behind : (front behind : List ℕ) → IsUtf8 front → IsUtf8 (front ++ backslash ∷ behind) → IsUtf8 (backslash ∷ behind)
 slash_behind front behind u v = text_behind front (backslash ∷ behind) u v
 
--- a character's item is one, and stands for the character
-character_is_item : (c : ℕ) → IsScalar c → IsItem (character_item c) × (item_bytes (character_item c) ≡ encode_utf8 c)
-character_is_item c h =
-    ⊎_elim
-    (λ (e : c ≡ backslash). let P : ℕ → Type 0 = λ x. IsItem (character_item x) × (item_bytes (character_item x) ≡ encode_utf8 x) in subst P (sym e) (tt, sym (encode_ascii backslash (omega arith))))
-    (λ (n : c ≢ backslash). rw (ne_eqb c backslash n) ((h, n), refl))
-    (cases_eq c backslash)
-
-characters_are_items : (cs : List ℕ) → all_scalars cs ≡ true → AllByRecursion IsItem (map character_item cs) × (flat_map item_bytes (map character_item cs) ≡ encode_utf8_all cs)
-characters_are_items [] s = (tt, refl)
-characters_are_items (c ∷ cs) s =
-    let both = and_parts (scalar c) _ s in
-    let i = character_is_item c both.0 in
-    let more = characters_are_items cs both.1 in
-    ((i.0, more.0), ap (λ x. x ++ flat_map item_bytes (map character_item cs)) i.1 ∙ ap (λ x. encode_utf8 c ++ x) more.1)
-
 -- the items of a text's characters, and their texts
-abbrev pub text_items : List ℕ → List Item
-text_items t = map character_item (chars t)
+abbrev pub text_items : (ℕ → Bool) → List ℕ → List Item
+text_items shows t = map (character_item shows) (chars t)
 
-abbrev pub text_escape : List ℕ → List ℕ
-text_escape t = item_texts (text_items t)
+abbrev pub text_escape : (ℕ → Bool) → List ℕ → List ℕ
+text_escape shows t = item_texts (text_items shows t)
 
-pub text_is_items : (t : List ℕ) → IsUtf8 t → AllByRecursion IsItem (text_items t) × (flat_map item_bytes (text_items t) ≡ t)
-text_is_items t u = let r = characters_are_items (chars t) (scalars-chars t u) in (r.0, r.1 ∙ encodes-chars t u)
+-- a character is at most 10_FFFF
+pub scalar_below : (c : ℕ) → IsScalar c → c < 0x11_0000
+scalar_below c h = ⊎_elim (λ l. omega (arith, l)) (λ p. p.1) (scalar_cases c h)
+
+-- a character that isn't shown is an item, too
+hidden_is_item : (shows : ℕ → Bool) (c : ℕ) → IsScalar c → shows c ≡ false → IsItem shows (hidden_item c) × (item_bytes (hidden_item c) ≡ encode_utf8 c)
+hidden_is_item shows c h hidden =
+    ⊎_elim
+    (λ (l : c < 0x1_0000). rw (lt-ltb c 0x1_0000 l) (l, form_encode c))
+    (λ (l : 0x1_0000 ≤ c). rw (le-ltb c 0x1_0000 l) ((record { character = c; past = l; hidden = hidden }, (l, scalar_below c h)), refl))
+    (cases_lt c 0x1_0000)
+
+module _ (shows : ℕ → Bool) where
+  -- a character's item is one, and stands for the character
+  pub character_is_item : (c : ℕ) → IsScalar c → IsItem shows (character_item shows c) × (item_bytes (character_item shows c) ≡ encode_utf8 c)
+  character_is_item c h =
+      ⊎_elim
+      (λ (e : c ≡ backslash). let P : ℕ → Type 0 = λ x. IsItem shows (character_item shows x) × (item_bytes (character_item shows x) ≡ encode_utf8 x) in subst P (sym e) (tt, sym (encode_ascii backslash (omega arith))))
+      (λ (n : c ≢ backslash). rw (ne_eqb c backslash n) (⊎_elim (λ (y : shows c ≡ true). rw y ((h, n), refl)) (λ (y : shows c ≡ false). rw y (hidden_is_item shows c h y)) (cases_Bool (shows c))))
+      (cases_eq c backslash)
+
+  characters_are_items : (cs : List ℕ) → all_scalars cs ≡ true → AllByRecursion (IsItem shows) (map (character_item shows) cs) × (flat_map item_bytes (map (character_item shows) cs) ≡ encode_utf8_all cs)
+  characters_are_items [] s = (tt, refl)
+  characters_are_items (c ∷ cs) s =
+      let both = and_parts (scalar c) _ s in
+      let i = character_is_item c both.0 in
+      let more = characters_are_items cs both.1 in
+      ((i.0, more.0), ap (λ x. x ++ flat_map item_bytes (map (character_item shows) cs)) i.1 ∙ ap (λ x. encode_utf8 c ++ x) more.1)
+
+  pub text_is_items : (t : List ℕ) → IsUtf8 t → AllByRecursion (IsItem shows) (text_items shows t) × (flat_map item_bytes (text_items shows t) ≡ t)
+  text_is_items t u = let r = characters_are_items (chars t) (scalars-chars t u) in (r.0, r.1 ∙ encodes-chars t u)
 
 -- a text without a backslash is its own escape
 front_of : (xs ys : List ℕ) → HasNoBackslash (xs ++ ys) → HasNoBackslash xs × HasNoBackslash ys
 front_of [] ys h = (tt, h)
 front_of (x ∷ xs) ys h = let more = front_of xs ys h.1 in ((h.0, more.0), more.1)
 
-own_characters : (cs : List ℕ) → HasNoBackslash (encode_utf8_all cs) → item_texts (map character_item cs) ≡ encode_utf8_all cs
+own_characters : (cs : List ℕ) → HasNoBackslash (encode_utf8_all cs) → item_texts (map (character_item is_any) cs) ≡ encode_utf8_all cs
 own_characters [] h = refl
 own_characters (c ∷ cs) h =
     let both = front_of (encode_utf8 c) (encode_utf8_all cs) h in
     let n : c ≢ backslash = λ e. (subst HasNoBackslash (ap encode_utf8 e ∙ encode_ascii backslash (omega arith)) both.0).0 refl in
     rw (ne_eqb c backslash n) (ap (λ x. encode_utf8 c ++ x) (own_characters cs both.1))
 
-pub own_text : (t : List ℕ) → IsUtf8 t → HasNoBackslash t → text_escape t ≡ t
+pub own_text : (t : List ℕ) → IsUtf8 t → HasNoBackslash t → text_escape is_any t ≡ t
 own_text t u h = own_characters (chars t) (subst HasNoBackslash (sym (encodes-chars t u)) h) ∙ encodes-chars t u
 
 -- what stands behind a backslash is text again
@@ -104,15 +119,15 @@ pub item_texts-append : (xs ys : List Item) → item_texts (xs ++ ys) ≡ item_t
 item_texts-append [] ys = refl
 item_texts-append (x ∷ xs) ys = ap (λ l. item_text x ++ l) (item_texts-append xs ys) ∙ sym (append_assoc (item_text x) (item_texts xs) (item_texts ys))
 
-map-append : (xs ys : List ℕ) → map character_item (xs ++ ys) ≡ map character_item xs ++ map character_item ys
-map-append [] ys = refl
-map-append (x ∷ xs) ys = ap (λ l. character_item x ∷ l) (map-append xs ys)
+pub map-append : (shows : ℕ → Bool) (xs ys : List ℕ) → map (character_item shows) (xs ++ ys) ≡ map (character_item shows) xs ++ map (character_item shows) ys
+map-append shows [] ys = refl
+map-append shows (x ∷ xs) ys = ap (λ l. character_item shows x ∷ l) (map-append shows xs ys)
 
 -- the escape of a text up to its first backslash, and behind that
-pub one_backslash : (t front behind : List ℕ) → t ≡ front ++ backslash ∷ behind → IsUtf8 front → IsUtf8 (backslash ∷ behind) → HasNoBackslash front → text_escape t ≡ front ++ (backslash ∷ backslash ∷ text_escape behind)
+pub one_backslash : (t front behind : List ℕ) → t ≡ front ++ backslash ∷ behind → IsUtf8 front → IsUtf8 (backslash ∷ behind) → HasNoBackslash front → text_escape is_any t ≡ front ++ (backslash ∷ backslash ∷ text_escape is_any behind)
 one_backslash t front behind e u v h =
-    ap text_escape e
-    ∙ ap (λ x. item_texts (map character_item x)) (chars-append front (backslash ∷ behind) u ∙ ap (λ x. chars front ++ x) (chars_past_char (backslash ∷ behind) behind backslash v (slash_in_front behind)))
-    ∙ ap item_texts (map-append (chars front) (backslash ∷ chars behind))
-    ∙ item_texts-append (text_items front) (map character_item (backslash ∷ chars behind))
-    ∙ ap (λ x. x ++ (backslash ∷ backslash ∷ text_escape behind)) (own_text front u h)
+    ap (text_escape is_any) e
+    ∙ ap (λ x. item_texts (map (character_item is_any) x)) (chars-append front (backslash ∷ behind) u ∙ ap (λ x. chars front ++ x) (chars_past_char (backslash ∷ behind) behind backslash v (slash_in_front behind)))
+    ∙ ap item_texts (map-append is_any (chars front) (backslash ∷ chars behind))
+    ∙ item_texts-append (text_items is_any front) (map (character_item is_any) (backslash ∷ chars behind))
+    ∙ ap (λ x. x ++ (backslash ∷ backslash ∷ text_escape is_any behind)) (own_text front u h)

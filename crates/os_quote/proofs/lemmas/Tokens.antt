@@ -1,51 +1,77 @@
 -- What begins with no token.
-use Rattle.std.proofs.Common.{◌≡◌, ◌≢◌, ℕ, ◌/◌, ◌%◌, ◌<◌, List, [], ◌∷◌, ◌++◌, refl, sym, ap, ◌∙◌, arith}
+use Rattle.std.proofs.Common.{◌≡◌, ◌≢◌, ℕ, ◌/◌, ◌%◌, ◌<◌, Bool, List, [], ◌∷◌, ◌++◌, refl, sym, ap, ◌∙◌, arith, append_assoc}
 use Rattle.std.proofs.lemmas.Str.{encode_same, encode_ascii}
-use Rattle.os_quote.specs.Item.{Item, Character, Backslash, ByteUnit, WideUnit, backslash, byte_digits, item_text, IsItem}
+use Rattle.os_quote.specs.Item.{Item, Character, Backslash, ByteUnit, WideUnit, LongCharacter, backslash, byte_digits, wide_digits, long_digits, item_text, IsLong, HasLongTokens, IsItem}
+use Rattle.os_quote.specs.Shown.{is_any, stays_on_line}
 use Rattle.os_quote.specs.Escape.{BeginsNoToken}
+use Rattle.os_quote.specs.Reading.{HasNoWide, HasNoNumber}
 use Rattle.os_quote.proofs.lemmas.Items.{tails, byte_same}
 
 -- no byte has its two digits at the front
 abbrev pub HasNoByte : List ℕ → Type 0
 HasNoByte bs = (b : ℕ) → b < 0x100 → (after : List ℕ) → bs ≢ byte_digits b ++ after
 
--- what may stand behind the backslash of a token doesn't
-no_token : (behind : List ℕ)
-    → ((after : List ℕ) → behind ≢ backslash ∷ after)
-    → ((u : ℕ) → u < 0x100 → (after : List ℕ) → behind ≢ 0x78 ∷ (byte_digits u ++ after))
-    → ((u : ℕ) → u < 0x1_0000 → (after : List ℕ) → behind ≢ 0x75 ∷ (byte_digits (u / 0x100) ++ (byte_digits (u % 0x100) ++ after)))
-    → BeginsNoToken (backslash ∷ behind)
-no_token behind b x u = record { behind = behind; first = refl; none = by }
-  where
-    by : (item : Item) → IsItem item → (after : List ℕ) → backslash ∷ behind ≢ item_text item ++ after
-    by (Character c) h after e = h.1 (encode_same c backslash after behind (sym e ∙ ap (λ l. l ++ behind) (sym (encode_ascii backslash (omega arith))))).0
-    by Backslash h after e = b after (tails e).1
-    by (ByteUnit v) h after e = x v h after (tails e).1
-    by (WideUnit v) h after e = u v h after (tails e).1
+module _ (shows : ℕ → Bool) where
+  -- what may stand behind the backslash of a token doesn't
+  no_token : (behind : List ℕ)
+      → ((after : List ℕ) → behind ≢ backslash ∷ after)
+      → ((u : ℕ) → u < 0x100 → (after : List ℕ) → behind ≢ 0x78 ∷ (byte_digits u ++ after))
+      → ((u : ℕ) → u < 0x1_0000 → (after : List ℕ) → behind ≢ 0x75 ∷ (wide_digits u ++ after))
+      → (HasLongTokens shows → (c : ℕ) → IsLong c → (after : List ℕ) → behind ≢ 0x75 ∷ 0x7B ∷ (long_digits c ++ 0x7D ∷ after))
+      → BeginsNoToken shows (backslash ∷ behind)
+  no_token behind b x u l = record { behind = behind; first = refl; none = by }
+    where
+      by : (item : Item) → IsItem shows item → (after : List ℕ) → backslash ∷ behind ≢ item_text item ++ after
+      by (Character c) h after e = h.1 (encode_same c backslash after behind (sym e ∙ ap (λ l. l ++ behind) (sym (encode_ascii backslash (omega arith))))).0
+      by Backslash h after e = b after (tails e).1
+      by (ByteUnit v) h after e = x v h after (tails e).1
+      by (WideUnit v) h after e = u v h after (tails e).1
+      by (LongCharacter c) h after e = l h.0 c h.1 after ((tails e).1 ∙ ap (λ z. 0x75 ∷ 0x7B ∷ z) (append_assoc (long_digits c) (0x7D ∷ []) after))
 
--- the end stands behind it
-pub nothing_behind : (behind : List ℕ) → behind ≡ [] → BeginsNoToken (backslash ∷ behind)
-nothing_behind behind n = no_token behind (λ after e. let f = sym n ∙ e in cc) (λ u h after e. let f = sym n ∙ e in cc) (λ u h after e. let f = sym n ∙ e in cc)
+  -- the end stands behind it
+  pub nothing_behind : (behind : List ℕ) → behind ≡ [] → BeginsNoToken shows (backslash ∷ behind)
+  nothing_behind behind n =
+      no_token behind (λ after e. let f = sym n ∙ e in cc) (λ u h after e. let f = sym n ∙ e in cc) (λ u h after e. let f = sym n ∙ e in cc) (λ t c h after e. let f = sym n ∙ e in cc)
 
--- another kind of byte
-pub other_kind : (behind digits : List ℕ) (kind : ℕ) → behind ≡ kind ∷ digits → kind ≢ 0x5C → kind ≢ 0x78 → kind ≢ 0x75 → BeginsNoToken (backslash ∷ behind)
-other_kind behind digits kind is b x u =
-    no_token behind (λ after e. b (tails (sym is ∙ e)).0) (λ v h after e. x (tails (sym is ∙ e)).0) (λ v h after e. u (tails (sym is ∙ e)).0)
+  -- another kind of byte
+  pub other_kind : (behind digits : List ℕ) (kind : ℕ) → behind ≡ kind ∷ digits → kind ≢ 0x5C → kind ≢ 0x78 → kind ≢ 0x75 → BeginsNoToken shows (backslash ∷ behind)
+  other_kind behind digits kind is b x u =
+      no_token behind (λ after e. b (tails (sym is ∙ e)).0) (λ v h after e. x (tails (sym is ∙ e)).0) (λ v h after e. u (tails (sym is ∙ e)).0) (λ t c h after e. u (tails (sym is ∙ e)).0)
 
--- `\x` and no two digits
-pub no_digits : (behind digits : List ℕ) (kind : ℕ) → behind ≡ kind ∷ digits → kind ≡ 0x78 → HasNoByte digits → BeginsNoToken (backslash ∷ behind)
-no_digits behind digits kind is k never =
-    no_token behind (λ after e. let t = tails (sym is ∙ e) in omega (arith, k, t.0)) (λ v h after e. never v h after (tails (sym is ∙ e)).1) (λ v h after e. let t = tails (sym is ∙ e) in omega (arith, k, t.0))
+  -- `\x` and no two digits
+  pub no_digits : (behind digits : List ℕ) (kind : ℕ) → behind ≡ kind ∷ digits → kind ≡ 0x78 → HasNoByte digits → BeginsNoToken shows (backslash ∷ behind)
+  no_digits behind digits kind is k never =
+      no_token behind (λ after e. let t = tails (sym is ∙ e) in omega (arith, k, t.0)) (λ v h after e. never v h after (tails (sym is ∙ e)).1)
+      (λ v h after e. let t = tails (sym is ∙ e) in omega (arith, k, t.0)) (λ l c h after e. let t = tails (sym is ∙ e) in omega (arith, k, t.0))
 
--- `\u` and no two digits
-pub no_high_digits : (behind digits : List ℕ) (kind : ℕ) → behind ≡ kind ∷ digits → kind ≡ 0x75 → HasNoByte digits → BeginsNoToken (backslash ∷ behind)
-no_high_digits behind digits kind is k never =
-    no_token behind (λ after e. let t = tails (sym is ∙ e) in omega (arith, k, t.0)) (λ v h after e. let t = tails (sym is ∙ e) in omega (arith, k, t.0)) (λ v h after e. never (v / 0x100) (omega arith) (byte_digits (v % 0x100) ++ after) (tails (sym is ∙ e)).1)
+  -- `\u` and no four digits, nor others between braces where the form has long tokens
+  pub no_number : (behind digits : List ℕ) (kind : ℕ) → behind ≡ kind ∷ digits → kind ≡ 0x75 → HasNoNumber shows digits → BeginsNoToken shows (backslash ∷ behind)
+  no_number behind digits kind is k never =
+      no_token behind (λ after e. let t = tails (sym is ∙ e) in omega (arith, k, t.0)) (λ v h after e. let t = tails (sym is ∙ e) in omega (arith, k, t.0))
+      (λ v h after e. never.0 v h after (tails (sym is ∙ e)).1) (λ l c h after e. never.1 l c h after (tails (sym is ∙ e)).1)
 
--- `\u`, two digits, and no further two
-pub no_low_digits : (behind digits lower : List ℕ) (kind high : ℕ) → behind ≡ kind ∷ digits → kind ≡ 0x75 → digits ≡ byte_digits high ++ lower → HasNoByte lower → BeginsNoToken (backslash ∷ behind)
-no_low_digits behind digits lower kind high is k two never =
-    no_token behind (λ after e. let t = tails (sym is ∙ e) in omega (arith, k, t.0)) (λ v h after e. let t = tails (sym is ∙ e) in omega (arith, k, t.0))
-    (λ v h after e. let s = byte_same high (v / 0x100) lower (byte_digits (v % 0x100) ++ after) (sym two ∙ (tails (sym is ∙ e)).1) in never (v % 0x100) (omega arith) after s.1)
+-- the form that shows every character has no long tokens
+pub no_long_tokens : {T : Type 0} → HasLongTokens is_any → T
+no_long_tokens h = let n = h.hidden in cc
 
-pub ruleset tokens = (nothing_behind, other_kind, no_digits, no_high_digits, no_low_digits)
+-- the form on one line has them: tags are written so
+pub line_has_long : HasLongTokens stays_on_line
+line_has_long = record { character = 0xE_0000; past = omega arith; hidden = refl }
+
+pub long_token : (digits : List ℕ) (c : ℕ) (rest : List ℕ) → digits ≡ 0x7B ∷ (long_digits c ++ 0x7D ∷ rest) → backslash ∷ 0x75 ∷ digits ≡ item_text (LongCharacter c) ++ rest
+long_token digits c rest e = ap (λ x. backslash ∷ 0x75 ∷ x) (e ∙ ap (λ x. 0x7B ∷ x) (sym (append_assoc (long_digits c) (0x7D ∷ []) rest)))
+
+-- no two digits, or no further two, are no four
+pub no_high_digits : (digits : List ℕ) → HasNoByte digits → HasNoWide digits
+no_high_digits digits never u h after e = never (u / 0x100) (omega arith) (byte_digits (u % 0x100) ++ after) e
+
+pub no_low_digits : (digits lower : List ℕ) (high : ℕ) → digits ≡ byte_digits high ++ lower → HasNoByte lower → HasNoWide digits
+no_low_digits digits lower high two never u h after e =
+    let s = byte_same high (u / 0x100) lower (byte_digits (u % 0x100) ++ after) (sym two ∙ e) in
+    never (u % 0x100) (omega arith) after s.1
+
+-- `\u` and what number_token reads behind it
+pub number_found : (behind digits whole : List ℕ) (kind : ℕ) → behind ≡ kind ∷ digits → kind ≡ 0x75 → backslash ∷ 0x75 ∷ digits ≡ whole → backslash ∷ behind ≡ whole
+number_found behind digits whole kind is k e = ap (λ x. backslash ∷ x) (is ∙ ap (λ x. x ∷ digits) k) ∙ e
+
+pub ruleset tokens = (nothing_behind, other_kind, no_digits, no_number, number_found)

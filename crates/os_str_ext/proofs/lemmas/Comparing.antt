@@ -1,6 +1,6 @@
 -- Bytes are the same where those at their front and those at their end are.
 use Rattle.std.proofs.Common.{◌≡◌, ℕ, ◌+◌, ◌-◌, ◌≤◌, List, ◌++◌, length, take, drop, refl, sym, ap, ◌∙◌, arith, take-append-drop, length-append, length-drop}
-use Rattle.std.proofs.lemmas.List.{drop-drop, take_at, drop_at}
+use Rattle.std.proofs.lemmas.List.{drop-drop, take_at}
 use Rattle.std.proofs.Math.Seq.{take-length}
 use Rattle.wtf8_core.specs.Standing.{IsFront, IsEnd}
 
@@ -51,8 +51,3 @@ front_fits p s h = let size : length s ≡ length p + length h.rest = ap length 
 
 pub end_from_drop : (p s : List ℕ) → drop (length s - length p) s ≡ p → IsEnd p s
 end_from_drop p s e = record { rest = take (length s - length p) s; joined = sym (take-append-drop (length s - length p) s) ∙ ap (λ x. take (length s - length p) s ++ x) e }
-
-pub drop_from_end : (p s : List ℕ) → IsEnd p s → drop (length s - length p) s ≡ p
-drop_from_end p s h =
-    let size : length s ≡ length h.rest + length p = ap length h.joined ∙ length-append h.rest p in
-    ap (drop (length s - length p)) h.joined ∙ drop_at h.rest p (length s - length p) (omega arith)

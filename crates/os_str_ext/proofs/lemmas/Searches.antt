@@ -106,9 +106,6 @@ end_stands p s h =
     let size : length s ≡ length h.rest + length p = ap length h.joined ∙ length-append h.rest p in
     record { before = h.rest; behind = []; joined = h.joined ∙ ap (λ q. h.rest ++ q) (sym (append-nil p)); place = omega arith }
 
-pub end_fits : (p s : List ℕ) → IsEnd p s → length p ≤ length s
-end_fits p s h = let fits = stands_within p s (length s - length p) (end_stands p s h) in omega arith
-
 -- a string may be cut behind a text at its front, and before one at its end
 pub cut_behind_front : EdgesOfTexts → (p s : List ℕ) → IsUtf8 p → IsFront p s → IsBoundary s (length p)
 cut_behind_front edges p s u h =

@@ -8,8 +8,9 @@ use Rattle.wtf8_core.specs.Surrogate.{IsHigh, IsLow, paired}
 use Rattle.wtf8_core.specs.CodePoint.{IsCodePoint, form, wide}
 use Rattle.wtf8_core.specs.Wtf8.{MayPrecede, HasUnits, units}
 use Rattle.wtf8_core.proofs.lemmas.Forms.{form_ascii}
-use Rattle.wtf8_core.proofs.lemmas.UnitsLemmas.{IsUnit, wide_single, may_precede, units_spelled}
-use Rattle.platform_str.specs.Bulk.{SpellsBefore, BeginsPair, BeginsNoPair}
+use Rattle.wtf8_core.proofs.lemmas.UnitsLemmas.{IsUnit, wide_single, may_precede, paired_units, units_spelled}
+use Rattle.wtf8_core.specs.FirstForm.{BeginsPair, BeginsNoPair}
+use Rattle.platform_str.specs.Bulk.{SpellsBefore}
 use Rattle.platform_str.proofs.lemmas.BulkUnits.{units_short}
 
 -- before the first unit, and behind the last
@@ -41,15 +42,11 @@ spells_single u rest i m = λ b h. record {
 }
 
 -- a pair
-pair_wide : (u v : ℕ) → IsHigh u → IsLow v → wide (paired u v) ≡ u ∷ v ∷ []
-unfolding wide
-pair_wide u v h l = grind (arith, nat_tests, h, l)
-
 pub spells_pair : (u v : ℕ) (rest : List ℕ) → IsHigh u → IsLow v → SpellsBefore (form (paired u v)) rest (u ∷ v ∷ rest)
 spells_pair u v rest i j = λ b h. record {
   code_points = paired u v ∷ h.code_points;
   spelled = record { code_points = (omega (arith, i.1, j.1), h.spelled.code_points); paired_free = (may_precede (paired u v) h.code_points (λ k. omega (arith, k.1)), h.spelled.paired_free); joined = ap (λ x. form (paired u v) ++ x) h.spelled.joined };
-  are = ap (λ x. u ∷ v ∷ x) h.are ∙ ap (λ x. x ++ units h.code_points) (sym (pair_wide u v i j));
+  are = ap (λ x. u ∷ v ∷ x) h.are ∙ ap (λ x. x ++ units h.code_points) (sym (paired_units u v i j));
 }
 
 -- ASCII

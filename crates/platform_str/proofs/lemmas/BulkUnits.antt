@@ -12,66 +12,8 @@ use Rattle.wtf8_core.specs.Wtf8.{Spells, IsWtf8, HasUnits, units}
 use Rattle.wtf8_core.specs.UnitsOf.{units_of}
 use Rattle.wtf8_core.proofs.lemmas.UnitsLemmas.{wide_single}
 use Rattle.wtf8_core.proofs.lemmas.UnitsOfLemmas.{code_points_in-spelled, has_units_of}
-use Rattle.platform_str.specs.Bulk.{BeginsForm}
-
--- the code point and the length of a form, by its first byte
-abbrev Leads : ℕ → ℕ → ℕ → Type 0
-Leads value len c = (value ≡ c) × (len ≡ length (form c))
-
-pub leads_one : (a b x y c : ℕ) (t behind : List ℕ) → a < 0x80 → IsCodePoint c → form c ++ behind ≡ a ∷ b ∷ x ∷ y ∷ t → Leads a 1 c
-unfolding form
-leads_one a b x y c t behind h p e = (grind (arith, nat_tests, e), grind (arith, nat_tests, e))
-
-pub leads_two : (a b x y c : ℕ) (t behind : List ℕ) → 0x80 ≤ a → a < 0xE0 → IsCodePoint c → form c ++ behind ≡ a ∷ b ∷ x ∷ y ∷ t → Leads ((a % 0x20) * 0x40 + b % 0x40) 2 c
-unfolding form
-leads_two a b x y c t behind l h p e = (grind (arith, nat_tests, e), grind (arith, nat_tests, e))
-
-pub leads_three : (a b x y c : ℕ) (t behind : List ℕ) → 0xE0 ≤ a → a < 0xF0 → IsCodePoint c → form c ++ behind ≡ a ∷ b ∷ x ∷ y ∷ t → Leads ((a % 0x10) * 0x1000 + ((b % 0x40) * 0x40 + x % 0x40)) 3 c
-unfolding form
-leads_three a b x y c t behind l h p e = (grind (arith, nat_tests, e), grind (arith, nat_tests, e))
-
-pub leads_four : (a b x y c : ℕ) (t behind : List ℕ) → 0xF0 ≤ a → IsCodePoint c → form c ++ behind ≡ a ∷ b ∷ x ∷ y ∷ t → Leads ((a % 0x10) * 0x4_0000 + (((b % 0x40) * 0x40 + x % 0x40) * 0x40 + y % 0x40)) 4 c
-unfolding form
-leads_four a b x y c t behind l p e = (grind (arith, nat_tests, e), grind (arith, nat_tests, e))
-
--- a string that isn't empty begins with a form
-pub first_of : (b : List ℕ) → IsWtf8 b → 0 < length b → (c : ℕ) × (rest : List ℕ) × BeginsForm b c rest
-first_of b w h = by w.0 w.1
-  where
-    by : (cs : List ℕ) → Spells b cs → (c : ℕ) × (rest : List ℕ) × BeginsForm b c rest
-    by [] s = absurd (omega (arith, ap length s.joined))
-    by (c ∷ cs) s =
-        let r : Spells (flat_map form cs) cs = record { code_points = s.code_points.1; paired_free = s.paired_free.1; joined = refl } in (
-          c,
-          flat_map form cs,
-          record {
-            code_point = s.code_points.0;
-            joined = s.joined;
-            formed = (cs, r);
-            units_are = ap units (code_points_in-spelled b (c ∷ cs) s) ∙ ap (λ us. wide c ++ us) (sym (ap units (code_points_in-spelled (flat_map form cs) cs r)));
-          },
-        )
-
-four_first : (b : List ℕ) → 4 ≤ length b → b ≡ slice_index b 0 ∷ slice_index b 1 ∷ slice_index b 2 ∷ slice_index b 3 ∷ drop 4 b
-four_first [] h = absurd (omega arith)
-four_first (x ∷ []) h = absurd (omega arith)
-four_first (x ∷ y ∷ []) h = absurd (omega arith)
-four_first (x ∷ y ∷ z ∷ []) h = absurd (omega arith)
-four_first (x ∷ y ∷ z ∷ u ∷ b) h = refl
-
--- what is read out of the first four bytes is the first form
-pub taken : (b : List ℕ) (value len : ℕ) → IsWtf8 b → 4 ≤ length b
-    → ((c : ℕ) (behind : List ℕ) → IsCodePoint c → form c ++ behind ≡ slice_index b 0 ∷ slice_index b 1 ∷ slice_index b 2 ∷ slice_index b 3 ∷ drop 4 (form c ++ behind) → Leads value len c)
-    → (len ≤ length b) × BeginsForm b value (drop len b)
-taken b value len w h read =
-    let f = first_of b w (omega arith) in
-    let c = f.0 in
-    let rest = f.1 in
-    let is = f.2 in
-    let l = read c rest is.code_point (sym is.joined ∙ four_first b h ∙ ap (λ t. slice_index b 0 ∷ slice_index b 1 ∷ slice_index b 2 ∷ slice_index b 3 ∷ drop 4 t) is.joined) in
-    let n : length b ≡ length (form c) + length rest = ap length is.joined ∙ length-append (form c) rest in
-    let d : drop len b ≡ rest = ap (λ m. drop m b) l.1 ∙ ap (drop (length (form c))) is.joined ∙ drop-append_seam (form c) rest in
-    (omega (arith, n, l.1), subst (λ r. BeginsForm b value r) (sym d) (subst (λ v. BeginsForm b v rest) (sym l.0) is))
+use Rattle.wtf8_core.specs.FirstForm.{BeginsForm}
+use Rattle.wtf8_core.proofs.lemmas.FirstForms.{first_of}
 
 ascii_first : (c x : ℕ) (rest l : List ℕ) → x < 0x80 → x ∷ l ≡ form c ++ rest → (c ≡ x) × (rest ≡ l)
 unfolding form

@@ -1,6 +1,5 @@
 -- Characters of lossy texts, and texts that are filled.
 use Rattle.std.proofs.Common.{◌≡◌, ℕ, ◌+◌, ◌-◌, ◌≤◌, List, [], ◌∷◌, ◌++◌, length, cond, Option, Some, None, refl, sym, ap, ◌∙◌, arith, append_assoc, unwrap_or}
-use Rattle.std.proofs.lemmas.List.{append-nil}
 use Rattle.std.specs.Char.{encode_utf8}
 use Rattle.std.specs.List.{repeat}
 use Rattle.std.specs.Fmt.{is_char_start, char_count}
@@ -42,27 +41,9 @@ pub count_replacement : char_count replacement ≡ 1
 unfolding char_count
 count_replacement = refl
 
--- no padding has no front
-none_before : (align : Option Alignment) → fill_before align 0 ≡ 0
-none_before None = refl
-none_before (Some Left) = refl
-none_before (Some Center) = refl
-none_before (Some Right) = refl
-
 -- the text with so much padding
 abbrev by_padding : ℕ → Option Alignment → List ℕ → ℕ → List ℕ
 by_padding fill align text padding = repeat (fill_before align padding) (encode_utf8 fill) ++ (text ++ repeat (padding - fill_before align padding) (encode_utf8 fill))
-
-no_padding : (n : ℕ) → 0 - n ≡ 0
-no_padding n = omega arith
-
--- where no width is asked for, nothing is filled
-pub filled_none : (fill : ℕ) (align : Option Alignment) (width : Option ℕ) (text : List ℕ) → width ≡ None → filled fill align width text ≡ text
-filled_none fill align width text e =
-    ap (λ w. filled fill align w text) e
-    ∙ ap (by_padding fill align text) (no_padding (char_count text))
-    ∙ ap (λ before. repeat before (encode_utf8 fill) ++ (text ++ repeat (0 - before) (encode_utf8 fill))) (none_before align)
-    ∙ append-nil text
 
 -- what is written by parts, where a width is asked for
 pub filled_by : (fill later : ℕ) (align : Option Alignment) (width : Option ℕ) (asked count padding before : ℕ) (text written : List ℕ) → later ≡ fill → width ≡ Some asked → count ≡ char_count written → written ≡ text → padding ≡ asked - count → before ≡ fill_before align padding

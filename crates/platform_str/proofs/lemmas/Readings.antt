@@ -1,5 +1,5 @@
 -- One step of the loop over the faults of bytes that aren't WTF-8.
-use Rattle.std.proofs.Common.{◌≡◌, ℕ, ◌<◌, ◌≤◌, List, ◌++◌, length, take, drop, sym, ap, ◌∙◌, subst, arith, append_assoc, length-append, length-drop}
+use Rattle.std.proofs.Common.{◌≡◌, ℕ, ◌≤◌, List, ◌++◌, length, take, drop, sym, ap, ◌∙◌, subst, arith, append_assoc, length-append}
 use Rattle.std.proofs.lemmas.List.{take_at, drop_at}
 use Rattle.wtf8_core.specs.Wtf8.{IsWtf8}
 use Rattle.wtf8_core.specs.Fault.{IsFaultAt}
@@ -7,7 +7,6 @@ use Rattle.wtf8_core.specs.Lossy.{replacement}
 use Rattle.wtf8_core.specs.LossyReading.{IsLossyReading}
 use Rattle.wtf8_core.specs.LossyReading.IsLossyReading.{formed, replaced}
 use Rattle.wtf8_core.proofs.lemmas.LossyReadings.{reading_wtf8}
-use Rattle.wtf8_core.proofs.lemmas.Sound.{refused_some}
 use Rattle.platform_str.specs.Lossy.{IsLeftToRead}
 
 module _ {rest : List ℕ} {v n : ℕ} (f : IsFaultAt rest v n) where
@@ -28,15 +27,6 @@ module _ {rest : List ℕ} {v n : ℕ} (f : IsFaultAt rest v n) where
   part_fits e =
       let all = ap length (e ∙ faulty_is ∙ f.first.begins.is) ∙ length-append f.first.begins.refused f.first.begins.rest in
       omega (arith, f.refused_is)
-
-  -- what is left becomes shorter
-  pub less_left : {faulty behind : List ℕ} → faulty ≡ drop v rest → behind ≡ drop n faulty → length behind < length rest
-  less_left e d =
-      let some = refused_some _ _ _ _ f.first.begins.refusal in
-      let place = ap length e ∙ length-drop v rest in
-      let part = ap length d ∙ length-drop n _ in
-      let fits = part_fits e in
-      omega (arith, f.refused_is, place_fits)
 
   -- the front and one U+FFFD are made, and what follows the part is left
   pub read_part : (all made : List ℕ) {front faulty behind once twice : List ℕ} → IsLeftToRead all made rest → front ≡ take v rest → faulty ≡ drop v rest → behind ≡ drop n faulty

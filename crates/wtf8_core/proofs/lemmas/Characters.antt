@@ -1,23 +1,10 @@
 -- Whole characters: where the reader finds them, and what their places are.
-use Rattle.std.proofs.Common.{◌≡◌, ℕ, ◌+◌, ◌-◌, ◌<◌, ◌≤◌, true, false, List, ◌∷◌, ◌++◌, length, take, drop, get_or, Option, Some, None, Result, Ok, Err, refl, sym, ap, ◌∙◌, subst, arith, length-append, take-append-drop}
-use Rattle.std.specs.Char.{IsScalar}
-use Rattle.wtf8_core.specs.Byte.{needed_continuations}
-use Rattle.wtf8_core.specs.Surrogate.{is_surrogate, is_high}
-use Rattle.wtf8_core.specs.CodePoint.{IsCodePoint, form}
-use Rattle.wtf8_core.specs.Character.{WholeCharacter, IsCharacterAt}
-use Rattle.wtf8_core.specs.Reader.{first_item, items_behind}
-use Rattle.wtf8_core.proofs.lemmas.Reading.{items-ok, items-err}
+use Rattle.wtf8_core.proofs.Common.{◌≡◌, ℕ, ◌+◌, ◌-◌, ◌<◌, ◌≤◌, true, false, List, ◌∷◌, ◌++◌, length, take, drop, get_or, Option, Some, None, Result, Ok, Err, refl, sym, ap, ◌∙◌, subst, arith, length-append, take-append-drop, IsScalar, needed_continuations, is_surrogate, is_high, IsCodePoint, form, WholeCharacter, IsCharacterAt, first_item, items_behind, IsUtf8, IsUtf8-encode, take_at, drop_at, length-take-le, nat_tests, common_steps, low_scalar, EncodingError}
+use Rattle.wtf8_core.proofs.lemmas.reader.Reading.{items-ok, items-err}
 use Rattle.wtf8_core.proofs.lemmas.Sound.{first_form}
 use Rattle.wtf8_core.proofs.lemmas.Forms.{form_ascii, form_bounds}
 use Rattle.wtf8_core.proofs.lemmas.FormsByStd.{form_encode, form_same}
-use Rattle.std.specs.Str.{IsUtf8}
-use Rattle.std.proofs.lemmas.Str.{IsUtf8-encode}
-use Rattle.std.proofs.lemmas.List.{take_at, drop_at, length-take-le}
 use Rattle.wtf8_core.proofs.lemmas.Complete.{item_of_form}
-use Rattle.std.proofs.lemmas.Bool.Decides.{nat_tests}
-use Rattle.std.proofs.lemmas.Grind.{common_steps}
-use Rattle.std.proofs.Math.Utf8.{low_scalar}
-use Rattle.wtf8_core.specs.declared.fault.EncodingError.{EncodingError}
 
 -- no character begins the bytes
 abbrev pub NoChar : List ℕ → Type 0

@@ -1,25 +1,10 @@
 -- The reader gives what the definitions say, whatever stands at the front: so bytes have one list of items.
-use Rattle.std.proofs.Common.{◌≡◌, inl, inr, ⊎_elim, ℕ, suc, ◌⊎◌, ◌<◌, ◌≤◌, Bool, false, List, [], ◌∷◌, ◌++◌, length, drop, map, Result, Ok, Err, refl, sym, ap, ◌∙◌, subst, arith, append_assoc}
-use Rattle.std.proofs.Math.Seq.{drop-append_seam}
-use Rattle.std.proofs.lemmas.List.{append-nil}
-use Rattle.wtf8_core.proofs.lemmas.FirstErr.{same_oks, no_err, same_faulty}
-use Rattle.std.proofs.lemmas.Bool.{cases_lt}
-use Rattle.std.proofs.lemmas.Bool.Decides.{nat_tests}
-use Rattle.std.specs.List.{AllByRecursion, flat_map}
-use Rattle.std.specs.Int.{IsInRange}
-use Rattle.wtf8_core.specs.Byte.{IsLead, needed_continuations}
-use Rattle.wtf8_core.specs.Surrogate.{IsHigh, IsLow, is_high}
-use Rattle.wtf8_core.specs.CodePoint.{IsCodePoint, form}
-use Rattle.wtf8_core.specs.Wtf8.{IsPairedFree, last_behind, Spells}
-use Rattle.wtf8_core.specs.Fault.{IsShape, shape_value, IsShort, IsBadShape, IsRefused, BeginsFault, IsFirstFault}
-use Rattle.wtf8_core.specs.Reader.{with_continuations, lead_bits, least_value, checked_value, and_then_checked, continuations, behind_item, first_item, items_behind, items_after}
-use Rattle.wtf8_core.specs.Items.{AreItems}
+use Rattle.wtf8_core.proofs.Common.{◌≡◌, inl, inr, ⊎_elim, ℕ, suc, ◌⊎◌, ◌<◌, ◌≤◌, Bool, false, List, [], ◌∷◌, ◌++◌, length, drop, map, Result, Ok, Err, refl, sym, ap, ◌∙◌, subst, arith, append_assoc, drop-append_seam, append-nil, cases_lt, nat_tests, AllByRecursion, flat_map, IsInRange, IsLead, needed_continuations, IsHigh, IsLow, is_high, IsCodePoint, form, IsPairedFree, last_behind, Spells, IsShape, shape_value, IsShort, IsBadShape, IsRefused, BeginsFault, IsFirstFault, with_continuations, lead_bits, least_value, checked_value, and_then_checked, continuations, behind_item, first_item, items_behind, items_after, AreItems, EncodingError, Byte, CodePoint, End, Utf8}
 use Rattle.wtf8_core.specs.Items.AreItems.{Whole, Faulty}
-use Rattle.wtf8_core.proofs.lemmas.Reading.{items-ok, items-step-err, items_behind-drop, first_ascii}
+use Rattle.wtf8_core.proofs.lemmas.FirstErr.{same_oks, no_err, same_faulty}
+use Rattle.wtf8_core.proofs.lemmas.reader.Reading.{items-ok, items-step-err, items_behind-drop, first_ascii}
 use Rattle.wtf8_core.proofs.lemmas.Forms.{form_ascii, form_parts, shape_is_form, long_shape, long_value}
-use Rattle.wtf8_core.proofs.lemmas.Continuations.{joins_all, joins_short, none_at_end, none_at_break, counts_all, counts_short, none_counted_at_end, none_counted_at_break}
-use Rattle.wtf8_core.specs.declared.fault.EncodingError.{EncodingError}
-use Rattle.wtf8_core.specs.declared.fault.EncodingError.TheVariants.{Byte, CodePoint, End, Utf8}
+use Rattle.wtf8_core.proofs.lemmas.reader.Continuations.{joins_all, joins_short, none_at_end, none_at_break, counts_all, counts_short, none_counted_at_end, none_counted_at_break}
 
 -- how many bytes behind the first belong to its item
 behind_item-none : (b : ℕ) (bs : List ℕ) → b < 0xC2 → behind_item b bs ≡ 0

@@ -1,17 +1,5 @@
 -- Where strings of forms are cut.
-use Rattle.std.proofs.Common.{◌≡◌, inl, inr, ⊎_elim, ℕ, ◌+◌, ◌<◌, true, List, [], ◌∷◌, ◌++◌, length, take, drop, refl, sym, ap, ◌∙◌, subst, arith, length-append, length-drop, append_assoc}
-use Rattle.std.proofs.Math.Utf8.{scalar}
-use Rattle.std.proofs.lemmas.Bool.{and_parts, cases_lt}
-use Rattle.std.proofs.lemmas.List.{drop_all, append-nil, take_at, drop_at}
-use Rattle.std.proofs.lemmas.Grind.{flat_map-append}
-use Rattle.std.proofs.lemmas.Str.{IsCharBoundary-from_drop, IsCharBoundary-from_take, IsUtf8-drop, IsUtf8-nil}
-use Rattle.std.specs.List.{AllByRecursion, flat_map}
-use Rattle.std.specs.Str.{IsUtf8, IsCharBoundary, all_scalars}
-use Rattle.wtf8_core.specs.Byte.{IsContinuation}
-use Rattle.wtf8_core.specs.CodePoint.{IsCodePoint, form}
-use Rattle.wtf8_core.specs.Wtf8.{IsPairedFree, Spells, IsWtf8}
-use Rattle.wtf8_core.specs.Character.{WholeCharacter}
-use Rattle.wtf8_core.specs.Boundary.{IsBoundary}
+use Rattle.wtf8_core.proofs.Common.{◌≡◌, inl, inr, ⊎_elim, ℕ, ◌+◌, ◌<◌, true, List, [], ◌∷◌, ◌++◌, length, take, drop, refl, sym, ap, ◌∙◌, subst, arith, length-append, length-drop, append_assoc, scalar, and_parts, cases_lt, drop_all, append-nil, take_at, drop_at, flat_map-append, IsCharBoundary-from_drop, IsCharBoundary-from_take, IsUtf8-drop, IsUtf8-nil, AllByRecursion, flat_map, IsUtf8, IsCharBoundary, all_scalars, IsContinuation, IsCodePoint, form, IsPairedFree, Spells, IsWtf8, WholeCharacter, IsBoundary}
 use Rattle.wtf8_core.proofs.lemmas.Characters.{whole_at}
 use Rattle.wtf8_core.proofs.lemmas.Forms.{form_parts}
 use Rattle.wtf8_core.proofs.lemmas.FormsByStd.{forms_encode, forms_front}

@@ -1,13 +1,5 @@
 -- Where a text stands that isn't empty, the string may be cut on both sides of it.
-use Rattle.std.proofs.Common.{◌≡◌, inl, inr, ⊎_elim, ℕ, ◌+◌, ◌-◌, ◌<◌, true, List, [], ◌∷◌, ◌++◌, length, refl, sym, ap, ◌∙◌, subst, arith, append_assoc}
-use Rattle.std.proofs.Math.Utf8.{scalar}
-use Rattle.std.proofs.lemmas.Bool.{and_parts, cases_lt}
-use Rattle.std.specs.List.{flat_map}
-use Rattle.std.specs.Str.{IsUtf8, all_scalars}
-use Rattle.wtf8_core.specs.CodePoint.{form}
-use Rattle.wtf8_core.specs.Standing.{StandsAt}
-use Rattle.wtf8_core.specs.Character.{WholeCharacter}
-use Rattle.wtf8_core.specs.Boundary.{IsBoundary}
+use Rattle.wtf8_core.proofs.Common.{◌≡◌, inl, inr, ⊎_elim, ℕ, ◌+◌, ◌-◌, ◌<◌, true, List, [], ◌∷◌, ◌++◌, length, refl, sym, ap, ◌∙◌, subst, arith, append_assoc, scalar, and_parts, cases_lt, flat_map, IsUtf8, all_scalars, form, StandsAt, WholeCharacter, IsBoundary}
 use Rattle.wtf8_core.proofs.lemmas.FormsByStd.{forms_encode}
 use Rattle.wtf8_core.proofs.lemmas.Overlaps.{no_start_inside}
 use Rattle.wtf8_core.proofs.lemmas.Seams.{text_covered}

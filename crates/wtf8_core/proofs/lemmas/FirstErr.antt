@@ -1,14 +1,7 @@
 -- What a caller that stops at the first `Err` knows. None of these statements speaks of what comes behind that `Err`.
-use Rattle.std.proofs.Common.{◌≡◌, ℕ, List, [], ◌∷◌, ◌++◌, map, Result, Ok, Err, refl, sym, ap, ◌∙◌, subst, append_assoc}
-use Rattle.std.specs.List.{AllByRecursion, flat_map}
-use Rattle.std.proofs.lemmas.List.{append-nil, map-append}
-use Rattle.wtf8_core.specs.CodePoint.{IsCodePoint, wide}
-use Rattle.wtf8_core.specs.Wtf8.{Spells, HasUnits, units}
-use Rattle.wtf8_core.specs.Fault.{IsFirstFault}
-use Rattle.wtf8_core.specs.Items.{AreItems, AreUnitItems, unit_items}
+use Rattle.wtf8_core.proofs.Common.{◌≡◌, ℕ, List, [], ◌∷◌, ◌++◌, map, Result, Ok, Err, refl, sym, ap, ◌∙◌, subst, append_assoc, AllByRecursion, flat_map, append-nil, map-append, IsCodePoint, wide, HasUnits, units, IsFirstFault, AreItems, AreUnitItems, unit_items, EncodingError}
 use Rattle.wtf8_core.specs.Items.AreItems.{Whole, Faulty}
 use Rattle.wtf8_core.specs.Encoder.{IsCodePointItem}
-use Rattle.wtf8_core.specs.declared.fault.EncodingError.{EncodingError}
 
 -- an item of bytes
 abbrev Item : Type 0
@@ -43,11 +36,6 @@ same_oks (c ∷ cs) (d ∷ ds) e = cc (same_oks cs ds (cc))
 pub one_more_ok : (cs : List ℕ) (c : ℕ) (rest : List (Result ℕ EncodingError)) → oks cs ++ Ok c ∷ rest ≡ oks (cs ++ c ∷ []) ++ rest
 one_more_ok [] c rest = refl
 one_more_ok (x ∷ cs) c rest = ap (λ l. Ok x ∷ l) (one_more_ok cs c rest)
-
--- bytes whose items are all Ok spell them
-pub items_all_ok : (bytes cs : List ℕ) → AreItems bytes (oks cs) → Spells bytes cs
-items_all_ok bytes cs (Whole r) = subst (Spells bytes) (sym (same_oks cs r.code_points r.are)) r.spelled
-items_all_ok bytes cs (Faulty {later = later} r l) = absurd (no_err cs r.code_points r.fault later r.are)
 
 -- the first Err is the first fault
 pub items_first_err : (bytes cs : List ℕ) (f : EncodingError) (rest : List (Result ℕ EncodingError)) → AreItems bytes (oks cs ++ Err f ∷ rest) → IsFirstFault bytes cs f

@@ -1,24 +1,8 @@
 -- Where the units of code points may be cut, and lists of code points joined.
-use Rattle.std.proofs.Common.{◌≡◌, ⊎_elim, ℕ, Bool, true, false, cond, List, [], ◌∷◌, ◌++◌, refl, sym, ap, ◌∙◌, subst, arith}
-use Rattle.std.proofs.lemmas.Bool.{cases_lt}
-use Rattle.std.specs.List.{AllByRecursion, flat_map}
-use Rattle.wtf8_core.specs.CodePoint.{IsCodePoint, form, wide}
-use Rattle.wtf8_core.specs.Wtf8.{IsPairedFree, MayPrecede, last_behind, units, Spells}
-use Rattle.wtf8_core.specs.Surrogate.{IsHigh, low_unit, paired, is_pair}
-use Rattle.wtf8_core.specs.Decoder.{code_points_of}
+use Rattle.wtf8_core.proofs.Common.{◌≡◌, ⊎_elim, ℕ, Bool, true, false, cond, List, [], ◌∷◌, ◌++◌, refl, sym, ap, ◌∙◌, subst, arith, cases_lt, AllByRecursion, flat_map, IsCodePoint, form, wide, IsPairedFree, MayPrecede, last_behind, units, Spells, IsHigh, low_unit, paired, is_pair, code_points_of}
 use Rattle.wtf8_core.proofs.lemmas.Cuts.{all_parts, paired_front, paired_back}
+use Rattle.wtf8_core.proofs.lemmas.Appending.{all_joined}
 use Rattle.wtf8_core.proofs.lemmas.UnitsLemmas.{wide_single, wide_pair, wide_units, read_single, reads_units, may_precede, IsUnit, reading}
-
--- what holds of each element of two lists holds of each of both joined
-pub all_joined : (P : ℕ → Type 0) (xs ys : List ℕ) → AllByRecursion P xs → AllByRecursion P ys → AllByRecursion P (xs ++ ys)
-all_joined P [] ys a b = b
-all_joined P (x ∷ xs) ys a b = (a.0, all_joined P xs ys a.1 b)
-
--- paired-free lists joined, where no pair arises
-pub paired_joined : (xs ys : List ℕ) → IsPairedFree xs → IsPairedFree ys → MayPrecede (last_behind 0 xs) ys → IsPairedFree (xs ++ ys)
-paired_joined [] ys f g m = g
-paired_joined (x ∷ []) ys f g m = (m, g)
-paired_joined (x ∷ y ∷ xs) ys f g m = (f.0, paired_joined (y ∷ xs) ys f.1 g m)
 
 -- the parts of a spelled list are spelled
 pub spells_front : (cs ds : List ℕ) → AllByRecursion IsCodePoint (cs ++ ds) → IsPairedFree (cs ++ ds) → Spells (flat_map form cs) cs

@@ -1,12 +1,5 @@
 -- Forms and shapes: the arithmetic.
-use Rattle.std.proofs.Common.{◌≡◌, ◌≢◌, ◌⊎◌, ℕ, ◌+◌, ◌/◌, ◌%◌, ◌<◌, ◌≤◌, List, [], ◌∷◌, length, drop, get_or, ap, arith}
-use Rattle.std.proofs.lemmas.Bool.Decides.{nat_tests}
-use Rattle.std.specs.List.{AllByRecursion}
-use Rattle.wtf8_core.specs.Byte.{IsByte, IsContinuation, needed_continuations}
-use Rattle.wtf8_core.specs.CodePoint.{IsCodePoint, form}
-use Rattle.wtf8_core.specs.Surrogate.{IsSurrogate}
-use Rattle.wtf8_core.specs.Fault.{IsShape, shape_value}
-use Rattle.wtf8_core.specs.Reader.{least_value}
+use Rattle.wtf8_core.proofs.Common.{◌≡◌, ◌≢◌, ◌⊎◌, ℕ, ◌+◌, ◌/◌, ◌%◌, ◌<◌, ◌≤◌, List, [], ◌∷◌, length, drop, get_or, ap, arith, nat_tests, AllByRecursion, IsByte, IsContinuation, needed_continuations, IsCodePoint, form, IsSurrogate, IsShape, shape_value, least_value}
 
 -- the form of an ASCII code point is one byte
 pub form_ascii : (c : ℕ) → c < 0x80 → form c ≡ c ∷ []

@@ -1,10 +1,5 @@
 -- Forms are std's `encode_utf8`, so std's lemmas serve, also at surrogates.
-use Rattle.std.proofs.Common.{◌≡◌, ℕ, List, [], ◌∷◌, ◌++◌, append_assoc, refl, sym, ap, ◌∙◌}
-use Rattle.std.specs.Char.{encode_utf8}
-use Rattle.std.specs.Str.{encode_utf8_all}
-use Rattle.std.specs.List.{flat_map}
-use Rattle.std.proofs.lemmas.Str.{encode_same, cons_from_encodes}
-use Rattle.wtf8_core.specs.CodePoint.{form}
+use Rattle.wtf8_core.proofs.Common.{◌≡◌, ℕ, List, [], ◌∷◌, ◌++◌, append_assoc, refl, sym, ap, ◌∙◌, encode_utf8, encode_utf8_all, flat_map, encode_same, cons_from_encodes, form}
 
 -- a form is std's, and so are forms
 pub form_encode : (c : ℕ) → form c ≡ encode_utf8 c

@@ -1,6 +1,5 @@
 -- Lists of pairs that alternate between two kinds of elements, as chunks do over bytes and runs over code points.
-use Rattle.std.proofs.Common.{◌≡◌, ◌⊎◌, ⊎_elim, ℕ, ◌+◌, ◌<◌, Bool, true, false, List, [], ◌∷◌, ◌++◌, length, refl, sym, ap, ◌∙◌, subst, arith, length-append, append_assoc}
-use Rattle.wtf8_core.specs.Chunks.{Chunk, joined}
+use Rattle.wtf8_core.proofs.Common.{◌≡◌, ◌⊎◌, ⊎_elim, ℕ, ◌+◌, ◌<◌, Bool, true, false, List, [], ◌∷◌, ◌++◌, length, refl, sym, ap, ◌∙◌, subst, arith, length-append, append_assoc, Chunk, joined}
 
 -- the pair c stands from i on, before these others; `first` says that none stands before it
 pub record IsGroup (IsPart IsText : ℕ → List ℕ → Type 0) (i : ℕ) (first : Bool) (c : Chunk) (behind : List Chunk) : Type 0 where

@@ -1,27 +1,11 @@
 -- Fronts and ends of WTF-8 by units: by bytes, but where a half of a pair stands at the edge.
-use Rattle.std.proofs.Common.{◌≡◌, ⊎_elim, ℕ, ◌+◌, ◌-◌, ◌*◌, ◌/◌, ◌%◌, ◌<◌, ◌≤◌, Bool, true, false, List, [], ◌∷◌, ◌++◌, length, take, drop, map, Result, Ok, Err, Bor, Some, None, refl, sym, ap, ◌∙◌, subst, arith, append_assoc, append-nil, length-append, length-drop, take-append-drop, get_or}
-use Rattle.std.proofs.Math.Dec.{eqb}
-use Rattle.std.proofs.Math.Seq.{drop-append_seam, take-append_seam}
-use Rattle.std.proofs.lemmas.Bool.{cases_lt, eqb-true, eq-eqb}
-use Rattle.std.proofs.lemmas.Bool.Decides.{Decides-eqb, nat_tests}
-use Rattle.std.proofs.lemmas.Grind.{flat_map-append}
-use Rattle.std.proofs.lemmas.List.{append_cancel_left, append_cancel_right}
+use Rattle.wtf8_core.proofs.Common.{◌≡◌, ⊎_elim, ℕ, ◌+◌, ◌-◌, ◌*◌, ◌/◌, ◌%◌, ◌<◌, ◌≤◌, Bool, true, false, List, [], ◌∷◌, ◌++◌, length, take, drop, map, Result, Ok, Err, Bor, Some, None, refl, sym, ap, ◌∙◌, subst, arith, append_assoc, append-nil, length-append, length-drop, take-append-drop, get_or, eqb, drop-append_seam, take-append_seam, cases_lt, eqb-true, eq-eqb, Decides-eqb, nat_tests, flat_map-append, append_cancel_left, append_cancel_right, IsTrue, pointwise, AllByRecursion, flat_map, MatchOption, IsHigh, IsLow, IsSurrogate, high_unit, low_unit, IsCodePoint, form, wide, IsPairedFree, MayPrecede, last_behind, units, Spells, IsWtf8, units_of, AreItems, AreUnitItems, unit_items, IsFront, IsEnd, EncodingError}
 use Rattle.std.proofs.lemmas.Slice.Eq.{starts_is, ends_is, strip_prefix_is, strip_suffix_is}
-use Rattle.std.specs.Bool.{IsTrue}
-use Rattle.std.specs.Cmp.Lexicographic.{pointwise}
-use Rattle.std.specs.List.{AllByRecursion, flat_map}
-use Rattle.std.specs.Option.{MatchOption}
-use Rattle.wtf8_core.specs.Surrogate.{IsHigh, IsLow, IsSurrogate, high_unit, low_unit}
-use Rattle.wtf8_core.specs.CodePoint.{IsCodePoint, form, wide}
-use Rattle.wtf8_core.specs.Wtf8.{IsPairedFree, MayPrecede, last_behind, units, Spells, IsWtf8}
-use Rattle.wtf8_core.specs.UnitsOf.{units_of}
-use Rattle.wtf8_core.specs.Items.{AreItems, AreUnitItems, unit_items}
 use Rattle.wtf8_core.specs.Items.AreItems.{Whole, Faulty}
-use Rattle.wtf8_core.specs.Standing.{IsFront, IsEnd}
-use Rattle.wtf8_core.specs.declared.fault.EncodingError.{EncodingError}
 use Rattle.wtf8_core.proofs.lemmas.Forms.{form_bounds, form_past}
 use Rattle.wtf8_core.proofs.lemmas.Ranges.{low_surrogate}
 use Rattle.wtf8_core.proofs.lemmas.FormsByStd.{form_same}
+use Rattle.wtf8_core.proofs.lemmas.Appending.{last_append, spells_one}
 use Rattle.wtf8_core.proofs.lemmas.Complete.{never_both}
 use Rattle.wtf8_core.proofs.lemmas.FirstErr.{units_whole}
 use Rattle.wtf8_core.proofs.lemmas.UnitsLemmas.{wide_single, wide_pair, precedes_wide, may_precede}
@@ -180,13 +164,9 @@ record IsLowFront (p behind : List ℕ) (l : ℕ) : Type 0 where
 
 low_front : (p behind : List ℕ) (l : ℕ) → IsWtf8 p → IsLow l → p ≡ form l ++ behind → IsLowFront p behind l
 low_front p behind l d i e =
-    let one : Spells (form l) (l ∷ []) = record { code_points = (omega (arith, i.1), tt); paired_free = (tt, tt); joined = sym (append-nil (form l)) } in
+    let one = spells_one l (omega (arith, i.1)) in
     let w = wtf8_standing.fronts (form l) behind (l ∷ [], one) (subst IsWtf8 e d) in
     record { formed = w.0; units_are = ap units_of e ∙ w.1 ∙ ap (λ z. z ++ units_of behind) (units_of_spelled (form l) (l ∷ []) one ∙ ap (λ z. z ++ []) (wide_single l (omega (arith, i.1)))) }
-
-last_of : (u l : ℕ) (us : List ℕ) → last_behind u (us ++ l ∷ []) ≡ l
-last_of u l [] = refl
-last_of u l (x ∷ us) = last_of x l us
 
 -- it is an end in units exactly where what stands behind is one in bytes and the surrogate the unit before
 pub low_end : (s p behind : List ℕ) (l : ℕ) → IsWtf8 s → IsWtf8 p → IsLow l → p ≡ form l ++ behind → IsEnd (units_of p) (units_of s) → IsEnd behind s
@@ -194,7 +174,7 @@ low_end s p behind l (cs, c) d i e f =
     let w = low_front p behind l d i e in
     let qs = w.formed.0 in
     let b = w.formed.1 in
-    let m : MayPrecede (last_behind 0 (f.rest ++ l ∷ [])) (units qs) = may_precede (last_behind 0 (f.rest ++ l ∷ [])) (units qs) (λ h. absurd (omega (arith, last_of 0 l f.rest, h.1, i.0))) in
+    let m : MayPrecede (last_behind 0 (f.rest ++ l ∷ [])) (units qs) = may_precede (last_behind 0 (f.rest ++ l ∷ [])) (units qs) (λ h. absurd (omega (arith, last_append 0 f.rest (l ∷ []), h.1, i.0))) in
     let r = units_end cs (f.rest ++ l ∷ []) qs c.code_points c.paired_free b.code_points b.paired_free m
     (sym (units_of_spelled s cs c) ∙ f.joined ∙ ap (λ z. f.rest ++ z) (w.units_are ∙ ap (λ z. l ∷ z) (units_of_spelled behind qs b)) ∙ sym (append_assoc f.rest (l ∷ []) (units qs))) in
     end_of_bytes s behind cs qs r.0 c.joined b.joined r.1

@@ -1,14 +1,5 @@
 -- No whole character starts or ends inside a maximal ill-formed part, and none lies across its edges.
-use Rattle.std.proofs.Common.{◌≡◌, ◌⊎◌, inl, inr, ⊎_elim, ℕ, ◌+◌, ◌-◌, ◌<◌, ◌≤◌, List, [], length, take, drop, get_or, Option, Some, None, sym, ap, ◌∙◌, subst, arith, length-drop, take-append-drop}
-use Rattle.std.proofs.Math.Seq.{take-length}
-use Rattle.std.proofs.lemmas.Bool.{cases_lt, cases_eq}
-use Rattle.std.proofs.lemmas.List.{get_or-drop, get_or-take, length-take-le}
-use Rattle.std.specs.Option.{MatchOption}
-use Rattle.std.specs.Str.{IsUtf8}
-use Rattle.wtf8_core.specs.Byte.{IsContinuation}
-use Rattle.wtf8_core.specs.Character.{WholeCharacter}
-use Rattle.wtf8_core.specs.Covered.{IsSeam}
-use Rattle.wtf8_core.specs.Utf8.{IsFrontOfCharacter, IsProperFront, IsIllFormed, IsUtf8Fault, part_end}
+use Rattle.wtf8_core.proofs.Common.{◌≡◌, ◌⊎◌, inl, inr, ⊎_elim, ℕ, ◌+◌, ◌-◌, ◌<◌, ◌≤◌, List, [], length, take, drop, get_or, Option, Some, None, sym, ap, ◌∙◌, subst, arith, length-drop, take-append-drop, take-length, cases_lt, cases_eq, get_or-drop, get_or-take, length-take-le, MatchOption, IsUtf8, IsContinuation, WholeCharacter, IsSeam, IsFrontOfCharacter, IsProperFront, IsIllFormed, IsUtf8Fault, part_end}
 use Rattle.wtf8_core.proofs.lemmas.Characters.{none_at, character_fits}
 use Rattle.wtf8_core.proofs.lemmas.Overlaps.{no_start}
 use Rattle.wtf8_core.proofs.lemmas.Seams.{seam_at_start, text_covered}

@@ -1,20 +1,6 @@
--- The definitions at some bytes.
+-- The definitions at some bytes: worked examples, which nothing cites.
+use Rattle.wtf8_core.proofs.Common.{◌≡◌, inl, inr, ⊎_elim, ℕ, ◌-◌, ◌<◌, false, List, [], ◌∷◌, ◌++◌, map, subst, length, drop, Result, Ok, Err, refl, arith, IsScalar, AllByRecursion, nat_tests, All-from_recursion, IsByte, form, wide, Spells, units, IsFirstFault, AreItems, WholeCharacter, IsBoundary, first_item, and_then_checked, with_continuations, checked_value, items_behind, items_after, behind_item, continuations, EncodingError, Byte, CodePoint, End}
 use borrow.Author.Count.{below_none, below_more}
-use Rattle.std.proofs.Common.{◌≡◌, inl, inr, ⊎_elim, ℕ, ◌-◌, ◌<◌, false, List, [], ◌∷◌, ◌++◌, map, subst, length, drop, Result, Ok, Err, refl, arith}
-use Rattle.std.specs.Char.{IsScalar}
-use Rattle.std.specs.List.{AllByRecursion}
-use Rattle.std.proofs.lemmas.Bool.Decides.{nat_tests}
-use Rattle.std.proofs.lemmas.List.Elements.{All-from_recursion}
-use Rattle.wtf8_core.specs.Byte.{IsByte}
-use Rattle.wtf8_core.specs.CodePoint.{form, wide}
-use Rattle.wtf8_core.specs.Wtf8.{Spells, units}
-use Rattle.wtf8_core.specs.Fault.{IsFirstFault}
-use Rattle.wtf8_core.specs.Items.{AreItems}
-use Rattle.wtf8_core.specs.Character.{WholeCharacter}
-use Rattle.wtf8_core.specs.Boundary.{IsBoundary}
-use Rattle.wtf8_core.specs.Reader.{first_item, and_then_checked, with_continuations, checked_value, items_behind, items_after, behind_item, continuations}
-use Rattle.wtf8_core.specs.declared.fault.EncodingError.{EncodingError}
-use Rattle.wtf8_core.specs.declared.fault.EncodingError.TheVariants.{Byte, CodePoint, End}
 use Rattle.wtf8_core.proofs.lemmas.FirstErr.{items_first_err}
 use Rattle.wtf8_core.proofs.lemmas.Sound.{items_of_bytes}
 use Rattle.wtf8_core.proofs.lemmas.Characters.{NoChar, none_at, begins_at, ascii_found, character_fits}
@@ -23,36 +9,19 @@ use Rattle.wtf8_core.proofs.lemmas.Characters.{NoChar, none_at, begins_at, ascii
 faulty : (bs cs : List ℕ) (f : EncodingError) (later : List (Result ℕ EncodingError)) → AllByRecursion IsByte bs → items_after false bs ≡ map Ok cs ++ Err f ∷ later → IsFirstFault bs cs f
 faulty bs cs f later a e = items_first_err bs cs f later (subst (AreItems bs) e (items_of_bytes bs (All-from_recursion IsByte bs a)))
 
--- a low surrogate behind a high one
-pub low_behind_high : IsFirstFault (0xED ∷ 0xA0 ∷ 0x80 ∷ 0xED ∷ 0xB0 ∷ 0x80 ∷ []) (0xD800 ∷ []) (CodePoint 0xDC00)
+-- a low surrogate behind a high one; E0 80, which ends; FF 41, which lacks a continuation
+pub first_faults : IsFirstFault (0xED ∷ 0xA0 ∷ 0x80 ∷ 0xED ∷ 0xB0 ∷ 0x80 ∷ []) (0xD800 ∷ []) (CodePoint 0xDC00) × IsFirstFault (0xE0 ∷ 0x80 ∷ []) [] End × IsFirstFault (0xFF ∷ 0x41 ∷ []) [] (Byte 0x41)
 unfolding items_behind behind_item continuations first_item and_then_checked with_continuations checked_value
-low_behind_high = faulty _ _ _ _ (grind arith) refl
-
--- E0 80 ends
-pub ends : IsFirstFault (0xE0 ∷ 0x80 ∷ []) [] End
-unfolding items_behind behind_item continuations first_item and_then_checked with_continuations checked_value
-ends = faulty _ _ _ _ (grind arith) refl
-
--- FF 41: a missing continuation
-pub broken : IsFirstFault (0xFF ∷ 0x41 ∷ []) [] (Byte 0x41)
-unfolding items_behind behind_item continuations first_item and_then_checked with_continuations checked_value
-broken = faulty _ _ _ (Ok 0x41 ∷ []) (grind arith) refl
+first_faults = (faulty _ _ _ [] (grind arith) refl, faulty _ _ _ [] (grind arith) refl, faulty _ _ _ (Ok 0x41 ∷ []) (grind arith) refl)
 
 -- the items behind a fault, before which no high surrogate is counted
 are_items : (bs : List ℕ) (items : List (Result ℕ EncodingError)) → AllByRecursion IsByte bs → items_after false bs ≡ items → AreItems bs items
 are_items bs items a e = subst (AreItems bs) e (items_of_bytes bs (All-from_recursion IsByte bs a))
 
-pub behind_a_low : AreItems (0xED ∷ 0xA0 ∷ 0x80 ∷ 0xED ∷ 0xB0 ∷ 0x80 ∷ 0xED ∷ 0xB0 ∷ 0x80 ∷ []) (Ok 0xD800 ∷ Err (CodePoint 0xDC00) ∷ Ok 0xDC00 ∷ [])
+pub items_behind_faults : AreItems (0xED ∷ 0xA0 ∷ 0x80 ∷ 0xED ∷ 0xB0 ∷ 0x80 ∷ 0xED ∷ 0xB0 ∷ 0x80 ∷ []) (Ok 0xD800 ∷ Err (CodePoint 0xDC00) ∷ Ok 0xDC00 ∷ [])
+    × AreItems (0xED ∷ 0xA0 ∷ 0x80 ∷ 0xC0 ∷ 0xED ∷ 0xB0 ∷ 0x80 ∷ []) (Ok 0xD800 ∷ Err (Byte 0xC0) ∷ Ok 0xDC00 ∷ []) × AreItems (0xE2 ∷ 0x82 ∷ 0x41 ∷ []) (Err (Byte 0x41) ∷ Ok 0x41 ∷ [])
 unfolding items_behind behind_item continuations first_item and_then_checked with_continuations checked_value
-behind_a_low = are_items _ _ (grind arith) refl
-
-pub behind_a_stray : AreItems (0xED ∷ 0xA0 ∷ 0x80 ∷ 0xC0 ∷ 0xED ∷ 0xB0 ∷ 0x80 ∷ []) (Ok 0xD800 ∷ Err (Byte 0xC0) ∷ Ok 0xDC00 ∷ [])
-unfolding items_behind behind_item continuations first_item and_then_checked with_continuations checked_value
-behind_a_stray = are_items _ _ (grind arith) refl
-
-pub behind_a_break : AreItems (0xE2 ∷ 0x82 ∷ 0x41 ∷ []) (Err (Byte 0x41) ∷ Ok 0x41 ∷ [])
-unfolding items_behind behind_item continuations first_item and_then_checked with_continuations checked_value
-behind_a_break = are_items _ _ (grind arith) refl
+items_behind_faults = (are_items _ _ (grind arith) refl, are_items _ _ (grind arith) refl, are_items _ _ (grind arith) refl)
 
 -- a low surrogate before a high one
 pub low_then_high : Spells (0xED ∷ 0xB0 ∷ 0x80 ∷ 0xED ∷ 0xA0 ∷ 0x80 ∷ []) (0xDC00 ∷ 0xD800 ∷ [])

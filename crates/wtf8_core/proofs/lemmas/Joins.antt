@@ -1,31 +1,19 @@
 -- Strings joined, by units: as bytes, but where a high surrogate meets a low one.
-use Rattle.std.proofs.Common.{◌≡◌, ℕ, ◌+◌, ◌-◌, ◌/◌, ◌%◌, ◌≤◌, List, [], ◌∷◌, ◌++◌, length, take, drop, refl, sym, ap, ◌∙◌, subst, arith, append_assoc, append-nil, length-append}
-use Rattle.std.proofs.Math.Seq.{take-append_seam, drop-append-add}
-use Rattle.std.proofs.lemmas.Bool.Decides.{nat_tests}
-use Rattle.std.proofs.lemmas.Grind.{flat_map-append}
-use Rattle.std.specs.List.{AllByRecursion, flat_map}
-use Rattle.wtf8_core.specs.CodePoint.{IsCodePoint, form, wide}
-use Rattle.wtf8_core.specs.Wtf8.{IsPairedFree, MayPrecede, last_behind, units, Spells, IsWtf8}
-use Rattle.wtf8_core.specs.UnitsOf.{units_of}
-use Rattle.wtf8_core.specs.Surrogate.{IsHigh, IsLow, paired}
+use Rattle.wtf8_core.proofs.Common.{◌≡◌, ℕ, ◌+◌, ◌-◌, ◌/◌, ◌%◌, ◌≤◌, List, [], ◌∷◌, ◌++◌, length, take, drop, refl, sym, ap, ◌∙◌, subst, arith, append_assoc, append-nil, length-append, take-append_seam, drop-append-add, flat_map-append, AllByRecursion, flat_map, IsCodePoint, form, wide, IsPairedFree, MayPrecede, last_behind, units, Spells, IsWtf8, units_of, paired}
 use Rattle.wtf8_core.specs.Join.{IsJoin, IsPairBetween}
-use Rattle.wtf8_core.proofs.lemmas.Cuts.{all_parts, paired_front}
 use Rattle.wtf8_core.proofs.lemmas.Ranges.{high_surrogate, low_surrogate}
 use Rattle.wtf8_core.proofs.lemmas.Forms.{form_surrogate}
 use Rattle.wtf8_core.proofs.lemmas.FormsByStd.{forms_front}
-use Rattle.wtf8_core.proofs.lemmas.UnitsLemmas.{wide_single, may_precede}
-use Rattle.wtf8_core.proofs.lemmas.FormCuts.{all_joined, paired_joined}
+use Rattle.wtf8_core.proofs.lemmas.UnitsLemmas.{wide_single, may_precede, paired_units}
+use Rattle.wtf8_core.proofs.lemmas.FormCuts.{spells_front, spells_back}
+use Rattle.wtf8_core.proofs.lemmas.Appending.{spells_one, spells_joined}
 use Rattle.wtf8_core.proofs.lemmas.TextsInStrings.{units_of_spelled}
 use Rattle.wtf8_core.proofs.lemmas.HalvesAtEdges.{last_point, split_at_last, forms_last, units_last}
 
 -- where no pair arises, the bytes joined
 pub plain_join : (a b : List ℕ) → IsWtf8 a → IsWtf8 b → ((c : ℕ) → IsPairBetween a b c → ⊥) → IsJoin IsWtf8 units_of a b (a ++ b)
 plain_join a b (cs, s) (ds, t) n =
-    let j : Spells (a ++ b) (cs ++ ds) = record {
-      code_points = all_joined IsCodePoint cs ds s.code_points t.code_points;
-      paired_free = paired_joined cs ds s.paired_free t.paired_free (apart ds t.joined);
-      joined = ap (λ z. z ++ b) s.joined ∙ ap (λ z. flat_map form cs ++ z) t.joined ∙ sym (flat_map-append form cs ds);
-    } in
+    let j = spells_joined a b cs ds s t (apart ds t.joined) in
     ((cs ++ ds, j), units_of_spelled (a ++ b) (cs ++ ds) j ∙ flat_map-append wide cs ds ∙ ap (λ z. z ++ units ds) (sym (units_of_spelled a cs s)) ∙ ap (λ z. units_of a ++ z) (sym (units_of_spelled b ds t)))
   where
     apart : (ds : List ℕ) → b ≡ flat_map form ds → MayPrecede (last_behind 0 cs) ds
@@ -34,11 +22,6 @@ plain_join a b (cs, s) (ds, t) n =
         let w = split_at_last 0 cs (λ k. omega (arith, k.0)) h in
         n (paired (last_behind 0 cs) d) (record { front = flat_map form w.0; high = last_behind 0 cs; low = d; rest = flat_map form ds; is_high = h; is_low = l; ends = s.joined ∙ ap (flat_map form) w.1 ∙ forms_last w.0 (last_behind 0 cs); begins = e; pair = refl })
 
--- the units of the code point of a pair are the pair
-wide_paired : (h l : ℕ) → IsHigh h → IsLow l → wide (paired h l) ≡ h ∷ l ∷ []
-unfolding wide
-wide_paired h l i j = grind (arith, nat_tests, i, j)
-
 -- where one arises, its form stands in the place of both surrogates
 pair_join : (a b : List ℕ) (c : ℕ) → IsWtf8 a → IsWtf8 b → (m : IsPairBetween a b c) → IsJoin IsWtf8 units_of a b (m.front ++ (form c ++ m.rest))
 pair_join a b c (cs, s) (ds, t) m =
@@ -46,17 +29,14 @@ pair_join a b c (cs, s) (ds, t) m =
     let l = m.low in
     let u = last_point cs m.front h (sym s.joined ∙ m.ends) in
     let v = forms_front (l ∷ []) ds m.rest (sym t.joined ∙ m.begins ∙ ap (λ z. z ++ m.rest) (sym (append-nil (form l)))) in
-    let cv = subst (AllByRecursion IsCodePoint) v.1 t.code_points in
-    let fv = subst IsPairedFree v.1 t.paired_free in
-    let k : Spells (m.front ++ (form c ++ m.rest)) (u.0 ++ (c ∷ v.0)) = record {
-      code_points = all_joined IsCodePoint u.0 (c ∷ v.0) (all_parts IsCodePoint u.0 (h ∷ []) (subst (AllByRecursion IsCodePoint) u.1 s.code_points)).0 (omega (arith, m.pair, m.is_high.1, m.is_low.1), cv.1);
-      paired_free = paired_joined u.0 (c ∷ v.0) (paired_front u.0 (h ∷ []) (subst IsPairedFree u.1 s.paired_free)) (may_precede c v.0 (λ q. omega (arith, m.pair, q.1, m.is_high.0)), fv.1) (λ q r. omega (arith, m.pair, r.1, m.is_high.0));
-      joined = ap (λ z. z ++ (form c ++ m.rest)) (sym u.2) ∙ ap (λ z. flat_map form u.0 ++ (form c ++ z)) (sym v.2) ∙ sym (flat_map-append form u.0 (c ∷ v.0));
-    } in (
+    let before : Spells m.front u.0 = subst (λ z. Spells z u.0) u.2 (spells_front u.0 (h ∷ []) (subst (AllByRecursion IsCodePoint) u.1 s.code_points) (subst IsPairedFree u.1 s.paired_free)) in
+    let behind : Spells m.rest v.0 = subst (λ z. Spells z v.0) v.2 (spells_back (l ∷ []) v.0 (subst (AllByRecursion IsCodePoint) v.1 t.code_points) (subst IsPairedFree v.1 t.paired_free)) in
+    let more = spells_joined (form c) m.rest (c ∷ []) v.0 (spells_one c (omega (arith, m.pair, m.is_high.1, m.is_low.1))) behind (may_precede c v.0 (λ q. omega (arith, m.pair, q.1, m.is_high.0))) in
+    let k = spells_joined m.front (form c ++ m.rest) u.0 (c ∷ v.0) before more (λ q r. omega (arith, m.pair, r.1, m.is_high.0)) in (
       (u.0 ++ (c ∷ v.0), k),
       units_of_spelled (m.front ++ (form c ++ m.rest)) (u.0 ++ (c ∷ v.0)) k
           ∙ flat_map-append wide u.0 (c ∷ v.0)
-          ∙ ap (λ z. units u.0 ++ (z ++ units v.0)) (ap wide m.pair ∙ wide_paired h l m.is_high m.is_low)
+          ∙ ap (λ z. units u.0 ++ (z ++ units v.0)) (ap wide m.pair ∙ paired_units h l m.is_high m.is_low)
           ∙ sym (append_assoc (units u.0) (h ∷ []) (l ∷ units v.0))
           ∙ ap (λ z. (units u.0 ++ z) ++ (l ∷ units v.0)) (sym (wide_single h (omega (arith, m.is_high.1))))
           ∙ ap (λ z. z ++ (l ∷ units v.0)) (sym (units_last u.0 h) ∙ ap units (sym u.1) ∙ sym (units_of_spelled a cs s))

@@ -1,21 +1,13 @@
 -- The lossy reading of bytes is the forms of their items, with FFFD for each fault.
-use Rattle.std.proofs.Common.{◌≡◌, ℕ, suc, List, [], ◌∷◌, ◌++◌, map, length, Result, Err, refl, sym, ap, ◌∙◌, subst, arith}
-use Rattle.std.proofs.lemmas.Grind.{flat_map-append}
-use Rattle.std.proofs.lemmas.List.{append-nil}
-use Rattle.std.specs.List.{All, AllByRecursion, flat_map}
-use Rattle.wtf8_core.specs.Byte.{IsByte}
-use Rattle.wtf8_core.specs.CodePoint.{IsCodePoint, form}
-use Rattle.wtf8_core.specs.Wtf8.{Spells, IsPairedFree, IsWtf8}
-use Rattle.wtf8_core.specs.Fault.{IsFirstFault}
-use Rattle.wtf8_core.specs.Items.{AreItems}
+use Rattle.wtf8_core.proofs.Common.{◌≡◌, ℕ, suc, List, [], ◌∷◌, ◌++◌, map, length, Result, Err, refl, sym, ap, ◌∙◌, subst, arith, flat_map-append, append-nil, All, flat_map, IsByte, form, Spells, IsWtf8, IsFirstFault, AreItems, replacement, EncodingError}
 use Rattle.wtf8_core.specs.Items.AreItems.{Whole, Faulty}
-use Rattle.wtf8_core.specs.Lossy.{replacement}
 use Rattle.wtf8_core.specs.LossyReading.{IsLossyReading, lossy_code_point, lossy_forms}
 use Rattle.wtf8_core.specs.LossyReading.IsLossyReading.{formed, replaced}
-use Rattle.wtf8_core.specs.declared.fault.EncodingError.{EncodingError}
 use Rattle.wtf8_core.proofs.lemmas.Complete.{one_list_of_items}
 use Rattle.wtf8_core.proofs.lemmas.FirstErr.{oks}
 use Rattle.wtf8_core.proofs.lemmas.Sound.{some_items}
+use Rattle.wtf8_core.proofs.lemmas.Appending.{spells_one, spells_joined}
+use Rattle.wtf8_core.proofs.lemmas.UnitsLemmas.{may_precede}
 
 abbrev Items : Type 0
 Items = List (Result ℕ EncodingError)
@@ -79,25 +71,11 @@ some_reading b a =
     let w = some_items (suc (length b)) b (omega arith) a in
     (lossy_forms w.0, reading_of_items b w.0 w.1)
 
--- FFFD between two lists makes no pair
-free_between : (cs ds : List ℕ) → IsPairedFree cs → IsPairedFree ds → IsPairedFree (cs ++ 0xFFFD ∷ ds)
-free_between [] [] f g = (tt, g)
-free_between [] (d ∷ ds) f g = ((λ h l. omega (arith, h.1)), g)
-free_between (c ∷ []) ds f g = ((λ h l. omega (arith, l.1)), free_between [] ds tt g)
-free_between (c ∷ d ∷ cs) ds f g = (f.0, free_between (d ∷ cs) ds f.1 g)
-
-points_between : (cs ds : List ℕ) → AllByRecursion IsCodePoint cs → AllByRecursion IsCodePoint ds → AllByRecursion IsCodePoint (cs ++ 0xFFFD ∷ ds)
-points_between [] ds f g = (omega arith, g)
-points_between (c ∷ cs) ds f g = (f.0, points_between cs ds f.1 g)
-
--- so the reading is WTF-8
+-- FFFD makes no pair, so the reading is WTF-8
 pub reading_wtf8 : (b reading : List ℕ) → IsLossyReading b reading → IsWtf8 reading
 reading_wtf8 b reading (formed w) = w
 reading_wtf8 b reading (replaced {cs = cs} {reading = behind} f l) =
     let w = reading_wtf8 f.begins.rest behind l in
-    let forms : f.before ++ (replacement ++ behind) ≡ flat_map form (cs ++ 0xFFFD ∷ w.0) =
-    ap (λ x. x ++ (replacement ++ behind)) f.spelled.joined
-    ∙ ap (λ x. flat_map form cs ++ (x ++ behind)) (sym replacement_is)
-    ∙ ap (λ x. flat_map form cs ++ (form 0xFFFD ++ x)) w.1.joined
-    ∙ sym (flat_map-append form cs (0xFFFD ∷ w.0)) in
-    (cs ++ 0xFFFD ∷ w.0, record { code_points = points_between cs w.0 f.spelled.code_points w.1.code_points; paired_free = free_between cs w.0 f.spelled.paired_free w.1.paired_free; joined = forms })
+    let one : Spells replacement (0xFFFD ∷ []) = subst (λ x. Spells x (0xFFFD ∷ [])) replacement_is (spells_one 0xFFFD (omega arith)) in
+    let more = spells_joined replacement behind (0xFFFD ∷ []) w.0 one w.1 (may_precede 0xFFFD w.0 (λ h. omega (arith, h.1))) in
+    (cs ++ 0xFFFD ∷ w.0, spells_joined f.before (replacement ++ behind) cs (0xFFFD ∷ w.0) f.spelled more (λ h l. omega (arith, l.1)))

@@ -1,15 +1,7 @@
 -- Whole characters don't overlap, so a boundary stays one in a part that ends or starts at a boundary.
-use Rattle.std.proofs.Common.{◌≡◌, ◌⊎◌, inl, inr, ⊎_elim, ℕ, zero, suc, ◌+◌, ◌-◌, ◌<◌, ◌≤◌, List, ◌++◌, length, take, drop, get_or, sym, ap, ◌∙◌, subst, arith, length-drop}
-use Rattle.std.proofs.Math.Seq.{take-append-add}
-use Rattle.std.proofs.lemmas.Bool.{cases_lt, cases_eq}
-use Rattle.std.proofs.lemmas.List.{drop-drop, drop-take, length-take-le, get_or-drop, get_or_append_left}
-use Rattle.wtf8_core.specs.Byte.{IsContinuation}
-use Rattle.wtf8_core.specs.CodePoint.{form}
-use Rattle.wtf8_core.specs.Character.{WholeCharacter}
-use Rattle.wtf8_core.specs.Boundary.{IsBoundary}
+use Rattle.wtf8_core.proofs.Common.{◌≡◌, ◌⊎◌, inl, inr, ⊎_elim, ℕ, zero, suc, ◌+◌, ◌-◌, ◌<◌, ◌≤◌, List, ◌++◌, length, take, drop, get_or, sym, ap, ◌∙◌, subst, arith, length-drop, take-append-add, cases_lt, cases_eq, drop-drop, drop-take, length-take-le, get_or-drop, get_or_append_left, IsContinuation, form, WholeCharacter, IsBoundary, All-from_recursion, All-get_or}
 use Rattle.wtf8_core.proofs.lemmas.Forms.{form_bounds, form_parts}
 use Rattle.wtf8_core.proofs.lemmas.Characters.{begins_at, whole_at, character_fits, same_end}
-use Rattle.std.proofs.lemmas.List.Elements.{All-from_recursion, All-get_or}
 
 -- the bytes of a form behind the first are continuations, and the first is none
 pub form_behind : (c m : ℕ) → 0 < m → m < length (form c) → IsContinuation (get_or (form c) m 0)

@@ -1,16 +1,6 @@
 -- The units of strings in which no whole character stands, and of strings that begin with none.
-use Rattle.std.proofs.Common.{◌≡◌, ⊎_elim, ℕ, ◌+◌, ◌<◌, ◌≤◌, true, List, [], ◌∷◌, ◌++◌, length, take, drop, refl, sym, ap, ◌∙◌, subst, arith, length-append, take-append-drop}
-use Rattle.std.proofs.lemmas.Bool.{cases_lt, cases_Bool, lt-ltb, le-ltb}
-use Rattle.std.proofs.lemmas.List.{append-nil, drop_at}
-use Rattle.std.proofs.lemmas.List.Elements.{All-from_recursion}
-use Rattle.std.specs.List.{AllByRecursion, flat_map}
-use Rattle.wtf8_core.specs.Byte.{IsByte}
-use Rattle.wtf8_core.specs.Surrogate.{IsSurrogate, is_surrogate}
-use Rattle.wtf8_core.specs.CodePoint.{form}
-use Rattle.wtf8_core.specs.Covered.{StartsBare, IsBare}
+use Rattle.wtf8_core.proofs.Common.{◌≡◌, ⊎_elim, ℕ, ◌+◌, ◌<◌, ◌≤◌, true, List, [], ◌∷◌, ◌++◌, length, take, drop, refl, sym, ap, ◌∙◌, subst, arith, length-append, take-append-drop, cases_lt, cases_Bool, lt-ltb, le-ltb, append-nil, drop_at, All-from_recursion, AllByRecursion, flat_map, IsByte, IsSurrogate, is_surrogate, form, StartsBare, IsBare, units_of, Spells, IsWtf8, units}
 use Rattle.wtf8_core.specs.PartUnits.{unit_bytes, AreLoneSurrogates}
-use Rattle.wtf8_core.specs.UnitsOf.{units_of}
-use Rattle.wtf8_core.specs.Wtf8.{Spells, IsWtf8, units}
 use Rattle.wtf8_core.proofs.lemmas.Characters.{ascii_found, whole_at, is_scalar}
 use Rattle.wtf8_core.proofs.lemmas.Forms.{length-form_surrogate}
 use Rattle.wtf8_core.proofs.lemmas.Ranges.{in_range-true}

@@ -1,13 +1,7 @@
 -- Over the laws of standing alone: pieces, strips and trims in units.
-use Rattle.std.proofs.Common.{◌≡◌, ℕ, zero, suc, ◌<◌, List, [], ◌∷◌, ◌++◌, length, map, Option, Some, None, refl, sym, ap, ◌∙◌, subst, arith, append_assoc, append-nil, length-append}
-use Rattle.std.proofs.lemmas.List.{append_cancel_left, nil_from_length}
-use Rattle.std.specs.List.{repeat}
-use Rattle.std.specs.Str.{IsUtf8}
-use Rattle.wtf8_core.specs.Standing.{IsLeastPlace, IsGreatestPlace, IsFront, IsEnd}
-use Rattle.wtf8_core.specs.UnitPlace.{IsBytePlace, IsUnitPlaceOf}
+use Rattle.wtf8_core.proofs.Common.{◌≡◌, ℕ, zero, suc, ◌<◌, List, [], ◌∷◌, ◌++◌, length, map, Option, Some, None, refl, sym, ap, ◌∙◌, subst, arith, append_assoc, append-nil, length-append, append_cancel_left, nil_from_length, repeat, IsUtf8, IsLeastPlace, IsGreatestPlace, IsFront, IsEnd, IsBytePlace, IsUnitPlaceOf, StandingLaws}
 use Rattle.wtf8_core.specs.Pieces.{SplitsAt, IsSplit, IsRSplit, IsStartTrim, IsEndTrim, IsTrim, StripsFront, StripsEnd, SplitsOnce}
 use Rattle.wtf8_core.specs.Pieces.FallsInto.{whole, cut}
-use Rattle.wtf8_core.specs.StandingLaws.{StandingLaws}
 use Rattle.wtf8_core.proofs.lemmas.PlacesInUnits.{shorter_front, no_units, nothing, around, least, greatest, nowhere, nowhere_in_units, none_first, none_last, no_units_first, no_units_last}
 
 -- fronts of one length are one

@@ -1,11 +1,5 @@
 -- Over the laws of standing alone: what holds of places in bytes holds of places in units.
-use Rattle.std.proofs.Common.{◌≡◌, ⊎_elim, ℕ, ◌+◌, ◌<◌, ◌≤◌, List, [], ◌∷◌, ◌++◌, length, Option, Some, None, refl, sym, ap, ◌∙◌, subst, arith, append-nil, length-append}
-use Rattle.std.proofs.lemmas.Bool.{cases_lt}
-use Rattle.std.proofs.lemmas.List.{append_cancel_left, nil_from_length}
-use Rattle.std.specs.Str.{IsUtf8}
-use Rattle.wtf8_core.specs.Standing.{StandsAt, StandsNowhere, IsLeastPlace, IsGreatestPlace, Finds}
-use Rattle.wtf8_core.specs.UnitPlace.{IsBytePlace, IsUnitPlaceOf, FindsInUnits}
-use Rattle.wtf8_core.specs.StandingLaws.{StandingLaws}
+use Rattle.wtf8_core.proofs.Common.{◌≡◌, ⊎_elim, ℕ, ◌+◌, ◌<◌, ◌≤◌, List, [], ◌∷◌, ◌++◌, length, Option, Some, None, refl, sym, ap, ◌∙◌, subst, arith, append-nil, length-append, cases_lt, append_cancel_left, nil_from_length, IsUtf8, StandsAt, StandsNowhere, IsLeastPlace, IsGreatestPlace, Finds, IsBytePlace, IsUnitPlaceOf, FindsInUnits, StandingLaws}
 
 -- of two fronts of a list one is a front of the other
 pub shorter_front : (x y z w : List ℕ) → x ++ z ≡ y ++ w → length x ≤ length y → (v : List ℕ) × (y ≡ x ++ v) × (z ≡ v ++ w)

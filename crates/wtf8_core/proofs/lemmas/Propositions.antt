@@ -1,16 +1,10 @@
 -- Facts with at most one proof.
-use Rattle.std.proofs.Common.{ℕ, List, [], ◌∷◌, true, sym, ◌∙◌}
+use Rattle.wtf8_core.proofs.Common.{ℕ, List, [], ◌∷◌, true, sym, ◌∙◌, AllByRecursion, AllByRecursion-prop, IsCodePoint, IsPairedFree, MayPrecede, Spells, IsWtf8, IsUtf8, all_scalars, encode_utf8_all, encodes_same, Bool-set}
 use Rattle.std.proofs.Math.Bridge.{le_prop}
-use Rattle.std.specs.List.{AllByRecursion, AllByRecursion-prop}
-use Rattle.wtf8_core.specs.CodePoint.{IsCodePoint}
-use Rattle.wtf8_core.specs.Wtf8.{IsPairedFree, MayPrecede, Spells, IsWtf8}
-use Rattle.wtf8_core.proofs.lemmas.Complete.{spelled_once}
-use Rattle.std.specs.Str.{IsUtf8, all_scalars, encode_utf8_all}
-use Rattle.std.proofs.lemmas.Str.{encodes_same}
-use mathlib.Core.Bool.{Bool-set}
 use mathlib.Core.HLevel.{Σ_prop, Σ_prop_path, hedberg}
 use mathlib.Core.List.{is_set}
 use native.Mathlib.Decide.{ℕ_discrete}
+use Rattle.wtf8_core.proofs.lemmas.Complete.{spelled_once}
 
 -- paired-free lists
 may_precede_prop : (c : ℕ) (cs : List ℕ) → IsProp (MayPrecede c cs)

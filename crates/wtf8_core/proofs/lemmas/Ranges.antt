@@ -1,8 +1,5 @@
 -- The test of a range of numbers and the fact that it tests.
-use Rattle.std.proofs.Common.{◌≡◌, ◌⊎◌, ℕ, true, false, arith}
-use Rattle.std.proofs.lemmas.Bool.Decides.{nat_tests}
-use Rattle.std.specs.Int.{is_in_range, IsInRange}
-use Rattle.wtf8_core.specs.Surrogate.{IsHigh, IsLow, IsSurrogate}
+use Rattle.wtf8_core.proofs.Common.{◌≡◌, ◌⊎◌, ℕ, true, false, arith, nat_tests, is_in_range, IsInRange, IsHigh, IsLow, IsSurrogate}
 
 -- where the test is true
 pub in_range-true : (a b x : ℕ) → is_in_range a b x ≡ true → IsInRange a b x

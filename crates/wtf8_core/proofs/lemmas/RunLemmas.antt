@@ -1,18 +1,6 @@
 -- Of WTF-8 the chunks are the forms of the runs of surrogates, each with the scalars behind it.
-use Rattle.std.proofs.Common.{◌≡◌, inl, inr, ⊎_elim, ℕ, ◌+◌, ◌-◌, ◌≤◌, Bool, true, false, List, [], ◌∷◌, ◌++◌, map, length, drop, get_or, refl, sym, ap, ◌∙◌, subst, arith, length-append, append_assoc}
-use Rattle.std.proofs.Math.Seq.{drop-append_seam}
-use Rattle.std.proofs.lemmas.Bool.{cases_eq, cases_Bool}
-use Rattle.std.proofs.lemmas.Grind.{flat_map-append}
-use Rattle.std.proofs.lemmas.List.{get_or-drop, get_or_append_left}
-use Rattle.std.specs.Char.{IsScalar}
-use Rattle.std.specs.List.{AllByRecursion}
-use Rattle.wtf8_core.specs.Byte.{IsContinuation}
-use Rattle.wtf8_core.specs.Surrogate.{IsSurrogate, is_surrogate}
-use Rattle.wtf8_core.specs.CodePoint.{IsCodePoint, form}
-use Rattle.wtf8_core.specs.Covered.{IsCovered, IsSeam}
-use Rattle.wtf8_core.specs.Chunks.{Chunk, joined, AreChunks}
+use Rattle.wtf8_core.proofs.Common.{◌≡◌, inl, inr, ⊎_elim, ℕ, ◌+◌, ◌-◌, ◌≤◌, Bool, true, false, List, [], ◌∷◌, ◌++◌, map, length, drop, get_or, refl, sym, ap, ◌∙◌, subst, arith, length-append, append_assoc, drop-append_seam, cases_eq, cases_Bool, flat_map-append, get_or-drop, get_or_append_left, IsScalar, AllByRecursion, IsContinuation, IsSurrogate, is_surrogate, IsCodePoint, form, IsCovered, IsSeam, Chunk, joined, AreChunks, Spells}
 use Rattle.wtf8_core.specs.Runs.{AreRuns, form_chunk}
-use Rattle.wtf8_core.specs.Wtf8.{Spells}
 use Rattle.wtf8_core.proofs.lemmas.Ranges.{in_range-true, in_range}
 use Rattle.wtf8_core.proofs.lemmas.Forms.{form_bounds}
 use Rattle.wtf8_core.proofs.lemmas.FormsByStd.{form_same}

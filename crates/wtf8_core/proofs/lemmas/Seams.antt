@@ -1,18 +1,5 @@
 -- Bytes in whole characters and in none, and the places across which no whole character lies.
-use Rattle.std.proofs.Common.{◌≡◌, ◌⊎◌, inl, inr, ⊎_elim, ℕ, zero, suc, ◌+◌, ◌-◌, ◌<◌, ◌≤◌, true, false, List, [], ◌∷◌, ◌++◌, length, drop, Result, Ok, Err, refl, sym, ap, ◌∙◌, subst, arith, length-append, append_assoc}
-use Rattle.std.proofs.lemmas.Bool.{and_parts, cases_lt, cases_eq, cases_Bool}
-use Rattle.std.proofs.Math.Seq.{drop-append_seam}
-use Rattle.std.proofs.Math.Utf8.{scalar}
-use Rattle.std.specs.Char.{IsScalar}
-use Rattle.std.specs.List.{AllByRecursion, flat_map}
-use Rattle.std.specs.Str.{IsUtf8, all_scalars}
-use Rattle.wtf8_core.specs.Byte.{IsByte}
-use Rattle.wtf8_core.specs.Surrogate.{is_surrogate}
-use Rattle.wtf8_core.specs.CodePoint.{form}
-use Rattle.wtf8_core.specs.Character.{WholeCharacter}
-use Rattle.wtf8_core.specs.Covered.{IsCovered, IsSeam}
-use Rattle.wtf8_core.specs.Reader.{first_item}
-use Rattle.wtf8_core.specs.declared.fault.EncodingError.{EncodingError}
+use Rattle.wtf8_core.proofs.Common.{◌≡◌, ◌⊎◌, inl, inr, ⊎_elim, ℕ, zero, suc, ◌+◌, ◌-◌, ◌<◌, ◌≤◌, true, false, List, [], ◌∷◌, ◌++◌, length, drop, Result, Ok, Err, refl, sym, ap, ◌∙◌, subst, arith, length-append, append_assoc, and_parts, cases_lt, cases_eq, cases_Bool, drop-append_seam, scalar, IsScalar, AllByRecursion, flat_map, IsUtf8, all_scalars, IsByte, is_surrogate, form, WholeCharacter, IsCovered, IsSeam, first_item, EncodingError}
 use Rattle.wtf8_core.proofs.lemmas.Forms.{form_bounds, form_bytes}
 use Rattle.wtf8_core.proofs.lemmas.FormsByStd.{forms_encode}
 use Rattle.wtf8_core.proofs.lemmas.Characters.{character_fits, same_end, whole_at, begins_at, none_at, none_begins, none_past, none_in_none, none_at_surrogate, none_at_fault, scalar_point, is_scalar}
@@ -160,7 +147,7 @@ scalar_covered s x r i c e l h k =
     (λ j low high. record { start = i; end = i + length (form c); whole = w; from = low; below = high }, seam_past s i (i + length (form c)) k w)
 
 -- those of a text lie in whole characters, and a text behind a seam ends at one
-scalars_are : (cs : List ℕ) → all_scalars cs ≡ true → AllByRecursion IsScalar cs
+pub scalars_are : (cs : List ℕ) → all_scalars cs ≡ true → AllByRecursion IsScalar cs
 scalars_are [] e = tt
 scalars_are (c ∷ cs) e = let both = and_parts (scalar c) _ e in (both.0, scalars_are cs both.1)
 

@@ -1,26 +1,12 @@
 -- Any bytes are forms up to their end or a fault, so the reader's items are those of the definitions.
-use Rattle.std.proofs.Common.{◌≡◌, ◌⊎◌, inl, inr, ⊎_elim, ℕ, zero, suc, ◌+◌, ◌<◌, ◌≤◌, false, List, [], ◌∷◌, ◌++◌, length, drop, map, Result, Ok, Err, refl, sym, ap, ◌∙◌, subst, arith, append_assoc, length-append, Fits, w8, get_or}
-use Rattle.std.proofs.Math.Seq.{drop-append_seam}
-use Rattle.std.proofs.lemmas.Bool.{cases_lt}
-use Rattle.std.proofs.lemmas.List.{append-nil}
-use Rattle.std.proofs.lemmas.List.Elements.{All-drop, All-from_get_or}
-use Rattle.std.specs.List.{All, AllByRecursion, flat_map}
-use Rattle.wtf8_core.specs.Byte.{IsByte, needed_continuations}
-use Rattle.wtf8_core.specs.Surrogate.{IsHigh, IsLow, is_high}
-use Rattle.wtf8_core.specs.CodePoint.{IsCodePoint, form}
-use Rattle.wtf8_core.specs.Wtf8.{IsPairedFree, last_behind, IsWtf8}
-use Rattle.wtf8_core.specs.Fault.{IsBegun, IsShape, shape_value, IsRefused, BeginsFault, IsFirstFault}
-use Rattle.wtf8_core.specs.Items.{AreItems}
+use Rattle.wtf8_core.proofs.Common.{◌≡◌, ◌⊎◌, inl, inr, ⊎_elim, ℕ, zero, suc, ◌+◌, ◌<◌, ◌≤◌, false, List, [], ◌∷◌, ◌++◌, length, drop, map, Result, Ok, Err, refl, sym, ap, ◌∙◌, subst, arith, append_assoc, length-append, Fits, w8, get_or, drop-append_seam, cases_lt, append-nil, All-drop, All-from_get_or, All, AllByRecursion, flat_map, IsByte, needed_continuations, IsHigh, IsLow, is_high, IsCodePoint, form, IsPairedFree, last_behind, IsWtf8, IsBegun, IsShape, shape_value, IsRefused, BeginsFault, IsFirstFault, AreItems, least_value, behind_item, first_item, items_behind, items_after, EncodingError, Byte, CodePoint, End, Utf8}
 use Rattle.wtf8_core.specs.Items.AreItems.{Whole, Faulty}
-use Rattle.wtf8_core.specs.Reader.{least_value, behind_item, first_item, items_behind, items_after}
 use Rattle.wtf8_core.proofs.lemmas.Ranges.{range_cases}
 use Rattle.wtf8_core.proofs.lemmas.Forms.{form_ascii, form_bounds, shape_is_form, no_form}
-use Rattle.wtf8_core.proofs.lemmas.Continuations.{Stops, split}
-use Rattle.wtf8_core.proofs.lemmas.Continuations.Stops.{whole, ends, breaks}
-use Rattle.wtf8_core.proofs.lemmas.Reading.{items-ok}
+use Rattle.wtf8_core.proofs.lemmas.reader.Continuations.{Stops, split}
+use Rattle.wtf8_core.proofs.lemmas.reader.Continuations.Stops.{whole, ends, breaks}
+use Rattle.wtf8_core.proofs.lemmas.reader.Reading.{items-ok}
 use Rattle.wtf8_core.proofs.lemmas.Complete.{item_of_form, items_of_fault, items_if}
-use Rattle.wtf8_core.specs.declared.fault.EncodingError.{EncodingError}
-use Rattle.wtf8_core.specs.declared.fault.EncodingError.TheVariants.{Byte, CodePoint, End, Utf8}
 
 -- behind the code point p the bytes begin with a form
 pub record BeginsForm (p : ℕ) (bs : List ℕ) : Type 0 where

@@ -1,30 +1,13 @@
 -- Texts are WTF-8, and what texts are.
-use Rattle.std.proofs.Common.{◌≡◌, inl, inr, ⊎_elim, ℕ, zero, suc, ◌+◌, ◌<◌, ◌≤◌, true, List, [], ◌∷◌, ◌++◌, length, take, drop, map, Option, Some, None, refl, sym, ap, ◌∙◌, subst, arith, length-drop, drop-drop, take-append-drop, append_assoc}
-use Rattle.std.specs.Char.{encode_utf8}
-use Rattle.std.specs.Option.{MatchOption, unwrap_or}
-use Rattle.std.specs.List.{All, AllByRecursion, flat_map}
-use Rattle.std.specs.Str.{IsUtf8, IsValidUpTo, all_scalars, is_utf8}
-use Rattle.std.specs.Str.Lossy.{utf8_lossy, utf8_error_len, utf8_invalid_len, utf8_valid_len, valid_len_up_to}
-use Rattle.std.proofs.lemmas.Bool.{cases_lt, and_parts, cond_both, cases_Bool, false≢true}
-use Rattle.std.proofs.lemmas.Bool.Decides.{nat_tests}
-use Rattle.std.proofs.lemmas.List.Elements.{All-from_recursion}
-use Rattle.std.proofs.lemmas.List.{length-take, take_all}
-use Rattle.std.proofs.lemmas.Str.{IsUtf8-append, IsUtf8-nil, IsUtf8-from_is_utf8, is_utf8-from_IsUtf8, utf8_lossy-IsUtf8}
+use Rattle.wtf8_core.proofs.Common.{◌≡◌, inl, inr, ⊎_elim, ℕ, zero, suc, ◌+◌, ◌<◌, ◌≤◌, true, List, [], ◌∷◌, ◌++◌, length, take, drop, map, Option, Some, None, refl, sym, ap, ◌∙◌, subst, arith, length-drop, drop-drop, take-append-drop, append_assoc, encode_utf8, MatchOption, unwrap_or, All, AllByRecursion, flat_map, IsUtf8, IsValidUpTo, all_scalars, is_utf8, utf8_lossy, utf8_error_len, utf8_invalid_len, utf8_valid_len, valid_len_up_to, cases_lt, and_parts, cond_both, cases_Bool, false≢true, nat_tests, All-from_recursion, length-take, take_all, IsUtf8-append, IsUtf8-nil, IsUtf8-from_is_utf8, is_utf8-from_IsUtf8, utf8_lossy-IsUtf8, IsByte, IsCodePoint, form, IsPairedFree, Spells, IsWtf8, IsProperFront, IsIllFormed, IsUtf8Fault, IsIllFormedPart, wtf8_lossy, replacement, IsLossyText, without_surrogate, scalar}
 use Rattle.wtf8_core.specs.Lossy.IsLossyText.{text, replaced}
-use Rattle.wtf8_core.specs.Byte.{IsByte}
-use Rattle.wtf8_core.specs.CodePoint.{IsCodePoint, form}
-use Rattle.wtf8_core.proofs.lemmas.Lists.{all_flat_map}
+use Rattle.wtf8_core.proofs.lemmas.Appending.{all_flat_map}
 use Rattle.wtf8_core.proofs.lemmas.Characters.{NoChar, scalar_point}
-use Rattle.wtf8_core.specs.Wtf8.{IsPairedFree, Spells, IsWtf8}
-use Rattle.wtf8_core.specs.Utf8.{IsProperFront, IsIllFormed, IsUtf8Fault, IsIllFormedPart}
-use Rattle.wtf8_core.specs.UnitsOf.{wtf8_lossy}
-use Rattle.wtf8_core.specs.Lossy.{replacement, IsLossyText, without_surrogate}
 use Rattle.wtf8_core.proofs.lemmas.Forms.{form_bytes}
 use Rattle.wtf8_core.proofs.lemmas.FormsByStd.{forms_encode}
 use Rattle.wtf8_core.proofs.lemmas.UnitsOfLemmas.{code_points_in-spelled, has_lossy_text}
 use Rattle.wtf8_core.proofs.lemmas.Utf8Lemmas.{fault_is, no_char}
 use Rattle.wtf8_core.proofs.lemmas.Utf8Facts.{kept, lossy_step, behind_text, one_valid}
-use Rattle.std.proofs.Math.Utf8.{scalar}
 
 -- scalars are code points, and paired-free
 points_of_scalars : (cs : List ℕ) → all_scalars cs ≡ true → AllByRecursion IsCodePoint cs

@@ -1,23 +1,13 @@
 -- The laws of standing and of joins for WTF-8.
-use Rattle.std.proofs.Common.{◌≡◌, ⊎_elim, ℕ, ◌<◌, true, List, [], ◌∷◌, ◌++◌, length, sym, ap, ◌∙◌, subst, arith, append-nil, append_assoc}
-use Rattle.std.proofs.lemmas.Bool.{and_parts}
-use Rattle.std.proofs.lemmas.Grind.{flat_map-append}
-use Rattle.std.specs.List.{AllByRecursion, flat_map}
-use Rattle.std.specs.Char.{IsScalar}
-use Rattle.std.specs.Str.{IsUtf8, all_scalars}
-use Rattle.std.proofs.Math.Utf8.{scalar, scalar_cases}
-use Rattle.wtf8_core.specs.Surrogate.{IsHigh, IsLow}
-use Rattle.wtf8_core.specs.CodePoint.{IsCodePoint, form, wide}
-use Rattle.wtf8_core.specs.Wtf8.{IsPairedFree, MayPrecede, last_behind, units, Spells, IsWtf8}
-use Rattle.wtf8_core.specs.UnitsOf.{units_of}
-use Rattle.wtf8_core.specs.StandingLaws.{IsCutAround, StandingLaws}
+use Rattle.wtf8_core.proofs.Common.{◌≡◌, ⊎_elim, ℕ, ◌<◌, true, List, [], ◌∷◌, ◌++◌, length, sym, ap, ◌∙◌, subst, arith, append-nil, append_assoc, and_parts, flat_map-append, AllByRecursion, flat_map, IsScalar, IsUtf8, all_scalars, scalar, scalar_cases, IsHigh, IsLow, IsCodePoint, form, wide, IsPairedFree, MayPrecede, last_behind, units, Spells, IsWtf8, units_of, IsCutAround, StandingLaws}
 use Rattle.wtf8_core.proofs.lemmas.Cuts.{all_parts, paired_back, bytes_found}
 use Rattle.wtf8_core.proofs.lemmas.FormsByStd.{forms_front}
 use Rattle.wtf8_core.proofs.lemmas.Characters.{scalar_point}
 use Rattle.wtf8_core.proofs.lemmas.UnitsLemmas.{precedes_wide, IsUnit, units_spelled, may_precede}
 use Rattle.wtf8_core.proofs.lemmas.UnitsOfLemmas.{code_points_in-spelled, units_of-is, one_spelling}
+use Rattle.wtf8_core.proofs.lemmas.Appending.{all_joined}
 use Rattle.wtf8_core.proofs.lemmas.Texts.{text_spells, wtf8_of_text}
-use Rattle.wtf8_core.proofs.lemmas.FormCuts.{all_joined, spells_front, spells_back, units_fit, cut_at_units, last_unit, units_front}
+use Rattle.wtf8_core.proofs.lemmas.FormCuts.{spells_front, spells_back, units_fit, cut_at_units, last_unit, units_front}
 
 -- the units of what code points spell
 pub units_of_spelled : (b cs : List ℕ) → Spells b cs → units_of b ≡ units cs

@@ -1,13 +1,5 @@
 -- Units and code points, one to one.
-use Rattle.std.proofs.Common.{◌≡◌, ℕ, ◌<◌, ◌≤◌, List, [], ◌∷◌, ◌++◌, length, get_or, Fits, w16, refl, sym, ap, ◌∙◌, arith}
-use Rattle.std.proofs.lemmas.Bool.{cond_both}
-use Rattle.std.proofs.lemmas.Bool.Decides.{nat_tests}
-use Rattle.std.proofs.lemmas.List.Elements.{All-from_get_or, recursion_from_All}
-use Rattle.std.specs.List.{AllByRecursion, flat_map}
-use Rattle.wtf8_core.specs.Surrogate.{IsHigh, IsLow, high_unit, low_unit, is_pair, paired}
-use Rattle.wtf8_core.specs.CodePoint.{IsCodePoint, form, wide}
-use Rattle.wtf8_core.specs.Wtf8.{IsPairedFree, MayPrecede, units, HasUnits}
-use Rattle.wtf8_core.specs.Decoder.{code_points_of, decoder_bytes}
+use Rattle.wtf8_core.proofs.Common.{◌≡◌, ℕ, ◌<◌, ◌≤◌, List, [], ◌∷◌, ◌++◌, length, get_or, Fits, w16, refl, sym, ap, ◌∙◌, arith, cond_both, nat_tests, All-from_get_or, recursion_from_All, AllByRecursion, flat_map, IsHigh, IsLow, high_unit, low_unit, is_pair, paired, IsCodePoint, form, wide, IsPairedFree, MayPrecede, units, HasUnits, code_points_of, decoder_bytes}
 use Rattle.wtf8_core.proofs.lemmas.Complete.{spelled_once}
 
 -- the units of a code point, one or two
@@ -72,7 +64,7 @@ read_precedes u v [] m = m
 read_precedes u v (w ∷ us) m = cond_both (is_pair v w) _ _ (MayPrecede u) (λ e h l. omega (arith, l.0, l.1)) (λ e. m)
 
 -- the units of a pair
-paired_units : (u v : ℕ) → IsHigh u → IsLow v → wide (paired u v) ≡ u ∷ v ∷ []
+pub paired_units : (u v : ℕ) → IsHigh u → IsLow v → wide (paired u v) ≡ u ∷ v ∷ []
 unfolding wide
 paired_units u v h l = grind (arith, nat_tests, h, l)
 

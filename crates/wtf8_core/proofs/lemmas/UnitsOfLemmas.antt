@@ -1,15 +1,7 @@
 -- The function and the relation of units, and units of parts.
-use Rattle.std.proofs.Common.{◌≡◌, ◌↔◌, ℕ, ◌<◌, ◌^◌, List, [], ◌∷◌, ◌++◌, take, drop, map, Ok, refl, sym, ap, ◌∙◌, subst}
-use Rattle.std.proofs.lemmas.Grind.{flat_map-append}
-use Rattle.std.specs.List.{All, flat_map}
-use Rattle.std.proofs.lemmas.List.Elements.{All-from_recursion, recursion_from_All}
-use Rattle.wtf8_core.specs.CodePoint.{IsCodePoint, form, wide}
-use Rattle.wtf8_core.specs.Wtf8.{Spells, IsWtf8, HasUnits, units}
-use Rattle.wtf8_core.specs.Lossy.{IsWtf8LossyText, without_surrogate}
-use Rattle.wtf8_core.specs.UnitsOf.{ok_values, code_points_in, units_of, wtf8_lossy}
-use Rattle.wtf8_core.specs.Boundary.{IsBoundary}
+use Rattle.wtf8_core.proofs.Common.{◌≡◌, ◌↔◌, ℕ, ◌<◌, ◌^◌, List, [], ◌∷◌, ◌++◌, take, drop, map, Ok, refl, sym, ap, ◌∙◌, subst, flat_map-append, All, flat_map, All-from_recursion, recursion_from_All, IsCodePoint, form, wide, Spells, IsWtf8, HasUnits, units, IsWtf8LossyText, without_surrogate, ok_values, code_points_in, units_of, wtf8_lossy, IsBoundary}
 use Rattle.wtf8_core.proofs.lemmas.Complete.{items_if_spelled}
-use Rattle.wtf8_core.proofs.lemmas.Lists.{all_flat_map}
+use Rattle.wtf8_core.proofs.lemmas.Appending.{all_flat_map}
 use Rattle.wtf8_core.proofs.lemmas.UnitsLemmas.{wide_units, IsUnit, units_once, units_spelled}
 use Rattle.wtf8_core.proofs.lemmas.Cuts.{boundary_cut, spells_parts}
 

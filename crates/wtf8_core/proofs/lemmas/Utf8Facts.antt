@@ -1,29 +1,13 @@
 -- One fault, and lossy texts.
-use Rattle.std.proofs.Common.{◌≡◌, inl, inr, ⊎_elim, ℕ, ◌+◌, ◌<◌, ◌≤◌, true, false, List, [], ◌∷◌, ◌++◌, length, take, drop, map, Option, Some, None, refl, sym, ap, ◌∙◌, subst, arith, take-append-drop}
-use Rattle.std.specs.Option.{MatchOption, unwrap_or}
-use Rattle.std.specs.List.{flat_map}
-use Rattle.std.specs.Str.{IsUtf8, IsValidUpTo, all_scalars}
-use Rattle.std.specs.Str.Lossy.{utf8_lossy, utf8_error_len, utf8_invalid_len}
-use Rattle.std.proofs.Math.Seq.{take-length}
-use Rattle.std.proofs.lemmas.Bool.{cases_lt, cases_Bool, and_parts, cond-true, cond-false}
-use Rattle.std.proofs.lemmas.List.{map-append}
-use Rattle.std.proofs.lemmas.Grind.{flat_map-append}
-use Rattle.std.proofs.lemmas.Str.{utf8_lossy_step, utf8_lossy-IsUtf8, utf8_valid_len-IsValidUpTo}
-use Rattle.wtf8_core.specs.Surrogate.{is_surrogate}
-use Rattle.wtf8_core.specs.CodePoint.{form}
-use Rattle.wtf8_core.proofs.lemmas.Characters.{NoChar, none_at, scalar_no_surrogate}
-use Rattle.wtf8_core.specs.Wtf8.{Spells, IsWtf8}
-use Rattle.wtf8_core.specs.Utf8.{IsProperFront, IsIllFormed, IsUtf8Fault, IsIllFormedPart}
-use Rattle.wtf8_core.specs.UnitsOf.{wtf8_lossy}
-use Rattle.wtf8_core.specs.Lossy.{replacement, IsLossyText, without_surrogate}
+use Rattle.wtf8_core.proofs.Common.{◌≡◌, inl, inr, ⊎_elim, ℕ, ◌+◌, ◌<◌, ◌≤◌, true, false, List, [], ◌∷◌, ◌++◌, length, take, drop, map, Option, Some, None, refl, sym, ap, ◌∙◌, subst, arith, take-append-drop, MatchOption, unwrap_or, flat_map, IsUtf8, IsValidUpTo, all_scalars, utf8_lossy, utf8_error_len, utf8_invalid_len, take-length, cases_lt, cases_Bool, and_parts, cond-true, cond-false, map-append, flat_map-append, utf8_lossy_step, utf8_lossy-IsUtf8, utf8_valid_len-IsValidUpTo, is_surrogate, form, Spells, IsWtf8, IsProperFront, IsIllFormed, IsUtf8Fault, IsIllFormedPart, wtf8_lossy, replacement, IsLossyText, without_surrogate, scalar, ◌-◌, take-add, length-drop, take-take, drop-drop, drop-take, IsUtf8-append}
 use Rattle.wtf8_core.specs.Lossy.IsLossyText.{text, replaced}
+use Rattle.wtf8_core.proofs.lemmas.Characters.{NoChar, none_at, scalar_no_surrogate}
 use Rattle.wtf8_core.proofs.lemmas.FormsByStd.{forms_encode, forms_front}
-use Rattle.wtf8_core.proofs.lemmas.Cuts.{spells_parts}
+use Rattle.wtf8_core.proofs.lemmas.Cuts.{spells_parts, utf8_behind}
 use Rattle.wtf8_core.proofs.lemmas.UnitsOfLemmas.{code_points_in-spelled}
 use Rattle.wtf8_core.proofs.lemmas.PartUnits.{begins_surrogate}
 use Rattle.wtf8_core.proofs.lemmas.Ranges.{in_range}
 use Rattle.wtf8_core.proofs.lemmas.Utf8Lemmas.{fault_is}
-use Rattle.std.proofs.Math.Utf8.{scalar}
 
 -- bytes with a fault are no text
 pub no_text : (b : List ℕ) (n : ℕ) → IsValidUpTo b n → IsUtf8 b → ⊥
@@ -129,3 +113,23 @@ surrogate_first b w h k = by w.0 w.1
               ∙ ap (λ x. x ++ flat_map form (map without_surrogate cs)) form_fffd
               ∙ ap (λ l. replacement ++ flat_map form (map without_surrogate l)) (sym (code_points_in-spelled (drop 3 b) cs f.rest));
         }
+
+-- behind a front that is UTF-8
+module _ (b : List ℕ) (at : ℕ) (within : at ≤ length b) (front : IsUtf8 (take at b)) where
+  pub text_behind : IsUtf8 (drop at b) → IsUtf8 b
+  text_behind rest = subst IsUtf8 (take-append-drop at b) (IsUtf8-append (take at b) (drop at b) front rest)
+
+  pub front_behind : (n : ℕ) → IsUtf8 (take n (drop at b)) → IsUtf8 (take (at + n) b)
+  front_behind n more = subst IsUtf8 (sym (take-add at n b)) (IsUtf8-append (take at b) (take n (drop at b)) front more)
+
+  pub fault_behind : (n : ℕ) (len : Option ℕ) → IsUtf8Fault (drop at b) n len → IsUtf8Fault b (at + n) len
+  fault_behind n len w = record {
+    valid = record {
+      short = omega (arith, w.valid.short, length-drop at b);
+      front = front_behind n w.valid.front;
+      longest = λ m l u.
+          let past : at + (m - at) ≡ m = omega (arith, l) in
+          w.valid.longest (m - at) (omega (arith, l)) (subst IsUtf8 (drop-take at (m - at) b) (utf8_behind (take (at + (m - at)) b) at (subst (λ k. IsUtf8 (take k b)) (sym past) u) (subst IsUtf8 (sym (take-take at (at + (m - at)) b (omega arith))) front)));
+    };
+    part = subst (λ r. MatchOption len (IsProperFront r) (IsIllFormed r)) (drop-drop n at b) w.part;
+  }

@@ -1,20 +1,5 @@
 -- std's answer on bytes that aren't UTF-8, by the definitions.
-use Rattle.std.proofs.Common.{◌≡◌, ⊎_elim, ℕ, suc, ◌+◌, ◌<◌, ◌≤◌, List, [], ◌∷◌, ◌++◌, length, take, drop, get_or, length-append, length-drop, append_assoc, take-append-drop, Option, Some, sym, ap, ◌∙◌, subst, arith}
-use Rattle.std.specs.Bool.{if◌then◌else◌}
-use Rattle.std.specs.Char.{IsScalar}
-use Rattle.std.specs.Int.{is_in_range, IsInRange}
-use Rattle.std.specs.Option.{MatchOption}
-use Rattle.std.specs.Str.{IsUtf8, IsValidUpTo}
-use Rattle.std.specs.Str.Lossy.{utf8_error_len, second_byte_min, second_byte_max}
-use Rattle.std.proofs.lemmas.Bool.{cond_both, cases_lt}
-use Rattle.std.proofs.lemmas.Bool.Decides.{nat_tests}
-use Rattle.std.proofs.lemmas.List.{take-take, get_or_append_left}
-use Rattle.std.proofs.lemmas.Str.{IsUtf8-append, IsUtf8-encode}
-use Rattle.std.proofs.Math.Seq.{take-add, take-append_seam}
-use Rattle.wtf8_core.specs.Byte.{IsContinuation, needed_continuations}
-use Rattle.wtf8_core.specs.CodePoint.{form}
-use Rattle.wtf8_core.specs.Fault.{shape_value}
-use Rattle.wtf8_core.specs.Utf8.{IsFrontOfCharacter, IsProperFront, IsIllFormed, IsUtf8Fault}
+use Rattle.wtf8_core.proofs.Common.{◌≡◌, ⊎_elim, ℕ, suc, ◌+◌, ◌<◌, ◌≤◌, List, [], ◌∷◌, ◌++◌, length, take, drop, get_or, length-append, length-drop, append_assoc, take-append-drop, Option, Some, sym, ap, ◌∙◌, subst, arith, if◌then◌else◌, IsScalar, is_in_range, IsInRange, MatchOption, IsUtf8, IsValidUpTo, utf8_error_len, second_byte_min, second_byte_max, cond_both, cases_lt, nat_tests, take-take, get_or_append_left, IsUtf8-append, IsUtf8-encode, take-add, take-append_seam, IsContinuation, needed_continuations, form, shape_value, IsFrontOfCharacter, IsProperFront, IsIllFormed, IsUtf8Fault}
 use Rattle.wtf8_core.proofs.lemmas.Characters.{NoChar}
 use Rattle.wtf8_core.proofs.lemmas.Forms.{form_ascii, form_bounds}
 use Rattle.wtf8_core.proofs.lemmas.FormsByStd.{form_encode}

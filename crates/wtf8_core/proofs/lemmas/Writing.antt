@@ -1,6 +1,5 @@
 -- What is written whatever options a formatter has is written where it has none.
-use Rattle.std.proofs.Common.{ℕ, List, Result, subst, sym}
-use Rattle.std.specs.Fmt.{WritesStyledOnOk, WritesOnOk, IsDefaultSpec}
+use Rattle.wtf8_core.proofs.Common.{ℕ, List, Result, subst, sym, WritesStyledOnOk, WritesOnOk, IsDefaultSpec}
 use Rattle.std.specs.declared.fmt.Error.{Error}
 use Rattle.std.specs.declared.fmt.Formatter.{Formatter}
 

@@ -1,11 +1,12 @@
 use Rattle.os_str_ext.proofs.lemmas.EachChunk.{are_chunks_of}
 use Rattle.os_quote.proofs.lemmas.Escapes.{never_bad, one_bad_place}
+use Rattle.os_quote.specs.Shown.{is_any}
 use Rattle.os_quote.proofs.laws.bad_escapes.Goals as goal
 
 pub returns-clause-never : goal.returns-clause-never
 returns-clause-never g c =
     let laws = g.met.E.Platform.laws in
-    never_bad g.E.Platform.well_formed g.E.Platform.units g.E.Platform.part_units g.met.E.Platform.parts (are_chunks_of g.E.Platform.well_formed laws.cut_front laws.cut_back)
+    never_bad is_any g.E.Platform.well_formed g.E.Platform.units g.E.Platform.part_units g.met.E.Platform.parts (are_chunks_of g.E.Platform.well_formed laws.cut_front laws.cut_back)
 
 pub returns-clause-one_place : goal.returns-clause-one_place
-returns-clause-one_place g c = one_bad_place
+returns-clause-one_place g c = one_bad_place is_any

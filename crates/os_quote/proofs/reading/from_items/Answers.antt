@@ -1,5 +1,6 @@
 use Rattle.std.proofs.Common.{◌≡◌, true, false, sym, subst, ◌∙◌}
-use Rattle.os_quote.specs.Escape.{IsEscape}
+use Rattle.os_quote.specs.Shown.{shown_by}
+use Rattle.os_quote.specs.Escape.{IsEscapeBy}
 use Rattle.os_str_ext.proofs.lemmas.EachChunk.{are_chunks_of}
 use Rattle.os_quote.proofs.lemmas.Readings.{no_escape}
 use Rattle.os_quote.proofs.reading.from_items.Goals as goal
@@ -9,7 +10,7 @@ returns-in_default-clause-fault g c =
     let P = g.E.Platform in
     let laws = g.met.E.Platform.laws in
     let encoded = c.in_ok-encoded.encoded.items in
-    no_escape P.well_formed P.units P.part_units g.met.E.Platform.parts (are_chunks_of P.well_formed laws.cut_front laws.cut_back) c.args.text.now encoded c.in_ok-encoded.ensures
+    no_escape (shown_by c.args.form) P.well_formed P.units P.part_units g.met.E.Platform.parts (are_chunks_of P.well_formed laws.cut_front laws.cut_back) c.args.text.now encoded c.in_ok-encoded.ensures
     (λ w e. c.faults.ensures.faulty _ _ c.in_default.ensures (subst P.well_formed (sym c.deref.ensures.value) w))
 
 pub returns-else-branch-clause-fault : goal.returns-else-branch-clause-fault
@@ -18,5 +19,5 @@ returns-else-branch-clause-fault g c =
     let laws = g.met.E.Platform.laws in
     let encoded = c.in_ok-encoded.encoded.items in
     let no : ¬ (false ≡ true) = λ e. cc in
-    no_escape P.well_formed P.units P.part_units g.met.E.Platform.parts (are_chunks_of P.well_formed laws.cut_front laws.cut_back) c.args.text.now encoded c.in_ok-encoded.ensures
-    (λ w e. no (sym c.if-branch.false ∙ c.in_ok-has_escape.ensures.1 (subst (λ x. IsEscape P.units x c.args.text.now) (sym c.deref-2.ensures.value) e)))
+    no_escape (shown_by c.args.form) P.well_formed P.units P.part_units g.met.E.Platform.parts (are_chunks_of P.well_formed laws.cut_front laws.cut_back) c.args.text.now encoded c.in_ok-encoded.ensures
+    (λ w e. no (sym c.if-branch.false ∙ c.in_ok-has_escape.ensures.1 (subst (λ x. IsEscapeBy (shown_by c.args.form) P.units x c.args.text.now) (sym c.deref-2.ensures.value) e)))

@@ -1,11 +1,12 @@
 use Rattle.std.proofs.Common.{length}
 use denote.Shadow.{shadow}
 use denote.Text.{Utf8}
+use Rattle.os_quote.specs.Shown.{shown_by}
 use Rattle.os_quote.specs.Reading.{IsRead}
 use Rattle.os_quote.proofs.reading.read.Given as goal
 
 abbrev pub invariant-loop-front : goal.invariant-loop-front
-invariant-loop-front g l = shadow (Utf8 l.rest) × IsRead l.text l.encoded.items l.rest
+invariant-loop-front g l = shadow (Utf8 l.rest) × IsRead (shown_by l.form) l.text l.encoded.items l.rest
 
 abbrev pub decreases-loop-front : goal.decreases-loop-front
 decreases-loop-front g l = length l.rest

@@ -74,8 +74,8 @@ returns-clause-rsplit g c = c.pieces_from_the_end.ensures
 pub returns-clause-is_boundary : goal.returns-clause-is_boundary
 returns-clause-is_boundary g c = c.is_boundary.ensures
 
-pub returns-clause-split_at : goal.returns-clause-split_at
-returns-clause-split_at g c = c.parts.ensures
+pub returns-clause-cuts : goal.returns-clause-cuts
+returns-clause-cuts g c = c.cuts.ensures
 
 pub returns-clause-push : goal.returns-clause-push
 returns-clause-push g c = c.joined.ensures

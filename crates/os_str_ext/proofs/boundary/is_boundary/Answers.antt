@@ -1,7 +1,9 @@
 use Rattle.std.proofs.Common.{arith, sym, ◌∙◌}
-use Rattle.std.proofs.lemmas.Bool.{false≢true}
-use Rattle.os_str_ext.proofs.lemmas.Places.{boundary_from_tests, none_from_test}
+use Rattle.os_str_ext.proofs.lemmas.Places.{boundary_by_end, end_by_boundary, none_from_test}
 use Rattle.os_str_ext.proofs.boundary.is_boundary.Goals as goal
 
 pub returns : goal.returns
-returns c = (λ e. absurd (false≢true e), λ b. absurd (boundary_from_tests c.characters.ensures.fits c.args.bytes.now c.args.at b (omega arith) (omega arith) (none_from_test _ _ _ (sym c.is_some.ensures ∙ c.if-is_some.false) c.char_at.ensures) (λ n low high le. c.loop-size.invariant n low (omega arith) le)))
+returns c = (
+  λ e. boundary_by_end c.args.bytes.now c.args.at _ c.char_before.ensures (sym c.is_some-2.ensures ∙ e),
+  λ b. c.is_some-2.ensures ∙ end_by_boundary c.args.bytes.now c.args.at _ c.char_before.ensures (omega arith) (omega arith) (none_from_test _ _ _ (sym c.is_some.ensures ∙ c.if-is_some.false) c.char_at.ensures) b,
+)

@@ -68,8 +68,8 @@ loop-rest-preserved-else-wanted c =
       units_behind (take len rest) behind rest more.1 c.loop-rest.invariant.3,
     )
 
-pub put_form-at-requires-clause-room : goal.put_form-at-requires-clause-room
-put_form-at-requires-clause-room c =
+pub write_form-at-requires-clause-room : goal.write_form-at-requires-clause-room
+write_form-at-requires-clause-room c =
     let front = take c.loop-rest.at c.loop-rest.bytes in
     let more = form c.first_code_point-code_point.result.0 in
     let behind = c.first_code_point-code_point.result.1.now in
@@ -93,9 +93,9 @@ loop-rest-preserved c =
     let s = spells_both front more rest behind c.args.units.now c.loop-rest.invariant.0 c.first_code_point-code_point.ensures.spelled in
     let us = units_behind k.0 behind rest k.1 c.loop-rest.invariant.3 in
     let fit = bytes_fit front more behind c.args.units.now _ s us c.requires in (
-      subst (λ b. SpellsBefore b behind c.args.units.now) (sym c.put_form-at.ensures.written) s,
-      omega (arith, fit, length-take-le c.loop-rest.at c.loop-rest.bytes c.loop-rest.invariant.1, c.loop-rest.invariant.2, c.put_form-at.ensures.end, c.put_form-at.ensures.len),
-      c.put_form-at.ensures.len ∙ c.loop-rest.invariant.2,
+      subst (λ b. SpellsBefore b behind c.args.units.now) (sym c.write_form-at.ensures.written) s,
+      omega (arith, fit, length-take-le c.loop-rest.at c.loop-rest.bytes c.loop-rest.invariant.1, c.loop-rest.invariant.2, c.write_form-at.ensures.end, c.write_form-at.ensures.len),
+      c.write_form-at.ensures.len ∙ c.loop-rest.invariant.2,
       us,
     )
 

@@ -1,4 +1,5 @@
 use Rattle.user_facts.proofs.Outcomes.{err_and}
+use Rattle.os_quote.specs.Shown.{is_any}
 use Rattle.user_facts.proofs.QuoteFaults.{bad_place}
 use Rattle.user_facts.proofs.escapes.bad_place_says.Goals as goal
 
@@ -9,4 +10,4 @@ returns g c =
     let at = c.args.at in
     err_and c.unescape.result c.unescape.ensures.string c.unescape.ensures.fault
     (λ string is. c.bad_escapes.ensures.never _ text at string.ok is c.requires)
-    (bad_place P.well_formed P.units text at (λ m is. c.bad_escapes.ensures.one_place text m at is c.requires) c.requires)
+    (bad_place is_any P.well_formed P.units text at (λ m is. c.bad_escapes.ensures.one_place text m at is c.requires) c.requires)

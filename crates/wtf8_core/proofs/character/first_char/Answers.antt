@@ -1,6 +1,4 @@
-use Rattle.std.proofs.Common.{◌≡◌, ◌+◌, Some, subst, arith}
-use Rattle.wtf8_core.specs.Character.{WholeCharacter}
-use Rattle.wtf8_core.specs.Utf8.{IsUtf8Fault, IsAtFront}
+use Rattle.wtf8_core.proofs.Common.{◌≡◌, ◌+◌, Some, subst, arith, WholeCharacter, IsUtf8Fault, IsAtFront}
 use Rattle.wtf8_core.proofs.lemmas.Characters.{none_at}
 use Rattle.wtf8_core.proofs.lemmas.Utf8Lemmas.{no_char}
 use Rattle.wtf8_core.proofs.character.first_char.Goals as goal

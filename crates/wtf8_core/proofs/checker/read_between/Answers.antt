@@ -1,6 +1,5 @@
-use Rattle.std.proofs.Common.{◌++◌, take, MatchResult, sym, ◌∙◌, subst}
-use Rattle.wtf8_core.specs.Checker.{Stands, IsFaulty}
-use Rattle.wtf8_core.proofs.lemmas.Fed.{with_front, gone_between, gone_behind_high}
+use Rattle.wtf8_core.proofs.Common.{◌++◌, take, MatchResult, sym, ◌∙◌, subst, Stands, IsFaulty}
+use Rattle.wtf8_core.proofs.lemmas.table.Pieces.{with_front, gone_between, gone_behind_high}
 use Rattle.wtf8_core.proofs.checker.read_between.Goals as goal
 
 pub returns-then-is_behind_high : goal.returns-then-is_behind_high

@@ -1,6 +1,5 @@
-use Rattle.std.proofs.Common.{◌++◌, take, subst, arith}
-use Rattle.wtf8_core.specs.Checker.{Stands}
-use Rattle.wtf8_core.proofs.lemmas.Fed.{one_more_read, read_fault}
+use Rattle.wtf8_core.proofs.Common.{◌++◌, take, subst, arith, Stands}
+use Rattle.wtf8_core.proofs.lemmas.table.Pieces.{one_more_read, read_fault}
 use Rattle.wtf8_core.proofs.checker.read_bytes.Goals as goal
 
 pub returns-in-Err : goal.returns-in-Err

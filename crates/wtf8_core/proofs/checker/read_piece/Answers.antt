@@ -1,7 +1,6 @@
-use Rattle.std.proofs.Common.{◌≡◌, [], ◌∷◌, ◌++◌, MatchResult, sym, ap, ◌∙◌, subst, append_assoc}
-use Rattle.wtf8_core.specs.Checker.{Stands, IsFaulty}
-use Rattle.wtf8_core.proofs.lemmas.Fed.{extends}
-use Rattle.wtf8_core.proofs.lemmas.TableEntries.{is_plain-true}
+use Rattle.wtf8_core.proofs.Common.{◌≡◌, [], ◌∷◌, ◌++◌, MatchResult, sym, ap, ◌∙◌, subst, append_assoc, Stands, IsFaulty}
+use Rattle.wtf8_core.proofs.lemmas.table.Pieces.{extends}
+use Rattle.wtf8_core.proofs.lemmas.table.Entries.{is_plain-true}
 use Rattle.wtf8_core.proofs.checker.read_piece.Goals as goal
 
 pub loop-state-preserved : goal.loop-state-preserved

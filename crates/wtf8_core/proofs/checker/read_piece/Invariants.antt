@@ -1,5 +1,4 @@
-use Rattle.std.proofs.Common.{◌≡◌, ◌++◌, List, ℕ, length}
-use Rattle.wtf8_core.specs.Checker.{Stands}
+use Rattle.wtf8_core.proofs.Common.{◌≡◌, ◌++◌, List, ℕ, length, Stands}
 use Rattle.wtf8_core.proofs.checker.read_piece.Given as goal
 
 -- what was read before the rest

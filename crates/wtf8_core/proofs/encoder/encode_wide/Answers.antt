@@ -1,4 +1,4 @@
-use Rattle.std.proofs.Common.{refl}
+use Rattle.wtf8_core.proofs.Common.{refl}
 use Rattle.wtf8_core.proofs.lemmas.FirstErr.{items_are_code_points}
 use Rattle.wtf8_core.proofs.encoder.encode_wide.Goals as goal
 

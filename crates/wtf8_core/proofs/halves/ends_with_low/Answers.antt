@@ -1,4 +1,4 @@
-use Rattle.std.proofs.lemmas.Bool.{eqb-true, eq-eqb}
+use Rattle.wtf8_core.proofs.Common.{eqb-true, eq-eqb}
 use Rattle.wtf8_core.proofs.lemmas.HalvesAtEdges.{never, one_last, surrogate_last, no_low_end}
 use Rattle.wtf8_core.proofs.halves.ends_with_low.Goals as goal
 

@@ -1,4 +1,4 @@
-use Rattle.std.proofs.Common.{arith}
+use Rattle.wtf8_core.proofs.Common.{arith}
 use Rattle.wtf8_core.proofs.lemmas.HalvesAtEdges.{four_long, too_short, no_past_form, half_of}
 use Rattle.wtf8_core.proofs.halves.last_half.Goals as goal
 

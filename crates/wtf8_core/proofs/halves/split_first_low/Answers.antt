@@ -1,5 +1,4 @@
-use Rattle.std.proofs.Common.{subst, sym, ◌∙◌}
-use Rattle.wtf8_core.specs.Surrogate.{IsLow}
+use Rattle.wtf8_core.proofs.Common.{subst, sym, ◌∙◌, IsLow}
 use Rattle.wtf8_core.proofs.lemmas.Ranges.{in_range-false, low_surrogate}
 use Rattle.wtf8_core.proofs.lemmas.Forms.{length-form_surrogate}
 use Rattle.wtf8_core.proofs.lemmas.HalvesAtEdges.{form_at_front, too_short_for, same_first, split_off}

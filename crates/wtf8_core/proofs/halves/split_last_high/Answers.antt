@@ -1,5 +1,4 @@
-use Rattle.std.proofs.Common.{◌∙◌, subst, sym}
-use Rattle.wtf8_core.specs.Surrogate.{IsHigh}
+use Rattle.wtf8_core.proofs.Common.{◌∙◌, subst, sym, IsHigh}
 use Rattle.wtf8_core.proofs.lemmas.Ranges.{in_range-false, high_surrogate}
 use Rattle.wtf8_core.proofs.lemmas.Forms.{length-form_surrogate}
 use Rattle.wtf8_core.proofs.lemmas.HalvesAtEdges.{same_last}

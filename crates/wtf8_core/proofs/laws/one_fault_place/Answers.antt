@@ -1,4 +1,4 @@
-use Rattle.wtf8_core.proofs.lemmas.OneFaultPlace.{one_fault_place}
+use Rattle.wtf8_core.proofs.lemmas.reader.FaultPlaces.{one_fault_place}
 use Rattle.wtf8_core.proofs.laws.one_fault_place.Goals as goal
 
 pub returns : goal.returns

@@ -1,5 +1,4 @@
-use Rattle.std.proofs.Common.{rules}
-use Rattle.wtf8_core.specs.Table.{class_at}
+use Rattle.wtf8_core.proofs.Common.{rules, class_at}
 use Rattle.wtf8_core.proofs.table.class_at.Goals as goal
 
 pub returns : goal.returns

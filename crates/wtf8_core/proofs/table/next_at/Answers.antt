@@ -1,7 +1,5 @@
-use Rattle.std.proofs.Common.{[], get_or, ap, ◌∙◌}
-use Rattle.wtf8_core.specs.Table.{next_at, state_index}
+use Rattle.wtf8_core.proofs.Common.{[], get_or, ap, ◌∙◌, next_at, state_index, Between}
 use Rattle.wtf8_core.specs.declared.table.TheConstants.{NEXT}
-use Rattle.wtf8_core.specs.declared.table.State.TheVariants.{Between}
 use Rattle.wtf8_core.proofs.table.next_at.Goals as goal
 
 pub returns : goal.returns

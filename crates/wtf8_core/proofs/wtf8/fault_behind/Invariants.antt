@@ -1,5 +1,4 @@
-use Rattle.std.proofs.Common.{length}
-use Rattle.wtf8_core.specs.SpelledFront.{IsReadUpTo}
+use Rattle.wtf8_core.proofs.Common.{length, IsReadUpTo}
 use Rattle.wtf8_core.proofs.wtf8.fault_behind.Given as goal
 
 abbrev pub invariant-loop-item : goal.invariant-loop-item

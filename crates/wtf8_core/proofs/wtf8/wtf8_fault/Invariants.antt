@@ -1,4 +1,4 @@
-use Rattle.wtf8_core.specs.SpelledFront.{IsReadUpTo}
+use Rattle.wtf8_core.proofs.Common.{IsReadUpTo}
 use Rattle.wtf8_core.proofs.wtf8.wtf8_fault.Given as goal
 
 abbrev pub invariant-loop : goal.invariant-loop

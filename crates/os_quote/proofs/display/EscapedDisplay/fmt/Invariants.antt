@@ -1,4 +1,5 @@
 use Rattle.os_quote.specs.Item.{item_texts}
+use Rattle.os_quote.specs.Shown.{shown_by}
 use Rattle.os_quote.specs.Escape.{items_of}
 use Rattle.os_quote.specs.Escaped.{escaped_text}
 use Rattle.os_quote.proofs.lemmas.Writing.{WritesRest}
@@ -6,4 +7,4 @@ use Rattle.os_quote.proofs.display.EscapedDisplay.fmt.Given as goal
 
 abbrev pub invariant-loop-part : goal.invariant-loop-part
 invariant-loop-part g l =
-    WritesRest g.W.Write.write_str_gives l.fn.f l.f (item_texts (items_of g.E.Platform.units l.part-iterator)) (escaped_text l.fn.self)
+    WritesRest g.W.Write.write_str_gives l.fn.f l.f (item_texts (items_of (shown_by l.fn.self.form) g.E.Platform.units l.part-iterator)) (escaped_text l.fn.self)

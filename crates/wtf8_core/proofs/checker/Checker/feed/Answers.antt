@@ -1,5 +1,5 @@
-use Rattle.std.proofs.Common.{◌++◌}
-use Rattle.wtf8_core.proofs.lemmas.Fed.{only_ends, open_progress}
+use Rattle.wtf8_core.proofs.Common.{◌++◌}
+use Rattle.wtf8_core.proofs.lemmas.table.Pieces.{only_ends, open_progress}
 use Rattle.wtf8_core.proofs.checker.Checker.feed.Goals as goal
 
 pub returns-in-Ok-clause-answer : goal.returns-in-Ok-clause-answer

@@ -1,5 +1,5 @@
-use Rattle.std.proofs.Common.{sym, ◌∙◌}
-use Rattle.wtf8_core.proofs.lemmas.Fed.{ends, open_progress}
+use Rattle.wtf8_core.proofs.Common.{sym, ◌∙◌}
+use Rattle.wtf8_core.proofs.lemmas.table.Pieces.{ends, open_progress}
 use Rattle.wtf8_core.proofs.checker.Checker.finish.Goals as goal
 
 pub returns-else-is_between : goal.returns-else-is_between

@@ -1,0 +1,21 @@
+//! The examples of README.md and docs/CALLING.md, as one program.
+#![tactic(auto)]
+
+mod cuts;
+mod names;
+
+use names::stem;
+use os_quote::escaped;
+use os_str_bytes::{OsStrBytesExt, OsString, Windows};
+use std::io;
+
+fn main(rt: HostRuntime) -> io::Result<()> {
+    // D83D alone is half of a surrogate pair: Windows allows it in a name, but it isn't text
+    let name = OsString::<Windows>::from_wide(rt.alloc(), &[0xD83D, 0x2E, 0x74, 0x78, 0x74])?;
+    if let Some((before, after)) = name.as_os_str().rsplit_once('.') {
+        println!(rt; "{} and {}", before.display(), after.display())?;
+        println!(rt; "{} and {}", escaped(before), escaped(after))?;
+    }
+    println!(rt; "{}", escaped(stem(name.as_os_str())))?;
+    Ok(())
+}

@@ -1,0 +1,169 @@
+-- That an escape on one line stays there.
+use Rattle.std.proofs.Common.{◌≡◌, ⊎_elim, ℕ, ◌/◌, ◌%◌, ◌<◌, true, false, List, [], ◌∷◌, ◌++◌, map, length, IsTrue, refl, sym, ap, ◌∙◌, subst, arith, append_assoc, append-nil, length-append}
+use Rattle.std.specs.Char.{IsScalar, encode_utf8}
+use Rattle.std.specs.List.{All, AllByRecursion}
+use Rattle.std.specs.Str.{IsUtf8, chars, all_scalars, encode_utf8_all}
+use Rattle.std.proofs.lemmas.Bool.{and_parts, cases_lt, cases_eq, cases_Bool, ne_eqb, lt-ltb, le-ltb}
+use Rattle.std.proofs.Math.Utf8.{scalar}
+use Rattle.std.proofs.lemmas.List.Elements.{All-from_recursion}
+use Rattle.std.proofs.lemmas.Str.{chars-append, chars-nil, chars_past_char, chars-IsAscii, IsUtf8-encode, encodes-chars, scalars-chars, length-encode, len_utf8_bounds}
+use Rattle.wtf8_core.specs.Chunks.{Chunk, AreChunks}
+use Rattle.wtf8_core.specs.FaultText.{upper_hex_digit}
+use Rattle.platform_str.specs.PartLaws.{PartLaws}
+use Rattle.os_quote.specs.Item.{Item, Character, Backslash, ByteUnit, WideUnit, LongCharacter, backslash, wide_digits, long_digits, item_text, item_texts, IsLong, IsItem, unit_item, hidden_item, character_item}
+use Rattle.os_quote.specs.Shown.{stays_on_line}
+use Rattle.os_quote.specs.Standing.{is_suspect, Stands, AllStand, IsCutAtSuspect}
+use Rattle.os_quote.specs.Escape.{chunk_items, items_of, IsLineEscape}
+use Rattle.os_quote.proofs.lemmas.Items.{digit_low, digit_high, five_digits, six_digits}
+use Rattle.os_quote.proofs.lemmas.Shown.{ascii_stays, lead_stays, lead_no_slash}
+use Rattle.os_quote.proofs.lemmas.Texts.{text_items, text_escape, text_behind, map-append, item_texts-append, scalar_below}
+use Rattle.wtf8_core.proofs.lemmas.Forms.{form_parts}
+use Rattle.wtf8_core.proofs.lemmas.FormsByStd.{form_encode}
+use Rattle.os_str_ext.specs.Chunks.{IsChunkOf}
+use Rattle.os_quote.proofs.lemmas.Escapes.{escape_is_items}
+use Rattle.os_quote.proofs.lemmas.Readings.{ascii_all, ascii_byte_unit, ascii_wide_unit, ascii_long_character, item_is_text}
+
+-- the characters stay on the line
+abbrev AllStay : List ℕ → Type 0
+AllStay cs = AllByRecursion (λ c. stays_on_line c ≡ true) cs
+
+stay-append : (xs ys : List ℕ) → AllStay xs → AllStay ys → AllStay (xs ++ ys)
+stay-append [] ys a b = b
+stay-append (x ∷ xs) ys a b = (a.0, stay-append xs ys a.1 b)
+
+-- a character that stands as it is does
+abbrev Stays : Item → Type 0
+Stays (Character c) = stays_on_line c ≡ true
+Stays Backslash = Unit {0}
+Stays (ByteUnit u) = Unit {0}
+Stays (WideUnit u) = Unit {0}
+Stays (LongCharacter c) = Unit {0}
+
+all_stay-append : (xs ys : List Item) → AllByRecursion Stays xs → AllByRecursion Stays ys → AllByRecursion Stays (xs ++ ys)
+all_stay-append [] ys a b = b
+all_stay-append (x ∷ xs) ys a b = (a.0, all_stay-append xs ys a.1 b)
+
+units_stay : (us : List ℕ) → AllByRecursion Stays (map unit_item us)
+units_stay [] = tt
+units_stay (u ∷ us) = (⊎_elim (λ l. rw (lt-ltb u 0x100 l) tt) (λ l. rw (le-ltb u 0x100 l) tt) (cases_lt u 0x100), units_stay us)
+
+hidden_stays : (c : ℕ) → Stays (hidden_item c)
+hidden_stays c = ⊎_elim (λ l. rw (lt-ltb c 0x1_0000 l) tt) (λ l. rw (le-ltb c 0x1_0000 l) tt) (cases_lt c 0x1_0000)
+
+character_stays : (c : ℕ) → Stays (character_item stays_on_line c)
+character_stays c =
+    ⊎_elim
+    (λ (e : c ≡ backslash). let P : ℕ → Type 0 = λ x. Stays (character_item stays_on_line x) in subst P (sym e) tt)
+    (λ n. rw (ne_eqb c backslash n) (⊎_elim (λ (y : stays_on_line c ≡ true). rw y y) (λ y. rw y (hidden_stays c)) (cases_Bool (stays_on_line c))))
+    (cases_eq c backslash)
+
+characters_stay : (cs : List ℕ) → AllByRecursion Stays (map (character_item stays_on_line) cs)
+characters_stay [] = tt
+characters_stay (c ∷ cs) = (character_stays c, characters_stay cs)
+
+chunks_stay : (units : List ℕ → List ℕ) (cs : List Chunk) → AllByRecursion Stays (items_of stays_on_line units cs)
+chunks_stay units [] = tt
+chunks_stay units (c ∷ cs) =
+    all_stay-append (chunk_items stays_on_line units c) (items_of stays_on_line units cs) (all_stay-append (map unit_item (units c.0)) (map (character_item stays_on_line) (chars c.1)) (units_stay (units c.0)) (characters_stay (chars c.1))) (chunks_stay units cs)
+
+-- a digit stays
+digit_stays : (d : ℕ) → d < 16 → stays_on_line (upper_hex_digit d) ≡ true
+digit_stays d h =
+    ⊎_elim
+    (λ l. let e = digit_low d l in ascii_stays (upper_hex_digit d) (omega (arith, e)) (omega (arith, e)))
+    (λ l. let e = digit_high d l in ascii_stays (upper_hex_digit d) (omega (arith, e)) (omega (arith, e)))
+    (cases_lt d 10)
+
+-- the characters of an item
+ascii_item : (bs : List ℕ) → AllByRecursion (λ b. b < 128) bs → AllStay bs → AllStay (chars bs)
+ascii_item bs a s = subst AllStay (sym (chars-IsAscii bs (ascii_all bs a))) s
+
+wide_stay : (u : ℕ) (after : List ℕ) → u < 0x1_0000 → AllStay after → AllStay (wide_digits u ++ after)
+wide_stay u after h a = (digit_stays (u / 0x100 / 0x10) (omega arith), (digit_stays (u / 0x100 % 0x10) (omega arith), (digit_stays (u % 0x100 / 0x10) (omega arith), (digit_stays (u % 0x100 % 0x10) (omega arith), a))))
+
+long_stay : (c : ℕ) → IsLong c → AllStay (long_digits c ++ 0x7D ∷ [])
+long_stay c h =
+    let low = h.0 in
+    let high = h.1 in
+    let P : List ℕ → Type 0 = λ l. AllStay (l ++ 0x7D ∷ []) in
+    ⊎_elim
+    (λ l. subst P (sym (five_digits c l)) (digit_stays (c / 0x1_0000) (omega arith), wide_stay (c % 0x1_0000) (0x7D ∷ []) (omega arith) (refl, tt)))
+    (λ l. subst P (sym (six_digits c l)) (digit_stays (c / 0x1_0000 / 0x10) (omega arith), (digit_stays (c / 0x1_0000 % 0x10) (omega arith), wide_stay (c % 0x1_0000) (0x7D ∷ []) (omega arith) (refl, tt))))
+    (cases_lt c 0x10_0000)
+
+item_stays : (i : Item) → IsItem stays_on_line i → Stays i → AllStay (chars (item_text i))
+item_stays (Character c) h s =
+    subst AllStay (sym (chars_past_char (encode_utf8 c) [] c (IsUtf8-encode c h.0) (sym (append-nil (encode_utf8 c))) ∙ ap (λ x. c ∷ x) chars-nil)) (s, tt)
+item_stays Backslash h s = ascii_item (item_text Backslash) (omega arith, (omega arith, tt)) (refl, (refl, tt))
+item_stays (ByteUnit u) h s =
+    ascii_item (item_text (ByteUnit u)) (ascii_byte_unit u h) (refl, (refl, (digit_stays (u / 0x10) (omega arith), (digit_stays (u % 0x10) (omega arith), tt))))
+item_stays (WideUnit u) h s =
+    ascii_item (item_text (WideUnit u)) (ascii_wide_unit u h) (refl, (refl, subst AllStay (append-nil (wide_digits u)) (wide_stay u [] h tt)))
+item_stays (LongCharacter c) h s =
+    ascii_item (item_text (LongCharacter c)) (ascii_long_character c h.1) (refl, (refl, (refl, long_stay c h.1)))
+
+texts_stay : (items : List Item) → AllByRecursion (IsItem stays_on_line) items → AllByRecursion Stays items → AllStay (chars (item_texts items))
+texts_stay [] a s = subst AllStay (sym chars-nil) tt
+texts_stay (i ∷ items) a s =
+    subst AllStay (sym (chars-append (item_text i) (item_texts items) (item_is_text stays_on_line i a.0))) (stay-append (chars (item_text i)) (chars (item_texts items)) (item_stays i a.0 s.0) (texts_stay items a.1 s.1))
+
+-- an escape's characters
+pub escape_is_on_line : (well_formed : List ℕ → Type 0) (units : List ℕ → List ℕ) (part_units : List ℕ → Type 0) (parts : PartLaws well_formed units part_units)
+    (each : (s : List ℕ) (cs : List Chunk) → well_formed s → AreChunks s cs → AllByRecursion (IsChunkOf well_formed) cs)
+    (s text : List ℕ) → well_formed s → IsLineEscape units s text → All (λ c. IsTrue (stays_on_line c)) (chars text)
+escape_is_on_line well_formed units part_units parts each s text w e =
+    let items = items_of stays_on_line units e.chunks in
+    let k = escape_is_items stays_on_line well_formed units part_units parts each s text w e in
+    All-from_recursion (λ c. stays_on_line c ≡ true) (chars text) (subst (λ x. AllStay (chars x)) (sym e.text_is) (texts_stay items k.0 (chunks_stay units e.chunks)))
+
+-- a text of which each character stands as it is
+stand_texts : (cs : List ℕ) → AllByRecursion Stands cs → item_texts (map (character_item stays_on_line) cs) ≡ encode_utf8_all cs
+stand_texts [] a = refl
+stand_texts (c ∷ cs) a =
+    let s = a.0.1 in
+    let item : character_item stays_on_line c ≡ Character c = rw (ne_eqb c backslash a.0.0) (rw s refl) in
+    ap (λ i. item_text i ++ item_texts (map (character_item stays_on_line) cs)) item ∙ ap (λ x. encode_utf8 c ++ x) (stand_texts cs a.1)
+
+pub standing_text : (t : List ℕ) → IsUtf8 t → AllStand t → text_escape stays_on_line t ≡ t
+standing_text t u a = stand_texts (chars t) a ∙ encodes-chars t u
+
+-- up to a character before which each stands
+pub up_to_suspect : (t front : List ℕ) (c : ℕ) (behind : List ℕ) → IsUtf8 t → IsCutAtSuspect t front c behind
+    → text_escape stays_on_line t ≡ (front ++ item_text (character_item stays_on_line c)) ++ text_escape stays_on_line behind
+up_to_suspect t front c behind u k =
+    let rest = encode_utf8 c ++ behind in
+    let text = text_behind front rest k.front_text (subst IsUtf8 k.joined u) in
+    ap (text_escape stays_on_line) k.joined
+    ∙ ap (λ x. item_texts (map (character_item stays_on_line) x)) (chars-append front rest k.front_text ∙ ap (λ x. chars front ++ x) (chars_past_char rest behind c text refl))
+    ∙ ap item_texts (map-append stays_on_line (chars front) (c ∷ chars behind))
+    ∙ item_texts-append (text_items stays_on_line front) (map (character_item stays_on_line) (c ∷ chars behind))
+    ∙ ap (λ x. x ++ (item_text (character_item stays_on_line c) ++ text_escape stays_on_line behind)) (standing_text front k.front_text k.stand)
+    ∙ sym (append_assoc front (item_text (character_item stays_on_line c)) (text_escape stays_on_line behind))
+
+-- bytes none of which is a suspect
+abbrev pub NoneSuspect : List ℕ → Type 0
+NoneSuspect bs = AllByRecursion (λ b. is_suspect b ≡ false) bs
+
+none_behind : (xs ys : List ℕ) → NoneSuspect (xs ++ ys) → NoneSuspect ys
+none_behind [] ys h = h
+none_behind (x ∷ xs) ys h = none_behind xs ys h.1
+
+character_stands : (c : ℕ) (rest : List ℕ) → IsScalar c → NoneSuspect (encode_utf8 c ++ rest) → Stands c
+character_stands c rest s h =
+    let f = form_parts c in
+    let e : encode_utf8 c ++ rest ≡ f.lead ∷ (f.behind ++ rest) = ap (λ x. x ++ rest) (sym (form_encode c) ∙ f.is) in
+    let first = (subst NoneSuspect e h).0 in
+    (lead_no_slash c f.lead f.behind f.is first, lead_stays c f.lead f.behind (scalar_below c s) f.is first)
+
+stand_all : (cs : List ℕ) → all_scalars cs ≡ true → NoneSuspect (encode_utf8_all cs) → AllByRecursion Stands cs
+stand_all [] s h = tt
+stand_all (c ∷ cs) s h =
+    let both = and_parts (scalar c) _ s in
+    (character_stands c (encode_utf8_all cs) both.0 h, stand_all cs both.1 (none_behind (encode_utf8 c) (encode_utf8_all cs) h))
+
+pub all_stand : (t : List ℕ) → IsUtf8 t → NoneSuspect t → AllStand t
+all_stand t u h = stand_all (chars t) (scalars-chars t u) (subst NoneSuspect (sym (encodes-chars t u)) h)
+
+pub cut_is_shorter : (t front : List ℕ) (c : ℕ) (behind : List ℕ) → IsCutAtSuspect t front c behind → length behind < length t
+cut_is_shorter t front c behind k =
+    omega (arith, ap length k.joined, length-append front (encode_utf8 c ++ behind), length-append (encode_utf8 c) behind, length-encode c, (len_utf8_bounds c).0)

@@ -1,0 +1,79 @@
+-- Digits between braces.
+use Rattle.std.proofs.Common.{◌≡◌, ◌≢◌, ⊎_elim, ℕ, ◌+◌, ◌*◌, ◌/◌, ◌%◌, ◌<◌, ◌≤◌, List, [], ◌∷◌, ◌++◌, sym, ap, ◌∙◌, arith}
+use Rattle.std.specs.Char.{OutOfScalarRange}
+use Rattle.std.specs.Int.{IsInRange}
+use Rattle.std.proofs.lemmas.Bool.{cases_lt}
+use Rattle.wtf8_core.specs.FaultText.{upper_hex_digit}
+use Rattle.os_quote.specs.Item.{byte_digits, wide_digits, long_digits, IsLong}
+use Rattle.os_quote.specs.Reading.{HasNoWide, HasNoLong, HasNoClosed, HasNoFive, HasNoSix, IsClosed, IsFive, IsSix}
+use Rattle.os_quote.proofs.lemmas.Items.{tails, digit_same, wide_same, five_digits, six_digits}
+
+-- a code point past 16 bits has five digits or six
+pub no_long : (bytes digits : List ℕ) → bytes ≡ 0x7B ∷ digits → HasNoSix digits → HasNoFive digits → HasNoLong bytes
+no_long bytes digits is six five c h after e =
+    let low = h.0 in
+    let high = h.1 in
+    let t : digits ≡ long_digits c ++ 0x7D ∷ after = (tails (sym is ∙ e)).1 in
+    ⊎_elim
+    (λ l. five (c / 0x1_0000) (omega arith) (omega arith) (c % 0x1_0000) (omega arith) after (t ∙ ap (λ x. x ++ 0x7D ∷ after) (five_digits c l)))
+    (λ l.
+    let ten : c / 0x1_0000 ≡ 0x10 = omega arith in
+    six (c % 0x1_0000) (omega arith) after (t ∙ ap (λ x. x ++ 0x7D ∷ after) (six_digits c l ∙ ap (λ n. byte_digits n ++ wide_digits (c % 0x1_0000)) ten)))
+    (cases_lt c 0x10_0000)
+
+pub long_of_six : (bytes digits : List ℕ) (c : ℕ) (rest : List ℕ) → bytes ≡ 0x7B ∷ digits → IsSix digits c rest → IsLong c × (bytes ≡ 0x7B ∷ (long_digits c ++ 0x7D ∷ rest))
+long_of_six bytes digits c rest is k =
+    let ten : c / 0x1_0000 ≡ 0x10 = k.0 in
+    let past : 0x10_0000 ≤ c = omega arith in (
+      (omega arith, omega arith),
+      is ∙ ap (λ x. 0x7B ∷ x) (k.1 ∙ ap (λ x. x ++ 0x7D ∷ rest) (sym (six_digits c past ∙ ap (λ n. byte_digits n ++ wide_digits (c % 0x1_0000)) ten))),
+    )
+
+pub long_of_five : (bytes digits : List ℕ) (c : ℕ) (rest : List ℕ) → bytes ≡ 0x7B ∷ digits → IsFive digits c rest → IsLong c × (bytes ≡ 0x7B ∷ (long_digits c ++ 0x7D ∷ rest))
+long_of_five bytes digits c rest is k =
+    let some : 0 < c / 0x1_0000 = k.0 in
+    let within : c / 0x1_0000 < 16 = k.1.0 in
+    let below : c < 0x10_0000 = omega arith in (
+      (omega arith, omega arith),
+      is ∙ ap (λ x. 0x7B ∷ x) (k.1.1 ∙ ap (λ x. x ++ 0x7D ∷ rest) (sym (five_digits c below))),
+    )
+
+-- five digits, of which the last four and the brace aren't there, or the first is another or 0
+pub not_closed : (digits low : List ℕ) (first : ℕ) → digits ≡ first ∷ low → HasNoClosed low → HasNoFive digits
+not_closed digits low first is none h some within u fits after e = none u fits after (tails (sym is ∙ e)).1
+
+pub zero_first : (digits low : List ℕ) (first d : ℕ) → digits ≡ first ∷ low → upper_hex_digit d ≡ first → d ≡ 0 → HasNoFive digits
+zero_first digits low first d is same z h some within u fits after e =
+    let k = digit_same d h (same ∙ (tails (sym is ∙ e)).0) in
+    omega arith
+
+pub no_first : (digits low : List ℕ) (first : ℕ) → digits ≡ first ∷ low → ((d : ℕ) → d < 16 → upper_hex_digit d ≢ first) → HasNoFive digits
+no_first digits low first is none h some within u fits after e = none h within (sym (tails (sym is ∙ e)).0)
+
+pub no_bytes : (digits : List ℕ) → digits ≡ [] → HasNoFive digits
+no_bytes digits n h some within u fits after e = let f = sym n ∙ e in cc
+
+-- these five digits and a brace are there
+pub five_closed : (digits low : List ℕ) (first high c : ℕ) (rest : List ℕ) → digits ≡ first ∷ low → upper_hex_digit high ≡ first → high < 16 → 0 < high → IsClosed high low c rest → IsFive digits c rest
+five_closed digits low first high c rest is same within some k =
+    let h : c / 0x1_0000 ≡ high = k.0 in
+    (omega arith, (omega arith, is ∙ ap (λ x. x ∷ low) (sym same) ∙ ap (λ n. upper_hex_digit n ∷ low) (sym h) ∙ ap (λ x. upper_hex_digit (c / 0x1_0000) ∷ x) k.1))
+
+-- no four digits, or no brace behind them
+pub no_closed_digits : (bytes : List ℕ) → HasNoWide bytes → HasNoClosed bytes
+no_closed_digits bytes none u h after e = none u h (0x7D ∷ after) e
+
+pub no_closing : (bytes behind : List ℕ) (number : ℕ) → bytes ≡ wide_digits number ++ behind → ((after : List ℕ) → behind ≢ 0x7D ∷ after) → HasNoClosed bytes
+no_closing bytes behind number is none u h after e = none after (wide_same number u behind (0x7D ∷ after) (sym is ∙ e)).1
+
+-- the number whose digits these are
+pub closed : (bytes behind rest : List ℕ) (high number code : ℕ) → number < 0x1_0000 → bytes ≡ wide_digits number ++ behind → behind ≡ 0x7D ∷ rest → code ≡ high * 0x1_0000 + number → IsClosed high bytes code rest
+closed bytes behind rest high number code fits is brace e =
+    let low : code % 0x1_0000 ≡ number = omega arith in
+    (omega arith, is ∙ ap (λ x. wide_digits number ++ x) brace ∙ ap (λ n. wide_digits n ++ 0x7D ∷ rest) (sym low))
+
+-- that number is a character's
+pub is_scalar : {T : Type 0} (high number code : ℕ) → 0 < high → high ≤ 0x10 → number < 0x1_0000 → code ≡ high * 0x1_0000 + number → OutOfScalarRange code → T
+is_scalar high number code some within fits e out = absurd (⊎_elim (λ (r : IsInRange 0xD800 0xDFFF code). let a = r.0 in let b = r.1 in omega arith) (λ (r : 0x11_0000 ≤ code). omega arith) out)
+
+pub ruleset closed_tokens = (closed, is_scalar)

@@ -1,0 +1,10 @@
+use Rattle.std.proofs.Common.{length, ◌-◌, ◌≤◌}
+use Rattle.memchr.specs.Find.{Nowhere, Passes}
+use Rattle.os_quote.specs.Standing.{is_suspect}
+use Rattle.os_quote.proofs.standing.first_suspect.Given as goal
+
+abbrev pub invariant-loop-at : goal.invariant-loop-at
+invariant-loop-at l = (l.at ≤ length l.bytes) × Nowhere (Passes is_suspect l.bytes) 0 l.at
+
+abbrev pub decreases-loop-at : goal.decreases-loop-at
+decreases-loop-at l = length l.bytes - l.at

@@ -1,0 +1,89 @@
+//! The cuts of a string at one index.
+ghost use Rattle.std.specs.Prelude.{IfOk, length, drop};
+ghost use Rattle.wtf8_core.specs.Boundary.{IsBoundary};
+ghost use Rattle.os_str_bytes.specs.Raw.{raw_bytes, raw_vec_of};
+ghost use Rattle.os_str_bytes.specs.Cuts.{AreBothParts, IsPart};
+
+use crate::raw_str::RawOsStr;
+use crate::raw_string::RawOsString;
+use os_str_ext::Platform;
+use std::alloc::{AllocError, Allocator};
+
+/// What each cut at a boundary gives: a field is named for the call.
+#[derive(Drop)]
+pub struct Cuts<'a, E: Platform + 'a, A: Allocator> {
+    pub split_at: (RawOsStr<'a, E>, RawOsStr<'a, E>),
+    /// The parts `..at` and `at..`.
+    pub index: (RawOsStr<'a, E>, RawOsStr<'a, E>),
+    /// The same parts.
+    pub get_unchecked: (RawOsStr<'a, E>, RawOsStr<'a, E>),
+    /// What is left of a copy of the string, and what was split off it.
+    pub split_off: Result<(RawOsString<E, A>, RawOsString<E, A>), AllocError>,
+    /// What is left of a copy of the string.
+    pub truncate: Result<RawOsString<E, A>, AllocError>,
+}
+
+/// `split_at`.
+pub(crate) fn both_parts<'a, E: Platform>(
+    string: RawOsStr<'a, E>,
+    at: usize,
+) -> (RawOsStr<'a, E>, RawOsStr<'a, E>)
+    requires { IsBoundary (raw_bytes string) at }
+    ensures { AreBothParts string.entry at (raw_bytes result.0) (raw_bytes result.1) }
+{
+    string.split_at(at)
+}
+
+/// `index` of the ranges before and from an index.
+#[tactic(auto, using(wtf8_core::proofs::lemmas::Overlaps::boundary_within))]
+pub(crate) fn indexed<'a, E: Platform>(
+    string: RawOsStr<'a, E>,
+    at: usize,
+) -> (RawOsStr<'a, E>, RawOsStr<'a, E>)
+    requires { IsBoundary (raw_bytes string) at }
+    ensures front { IsPart string.entry 0 at (raw_bytes result.0) }
+    ensures back { IsPart string.entry at (length (raw_bytes string.entry)) (raw_bytes result.1) }
+{
+    (string.index(..at), string.index(at..))
+}
+
+/// `get_unchecked` of the same ranges.
+#[tactic(auto, using(wtf8_core::proofs::lemmas::Overlaps::boundary_within))]
+pub(crate) fn indexed_unchecked<'a, E: Platform>(
+    string: RawOsStr<'a, E>,
+    at: usize,
+) -> (RawOsStr<'a, E>, RawOsStr<'a, E>)
+    requires { IsBoundary (raw_bytes string) at }
+    ensures front { IsPart string.entry 0 at (raw_bytes result.0) }
+    ensures back { IsPart string.entry at (length (raw_bytes string.entry)) (raw_bytes result.1) }
+{
+    (string.get_unchecked(..at), string.get_unchecked(at..))
+}
+
+/// `split_off` of a copy: what it leaves, and what it answers.
+pub(crate) fn split_copy<'a, E: Platform, A: Allocator>(
+    alloc: &'a A,
+    string: RawOsStr<'a, E>,
+    at: usize,
+) -> Result<(RawOsString<E, &'a A>, RawOsString<E, &'a A>), AllocError>
+    requires { IsBoundary (raw_bytes string) at }
+    ensures { IfOk result (λ parts. AreBothParts string.entry at (raw_vec_of parts.0).items (raw_vec_of parts.1).items) }
+{
+    let mut front = string.to_owned(alloc)?;
+    let back = front.split_off(at)?;
+    Ok((front, back))
+}
+
+/// `truncate` of a copy: what it leaves.
+pub(crate) fn truncated_copy<'a, E: Platform, A: Allocator>(
+    alloc: &'a A,
+    string: RawOsStr<'a, E>,
+    at: usize,
+) -> Result<RawOsString<E, &'a A>, AllocError>
+    requires { IsBoundary (raw_bytes string) at }
+    ensures { IfOk result (λ front. AreBothParts string.entry at (raw_vec_of front).items (drop at (raw_bytes string.entry))) }
+{
+    let mut front = string.to_owned(alloc)?;
+    front.truncate(at);
+    Ok(front)
+}

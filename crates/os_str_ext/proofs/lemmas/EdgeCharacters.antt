@@ -1,0 +1,50 @@
+-- The first and the last character of a string.
+use Rattle.std.proofs.Common.{◌≡◌, ℕ, ◌+◌, ◌-◌, ◌<◌, ◌≤◌, List, [], ◌++◌, length, take, drop, inl, inr, sym, ap, ◌∙◌, subst, arith, append-nil, length-append, length-drop}
+use Rattle.std.specs.Char.{encode_utf8}
+use Rattle.std.specs.Str.{IsUtf8}
+use Rattle.std.proofs.lemmas.List.{nil_from_length, take_at}
+use Rattle.std.proofs.lemmas.Str.{IsUtf8-encode, encode_same}
+use Rattle.wtf8_core.specs.Boundary.{IsBoundary}
+use Rattle.wtf8_core.specs.Character.{WholeCharacter}
+use Rattle.wtf8_core.specs.CodePoint.{form}
+use Rattle.wtf8_core.proofs.lemmas.Characters.{begins_at, character_fits}
+use Rattle.wtf8_core.proofs.lemmas.Forms.{form_bounds}
+use Rattle.wtf8_core.proofs.lemmas.FormsByStd.{form_encode}
+use Rattle.os_str_ext.specs.Characters.{IsOneCharacter}
+
+-- the bytes of one character are a text that isn't empty, and std's
+module _ (s : List ℕ) (h : IsOneCharacter s) where
+  encoded : s ≡ encode_utf8 h.char
+  encoded = h.is ∙ form_encode h.char
+
+  pub text_of_one : IsUtf8 s
+  text_of_one = subst IsUtf8 (sym encoded) (IsUtf8-encode h.char h.scalar)
+
+  pub some_of_one : 0 < length s
+  some_of_one = let b = form_bounds h.char in omega (arith, ap length h.is)
+
+  pub one_encoded : (c : ℕ) (rest : List ℕ) → s ≡ encode_utf8 c ++ rest → s ≡ encode_utf8 c
+  one_encoded c rest e =
+      let same = encode_same h.char c [] rest (append-nil (encode_utf8 h.char) ∙ sym encoded ∙ e) in
+      encoded ∙ ap encode_utf8 same.0
+
+-- a character at the front
+module _ (s : List ℕ) (n : ℕ) (w : WholeCharacter s 0 (0 + n)) where
+  pub first_edge : IsBoundary s n
+  first_edge = let z : 0 + n ≡ n = omega arith in record { is = inr (inr (inr (0, subst (WholeCharacter s 0) z w))) }
+
+  pub first_one : IsOneCharacter (take n s)
+  first_one = record { char = w.char; scalar = w.scalar; is = ap (take n) (begins_at s 0 (0 + n) w) ∙ take_at (form w.char) w.stands.behind n (omega (arith, w.end)) }
+
+-- a character at the end
+module _ (s : List ℕ) (i : ℕ) (w : WholeCharacter s i (length s)) where
+  pub last_edge : IsBoundary s i
+  last_edge = record { is = inr (inr (inl (length s, w))) }
+
+  pub last_one : IsOneCharacter (drop i s)
+  last_one =
+      let f = form w.char in
+      let begins = begins_at s i (length s) w in
+      let size : length (drop i s) ≡ length f + length w.stands.behind = ap length begins ∙ length-append f w.stands.behind in
+      let none = nil_from_length w.stands.behind (omega (arith, size, length-drop i s, w.end, character_fits s i (length s) w)) in
+      record { char = w.char; scalar = w.scalar; is = begins ∙ ap (λ r. f ++ r) none ∙ append-nil f }

@@ -1,0 +1,30 @@
+-- How a string is cut into pieces, from its start and from its end: what one cut is, and the pieces that are left.
+use Rattle.std.specs.Prelude.{◌≡◌, ℕ, ◌<◌, List, [], length, Option, None, Some}
+use Rattle.wtf8_core.specs.Standing.{StandsNowhere, IsLeastPlace, IsGreatestPlace}
+use Rattle.wtf8_core.specs.Pieces.{SplitsAt, FallsInto}
+
+-- a cut of s at the least place of p, as the piece that it takes off and the rest
+abbrev pub FirstCut : List ℕ → List ℕ → List ℕ → List ℕ → Type 0
+FirstCut p s piece rest = SplitsAt IsLeastPlace p s piece rest
+
+-- a cut of s at the greatest place of p
+abbrev pub LastCut : List ℕ → List ℕ → List ℕ → List ℕ → Type 0
+LastCut p s piece rest = SplitsAt IsGreatestPlace p s rest piece
+
+-- the strings that cuts leave of s, one after the other, and what can't be cut
+abbrev pub ArePieces : (List ℕ → List ℕ → List ℕ → List ℕ → Type 0) → List ℕ → List ℕ → List (List ℕ) → Type 0
+ArePieces Cuts p = FallsInto (λ s piece rest. Cuts p s piece rest) (StandsNowhere p)
+
+-- a list for each pattern and each string, which has the pieces where the pattern isn't empty
+abbrev pub PiecesOf : (List ℕ → List ℕ → List ℕ → List ℕ → Type 0) → Type 0
+PiecesOf Cuts = (p s : List ℕ) → (pieces : List (List ℕ)) × (0 < length p → ArePieces Cuts p s pieces)
+
+-- a string has one cut at most, and none where p stands nowhere in it
+pub record CutLaws (Cuts : List ℕ → List ℕ → List ℕ → List ℕ → Type 0) : Type 0 where
+  pub one : (p s a b c d : List ℕ) → Cuts p s a b → Cuts p s c d → (a ≡ c) × (b ≡ d)
+  pub stands : (p s piece rest : List ℕ) → Cuts p s piece rest → ¬ (StandsNowhere p s)
+
+-- the pieces of what is left of a string, none at the end
+abbrev pub pieces_left : {Cuts : List ℕ → List ℕ → List ℕ → List ℕ → Type 0} → PiecesOf Cuts → List ℕ → Option (List ℕ) → List (List ℕ)
+pieces_left pieces_of p None = []
+pieces_left pieces_of p (Some s) = (pieces_of p s).0

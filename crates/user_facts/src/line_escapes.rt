@@ -1,0 +1,63 @@
+//! Escapes on one line: a string comes back from its own, has one, and nothing in it leaves the
+//! line.
+ghost use Rattle.std.specs.Prelude.{◌≡◌, ◌⊎◌, ℕ, List, IsTrue, IsErrAnd, IfOk, IfErr, string_bytes};
+ghost use Rattle.std.specs.List.{All};
+ghost use Rattle.std.specs.Str.{IsUtf8, chars};
+ghost use Rattle.platform_str.specs.Strings.{bytes, string_vec_of};
+ghost use Rattle.os_quote.specs.Shown.{stays_on_line};
+ghost use Rattle.os_quote.specs.Escape.{IsLineEscape, IsBadLineEscape};
+
+use os_quote::{QuoteError, escape_line, laws, unescape_line};
+use platform_str::{OsStr, OsString, Platform};
+use std::alloc::{AllocError, Allocator};
+
+/// The string again, by way of its escape on one line. Nothing but want of memory stands in the
+/// way.
+pub fn line_there_and_back<E: Platform, A: Allocator + Copy>(
+    alloc: A,
+    string: OsStr<'_, E>,
+) -> Result<OsString<E, A>, QuoteError>
+    ensures same { IfOk result (λ back. (string_vec_of back).items ≡ bytes string.entry) }
+    ensures fault { IfErr result (λ error. error ≡ QuoteError.Memory) }
+{
+    laws::line_escapes::<E>();
+    let text = escape_line(alloc, string)?;
+    unescape_line(alloc, text.as_str())
+}
+
+/// A string, of which there is an escape on one line.
+pub fn has_line_escape<'a, E: Platform + 'a>(string: OsStr<'a, E>) -> OsStr<'a, E>
+    ensures { (text : List ℕ) × IsLineEscape E.units (bytes result) text }
+{
+    laws::line_escapes::<E>();
+    string
+}
+
+/// The escape on one line of a string of which one is known, which is that one. Each of its
+/// characters stays on the line.
+pub fn line_escape_says<E: Platform, A: Allocator>(
+    alloc: A,
+    string: OsStr<'_, E>,
+    known: &[u8],
+) -> Result<String<A>, AllocError>
+    requires { IsLineEscape E.units (bytes string) known.now }
+    ensures text { IsUtf8 known.now }
+    ensures on_line { All (λ c. IsTrue (stays_on_line c)) (chars known.now) }
+    ensures same { IfOk result (λ text. string_bytes text ≡ known.now) }
+{
+    laws::line_escapes::<E>();
+    escape_line(alloc, string)
+}
+
+/// What comes of a text with a known place at which no token begins: that place, or want of memory.
+pub fn bad_line_place_says<E: Platform, A: Allocator>(
+    alloc: A,
+    text: &str,
+    at: usize,
+) -> Result<OsString<E, A>, QuoteError>
+    requires { IsBadLineEscape text.now at }
+    ensures { IsErrAnd result (λ error. (error ≡ QuoteError.BadEscape at) ⊎ (error ≡ QuoteError.Memory)) }
+{
+    laws::line_escapes::<E>();
+    unescape_line(alloc, text)
+}

@@ -1,0 +1,2 @@
+pub mod FirstChunk
+pub mod LastPiece

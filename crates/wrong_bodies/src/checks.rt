@@ -1,0 +1,36 @@
+//! Checks of bytes.
+ghost use Rattle.std.specs.Prelude.{◌++◌, ◌↔◌, IsOk, MatchResult};
+ghost use Rattle.wtf8_core.specs.Checker.{HasFirstFault};
+ghost use Rattle.wtf8_core.specs.Wtf8.{IsWtf8};
+
+use platform_str::{EncodingError, OsString, OsStringBytes, Platform, Windows};
+use std::alloc::Allocator;
+use wtf8_core::{Checker, laws};
+
+/// The check of bytes that come in two pieces.
+pub fn check_in_two(first: &[u8], second: &[u8]) -> Result<(), EncodingError>
+    ensures { MatchResult result (λ _. IsWtf8 (first.now ++ second.now)) (λ fault. HasFirstFault (first.now ++ second.now) fault) }
+{
+    laws::fault_stays();
+    let mut checker = Checker::new();
+    checker.feed(first)?;
+    checker.feed(second)?;
+    checker.finish()
+}
+
+/// The check of a Windows string.
+pub fn check_windows(raw: &[u8]) -> Result<(), EncodingError>
+    ensures { MatchResult result (λ _. ⟦<Windows as Platform>⟧.well_formed raw.now) (λ fault. ⟦<Windows as Platform>⟧.first_fault raw.now fault) }
+{
+    Windows::check(raw)
+}
+
+/// A vector as a string, without memory.
+pub fn from_raw_vec<E: Platform, A: Allocator>(
+    raw: Vec<u8, A>,
+) -> Result<OsString<E, A>, EncodingError>
+    ensures { E.well_formed raw.items → IsOk result }
+{
+    platform_str::laws::faults::<E>();
+    OsString::from_raw_vec(raw)
+}

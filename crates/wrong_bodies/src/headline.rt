@@ -1,0 +1,40 @@
+//! The headline's call, with the clauses of which one answer among many could go wrong.
+ghost use Rattle.std.specs.Prelude.{◌≡◌, IfOk, map};
+ghost use Rattle.std.specs.Cmp.Lexicographic.{slice_cmp};
+ghost use Rattle.std.specs.Ordering.{nat_cmp};
+ghost use Rattle.wtf8_core.specs.Chunks.{AreChunks};
+ghost use Rattle.wtf8_core.specs.Pieces.{IsRSplit, SplitsOnce};
+ghost use Rattle.wtf8_core.specs.Standing.{IsGreatestPlace};
+ghost use Rattle.os_str_bytes.specs.Headline.{Splits};
+ghost use Rattle.os_str_bytes.specs.Raw.{raw_bytes, raw_units};
+ghost use Rattle.os_str_bytes.specs.RawCow.{raw_cow_bytes};
+
+use os_str_bytes::headline::{self, Answers};
+use os_str_bytes::{Pattern, Platform, RawOsStr};
+use std::alloc::Allocator;
+use std::cmp::Ordering;
+
+/// What each call answers.
+pub fn ask<'a, E: Platform + 'a, P: Pattern + Copy, A: Allocator>(
+    alloc: &'a A,
+    raw: &'a [u8],
+    string: RawOsStr<'a, E>,
+    other: RawOsStr<'a, E>,
+    pattern: P,
+    at: usize,
+    count: usize,
+) -> Answers<'a, E, P, A>
+    ensures accepted { IfOk result.cow_from_raw_bytes (λ cow. raw_cow_bytes cow ≡ raw.now) }
+    ensures rsplit_once { SplitsOnce IsGreatestPlace raw_units (E.units (P.text pattern)) (raw_units string.entry) result.rsplit_once }
+    ensures rsplit { Splits (λ pieces. IsRSplit (E.units (P.text pattern)) (raw_units string.entry) (map E.units pieces)) (P.text pattern) result.rsplit }
+    ensures utf8_chunks { AreChunks (raw_bytes string.entry) result.utf8_chunks }
+{
+    headline::ask(alloc, raw, string, other, pattern, at, count)
+}
+
+/// The order of two strings.
+pub fn order<'a, E: Platform + 'a>(string: RawOsStr<'a, E>, other: RawOsStr<'a, E>) -> Ordering
+    ensures { result ≡ slice_cmp nat_cmp (raw_bytes string.entry) (raw_bytes other.entry) }
+{
+    string.cmp(&other)
+}

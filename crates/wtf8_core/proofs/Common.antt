@@ -1,0 +1,56 @@
+-- The names that most proofs cite, passed on from one place. Declares nothing.
+pub use Rattle.std.proofs.Common.{◌≡◌, ℕ, zero, suc, ◌-◌, ◌<◌, ◌/◌, ◌%◌, [], ◌∷◌, ◌++◌, true, refl, sym, ap, ◌∙◌, arith, rules, sub-one, codes, ◌+◌, List, take, subst, MatchResult, length, append_assoc, map, Result, Err, append-nil, ⊎_elim, Bool, false, drop, Ok, Fits, w8, get_or, length-append, length-drop, take-append-drop, ◌≤◌, Some, inl, inr, get_or-drop, ◌≢◌, ◌⊎◌, ◌*◌, ltb, leb, eqb, ◌&&◌, ◌||◌, not, eqb-true, Bor, None, eq-eqb, MatchOption, Option, get_or-take, ◌^◌, cond, bit_or, replicate, ◌↔◌, true≢false, length-take, drop-drop, w16, min, max, bit_and, bit_xor, take-take, take-add, leb-false, slice_index, set}
+pub use Rattle.std.proofs.Math.Seq.{drop-append_seam, take-append_seam, take-length, drop-append-add, take-append-add}
+pub use Rattle.std.proofs.Math.Utf8.{scalar, low_scalar, scalar_cases, scalars}
+pub use Rattle.std.proofs.lemmas.Bool.{cond-true, cond-false, and_parts, cases_lt, cases_eq, cases_Bool, or_cases, leb-true, ltb-true, lt-leb, not-true, and_left, and_right, cond_both, lt-ltb, le-ltb, not-false, false≢true, cases_order, and_from, le-leb, eqb-false}
+pub use Rattle.std.proofs.lemmas.Bool.Decides.{nat_tests, Decides-eqb}
+pub use Rattle.std.proofs.lemmas.Grind.{common_steps, flat_map-append}
+pub use Rattle.std.proofs.lemmas.List.{get_or_append_left, append_cancel_left, append_cancel_right, length-take-le, map-append, length-map, length-replicate, get_or-map, drop_all, take_at, drop_at, nil_from_length, take_all, get_or-append_right, get_or_past, drop-take, take_rest}
+pub use Rattle.std.proofs.lemmas.List.Elements.{recursion_from_All, All-drop, All-from_get_or, All-from_recursion, All-append, All-nil, All-get_or}
+pub use Rattle.std.proofs.lemmas.Str.{encode_ascii, encodes_same, encode_same, cons_from_encodes, IsCharBoundary-from_drop, IsCharBoundary-from_take, IsUtf8-drop, IsUtf8-nil, IsUtf8-encode, IsUtf8-append, IsUtf8-from_is_utf8, is_utf8-from_IsUtf8, utf8_lossy-IsUtf8, utf8_lossy_step, utf8_valid_len-IsValidUpTo}
+pub use Rattle.std.specs.Bool.{if◌then◌else◌, IsTrue}
+pub use Rattle.std.specs.Char.{IsScalar}
+unfoldable pub use Rattle.std.specs.Char.{encode_utf8}
+pub use Rattle.std.specs.Cmp.Lexicographic.{pointwise, slice_cmp, nat_list_cmp_total}
+pub use Rattle.std.specs.Fmt.{decimal, WritesStyledOnOk, WritesOnOk, IsDefaultSpec}
+pub use Rattle.std.specs.Int.{is_in_range, IsInRange, bit_at}
+pub use Rattle.std.specs.List.{AllByRecursion, AllByRecursion-prop, All, flat_map, fold, range_with_len, repeat}
+pub use Rattle.std.specs.Option.{unwrap_or}
+pub use Rattle.std.specs.Str.{IsUtf8, all_scalars, encode_utf8_all, IsCharBoundary, IsValidUpTo, is_utf8}
+pub use Rattle.std.specs.Str.Lossy.{second_byte_min, second_byte_max, utf8_lossy, utf8_invalid_len, valid_len_up_to}
+unfoldable pub use Rattle.std.specs.Str.Lossy.{utf8_error_len, utf8_valid_len}
+pub use mathlib.Core.Bool.{Bool-set, beq}
+pub use Rattle.wtf8_core.specs.Boundary.{IsBoundary}
+pub use Rattle.wtf8_core.specs.Byte.{IsByte, IsContinuation, needed_continuations, IsLead}
+pub use Rattle.wtf8_core.specs.Character.{WholeCharacter, IsCharacterAt}
+pub use Rattle.wtf8_core.specs.Checker.{Stands, IsFaulty, Row, rows, SomeRow, IsOpen, IsOpenIn, kept_bits, joined_bits, fault_at, is_between, is_plain, OnlyEnds, HasFirstFault, Progress, progress, StandsFor}
+pub use Rattle.wtf8_core.specs.Chunks.{Chunk, joined, AreChunks}
+pub use Rattle.wtf8_core.specs.CodePoint.{IsCodePoint}
+unfoldable pub use Rattle.wtf8_core.specs.CodePoint.{form, wide}
+pub use Rattle.wtf8_core.specs.Covered.{IsCovered, IsSeam, StartsBare, IsBare}
+pub use Rattle.wtf8_core.specs.Decoder.{decoder_bytes}
+unfoldable pub use Rattle.wtf8_core.specs.Decoder.{code_points_of}
+pub use Rattle.wtf8_core.specs.Fault.{IsFirstFault, BeginsFault, IsFaultAt, IsShape, shape_value, IsShort, IsBadShape, IsRefused, IsBegun}
+pub use Rattle.wtf8_core.specs.FaultText.{upper_hex_digit, not_representable, fault_text}
+unfoldable pub use Rattle.wtf8_core.specs.FaultText.{upper_hex}
+pub use Rattle.wtf8_core.specs.Items.{AreItems, AreUnitItems, unit_items}
+pub use Rattle.wtf8_core.specs.Lossy.{replacement, IsWtf8LossyText, without_surrogate, IsLossyText}
+pub use Rattle.wtf8_core.specs.Neighbours.{AllMayStand, IsEdge, MayStand, MayFollow}
+pub use Rattle.wtf8_core.specs.Reader.{is_high_item, IsFirstItem, lead_bits, least_value, items_after, then_items}
+unfoldable pub use Rattle.wtf8_core.specs.Reader.{first_item, behind_item, items_behind, with_continuations, checked_value, and_then_checked, continuations}
+pub use Rattle.wtf8_core.specs.SpelledFront.{IsSpelledFront, IsReadUpTo, behind_zeros, KeepsPattern}
+pub use Rattle.wtf8_core.specs.Standing.{StandsAt, IsFront, IsEnd, StandsNowhere, IsLeastPlace, IsGreatestPlace, Finds}
+pub use Rattle.wtf8_core.specs.StandingLaws.{StandingLaws, IsCutAround}
+pub use Rattle.wtf8_core.specs.Surrogate.{is_high, IsSurrogate, is_surrogate, IsHigh, IsLow, high_unit, low_unit, paired, is_pair}
+pub use Rattle.wtf8_core.specs.Table.{state_index}
+unfoldable pub use Rattle.wtf8_core.specs.Table.{class_at, next_at}
+pub use Rattle.wtf8_core.specs.UnitPlace.{IsBytePlace, IsUnitPlaceOf, FindsInUnits}
+pub use Rattle.wtf8_core.specs.UnitsOf.{units_of, ok_values, wtf8_lossy}
+unfoldable pub use Rattle.wtf8_core.specs.UnitsOf.{code_points_in}
+pub use Rattle.wtf8_core.specs.Utf8.{IsUtf8Fault, IsFrontOfCharacter, IsProperFront, IsIllFormed, part_end, IsIllFormedPart, IsAtFront}
+pub use Rattle.wtf8_core.specs.Wtf8.{IsPairedFree, MayPrecede, Spells, IsWtf8, last_behind, units, HasUnits}
+pub use Rattle.wtf8_core.specs.declared.fault.EncodingError.{EncodingError}
+pub use Rattle.wtf8_core.specs.declared.fault.EncodingError.TheVariants.{Utf8, Byte, CodePoint, End}
+pub use Rattle.wtf8_core.specs.declared.table.Class.{Class}
+pub use Rattle.wtf8_core.specs.declared.table.State.{State}
+pub use Rattle.wtf8_core.specs.declared.table.State.TheVariants.{Between, BehindHigh, BadFourth, Refused, BadThird, OneMore, TwoMore, BehindE0, BehindEd, HighThenEd, LastOfHigh, BehindF0, BehindF1, BehindF4, BehindF5, BadLastTwo}

@@ -1,9 +1,0 @@
-use Rattle.std.proofs.Common.{◌-◌}
-use Rattle.std.proofs.lemmas.List.{take_rest}
-use Rattle.wtf8_core.proofs.lemmas.Fronts.{more_inside}
-use Rattle.wtf8_core.proofs.fronts.block_len.Goals as goal
-
-pub returns-clause-kept : goal.returns-clause-kept
-returns-clause-kept c =
-    let e = c.kept_len.ensures in
-    more_inside c.args.surrogates c.args.bytes.now c.args.at _ c.kept_len.result c.requires.from (take_rest c.args.bytes.now (c.args.at - 4)) e.pattern e.plain

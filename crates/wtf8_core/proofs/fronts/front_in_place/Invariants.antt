@@ -1,9 +1,0 @@
-use Rattle.std.proofs.Common.{◌-◌, ◌≤◌, length}
-use Rattle.wtf8_core.specs.SpelledFront.{KeepsPattern}
-use Rattle.wtf8_core.proofs.fronts.front_in_place.Given as goal
-
-abbrev pub invariant-loop-end : goal.invariant-loop-end
-invariant-loop-end l = (4 ≤ l.end) × (l.end ≤ length l.bytes) × KeepsPattern l.surrogates l.bytes l.end
-
-abbrev pub decreases-loop-end : goal.decreases-loop-end
-decreases-loop-end l = length l.bytes - l.end

@@ -1,6 +1,0 @@
-use Rattle.std.proofs.Common.{bit_and}
-use Rattle.wtf8_core.proofs.lemmas.Lanes.{lane_with}
-use Rattle.wtf8_core.proofs.lanes.masked.Goals as goal
-
-pub returns : goal.returns
-returns g c = lane_with bit_and c.args.bytes _ c.args.mask c.fits-bytes.0

@@ -1,7 +1,0 @@
-use Rattle.std.proofs.Common.{refl, eqb}
-use Rattle.std.proofs.lemmas.Bool.{eqb-false}
-use Rattle.wtf8_core.proofs.lemmas.Lanes.{none_of_64_passes_before}
-use Rattle.wtf8_core.proofs.lanes.others_before.Goals as goal
-
-pub returns-clause-other : goal.returns-clause-other
-returns-clause-other c i h = eqb-false _ _ (none_of_64_passes_before eqb c.args.lanes 0 _ c.fits-lanes.0 refl i h)

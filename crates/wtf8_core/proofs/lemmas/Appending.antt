@@ -1,0 +1,49 @@
+-- Lists joined, and one more at the end: of code points, of the forms that bytes spell, and of a sequence that has begun.
+use Rattle.wtf8_core.proofs.Common.{◌≡◌, ℕ, ◌+◌, ◌*◌, ◌%◌, List, [], ◌∷◌, ◌++◌, refl, sym, ap, ◌∙◌, append-nil, AllByRecursion, fold, flat_map, flat_map-append, IsContinuation, IsHigh, IsLow, IsCodePoint, form, Spells, IsPairedFree, MayPrecede, last_behind, IsBegun, shape_value, lead_bits, All, All-append, All-nil}
+use Rattle.wtf8_core.proofs.lemmas.reader.Continuations.{Join}
+
+-- what holds of each element of two lists holds of each of both joined
+pub all_joined : (P : ℕ → Type 0) (xs ys : List ℕ) → AllByRecursion P xs → AllByRecursion P ys → AllByRecursion P (xs ++ ys)
+all_joined P [] ys a b = b
+all_joined P (x ∷ xs) ys a b = (a.0, all_joined P xs ys a.1 b)
+
+-- paired-free lists joined, where no pair arises
+pub paired_joined : (xs ys : List ℕ) → IsPairedFree xs → IsPairedFree ys → MayPrecede (last_behind 0 xs) ys → IsPairedFree (xs ++ ys)
+paired_joined [] ys f g m = g
+paired_joined (x ∷ []) ys f g m = (m, g)
+paired_joined (x ∷ y ∷ xs) ys f g m = (f.0, paired_joined (y ∷ xs) ys f.1 g m)
+
+-- the last of two lists
+pub last_append : (p : ℕ) (cs ds : List ℕ) → last_behind p (cs ++ ds) ≡ last_behind (last_behind p cs) ds
+last_append p [] ds = refl
+last_append p (c ∷ cs) ds = last_append c cs ds
+
+-- what two lists of bytes spell, joined
+pub spells_joined : (v w cs ds : List ℕ) → Spells v cs → Spells w ds → MayPrecede (last_behind 0 cs) ds → Spells (v ++ w) (cs ++ ds)
+spells_joined v w cs ds s t m = record {
+  code_points = all_joined IsCodePoint cs ds s.code_points t.code_points;
+  paired_free = paired_joined cs ds s.paired_free t.paired_free m;
+  joined = ap (λ z. z ++ w) s.joined ∙ ap (λ z. flat_map form cs ++ z) t.joined ∙ sym (flat_map-append form cs ds);
+}
+
+pub spells_one : (c : ℕ) → IsCodePoint c → Spells (form c) (c ∷ [])
+spells_one c k = record { code_points = (k, tt); paired_free = (tt, tt); joined = sym (append-nil (form c)) }
+
+pub spells_more : (w cs : List ℕ) (c : ℕ) → Spells w cs → IsCodePoint c → (IsHigh (last_behind 0 cs) → IsLow c → ⊥) → Spells (w ++ form c) (cs ++ c ∷ [])
+spells_more w cs c s k g = spells_joined w (form c) cs (c ∷ []) s (spells_one c k) g
+
+-- one more continuation
+fold_more : (v : ℕ) (ks : List ℕ) (x : ℕ) → fold Join v (ks ++ x ∷ []) ≡ Join (fold Join v ks) x
+fold_more v [] x = refl
+fold_more v (k ∷ ks) x = fold_more (Join v k) ks x
+
+pub value_more : (lead : ℕ) (ks : List ℕ) (x : ℕ) → shape_value lead (ks ++ x ∷ []) ≡ shape_value lead ks * 0x40 + x % 0x40
+value_more lead ks x = fold_more (lead_bits lead) ks x
+
+pub begun_more : (lead : ℕ) (ks : List ℕ) (x : ℕ) → IsBegun lead ks → IsContinuation x → IsBegun lead (ks ++ x ∷ [])
+begun_more lead ks x b h = record { lead_is = b.lead_is; continued = all_joined IsContinuation ks (x ∷ []) b.continued (h, tt) }
+
+-- what holds of each element of each piece holds of each element of the pieces joined
+pub all_flat_map : (P Q : ℕ → Type 0) (f : ℕ → List ℕ) → ((x : ℕ) → P x → All Q (f x)) → (xs : List ℕ) → AllByRecursion P xs → All Q (flat_map f xs)
+all_flat_map P Q f h [] a = All-nil Q
+all_flat_map P Q f h (x ∷ xs) a = All-append Q (f x) (flat_map f xs) (h x a.0) (all_flat_map P Q f h xs a.1)

@@ -1,0 +1,110 @@
+-- Where the first fault stands: bytes that are read up to it.
+use Rattle.wtf8_core.proofs.Common.{◌≡◌, ⊎_elim, ℕ, ◌-◌, Bool, false, List, [], ◌∷◌, ◌++◌, length, take, drop, Result, Ok, Err, refl, sym, ap, ◌∙◌, subst, arith, append_assoc, Fits, w8, get_or, length-append, take-append-drop, drop-append_seam, All, append-nil, All-drop, All-from_get_or, IsByte, is_high, form, Spells, IsWtf8, last_behind, BeginsFault, IsFaultAt, first_item, behind_item, items_behind, is_high_item, IsFirstItem, IsSpelledFront, IsReadUpTo, EncodingError, IsCodePoint, IsLow, suc, flat_map}
+use Rattle.wtf8_core.proofs.lemmas.Complete.{behind_form, refused_len, item_of_form, items_of_fault, one_fault}
+use Rattle.wtf8_core.proofs.lemmas.reader.Reading.{items-ok, items-err}
+use Rattle.wtf8_core.proofs.lemmas.Sound.{BeginsForm, begins}
+use Rattle.wtf8_core.proofs.lemmas.Appending.{last_append, spells_more}
+use Rattle.wtf8_core.specs.declared.scan.Encoding.TheVariants.{Wtf8}
+
+-- behind the code point p a code point is read: its form stands there
+first_form_behind : (p b c : ℕ) (bs : List ℕ) → IsByte b → first_item (is_high p) b bs ≡ Ok c → (i : BeginsForm p (b ∷ bs)) × (i.c ≡ c) × (i.rest ≡ drop (behind_item b bs) bs)
+first_form_behind p b c bs u e = ⊎_elim
+    (λ i. let q : Ok c ∷ items_behind (behind_item b bs) (is_high c) bs ≡ Ok i.c ∷ items_behind 0 (is_high i.c) i.rest = sym (items-ok (is_high p) b c bs e) ∙ ap (items_behind 0 (is_high p)) i.is ∙ item_of_form p i.c i.rest i.code_point i.free in
+    let same : i.c ≡ c = cc in
+    (i, same, sym (behind_form i.c i.rest i.code_point b bs i.is)))
+    (λ f. let q : Ok c ∷ items_behind (behind_item b bs) (is_high c) bs ≡ Err f.0 ∷ items_behind 0 false f.1.rest = sym (items-ok (is_high p) b c bs e) ∙ items_of_fault p (b ∷ bs) f.0 f.1 in cc)
+    (begins p b bs u)
+
+-- a fault is read: it begins there
+fault_behind : (p b : ℕ) (f : EncodingError) (bs : List ℕ) → IsByte b → first_item (is_high p) b bs ≡ Err f → BeginsFault p (b ∷ bs) f
+fault_behind p b f bs u e = ⊎_elim
+    (λ i. let q : Err f ∷ items_behind (behind_item b bs) false bs ≡ Ok i.c ∷ items_behind 0 (is_high i.c) i.rest = sym (items-err (is_high p) b f bs e) ∙ ap (items_behind 0 (is_high p)) i.is ∙ item_of_form p i.c i.rest i.code_point i.free in cc)
+    (λ g. let q : Err f ∷ items_behind (behind_item b bs) false bs ≡ Err g.0 ∷ items_behind 0 false g.1.rest = sym (items-err (is_high p) b f bs e) ∙ items_of_fault p (b ∷ bs) g.0 g.1 in
+    let same : g.0 ≡ f = cc in
+    subst (BeginsFault p (b ∷ bs)) same g.1)
+    (begins p b bs u)
+
+-- at the start nothing is read
+pub read_none : (bytes : List ℕ) → IsReadUpTo bytes false bytes
+read_none bytes = record { code_points = []; front = []; joined = refl; spelled = record { code_points = tt; paired_free = tt; joined = refl }; high_is = refl }
+
+-- a front that vectors find is read
+pub read_front : (bytes rest : List ℕ) (n : ℕ) (h : Bool) → (f : IsSpelledFront Wtf8 bytes n) → h ≡ is_high (last_behind 0 f.code_points) → rest ≡ drop n bytes → IsReadUpTo bytes h rest
+read_front bytes rest n h f e d = record {
+  code_points = f.code_points;
+  front = take n bytes;
+  joined = sym (take-append-drop n bytes) ∙ ap (λ x. take n bytes ++ x) (sym d);
+  spelled = f.spelled;
+  high_is = sym e;
+}
+
+-- behind the last byte all is read
+pub read_all : (bytes : List ℕ) (h : Bool) (rest : List ℕ) → IsReadUpTo bytes h rest → rest ≡ [] → IsWtf8 bytes
+read_all bytes h rest r e =
+    (r.code_points, subst (λ x. Spells x r.code_points) (sym (r.joined ∙ ap (λ x. r.front ++ x) e ∙ append-nil r.front)) r.spelled)
+
+module _ {bytes : List ℕ} {h : Bool} {rest later : List ℕ} {item : Result ℕ EncodingError} (fits : (i : ℕ) → Fits w8 (get_or bytes i 0)) (r : IsReadUpTo bytes h rest) (i : IsFirstItem h rest item later) where
+  abbrev p : ℕ
+  p = last_behind 0 r.code_points
+
+  -- the first byte of the rest
+  first_byte : IsByte i.first
+  first_byte =
+      let all : All IsByte bytes = All-from_get_or IsByte bytes 0 (λ j _. omega (arith, fits j)) in
+      let left : All IsByte rest = subst (All IsByte) (ap (drop (length r.front)) r.joined ∙ drop-append_seam r.front rest) (All-drop IsByte (length r.front) bytes all) in
+      subst (All IsByte) i.is left 0 0 (omega arith)
+
+  -- one more code point is read
+  pub read_more : (c : ℕ) (high : Bool) → item ≡ Ok c → high ≡ is_high_item item → IsReadUpTo bytes high later
+  read_more c high e k =
+      let w = first_form_behind p i.first c i.behind first_byte (subst (λ t. first_item t i.first i.behind ≡ Ok c) (sym r.high_is) (i.item_is ∙ e)) in
+      let f = w.0 in
+      record {
+        code_points = r.code_points ++ c ∷ [];
+        front = r.front ++ form c;
+        joined = r.joined ∙ ap (λ x. r.front ++ x) (i.is ∙ f.is ∙ ap (λ z. form z ++ f.rest) w.1 ∙ ap (λ z. form c ++ z) (w.2 ∙ sym i.rest_is)) ∙ sym (append_assoc r.front (form c) later);
+        spelled = spells_more r.front r.code_points c r.spelled (subst IsCodePoint w.1 f.code_point) (λ h l. f.free h (subst IsLow (sym w.1) l));
+        high_is = ap is_high (last_append 0 r.code_points (c ∷ [])) ∙ sym (k ∙ ap is_high_item e);
+      }
+
+  -- the first fault is read
+  pub fault_read : (f : EncodingError) → item ≡ Err f → IsFaultAt bytes (length bytes - length rest) (length rest - length later)
+  fault_read f e =
+      let s = fault_behind p i.first f i.behind first_byte (subst (λ t. first_item t i.first i.behind ≡ Err f) (sym r.high_is) (i.item_is ∙ e)) in
+      let n = refused_len p i.first i.behind f s in
+      let all = ap length r.joined ∙ length-append r.front rest in
+      let parts = ap length s.is ∙ length-append s.refused s.rest in
+      let left = ap length i.is in
+      let behind = ap length (n.1 ∙ sym i.rest_is) in
+      record {
+        code_points = r.code_points;
+        fault = f;
+        first = record { before = r.front; from = i.first ∷ i.behind; joined = r.joined ∙ ap (λ x. r.front ++ x) i.is; spelled = r.spelled; begins = s };
+        valid_is = omega arith;
+        refused_is = omega arith;
+      }
+
+-- as many bytes are refused, whatever stands before them
+refused_once : (p q : ℕ) (b c : List ℕ) (f g : EncodingError) → b ≡ c → (s : BeginsFault p b f) → (t : BeginsFault q c g) → length s.refused ≡ length t.refused
+unfolding items_behind
+refused_once p q [] c f g e s t = let none : [] ≡ Err f ∷ items_behind 0 false s.rest = items_of_fault p [] f s in cc
+refused_once p q (x ∷ b) [] f g e s t = cc
+refused_once p q (x ∷ b) (y ∷ c) f g e s t =
+    let first : x ≡ y = cc in
+    let same : b ≡ c = cc in
+    (refused_len p x b f s).0 ∙ ap (λ z. suc (behind_item z b)) first ∙ ap (λ l. suc (behind_item y l)) same ∙ sym (refused_len q y c g t).0
+
+pub one_fault_place : (bytes : List ℕ) (n m k l : ℕ) → IsFaultAt bytes n k → IsFaultAt bytes m l → (n ≡ m) × (k ≡ l)
+one_fault_place bytes n m k l s t =
+    let one = one_fault bytes s.code_points t.code_points s.fault t.fault s.first t.first in
+    let before : s.first.before ≡ t.first.before = s.first.spelled.joined ∙ ap (flat_map form) one.0 ∙ sym t.first.spelled.joined in
+    let from : s.first.from ≡ t.first.from =
+    sym (drop-append_seam s.first.before s.first.from)
+    ∙ ap (drop (length s.first.before)) (sym s.first.joined)
+    ∙ ap (λ z. drop (length z) bytes) before
+    ∙ ap (drop (length t.first.before)) t.first.joined
+    ∙ drop-append_seam t.first.before t.first.from
+    in (
+      s.valid_is ∙ ap length before ∙ sym t.valid_is,
+      s.refused_is ∙ refused_once _ _ s.first.from t.first.from s.fault t.fault from s.first.begins t.first.begins ∙ sym t.refused_is,
+    )

@@ -1,0 +1,112 @@
+-- The reader's definitions, one step at a time.
+use Rattle.wtf8_core.proofs.Common.{◌≡◌, ℕ, zero, suc, ◌+◌, ◌-◌, ◌*◌, ◌%◌, ◌<◌, ◌≤◌, Bool, true, false, cond, ltb, List, [], ◌∷◌, length, drop, Result, Ok, Err, refl, sym, ap, ◌∙◌, arith, sub-one, nat_tests, is_in_range, is_high, with_continuations, first_item, and_then_checked, continuations, behind_item, items_behind, then_items, lead_bits, IsFirstItem, needed_continuations, cond-false, le-ltb, EncodingError, Byte}
+
+pub with_continuations-none : (v n : ℕ) (bs : List ℕ) → n ≡ 0 → with_continuations v n bs ≡ Ok v
+unfolding with_continuations
+with_continuations-none v zero bs e = refl
+with_continuations-none v (suc n) bs e = cc
+
+pub items-nil : (n : ℕ) (h : Bool) (bs : List ℕ) → length bs ≡ 0 → items_behind n h bs ≡ []
+unfolding items_behind
+items-nil n h [] e = refl
+items-nil n h (b ∷ bs) e = absurd (omega arith)
+
+-- as many continuations are joined as are counted
+whole_count : (v n c : ℕ) (bs : List ℕ) → with_continuations v n bs ≡ Ok c → continuations n bs ≡ n
+unfolding with_continuations continuations
+whole_count v zero c bs e = refl
+whole_count v (suc n) c [] e = cc
+whole_count v (suc n) c (x ∷ bs) e =
+    let P : Bool → Type 0 = λ b. cond b (with_continuations (v * 64 + x % 64) n bs) (Err (Byte x)) ≡ Ok c → cond b (suc (continuations n bs)) 0 ≡ suc n in
+    elim (is_in_range 0x80 0xBF x) as P [ true ↦ λ k. ap suc (whole_count (v * 64 + x % 64) n c bs k) | false ↦ λ k. cc ] e
+
+pub items-ok : (h : Bool) (b c : ℕ) (bs : List ℕ) → first_item h b bs ≡ Ok c
+    → items_behind 0 h (b ∷ bs) ≡ Ok c ∷ items_behind (behind_item b bs) (is_high c) bs
+unfolding items_behind
+items-ok h b c bs e = ap (λ r. then_items r (λ h. items_behind (behind_item b bs) h bs)) e
+
+pub items-err : (h : Bool) (b : ℕ) (f : EncodingError) (bs : List ℕ) → first_item h b bs ≡ Err f
+    → items_behind 0 h (b ∷ bs) ≡ Err f ∷ items_behind (behind_item b bs) false bs
+unfolding items_behind
+items-err h b f bs e = ap (λ r. then_items r (λ h. items_behind (behind_item b bs) h bs)) e
+
+pub items_behind-drop : (n : ℕ) (h : Bool) (bs : List ℕ) → items_behind n h bs ≡ items_behind 0 h (drop n bs)
+unfolding items_behind
+items_behind-drop zero h bs = refl
+items_behind-drop (suc n) h [] = refl
+items_behind-drop (suc n) h (b ∷ bs) = items_behind-drop n h bs
+
+-- what follows a fault
+pub items-step-err : (h : Bool) (b : ℕ) (f : EncodingError) (bs rest : List ℕ) → first_item h b bs ≡ Err f → rest ≡ drop (behind_item b bs) bs
+    → items_behind 0 h (b ∷ bs) ≡ Err f ∷ items_behind 0 false rest
+items-step-err h b f bs rest e d =
+    items-err h b f bs e ∙ ap (λ r. Err f ∷ r) (items_behind-drop (behind_item b bs) false bs ∙ ap (items_behind 0 false) (sym d))
+
+and_then_whole : (h : Bool) (n c : ℕ) (bs : List ℕ) (r : Result ℕ EncodingError) → ((v : ℕ) → r ≡ Ok v → continuations n bs ≡ n)
+    → and_then_checked h n r ≡ Ok c → continuations n bs ≡ n
+unfolding and_then_checked
+and_then_whole h n c bs (Ok v) k e = k v refl
+and_then_whole h n c bs (Err f) k e = cc
+
+-- behind a lead whose continuations are all there, these belong to it
+pub behind_code_point : (h : Bool) (b c : ℕ) (bs : List ℕ) → 0x80 ≤ b → first_item h b bs ≡ Ok c → behind_item b bs ≡ needed_continuations b
+unfolding first_item behind_item
+behind_code_point h b c bs l e =
+    let n = needed_continuations b in
+    let r = with_continuations (lead_bits b) n bs in
+    let P : Bool → Type 0 = λ t. cond t (Err (Byte b)) (and_then_checked h n r) ≡ Ok c → cond t 0 (continuations n bs) ≡ n in
+    elim (ltb b 0xC2) as P [ true ↦ λ k. cc | false ↦ λ k. and_then_whole h n c bs r (λ v. whole_count (lead_bits b) n v bs) k ]
+    (sym (cond-false _ _ _ (le-ltb b 0x80 l)) ∙ e)
+
+-- what follows a code point
+pub items-step : (h : Bool) (b c : ℕ) (bs rest : List ℕ) → 0x80 ≤ b → first_item h b bs ≡ Ok c → rest ≡ drop (needed_continuations b) bs
+    → items_behind 0 h (b ∷ bs) ≡ Ok c ∷ items_behind 0 (is_high c) rest
+items-step h b c bs rest l e d =
+    items-ok h b c bs e
+    ∙ ap (λ n. Ok c ∷ items_behind n (is_high c) bs) (behind_code_point h b c bs l e)
+    ∙ ap (λ r. Ok c ∷ r) (items_behind-drop (needed_continuations b) (is_high c) bs ∙ ap (items_behind 0 (is_high c)) (sym d))
+
+pub first_ascii : (h : Bool) (b : ℕ) (bs : List ℕ) → b < 0x80 → first_item h b bs ≡ Ok b
+unfolding first_item
+first_ascii h b bs l = grind (arith, nat_tests)
+
+behind_ascii : (b : ℕ) (bs : List ℕ) → b < 0x80 → behind_item b bs ≡ 0
+unfolding behind_item
+behind_ascii b bs l = grind (arith, nat_tests)
+
+ascii_low : (b : ℕ) → b < 0x80 → is_high b ≡ false
+ascii_low b l = grind (arith, nat_tests)
+
+pub items-ascii : (h : Bool) (b : ℕ) (bs : List ℕ) → b < 0x80 → items_behind 0 h (b ∷ bs) ≡ Ok b ∷ items_behind 0 false bs
+items-ascii h b bs l =
+    items-ok h b b bs (first_ascii h b bs l)
+    ∙ ap (λ n. Ok b ∷ items_behind n (is_high b) bs) (behind_ascii b bs l)
+    ∙ ap (λ t. Ok b ∷ items_behind 0 t bs) (ascii_low b l)
+
+-- the continuations at the front, dropped
+pub no_continuations : (n : ℕ) (bs : List ℕ) → n ≡ 0 → drop (continuations n bs) bs ≡ bs
+unfolding continuations
+no_continuations zero bs e = refl
+no_continuations (suc n) bs e = cc
+
+pub continuations_of_none : (n : ℕ) (bs : List ℕ) → length bs ≡ 0 → drop (continuations n bs) bs ≡ bs
+unfolding continuations
+continuations_of_none zero [] e = refl
+continuations_of_none (suc n) [] e = refl
+continuations_of_none n (b ∷ bs) e = absurd (omega arith)
+
+pub continuations-cons : (n x : ℕ) (bs : List ℕ) → 0 < n → continuations n (x ∷ bs) ≡ cond (is_in_range 0x80 0xBF x) (suc (continuations (n - 1) bs)) 0
+unfolding continuations
+continuations-cons zero x bs h = absurd (omega arith)
+continuations-cons (suc n) x bs h = rw sub-one refl
+
+pub ruleset counting = (no_continuations, continuations_of_none, continuations-cons)
+
+-- the same of the first item
+pub first-ascii : (h : Bool) (b : ℕ) (bs : List ℕ) → b < 0x80 → IsFirstItem h (b ∷ bs) (Ok b) bs
+first-ascii h b bs l = record { first = b; behind = bs; is = refl; item_is = first_ascii h b bs l; rest_is = sym (ap (λ n. drop n bs) (behind_ascii b bs l)) }
+
+pub first-code_point : (h : Bool) (b c : ℕ) (bs rest : List ℕ) → 0x80 ≤ b → first_item h b bs ≡ Ok c → rest ≡ drop (needed_continuations b) bs → IsFirstItem h (b ∷ bs) (Ok c) rest
+first-code_point h b c bs rest l e d = record { first = b; behind = bs; is = refl; item_is = e; rest_is = d ∙ sym (ap (λ n. drop n bs) (behind_code_point h b c bs l e)) }
+
+pub ruleset reading = (first-ascii, first-code_point, with_continuations-none, items-nil, items-step, items-step-err, items-ascii)

@@ -1,0 +1,12 @@
+use Rattle.wtf8_core.proofs.Common.{◌-◌, arith}
+use Rattle.wtf8_core.proofs.lemmas.scan.Fronts.{no_front, by_pattern}
+use Rattle.wtf8_core.proofs.scan.fronts.start_before.Goals as goal
+
+pub returns-then-not-is_continuation-clause-front : goal.returns-then-not-is_continuation-clause-front
+returns-then-not-is_continuation-clause-front c s k =
+    let t = c.loop-at-test.true in
+    let i = c.loop-at.invariant in
+    by_pattern s c.args.bytes.now (c.loop-at.at - 1) c.args.end (omega (arith, t, i, c.requires)) (omega (arith, t, i)) k (λ h. let b = c.if-not-is_continuation.ensures.1 h in cc)
+
+pub returns-clause-front : goal.returns-clause-front
+returns-clause-front c s _ = no_front s c.args.bytes.now

@@ -1,0 +1,10 @@
+use Rattle.wtf8_core.proofs.Common.{arith}
+use Rattle.wtf8_core.proofs.lemmas.scan.Fronts.{copied, more}
+use Rattle.wtf8_core.proofs.scan.fronts.window_len.Goals as goal
+
+pub returns-clause-kept : goal.returns-clause-kept
+returns-clause-kept c k =
+    let e = c.kept_len.ensures in
+    more c.args.encoding c.args.bytes.now c.args.at _ c.kept_len.result
+    (λ i h. copied c.args.bytes.now c.args.at c.min-before.result c.min-behind.result _ c.requires c.min-before.ensures c.min-behind.ensures c.copy_from_slice.ensures.after i (omega (arith, h, e.within)))
+    e.pattern k

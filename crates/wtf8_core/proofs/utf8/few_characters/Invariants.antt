@@ -1,6 +1,0 @@
-use Rattle.std.proofs.Common.{ℕ, ◌≡◌, ◌≤◌, length, take, drop}
-use Rattle.std.specs.Str.{IsUtf8}
-use Rattle.wtf8_core.proofs.utf8.few_characters.Given as goal
-
-abbrev pub invariant-loop : goal.invariant-loop
-invariant-loop l = (at : ℕ) × (at ≤ length l.bytes) × (l.rest ≡ drop at l.bytes) × IsUtf8 (take at l.bytes)

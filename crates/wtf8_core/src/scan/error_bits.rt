@@ -1,0 +1,96 @@
+//! How many bytes of a window may stand where they do. A window is a block or a step with the
+//! [`BEFORE`](crate::scan::BEFORE) bytes before it.
+ghost use Rattle.std.specs.Prelude.{◌≡◌, ◌≢◌, ℕ, ◌+◌, ◌≤◌, ◌<◌, length, slice_index, bit_and, bit_or, bit_xor};
+ghost use Rattle.wtf8_core.specs.PairBits.{error_bits, surrogate_pair_difference};
+ghost use Rattle.wtf8_core.specs.Neighbours.{AllMayStand};
+ghost use Rattle.wtf8_core.specs.declared.scan.Encoding.TheVariants.{Utf8, Wtf8};
+
+use crate::scan::lanes::{
+    are_zero, continuation_due, leading_nonzero, leading_zero, load, masked, or, pair_bits,
+    pair_bits_of_16, xor, xor_with,
+};
+use crate::scan::{BLOCK, Encoding, STEP};
+use std::simd::prelude::*;
+
+/// What is wrong with each of the 64 bytes behind the first four. Bit 40 (hexadecimal) is no fault
+/// by itself: it says that a surrogate begins.
+#[inline(always)]
+fn error_bits(window: &[u8]) -> u8x64
+    requires { 68 ≤ length window.now }
+    ensures { (i : ℕ) → i < 64 → slice_index result i
+        ≡ error_bits (slice_index window.now (1 + i)) (slice_index window.now (2 + i)) (slice_index window.now (3 + i)) (slice_index window.now (4 + i)) }
+{
+    let pairs = pair_bits(load(window, 3), load(window, 4));
+    xor(pairs, continuation_due(load(window, 1), load(window, 2)))
+}
+
+/// The same of the 16 bytes behind the first four.
+#[inline(always)]
+fn error_bits_of_16(window: &[u8]) -> u8x16
+    requires { 20 ≤ length window.now }
+    ensures { (i : ℕ) → i < 16 → slice_index result i
+        ≡ error_bits (slice_index window.now (1 + i)) (slice_index window.now (2 + i)) (slice_index window.now (3 + i)) (slice_index window.now (4 + i)) }
+{
+    let pairs = pair_bits_of_16(load(window, 3), load(window, 4));
+    xor(pairs, continuation_due(load(window, 1), load(window, 2)))
+}
+
+/// 0 where a low surrogate begins directly behind a high one, for each of the 64 bytes.
+#[inline(always)]
+fn surrogate_pair_difference(window: &[u8]) -> u8x64
+    requires { 68 ≤ length window.now }
+    ensures { (i : ℕ) → i < 64 → slice_index result i
+        ≡ surrogate_pair_difference (slice_index window.now (0 + i)) (slice_index window.now (1 + i)) (slice_index window.now (3 + i)) (slice_index window.now (4 + i)) }
+{
+    let leads = or(
+        xor_with(load(window, 0), 0xED),
+        xor_with(load(window, 3), 0xED),
+    );
+    let seconds = or(
+        xor_with(masked(load(window, 1), 0xF0), 0xA0),
+        xor_with(masked(load(window, 4), 0xF0), 0xB0),
+    );
+    or(leads, seconds)
+}
+
+/// How many of the 64 bytes behind the first four may stand where they do, before one that may
+/// not; in UTF-8, before one that begins a surrogate, too.
+#[inline(always)]
+pub(crate) fn kept_len(window: &[u8], encoding: Encoding) -> usize
+    requires { 68 ≤ length window.now }
+    ensures within { result ≤ 64 }
+    ensures pattern { AllMayStand encoding result window.now }
+{
+    let wrong = error_bits(window);
+    if are_zero(wrong) {
+        return BLOCK;
+    }
+    match encoding {
+        Encoding::Utf8 => leading_zero(wrong),
+        Encoding::Wtf8 => kept_with_surrogates(wrong, window),
+    }
+}
+
+/// The same by what is wrong with each, where surrogates may stand, but none in a pair. It is no
+/// part of the loop over blocks in which nothing is wrong, which is faster so.
+#[inline(never)]
+fn kept_with_surrogates(wrong: u8x64, window: &[u8]) -> usize
+    requires window { 68 ≤ length window.now }
+    requires wrong { (i : ℕ) → i < 64 → slice_index wrong i
+        ≡ error_bits (slice_index window.now (1 + i)) (slice_index window.now (2 + i)) (slice_index window.now (3 + i)) (slice_index window.now (4 + i)) }
+    ensures within { result ≤ 64 }
+    ensures pattern { AllMayStand Wtf8 result window.now }
+{
+    leading_zero(masked(wrong, 0xBF)).min(leading_nonzero(surrogate_pair_difference(window)))
+}
+
+/// How many of the 16 bytes behind the first four may stand where they do in UTF-8, before one
+/// that may not.
+#[inline(always)]
+pub(crate) fn kept_of_16(window: &[u8]) -> usize
+    requires { 20 ≤ length window.now }
+    ensures within { result ≤ 16 }
+    ensures pattern { AllMayStand Utf8 result window.now }
+{
+    leading_zero(error_bits_of_16(window)).min(STEP)
+}

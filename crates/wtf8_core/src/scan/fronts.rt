@@ -1,0 +1,238 @@
+//! How far bytes are well formed, 64 at a time, or 16 where a fault may be near.
+//!
+//! A front that is found is well formed; that a front as long as can be is found, nobody relies on.
+ghost use Rattle.std.specs.Prelude.{◌≡◌, ◌∷◌, ℕ, suc, ◌+◌, ◌-◌, ◌≤◌, ◌<◌, length, IsTrue, MatchResult, slice_index};
+ghost use Rattle.std.specs.Int.{is_in_range};
+ghost use Rattle.wtf8_core.specs.Wtf8.{last_behind};
+ghost use Rattle.wtf8_core.specs.Surrogate.{is_high};
+ghost use Rattle.wtf8_core.specs.declared.scan.Encoding.{Encoding};
+ghost use Rattle.wtf8_core.specs.declared.scan.Encoding.TheVariants.{Utf8, Wtf8};
+ghost use Rattle.wtf8_core.specs.SpelledFront.{IsSpelledFront, KeepsPattern};
+
+use crate::byte::is_continuation;
+use crate::scan::error_bits::{kept_len, kept_of_16};
+use crate::scan::lanes::{are_ascii, load};
+use crate::scan::{BEFORE, BLOCK, Encoding, STEP};
+
+/// How many bytes at the front are of an encoding: all of them where they are, and else some that
+/// end where the next code point begins.
+#[inline(always)]
+pub(crate) fn front_of(bytes: &[u8], encoding: Encoding) -> usize
+    ensures within { result ≤ length bytes.now }
+    ensures front { IsSpelledFront encoding bytes.now result }
+{
+    scan_from(bytes, 0, encoding)
+}
+
+/// The front of bytes that keep to the pattern up to a place.
+#[inline(always)]
+pub(crate) fn scan_from(bytes: &[u8], at: usize, encoding: Encoding) -> usize
+    requires within { at ≤ length bytes.now }
+    requires kept { KeepsPattern encoding bytes.now at }
+    ensures within { result ≤ length bytes.now }
+    ensures front { IsSpelledFront encoding bytes.now result }
+{
+    if bytes.len() - at < STEP {
+        return start_before(bytes, at);
+    }
+    if bytes.len() - at < BLOCK {
+        return scan_tail(bytes, at, encoding);
+    }
+    if at >= BEFORE {
+        return scan_blocks(bytes, at, encoding);
+    }
+    let kept = first_len(bytes, at, encoding);
+    if kept < BLOCK {
+        return start_before(bytes, at + kept);
+    }
+    scan_blocks(bytes, at + BLOCK, encoding)
+}
+
+/// How many of the first 64 bytes from a place on keep to the pattern, before one that doesn't.
+#[inline(always)]
+fn first_len(bytes: &[u8], at: usize, encoding: Encoding) -> usize
+    requires { at + 64 ≤ length bytes.now }
+    ensures within { result ≤ 64 }
+    ensures kept { KeepsPattern encoding bytes.now at → KeepsPattern encoding bytes.now (at + result) }
+{
+    if at == 0 && is_ascii_block(bytes, at) {
+        return BLOCK;
+    }
+    window_len(bytes, at, encoding)
+}
+
+/// The same where four bytes or more stand before that place, so that each block is tested where
+/// it stands.
+#[inline(always)]
+fn scan_blocks(bytes: &[u8], at: usize, encoding: Encoding) -> usize
+    requires from { 4 ≤ at }
+    requires within { at ≤ length bytes.now }
+    requires kept { KeepsPattern encoding bytes.now at }
+    ensures within { result ≤ length bytes.now }
+    ensures front { IsSpelledFront encoding bytes.now result }
+{
+    let mut end = ascii_end(bytes, at);
+    while bytes.len() - end >= BLOCK {
+        let kept = block_len(bytes, end, encoding);
+        end += kept;
+        if kept < BLOCK {
+            return start_before(bytes, end);
+        }
+        end = ascii_end(bytes, end);
+    }
+    scan_tail(bytes, end, encoding)
+}
+
+/// How far bytes that keep to the pattern of UTF-8 up to a place go on to keep to it, by at most
+/// eight steps of 16; or the front where one of them doesn't.
+#[inline(always)]
+pub(crate) fn scan_steps(bytes: &[u8], at: usize) -> Result<usize, usize>
+    requires within { at ≤ length bytes.now }
+    requires kept { KeepsPattern Utf8 bytes.now at }
+    ensures within { MatchResult result (λ end. end ≤ length bytes.now) (λ front. front ≤ length bytes.now) }
+    ensures front { MatchResult result (λ end. KeepsPattern Utf8 bytes.now end) (λ front. IsSpelledFront Utf8 bytes.now front) }
+{
+    let mut end = at;
+    for _ in 0..8 {
+        if end < BEFORE || bytes.len() - end < STEP {
+            return Ok(end);
+        }
+        let kept = step_len(bytes, end);
+        end += kept;
+        if kept < STEP {
+            return Err(start_before(bytes, end));
+        }
+    }
+    Ok(end)
+}
+
+/// How many of the next 16 bytes keep to the pattern of UTF-8, before one that doesn't.
+#[inline(always)]
+fn step_len(bytes: &[u8], at: usize) -> usize
+    requires from { 4 ≤ at }
+    requires room { at + 16 ≤ length bytes.now }
+    ensures within { result ≤ 16 }
+    ensures kept { KeepsPattern Utf8 bytes.now at → KeepsPattern Utf8 bytes.now (at + result) }
+{
+    kept_of_16(&bytes[at - BEFORE..])
+}
+
+/// Whether such a front ends in a high surrogate.
+#[inline(always)]
+pub(crate) fn is_behind_high(bytes: &[u8], at: usize) -> bool
+    requires { at ≤ length bytes.now }
+    ensures { (f : IsSpelledFront Wtf8 bytes.now at) → result ≡ is_high (last_behind 0 f.code_points) }
+{
+    if at < 3 {
+        return false;
+    }
+    if bytes[at - 3] != 0xED {
+        return false;
+    }
+    is_high_second(bytes[at - 2])
+}
+
+/// Whether a byte behind ED begins the form of a high surrogate, where it continues one.
+#[inline(always)]
+fn is_high_second(byte: u8) -> bool
+    ensures { result ≡ is_in_range 0xA0 0xAF byte }
+{
+    (0xA0..=0xAF).contains(&byte)
+}
+
+/// Where the blocks of ASCII from a place on end, if the byte before them is ASCII, too; else that
+/// place.
+#[inline(always)]
+fn ascii_end(bytes: &[u8], at: usize) -> usize
+    requires some { 0 < at }
+    requires within { at ≤ length bytes.now }
+    ensures from { at ≤ result }
+    ensures within { result ≤ length bytes.now }
+    ensures kept { (e : Encoding) → KeepsPattern e bytes.now at → KeepsPattern e bytes.now result }
+{
+    if bytes.len() - at < BLOCK || !is_behind_ascii(bytes, at) || !is_ascii_block(bytes, at) {
+        return at;
+    }
+    let mut end = at + BLOCK;
+    while bytes.len() - end >= BLOCK && is_ascii_block(bytes, end) {
+        end += BLOCK;
+    }
+    end
+}
+
+/// Whether the next 64 bytes are ASCII.
+#[inline(always)]
+fn is_ascii_block(bytes: &[u8], at: usize) -> bool
+    requires { at + 64 ≤ length bytes.now }
+    ensures { IsTrue result → (i : ℕ) → i < 64 → slice_index bytes.now (at + i) < 0x80 }
+{
+    are_ascii(load(bytes, at))
+}
+
+/// Whether the byte before a place is ASCII.
+#[inline(always)]
+fn is_behind_ascii(bytes: &[u8], at: usize) -> bool
+    requires some { 0 < at }
+    requires within { at ≤ length bytes.now }
+    ensures { IsTrue result → slice_index bytes.now (at - 1) < 0x80 }
+{
+    bytes[at - 1] < 0x80
+}
+
+/// How many of the next 64 bytes keep to the pattern, before one that doesn't.
+#[inline(always)]
+fn block_len(bytes: &[u8], at: usize, encoding: Encoding) -> usize
+    requires from { 4 ≤ at }
+    requires room { at + 64 ≤ length bytes.now }
+    ensures within { result ≤ 64 }
+    ensures kept { KeepsPattern encoding bytes.now at → KeepsPattern encoding bytes.now (at + result) }
+{
+    kept_len(&bytes[at - BEFORE..], encoding)
+}
+
+/// The front of bytes that keep to the pattern up to a place behind which fewer than 64 are left.
+fn scan_tail(bytes: &[u8], at: usize, encoding: Encoding) -> usize
+    requires from { at ≤ length bytes.now }
+    requires short { length bytes.now - at < 64 }
+    requires kept { KeepsPattern encoding bytes.now at }
+    ensures within { result ≤ length bytes.now }
+    ensures front { IsSpelledFront encoding bytes.now result }
+{
+    let kept = window_len(bytes, at, encoding);
+    if kept > bytes.len() - at {
+        return bytes.len();
+    }
+    start_before(bytes, at + kept)
+}
+
+/// The last place before another at which a code point begins, where bytes keep to the pattern up to
+/// that one.
+#[inline(always)]
+fn start_before(bytes: &[u8], end: usize) -> usize
+    requires { end ≤ length bytes.now }
+    ensures within { result ≤ length bytes.now }
+    ensures front { (e : Encoding) → KeepsPattern e bytes.now end → IsSpelledFront e bytes.now result }
+{
+    let mut at = end;
+    while at > 0 {
+        at -= 1;
+        if !is_continuation(bytes[at]) {
+            return at;
+        }
+    }
+    0
+}
+
+/// How many of the 64 bytes from a place on keep to the pattern, with zeros around the bytes.
+#[inline(always)]
+fn window_len(bytes: &[u8], at: usize, encoding: Encoding) -> usize
+    requires { at ≤ length bytes.now }
+    ensures within { result ≤ 64 }
+    ensures kept { KeepsPattern encoding bytes.now at → KeepsPattern encoding bytes.now (at + result) }
+{
+    let before = at.min(BEFORE);
+    let behind = (bytes.len() - at).min(BLOCK);
+    let mut window = [0; BEFORE + BLOCK];
+    window[BEFORE - before..4 + behind].copy_from_slice(&bytes[at - before..at + behind]);
+    kept_len(&window, encoding)
+}
