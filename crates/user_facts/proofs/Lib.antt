@@ -1,5 +1,6 @@
 pub mod Around
 pub mod EqualOrder
+pub mod GlobFaults
 pub mod NoMatch
 pub mod OnePiece
 pub mod Outcomes
