@@ -2,13 +2,11 @@
 pub use Rattle.std.proofs.Common.{◌≡◌, ℕ, zero, suc, ◌-◌, ◌<◌, ◌/◌, ◌%◌, [], ◌∷◌, ◌++◌, true, refl, sym, ap, ◌∙◌, arith, rules, sub-one, codes, ◌+◌, List, take, subst, MatchResult, length, append_assoc, map, Result, Err, append-nil, ⊎_elim, Bool, false, drop, Ok, Fits, w8, get_or, length-append, length-drop, take-append-drop, ◌≤◌, Some, inl, inr, get_or-drop, ◌≢◌, ◌⊎◌, ◌*◌, ltb, leb, eqb, ◌&&◌, ◌||◌, not, eqb-true, Bor, None, eq-eqb, MatchOption, Option, get_or-take, ◌^◌, cond, bit_or, replicate, ◌↔◌, true≢false, length-take, drop-drop, w16, min, max, bit_and, bit_xor, take-take, take-add, leb-false, slice_index, set}
 pub use Rattle.std.proofs.Math.Seq.{drop-append_seam, take-append_seam, take-length, drop-append-add, take-append-add}
 pub use Rattle.std.proofs.Math.Utf8.{scalar, low_scalar, scalar_cases, scalars}
-pub use Rattle.std.proofs.Output.{has_written_styled_append, has_written_styled_of_eq}
 pub use Rattle.std.proofs.lemmas.Bool.{cond-true, cond-false, and_parts, cases_lt, cases_eq, cases_Bool, or_cases, leb-true, ltb-true, lt-leb, not-true, and_left, and_right, cond_both, lt-ltb, le-ltb, not-false, false≢true, cases_order, and_from, le-leb, eqb-false}
 pub use Rattle.std.proofs.lemmas.Bool.Decides.{nat_tests, Decides-eqb}
 pub use Rattle.std.proofs.lemmas.Grind.{common_steps, flat_map-append}
 pub use Rattle.std.proofs.lemmas.List.{get_or_append_left, append_cancel_left, append_cancel_right, length-take-le, map-append, length-map, length-replicate, get_or-map, drop_all, take_at, drop_at, nil_from_length, take_all, get_or-append_right, get_or_past, drop-take, take_rest}
 pub use Rattle.std.proofs.lemmas.List.Elements.{recursion_from_All, All-drop, All-from_get_or, All-from_recursion, All-append, All-nil, All-get_or}
-pub use Rattle.std.proofs.lemmas.Simd.{Each1-get_or, get_or-chunk, get_or-zip2, pick_l-range_with_len, get_or-replicate, tops_compared, zip2_splat, zip2_splat_left, length-sel_l, get_or-sel_l, mask_l-mod, bitmask_splat, trailing_mask_l, SwzOk-from_below, Each1-from_get_or, get_or-swz_l_below, Each2-splat}
 pub use Rattle.std.proofs.lemmas.Str.{encode_ascii, encodes_same, encode_same, cons_from_encodes, IsCharBoundary-from_drop, IsCharBoundary-from_take, IsUtf8-drop, IsUtf8-nil, IsUtf8-encode, IsUtf8-append, IsUtf8-from_is_utf8, is_utf8-from_IsUtf8, utf8_lossy-IsUtf8, utf8_lossy_step, utf8_valid_len-IsValidUpTo}
 pub use Rattle.std.specs.Bool.{if◌then◌else◌, IsTrue}
 pub use Rattle.std.specs.Char.{IsScalar}

@@ -1,4 +1,5 @@
-use Rattle.wtf8_core.proofs.Common.{◌≡◌, ℕ, zero, suc, ◌-◌, ◌<◌, ◌/◌, ◌%◌, [], ◌∷◌, ◌++◌, true, refl, sym, ap, ◌∙◌, arith, rules, sub-one, has_written_styled_append, has_written_styled_of_eq, encode_ascii, common_steps, upper_hex, upper_hex_digit}
+use Rattle.wtf8_core.proofs.Common.{◌≡◌, ℕ, zero, suc, ◌-◌, ◌<◌, ◌/◌, ◌%◌, [], ◌∷◌, ◌++◌, true, refl, sym, ap, ◌∙◌, arith, rules, sub-one, encode_ascii, common_steps, upper_hex, upper_hex_digit}
+use Rattle.std.proofs.Output.{has_written_styled_append, has_written_styled_of_eq}
 use Rattle.wtf8_core.proofs.fault.+write_upper_hex.Goals as goal
 
 upper_hex-none : (k n : ℕ) → k ≡ 0 → upper_hex k n ≡ []

@@ -1,4 +1,5 @@
-use Rattle.wtf8_core.proofs.Common.{◌≡◌, ◌+◌, ◌*◌, ◌/◌, ◌<◌, get_or, refl, ap, ◌∙◌, arith, w8, SwzOk-from_below, Each1-from_get_or, get_or-swz_l_below}
+use Rattle.wtf8_core.proofs.Common.{◌≡◌, ◌+◌, ◌*◌, ◌/◌, ◌<◌, get_or, refl, ap, ◌∙◌, arith, w8}
+use Rattle.std.proofs.lemmas.Simd.{SwzOk-from_below, Each1-from_get_or, get_or-swz_l_below}
 use Rattle.wtf8_core.proofs.scan.lanes.entries.Goals as goal
 
 pub swizzle : goal.swizzle

@@ -1,4 +1,5 @@
-use Rattle.wtf8_core.proofs.Common.{◌≡◌, ◌+◌, ◌*◌, ◌/◌, ◌<◌, get_or, take, refl, ap, ◌∙◌, arith, w8, get_or-take, SwzOk-from_below, Each1-from_get_or, get_or-swz_l_below}
+use Rattle.wtf8_core.proofs.Common.{◌≡◌, ◌+◌, ◌*◌, ◌/◌, ◌<◌, get_or, take, refl, ap, ◌∙◌, arith, w8, get_or-take}
+use Rattle.std.proofs.lemmas.Simd.{SwzOk-from_below, Each1-from_get_or, get_or-swz_l_below}
 use Rattle.wtf8_core.proofs.scan.lanes.entries_of_16.Goals as goal
 
 pub swizzle : goal.swizzle

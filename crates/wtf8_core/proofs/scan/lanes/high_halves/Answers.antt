@@ -1,4 +1,5 @@
-use Rattle.wtf8_core.proofs.Common.{◌/◌, ◌^◌, arith, Each1-from_get_or, Each2-splat}
+use Rattle.wtf8_core.proofs.Common.{◌/◌, ◌^◌, arith}
+use Rattle.std.proofs.lemmas.Simd.{Each1-from_get_or, Each2-splat}
 use Rattle.wtf8_core.proofs.lemmas.scan.Lanes.{lane_with}
 use Rattle.wtf8_core.proofs.scan.lanes.high_halves.Goals as goal
 

@@ -1,4 +1,4 @@
-use Rattle.wtf8_core.proofs.Common.{get_or-chunk}
+use Rattle.std.proofs.lemmas.Simd.{get_or-chunk}
 use Rattle.wtf8_core.proofs.scan.lanes.load.Goals as goal
 
 pub returns : goal.returns
