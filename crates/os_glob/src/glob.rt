@@ -54,14 +54,17 @@ impl<'p> Glob<'p> {
     /// # Errors
     ///
     /// The first fault of the pattern, and its byte index: a class without an end, a reversed range
-    /// in a class, or a `\` at the end.
+    /// in a class, or a `\` at the end. Of `a[z-a]` it is `ReversedRange` at index 2, of `a[z-a` it is
+    /// `UnclosedClass` at index 1, and of `a\` it is `DanglingEscape` at index 1.
     ///
     /// ```
     /// use os_glob::{Glob, GlobErrorKind};
     ///
-    /// assert!(rt; Glob::new("*.[ch]").is_ok());
-    /// let fault = Glob::new("a[z-a]").err();
-    /// assert!(rt; matches!(fault, Some(error) if error.kind == GlobErrorKind::ReversedRange && error.index == 2));
+    /// assert!(rt; Glob::new("[a-c]*").is_ok());
+    /// match Glob::new("a[z-a]") {
+    ///     Ok(_) => assert!(rt; false),
+    ///     Err(error) => assert!(rt; error.kind == GlobErrorKind::ReversedRange && error.index == 2),
+    /// }
     /// ```
     pub fn new(pattern: &'p str) -> Result<Self, GlobError>
         ensures { MatchResult result (λ glob. (glob ≡ pattern.now) × IsWellFormed pattern.now) (λ error. IsFirstFault pattern.now error) }
@@ -85,7 +88,9 @@ impl<'p> Glob<'p> {
     /// Where [`GlobOptions::literal_leading_dot`] is set, no wildcard and no class takes a dot that is
     /// first in the string, or right after a separator.
     ///
-    /// The Windows string of the units D83D and DE00 is one character, and has the pattern `?`.
+    /// With the separator `/` the Unix string of the bytes 61 FF 2F 62 (hexadecimal) has the patterns
+    /// `a?/b`, `a[!a-z]/b`, `*/*` and `**`, but not `*`; the Windows string of the units D83D and DE00
+    /// is one character, and has the pattern `?`.
     ///
     /// ```
     /// use os_glob::{Glob, GlobOptions, Separators};
@@ -93,8 +98,8 @@ impl<'p> Glob<'p> {
     ///
     /// let options = GlobOptions { separators: Separators::Slash, literal_leading_dot: false };
     /// let path = OsStr::<Unix>::from_encoded_bytes_unchecked(b"a\xFF/b");
-    /// let matches = |pattern: &str| Glob::new(pattern).is_ok_and(|glob| glob.is_match(options, path));
-    /// assert!(rt; matches("a[!a-z]/b") && matches("**") && !matches("*"));
+    /// assert!(rt; Glob::new("a[!a-z]/b").unwrap().is_match(options, path));
+    /// assert!(rt; !Glob::new("*").unwrap().is_match(options, path));
     /// ```
     pub fn is_match<E: Platform>(&self, options: GlobOptions, string: OsStr<'_, E>) -> bool
         ensures symbols { (symbols : List Symbol) → AreSymbols E.units (bytes string.entry) symbols → IsTrue result ↔ IsMatch options self.now symbols }

@@ -81,12 +81,19 @@ pub fn escaped<'a, E: Platform>(string: OsStr<'a, E>) -> Escaped<'a, E>
 /// being seen. All other characters stand as they are, also those that change how a neighbour
 /// looks, as combining marks and variation selectors do, and letters that look alike.
 ///
-/// The Unix string 61 0A 1B FF is `a\u000A\u001B\xFF`. Rust's `str::escape_debug` has no way back
-/// and takes texts alone.
+/// Rust's `str::escape_debug` has no way back and takes texts alone.
 ///
 /// # Errors
 ///
 /// `AllocError` where memory is refused.
+///
+/// ```
+/// use os_quote::escape_line;
+/// use os_str_bytes::{OsStr, Unix};
+///
+/// let string = OsStr::<Unix>::from_encoded_bytes_unchecked(b"a\n\x1B\xFF");
+/// assert_eq!(rt; escape_line(alloc, string)?.as_str(), "a\\u000A\\u001B\\xFF");
+/// ```
 pub fn escape_line<E: Platform, A: Allocator>(
     alloc: A,
     string: OsStr<'_, E>,
@@ -99,8 +106,15 @@ pub fn escape_line<E: Platform, A: Allocator>(
 /// The string as a value that prints as its escape on one line, as `{}` of a log line. It takes no
 /// memory.
 ///
-/// What it writes is the text that [`escape_line`] gives: of the Unix string 61 0A 1B FF
-/// (hexadecimal) `a\u000A\u001B\xFF`.
+/// What it writes is the text that [`escape_line`] gives.
+///
+/// ```
+/// use os_quote::escaped_line;
+/// use os_str_bytes::{OsStr, Windows};
+///
+/// let string = OsStr::<Windows>::new("a\n\u{E0041}");
+/// assert_eq!(rt; escaped_line(string).to_string(alloc)?.as_str(), "a\\u000A\\u{E0041}");
+/// ```
 pub fn escaped_line<'a, E: Platform>(string: OsStr<'a, E>) -> Escaped<'a, E>
     ensures { IsLineEscape E.units (bytes string.entry) (escaped_text result) }
 {

@@ -54,14 +54,21 @@ pub fn unescape<E: Platform, A: Allocator>(
 
 /// The string whose escape on one line the text is ([`escape_line`](crate::escape_line)).
 ///
-/// Of Unix `a\u000A\u001B\xFF` it is the string 61 0A 1B FF (hexadecimal).
-///
 /// # Errors
 ///
 /// As those of [`unescape`], where a token is also `\u{`, five or six digits without a leading zero,
 /// and `}`, of a character past U+FFFF. A text with a character that doesn't stay on the line is
 /// [`QuoteError::NotCanonical`] if each backslash is in a token, and so is one with a token of a
 /// character that does, as `\u0041` or `\u{1F600}`. The empty text takes no memory.
+///
+/// ```
+/// use os_quote::unescape_line;
+/// use os_str_bytes::Unix;
+///
+/// let string = unescape_line::<Unix, _>(alloc, "a\\u000A\\xFF")?;
+/// assert_eq!(rt; string.as_os_str().as_encoded_bytes(), b"a\n\xFF".as_slice());
+/// assert!(rt; unescape_line::<Unix, _>(alloc, "a\n").is_err());
+/// ```
 pub fn unescape_line<E: Platform, A: Allocator>(
     alloc: A,
     text: &str,

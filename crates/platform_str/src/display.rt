@@ -33,6 +33,16 @@ impl<'a, E: Platform> OsStrDisplay<'a, E> {
     {
         OsStrDisplay { string }
     }
+
+    /// Writes the lossy text with no width, whatever width the formatter has (own call): for a
+    /// `Display` that prints a string among other words.
+    ///
+    /// Within `{:>9}` it writes of "a" one character.
+    pub fn write_to<W: fmt::Write>(&self, f: &mut fmt::Formatter<W>) -> fmt::Result
+        ensures { WritesStyledOnOk W.write_str_gives f.old result (E.lossy (shown_bytes self.now)) f.new }
+    {
+        write_text::<E, W>(self.string.as_encoded_bytes(), f)
+    }
 }
 
 impl<'a, E: Platform> fmt::Display for OsStrDisplay<'a, E> {

@@ -1,8 +1,10 @@
 pub mod Around
 pub mod EqualOrder
+pub mod NoMatch
 pub mod OnePiece
 pub mod Outcomes
 pub mod PiecesJoined
 pub mod Places
 pub mod QuoteFaults
 pub mod SomePlace
+pub mod TrimsAgain

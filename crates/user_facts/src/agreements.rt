@@ -40,6 +40,40 @@ pub fn trimmed_at_the_end<'a, S: OsStrBytesExt<'a> + Copy>(string: S, pattern: &
     !string.trim_end_matches(pattern).ends_with(pattern)
 }
 
+/// What is left of a string without each pattern at its start, and what is left of that by the same
+/// call: the same.
+pub fn trimmed_twice_at_the_start<'a, S: OsStrBytesExt<'a> + Copy>(
+    string: S,
+    pattern: &str,
+) -> (S, S)
+    requires { 0 < length pattern.now }
+    ensures { S.bytes_of result.1 ≡ S.bytes_of result.0 }
+{
+    let once = string.trim_start_matches(pattern);
+    let again = once.trim_start_matches(pattern);
+    (once, again)
+}
+
+/// The same without each pattern at its end.
+pub fn trimmed_twice_at_the_end<'a, S: OsStrBytesExt<'a> + Copy>(string: S, pattern: &str) -> (S, S)
+    requires { 0 < length pattern.now }
+    ensures { S.bytes_of result.1 ≡ S.bytes_of result.0 }
+{
+    let once = string.trim_end_matches(pattern);
+    let again = once.trim_end_matches(pattern);
+    (once, again)
+}
+
+/// The same without each pattern at its start and at its end.
+pub fn trimmed_twice<'a, S: OsStrBytesExt<'a> + Copy>(string: S, pattern: &str) -> (S, S)
+    requires { 0 < length pattern.now }
+    ensures { S.bytes_of result.1 ≡ S.bytes_of result.0 }
+{
+    let once = string.trim_matches(pattern);
+    let again = once.trim_matches(pattern);
+    (once, again)
+}
+
 /// The string that a stripped pattern and what follows it make, joined: the string again.
 pub fn put_back<'a, E: Platform + 'a>(
     alloc: Global,

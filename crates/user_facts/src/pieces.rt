@@ -1,6 +1,6 @@
 //! Pieces: what splits give.
 ghost use Rattle.std.specs.Prelude.{◌≡◌, [], ◌∷◌, ◌<◌, length, map, reverse};
-ghost use Rattle.std.specs.List.{join_by};
+ghost use Rattle.std.specs.List.{All, join_by};
 ghost use Rattle.wtf8_core.specs.Standing.{StandsNowhere};
 ghost use Rattle.platform_str.specs.Strings.{bytes};
 
@@ -49,6 +49,28 @@ pub fn pieces_joined_from_the_end<'a, E: Platform + 'a>(
     requires { 0 < length text.now }
     ensures bytes { join_by (λ piece. piece) text.now (reverse result) ≡ bytes string.entry }
     ensures units { join_by (λ piece. piece) (E.units text.now) (reverse (map E.units result)) ≡ E.units (bytes string.entry) }
+{
+    string.rsplit(text)
+}
+
+/// The pieces of a string, in none of which the pattern occurs.
+pub fn pieces_without_match<'a, E: Platform + 'a>(
+    string: OsStr<'a, E>,
+    text: &'a str,
+) -> Split<'a, E, &'a str>
+    requires { 0 < length text.now }
+    ensures { All (StandsNowhere text.now) result }
+{
+    string.split(text)
+}
+
+/// The same from the end.
+pub fn pieces_without_match_from_the_end<'a, E: Platform + 'a>(
+    string: OsStr<'a, E>,
+    text: &'a str,
+) -> RSplit<'a, E, &'a str>
+    requires { 0 < length text.now }
+    ensures { All (StandsNowhere text.now) result }
 {
     string.rsplit(text)
 }

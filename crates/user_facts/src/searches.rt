@@ -2,8 +2,9 @@
 ghost use Rattle.std.specs.Prelude.{◌≡◌};
 ghost use Rattle.wtf8_core.specs.Pieces.{SplitsOnce};
 ghost use Rattle.wtf8_core.specs.Standing.{IsLeastPlace, IsGreatestPlace};
+ghost use Rattle.os_str_bytes.specs.Raw.{raw_bytes};
 
-use os_str_ext::OsStrBytesExt;
+use os_str_bytes::{OsStrBytesExt, Platform, RawOsStr};
 
 /// The parts before the first place of a pattern and after it, by two cuts.
 pub fn around_first<'a, S: OsStrBytesExt<'a> + Copy>(string: S, pattern: &str) -> Option<(S, S)>
@@ -20,6 +21,36 @@ pub fn around_first<'a, S: OsStrBytesExt<'a> + Copy>(string: S, pattern: &str) -
 /// The parts before the last place of a pattern and after it, by two cuts.
 pub fn around_last<'a, S: OsStrBytesExt<'a> + Copy>(string: S, pattern: &str) -> Option<(S, S)>
     ensures { SplitsOnce IsGreatestPlace S.bytes_of pattern.now (S.bytes_of string) result }
+{
+    let Some(at) = string.rfind(pattern) else {
+        return None;
+    };
+    let (front, _) = string.split_at(at);
+    let (_, back) = string.split_at(at + pattern.len());
+    Some((front, back))
+}
+
+/// The parts of a raw string before the first place of a pattern and after it, by two cuts.
+pub fn raw_around_first<'a, E: Platform + 'a>(
+    string: RawOsStr<'a, E>,
+    pattern: &str,
+) -> Option<(RawOsStr<'a, E>, RawOsStr<'a, E>)>
+    ensures { SplitsOnce IsLeastPlace raw_bytes pattern.now (raw_bytes string.entry) result }
+{
+    let Some(at) = string.find(pattern) else {
+        return None;
+    };
+    let (front, _) = string.split_at(at);
+    let (_, back) = string.split_at(at + pattern.len());
+    Some((front, back))
+}
+
+/// The parts of a raw string before the last place of a pattern and after it, by two cuts.
+pub fn raw_around_last<'a, E: Platform + 'a>(
+    string: RawOsStr<'a, E>,
+    pattern: &str,
+) -> Option<(RawOsStr<'a, E>, RawOsStr<'a, E>)>
+    ensures { SplitsOnce IsGreatestPlace raw_bytes pattern.now (raw_bytes string.entry) result }
 {
     let Some(at) = string.rfind(pattern) else {
         return None;

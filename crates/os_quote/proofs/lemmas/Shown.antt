@@ -1,11 +1,9 @@
 -- What each form shows.
 use Rattle.std.proofs.Common.{◌≡◌, ◌≢◌, ℕ, ◌<◌, ◌≤◌, true, false, List, ◌∷◌, arith}
-use Rattle.std.proofs.lemmas.Grind.{common_steps}
 use Rattle.std.proofs.lemmas.Bool.Decides.{nat_tests}
-use Rattle.std.specs.Char.{encode_utf8}
 use Rattle.wtf8_core.specs.CodePoint.{form}
 use Rattle.os_quote.specs.Shown.{stays_on_line}
-use Rattle.os_quote.specs.Standing.{is_suspect, Stands}
+use Rattle.os_quote.specs.Standing.{is_suspect}
 
 -- ASCII from the space to the tilde
 pub ascii_stays : (b : ℕ) → 0x20 ≤ b → b < 0x7F → stays_on_line b ≡ true

@@ -4,12 +4,12 @@ use Rattle.std.specs.Char.{IsScalar, encode_utf8}
 use Rattle.std.specs.List.{AllByRecursion, flat_map}
 use Rattle.std.specs.Str.{IsUtf8, IsCharBoundary, chars, all_scalars, encode_utf8_all}
 use Rattle.std.proofs.lemmas.Bool.{and_parts, cases_eq, cases_lt, cases_Bool, lt-ltb, le-ltb, ne_eqb, eq-eqb, eqb-true}
-use Rattle.std.proofs.lemmas.List.{drop_more, take_at, drop_at, nil_from_length}
-use Rattle.std.proofs.lemmas.Str.{IsCharBoundary-after_ascii, IsCharBoundary-from_take, IsUtf8-drop, IsUtf8-encode, encode_ascii, chars-nil, chars-append, chars_past_char, encodes-chars, scalars-chars}
+use Rattle.std.proofs.lemmas.List.{drop_more, take_at, drop_at}
+use Rattle.std.proofs.lemmas.Str.{IsCharBoundary-after_ascii, IsCharBoundary-from_take, IsUtf8-drop, encode_ascii, chars-append, chars_past_char, encodes-chars, scalars-chars}
 use Rattle.std.proofs.Math.Utf8.{scalar, scalar_cases}
 use Rattle.memchr.specs.Find.{Nowhere, NoneBefore, Passes, is_byte}
 use Rattle.wtf8_core.proofs.lemmas.FormsByStd.{form_encode}
-use Rattle.os_quote.specs.Item.{Item, Character, Backslash, ByteUnit, WideUnit, LongCharacter, backslash, item_text, item_texts, IsItem, hidden_item, character_item}
+use Rattle.os_quote.specs.Item.{Item, backslash, item_text, item_texts, IsItem, hidden_item, character_item}
 use Rattle.os_quote.specs.Shown.{is_any}
 use Rattle.os_quote.specs.Reading.{HasNoBackslash, item_bytes}
 

@@ -4,7 +4,7 @@ use Rattle.std.proofs.lemmas.Str.{encode_same, encode_ascii}
 use Rattle.os_quote.specs.Item.{Item, Character, Backslash, ByteUnit, WideUnit, LongCharacter, backslash, byte_digits, wide_digits, long_digits, item_text, IsLong, HasLongTokens, IsItem}
 use Rattle.os_quote.specs.Shown.{is_any, stays_on_line}
 use Rattle.os_quote.specs.Escape.{BeginsNoToken}
-use Rattle.os_quote.specs.Reading.{HasNoWide, HasNoLong, HasNoNumber}
+use Rattle.os_quote.specs.Reading.{HasNoWide, HasNoNumber}
 use Rattle.os_quote.proofs.lemmas.Items.{tails, byte_same}
 
 -- no byte has its two digits at the front

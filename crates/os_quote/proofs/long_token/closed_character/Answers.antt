@@ -1,5 +1,4 @@
-use Rattle.std.proofs.Common.{sym, ap, ◌∙◌, ◌∷◌, ◌≡◌, arith}
-use Rattle.os_quote.proofs.lemmas.LongTokens.{no_closed_digits, no_closing, closed}
+use Rattle.os_quote.proofs.lemmas.LongTokens.{no_closed_digits, no_closing}
 use Rattle.os_quote.proofs.long_token.closed_character.Goals as goal
 
 pub returns-in_default : goal.returns-in_default

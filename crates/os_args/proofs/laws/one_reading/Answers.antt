@@ -1,0 +1,5 @@
+use Rattle.os_args.proofs.OneReading.{one_reading}
+use Rattle.os_args.proofs.laws.one_reading.Goals as goal
+
+pub returns : goal.returns
+returns c = one_reading

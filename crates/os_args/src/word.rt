@@ -1,0 +1,101 @@
+//! What is read of the words of a command line.
+ghost use Rattle.std.specs.Prelude.{◌≡◌, ◌≢◌, ◌↔◌, [], IsTrue};
+ghost use Rattle.platform_str.specs.Strings.{bytes};
+ghost use Rattle.os_args.specs.Word.{dashes, IsName, IsNamed, IsFlag, IsReadAs, IsValueOf};
+ghost use Rattle.os_args.specs.Kinds.{kind_of};
+
+use crate::number::starts_as_negative;
+use os_str_ext::{OsStr, OsStrBytesExt, Platform};
+
+/// What one step reads of the words of a command line, of strings `S` (lexopt's `Arg`).
+///
+/// [`Arguments::next`](crate::Arguments::next) gives `Word<'a, OsStr<'a, E>>`. The word is generic in
+/// the strings, as a user's own enum over strings of any platform is.
+#[derive(Clone, Copy)]
+pub enum Word<'a, S> {
+    /// The name of `--name` and of `--name=value`.
+    Long(&'a str),
+    /// The same where the name is no text.
+    LongBytes(S),
+    /// A flag: one character of `-abc`.
+    Short(char),
+    /// What is left of `-abc` where no character is first: all of it.
+    ShortBytes(S),
+    /// Any other word, `-` and the empty one too, and each word after `--`.
+    Value(S),
+}
+
+/// Reads a word before any `--`, which it isn't, and returns the rest of the word.
+#[tactic(auto, using(crate::proofs::Readings::kinds))]
+pub(crate) fn read_word<'a, E: Platform>(
+    numbers: bool,
+    word: OsStr<'a, E>,
+) -> (Word<'a, OsStr<'a, E>>, OsStr<'a, E>)
+    requires { bytes word ≢ dashes }
+    ensures { IsReadAs numbers (bytes word.entry) (kind_of result.0) (bytes result.1) }
+{
+    if let Some(long) = word.strip_prefix("--") {
+        return read_long(long);
+    }
+    let Some(flags) = word.strip_prefix("-") else {
+        return (Word::Value(word), OsStr::new(""));
+    };
+    if flags.is_empty() {
+        return (Word::Value(word), OsStr::new(""));
+    }
+    if numbers && starts_as_negative(word) {
+        return (Word::Value(word), OsStr::new(""));
+    }
+    read_flag(flags)
+}
+
+/// Reads what follows `--`, and returns the rest of it.
+fn read_long<'a, E: Platform>(long: OsStr<'a, E>) -> (Word<'a, OsStr<'a, E>>, OsStr<'a, E>)
+    ensures { IsNamed (bytes long.entry) (kind_of result.0) (bytes result.1) }
+{
+    let (name, rest) = split_name(long);
+    match name.to_str() {
+        Some(text) => (Word::Long(text), rest),
+        None => (Word::LongBytes(name), rest),
+    }
+}
+
+/// The name before the first `=`, and the rest from there.
+fn split_name<'a, E: Platform>(long: OsStr<'a, E>) -> (OsStr<'a, E>, OsStr<'a, E>)
+    ensures { IsName (bytes long.entry) (bytes result.0) (bytes result.1) }
+{
+    match long.find("=") {
+        Some(end) => long.split_at(end),
+        None => (long, OsStr::new("")),
+    }
+}
+
+/// Reads one of the flags that are left, of which there are some, and returns the rest of them.
+pub(crate) fn read_flag<'a, E: Platform>(
+    flags: OsStr<'a, E>,
+) -> (Word<'a, OsStr<'a, E>>, OsStr<'a, E>)
+    requires { bytes flags ≢ [] }
+    ensures { IsFlag (bytes flags.entry) (kind_of result.0) (bytes result.1) }
+{
+    wtf8_core::laws::characters();
+    if let Some((part, text)) = flags.utf8_chunks().next() {
+        if part.as_os_str().is_empty() {
+            if let Some(flag) = text.chars().next() {
+                if let Some(rest) = flags.strip_prefix(flag) {
+                    return (Word::Short(flag), rest);
+                }
+            }
+        }
+    }
+    (Word::ShortBytes(flags), OsStr::new(""))
+}
+
+/// The value that is left of an option's word: what follows its `=`, or all of it.
+pub(crate) fn value_of<'a, E: Platform>(rest: OsStr<'a, E>) -> OsStr<'a, E>
+    ensures { IsValueOf (bytes rest.entry) (bytes result) }
+{
+    match rest.strip_prefix("=") {
+        Some(value) => value,
+        None => rest,
+    }
+}

@@ -1,0 +1,39 @@
+//! The words that are left of a list of them.
+ghost use Rattle.std.specs.Prelude.{◌≡◌, ◌+◌, ◌<◌, ◌∷◌, ◌↔◌, [], map, drop, length, IfSome, IsTrue, MatchOption};
+ghost use Rattle.platform_str.specs.Strings.{bytes};
+ghost use Rattle.os_args.specs.Word.{dashes};
+
+use os_str_ext::{OsStr, Platform};
+
+/// The first word after so many others.
+pub(crate) fn first_after<'a, E: Platform>(
+    words: &[OsStr<'a, E>],
+    place: usize,
+) -> Option<OsStr<'a, E>>
+    ensures first { MatchOption result (drop place (map bytes words.now) ≡ []) (λ word. drop place (map bytes words.now) ≡ bytes word ∷ drop (place + 1) (map bytes words.now)) }
+    ensures within { IfSome result (λ _. place < length words.now) }
+{
+    if place < words.len() {
+        Some(words[place])
+    } else {
+        None
+    }
+}
+
+/// All words after so many others.
+pub(crate) fn all_after<'s, 'a, E: Platform>(
+    words: &'s [OsStr<'a, E>],
+    place: usize,
+) -> &'s [OsStr<'a, E>]
+    ensures { map bytes result.now ≡ drop place (map bytes words.now) }
+{
+    let (_, left) = words.split_at(place.min(words.len()));
+    left
+}
+
+/// Whether a word is `--`.
+pub(crate) fn is_dashes<'a, E: Platform>(word: OsStr<'a, E>) -> bool
+    ensures { IsTrue result ↔ (bytes word.entry ≡ dashes) }
+{
+    word.as_encoded_bytes() == b"--".as_slice()
+}
