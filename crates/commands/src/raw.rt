@@ -52,8 +52,8 @@ fn spell<E: Target, A: Allocator>(alloc: A, units: &[E::Unit]) -> Result<Vec<u8,
         × (¬ (E.is_unit_list (map E.number units.now)))
         × E.first_fault (map E.number units.now) error)) }
     ensures refused { ¬ (E.is_unit_list (map E.number units.now))
-        → (error : EncodingError) → E.first_fault (map E.number units.now) error → result
-        ≡ Err (Fault.Refused error) }
+        → (error : EncodingError) → E.first_fault (map E.number units.now) error
+        → result ≡ Err (Fault.Refused error) }
 {
     laws::faults::<E>();
     E::check_units(units)?;

@@ -528,8 +528,8 @@ impl<'a, E: Platform> RawOsStr<'a, E> {
         alloc: A,
         count: usize,
     ) -> Result<RawOsString<E, A>, AllocError>
-        ensures units { IfOk result (λ made. E.units (raw_vec_of made).items ≡ repeat count
-            (raw_units self.entry)) }
+        ensures units { IfOk result (λ made. E.units (raw_vec_of made).items
+            ≡ repeat count (raw_units self.entry)) }
         ensures empty { count * length (raw_bytes self.entry) ≡ 0 → IsOk result }
         ensures overflow { usize.MAX < count * length (raw_bytes self.entry) → IsErr result }
     {

@@ -478,8 +478,8 @@ pub trait OsStrBytesExt<'a>: OsStrBytes<'a> {
         alloc: A,
         count: usize,
     ) -> Result<OsString<Self::Platform, A>, AllocError>
-        ensures units { IfOk result (λ made. Self.Platform.units (string_vec_of made).items ≡ repeat
-            count (Self.Platform.units (Self.bytes_of self))) }
+        ensures units { IfOk result (λ made. Self.Platform.units (string_vec_of made).items
+            ≡ repeat count (Self.Platform.units (Self.bytes_of self))) }
         ensures empty { count * length (Self.bytes_of self) ≡ 0 → IsOk result }
         ensures overflow { usize.MAX < count * length (Self.bytes_of self) → IsErr result }
     {

@@ -79,7 +79,8 @@ pub trait OsStrBytes<'a>: Sized + Copy {
     /// ```
     fn from_raw_bytes(raw: &'a [u8]) -> Result<Self::Cow, EncodingError>
         ensures bytes { IfOk result (λ cow. Self.Cow.bytes_of cow ≡ raw.now) }
-        ensures cases { MatchResult result (λ _. Self.Platform.well_formed raw.now) (λ fault. Self.Platform.first_fault raw.now fault) };
+        ensures cases { MatchResult result (λ _. Self.Platform.well_formed raw.now)
+            (λ fault. Self.Platform.first_fault raw.now fault) };
 
     /// The string of raw bytes, moved.
     ///
@@ -98,7 +99,8 @@ pub trait OsStrBytes<'a>: Sized + Copy {
     fn from_raw_bytes_owned(raw: Vec<u8>) -> Result<Self::Cow, EncodingError>
         ensures bytes { IfOk result (λ cow. Self.Cow.bytes_of cow ≡ raw.items) }
         ensures vec { IfOk result (λ cow. is_owned cow raw) }
-        ensures cases { MatchResult result (λ _. Self.Platform.well_formed raw.items) (λ fault. Self.Platform.first_fault raw.items fault) };
+        ensures cases { MatchResult result (λ _. Self.Platform.well_formed raw.items)
+            (λ fault. Self.Platform.first_fault raw.items fault) };
 
     /// The string of IO-safe bytes, `None` where they aren't.
     ///
@@ -110,7 +112,8 @@ pub trait OsStrBytes<'a>: Sized + Copy {
     /// ```
     fn from_io_bytes(raw: &'a [u8]) -> Option<Self>
         ensures bytes { MatchOption result (Unit {0}) (λ string. bytes_of string ≡ raw.now) }
-        ensures cases { MatchOption result (¬ (Self.Platform.io_safe raw.now)) (λ _. Self.Platform.io_safe raw.now) };
+        ensures cases { MatchOption result (¬ (Self.Platform.io_safe raw.now))
+            (λ _. Self.Platform.io_safe raw.now) };
 
     /// The string's bytes where they are IO-safe, else `None`.
     ///
@@ -123,7 +126,8 @@ pub trait OsStrBytes<'a>: Sized + Copy {
     /// ```
     fn to_io_bytes(self) -> Option<&'a [u8]>
         ensures bytes { MatchOption result (Unit {0}) (λ io. io.now ≡ bytes_of self) }
-        ensures cases { MatchOption result (¬ (Self.Platform.io_safe (bytes_of self))) (λ _. Self.Platform.io_safe (bytes_of self)) };
+        ensures cases { MatchOption result (¬ (Self.Platform.io_safe (bytes_of self)))
+            (λ _. Self.Platform.io_safe (bytes_of self)) };
 
     /// The string's raw bytes, which [`OsStrBytes::from_raw_bytes`] accepts.
     ///
@@ -152,7 +156,8 @@ pub trait OsStrBytes<'a>: Sized + Copy {
     /// assert_eq!(rt; io.as_bytes(), b"\xEF\xBF\xBD".as_slice());
     /// ```
     final fn to_io_bytes_lossy<A: Allocator>(self, alloc: A) -> Result<ByteCow<'a, A>, AllocError>
-        ensures bytes { IfOk result (λ io. IsIoLossy Self.Platform.io_safe Self.Platform.lossy (bytes_of self) (byte_cow_bytes io)) }
+        ensures bytes { IfOk result (λ io. IsIoLossy Self.Platform.io_safe Self.Platform.lossy
+            (bytes_of self) (byte_cow_bytes io)) }
         ensures without_memory { Self.Platform.io_safe (bytes_of self) → IsOk result }
     {
         lossy::io_bytes::<Self::Platform, A>(alloc, self.encoded_bytes())
@@ -229,7 +234,9 @@ pub trait OsStringBytes: Sized + Drop {
     /// ```
     fn from_raw_vec(raw: Self::Vec) -> Result<Self, EncodingError>
         ensures vec { IfOk result (λ string. vec_of string ≡ raw) }
-        ensures cases { MatchResult result (λ _. Self.Platform.well_formed (Self.Vec.as_vec raw).items) (λ fault. Self.Platform.first_fault (Self.Vec.as_vec raw).items fault) };
+        ensures cases { MatchResult result
+            (λ _. Self.Platform.well_formed (Self.Vec.as_vec raw).items)
+            (λ fault. Self.Platform.first_fault (Self.Vec.as_vec raw).items fault) };
 
     /// The string of a vector of IO-safe bytes; a refused vector is dropped.
     ///
@@ -241,7 +248,8 @@ pub trait OsStringBytes: Sized + Drop {
     /// ```
     fn from_io_vec(raw: Self::Vec) -> Option<Self>
         ensures vec { MatchOption result (Unit {0}) (λ string. vec_of string ≡ raw) }
-        ensures cases { MatchOption result (¬ (Self.Platform.io_safe (Self.Vec.as_vec raw).items)) (λ _. Self.Platform.io_safe (Self.Vec.as_vec raw).items) };
+        ensures cases { MatchOption result (¬ (Self.Platform.io_safe (Self.Vec.as_vec raw).items))
+            (λ _. Self.Platform.io_safe (Self.Vec.as_vec raw).items) };
 
     /// The string's vector where its bytes are IO-safe; else the string is dropped.
     ///
@@ -253,7 +261,9 @@ pub trait OsStringBytes: Sized + Drop {
     /// ```
     fn into_io_vec(self) -> Option<Self::Vec>
         ensures vec { MatchOption result (Unit {0}) (λ io. io ≡ vec_of self) }
-        ensures cases { MatchOption result (¬ (Self.Platform.io_safe (Self.Vec.as_vec (vec_of self)).items)) (λ _. Self.Platform.io_safe (Self.Vec.as_vec (vec_of self)).items) };
+        ensures cases { MatchOption result
+            (¬ (Self.Platform.io_safe (Self.Vec.as_vec (vec_of self)).items))
+            (λ _. Self.Platform.io_safe (Self.Vec.as_vec (vec_of self)).items) };
 
     /// The string's vector where its bytes are IO-safe, else with the bytes of the lossy text,
     /// written in place, in the same block. It takes no memory: on Windows the form of a surrogate and that of
@@ -270,8 +280,10 @@ pub trait OsStringBytes: Sized + Drop {
     /// assert_eq!(rt; same.into_io_vec_lossy().as_slice(), b"\xED\xA0\x80".as_slice());
     /// ```
     fn into_io_vec_lossy(self) -> Self::Vec
-        ensures bytes { IsIoLossy Self.Platform.io_safe Self.Platform.lossy (Self.Vec.as_vec (vec_of self)).items (Self.Vec.as_vec result).items }
-        ensures same { Self.Platform.io_safe (Self.Vec.as_vec (vec_of self)).items → result ≡ vec_of self }
+        ensures bytes { IsIoLossy Self.Platform.io_safe Self.Platform.lossy
+            (Self.Vec.as_vec (vec_of self)).items (Self.Vec.as_vec result).items }
+        ensures same { Self.Platform.io_safe (Self.Vec.as_vec (vec_of self)).items
+            → result ≡ vec_of self }
         ensures block { SameBlock (Self.Vec.as_vec (vec_of self)) (Self.Vec.as_vec result) };
 
     /// The string's vector, which [`OsStringBytes::from_raw_vec`] accepts.

@@ -101,7 +101,8 @@ fn fill_before(align: Option<fmt::Alignment>, padding: usize) -> usize
 
 /// Writes the character that fills, so many times.
 fn write_fill<W: fmt::Write>(count: usize, f: &mut fmt::Formatter<W>) -> fmt::Result
-    ensures { WritesStyledOnOk W.write_str_gives f.old result (repeat count (encode_utf8 (spec_fill (formatter_spec f.old)))) f.new }
+    ensures { WritesStyledOnOk W.write_str_gives f.old result
+        (repeat count (encode_utf8 (spec_fill (formatter_spec f.old)))) f.new }
 {
     let mut buffer = [0; 4];
     let fill = f.fill().encode_utf8(&mut buffer);

@@ -27,14 +27,17 @@ use std::hash::Hash;
 /// Refused bytes aren't well formed, and have one first fault.
 pub fn faults<E: Platform>()
     ensures faulty { (b : List ℕ) → (f : EncodingError) → E.first_fault b f → ¬ (E.well_formed b) }
-    ensures one_fault { (b : List ℕ) → (f : EncodingError) → (g : EncodingError) → E.first_fault b f → E.first_fault b g → f ≡ g }
+    ensures one_fault { (b : List ℕ) → (f : EncodingError) → (g : EncodingError) → E.first_fault b f
+        → E.first_fault b g → f ≡ g }
 {}
 
 /// Strings with equal units are equal, each list of units is that of some string, and the
 /// units of a string are such a list.
 pub fn spelling<E: Platform>()
-    ensures one_spelling { (b : List ℕ) → (c : List ℕ) → E.well_formed b → E.well_formed c → E.units b ≡ E.units c → b ≡ c }
-    ensures some_spelling { (us : List ℕ) → E.is_unit_list us → (b : List ℕ) × (E.well_formed b × (E.units b ≡ us)) }
+    ensures one_spelling { (b : List ℕ) → (c : List ℕ) → E.well_formed b → E.well_formed c
+        → E.units b ≡ E.units c → b ≡ c }
+    ensures some_spelling { (us : List ℕ) → E.is_unit_list us
+        → (b : List ℕ) × (E.well_formed b × (E.units b ≡ us)) }
     ensures unit_list { (b : List ℕ) → E.well_formed b → E.is_unit_list (E.units b) }
 {}
 
@@ -45,8 +48,10 @@ pub fn texts<E: Platform>()
     ensures text { (b : List ℕ) → IsUtf8 b → E.well_formed b }
     ensures text_io_safe { (b : List ℕ) → IsUtf8 b → E.io_safe b }
     ensures io_safe_string { (b : List ℕ) → E.io_safe b → E.well_formed b }
-    ensures behind_text { (b : List ℕ) → (j : ℕ) → E.well_formed b → WholeCharacter b 0 j → E.well_formed (drop j b) }
-    ensures three { (b : List ℕ) → (c : List ℕ) → (n : ℕ) → E.well_formed b → ¬ (E.io_safe b) → E.replaces c n → n ≡ 3 }
+    ensures behind_text { (b : List ℕ) → (j : ℕ) → E.well_formed b → WholeCharacter b 0 j
+        → E.well_formed (drop j b) }
+    ensures three { (b : List ℕ) → (c : List ℕ) → (n : ℕ) → E.well_formed b → ¬ (E.io_safe b)
+        → E.replaces c n → n ≡ 3 }
 {}
 
 /// A string's lossy text is UTF-8, and so IO-safe. A text is its own lossy text, a text at the
@@ -55,8 +60,10 @@ pub fn texts<E: Platform>()
 pub fn lossy_texts<E: Platform>()
     ensures lossy_utf8 { (b : List ℕ) → E.well_formed b → IsUtf8 (E.lossy b) }
     ensures lossy_text { (b : List ℕ) → IsUtf8 b → E.lossy b ≡ b }
-    ensures lossy_front { (b : List ℕ) → (n : ℕ) → E.well_formed b → IsValidUpTo b n → E.lossy b ≡ take n b ++ E.lossy (drop n b) }
-    ensures lossy_step { (b : List ℕ) → (n : ℕ) → E.well_formed b → 0 < length b → StartsBare b → E.replaces b n
+    ensures lossy_front { (b : List ℕ) → (n : ℕ) → E.well_formed b → IsValidUpTo b n
+        → E.lossy b ≡ take n b ++ E.lossy (drop n b) }
+    ensures lossy_step { (b : List ℕ) → (n : ℕ) → E.well_formed b → 0 < length b → StartsBare b
+        → E.replaces b n
         → IsReplaced E.well_formed E.lossy b n }
 {}
 
@@ -64,15 +71,19 @@ pub fn lossy_texts<E: Platform>()
 pub fn readings<E: Platform>()
     ensures formed { (b : List ℕ) → (c : List ℕ) → All IsByte b → E.reads_as b c → E.well_formed c }
     ensures itself { (b : List ℕ) → E.well_formed b → E.reads_as b b }
-    ensures one { (b : List ℕ) → (c : List ℕ) → (d : List ℕ) → E.reads_as b c → E.reads_as b d → c ≡ d }
+    ensures one { (b : List ℕ) → (c : List ℕ) → (d : List ℕ) → E.reads_as b c → E.reads_as b d
+        → c ≡ d }
     ensures some { (b : List ℕ) → All IsByte b → (c : List ℕ) × E.reads_as b c }
 {}
 
 /// At a boundary both parts of a string are strings, and their units joined are the string's.
 pub fn cuts<E: Platform>()
-    ensures cut_front { (b : List ℕ) → (i : ℕ) → E.well_formed b → IsBoundary b i → E.well_formed (take i b) }
-    ensures cut_back { (b : List ℕ) → (i : ℕ) → E.well_formed b → IsBoundary b i → E.well_formed (drop i b) }
-    ensures cut_units { (b : List ℕ) → (i : ℕ) → E.well_formed b → IsBoundary b i → E.units b ≡ E.units (take i b) ++ E.units (drop i b) }
+    ensures cut_front { (b : List ℕ) → (i : ℕ) → E.well_formed b → IsBoundary b i
+        → E.well_formed (take i b) }
+    ensures cut_back { (b : List ℕ) → (i : ℕ) → E.well_formed b → IsBoundary b i
+        → E.well_formed (drop i b) }
+    ensures cut_units { (b : List ℕ) → (i : ℕ) → E.well_formed b → IsBoundary b i
+        → E.units b ≡ E.units (take i b) ++ E.units (drop i b) }
 {}
 
 /// In a string without whole characters each unit's bytes are its own: that one byte for a unit
@@ -80,7 +91,8 @@ pub fn cuts<E: Platform>()
 /// are surrogates with no high one directly before a low one, on wasm there are none. A unit has
 /// at most 16 bits.
 pub fn parts<E: Platform>()
-    ensures spelled { (b : List ℕ) → E.well_formed b → IsBare b → b ≡ flat_map unit_bytes (E.units b) }
+    ensures spelled { (b : List ℕ) → E.well_formed b → IsBare b
+        → b ≡ flat_map unit_bytes (E.units b) }
     ensures units { (b : List ℕ) → E.well_formed b → IsBare b → E.part_units (E.units b) }
     ensures wide { (b : List ℕ) → E.well_formed b → IsBare b → AreWideUnits (E.units b) }
 {}
@@ -89,32 +101,46 @@ pub fn parts<E: Platform>()
 /// unit place whose byte place that is; each unit place at which they stand has a byte place,
 /// and no unit place has two.
 pub fn standing<E: Platform>()
-    ensures alike { (p : List ℕ) → (s : List ℕ) → (j : ℕ) → IsUtf8 p → 0 < length p → E.well_formed s
-        → (StandsAt p s j ↔ ((i : ℕ) × (IsBytePlace E.well_formed E.units s i j × StandsAt (E.units p) (E.units s) i))) }
-    ensures placed { (p : List ℕ) → (s : List ℕ) → (i : ℕ) → IsUtf8 p → 0 < length p → E.well_formed s → StandsAt (E.units p) (E.units s) i
+    ensures alike { (p : List ℕ) → (s : List ℕ) → (j : ℕ) → IsUtf8 p → 0 < length p
+        → E.well_formed s
+        → (StandsAt p s j
+            ↔ ((i : ℕ)
+            × (IsBytePlace E.well_formed E.units s i j × StandsAt (E.units p) (E.units s) i))) }
+    ensures placed { (p : List ℕ) → (s : List ℕ) → (i : ℕ) → IsUtf8 p → 0 < length p
+        → E.well_formed s → StandsAt (E.units p) (E.units s) i
         → (j : ℕ) × (IsBytePlace E.well_formed E.units s i j × StandsAt p s j) }
-    ensures one_place { (s : List ℕ) → (i : ℕ) → (j : ℕ) → (k : ℕ) → IsBytePlace E.well_formed E.units s i j → IsBytePlace E.well_formed E.units s i k → j ≡ k }
+    ensures one_place { (s : List ℕ) → (i : ℕ) → (j : ℕ) → (k : ℕ)
+        → IsBytePlace E.well_formed E.units s i j → IsBytePlace E.well_formed E.units s i k
+        → j ≡ k }
 {}
 
 /// Two strings have one join. Joining three strings gives the same string whichever two are
 /// joined first, and a string starts with another exactly where it is the join of that one and
 /// some string.
 pub fn joins<E: Platform>()
-    ensures some { (a : List ℕ) → (b : List ℕ) → E.well_formed a → E.well_formed b → (w : List ℕ) × IsJoin E.well_formed E.units a b w }
-    ensures one { (a : List ℕ) → (b : List ℕ) → (v : List ℕ) → (w : List ℕ) → IsJoin E.well_formed E.units a b v → IsJoin E.well_formed E.units a b w → v ≡ w }
-    ensures associative { (a : List ℕ) → (b : List ℕ) → (c : List ℕ) → (ab : List ℕ) → (bc : List ℕ) → (v : List ℕ) → (w : List ℕ)
-        → IsJoin E.well_formed E.units a b ab → IsJoin E.well_formed E.units ab c v → IsJoin E.well_formed E.units b c bc → IsJoin E.well_formed E.units a bc w → v ≡ w }
+    ensures some { (a : List ℕ) → (b : List ℕ) → E.well_formed a → E.well_formed b
+        → (w : List ℕ) × IsJoin E.well_formed E.units a b w }
+    ensures one { (a : List ℕ) → (b : List ℕ) → (v : List ℕ) → (w : List ℕ)
+        → IsJoin E.well_formed E.units a b v → IsJoin E.well_formed E.units a b w → v ≡ w }
+    ensures associative { (a : List ℕ) → (b : List ℕ) → (c : List ℕ) → (ab : List ℕ) → (bc : List ℕ)
+        → (v : List ℕ) → (w : List ℕ)
+        → IsJoin E.well_formed E.units a b ab → IsJoin E.well_formed E.units ab c v
+            → IsJoin E.well_formed E.units b c bc → IsJoin E.well_formed E.units a bc w → v ≡ w }
     ensures fronts { (p : List ℕ) → (s : List ℕ) → E.well_formed p → E.well_formed s
-        → (IsFront (E.units p) (E.units s) ↔ ((q : List ℕ) × (E.well_formed q × IsJoin E.well_formed E.units p q s))) }
+        → (IsFront (E.units p) (E.units s)
+            ↔ ((q : List ℕ) × (E.well_formed q × IsJoin E.well_formed E.units p q s))) }
 {}
 
 /// Borrowed strings are equal where their bytes are, and are ordered as lists of bytes are. A hasher
 /// is fed the bytes, as of a slice, so equal strings hash alike.
 #[tactic(auto, using(crate::proofs::lemmas::ByteOrder::byte_order))]
 pub fn comparisons<'a, E: Platform>(a: &OsStr<'a, E>, b: &OsStr<'a, E>)
-    ensures equal { IsTrue (⟦<OsStr<'a, E> as PartialEq>⟧.eq a.now b.now) ↔ (bytes a.now ≡ bytes b.now) }
-    ensures order { ⟦<OsStr<'a, E> as Ord>⟧.cmp a.now b.now ≡ slice_cmp nat_cmp (bytes a.now) (bytes b.now) }
-    ensures partial_order { ⟦<OsStr<'a, E> as PartialOrd>⟧.partial_cmp a.now b.now ≡ Some (slice_cmp nat_cmp (bytes a.now) (bytes b.now)) }
+    ensures equal { IsTrue (⟦<OsStr<'a, E> as PartialEq>⟧.eq a.now b.now)
+        ↔ (bytes a.now ≡ bytes b.now) }
+    ensures order { ⟦<OsStr<'a, E> as Ord>⟧.cmp a.now b.now
+        ≡ slice_cmp nat_cmp (bytes a.now) (bytes b.now) }
+    ensures partial_order { ⟦<OsStr<'a, E> as PartialOrd>⟧.partial_cmp a.now b.now
+        ≡ Some (slice_cmp nat_cmp (bytes a.now) (bytes b.now)) }
     ensures hash { ⟦<OsStr<'a, E> as Hash>⟧.hash_input a.now ≡ fed.slice fed.u8 (bytes a.now) }
 {}
 
@@ -122,8 +148,12 @@ pub fn comparisons<'a, E: Platform>(a: &OsStr<'a, E>, b: &OsStr<'a, E>)
 /// is fed the bytes, as of a slice, so equal strings hash alike.
 #[tactic(auto, using(crate::proofs::lemmas::ByteOrder::byte_order))]
 pub fn owned_comparisons<E: Platform, A: Allocator>(a: &OsString<E, A>, b: &OsString<E, A>)
-    ensures equal { IsTrue (⟦<OsString<E, A> as PartialEq>⟧.eq a.now b.now) ↔ ((string_vec_of a.now).items ≡ (string_vec_of b.now).items) }
-    ensures order { ⟦<OsString<E, A> as Ord>⟧.cmp a.now b.now ≡ slice_cmp nat_cmp (string_vec_of a.now).items (string_vec_of b.now).items }
-    ensures partial_order { ⟦<OsString<E, A> as PartialOrd>⟧.partial_cmp a.now b.now ≡ Some (slice_cmp nat_cmp (string_vec_of a.now).items (string_vec_of b.now).items) }
-    ensures hash { ⟦<OsString<E, A> as Hash>⟧.hash_input a.now ≡ fed.slice fed.u8 (string_vec_of a.now).items }
+    ensures equal { IsTrue (⟦<OsString<E, A> as PartialEq>⟧.eq a.now b.now)
+        ↔ ((string_vec_of a.now).items ≡ (string_vec_of b.now).items) }
+    ensures order { ⟦<OsString<E, A> as Ord>⟧.cmp a.now b.now
+        ≡ slice_cmp nat_cmp (string_vec_of a.now).items (string_vec_of b.now).items }
+    ensures partial_order { ⟦<OsString<E, A> as PartialOrd>⟧.partial_cmp a.now b.now
+        ≡ Some (slice_cmp nat_cmp (string_vec_of a.now).items (string_vec_of b.now).items) }
+    ensures hash { ⟦<OsString<E, A> as Hash>⟧.hash_input a.now
+        ≡ fed.slice fed.u8 (string_vec_of a.now).items }
 {}

@@ -21,7 +21,9 @@ fn first_replaced<E: Platform>(bytes: &[u8]) -> Option<(usize, &[u8])>
     requires { E.well_formed bytes.now }
     ensures within { IfSome result (λ first. first.0 ≤ length bytes.now) }
     ensures text { IfSome result (λ first. IsUtf8 (take first.0 bytes.now)) }
-    ensures cases { MatchOption result (IsUtf8 bytes.now) (λ first. IsFirstText E.well_formed E.lossy bytes.now (take first.0 bytes.now) first.1.now) }
+    ensures cases { MatchOption result (IsUtf8 bytes.now)
+        (λ first. IsFirstText E.well_formed E.lossy bytes.now (take first.0 bytes.now)
+        first.1.now) }
 {
     let (valid, error_len) = utf8_fault(bytes)?;
     let (_, behind) = bytes.split_at(valid);
@@ -33,7 +35,8 @@ fn first_replaced<E: Platform>(bytes: &[u8]) -> Option<(usize, &[u8])>
 #[inline(always)]
 pub(crate) fn first_text<E: Platform>(bytes: &[u8]) -> Option<(&str, &[u8])>
     requires { E.well_formed bytes.now }
-    ensures { MatchOption result (IsUtf8 bytes.now) (λ first. IsFirstText E.well_formed E.lossy bytes.now first.0.now first.1.now) }
+    ensures { MatchOption result (IsUtf8 bytes.now)
+        (λ first. IsFirstText E.well_formed E.lossy bytes.now first.0.now first.1.now) }
 {
     let (len, rest) = first_replaced::<E>(bytes)?;
     let (front, _) = bytes.split_at(len);
@@ -114,7 +117,8 @@ pub(crate) fn io_bytes<'a, E: Platform, A: Allocator>(
     bytes: &'a [u8],
 ) -> Result<ByteCow<'a, A>, AllocError>
     requires { E.well_formed bytes.now }
-    ensures bytes { IfOk result (λ io. IsIoLossy E.io_safe E.lossy bytes.entry.now (byte_cow_bytes io)) }
+    ensures bytes { IfOk result (λ io. IsIoLossy E.io_safe E.lossy bytes.entry.now
+        (byte_cow_bytes io)) }
     ensures without_memory { E.io_safe bytes.entry.now → IsOk result }
 {
     if E::is_io_safe(bytes) {

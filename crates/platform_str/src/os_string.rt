@@ -82,8 +82,10 @@ impl<E: Platform, A: Allocator> OsString<E, A> {
     pub fn from_raw_vec_lossy(raw: Vec<u8, A>) -> Result<Self, AllocError>
     where
         A: Clone,
-        ensures reading { IfOk result (λ string. E.reads_as raw.items (string_vec_of string).items) }
-        ensures kept { E.well_formed raw.items → IfOk result (λ string. string_vec_of string ≡ raw) }
+        ensures reading { IfOk result
+            (λ string. E.reads_as raw.items (string_vec_of string).items) }
+        ensures kept { E.well_formed raw.items
+            → IfOk result (λ string. string_vec_of string ≡ raw) }
         ensures without_memory { E.well_formed raw.items → IsOk result }
     {
         match E::check(raw.as_slice()) {
@@ -143,7 +145,8 @@ impl<E: Platform, A: Allocator> OsString<E, A> {
     pub fn into_string(self) -> Result<String<A>, Self>
         ensures text { IfOk result (λ text. string_vec text ≡ string_vec_of self) }
         ensures same { IfErr result (λ string. string_vec_of string ≡ string_vec_of self) }
-        ensures cases { MatchResult result (λ _. IsUtf8 (string_vec_of self).items) (λ _. ¬ (IsUtf8 (string_vec_of self).items)) }
+        ensures cases { MatchResult result (λ _. IsUtf8 (string_vec_of self).items)
+            (λ _. ¬ (IsUtf8 (string_vec_of self).items)) }
     {
         match String::from_utf8(self.vec) {
             Ok(text) => Ok(text),
@@ -171,9 +174,12 @@ impl<E: Platform, A: Allocator> OsString<E, A> {
     /// assert!(rt; string.as_os_str() == OsStr::new("\u{1F600}"));
     /// ```
     pub fn push(&mut self, string: OsStr<'_, E>) -> Result<(), AllocError>
-        ensures ok { OnOk result (E.units (string_vec_of self.new).items ≡ E.units (string_vec_of self.old).items ++ E.units (bytes string.entry)) }
-        ensures err { OnErr result ((string_vec_of self.new).items ≡ (string_vec_of self.old).items) }
-        ensures full { OnErr result (vec_capacity (string_vec_of self.old) < vec_len (string_vec_of self.old) + length (bytes string.entry)) }
+        ensures ok { OnOk result (E.units (string_vec_of self.new).items ≡ E.units
+            (string_vec_of self.old).items ++ E.units (bytes string.entry)) }
+        ensures err { OnErr result ((string_vec_of self.new).items
+            ≡ (string_vec_of self.old).items) }
+        ensures full { OnErr result (vec_capacity (string_vec_of self.old) < vec_len
+            (string_vec_of self.old) + length (bytes string.entry)) }
     {
         E::push_bytes(&mut self.vec, string.as_encoded_bytes())
     }
@@ -193,7 +199,8 @@ impl<E: Platform, A: Allocator> OsString<E, A> {
     pub fn clone(&self) -> Result<Self, AllocError>
     where
         A: Clone,
-        ensures { IfOk result (λ copy. (string_vec_of copy).items ≡ (string_vec_of self.now).items) }
+        ensures { IfOk result (λ copy. (string_vec_of copy).items
+            ≡ (string_vec_of self.now).items) }
     {
         let alloc = self.vec.allocator().clone()?;
         self.as_os_str().to_owned(alloc)

@@ -67,7 +67,8 @@ pub trait Platform {
     /// assert_eq!(rt; Unix::check(surrogate), Ok(()));
     /// ```
     fn check(bytes: &[u8]) -> Result<(), EncodingError>
-        ensures { MatchResult result (λ _. well_formed bytes.now) (λ fault. first_fault bytes.now fault) };
+        ensures { MatchResult result (λ _. well_formed bytes.now)
+            (λ fault. first_fault bytes.now fault) };
 
     /// Whether bytes may be handed to reads and writes of files as they are: on Unix always,
     /// else where they are UTF-8. It takes no memory.
@@ -191,9 +192,11 @@ pub trait Platform {
         requires string { well_formed string.old.items }
         requires more { well_formed more.now }
         ensures formed { well_formed string.new.items }
-        ensures ok { OnOk result (units string.new.items ≡ units string.old.items ++ units more.now) }
+        ensures ok { OnOk result (units string.new.items ≡ units string.old.items ++ units
+            more.now) }
         ensures err { OnErr result (string.new.items ≡ string.old.items) }
-        ensures full { OnErr result (vec_capacity string.old < vec_len string.old + length more.now) };
+        ensures full { OnErr result (vec_capacity string.old < vec_len string.old + length
+            more.now) };
 
     /// The lossy reading of any bytes, in new memory: the bytes themselves where they are well
     /// formed, else what stands before the first part that is refused, U+FFFD, and the reading of

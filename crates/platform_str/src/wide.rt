@@ -87,7 +87,8 @@ impl<'a> OsStr<'a, Windows> {
     /// ```
     pub fn to_wide<A: Allocator>(self, alloc: A) -> Result<Vec<u16, A>, AllocError>
         ensures has_units { IfOk result (λ wide. HasUnits (bytes self.entry) wide.items) }
-        ensures units { IfOk result (λ wide. ⟦<Windows as Platform>⟧.units (bytes self.entry) ≡ wide.items) }
+        ensures units { IfOk result (λ wide. ⟦<Windows as Platform>⟧.units (bytes self.entry)
+            ≡ wide.items) }
         ensures without_memory { bytes self.entry ≡ [] → IsOk result }
     {
         let encoded = self.as_encoded_bytes();
@@ -113,8 +114,10 @@ impl<A: Allocator> OsString<Windows, A> {
     /// assert!(rt; string.as_os_str() == OsStr::new("\u{1F600}"));
     /// ```
     pub fn from_wide(alloc: A, units: &[u16]) -> Result<Self, AllocError>
-        ensures has_units { IfOk result (λ string. HasUnits (string_vec_of string).items units.now) }
-        ensures units { IfOk result (λ string. ⟦<Windows as Platform>⟧.units (string_vec_of string).items ≡ units.now) }
+        ensures has_units { IfOk result
+            (λ string. HasUnits (string_vec_of string).items units.now) }
+        ensures units { IfOk result (λ string. ⟦<Windows as Platform>⟧.units
+            (string_vec_of string).items ≡ units.now) }
         ensures without_memory { units.now ≡ [] → IsOk result }
     {
         let len = bytes_len(units);
