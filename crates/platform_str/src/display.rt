@@ -37,7 +37,24 @@ impl<'a, E: Platform> OsStrDisplay<'a, E> {
     /// Writes the lossy text with no width, whatever width the formatter has (own call): for a
     /// `Display` that prints a string among other words.
     ///
-    /// Within `{:>9}` it writes of "a" one character.
+    /// ```
+    /// use os_str_bytes::{OsStr, OsStrDisplay, Unix};
+    /// use std::fmt;
+    ///
+    /// #[derive(Drop)]
+    /// struct Quoted<'a>(OsStrDisplay<'a, Unix>);
+    ///
+    /// impl<'a> fmt::Display for Quoted<'a> {
+    ///     fn fmt<W: fmt::Write>(&self, f: &mut fmt::Formatter<W>) -> fmt::Result {
+    ///         f.write_str("'")?;
+    ///         self.0.write_to(f)?;
+    ///         f.write_str("'")
+    ///     }
+    /// }
+    ///
+    /// let quoted = Quoted(OsStr::new("a").display());
+    /// assert_eq!(rt; format!(in alloc; "{quoted:9}")?.as_str(), "'a'");
+    /// ```
     pub fn write_to<W: fmt::Write>(&self, f: &mut fmt::Formatter<W>) -> fmt::Result
         ensures { WritesStyledOnOk W.write_str_gives f.old result (E.lossy (shown_bytes self.now)) f.new }
     {

@@ -42,7 +42,6 @@ pub(crate) fn append<A: Allocator>(bytes: &mut Vec<u8, A>, more: &[u8]) -> Resul
 }
 
 /// Writes the form of a code point past FFFF (hexadecimal) over the four bytes from `at` on.
-#[tactic(auto, using(crate::proofs::lemmas::FourBytes::pair_written))]
 fn write_form_at<A: Allocator>(bytes: &mut Vec<u8, A>, at: usize, c: u32)
     requires room { at + 4 ≤ length bytes.old.items }
     requires past { 0x1_0000 ≤ c }

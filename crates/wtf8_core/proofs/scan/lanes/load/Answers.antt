@@ -1,4 +1,3 @@
-use Rattle.wtf8_core.proofs.Common.{}
 use Rattle.std.proofs.lemmas.Simd.{get_or-chunk}
 use Rattle.wtf8_core.proofs.scan.lanes.load.Goals as goal
 
