@@ -1,5 +1,5 @@
 -- What each command writes for its input, and with which fault it refuses it.
-use Rattle.std.specs.Prelude.{◌≡◌, ◌≢◌, ℕ, ◌<◌, List, length, map, Option}
+use Rattle.std.specs.Prelude.{◌≡◌, ◌≢◌, ◌⊎◌, ℕ, ◌<◌, List, length, map, Option, Result, Err}
 use Rattle.std.specs.Str.{IsUtf8}
 use Rattle.os_str_bytes.specs.Chunks.{Chunk, AreChunks}
 use Rattle.os_str_bytes.specs.Pieces.{IsSplit}
@@ -79,6 +79,14 @@ module _ {E : Type 0} (p : Ghosts E) where
   IsRefusalOn command input Read = ⊥
   IsRefusalOn command input Write = ⊥
 
+  -- the faults that the command may end with: what it refuses the input with, and want of memory
+  abbrev pub IsFaultOn : Command → List ℕ → Fault → Type 0
+  IsFaultOn command input fault = (fault ≡ Memory) ⊎ IsRefusalOn command input fault
+
+  -- r is the first fault of bytes that are no string: it is found before any memory is asked for
+  abbrev pub RefusesNoString : {T : Type 0} → List ℕ → Result T Fault → Type 0
+  RefusesNoString input r = (error : EncodingError) → p.first_fault input error → r ≡ Err (Refused error)
+
 -- the command's output for the input, on its platform
 abbrev pub IsOutput : Command → List ℕ → List ℕ → Type 0
 IsOutput command = IsOutputOn (strings (os_of command)) command
@@ -86,6 +94,10 @@ IsOutput command = IsOutputOn (strings (os_of command)) command
 -- what the command refuses the input with, on its platform
 abbrev pub IsRefusal : Command → List ℕ → Fault → Type 0
 IsRefusal command = IsRefusalOn (strings (os_of command)) command
+
+-- the faults that the command may end with, on its platform
+abbrev pub IsFault : Command → List ℕ → Fault → Type 0
+IsFault command = IsFaultOn (strings (os_of command)) command
 
 -- the faults that say what is wrong with the input
 abbrev pub IsOfInput : Fault → Type 0

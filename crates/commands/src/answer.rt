@@ -1,7 +1,7 @@
 //! What a command makes of its input.
-ghost use Rattle.std.specs.Prelude.{◌≡◌, ◌⊎◌, IfOk, IfErr};
+ghost use Rattle.std.specs.Prelude.{◌≡◌, IfOk, IfErr};
 ghost use Rattle.commands.specs.Command.{os_of, IsUnusable};
-ghost use Rattle.commands.specs.Output.{IsOutput, IsRefusal, IsOutputOn, IsRefusalOn};
+ghost use Rattle.commands.specs.Output.{IsOutput, IsFault, IsOutputOn, IsFaultOn};
 
 use crate::chunks::chunks;
 use crate::command::{Command, Os};
@@ -26,8 +26,7 @@ pub fn answer<A: Allocator + Copy>(
 ) -> Result<Vec<u8, A>, Fault>
     requires { ¬ (IsUnusable command) }
     ensures output { IfOk result (λ output. IsOutput command.entry input.now output.items) }
-    ensures fault { IfErr result (λ fault. (fault ≡ Fault.Memory)
-        ⊎ IsRefusal command.entry input.now fault) }
+    ensures fault { IfErr result (λ fault. IsFault command.entry input.now fault) }
 {
     match command.os() {
         Os::Unix => answer_on::<Unix, A>(alloc, command, input),
@@ -44,9 +43,10 @@ fn answer_on<E: Target, A: Allocator + Copy>(
 ) -> Result<Vec<u8, A>, Fault>
     requires platform { os_of command ≡ E.os }
     requires usable { ¬ (IsUnusable command) }
-    ensures output { IfOk result (λ output. IsOutputOn ⟦<E as Platform>⟧ command.entry input.now output.items) }
-    ensures fault { IfErr result (λ fault. (fault ≡ Fault.Memory)
-        ⊎ IsRefusalOn ⟦<E as Platform>⟧ command.entry input.now fault) }
+    ensures output { IfOk result (λ output. IsOutputOn ⟦<E as Platform>⟧ command.entry input.now
+        output.items) }
+    ensures fault { IfErr result (λ fault. IsFaultOn ⟦<E as Platform>⟧ command.entry input.now
+        fault) }
 {
     match command {
         Command::Units(_) => units::<E, A>(alloc, input),

@@ -1,14 +1,14 @@
 //! The command `chunks`: the bytes of a string to its chunks.
-ghost use Rattle.std.specs.Prelude.{◌≡◌, ◌⊎◌, IfOk, IfErr};
-ghost use Rattle.os_str_bytes.specs.EncodingError.{EncodingError};
+ghost use Rattle.std.specs.Prelude.{◌≡◌, IfOk, IfErr};
 ghost use Rattle.commands.specs.Lines.{chunk_lines};
-ghost use Rattle.commands.specs.Output.{IsOutputOn, IsRefusalOn};
+ghost use Rattle.commands.specs.Output.{IsOutputOn, IsFaultOn, RefusesNoString};
 ghost use Rattle.commands.specs.declared.command.Command.TheVariants.{Chunks};
 
 use crate::fault::Fault;
-use crate::split::push_piece;
+use crate::lines::push_piece;
+use crate::string::string;
 use crate::target::Target;
-use os_str_bytes::{OsStr, OsStrBytesExt, Platform, Utf8Chunks, laws};
+use os_str_bytes::{OsStrBytesExt, Platform, Utf8Chunks};
 use std::alloc::{AllocError, Allocator};
 
 /// The lines of the chunks of a string, or the first fault of its bytes.
@@ -16,14 +16,13 @@ use std::alloc::{AllocError, Allocator};
 /// A fault is found before any memory is asked for. For 66 6F 80 FF 6F (hexadecimal) on Unix
 /// the lines are `- 666f` and `80ff 6f`.
 pub fn chunks<E: Target, A: Allocator>(alloc: A, input: &[u8]) -> Result<Vec<u8, A>, Fault>
-    ensures output { IfOk result (λ output. IsOutputOn ⟦<E as Platform>⟧ (Chunks E.os) input.now output.items) }
-    ensures fault { IfErr result (λ fault. (fault ≡ Fault.Memory)
-        ⊎ IsRefusalOn ⟦<E as Platform>⟧ (Chunks E.os) input.now fault) }
-    ensures refused { (error : EncodingError) → E.first_fault input.now error → result ≡ Err (Fault.Refused error) }
+    ensures output { IfOk result (λ output. IsOutputOn ⟦<E as Platform>⟧ (Chunks E.os) input.now
+        output.items) }
+    ensures fault { IfErr result (λ fault. IsFaultOn ⟦<E as Platform>⟧ (Chunks E.os) input.now
+        fault) }
+    ensures refused { RefusesNoString ⟦<E as Platform>⟧ input.now result }
 {
-    laws::faults::<E>();
-    E::check(input)?;
-    let string = OsStr::<E>::from_encoded_bytes_unchecked(input);
+    let string = string::<E>(input)?;
     Ok(chunk_lines(alloc, string.utf8_chunks())?)
 }
 

@@ -1,31 +1,31 @@
 //! The command `find`: where a pattern stands in a string.
-ghost use Rattle.std.specs.Prelude.{◌≡◌, ◌⊎◌, ℕ, Option, IfOk, IfErr};
-ghost use Rattle.os_str_bytes.specs.EncodingError.{EncodingError};
+ghost use Rattle.std.specs.Prelude.{◌≡◌, IfOk, IfErr};
 ghost use Rattle.commands.specs.Lines.{place_line};
-ghost use Rattle.commands.specs.Output.{FindsLeast};
+ghost use Rattle.commands.specs.Output.{IsOutputOn, IsFaultOn, RefusesNoString};
+ghost use Rattle.commands.specs.declared.command.Command.TheVariants.{Find};
 
 use crate::fault::Fault;
-use os_str_bytes::{OsStr, OsStrBytesExt, Platform, laws};
+use crate::string::string;
+use crate::target::Target;
+use os_str_bytes::{OsStrBytesExt, Platform};
 use std::alloc::{AllocError, Allocator};
 
 /// The line of the least place of a pattern in a string, or the first fault of its bytes.
 ///
 /// A fault is found before any memory is asked for. For F0 90 80 80 61 (hexadecimal) and the
 /// pattern `a` on Windows the line is `4`, for `b` it is `none`.
-pub fn find<E: Platform, A: Allocator>(
+pub fn find<E: Target, A: Allocator>(
     alloc: A,
     input: &[u8],
     pattern: &str,
 ) -> Result<Vec<u8, A>, Fault>
-    ensures output { IfOk result (λ output. E.well_formed input.now
-        × ((place : Option ℕ) × FindsLeast ⟦<E as Platform>⟧ pattern.now input.now place × (output.items ≡ place_line place))) }
-    ensures fault { IfErr result (λ fault. (fault ≡ Fault.Memory)
-        ⊎ ((error : EncodingError) × (fault ≡ Fault.Refused error) × E.first_fault input.now error)) }
-    ensures refused { (error : EncodingError) → E.first_fault input.now error → result ≡ Err (Fault.Refused error) }
+    ensures output { IfOk result (λ output. IsOutputOn ⟦<E as Platform>⟧ (Find E.os pattern.entry)
+        input.now output.items) }
+    ensures fault { IfErr result (λ fault. IsFaultOn ⟦<E as Platform>⟧ (Find E.os pattern.entry)
+        input.now fault) }
+    ensures refused { RefusesNoString ⟦<E as Platform>⟧ input.now result }
 {
-    laws::faults::<E>();
-    E::check(input)?;
-    let place = OsStr::<E>::from_encoded_bytes_unchecked(input).find(pattern);
+    let place = string::<E>(input)?.find(pattern);
     Ok(place_line(alloc, place)?)
 }
 

@@ -20,6 +20,7 @@ mod quoting;
 mod raw;
 pub mod run;
 mod split;
+mod string;
 mod target;
 mod telling;
 mod units;

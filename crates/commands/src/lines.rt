@@ -1,8 +1,8 @@
 //! Units as lines of hexadecimal digits.
-ghost use Rattle.std.specs.Prelude.{◌≡◌, ◌≢◌, ℕ, ◌<◌, ◌++◌, IfSome, IfNone, IfOk};
+ghost use Rattle.std.specs.Prelude.{◌≡◌, ◌≢◌, ℕ, ◌<◌, ◌++◌, IfSome, IfNone, IfOk, OnOk};
 ghost use Rattle.os_str_bytes.specs.Strings.{bytes};
 ghost use Rattle.commands.specs.declared.command.Os.{Os};
-ghost use Rattle.commands.specs.Lines.{hex_digit, byte_digits, unit_line, unit_lines, BeginsWithUnitLine};
+ghost use Rattle.commands.specs.Lines.{hex_digit, byte_digits, piece_digits, unit_line, unit_lines, BeginsWithUnitLine};
 
 use os_str_bytes::{OsStr, Platform, Windows};
 use std::alloc::{AllocError, Allocator};
@@ -23,7 +23,8 @@ pub fn wide_lines<A: Allocator>(
     alloc: A,
     string: OsStr<'_, Windows>,
 ) -> Result<Vec<u8, A>, AllocError>
-    ensures { IfOk result (λ output. output.items ≡ unit_lines Os.Windows (⟦<Windows as Platform>⟧.units (bytes string.entry))) }
+    ensures { IfOk result (λ output. output.items ≡ unit_lines Os.Windows
+        (⟦<Windows as Platform>⟧.units (bytes string.entry))) }
 {
     let mut output = Vec::new(alloc);
     for unit in string.encode_wide() {
@@ -67,6 +68,19 @@ fn hex_digit(value: u8) -> u8
     }
 }
 
+/// Appends the digits of a piece.
+pub fn push_piece<A: Allocator>(line: &mut Vec<u8, A>, piece: &[u8]) -> Result<(), AllocError>
+    ensures { OnOk result (line.new.items ≡ line.old.items ++ piece_digits piece.now) }
+{
+    if piece.is_empty() {
+        line.push(b'-')?;
+    }
+    for byte in piece {
+        line.extend_from_slice(&byte_digits(*byte))?;
+    }
+    Ok(())
+}
+
 /// The unit that is a byte whose line stands at the front, and the bytes behind that line.
 pub fn front_byte(bytes: &[u8]) -> Option<(u8, &[u8])>
     ensures some { IfSome result (λ front. bytes.now ≡ unit_line Os.Unix front.0 ++ front.1.now) }
@@ -80,7 +94,8 @@ pub fn front_byte(bytes: &[u8]) -> Option<(u8, &[u8])>
 
 /// The unit of 16 bits whose line stands at the front, and the bytes behind that line.
 pub fn front_wide(bytes: &[u8]) -> Option<(u16, &[u8])>
-    ensures some { IfSome result (λ front. bytes.now ≡ unit_line Os.Windows front.0 ++ front.1.now) }
+    ensures some { IfSome result (λ front. bytes.now ≡ unit_line Os.Windows front.0
+        ++ front.1.now) }
     ensures none { IfNone result (¬ (BeginsWithUnitLine Os.Windows bytes.now)) }
 {
     let [first, second, third, fourth, b'\n', rest @ ..] = bytes else {

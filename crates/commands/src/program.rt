@@ -147,9 +147,12 @@ pub fn execute<A: Allocator, R: Read, W: Output, E: Messages>(
 
     // The words.
     ensures ok { OnOk (outcome_of result) (IsOk args) }
-    ensures no_words { IfErr args (λ error. error_kind error ≢ ErrorKind.OutOfMemory → outcome_of result ≡ Err Fault.Usage) }
-    ensures no_memory { IfErr args (λ error. error_kind error ≡ ErrorKind.OutOfMemory → outcome_of result ≡ Err Fault.Memory) }
-    ensures usage { IfOk args (λ args. outcome_of result ≡ Err Fault.Usage → AreNoCommand (words_behind_name args)) }
+    ensures no_words { IfErr args
+        (λ error. error_kind error ≢ ErrorKind.OutOfMemory → outcome_of result ≡ Err Fault.Usage) }
+    ensures no_memory { IfErr args
+        (λ error. error_kind error ≡ ErrorKind.OutOfMemory → outcome_of result ≡ Err Fault.Memory) }
+    ensures usage { IfOk args (λ args. outcome_of result ≡ Err Fault.Usage → AreNoCommand
+        (words_behind_name args)) }
     ensures no_command { IfOk args (λ args. AreNoCommand (words_behind_name args)
         → (outcome_of result ≡ Err Fault.Usage) ⊎ (outcome_of result ≡ Err Fault.Memory)) }
 
@@ -160,7 +163,8 @@ pub fn execute<A: Allocator, R: Read, W: Output, E: Messages>(
     ensures all_read { OnOk (outcome_of result) (IsAtEnd (R.remaining (marked_inner reader.new))) }
     ensures read { (outcome_of result ≡ Err Fault.Read) ↔ (has_failed reader.new ≡ true) }
     ensures write { (outcome_of result ≡ Err Fault.Write) ↔ (has_failed writer.new ≡ true) }
-    ensures nothing_written { IfErr (outcome_of result) (λ fault. fault ≢ Fault.Write → writer.new ≡ writer.old) }
+    ensures nothing_written { IfErr (outcome_of result)
+        (λ fault. fault ≢ Fault.Write → writer.new ≡ writer.old) }
 
     // The message.
     ensures quiet { OnOk (outcome_of result) (errors.new ≡ errors.old) }
@@ -178,10 +182,13 @@ pub fn execute<A: Allocator, R: Read, W: Output, E: Messages>(
 /// The words behind the program's name.
 fn words<A: Allocator>(alloc: A, args: io::Result<Args>) -> Result<Vec<String, A>, Fault>
     ensures ok { OnOk result (IsOk args) }
-    ensures words { IfOk result (λ words. IfOk args (λ args. map string_bytes words.items ≡ words_behind_name args)) }
+    ensures words { IfOk result (λ words. IfOk args
+        (λ args. map string_bytes words.items ≡ words_behind_name args)) }
     ensures memory { IfOk args (λ _. IfErr result (λ fault. fault ≡ Fault.Memory)) }
-    ensures no_words { IfErr args (λ error. error_kind error ≢ ErrorKind.OutOfMemory → result ≡ Err Fault.Usage) }
-    ensures no_memory { IfErr args (λ error. error_kind error ≡ ErrorKind.OutOfMemory → result ≡ Err Fault.Memory) }
+    ensures no_words { IfErr args
+        (λ error. error_kind error ≢ ErrorKind.OutOfMemory → result ≡ Err Fault.Usage) }
+    ensures no_memory { IfErr args
+        (λ error. error_kind error ≡ ErrorKind.OutOfMemory → result ≡ Err Fault.Memory) }
 {
     match args {
         Ok(args) => Ok(behind_name(alloc, args)?),
@@ -213,7 +220,8 @@ fn run_words<A: Allocator, R: Read, W: Write>(
     ensures all_read { OnOk result (IsAtEnd (R.remaining (marked_inner reader.new))) }
     ensures read { (result ≡ Err Fault.Read) ↔ (has_failed reader.new ≡ true) }
     ensures write { (result ≡ Err Fault.Write) ↔ (has_failed writer.new ≡ true) }
-    ensures nothing_written { IfErr result (λ fault. fault ≢ Fault.Write → writer.new ≡ writer.old) }
+    ensures nothing_written { IfErr result
+        (λ fault. fault ≢ Fault.Write → writer.new ≡ writer.old) }
 {
     let command = Command::parse(words)?;
     run(alloc, command, reader, writer)

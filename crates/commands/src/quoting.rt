@@ -1,13 +1,13 @@
 //! The commands `quote` and `unquote`: the bytes of a string to its escape, and back.
-ghost use Rattle.std.specs.Prelude.{◌≡◌, ◌⊎◌, IfOk, IfErr};
-ghost use Rattle.os_str_bytes.specs.EncodingError.{EncodingError};
-ghost use Rattle.commands.specs.Output.{IsOutputOn, IsRefusalOn};
+ghost use Rattle.std.specs.Prelude.{IfOk, IfErr};
+ghost use Rattle.commands.specs.Output.{IsOutputOn, IsFaultOn, RefusesNoString};
 ghost use Rattle.commands.specs.declared.command.Command.TheVariants.{Quote, Unquote};
 
 use crate::fault::Fault;
+use crate::string::string;
 use crate::target::Target;
 use os_quote::{QuoteError, escape, unescape};
-use os_str_bytes::{OsStr, Platform, Wasm, laws};
+use os_str_bytes::{Platform, Wasm};
 use std::alloc::Allocator;
 
 /// The escape of a string, or the first fault of its bytes.
@@ -15,14 +15,13 @@ use std::alloc::Allocator;
 /// A fault is found before any memory is asked for. Of 66 6F 80 FF 6F (hexadecimal) on Unix the
 /// escape is `fo\x80\xFFo`.
 pub fn quote<E: Target, A: Allocator>(alloc: A, input: &[u8]) -> Result<Vec<u8, A>, Fault>
-    ensures output { IfOk result (λ output. IsOutputOn ⟦<E as Platform>⟧ (Quote E.os) input.now output.items) }
-    ensures fault { IfErr result (λ fault. (fault ≡ Fault.Memory)
-        ⊎ IsRefusalOn ⟦<E as Platform>⟧ (Quote E.os) input.now fault) }
-    ensures refused { (error : EncodingError) → E.first_fault input.now error → result ≡ Err (Fault.Refused error) }
+    ensures output { IfOk result (λ output. IsOutputOn ⟦<E as Platform>⟧ (Quote E.os) input.now
+        output.items) }
+    ensures fault { IfErr result (λ fault. IsFaultOn ⟦<E as Platform>⟧ (Quote E.os) input.now
+        fault) }
+    ensures refused { RefusesNoString ⟦<E as Platform>⟧ input.now result }
 {
-    laws::faults::<E>();
-    E::check(input)?;
-    let string = OsStr::<E>::from_encoded_bytes_unchecked(input);
+    let string = string::<E>(input)?;
     Ok(escape(alloc, string)?.into_bytes())
 }
 
@@ -32,9 +31,10 @@ pub fn quote<E: Target, A: Allocator>(alloc: A, input: &[u8]) -> Result<Vec<u8, 
 /// Of `fo\x80\xFFo` on Unix it is 66 6F 80 FF 6F (hexadecimal), of `a\q` [`Fault::BadQuote`]
 /// with the place 1.
 pub fn unquote<E: Target, A: Allocator>(alloc: A, input: &[u8]) -> Result<Vec<u8, A>, Fault>
-    ensures output { IfOk result (λ output. IsOutputOn ⟦<E as Platform>⟧ (Unquote E.os) input.now output.items) }
-    ensures fault { IfErr result (λ fault. (fault ≡ Fault.Memory)
-        ⊎ IsRefusalOn ⟦<E as Platform>⟧ (Unquote E.os) input.now fault) }
+    ensures output { IfOk result (λ output. IsOutputOn ⟦<E as Platform>⟧ (Unquote E.os) input.now
+        output.items) }
+    ensures fault { IfErr result (λ fault. IsFaultOn ⟦<E as Platform>⟧ (Unquote E.os) input.now
+        fault) }
 {
     Wasm::check(input)?;
     let text = unsafe { str::from_utf8_unchecked(input) };

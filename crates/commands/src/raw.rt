@@ -2,7 +2,7 @@
 ghost use Rattle.std.specs.Prelude.{◌≡◌, ◌⊎◌, ℕ, All, map, IfOk, IfErr};
 ghost use Rattle.os_str_bytes.specs.EncodingError.{EncodingError};
 ghost use Rattle.commands.specs.Lines.{IsUnit, AreUnitLines, IsFirstBadLine};
-ghost use Rattle.commands.specs.Output.{IsOutputOn, IsRefusalOn};
+ghost use Rattle.commands.specs.Output.{IsOutputOn, IsFaultOn};
 ghost use Rattle.commands.specs.declared.command.Command.TheVariants.{Raw};
 
 use crate::fault::Fault;
@@ -15,9 +15,9 @@ use std::alloc::Allocator;
 ///
 /// For the lines `d800` and `dc00` on Windows they are F0 90 80 80 (hexadecimal).
 pub fn raw<E: Target, A: Allocator + Copy>(alloc: A, input: &[u8]) -> Result<Vec<u8, A>, Fault>
-    ensures output { IfOk result (λ output. IsOutputOn ⟦<E as Platform>⟧ (Raw E.os) input.now output.items) }
-    ensures fault { IfErr result (λ fault. (fault ≡ Fault.Memory)
-        ⊎ IsRefusalOn ⟦<E as Platform>⟧ (Raw E.os) input.now fault) }
+    ensures output { IfOk result (λ output. IsOutputOn ⟦<E as Platform>⟧ (Raw E.os) input.now
+        output.items) }
+    ensures fault { IfErr result (λ fault. IsFaultOn ⟦<E as Platform>⟧ (Raw E.os) input.now fault) }
 {
     let units = read_units::<E, A>(alloc, input)?;
     spell::<E, A>(alloc, &units)
@@ -45,12 +45,15 @@ fn read_units<E: Target, A: Allocator>(alloc: A, input: &[u8]) -> Result<Vec<E::
 /// first fault of units that no string has.
 fn spell<E: Target, A: Allocator>(alloc: A, units: &[E::Unit]) -> Result<Vec<u8, A>, Fault>
     requires { All (IsUnit E.os) (map E.number units.now) }
-    ensures bytes { IfOk result (λ bytes. E.well_formed bytes.items × (E.units bytes.items ≡ map E.number units.now)) }
+    ensures bytes { IfOk result (λ bytes. E.well_formed bytes.items
+        × (E.units bytes.items ≡ map E.number units.now)) }
     ensures fault { IfErr result (λ fault. (fault ≡ Fault.Memory)
         ⊎ ((error : EncodingError) × (fault ≡ Fault.Refused error)
-        × (¬ (E.is_unit_list (map E.number units.now))) × E.first_fault (map E.number units.now) error)) }
+        × (¬ (E.is_unit_list (map E.number units.now)))
+        × E.first_fault (map E.number units.now) error)) }
     ensures refused { ¬ (E.is_unit_list (map E.number units.now))
-        → (error : EncodingError) → E.first_fault (map E.number units.now) error → result ≡ Err (Fault.Refused error) }
+        → (error : EncodingError) → E.first_fault (map E.number units.now) error → result
+        ≡ Err (Fault.Refused error) }
 {
     laws::faults::<E>();
     E::check_units(units)?;

@@ -50,7 +50,8 @@ pub fn run<A: Allocator, R: Read, W: Write>(
     ensures no_read_failed { OnOk result (has_failed reader.new ≡ false) }
     ensures no_write_failed { OnOk result (has_failed writer.new ≡ false) }
     ensures all_read { OnOk result (IsAtEnd (R.remaining (marked_inner reader.new))) }
-    ensures written { OnOk result (WritesOutput command.entry (R.remaining (marked_inner reader.old))
+    ensures written { OnOk result
+        (WritesOutput command.entry (R.remaining (marked_inner reader.old))
         (W.contents (marked_inner writer.old)) (W.contents (marked_inner writer.new))) }
 
     // When each fault comes.
@@ -63,7 +64,8 @@ pub fn run<A: Allocator, R: Read, W: Write>(
     ensures write { (result ≡ Err Fault.Write) ↔ (has_failed writer.new ≡ true) }
 
     // What was written before a fault.
-    ensures nothing_written { IfErr result (λ fault. fault ≢ Fault.Write → writer.new ≡ writer.old) }
+    ensures nothing_written { IfErr result
+        (λ fault. fault ≢ Fault.Write → writer.new ≡ writer.old) }
     ensures beginning_written { result ≡ Err Fault.Write
         → WritesBeginning command.entry (R.remaining (marked_inner reader.old))
         (W.contents (marked_inner writer.old)) (W.contents (marked_inner writer.new)) }

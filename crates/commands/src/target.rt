@@ -26,7 +26,8 @@ pub trait Target: Platform {
     /// The unit whose line stands at the front, and the bytes behind that line. It takes no
     /// memory.
     fn front_unit(bytes: &[u8]) -> Option<(Self::Unit, &[u8])>
-        ensures some { IfSome result (λ front. bytes.now ≡ unit_line os (number front.0) ++ front.1.now) }
+        ensures some { IfSome result (λ front. bytes.now ≡ unit_line os (number front.0)
+            ++ front.1.now) }
         ensures unit { IfSome result (λ front. IsUnit os (number front.0)) }
         ensures none { IfNone result (¬ (BeginsWithUnitLine os bytes.now)) };
 
@@ -35,7 +36,8 @@ pub trait Target: Platform {
     fn check_units(units: &[Self::Unit]) -> Result<(), EncodingError>
         requires { All (IsUnit os) (map number units.now) }
         ensures { MatchResult result (λ _. Self.is_unit_list (map number units.now))
-            (λ error. (¬ (Self.is_unit_list (map number units.now))) × Self.first_fault (map number units.now) error) };
+            (λ error. (¬ (Self.is_unit_list (map number units.now)))
+            × Self.first_fault (map number units.now) error) };
 
     /// The bytes of the string that has these units (test: [`Target::check_units`]).
     fn spell<A: Allocator>(alloc: A, units: &[Self::Unit]) -> Result<Vec<u8, A>, AllocError>

@@ -14,8 +14,10 @@ const ROOM: usize = 128;
 /// Writes the message of a fault, and answers whether all of it was taken; else a beginning of it
 /// was. It takes no memory.
 pub(crate) fn tell<E: Write>(fault: Fault, errors: &mut E) -> bool
-    ensures told { result ≡ true → Appends (E.contents errors.old) (E.contents errors.new) (message fault) }
-    ensures beginning { WritesMessageBeginning fault (E.contents errors.old) (E.contents errors.new) }
+    ensures told { result ≡ true → Appends (E.contents errors.old) (E.contents errors.new)
+        (message fault) }
+    ensures beginning { WritesMessageBeginning fault (E.contents errors.old)
+        (E.contents errors.new) }
 {
     match message(fault) {
         Some(text) => write_text(text.as_str().as_bytes(), errors),
@@ -26,8 +28,10 @@ pub(crate) fn tell<E: Write>(fault: Fault, errors: &mut E) -> bool
 /// Writes a text as the output is written, and answers whether all of it was taken.
 #[tactic(auto, using(crate::proofs::lemmas::Pieces::pieces))]
 fn write_text<E: Write>(text: &[u8], errors: &mut E) -> bool
-    ensures told { result ≡ true → Appends (E.contents errors.old) (E.contents errors.new) text.now }
-    ensures beginning { (count : ℕ) × Appends (E.contents errors.old) (E.contents errors.new) (take count text.now) }
+    ensures told { result ≡ true → Appends (E.contents errors.old) (E.contents errors.new)
+        text.now }
+    ensures beginning { (count : ℕ) × Appends (E.contents errors.old) (E.contents errors.new)
+        (take count text.now) }
 {
     let mut written = 0;
     while written < text.len() {

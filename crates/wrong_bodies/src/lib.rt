@@ -19,7 +19,7 @@ mod splits;
 pub use checks::{check_in_two, check_windows, from_raw_vec};
 pub use chunks::first_chunk;
 pub use cuts::{boundary, cut_off, part_to, parts_at};
-pub use escapes::unescape;
+pub use escapes::{escape_line, unescape, unescape_line};
 pub use headline::{ask, order};
 pub use joins::twice;
 pub use printing::{print, print_path, print_raw};
