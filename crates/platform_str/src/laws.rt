@@ -104,8 +104,8 @@ pub fn standing<E: Platform>()
     ensures alike { (p : List ℕ) → (s : List ℕ) → (j : ℕ) → IsUtf8 p → 0 < length p
         → E.well_formed s
         → (StandsAt p s j
-            ↔ ((i : ℕ)
-            × (IsBytePlace E.well_formed E.units s i j × StandsAt (E.units p) (E.units s) i))) }
+        ↔ ((i : ℕ)
+        × (IsBytePlace E.well_formed E.units s i j × StandsAt (E.units p) (E.units s) i))) }
     ensures placed { (p : List ℕ) → (s : List ℕ) → (i : ℕ) → IsUtf8 p → 0 < length p
         → E.well_formed s → StandsAt (E.units p) (E.units s) i
         → (j : ℕ) × (IsBytePlace E.well_formed E.units s i j × StandsAt p s j) }
@@ -125,10 +125,10 @@ pub fn joins<E: Platform>()
     ensures associative { (a : List ℕ) → (b : List ℕ) → (c : List ℕ) → (ab : List ℕ) → (bc : List ℕ)
         → (v : List ℕ) → (w : List ℕ)
         → IsJoin E.well_formed E.units a b ab → IsJoin E.well_formed E.units ab c v
-            → IsJoin E.well_formed E.units b c bc → IsJoin E.well_formed E.units a bc w → v ≡ w }
+        → IsJoin E.well_formed E.units b c bc → IsJoin E.well_formed E.units a bc w → v ≡ w }
     ensures fronts { (p : List ℕ) → (s : List ℕ) → E.well_formed p → E.well_formed s
         → (IsFront (E.units p) (E.units s)
-            ↔ ((q : List ℕ) × (E.well_formed q × IsJoin E.well_formed E.units p q s))) }
+        ↔ ((q : List ℕ) × (E.well_formed q × IsJoin E.well_formed E.units p q s))) }
 {}
 
 /// Borrowed strings are equal where their bytes are, and are ordered as lists of bytes are. A hasher
