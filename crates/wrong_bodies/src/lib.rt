@@ -1,4 +1,4 @@
-//! For trying: calls under the words of their own contracts, whose bodies edits replace by wrong ones.
+//! For trying: calls under the words of their own contracts, and wrong bodies put in by edits.
 //!
 //! It is proved that a call's contract says at least what is said here. The edits in `edits/` show
 //! that these words refuse the wrong bodies. They are in a crate above the libraries, so that no
