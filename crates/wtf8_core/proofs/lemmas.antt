@@ -28,7 +28,10 @@ pub mod PartUnits
 pub mod IllFormedParts
 pub mod FormCuts
 pub mod TextsInStrings
-pub mod HalvesAtEdges
+pub mod LastForms
+pub mod PrefixesAndSuffixes
+pub mod EdgeUnits
+pub mod PrefixTests
 pub mod Joins
 pub mod PlacesInUnits
 pub mod PiecesInUnits

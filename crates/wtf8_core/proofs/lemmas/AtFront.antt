@@ -2,15 +2,12 @@
 use Rattle.wtf8_core.proofs.Common.{◌≡◌, ℕ, ◌+◌, ◌<◌, ◌≤◌, List, ◌∷◌, ◌++◌, length, get_or, Some, true, false, sym, ap, ◌∙◌, subst, arith, refl, drop, [], if◌then◌else◌, cond-true, cond-false, nat_tests, get_or_append_left, IsScalar, is_in_range, utf8_error_len, second_byte_min, second_byte_max, IsContinuation, form, WholeCharacter, IsUtf8Fault}
 use Rattle.wtf8_core.proofs.lemmas.Characters.{whole_at}
 use Rattle.wtf8_core.proofs.lemmas.Overlaps.{form_behind}
+use Rattle.wtf8_core.proofs.lemmas.Forms.{form_bounds}
 use Rattle.wtf8_core.proofs.lemmas.Ranges.{in_range, in_range-true, in_range-false, not_in_range}
 use Rattle.wtf8_core.proofs.lemmas.Texts.{valid_none}
 use Rattle.wtf8_core.proofs.lemmas.Utf8Lemmas.{First, Second, Filled, filled, least_continuation, lead_of, second_of, len_of_four, fault_is}
 
 -- how many bytes a form has, by its first
-pub some_long : (c : ℕ) → 1 ≤ length (form c)
-unfolding form
-some_long c = grind (arith, nat_tests)
-
 pub past_ascii : (c : ℕ) → 0x80 ≤ get_or (form c) 0 0 → 0x80 ≤ c
 unfolding form
 past_ascii c h = grind (arith, nat_tests, h)
@@ -63,7 +60,7 @@ module _ (r : List ℕ) (long : 4 ≤ length r) (high : 0x80 ≤ get_or r 0 0) w
   begun : (c : ℕ) (rest : List ℕ) → IsScalar c → r ≡ form c ++ rest → IsBegun
   begun c rest s e =
       let at : (i : ℕ) → i < length (form c) → get_or r i 0 ≡ get_or (form c) i 0 = λ i h. ap (λ l. get_or l i 0) e ∙ get_or_append_left (form c) rest 0 i h in
-      let b_is = at 0 (some_long c) in
+      let b_is = at 0 (form_bounds c).0 in
       let past : 0x80 ≤ c = past_ascii c (subst (λ n. 0x80 ≤ n) b_is high) in
       record {
         first = subst First (sym b_is) (lead_of c s past);

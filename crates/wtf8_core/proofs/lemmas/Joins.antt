@@ -8,7 +8,7 @@ use Rattle.wtf8_core.proofs.lemmas.UnitsLemmas.{wide_single, may_precede, paired
 use Rattle.wtf8_core.proofs.lemmas.FormCuts.{spells_front, spells_back}
 use Rattle.wtf8_core.proofs.lemmas.Appending.{spells_one, spells_joined}
 use Rattle.wtf8_core.proofs.lemmas.TextsInStrings.{units_of_spelled}
-use Rattle.wtf8_core.proofs.lemmas.HalvesAtEdges.{last_point, split_at_last, forms_last, units_last}
+use Rattle.wtf8_core.proofs.lemmas.LastForms.{last_point, split_at_last, forms_last, units_last}
 
 -- where no pair arises, the bytes joined
 pub plain_join : (a b : List ℕ) → IsWtf8 a → IsWtf8 b → ((c : ℕ) → IsPairBetween a b c → ⊥) → IsJoin IsWtf8 units_of a b (a ++ b)

@@ -6,7 +6,7 @@ use Rattle.wtf8_core.proofs.lemmas.Forms.{form_ascii, form_bounds, shape_is_form
 use Rattle.wtf8_core.proofs.lemmas.reader.Continuations.{Stops, split}
 use Rattle.wtf8_core.proofs.lemmas.reader.Continuations.Stops.{whole, ends, breaks}
 use Rattle.wtf8_core.proofs.lemmas.reader.Reading.{items-ok}
-use Rattle.wtf8_core.proofs.lemmas.Complete.{item_of_form, items_of_fault, items_if}
+use Rattle.wtf8_core.proofs.lemmas.Complete.{behind_form, item_of_form, items_of_fault, items_if}
 
 -- behind the code point p the bytes begin with a form
 pub record BeginsForm (p : ℕ) (bs : List ℕ) : Type 0 where
@@ -133,11 +133,17 @@ items_of_bytes bs a =
 pub items_sound : (bs : List ℕ) → ((i : ℕ) → Fits w8 (get_or bs i 0)) → AreItems bs (items_after false bs)
 items_sound bs h = items_of_bytes bs (All-from_get_or IsByte bs 0 (λ i _. omega (arith, h i)))
 
--- where the first item is a code point, its form stands at the front
-pub first_form : (b c : ℕ) (bs : List ℕ) → IsByte b → first_item false b bs ≡ Ok c → (rest : List ℕ) × IsCodePoint c × (b ∷ bs ≡ form c ++ rest)
-first_form b c bs u e = ⊎_elim
-    (λ i. let q : Ok c ∷ items_behind (behind_item b bs) (is_high c) bs ≡ Ok i.c ∷ items_behind 0 (is_high i.c) i.rest = sym (items-ok false b c bs e) ∙ ap (items_behind 0 false) i.is ∙ item_of_form 0 i.c i.rest i.code_point i.free in
+-- behind the code point p a code point is read: its form stands there
+pub first_form_behind : (p b c : ℕ) (bs : List ℕ) → IsByte b → first_item (is_high p) b bs ≡ Ok c → (i : BeginsForm p (b ∷ bs)) × (i.c ≡ c) × (i.rest ≡ drop (behind_item b bs) bs)
+first_form_behind p b c bs u e = ⊎_elim
+    (λ i. let q : Ok c ∷ items_behind (behind_item b bs) (is_high c) bs ≡ Ok i.c ∷ items_behind 0 (is_high i.c) i.rest = sym (items-ok (is_high p) b c bs e) ∙ ap (items_behind 0 (is_high p)) i.is ∙ item_of_form p i.c i.rest i.code_point i.free in
     let same : i.c ≡ c = cc in
-    (i.rest, subst IsCodePoint same i.code_point, i.is ∙ ap (λ x. form x ++ i.rest) same))
-    (λ f. let q : Ok c ∷ items_behind (behind_item b bs) (is_high c) bs ≡ Err f.0 ∷ items_behind 0 false f.1.rest = sym (items-ok false b c bs e) ∙ items_of_fault 0 (b ∷ bs) f.0 f.1 in cc)
-    (begins 0 b bs u)
+    (i, same, sym (behind_form i.c i.rest i.code_point b bs i.is)))
+    (λ f. let q : Ok c ∷ items_behind (behind_item b bs) (is_high c) bs ≡ Err f.0 ∷ items_behind 0 false f.1.rest = sym (items-ok (is_high p) b c bs e) ∙ items_of_fault p (b ∷ bs) f.0 f.1 in cc)
+    (begins p b bs u)
+
+-- so at the front
+pub first_form : (b c : ℕ) (bs : List ℕ) → IsByte b → first_item false b bs ≡ Ok c → (rest : List ℕ) × IsCodePoint c × (b ∷ bs ≡ form c ++ rest)
+first_form b c bs u e =
+    let w = first_form_behind 0 b c bs u e in
+    (w.0.rest, subst IsCodePoint w.1 w.0.code_point, w.0.is ∙ ap (λ x. form x ++ w.0.rest) w.1)

@@ -1,5 +1,5 @@
 use Rattle.std.specs.Str.{IsUtf8}
-use Rattle.wtf8_core.proofs.lemmas.HalvesAtEdges.{never}
+use Rattle.wtf8_core.proofs.lemmas.PrefixTests.{never}
 use Rattle.wtf8_core.proofs.lemmas.Utf8Facts.{no_text}
 use Rattle.platform_str.proofs.text.is_text.Goals as goal
 

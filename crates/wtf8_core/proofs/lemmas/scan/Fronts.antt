@@ -8,6 +8,7 @@ use Rattle.wtf8_core.proofs.lemmas.Appending.{all_joined, spells_joined, spells_
 use Rattle.wtf8_core.proofs.lemmas.Cuts.{all_parts, cut_before, spells_parts}
 use Rattle.wtf8_core.proofs.lemmas.Seams.{scalars_are}
 use Rattle.wtf8_core.proofs.lemmas.Texts.{text_spells}
+use Rattle.wtf8_core.proofs.lemmas.scan.PairBits.{same_five}
 use Rattle.wtf8_core.proofs.lemmas.scan.ScannedIsSpelled.{IsEdgeAt, edge_of_forms, whole}
 use Rattle.wtf8_core.specs.declared.scan.Encoding.{Encoding}
 use Rattle.wtf8_core.specs.declared.scan.Encoding.TheVariants.{Utf8, Wtf8}
@@ -52,11 +53,6 @@ four_before : (a b c d : ℕ) (l : List ℕ) (m : ℕ) → m ≤ length l
 four_before a b c d l zero h = refl
 four_before a b c d [] (suc m) h = absurd (omega (arith, h))
 four_before a b c d (x ∷ l) (suc m) h = four_before b c d x l m (omega (arith, h))
-
--- the same neighbours in another list
-same_neighbours : (o : Encoding) (v w x y z a b c d e : ℕ) → v ≡ a → w ≡ b → x ≡ c → y ≡ d → z ≡ e → MayStand o v w x y z → MayStand o a b c d e
-same_neighbours o v w x y z a b c d e p q r s t h =
-    subst (λ k. MayStand o k b c d e) p (subst (λ k. MayStand o v k c d e) q (subst (λ k. MayStand o v w k d e) r (subst (λ k. MayStand o v w x k e) s (subst (λ k. MayStand o v w x y k) t h))))
 
 module _ (encoding : Encoding) (bytes : List ℕ) where
   -- a front may be cut before a byte that begins a code point
@@ -139,7 +135,7 @@ module _ (encoding : Encoding) (bytes : List ℕ) where
       front = k.front;
       order = omega (arith, k.order);
       pattern = λ i h. ⊎_elim (k.pattern i) (λ l. let j = i - (at - k.from) in
-          same_neighbours encoding _ _ _ _ _ _ _ _ _ _
+          same_five (MayStand encoding)
           (in_window k.from i j (omega (arith, l, k.order)) (omega (arith, h, l, k.order)))
           (in_window k.from (suc i) (suc j) (omega (arith, l, k.order)) (omega (arith, h, l, k.order)))
           (in_window k.from (suc (suc i)) (suc (suc j)) (omega (arith, l, k.order)) (omega (arith, h, l, k.order)))
