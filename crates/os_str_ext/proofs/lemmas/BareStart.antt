@@ -7,12 +7,12 @@ use Rattle.std.specs.Str.{IsUtf8}
 use Rattle.wtf8_core.specs.CodePoint.{form}
 use Rattle.wtf8_core.specs.Character.{WholeCharacter}
 use Rattle.wtf8_core.specs.Utf8.{IsUtf8Fault, part_end}
-use Rattle.wtf8_core.proofs.lemmas.AtFront.{some_long, past_ascii}
-use Rattle.wtf8_core.proofs.lemmas.Characters.{character_fits, begins_at}
-use Rattle.wtf8_core.proofs.lemmas.IllFormedParts.{apart_from_part}
-use Rattle.wtf8_core.proofs.lemmas.Overlaps.{in_rest}
-use Rattle.wtf8_core.proofs.lemmas.Seams.{whole_within}
-use Rattle.wtf8_core.proofs.lemmas.Utf8Lemmas.{First, lead_of}
+use Rattle.wtf8_core.proofs.lemmas.characters.FourBytes.{some_long, past_ascii}
+use Rattle.wtf8_core.proofs.lemmas.characters.AtPlaces.{character_fits, begins_at}
+use Rattle.wtf8_core.proofs.lemmas.characters.IllFormedParts.{apart_from_part}
+use Rattle.wtf8_core.proofs.lemmas.characters.Overlaps.{in_rest}
+use Rattle.wtf8_core.proofs.lemmas.characters.Seams.{whole_within}
+use Rattle.wtf8_core.proofs.lemmas.texts.StdFaults.{First, lead_of}
 use Rattle.os_str_ext.specs.Chunks.{BeginsNoCharacter, IsBareUpTo, IsFirstChunk}
 use Rattle.os_str_ext.proofs.lemmas.FirstChunk.{first_of_parts, text_from, no_character_behind, without_character}
 

@@ -1,6 +1,6 @@
 use Rattle.wtf8_core.proofs.Common.{inr, arith}
-use Rattle.wtf8_core.proofs.lemmas.EdgeUnits.{four_long, no_past_form, half_of}
-use Rattle.wtf8_core.proofs.lemmas.LastForms.{too_short}
+use Rattle.wtf8_core.proofs.lemmas.units.FirstAndLast.{four_long, no_past_form, half_of}
+use Rattle.wtf8_core.proofs.lemmas.forms.LastForms.{too_short}
 use Rattle.wtf8_core.proofs.halves.last_half.Goals as goal
 
 pub returns-in_default : goal.returns-in_default

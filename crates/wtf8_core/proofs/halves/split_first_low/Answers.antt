@@ -1,7 +1,7 @@
 use Rattle.wtf8_core.proofs.Common.{inl, subst, sym, ◌∙◌, IsLow}
-use Rattle.wtf8_core.proofs.lemmas.Ranges.{in_range-false, low_surrogate}
-use Rattle.wtf8_core.proofs.lemmas.Forms.{length-form_surrogate}
-use Rattle.wtf8_core.proofs.lemmas.LastForms.{form_at_front, too_short, same_first, split_off}
+use Rattle.wtf8_core.proofs.lemmas.forms.Ranges.{in_range-false, low_surrogate}
+use Rattle.wtf8_core.proofs.lemmas.forms.Shapes.{length-form_surrogate}
+use Rattle.wtf8_core.proofs.lemmas.forms.LastForms.{form_at_front, too_short, same_first, split_off}
 use Rattle.wtf8_core.proofs.halves.split_first_low.Goals as goal
 
 pub returns-in_default : goal.returns-in_default

@@ -1,6 +1,6 @@
 use Rattle.wtf8_core.proofs.Common.{inr}
-use Rattle.wtf8_core.proofs.lemmas.Forms.{length-form_surrogate}
-use Rattle.wtf8_core.proofs.lemmas.LastForms.{form_at_end, too_short}
+use Rattle.wtf8_core.proofs.lemmas.forms.Shapes.{length-form_surrogate}
+use Rattle.wtf8_core.proofs.lemmas.forms.LastForms.{form_at_end, too_short}
 use Rattle.wtf8_core.proofs.halves.split_last_surrogate.Goals as goal
 
 pub returns-in_default : goal.returns-in_default

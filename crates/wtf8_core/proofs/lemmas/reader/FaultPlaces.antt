@@ -1,9 +1,9 @@
 -- Where the first fault stands: bytes that are read up to it.
 use Rattle.wtf8_core.proofs.Common.{◌≡◌, ⊎_elim, ℕ, ◌-◌, Bool, false, List, [], ◌∷◌, ◌++◌, length, take, drop, Result, Ok, Err, refl, sym, ap, ◌∙◌, subst, arith, append_assoc, Fits, w8, get_or, length-append, take-append-drop, drop-append_seam, All, append-nil, All-drop, All-from_get_or, IsByte, is_high, form, Spells, IsWtf8, last_behind, BeginsFault, IsFaultAt, first_item, behind_item, items_behind, is_high_item, IsFirstItem, IsSpelledFront, IsReadUpTo, EncodingError, IsCodePoint, IsLow, suc, flat_map}
-use Rattle.wtf8_core.proofs.lemmas.Complete.{refused_len, item_of_form, items_of_fault, one_fault}
+use Rattle.wtf8_core.proofs.lemmas.reader.Complete.{refused_len, item_of_form, items_of_fault, one_fault}
 use Rattle.wtf8_core.proofs.lemmas.reader.Reading.{items-err}
-use Rattle.wtf8_core.proofs.lemmas.Sound.{begins, first_form_behind}
-use Rattle.wtf8_core.proofs.lemmas.Appending.{last_append, spells_more}
+use Rattle.wtf8_core.proofs.lemmas.reader.Sound.{begins, first_form_behind}
+use Rattle.wtf8_core.proofs.lemmas.forms.Appending.{last_append, spells_more}
 use Rattle.wtf8_core.specs.declared.scan.Encoding.TheVariants.{Wtf8}
 
 -- a fault is read: it begins there

@@ -1,8 +1,8 @@
 -- One more byte: what the state behind it stands for, or the fault.
 use Rattle.wtf8_core.proofs.Common.{◌≡◌, ◌≢◌, ◌⊎◌, inl, inr, ⊎_elim, ℕ, zero, suc, ◌+◌, ◌*◌, ◌-◌, ◌%◌, ◌<◌, ◌≤◌, Bool, true, false, List, [], ◌∷◌, ◌++◌, length, length-append, refl, sym, ap, ◌∙◌, subst, arith, nat_tests, append_assoc, append-nil, cond_both, cond-true, cond-false, le-ltb, is_in_range, IsContinuation, needed_continuations, IsHigh, IsLow, is_high, IsCodePoint, form, Spells, last_behind, IsBegun, IsShape, shape_value, BeginsFault, lead_bits, least_value, class_at, next_at, Row, rows, SomeRow, IsOpen, IsOpenIn, Stands, IsFaulty, kept_bits, joined_bits, fault_at, is_between, EncodingError, Byte, CodePoint, End, State, Between, BehindHigh, BadFourth, Refused, BadThird, Class}
-use Rattle.wtf8_core.proofs.lemmas.Forms.{form_ascii, shape_is_form, no_form}
-use Rattle.wtf8_core.proofs.lemmas.Ranges.{in_range, in_range-true, not_in_range}
-use Rattle.wtf8_core.proofs.lemmas.Appending.{value_more, begun_more, last_append, spells_more}
+use Rattle.wtf8_core.proofs.lemmas.forms.Shapes.{form_ascii, shape_is_form, no_form}
+use Rattle.wtf8_core.proofs.lemmas.forms.Ranges.{in_range, in_range-true, not_in_range}
+use Rattle.wtf8_core.proofs.lemmas.forms.Appending.{value_more, begun_more, last_append, spells_more}
 use Rattle.wtf8_core.proofs.lemmas.table.Entries.{Holds, some_from, some_with, in_class, classed, continuing, begins, between_entry, least_behind, most_behind, goes_on, all_refused, all_accepted, open_entry, entered}
 
 opened_of_rows : (t : State) (h : Bool) (bits : ℕ) (o : List ℕ) → SomeRow (IsOpen h bits o) (rows t) → IsOpenIn t h bits o
