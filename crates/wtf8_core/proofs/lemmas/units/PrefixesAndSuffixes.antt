@@ -1,5 +1,5 @@
 -- Prefixes and suffixes of WTF-8 by units: by bytes, but where a half of a pair is at the edge.
-use Rattle.wtf8_core.proofs.Common.{◌≡◌, ℕ, ◌+◌, ◌-◌, List, [], ◌∷◌, ◌++◌, refl, sym, ap, ◌∙◌, subst, arith, append_assoc, flat_map-append, append_cancel_left, append_cancel_right, AllByRecursion, flat_map, IsHigh, IsLow, IsCodePoint, form, wide, IsPairedFree, MayPrecede, last_behind, units, Spells, IsWtf8, units_of, IsFront, IsEnd}
+use Rattle.wtf8_core.proofs.Common.{◌≡◌, ℕ, List, [], ◌∷◌, ◌++◌, refl, sym, ap, ◌∙◌, subst, arith, append_assoc, flat_map-append, append_cancel_left, append_cancel_right, AllByRecursion, flat_map, IsHigh, IsLow, IsCodePoint, form, wide, IsPairedFree, MayPrecede, last_behind, units, Spells, IsWtf8, units_of, IsFront, IsEnd}
 use Rattle.wtf8_core.proofs.lemmas.forms.Appending.{last_append, spells_one}
 use Rattle.wtf8_core.proofs.lemmas.units.OneToOne.{wide_single, precedes_wide, may_precede}
 use Rattle.wtf8_core.proofs.lemmas.units.Cuts.{spells_front, units_front, units_end, last_unit}
