@@ -8,9 +8,9 @@ use Rattle.wtf8_core.specs.Covered.{IsBare}
 use Rattle.wtf8_core.specs.PartUnits.{unit_bytes, AreLoneSurrogates}
 use Rattle.wtf8_core.specs.UnitsOf.{units_of}
 use Rattle.wtf8_core.specs.Wtf8.{IsWtf8}
-use Rattle.wtf8_core.proofs.lemmas.PartUnits.{bare_bytes, bare_wtf8}
-use Rattle.wtf8_core.proofs.lemmas.Texts.{text_bytes}
-use Rattle.wtf8_core.proofs.lemmas.UnitsOfLemmas.{units_listed}
+use Rattle.wtf8_core.proofs.lemmas.chunks.PartUnits.{bare_bytes, bare_wtf8}
+use Rattle.wtf8_core.proofs.lemmas.texts.AreWtf8.{text_bytes}
+use Rattle.wtf8_core.proofs.lemmas.units.AsFunction.{units_listed}
 use Rattle.platform_str.specs.Platforms.{AreBytes, AreWideUnits, itself}
 use Rattle.platform_str.specs.WasmLaws.{never_bare}
 

@@ -9,9 +9,9 @@ use Rattle.wtf8_core.specs.Lossy.{IsLossyText}
 use Rattle.wtf8_core.specs.Lossy.IsLossyText.{text}
 use Rattle.wtf8_core.specs.LossyReading.{IsLossyReading}
 use Rattle.wtf8_core.specs.LossyReading.IsLossyReading.{formed}
-use Rattle.wtf8_core.proofs.lemmas.LossyReadings.{one_reading, some_reading, reading_wtf8}
-use Rattle.wtf8_core.proofs.lemmas.Texts.{lossy_is_utf8, lossy_text}
-use Rattle.wtf8_core.proofs.lemmas.Utf8Facts.{lossy_text_is}
+use Rattle.wtf8_core.proofs.lemmas.reader.LossyReadings.{one_reading, some_reading, reading_wtf8}
+use Rattle.wtf8_core.proofs.lemmas.texts.AreWtf8.{lossy_is_utf8, lossy_text}
+use Rattle.wtf8_core.proofs.lemmas.texts.LossyTexts.{lossy_text_is}
 use Rattle.platform_str.specs.Platforms.{AreBytes}
 
 -- the laws of a platform's lossy reading: bytes have one and no other, it is a string, and that of a string is itself

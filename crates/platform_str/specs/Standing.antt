@@ -5,9 +5,9 @@ use Rattle.std.proofs.lemmas.List.{take_at, drop_at}
 use Rattle.std.proofs.lemmas.List.Elements.{All-append, All-take, All-drop}
 use Rattle.std.proofs.lemmas.Str.{IsUtf8-append, IsUtf8-take, IsCharBoundary-from_drop}
 use Rattle.wtf8_core.specs.StandingLaws.{StandingLaws}
-use Rattle.wtf8_core.proofs.lemmas.Cuts.{utf8_cut, utf8_behind}
-use Rattle.wtf8_core.proofs.lemmas.Edges.{edges_of_text}
-use Rattle.wtf8_core.proofs.lemmas.Texts.{text_bytes}
+use Rattle.wtf8_core.proofs.lemmas.forms.Cuts.{utf8_cut, utf8_behind}
+use Rattle.wtf8_core.proofs.lemmas.standing.Boundaries.{edges_of_text}
+use Rattle.wtf8_core.proofs.lemmas.texts.AreWtf8.{text_bytes}
 use Rattle.platform_str.specs.Platforms.{AreBytes, itself}
 
 -- both parts of bytes are bytes

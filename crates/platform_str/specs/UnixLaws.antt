@@ -5,8 +5,8 @@ use Rattle.std.proofs.Math.Bridge.{le_prop}
 use Rattle.std.proofs.lemmas.Str.{utf8_lossy-IsUtf8}
 use Rattle.std.proofs.lemmas.List.Elements.{All-take, All-drop}
 use Rattle.wtf8_core.specs.Utf8.{IsIllFormedPart}
-use Rattle.wtf8_core.proofs.lemmas.Characters.{none_begins}
-use Rattle.wtf8_core.proofs.lemmas.Texts.{text_bytes, lossy_front, lossy_text, lossy_is_utf8, part_first}
+use Rattle.wtf8_core.proofs.lemmas.characters.AtPlaces.{none_begins}
+use Rattle.wtf8_core.proofs.lemmas.texts.AreWtf8.{text_bytes, lossy_front, lossy_text, lossy_is_utf8, part_first}
 use Rattle.platform_str.specs.Laws.{PlatformLaws}
 use Rattle.platform_str.specs.Platforms.{AreBytes, itself, IsNoFault}
 

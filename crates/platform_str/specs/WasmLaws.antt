@@ -5,10 +5,10 @@ use Rattle.std.proofs.Math.Seq.{take-length}
 use Rattle.wtf8_core.specs.Covered.{StartsBare}
 use Rattle.wtf8_core.specs.declared.fault.EncodingError.{EncodingError}
 use Rattle.wtf8_core.specs.declared.fault.EncodingError.TheVariants.{Byte, CodePoint, End, Utf8}
-use Rattle.wtf8_core.proofs.lemmas.Characters.{none_begins}
-use Rattle.wtf8_core.proofs.lemmas.Cuts.{utf8_cut, utf8_behind}
-use Rattle.wtf8_core.proofs.lemmas.Utf8Facts.{no_text, one_utf8_fault}
-use Rattle.wtf8_core.proofs.lemmas.Texts.{no_text_begins}
+use Rattle.wtf8_core.proofs.lemmas.characters.AtPlaces.{none_begins}
+use Rattle.wtf8_core.proofs.lemmas.forms.Cuts.{utf8_cut, utf8_behind}
+use Rattle.wtf8_core.proofs.lemmas.texts.LossyTexts.{no_text, one_utf8_fault}
+use Rattle.wtf8_core.proofs.lemmas.texts.AreWtf8.{no_text_begins}
 use Rattle.platform_str.specs.Laws.{PlatformLaws}
 use Rattle.platform_str.specs.Platforms.{itself, IsTextFault, IsThree}
 
