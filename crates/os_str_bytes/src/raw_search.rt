@@ -429,7 +429,8 @@ impl<'a, E: Platform> RawOsStr<'a, E> {
     /// ```
     pub fn split_first_char(self) -> Option<(char, Self)>
         ensures bytes { SplitsFirstChar raw_bytes (raw_bytes self.entry) result }
-        ensures units { IfSome result (λ parts. raw_units self.entry ≡ E.units (encode_utf8 parts.0) ++ raw_units parts.1) }
+        ensures units { IfSome result (λ parts. raw_units self.entry
+            ≡ E.units (encode_utf8 parts.0) ++ raw_units parts.1) }
     {
         match self.string.split_first_char() {
             Some((first, rest)) => Some((first, RawOsStr::new(rest))),
@@ -449,7 +450,8 @@ impl<'a, E: Platform> RawOsStr<'a, E> {
     /// ```
     pub fn split_last_char(self) -> Option<(char, Self)>
         ensures bytes { SplitsLastChar raw_bytes (raw_bytes self.entry) result }
-        ensures units { IfSome result (λ parts. raw_units self.entry ≡ raw_units parts.1 ++ E.units (encode_utf8 parts.0)) }
+        ensures units { IfSome result (λ parts. raw_units self.entry
+            ≡ raw_units parts.1 ++ E.units (encode_utf8 parts.0)) }
     {
         match self.string.split_last_char() {
             Some((last, rest)) => Some((last, RawOsStr::new(rest))),

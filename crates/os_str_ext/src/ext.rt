@@ -381,7 +381,9 @@ pub trait OsStrBytesExt<'a>: OsStrBytes<'a> {
     /// ```
     fn split_first_char(self) -> Option<(char, Self)>
         ensures bytes { SplitsFirstChar Self.bytes_of (Self.bytes_of self) result }
-        ensures units { IfSome result (λ parts. Self.Platform.units (Self.bytes_of self) ≡ Self.Platform.units (encode_utf8 parts.0) ++ Self.Platform.units (Self.bytes_of parts.1)) };
+        ensures units { IfSome result (λ parts. Self.Platform.units (Self.bytes_of self)
+            ≡ Self.Platform.units (encode_utf8 parts.0)
+            ++ Self.Platform.units (Self.bytes_of parts.1)) };
 
     /// The last character and the rest of the string, `None` where no whole character ends the
     /// string (own call; of a text std's `str::chars` with `next_back`).
@@ -395,7 +397,9 @@ pub trait OsStrBytesExt<'a>: OsStrBytes<'a> {
     /// ```
     fn split_last_char(self) -> Option<(char, Self)>
         ensures bytes { SplitsLastChar Self.bytes_of (Self.bytes_of self) result }
-        ensures units { IfSome result (λ parts. Self.Platform.units (Self.bytes_of self) ≡ Self.Platform.units (Self.bytes_of parts.1) ++ Self.Platform.units (encode_utf8 parts.0)) };
+        ensures units { IfSome result (λ parts. Self.Platform.units (Self.bytes_of self)
+            ≡ Self.Platform.units (Self.bytes_of parts.1)
+            ++ Self.Platform.units (encode_utf8 parts.0)) };
 
     // Chunks.
 

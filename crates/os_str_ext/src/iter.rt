@@ -103,7 +103,8 @@ pub type RSplit<'a, E, P> = Pieces<'a, E, P, FromEnd>;
 impl<'a, E: Platform, P: Pattern, D: Direction> Model for Pieces<'a, E, P, D> {
     ghost Value = { List (List ℕ) };
 
-    ghost view = { λ it. pieces_left D.pieces (P.__Encoded.text it.pattern) (option_map bytes it.rest) };
+    ghost view = { λ it. pieces_left D.pieces (P.__Encoded.text it.pattern)
+        (option_map bytes it.rest) };
 
     ghost invariant = { λ it. 0 < length (P.__Encoded.text it.pattern) };
 }
