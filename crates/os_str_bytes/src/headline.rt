@@ -10,11 +10,13 @@ ghost use Rattle.wtf8_core.specs.UnitPlace.{FindsInUnits};
 ghost use Rattle.wtf8_core.specs.Boundary.{IsBoundary};
 ghost use Rattle.wtf8_core.specs.Chunks.{Chunk, AreChunks};
 ghost use Rattle.wtf8_core.specs.Runs.{AreRuns, form_chunk};
-ghost use Rattle.wtf8_core.specs.Pieces.{StandsSomewhere, MayBeCutAround, StripsFront, StripsEnd, SplitsOnce, IsStartTrim, IsEndTrim, IsTrim, IsSplit, IsRSplit};
+ghost use Rattle.wtf8_core.specs.Pieces.{StandsSomewhere, MayBeCutAround, StripsFront, StripsEnd};
+ghost use Rattle.wtf8_core.specs.Pieces.{IsStartTrim, IsEndTrim, IsTrim, IsSplit, IsRSplit};
+ghost use Rattle.wtf8_core.specs.Pieces.{SplitsOnce, Trims};
 ghost use Rattle.platform_str.specs.Strings.{string_vec_of};
 ghost use Rattle.os_str_bytes.specs.Raw.{raw_bytes, raw_units, raw_vec_of};
 ghost use Rattle.os_str_bytes.specs.RawCow.{raw_cow_bytes};
-ghost use Rattle.os_str_bytes.specs.Headline.{AreOneToOne, AcceptsOrRefuses, CutsAt, Trims, Splits};
+ghost use Rattle.os_str_bytes.specs.Headline.{AreOneToOne, AcceptsOrRefuses, CutsAt, SplitsUnlessEmpty};
 
 pub use crate::cuts::Cuts;
 use crate::cuts::{both_parts, indexed, indexed_unchecked, split_copy, truncated_copy};
@@ -124,21 +126,21 @@ pub fn ask<'a, E: Platform + 'a, P: Pattern + Copy, A: Allocator>(
         (raw_units string.entry) result.strip_prefix }
     ensures strip_suffix { StripsEnd raw_units (E.units (P.text pattern))
         (raw_units string.entry) result.strip_suffix }
-    ensures trim_start { Trims (IsStartTrim (E.units (P.text pattern))) (P.text pattern)
-        (raw_units string.entry) (raw_units result.trim_start_matches) }
-    ensures trim_end { Trims (IsEndTrim (E.units (P.text pattern))) (P.text pattern)
-        (raw_units string.entry) (raw_units result.trim_end_matches) }
-    ensures trim { Trims (IsTrim (E.units (P.text pattern))) (P.text pattern)
-        (raw_units string.entry) (raw_units result.trim_matches) }
+    ensures trim_start { Trims E.units IsStartTrim (P.text pattern) (raw_bytes string.entry)
+        (raw_bytes result.trim_start_matches) }
+    ensures trim_end { Trims E.units IsEndTrim (P.text pattern) (raw_bytes string.entry)
+        (raw_bytes result.trim_end_matches) }
+    ensures trim { Trims E.units IsTrim (P.text pattern) (raw_bytes string.entry)
+        (raw_bytes result.trim_matches) }
     // Each split cuts the units at the pattern's.
     ensures split_once { SplitsOnce IsLeastPlace raw_units (E.units (P.text pattern))
         (raw_units string.entry) result.split_once }
     ensures rsplit_once { SplitsOnce IsGreatestPlace raw_units (E.units (P.text pattern))
         (raw_units string.entry) result.rsplit_once }
-    ensures split { Splits (λ pieces. IsSplit (E.units (P.text pattern)) (raw_units string.entry)
-        (map E.units pieces)) (P.text pattern) result.split }
-    ensures rsplit { Splits (λ pieces. IsRSplit (E.units (P.text pattern)) (raw_units string.entry)
-        (map E.units pieces)) (P.text pattern) result.rsplit }
+    ensures split { SplitsUnlessEmpty E.units IsSplit (P.text pattern) (raw_bytes string.entry)
+        result.split }
+    ensures rsplit { SplitsUnlessEmpty E.units IsRSplit (P.text pattern) (raw_bytes string.entry)
+        result.rsplit }
     // Each cut at a boundary gives strings whose units, joined, are the string's.
     ensures is_boundary { IsTrue result.is_boundary ↔ IsBoundary (raw_bytes string.entry) at }
     ensures cuts { CutsAt string.entry at result.cuts }
@@ -284,8 +286,7 @@ fn pieces<'a, E: Platform, P: Pattern + Copy>(
     string: RawOsStr<'a, E>,
     pattern: P,
 ) -> Option<RawSplit<'a, E, P>>
-    ensures { Splits (λ pieces. IsSplit (E.units (P.text pattern)) (raw_units string.entry)
-        (map E.units pieces)) (P.text pattern) result }
+    ensures { SplitsUnlessEmpty E.units IsSplit (P.text pattern) (raw_bytes string.entry) result }
 {
     if is_empty(pattern) {
         return None;
@@ -298,8 +299,7 @@ fn pieces_from_the_end<'a, E: Platform, P: Pattern + Copy>(
     string: RawOsStr<'a, E>,
     pattern: P,
 ) -> Option<RawRSplit<'a, E, P>>
-    ensures { Splits (λ pieces. IsRSplit (E.units (P.text pattern)) (raw_units string.entry)
-        (map E.units pieces)) (P.text pattern) result }
+    ensures { SplitsUnlessEmpty E.units IsRSplit (P.text pattern) (raw_bytes string.entry) result }
 {
     if is_empty(pattern) {
         return None;
