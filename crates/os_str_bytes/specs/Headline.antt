@@ -1,6 +1,7 @@
 -- The words of the headline.
 use Rattle.std.specs.Prelude.{◌≡◌, ◌↔◌, ◌<◌, ℕ, List, length, drop, Option, MatchOption, Result, MatchResult, IfOk}
 use Rattle.wtf8_core.specs.Boundary.{IsBoundary}
+use Rattle.wtf8_core.specs.Pieces.{Splits}
 use Rattle.wtf8_core.specs.declared.fault.EncodingError.{EncodingError}
 use Rattle.platform_str.specs.declared.platform.Platform.{Ghosts}
 use Rattle.os_str_bytes.specs.declared.raw_str.RawOsStr.{RawOsStr}
@@ -39,14 +40,9 @@ pub record IsOnlyFault (well_formed : List ℕ → Type 0) (first_fault : List �
 abbrev pub AcceptsOrRefuses : {T : Type 0} → (List ℕ → Type 0) → (List ℕ → EncodingError → Type 0) → List ℕ → Result T EncodingError → Type 0
 AcceptsOrRefuses well_formed first_fault b r = MatchResult r (λ _. well_formed b) (λ fault. IsOnlyFault well_formed first_fault b fault)
 
--- what is left, us, of the units of s after trimming by p; all of them where p is empty
-pub record Trims (Is : List ℕ → List ℕ → Type 0) (p s us : List ℕ) : Type 0 where
-  pub trimmed : 0 < length p → Is s us
-  pub whole : length p ≡ 0 → us ≡ s
-
--- the pieces of s, which Is names; None where p is empty
-abbrev pub Splits : {T : Type 0} → (T → Type 0) → List ℕ → Option T → Type 0
-Splits Is p r = MatchOption r (length p ≡ 0) (λ pieces. (0 < length p) × Is pieces)
+-- r is the pieces of s that Is names, None where p is empty
+abbrev pub SplitsUnlessEmpty : (List ℕ → List ℕ) → (List ℕ → List ℕ → List (List ℕ) → Type 0) → List ℕ → List ℕ → Option (List (List ℕ)) → Type 0
+SplitsUnlessEmpty units_of Is p s r = MatchOption r (length p ≡ 0) (λ pieces. (0 < length p) × Splits units_of Is p s pieces)
 
 module _ {E A : Type 0} {P : Ghosts E} where
   -- each cut of s at index `at` gives the parts before it and from it on; of a copy, unless memory is refused

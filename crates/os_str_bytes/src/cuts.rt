@@ -67,7 +67,8 @@ pub(crate) fn split_copy<'a, E: Platform, A: Allocator>(
     at: usize,
 ) -> Result<(RawOsString<E, &'a A>, RawOsString<E, &'a A>), AllocError>
     requires { IsBoundary (raw_bytes string) at }
-    ensures { IfOk result (λ parts. AreBothParts string.entry at (raw_vec_of parts.0).items (raw_vec_of parts.1).items) }
+    ensures { IfOk result (λ parts. AreBothParts string.entry at (raw_vec_of parts.0).items
+        (raw_vec_of parts.1).items) }
 {
     let mut front = string.to_owned(alloc)?;
     let back = front.split_off(at)?;
@@ -81,7 +82,8 @@ pub(crate) fn truncated_copy<'a, E: Platform, A: Allocator>(
     at: usize,
 ) -> Result<RawOsString<E, &'a A>, AllocError>
     requires { IsBoundary (raw_bytes string) at }
-    ensures { IfOk result (λ front. AreBothParts string.entry at (raw_vec_of front).items (drop at (raw_bytes string.entry))) }
+    ensures { IfOk result (λ front. AreBothParts string.entry at (raw_vec_of front).items
+        (drop at (raw_bytes string.entry))) }
 {
     let mut front = string.to_owned(alloc)?;
     front.truncate(at);

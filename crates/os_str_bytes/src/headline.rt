@@ -10,11 +10,13 @@ ghost use Rattle.wtf8_core.specs.UnitPlace.{FindsInUnits};
 ghost use Rattle.wtf8_core.specs.Boundary.{IsBoundary};
 ghost use Rattle.wtf8_core.specs.Chunks.{Chunk, AreChunks};
 ghost use Rattle.wtf8_core.specs.Runs.{AreRuns, form_chunk};
-ghost use Rattle.wtf8_core.specs.Pieces.{StandsSomewhere, MayBeCutAround, StripsFront, StripsEnd, SplitsOnce, IsStartTrim, IsEndTrim, IsTrim, IsSplit, IsRSplit};
+ghost use Rattle.wtf8_core.specs.Pieces.{StandsSomewhere, MayBeCutAround, StripsFront, StripsEnd};
+ghost use Rattle.wtf8_core.specs.Pieces.{IsStartTrim, IsEndTrim, IsTrim, IsSplit, IsRSplit};
+ghost use Rattle.wtf8_core.specs.Pieces.{SplitsOnce, Trims};
 ghost use Rattle.platform_str.specs.Strings.{string_vec_of};
 ghost use Rattle.os_str_bytes.specs.Raw.{raw_bytes, raw_units, raw_vec_of};
 ghost use Rattle.os_str_bytes.specs.RawCow.{raw_cow_bytes};
-ghost use Rattle.os_str_bytes.specs.Headline.{AreOneToOne, AcceptsOrRefuses, CutsAt, Trims, Splits};
+ghost use Rattle.os_str_bytes.specs.Headline.{AreOneToOne, AcceptsOrRefuses, CutsAt, SplitsUnlessEmpty};
 
 pub use crate::cuts::Cuts;
 use crate::cuts::{both_parts, indexed, indexed_unchecked, split_copy, truncated_copy};
@@ -92,39 +94,62 @@ pub fn ask<'a, E: Platform + 'a, P: Pattern + Copy, A: Allocator>(
     ensures one_to_one { AreOneToOne E.well_formed E.is_unit_list E.units }
     ensures accepted { IfOk result.cow_from_raw_bytes (λ cow. raw_cow_bytes cow ≡ raw.now) }
     // every other byte string is refused by its first fault,
-    ensures refused { AcceptsOrRefuses E.well_formed E.first_fault raw.now result.cow_from_raw_bytes }
-    // and each comparison answers as its definition does on the unit lists, halves of a pair included; the order is that of the bytes.
+    ensures refused { AcceptsOrRefuses E.well_formed E.first_fault raw.now
+        result.cow_from_raw_bytes }
+    // and each comparison answers as its definition does on the unit lists, halves of a pair
+    // included; the order is that of the bytes.
     ensures eq { IsTrue result.eq ↔ (raw_units string.entry ≡ raw_units other.entry) }
     ensures cmp { result.cmp ≡ slice_cmp nat_cmp (raw_bytes string.entry) (raw_bytes other.entry) }
-    ensures starts_with_os { IsTrue result.starts_with_os ↔ IsFront (raw_units other.entry) (raw_units string.entry) }
-    ensures ends_with_os { IsTrue result.ends_with_os ↔ IsEnd (raw_units other.entry) (raw_units string.entry) }
-    // So does each search: the place is that of the least or the greatest unit at which the pattern's units stand,
-    ensures find { FindsInUnits IsLeastPlace E.well_formed E.units (P.text pattern) (raw_bytes string.entry) result.find }
-    ensures rfind { FindsInUnits IsGreatestPlace E.well_formed E.units (P.text pattern) (raw_bytes string.entry) result.rfind }
-    ensures contains { IsTrue result.contains ↔ StandsSomewhere (E.units (P.text pattern)) (raw_units string.entry) }
-    ensures starts_with { IsTrue result.starts_with ↔ IsFront (E.units (P.text pattern)) (raw_units string.entry) }
-    ensures ends_with { IsTrue result.ends_with ↔ IsEnd (E.units (P.text pattern)) (raw_units string.entry) }
-    // and every index answered is a place to cut, and the one behind the match too.
-    ensures find_cuts { MayBeCutAround (raw_bytes string.entry) (length (P.text pattern)) result.find }
-    ensures rfind_cuts { MayBeCutAround (raw_bytes string.entry) (length (P.text pattern)) result.rfind }
-    // Each strip and trim takes units off the front or the end.
-    ensures strip_prefix { StripsFront raw_units (E.units (P.text pattern)) (raw_units string.entry) result.strip_prefix }
-    ensures strip_suffix { StripsEnd raw_units (E.units (P.text pattern)) (raw_units string.entry) result.strip_suffix }
-    ensures trim_start { Trims (IsStartTrim (E.units (P.text pattern))) (P.text pattern) (raw_units string.entry) (raw_units result.trim_start_matches) }
-    ensures trim_end { Trims (IsEndTrim (E.units (P.text pattern))) (P.text pattern) (raw_units string.entry) (raw_units result.trim_end_matches) }
-    ensures trim { Trims (IsTrim (E.units (P.text pattern))) (P.text pattern) (raw_units string.entry) (raw_units result.trim_matches) }
+    ensures starts_with_os { IsTrue result.starts_with_os
+        ↔ IsFront (raw_units other.entry) (raw_units string.entry) }
+    ensures ends_with_os { IsTrue result.ends_with_os
+        ↔ IsEnd (raw_units other.entry) (raw_units string.entry) }
+    // So does each search: the index is that of the first or the last unit at which the pattern's
+    // units occur,
+    ensures find { FindsInUnits IsLeastPlace E.well_formed E.units (P.text pattern)
+        (raw_bytes string.entry) result.find }
+    ensures rfind { FindsInUnits IsGreatestPlace E.well_formed E.units (P.text pattern)
+        (raw_bytes string.entry) result.rfind }
+    ensures contains { IsTrue result.contains
+        ↔ StandsSomewhere (E.units (P.text pattern)) (raw_units string.entry) }
+    ensures starts_with { IsTrue result.starts_with
+        ↔ IsFront (E.units (P.text pattern)) (raw_units string.entry) }
+    ensures ends_with { IsTrue result.ends_with
+        ↔ IsEnd (E.units (P.text pattern)) (raw_units string.entry) }
+    // and the string may be cut at every index answered, and after the match.
+    ensures find_cuts { MayBeCutAround (raw_bytes string.entry) (length (P.text pattern))
+        result.find }
+    ensures rfind_cuts { MayBeCutAround (raw_bytes string.entry) (length (P.text pattern))
+        result.rfind }
+    // Each strip and trim takes units off the start or the end.
+    ensures strip_prefix { StripsFront raw_units (E.units (P.text pattern))
+        (raw_units string.entry) result.strip_prefix }
+    ensures strip_suffix { StripsEnd raw_units (E.units (P.text pattern))
+        (raw_units string.entry) result.strip_suffix }
+    ensures trim_start { Trims E.units IsStartTrim (P.text pattern) (raw_bytes string.entry)
+        (raw_bytes result.trim_start_matches) }
+    ensures trim_end { Trims E.units IsEndTrim (P.text pattern) (raw_bytes string.entry)
+        (raw_bytes result.trim_end_matches) }
+    ensures trim { Trims E.units IsTrim (P.text pattern) (raw_bytes string.entry)
+        (raw_bytes result.trim_matches) }
     // Each split cuts the units at the pattern's.
-    ensures split_once { SplitsOnce IsLeastPlace raw_units (E.units (P.text pattern)) (raw_units string.entry) result.split_once }
-    ensures rsplit_once { SplitsOnce IsGreatestPlace raw_units (E.units (P.text pattern)) (raw_units string.entry) result.rsplit_once }
-    ensures split { Splits (λ pieces. IsSplit (E.units (P.text pattern)) (raw_units string.entry) (map E.units pieces)) (P.text pattern) result.split }
-    ensures rsplit { Splits (λ pieces. IsRSplit (E.units (P.text pattern)) (raw_units string.entry) (map E.units pieces)) (P.text pattern) result.rsplit }
+    ensures split_once { SplitsOnce IsLeastPlace raw_units (E.units (P.text pattern))
+        (raw_units string.entry) result.split_once }
+    ensures rsplit_once { SplitsOnce IsGreatestPlace raw_units (E.units (P.text pattern))
+        (raw_units string.entry) result.rsplit_once }
+    ensures split { SplitsUnlessEmpty E.units IsSplit (P.text pattern) (raw_bytes string.entry)
+        result.split }
+    ensures rsplit { SplitsUnlessEmpty E.units IsRSplit (P.text pattern) (raw_bytes string.entry)
+        result.rsplit }
     // Each cut at a boundary gives strings whose units, joined, are the string's.
     ensures is_boundary { IsTrue result.is_boundary ↔ IsBoundary (raw_bytes string.entry) at }
     ensures cuts { CutsAt string.entry at result.cuts }
     // Each join, unless memory is refused, joins the units, also two halves of a pair.
-    ensures push { IfOk result.push (λ joined. E.units (string_vec_of joined).items ≡ raw_units string.entry ++ raw_units other.entry) }
-    ensures repeat { IfOk result.repeat (λ made. E.units (raw_vec_of made).items ≡ repeat count (raw_units string.entry)) }
-    // The chunks are the parts without whole characters, each with the text behind it.
+    ensures push { IfOk result.push (λ joined. E.units (string_vec_of joined).items
+        ≡ raw_units string.entry ++ raw_units other.entry) }
+    ensures repeat { IfOk result.repeat (λ made. E.units (raw_vec_of made).items
+        ≡ repeat count (raw_units string.entry)) }
+    // The chunks are the parts without whole characters, each with the text after it.
     ensures utf8_chunks { AreChunks (raw_bytes string.entry) result.utf8_chunks }
 {
     Answers {
@@ -178,11 +203,14 @@ pub fn ask_windows<'a>(
     other: RawOsStr<'a, Windows>,
 ) -> WindowsAnswers<'a>
     // The order is that of the lists of code points that the strings spell, and not of their units.
-    ensures cmp { (cs : List ℕ) → (ds : List ℕ) → Spells (raw_bytes string.entry) cs → Spells (raw_bytes other.entry) ds → result.cmp ≡ slice_cmp nat_cmp cs ds }
+    ensures cmp { (cs : List ℕ) → (ds : List ℕ) → Spells (raw_bytes string.entry) cs
+        → Spells (raw_bytes other.entry) ds → result.cmp ≡ slice_cmp nat_cmp cs ds }
     // The units are given one by one.
     ensures encode_wide { HasUnits (raw_bytes string.entry) result.encode_wide }
-    // The parts that aren't empty are the forms of the maximal runs of surrogates of the list that the string spells.
-    ensures utf8_chunks { (cs : List ℕ) → Spells (raw_bytes string.entry) cs → (runs : List Chunk) × (AreRuns cs runs × (result.utf8_chunks ≡ map form_chunk runs)) }
+    // The parts that aren't empty are the forms of the maximal runs of surrogates of the list that
+    // the string spells.
+    ensures utf8_chunks { (cs : List ℕ) → Spells (raw_bytes string.entry) cs
+        → (runs : List Chunk) × (AreRuns cs runs × (result.utf8_chunks ≡ map form_chunk runs)) }
 {
     wtf8_laws::order();
     wtf8_laws::chunks();
@@ -213,12 +241,15 @@ pub struct Spelled<'a, A: Allocator> {
 pub fn ask_units<'a, A: Allocator>(alloc: &'a A, bytes: &'a [u8], wide: &[u16]) -> Spelled<'a, A>
     // Any bytes are the units of a Unix string,
     ensures unix { IsOk result.unix }
-    ensures unix_units { IfOk result.unix (λ cow. ⟦<Unix as Platform>⟧.units (raw_cow_bytes cow) ≡ bytes.now) }
+    ensures unix_units { IfOk result.unix (λ cow. ⟦<Unix as Platform>⟧.units (raw_cow_bytes cow)
+        ≡ bytes.now) }
     // any 16-bit units, unless memory is refused, those of a Windows string,
-    ensures windows_units { IfOk result.windows (λ string. ⟦<Windows as Platform>⟧.units (string_vec_of string).items ≡ wide.now) }
+    ensures windows_units { IfOk result.windows (λ string.
+        ⟦<Windows as Platform>⟧.units (string_vec_of string).items ≡ wide.now) }
     // and the bytes of any text those of a wasm string.
     ensures wasm { IsUtf8 bytes.now → IsOk result.wasm }
-    ensures wasm_units { IfOk result.wasm (λ cow. ⟦<Wasm as Platform>⟧.units (raw_cow_bytes cow) ≡ bytes.now) }
+    ensures wasm_units { IfOk result.wasm (λ cow. ⟦<Wasm as Platform>⟧.units (raw_cow_bytes cow)
+        ≡ bytes.now) }
 {
     Spelled {
         unix: accepted(bytes),
@@ -255,7 +286,7 @@ fn pieces<'a, E: Platform, P: Pattern + Copy>(
     string: RawOsStr<'a, E>,
     pattern: P,
 ) -> Option<RawSplit<'a, E, P>>
-    ensures { Splits (λ pieces. IsSplit (E.units (P.text pattern)) (raw_units string.entry) (map E.units pieces)) (P.text pattern) result }
+    ensures { SplitsUnlessEmpty E.units IsSplit (P.text pattern) (raw_bytes string.entry) result }
 {
     if is_empty(pattern) {
         return None;
@@ -268,7 +299,7 @@ fn pieces_from_the_end<'a, E: Platform, P: Pattern + Copy>(
     string: RawOsStr<'a, E>,
     pattern: P,
 ) -> Option<RawRSplit<'a, E, P>>
-    ensures { Splits (λ pieces. IsRSplit (E.units (P.text pattern)) (raw_units string.entry) (map E.units pieces)) (P.text pattern) result }
+    ensures { SplitsUnlessEmpty E.units IsRSplit (P.text pattern) (raw_bytes string.entry) result }
 {
     if is_empty(pattern) {
         return None;
@@ -309,7 +340,8 @@ fn joined<'a, E: Platform, A: Allocator>(
     string: RawOsStr<'a, E>,
     other: RawOsStr<'a, E>,
 ) -> Result<OsString<E, A>, AllocError>
-    ensures { IfOk result (λ joined. E.units (string_vec_of joined).items ≡ raw_units string.entry ++ raw_units other.entry) }
+    ensures { IfOk result (λ joined. E.units (string_vec_of joined).items
+        ≡ raw_units string.entry ++ raw_units other.entry) }
 {
     let mut joined = string.as_os_str().to_owned(alloc)?;
     joined.push(other.as_os_str())?;

@@ -1,13 +1,15 @@
 //! Searches, cuts and pieces of raw strings: the calls of [`crate::OsStrBytesExt`] under the same
 //! contracts.
-ghost use Rattle.std.specs.Prelude.{◌≡◌, ◌<◌, ◌↔◌, ◌++◌, ◌+◌, ◌*◌, ◌^◌, IsTrue, IsOk, IsErr, IfOk, IfSome, length, take, drop, map};
+ghost use Rattle.std.specs.Prelude.{◌≡◌, ◌<◌, ◌↔◌, ◌++◌, ◌+◌, ◌*◌, ◌^◌, IsTrue, IsOk, IsErr, IfOk, IfSome, length, take, drop};
 ghost use Rattle.std.specs.Char.{encode_utf8};
 ghost use Rattle.std.specs.List.{repeat};
 ghost use Rattle.wtf8_core.specs.Standing.{Finds, IsLeastPlace, IsGreatestPlace, IsFront, IsEnd};
 ghost use Rattle.wtf8_core.specs.UnitPlace.{FindsInUnits};
 ghost use Rattle.wtf8_core.specs.Boundary.{IsBoundary};
 ghost use Rattle.wtf8_core.specs.Chunks.{AreChunks};
-ghost use Rattle.wtf8_core.specs.Pieces.{StandsSomewhere, MayBeCutAround, StripsFront, StripsEnd, SplitsOnce, IsStartTrim, IsEndTrim, IsTrim, IsSplit, IsRSplit};
+ghost use Rattle.wtf8_core.specs.Pieces.{StandsSomewhere, MayBeCutAround, StripsFront, StripsEnd};
+ghost use Rattle.wtf8_core.specs.Pieces.{IsStartTrim, IsEndTrim, IsTrim, IsSplit, IsRSplit};
+ghost use Rattle.wtf8_core.specs.Pieces.{SplitsOnce, Splits, Trims};
 ghost use Rattle.os_str_ext.specs.Characters.{SplitsFirstChar, SplitsLastChar};
 ghost use Rattle.os_str_ext.specs.Chunks.{chunks_of};
 ghost use Rattle.os_str_ext.specs.Range.{FitsIn, IsPartInUnits};
@@ -280,11 +282,7 @@ impl<'a, E: Platform> RawOsStr<'a, E> {
     /// assert!(rt; RawOsStr::<Unix>::from_str("111foo1").trim_start_matches("1").eq_str("foo1"));
     /// ```
     pub fn trim_start_matches<P: Pattern>(self, pattern: P) -> Self
-        ensures bytes { 0 < length (P.text pattern)
-            → IsStartTrim (P.text pattern) (raw_bytes self.entry) (raw_bytes result) }
-        ensures units { 0 < length (P.text pattern)
-            → IsStartTrim (E.units (P.text pattern)) (raw_units self.entry) (raw_units result) }
-        ensures whole { length (P.text pattern) ≡ 0 → raw_bytes result ≡ raw_bytes self.entry }
+        ensures { Trims E.units IsStartTrim (P.text pattern) (raw_bytes self.entry) (raw_bytes result) }
     {
         RawOsStr::new(self.string.trim_start_matches(pattern))
     }
@@ -297,11 +295,7 @@ impl<'a, E: Platform> RawOsStr<'a, E> {
     /// assert!(rt; RawOsStr::<Unix>::from_str("1bar111").trim_end_matches('1').eq_str("1bar"));
     /// ```
     pub fn trim_end_matches<P: Pattern>(self, pattern: P) -> Self
-        ensures bytes { 0 < length (P.text pattern)
-            → IsEndTrim (P.text pattern) (raw_bytes self.entry) (raw_bytes result) }
-        ensures units { 0 < length (P.text pattern)
-            → IsEndTrim (E.units (P.text pattern)) (raw_units self.entry) (raw_units result) }
-        ensures whole { length (P.text pattern) ≡ 0 → raw_bytes result ≡ raw_bytes self.entry }
+        ensures { Trims E.units IsEndTrim (P.text pattern) (raw_bytes self.entry) (raw_bytes result) }
     {
         RawOsStr::new(self.string.trim_end_matches(pattern))
     }
@@ -317,11 +311,7 @@ impl<'a, E: Platform> RawOsStr<'a, E> {
     /// assert!(rt; RawOsStr::<Unix>::from_str("aaa").trim_matches("aa").eq_str("a"));
     /// ```
     pub fn trim_matches<P: Pattern>(self, pattern: P) -> Self
-        ensures bytes { 0 < length (P.text pattern)
-            → IsTrim (P.text pattern) (raw_bytes self.entry) (raw_bytes result) }
-        ensures units { 0 < length (P.text pattern)
-            → IsTrim (E.units (P.text pattern)) (raw_units self.entry) (raw_units result) }
-        ensures whole { length (P.text pattern) ≡ 0 → raw_bytes result ≡ raw_bytes self.entry }
+        ensures { Trims E.units IsTrim (P.text pattern) (raw_bytes self.entry) (raw_bytes result) }
     {
         RawOsStr::new(self.string.trim_matches(pattern))
     }
@@ -386,9 +376,7 @@ impl<'a, E: Platform> RawOsStr<'a, E> {
     /// ```
     pub fn split<P: Pattern>(self, pattern: P) -> RawSplit<'a, E, P>
         requires { P.not_empty pattern }
-        ensures bytes { IsSplit (P.text pattern) (raw_bytes self.entry) result }
-        ensures units { IsSplit (E.units (P.text pattern)) (raw_units self.entry)
-            (map E.units result) }
+        ensures { Splits E.units IsSplit (P.text pattern) (raw_bytes self.entry) result }
     {
         RawPieces::new(self.string.split(pattern))
     }
@@ -407,9 +395,7 @@ impl<'a, E: Platform> RawOsStr<'a, E> {
     /// ```
     pub fn rsplit<P: Pattern>(self, pattern: P) -> RawRSplit<'a, E, P>
         requires { P.not_empty pattern }
-        ensures bytes { IsRSplit (P.text pattern) (raw_bytes self.entry) result }
-        ensures units { IsRSplit (E.units (P.text pattern)) (raw_units self.entry)
-            (map E.units result) }
+        ensures { Splits E.units IsRSplit (P.text pattern) (raw_bytes self.entry) result }
     {
         RawPieces::new(self.string.rsplit(pattern))
     }
@@ -429,7 +415,8 @@ impl<'a, E: Platform> RawOsStr<'a, E> {
     /// ```
     pub fn split_first_char(self) -> Option<(char, Self)>
         ensures bytes { SplitsFirstChar raw_bytes (raw_bytes self.entry) result }
-        ensures units { IfSome result (λ parts. raw_units self.entry ≡ E.units (encode_utf8 parts.0) ++ raw_units parts.1) }
+        ensures units { IfSome result (λ parts. raw_units self.entry
+            ≡ E.units (encode_utf8 parts.0) ++ raw_units parts.1) }
     {
         match self.string.split_first_char() {
             Some((first, rest)) => Some((first, RawOsStr::new(rest))),
@@ -449,7 +436,8 @@ impl<'a, E: Platform> RawOsStr<'a, E> {
     /// ```
     pub fn split_last_char(self) -> Option<(char, Self)>
         ensures bytes { SplitsLastChar raw_bytes (raw_bytes self.entry) result }
-        ensures units { IfSome result (λ parts. raw_units self.entry ≡ raw_units parts.1 ++ E.units (encode_utf8 parts.0)) }
+        ensures units { IfSome result (λ parts. raw_units self.entry
+            ≡ raw_units parts.1 ++ E.units (encode_utf8 parts.0)) }
     {
         match self.string.split_last_char() {
             Some((last, rest)) => Some((last, RawOsStr::new(rest))),

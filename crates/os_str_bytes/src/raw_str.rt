@@ -107,7 +107,8 @@ impl<'a, E: Platform> RawOsStr<'a, E> {
     /// ```
     pub fn checked(raw: &'a [u8]) -> Result<Self, EncodingError>
         ensures bytes { IfOk result (λ string. raw_bytes string ≡ raw.now) }
-        ensures cases { MatchResult result (λ _. E.well_formed raw.now) (λ fault. E.first_fault raw.now fault) }
+        ensures cases { MatchResult result (λ _. E.well_formed raw.now)
+            (λ fault. E.first_fault raw.now fault) }
     {
         Ok(RawOsStr::new(OsStr::checked(raw)?))
     }

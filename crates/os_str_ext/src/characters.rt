@@ -14,7 +14,8 @@ pub(crate) fn split_first_char<'a, E: Platform>(
     string: OsStr<'a, E>,
 ) -> Option<(char, OsStr<'a, E>)>
     ensures bytes { SplitsFirstChar bytes (bytes string.entry) result }
-    ensures units { IfSome result (λ parts. E.units (bytes string.entry) ≡ E.units (encode_utf8 parts.0) ++ E.units (bytes parts.1)) }
+    ensures units { IfSome result (λ parts. E.units (bytes string.entry)
+        ≡ E.units (encode_utf8 parts.0) ++ E.units (bytes parts.1)) }
 {
     let Some(size) = char_at(string.as_encoded_bytes(), 0) else {
         return None;
@@ -27,7 +28,8 @@ pub(crate) fn split_first_char<'a, E: Platform>(
 #[inline(always)]
 pub(crate) fn split_last_char<'a, E: Platform>(string: OsStr<'a, E>) -> Option<(char, OsStr<'a, E>)>
     ensures bytes { SplitsLastChar bytes (bytes string.entry) result }
-    ensures units { IfSome result (λ parts. E.units (bytes string.entry) ≡ E.units (bytes parts.1) ++ E.units (encode_utf8 parts.0)) }
+    ensures units { IfSome result (λ parts. E.units (bytes string.entry)
+        ≡ E.units (bytes parts.1) ++ E.units (encode_utf8 parts.0)) }
 {
     let len = string.len();
     let Some(size) = char_before(string.as_encoded_bytes(), len) else {

@@ -87,7 +87,8 @@ impl<'a, E: Platform> Utf8Chunks<'a, E> {
 impl<'a, E: Platform> Iterator for Utf8Chunks<'a, E> {
     type Item = (NonUnicodeOsStr<'a, E>, &'a str);
 
-    ghost next_gives = { YieldsFirstBy (λ chunk. (part_bytes chunk.0, chunk.1.now)) (λ left. left) };
+    ghost next_gives = { YieldsFirstBy (λ chunk. (part_bytes chunk.0, chunk.1.now))
+        (λ left. left) };
 
     ghost remaining = { item_count (λ left. left) };
 

@@ -1,10 +1,12 @@
 //! The calls that every string of a platform has beyond its conversions.
-ghost use Rattle.std.specs.Prelude.{◌≡◌, ◌<◌, ◌↔◌, ◌++◌, ◌+◌, ◌*◌, ◌^◌, IsTrue, IsOk, IsErr, IfOk, IfSome, length, take, drop, map};
+ghost use Rattle.std.specs.Prelude.{◌≡◌, ◌<◌, ◌↔◌, ◌++◌, ◌+◌, ◌*◌, ◌^◌, IsTrue, IsOk, IsErr, IfOk, IfSome, length, take, drop};
 ghost use Rattle.wtf8_core.specs.Standing.{Finds, IsLeastPlace, IsGreatestPlace, IsFront, IsEnd};
 ghost use Rattle.wtf8_core.specs.UnitPlace.{FindsInUnits};
 ghost use Rattle.wtf8_core.specs.Boundary.{IsBoundary};
 ghost use Rattle.wtf8_core.specs.Chunks.{AreChunks};
-ghost use Rattle.wtf8_core.specs.Pieces.{StandsSomewhere, MayBeCutAround, StripsFront, StripsEnd, SplitsOnce, IsStartTrim, IsEndTrim, IsTrim, IsSplit, IsRSplit};
+ghost use Rattle.wtf8_core.specs.Pieces.{StandsSomewhere, MayBeCutAround, StripsFront, StripsEnd};
+ghost use Rattle.wtf8_core.specs.Pieces.{IsStartTrim, IsEndTrim, IsTrim, IsSplit, IsRSplit};
+ghost use Rattle.wtf8_core.specs.Pieces.{SplitsOnce, Splits, Trims};
 ghost use Rattle.std.specs.Char.{encode_utf8};
 ghost use Rattle.std.specs.List.{repeat};
 ghost use Rattle.platform_str.specs.Strings.{string_vec_of};
@@ -239,13 +241,8 @@ pub trait OsStrBytesExt<'a>: OsStrBytes<'a> {
     /// assert!(rt; string.trim_start_matches("1") == OsStr::new("foo1"));
     /// ```
     fn trim_start_matches<P: Pattern>(self, pattern: P) -> Self
-        ensures bytes { 0 < length (P.text pattern)
-            → IsStartTrim (P.text pattern) (Self.bytes_of self) (Self.bytes_of result) }
-        ensures units { 0 < length (P.text pattern)
-            → IsStartTrim (Self.Platform.units (P.text pattern))
-            (Self.Platform.units (Self.bytes_of self))
-            (Self.Platform.units (Self.bytes_of result)) }
-        ensures whole { length (P.text pattern) ≡ 0 → Self.bytes_of result ≡ Self.bytes_of self };
+        ensures { Trims Self.Platform.units IsStartTrim (P.text pattern) (Self.bytes_of self)
+            (Self.bytes_of result) };
 
     /// The string without each pattern at its end; the whole where the pattern is empty.
     ///
@@ -256,13 +253,8 @@ pub trait OsStrBytesExt<'a>: OsStrBytes<'a> {
     /// assert!(rt; string.trim_end_matches('1') == OsStr::new("1bar"));
     /// ```
     fn trim_end_matches<P: Pattern>(self, pattern: P) -> Self
-        ensures bytes { 0 < length (P.text pattern)
-            → IsEndTrim (P.text pattern) (Self.bytes_of self) (Self.bytes_of result) }
-        ensures units { 0 < length (P.text pattern)
-            → IsEndTrim (Self.Platform.units (P.text pattern))
-            (Self.Platform.units (Self.bytes_of self))
-            (Self.Platform.units (Self.bytes_of result)) }
-        ensures whole { length (P.text pattern) ≡ 0 → Self.bytes_of result ≡ Self.bytes_of self };
+        ensures { Trims Self.Platform.units IsEndTrim (P.text pattern) (Self.bytes_of self)
+            (Self.bytes_of result) };
 
     /// The string without each pattern at its front, and then without each at its end; the
     /// whole where the pattern is empty. std has it for some patterns only.
@@ -275,13 +267,8 @@ pub trait OsStrBytesExt<'a>: OsStrBytes<'a> {
     /// assert!(rt; OsStr::<Unix>::new("aaa").trim_matches("aa") == OsStr::new("a"));
     /// ```
     fn trim_matches<P: Pattern>(self, pattern: P) -> Self
-        ensures bytes { 0 < length (P.text pattern)
-            → IsTrim (P.text pattern) (Self.bytes_of self) (Self.bytes_of result) }
-        ensures units { 0 < length (P.text pattern)
-            → IsTrim (Self.Platform.units (P.text pattern))
-            (Self.Platform.units (Self.bytes_of self))
-            (Self.Platform.units (Self.bytes_of result)) }
-        ensures whole { length (P.text pattern) ≡ 0 → Self.bytes_of result ≡ Self.bytes_of self };
+        ensures { Trims Self.Platform.units IsTrim (P.text pattern) (Self.bytes_of self)
+            (Self.bytes_of result) };
 
     // Pieces.
 
@@ -333,9 +320,7 @@ pub trait OsStrBytesExt<'a>: OsStrBytes<'a> {
     /// ```
     final fn split<P: Pattern>(self, pattern: P) -> Split<'a, Self::Platform, P>
         requires { P.not_empty pattern }
-        ensures bytes { IsSplit (P.text pattern) (Self.bytes_of self) result }
-        ensures units { IsSplit (Self.Platform.units (P.text pattern))
-            (Self.Platform.units (Self.bytes_of self)) (map Self.Platform.units result) }
+        ensures { Splits Self.Platform.units IsSplit (P.text pattern) (Self.bytes_of self) result }
     {
         iter::split(
             OsStr::from_encoded_bytes_unchecked(self.encoded_bytes()),
@@ -356,9 +341,7 @@ pub trait OsStrBytesExt<'a>: OsStrBytes<'a> {
     /// ```
     final fn rsplit<P: Pattern>(self, pattern: P) -> RSplit<'a, Self::Platform, P>
         requires { P.not_empty pattern }
-        ensures bytes { IsRSplit (P.text pattern) (Self.bytes_of self) result }
-        ensures units { IsRSplit (Self.Platform.units (P.text pattern))
-            (Self.Platform.units (Self.bytes_of self)) (map Self.Platform.units result) }
+        ensures { Splits Self.Platform.units IsRSplit (P.text pattern) (Self.bytes_of self) result }
     {
         iter::rsplit(
             OsStr::from_encoded_bytes_unchecked(self.encoded_bytes()),
@@ -381,7 +364,9 @@ pub trait OsStrBytesExt<'a>: OsStrBytes<'a> {
     /// ```
     fn split_first_char(self) -> Option<(char, Self)>
         ensures bytes { SplitsFirstChar Self.bytes_of (Self.bytes_of self) result }
-        ensures units { IfSome result (λ parts. Self.Platform.units (Self.bytes_of self) ≡ Self.Platform.units (encode_utf8 parts.0) ++ Self.Platform.units (Self.bytes_of parts.1)) };
+        ensures units { IfSome result (λ parts. Self.Platform.units (Self.bytes_of self)
+            ≡ Self.Platform.units (encode_utf8 parts.0)
+            ++ Self.Platform.units (Self.bytes_of parts.1)) };
 
     /// The last character and the rest of the string, `None` where no whole character ends the
     /// string (own call; of a text std's `str::chars` with `next_back`).
@@ -395,7 +380,9 @@ pub trait OsStrBytesExt<'a>: OsStrBytes<'a> {
     /// ```
     fn split_last_char(self) -> Option<(char, Self)>
         ensures bytes { SplitsLastChar Self.bytes_of (Self.bytes_of self) result }
-        ensures units { IfSome result (λ parts. Self.Platform.units (Self.bytes_of self) ≡ Self.Platform.units (Self.bytes_of parts.1) ++ Self.Platform.units (encode_utf8 parts.0)) };
+        ensures units { IfSome result (λ parts. Self.Platform.units (Self.bytes_of self)
+            ≡ Self.Platform.units (Self.bytes_of parts.1)
+            ++ Self.Platform.units (encode_utf8 parts.0)) };
 
     // Chunks.
 

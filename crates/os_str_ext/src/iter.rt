@@ -1,10 +1,10 @@
 //! The pieces of a string.
-ghost use Rattle.std.specs.Prelude.{◌≡◌, ◌<◌, ℕ, List, MatchOption, length, map};
+ghost use Rattle.std.specs.Prelude.{◌≡◌, ◌<◌, ℕ, List, MatchOption, length};
 ghost use Rattle.std.specs.Iterator.{YieldsFirstBy, item_count};
 ghost use Rattle.std.specs.Option.{option_map};
 ghost use Rattle.std.specs.Str.{IsUtf8};
 ghost use Rattle.wtf8_core.specs.Standing.{StandsNowhere};
-ghost use Rattle.wtf8_core.specs.Pieces.{IsSplit, IsRSplit};
+ghost use Rattle.wtf8_core.specs.Pieces.{IsSplit, IsRSplit, Splits};
 ghost use Rattle.platform_str.specs.Strings.{bytes};
 ghost use Rattle.os_str_ext.specs.Cuts.{FirstCut, LastCut, ArePieces, PiecesOf, CutLaws, pieces_left};
 ghost use Rattle.os_str_ext.specs.SomePieces.{pieces_from_start, pieces_from_end, cuts_from_start, cuts_from_end};
@@ -103,7 +103,8 @@ pub type RSplit<'a, E, P> = Pieces<'a, E, P, FromEnd>;
 impl<'a, E: Platform, P: Pattern, D: Direction> Model for Pieces<'a, E, P, D> {
     ghost Value = { List (List ℕ) };
 
-    ghost view = { λ it. pieces_left D.pieces (P.__Encoded.text it.pattern) (option_map bytes it.rest) };
+    ghost view = { λ it. pieces_left D.pieces (P.__Encoded.text it.pattern)
+        (option_map bytes it.rest) };
 
     ghost invariant = { λ it. 0 < length (P.__Encoded.text it.pattern) };
 }
@@ -128,9 +129,7 @@ pub(crate) fn split<'a, E: Platform, P: Pattern>(
     pattern: P,
 ) -> Split<'a, E, P>
     requires { 0 < length (P.text pattern) }
-    ensures bytes { IsSplit (P.text pattern) (bytes string.entry) result }
-    ensures units { IsSplit (E.units (P.text pattern)) (E.units (bytes string.entry))
-        (map E.units result) }
+    ensures { Splits E.units IsSplit (P.text pattern) (bytes string.entry) result }
 {
     Pieces::new(string, pattern)
 }
@@ -141,9 +140,7 @@ pub(crate) fn rsplit<'a, E: Platform, P: Pattern>(
     pattern: P,
 ) -> RSplit<'a, E, P>
     requires { 0 < length (P.text pattern) }
-    ensures bytes { IsRSplit (P.text pattern) (bytes string.entry) result }
-    ensures units { IsRSplit (E.units (P.text pattern)) (E.units (bytes string.entry))
-        (map E.units result) }
+    ensures { Splits E.units IsRSplit (P.text pattern) (bytes string.entry) result }
 {
     Pieces::new(string, pattern)
 }

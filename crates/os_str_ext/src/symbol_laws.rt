@@ -12,6 +12,8 @@ use platform_str::Platform;
 /// a character std's `char::encode_utf8` writes, those of a unit are its own.
 pub fn symbols<E: Platform>()
     ensures some { (s : List ℕ) → (symbols : List Symbol) × AreSymbols E.units s symbols }
-    ensures once { (s : List ℕ) → (symbols : List Symbol) → (others : List Symbol) → AreSymbols E.units s symbols → AreSymbols E.units s others → symbols ≡ others }
-    ensures joined { (s : List ℕ) → E.well_formed s → (symbols : List Symbol) → AreSymbols E.units s symbols → flat_map symbol_bytes symbols ≡ s }
+    ensures once { (s : List ℕ) → (symbols : List Symbol) → (others : List Symbol)
+        → AreSymbols E.units s symbols → AreSymbols E.units s others → symbols ≡ others }
+    ensures joined { (s : List ℕ) → E.well_formed s → (symbols : List Symbol)
+        → AreSymbols E.units s symbols → flat_map symbol_bytes symbols ≡ s }
 {}

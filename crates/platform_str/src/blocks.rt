@@ -59,7 +59,8 @@ fn narrowed(block: [u16; 16]) -> [u8; 16]
 fn push_wide<A: Allocator>(units: &mut Vec<u16, A>, code_point: u32) -> Result<(), AllocError>
     requires { IsCodePoint code_point }
     ensures ok { OnOk result (units.new.items ≡ units.old.items ++ wide code_point) }
-    ensures room { vec_len units.old + length (wide code_point) ≤ vec_capacity units.old → IsOk result }
+    ensures room { vec_len units.old + length (wide code_point) ≤ vec_capacity units.old
+        → IsOk result }
     ensures capacity { vec_capacity units.old ≤ vec_capacity units.new }
 {
     if code_point < 0x1_0000 {
@@ -78,7 +79,8 @@ fn push_each<A: Allocator>(
     string: OsStr<'_, Windows>,
 ) -> Result<(), AllocError>
     ensures ok { OnOk result (units.new.items ≡ units.old.items ++ units_of (bytes string.entry)) }
-    ensures room { vec_len units.old + length (units_of (bytes string.entry)) ≤ vec_capacity units.old → IsOk result }
+    ensures room { vec_len units.old + length (units_of (bytes string.entry))
+        ≤ vec_capacity units.old → IsOk result }
 {
     for unit in string.encode_wide() {
         units.push(unit)?;
@@ -94,7 +96,8 @@ pub(crate) fn push_units<A: Allocator>(
 ) -> Result<(), AllocError>
     requires { IsWtf8 string.now }
     ensures ok { OnOk result (units.new.items ≡ units.old.items ++ units_of string.now) }
-    ensures room { vec_len units.old + length (units_of string.now) ≤ vec_capacity units.old → IsOk result }
+    ensures room { vec_len units.old + length (units_of string.now) ≤ vec_capacity units.old
+        → IsOk result }
 {
     let mut rest = string;
     while let Some((block, behind)) = rest.split_first_chunk::<16>() {

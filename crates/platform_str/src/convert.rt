@@ -299,5 +299,6 @@ pub trait OsStringBytes: Sized + Drop {
         ensures formed { Self.Platform.well_formed (Self.Vec.as_vec result).items };
 
     // the bytes of a string are well formed
-    ghost formed: { (string : Self) → Self.Platform.well_formed (Self.Vec.as_vec (vec_of string)).items };
+    ghost formed: { (string : Self)
+        → Self.Platform.well_formed (Self.Vec.as_vec (vec_of string)).items };
 }

@@ -56,7 +56,8 @@ impl<'a, E: Platform> OsStrDisplay<'a, E> {
     /// assert_eq!(rt; format!(in alloc; "{quoted:9}")?.as_str(), "'a'");
     /// ```
     pub fn write_to<W: fmt::Write>(&self, f: &mut fmt::Formatter<W>) -> fmt::Result
-        ensures { WritesStyledOnOk W.write_str_gives f.old result (E.lossy (shown_bytes self.now)) f.new }
+        ensures { WritesStyledOnOk W.write_str_gives f.old result (E.lossy (shown_bytes self.now))
+            f.new }
     {
         write_text::<E, W>(self.string.as_encoded_bytes(), f)
     }
@@ -69,7 +70,8 @@ impl<'a, E: Platform> fmt::Display for OsStrDisplay<'a, E> {
 
     ghost output = { λ shown. Some (E.lossy (shown_bytes shown)) };
 
-    ghost styled_output = { λ shown spec. Some (filled (spec_fill spec) (spec_align spec) (spec_width spec) (E.lossy (shown_bytes shown))) };
+    ghost styled_output = { λ shown spec. Some (filled (spec_fill spec) (spec_align spec)
+        (spec_width spec) (E.lossy (shown_bytes shown))) };
 
     fn fmt<W: fmt::Write>(&self, f: &mut fmt::Formatter<W>) -> fmt::Result {
         let encoded = self.string.as_encoded_bytes();

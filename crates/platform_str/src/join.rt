@@ -17,7 +17,8 @@ pub(crate) fn push_wtf8<A: Allocator>(
     requires string { IsWtf8 string.old.items }
     requires more { IsWtf8 more.now }
     ensures formed { IsWtf8 string.new.items }
-    ensures ok { OnOk result (units_of string.new.items ≡ units_of string.old.items ++ units_of more.now) }
+    ensures ok { OnOk result (units_of string.new.items
+        ≡ units_of string.old.items ++ units_of more.now) }
     ensures err { OnErr result (string.new.items ≡ string.old.items) }
     ensures full { OnErr result (vec_capacity string.old < vec_len string.old + length more.now) }
 {
@@ -46,7 +47,8 @@ fn write_form_at<A: Allocator>(bytes: &mut Vec<u8, A>, at: usize, c: u32)
     requires room { at + 4 ≤ length bytes.old.items }
     requires past { 0x1_0000 ≤ c }
     requires code_point { IsCodePoint c }
-    ensures { bytes.new.items ≡ take at bytes.old.items ++ (form c ++ drop (at + 4) bytes.old.items) }
+    ensures { bytes.new.items
+        ≡ take at bytes.old.items ++ (form c ++ drop (at + 4) bytes.old.items) }
 {
     write_form(bytes.as_mut_slice(), at, c);
 }

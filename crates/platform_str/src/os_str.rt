@@ -93,7 +93,8 @@ impl<'a, E: Platform> OsStr<'a, E> {
     /// ```
     pub fn checked(encoded: &'a [u8]) -> Result<Self, EncodingError>
         ensures bytes { IfOk result (λ string. bytes string ≡ encoded.now) }
-        ensures cases { MatchResult result (λ _. E.well_formed encoded.now) (λ fault. E.first_fault encoded.now fault) }
+        ensures cases { MatchResult result (λ _. E.well_formed encoded.now)
+            (λ fault. E.first_fault encoded.now fault) }
     {
         E::check(encoded)?;
         Ok(OsStr::from_encoded_bytes_unchecked(encoded))
@@ -120,7 +121,8 @@ impl<'a, E: Platform> OsStr<'a, E> {
         raw: &'a [u8],
     ) -> Result<OsStrCow<'a, E, A>, AllocError>
         ensures reading { IfOk result (λ string. E.reads_as raw.entry.now (cow_bytes string)) }
-        ensures kept { E.well_formed raw.entry.now → IfOk result (λ string. cow_bytes string ≡ raw.entry.now) }
+        ensures kept { E.well_formed raw.entry.now
+            → IfOk result (λ string. cow_bytes string ≡ raw.entry.now) }
         ensures without_memory { E.well_formed raw.entry.now → IsOk result }
     {
         match E::check(raw) {
@@ -184,7 +186,8 @@ impl<'a, E: Platform> OsStr<'a, E> {
     /// assert_eq!(rt; surrogate.as_os_str().to_str(), None);
     /// ```
     pub fn to_str(self) -> Option<&'a str>
-        ensures { MatchOption result (¬ (IsUtf8 (bytes self.entry))) (λ text. text.now ≡ bytes self.entry) }
+        ensures { MatchOption result (¬ (IsUtf8 (bytes self.entry)))
+            (λ text. text.now ≡ bytes self.entry) }
     {
         if !is_text(self.bytes) {
             return None;

@@ -1,5 +1,5 @@
 -- Pieces, strips and trims of lists: the same words are said of bytes and of units (std's `str` has the calls).
-use Rattle.std.specs.Prelude.{◌≡◌, ℕ, ◌+◌, List, [], ◌∷◌, ◌++◌, length, Option, IfSome, MatchOption}
+use Rattle.std.specs.Prelude.{◌≡◌, ℕ, ◌+◌, ◌<◌, List, [], ◌∷◌, ◌++◌, length, map, Option, IfSome, MatchOption}
 use Rattle.std.specs.List.{repeat}
 use Rattle.wtf8_core.specs.Standing.{StandsAt, StandsNowhere, IsLeastPlace, IsGreatestPlace, IsFront, IsEnd}
 use Rattle.wtf8_core.specs.Boundary.{IsBoundary}
@@ -42,7 +42,18 @@ pub record IsEndTrim (p s r : List ℕ) : Type 0 where
 abbrev pub IsTrim : List ℕ → List ℕ → List ℕ → Type 0
 IsTrim p s r = (m : List ℕ) × (IsStartTrim p s m × IsEndTrim p m r)
 
--- s may be cut before and behind an n-byte match at r
+-- r is what Is leaves of the bytes s, and its units of the units of s, where p isn't empty; else it is s
+pub record Trims (units_of : List ℕ → List ℕ) (Is : List ℕ → List ℕ → List ℕ → Type 0) (p s r : List ℕ) : Type 0 where
+  pub bytes : 0 < length p → Is p s r
+  pub units : 0 < length p → Is (units_of p) (units_of s) (units_of r)
+  pub whole : length p ≡ 0 → r ≡ s
+
+-- these are the pieces of the bytes s that Is names, and their units those of the units of s
+pub record Splits (units_of : List ℕ → List ℕ) (Is : List ℕ → List ℕ → List (List ℕ) → Type 0) (p s : List ℕ) (pieces : List (List ℕ)) : Type 0 where
+  pub bytes : Is p s pieces
+  pub units : Is (units_of p) (units_of s) (map units_of pieces)
+
+-- s may be cut before and after an n-byte match at r
 abbrev pub MayBeCutAround : List ℕ → ℕ → Option ℕ → Type 0
 MayBeCutAround s n r = IfSome r (λ i. IsBoundary s i × IsBoundary s (i + n))
 

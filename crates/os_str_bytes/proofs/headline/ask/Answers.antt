@@ -1,4 +1,3 @@
-use Rattle.std.proofs.Common.{ap}
 use Rattle.os_str_bytes.proofs.lemmas.Refusals.{only_fault}
 use Rattle.os_str_bytes.proofs.headline.ask.Goals as goal
 
@@ -51,13 +50,13 @@ pub returns-clause-strip_suffix : goal.returns-clause-strip_suffix
 returns-clause-strip_suffix g c = c.strip_suffix.ensures.units
 
 pub returns-clause-trim_start : goal.returns-clause-trim_start
-returns-clause-trim_start g c = record { trimmed = c.trim_start_matches.ensures.units; whole = λ h. ap g.E.Platform.units (c.trim_start_matches.ensures.whole h) }
+returns-clause-trim_start g c = c.trim_start_matches.ensures
 
 pub returns-clause-trim_end : goal.returns-clause-trim_end
-returns-clause-trim_end g c = record { trimmed = c.trim_end_matches.ensures.units; whole = λ h. ap g.E.Platform.units (c.trim_end_matches.ensures.whole h) }
+returns-clause-trim_end g c = c.trim_end_matches.ensures
 
 pub returns-clause-trim : goal.returns-clause-trim
-returns-clause-trim g c = record { trimmed = c.trim_matches.ensures.units; whole = λ h. ap g.E.Platform.units (c.trim_matches.ensures.whole h) }
+returns-clause-trim g c = c.trim_matches.ensures
 
 pub returns-clause-split_once : goal.returns-clause-split_once
 returns-clause-split_once g c = c.split_once.ensures.units

@@ -2,5 +2,5 @@ use Rattle.wtf8_core.proofs.lemmas.standing.Pieces.{split_in_units}
 use Rattle.platform_str.specs.Strings.{bytes}
 use Rattle.os_str_ext.proofs.iter.split.Goals as goal
 
-pub returns-clause-units : goal.returns-clause-units
-returns-clause-units g c = split_in_units g.E.Platform.well_formed g.E.Platform.units g.met.E.Platform.standing (g.P.Pattern.text c.args.pattern) (bytes c.args.string) _ c.new.ensures.utf8 c.requires c.args.string.ok c.new.ensures.pieces
+pub returns : goal.returns
+returns g c = record { bytes = c.new.ensures.pieces; units = split_in_units g.E.Platform.well_formed g.E.Platform.units g.met.E.Platform.standing (g.P.Pattern.text c.args.pattern) (bytes c.args.string) _ c.new.ensures.utf8 c.requires c.args.string.ok c.new.ensures.pieces }

@@ -4,7 +4,12 @@ use Rattle.wtf8_core.proofs.lemmas.standing.Pieces.{end_trim_in_units}
 use Rattle.platform_str.specs.Strings.{bytes}
 use Rattle.os_str_ext.proofs.ext.OsStrOsStrBytesExt.trim_end_matches.Goals as goal
 
-pub returns-clause-units : goal.returns-clause-units
-returns-clause-units g c =
+pub returns : goal.returns
+returns g c =
     let b = rw (c.as_str.ensures, c.encode-encoded.ensures.value) at c.trim_end.ensures.trim in
-    λ h. end_trim_in_units g.E.Platform.well_formed g.E.Platform.units g.met.E.Platform.standing (g.P.Pattern.text c.args.pattern) (bytes c.args.self) _ (subst IsUtf8 c.encode-encoded.ensures.value c.encode-encoded.ensures.utf8) h c.args.self.ok (b h)
+    let whole = rw (c.as_str.ensures, c.encode-encoded.ensures.value) at c.trim_end.ensures.whole in
+    record {
+      bytes = b;
+      units = λ h. end_trim_in_units g.E.Platform.well_formed g.E.Platform.units g.met.E.Platform.standing (g.P.Pattern.text c.args.pattern) (bytes c.args.self) _ (subst IsUtf8 c.encode-encoded.ensures.value c.encode-encoded.ensures.utf8) h c.args.self.ok (b h);
+      whole = whole;
+    }
