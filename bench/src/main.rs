@@ -8,6 +8,7 @@ mod joins;
 mod ours;
 mod searches;
 mod splits;
+mod symbols;
 mod table;
 mod theirs;
 
@@ -17,5 +18,6 @@ fn main() {
     searches::time(&mut bench);
     splits::time(&mut bench);
     chunks::time(&mut bench);
+    symbols::time(&mut bench);
     joins::time(&mut bench);
 }
