@@ -3,6 +3,7 @@
 mod chunks;
 mod clock;
 mod conversions;
+mod escapes;
 mod inputs;
 mod joins;
 mod ours;
@@ -18,4 +19,5 @@ fn main() {
     splits::time(&mut bench);
     chunks::time(&mut bench);
     joins::time(&mut bench);
+    escapes::time(&mut bench);
 }

@@ -10,8 +10,8 @@ use std::simd::prelude::*;
 pub(crate) const BLOCK: usize = 64;
 
 // What a byte and the next one may begin, a bit each, which is set where all three tables have it.
-// 01: a control character of ASCII; 02: the backslash; 04: DEL; 08: C1; 10: U+061C; 20: a character from
-// U+2000 on; 40: U+FEFF; 80: a tag. Each table is repeated four times.
+// 01: a control character of ASCII; 02: the backslash; 04: DEL; 08: C1; 10: U+061C; 20: a
+// character from U+2000 on; 40: U+FEFF; 80: a tag. Each table is repeated four times.
 
 /// By the high half of the first byte.
 const FIRST_HIGH: [u8; 64] = [
