@@ -3,6 +3,7 @@
 mod chunks;
 mod clock;
 mod conversions;
+mod escapes;
 mod inputs;
 mod joins;
 mod ours;
@@ -20,4 +21,5 @@ fn main() {
     chunks::time(&mut bench);
     symbols::time(&mut bench);
     joins::time(&mut bench);
+    escapes::time(&mut bench);
 }

@@ -28,6 +28,10 @@ mod exports {
         pub fn port_push(part: *const u8, len: usize, count: usize) -> usize;
         pub fn port_repeat(bytes: *const u8, len: usize, count: usize) -> usize;
         pub fn port_starts_with_os(bytes: *const u8, len: usize, front: *const u8, front_len: usize) -> bool;
+        pub fn port_escape(bytes: *const u8, len: usize) -> usize;
+        pub fn port_escape_line(bytes: *const u8, len: usize) -> usize;
+        pub fn port_unescape(text: *const u8, len: usize) -> usize;
+        pub fn port_unescape_line(text: *const u8, len: usize) -> usize;
         pub fn port_ends_with(bytes: *const u8, len: usize, pattern: *const u8, pattern_len: usize) -> bool;
     }
 }
@@ -126,4 +130,22 @@ pub fn symbols(bytes: &[u8]) -> u64 {
 
 pub fn split_first_char(bytes: &[u8]) -> u32 {
     unsafe { exports::port_split_first_char(bytes.as_ptr(), bytes.len()) }
+}
+
+pub fn escape(bytes: &[u8]) -> usize {
+    unsafe { exports::port_escape(bytes.as_ptr(), bytes.len()) }
+}
+
+pub fn escape_line(bytes: &[u8]) -> usize {
+    unsafe { exports::port_escape_line(bytes.as_ptr(), bytes.len()) }
+}
+
+/// The bytes are UTF-8.
+pub fn unescape(bytes: &[u8]) -> usize {
+    unsafe { exports::port_unescape(bytes.as_ptr(), bytes.len()) }
+}
+
+/// The bytes are UTF-8.
+pub fn unescape_line(bytes: &[u8]) -> usize {
+    unsafe { exports::port_unescape_line(bytes.as_ptr(), bytes.len()) }
 }
