@@ -9,6 +9,7 @@ ghost use Rattle.os_glob.specs.Match.{IsMatch};
 use crate::error::GlobError;
 use crate::item::{Item, first_item};
 use crate::matching::matches;
+use crate::observer::{Nobody, Observer};
 use crate::options::GlobOptions;
 use crate::place::Places;
 use crate::token::Tokens;
@@ -105,17 +106,57 @@ impl<'p> Glob<'p> {
         ensures symbols { (symbols : List Symbol) → AreSymbols E.units (bytes string.entry) symbols → IsTrue result ↔ IsMatch options self.now symbols }
         ensures value { IsTrue result ↔ IsMatch options self.now (symbols_of E.units (bytes string.entry)) }
     {
+        self.is_match_observed(options, string, &mut Nobody)
+    }
+
+    /// [`is_match`](Self::is_match), and how many symbols it looks at: the observer is told as it
+    /// goes on. They are at most as many as the pattern's bytes and two, times the string's bytes
+    /// and one.
+    ///
+    /// ```
+    /// use os_glob::{Glob, GlobOptions, Observer, Separators};
+    /// use os_str_bytes::{OsStr, Unix};
+    ///
+    /// struct Count(usize);
+    ///
+    /// impl Observer for Count {
+    ///     fn looked_at(&mut self, symbols: usize) {
+    ///         self.0 = self.0.wrapping_add(symbols);
+    ///     }
+    /// }
+    ///
+    /// let options = GlobOptions { separators: Separators::None, literal_leading_dot: false };
+    /// let mut count = Count(0);
+    /// let name = OsStr::<Unix>::new("ab");
+    /// assert!(rt; Glob::new("?b").unwrap().is_match_observed(options, name, &mut count));
+    /// assert_eq!(rt; count.0, 2);
+    /// ```
+    pub fn is_match_observed<E: Platform, O: Observer>(
+        &self,
+        options: GlobOptions,
+        string: OsStr<'_, E>,
+        observer: &mut O,
+    ) -> bool
+        ensures symbols { (symbols : List Symbol) → AreSymbols E.units (bytes string.entry) symbols → IsTrue result ↔ IsMatch options self.now symbols }
+        ensures value { IsTrue result ↔ IsMatch options self.now (symbols_of E.units (bytes string.entry)) }
+    {
         wtf8_core::laws::chunks();
-        self.matches_symbols(options, string.symbols())
+        self.matches_symbols(options, string.symbols(), observer)
     }
 
     /// Whether the symbols that are left have the pattern.
-    fn matches_symbols<E: Platform>(&self, options: GlobOptions, symbols: Symbols<'_, E>) -> bool
+    fn matches_symbols<E: Platform, O: Observer>(
+        &self,
+        options: GlobOptions,
+        symbols: Symbols<'_, E>,
+        observer: &mut O,
+    ) -> bool
         ensures { IsTrue result ↔ IsMatch options self.now symbols.entry }
     {
         matches(
             Tokens::new(options, self.pattern),
             Places::new(options, symbols),
+            observer,
         )
     }
 }

@@ -2,6 +2,7 @@
 ghost use Rattle.std.specs.Prelude.{◌≡◌, ◌∷◌, [], MatchOption};
 ghost use Rattle.os_glob.specs.Places.{place, begins_component};
 
+use crate::observer::Observer;
 use crate::options::GlobOptions;
 use os_str_ext::{Platform, Symbol, Symbols};
 use std::marker::Model;
@@ -93,12 +94,13 @@ impl<'a, E: Platform> Places<'a, E> {
 
     /// Takes the first place off.
     #[inline(always)]
-    pub(crate) fn next(&mut self) -> Option<Place>
+    pub(crate) fn next<O: Observer>(&mut self, observer: &mut O) -> Option<Place>
         ensures { MatchOption result (self.old ≡ []) (λ place. self.old ≡ place ∷ self.new) }
     {
         let Some(symbol) = self.symbols.next() else {
             return None;
         };
+        observer.looked_at(1);
         let place = place_of(self.options, self.begins, symbol);
         self.begins = place.ends_component();
         Some(place)

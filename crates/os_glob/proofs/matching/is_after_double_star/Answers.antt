@@ -7,6 +7,11 @@ use Rattle.os_glob.proofs.Runs.{empty_run}
 use Rattle.os_glob.proofs.Steps.{both, later, stopped, never_later}
 use Rattle.os_glob.proofs.matching.is_after_double_star.Goals as goal
 
+pub returns-in-All : goal.returns-in-All
+returns-in-All g c =
+    let has = both (λ ts ps. Matches ts ps) c.again.ensures c.again-in-loop-after.ensures c.in-All.ensures in
+    (λ _. c.loop-after.invariant.1 (empty_run DoubleStar (Matches c.loop-after.left) c.loop-after.from has), λ _. refl)
+
 pub loop-after-preserved-in-Anywhere : goal.loop-after-preserved-in-Anywhere
 loop-after-preserved-in-Anywhere g c =
     let on = both (λ ts ps. GoesOnAnywhere ts ps c.in-Anywhere.after c.in-Anywhere.rest) c.again.ensures c.again-in-loop-after.ensures c.in-Anywhere.ensures in

@@ -3,8 +3,11 @@ use Rattle.os_glob.specs.declared.item.Wildcard.TheVariants.{Star, DoubleStar}
 use Rattle.os_glob.specs.Pattern.{Run}
 use Rattle.os_glob.specs.Match.{Matches}
 use Rattle.os_glob.specs.Parts.{GoesOn}
-use Rattle.os_glob.proofs.Steps.{both, next_star, anywhere, ends_after, next_place, blocked, blocked_at_end}
+use Rattle.os_glob.proofs.Steps.{both, next_star, anywhere, all_after, ends_after, next_place, blocked, blocked_at_end}
 use Rattle.os_glob.proofs.matching.part_after_star.Goals as goal
+
+pub returns-in-All : goal.returns-in-All
+returns-in-All g c = all_after _ _ _ _ c.loop-after.invariant _ refl (both (λ ts ps. Matches ts ps) c.again.ensures c.again-in-loop-after.ensures c.in-All.ensures)
 
 pub returns-in-Ends : goal.returns-in-Ends
 returns-in-Ends g c =
