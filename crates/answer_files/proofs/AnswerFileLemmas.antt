@@ -36,7 +36,7 @@ comment_more lines i d lt comment =
     let len : i < length (map (λ line. line.now) lines) = rw length-map lt in
     one_more _ i _ len (get_or-map (λ line. line.now) lines i d [] lt) ∙ rw comment (append-nil _)
 
--- a list is seen by f as what its front is seen as, and then its last element
+-- a list is seen by f as what its items but the last are seen as, and then the last
 pub map_one_more : {A B : Type 0} (f : A → B) (new old : List A) (x : A) (y : B) (front all : List B)
     → new ≡ old ++ (x ∷ []) → f x ≡ y → map f old ≡ front → all ≡ front ++ (y ∷ []) → map f new ≡ all
 map_one_more f new old x y front all e last before more =

@@ -39,7 +39,7 @@ module _ {Kind : Type 0} (answers : Kind → List (List ℕ) → List Column →
   unfolding AreAsked
   no_text = ([], tt, ((λ _. All-nil _), (λ _. refl)))
 
-  -- place by place, one more
+  -- index by index, one more
   zip_more : {A B : Type 0} (R : A → B → Type 0) (xs : List A) (ys : List B) (x : A) (y : B) → AllZip R xs ys → R x y → AllZip R (xs ++ x ∷ []) (ys ++ y ∷ [])
   zip_more R [] [] x y all one = (one, tt)
   zip_more R [] (_ ∷ _) x y all one = absurd all

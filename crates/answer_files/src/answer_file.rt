@@ -9,9 +9,9 @@
 //!   the empty list;
 //! - a `bool` is `0` or `1`;
 //! - `!` is `None`, or a condition that isn't met;
-//! - `,` stands between parts;
+//! - `,` is between parts;
 //! - a fault is `byte c0`, `cp dc00` (at least four digits), `end`, `utf8 1 2` or `utf8 1 none`
-//!   (the place and the length of an ill-formed part), and `ok` says that there is none.
+//!   (the index and the length of an ill-formed part), and `ok` says that there is none.
 ghost use Rattle.std.specs.Prelude.{◌≡◌, ◌<◌, ◌↔◌, IsOk, IsErrOf, IfOk, IfErr, map, vec_len};
 ghost use Rattle.std.specs.Str.Lines.{lines};
 ghost use Rattle.answer_files.specs.AnswerFile.{columns_of, is_row, rows_of};
@@ -29,7 +29,7 @@ pub struct AnswerFile<'a, K> {
     pub rows: Vec<Row<'a>>,
 }
 
-/// A row of an answer file: at which line it stands, counted from 1, and its columns.
+/// A row of an answer file: the number of its line, counted from 1, and its columns.
 #[derive(Drop)]
 pub struct Row<'a> {
     pub line: usize,

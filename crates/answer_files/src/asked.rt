@@ -67,7 +67,7 @@ impl<'a> Asked<'a> {
         self.text(name, call, expected, text)
     }
 
-    /// A place, if there is one.
+    /// An index, if there is one.
     pub fn place(
         &mut self,
         name: &'static str,

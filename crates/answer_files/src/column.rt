@@ -15,7 +15,7 @@ pub enum Column<'a> {
         expected: &'a str,
         answered: String,
     },
-    /// A column whose call doesn't stand yet.
+    /// A column whose call isn't there yet.
     NotAsked {
         name: &'static str,
     },
@@ -41,7 +41,7 @@ impl<'a> Column<'a> {
         }
     }
 
-    /// A column whose call doesn't stand yet.
+    /// A column whose call isn't there yet.
     pub fn not_asked(name: &'static str) -> Self
         ensures { result ≡ Column.NotAsked name.entry }
     {

@@ -22,7 +22,7 @@ pub struct Summary<'a> {
     pub differing: usize,
     /// The first rows that differ.
     pub differences: Vec<Difference<'a>>,
-    /// The columns whose calls don't stand yet.
+    /// The columns whose calls aren't there yet.
     pub not_asked: Vec<&'static str>,
     ghost counted: { differing ≤ rows },
 }
@@ -109,7 +109,7 @@ impl<'a> Summary<'a> {
     }
 }
 
-/// The names of the columns whose calls don't stand yet.
+/// The names of the columns whose calls aren't there yet.
 fn not_asked(alloc: Global, columns: &[Column<'_>]) -> Result<Vec<&'static str>, AllocError> {
     let mut names = Vec::new(alloc);
     for column in columns {

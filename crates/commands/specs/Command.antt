@@ -11,7 +11,7 @@ os_word Unix = codes "unix"
 os_word Windows = codes "windows"
 os_word Wasm = codes "wasm"
 
--- the words behind the program's name that ask for the command
+-- the words after the program's name that ask for the command
 abbrev pub words_of : Command → List (List ℕ)
 words_of (Units os) = codes "units" ∷ os_word os ∷ []
 words_of (Raw os) = codes "raw" ∷ os_word os ∷ []

@@ -1,4 +1,4 @@
--- Units, pieces and chunks as lines of hexadecimal digits, and a place as a line.
+-- Units, pieces and chunks as lines of hexadecimal digits, and an index as a line.
 use Rattle.std.specs.Prelude.{◌≡◌, ◌≢◌, ℕ, ◌+◌, ◌/◌, ◌%◌, ◌^◌, ◌<◌, nat_lt, if◌then◌else◌, List, [], ◌∷◌, ◌++◌, length, All, codes, decimal, Option, None, Some}
 use Rattle.std.specs.List.{flat_map}
 use Rattle.os_str_bytes.specs.Chunks.{Chunk}
@@ -38,7 +38,7 @@ pub record AreUnitLines (os : Os) (bytes us : List ℕ) : Type 0 where
   pub lines : bytes ≡ unit_lines os us
   pub units : All (IsUnit os) us
 
--- the line of some unit stands at the front
+-- the line of some unit comes first
 abbrev pub BeginsWithUnitLine : Os → List ℕ → Type 0
 BeginsWithUnitLine os bytes = (u : ℕ) × IsUnit os u × ((rest : List ℕ) × (bytes ≡ unit_line os u ++ rest))
 
@@ -52,7 +52,7 @@ pub record IsFirstBadLine (os : Os) (bytes : List ℕ) (number : ℕ) : Type 0 w
   pub bad : ¬ (BeginsWithUnitLine os from)
   pub number_is : number ≡ length before + 1
 
--- the place of a pattern in decimal digits, or `none`, and a newline
+-- the index of a pattern in decimal digits, or `none`, and a newline
 abbrev pub place_line : Option ℕ → List ℕ
 place_line None = codes "none\n"
 place_line (Some place) = decimal place ++ codes "\n"

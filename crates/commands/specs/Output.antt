@@ -31,15 +31,15 @@ HasBadLine (Unquote os) input number = ⊥
 
 -- on a platform that says this of its strings:
 module _ {E : Type 0} (p : Ghosts E) where
-  -- the least place of the pattern in the input, None where it stands nowhere: in their bytes, and in their units
+  -- the first index of the pattern in the input, None where it doesn't occur: in their bytes, and in their units
   abbrev pub FindsLeast : List ℕ → List ℕ → Option ℕ → Type 0
   FindsLeast pattern input place = Finds IsLeastPlace pattern input place × FindsInUnits IsLeastPlace p.well_formed p.units pattern input place
 
-  -- the pieces of the input between the places of the pattern: of their bytes, and of their units
+  -- the pieces of the input between the matches of the pattern: of their bytes, and of their units
   abbrev pub AreSplit : List ℕ → List ℕ → List (List ℕ) → Type 0
   AreSplit pattern input pieces = IsSplit pattern input pieces × IsSplit (p.units pattern) (p.units input) (map p.units pieces)
 
-  -- `units`: the lines of the string's units; `raw`: the bytes of the string whose units stand on the lines; `find`: the line of the least place of the pattern in the string; `split`: the lines of the string's pieces between the places of the pattern; `chunks`: the lines of the string's chunks; `quote`: the string's escape; `unquote`: the bytes of the string with this escape
+  -- `units`: the lines of the string's units; `raw`: the bytes of the string whose units are on the lines; `find`: the line of the first index of the pattern in the string; `split`: the lines of the string's pieces between the matches of the pattern; `chunks`: the lines of the string's chunks; `quote`: the string's escape; `unquote`: the bytes of the string with this escape
   abbrev pub IsOutputOn : Command → List ℕ → List ℕ → Type 0
   IsOutputOn (Units os) input output = p.well_formed input × (output ≡ unit_lines os (p.units input))
   IsOutputOn (Raw os) input output = p.well_formed output × AreUnitLines os input (p.units output)

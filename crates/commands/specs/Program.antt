@@ -1,4 +1,4 @@
--- The whole program, from the words behind its name to its exit status.
+-- The whole program, from the words after its name to its exit status.
 use Rattle.std.specs.Prelude.{◌≡◌, ℕ, List, ◌++◌, codes, drop, take, map, Option, IfErr, OnOk, Result, Ok, Err, String, string_bytes}
 use Rattle.std.specs.Io.KnownBytes.{Appends}
 use Rattle.std.specs.Vec.Iter.{into_iter_items}
@@ -11,7 +11,7 @@ use Rattle.commands.specs.Fault.{text_of, status_of}
 use Rattle.commands.specs.Output.{IsOfInput}
 use Rattle.commands.specs.Run.{WritesOutput, WritesBeginning, RefusesInput, AnswersRefusal}
 
--- the words behind the first of the arguments, which is the program's name
+-- the words after the first of the arguments, which is the program's name
 abbrev pub words_behind_name : {A : Type 0} → IntoIter (String A) A → List (List ℕ)
 words_behind_name args = map string_bytes (drop 1 (into_iter_items args))
 

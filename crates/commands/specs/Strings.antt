@@ -9,7 +9,7 @@ use Rattle.os_str_bytes.specs.WasmPlatform.TheImpl as wasm
 use Rattle.commands.specs.declared.command.Os.{Os}
 use Rattle.commands.specs.declared.command.Os.TheVariants.{Unix, Windows, Wasm}
 
--- the type that stands for the platform
+-- the type of the platform
 abbrev pub marker : Os → Type 0
 marker Unix = unix_type.Unix
 marker Windows = windows_type.Windows

@@ -24,9 +24,9 @@ pub enum Command<'a> {
     Units(Os),
     /// `raw`: reads units, each on a line, and writes the bytes of the string that has them.
     Raw(Os),
-    /// `find`: reads the bytes of a string, and writes the least place of the pattern in it.
+    /// `find`: reads the bytes of a string, and writes the first index of the pattern in it.
     Find(Os, &'a str),
-    /// `split`: reads the bytes of a string, and writes its pieces between the places of the
+    /// `split`: reads the bytes of a string, and writes its pieces between the matches of the
     /// pattern, each on a line.
     Split(Os, &'a str),
     /// `chunks`: reads the bytes of a string, and writes its chunks, each on a line.

@@ -1,4 +1,4 @@
-//! The command `find`: where a pattern stands in a string.
+//! The command `find`: where a pattern first occurs in a string.
 ghost use Rattle.std.specs.Prelude.{◌≡◌, IfOk, IfErr};
 ghost use Rattle.commands.specs.Lines.{place_line};
 ghost use Rattle.commands.specs.Output.{IsOutputOn, IsFaultOn, RefusesNoString};
@@ -10,7 +10,7 @@ use crate::target::Target;
 use os_str_bytes::{OsStrBytesExt, Platform};
 use std::alloc::{AllocError, Allocator};
 
-/// The line of the least place of a pattern in a string, or the first fault of its bytes.
+/// The line of the first index of a pattern in a string, or the first fault of its bytes.
 ///
 /// A fault is found before any memory is asked for. For F0 90 80 80 61 (hexadecimal) and the
 /// pattern `a` on Windows the line is `4`, for `b` it is `none`.
@@ -29,7 +29,7 @@ pub fn find<E: Target, A: Allocator>(
     Ok(place_line(alloc, place)?)
 }
 
-/// The line of a place, or of no place.
+/// The line of an index, or of none.
 fn place_line<A: Allocator>(alloc: A, place: Option<usize>) -> Result<Vec<u8, A>, AllocError>
     ensures { IfOk result (λ line. line.items ≡ place_line place) }
 {

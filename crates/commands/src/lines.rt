@@ -81,7 +81,7 @@ pub fn push_piece<A: Allocator>(line: &mut Vec<u8, A>, piece: &[u8]) -> Result<(
     Ok(())
 }
 
-/// The unit that is a byte whose line stands at the front, and the bytes behind that line.
+/// The unit that is a byte whose line comes first, and the bytes after that line.
 pub fn front_byte(bytes: &[u8]) -> Option<(u8, &[u8])>
     ensures some { IfSome result (λ front. bytes.now ≡ unit_line Os.Unix front.0 ++ front.1.now) }
     ensures none { IfNone result (¬ (BeginsWithUnitLine Os.Unix bytes.now)) }
@@ -92,7 +92,7 @@ pub fn front_byte(bytes: &[u8]) -> Option<(u8, &[u8])>
     Some((hex_value(*first)? * 0x10 + hex_value(*second)?, rest))
 }
 
-/// The unit of 16 bits whose line stands at the front, and the bytes behind that line.
+/// The unit of 16 bits whose line comes first, and the bytes after that line.
 pub fn front_wide(bytes: &[u8]) -> Option<(u16, &[u8])>
     ensures some { IfSome result (λ front. bytes.now ≡ unit_line Os.Windows front.0
         ++ front.1.now) }

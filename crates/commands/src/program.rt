@@ -111,7 +111,7 @@ impl Termination for Ended {
 
 /// The program with these arguments over these ends.
 ///
-/// The arguments begin with the program's name. Those behind it are the words of a command
+/// The arguments begin with the program's name. Those after it are the words of a command
 /// ([`Command::parse`]), which is run as [`run`] says. Where no command that can run has them,
 /// where the arguments couldn't be had, or where the run fails, the fault's message goes to `errors`,
 /// or where not all of it is taken a beginning of it, and nothing else does. Both marks must be unset ([`Marked::failed`] tells).
@@ -179,7 +179,7 @@ pub fn execute<A: Allocator, R: Read, W: Output, E: Messages>(
     }
 }
 
-/// The words behind the program's name.
+/// The words after the program's name.
 fn words<A: Allocator>(alloc: A, args: io::Result<Args>) -> Result<Vec<String, A>, Fault>
     ensures ok { OnOk result (IsOk args) }
     ensures words { IfOk result (λ words. IfOk args

@@ -29,7 +29,7 @@ pub fn quote<E: Target, A: Allocator>(alloc: A, input: &[u8]) -> Result<Vec<u8, 
 /// why the text is the escape of no string.
 ///
 /// Of `fo\x80\xFFo` on Unix it is 66 6F 80 FF 6F (hexadecimal), of `a\q` [`Fault::BadQuote`]
-/// with the place 1.
+/// with the index 1.
 pub fn unquote<E: Target, A: Allocator>(alloc: A, input: &[u8]) -> Result<Vec<u8, A>, Fault>
     ensures output { IfOk result (λ output. IsOutputOn ⟦<E as Platform>⟧ (Unquote E.os) input.now
         output.items) }

@@ -10,7 +10,7 @@ use crate::target::Target;
 use os_str_bytes::{Platform, laws};
 use std::alloc::Allocator;
 
-/// The bytes of the string whose units stand on the lines, or the first bad line, or else the
+/// The bytes of the string whose units are on the lines, or the first bad line, or else the
 /// first fault of units that no string has.
 ///
 /// For the lines `d800` and `dc00` on Windows they are F0 90 80 80 (hexadecimal).
@@ -23,7 +23,7 @@ pub fn raw<E: Target, A: Allocator + Copy>(alloc: A, input: &[u8]) -> Result<Vec
     spell::<E, A>(alloc, &units)
 }
 
-/// The units that stand on the lines, or the first bad line.
+/// The units on the lines, or the first bad line.
 fn read_units<E: Target, A: Allocator>(alloc: A, input: &[u8]) -> Result<Vec<E::Unit, A>, Fault>
     ensures units { IfOk result (λ units. AreUnitLines E.os input.now (map E.number units.items)) }
     ensures fault { IfErr result (λ fault. (fault ≡ Fault.Memory)

@@ -11,7 +11,7 @@ use crate::target::Target;
 use os_str_bytes::{OsStrBytesExt, Platform, Split};
 use std::alloc::{AllocError, Allocator};
 
-/// The lines of the pieces of a string between the places of a pattern, or the first fault of
+/// The lines of the pieces of a string between the occurrences of a pattern, or the first fault of
 /// its bytes. The pattern isn't empty (test: `str::is_empty`).
 ///
 /// A fault is found before any memory is asked for. For F0 90 80 80 61 (hexadecimal) and the

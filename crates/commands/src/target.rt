@@ -23,7 +23,7 @@ pub trait Target: Platform {
         requires { Self.well_formed string.now }
         ensures { IfOk result (λ output. output.items ≡ unit_lines os (Self.units string.now)) };
 
-    /// The unit whose line stands at the front, and the bytes behind that line. It takes no
+    /// The unit whose line comes first, and the bytes after that line. It takes no
     /// memory.
     fn front_unit(bytes: &[u8]) -> Option<(Self::Unit, &[u8])>
         ensures some { IfSome result (λ front. bytes.now ≡ unit_line os (number front.0)

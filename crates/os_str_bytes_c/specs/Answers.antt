@@ -8,14 +8,14 @@ use Rattle.platform_str.specs.Platforms.{IsWtf8Fault}
 abbrev pub IsFaulty : List ℕ → Type 0
 IsFaulty bytes = (fault : EncodingError) × IsWtf8Fault bytes fault
 
--- the first `count` items of the new list are wanted ones, and those behind them are as they were
+-- the first `count` items of the new list are wanted ones, and those after them are as they were
 pub record IsFilled (Wanted : List ℕ → Type 0) (old new : List ℕ) (count : ℕ) : Type 0 where
   pub same_length : length new ≡ length old
   pub within : count ≤ length new
   pub front : Wanted (take count new)
   pub behind : drop count new ≡ drop count old
 
--- a call answers a place or a length, for which `Is` holds; or `none`, where there is none
+-- a call answers an index or a length, for which `Is` holds; or `none`, where there is none
 abbrev pub AnswersOr : ℕ → Type 0 → (ℕ → Type 0) → ℕ → Type 0
 AnswersOr none Nothing Is answer = (Nothing × (answer ≡ none)) ⊎ Is answer
 

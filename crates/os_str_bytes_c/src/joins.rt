@@ -25,7 +25,7 @@ fn pushed_len<E: Platform>(alloc: Global, part: OsStr<E>, count: usize) -> usize
     all.as_os_str().len()
 }
 
-/// How many bytes the empty string has behind which the part was pushed `count` times, or
+/// How many bytes the empty string has after the part was pushed `count` times, or
 /// `usize::MAX` where memory was refused.
 #[unsafe(no_mangle)]
 pub extern "C" fn port_push(alloc: Global, raw: &[u8], count: usize) -> usize
@@ -52,7 +52,7 @@ pub extern "C" fn port_repeat(alloc: Global, raw: &[u8], count: usize) -> usize
     }
 }
 
-/// Whether the units of the second string are a front of those of the first.
+/// Whether the units of the second string are a prefix of those of the first.
 #[unsafe(no_mangle)]
 pub extern "C" fn port_starts_with_os(raw: &[u8], front: &[u8]) -> bool
     requires string { IsWtf8 raw.now }

@@ -6,7 +6,7 @@ ghost use Rattle.wtf8_core.specs.Pieces.{IsSplit, IsRSplit};
 use crate::strings::{text, unix};
 use os_str_ext::OsStrBytesExt;
 
-/// How many pieces there are between the places of the pattern.
+/// How many pieces there are between the matches of the pattern.
 #[unsafe(no_mangle)]
 pub extern "C" fn port_split(raw: &[u8], pattern: &[u8]) -> usize
     requires text { IsUtf8 pattern.now }
@@ -20,7 +20,7 @@ pub extern "C" fn port_split(raw: &[u8], pattern: &[u8]) -> usize
     count
 }
 
-/// How many pieces there are between the places of the pattern, from the end.
+/// How many pieces there are between the matches of the pattern, from the end.
 #[unsafe(no_mangle)]
 pub extern "C" fn port_rsplit(raw: &[u8], pattern: &[u8]) -> usize
     requires text { IsUtf8 pattern.now }

@@ -8,7 +8,7 @@ ghost use Rattle.os_str_bytes_c.specs.Answers.{AnswersOr};
 use crate::strings::{text, unix};
 use os_str_ext::OsStrBytesExt;
 
-/// The least place of the pattern, or `usize::MAX` where it stands nowhere.
+/// The first index of the pattern, or `usize::MAX` where it doesn't occur.
 #[unsafe(no_mangle)]
 pub extern "C" fn port_find(raw: &[u8], pattern: &[u8]) -> usize
     requires { IsUtf8 pattern.now }
@@ -20,7 +20,7 @@ pub extern "C" fn port_find(raw: &[u8], pattern: &[u8]) -> usize
     }
 }
 
-/// The greatest place of the pattern, or `usize::MAX` where it stands nowhere.
+/// The last index of the pattern, or `usize::MAX` where it doesn't occur.
 #[unsafe(no_mangle)]
 pub extern "C" fn port_rfind(raw: &[u8], pattern: &[u8]) -> usize
     requires { IsUtf8 pattern.now }
@@ -32,8 +32,8 @@ pub extern "C" fn port_rfind(raw: &[u8], pattern: &[u8]) -> usize
     }
 }
 
-/// Where the pattern stands first, by the length of the part before it; `usize::MAX` where it
-/// stands nowhere.
+/// Where the pattern first occurs, by the length of the part before it; `usize::MAX` where it
+/// doesn't occur.
 #[unsafe(no_mangle)]
 pub extern "C" fn port_split_once(raw: &[u8], pattern: &[u8]) -> usize
     requires { IsUtf8 pattern.now }
@@ -45,7 +45,7 @@ pub extern "C" fn port_split_once(raw: &[u8], pattern: &[u8]) -> usize
     }
 }
 
-/// How many bytes follow the pattern at the front, or `usize::MAX` where it doesn't stand there.
+/// How many bytes follow the pattern as a prefix, or `usize::MAX` where it is none.
 #[unsafe(no_mangle)]
 pub extern "C" fn port_strip_prefix(raw: &[u8], pattern: &[u8]) -> usize
     requires { IsUtf8 pattern.now }
@@ -58,7 +58,7 @@ pub extern "C" fn port_strip_prefix(raw: &[u8], pattern: &[u8]) -> usize
     }
 }
 
-/// How many bytes are left without each pattern at the front and at the end. The pattern isn't
+/// How many bytes are left without each pattern at the start and at the end. The pattern isn't
 /// empty.
 #[unsafe(no_mangle)]
 pub extern "C" fn port_trim_matches(raw: &[u8], pattern: &[u8]) -> usize
@@ -69,7 +69,7 @@ pub extern "C" fn port_trim_matches(raw: &[u8], pattern: &[u8]) -> usize
     unix(raw).trim_matches(text(pattern)).len()
 }
 
-/// Whether the pattern stands at the front.
+/// Whether the pattern is a prefix.
 #[unsafe(no_mangle)]
 pub extern "C" fn port_starts_with(raw: &[u8], pattern: &[u8]) -> bool
     requires { IsUtf8 pattern.now }
@@ -78,7 +78,7 @@ pub extern "C" fn port_starts_with(raw: &[u8], pattern: &[u8]) -> bool
     unix(raw).starts_with(text(pattern))
 }
 
-/// Whether the pattern stands at the end.
+/// Whether the pattern is a suffix.
 #[unsafe(no_mangle)]
 pub extern "C" fn port_ends_with(raw: &[u8], pattern: &[u8]) -> bool
     requires { IsUtf8 pattern.now }

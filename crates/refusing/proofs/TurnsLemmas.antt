@@ -19,7 +19,7 @@ module _ {Test Heap : Type 0} (step : Test → Heap → Plan → Result (Unit {0
       let longer = sym (map-range_with_len_more Nth 1 turns (turns + 1) (omega arith)) in
       subst (λ plans. RanUnder step first plans last) longer (FoldsTo-push _ first (each_request turns) before (Nth (turns + 1)) last ran (heap, stepped))
 
-  -- a run behind `turns` others answered `Err`
+  -- a run after `turns` others answered `Err`
   pub ended_by_a_run : (turns : ℕ) {before last : Test} {heap : Heap} {error : AllocError} → RanUnder step first (each_request turns) before → step before heap (Nth (turns + 1)) (Err error) last → EndedIn step first error
   unfolding EndedIn
   ended_by_a_run turns ran stepped = inl (turns, _, _, _, ran, stepped)

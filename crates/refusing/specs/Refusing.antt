@@ -1,4 +1,4 @@
--- What stands behind an allocator that refuses.
+-- The allocator inside one that refuses.
 use Rattle.refusing.specs.declared.allocator.Refusing.{Refusing}
 
 -- the allocator to which requests are passed on

@@ -13,7 +13,7 @@ each_request turns = map Nth (range_with_len 1 turns)
 unfoldable pub RanUnder : {Test Heap : Type 0} → (Test → Heap → Plan → Result (Unit {0}) AllocError → Test → Type 0) → Test → List Plan → Test → Type 0
 RanUnder {Heap} step first plans last = FoldsTo (λ before plan after. (heap : Heap) × step before heap plan (Ok tt) after) first plans last
 
--- the runs ended in an error: that of a run behind others that answered `Ok`, or the one for want of further plans
+-- the runs ended in an error: that of a run after others that answered `Ok`, or the one for want of further plans
 unfoldable pub EndedIn : {Test Heap : Type 0} → (Test → Heap → Plan → Result (Unit {0}) AllocError → Test → Type 0) → Test → AllocError → Type 0
 EndedIn {Test} {Heap} step first error =
     ((turns : ℕ) × (before last : Test) × (heap : Heap) × RanUnder step first (each_request turns) before × step before heap (Nth (turns + 1)) (Err error) last)

@@ -1,6 +1,6 @@
 //! For tests: an allocator that refuses requests, so that each path on which memory runs out is run.
 //!
-//! [`Refusing`] stands before another allocator and refuses the requests that a [`Plan`]
+//! [`Refusing`] wraps another allocator and refuses the requests that a [`Plan`]
 //! names. [`for_each_refusal`] refuses each request of a call in turn.
 //!
 //! What is proved is that memory is safe: a block that [`Refusing`] hands out is the inner

@@ -1,4 +1,4 @@
--- What two cuts around a place of a list leave.
+-- What two cuts around a match in a list leave.
 use Rattle.std.proofs.Common.{◌≡◌, ℕ, ◌+◌, List, ◌++◌, length, take, drop, sym, ap, ◌∙◌, append_assoc, length-append}
 use Rattle.std.proofs.Math.Seq.{take-append_seam, drop-append-add, drop-append_seam}
 use Rattle.wtf8_core.specs.Pieces.{SplitsAt}

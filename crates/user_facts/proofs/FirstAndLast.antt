@@ -6,7 +6,7 @@ use Rattle.wtf8_core.specs.Character.{WholeCharacter}
 use Rattle.wtf8_core.specs.CodePoint.{form}
 use Rattle.os_str_ext.specs.Characters.{SplitsFirstChar, SplitsLastChar}
 
--- what std's `encode_utf8` writes of a scalar value is a whole character, wherever it stands
+-- what std's `encode_utf8` writes of a scalar value is a whole character, wherever it occurs
 encoded_stands : ((c : ℕ) → form c ≡ encode_utf8 c) → (s before rest : List ℕ) (c : ℕ) → IsScalar c → s ≡ before ++ (encode_utf8 c ++ rest) → WholeCharacter s (length before) (length before + length (encode_utf8 c))
 encoded_stands forms s before rest c scalar e = record {
   char = c;

@@ -1,4 +1,4 @@
--- What pieces are cut at stands in none of them.
+-- What pieces are cut at occurs in none of them.
 use Rattle.std.proofs.Common.{◌≡◌, ℕ, ◌+◌, ◌<◌, List, [], ◌∷◌, ◌++◌, length, refl, sym, ap, ◌∙◌, arith, append_assoc, length-append}
 use Rattle.std.proofs.lemmas.List.Elements.{All-nil, All-cons}
 use Rattle.std.specs.List.{All}
@@ -6,7 +6,7 @@ use Rattle.wtf8_core.specs.Pieces.{SplitsAt, IsSplit, IsRSplit, whole, cut}
 use Rattle.wtf8_core.specs.Standing.{StandsAt, StandsNowhere, IsLeastPlace, IsGreatestPlace}
 
 module _ (p : List ℕ) (some : 0 < length p) where
-  -- before the least place
+  -- before the least index
   before_least : (s piece rest : List ℕ) → SplitsAt IsLeastPlace p s piece rest → StandsNowhere p piece
   before_least s piece rest c i at =
       let size : length piece ≡ length at.before + (length p + length at.behind) = ap length at.joined ∙ length-append at.before (p ++ at.behind) ∙ ap (λ n. length at.before + n) (length-append p at.behind) in
@@ -19,7 +19,7 @@ module _ (p : List ℕ) (some : 0 < length p) where
       let place = at.place in
       c.found.least i (omega (arith, some, size, place)) earlier
 
-  -- after the greatest place
+  -- after the greatest index
   after_greatest : (s piece rest : List ℕ) → SplitsAt IsGreatestPlace p s rest piece → StandsNowhere p piece
   after_greatest s piece rest c i at =
       let later : StandsAt p s (length (rest ++ (p ++ at.before))) = record {

@@ -1,4 +1,4 @@
--- Where a list stands: within the other, what is cut out there, and one least place.
+-- Where a list occurs: within the other, what is cut out there, and one least index.
 use Rattle.std.proofs.Common.{◌≡◌, ⊎_elim, ℕ, ◌+◌, ◌≤◌, List, ◌++◌, length, take, drop, sym, ap, arith, length-append}
 use Rattle.std.proofs.lemmas.Bool.{cases_lt}
 use Rattle.std.proofs.Math.Seq.{take-append-add, take-append_seam, drop-append_seam}

@@ -1,10 +1,10 @@
--- Why a text is no escape, where a place is known at which no token begins.
+-- Why a text is no escape, where an index is known at which no token begins.
 use Rattle.std.proofs.Common.{◌≡◌, ◌⊎◌, inl, inr, refl, ap, ℕ, Bool, List}
 use Rattle.os_quote.specs.Escape.{IsBadEscapeBy, IsQuoteFaultBy}
 use Rattle.os_quote.specs.declared.error.QuoteError.{QuoteError}
 use Rattle.os_quote.specs.declared.error.QuoteError.TheVariants.{BadEscape, NotCanonical, Memory}
 
--- it is that place, or memory was refused
+-- it is that index, or memory was refused
 pub bad_place : (shows : ℕ → Bool) (well_formed : List ℕ → Type 0) (units : List ℕ → List ℕ) (text : List ℕ) (n : ℕ) → ((m : ℕ) → IsBadEscapeBy shows text m → m ≡ n) → IsBadEscapeBy shows text n
     → (e : QuoteError) → IsQuoteFaultBy shows well_formed units text e → (e ≡ BadEscape n) ⊎ (e ≡ Memory)
 bad_place shows well_formed units text n one bad (BadEscape m) is = inl (ap BadEscape (one m is))

@@ -101,8 +101,8 @@ pub fn ends_before(raw: &[u8], first: usize, second: usize) -> Option<bool>
     Some(first + len <= second)
 }
 
-/// Whether WTF-8 bytes start with what stands before a boundary of theirs and end with what
-/// stands behind it, by units: they always do.
+/// Whether WTF-8 bytes start with what comes before a boundary of theirs and end with what
+/// comes after it, by units: they always do.
 pub fn around_boundary(raw: &[u8], at: usize) -> bool
     requires wtf8 { IsWtf8 raw.now }
     requires within { at ≤ length raw.now }
@@ -130,7 +130,7 @@ pub fn units_once(raw: &[u8], units: &[u16], others: &[u16])
     laws::spelling();
 }
 
-/// A text whose units stand among those of WTF-8 bytes, and which stands in the bytes too.
+/// A text whose units occur among those of WTF-8 bytes, and which occurs in the bytes too.
 pub fn stands_in_bytes(raw: &[u8], text: &str, before: &[u16], behind: &[u16])
     requires wtf8 { IsWtf8 raw.now }
     requires some { 0 < length text.now }

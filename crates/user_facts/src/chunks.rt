@@ -39,7 +39,7 @@ pub fn has_chunks(raw: &[u8])
 }
 
 /// The chunks of a Windows string: the maximal runs of surrogates of the code points that it
-/// spells, each with the scalar values behind it.
+/// spells, each with the scalar values after it.
 pub fn runs<'a>(string: OsStr<'a, Windows>, code_points: &[u32]) -> Utf8Chunks<'a, Windows>
     requires { Spells (bytes string) code_points.now }
     ensures { (runs : List Chunk) × (AreRuns code_points.now runs × (result ≡ map form_chunk runs)) }

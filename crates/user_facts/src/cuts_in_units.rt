@@ -69,7 +69,7 @@ pub fn raw_unchecked_part_in_units<'a, E: Platform + 'a>(
     None
 }
 
-/// The end of an owned raw string from a place on, taken off it.
+/// The end of an owned raw string from an index on, taken off it.
 pub fn taken_off_in_units<E: Platform, A: Allocator + Clone>(
     string: &mut RawOsString<E, A>,
     at: usize,
@@ -80,7 +80,7 @@ pub fn taken_off_in_units<E: Platform, A: Allocator + Clone>(
     string.split_off(at)
 }
 
-/// The start of an owned raw string up to a place, and nothing else of it.
+/// The start of an owned raw string up to an index, and nothing else of it.
 pub fn cut_to_in_units<E: Platform, A: Allocator>(string: &mut RawOsString<E, A>, at: usize)
     requires { IsBoundary (raw_vec_of string.old).items at }
     ensures { E.units (raw_vec_of string.old).items ≡ E.units (raw_vec_of string.new).items ++ E.units (drop at (raw_vec_of string.old).items) }

@@ -8,7 +8,7 @@ use os_quote::{QuoteError, escape, laws, unescape};
 use platform_str::{OsStr, OsString, Platform};
 use std::alloc::{AllocError, Allocator};
 
-/// The string again, by way of its escape. Nothing but want of memory stands in the way.
+/// The string again, by way of its escape. Nothing but want of memory is in the way.
 pub fn there_and_back<E: Platform, A: Allocator + Copy>(
     alloc: A,
     string: OsStr<'_, E>,
@@ -44,7 +44,7 @@ pub fn escape_says<E: Platform, A: Allocator>(
     escape(alloc, string)
 }
 
-/// What comes of a text with a known place at which no token begins: that place, or want of memory.
+/// What comes of a text with a known index at which no token begins: that index, or want of memory.
 pub fn bad_place_says<E: Platform, A: Allocator>(
     alloc: A,
     text: &str,

@@ -1,4 +1,4 @@
-//! What stays: a fault once it was answered, one place of it, and that equal strings hash alike.
+//! What stays: a fault once it was answered, its one index, and that equal strings hash alike.
 ghost use Rattle.std.specs.Prelude.{◌≡◌, ◌↔◌, ◌<◌, ◌^◌, [], Err, IsTrue, IfErr, IfSome};
 ghost use Rattle.std.specs.String.{string_vec};
 ghost use Rattle.wtf8_core.specs.Fault.{IsFaultAt};
@@ -27,7 +27,7 @@ pub fn fault_again(
     (first, second)
 }
 
-/// The place of the fault of bytes of which one is known, which is that one.
+/// The index of the fault of bytes of which one is known, which is that one.
 pub fn fault_place_says(raw: &[u8], at: usize, len: usize) -> Option<(usize, usize)>
     requires { IsFaultAt raw.now at len }
     ensures { IfSome result (λ fault. (fault.0 ≡ at) × (fault.1 ≡ len)) }

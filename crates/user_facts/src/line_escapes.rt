@@ -11,7 +11,7 @@ use os_quote::{QuoteError, escape_line, laws, unescape_line};
 use platform_str::{OsStr, OsString, Platform};
 use std::alloc::{AllocError, Allocator};
 
-/// The string again, by way of its escape on one line. Nothing but want of memory stands in the
+/// The string again, by way of its escape on one line. Nothing but want of memory is in the
 /// way.
 pub fn line_there_and_back<E: Platform, A: Allocator + Copy>(
     alloc: A,
@@ -49,7 +49,7 @@ pub fn line_escape_says<E: Platform, A: Allocator>(
     escape_line(alloc, string)
 }
 
-/// What comes of a text with a known place at which no token begins: that place, or want of memory.
+/// What comes of a text with a known index at which no token begins: that index, or want of memory.
 pub fn bad_line_place_says<E: Platform, A: Allocator>(
     alloc: A,
     text: &str,

@@ -7,7 +7,7 @@ ghost use Rattle.platform_str.specs.Strings.{bytes};
 use os_str_ext::OsStrBytesExt;
 use platform_str::{EncodingError, OsStr, Platform, laws};
 
-/// The parts before and behind a place, if the string may be cut there.
+/// The parts before and after an index, if the string may be cut there.
 pub fn halves<'a, E: Platform + 'a>(
     string: OsStr<'a, E>,
     at: usize,
@@ -22,7 +22,7 @@ pub fn halves<'a, E: Platform + 'a>(
     None
 }
 
-/// The parts before, between and behind two places, if the string may be cut at both.
+/// The parts before, between and after two indices, if the string may be cut at both.
 pub fn three_parts<'a, E: Platform + 'a>(
     string: OsStr<'a, E>,
     start: usize,
@@ -41,7 +41,7 @@ pub fn three_parts<'a, E: Platform + 'a>(
     None
 }
 
-/// The same parts, cut at the second place first.
+/// The same parts, cut at the second index first.
 pub fn three_parts_from_the_end<'a, E: Platform + 'a>(
     string: OsStr<'a, E>,
     start: usize,
@@ -72,7 +72,7 @@ pub fn part_is_accepted<'a, E: Platform + 'a>(
     E::check(front.as_encoded_bytes())
 }
 
-/// The strings before and behind a boundary of well-formed bytes.
+/// The strings before and after a boundary of well-formed bytes.
 pub fn halves_of_bytes<'a, E: Platform + 'a>(
     raw: &'a [u8],
     at: usize,
@@ -101,7 +101,7 @@ pub fn halves_of_text<'a, E: Platform + 'a>(string: OsStr<'a, E>, at: usize) -> 
     front.to_str().is_some() && back.to_str().is_some()
 }
 
-/// Whether a text may be cut at a place as a `str` and as a string: never one alone.
+/// Whether a text may be cut at an index as a `str` and as a string: never one alone.
 pub fn cuts_agree<E: Platform>(text: &str, at: usize) -> bool
     ensures { IsTrue result }
 {

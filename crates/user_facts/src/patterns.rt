@@ -10,7 +10,7 @@ ghost use Rattle.os_str_bytes.specs.Raw.{raw_bytes};
 use os_str_bytes::{OsStr, OsStrBytesExt, Platform, RawOsStr};
 use os_str_ext::search_laws;
 
-/// The first places of a character, of a text and of an owned text.
+/// The first indices of a character, of a text and of an owned text.
 pub fn found_by_each<'a, E: Platform + 'a>(
     string: OsStr<'a, E>,
     character: char,
@@ -29,7 +29,7 @@ pub fn found_by_each<'a, E: Platform + 'a>(
     )
 }
 
-/// Where the first place of a text in a raw string ends, and it may be cut there.
+/// Where the first match of a text in a raw string ends; it may be cut there.
 pub fn raw_behind_first<'a, E: Platform + 'a>(string: RawOsStr<'a, E>, text: &str) -> Option<usize>
     ensures { IfSome result (λ end. IsBoundary (raw_bytes string.entry) end) }
 {
@@ -37,7 +37,7 @@ pub fn raw_behind_first<'a, E: Platform + 'a>(string: RawOsStr<'a, E>, text: &st
     Some(at + text.len())
 }
 
-/// The same of the last place.
+/// The same of the last match.
 pub fn raw_behind_last<'a, E: Platform + 'a>(string: RawOsStr<'a, E>, text: &str) -> Option<usize>
     ensures { IfSome result (λ end. IsBoundary (raw_bytes string.entry) end) }
 {

@@ -7,7 +7,7 @@ ghost use Rattle.platform_str.specs.Strings.{bytes};
 use os_str_ext::{OsStrBytesExt, RSplit, Split};
 use platform_str::{OsStr, Platform};
 
-/// The pieces of a string in which a pattern stands nowhere: the string alone.
+/// The pieces of a string in which a pattern doesn't occur: the string alone.
 pub fn uncut<'a, E: Platform + 'a>(string: OsStr<'a, E>, text: &'a str) -> Split<'a, E, &'a str>
     requires some { 0 < length text.now }
     requires nowhere { StandsNowhere text.now (bytes string) }

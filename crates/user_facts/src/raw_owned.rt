@@ -70,7 +70,7 @@ pub fn through_text<E: Platform, A: Allocator>(string: RawOsString<E, A>) -> Raw
     }
 }
 
-/// The end of a string from a place on, taken off it, if it may be cut there: joined the two are
+/// The end of a string from an index on, taken off it, if it may be cut there: joined the two are
 /// what it was. Where memory is refused the string is as it was.
 pub fn taken_off<E: Platform, A: Allocator + Clone>(
     string: &mut RawOsString<E, A>,
@@ -87,7 +87,7 @@ pub fn taken_off<E: Platform, A: Allocator + Clone>(
     Ok(Some(string.split_off(at)?))
 }
 
-/// The start of a string up to a place, if it may be cut there, and nothing else of it.
+/// The start of a string up to an index, if it may be cut there, and nothing else of it.
 pub fn cut_to<E: Platform, A: Allocator>(string: &mut RawOsString<E, A>, at: usize) -> bool
     ensures cut { IsTrue result ↔ IsBoundary (raw_vec_of string.old).items at }
     ensures start { IsTrue result → (raw_vec_of string.new).items ≡ take at (raw_vec_of string.old).items }

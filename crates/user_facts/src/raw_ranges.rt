@@ -51,7 +51,7 @@ pub fn part_unchecked<'a, E: Platform + 'a>(
     None
 }
 
-/// The parts of a raw string before and after a place, if it may be cut there: joined they are the
+/// The parts of a raw string before and after an index, if it may be cut there: joined they are the
 /// string.
 pub fn raw_halves<'a, E: Platform + 'a>(
     string: RawOsStr<'a, E>,

@@ -6,7 +6,7 @@ ghost use Rattle.os_str_bytes.specs.Raw.{raw_bytes};
 
 use os_str_bytes::{OsStrBytesExt, Platform, RawOsStr};
 
-/// The parts before the first place of a pattern and after it, by two cuts.
+/// The parts before the first match of a pattern and after it, by two cuts.
 pub fn around_first<'a, S: OsStrBytesExt<'a> + Copy>(string: S, pattern: &str) -> Option<(S, S)>
     ensures { SplitsOnce IsLeastPlace S.bytes_of pattern.now (S.bytes_of string) result }
 {
@@ -18,7 +18,7 @@ pub fn around_first<'a, S: OsStrBytesExt<'a> + Copy>(string: S, pattern: &str) -
     Some((front, back))
 }
 
-/// The parts before the last place of a pattern and after it, by two cuts.
+/// The parts before the last match of a pattern and after it, by two cuts.
 pub fn around_last<'a, S: OsStrBytesExt<'a> + Copy>(string: S, pattern: &str) -> Option<(S, S)>
     ensures { SplitsOnce IsGreatestPlace S.bytes_of pattern.now (S.bytes_of string) result }
 {
@@ -30,7 +30,7 @@ pub fn around_last<'a, S: OsStrBytesExt<'a> + Copy>(string: S, pattern: &str) ->
     Some((front, back))
 }
 
-/// The parts of a raw string before the first place of a pattern and after it, by two cuts.
+/// The parts of a raw string before the first match of a pattern and after it, by two cuts.
 pub fn raw_around_first<'a, E: Platform + 'a>(
     string: RawOsStr<'a, E>,
     pattern: &str,
@@ -45,7 +45,7 @@ pub fn raw_around_first<'a, E: Platform + 'a>(
     Some((front, back))
 }
 
-/// The parts of a raw string before the last place of a pattern and after it, by two cuts.
+/// The parts of a raw string before the last match of a pattern and after it, by two cuts.
 pub fn raw_around_last<'a, E: Platform + 'a>(
     string: RawOsStr<'a, E>,
     pattern: &str,

@@ -1,4 +1,4 @@
-//! Where texts stand: by bytes and by units alike.
+//! Where texts occur: by bytes and by units alike.
 ghost use Rattle.std.specs.Prelude.{◌≡◌, ◌<◌, ℕ, Some, IsTrue, length};
 ghost use Rattle.wtf8_core.specs.Standing.{StandsAt, IsLeastPlace};
 ghost use Rattle.wtf8_core.specs.UnitPlace.{IsBytePlace, IsUnitPlaceOf};
@@ -8,7 +8,7 @@ use crate::texts::cut_out;
 use os_str_ext::OsStrBytesExt;
 use platform_str::{OsStr, Platform, laws};
 
-/// A text whose units stand at a unit place of a string, which stands at the byte place of it.
+/// A text whose units occur at a unit index of a string, and which occurs at its byte index.
 pub fn byte_place<'a, E: Platform + 'a>(
     string: OsStr<'a, E>,
     text: &str,
@@ -22,7 +22,7 @@ pub fn byte_place<'a, E: Platform + 'a>(
     string
 }
 
-/// A text that stands at a byte place of a string, whose units stand at the unit place of it.
+/// A text that occurs at a byte index of a string, and whose units occur at its unit index.
 pub fn unit_place<'a, E: Platform + 'a>(string: OsStr<'a, E>, text: &str, at: usize) -> OsStr<'a, E>
     requires some { 0 < length text.now }
     requires stands { StandsAt text.now (bytes string) at }
@@ -32,7 +32,7 @@ pub fn unit_place<'a, E: Platform + 'a>(string: OsStr<'a, E>, text: &str, at: us
     string
 }
 
-/// A text whose units stand at a unit place of which the byte place is known, cut out there.
+/// A text whose units occur at a unit index of which the byte index is known, cut out there.
 pub fn cut_out_by_units<'a, E: Platform + 'a>(
     string: OsStr<'a, E>,
     text: &str,
@@ -48,7 +48,7 @@ pub fn cut_out_by_units<'a, E: Platform + 'a>(
     cut_out(string, text, at)
 }
 
-/// The first place of a text of which the place by units is known, which is its byte place.
+/// The first index of a text of which the index by units is known, which is its byte index.
 pub fn found_by_units<'a, E: Platform + 'a>(
     string: OsStr<'a, E>,
     text: &str,
@@ -61,7 +61,7 @@ pub fn found_by_units<'a, E: Platform + 'a>(
     string.find(text)
 }
 
-/// Whether a string contains a text whose units stand somewhere in its units: it always does.
+/// Whether a string contains a text whose units occur in its units: it always does.
 pub fn contained_by_units<'a, E: Platform + 'a>(
     string: OsStr<'a, E>,
     text: &str,

@@ -76,7 +76,7 @@ pub fn io_lossy_is_safe<'a, E: Platform + 'a>(
     Ok(E::is_io_safe(io.as_bytes()))
 }
 
-/// The string behind its first character.
+/// The string after its first character.
 pub fn behind_first<'a, E: Platform + 'a>(string: OsStr<'a, E>) -> Option<OsStr<'a, E>>
     ensures { IfSome result (λ rest. length (bytes rest) < length (bytes string.entry)) }
 {
@@ -87,7 +87,7 @@ pub fn behind_first<'a, E: Platform + 'a>(string: OsStr<'a, E>) -> Option<OsStr<
     Some(OsStr::from_encoded_bytes_unchecked(&raw[len..]))
 }
 
-/// How many bytes U+FFFD stands for at the front of a string's lossy text.
+/// How many bytes U+FFFD replaces at the start of a string's lossy text.
 pub fn replaced<'a, E: Platform + 'a>(string: OsStr<'a, E>) -> usize
     requires some { 0 < length (bytes string) }
     requires bare { StartsBare (bytes string) }
@@ -172,7 +172,7 @@ pub fn wtf8_lossy_is_text(raw: &[u8])
     wtf8_core::laws::lossy_text();
 }
 
-/// A text that stands in a string, cut out of it.
+/// A text that occurs in a string, cut out of it.
 pub fn cut_out<'a, E: Platform + 'a>(string: OsStr<'a, E>, text: &str, at: usize) -> OsStr<'a, E>
     requires some { 0 < length text.now }
     requires stands { StandsAt text.now (bytes string) at }

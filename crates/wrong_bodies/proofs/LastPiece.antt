@@ -4,14 +4,14 @@ use Rattle.std.proofs.Math.Seq.{drop-append-add, drop-append_seam}
 use Rattle.wtf8_core.specs.Pieces.{IsRSplit, cut, whole}
 use Rattle.wtf8_core.specs.Standing.{IsGreatestPlace}
 
--- there is one greatest place
+-- there is one greatest index
 one_greatest : (p s : List ℕ) (i j : ℕ) → IsGreatestPlace p s i → IsGreatestPlace p s j → i ≡ j
 one_greatest p s i j a b =
     let before : ¬ (i < j) = λ l. a.greatest j l b.stands in
     let behind : ¬ (j < i) = λ l. b.greatest i l a.stands in
     omega (arith, before, behind)
 
--- it is what stands behind the greatest place
+-- it is what comes after the greatest index
 pub behind_greatest : (p s piece : List ℕ) (pieces : List (List ℕ)) (at : ℕ) → IsRSplit p s (piece ∷ pieces) → IsGreatestPlace p s at → piece ≡ drop (at + length p) s
 behind_greatest p s piece pieces at (whole w) g = absurd (w at g.stands)
 behind_greatest p s piece pieces at (cut {rest = rest} c falls) g =

@@ -10,14 +10,14 @@ use os_str_ext::{OsStrBytesExt, SliceIndex};
 use platform_str::{OsStr, Platform};
 use std::alloc::Allocator;
 
-/// Whether a string may be cut at a place.
+/// Whether a string may be cut at an index.
 pub fn boundary<'a, E: Platform + 'a>(string: OsStr<'a, E>, at: usize) -> bool
     ensures { IsTrue result ↔ IsBoundary (bytes string.entry) at }
 {
     string.is_boundary(at)
 }
 
-/// The part from the front to a last byte, where that fits.
+/// The part from the start to a last byte, where that fits.
 pub fn part_to<'a, E: Platform + 'a>(string: OsStr<'a, E>, last: usize) -> Option<OsStr<'a, E>>
     ensures fits { IsSome result ↔ FitsIn (bytes string.entry) 0 (last + 1) }
     ensures part { IfSome result (λ part. bytes part ≡ take (last + 1) (bytes string.entry)) }
@@ -29,7 +29,7 @@ pub fn part_to<'a, E: Platform + 'a>(string: OsStr<'a, E>, last: usize) -> Optio
     None
 }
 
-/// The parts before and behind a place, where it is a boundary.
+/// The parts before and after an index, where it is a boundary.
 pub fn parts_at<'a, E: Platform + 'a>(
     string: OsStr<'a, E>,
     at: usize,
@@ -42,7 +42,7 @@ pub fn parts_at<'a, E: Platform + 'a>(
     None
 }
 
-/// Cuts an owned string off at a place, where that is a boundary.
+/// Cuts an owned string off at an index, where that is a boundary.
 pub fn cut_off<E: Platform, A: Allocator>(string: &mut RawOsString<E, A>, at: usize)
     ensures { IsBoundary (raw_vec_of string.old).items at → (raw_vec_of string.new).items ≡ take at (raw_vec_of string.old).items }
 {

@@ -1,8 +1,8 @@
-//! For trying: calls under the words of their own contracts, in whose place edits put wrong bodies.
+//! For trying: calls under the words of their own contracts, and wrong bodies put in by edits.
 //!
-//! That a call's contract says at least what stands here is proved. That what stands here refuses
-//! the wrong bodies is what the edits in `must-fail` show. They stand here, above the libraries, so
-//! that no large crate is proved again for them.
+//! It is proved that a call's contract says at least what is said here. The edits in `edits/` show
+//! that these words refuse the wrong bodies. They are in a crate above the libraries, so that no
+//! large crate is proved again for them.
 #![tactic(auto)]
 
 mod checks;

@@ -8,7 +8,7 @@ ghost use Rattle.platform_str.specs.Strings.{bytes};
 use os_str_ext::OsStrBytesExt;
 use platform_str::{OsStr, Platform};
 
-/// The least place of a text.
+/// The first index of a text.
 pub fn find<'a, E: Platform + 'a>(string: OsStr<'a, E>, text: &str) -> Option<usize>
     ensures bytes { Finds IsLeastPlace text.now (bytes string.entry) result }
     ensures units { FindsInUnits IsLeastPlace E.well_formed E.units text.now (bytes string.entry) result }
@@ -16,7 +16,7 @@ pub fn find<'a, E: Platform + 'a>(string: OsStr<'a, E>, text: &str) -> Option<us
     string.find(text)
 }
 
-/// The parts around the greatest place of a text.
+/// The parts around the last match of a text.
 pub fn rsplit_once<'a, E: Platform + 'a>(
     string: OsStr<'a, E>,
     text: &str,
@@ -26,7 +26,7 @@ pub fn rsplit_once<'a, E: Platform + 'a>(
     string.rsplit_once(text)
 }
 
-/// Whether the units of one string are a front of another's.
+/// Whether the units of one string are a prefix of another's.
 pub fn starts_with_os<'a, E: Platform + 'a>(string: OsStr<'a, E>, front: OsStr<'a, E>) -> bool
     ensures { IsTrue result ↔ IsFront (E.units (bytes front.entry)) (E.units (bytes string.entry)) }
 {

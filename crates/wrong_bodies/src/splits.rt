@@ -32,7 +32,7 @@ pub fn two_pieces<'a, E: Platform + 'a>(
     (first, second)
 }
 
-/// The first piece from the end, which stands behind the greatest place of the pattern.
+/// The first piece from the end, which is after the last match of the pattern.
 #[tactic(auto, using(crate::proofs::LastPiece::behind_greatest))]
 pub fn last_piece<'a, E: Platform + 'a>(string: OsStr<'a, E>, text: &'a str) -> Option<OsStr<'a, E>>
     requires { 0 < length text.now }

@@ -35,7 +35,7 @@ front_byte u v xs ys e =
     let second : hex_digit (u % 16) ≡ hex_digit (v % 16) = cc in
     (same_byte u v first second, cc)
 
--- a line at the front decides its unit and what follows it
+-- a line that comes first decides its unit and what follows it
 front_line : (os : Os) (u v : ℕ) (xs ys : List ℕ) → unit_line os u ++ xs ≡ unit_line os v ++ ys → (u ≡ v) × (xs ≡ ys)
 front_line Unix u v xs ys e = front_byte u v xs ys e
 front_line Wasm u v xs ys e = front_byte u v xs ys e

@@ -1,5 +1,5 @@
 //! Files `checker`: bytes in pieces, and what a checker answers to each piece and at the end. The
-//! bytes are also fed cut in two at every place.
+//! bytes are also fed cut in two at every index.
 use crate::fault_text::fault_text;
 use answer_files::hex_text::read_bytes;
 use answer_files::{Column, LineError};

@@ -1,4 +1,4 @@
-//! Files `ranges`: a platform, a string of it, a range of places, and the bytes in the range.
+//! Files `ranges`: a platform, a string of it, a range of indices, and the bytes in the range.
 use crate::platforms::PlatformKind;
 use crate::raw_strings::{Question, add_string, ask_each};
 use answer_files::hex_text::read_bytes;
@@ -52,7 +52,7 @@ impl<'a> Question for Index<'a> {
     }
 }
 
-/// One of Rust's six forms of ranges of places.
+/// One of Rust's six forms of ranges of indices.
 #[derive(Clone, Copy)]
 enum PlaceRange {
     Full,

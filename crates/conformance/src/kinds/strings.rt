@@ -133,7 +133,7 @@ fn ask_io_bytes<'a, E: Platform>(
     )
 }
 
-/// For each place up to one past the length, whether the string may be cut there.
+/// For each index up to one past the length, whether the string may be cut there.
 fn boundary_flags<'s, E: Platform + 's>(
     alloc: Global,
     string: RawOsStr<'s, E>,

@@ -24,7 +24,7 @@ impl PlatformKind for Unescaped {
     }
 }
 
-/// What `unescape` answers: the string, the place of a bad escape, or that there is no such
+/// What `unescape` answers: the string, the index of a bad escape, or that there is no such
 /// string.
 fn answer_text<E: Platform>(alloc: Global, text: &str) -> Result<String, AllocError> {
     match unescape::<E, Global>(alloc, text) {

@@ -1,4 +1,4 @@
-//! Files `windows_join`: two Windows strings, the second pushed behind the first, the first
+//! Files `windows_join`: two Windows strings, the second pushed onto the first, the first
 //! three times, and how the two are ordered.
 use crate::asked::ask_headline;
 use crate::platforms;

@@ -1,9 +1,9 @@
--- A list that is filled from the front.
+-- A list that is filled from its start.
 use Rattle.std.proofs.Common.{◌≡◌, ℕ, ◌+◌, ◌<◌, List, [], ◌∷◌, ◌++◌, length, take, drop, set, subst, sym, ap, ◌∙◌, arith}
 use Rattle.std.proofs.lemmas.List.{take_more_set, drop-set-lt, drop-drop, length-set}
 use Rattle.os_str_bytes_c.specs.Answers.{IsFilled}
 
--- one more item is written behind the others
+-- one more item is written after the others
 pub one_more : (Wanted Then : List ℕ → Type 0) (old new : List ℕ) (count x : ℕ)
     → ((done : List ℕ) → Wanted done → Then (done ++ x ∷ [])) → count < length new
     → IsFilled Wanted old new count → IsFilled Then old (set new count x) (count + 1)
