@@ -3,12 +3,13 @@ ghost use Rattle.std.specs.Prelude.{◌≡◌, ◌∷◌, ◌↔◌, IsTrue};
 ghost use Rattle.os_glob.specs.declared.item.Wildcard.TheVariants.{Star, DoubleStar};
 ghost use Rattle.os_glob.specs.Pattern.{Run};
 ghost use Rattle.os_glob.specs.Match.{Matches};
+ghost use Rattle.os_glob.specs.Skips.{Skips};
 ghost use Rattle.os_glob.specs.Parts.{PieceSays, PartSays, SkipsComponent};
 
 use crate::item::Wildcard;
 use crate::observer::Observer;
 use crate::place::{Place, Places};
-use crate::token::{Token, Tokens};
+use crate::token::{Start, Token, Tokens};
 use os_str_ext::Platform;
 
 /// How far a pattern goes without a wildcard.
@@ -70,6 +71,7 @@ fn is_after_double_star<E: Platform, O: Observer>(
     let mut left = tokens;
     let mut from = places;
     loop {
+        skip_places(Wildcard::DoubleStar, &left, &mut from, observer);
         match first_part(left.again(), from.again(), observer) {
             Part::All => return true,
             Part::Ends => return false,
@@ -91,6 +93,24 @@ fn is_after_double_star<E: Platform, O: Observer>(
                 }
             }
         }
+    }
+}
+
+/// Takes off places that a wildcard takes and at which the tokens don't match, as far as a search for
+/// a byte tells.
+#[inline(always)]
+fn skip_places<E: Platform, O: Observer>(
+    wildcard: Wildcard,
+    tokens: &Tokens<'_>,
+    places: &mut Places<'_, E>,
+    observer: &mut O,
+)
+    ensures { Skips wildcard tokens.now places.old places.new }
+{
+    match tokens.start() {
+        Start::End => places.skip(wildcard, None, observer),
+        Start::Byte(byte) => places.skip(wildcard, Some(byte), observer),
+        Start::Other => {}
     }
 }
 
@@ -137,6 +157,7 @@ fn part_after_star<'p, 'a, E: Platform, O: Observer>(
     let mut left = tokens;
     let mut from = places;
     loop {
+        skip_places(Wildcard::Star, &left, &mut from, observer);
         match first_piece(left.again(), from.again(), observer) {
             Piece::All => return Part::All,
             Piece::Ends => return Part::Ends,
