@@ -10,8 +10,8 @@ use Rattle.std.proofs.lemmas.Str.{IsCharBoundary-at_seam, IsCharBoundary-end, Is
 use Rattle.std.proofs.Math.Seq.{take-add}
 use Rattle.std.proofs.Math.Utf8.{scalar, scalar_cases}
 use Rattle.wtf8_core.specs.CodePoint.{form}
-use Rattle.wtf8_core.proofs.lemmas.Forms.{form_ascii, form_past}
-use Rattle.wtf8_core.proofs.lemmas.FormsByStd.{form_encode}
+use Rattle.wtf8_core.proofs.lemmas.forms.Shapes.{form_ascii, form_past}
+use Rattle.wtf8_core.proofs.lemmas.forms.ByStd.{form_encode}
 use Rattle.os_quote.specs.Shown.{stays_on_line}
 use Rattle.os_quote.specs.Standing.{is_suspect, Stands, AllStand, AllClear, IsNextSuspect}
 

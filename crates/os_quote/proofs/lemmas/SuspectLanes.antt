@@ -5,7 +5,7 @@ use Rattle.std.specs.Int.{IsInRange}
 use Rattle.std.specs.Int.Bits.{and_zero_l}
 use Rattle.std.specs.List.{slice_index}
 use Rattle.wtf8_core.proofs.lemmas.scan.ComputedTests.{fails}
-use Rattle.wtf8_core.proofs.lemmas.Ranges.{in_range-true}
+use Rattle.wtf8_core.proofs.lemmas.forms.Ranges.{in_range-true}
 use Rattle.os_quote.specs.declared.lanes.TheConstants.{SECOND_HIGH}
 use Rattle.os_quote.specs.Standing.{is_suspect, lead_bits, suspect_bits}
 

@@ -8,9 +8,9 @@ use Rattle.std.specs.Str.{IsUtf8}
 use Rattle.wtf8_core.specs.Boundary.{IsBoundary}
 use Rattle.wtf8_core.specs.Chunks.{Chunk, joined, AreChunks}
 use Rattle.wtf8_core.specs.Covered.{IsBare}
-use Rattle.wtf8_core.proofs.lemmas.Characters.{none_begins}
-use Rattle.wtf8_core.proofs.lemmas.Cuts.{utf8_cut}
-use Rattle.wtf8_core.proofs.lemmas.Texts.{no_text_begins}
+use Rattle.wtf8_core.proofs.lemmas.characters.AtPlaces.{none_begins}
+use Rattle.wtf8_core.proofs.lemmas.forms.Cuts.{utf8_cut}
+use Rattle.wtf8_core.proofs.lemmas.texts.AreWtf8.{no_text_begins}
 use Rattle.os_str_ext.specs.Chunks.{IsChunkOf}
 use Rattle.os_str_ext.proofs.lemmas.CutUnits.{part_in_units}
 use Rattle.os_str_ext.proofs.lemmas.EachChunk.{are_chunks_of, first_of}
