@@ -5,3 +5,4 @@ pub mod NameEnd
 pub mod OneReading
 pub mod Joined
 pub mod Steps
+pub mod OneOutcome

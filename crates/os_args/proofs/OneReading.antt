@@ -60,7 +60,7 @@ not_bare s rest c scalar e bare = bare (length (form c)) (record {
   end = omega arith;
 })
 
-one_flag : (s : List ℕ) (kind other : Kind) (rest left : List ℕ) → IsFlag s kind rest → IsFlag s other left → (kind ≡ other) × (rest ≡ left)
+pub one_flag : (s : List ℕ) (kind other : Kind) (rest left : List ℕ) → IsFlag s kind rest → IsFlag s other left → (kind ≡ other) × (rest ≡ left)
 one_flag s (Long n) other rest left a b = absurd a
 one_flag s (LongBytes n) other rest left a b = absurd a
 one_flag s (Short c) (Long n) rest left a b = absurd b

@@ -1,14 +1,27 @@
 //! What holds of words and of the steps that take them: each law is the contract of a function that
 //! does nothing.
-ghost use Rattle.std.specs.Prelude.{◌≡◌, ◌<◌, ◌≤◌, ℕ, Bool, List, Some, Ok};
+ghost use Rattle.std.specs.Prelude.{◌≡◌, ◌<◌, ◌≤◌, ℕ, Bool, List, Option, Result, Some, Ok};
 ghost use Rattle.os_args.specs.Word.{Kind, IsReadAs};
-ghost use Rattle.os_args.specs.Reading.{Reading, TakesWord};
+ghost use Rattle.os_args.specs.Reading.{Reading, Fault, TakesWord, TakesValue, TakesOptionalValue, TakesRest};
 ghost use Rattle.os_args.specs.Joining.{Step, IsStep, AreSteps, IsJoinedAgain, all_left, weight};
 
 /// A word is read in one way.
 pub fn one_reading()
     ensures { (numbers : Bool) → (s : List ℕ) → (kind : Kind) → (other : Kind) → (rest : List ℕ) → (left : List ℕ)
         → IsReadAs numbers s kind rest → IsReadAs numbers s other left → (kind ≡ other) × (rest ≡ left) }
+{}
+
+/// A step gives one outcome, and leaves the words in one way: whatever its definition admits is what
+/// the call gives.
+pub fn one_outcome()
+    ensures next { (before : Reading) → (one : Result (Option Kind) Fault) → (other : Result (Option Kind) Fault) → (after : Reading) → (left : Reading)
+        → TakesWord before one after → TakesWord before other left → (one ≡ other) × (after ≡ left) }
+    ensures value { (before : Reading) → (one : Result (List ℕ) Fault) → (other : Result (List ℕ) Fault) → (after : Reading) → (left : Reading)
+        → TakesValue before one after → TakesValue before other left → (one ≡ other) × (after ≡ left) }
+    ensures optional { (before : Reading) → (one : Option (List ℕ)) → (other : Option (List ℕ)) → (after : Reading) → (left : Reading)
+        → TakesOptionalValue before one after → TakesOptionalValue before other left → (one ≡ other) × (after ≡ left) }
+    ensures rest { (before : Reading) → (one : Result (List (List ℕ)) Fault) → (other : Result (List (List ℕ)) Fault) → (after : Reading) → (left : Reading)
+        → TakesRest before one after → TakesRest before other left → (one ≡ other) × (after ≡ left) }
 {}
 
 /// The words that were given are what the steps handed over, in order, each text with what stands
