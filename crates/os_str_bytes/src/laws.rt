@@ -11,9 +11,10 @@ ghost use Rattle.wtf8_core.specs.Lossy.{IsLossyText, IsWtf8LossyText};
 ghost use Rattle.wtf8_core.specs.PartUnits.{AreLoneSurrogates};
 ghost use Rattle.wtf8_core.specs.Utf8.{IsIllFormedPart};
 ghost use Rattle.wtf8_core.specs.LossyReading.{IsLossyReading};
-ghost use Rattle.platform_str.specs.Platforms.{AreBytes, AreWideUnits, IsNoFault, IsWtf8Fault, IsTextFault, IsThree};
-ghost use Rattle.platform_str.specs.PartLaws.{AreAboveAscii, AreNone};
-ghost use Rattle.platform_str.specs.ReadingLaws.{IsSame};
+ghost use Rattle.platform_str.specs.Platforms.{AreWideUnits, IsThree};
+ghost use Rattle.platform_str.specs.platforms.Unix.{AreAboveAscii, AreBytes, IsNoFault, IsSame};
+ghost use Rattle.platform_str.specs.platforms.Windows.{IsWtf8Fault};
+ghost use Rattle.platform_str.specs.platforms.Wasm.{AreNone, IsTextFault};
 ghost use Rattle.os_str_bytes.specs.Raw.{raw_bytes, raw_vec_of};
 ghost use Rattle.os_str_bytes.specs.Headline.{IsPlatform, AreItself};
 

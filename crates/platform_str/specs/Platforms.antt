@@ -1,16 +1,10 @@
--- What is well formed, what units are listed, and what the faults are, platform by platform.
+-- Words that more than one platform uses, and that bytes are units of 16 bits. Each platform's own are in `platforms`.
 use Rattle.std.specs.Prelude.{◌≡◌, ℕ, ◌<◌, ◌^◌, List}
+use Rattle.std.proofs.Common.{arith}
 use Rattle.std.specs.List.{All}
-use Rattle.wtf8_core.specs.Fault.{IsFirstFault}
-use Rattle.wtf8_core.specs.Utf8.{IsUtf8Fault}
-use Rattle.wtf8_core.specs.declared.fault.EncodingError.{EncodingError}
-use Rattle.wtf8_core.specs.declared.fault.EncodingError.TheVariants.{Byte, CodePoint, End, Utf8}
+use Rattle.wtf8_core.specs.Byte.{IsByte}
 
--- Unix: any bytes
-abbrev pub AreBytes : List ℕ → Type 0
-AreBytes b = All (λ x. x < 256) b
-
--- Windows: any 16-bit units
+-- units of 16 bits
 abbrev pub AreWideUnits : List ℕ → Type 0
 AreWideUnits us = All (λ u. u < 2 ^ 16) us
 
@@ -18,21 +12,10 @@ AreWideUnits us = All (λ u. u < 2 ^ 16) us
 abbrev pub itself : List ℕ → List ℕ
 itself b = b
 
--- Unix: no bytes are refused
-abbrev pub IsNoFault : List ℕ → EncodingError → Type 0
-IsNoFault b fault = ⊥
-
--- Windows: the first fault of bytes that aren't WTF-8
-abbrev pub IsWtf8Fault : List ℕ → EncodingError → Type 0
-IsWtf8Fault b fault = (cs : List ℕ) × IsFirstFault b cs fault
-
--- wasm: the first fault of bytes that aren't UTF-8
-abbrev pub IsTextFault : List ℕ → EncodingError → Type 0
-IsTextFault b (Utf8 valid_up_to error_len) = IsUtf8Fault b valid_up_to error_len
-IsTextFault b (Byte x) = ⊥
-IsTextFault b (CodePoint c) = ⊥
-IsTextFault b End = ⊥
-
 -- Windows: one U+FFFD stands for the three bytes of a surrogate; wasm: it never stands
 abbrev pub IsThree : List ℕ → ℕ → Type 0
 IsThree b n = n ≡ 3
+
+-- bytes are numbers of 16 bits
+pub wide_bytes : (b : List ℕ) → All IsByte b → AreWideUnits b
+wide_bytes b h k d lt = omega (arith, h k d lt)

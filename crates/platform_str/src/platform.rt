@@ -5,9 +5,7 @@ ghost use Rattle.platform_str.specs.Lossy.{IsFaultPart};
 ghost use Rattle.wtf8_core.specs.Standing.{IsFront, IsEnd};
 ghost use Rattle.wtf8_core.specs.StandingLaws.{StandingLaws};
 ghost use Rattle.wtf8_core.specs.declared.fault.EncodingError.{EncodingError};
-ghost use Rattle.platform_str.specs.Laws.{PlatformLaws};
-ghost use Rattle.platform_str.specs.PartLaws.{PartLaws, IsFirstUnit};
-ghost use Rattle.platform_str.specs.ReadingLaws.{ReadingLaws};
+ghost use Rattle.platform_str.specs.Laws.{PlatformLaws, PartLaws, ReadingLaws, IsFirstUnit};
 
 use std::alloc::{AllocError, Allocator};
 use wtf8_core::EncodingError;
