@@ -11,9 +11,8 @@ ghost use Rattle.wtf8_core.specs.Standing.{StandsNowhere, IsLeastPlace, IsGreate
 
 use crate::pattern::Pattern;
 
-/// A pattern that isn't empty doesn't occur in what is before its least place, nor in what follows
-/// its greatest one. So it doesn't in what `split_once` gives first, nor in what `rsplit_once`
-/// gives last.
+/// A pattern that isn't empty doesn't occur before its first occurrence, nor after its last one. So
+/// it doesn't in what `split_once` gives first, nor in what `rsplit_once` gives last.
 pub fn around_place()
     ensures before_least { (p : List ℕ) → (s : List ℕ) → (front : List ℕ) → (back : List ℕ)
         → 0 < length p
