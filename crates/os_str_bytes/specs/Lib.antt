@@ -30,7 +30,7 @@ pub use Rattle.platform_str.specs.Cows
 pub use Rattle.platform_str.specs.Display
 pub use Rattle.platform_str.specs.Laws
 pub use Rattle.platform_str.specs.Lossy as IoLossy
-pub use Rattle.platform_str.specs.Platforms
+pub use Rattle.platform_str.specs.PlatformWords
 pub use Rattle.platform_str.specs.Strings
 pub use Rattle.platform_str.specs.platforms.Unix as UnixLaws
 pub use Rattle.platform_str.specs.platforms.Wasm as WasmLaws

@@ -11,7 +11,7 @@ ghost use Rattle.wtf8_core.specs.Lossy.{IsLossyText, IsWtf8LossyText};
 ghost use Rattle.wtf8_core.specs.PartUnits.{AreLoneSurrogates};
 ghost use Rattle.wtf8_core.specs.Utf8.{IsIllFormedPart};
 ghost use Rattle.wtf8_core.specs.LossyReading.{IsLossyReading};
-ghost use Rattle.platform_str.specs.Platforms.{AreWideUnits, IsThree};
+ghost use Rattle.platform_str.specs.PlatformWords.{AreWideUnits, IsThree};
 ghost use Rattle.platform_str.specs.platforms.Unix.{AreAboveAscii, AreBytes, IsNoFault, IsSame};
 ghost use Rattle.platform_str.specs.platforms.Windows.{IsWtf8Fault};
 ghost use Rattle.platform_str.specs.platforms.Wasm.{AreNone, IsTextFault};

@@ -8,7 +8,7 @@ use Rattle.wtf8_core.specs.PartUnits.{unit_bytes}
 use Rattle.wtf8_core.specs.Boundary.{IsBoundary}
 use Rattle.wtf8_core.specs.Lossy.{replacement}
 use Rattle.wtf8_core.specs.declared.fault.EncodingError.{EncodingError}
-use Rattle.platform_str.specs.Platforms.{AreWideUnits}
+use Rattle.platform_str.specs.PlatformWords.{AreWideUnits}
 
 -- one U+FFFD stands for the first n bytes, and what follows them is well formed
 pub record IsReplaced (well_formed : List ℕ → Type 0) (lossy : List ℕ → List ℕ) (b : List ℕ) (n : ℕ) : Type 0 where

@@ -1,6 +1,6 @@
 pub mod Bulk
 pub mod Laws
-pub mod Platforms
+pub mod PlatformWords
 pub mod platforms
 pub mod Lossy
 pub mod Strings

@@ -15,7 +15,7 @@ ghost use Rattle.wtf8_core.specs.UnitPlace.{IsBytePlace};
 ghost use Rattle.wtf8_core.specs.Join.{IsJoin};
 ghost use Rattle.wtf8_core.specs.declared.fault.EncodingError.{EncodingError};
 ghost use Rattle.platform_str.specs.Laws.{IsReplaced};
-ghost use Rattle.platform_str.specs.Platforms.{AreWideUnits};
+ghost use Rattle.platform_str.specs.PlatformWords.{AreWideUnits};
 ghost use Rattle.platform_str.specs.Strings.{bytes, string_vec_of};
 
 use crate::os_str::OsStr;

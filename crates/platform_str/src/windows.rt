@@ -4,7 +4,7 @@ ghost use Rattle.wtf8_core.specs.Wtf8.{IsWtf8};
 ghost use Rattle.wtf8_core.specs.UnitsOf.{units_of, wtf8_lossy};
 ghost use Rattle.wtf8_core.proofs.lemmas.Propositions.{wtf8_prop};
 ghost use Rattle.wtf8_core.proofs.lemmas.TextsInStrings.{wtf8_standing};
-ghost use Rattle.platform_str.specs.Platforms.{AreWideUnits, IsThree};
+ghost use Rattle.platform_str.specs.PlatformWords.{AreWideUnits, IsThree};
 ghost use Rattle.platform_str.specs.platforms.Windows.{IsWtf8Fault, windows_laws, windows_parts, windows_readings};
 ghost use Rattle.wtf8_core.specs.PartUnits.{AreLoneSurrogates};
 ghost use Rattle.wtf8_core.specs.LossyReading.{IsLossyReading};

@@ -1,7 +1,7 @@
 //! A fourth platform, written outside: any bytes are a string, as on Unix.
 ghost use Rattle.std.specs.Str.Lossy.{utf8_lossy};
 ghost use Rattle.wtf8_core.specs.Utf8.{IsIllFormedPart};
-ghost use Rattle.platform_str.specs.Platforms.{itself};
+ghost use Rattle.platform_str.specs.PlatformWords.{itself};
 ghost use Rattle.platform_str.specs.platforms.Unix.{AreBytes, IsNoFault, AreAboveAscii, IsSame, bytes_prop};
 ghost use Rattle.platform_str.specs.platforms.Unix.{unix_laws, unix_parts, unix_readings, unix_standing};
 

@@ -14,7 +14,7 @@ use Rattle.wtf8_core.proofs.lemmas.Characters.{none_begins}
 use Rattle.wtf8_core.proofs.lemmas.PartUnits.{bare_bytes}
 use Rattle.wtf8_core.proofs.lemmas.Texts.{text_bytes, lossy_front, lossy_text, lossy_is_utf8, part_first}
 use Rattle.platform_str.specs.Laws.{PlatformLaws, PartLaws, ReadingLaws}
-use Rattle.platform_str.specs.Platforms.{itself, wide_bytes}
+use Rattle.platform_str.specs.PlatformWords.{itself, wide_bytes}
 
 -- a string is any bytes
 abbrev pub AreBytes : List ℕ → Type 0

@@ -20,7 +20,7 @@ use Rattle.wtf8_core.proofs.lemmas.Edges.{edges_of_text}
 use Rattle.wtf8_core.proofs.lemmas.Texts.{text_bytes, lossy_is_utf8, lossy_text, no_text_begins}
 use Rattle.wtf8_core.proofs.lemmas.Utf8Facts.{no_text, one_utf8_fault, lossy_text_is}
 use Rattle.platform_str.specs.Laws.{PlatformLaws, PartLaws, ReadingLaws}
-use Rattle.platform_str.specs.Platforms.{itself, IsThree, wide_bytes}
+use Rattle.platform_str.specs.PlatformWords.{itself, IsThree, wide_bytes}
 
 -- the first fault of bytes that aren't UTF-8
 abbrev pub IsTextFault : List ℕ → EncodingError → Type 0

@@ -18,7 +18,7 @@ use Rattle.wtf8_core.proofs.lemmas.PartUnits.{bare_wtf8}
 use Rattle.wtf8_core.proofs.lemmas.Utf8Facts.{wtf8_lossy_front, surrogate_first}
 use Rattle.wtf8_core.proofs.lemmas.Texts.{wtf8_of_text, wtf8_lossy_text, wtf8_lossy_is_utf8, wtf8_behind_text}
 use Rattle.platform_str.specs.Laws.{PlatformLaws, PartLaws, ReadingLaws}
-use Rattle.platform_str.specs.Platforms.{AreWideUnits, IsThree}
+use Rattle.platform_str.specs.PlatformWords.{AreWideUnits, IsThree}
 
 -- the first fault of bytes that aren't WTF-8
 abbrev pub IsWtf8Fault : List ℕ → EncodingError → Type 0
