@@ -8,7 +8,7 @@ use Rattle.std.proofs.lemmas.List.{take_at, drop_at}
 use Rattle.std.proofs.lemmas.Str.{IsUtf8-append, IsUtf8-take, IsCharBoundary-from_drop}
 use Rattle.wtf8_core.specs.Covered.{StartsBare, IsBare}
 use Rattle.wtf8_core.specs.Lossy.{IsLossyText}
-use Rattle.wtf8_core.specs.Lossy.IsLossyText as lossy
+use Rattle.wtf8_core.specs.Lossy.IsLossyText.{text as kept_text}
 use Rattle.wtf8_core.specs.PartUnits.{unit_bytes}
 use Rattle.wtf8_core.specs.StandingLaws.{StandingLaws}
 use Rattle.wtf8_core.specs.Utf8.{IsUtf8Fault}
@@ -89,7 +89,7 @@ wasm_parts = record { spelled = λ b h k. let e = none_in_text b h k in subst (�
 pub wasm_readings : ReadingLaws IsUtf8 IsLossyText
 wasm_readings = record {
   reading_formed = λ b c a r. lossy_is_utf8 b c r;
-  reads_itself = λ b h. lossy.text h;
+  reads_itself = λ b h. kept_text h;
   one_reading = λ b c d r s. sym (lossy_text_is b c r) ∙ lossy_text_is b d s;
   some_reading = λ b a. (utf8_lossy b, lossy_text b);
 }
