@@ -7,7 +7,7 @@ use Rattle.os_str_bytes.specs.Standing.{Finds, IsLeastPlace}
 use Rattle.os_str_bytes.specs.UnitPlace.{FindsInUnits}
 use Rattle.os_str_bytes.specs.EncodingError.{EncodingError}
 use Rattle.os_str_bytes.specs.Platform.{Ghosts}
-use Rattle.os_str_bytes.specs.Platforms.{IsTextFault}
+use Rattle.os_str_bytes.specs.WasmLaws.{IsTextFault}
 use Rattle.os_quote.specs.Escape.{IsEscape, IsQuoteFault}
 use Rattle.os_quote.specs.declared.error.QuoteError.{QuoteError}
 use Rattle.os_quote.specs.declared.error.QuoteError.TheVariants as quote

@@ -30,13 +30,11 @@ pub use Rattle.platform_str.specs.Cows
 pub use Rattle.platform_str.specs.Display
 pub use Rattle.platform_str.specs.Laws
 pub use Rattle.platform_str.specs.Lossy as IoLossy
-pub use Rattle.platform_str.specs.PartLaws
-pub use Rattle.platform_str.specs.Platforms
-pub use Rattle.platform_str.specs.ReadingLaws
+pub use Rattle.platform_str.specs.PlatformWords
 pub use Rattle.platform_str.specs.Strings
-pub use Rattle.platform_str.specs.UnixLaws
-pub use Rattle.platform_str.specs.WasmLaws
-pub use Rattle.platform_str.specs.WindowsLaws
+pub use Rattle.platform_str.specs.platforms.Unix as UnixLaws
+pub use Rattle.platform_str.specs.platforms.Wasm as WasmLaws
+pub use Rattle.platform_str.specs.platforms.Windows as WindowsLaws
 pub use Rattle.platform_str.specs.contracts.unix.UnixPlatform
 pub use Rattle.platform_str.specs.contracts.wasm.WasmPlatform
 pub use Rattle.platform_str.specs.contracts.windows.WindowsPlatform

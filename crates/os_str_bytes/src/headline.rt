@@ -57,19 +57,19 @@ pub struct Answers<'a, E: Platform + 'a, P: Pattern, A: Allocator> {
     /// `None` where the pattern is empty.
     pub rsplit: Option<RawRSplit<'a, E, P>>,
     pub is_boundary: bool,
-    /// `None` where the place is no boundary: the string may not be cut there.
+    /// `None` where the index is no boundary: the string may not be cut there.
     pub cuts: Option<Cuts<'a, E, &'a A>>,
     pub push: Result<OsString<E, &'a A>, AllocError>,
     pub repeat: Result<RawOsString<E, &'a A>, AllocError>,
     pub utf8_chunks: Utf8Chunks<'a, E>,
 }
 
-/// Makes each call once, of any raw bytes, any two strings, any pattern, any place and any
-/// count, and hands out what they answer.
+/// Makes each call once, of any raw bytes, any two strings, any pattern, any index and any count,
+/// and hands out what they answer.
 ///
-/// Its contract is what the library is for, and asks nothing of its caller. Units are bytes on
-/// Unix and wasm and 16-bit units on Windows (`laws::platforms` says what each platform is), a
-/// place that is found is a place of bytes.
+/// Its contract is what the library is for, and asks nothing of its caller. Units are bytes on Unix
+/// and wasm and 16-bit units on Windows (`laws::platforms` says what each platform is), an index
+/// that is found is a byte index.
 ///
 /// ```
 /// use os_str_bytes::headline::ask;
@@ -314,7 +314,7 @@ fn is_empty<P: Pattern>(pattern: P) -> bool
     pattern.encode().as_bytes().is_empty()
 }
 
-/// Each cut at a place that is a boundary.
+/// Each cut at an index that is a boundary.
 fn cuts<'a, E: Platform, A: Allocator>(
     alloc: &'a A,
     string: RawOsStr<'a, E>,

@@ -1,6 +1,6 @@
 //! The laws of every platform and of raw strings: each is the contract of a function that does
-//! nothing. Those of bytes, code points and units stand in [`crate::wtf8_laws`]; the one that
-//! says what the order of Windows strings is, [`order`], stands here too.
+//! nothing. Those of bytes, code points and units are in [`crate::wtf8_laws`]; the one that says
+//! what the order of Windows strings is, [`order`], is here too.
 ghost use Rattle.std.specs.Prelude.{◌≡◌, ◌↔◌, ℕ, List, IsTrue, Some};
 ghost use Rattle.std.specs.Cmp.Lexicographic.{slice_cmp};
 ghost use Rattle.std.specs.Ordering.{nat_cmp};
@@ -11,9 +11,10 @@ ghost use Rattle.wtf8_core.specs.Lossy.{IsLossyText, IsWtf8LossyText};
 ghost use Rattle.wtf8_core.specs.PartUnits.{AreLoneSurrogates};
 ghost use Rattle.wtf8_core.specs.Utf8.{IsIllFormedPart};
 ghost use Rattle.wtf8_core.specs.LossyReading.{IsLossyReading};
-ghost use Rattle.platform_str.specs.Platforms.{AreBytes, AreWideUnits, IsNoFault, IsWtf8Fault, IsTextFault, IsThree};
-ghost use Rattle.platform_str.specs.PartLaws.{AreAboveAscii, AreNone};
-ghost use Rattle.platform_str.specs.ReadingLaws.{IsSame};
+ghost use Rattle.platform_str.specs.PlatformWords.{AreWideUnits, IsThree};
+ghost use Rattle.platform_str.specs.platforms.Unix.{AreAboveAscii, AreBytes, IsNoFault, IsSame};
+ghost use Rattle.platform_str.specs.platforms.Windows.{IsWtf8Fault};
+ghost use Rattle.platform_str.specs.platforms.Wasm.{AreNone, IsTextFault};
 ghost use Rattle.os_str_bytes.specs.Raw.{raw_bytes, raw_vec_of};
 ghost use Rattle.os_str_bytes.specs.Headline.{IsPlatform, AreItself};
 
@@ -27,12 +28,12 @@ use std::alloc::Allocator;
 use std::hash::Hash;
 pub use wtf8_core::laws::order;
 
-/// What the platforms are. Unix strings are any bytes, which are their units, and none are
-/// refused; Windows strings are WTF-8, their units any 16-bit units (RFC 2781); wasm strings are
-/// UTF-8, whose bytes are their units. All Unix strings are IO-safe, elsewhere the UTF-8 ones. In a
-/// lossy text U+FFFD stands for each maximal ill-formed part (Unicode, section 3.9) on Unix and for
-/// each surrogate on Windows; on wasm it is the string. The units of a part of a chunk are at least
-/// 80 (hexadecimal) on Unix, lone surrogates on Windows, and on wasm there are none.
+/// What the platforms are. Unix strings are any bytes, which are their units, and none are refused;
+/// Windows strings are WTF-8, their units any 16-bit units (RFC 2781); wasm strings are UTF-8,
+/// whose bytes are their units. All Unix strings are IO-safe, elsewhere the UTF-8 ones. In a lossy
+/// text U+FFFD replaces each maximal ill-formed part (Unicode, section 3.9) on Unix and each
+/// surrogate on Windows; on wasm it is the string. The units of a part of a chunk are at least 80
+/// (hexadecimal) on Unix, lone surrogates on Windows, and on wasm there are none.
 pub fn platforms()
     ensures unix { IsPlatform ⟦<Unix as Platform>⟧ AreBytes (AreItself AreBytes) AreBytes IsNoFault
         AreBytes IsLossyText IsIllFormedPart AreAboveAscii }
@@ -45,8 +46,8 @@ pub fn platforms()
     lossy_text();
 }
 
-/// How the platforms read any bytes. On Unix they are read as they are; on Windows U+FFFD stands for
-/// each part that is refused, on wasm for each maximal ill-formed part (Unicode, section 3.9).
+/// How the platforms read any bytes. On Unix they are read as they are; on Windows U+FFFD replaces
+/// each part that is refused, on wasm each maximal ill-formed part (Unicode, section 3.9).
 pub fn platform_readings()
     ensures unix { (b : List ℕ) → (c : List ℕ) → ⟦<Unix as Platform>⟧.reads_as b c ↔ (c ≡ b) }
     ensures windows { (b : List ℕ) → (c : List ℕ) → ⟦<Windows as Platform>⟧.reads_as b c

@@ -81,7 +81,7 @@ impl<'a, E: Platform, A: Allocator> CowRawOsStr<'a, E, A> {
     ghost use Rattle.os_str_bytes.specs.Raw.{raw_bytes};
     ghost use Rattle.os_str_bytes.specs.RawCow.{raw_cow_bytes};
 
-    /// A view of the string (own call, in the place of `Deref`).
+    /// A view of the string (own call, instead of `Deref`).
     ///
     /// ```
     /// use os_str_bytes::{RawOsStr, Unix};

@@ -22,11 +22,11 @@ use crate::raw_string::RawOsString;
 use os_str_ext::{OsStrBytesExt, Pattern, Platform, SliceIndex, Symbols, Utf8Chunks};
 use std::alloc::{AllocError, Allocator};
 
-/// All places are places of bytes. No call takes memory but [`RawOsStr::repeat`].
+/// All indices are byte indices. No call takes memory but [`RawOsStr::repeat`].
 impl<'a, E: Platform> RawOsStr<'a, E> {
     // Cuts.
 
-    /// Whether the string may be cut at a place; past its length it may not (own call).
+    /// Whether the string may be cut at an index; past its length it may not (own call).
     ///
     /// ```
     /// use os_str_bytes::{RawOsStr, Unix};
@@ -41,7 +41,7 @@ impl<'a, E: Platform> RawOsStr<'a, E> {
         self.string.is_boundary(at)
     }
 
-    /// The parts before and behind a boundary (test: [`RawOsStr::is_boundary`]), as std's
+    /// The parts before and after a boundary (test: [`RawOsStr::is_boundary`]), as std's
     /// `str::split_at`. Their units joined are the string's.
     ///
     /// ```
@@ -116,8 +116,8 @@ impl<'a, E: Platform> RawOsStr<'a, E> {
 
     // Searches.
 
-    /// The least place at which a pattern stands, `None` where it stands nowhere. The string
-    /// may be cut there and behind the pattern.
+    /// The first index at which a pattern occurs, `None` where it doesn't occur. The string may be
+    /// cut there and after the pattern, at `index + text.len()`.
     ///
     /// ```
     /// use os_str_bytes::{RawOsStr, Unix};
@@ -137,8 +137,8 @@ impl<'a, E: Platform> RawOsStr<'a, E> {
         self.string.find(pattern)
     }
 
-    /// The greatest place at which a pattern stands, `None` where it stands nowhere. The string
-    /// may be cut there and behind the pattern.
+    /// The last index at which a pattern occurs, `None` where it doesn't occur. The string may be
+    /// cut there and after the pattern, at `index + text.len()`.
     ///
     /// ```
     /// use os_str_bytes::{RawOsStr, Unix};
@@ -157,7 +157,7 @@ impl<'a, E: Platform> RawOsStr<'a, E> {
         self.string.rfind(pattern)
     }
 
-    /// Whether a pattern stands somewhere.
+    /// Whether a pattern occurs.
     ///
     /// ```
     /// use os_str_bytes::{RawOsStr, Unix};
@@ -173,7 +173,7 @@ impl<'a, E: Platform> RawOsStr<'a, E> {
         self.string.contains(pattern)
     }
 
-    /// Whether a pattern stands at the front.
+    /// Whether the string starts with a pattern.
     ///
     /// ```
     /// use os_str_bytes::{RawOsStr, Unix};
@@ -189,7 +189,7 @@ impl<'a, E: Platform> RawOsStr<'a, E> {
         self.string.starts_with(pattern)
     }
 
-    /// Whether a pattern stands at the end.
+    /// Whether the string ends with a pattern.
     ///
     /// ```
     /// use os_str_bytes::{RawOsStr, Unix};
@@ -205,7 +205,7 @@ impl<'a, E: Platform> RawOsStr<'a, E> {
         self.string.ends_with(pattern)
     }
 
-    /// Whether the units of `front` are a front of the string's; a half of a pair counts.
+    /// Whether the units of `front` are a prefix of the string's; a half of a pair counts.
     ///
     /// ```
     /// use os_str_bytes::{OsString, RawOsStr, RawOsString, Windows};
@@ -219,7 +219,7 @@ impl<'a, E: Platform> RawOsStr<'a, E> {
         self.string.starts_with_os(front.string)
     }
 
-    /// Whether the units of `end` are an end of the string's; a half of a pair counts.
+    /// Whether the units of `end` are a suffix of the string's; a half of a pair counts.
     ///
     /// ```
     /// use os_str_bytes::{OsString, RawOsStr, RawOsString, Windows};
@@ -235,7 +235,7 @@ impl<'a, E: Platform> RawOsStr<'a, E> {
 
     // Strips and trims.
 
-    /// What follows a pattern at the front, `None` where it doesn't stand there.
+    /// The string without a pattern as its prefix, `None` where it doesn't start with it.
     ///
     /// ```
     /// use os_str_bytes::{RawOsStr, Unix};
@@ -255,7 +255,7 @@ impl<'a, E: Platform> RawOsStr<'a, E> {
         }
     }
 
-    /// What stands before a pattern at the end, `None` where it doesn't stand there.
+    /// The string without a pattern as its suffix, `None` where it doesn't end with it.
     ///
     /// ```
     /// use os_str_bytes::{RawOsStr, Unix};
@@ -274,7 +274,7 @@ impl<'a, E: Platform> RawOsStr<'a, E> {
         }
     }
 
-    /// The string without each pattern at its front; the whole where the pattern is empty.
+    /// The string without each pattern at its start; the whole where the pattern is empty.
     ///
     /// ```
     /// use os_str_bytes::{RawOsStr, Unix};
@@ -282,7 +282,8 @@ impl<'a, E: Platform> RawOsStr<'a, E> {
     /// assert!(rt; RawOsStr::<Unix>::from_str("111foo1").trim_start_matches("1").eq_str("foo1"));
     /// ```
     pub fn trim_start_matches<P: Pattern>(self, pattern: P) -> Self
-        ensures { Trims E.units IsStartTrim (P.text pattern) (raw_bytes self.entry) (raw_bytes result) }
+        ensures { Trims E.units IsStartTrim (P.text pattern) (raw_bytes self.entry)
+            (raw_bytes result) }
     {
         RawOsStr::new(self.string.trim_start_matches(pattern))
     }
@@ -295,13 +296,14 @@ impl<'a, E: Platform> RawOsStr<'a, E> {
     /// assert!(rt; RawOsStr::<Unix>::from_str("1bar111").trim_end_matches('1').eq_str("1bar"));
     /// ```
     pub fn trim_end_matches<P: Pattern>(self, pattern: P) -> Self
-        ensures { Trims E.units IsEndTrim (P.text pattern) (raw_bytes self.entry) (raw_bytes result) }
+        ensures { Trims E.units IsEndTrim (P.text pattern) (raw_bytes self.entry)
+            (raw_bytes result) }
     {
         RawOsStr::new(self.string.trim_end_matches(pattern))
     }
 
-    /// The string without each pattern at its front, and then without each at its end; the
-    /// whole where the pattern is empty.
+    /// The string without each pattern at its start, and then without each at its end; the whole
+    /// where the pattern is empty.
     ///
     /// ```
     /// use os_str_bytes::{RawOsStr, Unix};
@@ -318,7 +320,7 @@ impl<'a, E: Platform> RawOsStr<'a, E> {
 
     // Pieces.
 
-    /// The parts before and behind the least place of a pattern, `None` where it stands nowhere.
+    /// The parts before and after the first occurrence of a pattern, `None` where it doesn't occur.
     ///
     /// ```
     /// use os_str_bytes::{RawOsStr, Unix};
@@ -340,8 +342,7 @@ impl<'a, E: Platform> RawOsStr<'a, E> {
         }
     }
 
-    /// The parts before and behind the greatest place of a pattern, `None` where it stands
-    /// nowhere.
+    /// The parts before and after the last occurrence of a pattern, `None` where it doesn't occur.
     ///
     /// ```
     /// use os_str_bytes::{RawOsStr, Unix};
@@ -362,7 +363,7 @@ impl<'a, E: Platform> RawOsStr<'a, E> {
         }
     }
 
-    /// The pieces between the places of a pattern, each cut at the least place in what is left.
+    /// The pieces between the occurrences of a pattern, each cut at the first one in what is left.
     /// The pattern isn't empty (test: `str::is_empty`; a `char` never is).
     ///
     /// ```
@@ -381,8 +382,8 @@ impl<'a, E: Platform> RawOsStr<'a, E> {
         RawPieces::new(self.string.split(pattern))
     }
 
-    /// The pieces between the places of a pattern from the end, each cut at the greatest place
-    /// in what is left. The pattern isn't empty (test: `str::is_empty`; a `char` never is).
+    /// The pieces between the occurrences of a pattern from the end, each cut at the last one in
+    /// what is left. The pattern isn't empty (test: `str::is_empty`; a `char` never is).
     ///
     /// ```
     /// use os_str_bytes::{RawOsStr, Unix};
@@ -410,8 +411,9 @@ impl<'a, E: Platform> RawOsStr<'a, E> {
     /// use os_str_bytes::{RawOsStr, Unix};
     ///
     /// let string = RawOsStr::<Unix>::checked(b"\xC3\xA9\x80")?;
-    /// assert!(rt; matches!(string.split_first_char(), Some(('\u{E9}', rest)) if rest.as_encoded_bytes() == b"\x80".as_slice()));
-    /// assert!(rt; RawOsStr::<Unix>::checked(b"\x80")?.split_first_char().is_none());
+    /// let rest = RawOsStr::checked(b"\x80")?;
+    /// assert!(rt; string.split_first_char() == Some(('\u{E9}', rest)));
+    /// assert!(rt; rest.split_first_char().is_none());
     /// ```
     pub fn split_first_char(self) -> Option<(char, Self)>
         ensures bytes { SplitsFirstChar raw_bytes (raw_bytes self.entry) result }
@@ -431,8 +433,9 @@ impl<'a, E: Platform> RawOsStr<'a, E> {
     /// use os_str_bytes::{RawOsStr, Unix};
     ///
     /// let string = RawOsStr::<Unix>::checked(b"\x80\xC3\xA9")?;
-    /// assert!(rt; matches!(string.split_last_char(), Some(('\u{E9}', rest)) if rest.as_encoded_bytes() == b"\x80".as_slice()));
-    /// assert!(rt; RawOsStr::<Unix>::checked(b"\x80")?.split_last_char().is_none());
+    /// let rest = RawOsStr::checked(b"\x80")?;
+    /// assert!(rt; string.split_last_char() == Some(('\u{E9}', rest)));
+    /// assert!(rt; rest.split_last_char().is_none());
     /// ```
     pub fn split_last_char(self) -> Option<(char, Self)>
         ensures bytes { SplitsLastChar raw_bytes (raw_bytes self.entry) result }
@@ -447,9 +450,9 @@ impl<'a, E: Platform> RawOsStr<'a, E> {
 
     // Chunks.
 
-    /// The string's chunks: its parts in which no whole character stands, each with the text
-    /// behind it. Only the first part may be empty, and only the last text; never both of one
-    /// chunk. All chunks joined are the string, and it has no other list of them.
+    /// The string's chunks: its parts without whole characters, each with the text after it. Only
+    /// the first part may be empty, and only the last text; never both of one chunk. All chunks
+    /// joined are the string, and it has no other list of them.
     ///
     /// ```
     /// use os_str_bytes::{RawOsStr, Unix};

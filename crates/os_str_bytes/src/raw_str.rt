@@ -89,14 +89,15 @@ impl<'a, E: Platform> RawOsStr<'a, E> {
         RawOsStr::new(OsStr::from_encoded_bytes_unchecked(encoded))
     }
 
-    /// The raw string of raw bytes, in place, as a view (own call): [`RawOsStr::cow_from_raw_bytes`]
-    /// answers what might be owned. It takes no memory.
+    /// The raw string of raw bytes, in place, as a view (own call):
+    /// [`RawOsStr::cow_from_raw_bytes`] answers what might be owned. It takes no memory.
     ///
     /// On Windows ED A0 80 (hexadecimal) is accepted, and ED A0 80 ED B0 80 is not.
     ///
     /// # Errors
     ///
-    /// The first fault of the bytes, where they aren't well formed: what [`Platform::check`] answers.
+    /// The first fault of the bytes where they aren't well formed, as [`Platform::check`] answers
+    /// it.
     ///
     /// ```
     /// use os_str_bytes::{EncodingError, RawOsStr, Windows};
@@ -258,8 +259,8 @@ impl<'a, E: Platform> RawOsStr<'a, E> {
         self.string.to_string_lossy(alloc)
     }
 
-    /// The lossy text, to be printed (std's `OsStr::display`): what `{}` writes of it is the text that
-    /// [`RawOsStr::to_str_lossy`] gives. It takes no memory.
+    /// The lossy text, to be printed (std's `OsStr::display`): what `{}` writes of it is the text
+    /// that [`RawOsStr::to_str_lossy`] gives. It takes no memory.
     ///
     /// ```
     /// use os_str_bytes::{OsString, RawOsString, Windows};

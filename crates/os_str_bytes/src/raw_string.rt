@@ -41,7 +41,7 @@ impl<E: Platform, A: Allocator> RawOsString<E, A> {
         RawOsString::from_encoded_vec_unchecked(string.into_encoded_bytes())
     }
 
-    /// The empty string (own call, in the place of `Default`). It takes no memory.
+    /// The empty string (own call, instead of `Default`). It takes no memory.
     ///
     /// ```
     /// use os_str_bytes::{RawOsString, Unix};
@@ -101,8 +101,8 @@ impl<E: Platform, A: Allocator> RawOsString<E, A> {
         RawOsString::from_encoded_vec_unchecked(raw)
     }
 
-    /// The string of a vector of well-formed raw bytes, as [`RawOsString::assert_from_raw_vec`] gives
-    /// it.
+    /// The string of a vector of well-formed raw bytes, as [`RawOsString::assert_from_raw_vec`]
+    /// gives it.
     ///
     /// ```
     /// use os_str_bytes::{RawOsString, Unix};
@@ -169,7 +169,7 @@ impl<E: Platform, A: Allocator> RawOsString<E, A> {
         self.as_raw().as_os_str()
     }
 
-    /// Whether the string may be cut at a place; past its length it may not (own call).
+    /// Whether the string may be cut at an index; past its length it may not (own call).
     ///
     /// ```
     /// use os_str_bytes::{RawOsString, Unix};
@@ -219,10 +219,10 @@ impl<E: Platform, A: Allocator> RawOsString<E, A> {
         self.truncate(0);
     }
 
-    /// Leaves the bytes before a boundary; a place past the length changes nothing (test:
-    /// [`RawOsString::is_boundary`], or a comparison with the length). The units that are left
-    /// and those of the bytes that are cut off, joined, are the string's. It takes no memory and
-    /// gives none back.
+    /// Leaves the bytes before a boundary; an index past the length changes nothing (test:
+    /// [`RawOsString::is_boundary`], or a comparison with the length). The units that are left and
+    /// those of the bytes that are cut off, joined, are the string's. It takes no memory and gives
+    /// none back.
     ///
     /// ```
     /// use os_str_bytes::{RawOsString, Unix};
@@ -276,7 +276,7 @@ impl<E: Platform, A: Allocator> RawOsString<E, A> {
         Ok(back)
     }
 
-    /// A copy of the bytes behind a boundary.
+    /// A copy of the bytes after a boundary.
     fn copy_from(&self, alloc: A, at: usize) -> Result<Self, AllocError>
         requires { IsBoundary (raw_vec_of self.now).items at }
         ensures { IfOk result (λ back. (raw_vec_of back).items ≡ drop at

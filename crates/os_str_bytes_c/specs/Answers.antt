@@ -2,7 +2,7 @@
 use Rattle.std.specs.Prelude.{◌≡◌, ◌⊎◌, ℕ, ◌+◌, ◌%◌, ◌^◌, ◌≤◌, List, length, take, drop}
 use Rattle.std.specs.List.{repeat}
 use Rattle.wtf8_core.specs.declared.fault.EncodingError.{EncodingError}
-use Rattle.platform_str.specs.Platforms.{IsWtf8Fault}
+use Rattle.platform_str.specs.platforms.Windows.{IsWtf8Fault}
 use Rattle.os_str_ext.specs.Parts.{unit_number}
 use Rattle.os_str_ext.specs.declared.symbols.Symbol.{Symbol}
 use Rattle.os_str_ext.specs.declared.symbols.Symbol.TheVariants.{Character}

@@ -1,7 +1,7 @@
 //! Escapes of Unix strings, in both forms, and back.
 ghost use Rattle.std.specs.Prelude.{◌≡◌, ◌≢◌, ℕ, List, length};
 ghost use Rattle.std.specs.Str.{IsUtf8};
-ghost use Rattle.platform_str.specs.Platforms.{itself};
+ghost use Rattle.platform_str.specs.PlatformWords.{itself};
 ghost use Rattle.os_quote.specs.Escape.{IsEscape, IsLineEscape};
 
 use crate::strings::{text, unix};

@@ -3,7 +3,7 @@ ghost use Rattle.std.specs.Prelude.{◌≡◌, ◌++◌, ℕ, List};
 ghost use Rattle.std.specs.Char.{encode_utf8};
 ghost use Rattle.std.specs.List.{fold};
 ghost use Rattle.wtf8_core.specs.Covered.{StartsBare};
-ghost use Rattle.platform_str.specs.Platforms.{itself};
+ghost use Rattle.platform_str.specs.PlatformWords.{itself};
 ghost use Rattle.os_str_ext.specs.Symbols.{AreSymbols};
 ghost use Rattle.os_str_ext.specs.declared.symbols.Symbol.{Symbol};
 ghost use Rattle.os_str_bytes_c.specs.Answers.{AnswersOr, symbol_number, add_symbol};

@@ -1,4 +1,4 @@
-//! The chunks of a string: its parts without whole characters, each with the text behind it.
+//! The chunks of a string: its parts without whole characters, each with the text after it.
 ghost use Rattle.std.specs.Prelude.{◌≡◌, ◌+◌, ◌∷◌, ◌<◌, ◌≤◌, ◌↔◌, length, drop, IsTrue};
 ghost use Rattle.std.specs.Iterator.{YieldsFirstBy, item_count};
 ghost use Rattle.wtf8_core.specs.Chunks.{AreChunks};

@@ -1,9 +1,9 @@
-//! Whether bytes are the same: of a pattern and of the string at its front or end.
+//! Whether bytes are the same: those of a pattern and a prefix or suffix of the string.
 ghost use Rattle.std.specs.Prelude.{◌≡◌, ◌+◌, ◌≤◌, ◌↔◌, IsTrue, length, take};
 ghost use Rattle.std.specs.Int.{from_le_bytes, to_le_bytes, w16, w32, w64};
 
-/// Whether two lists of bytes of one length are the same. From two to sixteen bytes, those at
-/// the front and those at the end are compared as numbers.
+/// Whether two lists of bytes of one length are the same. From two to sixteen bytes, the first and
+/// the last are compared as numbers.
 #[inline(always)]
 pub(crate) fn are_same(a: &[u8], b: &[u8]) -> bool
     requires { length a.now ≡ length b.now }

@@ -25,15 +25,15 @@ use platform_str::{OsStr, OsStrBytes, OsString, Platform};
 use std::alloc::{AllocError, Allocator};
 
 /// Searches, cuts and pieces of strings, each equivalent to the call of its name on std's `str`.
-/// All places are places of bytes. No call but [`OsStrBytesExt::repeat`] takes memory.
+/// All indices are byte indices. No call but [`OsStrBytesExt::repeat`] takes memory.
 ///
-/// A boundary is 0, the length, or a place where a whole character starts or ends, as in the
+/// A boundary is 0, the length, or an index where a whole character starts or ends, as in the
 /// documentation of std's `OsStr::slice_encoded_bytes`. A search looks for its pattern's text.
 pub trait OsStrBytesExt<'a>: OsStrBytes<'a> {
     // Cuts.
 
-    /// Whether the string may be cut at a place, as std's `str::is_char_boundary`; past its
-    /// length it may not (own call).
+    /// Whether the string may be cut at an index, as std's `str::is_char_boundary`; past its length
+    /// it may not (own call).
     ///
     /// ```
     /// use os_str_bytes::{OsStr, OsStrBytesExt, Unix};
@@ -45,7 +45,7 @@ pub trait OsStrBytesExt<'a>: OsStrBytes<'a> {
     fn is_boundary(self, at: usize) -> bool
         ensures { IsTrue result ↔ IsBoundary (Self.bytes_of self) at };
 
-    /// The parts before and behind a boundary (test: [`OsStrBytesExt::is_boundary`]), as std's
+    /// The parts before and after a boundary (test: [`OsStrBytesExt::is_boundary`]), as std's
     /// `str::split_at`. Their units joined are the string's.
     ///
     /// ```
@@ -99,8 +99,8 @@ pub trait OsStrBytesExt<'a>: OsStrBytes<'a> {
 
     // Searches.
 
-    /// The least place at which a pattern stands, `None` where it stands nowhere. The string
-    /// may be cut there and behind the pattern, at `place + text.len()`.
+    /// The first index at which a pattern occurs, `None` where it doesn't occur. The string may be
+    /// cut there and after the pattern, at `index + text.len()`.
     ///
     /// ```
     /// use os_str_bytes::{OsStr, OsStrBytesExt, Unix};
@@ -117,8 +117,8 @@ pub trait OsStrBytesExt<'a>: OsStrBytes<'a> {
         ensures edges { MayBeCutAround (Self.bytes_of self) (length (P.text pattern)) result }
         ensures behind { IfSome result (λ at. at + length (P.text pattern) < 2 ^ 64) };
 
-    /// The greatest place at which a pattern stands, `None` where it stands nowhere. The string
-    /// may be cut there and behind the pattern, at `place + text.len()`.
+    /// The last index at which a pattern occurs, `None` where it doesn't occur. The string may be
+    /// cut there and after the pattern, at `index + text.len()`.
     ///
     /// ```
     /// use os_str_bytes::{OsStr, OsStrBytesExt, Unix};
@@ -134,7 +134,7 @@ pub trait OsStrBytesExt<'a>: OsStrBytes<'a> {
         ensures edges { MayBeCutAround (Self.bytes_of self) (length (P.text pattern)) result }
         ensures behind { IfSome result (λ at. at + length (P.text pattern) < 2 ^ 64) };
 
-    /// Whether a pattern stands somewhere.
+    /// Whether a pattern occurs.
     ///
     /// ```
     /// use os_str_bytes::{OsStr, OsStrBytesExt, Unix};
@@ -147,7 +147,7 @@ pub trait OsStrBytesExt<'a>: OsStrBytes<'a> {
         ensures units { IsTrue result ↔ StandsSomewhere (Self.Platform.units (P.text pattern))
             (Self.Platform.units (Self.bytes_of self)) };
 
-    /// Whether a pattern stands at the front.
+    /// Whether the string starts with a pattern.
     ///
     /// ```
     /// use os_str_bytes::{OsStr, OsStrBytesExt, Unix};
@@ -161,7 +161,7 @@ pub trait OsStrBytesExt<'a>: OsStrBytes<'a> {
         ensures units { IsTrue result ↔ IsFront (Self.Platform.units (P.text pattern))
             (Self.Platform.units (Self.bytes_of self)) };
 
-    /// Whether a pattern stands at the end.
+    /// Whether the string ends with a pattern.
     ///
     /// ```
     /// use os_str_bytes::{OsStr, OsStrBytesExt, Unix};
@@ -175,7 +175,7 @@ pub trait OsStrBytesExt<'a>: OsStrBytes<'a> {
         ensures units { IsTrue result ↔ IsEnd (Self.Platform.units (P.text pattern))
             (Self.Platform.units (Self.bytes_of self)) };
 
-    /// Whether the units of `front` are a front of the string's; a half of a pair counts.
+    /// Whether the units of `front` are a prefix of the string's; a half of a pair counts.
     ///
     /// ```
     /// use os_str_bytes::{OsStrBytesExt, OsString, Windows};
@@ -188,7 +188,7 @@ pub trait OsStrBytesExt<'a>: OsStrBytes<'a> {
         ensures { IsTrue result ↔ IsFront (Self.Platform.units (Self.bytes_of front))
             (Self.Platform.units (Self.bytes_of self)) };
 
-    /// Whether the units of `end` are an end of the string's; a half of a pair counts.
+    /// Whether the units of `end` are a suffix of the string's; a half of a pair counts.
     ///
     /// ```
     /// use os_str_bytes::{OsStrBytesExt, OsString, Windows};
@@ -203,7 +203,7 @@ pub trait OsStrBytesExt<'a>: OsStrBytes<'a> {
 
     // Strips and trims.
 
-    /// What follows a pattern at the front, `None` where it doesn't stand there.
+    /// The string without a pattern as its prefix, `None` where it doesn't start with it.
     ///
     /// ```
     /// use os_str_bytes::{OsStr, OsStrBytesExt, Unix};
@@ -218,7 +218,7 @@ pub trait OsStrBytesExt<'a>: OsStrBytes<'a> {
             (Self.Platform.units (P.text pattern)) (Self.Platform.units (Self.bytes_of self))
             result };
 
-    /// What stands before a pattern at the end, `None` where it doesn't stand there.
+    /// The string without a pattern as its suffix, `None` where it doesn't end with it.
     ///
     /// ```
     /// use os_str_bytes::{OsStr, OsStrBytesExt, Unix};
@@ -232,7 +232,7 @@ pub trait OsStrBytesExt<'a>: OsStrBytes<'a> {
             (Self.Platform.units (P.text pattern)) (Self.Platform.units (Self.bytes_of self))
             result };
 
-    /// The string without each pattern at its front; the whole where the pattern is empty.
+    /// The string without each pattern at its start; the whole where the pattern is empty.
     ///
     /// ```
     /// use os_str_bytes::{OsStr, OsStrBytesExt, Unix};
@@ -256,8 +256,8 @@ pub trait OsStrBytesExt<'a>: OsStrBytes<'a> {
         ensures { Trims Self.Platform.units IsEndTrim (P.text pattern) (Self.bytes_of self)
             (Self.bytes_of result) };
 
-    /// The string without each pattern at its front, and then without each at its end; the
-    /// whole where the pattern is empty. std has it for some patterns only.
+    /// The string without each pattern at its start, and then without each at its end; the whole
+    /// where the pattern is empty. std has it for some patterns only.
     ///
     /// ```
     /// use os_str_bytes::{OsStr, OsStrBytesExt, Unix};
@@ -272,7 +272,7 @@ pub trait OsStrBytesExt<'a>: OsStrBytes<'a> {
 
     // Pieces.
 
-    /// The parts before and behind the least place of a pattern, `None` where it stands nowhere.
+    /// The parts before and after the first occurrence of a pattern, `None` where it doesn't occur.
     ///
     /// ```
     /// use os_str_bytes::{OsStr, OsStrBytesExt, Unix};
@@ -288,8 +288,7 @@ pub trait OsStrBytesExt<'a>: OsStrBytes<'a> {
             (Self.Platform.units (P.text pattern)) (Self.Platform.units (Self.bytes_of self))
             result };
 
-    /// The parts before and behind the greatest place of a pattern, `None` where it stands
-    /// nowhere.
+    /// The parts before and after the last occurrence of a pattern, `None` where it doesn't occur.
     ///
     /// ```
     /// use os_str_bytes::{OsStr, OsStrBytesExt, Unix};
@@ -306,7 +305,7 @@ pub trait OsStrBytesExt<'a>: OsStrBytes<'a> {
             (Self.Platform.units (P.text pattern)) (Self.Platform.units (Self.bytes_of self))
             result };
 
-    /// The pieces between the places of a pattern, each cut at the least place in what is left.
+    /// The pieces between the occurrences of a pattern, each cut at the first one in what is left.
     /// The pattern isn't empty (test: `str::is_empty`; a `char` never is).
     ///
     /// ```
@@ -328,8 +327,8 @@ pub trait OsStrBytesExt<'a>: OsStrBytes<'a> {
         )
     }
 
-    /// The pieces between the places of a pattern from the end, each cut at the greatest place
-    /// in what is left. The pattern isn't empty (test: `str::is_empty`; a `char` never is).
+    /// The pieces between the occurrences of a pattern from the end, each cut at the last one in
+    /// what is left. The pattern isn't empty (test: `str::is_empty`; a `char` never is).
     ///
     /// ```
     /// use os_str_bytes::{OsStr, OsStrBytesExt, Unix};
@@ -359,8 +358,9 @@ pub trait OsStrBytesExt<'a>: OsStrBytes<'a> {
     /// use os_str_bytes::{OsStr, OsStrBytesExt, Unix};
     ///
     /// let string = OsStr::<Unix>::checked(b"\xC3\xA9\x80")?;
-    /// assert!(rt; matches!(string.split_first_char(), Some(('\u{E9}', rest)) if rest.as_encoded_bytes() == b"\x80".as_slice()));
-    /// assert!(rt; OsStr::<Unix>::checked(b"\x80")?.split_first_char().is_none());
+    /// let rest = OsStr::checked(b"\x80")?;
+    /// assert!(rt; string.split_first_char() == Some(('\u{E9}', rest)));
+    /// assert!(rt; rest.split_first_char().is_none());
     /// ```
     fn split_first_char(self) -> Option<(char, Self)>
         ensures bytes { SplitsFirstChar Self.bytes_of (Self.bytes_of self) result }
@@ -375,8 +375,9 @@ pub trait OsStrBytesExt<'a>: OsStrBytes<'a> {
     /// use os_str_bytes::{OsStr, OsStrBytesExt, Unix};
     ///
     /// let string = OsStr::<Unix>::checked(b"\x80\xC3\xA9")?;
-    /// assert!(rt; matches!(string.split_last_char(), Some(('\u{E9}', rest)) if rest.as_encoded_bytes() == b"\x80".as_slice()));
-    /// assert!(rt; OsStr::<Unix>::checked(b"\x80")?.split_last_char().is_none());
+    /// let rest = OsStr::checked(b"\x80")?;
+    /// assert!(rt; string.split_last_char() == Some(('\u{E9}', rest)));
+    /// assert!(rt; rest.split_last_char().is_none());
     /// ```
     fn split_last_char(self) -> Option<(char, Self)>
         ensures bytes { SplitsLastChar Self.bytes_of (Self.bytes_of self) result }
@@ -386,10 +387,10 @@ pub trait OsStrBytesExt<'a>: OsStrBytes<'a> {
 
     // Chunks.
 
-    /// The string's chunks: its parts in which no whole character stands, each with the text
-    /// behind it. Only the first part may be empty, and only the last text; never both of one
-    /// chunk. All chunks joined are the string, and it has no other list of them. std's
-    /// `[u8]::utf8_chunks` puts each text first and ends a part at each fault.
+    /// The string's chunks: its parts without whole characters, each with the text after it. Only
+    /// the first part may be empty, and only the last text; never both of one chunk. All chunks
+    /// joined are the string, and it has no other list of them. std's `[u8]::utf8_chunks` puts each
+    /// text first and ends a part at each fault.
     ///
     /// ```
     /// use os_str_bytes::{OsStr, OsStrBytesExt, Unix};

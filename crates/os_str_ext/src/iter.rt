@@ -17,7 +17,7 @@ use std::marker::{Model, PhantomData};
 
 /// From which end a string is split: [`FromStart`] or [`FromEnd`].
 pub trait Direction {
-    // the cuts of a string, of its pattern, the string, the piece that the cut takes off and the rest
+    // the cuts of a string: of its pattern, the string, the piece that is cut off and the rest
     ghost cuts: { List ℕ → List ℕ → List ℕ → List ℕ → Type 0 };
 
     // the pieces of each string

@@ -1,4 +1,4 @@
-//! The first and the last place of a needle. What has to be looked for is left to `memchr`.
+//! The first and the last occurrence of a needle. What has to be looked for is left to `memchr`.
 ghost use Rattle.std.specs.Prelude.{◌≡◌, ◌↔◌, ◌+◌, ◌-◌, ◌≤◌, ℕ, List, IsTrue, IfSome, MatchOption, length};
 ghost use Rattle.memchr.specs.Find.{FindsNeedle, FindsLastNeedle, IsFirstByte, NoneBefore, Nowhere, OccursAt, is_byte};
 ghost use Rattle.memchr.specs.Pairs.{IsPairFinderOf, IsPairOf};
@@ -7,13 +7,13 @@ use crate::compare::are_same;
 use memchr::arch::all::packedpair::{Finder, Pair};
 use memchr::{memchr_iter, memmem, memrchr};
 
-/// The longest needle that is compared where its ends stand.
+/// The longest needle that is compared where its first and last byte occur.
 const LONGEST: usize = 32;
 
 /// In longer strings `memmem` has the time to make ready for a needle.
 const SHORT: usize = 128;
 
-/// The first place of a needle; one of a single byte is looked for as a byte.
+/// The first index of a needle; one of a single byte is looked for as a byte.
 #[inline(always)]
 pub(crate) fn first_of(bytes: &[u8], needle: &[u8]) -> Option<usize>
     ensures { FindsNeedle bytes.now needle.now 0 result }
@@ -24,7 +24,7 @@ pub(crate) fn first_of(bytes: &[u8], needle: &[u8]) -> Option<usize>
     first_by_ends(bytes, needle)
 }
 
-/// The last place of a needle; one of a single byte is looked for as a byte.
+/// The last index of a needle; one of a single byte is looked for as a byte.
 #[inline(always)]
 pub(crate) fn last_of(bytes: &[u8], needle: &[u8]) -> Option<usize>
     ensures { FindsLastNeedle bytes.now needle.now result }
@@ -35,7 +35,7 @@ pub(crate) fn last_of(bytes: &[u8], needle: &[u8]) -> Option<usize>
     last_by_end(bytes, needle)
 }
 
-/// Whether a needle stands at a place.
+/// Whether a needle occurs at an index.
 #[inline(always)]
 pub(crate) fn stands_at(bytes: &[u8], needle: &[u8], at: usize) -> bool
     requires { at ≤ length bytes.now }
@@ -49,7 +49,7 @@ pub(crate) fn stands_at(bytes: &[u8], needle: &[u8], at: usize) -> bool
     are_same(front, needle)
 }
 
-/// Whether a needle ends at a place.
+/// Whether a needle ends at an index.
 #[inline(always)]
 pub(crate) fn ends_at(bytes: &[u8], needle: &[u8], at: usize) -> bool
     requires { at ≤ length bytes.now }
@@ -59,7 +59,7 @@ pub(crate) fn ends_at(bytes: &[u8], needle: &[u8], at: usize) -> bool
     needle.len() <= at && stands_at(bytes, needle, at - needle.len())
 }
 
-/// The first place of a byte. The iterator is the quicker one where that is near.
+/// The first index of a byte. The iterator is the quicker one where that is near.
 #[inline(never)]
 fn first_byte(byte: u8, bytes: &[u8]) -> Option<usize>
     ensures { IsFirstByte (is_byte byte) bytes.now result }
@@ -68,8 +68,8 @@ fn first_byte(byte: u8, bytes: &[u8]) -> Option<usize>
     places.next()
 }
 
-/// The first place of a needle, which often is the front. In short strings it is compared where
-/// both its ends stand; behind four such places where it doesn't stand, and in longer strings,
+/// The first index of a needle, which often is 0. In short strings it is compared where both its
+/// first and its last byte occur; after four such indices where it doesn't, and in longer strings,
 /// `memmem` looks for it.
 #[inline(never)]
 fn first_by_ends(bytes: &[u8], needle: &[u8]) -> Option<usize>
@@ -115,7 +115,7 @@ fn ends_of(needle: &[u8]) -> Option<Pair>
     }
 }
 
-/// The first place, from one on, where the pair of a needle stands.
+/// The first index, from a given one on, where the pair of a needle occurs.
 #[inline(always)]
 fn next_candidate(finder: &Finder, bytes: &[u8], from: usize) -> Option<usize>
     requires { from ≤ length bytes.now }
@@ -130,7 +130,7 @@ fn next_candidate(finder: &Finder, bytes: &[u8], from: usize) -> Option<usize>
     }
 }
 
-/// The first place of a needle from a place on.
+/// The first index of a needle from a given one on.
 #[inline(always)]
 fn first_from(bytes: &[u8], needle: &[u8], from: usize) -> Option<usize>
     requires { from ≤ length bytes.now }
@@ -143,8 +143,8 @@ fn first_from(bytes: &[u8], needle: &[u8], from: usize) -> Option<usize>
     }
 }
 
-/// The last place of a needle, which is compared where its last byte stands; before four such
-/// places where it doesn't end, `memmem` looks for it.
+/// The last index of a needle, which is compared where its last byte occurs; before four such
+/// indices where it doesn't end, `memmem` looks for it.
 #[inline(never)]
 fn last_by_end(bytes: &[u8], needle: &[u8]) -> Option<usize>
     ensures { FindsLastNeedle bytes.now needle.now result }

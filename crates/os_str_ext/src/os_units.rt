@@ -1,4 +1,4 @@
-//! Parts, the strings in which no whole character stands, and their units.
+//! Parts, the strings without whole characters, and their units.
 ghost use Rattle.std.specs.Prelude.{◌≡◌, ◌∷◌, ◌<◌, ◌^◌, length};
 ghost use Rattle.wtf8_core.specs.Covered.{IsBare};
 ghost use Rattle.platform_str.specs.Strings.{bytes};
@@ -7,7 +7,7 @@ use platform_str::{OsStr, Platform};
 use std::alloc::AllocError;
 use std::marker::Model;
 
-/// A string in which no whole character stands: the part of a chunk.
+/// A string without whole characters: the part of a chunk.
 ///
 /// Parts are equal where their bytes are, and are ordered as their bytes are. Equal parts hash
 /// alike.
@@ -60,10 +60,10 @@ impl<'a, E: Platform> NonUnicodeOsStr<'a, E> {
 
     /// The part's units, from the first on.
     ///
-    /// On Unix they are its bytes, each at least 80 (hexadecimal), on Windows surrogates of
-    /// which no high one stands directly before a low one; on wasm a part is empty. The units
-    /// of the Windows part ED B0 80 ED A0 80 are DC00 and D800. The part's bytes are those of
-    /// its units: the byte of a unit below 100, the form of any other.
+    /// On Unix they are its bytes, each at least 80 (hexadecimal), on Windows surrogates of which
+    /// no high one is directly before a low one; on wasm a part is empty. The units of the Windows
+    /// part ED B0 80 ED A0 80 are DC00 and D800. The part's bytes are those of its units: the byte
+    /// of a unit below 100, the form of any other.
     ///
     /// ```
     /// use os_str_bytes::{OsStrBytesExt, OsString, Windows};

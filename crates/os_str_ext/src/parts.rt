@@ -1,4 +1,4 @@
-//! Parts of strings before, behind and between texts.
+//! Parts of strings before, after and between texts.
 ghost use Rattle.std.specs.Prelude.{◌≡◌, ◌<◌, length, take, drop};
 ghost use Rattle.wtf8_core.specs.Standing.{IsLeastPlace, IsGreatestPlace};
 ghost use Rattle.wtf8_core.specs.Boundary.{IsBoundary};
@@ -11,7 +11,7 @@ use crate::search::{ends_with, find, rfind, starts_with};
 use platform_str::{OsStr, Platform};
 use wtf8_core::laws;
 
-/// What follows a text at the front.
+/// The string without a text as its prefix.
 #[inline(always)]
 pub(crate) fn strip_prefix<'a, E: Platform>(
     string: OsStr<'a, E>,
@@ -26,7 +26,7 @@ pub(crate) fn strip_prefix<'a, E: Platform>(
     Some(rest)
 }
 
-/// What stands before a text at the end.
+/// The string without a text as its suffix.
 #[inline(always)]
 pub(crate) fn strip_suffix<'a, E: Platform>(
     string: OsStr<'a, E>,
@@ -41,7 +41,7 @@ pub(crate) fn strip_suffix<'a, E: Platform>(
     Some(rest)
 }
 
-/// What follows a text at the front, as often as it stands there; the whole where it is empty.
+/// The string without each text at its start; the whole where the text is empty.
 pub(crate) fn trim_start<'a, E: Platform>(string: OsStr<'a, E>, text: &str) -> OsStr<'a, E>
     ensures trim { 0 < length text.now → IsStartTrim text.now (bytes string.entry) (bytes result) }
     ensures whole { length text.now ≡ 0 → bytes result ≡ bytes string.entry }
@@ -55,8 +55,7 @@ pub(crate) fn trim_start<'a, E: Platform>(string: OsStr<'a, E>, text: &str) -> O
     rest
 }
 
-/// What stands before a text at the end, as often as it stands there; the whole where it is
-/// empty.
+/// The string without each text at its end; the whole where the text is empty.
 pub(crate) fn trim_end<'a, E: Platform>(string: OsStr<'a, E>, text: &str) -> OsStr<'a, E>
     ensures trim { 0 < length text.now → IsEndTrim text.now (bytes string.entry) (bytes result) }
     ensures whole { length text.now ≡ 0 → bytes result ≡ bytes string.entry }
@@ -70,7 +69,7 @@ pub(crate) fn trim_end<'a, E: Platform>(string: OsStr<'a, E>, text: &str) -> OsS
     rest
 }
 
-/// The parts around the least place of a text.
+/// The parts around the first occurrence of a text.
 #[inline(always)]
 pub(crate) fn split_once<'a, E: Platform>(
     string: OsStr<'a, E>,
@@ -84,7 +83,7 @@ pub(crate) fn split_once<'a, E: Platform>(
     Some(around(string, at, at + text.len()))
 }
 
-/// The parts around the greatest place of a text.
+/// The parts around the last occurrence of a text.
 #[inline(always)]
 pub(crate) fn rsplit_once<'a, E: Platform>(
     string: OsStr<'a, E>,
@@ -98,7 +97,7 @@ pub(crate) fn rsplit_once<'a, E: Platform>(
     Some(around(string, at, at + text.len()))
 }
 
-/// The parts before one boundary and behind another.
+/// The parts before one boundary and after another.
 #[inline(always)]
 fn around<'a, E: Platform>(
     string: OsStr<'a, E>,

@@ -1,4 +1,4 @@
-//! Runs of a text: how far it stands over and over at one end of bytes.
+//! Runs of a text: how far it occurs over and over at one end of bytes.
 ghost use Rattle.std.specs.Prelude.{◌≡◌, ◌+◌, ◌-◌, ◌<◌, ◌≤◌, ◌++◌, ℕ, length, take, drop};
 ghost use Rattle.std.specs.List.{repeat};
 ghost use Rattle.memchr.specs.Find.{OccursAt};
@@ -6,10 +6,10 @@ ghost use Rattle.wtf8_core.specs.Pieces.{IsStartTrim, IsEndTrim};
 
 use crate::needle::{ends_at, stands_at};
 
-/// A run this long is itself looked for behind it, in place of the text.
+/// A run this long is itself looked for after it, instead of the text.
 const BLOCK: usize = 256;
 
-/// Where the run of a text at the front ends.
+/// Where the run of a text at the start ends.
 pub(crate) fn front_run(bytes: &[u8], text: &[u8]) -> usize
     requires { 0 < length text.now }
     ensures trim { IsStartTrim text.now bytes.now (drop result bytes.now) }
@@ -39,7 +39,7 @@ pub(crate) fn end_run(bytes: &[u8], text: &[u8]) -> usize
     skip_back(bytes, text, far, bytes.len())
 }
 
-/// Goes past a piece from a place on, again and again, until `to` is reached.
+/// Goes past a piece from an index on, again and again, until `to` is reached.
 #[inline(always)]
 fn skip(bytes: &[u8], piece: &[u8], from: usize, to: usize) -> usize
     requires some { 0 < length piece.now }
@@ -55,7 +55,7 @@ fn skip(bytes: &[u8], piece: &[u8], from: usize, to: usize) -> usize
     at
 }
 
-/// Goes back past a piece from a place on, again and again, until `most` bytes are left behind.
+/// Goes back past a piece from an index on, again and again, until `most` bytes are passed.
 #[inline(always)]
 fn skip_back(bytes: &[u8], piece: &[u8], from: usize, most: usize) -> usize
     requires some { 0 < length piece.now }

@@ -1,4 +1,4 @@
-//! Where a text stands in bytes.
+//! Where a text occurs in bytes.
 ghost use Rattle.std.specs.Prelude.{◌+◌, ◌-◌, ◌^◌, ◌↔◌, ◌<◌, ◌≤◌, IsTrue, IfSome, length};
 ghost use Rattle.wtf8_core.specs.Standing.{Finds, IsLeastPlace, IsGreatestPlace, IsFront, IsEnd};
 ghost use Rattle.wtf8_core.specs.Boundary.{IsBoundary};
@@ -8,7 +8,7 @@ use crate::compare::are_same;
 use crate::needle::{first_of, last_of};
 use wtf8_core::laws;
 
-/// The least place of a text.
+/// The first index of a text.
 #[inline(always)]
 pub(crate) fn find(bytes: &[u8], text: &str) -> Option<usize>
     ensures place { Finds IsLeastPlace text.now bytes.now result }
@@ -19,7 +19,7 @@ pub(crate) fn find(bytes: &[u8], text: &str) -> Option<usize>
     first_of(bytes, text.as_bytes())
 }
 
-/// The greatest place of a text.
+/// The last index of a text.
 #[inline(always)]
 pub(crate) fn rfind(bytes: &[u8], text: &str) -> Option<usize>
     ensures place { Finds IsGreatestPlace text.now bytes.now result }
@@ -30,7 +30,7 @@ pub(crate) fn rfind(bytes: &[u8], text: &str) -> Option<usize>
     last_of(bytes, text.as_bytes())
 }
 
-/// Whether a text stands at the front.
+/// Whether bytes start with a text.
 #[inline(always)]
 pub(crate) fn starts_with(bytes: &[u8], text: &str) -> bool
     ensures front { IsTrue result ↔ IsFront text.now bytes.now }
@@ -44,7 +44,7 @@ pub(crate) fn starts_with(bytes: &[u8], text: &str) -> bool
     are_same(front, text.as_bytes())
 }
 
-/// Whether a text stands at the end.
+/// Whether bytes end with a text.
 #[inline(always)]
 pub(crate) fn ends_with(bytes: &[u8], text: &str) -> bool
     ensures end { IsTrue result ↔ IsEnd text.now bytes.now }

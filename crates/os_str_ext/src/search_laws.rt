@@ -1,7 +1,7 @@
-//! Laws of patterns, and of what stands around the place of one.
+//! Laws of patterns, and of what is around an occurrence of one.
 //!
-//! Each law is the contract of a function that does nothing. They speak of lists, so each is true of
-//! bytes and of units.
+//! Each law is the contract of a function that does nothing. They are about lists, so each is true
+//! of bytes and of units.
 ghost use Rattle.std.specs.Prelude.{◌≡◌, ◌<◌, [], ◌∷◌, ℕ, List, length};
 ghost use Rattle.std.specs.Char.{encode_utf8};
 ghost use Rattle.std.specs.String.{string_bytes};
@@ -11,9 +11,8 @@ ghost use Rattle.wtf8_core.specs.Standing.{StandsNowhere, IsLeastPlace, IsGreate
 
 use crate::pattern::Pattern;
 
-/// A pattern that isn't empty doesn't occur in what is before its least place, nor in what follows
-/// its greatest one. So it doesn't in what `split_once` gives first, nor in what `rsplit_once` gives
-/// last.
+/// A pattern that isn't empty doesn't occur before its first occurrence, nor after its last one. So
+/// it doesn't in what `split_once` gives first, nor in what `rsplit_once` gives last.
 pub fn around_place()
     ensures before_least { (p : List ℕ) → (s : List ℕ) → (front : List ℕ) → (back : List ℕ)
         → 0 < length p

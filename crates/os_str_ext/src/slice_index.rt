@@ -1,4 +1,4 @@
-//! Ranges of places in strings.
+//! Ranges of indices in strings.
 ghost use Rattle.std.specs.Prelude.{◌≡◌, ◌+◌, ◌↔◌, ℕ, IsTrue, length, take, drop};
 ghost use Rattle.std.specs.Range.{range_inclusive_start, range_inclusive_end};
 ghost use Rattle.platform_str.specs.Strings.{bytes};
@@ -8,11 +8,11 @@ use crate::boundary::{is_boundary, part};
 use platform_str::{OsStr, Platform};
 use std::ops::{Range, RangeFrom, RangeFull, RangeInclusive, RangeTo, RangeToInclusive};
 
-/// A range of byte places in a string: std's six range types of `usize`.
+/// A range of byte indices in a string: std's six range types of `usize`.
 ///
-/// Its ghost members are its first place, and the place behind its last in a string of some
-/// length. An inclusive end counts as the place behind it, without bound, so that
-/// `..=usize::MAX` never fits, and `3..=2` is the empty range at 3.
+/// Its ghost members are its first index, and the index after its last in a string of some length.
+/// An inclusive end counts as the index after it, without bound, so that `..=usize::MAX` never
+/// fits, and `3..=2` is the empty range at 3.
 pub trait SliceIndex: Sized {
     ghost first_place: { Self → ℕ };
 
@@ -154,14 +154,14 @@ impl SliceIndex for RangeToInclusive<usize> {
     }
 }
 
-/// Whether the bytes from place `start` to place `end` are a part that may be cut out.
+/// Whether the bytes from index `start` to index `end` are a part that may be cut out.
 fn fits<E: Platform>(string: OsStr<'_, E>, start: usize, end: usize) -> bool
     ensures { IsTrue result ↔ FitsIn (bytes string.entry) start end }
 {
     fits_in_bytes(string.as_encoded_bytes(), start, end)
 }
 
-/// The same from place `start` to the place behind `last`.
+/// The same from index `start` to the index after `last`.
 fn fits_inclusive<E: Platform>(string: OsStr<'_, E>, start: usize, last: usize) -> bool
     ensures { IsTrue result ↔ FitsIn (bytes string.entry) start (last + 1) }
 {

@@ -1,10 +1,14 @@
--- What each platform proves of its strings.
-use Rattle.std.specs.Prelude.{◌≡◌, ℕ, ◌<◌, ◌≤◌, List, ◌++◌, length, take, drop}
+-- What each platform proves of its strings: of all, of their parts without whole characters, and of lossy reading. What it proves of standing and of joins is `StandingLaws` of wtf8_core.
+use Rattle.std.specs.Prelude.{◌≡◌, ℕ, ◌<◌, ◌≤◌, List, ◌∷◌, ◌++◌, length, take, drop}
+use Rattle.std.specs.List.{All, flat_map}
 use Rattle.std.specs.Str.{IsUtf8, IsValidUpTo}
-use Rattle.wtf8_core.specs.Covered.{StartsBare}
+use Rattle.wtf8_core.specs.Byte.{IsByte}
+use Rattle.wtf8_core.specs.Covered.{StartsBare, IsBare}
+use Rattle.wtf8_core.specs.PartUnits.{unit_bytes}
 use Rattle.wtf8_core.specs.Boundary.{IsBoundary}
 use Rattle.wtf8_core.specs.Lossy.{replacement}
 use Rattle.wtf8_core.specs.declared.fault.EncodingError.{EncodingError}
+use Rattle.platform_str.specs.PlatformWords.{AreWideUnits}
 
 -- one U+FFFD stands for the first n bytes, and what follows them is well formed
 pub record IsReplaced (well_formed : List ℕ → Type 0) (lossy : List ℕ → List ℕ) (b : List ℕ) (n : ℕ) : Type 0 where
@@ -37,3 +41,23 @@ pub record PlatformLaws (first_fault : List ℕ → EncodingError → Type 0) (w
   pub lossy_text : (b : List ℕ) → IsUtf8 b → lossy b ≡ b
   pub lossy_front : (b : List ℕ) (n : ℕ) → well_formed b → IsValidUpTo b n → lossy b ≡ take n b ++ lossy (drop n b)
   pub lossy_step : (b : List ℕ) (n : ℕ) → well_formed b → 0 < length b → StartsBare b → replaces b n → IsReplaced well_formed lossy b n
+
+-- the laws of a platform's parts: each unit's bytes are its own, `part_units` says what the units are, and a unit has at most 16 bits
+pub record PartLaws (well_formed : List ℕ → Type 0) (units : List ℕ → List ℕ) (part_units : List ℕ → Type 0) : Type 0 where
+  pub spelled : (b : List ℕ) → well_formed b → IsBare b → b ≡ flat_map unit_bytes (units b)
+  pub are_units : (b : List ℕ) → well_formed b → IsBare b → part_units (units b)
+  pub are_wide : (b : List ℕ) → well_formed b → IsBare b → AreWideUnits (units b)
+
+-- u is the first unit of b and has n bytes, and what follows them is well formed and has the other units
+pub record IsFirstUnit (well_formed : List ℕ → Type 0) (units : List ℕ → List ℕ) (b : List ℕ) (u n : ℕ) : Type 0 where
+  pub some : 0 < n
+  pub within : n ≤ length b
+  pub behind : well_formed (drop n b)
+  pub units_are : units b ≡ u ∷ units (drop n b)
+
+-- the laws of a platform's lossy reading: bytes have one and no other, it is a string, and that of a string is itself
+pub record ReadingLaws (well_formed : List ℕ → Type 0) (reads_as : List ℕ → List ℕ → Type 0) : Type 0 where
+  pub reading_formed : (b c : List ℕ) → All IsByte b → reads_as b c → well_formed c
+  pub reads_itself : (b : List ℕ) → well_formed b → reads_as b b
+  pub one_reading : (b c d : List ℕ) → reads_as b c → reads_as b d → c ≡ d
+  pub some_reading : (b : List ℕ) → All IsByte b → (c : List ℕ) × reads_as b c

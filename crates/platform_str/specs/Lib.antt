@@ -1,12 +1,7 @@
 pub mod Bulk
 pub mod Laws
-pub mod Standing
-pub mod Platforms
-pub mod UnixLaws
-pub mod WasmLaws
-pub mod WindowsLaws
-pub mod PartLaws
-pub mod ReadingLaws
+pub mod PlatformWords
+pub mod platforms
 pub mod Lossy
 pub mod Strings
 pub mod Display

@@ -1,5 +1,5 @@
 //! The units of Windows strings and the bytes of units, many at once: ASCII by blocks of 16 and, of
-//! units, of 8, and code point by code point what stands between.
+//! units, of 8, and code point by code point what is between.
 ghost use Rattle.std.specs.Prelude.{◌≡◌, ◌++◌, ◌+◌, ◌*◌, ◌≤◌, ◌<◌, ◌∷◌, ℕ, List, true, leb, take, drop, length, slice_index, IsOk, IfSome, MatchOption, OnOk, vec_len, vec_capacity};
 ghost use Rattle.std.specs.List.{All, count_by};
 ghost use Rattle.wtf8_core.specs.CodePoint.{IsCodePoint, wide, form};
@@ -53,7 +53,7 @@ fn narrowed(block: [u16; 16]) -> [u8; 16]
     u16x16::from_array(block).cast::<u8>().to_array()
 }
 
-/// Writes the units of a code point behind others.
+/// Appends the units of a code point.
 #[tactic(auto, unfolding(wtf8_core::specs::CodePoint::wide))]
 #[inline(always)]
 fn push_wide<A: Allocator>(units: &mut Vec<u16, A>, code_point: u32) -> Result<(), AllocError>
@@ -73,7 +73,7 @@ fn push_wide<A: Allocator>(units: &mut Vec<u16, A>, code_point: u32) -> Result<(
     Ok(())
 }
 
-/// Writes the units of a string behind others, one by one.
+/// Appends the units of a string, one by one.
 fn push_each<A: Allocator>(
     units: &mut Vec<u16, A>,
     string: OsStr<'_, Windows>,
@@ -88,8 +88,7 @@ fn push_each<A: Allocator>(
     Ok(())
 }
 
-/// Writes the units of a string behind others. Where there is room for all, no memory is asked
-/// for.
+/// Appends the units of a string. Where there is room for all, no memory is asked for.
 pub(crate) fn push_units<A: Allocator>(
     units: &mut Vec<u16, A>,
     string: &[u8],
@@ -122,7 +121,7 @@ fn begins_ascii_block(units: &[u16]) -> bool
     units.len() >= 16 && are_ascii_units(u16x16::from_slice(units).to_array())
 }
 
-/// The first code point of units, and the units behind it.
+/// The first code point of units, and the units after it.
 #[inline(always)]
 fn first_code_point(units: &[u16]) -> (u32, &[u16])
     requires { 0 < length units.now }
@@ -167,7 +166,7 @@ fn ascii_len(units: &[u16]) -> usize
     others.trailing_zeros() as usize
 }
 
-/// Writes 16 units of ASCII from place `at` on.
+/// Writes 16 units of ASCII from index `at` on.
 #[inline(always)]
 fn put_ascii(bytes: &mut [u8], at: usize, block: [u16; 16])
     requires ascii { All (λ u. u < 0x80) block }
@@ -178,7 +177,7 @@ fn put_ascii(bytes: &mut [u8], at: usize, block: [u16; 16])
     u8x16::from_array(narrowed(block)).copy_to_slice(&mut bytes[at..]);
 }
 
-/// Writes the first `len` units, which are ASCII, from place `at` on, and other bytes behind them
+/// Writes the first `len` units, which are ASCII, from index `at` on, and other bytes after them
 /// where there are 8 units.
 #[inline(always)]
 fn put_ascii_front(bytes: &mut [u8], at: usize, units: &[u16], len: usize)
@@ -222,7 +221,7 @@ fn count_pairs(units: &[u16]) -> usize
         return 0;
     }
 
-    // the six bits that tell what half a unit is, of a unit and of the one behind it
+    // the six bits that tell what half a unit is, of a unit and of the one after it
     let first = u16x16::from_slice(units) >> u16x16::splat(10);
     let second = u16x16::from_slice(&units[1..]) >> u16x16::splat(10);
     let ones = ((first << u16x16::splat(6)) + second)

@@ -28,7 +28,7 @@ pub trait OsStrBytes<'a>: Sized + Copy {
     // it is owned, in this vector
     ghost is_owned: { Self.Cow → Vec ℕ Global → Type 0 };
 
-    /// The string's bytes (own call, on which the others stand).
+    /// The string's bytes (own call, which the others use).
     ///
     /// ```
     /// use os_str_bytes::{OsStr, OsStrBytes, Unix};
@@ -266,8 +266,8 @@ pub trait OsStringBytes: Sized + Drop {
             (λ _. Self.Platform.io_safe (Self.Vec.as_vec (vec_of self)).items) };
 
     /// The string's vector where its bytes are IO-safe, else with the bytes of the lossy text,
-    /// written in place, in the same block. It takes no memory: on Windows the form of a surrogate and that of
-    /// U+FFFD both have three bytes, and on the other platforms each string is IO-safe.
+    /// written in place, in the same block. It takes no memory: on Windows the form of a surrogate
+    /// and that of U+FFFD both have three bytes, and on the other platforms each string is IO-safe.
     ///
     /// ```
     /// use os_str_bytes::{OsString, OsStringBytes, Unix, Windows};

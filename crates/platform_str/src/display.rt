@@ -14,9 +14,9 @@ use std::fmt;
 /// The lossy text of a string, to be printed (std's `std::ffi::os_str::Display`).
 ///
 /// `OsStr::display` and its kin make it. `{}` writes the lossy text piece by piece: each text
-/// between what is no text as it stands there, and U+FFFD for each part that is none. That takes no
-/// memory. A width counts characters, U+FFFD as one, and fills as that of std's on Unix does:
-/// behind the text, where no side is asked for. A precision cuts nothing.
+/// between the parts that are none as it is, and U+FFFD for each of these parts. That takes no
+/// memory. A width counts characters, U+FFFD as one, and fills as that of std's on Unix does: after
+/// the text, where no side is asked for. A precision cuts nothing.
 ///
 /// Of the Unix string of the bytes 61 E2 82 41 (hexadecimal) `{}` writes "a\u{FFFD}A".
 #[derive(Drop)]
@@ -88,7 +88,7 @@ impl<'a, E: Platform> fmt::Display for OsStrDisplay<'a, E> {
     }
 }
 
-/// How much of the padding stands before the text.
+/// How much of the padding is before the text.
 fn fill_before(align: Option<fmt::Alignment>, padding: usize) -> usize
     ensures value { result ≡ fill_before align padding }
     ensures within { result ≤ padding }

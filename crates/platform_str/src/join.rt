@@ -7,9 +7,9 @@ ghost use Rattle.wtf8_core.specs.UnitsOf.{units_of};
 use std::alloc::{AllocError, Allocator};
 use wtf8_core::{pair_between, write_form};
 
-/// Puts a Windows string behind another (WTF-8: concatenation). Where a pair arises, its form
-/// stands in the place of both surrogates. A refusal changes nothing: the memory is asked for
-/// first, and then the form is written in place.
+/// Appends a Windows string to another (WTF-8: concatenation). Where a pair arises, its form
+/// replaces both surrogates. A refusal changes nothing: the memory is asked for first, and then the
+/// form is written in place.
 pub(crate) fn push_wtf8<A: Allocator>(
     string: &mut Vec<u8, A>,
     more: &[u8],
@@ -33,7 +33,7 @@ pub(crate) fn push_wtf8<A: Allocator>(
     Ok(())
 }
 
-/// Puts bytes behind others.
+/// Appends bytes.
 pub(crate) fn append<A: Allocator>(bytes: &mut Vec<u8, A>, more: &[u8]) -> Result<(), AllocError>
     ensures ok { OnOk result (bytes.new.items ≡ bytes.old.items ++ more.now) }
     ensures err { OnErr result (bytes.new.items ≡ bytes.old.items) }

@@ -15,7 +15,7 @@ ghost use Rattle.wtf8_core.specs.UnitPlace.{IsBytePlace};
 ghost use Rattle.wtf8_core.specs.Join.{IsJoin};
 ghost use Rattle.wtf8_core.specs.declared.fault.EncodingError.{EncodingError};
 ghost use Rattle.platform_str.specs.Laws.{IsReplaced};
-ghost use Rattle.platform_str.specs.Platforms.{AreWideUnits};
+ghost use Rattle.platform_str.specs.PlatformWords.{AreWideUnits};
 ghost use Rattle.platform_str.specs.Strings.{bytes, string_vec_of};
 
 use crate::os_str::OsStr;
@@ -41,9 +41,9 @@ pub fn spelling<E: Platform>()
     ensures unit_list { (b : List ℕ) → E.well_formed b → E.is_unit_list (E.units b) }
 {}
 
-/// UTF-8 is well formed and IO-safe, IO-safe bytes are well formed, what follows a whole
-/// character at a string's front is well formed, and where some string isn't IO-safe one
-/// U+FFFD always stands for three bytes.
+/// UTF-8 is well formed and IO-safe, IO-safe bytes are well formed, what follows a whole character
+/// at a string's start is well formed, and where some string isn't IO-safe one U+FFFD always
+/// replaces three bytes.
 pub fn texts<E: Platform>()
     ensures text { (b : List ℕ) → IsUtf8 b → E.well_formed b }
     ensures text_io_safe { (b : List ℕ) → IsUtf8 b → E.io_safe b }
@@ -55,7 +55,7 @@ pub fn texts<E: Platform>()
 {}
 
 /// A string's lossy text is UTF-8, and so IO-safe. A text is its own lossy text, a text at the
-/// front stays, and where no whole character starts one U+FFFD stands for the bytes that
+/// start stays, and where no whole character starts one U+FFFD replaces the bytes that
 /// [`Platform::lossy_len`] counts; what follows them is well formed.
 pub fn lossy_texts<E: Platform>()
     ensures lossy_utf8 { (b : List ℕ) → E.well_formed b → IsUtf8 (E.lossy b) }
@@ -97,9 +97,9 @@ pub fn parts<E: Platform>()
     ensures wide { (b : List ℕ) → E.well_formed b → IsBare b → AreWideUnits (E.units b) }
 {}
 
-/// A text that isn't empty stands in a string at a byte place exactly where its units stand at a
-/// unit place whose byte place that is; each unit place at which they stand has a byte place,
-/// and no unit place has two.
+/// A text that isn't empty occurs in a string at a byte index exactly where its units occur at the
+/// unit index that this byte index belongs to; each unit index at which they occur has a byte
+/// index, and no unit index has two.
 pub fn standing<E: Platform>()
     ensures alike { (p : List ℕ) → (s : List ℕ) → (j : ℕ) → IsUtf8 p → 0 < length p
         → E.well_formed s
@@ -131,8 +131,8 @@ pub fn joins<E: Platform>()
         ↔ ((q : List ℕ) × (E.well_formed q × IsJoin E.well_formed E.units p q s))) }
 {}
 
-/// Borrowed strings are equal where their bytes are, and are ordered as lists of bytes are. A hasher
-/// is fed the bytes, as of a slice, so equal strings hash alike.
+/// Borrowed strings are equal where their bytes are, and are ordered as lists of bytes. A hasher is
+/// fed the bytes, as of a slice, so equal strings hash alike.
 #[tactic(auto, using(crate::proofs::lemmas::ByteOrder::byte_order))]
 pub fn comparisons<'a, E: Platform>(a: &OsStr<'a, E>, b: &OsStr<'a, E>)
     ensures equal { IsTrue (⟦<OsStr<'a, E> as PartialEq>⟧.eq a.now b.now)

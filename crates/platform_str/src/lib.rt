@@ -18,7 +18,7 @@
 //!
 //! A call with a `requires` can only be made where it is proved. Those whose names begin with
 //! `assert_from_raw` or end in `_unchecked` take well-formed bytes (test: [`Platform::check`]), and
-//! so do the calls of [`Platform`] but `check`, `is_io_safe` and `read_lossy`; of these `lossy_len`,
+//! so do those of [`Platform`] but `check`, `is_io_safe` and `read_lossy`; of these `lossy_len`,
 //! `replaced_len` and `first_unit` take bytes that aren't empty and begin with no whole character
 //! (test: `wtf8_core::char_at` at 0). Every other call can be made anywhere.
 #![tactic(auto)]

@@ -14,8 +14,8 @@ use wtf8_core::utf8_fault;
 /// The bytes of U+FFFD.
 const REPLACEMENT: [u8; 3] = [0xEF, 0xBF, 0xBD];
 
-/// How many bytes at the front of a string's are a text, and what follows the part behind it for
-/// which one U+FFFD stands; `None` where all is a text.
+/// How many of a string's first bytes are a text, and what follows the part that comes next and
+/// that one U+FFFD replaces; `None` where all is a text.
 #[inline(always)]
 fn first_replaced<E: Platform>(bytes: &[u8]) -> Option<(usize, &[u8])>
     requires { E.well_formed bytes.now }
@@ -46,8 +46,8 @@ pub(crate) fn first_text<E: Platform>(bytes: &[u8]) -> Option<(&str, &[u8])>
 /// How many bytes a block has.
 const BLOCK: usize = 16;
 
-/// Writes the first `len` bytes behind others. A short front is written as a block, whose length is
-/// fixed, and what is too much is cut.
+/// Appends the first `len` bytes. A short prefix is written as a block, whose length is fixed, and
+/// what is too much is cut.
 #[inline(always)]
 fn push_front<A: Allocator>(
     text: &mut Vec<u8, A>,
@@ -67,7 +67,7 @@ fn push_front<A: Allocator>(
     Ok(())
 }
 
-/// Writes the first `len` bytes and U+FFFD behind others.
+/// Appends the first `len` bytes and U+FFFD.
 #[inline(always)]
 pub(crate) fn push_replaced<A: Allocator>(
     text: &mut Vec<u8, A>,
@@ -127,8 +127,8 @@ pub(crate) fn io_bytes<'a, E: Platform, A: Allocator>(
     Ok(ByteCow::Owned(text_bytes::<E, A>(alloc, bytes)?))
 }
 
-/// Puts U+FFFD in the place of each part that is no text, where some string of the platform
-/// isn't IO-safe, so that each such part has three bytes.
+/// Replaces each part that is no text by U+FFFD, where some string of the platform isn't IO-safe,
+/// so that each such part has three bytes.
 pub(crate) fn replace_in_place<E: Platform>(bytes: &mut [u8])
     requires formed { E.well_formed bytes.old }
     requires not_safe { ¬ (E.io_safe bytes.old) }

@@ -75,14 +75,15 @@ impl<'a, E: Platform> OsStr<'a, E> {
         }
     }
 
-    /// The string of raw bytes, in place, as a view (own call): [`OsStrBytes::from_raw_bytes`] answers
-    /// what might be owned. It takes no memory.
+    /// The string of raw bytes, in place, as a view (own call): [`OsStrBytes::from_raw_bytes`]
+    /// gives what might be owned. It takes no memory.
     ///
     /// On Windows ED A0 80 (hexadecimal) is accepted, and ED A0 80 ED B0 80 is not.
     ///
     /// # Errors
     ///
-    /// The first fault of the bytes, where they aren't well formed: what [`Platform::check`] answers.
+    /// The first fault of the bytes where they aren't well formed, as [`Platform::check`] answers
+    /// it.
     ///
     /// ```
     /// use os_str_bytes::{EncodingError, OsStr, Windows};
@@ -102,7 +103,7 @@ impl<'a, E: Platform> OsStr<'a, E> {
 
     /// The string of any raw bytes, with U+FFFD for each part that is refused: what
     /// [`Platform::read_lossy`] gives, or the bytes themselves where they are well formed, which
-    /// takes no memory. Beside it `OsStrBytes::from_raw_bytes` answers the first fault. On wasm it is
+    /// takes no memory. `OsStrBytes::from_raw_bytes` answers the first fault too. On wasm it is
     /// equivalent to std's `String::from_utf8_lossy`.
     ///
     /// # Errors
@@ -220,8 +221,8 @@ impl<'a, E: Platform> OsStr<'a, E> {
         }
     }
 
-    /// The lossy text, to be printed (std's `OsStr::display`): what `{}` writes of it is the text that
-    /// [`OsStr::to_string_lossy`] gives. It takes no memory.
+    /// The lossy text, to be printed (std's `OsStr::display`): what `{}` writes of it is the text
+    /// that [`OsStr::to_string_lossy`] gives. It takes no memory.
     ///
     /// ```
     /// use os_str_bytes::{OsStr, Unix};

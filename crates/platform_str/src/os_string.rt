@@ -157,7 +157,7 @@ impl<E: Platform, A: Allocator> OsString<E, A> {
         }
     }
 
-    /// Puts a string behind this one: the units are those of both, one after the other (std's
+    /// Appends a string to this one: the units are those of both, one after the other (std's
     /// `OsString::push`). On Windows two halves of a pair that meet become one code point (WTF-8,
     /// "Concatenating"). A string whose vector has room for the bytes of both takes no memory.
     ///

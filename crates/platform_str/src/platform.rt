@@ -1,13 +1,11 @@
-//! What a platform is, and the three that stand here.
+//! What a platform is, and the three that are here.
 ghost use Rattle.std.specs.Prelude.{◌≡◌, ◌<◌, ◌↔◌, ◌++◌, ◌+◌, ℕ, List, length, IsTrue, IfOk, MatchResult, OnOk, OnErr, vec_capacity, vec_len};
 ghost use Rattle.wtf8_core.specs.Covered.{StartsBare};
 ghost use Rattle.platform_str.specs.Lossy.{IsFaultPart};
 ghost use Rattle.wtf8_core.specs.Standing.{IsFront, IsEnd};
 ghost use Rattle.wtf8_core.specs.StandingLaws.{StandingLaws};
 ghost use Rattle.wtf8_core.specs.declared.fault.EncodingError.{EncodingError};
-ghost use Rattle.platform_str.specs.Laws.{PlatformLaws};
-ghost use Rattle.platform_str.specs.PartLaws.{PartLaws, IsFirstUnit};
-ghost use Rattle.platform_str.specs.ReadingLaws.{ReadingLaws};
+ghost use Rattle.platform_str.specs.Laws.{PlatformLaws, PartLaws, ReadingLaws, IsFirstUnit};
 
 use std::alloc::{AllocError, Allocator};
 use wtf8_core::EncodingError;
@@ -15,11 +13,11 @@ use wtf8_core::EncodingError;
 /// The strings of a platform, as lists of bytes.
 ///
 /// Whoever implements the trait proves its laws, which are all that generic code knows of a
-/// platform: each list of units has one spelling; texts are strings, and what follows a text
-/// at the front is well formed; at a boundary both parts are well formed, and their units
-/// joined are the string's; a text stands in a string's bytes where its units stand in the
-/// string's; some string has the units of two joined; any bytes have one lossy reading, which is
-/// a string. The module `laws` states them one by one.
+/// platform: each list of units has one spelling; texts are strings, and what follows a text at the
+/// start is well formed; at a boundary both parts are well formed, and their units joined are the
+/// string's; a text occurs in a string's bytes where its units occur in the string's; some string
+/// has the units of two joined; any bytes have one lossy reading, which is a string. The module
+/// `laws` states them one by one.
 pub trait Platform {
     // which bytes are a string
     ghost well_formed: { List ℕ → Type 0 };
@@ -42,13 +40,13 @@ pub trait Platform {
     // a string's lossy text
     ghost lossy: { List ℕ → List ℕ };
 
-    // how many bytes at the front one U+FFFD stands for there
+    // how many of the first bytes one U+FFFD replaces there
     ghost replaces: { List ℕ → ℕ → Type 0 };
 
-    // what any bytes are read as, where U+FFFD stands for each part that is refused
+    // what any bytes are read as, where U+FFFD replaces each part that is refused
     ghost reads_as: { List ℕ → List ℕ → Type 0 };
 
-    // what the units of a string are in which no whole character stands
+    // what the units of a string without whole characters are
     ghost part_units: { List ℕ → Type 0 };
 
     /// Whether bytes are well formed. It takes no memory.
@@ -82,11 +80,11 @@ pub trait Platform {
     fn is_io_safe(bytes: &[u8]) -> bool
         ensures { IsTrue result ↔ io_safe bytes.now };
 
-    /// How many bytes at the front one U+FFFD stands for in the lossy text.
+    /// How many of the first bytes one U+FFFD replaces in the lossy text.
     ///
     /// The bytes are well formed (test: [`Platform::check`]), they aren't empty, and no whole
-    /// character starts at their front (test: `wtf8_core::char_at` at 0). What follows these
-    /// bytes is well formed. On Windows it is three, a surrogate's form.
+    /// character is at their start (test: `wtf8_core::char_at` at 0). What follows these bytes is
+    /// well formed. On Windows it is three, a surrogate's form.
     ///
     /// ```
     /// use os_str_bytes::{Platform, Unix, Windows};
@@ -123,9 +121,9 @@ pub trait Platform {
     /// The first unit of a string that begins with no whole character, and how many bytes it has.
     ///
     /// The bytes are well formed (test: [`Platform::check`]), they aren't empty, and no whole
-    /// character starts at their front (test: `wtf8_core::char_at` at 0). What follows these
-    /// bytes is well formed and has the other units. On Unix a unit is one byte, on Windows it
-    /// is a surrogate of three; on wasm no bytes are so.
+    /// character is at their start (test: `wtf8_core::char_at` at 0). What follows these bytes is
+    /// well formed and has the other units. On Unix a unit is one byte, on Windows it is a
+    /// surrogate of three; on wasm no bytes are so.
     ///
     /// ```
     /// use os_str_bytes::{Platform, Windows};
@@ -138,9 +136,9 @@ pub trait Platform {
         requires bare { StartsBare bytes.now }
         ensures { IsFirstUnit well_formed units bytes.now result.0 result.1 };
 
-    /// Whether the units of `front` are a front of those of `string` (on Windows
-    /// `wtf8_core::starts_with`, else std's `starts_with` of slices). Both are well formed
-    /// (test: [`Platform::check`]). It takes no memory.
+    /// Whether the units of `front` are a prefix of those of `string` (on Windows
+    /// `wtf8_core::starts_with`, else std's `starts_with` of slices). Both are well formed (test:
+    /// [`Platform::check`]). It takes no memory.
     ///
     /// A half of a pair counts:
     ///
@@ -172,10 +170,10 @@ pub trait Platform {
         requires end { well_formed end.now }
         ensures { IsTrue result ↔ IsEnd (units end.now) (units string.now) };
 
-    /// Puts a string behind another: the units are those of both, one after the other (std's
+    /// Appends a string to another: the units are those of both, one after the other (std's
     /// `OsString::push`). On Windows two halves of a pair that meet become one code point (WTF-8,
-    /// "Concatenating"). Both are well formed (test: [`Platform::check`]). A vector with room for the
-    /// bytes of both takes no memory.
+    /// "Concatenating"). Both are well formed (test: [`Platform::check`]). A vector with room for
+    /// the bytes of both takes no memory.
     ///
     /// # Errors
     ///
@@ -199,8 +197,8 @@ pub trait Platform {
             more.now) };
 
     /// The lossy reading of any bytes, in new memory: the bytes themselves where they are well
-    /// formed, else what stands before the first part that is refused, U+FFFD, and the reading of
-    /// what follows that part, as if nothing stood before it.
+    /// formed, else what comes before the first part that is refused, U+FFFD, and the reading of
+    /// what follows that part, as if nothing came before it.
     ///
     /// On Windows `wtf8_core::wtf8_fault` says which part is refused, so that the reading is the
     /// forms of what `wtf8_core::CodePoints` gives, with U+FFFD for each `Err`. On wasm it is the

@@ -1,12 +1,10 @@
 //! The strings of WebAssembly: UTF-8 (RFC 3629). Their units are their bytes.
 ghost use Rattle.std.specs.Str.{IsUtf8};
 ghost use Rattle.wtf8_core.proofs.lemmas.forms.Propositions.{utf8_prop};
-ghost use Rattle.platform_str.specs.Platforms.{itself, IsTextFault, IsThree};
-ghost use Rattle.platform_str.specs.WasmLaws.{wasm_laws};
-ghost use Rattle.platform_str.specs.Standing.{wasm_standing};
-ghost use Rattle.platform_str.specs.PartLaws.{AreNone, wasm_parts};
+ghost use Rattle.platform_str.specs.PlatformWords.{itself, IsThree};
+ghost use Rattle.platform_str.specs.platforms.Wasm.{IsTextFault, AreNone};
+ghost use Rattle.platform_str.specs.platforms.Wasm.{wasm_laws, wasm_parts, wasm_readings, wasm_standing};
 ghost use Rattle.wtf8_core.specs.Lossy.{IsLossyText};
-ghost use Rattle.platform_str.specs.ReadingLaws.{wasm_readings};
 
 use crate::join::append;
 use crate::lossy;

@@ -47,7 +47,7 @@ impl<'a> Iterator for WideUnits<'a> {
 }
 
 impl<'a> OsStr<'a, Windows> {
-    /// The string's 16-bit units (RFC 2781; a surrogate stands for itself), as std's
+    /// The string's 16-bit units (RFC 2781; a surrogate is its own unit), as std's
     /// `OsStrExt::encode_wide` on Windows. It takes no memory.
     ///
     /// ```

@@ -4,12 +4,10 @@ ghost use Rattle.wtf8_core.specs.Wtf8.{IsWtf8};
 ghost use Rattle.wtf8_core.specs.UnitsOf.{units_of, wtf8_lossy};
 ghost use Rattle.wtf8_core.proofs.lemmas.forms.Propositions.{wtf8_prop};
 ghost use Rattle.wtf8_core.proofs.lemmas.standing.Wtf8.{wtf8_standing};
-ghost use Rattle.platform_str.specs.Platforms.{AreWideUnits, IsWtf8Fault, IsThree};
-ghost use Rattle.platform_str.specs.WindowsLaws.{windows_laws};
+ghost use Rattle.platform_str.specs.PlatformWords.{AreWideUnits, IsThree};
+ghost use Rattle.platform_str.specs.platforms.Windows.{IsWtf8Fault, windows_laws, windows_parts, windows_readings};
 ghost use Rattle.wtf8_core.specs.PartUnits.{AreLoneSurrogates};
-ghost use Rattle.platform_str.specs.PartLaws.{windows_parts};
 ghost use Rattle.wtf8_core.specs.LossyReading.{IsLossyReading};
-ghost use Rattle.platform_str.specs.ReadingLaws.{windows_readings};
 
 use crate::join::push_wtf8;
 use crate::platform::{Platform, Windows};

@@ -8,7 +8,7 @@ ghost use Rattle.wtf8_core.specs.Covered.{IsBare};
 ghost use Rattle.wtf8_core.specs.PartUnits.{unit_bytes, AreLoneSurrogates};
 ghost use Rattle.wtf8_core.specs.Runs.{AreRuns, form_chunk};
 ghost use Rattle.wtf8_core.specs.Wtf8.{Spells};
-ghost use Rattle.platform_str.specs.Platforms.{AreWideUnits};
+ghost use Rattle.platform_str.specs.PlatformWords.{AreWideUnits};
 ghost use Rattle.platform_str.specs.Strings.{bytes};
 ghost use Rattle.os_str_ext.specs.Chunks.{IsChunkOf};
 ghost use Rattle.os_str_ext.specs.Parts.{part_bytes, unit_number};

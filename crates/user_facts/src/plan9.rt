@@ -1,11 +1,9 @@
 //! A fourth platform, written outside: any bytes are a string, as on Unix.
 ghost use Rattle.std.specs.Str.Lossy.{utf8_lossy};
 ghost use Rattle.wtf8_core.specs.Utf8.{IsIllFormedPart};
-ghost use Rattle.platform_str.specs.Platforms.{AreBytes, itself, IsNoFault};
-ghost use Rattle.platform_str.specs.UnixLaws.{bytes_prop, unix_laws};
-ghost use Rattle.platform_str.specs.Standing.{unix_standing};
-ghost use Rattle.platform_str.specs.PartLaws.{AreAboveAscii, unix_parts};
-ghost use Rattle.platform_str.specs.ReadingLaws.{IsSame, unix_readings};
+ghost use Rattle.platform_str.specs.PlatformWords.{itself};
+ghost use Rattle.platform_str.specs.platforms.Unix.{AreBytes, IsNoFault, AreAboveAscii, IsSame, bytes_prop};
+ghost use Rattle.platform_str.specs.platforms.Unix.{unix_laws, unix_parts, unix_readings, unix_standing};
 
 use platform_str::{EncodingError, Platform, Unix};
 use std::alloc::{AllocError, Allocator};

@@ -4,13 +4,11 @@ use Rattle.std.proofs.KnownBytes.{Consumes-whole}
 use Rattle.std.specs.Str.{IsUtf8}
 use Rattle.std.specs.Io.KnownBytes.{Consumes, IsAtEnd}
 use Rattle.os_str_bytes.specs.EncodingError.{EncodingError}
-use Rattle.os_str_bytes.specs.Laws.{PlatformLaws}
-use Rattle.os_str_bytes.specs.PartLaws.{PartLaws, AreAboveAscii, AreNone, unix_parts, windows_parts, wasm_parts}
+use Rattle.os_str_bytes.specs.Laws.{PlatformLaws, PartLaws}
 use Rattle.os_str_bytes.specs.PartUnits.{AreLoneSurrogates}
-use Rattle.os_str_bytes.specs.Platforms.{IsTextFault}
-use Rattle.os_str_bytes.specs.UnixLaws.{unix_laws}
-use Rattle.os_str_bytes.specs.WasmLaws.{wasm_laws}
-use Rattle.os_str_bytes.specs.WindowsLaws.{windows_laws}
+use Rattle.os_str_bytes.specs.UnixLaws.{AreAboveAscii, unix_laws, unix_parts}
+use Rattle.os_str_bytes.specs.WasmLaws.{AreNone, IsTextFault, wasm_laws, wasm_parts}
+use Rattle.os_str_bytes.specs.WindowsLaws.{windows_laws, windows_parts}
 use Rattle.os_quote.specs.Escape.{IsEscape, IsQuoteFault}
 use Rattle.os_quote.specs.Shown.{is_any}
 use Rattle.os_quote.specs.declared.error.QuoteError.{QuoteError}

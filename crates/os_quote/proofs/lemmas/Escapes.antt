@@ -10,7 +10,7 @@ use Rattle.wtf8_core.specs.PartUnits.{unit_bytes}
 use Rattle.wtf8_core.proofs.lemmas.characters.AtPlaces.{character_fits}
 use Rattle.wtf8_core.proofs.lemmas.chunks.OneList.{some_chunks, chunks_once}
 use Rattle.wtf8_core.proofs.lemmas.forms.Shapes.{form_bounds}
-use Rattle.platform_str.specs.PartLaws.{PartLaws}
+use Rattle.platform_str.specs.Laws.{PartLaws}
 use Rattle.os_str_ext.specs.Chunks.{chunks_of}
 use Rattle.os_quote.specs.Item.{Item, backslash, item_texts, IsItem, unit_item}
 use Rattle.os_quote.specs.Escape.{chunk_items, items_of, IsEscapeBy, IsBadEscapeBy}

@@ -8,7 +8,7 @@ use Rattle.std.proofs.lemmas.List.Elements.{All-from_recursion}
 use Rattle.std.proofs.lemmas.Str.{chars-append, chars-nil, chars_past_char, chars-IsAscii, IsUtf8-encode, encodes-chars, length-encode, len_utf8_bounds}
 use Rattle.wtf8_core.specs.Chunks.{Chunk, AreChunks}
 use Rattle.wtf8_core.specs.FaultText.{upper_hex_digit}
-use Rattle.platform_str.specs.PartLaws.{PartLaws}
+use Rattle.platform_str.specs.Laws.{PartLaws}
 use Rattle.os_quote.specs.Item.{Item, Character, Backslash, ByteUnit, WideUnit, LongCharacter, backslash, wide_digits, long_digits, item_text, item_texts, IsLong, IsItem, unit_item, hidden_item, character_item}
 use Rattle.os_quote.specs.Shown.{stays_on_line}
 use Rattle.os_quote.specs.Standing.{Stands, AllStand, IsCutAtHidden}

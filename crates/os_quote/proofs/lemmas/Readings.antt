@@ -6,7 +6,7 @@ use Rattle.std.proofs.lemmas.Bool.{cases_lt}
 use Rattle.std.proofs.lemmas.Str.{IsUtf8-nil, IsUtf8-append, IsUtf8-encode, IsUtf8-from_ascii}
 use Rattle.wtf8_core.specs.Chunks.{Chunk, AreChunks}
 use Rattle.wtf8_core.specs.CodePoint.{form}
-use Rattle.platform_str.specs.PartLaws.{PartLaws}
+use Rattle.platform_str.specs.Laws.{PartLaws}
 use Rattle.wtf8_core.specs.FaultText.{upper_hex_digit}
 use Rattle.wtf8_core.specs.Wtf8.{HasUnits}
 use Rattle.wtf8_core.proofs.lemmas.units.OneToOne.{units_once, wide_single}

@@ -8,7 +8,7 @@ use Rattle.std.specs.Str.{IsUtf8, chars}
 use Rattle.wtf8_core.specs.Covered.{IsCovered}
 use Rattle.wtf8_core.specs.StandingLaws.{StandingLaws}
 use Rattle.wtf8_core.proofs.lemmas.characters.Seams.{covered_within}
-use Rattle.platform_str.specs.PartLaws.{IsFirstUnit}
+use Rattle.platform_str.specs.Laws.{IsFirstUnit}
 use Rattle.os_str_ext.specs.Chunks.{IsBareUpTo, IsFirstChunk}
 use Rattle.os_str_ext.specs.Symbols.{AreKnown, chunks_symbols, symbols_of, unit_symbol}
 use Rattle.os_str_ext.specs.declared.symbols.Symbol.TheVariants.{Character}

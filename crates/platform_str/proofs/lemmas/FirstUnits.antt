@@ -7,7 +7,7 @@ use Rattle.wtf8_core.specs.Wtf8.{IsWtf8}
 use Rattle.wtf8_core.specs.declared.fault.EncodingError.{EncodingError}
 use Rattle.wtf8_core.proofs.lemmas.chunks.PartUnits.{first_unit}
 use Rattle.wtf8_core.proofs.lemmas.units.AsFunction.{units_of-is}
-use Rattle.platform_str.specs.PartLaws.{IsFirstUnit}
+use Rattle.platform_str.specs.Laws.{IsFirstUnit}
 use Rattle.platform_str.proofs.lemmas.WideLemmas.{Item, ok_units}
 
 -- the items are the units, and the first is one of three bytes

@@ -1,6 +1,6 @@
 use Rattle.std.proofs.Common.{◌≡◌, List}
 use Rattle.std.specs.List.{fold}
-use Rattle.platform_str.specs.Platforms.{itself}
+use Rattle.platform_str.specs.PlatformWords.{itself}
 use Rattle.os_str_ext.specs.Symbols.{AreSymbols}
 use Rattle.os_str_ext.specs.declared.symbols.Symbol.{Symbol}
 use Rattle.os_str_bytes_c.specs.Answers.{add_symbol}

@@ -1,7 +1,7 @@
 use Rattle.std.proofs.Common.{◌∙◌, ◌-◌, ◌<◌, ◌∷◌, ap, length, subst, sym, take}
 use Rattle.wtf8_core.specs.Covered.{StartsBare}
 use Rattle.wtf8_core.proofs.lemmas.standing.Places.{no_units}
-use Rattle.platform_str.specs.PartLaws.{IsFirstUnit}
+use Rattle.platform_str.specs.Laws.{IsFirstUnit}
 use Rattle.os_str_ext.specs.Symbols.{AreKnown, symbols_of, unit_symbol}
 use Rattle.os_str_ext.proofs.lemmas.FirstChunk.{edges, part_is_bare}
 use Rattle.os_str_ext.proofs.lemmas.SymbolSteps.{known_behind_unit, symbols_by_unit, formed_behind_unit}

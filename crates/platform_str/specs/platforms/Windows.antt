@@ -1,17 +1,28 @@
--- The laws of Windows, proved.
-use Rattle.std.proofs.Common.{◌≤◌, ◌++◌, length, drop, sym, ap, ◌∙◌, subst, arith}
+-- The strings of Windows: WTF-8. What its words mean, and its records of laws, proved; that of standing is wtf8_core's.
+use Rattle.std.proofs.Common.{ℕ, ◌≤◌, List, ◌++◌, length, drop, sym, ap, ◌∙◌, subst, arith}
 use Rattle.std.specs.Str.{IsUtf8}
+use Rattle.wtf8_core.specs.Fault.{IsFirstFault}
 use Rattle.wtf8_core.specs.Wtf8.{IsWtf8}
 use Rattle.wtf8_core.specs.UnitsOf.{units_of, wtf8_lossy}
 use Rattle.wtf8_core.specs.Lossy.{replacement}
+use Rattle.wtf8_core.specs.LossyReading.{IsLossyReading}
+use Rattle.wtf8_core.specs.LossyReading.IsLossyReading.{formed}
+use Rattle.wtf8_core.specs.PartUnits.{AreLoneSurrogates}
+use Rattle.wtf8_core.specs.declared.fault.EncodingError.{EncodingError}
 use Rattle.wtf8_core.proofs.lemmas.reader.Complete.{never_both, one_fault}
 use Rattle.wtf8_core.proofs.lemmas.units.AsFunction.{one_spelling, some_spelling, units_listed, units_cut}
 use Rattle.wtf8_core.proofs.lemmas.characters.AtPlaces.{none_begins}
 use Rattle.wtf8_core.proofs.lemmas.forms.Cuts.{wtf8_cut}
+use Rattle.wtf8_core.proofs.lemmas.reader.LossyReadings.{one_reading, some_reading, reading_wtf8}
+use Rattle.wtf8_core.proofs.lemmas.chunks.PartUnits.{bare_wtf8}
 use Rattle.wtf8_core.proofs.lemmas.texts.LossyTexts.{wtf8_lossy_front, surrogate_first}
 use Rattle.wtf8_core.proofs.lemmas.texts.AreWtf8.{wtf8_of_text, wtf8_lossy_text, wtf8_lossy_is_utf8, wtf8_behind_text}
-use Rattle.platform_str.specs.Laws.{PlatformLaws}
-use Rattle.platform_str.specs.Platforms.{AreWideUnits, IsWtf8Fault, IsThree}
+use Rattle.platform_str.specs.Laws.{PlatformLaws, PartLaws, ReadingLaws}
+use Rattle.platform_str.specs.PlatformWords.{AreWideUnits, IsThree}
+
+-- the first fault of bytes that aren't WTF-8
+abbrev pub IsWtf8Fault : List ℕ → EncodingError → Type 0
+IsWtf8Fault b fault = (cs : List ℕ) × IsFirstFault b cs fault
 
 pub windows_laws : PlatformLaws IsWtf8Fault IsWtf8 units_of AreWideUnits IsUtf8 wtf8_lossy IsThree
 windows_laws = record {
@@ -34,4 +45,15 @@ windows_laws = record {
   lossy_step = λ b n h s k r.
       let p = surrogate_first b h s (none_begins b k) in
       record { some = omega (arith, r); within = subst (λ m. m ≤ length b) (sym r) p.within; behind = subst (λ m. IsWtf8 (drop m b)) (sym r) p.rest; lossy_is = p.lossy ∙ ap (λ m. replacement ++ wtf8_lossy (drop m b)) (sym r) };
+}
+
+pub windows_parts : PartLaws IsWtf8 units_of AreLoneSurrogates
+windows_parts = record { spelled = λ b h k. (bare_wtf8 b h k).0; are_units = λ b h k. (bare_wtf8 b h k).1; are_wide = λ b h k. units_listed b h }
+
+pub windows_readings : ReadingLaws IsWtf8 IsLossyReading
+windows_readings = record {
+  reading_formed = λ b c a r. reading_wtf8 b c r;
+  reads_itself = λ b h. formed h;
+  one_reading = one_reading;
+  some_reading = some_reading;
 }

@@ -1,0 +1,3 @@
+pub mod Unix
+pub mod Windows
+pub mod Wasm
