@@ -9,7 +9,7 @@ use Rattle.os_str_bytes.specs.declared.cuts.Cuts.{Cuts}
 use Rattle.os_str_bytes.specs.Raw.{raw_bytes, raw_vec_of}
 use Rattle.os_str_bytes.specs.Cuts.{AreBothParts, IsPart}
 
--- the strings of the platform P are the bytes that `formed` says, `has_units` says their units, `listed` which lists are units, and `faults` the first fault of other bytes; `safe` says which bytes are IO-safe, `lossy_is` the lossy text of a string, `replaced` how many bytes one U+FFFD stands for there, and `parts` the units of a part
+-- the strings of the platform P are the bytes that are `formed`; `has_units` says what their units are, `listed` which lists are units, and `faults` which the first fault of other bytes is; `safe` says which bytes are IO-safe, `lossy_is` what the lossy text of a string is, `replaced` how many bytes one U+FFFD replaces there, and `parts` what the units of a part are
 pub record IsPlatform {E : Type 0} (P : Ghosts E) (formed : List ℕ → Type 0) (has_units : List ℕ → List ℕ → Type 0) (listed : List ℕ → Type 0) (faults : List ℕ → EncodingError → Type 0) (safe : List ℕ → Type 0) (lossy_is : List ℕ → List ℕ → Type 0) (replaced : List ℕ → ℕ → Type 0) (parts : List ℕ → Type 0) : Type 0 where
   pub well_formed : (b : List ℕ) → P.well_formed b ↔ formed b
   pub units : (b us : List ℕ) → (P.well_formed b × (us ≡ P.units b)) ↔ has_units b us
@@ -20,23 +20,23 @@ pub record IsPlatform {E : Type 0} (P : Ghosts E) (formed : List ℕ → Type 0)
   pub replaces : (b : List ℕ) (n : ℕ) → P.replaces b n ↔ replaced b n
   pub part_units : (us : List ℕ) → P.part_units us ↔ parts us
 
--- us are the bytes b themselves, which are so formed
+-- us are the bytes b themselves, and b is `formed`
 abbrev pub AreItself : (List ℕ → Type 0) → List ℕ → List ℕ → Type 0
 AreItself formed b us = formed b × (us ≡ b)
 
--- accepted bytes and lists of units correspond one to one: the units of each string are listed, and each listed list is that of one string
+-- accepted bytes and lists of units correspond one to one: the units of each string are listed, and each listed list is that of exactly one string
 pub record AreOneToOne (well_formed is_unit_list : List ℕ → Type 0) (units : List ℕ → List ℕ) : Type 0 where
   pub listed : (b : List ℕ) → well_formed b → is_unit_list (units b)
   pub some : (us : List ℕ) → is_unit_list us → (b : List ℕ) × (well_formed b × (units b ≡ us))
   pub once : (b c : List ℕ) → well_formed b → well_formed c → units b ≡ units c → b ≡ c
 
--- f is the first fault of b, which has no other, and b is no string
+-- f is the first fault of b, which has no other, and b isn't a string
 pub record IsOnlyFault (well_formed : List ℕ → Type 0) (first_fault : List ℕ → EncodingError → Type 0) (b : List ℕ) (f : EncodingError) : Type 0 where
   pub is : first_fault b f
   pub only : (g : EncodingError) → first_fault b g → g ≡ f
   pub refused : ¬ (well_formed b)
 
--- Ok exactly where b is a string, else its only fault
+-- Ok exactly if b is a string, else Err with its only fault
 abbrev pub AcceptsOrRefuses : {T : Type 0} → (List ℕ → Type 0) → (List ℕ → EncodingError → Type 0) → List ℕ → Result T EncodingError → Type 0
 AcceptsOrRefuses well_formed first_fault b r = MatchResult r (λ _. well_formed b) (λ fault. IsOnlyFault well_formed first_fault b fault)
 
@@ -45,7 +45,7 @@ abbrev pub SplitsUnlessEmpty : (List ℕ → List ℕ) → (List ℕ → List �
 SplitsUnlessEmpty units_of Is p s r = MatchOption r (length p ≡ 0) (λ pieces. (0 < length p) × Splits units_of Is p s pieces)
 
 module _ {E A : Type 0} {P : Ghosts E} where
-  -- each cut of s at index `at` gives the parts before it and from it on; of a copy, unless memory is refused
+  -- each cut of s at index `at` gives the bytes before it and those from it on (those of a copy, unless memory is refused)
   pub record AreCutsAt (s : RawOsStr E P) (at : ℕ) (cuts : Cuts E A P) : Type 0 where
     pub split_at : AreBothParts s at (raw_bytes cuts.split_at.0) (raw_bytes cuts.split_at.1)
     pub index : IsPart s 0 at (raw_bytes cuts.index.0) × IsPart s at (length (raw_bytes s)) (raw_bytes cuts.index.1)
@@ -53,6 +53,6 @@ module _ {E A : Type 0} {P : Ghosts E} where
     pub split_off : IfOk cuts.split_off (λ parts. AreBothParts s at (raw_vec_of parts.0).items (raw_vec_of parts.1).items)
     pub truncate : IfOk cuts.truncate (λ front. AreBothParts s at (raw_vec_of front).items (drop at (raw_bytes s)))
 
-  -- the cuts of s at index `at`; None where s may not be cut there
+  -- the cuts of s at index `at`; None if s may not be cut there
   abbrev pub CutsAt : RawOsStr E P → ℕ → Option (Cuts E A P) → Type 0
   CutsAt s at r = MatchOption r (¬ (IsBoundary (raw_bytes s) at)) (λ cuts. AreCutsAt s at cuts)

@@ -1,4 +1,4 @@
--- What clauses see of raw strings: their bytes, their units, and of owned ones the vector.
+-- What contracts say of raw strings: their bytes, their units, and for owned ones the vector.
 use Rattle.std.specs.Prelude.{ℕ, ◌≤◌, List, length}
 use Rattle.std.specs.declared.vec.Vec.{Vec}
 use Rattle.std.specs.Box.{boxed_slice_items}
@@ -27,6 +27,6 @@ module _ {E A : Type 0} {P : Ghosts E} where
   abbrev pub box_bytes : RawOsStrBox E A P → List ℕ
   box_bytes s = boxed_slice_items s.bytes
 
--- at may be handed to `truncate` of s: it is a boundary, unless it lies past the length
+-- `truncate` of s may be called with at: it is a boundary, or past the length
 abbrev pub MayTruncate : List ℕ → ℕ → Type 0
 MayTruncate s at = at ≤ length s → IsBoundary s at

@@ -1,4 +1,4 @@
--- The bytes of a raw string that is borrowed or owned, and what stays of it between the two types.
+-- The bytes of a raw string that is borrowed or owned, and what a conversion between the two types keeps of it.
 use Rattle.std.specs.Prelude.{◌≡◌, ℕ, List}
 use Rattle.platform_str.specs.declared.platform.Platform.{Ghosts}
 use Rattle.platform_str.specs.declared.cow.OsStrCow.{OsStrCow}

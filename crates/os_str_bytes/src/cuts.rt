@@ -9,7 +9,7 @@ use crate::raw_string::RawOsString;
 use os_str_ext::Platform;
 use std::alloc::{AllocError, Allocator};
 
-/// What each cut at a boundary gives: a field is named for the call.
+/// What each way to cut at a boundary gives. Each field has the name of the call.
 #[derive(Drop)]
 pub struct Cuts<'a, E: Platform + 'a, A: Allocator> {
     pub split_at: (RawOsStr<'a, E>, RawOsStr<'a, E>),
@@ -23,7 +23,7 @@ pub struct Cuts<'a, E: Platform + 'a, A: Allocator> {
     pub truncate: Result<RawOsString<E, A>, AllocError>,
 }
 
-/// `split_at`.
+/// Calls `split_at`.
 pub(crate) fn both_parts<'a, E: Platform>(
     string: RawOsStr<'a, E>,
     at: usize,
@@ -34,7 +34,7 @@ pub(crate) fn both_parts<'a, E: Platform>(
     string.split_at(at)
 }
 
-/// `index` of the ranges before and from an index.
+/// Calls `index` with the ranges before an index and from it on.
 #[tactic(auto, using(wtf8_core::proofs::lemmas::characters::Overlaps::boundary_within))]
 pub(crate) fn indexed<'a, E: Platform>(
     string: RawOsStr<'a, E>,
@@ -47,7 +47,7 @@ pub(crate) fn indexed<'a, E: Platform>(
     (string.index(..at), string.index(at..))
 }
 
-/// `get_unchecked` of the same ranges.
+/// Calls `get_unchecked` with the same ranges.
 #[tactic(auto, using(wtf8_core::proofs::lemmas::characters::Overlaps::boundary_within))]
 pub(crate) fn indexed_unchecked<'a, E: Platform>(
     string: RawOsStr<'a, E>,
@@ -60,7 +60,7 @@ pub(crate) fn indexed_unchecked<'a, E: Platform>(
     (string.get_unchecked(..at), string.get_unchecked(at..))
 }
 
-/// `split_off` of a copy: what it leaves, and what it answers.
+/// Calls `split_off` on a copy: what is left of the copy, and what was split off it.
 pub(crate) fn split_copy<'a, E: Platform, A: Allocator>(
     alloc: &'a A,
     string: RawOsStr<'a, E>,
@@ -75,7 +75,7 @@ pub(crate) fn split_copy<'a, E: Platform, A: Allocator>(
     Ok((front, back))
 }
 
-/// `truncate` of a copy: what it leaves.
+/// Calls `truncate` on a copy: what is left of the copy.
 pub(crate) fn truncated_copy<'a, E: Platform, A: Allocator>(
     alloc: &'a A,
     string: RawOsStr<'a, E>,

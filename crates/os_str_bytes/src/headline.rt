@@ -1,4 +1,4 @@
-//! The headline: what this library is for, as the contract of one call.
+//! The headline: the purpose of this library, as the contract of one call.
 ghost use Rattle.std.specs.Prelude.{◌≡◌, ◌↔◌, ◌++◌, ℕ, List, IsTrue, IsOk, IfOk, length, map};
 ghost use Rattle.std.specs.List.{repeat};
 ghost use Rattle.std.specs.Cmp.Lexicographic.{slice_cmp};
@@ -32,7 +32,7 @@ use std::alloc::{AllocError, Allocator};
 use std::cmp::Ordering;
 use wtf8_core::laws as wtf8_laws;
 
-/// What each call answers: a field is named for the call.
+/// What each call answers. Each field has the name of the call.
 #[derive(Drop)]
 pub struct Answers<'a, E: Platform + 'a, P: Pattern, A: Allocator> {
     pub cow_from_raw_bytes: Result<CowRawOsStr<'a, E>, EncodingError>,
@@ -52,24 +52,24 @@ pub struct Answers<'a, E: Platform + 'a, P: Pattern, A: Allocator> {
     pub trim_matches: RawOsStr<'a, E>,
     pub split_once: Option<(RawOsStr<'a, E>, RawOsStr<'a, E>)>,
     pub rsplit_once: Option<(RawOsStr<'a, E>, RawOsStr<'a, E>)>,
-    /// `None` where the pattern is empty: nothing is split by it.
+    /// `None` if the pattern is empty, since it can't split a string.
     pub split: Option<RawSplit<'a, E, P>>,
-    /// `None` where the pattern is empty.
+    /// `None` if the pattern is empty.
     pub rsplit: Option<RawRSplit<'a, E, P>>,
     pub is_boundary: bool,
-    /// `None` where the index is no boundary: the string may not be cut there.
+    /// `None` if the index isn't a boundary, since the string may not be cut there.
     pub cuts: Option<Cuts<'a, E, &'a A>>,
     pub push: Result<OsString<E, &'a A>, AllocError>,
     pub repeat: Result<RawOsString<E, &'a A>, AllocError>,
     pub utf8_chunks: Utf8Chunks<'a, E>,
 }
 
-/// Makes each call once, of any raw bytes, any two strings, any pattern, any index and any count,
-/// and hands out what they answer.
+/// Makes each call once, with any raw bytes, any two strings, any pattern, any index and any count,
+/// and returns what they answer.
 ///
-/// Its contract is what the library is for, and asks nothing of its caller. Units are bytes on Unix
-/// and wasm and 16-bit units on Windows (`laws::platforms` says what each platform is), an index
-/// that is found is a byte index.
+/// Its contract says what the library is for, and asks nothing of its caller. Units are bytes on
+/// Unix and wasm and 16-bit units on Windows (`laws::platforms` says what each platform is). An
+/// index that is found is a byte index.
 ///
 /// ```
 /// use os_str_bytes::headline::ask;
@@ -132,7 +132,7 @@ pub fn ask<'a, E: Platform + 'a, P: Pattern + Copy, A: Allocator>(
         (raw_bytes result.trim_end_matches) }
     ensures trim { Trims E.units IsTrim (P.text pattern) (raw_bytes string.entry)
         (raw_bytes result.trim_matches) }
-    // Each split cuts the units at the pattern's.
+    // Each split cuts the units where those of the pattern occur.
     ensures split_once { SplitsOnce IsLeastPlace raw_units (E.units (P.text pattern))
         (raw_units string.entry) result.split_once }
     ensures rsplit_once { SplitsOnce IsGreatestPlace raw_units (E.units (P.text pattern))
@@ -180,7 +180,7 @@ pub fn ask<'a, E: Platform + 'a, P: Pattern + Copy, A: Allocator>(
     }
 }
 
-/// What calls answer of Windows strings beside [`Answers`].
+/// What calls answer about Windows strings in addition to [`Answers`].
 #[derive(Drop)]
 pub struct WindowsAnswers<'a> {
     pub cmp: Ordering,
@@ -188,7 +188,7 @@ pub struct WindowsAnswers<'a> {
     pub utf8_chunks: Utf8Chunks<'a, Windows>,
 }
 
-/// Makes the calls whose answers say more on Windows, once each.
+/// Makes once each call whose answer says more on Windows.
 ///
 /// ```
 /// use os_str_bytes::RawOsStr;
@@ -221,7 +221,7 @@ pub fn ask_windows<'a>(
     }
 }
 
-/// The strings that calls give of lists of units: a field is named for the platform.
+/// The strings that calls make from lists of units. Each field has the name of the platform.
 #[derive(Drop)]
 pub struct Spelled<'a, A: Allocator> {
     pub unix: Result<CowRawOsStr<'a, Unix>, EncodingError>,
@@ -229,8 +229,8 @@ pub struct Spelled<'a, A: Allocator> {
     pub wasm: Result<CowRawOsStr<'a, Wasm>, EncodingError>,
 }
 
-/// Makes the calls that give a string of its units: each list of units of a platform is that of
-/// some string, and a call gives it.
+/// Makes the calls that make a string from its units: each list of units of a platform is that of
+/// some string, and a call gives that string.
 ///
 /// ```
 /// use os_str_bytes::headline::ask_units;
@@ -258,7 +258,7 @@ pub fn ask_units<'a, A: Allocator>(alloc: &'a A, bytes: &'a [u8], wide: &[u16]) 
     }
 }
 
-/// `cow_from_raw_bytes`, which accepts what is well formed.
+/// Calls `cow_from_raw_bytes`, which accepts well-formed bytes.
 fn accepted<'a, E: Platform>(raw: &'a [u8]) -> Result<CowRawOsStr<'a, E>, EncodingError>
     ensures ok { E.well_formed raw.now → IsOk result }
     ensures bytes { IfOk result (λ cow. raw_cow_bytes cow ≡ raw.now) }
@@ -267,21 +267,21 @@ fn accepted<'a, E: Platform>(raw: &'a [u8]) -> Result<CowRawOsStr<'a, E>, Encodi
     RawOsStr::cow_from_raw_bytes(raw)
 }
 
-/// `==` of two strings.
+/// Calls `==` on two strings.
 fn equal<'a, E: Platform>(string: RawOsStr<'a, E>, other: RawOsStr<'a, E>) -> bool
     ensures { IsTrue result ↔ (raw_units string.entry ≡ raw_units other.entry) }
 {
     string == other
 }
 
-/// `cmp` of two strings.
+/// Calls `cmp` on two strings.
 fn order<'a, E: Platform>(string: RawOsStr<'a, E>, other: RawOsStr<'a, E>) -> Ordering
     ensures { result ≡ slice_cmp nat_cmp (raw_bytes string.entry) (raw_bytes other.entry) }
 {
     string.cmp(&other)
 }
 
-/// `split`, where the pattern isn't empty.
+/// Calls `split`, if the pattern isn't empty.
 fn pieces<'a, E: Platform, P: Pattern + Copy>(
     string: RawOsStr<'a, E>,
     pattern: P,
@@ -294,7 +294,7 @@ fn pieces<'a, E: Platform, P: Pattern + Copy>(
     Some(string.split(pattern))
 }
 
-/// `rsplit`, where the pattern isn't empty.
+/// Calls `rsplit`, if the pattern isn't empty.
 fn pieces_from_the_end<'a, E: Platform, P: Pattern + Copy>(
     string: RawOsStr<'a, E>,
     pattern: P,
@@ -307,14 +307,14 @@ fn pieces_from_the_end<'a, E: Platform, P: Pattern + Copy>(
     Some(string.rsplit(pattern))
 }
 
-/// Whether a pattern has no byte.
+/// Whether a pattern has no bytes.
 fn is_empty<P: Pattern>(pattern: P) -> bool
     ensures { IsTrue result ↔ (length (P.text pattern) ≡ 0) }
 {
     pattern.encode().as_bytes().is_empty()
 }
 
-/// Each cut at an index that is a boundary.
+/// Each cut at an index, if the index is a boundary.
 fn cuts<'a, E: Platform, A: Allocator>(
     alloc: &'a A,
     string: RawOsStr<'a, E>,
@@ -334,7 +334,7 @@ fn cuts<'a, E: Platform, A: Allocator>(
     })
 }
 
-/// One string, with another pushed.
+/// One string with another appended.
 fn joined<'a, E: Platform, A: Allocator>(
     alloc: A,
     string: RawOsStr<'a, E>,

@@ -1,4 +1,4 @@
-//! All iterators: those of raw strings, and those of the crates below.
+//! All iterators: those of raw strings, and those of the crates below this one.
 use crate::raw_str::RawOsStr;
 pub use os_str_ext::{
     Direction, FromEnd, FromStart, OsUnits, Pieces, RSplit, Split, Symbols, Utf8Chunks, WideUnits,
@@ -8,20 +8,20 @@ use std::alloc::AllocError;
 use std::marker::Model;
 pub use wtf8_core::{CodePoints, DecodeWide, EncodeWide};
 
-/// The pieces of a raw string between the matches of a pattern, from one of its ends: the items of
-/// [`Pieces`] as raw strings.
+/// An iterator over the pieces of a raw string between the matches of a pattern, from the start or
+/// from the end: the items of [`Pieces`] as raw strings.
 ///
-/// Its `clone` takes no memory, answers `Ok` and has the same pieces left. After `None` comes
-/// `None`.
+/// Cloning doesn't allocate and its answer is always `Ok`; the clone has the same pieces left.
+/// After `None` it gives only `None`.
 #[derive(Drop)]
 pub struct RawPieces<'a, E: Platform + 'a, P: Pattern, D: Direction> {
     pieces: Pieces<'a, E, P, D>,
 }
 
-/// The pieces of a raw string from its start: the items of [`Split`] as raw strings.
+/// The pieces of a raw string, from its start: the items of [`Split`] as raw strings.
 pub type RawSplit<'a, E, P> = RawPieces<'a, E, P, FromStart>;
 
-/// The pieces of a raw string from its end: the items of [`RSplit`] as raw strings.
+/// The pieces of a raw string, from its end: the items of [`RSplit`] as raw strings.
 pub type RawRSplit<'a, E, P> = RawPieces<'a, E, P, FromEnd>;
 
 impl<'a, E: Platform, P: Pattern, D: Direction> Model for RawPieces<'a, E, P, D> {

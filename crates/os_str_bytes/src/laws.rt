@@ -1,6 +1,6 @@
-//! The laws of every platform and of raw strings: each is the contract of a function that does
-//! nothing. Those of bytes, code points and units are in [`crate::wtf8_laws`]; the one that says
-//! what the order of Windows strings is, [`order`], is here too.
+//! The laws of every platform and of raw strings. Each is the contract of a function that does
+//! nothing. The laws of bytes, code points and units are in [`crate::wtf8_laws`]; [`order`], which
+//! says what the order of Windows strings is, is here too.
 ghost use Rattle.std.specs.Prelude.{◌≡◌, ◌↔◌, ℕ, List, IsTrue, Some};
 ghost use Rattle.std.specs.Cmp.Lexicographic.{slice_cmp};
 ghost use Rattle.std.specs.Ordering.{nat_cmp};
@@ -28,12 +28,13 @@ use std::alloc::Allocator;
 use std::hash::Hash;
 pub use wtf8_core::laws::order;
 
-/// What the platforms are. Unix strings are any bytes, which are their units, and none are refused;
-/// Windows strings are WTF-8, their units any 16-bit units (RFC 2781); wasm strings are UTF-8,
-/// whose bytes are their units. All Unix strings are IO-safe, elsewhere the UTF-8 ones. In a lossy
-/// text U+FFFD replaces each maximal ill-formed part (Unicode, section 3.9) on Unix and each
-/// surrogate on Windows; on wasm it is the string. The units of a part of a chunk are at least 80
-/// (hexadecimal) on Unix, lone surrogates on Windows, and on wasm there are none.
+/// What the platforms are. Unix strings are any bytes, which are their units, and no bytes are
+/// refused. Windows strings are WTF-8, and their units any 16-bit units (RFC 2781). Wasm strings
+/// are UTF-8, and their bytes are their units. On Unix all strings are IO-safe, on the other
+/// platforms those that are UTF-8. In a lossy text U+FFFD replaces each maximal ill-formed part
+/// (Unicode, section 3.9) on Unix and each surrogate on Windows; on wasm the lossy text is the
+/// string. The units of the part of a chunk are at least 80 (hexadecimal) on Unix and lone
+/// surrogates on Windows; on wasm there are none.
 pub fn platforms()
     ensures unix { IsPlatform ⟦<Unix as Platform>⟧ AreBytes (AreItself AreBytes) AreBytes IsNoFault
         AreBytes IsLossyText IsIllFormedPart AreAboveAscii }
@@ -46,8 +47,8 @@ pub fn platforms()
     lossy_text();
 }
 
-/// How the platforms read any bytes. On Unix they are read as they are; on Windows U+FFFD replaces
-/// each part that is refused, on wasm each maximal ill-formed part (Unicode, section 3.9).
+/// How the platforms read arbitrary bytes lossily. On Unix they stay as they are; U+FFFD replaces
+/// on Windows each refused part, on wasm each maximal ill-formed part (Unicode, section 3.9).
 pub fn platform_readings()
     ensures unix { (b : List ℕ) → (c : List ℕ) → ⟦<Unix as Platform>⟧.reads_as b c ↔ (c ≡ b) }
     ensures windows { (b : List ℕ) → (c : List ℕ) → ⟦<Windows as Platform>⟧.reads_as b c
@@ -56,8 +57,8 @@ pub fn platform_readings()
         ↔ IsLossyText b c }
 {}
 
-/// Borrowed raw strings are equal where their bytes are, and are ordered as lists of bytes are. A
-/// hasher is fed the bytes, as of a slice, so equal strings hash alike.
+/// Borrowed raw strings are equal exactly if their bytes are equal, and ordered as lists of bytes
+/// are. A hasher receives the bytes, as for a slice, so equal strings have equal hashes.
 pub fn raw_comparisons<'a, E: Platform>(a: &RawOsStr<'a, E>, b: &RawOsStr<'a, E>)
     ensures equal { IsTrue (⟦<RawOsStr<'a, E> as PartialEq>⟧.eq a.now b.now)
         ↔ (raw_bytes a.now ≡ raw_bytes b.now) }
@@ -71,8 +72,8 @@ pub fn raw_comparisons<'a, E: Platform>(a: &RawOsStr<'a, E>, b: &RawOsStr<'a, E>
     comparisons(&a.as_os_str(), &b.as_os_str());
 }
 
-/// Owned raw strings are equal where their bytes are, and are ordered as lists of bytes are. A
-/// hasher is fed the bytes, as of a slice, so equal strings hash alike.
+/// Owned raw strings are equal exactly if their bytes are equal, and ordered as lists of bytes are.
+/// A hasher receives the bytes, as for a slice, so equal strings have equal hashes.
 pub fn raw_owned_comparisons<E: Platform, A: Allocator>(
     a: &RawOsString<E, A>,
     b: &RawOsString<E, A>,

@@ -1,7 +1,7 @@
-//! Platform strings without loss, under the names of the Rust crate `os_str_bytes`.
+//! Lossless platform strings, under the names of the Rust crate `os_str_bytes`.
 //!
-//! [`OsStrBytesExt`] is the trait to begin with: it gives an [`OsStr`] the calls that std's `str`
-//! has, also where the string isn't UTF-8.
+//! [`OsStrBytesExt`] is the trait to begin with: it gives an [`OsStr`] the calls of std's `str`,
+//! also if the string isn't UTF-8.
 //!
 //! ```
 //! use os_str_bytes::{OsStr, OsStrBytes, OsStrBytesExt, Unix};
@@ -18,26 +18,27 @@
 //! | search, trim, cut or split a string | [`OsStrBytesExt`] |
 //! | convert a string from bytes, and to bytes | [`OsStrBytes`], [`OsStringBytes`] |
 //! | convert a Windows string from 16-bit code units, and to them | [`OsString::from_wide`], [`OsStr::encode_wide`] |
-//! | print a string, with U+FFFD for what is no text | [`OsStr::display`] |
-//! | find the text in a string, and what is none | [`OsStrBytesExt::utf8_chunks`], [`OsStrBytesExt::symbols`] |
+//! | print a string, with U+FFFD for what isn't text | [`OsStr::display`] |
+//! | find text and what isn't text | [`OsStrBytesExt::utf8_chunks`], [`OsStrBytesExt::symbols`] |
 //!
-//! The platform is a type parameter: [`Unix`], [`Windows`] and [`Wasm`] are there at once. The
-//! modules [`unix`], [`windows`] and [`wasm`] have every string type without it, the module
-//! [`iter`] has every iterator. [`RawOsStr`] and [`RawOsString`] are the raw strings of the Rust
-//! crate, for code that is written with them; they have the same calls.
+//! The platform is a type parameter: [`Unix`], [`Windows`] and [`Wasm`] can be used side by side.
+//! The modules [`unix`], [`windows`] and [`wasm`] have every string type without the parameter, and
+//! the module [`iter`] has every iterator. [`RawOsStr`] and [`RawOsString`] are the raw strings of
+//! the Rust crate, for code that uses them; they have the same calls.
 //!
-//! This crate re-exports each public item of the crates below, and proves nothing about bytes anew.
-//! All indices and lengths are numbers of bytes. In examples `rt` is the runtime that `main` or a
-//! test has, and `alloc` is `rt.alloc()`.
+//! This crate re-exports each public item of the crates below it, and has no proofs about bytes of
+//! its own. All indices and lengths count bytes. A call whose docs say *own call* isn't in the Rust
+//! crate. In examples `rt` is the runtime that `main` or a test has, and `alloc` is `rt.alloc()`.
 //!
 //! # Calls with a condition
 //!
-//! A call with a `requires` can only be made where it is proved. Of the raw strings these have
-//! one: `from_encoded_bytes_unchecked`, `from_encoded_vec_unchecked`, `assert_cow_from_raw_bytes`,
-//! `cow_from_raw_bytes_unchecked`, `assert_from_raw_vec` and `from_raw_vec_unchecked` (the bytes
-//! are well formed: [`Platform::check`]); `split_at`, `split_off` and `truncate` (the index is a
-//! boundary: `is_boundary`); `index` and `get_unchecked` (the range fits: `fits`); `split` and
-//! `rsplit` (the pattern isn't empty). Every other call of them can be made anywhere.
+//! A call with a `requires` can only be made where its condition is proved. Of the calls of raw
+//! strings, these have one: `from_encoded_bytes_unchecked`, `from_encoded_vec_unchecked`,
+//! `assert_cow_from_raw_bytes`, `cow_from_raw_bytes_unchecked`, `assert_from_raw_vec` and
+//! `from_raw_vec_unchecked` (the bytes are well formed: [`Platform::check`]); `split_at`,
+//! `split_off` and `truncate` (the index is a boundary: `is_boundary`); `index` and `get_unchecked`
+//! (the range fits: `fits`); `split` and `rsplit` (the pattern isn't empty). Every other call of
+//! raw strings can be made anywhere.
 #![tactic(auto)]
 
 mod cuts;

@@ -1,4 +1,4 @@
-//! Owned raw strings in a block of their own length.
+//! Owned raw strings in a block of exactly their length.
 ghost use Rattle.std.specs.Prelude.{◌≡◌};
 ghost use Rattle.std.specs.Box.{boxed_slice_items};
 
@@ -9,9 +9,10 @@ use std::alloc::{Allocator, Global};
 use std::boxed::{BoxedSlice, BoxedStr};
 use std::marker::PhantomData;
 
-/// An owned string of a platform in a block of its own length: the crate's `Box<RawOsStr>`.
+/// An owned string of a platform in a block of exactly its length: the Rust crate's
+/// `Box<RawOsStr>`.
 ///
-/// It is made by [`crate::RawOsString::into_box`], and of a boxed text by `From`.
+/// It is made by [`crate::RawOsString::into_box`], or from a boxed text by `From`.
 #[derive(Drop)]
 pub struct RawOsStrBox<E: Platform, A: Allocator = Global> {
     bytes: BoxedSlice<u8, A>,

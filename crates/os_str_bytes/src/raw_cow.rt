@@ -7,14 +7,14 @@ use crate::raw_string::RawOsString;
 use os_str_ext::{OsStrCow, Platform};
 use std::alloc::{Allocator, Global};
 
-/// A raw string that is borrowed or owned: the crate's `Cow<RawOsStr>`.
+/// A raw string that is borrowed or owned: the Rust crate's `Cow<RawOsStr>`.
 #[derive(Drop)]
 pub enum CowRawOsStr<'a, E: Platform + 'a, A: Allocator = Global> {
     Borrowed(RawOsStr<'a, E>),
     Owned(RawOsString<E, A>),
 }
 
-/// What [`CowRawOsStr`] has beyond a view: the way from the platform's own type and back.
+/// Conversions of [`CowRawOsStr`] from the platform's own type and back.
 pub trait RawOsStrCow<'a, E: Platform + 'a>: Sized {
     type OsStrCow;
 
@@ -22,7 +22,7 @@ pub trait RawOsStrCow<'a, E: Platform + 'a>: Sized {
 
     ghost os_bytes_of: { Self.OsStrCow → List ℕ };
 
-    // both are borrowed, or both are owned, in one vector
+    // both values are borrowed, or both are owned and have the same vector
     ghost is_kept: { Self.OsStrCow → Self → Type 0 };
 
     /// The same string, borrowed or moved in its own vector.

@@ -1,4 +1,4 @@
-//! Searches, cuts and pieces of raw strings: the calls of [`crate::OsStrBytesExt`] under the same
+//! Searches, cuts and pieces of raw strings: the calls of [`crate::OsStrBytesExt`], with the same
 //! contracts.
 ghost use Rattle.std.specs.Prelude.{◌≡◌, ◌<◌, ◌↔◌, ◌++◌, ◌+◌, ◌*◌, ◌^◌, IsTrue, IsOk, IsErr, IfOk, IfSome, length, take, drop};
 ghost use Rattle.std.specs.Char.{encode_utf8};
@@ -22,11 +22,12 @@ use crate::raw_string::RawOsString;
 use os_str_ext::{OsStrBytesExt, Pattern, Platform, SliceIndex, Symbols, Utf8Chunks};
 use std::alloc::{AllocError, Allocator};
 
-/// All indices are byte indices. No call takes memory but [`RawOsStr::repeat`].
+/// All indices are byte indices. No call but [`RawOsStr::repeat`] allocates.
 impl<'a, E: Platform> RawOsStr<'a, E> {
     // Cuts.
 
-    /// Whether the string may be cut at an index; past its length it may not (own call).
+    /// Whether the string may be cut at index `at`; `false` if `at` is greater than the length (own
+    /// call).
     ///
     /// ```
     /// use os_str_bytes::{RawOsStr, Unix};
@@ -42,7 +43,8 @@ impl<'a, E: Platform> RawOsStr<'a, E> {
     }
 
     /// The parts before and after a boundary (test: [`RawOsStr::is_boundary`]), as std's
-    /// `str::split_at`. Their units joined are the string's.
+    /// `str::split_at`. The units of the first part and those of the second, joined, are the
+    /// string's.
     ///
     /// ```
     /// use os_str_bytes::{RawOsStr, Unix};
@@ -77,7 +79,8 @@ impl<'a, E: Platform> RawOsStr<'a, E> {
     }
 
     /// The part in a range that fits (test: [`RawOsStr::fits`]), as std's indexing of `str`. The
-    /// units before the range, the part's and those after the range, joined, are the string's.
+    /// units before the range, those of the part and those after the range, joined, are the
+    /// string's.
     ///
     /// ```
     /// use os_str_bytes::{RawOsStr, Unix};
@@ -116,8 +119,8 @@ impl<'a, E: Platform> RawOsStr<'a, E> {
 
     // Searches.
 
-    /// The first index at which a pattern occurs, `None` where it doesn't occur. The string may be
-    /// cut there and after the pattern, at `index + text.len()`.
+    /// The first index at which the pattern occurs, or `None` if it doesn't occur. The string may
+    /// be cut at that index and after the match.
     ///
     /// ```
     /// use os_str_bytes::{RawOsStr, Unix};
@@ -137,8 +140,8 @@ impl<'a, E: Platform> RawOsStr<'a, E> {
         self.string.find(pattern)
     }
 
-    /// The last index at which a pattern occurs, `None` where it doesn't occur. The string may be
-    /// cut there and after the pattern, at `index + text.len()`.
+    /// The last index at which the pattern occurs, or `None` if it doesn't occur. The string may be
+    /// cut at that index and after the match.
     ///
     /// ```
     /// use os_str_bytes::{RawOsStr, Unix};
@@ -157,7 +160,7 @@ impl<'a, E: Platform> RawOsStr<'a, E> {
         self.string.rfind(pattern)
     }
 
-    /// Whether a pattern occurs.
+    /// Whether the pattern occurs in the string.
     ///
     /// ```
     /// use os_str_bytes::{RawOsStr, Unix};
@@ -173,7 +176,7 @@ impl<'a, E: Platform> RawOsStr<'a, E> {
         self.string.contains(pattern)
     }
 
-    /// Whether the string starts with a pattern.
+    /// Whether the string starts with the pattern.
     ///
     /// ```
     /// use os_str_bytes::{RawOsStr, Unix};
@@ -189,7 +192,7 @@ impl<'a, E: Platform> RawOsStr<'a, E> {
         self.string.starts_with(pattern)
     }
 
-    /// Whether the string ends with a pattern.
+    /// Whether the string ends with the pattern.
     ///
     /// ```
     /// use os_str_bytes::{RawOsStr, Unix};
@@ -205,7 +208,8 @@ impl<'a, E: Platform> RawOsStr<'a, E> {
         self.string.ends_with(pattern)
     }
 
-    /// Whether the units of `front` are a prefix of the string's; a half of a pair counts.
+    /// Whether the units of the string start with the units of `front`; half of a surrogate pair
+    /// counts.
     ///
     /// ```
     /// use os_str_bytes::{OsString, RawOsStr, RawOsString, Windows};
@@ -219,7 +223,8 @@ impl<'a, E: Platform> RawOsStr<'a, E> {
         self.string.starts_with_os(front.string)
     }
 
-    /// Whether the units of `end` are a suffix of the string's; a half of a pair counts.
+    /// Whether the units of the string end with the units of `end`; half of a surrogate pair
+    /// counts.
     ///
     /// ```
     /// use os_str_bytes::{OsString, RawOsStr, RawOsString, Windows};
@@ -235,7 +240,7 @@ impl<'a, E: Platform> RawOsStr<'a, E> {
 
     // Strips and trims.
 
-    /// The string without a pattern as its prefix, `None` where it doesn't start with it.
+    /// The string without the pattern at its start, or `None` if it doesn't start with the pattern.
     ///
     /// ```
     /// use os_str_bytes::{RawOsStr, Unix};
@@ -255,7 +260,7 @@ impl<'a, E: Platform> RawOsStr<'a, E> {
         }
     }
 
-    /// The string without a pattern as its suffix, `None` where it doesn't end with it.
+    /// The string without the pattern at its end, or `None` if it doesn't end with the pattern.
     ///
     /// ```
     /// use os_str_bytes::{RawOsStr, Unix};
@@ -274,7 +279,8 @@ impl<'a, E: Platform> RawOsStr<'a, E> {
         }
     }
 
-    /// The string without each pattern at its start; the whole where the pattern is empty.
+    /// The string with all prefixes that match the pattern repeatedly removed; the whole string if
+    /// the pattern is empty.
     ///
     /// ```
     /// use os_str_bytes::{RawOsStr, Unix};
@@ -288,7 +294,8 @@ impl<'a, E: Platform> RawOsStr<'a, E> {
         RawOsStr::new(self.string.trim_start_matches(pattern))
     }
 
-    /// The string without each pattern at its end; the whole where the pattern is empty.
+    /// The string with all suffixes that match the pattern repeatedly removed; the whole string if
+    /// the pattern is empty.
     ///
     /// ```
     /// use os_str_bytes::{RawOsStr, Unix};
@@ -302,8 +309,8 @@ impl<'a, E: Platform> RawOsStr<'a, E> {
         RawOsStr::new(self.string.trim_end_matches(pattern))
     }
 
-    /// The string without each pattern at its start, and then without each at its end; the whole
-    /// where the pattern is empty.
+    /// The string with all prefixes that match the pattern repeatedly removed, and then all such
+    /// suffixes; the whole string if the pattern is empty.
     ///
     /// ```
     /// use os_str_bytes::{RawOsStr, Unix};
@@ -320,7 +327,8 @@ impl<'a, E: Platform> RawOsStr<'a, E> {
 
     // Pieces.
 
-    /// The parts before and after the first occurrence of a pattern, `None` where it doesn't occur.
+    /// The parts before and after the first occurrence of the pattern, or `None` if it doesn't
+    /// occur.
     ///
     /// ```
     /// use os_str_bytes::{RawOsStr, Unix};
@@ -342,7 +350,8 @@ impl<'a, E: Platform> RawOsStr<'a, E> {
         }
     }
 
-    /// The parts before and after the last occurrence of a pattern, `None` where it doesn't occur.
+    /// The parts before and after the last occurrence of the pattern, or `None` if it doesn't
+    /// occur.
     ///
     /// ```
     /// use os_str_bytes::{RawOsStr, Unix};
@@ -363,7 +372,7 @@ impl<'a, E: Platform> RawOsStr<'a, E> {
         }
     }
 
-    /// The pieces between the occurrences of a pattern, each cut at the first one in what is left.
+    /// The pieces between occurrences of the pattern, each cut at the first one in what is left.
     /// The pattern isn't empty (test: `str::is_empty`; a `char` never is).
     ///
     /// ```
@@ -382,7 +391,7 @@ impl<'a, E: Platform> RawOsStr<'a, E> {
         RawPieces::new(self.string.split(pattern))
     }
 
-    /// The pieces between the occurrences of a pattern from the end, each cut at the last one in
+    /// The pieces between occurrences of the pattern, from the end, each cut at the last one in
     /// what is left. The pattern isn't empty (test: `str::is_empty`; a `char` never is).
     ///
     /// ```
@@ -403,9 +412,9 @@ impl<'a, E: Platform> RawOsStr<'a, E> {
 
     // Characters.
 
-    /// The first character and the rest of the string, `None` where no whole character starts the
-    /// string (own call; of a text std's `str::chars`, of which `next` gives the character and
-    /// `as_str` the rest).
+    /// The first character and the rest of the string, or `None` if the string doesn't start with a
+    /// whole character (own call; if the string is a text, what std's `str::chars` gives: `next`
+    /// the character and `as_str` the rest).
     ///
     /// ```
     /// use os_str_bytes::{RawOsStr, Unix};
@@ -426,8 +435,9 @@ impl<'a, E: Platform> RawOsStr<'a, E> {
         }
     }
 
-    /// The last character and the rest of the string, `None` where no whole character ends the
-    /// string (own call; of a text std's `str::chars` with `next_back`).
+    /// The last character and the rest of the string, or `None` if the string doesn't end with a
+    /// whole character (own call; if the string is a text, what std's `str::chars` gives by
+    /// `next_back`).
     ///
     /// ```
     /// use os_str_bytes::{RawOsStr, Unix};
@@ -450,9 +460,9 @@ impl<'a, E: Platform> RawOsStr<'a, E> {
 
     // Chunks.
 
-    /// The string's chunks: its parts without whole characters, each with the text after it. Only
-    /// the first part may be empty, and only the last text; never both of one chunk. All chunks
-    /// joined are the string, and it has no other list of them.
+    /// The string's chunks: its parts that contain no whole character, each with the text after it.
+    /// Only the first part may be empty, and only the last text; never both in one chunk. All
+    /// chunks joined are the string, and it has no other list of them.
     ///
     /// ```
     /// use os_str_bytes::{RawOsStr, Unix};
@@ -477,8 +487,8 @@ impl<'a, E: Platform> RawOsStr<'a, E> {
 
     // Symbols.
 
-    /// The string's symbols, one by one: its whole characters, and the units of what is no text
-    /// (own call; of a text std's `str::chars`). It takes no memory.
+    /// The string's symbols, one by one: its whole characters, and the units of what isn't text
+    /// (own call; if the string is a text, what std's `str::chars` gives). It doesn't allocate.
     ///
     /// ```
     /// use os_str_bytes::{RawOsStr, Symbol, Unix};
@@ -499,13 +509,14 @@ impl<'a, E: Platform> RawOsStr<'a, E> {
 
     // Joins.
 
-    /// The string `count` times over: its units, one time after the other (std's `str::repeat`). On
-    /// Windows two halves of a pair that meet become one code point (WTF-8, "Concatenating"). It
-    /// takes the memory at once. No times, and the empty string any number of times, take none.
+    /// The string repeated `count` times: its units, that many times (std's `str::repeat`). On
+    /// Windows a high surrogate at the end of one copy and a low one at the start of the next
+    /// become one code point (WTF-8, "Concatenating"). It requests all the memory at once, and none
+    /// if `count` is 0 or the string is empty.
     ///
     /// # Errors
     ///
-    /// `AllocError` where the memory is refused, and where `count` times the number of bytes passes
+    /// `AllocError` if the memory is refused, or if `count` times the number of bytes is more than
     /// `usize::MAX`.
     ///
     /// ```

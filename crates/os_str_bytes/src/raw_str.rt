@@ -10,10 +10,10 @@ use crate::raw_string::RawOsString;
 use os_str_ext::{ByteCow, EncodingError, OsStr, OsStrCow, OsStrDisplay, Platform, StrCow};
 use std::alloc::{AllocError, Allocator};
 
-/// A borrowed string of a platform, with the calls of the crate's `RawOsStr`.
+/// A borrowed string of a platform, with the calls of the Rust crate's `RawOsStr`.
 ///
-/// Strings are equal where their bytes are, and are ordered as their bytes are. Equal strings
-/// hash alike.
+/// Strings compare by their bytes: they are equal if their bytes are, and ordered like them. Equal
+/// strings have equal hashes.
 #[derive_where(Clone, Copy, PartialEq, Eq, PartialOrd, Ord, Hash)]
 pub struct RawOsStr<'a, E: Platform + 'a> {
     pub(crate) string: OsStr<'a, E>,
@@ -34,7 +34,7 @@ impl<'a, E: Platform> RawOsStr<'a, E> {
     ghost use Rattle.os_str_bytes.specs.Raw.{raw_bytes, raw_vec_of};
     ghost use Rattle.os_str_bytes.specs.RawCow.{raw_cow_bytes};
 
-    /// The raw form of a string.
+    /// The string as a raw string.
     ///
     /// ```
     /// use os_str_bytes::{OsStr, RawOsStr, Unix};
@@ -60,7 +60,7 @@ impl<'a, E: Platform> RawOsStr<'a, E> {
         RawOsStr::new(string)
     }
 
-    /// The raw string of a text, which is a string of every platform.
+    /// The raw string of a text; every text is a string of every platform.
     ///
     /// ```
     /// use os_str_bytes::{RawOsStr, Wasm};
@@ -73,7 +73,7 @@ impl<'a, E: Platform> RawOsStr<'a, E> {
         RawOsStr::new(OsStr::new(text))
     }
 
-    /// The raw string of well-formed bytes (test: [`Platform::check`]); safe, and the
+    /// The raw string of well-formed bytes (test: [`Platform::check`]). It is safe, and the
     /// counterpart of std's `OsStr::from_encoded_bytes_unchecked`.
     ///
     /// ```
@@ -89,15 +89,14 @@ impl<'a, E: Platform> RawOsStr<'a, E> {
         RawOsStr::new(OsStr::from_encoded_bytes_unchecked(encoded))
     }
 
-    /// The raw string of raw bytes, in place, as a view (own call):
-    /// [`RawOsStr::cow_from_raw_bytes`] answers what might be owned. It takes no memory.
+    /// The raw string of raw bytes, as a view of them (own call): [`RawOsStr::cow_from_raw_bytes`]
+    /// answers a value that may be borrowed or owned. It doesn't allocate.
     ///
-    /// On Windows ED A0 80 (hexadecimal) is accepted, and ED A0 80 ED B0 80 is not.
+    /// On Windows ED A0 80 (hexadecimal) is accepted, and ED A0 80 ED B0 80 isn't.
     ///
     /// # Errors
     ///
-    /// The first fault of the bytes where they aren't well formed, as [`Platform::check`] answers
-    /// it.
+    /// The first fault of the bytes if they aren't well formed: what [`Platform::check`] answers.
     ///
     /// ```
     /// use os_str_bytes::{EncodingError, RawOsStr, Windows};
@@ -144,11 +143,11 @@ impl<'a, E: Platform> RawOsStr<'a, E> {
         RawOsStr::assert_cow_from_raw_bytes(raw)
     }
 
-    /// The raw string of raw bytes. It takes no memory.
+    /// The raw string of raw bytes. It doesn't allocate.
     ///
     /// # Errors
     ///
-    /// The first fault of the bytes where they aren't well formed ([`Platform::check`]).
+    /// The first fault of the bytes if they aren't well formed ([`Platform::check`]).
     ///
     /// ```
     /// use os_str_bytes::{EncodingError, RawOsStr, Unix, Windows};
@@ -194,7 +193,8 @@ impl<'a, E: Platform> RawOsStr<'a, E> {
         self.string
     }
 
-    /// The string as the platform's own type, borrowed, as what might be owned. It takes no memory.
+    /// The string as the platform's own type, in a value that may be borrowed or owned and here is
+    /// borrowed. It doesn't allocate.
     ///
     /// ```
     /// use os_str_bytes::{OsStr, RawOsStr, Unix};
@@ -223,8 +223,8 @@ impl<'a, E: Platform> RawOsStr<'a, E> {
         ByteCow::Borrowed(self.as_encoded_bytes())
     }
 
-    /// The string as a text, `None` where it isn't UTF-8 (std's `OsStr::to_str`). It takes no
-    /// memory.
+    /// The string as a text, or `None` if it isn't UTF-8 (std's `OsStr::to_str`). It doesn't
+    /// allocate.
     ///
     /// ```
     /// use os_str_bytes::{RawOsStr, Unix};
@@ -239,12 +239,12 @@ impl<'a, E: Platform> RawOsStr<'a, E> {
         self.string.to_str()
     }
 
-    /// The lossy text (std's `OsStr::to_string_lossy`): the string itself where it is UTF-8,
-    /// which takes no memory, else a text with U+FFFD for what is no text.
+    /// The lossy text (std's `OsStr::to_string_lossy`). If the string is UTF-8 it is the string
+    /// itself, which doesn't allocate, else a text with U+FFFD for what isn't text.
     ///
     /// # Errors
     ///
-    /// `AllocError` where the memory is refused.
+    /// `AllocError` if the memory is refused.
     ///
     /// ```
     /// use os_str_bytes::{RawOsStr, Unix};
@@ -259,8 +259,8 @@ impl<'a, E: Platform> RawOsStr<'a, E> {
         self.string.to_string_lossy(alloc)
     }
 
-    /// The lossy text, to be printed (std's `OsStr::display`): what `{}` writes of it is the text
-    /// that [`RawOsStr::to_str_lossy`] gives. It takes no memory.
+    /// The lossy text, for printing (std's `OsStr::display`): `{}` writes the text that
+    /// [`RawOsStr::to_str_lossy`] gives. It doesn't allocate.
     ///
     /// ```
     /// use os_str_bytes::{OsString, RawOsString, Windows};
@@ -275,7 +275,7 @@ impl<'a, E: Platform> RawOsStr<'a, E> {
         self.string.display()
     }
 
-    /// Whether the string has no byte.
+    /// Whether the string has no bytes.
     ///
     /// ```
     /// use os_str_bytes::{RawOsStr, Unix};
@@ -289,11 +289,11 @@ impl<'a, E: Platform> RawOsStr<'a, E> {
         self.string.is_empty()
     }
 
-    /// An owned copy. Of the empty string it takes no memory.
+    /// An owned copy. A copy of the empty string doesn't allocate.
     ///
     /// # Errors
     ///
-    /// `AllocError` where the memory is refused.
+    /// `AllocError` if the memory is refused.
     ///
     /// ```
     /// use os_str_bytes::{RawOsStr, Unix};
@@ -308,7 +308,7 @@ impl<'a, E: Platform> RawOsStr<'a, E> {
         Ok(RawOsString::new(self.string.to_owned(alloc)?))
     }
 
-    /// Whether the string is this text (own call; the crate's `==` between the types).
+    /// Whether the string equals this text (own call; `==` between the types in the Rust crate).
     ///
     /// ```
     /// use os_str_bytes::{RawOsStr, Unix};
@@ -321,7 +321,7 @@ impl<'a, E: Platform> RawOsStr<'a, E> {
         self == RawOsStr::from_str(text)
     }
 
-    /// Whether the string is this one (own call; the crate's `==` between the types).
+    /// Whether the string equals this one (own call; `==` between the types in the Rust crate).
     ///
     /// ```
     /// use os_str_bytes::{OsStr, RawOsStr, Unix};

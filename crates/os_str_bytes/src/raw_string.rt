@@ -12,10 +12,10 @@ use os_str_ext::{EncodingError, OsStr, OsString, Platform, SliceIndex};
 use std::alloc::{AllocError, Allocator, Global};
 use std::marker::PhantomData;
 
-/// An owned string of a platform, with the calls of the crate's `RawOsString`.
+/// An owned string of a platform, with the calls of the Rust crate's `RawOsString`.
 ///
-/// Strings are equal where their bytes are, and are ordered as their bytes are. Equal strings
-/// hash alike.
+/// Strings compare by their bytes: they are equal if their bytes are, and ordered like them. Equal
+/// strings have equal hashes.
 #[derive(Drop)]
 #[derive_where(PartialEq, Eq, PartialOrd, Ord, Hash)]
 pub struct RawOsString<E: Platform, A: Allocator = Global> {
@@ -27,7 +27,7 @@ pub struct RawOsString<E: Platform, A: Allocator = Global> {
 impl<E: Platform, A: Allocator> RawOsString<E, A> {
     ghost use Rattle.os_str_bytes.specs.Raw.{MayTruncate, raw_bytes, raw_vec_of, box_bytes};
 
-    /// The raw form of an owned string, in its own memory.
+    /// An owned string as a raw string, in its own memory.
     ///
     /// ```
     /// use os_str_bytes::{OsStr, RawOsString, Unix};
@@ -41,7 +41,7 @@ impl<E: Platform, A: Allocator> RawOsString<E, A> {
         RawOsString::from_encoded_vec_unchecked(string.into_encoded_bytes())
     }
 
-    /// The empty string (own call, instead of `Default`). It takes no memory.
+    /// The empty string (own call, instead of `Default`). It doesn't allocate.
     ///
     /// ```
     /// use os_str_bytes::{RawOsString, Unix};
@@ -101,8 +101,8 @@ impl<E: Platform, A: Allocator> RawOsString<E, A> {
         RawOsString::from_encoded_vec_unchecked(raw)
     }
 
-    /// The string of a vector of well-formed raw bytes, as [`RawOsString::assert_from_raw_vec`]
-    /// gives it.
+    /// The string of a vector of well-formed raw bytes, the same as
+    /// [`RawOsString::assert_from_raw_vec`].
     ///
     /// ```
     /// use os_str_bytes::{RawOsString, Unix};
@@ -117,11 +117,11 @@ impl<E: Platform, A: Allocator> RawOsString<E, A> {
         RawOsString::from_encoded_vec_unchecked(raw)
     }
 
-    /// The string of a vector of raw bytes. It takes no memory.
+    /// The string of a vector of raw bytes. It doesn't allocate.
     ///
     /// # Errors
     ///
-    /// The first fault of the bytes where they aren't well formed; the vector is then dropped.
+    /// The first fault of the bytes if they aren't well formed; the vector is then dropped.
     ///
     /// ```
     /// use os_str_bytes::{EncodingError, RawOsString, Windows};
@@ -169,7 +169,8 @@ impl<E: Platform, A: Allocator> RawOsString<E, A> {
         self.as_raw().as_os_str()
     }
 
-    /// Whether the string may be cut at an index; past its length it may not (own call).
+    /// Whether the string may be cut at index `at`; `false` if `at` is greater than the length (own
+    /// call).
     ///
     /// ```
     /// use os_str_bytes::{RawOsString, Unix};
@@ -203,7 +204,7 @@ impl<E: Platform, A: Allocator> RawOsString<E, A> {
         self.as_raw().index(range)
     }
 
-    /// Leaves the empty string. It takes no memory and gives none back.
+    /// Makes the string empty. It neither allocates nor frees memory.
     ///
     /// ```
     /// use os_str_bytes::{RawOsString, Unix};
@@ -219,10 +220,10 @@ impl<E: Platform, A: Allocator> RawOsString<E, A> {
         self.truncate(0);
     }
 
-    /// Leaves the bytes before a boundary; an index past the length changes nothing (test:
-    /// [`RawOsString::is_boundary`], or a comparison with the length). The units that are left and
-    /// those of the bytes that are cut off, joined, are the string's. It takes no memory and gives
-    /// none back.
+    /// Keeps the bytes before a boundary and removes the others; an index past the length changes
+    /// nothing (test: [`RawOsString::is_boundary`], or a comparison with the length). The units
+    /// that are kept and those of the bytes that are removed, joined, are the string's. It neither
+    /// allocates nor frees memory.
     ///
     /// ```
     /// use os_str_bytes::{RawOsString, Unix};
@@ -243,12 +244,12 @@ impl<E: Platform, A: Allocator> RawOsString<E, A> {
         self.vec.truncate(at);
     }
 
-    /// The bytes from a boundary on (test: [`RawOsString::is_boundary`]), in a string of their own;
-    /// those before it stay. The units of both, joined, are the string's.
+    /// Splits off the bytes from a boundary on (test: [`RawOsString::is_boundary`]), into a string
+    /// of their own; the bytes before it stay. The units of both, joined, are the string's.
     ///
     /// # Errors
     ///
-    /// `AllocError` where the memory is refused; the string is then as it was.
+    /// `AllocError` if the memory is refused; the string is then as it was.
     ///
     /// ```
     /// use os_str_bytes::{RawOsString, Unix};
@@ -276,7 +277,7 @@ impl<E: Platform, A: Allocator> RawOsString<E, A> {
         Ok(back)
     }
 
-    /// A copy of the bytes after a boundary.
+    /// A copy of the bytes from a boundary on.
     fn copy_from(&self, alloc: A, at: usize) -> Result<Self, AllocError>
         requires { IsBoundary (raw_vec_of self.now).items at }
         ensures { IfOk result (λ back. (raw_vec_of back).items ≡ drop at
@@ -286,11 +287,11 @@ impl<E: Platform, A: Allocator> RawOsString<E, A> {
         back.to_owned(alloc)
     }
 
-    /// A copy in memory of its own.
+    /// A copy in its own memory.
     ///
     /// # Errors
     ///
-    /// `AllocError` where the memory is refused.
+    /// `AllocError` if the memory is refused.
     ///
     /// ```
     /// use os_str_bytes::{RawOsString, Unix};
@@ -306,12 +307,12 @@ impl<E: Platform, A: Allocator> RawOsString<E, A> {
         self.as_raw().to_owned(self.vec.allocator().clone()?)
     }
 
-    /// Gives back the memory that the string doesn't fill; the string is the same after both
-    /// answers.
+    /// Gives back the memory that the string doesn't use. The string is the same whether this
+    /// succeeds or fails.
     ///
     /// # Errors
     ///
-    /// `AllocError` where some of it couldn't be given back.
+    /// `AllocError` if some of that memory couldn't be given back.
     ///
     /// ```
     /// use os_str_bytes::{RawOsString, Unix};
@@ -336,12 +337,12 @@ impl<E: Platform, A: Allocator> RawOsString<E, A> {
         Ok(())
     }
 
-    /// The string in a block of its own length (the crate's `into_box`, and its `From`). A string
-    /// that fills its memory takes none.
+    /// The string in a block of exactly its length (the Rust crate's `into_box`, and its `From`).
+    /// If the string already fills its memory, this doesn't allocate.
     ///
     /// # Errors
     ///
-    /// `AllocError` where the memory is refused; the string is then dropped.
+    /// `AllocError` if the memory is refused; the string is then dropped.
     ///
     /// ```
     /// use os_str_bytes::{RawOsString, Unix};
@@ -358,7 +359,7 @@ impl<E: Platform, A: Allocator> RawOsString<E, A> {
         Ok(self.into_block())
     }
 
-    /// The string in its own block, whatever that has room for.
+    /// The string in its own block, whatever the block's capacity is.
     pub(crate) fn into_block(self) -> RawOsStrBox<E, A>
         ensures { box_bytes result ≡ (raw_vec_of self).items }
     {
@@ -409,11 +410,11 @@ impl<E: Platform, A: Allocator> RawOsString<E, A> {
         OsString::from_encoded_bytes_unchecked(self.vec)
     }
 
-    /// The string as a text in its own memory. It takes no memory.
+    /// The string as a text, in its own memory. It doesn't allocate.
     ///
     /// # Errors
     ///
-    /// The same string again where it isn't UTF-8.
+    /// The same string again if it isn't UTF-8.
     ///
     /// ```
     /// use os_str_bytes::{RawOsString, Unix};
@@ -436,7 +437,7 @@ impl<E: Platform, A: Allocator> RawOsString<E, A> {
         }
     }
 
-    /// Whether the string is this text (own call; the crate's `==` between the types).
+    /// Whether the string equals this text (own call; `==` between the types in the Rust crate).
     ///
     /// ```
     /// use os_str_bytes::{RawOsString, Unix};
@@ -450,7 +451,7 @@ impl<E: Platform, A: Allocator> RawOsString<E, A> {
         self.as_raw().eq_str(text)
     }
 
-    /// Whether the string is this one (own call; the crate's `==` between the types).
+    /// Whether the string equals this one (own call; `==` between the types in the Rust crate).
     ///
     /// ```
     /// use os_str_bytes::{OsStr, RawOsString, Unix};
@@ -464,7 +465,7 @@ impl<E: Platform, A: Allocator> RawOsString<E, A> {
         self.as_raw().eq_os_str(other)
     }
 
-    /// Whether the string is this one (own call; the crate's `==` between the types).
+    /// Whether the string equals this one (own call; `==` between the types in the Rust crate).
     ///
     /// ```
     /// use os_str_bytes::{RawOsStr, RawOsString, Unix};

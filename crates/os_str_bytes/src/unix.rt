@@ -9,7 +9,7 @@ pub type RawOsStr<'a> = crate::RawOsStr<'a, Unix>;
 /// An owned raw string of Unix.
 pub type RawOsString<A = Global> = crate::RawOsString<Unix, A>;
 
-/// An owned raw string of Unix in a block of its own length.
+/// An owned raw string of Unix in a block of exactly its length.
 pub type RawOsStrBox<A = Global> = crate::RawOsStrBox<Unix, A>;
 
 /// A raw string of Unix that is borrowed or owned.

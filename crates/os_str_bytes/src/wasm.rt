@@ -9,7 +9,7 @@ pub type RawOsStr<'a> = crate::RawOsStr<'a, Wasm>;
 /// An owned raw string of wasm.
 pub type RawOsString<A = Global> = crate::RawOsString<Wasm, A>;
 
-/// An owned raw string of wasm in a block of its own length.
+/// An owned raw string of wasm in a block of exactly its length.
 pub type RawOsStrBox<A = Global> = crate::RawOsStrBox<Wasm, A>;
 
 /// A raw string of wasm that is borrowed or owned.

@@ -9,7 +9,7 @@ pub type RawOsStr<'a> = crate::RawOsStr<'a, Windows>;
 /// An owned raw string of Windows.
 pub type RawOsString<A = Global> = crate::RawOsString<Windows, A>;
 
-/// An owned raw string of Windows in a block of its own length.
+/// An owned raw string of Windows in a block of exactly its length.
 pub type RawOsStrBox<A = Global> = crate::RawOsStrBox<Windows, A>;
 
 /// A raw string of Windows that is borrowed or owned.

@@ -1,23 +1,23 @@
--- The first and the last character of a string, and what is left without it (std's `str` has the first by `chars`).
+-- The first and the last character of a string, each with the rest of the string (std's `str` has the first by `chars`).
 use Rattle.std.specs.Prelude.{◌≡◌, ◌-◌, ◌≤◌, ℕ, List, ◌++◌, length, Option, MatchOption}
 use Rattle.std.specs.Char.{IsScalar, encode_utf8}
 use Rattle.wtf8_core.specs.Character.{WholeCharacter}
 use Rattle.wtf8_core.specs.CodePoint.{form}
 use Rattle.wtf8_core.specs.Covered.{StartsBare}
 
--- no whole character ends at the end of s
+-- no whole character ends where s ends
 abbrev pub EndsBare : List ℕ → Type 0
 EndsBare s = (i : ℕ) → ¬ (WholeCharacter s i (length s))
 
--- r is the first character of s and the rest, None where no whole character starts s; `of` is what the rest counts as
+-- r is the first character of s and the rest, or None if s doesn't start with a whole character; `of` gives the bytes of the rest
 abbrev pub SplitsFirstChar : {T : Type 0} → (T → List ℕ) → List ℕ → Option (ℕ × T) → Type 0
 SplitsFirstChar of s r = MatchOption r (StartsBare s) (λ parts. s ≡ encode_utf8 parts.0 ++ of parts.1)
 
--- r is the last character of s and the rest, None where no whole character ends s
+-- r is the last character of s and the rest, or None if s doesn't end with a whole character
 abbrev pub SplitsLastChar : {T : Type 0} → (T → List ℕ) → List ℕ → Option (ℕ × T) → Type 0
 SplitsLastChar of s r = MatchOption r (EndsBare s) (λ parts. s ≡ of parts.1 ++ encode_utf8 parts.0)
 
--- r is the length of the whole character that ends in s at i, None where none ends there
+-- r is the length of the whole character that ends in s at i, or None if none ends there
 abbrev pub IsCharacterBefore : List ℕ → ℕ → Option ℕ → Type 0
 IsCharacterBefore s i r = MatchOption r ((k : ℕ) → ¬ (WholeCharacter s k i)) (λ n. (n ≤ i) × WholeCharacter s (i - n) i)
 

@@ -1,4 +1,4 @@
--- The chunks of bytes as a function, and where the first one ends. What chunks are says `AreChunks` of wtf8_core.
+-- The chunks of bytes as a function, and where the first one ends. `AreChunks` of wtf8_core says what chunks are.
 use Rattle.std.specs.Prelude.{ℕ, ◌<◌, ◌≤◌, List, ◌++◌, length, take, drop}
 use Rattle.std.specs.Int.{IsInRange}
 use Rattle.std.specs.Str.{IsUtf8}
@@ -7,11 +7,11 @@ use Rattle.wtf8_core.specs.Covered.{IsCovered, IsBare}
 use Rattle.wtf8_core.specs.Chunks.{Chunk}
 use Rattle.wtf8_core.proofs.lemmas.chunks.OneList.{some_chunks}
 
--- the one list of chunks
+-- the one list of chunks of bytes
 abbrev pub chunks_of : List ℕ → List Chunk
 chunks_of bytes = (some_chunks bytes).0
 
--- a string without whole characters and a text, not both empty; well_formed says which bytes are a string
+-- the chunk is a string without whole characters and a text, not both empty; well_formed says which bytes are a string
 pub record IsChunkOf (well_formed : List ℕ → Type 0) (c : Chunk) : Type 0 where
   pub formed : well_formed c.0
   pub bare : IsBare c.0
@@ -22,12 +22,12 @@ pub record IsChunkOf (well_formed : List ℕ → Type 0) (c : Chunk) : Type 0 wh
 abbrev pub BeginsNoCharacter : ℕ → Type 0
 BeginsNoCharacter b = (0x80 ≤ b) × ¬ (IsInRange 0xC2 0xF4 b)
 
--- at none of the first n bytes a whole character starts
+-- no whole character starts at any of the first n bytes
 pub record IsBareUpTo (s : List ℕ) (n : ℕ) : Type 0 where
   pub within : n ≤ length s
   pub bare : (k j : ℕ) → k < n → ¬ (WholeCharacter s k j)
 
--- the first chunk is the part up to m and the text up to e: the part ends where a text begins, and the text where a part begins
+-- the first chunk is the part up to m and then the text up to e: the part ends where a text begins, and the text ends where a part begins
 pub record IsFirstChunk (s : List ℕ) (m e : ℕ) : Type 0 where
   pub ordered : m ≤ e
   pub within : e ≤ length s

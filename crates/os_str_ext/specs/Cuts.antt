@@ -3,28 +3,28 @@ use Rattle.std.specs.Prelude.{◌≡◌, ℕ, ◌<◌, List, [], length, Option,
 use Rattle.wtf8_core.specs.Standing.{StandsNowhere, IsLeastPlace, IsGreatestPlace}
 use Rattle.wtf8_core.specs.Pieces.{SplitsAt, FallsInto}
 
--- a cut of s at the least place of p, as the piece that it takes off and the rest
+-- a cut of s at the first occurrence of p: the piece that it takes off, and the rest
 abbrev pub FirstCut : List ℕ → List ℕ → List ℕ → List ℕ → Type 0
 FirstCut p s piece rest = SplitsAt IsLeastPlace p s piece rest
 
--- a cut of s at the greatest place of p
+-- a cut of s at the last occurrence of p
 abbrev pub LastCut : List ℕ → List ℕ → List ℕ → List ℕ → Type 0
 LastCut p s piece rest = SplitsAt IsGreatestPlace p s rest piece
 
--- the strings that cuts leave of s, one after the other, and what can't be cut
+-- the pieces of s: those that cuts take off, one after the other, and at last the rest that can't be cut
 abbrev pub ArePieces : (List ℕ → List ℕ → List ℕ → List ℕ → Type 0) → List ℕ → List ℕ → List (List ℕ) → Type 0
 ArePieces Cuts p = FallsInto (λ s piece rest. Cuts p s piece rest) (StandsNowhere p)
 
--- a list for each pattern and each string, which has the pieces where the pattern isn't empty
+-- for each pattern and each string a list, which has the string's pieces if the pattern isn't empty
 abbrev pub PiecesOf : (List ℕ → List ℕ → List ℕ → List ℕ → Type 0) → Type 0
 PiecesOf Cuts = (p s : List ℕ) → (pieces : List (List ℕ)) × (0 < length p → ArePieces Cuts p s pieces)
 
--- a string has one cut at most, and none where p stands nowhere in it
+-- a string has at most one cut, and none if p doesn't occur in it
 pub record CutLaws (Cuts : List ℕ → List ℕ → List ℕ → List ℕ → Type 0) : Type 0 where
   pub one : (p s a b c d : List ℕ) → Cuts p s a b → Cuts p s c d → (a ≡ c) × (b ≡ d)
   pub stands : (p s piece rest : List ℕ) → Cuts p s piece rest → ¬ (StandsNowhere p s)
 
--- the pieces of what is left of a string, none at the end
+-- the pieces of the rest of a string; none if there is no rest
 abbrev pub pieces_left : {Cuts : List ℕ → List ℕ → List ℕ → List ℕ → Type 0} → PiecesOf Cuts → List ℕ → Option (List ℕ) → List (List ℕ)
 pieces_left pieces_of p None = []
 pieces_left pieces_of p (Some s) = (pieces_of p s).0

@@ -1,4 +1,4 @@
--- What clauses see of a part and of its units: the bytes, and a unit's number.
+-- What contracts say of a part and of a unit: the part's bytes, and the unit's number.
 use Rattle.std.specs.Prelude.{ℕ, List}
 use Rattle.platform_str.specs.declared.platform.Platform.{Ghosts}
 use Rattle.platform_str.specs.Strings.{bytes}

@@ -1,10 +1,10 @@
--- That the text of a `char` is never empty.
+-- The text of a `char` is never empty.
 use Rattle.std.specs.Prelude.{◌<◌, ◌↔◌, ℕ, List, length}
 use Rattle.std.specs.Char.{encode_utf8}
 use Rattle.std.proofs.Common.{sym, subst}
 use Rattle.std.proofs.lemmas.Str.{length-encode, len_utf8_bounds}
 
--- any text is one that isn't empty exactly where it isn't
+-- for a pattern that may be any text, `not_empty` is just that it has a byte
 abbrev pub itself : (p : List ℕ) → (0 < length p) ↔ (0 < length p)
 itself p = (λ h. h, λ h. h)
 

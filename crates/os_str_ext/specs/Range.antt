@@ -1,8 +1,8 @@
--- Where a range of places fits in a string, and the units around it.
+-- Which ranges of indices fit in a string, and the units before, in and after them.
 use Rattle.std.specs.Prelude.{◌≡◌, ◌≤◌, ◌++◌, ℕ, List, length, take, drop}
 use Rattle.wtf8_core.specs.Boundary.{IsBoundary}
 
--- the bytes of s from place i to place j are a part that may be cut out
+-- the bytes of s from index i to index j are a part that may be cut out
 pub record FitsIn (s : List ℕ) (i j : ℕ) : Type 0 where
   pub ordered : i ≤ j
   pub within : j ≤ length s

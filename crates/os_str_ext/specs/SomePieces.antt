@@ -1,4 +1,4 @@
--- That each string has pieces from its start, and from its end, and that a string has one cut at each.
+-- Each string has pieces from its start and from its end, and one cut at most from either.
 use Rattle.std.proofs.Common.{◌≡◌, ℕ, zero, suc, ◌+◌, ◌<◌, ◌≤◌, List, [], ◌∷◌, ◌++◌, length, Option, None, Some, MatchOption, refl, sym, ap, ◌∙◌, arith, inl, inr, ◌⊎◌, ⊎_elim, length-append}
 use Rattle.std.proofs.lemmas.Bool.{cases_eq, cases_lt}
 use Rattle.std.proofs.lemmas.List.{append_cancel_left, take_at, drop_at}
@@ -7,7 +7,7 @@ use Rattle.wtf8_core.specs.Standing.{StandsAt, StandsNowhere, IsFront, IsLeastPl
 use Rattle.wtf8_core.specs.Pieces.FallsInto.{whole, cut}
 use Rattle.os_str_ext.specs.Cuts.{FirstCut, LastCut, ArePieces, PiecesOf, CutLaws}
 
--- p is a front of s, or not
+-- p is a prefix of s, or it isn't
 is_front : (p s : List ℕ) → IsFront p s ⊎ (IsFront p s → ⊥)
 is_front [] s = inl (record { rest = s; joined = refl })
 is_front (a ∷ p) [] = inr (λ h. let e = ap length h.joined in omega arith)
@@ -20,7 +20,7 @@ is_front (a ∷ p) (b ∷ s) =
     (λ other. inr (λ h. let e : b ∷ s ≡ a ∷ (p ++ h.rest) = h.joined in let t : a ≡ b = cc in other t))
     (cases_eq a b)
 
--- a front stands at 0, and what stands there is a front
+-- a prefix occurs at 0, and what occurs at 0 is a prefix
 front_stands : (p s : List ℕ) → IsFront p s → StandsAt p s 0
 front_stands p s h = record { before = []; behind = h.rest; joined = h.joined; place = refl }
 
@@ -28,7 +28,7 @@ front_of : (p s before behind : List ℕ) → s ≡ before ++ (p ++ behind) → 
 front_of p s [] behind e l = record { rest = behind; joined = e }
 front_of p s (y ∷ before) behind e l = absurd (omega arith)
 
--- what stands in s stands one later in x ∷ s, and the other way round
+-- what occurs in s occurs one later in x ∷ s, and the other way round
 later : (x : ℕ) (p s : List ℕ) (i : ℕ) → StandsAt p s i → StandsAt p (x ∷ s) (suc i)
 later x p s i h = record { before = x ∷ h.before; behind = h.behind; joined = ap (λ l. x ∷ l) h.joined; place = ap suc h.place }
 
@@ -39,7 +39,7 @@ tail_stands x p s (y ∷ before) behind i e l = let t : s ≡ before ++ (p ++ be
 earlier : (x : ℕ) (p s : List ℕ) (i : ℕ) → StandsAt p (x ∷ s) (suc i) → StandsAt p s i
 earlier x p s i h = tail_stands x p s h.before h.behind i h.joined h.place
 
--- in the empty list nothing stands past 0
+-- in the empty list nothing occurs at an index past 0
 none_past : (p : List ℕ) (k : ℕ) → 0 < k → StandsAt p [] k → ⊥
 none_past p k some h = let e = ap length h.joined ∙ length-append h.before (p ++ h.behind) in omega (arith, h.place)
 
@@ -51,7 +51,7 @@ past_nowhere : (x : ℕ) (p s : List ℕ) → StandsNowhere p s → (k : ℕ) �
 past_nowhere x p s n zero some h = omega arith
 past_nowhere x p s n (suc k) some h = n k (earlier x p s k h)
 
--- the cuts at a front, and in what follows the first element
+-- the cuts if p is a prefix, and the cuts in what follows the first element
 cut_first : (p s : List ℕ) (h : IsFront p s) → FirstCut p s [] h.rest
 cut_first p s h = record { joined = h.joined; found = record { stands = front_stands p s h; least = λ k lt. absurd (omega arith) } }
 
@@ -72,7 +72,7 @@ first_later x p s piece rest miss c = record { joined = ap (λ l. x ∷ l) c.joi
 last_later : (x : ℕ) (p s piece rest : List ℕ) → LastCut p s piece rest → LastCut p (x ∷ s) piece (x ∷ rest)
 last_later x p s piece rest c = record { joined = ap (λ l. x ∷ l) c.joined; found = record { stands = later x p s (length rest) c.found.stands; greatest = none_after x p s (length rest) c.found.greatest } }
 
--- a cut of s, as the piece and the rest, or that p stands nowhere
+-- a cut of s as the piece and the rest, or that p doesn't occur
 abbrev CutOrNone : (List ℕ → List ℕ → List ℕ → List ℕ → Type 0) → List ℕ → List ℕ → Type 0
 CutOrNone Cuts p s = (r : Option (List ℕ × List ℕ)) × MatchOption r (StandsNowhere p s) (λ c. Cuts p s c.0 c.1)
 
@@ -108,7 +108,7 @@ find_last p (x ∷ s) =
       | Some c ↦ λ f. (Some (c.0, x ∷ c.1), last_later x p s c.0 c.1 f)
     ] more.1
 
--- cuts of rests that become shorter end
+-- cutting ends if each rest is shorter than the string that was cut
 module _ (Cuts : List ℕ → List ℕ → List ℕ → List ℕ → Type 0) (find : (p s : List ℕ) → CutOrNone Cuts p s) (shorter : (p s piece rest : List ℕ) → 0 < length p → Cuts p s piece rest → length rest < length s) where
   pieces_within : (n : ℕ) (p s : List ℕ) → 0 < length p → length s ≤ n → (pieces : List (List ℕ)) × ArePieces Cuts p s pieces
   pieces_within zero p s some le =
@@ -144,7 +144,7 @@ pieces_from_end = pieces_of LastCut find_last (λ p s piece rest some c.
     let back = length-append p piece in
     omega arith)
 
--- two cuts at one place are one
+-- two cuts at one index are the same
 same_parts : (p s a b c d : List ℕ) → s ≡ a ++ (p ++ b) → s ≡ c ++ (p ++ d) → length a ≡ length c → (a ≡ c) × (b ≡ d)
 same_parts p s a b c d e f same =
     let front : a ≡ c = sym (take_at a (p ++ b) (length a) refl) ∙ ap (take (length a)) (sym e ∙ f) ∙ take_at c (p ++ d) (length a) (sym same) in

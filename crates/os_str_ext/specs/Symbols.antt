@@ -17,15 +17,15 @@ use Rattle.os_str_ext.specs.declared.symbols.Symbol.TheVariants as symbol
 abbrev pub unit_symbol : ℕ → Symbol
 unit_symbol u = symbol.Unit (record { number = u })
 
--- of a chunk: the units of its part, then the characters of its text
+-- the symbols of a chunk: the units of its part, then the characters of its text
 abbrev pub chunk_symbols : (List ℕ → List ℕ) → Chunk → List Symbol
 chunk_symbols units c = map unit_symbol (units c.0) ++ map Character (chars c.1)
 
--- of chunks, one after the other
+-- the symbols of chunks, one after the other
 abbrev pub chunks_symbols : (List ℕ → List ℕ) → List Chunk → List Symbol
 chunks_symbols units chunks = flat_map (chunk_symbols units) chunks
 
--- these are the symbols of the string s, whose platform says the units of bytes
+-- these are the symbols of the string s; `units` gives the units of bytes on its platform
 pub record AreSymbols (units : List ℕ → List ℕ) (s : List ℕ) (symbols : List Symbol) : Type 0 where
   pub chunks : List Chunk
   pub are_chunks : AreChunks s chunks
@@ -41,11 +41,11 @@ abbrev pub symbol_fed : Symbol → HashWrites
 symbol_fed (Character c) = fed.isize (pos 0) ++ fed.char c
 symbol_fed (symbol.Unit u) = fed.isize (pos 1) ++ fed.u16 (unit_number u)
 
--- the one list of symbols
+-- the one list of symbols of a string
 abbrev pub symbols_of : (List ℕ → List ℕ) → List ℕ → List Symbol
 symbols_of units s = chunks_symbols units (chunks_of s)
 
--- what is known of s: how many bytes follow the part and the text of its first chunk, and that no whole character starts at so many bytes after the text
+-- what is known of s: how many bytes come after the part of its first chunk, and how many after its text, and that no whole character starts at any of the first `bare` bytes after the text
 pub record AreKnown (s : List ℕ) (after_part after_text bare : ℕ) : Type 0 where
   pub ends : after_text < length s → IsFirstChunk s (length s - after_part) (length s - after_text)
   pub bare_after : IsBareUpTo (drop (length s - after_text) s) bare

@@ -1,4 +1,4 @@
-//! Where strings may be cut, and the parts that a cut gives.
+//! Where strings may be cut, and the parts that such cuts give.
 ghost use Rattle.std.specs.Prelude.{◌≡◌, ◌≤◌, ◌-◌, ◌↔◌, ◌++◌, IsTrue, take, drop};
 ghost use Rattle.wtf8_core.specs.Character.{WholeCharacter};
 ghost use Rattle.wtf8_core.specs.Boundary.{IsBoundary};
@@ -9,8 +9,8 @@ ghost use Rattle.os_str_ext.specs.Range.{FitsIn, IsPartInUnits};
 use platform_str::{OsStr, Platform};
 use wtf8_core::{char_at, laws};
 
-/// Whether bytes may be cut at an index. A whole character has four bytes at most, so at most seven
-/// bytes are looked at.
+/// Whether bytes may be cut at index `at`. A whole character has at most four bytes, so at most
+/// seven bytes are read.
 pub(crate) fn is_boundary(bytes: &[u8], at: usize) -> bool
     ensures { IsTrue result ↔ IsBoundary bytes.now at }
 {
@@ -26,7 +26,8 @@ pub(crate) fn is_boundary(bytes: &[u8], at: usize) -> bool
     char_before(bytes, at).is_some()
 }
 
-/// How many bytes the whole character has that ends at an index, `None` where none ends there.
+/// The length in bytes of the whole character that ends at index `at`, or `None` if none ends
+/// there.
 pub(crate) fn char_before(bytes: &[u8], at: usize) -> Option<usize>
     ensures { IsCharacterBefore bytes.now at result }
 {
@@ -39,7 +40,7 @@ pub(crate) fn char_before(bytes: &[u8], at: usize) -> Option<usize>
     None
 }
 
-/// Whether a whole character of `size` bytes ends at an index.
+/// Whether a whole character of `size` bytes ends at index `at`.
 fn ends_character(bytes: &[u8], at: usize, size: usize) -> bool
     requires { size ≤ at }
     ensures { IsTrue result ↔ WholeCharacter bytes.now (at - size) at }
@@ -51,7 +52,7 @@ fn ends_character(bytes: &[u8], at: usize, size: usize) -> bool
     }
 }
 
-/// The two parts of a string that is cut at a boundary.
+/// The two parts of a string, cut at a boundary.
 #[inline(always)]
 pub(crate) fn split_at<'a, E: Platform>(
     string: OsStr<'a, E>,

@@ -1,4 +1,4 @@
-//! The chunks of a string: its parts without whole characters, each with the text after it.
+//! The chunks of a string: its parts that contain no whole character, each with the text after it.
 ghost use Rattle.std.specs.Prelude.{◌≡◌, ◌+◌, ◌∷◌, ◌<◌, ◌≤◌, ◌↔◌, length, drop, IsTrue};
 ghost use Rattle.std.specs.Iterator.{YieldsFirstBy, item_count};
 ghost use Rattle.wtf8_core.specs.Chunks.{AreChunks};
@@ -13,15 +13,15 @@ use std::alloc::AllocError;
 use std::marker::Model;
 use wtf8_core::utf8_fault;
 
-/// The chunks of a string that are left, from the first on, and then `None` for ever.
+/// An iterator over the chunks of a string, from the first on. After `None` it gives only `None`.
 ///
-/// [`OsStrBytesExt::utf8_chunks`](crate::OsStrBytesExt::utf8_chunks) makes it. A clone has the
-/// same chunks left; it takes no memory, and its answer is always `Ok`.
+/// [`OsStrBytesExt::utf8_chunks`](crate::OsStrBytesExt::utf8_chunks) makes it. A clone has the same
+/// chunks left; cloning doesn't allocate, and its answer is always `Ok`.
 #[derive(Drop)]
 pub struct Utf8Chunks<'a, E: Platform + 'a> {
     rest: OsStr<'a, E>,
-    // At none of so many bytes at its start does a whole character start: what is known of it from
-    // the fault at which the text before it ended.
+    // No whole character starts at any of the first `bare` bytes; this is known from the fault at
+    // which the text before them ended.
     bare: usize,
 }
 
@@ -63,8 +63,8 @@ impl<'a, E: Platform> Utf8Chunks<'a, E> {
         }
     }
 
-    /// The string whose chunks are left, in place in the string that the chunks are of (as std's
-    /// `str::Chars::as_str`). It takes no memory.
+    /// The rest of the string, whose chunks are left (as std's `str::Chars::as_str`). It borrows
+    /// from the original string and doesn't allocate.
     ///
     /// ```
     /// use os_str_bytes::{OsStr, OsStrBytesExt, Unix};
@@ -102,8 +102,8 @@ impl<'a, E: Platform> Iterator for Utf8Chunks<'a, E> {
     }
 }
 
-/// The first chunk of a string that isn't empty, and the chunks after it. At none of the string's
-/// first `bare` bytes does a whole character start.
+/// The first chunk of a string that isn't empty, and the chunks after it. No whole character starts
+/// at any of the string's first `bare` bytes.
 fn first_chunk<'a, E: Platform>(
     string: OsStr<'a, E>,
     bare: usize,
@@ -130,18 +130,18 @@ fn first_chunk<'a, E: Platform>(
     )
 }
 
-/// Where the part and the text of the first chunk end, and at how many bytes after it no whole
-/// character starts, as far as is known.
+/// Where the part and the text of the first chunk end, and a number of bytes after it at none of
+/// which a whole character starts, as far as is known.
 pub(crate) struct ChunkEnds {
     pub(crate) part_end: usize,
     pub(crate) text_end: usize,
     pub(crate) bare_after: usize,
 }
 
-/// The ends of the first chunk, where no whole character starts at any of the first `bare` bytes.
+/// The ends of the first chunk, if no whole character starts at any of the first `bare` bytes.
 ///
-/// The part is gone over by the lengths of its faults. A byte with which no character begins is one
-/// by itself, which needs no search.
+/// The part is skipped fault by fault, by the length of each. A byte with which no character begins
+/// is skipped by itself, without a search.
 pub(crate) fn chunk_ends(bytes: &[u8], bare: usize) -> ChunkEnds
     requires { IsBareUpTo bytes.now bare }
     ensures ends { IsFirstChunk bytes.now result.part_end result.text_end }
@@ -178,7 +178,7 @@ pub(crate) fn chunk_ends(bytes: &[u8], bare: usize) -> ChunkEnds
     }
 }
 
-/// Whether no character begins with a byte (80 to C1 and F5 to FF, hexadecimal).
+/// Whether no character begins with this byte (80 to C1 and F5 to FF, hexadecimal).
 #[inline(always)]
 fn begins_no_character(byte: u8) -> bool
     ensures { IsTrue result ↔ BeginsNoCharacter byte }
@@ -186,7 +186,7 @@ fn begins_no_character(byte: u8) -> bool
     byte >= 0x80 && !(0xC2..=0xF4).contains(&byte)
 }
 
-/// How many bytes the ill-formed part of a fault has, which may go on to the end.
+/// The length in bytes of the ill-formed part of a fault; the part may reach the end of the bytes.
 #[inline(always)]
 fn part_len(bytes: &[u8], valid_up_to: usize, error_len: Option<u8>) -> usize
     requires { IsUtf8Fault bytes.now valid_up_to error_len }

@@ -1,9 +1,9 @@
-//! Whether bytes are the same: those of a pattern and a prefix or suffix of the string.
+//! Whether bytes are equal: a pattern's and those at the start or the end of the string.
 ghost use Rattle.std.specs.Prelude.{◌≡◌, ◌+◌, ◌≤◌, ◌↔◌, IsTrue, length, take};
 ghost use Rattle.std.specs.Int.{from_le_bytes, to_le_bytes, w16, w32, w64};
 
-/// Whether two lists of bytes of one length are the same. From two to sixteen bytes, the first and
-/// the last are compared as numbers.
+/// Whether two lists of bytes of the same length are equal. With two to sixteen bytes, the first
+/// ones and the last ones are compared as numbers.
 #[inline(always)]
 pub(crate) fn are_same(a: &[u8], b: &[u8]) -> bool
     requires { length a.now ≡ length b.now }
@@ -24,7 +24,7 @@ pub(crate) fn are_same(a: &[u8], b: &[u8]) -> bool
     a[0] == b[0]
 }
 
-/// The same of two to four bytes.
+/// The same for two to four bytes.
 #[inline(always)]
 fn are_same_by_two(a: &[u8], b: &[u8]) -> bool
     requires lengths { length a.now ≡ length b.now }
@@ -37,7 +37,7 @@ fn are_same_by_two(a: &[u8], b: &[u8]) -> bool
     first_two(a) == first_two(b) && first_two(a_back) == first_two(b_back)
 }
 
-/// The same of four to eight bytes.
+/// The same for four to eight bytes.
 #[inline(always)]
 fn are_same_by_four(a: &[u8], b: &[u8]) -> bool
     requires lengths { length a.now ≡ length b.now }
@@ -50,7 +50,7 @@ fn are_same_by_four(a: &[u8], b: &[u8]) -> bool
     first_four(a) == first_four(b) && first_four(a_back) == first_four(b_back)
 }
 
-/// The same of eight to sixteen bytes.
+/// The same for eight to sixteen bytes.
 #[inline(always)]
 fn are_same_by_eight(a: &[u8], b: &[u8]) -> bool
     requires lengths { length a.now ≡ length b.now }
@@ -63,7 +63,7 @@ fn are_same_by_eight(a: &[u8], b: &[u8]) -> bool
     first_eight(a) == first_eight(b) && first_eight(a_back) == first_eight(b_back)
 }
 
-/// The first two bytes as a number, from which they can be had back.
+/// The first two bytes as a number, which determines them.
 #[inline(always)]
 fn first_two(bytes: &[u8]) -> u16
     requires { 2 ≤ length bytes.now }
@@ -76,7 +76,7 @@ fn first_two(bytes: &[u8]) -> u16
     }
 }
 
-/// The first four bytes as a number, from which they can be had back.
+/// The first four bytes as a number, which determines them.
 #[inline(always)]
 fn first_four(bytes: &[u8]) -> u32
     requires { 4 ≤ length bytes.now }
@@ -89,7 +89,7 @@ fn first_four(bytes: &[u8]) -> u32
     }
 }
 
-/// The first eight bytes as a number, from which they can be had back.
+/// The first eight bytes as a number, which determines them.
 #[inline(always)]
 fn first_eight(bytes: &[u8]) -> u64
     requires { 8 ≤ length bytes.now }

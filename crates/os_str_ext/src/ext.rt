@@ -1,4 +1,4 @@
-//! The calls that every string of a platform has beyond its conversions.
+//! The calls that every string of a platform has in addition to its conversions.
 ghost use Rattle.std.specs.Prelude.{◌≡◌, ◌<◌, ◌↔◌, ◌++◌, ◌+◌, ◌*◌, ◌^◌, IsTrue, IsOk, IsErr, IfOk, IfSome, length, take, drop};
 ghost use Rattle.wtf8_core.specs.Standing.{Finds, IsLeastPlace, IsGreatestPlace, IsFront, IsEnd};
 ghost use Rattle.wtf8_core.specs.UnitPlace.{FindsInUnits};
@@ -25,15 +25,15 @@ use platform_str::{OsStr, OsStrBytes, OsString, Platform};
 use std::alloc::{AllocError, Allocator};
 
 /// Searches, cuts and pieces of strings, each equivalent to the call of its name on std's `str`.
-/// All indices are byte indices. No call but [`OsStrBytesExt::repeat`] takes memory.
+/// All indices are byte indices. No call but [`OsStrBytesExt::repeat`] allocates.
 ///
-/// A boundary is 0, the length, or an index where a whole character starts or ends, as in the
+/// A boundary is 0, the length, or an index at which a whole character starts or ends, as in the
 /// documentation of std's `OsStr::slice_encoded_bytes`. A search looks for its pattern's text.
 pub trait OsStrBytesExt<'a>: OsStrBytes<'a> {
     // Cuts.
 
-    /// Whether the string may be cut at an index, as std's `str::is_char_boundary`; past its length
-    /// it may not (own call).
+    /// Whether the string may be cut at index `at`, as std's `str::is_char_boundary`; `false` if
+    /// `at` is greater than the length (own call).
     ///
     /// ```
     /// use os_str_bytes::{OsStr, OsStrBytesExt, Unix};
@@ -46,7 +46,8 @@ pub trait OsStrBytesExt<'a>: OsStrBytes<'a> {
         ensures { IsTrue result ↔ IsBoundary (Self.bytes_of self) at };
 
     /// The parts before and after a boundary (test: [`OsStrBytesExt::is_boundary`]), as std's
-    /// `str::split_at`. Their units joined are the string's.
+    /// `str::split_at`. The units of the first part and those of the second, joined, are the
+    /// string's.
     ///
     /// ```
     /// use os_str_bytes::{OsStr, OsStrBytesExt, Unix};
@@ -63,7 +64,8 @@ pub trait OsStrBytesExt<'a>: OsStrBytes<'a> {
             ++ Self.Platform.units (Self.bytes_of result.1) };
 
     /// The part in a range that fits (test: [`SliceIndex::fits`]), as std's indexing of `str`. The
-    /// units before the range, the part's and those after the range, joined, are the string's.
+    /// units before the range, those of the part and those after the range, joined, are the
+    /// string's.
     ///
     /// ```
     /// use os_str_bytes::{OsStr, OsStrBytesExt, Unix};
@@ -99,8 +101,8 @@ pub trait OsStrBytesExt<'a>: OsStrBytes<'a> {
 
     // Searches.
 
-    /// The first index at which a pattern occurs, `None` where it doesn't occur. The string may be
-    /// cut there and after the pattern, at `index + text.len()`.
+    /// The first index at which the pattern occurs, or `None` if it doesn't occur. The string may
+    /// be cut at that index and after the match, at `index + text.len()`.
     ///
     /// ```
     /// use os_str_bytes::{OsStr, OsStrBytesExt, Unix};
@@ -117,8 +119,8 @@ pub trait OsStrBytesExt<'a>: OsStrBytes<'a> {
         ensures edges { MayBeCutAround (Self.bytes_of self) (length (P.text pattern)) result }
         ensures behind { IfSome result (λ at. at + length (P.text pattern) < 2 ^ 64) };
 
-    /// The last index at which a pattern occurs, `None` where it doesn't occur. The string may be
-    /// cut there and after the pattern, at `index + text.len()`.
+    /// The last index at which the pattern occurs, or `None` if it doesn't occur. The string may be
+    /// cut at that index and after the match, at `index + text.len()`.
     ///
     /// ```
     /// use os_str_bytes::{OsStr, OsStrBytesExt, Unix};
@@ -134,7 +136,7 @@ pub trait OsStrBytesExt<'a>: OsStrBytes<'a> {
         ensures edges { MayBeCutAround (Self.bytes_of self) (length (P.text pattern)) result }
         ensures behind { IfSome result (λ at. at + length (P.text pattern) < 2 ^ 64) };
 
-    /// Whether a pattern occurs.
+    /// Whether the pattern occurs in the string.
     ///
     /// ```
     /// use os_str_bytes::{OsStr, OsStrBytesExt, Unix};
@@ -147,7 +149,7 @@ pub trait OsStrBytesExt<'a>: OsStrBytes<'a> {
         ensures units { IsTrue result ↔ StandsSomewhere (Self.Platform.units (P.text pattern))
             (Self.Platform.units (Self.bytes_of self)) };
 
-    /// Whether the string starts with a pattern.
+    /// Whether the string starts with the pattern.
     ///
     /// ```
     /// use os_str_bytes::{OsStr, OsStrBytesExt, Unix};
@@ -161,7 +163,7 @@ pub trait OsStrBytesExt<'a>: OsStrBytes<'a> {
         ensures units { IsTrue result ↔ IsFront (Self.Platform.units (P.text pattern))
             (Self.Platform.units (Self.bytes_of self)) };
 
-    /// Whether the string ends with a pattern.
+    /// Whether the string ends with the pattern.
     ///
     /// ```
     /// use os_str_bytes::{OsStr, OsStrBytesExt, Unix};
@@ -175,7 +177,8 @@ pub trait OsStrBytesExt<'a>: OsStrBytes<'a> {
         ensures units { IsTrue result ↔ IsEnd (Self.Platform.units (P.text pattern))
             (Self.Platform.units (Self.bytes_of self)) };
 
-    /// Whether the units of `front` are a prefix of the string's; a half of a pair counts.
+    /// Whether the units of the string start with the units of `front`; half of a surrogate pair
+    /// counts.
     ///
     /// ```
     /// use os_str_bytes::{OsStrBytesExt, OsString, Windows};
@@ -188,7 +191,8 @@ pub trait OsStrBytesExt<'a>: OsStrBytes<'a> {
         ensures { IsTrue result ↔ IsFront (Self.Platform.units (Self.bytes_of front))
             (Self.Platform.units (Self.bytes_of self)) };
 
-    /// Whether the units of `end` are a suffix of the string's; a half of a pair counts.
+    /// Whether the units of the string end with the units of `end`; half of a surrogate pair
+    /// counts.
     ///
     /// ```
     /// use os_str_bytes::{OsStrBytesExt, OsString, Windows};
@@ -203,7 +207,7 @@ pub trait OsStrBytesExt<'a>: OsStrBytes<'a> {
 
     // Strips and trims.
 
-    /// The string without a pattern as its prefix, `None` where it doesn't start with it.
+    /// The string without the pattern at its start, or `None` if it doesn't start with the pattern.
     ///
     /// ```
     /// use os_str_bytes::{OsStr, OsStrBytesExt, Unix};
@@ -218,7 +222,7 @@ pub trait OsStrBytesExt<'a>: OsStrBytes<'a> {
             (Self.Platform.units (P.text pattern)) (Self.Platform.units (Self.bytes_of self))
             result };
 
-    /// The string without a pattern as its suffix, `None` where it doesn't end with it.
+    /// The string without the pattern at its end, or `None` if it doesn't end with the pattern.
     ///
     /// ```
     /// use os_str_bytes::{OsStr, OsStrBytesExt, Unix};
@@ -232,7 +236,8 @@ pub trait OsStrBytesExt<'a>: OsStrBytes<'a> {
             (Self.Platform.units (P.text pattern)) (Self.Platform.units (Self.bytes_of self))
             result };
 
-    /// The string without each pattern at its start; the whole where the pattern is empty.
+    /// The string with all prefixes that match the pattern repeatedly removed; the whole string if
+    /// the pattern is empty.
     ///
     /// ```
     /// use os_str_bytes::{OsStr, OsStrBytesExt, Unix};
@@ -244,7 +249,8 @@ pub trait OsStrBytesExt<'a>: OsStrBytes<'a> {
         ensures { Trims Self.Platform.units IsStartTrim (P.text pattern) (Self.bytes_of self)
             (Self.bytes_of result) };
 
-    /// The string without each pattern at its end; the whole where the pattern is empty.
+    /// The string with all suffixes that match the pattern repeatedly removed; the whole string if
+    /// the pattern is empty.
     ///
     /// ```
     /// use os_str_bytes::{OsStr, OsStrBytesExt, Unix};
@@ -256,8 +262,8 @@ pub trait OsStrBytesExt<'a>: OsStrBytes<'a> {
         ensures { Trims Self.Platform.units IsEndTrim (P.text pattern) (Self.bytes_of self)
             (Self.bytes_of result) };
 
-    /// The string without each pattern at its start, and then without each at its end; the whole
-    /// where the pattern is empty. std has it for some patterns only.
+    /// The string with all prefixes that match the pattern repeatedly removed, and then all such
+    /// suffixes; the whole string if the pattern is empty. std has it only for some patterns.
     ///
     /// ```
     /// use os_str_bytes::{OsStr, OsStrBytesExt, Unix};
@@ -272,7 +278,8 @@ pub trait OsStrBytesExt<'a>: OsStrBytes<'a> {
 
     // Pieces.
 
-    /// The parts before and after the first occurrence of a pattern, `None` where it doesn't occur.
+    /// The parts before and after the first occurrence of the pattern, or `None` if it doesn't
+    /// occur.
     ///
     /// ```
     /// use os_str_bytes::{OsStr, OsStrBytesExt, Unix};
@@ -288,7 +295,8 @@ pub trait OsStrBytesExt<'a>: OsStrBytes<'a> {
             (Self.Platform.units (P.text pattern)) (Self.Platform.units (Self.bytes_of self))
             result };
 
-    /// The parts before and after the last occurrence of a pattern, `None` where it doesn't occur.
+    /// The parts before and after the last occurrence of the pattern, or `None` if it doesn't
+    /// occur.
     ///
     /// ```
     /// use os_str_bytes::{OsStr, OsStrBytesExt, Unix};
@@ -305,7 +313,7 @@ pub trait OsStrBytesExt<'a>: OsStrBytes<'a> {
             (Self.Platform.units (P.text pattern)) (Self.Platform.units (Self.bytes_of self))
             result };
 
-    /// The pieces between the occurrences of a pattern, each cut at the first one in what is left.
+    /// The pieces between occurrences of the pattern, each cut at the first one in what is left.
     /// The pattern isn't empty (test: `str::is_empty`; a `char` never is).
     ///
     /// ```
@@ -327,7 +335,7 @@ pub trait OsStrBytesExt<'a>: OsStrBytes<'a> {
         )
     }
 
-    /// The pieces between the occurrences of a pattern from the end, each cut at the last one in
+    /// The pieces between occurrences of the pattern, from the end, each cut at the last one in
     /// what is left. The pattern isn't empty (test: `str::is_empty`; a `char` never is).
     ///
     /// ```
@@ -350,9 +358,9 @@ pub trait OsStrBytesExt<'a>: OsStrBytes<'a> {
 
     // Characters.
 
-    /// The first character and the rest of the string, `None` where no whole character starts the
-    /// string (own call; of a text std's `str::chars`, of which `next` gives the character and
-    /// `as_str` the rest).
+    /// The first character and the rest of the string, or `None` if the string doesn't start with a
+    /// whole character (own call; if the string is a text, what std's `str::chars` gives: `next`
+    /// the character and `as_str` the rest).
     ///
     /// ```
     /// use os_str_bytes::{OsStr, OsStrBytesExt, Unix};
@@ -368,8 +376,9 @@ pub trait OsStrBytesExt<'a>: OsStrBytes<'a> {
             ≡ Self.Platform.units (encode_utf8 parts.0)
             ++ Self.Platform.units (Self.bytes_of parts.1)) };
 
-    /// The last character and the rest of the string, `None` where no whole character ends the
-    /// string (own call; of a text std's `str::chars` with `next_back`).
+    /// The last character and the rest of the string, or `None` if the string doesn't end with a
+    /// whole character (own call; if the string is a text, what std's `str::chars` gives by
+    /// `next_back`).
     ///
     /// ```
     /// use os_str_bytes::{OsStr, OsStrBytesExt, Unix};
@@ -387,10 +396,10 @@ pub trait OsStrBytesExt<'a>: OsStrBytes<'a> {
 
     // Chunks.
 
-    /// The string's chunks: its parts without whole characters, each with the text after it. Only
-    /// the first part may be empty, and only the last text; never both of one chunk. All chunks
-    /// joined are the string, and it has no other list of them. std's `[u8]::utf8_chunks` puts each
-    /// text first and ends a part at each fault.
+    /// The string's chunks: its parts that contain no whole character, each with the text after it.
+    /// Only the first part may be empty, and only the last text; never both in one chunk. All
+    /// chunks joined are the string, and it has no other list of them. std's `[u8]::utf8_chunks`
+    /// puts each text first and ends a part at each fault.
     ///
     /// ```
     /// use os_str_bytes::{OsStr, OsStrBytesExt, Unix};
@@ -415,10 +424,10 @@ pub trait OsStrBytesExt<'a>: OsStrBytes<'a> {
 
     // Symbols.
 
-    /// The string's symbols, one by one: its whole characters, and the units of what is no text
-    /// (own call; of a text std's `str::chars`). They are those of its chunks, of each the units of
-    /// its part and then the characters of its text. Their bytes joined are the string, and it has
-    /// no other list of them. It takes no memory.
+    /// The string's symbols, one by one: its whole characters, and the units of what isn't text
+    /// (own call; if the string is a text, what std's `str::chars` gives). They are the symbols of
+    /// its chunks: of each chunk, the units of its part and then the characters of its text. Their
+    /// bytes joined are the string, and it has no other list of them. It doesn't allocate.
     ///
     /// ```
     /// use os_str_bytes::{OsStrBytesExt, OsString, Symbol, Windows};
@@ -442,13 +451,14 @@ pub trait OsStrBytesExt<'a>: OsStrBytes<'a> {
 
     // Joins.
 
-    /// The string `count` times over: its units, one time after the other (std's `str::repeat`).
-    /// On Windows two halves of a pair that meet become one code point (WTF-8, "Concatenating"). It
-    /// takes the memory at once. No times, and the empty string any number of times, take none.
+    /// The string repeated `count` times: its units, that many times (std's `str::repeat`). On
+    /// Windows a high surrogate at the end of one copy and a low one at the start of the next
+    /// become one code point (WTF-8, "Concatenating"). It requests all the memory at once, and none
+    /// if `count` is 0 or the string is empty.
     ///
     /// # Errors
     ///
-    /// `AllocError` where the memory is refused, and where `count` times the number of bytes passes
+    /// `AllocError` if the memory is refused, or if `count` times the number of bytes is more than
     /// `usize::MAX`.
     ///
     /// ```

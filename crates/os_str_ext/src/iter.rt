@@ -17,14 +17,15 @@ use std::marker::{Model, PhantomData};
 
 /// From which end a string is split: [`FromStart`] or [`FromEnd`].
 pub trait Direction {
-    // the cuts of a string: of its pattern, the string, the piece that is cut off and the rest
+    // the cuts of a string: relates the pattern, the string, the piece that the cut takes off and
+    // the rest
     ghost cuts: { List ℕ → List ℕ → List ℕ → List ℕ → Type 0 };
 
     // the pieces of each string
     ghost pieces: { PiecesOf cuts };
 
-    /// The first piece from this end and the rest, cut around the pattern; `None` where it doesn't
-    /// occur.
+    /// The first piece from this end and the rest, cut around the pattern, or `None` if the pattern
+    /// doesn't occur.
     ///
     /// ```
     /// use os_str_bytes::{Direction, FromEnd, OsStr, Unix};
@@ -83,11 +84,12 @@ impl Direction for FromEnd {
     }
 }
 
-/// The pieces of a string between the matches of a pattern, from one of its ends: [`Split`] and
-/// [`RSplit`].
+/// An iterator over the pieces of a string between the matches of a pattern, from the start or from
+/// the end: [`Split`] and [`RSplit`].
 ///
-/// It keeps what is left of the string and the encoded pattern, and copies nothing. Its `clone`
-/// takes no memory, answers `Ok` and has the same pieces left. After `None` comes `None`.
+/// It holds the rest of the string and the encoded pattern, and copies no bytes. Cloning doesn't
+/// allocate and its answer is always `Ok`; the clone has the same pieces left. After `None` it
+/// gives only `None`.
 pub struct Pieces<'a, E: Platform + 'a, P: Pattern, D: Direction> {
     rest: Option<OsStr<'a, E>>,
     pattern: P::__Encoded,

@@ -1,18 +1,19 @@
-//! Searches, cuts and pieces of platform strings, by the laws of the platform alone.
+//! Searches, cuts and pieces of platform strings, which rely only on the laws of the platform.
 //!
-//! [`OsStrBytesExt`] gives a string of any platform its boundaries, its parts and ranges
-//! ([`SliceIndex`]), the searches for a [`Pattern`], its chunks ([`Utf8Chunks`]) and its symbols
-//! ([`Symbols`]). All indices are byte indices, and what is said of bytes is said of code units
-//! too. Only [`OsStrBytesExt::repeat`] takes memory. This crate re-exports each public item of
+//! [`OsStrBytesExt`] adds to a string of any platform: boundaries, cuts and ranges
+//! ([`SliceIndex`]), searches for a [`Pattern`], chunks ([`Utf8Chunks`]) and symbols ([`Symbols`]).
+//! All indices are byte indices, and what contracts say about bytes they also say about code units.
+//! Only [`OsStrBytesExt::repeat`] allocates. This crate re-exports each public item of
 //! `platform_str`.
 //!
 //! # Calls with a condition
 //!
-//! A call with a `requires` can only be made where it is proved: [`OsStrBytesExt::split_at`] at a
-//! boundary (test: [`OsStrBytesExt::is_boundary`]), [`OsStrBytesExt::index`] and
-//! [`OsStrBytesExt::get_unchecked`], also those of [`SliceIndex`], of a range that fits (test:
-//! [`SliceIndex::fits`]), [`OsStrBytesExt::split`] and [`OsStrBytesExt::rsplit`] at a pattern that
-//! isn't empty (test: `str::is_empty`; a `char` never is). Every other call can be made anywhere.
+//! A call with a `requires` can only be made where its condition is proved:
+//! [`OsStrBytesExt::split_at`] needs a boundary (test: [`OsStrBytesExt::is_boundary`]);
+//! [`OsStrBytesExt::index`] and [`OsStrBytesExt::get_unchecked`], and those of [`SliceIndex`], need
+//! a range that fits (test: [`SliceIndex::fits`]); [`OsStrBytesExt::split`] and
+//! [`OsStrBytesExt::rsplit`] need a pattern that isn't empty (test: `str::is_empty`; a `char` never
+//! is). Every other call can be made anywhere.
 #![tactic(auto)]
 
 mod boundary;

@@ -1,4 +1,4 @@
-//! The first and the last occurrence of a needle. What has to be looked for is left to `memchr`.
+//! The first and the last occurrence of a needle. The searches themselves are those of `memchr`.
 ghost use Rattle.std.specs.Prelude.{◌≡◌, ◌↔◌, ◌+◌, ◌-◌, ◌≤◌, ℕ, List, IsTrue, IfSome, MatchOption, length};
 ghost use Rattle.memchr.specs.Find.{FindsNeedle, FindsLastNeedle, IsFirstByte, NoneBefore, Nowhere, OccursAt, is_byte};
 ghost use Rattle.memchr.specs.Pairs.{IsPairFinderOf, IsPairOf};
@@ -7,13 +7,13 @@ use crate::compare::are_same;
 use memchr::arch::all::packedpair::{Finder, Pair};
 use memchr::{memchr_iter, memmem, memrchr};
 
-/// The longest needle that is compared where its first and last byte occur.
+/// The longest needle that is searched for by its first and last byte, or by its last byte alone.
 const LONGEST: usize = 32;
 
-/// In longer strings `memmem` has the time to make ready for a needle.
+/// In longer strings the time that `memmem` takes to prepare for the needle pays off.
 const SHORT: usize = 128;
 
-/// The first index of a needle; one of a single byte is looked for as a byte.
+/// The index of the first occurrence of a needle; a needle of one byte is searched for as a byte.
 #[inline(always)]
 pub(crate) fn first_of(bytes: &[u8], needle: &[u8]) -> Option<usize>
     ensures { FindsNeedle bytes.now needle.now 0 result }
@@ -24,7 +24,7 @@ pub(crate) fn first_of(bytes: &[u8], needle: &[u8]) -> Option<usize>
     first_by_ends(bytes, needle)
 }
 
-/// The last index of a needle; one of a single byte is looked for as a byte.
+/// The index of the last occurrence of a needle; a needle of one byte is searched for as a byte.
 #[inline(always)]
 pub(crate) fn last_of(bytes: &[u8], needle: &[u8]) -> Option<usize>
     ensures { FindsLastNeedle bytes.now needle.now result }
@@ -35,7 +35,7 @@ pub(crate) fn last_of(bytes: &[u8], needle: &[u8]) -> Option<usize>
     last_by_end(bytes, needle)
 }
 
-/// Whether a needle occurs at an index.
+/// Whether the needle occurs at index `at`.
 #[inline(always)]
 pub(crate) fn stands_at(bytes: &[u8], needle: &[u8], at: usize) -> bool
     requires { at ≤ length bytes.now }
@@ -49,7 +49,7 @@ pub(crate) fn stands_at(bytes: &[u8], needle: &[u8], at: usize) -> bool
     are_same(front, needle)
 }
 
-/// Whether a needle ends at an index.
+/// Whether an occurrence of the needle ends at index `at`.
 #[inline(always)]
 pub(crate) fn ends_at(bytes: &[u8], needle: &[u8], at: usize) -> bool
     requires { at ≤ length bytes.now }
@@ -59,7 +59,7 @@ pub(crate) fn ends_at(bytes: &[u8], needle: &[u8], at: usize) -> bool
     needle.len() <= at && stands_at(bytes, needle, at - needle.len())
 }
 
-/// The first index of a byte. The iterator is the quicker one where that is near.
+/// The index of the first occurrence of a byte. The iterator is faster if that index is small.
 #[inline(never)]
 fn first_byte(byte: u8, bytes: &[u8]) -> Option<usize>
     ensures { IsFirstByte (is_byte byte) bytes.now result }
@@ -68,9 +68,9 @@ fn first_byte(byte: u8, bytes: &[u8]) -> Option<usize>
     places.next()
 }
 
-/// The first index of a needle, which often is 0. In short strings it is compared where both its
-/// first and its last byte occur; after four such indices where it doesn't, and in longer strings,
-/// `memmem` looks for it.
+/// The index of the first occurrence of a needle, which often is the start. In short strings the
+/// needle is compared where its first and last byte match. After four such indices where it doesn't
+/// occur, and in longer strings, `memmem` searches for it.
 #[inline(never)]
 fn first_by_ends(bytes: &[u8], needle: &[u8]) -> Option<usize>
     ensures { FindsNeedle bytes.now needle.now 0 result }
@@ -98,8 +98,8 @@ fn first_by_ends(bytes: &[u8], needle: &[u8]) -> Option<usize>
     first_from(bytes, needle, from)
 }
 
-/// Both ends of a needle of two bytes or more. The greater byte comes first: in names the lesser
-/// ones, as `/`, `.` and `-`, are common.
+/// The first and the last byte of a needle of at least two bytes. The greater one comes first: in
+/// names small bytes such as `/`, `.` and `-` are common.
 #[inline(always)]
 fn ends_of(needle: &[u8]) -> Option<Pair>
     ensures { IfSome result (λ pair. IsPairOf pair needle.now) }
@@ -115,7 +115,7 @@ fn ends_of(needle: &[u8]) -> Option<Pair>
     }
 }
 
-/// The first index, from a given one on, where the pair of a needle occurs.
+/// The first index, from `from` on, at which the needle's pair of bytes occurs.
 #[inline(always)]
 fn next_candidate(finder: &Finder, bytes: &[u8], from: usize) -> Option<usize>
     requires { from ≤ length bytes.now }
@@ -130,7 +130,7 @@ fn next_candidate(finder: &Finder, bytes: &[u8], from: usize) -> Option<usize>
     }
 }
 
-/// The first index of a needle from a given one on.
+/// The index of the first occurrence of a needle from index `from` on.
 #[inline(always)]
 fn first_from(bytes: &[u8], needle: &[u8], from: usize) -> Option<usize>
     requires { from ≤ length bytes.now }
@@ -143,8 +143,8 @@ fn first_from(bytes: &[u8], needle: &[u8], from: usize) -> Option<usize>
     }
 }
 
-/// The last index of a needle, which is compared where its last byte occurs; before four such
-/// indices where it doesn't end, `memmem` looks for it.
+/// The index of the last occurrence of a needle. The needle is compared where its last byte occurs;
+/// after four such indices where it doesn't end, `memmem` searches what comes before them.
 #[inline(never)]
 fn last_by_end(bytes: &[u8], needle: &[u8]) -> Option<usize>
     ensures { FindsLastNeedle bytes.now needle.now result }

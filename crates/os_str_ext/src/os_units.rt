@@ -1,4 +1,4 @@
-//! Parts, the strings without whole characters, and their units.
+//! Parts, which are strings that contain no whole character, and their units.
 ghost use Rattle.std.specs.Prelude.{◌≡◌, ◌∷◌, ◌<◌, ◌^◌, length};
 ghost use Rattle.wtf8_core.specs.Covered.{IsBare};
 ghost use Rattle.platform_str.specs.Strings.{bytes};
@@ -7,10 +7,10 @@ use platform_str::{OsStr, Platform};
 use std::alloc::AllocError;
 use std::marker::Model;
 
-/// A string without whole characters: the part of a chunk.
+/// A string that contains no whole character: the part of a chunk.
 ///
-/// Parts are equal where their bytes are, and are ordered as their bytes are. Equal parts hash
-/// alike.
+/// Parts compare by their bytes: they are equal if their bytes are, and ordered like them. Equal
+/// parts have equal hashes.
 #[derive_where(PartialEq, Eq, PartialOrd, Ord, Hash)]
 pub struct NonUnicodeOsStr<'a, E: Platform + 'a> {
     string: OsStr<'a, E>,
@@ -60,10 +60,10 @@ impl<'a, E: Platform> NonUnicodeOsStr<'a, E> {
 
     /// The part's units, from the first on.
     ///
-    /// On Unix they are its bytes, each at least 80 (hexadecimal), on Windows surrogates of which
-    /// no high one is directly before a low one; on wasm a part is empty. The units of the Windows
-    /// part ED B0 80 ED A0 80 are DC00 and D800. The part's bytes are those of its units: the byte
-    /// of a unit below 100, the form of any other.
+    /// On Unix they are its bytes, each at least 80 (hexadecimal). On Windows they are surrogates,
+    /// and no high one comes directly before a low one. On wasm a part is empty. The units of the
+    /// Windows part ED B0 80 ED A0 80 are DC00 and D800. The part's bytes are those of its units: a
+    /// unit below 100 is one byte, any other has the bytes of its form.
     ///
     /// ```
     /// use os_str_bytes::{OsStrBytesExt, OsString, Windows};
@@ -100,8 +100,8 @@ impl<'a, E: Platform> NonUnicodeOsStr<'a, E> {
 
 /// A unit of a part.
 ///
-/// Units are equal where their numbers are, and are ordered as those are. Equal units hash
-/// alike.
+/// Units compare by their numbers: they are equal if their numbers are, and ordered like them.
+/// Equal units have equal hashes.
 #[derive(Clone, Copy, PartialEq, Eq, PartialOrd, Ord, Hash)]
 pub struct OsUnit {
     pub(crate) number: u16,
@@ -110,7 +110,8 @@ pub struct OsUnit {
 impl OsUnit {
     ghost use Rattle.os_str_ext.specs.Parts.{unit_number};
 
-    /// The unit's number, which no other unit has. It is at most FFFF (hexadecimal).
+    /// The unit's number, which differs from that of every other unit. It is at most FFFF
+    /// (hexadecimal).
     ///
     /// ```
     /// use os_str_bytes::{OsStr, OsStrBytesExt, Symbol, Unix};
@@ -139,10 +140,10 @@ impl From<OsUnit> for u64 {
     }
 }
 
-/// The units of a part that are left, from the first on, and then `None` for ever.
+/// An iterator over the units of a part, from the first on. After `None` it gives only `None`.
 ///
-/// [`NonUnicodeOsStr::os_units`] makes it. A clone has the same units left; it takes no memory,
-/// and its answer is always `Ok`.
+/// [`NonUnicodeOsStr::os_units`] makes it. A clone has the same units left; cloning doesn't
+/// allocate, and its answer is always `Ok`.
 #[derive(Drop)]
 pub struct OsUnits<'a, E: Platform + 'a> {
     rest: NonUnicodeOsStr<'a, E>,
@@ -161,7 +162,7 @@ impl<'a, E: Platform> OsUnits<'a, E> {
     ghost use Rattle.std.specs.Prelude.{[]};
     ghost use Rattle.os_str_ext.specs.Parts.{part_bytes};
 
-    /// No units: those of an empty part.
+    /// No units: the units of an empty part.
     ///
     /// ```
     /// use os_str_bytes::{OsUnits, Unix};
@@ -174,8 +175,8 @@ impl<'a, E: Platform> OsUnits<'a, E> {
         NonUnicodeOsStr::new(OsStr::new("")).os_units()
     }
 
-    /// The part whose units are left, in place in the part that the units are of. It takes no
-    /// memory.
+    /// The rest of the part, whose units are left. It borrows from the original part and doesn't
+    /// allocate.
     ///
     /// ```
     /// use os_str_bytes::{OsStr, OsStrBytesExt, Unix};
@@ -193,8 +194,8 @@ impl<'a, E: Platform> OsUnits<'a, E> {
         self.rest
     }
 
-    /// What [`OsUnits::rest`] gives, as a string (as std's `str::Chars::as_str`). It takes no
-    /// memory.
+    /// What [`OsUnits::rest`] gives, as a string (as std's `str::Chars::as_str`). It doesn't
+    /// allocate.
     ///
     /// ```
     /// use os_str_bytes::{OsStr, OsStrBytesExt, Unix};

@@ -1,4 +1,4 @@
-//! The laws of the order of parts and of their units, and of what a hasher is fed of them.
+//! Laws of comparing and hashing parts and their units.
 //!
 //! Each law is the contract of a function that does nothing.
 ghost use Rattle.std.specs.Prelude.{◌≡◌, ◌↔◌, IsTrue, Some};
@@ -11,8 +11,8 @@ use crate::os_units::{NonUnicodeOsStr, OsUnit};
 use platform_str::Platform;
 use std::hash::Hash;
 
-/// Parts are equal where their bytes are, and are ordered as lists of bytes are. A hasher is fed
-/// the bytes, as of a slice.
+/// Parts are equal exactly if their bytes are equal, and ordered as lists of bytes are. A hasher
+/// receives the bytes, as for a slice.
 #[tactic(auto, using(platform_str::proofs::lemmas::ByteOrder::byte_order))]
 pub fn part_comparisons<'a, E: Platform>(a: &NonUnicodeOsStr<'a, E>, b: &NonUnicodeOsStr<'a, E>)
     ensures equal { IsTrue (⟦<NonUnicodeOsStr<'a, E> as PartialEq>⟧.eq a.now b.now)
@@ -25,8 +25,8 @@ pub fn part_comparisons<'a, E: Platform>(a: &NonUnicodeOsStr<'a, E>, b: &NonUnic
         ≡ fed.slice fed.u8 (part_bytes a.now) }
 {}
 
-/// Units are equal where their numbers are, and are ordered as those are. A hasher is fed the
-/// number.
+/// Units are equal exactly if their numbers are equal, and ordered as the numbers are. A hasher
+/// receives the number.
 pub fn unit_comparisons(a: &OsUnit, b: &OsUnit)
     ensures equal { IsTrue (⟦<OsUnit as PartialEq>⟧.eq a.now b.now)
         ↔ (unit_number a.now ≡ unit_number b.now) }

@@ -11,7 +11,7 @@ use crate::search::{ends_with, find, rfind, starts_with};
 use platform_str::{OsStr, Platform};
 use wtf8_core::laws;
 
-/// The string without a text as its prefix.
+/// The string without the text at its start, or `None` if it doesn't start with the text.
 #[inline(always)]
 pub(crate) fn strip_prefix<'a, E: Platform>(
     string: OsStr<'a, E>,
@@ -26,7 +26,7 @@ pub(crate) fn strip_prefix<'a, E: Platform>(
     Some(rest)
 }
 
-/// The string without a text as its suffix.
+/// The string without the text at its end, or `None` if it doesn't end with the text.
 #[inline(always)]
 pub(crate) fn strip_suffix<'a, E: Platform>(
     string: OsStr<'a, E>,
@@ -41,7 +41,8 @@ pub(crate) fn strip_suffix<'a, E: Platform>(
     Some(rest)
 }
 
-/// The string without each text at its start; the whole where the text is empty.
+/// The string with all prefixes that are the text repeatedly removed; the whole string if the text
+/// is empty.
 pub(crate) fn trim_start<'a, E: Platform>(string: OsStr<'a, E>, text: &str) -> OsStr<'a, E>
     ensures trim { 0 < length text.now → IsStartTrim text.now (bytes string.entry) (bytes result) }
     ensures whole { length text.now ≡ 0 → bytes result ≡ bytes string.entry }
@@ -55,7 +56,8 @@ pub(crate) fn trim_start<'a, E: Platform>(string: OsStr<'a, E>, text: &str) -> O
     rest
 }
 
-/// The string without each text at its end; the whole where the text is empty.
+/// The string with all suffixes that are the text repeatedly removed; the whole string if the text
+/// is empty.
 pub(crate) fn trim_end<'a, E: Platform>(string: OsStr<'a, E>, text: &str) -> OsStr<'a, E>
     ensures trim { 0 < length text.now → IsEndTrim text.now (bytes string.entry) (bytes result) }
     ensures whole { length text.now ≡ 0 → bytes result ≡ bytes string.entry }
@@ -69,7 +71,7 @@ pub(crate) fn trim_end<'a, E: Platform>(string: OsStr<'a, E>, text: &str) -> OsS
     rest
 }
 
-/// The parts around the first occurrence of a text.
+/// The parts before and after the first occurrence of the text, or `None` if it doesn't occur.
 #[inline(always)]
 pub(crate) fn split_once<'a, E: Platform>(
     string: OsStr<'a, E>,
@@ -83,7 +85,7 @@ pub(crate) fn split_once<'a, E: Platform>(
     Some(around(string, at, at + text.len()))
 }
 
-/// The parts around the last occurrence of a text.
+/// The parts before and after the last occurrence of the text, or `None` if it doesn't occur.
 #[inline(always)]
 pub(crate) fn rsplit_once<'a, E: Platform>(
     string: OsStr<'a, E>,
@@ -97,7 +99,7 @@ pub(crate) fn rsplit_once<'a, E: Platform>(
     Some(around(string, at, at + text.len()))
 }
 
-/// The parts before one boundary and after another.
+/// The part before one boundary and the part after another.
 #[inline(always)]
 fn around<'a, E: Platform>(
     string: OsStr<'a, E>,

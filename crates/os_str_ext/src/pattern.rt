@@ -9,20 +9,20 @@ use std::alloc::AllocError;
 
 /// What can be searched for: a `char`, a `&str` or a `&String`, as a text.
 ///
-/// It is std's `Pattern` without closures and sets of characters. A search encodes its pattern
-/// once.
+/// It is like std's `Pattern`, without closures and sets of characters. A search encodes its
+/// pattern once.
 pub trait Pattern {
     type __Encoded: Copy + Encoded;
 
-    // the bytes that are looked for
+    // the bytes that a search looks for
     ghost text: { Self → List ℕ };
 
-    // that there are any; of a `char` it needs no proof
+    // that there is at least one byte; for a `char` this needs no proof
     ghost not_empty: { Self → Type 0 };
 
     ghost not_empty_is: { (pattern : Self) → not_empty pattern ↔ (0 < length (text pattern)) };
 
-    /// The pattern, ready for searches. It takes no memory.
+    /// The pattern, ready for searches. It doesn't allocate.
     ///
     /// ```
     /// use os_str_bytes::{Encoded, Pattern};
@@ -37,7 +37,7 @@ pub trait Pattern {
 
 /// An encoded pattern.
 pub trait Encoded {
-    // the bytes that are looked for
+    // the bytes that a search looks for
     ghost text: { Self → List ℕ };
 
     /// The pattern's bytes, which are UTF-8.

@@ -1,4 +1,4 @@
-//! Strings repeated.
+//! Repeated strings.
 ghost use Rattle.std.specs.Prelude.{◌≡◌, ◌<◌, ◌*◌, length, IfOk, IsOk, IsErr};
 ghost use Rattle.std.specs.List.{repeat};
 ghost use Rattle.platform_str.specs.Strings.{bytes, string_vec_of};
@@ -6,7 +6,7 @@ ghost use Rattle.platform_str.specs.Strings.{bytes, string_vec_of};
 use platform_str::{OsStr, OsString, Platform};
 use std::alloc::{AllocError, Allocator};
 
-/// The string `count` times over, in memory that is taken at once.
+/// The string repeated `count` times, in memory that is requested at once.
 pub(crate) fn repeat<E: Platform, A: Allocator>(
     alloc: A,
     string: OsStr<'_, E>,

@@ -1,4 +1,4 @@
-//! Runs of a text: how far it occurs over and over at one end of bytes.
+//! Runs of a text: how often it is repeated at the start or at the end of bytes.
 ghost use Rattle.std.specs.Prelude.{◌≡◌, ◌+◌, ◌-◌, ◌<◌, ◌≤◌, ◌++◌, ℕ, length, take, drop};
 ghost use Rattle.std.specs.List.{repeat};
 ghost use Rattle.memchr.specs.Find.{OccursAt};
@@ -6,10 +6,10 @@ ghost use Rattle.wtf8_core.specs.Pieces.{IsStartTrim, IsEndTrim};
 
 use crate::needle::{ends_at, stands_at};
 
-/// A run this long is itself looked for after it, instead of the text.
+/// Once a run has this length, the run itself is searched for after it instead of the text.
 const BLOCK: usize = 256;
 
-/// Where the run of a text at the start ends.
+/// The index at which the run of the text at the start ends.
 pub(crate) fn front_run(bytes: &[u8], text: &[u8]) -> usize
     requires { 0 < length text.now }
     ensures trim { IsStartTrim text.now bytes.now (drop result bytes.now) }
@@ -24,7 +24,7 @@ pub(crate) fn front_run(bytes: &[u8], text: &[u8]) -> usize
     skip(bytes, text, far, bytes.len())
 }
 
-/// Where the run of a text at the end starts.
+/// The index at which the run of the text at the end starts.
 pub(crate) fn end_run(bytes: &[u8], text: &[u8]) -> usize
     requires { 0 < length text.now }
     ensures trim { IsEndTrim text.now bytes.now (take result bytes.now) }
@@ -39,7 +39,7 @@ pub(crate) fn end_run(bytes: &[u8], text: &[u8]) -> usize
     skip_back(bytes, text, far, bytes.len())
 }
 
-/// Goes past a piece from an index on, again and again, until `to` is reached.
+/// Skips occurrences of `piece` from index `from` on, until index `to` is reached.
 #[inline(always)]
 fn skip(bytes: &[u8], piece: &[u8], from: usize, to: usize) -> usize
     requires some { 0 < length piece.now }
@@ -55,7 +55,7 @@ fn skip(bytes: &[u8], piece: &[u8], from: usize, to: usize) -> usize
     at
 }
 
-/// Goes back past a piece from an index on, again and again, until `most` bytes are passed.
+/// Skips occurrences of `piece` backwards from index `from`, until at least `most` bytes follow.
 #[inline(always)]
 fn skip_back(bytes: &[u8], piece: &[u8], from: usize, most: usize) -> usize
     requires some { 0 < length piece.now }

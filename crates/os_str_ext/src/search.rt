@@ -8,7 +8,7 @@ use crate::compare::are_same;
 use crate::needle::{first_of, last_of};
 use wtf8_core::laws;
 
-/// The first index of a text.
+/// The first index at which the text occurs.
 #[inline(always)]
 pub(crate) fn find(bytes: &[u8], text: &str) -> Option<usize>
     ensures place { Finds IsLeastPlace text.now bytes.now result }
@@ -19,7 +19,7 @@ pub(crate) fn find(bytes: &[u8], text: &str) -> Option<usize>
     first_of(bytes, text.as_bytes())
 }
 
-/// The last index of a text.
+/// The last index at which the text occurs.
 #[inline(always)]
 pub(crate) fn rfind(bytes: &[u8], text: &str) -> Option<usize>
     ensures place { Finds IsGreatestPlace text.now bytes.now result }
@@ -30,7 +30,7 @@ pub(crate) fn rfind(bytes: &[u8], text: &str) -> Option<usize>
     last_of(bytes, text.as_bytes())
 }
 
-/// Whether bytes start with a text.
+/// Whether the bytes start with the text.
 #[inline(always)]
 pub(crate) fn starts_with(bytes: &[u8], text: &str) -> bool
     ensures front { IsTrue result ↔ IsFront text.now bytes.now }
@@ -44,7 +44,7 @@ pub(crate) fn starts_with(bytes: &[u8], text: &str) -> bool
     are_same(front, text.as_bytes())
 }
 
-/// Whether bytes end with a text.
+/// Whether the bytes end with the text.
 #[inline(always)]
 pub(crate) fn ends_with(bytes: &[u8], text: &str) -> bool
     ensures end { IsTrue result ↔ IsEnd text.now bytes.now }

@@ -1,4 +1,4 @@
-//! Ranges of indices in strings.
+//! Ranges of byte indices in strings.
 ghost use Rattle.std.specs.Prelude.{◌≡◌, ◌+◌, ◌↔◌, ℕ, IsTrue, length, take, drop};
 ghost use Rattle.std.specs.Range.{range_inclusive_start, range_inclusive_end};
 ghost use Rattle.platform_str.specs.Strings.{bytes};
@@ -10,16 +10,16 @@ use std::ops::{Range, RangeFrom, RangeFull, RangeInclusive, RangeTo, RangeToIncl
 
 /// A range of byte indices in a string: std's six range types of `usize`.
 ///
-/// Its ghost members are its first index, and the index after its last in a string of some length.
-/// An inclusive end counts as the index after it, without bound, so that `..=usize::MAX` never
-/// fits, and `3..=2` is the empty range at 3.
+/// Its ghost members are its start and, in a string of some length, its exclusive end. An inclusive
+/// end counts as one more, without overflow, so `..=usize::MAX` never fits, and `3..=2` is the
+/// empty range at 3.
 pub trait SliceIndex: Sized {
     ghost first_place: { Self → ℕ };
 
     ghost end_place: { Self → ℕ → ℕ };
 
-    /// Whether the range fits: its start is at most its end, both are boundaries, and the end
-    /// is at most the string's length.
+    /// Whether the range fits: its start is at most its end, both are boundaries, and the end is at
+    /// most the string's length.
     ///
     /// ```
     /// use os_str_bytes::{OsStr, SliceIndex, Unix};
@@ -32,7 +32,7 @@ pub trait SliceIndex: Sized {
         ensures { IsTrue result ↔ FitsIn (bytes string.entry) (first_place self.now)
             (end_place self.now (length (bytes string.entry))) };
 
-    /// The bytes of the string in the range, which fits (test: [`SliceIndex::fits`]). Its units
+    /// The part of the string in the range, which must fit (test: [`SliceIndex::fits`]). Its units
     /// are those of the string without the units before the range and those after it.
     ///
     /// ```
@@ -154,14 +154,14 @@ impl SliceIndex for RangeToInclusive<usize> {
     }
 }
 
-/// Whether the bytes from index `start` to index `end` are a part that may be cut out.
+/// Whether the bytes from index `start` to index `end` (exclusive) are a part that may be cut out.
 fn fits<E: Platform>(string: OsStr<'_, E>, start: usize, end: usize) -> bool
     ensures { IsTrue result ↔ FitsIn (bytes string.entry) start end }
 {
     fits_in_bytes(string.as_encoded_bytes(), start, end)
 }
 
-/// The same from index `start` to the index after `last`.
+/// The same for the bytes from index `start` to index `last` (inclusive).
 fn fits_inclusive<E: Platform>(string: OsStr<'_, E>, start: usize, last: usize) -> bool
     ensures { IsTrue result ↔ FitsIn (bytes string.entry) start (last + 1) }
 {

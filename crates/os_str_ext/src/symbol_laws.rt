@@ -10,8 +10,9 @@ use crate::symbols::Symbol;
 use platform_str::Platform;
 use std::hash::Hash;
 
-/// A string has exactly one list of symbols, and the symbols' bytes joined are the string: those of
-/// a character std's `char::encode_utf8` writes, those of a unit are its own.
+/// A string has exactly one list of symbols, and the bytes of the symbols, joined, are the string.
+/// The bytes of a character are those that std's `char::encode_utf8` writes; the bytes of a unit
+/// are its own.
 pub fn symbols<E: Platform>()
     ensures some { (s : List ℕ) → (symbols : List Symbol) × AreSymbols E.units s symbols }
     ensures once { (s : List ℕ) → (symbols : List Symbol) → (others : List Symbol)

@@ -1,4 +1,4 @@
-//! The symbols of a string: its whole characters, and the units of what is no text.
+//! The symbols of a string: its whole characters, and the units of what isn't text.
 ghost use Rattle.std.specs.Prelude.{◌≡◌, ◌∷◌, [], ◌<◌, ◌≤◌, length, MatchOption};
 ghost use Rattle.std.specs.Iterator.{YieldsFirst, item_count};
 ghost use Rattle.platform_str.specs.Strings.{bytes};
@@ -11,31 +11,31 @@ use platform_str::{OsStr, Platform};
 use std::alloc::AllocError;
 use std::marker::Model;
 
-/// What a string is made of: a whole character, or a unit of what is no text.
+/// One element of a string: a whole character, or a unit of what isn't text.
 ///
-/// Symbols are equal where both are the same character, or units of the same number. Equal
-/// symbols hash alike.
+/// Symbols are equal if both are the same character, or both are units with the same number. Equal
+/// symbols have equal hashes.
 #[derive(Clone, Copy, PartialEq, Eq, Hash)]
 pub enum Symbol {
     /// A whole character of the string.
     Character(char),
-    /// A unit of a part without whole characters: on Unix a byte from 80 (hexadecimal), on Windows
-    /// a lone surrogate. On wasm there is none.
+    /// A unit of a part without whole characters: on Unix a byte of at least 80 (hexadecimal), on
+    /// Windows a lone surrogate. On wasm there are none.
     Unit(OsUnit),
 }
 
-/// The symbols of a string that are left, from the first on, and then `None` for ever.
+/// An iterator over the symbols of a string, from the first on. After `None` it gives only `None`.
 ///
 /// [`OsStrBytesExt::symbols`](crate::OsStrBytesExt::symbols) makes it. A clone has the same symbols
-/// left; it takes no memory, and its answer is always `Ok`.
+/// left; cloning doesn't allocate, and its answer is always `Ok`.
 #[derive(Drop)]
 pub struct Symbols<'a, E: Platform + 'a> {
     rest: OsStr<'a, E>,
-    // How many bytes follow the part of the rest's first chunk, and how many its text. Where they
-    // aren't known yet the rest has no more bytes than follow that text.
+    // The number of bytes after the part of the rest's first chunk, and of those after its text. If
+    // the next chunk isn't known yet, the rest has at most `after_text` bytes.
     after_part: usize,
     after_text: usize,
-    // At none of so many bytes after that text does a whole character start.
+    // No whole character starts at any of the first `bare` bytes after that text.
     bare: usize,
 }
 
@@ -83,8 +83,8 @@ impl<'a, E: Platform> Symbols<'a, E> {
         }
     }
 
-    /// The string whose symbols are left, in place in the string that the symbols are of (as std's
-    /// `str::Chars::as_str`). It takes no memory.
+    /// The rest of the string, whose symbols are left (as std's `str::Chars::as_str`). It borrows
+    /// from the original string and doesn't allocate.
     ///
     /// ```
     /// use os_str_bytes::{OsStr, OsStrBytesExt, Symbol, Unix};
@@ -124,7 +124,7 @@ impl<'a, E: Platform> Iterator for Symbols<'a, E> {
     }
 }
 
-/// The first symbol of a string, and the symbols after it; `None` where the string is empty.
+/// The first symbol of a string, and the symbols after it; `None` if the string is empty.
 #[inline(always)]
 fn first_symbol<'a, E: Platform>(
     string: OsStr<'a, E>,
@@ -145,8 +145,8 @@ fn first_symbol<'a, E: Platform>(
     Some(first_of_next_chunk(string, bare))
 }
 
-/// The same of a string that isn't empty, whose first chunk isn't known yet. At none of its first
-/// `bare` bytes does a whole character start.
+/// The same for a string that isn't empty and whose first chunk isn't known yet. No whole character
+/// starts at any of its first `bare` bytes.
 fn first_of_next_chunk<'a, E: Platform>(
     string: OsStr<'a, E>,
     bare: usize,
@@ -165,7 +165,7 @@ fn first_of_next_chunk<'a, E: Platform>(
     first_of_chunk(string, len - part_end, len - text_end, bare_after)
 }
 
-/// The same of a string whose first chunk is known.
+/// The same for a string whose first chunk is known.
 #[inline(always)]
 fn first_of_chunk<'a, E: Platform>(
     string: OsStr<'a, E>,
@@ -184,7 +184,7 @@ fn first_of_chunk<'a, E: Platform>(
     }
 }
 
-/// The same where the first chunk begins with a unit.
+/// The same if the first chunk begins with a unit.
 fn first_of_part<'a, E: Platform>(
     string: OsStr<'a, E>,
     after_part: usize,
@@ -209,7 +209,7 @@ fn first_of_part<'a, E: Platform>(
     (Symbol::Unit(OsUnit { number }), symbols)
 }
 
-/// The same where the first chunk is a text.
+/// The same if the first chunk has no part, only a text.
 #[inline(always)]
 fn first_of_text<'a, E: Platform>(
     string: OsStr<'a, E>,

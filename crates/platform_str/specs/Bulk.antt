@@ -1,13 +1,13 @@
--- What bulk conversions of Windows strings take off the front, step by step.
+-- What bulk conversions of Windows strings take off the start, step by step.
 use Rattle.std.specs.Prelude.{ℕ, ◌+◌, if◌then◌else◌, List, [], ◌∷◌, ◌++◌}
 use Rattle.wtf8_core.specs.Surrogate.{is_pair}
 use Rattle.wtf8_core.specs.Wtf8.{HasUnits}
 
--- `front` and behind it any bytes with the units `rest` have the units `all`
+-- `front`, followed by any bytes with the units `rest`, has the units `all`
 abbrev pub SpellsBefore : List ℕ → List ℕ → List ℕ → Type 0
 SpellsBefore front rest all = (bytes : List ℕ) → HasUnits bytes rest → HasUnits (front ++ bytes) all
 
--- how many pairs of a high and a low surrogate stand among units
+-- how many pairs of a high and a low surrogate there are among units
 abbrev pub begins_pair : ℕ → List ℕ → ℕ
 begins_pair u [] = 0
 begins_pair u (v ∷ us) = if is_pair u v then 1 else 0

@@ -1,4 +1,4 @@
--- The bytes of what is borrowed or owned.
+-- The bytes of values that are borrowed or owned.
 use Rattle.std.specs.Prelude.{◌≡◌, ℕ, List}
 use Rattle.std.specs.declared.vec.Vec.{Vec}
 use Rattle.std.specs.String.{string_bytes}
@@ -19,7 +19,7 @@ module _ {E A : Type 0} {P : Ghosts E} where
   cow_bytes (string.Borrowed s) = bytes s
   cow_bytes (string.Owned s) = (string_vec_of s).items
 
-  -- it is owned, in this vector
+  -- the value is owned, in this vector
   abbrev pub IsOwnedString : OsStrCow E A P → Vec ℕ A → Type 0
   IsOwnedString (string.Borrowed s) vec = ⊥
   IsOwnedString (string.Owned s) vec = string_vec_of s ≡ vec

@@ -1,4 +1,4 @@
--- What `{}` writes of a string, and how it is filled to a width (std's `Display` of an `OsStr`, as it is on Unix).
+-- What `{}` writes of a string, and how it is filled to a width (like std's `Display` of an `OsStr` on Unix).
 use Rattle.std.specs.Prelude.{ℕ, ◌-◌, ◌/◌, List, ◌++◌, Option, Some, None}
 use Rattle.std.specs.Option.{unwrap_or}
 use Rattle.std.specs.Char.{encode_utf8}
@@ -15,14 +15,14 @@ module _ {E : Type 0} {P : Ghosts E} where
   abbrev pub shown_bytes : OsStrDisplay E P → List ℕ
   shown_bytes shown = bytes shown.string
 
--- how much of the padding stands before the text: none where no side is asked for
+-- how much of the padding comes before the text: none if no alignment is given
 abbrev pub fill_before : Option Alignment → ℕ → ℕ
 fill_before None padding = 0
 fill_before (Some Left) padding = 0
 fill_before (Some Center) padding = padding / 2
 fill_before (Some Right) padding = padding
 
--- the text, filled to a width with a character
+-- the text, filled to a width with the fill character
 abbrev pub filled : ℕ → Option Alignment → Option ℕ → List ℕ → List ℕ
 filled fill align width text =
     let padding = unwrap_or width 0 - char_count text in

@@ -10,7 +10,7 @@ use Rattle.wtf8_core.specs.Lossy.{replacement}
 use Rattle.wtf8_core.specs.declared.fault.EncodingError.{EncodingError}
 use Rattle.platform_str.specs.PlatformWords.{AreWideUnits}
 
--- one U+FFFD stands for the first n bytes, and what follows them is well formed
+-- one U+FFFD replaces the first n bytes, and what follows them is well formed
 pub record IsReplaced (well_formed : List ℕ → Type 0) (lossy : List ℕ → List ℕ) (b : List ℕ) (n : ℕ) : Type 0 where
   pub some : 0 < n
   pub within : n ≤ length b
@@ -19,30 +19,30 @@ pub record IsReplaced (well_formed : List ℕ → Type 0) (lossy : List ℕ → 
 
 -- the laws of a platform
 pub record PlatformLaws (first_fault : List ℕ → EncodingError → Type 0) (well_formed : List ℕ → Type 0) (units : List ℕ → List ℕ) (is_unit_list io_safe : List ℕ → Type 0) (lossy : List ℕ → List ℕ) (replaces : List ℕ → ℕ → Type 0) : Type 0 where
-  -- faults: refused bytes aren't well formed, and have one first fault
+  -- faults: refused bytes aren't well formed, and have exactly one first fault
   pub faulty : (b : List ℕ) (f : EncodingError) → first_fault b f → ¬ (well_formed b)
   pub one_fault : (b : List ℕ) (f g : EncodingError) → first_fault b f → first_fault b g → f ≡ g
   -- spelling: each list of units has one spelling
   pub one_spelling : (b c : List ℕ) → well_formed b → well_formed c → units b ≡ units c → b ≡ c
   pub some_spelling : (us : List ℕ) → is_unit_list us → (b : List ℕ) × (well_formed b × (units b ≡ us))
   pub unit_list : (b : List ℕ) → well_formed b → is_unit_list (units b)
-  -- texts: they are strings and IO-safe, what is IO-safe is a string, and so is what follows a text at the front
+  -- texts: they are strings and IO-safe; IO-safe bytes are a string, and so is what follows a text at the start of a string
   pub text : (b : List ℕ) → IsUtf8 b → well_formed b
   pub text_io_safe : (b : List ℕ) → IsUtf8 b → io_safe b
   pub io_safe_string : (b : List ℕ) → io_safe b → well_formed b
   pub behind_text : (b : List ℕ) (n : ℕ) → well_formed b → IsUtf8 (take n b) → well_formed (drop n b)
   pub three : (b c : List ℕ) (n : ℕ) → well_formed b → ¬ (io_safe b) → replaces c n → n ≡ 3
-  -- cuts: at a boundary both parts are strings, and their units joined are the string's
+  -- cuts: at a boundary both parts are strings, and their units, joined, are the string's
   pub cut_front : (b : List ℕ) (i : ℕ) → well_formed b → IsBoundary b i → well_formed (take i b)
   pub cut_back : (b : List ℕ) (i : ℕ) → well_formed b → IsBoundary b i → well_formed (drop i b)
   pub cut_units : (b : List ℕ) (i : ℕ) → well_formed b → IsBoundary b i → units b ≡ units (take i b) ++ units (drop i b)
-  -- lossy texts: they are texts, a text is its own, a text at the front stays, and one U+FFFD stands for what `replaces` says
+  -- lossy texts: they are texts, a text is its own lossy text, a text at the start stays, and one U+FFFD replaces as many bytes as `replaces` says
   pub lossy_utf8 : (b : List ℕ) → well_formed b → IsUtf8 (lossy b)
   pub lossy_text : (b : List ℕ) → IsUtf8 b → lossy b ≡ b
   pub lossy_front : (b : List ℕ) (n : ℕ) → well_formed b → IsValidUpTo b n → lossy b ≡ take n b ++ lossy (drop n b)
   pub lossy_step : (b : List ℕ) (n : ℕ) → well_formed b → 0 < length b → StartsBare b → replaces b n → IsReplaced well_formed lossy b n
 
--- the laws of a platform's parts: each unit's bytes are its own, `part_units` says what the units are, and a unit has at most 16 bits
+-- the laws of a platform's parts: each unit has its own bytes, `part_units` says what the units are, and a unit has at most 16 bits
 pub record PartLaws (well_formed : List ℕ → Type 0) (units : List ℕ → List ℕ) (part_units : List ℕ → Type 0) : Type 0 where
   pub spelled : (b : List ℕ) → well_formed b → IsBare b → b ≡ flat_map unit_bytes (units b)
   pub are_units : (b : List ℕ) → well_formed b → IsBare b → part_units (units b)
@@ -55,7 +55,7 @@ pub record IsFirstUnit (well_formed : List ℕ → Type 0) (units : List ℕ →
   pub behind : well_formed (drop n b)
   pub units_are : units b ≡ u ∷ units (drop n b)
 
--- the laws of a platform's lossy reading: bytes have one and no other, it is a string, and that of a string is itself
+-- the laws of a platform's lossy reading: any bytes have exactly one, it is a string, and the reading of a string is the string itself
 pub record ReadingLaws (well_formed : List ℕ → Type 0) (reads_as : List ℕ → List ℕ → Type 0) : Type 0 where
   pub reading_formed : (b c : List ℕ) → All IsByte b → reads_as b c → well_formed c
   pub reads_itself : (b : List ℕ) → well_formed b → reads_as b b

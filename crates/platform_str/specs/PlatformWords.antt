@@ -12,10 +12,10 @@ AreWideUnits us = All (λ u. u < 2 ^ 16) us
 abbrev pub itself : List ℕ → List ℕ
 itself b = b
 
--- Windows: one U+FFFD stands for the three bytes of a surrogate; wasm: it never stands
+-- Windows: one U+FFFD replaces the three bytes of a surrogate; wasm: nothing is replaced
 abbrev pub IsThree : List ℕ → ℕ → Type 0
 IsThree b n = n ≡ 3
 
--- bytes are numbers of 16 bits
+-- bytes are numbers of at most 16 bits
 pub wide_bytes : (b : List ℕ) → All IsByte b → AreWideUnits b
 wide_bytes b h k d lt = omega (arith, h k d lt)

@@ -1,4 +1,4 @@
--- What clauses see of a string: its bytes, and of an owned one its vector.
+-- What contracts say of a string: its bytes, and for an owned one its vector.
 use Rattle.std.specs.Prelude.{ℕ, List}
 use Rattle.std.specs.declared.vec.Vec.{Vec}
 use Rattle.platform_str.specs.declared.platform.Platform.{Ghosts}

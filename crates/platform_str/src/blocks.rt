@@ -1,5 +1,5 @@
-//! The units of Windows strings and the bytes of units, many at once: ASCII by blocks of 16 and, of
-//! units, of 8, and code point by code point what is between.
+//! The units of Windows strings and the bytes of units, many at once: ASCII in blocks of 16 (and,
+//! for units, of 8), and what comes between code point by code point.
 ghost use Rattle.std.specs.Prelude.{◌≡◌, ◌++◌, ◌+◌, ◌*◌, ◌≤◌, ◌<◌, ◌∷◌, ℕ, List, true, leb, take, drop, length, slice_index, IsOk, IfSome, MatchOption, OnOk, vec_len, vec_capacity};
 ghost use Rattle.std.specs.List.{All, count_by};
 ghost use Rattle.wtf8_core.specs.CodePoint.{IsCodePoint, wide, form};
@@ -14,7 +14,7 @@ use std::alloc::{AllocError, Allocator};
 use std::simd::prelude::*;
 use wtf8_core::{first_form, first_pair, pair_units, write_form};
 
-/// Whether 16 bytes are ASCII.
+/// Whether all 16 bytes are ASCII.
 #[inline(always)]
 fn is_ascii_block(block: [u8; 16]) -> bool
     ensures { result ≡ true → All (λ b. b < 0x80) block }
@@ -25,7 +25,7 @@ fn is_ascii_block(block: [u8; 16]) -> bool
         == 0
 }
 
-/// The units of 16 bytes of ASCII.
+/// The units of 16 ASCII bytes.
 #[inline(always)]
 fn widened(block: [u8; 16]) -> [u16; 16]
     ensures { result ≡ block }
@@ -33,7 +33,7 @@ fn widened(block: [u8; 16]) -> [u16; 16]
     u8x16::from_array(block).cast::<u16>().to_array()
 }
 
-/// The same of 16 units.
+/// Whether all 16 units are ASCII.
 #[inline(always)]
 fn are_ascii_units(block: [u16; 16]) -> bool
     ensures { result ≡ true → All (λ u. u < 0x80) block }
@@ -44,7 +44,7 @@ fn are_ascii_units(block: [u16; 16]) -> bool
         == 0
 }
 
-/// The bytes of 16 units of ASCII.
+/// The bytes of 16 ASCII units.
 #[inline(always)]
 fn narrowed(block: [u16; 16]) -> [u8; 16]
     requires { All (λ u. u < 0x80) block }
@@ -88,7 +88,7 @@ fn push_each<A: Allocator>(
     Ok(())
 }
 
-/// Appends the units of a string. Where there is room for all, no memory is asked for.
+/// Appends the units of a string. If the vector has room for all of them, this doesn't allocate.
 pub(crate) fn push_units<A: Allocator>(
     units: &mut Vec<u16, A>,
     string: &[u8],
@@ -112,7 +112,7 @@ pub(crate) fn push_units<A: Allocator>(
     push_each(units, OsStr::from_encoded_bytes_unchecked(rest))
 }
 
-/// Whether there are 16 units and the first 16 are ASCII.
+/// Whether there are at least 16 units and the first 16 are ASCII.
 #[inline(always)]
 fn begins_ascii_block(units: &[u16]) -> bool
     ensures ascii { result ≡ true → All (λ u. u < 0x80) (take 16 units.now) }
@@ -121,7 +121,7 @@ fn begins_ascii_block(units: &[u16]) -> bool
     units.len() >= 16 && are_ascii_units(u16x16::from_slice(units).to_array())
 }
 
-/// The first code point of units, and the units after it.
+/// The first code point of the units, and the units after it.
 #[inline(always)]
 fn first_code_point(units: &[u16]) -> (u32, &[u16])
     requires { 0 < length units.now }
@@ -133,7 +133,7 @@ fn first_code_point(units: &[u16]) -> (u32, &[u16])
     let (first, rest) = units.split_at(1);
     let unit = first[0];
 
-    // most units are no half of a pair
+    // most units aren't half of a pair
     if unit < 0xD800 {
         return (u32::from(unit), rest);
     }
@@ -143,8 +143,8 @@ fn first_code_point(units: &[u16]) -> (u32, &[u16])
     }
 }
 
-/// How many of the first 8 units, of which the first is ASCII, come before any that isn't; 1 where
-/// there are fewer than 8.
+/// The number of ASCII units at the start of the first 8 units, the first of which is ASCII; 1 if
+/// there are fewer than 8 units.
 #[inline(always)]
 fn ascii_len(units: &[u16]) -> usize
     requires some { 0 < length units.now }
@@ -166,7 +166,7 @@ fn ascii_len(units: &[u16]) -> usize
     others.trailing_zeros() as usize
 }
 
-/// Writes 16 units of ASCII from index `at` on.
+/// Writes 16 ASCII units from index `at` on.
 #[inline(always)]
 fn put_ascii(bytes: &mut [u8], at: usize, block: [u16; 16])
     requires ascii { All (λ u. u < 0x80) block }
@@ -177,8 +177,8 @@ fn put_ascii(bytes: &mut [u8], at: usize, block: [u16; 16])
     u8x16::from_array(narrowed(block)).copy_to_slice(&mut bytes[at..]);
 }
 
-/// Writes the first `len` units, which are ASCII, from index `at` on, and other bytes after them
-/// where there are 8 units.
+/// Writes the first `len` units, which are ASCII, from index `at` on. If there are at least 8
+/// units, it also overwrites bytes after them.
 #[inline(always)]
 fn put_ascii_front(bytes: &mut [u8], at: usize, units: &[u16], len: usize)
     requires ascii { All (λ u. u < 0x80) (take len units.now) }
@@ -216,12 +216,12 @@ fn count_pairs(units: &[u16]) -> usize
     requires { 17 ≤ length units.now }
     ensures { result + pairs (drop 16 units.now) ≡ pairs units.now }
 {
-    // surrogates are from 800 on (hexadecimal), and the caller has counted these
+    // surrogates are at least 800 (hexadecimal), and the caller has already counted such units
     if count_from(units, 0x800) == 0 {
         return 0;
     }
 
-    // the six bits that tell what half a unit is, of a unit and of the one after it
+    // the high six bits, which identify a surrogate, of each unit and of the one after it
     let first = u16x16::from_slice(units) >> u16x16::splat(10);
     let second = u16x16::from_slice(&units[1..]) >> u16x16::splat(10);
     let ones = ((first << u16x16::splat(6)) + second)
@@ -231,8 +231,8 @@ fn count_pairs(units: &[u16]) -> usize
     ones as usize
 }
 
-/// How many bytes the string with these units has: one for each unit, one more for each from 80
-/// on, one more for each from 800 on, and two less for each pair (hexadecimal).
+/// The number of bytes of the string with these units: one for each unit, one more for each unit
+/// from 80 on, one more for each from 800 on, and two less for each pair (hexadecimal).
 pub(crate) fn bytes_len(units: &[u16]) -> usize
     ensures { (string : List ℕ) → HasUnits string units.now → result ≡ length string }
 {
@@ -254,7 +254,7 @@ pub(crate) fn bytes_len(units: &[u16]) -> usize
     len - pairs - pairs
 }
 
-/// Writes the bytes of units over others, which are as many.
+/// Writes the bytes of units over others of the same number.
 pub(crate) fn spell(units: &[u16], bytes: &mut [u8])
     requires { (string : List ℕ) → HasUnits string units.now → length bytes.old ≡ length string }
     ensures { HasUnits bytes.new units.now }
@@ -262,7 +262,7 @@ pub(crate) fn spell(units: &[u16], bytes: &mut [u8])
     let mut rest = units;
     let mut at = 0;
 
-    // a block of 16 is tried where the last 8 units that were looked at were ASCII
+    // try a block of 16 only if the last 8 units that were read together were ASCII
     let mut wanted = true;
     while !rest.is_empty() {
         if rest[0] < 0x80 {

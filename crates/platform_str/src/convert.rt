@@ -1,4 +1,4 @@
-//! Strings and paths from bytes, and their bytes, as os_str_bytes 7.2.1 has them.
+//! Conversions of strings and paths from and to bytes, as in os_str_bytes 7.2.1.
 ghost use Rattle.std.specs.Prelude.{◌≡◌, ℕ, List, IsOk, IfOk, MatchOption, MatchResult};
 ghost use Rattle.std.specs.declared.alloc.Global.{Global};
 ghost use Rattle.std.specs.declared.vec.Vec.{Vec};
@@ -12,12 +12,12 @@ use crate::platform::Platform;
 use std::alloc::{AllocError, Allocator};
 use wtf8_core::EncodingError;
 
-/// Borrowed strings that are read from bytes: [`crate::OsStr`] and [`crate::Path`] (the
+/// Borrowed strings that can be made from bytes: [`crate::OsStr`] and [`crate::Path`] (the
 /// `OsStrBytes` of os_str_bytes).
 ///
-/// Raw bytes are the string's own; IO bytes are those that file reads and writes take, which
-/// on Windows and wasm must be UTF-8. No conversion copies, and but for
-/// [`OsStrBytes::to_io_bytes_lossy`] none takes memory.
+/// Raw bytes are the string's own. IO bytes are those that reads and writes of files take, which
+/// must be UTF-8 on Windows and wasm. No conversion copies, and only
+/// [`OsStrBytes::to_io_bytes_lossy`] may allocate.
 pub trait OsStrBytes<'a>: Sized + Copy {
     type Platform: Platform + 'a;
 
@@ -25,10 +25,10 @@ pub trait OsStrBytes<'a>: Sized + Copy {
 
     ghost bytes_of: { Self → List ℕ };
 
-    // it is owned, in this vector
+    // the value is owned, in this vector
     ghost is_owned: { Self.Cow → Vec ℕ Global → Type 0 };
 
-    /// The string's bytes (own call, which the others use).
+    /// The string's bytes (own call; the others are built on it).
     ///
     /// ```
     /// use os_str_bytes::{OsStr, OsStrBytes, Unix};
@@ -51,7 +51,8 @@ pub trait OsStrBytes<'a>: Sized + Copy {
         requires { Self.Platform.well_formed raw.now }
         ensures { Self.Cow.bytes_of result ≡ raw.now };
 
-    /// The string of well-formed raw bytes, moved (test: [`OsStrBytes::from_raw_bytes_owned`]).
+    /// The string of well-formed raw bytes, whose vector is moved into it (test:
+    /// [`OsStrBytes::from_raw_bytes_owned`]).
     ///
     /// ```
     /// use os_str_bytes::{HasBytes, OsStr, OsStrBytes, Unix};
@@ -64,11 +65,11 @@ pub trait OsStrBytes<'a>: Sized + Copy {
         ensures bytes { Self.Cow.bytes_of result ≡ raw.items }
         ensures vec { is_owned result raw };
 
-    /// The string of raw bytes. It takes no memory.
+    /// The string of raw bytes. It doesn't allocate.
     ///
     /// # Errors
     ///
-    /// The first fault of the bytes where they aren't well formed ([`Platform::check`]).
+    /// The first fault of the bytes if they aren't well formed ([`Platform::check`]).
     ///
     /// ```
     /// use os_str_bytes::{EncodingError, OsStr, OsStrBytes, Windows};
@@ -82,11 +83,11 @@ pub trait OsStrBytes<'a>: Sized + Copy {
         ensures cases { MatchResult result (λ _. Self.Platform.well_formed raw.now)
             (λ fault. Self.Platform.first_fault raw.now fault) };
 
-    /// The string of raw bytes, moved.
+    /// The string of raw bytes, whose vector is moved into it.
     ///
     /// # Errors
     ///
-    /// The first fault of the bytes where they aren't well formed; the vector is then dropped.
+    /// The first fault of the bytes if they aren't well formed; the vector is then dropped.
     ///
     /// ```
     /// use os_str_bytes::{EncodingError, OsStr, OsStrBytes, Wasm};
@@ -102,7 +103,7 @@ pub trait OsStrBytes<'a>: Sized + Copy {
         ensures cases { MatchResult result (λ _. Self.Platform.well_formed raw.items)
             (λ fault. Self.Platform.first_fault raw.items fault) };
 
-    /// The string of IO-safe bytes, `None` where they aren't.
+    /// The string of IO-safe bytes, or `None` if they aren't IO-safe.
     ///
     /// ```
     /// use os_str_bytes::{OsStr, OsStrBytes, Unix, Windows};
@@ -115,7 +116,7 @@ pub trait OsStrBytes<'a>: Sized + Copy {
         ensures cases { MatchOption result (¬ (Self.Platform.io_safe raw.now))
             (λ _. Self.Platform.io_safe raw.now) };
 
-    /// The string's bytes where they are IO-safe, else `None`.
+    /// The string's bytes if they are IO-safe, else `None`.
     ///
     /// ```
     /// use os_str_bytes::{OsStr, OsStrBytes, OsString, Windows};
@@ -141,12 +142,12 @@ pub trait OsStrBytes<'a>: Sized + Copy {
         ensures value { byte_cow_bytes result ≡ bytes_of self }
         ensures formed { Self.Platform.well_formed (byte_cow_bytes result) };
 
-    /// The string's bytes where they are IO-safe, which takes no memory, else those of its
-    /// lossy text.
+    /// The string's bytes if they are IO-safe, which doesn't allocate, else those of its lossy
+    /// text.
     ///
     /// # Errors
     ///
-    /// `AllocError` where the memory is refused.
+    /// `AllocError` if the memory is refused.
     ///
     /// ```
     /// use os_str_bytes::{OsStrBytes, OsString, Windows};
@@ -167,7 +168,7 @@ pub trait OsStrBytes<'a>: Sized + Copy {
     ghost formed: { (string : Self) → Self.Platform.well_formed (bytes_of string) };
 }
 
-/// A vector of bytes, over any allocator.
+/// A vector of bytes, with any allocator.
 pub trait ByteVec: Sized + Drop {
     type Alloc: Allocator;
 
@@ -195,10 +196,10 @@ impl<A: Allocator> ByteVec for Vec<u8, A> {
     }
 }
 
-/// Owned strings that are read from vectors: [`crate::OsString`] and [`crate::PathBuf`] (the
+/// Owned strings that can be made from vectors: [`crate::OsString`] and [`crate::PathBuf`] (the
 /// `OsStringBytes` of os_str_bytes).
 ///
-/// Each call moves the vector and takes no memory.
+/// Each call moves the vector and doesn't allocate.
 pub trait OsStringBytes: Sized + Drop {
     type Platform: Platform;
 
@@ -224,7 +225,7 @@ pub trait OsStringBytes: Sized + Drop {
     ///
     /// # Errors
     ///
-    /// The first fault of the bytes where they aren't well formed; the vector is then dropped.
+    /// The first fault of the bytes if they aren't well formed; the vector is then dropped.
     ///
     /// ```
     /// use os_str_bytes::{EncodingError, OsString, OsStringBytes, Windows};
@@ -238,7 +239,8 @@ pub trait OsStringBytes: Sized + Drop {
             (λ _. Self.Platform.well_formed (Self.Vec.as_vec raw).items)
             (λ fault. Self.Platform.first_fault (Self.Vec.as_vec raw).items fault) };
 
-    /// The string of a vector of IO-safe bytes; a refused vector is dropped.
+    /// The string of a vector of IO-safe bytes. If they aren't IO-safe it answers `None` and drops
+    /// the vector.
     ///
     /// ```
     /// use os_str_bytes::{OsString, OsStringBytes, Unix, Wasm};
@@ -251,7 +253,7 @@ pub trait OsStringBytes: Sized + Drop {
         ensures cases { MatchOption result (¬ (Self.Platform.io_safe (Self.Vec.as_vec raw).items))
             (λ _. Self.Platform.io_safe (Self.Vec.as_vec raw).items) };
 
-    /// The string's vector where its bytes are IO-safe; else the string is dropped.
+    /// The string's vector if its bytes are IO-safe. Else it answers `None` and drops the string.
     ///
     /// ```
     /// use os_str_bytes::{OsString, OsStringBytes, Windows};
@@ -265,9 +267,10 @@ pub trait OsStringBytes: Sized + Drop {
             (¬ (Self.Platform.io_safe (Self.Vec.as_vec (vec_of self)).items))
             (λ _. Self.Platform.io_safe (Self.Vec.as_vec (vec_of self)).items) };
 
-    /// The string's vector where its bytes are IO-safe, else with the bytes of the lossy text,
-    /// written in place, in the same block. It takes no memory: on Windows the form of a surrogate
-    /// and that of U+FFFD both have three bytes, and on the other platforms each string is IO-safe.
+    /// The string's vector. If the string isn't IO-safe, the vector has the bytes of the lossy
+    /// text, written in place, in the same block of memory. It doesn't allocate: on Windows a
+    /// surrogate and U+FFFD have three bytes each, and on the other platforms every string is
+    /// IO-safe.
     ///
     /// ```
     /// use os_str_bytes::{OsString, OsStringBytes, Unix, Windows};

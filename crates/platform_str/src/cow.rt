@@ -1,4 +1,4 @@
-//! What is borrowed or owned, as std's `Cow`.
+//! Values that are borrowed or owned, as std's `Cow`.
 ghost use Rattle.std.specs.Prelude.{◌≡◌, ℕ, List};
 
 use crate::os_str::OsStr;
@@ -7,7 +7,7 @@ use crate::path::{Path, PathBuf};
 use crate::platform::Platform;
 use std::alloc::{Allocator, Global};
 
-/// What has the bytes of a string.
+/// A type whose values have the bytes of a string.
 pub trait HasBytes {
     ghost bytes_of: { Self → List ℕ };
 

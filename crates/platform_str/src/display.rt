@@ -1,4 +1,4 @@
-//! Strings as texts to be printed, written piece by piece.
+//! Strings as texts for printing, written piece by piece.
 ghost use Rattle.std.specs.Prelude.{◌≡◌, ◌≤◌, length};
 ghost use Rattle.std.specs.Char.{encode_utf8};
 ghost use Rattle.std.specs.List.{repeat};
@@ -11,14 +11,14 @@ use crate::os_str::OsStr;
 use crate::platform::Platform;
 use std::fmt;
 
-/// The lossy text of a string, to be printed (std's `std::ffi::os_str::Display`).
+/// The lossy text of a string, for printing (std's `std::ffi::os_str::Display`).
 ///
-/// `OsStr::display` and its kin make it. `{}` writes the lossy text piece by piece: each text
-/// between the parts that are none as it is, and U+FFFD for each of these parts. That takes no
-/// memory. A width counts characters, U+FFFD as one, and fills as that of std's on Unix does: after
-/// the text, where no side is asked for. A precision cuts nothing.
+/// `OsStr::display` and similar calls make it. `{}` writes the lossy text piece by piece: each text
+/// as it is in the string, and U+FFFD for each part between them that isn't text. It doesn't
+/// allocate. A width counts characters, with U+FFFD as one, and fills like std's on Unix: after the
+/// text if no alignment is given. A precision doesn't truncate.
 ///
-/// Of the Unix string of the bytes 61 E2 82 41 (hexadecimal) `{}` writes "a\u{FFFD}A".
+/// For the Unix string with the bytes 61 E2 82 41 (hexadecimal), `{}` writes "a\u{FFFD}A".
 #[derive(Drop)]
 pub struct OsStrDisplay<'a, E: Platform + 'a> {
     string: OsStr<'a, E>,
@@ -34,8 +34,8 @@ impl<'a, E: Platform> OsStrDisplay<'a, E> {
         OsStrDisplay { string }
     }
 
-    /// Writes the lossy text with no width, whatever width the formatter has (own call): for a
-    /// `Display` that prints a string among other words.
+    /// Writes the lossy text without padding, whatever width the formatter has (own call). It is
+    /// for a `Display` that prints a string between other words.
     ///
     /// ```
     /// use os_str_bytes::{OsStr, OsStrDisplay, Unix};
@@ -88,7 +88,7 @@ impl<'a, E: Platform> fmt::Display for OsStrDisplay<'a, E> {
     }
 }
 
-/// How much of the padding is before the text.
+/// How much of the padding comes before the text.
 fn fill_before(align: Option<fmt::Alignment>, padding: usize) -> usize
     ensures value { result ≡ fill_before align padding }
     ensures within { result ≤ padding }
@@ -101,7 +101,7 @@ fn fill_before(align: Option<fmt::Alignment>, padding: usize) -> usize
     }
 }
 
-/// Writes the character that fills, so many times.
+/// Writes the fill character `count` times.
 fn write_fill<W: fmt::Write>(count: usize, f: &mut fmt::Formatter<W>) -> fmt::Result
     ensures { WritesStyledOnOk W.write_str_gives f.old result
         (repeat count (encode_utf8 (spec_fill (formatter_spec f.old)))) f.new }
@@ -125,7 +125,7 @@ fn write_text<E: Platform, W: fmt::Write>(encoded: &[u8], f: &mut fmt::Formatter
     f.write_str(unsafe { str::from_utf8_unchecked(rest) })
 }
 
-/// How many characters the lossy text of a string's bytes has.
+/// The number of characters of the lossy text of a string's bytes.
 fn lossy_chars<E: Platform>(encoded: &[u8]) -> usize
     requires { E.well_formed encoded.now }
     ensures { result ≡ char_count (E.lossy encoded.now) }
@@ -139,7 +139,7 @@ fn lossy_chars<E: Platform>(encoded: &[u8]) -> usize
     count + chars(rest)
 }
 
-/// How many characters a text has.
+/// The number of characters of a text.
 fn chars(text: &[u8]) -> usize
     ensures value { result ≡ char_count text.now }
     ensures few { result ≤ length text.now }

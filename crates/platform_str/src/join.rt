@@ -1,4 +1,4 @@
-//! Joins of strings: of bytes, and of Windows strings.
+//! Joining strings: appending bytes, and Windows strings.
 ghost use Rattle.std.specs.Prelude.{◌≡◌, ◌++◌, ◌+◌, ◌<◌, ◌≤◌, take, drop, length, OnOk, OnErr, vec_capacity, vec_len};
 ghost use Rattle.wtf8_core.specs.CodePoint.{IsCodePoint, form};
 ghost use Rattle.wtf8_core.specs.Wtf8.{IsWtf8};
@@ -7,9 +7,10 @@ ghost use Rattle.wtf8_core.specs.UnitsOf.{units_of};
 use std::alloc::{AllocError, Allocator};
 use wtf8_core::{pair_between, write_form};
 
-/// Appends a Windows string to another (WTF-8: concatenation). Where a pair arises, its form
-/// replaces both surrogates. A refusal changes nothing: the memory is asked for first, and then the
-/// form is written in place.
+/// Appends a Windows string to another (WTF-8: concatenation). If the one ends with a high
+/// surrogate and the other starts with a low one, the form of the pair's code point replaces both.
+/// Nothing changes if the memory is refused: it is requested first, and then the form is written in
+/// place.
 pub(crate) fn push_wtf8<A: Allocator>(
     string: &mut Vec<u8, A>,
     more: &[u8],
@@ -33,7 +34,7 @@ pub(crate) fn push_wtf8<A: Allocator>(
     Ok(())
 }
 
-/// Appends bytes.
+/// Appends bytes to others.
 pub(crate) fn append<A: Allocator>(bytes: &mut Vec<u8, A>, more: &[u8]) -> Result<(), AllocError>
     ensures ok { OnOk result (bytes.new.items ≡ bytes.old.items ++ more.now) }
     ensures err { OnErr result (bytes.new.items ≡ bytes.old.items) }
@@ -42,7 +43,7 @@ pub(crate) fn append<A: Allocator>(bytes: &mut Vec<u8, A>, more: &[u8]) -> Resul
     bytes.extend_from_slice(more)
 }
 
-/// Writes the form of a code point past FFFF (hexadecimal) over the four bytes from `at` on.
+/// Writes the form of a code point past FFFF (hexadecimal) over the four bytes from index `at` on.
 fn write_form_at<A: Allocator>(bytes: &mut Vec<u8, A>, at: usize, c: u32)
     requires room { at + 4 ≤ length bytes.old.items }
     requires past { 0x1_0000 ≤ c }

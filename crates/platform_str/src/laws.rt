@@ -1,4 +1,4 @@
-//! The laws of every platform: each is the contract of a function that does nothing.
+//! The laws of every platform. Each is the contract of a function that does nothing.
 ghost use Rattle.std.specs.Prelude.{◌≡◌, ◌<◌, ◌↔◌, ℕ, List, ◌++◌, length, take, drop, IsTrue, Some};
 ghost use Rattle.std.specs.Cmp.Lexicographic.{slice_cmp};
 ghost use Rattle.std.specs.Ordering.{nat_cmp};
@@ -24,15 +24,15 @@ use crate::platform::Platform;
 use std::alloc::Allocator;
 use std::hash::Hash;
 
-/// Refused bytes aren't well formed, and have one first fault.
+/// Bytes that are refused aren't well formed, and have exactly one first fault.
 pub fn faults<E: Platform>()
     ensures faulty { (b : List ℕ) → (f : EncodingError) → E.first_fault b f → ¬ (E.well_formed b) }
     ensures one_fault { (b : List ℕ) → (f : EncodingError) → (g : EncodingError) → E.first_fault b f
         → E.first_fault b g → f ≡ g }
 {}
 
-/// Strings with equal units are equal, each list of units is that of some string, and the
-/// units of a string are such a list.
+/// Strings with equal units are equal. Each list of units is that of some string, and the units of
+/// a string are such a list.
 pub fn spelling<E: Platform>()
     ensures one_spelling { (b : List ℕ) → (c : List ℕ) → E.well_formed b → E.well_formed c
         → E.units b ≡ E.units c → b ≡ c }
@@ -41,9 +41,9 @@ pub fn spelling<E: Platform>()
     ensures unit_list { (b : List ℕ) → E.well_formed b → E.is_unit_list (E.units b) }
 {}
 
-/// UTF-8 is well formed and IO-safe, IO-safe bytes are well formed, what follows a whole character
-/// at a string's start is well formed, and where some string isn't IO-safe one U+FFFD always
-/// replaces three bytes.
+/// UTF-8 is well formed and IO-safe, and IO-safe bytes are well formed. What follows a whole
+/// character at the start of a string is well formed. If some string isn't IO-safe, one U+FFFD
+/// always replaces three bytes.
 pub fn texts<E: Platform>()
     ensures text { (b : List ℕ) → IsUtf8 b → E.well_formed b }
     ensures text_io_safe { (b : List ℕ) → IsUtf8 b → E.io_safe b }
@@ -54,8 +54,8 @@ pub fn texts<E: Platform>()
         → E.replaces c n → n ≡ 3 }
 {}
 
-/// A string's lossy text is UTF-8, and so IO-safe. A text is its own lossy text, a text at the
-/// start stays, and where no whole character starts one U+FFFD replaces the bytes that
+/// A string's lossy text is UTF-8, and so IO-safe. A text is its own lossy text, and a text at the
+/// start of a string stays. Where no whole character starts, one U+FFFD replaces the bytes that
 /// [`Platform::lossy_len`] counts; what follows them is well formed.
 pub fn lossy_texts<E: Platform>()
     ensures lossy_utf8 { (b : List ℕ) → E.well_formed b → IsUtf8 (E.lossy b) }
@@ -67,7 +67,8 @@ pub fn lossy_texts<E: Platform>()
         → IsReplaced E.well_formed E.lossy b n }
 {}
 
-/// Any bytes have one lossy reading, which is a string; that of a string is the string itself.
+/// Any bytes have exactly one lossy reading, which is a string. The lossy reading of a string is
+/// the string itself.
 pub fn readings<E: Platform>()
     ensures formed { (b : List ℕ) → (c : List ℕ) → All IsByte b → E.reads_as b c → E.well_formed c }
     ensures itself { (b : List ℕ) → E.well_formed b → E.reads_as b b }
@@ -76,7 +77,7 @@ pub fn readings<E: Platform>()
     ensures some { (b : List ℕ) → All IsByte b → (c : List ℕ) × E.reads_as b c }
 {}
 
-/// At a boundary both parts of a string are strings, and their units joined are the string's.
+/// At a boundary both parts of a string are strings, and their units, joined, are the string's.
 pub fn cuts<E: Platform>()
     ensures cut_front { (b : List ℕ) → (i : ℕ) → E.well_formed b → IsBoundary b i
         → E.well_formed (take i b) }
@@ -86,9 +87,9 @@ pub fn cuts<E: Platform>()
         → E.units b ≡ E.units (take i b) ++ E.units (drop i b) }
 {}
 
-/// In a string without whole characters each unit's bytes are its own: that one byte for a unit
-/// below 100 (hexadecimal), else its form. On Unix such units are at least 80, on Windows they
-/// are surrogates with no high one directly before a low one, on wasm there are none. A unit has
+/// In a string without whole characters each unit has its own bytes: one byte for a unit below 100
+/// (hexadecimal), else its form. On Unix such units are at least 80. On Windows they are
+/// surrogates, and no high one comes directly before a low one. On wasm there are none. A unit has
 /// at most 16 bits.
 pub fn parts<E: Platform>()
     ensures spelled { (b : List ℕ) → E.well_formed b → IsBare b
@@ -97,9 +98,9 @@ pub fn parts<E: Platform>()
     ensures wide { (b : List ℕ) → E.well_formed b → IsBare b → AreWideUnits (E.units b) }
 {}
 
-/// A text that isn't empty occurs in a string at a byte index exactly where its units occur at the
-/// unit index that this byte index belongs to; each unit index at which they occur has a byte
-/// index, and no unit index has two.
+/// A text that isn't empty occurs in a string at a byte index exactly if its units occur in the
+/// string's units at a unit index that corresponds to that byte index. Each unit index at which
+/// they occur corresponds to a byte index, and no unit index to two.
 pub fn standing<E: Platform>()
     ensures alike { (p : List ℕ) → (s : List ℕ) → (j : ℕ) → IsUtf8 p → 0 < length p
         → E.well_formed s
@@ -114,9 +115,9 @@ pub fn standing<E: Platform>()
         → j ≡ k }
 {}
 
-/// Two strings have one join. Joining three strings gives the same string whichever two are
-/// joined first, and a string starts with another exactly where it is the join of that one and
-/// some string.
+/// Two strings have exactly one join. Joining three strings gives the same string whichever two are
+/// joined first. A string starts with another exactly if it is the join of that one and some
+/// string.
 pub fn joins<E: Platform>()
     ensures some { (a : List ℕ) → (b : List ℕ) → E.well_formed a → E.well_formed b
         → (w : List ℕ) × IsJoin E.well_formed E.units a b w }
@@ -131,8 +132,8 @@ pub fn joins<E: Platform>()
         ↔ ((q : List ℕ) × (E.well_formed q × IsJoin E.well_formed E.units p q s))) }
 {}
 
-/// Borrowed strings are equal where their bytes are, and are ordered as lists of bytes. A hasher is
-/// fed the bytes, as of a slice, so equal strings hash alike.
+/// Borrowed strings are equal exactly if their bytes are equal, and ordered as lists of bytes are.
+/// A hasher receives the bytes, as for a slice, so equal strings have equal hashes.
 #[tactic(auto, using(crate::proofs::lemmas::ByteOrder::byte_order))]
 pub fn comparisons<'a, E: Platform>(a: &OsStr<'a, E>, b: &OsStr<'a, E>)
     ensures equal { IsTrue (⟦<OsStr<'a, E> as PartialEq>⟧.eq a.now b.now)
@@ -144,8 +145,8 @@ pub fn comparisons<'a, E: Platform>(a: &OsStr<'a, E>, b: &OsStr<'a, E>)
     ensures hash { ⟦<OsStr<'a, E> as Hash>⟧.hash_input a.now ≡ fed.slice fed.u8 (bytes a.now) }
 {}
 
-/// Owned strings are equal where their bytes are, and are ordered as lists of bytes are. A hasher
-/// is fed the bytes, as of a slice, so equal strings hash alike.
+/// Owned strings are equal exactly if their bytes are equal, and ordered as lists of bytes are. A
+/// hasher receives the bytes, as for a slice, so equal strings have equal hashes.
 #[tactic(auto, using(crate::proofs::lemmas::ByteOrder::byte_order))]
 pub fn owned_comparisons<E: Platform, A: Allocator>(a: &OsString<E, A>, b: &OsString<E, A>)
     ensures equal { IsTrue (⟦<OsString<E, A> as PartialEq>⟧.eq a.now b.now)

@@ -1,26 +1,27 @@
 //! Platform strings for Unix, Windows and wasm, side by side.
 //!
-//! A platform is a type that implements [`Platform`]: [`Unix`], whose strings are any bytes,
-//! [`Windows`], whose strings are any 16-bit code units, here called units, kept as WTF-8
-//! (UTF-8 that has forms for surrogates too), and [`Wasm`], whose strings are UTF-8.
-//! [`OsStr`] and [`OsString`] are its borrowed and its owned strings, [`Path`] and [`PathBuf`]
-//! the same as paths. [`OsStrBytes`] and [`OsStringBytes`] read them from bytes and give their
-//! bytes; [`OsStr::encode_wide`] and [`OsString::from_wide`] do so with units.
+//! A platform is a type that implements [`Platform`]: [`Unix`], whose strings are any bytes;
+//! [`Windows`], whose strings are any 16-bit code units, here called units, stored as WTF-8 (UTF-8
+//! extended to surrogates); and [`Wasm`], whose strings are UTF-8. [`OsStr`] and [`OsString`] are
+//! the borrowed and the owned strings of a platform, [`Path`] and [`PathBuf`] the same as paths.
+//! [`OsStrBytes`] and [`OsStringBytes`] convert them from and to bytes; [`OsStr::encode_wide`] and
+//! [`OsString::from_wide`] convert them to and from units.
 //!
-//! The bytes of a string are its raw bytes, its encoded bytes and, where it is IO-safe, its
-//! IO bytes. So an accepted conversion borrows or moves.
+//! The bytes of a string are its raw bytes, its encoded bytes and, if it is IO-safe, its IO bytes.
+//! So a conversion that succeeds borrows or moves.
 //!
-//! What takes memory is handed an allocator first, or uses that of its vector, and answers
-//! [`std::alloc::AllocError`] where the memory is refused: what was lent is then as it was,
-//! what was moved in is dropped. Every other call takes no memory and never fails for want of it.
+//! A call that allocates takes an allocator first, or uses that of its vector, and answers
+//! [`std::alloc::AllocError`] if the memory is refused: what was borrowed is then as it was, and
+//! what was moved in is dropped. No other call allocates, so none of them can run out of memory.
 //!
 //! # Calls with a condition
 //!
-//! A call with a `requires` can only be made where it is proved. Those whose names begin with
-//! `assert_from_raw` or end in `_unchecked` take well-formed bytes (test: [`Platform::check`]), and
-//! so do those of [`Platform`] but `check`, `is_io_safe` and `read_lossy`; of these `lossy_len`,
-//! `replaced_len` and `first_unit` take bytes that aren't empty and begin with no whole character
-//! (test: `wtf8_core::char_at` at 0). Every other call can be made anywhere.
+//! A call with a `requires` can only be made where its condition is proved. Calls whose names begin
+//! with `assert_from_raw` or end in `_unchecked` need well-formed bytes (test:
+//! [`Platform::check`]), and so do the calls of [`Platform`] except `check`, `is_io_safe` and
+//! `read_lossy`. Of these, `lossy_len`, `replaced_len` and `first_unit` need bytes that aren't
+//! empty and don't begin with a whole character (test: `wtf8_core::char_at` at 0). Every other call
+//! can be made anywhere.
 #![tactic(auto)]
 
 mod blocks;

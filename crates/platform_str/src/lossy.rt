@@ -14,8 +14,8 @@ use wtf8_core::utf8_fault;
 /// The bytes of U+FFFD.
 const REPLACEMENT: [u8; 3] = [0xEF, 0xBF, 0xBD];
 
-/// How many of a string's first bytes are a text, and what follows the part that comes next and
-/// that one U+FFFD replaces; `None` where all is a text.
+/// The length in bytes of the text at the start of a string's bytes, and the bytes after the part
+/// that follows it and is replaced by one U+FFFD; `None` if all the bytes are a text.
 #[inline(always)]
 fn first_replaced<E: Platform>(bytes: &[u8]) -> Option<(usize, &[u8])>
     requires { E.well_formed bytes.now }
@@ -31,7 +31,7 @@ fn first_replaced<E: Platform>(bytes: &[u8]) -> Option<(usize, &[u8])>
     Some((valid, rest))
 }
 
-/// The same with the text itself.
+/// The same, with the text itself in place of its length.
 #[inline(always)]
 pub(crate) fn first_text<E: Platform>(bytes: &[u8]) -> Option<(&str, &[u8])>
     requires { E.well_formed bytes.now }
@@ -43,11 +43,11 @@ pub(crate) fn first_text<E: Platform>(bytes: &[u8]) -> Option<(&str, &[u8])>
     Some((unsafe { str::from_utf8_unchecked(front) }, rest))
 }
 
-/// How many bytes a block has.
+/// The number of bytes of a block.
 const BLOCK: usize = 16;
 
-/// Appends the first `len` bytes. A short prefix is written as a block, whose length is fixed, and
-/// what is too much is cut.
+/// Appends the first `len` bytes. If they fit in a block they are written as a whole block, whose
+/// length is fixed, and the excess is truncated.
 #[inline(always)]
 fn push_front<A: Allocator>(
     text: &mut Vec<u8, A>,
@@ -67,7 +67,7 @@ fn push_front<A: Allocator>(
     Ok(())
 }
 
-/// Appends the first `len` bytes and U+FFFD.
+/// Appends the first `len` bytes, and then U+FFFD.
 #[inline(always)]
 pub(crate) fn push_replaced<A: Allocator>(
     text: &mut Vec<u8, A>,
@@ -111,7 +111,7 @@ pub(crate) fn text<E: Platform, A: Allocator>(
     Ok(unsafe { String::from_utf8_unchecked(text) })
 }
 
-/// The IO-lossy bytes of a string: its own where they are IO-safe, which takes no memory.
+/// The IO-lossy bytes of a string: its own if they are IO-safe, which doesn't allocate.
 pub(crate) fn io_bytes<'a, E: Platform, A: Allocator>(
     alloc: A,
     bytes: &'a [u8],
@@ -127,8 +127,8 @@ pub(crate) fn io_bytes<'a, E: Platform, A: Allocator>(
     Ok(ByteCow::Owned(text_bytes::<E, A>(alloc, bytes)?))
 }
 
-/// Replaces each part that is no text by U+FFFD, where some string of the platform isn't IO-safe,
-/// so that each such part has three bytes.
+/// Overwrites each part that isn't text with U+FFFD, in a string that isn't IO-safe. If a platform
+/// has such strings, each part that one U+FFFD replaces has three bytes.
 pub(crate) fn replace_in_place<E: Platform>(bytes: &mut [u8])
     requires formed { E.well_formed bytes.old }
     requires not_safe { ¬ (E.io_safe bytes.old) }

@@ -13,10 +13,10 @@ use std::alloc::{AllocError, Allocator};
 use std::marker::PhantomData;
 use wtf8_core::EncodingError;
 
-/// A borrowed string of a platform: a view of well-formed bytes, as std's `&OsStr`.
+/// A borrowed string of a platform: a view of well-formed bytes, like std's `&OsStr`.
 ///
-/// Strings are equal where their bytes are, and are ordered as their bytes are. Equal strings
-/// hash alike.
+/// Strings compare by their bytes: they are equal if their bytes are, and ordered like them. Equal
+/// strings have equal hashes.
 #[derive_where(PartialEq, Eq, PartialOrd, Ord, Hash)]
 pub struct OsStr<'a, E: Platform + 'a> {
     bytes: &'a [u8],
@@ -41,7 +41,7 @@ impl<'a, E: Platform> OsStr<'a, E> {
     ghost use Rattle.platform_str.specs.Cows.{cow_bytes, str_cow_bytes};
     ghost use Rattle.platform_str.specs.Display.{shown_bytes};
 
-    /// The string of a text, which is a string of every platform (std's `OsStr::new`).
+    /// The string of a text; every text is a string of every platform (std's `OsStr::new`).
     ///
     /// ```
     /// use os_str_bytes::{OsStr, Windows};
@@ -57,8 +57,8 @@ impl<'a, E: Platform> OsStr<'a, E> {
         }
     }
 
-    /// The string of well-formed bytes (test: [`Platform::check`]); std's
-    /// `OsStr::from_encoded_bytes_unchecked`, with its condition proved.
+    /// The string of well-formed bytes (test: [`Platform::check`]). It is std's
+    /// `OsStr::from_encoded_bytes_unchecked`, with its condition proved by the caller.
     ///
     /// ```
     /// use os_str_bytes::{OsStr, Unix};
@@ -75,15 +75,14 @@ impl<'a, E: Platform> OsStr<'a, E> {
         }
     }
 
-    /// The string of raw bytes, in place, as a view (own call): [`OsStrBytes::from_raw_bytes`]
-    /// gives what might be owned. It takes no memory.
+    /// The string of raw bytes, as a view of them (own call): [`OsStrBytes::from_raw_bytes`]
+    /// answers a value that may be borrowed or owned. It doesn't allocate.
     ///
-    /// On Windows ED A0 80 (hexadecimal) is accepted, and ED A0 80 ED B0 80 is not.
+    /// On Windows ED A0 80 (hexadecimal) is accepted, and ED A0 80 ED B0 80 isn't.
     ///
     /// # Errors
     ///
-    /// The first fault of the bytes where they aren't well formed, as [`Platform::check`] answers
-    /// it.
+    /// The first fault of the bytes if they aren't well formed: what [`Platform::check`] answers.
     ///
     /// ```
     /// use os_str_bytes::{EncodingError, OsStr, Windows};
@@ -101,14 +100,14 @@ impl<'a, E: Platform> OsStr<'a, E> {
         Ok(OsStr::from_encoded_bytes_unchecked(encoded))
     }
 
-    /// The string of any raw bytes, with U+FFFD for each part that is refused: what
-    /// [`Platform::read_lossy`] gives, or the bytes themselves where they are well formed, which
-    /// takes no memory. `OsStrBytes::from_raw_bytes` answers the first fault too. On wasm it is
-    /// equivalent to std's `String::from_utf8_lossy`.
+    /// The string of arbitrary raw bytes, with each refused part replaced by U+FFFD: the bytes
+    /// themselves if they are well formed, which doesn't allocate, and else what
+    /// [`Platform::read_lossy`] gives. `OsStrBytes::from_raw_bytes` answers the first fault
+    /// instead. On wasm it is equivalent to std's `String::from_utf8_lossy`.
     ///
     /// # Errors
     ///
-    /// `AllocError` where the memory is refused.
+    /// `AllocError` if the memory is refused.
     ///
     /// ```
     /// use os_str_bytes::{HasBytes, OsStr, Windows};
@@ -149,7 +148,7 @@ impl<'a, E: Platform> OsStr<'a, E> {
         self.bytes
     }
 
-    /// How many bytes the string has (std's `OsStr::len`).
+    /// The length of the string in bytes (std's `OsStr::len`).
     ///
     /// ```
     /// use os_str_bytes::{OsStr, Unix};
@@ -162,7 +161,7 @@ impl<'a, E: Platform> OsStr<'a, E> {
         self.bytes.len()
     }
 
-    /// Whether the string has no byte (std's `OsStr::is_empty`).
+    /// Whether the string has no bytes (std's `OsStr::is_empty`).
     ///
     /// ```
     /// use os_str_bytes::{OsStr, Unix};
@@ -176,8 +175,8 @@ impl<'a, E: Platform> OsStr<'a, E> {
         self.bytes.is_empty()
     }
 
-    /// The string as a text, `None` where it isn't UTF-8 (std's `OsStr::to_str`). It takes no
-    /// memory.
+    /// The string as a text, or `None` if it isn't UTF-8 (std's `OsStr::to_str`). It doesn't
+    /// allocate.
     ///
     /// ```
     /// use os_str_bytes::{OsStr, OsString, Windows};
@@ -196,14 +195,14 @@ impl<'a, E: Platform> OsStr<'a, E> {
         Some(unsafe { str::from_utf8_unchecked(self.bytes) })
     }
 
-    /// The lossy text: the string itself where it is UTF-8, which takes no memory, else a text
-    /// with U+FFFD for what is no text, on Windows one for each surrogate, on Unix one for
+    /// The lossy text. If the string is UTF-8 it is the string itself, which doesn't allocate. Else
+    /// it is a text in which U+FFFD replaces what isn't text: on Windows each surrogate, on Unix
     /// each maximal ill-formed part (Unicode's maximal subpart), as in std's
     /// `OsStr::to_string_lossy`.
     ///
     /// # Errors
     ///
-    /// `AllocError` where the memory is refused.
+    /// `AllocError` if the memory is refused.
     ///
     /// ```
     /// use os_str_bytes::{OsStr, Unix};
@@ -221,8 +220,8 @@ impl<'a, E: Platform> OsStr<'a, E> {
         }
     }
 
-    /// The lossy text, to be printed (std's `OsStr::display`): what `{}` writes of it is the text
-    /// that [`OsStr::to_string_lossy`] gives. It takes no memory.
+    /// The lossy text, for printing (std's `OsStr::display`): `{}` writes the text that
+    /// [`OsStr::to_string_lossy`] gives. It doesn't allocate.
     ///
     /// ```
     /// use os_str_bytes::{OsStr, Unix};
@@ -236,11 +235,11 @@ impl<'a, E: Platform> OsStr<'a, E> {
         OsStrDisplay::new(self)
     }
 
-    /// An owned copy (std's `OsStr::to_os_string`). Of the empty string it takes no memory.
+    /// An owned copy (std's `OsStr::to_os_string`). A copy of the empty string doesn't allocate.
     ///
     /// # Errors
     ///
-    /// `AllocError` where the memory is refused.
+    /// `AllocError` if the memory is refused.
     ///
     /// ```
     /// use os_str_bytes::{OsStr, Unix};

@@ -11,10 +11,10 @@ use std::alloc::{AllocError, Allocator, Global};
 use std::marker::PhantomData;
 use wtf8_core::EncodingError;
 
-/// An owned string of a platform: a vector of well-formed bytes, as std's `OsString`.
+/// An owned string of a platform: a vector of well-formed bytes, like std's `OsString`.
 ///
-/// Strings are equal where their bytes are, and are ordered as their bytes are. Equal strings
-/// hash alike.
+/// Strings compare by their bytes: they are equal if their bytes are, and ordered like them. Equal
+/// strings have equal hashes.
 #[derive(Drop)]
 #[derive_where(PartialEq, Eq, PartialOrd, Ord, Hash)]
 pub struct OsString<E: Platform, A: Allocator = Global> {
@@ -26,7 +26,7 @@ pub struct OsString<E: Platform, A: Allocator = Global> {
 impl<E: Platform, A: Allocator> OsString<E, A> {
     ghost use Rattle.platform_str.specs.Strings.{bytes, string_vec_of};
 
-    /// The empty string (std's `OsString::new`). It takes no memory.
+    /// The empty string (std's `OsString::new`). It doesn't allocate.
     ///
     /// ```
     /// use os_str_bytes::{OsString, Unix};
@@ -42,8 +42,8 @@ impl<E: Platform, A: Allocator> OsString<E, A> {
         }
     }
 
-    /// The string of well-formed bytes (test: [`Platform::check`]), in their own vector; std's
-    /// `OsString::from_encoded_bytes_unchecked`, with its condition proved.
+    /// The string of well-formed bytes (test: [`Platform::check`]), in their own vector. It is
+    /// std's `OsString::from_encoded_bytes_unchecked`, with its condition proved by the caller.
     ///
     /// ```
     /// use os_str_bytes::{OsString, Unix};
@@ -61,14 +61,14 @@ impl<E: Platform, A: Allocator> OsString<E, A> {
         }
     }
 
-    /// The string of any raw bytes, with U+FFFD for each part that is refused: their own vector
-    /// where they are well formed, which takes no memory, else what [`Platform::read_lossy`] gives,
-    /// in new memory; then the vector is dropped, also where that memory is refused. On wasm it is
-    /// as in std's `String::from_utf8_lossy`.
+    /// The string of arbitrary raw bytes, with each refused part replaced by U+FFFD. If the bytes
+    /// are well formed they stay in their own vector, which doesn't allocate. Else it is what
+    /// [`Platform::read_lossy`] gives, in new memory, and the vector is dropped, also if that
+    /// memory is refused. On wasm it is the text that std's `String::from_utf8_lossy` gives.
     ///
     /// # Errors
     ///
-    /// `AllocError` where the memory is refused.
+    /// `AllocError` if the memory is refused.
     ///
     /// ```
     /// use os_str_bytes::{OsString, Unix, Windows};
@@ -127,11 +127,12 @@ impl<E: Platform, A: Allocator> OsString<E, A> {
         self.vec
     }
 
-    /// The string as a text in its own memory (std's `OsString::into_string`). It takes no memory.
+    /// The string as a text, in the string's own memory (std's `OsString::into_string`). It doesn't
+    /// allocate.
     ///
     /// # Errors
     ///
-    /// The same string again where it isn't UTF-8.
+    /// The same string again if it isn't UTF-8.
     ///
     /// ```
     /// use os_str_bytes::{OsString, Unix, Windows};
@@ -157,13 +158,14 @@ impl<E: Platform, A: Allocator> OsString<E, A> {
         }
     }
 
-    /// Appends a string to this one: the units are those of both, one after the other (std's
-    /// `OsString::push`). On Windows two halves of a pair that meet become one code point (WTF-8,
-    /// "Concatenating"). A string whose vector has room for the bytes of both takes no memory.
+    /// Appends a string: the units are those of both, one after the other (std's `OsString::push`).
+    /// On Windows a high surrogate at the end of the one and a low one at the start of the other
+    /// become one code point (WTF-8, "Concatenating"). It doesn't allocate if the vector has room
+    /// for the bytes of both.
     ///
     /// # Errors
     ///
-    /// `AllocError` where the memory is refused; the string is then as it was.
+    /// `AllocError` if the memory is refused; the string is then as it was.
     ///
     /// ```
     /// use os_str_bytes::{OsStr, OsString, Windows};
@@ -184,11 +186,11 @@ impl<E: Platform, A: Allocator> OsString<E, A> {
         E::push_bytes(&mut self.vec, string.as_encoded_bytes())
     }
 
-    /// A copy in memory of its own (std's `OsString::clone`).
+    /// A copy in its own memory (std's `OsString::clone`).
     ///
     /// # Errors
     ///
-    /// `AllocError` where the memory is refused.
+    /// `AllocError` if the memory is refused.
     ///
     /// ```
     /// use os_str_bytes::{OsStr, Unix};
@@ -207,9 +209,9 @@ impl<E: Platform, A: Allocator> OsString<E, A> {
     }
 }
 
-/// The string of a text, in the text's memory (std's `OsString::from`).
+/// The string of a text, in the text's own memory (std's `OsString::from`).
 ///
-/// `OsString::<Wasm>::from(text).as_os_str()` is `OsStr::new("a")` where the text is "a".
+/// If `text` is "a", `OsString::<Wasm>::from(text).as_os_str()` is `OsStr::new("a")`.
 impl<E: Platform, A: Allocator> From<String<A>> for OsString<E, A> {
     ghost use Rattle.platform_str.specs.Strings.{string_vec_of};
 

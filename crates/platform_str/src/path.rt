@@ -1,4 +1,4 @@
-//! Strings as paths, borrowed and owned. Nothing is known here of their components.
+//! Strings as paths, borrowed and owned. Paths aren't split into components here.
 ghost use Rattle.std.specs.Prelude.{◌≡◌, []};
 ghost use Rattle.platform_str.specs.Strings.{bytes, string_vec_of};
 
@@ -21,7 +21,7 @@ impl<'a, E: Platform> Path<'a, E> {
     ghost use Rattle.platform_str.specs.Strings.{path_bytes};
     ghost use Rattle.platform_str.specs.Display.{shown_bytes};
 
-    /// The path of a string, each of which is one (std's `Path::new`).
+    /// The path of a string; every string is a path (std's `Path::new`).
     ///
     /// ```
     /// use os_str_bytes::{OsStr, OsStrBytes, Path, Unix};
@@ -35,7 +35,7 @@ impl<'a, E: Platform> Path<'a, E> {
         Path { inner: string }
     }
 
-    /// The lossy text of the path, to be printed (std's `Path::display`): as [`OsStr::display`].
+    /// The lossy text of the path, for printing (std's `Path::display`), as [`OsStr::display`].
     ///
     /// ```
     /// use os_str_bytes::{OsStr, Path, Unix};
@@ -122,7 +122,7 @@ pub struct PathBuf<E: Platform, A: Allocator = Global> {
 impl<E: Platform, A: Allocator> PathBuf<E, A> {
     ghost use Rattle.platform_str.specs.Strings.{path_bytes, path_vec_of};
 
-    /// The empty path (std's `PathBuf::new`). It takes no memory.
+    /// The empty path (std's `PathBuf::new`). It doesn't allocate.
     ///
     /// ```
     /// use os_str_bytes::{PathBuf, Unix};
@@ -181,7 +181,7 @@ impl<E: Platform, A: Allocator> PathBuf<E, A> {
     }
 }
 
-/// The path of a string, in the string's vector (std's `PathBuf::from`).
+/// The string as a path, in the string's vector (std's `PathBuf::from`).
 ///
 /// `PathBuf::from(string).into_os_string()` is the string again.
 impl<E: Platform, A: Allocator> From<OsString<E, A>> for PathBuf<E, A> {

@@ -1,4 +1,4 @@
-//! What a platform is, and the three that are here.
+//! What a platform is, and the three platforms of this crate.
 ghost use Rattle.std.specs.Prelude.{◌≡◌, ◌<◌, ◌↔◌, ◌++◌, ◌+◌, ℕ, List, length, IsTrue, IfOk, MatchResult, OnOk, OnErr, vec_capacity, vec_len};
 ghost use Rattle.wtf8_core.specs.Covered.{StartsBare};
 ghost use Rattle.platform_str.specs.Lossy.{IsFaultPart};
@@ -12,17 +12,17 @@ use wtf8_core::EncodingError;
 
 /// The strings of a platform, as lists of bytes.
 ///
-/// Whoever implements the trait proves its laws, which are all that generic code knows of a
+/// An implementation proves the laws of the trait, which are all that generic code knows of a
 /// platform: each list of units has one spelling; texts are strings, and what follows a text at the
-/// start is well formed; at a boundary both parts are well formed, and their units joined are the
-/// string's; a text occurs in a string's bytes where its units occur in the string's; some string
-/// has the units of two joined; any bytes have one lossy reading, which is a string. The module
-/// `laws` states them one by one.
+/// start of a string is well formed; at a boundary both parts are well formed, and their units,
+/// joined, are the string's; a text occurs in a string's bytes where its units occur in the
+/// string's; for any two strings some string has the units of both, joined; any bytes have one
+/// lossy reading, which is a string. The module `laws` states them one by one.
 pub trait Platform {
     // which bytes are a string
     ghost well_formed: { List ℕ → Type 0 };
 
-    // any two proofs of that are one
+    // any two proofs that bytes are well formed are equal
     ghost well_formed_prop: { (b : List ℕ) → IsProp (well_formed b) };
 
     // a string's units
@@ -31,30 +31,31 @@ pub trait Platform {
     // which lists are the units of a string
     ghost is_unit_list: { List ℕ → Type 0 };
 
-    // which bytes file reads and writes take
+    // which bytes reads and writes of files take
     ghost io_safe: { List ℕ → Type 0 };
 
-    // the first fault of bytes that are no string
+    // the first fault of bytes that aren't a string
     ghost first_fault: { List ℕ → EncodingError → Type 0 };
 
     // a string's lossy text
     ghost lossy: { List ℕ → List ℕ };
 
-    // how many of the first bytes one U+FFFD replaces there
+    // how many of the first bytes one U+FFFD replaces in the lossy text
     ghost replaces: { List ℕ → ℕ → Type 0 };
 
-    // what any bytes are read as, where U+FFFD replaces each part that is refused
+    // the lossy reading of any bytes, in which U+FFFD replaces each refused part
     ghost reads_as: { List ℕ → List ℕ → Type 0 };
 
-    // what the units of a string without whole characters are
+    // what the units are of a string that contains no whole character
     ghost part_units: { List ℕ → Type 0 };
 
-    /// Whether bytes are well formed. It takes no memory.
+    /// Checks whether bytes are well formed. It doesn't allocate.
     ///
     /// # Errors
     ///
-    /// The first fault of bytes that aren't: on Windows the first that `wtf8_core::CodePoints`
-    /// answers, on wasm that of `wtf8_core::utf8_fault`, on Unix none.
+    /// The first fault of bytes that aren't well formed: on Windows the first that
+    /// `wtf8_core::CodePoints` gives, on wasm that of `wtf8_core::utf8_fault`. On Unix there is
+    /// none.
     ///
     /// ```
     /// use os_str_bytes::{Platform, Unix, Wasm, Windows};
@@ -68,8 +69,8 @@ pub trait Platform {
         ensures { MatchResult result (λ _. well_formed bytes.now)
             (λ fault. first_fault bytes.now fault) };
 
-    /// Whether bytes may be handed to reads and writes of files as they are: on Unix always,
-    /// else where they are UTF-8. It takes no memory.
+    /// Whether bytes may be passed to reads and writes of files as they are: on Unix always, on the
+    /// other platforms if they are UTF-8. It doesn't allocate.
     ///
     /// ```
     /// use os_str_bytes::{Platform, Unix, Windows};
@@ -82,9 +83,9 @@ pub trait Platform {
 
     /// How many of the first bytes one U+FFFD replaces in the lossy text.
     ///
-    /// The bytes are well formed (test: [`Platform::check`]), they aren't empty, and no whole
-    /// character is at their start (test: `wtf8_core::char_at` at 0). What follows these bytes is
-    /// well formed. On Windows it is three, a surrogate's form.
+    /// The bytes are well formed (test: [`Platform::check`]) and aren't empty, and no whole
+    /// character starts at index 0 (test: `wtf8_core::char_at` at 0). What follows the replaced
+    /// bytes is well formed. On Windows the answer is three, the length of a surrogate's form.
     ///
     /// ```
     /// use os_str_bytes::{Platform, Unix, Windows};
@@ -98,9 +99,9 @@ pub trait Platform {
         requires bare { StartsBare bytes.now }
         ensures { replaces bytes.now result };
 
-    /// The same number as [`Platform::lossy_len`], for a caller that knows the fault with which
-    /// the bytes begin: `wtf8_core::utf8_fault` of them is `Some((0, error_len))`. So a platform
-    /// doesn't have to find that fault again. Unless it is overridden, it asks `lossy_len`.
+    /// The same number as [`Platform::lossy_len`], for a caller that knows the fault at the start
+    /// of the bytes: `wtf8_core::utf8_fault` of them is `Some((0, error_len))`. So a platform
+    /// doesn't have to find that fault again. The default implementation calls `lossy_len`.
     ///
     /// ```
     /// use os_str_bytes::{Platform, Unix, utf8_fault};
@@ -118,12 +119,13 @@ pub trait Platform {
         Self::lossy_len(bytes)
     }
 
-    /// The first unit of a string that begins with no whole character, and how many bytes it has.
+    /// The first unit of a string that doesn't begin with a whole character, and its length in
+    /// bytes.
     ///
-    /// The bytes are well formed (test: [`Platform::check`]), they aren't empty, and no whole
-    /// character is at their start (test: `wtf8_core::char_at` at 0). What follows these bytes is
-    /// well formed and has the other units. On Unix a unit is one byte, on Windows it is a
-    /// surrogate of three; on wasm no bytes are so.
+    /// The bytes are well formed (test: [`Platform::check`]) and aren't empty, and no whole
+    /// character starts at index 0 (test: `wtf8_core::char_at` at 0). What follows the unit's bytes
+    /// is well formed and has the other units. On Unix a unit is one byte, on Windows it is a
+    /// surrogate of three bytes; on wasm no bytes meet the condition.
     ///
     /// ```
     /// use os_str_bytes::{Platform, Windows};
@@ -136,11 +138,11 @@ pub trait Platform {
         requires bare { StartsBare bytes.now }
         ensures { IsFirstUnit well_formed units bytes.now result.0 result.1 };
 
-    /// Whether the units of `front` are a prefix of those of `string` (on Windows
+    /// Whether the units of `string` start with the units of `front` (on Windows
     /// `wtf8_core::starts_with`, else std's `starts_with` of slices). Both are well formed (test:
-    /// [`Platform::check`]). It takes no memory.
+    /// [`Platform::check`]). It doesn't allocate.
     ///
-    /// A half of a pair counts:
+    /// Half of a surrogate pair counts:
     ///
     /// ```
     /// use os_str_bytes::{Platform, Windows};
@@ -153,11 +155,11 @@ pub trait Platform {
         requires front { well_formed front.now }
         ensures { IsTrue result ↔ IsFront (units front.now) (units string.now) };
 
-    /// Whether the units of `end` are an end of those of `string` (on Windows
-    /// `wtf8_core::ends_with`, else std's `ends_with` of slices). Both are well formed
-    /// (test: [`Platform::check`]). It takes no memory.
+    /// Whether the units of `string` end with the units of `end` (on Windows
+    /// `wtf8_core::ends_with`, else std's `ends_with` of slices). Both are well formed (test:
+    /// [`Platform::check`]). It doesn't allocate.
     ///
-    /// A half of a pair counts:
+    /// Half of a surrogate pair counts:
     ///
     /// ```
     /// use os_str_bytes::{Platform, Windows};
@@ -171,13 +173,14 @@ pub trait Platform {
         ensures { IsTrue result ↔ IsEnd (units end.now) (units string.now) };
 
     /// Appends a string to another: the units are those of both, one after the other (std's
-    /// `OsString::push`). On Windows two halves of a pair that meet become one code point (WTF-8,
-    /// "Concatenating"). Both are well formed (test: [`Platform::check`]). A vector with room for
-    /// the bytes of both takes no memory.
+    /// `OsString::push`). On Windows a high surrogate at the end of the one and a low one at the
+    /// start of the other become one code point (WTF-8, "Concatenating"). Both are well formed
+    /// (test: [`Platform::check`]). It doesn't allocate if the vector has room for the bytes of
+    /// both.
     ///
     /// # Errors
     ///
-    /// `AllocError` where the memory is refused; the vector's bytes are then as they were.
+    /// `AllocError` if the memory is refused; the vector's bytes are then as they were.
     ///
     /// ```
     /// use os_str_bytes::{Platform, Windows};
@@ -196,18 +199,18 @@ pub trait Platform {
         ensures full { OnErr result (vec_capacity string.old < vec_len string.old + length
             more.now) };
 
-    /// The lossy reading of any bytes, in new memory: the bytes themselves where they are well
-    /// formed, else what comes before the first part that is refused, U+FFFD, and the reading of
-    /// what follows that part, as if nothing came before it.
+    /// The lossy reading of arbitrary bytes, in new memory: the bytes themselves if they are well
+    /// formed, else what comes before the first refused part, then U+FFFD, and then the reading of
+    /// what follows that part, which doesn't depend on anything before it.
     ///
-    /// On Windows `wtf8_core::wtf8_fault` says which part is refused, so that the reading is the
-    /// forms of what `wtf8_core::CodePoints` gives, with U+FFFD for each `Err`. On wasm it is the
-    /// maximal ill-formed part (Unicode, section 3.9), as in std's `String::from_utf8_lossy`. On
-    /// Unix nothing is refused. It may take memory also where nothing is replaced.
+    /// On Windows `wtf8_core::wtf8_fault` determines the refused parts, so the reading is the forms
+    /// of what `wtf8_core::CodePoints` gives, with U+FFFD for each `Err`. On wasm a refused part is
+    /// a maximal ill-formed part (Unicode, section 3.9), as in std's `String::from_utf8_lossy`. On
+    /// Unix nothing is refused. It may allocate even if nothing is replaced.
     ///
     /// # Errors
     ///
-    /// `AllocError` where the memory is refused.
+    /// `AllocError` if the memory is refused.
     ///
     /// ```
     /// use os_str_bytes::{Platform, Windows};
@@ -232,7 +235,7 @@ pub trait Platform {
 #[derive(Clone, Copy)]
 pub struct Unix;
 
-/// Windows and UEFI, whose strings are any 16-bit units, kept as WTF-8.
+/// Windows and UEFI, whose strings are any 16-bit units, stored as WTF-8.
 #[derive(Clone, Copy)]
 pub struct Windows;
 

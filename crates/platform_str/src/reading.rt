@@ -1,4 +1,4 @@
-//! The lossy reading of any bytes as WTF-8.
+//! The lossy reading of arbitrary bytes as WTF-8.
 ghost use Rattle.std.specs.Prelude.{IfOk};
 ghost use Rattle.wtf8_core.specs.Wtf8.{IsWtf8};
 ghost use Rattle.wtf8_core.specs.LossyReading.{IsLossyReading};
@@ -7,7 +7,7 @@ use crate::lossy::push_replaced;
 use std::alloc::{AllocError, Allocator};
 use wtf8_core::wtf8_fault;
 
-/// The bytes with U+FFFD instead of each refused part, in new memory.
+/// The bytes with each refused part replaced by U+FFFD, in new memory.
 pub(crate) fn read_wtf8<A: Allocator>(alloc: A, bytes: &[u8]) -> Result<Vec<u8, A>, AllocError>
     ensures reading { IfOk result (λ reading. IsLossyReading bytes.now reading.items) }
     ensures formed { IfOk result (λ reading. IsWtf8 reading.items) }

@@ -4,7 +4,7 @@ ghost use Rattle.std.specs.Str.{IsUtf8};
 
 use wtf8_core::utf8_fault;
 
-/// Whether bytes are UTF-8, as std's `str::from_utf8` says; most of long ones are gone over by
+/// Whether bytes are UTF-8, as std's `str::from_utf8` says. Most of a long list is checked with
 /// vectors.
 pub(crate) fn is_text(bytes: &[u8]) -> bool
     ensures { IsTrue result ↔ IsUtf8 bytes.now }

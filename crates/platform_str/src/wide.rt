@@ -12,7 +12,8 @@ use std::alloc::{AllocError, Allocator};
 use std::marker::Model;
 use wtf8_core::EncodeWide;
 
-/// The 16-bit units of a Windows string, from the first on, and then `None` for ever.
+/// An iterator over the 16-bit units of a Windows string, from the first on. After `None` it gives
+/// only `None`.
 #[derive(Drop)]
 pub struct WideUnits<'a> {
     items: EncodeWide<'a>,
@@ -47,8 +48,8 @@ impl<'a> Iterator for WideUnits<'a> {
 }
 
 impl<'a> OsStr<'a, Windows> {
-    /// The string's 16-bit units (RFC 2781; a surrogate is its own unit), as std's
-    /// `OsStrExt::encode_wide` on Windows. It takes no memory.
+    /// An iterator over the string's 16-bit units (RFC 2781; a surrogate is a unit of its own), as
+    /// std's `OsStrExt::encode_wide` on Windows. It doesn't allocate.
     ///
     /// ```
     /// use os_str_bytes::{OsStr, Windows};
@@ -68,14 +69,14 @@ impl<'a> OsStr<'a, Windows> {
     }
 
     /// The string's 16-bit units, all at once: those that [`OsStr::encode_wide`] gives, in a
-    /// vector. It makes one request for memory, and none where the string is empty.
+    /// vector. It makes one request for memory, and none if the string is empty.
     ///
-    /// It is equivalent to `OsStrExt::encode_wide` of std on Windows, collected; of a text to
-    /// `str::encode_utf16`, collected.
+    /// It is equivalent to collecting `OsStrExt::encode_wide` of std on Windows, and, if the string
+    /// is a text, to collecting `str::encode_utf16`.
     ///
     /// # Errors
     ///
-    /// `AllocError` where the memory is refused.
+    /// `AllocError` if the memory is refused.
     ///
     /// ```
     /// use os_str_bytes::{OsStr, OsStrBytes, OsString, OsStringBytes, Windows};
@@ -99,13 +100,13 @@ impl<'a> OsStr<'a, Windows> {
 }
 
 impl<A: Allocator> OsString<Windows, A> {
-    /// The one string with these 16-bit units, as std's `OsStringExt::from_wide` on Windows;
-    /// of the units that [`OsStr::encode_wide`] gives, the same string again. It makes one
-    /// request for memory, and none for no units.
+    /// The one string with these 16-bit units, as std's `OsStringExt::from_wide` on Windows. For
+    /// the units that [`OsStr::encode_wide`] gives it is the same string again. It makes one
+    /// request for memory, and none if there are no units.
     ///
     /// # Errors
     ///
-    /// `AllocError` where the memory is refused.
+    /// `AllocError` if the memory is refused.
     ///
     /// ```
     /// use os_str_bytes::{OsStr, OsString, Windows};

@@ -1,4 +1,4 @@
-//! The strings of Windows: any 16-bit units (RFC 2781), kept as WTF-8.
+//! The strings of Windows: any 16-bit units (RFC 2781), stored as WTF-8.
 ghost use Rattle.std.specs.Str.{IsUtf8};
 ghost use Rattle.wtf8_core.specs.Wtf8.{IsWtf8};
 ghost use Rattle.wtf8_core.specs.UnitsOf.{units_of, wtf8_lossy};
@@ -34,7 +34,7 @@ pub type PathBuf<A = Global> = crate::PathBuf<Windows, A>;
 /// A path of Windows that is borrowed or owned.
 pub type PathCow<'a, A = Global> = crate::PathCow<'a, Windows, A>;
 
-/// How many bytes the form of a surrogate has.
+/// The length in bytes of a surrogate's form.
 const SURROGATE_LEN: usize = 3;
 
 impl Platform for Windows {

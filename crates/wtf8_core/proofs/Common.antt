@@ -1,4 +1,4 @@
--- The names that most proofs cite, passed on from one place. Declares nothing.
+-- The names that most proofs cite, re-exported from one file. Declares nothing.
 pub use Rattle.std.proofs.Common.{◌≡◌, ℕ, zero, suc, ◌-◌, ◌<◌, ◌/◌, ◌%◌, [], ◌∷◌, ◌++◌, true, refl, sym, ap, ◌∙◌, arith, rules, sub-one, codes, ◌+◌, List, take, subst, MatchResult, length, append_assoc, map, Result, Err, append-nil, ⊎_elim, Bool, false, drop, Ok, Fits, w8, get_or, length-append, length-drop, take-append-drop, ◌≤◌, Some, inl, inr, get_or-drop, ◌≢◌, ◌⊎◌, ◌*◌, ltb, leb, eqb, ◌&&◌, ◌||◌, not, eqb-true, Bor, None, eq-eqb, MatchOption, Option, get_or-take, ◌^◌, cond, bit_or, replicate, ◌↔◌, true≢false, length-take, drop-drop, w16, min, max, bit_and, bit_xor, take-take, take-add, leb-false, slice_index, set}
 pub use Rattle.std.proofs.Math.Seq.{drop-append_seam, take-append_seam, take-length, drop-append-add, take-append-add}
 pub use Rattle.std.proofs.Math.Utf8.{scalar, low_scalar, scalar_cases, scalars}

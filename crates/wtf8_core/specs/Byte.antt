@@ -1,4 +1,4 @@
--- Classes of bytes (RFC 3629, sections 3 and 4). That F5 to FF are leads too is this project's own reading; os_str_bytes 7.2.1 reads them so.
+-- Classes of bytes (RFC 3629, sections 3 and 4). It is this project's own reading, and that of os_str_bytes 7.2.1, that F5 to FF are leads too.
 use Rattle.std.specs.Prelude.{ℕ, ◌<◌, ◌%◌, nat_lt, Bool, if◌then◌else◌}
 use Rattle.std.specs.Int.{IsInRange, is_in_range}
 

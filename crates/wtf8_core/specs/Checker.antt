@@ -1,4 +1,4 @@
--- What the few fields of a checker stand for: the bytes that were fed so far (this project's own).
+-- What the few fields of a checker say of the bytes that were fed so far (this project's own).
 use Rattle.std.specs.Prelude.{◌≡◌, ◌≢◌, ◌⊎◌, ℕ, zero, suc, ◌+◌, ◌*◌, ◌%◌, ◌≤◌, Bool, true, false, if◌then◌else◌, List, [], ◌∷◌, ◌++◌, length, Option, Some, None}
 use Rattle.wtf8_core.specs.Byte.{is_continuation, needed_continuations}
 use Rattle.wtf8_core.specs.Surrogate.{is_high}
@@ -13,7 +13,7 @@ use Rattle.wtf8_core.specs.declared.table.State.TheVariants.{Between, BehindHigh
 abbrev pub HasFirstFault : List ℕ → EncodingError → Type 0
 HasFirstFault bytes fault = (cs : List ℕ) × IsFirstFault bytes cs fault
 
--- the same, and it isn't that they end: so no byte behind them changes it
+-- the same, and the fault isn't that the bytes end: so no later byte changes it
 pub record IsFaulty (bytes : List ℕ) (fault : EncodingError) : Type 0 where
   pub first : HasFirstFault bytes fault
   pub stays : fault ≢ End
@@ -28,12 +28,12 @@ is_between Between = true
 is_between BehindHigh = true
 is_between s = false
 
--- whether that, and no high surrogate stands directly before
+-- whether no sequence is open and no high surrogate comes directly before
 abbrev pub is_plain : State → Bool
 is_plain Between = true
 is_plain s = false
 
--- open sequences: whether a high surrogate stands before, how many continuations are needed and how many are missing, and between what the value so far lies
+-- open sequences: whether a high surrogate comes directly before, how many continuations are needed and how many are missing, and between which numbers the value so far lies
 pub record Row : Type 0 where
   pub high : Bool
   pub needed : ℕ
@@ -44,11 +44,11 @@ pub record Row : Type 0 where
 abbrev row : Bool → ℕ → ℕ → ℕ → ℕ → Row
 row high needed missing least most = record { high = high; needed = needed; missing = missing; least = least; most = most }
 
--- these before some rows, whether a high surrogate stands before or not
+-- two rows with these numbers, without and with a high surrogate directly before, and then the rows rs
 abbrev both : ℕ → ℕ → ℕ → ℕ → List Row → List Row
 both needed missing least most rs = row false needed missing least most ∷ row true needed missing least most ∷ rs
 
--- the open sequences for which each state stands
+-- the open sequences that each state means
 abbrev pub rows : State → List Row
 rows Between = []
 rows BehindHigh = []
@@ -67,19 +67,19 @@ rows BadFourth = both 3 1 0 0x3FF (both 3 1 0x4400 0xFFFF [])
 rows Refused = []
 rows BadThird = both 2 1 0 0x1F (row true 2 1 0x370 0x37F ∷ [])
 
--- one of the rows is such
+-- P holds of some row
 abbrev pub SomeRow : (Row → Type 0) → List Row → Type 0
 SomeRow P [] = ⊥
 SomeRow P (r ∷ rs) = P r ⊎ SomeRow P rs
 
--- the bits among the joined ones that count, where so many continuations were joined
+-- the bits that count among those joined so far, after so many continuations
 abbrev pub kept_bits : ℕ → ℕ → ℕ
 kept_bits zero bits = bits % 0x10
 kept_bits (suc zero) bits = bits % 0x400
 kept_bits (suc (suc zero)) bits = bits % 0x1_0000
 kept_bits (suc (suc (suc n))) bits = bits % 0x40_0000
 
--- the low six bits of a byte behind the low 26 of the bits
+-- the low 26 of the bits, followed by the low six bits of a byte
 abbrev pub joined_bits : ℕ → ℕ → ℕ
 joined_bits bits byte = bits % 0x400_0000 * 0x40 + byte % 0x40
 
@@ -97,13 +97,13 @@ pub record IsOpen (high : Bool) (bits : ℕ) (open_bytes : List ℕ) (r : Row) :
   pub most_is : shape_value lead behind ≤ r.most
   pub bits_are : 2 ≤ r.needed → kept_bits (length behind) bits ≡ shape_value lead behind
 
--- the bytes are open in this state, behind a high surrogate or not
+-- the bytes are an open sequence that this state has, after a high surrogate or not
 abbrev pub IsOpenIn : State → Bool → ℕ → List ℕ → Type 0
 IsOpenIn Between high bits open_bytes = (open_bytes ≡ []) × (high ≡ false)
 IsOpenIn BehindHigh high bits open_bytes = (open_bytes ≡ []) × (high ≡ true)
 IsOpenIn s high bits open_bytes = SomeRow (IsOpen high bits open_bytes) (rows s)
 
--- the state and the bits stand for these bytes
+-- the bytes spell code points up to an index, and what follows is open in this state with these bits
 pub record Stands (state : State) (bits : ℕ) (bytes : List ℕ) : Type 0 where
   pub code_points : List ℕ
   pub before : List ℕ
@@ -112,17 +112,17 @@ pub record Stands (state : State) (bits : ℕ) (bytes : List ℕ) : Type 0 where
   pub spelled : Spells before code_points
   pub opened : IsOpenIn state (is_high (last_behind 0 code_points)) bits open_bytes
 
--- the fault of a continuation behind which there is no state
+-- the fault of a continuation that is refused in this state
 abbrev pub value_fault : State → ℕ → ℕ → EncodingError
 value_fault BadThird bits byte = CodePoint (bits % 0x1_0000)
 value_fault BadFourth bits byte = CodePoint (bits % 0x40_0000)
 value_fault s bits byte = Byte byte
 
--- the fault of a byte behind which there is no state
+-- the fault of a byte that is refused in this state
 abbrev pub fault_at : State → ℕ → ℕ → EncodingError
 fault_at state bits byte = if is_continuation byte then value_fault state bits byte else Byte byte
 
--- the fields of a checker: it reads, or it has met a fault
+-- the fields of a checker: it is still reading, or it has met a fault
 pub data Progress : Type 0 where
   Reading : State → ℕ → Progress
   Faulted : EncodingError → Progress
@@ -131,7 +131,7 @@ abbrev pub progress : State → ℕ → Option EncodingError → Progress
 progress state bits None = Reading state bits
 progress state bits (Some fault) = Faulted fault
 
--- the checker stands for these bytes: they are all that were fed
+-- the checker's fields describe these bytes, which are all that were fed
 abbrev pub StandsFor : Progress → List ℕ → Type 0
 StandsFor (Reading state bits) bytes = Stands state bits bytes
 StandsFor (Faulted fault) bytes = IsFaulty bytes fault

@@ -1,8 +1,8 @@
--- A string as parts without whole characters and texts (this project's own words; std's `[u8]::utf8_chunks` cuts at other places).
+-- A string as an alternation of parts, in which there is no whole character, and texts (this project's own words; std's `[u8]::utf8_chunks` cuts at other indices).
 use Rattle.std.specs.Prelude.{◌≡◌, ℕ, ◌+◌, ◌<◌, ◌≤◌, List, [], ◌∷◌, ◌++◌, length}
 use Rattle.wtf8_core.specs.Covered.{IsCovered}
 
--- a part, and the text behind it
+-- a part, and the text after it
 abbrev pub Chunk : Type 0
 Chunk = List ℕ × List ℕ
 
@@ -11,7 +11,7 @@ abbrev pub joined : List Chunk → List ℕ
 joined [] = []
 joined (c ∷ behind) = c.0 ++ (c.1 ++ joined behind)
 
--- the chunk c stands in s from i on, between these others
+-- c is the chunk of s from index i on, between these other chunks
 pub record IsPair (s : List ℕ) (i : ℕ) (before : List Chunk) (c : Chunk) (behind : List Chunk) : Type 0 where
   pub some : 0 < length (c.0 ++ c.1)
   pub bare : (k : ℕ) → i ≤ k → k < i + length c.0 → ¬ (IsCovered s k)

@@ -2,7 +2,7 @@
 use Rattle.std.specs.Prelude.{ℕ, ◌+◌, ◌/◌, ◌%◌, ◌≤◌, nat_lt, if◌then◌else◌, List, [], ◌∷◌}
 use Rattle.wtf8_core.specs.Surrogate.{high_unit, low_unit}
 
--- a number that Unicode has as a code point
+-- a number that is a code point of Unicode
 abbrev pub IsCodePoint : ℕ → Type 0
 IsCodePoint c = c ≤ 0x10_FFFF
 

@@ -1,4 +1,4 @@
--- The first fault of bytes that aren't WTF-8: this project's own order of what RFC 3629, section 3, and WTF-8 leave out, as os_str_bytes 7.2.1 reads.
+-- The first fault of bytes that aren't WTF-8. RFC 3629, section 3, and WTF-8 don't say which it is; the order here is this project's own, as os_str_bytes 7.2.1 reads.
 use Rattle.std.specs.Prelude.{◌≡◌, ◌≢◌, ℕ, ◌+◌, ◌*◌, ◌%◌, ◌<◌, ◌⊎◌, List, ◌∷◌, ◌++◌, length, []}
 use Rattle.std.specs.List.{fold, AllByRecursion}
 use Rattle.std.specs.Int.{IsInRange}
@@ -9,12 +9,12 @@ use Rattle.wtf8_core.specs.Wtf8.{Spells, last_behind}
 use Rattle.wtf8_core.specs.declared.fault.EncodingError.{EncodingError}
 use Rattle.wtf8_core.specs.declared.fault.EncodingError.TheVariants.{Byte, CodePoint, End, Utf8}
 
--- a lead with continuations behind it, fewer than it needs or as many
+-- a lead and continuations after it
 pub record IsBegun (lead : ℕ) (behind : List ℕ) : Type 0 where
   pub lead_is : IsLead lead
   pub continued : AllByRecursion IsContinuation behind
 
--- a lead with exactly the continuations that it needs
+-- a lead and exactly as many continuations after it as it needs
 pub record IsShape (lead : ℕ) (behind : List ℕ) : Type 0 where
   pub begun : IsBegun lead behind
   pub whole : length behind ≡ needed_continuations lead
@@ -36,14 +36,14 @@ pub record IsShort (refused : List ℕ) : Type 0 where
   pub begun : IsBegun lead behind
   pub short : length behind < needed_continuations lead
 
--- a lead with fewer continuations than it needs, and behind it a byte that is no continuation
+-- a lead with fewer continuations than it needs, and then a byte that is no continuation
 pub record IsBroken (refused rest : List ℕ) (x : ℕ) : Type 0 where
   pub begun : IsShort refused
   pub after : List ℕ
   pub next : rest ≡ x ∷ after
   pub breaks : IsContinuation x → ⊥
 
--- a whole shape of this value, which is no form, or the form of a low surrogate behind a high one
+-- a whole shape with this value, which is no form, or is the form of a low surrogate after a high one
 pub record IsBadShape (last : ℕ) (refused : List ℕ) (value : ℕ) : Type 0 where
   pub lead : ℕ
   pub behind : List ℕ
@@ -52,7 +52,7 @@ pub record IsBadShape (last : ℕ) (refused : List ℕ) (value : ℕ) : Type 0 w
   pub value_is : shape_value lead behind ≡ value
   pub bad : ((c : ℕ) → IsCodePoint c → form c ≢ refused) ⊎ ((form value ≡ refused) × IsLow value × IsHigh last)
 
--- these bytes, before this rest, are refused with this fault, where `last` is the code point before them
+-- these bytes, before this rest and after the code point `last`, are refused with this fault
 abbrev pub IsRefused : ℕ → List ℕ → List ℕ → EncodingError → Type 0
 IsRefused last refused rest (Byte x) = IsStray refused x ⊎ IsBroken refused rest x
 IsRefused last refused rest End = IsShort refused × (rest ≡ [])
@@ -66,7 +66,7 @@ pub record BeginsFault (last : ℕ) (bytes : List ℕ) (fault : EncodingError) :
   pub is : bytes ≡ refused ++ rest
   pub refusal : IsRefused last refused rest fault
 
--- the bytes spell these code points up to their first fault; 0, which is no high surrogate, stands for the last of none
+-- the bytes spell these code points up to their first fault; if there are none, 0, which is no high surrogate, counts as the last of them
 pub record IsFirstFault (bytes cs : List ℕ) (fault : EncodingError) : Type 0 where
   pub before : List ℕ
   pub from : List ℕ
@@ -74,7 +74,7 @@ pub record IsFirstFault (bytes cs : List ℕ) (fault : EncodingError) : Type 0 w
   pub spelled : Spells before cs
   pub begins : BeginsFault (last_behind 0 cs) from fault
 
--- the first fault begins behind so many bytes, and so many are refused with it
+-- the first fault begins at index `valid_up_to`, and `refused_len` bytes are refused with it
 pub record IsFaultAt (bytes : List ℕ) (valid_up_to refused_len : ℕ) : Type 0 where
   pub code_points : List ℕ
   pub fault : EncodingError

@@ -5,7 +5,7 @@ use Rattle.wtf8_core.specs.CodePoint.{IsCodePoint, form, wide}
 use Rattle.wtf8_core.specs.Wtf8.{IsWtf8}
 use Rattle.wtf8_core.specs.UnitsOf.{units_of}
 
--- the bytes begin with the form of c, and what follows is WTF-8 of its own
+-- the bytes begin with the form of c, and the rest is WTF-8 by itself
 pub record BeginsForm (bytes : List ℕ) (c : ℕ) (rest : List ℕ) : Type 0 where
   pub code_point : IsCodePoint c
   pub joined : bytes ≡ form c ++ rest

@@ -1,4 +1,4 @@
--- Lossy reading of any bytes: U+FFFD in the place of each refused part (this project's own; std's `String::from_utf8_lossy` reads UTF-8 so).
+-- The lossy reading of any bytes: U+FFFD in place of each refused part (this project's own; std's `String::from_utf8_lossy` reads UTF-8 in this way).
 use Rattle.std.specs.Prelude.{ℕ, List, ◌++◌, map, Result, Ok, Err}
 use Rattle.std.specs.List.{flat_map}
 use Rattle.wtf8_core.specs.CodePoint.{form}
@@ -7,16 +7,16 @@ use Rattle.wtf8_core.specs.Fault.{IsFirstFault}
 use Rattle.wtf8_core.specs.Lossy.{replacement}
 use Rattle.wtf8_core.specs.declared.fault.EncodingError.{EncodingError}
 
--- WTF-8 is its own reading; else it is what stands before the first refused part, U+FFFD, and the reading of what follows that part
+-- WTF-8 is its own reading; the reading of other bytes is what comes before the first refused part, then U+FFFD, then the reading of what follows that part
 pub data IsLossyReading : List ℕ → List ℕ → Type 0 where
   formed : {b : List ℕ} → IsWtf8 b → IsLossyReading b b
   replaced : {b cs reading : List ℕ} {fault : EncodingError} (f : IsFirstFault b cs fault) → IsLossyReading f.begins.rest reading → IsLossyReading b (f.before ++ (replacement ++ reading))
 
--- an item's code point, FFFD for a fault
+-- the code point of an item; FFFD for a fault
 abbrev pub lossy_code_point : Result ℕ EncodingError → ℕ
 lossy_code_point (Ok c) = c
 lossy_code_point (Err fault) = 0xFFFD
 
--- the forms of items joined, FFFD for each fault
+-- the forms of the items joined, with that of FFFD for each fault
 abbrev pub lossy_forms : List (Result ℕ EncodingError) → List ℕ
 lossy_forms items = flat_map form (map lossy_code_point items)

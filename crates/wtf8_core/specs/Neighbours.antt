@@ -1,4 +1,4 @@
--- WTF-8 by what a byte and the four before it are: where vectors look for it. No contract of another crate names these.
+-- WTF-8 by what each byte and the four before it are, which is what vectors test. No contract of another crate names these.
 use Rattle.std.specs.Prelude.{◌≡◌, ℕ, suc, ◌<◌, ◌≤◌, ◌⊎◌, List, slice_index}
 use Rattle.std.specs.Int.{IsInRange}
 use Rattle.wtf8_core.specs.Byte.{IsContinuation}
@@ -6,24 +6,24 @@ use Rattle.wtf8_core.specs.Surrogate.{IsHigh}
 use Rattle.wtf8_core.specs.declared.scan.Encoding.{Encoding}
 use Rattle.wtf8_core.specs.declared.scan.Encoding.TheVariants.{Utf8}
 
--- none of the last three bytes x, y and z leads a form that goes on behind them
+-- none of the last three bytes x, y and z is the lead of a form that continues after them
 pub record IsClosed (x y z : ℕ) : Type 0 where
   pub fourth : x < 0xF0
   pub third : y < 0xE0
   pub second : z < 0xC0
 
--- one of them does
+-- one of them is
 abbrev pub GoesOn : ℕ → ℕ → ℕ → Type 0
 GoesOn x y z = (0xF0 ≤ x) ⊎ ((0xE0 ≤ y) ⊎ (0xC0 ≤ z))
 
--- the byte b may follow a byte z, as far as the two tell
+-- the byte b may follow the byte z, as far as these two tell
 pub record MayFollow (z b : ℕ) : Type 0 where
   pub lead : 0xC0 ≤ z → IsInRange 0xC2 0xF4 z
   pub three_long : z ≡ 0xE0 → 0xA0 ≤ b
   pub four_long : z ≡ 0xF0 → 0x90 ≤ b
   pub within : z ≡ 0xF4 → b < 0x90
 
--- the byte b may follow w, x, y and z: it continues where a form goes on, begins a code point elsewhere, makes no pair of surrogates and, in UTF-8, begins no surrogate
+-- the byte b may follow w, x, y and z: it is a continuation if a form continues there, and else begins a code point; it makes no pair of surrogates and, in UTF-8, begins no surrogate
 pub record MayStand (encoding : Encoding) (w x y z b : ℕ) : Type 0 where
   pub begins : IsClosed x y z → (b < 0x80) ⊎ (0xC0 ≤ b)
   pub continues : GoesOn x y z → IsContinuation b
@@ -31,12 +31,12 @@ pub record MayStand (encoding : Encoding) (w x y z b : ℕ) : Type 0 where
   pub unpaired : w ≡ 0xED → 0xA0 ≤ x → x < 0xB0 → z ≡ 0xED → b < 0xB0
   pub plain : encoding ≡ Utf8 → z ≡ 0xED → b < 0xA0
 
--- each of n bytes behind the first four may follow those before it
+-- each of the n bytes after the first four may follow those before it
 abbrev pub AllMayStand : Encoding → ℕ → List ℕ → Type 0
 AllMayStand encoding n bs =
     (i : ℕ) → i < n → MayStand encoding (slice_index bs i) (slice_index bs (suc i)) (slice_index bs (suc (suc i))) (slice_index bs (suc (suc (suc i)))) (slice_index bs (suc (suc (suc (suc i)))))
 
--- behind the bytes x, y and z a code point begins, and the one before it, p, is a high surrogate exactly where they are its form
+-- a code point begins after the bytes x, y and z, and the code point p before it is a high surrogate exactly if these bytes are its form
 pub record IsEdge (p x y z : ℕ) : Type 0 where
   pub closed : IsClosed x y z
   pub high : IsHigh p → (x ≡ 0xED) × (0xA0 ≤ y) × (y < 0xB0)

@@ -1,15 +1,15 @@
--- Units of parts, the strings in which no whole character stands (this project's own).
+-- Units of parts, the strings in which there is no whole character (this project's own).
 use Rattle.std.specs.Prelude.{ℕ, nat_lt, if◌then◌else◌, List, [], ◌∷◌}
 use Rattle.std.specs.List.{All}
 use Rattle.wtf8_core.specs.Surrogate.{IsSurrogate}
 use Rattle.wtf8_core.specs.CodePoint.{form}
 use Rattle.wtf8_core.specs.Wtf8.{IsPairedFree}
 
--- the bytes of a unit of a part: below 100 (hexadecimal) it is a byte itself, else it is a surrogate
+-- the bytes of a unit of a part: a unit below 100 (hexadecimal) is a byte itself, any other is a surrogate
 abbrev pub unit_bytes : ℕ → List ℕ
 unit_bytes u = if nat_lt u 0x100 then u ∷ [] else form u
 
--- surrogates, no high one directly before a low one
+-- surrogates, with no high one directly before a low one
 pub record AreLoneSurrogates (us : List ℕ) : Type 0 where
   pub surrogates : All IsSurrogate us
   pub paired_free : IsPairedFree us

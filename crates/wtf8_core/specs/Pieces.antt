@@ -1,14 +1,14 @@
--- Pieces, strips and trims of lists: the same words are said of bytes and of units (std's `str` has the calls).
+-- Pieces, strips and trims of lists, of bytes as well as of units (std's `str` has the calls).
 use Rattle.std.specs.Prelude.{◌≡◌, ℕ, ◌+◌, ◌<◌, List, [], ◌∷◌, ◌++◌, length, map, Option, IfSome, MatchOption}
 use Rattle.std.specs.List.{repeat}
 use Rattle.wtf8_core.specs.Standing.{StandsAt, StandsNowhere, IsLeastPlace, IsGreatestPlace, IsFront, IsEnd}
 use Rattle.wtf8_core.specs.Boundary.{IsBoundary}
 
--- p stands somewhere in s
+-- p occurs somewhere in s
 abbrev pub StandsSomewhere : List ℕ → List ℕ → Type 0
 StandsSomewhere p s = (i : ℕ) × StandsAt p s i
 
--- front and back stand around the place of p in s that Is names
+-- front and back are the parts of s before and after the occurrence of p that Is names
 pub record SplitsAt (Is : List ℕ → List ℕ → ℕ → Type 0) (p s front back : List ℕ) : Type 0 where
   pub joined : s ≡ front ++ (p ++ back)
   pub found : Is p s (length front)
@@ -18,27 +18,27 @@ pub data FallsInto (Cuts : List ℕ → List ℕ → List ℕ → Type 0) (Whole
   whole : {s : List ℕ} → Whole s → FallsInto Cuts Whole s (s ∷ [])
   cut : {s piece rest : List ℕ} {pieces : List (List ℕ)} → Cuts s piece rest → FallsInto Cuts Whole rest pieces → FallsInto Cuts Whole s (piece ∷ pieces)
 
--- the pieces of s between the places of p, each cut at the least place
+-- the pieces of s between the occurrences of p, each cut at the first one in what is left
 abbrev pub IsSplit : List ℕ → List ℕ → List (List ℕ) → Type 0
 IsSplit p = FallsInto (λ s piece rest. SplitsAt IsLeastPlace p s piece rest) (StandsNowhere p)
 
--- the same from the end, each cut at the greatest place
+-- the same from the end, each cut at the last occurrence in what is left
 abbrev pub IsRSplit : List ℕ → List ℕ → List (List ℕ) → Type 0
 IsRSplit p = FallsInto (λ s piece rest. SplitsAt IsGreatestPlace p s rest piece) (StandsNowhere p)
 
--- r is s without each p at its front, where p isn't empty
+-- r is s without each p at its start, if p isn't empty
 pub record IsStartTrim (p s r : List ℕ) : Type 0 where
   pub count : ℕ
   pub trimmed : s ≡ repeat count p ++ r
   pub done : ¬ (IsFront p r)
 
--- r is s without each p at its end, where p isn't empty
+-- r is s without each p at its end, if p isn't empty
 pub record IsEndTrim (p s r : List ℕ) : Type 0 where
   pub count : ℕ
   pub trimmed : s ≡ r ++ repeat count p
   pub done : ¬ (IsEnd p r)
 
--- r is the end trim of the start trim
+-- r is s trimmed at its start, and then at its end
 abbrev pub IsTrim : List ℕ → List ℕ → List ℕ → Type 0
 IsTrim p s r = (m : List ℕ) × (IsStartTrim p s m × IsEndTrim p m r)
 
@@ -57,14 +57,14 @@ pub record Splits (units_of : List ℕ → List ℕ) (Is : List ℕ → List ℕ
 abbrev pub MayBeCutAround : List ℕ → ℕ → Option ℕ → Type 0
 MayBeCutAround s n r = IfSome r (λ i. IsBoundary s i × IsBoundary s (i + n))
 
--- r is what follows p at the front of s, None where p is no front of it; `of` is what r's string counts as
+-- r is what follows the prefix p of s, None if p is no prefix of s; `of` maps the result to its list of bytes or units
 abbrev pub StripsFront : {T : Type 0} → (T → List ℕ) → List ℕ → List ℕ → Option T → Type 0
 StripsFront of p s r = MatchOption r (¬ (IsFront p s)) (λ rest. s ≡ p ++ of rest)
 
--- r is what stands before p at the end of s, None where p is no end of it
+-- r is what comes before the suffix p of s, None if p is no suffix of s
 abbrev pub StripsEnd : {T : Type 0} → (T → List ℕ) → List ℕ → List ℕ → Option T → Type 0
 StripsEnd of p s r = MatchOption r (¬ (IsEnd p s)) (λ rest. s ≡ of rest ++ p)
 
--- r is both parts of s around the place of p that Is names, None where p stands nowhere
+-- r is both parts of s around the occurrence of p that Is names, None if p doesn't occur
 abbrev pub SplitsOnce : {T : Type 0} → (List ℕ → List ℕ → ℕ → Type 0) → (T → List ℕ) → List ℕ → List ℕ → Option (T × T) → Type 0
 SplitsOnce Is of p s r = MatchOption r (StandsNowhere p s) (λ parts. SplitsAt Is p s (of parts.0) (of parts.1))

@@ -1,11 +1,11 @@
--- The reader, step by step: what `CodePoints` has left. No contract of another crate names these; `AreItems` says what the items are.
+-- The reader, step by step: the items that `CodePoints` still has to give. No contract of another crate names these; `AreItems` says what the items are.
 use Rattle.std.specs.Prelude.{ℕ, zero, suc, ◌≡◌, ◌+◌, ◌*◌, ◌%◌, Bool, false, nat_lt, ◌&&◌, ◌||◌, if◌then◌else◌, List, [], ◌∷◌, drop, Result, Ok, Err}
 use Rattle.wtf8_core.specs.Byte.{is_continuation, needed_continuations, lead_bits}
 use Rattle.wtf8_core.specs.Surrogate.{is_high, is_low}
 use Rattle.wtf8_core.specs.declared.fault.EncodingError.{EncodingError}
 use Rattle.wtf8_core.specs.declared.fault.EncodingError.TheVariants.{Byte, CodePoint, End}
 
--- the value with the bits of n continuations joined to it, or what stands where one of them is missing
+-- the value with the bits of n continuations appended, or the fault if one of them is missing
 unfoldable pub with_continuations : ℕ → ℕ → List ℕ → Result ℕ EncodingError
 with_continuations value zero bytes = Ok value
 with_continuations value (suc n) [] = Err End
@@ -16,40 +16,40 @@ with_continuations value (suc n) (x ∷ bytes) =
 abbrev pub least_value : ℕ → ℕ
 least_value n = if nat_lt n 2 then 0x80 else (if nat_lt n 3 then 0x800 else 0x1_0000)
 
--- what a shape of n continuations and this value is, behind a high surrogate or not
+-- what a shape of n continuations with this value is, after a high surrogate or not
 unfoldable pub checked_value : Bool → ℕ → ℕ → Result ℕ EncodingError
 checked_value after_high n value =
     if nat_lt value (least_value n) || nat_lt 0x10_FFFF value || (after_high && is_low value)
     then Err (CodePoint value) else Ok value
 
--- the same of a value that is there, or the fault in its place
+-- the same for the value of an `Ok`; a fault stays
 unfoldable pub and_then_checked : Bool → ℕ → Result ℕ EncodingError → Result ℕ EncodingError
 and_then_checked after_high n (Ok value) = checked_value after_high n value
 and_then_checked after_high n (Err fault) = Err fault
 
--- how many continuations stand in front, n at most
+-- how many continuations the bytes begin with, at most n
 unfoldable pub continuations : ℕ → List ℕ → ℕ
 continuations zero bytes = 0
 continuations (suc n) [] = 0
 continuations (suc n) (x ∷ bytes) = if is_continuation x then suc (continuations n bytes) else 0
 
--- how many bytes behind a first byte belong to its item
+-- how many bytes after the first byte b belong to its item
 unfoldable pub behind_item : ℕ → List ℕ → ℕ
 behind_item b bytes = if nat_lt b 0xC2 then 0 else continuations (needed_continuations b) bytes
 
--- the first code point, or the fault with which the bytes begin
+-- the code point or the fault with which the bytes begin
 unfoldable pub first_item : Bool → ℕ → List ℕ → Result ℕ EncodingError
 first_item after_high b bytes =
     if nat_lt b 0x80 then Ok b
     else (if nat_lt b 0xC2 then Err (Byte b)
     else and_then_checked after_high (needed_continuations b) (with_continuations (lead_bits b) (needed_continuations b) bytes))
 
--- an item and the items behind it, where no high surrogate stands before those behind a fault
+-- an item and the items after it; those after a fault are read as if no high surrogate came before them
 abbrev pub then_items : Result ℕ EncodingError → (Bool → List (Result ℕ EncodingError)) → List (Result ℕ EncodingError)
 then_items (Ok c) behind = Ok c ∷ behind (is_high c)
 then_items (Err fault) behind = Err fault ∷ behind false
 
--- the items of the bytes behind the first n
+-- the items of the bytes after the first n
 unfoldable pub items_behind : ℕ → Bool → List ℕ → List (Result ℕ EncodingError)
 items_behind n after_high [] = []
 items_behind (suc n) after_high (b ∷ bytes) = items_behind n after_high bytes
@@ -60,7 +60,7 @@ abbrev pub is_high_item : Result ℕ EncodingError → Bool
 is_high_item (Ok c) = is_high c
 is_high_item (Err fault) = false
 
--- the item with which bytes begin, and what follows its bytes
+-- the item with which the bytes begin, and the bytes after it
 pub record IsFirstItem (after_high : Bool) (bytes : List ℕ) (item : Result ℕ EncodingError) (rest : List ℕ) : Type 0 where
   pub first : ℕ
   pub behind : List ℕ
@@ -68,6 +68,6 @@ pub record IsFirstItem (after_high : Bool) (bytes : List ℕ) (item : Result ℕ
   pub item_is : first_item after_high first behind ≡ item
   pub rest_is : rest ≡ drop (behind_item first behind) behind
 
--- the items of bytes, behind a high surrogate or not
+-- the items of the bytes, after a high surrogate or not
 abbrev pub items_after : Bool → List ℕ → List (Result ℕ EncodingError)
 items_after after_high bytes = items_behind 0 after_high bytes

@@ -1,4 +1,4 @@
--- The runs of surrogates of a list of code points, each with the scalars behind it (WTF-8: lone surrogates).
+-- The runs of surrogates in a list of code points, each with the scalar values after it (WTF-8: lone surrogates).
 use Rattle.std.specs.Prelude.{◌≡◌, ℕ, ◌<◌, List, [], ◌∷◌, ◌++◌, length}
 use Rattle.std.specs.Char.{IsScalar}
 use Rattle.std.specs.List.{flat_map, AllByRecursion}
@@ -6,7 +6,7 @@ use Rattle.wtf8_core.specs.Surrogate.{IsSurrogate}
 use Rattle.wtf8_core.specs.CodePoint.{form}
 use Rattle.wtf8_core.specs.Chunks.{Chunk, joined}
 
--- a run of surrogates and the scalars behind it, between these others: no run ends beside another, so each is maximal
+-- a run of surrogates and the scalar values after it, between these others: no two runs are adjacent, so each is maximal
 pub record IsRun (before : List Chunk) (c : Chunk) (behind : List Chunk) : Type 0 where
   pub some : 0 < length (c.0 ++ c.1)
   pub surrogates : AllByRecursion IsSurrogate c.0
@@ -19,6 +19,6 @@ pub record AreRuns (cs : List ℕ) (runs : List Chunk) : Type 0 where
   pub joins : joined runs ≡ cs
   pub each : (before behind : List Chunk) (c : Chunk) → runs ≡ before ++ c ∷ behind → IsRun before c behind
 
--- the bytes of a run, and those of the scalars behind it
+-- the bytes of a run, and those of the scalar values after it
 abbrev pub form_chunk : Chunk → Chunk
 form_chunk c = (flat_map form c.0, flat_map form c.1)

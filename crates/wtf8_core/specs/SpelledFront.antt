@@ -1,4 +1,4 @@
--- A front of bytes that spells code points: what vectors find. No contract of another crate names it.
+-- A prefix of bytes that spells code points: what vectors find. No contract of another crate names it.
 use Rattle.std.specs.Prelude.{Bool, ◌≡◌, ℕ, ◌-◌, ◌≤◌, List, ◌∷◌, ◌++◌, length, take, drop}
 use Rattle.std.specs.List.{AllByRecursion}
 use Rattle.std.specs.Char.{IsScalar}
@@ -8,7 +8,7 @@ use Rattle.wtf8_core.specs.Neighbours.{AllMayStand}
 use Rattle.wtf8_core.specs.declared.scan.Encoding.{Encoding}
 use Rattle.wtf8_core.specs.declared.scan.Encoding.TheVariants.{Utf8}
 
--- behind a front that spells code points, the last of them high or not, the rest is still to be read
+-- the bytes before the rest spell code points, of which the last is a high surrogate or not, as `after_high` says
 pub record IsReadUpTo (bytes : List ℕ) (after_high : Bool) (rest : List ℕ) : Type 0 where
   pub code_points : List ℕ
   pub front : List ℕ
@@ -20,14 +20,14 @@ pub record IsReadUpTo (bytes : List ℕ) (after_high : Bool) (rest : List ℕ) :
 abbrev pub behind_zeros : List ℕ → List ℕ
 behind_zeros bytes = 0 ∷ 0 ∷ 0 ∷ 0 ∷ bytes
 
--- the first n bytes spell code points, in UTF-8 scalar values
+-- the first n bytes spell code points, which in UTF-8 are scalar values
 pub record IsSpelledFront (encoding : Encoding) (bytes : List ℕ) (n : ℕ) : Type 0 where
   pub within : n ≤ length bytes
   pub code_points : List ℕ
   pub spelled : Spells (take n bytes) code_points
   pub plain : encoding ≡ Utf8 → AllByRecursion IsScalar code_points
 
--- behind a front that spells code points each byte before place n may stand where it does
+-- a prefix spells code points, and each byte after it and before index n may follow those before it
 pub record KeepsPattern (encoding : Encoding) (bytes : List ℕ) (n : ℕ) : Type 0 where
   pub from : ℕ
   pub front : IsSpelledFront encoding bytes from

@@ -1,4 +1,4 @@
--- What a platform's strings keep where they are cut and joined, for any rule of what is well formed and any units of bytes (this project's own).
+-- Laws of a platform's strings when they are cut and joined, for any rule of which bytes are well formed and any units of bytes (this project's own).
 use Rattle.std.specs.Prelude.{◌≡◌, ℕ, ◌<◌, List, ◌++◌, length}
 use Rattle.std.specs.Str.{IsUtf8}
 
@@ -10,17 +10,17 @@ pub record IsCutAround (well_formed : List ℕ → Type 0) (units : List ℕ →
   pub formed : well_formed front
   pub units_are : units front ≡ us
 
--- the laws of standing and of joins
+-- the laws of occurrences and of joins
 pub record StandingLaws (well_formed : List ℕ → Type 0) (units : List ℕ → List ℕ) : Type 0 where
-  -- texts are strings, and equal units are those of one string
+  -- texts are strings, and strings with equal units are equal
   pub texts : (p : List ℕ) → IsUtf8 p → well_formed p
   pub once : (v w : List ℕ) → well_formed v → well_formed w → units v ≡ units w → v ≡ w
-  -- what stands behind a string at the front is a string, and the units are joined; what stands before a string at the end is one too
+  -- if a string begins with a string, what follows is a string, and its units are those of both joined; if a string ends with a string, what comes before is a string
   pub fronts : (x y : List ℕ) → well_formed x → well_formed (x ++ y) → well_formed y × (units (x ++ y) ≡ units x ++ units y)
   pub ends : (x y : List ℕ) → well_formed y → well_formed (x ++ y) → well_formed x
-  -- a text that isn't empty: what stands before it is a string, and where its units stand its bytes stand
+  -- of a text that isn't empty: what comes before it is a string, and where its units occur, its bytes occur
   pub before_text : (p x y : List ℕ) → IsUtf8 p → 0 < length p → well_formed (x ++ (p ++ y)) → well_formed x
   pub units_stand : (p s us vs : List ℕ) → IsUtf8 p → 0 < length p → well_formed s → units s ≡ us ++ (units p ++ vs) → IsCutAround well_formed units p s us
-  -- some string has the units of two strings joined, and some string those that stand behind the units of a front
+  -- some string has the units of two strings joined; if the units of a string begin with those of another, some string has the units that follow
   pub some_join : (x y : List ℕ) → well_formed x → well_formed y → (w : List ℕ) × (well_formed w × (units w ≡ units x ++ units y))
   pub some_rest : (x s us : List ℕ) → well_formed x → well_formed s → units s ≡ units x ++ us → (y : List ℕ) × (well_formed y × (units y ≡ us))

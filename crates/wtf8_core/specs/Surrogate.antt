@@ -1,4 +1,4 @@
--- Surrogates: the code points that pairs of 16-bit units are made of (RFC 2781, section 2), and so no scalar values; a WTF-8 string may hold lone ones.
+-- Surrogates: the code points that pairs of 16-bit units are made of (RFC 2781, section 2). They aren't scalar values; a WTF-8 string may have lone ones.
 use Rattle.std.specs.Prelude.{ℕ, ◌+◌, ◌-◌, ◌*◌, ◌/◌, ◌%◌, ◌&&◌, Bool}
 use Rattle.std.specs.Int.{IsInRange, is_in_range}
 
@@ -26,7 +26,7 @@ is_low c = is_in_range 0xDC00 0xDFFF c
 abbrev pub is_surrogate : ℕ → Bool
 is_surrogate c = is_in_range 0xD800 0xDFFF c
 
--- whether a high unit and then a low one stand here (RFC 2781, section 2.2)
+-- whether two units are a pair, a high one and then a low one (RFC 2781, section 2.2)
 abbrev pub is_pair : ℕ → ℕ → Bool
 is_pair u v = is_high u && is_low v
 

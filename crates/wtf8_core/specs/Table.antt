@@ -1,4 +1,4 @@
--- The table of the check, by the states and the classes that it is made of. Only private contracts name these.
+-- The table by which bytes are checked, and the order of its states and classes. Only private contracts name these.
 use Rattle.std.specs.Prelude.{ℕ, [], slice_index_or}
 use Rattle.wtf8_core.specs.declared.table.TheConstants.{CLASSES, NEXT}
 use Rattle.wtf8_core.specs.declared.table.State.{State}
@@ -6,7 +6,7 @@ use Rattle.wtf8_core.specs.declared.table.State.TheVariants.{Between, BehindHigh
 use Rattle.wtf8_core.specs.declared.table.Class.{Class}
 use Rattle.wtf8_core.specs.declared.table.Class.TheVariants.{Ascii, Low80, Low90, LowA0, LowB0, Stray, LeadC2, LeadE0, LeadE1, LeadEd, LeadEe, LeadF0, LeadF1, LeadF4, LeadF5}
 
--- the place of a state in the table
+-- the index of a state in the table
 abbrev pub state_index : State → ℕ
 state_index Between = 0
 state_index BehindHigh = 1
@@ -25,7 +25,7 @@ state_index BadFourth = 13
 state_index Refused = 14
 state_index BadThird = 15
 
--- the place of a class in a row of the table
+-- the index of a class in a row of the table
 abbrev pub class_index : Class → ℕ
 class_index Ascii = 0
 class_index Low80 = 1
@@ -47,6 +47,6 @@ class_index LeadF5 = 14
 unfoldable pub class_at : ℕ → Class
 class_at byte = slice_index_or CLASSES byte Ascii
 
--- the state behind a byte of a class
+-- the state after a byte of a class
 unfoldable pub next_at : State → Class → State
 next_at state class = slice_index_or (slice_index_or NEXT (state_index state) []) (class_index class) Between

@@ -1,8 +1,8 @@
--- The byte places of unit places, for any rule of what is well formed and any units of bytes (this project's own).
+-- The byte indices of unit indices, for any rule of which bytes are well formed and any units of bytes (this project's own).
 use Rattle.std.specs.Prelude.{◌≡◌, ℕ, List, ◌++◌, length, Option, MatchOption}
 use Rattle.wtf8_core.specs.Standing.{StandsNowhere}
 
--- j is the byte place of unit place i in s: the well-formed byte front that has i units has j bytes
+-- j is the byte index of unit index i in s: the well-formed prefix of s that has i units has j bytes
 pub record IsBytePlace (well_formed : List ℕ → Type 0) (units : List ℕ → List ℕ) (s : List ℕ) (i j : ℕ) : Type 0 where
   pub front : List ℕ
   pub rest : List ℕ
@@ -11,12 +11,12 @@ pub record IsBytePlace (well_formed : List ℕ → Type 0) (units : List ℕ →
   pub many : length (units front) ≡ i
   pub place : length front ≡ j
 
--- j is the byte place of the place that Is names among those of the units of p in the units of s
+-- Is names an index of the units of p in the units of s, and j is the byte index of it
 pub record IsUnitPlaceOf (Is : List ℕ → List ℕ → ℕ → Type 0) (well_formed : List ℕ → Type 0) (units : List ℕ → List ℕ) (p s : List ℕ) (j : ℕ) : Type 0 where
   pub unit_place : ℕ
   pub is : Is (units p) (units s) unit_place
   pub byte_place : IsBytePlace well_formed units s unit_place j
 
--- r is the byte place of that place, None where the units of p stand nowhere in the units of s
+-- r is that byte index, None if the units of p don't occur in the units of s
 abbrev pub FindsInUnits : (List ℕ → List ℕ → ℕ → Type 0) → (List ℕ → Type 0) → (List ℕ → List ℕ) → List ℕ → List ℕ → Option ℕ → Type 0
 FindsInUnits Is well_formed units p s r = MatchOption r (StandsNowhere (units p) (units s)) (λ j. IsUnitPlaceOf Is well_formed units p s j)

@@ -1,4 +1,4 @@
--- Functions behind relations: the code points, the units and the lossy text of bytes. `laws::functions` ties each to its relation.
+-- The code points, the units and the lossy text of bytes as functions. `laws::functions` says which relation each of them meets.
 use Rattle.std.specs.Prelude.{ℕ, false, List, [], ◌∷◌, map, Result, Ok, Err}
 use Rattle.std.specs.List.{flat_map}
 use Rattle.wtf8_core.specs.CodePoint.{form}

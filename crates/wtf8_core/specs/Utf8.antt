@@ -5,19 +5,19 @@ use Rattle.std.specs.Str.{IsValidUpTo}
 use Rattle.wtf8_core.specs.CodePoint.{form}
 use Rattle.wtf8_core.specs.Character.{WholeCharacter}
 
--- xs is a front of some character's form
+-- xs is a prefix of some character's form
 pub record IsFrontOfCharacter (xs : List ℕ) : Type 0 where
   pub char : ℕ
   pub scalar : IsScalar char
   pub rest : List ℕ
   pub is : form char ≡ xs ++ rest
 
--- xs is a front of some character's form, and not the whole form
+-- xs is a prefix of some character's form, and not the whole form
 pub record IsProperFront (xs : List ℕ) : Type 0 where
   pub front : IsFrontOfCharacter xs
   pub proper : 0 < length front.rest
 
--- k is the length of the longest front of r that is a front of some character, or 1 where that is empty; all of r is no proper front
+-- k is the length of the longest prefix of r with which some character's form begins, or 1 if that is empty; and r as a whole isn't a proper prefix of such a form
 pub record IsIllFormed (r : List ℕ) (k : ℕ) : Type 0 where
   pub closed : ¬ (IsProperFront r)
   pub some : 0 < k
@@ -25,20 +25,20 @@ pub record IsIllFormed (r : List ℕ) (k : ℕ) : Type 0 where
   pub front : 1 < k → IsFrontOfCharacter (take k r)
   pub longest : (m : ℕ) → k < m → m ≤ length r → ¬ (IsFrontOfCharacter (take m r))
 
--- the maximal ill-formed part at the front of r has n bytes, where no character begins r
+-- the maximal ill-formed part at the start of r has n bytes, where r begins with no character
 abbrev pub IsIllFormedPart : List ℕ → ℕ → Type 0
 IsIllFormedPart r n = (IsProperFront r × (n ≡ length r)) ⊎ IsIllFormed r n
 
--- behind the longest front that is UTF-8 the bytes end within a character, or an ill-formed part of some length begins
+-- after the longest prefix that is UTF-8 the bytes end within a character (None), or an ill-formed part of this length begins (Some)
 pub record IsUtf8Fault (bytes : List ℕ) (valid_up_to : ℕ) (error_len : Option ℕ) : Type 0 where
   pub valid : IsValidUpTo bytes valid_up_to
   pub part : MatchOption error_len (IsProperFront (drop valid_up_to bytes)) (IsIllFormed (drop valid_up_to bytes))
 
--- a whole character of so many bytes stands at the front, or an ill-formed part of so many
+-- the bytes begin with a whole character of this length (Ok), or with an ill-formed part of this length (Err)
 abbrev pub IsAtFront : List ℕ → Result ℕ ℕ → Type 0
 IsAtFront bytes first = MatchResult first (WholeCharacter bytes 0) (λ n. IsUtf8Fault bytes 0 (Some n))
 
--- the place behind the ill-formed part of a fault
+-- the index after the ill-formed part of a fault
 abbrev pub part_end : List ℕ → ℕ → Option ℕ → ℕ
 part_end bytes valid_up_to None = length bytes
 part_end bytes valid_up_to (Some k) = valid_up_to + k

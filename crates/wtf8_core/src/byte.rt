@@ -2,11 +2,11 @@
 ghost use Rattle.std.specs.Prelude.{◌≡◌, ◌↔◌, ◌≤◌, IsTrue};
 ghost use Rattle.wtf8_core.specs.Byte.{IsContinuation, needed_continuations};
 
-/// Whether a byte continues a sequence: whether it is one of 80 to BF (hexadecimal;
-/// `UTF8-tail` of RFC 3629, section 4).
+/// Whether a byte is a continuation byte: one of 80 to BF (hexadecimal; `UTF8-tail` of RFC 3629,
+/// section 4).
 ///
-/// Equivalent to `byte & 0xC0 == 0x80`: no character of a text starts at such a byte, so std's
-/// `str::is_char_boundary` is false there.
+/// Equivalent to `byte & 0xC0 == 0x80`. No character of a text starts at such a byte, so std's
+/// `str::is_char_boundary` is false at its index.
 ///
 /// ```
 /// use os_str_bytes::is_continuation;

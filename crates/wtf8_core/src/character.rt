@@ -1,4 +1,4 @@
-//! Whole characters of any bytes.
+//! Whole characters in any bytes.
 ghost use Rattle.std.specs.Prelude.{◌≡◌, IfSome};
 ghost use Rattle.std.specs.Int.{is_in_range};
 ghost use Rattle.std.specs.Str.Lossy.{second_byte_min, second_byte_max};
@@ -9,16 +9,16 @@ use crate::byte::{is_continuation, needed_continuations};
 use crate::code_points::first_item;
 use crate::surrogate::is_surrogate;
 
-/// How many bytes the whole character has that starts at byte place `at`: one to four, or
-/// `None` where none starts there.
+/// The length in bytes, one to four, of the whole character that starts at index `at`, or `None` if
+/// none starts there.
 ///
-/// Of a text, at a place where `str::is_char_boundary` is true, it is equivalent to
+/// If the bytes are a text and `str::is_char_boundary` is true at that index, it is equivalent to
 /// `text[at..].chars().next().map(char::len_utf8)`.
 ///
-/// A whole character is the form of a scalar value (RFC 3629, section 3). So there is none at
-/// the form of a surrogate, at an overlong or cut off sequence, at a continuation, and none at
-/// the bytes' length or past it. The bytes around it are not asked: they may be any bytes. At
-/// both ends of a whole character a string may be cut, by the rule of std's
+/// A whole character is the form of a scalar value (RFC 3629, section 3). So none starts at the
+/// form of a surrogate, at an overlong or truncated sequence, at a continuation, or at an index
+/// that is the bytes' length or more. The bytes before and after it don't matter. A string may be
+/// cut at the start and at the end of a whole character, by the rule of std's
 /// `OsStr::slice_encoded_bytes`.
 ///
 /// ```
@@ -38,7 +38,7 @@ pub fn char_at(bytes: &[u8], at: usize) -> Option<usize>
     }
 }
 
-/// How many bytes the whole character has with which bytes begin.
+/// The length of the whole character with which the bytes begin.
 #[inline(always)]
 fn first_char(bytes: &[u8]) -> Option<usize>
     ensures { IsCharacterAt bytes.now 0 result }
@@ -50,7 +50,7 @@ fn first_char(bytes: &[u8]) -> Option<usize>
     }
 }
 
-/// The same by the reader of code points, which takes bytes that are fewer than four, too.
+/// The same, by the reader of code points, which also reads fewer than four bytes.
 fn char_in_short(bytes: &[u8]) -> Option<usize>
     ensures { IsCharacterAt bytes.now 0 result }
 {
@@ -72,8 +72,8 @@ fn char_in_short(bytes: &[u8]) -> Option<usize>
     }
 }
 
-/// How many bytes the character at the front has, or the maximal ill-formed part there, by the
-/// first four bytes; `None` where there are fewer.
+/// The length of the character at the start (`Ok`), or else of the maximal ill-formed part there
+/// (`Err`), by the first four bytes; `None` if there are fewer.
 #[inline(always)]
 pub(crate) fn char_or_fault_at_front(bytes: &[u8]) -> Option<Result<usize, u8>>
     ensures { IfSome result (IsAtFront bytes.now) }
@@ -110,7 +110,7 @@ pub(crate) fn char_or_fault_at_front(bytes: &[u8]) -> Option<Result<usize, u8>>
     }
 }
 
-/// Whether a byte begins characters of two to four bytes.
+/// Whether some character of two to four bytes begins with this byte.
 #[inline(always)]
 fn is_lead(byte: u8) -> bool
     ensures { result ≡ is_in_range 0xC2 0xF4 byte }
@@ -118,8 +118,9 @@ fn is_lead(byte: u8) -> bool
     (0xC2..=0xF4).contains(&byte)
 }
 
-/// Whether a byte stands behind such a lead in some character (the table of RFC 3629, section 4).
-/// By leads of three bytes and of four apart, it stays comparisons, and becomes no table of jumps.
+/// Whether some character has this byte directly after such a lead (the table of RFC 3629, section
+/// 4). Three-byte and four-byte leads are matched separately, so that the compiler emits
+/// comparisons and no jump table.
 #[inline(always)]
 fn is_second(lead: u8, byte: u8) -> bool
     ensures { result ≡ is_in_range (second_byte_min lead) (second_byte_max lead) byte }

@@ -1,4 +1,4 @@
-//! The check of bytes that come in pieces.
+//! Checking bytes that arrive in pieces.
 ghost use Rattle.std.specs.Prelude.{◌≡◌, ℕ, ◌∷◌, ◌++◌, List, [], MatchResult};
 ghost use Rattle.wtf8_core.specs.Checker.{Stands, StandsFor, IsFaulty, OnlyEnds, HasFirstFault, joined_bits, fault_at, is_between, is_plain};
 ghost use Rattle.wtf8_core.specs.Wtf8.{IsWtf8};
@@ -11,14 +11,15 @@ use crate::scan::fronts::{front_of, is_behind_high};
 use crate::table::{State, class_at, next_at};
 use std::marker::Model;
 
-/// Whether bytes that come in pieces are WTF-8, or their first fault.
+/// Checks whether bytes that arrive in pieces are WTF-8, and finds their first fault if not.
 ///
-/// It asks a table byte by byte, and where no sequence is open goes over many bytes at once by
-/// vectors. It holds a few numbers and takes no memory. Its answers are those
-/// for the pieces joined: [`feed`](Checker::feed) names their first fault as soon as it is there,
-/// and [`finish`](Checker::finish) says whether they may end there.
+/// It looks up the bytes in a table one by one; where no sequence is open, it reads many bytes at
+/// once with vectors. It holds a few numbers and doesn't allocate. Its answers are those for the
+/// pieces joined: [`feed`](Checker::feed) returns their first fault as soon as no later byte can
+/// change it; [`finish`](Checker::finish) also reports that they end within a sequence, and returns
+/// `Ok` exactly for WTF-8.
 ///
-/// Fed whole, it finds the first `Err` of [`CodePoints`](crate::CodePoints).
+/// Its fault is the first `Err` of [`CodePoints`](crate::CodePoints) over the joined bytes.
 #[derive(Drop)]
 pub struct Checker {
     state: State,
@@ -35,8 +36,7 @@ impl Model for Checker {
 }
 
 impl Checker {
-    /// A checker to which nothing was fed: what it stands for is the empty list of bytes, which is
-    /// WTF-8.
+    /// A checker that has read no bytes yet. The empty list of bytes is WTF-8.
     ///
     /// ```
     /// use os_str_bytes::Checker;
@@ -53,12 +53,13 @@ impl Checker {
         }
     }
 
-    /// One more piece, of any length: `Err` where the bytes fed so far, joined, have a fault that no
-    /// byte behind them changes.
+    /// Reads one more piece, of any length. Returns `Err` if the bytes fed so far, joined, this
+    /// piece included, have a fault that no later byte can change.
     ///
-    /// The fault is the first one of the bytes joined. A sequence that the piece cuts off is no
-    /// fault yet, since the next one may go on with it: `EncodingError::End` comes from
-    /// [`finish`](Checker::finish) alone. Behind an `Err` every later call answers the same one.
+    /// The fault is the first one of the joined bytes. A sequence that is cut off at the end of the
+    /// piece is no fault yet, since the next piece may continue it: only
+    /// [`finish`](Checker::finish) returns `EncodingError::End`. After an `Err` every later call
+    /// returns the same one.
     ///
     /// ```
     /// use os_str_bytes::{Checker, EncodingError};
@@ -91,9 +92,9 @@ impl Checker {
         }
     }
 
-    /// Whether all the bytes that were fed, joined, are WTF-8, or their first fault.
+    /// Returns `Ok` if all the bytes that were fed, joined, are WTF-8, and else their first fault.
     ///
-    /// It is `EncodingError::End` where they end within a sequence.
+    /// If the only fault is that they end within a sequence, it is `EncodingError::End`.
     ///
     /// ```
     /// use os_str_bytes::{Checker, EncodingError};
@@ -116,7 +117,7 @@ impl Checker {
     }
 }
 
-/// The low six bits of a byte behind the low 26 of the bits.
+/// The low 26 of the bits, followed by the low six bits of a byte.
 #[inline(always)]
 fn joined_bits(bits: u32, byte: u8) -> u32
     ensures { result ≡ joined_bits bits byte }
@@ -124,7 +125,7 @@ fn joined_bits(bits: u32, byte: u8) -> u32
     bits % 0x400_0000 * 0x40 + u32::from(byte % 0x40)
 }
 
-/// The fault of a byte behind which there is no state.
+/// The fault of a byte that the table refuses in this state.
 #[cold]
 fn fault_at(state: State, bits: u32, byte: u8) -> EncodingError
     ensures { result ≡ fault_at state bits byte }
@@ -147,7 +148,7 @@ fn is_between(state: State) -> bool
     matches!(state, State::Between | State::BehindHigh)
 }
 
-/// Whether no sequence is open and no high surrogate stands directly before.
+/// Whether no sequence is open and no high surrogate comes directly before.
 #[inline(always)]
 fn is_plain(state: State) -> bool
     ensures { result ≡ is_plain state }
@@ -155,7 +156,7 @@ fn is_plain(state: State) -> bool
     matches!(state, State::Between)
 }
 
-/// The state and the bits behind one more byte, or its fault.
+/// The state and the bits after one more byte, or its fault.
 #[inline(always)]
 fn read_byte(state: State, bits: u32, byte: u8) -> Result<(State, u32), EncodingError>
     ensures { (fed : List ℕ) → Stands state bits fed → MatchResult result (λ r. Stands r.0 r.1 (fed ++ byte ∷ [])) (λ fault. IsFaulty (fed ++ byte ∷ []) fault) }
@@ -168,7 +169,7 @@ fn read_byte(state: State, bits: u32, byte: u8) -> Result<(State, u32), Encoding
     Ok((next, joined))
 }
 
-/// The same behind more bytes, one by one.
+/// The same after more bytes, read one by one.
 #[inline(always)]
 fn read_bytes(state: State, bits: u32, bytes: &[u8]) -> Result<(State, u32), EncodingError>
     ensures { (fed : List ℕ) → Stands state bits fed → MatchResult result (λ r. Stands r.0 r.1 (fed ++ bytes.now)) (λ fault. IsFaulty (fed ++ bytes.now) fault) }
@@ -187,8 +188,8 @@ fn read_bytes(state: State, bits: u32, bytes: &[u8]) -> Result<(State, u32), Enc
     Ok((state, bits))
 }
 
-/// The same where no sequence is open and no high surrogate stands directly before: a front that
-/// is WTF-8 is gone over at once.
+/// The same where no sequence is open and no high surrogate comes directly before: a prefix that is
+/// WTF-8 is read with vectors.
 #[inline(always)]
 fn read_between(bits: u32, bytes: &[u8]) -> Result<(State, u32), EncodingError>
     ensures { (fed : List ℕ) → Stands Between bits fed → MatchResult result (λ r. Stands r.0 r.1 (fed ++ bytes.now)) (λ fault. IsFaulty (fed ++ bytes.now) fault) }
@@ -202,7 +203,7 @@ fn read_between(bits: u32, bytes: &[u8]) -> Result<(State, u32), EncodingError>
     }
 }
 
-/// The same wherever the bytes begin.
+/// The same from any state.
 fn read_piece(state: State, bits: u32, piece: &[u8]) -> Result<(State, u32), EncodingError>
     ensures { (fed : List ℕ) → Stands state bits fed → MatchResult result (λ r. Stands r.0 r.1 (fed ++ piece.now)) (λ fault. IsFaulty (fed ++ piece.now) fault) }
 {

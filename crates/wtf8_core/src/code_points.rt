@@ -11,19 +11,19 @@ use crate::fault::EncodingError;
 use crate::surrogate::{is_high, is_low};
 use std::marker::Model;
 
-/// The code points that bytes spell, and their faults.
+/// An iterator over the code points that bytes spell, and over the faults of the bytes.
 ///
-/// Bytes spell code points by WTF-8: they are the forms of the code points one after the other
-/// (RFC 3629, section 3, and for surrogates the same rule), where the form of a high surrogate
-/// is never directly followed by that of a low one. Where they spell none, the first `Err` is their
-/// first fault, and the items before it are the code points that stand before it. The faults are
+/// Bytes spell code points as in WTF-8: they are the forms of the code points, one after the other
+/// (RFC 3629, section 3, and for surrogates the same rule), and the form of a high surrogate is
+/// never directly followed by that of a low one. If the bytes aren't WTF-8, the first `Err` is
+/// their first fault, and the items before it are the code points before that fault. The faults are
 /// `Byte`, `CodePoint` and `End` of [`EncodingError`].
 ///
-/// Behind a fault the items are those of the bytes behind the refused part, as if nothing stood
-/// before them ([`wtf8_fault`](crate::wtf8_fault) says how many bytes are refused). Behind the last
-/// byte each answer is `None`. It takes no memory.
+/// After a fault the items are those of the bytes after the refused part, as if nothing came before
+/// them ([`wtf8_fault`](crate::wtf8_fault) says how many bytes are refused). After the last byte
+/// `next` always returns `None`. It doesn't allocate.
 ///
-/// Of UTF-8 the code points are those of std's `str::chars`. os_str_bytes 7.2.1 has it as the
+/// For UTF-8 the code points are those of std's `str::chars`. In os_str_bytes 7.2.1 it is the
 /// private `CodePoints`, over any iterator of bytes.
 ///
 /// The items of ED A0 80 C0 ED B0 80 (hexadecimal) are `Ok(0xD800)`,
@@ -46,7 +46,7 @@ impl<'a> Model for CodePoints<'a> {
 }
 
 impl<'a> CodePoints<'a> {
-    /// The items of any bytes: all are `Ok` exactly where the bytes are WTF-8.
+    /// Iterates over any bytes. All items are `Ok` exactly if the bytes are WTF-8.
     ///
     /// ```
     /// use os_str_bytes::{CodePoints, EncodingError};
@@ -84,7 +84,8 @@ impl<'a> Iterator for CodePoints<'a> {
     }
 }
 
-/// The first item of bytes that aren't empty, and the state behind it.
+/// The first item of bytes, whether it is a high surrogate, and the bytes after it; `None` if the
+/// bytes are empty.
 #[tactic(auto, using(crate::proofs::lemmas::reader::Reading::reading))]
 #[inline(always)]
 pub(crate) fn next_item(
@@ -106,9 +107,9 @@ pub(crate) fn next_item(
     }
 }
 
-/// The bytes behind the part that is refused where `first`, with those behind it, begins no code
-/// point: behind a lead its continuations belong to that part, as many as there are up to the
-/// number that it needs.
+/// The bytes after the part that is refused if `first` and the bytes after it begin no code point.
+/// That part is `first` and, if it is a lead, the continuations that follow it, at most as many as
+/// it needs.
 #[tactic(auto, unfolding(crate::specs::Reader::behind_item))]
 #[inline(always)]
 fn behind_refused(first: u8, behind: &[u8]) -> &[u8]
@@ -120,7 +121,7 @@ fn behind_refused(first: u8, behind: &[u8]) -> &[u8]
     behind_continuations(needed_continuations(first), behind)
 }
 
-/// The bytes behind the continuations at the front, `limit` of them at most.
+/// The bytes after the continuations at the start, at most `limit` of them.
 #[tactic(auto, using(crate::proofs::lemmas::reader::Reading::counting))]
 fn behind_continuations(limit: u8, bytes: &[u8]) -> &[u8]
     ensures { result.now ≡ drop (continuations limit bytes.now) bytes.now }
@@ -137,8 +138,8 @@ fn behind_continuations(limit: u8, bytes: &[u8]) -> &[u8]
     behind_continuations(limit - 1, rest)
 }
 
-/// The code point with which `first` and the bytes behind it begin, whether it is a high
-/// surrogate, and the bytes behind it; or the fault with which they begin.
+/// The code point with which `first` and the bytes after it begin, whether it is a high surrogate,
+/// and the bytes after its form; or the fault with which they begin.
 #[tactic(auto, unfolding(crate::specs::Reader::first_item, crate::specs::Reader::and_then_checked, crate::specs::Reader::checked_value))]
 #[inline(always)]
 fn split_item(
@@ -172,7 +173,7 @@ fn split_item(
     }
 }
 
-/// The code point or the fault with which `first` and the bytes behind it begin.
+/// The code point or the fault with which `first` and the bytes after it begin.
 #[tactic(auto, unfolding(crate::specs::Reader::first_item))]
 #[inline(always)]
 pub(crate) fn first_item(after_high: bool, first: u8, behind: &[u8]) -> Result<u32, EncodingError>
@@ -185,7 +186,7 @@ pub(crate) fn first_item(after_high: bool, first: u8, behind: &[u8]) -> Result<u
     Ok(code_point)
 }
 
-/// The low bits of the continuation with which the bytes begin, and the bytes behind it.
+/// The low bits of the continuation with which the bytes begin, and the bytes after it.
 #[tactic(auto, unfolding(crate::specs::Reader::with_continuations))]
 #[inline(always)]
 fn first_continuation(bytes: &[u8]) -> Result<(u32, &[u8]), EncodingError>
@@ -204,7 +205,7 @@ fn first_continuation(bytes: &[u8]) -> Result<(u32, &[u8]), EncodingError>
     Ok((u32::from(*first % 0x40), rest))
 }
 
-/// The value with the bits of one continuation joined to it, and the bytes behind that.
+/// The value with the bits of one continuation appended, and the bytes after that continuation.
 #[tactic(auto, using(crate::proofs::lemmas::reader::Reading::reading))]
 #[inline(always)]
 fn with_one(value: u32, bytes: &[u8]) -> Result<(u32, &[u8]), EncodingError>
@@ -219,7 +220,7 @@ fn with_one(value: u32, bytes: &[u8]) -> Result<(u32, &[u8]), EncodingError>
     Ok((value * 0x40 + bits, rest))
 }
 
-/// The value with the bits of two continuations joined to it, and the bytes behind them.
+/// The value with the bits of two continuations appended, and the bytes after them.
 #[tactic(auto, using(crate::proofs::lemmas::reader::Reading::reading))]
 #[inline(always)]
 fn with_two(value: u32, bytes: &[u8]) -> Result<(u32, &[u8]), EncodingError>
@@ -234,7 +235,7 @@ fn with_two(value: u32, bytes: &[u8]) -> Result<(u32, &[u8]), EncodingError>
     with_one(value * 0x40 + bits, rest)
 }
 
-/// The value with the bits of three continuations joined to it, and the bytes behind them.
+/// The value with the bits of three continuations appended, and the bytes after them.
 #[tactic(auto, using(crate::proofs::lemmas::reader::Reading::reading))]
 #[inline(always)]
 fn with_three(value: u32, bytes: &[u8]) -> Result<(u32, &[u8]), EncodingError>

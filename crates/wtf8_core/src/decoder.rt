@@ -1,4 +1,4 @@
-//! The bytes of units.
+//! From 16-bit units to bytes.
 ghost use Rattle.std.specs.Prelude.{◌≡◌, ◌∷◌, ◌<◌, ◌^◌, [], ℕ, IfSome, MatchOption};
 ghost use Rattle.std.specs.Iterator.{YieldsFirst, item_count};
 ghost use Rattle.wtf8_core.specs.CodePoint.{IsCodePoint};
@@ -9,21 +9,22 @@ use crate::forms::split_form;
 use crate::surrogate::{is_pair, paired};
 use std::marker::Model;
 
-/// The bytes that spell 16-bit units: the one WTF-8 list of bytes with these units.
+/// An iterator over the bytes of 16-bit units: the only WTF-8 bytes with these units.
 ///
-/// A high unit and a low one directly behind it are one code point of four bytes (RFC 2781,
-/// section 2.2); every other unit is a code point of its own, a half that stands alone too (WTF-8).
-/// Behind the last byte each answer is `None`. It takes no memory.
+/// A high surrogate directly followed by a low one is a pair, which is one code point of four bytes
+/// (RFC 2781, section 2.2). Every other unit is a code point of its own, also a lone surrogate
+/// (WTF-8). After the last byte `next` always returns `None`. It doesn't allocate.
 ///
-/// They are the bytes of the string that `std::os::windows::ffi::OsStringExt::from_wide` makes;
-/// where no half stands alone, those of the text that `String::from_utf16` makes. os_str_bytes
-/// 7.2.1 has it as the private `DecodeWide`, over any iterator of units.
+/// These are the bytes of the string that `std::os::windows::ffi::OsStringExt::from_wide` returns;
+/// if there is no lone surrogate, they are those of the text that `String::from_utf16` returns. In
+/// os_str_bytes 7.2.1 it is the private `DecodeWide`, over any iterator of units.
 ///
 /// The bytes of D83D, D83D, DE00 (hexadecimal) are ED A0 BD F0 9F 98 80.
 #[derive(Drop)]
 pub struct DecodeWide<'a> {
     rest: &'a [u16],
-    // The bytes of a form that are still to come, the next one lowest; 0 where none is.
+    // The bytes of a form that are still to come, the next one in the lowest bits; 0 if there are
+    // none.
     pending: u32,
 }
 
@@ -40,7 +41,7 @@ impl<'a> Model for DecodeWide<'a> {
 }
 
 impl<'a> DecodeWide<'a> {
-    /// The bytes of any units.
+    /// Iterates over the bytes of any units.
     ///
     /// ```
     /// use os_str_bytes::DecodeWide;
@@ -61,7 +62,7 @@ impl<'a> DecodeWide<'a> {
     }
 }
 
-/// The first code point of units, and the units behind it.
+/// The first code point of units, and the units after it.
 #[tactic(auto, unfolding(crate::specs::Decoder::code_points_of))]
 #[inline(always)]
 fn first_code_point(units: &[u16]) -> Option<(u32, &[u16])>
@@ -77,7 +78,8 @@ fn first_code_point(units: &[u16]) -> Option<(u32, &[u16])>
     Some((u32::from(*first), rest))
 }
 
-/// The first byte of units, the others of its form in one number, and the units behind it.
+/// The first byte of units, the other bytes of its form packed into a number, and the units after
+/// that code point.
 #[tactic(auto, using(crate::proofs::lemmas::units::OneToOne::bytes_none, crate::proofs::lemmas::units::OneToOne::bytes_ascii))]
 #[inline(always)]
 fn next_bytes(units: &[u16]) -> Option<(u8, u32, &[u16])>

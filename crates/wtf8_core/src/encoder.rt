@@ -1,4 +1,4 @@
-//! The units of bytes.
+//! From bytes to 16-bit units.
 ghost use Rattle.std.specs.Prelude.{◌≡◌, ◌∷◌};
 ghost use Rattle.std.specs.Iterator.{YieldsFirst, item_count};
 ghost use Rattle.wtf8_core.specs.Items.{AreUnitItems, unit_items};
@@ -9,11 +9,12 @@ use crate::fault::EncodingError;
 use crate::surrogate::pair_units;
 use std::marker::Model;
 
-/// The 16-bit units of the code points that bytes spell, and their faults.
+/// An iterator over the 16-bit units of the code points that bytes spell, and over the faults of
+/// the bytes.
 ///
-/// [`encode_wide`] makes it. Behind a fault the items are those of the bytes behind the refused
-/// part; behind the last byte each answer is `None`. os_str_bytes 7.2.1 has it as the private
-/// `EncodeWide`, over any iterator of bytes.
+/// It is returned by [`encode_wide`]. After a fault the items are those of the bytes after the
+/// refused part; after the last byte `next` always returns `None`. In os_str_bytes 7.2.1 it is the
+/// private `EncodeWide`, over any iterator of bytes.
 #[derive(Drop)]
 pub struct EncodeWide<'a> {
     code_points: CodePoints<'a>,
@@ -34,15 +35,15 @@ impl<'a> Model for EncodeWide<'a> {
     ghost invariant = { λ it. AllByRecursion IsCodePointItem it.code_points };
 }
 
-/// The 16-bit units of bytes: those of the code points that the bytes spell as WTF-8 (RFC 2781,
-/// section 2.1), and their faults.
+/// Iterates over the 16-bit units of bytes: those of the code points that the bytes spell as WTF-8
+/// (RFC 2781, section 2.1), and over the faults of the bytes.
 ///
-/// A code point below 10000 (hexadecimal) is one unit, any other a pair. The items are those of
-/// [`CodePoints`], unit by unit, with the same faults. It takes no memory. The bytes that
-/// [`DecodeWide`](crate::DecodeWide) gives for units have exactly these units.
+/// A code point below 10000 (hexadecimal) is one unit, any other is a pair. The items are those of
+/// [`CodePoints`], unit by unit, with the same faults. It doesn't allocate. The bytes that
+/// [`DecodeWide`](crate::DecodeWide) makes of units have exactly these units.
 ///
-/// They are the units that `std::os::windows::ffi::OsStrExt::encode_wide` gives of the string
-/// with these bytes; of UTF-8, those of `str::encode_utf16`.
+/// These are the units that `std::os::windows::ffi::OsStrExt::encode_wide` gives for the string
+/// with these bytes; for UTF-8 they are those of `str::encode_utf16`.
 ///
 /// ```
 /// use os_str_bytes::{EncodingError, encode_wide};
@@ -63,7 +64,7 @@ pub fn encode_wide<'a>(bytes: &'a [u8]) -> EncodeWide<'a>
     }
 }
 
-/// The first unit of a code point and the one behind it, or the fault.
+/// The first unit of a code point, and the second one if it has two; or the fault.
 #[tactic(auto, unfolding(crate::specs::CodePoint::wide))]
 #[inline(always)]
 fn first_unit(item: Result<u32, EncodingError>) -> (Result<u16, EncodingError>, Option<u16>)

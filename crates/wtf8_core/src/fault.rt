@@ -7,25 +7,25 @@ ghost use Rattle.wtf8_core.specs.FaultText.{upper_hex, upper_hex_digit, code_poi
 use std::error::Error;
 use std::fmt;
 
-/// The first fault of bytes that are no string of a platform.
+/// The first fault of bytes that aren't a string of a platform.
 ///
 /// Bytes that aren't WTF-8 have one of the first three faults (RFC 3629, section 3, and WTF-8),
-/// bytes that aren't UTF-8 the last (RFC 3629, section 4). Where a sequence lacks a
-/// continuation, that is its fault, whatever its value would be. Its text says what it is and,
-/// for UTF-8, where; `{:>99}` writes what `{}` does. os_str_bytes 7.2.1 has it under the same name, with std's `Utf8Error` in
-/// the place of the fields of `Utf8`.
+/// bytes that aren't UTF-8 have the last (RFC 3629, section 4). If a sequence lacks a continuation,
+/// that is its fault, whatever its value would be. The text of a fault says what it is and, for
+/// UTF-8, where; `{:>99}` prints the same as `{}`. os_str_bytes 7.2.1 has the type under the same
+/// name, with std's `Utf8Error` in place of the fields of `Utf8`.
 ///
 /// The text of `CodePoint(0xDC00)` is `byte sequence is not representable in the platform
 /// encoding; error at code point U+DC00`.
 #[derive(Clone, Copy, Debug, PartialEq, Eq)]
 pub enum EncodingError {
-    /// A byte that can't stand where it stands: one of 80 to C1 where a code point should
-    /// begin, or one that is no continuation where a lead needs one more.
+    /// A byte that can't occur where it is: one of 80 to C1 where a code point should begin, or one
+    /// that isn't a continuation where a lead needs one more.
     ///
     /// C0 is `Byte(0xC0)`; E2 82 41 is `Byte(0x41)` (bytes in hexadecimal).
     Byte(u8),
-    /// The value, at most 3FFFFF, of a lead with all its continuations, where it is overlong,
-    /// is past 10FFFF, or is a low surrogate whose form stands directly behind a high one's.
+    /// The value, at most 3FFFFF, of a lead with all its continuations, if it is overlong, is past
+    /// 10FFFF, or is a low surrogate whose form comes directly after that of a high one.
     ///
     /// E0 80 80 is `CodePoint(0)`; ED A0 80 ED B0 80 is `CodePoint(0xDC00)`. F5 80 80 80 is
     /// `CodePoint(0x14_0000)`: that F5 to FF are leads whose four low bits count is this
@@ -35,15 +35,16 @@ pub enum EncodingError {
     ///
     /// E2 82 is `End`.
     End,
-    /// The bytes aren't UTF-8: what [`utf8_fault`](crate::utf8_fault) answers for them.
+    /// The bytes aren't UTF-8. The fields are what [`utf8_fault`](crate::utf8_fault) returns for
+    /// them.
     ///
     /// 61 E2 82 41 is `Utf8 { valid_up_to: 1, error_len: Some(2) }`, whose text is `invalid
     /// utf-8 sequence of 2 bytes from index 1`.
     Utf8 {
-        /// The length in bytes of the longest front that is UTF-8.
+        /// The length in bytes of the longest prefix that is UTF-8.
         valid_up_to: usize,
-        /// The length of the maximal ill-formed part behind it, one to three bytes, or `None`
-        /// where the bytes end within a character.
+        /// The length of the maximal ill-formed part after it, one to three bytes, or `None` if the
+        /// bytes end within a character.
         error_len: Option<u8>,
     },
 }
@@ -62,7 +63,7 @@ fn upper_hex_digit(digit: u32) -> char
     }
 }
 
-/// Writes the last `digits` digits of a number, whatever width is asked for.
+/// Writes the last `digits` hexadecimal digits of a number, whatever width the formatter has.
 fn write_upper_hex<W: fmt::Write>(value: u32, digits: u32, f: &mut fmt::Formatter<W>) -> fmt::Result
     ensures { WritesStyledOnOk W.write_str_gives f.old result (upper_hex digits value) f.new }
 {
@@ -73,7 +74,7 @@ fn write_upper_hex<W: fmt::Write>(value: u32, digits: u32, f: &mut fmt::Formatte
     f.write_char(upper_hex_digit(value % 16))
 }
 
-/// Writes the decimal digits of a number, whatever width is asked for.
+/// Writes the decimal digits of a number, whatever width the formatter has.
 fn write_decimal<W: fmt::Write>(value: usize, f: &mut fmt::Formatter<W>) -> fmt::Result
     ensures { WritesStyledOnOk W.write_str_gives f.old result (decimal value) f.new }
 {
@@ -84,7 +85,7 @@ fn write_decimal<W: fmt::Write>(value: usize, f: &mut fmt::Formatter<W>) -> fmt:
     f.write_char(char::from(b'0' + (value % 10) as u8))
 }
 
-/// How many digits are written of a code point.
+/// How many digits of a code point are written.
 fn code_point_digits(value: u32) -> u32
     ensures { result ≡ code_point_digits value }
 {
@@ -140,8 +141,8 @@ impl fmt::Display for EncodingError {
 
 impl Error for EncodingError {}
 
-/// The fault of bytes that aren't UTF-8, of the two numbers that
-/// [`utf8_fault`](crate::utf8_fault) answers for them (own call).
+/// The fault of bytes that aren't UTF-8, made of the two numbers that
+/// [`utf8_fault`](crate::utf8_fault) returns for them (this project's own call).
 ///
 /// `EncodingError::from((1, None))` is `Utf8 { valid_up_to: 1, error_len: None }`.
 impl From<(usize, Option<u8>)> for EncodingError {

@@ -5,11 +5,12 @@ ghost use Rattle.wtf8_core.specs.Wtf8.{IsWtf8};
 ghost use Rattle.wtf8_core.specs.FirstForm.{BeginsForm};
 ghost use Rattle.wtf8_core.specs.Decoder.{packed_bytes};
 
-/// Writes the form of a code point over the bytes from index `at` on, and answers the index after
-/// it (RFC 3629, section 3; own call). The bytes before and after it stay. It takes no memory.
+/// Writes the form of a code point over the bytes from index `at` on, and returns the index after
+/// it (RFC 3629, section 3; this project's own call). The bytes before and after the form are
+/// unchanged. It doesn't allocate.
 ///
-/// Of a character it is `code_point.encode_utf8(&mut bytes[at..])` of std's `char`; a surrogate is
-/// written as generalized UTF-8 has it (WTF-8).
+/// For a scalar value it writes what std's `char::encode_utf8` writes to `&mut bytes[at..]`; a
+/// surrogate is written as in generalized UTF-8 (WTF-8).
 ///
 /// ```
 /// let mut bytes = [0; 5];
@@ -50,11 +51,11 @@ pub fn write_form(bytes: &mut [u8], at: usize, code_point: u32) -> usize
     at + 4
 }
 
-/// The code point with whose form a string of four bytes or more begins, and the bytes after that
-/// form (WTF-8; own call). The bytes have to be WTF-8 (test:
-/// [`wtf8_fault`](crate::wtf8_fault) is `None`).
+/// The first code point of a string of four bytes or more, and the bytes after its form (WTF-8;
+/// this project's own call). The bytes have to be WTF-8 (test: [`wtf8_fault`](crate::wtf8_fault) is
+/// `None`).
 ///
-/// Of a text it is `text.chars().next()`, with `chars.as_str()` after it.
+/// For a text these are `chars.next()` and then `chars.as_str()`, where `chars` is `text.chars()`.
 ///
 /// ```
 /// let (code_point, rest) = wtf8_core::first_form(b"\xC3\xA9abc");
@@ -72,7 +73,7 @@ pub fn first_form(bytes: &[u8]) -> (u32, &[u8])
     (code_point, rest)
 }
 
-/// The code point with whose form four bytes begin, and how many bytes that has.
+/// The code point with whose form four bytes begin, and the length of that form.
 #[inline(always)]
 fn leading(first: u8, second: u8, third: u8, fourth: u8) -> (u32, usize)
     ensures { (c : ℕ) (behind : List ℕ) → IsCodePoint c → form c ++ behind ≡ first ∷ second ∷ third ∷ fourth ∷ drop 4 (form c ++ behind)
@@ -93,7 +94,8 @@ fn leading(first: u8, second: u8, third: u8, fourth: u8) -> (u32, usize)
     (u32::from(first % 0x10) * 0x4_0000 + last, 4)
 }
 
-/// The first byte of a form, and those behind it in one number, the first of them lowest.
+/// The first byte of a form, and the others packed into a number, the first of them in the lowest
+/// bits.
 #[tactic(auto, unfolding(crate::specs::CodePoint::form))]
 #[inline(always)]
 pub(crate) fn split_form(code_point: u32) -> (u8, u32)

@@ -1,4 +1,4 @@
-//! Fronts, ends and joins of WTF-8 by units, where a half of a pair counts.
+//! Prefixes, suffixes and joins of WTF-8 by units, where half of a surrogate pair counts.
 ghost use Rattle.std.specs.Prelude.{◌≡◌, ◌∷◌, ◌++◌, ◌≤◌, ◌↔◌, ℕ, List, [], IsTrue, MatchOption};
 ghost use Rattle.wtf8_core.specs.Surrogate.{IsHigh, IsLow, IsSurrogate};
 ghost use Rattle.wtf8_core.specs.CodePoint.{form};
@@ -11,12 +11,12 @@ use crate::byte::is_continuation;
 use crate::encoder::encode_wide;
 use crate::surrogate::{is_high, is_low, paired};
 
-/// Whether the units of `front` are a front of those of `string`. Both are WTF-8 (test:
-/// [`CodePoints`](crate::CodePoints) answers no fault). It takes no memory.
+/// Whether the units of `string` start with those of `front`. Both have to be WTF-8 (test:
+/// [`CodePoints`](crate::CodePoints) gives no fault). It doesn't allocate.
 ///
-/// A half of a pair counts: the string of the units D83D, DE00 (hexadecimal; the bytes
-/// F0 9F 98 80) starts with that of D83D (ED A0 BD), although its bytes don't. It is the test
-/// of std's `str::starts_with`, by units (RFC 2781) in the place of characters.
+/// Half of a pair counts: the string of the units D83D, DE00 (hexadecimal; the bytes F0 9F 98 80)
+/// starts with that of D83D (ED A0 BD), although its bytes don't. It is the test of std's
+/// `str::starts_with`, on units (RFC 2781) instead of characters.
 ///
 /// ```
 /// use os_str_bytes::starts_with;
@@ -38,12 +38,12 @@ pub fn starts_with(string: &[u8], front: &[u8]) -> bool
     begins_with_unit(rest, high)
 }
 
-/// Whether the units of `end` are an end of those of `string`. Both are WTF-8 (test:
-/// [`CodePoints`](crate::CodePoints) answers no fault). It takes no memory.
+/// Whether the units of `string` end with those of `end`. Both have to be WTF-8 (test:
+/// [`CodePoints`](crate::CodePoints) gives no fault). It doesn't allocate.
 ///
-/// A half of a pair counts: the string of the units D83D, DE00 (hexadecimal; the bytes
-/// F0 9F 98 80) ends with that of DE00 (ED B8 80), although its bytes don't. It is the test of
-/// std's `str::ends_with`, by units (RFC 2781) in the place of characters.
+/// Half of a pair counts: the string of the units D83D, DE00 (hexadecimal; the bytes F0 9F 98 80)
+/// ends with that of DE00 (ED B8 80), although its bytes don't. It is the test of std's
+/// `str::ends_with`, on units (RFC 2781) instead of characters.
 ///
 /// ```
 /// use os_str_bytes::ends_with;
@@ -65,9 +65,9 @@ pub fn ends_with(string: &[u8], end: &[u8]) -> bool
     ends_with_low(rest, low)
 }
 
-/// The code point of the pair that arises where a second string is put behind a first: where
-/// the first ends with a high surrogate and the second begins with a low one (own call; WTF-8:
-/// concatenation). The strings may be any bytes. It takes no memory.
+/// The code point of the surrogate pair that arises if `more` is appended to `string`; `None`
+/// unless `string` ends with a high surrogate and `more` begins with a low one (this project's own
+/// call; WTF-8: concatenation). Both may be any bytes. It doesn't allocate.
 ///
 /// ```
 /// use os_str_bytes::pair_between;
@@ -88,7 +88,7 @@ pub fn pair_between(string: &[u8], more: &[u8]) -> Option<u32>
     Some(paired(high, low))
 }
 
-/// The surrogate whose form three bytes are.
+/// The surrogate whose form is these three bytes.
 #[tactic(auto, using(std::proofs::lemmas::Bool::Decides::nat_tests), unfolding(crate::specs::CodePoint::form))]
 fn surrogate(bytes: &[u8; 3]) -> Option<u16>
     ensures { MatchOption result ((c : ℕ) → IsSurrogate c → bytes.now ≡ form c → ⊥) (λ c. IsSurrogate c × (bytes.now ≡ form c)) }
@@ -100,7 +100,7 @@ fn surrogate(bytes: &[u8; 3]) -> Option<u16>
     None
 }
 
-/// The bytes before the surrogate with which bytes end, and that surrogate.
+/// Splits off the surrogate with which the bytes end: the bytes before it, and the surrogate.
 fn split_last_surrogate(string: &[u8]) -> Option<(&[u8], u16)>
     ensures { MatchOption result
         ((front : List ℕ) → (c : ℕ) → IsSurrogate c → string.now ≡ front ++ form c → ⊥)
@@ -115,7 +115,7 @@ fn split_last_surrogate(string: &[u8]) -> Option<(&[u8], u16)>
     Some((front, c))
 }
 
-/// The bytes before the high surrogate with which bytes end, and that surrogate.
+/// Splits off the high surrogate with which the bytes end: the bytes before it, and the surrogate.
 #[tactic(auto, using(std::proofs::lemmas::Bool::Decides::nat_tests))]
 fn split_last_high(string: &[u8]) -> Option<(&[u8], u16)>
     ensures { MatchOption result
@@ -132,7 +132,7 @@ fn split_last_high(string: &[u8]) -> Option<(&[u8], u16)>
     }
 }
 
-/// The low surrogate with which bytes begin, and the bytes behind it.
+/// Splits off the low surrogate with which the bytes begin: the surrogate, and the bytes after it.
 #[tactic(auto, using(std::proofs::lemmas::Bool::Decides::nat_tests))]
 fn split_first_low(string: &[u8]) -> Option<(u16, &[u8])>
     ensures { MatchOption result
@@ -164,7 +164,7 @@ fn begins_with_unit(string: &[u8], unit: u16) -> bool
     }
 }
 
-/// The low half of the pair with which a string ends.
+/// The low surrogate of the pair with which a string ends.
 fn last_half(string: &[u8]) -> Option<u16>
     requires { IsWtf8 string.now }
     ensures { MatchOption result

@@ -1,8 +1,8 @@
-//! What holds of the definitions: each law is the contract of a function that does nothing.
+//! Facts about the definitions. Each law is the contract of a function that does nothing.
 //!
-//! A caller that needs a law calls its function, as `laws::spelling()`, and so knows it. The
-//! laws speak of lists of numbers: bytes, code points (`cs`, `ds`), units (`us`, `vs`) and
-//! places, which are numbers of bytes.
+//! A caller that needs a law calls its function, for example `laws::spelling()`, which makes the
+//! law known there. The laws are about lists of numbers: bytes, code points (`cs`, `ds`) and units
+//! (`us`, `vs`). Indices count bytes.
 ghost use Rattle.std.specs.Prelude.{◌≡◌, ◌↔◌, ◌⊎◌, ◌+◌, ◌-◌, ◌<◌, ◌≤◌, ◌^◌, ◌++◌, length, take, drop, map, ℕ, List, Option, Result, IsTrue};
 ghost use Rattle.std.specs.List.{All};
 ghost use Rattle.std.specs.Char.{encode_utf8};
@@ -42,20 +42,20 @@ pub fn one_first_fault()
         → IsFirstFault bytes cs f → IsFirstFault bytes ds g → (cs ≡ ds) × (f ≡ g) }
 {}
 
-/// Bytes have at most one first fault at one place, with one number of bytes refused there: what
-/// [`wtf8_fault`](crate::wtf8_fault) answers.
+/// The index of the first fault of bytes and the number of bytes refused there are unique.
+/// [`wtf8_fault`](crate::wtf8_fault) returns them.
 pub fn one_fault_place()
     ensures { (bytes : List ℕ) → (n : ℕ) → (m : ℕ) → (k : ℕ) → (l : ℕ) → IsFaultAt bytes n k → IsFaultAt bytes m l → (n ≡ m) × (k ≡ l) }
 {}
 
-/// A fault that isn't that the bytes end is the same whatever bytes come next. So a
-/// [`Checker`] that answered a fault answers it for ever.
+/// A first fault other than `End` stays the first fault, whatever bytes come next. So a [`Checker`]
+/// that has returned a fault returns it forever.
 #[tactic(auto, using(crate::proofs::lemmas::table::Pieces::extends))]
 pub fn fault_stays()
     ensures { (bytes : List ℕ) → (more : List ℕ) → (f : EncodingError) → IsFaulty bytes f → IsFaulty (bytes ++ more) f }
 {}
 
-/// Faults are equal where they are one, with all their numbers.
+/// Two faults are `==` exactly if they are the same variant with the same numbers.
 pub fn fault_comparisons(a: &EncodingError, b: &EncodingError)
     ensures { IsTrue (⟦<EncodingError as PartialEq>⟧.eq a.now b.now) ↔ (a.now ≡ b.now) }
 {}
@@ -72,30 +72,31 @@ pub fn one_list_of_items()
     ensures { (bytes : List ℕ) → (xs : List (Result ℕ EncodingError)) → (ys : List (Result ℕ EncodingError)) → AreItems bytes xs → AreItems bytes ys → xs ≡ ys }
 {}
 
-/// The law of spelling: WTF-8 bytes with equal units are equal, each list of 16-bit units is
-/// that of some bytes, and bytes have at most one list of units.
+/// The law of spelling: WTF-8 bytes with equal units are equal, each list of 16-bit units is the
+/// units of some bytes, and bytes have at most one list of units.
 pub fn spelling()
     ensures units_once { (bytes : List ℕ) → (others : List ℕ) → (us : List ℕ) → HasUnits bytes us → HasUnits others us → bytes ≡ others }
     ensures units_spelled { (us : List ℕ) → All (λ u. u < 2 ^ 16) us → (bytes : List ℕ) × HasUnits bytes us }
     ensures one_list_of_units { (bytes : List ℕ) → (us : List ℕ) → (vs : List ℕ) → HasUnits bytes us → HasUnits bytes vs → us ≡ vs }
 {}
 
-/// The order of bytes as lists is that of the code points that they spell, and so not that of
-/// their units.
+/// The order of bytes, as lists, is the order of the code points that they spell, and so not that
+/// of their units.
 #[tactic(auto, using(crate::proofs::lemmas::forms::Order::order_of_spelled))]
 pub fn order()
     ensures { (bytes : List ℕ) → (others : List ℕ) → (cs : List ℕ) → (ds : List ℕ) → Spells bytes cs → Spells others ds
         → slice_cmp nat_cmp bytes others ≡ slice_cmp nat_cmp cs ds }
 {}
 
-/// The functions of the units and of the lossy text of WTF-8 bytes give what the relations say.
+/// On WTF-8 bytes the functions `units_of` and `wtf8_lossy` give what the relations `HasUnits` and
+/// `IsWtf8LossyText` say.
 pub fn functions()
     ensures units { (bytes : List ℕ) → (us : List ℕ) → HasUnits bytes us ↔ (IsWtf8 bytes × (us ≡ units_of bytes)) }
     ensures lossy { (bytes : List ℕ) → IsWtf8 bytes → IsWtf8LossyText bytes (wtf8_lossy bytes) }
 {}
 
-/// Each byte list has one lossy text by maximal ill-formed parts, which is that of std's
-/// `String::from_utf8_lossy`. It is UTF-8, and so is the lossy text of WTF-8 bytes.
+/// Any bytes have exactly one lossy text, with a U+FFFD for each maximal ill-formed part: that of
+/// std's `String::from_utf8_lossy`. It is UTF-8, and so is the lossy text of WTF-8 bytes.
 pub fn lossy_text()
     ensures is_std { (bytes : List ℕ) → IsLossyText bytes (utf8_lossy bytes) }
     ensures only_std { (bytes : List ℕ) → (text : List ℕ) → IsLossyText bytes text → text ≡ utf8_lossy bytes }
@@ -103,8 +104,8 @@ pub fn lossy_text()
     ensures wtf8 { (bytes : List ℕ) → IsWtf8 bytes → IsUtf8 (wtf8_lossy bytes) }
 {}
 
-/// Each byte list has one lossy reading, which is WTF-8: the forms of its items joined, with that of
-/// FFFD (hexadecimal) for each fault. WTF-8 is its own.
+/// Any bytes have exactly one lossy reading, which is WTF-8: the forms of their items joined, with
+/// that of FFFD (hexadecimal) for each fault. WTF-8 bytes are their own lossy reading.
 pub fn lossy_reading()
     ensures some { (bytes : List ℕ) → All IsByte bytes → (reading : List ℕ) × IsLossyReading bytes reading }
     ensures one { (bytes : List ℕ) → (reading : List ℕ) → (other : List ℕ) → IsLossyReading bytes reading → IsLossyReading bytes other → reading ≡ other }
@@ -113,7 +114,7 @@ pub fn lossy_reading()
     ensures items { (bytes : List ℕ) → (items : List (Result ℕ EncodingError)) → AreItems bytes items → IsLossyReading bytes (lossy_forms items) }
 {}
 
-/// Bytes have at most one fault of UTF-8.
+/// Bytes have at most one UTF-8 fault.
 #[tactic(auto, using(crate::proofs::lemmas::texts::LossyTexts::one_utf8_fault))]
 pub fn one_utf8_fault()
     ensures { (bytes : List ℕ) → (n : ℕ) → (m : ℕ) → (l : Option ℕ) → (k : Option ℕ)
@@ -134,9 +135,9 @@ pub fn characters()
         → ((i ≡ a) × (j ≡ b)) ⊎ ((j ≤ a) ⊎ (b ≤ i)) }
 {}
 
-/// Where a text stands that isn't empty, both its edges are boundaries. Of two boundaries the
-/// first is one of the front up to the second, the second one of the rest from the first on.
-/// Of a text the boundaries are those of a `str` (std's `is_char_boundary`).
+/// Where a nonempty text occurs, its start and its end are boundaries. Of two boundaries, the first
+/// is also a boundary of the prefix that ends at the second, and the second is one of the rest that
+/// starts at the first. The boundaries of a text are those of a `str` (std's `is_char_boundary`).
 pub fn boundaries()
     ensures edges { (p : List ℕ) → (s : List ℕ) → (i : ℕ) → IsUtf8 p → 0 < length p → StandsAt p s i → IsBoundary s i × IsBoundary s (i + length p) }
     ensures in_front { (s : List ℕ) → (i : ℕ) → (j : ℕ) → i ≤ j → IsBoundary s i → IsBoundary s j → IsBoundary (take j s) i }
@@ -144,30 +145,30 @@ pub fn boundaries()
     ensures of_str { (s : List ℕ) → (i : ℕ) → IsUtf8 s → (IsBoundary s i ↔ IsCharBoundary s i) }
 {}
 
-/// The law of cuts: at a boundary both parts of WTF-8 bytes are WTF-8, and their units joined
-/// are those of the whole; of a text both parts are texts.
+/// The law of cuts: if WTF-8 bytes are cut at a boundary, both parts are WTF-8, and their units
+/// joined are those of the whole. If a text is cut at a boundary, both parts are texts.
 pub fn cuts()
     ensures parts { (bytes : List ℕ) → (i : ℕ) → IsWtf8 bytes → IsBoundary bytes i → IsWtf8 (take i bytes) × IsWtf8 (drop i bytes) }
     ensures units { (bytes : List ℕ) → (i : ℕ) → IsWtf8 bytes → IsBoundary bytes i → units_of bytes ≡ units_of (take i bytes) ++ units_of (drop i bytes) }
     ensures texts { (bytes : List ℕ) → (i : ℕ) → IsUtf8 bytes → IsBoundary bytes i → IsUtf8 (take i bytes) × IsUtf8 (drop i bytes) }
 {}
 
-/// Each whole character ends before the maximal ill-formed part of a fault, or starts behind it:
-/// none starts or ends strictly inside the part, and none lies across its edges.
+/// Each whole character ends before the maximal ill-formed part of a fault, or starts after it:
+/// none starts or ends strictly inside the part, and none extends across its start or end.
 pub fn ill_formed_parts()
     ensures { (s : List ℕ) → (valid_up_to : ℕ) → (error_len : Option ℕ) → IsUtf8Fault s valid_up_to error_len
         → (i : ℕ) → (j : ℕ) → WholeCharacter s i j → (j ≤ valid_up_to) ⊎ (part_end s valid_up_to error_len ≤ i) }
 {}
 
-/// The laws of standing and of joins: a text that isn't empty stands in WTF-8 bytes exactly where
-/// its units stand in their units, and what stands before it or behind it is WTF-8 again; some
-/// WTF-8 bytes have the units of two joined.
+/// The laws of occurrences and of joins: a nonempty text occurs in WTF-8 bytes exactly where its
+/// units occur in their units, and what comes before it and after it is WTF-8 again. For any two
+/// strings there are WTF-8 bytes whose units are those of both, joined.
 pub fn standing()
     ensures { StandingLaws IsWtf8 units_of }
 {}
 
-/// A string has exactly one list of chunks. On WTF-8 its chunks are the bytes of the maximal
-/// runs of surrogates of the code points that it spells, each with the scalars behind it.
+/// A string has exactly one list of chunks. If it is WTF-8, its chunks are the bytes of the maximal
+/// runs of surrogates among the code points that it spells, each with the scalar values after it.
 pub fn chunks()
     ensures some { (s : List ℕ) → (chunks : List Chunk) × AreChunks s chunks }
     ensures once { (s : List ℕ) → (chunks : List Chunk) → (others : List Chunk) → AreChunks s chunks → AreChunks s others → chunks ≡ others }

@@ -1,19 +1,21 @@
-//! Bytes, code points and 16-bit units of Windows strings, kept as WTF-8.
+//! WTF-8, the encoding of Windows strings: bytes, code points and 16-bit code units.
 //!
-//! The crate knows no platform and takes no memory. It reads bytes as code points
-//! ([`CodePoints`]) and as units ([`encode_wide`]), spells units as bytes
-//! ([`DecodeWide`]), and names the first fault of bytes that spell nothing
-//! ([`EncodingError`]), also where they come in pieces ([`Checker`]). The module [`laws`] has what
-//! holds of the definitions.
+//! The crate depends on no platform and never allocates. It decodes bytes to code points
+//! ([`CodePoints`]) and to units ([`encode_wide`]), encodes units as bytes ([`DecodeWide`]), and
+//! finds the first fault of bytes that are ill-formed ([`EncodingError`]), also where they arrive
+//! in pieces ([`Checker`]). The module [`laws`] has the facts about the definitions that callers
+//! can use in proofs.
 //!
-//! Its words, beside those of the standards: a *unit* is a 16-bit code unit. A *form* is the
-//! bytes of one code point. A *scalar value* is a code point that is no surrogate, and a *whole
-//! character* its form. A *high* and a *low* surrogate are WTF-8's lead and trail surrogate. A
-//! *front* of a list is a prefix of it, an *end* a suffix. A *maximal ill-formed part* is a
-//! maximal subpart of an ill-formed subsequence (Unicode, section 3.9).
+//! Terms, besides those of the standards: a *unit* is a 16-bit code unit. A *form* is the bytes of
+//! one code point; bytes *spell* code points if they are their forms, one after the other. A
+//! *scalar value* is a code point that isn't a surrogate, and a *whole character* is the form of
+//! one. A *text* is bytes that are UTF-8. A *high* and a *low* surrogate are WTF-8's lead and trail
+//! surrogate. A *maximal ill-formed part* is a maximal subpart of an ill-formed subsequence
+//! (Unicode, section 3.9). In names, *front* and *end* mean a prefix and a suffix, *behind* means
+//! after, *stands* means occurs, and a *place* is an index.
 //!
-//! Sources: RFC 3629 for the forms of code points, RFC 2781 for their units, and the
-//! WTF-8 encoding for surrogates. All lengths and places are numbers of bytes.
+//! Sources: RFC 3629 for the forms of code points, RFC 2781 for their units, and the WTF-8 encoding
+//! for surrogates. All lengths and indices count bytes.
 #![tactic(auto)]
 
 mod byte;

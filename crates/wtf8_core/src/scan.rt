@@ -1,17 +1,17 @@
-//! Reading many bytes at once, by vectors: how long a front of bytes is UTF-8 or WTF-8.
+//! Reading many bytes at once with vectors: how long a prefix of bytes is UTF-8 or WTF-8.
 //!
-//! No contract of another crate names what stands here. The readers, in their order:
+//! No contract of another crate names anything in this module. The readers, in their order:
 //!
-//! 1. [`utf8_fault`](crate::utf8_fault) looks at the first [`STEP`] bytes: ASCII up to where?
-//! 2. Where all are ASCII it looks at the first [`BLOCK`], and goes on with 5 where those are, too.
-//! 3. From the first other byte on it reads up to three characters one by one.
-//! 4. Then up to eight steps ([`fronts::scan_steps`]), and then blocks.
-//! 5. [`fronts::scan_from`] tests blocks where they stand, each with the [`BEFORE`] bytes before it
-//!    ([`error_bits`]), and passes over blocks of ASCII without that test. The last bytes, fewer
-//!    than a block, are tested in a copy between zeros.
-//! 6. At the first byte that may not stand where it does, a front ends before the last byte that
-//!    is no continuation ([`fronts`]). After it characters are read one by one again, and at last
-//!    std's reader goes on.
+//! 1. [`utf8_fault`](crate::utf8_fault) finds how many of the first [`STEP`] bytes are ASCII.
+//! 2. If all are, it looks at the first [`BLOCK`] bytes, and continues with 5 if these are, too.
+//! 3. From the first byte that isn't ASCII it reads up to three characters one by one.
+//! 4. Then it reads up to eight steps ([`fronts::scan_steps`]), and then blocks.
+//! 5. [`fronts::scan_from`] tests blocks in place, each with the [`BEFORE`] bytes before it
+//!    ([`error_bits`]), and skips blocks of ASCII without that test. The last bytes, fewer than a
+//!    block, are tested in a copy with zeros before and after them.
+//! 6. At the first byte that isn't allowed after those before it, the prefix ends before the last
+//!    byte that isn't a continuation ([`fronts`]). After the prefix characters are read one by one
+//!    again, and finally std's reader continues.
 //!
 //! [`Checker`](crate::Checker) and [`wtf8_fault`](crate::wtf8_fault) use 5 and 6 for WTF-8, and then
 //! their table or the reader of code points.
@@ -20,20 +20,20 @@ pub(crate) mod error_bits;
 pub(crate) mod fronts;
 pub(crate) mod lanes;
 
-/// The bytes of a block.
+/// The length of a block in bytes.
 pub(crate) const BLOCK: usize = 64;
 
-/// The bytes of a step, which is shorter, for where a fault may be near.
+/// The length of a step in bytes. It is shorter than a block, for bytes where a fault may be near.
 pub(crate) const STEP: usize = 16;
 
 /// How many bytes before a block or a step its test looks at.
 pub(crate) const BEFORE: usize = 4;
 
-/// Which bytes are sought.
+/// The encoding that is looked for.
 #[derive(Clone, Copy)]
 pub(crate) enum Encoding {
     /// UTF-8 (RFC 3629).
     Utf8,
-    /// WTF-8, in which lone surrogates may stand.
+    /// WTF-8, in which lone surrogates may occur.
     Wtf8,
 }

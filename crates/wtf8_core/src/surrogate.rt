@@ -36,8 +36,8 @@ pub(crate) fn is_pair(high: u16, low: u16) -> bool
     is_high(u32::from(high)) && is_low(u32::from(low))
 }
 
-/// The units of a code point past FFFF (hexadecimal), the high one and the low one (RFC 2781,
-/// section 2.1; own call).
+/// The units of a code point past FFFF (hexadecimal), the high surrogate and the low one (RFC 2781,
+/// section 2.1; this project's own call).
 ///
 /// They are the two units of `char::encode_utf16`.
 ///
@@ -67,8 +67,8 @@ pub(crate) fn paired(high: u16, low: u16) -> u32
     0x1_0000 + u32::from(high - 0xD800) * 0x400 + u32::from(low - 0xDC00)
 }
 
-/// The code point of the pair with which units begin, and the units after the pair; `None` where
-/// they begin with no pair (RFC 2781, section 2.2; own call).
+/// The code point of the pair with which the units begin, and the units after the pair; `None` if
+/// they don't begin with a pair (RFC 2781, section 2.2; this project's own call).
 ///
 /// ```
 /// let first = wtf8_core::first_pair(&[0xD83D, 0xDE00, 0x41]);

@@ -1,49 +1,50 @@
-//! The table by which bytes are checked: what stands before a byte, which byte it is, and what
-//! stands behind it.
+//! The table by which bytes are checked: from the state before a byte and the class of the byte to
+//! the state after it.
 ghost use Rattle.std.specs.Prelude.{◌≡◌, ◌<◌};
 ghost use Rattle.wtf8_core.specs.Table.{state_index, class_index, class_at, next_at};
 
 use Class::*;
 use State::*;
 
-/// What stands between the last whole form and the next byte: nothing, or an open sequence.
+/// What there is between the last whole form and the next byte: nothing, or an open sequence.
 #[derive(Clone, Copy)]
 pub(crate) enum State {
     /// Nothing, and no high surrogate directly before.
     Between,
-    /// Nothing, directly behind a high surrogate.
+    /// Nothing, directly after a high surrogate.
     BehindHigh,
-    /// A sequence that any one continuation makes a form of no high surrogate.
+    /// A sequence that any one continuation completes to a form, not that of a high surrogate.
     OneMore,
-    /// A sequence that any two continuations make such a form.
+    /// A sequence that any two continuations complete to such a form.
     TwoMore,
-    /// E0, whose next continuations are overlong up to 9F.
+    /// E0, which is overlong if a continuation up to 9F comes next.
     BehindE0,
-    /// ED, whose next continuations make surrogates from A0 on.
+    /// ED, which becomes a surrogate if a continuation from A0 on comes next.
     BehindEd,
-    /// ED directly behind a high surrogate, where low ones are refused.
+    /// ED directly after a high surrogate, where low ones are refused.
     HighThenEd,
-    /// A sequence that any one continuation makes the form of a high surrogate.
+    /// A sequence that any one continuation completes to the form of a high surrogate.
     LastOfHigh,
-    /// F0, whose next continuations are overlong up to 8F.
+    /// F0, which is overlong if a continuation up to 8F comes next.
     BehindF0,
     /// F1 to F3.
     BehindF1,
-    /// F4, whose next continuations are past the last code point from 90 on.
+    /// F4, which is past the last code point if a continuation from 90 on comes next.
     BehindF4,
     /// F5 to FF, which begin no form.
     BehindF5,
-    /// A sequence that is refused once two continuations more have come.
+    /// A sequence that is refused after two more continuations.
     BadLastTwo,
-    /// A sequence of four bytes that is refused once the last one has come.
+    /// A sequence of four bytes that is refused after its last continuation.
     BadFourth,
     /// The byte was refused.
     Refused,
-    /// A sequence of three bytes that is refused once the last one has come.
+    /// A sequence of three bytes that is refused after its last continuation.
     BadThird,
 }
 
-/// Bytes that no state tells apart: from the byte that a class is named after up to the next.
+/// Bytes that no state tells apart: from the byte that the class is named after up to the next
+/// class.
 #[derive(Clone, Copy)]
 pub(crate) enum Class {
     Ascii,
@@ -63,7 +64,7 @@ pub(crate) enum Class {
     LeadF5,
 }
 
-/// The place of a state in the table.
+/// The index of a state in the table.
 #[inline(always)]
 fn state_index(state: State) -> usize
     ensures value { result ≡ state_index state }
@@ -72,7 +73,7 @@ fn state_index(state: State) -> usize
     state as usize
 }
 
-/// The place of a class in a row of the table.
+/// The index of a class in a row of the table.
 #[inline(always)]
 fn class_index(class: Class) -> usize
     ensures value { result ≡ class_index class }
@@ -89,7 +90,7 @@ pub(crate) fn class_at(byte: u8) -> Class
     CLASSES[byte as usize]
 }
 
-/// The state behind a byte of a class.
+/// The state after a byte of a class.
 #[inline(always)]
 pub(crate) fn next_at(state: State, class: Class) -> State
     ensures { result ≡ next_at state class }
@@ -122,8 +123,9 @@ static CLASSES: [Class; 256] = [
     LeadF5,
 ];
 
-/// The state behind a byte, by the state before it, which stands above its row, and by the byte's
-/// class, in the order of [`Class`]; the last column is no class's, and makes a row 16 long.
+/// The state after a byte. Its row is that of the state before the byte, named in the comment above
+/// the row; its column is that of the byte's class, in the order of [`Class`]. The last column
+/// belongs to no class, and makes a row 16 long.
 static NEXT: [[State; 16]; 16] = [
     // Between
     [

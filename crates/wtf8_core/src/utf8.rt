@@ -15,13 +15,13 @@ use crate::scan::{BLOCK, Encoding, STEP};
 /// Equivalent to `str::from_utf8(bytes).err()`: the two numbers are those that std's
 /// `Utf8Error` has as `valid_up_to` and `error_len`.
 ///
-/// The first is the length in bytes of the longest front that is UTF-8, and so the byte place
-/// of the fault. The second is the length of the maximal ill-formed part that begins there (a
-/// maximal subpart; Unicode, section 3.9), one to three bytes, or `None` where the bytes end
-/// within a character and might go on. That part is the longest front of the rest with which
-/// some character begins, and one byte where there is none.
+/// The first is the length in bytes of the longest prefix that is UTF-8, which is the index of the
+/// fault. The second is the length of the maximal ill-formed part that begins there (a maximal
+/// subpart; Unicode, section 3.9), one to three bytes, or `None` if the bytes end within a
+/// character that more bytes could complete. That part is the longest prefix of the remaining bytes
+/// with which some character begins, or one byte if there is none.
 ///
-/// It goes over most of a long text by vectors.
+/// It reads most of a long text with vectors.
 ///
 /// ```
 /// use os_str_bytes::utf8_fault;
@@ -50,8 +50,9 @@ pub fn utf8_fault(bytes: &[u8]) -> Option<(usize, Option<u8>)>
     }
 }
 
-/// How many of the first 16 bytes, or 64 where there are as many, are ASCII before one that isn't.
-/// In a loop over faults that stand close together, that is mostly one of the first 16.
+/// How many of the first 16 bytes, or of the first 64 if there are as many, are ASCII before the
+/// first that isn't. In a loop over faults that are close together, that is mostly one of the first
+/// 16.
 #[inline(always)]
 fn ascii_len(bytes: &[u8]) -> usize
     requires { 16 ≤ length bytes.now }
@@ -68,8 +69,8 @@ fn ascii_len(bytes: &[u8]) -> usize
     }
 }
 
-/// Where up to three characters behind a text end, or the fault among them. Where faults stand
-/// close together, a loop over them mostly needs nothing more.
+/// The index at which up to three characters after a text end, or the fault among them. If faults
+/// are close together, a loop over them mostly needs nothing more.
 #[inline(always)]
 fn after_three_characters(bytes: &[u8], from: usize) -> Result<usize, (usize, Option<u8>)>
     requires within { from ≤ length bytes.now }
@@ -91,7 +92,7 @@ fn after_three_characters(bytes: &[u8], from: usize) -> Result<usize, (usize, Op
     Ok(bytes.len() - rest.len())
 }
 
-/// The first fault of bytes whose first `at` are UTF-8, which isn't far in most of them.
+/// The first fault of bytes whose first `at` bytes are UTF-8, which is near in most of them.
 #[inline(always)]
 fn fault_by_steps(bytes: &[u8], at: usize) -> Option<(usize, Option<u8>)>
     requires within { at ≤ length bytes.now }
@@ -107,7 +108,7 @@ fn fault_by_steps(bytes: &[u8], at: usize) -> Option<(usize, Option<u8>)>
     }
 }
 
-/// The first fault of bytes that keep to the pattern of UTF-8 up to a place.
+/// The first fault of bytes that keep to the pattern of UTF-8 up to index `at`.
 fn fault_by_blocks(bytes: &[u8], at: usize) -> Option<(usize, Option<u8>)>
     requires within { at ≤ length bytes.now }
     requires kept { KeepsPattern Utf8 bytes.now at }
@@ -116,8 +117,8 @@ fn fault_by_blocks(bytes: &[u8], at: usize) -> Option<(usize, Option<u8>)>
     fault_by_characters(bytes, scan_from(bytes, at, Encoding::Utf8))
 }
 
-/// The first fault of bytes whose first `at` are UTF-8, where it or the end is a few characters
-/// behind.
+/// The first fault of bytes whose first `at` bytes are UTF-8, where it or the end comes a few
+/// characters later.
 #[inline(always)]
 fn fault_by_characters(bytes: &[u8], at: usize) -> Option<(usize, Option<u8>)>
     requires within { at ≤ length bytes.now }
@@ -130,7 +131,7 @@ fn fault_by_characters(bytes: &[u8], at: usize) -> Option<(usize, Option<u8>)>
     }
 }
 
-/// The same by std's reader, which reads on to the fault or the end.
+/// The same, by std's reader, which reads on to the fault or the end.
 #[inline(always)]
 fn fault_in_rest(bytes: &[u8], at: usize) -> Option<(usize, Option<u8>)>
     requires within { at ≤ length bytes.now }

@@ -8,16 +8,17 @@ use crate::code_points::next_item;
 use crate::scan::Encoding;
 use crate::scan::fronts::{front_of, is_behind_high};
 
-/// The place of the first fault of bytes that aren't WTF-8, and how many bytes are refused there,
-/// `None` for WTF-8 (own call).
+/// The index of the first fault of bytes that aren't WTF-8, and how many bytes are refused there;
+/// `None` for WTF-8 (this project's own call).
 ///
-/// The first number is the length in bytes of the front that is well formed, which ends where the
+/// The first number is the length in bytes of the well-formed prefix, which ends where the first
 /// fault of [`CodePoints`](crate::CodePoints) begins. The second is the length of the refused part,
-/// one to four bytes: a byte that begins nothing; a lead with the continuations that are there; a
-/// lead with all its continuations where their value is refused. Behind that part the items of
-/// `CodePoints` go on. So it is for WTF-8 what [`utf8_fault`](crate::utf8_fault) is for UTF-8.
+/// one to four bytes: a byte that begins nothing; a lead with the continuations that it has, if
+/// some are missing; or a lead with all its continuations, if their value is refused. The items of
+/// `CodePoints` continue after that part. So this is for WTF-8 what
+/// [`utf8_fault`](crate::utf8_fault) is for UTF-8.
 ///
-/// It goes over most of long bytes by vectors, and takes no memory.
+/// It reads most of a long input with vectors, and doesn't allocate.
 ///
 /// ```
 /// use os_str_bytes::wtf8_fault;
@@ -46,11 +47,12 @@ pub fn wtf8_fault(bytes: &[u8]) -> Option<(usize, usize)>
     fault_behind(bytes, is_behind_high(bytes, front), rest)
 }
 
-/// How many code points are read before vectors are asked: where faults stand close together, a
-/// loop over them doesn't ask vectors in vain.
+/// How many code points are read before vectors are tried, so that a loop over faults that are
+/// close together doesn't try them in vain.
 const NEAR: u32 = 32;
 
-/// The same of bytes that were read up to the rest, behind a high surrogate or not.
+/// The same where the bytes before `rest` have been read; `after_high` says whether they end with a
+/// high surrogate.
 fn fault_behind(bytes: &[u8], after_high: bool, rest: &[u8]) -> Option<(usize, usize)>
     requires { IsReadUpTo bytes.now after_high rest.now }
     ensures { MatchOption result (IsWtf8 bytes.now) (λ fault. IsFaultAt bytes.now fault.0 fault.1) }

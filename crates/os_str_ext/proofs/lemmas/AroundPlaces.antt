@@ -1,4 +1,4 @@
--- What stands around the least and the greatest place of a list holds it no more.
+-- A list doesn't occur again before its first occurrence, nor after its last one.
 use Rattle.std.proofs.Common.{◌≡◌, ℕ, ◌<◌, List, ◌++◌, length, sym, ap, ◌∙◌, refl, arith, length-append, append_assoc}
 use Rattle.wtf8_core.specs.Pieces.{SplitsAt}
 use Rattle.wtf8_core.specs.Standing.{StandsNowhere, IsLeastPlace, IsGreatestPlace}

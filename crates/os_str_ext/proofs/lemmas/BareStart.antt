@@ -34,7 +34,7 @@ module _ (s : List ℕ) (i : ℕ) (p : IsBareUpTo s i) where
     bare = λ k j low w. ⊎_elim (λ e. no_beginning s i j n (subst (λ x. WholeCharacter s x j) e w)) (λ ne. p.bare k j (omega arith) w) (cases_eq k i);
   }
 
-  -- where that is all bytes, all is the part
+  -- if those are all the bytes, all of them are the part
   pub all_bare : length s ≤ i → IsFirstChunk s (length s) (length s)
   all_bare ge = without_character s (λ k j w. let f = character_fits s k j w in p.bare k j (omega (arith, ge, f)) w)
 
@@ -53,7 +53,7 @@ module _ (s : List ℕ) (i : ℕ) (p : IsBareUpTo s i) where
       apart : (a b : ℕ) → WholeCharacter rest a b → (b ≤ v) ⊎ (v + n ≤ a)
       apart = subst (λ e. (a b : ℕ) → WholeCharacter rest a b → (b ≤ v) ⊎ (e ≤ a)) end (apart_from_part rest v len f)
 
-      -- the bytes of a fault at once
+      -- all the bytes of a fault in one step
       pub part_more : v ≡ 0 → IsBareUpTo s (i + n)
       part_more zero = record {
         within = omega (arith, size, within, p.within);

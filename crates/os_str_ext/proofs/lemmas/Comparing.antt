@@ -1,4 +1,4 @@
--- Bytes are the same where those at their front and those at their end are.
+-- Bytes are equal if their first bytes are and their last bytes are.
 use Rattle.std.proofs.Common.{◌≡◌, ℕ, ◌+◌, ◌-◌, ◌≤◌, List, ◌++◌, length, take, drop, refl, sym, ap, ◌∙◌, arith, take-append-drop, length-append, length-drop}
 use Rattle.std.proofs.lemmas.List.{drop-drop, take_at}
 use Rattle.std.proofs.Math.Seq.{take-length}
@@ -12,13 +12,13 @@ same_by_ends k a b low high front back =
     let rest : drop k a ≡ drop k b = ap (λ n. drop n a) (sym place) ∙ sym (drop-drop skip m a) ∙ ap (drop skip) back ∙ drop-drop skip m b ∙ ap (λ n. drop n b) place in
     sym (take-append-drop k a) ∙ ap (λ x. x ++ drop k a) front ∙ ap (λ x. take k b ++ x) rest ∙ take-append-drop k b
 
--- what the last k bytes are: the first k of themselves
+-- the first k of the last k bytes are those bytes
 whole_back : (k : ℕ) (a : List ℕ) → k ≤ length a → take k (drop (length a - k) a) ≡ drop (length a - k) a
 whole_back k a low =
     let size : k ≡ length (drop (length a - k) a) = omega (arith, length-drop (length a - k) a) in
     ap (λ n. take n (drop (length a - k) a)) size ∙ take-length (drop (length a - k) a)
 
--- x is the number of the first k bytes of a, which can be had back from it
+-- x is the number of the first k bytes of a, and determines them
 pub record IsNumberOf (k : ℕ) (read : List ℕ → ℕ) (write : ℕ → List ℕ) (a : List ℕ) (x : ℕ) : Type 0 where
   pub number : x ≡ read (take k a)
   pub written : write x ≡ take k a
@@ -39,7 +39,7 @@ module _ (k : ℕ) (read : List ℕ → ℕ) (write : ℕ → List ℕ) (a b : L
     back_a.number ∙ ap (λ s. read (take k (drop (length s - k) s))) e ∙ sym back_b.number,
   )
 
--- a front is what is taken, and fits; an end what is left
+-- a prefix is what `take` gives and fits in the list; a suffix is what `drop` leaves
 pub front_from_take : (p s : List ℕ) → take (length p) s ≡ p → IsFront p s
 front_from_take p s e = record { rest = drop (length p) s; joined = sym (take-append-drop (length p) s) ∙ ap (λ x. x ++ drop (length p) s) e }
 

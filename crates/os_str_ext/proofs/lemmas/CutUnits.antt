@@ -6,7 +6,7 @@ use Rattle.wtf8_core.specs.Boundary.{IsBoundary}
 use Rattle.wtf8_core.proofs.lemmas.characters.Overlaps.{boundary_in_front}
 use Rattle.os_str_ext.specs.Range.{FitsIn, IsPartInUnits}
 
--- at a boundary both parts are well formed, and their units joined are those of the whole
+-- at a boundary both parts are well formed, and their units, joined, are those of the whole
 module _ (well_formed : List ℕ → Type 0) (units : List ℕ → List ℕ) (cut_front : (b : List ℕ) (i : ℕ) → well_formed b → IsBoundary b i → well_formed (take i b)) (cut_units : (b : List ℕ) (i : ℕ) → well_formed b → IsBoundary b i → units b ≡ units (take i b) ++ units (drop i b)) where
   pub part_in_units : (b : List ℕ) (i j : ℕ) → well_formed b → FitsIn b i j → IsPartInUnits units b i j (drop i (take j b))
   part_in_units b i j h f =

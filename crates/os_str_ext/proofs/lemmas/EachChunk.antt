@@ -1,4 +1,4 @@
--- What the chunks of a string are: each part is a string without whole characters, each text is text.
+-- What the chunks of a string are: each part is a string without whole characters, and each text is UTF-8.
 use Rattle.std.proofs.Common.{◌≡◌, ◌⊎◌, inl, inr, ⊎_elim, ℕ, ◌+◌, ◌<◌, ◌≤◌, List, [], ◌∷◌, ◌++◌, length, take, drop, refl, sym, ap, ◌∙◌, subst, arith, length-append, length-drop}
 use Rattle.std.specs.List.{All, AllByRecursion}
 use Rattle.std.specs.Str.{IsUtf8, is_utf8}
@@ -19,7 +19,7 @@ use Rattle.os_str_ext.proofs.lemmas.FirstChunk.{first_of_parts, edges, part_is_b
 text_or_not : (r : List ℕ) → IsUtf8 r ⊎ (IsUtf8 r → ⊥)
 text_or_not r = ⊎_elim (λ t. inl (IsUtf8-from_is_utf8 r t)) (λ f. inr (λ u. false≢true (sym f ∙ is_utf8-from_IsUtf8 r u))) (cases_Bool (is_utf8 r))
 
--- where the text ends that begins at place m
+-- where the text ends that begins at index m
 record TextEnd (s : List ℕ) (m e : ℕ) : Type 0 where
   ordered : m ≤ e
   within : e ≤ length s
@@ -50,7 +50,7 @@ text_end s m within =
     ))
     (text_or_not (drop m s))
 
--- the ends of the first chunk
+-- where the part and the text of the first chunk end
 first_ends : (s : List ℕ) (c : Chunk) (cs : List Chunk) → AreChunks s (c ∷ cs) → (e : ℕ) × IsFirstChunk s (length c.0) e
 first_ends s c cs h =
     let m = length c.0 in

@@ -12,7 +12,7 @@ use Rattle.wtf8_core.proofs.lemmas.forms.Shapes.{form_bounds}
 use Rattle.wtf8_core.proofs.lemmas.forms.ByStd.{form_encode}
 use Rattle.os_str_ext.specs.Characters.{IsOneCharacter}
 
--- the bytes of one character are a text that isn't empty, and std's
+-- the bytes of one character are a text that isn't empty, and are its encoding by std
 module _ (s : List ℕ) (h : IsOneCharacter s) where
   encoded : s ≡ encode_utf8 h.char
   encoded = h.is ∙ form_encode h.char
@@ -28,7 +28,7 @@ module _ (s : List ℕ) (h : IsOneCharacter s) where
       let same = encode_same h.char c [] rest (append-nil (encode_utf8 h.char) ∙ sym encoded ∙ e) in
       encoded ∙ ap encode_utf8 same.0
 
--- a character at the front
+-- a character at the start
 module _ (s : List ℕ) (n : ℕ) (w : WholeCharacter s 0 (0 + n)) where
   pub first_edge : IsBoundary s n
   first_edge = let z : 0 + n ≡ n = omega arith in record { is = inr (inr (inr (0, subst (WholeCharacter s 0) z w))) }

@@ -1,4 +1,4 @@
--- The first chunk by its ends, and the chunks behind it.
+-- The first chunk by where its part and its text end, and the chunks after it.
 use Rattle.std.proofs.Common.{◌≡◌, ⊎_elim, inl, inr, ℕ, ◌+◌, ◌-◌, ◌<◌, ◌≤◌, List, [], ◌∷◌, ◌++◌, length, take, drop, sym, ap, ◌∙◌, subst, arith, length-append, length-drop, take-append-drop, append_assoc}
 use Rattle.std.proofs.lemmas.Bool.{cases_lt, cases_eq}
 use Rattle.std.proofs.lemmas.List.{length-take-le, take-take, drop-take, drop_all, drop-append-le}
@@ -19,7 +19,7 @@ use Rattle.wtf8_core.proofs.lemmas.characters.Overlaps.{in_rest}
 use Rattle.wtf8_core.proofs.lemmas.characters.Seams.{Bare, text_covered, seam_behind_bare, whole_within}
 use Rattle.os_str_ext.specs.Chunks.{chunks_of, IsFirstChunk}
 
--- the parts of a string that is cut twice
+-- the three parts of a string that is cut twice
 cut_twice : (s : List ℕ) (m e : ℕ) → m ≤ e → s ≡ take m s ++ (drop m (take e s) ++ drop e s)
 cut_twice s m e le =
     sym (take-append-drop e s) ∙ ap (λ x. x ++ drop e s) (sym (take-append-drop m (take e s)) ∙ ap (λ x. x ++ drop m (take e s)) (take-take m e s le)) ∙ append_assoc (take m s) (drop m (take e s)) (drop e s)
@@ -31,11 +31,11 @@ module _ (s : List ℕ) (m e : ℕ) (ordered : m ≤ e) (within : e ≤ length s
   text_size : length (take m s) + length (drop m (take e s)) ≡ e
   text_size = omega (arith, front_size, length-take-le e s within, length-drop m (take e s))
 
-  -- the front's bytes lie in no whole character
+  -- no byte of the first m lies in a whole character
   bare_in_front : ((k : ℕ) → k < m → ¬ (IsCovered s k)) → Bare s 0 (take m s)
   bare_in_front h k low high = h k (omega (arith, front_size))
 
-  -- behind the front a text's bytes lie in whole characters
+  -- the bytes of a text after those lie in whole characters
   text_in_rest : ((k : ℕ) → k < m → ¬ (IsCovered s k)) → IsUtf8 (drop m (take e s)) → IsSeam s e
   text_in_rest h u = subst (IsSeam s) text_size (text_covered s (take m s) (drop m (take e s)) (drop e s) (cut_twice s m e ordered) u (seam_behind_bare s (take m s) (bare_in_front h))).1
 
@@ -54,7 +54,7 @@ text_grows s i j k le u w =
 empty_text : (s : List ℕ) (m : ℕ) → m ≤ length s → IsUtf8 (drop m (take m s))
 empty_text s m h = subst IsUtf8 (sym (drop_all m (take m s) (omega (arith, length-take-le m s h)))) IsUtf8-nil
 
--- no character in the part, a text behind it, and none behind that
+-- no character starts in the part, a text follows it, and no character starts after that
 pub first_of_parts : (s : List ℕ) (m e : ℕ) → ((k j : ℕ) → k < m → WholeCharacter s k j → ⊥) → (m < length s → m < e) → m ≤ e → e ≤ length s → IsUtf8 (drop m (take e s)) → ((j : ℕ) → WholeCharacter s e j → ⊥) → IsFirstChunk s m e
 first_of_parts s m e none some ordered within text last = record {
   ordered = ordered;
@@ -70,13 +70,13 @@ first_of_parts s m e none some ordered within text last = record {
     bare : (k : ℕ) → k < m → ¬ (IsCovered s k)
     bare k lt c = let from = c.from in none c.start c.end (omega arith) c.whole
 
--- where no whole character starts, all is the part
+-- if no whole character starts anywhere, everything is the part
 pub without_character : (s : List ℕ) → ((k j : ℕ) → WholeCharacter s k j → ⊥) → IsFirstChunk s (length s) (length s)
 without_character s h =
     first_of_parts s (length s) (length s) (λ k j _. h k j) (λ lt. absurd (omega (arith, lt))) (omega arith) (omega arith) (empty_text s (length s) (omega arith)) (h (length s))
 
 module _ (s : List ℕ) (m e : ℕ) (h : IsFirstChunk s m e) where
-  -- where the text isn't empty, both its edges are boundaries
+  -- if the text isn't empty, it starts and ends at boundaries
   text_edges : m < e → IsBoundary s m × IsBoundary s e
   text_edges lt =
       let ordered = h.ordered in
@@ -87,7 +87,7 @@ module _ (s : List ℕ) (m e : ℕ) (h : IsFirstChunk s m e) where
       let stands : StandsAt t s m = record { before = take m s; behind = drop e s; joined = cut_twice s m e h.ordered; place = front } in
       subst (λ x. IsBoundary s m × IsBoundary s x) z (edges_of_text t s m h.text (omega arith) stands)
 
-  -- so are those of an empty one
+  -- so does an empty one
   pub edges : IsBoundary s m × IsBoundary s e
   edges =
       let ordered = h.ordered in
@@ -103,7 +103,7 @@ module _ (s : List ℕ) (m e : ℕ) (h : IsFirstChunk s m e) where
       let v = whole_within s [] (take m s) (drop m s) i j (sym (take-append-drop m s)) w in
       h.bare i (omega arith) (record { start = 0 + i; end = 0 + j; whole = v; from = omega arith; below = omega arith })
 
-  -- and the chunks are the first and those of the rest
+  -- and the chunks are the first one and those of the rest
   pub first_and_rest : 0 < length s → chunks_of s ≡ (take m s, drop m (take e s)) ∷ chunks_of (drop e s)
   first_and_rest some =
       let ordered = h.ordered in
@@ -134,7 +134,7 @@ no_chunks s e = chunks_once s (chunks_of s) [] (some_chunks s).1 (record { joins
     never [] c behind q = cc
     never (b ∷ before) c behind q = cc
 
--- where a fault says that the text from a place on ends: it is text, and no character stands behind it
+-- where the first fault of what comes from an index on is: the bytes before it are a text, and no character starts there
 module _ (s rest : List ℕ) (i v : ℕ) (is : rest ≡ drop i s) (valid : IsValidUpTo rest v) where
   pub text_from : IsUtf8 (drop i (take (i + v) s))
   text_from = subst IsUtf8 (sym (drop-take i v s ∙ ap (take v) (sym is))) valid.front

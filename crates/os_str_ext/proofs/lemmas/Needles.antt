@@ -1,4 +1,4 @@
--- Where a needle occurs in a part of a string, and where its first and last places are.
+-- Where a needle occurs in a part of a string, and where its first and last occurrences are.
 use Rattle.std.proofs.Common.{◌≡◌, ℕ, zero, suc, ◌+◌, ◌-◌, ◌<◌, ◌≤◌, Bool, List, [], ◌∷◌, length, take, drop, max, Option, Some, None, sym, ap, subst, ◌∙◌, arith, ⊎_elim, length-drop}
 use Rattle.std.proofs.lemmas.Bool.{cases_Bool, cases_eq, cases_lt, cond-true, cond-false, eq-eqb, false≢true}
 use Rattle.std.proofs.lemmas.List.{get_or-take, get_or-drop, length-take-le}
@@ -12,7 +12,7 @@ max_below : (a b n : ℕ) → a < n → b < n → max a b < n
 max_below a b n x y = omega arith
 
 module _ (s p : List ℕ) where
-  -- what occurs behind a place occurs in what is left there
+  -- what occurs at an index or after it occurs in what is left from there
   in_rest : (i k : ℕ) → i ≤ k → OccursAt s p k → OccursAt (drop i s) p (k - i)
   in_rest i k le o =
       let fits = o.fits in
@@ -51,7 +51,7 @@ module _ (s p : List ℕ) where
         from_rest i at le f.1,
       )
 
-  -- what ends by a place occurs in the front that ends there
+  -- what ends at an index or before it occurs in the bytes before that index
   in_front : (e k : ℕ) → e ≤ length s → k + length p ≤ e → OccursAt s p k → OccursAt (take e s) p k
   in_front e k le ends o =
       let size = length-take-le e s le in
@@ -69,7 +69,7 @@ module _ (s p : List ℕ) where
         reads = λ j below. sym (get_or-take e s (k + j) 0 (omega arith)) ∙ o.reads j below;
       }
 
-  -- so where none ends behind a place, the last in that front is the last
+  -- so if no occurrence ends after an index, the last one in the bytes before that index is the last of all
   pub last_before : (e : ℕ) → e ≤ length s → ((k : ℕ) → OccursAt s p k → k + length p ≤ e) → (r : Option ℕ) → FindsLastNeedle (take e s) p r → FindsLastNeedle s p r
   last_before e le by None f = λ k low high o.
       let ends = by k o in
@@ -92,7 +92,7 @@ module _ (s p : List ℕ) where
   last_byte_within : (e k : ℕ) → 0 < length p → k + length p ≤ e → OccursAt s p k → Passes (is_byte (slice_index p (length p - 1))) (take e s) (k + (length p - 1))
   last_byte_within e k some ends o = eq-eqb _ _ (get_or-take e s (k + (length p - 1)) 0 (omega arith) ∙ o.reads (length p - 1) (omega arith))
 
-  -- so none ends behind the last such byte
+  -- so no occurrence ends after the last such byte
   pub none_by_byte : (e : ℕ) → e ≤ length s → 0 < length p → ((k : ℕ) → OccursAt s p k → k + length p ≤ e) → Nowhere (Passes (is_byte (slice_index p (length p - 1))) (take e s)) 0 (length (take e s)) → (k : ℕ) → ¬ (OccursAt s p k)
   none_by_byte e le some by f k o =
       let ends = by k o in
@@ -108,7 +108,7 @@ module _ (s p : List ℕ) where
       (λ by_then. by_then)
       (cases_lt (at + 1) (k + length p))
 
-  -- one that ends there is the last, and where none does they end before it
+  -- if one ends there, it is the last; if none does, all end before it
   pub last_there : (at : ℕ) → at ≤ length s → ((k : ℕ) → OccursAt s p k → k + length p ≤ at) → length p ≤ at → OccursAt s p (at - length p) → IsLast (OccursAt s p) 0 (length s + 1) (Some (at - length p))
   last_there at le by fits here = (record { low = omega arith; high = omega arith; after = λ k low high o. let ends = by k o in absurd (omega arith) }, here)
 
@@ -120,7 +120,7 @@ module _ (s p : List ℕ) where
       (λ other. omega arith)
       (cases_eq (k + length p) (at + 1))
 
-  -- where a needle occurs its pair stands
+  -- where a needle occurs, its pair of bytes occurs
   pair_stands : (f : Finder) → IsPairFinderOf f p → (k : ℕ) → OccursAt s p k → HasPair f s k
   pair_stands f is k o = record {
     first = o.reads f.pair.index1 is.pair.first ∙ sym is.byte1;
@@ -131,7 +131,7 @@ module _ (s p : List ℕ) where
   reach_within f is = max_below f.pair.index1 f.pair.index2 (length p) is.pair.first is.pair.second
 
 module _ (s p : List ℕ) (f : Finder) (is : IsPairFinderOf f p) (i : ℕ) (le : i ≤ length s) where
-  -- so where its pair stands nowhere it doesn't occur, and before the first such place neither
+  -- so where the pair doesn't occur the needle doesn't either, nor before the first index at which the pair does
   pub no_candidate : Nowhere (HasPair f (drop i s)) 0 (length (drop i s) - reach_of f) → Nowhere (OccursAt s p) i (length s + 1)
   no_candidate none k low high o =
       let here = in_rest s p i k low o in
@@ -149,7 +149,7 @@ module _ (s p : List ℕ) (f : Finder) (is : IsPairFinderOf f p) (i : ℕ) (le :
         before = λ k low lt o. none.before (k - i) (omega arith) (omega arith) (pair_stands (drop i s) p f is (k - i) (in_rest s p i k low o));
       }
 
--- the first of the places that pass a test is the first place that does
+-- the first one in the list of the indices that pass a test is the first index that passes it
 module _ (test : ℕ → Bool) (hay : List ℕ) where
   none_pass : (i n : ℕ) → places_from test hay i n ≡ [] → Nowhere (Passes test hay) i (i + n)
   unfolding places_from
@@ -188,7 +188,7 @@ module _ (test : ℕ → Bool) (hay : List ℕ) where
   first_taken None rest h = subst (Nowhere (Passes test hay) 0) (omega arith) (none_pass 0 (length hay - 0) h.0)
   first_taken (Some x) rest h = subst (λ n. NoneBefore (Passes test hay) 0 n x × Passes test hay x) (omega arith) (first_passes 0 (length hay - 0) x rest h)
 
--- what is first from a place on is first of all where nothing comes before that place
+-- what is first from an index on is first of all if nothing comes before that index
 pub first_of_all : (P : ℕ → Type 0) (i j : ℕ) → Nowhere P 0 i → (r : Option ℕ) → IsFirst P i j r → IsFirst P 0 j r
 first_of_all P i j none None h = λ k low high q. ⊎_elim (λ near. none k low near q) (λ far. h k far high q) (cases_lt k i)
 first_of_all P i j none (Some at) h =

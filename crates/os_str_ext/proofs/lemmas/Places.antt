@@ -1,4 +1,4 @@
--- Boundaries and whole characters, as tests find them.
+-- Boundaries and whole characters, as the tests of them find them.
 use Rattle.std.proofs.Common.{◌≡◌, ℕ, ◌-◌, ◌<◌, true, false, List, length, Option, Some, None, inr, refl, sym, subst, arith, ⊎_elim}
 use Rattle.std.proofs.lemmas.Bool.{false≢true}
 use Rattle.std.specs.Option.{is_some}
@@ -10,7 +10,7 @@ pub none_from_test : (s : List ℕ) (i : ℕ) (r : Option ℕ) → is_some r ≡
 none_from_test s i None e h = h
 none_from_test s i (Some n) e h = absurd (false≢true (sym e))
 
--- a place inside a string at which no character starts is a boundary where one ends
+-- an index inside a string at which no character starts is a boundary exactly if one ends there
 pub boundary_by_end : (s : List ℕ) (i : ℕ) (r : Option ℕ) → IsCharacterBefore s i r → is_some r ≡ true → IsBoundary s i
 boundary_by_end s i None h e = absurd (false≢true e)
 boundary_by_end s i (Some n) h e = record { is = inr (inr (inr (i - n, h.1))) }

@@ -1,4 +1,4 @@
--- Strings some number of times over, by the laws of standing.
+-- Repeated strings, by the laws of standing.
 use Rattle.std.proofs.Common.{◌≡◌, ℕ, zero, suc, ◌+◌, List, [], ◌∷◌, ◌++◌, length, refl, sym, ap, ◌∙◌, subst, arith, append_assoc, append-nil}
 use Rattle.std.specs.List.{repeat}
 use Rattle.wtf8_core.specs.StandingLaws.{StandingLaws}
@@ -8,18 +8,18 @@ use Rattle.wtf8_core.proofs.lemmas.standing.Places.{nil_formed, no_units}
 abbrev empty : List ℕ
 empty = []
 
--- the empty list any number of times over
+-- the empty list repeated any number of times
 repeat-nil : (n : ℕ) → repeat n empty ≡ []
 repeat-nil zero = refl
 repeat-nil (suc n) = repeat-nil n
 
--- a list one time more
+-- a list repeated one more time
 repeat-more : (n : ℕ) (xs : List ℕ) → repeat (n + 1) xs ≡ repeat n xs ++ xs
 repeat-more zero xs = append-nil xs
 repeat-more (suc n) xs = let e : suc n + 1 ≡ suc (n + 1) = omega arith in rw e (ap (λ ys. xs ++ ys) (repeat-more n xs) ∙ sym (append_assoc xs (repeat n xs) xs))
 
 module _ (wf : List ℕ → Type 0) (units : List ℕ → List ℕ) (laws : StandingLaws wf units) where
-  -- v has the units of s so many times over
+  -- v has the units of s repeated so many times
   abbrev pub IsRepeated : List ℕ → ℕ → List ℕ → Type 0
   IsRepeated s n v = wf v × (units v ≡ repeat n (units s))
 

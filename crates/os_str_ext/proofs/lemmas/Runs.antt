@@ -1,4 +1,4 @@
--- Runs of a text: lists that are the text over and over.
+-- Runs of a text: lists that are the text repeated.
 use Rattle.std.proofs.Common.{◌≡◌, ℕ, zero, suc, ◌+◌, ◌-◌, ◌<◌, ◌≤◌, List, ◌++◌, length, take, drop, refl, sym, ap, subst, ◌∙◌, arith, inl, inr, append_assoc, length-append, length-drop, take-append-drop, drop_of_length-le}
 use Rattle.std.proofs.lemmas.List.{append-nil, length-take-le, drop-drop}
 use Rattle.std.proofs.Math.Seq.{take-add}
@@ -12,12 +12,12 @@ use Rattle.wtf8_core.specs.Pieces.{IsStartTrim, IsEndTrim}
 use Rattle.os_str_ext.proofs.lemmas.Comparing.{take_from_front, front_fits}
 use Rattle.os_str_ext.proofs.lemmas.Searches.{EdgesOfTexts, occurs_where_it_stands}
 
--- one more at the front is one more at the end
+-- one more repetition at the start is one more at the end
 repeat-behind : (p : List ℕ) (n : ℕ) → repeat n p ++ p ≡ repeat (suc n) p
 repeat-behind p zero = sym (append-nil p)
 repeat-behind p (suc n) = append_assoc p (repeat n p) p ∙ ap (λ r. p ++ r) (repeat-behind p n)
 
--- x is p over and over
+-- x is p repeated some number of times
 abbrev pub IsRun : List ℕ → List ℕ → Type 0
 IsRun p x = (n : ℕ) × (x ≡ repeat n p)
 
@@ -34,7 +34,7 @@ module _ (p : List ℕ) where
   run_of_runs x run zero = (0, refl)
   run_of_runs x run (suc n) = runs_joined x (repeat n x) run (run_of_runs x run n)
 
-  -- a run, runs of it behind it, and the text behind those; the same before
+  -- a run, runs of it after it, and the text repeated after those are a run; the same from the end
   pub run_behind : (s : List ℕ) (i j k : ℕ) → IsRun p (take i s) → (m : ℕ) → take j s ≡ take i s ++ repeat m (take i s) → (n : ℕ) → take k s ≡ take j s ++ repeat n p → IsRun p (take k s)
   run_behind s i j k run m e n f =
       subst (IsRun p) (sym f) (runs_joined (take j s) (repeat n p) (subst (IsRun p) (sym e) (runs_joined (take i s) (repeat m (take i s)) run (run_of_runs (take i s) run m))) (n, refl))
@@ -44,7 +44,7 @@ module _ (p : List ℕ) where
       subst (IsRun p) (sym f) (runs_joined (repeat n p) (drop j s) (n, refl) (subst (IsRun p) (sym e) (runs_joined (repeat m (drop i s)) (drop i s) (run_of_runs (drop i s) run m) run)))
 
 module _ (s p : List ℕ) (i : ℕ) (le : i ≤ length s) where
-  -- where no text stands behind a run at the front, that is its trim
+  -- if the text doesn't occur after a run at the start, what follows the run is the start trim
   pub start_trim : IsRun p (take i s) → ¬ (OccursAt s p i) → IsStartTrim p s (drop i s)
   start_trim run none = record {
     count = run.0;
@@ -95,12 +95,12 @@ module _ (s p : List ℕ) (i : ℕ) (le : i ≤ length s) where
       record { is = inr (inl (omega arith)) }
   cut_before_run edges u some (suc n) e = (edges p s i u some (record { before = take i s; behind = repeat n p; joined = e; place = length-take-le i s le })).0
 
--- what ends with the string is the run alone
+-- what reaches up to the end of the string is the run alone
 pub run_at_end : (s p : List ℕ) (i n : ℕ) → drop i s ≡ repeat n p ++ drop (length s) s → IsRun p (drop i s)
 run_at_end s p i n e = (n, e ∙ ap (λ r. repeat n p ++ r) (drop_of_length-le s (omega arith)) ∙ append-nil (repeat n p))
 
 module _ (s p : List ℕ) (i : ℕ) where
-  -- one more behind what was passed over, and before it
+  -- one more repetition after those that were skipped, and one before them
   pub passed_more : (start n : ℕ) → take i s ≡ take start s ++ repeat n p → OccursAt s p i → take (i + length p) s ≡ take start s ++ repeat (suc n) p
   passed_more start n e o =
       take-add i (length p) s ∙ ap (λ r. take i s ++ r) (OccursAt-part s p i o) ∙ ap (λ r. r ++ p) e

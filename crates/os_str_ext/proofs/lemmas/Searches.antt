@@ -1,4 +1,4 @@
--- What the searches of `memchr` find, and that a string may be cut around a text.
+-- What the searches of `memchr` find, and that a string may be cut before and after a text.
 use Rattle.std.proofs.Common.{◌≡◌, ℕ, ◌+◌, ◌-◌, ◌<◌, ◌≤◌, true, List, [], ◌++◌, length, take, drop, Option, Some, None, refl, sym, ap, subst, ◌∙◌, arith, inl, inr, ⊎_elim, length-append, take-append-drop}
 use Rattle.std.proofs.lemmas.List.{append-nil, length-take-le, drop_at, nil_from_length}
 use Rattle.std.proofs.lemmas.List.Prefix.{at_from_reads, at_reads}
@@ -10,12 +10,12 @@ use Rattle.wtf8_core.specs.Standing.{StandsAt, Finds, IsLeastPlace, IsGreatestPl
 use Rattle.wtf8_core.specs.Boundary.{IsBoundary}
 use Rattle.wtf8_core.specs.Pieces.{StandsSomewhere, SplitsAt, MayBeCutAround}
 
--- a text that stands in a string may be cut at both edges (`laws::boundaries`)
+-- a string may be cut before and after a text that occurs in it (`laws::boundaries`)
 abbrev pub EdgesOfTexts : Type 0
 EdgesOfTexts = (p : List ℕ) → (s : List ℕ) → (i : ℕ) → IsUtf8 p → 0 < length p → StandsAt p s i → IsBoundary s i × IsBoundary s (i + length p)
 
 module _ (s p : List ℕ) where
-  -- a needle occurs where it stands, and the other way round
+  -- a needle occurs in the words of `memchr` where it does in the words of `Standing`, and the other way round
   pub stands_where_it_occurs : (i : ℕ) → OccursAt s p i → StandsAt p s i
   stands_where_it_occurs i o =
       let fits = o.fits in
@@ -33,7 +33,7 @@ module _ (s p : List ℕ) where
       let place = h.place in
       record { fits = omega arith; reads = at_reads 0 s p i h.behind rest }
 
-  -- so the first occurrence is the least place, and the last the greatest
+  -- so the first index that is found is the least one, and the last the greatest
   pub least_place_of_needle : (r : Option ℕ) → FindsNeedle s p 0 r → Finds IsLeastPlace p s r
   least_place_of_needle None f = λ i h. let o = occurs_where_it_stands i h in let fits = o.fits in f i (omega arith) (omega arith) o
   least_place_of_needle (Some i) f = record {
@@ -48,11 +48,11 @@ module _ (s p : List ℕ) where
     greatest = λ k lt h. let o = occurs_where_it_stands k h in let fits = o.fits in f.0.after k (omega arith) (omega arith) o;
   }
 
--- what stands at a place ends within the list
+-- what occurs at an index ends within the list
 pub stands_within : (p s : List ℕ) (i : ℕ) → StandsAt p s i → i + length p ≤ length s
 stands_within p s i h = (occurs_where_it_stands s p i h).fits
 
--- so what is found ends below a bound of the length
+-- so what is found ends below any bound of the length
 pub below_least : (n : ℕ) (p s : List ℕ) (r : Option ℕ) → length s < n → Finds IsLeastPlace p s r → IfSome r (λ i. i + length p < n)
 below_least n p s None low h = tt
 below_least n p s (Some i) low h = let fits = stands_within p s i h.stands in omega arith
@@ -62,7 +62,7 @@ below_greatest n p s None low h = tt
 below_greatest n p s (Some i) low h = let fits = stands_within p s i h.stands in omega arith
 
 module _ (s p : List ℕ) where
-  -- the empty list stands at each place, first at the start and last at the end
+  -- the empty list occurs at each index: first at the start, last at the end
   empty_stands : (i : ℕ) → length p ≡ 0 → i ≤ length s → StandsAt p s i
   empty_stands i none le =
       subst (λ q. StandsAt q s i) (sym (nil_from_length p none)) (record {
@@ -80,7 +80,7 @@ module _ (s p : List ℕ) where
       let fits = stands_within p s i h.stands in
       ⊎_elim (λ e. e) (λ ne. absurd (h.greatest (length s) (omega arith) (empty_stands (length s) none (omega arith)))) (cases_eq i (length s))
 
-  -- a string may be cut around what a search finds
+  -- a string may be cut before and after what a search finds
   pub cut_around_least : EdgesOfTexts → IsUtf8 p → (r : Option ℕ) → Finds IsLeastPlace p s r → MayBeCutAround s (length p) r
   cut_around_least edges u None h = tt
   cut_around_least edges u (Some i) h =
@@ -97,7 +97,7 @@ module _ (s p : List ℕ) where
       (λ some. edges p s i u (omega arith) h.stands)
       (cases_eq (length p) 0)
 
--- a front stands at the start, and an end at the last place where it can
+-- a prefix occurs at the start, and a suffix at the last index at which there is room for it
 front_stands : (p s : List ℕ) → IsFront p s → StandsAt p s 0
 front_stands p s h = record { before = []; behind = h.rest; joined = h.joined; place = refl }
 
@@ -106,7 +106,7 @@ end_stands p s h =
     let size : length s ≡ length h.rest + length p = ap length h.joined ∙ length-append h.rest p in
     record { before = h.rest; behind = []; joined = h.joined ∙ ap (λ q. h.rest ++ q) (sym (append-nil p)); place = omega arith }
 
--- a string may be cut behind a text at its front, and before one at its end
+-- a string may be cut after a text at its start, and before one at its end
 pub cut_behind_front : EdgesOfTexts → (p s : List ℕ) → IsUtf8 p → IsFront p s → IsBoundary s (length p)
 cut_behind_front edges p s u h =
     ⊎_elim (λ none. record { is = inl none }) (λ some. subst (λ n. IsBoundary s n) (omega arith) (edges p s 0 u (omega arith) (front_stands p s h)).1) (cases_eq (length p) 0)
@@ -115,7 +115,7 @@ pub cut_before_end : EdgesOfTexts → (p s : List ℕ) → IsUtf8 p → IsEnd p 
 cut_before_end edges p s u h =
     ⊎_elim (λ none. record { is = inr (inl (omega arith)) }) (λ some. (edges p s (length s - length p) u (omega arith) (end_stands p s h)).0) (cases_eq (length p) 0)
 
--- the parts before and behind what a search finds
+-- the parts before and after what a search finds
 pub parts_around : (Is : List ℕ → List ℕ → ℕ → Type 0) (p s front back : List ℕ) (i : ℕ) → Is p s i → StandsAt p s i → front ≡ take i s → back ≡ drop (i + length p) s → SplitsAt Is p s front back
 parts_around Is p s front back i found h f b =
     let o = occurs_where_it_stands s p i h in
@@ -126,7 +126,7 @@ parts_around Is p s front back i found h f b =
       found = subst (λ n. Is p s n) (sym size) found;
     }
 
--- a pattern stands somewhere where a search finds it
+-- a pattern occurs in a string exactly if a search finds it
 pub found_somewhere : (p s : List ℕ) (r : Option ℕ) → Finds IsLeastPlace p s r → (is_some r ≡ true → StandsSomewhere p s) × (StandsSomewhere p s → is_some r ≡ true)
 found_somewhere p s None h = (λ e. absurd (false≢true e), λ w. absurd (h w.0 w.1))
 found_somewhere p s (Some i) h = (λ e. (i, h.stands), λ w. refl)

@@ -18,14 +18,14 @@ use Rattle.os_str_ext.proofs.lemmas.FirstChunk.{first_and_rest, no_chunks}
 pub no_symbols : (units : List ℕ → List ℕ) (s : List ℕ) → s ≡ [] → symbols_of units s ≡ []
 no_symbols units s e = ap (chunks_symbols units) (no_chunks s e)
 
--- what is left of a list from a place on, and up to another
+-- what is left of a list from an index on, and of that up to another index
 left_behind : (s : List ℕ) (n e : ℕ) → n ≤ e → drop (e - n) (drop n s) ≡ drop e s
 left_behind s n e le = drop-drop (e - n) n s ∙ ap (λ k. drop k s) (omega (arith, le))
 
 left_between : (s : List ℕ) (n e : ℕ) → n ≤ e → take (e - n) (drop n s) ≡ drop n (take e s)
 left_between s n e le = sym (drop-take n (e - n) s) ∙ ap (λ k. drop n (take k s)) (omega (arith, le))
 
--- what the ends of the first chunk say
+-- what is known of s by where its first chunk ends
 pub known_by_ends : (s : List ℕ) (m e bare : ℕ) → IsFirstChunk s m e → IsBareUpTo (drop e s) bare → AreKnown s (length s - m) (length s - e) bare
 known_by_ends s m e bare h after =
     let ordered = h.ordered in
@@ -38,7 +38,7 @@ known_by_ends s m e bare h after =
     }
 
 module _ (units : List ℕ → List ℕ) where
-  -- the symbols by the ends of the first chunk
+  -- the symbols by where the first chunk ends
   by_first_chunk : (s : List ℕ) (m e : ℕ) → IsFirstChunk s m e → 0 < length s → symbols_of units s ≡ map unit_symbol (units (take m s)) ++ (map Character (chars (drop m (take e s))) ++ symbols_of units (drop e s))
   by_first_chunk s m e h some =
       ap (chunks_symbols units) (first_and_rest s m e h some) ∙ append_assoc (map unit_symbol (units (take m s))) (map Character (chars (drop m (take e s)))) (symbols_of units (drop e s))
@@ -46,13 +46,13 @@ module _ (units : List ℕ → List ℕ) where
   of_nothing : (s : List ℕ) → units [] ≡ [] → symbols_of units s ≡ map unit_symbol (units []) ++ (map Character (chars []) ++ symbols_of units s)
   of_nothing s none = sym (ap (λ us. map unit_symbol us ++ (map Character (chars []) ++ symbols_of units s)) none ∙ ap (λ cs. map Character cs ++ symbols_of units s) chars-nil)
 
-  -- the same where nothing of that chunk is left
+  -- the same if nothing of that chunk is left
   laid_out : (s : List ℕ) (m e : ℕ) → units [] ≡ [] → m ≤ e → (0 < e → IsFirstChunk s m e) → symbols_of units s ≡ map unit_symbol (units (take m s)) ++ (map Character (chars (drop m (take e s))) ++ symbols_of units (drop e s))
   laid_out s m e none le h =
       ⊎_elim (λ some. let f = h some in by_first_chunk s m e f (omega (arith, some, f.within)))
       (λ ge. let zm : m ≡ 0 = omega (arith, ge, le) in let ze : e ≡ 0 = omega (arith, ge) in rw (zm, ze) (of_nothing s none)) (cases_lt 0 e)
 
--- the first chunk of what is left behind n bytes of it
+-- the first chunk of what is left after n bytes
 module _ (s : List ℕ) (m e n : ℕ) (h : IsFirstChunk s m e) (within : n ≤ e) where
   covered : (k : ℕ) → IsCovered (drop n s) k → IsCovered s (n + k)
   covered k c =
@@ -104,7 +104,7 @@ module _ (s : List ℕ) (after_part after_text bare n : ℕ) (some : after_text 
       laid_out units (drop n s) (m - n) (e - n) none (omega (arith, h.ordered)) (λ pos. first_left s m e n h within (omega (arith, pos)) text)
       ∙ ap (λ r. map unit_symbol (units (take (m - n) (drop n s))) ++ (map Character (chars (drop (m - n) (take (e - n) (drop n s)))) ++ symbols_of units r)) (left_behind s n e within)
 
--- behind the first unit of the part
+-- after the first unit of the part
 module _ (well_formed : List ℕ → Type 0) (units : List ℕ → List ℕ) (s : List ℕ) (after_part after_text bare u n : ℕ) (some : after_text < length s) (known : AreKnown s after_part after_text bare) (first : IsFirstUnit well_formed units (take (length s - after_part) s) u n) where
   in_part : n ≤ length s - after_part
   in_part = let w = first.within in omega (arith, length-take-le (length s - after_part) s (omega arith))
@@ -135,7 +135,7 @@ module _ (well_formed : List ℕ → Type 0) (units : List ℕ → List ℕ) (s 
       ∙ ap (λ t. map unit_symbol (units (take (m - n) (drop n s))) ++ (map Character (chars t) ++ symbols_of units (drop e s))) (sym same_text)
       ∙ sym (symbols_left s after_part after_text bare n some known in_chunk units none text_behind_unit))
 
-  -- is a string
+  -- what is left is a string
   pub formed_behind_unit : StandingLaws well_formed units → well_formed s → well_formed (take (length s - after_part) s) → well_formed (drop n s)
   formed_behind_unit laws formed part_formed =
       let m = length s - after_part in
@@ -144,7 +144,7 @@ module _ (well_formed : List ℕ → Type 0) (units : List ℕ → List ℕ) (s 
       subst well_formed (take-take n m s in_part) (laws.ends (take n part) (drop n part) first.behind (subst well_formed (sym (take-append-drop n part)) part_formed)) in
       (laws.fronts (take n s) (drop n s) front (subst well_formed (sym (take-append-drop n s)) formed)).0
 
--- behind the first character of a text
+-- after the first character of a text
 module _ (units : List ℕ → List ℕ) (s rest : List ℕ) (after_part after_text bare c n : ℕ) (some : after_text < length s) (no_part : length s ≤ after_part) (known : AreKnown s after_part after_text bare)
     (text : take (length s - after_text) s ≡ encode_utf8 c ++ rest) (left : IsUtf8 rest) (size : n ≡ length (take (length s - after_text) s) - length rest) where
   front_size : n ≡ length (encode_utf8 c)

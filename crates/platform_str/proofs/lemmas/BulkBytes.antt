@@ -1,4 +1,4 @@
--- The bytes of units, front by front.
+-- The bytes of units, prefix by prefix.
 use Rattle.std.proofs.Common.{◌≡◌, ℕ, ◌+◌, ◌≤◌, ◌<◌, List, [], ◌∷◌, ◌++◌, length, length-append, take, drop, slice_index, get_or, Fits, w16, refl, sym, ap, ◌∙◌, subst, arith, append_assoc}
 use Rattle.std.proofs.lemmas.Bool.Decides.{nat_tests}
 use Rattle.std.proofs.lemmas.List.{append-nil, length-take, take_all, take-append-drop}
@@ -13,7 +13,7 @@ use Rattle.wtf8_core.specs.FirstForm.{BeginsPair, BeginsNoPair}
 use Rattle.platform_str.specs.Bulk.{SpellsBefore}
 use Rattle.platform_str.proofs.lemmas.BulkUnits.{units_short}
 
--- before the first unit, and behind the last
+-- before the first unit, and after the last
 pub spells_none : (all : List ℕ) → SpellsBefore [] all all
 spells_none all = λ b h. h
 
@@ -24,7 +24,7 @@ pub spells_end : (front rest all : List ℕ) → length rest ≡ 0 → SpellsBef
 spells_end front [] all e s = spells_all front all s
 spells_end front (x ∷ rest) all e s = absurd (omega arith)
 
--- one front behind another
+-- one prefix after another
 pub spells_both : (front more rest behind all : List ℕ) → SpellsBefore front rest all → SpellsBefore more behind rest → SpellsBefore (front ++ more) behind all
 spells_both front more rest behind all s t = λ b h. subst (λ x. HasUnits x all) (sym (append_assoc front more b)) (s (more ++ b) (t b h))
 
@@ -33,7 +33,7 @@ precedes_points : (u : ℕ) (cs : List ℕ) → MayPrecede u (units cs) → MayP
 precedes_points u [] m = tt
 precedes_points u (d ∷ cs) m = λ h l. subst (MayPrecede u) (ap (λ us. us ++ units cs) (wide_single d (omega (arith, l.1)))) m h l
 
--- a unit of its own
+-- a unit that isn't part of a pair
 pub spells_single : (u : ℕ) (rest : List ℕ) → IsUnit u → MayPrecede u rest → SpellsBefore (form u) rest (u ∷ rest)
 spells_single u rest i m = λ b h. record {
   code_points = u ∷ h.code_points;
@@ -60,7 +60,7 @@ spells_each (x ∷ xs) rest a =
 spells_ascii : (xs rest all : List ℕ) → All (λ x. x < 0x80) xs → all ≡ xs ++ rest → SpellsBefore xs rest all
 spells_ascii xs rest all a e = subst (SpellsBefore xs rest) (sym e) (spells_each xs rest (recursion_from_All (λ x. x < 0x80) xs a))
 
--- the first code point, of a pair and of a single unit
+-- the first code point, from a pair and from a single unit
 pub record FirstCodePoint (us : List ℕ) (c : ℕ) (rest : List ℕ) : Type 0 where
   pub code_point : IsCodePoint c
   pub spelled : SpellsBefore (form c) rest us
@@ -105,7 +105,7 @@ pub begins_none : {us front : List ℕ} → 0 < length us → front ≡ take 1 u
 begins_none {us} {front} h f b high low rest e i l =
     omega (arith, i.0, b, ap (λ x. slice_index x 0) f, first_of_one us h, ap (λ x. slice_index x 0) e)
 
--- the units behind others
+-- the units that come after others
 pub units_behind : (taken rest all : List ℕ) → all ≡ taken ++ rest → AllByRecursion IsUnit all → AllByRecursion IsUnit rest
 units_behind taken rest all e a = go taken (subst (AllByRecursion IsUnit) e a)
   where
@@ -116,13 +116,13 @@ units_behind taken rest all e a = go taken (subst (AllByRecursion IsUnit) e a)
 pub are_units : (us : List ℕ) → ((i : ℕ) → Fits w16 (get_or us i 0)) → AllByRecursion IsUnit us
 are_units us h = recursion_from_All IsUnit us (All-from_get_or IsUnit us 0 (λ i _. omega (arith, h i)))
 
--- where there is room for the string there is room for the bytes that come next
+-- if there is room for the string, there is room for the bytes that come next
 pub bytes_fit : (front next behind us : List ℕ) (n : ℕ) → SpellsBefore (front ++ next) behind us → AllByRecursion IsUnit behind → ((string : List ℕ) → HasUnits string us → n ≡ length string) → length front + length next ≤ n
 bytes_fit front next behind us n s a exact =
     let b = units_spelled behind a in
     omega (arith, exact _ (s b.0 b.1), length-append (front ++ next) b.0, length-append front next)
 
--- where the bytes written are those of all units they are all
+-- if the bytes written so far are those of all units, they are all the bytes
 pub bytes_filled : (at : ℕ) (bytes rest us : List ℕ) → length rest ≡ 0 → at ≤ length bytes → SpellsBefore (take at bytes) rest us → ((string : List ℕ) → HasUnits string us → length bytes ≡ length string) → HasUnits bytes us
 bytes_filled at bytes rest us none fits s exact =
     let h = spells_end (take at bytes) rest us none s in
@@ -132,14 +132,14 @@ bytes_filled at bytes rest us none fits s exact =
 pub has_none : (us : List ℕ) → us ≡ [] → HasUnits [] us
 has_none us e = spells_end [] us us (ap length e) (spells_none us)
 
--- where there is room for the string there is room for as many bytes as units are left
+-- if there is room for the string, there is room for as many bytes as there are units left
 pub units_room : (front rest us : List ℕ) (n : ℕ) → SpellsBefore front rest us → AllByRecursion IsUnit rest → ((string : List ℕ) → HasUnits string us → n ≡ length string) → length front + length rest ≤ n
 units_room front rest us n s a exact =
     let b = units_spelled rest a in
     let h = b.1 in
     omega (arith, exact _ (s b.0 h), length-append front b.0, ap length h.are, ap length h.spelled.joined, units_short h.code_points)
 
--- ASCII at the front of units
+-- ASCII at the start of units
 pub spells_ascii_front : (n : ℕ) (behind us : List ℕ) → All (λ x. x < 0x80) (take n us) → behind ≡ drop n us → SpellsBefore (take n us) behind us × (us ≡ take n us ++ behind)
 spells_ascii_front n behind us a e =
     let joined : us ≡ take n us ++ behind = sym (take-append-drop n us) ∙ ap (λ x. take n us ++ x) (sym e) in

@@ -1,4 +1,4 @@
--- The front of a string taken off, and its units with it.
+-- A prefix of a string taken off, and its units with it.
 use Rattle.std.proofs.Common.{◌≡◌, ℕ, ◌+◌, ◌*◌, ◌%◌, ◌≤◌, ◌<◌, List, [], ◌∷◌, ◌++◌, length, take, drop, slice_index, vec_len, vec_capacity, refl, sym, ap, ◌∙◌, subst, arith, append_assoc, length-append}
 use Rattle.std.specs.declared.vec.Vec.{Vec}
 use Rattle.std.proofs.lemmas.List.{take-append-drop}
@@ -19,7 +19,7 @@ ascii_first : (c x : ℕ) (rest l : List ℕ) → x < 0x80 → x ∷ l ≡ form 
 unfolding form
 ascii_first c x rest l h e = (grind (arith, nat_tests, e), grind (arith, nat_tests, e))
 
--- ASCII in front of a string is its own units
+-- ASCII at the start of a string is its own units
 ascii_front : (xs r : List ℕ) → AllByRecursion (λ x. x < 0x80) xs → IsWtf8 (xs ++ r) → IsWtf8 r × (units_of (xs ++ r) ≡ xs ++ units_of r)
 ascii_front [] r a w = (w, refl)
 ascii_front (x ∷ xs) r a w =
@@ -46,7 +46,7 @@ units_short (c ∷ cs) = omega (arith, wide_short c, units_short cs, length-appe
 pub units_fit : (b : List ℕ) → IsWtf8 b → length (units_of b) ≤ length b
 units_fit b w = omega (arith, units_short w.0, ap (λ cs. length (units cs)) (code_points_in-spelled b w.0 w.1), ap length w.1.joined)
 
--- a block of ASCII at the front of what is left
+-- a block of ASCII at the start of what is left
 pub record AsciiStep (written rest block behind all : List ℕ) : Type 0 where
   pub formed : IsWtf8 behind
   pub units_are : (written ++ block) ++ units_of behind ≡ all
@@ -64,11 +64,11 @@ form_step written rest behind all c b e = append_assoc written (wide c) (units_o
 pub form_shorter : {rest behind : List ℕ} {c : ℕ} → BeginsForm rest c behind → length behind < length rest
 form_shorter {rest} {behind} {c} b = omega (arith, ap length b.joined, length-append (form c) behind, (form_bounds c).0)
 
--- where there is room for all units there is room for those that come next
+-- if there is room for all units, there is room for those that come next
 pub room_for : {Z : Type 0} (u v : Vec ℕ Z) (next left all : List ℕ) → (v.items ++ next) ++ left ≡ u.items ++ all → vec_capacity u ≤ vec_capacity v → vec_len u + length all ≤ vec_capacity u → vec_len v + length next ≤ vec_capacity v
 room_for u v next left all e c r = omega (arith, ap length e, length-append (v.items ++ next) left, length-append v.items next, length-append u.items all, u.ok.0, v.ok.0)
 
--- the same of the vector that the block was written to
+-- the same for the vector to which the block was written
 pub ascii_written : (before written lanes rest block behind all : List ℕ) → AsciiStep before rest block behind all → written ≡ before ++ lanes → lanes ≡ block → written ++ units_of behind ≡ all
 ascii_written before written lanes rest block behind all s w l = ap (λ x. x ++ units_of behind) (w ∙ ap (λ x. before ++ x) l) ∙ s.units_are
 

@@ -5,7 +5,7 @@ use Rattle.std.specs.declared.cmp.Ordering.{Ordering}
 use Rattle.std.specs.declared.cmp.Ordering.TheVariants.{Less, Equal, Greater}
 use Rattle.std.specs.Cmp.Lexicographic.{slice_cmp, slice_partial_cmp, lists_agrees}
 
--- a field in which all values are equal decides nothing
+-- a field whose values are all equal doesn't affect the order
 then_equal : (o : Ordering) → partial_ordering_then (Some o) (Some Equal) ≡ Some o
 then_equal Less = refl
 then_equal Equal = refl

@@ -19,7 +19,7 @@ count_more : (x : ℕ) (text : List ℕ) → char_count (x ∷ text) ≡ cond (i
 unfolding char_count
 count_more x text = refl
 
--- a byte more is counted, or not
+-- one more byte is counted, or isn't
 pub counted : (count n : ℕ) (all rest behind : List ℕ) (x : ℕ) → rest ≡ x ∷ behind → n ≡ count + cond (is_char_start x) 1 0 → n ≤ count + 1
     → (count + char_count rest ≡ char_count all) × (count + length rest ≤ length all) → (n + char_count behind ≡ char_count all) × (n + length behind ≤ length all)
 counted count n all rest behind x e k m i =
@@ -45,7 +45,7 @@ count_replacement = refl
 abbrev by_padding : ℕ → Option Alignment → List ℕ → ℕ → List ℕ
 by_padding fill align text padding = repeat (fill_before align padding) (encode_utf8 fill) ++ (text ++ repeat (padding - fill_before align padding) (encode_utf8 fill))
 
--- what is written by parts, where a width is asked for
+-- what is written piece by piece, if a width is given
 pub filled_by : (fill later : ℕ) (align : Option Alignment) (width : Option ℕ) (asked count padding before : ℕ) (text written : List ℕ) → later ≡ fill → width ≡ Some asked → count ≡ char_count written → written ≡ text → padding ≡ asked - count → before ≡ fill_before align padding
     → repeat before (encode_utf8 fill) ++ (written ++ repeat (padding - before) (encode_utf8 later)) ≡ filled fill align width text
 filled_by fill later align width asked count padding before text written l w c t p b =
@@ -56,14 +56,14 @@ filled_by fill later align width asked count padding before text written l w c t
     ∙ ap (by_padding fill align text) same
 
 module _ {well_formed : List ℕ → Type 0} {lossy : List ℕ → List ℕ} {bytes front rest : List ℕ} (f : IsFirstText well_formed lossy bytes front rest) where
-  -- the characters up to the rest, and one for what is no text
+  -- the characters up to the rest, and one more for what isn't text
   pub count_first : char_count (lossy bytes) ≡ (char_count front + 1) + char_count (lossy rest)
   count_first =
       let all = ap char_count f.lossy_is ∙ count_append front (replacement ++ lossy rest) in
       let behind = count_append replacement (lossy rest) in
       omega (arith, count_replacement)
 
-  -- what is written, with the text and U+FFFD behind it
+  -- what is written so far, and then the text and U+FFFD
   pub write_first : (done all : List ℕ) → done ++ lossy bytes ≡ all → ((done ++ front) ++ encode_utf8 0xFFFD) ++ lossy rest ≡ all
   write_first done all e =
       append_assoc (done ++ front) (encode_utf8 0xFFFD) (lossy rest)

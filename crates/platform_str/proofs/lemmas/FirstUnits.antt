@@ -1,4 +1,4 @@
--- The first unit of bytes that are WTF-8 and begin with no whole character, as the coder gives it.
+-- The first unit of bytes that are WTF-8 and don't begin with a whole character, as the encoder of units gives it.
 use Rattle.std.proofs.Common.{◌≡◌, ℕ, ◌<◌, List, [], ◌∷◌, length, drop, map, Ok, Err, sym, ap, ◌∙◌, subst, arith}
 use Rattle.wtf8_core.specs.Covered.{StartsBare}
 use Rattle.wtf8_core.specs.Items.{AreUnitItems}
@@ -10,7 +10,7 @@ use Rattle.wtf8_core.proofs.lemmas.units.AsFunction.{units_of-is}
 use Rattle.platform_str.specs.Laws.{IsFirstUnit}
 use Rattle.platform_str.proofs.lemmas.WideLemmas.{Item, ok_units}
 
--- the items are the units, and the first is one of three bytes
+-- the items are the units, and the first one is a unit of three bytes
 record BeginsUnit (b : List ℕ) (items : List Item) : Type 0 where
   unit : ℕ
   others : List Item
@@ -38,7 +38,7 @@ first_is_unit {b} {items} {rest} {u} w some bare a e =
     let same : f.unit ≡ u = cc in
     subst (λ n. IsFirstUnit IsWtf8 units_of b n 3) same f.first
 
--- and neither a fault nor the end
+-- and it is neither a fault nor the end
 pub first_is_no_fault : {b : List ℕ} {items rest : List Item} {fault : EncodingError} → IsWtf8 b → 0 < length b → StartsBare b → AreUnitItems b items → items ≡ Err fault ∷ rest → ⊥
 first_is_no_fault {b} {items} {rest} {fault} w some bare a e =
     let f = begins_unit b items w some bare a in

@@ -3,7 +3,7 @@ use Rattle.std.proofs.Common.{◌≡◌, ℕ, ◌+◌, ◌≤◌, List, ◌++◌
 use Rattle.wtf8_core.specs.CodePoint.{form}
 use Rattle.wtf8_core.proofs.lemmas.forms.Shapes.{form_past}
 
--- the form of a code point past FFFF, between what stood before and behind it
+-- the form of a code point past FFFF, between what came before it and what comes after it
 pub pair_written : (new old : List ℕ) (at end c : ℕ) → take end new ≡ take at old ++ form c → drop end new ≡ drop end old → end ≡ at + length (form c) → 0x1_0000 ≤ c → new ≡ take at old ++ (form c ++ drop (at + 4) old)
 pair_written new old at end c front behind size past =
     let four : end ≡ at + 4 = size ∙ ap (λ f. at + length f) (form_past c past) in

@@ -1,4 +1,4 @@
--- U+FFFD in the place of three bytes.
+-- U+FFFD written over three bytes.
 use Rattle.std.proofs.Common.{◌≡◌, ℕ, ◌+◌, ◌-◌, ◌≤◌, List, [], ◌∷◌, ◌++◌, length, take, drop, refl, sym, ap, ◌∙◌, subst, arith, append_assoc, length-drop, slice_set}
 use Rattle.std.proofs.Math.ListN.{set, length-set}
 use Rattle.std.proofs.lemmas.Grind.{take-set_at}
@@ -12,11 +12,11 @@ use Rattle.platform_str.specs.Laws.{PlatformLaws}
 use Rattle.platform_str.specs.Lossy.{IsLeft, IsReplacedUpTo}
 use Rattle.platform_str.proofs.lemmas.LossyLoops.{first_part, first_text, made_more, bare_at}
 
--- the bytes of U+FFFD, written one after the other from place s on
+-- the bytes of U+FFFD, written one after the other from index s on
 abbrev written : List ℕ → ℕ → List ℕ
 written b s = slice_set (slice_set (slice_set b s 0xEF) (s + 1) 0xBF) (s + 2) 0xBD
 
--- the front up to the place behind them
+-- the first bytes, up to the index after U+FFFD
 take-written : (b : List ℕ) (s n : ℕ) → n ≡ s + 3 → n ≤ length b → take n (written b s) ≡ take s b ++ replacement
 take-written b s n e h =
     let y = set b s 0xEF in
@@ -29,7 +29,7 @@ take-written b s n e h =
     p ∙ ap (λ t. t ++ 0xBD ∷ []) (q ∙ ap (λ t. t ++ 0xBF ∷ []) r)
     ∙ append_assoc (take s b ++ 0xEF ∷ []) (0xBF ∷ []) (0xBD ∷ []) ∙ append_assoc (take s b) (0xEF ∷ []) (0xBF ∷ 0xBD ∷ [])
 
--- what follows stays
+-- what follows doesn't change
 drop-written : (b : List ℕ) (s n : ℕ) → n ≡ s + 3 → drop n (written b s) ≡ drop n b
 drop-written b s n e =
     drop-set-lt n (set (set b s 0xEF) (s + 1) 0xBF) (s + 2) 0xBD (omega arith)
@@ -42,14 +42,14 @@ drop_twice b n m = sym (drop-drop m n b)
 take_both : (b : List ℕ) (n m : ℕ) → take (n + m) b ≡ take n b ++ take m (drop n b)
 take_both b n m = take-add n m b
 
--- the part at a fault has three bytes, they are there, and U+FFFD is written over them
+-- the part at a fault has three bytes, the string has them, and U+FFFD is written over them
 pub record IsWritten (well_formed : List ℕ → Type 0) (lossy : List ℕ → List ℕ) (all bytes : List ℕ) (at n m : ℕ) : Type 0 where
   pub three : m ≡ 3
   pub room : at + n + 3 ≤ length bytes
   pub replaced : IsReplacedUpTo well_formed lossy all (written bytes (at + n)) (at + n + m)
 
 module _ {first_fault : List ℕ → EncodingError → Type 0} {well_formed : List ℕ → Type 0} {units : List ℕ → List ℕ} {is_unit_list io_safe : List ℕ → Type 0} {lossy : List ℕ → List ℕ} {replaces : List ℕ → ℕ → Type 0} where
-  -- so it is where some string isn't IO-safe
+  -- this holds if some string isn't IO-safe
   pub put : (laws : PlatformLaws first_fault well_formed units is_unit_list io_safe lossy replaces) {all bytes rest behind : List ℕ} {at n m : ℕ} → well_formed all → ¬ (io_safe all) → rest ≡ drop at bytes → behind ≡ drop (at + n) bytes
       → IsValidUpTo rest n → IsReplacedUpTo well_formed lossy all bytes at → replaces behind m → IsWritten well_formed lossy all bytes at n m
   put laws {all} {bytes} {rest} {behind} {at} {n} {m} f u e d v i r =
@@ -75,6 +75,6 @@ module _ {first_fault : List ℕ → EncodingError → Type 0} {well_formed : Li
         };
       }
 
--- no whole character starts at a fault, also where the rest is given by a place
+-- no whole character starts at a fault, also if the rest is given by its index
 pub bare_behind : (bytes : List ℕ) {rest behind : List ℕ} (at : ℕ) {n : ℕ} → rest ≡ drop at bytes → behind ≡ drop (at + n) bytes → IsValidUpTo rest n → StartsBare behind
 bare_behind bytes at {n} e d v = bare_at (d ∙ drop_twice bytes at n ∙ ap (drop n) (sym e)) v

@@ -1,4 +1,4 @@
--- What a test of all lanes says of each.
+-- What a test of all lanes says of each lane.
 use Rattle.std.proofs.Common.{◌≡◌, ℕ, zero, suc, ◌+◌, ◌*◌, ◌/◌, ◌-◌, ◌%◌, ◌^◌, ◌≤◌, ◌<◌, Bool, true, false, cond, eqb, leb, List, [], ◌∷◌, map, length, get_or, slice_index, replicate, take, set, not, ◌++◌, refl, sym, ap, ◌∙◌, subst, arith, eqb-true, leb-false}
 use Rattle.std.proofs.Math.Nat.{mod-eq_of_lt}
 use Rattle.std.proofs.Math.Seq.{take-append-add}
@@ -24,7 +24,7 @@ none_set test (x ∷ xs) e zero d h = go (test x) refl (omega (arith, e))
     go false p q = p
 none_set test (x ∷ xs) e (suc i) d h = none_set test xs (omega (arith, e)) i d (omega (arith, h))
 
--- no lane is as large as y, where no bit of the comparison is set
+-- if no bit of the comparison is set, no lane is y or more
 pub all_below_splat : (w : Width) (y n : ℕ) (xs : List ℕ) → length xs ≡ n → n ≤ 64 → eqb (mask_l (map (top (hbits w)) (zip2 (λ a b. cond (leb a b) (2 ^ bits w - 1) 0) (replicate n y) xs)) % 2 ^ 64) 0 ≡ true
     → All (λ x. x < y) xs
 all_below_splat w y n xs p l e i d h =
@@ -37,7 +37,7 @@ count_from_splat w y n xs p l =
     let m : mask_l (map (leb y) xs) % 2 ^ 64 ≡ mask_l (map (leb y) xs) = mask_l-mod (map (leb y) xs) 64 (omega (arith, length-map xs (leb y), p)) in
     rw (tops_compared w leb (replicate n y) xs, zip2_splat_left leb y n xs p) (ap count_ones m ∙ ones-mask_l (leb y) xs)
 
--- the high six bits of a unit, and of the one behind it, as one number of twelve bits
+-- the high six bits of a unit and those of the one after it, as one number of twelve bits
 abbrev pub six_and_six : ℕ → ℕ → ℕ
 six_and_six u v = ((u / 2 ^ 10) * 2 ^ 6 % 2 ^ 16 + v / 2 ^ 10) % 2 ^ 16
 
@@ -47,7 +47,7 @@ zip2_maps f g h [] vs = refl
 zip2_maps f g h (u ∷ us) [] = refl
 zip2_maps f g h (u ∷ us) (v ∷ vs) = ap (λ l. f (g u) (h v) ∷ l) (zip2_maps f g h us vs)
 
--- how many lanes are y, of the bits of units and of those behind them
+-- how many lanes equal y, for the bits of units and of the units after them
 pub count_is_splat : (n y : ℕ) (us vs : List ℕ) → length us ≡ n → length vs ≡ n → n ≤ 64
     → count_ones (mask_l (map (top 15) (zip2 (λ a b. cond (eqb a b) (2 ^ 16 - 1) 0) (zip2 (λ a b. (a + b) % 2 ^ 16) (zip2 (λ a b. a * 2 ^ b % 2 ^ 16) (zip2 (λ a b. a / 2 ^ b) us (replicate n 10)) (replicate n 6)) (zip2 (λ a b. a / 2 ^ b) vs (replicate n 10))) (replicate n y))) % 2 ^ 64)
     ≡ count_by (λ x. eqb x y) (zip2 six_and_six us vs)
@@ -62,7 +62,7 @@ count_is_splat n y us vs p q l =
     let k = length-zip2 six_and_six us vs (p ∙ sym q) in
     rw (a, b, s, m, z) (ap count_ones (bitmask_splat w16 eqb (zip2 six_and_six us vs) n y (k ∙ p) l) ∙ ones-mask_l (λ x. eqb x y) (zip2 six_and_six us vs))
 
--- the lanes before the first that is as large as y
+-- the lanes before the first lane that is y or more
 below_first : (y : ℕ) (xs : List ℕ) → AllByRecursion (λ x. x < y) (take (prefix_len (λ x. not (leb y x)) xs) xs)
 below_first y [] = tt
 below_first y (x ∷ xs) =
@@ -72,12 +72,12 @@ below_first y (x ∷ xs) =
     subst (λ n. AllByRecursion (λ z. z < y) (take n (x ∷ xs))) more (grind (arith, nat_tests, e), below_first y xs))
     (λ e. tt)
 
--- they are some where the first lane is smaller
+-- there is at least one if the first lane is less than y
 some_below_first : (y : ℕ) (xs : List ℕ) → 0 < length xs → slice_index xs 0 < y → 0 < prefix_len (λ x. not (leb y x)) xs
 some_below_first y [] h b = h
 some_below_first y (x ∷ xs) h b = cond_both (not (leb y x)) _ _ (λ n. 0 < n) (λ e. omega arith) (λ e. absurd (grind (arith, nat_tests, e, b)))
 
--- and how many they are, where a bit of the comparison is set
+-- and how many there are if a bit of the comparison is set
 pub front_below_splat : (w : Width) (y n : ℕ) (xs : List ℕ) → length xs ≡ n → n ≤ 64 → 0 < mask_l (map (top (hbits w)) (zip2 (λ a b. cond (leb a b) (2 ^ bits w - 1) 0) (replicate n y) xs)) % 2 ^ 64
     → (count_trailing_zeros 64 (mask_l (map (top (hbits w)) (zip2 (λ a b. cond (leb a b) (2 ^ bits w - 1) 0) (replicate n y) xs)) % 2 ^ 64) ≤ n)
     × (0 < length xs → slice_index xs 0 < y → 0 < count_trailing_zeros 64 (mask_l (map (top (hbits w)) (zip2 (λ a b. cond (leb a b) (2 ^ bits w - 1) 0) (replicate n y) xs)) % 2 ^ 64))
@@ -93,7 +93,7 @@ front_below_splat w y n xs p l e =
       subst (λ k. AllByRecursion (λ x. x < y) (take k xs)) (sym first) (below_first y xs),
     )
 
--- a front of a front
+-- a prefix of a prefix
 pub front_of_front : (n m : ℕ) (xs : List ℕ) → n ≤ m → take n (take m xs) ≡ take n xs
 front_of_front zero m xs h = refl
 front_of_front (suc n) zero xs h = absurd (omega arith)
@@ -108,14 +108,14 @@ take_front_put_chunk i n xs ys h k =
     ∙ ap (λ j. take (j + n) (take i xs ++ ys)) (sym (length-take-le i xs (omega (arith, h))))
     ∙ take-append-add (take i xs) ys n
 
--- lanes that f leaves as they are
+-- lanes that f doesn't change
 pub front_kept : (f : ℕ → ℕ) (y n m : ℕ) (xs : List ℕ) → ((x : ℕ) → x < y → f x ≡ x) → n ≤ m → AllByRecursion (λ x. x < y) (take n xs) → take n (map f (take m xs)) ≡ take n xs
 front_kept f y zero m xs k h a = refl
 front_kept f y (suc n) zero xs k h a = absurd (omega arith)
 front_kept f y (suc n) (suc m) [] k h a = refl
 front_kept f y (suc n) (suc m) (x ∷ xs) k h a = ap (λ z. z ∷ take n (map f (take m xs))) (k x a.0) ∙ ap (λ l. x ∷ l) (front_kept f y n m xs k (omega arith) a.1)
 
--- one that is smaller
+-- one lane that is less
 pub first_below : (y : ℕ) (xs : List ℕ) → 0 < length xs → slice_index xs 0 < y → AllByRecursion (λ x. x < y) (take 1 xs)
 first_below y [] h b = tt
 first_below y (x ∷ xs) h b = (b, tt)

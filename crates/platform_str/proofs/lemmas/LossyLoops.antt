@@ -16,7 +16,7 @@ use Rattle.platform_str.specs.Lossy.{IsLeft, IsFirstText}
 pub bare_at : {b behind : List ℕ} {n : ℕ} → behind ≡ drop n b → IsValidUpTo b n → StartsBare behind
 bare_at {b} {behind} {n} e v = subst StartsBare (sym e) (none_at (drop n b) 0 (no_char b n v))
 
--- some byte stands there
+-- there is some byte
 some_at : {b behind : List ℕ} {n : ℕ} → behind ≡ drop n b → IsValidUpTo b n → 0 < length behind
 some_at {b} {behind} {n} e v = let s = v.short in omega (arith, length-drop n b, ap length e)
 
@@ -26,7 +26,7 @@ unfolding encode_utf8
 encode_fffd = refl
 
 module _ {first_fault : List ℕ → EncodingError → Type 0} {well_formed : List ℕ → Type 0} {units : List ℕ → List ℕ} {is_unit_list io_safe : List ℕ → Type 0} {lossy : List ℕ → List ℕ} {replaces : List ℕ → ℕ → Type 0} (laws : PlatformLaws first_fault well_formed units is_unit_list io_safe lossy replaces) where
-  -- behind the text at the front, one U+FFFD stands for the first m bytes
+  -- after the text at the start, one U+FFFD replaces the first m bytes
   pub first_part : {bytes behind : List ℕ} {n m : ℕ} → behind ≡ drop n bytes → IsValidUpTo bytes n → well_formed bytes → replaces behind m → IsReplaced well_formed lossy behind m
   first_part {bytes} {behind} {n} {m} e v w r =
       laws.lossy_step behind m (subst well_formed (sym e) (laws.behind_text bytes n w v.front)) (some_at e v) (bare_at e v) r
@@ -44,7 +44,7 @@ module _ {first_fault : List ℕ → EncodingError → Type 0} {well_formed : Li
         shorter = omega (arith, s, p.some, p.within, ap length t, length-take-le n bytes (omega (arith, s)), ap length e, length-drop n bytes, ap length d, length-drop m behind);
       }
 
--- one more text and one U+FFFD are made
+-- one more text and one more U+FFFD are made
 pub made_more : {well_formed : List ℕ → Type 0} {lossy : List ℕ → List ℕ} {all made front rest behind : List ℕ} → IsLeft well_formed lossy all made rest → IsFirstText well_formed lossy rest front behind
     → IsLeft well_formed lossy all ((made ++ front) ++ replacement) behind
 made_more {lossy = lossy} {made = made} {front = front} {behind = behind} i f = record {
@@ -52,12 +52,12 @@ made_more {lossy = lossy} {made = made} {front = front} {behind = behind} i f = 
   lossy_is = i.lossy_is ∙ ap (λ x. made ++ x) f.lossy_is ∙ sym (append_assoc made front (replacement ++ lossy behind)) ∙ sym (append_assoc (made ++ front) replacement (lossy behind));
 }
 
--- the same of the text that the loop has
+-- the same for the text that the loop has made
 pub next : {well_formed : List ℕ → Type 0} {lossy : List ℕ → List ℕ} {all made front rest after behind : List ℕ} → IsLeft well_formed lossy all made rest → IsFirstText well_formed lossy rest front behind
     → after ≡ (made ++ front) ++ replacement → IsLeft well_formed lossy all after behind
 next {well_formed} {lossy} {all} {behind = behind} i f a = subst (λ x. IsLeft well_formed lossy all x behind) (sym a) (made_more i f)
 
--- a front that was written as a block of n bytes, of which the first k are kept
+-- a prefix that was written as a block of n bytes, of which the first k are kept
 pub front_of_block : (before bytes block text : List ℕ) (n k : ℕ) → k ≤ n → n ≤ length bytes → block ≡ take n bytes → text ≡ before ++ block → take (length text - (n - k)) text ≡ before ++ take k bytes
 front_of_block before bytes block text n k few room b t =
     let size : length text - (n - k) ≡ length before + k = omega (arith, few, ap length t, length-append before block, ap length b, length-take-le n bytes room) in

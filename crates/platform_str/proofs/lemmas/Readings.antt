@@ -19,7 +19,7 @@ module _ {rest : List ℕ} {v n : ℕ} (f : IsFaultAt rest v n) where
   behind_is : drop n (drop v rest) ≡ f.first.begins.rest
   behind_is = ap (drop n) (faulty_is ∙ f.first.begins.is) ∙ drop_at f.first.begins.refused f.first.begins.rest n (sym f.refused_is)
 
-  -- the place and the part lie within the bytes
+  -- the fault's index and its part lie within the bytes
   pub place_fits : v ≤ length rest
   place_fits = let all = ap length f.first.joined ∙ length-append f.first.before f.first.from in omega (arith, f.valid_is)
 
@@ -28,7 +28,7 @@ module _ {rest : List ℕ} {v n : ℕ} (f : IsFaultAt rest v n) where
       let all = ap length (e ∙ faulty_is ∙ f.first.begins.is) ∙ length-append f.first.begins.refused f.first.begins.rest in
       omega (arith, f.refused_is)
 
-  -- the front and one U+FFFD are made, and what follows the part is left
+  -- the text before the fault and one U+FFFD are made, and what follows the part is left
   pub read_part : (all made : List ℕ) {front faulty behind once twice : List ℕ} → IsLeftToRead all made rest → front ≡ take v rest → faulty ≡ drop v rest → behind ≡ drop n faulty
       → once ≡ made ++ front → twice ≡ once ++ replacement → IsLeftToRead all twice behind
   read_part all made {front} {faulty} {behind} {once} {twice} left a b d o t later r =
@@ -40,7 +40,7 @@ module _ {rest : List ℕ} {v n : ℕ} (f : IsFaultAt rest v n) where
       ∙ append_assoc made f.first.before (replacement ++ later) in
       subst (IsLossyReading all) (sym made_is) (left (f.first.before ++ (replacement ++ later)) front_first)
 
--- where the rest is WTF-8, all is read
+-- if the rest is WTF-8, everything is read
 pub read_end : (all made : List ℕ) {rest once : List ℕ} → IsLeftToRead all made rest → IsWtf8 rest → once ≡ made ++ rest → IsLossyReading all once
 read_end all made {rest} {once} left w o = subst (IsLossyReading all) (sym o) (left rest (formed w))
 

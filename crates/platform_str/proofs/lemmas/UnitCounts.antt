@@ -59,7 +59,7 @@ all_counted (u ∷ v ∷ us) a =
     let none : begins_pair u (v ∷ us) ≡ 0 = ap (λ t. cond t 1 0) e in
     omega (arith, length-append (form u) (flat_map form (code_points_of (v ∷ us))), form_one u a.0, none, counted_first u (v ∷ us), all_counted (v ∷ us) a.1))
 
--- so of a string with these units
+-- so this is the length of a string with these units
 pub string_counted : (string us : List ℕ) → AllByRecursion IsUnit us → HasUnits string us → length string + 2 * pairs us ≡ counted us
 string_counted string us a h = ap (λ b. length b + 2 * pairs us) (units_once string _ us h (spelled_units us a)) ∙ all_counted us a
 
@@ -80,7 +80,7 @@ pairs_front (suc n) (u ∷ v ∷ us) h a =
     let one : cond (eqb (six_and_six u v) 3511) 1 0 ≡ begins_pair u (v ∷ us) = ap (λ t. cond t 1 0) (lane_is_pair u v a.0 a.1.0) in
     omega (arith, one, count_first (λ x. eqb x 3511) (six_and_six u v) (zip2 six_and_six (take n (v ∷ us)) (take n us)), pairs_front n (v ∷ us) (omega arith) a.1)
 
--- no more than three bytes for a unit, and no more pairs than units
+-- at most three bytes for a unit, and at most as many pairs as units
 pub counted_few : (us : List ℕ) → counted us ≤ 3 * length us
 counted_few us = omega (arith, count_by-le-length (leb 0x80) us, count_by-le-length (leb 0x800) us)
 
@@ -92,7 +92,7 @@ pub pairs_few : (us : List ℕ) → pairs us ≤ length us
 pairs_few [] = omega arith
 pairs_few (u ∷ us) = omega (arith, begins_few u us, pairs_few us)
 
--- the counts of the first n units are no more than n
+-- the counts of the first n units are at most n
 pub count_few : (n y : ℕ) (us : List ℕ) → count_by (leb y) (take n us) ≤ n
 count_few n y us = omega (arith, count_by-le-length (leb y) (take n us), length-take n us)
 
@@ -101,7 +101,7 @@ pub counted_none : (us : List ℕ) → length us < 1 → (counted us ≡ 0) × (
 counted_none [] h = (refl, refl)
 counted_none (u ∷ us) h = absurd (omega arith)
 
--- none where all of the first n units are below 0x800
+-- none if all of the first n units are below 0x800
 begins_none_below : (u : ℕ) (us : List ℕ) → u < 0x800 → begins_pair u us ≡ 0
 begins_none_below u [] h = refl
 begins_none_below u (v ∷ us) h = grind (arith, nat_tests)

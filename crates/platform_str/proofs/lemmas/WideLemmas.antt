@@ -1,4 +1,4 @@
--- The units of a string, where no fault comes.
+-- The units of a string, if its bytes have no fault.
 use Rattle.std.proofs.Common.{◌≡◌, ℕ, List, [], ◌∷◌, map, Result, Ok, Err, sym, ap, ◌∙◌}
 use Rattle.std.specs.List.{flat_map}
 use Rattle.wtf8_core.specs.Wtf8.{IsWtf8, HasUnits, units}
@@ -13,12 +13,12 @@ use Rattle.wtf8_core.proofs.lemmas.units.AsFunction.{ok_values_of_oks}
 abbrev pub Item : Type 0
 Item = Result ℕ EncodingError
 
--- no item is a fault, and the values are the units of the bytes
+-- no item is a fault, and the values of the items are the units of the bytes
 pub record OkUnits (b : List ℕ) (items : List Item) : Type 0 where
   pub all_ok : items ≡ map Ok (ok_values items)
   pub has : HasUnits b (ok_values items)
 
--- so it is where the bytes are WTF-8
+-- this holds if the bytes are WTF-8
 pub ok_units : {b : List ℕ} {items : List Item} → IsWtf8 b → AreUnitItems b items → OkUnits b items
 ok_units {b} {items} w a = by a.items a.are_items a.are
   where
@@ -34,13 +34,13 @@ no_err : (f : EncodingError) (rest : List Item) (us : List ℕ) → Err f ∷ re
 no_err f rest [] e = cc
 no_err f rest (u ∷ us) e = cc
 
--- the first unit is the first value, and no fault comes behind it
+-- the first unit is the first value, and no fault comes after it
 pub first_ok : {items rest : List Item} {u : ℕ} → items ≡ map Ok (ok_values items) → items ≡ Ok u ∷ rest → (rest ≡ map Ok (ok_values rest)) × (ok_values items ≡ u ∷ ok_values rest)
 first_ok {items} {rest} {u} a e =
     let v : ok_values items ≡ u ∷ ok_values rest = ap ok_values e in
     let w : Ok u ∷ rest ≡ Ok u ∷ map Ok (ok_values rest) = sym e ∙ a ∙ ap (λ l. map Ok l) v in
     (cc, v)
 
--- the first item is no fault
+-- the first item isn't a fault
 pub first_err : {items rest : List Item} {f : EncodingError} → items ≡ map Ok (ok_values items) → items ≡ Err f ∷ rest → ⊥
 first_err {items} {rest} {f} a e = no_err f rest (ok_values items) (sym e ∙ a)

@@ -32,7 +32,7 @@ AreAboveAscii us = All (λ u. 0x80 ≤ u) us
 abbrev pub IsSame : List ℕ → List ℕ → Type 0
 IsSame b c = c ≡ b
 
--- that numbers are bytes has one proof
+-- any two proofs that numbers are bytes are equal
 pub bytes_prop : (b : List ℕ) → IsProp (AreBytes b)
 bytes_prop b = hlevel le_prop
 
@@ -74,7 +74,7 @@ unix_readings = record {
   some_reading = λ b a. (b, refl);
 }
 
--- both parts of bytes are bytes
+-- the parts of a list of bytes are lists of bytes
 bytes_front : (x y : List ℕ) → AreBytes (x ++ y) → AreBytes x
 bytes_front x y h = subst AreBytes (take_at x y (length x) refl) (All-take (λ b. b < 256) (length x) (x ++ y) h)
 

@@ -33,7 +33,7 @@ IsTextFault b End = ⊥
 abbrev pub AreNone : List ℕ → Type 0
 AreNone us = us ≡ []
 
--- the first fault is one
+-- the first fault is unique
 one_fault : (b : List ℕ) (f g : EncodingError) → IsTextFault b f → IsTextFault b g → f ≡ g
 one_fault b (Utf8 n l) (Utf8 m k) p q = let e = one_utf8_fault b n m l k p q in ap (λ x. Utf8 x l) e.0 ∙ ap (λ x. Utf8 m x) e.1
 one_fault b (Utf8 n l) (Byte x) p q = absurd q
@@ -43,7 +43,7 @@ one_fault b (Byte x) g p q = absurd p
 one_fault b (CodePoint x) g p q = absurd p
 one_fault b End g p q = absurd p
 
--- bytes with a fault are no text
+-- bytes with a fault aren't a text
 faulty : (b : List ℕ) (f : EncodingError) → IsTextFault b f → IsUtf8 b → ⊥
 faulty b (Utf8 n l) p u = no_text b n p.valid u
 faulty b (Byte x) p u = p
@@ -77,7 +77,7 @@ wasm_laws = record {
   lossy_step = λ b n h s k r. absurd (never_bare b h s k);
 }
 
--- a text in which no whole character stands is empty
+-- a text that contains no whole character is empty
 none_in_text : (b : List ℕ) → IsUtf8 b → IsBare b → b ≡ []
 none_in_text [] u k = refl
 none_in_text (x ∷ b) u k = absurd (never_bare (x ∷ b) u (omega arith) (k 0))
@@ -98,7 +98,7 @@ wasm_readings = record {
 text_back : (x y : List ℕ) → IsUtf8 x → IsUtf8 (x ++ y) → IsUtf8 y
 text_back x y t u = subst IsUtf8 (drop_at x y (length x) refl) (utf8_behind (x ++ y) (length x) u (subst IsUtf8 (sym (take_at x y (length x) refl)) t))
 
--- and before one at the end, and before one that isn't empty
+-- and so is what comes before a text at the end, and before any text that isn't empty
 text_front : (x y : List ℕ) → IsUtf8 y → IsUtf8 (x ++ y) → IsUtf8 x
 text_front x y t u =
     let d : IsUtf8 (drop (length x) (x ++ y)) = subst IsUtf8 (sym (drop_at x y (length x) refl)) t in

@@ -1,5 +1,5 @@
-//! How many bytes of a window may stand where they do. A window is a block or a step with the
-//! [`BEFORE`](crate::scan::BEFORE) bytes before it.
+//! How many bytes of a window are allowed after those before them. A window is a block or a step
+//! with the [`BEFORE`](crate::scan::BEFORE) bytes before it.
 ghost use Rattle.std.specs.Prelude.{◌≡◌, ◌≢◌, ℕ, ◌+◌, ◌≤◌, ◌<◌, length, slice_index, bit_and, bit_or, bit_xor};
 ghost use Rattle.wtf8_core.specs.PairBits.{error_bits, surrogate_pair_difference};
 ghost use Rattle.wtf8_core.specs.Neighbours.{AllMayStand};
@@ -12,7 +12,7 @@ use crate::scan::lanes::{
 use crate::scan::{BLOCK, Encoding, STEP};
 use std::simd::prelude::*;
 
-/// What is wrong with each of the 64 bytes behind the first four. Bit 40 (hexadecimal) is no fault
+/// What is wrong with each of the 64 bytes after the first four. Bit 40 (hexadecimal) is no fault
 /// by itself: it says that a surrogate begins.
 #[inline(always)]
 fn error_bits(window: &[u8]) -> u8x64
@@ -24,7 +24,7 @@ fn error_bits(window: &[u8]) -> u8x64
     xor(pairs, continuation_due(load(window, 1), load(window, 2)))
 }
 
-/// The same of the 16 bytes behind the first four.
+/// The same for the 16 bytes after the first four.
 #[inline(always)]
 fn error_bits_of_16(window: &[u8]) -> u8x16
     requires { 20 ≤ length window.now }
@@ -35,7 +35,7 @@ fn error_bits_of_16(window: &[u8]) -> u8x16
     xor(pairs, continuation_due(load(window, 1), load(window, 2)))
 }
 
-/// 0 where a low surrogate begins directly behind a high one, for each of the 64 bytes.
+/// For each of the 64 bytes, 0 where a low surrogate begins directly after a high one.
 #[inline(always)]
 fn surrogate_pair_difference(window: &[u8]) -> u8x64
     requires { 68 ≤ length window.now }
@@ -53,8 +53,8 @@ fn surrogate_pair_difference(window: &[u8]) -> u8x64
     or(leads, seconds)
 }
 
-/// How many of the 64 bytes behind the first four may stand where they do, before one that may
-/// not; in UTF-8, before one that begins a surrogate, too.
+/// How many of the 64 bytes after the first four are allowed after those before them, up to the
+/// first that isn't; in UTF-8, up to the first that begins a surrogate, too.
 #[inline(always)]
 pub(crate) fn kept_len(window: &[u8], encoding: Encoding) -> usize
     requires { 68 ≤ length window.now }
@@ -71,8 +71,8 @@ pub(crate) fn kept_len(window: &[u8], encoding: Encoding) -> usize
     }
 }
 
-/// The same by what is wrong with each, where surrogates may stand, but none in a pair. It is no
-/// part of the loop over blocks in which nothing is wrong, which is faster so.
+/// The same by what is wrong with each byte, where surrogates are allowed, but no pair of them. It
+/// is kept out of the loop over blocks in which nothing is wrong, which is faster without it.
 #[inline(never)]
 fn kept_with_surrogates(wrong: u8x64, window: &[u8]) -> usize
     requires window { 68 ≤ length window.now }
@@ -84,8 +84,8 @@ fn kept_with_surrogates(wrong: u8x64, window: &[u8]) -> usize
     leading_zero(masked(wrong, 0xBF)).min(leading_nonzero(surrogate_pair_difference(window)))
 }
 
-/// How many of the 16 bytes behind the first four may stand where they do in UTF-8, before one
-/// that may not.
+/// How many of the 16 bytes after the first four are allowed in UTF-8 after those before them, up
+/// to the first that isn't.
 #[inline(always)]
 pub(crate) fn kept_of_16(window: &[u8]) -> usize
     requires { 20 ≤ length window.now }

@@ -1,6 +1,7 @@
 //! How far bytes are well formed, 64 at a time, or 16 where a fault may be near.
 //!
-//! A front that is found is well formed; that a front as long as can be is found, nobody relies on.
+//! The prefix that is found is always well formed. It may be shorter than the longest one; callers
+//! must not rely on its length.
 ghost use Rattle.std.specs.Prelude.{◌≡◌, ◌∷◌, ℕ, suc, ◌+◌, ◌-◌, ◌≤◌, ◌<◌, length, IsTrue, MatchResult, slice_index};
 ghost use Rattle.std.specs.Int.{is_in_range};
 ghost use Rattle.wtf8_core.specs.Wtf8.{last_behind};
@@ -14,8 +15,8 @@ use crate::scan::error_bits::{kept_len, kept_of_16};
 use crate::scan::lanes::{are_ascii, load};
 use crate::scan::{BEFORE, BLOCK, Encoding, STEP};
 
-/// How many bytes at the front are of an encoding: all of them where they are, and else some that
-/// end where the next code point begins.
+/// The length of a prefix that is of this encoding: all the bytes, or some that end where the next
+/// code point begins.
 #[inline(always)]
 pub(crate) fn front_of(bytes: &[u8], encoding: Encoding) -> usize
     ensures within { result ≤ length bytes.now }
@@ -24,7 +25,7 @@ pub(crate) fn front_of(bytes: &[u8], encoding: Encoding) -> usize
     scan_from(bytes, 0, encoding)
 }
 
-/// The front of bytes that keep to the pattern up to a place.
+/// The same for bytes that keep to the pattern up to index `at`.
 #[inline(always)]
 pub(crate) fn scan_from(bytes: &[u8], at: usize, encoding: Encoding) -> usize
     requires within { at ≤ length bytes.now }
@@ -48,7 +49,7 @@ pub(crate) fn scan_from(bytes: &[u8], at: usize, encoding: Encoding) -> usize
     scan_blocks(bytes, at + BLOCK, encoding)
 }
 
-/// How many of the first 64 bytes from a place on keep to the pattern, before one that doesn't.
+/// How many of the 64 bytes from index `at` on keep to the pattern, up to the first that doesn't.
 #[inline(always)]
 fn first_len(bytes: &[u8], at: usize, encoding: Encoding) -> usize
     requires { at + 64 ≤ length bytes.now }
@@ -61,8 +62,8 @@ fn first_len(bytes: &[u8], at: usize, encoding: Encoding) -> usize
     window_len(bytes, at, encoding)
 }
 
-/// The same where four bytes or more stand before that place, so that each block is tested where
-/// it stands.
+/// The same as [`scan_from`] where four bytes or more come before `at`, so that each block is
+/// tested in place.
 #[inline(always)]
 fn scan_blocks(bytes: &[u8], at: usize, encoding: Encoding) -> usize
     requires from { 4 ≤ at }
@@ -83,8 +84,9 @@ fn scan_blocks(bytes: &[u8], at: usize, encoding: Encoding) -> usize
     scan_tail(bytes, end, encoding)
 }
 
-/// How far bytes that keep to the pattern of UTF-8 up to a place go on to keep to it, by at most
-/// eight steps of 16; or the front where one of them doesn't.
+/// Up to which index bytes keep to the pattern of UTF-8, which they do up to `at`: `Ok` with that
+/// index after at most eight steps of 16 bytes, or, if a byte of a step doesn't, `Err` with the
+/// length of a prefix that is UTF-8.
 #[inline(always)]
 pub(crate) fn scan_steps(bytes: &[u8], at: usize) -> Result<usize, usize>
     requires within { at ≤ length bytes.now }
@@ -106,7 +108,7 @@ pub(crate) fn scan_steps(bytes: &[u8], at: usize) -> Result<usize, usize>
     Ok(end)
 }
 
-/// How many of the next 16 bytes keep to the pattern of UTF-8, before one that doesn't.
+/// How many of the next 16 bytes keep to the pattern of UTF-8, up to the first that doesn't.
 #[inline(always)]
 fn step_len(bytes: &[u8], at: usize) -> usize
     requires from { 4 ≤ at }
@@ -117,7 +119,7 @@ fn step_len(bytes: &[u8], at: usize) -> usize
     kept_of_16(&bytes[at - BEFORE..])
 }
 
-/// Whether such a front ends in a high surrogate.
+/// Whether the first `at` bytes, if they are such a prefix of WTF-8, end with a high surrogate.
 #[inline(always)]
 pub(crate) fn is_behind_high(bytes: &[u8], at: usize) -> bool
     requires { at ≤ length bytes.now }
@@ -132,7 +134,7 @@ pub(crate) fn is_behind_high(bytes: &[u8], at: usize) -> bool
     is_high_second(bytes[at - 2])
 }
 
-/// Whether a byte behind ED begins the form of a high surrogate, where it continues one.
+/// Whether a byte after ED begins the form of a high surrogate, if it is a continuation.
 #[inline(always)]
 fn is_high_second(byte: u8) -> bool
     ensures { result ≡ is_in_range 0xA0 0xAF byte }
@@ -140,8 +142,8 @@ fn is_high_second(byte: u8) -> bool
     (0xA0..=0xAF).contains(&byte)
 }
 
-/// Where the blocks of ASCII from a place on end, if the byte before them is ASCII, too; else that
-/// place.
+/// The index at which the blocks of ASCII from `at` on end, if the byte before them is ASCII, too;
+/// else `at`.
 #[inline(always)]
 fn ascii_end(bytes: &[u8], at: usize) -> usize
     requires some { 0 < at }
@@ -169,7 +171,7 @@ fn is_ascii_block(bytes: &[u8], at: usize) -> bool
     are_ascii(load(bytes, at))
 }
 
-/// Whether the byte before a place is ASCII.
+/// Whether the byte before index `at` is ASCII.
 #[inline(always)]
 fn is_behind_ascii(bytes: &[u8], at: usize) -> bool
     requires some { 0 < at }
@@ -179,7 +181,7 @@ fn is_behind_ascii(bytes: &[u8], at: usize) -> bool
     bytes[at - 1] < 0x80
 }
 
-/// How many of the next 64 bytes keep to the pattern, before one that doesn't.
+/// How many of the next 64 bytes keep to the pattern, up to the first that doesn't.
 #[inline(always)]
 fn block_len(bytes: &[u8], at: usize, encoding: Encoding) -> usize
     requires from { 4 ≤ at }
@@ -190,7 +192,7 @@ fn block_len(bytes: &[u8], at: usize, encoding: Encoding) -> usize
     kept_len(&bytes[at - BEFORE..], encoding)
 }
 
-/// The front of bytes that keep to the pattern up to a place behind which fewer than 64 are left.
+/// The same as [`scan_from`] where fewer than 64 bytes are left after `at`.
 fn scan_tail(bytes: &[u8], at: usize, encoding: Encoding) -> usize
     requires from { at ≤ length bytes.now }
     requires short { length bytes.now - at < 64 }
@@ -205,8 +207,8 @@ fn scan_tail(bytes: &[u8], at: usize, encoding: Encoding) -> usize
     start_before(bytes, at + kept)
 }
 
-/// The last place before another at which a code point begins, where bytes keep to the pattern up to
-/// that one.
+/// The last index before `end` at which a code point begins, if the bytes keep to the pattern up to
+/// `end`.
 #[inline(always)]
 fn start_before(bytes: &[u8], end: usize) -> usize
     requires { end ≤ length bytes.now }
@@ -223,7 +225,8 @@ fn start_before(bytes: &[u8], end: usize) -> usize
     0
 }
 
-/// How many of the 64 bytes from a place on keep to the pattern, with zeros around the bytes.
+/// How many of the 64 bytes from index `at` on keep to the pattern, with zeros before and after the
+/// bytes.
 #[inline(always)]
 fn window_len(bytes: &[u8], at: usize, encoding: Encoding) -> usize
     requires { at ≤ length bytes.now }

@@ -4,11 +4,11 @@ ghost use Rattle.wtf8_core.specs.PairBits.{pair_bits, continuation_due};
 
 use std::simd::prelude::*;
 
-// What can be wrong with a byte behind another, a bit each, as Keiser and Lemire have it
-// ("Validating UTF-8 in less than one instruction per byte"): it is where all three tables have its
-// bit. 01: a lead before no continuation; 02: a continuation behind ASCII; 04, 08 and 10: overlong
-// of two, three and four bytes, or a lead past F4; 20: past the last code point; 40: a surrogate;
-// 80: a continuation behind a continuation. Each table stands four times behind itself.
+// What can be wrong with a byte after another, one bit for each fault, as Keiser and Lemire have it
+// ("Validating UTF-8 in less than one instruction per byte"). A fault is there if all three tables
+// have its bit. 01: a lead before no continuation; 02: a continuation after ASCII; 04, 08 and 10:
+// overlong of two, three and four bytes, or a lead past F4; 20: past the last code point; 40: a
+// surrogate; 80: a continuation after a continuation. Each table is repeated four times.
 
 /// By the high half of the first byte.
 const FIRST_HIGH: [u8; 64] = [
@@ -32,7 +32,7 @@ const SECOND_HIGH: [u8; 64] = [
     1, 158, 174, 230, 230, 1, 1, 1, 1,
 ];
 
-/// The next N bytes from place `from` on.
+/// The N bytes from index `from` on.
 #[inline(always)]
 pub(crate) fn load<const N: usize>(bytes: &[u8], from: usize) -> Simd<u8, N>
     requires { from + N ≤ length bytes.now }
@@ -49,7 +49,7 @@ fn high_halves<const N: usize>(bytes: Simd<u8, N>) -> Simd<u8, N>
     bytes >> Simd::splat(4)
 }
 
-/// Each lane's bits that the mask has.
+/// The bits of each lane that the mask has.
 #[inline(always)]
 pub(crate) fn masked<const N: usize>(bytes: Simd<u8, N>, mask: u8) -> Simd<u8, N>
     ensures { (i : ℕ) → i < N → slice_index result i ≡ bit_and (slice_index bytes.entry i) mask }
@@ -57,7 +57,7 @@ pub(crate) fn masked<const N: usize>(bytes: Simd<u8, N>, mask: u8) -> Simd<u8, N
     bytes & Simd::splat(mask)
 }
 
-/// Each lane with the bits of a value xor_with.
+/// Each lane, xor a value.
 #[inline(always)]
 pub(crate) fn xor_with(bytes: u8x64, value: u8) -> u8x64
     ensures { (i : ℕ) → i < 64 → slice_index result i ≡ bit_xor (slice_index bytes i) value }
@@ -65,7 +65,7 @@ pub(crate) fn xor_with(bytes: u8x64, value: u8) -> u8x64
     bytes ^ u8x64::splat(value)
 }
 
-/// The bits of both.
+/// The bits that at least one of the two has.
 #[inline(always)]
 pub(crate) fn or<const N: usize>(a: Simd<u8, N>, b: Simd<u8, N>) -> Simd<u8, N>
     ensures { (i : ℕ) → i < N → slice_index result i ≡ bit_or (slice_index a.entry i) (slice_index b.entry i) }
@@ -81,7 +81,7 @@ fn and<const N: usize>(a: Simd<u8, N>, b: Simd<u8, N>) -> Simd<u8, N>
     a & b
 }
 
-/// The bits that one of the two has.
+/// The bits that exactly one of the two has.
 #[inline(always)]
 pub(crate) fn xor<const N: usize>(a: Simd<u8, N>, b: Simd<u8, N>) -> Simd<u8, N>
     ensures { (i : ℕ) → i < N → slice_index result i ≡ bit_xor (slice_index a.entry i) (slice_index b.entry i) }
@@ -89,7 +89,7 @@ pub(crate) fn xor<const N: usize>(a: Simd<u8, N>, b: Simd<u8, N>) -> Simd<u8, N>
     a ^ b
 }
 
-/// How far each lane is above a value, 0 where it is below.
+/// How far each lane is above a value; 0 if it is below.
 #[inline(always)]
 fn above<const N: usize>(bytes: Simd<u8, N>, value: u8) -> Simd<u8, N>
     ensures { (i : ℕ) → i < N → slice_index result i ≡ slice_index bytes.entry i - value }
@@ -97,7 +97,7 @@ fn above<const N: usize>(bytes: Simd<u8, N>, value: u8) -> Simd<u8, N>
     bytes.saturating_sub(Simd::splat(value))
 }
 
-/// The entries of a table, four copies of 16, at these places.
+/// The entries of a table, four copies of 16, at these indices.
 #[inline(always)]
 fn entries(table: [u8; 64], places: u8x64) -> u8x64
     requires copies { (i : ℕ) → i < 64 → (k : ℕ) → k < 16 → slice_index table (i / 16 * 16 + k) ≡ slice_index table k }
@@ -107,7 +107,7 @@ fn entries(table: [u8; 64], places: u8x64) -> u8x64
     u8x64::from_array(table).swizzle_dyn_within::<16>(places)
 }
 
-/// The same of 16 lanes, by one copy.
+/// The same for 16 lanes, by one copy.
 #[inline(always)]
 fn entries_of_16(table: [u8; 64], places: u8x16) -> u8x16
     requires places { (i : ℕ) → i < 16 → slice_index places i < 16 }
@@ -116,7 +116,7 @@ fn entries_of_16(table: [u8; 64], places: u8x16) -> u8x16
     u8x16::from_slice(&table).swizzle_dyn_within::<16>(places)
 }
 
-/// What is wrong with each second byte behind its first.
+/// What is wrong with each second byte after its first.
 #[inline(always)]
 pub(crate) fn pair_bits(first: u8x64, second: u8x64) -> u8x64
     ensures { (i : ℕ) → i < 64 → slice_index result i ≡ pair_bits (slice_index first i) (slice_index second i) }
@@ -129,7 +129,7 @@ pub(crate) fn pair_bits(first: u8x64, second: u8x64) -> u8x64
     )
 }
 
-/// The same of 16 lanes.
+/// The same for 16 lanes.
 #[inline(always)]
 pub(crate) fn pair_bits_of_16(first: u8x16, second: u8x16) -> u8x16
     ensures { (i : ℕ) → i < 16 → slice_index result i ≡ pair_bits (slice_index first i) (slice_index second i) }
@@ -142,7 +142,8 @@ pub(crate) fn pair_bits_of_16(first: u8x16, second: u8x16) -> u8x16
     )
 }
 
-/// 128 where the byte three before leads four, or that two before leads three or four, else 0.
+/// 128 where the byte three before is the lead of four bytes, or the byte two before is the lead of
+/// three or four; else 0.
 #[inline(always)]
 pub(crate) fn continuation_due<const N: usize>(three: Simd<u8, N>, two: Simd<u8, N>) -> Simd<u8, N>
     ensures { (i : ℕ) → i < N → slice_index result i ≡ continuation_due (slice_index three.entry i) (slice_index two.entry i) }
@@ -150,7 +151,7 @@ pub(crate) fn continuation_due<const N: usize>(three: Simd<u8, N>, two: Simd<u8,
     masked(or(above(three, 0x70), above(two, 0x60)), 0x80)
 }
 
-/// Whether all lanes are 0. It asks both halves at once, so that no mask of 64 bits is made.
+/// Whether all lanes are 0. It tests both halves together, so that no mask of 64 bits is made.
 #[inline(always)]
 pub(crate) fn are_zero(lanes: u8x64) -> bool
     ensures { IsTrue result → (i : ℕ) → i < 64 → slice_index lanes i ≡ 0 }

@@ -16,13 +16,13 @@ joined : {T E : Type 0} (r : Result T E) (a b n : List ℕ) → IsJoin IsWtf8 un
 joined (Ok t) a b n j o = ap units_of o ∙ j.1
 joined (Err t) a b n j o = tt
 
--- the room for the form, where the first grew by the second without its first two bytes
+-- the room for the form, if the first grew by the second without its first two bytes
 room : (a b s v d : List ℕ) (c : ℕ) → IsPairBetween s b c → s ≡ a → v ≡ a ++ d → d ≡ drop 2 b → length s - 3 + 4 ≤ length v
 room a b s v d c m e f g =
     let p = pair_bytes s b c m in
     omega (arith, p.high_bytes, p.low_bytes, ap length e, ap length f, ap length g, length-append a d, length-drop 2 b)
 
--- the join, where a pair arises
+-- the join, if a pair arises
 written : (a b s d v w : List ℕ) (c : ℕ) → IsWtf8 a → IsWtf8 b → s ≡ a → IsPairBetween s b c → d ≡ drop 2 b → v ≡ a ++ d → w ≡ take (length s - 3) v ++ (form c ++ drop (length s - 3 + 4) v) → IsJoin IsWtf8 units_of a b w
 written a b s d v w c x y e m f g k =
     written_join a b v w c x y (subst (λ z. IsPairBetween z b c) e m) (g ∙ ap (λ z. a ++ z) f) (k ∙ ap (λ z. take (length z - 3) v ++ (form c ++ drop (length z - 3 + 4) v)) e)

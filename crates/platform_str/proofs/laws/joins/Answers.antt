@@ -12,7 +12,7 @@ module _ (wf : List ℕ → Type 0) (units : List ℕ → List ℕ) (laws : Stan
   associative a b c ab bc v w j k l m =
       laws.once v w k.0 m.0 (k.1 ∙ ap (λ z. z ++ units c) j.1 ∙ append_assoc (units a) (units b) (units c) ∙ ap (λ z. units a ++ z) (sym l.1) ∙ sym m.1)
 
-  -- what is left of a string behind a front
+  -- what is left of a string after a prefix
   abbrev IsSomeJoin : List ℕ → List ℕ → Type 0
   IsSomeJoin p s = (q : List ℕ) × (wf q × IsJoin wf units p q s)
 

@@ -1,4 +1,4 @@
--- Whole characters: where the reader finds them, and what their places are.
+-- Whole characters: where the reader finds them, and what their indices are.
 use Rattle.wtf8_core.proofs.Common.{◌≡◌, ℕ, ◌+◌, ◌-◌, ◌<◌, ◌≤◌, true, false, List, ◌∷◌, ◌++◌, length, take, drop, get_or, Option, Some, None, Result, Ok, Err, refl, sym, ap, ◌∙◌, subst, arith, length-append, take-append-drop, IsScalar, needed_continuations, is_surrogate, is_high, IsCodePoint, form, WholeCharacter, IsCharacterAt, first_item, items_behind, IsUtf8, IsUtf8-encode, take_at, drop_at, length-take-le, nat_tests, common_steps, low_scalar, EncodingError}
 use Rattle.wtf8_core.proofs.lemmas.reader.Reading.{items-ok, items-err}
 use Rattle.wtf8_core.proofs.lemmas.reader.Sound.{first_form}
@@ -44,7 +44,7 @@ first_of_char b c bs rest s d r k =
     by (Ok a) k e = let h = items-ok false b a bs k in cc
     by (Err f) k e = let h = items-err false b f bs k in cc
 
--- a whole character at a place is one at the front of the bytes from there on
+-- a whole character at an index is one at the start of the bytes from there on
 pub whole_at : (s : List ℕ) (i c : ℕ) (rest : List ℕ) → i ≤ length s → IsScalar c → drop i s ≡ form c ++ rest → WholeCharacter s i (i + length (form c))
 whole_at s i c rest h k e = record {
   char = c;
@@ -57,14 +57,14 @@ whole_at s i c rest h k e = record {
 pub begins_at : (s : List ℕ) (i j : ℕ) → (w : WholeCharacter s i j) → drop i s ≡ form w.char ++ w.stands.behind
 begins_at s i j w = ap (drop i) w.stands.joined ∙ drop_at w.stands.before (form w.char ++ w.stands.behind) i w.stands.place
 
--- where no character begins none starts, at a place and at the front
+-- where no character begins, none starts, at an index and at the start
 pub none_at : (s : List ℕ) (i : ℕ) → NoChar (drop i s) → (j : ℕ) → WholeCharacter s i j → ⊥
 none_at s i h j w = h w.char w.stands.behind w.scalar (begins_at s i j w)
 
 pub none_begins : (s : List ℕ) → ((j : ℕ) → WholeCharacter s 0 j → ⊥) → NoChar s
 none_begins s h c rest k e = h _ (whole_at s 0 c rest (omega arith) k e)
 
--- what the reader finds at the front
+-- what the reader finds at the start
 pub character_found : (bytes : List ℕ) (b c : ℕ) (bs : List ℕ) → bytes ≡ b ∷ bs → b < 256 → 0x80 ≤ b → first_item false b bs ≡ Ok c → is_surrogate c ≡ false
     → WholeCharacter bytes 0 (0 + (1 + needed_continuations b))
 character_found bytes b c bs d u l e s =
@@ -78,7 +78,7 @@ ascii_found bytes b bs d h =
     let f = form_ascii b h in
     subst (λ x. WholeCharacter bytes 0 (0 + length x)) f (whole_at bytes 0 b bs (omega arith) (low_scalar b (omega arith)) (d ∙ ap (λ x. x ++ bs) (sym f)))
 
--- none starts at the end or past it, at a surrogate or at a fault
+-- none starts at the end or after it, at a surrogate or at a fault
 pub none_in_none : (bytes : List ℕ) → length bytes ≡ 0 → (j : ℕ) → WholeCharacter bytes 0 j → ⊥
 none_in_none bytes h j w = let f = character_fits bytes 0 j w in omega arith
 
@@ -91,7 +91,7 @@ none_at_fault bytes b f bs d e = none_at bytes 0 (λ a rest k i. let o : Err f �
 pub none_past : (s : List ℕ) (i : ℕ) → length s ≤ i → (j : ℕ) → WholeCharacter s i j → ⊥
 none_past s i h j w = let f = character_fits s i j w in omega arith
 
--- as code has the bytes from a place on
+-- the same as code has it, of the bytes from an index on
 pub character_in_rest : (s : List ℕ) (i : ℕ) (r : Option ℕ) → i < length s → IsCharacterAt (take (length s - i) (drop i s)) 0 r → IsCharacterAt s i r
 character_in_rest s i r l h = by r (subst (λ x. IsCharacterAt x 0 r) rest h)
   where
@@ -104,13 +104,13 @@ character_in_rest s i r l h = by r (subst (λ x. IsCharacterAt x 0 r) rest h)
         let e = h.end in
         subst (λ m. WholeCharacter s i (i + m)) (omega arith) (whole_at s i h.char h.stands.behind (omega arith) h.scalar (begins_at (drop i s) 0 (0 + n) h))
 
--- the character that starts at a place has one end
+-- the character that starts at an index has one end
 pub same_end : (s : List ℕ) (i j k : ℕ) → WholeCharacter s i j → WholeCharacter s i k → j ≡ k
 same_end s i j k v w =
     let f = form_same v.char w.char v.stands.behind w.stands.behind (sym (begins_at s i j v) ∙ begins_at s i k w) in
     v.end ∙ ap (λ c. i + length (form c)) f.0 ∙ sym w.end
 
--- the bytes of a whole character at the front are a text
+-- the bytes of a whole character at the start are a text
 pub text_of_character : (s : List ℕ) (j : ℕ) → WholeCharacter s 0 j → IsUtf8 (take j s)
 text_of_character s j w =
     let e : take j s ≡ form w.char = ap (take j) (begins_at s 0 j w) ∙ take_at (form w.char) w.stands.behind j (omega (arith, w.end)) in

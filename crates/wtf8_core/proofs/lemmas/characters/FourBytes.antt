@@ -1,4 +1,4 @@
--- Four bytes, and the character or the ill-formed part with which they begin.
+-- The first four bytes, and the character or the ill-formed part with which they begin.
 use Rattle.wtf8_core.proofs.Common.{◌≡◌, ℕ, ◌+◌, ◌<◌, ◌≤◌, List, ◌∷◌, ◌++◌, length, get_or, Some, true, false, sym, ap, ◌∙◌, subst, arith, refl, drop, [], if◌then◌else◌, cond-true, cond-false, nat_tests, get_or_append_left, IsScalar, is_in_range, utf8_error_len, second_byte_min, second_byte_max, IsContinuation, form, WholeCharacter, IsUtf8Fault}
 use Rattle.wtf8_core.proofs.lemmas.characters.AtPlaces.{whole_at}
 use Rattle.wtf8_core.proofs.lemmas.characters.Overlaps.{form_behind}
@@ -7,7 +7,7 @@ use Rattle.wtf8_core.proofs.lemmas.forms.Ranges.{in_range, in_range-true, in_ran
 use Rattle.wtf8_core.proofs.lemmas.texts.AreWtf8.{valid_none}
 use Rattle.wtf8_core.proofs.lemmas.texts.StdFaults.{First, Second, Filled, filled, least_continuation, lead_of, second_of, len_of_four, fault_is}
 
--- how many bytes a form has, by its first
+-- the length of a form, by its first byte
 pub past_ascii : (c : ℕ) → 0x80 ≤ get_or (form c) 0 0 → 0x80 ≤ c
 unfolding form
 past_ascii c h = grind (arith, nat_tests, h)
@@ -24,7 +24,7 @@ four_or_more : (c : ℕ) → IsScalar c → 0xF0 ≤ get_or (form c) 0 0 → 4 �
 unfolding form
 four_or_more c s h = grind (arith, nat_tests, s, h)
 
--- bytes by their first four
+-- the first four bytes of a list
 pub four_first : (r : List ℕ) → 4 ≤ length r → r ≡ get_or r 0 0 ∷ get_or r 1 0 ∷ get_or r 2 0 ∷ get_or r 3 0 ∷ drop 4 r
 four_first [] h = absurd (omega (arith, h))
 four_first (b ∷ []) h = absurd (omega (arith, h))
@@ -42,7 +42,7 @@ three_filled b x y h l = grind (arith, nat_tests)
 four_filled : (b x y z : ℕ) → 0xF0 ≤ b → b ∷ x ∷ y ∷ z ∷ [] ≡ Filled b x y z
 four_filled b x y z h = grind (arith, nat_tests)
 
--- any continuation stands behind the lead of two
+-- any continuation may follow a lead of two bytes
 pub second_of_two : (b x : ℕ) → b < 0xE0 → IsContinuation x → is_in_range (second_byte_min b) (second_byte_max b) x ≡ true
 second_of_two b x l k = grind (arith, nat_tests, l, k)
 
@@ -50,7 +50,7 @@ pub no_second_of_two : (b x : ℕ) → b < 0xE0 → (IsContinuation x → ⊥) �
 no_second_of_two b x l n = grind (arith, nat_tests, l) ∙ not_in_range 0x80 0xBF x n
 
 module _ (r : List ℕ) (long : 4 ≤ length r) (high : 0x80 ≤ get_or r 0 0) where
-  -- what the first four bytes are where a character begins there
+  -- what the first four bytes are if a character begins there
   record IsBegun : Type 0 where
     first : First (get_or r 0 0)
     second : Second (get_or r 0 0) (get_or r 1 0)
@@ -74,7 +74,7 @@ module _ (r : List ℕ) (long : 4 ≤ length r) (high : 0x80 ≤ get_or r 0 0) w
       ≡ (if is_in_range 0xC2 0xF4 (get_or r 0 0) then (if is_in_range (second_byte_min (get_or r 0 0)) (second_byte_max (get_or r 0 0)) (get_or r 1 0) then (if is_in_range 0x80 0xBF (get_or r 2 0) then Some 3 else Some 2) else Some 1) else Some 1)
   std_len = ap utf8_error_len (four_first r long) ∙ len_of_four (get_or r 0 0) (get_or r 1 0) (get_or r 2 0) (get_or r 3 0) (drop 4 r)
 
-  -- where one of them is not so, the part is as long as that
+  -- if one of them isn't so, the part is as long as std says
   fault : (k : ℕ) → (IsBegun → ⊥) → utf8_error_len r ≡ Some k → IsUtf8Fault r 0 (Some k)
   fault k n e = fault_is r 0 (Some k) (valid_none r (omega (arith, long)) (λ c rest s w. n (begun c rest s w))) (sym e)
 
@@ -86,7 +86,7 @@ module _ (r : List ℕ) (long : 4 ≤ length r) (high : 0x80 ≤ get_or r 0 0) w
     at_second g = fault 1 (λ w. in_range-false _ _ (get_or r 1 0) g w.second) (std_len ∙ cond-true _ _ _ f ∙ cond-false _ _ _ g)
 
     module _ (g : is_in_range (second_byte_min (get_or r 0 0)) (second_byte_max (get_or r 0 0)) (get_or r 1 0) ≡ true) where
-      -- with as many continuations as the first needs they are a character
+      -- with as many continuations as the first one needs they are a character
       with_continuations : (y z : ℕ) → IsContinuation y → IsContinuation z → (front rest : List ℕ) → front ≡ Filled (get_or r 0 0) (get_or r 1 0) y z → r ≡ front ++ rest → WholeCharacter r 0 (0 + length front)
       with_continuations y z h k front rest e is =
           let w = filled (get_or r 0 0) (get_or r 1 0) y z (in_range-true 0xC2 0xF4 _ f) (in_range-true _ _ (get_or r 1 0) g) h k in

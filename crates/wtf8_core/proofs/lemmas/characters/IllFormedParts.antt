@@ -1,17 +1,17 @@
--- No whole character starts or ends inside a maximal ill-formed part, and none lies across its edges.
+-- No whole character starts or ends inside a maximal ill-formed part, and none extends across its start or end.
 use Rattle.wtf8_core.proofs.Common.{◌≡◌, ◌⊎◌, inl, inr, ⊎_elim, ℕ, ◌+◌, ◌-◌, ◌<◌, ◌≤◌, List, [], length, take, drop, get_or, Option, Some, None, sym, ap, ◌∙◌, subst, arith, length-drop, take-append-drop, take-length, cases_lt, cases_eq, get_or-drop, get_or-take, length-take-le, MatchOption, IsUtf8, IsContinuation, WholeCharacter, IsSeam, IsFrontOfCharacter, IsProperFront, IsIllFormed, IsUtf8Fault, part_end}
 use Rattle.wtf8_core.proofs.lemmas.characters.AtPlaces.{none_at, character_fits}
 use Rattle.wtf8_core.proofs.lemmas.characters.Overlaps.{no_start}
 use Rattle.wtf8_core.proofs.lemmas.characters.Seams.{seam_at_start, text_covered}
 use Rattle.wtf8_core.proofs.lemmas.texts.StdFaults.{no_char, front_behind}
 
--- no whole character lies across the end of a text at the front
+-- no whole character extends across the end of a text at the start
 pub seam_behind_text : (s : List ℕ) (v : ℕ) → v ≤ length s → IsUtf8 (take v s) → IsSeam s v
 seam_behind_text s v l u =
     let size : 0 + length (take v s) ≡ v = omega (arith, length-take-le v s l) in
     subst (IsSeam s) size (text_covered s [] (take v s) (drop v s) (sym (take-append-drop v s)) u (seam_at_start s)).1
 
--- behind the first byte of a front of a character none starts
+-- none starts after the first byte of a prefix of a character
 none_inside : (s : List ℕ) (v k a b : ℕ) → (1 < k → IsFrontOfCharacter (take k (drop v s))) → k ≤ length (drop v s) → WholeCharacter s a b → v < a → a < v + k → ⊥
 none_inside s v k a b front fits w low high =
     let m = a - v in
@@ -21,7 +21,7 @@ none_inside s v k a b front fits w low high =
     let e : get_or (take k (drop v s)) m 0 ≡ get_or s a 0 = get_or-take k (drop v s) m 0 (omega arith) ∙ get_or-drop v s m 0 ∙ ap (λ j. get_or s j 0) z in
     no_start s a b (subst IsContinuation e c) w
 
--- each whole character ends before the ill-formed part, or starts behind it
+-- each whole character ends before the ill-formed part, or starts after it
 pub apart_from_part : (s : List ℕ) (v : ℕ) (len : Option ℕ) → IsUtf8Fault s v len → (a b : ℕ) → WholeCharacter s a b → (b ≤ v) ⊎ (part_end s v len ≤ a)
 apart_from_part s v len w a b c =
     let short = w.valid.short in

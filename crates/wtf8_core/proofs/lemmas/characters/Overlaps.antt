@@ -3,7 +3,7 @@ use Rattle.wtf8_core.proofs.Common.{◌≡◌, ◌⊎◌, inl, inr, ⊎_elim, �
 use Rattle.wtf8_core.proofs.lemmas.forms.Shapes.{form_bounds, form_parts}
 use Rattle.wtf8_core.proofs.lemmas.characters.AtPlaces.{begins_at, whole_at, character_fits, same_end}
 
--- the bytes of a form behind the first are continuations, and the first is none
+-- the bytes of a form after the first are continuations, and the first is none
 pub form_behind : (c m : ℕ) → 0 < m → m < length (form c) → IsContinuation (get_or (form c) m 0)
 form_behind c zero l h = absurd (omega arith)
 form_behind c (suc m) l h =
@@ -16,7 +16,7 @@ byte_of : (s : List ℕ) (i j m : ℕ) → (w : WholeCharacter s i j) → m < le
 byte_of s i j m w h =
     sym (get_or-drop i s m 0) ∙ ap (λ x. get_or x m 0) (begins_at s i j w) ∙ get_or_append_left (form w.char) w.stands.behind 0 m h
 
--- those behind the first are continuations
+-- those after the first are continuations
 pub continued : (s : List ℕ) (i j k : ℕ) → WholeCharacter s i j → i < k → k < j → IsContinuation (get_or s k 0)
 continued s i j k w low high =
     let m = k - i in
@@ -36,7 +36,7 @@ no_start s i j k w =
 pub no_start_inside : (s : List ℕ) (i j a b : ℕ) → WholeCharacter s i j → WholeCharacter s a b → i < a → a < j → ⊥
 no_start_inside s i j a b w v low high = no_start s a b (continued s i j a w low high) v
 
--- two whole characters are one, or one ends before the other starts
+-- two whole characters are the same, or one ends before the other starts
 pub apart : (s : List ℕ) (i j a b : ℕ) → WholeCharacter s i j → WholeCharacter s a b → ((i ≡ a) × (j ≡ b)) ⊎ ((j ≤ a) ⊎ (b ≤ i))
 apart s i j a b w v =
     ⊎_elim (λ lt. inr (⊎_elim (λ k. absurd (no_start_inside s i j a b w v lt k)) (λ k. inl k) (cases_lt a j)))
@@ -63,7 +63,7 @@ no_boundary_inside s i j k w b low high =
     ⊎_elim (λ e. omega (arith, e.1)) (⊎_elim (λ l. omega arith) (λ l. omega arith)) (apart s i j h.0 k w h.1))))
     b.is
 
--- a whole character of a front that ends behind it
+-- a whole character of a prefix that ends after it
 in_front : (s : List ℕ) (a b j : ℕ) → WholeCharacter s a b → b ≤ j → j ≤ length s → WholeCharacter (take j s) a b
 in_front s a b j w le fits =
     let e = w.end in
@@ -72,7 +72,7 @@ in_front s a b j w le fits =
     ap (λ m. drop a (take m s)) (let z : j ≡ a + n = omega arith in z) ∙ drop-take a n s ∙ ap (take n) (begins_at s a b w) ∙ take-append-add (form w.char) w.stands.behind (j - b) in
     subst (WholeCharacter (take j s) a) (sym e) (whole_at (take j s) a w.char (take (j - b) w.stands.behind) (omega (arith, length-take-le j s fits)) w.scalar d)
 
--- the same of what follows a place
+-- the same for what follows an index
 pub in_rest : (s : List ℕ) (a b j : ℕ) → WholeCharacter s a b → j ≤ a → WholeCharacter (drop j s) (a - j) (b - j)
 in_rest s a b j w le =
     let e = w.end in
@@ -81,7 +81,7 @@ in_rest s a b j w le =
     let z : a - j + length (form w.char) ≡ b - j = omega arith in
     subst (WholeCharacter (drop j s) (a - j)) z (whole_at (drop j s) (a - j) w.char w.stands.behind (omega (arith, length-drop j s)) w.scalar d)
 
--- a boundary stays one in a front that ends at a boundary
+-- a boundary is also one of a prefix that ends at a boundary
 pub boundary_in_front : (s : List ℕ) (i j : ℕ) → i ≤ j → IsBoundary s i → IsBoundary s j → IsBoundary (take j s) i
 boundary_in_front s i j le b c =
     let fits = boundary_within s j c in
@@ -96,7 +96,7 @@ boundary_in_front s i j le b c =
           b.is;
     }
 
--- and in a rest that starts at one
+-- and of a rest that starts at one
 pub boundary_in_rest : (s : List ℕ) (i j : ℕ) → i ≤ j → IsBoundary s i → IsBoundary s j → IsBoundary (drop i s) (j - i)
 boundary_in_rest s i j le b c =
     let fits = boundary_within s j c in

@@ -1,4 +1,4 @@
--- Bytes in whole characters and in none, and the places across which no whole character lies.
+-- Bytes in whole characters and in none, and the indices across which no whole character extends.
 use Rattle.wtf8_core.proofs.Common.{◌≡◌, ◌⊎◌, inl, inr, ⊎_elim, ℕ, zero, suc, ◌+◌, ◌-◌, ◌<◌, ◌≤◌, true, false, List, [], ◌∷◌, ◌++◌, length, drop, Result, Ok, Err, refl, sym, ap, ◌∙◌, subst, arith, length-append, append_assoc, and_parts, cases_lt, cases_eq, cases_Bool, drop-append_seam, scalar, IsScalar, AllByRecursion, flat_map, IsUtf8, all_scalars, IsByte, is_surrogate, form, WholeCharacter, IsCovered, IsSeam, first_item, EncodingError}
 use Rattle.wtf8_core.proofs.lemmas.forms.Shapes.{form_bounds, form_bytes}
 use Rattle.wtf8_core.proofs.lemmas.forms.ByStd.{forms_encode}
@@ -6,18 +6,18 @@ use Rattle.wtf8_core.proofs.lemmas.characters.AtPlaces.{character_fits, same_end
 use Rattle.wtf8_core.proofs.lemmas.characters.Overlaps.{no_start_inside, in_rest}
 use Rattle.wtf8_core.proofs.lemmas.reader.Sound.{first_form}
 
--- P holds of each place that xs has, from i on
+-- P holds of each index of xs, counted from i on
 abbrev pub Over : (ℕ → Type 0) → ℕ → List ℕ → Type 0
 Over P i xs = (k : ℕ) → i ≤ k → k < i + length xs → P k
 
--- no byte of xs, or each, lies in a whole character of s
+-- no byte of xs, or each, is in a whole character of s
 abbrev pub Bare : List ℕ → ℕ → List ℕ → Type 0
 Bare s i xs = Over (λ k. ¬ (IsCovered s k)) i xs
 
 abbrev pub Covered : List ℕ → ℕ → List ℕ → Type 0
 Covered s i xs = Over (IsCovered s) i xs
 
--- of no place, of one more place in front, and of the places of two lists
+-- of no index, of one more index at the start, and of the indices of two lists
 pub over_none : (P : ℕ → Type 0) (i : ℕ) → Over P i []
 over_none P i k low high = absurd (omega arith)
 
@@ -27,11 +27,11 @@ over_first P i x xs h more k low high = ⊎_elim (λ e. subst P (sym e) h) (λ n
 pub over_both : (P : ℕ → Type 0) (i : ℕ) (xs ys : List ℕ) → Over P i xs → Over P (i + length xs) ys → Over P i (xs ++ ys)
 over_both P i xs ys h more k low high = ⊎_elim (λ lt. h k low lt) (λ ge. more k ge (omega (arith, length-append xs ys))) (cases_lt k (i + length xs))
 
--- none lies across the front
+-- none extends across the start
 pub seam_at_start : (s : List ℕ) → IsSeam s 0
 seam_at_start s a b w low high = omega arith
 
--- past a whole character no other lies across
+-- no other extends across the end of a whole character
 pub seam_past : (s : List ℕ) (i j : ℕ) → IsSeam s i → WholeCharacter s i j → IsSeam s j
 seam_past s i j h w a b v low high =
     let f = character_fits s i j w in
@@ -40,7 +40,7 @@ seam_past s i j h w a b v low high =
     (λ ne. ⊎_elim (λ lt. h a b v lt (omega arith)) (λ ge. no_start_inside s i j a b w v (omega arith) low) (cases_lt a i))
     (cases_eq a i)
 
--- bytes from a seam on at which none starts are bare, and end at a seam
+-- bytes from a seam on, at which no whole character starts, are bare, and end at a seam
 pub bare_run : (s : List ℕ) (i : ℕ) (xs : List ℕ) → IsSeam s i → ((a b : ℕ) → i ≤ a → a < i + length xs → WholeCharacter s a b → ⊥) → Bare s i xs × IsSeam s (i + length xs)
 bare_run s i xs h none = (
   λ k low high c. let from = c.from in let below = c.below in ⊎_elim (λ lt. h c.start c.end c.whole lt (omega arith)) (λ ge. none c.start c.end ge (omega arith) c.whole) (cases_lt c.start i),
@@ -65,7 +65,7 @@ covered_within s x m y k e c =
     let below = c.below in
     record { start = length x + c.start; end = length x + c.end; whole = whole_within s x m y c.start c.end e c.whole; from = omega arith; below = omega arith }
 
--- and behind a seam the bytes of s in whole characters are so in the rest
+-- and after a seam the bytes of s that are in whole characters are so in the rest, too
 pub covered_behind : (s x r : List ℕ) (k : ℕ) → s ≡ x ++ r → IsSeam s (length x) → length x ≤ k → IsCovered s k → IsCovered r (k - length x)
 covered_behind s x r k e h low c =
     let from = c.from in
@@ -80,7 +80,7 @@ first_byte : (b : ℕ) (bs xs rest : List ℕ) → AllByRecursion IsByte xs → 
 first_byte b bs [] rest h some e = absurd (omega arith)
 first_byte b bs (x ∷ xs) rest h some e = let q : x ≡ b = cc in subst IsByte q h.0
 
--- a whole character starts at the front, or none does
+-- a whole character starts at the start, or none does
 front_or_none : (s : List ℕ) → ((j : ℕ) × WholeCharacter s 0 j) ⊎ ((j : ℕ) → WholeCharacter s 0 j → ⊥)
 front_or_none [] = inr (none_in_none [] refl)
 front_or_none (b ∷ bs) =
@@ -95,7 +95,7 @@ front_or_none (b ∷ bs) =
         (cases_Bool (is_surrogate c))
     by lt (Err f) e = inr (none_at_fault (b ∷ bs) b f bs refl e)
 
--- the same at a place
+-- the same at an index
 start_or_none : (s : List ℕ) (i : ℕ) → ((j : ℕ) × WholeCharacter s i j) ⊎ ((j : ℕ) → WholeCharacter s i j → ⊥)
 start_or_none s i =
     ⊎_elim
@@ -103,11 +103,11 @@ start_or_none s i =
     (λ le. ⊎_elim (λ h. let w = h.1 in inl (i + length (form w.char), whole_at s i w.char w.stands.behind le w.scalar (begins_at (drop i s) 0 h.0 w))) (λ h. inr (none_at s i (none_begins (drop i s) h))) (front_or_none (drop i s)))
     (cases_lt (length s) i)
 
--- a byte lies in no whole character, or in one
+-- a byte is in no whole character, or in one
 pub bare_or_covered : (s : List ℕ) (k : ℕ) → ¬ (IsCovered s k) ⊎ IsCovered s k
 bare_or_covered s k = ⊎_elim inr (λ h. inl (λ c. let f = character_fits s c.start c.end c.whole in let below = c.below in h c.start c.end c.whole c.from (omega arith) c.below)) (from_below 4)
   where
-    -- one that starts less than n places before k lies around it, or none does
+    -- one that starts less than n bytes before k covers it, or none does
     from_below : (n : ℕ) → IsCovered s k ⊎ ((a b : ℕ) → WholeCharacter s a b → a ≤ k → k < a + n → k < b → ⊥)
     from_below zero = inr (λ a b w low high below. omega arith)
     from_below (suc n) =
@@ -128,7 +128,7 @@ bare_or_covered s k = ⊎_elim inr (λ h. inl (λ c. let f = character_fits s c.
 abbrev pub Forms : List ℕ → List ℕ
 Forms cs = flat_map form cs
 
--- what holds of the bytes of each code point behind a seam, which ends at a seam, holds of those of a list
+-- what holds of the bytes of each code point after a seam, which end at a seam, holds of those of a list
 module _ (s : List ℕ) (P Q : ℕ → Type 0)
     (one : (x r : List ℕ) (i c : ℕ) → s ≡ x ++ (form c ++ r) → length x ≡ i → Q c → IsSeam s i → Over P i (form c) × IsSeam s (i + length (form c))) where
   pub forms_over : (x r : List ℕ) (i : ℕ) (cs : List ℕ) → s ≡ x ++ (Forms cs ++ r) → length x ≡ i → AllByRecursion Q cs → IsSeam s i → Over P i (Forms cs) × IsSeam s (i + length (Forms cs))
@@ -140,13 +140,13 @@ module _ (s : List ℕ) (P Q : ℕ → Type 0)
       let z : i + length (form c) + length (Forms cs) ≡ i + length (form c ++ Forms cs) = omega (arith, length-append (form c) (Forms cs)) in
       (over_both P i (form c) (Forms cs) first.0 more.0, subst (IsSeam s) z more.1)
 
--- the bytes of a scalar lie in a whole character
+-- the bytes of a scalar are in a whole character
 pub scalar_covered : (s x r : List ℕ) (i c : ℕ) → s ≡ x ++ (form c ++ r) → length x ≡ i → IsScalar c → IsSeam s i → Covered s i (form c) × IsSeam s (i + length (form c))
 scalar_covered s x r i c e l h k =
     let w : WholeCharacter s i (i + length (form c)) = record { char = c; scalar = h; stands = record { before = x; behind = r; joined = e; place = l }; end = refl } in
     (λ j low high. record { start = i; end = i + length (form c); whole = w; from = low; below = high }, seam_past s i (i + length (form c)) k w)
 
--- those of a text lie in whole characters, and a text behind a seam ends at one
+-- those of a text are in whole characters, and a text after a seam ends at one
 pub scalars_are : (cs : List ℕ) → all_scalars cs ≡ true → AllByRecursion IsScalar cs
 scalars_are [] e = tt
 scalars_are (c ∷ cs) e = let both = and_parts (scalar c) _ e in (both.0, scalars_are cs both.1)
@@ -156,7 +156,7 @@ text_covered s x t r e u k =
     let f : Forms u.0 ≡ t = forms_encode u.0 ∙ u.1.1 in
     subst (λ y. Covered s (length x) y × IsSeam s (length x + length y)) f (forms_over s (IsCovered s) IsScalar (scalar_covered s) x r (length x) u.0 (e ∙ ap (λ y. x ++ (y ++ r)) (sym f)) refl (scalars_are u.0 u.1.0) k)
 
--- and bare bytes at the front end at a seam
+-- and bare bytes at the start end at a seam
 pub seam_behind_bare : (s p : List ℕ) → Bare s 0 p → IsSeam s (length p)
 seam_behind_bare s p h a b w low high =
     let f = character_fits s a b w in

@@ -1,7 +1,7 @@
 -- Lists of pairs that alternate between two kinds of elements, as chunks do over bytes and runs over code points.
 use Rattle.wtf8_core.proofs.Common.{◌≡◌, ◌⊎◌, ⊎_elim, ℕ, ◌+◌, ◌<◌, Bool, true, false, List, [], ◌∷◌, ◌++◌, length, refl, sym, ap, ◌∙◌, subst, arith, length-append, append_assoc, Chunk, joined}
 
--- the pair c stands from i on, before these others; `first` says that none stands before it
+-- the pair c is at index i, before these others; `first` says that none comes before it
 pub record IsGroup (IsPart IsText : ℕ → List ℕ → Type 0) (i : ℕ) (first : Bool) (c : Chunk) (behind : List Chunk) : Type 0 where
   pub some : 0 < length (c.0 ++ c.1)
   pub part : IsPart i c.0
@@ -9,12 +9,12 @@ pub record IsGroup (IsPart IsText : ℕ → List ℕ → Type 0) (i : ℕ) (firs
   pub part_first : c.0 ≡ [] → first ≡ true
   pub text_last : c.1 ≡ [] → behind ≡ []
 
--- pairs that stand one behind the other from i on
+-- pairs that come one after the other from index i on
 abbrev pub AreGroups : (IsPart IsText : ℕ → List ℕ → Type 0) → ℕ → Bool → List Chunk → Type 0
 AreGroups IsPart IsText i first [] = Unit {0}
 AreGroups IsPart IsText i first (c ∷ behind) = IsGroup IsPart IsText i first c behind × AreGroups IsPart IsText (i + length (c.0 ++ c.1)) false behind
 
--- the pair c stands between these others
+-- the pair c comes between these others
 pub record IsBetween (IsPart IsText : ℕ → List ℕ → Type 0) (i : ℕ) (before : List Chunk) (c : Chunk) (behind : List Chunk) : Type 0 where
   pub some : 0 < length (c.0 ++ c.1)
   pub part : IsPart i c.0
@@ -32,7 +32,7 @@ is_none [] = true
 is_none (c ∷ cs) = false
 
 module _ (IsPart IsText : ℕ → List ℕ → Type 0) where
-  -- each pair between its others, and the pairs one behind the other, are the same
+  -- each pair between its others, and the pairs one after the other, are the same
   pub groups_from_each : (all before cs : List Chunk) → ((b d : List Chunk) (c : Chunk) → all ≡ b ++ c ∷ d → IsBetween IsPart IsText (length (joined b)) b c d)
       → all ≡ before ++ cs → AreGroups IsPart IsText (length (joined before)) (is_none before) cs
   groups_from_each all before [] each e = tt
@@ -47,7 +47,7 @@ module _ (IsPart IsText : ℕ → List ℕ → Type 0) where
       not_none [] c = refl
       not_none (b ∷ before) c = refl
 
-  -- the pair behind these
+  -- the pair after these
   each_of : (i : ℕ) (first : Bool) (cs before behind : List Chunk) (c : Chunk) → AreGroups IsPart IsText i first cs → cs ≡ before ++ c ∷ behind
       → IsBetween IsPart IsText (i + length (joined before)) before c behind × (c.0 ≡ [] → first ≡ true)
   each_of i first [] [] behind c g e = cc
@@ -71,7 +71,7 @@ module _ (IsPart IsText : ℕ → List ℕ → Type 0) where
   pub each_from_groups : (cs before behind : List Chunk) (c : Chunk) → AreGroups IsPart IsText 0 true cs → cs ≡ before ++ c ∷ behind → IsBetween IsPart IsText (length (joined before)) before c behind
   each_from_groups cs before behind c g e = let z : 0 + length (joined before) ≡ length (joined before) = omega arith in subst (λ n. IsBetween IsPart IsText n before c behind) z (each_of 0 true cs before behind c g e).0
 
-  -- pairs whose first has a part may stand behind others
+  -- pairs of which the first has a part may come after others
   pub not_first : (i : ℕ) (first : Bool) (c : Chunk) (cs : List Chunk) → (c.0 ≡ [] → ⊥) → AreGroups IsPart IsText i true (c ∷ cs) → AreGroups IsPart IsText i first (c ∷ cs)
   not_first i first c cs some g = let h = g.0 in (record { some = h.some; part = h.part; text = h.text; part_first = λ none. absurd (some none); text_last = h.text_last }, g.1)
 
@@ -83,7 +83,7 @@ module _ (IsPart IsText : ℕ → List ℕ → Type 0) (OfPart OfText : ℕ → 
   abbrev Grouped : ℕ → List ℕ → Type 0
   Grouped i xs = (cs : List Chunk) × AreGroups IsPart IsText i true cs × (joined cs ≡ xs)
 
-  -- one more element of a part in front
+  -- one more element of a part at the start
   with_part : (i x : ℕ) (xs : List ℕ) → OfPart i x → Grouped (i + 1) xs → Grouped i (x ∷ xs)
   with_part i x xs h g = by g.0 g.1 g.2
     where

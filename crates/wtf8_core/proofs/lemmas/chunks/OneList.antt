@@ -3,7 +3,7 @@ use Rattle.wtf8_core.proofs.Common.{◌≡◌, ⊎_elim, ℕ, ◌+◌, ◌-◌, 
 use Rattle.wtf8_core.proofs.lemmas.characters.Seams.{Bare, Covered, over_none, over_first, bare_or_covered, covered_within, covered_behind}
 use Rattle.wtf8_core.proofs.lemmas.chunks.Groups.{IsGroup, AreGroups, groups_from_each, each_from_groups, EachIsOfOne, grouped, not_first}
 
--- the chunks of s one behind the other, from i on
+-- the chunks of s one after the other, from index i on
 abbrev pub AreChunksFrom : List ℕ → ℕ → Bool → List Chunk → Type 0
 AreChunksFrom s i first cs = AreGroups (Bare s) (Covered s) i first cs
 
@@ -31,7 +31,7 @@ some_chunks s =
     each i [] = tt
     each i (x ∷ xs) = (bare_or_covered s i, each (i + 1) xs)
 
--- lists with joined tails and fronts of one length
+-- if two joined lists are equal and their first parts have one length, their parts are equal
 append_same : (a b c d : List ℕ) → a ++ b ≡ c ++ d → length a ≡ length c → (a ≡ c) × (b ≡ d)
 append_same a b c d e l = (
   sym (take_at a b (length a) refl) ∙ ap (take (length a)) e ∙ take_at c d (length a) (sym l),
@@ -57,7 +57,7 @@ same_chunk : (c d : Chunk) → c.0 ≡ d.0 → c.1 ≡ d.1 → c ≡ d
 same_chunk c d p t = ap (λ x. (x, c.1)) p ∙ ap (λ x. (d.0, x)) t
 
 module _ (s : List ℕ) where
-  -- the byte behind a part is covered, unless nothing follows
+  -- the byte after a part is covered, unless nothing follows
   part_not_longer : (i : ℕ) (f g : Bool) (c d : Chunk) (cs ds : List Chunk) → IsGroup (Bare s) (Covered s) i f c cs → IsGroup (Bare s) (Covered s) i g d ds → joined (c ∷ cs) ≡ joined (d ∷ ds) → length c.0 < length d.0 → ⊥
   part_not_longer i f g c d cs ds h k same lt =
       let l = sym (joined_size c cs) ∙ ap length same ∙ joined_size d ds in
@@ -66,7 +66,7 @@ module _ (s : List ℕ) where
       (λ ne. k.part (i + length c.0) (omega arith) (omega arith) (h.text (i + length c.0) (omega arith) (omega arith)))
       (cases_eq (length c.1) 0)
 
-  -- the byte behind a text is bare, unless nothing follows
+  -- the byte after a text is bare, unless nothing follows
   text_not_longer : (i : ℕ) (f g : Bool) (c d : Chunk) (cs ds : List Chunk) → AreChunksFrom s i f (c ∷ cs) → IsGroup (Bare s) (Covered s) i g d ds → joined (c ∷ cs) ≡ joined (d ∷ ds) → length c.0 ≡ length d.0 → length c.1 < length d.1 → ⊥
   text_not_longer i f g c d [] ds h k same e lt = let l = sym (joined_size c []) ∙ ap length same ∙ joined_size d ds in omega arith
   text_not_longer i f g c d (x ∷ cs) ds h k same e lt =
@@ -111,7 +111,7 @@ module _ (s x r : List ℕ) (is : s ≡ x ++ r) (seam : IsSeam s (length x)) whe
         subst (λ n. AreChunksFrom s n false cs) z (behind_seam (i + length (c.0 ++ c.1)) false cs g.1),
       )
 
--- a part and a text in front of a seam at which none or a part begins, and the chunks of what follows
+-- a part and a text before a seam at which none or a part begins, and the chunks of what follows
 pub one_more_chunk : (s p t r : List ℕ) (cs : List Chunk) → s ≡ p ++ (t ++ r) → 0 < length s → Bare s 0 p → Covered s (length p) t → IsSeam s (length (p ++ t)) → (t ≡ [] → r ≡ []) → (0 < length r → ¬ (IsCovered s (length (p ++ t)))) → AreChunks r cs → AreChunks s ((p, t) ∷ cs)
 one_more_chunk s p t r cs e some bare covered seam last ended h = are_chunks s ((p, t) ∷ cs) (ap (λ x. p ++ (t ++ x)) h.joins ∙ sym e) (
   record {

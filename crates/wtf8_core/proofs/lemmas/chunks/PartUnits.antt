@@ -1,4 +1,4 @@
--- The units of strings in which no whole character stands, and of strings that begin with none.
+-- The units of strings in which there is no whole character, and of strings that begin with none.
 use Rattle.wtf8_core.proofs.Common.{◌≡◌, ⊎_elim, ℕ, ◌+◌, ◌<◌, ◌≤◌, true, List, [], ◌∷◌, ◌++◌, length, take, drop, refl, sym, ap, ◌∙◌, subst, arith, length-append, take-append-drop, cases_lt, cases_Bool, lt-ltb, le-ltb, append-nil, drop_at, All-from_recursion, AllByRecursion, flat_map, IsByte, IsSurrogate, is_surrogate, form, StartsBare, IsBare, units_of, Spells, IsWtf8, units}
 use Rattle.wtf8_core.specs.PartUnits.{unit_bytes, AreLoneSurrogates}
 use Rattle.wtf8_core.proofs.lemmas.characters.AtPlaces.{ascii_found, whole_at, is_scalar}
@@ -12,7 +12,7 @@ use Rattle.wtf8_core.proofs.lemmas.units.AsFunction.{code_points_in-spelled}
 pub bare_rest : (b : List ℕ) (n : ℕ) → IsBare b → IsBare (drop n b)
 bare_rest b n h i j w = h (length (take n b) + i) (length (take n b) + j) (whole_within b (take n b) (drop n b) [] i j (sym (take-append-drop n b) ∙ ap (λ x. take n b ++ x) (sym (append-nil (drop n b)))) w)
 
--- bare bytes are no ASCII, and each has itself alone
+-- bare bytes aren't ASCII, and `unit_bytes` of each of them is that byte alone
 pub bare_bytes : (b : List ℕ) → AllByRecursion IsByte b → IsBare b → (b ≡ flat_map unit_bytes b) × AllByRecursion (λ u. 0x80 ≤ u) b
 bare_bytes [] a h = (refl, tt)
 bare_bytes (x ∷ b) a h =

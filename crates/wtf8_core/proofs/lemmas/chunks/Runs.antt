@@ -1,4 +1,4 @@
--- Of WTF-8 the chunks are the forms of the runs of surrogates, each with the scalars behind it.
+-- The chunks of WTF-8 are the forms of its runs of surrogates, each with the scalar values after it.
 use Rattle.wtf8_core.proofs.Common.{◌≡◌, inl, inr, ⊎_elim, ℕ, ◌+◌, ◌-◌, ◌≤◌, Bool, true, false, List, [], ◌∷◌, ◌++◌, map, length, drop, get_or, refl, sym, ap, ◌∙◌, subst, arith, length-append, append_assoc, drop-append_seam, cases_eq, cases_Bool, flat_map-append, get_or-drop, get_or_append_left, IsScalar, AllByRecursion, IsContinuation, IsSurrogate, is_surrogate, IsCodePoint, form, IsCovered, IsSeam, Chunk, joined, AreChunks, Spells}
 use Rattle.wtf8_core.specs.Runs.{AreRuns, form_chunk}
 use Rattle.wtf8_core.proofs.lemmas.forms.Ranges.{in_range-true, in_range}
@@ -10,7 +10,7 @@ use Rattle.wtf8_core.proofs.lemmas.characters.Seams.{Bare, bare_run, seam_at_sta
 use Rattle.wtf8_core.proofs.lemmas.chunks.Groups.{AreGroups, each_from_groups, EachIsOfOne, grouped}
 use Rattle.wtf8_core.proofs.lemmas.chunks.OneList.{AreChunksFrom, empty, are_chunks, chunks_once}
 
--- the bytes of a surrogate lie in no whole character
+-- the bytes of a surrogate aren't in any whole character
 surrogate_bare : (s x r : List ℕ) (i c : ℕ) → s ≡ x ++ (form c ++ r) → length x ≡ i → IsSurrogate c → IsSeam s i → Bare s i (form c) × IsSeam s (i + length (form c))
 surrogate_bare s x r i c e l h k = bare_run s i (form c) k (λ a b low high w. ⊎_elim
     (λ q. let same = form_same w.char c w.stands.behind r (sym (begins_at s a b w) ∙ ap (λ n. drop n s) q ∙ rest) in scalar_no_surrogate w.char w.scalar (ap is_surrogate same.0 ∙ in_range _ _ c h))
@@ -23,7 +23,7 @@ surrogate_bare s x r i c e l h k = bare_run s i (form c) k (λ a b low high w. �
     rest : drop i s ≡ form c ++ r
     rest = ap (λ n. drop n s) (sym l) ∙ ap (drop (length x)) e ∙ drop-append_seam x (form c ++ r)
 
--- lists of surrogates, and of scalars, at any place
+-- lists of surrogates, and of scalars, at any index
 abbrev Surrogates : ℕ → List ℕ → Type 0
 Surrogates i cs = AllByRecursion IsSurrogate cs
 

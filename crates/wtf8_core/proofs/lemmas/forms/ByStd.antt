@@ -1,4 +1,4 @@
--- Forms are std's `encode_utf8`, so std's lemmas serve, also at surrogates.
+-- Forms are what std's `encode_utf8` gives, also those of surrogates, so std's lemmas apply.
 use Rattle.wtf8_core.proofs.Common.{◌≡◌, ℕ, List, [], ◌∷◌, ◌++◌, append_assoc, refl, sym, ap, ◌∙◌, encode_utf8, encode_utf8_all, flat_map, encode_same, cons_from_encodes, form}
 
 -- a form is std's, and so are forms
@@ -10,11 +10,11 @@ pub forms_encode : (cs : List ℕ) → flat_map form cs ≡ encode_utf8_all cs
 forms_encode [] = refl
 forms_encode (c ∷ cs) = ap (λ x. x ++ flat_map form cs) (form_encode c) ∙ ap (λ x. encode_utf8 c ++ x) (forms_encode cs)
 
--- a form in front decides the code point and the rest
+-- a form at the start determines the code point and the rest
 pub form_same : (c d : ℕ) (r t : List ℕ) → form c ++ r ≡ form d ++ t → (c ≡ d) × (r ≡ t)
 form_same c d r t e = encode_same c d r t (ap (λ x. x ++ r) (sym (form_encode c)) ∙ e ∙ ap (λ x. x ++ t) (form_encode d))
 
--- forms in front of forms are a front of the code points
+-- if the forms of some code points are a prefix of others' forms, the code points are a prefix of theirs, too
 pub forms_front : (ds cs r : List ℕ) → flat_map form cs ≡ flat_map form ds ++ r → (es : List ℕ) × (cs ≡ ds ++ es) × (flat_map form es ≡ r)
 forms_front [] cs r e = (cs, refl, e)
 forms_front (d ∷ ds) cs r e =

@@ -20,7 +20,7 @@ pub paired_back : (ds es : List ℕ) → IsPairedFree (ds ++ es) → IsPairedFre
 paired_back [] es f = f
 paired_back (d ∷ ds) es f = paired_back ds es f.1
 
--- where a byte that is no continuation stands behind continuations
+-- a byte that is no continuation comes after all the continuations at the start
 past : (ks rest xs : List ℕ) (b : ℕ) (y : List ℕ) → AllByRecursion IsContinuation ks → (IsContinuation b → ⊥) → ks ++ rest ≡ xs ++ (b ∷ y)
     → (zs : List ℕ) × (xs ≡ ks ++ zs) × (rest ≡ zs ++ (b ∷ y))
 past [] rest xs b y a n e = (xs, refl, e)
@@ -39,7 +39,7 @@ pub record AreCut (cs x y : List ℕ) : Type 0 where
   pub front_is : flat_map form front ≡ x
   pub back_is : flat_map form back ≡ y
 
--- one more code point in front
+-- one more code point at the start
 one_more : (c : ℕ) (cs zs x y : List ℕ) → form c ++ zs ≡ x → AreCut cs zs y → AreCut (c ∷ cs) x y
 one_more c cs zs x y e r = record { front = c ∷ r.front; back = r.back; cut = ap (λ l. c ∷ l) r.cut; front_is = ap (λ z. form c ++ z) r.front_is ∙ e; back_is = r.back_is }
 
@@ -63,7 +63,7 @@ pub record AreFound (cs x y ps : List ℕ) : Type 0 where
   pub front_is : flat_map form front ≡ x
   pub back_is : flat_map form back ≡ y
 
--- where the bytes of code points stand, the code points stand
+-- where the bytes of code points occur, the code points occur
 pub bytes_found : (cs x y ps : List ℕ) → 0 < length ps → flat_map form cs ≡ x ++ (flat_map form ps ++ y) → AreFound cs x y ps
 bytes_found cs x y [] h e = absurd (omega arith)
 bytes_found cs x y (p ∷ ps) h e =
@@ -73,7 +73,7 @@ bytes_found cs x y (p ∷ ps) h e =
     let w = forms_front (p ∷ ps) c.back y (c.back_is ∙ ap (λ z. (z ++ flat_map form ps) ++ y) (sym s.is)) in
     record { front = c.front; back = w.0; cut = c.cut ∙ ap (λ z. c.front ++ z) w.1; front_is = c.front_is; back_is = w.2 }
 
--- the same, by the place of the cut
+-- the same, by the index of the cut
 at_place : (b cs x y : List ℕ) (i : ℕ) → b ≡ x ++ y → length x ≡ i → AreCut cs x y → AreCut cs (take i b) (drop i b)
 at_place b cs x y i e l r = record { front = r.front; back = r.back; cut = r.cut; front_is = r.front_is ∙ sym (ap (take i) e ∙ take_at x y i l); back_is = r.back_is ∙ sym (ap (drop i) e ∙ drop_at x y i l) }
 
@@ -138,11 +138,11 @@ utf8_cut b i u k =
       (w.back, (s.1, sym (forms_encode w.back) ∙ w.back_is)),
     )
 
--- the place is one where a `str` may be cut
+-- the index is one where a `str` may be cut
 pub char_boundary : (b : List ℕ) (i : ℕ) → IsUtf8 b → IsBoundary b i → IsCharBoundary b i
 char_boundary b i u k = IsCharBoundary-from_drop b i (boundary_within b i k) (utf8_cut b i u k).1
 
--- and each place where a `str` may be cut is a boundary
+-- and each index where a `str` may be cut is a boundary
 pub boundary_of_str : (b : List ℕ) (i : ℕ) → IsUtf8 b → IsCharBoundary b i → IsBoundary b i
 boundary_of_str b i u k = let rest = IsUtf8-drop b i u k in by rest.0 rest.1.0 (forms_encode rest.0 ∙ rest.1.1)
   where
@@ -150,6 +150,6 @@ boundary_of_str b i u k = let rest = IsUtf8-drop b i u k in by rest.0 rest.1.0 (
     by [] s e = record { is = inr (inl (omega (arith, k.0, ap length e, length-drop i b))) }
     by (c ∷ cs) s e = record { is = inr (inr (inl (i + length (form c), whole_at b i c (flat_map form cs) k.0 (and_parts (scalar c) _ s).0 (sym e)))) }
 
--- what follows a text at the front of a text is a text
+-- what follows a text at the start of a text is a text
 pub utf8_behind : (b : List ℕ) (n : ℕ) → IsUtf8 b → IsUtf8 (take n b) → IsUtf8 (drop n b)
 utf8_behind b n u v = ⊎_elim (λ h. subst IsUtf8 (sym (drop_all n b (omega arith))) IsUtf8-nil) (λ l. IsUtf8-drop b n u (IsCharBoundary-from_take b n u l v)) (cases_lt (length b) n)

@@ -16,7 +16,7 @@ cmp_less x y h = sym (nat_cmp_is x y Less h)
 cmp_equal : (x y : ℕ) → x ≡ y → nat_cmp x y ≡ Equal
 cmp_equal x y h = sym (nat_cmp_is x y Equal h)
 
--- the form of a smaller code point is less, whatever stands behind
+-- the form of a smaller code point is less, whatever comes after it
 form_less : (c d : ℕ) (xs ys : List ℕ) → c < d → Cmp (form c ++ xs) (form d ++ ys) ≡ Less
 unfolding form
 form_less c d xs ys h = grind (arith, nat_tests, cmp_less, cmp_equal)
@@ -26,7 +26,7 @@ empty_less : (d : ℕ) (ys : List ℕ) → Cmp [] (form d ++ ys) ≡ Less
 unfolding form
 empty_less d ys = grind (arith, nat_tests)
 
--- what stands behind equal fronts decides
+-- after equal prefixes the rest decides
 same_front : (zs xs ys : List ℕ) → Cmp (zs ++ xs) (zs ++ ys) ≡ Cmp xs ys
 same_front [] xs ys = refl
 same_front (z ∷ zs) xs ys = ap (λ o. ordering_then o (Cmp (zs ++ xs) (zs ++ ys))) (cmp_equal z z refl) ∙ same_front zs xs ys
@@ -34,7 +34,7 @@ same_front (z ∷ zs) xs ys = ap (λ o. ordering_then o (Cmp (zs ++ xs) (zs ++ y
 reversed : (xs ys : List ℕ) → Cmp ys xs ≡ Less → Cmp xs ys ≡ Greater
 reversed xs ys e = nat_list_cmp_total.antisymm xs ys ∙ ap ordering_reverse e
 
--- forms stand in the order of their code points
+-- forms are in the order of their code points
 order_of_forms : (cs ds : List ℕ) → Cmp (flat_map form cs) (flat_map form ds) ≡ Cmp cs ds
 order_of_forms [] [] = refl
 order_of_forms [] (d ∷ ds) = empty_less d (flat_map form ds)
@@ -48,6 +48,6 @@ order_of_forms (c ∷ cs) (d ∷ ds) =
     (⊎_elim (λ h. form_less c d x y h ∙ sym (ap first (cmp_less c d h))) (λ h. reversed (form c ++ x) (form d ++ y) (form_less d c y x h) ∙ ap first (nat_cmp_is c d Greater h)))
     (cases_order c d)
 
--- and so do the bytes that spell them
+-- and so are the bytes that spell them
 pub order_of_spelled : (b a cs ds : List ℕ) → Spells b cs → Spells a ds → Cmp b a ≡ Cmp cs ds
 order_of_spelled b a cs ds s t = ap (λ x. Cmp x a) s.joined ∙ ap (Cmp (flat_map form cs)) t.joined ∙ order_of_forms cs ds

@@ -19,7 +19,7 @@ paired_prop (c ∷ cs) = hlevel (may_precede_prop, paired_prop cs)
 points_prop : (cs : List ℕ) → IsProp (AllByRecursion IsCodePoint cs)
 points_prop cs = AllByRecursion-prop IsCodePoint (λ c. le_prop) cs
 
--- what is spelled
+-- what bytes spell
 pub spells_prop : (b cs : List ℕ) → IsProp (Spells b cs)
 spells_prop b cs = hlevel (points_prop, paired_prop, is_set (hedberg ℕ_discrete))
 

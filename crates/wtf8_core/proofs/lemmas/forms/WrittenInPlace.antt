@@ -21,7 +21,7 @@ pub four_put : (s : List ℕ) (i a b c d : ℕ) → i + 4 ≤ length s → take 
 four_put s i a b c d h =
     more_put s (set (set (set s i a) (i + 1) b) (i + 2) c) i (i + 3) 3 d (a ∷ b ∷ c ∷ []) (length-set (set (set s i a) (i + 1) b) (i + 2) c ∙ length-set (set s i a) (i + 1) b ∙ length-set s i a) refl (omega arith) (three_put s i a b c (omega arith))
 
--- the bytes behind them stay
+-- the bytes after them stay
 pub one_kept : (s : List ℕ) (i a : ℕ) → drop (i + 1) (set s i a) ≡ drop (i + 1) s
 one_kept s i a = drop-set-lt (i + 1) s i a (omega arith)
 

@@ -1,4 +1,4 @@
--- The reader gives what the definitions say, whatever stands at the front: so bytes have one list of items.
+-- The reader gives what the definitions say, whatever the bytes begin with: so bytes have one list of items.
 use Rattle.wtf8_core.proofs.Common.{◌≡◌, inl, inr, ⊎_elim, ℕ, suc, ◌⊎◌, ◌<◌, ◌≤◌, Bool, false, List, [], ◌∷◌, ◌++◌, length, drop, map, Result, Ok, Err, refl, sym, ap, ◌∙◌, subst, arith, append_assoc, drop-append_seam, append-nil, cases_lt, nat_tests, AllByRecursion, flat_map, IsInRange, IsLead, needed_continuations, IsHigh, IsLow, is_high, IsCodePoint, form, IsPairedFree, last_behind, Spells, IsShape, shape_value, IsShort, IsBadShape, IsRefused, BeginsFault, IsFirstFault, with_continuations, lead_bits, least_value, checked_value, and_then_checked, continuations, behind_item, first_item, items_behind, items_after, AreItems, EncodingError, Byte, CodePoint, End, Utf8}
 use Rattle.wtf8_core.specs.Items.AreItems.{Whole, Faulty}
 use Rattle.wtf8_core.proofs.lemmas.reader.FirstErr.{same_oks, no_err, same_faulty}
@@ -6,7 +6,7 @@ use Rattle.wtf8_core.proofs.lemmas.reader.Reading.{items-ok, items-step-err, ite
 use Rattle.wtf8_core.proofs.lemmas.forms.Shapes.{form_ascii, form_parts, shape_is_form, long_shape, long_value}
 use Rattle.wtf8_core.proofs.lemmas.reader.Continuations.{joins_all, joins_short, none_at_end, none_at_break, counts_all, counts_short, none_counted_at_end, none_counted_at_break}
 
--- how many bytes behind the first belong to its item
+-- how many bytes after the first belong to its item
 behind_item-none : (b : ℕ) (bs : List ℕ) → b < 0xC2 → behind_item b bs ≡ 0
 unfolding behind_item
 behind_item-none b bs h = grind (arith, nat_tests)
@@ -69,7 +69,7 @@ item_of_long p c rest k free long =
     ∙ items-ok (is_high p) lead c bs o
     ∙ ap (λ x. Ok c ∷ x) (items_behind-drop (behind_item lead bs) (is_high c) bs ∙ ap (λ m. items_behind 0 (is_high c) (drop m bs)) n ∙ ap (items_behind 0 (is_high c)) (drop-append_seam f.behind rest))
 
--- the first item of a form, where its code point may stand
+-- the first item of a form, if its code point may come there
 pub item_of_form : (p c : ℕ) (rest : List ℕ) → IsCodePoint c → (IsHigh p → IsLow c → ⊥) → items_behind 0 (is_high p) (form c ++ rest) ≡ Ok c ∷ items_behind 0 (is_high c) rest
 item_of_form p c rest k free =
     ⊎_elim
@@ -78,7 +78,7 @@ item_of_form p c rest k free =
     (λ h. item_of_long p c rest k free h)
     (cases_lt c 0x80)
 
--- the items of forms in front of a rest
+-- the items of forms that come before a rest
 pub items_of_spelled : (p : ℕ) (cs rest : List ℕ) → AllByRecursion IsCodePoint cs → IsPairedFree (p ∷ cs)
     → items_behind 0 (is_high p) (flat_map form cs ++ rest) ≡ map Ok cs ++ items_behind 0 (is_high (last_behind p cs)) rest
 items_of_spelled p [] rest a f = refl
@@ -114,7 +114,7 @@ record RefusedParts (p : ℕ) (refused rest : List ℕ) (f : EncodingError) : Ty
   item : first_item (is_high p) first (behind ++ rest) ≡ Err f
   counted : behind_item first (behind ++ rest) ≡ length behind
 
--- too few continuations, before what is none
+-- too few continuations, before a byte that is none
 parts_of_short : (p : ℕ) (refused rest : List ℕ) (f : EncodingError) → IsShort refused → ((w m : ℕ) → with_continuations w (suc m) rest ≡ Err f) → ((m : ℕ) → continuations m rest ≡ 0) → RefusedParts p refused rest f
 unfolding and_then_checked
 parts_of_short p refused rest f g e z = record {
@@ -159,7 +159,7 @@ refused_len p b bs f s =
     let counted : behind_item b bs ≡ length w.behind = ap (λ x. behind_item x bs) first ∙ ap (behind_item w.first) same ∙ w.counted in
     (ap length w.is ∙ ap suc (sym counted), sym (ap (λ n. drop n bs) counted ∙ ap (drop (length w.behind)) same ∙ drop-append_seam w.behind s.rest))
 
--- what begins nothing may stand before any code points
+-- what begins nothing may come before any code points
 pub behind_zero : (cs : List ℕ) → IsPairedFree cs → IsPairedFree (0 ∷ cs)
 behind_zero [] f = (tt, f)
 behind_zero (c ∷ cs) f = ((λ h l. omega (arith, h.0)), f)

@@ -8,7 +8,7 @@ pub data Stops (n : ℕ) : List ℕ → List ℕ → Type 0 where
   ends : {ks : List ℕ} → length ks < n → Stops n ks []
   breaks : {ks : List ℕ} (x : ℕ) (rest : List ℕ) → length ks < n → (IsContinuation x → ⊥) → Stops n ks (x ∷ rest)
 
--- the continuations at the front, n at most
+-- the continuations at the start, at most n
 pub record Split (n : ℕ) (bs : List ℕ) : Type 0 where
   pub behind : List ℕ
   pub rest : List ℕ
@@ -40,7 +40,7 @@ unfolding with_continuations
 joins_all v [] rest a = refl
 joins_all v (k ∷ ks) rest a = cond-true _ _ _ (in_range 0x80 0xBF k a.0) ∙ joins_all (v * 0x40 + k % 0x40) ks rest a.1
 
--- where they are fewer than are needed, what stands behind them is the fault
+-- if they are fewer than are needed, what comes after them is the fault
 pub joins_short : (v n : ℕ) (ks rest : List ℕ) (f : EncodingError) → AllByRecursion IsContinuation ks → length ks < n → ((w m : ℕ) → with_continuations w (suc m) rest ≡ Err f) → with_continuations v n (ks ++ rest) ≡ Err f
 unfolding with_continuations
 joins_short v zero ks rest f a h e = absurd (omega arith)
@@ -62,7 +62,7 @@ unfolding continuations
 counts_all [] rest a = refl
 counts_all (k ∷ ks) rest a = cond-true _ _ _ (in_range 0x80 0xBF k a.0) ∙ ap suc (counts_all ks rest a.1)
 
--- also where they are fewer than are asked for, and none stands behind them
+-- also if they are fewer than are asked for, and none comes after them
 pub counts_short : (n : ℕ) (ks rest : List ℕ) → AllByRecursion IsContinuation ks → length ks < n → ((m : ℕ) → continuations m rest ≡ 0) → continuations n (ks ++ rest) ≡ length ks
 unfolding continuations
 counts_short zero ks rest a h e = absurd (omega arith)

@@ -1,4 +1,4 @@
--- Where the first fault stands: bytes that are read up to it.
+-- The index of the first fault: bytes that have been read up to it.
 use Rattle.wtf8_core.proofs.Common.{◌≡◌, ⊎_elim, ℕ, ◌-◌, Bool, false, List, [], ◌∷◌, ◌++◌, length, take, drop, Result, Ok, Err, refl, sym, ap, ◌∙◌, subst, arith, append_assoc, Fits, w8, get_or, length-append, take-append-drop, drop-append_seam, All, append-nil, All-drop, All-from_get_or, IsByte, is_high, form, Spells, IsWtf8, last_behind, BeginsFault, IsFaultAt, first_item, behind_item, items_behind, is_high_item, IsFirstItem, IsSpelledFront, IsReadUpTo, EncodingError, IsCodePoint, IsLow, suc, flat_map}
 use Rattle.wtf8_core.proofs.lemmas.reader.Complete.{refused_len, item_of_form, items_of_fault, one_fault}
 use Rattle.wtf8_core.proofs.lemmas.reader.Reading.{items-err}
@@ -19,7 +19,7 @@ fault_behind p b f bs u e = ⊎_elim
 pub read_none : (bytes : List ℕ) → IsReadUpTo bytes false bytes
 read_none bytes = record { code_points = []; front = []; joined = refl; spelled = record { code_points = tt; paired_free = tt; joined = refl }; high_is = refl }
 
--- a front that vectors find is read
+-- a prefix that vectors find has been read
 pub read_front : (bytes rest : List ℕ) (n : ℕ) (h : Bool) → (f : IsSpelledFront Wtf8 bytes n) → h ≡ is_high (last_behind 0 f.code_points) → rest ≡ drop n bytes → IsReadUpTo bytes h rest
 read_front bytes rest n h f e d = record {
   code_points = f.code_points;
@@ -29,7 +29,7 @@ read_front bytes rest n h f e d = record {
   high_is = sym e;
 }
 
--- behind the last byte all is read
+-- after the last byte all has been read
 pub read_all : (bytes : List ℕ) (h : Bool) (rest : List ℕ) → IsReadUpTo bytes h rest → rest ≡ [] → IsWtf8 bytes
 read_all bytes h rest r e =
     (r.code_points, subst (λ x. Spells x r.code_points) (sym (r.joined ∙ ap (λ x. r.front ++ x) e ∙ append-nil r.front)) r.spelled)
@@ -75,7 +75,7 @@ module _ {bytes : List ℕ} {h : Bool} {rest later : List ℕ} {item : Result �
         refused_is = omega arith;
       }
 
--- as many bytes are refused, whatever stands before them
+-- as many bytes are refused, whatever comes before them
 refused_once : (p q : ℕ) (b c : List ℕ) (f g : EncodingError) → b ≡ c → (s : BeginsFault p b f) → (t : BeginsFault q c g) → length s.refused ≡ length t.refused
 unfolding items_behind
 refused_once p q [] c f g e s t = let none : [] ≡ Err f ∷ items_behind 0 false s.rest = items_of_fault p [] f s in cc

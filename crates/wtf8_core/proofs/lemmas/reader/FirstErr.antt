@@ -1,4 +1,4 @@
--- What a caller that stops at the first `Err` knows. None of these statements speaks of what comes behind that `Err`.
+-- What a caller that stops at the first `Err` knows. None of these statements is about what comes after that `Err`.
 use Rattle.wtf8_core.proofs.Common.{◌≡◌, ℕ, List, [], ◌∷◌, ◌++◌, map, Result, Ok, Err, refl, sym, ap, ◌∙◌, subst, append_assoc, AllByRecursion, flat_map, append-nil, map-append, IsCodePoint, wide, HasUnits, units, IsFirstFault, AreItems, AreUnitItems, unit_items, EncodingError}
 use Rattle.wtf8_core.specs.Items.AreItems.{Whole, Faulty}
 use Rattle.wtf8_core.specs.Encoder.{IsCodePointItem}
@@ -18,14 +18,14 @@ no_err [] (d ∷ ds) f l e = cc
 no_err (c ∷ cs) [] f l e = cc
 no_err (c ∷ cs) (d ∷ ds) f l e = no_err cs ds f l (cc)
 
--- items before a fault, and the fault, are decided by the list
+-- a list determines the items before its first fault, and that fault
 pub same_faulty : (cs ds : List ℕ) (f g : EncodingError) (l m : List Item) → oks cs ++ Err f ∷ l ≡ oks ds ++ Err g ∷ m → (cs ≡ ds) × (f ≡ g) × (l ≡ m)
 same_faulty [] [] f g l m e = (refl, cc, cc)
 same_faulty [] (d ∷ ds) f g l m e = cc
 same_faulty (c ∷ cs) [] f g l m e = cc
 same_faulty (c ∷ cs) (d ∷ ds) f g l m e = let u = same_faulty cs ds f g l m (cc) in (cc (u.0), u.1, u.2)
 
--- and so are items that are all Ok
+-- and, if all its items are Ok, their values
 pub same_oks : (cs ds : List ℕ) → oks cs ≡ oks ds → cs ≡ ds
 same_oks [] [] e = refl
 same_oks [] (d ∷ ds) e = cc

@@ -9,12 +9,12 @@ use Rattle.wtf8_core.proofs.lemmas.characters.AtPlaces.{NoChar, none_at, begins_
 faulty : (bs cs : List ℕ) (f : EncodingError) (later : List (Result ℕ EncodingError)) → AllByRecursion IsByte bs → items_after false bs ≡ map Ok cs ++ Err f ∷ later → IsFirstFault bs cs f
 faulty bs cs f later a e = items_first_err bs cs f later (subst (AreItems bs) e (items_of_bytes bs (All-from_recursion IsByte bs a)))
 
--- a low surrogate behind a high one; E0 80, which ends; FF 41, which lacks a continuation
+-- a low surrogate after a high one; E0 80, which ends; FF 41, which lacks a continuation
 pub first_faults : IsFirstFault (0xED ∷ 0xA0 ∷ 0x80 ∷ 0xED ∷ 0xB0 ∷ 0x80 ∷ []) (0xD800 ∷ []) (CodePoint 0xDC00) × IsFirstFault (0xE0 ∷ 0x80 ∷ []) [] End × IsFirstFault (0xFF ∷ 0x41 ∷ []) [] (Byte 0x41)
 unfolding items_behind behind_item continuations first_item and_then_checked with_continuations checked_value
 first_faults = (faulty _ _ _ [] (grind arith) refl, faulty _ _ _ [] (grind arith) refl, faulty _ _ _ (Ok 0x41 ∷ []) (grind arith) refl)
 
--- the items behind a fault, before which no high surrogate is counted
+-- the items after a fault, before which no high surrogate is counted
 are_items : (bs : List ℕ) (items : List (Result ℕ EncodingError)) → AllByRecursion IsByte bs → items_after false bs ≡ items → AreItems bs items
 are_items bs items a e = subst (AreItems bs) e (items_of_bytes bs (All-from_recursion IsByte bs a))
 
@@ -33,11 +33,11 @@ pub pair_units : units (0x1_F600 ∷ []) ≡ 0xD83D ∷ 0xDE00 ∷ []
 unfolding wide
 pair_units = refl
 
--- the form of no scalar value stands in s from a place up to i
+-- no scalar value's form is in s from index a up to i
 abbrev NoneEnds : List ℕ → ℕ → ℕ → Type 0
 NoneEnds s i a = (c : ℕ) (rest : List ℕ) → IsScalar c → length (form c) ≡ i - a → drop a s ≡ form c ++ rest → ⊥
 
--- a place where no character starts or ends is no boundary
+-- an index where no character starts or ends is no boundary
 no_boundary : (s : List ℕ) (i : ℕ) → 0 < i → i < length s → NoChar (drop i s) → ((a : ℕ) → a < i → NoneEnds s i a) → IsBoundary s i → ⊥
 no_boundary s i low high starts ends b =
     ⊎_elim (λ e. omega arith) (⊎_elim (λ e. omega arith) (⊎_elim
@@ -45,7 +45,7 @@ no_boundary s i low high starts ends b =
     (λ h. let f = character_fits s h.0 i h.1 in let w = h.1 in ends h.0 (omega arith) w.char w.stands.behind w.scalar (omega (arith, w.end)) (begins_at s h.0 i w))))
     b.is
 
--- 41 80 80 may be cut behind its character, and not between its stray bytes
+-- 41 80 80 may be cut after its character, and not between its stray bytes
 abbrev stray_behind : List ℕ
 stray_behind = 0x41 ∷ 0x80 ∷ 0x80 ∷ []
 

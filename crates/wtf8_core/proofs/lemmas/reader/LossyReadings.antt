@@ -17,7 +17,7 @@ replacement_is : form 0xFFFD ≡ replacement
 unfolding form
 replacement_is = refl
 
--- the code points that stand for items
+-- the code points that items give, with FFFD for a fault
 points_of_oks : (cs : List ℕ) (items : Items) → map lossy_code_point (oks cs ++ items) ≡ cs ++ map lossy_code_point items
 points_of_oks [] items = refl
 points_of_oks (c ∷ cs) items = ap (λ l. c ∷ l) (points_of_oks cs items)
@@ -25,7 +25,7 @@ points_of_oks (c ∷ cs) items = ap (λ l. c ∷ l) (points_of_oks cs items)
 whole_points : (cs : List ℕ) → map lossy_code_point (oks cs) ≡ cs
 whole_points cs = ap (map lossy_code_point) (sym (append-nil (oks cs))) ∙ points_of_oks cs [] ∙ append-nil cs
 
--- the forms of items that are all Ok, and of those up to a fault and behind it
+-- the forms of items that are all Ok, and of items up to a fault and after it
 whole_forms : (b cs : List ℕ) → Spells b cs → lossy_forms (oks cs) ≡ b
 whole_forms b cs s = ap (flat_map form) (whole_points cs) ∙ sym s.joined
 

@@ -48,7 +48,7 @@ unfolding and_then_checked
 and_then_whole h n c bs (Ok v) k e = k v refl
 and_then_whole h n c bs (Err f) k e = cc
 
--- behind a lead whose continuations are all there, these belong to it
+-- continuations after a lead belong to it if all that it needs are there
 pub behind_code_point : (h : Bool) (b c : ℕ) (bs : List ℕ) → 0x80 ≤ b → first_item h b bs ≡ Ok c → behind_item b bs ≡ needed_continuations b
 unfolding first_item behind_item
 behind_code_point h b c bs l e =
@@ -83,7 +83,7 @@ items-ascii h b bs l =
     ∙ ap (λ n. Ok b ∷ items_behind n (is_high b) bs) (behind_ascii b bs l)
     ∙ ap (λ t. Ok b ∷ items_behind 0 t bs) (ascii_low b l)
 
--- the continuations at the front, dropped
+-- the continuations at the start, dropped
 pub no_continuations : (n : ℕ) (bs : List ℕ) → n ≡ 0 → drop (continuations n bs) bs ≡ bs
 unfolding continuations
 no_continuations zero bs e = refl
@@ -102,7 +102,7 @@ continuations-cons (suc n) x bs h = rw sub-one refl
 
 pub ruleset counting = (no_continuations, continuations_of_none, continuations-cons)
 
--- the same of the first item
+-- the same for the first item
 pub first-ascii : (h : Bool) (b : ℕ) (bs : List ℕ) → b < 0x80 → IsFirstItem h (b ∷ bs) (Ok b) bs
 first-ascii h b bs l = record { first = b; behind = bs; is = refl; item_is = first_ascii h b bs l; rest_is = sym (ap (λ n. drop n bs) (behind_ascii b bs l)) }
 

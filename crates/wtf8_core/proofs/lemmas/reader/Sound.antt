@@ -8,7 +8,7 @@ use Rattle.wtf8_core.proofs.lemmas.reader.Continuations.Stops.{whole, ends, brea
 use Rattle.wtf8_core.proofs.lemmas.reader.Reading.{items-ok}
 use Rattle.wtf8_core.proofs.lemmas.reader.Complete.{behind_form, item_of_form, items_of_fault, items_if}
 
--- behind the code point p the bytes begin with a form
+-- after the code point p the bytes begin with a form
 pub record BeginsForm (p : ℕ) (bs : List ℕ) : Type 0 where
   pub c : ℕ
   pub rest : List ℕ
@@ -39,7 +39,7 @@ of_shape p b ks rest s =
     bad : ((c : ℕ) → IsCodePoint c → ¬ (form c ≡ b ∷ ks)) ⊎ ((form v ≡ b ∷ ks) × IsLow v × IsHigh p) → BeginsForm p (b ∷ ks ++ rest) ⊎ SomeFault p (b ∷ ks ++ rest)
     bad w = inr (CodePoint v, record { refused = b ∷ ks; rest = rest; is = refl; refusal = record { lead = b; behind = ks; is = refl; shape = s; value_is = refl; bad = w } })
 
--- what stands behind a lead
+-- what comes after a lead
 of_lead : (p b : ℕ) (ks rest : List ℕ) → IsBegun b ks → Stops (needed_continuations b) ks rest → BeginsForm p (b ∷ ks ++ rest) ⊎ SomeFault p (b ∷ ks ++ rest)
 of_lead p b ks rest g (whole e) = of_shape p b ks rest (record { begun = g; whole = e })
 of_lead p b ks rest g (ends h) = inr (End, record { refused = b ∷ ks; rest = []; is = refl; refusal = (record { lead = b; behind = ks; is = refl; begun = g; short = h }, refl) })
@@ -56,7 +56,7 @@ begins p b bs u =
     (cases_lt b 0xC2))
     (cases_lt b 0x80)
 
--- forms behind the code point p, and where they stop
+-- forms after the code point p, and where they stop
 record Run (p : ℕ) (bs : List ℕ) : Type 0 where
   cs : List ℕ
   from : List ℕ
@@ -65,7 +65,7 @@ record Run (p : ℕ) (bs : List ℕ) : Type 0 where
   joined : bs ≡ flat_map form cs ++ from
   stop : (from ≡ []) ⊎ SomeFault (last_behind p cs) from
 
--- one more form in front
+-- one more form at the start
 one_more : (p : ℕ) (bs : List ℕ) → (i : BeginsForm p bs) → Run i.c i.rest → Run p bs
 one_more p bs i r = record {
   cs = i.c ∷ r.cs;
@@ -104,7 +104,7 @@ refused_some last refused rest End s = let e = ap length s.0.is in omega arith
 refused_some last refused rest (CodePoint value) s = let e = ap length s.is in omega arith
 refused_some last refused rest (Utf8 i j) s = absurd s
 
--- and so what follows it is shorter than the bytes, and bytes itself
+-- and so what follows it is shorter than the bytes, and is bytes, too
 pub behind_fault : (bs cs : List ℕ) (f : EncodingError) → (s : IsFirstFault bs cs f) → (length s.begins.rest < length bs) × (All IsByte bs → All IsByte s.begins.rest)
 behind_fault bs cs f s =
     let front = s.before ++ s.begins.refused in

@@ -1,4 +1,4 @@
--- A lead and its continuations, where each may follow the other, are the form of a code point.
+-- A lead and its continuations are the form of a code point, if each of them may follow the one before.
 use Rattle.wtf8_core.proofs.Common.{◌≡◌, ℕ, ◌<◌, ◌≤◌, List, [], ◌∷◌, arith, nat_tests, IsScalar, IsContinuation, IsHigh, IsLow, IsCodePoint, form, shape_value}
 use Rattle.wtf8_core.proofs.lemmas.forms.Shapes.{shape_is_form}
 
@@ -29,7 +29,7 @@ module _ (a b d : ℕ) (l : 0xE0 ≤ a) (u : a < 0xF0) (j : IsContinuation b) (k
     is = shape_is_form a (b ∷ d ∷ []) (record { begun = record { lead_is = (omega arith, omega arith); continued = (j, (k, tt)) }; whole = grind (arith, nat_tests) }) (grind (arith, nat_tests, j, k, long));
   }
 
-  -- what they begin with where they are a high or a low surrogate
+  -- what they begin with if they are a high or a low surrogate
   pub three_high : IsHigh (shape_value a (b ∷ d ∷ [])) → (a ≡ 0xED) × (0xA0 ≤ b) × (b < 0xB0)
   three_high h = (grind (arith, nat_tests, j, k, h), grind (arith, nat_tests, j, k, h), grind (arith, nat_tests, j, k, h))
 

@@ -1,4 +1,4 @@
--- Bytes whose bits say that nothing is wrong may stand where they do.
+-- Bytes whose bits say that nothing is wrong may follow those before them.
 use Rattle.wtf8_core.proofs.Common.{List, get_or, ◌≡◌, ◌≢◌, ◌⊎◌, inl, inr, ⊎_elim, ℕ, ◌+◌, ◌-◌, ◌*◌, ◌/◌, ◌^◌, max, ◌<◌, ◌≤◌, Bool, true, eqb, bit_and, bit_or, bit_xor, refl, sym, ap, ◌∙◌, subst, arith, eq-eqb, cases_lt, bit_at, IsContinuation, MayFollow, MayStand, AllMayStand}
 use Rattle.std.proofs.lemmas.Nat.Bits.{and_pow, and_high_mask, bit_at_or}
 use Rattle.wtf8_core.specs.PairBits.{pair_bits, continuation_due, error_bits, surrogate_pair_difference}
@@ -10,16 +10,16 @@ use Rattle.wtf8_core.specs.declared.scan.Encoding.TheVariants.{Utf8}
 later_is : (x y : ℕ) → continuation_due x y ≡ max (bit_at (x - 0x70) 7) (bit_at (y - 0x60) 7) * 2 ^ 7
 later_is x y = and_pow (bit_or (x - 0x70) (y - 0x60)) 7 ∙ ap (λ t. t * 2 ^ 7) (bit_at_or (x - 0x70) (y - 0x60) 7)
 
--- it isn't there behind bytes that lead no three or four
+-- it isn't set after bytes that aren't leads of three or four
 not_later : (x y : ℕ) → x < 0xF0 → y < 0xE0 → continuation_due x y ≡ 0
 not_later x y p q = omega (arith, later_is x y, p, q)
 
--- and is where one of them does
+-- and is set if one of them is
 is_later : (x y : ℕ) → x < 256 → y < 256 → (0xF0 ≤ x) ⊎ (0xE0 ≤ y) → continuation_due x y ≡ 0x80
 is_later x y u v (inl p) = omega (arith, later_is x y, u, v, p)
 is_later x y u v (inr p) = omega (arith, later_is x y, u, v, p)
 
--- a first byte and the upper half of a second one of which the tables say nothing but these bits
+-- a first byte and the upper half of a second one for which the tables give no bits but these
 abbrev pub is_early : ℕ → ℕ → Bool
 is_early z h = eqb (bit_and (bit_xor (pair_bits z (h * 16)) 0) 0xBF) 0
 
@@ -32,7 +32,7 @@ is_clear z h = eqb (bit_xor (pair_bits z (h * 16)) 0) 0
 same_half : (z b : ℕ) → pair_bits z (b / 16 * 16) ≡ pair_bits z b
 same_half z b = let e : b / 16 * 16 / 16 ≡ b / 16 = omega arith in rw e refl
 
--- what the bits say where no code point goes on
+-- what the bits say where no code point continues
 module _ (z b : ℕ) (u : z < 256) (v : b < 256) (e : is_early z (b / 16) ≡ true) where
   early_begins : z < 0xC0 → (b < 0x80) ⊎ (0xC0 ≤ b)
   early_begins s =
@@ -76,12 +76,12 @@ module _ (z b : ℕ) (u : z < 256) (v : b < 256) (e : is_late z (b / 16) ≡ tru
       (λ l. ⊎_elim (λ m. (l, omega (arith, m))) (λ m. absurd (fails is_late 0x80 0x40 12 4 refl z (b / 16) late_first.0 (omega (arith, late_first.1)) (omega (arith, m)) (omega (arith, v)) e)) (cases_lt b 0xC0))
       (cases_lt b 0x80)
 
--- a second byte of a surrogate has bit 40
+-- the second byte of a surrogate has bit 40
 no_surrogate : (b : ℕ) → b < 0xC0 → bit_xor (pair_bits 0xED b) 0 ≡ 0 → b < 0xA0
 no_surrogate b u e =
     ⊎_elim (λ l. l) (λ l. absurd (fails is_clear 0xED 1 10 2 refl 0xED (b / 16) (omega arith) (omega arith) (omega (arith, l)) (omega (arith, u)) (eq-eqb _ _ (ap (λ n. bit_xor n 0) (same_half 0xED b) ∙ e)))) (cases_lt b 0xA0)
 
--- where a low surrogate begins behind a high one this is 0
+-- if a low surrogate begins after a high one, this is 0
 pair_is : (w x z b : ℕ) → x < 256 → b < 256 → w ≡ 0xED → 0xA0 ≤ x → x < 0xB0 → z ≡ 0xED → 0xB0 ≤ b → b < 0xC0 → surrogate_pair_difference w x z b ≡ 0
 pair_is w x z b u v p q r s l m =
     let high : bit_and x 0xF0 ≡ 0xA0 = and_high_mask 8 4 (omega arith) x u ∙ omega (arith, q, r) in
@@ -131,7 +131,7 @@ pub same_five : (P : ℕ → ℕ → ℕ → ℕ → ℕ → Type 0) {v w x y z 
 same_five P {v} {w} {x} {y} {z} {a} {b} {c} {d} {e} p q r s t h =
     subst (λ k. P k b c d e) p (subst (λ k. P v k c d e) q (subst (λ k. P v w k d e) r (subst (λ k. P v w x k e) s (subst (λ k. P v w x y k) t h))))
 
--- what is wrong with each byte behind the first four, where its bits are these
+-- what is wrong with each byte after the first four, if its bits are these
 module _ (s : Encoding) (n : ℕ) (ws wrong : List ℕ) (fits : (k : ℕ) → get_or ws k 0 < 256)
     (bits : (i : ℕ) → i < n → get_or wrong i 0 ≡ error_bits (get_or ws (1 + i) 0) (get_or ws (2 + i) 0) (get_or ws (3 + i) 0) (get_or ws (4 + i) 0)) where
   pub kept : ((i : ℕ) → i < n → bit_and (get_or wrong i 0) 0xBF ≡ 0)

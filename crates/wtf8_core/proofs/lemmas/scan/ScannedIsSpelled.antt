@@ -54,7 +54,7 @@ shaped c =
     (λ h. subst (IsShaped c) (sym (form_past c h)) (four _ _ _ _ h (omega arith, omega arith) (omega arith, omega arith) (omega arith, omega arith)))
     (cases_lt c 0x1_0000)) (cases_lt c 0x800)) (cases_lt c 0x80)
 
--- the edge after n bytes behind the first four
+-- the edge after n of the bytes that follow the first four
 abbrev pub IsEdgeAt : ℕ → ℕ → List ℕ → Type 0
 IsEdgeAt p n l = IsEdge p (get_or l (suc n) 0) (get_or l (suc (suc n)) 0) (get_or l (suc (suc (suc n))) 0)
 
@@ -70,7 +70,7 @@ edge_of_forms p w x y z (c ∷ cs) r edge = by (form c) (shaped c) (λ w x y z e
     by f (three a b d u j k high only) more = more z a b d (edge_three c a b d u j k high only)
     by f (four a b d g past i j k) more = more a b d g (edge_four c b d g past i j k)
 
--- bytes spell code points before which p may stand
+-- bytes spell code points that p may precede
 pub record IsWhole (encoding : Encoding) (p : ℕ) (bytes : List ℕ) : Type 0 where
   pub code_points : List ℕ
   pub spelled : Spells bytes code_points

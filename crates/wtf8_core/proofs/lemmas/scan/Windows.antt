@@ -1,4 +1,4 @@
--- From windows to the bytes: which front they give.
+-- From windows to the bytes: which prefix they give.
 use Rattle.wtf8_core.proofs.Common.{Bool, true, false, ◌≡◌, ⊎_elim, ℕ, zero, suc, ◌+◌, ◌-◌, ◌<◌, ◌≤◌, List, [], ◌∷◌, ◌++◌, length, take, drop, get_or, refl, sym, ap, ◌∙◌, subst, arith, min, replicate, get_or-take, get_or-drop, get_or_append_left, get_or-append_right, get_or_past, length-append, length-take, length-take-le, length-drop, take-add, take-take, drop-drop, take-append-drop, cases_lt, and_from, common_steps, AllByRecursion, IsScalar, low_scalar, scalars, IsUtf8, is_in_range, IsContinuation, is_high, Spells, last_behind, MayStand, AllMayStand, IsEdge, behind_zeros, KeepsPattern, IsSpelledFront}
 use borrow.Rule.Slice.PartMut.{put_mid}
 use Rattle.wtf8_core.proofs.lemmas.forms.Ranges.{in_range, in_range-true, in_range-false, not_in_range}
@@ -13,7 +13,7 @@ use Rattle.wtf8_core.proofs.lemmas.scan.ScannedIsSpelled.{IsEdgeAt, edge_of_form
 use Rattle.wtf8_core.specs.declared.scan.Encoding.{Encoding}
 use Rattle.wtf8_core.specs.declared.scan.Encoding.TheVariants.{Utf8, Wtf8}
 
--- where a spelled front ends the next code point begins
+-- where a prefix that spells code points ends, the next code point begins
 edge_at : (bytes cs : List ℕ) (n : ℕ) → n ≤ length bytes → Spells (take n bytes) cs → IsEdgeAt (last_behind 0 cs) n (behind_zeros bytes)
 edge_at bytes cs n h s =
     let start : IsEdge 0 0 0 0 = record { closed = record { fourth = omega arith; third = omega arith; second = omega arith }; high = λ h. omega (arith, h.0); only_high = λ e. absurd (omega (arith, e)) } in
@@ -22,14 +22,14 @@ edge_at bytes cs n h s =
     (subst (λ l. IsEdgeAt (last_behind 0 cs) (length (take n bytes)) (behind_zeros l)) (take-append-drop n bytes)
     (subst (λ f. IsEdgeAt (last_behind 0 cs) (length f) (behind_zeros (f ++ drop n bytes))) (sym s.joined) edge))
 
--- the empty front, and one that is a text
+-- the empty prefix, and one that is a text
 pub no_front : (encoding : Encoding) (bytes : List ℕ) → IsSpelledFront encoding bytes 0
 no_front encoding bytes = record { within = omega arith; code_points = []; spelled = record { code_points = tt; paired_free = tt; joined = refl }; plain = λ _. tt }
 
 text_front : (encoding : Encoding) (bytes : List ℕ) (n : ℕ) → n ≤ length bytes → IsUtf8 (take n bytes) → IsSpelledFront encoding bytes n
 text_front encoding bytes n h u = record { within = h; code_points = u.0; spelled = text_spells (take n bytes) u; plain = λ _. scalars_are u.0 u.1.0 }
 
--- a front keeps to the pattern
+-- such a prefix keeps to the pattern
 pub front_keeps : (encoding : Encoding) (bytes : List ℕ) (n : ℕ) → IsSpelledFront encoding bytes n → KeepsPattern encoding bytes n
 front_keeps encoding bytes n f = record { from = n; front = f; order = omega arith; pattern = λ i h. absurd (omega (arith, h)) }
 
@@ -39,7 +39,7 @@ no_pattern encoding bytes = front_keeps encoding bytes 0 (no_front encoding byte
 pub text_keeps : (bytes : List ℕ) (n : ℕ) → n ≤ length bytes → IsUtf8 (take n bytes) → KeepsPattern Utf8 bytes n
 text_keeps bytes n h u = front_keeps Utf8 bytes n (text_front Utf8 bytes n h u)
 
--- and where it has no encoding it is a text
+-- and in UTF-8 it is a text
 all_scalars : (cs : List ℕ) → AllByRecursion IsScalar cs → scalars cs ≡ true
 all_scalars [] p = refl
 all_scalars (c ∷ cs) p = and_from _ _ p.0 (all_scalars cs p.1)
@@ -47,7 +47,7 @@ all_scalars (c ∷ cs) p = and_from _ _ p.0 (all_scalars cs p.1)
 pub front_is_utf8 : (encoding : Encoding) (bytes : List ℕ) (n : ℕ) → encoding ≡ Utf8 → IsSpelledFront encoding bytes n → IsUtf8 (take n bytes)
 front_is_utf8 encoding bytes n e f = (f.code_points, (all_scalars f.code_points (f.plain e), sym (f.spelled.joined ∙ forms_encode f.code_points)))
 
--- bytes from place m on, with the four before them
+-- bytes from index m on, with the four before them
 four_before : (a b c d : ℕ) (l : List ℕ) (m : ℕ) → m ≤ length l
     → drop m (a ∷ b ∷ c ∷ d ∷ l) ≡ get_or (a ∷ b ∷ c ∷ d ∷ l) m 0 ∷ get_or (a ∷ b ∷ c ∷ d ∷ l) (suc m) 0 ∷ get_or (a ∷ b ∷ c ∷ d ∷ l) (suc (suc m)) 0 ∷ get_or (a ∷ b ∷ c ∷ d ∷ l) (suc (suc (suc m))) 0 ∷ drop m l
 four_before a b c d l zero h = refl
@@ -55,7 +55,7 @@ four_before a b c d [] (suc m) h = absurd (omega (arith, h))
 four_before a b c d (x ∷ l) (suc m) h = four_before b c d x l m (omega (arith, h))
 
 module _ (encoding : Encoding) (bytes : List ℕ) where
-  -- a front may be cut before a byte that begins a code point
+  -- a prefix may be cut before a byte that begins a code point
   cut_front : (n m : ℕ) → n < m → IsSpelledFront encoding bytes m → (IsContinuation (get_or bytes n 0) → ⊥) → IsSpelledFront encoding bytes n
   cut_front n m l f ends = by (drop n t) (sym (take-append-drop n t)) (sym (get_or-drop n t 0 0))
     where
@@ -78,7 +78,7 @@ module _ (encoding : Encoding) (bytes : List ℕ) where
             plain = λ e. (all_parts IsScalar w.front w.back (subst (AllByRecursion IsScalar) w.cut (f.plain e))).0;
           }
 
-  -- where bytes keep to the pattern past a byte that begins a code point, a front ends before it
+  -- if bytes keep to the pattern past a byte that begins a code point, a prefix ends before it
   pub by_pattern : (n m : ℕ) → n ≤ length bytes → n < m → KeepsPattern encoding bytes m → (IsContinuation (get_or bytes n 0) → ⊥) → IsSpelledFront encoding bytes n
   by_pattern n m h l k ends = ⊎_elim (λ past. cut_front n k.from past k.front ends) from_front (cases_lt n k.from)
     where
@@ -100,7 +100,7 @@ module _ (encoding : Encoding) (bytes : List ℕ) where
             plain = λ e. all_joined IsScalar f.code_points r.code_points (f.plain e) (r.plain e);
           }
 
-  -- ASCII behind a front
+  -- ASCII after a prefix
   pub more_ascii : (n k : ℕ) → n + k ≤ length bytes → ((i : ℕ) → i < k → get_or bytes (n + i) 0 < 0x80) → IsSpelledFront encoding bytes n → IsSpelledFront encoding bytes (n + k)
   more_ascii n zero h low f = let z : n ≡ n + 0 = omega arith in subst (IsSpelledFront encoding bytes) z f
   more_ascii n (suc k) h low f =
@@ -118,7 +118,7 @@ module _ (encoding : Encoding) (bytes : List ℕ) where
       take_one : (i : ℕ) (xs : List ℕ) → i < length xs → take (i + 1) xs ≡ take i xs ++ get_or xs i 0 ∷ []
       take_one i xs h = grind (arith, common_steps)
 
-  -- where the byte before a place is ASCII, a front ends at that place
+  -- if the byte before an index is ASCII, a prefix ends at that index
   pub front_behind_ascii : (n : ℕ) → 0 < n → n ≤ length bytes → get_or bytes (n - 1) 0 < 0x80 → KeepsPattern encoding bytes n → IsSpelledFront encoding bytes n
   front_behind_ascii n some h u k =
       let z : n - 1 + 1 ≡ n = omega (arith, some) in
@@ -144,12 +144,12 @@ module _ (encoding : Encoding) (bytes : List ℕ) where
           (pattern j (omega (arith, h, l, k.order)))) (cases_lt i (at - k.from));
     }
 
-  -- a window that stands in the bytes
+  -- a window that is part of the bytes
   pub more_inside : (at : ℕ) (window : List ℕ) (n : ℕ) → 4 ≤ at → window ≡ drop (at - 4) bytes → AllMayStand encoding n window → KeepsPattern encoding bytes at → KeepsPattern encoding bytes (at + n)
   more_inside at window n l is = more at window n (λ i _. let place : suc (suc (suc (suc ((at - 4) + i)))) ≡ at + i = omega (arith, l) in
       ap (λ x. get_or x i 0) is ∙ get_or-drop (at - 4) bytes i 0 ∙ ap (λ m. get_or (behind_zeros bytes) m 0) place)
 
--- ASCII at the front is a text
+-- ASCII at the start is a text
 pub ascii_is_utf8 : (bytes : List ℕ) (n : ℕ) → ((i : ℕ) → i < n → get_or bytes i 0 < 0x80) → n ≤ length bytes → IsUtf8 (take n bytes)
 ascii_is_utf8 bytes n low h =
     let z : 0 + n ≡ n = omega arith in

@@ -1,10 +1,10 @@
--- Over the laws of standing alone: pieces, strips and trims in units.
+-- From the laws of occurrences alone: pieces, strips and trims in units.
 use Rattle.wtf8_core.proofs.Common.{◌≡◌, ℕ, zero, suc, ◌<◌, List, [], ◌∷◌, ◌++◌, length, map, Option, Some, None, refl, sym, ap, ◌∙◌, subst, arith, append_assoc, append-nil, length-append, append_cancel_left, nil_from_length, repeat, IsUtf8, IsLeastPlace, IsGreatestPlace, IsFront, IsEnd, IsBytePlace, IsUnitPlaceOf, StandingLaws}
 use Rattle.wtf8_core.specs.Pieces.{SplitsAt, IsSplit, IsRSplit, IsStartTrim, IsEndTrim, IsTrim, StripsFront, StripsEnd, SplitsOnce}
 use Rattle.wtf8_core.specs.Pieces.FallsInto.{whole, cut}
 use Rattle.wtf8_core.proofs.lemmas.standing.Places.{shorter_front, no_units, nothing, around, least, greatest, nowhere, nowhere_in_units, none_first, none_last, no_units_first, no_units_last}
 
--- fronts of one length are one
+-- prefixes of one length are equal
 same_length : (x y z w : List ℕ) → x ++ z ≡ y ++ w → length x ≡ length y → x ≡ y
 same_length x y z w e h =
     let c = shorter_front x y z w e (omega arith) in
@@ -72,17 +72,17 @@ module _ (wf : List ℕ → Type 0) (units : List ℕ → List ℕ) (laws : Stan
   rsplit_in_units p s pieces t h w (cut {piece} {rest} {pieces = more} c r) =
       cut (greatest_cut p s rest piece t h w c) (rsplit_in_units p rest more t h (around wf units laws p s rest piece t h w c.joined).0 r)
 
-  -- a text at the front: what follows it, and the units
+  -- a text at the start: what follows it, and the units
   behind_front : (p s rest : List ℕ) → IsUtf8 p → wf s → s ≡ p ++ rest → wf rest × (units s ≡ units p ++ units rest)
   behind_front p s rest t w e = let u = laws.fronts p rest (laws.texts p t) (subst wf e w) in (u.0, ap units e ∙ u.1)
 
-  -- a text that isn't empty at the end: what stands before it, and the units
+  -- a text that isn't empty at the end: what comes before it, and the units
   before_end : (p s rest : List ℕ) → IsUtf8 p → wf s → s ≡ rest ++ p → wf rest × (units s ≡ units rest ++ units p)
   before_end p s rest t w e =
       let x = laws.ends rest p (laws.texts p t) (subst wf e w) in
       (x, ap units e ∙ (laws.fronts rest p x (subst wf e w)).1)
 
-  -- a text is a front in units exactly where it is one in bytes
+  -- a text is a prefix in units exactly if it is one in bytes
   pub front_in_bytes : (p s : List ℕ) → IsUtf8 p → wf s → IsFront (units p) (units s) → IsFront p s
   front_in_bytes [] s t w f = record { rest = s; joined = refl }
   front_in_bytes (x ∷ p) s t w f =
@@ -92,7 +92,7 @@ module _ (wf : List ℕ → Type 0) (units : List ℕ → List ℕ) (laws : Stan
   pub front_alike : (p s : List ℕ) → IsUtf8 p → wf s → (IsFront p s → IsFront (units p) (units s)) × (IsFront (units p) (units s) → IsFront p s)
   front_alike p s t w = (λ f. record { rest = units f.rest; joined = (behind_front p s f.rest t w f.joined).1 }, front_in_bytes p s t w)
 
-  -- and an end
+  -- and a suffix
   pub end_in_bytes : (p s : List ℕ) → IsUtf8 p → wf s → IsEnd (units p) (units s) → IsEnd p s
   end_in_bytes [] s t w f = record { rest = s; joined = sym (append-nil s) }
   end_in_bytes (x ∷ p) s t w f =
@@ -129,7 +129,7 @@ module _ (wf : List ℕ → Type 0) (units : List ℕ → List ℕ) (laws : Stan
       let v = times_front k.count p r t (subst wf k.trimmed w) in
       record { count = k.count; trimmed = ap units k.trimmed ∙ v.1; done = λ f. k.done (front_in_bytes p r t v.0 f) }
 
-  -- and behind a front
+  -- and after a prefix
   times_end : (n : ℕ) (p r : List ℕ) → IsUtf8 p → 0 < length p → wf (r ++ repeat n p) → wf r × (units (r ++ repeat n p) ≡ units r ++ repeat n (units p))
   times_end zero p r t h w = (subst wf (append-nil r) w, ap units (append-nil r) ∙ sym (append-nil (units r)))
   times_end (suc n) p r t h w =

@@ -1,7 +1,7 @@
--- Over the laws of standing alone: what holds of places in bytes holds of places in units.
+-- From the laws of occurrences alone: what holds of indices in bytes holds of indices in units.
 use Rattle.wtf8_core.proofs.Common.{◌≡◌, ⊎_elim, ℕ, ◌+◌, ◌<◌, ◌≤◌, List, [], ◌∷◌, ◌++◌, length, Option, Some, None, refl, sym, ap, ◌∙◌, subst, arith, append-nil, length-append, cases_lt, append_cancel_left, nil_from_length, IsUtf8, StandsAt, StandsNowhere, IsLeastPlace, IsGreatestPlace, Finds, IsBytePlace, IsUnitPlaceOf, FindsInUnits, StandingLaws}
 
--- of two fronts of a list one is a front of the other
+-- of two prefixes of a list one is a prefix of the other
 pub shorter_front : (x y z w : List ℕ) → x ++ z ≡ y ++ w → length x ≤ length y → (v : List ℕ) × (y ≡ x ++ v) × (z ≡ v ++ w)
 shorter_front [] y z w e h = (y, refl, e)
 shorter_front (a ∷ x) [] z w e h = absurd (omega arith)
@@ -23,7 +23,7 @@ module _ (wf : List ℕ → Type 0) (units : List ℕ → List ℕ) (laws : Stan
   pub nothing : (v : List ℕ) → wf v → units v ≡ [] → v ≡ []
   nothing v w e = laws.once v [] w nil_formed (e ∙ sym no_units)
 
-  -- what a longer front has behind a shorter one, with its units
+  -- what a longer prefix has after a shorter one, with its units
   longer : (s : List ℕ) (i j k l : ℕ) → (a : IsBytePlace wf units s i j) → (b : IsBytePlace wf units s k l) → j ≤ l → (v : List ℕ) × wf v × (b.front ≡ a.front ++ v) × (k ≡ i + length (units v))
   longer s i j k l a b h =
       let c = shorter_front a.front b.front a.rest b.rest (sym a.joined ∙ b.joined) (omega (arith, a.place, b.place)) in
@@ -31,11 +31,11 @@ module _ (wf : List ℕ → Type 0) (units : List ℕ → List ℕ) (laws : Stan
       let e : length (units b.front) ≡ length (units a.front) + length (units c.0) = ap (λ z. length (units z)) c.1 ∙ ap length u.1 ∙ length-append (units a.front) (units c.0) in
       (c.0, u.0, c.1, omega (arith, a.many, b.many))
 
-  -- byte places stand in the order of their unit places
+  -- byte indices are in the order of their unit indices
   pub in_order : (s : List ℕ) (i j k l : ℕ) → IsBytePlace wf units s i j → IsBytePlace wf units s k l → i < k → j < l
   in_order s i j k l a b h = ⊎_elim (λ m. m) (λ m. let c = longer s k l i j b a m in absurd (omega (arith, c.3))) (cases_lt j l)
 
-  -- a unit place has one byte place
+  -- a unit index has one byte index
   no_longer : (s : List ℕ) (i j k : ℕ) → IsBytePlace wf units s i j → IsBytePlace wf units s i k → j ≤ k → j ≡ k
   no_longer s i j k a b h =
       let c = longer s i j i k a b h in
@@ -54,11 +54,11 @@ module _ (wf : List ℕ → Type 0) (units : List ℕ → List ℕ) (laws : Stan
       let v = laws.fronts p back (laws.texts p t) u.0 in
       (x, v.0, ap units e ∙ u.1 ∙ ap (λ z. units front ++ z) v.1)
 
-  -- the units of a text stand at a unit place whose byte place is j
+  -- the units of a text occur at a unit index whose byte index is j
   abbrev pub StandsInUnitsAt : List ℕ → List ℕ → ℕ → Type 0
   StandsInUnitsAt p s j = (i : ℕ) × (IsBytePlace wf units s i j × StandsAt (units p) (units s) i)
 
-  -- the law of standing: bytes that stand at a byte place stand in units at its unit place
+  -- the law of occurrences: what occurs in bytes at a byte index occurs in units at its unit index
   pub bytes_stand : (p s : List ℕ) (j : ℕ) → IsUtf8 p → 0 < length p → wf s → StandsAt p s j → StandsInUnitsAt p s j
   bytes_stand p s j t h w st =
       let a = around p s st.before st.behind t h w st.joined in (
@@ -69,7 +69,7 @@ module _ (wf : List ℕ → Type 0) (units : List ℕ → List ℕ) (laws : Stan
         ),
       )
 
-  -- units that stand at a unit place stand in bytes at its byte place, which is there
+  -- what occurs in units at a unit index occurs in bytes at its byte index, which exists
   pub units_stand : (p s : List ℕ) (i : ℕ) → IsUtf8 p → 0 < length p → wf s → StandsAt (units p) (units s) i → (j : ℕ) × (IsBytePlace wf units s i j × StandsAt p s j)
   units_stand p s i t h w st =
       let m = laws.units_stand p s st.before st.behind t h w st.joined in (
@@ -87,7 +87,7 @@ module _ (wf : List ℕ → Type 0) (units : List ℕ → List ℕ) (laws : Stan
     λ a. let b = units_stand p s a.0 t h w a.1.1 in subst (λ k. StandsAt p s k) (one_byte_place s a.0 b.0 j b.1.0 a.1.0) b.1.1,
   )
 
-  -- the least byte place is that of the least unit place
+  -- the first byte index is that of the first unit index
   pub least : (p s : List ℕ) (j : ℕ) → IsUtf8 p → 0 < length p → wf s → IsLeastPlace p s j → IsUnitPlaceOf IsLeastPlace wf units p s j
   least p s j t h w l =
       let a = bytes_stand p s j t h w l.stands in
@@ -97,7 +97,7 @@ module _ (wf : List ℕ → Type 0) (units : List ℕ → List ℕ) (laws : Stan
         is = record { stands = a.1.1; least = λ k b st. let c = units_stand p s k t h w st in l.least c.0 (in_order s k c.0 a.0 j c.1.0 a.1.0 b) c.1.1 };
       }
 
-  -- the greatest byte place is that of the greatest unit place
+  -- the last byte index is that of the last unit index
   pub greatest : (p s : List ℕ) (j : ℕ) → IsUtf8 p → 0 < length p → wf s → IsGreatestPlace p s j → IsUnitPlaceOf IsGreatestPlace wf units p s j
   greatest p s j t h w g =
       let a = bytes_stand p s j t h w g.stands in
@@ -110,7 +110,7 @@ module _ (wf : List ℕ → Type 0) (units : List ℕ → List ℕ) (laws : Stan
   pub nowhere : (p s : List ℕ) → IsUtf8 p → 0 < length p → wf s → StandsNowhere p s → StandsNowhere (units p) (units s)
   nowhere p s t h w n i st = let c = units_stand p s i t h w st in n c.0 c.1.1
 
-  -- the empty text stands first at the start, and last at the end
+  -- the first occurrence of the empty text is at the start, the last at the end
   pub none_first : (s : List ℕ) (j : ℕ) → IsLeastPlace [] s j → j ≡ 0
   none_first s j l = ⊎_elim (λ m. absurd (l.least 0 m (record { before = []; behind = s; joined = refl; place = refl }))) (λ m. omega arith) (cases_lt 0 j)
 
@@ -149,7 +149,7 @@ module _ (wf : List ℕ → Type 0) (units : List ℕ → List ℕ) (laws : Stan
     byte_place = record { front = s; rest = []; joined = sym (append-nil s); formed = w; many = refl; place = sym (none_last s j g) };
   }
 
-  -- where a text stands nowhere, it isn't empty
+  -- a text that doesn't occur isn't empty
   pub nowhere_in_units : (p s : List ℕ) → IsUtf8 p → wf s → StandsNowhere p s → StandsNowhere (units p) (units s)
   nowhere_in_units [] s t w n = absurd (n 0 (record { before = []; behind = s; joined = refl; place = refl }))
   nowhere_in_units (x ∷ p) s t w n = nowhere (x ∷ p) s t (omega arith) w n

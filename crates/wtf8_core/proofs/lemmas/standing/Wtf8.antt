@@ -1,4 +1,4 @@
--- The laws of standing and of joins for WTF-8.
+-- The laws of occurrences and of joins for WTF-8.
 use Rattle.wtf8_core.proofs.Common.{◌≡◌, ⊎_elim, ℕ, ◌<◌, true, List, [], ◌∷◌, ◌++◌, length, sym, ap, ◌∙◌, subst, arith, append-nil, append_assoc, and_parts, flat_map-append, AllByRecursion, flat_map, IsScalar, IsUtf8, all_scalars, scalar, scalar_cases, IsHigh, IsLow, IsCodePoint, form, wide, IsPairedFree, MayPrecede, last_behind, units, Spells, IsWtf8, units_of, IsCutAround, StandingLaws}
 use Rattle.wtf8_core.proofs.lemmas.forms.Cuts.{all_parts, paired_back, bytes_found}
 use Rattle.wtf8_core.proofs.lemmas.forms.ByStd.{forms_front}
@@ -36,7 +36,7 @@ record AreUnitsFound (cs us vs ps : List ℕ) : Type 0 where
   cut : cs ≡ front ++ (ps ++ back)
   front_is : units front ≡ us
 
--- where the units of a text stand, its characters stand
+-- where the units of a text occur, its characters occur
 units_found : (cs us vs ps : List ℕ) → AllByRecursion IsCodePoint cs → IsPairedFree cs → all_scalars ps ≡ true → AllByRecursion IsCodePoint ps → IsPairedFree ps → 0 < length ps → units cs ≡ us ++ (units ps ++ vs) → AreUnitsFound cs us vs ps
 units_found cs us vs [] a f b p g h e = absurd (omega arith)
 units_found cs us vs (p ∷ ps) a f b k g h e =
@@ -53,14 +53,14 @@ some_points : (p ps : List ℕ) → p ≡ flat_map form ps → 0 < length p → 
 some_points p [] e h = absurd (omega (arith, ap length e))
 some_points p (q ∷ ps) e h = omega arith
 
--- what stands behind WTF-8 at the front
+-- what comes after WTF-8 at the start
 wtf8_fronts : (x y : List ℕ) → IsWtf8 x → IsWtf8 (x ++ y) → IsWtf8 y × (units_of (x ++ y) ≡ units_of x ++ units_of y)
 wtf8_fronts x y (ds, d) (cs, c) =
     let w = forms_front ds cs y (sym c.joined ∙ ap (λ z. z ++ y) d.joined) in
     let s : Spells y w.0 = subst (λ z. Spells z w.0) w.2 (spells_back ds w.0 (subst (AllByRecursion IsCodePoint) w.1 c.code_points) (subst IsPairedFree w.1 c.paired_free)) in
     ((w.0, s), units_of_spelled (x ++ y) cs c ∙ ap units w.1 ∙ flat_map-append wide ds w.0 ∙ ap (λ z. z ++ units w.0) (sym (units_of_spelled x ds d)) ∙ ap (λ z. units_of x ++ z) (sym (units_of_spelled y w.0 s)))
 
--- what stands before the bytes of code points
+-- what comes before the bytes of code points
 before_points : (x y cs ds : List ℕ) → Spells (x ++ (flat_map form ds ++ y)) cs → 0 < length ds → IsWtf8 x
 before_points x y cs ds c h =
     let f = bytes_found cs x y ds h (sym c.joined) in

@@ -120,7 +120,7 @@ all_refused s k r =
     (either (either (at_most (most_behind k r + 1) (least_value r.needed)) (at_most 0x11_0000 (least_behind k r)))
     (every (alike r.high true ∷ at_most 0xDC00 (least_behind k r) ∷ at_most (most_behind k r) 0xDFFF ∷ at_most (least_value r.needed) (least_behind k r) ∷ [])))
 
--- the same, and every value is a code point that may stand here
+-- the same, and every value is a code point that may come here
 abbrev pub all_accepted : State → Class → Row → Test
 all_accepted t k r =
     every (at_most (least_value r.needed) (least_behind k r) ∷ at_most (most_behind k r) 0x10_FFFF

@@ -1,4 +1,4 @@
--- Pieces, one behind the other.
+-- Pieces, one after the other.
 use Rattle.wtf8_core.proofs.Common.{◌≡◌, ◌≢◌, inl, inr, ⊎_elim, ℕ, ◌+◌, ◌<◌, Bool, true, false, List, [], ◌∷◌, ◌++◌, length, take, drop, get_or, take-append-drop, Option, None, refl, sym, ap, ◌∙◌, subst, arith, append_assoc, append-nil, common_steps, IsWtf8, Spells, last_behind, IsShort, IsRefused, class_at, next_at, Row, rows, SomeRow, IsOpen, IsOpenIn, Stands, IsFaulty, OnlyEnds, HasFirstFault, joined_bits, fault_at, Progress, progress, StandsFor, is_between, IsHigh, is_high, IsSpelledFront, EncodingError, Byte, CodePoint, End, Utf8, State, Between, BehindHigh, Refused, Class, cases_Bool}
 use Rattle.wtf8_core.proofs.lemmas.forms.Ranges.{in_range-false}
 use Rattle.wtf8_core.proofs.lemmas.forms.Appending.{last_append, spells_joined}
@@ -14,7 +14,7 @@ refused_extends last refused rest p End n s = absurd (n refl)
 refused_extends last refused rest p (CodePoint v) n s = s
 refused_extends last refused rest p (Utf8 i j) n s = s
 
--- what stands behind a fault doesn't matter
+-- what comes after a fault doesn't matter
 pub extends : (b p : List ℕ) (f : EncodingError) → IsFaulty b f → IsFaulty (b ++ p) f
 extends b p f h =
     let g = h.first.1 in
@@ -82,24 +82,24 @@ read_off s bits class t joined fault b x v m e f g n h =
     let o = (goes s bits b x v m).off (sym k ∙ n) in
     subst (IsFaulty (b ++ x ∷ [])) (sym (h ∙ ap (λ z. fault_at s z x) g)) o
 
--- the bytes up to a place, and one more
+-- the bytes up to an index, and one more
 pub one_more_read : (b xs : List ℕ) (i : ℕ) → i < length xs → (b ++ take i xs) ++ get_or xs i 0 ∷ [] ≡ b ++ take (i + 1) xs
 one_more_read b xs i h = append_assoc b (take i xs) (get_or xs i 0 ∷ []) ∙ ap (λ l. b ++ l) (sym (take_one i xs h))
   where
     take_one : (i : ℕ) (xs : List ℕ) → i < length xs → take (i + 1) xs ≡ take i xs ++ get_or xs i 0 ∷ []
     take_one i xs h = grind (arith, common_steps)
 
--- a fault at a place is one of all the bytes
+-- a fault at an index is one of all the bytes
 pub read_fault : (b xs : List ℕ) (i : ℕ) (f : EncodingError) → i < length xs → IsFaulty ((b ++ take i xs) ++ get_or xs i 0 ∷ []) f → IsFaulty (b ++ xs) f
 read_fault b xs i f l h =
     let q : (b ++ take (i + 1) xs) ++ drop (i + 1) xs ≡ b ++ xs = append_assoc b (take (i + 1) xs) (drop (i + 1) xs) ∙ ap (λ l. b ++ l) (take-append-drop (i + 1) xs) in
     subst (λ z. IsFaulty z f) q (extends _ (drop (i + 1) xs) f (subst (λ z. IsFaulty z f) (one_more_read b xs i l) h))
 
--- the bytes up to a place, and those from it on
+-- the bytes up to an index, and those from it on
 pub with_front : (b piece rest : List ℕ) (at : ℕ) → rest ≡ drop at piece → (b ++ take at piece) ++ rest ≡ b ++ piece
 with_front b piece rest at e = append_assoc b (take at piece) rest ∙ ap (λ l. b ++ l) (ap (λ r. take at piece ++ r) e ∙ take-append-drop at piece)
 
--- a front that is gone over at once
+-- a prefix that vectors read
 module _ (bits : ℕ) (b piece : List ℕ) (at : ℕ) (f : IsSpelledFront Wtf8 piece at) (m : Stands Between bits b) where
   same_before : m.before ≡ b
   same_before = sym (m.joined ∙ ap (λ z. m.before ++ z) m.opened.0 ∙ append-nil m.before)

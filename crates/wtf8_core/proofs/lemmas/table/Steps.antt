@@ -1,4 +1,4 @@
--- One more byte: what the state behind it stands for, or the fault.
+-- One more byte: what the state after it means, or the fault.
 use Rattle.wtf8_core.proofs.Common.{◌≡◌, ◌≢◌, ◌⊎◌, inl, inr, ⊎_elim, ℕ, zero, suc, ◌+◌, ◌*◌, ◌-◌, ◌%◌, ◌<◌, ◌≤◌, Bool, true, false, List, [], ◌∷◌, ◌++◌, length, length-append, refl, sym, ap, ◌∙◌, subst, arith, nat_tests, append_assoc, append-nil, cond_both, cond-true, cond-false, le-ltb, is_in_range, IsContinuation, needed_continuations, IsHigh, IsLow, is_high, IsCodePoint, form, Spells, last_behind, IsBegun, IsShape, shape_value, BeginsFault, lead_bits, least_value, class_at, next_at, Row, rows, SomeRow, IsOpen, IsOpenIn, Stands, IsFaulty, kept_bits, joined_bits, fault_at, is_between, EncodingError, Byte, CodePoint, End, State, Between, BehindHigh, BadFourth, Refused, BadThird, Class}
 use Rattle.wtf8_core.proofs.lemmas.forms.Shapes.{form_ascii, shape_is_form, no_form}
 use Rattle.wtf8_core.proofs.lemmas.forms.Ranges.{in_range, in_range-true, not_in_range}
@@ -92,7 +92,7 @@ pub record Goes (state : State) (bits : ℕ) (b : List ℕ) (x : ℕ) (t : State
   pub on : t ≢ Refused → Stands t (joined_bits bits x) (b ++ x ∷ [])
   pub off : t ≡ Refused → IsFaulty (b ++ x ∷ []) (fault_at state (joined_bits bits x) x)
 
--- what stands before a byte
+-- what comes before a byte
 record Before (h : Bool) (b cs w o : List ℕ) : Type 0 where
   joined : b ≡ w ++ o
   spelled : Spells w cs
@@ -221,7 +221,7 @@ module _ (s : State) (bits : ℕ) (t : State) (x : ℕ) (h : Bool) (b cs w : Lis
           (λ a. broken (λ y. ⊎_elim (λ z. omega (arith, z, c.1.0, y.0)) (λ z. omega (arith, z, c.0, y.1)) a.1) a.0)
           e
 
-  -- behind a whole form
+  -- after a whole form
   between_goes : is_between s ≡ true → x < 256 → Before h b cs w [] → Holds (between_entry h (class_at x) t) → Goes s bits b x t
   between_goes l u f e =
       let k = class_at x in

@@ -63,11 +63,11 @@ wtf8_bytes b w = subst Bytes (sym w.1.joined) (all_flat_map IsCodePoint IsByte f
 pub text_bytes : (b : List ℕ) → IsUtf8 b → Bytes b
 text_bytes b u = wtf8_bytes b (wtf8_of_text b u)
 
--- what follows a text at the front
+-- what follows a text at the start
 pub wtf8_behind_text : (b : List ℕ) (n : ℕ) → IsWtf8 b → IsUtf8 (take n b) → IsWtf8 (drop n b)
 wtf8_behind_text b n w u = let t = behind_text b w.0 n w.1 u in (t.0, t.2)
 
--- where no character begins, no text does, and the longest front is empty
+-- where no character begins, no text does, and the longest prefix that is one is empty
 pub no_text_begins : (b : List ℕ) (n : ℕ) → NoChar b → IsUtf8 (take n b) → 0 < length (take n b) → ⊥
 no_text_begins b n k u h = by u.0 u.1.0 (forms_encode u.0 ∙ u.1.1)
   where
@@ -101,14 +101,14 @@ part_first b m h k p = record {
   lossy = lossy_step b 0 m (valid_none b h k) p ∙ ap (λ n. replacement ++ utf8_lossy (drop n b)) (omega arith);
 }
 
--- the maximal ill-formed part behind the longest front, as std counts it
+-- the maximal ill-formed part after the longest prefix, as std counts it
 part_behind : (b : List ℕ) (n : ℕ) → IsValidUpTo b n → IsIllFormedPart (drop n b) (utf8_invalid_len (drop n b))
 part_behind b n v = part_is (drop n b) (utf8_error_len (drop n b)) (fault_is b n (utf8_error_len (drop n b)) v refl).part
 
 first_behind : (b : List ℕ) (n : ℕ) → IsValidUpTo b n → PartFirst (drop n b) (utf8_invalid_len (drop n b))
 first_behind b n v = let s = v.short in part_first (drop n b) (utf8_invalid_len (drop n b)) (omega (arith, length-drop n b)) (no_char b n v) (part_behind b n v)
 
--- and behind the longest front
+-- and after the longest prefix
 pub lossy_front : (b : List ℕ) (n : ℕ) → IsValidUpTo b n → utf8_lossy b ≡ take n b ++ utf8_lossy (drop n b)
 lossy_front b n v =
     let m = utf8_invalid_len (drop n b) in
@@ -116,12 +116,12 @@ lossy_front b n v =
     ∙ ap (λ x. take n b ++ (replacement ++ utf8_lossy x)) (sym (drop-drop m n b))
     ∙ ap (λ x. take n b ++ x) (sym (first_behind b n v).lossy)
 
--- the longest front that is a text
+-- the longest prefix that is a text
 record IsLongest (b : List ℕ) (n : ℕ) : Type 0 where
   front : IsUtf8 (take n b)
   longest : (k : ℕ) → n < k → IsUtf8 (take k b) → ⊥
 
--- of the fronts of at most m bytes
+-- of the prefixes of at most m bytes
 longest_up_to : (b : List ℕ) (m : ℕ) → ((k : ℕ) → m < k → IsUtf8 (take k b) → ⊥) → IsLongest b (valid_len_up_to b m)
 longest_up_to b zero h = record { front = IsUtf8-nil; longest = h }
 longest_up_to b (suc m) h =

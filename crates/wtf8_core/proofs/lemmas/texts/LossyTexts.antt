@@ -13,7 +13,7 @@ use Rattle.wtf8_core.proofs.lemmas.texts.StdFaults.{fault_is}
 pub no_text : (b : List ℕ) (n : ℕ) → IsValidUpTo b n → IsUtf8 b → ⊥
 no_text b n v u = v.longest (length b) v.short (subst IsUtf8 (sym (take-length b)) u)
 
--- bytes have one longest front
+-- bytes have one longest prefix that is UTF-8
 pub one_valid : (b : List ℕ) (n m : ℕ) → IsValidUpTo b n → IsValidUpTo b m → n ≡ m
 one_valid b n m v w = sym (utf8_valid_len-IsValidUpTo b n v) ∙ utf8_valid_len-IsValidUpTo b m w
 
@@ -67,14 +67,14 @@ kept (t ∷ ts) e =
     let s : is_surrogate t ≡ false = ⊎_elim (λ q. absurd (scalar_no_surrogate t p.0 q)) (λ q. q) (cases_Bool (is_surrogate t)) in
     ap (λ x. x ∷ map without_surrogate ts) (cond-false (is_surrogate t) 0xFFFD t s) ∙ ap (λ l. t ∷ l) (kept ts p.1)
 
--- what follows a text at the front of WTF-8
+-- what follows a text at the start of WTF-8
 pub behind_text : (b cs : List ℕ) (n : ℕ) → Spells b cs → (u : IsUtf8 (take n b)) → (others : List ℕ) × (cs ≡ u.0 ++ others) × Spells (drop n b) others
 behind_text b cs n s u =
     let text = forms_encode u.0 ∙ u.1.1 in
     let f = forms_front u.0 cs (drop n b) (sym s.joined ∙ sym (take-append-drop n b) ∙ ap (λ x. x ++ drop n b) (sym text)) in
     (f.0, f.1, (spells_parts b cs (take n b) (drop n b) s (record { front = u.0; back = f.0; cut = f.1; front_is = text; back_is = f.2 })).1)
 
--- a text at the front stays
+-- a text at the start stays
 pub wtf8_lossy_front : (b : List ℕ) (n : ℕ) → IsWtf8 b → IsUtf8 (take n b) → wtf8_lossy b ≡ take n b ++ wtf8_lossy (drop n b)
 wtf8_lossy_front b n w u =
     let t = behind_text b w.0 n w.1 u in
@@ -91,7 +91,7 @@ form_fffd : form 0xFFFD ≡ replacement
 unfolding form
 form_fffd = refl
 
--- a surrogate at the front is replaced
+-- a surrogate at the start is replaced
 pub record SurrogateFirst (b : List ℕ) : Type 0 where
   pub within : 3 ≤ length b
   pub rest : IsWtf8 (drop 3 b)
@@ -114,7 +114,7 @@ surrogate_first b w h k = by w.0 w.1
               ∙ ap (λ l. replacement ++ flat_map form (map without_surrogate l)) (sym (code_points_in-spelled (drop 3 b) cs f.rest));
         }
 
--- behind a front that is UTF-8
+-- after a prefix that is UTF-8
 module _ (b : List ℕ) (at : ℕ) (within : at ≤ length b) (front : IsUtf8 (take at b)) where
   pub text_behind : IsUtf8 (drop at b) → IsUtf8 b
   text_behind rest = subst IsUtf8 (take-append-drop at b) (IsUtf8-append (take at b) (drop at b) front rest)

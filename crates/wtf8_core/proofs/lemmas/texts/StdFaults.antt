@@ -36,7 +36,7 @@ pub filled : (b x y z : ℕ) → First b → Second b x → IsContinuation y →
 unfolding form
 filled b x y z l s j k = (shape_value b (take (needed_continuations b) (x ∷ y ∷ z ∷ [])), grind (arith, nat_tests, s), grind (arith, nat_tests, s))
 
--- so it does not stand where no character begins
+-- so bytes that begin with no character don't begin with it
 not_filled : (b x y z : ℕ) (r rest : List ℕ) → First b → Second b x → IsContinuation y → IsContinuation z → NoChar r → r ≡ Filled b x y z ++ rest → ⊥
 not_filled b x y z r rest l s j k n e =
     let w = filled b x y z l s j k in
@@ -55,7 +55,7 @@ needs_third b x y t l s k n =
     let low = needs_second b x (y ∷ t) l s n in
     ⊎_elim (λ h. absurd (not_filled b x y 0x80 _ t l s k least_continuation n (grind (arith, nat_tests)))) (λ h. h) (cases_lt b 0xF0)
 
--- a front of a form, with more behind it
+-- a prefix of a form, with more after it
 front_of : (xs : List ℕ) (k : ℕ) → IsForm xs → k < length xs → IsProperFront (take k xs)
 front_of xs k w h = record { front = record { char = w.0; scalar = w.1; rest = drop k xs; is = w.2 ∙ sym (take-append-drop k xs) }; proper = omega (arith, length-drop k xs) }
 
@@ -72,11 +72,11 @@ three_open b x y l s k h =
     let e : take 3 (Filled b x y 0x80) ≡ b ∷ x ∷ y ∷ [] = grind (arith, nat_tests) in
     subst IsProperFront e (front_of (Filled b x y 0x80) 3 (filled b x y 0x80 l s k least_continuation) (grind (arith, nat_tests)))
 
--- a front's front is one
+-- a prefix of a prefix is a prefix
 cut_front : (k : ℕ) (r : List ℕ) → IsFrontOfCharacter r → IsFrontOfCharacter (take k r)
 cut_front k r w = record { char = w.char; scalar = w.scalar; rest = drop k r ++ w.rest; is = w.is ∙ ap (λ x. x ++ w.rest) (sym (take-append-drop k r)) ∙ append_assoc (take k r) (drop k r) w.rest }
 
--- k bytes are at fault, which are a front, while one more are none
+-- k bytes are at fault: they are a prefix of a form, and one byte more is none
 ill : (r : List ℕ) (k : ℕ) → 0 < k → k ≤ length r → (1 < k → IsFrontOfCharacter (take k r)) → (IsFrontOfCharacter (take (suc k) r) → ⊥) → IsIllFormed r k
 ill r k some within front none = record {
   closed = λ w. none (cut_front (suc k) r w.front);
@@ -86,7 +86,7 @@ ill r k some within front none = record {
   longest = λ m h l w. none (subst IsFrontOfCharacter (take-take (suc k) m r (omega arith)) (cut_front (suc k) (take m r) w));
 }
 
--- where no character begins, a front is one of a form of two bytes or more
+-- where no character begins, a prefix is one of a form of two bytes or more
 long_front : (b : ℕ) (t u : List ℕ) → NoChar (b ∷ t) → (w : IsFrontOfCharacter (b ∷ u)) → 0x80 ≤ w.char
 long_front b t u n w = ⊎_elim
     (λ h. let f = form_ascii w.char h in
@@ -96,7 +96,7 @@ long_front b t u n w = ⊎_elim
     (λ h. h)
     (cases_lt w.char 0x80)
 
--- behind the first byte of a front of a character stand continuations
+-- the bytes after the first one in a prefix of a character are continuations
 pub front_behind : (xs : List ℕ) → IsFrontOfCharacter xs → (m : ℕ) → 0 < m → m < length xs → IsContinuation (get_or xs m 0)
 front_behind xs w m low high =
     let l : length (form w.char) ≡ length xs + length w.rest = ap length w.is ∙ length-append xs w.rest in
@@ -136,7 +136,7 @@ part (b ∷ x ∷ y ∷ z ∷ t) h n = subst (Part (b ∷ x ∷ y ∷ z ∷ t)) 
     ill (b ∷ x ∷ y ∷ z ∷ t) 3 (omega arith) (omega arith) (λ _. (three_open b x y l s k low).front)
     (λ w. not_filled b x y z _ t l s k (front_behind (b ∷ x ∷ y ∷ z ∷ []) w 3 (omega arith) (omega arith)) n (grind (arith, nat_tests)))))))
 
--- no character begins what follows the longest front
+-- no character begins what follows the longest prefix
 pub no_char : (bytes : List ℕ) (n : ℕ) → IsValidUpTo bytes n → NoChar (drop n bytes)
 no_char bytes n v c rest s e =
     let p = form_bounds c in

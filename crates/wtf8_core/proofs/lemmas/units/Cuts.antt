@@ -11,12 +11,12 @@ spells_front cs ds a f = record { code_points = (all_parts IsCodePoint cs ds a).
 pub spells_back : (cs ds : List ℕ) → AllByRecursion IsCodePoint (cs ++ ds) → IsPairedFree (cs ++ ds) → Spells (flat_map form ds) ds
 spells_back cs ds a f = record { code_points = (all_parts IsCodePoint cs ds a).1; paired_free = paired_back cs ds f; joined = refl }
 
--- the last of a list, whatever stood before it
+-- the last of a list, whatever came before it
 other_before : (u v : ℕ) (xs ys : List ℕ) → (IsHigh v → ⊥) → MayPrecede (last_behind u xs) ys → MayPrecede (last_behind v xs) ys
 other_before u v [] ys n m = may_precede v ys n
 other_before u v (x ∷ xs) ys n m = m
 
--- the code points of units are cut where the units are, but within a pair
+-- the code points of units are cut where the units are, except within a pair
 cut_units : (us vs : List ℕ) → MayPrecede (last_behind 0 us) vs → code_points_of (us ++ vs) ≡ code_points_of us ++ code_points_of vs
 unfolding code_points_of
 cut_units [] vs m = refl
@@ -59,7 +59,7 @@ cut_at_units cs us vs a f e m =
       back_reads = refl;
     }
 
--- the last unit is no high one where the last code point is none
+-- if the last code point is no high surrogate, the last unit is none
 pub last_unit : (u : ℕ) (cs : List ℕ) → (IsHigh (last_behind u cs) → ⊥) → IsHigh (last_behind u (units cs)) → ⊥
 last_unit u [] n h = n h
 last_unit u (c ∷ cs) n h =
@@ -72,7 +72,7 @@ last_unit u (c ∷ cs) n h =
     other u v [] n m h = n h
     other u v (x ∷ xs) n m h = m h
 
--- units at the front that may precede what stands behind them are the code points at the front
+-- a prefix of the units that may precede the units after it is a prefix of the code points
 pub units_front : (cs ps vs : List ℕ) → AllByRecursion IsCodePoint cs → IsPairedFree cs → AllByRecursion IsCodePoint ps → IsPairedFree ps → MayPrecede (last_behind 0 (units ps)) vs
     → units cs ≡ units ps ++ vs → (es : List ℕ) × (cs ≡ ps ++ es) × (units es ≡ vs)
 units_front cs ps vs a f b g n e =

@@ -1,4 +1,4 @@
--- Strings joined, by units: as bytes, but where a high surrogate meets a low one.
+-- Strings joined, by units: the same as by bytes, unless a high surrogate is followed by a low one.
 use Rattle.wtf8_core.proofs.Common.{◌≡◌, ℕ, ◌+◌, ◌-◌, ◌/◌, ◌%◌, ◌≤◌, List, [], ◌∷◌, ◌++◌, length, take, drop, refl, sym, ap, ◌∙◌, subst, arith, append_assoc, append-nil, length-append, take-append_seam, drop-append-add, flat_map-append, AllByRecursion, flat_map, IsCodePoint, form, wide, IsPairedFree, MayPrecede, last_behind, units, Spells, IsWtf8, units_of, paired}
 use Rattle.wtf8_core.specs.Join.{IsJoin, IsPairBetween}
 use Rattle.wtf8_core.proofs.lemmas.forms.Ranges.{high_surrogate, low_surrogate}
@@ -22,7 +22,7 @@ plain_join a b (cs, s) (ds, t) n =
         let w = split_at_last 0 cs (λ k. omega (arith, k.0)) h in
         n (paired (last_behind 0 cs) d) (record { front = flat_map form w.0; high = last_behind 0 cs; low = d; rest = flat_map form ds; is_high = h; is_low = l; ends = s.joined ∙ ap (flat_map form) w.1 ∙ forms_last w.0 (last_behind 0 cs); begins = e; pair = refl })
 
--- where one arises, its form stands in the place of both surrogates
+-- if one arises, its form replaces both surrogates
 pair_join : (a b : List ℕ) (c : ℕ) → IsWtf8 a → IsWtf8 b → (m : IsPairBetween a b c) → IsJoin IsWtf8 units_of a b (m.front ++ (form c ++ m.rest))
 pair_join a b c (cs, s) (ds, t) m =
     let h = m.high in
@@ -62,7 +62,7 @@ pair_bytes a b c m =
       low_bytes = omega (arith, ap length m.begins, length-append (form m.low) m.rest, y);
     }
 
--- the first grown by the second without its first two bytes, with the form written over the last three of its own and one more
+-- the first string is extended by the second without its first two bytes, and the form of the pair is written over the last three bytes of the first and the byte after them
 pub written_join : (a b v w : List ℕ) (c : ℕ) → IsWtf8 a → IsWtf8 b → IsPairBetween a b c → v ≡ a ++ drop 2 b → w ≡ take (length a - 3) v ++ (form c ++ drop (length a - 3 + 4) v) → IsJoin IsWtf8 units_of a b w
 written_join a b v w c s t m e f =
     let x = form_surrogate m.high (high_surrogate m.high m.is_high) in

@@ -76,7 +76,7 @@ reading_single u us cs h m r = record {
   are = ap (λ x. u ∷ x) r.are ∙ ap (λ x. x ++ units cs) (sym (wide_single u h));
 }
 
--- a pair in front
+-- a pair at the start
 reading_pair : (u v : ℕ) (us cs : List ℕ) → IsHigh u → IsLow v → IsReading us cs → IsReading (u ∷ v ∷ us) (paired u v ∷ cs)
 reading_pair u v us cs h l r = record {
   code_points = (omega (arith, h.1, l.1), r.code_points);
@@ -121,7 +121,7 @@ unfolding code_points_of
 bytes_none [] e = refl
 bytes_none (u ∷ us) e = absurd (omega arith)
 
--- a unit below 80 is no half of a pair
+-- a unit below 80 isn't half of a pair
 pub bytes_ascii : (u : ℕ) (us : List ℕ) → u < 0x80 → decoder_bytes 0 (u ∷ us) ≡ u ∷ decoder_bytes 0 us
 unfolding form
 bytes_ascii u us h = ap (flat_map form) (read_single u us (may_precede u us (λ i. omega (arith, i.0)))) ∙ grind (arith, nat_tests)

@@ -3,7 +3,7 @@ use Rattle.wtf8_core.proofs.lemmas.characters.AtPlaces.{character_fits, text_of_
 use Rattle.wtf8_core.proofs.lemmas.texts.LossyTexts.{front_behind, fault_behind}
 use Rattle.wtf8_core.proofs.utf8.after_three_characters.Goals as goal
 
--- the place that the length of the rest tells
+-- the index that the length of the rest gives
 place : (bytes rest : List ℕ) (at : ℕ) → at ≤ length bytes → rest ≡ drop at bytes → length bytes - length rest ≡ at
 place bytes rest at within e = omega (arith, within, ap length e, length-drop at bytes)
 
