@@ -120,13 +120,14 @@ impl<'p> Glob<'p> {
     }
 
     /// [`is_match`](Self::is_match), and how many symbols it looks at: the observer is told as it
-    /// goes on. They are at most as many as the pattern's bytes and two, times the string's bytes
-    /// and one.
+    /// goes on. Bytes that a search passes over count as symbols. A test wants at most as many as the
+    /// pattern's bytes and two, times the string's bytes and one.
     ///
     /// ```
     /// use os_glob::{Glob, GlobOptions, Observer, Separators};
     /// use os_str_bytes::{OsStr, Unix};
     ///
+    /// #[derive(Drop)]
     /// struct Count(usize);
     ///
     /// impl Observer for Count {

@@ -9,6 +9,7 @@ pub trait Observer {
     /// use os_glob::{Glob, GlobOptions, Observer, Separators};
     /// use os_str_bytes::{OsStr, Unix};
     ///
+    /// #[derive(Drop)]
     /// struct Count(usize);
     ///
     /// impl Observer for Count {
