@@ -1,4 +1,4 @@
--- What comes after an item, and where a fault is: ends of the characters that are read.
+-- What comes after an item, and where a fault is: both are suffixes of the characters that are read.
 use Rattle.std.proofs.Common.{◌≡◌, ◌⊎◌, inl, inr, ℕ, zero, suc, ◌+◌, ◌-◌, ◌≤◌, Bool, true, false, cond, if◌then◌else◌, nat_eq, List, [], ◌∷◌, ◌++◌, length, drop, Option, Some, None, refl, sym, ap, ◌∙◌, subst, arith, append_assoc, length-append}
 use Rattle.std.specs.Str.{chars, IsUtf8, encode_utf8_all}
 use Rattle.std.proofs.lemmas.List.{drop_at}
@@ -10,12 +10,12 @@ use Rattle.os_glob.specs.declared.item.Wildcard.TheVariants.{Star, DoubleStar}
 use Rattle.os_glob.specs.Members.{Member, range_at, ends_class, is_reversed, members_behind, members, after_class, first_reversed}
 use Rattle.os_glob.specs.Items.{Item, Run, AnyOne, Literal, OneOf, Refused, read, read_star, read_quoted, class_start, class_item, read_class, items_behind, items, first_fault, IsFirstFault}
 
--- of both branches
+-- what holds of both branches
 if_either : {X : Type 0} (P : X → Type 0) (b : Bool) (x y : X) → P x → P y → P (if b then x else y)
 if_either P true x y p q = p
 if_either P false x y p q = q
 
--- characters end with these
+-- the characters end with these
 pub record EndsIn (cs rest : List ℕ) : Type 0 where
   pub before : List ℕ
   pub joined : cs ≡ before ++ rest

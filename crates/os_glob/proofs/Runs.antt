@@ -8,11 +8,11 @@ use Rattle.os_glob.specs.declared.item.Wildcard.TheVariants.{Star, DoubleStar}
 use Rattle.os_glob.specs.Pattern.{Class, Any, Same, OneOf, Token, Run, One}
 use Rattle.os_glob.specs.Match.{Takes, Fits, Matches, BeginsWithRun, BeginsWithOne}
 
--- two lists that are one begin alike
+-- equal lists have equal first places and equal rests
 pub parts : {a b : Place} {x y : List Place} → a ∷ x ≡ b ∷ y → (a ≡ b) × (x ≡ y)
 parts {a} {b} {x} {y} e = (cc, cc)
 
--- what `*` takes, each takes
+-- what `*` takes, each wildcard takes
 pub takes_wider : (w : Wildcard) (p : Place) → Takes Star p → Takes w p
 takes_wider Star p h = h
 takes_wider DoubleStar (Ordinary s) h = tt
@@ -40,7 +40,7 @@ module _ (w : Wildcard) (Behind : List Place → Type 0) where
   pub longer_run : (p : Place) (ps : List Place) → Takes w p → BeginsWithRun w Behind ps → BeginsWithRun w Behind (p ∷ ps)
   longer_run p ps t h = record { run = p ∷ h.run; rest = h.rest; joined = ap (λ x. p ∷ x) h.joined; taken = (t, h.taken); behind = h.behind }
 
-  -- it is empty, or the first place is taken and a run without it does too
+  -- it is empty, or the first place is taken and the other places begin with a run, too
   pub run_cases : (p : Place) (ps : List Place) → BeginsWithRun w Behind (p ∷ ps) → Behind (p ∷ ps) ⊎ (Takes w p × BeginsWithRun w Behind ps)
   run_cases p ps h = by h.run h.rest h.joined h.taken h.behind
     where
@@ -88,7 +88,7 @@ one_place x ts p ps h = let e = parts h.joined in (subst (Fits x) (sym e.0) h.fi
 pub no_place : (x : Class) (ts : List Token) → Matches (One x ∷ ts) [] → ⊥
 no_place x ts h = let e : ◌≡◌ {A = List Place} [] (h.first ∷ h.rest) = h.joined in cc
 
--- what a class stands for is taken by a wildcard altogether or not at all
+-- a wildcard takes all that a class matches, or nothing of it
 pub fits_alike : (w : Wildcard) (x : Class) (p q : Place) → Fits x p → Takes w p → Fits x q → Takes w q
 fits_alike w Any p q f t g = takes_wider w q g
 fits_alike w (Same r) p q f t g = subst (Takes w) (sym f ∙ g) t
@@ -96,7 +96,7 @@ fits_alike w (OneOf negated ms) p (Ordinary s) f t g = takes_wider w (Ordinary s
 fits_alike w (OneOf negated ms) p LeadingDot f t g = absurd g
 fits_alike w (OneOf negated ms) p Separator f t g = absurd g
 
--- where the first place fits, a run without it and without the class does
+-- if the class fits the first place, the places after it begin with a run, without the class
 pub run_one : (w : Wildcard) (x : Class) (ts : List Token) (p : Place) (ps : List Place) → Fits x p → Matches (Run w ∷ One x ∷ ts) (p ∷ ps) → Matches (Run w ∷ ts) ps
 run_one w x ts p ps f h = by h.run h.rest h.joined h.taken h.behind
   where

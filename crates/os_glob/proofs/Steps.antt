@@ -1,4 +1,4 @@
--- How matching goes on, token by token.
+-- How matching continues, token by token.
 use Rattle.std.proofs.Common.{◌≡◌, ◌⊎◌, ◌↔◌, inl, inr, ◌<◌, ◌≤◌, List, [], ◌∷◌, ◌++◌, length, refl, sym, ap, ◌∙◌, subst, arith, append_assoc}
 use Rattle.std.specs.List.{AllByRecursion}
 use Rattle.os_glob.specs.declared.place.Place.TheVariants.{Separator, LeadingDot}
@@ -12,7 +12,7 @@ use Rattle.os_glob.specs.Match.{Takes, Fits, Matches}
 use Rattle.os_glob.specs.Parts.{GoesOn, GoesOnAnywhere, PartSays, GoesPast}
 use Rattle.os_glob.proofs.Runs.{takes_wider, all_append, empty_run, longer_run, run_cases, run_at_end, run_star, run_anywhere, one_place, no_place, run_one}
 
--- matching has come from these tokens and places to those, with no wildcard between
+-- matching has come from the tokens ts and the places ps to qs and rest, with no wildcard between
 pub record SoFar (ts : List Token) (ps : List Place) (qs : List Token) (rest : List Place) : Type 0 where
   pub alike : Matches ts ps ↔ Matches qs rest
   pub behind : (w : Wildcard) → Matches (Run w ∷ ts) ps → Matches (Run w ∷ qs) rest
@@ -157,7 +157,7 @@ at_double_star ts ps qs rest g = record {
   no_more_places = g.no_more_places;
 }
 
--- places of a component, taken by `**`
+-- places of a component, which `**` takes
 module _ (ts : List Token) (rest : List Place) where
   pub longer : (run : List Place) → AllByRecursion (Takes Star) run → Matches (Run DoubleStar ∷ ts) rest → Matches (Run DoubleStar ∷ ts) (run ++ rest)
   longer [] t m = m
@@ -174,7 +174,7 @@ module _ (ts : List Token) (rest : List Place) where
   shorter [] t n m = m
   shorter (p ∷ run) t n m = shorter run t.1 (λ j. n (longer_run Star (Matches ts) p (run ++ rest) t.0 j)) (first_taken p (run ++ rest) t.0 n m)
 
--- places of a component were taken off
+-- places of a component were removed
 pub record IsPast (ps rest : List Place) : Type 0 where
   pub run : List Place
   pub joined : ps ≡ run ++ rest

@@ -8,7 +8,7 @@ use Rattle.os_glob.specs.declared.item.Wildcard.{Wildcard}
 use Rattle.os_glob.specs.declared.item.Wildcard.TheVariants.{Star, DoubleStar}
 use Rattle.os_glob.specs.Members.{Member, members, after_class, first_reversed}
 
--- a wildcard, a `?`, a character that stands for itself, a class with its members, which may be negated, or a fault with the characters from its index on
+-- a wildcard, a `?`, a character that matches itself, a class with its members, which may be negated, or a fault with the characters from its index on
 pub data Item : Type 0 where
   Run : Wildcard → Item
   AnyOne : Item
@@ -47,7 +47,7 @@ abbrev pub read : ℕ → List ℕ → Item × List ℕ
 read c cs =
     if nat_eq c 0x2A then read_star cs else (if nat_eq c 0x3F then (AnyOne, cs) else (if nat_eq c 0x5C then read_quoted (c ∷ cs) cs else (if nat_eq c 0x5B then read_class (c ∷ cs) cs else (Literal c, cs))))
 
--- the items after so many characters
+-- the items after the first n characters
 abbrev pub items_behind : ℕ → List ℕ → List Item
 items_behind n [] = []
 items_behind (suc n) (c ∷ cs) = items_behind n cs
@@ -70,7 +70,7 @@ first_fault (OneOf negated ms ∷ xs) = first_fault xs
 abbrev pub IsWellFormed : List ℕ → Type 0
 IsWellFormed pattern = first_fault (items (chars pattern)) ≡ None
 
--- this is the pattern's first fault, at the byte index where the characters before it end
+-- this is the pattern's first fault; its byte index is where the characters before it end
 pub record IsFirstFault (pattern : List ℕ) (error : GlobError) : Type 0 where
   pub before : List ℕ
   pub from : List ℕ

@@ -14,20 +14,20 @@ use Rattle.os_glob.specs.Members.{Member, holds}
 use Rattle.os_glob.specs.Items.{items}
 use Rattle.os_glob.specs.Pattern.{Class, Any, Same, OneOf, Token, Run, One, tokens}
 
--- the run of a wildcard may have this place
+-- the run of a wildcard may include this place
 abbrev pub Takes : Wildcard → Place → Type 0
 Takes w (Ordinary s) = Unit {0}
 Takes w LeadingDot = ⊥
 Takes Star Separator = ⊥
 Takes DoubleStar Separator = Unit {0}
 
--- a class permits its members or, negated, each other symbol; what is no text is no member
+-- a class permits its members or, if it is negated, each other symbol; a unit that isn't text is no member
 abbrev pub permits : Bool → List Member → Symbol → Bool
 permits negated ms (LoneUnit u) = negated
 permits false ms (Character c) = holds ms c
 permits true ms (Character c) = not (holds ms c)
 
--- the class stands for this place
+-- the class matches this place
 abbrev pub Fits : Class → Place → Type 0
 Fits Any p = Takes Star p
 Fits (Same q) p = q ≡ p
@@ -35,7 +35,7 @@ Fits (OneOf negated ms) (Ordinary s) = IsTrue (permits negated ms s)
 Fits (OneOf negated ms) LeadingDot = ⊥
 Fits (OneOf negated ms) Separator = ⊥
 
--- places are a run of a wildcard, and others after it
+-- the places are a run that the wildcard takes, and others after it
 pub record BeginsWithRun (w : Wildcard) (Behind : List Place → Type 0) (ps : List Place) : Type 0 where
   pub run : List Place
   pub rest : List Place
@@ -43,7 +43,7 @@ pub record BeginsWithRun (w : Wildcard) (Behind : List Place → Type 0) (ps : L
   pub taken : AllByRecursion (Takes w) run
   pub behind : Behind rest
 
--- places are one of a class, and others after it
+-- the places are one that the class matches, and others after it
 pub record BeginsWithOne (x : Class) (Behind : List Place → Type 0) (ps : List Place) : Type 0 where
   pub first : Place
   pub rest : List Place
@@ -51,12 +51,12 @@ pub record BeginsWithOne (x : Class) (Behind : List Place → Type 0) (ps : List
   pub fits : Fits x first
   pub behind : Behind rest
 
--- the places are those for which the tokens stand, one after the other
+-- the tokens match the places, one after the other
 abbrev pub Matches : List Token → List Place → Type 0
 Matches [] ps = ps ≡ []
 Matches (Run w ∷ ts) ps = BeginsWithRun w (Matches ts) ps
 Matches (One x ∷ ts) ps = BeginsWithOne x (Matches ts) ps
 
--- the symbols have the pattern
+-- the pattern matches the symbols
 abbrev pub IsMatch : GlobOptions → List ℕ → List Symbol → Type 0
 IsMatch o pattern symbols = Matches (tokens o true (items (chars pattern))) (places o true symbols)

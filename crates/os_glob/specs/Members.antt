@@ -6,7 +6,7 @@ use Rattle.os_glob.specs.declared.member.Range.{Range}
 abbrev pub Member : Type 0
 Member = Range × List ℕ
 
--- of one character
+-- a range of one character
 abbrev pub single : ℕ → Range
 single c = record { first = c; last = c }
 
@@ -20,7 +20,7 @@ range_at c (d ∷ e ∷ cs) = if nat_eq d 0x2D && not (nat_eq e 0x5D) then (reco
 abbrev pub ends_class : Bool → ℕ → Bool
 ends_class begins c = not begins && nat_eq c 0x5D
 
--- the members after so many characters, up to the end of the class, or of the characters
+-- the members after the first n characters, up to the end of the class, or of the characters
 abbrev pub members_behind : Bool → ℕ → List ℕ → List Member
 members_behind begins n [] = []
 members_behind begins (suc n) (c ∷ cs) = members_behind begins n cs
@@ -31,7 +31,7 @@ members_behind begins zero (c ∷ cs) =
 abbrev pub members : Bool → List ℕ → List Member
 members begins cs = members_behind begins 0 cs
 
--- what comes after the class; None where it has no end
+-- what comes after the class; None if it has no end
 abbrev pub after_class : Bool → List ℕ → Option (List ℕ)
 after_class begins [] = None
 after_class begins (c ∷ cs) = if ends_class begins c then Some cs else after_class false cs

@@ -1,4 +1,4 @@
--- What is known after a part of a pattern: only private contracts name this.
+-- What is known after a part of a pattern has been matched: only private contracts name this.
 use Rattle.std.specs.Prelude.{◌≤◌, ◌<◌, ◌↔◌, Bool, true, false, List, ◌∷◌, length}
 use Rattle.os_glob.specs.declared.place.Place.{Place}
 use Rattle.os_glob.specs.declared.item.Wildcard.{Wildcard}
@@ -10,14 +10,14 @@ use Rattle.os_glob.specs.declared.matching.Part.TheVariants as part
 use Rattle.os_glob.specs.Pattern.{Token, Run}
 use Rattle.os_glob.specs.Match.{Matches}
 
--- matching goes on at a wildcard, in what is shorter
+-- matching continues at a wildcard, with fewer tokens and no more places
 pub record GoesOn (ts : List Token) (ps : List Place) (w : Wildcard) (qs : List Token) (rest : List Place) : Type 0 where
   pub alike : Matches ts ps ↔ Matches (Run w ∷ qs) rest
   pub behind : (v : Wildcard) → Matches (Run v ∷ ts) ps → Matches (Run v ∷ Run w ∷ qs) rest
   pub fewer_tokens : length qs < length ts
   pub no_more_places : length rest ≤ length ps
 
--- up to the first wildcard
+-- what the result of matching up to the first wildcard says
 module _ {E : Type 0} where
   abbrev pub PieceSays : List Token → List Place → Piece E → Type 0
   PieceSays ts ps piece.All = Matches ts ps
@@ -25,14 +25,14 @@ module _ {E : Type 0} where
   PieceSays ts ps piece.Ends = ¬ (Matches (Run DoubleStar ∷ ts) ps)
   PieceSays ts ps (piece.Run w left rest) = GoesOn ts ps w left rest
 
--- matching goes on at the first `**`
+-- matching continues at the first `**`
 pub record GoesOnAnywhere (ts : List Token) (ps : List Place) (qs : List Token) (rest : List Place) : Type 0 where
   pub alike : Matches ts ps ↔ Matches (Run DoubleStar ∷ qs) rest
   pub behind : Matches (Run DoubleStar ∷ ts) ps → Matches (Run DoubleStar ∷ qs) rest
   pub fewer_tokens : length qs < length ts
   pub no_more_places : length rest ≤ length ps
 
--- up to the first `**`
+-- what the result of matching up to the first `**` says
 module _ {E : Type 0} where
   abbrev pub PartSays : List Token → List Place → Part E → Type 0
   PartSays ts ps part.All = Matches ts ps
@@ -41,7 +41,7 @@ module _ {E : Type 0} where
   PartSays ts ps part.Ends = ¬ (Matches (Run DoubleStar ∷ ts) ps)
   PartSays ts ps (part.Anywhere left rest) = GoesOnAnywhere ts ps left rest
 
--- where the tokens match nowhere in a component, `**` goes past it
+-- if the tokens match nowhere in a component, `**` may skip the component
 pub record GoesPast (ps rest : List Place) : Type 0 where
   pub alike : (ts : List Token) → ¬ (Matches (Run Star ∷ ts) ps) → Matches (Run DoubleStar ∷ ts) ps ↔ Matches (Run DoubleStar ∷ ts) rest
   pub fewer_places : length rest < length ps

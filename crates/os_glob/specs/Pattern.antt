@@ -1,4 +1,4 @@
--- The tokens of a pattern: its items, by what they say of the places of a string.
+-- The tokens of a pattern: its items, by which places of a string they match.
 use Rattle.std.specs.Prelude.{Bool, true, false, ℕ, List, [], ◌∷◌}
 use Rattle.std.specs.Str.{chars}
 use Rattle.os_str_ext.specs.declared.symbols.Symbol.TheVariants.{Character}
@@ -16,12 +16,12 @@ pub data Class : Type 0 where
   Same : Place → Class
   OneOf : Bool → List Member → Class
 
--- what stands for a run of places, or for one
+-- what matches a run of places, or one place
 pub data Token : Type 0 where
   Run : Wildcard → Token
   One : Class → Token
 
--- of items up to a first that is refused; the first item may begin a component
+-- the tokens of items up to the first that is refused; the first item may begin a component
 abbrev pub tokens : GlobOptions → Bool → List Item → List Token
 tokens o begins [] = []
 tokens o begins (item.Refused kind from ∷ xs) = []

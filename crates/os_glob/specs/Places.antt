@@ -1,4 +1,4 @@
--- The places of a string: its symbols, by what patterns see in them.
+-- The places of a string: its symbols, as patterns see them.
 use Rattle.std.specs.Prelude.{Bool, true, false, if◌then◌else◌, ℕ, nat_eq, List, [], ◌∷◌, ◌&&◌, ◌||◌}
 use Rattle.os_str_ext.specs.declared.symbols.Symbol.{Symbol}
 use Rattle.os_str_ext.specs.declared.symbols.Symbol.TheVariants.{Character, Unit as LoneUnit}
@@ -26,7 +26,7 @@ begins_component Separator = true
 begins_component LeadingDot = false
 begins_component (Ordinary s) = false
 
--- of symbols, the first of which may begin a component
+-- the places of symbols, the first of which may begin a component
 abbrev pub places : GlobOptions → Bool → List Symbol → List Place
 places o begins [] = []
 places o begins (s ∷ ss) = place o begins s ∷ places o (begins_component (place o begins s)) ss

@@ -20,24 +20,24 @@ use std::marker::Model;
 
 /// A well-formed path pattern.
 ///
-/// | Part | What it stands for |
+/// | Part | What it matches |
 /// |---|---|
 /// | `*` | any run of symbols without a separator |
 /// | `**` | any run of symbols |
-/// | `?` | one symbol that is no separator |
-/// | `[a-z]`, `[aeiou]` | one character of the class that is no separator |
-/// | `[!a-z]` | one symbol, not a character of the class and no separator |
+/// | `?` | one symbol that isn't a separator |
+/// | `[a-z]`, `[aeiou]` | one character of the class that isn't a separator |
+/// | `[!a-z]` | one symbol that is neither a character of the class nor a separator |
 /// | `\` and a character | that character |
 /// | a separator | any separator |
 /// | another character | itself |
 ///
-/// In a class, a `]` right after `[` or `[!` is a member, and so is a `-` at either end; a `\`
-/// quotes nothing there and is a member, too. A unit that is no text is no member of a class: of
-/// classes only the negated ones permit it, as `?` does. The characters of alternatives (`{a,b}`)
-/// and of POSIX's named classes (`[:alpha:]`) stand for themselves.
+/// In a class, a `]` right after `[` or `[!` is a member, and so is a `-` at either end. A `\`
+/// quotes nothing there and is a member, too. A unit that isn't part of a text is no member of any
+/// class: only negated classes match it, as `?` does. The characters of alternatives (`{a,b}`) and
+/// of POSIX's named classes (`[:alpha:]`) have no special meaning.
 ///
-/// A symbol is a whole character, or one unit of what is no text
-/// ([`OsStrBytesExt::symbols`](os_str_ext::OsStrBytesExt::symbols)). Case is as it is.
+/// A symbol is a whole character, or one unit of a part that isn't text
+/// ([`OsStrBytesExt::symbols`](os_str_ext::OsStrBytesExt::symbols)). Matching is case-sensitive.
 #[derive(Drop)]
 pub struct Glob<'p> {
     pattern: &'p str,
@@ -57,13 +57,13 @@ impl<'p> Model for Glob<'p> {
 }
 
 impl<'p> Glob<'p> {
-    /// The pattern that a text is. It takes no memory.
+    /// Parses a pattern. It doesn't allocate.
     ///
     /// # Errors
     ///
     /// The first fault of the pattern, and its byte index: a class without an end, a reversed range
-    /// in a class, or a `\` at the end. Of `a[z-a]` it is `ReversedRange` at index 2, of `a[z-a` it is
-    /// `UnclosedClass` at index 1, and of `a\` it is `DanglingEscape` at index 1.
+    /// in a class, or a `\` at the end. For `a[z-a]` it is `ReversedRange` at index 2, for `a[z-a`
+    /// it is `UnclosedClass` at index 1, and for `a\` it is `DanglingEscape` at index 1.
     ///
     /// ```
     /// use os_glob::{Glob, GlobErrorKind};
@@ -93,15 +93,15 @@ impl<'p> Glob<'p> {
         })
     }
 
-    /// Whether the whole string has the pattern: its symbols, from the first to the last
-    /// (`OsStrBytesExt::symbols`), are those for which the pattern stands. It takes no memory.
+    /// Whether the pattern matches the whole string: all its symbols, from the first to the last
+    /// (`OsStrBytesExt::symbols`). It doesn't allocate.
     ///
-    /// Where [`GlobOptions::literal_leading_dot`] is set, no wildcard and no class takes a dot that is
-    /// first in the string, or right after a separator.
+    /// If [`GlobOptions::literal_leading_dot`] is set, no wildcard and no class matches a dot that
+    /// is first in the string, or right after a separator.
     ///
-    /// With the separator `/` the Unix string of the bytes 61 FF 2F 62 (hexadecimal) has the patterns
-    /// `a?/b`, `a[!a-z]/b`, `*/*` and `**`, but not `*`; the Windows string of the units D83D and DE00
-    /// is one character, and has the pattern `?`.
+    /// With the separator `/`, the Unix string of the bytes 61 FF 2F 62 (hexadecimal) is matched by
+    /// `a?/b`, `a[!a-z]/b`, `*/*` and `**`, but not by `*`. The Windows string of the units D83D
+    /// and DE00 is one character, and is matched by `?`.
     ///
     /// ```
     /// use os_glob::{Glob, GlobOptions, Separators};
@@ -155,7 +155,7 @@ impl<'p> Glob<'p> {
         self.matches_symbols(options, string.symbols(), observer)
     }
 
-    /// Whether the symbols that are left have the pattern.
+    /// Whether the pattern matches the symbols that are left.
     fn matches_symbols<E: Platform, O: Observer>(
         &self,
         options: GlobOptions,

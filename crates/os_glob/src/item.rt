@@ -9,12 +9,12 @@ use crate::error::GlobErrorKind;
 use crate::member::{after_members, first_reversed_range};
 use crate::text::first_char;
 
-/// What stands for any run of places.
+/// An item that matches any run of places.
 #[derive(Clone, Copy)]
 pub(crate) enum Wildcard {
-    /// `*`, for places within a component.
+    /// `*`, which matches places within a component.
     Star,
-    /// `**`, for any but a leading dot.
+    /// `**`, which matches any places but a leading dot.
     DoubleStar,
 }
 
@@ -25,7 +25,7 @@ pub(crate) enum Item<'p> {
     Run(Wildcard),
     /// `?`.
     AnyOne,
-    /// A character that stands for itself.
+    /// A character that matches itself.
     Literal(char),
     /// A class: whether it is negated, and the pattern from its first member on.
     OneOf(bool, &'p str),

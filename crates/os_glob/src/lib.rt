@@ -1,10 +1,10 @@
 //! Path patterns over strings of any platform.
 //!
-//! A pattern is made of `*`, `**`, `?`, classes (`[a-z]`, `[!a-z]`) and characters that stand for
-//! themselves; `\` quotes the character after it. What a pattern is matched with are the symbols of a
-//! string: whole characters, and the units of what is no text. No pattern takes a part of a symbol.
+//! A pattern is made of `*`, `**`, `?`, classes (`[a-z]`, `[!a-z]`) and characters that match
+//! themselves; `\` quotes the character after it. A pattern is matched against the symbols of a
+//! string: whole characters, and the units of what isn't text. No pattern matches part of a symbol.
 //!
-//! There are no alternatives: the characters of `{a,b}` stand for themselves.
+//! There are no alternatives: the characters of `{a,b}` match themselves.
 #![tactic(auto)]
 
 mod error;

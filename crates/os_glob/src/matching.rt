@@ -1,4 +1,4 @@
-//! Whether places have the tokens of a pattern.
+//! Whether the tokens of a pattern match the places of a string.
 ghost use Rattle.std.specs.Prelude.{◌≡◌, ◌∷◌, ◌↔◌, IsTrue};
 ghost use Rattle.os_glob.specs.declared.item.Wildcard.TheVariants.{Star, DoubleStar};
 ghost use Rattle.os_glob.specs.Pattern.{Run};
@@ -12,38 +12,38 @@ use crate::place::{Place, Places};
 use crate::token::{Start, Token, Tokens};
 use os_str_ext::Platform;
 
-/// How far a pattern goes without a wildcard.
+/// How far a pattern matches, up to its first wildcard.
 #[derive(Drop)]
 enum Piece<'p, 'a, E: Platform + 'a> {
-    /// To its end, which is that of the places.
+    /// To its end, which is also the end of the places.
     All,
     /// Not far enough: a place differs, or places are left at the pattern's end.
     Differs,
-    /// The places end, and so would any fewer.
+    /// The places end too early, and so would any fewer.
     Ends,
     /// To a wildcard; these are the tokens after it, and the places that are left.
     Run(Wildcard, Tokens<'p>, Places<'a, E>),
 }
 
-/// How far a pattern goes without `**`.
+/// How far a pattern matches, up to its first `**`.
 #[derive(Drop)]
 enum Part<'p, 'a, E: Platform + 'a> {
-    /// To its end, which is that of the places.
+    /// To its end, which is also the end of the places.
     All,
     /// Not far enough.
     Differs,
     /// Not far enough, wherever in this component it starts.
     Blocked,
-    /// The places end, and so would any fewer.
+    /// The places end too early, and so would any fewer.
     Ends,
     /// To `**`; these are the tokens after it, and the places that are left.
     Anywhere(Tokens<'p>, Places<'a, E>),
 }
 
-/// Whether the places have the tokens.
+/// Whether the tokens match the places.
 ///
-/// It takes no memory. What it goes back to are the last `**` and the last `*` after that one: an
-/// earlier one could only skip what the later one skips too.
+/// It doesn't allocate. It goes back only to the last `**` and to the last `*` after that one: an
+/// earlier one could only skip what the later one skips, too.
 pub(crate) fn matches<E: Platform, O: Observer>(
     tokens: Tokens<'_>,
     places: Places<'_, E>,
@@ -114,8 +114,8 @@ fn skip_places<E: Platform, O: Observer>(
     }
 }
 
-/// Takes off the places up to a first separator, and the separator; whether there was one, before
-/// any leading dot.
+/// Removes the places up to the first separator, and that separator. Returns whether there was one,
+/// before any leading dot.
 fn skip_component<E: Platform, O: Observer>(places: &mut Places<'_, E>, observer: &mut O) -> bool
     ensures { SkipsComponent places.old places.new result }
 {
@@ -129,7 +129,7 @@ fn skip_component<E: Platform, O: Observer>(places: &mut Places<'_, E>, observer
     false
 }
 
-/// The tokens up to the first `**`, against the first places.
+/// Matches the tokens up to the first `**` against the first places.
 fn first_part<'p, 'a, E: Platform, O: Observer>(
     tokens: Tokens<'p>,
     places: Places<'a, E>,
@@ -146,7 +146,7 @@ fn first_part<'p, 'a, E: Platform, O: Observer>(
     }
 }
 
-/// The tokens after a `*` up to the first `**`, against the first places.
+/// Matches the tokens after a `*` up to the first `**` against the first places.
 fn part_after_star<'p, 'a, E: Platform, O: Observer>(
     tokens: Tokens<'p>,
     places: Places<'a, E>,
@@ -178,7 +178,7 @@ fn part_after_star<'p, 'a, E: Platform, O: Observer>(
     }
 }
 
-/// The tokens up to the first wildcard, against the first places.
+/// Matches the tokens up to the first wildcard against the first places.
 fn first_piece<'p, 'a, E: Platform, O: Observer>(
     mut tokens: Tokens<'p>,
     mut places: Places<'a, E>,

@@ -29,7 +29,7 @@ impl Range {
     }
 }
 
-/// Whether a character is one of the members of a class, which are first in the text.
+/// Whether a character is one of the members of a class, which come first in the text.
 pub(crate) fn has_member(text: &str, character: char) -> bool
     ensures { result ≡ holds (members true (chars text.now)) character }
 {
@@ -62,7 +62,7 @@ pub(crate) fn first_reversed_range(text: &str) -> Option<&str>
     None
 }
 
-/// What comes after a class, whose first member is first in the text.
+/// What comes after a class. The text begins with the first member of the class.
 pub(crate) fn after_members(text: &str) -> Option<&str>
     ensures after { MatchOption result (after_class true (chars text.now) ≡ None) (λ after. after_class true (chars text.now) ≡ Some (chars after.now)) }
     ensures text { IfSome result (λ after. IsUtf8 after.now) }

@@ -11,10 +11,11 @@ pub enum Separators {
     SlashAndBackslash,
 }
 
-/// How a pattern is matched. Case is as it is.
+/// How a pattern is matched. Matching is case-sensitive.
 #[derive(Clone, Copy, PartialEq, Eq)]
 pub struct GlobOptions {
-    /// Which characters no `*` and `?` takes. A separator in a pattern stands for any of them.
+    /// Which characters are separators, which neither `*` nor `?` matches. A separator in a pattern
+    /// matches any of them.
     pub separators: Separators,
     /// Whether a dot at the start, or right after a separator, is only matched by a dot that is
     /// first in the pattern, or right after a separator there (POSIX, "Shell Command Language",
@@ -26,7 +27,7 @@ impl Separators {
     ghost use Rattle.std.specs.Prelude.{◌≡◌};
     ghost use Rattle.os_glob.specs.Places.{separates};
 
-    /// Whether a character is one of them. Of [`Separators::Slash`] `/` is one, and `\` is not.
+    /// Whether a character is one of them. For [`Separators::Slash`] `/` is one, and `\` isn't.
     ///
     /// ```
     /// use os_glob::Separators;

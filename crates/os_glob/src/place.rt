@@ -1,4 +1,4 @@
-//! The places of a string: its symbols, by what patterns see in them.
+//! The places of a string: its symbols, as patterns see them.
 ghost use Rattle.std.specs.Prelude.{◌≡◌, ◌∷◌, ◌++◌, ◌<◌, [], map, MatchOption, IfSome};
 ghost use Rattle.std.specs.Str.{IsUtf8, chars};
 ghost use Rattle.os_str_ext.specs.declared.symbols.Symbol.TheVariants.{Character};
@@ -17,7 +17,7 @@ use std::marker::Model;
 pub(crate) enum Place {
     /// A separator.
     Separator,
-    /// A dot at the start or after a separator, where the options have one matched literally.
+    /// A dot at the start or after a separator, if the options say that it is matched literally.
     LeadingDot,
     /// Any other symbol.
     Ordinary(Symbol),
@@ -104,7 +104,7 @@ impl<'a, E: Platform> Places<'a, E> {
         }
     }
 
-    /// Takes the first place off.
+    /// Removes the first place and returns it.
     #[inline(always)]
     pub(crate) fn next<O: Observer>(&mut self, observer: &mut O) -> Option<Place>
         ensures { MatchOption result (self.old ≡ []) (λ place. self.old ≡ place ∷ self.new) }

@@ -14,18 +14,18 @@ use crate::place::{Place, place_of};
 use os_str_ext::Symbol;
 use std::marker::Model;
 
-/// What stands for one place.
+/// A token that matches one place.
 #[derive(Clone, Copy)]
 pub(crate) enum Class<'p> {
     /// `?`.
     Any,
-    /// A character that stands for itself.
+    /// A character that matches itself.
     Same(Place),
     /// A class: whether it is negated, and the pattern from its first member on.
     OneOf(bool, &'p str),
 }
 
-/// What a pattern is made of, by what it says of places.
+/// What a pattern is made of, by which places it matches.
 #[derive(Clone, Copy)]
 pub(crate) enum Token<'p> {
     Run(Wildcard),
@@ -55,7 +55,7 @@ impl Wildcard {
         }
     }
 
-    /// Whether its run may have this place.
+    /// Whether its run may include this place.
     #[inline(always)]
     pub(crate) fn takes(self, place: Place) -> bool
         ensures { IsTrue result ↔ Takes self place }
@@ -84,7 +84,7 @@ impl<'p> Class<'p> {
         }
     }
 
-    /// Whether it stands for this place.
+    /// Whether it matches this place.
     #[inline(always)]
     pub(crate) fn fits(self, place: Place) -> bool
         ensures { IsTrue result ↔ Fits (class_of self.entry) place }
@@ -172,7 +172,7 @@ impl<'p> Tokens<'p> {
         token.start()
     }
 
-    /// Takes the first token off.
+    /// Removes the first token and returns it.
     pub(crate) fn next(&mut self) -> Option<Token<'p>>
         ensures { MatchOption result (self.old ≡ []) (λ token. self.old ≡ token_of token ∷ self.new) }
     {
@@ -212,7 +212,7 @@ impl<'p> Token<'p> {
     }
 }
 
-/// The token of an item, which may begin a component; `None` of a fault.
+/// The token of an item, which may begin a component; `None` for a fault.
 fn first_token(options: GlobOptions, begins: bool, item: Item<'_>) -> Option<Token<'_>>
     ensures { IsTokenOf options begins (item_of item.entry) result }
 {
