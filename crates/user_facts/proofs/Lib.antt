@@ -1,5 +1,7 @@
 pub mod Around
+pub mod CommandLines
 pub mod EqualOrder
+pub mod FirstAndLast
 pub mod GlobFaults
 pub mod NoMatch
 pub mod OnePiece
@@ -9,4 +11,3 @@ pub mod Places
 pub mod QuoteFaults
 pub mod SomePlace
 pub mod TrimsAgain
-pub mod FirstAndLast

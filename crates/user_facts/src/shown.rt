@@ -1,0 +1,47 @@
+//! Texts of strings among other words: what a text holds once they were printed to it.
+ghost use Rattle.std.specs.Prelude.{◌≡◌, ◌++◌, OnOk, Some, codes, string_bytes};
+ghost use Rattle.std.specs.Char.{encode_utf8};
+ghost use Rattle.platform_str.specs.Strings.{bytes};
+
+use os_args::Word;
+use platform_str::{OsStr, Platform, Unix};
+use std::alloc::AllocError;
+use std::fmt;
+use std::fmt::Write as _;
+
+/// A string between quotes, to be printed.
+#[derive(Drop)]
+pub struct Quoted<'a, E: Platform + 'a> {
+    /// The string.
+    pub string: OsStr<'a, E>,
+}
+
+impl<'a, E: Platform> fmt::Display for Quoted<'a, E> {
+    ghost output = { λ quoted. Some (codes "'" ++ (E.lossy (bytes quoted.string) ++ codes "'")) };
+
+    ghost styled_output = { λ quoted _. Some (codes "'" ++ (E.lossy (bytes quoted.string) ++ codes "'")) };
+
+    fn fmt<W: fmt::Write>(&self, f: &mut fmt::Formatter<W>) -> fmt::Result {
+        f.write_str("'")?;
+        self.string.display().write_to(f)?;
+        f.write_str("'")
+    }
+}
+
+/// Writes a string between quotes at the end of a log, whatever width is asked for.
+pub fn log_quoted(log: &mut String, string: OsStr<'_, Unix>) -> Result<(), AllocError>
+    ensures { OnOk result (string_bytes log.new ≡ string_bytes log.old
+        ++ (codes "'" ++ (⟦<Unix as Platform>⟧.lossy (bytes string.entry) ++ codes "'"))) }
+{
+    let quoted = Quoted { string };
+    write!(log, "{quoted:9}")
+}
+
+/// Writes that a flag isn't known at the end of a log.
+pub fn log_unexpected(log: &mut String, flag: char) -> Result<(), AllocError>
+    ensures { OnOk result (string_bytes log.new ≡ string_bytes log.old
+        ++ (codes "unexpected argument '" ++ ((codes "-" ++ encode_utf8 flag) ++ codes "'"))) }
+{
+    let word: Word<'_, OsStr<'_, Unix>> = Word::Short(flag);
+    write!(log, "{}", word.unexpected())
+}
