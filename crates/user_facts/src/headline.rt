@@ -1,7 +1,5 @@
-//! The headline's call, with the clauses of which one answer among many could go wrong.
+//! The headline's call: each answer that could be mistaken for another.
 ghost use Rattle.std.specs.Prelude.{◌≡◌, IfOk};
-ghost use Rattle.std.specs.Cmp.Lexicographic.{slice_cmp};
-ghost use Rattle.std.specs.Ordering.{nat_cmp};
 ghost use Rattle.wtf8_core.specs.Chunks.{AreChunks};
 ghost use Rattle.wtf8_core.specs.Pieces.{IsRSplit, SplitsOnce};
 ghost use Rattle.wtf8_core.specs.Standing.{IsGreatestPlace};
@@ -12,7 +10,6 @@ ghost use Rattle.os_str_bytes.specs.RawCow.{raw_cow_bytes};
 use os_str_bytes::headline::{self, Answers};
 use os_str_bytes::{Pattern, Platform, RawOsStr};
 use std::alloc::Allocator;
-use std::cmp::Ordering;
 
 /// What each call answers.
 pub fn ask<'a, E: Platform + 'a, P: Pattern + Copy, A: Allocator>(
@@ -32,11 +29,4 @@ pub fn ask<'a, E: Platform + 'a, P: Pattern + Copy, A: Allocator>(
     ensures utf8_chunks { AreChunks (raw_bytes string.entry) result.utf8_chunks }
 {
     headline::ask(alloc, raw, string, other, pattern, at, count)
-}
-
-/// The order of two strings.
-pub fn order<'a, E: Platform + 'a>(string: RawOsStr<'a, E>, other: RawOsStr<'a, E>) -> Ordering
-    ensures { result ≡ slice_cmp nat_cmp (raw_bytes string.entry) (raw_bytes other.entry) }
-{
-    string.cmp(&other)
 }

@@ -1,4 +1,4 @@
-//! Printing.
+//! Printing: what a formatter holds once a string was printed to it, with a width and a fill.
 ghost use Rattle.std.specs.Prelude.{Some};
 ghost use Rattle.std.specs.Fmt.{WritesStyledOnOk, formatter_spec, spec_align, spec_fill, spec_width};
 ghost use Rattle.os_str_bytes.specs.Raw.{raw_bytes};
@@ -10,7 +10,7 @@ use platform_str::{OsStr, Path, Platform};
 use std::fmt;
 use std::fmt::Display;
 
-/// Prints a string.
+/// Prints a string's lossy text, with the fill, the side and the width that the formatter asks for.
 pub fn print<'a, E: Platform + 'a, W: fmt::Write>(
     string: OsStr<'a, E>,
     f: &mut fmt::Formatter<W>,
@@ -21,7 +21,7 @@ pub fn print<'a, E: Platform + 'a, W: fmt::Write>(
     shown_of_string.fmt(f)
 }
 
-/// Prints a path.
+/// Prints a path in the same way.
 pub fn print_path<'a, E: Platform + 'a, W: fmt::Write>(
     path: Path<'a, E>,
     f: &mut fmt::Formatter<W>,
@@ -32,7 +32,7 @@ pub fn print_path<'a, E: Platform + 'a, W: fmt::Write>(
     shown.fmt(f)
 }
 
-/// Prints a raw string.
+/// Prints a raw string in the same way.
 pub fn print_raw<'a, E: Platform + 'a, W: fmt::Write>(
     raw: RawOsStr<'a, E>,
     f: &mut fmt::Formatter<W>,
