@@ -35,7 +35,7 @@ pub(crate) fn both_parts<'a, E: Platform>(
 }
 
 /// `index` of the ranges before and from an index.
-#[tactic(auto, using(wtf8_core::proofs::lemmas::Overlaps::boundary_within))]
+#[tactic(auto, using(wtf8_core::proofs::lemmas::characters::Overlaps::boundary_within))]
 pub(crate) fn indexed<'a, E: Platform>(
     string: RawOsStr<'a, E>,
     at: usize,
@@ -48,7 +48,7 @@ pub(crate) fn indexed<'a, E: Platform>(
 }
 
 /// `get_unchecked` of the same ranges.
-#[tactic(auto, using(wtf8_core::proofs::lemmas::Overlaps::boundary_within))]
+#[tactic(auto, using(wtf8_core::proofs::lemmas::characters::Overlaps::boundary_within))]
 pub(crate) fn indexed_unchecked<'a, E: Platform>(
     string: RawOsStr<'a, E>,
     at: usize,

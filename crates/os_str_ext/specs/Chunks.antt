@@ -5,7 +5,7 @@ use Rattle.std.specs.Str.{IsUtf8}
 use Rattle.wtf8_core.specs.Character.{WholeCharacter}
 use Rattle.wtf8_core.specs.Covered.{IsCovered, IsBare}
 use Rattle.wtf8_core.specs.Chunks.{Chunk}
-use Rattle.wtf8_core.proofs.lemmas.ChunkLemmas.{some_chunks}
+use Rattle.wtf8_core.proofs.lemmas.chunks.OneList.{some_chunks}
 
 -- the one list of chunks
 abbrev pub chunks_of : List ℕ → List Chunk

@@ -1,6 +1,6 @@
 //! The strings of WebAssembly: UTF-8 (RFC 3629). Their units are their bytes.
 ghost use Rattle.std.specs.Str.{IsUtf8};
-ghost use Rattle.wtf8_core.proofs.lemmas.Propositions.{utf8_prop};
+ghost use Rattle.wtf8_core.proofs.lemmas.forms.Propositions.{utf8_prop};
 ghost use Rattle.platform_str.specs.PlatformWords.{itself, IsThree};
 ghost use Rattle.platform_str.specs.platforms.Wasm.{IsTextFault, AreNone};
 ghost use Rattle.platform_str.specs.platforms.Wasm.{wasm_laws, wasm_parts, wasm_readings, wasm_standing};

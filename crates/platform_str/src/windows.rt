@@ -2,8 +2,8 @@
 ghost use Rattle.std.specs.Str.{IsUtf8};
 ghost use Rattle.wtf8_core.specs.Wtf8.{IsWtf8};
 ghost use Rattle.wtf8_core.specs.UnitsOf.{units_of, wtf8_lossy};
-ghost use Rattle.wtf8_core.proofs.lemmas.Propositions.{wtf8_prop};
-ghost use Rattle.wtf8_core.proofs.lemmas.TextsInStrings.{wtf8_standing};
+ghost use Rattle.wtf8_core.proofs.lemmas.forms.Propositions.{wtf8_prop};
+ghost use Rattle.wtf8_core.proofs.lemmas.standing.Wtf8.{wtf8_standing};
 ghost use Rattle.platform_str.specs.PlatformWords.{AreWideUnits, IsThree};
 ghost use Rattle.platform_str.specs.platforms.Windows.{IsWtf8Fault, windows_laws, windows_parts, windows_readings};
 ghost use Rattle.wtf8_core.specs.PartUnits.{AreLoneSurrogates};

@@ -21,7 +21,7 @@ pub use Rattle.std.specs.Str.Lossy.{second_byte_min, second_byte_max, utf8_lossy
 unfoldable pub use Rattle.std.specs.Str.Lossy.{utf8_error_len, utf8_valid_len}
 pub use mathlib.Core.Bool.{Bool-set, beq}
 pub use Rattle.wtf8_core.specs.Boundary.{IsBoundary}
-pub use Rattle.wtf8_core.specs.Byte.{IsByte, IsContinuation, needed_continuations, IsLead}
+pub use Rattle.wtf8_core.specs.Byte.{IsByte, IsContinuation, is_continuation, needed_continuations, lead_bits, IsLead}
 pub use Rattle.wtf8_core.specs.Character.{WholeCharacter, IsCharacterAt}
 pub use Rattle.wtf8_core.specs.Checker.{Stands, IsFaulty, Row, rows, SomeRow, IsOpen, IsOpenIn, kept_bits, joined_bits, fault_at, is_between, is_plain, OnlyEnds, HasFirstFault, Progress, progress, StandsFor}
 pub use Rattle.wtf8_core.specs.Chunks.{Chunk, joined, AreChunks}
@@ -36,7 +36,7 @@ unfoldable pub use Rattle.wtf8_core.specs.FaultText.{upper_hex}
 pub use Rattle.wtf8_core.specs.Items.{AreItems, AreUnitItems, unit_items}
 pub use Rattle.wtf8_core.specs.Lossy.{replacement, IsWtf8LossyText, without_surrogate, IsLossyText}
 pub use Rattle.wtf8_core.specs.Neighbours.{AllMayStand, IsEdge, MayStand, MayFollow}
-pub use Rattle.wtf8_core.specs.Reader.{is_high_item, IsFirstItem, lead_bits, least_value, items_after, then_items}
+pub use Rattle.wtf8_core.specs.Reader.{is_high_item, IsFirstItem, least_value, items_after, then_items}
 unfoldable pub use Rattle.wtf8_core.specs.Reader.{first_item, behind_item, items_behind, with_continuations, checked_value, and_then_checked, continuations}
 pub use Rattle.wtf8_core.specs.SpelledFront.{IsSpelledFront, IsReadUpTo, behind_zeros, KeepsPattern}
 pub use Rattle.wtf8_core.specs.Standing.{StandsAt, IsFront, IsEnd, StandsNowhere, IsLeastPlace, IsGreatestPlace, Finds}

@@ -1,7 +1,6 @@
 -- What the few fields of a checker stand for: the bytes that were fed so far (this project's own).
 use Rattle.std.specs.Prelude.{◌≡◌, ◌≢◌, ◌⊎◌, ℕ, zero, suc, ◌+◌, ◌*◌, ◌%◌, ◌≤◌, Bool, true, false, if◌then◌else◌, List, [], ◌∷◌, ◌++◌, length, Option, Some, None}
-use Rattle.std.specs.Int.{is_in_range}
-use Rattle.wtf8_core.specs.Byte.{needed_continuations}
+use Rattle.wtf8_core.specs.Byte.{is_continuation, needed_continuations}
 use Rattle.wtf8_core.specs.Surrogate.{is_high}
 use Rattle.wtf8_core.specs.Wtf8.{Spells, last_behind}
 use Rattle.wtf8_core.specs.Fault.{IsBegun, shape_value, IsFirstFault}
@@ -121,7 +120,7 @@ value_fault s bits byte = Byte byte
 
 -- the fault of a byte behind which there is no state
 abbrev pub fault_at : State → ℕ → ℕ → EncodingError
-fault_at state bits byte = if is_in_range 0x80 0xBF byte then value_fault state bits byte else Byte byte
+fault_at state bits byte = if is_continuation byte then value_fault state bits byte else Byte byte
 
 -- the fields of a checker: it reads, or it has met a fault
 pub data Progress : Type 0 where

@@ -1,8 +1,8 @@
 -- The first fault of bytes that aren't WTF-8: this project's own order of what RFC 3629, section 3, and WTF-8 leave out, as os_str_bytes 7.2.1 reads.
-use Rattle.std.specs.Prelude.{◌≡◌, ◌≢◌, ℕ, ◌+◌, ◌*◌, ◌%◌, ◌<◌, ◌⊎◌, nat_lt, if◌then◌else◌, List, ◌∷◌, ◌++◌, length, []}
+use Rattle.std.specs.Prelude.{◌≡◌, ◌≢◌, ℕ, ◌+◌, ◌*◌, ◌%◌, ◌<◌, ◌⊎◌, List, ◌∷◌, ◌++◌, length, []}
 use Rattle.std.specs.List.{fold, AllByRecursion}
 use Rattle.std.specs.Int.{IsInRange}
-use Rattle.wtf8_core.specs.Byte.{IsContinuation, IsLead, needed_continuations}
+use Rattle.wtf8_core.specs.Byte.{IsContinuation, IsLead, needed_continuations, lead_bits}
 use Rattle.wtf8_core.specs.Surrogate.{IsHigh, IsLow}
 use Rattle.wtf8_core.specs.CodePoint.{IsCodePoint, form}
 use Rattle.wtf8_core.specs.Wtf8.{Spells, last_behind}
@@ -19,10 +19,9 @@ pub record IsShape (lead : ℕ) (behind : List ℕ) : Type 0 where
   pub begun : IsBegun lead behind
   pub whole : length behind ≡ needed_continuations lead
 
--- the low bits of the lead, five up to DF and four above, also of F5 to FF (this project's own reading), and then six bits of each continuation
+-- the low bits of the lead, and then six bits of each continuation
 abbrev pub shape_value : ℕ → List ℕ → ℕ
-shape_value lead behind =
-    fold (λ value x. value * 0x40 + x % 0x40) (if nat_lt lead 0xE0 then lead % 0x20 else lead % 0x10) behind
+shape_value lead behind = fold (λ value x. value * 0x40 + x % 0x40) (lead_bits lead) behind
 
 -- a byte that begins nothing
 pub record IsStray (refused : List ℕ) (x : ℕ) : Type 0 where

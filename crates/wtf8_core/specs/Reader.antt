@@ -1,7 +1,6 @@
 -- The reader, step by step: what `CodePoints` has left. No contract of another crate names these; `AreItems` says what the items are.
 use Rattle.std.specs.Prelude.{ℕ, zero, suc, ◌≡◌, ◌+◌, ◌*◌, ◌%◌, Bool, false, nat_lt, ◌&&◌, ◌||◌, if◌then◌else◌, List, [], ◌∷◌, drop, Result, Ok, Err}
-use Rattle.std.specs.Int.{is_in_range}
-use Rattle.wtf8_core.specs.Byte.{needed_continuations}
+use Rattle.wtf8_core.specs.Byte.{is_continuation, needed_continuations, lead_bits}
 use Rattle.wtf8_core.specs.Surrogate.{is_high, is_low}
 use Rattle.wtf8_core.specs.declared.fault.EncodingError.{EncodingError}
 use Rattle.wtf8_core.specs.declared.fault.EncodingError.TheVariants.{Byte, CodePoint, End}
@@ -11,11 +10,7 @@ unfoldable pub with_continuations : ℕ → ℕ → List ℕ → Result ℕ Enco
 with_continuations value zero bytes = Ok value
 with_continuations value (suc n) [] = Err End
 with_continuations value (suc n) (x ∷ bytes) =
-    if is_in_range 0x80 0xBF x then with_continuations (value * 0x40 + x % 0x40) n bytes else Err (Byte x)
-
--- the low bits of a lead, five up to DF and four above
-abbrev pub lead_bits : ℕ → ℕ
-lead_bits lead = if nat_lt lead 0xE0 then lead % 0x20 else lead % 0x10
+    if is_continuation x then with_continuations (value * 0x40 + x % 0x40) n bytes else Err (Byte x)
 
 -- the least value of a form with n continuations
 abbrev pub least_value : ℕ → ℕ
@@ -36,7 +31,7 @@ and_then_checked after_high n (Err fault) = Err fault
 unfoldable pub continuations : ℕ → List ℕ → ℕ
 continuations zero bytes = 0
 continuations (suc n) [] = 0
-continuations (suc n) (x ∷ bytes) = if is_in_range 0x80 0xBF x then suc (continuations n bytes) else 0
+continuations (suc n) (x ∷ bytes) = if is_continuation x then suc (continuations n bytes) else 0
 
 -- how many bytes behind a first byte belong to its item
 unfoldable pub behind_item : ℕ → List ℕ → ℕ

@@ -78,7 +78,7 @@ fn first_code_point(units: &[u16]) -> Option<(u32, &[u16])>
 }
 
 /// The first byte of units, the others of its form in one number, and the units behind it.
-#[tactic(auto, using(crate::proofs::lemmas::UnitsLemmas::bytes_none, crate::proofs::lemmas::UnitsLemmas::bytes_ascii))]
+#[tactic(auto, using(crate::proofs::lemmas::units::OneToOne::bytes_none, crate::proofs::lemmas::units::OneToOne::bytes_ascii))]
 #[inline(always)]
 fn next_bytes(units: &[u16]) -> Option<(u8, u32, &[u16])>
     ensures bytes { MatchOption result (decoder_bytes 0 units.now ≡ [])

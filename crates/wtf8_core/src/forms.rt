@@ -16,7 +16,7 @@ ghost use Rattle.wtf8_core.specs.Decoder.{packed_bytes};
 /// assert_eq!(rt; wtf8_core::write_form(&mut bytes, 1, 0xE9), 3);
 /// assert_eq!(rt; bytes, [0, 0xC3, 0xA9, 0, 0]);
 /// ```
-#[tactic(auto, using(crate::proofs::lemmas::WrittenForms::writing), unfolding(crate::specs::CodePoint::form))]
+#[tactic(auto, using(crate::proofs::lemmas::forms::WrittenInPlace::writing), unfolding(crate::specs::CodePoint::form))]
 #[inline(always)]
 pub fn write_form(bytes: &mut [u8], at: usize, code_point: u32) -> usize
     requires code_point { IsCodePoint code_point }

@@ -67,7 +67,7 @@ pub fn spelled_or_faulty()
 {}
 
 /// Bytes have at most one list of items.
-#[tactic(auto, using(crate::proofs::lemmas::Complete::one_list_of_items))]
+#[tactic(auto, using(crate::proofs::lemmas::reader::Complete::one_list_of_items))]
 pub fn one_list_of_items()
     ensures { (bytes : List ℕ) → (xs : List (Result ℕ EncodingError)) → (ys : List (Result ℕ EncodingError)) → AreItems bytes xs → AreItems bytes ys → xs ≡ ys }
 {}
@@ -82,7 +82,7 @@ pub fn spelling()
 
 /// The order of bytes as lists is that of the code points that they spell, and so not that of
 /// their units.
-#[tactic(auto, using(crate::proofs::lemmas::Order::order_of_spelled))]
+#[tactic(auto, using(crate::proofs::lemmas::forms::Order::order_of_spelled))]
 pub fn order()
     ensures { (bytes : List ℕ) → (others : List ℕ) → (cs : List ℕ) → (ds : List ℕ) → Spells bytes cs → Spells others ds
         → slice_cmp nat_cmp bytes others ≡ slice_cmp nat_cmp cs ds }
@@ -114,14 +114,14 @@ pub fn lossy_reading()
 {}
 
 /// Bytes have at most one fault of UTF-8.
-#[tactic(auto, using(crate::proofs::lemmas::Utf8Facts::one_utf8_fault))]
+#[tactic(auto, using(crate::proofs::lemmas::texts::LossyTexts::one_utf8_fault))]
 pub fn one_utf8_fault()
     ensures { (bytes : List ℕ) → (n : ℕ) → (m : ℕ) → (l : Option ℕ) → (k : Option ℕ)
         → IsUtf8Fault bytes n l → IsUtf8Fault bytes m k → (n ≡ m) × (l ≡ k) }
 {}
 
 /// The form of a code point is what std's `char::encode_utf8` writes (RFC 3629, section 3).
-#[tactic(auto, using(crate::proofs::lemmas::FormsByStd::form_encode))]
+#[tactic(auto, using(crate::proofs::lemmas::forms::ByStd::form_encode))]
 pub fn forms()
     ensures { (c : ℕ) → form c ≡ encode_utf8 c }
 {}

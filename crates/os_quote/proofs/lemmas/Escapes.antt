@@ -7,9 +7,9 @@ use Rattle.std.proofs.lemmas.List.Elements.{recursion_from_All}
 use Rattle.wtf8_core.specs.Chunks.{Chunk, joined, AreChunks}
 use Rattle.wtf8_core.specs.Covered.{IsBare}
 use Rattle.wtf8_core.specs.PartUnits.{unit_bytes}
-use Rattle.wtf8_core.proofs.lemmas.Characters.{character_fits}
-use Rattle.wtf8_core.proofs.lemmas.ChunkLemmas.{some_chunks, chunks_once}
-use Rattle.wtf8_core.proofs.lemmas.Forms.{form_bounds}
+use Rattle.wtf8_core.proofs.lemmas.characters.AtPlaces.{character_fits}
+use Rattle.wtf8_core.proofs.lemmas.chunks.OneList.{some_chunks, chunks_once}
+use Rattle.wtf8_core.proofs.lemmas.forms.Shapes.{form_bounds}
 use Rattle.platform_str.specs.Laws.{PartLaws}
 use Rattle.os_str_ext.specs.Chunks.{chunks_of}
 use Rattle.os_quote.specs.Item.{Item, backslash, item_texts, IsItem, unit_item}

@@ -17,8 +17,8 @@ use Rattle.os_quote.specs.Escape.{chunk_items, items_of, IsLineEscape}
 use Rattle.os_quote.proofs.lemmas.Items.{digit_low, digit_high, five_digits, six_digits}
 use Rattle.os_quote.proofs.lemmas.Shown.{ascii_stays, lead_stays, lead_no_slash}
 use Rattle.os_quote.proofs.lemmas.Texts.{text_items, text_escape, text_behind, map-append, item_texts-append, scalar_below}
-use Rattle.wtf8_core.proofs.lemmas.Forms.{form_parts}
-use Rattle.wtf8_core.proofs.lemmas.FormsByStd.{form_encode}
+use Rattle.wtf8_core.proofs.lemmas.forms.Shapes.{form_parts}
+use Rattle.wtf8_core.proofs.lemmas.forms.ByStd.{form_encode}
 use Rattle.os_str_ext.specs.Chunks.{IsChunkOf}
 use Rattle.os_quote.proofs.lemmas.Escapes.{escape_is_items}
 use Rattle.os_quote.proofs.lemmas.Readings.{ascii_all, ascii_byte_unit, ascii_wide_unit, ascii_long_character, item_is_text}

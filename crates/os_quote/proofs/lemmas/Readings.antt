@@ -9,7 +9,7 @@ use Rattle.wtf8_core.specs.CodePoint.{form}
 use Rattle.platform_str.specs.Laws.{PartLaws}
 use Rattle.wtf8_core.specs.FaultText.{upper_hex_digit}
 use Rattle.wtf8_core.specs.Wtf8.{HasUnits}
-use Rattle.wtf8_core.proofs.lemmas.UnitsLemmas.{units_once, wide_single}
+use Rattle.wtf8_core.proofs.lemmas.units.OneToOne.{units_once, wide_single}
 use Rattle.os_quote.specs.Item.{Item, Character, Backslash, ByteUnit, WideUnit, LongCharacter, backslash, wide_digits, long_digits, item_text, item_texts, IsLong, IsItem}
 use Rattle.os_quote.specs.Shown.{is_any}
 use Rattle.os_quote.specs.Escape.{BeginsNoToken, IsBadEscapeBy, IsEscapeBy, items_of}

@@ -8,7 +8,7 @@ use Rattle.std.proofs.lemmas.List.{drop_more, take_at, drop_at}
 use Rattle.std.proofs.lemmas.Str.{IsCharBoundary-after_ascii, IsCharBoundary-from_take, IsUtf8-drop, encode_ascii, chars-append, chars_past_char, encodes-chars, scalars-chars}
 use Rattle.std.proofs.Math.Utf8.{scalar, scalar_cases}
 use Rattle.memchr.specs.Find.{Nowhere, NoneBefore, Passes, is_byte}
-use Rattle.wtf8_core.proofs.lemmas.FormsByStd.{form_encode}
+use Rattle.wtf8_core.proofs.lemmas.forms.ByStd.{form_encode}
 use Rattle.os_quote.specs.Item.{Item, backslash, item_text, item_texts, IsItem, hidden_item, character_item}
 use Rattle.os_quote.specs.Shown.{is_any}
 use Rattle.os_quote.specs.Reading.{HasNoBackslash, item_bytes}

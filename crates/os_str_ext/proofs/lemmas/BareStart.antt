@@ -7,12 +7,13 @@ use Rattle.std.specs.Str.{IsUtf8}
 use Rattle.wtf8_core.specs.CodePoint.{form}
 use Rattle.wtf8_core.specs.Character.{WholeCharacter}
 use Rattle.wtf8_core.specs.Utf8.{IsUtf8Fault, part_end}
-use Rattle.wtf8_core.proofs.lemmas.AtFront.{some_long, past_ascii}
-use Rattle.wtf8_core.proofs.lemmas.Characters.{character_fits, begins_at}
-use Rattle.wtf8_core.proofs.lemmas.IllFormedParts.{apart_from_part}
-use Rattle.wtf8_core.proofs.lemmas.Overlaps.{in_rest}
-use Rattle.wtf8_core.proofs.lemmas.Seams.{whole_within}
-use Rattle.wtf8_core.proofs.lemmas.Utf8Lemmas.{First, lead_of}
+use Rattle.wtf8_core.proofs.lemmas.characters.FourBytes.{past_ascii}
+use Rattle.wtf8_core.proofs.lemmas.forms.Shapes.{form_bounds}
+use Rattle.wtf8_core.proofs.lemmas.characters.AtPlaces.{character_fits, begins_at}
+use Rattle.wtf8_core.proofs.lemmas.characters.IllFormedParts.{apart_from_part}
+use Rattle.wtf8_core.proofs.lemmas.characters.Overlaps.{in_rest}
+use Rattle.wtf8_core.proofs.lemmas.characters.Seams.{whole_within}
+use Rattle.wtf8_core.proofs.lemmas.texts.StdFaults.{First, lead_of}
 use Rattle.os_str_ext.specs.Chunks.{BeginsNoCharacter, IsBareUpTo, IsFirstChunk}
 use Rattle.os_str_ext.proofs.lemmas.FirstChunk.{first_of_parts, text_from, no_character_behind, without_character}
 
@@ -22,7 +23,7 @@ no_beginning s a b n w =
     let c = w.char in
     let here : a ≡ a + 0 = omega arith in
     let same : get_or s a 0 ≡ get_or (form c) 0 0 =
-    ap (λ i. get_or s i 0) here ∙ sym (get_or-drop a s 0 0) ∙ ap (λ l. get_or l 0 0) (begins_at s a b w) ∙ get_or_append_left (form c) w.stands.behind 0 0 (some_long c) in
+    ap (λ i. get_or s i 0) here ∙ sym (get_or-drop a s 0 0) ∙ ap (λ l. get_or l 0 0) (begins_at s a b w) ∙ get_or_append_left (form c) w.stands.behind 0 0 (form_bounds c).0 in
     n.1 (subst First (sym same) (lead_of c w.scalar (past_ascii c (subst (λ x. 0x80 ≤ x) same n.0))))
 
 module _ (s : List ℕ) (i : ℕ) (p : IsBareUpTo s i) where

@@ -3,7 +3,7 @@ use Rattle.std.proofs.Common.{◌≡◌, ℕ, ◌≤◌, List, [], ◌++◌, len
 use Rattle.std.proofs.lemmas.List.{take-take}
 use Rattle.std.proofs.Math.Seq.{take-length}
 use Rattle.wtf8_core.specs.Boundary.{IsBoundary}
-use Rattle.wtf8_core.proofs.lemmas.Overlaps.{boundary_in_front}
+use Rattle.wtf8_core.proofs.lemmas.characters.Overlaps.{boundary_in_front}
 use Rattle.os_str_ext.specs.Range.{FitsIn, IsPartInUnits}
 
 -- at a boundary both parts are well formed, and their units joined are those of the whole

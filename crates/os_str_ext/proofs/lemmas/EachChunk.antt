@@ -10,9 +10,9 @@ use Rattle.std.proofs.lemmas.Str.{IsUtf8-from_is_utf8, is_utf8-from_IsUtf8}
 use Rattle.wtf8_core.specs.Boundary.{IsBoundary}
 use Rattle.wtf8_core.specs.Character.{WholeCharacter}
 use Rattle.wtf8_core.specs.Chunks.{Chunk, joined, AreChunks}
-use Rattle.wtf8_core.proofs.lemmas.Characters.{character_fits}
-use Rattle.wtf8_core.proofs.lemmas.ChunkLemmas.{some_chunks, chunks_once}
-use Rattle.wtf8_core.proofs.lemmas.Texts.{valid_up_to}
+use Rattle.wtf8_core.proofs.lemmas.characters.AtPlaces.{character_fits}
+use Rattle.wtf8_core.proofs.lemmas.chunks.OneList.{some_chunks, chunks_once}
+use Rattle.wtf8_core.proofs.lemmas.texts.AreWtf8.{valid_up_to}
 use Rattle.os_str_ext.specs.Chunks.{chunks_of, IsChunkOf, IsFirstChunk}
 use Rattle.os_str_ext.proofs.lemmas.FirstChunk.{first_of_parts, edges, part_is_bare, first_and_rest, no_character_behind, text_from}
 

@@ -7,9 +7,9 @@ use Rattle.std.proofs.lemmas.Str.{IsUtf8-encode, encode_same}
 use Rattle.wtf8_core.specs.Boundary.{IsBoundary}
 use Rattle.wtf8_core.specs.Character.{WholeCharacter}
 use Rattle.wtf8_core.specs.CodePoint.{form}
-use Rattle.wtf8_core.proofs.lemmas.Characters.{begins_at, character_fits}
-use Rattle.wtf8_core.proofs.lemmas.Forms.{form_bounds}
-use Rattle.wtf8_core.proofs.lemmas.FormsByStd.{form_encode}
+use Rattle.wtf8_core.proofs.lemmas.characters.AtPlaces.{begins_at, character_fits}
+use Rattle.wtf8_core.proofs.lemmas.forms.Shapes.{form_bounds}
+use Rattle.wtf8_core.proofs.lemmas.forms.ByStd.{form_encode}
 use Rattle.os_str_ext.specs.Characters.{IsOneCharacter}
 
 -- the bytes of one character are a text that isn't empty, and std's

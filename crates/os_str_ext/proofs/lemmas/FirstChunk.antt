@@ -11,12 +11,12 @@ use Rattle.wtf8_core.specs.Covered.{IsCovered, IsSeam, IsBare}
 use Rattle.wtf8_core.specs.Chunks.{Chunk}
 use Rattle.wtf8_core.specs.Standing.{StandsAt}
 use Rattle.wtf8_core.specs.CodePoint.{form}
-use Rattle.wtf8_core.proofs.lemmas.Characters.{character_fits, begins_at}
-use Rattle.wtf8_core.proofs.lemmas.FormsByStd.{form_encode}
-use Rattle.wtf8_core.proofs.lemmas.ChunkLemmas.{some_chunks, chunks_once, one_more_chunk}
-use Rattle.wtf8_core.proofs.lemmas.Edges.{edges_of_text}
-use Rattle.wtf8_core.proofs.lemmas.Overlaps.{in_rest}
-use Rattle.wtf8_core.proofs.lemmas.Seams.{Bare, text_covered, seam_behind_bare, whole_within}
+use Rattle.wtf8_core.proofs.lemmas.characters.AtPlaces.{character_fits, begins_at}
+use Rattle.wtf8_core.proofs.lemmas.forms.ByStd.{form_encode}
+use Rattle.wtf8_core.proofs.lemmas.chunks.OneList.{some_chunks, chunks_once, one_more_chunk}
+use Rattle.wtf8_core.proofs.lemmas.standing.Boundaries.{edges_of_text}
+use Rattle.wtf8_core.proofs.lemmas.characters.Overlaps.{in_rest}
+use Rattle.wtf8_core.proofs.lemmas.characters.Seams.{Bare, text_covered, seam_behind_bare, whole_within}
 use Rattle.os_str_ext.specs.Chunks.{chunks_of, IsFirstChunk}
 
 -- the parts of a string that is cut twice

@@ -2,7 +2,7 @@
 use Rattle.std.proofs.Common.{◌≡◌, ℕ, zero, suc, ◌+◌, List, [], ◌∷◌, ◌++◌, length, refl, sym, ap, ◌∙◌, subst, arith, append_assoc, append-nil}
 use Rattle.std.specs.List.{repeat}
 use Rattle.wtf8_core.specs.StandingLaws.{StandingLaws}
-use Rattle.wtf8_core.proofs.lemmas.PlacesInUnits.{nil_formed, no_units}
+use Rattle.wtf8_core.proofs.lemmas.standing.Places.{nil_formed, no_units}
 
 -- no list
 abbrev empty : List ℕ

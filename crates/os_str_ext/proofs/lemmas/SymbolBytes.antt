@@ -8,7 +8,7 @@ use Rattle.wtf8_core.specs.Boundary.{IsBoundary}
 use Rattle.wtf8_core.specs.Chunks.{Chunk, joined}
 use Rattle.wtf8_core.specs.Covered.{IsBare}
 use Rattle.wtf8_core.specs.PartUnits.{unit_bytes}
-use Rattle.wtf8_core.proofs.lemmas.ChunkLemmas.{some_chunks, chunks_once}
+use Rattle.wtf8_core.proofs.lemmas.chunks.OneList.{some_chunks, chunks_once}
 use Rattle.os_str_ext.specs.Chunks.{chunks_of, IsChunkOf}
 use Rattle.os_str_ext.specs.Symbols.{AreSymbols, chunk_symbols, chunks_symbols, symbol_bytes, symbols_of, unit_symbol}
 use Rattle.os_str_ext.specs.declared.symbols.Symbol.{Symbol}

@@ -7,7 +7,7 @@ use Rattle.std.specs.Char.{encode_utf8}
 use Rattle.std.specs.Str.{IsUtf8, chars}
 use Rattle.wtf8_core.specs.Covered.{IsCovered}
 use Rattle.wtf8_core.specs.StandingLaws.{StandingLaws}
-use Rattle.wtf8_core.proofs.lemmas.Seams.{covered_within}
+use Rattle.wtf8_core.proofs.lemmas.characters.Seams.{covered_within}
 use Rattle.platform_str.specs.Laws.{IsFirstUnit}
 use Rattle.os_str_ext.specs.Chunks.{IsBareUpTo, IsFirstChunk}
 use Rattle.os_str_ext.specs.Symbols.{AreKnown, chunks_symbols, symbols_of, unit_symbol}

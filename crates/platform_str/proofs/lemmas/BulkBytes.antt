@@ -7,8 +7,8 @@ use Rattle.std.specs.List.{All, AllByRecursion}
 use Rattle.wtf8_core.specs.Surrogate.{IsHigh, IsLow, paired}
 use Rattle.wtf8_core.specs.CodePoint.{IsCodePoint, form, wide}
 use Rattle.wtf8_core.specs.Wtf8.{MayPrecede, HasUnits, units}
-use Rattle.wtf8_core.proofs.lemmas.Forms.{form_ascii}
-use Rattle.wtf8_core.proofs.lemmas.UnitsLemmas.{IsUnit, wide_single, may_precede, paired_units, units_spelled}
+use Rattle.wtf8_core.proofs.lemmas.forms.Shapes.{form_ascii}
+use Rattle.wtf8_core.proofs.lemmas.units.OneToOne.{IsUnit, wide_single, may_precede, paired_units, units_spelled}
 use Rattle.wtf8_core.specs.FirstForm.{BeginsPair, BeginsNoPair}
 use Rattle.platform_str.specs.Bulk.{SpellsBefore}
 use Rattle.platform_str.proofs.lemmas.BulkUnits.{units_short}

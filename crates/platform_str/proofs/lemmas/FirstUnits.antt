@@ -5,8 +5,8 @@ use Rattle.wtf8_core.specs.Items.{AreUnitItems}
 use Rattle.wtf8_core.specs.UnitsOf.{ok_values, units_of}
 use Rattle.wtf8_core.specs.Wtf8.{IsWtf8}
 use Rattle.wtf8_core.specs.declared.fault.EncodingError.{EncodingError}
-use Rattle.wtf8_core.proofs.lemmas.PartUnits.{first_unit}
-use Rattle.wtf8_core.proofs.lemmas.UnitsOfLemmas.{units_of-is}
+use Rattle.wtf8_core.proofs.lemmas.chunks.PartUnits.{first_unit}
+use Rattle.wtf8_core.proofs.lemmas.units.AsFunction.{units_of-is}
 use Rattle.platform_str.specs.Laws.{IsFirstUnit}
 use Rattle.platform_str.proofs.lemmas.WideLemmas.{Item, ok_units}
 

@@ -5,8 +5,8 @@ use Rattle.std.proofs.lemmas.List.{length-take-le}
 use Rattle.std.specs.Str.{IsValidUpTo}
 use Rattle.wtf8_core.specs.Lossy.{replacement}
 use Rattle.wtf8_core.specs.declared.fault.EncodingError.{EncodingError}
-use Rattle.wtf8_core.proofs.lemmas.Utf8Lemmas.{no_char}
-use Rattle.wtf8_core.proofs.lemmas.Characters.{none_at}
+use Rattle.wtf8_core.proofs.lemmas.texts.StdFaults.{no_char}
+use Rattle.wtf8_core.proofs.lemmas.characters.AtPlaces.{none_at}
 use Rattle.std.specs.Char.{encode_utf8}
 use Rattle.wtf8_core.specs.Covered.{StartsBare}
 use Rattle.platform_str.specs.Laws.{PlatformLaws, IsReplaced}

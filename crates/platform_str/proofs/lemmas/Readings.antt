@@ -6,7 +6,7 @@ use Rattle.wtf8_core.specs.Fault.{IsFaultAt}
 use Rattle.wtf8_core.specs.Lossy.{replacement}
 use Rattle.wtf8_core.specs.LossyReading.{IsLossyReading}
 use Rattle.wtf8_core.specs.LossyReading.IsLossyReading.{formed, replaced}
-use Rattle.wtf8_core.proofs.lemmas.LossyReadings.{reading_wtf8}
+use Rattle.wtf8_core.proofs.lemmas.reader.LossyReadings.{reading_wtf8}
 use Rattle.platform_str.specs.Lossy.{IsLeftToRead}
 
 module _ {rest : List ℕ} {v n : ℕ} (f : IsFaultAt rest v n) where

@@ -11,7 +11,7 @@ use Rattle.wtf8_core.specs.Surrogate.{IsHigh, IsLow, is_pair, paired}
 use Rattle.wtf8_core.specs.CodePoint.{form}
 use Rattle.wtf8_core.specs.Wtf8.{HasUnits}
 use Rattle.wtf8_core.specs.Decoder.{code_points_of}
-use Rattle.wtf8_core.proofs.lemmas.UnitsLemmas.{IsUnit, units_once, spelled_units}
+use Rattle.wtf8_core.proofs.lemmas.units.OneToOne.{IsUnit, units_once, spelled_units}
 use Rattle.platform_str.specs.Bulk.{begins_pair, pairs}
 
 -- one byte for each unit, one more for each from 80 on, one more for each from 800 on

@@ -10,9 +10,9 @@ use Rattle.wtf8_core.specs.Byte.{IsByte}
 use Rattle.wtf8_core.specs.StandingLaws.{StandingLaws}
 use Rattle.wtf8_core.specs.Utf8.{IsIllFormedPart}
 use Rattle.wtf8_core.specs.declared.fault.EncodingError.{EncodingError}
-use Rattle.wtf8_core.proofs.lemmas.Characters.{none_begins}
-use Rattle.wtf8_core.proofs.lemmas.PartUnits.{bare_bytes}
-use Rattle.wtf8_core.proofs.lemmas.Texts.{text_bytes, lossy_front, lossy_text, lossy_is_utf8, part_first}
+use Rattle.wtf8_core.proofs.lemmas.characters.AtPlaces.{none_begins}
+use Rattle.wtf8_core.proofs.lemmas.chunks.PartUnits.{bare_bytes}
+use Rattle.wtf8_core.proofs.lemmas.texts.AreWtf8.{text_bytes, lossy_front, lossy_text, lossy_is_utf8, part_first}
 use Rattle.platform_str.specs.Laws.{PlatformLaws, PartLaws, ReadingLaws}
 use Rattle.platform_str.specs.PlatformWords.{itself, wide_bytes}
 

@@ -14,11 +14,11 @@ use Rattle.wtf8_core.specs.StandingLaws.{StandingLaws}
 use Rattle.wtf8_core.specs.Utf8.{IsUtf8Fault}
 use Rattle.wtf8_core.specs.declared.fault.EncodingError.{EncodingError}
 use Rattle.wtf8_core.specs.declared.fault.EncodingError.TheVariants.{Byte, CodePoint, End, Utf8}
-use Rattle.wtf8_core.proofs.lemmas.Characters.{none_begins}
-use Rattle.wtf8_core.proofs.lemmas.Cuts.{utf8_cut, utf8_behind}
-use Rattle.wtf8_core.proofs.lemmas.Edges.{edges_of_text}
-use Rattle.wtf8_core.proofs.lemmas.Texts.{text_bytes, lossy_is_utf8, lossy_text, no_text_begins}
-use Rattle.wtf8_core.proofs.lemmas.Utf8Facts.{no_text, one_utf8_fault, lossy_text_is}
+use Rattle.wtf8_core.proofs.lemmas.characters.AtPlaces.{none_begins}
+use Rattle.wtf8_core.proofs.lemmas.forms.Cuts.{utf8_cut, utf8_behind}
+use Rattle.wtf8_core.proofs.lemmas.standing.Boundaries.{edges_of_text}
+use Rattle.wtf8_core.proofs.lemmas.texts.AreWtf8.{text_bytes, lossy_is_utf8, lossy_text, no_text_begins}
+use Rattle.wtf8_core.proofs.lemmas.texts.LossyTexts.{no_text, one_utf8_fault, lossy_text_is}
 use Rattle.platform_str.specs.Laws.{PlatformLaws, PartLaws, ReadingLaws}
 use Rattle.platform_str.specs.PlatformWords.{itself, IsThree, wide_bytes}
 

@@ -9,14 +9,14 @@ use Rattle.wtf8_core.specs.LossyReading.{IsLossyReading}
 use Rattle.wtf8_core.specs.LossyReading.IsLossyReading.{formed}
 use Rattle.wtf8_core.specs.PartUnits.{AreLoneSurrogates}
 use Rattle.wtf8_core.specs.declared.fault.EncodingError.{EncodingError}
-use Rattle.wtf8_core.proofs.lemmas.Complete.{never_both, one_fault}
-use Rattle.wtf8_core.proofs.lemmas.UnitsOfLemmas.{one_spelling, some_spelling, units_listed, units_cut}
-use Rattle.wtf8_core.proofs.lemmas.Characters.{none_begins}
-use Rattle.wtf8_core.proofs.lemmas.Cuts.{wtf8_cut}
-use Rattle.wtf8_core.proofs.lemmas.LossyReadings.{one_reading, some_reading, reading_wtf8}
-use Rattle.wtf8_core.proofs.lemmas.PartUnits.{bare_wtf8}
-use Rattle.wtf8_core.proofs.lemmas.Utf8Facts.{wtf8_lossy_front, surrogate_first}
-use Rattle.wtf8_core.proofs.lemmas.Texts.{wtf8_of_text, wtf8_lossy_text, wtf8_lossy_is_utf8, wtf8_behind_text}
+use Rattle.wtf8_core.proofs.lemmas.characters.AtPlaces.{none_begins}
+use Rattle.wtf8_core.proofs.lemmas.chunks.PartUnits.{bare_wtf8}
+use Rattle.wtf8_core.proofs.lemmas.forms.Cuts.{wtf8_cut}
+use Rattle.wtf8_core.proofs.lemmas.reader.Complete.{never_both, one_fault}
+use Rattle.wtf8_core.proofs.lemmas.reader.LossyReadings.{one_reading, some_reading, reading_wtf8}
+use Rattle.wtf8_core.proofs.lemmas.texts.AreWtf8.{wtf8_of_text, wtf8_lossy_text, wtf8_lossy_is_utf8, wtf8_behind_text}
+use Rattle.wtf8_core.proofs.lemmas.texts.LossyTexts.{wtf8_lossy_front, surrogate_first}
+use Rattle.wtf8_core.proofs.lemmas.units.AsFunction.{one_spelling, some_spelling, units_listed, units_cut}
 use Rattle.platform_str.specs.Laws.{PlatformLaws, PartLaws, ReadingLaws}
 use Rattle.platform_str.specs.PlatformWords.{AreWideUnits, IsThree}
 

@@ -1,3 +1,8 @@
-pub mod Reading
+pub mod Complete
 pub mod Continuations
 pub mod FaultPlaces
+pub mod FirstErr
+pub mod Instances
+pub mod LossyReadings
+pub mod Reading
+pub mod Sound

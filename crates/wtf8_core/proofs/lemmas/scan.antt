@@ -1,6 +1,6 @@
-pub mod Fronts
-pub mod ScannedIsSpelled
-pub mod PairBits
-pub mod LedForms
-pub mod Lanes
 pub mod ComputedTests
+pub mod Lanes
+pub mod LedForms
+pub mod PairBits
+pub mod ScannedIsSpelled
+pub mod Windows

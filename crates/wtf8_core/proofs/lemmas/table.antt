@@ -1,3 +1,3 @@
 pub mod Entries
-pub mod Steps
 pub mod Pieces
+pub mod Steps

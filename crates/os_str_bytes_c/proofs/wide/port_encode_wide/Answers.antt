@@ -3,7 +3,7 @@ use Rattle.std.proofs.lemmas.List.{append-nil, length-take-le}
 use Rattle.wtf8_core.specs.Wtf8.{HasUnits}
 use Rattle.wtf8_core.specs.Items.{AreUnitItems}
 use Rattle.wtf8_core.specs.declared.fault.EncodingError.{EncodingError}
-use Rattle.wtf8_core.proofs.lemmas.FirstErr.{oks, one_more_ok, units_all_ok, units_first_err}
+use Rattle.wtf8_core.proofs.lemmas.reader.FirstErr.{oks, one_more_ok, units_all_ok, units_first_err}
 use Rattle.os_str_bytes_c.specs.Answers.{IsFaulty}
 use Rattle.os_str_bytes_c.proofs.lemmas.Filling.{one_more, same_filled}
 use Rattle.os_str_bytes_c.proofs.lemmas.Room.{unit_fits}

@@ -1,6 +1,6 @@
 use Rattle.std.proofs.Common.{◌++◌}
 use Rattle.wtf8_core.specs.Items.{AreUnitItems}
-use Rattle.wtf8_core.proofs.lemmas.FirstErr.{oks}
+use Rattle.wtf8_core.proofs.lemmas.reader.FirstErr.{oks}
 use Rattle.os_str_bytes_c.specs.Answers.{IsFilled}
 use Rattle.os_str_bytes_c.proofs.wide.port_encode_wide.Given as goal
 

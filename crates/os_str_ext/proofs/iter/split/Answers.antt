@@ -1,4 +1,4 @@
-use Rattle.wtf8_core.proofs.lemmas.PiecesInUnits.{split_in_units}
+use Rattle.wtf8_core.proofs.lemmas.standing.Pieces.{split_in_units}
 use Rattle.platform_str.specs.Strings.{bytes}
 use Rattle.os_str_ext.proofs.iter.split.Goals as goal
 

@@ -1,6 +1,6 @@
 use Rattle.std.proofs.Common.{◌∙◌, ◌-◌, ◌<◌, ◌∷◌, ap, length, subst, sym, take}
 use Rattle.wtf8_core.specs.Covered.{StartsBare}
-use Rattle.wtf8_core.proofs.lemmas.PlacesInUnits.{no_units}
+use Rattle.wtf8_core.proofs.lemmas.standing.Places.{no_units}
 use Rattle.platform_str.specs.Laws.{IsFirstUnit}
 use Rattle.os_str_ext.specs.Symbols.{AreKnown, symbols_of, unit_symbol}
 use Rattle.os_str_ext.proofs.lemmas.FirstChunk.{edges, part_is_bare}

@@ -2,7 +2,7 @@ use Rattle.std.proofs.Common.{◌≡◌, ◌∙◌, ◌-◌, ◌<◌, ◌≤◌,
 use Rattle.std.specs.Char.{encode_utf8}
 use Rattle.std.specs.Str.{IsUtf8}
 use Rattle.std.proofs.lemmas.Str.{IsUtf8-encode}
-use Rattle.wtf8_core.proofs.lemmas.PlacesInUnits.{no_units}
+use Rattle.wtf8_core.proofs.lemmas.standing.Places.{no_units}
 use Rattle.os_str_ext.specs.Symbols.{AreKnown, symbols_of}
 use Rattle.os_str_ext.specs.declared.symbols.Symbol.TheVariants.{Character}
 use Rattle.os_str_ext.proofs.lemmas.SymbolSteps.{character_front, known_behind_character, symbols_by_character}

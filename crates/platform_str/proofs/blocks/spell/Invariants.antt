@@ -1,6 +1,6 @@
 use Rattle.std.proofs.Common.{◌≡◌, ◌≤◌, length, take}
 use Rattle.std.specs.List.{AllByRecursion}
-use Rattle.wtf8_core.proofs.lemmas.UnitsLemmas.{IsUnit}
+use Rattle.wtf8_core.proofs.lemmas.units.OneToOne.{IsUnit}
 use Rattle.platform_str.specs.Bulk.{SpellsBefore}
 use Rattle.platform_str.proofs.blocks.spell.Given as goal
 

@@ -4,7 +4,7 @@ use Rattle.wtf8_core.specs.CodePoint.{form}
 use Rattle.wtf8_core.specs.Wtf8.{IsWtf8}
 use Rattle.wtf8_core.specs.UnitsOf.{units_of}
 use Rattle.wtf8_core.specs.Join.{IsJoin, IsPairBetween}
-use Rattle.wtf8_core.proofs.lemmas.Joins.{plain_join, pair_bytes, written_join}
+use Rattle.wtf8_core.proofs.lemmas.units.Joins.{plain_join, pair_bytes, written_join}
 use Rattle.platform_str.proofs.join.push_wtf8.Goals as goal
 
 -- of an answer of `append`

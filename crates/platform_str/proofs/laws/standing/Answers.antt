@@ -1,4 +1,4 @@
-use Rattle.wtf8_core.proofs.lemmas.PlacesInUnits.{stands_alike, units_stand, one_byte_place}
+use Rattle.wtf8_core.proofs.lemmas.standing.Places.{stands_alike, units_stand, one_byte_place}
 use Rattle.platform_str.proofs.laws.standing.Goals as goal
 
 pub returns-clause-alike : goal.returns-clause-alike

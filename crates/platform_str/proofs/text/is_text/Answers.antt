@@ -1,6 +1,6 @@
 use Rattle.std.specs.Str.{IsUtf8}
-use Rattle.wtf8_core.proofs.lemmas.HalvesAtEdges.{never}
-use Rattle.wtf8_core.proofs.lemmas.Utf8Facts.{no_text}
+use Rattle.wtf8_core.proofs.lemmas.units.PrefixTests.{never}
+use Rattle.wtf8_core.proofs.lemmas.texts.LossyTexts.{no_text}
 use Rattle.platform_str.proofs.text.is_text.Goals as goal
 
 pub returns-in-Some : goal.returns-in-Some

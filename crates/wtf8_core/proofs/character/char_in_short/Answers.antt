@@ -1,5 +1,5 @@
 use Rattle.wtf8_core.proofs.Common.{ℕ, ◌+◌, ◌<◌, get_or, sym, ap, ◌∙◌, subst, arith, WholeCharacter}
-use Rattle.wtf8_core.proofs.lemmas.Characters.{ascii_found, character_found, none_at_surrogate, none_at_fault, none_in_none}
+use Rattle.wtf8_core.proofs.lemmas.characters.AtPlaces.{ascii_found, character_found, none_at_surrogate, none_at_fault, none_in_none}
 use Rattle.wtf8_core.proofs.character.char_in_short.Goals as goal
 
 pub returns-then-first-lt128 : goal.returns-then-first-lt128

@@ -1,6 +1,6 @@
 use Rattle.wtf8_core.proofs.Common.{sym, ◌∙◌, false≢true}
-use Rattle.wtf8_core.proofs.lemmas.Characters.{ascii_found}
-use Rattle.wtf8_core.proofs.lemmas.AtFront.{four_first, at_first, at_second, at_third, at_fourth, second_of_two, no_second_of_two, two_long, three_long, four_long}
+use Rattle.wtf8_core.proofs.lemmas.characters.AtPlaces.{ascii_found}
+use Rattle.wtf8_core.proofs.lemmas.characters.FourBytes.{four_first, at_first, at_second, at_third, at_fourth, second_of_two, no_second_of_two, two_long, three_long, four_long}
 use Rattle.wtf8_core.proofs.character.char_or_fault_at_front.Goals as goal
 
 pub returns-then-first-lt128 : goal.returns-then-first-lt128

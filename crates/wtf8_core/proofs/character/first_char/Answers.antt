@@ -1,6 +1,6 @@
 use Rattle.wtf8_core.proofs.Common.{◌≡◌, ◌+◌, Some, subst, arith, WholeCharacter, IsUtf8Fault, IsAtFront}
-use Rattle.wtf8_core.proofs.lemmas.Characters.{none_at}
-use Rattle.wtf8_core.proofs.lemmas.Utf8Lemmas.{no_char}
+use Rattle.wtf8_core.proofs.lemmas.characters.AtPlaces.{none_at}
+use Rattle.wtf8_core.proofs.lemmas.texts.StdFaults.{no_char}
 use Rattle.wtf8_core.proofs.character.first_char.Goals as goal
 
 pub returns-in-Some-Ok : goal.returns-in-Some-Ok

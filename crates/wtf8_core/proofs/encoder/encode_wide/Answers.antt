@@ -1,5 +1,5 @@
 use Rattle.wtf8_core.proofs.Common.{refl}
-use Rattle.wtf8_core.proofs.lemmas.FirstErr.{items_are_code_points}
+use Rattle.wtf8_core.proofs.lemmas.reader.FirstErr.{items_are_code_points}
 use Rattle.wtf8_core.proofs.encoder.encode_wide.Goals as goal
 
 pub invariant_of-result : goal.invariant_of-result

@@ -1,4 +1,4 @@
-use Rattle.wtf8_core.proofs.lemmas.FirstForms.{taken}
+use Rattle.wtf8_core.proofs.lemmas.forms.FirstForms.{taken}
 use Rattle.wtf8_core.proofs.forms.first_form.Goals as goal
 
 pub split_at-requires : goal.split_at-requires

@@ -1,4 +1,4 @@
-use Rattle.wtf8_core.proofs.lemmas.FirstForms.{leads_one, leads_two, leads_three, leads_four}
+use Rattle.wtf8_core.proofs.lemmas.forms.FirstForms.{leads_one, leads_two, leads_three, leads_four}
 use Rattle.wtf8_core.proofs.forms.leading.Goals as goal
 
 pub returns-then-first-lt128 : goal.returns-then-first-lt128

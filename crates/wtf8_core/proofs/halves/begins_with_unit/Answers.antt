@@ -1,4 +1,5 @@
-use Rattle.wtf8_core.proofs.lemmas.HalvesAtEdges.{never, no_first_item, first_item_err, first_item_ok}
+use Rattle.wtf8_core.proofs.lemmas.units.PrefixTests.{never}
+use Rattle.wtf8_core.proofs.lemmas.units.FirstAndLast.{no_first_item, first_item_err, first_item_ok}
 use Rattle.wtf8_core.proofs.halves.begins_with_unit.Goals as goal
 
 pub returns-in-None : goal.returns-in-None

@@ -1,4 +1,5 @@
-use Rattle.wtf8_core.proofs.lemmas.HalvesAtEdges.{never, stripped_end, not_stripped_end, end_tested, plain_end, end_plain, low_end, low_before}
+use Rattle.wtf8_core.proofs.lemmas.units.PrefixTests.{never, stripped_end, not_stripped_end, end_tested}
+use Rattle.wtf8_core.proofs.lemmas.units.PrefixesAndSuffixes.{plain_end, end_plain, low_end, low_before}
 use Rattle.wtf8_core.proofs.halves.ends_with.Goals as goal
 
 pub returns-in_default : goal.returns-in_default

@@ -1,4 +1,5 @@
-use Rattle.wtf8_core.proofs.lemmas.HalvesAtEdges.{never, stripped_front, not_stripped_front, front_tested, plain_front, front_plain, high_front, high_next}
+use Rattle.wtf8_core.proofs.lemmas.units.PrefixTests.{never, stripped_front, not_stripped_front, front_tested}
+use Rattle.wtf8_core.proofs.lemmas.units.PrefixesAndSuffixes.{plain_front, front_plain, high_front, high_next}
 use Rattle.wtf8_core.proofs.halves.starts_with.Goals as goal
 
 pub returns-in_default : goal.returns-in_default

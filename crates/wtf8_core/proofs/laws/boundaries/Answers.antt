@@ -1,6 +1,6 @@
-use Rattle.wtf8_core.proofs.lemmas.Cuts.{char_boundary, boundary_of_str}
-use Rattle.wtf8_core.proofs.lemmas.Edges.{edges_of_text}
-use Rattle.wtf8_core.proofs.lemmas.Overlaps.{boundary_in_front, boundary_in_rest}
+use Rattle.wtf8_core.proofs.lemmas.forms.Cuts.{char_boundary, boundary_of_str}
+use Rattle.wtf8_core.proofs.lemmas.standing.Boundaries.{edges_of_text}
+use Rattle.wtf8_core.proofs.lemmas.characters.Overlaps.{boundary_in_front, boundary_in_rest}
 use Rattle.wtf8_core.proofs.laws.boundaries.Goals as goal
 
 pub returns-clause-edges : goal.returns-clause-edges

@@ -1,5 +1,5 @@
-use Rattle.wtf8_core.proofs.lemmas.Characters.{character_fits}
-use Rattle.wtf8_core.proofs.lemmas.Overlaps.{apart}
+use Rattle.wtf8_core.proofs.lemmas.characters.AtPlaces.{character_fits}
+use Rattle.wtf8_core.proofs.lemmas.characters.Overlaps.{apart}
 use Rattle.wtf8_core.proofs.laws.characters.Goals as goal
 
 pub returns-clause-fits : goal.returns-clause-fits

@@ -1,5 +1,5 @@
-use Rattle.wtf8_core.proofs.lemmas.ChunkLemmas.{some_chunks, chunks_once}
-use Rattle.wtf8_core.proofs.lemmas.RunLemmas.{chunks_by_runs}
+use Rattle.wtf8_core.proofs.lemmas.chunks.OneList.{some_chunks, chunks_once}
+use Rattle.wtf8_core.proofs.lemmas.chunks.Runs.{chunks_by_runs}
 use Rattle.wtf8_core.proofs.laws.chunks.Goals as goal
 
 pub returns-clause-some : goal.returns-clause-some

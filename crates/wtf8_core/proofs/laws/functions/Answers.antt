@@ -1,4 +1,4 @@
-use Rattle.wtf8_core.proofs.lemmas.UnitsOfLemmas.{has_units_exactly, has_lossy_text}
+use Rattle.wtf8_core.proofs.lemmas.units.AsFunction.{has_units_exactly, has_lossy_text}
 use Rattle.wtf8_core.proofs.laws.functions.Goals as goal
 
 pub returns-clause-units : goal.returns-clause-units

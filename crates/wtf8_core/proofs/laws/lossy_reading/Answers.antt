@@ -1,5 +1,5 @@
 use Rattle.wtf8_core.specs.LossyReading.IsLossyReading.{formed}
-use Rattle.wtf8_core.proofs.lemmas.LossyReadings.{some_reading, one_reading, reading_wtf8, reading_of_items}
+use Rattle.wtf8_core.proofs.lemmas.reader.LossyReadings.{some_reading, one_reading, reading_wtf8, reading_of_items}
 use Rattle.wtf8_core.proofs.laws.lossy_reading.Goals as goal
 
 pub returns-clause-some : goal.returns-clause-some

@@ -1,4 +1,4 @@
-use Rattle.wtf8_core.proofs.lemmas.TextsInStrings.{wtf8_standing}
+use Rattle.wtf8_core.proofs.lemmas.standing.Wtf8.{wtf8_standing}
 use Rattle.wtf8_core.proofs.laws.standing.Goals as goal
 
 pub returns : goal.returns

@@ -1,6 +1,6 @@
 -- Where the continuations of a lead stop, and what the reader makes of them.
 use Rattle.wtf8_core.proofs.Common.{◌≡◌, ⊎_elim, ℕ, zero, suc, ◌+◌, ◌*◌, ◌%◌, ◌<◌, List, [], ◌∷◌, ◌++◌, length, Ok, Err, refl, ap, ◌∙◌, arith, cond-true, cond-false, AllByRecursion, fold, IsContinuation, with_continuations, continuations, EncodingError, Byte, End}
-use Rattle.wtf8_core.proofs.lemmas.Ranges.{in_range, not_in_range, range_cases}
+use Rattle.wtf8_core.proofs.lemmas.forms.Ranges.{in_range, not_in_range, range_cases}
 
 -- why n continuations stop: they are all there, the bytes end, or a byte is none
 pub data Stops (n : ℕ) : List ℕ → List ℕ → Type 0 where

@@ -1,19 +1,10 @@
 -- Where the first fault stands: bytes that are read up to it.
 use Rattle.wtf8_core.proofs.Common.{◌≡◌, ⊎_elim, ℕ, ◌-◌, Bool, false, List, [], ◌∷◌, ◌++◌, length, take, drop, Result, Ok, Err, refl, sym, ap, ◌∙◌, subst, arith, append_assoc, Fits, w8, get_or, length-append, take-append-drop, drop-append_seam, All, append-nil, All-drop, All-from_get_or, IsByte, is_high, form, Spells, IsWtf8, last_behind, BeginsFault, IsFaultAt, first_item, behind_item, items_behind, is_high_item, IsFirstItem, IsSpelledFront, IsReadUpTo, EncodingError, IsCodePoint, IsLow, suc, flat_map}
-use Rattle.wtf8_core.proofs.lemmas.Complete.{behind_form, refused_len, item_of_form, items_of_fault, one_fault}
-use Rattle.wtf8_core.proofs.lemmas.reader.Reading.{items-ok, items-err}
-use Rattle.wtf8_core.proofs.lemmas.Sound.{BeginsForm, begins}
-use Rattle.wtf8_core.proofs.lemmas.Appending.{last_append, spells_more}
+use Rattle.wtf8_core.proofs.lemmas.reader.Complete.{refused_len, item_of_form, items_of_fault, one_fault}
+use Rattle.wtf8_core.proofs.lemmas.reader.Reading.{items-err}
+use Rattle.wtf8_core.proofs.lemmas.reader.Sound.{begins, first_form_behind}
+use Rattle.wtf8_core.proofs.lemmas.forms.Appending.{last_append, spells_more}
 use Rattle.wtf8_core.specs.declared.scan.Encoding.TheVariants.{Wtf8}
-
--- behind the code point p a code point is read: its form stands there
-first_form_behind : (p b c : ℕ) (bs : List ℕ) → IsByte b → first_item (is_high p) b bs ≡ Ok c → (i : BeginsForm p (b ∷ bs)) × (i.c ≡ c) × (i.rest ≡ drop (behind_item b bs) bs)
-first_form_behind p b c bs u e = ⊎_elim
-    (λ i. let q : Ok c ∷ items_behind (behind_item b bs) (is_high c) bs ≡ Ok i.c ∷ items_behind 0 (is_high i.c) i.rest = sym (items-ok (is_high p) b c bs e) ∙ ap (items_behind 0 (is_high p)) i.is ∙ item_of_form p i.c i.rest i.code_point i.free in
-    let same : i.c ≡ c = cc in
-    (i, same, sym (behind_form i.c i.rest i.code_point b bs i.is)))
-    (λ f. let q : Ok c ∷ items_behind (behind_item b bs) (is_high c) bs ≡ Err f.0 ∷ items_behind 0 false f.1.rest = sym (items-ok (is_high p) b c bs e) ∙ items_of_fault p (b ∷ bs) f.0 f.1 in cc)
-    (begins p b bs u)
 
 -- a fault is read: it begins there
 fault_behind : (p b : ℕ) (f : EncodingError) (bs : List ℕ) → IsByte b → first_item (is_high p) b bs ≡ Err f → BeginsFault p (b ∷ bs) f

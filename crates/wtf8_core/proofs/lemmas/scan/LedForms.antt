@@ -1,6 +1,6 @@
 -- A lead and its continuations, where each may follow the other, are the form of a code point.
 use Rattle.wtf8_core.proofs.Common.{◌≡◌, ℕ, ◌<◌, ◌≤◌, List, [], ◌∷◌, arith, nat_tests, IsScalar, IsContinuation, IsHigh, IsLow, IsCodePoint, form, shape_value}
-use Rattle.wtf8_core.proofs.lemmas.Forms.{shape_is_form}
+use Rattle.wtf8_core.proofs.lemmas.forms.Shapes.{shape_is_form}
 
 -- the bytes are the form of the code point c
 pub record IsFormOf (c : ℕ) (bytes : List ℕ) : Type 0 where

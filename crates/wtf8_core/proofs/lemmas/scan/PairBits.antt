@@ -1,5 +1,5 @@
 -- Bytes whose bits say that nothing is wrong may stand where they do.
-use Rattle.wtf8_core.proofs.Common.{List, get_or, ◌≡◌, ◌≢◌, ◌⊎◌, inl, inr, ⊎_elim, ℕ, suc, ◌+◌, ◌-◌, ◌*◌, ◌/◌, ◌^◌, max, ◌<◌, ◌≤◌, Bool, true, eqb, bit_and, bit_or, bit_xor, refl, sym, ap, ◌∙◌, subst, arith, eq-eqb, cases_lt, bit_at, IsContinuation, MayFollow, MayStand, AllMayStand}
+use Rattle.wtf8_core.proofs.Common.{List, get_or, ◌≡◌, ◌≢◌, ◌⊎◌, inl, inr, ⊎_elim, ℕ, ◌+◌, ◌-◌, ◌*◌, ◌/◌, ◌^◌, max, ◌<◌, ◌≤◌, Bool, true, eqb, bit_and, bit_or, bit_xor, refl, sym, ap, ◌∙◌, subst, arith, eq-eqb, cases_lt, bit_at, IsContinuation, MayFollow, MayStand, AllMayStand}
 use Rattle.std.proofs.lemmas.Nat.Bits.{and_pow, and_high_mask, bit_at_or}
 use Rattle.wtf8_core.specs.PairBits.{pair_bits, continuation_due, error_bits, surrogate_pair_difference}
 use Rattle.wtf8_core.proofs.lemmas.scan.ComputedTests.{fails}
@@ -126,19 +126,10 @@ module _ (s : Encoding) (w x y z b : ℕ) (ux : x < 256) (uy : y < 256) (uz : z 
       let late : (0xF0 ≤ x) ⊎ (0xE0 ≤ y) → MayStand s w x y z b = λ p. when_late p (is_later x y ux uy p) in
       ⊎_elim (λ p. ⊎_elim (λ q. when_early p q (not_later x y p q)) (λ q. late (inr q)) (cases_lt y 0xE0)) (λ p. late (inl p)) (cases_lt x 0xF0)
 
--- five neighbours, by either spelling of their places
-at_sucs : (P : ℕ → ℕ → ℕ → ℕ → ℕ → Type 0) (i : ℕ) → P (0 + i) (1 + i) (2 + i) (3 + i) (4 + i) → P i (suc i) (suc (suc i)) (suc (suc (suc i))) (suc (suc (suc (suc i))))
-at_sucs P i p =
-    let a : 0 + i ≡ i = omega arith in
-    let b : 1 + i ≡ suc i = omega arith in
-    let c : 2 + i ≡ suc (suc i) = omega arith in
-    let d : 3 + i ≡ suc (suc (suc i)) = omega arith in
-    let e : 4 + i ≡ suc (suc (suc (suc i))) = omega arith in
-    subst (λ k. P k (suc i) (suc (suc i)) (suc (suc (suc i))) (suc (suc (suc (suc i))))) a
-    (subst (λ k. P (0 + i) k (suc (suc i)) (suc (suc (suc i))) (suc (suc (suc (suc i))))) b
-    (subst (λ k. P (0 + i) (1 + i) k (suc (suc (suc i))) (suc (suc (suc (suc i))))) c
-    (subst (λ k. P (0 + i) (1 + i) (2 + i) k (suc (suc (suc (suc i))))) d
-    (subst (λ k. P (0 + i) (1 + i) (2 + i) (3 + i) k) e p))))
+-- what holds of five numbers holds of equal ones
+pub same_five : (P : ℕ → ℕ → ℕ → ℕ → ℕ → Type 0) {v w x y z a b c d e : ℕ} → v ≡ a → w ≡ b → x ≡ c → y ≡ d → z ≡ e → P v w x y z → P a b c d e
+same_five P {v} {w} {x} {y} {z} {a} {b} {c} {d} {e} p q r s t h =
+    subst (λ k. P k b c d e) p (subst (λ k. P v k c d e) q (subst (λ k. P v w k d e) r (subst (λ k. P v w x k e) s (subst (λ k. P v w x y k) t h))))
 
 -- what is wrong with each byte behind the first four, where its bits are these
 module _ (s : Encoding) (n : ℕ) (ws wrong : List ℕ) (fits : (k : ℕ) → get_or ws k 0 < 256)
@@ -146,7 +137,7 @@ module _ (s : Encoding) (n : ℕ) (ws wrong : List ℕ) (fits : (k : ℕ) → ge
   pub kept : ((i : ℕ) → i < n → bit_and (get_or wrong i 0) 0xBF ≡ 0)
       → ((i : ℕ) → i < n → (get_or wrong i 0 ≡ 0) ⊎ (surrogate_pair_difference (get_or ws (0 + i) 0) (get_or ws (1 + i) 0) (get_or ws (3 + i) 0) (get_or ws (4 + i) 0) ≢ 0)) → (s ≡ Utf8 → (i : ℕ) → i < n → get_or wrong i 0 ≡ 0) → AllMayStand s n ws
   kept right unpaired plain i h =
-      at_sucs (λ a b c d e. MayStand s (get_or ws a 0) (get_or ws b 0) (get_or ws c 0) (get_or ws d 0) (get_or ws e 0)) i
+      same_five (λ a b c d e. MayStand s (get_or ws a 0) (get_or ws b 0) (get_or ws c 0) (get_or ws d 0) (get_or ws e 0)) (omega arith) (omega arith) (omega arith) (omega arith) (omega arith)
       (may_stand s (get_or ws (0 + i) 0) _ _ _ _ (fits (1 + i)) (fits (2 + i)) (fits (3 + i)) (fits (4 + i)) (ap (λ n. bit_and n 0xBF) (sym (bits i h)) ∙ right i h)
       (⊎_elim (λ z. inl (sym (bits i h) ∙ z)) inr (unpaired i h)) (λ e. sym (bits i h) ∙ plain e i h))
 

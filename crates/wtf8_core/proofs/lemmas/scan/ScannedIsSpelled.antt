@@ -1,6 +1,6 @@
 -- Bytes that keep to the pattern are forms of code points.
 use Rattle.wtf8_core.proofs.Common.{◌≡◌, inl, inr, ⊎_elim, ℕ, zero, suc, ◌+◌, ◌<◌, ◌≤◌, List, [], ◌∷◌, ◌++◌, length, get_or, refl, sym, ap, ◌∙◌, subst, arith, cases_lt, nat_tests, AllByRecursion, flat_map, IsScalar, low_scalar, IsContinuation, IsHigh, IsLow, form, Spells, MayPrecede, last_behind, shape_value, AllMayStand, IsEdge, ◌/◌, ◌%◌}
-use Rattle.wtf8_core.proofs.lemmas.Forms.{form_ascii, form_past}
+use Rattle.wtf8_core.proofs.lemmas.forms.Shapes.{form_ascii, form_past}
 use Rattle.wtf8_core.proofs.lemmas.scan.LedForms.{IsFormOf, two_small, two_form, two_scalar, three_form, three_high, three_low, only_three_high, three_scalar, four_past, four_form, four_scalar}
 use Rattle.wtf8_core.specs.declared.scan.Encoding.{Encoding}
 use Rattle.wtf8_core.specs.declared.scan.Encoding.TheVariants.{Utf8}

@@ -1,9 +1,9 @@
 -- Pieces, one behind the other.
 use Rattle.wtf8_core.proofs.Common.{◌≡◌, ◌≢◌, inl, inr, ⊎_elim, ℕ, ◌+◌, ◌<◌, Bool, true, false, List, [], ◌∷◌, ◌++◌, length, take, drop, get_or, take-append-drop, Option, None, refl, sym, ap, ◌∙◌, subst, arith, append_assoc, append-nil, common_steps, IsWtf8, Spells, last_behind, IsShort, IsRefused, class_at, next_at, Row, rows, SomeRow, IsOpen, IsOpenIn, Stands, IsFaulty, OnlyEnds, HasFirstFault, joined_bits, fault_at, Progress, progress, StandsFor, is_between, IsHigh, is_high, IsSpelledFront, EncodingError, Byte, CodePoint, End, Utf8, State, Between, BehindHigh, Refused, Class, cases_Bool}
-use Rattle.wtf8_core.proofs.lemmas.Ranges.{in_range-false}
-use Rattle.wtf8_core.proofs.lemmas.Appending.{last_append, spells_joined}
-use Rattle.wtf8_core.proofs.lemmas.UnitsLemmas.{may_precede}
-use Rattle.wtf8_core.proofs.lemmas.Complete.{never_both, one_fault}
+use Rattle.wtf8_core.proofs.lemmas.forms.Ranges.{in_range-false}
+use Rattle.wtf8_core.proofs.lemmas.forms.Appending.{last_append, spells_joined}
+use Rattle.wtf8_core.proofs.lemmas.units.OneToOne.{may_precede}
+use Rattle.wtf8_core.proofs.lemmas.reader.Complete.{never_both, one_fault}
 use Rattle.wtf8_core.proofs.lemmas.table.Steps.{goes}
 use Rattle.wtf8_core.specs.declared.scan.Encoding.TheVariants.{Wtf8}
 

@@ -1,6 +1,6 @@
 use Rattle.wtf8_core.proofs.Common.{List, ℕ, ◌+◌, ◌-◌, ◌≡◌, ◌≤◌, Some, length, take, drop, length-drop, drop-drop, sym, ap, ◌∙◌, subst, arith, IsUtf8, IsUtf8Fault, IsAtFront, WholeCharacter}
-use Rattle.wtf8_core.proofs.lemmas.Characters.{character_fits, text_of_character}
-use Rattle.wtf8_core.proofs.lemmas.Utf8Facts.{front_behind, fault_behind}
+use Rattle.wtf8_core.proofs.lemmas.characters.AtPlaces.{character_fits, text_of_character}
+use Rattle.wtf8_core.proofs.lemmas.texts.LossyTexts.{front_behind, fault_behind}
 use Rattle.wtf8_core.proofs.utf8.after_three_characters.Goals as goal
 
 -- the place that the length of the rest tells

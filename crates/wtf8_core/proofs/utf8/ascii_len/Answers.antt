@@ -1,5 +1,5 @@
 use Rattle.wtf8_core.proofs.Common.{◌+◌, ◌≡◌, ◌<◌, get_or, subst, arith}
-use Rattle.wtf8_core.proofs.lemmas.scan.Fronts.{ascii_is_utf8}
+use Rattle.wtf8_core.proofs.lemmas.scan.Windows.{ascii_is_utf8}
 use Rattle.wtf8_core.proofs.utf8.ascii_len.Goals as goal
 
 pub returns-then-near-lt-STEP-clause-text : goal.returns-then-near-lt-STEP-clause-text

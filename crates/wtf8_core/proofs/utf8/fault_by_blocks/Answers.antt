@@ -1,5 +1,5 @@
 use Rattle.wtf8_core.proofs.Common.{refl}
-use Rattle.wtf8_core.proofs.lemmas.scan.Fronts.{front_is_utf8}
+use Rattle.wtf8_core.proofs.lemmas.scan.Windows.{front_is_utf8}
 use Rattle.wtf8_core.specs.declared.scan.Encoding.TheVariants.{Utf8}
 use Rattle.wtf8_core.proofs.utf8.fault_by_blocks.Goals as goal
 

@@ -1,4 +1,4 @@
-use Rattle.wtf8_core.proofs.lemmas.Utf8Lemmas.{fault_of}
+use Rattle.wtf8_core.proofs.lemmas.texts.StdFaults.{fault_of}
 use Rattle.wtf8_core.proofs.utf8.fault_by_std.Goals as goal
 
 pub returns-in-Some : goal.returns-in-Some

@@ -1,5 +1,5 @@
 use Rattle.wtf8_core.proofs.Common.{subst, IsUtf8, IsUtf8Fault}
-use Rattle.wtf8_core.proofs.lemmas.Utf8Facts.{text_behind, fault_behind}
+use Rattle.wtf8_core.proofs.lemmas.texts.LossyTexts.{text_behind, fault_behind}
 use Rattle.wtf8_core.proofs.utf8.fault_in_rest.Goals as goal
 
 pub returns-in-Some : goal.returns-in-Some

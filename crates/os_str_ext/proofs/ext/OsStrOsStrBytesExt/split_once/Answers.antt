@@ -1,6 +1,6 @@
 use Rattle.std.proofs.Common.{subst}
 use Rattle.std.specs.Str.{IsUtf8}
-use Rattle.wtf8_core.proofs.lemmas.PiecesInUnits.{once_in_units}
+use Rattle.wtf8_core.proofs.lemmas.standing.Pieces.{once_in_units}
 use Rattle.platform_str.specs.Strings.{bytes}
 use Rattle.os_str_ext.proofs.ext.OsStrOsStrBytesExt.split_once.Goals as goal
 

@@ -1,6 +1,6 @@
 use Rattle.std.proofs.Common.{◌∙◌, subst, sym}
 use Rattle.wtf8_core.specs.Covered.{StartsBare, IsBare}
-use Rattle.wtf8_core.proofs.lemmas.PartUnits.{bare_rest}
+use Rattle.wtf8_core.proofs.lemmas.chunks.PartUnits.{bare_rest}
 use Rattle.os_str_ext.proofs.os_units.NonUnicodeOsStr.split_first.Goals as goal
 
 pub first_unit-number-requires-clause-bare : goal.first_unit-number-requires-clause-bare

@@ -1,5 +1,5 @@
-use Rattle.wtf8_core.proofs.lemmas.Characters.{none_begins}
-use Rattle.wtf8_core.proofs.lemmas.Texts.{part_at_front}
+use Rattle.wtf8_core.proofs.lemmas.characters.AtPlaces.{none_begins}
+use Rattle.wtf8_core.proofs.lemmas.texts.AreWtf8.{part_at_front}
 use Rattle.platform_str.specs.platforms.Wasm.{never_bare}
 use Rattle.platform_str.proofs.unix.UnixPlatform.lossy_len.Goals as goal
 

@@ -1,4 +1,4 @@
-use Rattle.wtf8_core.proofs.lemmas.Sound.{items_sound}
+use Rattle.wtf8_core.proofs.lemmas.reader.Sound.{items_sound}
 use Rattle.wtf8_core.proofs.code_points.CodePoints.new.Goals as goal
 
 pub returns : goal.returns

@@ -1,4 +1,4 @@
-use Rattle.wtf8_core.proofs.lemmas.UnitsLemmas.{decoded}
+use Rattle.wtf8_core.proofs.lemmas.units.OneToOne.{decoded}
 use Rattle.wtf8_core.proofs.decoder.DecodeWide.new.Goals as goal
 
 pub returns : goal.returns

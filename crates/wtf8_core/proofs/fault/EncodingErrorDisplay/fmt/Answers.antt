@@ -1,6 +1,6 @@
 use Rattle.wtf8_core.proofs.Common.{◌++◌, true, refl, sym, ap, ◌∙◌, codes, decimal, upper_hex, not_representable, fault_text, Utf8}
 use Rattle.std.proofs.Output.{has_written_styled_append, has_written_styled_of_eq}
-use Rattle.wtf8_core.proofs.lemmas.Writing.{plainly}
+use Rattle.wtf8_core.proofs.lemmas.texts.FormatterOptions.{plainly}
 use Rattle.wtf8_core.proofs.fault.EncodingErrorDisplay.fmt.Goals as goal
 
 pub returns-in_ok-write_upper_hex-in-Byte-clause-styled : goal.returns-in_ok-write_upper_hex-in-Byte-clause-styled

@@ -1,5 +1,5 @@
 use Rattle.wtf8_core.proofs.Common.{refl, arith, length, ◌+◌, ◌≤◌}
-use Rattle.wtf8_core.proofs.lemmas.scan.Fronts.{front_keeps, front_behind_ascii, more_ascii}
+use Rattle.wtf8_core.proofs.lemmas.scan.Windows.{front_keeps, front_behind_ascii, more_ascii}
 use Rattle.wtf8_core.proofs.scan.fronts.ascii_end.Goals as goal
 
 pub loop-end-init : goal.loop-end-init

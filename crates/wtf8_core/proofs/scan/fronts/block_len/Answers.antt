@@ -1,5 +1,5 @@
 use Rattle.wtf8_core.proofs.Common.{◌-◌, take_rest}
-use Rattle.wtf8_core.proofs.lemmas.scan.Fronts.{more_inside}
+use Rattle.wtf8_core.proofs.lemmas.scan.Windows.{more_inside}
 use Rattle.wtf8_core.proofs.scan.fronts.block_len.Goals as goal
 
 pub returns-clause-kept : goal.returns-clause-kept

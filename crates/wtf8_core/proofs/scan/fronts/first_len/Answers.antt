@@ -1,5 +1,5 @@
 use Rattle.wtf8_core.proofs.Common.{refl, subst, sym, IsSpelledFront}
-use Rattle.wtf8_core.proofs.lemmas.scan.Fronts.{no_front, front_keeps, more_ascii}
+use Rattle.wtf8_core.proofs.lemmas.scan.Windows.{no_front, front_keeps, more_ascii}
 use Rattle.wtf8_core.proofs.scan.fronts.first_len.Goals as goal
 
 pub returns-then-is_ascii_block-clause-kept : goal.returns-then-is_ascii_block-clause-kept

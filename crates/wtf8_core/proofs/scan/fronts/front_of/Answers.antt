@@ -1,4 +1,4 @@
-use Rattle.wtf8_core.proofs.lemmas.scan.Fronts.{no_pattern}
+use Rattle.wtf8_core.proofs.lemmas.scan.Windows.{no_pattern}
 use Rattle.wtf8_core.proofs.scan.fronts.front_of.Goals as goal
 
 pub scan_from-requires-clause-kept : goal.scan_from-requires-clause-kept

@@ -1,5 +1,5 @@
 use Rattle.wtf8_core.proofs.Common.{◌∙◌}
-use Rattle.wtf8_core.proofs.lemmas.scan.Fronts.{near_start, other_lead, by_second}
+use Rattle.wtf8_core.proofs.lemmas.scan.Windows.{near_start, other_lead, by_second}
 use Rattle.wtf8_core.proofs.scan.fronts.is_behind_high.Goals as goal
 
 pub returns-then-at-lt3 : goal.returns-then-at-lt3

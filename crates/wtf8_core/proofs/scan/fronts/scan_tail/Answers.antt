@@ -1,5 +1,5 @@
 use Rattle.wtf8_core.proofs.Common.{◌+◌, length, arith, get_or_past}
-use Rattle.wtf8_core.proofs.lemmas.scan.Fronts.{by_pattern}
+use Rattle.wtf8_core.proofs.lemmas.scan.Windows.{by_pattern}
 use Rattle.wtf8_core.proofs.scan.fronts.scan_tail.Goals as goal
 
 pub returns-then-kept-bytes-clause-front : goal.returns-then-kept-bytes-clause-front

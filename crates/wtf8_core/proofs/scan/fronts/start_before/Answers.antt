@@ -1,5 +1,5 @@
 use Rattle.wtf8_core.proofs.Common.{◌-◌, arith}
-use Rattle.wtf8_core.proofs.lemmas.scan.Fronts.{no_front, by_pattern}
+use Rattle.wtf8_core.proofs.lemmas.scan.Windows.{no_front, by_pattern}
 use Rattle.wtf8_core.proofs.scan.fronts.start_before.Goals as goal
 
 pub returns-then-not-is_continuation-clause-front : goal.returns-then-not-is_continuation-clause-front

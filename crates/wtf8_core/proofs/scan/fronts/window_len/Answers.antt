@@ -1,5 +1,5 @@
 use Rattle.wtf8_core.proofs.Common.{arith}
-use Rattle.wtf8_core.proofs.lemmas.scan.Fronts.{copied, more}
+use Rattle.wtf8_core.proofs.lemmas.scan.Windows.{copied, more}
 use Rattle.wtf8_core.proofs.scan.fronts.window_len.Goals as goal
 
 pub returns-clause-kept : goal.returns-clause-kept

@@ -1,0 +1,5 @@
+pub mod AtPlaces
+pub mod FourBytes
+pub mod IllFormedParts
+pub mod Overlaps
+pub mod Seams

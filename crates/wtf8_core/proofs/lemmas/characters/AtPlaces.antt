@@ -1,0 +1,117 @@
+-- Whole characters: where the reader finds them, and what their places are.
+use Rattle.wtf8_core.proofs.Common.{◌≡◌, ℕ, ◌+◌, ◌-◌, ◌<◌, ◌≤◌, true, false, List, ◌∷◌, ◌++◌, length, take, drop, get_or, Option, Some, None, Result, Ok, Err, refl, sym, ap, ◌∙◌, subst, arith, length-append, take-append-drop, IsScalar, needed_continuations, is_surrogate, is_high, IsCodePoint, form, WholeCharacter, IsCharacterAt, first_item, items_behind, IsUtf8, IsUtf8-encode, take_at, drop_at, length-take-le, nat_tests, common_steps, low_scalar, EncodingError}
+use Rattle.wtf8_core.proofs.lemmas.reader.Reading.{items-ok, items-err}
+use Rattle.wtf8_core.proofs.lemmas.reader.Sound.{first_form}
+use Rattle.wtf8_core.proofs.lemmas.forms.Shapes.{form_ascii, form_bounds}
+use Rattle.wtf8_core.proofs.lemmas.forms.ByStd.{form_encode, form_same}
+use Rattle.wtf8_core.proofs.lemmas.reader.Complete.{item_of_form}
+
+-- no character begins the bytes
+abbrev pub NoChar : List ℕ → Type 0
+NoChar bytes = (c : ℕ) (rest : List ℕ) → IsScalar c → bytes ≡ form c ++ rest → ⊥
+
+-- scalars are code points, and no surrogates
+pub scalar_point : (c : ℕ) → IsScalar c → IsCodePoint c
+scalar_point c s = grind (arith, nat_tests, s)
+
+pub scalar_no_surrogate : (c : ℕ) → IsScalar c → is_surrogate c ≡ true → ⊥
+scalar_no_surrogate c s e = grind (arith, nat_tests, s)
+
+-- a code point that is no surrogate is a scalar
+pub is_scalar : (c : ℕ) → IsCodePoint c → is_surrogate c ≡ false → IsScalar c
+is_scalar c p e = grind (arith, nat_tests)
+
+-- a whole character has one to four bytes, and they are there
+pub character_fits : (s : List ℕ) (i j : ℕ) → WholeCharacter s i j → (i + 1 ≤ j) × (j ≤ i + 4) × (j ≤ length s)
+character_fits s i j w =
+    let b = form_bounds w.char in
+    let e = w.end in
+    let p = w.stands.place in
+    let l : length s ≡ length w.stands.before + (length (form w.char) + length w.stands.behind) = ap length w.stands.joined ∙ length-append w.stands.before (form w.char ++ w.stands.behind) ∙ ap (λ n. length w.stands.before + n) (length-append (form w.char) w.stands.behind) in
+    (omega arith, omega arith, omega arith)
+
+-- how many bytes a form of two or more has, by its first
+form_length : (c : ℕ) (rest : List ℕ) → IsCodePoint c → 0x80 ≤ get_or (form c ++ rest) 0 0 → length (form c) ≡ 1 + needed_continuations (get_or (form c ++ rest) 0 0)
+unfolding form
+form_length c rest p h = grind (arith, nat_tests)
+
+-- the character that begins bytes is their first item
+first_of_char : (b c : ℕ) (bs rest : List ℕ) → IsScalar c → b ∷ bs ≡ form c ++ rest → (r : Result ℕ EncodingError) → first_item false b bs ≡ r → r ≡ Ok c
+first_of_char b c bs rest s d r k =
+    by r k (ap (items_behind 0 false) d ∙ item_of_form 0 c rest (scalar_point c s) (λ h l. omega (arith, h.0)))
+  where
+    by : (r : Result ℕ EncodingError) → first_item false b bs ≡ r → items_behind 0 false (b ∷ bs) ≡ Ok c ∷ items_behind 0 (is_high c) rest → r ≡ Ok c
+    by (Ok a) k e = let h = items-ok false b a bs k in cc
+    by (Err f) k e = let h = items-err false b f bs k in cc
+
+-- a whole character at a place is one at the front of the bytes from there on
+pub whole_at : (s : List ℕ) (i c : ℕ) (rest : List ℕ) → i ≤ length s → IsScalar c → drop i s ≡ form c ++ rest → WholeCharacter s i (i + length (form c))
+whole_at s i c rest h k e = record {
+  char = c;
+  scalar = k;
+  stands = record { before = take i s; behind = rest; joined = sym (take-append-drop i s) ∙ ap (λ x. take i s ++ x) e; place = length-take-le i s h };
+  end = refl;
+}
+
+-- and the other way round
+pub begins_at : (s : List ℕ) (i j : ℕ) → (w : WholeCharacter s i j) → drop i s ≡ form w.char ++ w.stands.behind
+begins_at s i j w = ap (drop i) w.stands.joined ∙ drop_at w.stands.before (form w.char ++ w.stands.behind) i w.stands.place
+
+-- where no character begins none starts, at a place and at the front
+pub none_at : (s : List ℕ) (i : ℕ) → NoChar (drop i s) → (j : ℕ) → WholeCharacter s i j → ⊥
+none_at s i h j w = h w.char w.stands.behind w.scalar (begins_at s i j w)
+
+pub none_begins : (s : List ℕ) → ((j : ℕ) → WholeCharacter s 0 j → ⊥) → NoChar s
+none_begins s h c rest k e = h _ (whole_at s 0 c rest (omega arith) k e)
+
+-- what the reader finds at the front
+pub character_found : (bytes : List ℕ) (b c : ℕ) (bs : List ℕ) → bytes ≡ b ∷ bs → b < 256 → 0x80 ≤ b → first_item false b bs ≡ Ok c → is_surrogate c ≡ false
+    → WholeCharacter bytes 0 (0 + (1 + needed_continuations b))
+character_found bytes b c bs d u l e s =
+    let f = first_form b c bs u e in
+    let n : length (form c) ≡ 1 + needed_continuations b = subst (λ x. length (form c) ≡ 1 + needed_continuations x) (ap (λ x. get_or x 0 0) (sym f.2)) (form_length c f.0 f.1 (subst (λ x. 0x80 ≤ get_or x 0 0) f.2 l)) in
+    subst (λ n. WholeCharacter bytes 0 (0 + n)) n (whole_at bytes 0 c f.0 (omega arith) (is_scalar c f.1 s) (d ∙ f.2))
+
+-- an ASCII byte is a whole character
+pub ascii_found : (bytes : List ℕ) (b : ℕ) (bs : List ℕ) → bytes ≡ b ∷ bs → b < 0x80 → WholeCharacter bytes 0 (0 + 1)
+ascii_found bytes b bs d h =
+    let f = form_ascii b h in
+    subst (λ x. WholeCharacter bytes 0 (0 + length x)) f (whole_at bytes 0 b bs (omega arith) (low_scalar b (omega arith)) (d ∙ ap (λ x. x ++ bs) (sym f)))
+
+-- none starts at the end or past it, at a surrogate or at a fault
+pub none_in_none : (bytes : List ℕ) → length bytes ≡ 0 → (j : ℕ) → WholeCharacter bytes 0 j → ⊥
+none_in_none bytes h j w = let f = character_fits bytes 0 j w in omega arith
+
+pub none_at_surrogate : (bytes : List ℕ) (b c : ℕ) (bs : List ℕ) → bytes ≡ b ∷ bs → first_item false b bs ≡ Ok c → is_surrogate c ≡ true → (j : ℕ) → WholeCharacter bytes 0 j → ⊥
+none_at_surrogate bytes b c bs d e s = none_at bytes 0 (λ a rest k i. let o : Ok c ≡ Ok a = first_of_char b a bs rest k (sym d ∙ i) (Ok c) e in let q : a ≡ c = cc in scalar_no_surrogate c (subst IsScalar q k) s)
+
+pub none_at_fault : (bytes : List ℕ) (b : ℕ) (f : EncodingError) (bs : List ℕ) → bytes ≡ b ∷ bs → first_item false b bs ≡ Err f → (j : ℕ) → WholeCharacter bytes 0 j → ⊥
+none_at_fault bytes b f bs d e = none_at bytes 0 (λ a rest k i. let o : Err f ≡ Ok a = first_of_char b a bs rest k (sym d ∙ i) (Err f) e in cc)
+
+pub none_past : (s : List ℕ) (i : ℕ) → length s ≤ i → (j : ℕ) → WholeCharacter s i j → ⊥
+none_past s i h j w = let f = character_fits s i j w in omega arith
+
+-- as code has the bytes from a place on
+pub character_in_rest : (s : List ℕ) (i : ℕ) (r : Option ℕ) → i < length s → IsCharacterAt (take (length s - i) (drop i s)) 0 r → IsCharacterAt s i r
+character_in_rest s i r l h = by r (subst (λ x. IsCharacterAt x 0 r) rest h)
+  where
+    rest : take (length s - i) (drop i s) ≡ drop i s
+    rest = grind (arith, common_steps)
+
+    by : (r : Option ℕ) → IsCharacterAt (drop i s) 0 r → IsCharacterAt s i r
+    by None h = none_at s i (none_begins (drop i s) h)
+    by (Some n) h =
+        let e = h.end in
+        subst (λ m. WholeCharacter s i (i + m)) (omega arith) (whole_at s i h.char h.stands.behind (omega arith) h.scalar (begins_at (drop i s) 0 (0 + n) h))
+
+-- the character that starts at a place has one end
+pub same_end : (s : List ℕ) (i j k : ℕ) → WholeCharacter s i j → WholeCharacter s i k → j ≡ k
+same_end s i j k v w =
+    let f = form_same v.char w.char v.stands.behind w.stands.behind (sym (begins_at s i j v) ∙ begins_at s i k w) in
+    v.end ∙ ap (λ c. i + length (form c)) f.0 ∙ sym w.end
+
+-- the bytes of a whole character at the front are a text
+pub text_of_character : (s : List ℕ) (j : ℕ) → WholeCharacter s 0 j → IsUtf8 (take j s)
+text_of_character s j w =
+    let e : take j s ≡ form w.char = ap (take j) (begins_at s 0 j w) ∙ take_at (form w.char) w.stands.behind j (omega (arith, w.end)) in
+    subst IsUtf8 (sym (e ∙ form_encode w.char)) (IsUtf8-encode w.char w.scalar)

@@ -1,0 +1,112 @@
+-- Four bytes, and the character or the ill-formed part with which they begin.
+use Rattle.wtf8_core.proofs.Common.{◌≡◌, ℕ, ◌+◌, ◌<◌, ◌≤◌, List, ◌∷◌, ◌++◌, length, get_or, Some, true, false, sym, ap, ◌∙◌, subst, arith, refl, drop, [], if◌then◌else◌, cond-true, cond-false, nat_tests, get_or_append_left, IsScalar, is_in_range, utf8_error_len, second_byte_min, second_byte_max, IsContinuation, form, WholeCharacter, IsUtf8Fault}
+use Rattle.wtf8_core.proofs.lemmas.characters.AtPlaces.{whole_at}
+use Rattle.wtf8_core.proofs.lemmas.characters.Overlaps.{form_behind}
+use Rattle.wtf8_core.proofs.lemmas.forms.Shapes.{form_bounds}
+use Rattle.wtf8_core.proofs.lemmas.forms.Ranges.{in_range, in_range-true, in_range-false, not_in_range}
+use Rattle.wtf8_core.proofs.lemmas.texts.AreWtf8.{valid_none}
+use Rattle.wtf8_core.proofs.lemmas.texts.StdFaults.{First, Second, Filled, filled, least_continuation, lead_of, second_of, len_of_four, fault_is}
+
+-- how many bytes a form has, by its first
+pub past_ascii : (c : ℕ) → 0x80 ≤ get_or (form c) 0 0 → 0x80 ≤ c
+unfolding form
+past_ascii c h = grind (arith, nat_tests, h)
+
+two_or_more : (c : ℕ) → 0x80 ≤ c → 2 ≤ length (form c)
+unfolding form
+two_or_more c h = grind (arith, nat_tests, h)
+
+three_or_more : (c : ℕ) → IsScalar c → 0xE0 ≤ get_or (form c) 0 0 → 3 ≤ length (form c)
+unfolding form
+three_or_more c s h = grind (arith, nat_tests, s, h)
+
+four_or_more : (c : ℕ) → IsScalar c → 0xF0 ≤ get_or (form c) 0 0 → 4 ≤ length (form c)
+unfolding form
+four_or_more c s h = grind (arith, nat_tests, s, h)
+
+-- bytes by their first four
+pub four_first : (r : List ℕ) → 4 ≤ length r → r ≡ get_or r 0 0 ∷ get_or r 1 0 ∷ get_or r 2 0 ∷ get_or r 3 0 ∷ drop 4 r
+four_first [] h = absurd (omega (arith, h))
+four_first (b ∷ []) h = absurd (omega (arith, h))
+four_first (b ∷ x ∷ []) h = absurd (omega (arith, h))
+four_first (b ∷ x ∷ y ∷ []) h = absurd (omega (arith, h))
+four_first (b ∷ x ∷ y ∷ z ∷ t) h = refl
+
+-- how many continuations a lead takes
+two_filled : (b x : ℕ) → 0xC2 ≤ b → b < 0xE0 → b ∷ x ∷ [] ≡ Filled b x 0x80 0x80
+two_filled b x h l = grind (arith, nat_tests)
+
+three_filled : (b x y : ℕ) → 0xE0 ≤ b → b < 0xF0 → b ∷ x ∷ y ∷ [] ≡ Filled b x y 0x80
+three_filled b x y h l = grind (arith, nat_tests)
+
+four_filled : (b x y z : ℕ) → 0xF0 ≤ b → b ∷ x ∷ y ∷ z ∷ [] ≡ Filled b x y z
+four_filled b x y z h = grind (arith, nat_tests)
+
+-- any continuation stands behind the lead of two
+pub second_of_two : (b x : ℕ) → b < 0xE0 → IsContinuation x → is_in_range (second_byte_min b) (second_byte_max b) x ≡ true
+second_of_two b x l k = grind (arith, nat_tests, l, k)
+
+pub no_second_of_two : (b x : ℕ) → b < 0xE0 → (IsContinuation x → ⊥) → is_in_range (second_byte_min b) (second_byte_max b) x ≡ false
+no_second_of_two b x l n = grind (arith, nat_tests, l) ∙ not_in_range 0x80 0xBF x n
+
+module _ (r : List ℕ) (long : 4 ≤ length r) (high : 0x80 ≤ get_or r 0 0) where
+  -- what the first four bytes are where a character begins there
+  record IsBegun : Type 0 where
+    first : First (get_or r 0 0)
+    second : Second (get_or r 0 0) (get_or r 1 0)
+    third : 0xE0 ≤ get_or r 0 0 → IsContinuation (get_or r 2 0)
+    fourth : 0xF0 ≤ get_or r 0 0 → IsContinuation (get_or r 3 0)
+
+  begun : (c : ℕ) (rest : List ℕ) → IsScalar c → r ≡ form c ++ rest → IsBegun
+  begun c rest s e =
+      let at : (i : ℕ) → i < length (form c) → get_or r i 0 ≡ get_or (form c) i 0 = λ i h. ap (λ l. get_or l i 0) e ∙ get_or_append_left (form c) rest 0 i h in
+      let b_is = at 0 (form_bounds c).0 in
+      let past : 0x80 ≤ c = past_ascii c (subst (λ n. 0x80 ≤ n) b_is high) in
+      record {
+        first = subst First (sym b_is) (lead_of c s past);
+        second = subst (λ n. Second n (get_or r 1 0)) (sym b_is) (subst (Second (get_or (form c) 0 0)) (sym (at 1 (two_or_more c past))) (second_of c s past));
+        third = λ h. let l = three_or_more c s (subst (λ n. 0xE0 ≤ n) b_is h) in subst IsContinuation (sym (at 2 l)) (form_behind c 2 (omega arith) l);
+        fourth = λ h. let l = four_or_more c s (subst (λ n. 0xF0 ≤ n) b_is h) in subst IsContinuation (sym (at 3 l)) (form_behind c 3 (omega arith) l);
+      }
+
+  -- what std says of them
+  std_len : utf8_error_len r
+      ≡ (if is_in_range 0xC2 0xF4 (get_or r 0 0) then (if is_in_range (second_byte_min (get_or r 0 0)) (second_byte_max (get_or r 0 0)) (get_or r 1 0) then (if is_in_range 0x80 0xBF (get_or r 2 0) then Some 3 else Some 2) else Some 1) else Some 1)
+  std_len = ap utf8_error_len (four_first r long) ∙ len_of_four (get_or r 0 0) (get_or r 1 0) (get_or r 2 0) (get_or r 3 0) (drop 4 r)
+
+  -- where one of them is not so, the part is as long as that
+  fault : (k : ℕ) → (IsBegun → ⊥) → utf8_error_len r ≡ Some k → IsUtf8Fault r 0 (Some k)
+  fault k n e = fault_is r 0 (Some k) (valid_none r (omega (arith, long)) (λ c rest s w. n (begun c rest s w))) (sym e)
+
+  pub at_first : is_in_range 0xC2 0xF4 (get_or r 0 0) ≡ false → IsUtf8Fault r 0 (Some 1)
+  at_first f = fault 1 (λ w. in_range-false 0xC2 0xF4 (get_or r 0 0) f w.first) (std_len ∙ cond-false _ _ _ f)
+
+  module _ (f : is_in_range 0xC2 0xF4 (get_or r 0 0) ≡ true) where
+    pub at_second : is_in_range (second_byte_min (get_or r 0 0)) (second_byte_max (get_or r 0 0)) (get_or r 1 0) ≡ false → IsUtf8Fault r 0 (Some 1)
+    at_second g = fault 1 (λ w. in_range-false _ _ (get_or r 1 0) g w.second) (std_len ∙ cond-true _ _ _ f ∙ cond-false _ _ _ g)
+
+    module _ (g : is_in_range (second_byte_min (get_or r 0 0)) (second_byte_max (get_or r 0 0)) (get_or r 1 0) ≡ true) where
+      -- with as many continuations as the first needs they are a character
+      with_continuations : (y z : ℕ) → IsContinuation y → IsContinuation z → (front rest : List ℕ) → front ≡ Filled (get_or r 0 0) (get_or r 1 0) y z → r ≡ front ++ rest → WholeCharacter r 0 (0 + length front)
+      with_continuations y z h k front rest e is =
+          let w = filled (get_or r 0 0) (get_or r 1 0) y z (in_range-true 0xC2 0xF4 _ f) (in_range-true _ _ (get_or r 1 0) g) h k in
+          let form_is : form w.0 ≡ front = w.2 ∙ sym e in
+          subst (λ l. WholeCharacter r 0 (0 + length l)) form_is (whole_at r 0 w.0 rest (omega arith) w.1 (is ∙ ap (λ l. l ++ rest) (sym form_is)))
+
+      pub two_long : get_or r 0 0 < 0xE0 → WholeCharacter r 0 2
+      two_long l =
+          with_continuations 0x80 0x80 least_continuation least_continuation (get_or r 0 0 ∷ get_or r 1 0 ∷ []) (get_or r 2 0 ∷ get_or r 3 0 ∷ drop 4 r) (two_filled (get_or r 0 0) (get_or r 1 0) (in_range-true 0xC2 0xF4 _ f).0 l) (four_first r long)
+
+      pub three_long : 0xE0 ≤ get_or r 0 0 → get_or r 0 0 < 0xF0 → IsContinuation (get_or r 2 0) → WholeCharacter r 0 3
+      three_long h l y =
+          with_continuations (get_or r 2 0) 0x80 y least_continuation (get_or r 0 0 ∷ get_or r 1 0 ∷ get_or r 2 0 ∷ []) (get_or r 3 0 ∷ drop 4 r) (three_filled (get_or r 0 0) (get_or r 1 0) (get_or r 2 0) h l) (four_first r long)
+
+      pub four_long : 0xF0 ≤ get_or r 0 0 → IsContinuation (get_or r 2 0) → IsContinuation (get_or r 3 0) → WholeCharacter r 0 4
+      four_long h y z =
+          with_continuations (get_or r 2 0) (get_or r 3 0) y z (get_or r 0 0 ∷ get_or r 1 0 ∷ get_or r 2 0 ∷ get_or r 3 0 ∷ []) (drop 4 r) (four_filled (get_or r 0 0) (get_or r 1 0) (get_or r 2 0) (get_or r 3 0) h) (four_first r long)
+
+      pub at_third : 0xE0 ≤ get_or r 0 0 → (IsContinuation (get_or r 2 0) → ⊥) → IsUtf8Fault r 0 (Some 2)
+      at_third l n = fault 2 (λ w. n (w.third l)) (std_len ∙ cond-true _ _ _ f ∙ cond-true _ _ _ g ∙ cond-false _ _ _ (not_in_range 0x80 0xBF (get_or r 2 0) n))
+
+      pub at_fourth : 0xF0 ≤ get_or r 0 0 → IsContinuation (get_or r 2 0) → (IsContinuation (get_or r 3 0) → ⊥) → IsUtf8Fault r 0 (Some 3)
+      at_fourth l h n = fault 3 (λ w. n (w.fourth l)) (std_len ∙ cond-true _ _ _ f ∙ cond-true _ _ _ g ∙ cond-true _ _ _ (in_range 0x80 0xBF (get_or r 2 0) h))

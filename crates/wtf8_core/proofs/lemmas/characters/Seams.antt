@@ -1,0 +1,163 @@
+-- Bytes in whole characters and in none, and the places across which no whole character lies.
+use Rattle.wtf8_core.proofs.Common.{◌≡◌, ◌⊎◌, inl, inr, ⊎_elim, ℕ, zero, suc, ◌+◌, ◌-◌, ◌<◌, ◌≤◌, true, false, List, [], ◌∷◌, ◌++◌, length, drop, Result, Ok, Err, refl, sym, ap, ◌∙◌, subst, arith, length-append, append_assoc, and_parts, cases_lt, cases_eq, cases_Bool, drop-append_seam, scalar, IsScalar, AllByRecursion, flat_map, IsUtf8, all_scalars, IsByte, is_surrogate, form, WholeCharacter, IsCovered, IsSeam, first_item, EncodingError}
+use Rattle.wtf8_core.proofs.lemmas.forms.Shapes.{form_bounds, form_bytes}
+use Rattle.wtf8_core.proofs.lemmas.forms.ByStd.{forms_encode}
+use Rattle.wtf8_core.proofs.lemmas.characters.AtPlaces.{character_fits, same_end, whole_at, begins_at, none_at, none_begins, none_past, none_in_none, none_at_surrogate, none_at_fault, scalar_point, is_scalar}
+use Rattle.wtf8_core.proofs.lemmas.characters.Overlaps.{no_start_inside, in_rest}
+use Rattle.wtf8_core.proofs.lemmas.reader.Sound.{first_form}
+
+-- P holds of each place that xs has, from i on
+abbrev pub Over : (ℕ → Type 0) → ℕ → List ℕ → Type 0
+Over P i xs = (k : ℕ) → i ≤ k → k < i + length xs → P k
+
+-- no byte of xs, or each, lies in a whole character of s
+abbrev pub Bare : List ℕ → ℕ → List ℕ → Type 0
+Bare s i xs = Over (λ k. ¬ (IsCovered s k)) i xs
+
+abbrev pub Covered : List ℕ → ℕ → List ℕ → Type 0
+Covered s i xs = Over (IsCovered s) i xs
+
+-- of no place, of one more place in front, and of the places of two lists
+pub over_none : (P : ℕ → Type 0) (i : ℕ) → Over P i []
+over_none P i k low high = absurd (omega arith)
+
+pub over_first : (P : ℕ → Type 0) (i x : ℕ) (xs : List ℕ) → P i → Over P (i + 1) xs → Over P i (x ∷ xs)
+over_first P i x xs h more k low high = ⊎_elim (λ e. subst P (sym e) h) (λ ne. more k (omega arith) (omega arith)) (cases_eq k i)
+
+pub over_both : (P : ℕ → Type 0) (i : ℕ) (xs ys : List ℕ) → Over P i xs → Over P (i + length xs) ys → Over P i (xs ++ ys)
+over_both P i xs ys h more k low high = ⊎_elim (λ lt. h k low lt) (λ ge. more k ge (omega (arith, length-append xs ys))) (cases_lt k (i + length xs))
+
+-- none lies across the front
+pub seam_at_start : (s : List ℕ) → IsSeam s 0
+seam_at_start s a b w low high = omega arith
+
+-- past a whole character no other lies across
+pub seam_past : (s : List ℕ) (i j : ℕ) → IsSeam s i → WholeCharacter s i j → IsSeam s j
+seam_past s i j h w a b v low high =
+    let f = character_fits s i j w in
+    ⊎_elim
+    (λ e. let same = same_end s i j b w (subst (λ x. WholeCharacter s x b) e v) in omega arith)
+    (λ ne. ⊎_elim (λ lt. h a b v lt (omega arith)) (λ ge. no_start_inside s i j a b w v (omega arith) low) (cases_lt a i))
+    (cases_eq a i)
+
+-- bytes from a seam on at which none starts are bare, and end at a seam
+pub bare_run : (s : List ℕ) (i : ℕ) (xs : List ℕ) → IsSeam s i → ((a b : ℕ) → i ≤ a → a < i + length xs → WholeCharacter s a b → ⊥) → Bare s i xs × IsSeam s (i + length xs)
+bare_run s i xs h none = (
+  λ k low high c. let from = c.from in let below = c.below in ⊎_elim (λ lt. h c.start c.end c.whole lt (omega arith)) (λ ge. none c.start c.end ge (omega arith) c.whole) (cases_lt c.start i),
+  λ a b w low high. ⊎_elim (λ lt. h a b w lt (omega arith)) (λ ge. none a b ge low w) (cases_lt a i),
+)
+
+-- a whole character of a part of s is one of s
+pub whole_within : (s x m y : List ℕ) (a b : ℕ) → s ≡ x ++ (m ++ y) → WholeCharacter m a b → WholeCharacter s (length x + a) (length x + b)
+whole_within s x m y a b e w =
+    let p = w.stands.place in
+    let q = w.end in
+    record {
+      char = w.char;
+      scalar = w.scalar;
+      stands = record { before = x ++ w.stands.before; behind = w.stands.behind ++ y; joined = e ∙ ap (λ z. x ++ (z ++ y)) w.stands.joined ∙ simp append_assoc; place = omega (arith, length-append x w.stands.before) };
+      end = omega arith;
+    }
+
+pub covered_within : (s x m y : List ℕ) (k : ℕ) → s ≡ x ++ (m ++ y) → IsCovered m k → IsCovered s (length x + k)
+covered_within s x m y k e c =
+    let from = c.from in
+    let below = c.below in
+    record { start = length x + c.start; end = length x + c.end; whole = whole_within s x m y c.start c.end e c.whole; from = omega arith; below = omega arith }
+
+-- and behind a seam the bytes of s in whole characters are so in the rest
+pub covered_behind : (s x r : List ℕ) (k : ℕ) → s ≡ x ++ r → IsSeam s (length x) → length x ≤ k → IsCovered s k → IsCovered r (k - length x)
+covered_behind s x r k e h low c =
+    let from = c.from in
+    let below = c.below in
+    ⊎_elim
+    (λ lt. absurd (h c.start c.end c.whole lt (omega arith)))
+    (λ ge. record { start = c.start - length x; end = c.end - length x; whole = subst (λ y. WholeCharacter y (c.start - length x) (c.end - length x)) (ap (drop (length x)) e ∙ drop-append_seam x r) (in_rest s c.start c.end (length x) c.whole ge); from = omega arith; below = omega arith })
+    (cases_lt c.start (length x))
+
+-- the first byte of a form is below 256
+first_byte : (b : ℕ) (bs xs rest : List ℕ) → AllByRecursion IsByte xs → 0 < length xs → b ∷ bs ≡ xs ++ rest → IsByte b
+first_byte b bs [] rest h some e = absurd (omega arith)
+first_byte b bs (x ∷ xs) rest h some e = let q : x ≡ b = cc in subst IsByte q h.0
+
+-- a whole character starts at the front, or none does
+front_or_none : (s : List ℕ) → ((j : ℕ) × WholeCharacter s 0 j) ⊎ ((j : ℕ) → WholeCharacter s 0 j → ⊥)
+front_or_none [] = inr (none_in_none [] refl)
+front_or_none (b ∷ bs) =
+    ⊎_elim (λ lt. by lt (first_item false b bs) refl)
+    (λ ge. inr (λ j w. let f = first_byte b bs (form w.char) w.stands.behind (form_bytes w.char (scalar_point w.char w.scalar)) (form_bounds w.char).0 (begins_at (b ∷ bs) 0 j w) in omega arith))
+    (cases_lt b 256)
+  where
+    by : b < 256 → (r : Result ℕ EncodingError) → first_item false b bs ≡ r → ((j : ℕ) × WholeCharacter (b ∷ bs) 0 j) ⊎ ((j : ℕ) → WholeCharacter (b ∷ bs) 0 j → ⊥)
+    by lt (Ok c) e =
+        ⊎_elim (λ t. inr (none_at_surrogate (b ∷ bs) b c bs refl e t))
+        (λ f. let p = first_form b c bs lt e in inl (0 + length (form c), whole_at (b ∷ bs) 0 c p.0 (omega arith) (is_scalar c p.1 f) p.2))
+        (cases_Bool (is_surrogate c))
+    by lt (Err f) e = inr (none_at_fault (b ∷ bs) b f bs refl e)
+
+-- the same at a place
+start_or_none : (s : List ℕ) (i : ℕ) → ((j : ℕ) × WholeCharacter s i j) ⊎ ((j : ℕ) → WholeCharacter s i j → ⊥)
+start_or_none s i =
+    ⊎_elim
+    (λ past. inr (none_past s i (omega arith)))
+    (λ le. ⊎_elim (λ h. let w = h.1 in inl (i + length (form w.char), whole_at s i w.char w.stands.behind le w.scalar (begins_at (drop i s) 0 h.0 w))) (λ h. inr (none_at s i (none_begins (drop i s) h))) (front_or_none (drop i s)))
+    (cases_lt (length s) i)
+
+-- a byte lies in no whole character, or in one
+pub bare_or_covered : (s : List ℕ) (k : ℕ) → ¬ (IsCovered s k) ⊎ IsCovered s k
+bare_or_covered s k = ⊎_elim inr (λ h. inl (λ c. let f = character_fits s c.start c.end c.whole in let below = c.below in h c.start c.end c.whole c.from (omega arith) c.below)) (from_below 4)
+  where
+    -- one that starts less than n places before k lies around it, or none does
+    from_below : (n : ℕ) → IsCovered s k ⊎ ((a b : ℕ) → WholeCharacter s a b → a ≤ k → k < a + n → k < b → ⊥)
+    from_below zero = inr (λ a b w low high below. omega arith)
+    from_below (suc n) =
+        ⊎_elim inl
+        (λ h. ⊎_elim
+        (λ lt. inr (λ a b w low high below. h a b w low (omega arith) below))
+        (λ ge. ⊎_elim
+        (λ w. ⊎_elim
+        (λ below. inl (record { start = k - n; end = w.0; whole = w.1; from = omega arith; below = below }))
+        (λ past. inr (λ a b v low high below. ⊎_elim (λ e. let same = same_end s (k - n) b w.0 (subst (λ x. WholeCharacter s x b) e v) w.1 in omega arith) (λ ne. h a b v low (omega arith) below) (cases_eq a (k - n))))
+        (cases_lt k w.0))
+        (λ none. inr (λ a b v low high below. ⊎_elim (λ e. none b (subst (λ x. WholeCharacter s x b) e v)) (λ ne. h a b v low (omega arith) below) (cases_eq a (k - n))))
+        (start_or_none s (k - n)))
+        (cases_lt k n))
+        (from_below n)
+
+-- the bytes of code points
+abbrev pub Forms : List ℕ → List ℕ
+Forms cs = flat_map form cs
+
+-- what holds of the bytes of each code point behind a seam, which ends at a seam, holds of those of a list
+module _ (s : List ℕ) (P Q : ℕ → Type 0)
+    (one : (x r : List ℕ) (i c : ℕ) → s ≡ x ++ (form c ++ r) → length x ≡ i → Q c → IsSeam s i → Over P i (form c) × IsSeam s (i + length (form c))) where
+  pub forms_over : (x r : List ℕ) (i : ℕ) (cs : List ℕ) → s ≡ x ++ (Forms cs ++ r) → length x ≡ i → AllByRecursion Q cs → IsSeam s i → Over P i (Forms cs) × IsSeam s (i + length (Forms cs))
+  forms_over x r i [] e l h k = let z : i ≡ i + 0 = omega arith in (over_none P i, subst (IsSeam s) z k)
+  forms_over x r i (c ∷ cs) e l h k =
+      let f : s ≡ x ++ (form c ++ (Forms cs ++ r)) = e ∙ ap (λ y. x ++ y) (append_assoc (form c) (Forms cs) r) in
+      let first = one x (Forms cs ++ r) i c f l h.0 k in
+      let more = forms_over (x ++ form c) r (i + length (form c)) cs (f ∙ sym (append_assoc x (form c) (Forms cs ++ r))) (length-append x (form c) ∙ ap (λ n. n + length (form c)) l) h.1 first.1 in
+      let z : i + length (form c) + length (Forms cs) ≡ i + length (form c ++ Forms cs) = omega (arith, length-append (form c) (Forms cs)) in
+      (over_both P i (form c) (Forms cs) first.0 more.0, subst (IsSeam s) z more.1)
+
+-- the bytes of a scalar lie in a whole character
+pub scalar_covered : (s x r : List ℕ) (i c : ℕ) → s ≡ x ++ (form c ++ r) → length x ≡ i → IsScalar c → IsSeam s i → Covered s i (form c) × IsSeam s (i + length (form c))
+scalar_covered s x r i c e l h k =
+    let w : WholeCharacter s i (i + length (form c)) = record { char = c; scalar = h; stands = record { before = x; behind = r; joined = e; place = l }; end = refl } in
+    (λ j low high. record { start = i; end = i + length (form c); whole = w; from = low; below = high }, seam_past s i (i + length (form c)) k w)
+
+-- those of a text lie in whole characters, and a text behind a seam ends at one
+pub scalars_are : (cs : List ℕ) → all_scalars cs ≡ true → AllByRecursion IsScalar cs
+scalars_are [] e = tt
+scalars_are (c ∷ cs) e = let both = and_parts (scalar c) _ e in (both.0, scalars_are cs both.1)
+
+pub text_covered : (s x t r : List ℕ) → s ≡ x ++ (t ++ r) → IsUtf8 t → IsSeam s (length x) → Covered s (length x) t × IsSeam s (length x + length t)
+text_covered s x t r e u k =
+    let f : Forms u.0 ≡ t = forms_encode u.0 ∙ u.1.1 in
+    subst (λ y. Covered s (length x) y × IsSeam s (length x + length y)) f (forms_over s (IsCovered s) IsScalar (scalar_covered s) x r (length x) u.0 (e ∙ ap (λ y. x ++ (y ++ r)) (sym f)) refl (scalars_are u.0 u.1.0) k)
+
+-- and bare bytes at the front end at a seam
+pub seam_behind_bare : (s p : List ℕ) → Bare s 0 p → IsSeam s (length p)
+seam_behind_bare s p h a b w low high =
+    let f = character_fits s a b w in
+    h a (omega arith) (omega arith) (record { start = a; end = b; whole = w; from = omega arith; below = omega arith })

@@ -1,0 +1,4 @@
+pub mod Groups
+pub mod OneList
+pub mod PartUnits
+pub mod Runs

@@ -1,0 +1,10 @@
+pub mod Appending
+pub mod ByStd
+pub mod Cuts
+pub mod FirstForms
+pub mod LastForms
+pub mod Order
+pub mod Propositions
+pub mod Ranges
+pub mod Shapes
+pub mod WrittenInPlace

@@ -1,0 +1,62 @@
+-- The code point, and the units, with which a string ends; and forms at the start and the end of bytes.
+use Rattle.wtf8_core.proofs.Common.{◌⊎◌, ⊎_elim, ◌≡◌, ℕ, ◌-◌, ◌<◌, List, [], ◌∷◌, ◌++◌, length, take, drop, refl, sym, ap, ◌∙◌, arith, append-nil, length-append, take-append-drop, drop-append_seam, take-append_seam, flat_map-append, flat_map, IsHigh, form, wide, last_behind, units}
+use Rattle.wtf8_core.proofs.lemmas.forms.Shapes.{form_bounds}
+use Rattle.wtf8_core.proofs.lemmas.forms.ByStd.{form_same}
+use Rattle.wtf8_core.proofs.lemmas.forms.Cuts.{bytes_found}
+
+-- the last bytes of a list
+pub at_end : (s x y : List ℕ) → s ≡ x ++ y → drop (length s - length y) s ≡ y
+at_end s x y e =
+    let h : length s - length y ≡ length x = omega (arith, ap length e, length-append x y) in
+    ap (λ k. drop k s) h ∙ ap (drop (length x)) e ∙ drop-append_seam x y
+
+-- what three or four last bytes are, where bytes end with a form
+pub form_at_end : (s last front : List ℕ) (n c : ℕ) → last ≡ drop (length s - n) s → length (form c) ≡ n → s ≡ front ++ form c → last ≡ form c
+form_at_end s last front n c e l f = e ∙ ap (λ k. drop (length s - k) s) (sym l) ∙ at_end s front (form c) f
+
+-- and what the three first bytes are, where bytes begin with a form
+pub form_at_front : (s first rest : List ℕ) (c : ℕ) → first ≡ take 3 s → length (form c) ≡ 3 → s ≡ form c ++ rest → first ≡ form c
+form_at_front s first rest c e l f = e ∙ ap (λ k. take k s) (sym l) ∙ ap (take (length (form c))) f ∙ take-append_seam (form c) rest
+
+-- both parts of a list joined
+pub split_off : (s first rest x : List ℕ) → first ≡ take 3 s → rest ≡ drop 3 s → first ≡ x → s ≡ x ++ rest
+split_off s first rest x e f g = sym (take-append-drop 3 s) ∙ ap (λ z. z ++ drop 3 s) (sym e ∙ g) ∙ ap (λ z. x ++ z) (sym f)
+
+-- bytes shorter than a form don't begin or end with it
+pub too_short : (s x y : List ℕ) (n : ℕ) → length s < n → (length x ≡ n) ⊎ (length y ≡ n) → s ≡ x ++ y → ⊥
+too_short s x y n h l e = ⊎_elim (λ k. omega (arith, ap length e, length-append x y)) (λ k. omega (arith, ap length e, length-append x y)) l
+
+-- one form is that of one code point
+pub same_form : (c d : ℕ) → form c ≡ form d → c ≡ d
+same_form c d e = (form_same c d [] [] (ap (λ z. z ++ []) e)).0
+
+-- of two forms of one length at one end both are one
+pub same_first : (s rest other : List ℕ) (c d : ℕ) → s ≡ form c ++ rest → s ≡ form d ++ other → c ≡ d
+same_first s rest other c d e f = (form_same c d rest other (sym e ∙ f)).0
+
+pub same_last : (s front other : List ℕ) (c d : ℕ) → s ≡ front ++ form c → s ≡ other ++ form d → length (form c) ≡ length (form d) → c ≡ d
+same_last s front other c d e f l = same_form c d (sym (at_end s front (form c) e) ∙ ap (λ k. drop (length s - k) s) l ∙ at_end s other (form d) f)
+
+-- no code points have no bytes
+pub no_points : (ds : List ℕ) → flat_map form ds ≡ [] → ds ≡ []
+no_points [] e = refl
+no_points (d ∷ ds) e = let b = form_bounds d in absurd (omega (arith, ap length e, length-append (form d) (flat_map form ds)))
+
+-- where bytes end with a form, the code points end with its code point
+pub last_point : (cs x : List ℕ) (c : ℕ) → flat_map form cs ≡ x ++ form c → (ds : List ℕ) × (cs ≡ ds ++ c ∷ []) × (flat_map form ds ≡ x)
+last_point cs x c e =
+    let f = bytes_found cs x [] (c ∷ []) (omega arith) (e ∙ ap (λ z. x ++ z) (sym (append-nil (form c)) ∙ sym (append-nil (form c ++ [])))) in
+    (f.front, f.cut ∙ ap (λ z. f.front ++ (c ∷ z)) (no_points f.back f.back_is), f.front_is)
+
+-- a last code point that is a high surrogate
+pub split_at_last : (u : ℕ) (cs : List ℕ) → (IsHigh u → ⊥) → IsHigh (last_behind u cs) → (ds : List ℕ) × (cs ≡ ds ++ last_behind u cs ∷ [])
+split_at_last u [] n h = absurd (n h)
+split_at_last u (c ∷ []) n h = ([], refl)
+split_at_last u (c ∷ d ∷ cs) n h = let r = split_at_last 0 (d ∷ cs) (λ k. omega (arith, k.0)) h in (c ∷ r.0, ap (λ l. c ∷ l) r.1)
+
+-- the bytes and the units of code points and one more
+pub forms_last : (ds : List ℕ) (c : ℕ) → flat_map form (ds ++ c ∷ []) ≡ flat_map form ds ++ form c
+forms_last ds c = flat_map-append form ds (c ∷ []) ∙ ap (λ z. flat_map form ds ++ z) (append-nil (form c))
+
+pub units_last : (ds : List ℕ) (c : ℕ) → units (ds ++ c ∷ []) ≡ units ds ++ wide c
+units_last ds c = flat_map-append wide ds (c ∷ []) ∙ ap (λ z. units ds ++ z) (append-nil (wide c))

@@ -1,0 +1,81 @@
+-- The lossy reading of bytes is the forms of their items, with FFFD for each fault.
+use Rattle.wtf8_core.proofs.Common.{◌≡◌, ℕ, suc, List, [], ◌∷◌, ◌++◌, map, length, Result, Err, refl, sym, ap, ◌∙◌, subst, arith, flat_map-append, append-nil, All, flat_map, IsByte, form, Spells, IsWtf8, IsFirstFault, AreItems, replacement, EncodingError}
+use Rattle.wtf8_core.specs.Items.AreItems.{Whole, Faulty}
+use Rattle.wtf8_core.specs.LossyReading.{IsLossyReading, lossy_code_point, lossy_forms}
+use Rattle.wtf8_core.specs.LossyReading.IsLossyReading.{formed, replaced}
+use Rattle.wtf8_core.proofs.lemmas.reader.Complete.{one_list_of_items}
+use Rattle.wtf8_core.proofs.lemmas.reader.FirstErr.{oks}
+use Rattle.wtf8_core.proofs.lemmas.reader.Sound.{some_items}
+use Rattle.wtf8_core.proofs.lemmas.forms.Appending.{spells_one, spells_joined}
+use Rattle.wtf8_core.proofs.lemmas.units.OneToOne.{may_precede}
+
+abbrev Items : Type 0
+Items = List (Result ℕ EncodingError)
+
+-- the form of FFFD
+replacement_is : form 0xFFFD ≡ replacement
+unfolding form
+replacement_is = refl
+
+-- the code points that stand for items
+points_of_oks : (cs : List ℕ) (items : Items) → map lossy_code_point (oks cs ++ items) ≡ cs ++ map lossy_code_point items
+points_of_oks [] items = refl
+points_of_oks (c ∷ cs) items = ap (λ l. c ∷ l) (points_of_oks cs items)
+
+whole_points : (cs : List ℕ) → map lossy_code_point (oks cs) ≡ cs
+whole_points cs = ap (map lossy_code_point) (sym (append-nil (oks cs))) ∙ points_of_oks cs [] ∙ append-nil cs
+
+-- the forms of items that are all Ok, and of those up to a fault and behind it
+whole_forms : (b cs : List ℕ) → Spells b cs → lossy_forms (oks cs) ≡ b
+whole_forms b cs s = ap (flat_map form) (whole_points cs) ∙ sym s.joined
+
+faulty_forms : (b cs : List ℕ) (fault : EncodingError) (later : Items) → (f : IsFirstFault b cs fault) → lossy_forms (oks cs ++ Err fault ∷ later) ≡ f.before ++ (replacement ++ lossy_forms later)
+faulty_forms b cs fault later f =
+    ap (flat_map form) (points_of_oks cs (Err fault ∷ later))
+    ∙ flat_map-append form cs (0xFFFD ∷ map lossy_code_point later)
+    ∙ ap (λ x. x ++ (form 0xFFFD ++ lossy_forms later)) (sym f.spelled.joined)
+    ∙ ap (λ x. f.before ++ (x ++ lossy_forms later)) replacement_is
+
+-- the forms of the items are the reading
+pub reading_of_items : (b : List ℕ) (items : List (Result ℕ EncodingError)) → AreItems b items → IsLossyReading b (lossy_forms items)
+reading_of_items b items (Whole r) = subst (IsLossyReading b) (sym (ap lossy_forms r.are ∙ whole_forms b r.code_points r.spelled)) (formed (r.code_points, r.spelled))
+reading_of_items b items (Faulty {rest = rest} {later = later} r l) =
+    subst (IsLossyReading b) (sym (ap lossy_forms r.are ∙ faulty_forms b r.code_points r.fault later r.first))
+    (replaced r.first (subst (λ x. IsLossyReading x (lossy_forms later)) (sym r.behind) (reading_of_items rest later l)))
+
+-- and each reading is that of the items
+record OfItems (b reading : List ℕ) : Type 0 where
+  items : Items
+  are : AreItems b items
+  is : reading ≡ lossy_forms items
+
+items_of_reading : (b reading : List ℕ) → IsLossyReading b reading → OfItems b reading
+items_of_reading b reading (formed w) = record { items = oks w.0; are = Whole (record { code_points = w.0; spelled = w.1; are = refl }); is = sym (whole_forms b w.0 w.1) }
+items_of_reading b reading (replaced {cs = cs} {reading = behind} {fault = fault} f l) =
+    let w = items_of_reading f.begins.rest behind l in
+    record {
+      items = oks cs ++ Err fault ∷ w.items;
+      are = Faulty {rest = f.begins.rest} {later = w.items} (record { code_points = cs; fault = fault; first = f; behind = refl; are = refl }) w.are;
+      is = ap (λ x. f.before ++ (replacement ++ x)) w.is ∙ sym (faulty_forms b cs fault w.items f);
+    }
+
+-- so bytes have one reading
+pub one_reading : (b reading other : List ℕ) → IsLossyReading b reading → IsLossyReading b other → reading ≡ other
+one_reading b reading other r s =
+    let w = items_of_reading b reading r in
+    let v = items_of_reading b other s in
+    w.is ∙ ap lossy_forms (one_list_of_items b w.items v.items w.are v.are) ∙ sym v.is
+
+pub some_reading : (b : List ℕ) → All IsByte b → (reading : List ℕ) × IsLossyReading b reading
+some_reading b a =
+    let w = some_items (suc (length b)) b (omega arith) a in
+    (lossy_forms w.0, reading_of_items b w.0 w.1)
+
+-- FFFD makes no pair, so the reading is WTF-8
+pub reading_wtf8 : (b reading : List ℕ) → IsLossyReading b reading → IsWtf8 reading
+reading_wtf8 b reading (formed w) = w
+reading_wtf8 b reading (replaced {cs = cs} {reading = behind} f l) =
+    let w = reading_wtf8 f.begins.rest behind l in
+    let one : Spells replacement (0xFFFD ∷ []) = subst (λ x. Spells x (0xFFFD ∷ [])) replacement_is (spells_one 0xFFFD (omega arith)) in
+    let more = spells_joined replacement behind (0xFFFD ∷ []) w.0 one w.1 (may_precede 0xFFFD w.0 (λ h. omega (arith, h.1))) in
+    (cs ++ 0xFFFD ∷ w.0, spells_joined f.before (replacement ++ behind) cs (0xFFFD ∷ w.0) f.spelled more (λ h l. omega (arith, l.1)))

@@ -1,0 +1,149 @@
+-- Any bytes are forms up to their end or a fault, so the reader's items are those of the definitions.
+use Rattle.wtf8_core.proofs.Common.{◌≡◌, ◌⊎◌, inl, inr, ⊎_elim, ℕ, zero, suc, ◌+◌, ◌<◌, ◌≤◌, false, List, [], ◌∷◌, ◌++◌, length, drop, map, Result, Ok, Err, refl, sym, ap, ◌∙◌, subst, arith, append_assoc, length-append, Fits, w8, get_or, drop-append_seam, cases_lt, append-nil, All-drop, All-from_get_or, All, AllByRecursion, flat_map, IsByte, needed_continuations, IsHigh, IsLow, is_high, IsCodePoint, form, IsPairedFree, last_behind, IsWtf8, IsBegun, IsShape, shape_value, IsRefused, BeginsFault, IsFirstFault, AreItems, least_value, behind_item, first_item, items_behind, items_after, EncodingError, Byte, CodePoint, End, Utf8}
+use Rattle.wtf8_core.specs.Items.AreItems.{Whole, Faulty}
+use Rattle.wtf8_core.proofs.lemmas.forms.Ranges.{range_cases}
+use Rattle.wtf8_core.proofs.lemmas.forms.Shapes.{form_ascii, form_bounds, shape_is_form, no_form}
+use Rattle.wtf8_core.proofs.lemmas.reader.Continuations.{Stops, split}
+use Rattle.wtf8_core.proofs.lemmas.reader.Continuations.Stops.{whole, ends, breaks}
+use Rattle.wtf8_core.proofs.lemmas.reader.Reading.{items-ok}
+use Rattle.wtf8_core.proofs.lemmas.reader.Complete.{behind_form, item_of_form, items_of_fault, items_if}
+
+-- behind the code point p the bytes begin with a form
+pub record BeginsForm (p : ℕ) (bs : List ℕ) : Type 0 where
+  pub c : ℕ
+  pub rest : List ℕ
+  pub code_point : IsCodePoint c
+  pub free : IsHigh p → IsLow c → ⊥
+  pub is : bs ≡ form c ++ rest
+
+-- with a fault
+abbrev SomeFault : ℕ → List ℕ → Type 0
+SomeFault p bs = (f : EncodingError) × BeginsFault p bs f
+
+-- a shape is a form or a fault
+of_shape : (p b : ℕ) (ks rest : List ℕ) → IsShape b ks → BeginsForm p (b ∷ ks ++ rest) ⊎ SomeFault p (b ∷ ks ++ rest)
+of_shape p b ks rest s =
+    ⊎_elim (λ low. bad (inl (no_form b ks s (inl low))))
+    (λ least. ⊎_elim (λ high. bad (inl (no_form b ks s (inr high))))
+    (λ most. let f = shape_is_form b ks s least in
+    let low : IsLow v ⊎ (IsLow v → ⊥) = range_cases _ _ v in
+    let high : IsHigh p ⊎ (IsHigh p → ⊥) = range_cases _ _ p in
+    let good : (IsHigh p → IsLow v → ⊥) → BeginsForm p (b ∷ ks ++ rest) = λ free. record { c = v; rest = rest; code_point = most; free = free; is = ap (λ l. l ++ rest) (sym f) } in
+    ⊎_elim (λ h. ⊎_elim (λ l. bad (inr (f, l, h))) (λ l. inl (good (λ _. l))) low) (λ h. inl (good (λ k _. h k))) high)
+    (cases_lt 0x10_FFFF v))
+    (cases_lt v (least_value (needed_continuations b)))
+  where
+    v : ℕ
+    v = shape_value b ks
+
+    bad : ((c : ℕ) → IsCodePoint c → ¬ (form c ≡ b ∷ ks)) ⊎ ((form v ≡ b ∷ ks) × IsLow v × IsHigh p) → BeginsForm p (b ∷ ks ++ rest) ⊎ SomeFault p (b ∷ ks ++ rest)
+    bad w = inr (CodePoint v, record { refused = b ∷ ks; rest = rest; is = refl; refusal = record { lead = b; behind = ks; is = refl; shape = s; value_is = refl; bad = w } })
+
+-- what stands behind a lead
+of_lead : (p b : ℕ) (ks rest : List ℕ) → IsBegun b ks → Stops (needed_continuations b) ks rest → BeginsForm p (b ∷ ks ++ rest) ⊎ SomeFault p (b ∷ ks ++ rest)
+of_lead p b ks rest g (whole e) = of_shape p b ks rest (record { begun = g; whole = e })
+of_lead p b ks rest g (ends h) = inr (End, record { refused = b ∷ ks; rest = []; is = refl; refusal = (record { lead = b; behind = ks; is = refl; begun = g; short = h }, refl) })
+of_lead p b ks rest g (breaks x t h k) =
+    inr (Byte x, record { refused = b ∷ ks; rest = x ∷ t; is = refl; refusal = inr (record { begun = record { lead = b; behind = ks; is = refl; begun = g; short = h }; after = t; next = refl; breaks = k }) })
+
+-- any byte begins a form or a fault
+pub begins : (p b : ℕ) (bs : List ℕ) → IsByte b → BeginsForm p (b ∷ bs) ⊎ SomeFault p (b ∷ bs)
+begins p b bs u =
+    ⊎_elim (λ h. inl (record { c = b; rest = bs; code_point = omega arith; free = λ i j. omega (arith, j.0); is = ap (λ l. l ++ bs) (sym (form_ascii b h)) }))
+    (λ l. ⊎_elim (λ h. inr (Byte b, record { refused = b ∷ []; rest = bs; is = refl; refusal = inl (record { is = refl; stray = (l, omega arith) }) }))
+    (λ m. let s = split (needed_continuations b) bs in
+    subst (λ x. BeginsForm p (b ∷ x) ⊎ SomeFault p (b ∷ x)) (sym s.is) (of_lead p b s.behind s.rest (record { lead_is = (m, omega arith); continued = s.continued }) s.stops))
+    (cases_lt b 0xC2))
+    (cases_lt b 0x80)
+
+-- forms behind the code point p, and where they stop
+record Run (p : ℕ) (bs : List ℕ) : Type 0 where
+  cs : List ℕ
+  from : List ℕ
+  points : AllByRecursion IsCodePoint cs
+  free : IsPairedFree (p ∷ cs)
+  joined : bs ≡ flat_map form cs ++ from
+  stop : (from ≡ []) ⊎ SomeFault (last_behind p cs) from
+
+-- one more form in front
+one_more : (p : ℕ) (bs : List ℕ) → (i : BeginsForm p bs) → Run i.c i.rest → Run p bs
+one_more p bs i r = record {
+  cs = i.c ∷ r.cs;
+  from = r.from;
+  points = (i.code_point, r.points);
+  free = (i.free, r.free);
+  joined = i.is ∙ ap (λ x. form i.c ++ x) r.joined ∙ sym (append_assoc (form i.c) (flat_map form r.cs) r.from);
+  stop = r.stop;
+}
+
+-- any bytes are a run
+run : (n p : ℕ) (bs : List ℕ) → length bs ≤ n → All IsByte bs → Run p bs
+run n p [] h a = record { cs = []; from = []; points = tt; free = (tt, tt); joined = refl; stop = inl refl }
+run zero p (b ∷ bs) h a = absurd (omega arith)
+run (suc n) p (b ∷ bs) h a = ⊎_elim (more (λ q r. run n q r)) (λ f. record { cs = []; from = b ∷ bs; points = tt; free = (tt, tt); joined = refl; stop = inr f }) (begins p b bs (a 0 0 (omega arith)))
+  where
+    more : ((q : ℕ) (rest : List ℕ) → length rest ≤ n → All IsByte rest → Run q rest) → BeginsForm p (b ∷ bs) → Run p (b ∷ bs)
+    more go i =
+        let l = form_bounds i.c in
+        let e : length (b ∷ bs) ≡ length (form i.c) + length i.rest = ap length i.is ∙ length-append (form i.c) i.rest in
+        one_more p (b ∷ bs) i (go i.c i.rest (omega arith) (subst (All IsByte) (ap (drop (length (form i.c))) i.is ∙ drop-append_seam (form i.c) i.rest) (All-drop IsByte (length (form i.c)) (b ∷ bs) a)))
+
+-- bytes are WTF-8 or have a first fault
+pub either : (bs : List ℕ) → All IsByte bs → IsWtf8 bs ⊎ ((cs : List ℕ) × (f : EncodingError) × IsFirstFault bs cs f)
+either bs a =
+    let r = run (length bs) 0 bs (omega arith) a in
+    ⊎_elim (λ e. inl (r.cs, record { code_points = r.points; paired_free = r.free.1; joined = r.joined ∙ ap (λ x. flat_map form r.cs ++ x) e ∙ append-nil (flat_map form r.cs) }))
+    (λ w. inr (r.cs, w.0, record { before = flat_map form r.cs; from = r.from; joined = r.joined; spelled = record { code_points = r.points; paired_free = r.free.1; joined = refl }; begins = w.1 }))
+    r.stop
+
+-- what is refused has a byte
+pub refused_some : (last : ℕ) (refused rest : List ℕ) (f : EncodingError) → IsRefused last refused rest f → 0 < length refused
+refused_some last refused rest (Byte x) (inl s) = let e = ap length s.is in omega arith
+refused_some last refused rest (Byte x) (inr s) = let e = ap length s.begun.is in omega arith
+refused_some last refused rest End s = let e = ap length s.0.is in omega arith
+refused_some last refused rest (CodePoint value) s = let e = ap length s.is in omega arith
+refused_some last refused rest (Utf8 i j) s = absurd s
+
+-- and so what follows it is shorter than the bytes, and bytes itself
+pub behind_fault : (bs cs : List ℕ) (f : EncodingError) → (s : IsFirstFault bs cs f) → (length s.begins.rest < length bs) × (All IsByte bs → All IsByte s.begins.rest)
+behind_fault bs cs f s =
+    let front = s.before ++ s.begins.refused in
+    let e : bs ≡ front ++ s.begins.rest = s.joined ∙ ap (λ x. s.before ++ x) s.begins.is ∙ sym (append_assoc s.before s.begins.refused s.begins.rest) in
+    let l = ap length e ∙ length-append front s.begins.rest in
+    let m = length-append s.before s.begins.refused in
+    let n = refused_some _ _ _ f s.begins.refusal in
+    (omega arith, λ a. subst (All IsByte) (ap (drop (length front)) e ∙ drop-append_seam front s.begins.rest) (All-drop IsByte (length front) bs a))
+
+-- some list of items is that of the bytes, which are fewer than n
+pub some_items : (n : ℕ) (bs : List ℕ) → length bs < n → All IsByte bs → (items : List (Result ℕ EncodingError)) × AreItems bs items
+some_items zero bs h a = absurd (omega (arith, h))
+some_items (suc n) bs h a =
+    ⊎_elim (λ w. (map Ok w.0, Whole (record { code_points = w.0; spelled = w.1; are = refl })))
+    (λ w. let q = behind_fault bs w.0 w.1 w.2 in
+    let later = some_items n w.2.begins.rest (omega (arith, h, q.0)) (q.1 a) in
+    (map Ok w.0 ++ Err w.1 ∷ later.0, Faulty {rest = w.2.begins.rest} {later = later.0} (record { code_points = w.0; fault = w.1; first = w.2; behind = refl; are = refl }) later.1))
+    (either bs a)
+
+-- the reader's items are those of the definitions
+pub items_of_bytes : (bs : List ℕ) → All IsByte bs → AreItems bs (items_after false bs)
+items_of_bytes bs a =
+    let w = some_items (suc (length bs)) bs (omega arith) a in
+    subst (AreItems bs) (sym (items_if bs w.0 w.1)) w.1
+
+pub items_sound : (bs : List ℕ) → ((i : ℕ) → Fits w8 (get_or bs i 0)) → AreItems bs (items_after false bs)
+items_sound bs h = items_of_bytes bs (All-from_get_or IsByte bs 0 (λ i _. omega (arith, h i)))
+
+-- behind the code point p a code point is read: its form stands there
+pub first_form_behind : (p b c : ℕ) (bs : List ℕ) → IsByte b → first_item (is_high p) b bs ≡ Ok c → (i : BeginsForm p (b ∷ bs)) × (i.c ≡ c) × (i.rest ≡ drop (behind_item b bs) bs)
+first_form_behind p b c bs u e = ⊎_elim
+    (λ i. let q : Ok c ∷ items_behind (behind_item b bs) (is_high c) bs ≡ Ok i.c ∷ items_behind 0 (is_high i.c) i.rest = sym (items-ok (is_high p) b c bs e) ∙ ap (items_behind 0 (is_high p)) i.is ∙ item_of_form p i.c i.rest i.code_point i.free in
+    let same : i.c ≡ c = cc in
+    (i, same, sym (behind_form i.c i.rest i.code_point b bs i.is)))
+    (λ f. let q : Ok c ∷ items_behind (behind_item b bs) (is_high c) bs ≡ Err f.0 ∷ items_behind 0 false f.1.rest = sym (items-ok (is_high p) b c bs e) ∙ items_of_fault p (b ∷ bs) f.0 f.1 in cc)
+    (begins p b bs u)
+
+-- so at the front
+pub first_form : (b c : ℕ) (bs : List ℕ) → IsByte b → first_item false b bs ≡ Ok c → (rest : List ℕ) × IsCodePoint c × (b ∷ bs ≡ form c ++ rest)
+first_form b c bs u e =
+    let w = first_form_behind 0 b c bs u e in
+    (w.0.rest, subst IsCodePoint w.1 w.0.code_point, w.0.is ∙ ap (λ x. form x ++ w.0.rest) w.1)
