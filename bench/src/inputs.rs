@@ -122,6 +122,27 @@ fn emoji(random: &mut Random, len: usize) -> Vec<u8> {
     letters(random, len, (0x1F600, 0x50), 1, 3)
 }
 
+fn arabic(random: &mut Random, len: usize) -> Vec<u8> {
+    letters(random, len, (0x627, 36), 3, 9)
+}
+
+/// Paths of ASCII names, some with a dash, quotation marks or an apostrophe of general punctuation.
+fn quoted(random: &mut Random, len: usize) -> Vec<u8> {
+    let mut text = String::new();
+    while text.len() < len {
+        text.push('/');
+        text.push_str(random.pick(&WORDS));
+        let word = random.pick(&WORDS);
+        match random.below(8) {
+            0 => text.push_str(&format!(" \u{2013} {word}")),
+            1 => text.push_str(&format!(" \u{201C}{word}\u{201D}")),
+            2 => text.push_str("\u{2019}s"),
+            _ => {}
+        }
+    }
+    cut(text, len)
+}
+
 /// One of one to four bytes: half of them ASCII, a quarter of two bytes.
 fn any_char(random: &mut Random) -> char {
     match random.below(20) {
@@ -182,6 +203,21 @@ pub fn strings() -> Vec<Long> {
         all.extend(kinds.iter().map(|(name, make)| named(name, mib, make(&mut random, mib << 20))));
     }
     all
+}
+
+/// Texts of 1 MiB without anything to escape.
+pub fn texts() -> Vec<Long> {
+    let kinds: [(&str, fn(&mut Random, usize) -> Vec<u8>); 7] = [
+        ("ASCII", ascii),
+        ("mixed", mixed),
+        ("Cyrillic", cyrillic),
+        ("CJK", cjk),
+        ("emoji", emoji),
+        ("Arabic", arabic),
+        ("quotation marks", quoted),
+    ];
+    let mut random = Random(11);
+    kinds.map(|(name, make)| named(name, 1, make(&mut random, 1 << 20))).into()
 }
 
 /// Strings that only Unix has: ASCII paths with an FF once in so many bytes, and random bytes.

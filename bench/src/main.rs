@@ -3,11 +3,13 @@
 mod chunks;
 mod clock;
 mod conversions;
+mod escapes;
 mod inputs;
 mod joins;
 mod ours;
 mod searches;
 mod splits;
+mod symbols;
 mod table;
 mod theirs;
 
@@ -17,5 +19,7 @@ fn main() {
     searches::time(&mut bench);
     splits::time(&mut bench);
     chunks::time(&mut bench);
+    symbols::time(&mut bench);
     joins::time(&mut bench);
+    escapes::time(&mut bench);
 }

@@ -15,6 +15,8 @@ mod exports {
         pub fn port_win_read_lossy(bytes: *const u8, len: usize) -> usize;
         pub fn port_wasm_read_lossy(bytes: *const u8, len: usize) -> usize;
         pub fn port_chunks(bytes: *const u8, len: usize) -> usize;
+        pub fn port_symbols(bytes: *const u8, len: usize) -> u64;
+        pub fn port_split_first_char(bytes: *const u8, len: usize) -> u32;
         pub fn port_find(bytes: *const u8, len: usize, pattern: *const u8, pattern_len: usize) -> usize;
         pub fn port_rfind(bytes: *const u8, len: usize, pattern: *const u8, pattern_len: usize) -> usize;
         pub fn port_split_once(bytes: *const u8, len: usize, pattern: *const u8, pattern_len: usize) -> usize;
@@ -26,6 +28,10 @@ mod exports {
         pub fn port_push(part: *const u8, len: usize, count: usize) -> usize;
         pub fn port_repeat(bytes: *const u8, len: usize, count: usize) -> usize;
         pub fn port_starts_with_os(bytes: *const u8, len: usize, front: *const u8, front_len: usize) -> bool;
+        pub fn port_escape(bytes: *const u8, len: usize) -> usize;
+        pub fn port_escape_line(bytes: *const u8, len: usize) -> usize;
+        pub fn port_unescape(text: *const u8, len: usize) -> usize;
+        pub fn port_unescape_line(text: *const u8, len: usize) -> usize;
         pub fn port_ends_with(bytes: *const u8, len: usize, pattern: *const u8, pattern_len: usize) -> bool;
     }
 }
@@ -116,4 +122,30 @@ pub fn starts_with_os(bytes: &[u8], front: &[u8]) -> bool {
 
 pub fn chunks(bytes: &[u8]) -> usize {
     unsafe { exports::port_chunks(bytes.as_ptr(), bytes.len()) }
+}
+
+pub fn symbols(bytes: &[u8]) -> u64 {
+    unsafe { exports::port_symbols(bytes.as_ptr(), bytes.len()) }
+}
+
+pub fn split_first_char(bytes: &[u8]) -> u32 {
+    unsafe { exports::port_split_first_char(bytes.as_ptr(), bytes.len()) }
+}
+
+pub fn escape(bytes: &[u8]) -> usize {
+    unsafe { exports::port_escape(bytes.as_ptr(), bytes.len()) }
+}
+
+pub fn escape_line(bytes: &[u8]) -> usize {
+    unsafe { exports::port_escape_line(bytes.as_ptr(), bytes.len()) }
+}
+
+/// The bytes are UTF-8.
+pub fn unescape(bytes: &[u8]) -> usize {
+    unsafe { exports::port_unescape(bytes.as_ptr(), bytes.len()) }
+}
+
+/// The bytes are UTF-8.
+pub fn unescape_line(bytes: &[u8]) -> usize {
+    unsafe { exports::port_unescape_line(bytes.as_ptr(), bytes.len()) }
 }

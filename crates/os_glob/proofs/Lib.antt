@@ -1,3 +1,5 @@
 pub mod Runs
 pub mod Steps
 pub mod Readings
+pub mod Ends
+pub mod Skips

@@ -4,4 +4,6 @@ pub mod Items
 pub mod Pattern
 pub mod Held
 pub mod Match
+pub mod Ends
+pub mod Skips
 pub mod Parts

@@ -1,18 +1,21 @@
 //! Path patterns.
-ghost use Rattle.std.specs.Prelude.{List, ◌≡◌, ◌↔◌, IsTrue, MatchResult};
+ghost use Rattle.std.specs.Prelude.{List, ◌≡◌, ◌↔◌, false, IsTrue, MatchResult};
+ghost use Rattle.std.specs.Str.{chars};
 ghost use Rattle.platform_str.specs.Strings.{bytes};
 ghost use Rattle.os_str_ext.specs.Symbols.{AreSymbols, symbols_of};
 ghost use Rattle.os_str_ext.specs.declared.symbols.Symbol.{Symbol};
-ghost use Rattle.os_glob.specs.Items.{IsWellFormed, IsFirstFault};
+ghost use Rattle.os_glob.specs.Items.{IsWellFormed, IsFirstFault, items};
 ghost use Rattle.os_glob.specs.Match.{IsMatch};
+ghost use Rattle.os_glob.specs.Ends.{DiffersAtEnd, EndsWith};
 
 use crate::error::GlobError;
 use crate::item::{Item, first_item};
 use crate::matching::matches;
+use crate::observer::{Nobody, Observer};
 use crate::options::GlobOptions;
 use crate::place::Places;
 use crate::token::Tokens;
-use os_str_ext::{OsStr, OsStrBytesExt, Platform, Symbols};
+use os_str_ext::{OsStr, OsStrBytesExt, Platform, Symbols, symbol_laws};
 use std::marker::Model;
 
 /// A well-formed path pattern.
@@ -38,14 +41,19 @@ use std::marker::Model;
 #[derive(Drop)]
 pub struct Glob<'p> {
     pattern: &'p str,
+    // The character that stands for itself at the pattern's end, where one does.
+    last: Option<char>,
 }
 
 impl<'p> Model for Glob<'p> {
     ghost use Rattle.std.specs.Prelude.{List, ℕ};
+    ghost use Rattle.os_glob.specs.Ends.{IsKnown};
 
     ghost Value = { List ℕ };
 
     ghost view = { λ it. it.pattern.now };
+
+    ghost invariant = { λ it. IsKnown it.pattern.now it.last };
 }
 
 impl<'p> Glob<'p> {
@@ -79,7 +87,10 @@ impl<'p> Glob<'p> {
             }
             rest = after;
         }
-        Ok(Glob { pattern })
+        Ok(Glob {
+            pattern,
+            last: last_literal(pattern),
+        })
     }
 
     /// Whether the whole string has the pattern: its symbols, from the first to the last
@@ -105,17 +116,89 @@ impl<'p> Glob<'p> {
         ensures symbols { (symbols : List Symbol) → AreSymbols E.units (bytes string.entry) symbols → IsTrue result ↔ IsMatch options self.now symbols }
         ensures value { IsTrue result ↔ IsMatch options self.now (symbols_of E.units (bytes string.entry)) }
     {
+        self.is_match_observed(options, string, &mut Nobody)
+    }
+
+    /// [`is_match`](Self::is_match), and how many symbols it looks at: the observer is told as it
+    /// goes on. They are at most as many as the pattern's bytes and two, times the string's bytes
+    /// and one.
+    ///
+    /// ```
+    /// use os_glob::{Glob, GlobOptions, Observer, Separators};
+    /// use os_str_bytes::{OsStr, Unix};
+    ///
+    /// struct Count(usize);
+    ///
+    /// impl Observer for Count {
+    ///     fn looked_at(&mut self, symbols: usize) {
+    ///         self.0 = self.0.wrapping_add(symbols);
+    ///     }
+    /// }
+    ///
+    /// let options = GlobOptions { separators: Separators::None, literal_leading_dot: false };
+    /// let mut count = Count(0);
+    /// let name = OsStr::<Unix>::new("ab");
+    /// assert!(rt; Glob::new("?b").unwrap().is_match_observed(options, name, &mut count));
+    /// assert_eq!(rt; count.0, 2);
+    /// ```
+    pub fn is_match_observed<E: Platform, O: Observer>(
+        &self,
+        options: GlobOptions,
+        string: OsStr<'_, E>,
+        observer: &mut O,
+    ) -> bool
+        ensures symbols { (symbols : List Symbol) → AreSymbols E.units (bytes string.entry) symbols → IsTrue result ↔ IsMatch options self.now symbols }
+        ensures value { IsTrue result ↔ IsMatch options self.now (symbols_of E.units (bytes string.entry)) }
+    {
         wtf8_core::laws::chunks();
-        self.matches_symbols(options, string.symbols())
+        self.matches_symbols(options, string.symbols(), observer)
     }
 
     /// Whether the symbols that are left have the pattern.
-    fn matches_symbols<E: Platform>(&self, options: GlobOptions, symbols: Symbols<'_, E>) -> bool
+    fn matches_symbols<E: Platform, O: Observer>(
+        &self,
+        options: GlobOptions,
+        symbols: Symbols<'_, E>,
+        observer: &mut O,
+    ) -> bool
         ensures { IsTrue result ↔ IsMatch options self.now symbols.entry }
     {
+        if let Some(last) = self.last {
+            if !ends_alike(options, last, &symbols) {
+                return false;
+            }
+        }
         matches(
             Tokens::new(options, self.pattern),
             Places::new(options, symbols),
+            observer,
         )
     }
+}
+
+/// The character that stands for itself at a pattern's end, where one does.
+#[tactic(auto, using(crate::proofs::Ends::nothing_read, crate::proofs::Ends::one_more_read, crate::proofs::Ends::all_read))]
+fn last_literal(pattern: &str) -> Option<char>
+    ensures { EndsWith (items (chars pattern.now)) result }
+{
+    let mut rest = pattern;
+    let mut last = None;
+    while let Some((item, after)) = first_item(rest) {
+        last = item.literal();
+        rest = after;
+    }
+    last
+}
+
+/// Whether the symbols may end with a character that stands for itself at a pattern's end. By it
+/// most names are refused at once.
+#[inline(always)]
+fn ends_alike<E: Platform>(options: GlobOptions, last: char, symbols: &Symbols<'_, E>) -> bool
+    ensures { result ≡ false → DiffersAtEnd options last symbols.now }
+{
+    if options.is_special(last) {
+        return true;
+    }
+    symbol_laws::symbols::<E>();
+    symbols.rest().ends_with(last)
 }

@@ -3,6 +3,7 @@ ghost use Rattle.std.specs.Prelude.{◌≡◌, ◌∷◌, [], MatchOption, IfSom
 ghost use Rattle.std.specs.Str.{IsUtf8, chars};
 ghost use Rattle.os_glob.specs.Items.{read, read_star, read_quoted, read_class, class_start, items};
 ghost use Rattle.os_glob.specs.Held.{item_of, IsFaultText};
+ghost use Rattle.os_glob.specs.Ends.{literal};
 
 use crate::error::GlobErrorKind;
 use crate::member::{after_members, first_reversed_range};
@@ -30,6 +31,19 @@ pub(crate) enum Item<'p> {
     OneOf(bool, &'p str),
     /// A fault, and the pattern from its index on.
     Refused(GlobErrorKind, &'p str),
+}
+
+impl<'p> Item<'p> {
+    /// The character that stands for itself, if it is one.
+    #[inline(always)]
+    pub(crate) fn literal(self) -> Option<char>
+        ensures { result ≡ literal (item_of self.entry) }
+    {
+        match self {
+            Item::Literal(character) => Some(character),
+            _ => None,
+        }
+    }
 }
 
 /// The first item of a pattern, and what comes after it. Nothing comes after a fault.

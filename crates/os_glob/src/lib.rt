@@ -12,6 +12,7 @@ mod glob;
 mod item;
 mod matching;
 mod member;
+mod observer;
 mod options;
 mod place;
 mod text;
@@ -19,4 +20,5 @@ mod token;
 
 pub use error::{GlobError, GlobErrorKind};
 pub use glob::Glob;
+pub use observer::Observer;
 pub use options::{GlobOptions, Separators};

@@ -3,11 +3,13 @@ ghost use Rattle.std.specs.Prelude.{◌≡◌, ◌∷◌, ◌↔◌, IsTrue};
 ghost use Rattle.os_glob.specs.declared.item.Wildcard.TheVariants.{Star, DoubleStar};
 ghost use Rattle.os_glob.specs.Pattern.{Run};
 ghost use Rattle.os_glob.specs.Match.{Matches};
+ghost use Rattle.os_glob.specs.Skips.{Skips};
 ghost use Rattle.os_glob.specs.Parts.{PieceSays, PartSays, SkipsComponent};
 
 use crate::item::Wildcard;
+use crate::observer::Observer;
 use crate::place::{Place, Places};
-use crate::token::{Token, Tokens};
+use crate::token::{Start, Token, Tokens};
 use os_str_ext::Platform;
 
 /// How far a pattern goes without a wildcard.
@@ -42,26 +44,35 @@ enum Part<'p, 'a, E: Platform + 'a> {
 ///
 /// It takes no memory. What it goes back to are the last `**` and the last `*` after that one: an
 /// earlier one could only skip what the later one skips too.
-pub(crate) fn matches<E: Platform>(tokens: Tokens<'_>, places: Places<'_, E>) -> bool
+pub(crate) fn matches<E: Platform, O: Observer>(
+    tokens: Tokens<'_>,
+    places: Places<'_, E>,
+    observer: &mut O,
+) -> bool
     ensures { IsTrue result ↔ Matches tokens.entry places.entry }
 {
-    match first_part(tokens, places) {
+    match first_part(tokens, places, observer) {
         Part::All => true,
         Part::Differs => false,
         Part::Blocked => false,
         Part::Ends => false,
-        Part::Anywhere(left, from) => is_after_double_star(left, from),
+        Part::Anywhere(left, from) => is_after_double_star(left, from, observer),
     }
 }
 
 /// Whether the tokens match after a run of `**`.
-fn is_after_double_star<E: Platform>(tokens: Tokens<'_>, places: Places<'_, E>) -> bool
+fn is_after_double_star<E: Platform, O: Observer>(
+    tokens: Tokens<'_>,
+    places: Places<'_, E>,
+    observer: &mut O,
+) -> bool
     ensures { IsTrue result ↔ Matches (Run DoubleStar ∷ tokens.entry) places.entry }
 {
     let mut left = tokens;
     let mut from = places;
     loop {
-        match first_part(left.again(), from.again()) {
+        skip_places(Wildcard::DoubleStar, &left, &mut from, observer);
+        match first_part(left.again(), from.again(), observer) {
             Part::All => return true,
             Part::Ends => return false,
             Part::Anywhere(after, rest) => {
@@ -69,7 +80,7 @@ fn is_after_double_star<E: Platform>(tokens: Tokens<'_>, places: Places<'_, E>) 
                 from = rest;
             }
             Part::Differs => {
-                let Some(place) = from.next() else {
+                let Some(place) = from.next(observer) else {
                     return false;
                 };
                 if !Wildcard::DoubleStar.takes(place) {
@@ -77,7 +88,7 @@ fn is_after_double_star<E: Platform>(tokens: Tokens<'_>, places: Places<'_, E>) 
                 }
             }
             Part::Blocked => {
-                if !skip_component(&mut from) {
+                if !skip_component(&mut from, observer) {
                     return false;
                 }
             }
@@ -85,12 +96,30 @@ fn is_after_double_star<E: Platform>(tokens: Tokens<'_>, places: Places<'_, E>) 
     }
 }
 
+/// Takes off places that a wildcard takes and at which the tokens don't match, as far as a search for
+/// a byte tells.
+#[inline(always)]
+fn skip_places<E: Platform, O: Observer>(
+    wildcard: Wildcard,
+    tokens: &Tokens<'_>,
+    places: &mut Places<'_, E>,
+    observer: &mut O,
+)
+    ensures { Skips wildcard tokens.now places.old places.new }
+{
+    match tokens.start() {
+        Start::End => places.skip(wildcard, None, observer),
+        Start::Byte(byte) => places.skip(wildcard, Some(byte), observer),
+        Start::Other => {}
+    }
+}
+
 /// Takes off the places up to a first separator, and the separator; whether there was one, before
 /// any leading dot.
-fn skip_component<E: Platform>(places: &mut Places<'_, E>) -> bool
+fn skip_component<E: Platform, O: Observer>(places: &mut Places<'_, E>, observer: &mut O) -> bool
     ensures { SkipsComponent places.old places.new result }
 {
-    while let Some(place) = places.next() {
+    while let Some(place) = places.next(observer) {
         match place {
             Place::Separator => return true,
             Place::LeadingDot => return false,
@@ -101,29 +130,35 @@ fn skip_component<E: Platform>(places: &mut Places<'_, E>) -> bool
 }
 
 /// The tokens up to the first `**`, against the first places.
-fn first_part<'p, 'a, E: Platform>(tokens: Tokens<'p>, places: Places<'a, E>) -> Part<'p, 'a, E>
+fn first_part<'p, 'a, E: Platform, O: Observer>(
+    tokens: Tokens<'p>,
+    places: Places<'a, E>,
+    observer: &mut O,
+) -> Part<'p, 'a, E>
     ensures { PartSays tokens.entry places.entry result }
 {
-    match first_piece(tokens, places) {
+    match first_piece(tokens, places, observer) {
         Piece::All => Part::All,
         Piece::Differs => Part::Differs,
         Piece::Ends => Part::Ends,
         Piece::Run(Wildcard::DoubleStar, left, rest) => Part::Anywhere(left, rest),
-        Piece::Run(Wildcard::Star, left, rest) => part_after_star(left, rest),
+        Piece::Run(Wildcard::Star, left, rest) => part_after_star(left, rest, observer),
     }
 }
 
 /// The tokens after a `*` up to the first `**`, against the first places.
-fn part_after_star<'p, 'a, E: Platform>(
+fn part_after_star<'p, 'a, E: Platform, O: Observer>(
     tokens: Tokens<'p>,
     places: Places<'a, E>,
+    observer: &mut O,
 ) -> Part<'p, 'a, E>
     ensures { PartSays (Run Star ∷ tokens.entry) places.entry result }
 {
     let mut left = tokens;
     let mut from = places;
     loop {
-        match first_piece(left.again(), from.again()) {
+        skip_places(Wildcard::Star, &left, &mut from, observer);
+        match first_piece(left.again(), from.again(), observer) {
             Piece::All => return Part::All,
             Piece::Ends => return Part::Ends,
             Piece::Run(Wildcard::DoubleStar, after, rest) => return Part::Anywhere(after, rest),
@@ -132,7 +167,7 @@ fn part_after_star<'p, 'a, E: Platform>(
                 from = rest;
             }
             Piece::Differs => {
-                let Some(place) = from.next() else {
+                let Some(place) = from.next(observer) else {
                     return Part::Blocked;
                 };
                 if !Wildcard::Star.takes(place) {
@@ -144,9 +179,10 @@ fn part_after_star<'p, 'a, E: Platform>(
 }
 
 /// The tokens up to the first wildcard, against the first places.
-fn first_piece<'p, 'a, E: Platform>(
+fn first_piece<'p, 'a, E: Platform, O: Observer>(
     mut tokens: Tokens<'p>,
     mut places: Places<'a, E>,
+    observer: &mut O,
 ) -> Piece<'p, 'a, E>
     ensures { PieceSays tokens.entry places.entry result }
 {
@@ -154,7 +190,7 @@ fn first_piece<'p, 'a, E: Platform>(
         match token {
             Token::Run(wildcard) => return Piece::Run(wildcard, tokens, places),
             Token::One(class) => {
-                let Some(place) = places.next() else {
+                let Some(place) = places.next(observer) else {
                     return Piece::Ends;
                 };
                 if !class.fits(place) {
@@ -163,7 +199,7 @@ fn first_piece<'p, 'a, E: Platform>(
             }
         }
     }
-    match places.next() {
+    match places.next(observer) {
         None => Piece::All,
         Some(_) => Piece::Differs,
     }

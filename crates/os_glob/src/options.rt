@@ -44,3 +44,17 @@ impl Separators {
         }
     }
 }
+
+impl GlobOptions {
+    ghost use Rattle.std.specs.Prelude.{◌≡◌, false, ◌||◌, ◌&&◌, nat_eq};
+    ghost use Rattle.os_glob.specs.Places.{separates};
+
+    /// Whether a character may stand for more than itself, or not everywhere for itself: a
+    /// separator, and a dot where leading dots are matched literally.
+    #[inline(always)]
+    pub(crate) fn is_special(self, character: char) -> bool
+        ensures { result ≡ (separates self.separators character || (self.literal_leading_dot && nat_eq character 0x2E)) }
+    {
+        self.separators.contains(character) || self.literal_leading_dot && character == '.'
+    }
+}

@@ -1,9 +1,15 @@
 //! The places of a string: its symbols, by what patterns see in them.
-ghost use Rattle.std.specs.Prelude.{◌≡◌, ◌∷◌, [], MatchOption};
+ghost use Rattle.std.specs.Prelude.{◌≡◌, ◌∷◌, ◌++◌, ◌<◌, [], map, MatchOption, IfSome};
+ghost use Rattle.std.specs.Str.{IsUtf8, chars};
+ghost use Rattle.os_str_ext.specs.declared.symbols.Symbol.TheVariants.{Character};
 ghost use Rattle.os_glob.specs.Places.{place, begins_component};
+ghost use Rattle.os_glob.specs.Skips.{IsSkipped};
 
+use crate::item::Wildcard;
+use crate::observer::Observer;
 use crate::options::GlobOptions;
-use os_str_ext::{Platform, Symbol, Symbols};
+use crate::text::{first_char, split_at_stop};
+use os_str_ext::{OsStrBytesExt, Platform, Symbol, Symbols};
 use std::marker::Model;
 
 /// What a pattern sees at one symbol.
@@ -49,19 +55,23 @@ impl Place {
 /// The places of a string that are left.
 #[derive(Drop)]
 pub(crate) struct Places<'a, E: Platform + 'a> {
+    // The characters that come first, and the symbols after them.
+    text: &'a str,
     symbols: Symbols<'a, E>,
     options: GlobOptions,
     begins: bool,
 }
 
 impl<'a, E: Platform> Model for Places<'a, E> {
-    ghost use Rattle.std.specs.Prelude.{List};
+    ghost use Rattle.std.specs.Prelude.{List, map, ◌++◌};
+    ghost use Rattle.std.specs.Str.{chars};
+    ghost use Rattle.os_str_ext.specs.declared.symbols.Symbol.TheVariants.{Character};
     ghost use Rattle.os_glob.specs.declared.place.Place.{Place};
     ghost use Rattle.os_glob.specs.Places.{places};
 
     ghost Value = { List Place };
 
-    ghost view = { λ it. places it.options it.begins it.symbols };
+    ghost view = { λ it. places it.options it.begins (map Character (chars it.text.now) ++ it.symbols) };
 }
 
 impl<'a, E: Platform> Places<'a, E> {
@@ -72,7 +82,9 @@ impl<'a, E: Platform> Places<'a, E> {
     pub(crate) fn new(options: GlobOptions, symbols: Symbols<'a, E>) -> Self
         ensures { result ≡ places options true symbols.entry }
     {
+        let (text, symbols) = split_text(symbols);
         Places {
+            text,
             symbols,
             options,
             begins: true,
@@ -85,6 +97,7 @@ impl<'a, E: Platform> Places<'a, E> {
         ensures { result ≡ self.now }
     {
         Places {
+            text: self.text,
             symbols: self.symbols.clone().unwrap(),
             options: self.options,
             begins: self.begins,
@@ -93,14 +106,72 @@ impl<'a, E: Platform> Places<'a, E> {
 
     /// Takes the first place off.
     #[inline(always)]
-    pub(crate) fn next(&mut self) -> Option<Place>
+    pub(crate) fn next<O: Observer>(&mut self, observer: &mut O) -> Option<Place>
         ensures { MatchOption result (self.old ≡ []) (λ place. self.old ≡ place ∷ self.new) }
     {
-        let Some(symbol) = self.symbols.next() else {
+        let Some((symbol, text)) = first_symbol(self.text, &mut self.symbols) else {
             return None;
         };
+        observer.looked_at(1);
         let place = place_of(self.options, self.begins, symbol);
+        self.text = text;
         self.begins = place.ends_component();
         Some(place)
     }
+
+    /// Takes off places that a wildcard takes, up to the one of a character of ASCII, if there is
+    /// one, or fewer. They are looked for as bytes.
+    #[inline(always)]
+    pub(crate) fn skip<O: Observer>(
+        &mut self,
+        wildcard: Wildcard,
+        literal: Option<u8>,
+        observer: &mut O,
+    )
+        requires { IfSome literal (λ byte. byte < 0x80) }
+        ensures { IsSkipped wildcard literal self.old self.new }
+    {
+        if self.options.literal_leading_dot {
+            return;
+        }
+        let separators = wildcard.left_out(self.options.separators);
+        let (front, text) = split_at_stop(self.text, separators, literal);
+        observer.looked_at(front.len());
+        self.text = text;
+        self.begins = false;
+    }
+}
+
+/// The characters up to the first unit, and the symbols from it on; no characters where the first
+/// symbol is a unit.
+fn split_text<'a, E: Platform>(symbols: Symbols<'a, E>) -> (&'a str, Symbols<'a, E>)
+    ensures symbols { map Character (chars result.0.now) ++ result.1 ≡ symbols.entry }
+    ensures text { IsUtf8 result.0.now }
+{
+    let mut chunks = symbols.rest().utf8_chunks();
+    let Some((part, text)) = chunks.next() else {
+        return ("", symbols);
+    };
+    if let Some(_) = part.os_units().next() {
+        return ("", symbols);
+    }
+    (text, chunks.rest().symbols())
+}
+
+/// The first symbol of a text and of the symbols after it, and what is left of the text.
+#[inline(always)]
+fn first_symbol<'a, E: Platform>(
+    text: &'a str,
+    symbols: &mut Symbols<'a, E>,
+) -> Option<(Symbol, &'a str)>
+    ensures first { MatchOption result (map Character (chars text.now) ++ symbols.old ≡ []) (λ first. map Character (chars text.now) ++ symbols.old ≡ first.0 ∷ (map Character (chars first.1.now) ++ symbols.new)) }
+    ensures text { IfSome result (λ first. IsUtf8 first.1.now) }
+{
+    if let Some((character, rest)) = first_char(text) {
+        return Some((Symbol::Character(character), rest));
+    }
+    let Some(symbol) = symbols.next() else {
+        return None;
+    };
+    Some((symbol, text))
 }

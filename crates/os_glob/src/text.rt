@@ -1,6 +1,11 @@
-//! Texts, character by character.
-ghost use Rattle.std.specs.Prelude.{◌≡◌, ◌∷◌, [], MatchOption, IfSome};
+//! Texts, character by character, and up to a character.
+ghost use Rattle.std.specs.Prelude.{◌≡◌, ◌∷◌, ◌++◌, ◌<◌, [], MatchOption, IfSome};
+ghost use Rattle.std.specs.List.{AllByRecursion};
 ghost use Rattle.std.specs.Str.{IsUtf8, chars};
+ghost use Rattle.os_glob.specs.Skips.{IsNone, IsNoStop};
+
+use crate::options::Separators;
+use memchr::memchr3;
 
 /// The first character of a text, and what comes after it.
 #[inline(always)]
@@ -13,4 +18,42 @@ pub(crate) fn first_char(text: &str) -> Option<(char, &str)>
         return None;
     };
     Some((character, characters.as_str()))
+}
+
+/// A text up to the first separator or the given character of ASCII, and from there on.
+#[inline(always)]
+pub(crate) fn split_at_stop(text: &str, separators: Separators, literal: Option<u8>) -> (&str, &str)
+    requires { IfSome literal (λ byte. byte < 0x80) }
+    ensures joined { chars text.now ≡ chars result.0.now ++ chars result.1.now }
+    ensures none { AllByRecursion (IsNoStop separators literal) (chars result.0.now) }
+    ensures text { IsUtf8 result.1.now }
+{
+    match literal {
+        None => match separators {
+            Separators::None => (text, ""),
+            Separators::Slash => split_before(text, b'/', b'/', b'/'),
+            Separators::SlashAndBackslash => split_before(text, b'/', b'/', b'\\'),
+        },
+        Some(byte) => match separators {
+            Separators::None => split_before(text, byte, byte, byte),
+            Separators::Slash => split_before(text, byte, b'/', b'/'),
+            Separators::SlashAndBackslash => split_before(text, byte, b'/', b'\\'),
+        },
+    }
+}
+
+/// A text up to the first of three characters of ASCII, and from there on.
+#[inline(always)]
+fn split_before(text: &str, one: u8, two: u8, three: u8) -> (&str, &str)
+    requires one { one < 0x80 }
+    requires two { two < 0x80 }
+    requires three { three < 0x80 }
+    ensures joined { chars text.now ≡ chars result.0.now ++ chars result.1.now }
+    ensures none { AllByRecursion (IsNone one two three) (chars result.0.now) }
+    ensures text { IsUtf8 result.1.now }
+{
+    let Some(at) = memchr3(one, two, three, text.as_bytes()) else {
+        return (text, "");
+    };
+    (&text[..at], &text[at..])
 }

@@ -1,13 +1,15 @@
 //! The tokens of a pattern.
-ghost use Rattle.std.specs.Prelude.{◌≡◌, ◌∷◌, ◌↔◌, [], true, MatchOption, IsTrue};
+ghost use Rattle.std.specs.Prelude.{List, ◌≡◌, ◌∷◌, ◌↔◌, [], true, MatchOption, IsTrue};
 ghost use Rattle.std.specs.Str.{chars};
 ghost use Rattle.os_glob.specs.Members.{members};
 ghost use Rattle.os_glob.specs.Held.{item_of, token_of, class_of, begins_component_after, IsTokenOf};
 ghost use Rattle.os_glob.specs.Match.{Fits, Takes, permits};
+ghost use Rattle.os_glob.specs.Pattern.{Token as PatternToken, One, Same};
+ghost use Rattle.os_glob.specs.Skips.{IsStart, left_out};
 
 use crate::item::{Item, Wildcard, first_item};
 use crate::member::has_member;
-use crate::options::GlobOptions;
+use crate::options::{GlobOptions, Separators};
 use crate::place::{Place, place_of};
 use os_str_ext::Symbol;
 use std::marker::Model;
@@ -30,7 +32,29 @@ pub(crate) enum Token<'p> {
     One(Class<'p>),
 }
 
+/// How tokens start.
+#[derive(Clone, Copy)]
+pub(crate) enum Start {
+    /// There are none.
+    End,
+    /// With a character of ASCII that stands for itself alone.
+    Byte(u8),
+    /// In another way.
+    Other,
+}
+
 impl Wildcard {
+    /// The separators that its run leaves out.
+    #[inline(always)]
+    pub(crate) fn left_out(self, separators: Separators) -> Separators
+        ensures { result ≡ left_out self separators }
+    {
+        match self {
+            Wildcard::Star => separators,
+            Wildcard::DoubleStar => Separators::None,
+        }
+    }
+
     /// Whether its run may have this place.
     #[inline(always)]
     pub(crate) fn takes(self, place: Place) -> bool
@@ -48,6 +72,18 @@ impl Wildcard {
 }
 
 impl<'p> Class<'p> {
+    /// How tokens start that start with it.
+    #[inline(always)]
+    fn start(self) -> Start
+        ensures { (ts : List PatternToken) → IsStart (One (class_of self.entry) ∷ ts) result }
+    {
+        match self {
+            Class::Same(place) => place.start(),
+            Class::Any => Start::Other,
+            Class::OneOf(_, _) => Start::Other,
+        }
+    }
+
     /// Whether it stands for this place.
     #[inline(always)]
     pub(crate) fn fits(self, place: Place) -> bool
@@ -124,6 +160,18 @@ impl<'p> Tokens<'p> {
         }
     }
 
+    /// How they start.
+    #[inline(always)]
+    pub(crate) fn start(&self) -> Start
+        ensures { IsStart self.now result }
+    {
+        let mut tokens = self.again();
+        let Some(token) = tokens.next() else {
+            return Start::End;
+        };
+        token.start()
+    }
+
     /// Takes the first token off.
     pub(crate) fn next(&mut self) -> Option<Token<'p>>
         ensures { MatchOption result (self.old ≡ []) (λ token. self.old ≡ token_of token ∷ self.new) }
@@ -141,6 +189,17 @@ impl<'p> Tokens<'p> {
 }
 
 impl<'p> Token<'p> {
+    /// How tokens start that start with it.
+    #[inline(always)]
+    fn start(self) -> Start
+        ensures { (ts : List PatternToken) → IsStart (token_of self.entry ∷ ts) result }
+    {
+        match self {
+            Token::One(class) => class.start(),
+            Token::Run(_) => Start::Other,
+        }
+    }
+
     /// Whether the token after it begins a component.
     #[inline(always)]
     fn ends_component(self) -> bool
@@ -166,5 +225,22 @@ fn first_token(options: GlobOptions, begins: bool, item: Item<'_>) -> Option<Tok
         }
         Item::OneOf(negated, members) => Some(Token::One(Class::OneOf(negated, members))),
         Item::Refused(_, _) => None,
+    }
+}
+
+impl Place {
+    /// How tokens start that start with a character that stands for this place.
+    #[inline(always)]
+    fn start(self) -> Start
+        ensures { (ts : List PatternToken) → IsStart (One (Same self) ∷ ts) result }
+    {
+        let Place::Ordinary(Symbol::Character(character)) = self else {
+            return Start::Other;
+        };
+        if character < '\u{80}' {
+            Start::Byte(character as u8)
+        } else {
+            Start::Other
+        }
     }
 }

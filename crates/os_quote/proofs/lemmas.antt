@@ -8,5 +8,7 @@ pub mod Escapes
 pub mod Readings
 pub mod Shown
 pub mod Lines
+pub mod SuspectLanes
 pub mod Suspects
+pub mod Hidden
 pub use Rattle.os_str_ext.proofs.lemmas.EachChunk

@@ -1,14 +1,12 @@
 -- What of a text stands as it is in its escape on one line, found by its bytes: only private contracts name these (what an escape is says `IsEscapeBy`).
-use Rattle.std.specs.Prelude.{◌≡◌, ◌≢◌, ℕ, ◌||◌, nat_lt, nat_eq, Bool, true, List, ◌++◌}
+use Rattle.std.specs.Prelude.{◌≡◌, ◌≢◌, ℕ, ◌+◌, ◌/◌, ◌≤◌, ◌<◌, ◌&&◌, ◌||◌, nat_lt, nat_eq, Bool, true, false, List, ◌++◌, length, slice_index, bit_and}
+use Rattle.std.specs.Int.{is_in_range}
 use Rattle.std.specs.List.{AllByRecursion}
 use Rattle.std.specs.Char.{encode_utf8}
 use Rattle.std.specs.Str.{IsUtf8, chars}
 use Rattle.os_quote.specs.Item.{backslash}
 use Rattle.os_quote.specs.Shown.{stays_on_line}
-
--- the byte may be the first of a character that doesn't stand as it is
-abbrev pub is_suspect : ℕ → Bool
-is_suspect b = ((nat_lt b 0x20 || nat_eq b 0x5C) || (nat_eq b 0x7F || nat_eq b 0xC2)) || ((nat_eq b 0xD8 || nat_eq b 0xE2) || (nat_eq b 0xEF || nat_eq b 0xF3))
+use Rattle.os_quote.specs.declared.lanes.TheConstants.{FIRST_HIGH, FIRST_LOW, SECOND_HIGH}
 
 -- the character stands as it is
 abbrev pub Stands : ℕ → Type 0
@@ -18,9 +16,36 @@ Stands c = (c ≢ backslash) × (stays_on_line c ≡ true)
 abbrev pub AllStand : List ℕ → Type 0
 AllStand text = AllByRecursion Stands (chars text)
 
--- the text is cut round a character before which each stands as it is
-pub record IsCutAtSuspect (text front : List ℕ) (character : ℕ) (behind : List ℕ) : Type 0 where
+-- the text is cut round the first character that doesn't
+pub record IsCutAtHidden (text front : List ℕ) (character : ℕ) (behind : List ℕ) : Type 0 where
   pub stand : AllStand front
+  pub hidden : ¬ (Stands character)
   pub joined : text ≡ front ++ (encode_utf8 character ++ behind)
   pub front_text : IsUtf8 front
   pub behind_text : IsUtf8 behind
+
+-- a byte before another may begin a character that doesn't stay as it is
+abbrev pub is_suspect : ℕ → ℕ → Bool
+is_suspect x y =
+    (nat_lt x 0x20 || (nat_eq x 0x5C || nat_eq x 0x7F))
+    || (((nat_eq x 0xC2 && is_in_range 0x80 0x9F y) || (nat_eq x 0xD8 && nat_eq y 0x9C))
+    || ((nat_eq x 0xE2 && is_in_range 0x80 0x81 y) || ((nat_eq x 0xEF && nat_eq y 0xBB) || (nat_eq x 0xF3 && nat_eq y 0xA0))))
+
+-- no byte from one index up to another is a suspect
+abbrev pub AllClear : List ℕ → ℕ → ℕ → Type 0
+AllClear bytes from end = (k : ℕ) → from ≤ k → k < end → is_suspect (slice_index bytes k) (slice_index bytes (1 + k)) ≡ false
+
+-- the first suspect from an index on
+pub record IsNextSuspect (bytes : List ℕ) (start at : ℕ) : Type 0 where
+  pub from : start ≤ at
+  pub within : at < length bytes
+  pub clear : AllClear bytes start at
+  pub suspect : is_suspect (slice_index bytes at) (slice_index bytes (1 + at)) ≡ true
+
+-- what a byte may begin, a bit for each kind of character, by two small tables
+abbrev pub lead_bits : ℕ → ℕ
+lead_bits x = bit_and (slice_index FIRST_HIGH (x / 16)) (slice_index FIRST_LOW (bit_and x 15))
+
+-- what it may begin before another, by a third; 0 where it is no suspect
+abbrev pub suspect_bits : ℕ → ℕ → ℕ
+suspect_bits x y = bit_and (lead_bits x) (slice_index SECOND_HIGH (y / 16))

@@ -5,10 +5,10 @@ use os_str_bytes::{OsStr, OsStrBytesExt, Platform};
 use std::alloc::AllocError;
 use std::fmt;
 
-/// A string that prints as its escape, and takes no memory for it.
+/// A string that prints as its escape. Printing it allocates nothing.
 ///
-/// [`escaped`](crate::escaped) and [`escaped_line`](crate::escaped_line) make it. It has no width and no precision: `{:>9}` writes what
-/// `{}` does.
+/// Returned by [`escaped`](crate::escaped) and [`escaped_line`](crate::escaped_line). Width and
+/// precision are ignored: `{:>9}` writes what `{}` does.
 pub struct Escaped<'a, E: Platform + 'a> {
     string: OsStr<'a, E>,
     form: Form,

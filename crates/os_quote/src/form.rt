@@ -1,8 +1,8 @@
-//! The two forms of an escape, which differ in the characters that stand in them as they are.
+//! The two forms of an escape, which differ in the characters that they show as they are.
 ghost use Rattle.std.specs.Prelude.{◌↔◌, IsTrue};
 ghost use Rattle.os_quote.specs.Shown.{stays_on_line};
 
-/// Which characters stand as they are.
+/// Which characters are shown as they are.
 #[derive(Clone, Copy)]
 pub(crate) enum Form {
     /// All but the backslash.

@@ -1,4 +1,4 @@
-//! What holds of escapes: each law is the contract of a function that does nothing.
+//! Laws of escapes. Each is the contract of a function that does nothing.
 ghost use Rattle.std.specs.Prelude.{◌≡◌, ℕ, List, IsTrue};
 ghost use Rattle.std.specs.List.{All};
 ghost use Rattle.std.specs.Str.{IsUtf8, chars};
@@ -15,8 +15,8 @@ pub fn escapes<E: Platform>()
     ensures one_string { (s : List ℕ) → (t : List ℕ) → (text : List ℕ) → E.well_formed s → E.well_formed t → IsEscape E.units s text → IsEscape E.units t text → s ≡ t }
 {}
 
-/// In the escape of a string each backslash is in a token; a text has at most one first
-/// backslash that begins none.
+/// In the escape of a string each backslash is in a token; a text has at most one index of
+/// the first backslash that begins none.
 pub fn bad_escapes<E: Platform>()
     ensures never { (s : List ℕ) → (text : List ℕ) → (n : ℕ) → E.well_formed s → IsEscape E.units s text → ¬ (IsBadEscape text n) }
     ensures one_place { (text : List ℕ) → (n : ℕ) → (m : ℕ) → IsBadEscape text n → IsBadEscape text m → n ≡ m }

@@ -3,21 +3,24 @@
 //! [`escape`] writes a string as a text from which [`unescape`] gives the same string again.
 //! A text without a backslash is its own escape; each backslash is doubled; a unit that is no
 //! part of a text is `\xHH` where it is below 100 (hexadecimal), else `\uHHHH`, with digits
-//! from `0` to `9` and from `A` to `F`. [`escaped`] writes the same without memory. The format
-//! is this project's own.
+//! from `0` to `9` and from `A` to `F`. [`escaped`] prints the same and allocates nothing.
+//! The format is this project's own.
 //!
 //! [`escape_line`], [`escaped_line`] and [`unescape_line`] are a second form, for log lines and
-//! terminals: what ends a line, moves the cursor, reorders text or isn't seen is a token, too.
+//! terminals: what ends a line, moves the cursor, reorders text or isn't seen is written as a
+//! token, too.
 #![tactic(auto)]
 
 mod display;
 mod error;
 mod form;
+mod lanes;
 pub mod laws;
 mod long_token;
 mod quoting;
 mod reading;
 mod standing;
+mod suspects;
 mod token;
 mod write;
 mod write_token;

@@ -5,8 +5,8 @@ ghost use Rattle.os_quote.specs.Reading.{HasNoLong, HasNoFive, HasNoSix, HasNoCl
 
 use crate::token::{digit, four_digits};
 
-/// The character whose number stands between braces at the front, in five digits or in six, without
-/// a leading zero; and what stands behind the braces.
+/// The character whose number is between braces at the start, in five or six digits without a
+/// leading zero, and what comes after the braces.
 pub(crate) fn long_character(bytes: &[u8]) -> Option<(char, &[u8])>
     ensures { MatchOption result (HasNoLong bytes.now) (λ read. IsLong read.0 × (bytes.now ≡ 0x7B ∷ (long_digits read.0 ++ 0x7D ∷ read.1.now))) }
 {
@@ -22,7 +22,7 @@ pub(crate) fn long_character(bytes: &[u8]) -> Option<(char, &[u8])>
     Some((character, rest))
 }
 
-/// The character of six digits before a brace: `10` and four.
+/// The character whose number is six digits before a brace: `10` and four more.
 fn six_digits(digits: &[u8]) -> Option<(char, &[u8])>
     ensures { MatchOption result (HasNoSix digits.now) (λ read. IsSix digits.now read.0 read.1.now) }
 {
@@ -38,7 +38,7 @@ fn six_digits(digits: &[u8]) -> Option<(char, &[u8])>
     Some((character, rest))
 }
 
-/// The character of five digits before a brace, whose first isn't `0`.
+/// The character whose number is five digits before a brace, the first of which isn't `0`.
 fn five_digits(digits: &[u8]) -> Option<(char, &[u8])>
     ensures { MatchOption result (HasNoFive digits.now) (λ read. IsFive digits.now read.0 read.1.now) }
 {
@@ -57,7 +57,7 @@ fn five_digits(digits: &[u8]) -> Option<(char, &[u8])>
     Some((character, rest))
 }
 
-/// The character whose number has these digits above the last four, of the four and a brace.
+/// The character whose number has these high digits and then the next four, which a brace follows.
 #[tactic(auto, using(crate::proofs::lemmas::LongTokens::closed_tokens))]
 fn closed_character(high: u8, low: &[u8]) -> Option<(char, &[u8])>
     requires some { 0 < high }
@@ -76,7 +76,7 @@ fn closed_character(high: u8, low: &[u8]) -> Option<(char, &[u8])>
     Some((character, rest))
 }
 
-/// What stands behind a byte at the front.
+/// What comes after a byte at the start.
 fn behind_byte(bytes: &[u8], byte: u8) -> Option<&[u8]>
     ensures { MatchOption result ((after : List ℕ) → bytes.now ≢ byte ∷ after) (λ behind. bytes.now ≡ byte ∷ behind.now) }
 {

@@ -10,20 +10,20 @@ use crate::form::Form;
 use os_str_bytes::{OsStr, Platform};
 use std::alloc::{AllocError, Allocator};
 
-/// The escape of a string, from which [`unescape`](crate::unescape) gives the string again.
+/// Returns the escape of a string, from which [`unescape`](crate::unescape) gives the string again.
 ///
-/// It is made chunk by chunk (`OsStrBytesExt::utf8_chunks`): each unit of the part is `\xHH`
+/// It is written chunk by chunk (`OsStrBytesExt::utf8_chunks`): each unit of the part is `\xHH`
 /// below 100 (hexadecimal), else `\uHHHH`; then comes the text, with each backslash doubled.
 /// The Unix string 66 6F 80 FF 6F is `fo\x80\xFFo`, the Windows string of the units 61, D800
-/// and 5C is `a\uD800\\`. The format is this project's own; [`escaped`] writes the same
-/// without memory.
+/// and 5C is `a\uD800\\`. The format is this project's own; [`escaped`] prints the same
+/// and allocates nothing.
 ///
-/// Control characters stand in it as they are, so a newline in a name is a newline in its escape.
-/// For a log line or a terminal there is [`escape_line`].
+/// Control characters are shown as they are, so a newline in a name is a newline in its escape. For
+/// a log line or a terminal use [`escape_line`].
 ///
 /// # Errors
 ///
-/// `AllocError` where memory is refused.
+/// `AllocError` if an allocation fails.
 ///
 /// ```
 /// use os_quote::escape;
@@ -44,11 +44,10 @@ pub fn escape<E: Platform, A: Allocator>(
     escape_by(Form::Text, alloc, string)
 }
 
-/// The string as a value that prints as its escape. It takes no memory.
+/// Returns a value that prints as the escape of a string. Printing it allocates nothing.
 ///
-/// What it writes is the text that [`escape`] gives: of the Unix string 66 6F 80 FF 6F
-/// (hexadecimal) `fo\x80\xFFo`. Control characters stand in it as they are; as `{}` of a log line
-/// use [`escaped_line`].
+/// It prints the text that [`escape`] returns: of the Unix string 66 6F 80 FF 6F (hexadecimal)
+/// `fo\x80\xFFo`. Control characters are shown as they are; in a log line use [`escaped_line`].
 ///
 /// ```
 /// use os_quote::escaped;
@@ -63,11 +62,11 @@ pub fn escaped<'a, E: Platform>(string: OsStr<'a, E>) -> Escaped<'a, E>
     Escaped::new(Form::Text, string)
 }
 
-/// The escape of a string on one line, from which [`unescape_line`](crate::unescape_line) gives the
-/// string again.
+/// Returns the escape of a string on one line, from which [`unescape_line`](crate::unescape_line)
+/// gives the string again.
 ///
-/// It is made as by [`escape`], and these characters of a text are tokens, too, `\uHHHH` or, past
-/// U+FFFF, `\u{H..}` of five or six digits:
+/// It is written as by [`escape`], and these characters of a text are written as tokens, too,
+/// `\uHHHH` or, past U+FFFF, `\u{H..}` of five or six digits:
 ///
 /// - control characters: U+0000 to U+001F and U+007F to U+009F (Unicode, general category Cc)
 /// - the line and the paragraph separator, U+2028 and U+2029 (categories Zl and Zp)
@@ -77,15 +76,16 @@ pub fn escaped<'a, E: Platform>(string: OsStr<'a, E>) -> Escaped<'a, E>
 ///   section 23.2)
 /// - tags: U+E0000 to U+E007F (section 23.9)
 ///
-/// So nothing in it ends the line, moves the cursor, reorders text, or copies or parts text without
-/// being seen. All other characters stand as they are, also those that change how a neighbour
-/// looks, as combining marks and variation selectors do, and letters that look alike.
+/// So nothing in it ends the line, moves the cursor or reorders text, and nothing in it is there
+/// without being seen. All other characters are shown as they are, also those that change how a
+/// neighbour looks, as combining marks and variation selectors do, and letters that look alike:
+/// names in many languages need them.
 ///
-/// Rust's `str::escape_debug` has no way back and takes texts alone.
+/// Rust's `str::escape_debug` takes texts only, and its result can't be read back.
 ///
 /// # Errors
 ///
-/// `AllocError` where memory is refused.
+/// `AllocError` if an allocation fails.
 ///
 /// ```
 /// use os_quote::escape_line;
@@ -103,10 +103,10 @@ pub fn escape_line<E: Platform, A: Allocator>(
     escape_by(Form::Line, alloc, string)
 }
 
-/// The string as a value that prints as its escape on one line, as `{}` of a log line. It takes no
-/// memory.
+/// Returns a value that prints as the escape of a string on one line, for `{}` in a log line.
+/// Printing it allocates nothing.
 ///
-/// What it writes is the text that [`escape_line`] gives.
+/// It prints the text that [`escape_line`] returns.
 ///
 /// ```
 /// use os_quote::escaped_line;
@@ -121,7 +121,7 @@ pub fn escaped_line<'a, E: Platform>(string: OsStr<'a, E>) -> Escaped<'a, E>
     Escaped::new(Form::Line, string)
 }
 
-/// The escape of a string in a form.
+/// Returns the escape of a string in a form.
 pub(crate) fn escape_by<E: Platform, A: Allocator>(
     form: Form,
     alloc: A,

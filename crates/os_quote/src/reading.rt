@@ -10,22 +10,22 @@ ghost use Rattle.os_quote.specs.Reading.{IsRead, IsReadFault, item_bytes, token_
 use crate::error::QuoteError;
 use crate::form::Form;
 use crate::quoting::escape_by;
-use crate::standing::split_suspect;
+use crate::standing::split_hidden;
 use crate::token::{Token, first_token, split_backslash};
 use os_str_bytes::{DecodeWide, OsStr, OsString, Platform, laws};
 use std::alloc::{AllocError, Allocator};
 
-/// The string whose escape the text is ([`escape`]).
+/// Returns the string that has this escape ([`escape`](crate::escape)).
 ///
-/// Of Windows `a\uD800\\` it is the string of the units 61, D800 and 5C (hexadecimal). A text
-/// without a backslash is its own escape.
+/// On Windows `a\uD800\\` is the escape of the string of the units 61, D800 and 5C (hexadecimal). A
+/// text without a backslash is its own escape.
 ///
 /// # Errors
 ///
-/// [`QuoteError::BadEscape`] with the byte place of the first backslash that begins no token;
-/// else [`QuoteError::NotCanonical`] where no string of the platform has this escape, as
-/// `\xC3\xA9` on Unix, where these bytes are the text `é`. [`QuoteError::Memory`] may come in
-/// place of either where memory is refused. The empty text takes no memory.
+/// [`QuoteError::BadEscape`] with the byte index of the first backslash that begins no token; else
+/// [`QuoteError::NotCanonical`] if no string of the platform has this escape, as `\xC3\xA9` on
+/// Unix, where these bytes are the text `é`. If an allocation fails, [`QuoteError::Memory`] may come
+/// in place of either. For the empty text nothing is allocated.
 ///
 /// ```
 /// use os_quote::{QuoteError, unescape};
@@ -52,11 +52,11 @@ pub fn unescape<E: Platform, A: Allocator>(
     }
 }
 
-/// The string whose escape on one line the text is ([`escape_line`](crate::escape_line)).
+/// Returns the string that has this escape on one line ([`escape_line`](crate::escape_line)).
 ///
 /// # Errors
 ///
-/// As those of [`unescape`], where a token is also `\u{`, five or six digits without a leading zero,
+/// Those of [`unescape`], where a token is also `\u{`, five or six digits without a leading zero,
 /// and `}`, of a character past U+FFFF. A text with a character that doesn't stay on the line is
 /// [`QuoteError::NotCanonical`] if each backslash is in a token, and so is one with a token of a
 /// character that does, as `\u0041` or `\u{1F600}`. The empty text takes no memory.
@@ -77,13 +77,13 @@ pub fn unescape_line<E: Platform, A: Allocator>(
     ensures fault { IfErr result (λ fault. IsLineFault E.well_formed E.units text.now fault) }
     ensures empty { length text.now ≡ 0 → IsOk result }
 {
-    match split_suspect(text) {
+    match split_hidden(text) {
         None => Ok(OsStr::new(text).to_owned(alloc)?),
         Some(_) => from_items(Form::Line, alloc, text),
     }
 }
 
-/// The same of a form, token by token: the bytes that the text stands for are a string with this
+/// The same of a form, token by token: the bytes that the text means are a string with this
 /// escape, or no string has it.
 fn from_items<E: Platform, A: Allocator>(
     form: Form,
@@ -120,7 +120,7 @@ fn has_escape<E: Platform, A: Allocator>(
     Ok(escaped.as_str() == text)
 }
 
-/// The bytes that the characters and tokens of a text stand for.
+/// The bytes that the characters and tokens of a text mean.
 #[tactic(auto, using(crate::proofs::lemmas::Readings::readings))]
 fn read<A: Allocator>(form: Form, alloc: A, text: &str) -> Result<Vec<u8, A>, QuoteError>
     ensures { MatchResult result (λ encoded. IsRead (shown_by form) text.now encoded.items []) (λ fault. IsReadFault (shown_by form) text.now fault) }
@@ -139,7 +139,7 @@ fn read<A: Allocator>(form: Form, alloc: A, text: &str) -> Result<Vec<u8, A>, Qu
     Ok(encoded)
 }
 
-/// Appends the bytes that a token stands for.
+/// Appends the bytes that a token means.
 fn push_token<A: Allocator>(encoded: &mut Vec<u8, A>, token: Token) -> Result<(), AllocError>
     ensures { OnOk result (encoded.new.items ≡ encoded.old.items ++ item_bytes (token_item token)) }
 {

@@ -1,42 +1,31 @@
-//! How far a text stands as it is in its escape on one line.
+//! How far the escape of a text on one line shows it as it is.
 ghost use Rattle.std.specs.Prelude.{◌≡◌, ◌↔◌, IsTrue, MatchOption};
-ghost use Rattle.memchr.specs.Find.{IsFirstByte};
-ghost use Rattle.os_quote.specs.Standing.{is_suspect, AllStand, IsCutAtSuspect};
+ghost use Rattle.os_quote.specs.Standing.{Stands, AllStand, IsCutAtHidden};
 
-/// What stands before the first byte that may begin a character which doesn't stay as it is; the
-/// character there; and what stands behind it.
-pub(crate) fn split_suspect(text: &str) -> Option<(&str, char, &str)>
-    ensures { MatchOption result (AllStand text.now) (λ parts. IsCutAtSuspect text.now parts.0.now parts.1 parts.2.now) }
-{
-    let Some(at) = first_suspect(text.as_bytes()) else {
-        return None;
-    };
-    let mut characters = text[at..].chars();
-    let character = characters.next()?;
-    Some((&text[..at], character, characters.as_str()))
-}
+use crate::form::stays_on_line;
+use crate::suspects::first_suspect;
 
-/// The place of the first byte that may begin a character which doesn't stay as it is.
-#[tactic(auto, using(crate::proofs::lemmas::Suspects::suspects))]
-fn first_suspect(bytes: &[u8]) -> Option<usize>
-    ensures { IsFirstByte is_suspect bytes.now result }
+/// What comes before the first character that is written as a token, that character, and what comes
+/// after it.
+pub(crate) fn split_hidden(text: &str) -> Option<(&str, char, &str)>
+    ensures { MatchOption result (AllStand text.now) (λ parts. IsCutAtHidden text.now parts.0.now parts.1 parts.2.now) }
 {
     let mut at = 0;
-    while at < bytes.len() {
-        if is_suspect(bytes[at]) {
-            return Some(at);
+    while let Some(suspect) = first_suspect(text.as_bytes(), at) {
+        let mut characters = text[suspect..].chars();
+        let character = characters.next()?;
+        let rest = characters.as_str();
+        if !stands(character) {
+            return Some((&text[..suspect], character, rest));
         }
-        at += 1;
+        at = text.len() - rest.len();
     }
     None
 }
 
-/// Whether a byte may be the first of a character which doesn't stay as it is.
-fn is_suspect(byte: u8) -> bool
-    ensures { result ≡ is_suspect byte }
+/// Whether a character is shown as it is.
+fn stands(character: char) -> bool
+    ensures { IsTrue result ↔ Stands character }
 {
-    matches!(
-        byte,
-        0..=0x1F | b'\\' | 0x7F | 0xC2 | 0xD8 | 0xE2 | 0xEF | 0xF3
-    )
+    character != '\\' && stays_on_line(character)
 }

@@ -23,7 +23,7 @@ pub(crate) enum Token {
     Long(char),
 }
 
-/// What stands before the first backslash of a text, and what stands behind it.
+/// What comes before the first backslash of a text, and what comes after it.
 pub(crate) fn split_backslash(text: &str) -> Option<(&str, &str)>
     ensures { MatchOption result (HasNoBackslash text.now) (λ parts. IsCutAtBackslash text.now parts.0.now parts.1.now) }
 {
@@ -33,8 +33,8 @@ pub(crate) fn split_backslash(text: &str) -> Option<(&str, &str)>
     Some((&text[..at], &text[at + 1..]))
 }
 
-/// The token of a form that a backslash begins, of what stands behind the backslash; and what
-/// stands behind the token.
+/// The token of a form that a backslash begins, and what comes after the token; `behind` is what
+/// comes after the backslash.
 #[tactic(auto, using(crate::proofs::lemmas::Tokens::tokens))]
 pub(crate) fn first_token(form: Form, behind: &[u8]) -> Option<(Token, &[u8])>
     ensures { MatchOption result (BeginsNoToken (shown_by form) (backslash ∷ behind.now))
@@ -61,8 +61,8 @@ pub(crate) fn first_token(form: Form, behind: &[u8]) -> Option<(Token, &[u8])>
     None
 }
 
-/// The token of a form that `\u` begins, of what stands behind it; and what stands behind the
-/// token.
+/// The token of a form that `\u` begins, and what comes after the token; `digits` is what comes
+/// after `\u`.
 fn number_token(form: Form, digits: &[u8]) -> Option<(Token, &[u8])>
     ensures { MatchOption result (HasNoNumber (shown_by form) digits.now)
         (λ read. IsItem (shown_by form) (token_item read.0) × (backslash ∷ 0x75 ∷ digits.now ≡ item_text (token_item read.0) ++ read.1.now)) }
@@ -81,7 +81,7 @@ fn number_token(form: Form, digits: &[u8]) -> Option<(Token, &[u8])>
     }
 }
 
-/// The number of four digits at the front, and what stands behind them.
+/// The number of the four digits at the start, and what comes after them.
 pub(crate) fn four_digits(bytes: &[u8]) -> Option<(u16, &[u8])>
     ensures { MatchOption result ((u : ℕ) → u < 0x1_0000 → (after : List ℕ) → bytes.now ≢ wide_digits u ++ after)
         (λ read. bytes.now ≡ wide_digits read.0 ++ read.1.now) }
@@ -95,7 +95,7 @@ pub(crate) fn four_digits(bytes: &[u8]) -> Option<(u16, &[u8])>
     Some((u16::from(high) * 0x100 + u16::from(low), rest))
 }
 
-/// The byte of two digits at the front, and what stands behind them.
+/// The byte of the two digits at the start, and what comes after them.
 fn two_digits(bytes: &[u8]) -> Option<(u8, &[u8])>
     ensures { MatchOption result ((b : ℕ) → b < 0x100 → (after : List ℕ) → bytes.now ≢ byte_digits b ++ after)
         (λ read. bytes.now ≡ byte_digits read.0 ++ read.1.now) }

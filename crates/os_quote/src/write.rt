@@ -7,7 +7,7 @@ ghost use Rattle.os_quote.specs.Item.{item_text, item_texts, unit_item, characte
 ghost use Rattle.os_quote.specs.Shown.{is_any, stays_on_line, shown_by};
 
 use crate::form::{Form, stays_on_line};
-use crate::standing::split_suspect;
+use crate::standing::split_hidden;
 use crate::token::split_backslash;
 use crate::write_token::{write_hidden, write_unit};
 use os_str_bytes::{NonUnicodeOsStr, Platform};
@@ -59,7 +59,7 @@ fn write_line<W: fmt::Write>(text: &str, f: &mut fmt::Formatter<W>) -> fmt::Resu
     ensures { WritesStyledOnOk W.write_str_gives f.old result (item_texts (map (character_item stays_on_line) (chars text.now))) f.new }
 {
     let mut rest = text;
-    while let Some((front, character, behind)) = split_suspect(rest) {
+    while let Some((front, character, behind)) = split_hidden(rest) {
         f.write_str(front)?;
         write_character(character, f)?;
         rest = behind;

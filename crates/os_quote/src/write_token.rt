@@ -18,7 +18,7 @@ pub(crate) fn write_unit<W: fmt::Write>(unit: u16, f: &mut fmt::Formatter<W>) ->
     }
 }
 
-/// Writes a character that doesn't stand as it is: `\uHHHH` where it has 16 bits, else `\u{H..}`.
+/// Writes the token of a character: `\uHHHH` where it has 16 bits, else `\u{H..}`.
 pub(crate) fn write_hidden<W: fmt::Write>(character: u32, f: &mut fmt::Formatter<W>) -> fmt::Result
     requires { character < 0x11_0000 }
     ensures { WritesStyledOnOk W.write_str_gives f.old result (item_text (hidden_item character)) f.new }

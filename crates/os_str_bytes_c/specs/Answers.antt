@@ -1,8 +1,12 @@
 -- What the exports answer.
-use Rattle.std.specs.Prelude.{◌≡◌, ◌⊎◌, ℕ, ◌≤◌, List, length, take, drop}
+use Rattle.std.specs.Prelude.{◌≡◌, ◌⊎◌, ℕ, ◌+◌, ◌%◌, ◌^◌, ◌≤◌, List, length, take, drop}
 use Rattle.std.specs.List.{repeat}
 use Rattle.wtf8_core.specs.declared.fault.EncodingError.{EncodingError}
 use Rattle.platform_str.specs.platforms.Windows.{IsWtf8Fault}
+use Rattle.os_str_ext.specs.Parts.{unit_number}
+use Rattle.os_str_ext.specs.declared.symbols.Symbol.{Symbol}
+use Rattle.os_str_ext.specs.declared.symbols.Symbol.TheVariants.{Character}
+use Rattle.os_str_ext.specs.declared.symbols.Symbol.TheVariants as symbol
 
 -- the bytes aren't WTF-8: they have a first fault
 abbrev pub IsFaulty : List ℕ → Type 0
@@ -22,3 +26,12 @@ AnswersOr none Nothing Is answer = (Nothing × (answer ≡ none)) ⊎ Is answer
 -- the string with the units of `part` so many times over has this many bytes
 abbrev pub IsRepeatedLength : (List ℕ → Type 0) → (List ℕ → List ℕ) → List ℕ → ℕ → ℕ → Type 0
 IsRepeatedLength well_formed units part count len = (all : List ℕ) × (well_formed all × (units all ≡ repeat count (units part))) × (len ≡ length all)
+
+-- the number of a symbol's character or unit
+abbrev pub symbol_number : Symbol → ℕ
+symbol_number (Character c) = c
+symbol_number (symbol.Unit u) = unit_number u
+
+-- a sum with the number of one more symbol, modulo 2 ^ 64
+abbrev pub add_symbol : ℕ → Symbol → ℕ
+add_symbol sum s = (sum + symbol_number s) % 2 ^ 64

@@ -7,6 +7,7 @@ pub mod Searches
 pub mod Splits
 pub mod FirstChunk
 pub mod EachChunk
+pub mod ChunkUnits
 pub mod AroundPlaces
 pub mod PartUnits
 pub mod Repeats

@@ -1,6 +1,8 @@
 -- A string as symbols, from the first on: the characters of its texts and the units of its parts (this project's own words).
-use Rattle.std.specs.Prelude.{◌≡◌, ◌-◌, ◌<◌, ℕ, List, ◌++◌, map, length, drop}
+use Rattle.std.specs.Prelude.{◌≡◌, ◌-◌, ◌<◌, ℕ, pos, List, ◌++◌, map, length, drop}
 use Rattle.std.specs.Char.{encode_utf8}
+use Rattle.std.specs.Hash.{HashWrites}
+use Rattle.std.specs.Hash as fed
 use Rattle.std.specs.List.{flat_map}
 use Rattle.std.specs.Str.{chars}
 use Rattle.wtf8_core.specs.Chunks.{Chunk, AreChunks}
@@ -33,6 +35,11 @@ pub record AreSymbols (units : List ℕ → List ℕ) (s : List ℕ) (symbols : 
 abbrev pub symbol_bytes : Symbol → List ℕ
 symbol_bytes (Character c) = encode_utf8 c
 symbol_bytes (symbol.Unit u) = unit_bytes (unit_number u)
+
+-- what a hasher is fed of a symbol: which of the two it is, and then the character or the unit's number
+abbrev pub symbol_fed : Symbol → HashWrites
+symbol_fed (Character c) = fed.isize (pos 0) ++ fed.char c
+symbol_fed (symbol.Unit u) = fed.isize (pos 1) ++ fed.u16 (unit_number u)
 
 -- the one list of symbols
 abbrev pub symbols_of : (List ℕ → List ℕ) → List ℕ → List Symbol

@@ -1,12 +1,14 @@
-//! The law of symbols.
+//! The laws of symbols.
 //!
-//! The law is the contract of a function that does nothing.
-ghost use Rattle.std.specs.Prelude.{◌≡◌, ℕ, List};
+//! Each law is the contract of a function that does nothing.
+ghost use Rattle.std.specs.Prelude.{◌≡◌, ◌↔◌, ℕ, List, IsTrue};
 ghost use Rattle.std.specs.List.{flat_map};
-ghost use Rattle.os_str_ext.specs.Symbols.{AreSymbols, symbol_bytes};
+ghost use Rattle.os_str_ext.specs.Symbols.{AreSymbols, symbol_bytes, symbol_fed};
 ghost use Rattle.os_str_ext.specs.declared.symbols.Symbol.{Symbol};
 
+use crate::symbols::Symbol;
 use platform_str::Platform;
+use std::hash::Hash;
 
 /// A string has exactly one list of symbols, and the symbols' bytes joined are the string: those of
 /// a character std's `char::encode_utf8` writes, those of a unit are its own.
@@ -16,4 +18,12 @@ pub fn symbols<E: Platform>()
         → AreSymbols E.units s symbols → AreSymbols E.units s others → symbols ≡ others }
     ensures joined { (s : List ℕ) → E.well_formed s → (symbols : List Symbol)
         → AreSymbols E.units s symbols → flat_map symbol_bytes symbols ≡ s }
+{}
+
+/// Symbols are equal where both are the same character, or units of the same number. A hasher is fed
+/// which of the two it is, as an `isize`, and then the character or the unit's number, so equal
+/// symbols hash alike.
+pub fn symbol_comparisons(a: &Symbol, b: &Symbol)
+    ensures equal { IsTrue (⟦<Symbol as PartialEq>⟧.eq a.now b.now) ↔ (a.now ≡ b.now) }
+    ensures hash { ⟦<Symbol as Hash>⟧.hash_input a.now ≡ symbol_fed a.now }
 {}

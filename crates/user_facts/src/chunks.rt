@@ -1,5 +1,5 @@
 //! Chunks: one list of them, joined the string; parts and their units.
-ghost use Rattle.std.specs.Prelude.{◌≡◌, ◌↔◌, ◌≤◌, [], ℕ, List, IfOk, IsTrue, Some, map};
+ghost use Rattle.std.specs.Prelude.{◌≡◌, ◌↔◌, ◌≤◌, [], ◌++◌, ℕ, List, IfOk, IsTrue, Some, map};
 ghost use Rattle.std.specs.List.{All, flat_map};
 ghost use Rattle.std.specs.Cmp.Lexicographic.{slice_cmp};
 ghost use Rattle.std.specs.Ordering.{nat_cmp};
@@ -10,10 +10,13 @@ ghost use Rattle.wtf8_core.specs.Runs.{AreRuns, form_chunk};
 ghost use Rattle.wtf8_core.specs.Wtf8.{Spells};
 ghost use Rattle.platform_str.specs.PlatformWords.{AreWideUnits};
 ghost use Rattle.platform_str.specs.Strings.{bytes};
+ghost use Rattle.os_str_ext.specs.Chunks.{IsChunkOf};
 ghost use Rattle.os_str_ext.specs.Parts.{part_bytes, unit_number};
 
+use crate::texts::is_text;
 use os_str_ext::{
-    NonUnicodeOsStr, OsStrBytesExt, OsUnit, OsUnits, Unix, Utf8Chunks, Wasm, Windows, part_laws,
+    NonUnicodeOsStr, OsStrBytesExt, OsUnit, OsUnits, Unix, Utf8Chunks, Wasm, Windows, chunk_laws,
+    part_laws,
 };
 use platform_str::{OsStr, Platform};
 use std::alloc::{AllocError, Allocator};
@@ -61,6 +64,31 @@ pub fn rejoined<'a, E: Platform + 'a, A: Allocator>(
         all.extend_from_slice(text.as_bytes())?;
     }
     Ok(all)
+}
+
+/// The chunks of a string: each a string without whole characters and a text, not both empty.
+pub fn each_chunk<'a, E: Platform + 'a>(string: OsStr<'a, E>) -> Utf8Chunks<'a, E>
+    ensures { All (IsChunkOf E.well_formed) result }
+{
+    chunk_laws::each_chunk::<E>();
+    string.utf8_chunks()
+}
+
+/// The chunks of a string, whose units joined are the string's.
+pub fn rejoined_in_units<'a, E: Platform + 'a>(string: OsStr<'a, E>) -> Utf8Chunks<'a, E>
+    ensures { flat_map (λ chunk. E.units chunk.0 ++ E.units chunk.1) result
+        ≡ E.units (bytes string.entry) }
+{
+    chunk_laws::chunk_units::<E>();
+    string.utf8_chunks()
+}
+
+/// The chunks of a string, and whether it is a text: exactly where each of its parts is empty.
+pub fn text_without_parts<'a, E: Platform + 'a>(string: OsStr<'a, E>) -> (Utf8Chunks<'a, E>, bool)
+    ensures { IsTrue result.1 ↔ All (λ chunk. chunk.0 ≡ []) result.0 }
+{
+    chunk_laws::text_without_parts();
+    (string.utf8_chunks(), is_text(string))
 }
 
 /// A string without whole characters, whose bytes are those of its units.

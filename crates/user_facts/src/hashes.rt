@@ -1,7 +1,7 @@
-//! Hashes: a hasher is fed the same of equal strings.
+//! Hashes: a hasher is fed the same of equal strings, and of equal symbols.
 ghost use Rattle.std.specs.Prelude.{◌≡◌, IsTrue};
 
-use os_str_bytes::{OsString, Platform, RawOsStr, RawOsString, laws};
+use os_str_bytes::{OsString, Platform, RawOsStr, RawOsString, Symbol, laws, symbol_laws};
 use std::alloc::Allocator;
 use std::hash::Hash;
 
@@ -33,4 +33,14 @@ pub fn owned_raw_hash_alike<E: Platform, A: Allocator>(
     laws::raw_owned_comparisons(a, b);
     laws::raw_owned_comparisons(b, a);
     *a == *b
+}
+
+/// The same of symbols.
+pub fn symbol_hash_alike(a: Symbol, b: Symbol) -> bool
+    ensures { IsTrue result
+        → ⟦<Symbol as Hash>⟧.hash_input a ≡ ⟦<Symbol as Hash>⟧.hash_input b }
+{
+    symbol_laws::symbol_comparisons(&a, &b);
+    symbol_laws::symbol_comparisons(&b, &a);
+    a == b
 }

@@ -28,3 +28,14 @@ pub fn log_line<D: Display, A: Allocator>(log: &mut String<A>, shown: &D) -> Res
 {
     writeln!(log, "{shown}")
 }
+
+/// Writes a line with the lossy text of a string of any platform at the end of a log.
+pub fn log_line_shown<'a, E: Platform + 'a, A: Allocator>(
+    log: &mut String<A>,
+    string: OsStr<'a, E>,
+) -> Result<(), AllocError>
+    ensures { OnOk result (string_bytes log.new
+        ≡ string_bytes log.old ++ (E.lossy (bytes string.entry) ++ 0x0A ∷ [])) }
+{
+    log_line(log, &string.display())
+}

@@ -1,10 +1,11 @@
 //! Searches: a string may be cut at what they find, and after it.
-ghost use Rattle.std.specs.Prelude.{◌≡◌};
+ghost use Rattle.std.specs.Prelude.{◌≡◌, ◌<◌, ◌∷◌, IfSome, length};
 ghost use Rattle.wtf8_core.specs.Pieces.{SplitsOnce};
-ghost use Rattle.wtf8_core.specs.Standing.{IsLeastPlace, IsGreatestPlace};
+ghost use Rattle.wtf8_core.specs.Standing.{IsLeastPlace, IsGreatestPlace, StandsNowhere};
+ghost use Rattle.platform_str.specs.Strings.{bytes};
 ghost use Rattle.os_str_bytes.specs.Raw.{raw_bytes};
 
-use os_str_bytes::{OsStrBytesExt, Platform, RawOsStr};
+use os_str_bytes::{OsStr, OsStrBytesExt, Platform, RawOsStr, search_laws};
 
 /// The parts before the first match of a pattern and after it, by two cuts.
 pub fn around_first<'a, S: OsStrBytesExt<'a> + Copy>(string: S, pattern: &str) -> Option<(S, S)>
@@ -58,4 +59,25 @@ pub fn raw_around_last<'a, E: Platform + 'a>(
     let (front, _) = string.split_at(at);
     let (_, back) = string.split_at(at + pattern.len());
     Some((front, back))
+}
+
+/// The part before the first match of a pattern, in which the pattern doesn't occur.
+pub fn before_first<'a, E: Platform + 'a>(
+    string: OsStr<'a, E>,
+    pattern: &str,
+) -> Option<OsStr<'a, E>>
+    requires { 0 < length pattern.now }
+    ensures { IfSome result (λ before. StandsNowhere pattern.now (bytes before)) }
+{
+    search_laws::around_place();
+    let (before, _) = string.split_once(pattern)?;
+    Some(before)
+}
+
+/// What follows the `=` that begins a string.
+pub fn after_equals<'a, E: Platform + 'a>(string: OsStr<'a, E>) -> Option<OsStr<'a, E>>
+    ensures { IfSome result (λ rest. bytes string.entry ≡ 0x3D ∷ bytes rest) }
+{
+    search_laws::ascii_text();
+    string.strip_prefix('=')
 }

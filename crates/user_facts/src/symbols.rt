@@ -1,5 +1,5 @@
 //! Symbols: the one list of a string's characters and units.
-ghost use Rattle.std.specs.Prelude.{◌≡◌, [], ◌∷◌, ℕ, List, IsOk, IfOk, IsTrue};
+ghost use Rattle.std.specs.Prelude.{◌≡◌, ◌↔◌, [], ◌∷◌, ℕ, List, IsOk, IfOk, IsTrue};
 ghost use Rattle.std.specs.List.{flat_map};
 ghost use Rattle.wtf8_core.specs.Chunks.{AreChunks};
 ghost use Rattle.platform_str.specs.Strings.{bytes};
@@ -8,7 +8,7 @@ ghost use Rattle.os_str_ext.specs.declared.symbols.Symbol.{Symbol};
 ghost use Rattle.os_str_ext.specs.declared.symbols.Symbol.TheVariants.{Character};
 ghost use Rattle.os_str_bytes.specs.Raw.{raw_bytes};
 
-use os_str_bytes::{OsStr, OsStrBytesExt, Platform, RawOsStr, Symbols, Unix, symbol_laws};
+use os_str_bytes::{OsStr, OsStrBytesExt, Platform, RawOsStr, Symbol, Symbols, Unix, symbol_laws};
 use std::alloc::AllocError;
 
 /// The symbols of a string of which some are known, which are those.
@@ -77,4 +77,13 @@ pub fn one_of_each<'a>(string: OsStr<'a, Unix>) -> Symbols<'a, Unix>
 {
     wtf8_core::laws::chunks();
     string.symbols()
+}
+
+/// Whether two symbols are equal: exactly where they are the same character, or units of the same
+/// number.
+pub fn same_symbol(a: Symbol, b: Symbol) -> bool
+    ensures { IsTrue result ↔ (a ≡ b) }
+{
+    symbol_laws::symbol_comparisons(&a, &b);
+    a == b
 }

@@ -1,24 +1,21 @@
 -- That an escape on one line stays there.
-use Rattle.std.proofs.Common.{◌≡◌, ⊎_elim, ℕ, ◌/◌, ◌%◌, ◌<◌, true, false, List, [], ◌∷◌, ◌++◌, map, length, IsTrue, refl, sym, ap, ◌∙◌, subst, arith, append_assoc, append-nil, length-append}
-use Rattle.std.specs.Char.{IsScalar, encode_utf8}
+use Rattle.std.proofs.Common.{◌≡◌, ⊎_elim, ℕ, ◌/◌, ◌%◌, ◌<◌, true, List, [], ◌∷◌, ◌++◌, map, length, IsTrue, refl, sym, ap, ◌∙◌, subst, arith, append_assoc, append-nil, length-append}
+use Rattle.std.specs.Char.{encode_utf8}
 use Rattle.std.specs.List.{All, AllByRecursion}
-use Rattle.std.specs.Str.{IsUtf8, chars, all_scalars, encode_utf8_all}
-use Rattle.std.proofs.lemmas.Bool.{and_parts, cases_lt, cases_eq, cases_Bool, ne_eqb, lt-ltb, le-ltb}
-use Rattle.std.proofs.Math.Utf8.{scalar}
+use Rattle.std.specs.Str.{IsUtf8, chars, encode_utf8_all}
+use Rattle.std.proofs.lemmas.Bool.{cases_lt, cases_eq, cases_Bool, ne_eqb, lt-ltb, le-ltb}
 use Rattle.std.proofs.lemmas.List.Elements.{All-from_recursion}
-use Rattle.std.proofs.lemmas.Str.{chars-append, chars-nil, chars_past_char, chars-IsAscii, IsUtf8-encode, encodes-chars, scalars-chars, length-encode, len_utf8_bounds}
+use Rattle.std.proofs.lemmas.Str.{chars-append, chars-nil, chars_past_char, chars-IsAscii, IsUtf8-encode, encodes-chars, length-encode, len_utf8_bounds}
 use Rattle.wtf8_core.specs.Chunks.{Chunk, AreChunks}
 use Rattle.wtf8_core.specs.FaultText.{upper_hex_digit}
 use Rattle.platform_str.specs.Laws.{PartLaws}
 use Rattle.os_quote.specs.Item.{Item, Character, Backslash, ByteUnit, WideUnit, LongCharacter, backslash, wide_digits, long_digits, item_text, item_texts, IsLong, IsItem, unit_item, hidden_item, character_item}
 use Rattle.os_quote.specs.Shown.{stays_on_line}
-use Rattle.os_quote.specs.Standing.{is_suspect, Stands, AllStand, IsCutAtSuspect}
+use Rattle.os_quote.specs.Standing.{Stands, AllStand, IsCutAtHidden}
 use Rattle.os_quote.specs.Escape.{chunk_items, items_of, IsLineEscape}
 use Rattle.os_quote.proofs.lemmas.Items.{digit_low, digit_high, five_digits, six_digits}
-use Rattle.os_quote.proofs.lemmas.Shown.{ascii_stays, lead_stays, lead_no_slash}
-use Rattle.os_quote.proofs.lemmas.Texts.{text_items, text_escape, text_behind, map-append, item_texts-append, scalar_below}
-use Rattle.wtf8_core.proofs.lemmas.forms.Shapes.{form_parts}
-use Rattle.wtf8_core.proofs.lemmas.forms.ByStd.{form_encode}
+use Rattle.os_quote.proofs.lemmas.Shown.{ascii_stays}
+use Rattle.os_quote.proofs.lemmas.Texts.{text_items, text_escape, text_behind, map-append, item_texts-append}
 use Rattle.os_str_ext.specs.Chunks.{IsChunkOf}
 use Rattle.os_quote.proofs.lemmas.Escapes.{escape_is_items}
 use Rattle.os_quote.proofs.lemmas.Readings.{ascii_all, ascii_byte_unit, ascii_wide_unit, ascii_long_character, item_is_text}
@@ -128,9 +125,9 @@ pub standing_text : (t : List ℕ) → IsUtf8 t → AllStand t → text_escape s
 standing_text t u a = stand_texts (chars t) a ∙ encodes-chars t u
 
 -- up to a character before which each stands
-pub up_to_suspect : (t front : List ℕ) (c : ℕ) (behind : List ℕ) → IsUtf8 t → IsCutAtSuspect t front c behind
+pub up_to_hidden : (t front : List ℕ) (c : ℕ) (behind : List ℕ) → IsUtf8 t → IsCutAtHidden t front c behind
     → text_escape stays_on_line t ≡ (front ++ item_text (character_item stays_on_line c)) ++ text_escape stays_on_line behind
-up_to_suspect t front c behind u k =
+up_to_hidden t front c behind u k =
     let rest = encode_utf8 c ++ behind in
     let text = text_behind front rest k.front_text (subst IsUtf8 k.joined u) in
     ap (text_escape stays_on_line) k.joined
@@ -140,30 +137,6 @@ up_to_suspect t front c behind u k =
     ∙ ap (λ x. x ++ (item_text (character_item stays_on_line c) ++ text_escape stays_on_line behind)) (standing_text front k.front_text k.stand)
     ∙ sym (append_assoc front (item_text (character_item stays_on_line c)) (text_escape stays_on_line behind))
 
--- bytes none of which is a suspect
-abbrev pub NoneSuspect : List ℕ → Type 0
-NoneSuspect bs = AllByRecursion (λ b. is_suspect b ≡ false) bs
-
-none_behind : (xs ys : List ℕ) → NoneSuspect (xs ++ ys) → NoneSuspect ys
-none_behind [] ys h = h
-none_behind (x ∷ xs) ys h = none_behind xs ys h.1
-
-character_stands : (c : ℕ) (rest : List ℕ) → IsScalar c → NoneSuspect (encode_utf8 c ++ rest) → Stands c
-character_stands c rest s h =
-    let f = form_parts c in
-    let e : encode_utf8 c ++ rest ≡ f.lead ∷ (f.behind ++ rest) = ap (λ x. x ++ rest) (sym (form_encode c) ∙ f.is) in
-    let first = (subst NoneSuspect e h).0 in
-    (lead_no_slash c f.lead f.behind f.is first, lead_stays c f.lead f.behind (scalar_below c s) f.is first)
-
-stand_all : (cs : List ℕ) → all_scalars cs ≡ true → NoneSuspect (encode_utf8_all cs) → AllByRecursion Stands cs
-stand_all [] s h = tt
-stand_all (c ∷ cs) s h =
-    let both = and_parts (scalar c) _ s in
-    (character_stands c (encode_utf8_all cs) both.0 h, stand_all cs both.1 (none_behind (encode_utf8 c) (encode_utf8_all cs) h))
-
-pub all_stand : (t : List ℕ) → IsUtf8 t → NoneSuspect t → AllStand t
-all_stand t u h = stand_all (chars t) (scalars-chars t u) (subst NoneSuspect (sym (encodes-chars t u)) h)
-
-pub cut_is_shorter : (t front : List ℕ) (c : ℕ) (behind : List ℕ) → IsCutAtSuspect t front c behind → length behind < length t
+pub cut_is_shorter : (t front : List ℕ) (c : ℕ) (behind : List ℕ) → IsCutAtHidden t front c behind → length behind < length t
 cut_is_shorter t front c behind k =
     omega (arith, ap length k.joined, length-append front (encode_utf8 c ++ behind), length-append (encode_utf8 c) behind, length-encode c, (len_utf8_bounds c).0)

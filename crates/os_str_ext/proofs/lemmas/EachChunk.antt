@@ -73,20 +73,33 @@ first_ends s c cs h =
 same_head : {c d : Chunk} {cs ds : List Chunk} → c ∷ cs ≡ d ∷ ds → (c ≡ d) × (cs ≡ ds)
 same_head {c} {d} {cs} {ds} e = (cc, cc)
 
+-- where the text of the first chunk ends, and that the others are the chunks of what follows it
+pub record FirstOf (s : List ℕ) (c : Chunk) (cs : List Chunk) : Type 0 where
+  pub end : ℕ
+  pub ends : IsFirstChunk s (length c.0) end
+  pub is : c ≡ (take (length c.0) s, drop (length c.0) (take end s))
+  pub others : AreChunks (drop end s) cs
+
+pub first_of : (s : List ℕ) (c : Chunk) (cs : List Chunk) → AreChunks s (c ∷ cs) → FirstOf s c cs
+first_of s c cs h =
+    let f = first_ends s c cs h in
+    let p = h.each [] cs c refl in
+    let some : 0 < length s = let q = p.some in omega (arith, ap length h.joins, length-append c.0 (c.1 ++ joined cs), length-append c.1 (joined cs), length-append c.0 c.1) in
+    let same = same_head (chunks_once s (c ∷ cs) (chunks_of s) h (some_chunks s).1 ∙ first_and_rest s (length c.0) f.0 f.1 some) in
+    record { end = f.0; ends = f.1; is = same.0; others = subst (AreChunks (drop f.0 s)) (sym same.1) (some_chunks (drop f.0 s)).1 }
+
 module _ (well_formed : List ℕ → Type 0)
     (cut_front : (b : List ℕ) (i : ℕ) → well_formed b → IsBoundary b i → well_formed (take i b))
     (cut_back : (b : List ℕ) (i : ℕ) → well_formed b → IsBoundary b i → well_formed (drop i b)) where
   pub are_chunks_of : (s : List ℕ) (cs : List Chunk) → well_formed s → AreChunks s cs → AllByRecursion (IsChunkOf well_formed) cs
   are_chunks_of s [] w h = tt
   are_chunks_of s (c ∷ cs) w h =
-      let f = first_ends s c cs h in
+      let f = first_of s c cs h in
       let m = length c.0 in
       let p = h.each [] cs c refl in
-      let some : 0 < length s = let q = p.some in omega (arith, ap length h.joins, length-append c.0 (c.1 ++ joined cs), length-append c.1 (joined cs), length-append c.0 c.1) in
-      let same = same_head (chunks_once s (c ∷ cs) (chunks_of s) h (some_chunks s).1 ∙ first_and_rest s m f.0 f.1 some) in
-      let ends = edges s m f.0 f.1 in
-      let first : IsChunkOf well_formed (take m s, drop m (take f.0 s)) = record { formed = cut_front s m w ends.0; bare = part_is_bare s m f.0 f.1; text = f.1.text; some = subst (λ d. 0 < length (d.0 ++ d.1)) same.0 p.some } in
-      (subst (IsChunkOf well_formed) (sym same.0) first, are_chunks_of (drop f.0 s) cs (cut_back s f.0 w ends.1) (subst (AreChunks (drop f.0 s)) (sym same.1) (some_chunks (drop f.0 s)).1))
+      let ends = edges s m f.end f.ends in
+      let first : IsChunkOf well_formed (take m s, drop m (take f.end s)) = record { formed = cut_front s m w ends.0; bare = part_is_bare s m f.end f.ends; text = f.ends.text; some = subst (λ d. 0 < length (d.0 ++ d.1)) f.is p.some } in
+      (subst (IsChunkOf well_formed) (sym f.is) first, are_chunks_of (drop f.end s) cs (cut_back s f.end w ends.1) f.others)
 
   pub each_chunk : (s : List ℕ) → well_formed s → (cs : List Chunk) → AreChunks s cs → All (IsChunkOf well_formed) cs
   each_chunk s w cs h = All-from_recursion (IsChunkOf well_formed) cs (are_chunks_of s cs w h)

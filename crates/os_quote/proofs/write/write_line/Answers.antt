@@ -3,7 +3,7 @@ use Rattle.std.specs.Fmt.{HasWrittenStyled, IsFlush}
 use Rattle.os_quote.specs.Item.{item_text, character_item}
 use Rattle.os_quote.specs.Shown.{stays_on_line}
 use Rattle.os_quote.proofs.lemmas.Texts.{text_escape}
-use Rattle.os_quote.proofs.lemmas.Lines.{standing_text, up_to_suspect, cut_is_shorter}
+use Rattle.os_quote.proofs.lemmas.Lines.{standing_text, up_to_hidden, cut_is_shorter}
 use Rattle.os_quote.proofs.lemmas.Writing.{one_more, both, all_written}
 use Rattle.os_quote.proofs.write.write_line.Goals as goal
 
@@ -15,7 +15,7 @@ loop-front-preserved g c =
     let left = text_escape stays_on_line c.in-Some.behind.now in
     let wrote : IsFlush c.loop-front.f → HasWrittenStyled took c.loop-front.f (front ++ token) c.write_character.new.f =
     both took _ _ _ front token (λ flush. c.in_ok-write_str.ensures.styled flush (refl {a = true})) (λ flush. c.in_ok-write_character.ensures flush (refl {a = true})) in
-    let step : text_escape stays_on_line c.loop-front.rest.now ≡ (front ++ token) ++ left = up_to_suspect _ front _ _ c.loop-front.invariant.0 c.in-Some.ensures in
+    let step : text_escape stays_on_line c.loop-front.rest.now ≡ (front ++ token) ++ left = up_to_hidden _ front _ _ c.loop-front.invariant.0 c.in-Some.ensures in
     (c.in-Some.ensures.behind_text, one_more took _ c.loop-front.f _ _ (front ++ token) left _ c.loop-front.invariant.1 wrote step)
 
 pub loop-front-smaller : goal.loop-front-smaller

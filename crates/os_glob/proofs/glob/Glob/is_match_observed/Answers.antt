@@ -1,7 +1,7 @@
 use Rattle.std.proofs.Common.{◌≡◌, ◌↔◌, IsTrue, sym, ap, ◌∙◌, subst}
 use Rattle.os_str_ext.specs.Symbols.{chunks_symbols}
 use Rattle.os_glob.specs.Match.{IsMatch}
-use Rattle.os_glob.proofs.glob.Glob.is_match.Goals as goal
+use Rattle.os_glob.proofs.glob.Glob.is_match_observed.Goals as goal
 
 pub returns-clause-symbols : goal.returns-clause-symbols
 returns-clause-symbols g c = λ symbols are.

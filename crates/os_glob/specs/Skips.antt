@@ -1,0 +1,57 @@
+-- Places that are passed over: only private contracts name this.
+use Rattle.std.specs.Prelude.{◌≡◌, ◌≢◌, ◌<◌, ◌≤◌, length, false, ℕ, List, [], ◌∷◌, ◌++◌, Option, Some, None}
+use Rattle.std.specs.List.{AllByRecursion}
+use Rattle.os_str_ext.specs.declared.symbols.Symbol.TheVariants.{Character}
+use Rattle.os_glob.specs.declared.options.Separators.{Separators}
+use Rattle.os_glob.specs.declared.place.Place.{Place}
+use Rattle.os_glob.specs.declared.place.Place.TheVariants.{Ordinary}
+use Rattle.os_glob.specs.declared.options.Separators.TheVariants as separators
+use Rattle.os_glob.specs.declared.item.Wildcard.{Wildcard}
+use Rattle.os_glob.specs.declared.item.Wildcard.TheVariants.{Star, DoubleStar}
+use Rattle.os_glob.specs.declared.token.Start.{Start}
+use Rattle.os_glob.specs.declared.token.Start.TheVariants as start
+use Rattle.os_glob.specs.Places.{separates}
+use Rattle.os_glob.specs.Pattern.{Token, One, Same}
+use Rattle.os_glob.specs.Match.{Takes, Matches}
+
+-- none of three characters
+abbrev pub IsNone : ℕ → ℕ → ℕ → ℕ → Type 0
+IsNone a b c x = (x ≢ a) × ((x ≢ b) × (x ≢ c))
+
+-- not the character, where there is one
+abbrev pub Differs : Option ℕ → ℕ → Type 0
+Differs None x = Unit {0}
+Differs (Some c) x = x ≢ c
+
+-- no separator, and not the character
+abbrev pub IsNoStop : Separators → Option ℕ → ℕ → Type 0
+IsNoStop s literal x = (separates s x ≡ false) × Differs literal x
+
+-- the separators that a wildcard's run leaves out
+abbrev pub left_out : Wildcard → Separators → Separators
+left_out Star s = s
+left_out DoubleStar s = separators.None
+
+-- not the place of the character, where there is one
+abbrev pub DiffersAt : Option ℕ → Place → Type 0
+DiffersAt None p = Unit {0}
+DiffersAt (Some c) p = ¬ (Ordinary (Character c) ≡ p)
+
+-- a wildcard takes the first places, none of which is that of the character
+pub record IsSkipped (w : Wildcard) (literal : Option ℕ) (ps rest : List Place) : Type 0 where
+  pub run : List Place
+  pub joined : ps ≡ run ++ rest
+  pub passed : AllByRecursion (λ p. Takes w p × DiffersAt literal p) run
+
+-- what the first token is: none, a character of ASCII that stands for itself alone, or unknown
+abbrev pub IsStart : List Token → Start → Type 0
+IsStart ts start.End = ts ≡ []
+IsStart ts (start.Byte b) = (b < 0x80) × ((more : List Token) × (ts ≡ One (Same (Ordinary (Character b))) ∷ more))
+IsStart ts start.Other = Unit {0}
+
+-- a wildcard takes the first places, at none of which the tokens match
+pub record Skips (w : Wildcard) (ts : List Token) (ps rest : List Place) : Type 0 where
+  pub run : List Place
+  pub joined : ps ≡ run ++ rest
+  pub passed : AllByRecursion (λ p. Takes w p × ((left : List Place) → ¬ (Matches ts (p ∷ left)))) run
+  pub no_more_places : length rest ≤ length ps

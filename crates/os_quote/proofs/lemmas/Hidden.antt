@@ -1,0 +1,167 @@
+-- Characters that stand as they are, between suspects.
+use Rattle.std.proofs.Common.{◌≡◌, ◌≢◌, ⊎_elim, ℕ, suc, ◌+◌, ◌-◌, ◌/◌, ◌%◌, ◌<◌, ◌≤◌, true, false, List, [], ◌∷◌, ◌++◌, length, take, drop, get_or, sym, ap, ◌∙◌, subst, arith, append_assoc, take-append-drop, length-append, length-drop, get_or-drop}
+use Rattle.std.specs.Char.{IsScalar, encode_utf8}
+use Rattle.std.specs.List.{AllByRecursion}
+use Rattle.std.specs.Str.{IsUtf8, IsCharBoundary, chars, all_scalars, encode_utf8_all}
+use Rattle.std.proofs.lemmas.Bool.{and_parts, cases_lt}
+use Rattle.std.proofs.lemmas.Bool.Decides.{nat_tests}
+use Rattle.std.proofs.lemmas.List.{append_cancel_right, length-take-le, drop_at, take_all}
+use Rattle.std.proofs.lemmas.Str.{IsCharBoundary-at_seam, IsCharBoundary-end, IsUtf8-between, IsUtf8-take, IsUtf8-drop, IsUtf8-past_char, chars-nil, chars-append, chars_past_char, encodes-chars, scalars-chars, length-encode, len_utf8_bounds}
+use Rattle.std.proofs.Math.Seq.{take-add}
+use Rattle.std.proofs.Math.Utf8.{scalar, scalar_cases}
+use Rattle.wtf8_core.specs.CodePoint.{form}
+use Rattle.wtf8_core.proofs.lemmas.forms.Shapes.{form_ascii, form_past}
+use Rattle.wtf8_core.proofs.lemmas.forms.ByStd.{form_encode}
+use Rattle.os_quote.specs.Shown.{stays_on_line}
+use Rattle.os_quote.specs.Standing.{is_suspect, Stands, AllStand, AllClear, IsNextSuspect}
+
+-- no byte is a suspect, where others follow
+abbrev ClearIn : List ℕ → List ℕ → Type 0
+ClearIn [] rest = Unit {0}
+ClearIn (x ∷ xs) rest = (is_suspect x (get_or (xs ++ rest) 0 0) ≡ false) × ClearIn xs rest
+
+clear_in : (xs rest : List ℕ) → ((k : ℕ) → k < length xs → is_suspect (get_or (xs ++ rest) k 0) (get_or (xs ++ rest) (suc k) 0) ≡ false) → ClearIn xs rest
+clear_in [] rest h = tt
+clear_in (x ∷ xs) rest h = (h 0 (omega arith), clear_in xs rest (λ k l. h (suc k) (omega (arith, l))))
+
+clear_after : (xs ys rest : List ℕ) → ClearIn (xs ++ ys) rest → ClearIn ys rest
+clear_after [] ys rest h = h
+clear_after (x ∷ xs) ys rest h = clear_after xs ys rest h.1
+
+-- characters of one to four bytes
+one_stays : (c y : ℕ) → c < 0x80 → is_suspect c y ≡ false → stays_on_line c ≡ true
+one_stays c y h s = grind (arith, nat_tests, h, s)
+
+no_slash : (c y : ℕ) → is_suspect c y ≡ false → c ≢ 0x5C
+no_slash c y s e = grind (arith, nat_tests, s, e)
+
+two_stays : (c : ℕ) → 0x80 ≤ c → c < 0x800 → is_suspect (0xC0 + c / 0x40) (0x80 + c % 0x40) ≡ false → stays_on_line c ≡ true
+two_stays c l h s = grind (arith, nat_tests, l, h, s)
+
+three_stays : (c : ℕ) → 0x800 ≤ c → c < 0x1_0000 → is_suspect (0xE0 + c / 0x1000) (0x80 + (c / 0x40) % 0x40) ≡ false → stays_on_line c ≡ true
+three_stays c l h s = grind (arith, nat_tests, l, h, s)
+
+four_stays : (c : ℕ) → 0x1_0000 ≤ c → c < 0x11_0000 → is_suspect (0xF0 + c / 0x4_0000) (0x80 + (c / 0x1000) % 0x40) ≡ false → stays_on_line c ≡ true
+four_stays c l h s = grind (arith, nat_tests, l, h, s)
+
+form_two : (c : ℕ) → 0x80 ≤ c → c < 0x800 → form c ≡ (0xC0 + c / 0x40) ∷ (0x80 + c % 0x40) ∷ []
+unfolding form
+form_two c l h = grind (arith, nat_tests)
+
+form_three : (c : ℕ) → 0x800 ≤ c → c < 0x1_0000 → form c ≡ (0xE0 + c / 0x1000) ∷ (0x80 + (c / 0x40) % 0x40) ∷ (0x80 + c % 0x40) ∷ []
+unfolding form
+form_three c l h = grind (arith, nat_tests)
+
+character_stands : (c : ℕ) (more rest : List ℕ) → IsScalar c → ClearIn (encode_utf8 c ++ more) rest → Stands c
+character_stands c more rest s h =
+    ⊎_elim
+    (λ (a : c < 0x80). let f = (by (form_ascii c a)).0 in let next = get_or (more ++ rest) 0 0 in (no_slash c next f, one_stays c next a f))
+    (λ (l : 0x80 ≤ c).
+    ⊎_elim
+    (λ (a : c < 0x800). (λ e. omega (arith, l, e), two_stays c l a (by (form_two c l a)).0))
+    (λ (m : 0x800 ≤ c).
+    ⊎_elim
+    (λ (a : c < 0x1_0000). (λ e. omega (arith, l, e), three_stays c m a (by (form_three c m a)).0))
+    (λ (n : 0x1_0000 ≤ c). (λ e. omega (arith, l, e), four_stays c n below (by (form_past c n)).0))
+    (cases_lt c 0x1_0000))
+    (cases_lt c 0x800))
+    (cases_lt c 0x80)
+  where
+    by : {bs : List ℕ} → form c ≡ bs → ClearIn (bs ++ more) rest
+    by e = subst (λ x. ClearIn (x ++ more) rest) (sym (form_encode c) ∙ e) h
+
+    below : c < 0x11_0000
+    below = ⊎_elim (λ l. omega (arith, l)) (λ p. p.1) (scalar_cases c s)
+
+characters_stand : (cs rest : List ℕ) → all_scalars cs ≡ true → ClearIn (encode_utf8_all cs) rest → AllByRecursion Stands cs
+characters_stand [] rest s h = tt
+characters_stand (c ∷ cs) rest s h =
+    let both = and_parts (scalar c) _ s in
+    (character_stands c (encode_utf8_all cs) rest both.0 h, characters_stand cs rest both.1 (clear_after (encode_utf8 c) (encode_utf8_all cs) rest h))
+
+stand-append : (xs ys : List ℕ) → AllByRecursion Stands xs → AllByRecursion Stands ys → AllByRecursion Stands (xs ++ ys)
+stand-append [] ys a b = b
+stand-append (x ∷ xs) ys a b = (a.0, stand-append xs ys a.1 b)
+
+-- each stands up to an index, and none is a suspect up to another
+pub stand_to : (t : List ℕ) (at i : ℕ) → IsUtf8 t → IsCharBoundary t at → IsCharBoundary t i → at ≤ i → AllStand (take at t) → AllClear t at i → AllStand (take i t)
+stand_to t at i u b d low stand clear =
+    let whole = sym (take-append-drop (i - at) (drop at t)) in
+    let same : at + (i - at) ≡ i = omega (arith, low) in
+    subst AllStand (ap (λ n. take n t) same)
+    (subst AllStand (sym (take-add at (i - at) t))
+    (subst (AllByRecursion Stands) (sym (chars-append (take at t) mid (IsUtf8-take t at u b))) (stand-append (chars (take at t)) (chars mid) stand
+    (characters_stand (chars mid) rest (scalars-chars mid text) (subst (λ x. ClearIn x rest) (sym (encodes-chars mid text)) (clear_in mid rest (λ k l. subst (λ x. is_suspect (get_or x k 0) (get_or x (suc k) 0) ≡ false) whole (from_at k l))))))))
+  where
+    mid : List ℕ
+    mid = take (i - at) (drop at t)
+
+    rest : List ℕ
+    rest = drop (i - at) (drop at t)
+
+    text : IsUtf8 mid
+    text = IsUtf8-between t at i u low b d
+
+    many : length mid ≡ i - at
+    many = length-take-le (i - at) (drop at t) (omega (arith, length-drop at t, d.0))
+
+    from_at : (k : ℕ) → k < length mid → is_suspect (get_or (drop at t) k 0) (get_or (drop at t) (suc k) 0) ≡ false
+    from_at k l =
+        let e : 1 + (at + k) ≡ at + suc k = omega arith in
+        subst (λ x. is_suspect x (get_or (drop at t) (suc k) 0) ≡ false) (sym (get_or-drop at t k 0))
+        (subst (λ x. is_suspect (get_or t (at + k) 0) x ≡ false) (sym (get_or-drop at t (suc k) 0))
+        (subst (λ n. is_suspect (get_or t (at + k) 0) (get_or t n 0) ≡ false) e (clear (at + k) (omega arith) (omega (arith, l, many, low)))))
+
+pub all_stand : (t : List ℕ) (at : ℕ) → IsUtf8 t → IsCharBoundary t at → AllStand (take at t) → AllClear t at (length t) → AllStand t
+all_stand t at u b stand clear = subst AllStand (take_all (length t) t (omega arith)) (stand_to t at (length t) u b (IsCharBoundary-end t) b.0 stand clear)
+
+-- a suspect begins a character
+pub suspect_begins : (t : List ℕ) (from at : ℕ) → IsNextSuspect t from at → IsCharBoundary t at
+suspect_begins t from at s = (omega (arith, s.within), λ _ high. leads (get_or t at 0) (get_or t (1 + at) 0) s.suspect high)
+  where
+    leads : (x y : ℕ) → is_suspect x y ≡ true → 128 ≤ x → 192 ≤ x
+    leads x y e high = grind (arith, nat_tests, e, high)
+
+-- each stands up to a character that does, and so up to what follows it
+pub record StandUpTo (t : List ℕ) (at : ℕ) : Type 0 where
+  pub boundary : IsCharBoundary t at
+  pub stand : AllStand (take at t)
+
+pub stand_after : (t rest : List ℕ) (i c at : ℕ) → IsUtf8 t → IsCharBoundary t i → drop i t ≡ encode_utf8 c ++ rest → AllStand (take i t) → Stands c → at ≡ length t - length rest → StandUpTo t at × (i < at)
+stand_after t rest i c at u b e stand s is = (record { boundary = bound; stand = subst (AllByRecursion Stands) (sym same) (stand-append (chars (take i t)) (c ∷ []) stand (s, tt)) }, omega (arith, is, some, size, lengths, length-drop i t, b.0))
+  where
+    text : IsUtf8 (drop i t)
+    text = IsUtf8-drop t i u b
+
+    size : length (drop i t) ≡ length (encode_utf8 c) + length rest
+    size = ap length e ∙ length-append (encode_utf8 c) rest
+
+    some : 0 < length (encode_utf8 c)
+    some = omega (arith, length-encode c, (len_utf8_bounds c).0)
+
+    lengths : length (take i t) ≡ i
+    lengths = length-take-le i t b.0
+
+    joined : t ≡ (take i t ++ encode_utf8 c) ++ rest
+    joined = sym (take-append-drop i t) ∙ ap (λ x. take i t ++ x) e ∙ sym (append_assoc (take i t) (encode_utf8 c) rest)
+
+    reached : at ≡ length (take i t ++ encode_utf8 c)
+    reached = omega (arith, is, size, lengths, length-drop i t, length-append (take i t) (encode_utf8 c), b.0)
+
+    bound : IsCharBoundary t at
+    bound = subst (IsCharBoundary t) (sym reached) (IsCharBoundary-at_seam t (take i t ++ encode_utf8 c) rest joined (IsUtf8-past_char (drop i t) rest c text e))
+
+    left : drop at t ≡ rest
+    left = ap (drop at) joined ∙ drop_at (take i t ++ encode_utf8 c) rest at (sym reached)
+
+    same : chars (take at t) ≡ chars (take i t) ++ c ∷ []
+    same = append_cancel_right (chars (take at t)) (chars (take i t) ++ c ∷ []) (chars rest)
+        (ap (λ x. chars (take at t) ++ chars x) (sym left)
+        ∙ sym (chars-append (take at t) (drop at t) (IsUtf8-take t at u bound))
+        ∙ ap chars (take-append-drop at t ∙ sym (take-append-drop i t))
+        ∙ chars-append (take i t) (drop i t) (IsUtf8-take t i u b)
+        ∙ ap (λ x. chars (take i t) ++ x) (chars_past_char (drop i t) rest c text e)
+        ∙ sym (append_assoc (chars (take i t)) (c ∷ []) (chars rest)))
+
+pub nothing_stands : (t : List ℕ) → AllStand (take 0 t)
+nothing_stands t = subst (AllByRecursion Stands) (sym chars-nil) tt

@@ -1,0 +1,44 @@
+use Rattle.std.proofs.Common.{◌≡◌, ◌++◌, ◌-◌, length, take, drop, refl, sym, ap, ◌∙◌, subst, take-append-drop}
+use Rattle.std.proofs.Math.Nat.{sub-zero}
+use Rattle.std.proofs.lemmas.Bool.{true≢false}
+use Rattle.std.proofs.lemmas.Str.{IsCharBoundary-start}
+use Rattle.std.specs.Char.{encode_utf8}
+use Rattle.os_quote.specs.Standing.{AllStand, AllClear, IsNextSuspect}
+use Rattle.os_quote.proofs.lemmas.Hidden.{nothing_stands, suspect_begins, stand_to, stand_after, all_stand}
+use Rattle.os_quote.proofs.standing.split_hidden.Goals as goal
+
+pub loop-suspect-init : goal.loop-suspect-init
+loop-suspect-init c = (IsCharBoundary-start c.args.text.now c.utf8.text, nothing_stands c.args.text.now)
+
+pub returns-then-not-stands : goal.returns-then-not-stands
+returns-then-not-stands c =
+    let text = c.args.text.now in
+    let i = c.in-Some.suspect in
+    let next = subst (λ x. IsNextSuspect x c.loop-suspect.at i) c.as_bytes.ensures.value c.in-Some.ensures in
+    let stand = stand_to text c.loop-suspect.at i c.utf8.text c.loop-suspect.invariant.0 (suspect_begins text c.loop-suspect.at i next) next.from c.loop-suspect.invariant.1 next.clear in
+    let front : c.range.result.now ≡ take i text = c.range.ensures.value ∙ ap (λ n. take n text) (sub-zero i) in
+    let rest = sym c.range_from.ensures.value ∙ sym c.chars-characters.ensures.rest ∙ c.in_ok-character.ensures.steps.0 ∙ ap (λ x. encode_utf8 c.in_ok-character.character ++ x) (sym c.as_str-rest.ensures) in
+    record {
+      stand = subst AllStand (sym front) stand;
+      hidden = λ s. true≢false (sym (c.stands.ensures.1 s) ∙ c.if-not-stands.true);
+      joined = sym (take-append-drop i text) ∙ ap (λ x. x ++ drop i text) (sym front) ∙ ap (λ x. c.range.result.now ++ x) rest;
+      front_text = c.range.utf8;
+      behind_text = c.as_str-rest.utf8;
+    }
+
+pub loop-suspect-preserved : goal.loop-suspect-preserved
+loop-suspect-preserved c =
+    let text = c.args.text.now in
+    let i = c.in-Some.suspect in
+    let next = subst (λ x. IsNextSuspect x c.loop-suspect.at i) c.as_bytes.ensures.value c.in-Some.ensures in
+    let begins = suspect_begins text c.loop-suspect.at i next in
+    let stand = stand_to text c.loop-suspect.at i c.utf8.text c.loop-suspect.invariant.0 begins next.from c.loop-suspect.invariant.1 next.clear in
+    let rest = sym c.range_from.ensures.value ∙ sym c.chars-characters.ensures.rest ∙ c.in_ok-character.ensures.steps.0 ∙ ap (λ x. encode_utf8 c.in_ok-character.character ++ x) (sym c.as_str-rest.ensures) in
+    let up_to = stand_after text c.as_str-rest.result.now i c.in_ok-character.character (length text - length c.as_str-rest.result.now) c.utf8.text begins rest stand (c.stands.ensures.0 c.if-not-stands.false) refl in
+    (up_to.0.boundary, up_to.0.stand)
+
+pub returns : goal.returns
+returns c =
+    let text = c.args.text.now in
+    let clear = subst (λ x. AllClear x c.loop-suspect.at (length x)) c.as_bytes.ensures.value c.in_default.ensures in
+    all_stand text c.loop-suspect.at c.utf8.text c.loop-suspect.invariant.0 c.loop-suspect.invariant.1 clear

@@ -1,0 +1,9 @@
+use Rattle.std.proofs.Common.{length, ◌-◌, ◌≤◌}
+use Rattle.os_quote.specs.Standing.{AllClear}
+use Rattle.os_quote.proofs.suspects.first_suspect.Given as goal
+
+abbrev pub invariant-loop-at : goal.invariant-loop-at
+invariant-loop-at l = (l.from ≤ l.at) × (l.at ≤ length l.bytes) × AllClear l.bytes l.from l.at
+
+abbrev pub decreases-loop-at : goal.decreases-loop-at
+decreases-loop-at l = length l.bytes - l.at

@@ -1,0 +1,61 @@
+//! Bytes that may begin a character that is written as a token on one line: suspects.
+ghost use Rattle.std.specs.Prelude.{◌≡◌, ◌+◌, ◌≤◌, ◌<◌, length, slice_index, MatchOption};
+ghost use Rattle.os_quote.specs.Standing.{is_suspect, AllClear, IsNextSuspect};
+
+use crate::lanes::{BLOCK, clear_len};
+
+/// The index of the first suspect from an index on.
+#[tactic(auto, using(crate::proofs::lemmas::Suspects::suspects))]
+pub(crate) fn first_suspect(bytes: &[u8], from: usize) -> Option<usize>
+    requires { from ≤ length bytes.now }
+    ensures { MatchOption result (AllClear bytes.now from (length bytes.now)) (λ at. IsNextSuspect bytes.now from at) }
+{
+    let mut at = from;
+    while at < bytes.len() {
+        at += clear_from(bytes, at);
+        if is_suspect(bytes[at], byte_at(bytes, at + 1)) {
+            return Some(at);
+        }
+        at += 1;
+    }
+    None
+}
+
+/// How many bytes from an index on aren't suspects, as far as one block says. The last byte of all
+/// isn't among them.
+#[inline(always)]
+fn clear_from(bytes: &[u8], at: usize) -> usize
+    requires { at < length bytes.now }
+    ensures within { at + result < length bytes.now }
+    ensures clear { AllClear bytes.now at (at + result) }
+{
+    if bytes.len() - at <= BLOCK {
+        return 0;
+    }
+    let (_, rest) = bytes.split_at(at);
+    clear_len(rest)
+}
+
+/// The byte at an index, or 0 after the last.
+#[inline(always)]
+fn byte_at(bytes: &[u8], index: usize) -> u8
+    ensures { result ≡ slice_index bytes.now index }
+{
+    if index < bytes.len() { bytes[index] } else { 0 }
+}
+
+/// Whether a byte before another may begin such a character.
+#[inline(always)]
+fn is_suspect(first: u8, second: u8) -> bool
+    ensures { result ≡ is_suspect first second }
+{
+    match first {
+        0..=0x1F | b'\\' | 0x7F => true,
+        0xC2 => (0x80..=0x9F).contains(&second),
+        0xD8 => second == 0x9C,
+        0xE2 => (0x80..=0x81).contains(&second),
+        0xEF => second == 0xBB,
+        0xF3 => second == 0xA0,
+        _ => false,
+    }
+}

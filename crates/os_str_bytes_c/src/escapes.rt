@@ -1,0 +1,63 @@
+//! Escapes of Unix strings, in both forms, and back.
+ghost use Rattle.std.specs.Prelude.{◌≡◌, ◌≢◌, ℕ, List, length};
+ghost use Rattle.std.specs.Str.{IsUtf8};
+ghost use Rattle.platform_str.specs.PlatformWords.{itself};
+ghost use Rattle.os_quote.specs.Escape.{IsEscape, IsLineEscape};
+
+use crate::strings::{text, unix};
+use os_quote::{escape, escape_line, unescape, unescape_line};
+use platform_str::{OsString, Unix};
+use std::alloc::Global;
+
+/// How many bytes the escape of the string has, or `usize::MAX` where memory was refused.
+#[unsafe(no_mangle)]
+pub extern "C" fn port_escape(alloc: Global, raw: &[u8]) -> usize
+    ensures { result ≢ usize.MAX → (escaped : List ℕ) × IsEscape itself raw.now escaped
+        × (result ≡ length escaped) }
+{
+    match escape(alloc, unix(raw)) {
+        Ok(escaped) => escaped.as_str().len(),
+        Err(_) => usize::MAX,
+    }
+}
+
+/// The same of the escape on one line.
+#[unsafe(no_mangle)]
+pub extern "C" fn port_escape_line(alloc: Global, raw: &[u8]) -> usize
+    ensures { result ≢ usize.MAX → (escaped : List ℕ) × IsLineEscape itself raw.now escaped
+        × (result ≡ length escaped) }
+{
+    match escape_line(alloc, unix(raw)) {
+        Ok(escaped) => escaped.as_str().len(),
+        Err(_) => usize::MAX,
+    }
+}
+
+/// How many bytes the string has whose escape the text is, or `usize::MAX` where there is none or
+/// memory was refused.
+#[unsafe(no_mangle)]
+pub extern "C" fn port_unescape(alloc: Global, escaped: &[u8]) -> usize
+    requires { IsUtf8 escaped.now }
+    ensures { result ≢ usize.MAX → (raw : List ℕ) × IsEscape itself raw escaped.now
+        × (result ≡ length raw) }
+{
+    let unescaped: Result<OsString<Unix>, _> = unescape(alloc, text(escaped));
+    match unescaped {
+        Ok(string) => string.as_os_str().len(),
+        Err(_) => usize::MAX,
+    }
+}
+
+/// The same of the escape on one line.
+#[unsafe(no_mangle)]
+pub extern "C" fn port_unescape_line(alloc: Global, escaped: &[u8]) -> usize
+    requires { IsUtf8 escaped.now }
+    ensures { result ≢ usize.MAX → (raw : List ℕ) × IsLineEscape itself raw escaped.now
+        × (result ≡ length raw) }
+{
+    let unescaped: Result<OsString<Unix>, _> = unescape_line(alloc, text(escaped));
+    match unescaped {
+        Ok(string) => string.as_os_str().len(),
+        Err(_) => usize::MAX,
+    }
+}
