@@ -420,7 +420,7 @@ impl<'a, E: Platform> RawOsStr<'a, E> {
     /// use os_str_bytes::{RawOsStr, Unix};
     ///
     /// let string = RawOsStr::<Unix>::checked(b"\xC3\xA9\x80")?;
-    /// let rest = RawOsStr::checked(b"\x80")?;
+    /// let rest = RawOsStr::<Unix>::checked(b"\x80")?;
     /// assert!(rt; string.split_first_char() == Some(('\u{E9}', rest)));
     /// assert!(rt; rest.split_first_char().is_none());
     /// ```
@@ -443,7 +443,7 @@ impl<'a, E: Platform> RawOsStr<'a, E> {
     /// use os_str_bytes::{RawOsStr, Unix};
     ///
     /// let string = RawOsStr::<Unix>::checked(b"\x80\xC3\xA9")?;
-    /// let rest = RawOsStr::checked(b"\x80")?;
+    /// let rest = RawOsStr::<Unix>::checked(b"\x80")?;
     /// assert!(rt; string.split_last_char() == Some(('\u{E9}', rest)));
     /// assert!(rt; rest.split_last_char().is_none());
     /// ```

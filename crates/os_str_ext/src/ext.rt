@@ -366,7 +366,7 @@ pub trait OsStrBytesExt<'a>: OsStrBytes<'a> {
     /// use os_str_bytes::{OsStr, OsStrBytesExt, Unix};
     ///
     /// let string = OsStr::<Unix>::checked(b"\xC3\xA9\x80")?;
-    /// let rest = OsStr::checked(b"\x80")?;
+    /// let rest = OsStr::<Unix>::checked(b"\x80")?;
     /// assert!(rt; string.split_first_char() == Some(('\u{E9}', rest)));
     /// assert!(rt; rest.split_first_char().is_none());
     /// ```
@@ -384,7 +384,7 @@ pub trait OsStrBytesExt<'a>: OsStrBytes<'a> {
     /// use os_str_bytes::{OsStr, OsStrBytesExt, Unix};
     ///
     /// let string = OsStr::<Unix>::checked(b"\x80\xC3\xA9")?;
-    /// let rest = OsStr::checked(b"\x80")?;
+    /// let rest = OsStr::<Unix>::checked(b"\x80")?;
     /// assert!(rt; string.split_last_char() == Some(('\u{E9}', rest)));
     /// assert!(rt; rest.split_last_char().is_none());
     /// ```
