@@ -1,4 +1,4 @@
--- The escape of a string, and which texts are none (this project's own format).
+-- The escape of a string, and which texts are no escapes (this project's own format).
 use Rattle.std.specs.Prelude.{◌≡◌, ◌≢◌, ℕ, Bool, List, ◌∷◌, ◌++◌, map, length}
 use Rattle.std.specs.List.{flat_map, AllByRecursion}
 use Rattle.std.specs.Str.{chars}
@@ -8,21 +8,21 @@ use Rattle.os_quote.specs.Shown.{is_any, stays_on_line}
 use Rattle.os_quote.specs.declared.error.QuoteError.{QuoteError}
 use Rattle.os_quote.specs.declared.error.QuoteError.TheVariants.{BadEscape, NotCanonical, Memory}
 
--- of a chunk: an item for each unit of its part, then one for each character of its text
+-- the items of a chunk: one for each unit of its part, then one for each character of its text
 abbrev pub chunk_items : (ℕ → Bool) → (List ℕ → List ℕ) → Chunk → List Item
 chunk_items shows units c = map unit_item (units c.0) ++ map (character_item shows) (chars c.1)
 
--- of all chunks
+-- the items of all chunks
 abbrev pub items_of : (ℕ → Bool) → (List ℕ → List ℕ) → List Chunk → List Item
 items_of shows units chunks = flat_map (chunk_items shows units) chunks
 
--- text is the escape of the string s in the form that shows these characters; the platform says the units of bytes
+-- text is the escape of the string s in the form that shows these characters unchanged; the platform says the units of bytes
 pub record IsEscapeBy (shows : ℕ → Bool) (units : List ℕ → List ℕ) (s text : List ℕ) : Type 0 where
   pub chunks : List Chunk
   pub are_chunks : AreChunks s chunks
   pub text_is : text ≡ item_texts (items_of shows units chunks)
 
--- the escape, in which every character but the backslash stands as it is
+-- the escape in which every character but the backslash is unchanged
 abbrev pub IsEscape : (List ℕ → List ℕ) → List ℕ → List ℕ → Type 0
 IsEscape = IsEscapeBy is_any
 
@@ -36,7 +36,7 @@ pub record BeginsNoToken (shows : ℕ → Bool) (rest : List ℕ) : Type 0 where
   pub first : rest ≡ backslash ∷ behind
   pub none : (item : Item) → IsItem shows item → (after : List ℕ) → rest ≢ item_text item ++ after
 
--- behind items of n bytes stands a backslash that begins no token of the form
+-- the text begins with items of n bytes, and after them comes a backslash that begins no token of the form
 pub record IsBadEscapeBy (shows : ℕ → Bool) (text : List ℕ) (n : ℕ) : Type 0 where
   pub items : List Item
   pub are : AllByRecursion (IsItem shows) items
@@ -45,21 +45,21 @@ pub record IsBadEscapeBy (shows : ℕ → Bool) (text : List ℕ) (n : ℕ) : Ty
   pub place : n ≡ length (item_texts items)
   pub bad : BeginsNoToken shows rest
 
--- of each form
+-- the same in each form
 abbrev pub IsBadEscape : List ℕ → ℕ → Type 0
 IsBadEscape = IsBadEscapeBy is_any
 
 abbrev pub IsBadLineEscape : List ℕ → ℕ → Type 0
 IsBadLineEscape = IsBadEscapeBy stays_on_line
 
--- why text is the escape of no string of a platform: at a place no token begins, or else no string has this escape; or memory was refused
+-- why text isn't the escape of a string of the platform: a backslash in it begins no token, or else no string has this escape; or memory was refused
 abbrev pub IsQuoteFaultBy : (ℕ → Bool) → (List ℕ → Type 0) → (List ℕ → List ℕ) → List ℕ → QuoteError → Type 0
 IsQuoteFaultBy shows well_formed units text (BadEscape n) = IsBadEscapeBy shows text n
 IsQuoteFaultBy shows well_formed units text NotCanonical =
     ((s : List ℕ) → well_formed s → ¬ (IsEscapeBy shows units s text)) × ((n : ℕ) → ¬ (IsBadEscapeBy shows text n))
 IsQuoteFaultBy shows well_formed units text Memory = Unit {0}
 
--- of each form
+-- the same in each form
 abbrev pub IsQuoteFault : (List ℕ → Type 0) → (List ℕ → List ℕ) → List ℕ → QuoteError → Type 0
 IsQuoteFault = IsQuoteFaultBy is_any
 

@@ -1,4 +1,4 @@
--- The escape as a function, and what `Escaped` writes. What an escape is says `IsEscape`.
+-- The escape as a function, and what `Escaped` writes. `IsEscape` says what an escape is.
 use Rattle.std.specs.Prelude.{ℕ, Bool, List}
 use Rattle.platform_str.specs.declared.platform.Platform.{Ghosts}
 use Rattle.platform_str.specs.Strings.{bytes}

@@ -1,4 +1,4 @@
--- What has been read of an escape, step by step: only private contracts name these (what an escape is says `IsEscape`).
+-- How far an escape has been read, step by step. Only private contracts name these; `IsEscape` says what an escape is.
 use Rattle.std.specs.Prelude.{◌≡◌, ◌≢◌, ℕ, ◌/◌, ◌%◌, ◌<◌, Bool, List, [], ◌∷◌, ◌++◌}
 use Rattle.std.specs.List.{flat_map, AllByRecursion}
 use Rattle.std.specs.Char.{encode_utf8}
@@ -19,7 +19,7 @@ token_item (token.Byte u) = ByteUnit u
 token_item (token.Wide u) = WideUnit u
 token_item (token.Long c) = LongCharacter c
 
--- the bytes that an item stands for, on each platform
+-- the bytes that an item means, on each platform
 abbrev pub item_bytes : Item → List ℕ
 item_bytes (Character c) = encode_utf8 c
 item_bytes Backslash = backslash ∷ []
@@ -38,7 +38,7 @@ pub record IsCutAtBackslash (text front behind : List ℕ) : Type 0 where
   pub front_text : IsUtf8 front
   pub behind_text : IsUtf8 behind
 
--- a front of the text is items of the form that stand for these bytes, and the rest is left, which is text too
+-- the text begins with items of the form that mean these bytes, and the rest, which is text too, is left
 pub record IsRead (shows : ℕ → Bool) (text bytes rest : List ℕ) : Type 0 where
   pub items : List Item
   pub are : AllByRecursion (IsItem shows) items
@@ -52,34 +52,34 @@ IsReadFault shows text (BadEscape n) = IsBadEscapeBy shows text n
 IsReadFault shows text NotCanonical = ⊥
 IsReadFault shows text Memory = Unit {0}
 
--- no number of 16 bits has its four digits at the front
+-- the bytes don't begin with the four digits of a number of 16 bits
 abbrev pub HasNoWide : List ℕ → Type 0
 HasNoWide bytes = (u : ℕ) → u < 0x1_0000 → (after : List ℕ) → bytes ≢ wide_digits u ++ after
 
--- no code point past 16 bits has its digits between braces there
+-- nor with braces around the digits of a code point past FFFF
 abbrev pub HasNoLong : List ℕ → Type 0
 HasNoLong bytes = (c : ℕ) → IsLong c → (after : List ℕ) → bytes ≢ 0x7B ∷ (long_digits c ++ 0x7D ∷ after)
 
--- no token that begins with `\u` goes on so
+-- no token consists of `\u` and what these bytes begin with
 abbrev pub HasNoNumber : (ℕ → Bool) → List ℕ → Type 0
 HasNoNumber shows bytes = HasNoWide bytes × (HasLongTokens shows → HasNoLong bytes)
 
--- no four digits and a brace stand at the front
+-- the bytes don't begin with four digits and a closing brace
 abbrev pub HasNoClosed : List ℕ → Type 0
 HasNoClosed bytes = (u : ℕ) → u < 0x1_0000 → (after : List ℕ) → bytes ≢ wide_digits u ++ 0x7D ∷ after
 
--- these are the last four digits of a character with others above them, and a brace
+-- the bytes are the last four digits of c, a closing brace and the rest, and `high` is the value of the other digits of c
 abbrev pub IsClosed : ℕ → List ℕ → ℕ → List ℕ → Type 0
 IsClosed high bytes c rest = (c / 0x1_0000 ≡ high) × (bytes ≡ wide_digits (c % 0x1_0000) ++ 0x7D ∷ rest)
 
--- no `10`, four digits and a brace
+-- the bytes don't begin with `10`, four digits and a closing brace
 abbrev pub HasNoSix : List ℕ → Type 0
 HasNoSix bytes = (u : ℕ) → u < 0x1_0000 → (after : List ℕ) → bytes ≢ 0x31 ∷ 0x30 ∷ (wide_digits u ++ 0x7D ∷ after)
 
 abbrev pub IsSix : List ℕ → ℕ → List ℕ → Type 0
 IsSix bytes c rest = (c / 0x1_0000 ≡ 0x10) × (bytes ≡ 0x31 ∷ 0x30 ∷ (wide_digits (c % 0x1_0000) ++ 0x7D ∷ rest))
 
--- no five digits, the first of which isn't 0, and a brace
+-- the bytes don't begin with five digits, the first of which isn't 0, and a closing brace
 abbrev pub HasNoFive : List ℕ → Type 0
 HasNoFive bytes = (h : ℕ) → 0 < h → h < 16 → (u : ℕ) → u < 0x1_0000 → (after : List ℕ) → bytes ≢ upper_hex_digit h ∷ (wide_digits u ++ 0x7D ∷ after)
 

@@ -1,4 +1,4 @@
--- What of a text stands as it is in its escape on one line, found by its bytes: only private contracts name these (what an escape is says `IsEscapeBy`).
+-- What of a text is unchanged in its escape on one line, found by its bytes. Only private contracts name these; `IsEscapeBy` says what an escape is.
 use Rattle.std.specs.Prelude.{◌≡◌, ◌≢◌, ℕ, ◌+◌, ◌/◌, ◌≤◌, ◌<◌, ◌&&◌, ◌||◌, nat_lt, nat_eq, Bool, true, false, List, ◌++◌, length, slice_index, bit_and}
 use Rattle.std.specs.Int.{is_in_range}
 use Rattle.std.specs.List.{AllByRecursion}
@@ -8,11 +8,11 @@ use Rattle.os_quote.specs.Item.{backslash}
 use Rattle.os_quote.specs.Shown.{stays_on_line}
 use Rattle.os_quote.specs.declared.lanes.TheConstants.{FIRST_HIGH, FIRST_LOW, SECOND_HIGH}
 
--- the character stands as it is
+-- the character is unchanged in the escape
 abbrev pub Stands : ℕ → Type 0
 Stands c = (c ≢ backslash) × (stays_on_line c ≡ true)
 
--- each character of the text does
+-- each character of the text is
 abbrev pub AllStand : List ℕ → Type 0
 AllStand text = AllByRecursion Stands (chars text)
 

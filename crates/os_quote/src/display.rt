@@ -34,7 +34,7 @@ impl<'a, E: Platform> Escaped<'a, E> {
     ghost use Rattle.os_quote.specs.Escape.{IsEscapeBy};
     ghost use Rattle.os_quote.specs.Escaped.{escaped_text};
 
-    /// The string, to be written as its escape.
+    /// A value that prints the string as its escape in this form.
     pub(crate) fn new(form: Form, string: OsStr<'a, E>) -> Self
         ensures { IsEscapeBy (shown_by form) E.units (bytes string.entry) (escaped_text result) }
     {

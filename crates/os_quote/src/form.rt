@@ -11,8 +11,8 @@ pub(crate) enum Form {
     Line,
 }
 
-/// Whether a character stays on a line: it is no control character, no separator of lines or
-/// paragraphs, no control of direction, no space or joiner without width, and no tag.
+/// Whether a character stays on a line: it isn't a control character, a line or paragraph
+/// separator, a bidirectional control, a zero-width space or joiner, or a tag.
 pub(crate) fn stays_on_line(character: char) -> bool
     ensures { IsTrue result ↔ IsTrue (stays_on_line character) }
 {

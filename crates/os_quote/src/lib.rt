@@ -1,4 +1,4 @@
-//! Reversible escapes: strings of any platform as texts, and back.
+//! Reversible escapes: strings of any platform written as texts, and read back.
 //!
 //! [`escape`] writes a string as a text from which [`unescape`] gives the same string again.
 //! A text without a backslash is its own escape; each backslash is doubled; a unit that is no

@@ -1,4 +1,4 @@
-//! Tokens of characters past 16 bits: `\u{`, five or six digits, and `}`.
+//! Tokens of characters past U+FFFF: `\u{`, five or six digits, and `}`.
 ghost use Rattle.std.specs.Prelude.{◌≡◌, ◌≢◌, ℕ, ◌+◌, ◌*◌, ◌/◌, ◌%◌, ◌<◌, ◌≤◌, ◌∷◌, ◌++◌, List, MatchOption};
 ghost use Rattle.os_quote.specs.Item.{wide_digits, long_digits, IsLong};
 ghost use Rattle.os_quote.specs.Reading.{HasNoLong, HasNoFive, HasNoSix, HasNoClosed, IsClosed, IsFive, IsSix};

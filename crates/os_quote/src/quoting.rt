@@ -70,10 +70,10 @@ pub fn escaped<'a, E: Platform>(string: OsStr<'a, E>) -> Escaped<'a, E>
 ///
 /// - control characters: U+0000 to U+001F and U+007F to U+009F (Unicode, general category Cc)
 /// - the line and the paragraph separator, U+2028 and U+2029 (categories Zl and Zp)
-/// - controls of direction: U+061C, U+200E, U+200F, U+202A to U+202E, U+2066 to U+2069 (property
+/// - bidirectional controls: U+061C, U+200E, U+200F, U+202A to U+202E, U+2066 to U+2069 (property
 ///   Bidi_Control)
-/// - spaces and joiners without width: U+200B to U+200D, U+2060, U+FEFF (The Unicode Standard,
-///   section 23.2)
+/// - zero-width spaces and joiners: U+200B to U+200D, U+2060, U+FEFF (The Unicode Standard, section
+///   23.2)
 /// - tags: U+E0000 to U+E007F (section 23.9)
 ///
 /// So nothing in it ends the line, moves the cursor or reorders text, and nothing in it is there

@@ -152,7 +152,7 @@ fn push_token<A: Allocator>(encoded: &mut Vec<u8, A>, token: Token) -> Result<()
     Ok(())
 }
 
-/// Appends the bytes of one unit of 16 bits.
+/// Appends the bytes of one 16-bit unit.
 fn push_unit<A: Allocator>(encoded: &mut Vec<u8, A>, unit: u16) -> Result<(), AllocError>
     ensures { OnOk result (encoded.new.items ≡ encoded.old.items ++ form unit) }
 {

@@ -6,7 +6,7 @@ ghost use Rattle.os_quote.specs.Item.{WideUnit, LongCharacter, byte_digits, wide
 
 use std::fmt;
 
-/// Writes a unit: `\xHH` where it is below 100 (hexadecimal), else `\uHHHH`.
+/// Writes a unit, as `\xHH` if it is below 100 (hexadecimal), else as `\uHHHH`.
 pub(crate) fn write_unit<W: fmt::Write>(unit: u16, f: &mut fmt::Formatter<W>) -> fmt::Result
     ensures { WritesStyledOnOk W.write_str_gives f.old result (item_text (unit_item unit)) f.new }
 {

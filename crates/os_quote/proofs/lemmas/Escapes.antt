@@ -1,4 +1,4 @@
--- Escapes, and the strings that they are of.
+-- Escapes, and their strings.
 use Rattle.std.proofs.Common.{◌≡◌, ⊎_elim, inl, inr, ℕ, ◌<◌, ◌^◌, Bool, List, [], ◌∷◌, ◌++◌, map, length, refl, sym, ap, ◌∙◌, arith, append_assoc, append-nil, length-append}
 use Rattle.std.specs.List.{AllByRecursion, flat_map}
 use Rattle.std.specs.Str.{IsUtf8}
@@ -47,7 +47,7 @@ no_units [] e = refl
 no_units (u ∷ us) e = absurd (let l = ap length e in omega (arith, length-append (unit_bytes u) (flat_map unit_bytes us), some_unit_bytes u))
 
 module _ (shows : ℕ → Bool) (well_formed : List ℕ → Type 0) (units : List ℕ → List ℕ) (part_units : List ℕ → Type 0) (parts : PartLaws well_formed units part_units) where
-  -- the items of chunks stand for the chunks' bytes
+  -- the items of chunks mean the chunks' bytes
   chunk_is_items : (c : Chunk) → IsChunkOf well_formed c → AllByRecursion (IsItem shows) (chunk_items shows units c) × (flat_map item_bytes (chunk_items shows units c) ≡ c.0 ++ c.1)
   chunk_is_items c h =
       let u = units_are_items shows (units c.0) (recursion_from_All (λ v. v < 2 ^ 16) (units c.0) (parts.are_wide c.0 h.formed h.bare)) in
@@ -70,7 +70,7 @@ module _ (shows : ℕ → Bool) (well_formed : List ℕ → Type 0) (units : Lis
     pub escape_is_items : (s text : List ℕ) → well_formed s → (e : IsEscapeBy shows units s text) → AllByRecursion (IsItem shows) (items_of shows units e.chunks) × (flat_map item_bytes (items_of shows units e.chunks) ≡ s)
     escape_is_items s text w e = let k = chunks_are_items e.chunks (each s e.chunks w e.are_chunks) in (k.0, k.1 ∙ e.are_chunks.joins)
 
-    -- a text that is read whole is the escape of no other string than of what was read
+    -- a text that is read whole is the escape of no string but the one that was read
     pub one_reading : (text : List ℕ) (items : List Item) (s : List ℕ) → AllByRecursion (IsItem shows) items → text ≡ item_texts items → well_formed s → IsEscapeBy shows units s text → s ≡ flat_map item_bytes items
     one_reading text items s a t w e =
         let k = escape_is_items s text w e in
@@ -90,7 +90,7 @@ module _ (shows : ℕ → Bool) (well_formed : List ℕ → Type 0) (units : Lis
         cc
 
 module _ (shows : ℕ → Bool) (well_formed : List ℕ → Type 0) (units : List ℕ → List ℕ) (part_units : List ℕ → Type 0) (parts : PartLaws well_formed units part_units) where
-  -- a text of which each character stands as it is is its own escape
+  -- a text of which each character is unchanged is its own escape
   pub own_escape : (t : List ℕ) → well_formed [] → IsUtf8 t → text_escape shows t ≡ t → IsEscapeBy shows units t t
   own_escape t w u own = record { chunks = own_chunks t; are_chunks = text_chunks t u; text_is = by t own }
     where
@@ -111,7 +111,7 @@ one_escape shows units s text other e f = e.text_is ∙ ap (λ x. item_texts (it
 pub some_escape : (shows : ℕ → Bool) (units : List ℕ → List ℕ) (s : List ℕ) → (text : List ℕ) × IsEscapeBy shows units s text
 some_escape shows units s = (item_texts (items_of shows units (chunks_of s)), record { chunks = chunks_of s; are_chunks = (some_chunks s).1; text_is = refl })
 
--- a text has one place at which no token begins
+-- a text has one index at most at which no token begins
 pub one_bad_place : (shows : ℕ → Bool) (text : List ℕ) (n m : ℕ) → IsBadEscapeBy shows text n → IsBadEscapeBy shows text m → n ≡ m
 one_bad_place shows text n m a b =
     let q = same_items shows a.items b.items a.rest b.rest a.are b.are (inr a.bad) (inr b.bad) (sym a.joined ∙ b.joined) in

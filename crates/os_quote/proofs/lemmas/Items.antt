@@ -65,7 +65,7 @@ five_or_six b c x y e =
     let n = no_brace (c % 0x1_0000 % 0x100 % 0x10) (omega arith) in
     omega (arith, t.0, n)
 
--- the digits of a code point past 16 bits have one value
+-- the digits of a code point past FFFF have one value
 pub long_same : (b c : ℕ) (x y : List ℕ) → long_digits b ++ 0x7D ∷ x ≡ long_digits c ++ 0x7D ∷ y → (b ≡ c) × (x ≡ y)
 long_same b c x y e =
     ⊎_elim
@@ -104,7 +104,7 @@ wide_or_long u x y h e =
     omega (arith, t, n)
 
 module _ (shows : ℕ → Bool) where
-  -- an item at the front is one item
+  -- an item at the start is the only one
   pub item_same : (i j : Item) (x y : List ℕ) → IsItem shows i → IsItem shows j → item_text i ++ x ≡ item_text j ++ y → (i ≡ j) × (x ≡ y)
   item_same (Character b) (Character c) x y h k e = let s = encode_same b c x y e in (ap Character s.0, s.1)
   item_same (Character b) Backslash x y h k e = absurd (no_slash b x _ h.1 e)

@@ -28,7 +28,7 @@ stay-append : (xs ys : List ℕ) → AllStay xs → AllStay ys → AllStay (xs +
 stay-append [] ys a b = b
 stay-append (x ∷ xs) ys a b = (a.0, stay-append xs ys a.1 b)
 
--- a character that stands as it is does
+-- a character that is unchanged does
 abbrev Stays : Item → Type 0
 Stays (Character c) = stays_on_line c ≡ true
 Stays Backslash = Unit {0}
@@ -113,7 +113,7 @@ escape_is_on_line well_formed units part_units parts each s text w e =
     let k = escape_is_items stays_on_line well_formed units part_units parts each s text w e in
     All-from_recursion (λ c. stays_on_line c ≡ true) (chars text) (subst (λ x. AllStay (chars x)) (sym e.text_is) (texts_stay items k.0 (chunks_stay units e.chunks)))
 
--- a text of which each character stands as it is
+-- a text of which each character is unchanged
 stand_texts : (cs : List ℕ) → AllByRecursion Stands cs → item_texts (map (character_item stays_on_line) cs) ≡ encode_utf8_all cs
 stand_texts [] a = refl
 stand_texts (c ∷ cs) a =
@@ -124,7 +124,7 @@ stand_texts (c ∷ cs) a =
 pub standing_text : (t : List ℕ) → IsUtf8 t → AllStand t → text_escape stays_on_line t ≡ t
 standing_text t u a = stand_texts (chars t) a ∙ encodes-chars t u
 
--- up to a character before which each stands
+-- up to a character before which each is unchanged
 pub up_to_hidden : (t front : List ℕ) (c : ℕ) (behind : List ℕ) → IsUtf8 t → IsCutAtHidden t front c behind
     → text_escape stays_on_line t ≡ (front ++ item_text (character_item stays_on_line c)) ++ text_escape stays_on_line behind
 up_to_hidden t front c behind u k =

@@ -8,7 +8,7 @@ use Rattle.os_quote.specs.Item.{byte_digits, wide_digits, long_digits, IsLong}
 use Rattle.os_quote.specs.Reading.{HasNoWide, HasNoLong, HasNoClosed, HasNoFive, HasNoSix, IsClosed, IsFive, IsSix}
 use Rattle.os_quote.proofs.lemmas.Items.{tails, digit_same, wide_same, five_digits, six_digits}
 
--- a code point past 16 bits has five digits or six
+-- a code point past FFFF has five digits or six
 pub no_long : (bytes digits : List ℕ) → bytes ≡ 0x7B ∷ digits → HasNoSix digits → HasNoFive digits → HasNoLong bytes
 no_long bytes digits is six five c h after e =
     let low = h.0 in
@@ -38,7 +38,7 @@ long_of_five bytes digits c rest is k =
       is ∙ ap (λ x. 0x7B ∷ x) (k.1.1 ∙ ap (λ x. x ++ 0x7D ∷ rest) (sym (five_digits c below))),
     )
 
--- five digits, of which the last four and the brace aren't there, or the first is another or 0
+-- no five digits and a brace are there, since the last four or the brace are missing, or the first is no digit or is 0
 pub not_closed : (digits low : List ℕ) (first : ℕ) → digits ≡ first ∷ low → HasNoClosed low → HasNoFive digits
 not_closed digits low first is none h some within u fits after e = none u fits after (tails (sym is ∙ e)).1
 
@@ -59,14 +59,14 @@ five_closed digits low first high c rest is same within some k =
     let h : c / 0x1_0000 ≡ high = k.0 in
     (omega arith, (omega arith, is ∙ ap (λ x. x ∷ low) (sym same) ∙ ap (λ n. upper_hex_digit n ∷ low) (sym h) ∙ ap (λ x. upper_hex_digit (c / 0x1_0000) ∷ x) k.1))
 
--- no four digits, or no brace behind them
+-- no four digits, or no brace after them
 pub no_closed_digits : (bytes : List ℕ) → HasNoWide bytes → HasNoClosed bytes
 no_closed_digits bytes none u h after e = none u h (0x7D ∷ after) e
 
 pub no_closing : (bytes behind : List ℕ) (number : ℕ) → bytes ≡ wide_digits number ++ behind → ((after : List ℕ) → behind ≢ 0x7D ∷ after) → HasNoClosed bytes
 no_closing bytes behind number is none u h after e = none after (wide_same number u behind (0x7D ∷ after) (sym is ∙ e)).1
 
--- the number whose digits these are
+-- the number that these digits say
 pub closed : (bytes behind rest : List ℕ) (high number code : ℕ) → number < 0x1_0000 → bytes ≡ wide_digits number ++ behind → behind ≡ 0x7D ∷ rest → code ≡ high * 0x1_0000 + number → IsClosed high bytes code rest
 closed bytes behind rest high number code fits is brace e =
     let low : code % 0x1_0000 ≡ number = omega arith in

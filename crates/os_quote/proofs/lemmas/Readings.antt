@@ -99,13 +99,13 @@ module _ (shows : ℕ → Bool) where
   shown_items [] a = tt
   shown_items (i ∷ items) a = (shown_item i a.0, shown_items items a.1)
 
-  -- a text up to a backslash
+  -- a text up to a backslash has been read
   read_front : (text out rest front behind : List ℕ) → IsRead shows text out rest → IsUtf8 front → HasNoBackslash front → rest ≡ front ++ behind → IsRead shows text (out ++ front) behind
   read_front text out rest front behind r u h e =
       let i = text_is_items is_any front u in
       subst (λ x. IsRead shows text (out ++ x) behind) i.1 (read_items text out rest (text_items is_any front) behind r (shown_items (text_items is_any front) i.0) (e ∙ ap (λ x. x ++ behind) (sym (own_text front u h))) (text_behind front behind u (subst IsUtf8 e r.text_left)))
 
-  -- and a token behind it
+  -- and a token after it
   pub read_more : (text out rest front behind : List ℕ) (item : Item) (after more now : List ℕ) → IsRead shows text out rest → IsCutAtBackslash rest front behind
       → IsItem shows item → backslash ∷ behind ≡ item_text item ++ after → more ≡ out ++ front → now ≡ more ++ item_bytes item → IsRead shows text now after
   read_more text out rest front behind item after more now r k i t m n =
@@ -114,7 +114,7 @@ module _ (shows : ℕ → Bool) where
       let g = read_items text (out ++ front) (backslash ∷ behind) (item ∷ []) after f (i, tt) all (text_behind (item_text item) after (item_is_text item i) (subst IsUtf8 t f.text_left)) in
       subst (λ x. IsRead shows text x after) (ap (λ x. (out ++ front) ++ x) (append-nil (item_bytes item)) ∙ ap (λ x. x ++ item_bytes item) (sym m) ∙ sym n) g
 
-  -- the text behind the token is left
+  -- what is left after the token is text
   pub text_after : (text out rest front behind : List ℕ) (item : Item) (after : List ℕ) → IsRead shows text out rest → IsCutAtBackslash rest front behind → IsItem shows item → backslash ∷ behind ≡ item_text item ++ after → IsUtf8 after
   text_after text out rest front behind item after r k i t =
       text_behind (item_text item) after (item_is_text item i) (subst IsUtf8 t (text_behind front (backslash ∷ behind) k.front_text (subst IsUtf8 k.joined r.text_left)))
@@ -136,7 +136,7 @@ module _ (shows : ℕ → Bool) where
       let c : ◌≡◌ {A = List ℕ} [] (backslash ∷ b.bad.behind) = q.1 ∙ b.bad.first in
       cc
 
-  -- what has been read whole is the escape of no string, where the bytes that it stands for are none with this escape
+  -- if the bytes that a text means aren't a string with this escape, the text, which has been read whole, is the escape of no string
   pub no_escape : (well_formed : List ℕ → Type 0) (units : List ℕ → List ℕ) (part_units : List ℕ → Type 0) (parts : PartLaws well_formed units part_units)
       (each : (s : List ℕ) (cs : List Chunk) → well_formed s → AreChunks s cs → AllByRecursion (IsChunkOf well_formed) cs)
       (text out : List ℕ) → IsRead shows text out [] → (well_formed out → IsEscapeBy shows units out text → ⊥)

@@ -26,7 +26,7 @@ none_from [] (suc n) h = tt
 none_from (x ∷ t) zero h = tt
 none_from (x ∷ t) (suc n) h = (no_place x (h 0 (omega arith)), none_from t n (λ k lt. h (suc k) (omega arith)))
 
--- where the search finds no backslash there is none
+-- if the search finds no backslash there is none
 pub no_backslash : (t : List ℕ) → Nowhere (IsPlace t) 0 (length t) → HasNoBackslash t
 no_backslash t h = all t (λ k lt. h k (omega arith) lt)
   where
@@ -34,7 +34,7 @@ no_backslash t h = all t (λ k lt. h k (omega arith) lt)
     all [] h = tt
     all (x ∷ xs) h = (no_place x (h 0 (omega arith)), all xs (λ k lt. h (suc k) (omega arith)))
 
--- where it finds one, that is the first, and the text may be cut behind it
+-- if it finds one, that is the first, and the text may be cut after it
 pub record IsFirstBackslash (t : List ℕ) (i : ℕ) : Type 0 where
   pub none_before : HasNoBackslash (take i t)
   pub joined : t ≡ take i t ++ backslash ∷ drop (i + 1) t
@@ -48,7 +48,7 @@ first_backslash t i u h =
       cut = IsCharBoundary-after_ascii t i u h.0.high (omega (arith, e));
     }
 
--- an ASCII character in front
+-- an ASCII character at the start
 slash_in_front : (behind : List ℕ) → backslash ∷ behind ≡ encode_utf8 backslash ++ behind
 slash_in_front behind = ap (λ x. x ++ behind) (sym (encode_ascii backslash (omega arith)))
 
@@ -80,7 +80,7 @@ hidden_is_item shows c h hidden =
     (cases_lt c 0x1_0000)
 
 module _ (shows : ℕ → Bool) where
-  -- a character's item is one, and stands for the character
+  -- a character's item is one of the form's, and means the character
   pub character_is_item : (c : ℕ) → IsScalar c → IsItem shows (character_item shows c) × (item_bytes (character_item shows c) ≡ encode_utf8 c)
   character_is_item c h =
       ⊎_elim
@@ -114,7 +114,7 @@ own_characters (c ∷ cs) h =
 pub own_text : (t : List ℕ) → IsUtf8 t → HasNoBackslash t → text_escape is_any t ≡ t
 own_text t u h = own_characters (chars t) (subst HasNoBackslash (sym (encodes-chars t u)) h) ∙ encodes-chars t u
 
--- what stands behind a backslash is text again
+-- what follows a backslash is text again
 pub item_texts-append : (xs ys : List Item) → item_texts (xs ++ ys) ≡ item_texts xs ++ item_texts ys
 item_texts-append [] ys = refl
 item_texts-append (x ∷ xs) ys = ap (λ l. item_text x ++ l) (item_texts-append xs ys) ∙ sym (append_assoc (item_text x) (item_texts xs) (item_texts ys))
@@ -123,7 +123,7 @@ pub map-append : (shows : ℕ → Bool) (xs ys : List ℕ) → map (character_it
 map-append shows [] ys = refl
 map-append shows (x ∷ xs) ys = ap (λ l. character_item shows x ∷ l) (map-append shows xs ys)
 
--- the escape of a text up to its first backslash, and behind that
+-- the escape of a text up to its first backslash, and after that
 pub one_backslash : (t front behind : List ℕ) → t ≡ front ++ backslash ∷ behind → IsUtf8 front → IsUtf8 (backslash ∷ behind) → HasNoBackslash front → text_escape is_any t ≡ front ++ (backslash ∷ backslash ∷ text_escape is_any behind)
 one_backslash t front behind e u v h =
     ap (text_escape is_any) e

@@ -1,4 +1,4 @@
--- What begins with no token.
+-- What no token begins with.
 use Rattle.std.proofs.Common.{◌≡◌, ◌≢◌, ℕ, ◌/◌, ◌%◌, ◌<◌, Bool, List, [], ◌∷◌, ◌++◌, refl, sym, ap, ◌∙◌, arith, append_assoc}
 use Rattle.std.proofs.lemmas.Str.{encode_same, encode_ascii}
 use Rattle.os_quote.specs.Item.{Item, Character, Backslash, ByteUnit, WideUnit, LongCharacter, backslash, byte_digits, wide_digits, long_digits, item_text, IsLong, HasLongTokens, IsItem}
@@ -7,12 +7,12 @@ use Rattle.os_quote.specs.Escape.{BeginsNoToken}
 use Rattle.os_quote.specs.Reading.{HasNoWide, HasNoNumber}
 use Rattle.os_quote.proofs.lemmas.Items.{tails, byte_same}
 
--- no byte has its two digits at the front
+-- the bytes don't begin with the two digits of a byte
 abbrev pub HasNoByte : List ℕ → Type 0
 HasNoByte bs = (b : ℕ) → b < 0x100 → (after : List ℕ) → bs ≢ byte_digits b ++ after
 
 module _ (shows : ℕ → Bool) where
-  -- what may stand behind the backslash of a token doesn't
+  -- nothing that follows the backslash of a token follows this one
   no_token : (behind : List ℕ)
       → ((after : List ℕ) → behind ≢ backslash ∷ after)
       → ((u : ℕ) → u < 0x100 → (after : List ℕ) → behind ≢ 0x78 ∷ (byte_digits u ++ after))
@@ -28,7 +28,7 @@ module _ (shows : ℕ → Bool) where
       by (WideUnit v) h after e = u v h after (tails e).1
       by (LongCharacter c) h after e = l h.0 c h.1 after ((tails e).1 ∙ ap (λ z. 0x75 ∷ 0x7B ∷ z) (append_assoc (long_digits c) (0x7D ∷ []) after))
 
-  -- the end stands behind it
+  -- nothing follows it
   pub nothing_behind : (behind : List ℕ) → behind ≡ [] → BeginsNoToken shows (backslash ∷ behind)
   nothing_behind behind n =
       no_token behind (λ after e. let f = sym n ∙ e in cc) (λ u h after e. let f = sym n ∙ e in cc) (λ u h after e. let f = sym n ∙ e in cc) (λ t c h after e. let f = sym n ∙ e in cc)
@@ -44,7 +44,7 @@ module _ (shows : ℕ → Bool) where
       no_token behind (λ after e. let t = tails (sym is ∙ e) in omega (arith, k, t.0)) (λ v h after e. never v h after (tails (sym is ∙ e)).1)
       (λ v h after e. let t = tails (sym is ∙ e) in omega (arith, k, t.0)) (λ l c h after e. let t = tails (sym is ∙ e) in omega (arith, k, t.0))
 
-  -- `\u` and no four digits, nor others between braces where the form has long tokens
+  -- `\u` and no four digits, nor, if the form has long tokens, digits between braces
   pub no_number : (behind digits : List ℕ) (kind : ℕ) → behind ≡ kind ∷ digits → kind ≡ 0x75 → HasNoNumber shows digits → BeginsNoToken shows (backslash ∷ behind)
   no_number behind digits kind is k never =
       no_token behind (λ after e. let t = tails (sym is ∙ e) in omega (arith, k, t.0)) (λ v h after e. let t = tails (sym is ∙ e) in omega (arith, k, t.0))
@@ -54,7 +54,7 @@ module _ (shows : ℕ → Bool) where
 pub no_long_tokens : {T : Type 0} → HasLongTokens is_any → T
 no_long_tokens h = let n = h.hidden in cc
 
--- the form on one line has them: tags are written so
+-- the form on one line has them, since it writes tags with them
 pub line_has_long : HasLongTokens stays_on_line
 line_has_long = record { character = 0xE_0000; past = omega arith; hidden = refl }
 
@@ -70,7 +70,7 @@ no_low_digits digits lower high two never u h after e =
     let s = byte_same high (u / 0x100) lower (byte_digits (u % 0x100) ++ after) (sym two ∙ e) in
     never (u % 0x100) (omega arith) after s.1
 
--- `\u` and what number_token reads behind it
+-- `\u` and what number_token reads after it
 pub number_found : (behind digits whole : List ℕ) (kind : ℕ) → behind ≡ kind ∷ digits → kind ≡ 0x75 → backslash ∷ 0x75 ∷ digits ≡ whole → backslash ∷ behind ≡ whole
 number_found behind digits whole kind is k e = ap (λ x. backslash ∷ x) (is ∙ ap (λ x. x ∷ digits) k) ∙ e
 

@@ -4,7 +4,7 @@ use Rattle.std.proofs.Output.{has_written_styled_append, has_written_styled_of_e
 use Rattle.std.specs.Fmt.{HasWrittenStyled, IsFlush}
 use Rattle.std.specs.declared.fmt.Formatter.{Formatter}
 
--- g is f after a front of `all`, and `left` is to be written
+-- from f to g a prefix of `all` was written, and `left` is still to be written
 abbrev pub WritesRest : {W : Type 0} → (W → List ℕ → W → Type 0) → Formatter W → Formatter W → List ℕ → List ℕ → Type 0
 WritesRest took f g left all = IsFlush f → (done : List ℕ) × HasWrittenStyled took f done g × (done ++ left ≡ all)
 
@@ -22,6 +22,6 @@ module _ {W : Type 0} (took : W → List ℕ → W → Type 0) where
       let s = so_far flush in
       has_written_styled_of_eq _ _ _ _ _ (sym (append-nil s.0) ∙ ap (λ x. s.0 ++ x) (sym e) ∙ s.2) s.1
 
-  -- two writes
+  -- two writes, one after the other
   pub both : (f g h : Formatter W) (a b : List ℕ) → (IsFlush f → HasWrittenStyled took f a g) → (IsFlush g → HasWrittenStyled took g b h) → IsFlush f → HasWrittenStyled took f (a ++ b) h
   both f g h a b first next flush = let p = first flush in has_written_styled_append _ _ _ _ _ _ p (next p.flush)
