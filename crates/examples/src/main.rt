@@ -1,8 +1,9 @@
-//! The examples of README.md and docs/CALLING.md, as one program.
+//! The examples of README.md and docs/CALLING.md, and a reader of options, as one program.
 #![tactic(auto)]
 
 mod cuts;
 mod names;
+mod options;
 
 use names::stem;
 use os_quote::escaped;
@@ -17,5 +18,6 @@ fn main(rt: HostRuntime) -> io::Result<()> {
         println!(rt; "{} and {}", escaped(before), escaped(after))?;
     }
     println!(rt; "{}", escaped(stem(name.as_os_str())))?;
+    options::show(&rt)?;
     Ok(())
 }
