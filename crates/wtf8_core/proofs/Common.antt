@@ -35,7 +35,7 @@ pub use Rattle.wtf8_core.specs.FaultText.{upper_hex_digit, not_representable, fa
 unfoldable pub use Rattle.wtf8_core.specs.FaultText.{upper_hex}
 pub use Rattle.wtf8_core.specs.Items.{AreItems, AreUnitItems, unit_items}
 pub use Rattle.wtf8_core.specs.Lossy.{replacement, IsWtf8LossyText, without_surrogate, IsLossyText}
-pub use Rattle.wtf8_core.specs.Neighbours.{AllMayStand, IsEdge, MayStand, MayFollow}
+pub use Rattle.wtf8_core.specs.Neighbours.{AllMayStand, Steps, IsEdge, MayStand, MayFollow}
 pub use Rattle.wtf8_core.specs.Reader.{is_high_item, IsFirstItem, least_value, items_after, then_items}
 unfoldable pub use Rattle.wtf8_core.specs.Reader.{first_item, behind_item, items_behind, with_continuations, checked_value, and_then_checked, continuations}
 pub use Rattle.wtf8_core.specs.SpelledFront.{IsSpelledFront, IsReadUpTo, behind_zeros, KeepsPattern}

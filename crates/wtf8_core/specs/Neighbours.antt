@@ -1,5 +1,5 @@
 -- WTF-8 by what each byte and the four before it are, which is what vectors test. No contract of another crate names these.
-use Rattle.std.specs.Prelude.{◌≡◌, ℕ, suc, ◌<◌, ◌≤◌, ◌⊎◌, List, slice_index}
+use Rattle.std.specs.Prelude.{◌≡◌, ℕ, suc, ◌<◌, ◌≤◌, ◌⊎◌, List, [], ◌∷◌, slice_index}
 use Rattle.std.specs.Int.{IsInRange}
 use Rattle.wtf8_core.specs.Byte.{IsContinuation}
 use Rattle.wtf8_core.specs.Surrogate.{IsHigh}
@@ -35,6 +35,11 @@ pub record MayStand (encoding : Encoding) (w x y z b : ℕ) : Type 0 where
 abbrev pub AllMayStand : Encoding → ℕ → List ℕ → Type 0
 AllMayStand encoding n bs =
     (i : ℕ) → i < n → MayStand encoding (slice_index bs i) (slice_index bs (suc i)) (slice_index bs (suc (suc i))) (slice_index bs (suc (suc (suc i)))) (slice_index bs (suc (suc (suc (suc i)))))
+
+-- the same of each of the bytes after w, x, y and z, by recursion
+abbrev pub Steps : Encoding → ℕ → ℕ → ℕ → ℕ → List ℕ → Type 0
+Steps encoding w x y z [] = Unit {0}
+Steps encoding w x y z (b ∷ bs) = MayStand encoding w x y z b × Steps encoding x y z b bs
 
 -- a code point begins after the bytes x, y and z, and the code point p before it is a high surrogate exactly if these bytes are its form
 pub record IsEdge (p x y z : ℕ) : Type 0 where

@@ -7,7 +7,7 @@ use Rattle.std.proofs.lemmas.Bool.{and_parts, cases_eq, cases_lt, cases_Bool, lt
 use Rattle.std.proofs.lemmas.List.{drop_more, take_at, drop_at}
 use Rattle.std.proofs.lemmas.Str.{IsCharBoundary-after_ascii, IsCharBoundary-from_take, IsUtf8-drop, encode_ascii, chars-append, chars_past_char, encodes-chars, scalars-chars}
 use Rattle.std.proofs.Math.Utf8.{scalar, scalar_cases}
-use Rattle.memchr.specs.Find.{Nowhere, NoneBefore, Passes, is_byte}
+use Rattle.memchr.specs.Find.{NoneBefore, Passes, is_byte}
 use Rattle.wtf8_core.proofs.lemmas.forms.ByStd.{form_encode}
 use Rattle.os_quote.specs.Item.{Item, backslash, item_text, item_texts, IsItem, hidden_item, character_item}
 use Rattle.os_quote.specs.Shown.{is_any}
@@ -25,14 +25,6 @@ none_from [] zero h = tt
 none_from [] (suc n) h = tt
 none_from (x ∷ t) zero h = tt
 none_from (x ∷ t) (suc n) h = (no_place x (h 0 (omega arith)), none_from t n (λ k lt. h (suc k) (omega arith)))
-
--- if the search finds no backslash there is none
-pub no_backslash : (t : List ℕ) → Nowhere (IsPlace t) 0 (length t) → HasNoBackslash t
-no_backslash t h = all t (λ k lt. h k (omega arith) lt)
-  where
-    all : (xs : List ℕ) → ((k : ℕ) → k < length xs → ¬ (is_byte backslash (get_or xs k 0) ≡ true)) → HasNoBackslash xs
-    all [] h = tt
-    all (x ∷ xs) h = (no_place x (h 0 (omega arith)), all xs (λ k lt. h (suc k) (omega arith)))
 
 -- if it finds one, that is the first, and the text may be cut after it
 pub record IsFirstBackslash (t : List ℕ) (i : ℕ) : Type 0 where

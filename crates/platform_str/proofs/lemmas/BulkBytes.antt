@@ -1,11 +1,10 @@
 -- The bytes of units, prefix by prefix.
 use Rattle.std.proofs.Common.{◌≡◌, ℕ, ◌+◌, ◌≤◌, ◌<◌, List, [], ◌∷◌, ◌++◌, length, length-append, take, drop, slice_index, get_or, Fits, w16, refl, sym, ap, ◌∙◌, subst, arith, append_assoc}
-use Rattle.std.proofs.lemmas.Bool.Decides.{nat_tests}
 use Rattle.std.proofs.lemmas.List.{append-nil, length-take, take_all, take-append-drop}
 use Rattle.std.proofs.lemmas.List.Elements.{recursion_from_All, All-from_get_or}
 use Rattle.std.specs.List.{All, AllByRecursion}
 use Rattle.wtf8_core.specs.Surrogate.{IsHigh, IsLow, paired}
-use Rattle.wtf8_core.specs.CodePoint.{IsCodePoint, form, wide}
+use Rattle.wtf8_core.specs.CodePoint.{IsCodePoint, form}
 use Rattle.wtf8_core.specs.Wtf8.{MayPrecede, HasUnits, units}
 use Rattle.wtf8_core.proofs.lemmas.forms.Shapes.{form_ascii}
 use Rattle.wtf8_core.proofs.lemmas.units.OneToOne.{IsUnit, wide_single, may_precede, paired_units, units_spelled}

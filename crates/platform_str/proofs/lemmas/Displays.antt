@@ -1,10 +1,9 @@
 -- Characters of lossy texts, and texts that are filled.
-use Rattle.std.proofs.Common.{◌≡◌, ℕ, ◌+◌, ◌-◌, ◌≤◌, List, [], ◌∷◌, ◌++◌, length, cond, Option, Some, None, refl, sym, ap, ◌∙◌, arith, append_assoc, unwrap_or}
+use Rattle.std.proofs.Common.{◌≡◌, ℕ, ◌+◌, ◌-◌, ◌≤◌, List, [], ◌∷◌, ◌++◌, length, cond, Option, Some, refl, sym, ap, ◌∙◌, arith, append_assoc, unwrap_or}
 use Rattle.std.specs.Char.{encode_utf8}
 use Rattle.std.specs.List.{repeat}
 use Rattle.std.specs.Fmt.{is_char_start, char_count}
 use Rattle.std.specs.declared.fmt.Alignment.{Alignment}
-use Rattle.std.specs.declared.fmt.Alignment.TheVariants.{Left, Right, Center}
 use Rattle.wtf8_core.specs.Lossy.{replacement}
 use Rattle.platform_str.specs.Lossy.{IsFirstText}
 use Rattle.platform_str.proofs.lemmas.LossyLoops.{encode_fffd}

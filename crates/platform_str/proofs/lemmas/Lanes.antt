@@ -1,28 +1,19 @@
 -- What a test of all lanes says of each lane.
-use Rattle.std.proofs.Common.{◌≡◌, ℕ, zero, suc, ◌+◌, ◌*◌, ◌/◌, ◌-◌, ◌%◌, ◌^◌, ◌≤◌, ◌<◌, Bool, true, false, cond, eqb, leb, List, [], ◌∷◌, map, length, get_or, slice_index, replicate, take, set, not, ◌++◌, refl, sym, ap, ◌∙◌, subst, arith, eqb-true, leb-false}
+use Rattle.std.proofs.Common.{◌≡◌, ℕ, zero, suc, ◌+◌, ◌*◌, ◌/◌, ◌-◌, ◌%◌, ◌^◌, ◌≤◌, ◌<◌, true, cond, eqb, leb, List, [], ◌∷◌, map, length, slice_index, replicate, take, set, not, ◌++◌, refl, sym, ap, ◌∙◌, subst, arith, eqb-true, leb-false}
 use Rattle.std.proofs.Math.Nat.{mod-eq_of_lt}
 use Rattle.std.proofs.Math.Seq.{take-append-add}
 use Rattle.std.proofs.lemmas.Bool.{cond_both}
 use Rattle.std.proofs.lemmas.Bool.Decides.{nat_tests}
-use Rattle.std.proofs.lemmas.List.{length-map, length-take-le, take_more_set}
+use Rattle.std.proofs.lemmas.List.{length-map, length-take-le, take_more_set, take-take}
 use Rattle.std.proofs.lemmas.List.Sums.{prefix_len-le-length}
 use Rattle.std.proofs.lemmas.Simd.{tops_compared, zip2_splat, zip2_splat_left, mask_l-mod, bitmask_splat, ones-mask_l, length-zip2, map-map, trailing_mask_l, take_more_put_chunk}
 use Rattle.std.specs.Int.Count.{count_trailing_zeros}
 use Rattle.std.specs.Int.RustNames.{count_ones}
 use Rattle.std.specs.List.{All, AllByRecursion, count_by, prefix_len}
+use Rattle.wtf8_core.proofs.lemmas.scan.Lanes.{none_set}
 use lib.Lanes.{zip2, mask_l, top, put_chunk}
 use mir.Syntax.{Width, w16}
 use mir.Val.{bits, hbits}
-
--- a mask with no bit set
-none_set : (test : ℕ → Bool) (xs : List ℕ) → mask_l (map test xs) ≡ 0 → (i d : ℕ) → i < length xs → test (get_or xs i d) ≡ false
-none_set test [] e i d h = absurd (omega (arith, h))
-none_set test (x ∷ xs) e zero d h = go (test x) refl (omega (arith, e))
-  where
-    go : (t : Bool) → test x ≡ t → ◌≡◌ {A = ℕ} (cond (test x) 1 0) 0 → test x ≡ false
-    go true p q = absurd (omega (arith, rw p at q))
-    go false p q = p
-none_set test (x ∷ xs) e (suc i) d h = none_set test xs (omega (arith, e)) i d (omega (arith, h))
 
 -- if no bit of the comparison is set, no lane is y or more
 pub all_below_splat : (w : Width) (y n : ℕ) (xs : List ℕ) → length xs ≡ n → n ≤ 64 → eqb (mask_l (map (top (hbits w)) (zip2 (λ a b. cond (leb a b) (2 ^ bits w - 1) 0) (replicate n y) xs)) % 2 ^ 64) 0 ≡ true
@@ -93,17 +84,10 @@ front_below_splat w y n xs p l e =
       subst (λ k. AllByRecursion (λ x. x < y) (take k xs)) (sym first) (below_first y xs),
     )
 
--- a prefix of a prefix
-pub front_of_front : (n m : ℕ) (xs : List ℕ) → n ≤ m → take n (take m xs) ≡ take n xs
-front_of_front zero m xs h = refl
-front_of_front (suc n) zero xs h = absurd (omega arith)
-front_of_front (suc n) (suc m) [] h = refl
-front_of_front (suc n) (suc m) (x ∷ xs) h = ap (λ l. x ∷ l) (front_of_front n m xs (omega arith))
-
 -- the first lanes of a vector that was stored
 pub take_front_put_chunk : (i n : ℕ) (xs ys : List ℕ) → i + length ys ≤ length xs → n ≤ length ys → take (i + n) (put_chunk i xs ys) ≡ take i xs ++ take n ys
 take_front_put_chunk i n xs ys h k =
-    sym (front_of_front (i + n) (i + length ys) (put_chunk i xs ys) (omega (arith, k)))
+    sym (take-take (i + n) (i + length ys) (put_chunk i xs ys) (omega (arith, k)))
     ∙ ap (take (i + n)) (take_more_put_chunk i xs ys (i + length ys) refl h)
     ∙ ap (λ j. take (j + n) (take i xs ++ ys)) (sym (length-take-le i xs (omega (arith, h))))
     ∙ take-append-add (take i xs) ys n
@@ -119,11 +103,6 @@ front_kept f y (suc n) (suc m) (x ∷ xs) k h a = ap (λ z. z ∷ take n (map f 
 pub first_below : (y : ℕ) (xs : List ℕ) → 0 < length xs → slice_index xs 0 < y → AllByRecursion (λ x. x < y) (take 1 xs)
 first_below y [] h b = tt
 first_below y (x ∷ xs) h b = (b, tt)
-
-pub first_of_front : (n : ℕ) (xs : List ℕ) → 0 < n → slice_index (take n xs) 0 ≡ slice_index xs 0
-first_of_front zero xs h = absurd (omega arith)
-first_of_front (suc n) [] h = refl
-first_of_front (suc n) (x ∷ xs) h = refl
 
 -- the first that is stored alone
 pub take_one_set : (i y : ℕ) (xs us : List ℕ) → 0 < length us → i < length xs → AllByRecursion (λ x. x < y) (take 1 us) → take (i + 1) (set xs i (slice_index us 0 % y)) ≡ take i xs ++ take 1 us

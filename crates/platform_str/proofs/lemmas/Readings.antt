@@ -1,5 +1,5 @@
 -- One step of the loop over the faults of bytes that aren't WTF-8.
-use Rattle.std.proofs.Common.{◌≡◌, ℕ, ◌≤◌, List, ◌++◌, length, take, drop, sym, ap, ◌∙◌, subst, arith, append_assoc, length-append}
+use Rattle.std.proofs.Common.{◌≡◌, ℕ, List, ◌++◌, take, drop, sym, ap, ◌∙◌, subst, append_assoc}
 use Rattle.std.proofs.lemmas.List.{take_at, drop_at}
 use Rattle.wtf8_core.specs.Wtf8.{IsWtf8}
 use Rattle.wtf8_core.specs.Fault.{IsFaultAt}
@@ -18,15 +18,6 @@ module _ {rest : List ℕ} {v n : ℕ} (f : IsFaultAt rest v n) where
 
   behind_is : drop n (drop v rest) ≡ f.first.begins.rest
   behind_is = ap (drop n) (faulty_is ∙ f.first.begins.is) ∙ drop_at f.first.begins.refused f.first.begins.rest n (sym f.refused_is)
-
-  -- the fault's index and its part lie within the bytes
-  pub place_fits : v ≤ length rest
-  place_fits = let all = ap length f.first.joined ∙ length-append f.first.before f.first.from in omega (arith, f.valid_is)
-
-  pub part_fits : {faulty : List ℕ} → faulty ≡ drop v rest → n ≤ length faulty
-  part_fits e =
-      let all = ap length (e ∙ faulty_is ∙ f.first.begins.is) ∙ length-append f.first.begins.refused f.first.begins.rest in
-      omega (arith, f.refused_is)
 
   -- the text before the fault and one U+FFFD are made, and what follows the part is left
   pub read_part : (all made : List ℕ) {front faulty behind once twice : List ℕ} → IsLeftToRead all made rest → front ≡ take v rest → faulty ≡ drop v rest → behind ≡ drop n faulty

@@ -39,18 +39,18 @@ lane_above xs n y p fits u i h =
     ∙ lifted (get_or xs i 0) y (Each1-get_or (Fits w8) xs i 0 (omega (arith, p, h)) fits).fits u
 
 -- a mask with no bit set
-none_set : (test : ℕ → Bool) (xs : List ℕ) → mask_l (map test xs) ≡ 0 → (i : ℕ) → i < length xs → test (get_or xs i 0) ≡ false
-none_set test [] e i h = absurd (omega (arith, h))
-none_set test (x ∷ xs) e zero h = go (test x) refl (omega (arith, e))
+pub none_set : (test : ℕ → Bool) (xs : List ℕ) → mask_l (map test xs) ≡ 0 → (i d : ℕ) → i < length xs → test (get_or xs i d) ≡ false
+none_set test [] e i d h = absurd (omega (arith, h))
+none_set test (x ∷ xs) e zero d h = go (test x) refl (omega (arith, e))
   where
     go : (t : Bool) → test x ≡ t → ◌≡◌ {A = ℕ} (cond (test x) 1 0) 0 → test x ≡ false
     go true p q = absurd (omega (arith, rw p at q))
     go false p q = p
-none_set test (x ∷ xs) e (suc i) h = none_set test xs (omega (arith, e)) i (omega (arith, h))
+none_set test (x ∷ xs) e (suc i) d h = none_set test xs (omega (arith, e)) i d (omega (arith, h))
 
 none_passes : (t : ℕ → ℕ → Bool) (xs : List ℕ) (k y : ℕ) → k ≤ 64 → length xs ≡ k → eqb (mask_l (map (top 7) (zip2 (λ a b. cond (t a b) 255 0) xs (replicate k y))) % 2 ^ 64) 0 ≡ true
     → (i : ℕ) → i < k → t (get_or xs i 0) y ≡ false
-none_passes t xs k y few p e i h = none_set (λ x. t x y) xs (sym (bitmask_splat w8 t xs k y p few) ∙ eqb-true _ _ e) i (omega (arith, p, h))
+none_passes t xs k y few p e i h = none_set (λ x. t x y) xs (sym (bitmask_splat w8 t xs k y p few) ∙ eqb-true _ _ e) i 0 (omega (arith, p, h))
 
 -- both halves of 64 lanes, bit by bit
 abbrev both_halves : List ℕ → List ℕ
@@ -82,13 +82,13 @@ pub none_passes_left : (t : ℕ → ℕ → Bool) (xs : List ℕ) (y : ℕ) → 
     → (i : ℕ) → i < 64 → t y (get_or xs i 0) ≡ false
 none_passes_left t xs y p e i h =
     none_set (t y) xs (sym (mask_l-mod (map (t y) xs) 64 (omega (arith, length-map xs (t y), p)))
-    ∙ rw (tops_compared w8 t (replicate 64 y) xs, zip2_splat_left t y 64 xs p) at (eqb-true _ _ e)) i (omega (arith, p, h))
+    ∙ rw (tops_compared w8 t (replicate 64 y) xs, zip2_splat_left t y 64 xs p) at (eqb-true _ _ e)) i 0 (omega (arith, p, h))
 
 -- before the first bit that is set no lane passes
 none_before : (test : ℕ → Bool) (xs : List ℕ) → length xs ≤ 64 → (i : ℕ) → i < length xs → i < count_trailing_zeros 64 (mask_l (map test xs)) → test (get_or xs i 0) ≡ false
 none_before test xs p i l h =
     ⊎_elim
-    (λ e. none_set test xs e i l)
+    (λ e. none_set test xs e i 0 l)
     (λ s. not-true _ (prefix_len_passes (λ x. not (test x)) xs i 0 (omega (arith, h, trailing_mask_l test 64 xs p s))))
     (cases_zero (mask_l (map test xs)))
   where

@@ -1,5 +1,5 @@
 -- Bytes that keep to the pattern are forms of code points.
-use Rattle.wtf8_core.proofs.Common.{◌≡◌, inl, inr, ⊎_elim, ℕ, zero, suc, ◌+◌, ◌<◌, ◌≤◌, List, [], ◌∷◌, ◌++◌, length, get_or, refl, sym, ap, ◌∙◌, subst, arith, cases_lt, nat_tests, AllByRecursion, flat_map, IsScalar, low_scalar, IsContinuation, IsHigh, IsLow, form, Spells, MayPrecede, last_behind, shape_value, AllMayStand, IsEdge, ◌/◌, ◌%◌}
+use Rattle.wtf8_core.proofs.Common.{◌≡◌, inl, inr, ⊎_elim, ℕ, zero, suc, ◌+◌, ◌<◌, ◌≤◌, List, [], ◌∷◌, ◌++◌, length, get_or, refl, sym, ap, ◌∙◌, subst, arith, cases_lt, nat_tests, AllByRecursion, flat_map, IsScalar, low_scalar, IsContinuation, IsHigh, IsLow, form, Spells, MayPrecede, last_behind, shape_value, AllMayStand, Steps, IsEdge, ◌/◌, ◌%◌}
 use Rattle.wtf8_core.proofs.lemmas.forms.Shapes.{form_ascii, form_past}
 use Rattle.wtf8_core.proofs.lemmas.scan.LedForms.{IsFormOf, two_small, two_form, two_scalar, three_form, three_high, three_low, only_three_high, three_scalar, four_past, four_form, four_scalar}
 use Rattle.wtf8_core.specs.declared.scan.Encoding.{Encoding}
@@ -89,65 +89,68 @@ one_more encoding p c front bytes i free scalar r = record {
   plain = λ e. (scalar e, r.plain e);
 }
 
--- before bytes that begin with no continuation
-module _ (s : Encoding) (rest : List ℕ) (ends : IsContinuation (get_or rest 0 0) → ⊥) where
+-- the pattern by recursion, for some of the bytes and the one after them
+pub steps : (s : Encoding) (w x y z : ℕ) (bs rest : List ℕ) → AllMayStand s (suc (length bs)) (w ∷ x ∷ y ∷ z ∷ (bs ++ rest)) → Steps s w x y z (bs ++ get_or rest 0 0 ∷ [])
+steps s w x y z [] rest h = (h 0 (omega arith), tt)
+steps s w x y z (b ∷ bs) rest h = (h 0 (omega arith), steps s x y z b bs rest (λ i l. h (suc i) (omega (arith, l))))
+
+-- before a byte that is no continuation
+module _ (s : Encoding) (next : ℕ) (ends : IsContinuation next → ⊥) where
   -- what is shown of n bytes at most
   abbrev Shown : ℕ → Type 0
-  Shown n = (p w x y z : ℕ) (bs : List ℕ) → length bs ≤ n → IsEdge p x y z → AllMayStand s (suc (length bs)) (w ∷ x ∷ y ∷ z ∷ (bs ++ rest)) → IsWhole s p bs
+  Shown n = (p w x y z : ℕ) (bs : List ℕ) → length bs ≤ n → IsEdge p x y z → Steps s w x y z (bs ++ next ∷ []) → IsWhole s p bs
 
-  module _ (n p w x y z a : ℕ) (shown : Shown n) (edge : IsEdge p x y z) where
-    one_byte : (bs : List ℕ) → length bs ≤ n → a < 0x80 → AllMayStand s (suc (suc (length bs))) (w ∷ x ∷ y ∷ z ∷ a ∷ (bs ++ rest)) → IsWhole s p (a ∷ bs)
+  module _ (n p x y z a : ℕ) (shown : Shown n) (edge : IsEdge p x y z) where
+    one_byte : (bs : List ℕ) → length bs ≤ n → a < 0x80 → Steps s x y z a (bs ++ next ∷ []) → IsWhole s p (a ∷ bs)
     one_byte bs m u h =
-        one_more s p a (a ∷ []) bs (record { code_point = omega (arith, u); is = form_ascii a u }) (λ _ f. omega (arith, f.0, u)) (λ _. low_scalar a (omega (arith, u)))
-        (shown a x y z a bs m (edge_one p x y z edge a u) (λ t v. h (suc t) (omega (arith, v))))
+        one_more s p a (a ∷ []) bs (record { code_point = omega (arith, u); is = form_ascii a u }) (λ _ f. omega (arith, f.0, u)) (λ _. low_scalar a (omega (arith, u))) (shown a x y z a bs m (edge_one p x y z edge a u) h)
 
-    two_bytes : (bs : List ℕ) → length bs ≤ n → 0xC0 ≤ a → a < 0xE0 → AllMayStand s (suc (suc (length bs))) (w ∷ x ∷ y ∷ z ∷ a ∷ (bs ++ rest)) → IsWhole s p (a ∷ bs)
-    two_bytes [] m l u h = absurd (ends ((h 1 (omega arith)).continues (inr (inr l))))
+    two_bytes : (bs : List ℕ) → length bs ≤ n → 0xC0 ≤ a → a < 0xE0 → Steps s x y z a (bs ++ next ∷ []) → IsWhole s p (a ∷ bs)
+    two_bytes [] m l u h = absurd (ends (h.0.continues (inr (inr l))))
     two_bytes (b ∷ bs) m l u h =
-        let k = (h 1 (omega arith)).continues (inr (inr l)) in
-        let lead = (h 1 (omega arith)).follows.lead l in
+        let k = h.0.continues (inr (inr l)) in
+        let lead = h.0.follows.lead l in
         let small = two_small a b lead.0 u k in
         let c = shape_value a (b ∷ []) in
-        one_more s p c (a ∷ b ∷ []) bs (two_form a b lead.0 u k) (λ g f. omega (arith, f.0, small)) (λ _. two_scalar a b lead.0 u k)
-        (shown c y z a b bs (omega arith) (edge_two p x y z edge c a b small u k) (λ j t. h (suc (suc j)) (omega (arith, t))))
+        one_more s p c (a ∷ b ∷ []) bs (two_form a b lead.0 u k) (λ g f. omega (arith, f.0, small)) (λ _. two_scalar a b lead.0 u k) (shown c y z a b bs (omega arith) (edge_two p x y z edge c a b small u k) h.1)
 
-    three_bytes : (bs : List ℕ) → length bs ≤ n → 0xE0 ≤ a → a < 0xF0 → AllMayStand s (suc (suc (length bs))) (w ∷ x ∷ y ∷ z ∷ a ∷ (bs ++ rest)) → IsWhole s p (a ∷ bs)
-    three_bytes [] m l u h = absurd (ends ((h 1 (omega arith)).continues (inr (inr (omega (arith, l))))))
-    three_bytes (b ∷ []) m l u h = absurd (ends ((h 2 (omega arith)).continues (inr (inl l))))
+    three_bytes : (bs : List ℕ) → length bs ≤ n → 0xE0 ≤ a → a < 0xF0 → Steps s x y z a (bs ++ next ∷ []) → IsWhole s p (a ∷ bs)
+    three_bytes [] m l u h = absurd (ends (h.0.continues (inr (inr (omega (arith, l))))))
+    three_bytes (b ∷ []) m l u h = absurd (ends (h.1.0.continues (inr (inl l))))
     three_bytes (b ∷ d ∷ bs) m l u h =
-        let q = h 1 (omega arith) in
+        let q = h.0 in
         let j = q.continues (inr (inr (omega (arith, l)))) in
-        let k = (h 2 (omega arith)).continues (inr (inl l)) in
+        let k = h.1.0.continues (inr (inl l)) in
         let c = shape_value a (b ∷ d ∷ []) in
         one_more s p c (a ∷ b ∷ d ∷ []) bs (three_form a b d l u j k q.follows.three_long)
         (λ g f. let e = edge.high g in let o = three_low a b d l u j k f in omega (arith, q.unpaired e.0 e.1 e.2 o.0, o.1)) (λ e. three_scalar a b d l u j k (q.plain e))
-        (shown c z a b d bs (omega arith) (edge_three c a b d u j k (three_high a b d l u j k) (only_three_high a b d l u j k)) (λ t v. h (suc (suc (suc t))) (omega (arith, v))))
+        (shown c z a b d bs (omega arith) (edge_three c a b d u j k (three_high a b d l u j k) (only_three_high a b d l u j k)) h.1.1)
 
-    four_bytes : (bs : List ℕ) → length bs ≤ n → 0xF0 ≤ a → AllMayStand s (suc (suc (length bs))) (w ∷ x ∷ y ∷ z ∷ a ∷ (bs ++ rest)) → IsWhole s p (a ∷ bs)
-    four_bytes [] m l h = absurd (ends ((h 1 (omega arith)).continues (inr (inr (omega (arith, l))))))
-    four_bytes (b ∷ []) m l h = absurd (ends ((h 2 (omega arith)).continues (inr (inl (omega (arith, l))))))
-    four_bytes (b ∷ d ∷ []) m l h = absurd (ends ((h 3 (omega arith)).continues (inl l)))
+    four_bytes : (bs : List ℕ) → length bs ≤ n → 0xF0 ≤ a → Steps s x y z a (bs ++ next ∷ []) → IsWhole s p (a ∷ bs)
+    four_bytes [] m l h = absurd (ends (h.0.continues (inr (inr (omega (arith, l))))))
+    four_bytes (b ∷ []) m l h = absurd (ends (h.1.0.continues (inr (inl (omega (arith, l))))))
+    four_bytes (b ∷ d ∷ []) m l h = absurd (ends (h.1.1.0.continues (inl l)))
     four_bytes (b ∷ d ∷ g ∷ bs) m l h =
-        let q = h 1 (omega arith) in
+        let q = h.0 in
         let lead = q.follows.lead (omega (arith, l)) in
         let i = q.continues (inr (inr (omega (arith, l)))) in
-        let j = (h 2 (omega arith)).continues (inr (inl (omega (arith, l)))) in
-        let k = (h 3 (omega arith)).continues (inl l) in
+        let j = h.1.0.continues (inr (inl (omega (arith, l)))) in
+        let k = h.1.1.0.continues (inl l) in
         let c = shape_value a (b ∷ d ∷ g ∷ []) in
         let past : 0x1_0000 ≤ c = four_past a b d g l lead.1 q.follows.four_long q.follows.within i j k in
         one_more s p c (a ∷ b ∷ d ∷ g ∷ []) bs (four_form a b d g l lead.1 q.follows.four_long q.follows.within i j k) (λ _ f. omega (arith, f.1, past)) (λ _. four_scalar a b d g l lead.1 q.follows.four_long q.follows.within i j k)
-        (shown c a b d g bs (omega arith) (edge_four c b d g past i j k) (λ t v. h (suc (suc (suc (suc t)))) (omega (arith, v))))
+        (shown c a b d g bs (omega arith) (edge_four c b d g past i j k) h.1.1.1)
 
   by_length : (n : ℕ) → Shown n
   by_length n p w x y z [] m edge h = record { code_points = []; spelled = record { code_points = tt; paired_free = tt; joined = refl }; free = tt; plain = λ _. tt }
   by_length zero p w x y z (a ∷ bs) m edge h = absurd (omega (arith, m))
   by_length (suc n) p w x y z (a ∷ bs) m edge h =
-      ⊎_elim (λ u. one_byte n p w x y z a (by_length n) edge bs (omega (arith, m)) u h)
-      (λ l. ⊎_elim (λ u. two_bytes n p w x y z a (by_length n) edge bs (omega (arith, m)) l u h) (λ k. ⊎_elim
-      (λ u. three_bytes n p w x y z a (by_length n) edge bs (omega (arith, m)) k u h) (λ v. four_bytes n p w x y z a (by_length n) edge bs (omega (arith, m)) v h)
-      (cases_lt a 0xF0)) (cases_lt a 0xE0))
-      ((h 0 (omega arith)).begins edge.closed)
+      let few : length bs ≤ n = omega (arith, m) in
+      ⊎_elim (λ u. one_byte n p x y z a (by_length n) edge bs few u h.1)
+      (λ l. ⊎_elim (λ u. two_bytes n p x y z a (by_length n) edge bs few l u h.1) (λ k. ⊎_elim
+      (λ u. three_bytes n p x y z a (by_length n) edge bs few k u h.1) (λ v. four_bytes n p x y z a (by_length n) edge bs few v h.1)
+      (cases_lt a 0xF0)) (cases_lt a 0xE0)) (h.0.begins edge.closed)
 
-  -- bytes that keep to the pattern, up to those that begin with no continuation, are whole
-  pub whole : (p w x y z : ℕ) (bs : List ℕ) → IsEdge p x y z → AllMayStand s (suc (length bs)) (w ∷ x ∷ y ∷ z ∷ (bs ++ rest)) → IsWhole s p bs
+  -- bytes that keep to the pattern, up to one that is no continuation, are whole
+  pub whole : (p w x y z : ℕ) (bs : List ℕ) → IsEdge p x y z → Steps s w x y z (bs ++ next ∷ []) → IsWhole s p bs
   whole p w x y z bs edge h = by_length (length bs) p w x y z bs (omega arith) edge h

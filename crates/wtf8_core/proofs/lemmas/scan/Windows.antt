@@ -9,7 +9,7 @@ use Rattle.wtf8_core.proofs.lemmas.forms.Cuts.{all_parts, cut_before, spells_par
 use Rattle.wtf8_core.proofs.lemmas.characters.Seams.{scalars_are}
 use Rattle.wtf8_core.proofs.lemmas.texts.AreWtf8.{text_spells}
 use Rattle.wtf8_core.proofs.lemmas.scan.PairBits.{same_five}
-use Rattle.wtf8_core.proofs.lemmas.scan.ScannedIsSpelled.{IsEdgeAt, edge_of_forms, whole}
+use Rattle.wtf8_core.proofs.lemmas.scan.ScannedIsSpelled.{IsEdgeAt, edge_of_forms, steps, whole}
 use Rattle.wtf8_core.specs.declared.scan.Encoding.{Encoding}
 use Rattle.wtf8_core.specs.declared.scan.Encoding.TheVariants.{Utf8, Wtf8}
 
@@ -91,8 +91,8 @@ module _ (encoding : Encoding) (bytes : List ℕ) where
           let rest : drop (n - k.from) (drop k.from bytes) ≡ drop n bytes = drop-drop (n - k.from) k.from bytes ∙ ap (λ i. drop i bytes) place in
           let around = four_before 0 0 0 0 bytes k.from f.within ∙ ap (λ x. get_or (behind_zeros bytes) k.from 0 ∷ get_or (behind_zeros bytes) (suc k.from) 0 ∷ get_or (behind_zeros bytes) (suc (suc k.from)) 0 ∷ get_or (behind_zeros bytes) (suc (suc (suc k.from))) 0 ∷ x) (sym (take-append-drop (n - k.from) (drop k.from bytes)) ∙ ap (λ x. bs ++ x) rest) in
           let first : get_or (drop n bytes) 0 0 ≡ get_or bytes n 0 = get_or-drop n bytes 0 0 ∙ (let z : n + 0 ≡ n = omega arith in ap (λ i. get_or bytes i 0) z) in
-          let r = whole encoding (drop n bytes) (λ c. ends (subst IsContinuation first c)) (last_behind 0 f.code_points) _ _ _ _ bs (edge_at bytes f.code_points k.from f.within f.spelled)
-          (subst (AllMayStand encoding (suc (length bs))) around (λ i j. k.pattern i (omega (arith, j, size, l, le)))) in
+          let r = whole encoding _ (λ c. ends (subst IsContinuation first c)) (last_behind 0 f.code_points) _ _ _ _ bs (edge_at bytes f.code_points k.from f.within f.spelled)
+          (steps encoding _ _ _ _ bs (drop n bytes) (subst (AllMayStand encoding (suc (length bs))) around (λ i j. k.pattern i (omega (arith, j, size, l, le))))) in
           record {
             within = h;
             code_points = f.code_points ++ r.code_points;

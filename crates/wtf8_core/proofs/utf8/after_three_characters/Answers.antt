@@ -7,12 +7,6 @@ use Rattle.wtf8_core.proofs.utf8.after_three_characters.Goals as goal
 place : (bytes rest : List ℕ) (at : ℕ) → at ≤ length bytes → rest ≡ drop at bytes → length bytes - length rest ≡ at
 place bytes rest at within e = omega (arith, within, ap length e, length-drop at bytes)
 
-pub loop-init : goal.loop-init
-loop-init c = (c.args.from, c.requires.within, c.split_at.ensures.back, c.requires.text)
-
-pub split_at-requires : goal.split_at-requires
-split_at-requires c = c.requires.within
-
 pub returns-in-Some-Err-clause-read : goal.returns-in-Some-Err-clause-read
 returns-in-Some-Err-clause-read c =
     let i = c.loop.invariant in

@@ -1,4 +1,4 @@
-use Rattle.wtf8_core.proofs.Common.{arith, subst, sym, AllMayStand}
+use Rattle.wtf8_core.proofs.Common.{arith}
 use Rattle.wtf8_core.proofs.lemmas.scan.PairBits.{kept_by_zeros}
 use Rattle.wtf8_core.proofs.scan.error_bits.kept_len.Goals as goal
 
@@ -10,6 +10,3 @@ pub returns-in-Utf8-clause-pattern : goal.returns-in-Utf8-clause-pattern
 returns-in-Utf8-clause-pattern c =
     let clear = c.leading_zero.ensures in
     kept_by_zeros c.args.encoding _ c.args.window.now c.error_bits-wrong.result (λ k. omega (arith, c.type_inv.window k)) (λ i h. c.error_bits-wrong.ensures i (omega (arith, h, clear.within))) (λ i h. clear.zero i h (omega (arith, h, clear.within)))
-
-pub returns-in-Wtf8-clause-pattern : goal.returns-in-Wtf8-clause-pattern
-returns-in-Wtf8-clause-pattern c = subst (λ e. AllMayStand e c.kept_with_surrogates.result c.args.window.now) (sym c.in-Wtf8.is) c.kept_with_surrogates.ensures.pattern

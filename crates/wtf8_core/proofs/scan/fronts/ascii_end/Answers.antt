@@ -1,5 +1,5 @@
 use Rattle.wtf8_core.proofs.Common.{refl, arith, length, ◌+◌, ◌≤◌}
-use Rattle.wtf8_core.proofs.lemmas.scan.Windows.{front_keeps, front_behind_ascii, more_ascii}
+use Rattle.wtf8_core.proofs.lemmas.scan.Windows.{front_behind_ascii, more_ascii}
 use Rattle.wtf8_core.proofs.scan.fronts.ascii_end.Goals as goal
 
 pub loop-end-init : goal.loop-end-init
@@ -8,17 +8,8 @@ loop-end-init c =
     let room : c.args.at + 64 ≤ length bytes = omega (arith, c.if-bytes-at-lt-BLOCK.false, c.requires.within) in
     (omega arith, room, λ s k. more_ascii s bytes c.args.at 64 room (c.if-not-is_ascii_block.ensures refl) (front_behind_ascii s bytes c.args.at c.requires.some c.requires.within (c.if-not-is_behind_ascii.ensures refl) k))
 
-pub overflow_sub-bytes-in-loop-end : goal.overflow_sub-bytes-in-loop-end
-overflow_sub-bytes-in-loop-end c = c.loop-end.invariant.1
-
 pub loop-end-preserved : goal.loop-end-preserved
 loop-end-preserved c =
     let i = c.loop-end.invariant in
     let room : c.loop-end.end + 64 ≤ length c.args.bytes.now = omega (arith, c.loop-end-test.true, i.1) in
     (omega (arith, i.0), room, λ s k. more_ascii s c.args.bytes.now c.loop-end.end 64 room (c.if-is_ascii_block.ensures refl) (i.2 s k))
-
-pub returns-after-loop-end-clause-within : goal.returns-after-loop-end-clause-within
-returns-after-loop-end-clause-within c = c.loop-end.invariant.1
-
-pub returns-after-loop-end-clause-kept : goal.returns-after-loop-end-clause-kept
-returns-after-loop-end-clause-kept c s k = front_keeps s c.args.bytes.now c.loop-end.end (c.loop-end.invariant.2 s k)

@@ -7,6 +7,3 @@ returns-then-kept-bytes-clause-front c =
     let bytes = c.args.bytes.now in
     by_pattern c.args.encoding bytes (length bytes) (c.args.at + c.window_len-kept.result) (omega arith) (omega (arith, c.if-kept-bytes.true)) (c.window_len-kept.ensures.kept c.requires.kept)
     (λ h. omega (arith, h.0, get_or_past bytes (length bytes) 0 (omega arith)))
-
-pub returns-clause-front : goal.returns-clause-front
-returns-clause-front c = c.start_before.ensures.front c.args.encoding (c.window_len-kept.ensures.kept c.requires.kept)
