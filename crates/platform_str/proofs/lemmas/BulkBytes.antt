@@ -1,6 +1,6 @@
 -- The bytes of units, prefix by prefix.
 use Rattle.std.proofs.Common.{◌≡◌, ℕ, ◌+◌, ◌≤◌, ◌<◌, List, [], ◌∷◌, ◌++◌, length, length-append, take, drop, slice_index, get_or, Fits, w16, refl, sym, ap, ◌∙◌, subst, arith, append_assoc}
-use Rattle.std.proofs.lemmas.List.{append-nil, length-take, take_all, take-append-drop}
+use Rattle.std.proofs.lemmas.List.{append-nil, get_or-take, length-take, take_all, take-append-drop}
 use Rattle.std.proofs.lemmas.List.Elements.{recursion_from_All, All-from_get_or}
 use Rattle.std.specs.List.{All, AllByRecursion}
 use Rattle.wtf8_core.specs.Surrogate.{IsHigh, IsLow, paired}
@@ -90,19 +90,15 @@ first_and_rest : (us : List ℕ) → 0 < length us → us ≡ slice_index us 0 �
 first_and_rest [] h = absurd (omega arith)
 first_and_rest (u ∷ us) h = refl
 
-first_of_one : (us : List ℕ) → 0 < length us → slice_index (take 1 us) 0 ≡ slice_index us 0
-first_of_one [] h = refl
-first_of_one (u ∷ us) h = refl
-
 pub of_first : {us front rest : List ℕ} {u : ℕ} → 0 < length us → IsUnit (slice_index us 0) → front ≡ take 1 us → rest ≡ drop 1 us → u ≡ slice_index front 0 → BeginsNoPair us → FirstCodePoint us u rest
 of_first {us} {front} {rest} {u} h i f r e n =
-    let v : u ≡ slice_index us 0 = e ∙ ap (λ x. slice_index x 0) f ∙ first_of_one us h in
+    let v : u ≡ slice_index us 0 = e ∙ ap (λ x. slice_index x 0) f ∙ get_or-take 1 us 0 0 (omega arith) in
     of_single us u rest (first_and_rest us h ∙ ap (λ x. x ∷ drop 1 us) (sym v) ∙ ap (λ x. u ∷ x) (sym r)) (subst IsUnit (sym v) i) n
 
 -- a unit below the surrogates begins no pair
 pub begins_none : {us front : List ℕ} → 0 < length us → front ≡ take 1 us → slice_index front 0 < 0xD800 → BeginsNoPair us
 begins_none {us} {front} h f b high low rest e i l =
-    omega (arith, i.0, b, ap (λ x. slice_index x 0) f, first_of_one us h, ap (λ x. slice_index x 0) e)
+    omega (arith, i.0, b, ap (λ x. slice_index x 0) f, get_or-take 1 us 0 0 (omega arith), ap (λ x. slice_index x 0) e)
 
 -- the units that come after others
 pub units_behind : (taken rest all : List ℕ) → all ≡ taken ++ rest → AllByRecursion IsUnit all → AllByRecursion IsUnit rest

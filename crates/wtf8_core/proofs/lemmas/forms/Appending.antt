@@ -1,5 +1,6 @@
 -- Lists joined, and one more at the end: of code points, of the forms that bytes spell, and of a sequence that has begun.
-use Rattle.wtf8_core.proofs.Common.{◌≡◌, ℕ, ◌+◌, ◌*◌, ◌%◌, List, [], ◌∷◌, ◌++◌, refl, sym, ap, ◌∙◌, append-nil, AllByRecursion, fold, flat_map, flat_map-append, IsContinuation, IsHigh, IsLow, IsCodePoint, form, Spells, IsPairedFree, MayPrecede, last_behind, IsBegun, shape_value, lead_bits, All, All-append, All-nil}
+use Rattle.wtf8_core.proofs.Common.{◌≡◌, ℕ, ◌+◌, ◌*◌, ◌%◌, List, [], ◌∷◌, ◌++◌, refl, sym, ap, ◌∙◌, append-nil, AllByRecursion, flat_map, flat_map-append, IsContinuation, IsHigh, IsLow, IsCodePoint, form, Spells, IsPairedFree, MayPrecede, last_behind, IsBegun, shape_value, lead_bits, All, All-append, All-nil}
+use Rattle.std.proofs.lemmas.List.Sums.{fold-append}
 use Rattle.wtf8_core.proofs.lemmas.reader.Continuations.{Join}
 
 -- what holds of each element of two lists holds of each of both joined
@@ -33,12 +34,8 @@ pub spells_more : (w cs : List ℕ) (c : ℕ) → Spells w cs → IsCodePoint c 
 spells_more w cs c s k g = spells_joined w (form c) cs (c ∷ []) s (spells_one c k) g
 
 -- one more continuation
-fold_more : (v : ℕ) (ks : List ℕ) (x : ℕ) → fold Join v (ks ++ x ∷ []) ≡ Join (fold Join v ks) x
-fold_more v [] x = refl
-fold_more v (k ∷ ks) x = fold_more (Join v k) ks x
-
 pub value_more : (lead : ℕ) (ks : List ℕ) (x : ℕ) → shape_value lead (ks ++ x ∷ []) ≡ shape_value lead ks * 0x40 + x % 0x40
-value_more lead ks x = fold_more (lead_bits lead) ks x
+value_more lead ks x = fold-append Join (lead_bits lead) ks (x ∷ [])
 
 pub begun_more : (lead : ℕ) (ks : List ℕ) (x : ℕ) → IsBegun lead ks → IsContinuation x → IsBegun lead (ks ++ x ∷ [])
 begun_more lead ks x b h = record { lead_is = b.lead_is; continued = all_joined IsContinuation ks (x ∷ []) b.continued (h, tt) }

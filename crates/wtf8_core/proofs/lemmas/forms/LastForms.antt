@@ -48,11 +48,14 @@ last_point cs x c e =
     let f = bytes_found cs x [] (c ∷ []) (omega arith) (e ∙ ap (λ z. x ++ z) (sym (append-nil (form c)) ∙ sym (append-nil (form c ++ [])))) in
     (f.front, f.cut ∙ ap (λ z. f.front ++ (c ∷ z)) (no_points f.back f.back_is), f.front_is)
 
--- a last code point that is a high surrogate
+-- the last code point, and where it is a high surrogate
+pub at_last : (u c : ℕ) (cs : List ℕ) → (ds : List ℕ) × (c ∷ cs ≡ ds ++ last_behind u (c ∷ cs) ∷ [])
+at_last u c [] = ([], refl)
+at_last u c (d ∷ cs) = let r = at_last c d cs in (c ∷ r.0, ap (λ l. c ∷ l) r.1)
+
 pub split_at_last : (u : ℕ) (cs : List ℕ) → (IsHigh u → ⊥) → IsHigh (last_behind u cs) → (ds : List ℕ) × (cs ≡ ds ++ last_behind u cs ∷ [])
 split_at_last u [] n h = absurd (n h)
-split_at_last u (c ∷ []) n h = ([], refl)
-split_at_last u (c ∷ d ∷ cs) n h = let r = split_at_last 0 (d ∷ cs) (λ k. omega (arith, k.0)) h in (c ∷ r.0, ap (λ l. c ∷ l) r.1)
+split_at_last u (c ∷ cs) n h = at_last u c cs
 
 -- the bytes and the units of code points and one more
 pub forms_last : (ds : List ℕ) (c : ℕ) → flat_map form (ds ++ c ∷ []) ≡ flat_map form ds ++ form c

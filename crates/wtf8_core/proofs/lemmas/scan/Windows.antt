@@ -1,5 +1,6 @@
 -- From windows to the bytes: which prefix they give.
-use Rattle.wtf8_core.proofs.Common.{Bool, true, false, ◌≡◌, ⊎_elim, ℕ, zero, suc, ◌+◌, ◌-◌, ◌<◌, ◌≤◌, List, [], ◌∷◌, ◌++◌, length, take, drop, get_or, refl, sym, ap, ◌∙◌, subst, arith, min, replicate, get_or-take, get_or-drop, get_or_append_left, get_or-append_right, get_or_past, length-append, length-take, length-take-le, length-drop, take-add, take-take, drop-drop, take-append-drop, cases_lt, and_from, common_steps, AllByRecursion, IsScalar, low_scalar, scalars, IsUtf8, is_in_range, IsContinuation, is_high, Spells, last_behind, MayStand, AllMayStand, IsEdge, behind_zeros, KeepsPattern, IsSpelledFront}
+use Rattle.wtf8_core.proofs.Common.{Bool, true, false, ◌≡◌, ⊎_elim, ℕ, zero, suc, ◌+◌, ◌-◌, ◌<◌, ◌≤◌, List, [], ◌∷◌, ◌++◌, length, take, drop, get_or, refl, sym, ap, ◌∙◌, subst, arith, min, replicate, get_or-take, get_or-drop, get_or_append_left, get_or-append_right, get_or_past, length-append, length-take, length-take-le, length-drop, take-add, take-take, drop-drop, take-append-drop, cases_lt, and_from, AllByRecursion, IsScalar, low_scalar, scalars, IsUtf8, is_in_range, IsContinuation, is_high, Spells, last_behind, MayStand, AllMayStand, IsEdge, behind_zeros, KeepsPattern, IsSpelledFront}
+use Rattle.std.proofs.lemmas.List.{take_more}
 use borrow.Rule.Slice.PartMut.{put_mid}
 use Rattle.wtf8_core.proofs.lemmas.forms.Ranges.{in_range, in_range-true, in_range-false, not_in_range}
 use Rattle.wtf8_core.proofs.lemmas.forms.Shapes.{form_ascii}
@@ -111,12 +112,9 @@ module _ (encoding : Encoding) (bytes : List ℕ) where
       record {
         within = h;
         code_points = g.code_points ++ a ∷ [];
-        spelled = subst (λ x. Spells x (g.code_points ++ a ∷ [])) (ap (λ x. take (n + k) bytes ++ x) (form_ascii a u) ∙ sym (take_one (n + k) bytes (omega (arith, h))) ∙ ap (λ i. take i bytes) z) (spells_more (take (n + k) bytes) g.code_points a g.spelled (omega (arith, u)) (λ _ l. omega (arith, l.0, u)));
+        spelled = subst (λ x. Spells x (g.code_points ++ a ∷ [])) (ap (λ x. take (n + k) bytes ++ x) (form_ascii a u) ∙ sym (take_more bytes (n + k) 0 (omega (arith, h))) ∙ ap (λ i. take i bytes) z) (spells_more (take (n + k) bytes) g.code_points a g.spelled (omega (arith, u)) (λ _ l. omega (arith, l.0, u)));
         plain = λ e. all_joined IsScalar g.code_points (a ∷ []) (g.plain e) (low_scalar a (omega (arith, u)), tt);
       }
-    where
-      take_one : (i : ℕ) (xs : List ℕ) → i < length xs → take (i + 1) xs ≡ take i xs ++ get_or xs i 0 ∷ []
-      take_one i xs h = grind (arith, common_steps)
 
   -- if the byte before an index is ASCII, a prefix ends at that index
   pub front_behind_ascii : (n : ℕ) → 0 < n → n ≤ length bytes → get_or bytes (n - 1) 0 < 0x80 → KeepsPattern encoding bytes n → IsSpelledFront encoding bytes n

@@ -9,7 +9,7 @@ use Rattle.wtf8_core.proofs.lemmas.units.OneToOne.{wide_single, wide_pair}
 use Rattle.wtf8_core.proofs.lemmas.characters.FourBytes.{four_first}
 use Rattle.wtf8_core.proofs.lemmas.forms.Cuts.{cut_before}
 use Rattle.wtf8_core.proofs.lemmas.standing.Wtf8.{units_of_spelled}
-use Rattle.wtf8_core.proofs.lemmas.forms.LastForms.{at_end, form_at_end, no_points, last_point, forms_last, units_last}
+use Rattle.wtf8_core.proofs.lemmas.forms.LastForms.{at_end, at_last, form_at_end, no_points, last_point, forms_last, units_last}
 
 -- the last unit, by the last code point
 last_is : (xs ys : List ℕ) (a b : ℕ) → xs ++ a ∷ [] ≡ ys ++ b ∷ [] → a ≡ b
@@ -84,10 +84,6 @@ pub no_low_end : (s : List ℕ) (l : ℕ) → IsWtf8 s → IsLow l
     → IsEnd (l ∷ []) (units_of s) → ⊥
 no_low_end s l (cs, w) i n m f = at cs w.joined (sym (units_of_spelled s cs w) ∙ f.joined)
   where
-    some_last : (c : ℕ) (cs : List ℕ) → (ds : List ℕ) × (d : ℕ) × (c ∷ cs ≡ ds ++ d ∷ [])
-    some_last c [] = ([], c, refl)
-    some_last c (d ∷ cs) = let r = some_last d cs in (c ∷ r.0, r.1, ap (λ z. c ∷ z) r.2)
-
     last_case : (ds : List ℕ) (d : ℕ) → s ≡ flat_map form ds ++ form d → units ds ++ wide d ≡ f.rest ++ l ∷ [] → ⊥
     last_case ds d e u =
         ⊎_elim
@@ -98,8 +94,8 @@ no_low_end s l (cs, w) i n m f = at cs w.joined (sym (units_of_spelled s cs w) �
     at : (cs : List ℕ) → s ≡ flat_map form cs → units cs ≡ f.rest ++ l ∷ [] → ⊥
     at [] w u = omega (arith, ap length u, length-append f.rest (l ∷ []))
     at (c ∷ cs) w u =
-        let r = some_last c cs in
-        last_case r.0 r.1 (w ∙ ap (flat_map form) r.2 ∙ forms_last r.0 r.1) (sym (units_last r.0 r.1) ∙ ap units (sym r.2) ∙ u)
+        let r = at_last 0 c cs in
+        last_case r.0 _ (w ∙ ap (flat_map form) r.1 ∙ forms_last r.0 _) (sym (units_last r.0 _) ∙ ap units (sym r.1) ∙ u)
 
 abbrev Item : Type 0
 Item = Result ℕ EncodingError
