@@ -1,9 +1,9 @@
 -- Each string has pieces from its start and from its end, and one cut at most from either.
-use Rattle.std.proofs.Common.{◌≡◌, ℕ, zero, suc, ◌+◌, ◌<◌, ◌≤◌, List, [], ◌∷◌, ◌++◌, length, Option, None, Some, MatchOption, refl, sym, ap, ◌∙◌, arith, inl, inr, ◌⊎◌, ⊎_elim, length-append}
+use Rattle.std.proofs.Common.{◌≡◌, ℕ, zero, suc, ◌<◌, ◌≤◌, List, [], ◌∷◌, ◌++◌, length, Option, None, Some, MatchOption, refl, sym, ap, ◌∙◌, arith, inl, inr, ◌⊎◌, ⊎_elim, length-append}
 use Rattle.std.proofs.lemmas.Bool.{cases_eq, cases_lt}
 use Rattle.std.proofs.lemmas.List.{append_cancel_left, take_at, drop_at}
 use Rattle.std.specs.Prelude.{take, drop}
-use Rattle.wtf8_core.specs.Standing.{StandsAt, StandsNowhere, IsFront, IsLeastPlace, IsGreatestPlace}
+use Rattle.wtf8_core.specs.Standing.{StandsAt, StandsNowhere, IsFront}
 use Rattle.wtf8_core.specs.Pieces.FallsInto.{whole, cut}
 use Rattle.os_str_ext.specs.Cuts.{FirstCut, LastCut, ArePieces, PiecesOf, CutLaws}
 

@@ -1,4 +1,4 @@
-use Rattle.std.proofs.Common.{◌≡◌, ◌∙◌, ◌+◌, ◌++◌, ap, drop, subst, sym, take, take-append-drop}
+use Rattle.std.proofs.Common.{◌∙◌, ◌+◌, ◌++◌, ap, drop, subst, sym, take-append-drop}
 use Rattle.std.specs.Char.{encode_utf8}
 use Rattle.wtf8_core.specs.Character.{WholeCharacter}
 use Rattle.wtf8_core.specs.Covered.{StartsBare}

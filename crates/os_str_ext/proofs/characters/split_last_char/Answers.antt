@@ -1,8 +1,7 @@
-use Rattle.std.proofs.Common.{◌≡◌, ◌∙◌, ◌-◌, ◌++◌, ap, drop, length, subst, sym, take, take-append-drop}
-use Rattle.std.specs.Char.{encode_utf8}
+use Rattle.std.proofs.Common.{◌∙◌, ◌-◌, ◌++◌, ap, drop, subst, sym, take-append-drop}
 use Rattle.wtf8_core.specs.Boundary.{IsBoundary}
 use Rattle.platform_str.specs.Strings.{bytes}
-use Rattle.os_str_ext.specs.Characters.{IsCharacterBefore, IsOneCharacter}
+use Rattle.os_str_ext.specs.Characters.{IsOneCharacter}
 use Rattle.os_str_ext.proofs.lemmas.EdgeCharacters.{last_edge, last_one}
 use Rattle.os_str_ext.proofs.characters.split_last_char.Goals as goal
 

@@ -1,5 +1,5 @@
 use Rattle.os_str_ext.specs.Symbols.{AreKnown}
-use Rattle.std.proofs.Common.{◌-◌, length, subst, sym}
+use Rattle.std.proofs.Common.{◌-◌, length, subst}
 use Rattle.os_str_ext.proofs.lemmas.SymbolSteps.{known_by_ends}
 use Rattle.os_str_ext.proofs.symbols.first_of_next_chunk.Goals as goal
 

@@ -1,4 +1,4 @@
-use Rattle.std.proofs.Common.{◌∙◌, ◌-◌, ◌<◌, ◌∷◌, ap, length, subst, sym, take}
+use Rattle.std.proofs.Common.{◌∙◌, ◌<◌, ◌∷◌, ap, length, subst, sym}
 use Rattle.wtf8_core.specs.Covered.{StartsBare}
 use Rattle.wtf8_core.proofs.lemmas.standing.Places.{no_units}
 use Rattle.platform_str.specs.Laws.{IsFirstUnit}
