@@ -62,7 +62,14 @@ impl<'s, 'a, E: Platform> Arguments<'s, 'a, E> {
     /// assert!(rt; matches!(arguments.next(), Ok(None)));
     /// ```
     pub fn new(words: &'s [OsStr<'a, E>]) -> Self
-        ensures { reading result ≡ record { given = map bytes words.now; place = 0; pending = []; ended = false; numbers = false; last = None } }
+        ensures { reading result ≡ record {
+          given = map bytes words.now;
+          place = 0;
+          pending = [];
+          ended = false;
+          numbers = false;
+          last = None;
+        } }
     {
         Arguments {
             words,
@@ -124,7 +131,8 @@ impl<'s, 'a, E: Platform> Arguments<'s, 'a, E> {
     pub fn next(
         &mut self,
     ) -> Result<Option<Word<'a, OsStr<'a, E>>>, ArgumentError<'a, OsStr<'a, E>>>
-        ensures { TakesWord (reading self.old) (outcome_of (λ read. option_map kind_of read) result) (reading self.new) }
+        ensures { TakesWord (reading self.old) (outcome_of (λ read. option_map kind_of read) result)
+            (reading self.new) }
     {
         if let Some(value) = self.pending.strip_prefix("=") {
             self.pending = OsStr::new("");
@@ -214,7 +222,8 @@ impl<'s, 'a, E: Platform> Arguments<'s, 'a, E> {
     /// assert!(rt; arguments.optional_value().is_none());
     /// ```
     pub fn optional_value(&mut self) -> Option<OsStr<'a, E>>
-        ensures { TakesOptionalValue (reading self.old) (option_map bytes result) (reading self.new) }
+        ensures { TakesOptionalValue (reading self.old) (option_map bytes result)
+            (reading self.new) }
     {
         if self.pending.is_empty() {
             return None;
@@ -245,7 +254,8 @@ impl<'s, 'a, E: Platform> Arguments<'s, 'a, E> {
     /// assert_eq!(rt; words.len(), 2);
     /// ```
     pub fn rest(&mut self) -> Result<&'s [OsStr<'a, E>], ArgumentError<'a, OsStr<'a, E>>>
-        ensures { TakesRest (reading self.old) (outcome_of (λ words. map bytes words.now) result) (reading self.new) }
+        ensures { TakesRest (reading self.old) (outcome_of (λ words. map bytes words.now) result)
+            (reading self.new) }
     {
         if let Some(value) = self.optional_value() {
             return Err(ArgumentError::UnexpectedValue(self.last, value));

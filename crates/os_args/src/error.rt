@@ -77,7 +77,8 @@ fn write_after<'a, E: Platform, W: fmt::Write>(
     last: Option<Word<'a, OsStr<'a, E>>>,
     f: &mut fmt::Formatter<W>,
 ) -> fmt::Result
-    ensures { WritesStyledOnOk W.write_str_gives f.old result (after_text E.lossy (option_map kind_of last.entry)) f.new }
+    ensures { WritesStyledOnOk W.write_str_gives f.old result
+        (after_text E.lossy (option_map kind_of last.entry)) f.new }
 {
     match last {
         None => f.write_str(""),
@@ -94,7 +95,8 @@ fn write_word<'a, E: Platform, W: fmt::Write>(
     word: Word<'a, OsStr<'a, E>>,
     f: &mut fmt::Formatter<W>,
 ) -> fmt::Result
-    ensures { WritesStyledOnOk W.write_str_gives f.old result (word_text E.lossy (kind_of word.entry)) f.new }
+    ensures { WritesStyledOnOk W.write_str_gives f.old result
+        (word_text E.lossy (kind_of word.entry)) f.new }
 {
     match word {
         Word::Long(name) => {

@@ -7,33 +7,46 @@ ghost use Rattle.os_args.specs.Joining.{Step, IsStep, AreSteps, IsJoinedAgain, a
 
 /// A word is read in one way.
 pub fn one_reading()
-    ensures { (numbers : Bool) → (s : List ℕ) → (kind : Kind) → (other : Kind) → (rest : List ℕ) → (left : List ℕ)
-        → IsReadAs numbers s kind rest → IsReadAs numbers s other left → (kind ≡ other) × (rest ≡ left) }
+    ensures { (numbers : Bool) → (s : List ℕ) → (kind : Kind) → (other : Kind) → (rest : List ℕ)
+        → (left : List ℕ) → IsReadAs numbers s kind rest → IsReadAs numbers s other left
+        → (kind ≡ other) × (rest ≡ left) }
 {}
 
 /// A step gives one outcome, and leaves the words in one way: whatever its definition admits is what
 /// the call gives.
 pub fn one_outcome()
-    ensures next { (before : Reading) → (one : Result (Option Kind) Fault) → (other : Result (Option Kind) Fault) → (after : Reading) → (left : Reading)
-        → TakesWord before one after → TakesWord before other left → (one ≡ other) × (after ≡ left) }
-    ensures value { (before : Reading) → (one : Result (List ℕ) Fault) → (other : Result (List ℕ) Fault) → (after : Reading) → (left : Reading)
-        → TakesValue before one after → TakesValue before other left → (one ≡ other) × (after ≡ left) }
-    ensures optional { (before : Reading) → (one : Option (List ℕ)) → (other : Option (List ℕ)) → (after : Reading) → (left : Reading)
-        → TakesOptionalValue before one after → TakesOptionalValue before other left → (one ≡ other) × (after ≡ left) }
-    ensures rest { (before : Reading) → (one : Result (List (List ℕ)) Fault) → (other : Result (List (List ℕ)) Fault) → (after : Reading) → (left : Reading)
-        → TakesRest before one after → TakesRest before other left → (one ≡ other) × (after ≡ left) }
+    ensures next { (before : Reading) → (one : Result (Option Kind) Fault)
+        → (other : Result (Option Kind) Fault) → (after : Reading) → (left : Reading)
+        → TakesWord before one after → TakesWord before other left
+        → (one ≡ other) × (after ≡ left) }
+    ensures value { (before : Reading) → (one : Result (List ℕ) Fault)
+        → (other : Result (List ℕ) Fault) → (after : Reading) → (left : Reading)
+        → TakesValue before one after → TakesValue before other left
+        → (one ≡ other) × (after ≡ left) }
+    ensures optional { (before : Reading) → (one : Option (List ℕ)) → (other : Option (List ℕ))
+        → (after : Reading) → (left : Reading)
+        → TakesOptionalValue before one after → TakesOptionalValue before other left
+        → (one ≡ other) × (after ≡ left) }
+    ensures rest { (before : Reading) → (one : Result (List (List ℕ)) Fault)
+        → (other : Result (List (List ℕ)) Fault) → (after : Reading) → (left : Reading)
+        → TakesRest before one after → TakesRest before other left
+        → (one ≡ other) × (after ≡ left) }
 {}
 
 /// The words that were given are what the steps handed over, in order, each text with what stands
 /// before it in its word (`-`, `--`, `=` or nothing), and what is left. So nothing is lost, and
 /// nothing is handed over twice.
 pub fn nothing_lost()
-    ensures { (before : Reading) → (steps : List Step) → (after : Reading) → AreSteps before steps after → IsJoinedAgain before steps after }
+    ensures { (before : Reading) → (steps : List Step) → (after : Reading)
+        → AreSteps before steps after → IsJoinedAgain before steps after }
 {}
 
 /// Each option or operand leaves less, and no step leaves more: a loop over
 /// [`Arguments::next`](crate::Arguments::next) ends.
 pub fn steps_end()
-    ensures next { (before : Reading) → (kind : Kind) → (after : Reading) → TakesWord before (Ok (Some kind)) after → weight (all_left after) < weight (all_left before) }
-    ensures each { (before : Reading) → (step : Step) → (after : Reading) → IsStep before step after → weight (all_left after) ≤ weight (all_left before) }
+    ensures next { (before : Reading) → (kind : Kind) → (after : Reading)
+        → TakesWord before (Ok (Some kind)) after
+        → weight (all_left after) < weight (all_left before) }
+    ensures each { (before : Reading) → (step : Step) → (after : Reading) → IsStep before step after
+        → weight (all_left after) ≤ weight (all_left before) }
 {}

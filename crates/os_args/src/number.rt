@@ -19,7 +19,8 @@ pub(crate) fn starts_as_negative<'a, E: Platform>(word: OsStr<'a, E>) -> bool
 /// Whether a string starts with a digit, or with a point and a digit.
 #[tactic(auto, using(crate::proofs::Numbers::numbers))]
 fn starts_as_number<'a, E: Platform>(number: OsStr<'a, E>) -> bool
-    ensures { IsTrue result ↔ (StartsWithDigit (bytes number.entry) ⊎ StartsWithFraction (bytes number.entry)) }
+    ensures { IsTrue result
+        ↔ (StartsWithDigit (bytes number.entry) ⊎ StartsWithFraction (bytes number.entry)) }
 {
     match number.strip_prefix(".") {
         Some(fraction) => starts_with_digit(fraction.as_encoded_bytes()),

@@ -10,7 +10,9 @@ pub(crate) fn first_after<'a, E: Platform>(
     words: &[OsStr<'a, E>],
     place: usize,
 ) -> Option<OsStr<'a, E>>
-    ensures first { MatchOption result (drop place (map bytes words.now) ≡ []) (λ word. drop place (map bytes words.now) ≡ bytes word ∷ drop (place + 1) (map bytes words.now)) }
+    ensures first { MatchOption result (drop place (map bytes words.now) ≡ [])
+        (λ word. drop place (map bytes words.now)
+        ≡ bytes word ∷ drop (place + 1) (map bytes words.now)) }
     ensures within { IfSome result (λ _. place < length words.now) }
 {
     if place < words.len() {

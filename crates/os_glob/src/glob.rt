@@ -75,7 +75,8 @@ impl<'p> Glob<'p> {
     /// }
     /// ```
     pub fn new(pattern: &'p str) -> Result<Self, GlobError>
-        ensures { MatchResult result (λ glob. (glob ≡ pattern.now) × IsWellFormed pattern.now) (λ error. IsFirstFault pattern.now error) }
+        ensures { MatchResult result (λ glob. (glob ≡ pattern.now) × IsWellFormed pattern.now)
+            (λ error. IsFirstFault pattern.now error) }
     {
         let mut rest = pattern;
         while let Some((item, after)) = first_item(rest) {
@@ -113,8 +114,10 @@ impl<'p> Glob<'p> {
     /// assert!(rt; !Glob::new("*").unwrap().is_match(options, path));
     /// ```
     pub fn is_match<E: Platform>(&self, options: GlobOptions, string: OsStr<'_, E>) -> bool
-        ensures symbols { (symbols : List Symbol) → AreSymbols E.units (bytes string.entry) symbols → IsTrue result ↔ IsMatch options self.now symbols }
-        ensures value { IsTrue result ↔ IsMatch options self.now (symbols_of E.units (bytes string.entry)) }
+        ensures symbols { (symbols : List Symbol) → AreSymbols E.units (bytes string.entry) symbols
+            → IsTrue result ↔ IsMatch options self.now symbols }
+        ensures value { IsTrue result
+            ↔ IsMatch options self.now (symbols_of E.units (bytes string.entry)) }
     {
         self.is_match_observed(options, string, &mut Nobody)
     }
@@ -148,8 +151,10 @@ impl<'p> Glob<'p> {
         string: OsStr<'_, E>,
         observer: &mut O,
     ) -> bool
-        ensures symbols { (symbols : List Symbol) → AreSymbols E.units (bytes string.entry) symbols → IsTrue result ↔ IsMatch options self.now symbols }
-        ensures value { IsTrue result ↔ IsMatch options self.now (symbols_of E.units (bytes string.entry)) }
+        ensures symbols { (symbols : List Symbol) → AreSymbols E.units (bytes string.entry) symbols
+            → IsTrue result ↔ IsMatch options self.now symbols }
+        ensures value { IsTrue result
+            ↔ IsMatch options self.now (symbols_of E.units (bytes string.entry)) }
     {
         wtf8_core::laws::chunks();
         self.matches_symbols(options, string.symbols(), observer)

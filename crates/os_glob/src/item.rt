@@ -48,7 +48,8 @@ impl<'p> Item<'p> {
 
 /// The first item of a pattern, and what comes after it. Nothing comes after a fault.
 pub(crate) fn first_item(pattern: &str) -> Option<(Item<'_>, &str)>
-    ensures item { MatchOption result (items (chars pattern.now) ≡ []) (λ first. items (chars pattern.now) ≡ item_of first.0 ∷ items (chars first.1.now)) }
+    ensures item { MatchOption result (items (chars pattern.now) ≡ [])
+        (λ first. items (chars pattern.now) ≡ item_of first.0 ∷ items (chars first.1.now)) }
     ensures text { IfSome result (λ first. IsUtf8 first.1.now) }
     ensures fault { IfSome result (λ first. IsFaultText first.0) }
 {

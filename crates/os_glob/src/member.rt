@@ -47,7 +47,8 @@ pub(crate) fn has_member(text: &str, character: char) -> bool
 
 /// The text from the first reversed range of a class on.
 pub(crate) fn first_reversed_range(text: &str) -> Option<&str>
-    ensures reversed { MatchOption result (first_reversed (members true (chars text.now)) ≡ None) (λ from. first_reversed (members true (chars text.now)) ≡ Some (chars from.now)) }
+    ensures reversed { MatchOption result (first_reversed (members true (chars text.now)) ≡ None)
+        (λ from. first_reversed (members true (chars text.now)) ≡ Some (chars from.now)) }
     ensures text { IfSome result (λ from. IsUtf8 from.now) }
 {
     let mut rest = text;
@@ -64,7 +65,8 @@ pub(crate) fn first_reversed_range(text: &str) -> Option<&str>
 
 /// What comes after a class. The text begins with the first member of the class.
 pub(crate) fn after_members(text: &str) -> Option<&str>
-    ensures after { MatchOption result (after_class true (chars text.now) ≡ None) (λ after. after_class true (chars text.now) ≡ Some (chars after.now)) }
+    ensures after { MatchOption result (after_class true (chars text.now) ≡ None)
+        (λ after. after_class true (chars text.now) ≡ Some (chars after.now)) }
     ensures text { IfSome result (λ after. IsUtf8 after.now) }
 {
     let mut rest = text;
@@ -89,7 +91,9 @@ fn ends(begins: bool, character: char) -> bool
 
 /// The first member of a class, and what comes after it; `None` at the end of the class.
 fn first_member(begins: bool, text: &str) -> Option<(Range, &str)>
-    ensures member { MatchOption result (members begins (chars text.now) ≡ []) (λ first. members begins (chars text.now) ≡ (first.0, chars text.now) ∷ members false (chars first.1.now)) }
+    ensures member { MatchOption result (members begins (chars text.now) ≡ [])
+        (λ first. members begins (chars text.now)
+        ≡ (first.0, chars text.now) ∷ members false (chars first.1.now)) }
     ensures text { IfSome result (λ first. IsUtf8 first.1.now) }
 {
     let Some((first, rest)) = first_char(text) else {

@@ -54,7 +54,8 @@ impl GlobOptions {
     /// separator, and a dot where leading dots are matched literally.
     #[inline(always)]
     pub(crate) fn is_special(self, character: char) -> bool
-        ensures { result ≡ (separates self.separators character || (self.literal_leading_dot && nat_eq character 0x2E)) }
+        ensures { result ≡ (separates self.separators character
+            || (self.literal_leading_dot && nat_eq character 0x2E)) }
     {
         self.separators.contains(character) || self.literal_leading_dot && character == '.'
     }

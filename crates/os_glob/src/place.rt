@@ -164,7 +164,9 @@ fn first_symbol<'a, E: Platform>(
     text: &'a str,
     symbols: &mut Symbols<'a, E>,
 ) -> Option<(Symbol, &'a str)>
-    ensures first { MatchOption result (map Character (chars text.now) ++ symbols.old ≡ []) (λ first. map Character (chars text.now) ++ symbols.old ≡ first.0 ∷ (map Character (chars first.1.now) ++ symbols.new)) }
+    ensures first { MatchOption result (map Character (chars text.now) ++ symbols.old ≡ [])
+        (λ first. map Character (chars text.now) ++ symbols.old
+        ≡ first.0 ∷ (map Character (chars first.1.now) ++ symbols.new)) }
     ensures text { IfSome result (λ first. IsUtf8 first.1.now) }
 {
     if let Some((character, rest)) = first_char(text) {

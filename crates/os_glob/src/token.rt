@@ -174,7 +174,8 @@ impl<'p> Tokens<'p> {
 
     /// Removes the first token and returns it.
     pub(crate) fn next(&mut self) -> Option<Token<'p>>
-        ensures { MatchOption result (self.old ≡ []) (λ token. self.old ≡ token_of token ∷ self.new) }
+        ensures { MatchOption result (self.old ≡ [])
+            (λ token. self.old ≡ token_of token ∷ self.new) }
     {
         let Some((item, rest)) = first_item(self.rest) else {
             return None;
