@@ -39,7 +39,8 @@ const SECOND_HIGH: [u8; 64] = [
 pub(crate) fn clear_len(bytes: &[u8]) -> usize
     requires { 65 ≤ length bytes.now }
     ensures within { result ≤ 64 }
-    ensures clear { (i : ℕ) → i < result → is_suspect (slice_index bytes.now (0 + i)) (slice_index bytes.now (1 + i)) ≡ false }
+    ensures clear { (i : ℕ) → i < result
+        → is_suspect (slice_index bytes.now (0 + i)) (slice_index bytes.now (1 + i)) ≡ false }
 {
     let leads = lead_bits(load(bytes, 0));
     if are_zero(leads) {
@@ -70,7 +71,8 @@ fn lead_bits(lanes: u8x64) -> u8x64
 /// What may follow the first byte, by the one after it.
 #[inline(always)]
 fn second_bits(lanes: u8x64) -> u8x64
-    ensures { (i : ℕ) → i < 64 → slice_index result i ≡ slice_index SECOND_HIGH (slice_index lanes i / 16) }
+    ensures { (i : ℕ) → i < 64
+        → slice_index result i ≡ slice_index SECOND_HIGH (slice_index lanes i / 16) }
 {
     entries(SECOND_HIGH, high_halves(lanes))
 }
@@ -78,7 +80,8 @@ fn second_bits(lanes: u8x64) -> u8x64
 /// The bits that both have.
 #[inline(always)]
 fn and<const N: usize>(a: Simd<u8, N>, b: Simd<u8, N>) -> Simd<u8, N>
-    ensures { (i : ℕ) → i < N → slice_index result i ≡ bit_and (slice_index a.entry i) (slice_index b.entry i) }
+    ensures { (i : ℕ) → i < N
+        → slice_index result i ≡ bit_and (slice_index a.entry i) (slice_index b.entry i) }
 {
     a & b
 }
@@ -102,7 +105,8 @@ fn low_halves(lanes: u8x64) -> u8x64
 /// The entries of a table, four copies of 16, at these indices.
 #[inline(always)]
 fn entries(table: [u8; 64], indices: u8x64) -> u8x64
-    requires copies { (i : ℕ) → i < 64 → (k : ℕ) → k < 16 → slice_index table (i / 16 * 16 + k) ≡ slice_index table k }
+    requires copies { (i : ℕ) → i < 64 → (k : ℕ) → k < 16
+        → slice_index table (i / 16 * 16 + k) ≡ slice_index table k }
     requires indices { (i : ℕ) → i < 64 → slice_index indices i < 16 }
     ensures { (i : ℕ) → i < 64 → slice_index result i ≡ slice_index table (slice_index indices i) }
 {

@@ -8,7 +8,8 @@ use crate::token::{digit, four_digits};
 /// The character whose number is between braces at the start, in five or six digits without a
 /// leading zero, and what comes after the braces.
 pub(crate) fn long_character(bytes: &[u8]) -> Option<(char, &[u8])>
-    ensures { MatchOption result (HasNoLong bytes.now) (λ read. IsLong read.0 × (bytes.now ≡ 0x7B ∷ (long_digits read.0 ++ 0x7D ∷ read.1.now))) }
+    ensures { MatchOption result (HasNoLong bytes.now)
+        (λ read. IsLong read.0 × (bytes.now ≡ 0x7B ∷ (long_digits read.0 ++ 0x7D ∷ read.1.now))) }
 {
     let Some(digits) = behind_byte(bytes, b'{') else {
         return None;
@@ -24,7 +25,8 @@ pub(crate) fn long_character(bytes: &[u8]) -> Option<(char, &[u8])>
 
 /// The character whose number is six digits before a brace: `10` and four more.
 fn six_digits(digits: &[u8]) -> Option<(char, &[u8])>
-    ensures { MatchOption result (HasNoSix digits.now) (λ read. IsSix digits.now read.0 read.1.now) }
+    ensures { MatchOption result (HasNoSix digits.now)
+        (λ read. IsSix digits.now read.0 read.1.now) }
 {
     let Some(lower) = behind_byte(digits, b'1') else {
         return None;
@@ -40,7 +42,8 @@ fn six_digits(digits: &[u8]) -> Option<(char, &[u8])>
 
 /// The character whose number is five digits before a brace, the first of which isn't `0`.
 fn five_digits(digits: &[u8]) -> Option<(char, &[u8])>
-    ensures { MatchOption result (HasNoFive digits.now) (λ read. IsFive digits.now read.0 read.1.now) }
+    ensures { MatchOption result (HasNoFive digits.now)
+        (λ read. IsFive digits.now read.0 read.1.now) }
 {
     let Some((first, low)) = digits.split_first() else {
         return None;
@@ -62,7 +65,8 @@ fn five_digits(digits: &[u8]) -> Option<(char, &[u8])>
 fn closed_character(high: u8, low: &[u8]) -> Option<(char, &[u8])>
     requires some { 0 < high }
     requires within { high ≤ 0x10 }
-    ensures { MatchOption result (HasNoClosed low.now) (λ read. IsClosed high low.now read.0 read.1.now) }
+    ensures { MatchOption result (HasNoClosed low.now)
+        (λ read. IsClosed high low.now read.0 read.1.now) }
 {
     let Some((number, closed)) = four_digits(low) else {
         return None;
@@ -78,7 +82,8 @@ fn closed_character(high: u8, low: &[u8]) -> Option<(char, &[u8])>
 
 /// What comes after a byte at the start.
 fn behind_byte(bytes: &[u8], byte: u8) -> Option<&[u8]>
-    ensures { MatchOption result ((after : List ℕ) → bytes.now ≢ byte ∷ after) (λ behind. bytes.now ≡ byte ∷ behind.now) }
+    ensures { MatchOption result ((after : List ℕ) → bytes.now ≢ byte ∷ after)
+        (λ behind. bytes.now ≡ byte ∷ behind.now) }
 {
     let Some((first, behind)) = bytes.split_first() else {
         return None;

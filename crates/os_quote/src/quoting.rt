@@ -127,7 +127,8 @@ pub(crate) fn escape_by<E: Platform, A: Allocator>(
     alloc: A,
     string: OsStr<'_, E>,
 ) -> Result<String<A>, AllocError>
-    ensures { IfOk result (λ text. IsEscapeBy (shown_by form) E.units (bytes string.entry) (string_bytes text)) }
+    ensures { IfOk result
+        (λ text. IsEscapeBy (shown_by form) E.units (bytes string.entry) (string_bytes text)) }
 {
     Escaped::new(form, string).to_string(alloc)
 }

@@ -42,7 +42,8 @@ pub fn unescape<E: Platform, A: Allocator>(
     alloc: A,
     text: &str,
 ) -> Result<OsString<E, A>, QuoteError>
-    ensures string { IfOk result (λ string. IsEscape E.units (string_vec_of string).items text.now) }
+    ensures string { IfOk result
+        (λ string. IsEscape E.units (string_vec_of string).items text.now) }
     ensures fault { IfErr result (λ fault. IsQuoteFault E.well_formed E.units text.now fault) }
     ensures empty { length text.now ≡ 0 → IsOk result }
 {
@@ -73,7 +74,8 @@ pub fn unescape_line<E: Platform, A: Allocator>(
     alloc: A,
     text: &str,
 ) -> Result<OsString<E, A>, QuoteError>
-    ensures string { IfOk result (λ string. IsLineEscape E.units (string_vec_of string).items text.now) }
+    ensures string { IfOk result
+        (λ string. IsLineEscape E.units (string_vec_of string).items text.now) }
     ensures fault { IfErr result (λ fault. IsLineFault E.well_formed E.units text.now fault) }
     ensures empty { length text.now ≡ 0 → IsOk result }
 {
@@ -90,8 +92,10 @@ fn from_items<E: Platform, A: Allocator>(
     alloc: A,
     text: &str,
 ) -> Result<OsString<E, A>, QuoteError>
-    ensures string { IfOk result (λ string. IsEscapeBy (shown_by form) E.units (string_vec_of string).items text.now) }
-    ensures fault { IfErr result (λ fault. IsQuoteFaultBy (shown_by form) E.well_formed E.units text.now fault) }
+    ensures string { IfOk result
+        (λ string. IsEscapeBy (shown_by form) E.units (string_vec_of string).items text.now) }
+    ensures fault { IfErr result
+        (λ fault. IsQuoteFaultBy (shown_by form) E.well_formed E.units text.now fault) }
 {
     laws::faults::<E>();
     let encoded = read(form, alloc, text)?;
@@ -113,7 +117,8 @@ fn has_escape<E: Platform, A: Allocator>(
     text: &str,
 ) -> Result<bool, AllocError>
     requires { E.well_formed encoded.now }
-    ensures { IfOk result (λ same. IsTrue same ↔ IsEscapeBy (shown_by form) E.units encoded.now text.now) }
+    ensures { IfOk result
+        (λ same. IsTrue same ↔ IsEscapeBy (shown_by form) E.units encoded.now text.now) }
 {
     let string = OsStr::<E>::from_encoded_bytes_unchecked(encoded);
     let escaped = escape_by(form, alloc, string)?;
@@ -123,7 +128,8 @@ fn has_escape<E: Platform, A: Allocator>(
 /// The bytes that the characters and tokens of a text mean.
 #[tactic(auto, using(crate::proofs::lemmas::Readings::readings))]
 fn read<A: Allocator>(form: Form, alloc: A, text: &str) -> Result<Vec<u8, A>, QuoteError>
-    ensures { MatchResult result (λ encoded. IsRead (shown_by form) text.now encoded.items []) (λ fault. IsReadFault (shown_by form) text.now fault) }
+    ensures { MatchResult result (λ encoded. IsRead (shown_by form) text.now encoded.items [])
+        (λ fault. IsReadFault (shown_by form) text.now fault) }
 {
     let mut encoded = Vec::with_capacity(alloc, text.len())?;
     let mut rest = text;

@@ -8,7 +8,8 @@ use crate::suspects::first_suspect;
 /// What comes before the first character that is written as a token, that character, and what comes
 /// after it.
 pub(crate) fn split_hidden(text: &str) -> Option<(&str, char, &str)>
-    ensures { MatchOption result (AllStand text.now) (λ parts. IsCutAtHidden text.now parts.0.now parts.1 parts.2.now) }
+    ensures { MatchOption result (AllStand text.now)
+        (λ parts. IsCutAtHidden text.now parts.0.now parts.1 parts.2.now) }
 {
     let mut at = 0;
     while let Some(suspect) = first_suspect(text.as_bytes(), at) {

@@ -8,11 +8,16 @@ use crate::lanes::{BLOCK, clear_len};
 #[tactic(auto, using(crate::proofs::lemmas::Suspects::suspects))]
 pub(crate) fn first_suspect(bytes: &[u8], from: usize) -> Option<usize>
     requires { from ≤ length bytes.now }
-    ensures { MatchOption result (AllClear bytes.now from (length bytes.now)) (λ at. IsNextSuspect bytes.now from at) }
+    ensures { MatchOption result (AllClear bytes.now from (length bytes.now))
+        (λ at. IsNextSuspect bytes.now from at) }
 {
     let mut at = from;
     while at < bytes.len() {
-        at += clear_from(bytes, at);
+        let clear = clear_from(bytes, at);
+        at += clear;
+        if clear == BLOCK {
+            continue;
+        }
         if is_suspect(bytes[at], byte_at(bytes, at + 1)) {
             return Some(at);
         }

@@ -25,7 +25,8 @@ pub(crate) enum Token {
 
 /// What comes before the first backslash of a text, and what comes after it.
 pub(crate) fn split_backslash(text: &str) -> Option<(&str, &str)>
-    ensures { MatchOption result (HasNoBackslash text.now) (λ parts. IsCutAtBackslash text.now parts.0.now parts.1.now) }
+    ensures { MatchOption result (HasNoBackslash text.now)
+        (λ parts. IsCutAtBackslash text.now parts.0.now parts.1.now) }
 {
     let Some(at) = memchr(b'\\', text.as_bytes()) else {
         return None;
@@ -38,7 +39,8 @@ pub(crate) fn split_backslash(text: &str) -> Option<(&str, &str)>
 #[tactic(auto, using(crate::proofs::lemmas::Tokens::tokens))]
 pub(crate) fn first_token(form: Form, behind: &[u8]) -> Option<(Token, &[u8])>
     ensures { MatchOption result (BeginsNoToken (shown_by form) (backslash ∷ behind.now))
-        (λ read. IsItem (shown_by form) (token_item read.0) × (backslash ∷ behind.now ≡ item_text (token_item read.0) ++ read.1.now)) }
+        (λ read. IsItem (shown_by form) (token_item read.0)
+        × (backslash ∷ behind.now ≡ item_text (token_item read.0) ++ read.1.now)) }
 {
     let Some((kind, digits)) = behind.split_first() else {
         return None;
@@ -65,7 +67,8 @@ pub(crate) fn first_token(form: Form, behind: &[u8]) -> Option<(Token, &[u8])>
 /// after `\u`.
 fn number_token(form: Form, digits: &[u8]) -> Option<(Token, &[u8])>
     ensures { MatchOption result (HasNoNumber (shown_by form) digits.now)
-        (λ read. IsItem (shown_by form) (token_item read.0) × (backslash ∷ 0x75 ∷ digits.now ≡ item_text (token_item read.0) ++ read.1.now)) }
+        (λ read. IsItem (shown_by form) (token_item read.0)
+        × (backslash ∷ 0x75 ∷ digits.now ≡ item_text (token_item read.0) ++ read.1.now)) }
 {
     if let Some((unit, rest)) = four_digits(digits) {
         return Some((Token::Wide(unit), rest));
@@ -83,7 +86,8 @@ fn number_token(form: Form, digits: &[u8]) -> Option<(Token, &[u8])>
 
 /// The number of the four digits at the start, and what comes after them.
 pub(crate) fn four_digits(bytes: &[u8]) -> Option<(u16, &[u8])>
-    ensures { MatchOption result ((u : ℕ) → u < 0x1_0000 → (after : List ℕ) → bytes.now ≢ wide_digits u ++ after)
+    ensures { MatchOption result
+        ((u : ℕ) → u < 0x1_0000 → (after : List ℕ) → bytes.now ≢ wide_digits u ++ after)
         (λ read. bytes.now ≡ wide_digits read.0 ++ read.1.now) }
 {
     let Some((high, lower)) = two_digits(bytes) else {
@@ -97,7 +101,8 @@ pub(crate) fn four_digits(bytes: &[u8]) -> Option<(u16, &[u8])>
 
 /// The byte of the two digits at the start, and what comes after them.
 fn two_digits(bytes: &[u8]) -> Option<(u8, &[u8])>
-    ensures { MatchOption result ((b : ℕ) → b < 0x100 → (after : List ℕ) → bytes.now ≢ byte_digits b ++ after)
+    ensures { MatchOption result
+        ((b : ℕ) → b < 0x100 → (after : List ℕ) → bytes.now ≢ byte_digits b ++ after)
         (λ read. bytes.now ≡ byte_digits read.0 ++ read.1.now) }
 {
     let (first, behind) = bytes.split_first()?;
@@ -109,7 +114,8 @@ fn two_digits(bytes: &[u8]) -> Option<(u8, &[u8])>
 
 /// The value of a digit from `0` to `9` or from `A` to `F`.
 pub(crate) fn digit(byte: u8) -> Option<u8>
-    ensures { MatchOption result ((d : ℕ) → d < 16 → upper_hex_digit d ≢ byte) (λ d. (d < 16) × (upper_hex_digit d ≡ byte)) }
+    ensures { MatchOption result ((d : ℕ) → d < 16 → upper_hex_digit d ≢ byte)
+        (λ d. (d < 16) × (upper_hex_digit d ≡ byte)) }
 {
     match byte {
         b'0'..=b'9' => Some(byte - b'0'),

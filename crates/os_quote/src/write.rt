@@ -18,7 +18,8 @@ pub(crate) fn write_part<'a, E: Platform, W: fmt::Write>(
     part: NonUnicodeOsStr<'a, E>,
     f: &mut fmt::Formatter<W>,
 ) -> fmt::Result
-    ensures { WritesStyledOnOk W.write_str_gives f.old result (item_texts (map unit_item (E.units (part_bytes part.entry)))) f.new }
+    ensures { WritesStyledOnOk W.write_str_gives f.old result
+        (item_texts (map unit_item (E.units (part_bytes part.entry)))) f.new }
 {
     for unit in part.os_units() {
         write_unit(unit.to_u64() as u16, f)?;
@@ -32,7 +33,8 @@ pub(crate) fn write_text<W: fmt::Write>(
     text: &str,
     f: &mut fmt::Formatter<W>,
 ) -> fmt::Result
-    ensures { WritesStyledOnOk W.write_str_gives f.old result (item_texts (map (character_item (shown_by form)) (chars text.now))) f.new }
+    ensures { WritesStyledOnOk W.write_str_gives f.old result
+        (item_texts (map (character_item (shown_by form)) (chars text.now))) f.new }
 {
     match form {
         Form::Text => write_shown(text, f),
@@ -42,7 +44,8 @@ pub(crate) fn write_text<W: fmt::Write>(
 
 /// Writes a text with each backslash doubled.
 fn write_shown<W: fmt::Write>(text: &str, f: &mut fmt::Formatter<W>) -> fmt::Result
-    ensures { WritesStyledOnOk W.write_str_gives f.old result (item_texts (map (character_item is_any) (chars text.now))) f.new }
+    ensures { WritesStyledOnOk W.write_str_gives f.old result
+        (item_texts (map (character_item is_any) (chars text.now))) f.new }
 {
     let mut rest = text;
     while let Some((front, behind)) = split_backslash(rest) {
@@ -56,7 +59,8 @@ fn write_shown<W: fmt::Write>(text: &str, f: &mut fmt::Formatter<W>) -> fmt::Res
 /// Writes a text with each backslash doubled and each character that doesn't stay on a line as a
 /// token.
 fn write_line<W: fmt::Write>(text: &str, f: &mut fmt::Formatter<W>) -> fmt::Result
-    ensures { WritesStyledOnOk W.write_str_gives f.old result (item_texts (map (character_item stays_on_line) (chars text.now))) f.new }
+    ensures { WritesStyledOnOk W.write_str_gives f.old result
+        (item_texts (map (character_item stays_on_line) (chars text.now))) f.new }
 {
     let mut rest = text;
     while let Some((front, character, behind)) = split_hidden(rest) {
@@ -69,7 +73,8 @@ fn write_line<W: fmt::Write>(text: &str, f: &mut fmt::Formatter<W>) -> fmt::Resu
 
 /// Writes a character as the escape on one line has it.
 fn write_character<W: fmt::Write>(character: char, f: &mut fmt::Formatter<W>) -> fmt::Result
-    ensures { WritesStyledOnOk W.write_str_gives f.old result (item_text (character_item stays_on_line character)) f.new }
+    ensures { WritesStyledOnOk W.write_str_gives f.old result
+        (item_text (character_item stays_on_line character)) f.new }
 {
     if character == '\\' {
         f.write_str("\\\\")

@@ -21,7 +21,8 @@ pub(crate) fn write_unit<W: fmt::Write>(unit: u16, f: &mut fmt::Formatter<W>) ->
 /// Writes the token of a character: `\uHHHH` where it has 16 bits, else `\u{H..}`.
 pub(crate) fn write_hidden<W: fmt::Write>(character: u32, f: &mut fmt::Formatter<W>) -> fmt::Result
     requires { character < 0x11_0000 }
-    ensures { WritesStyledOnOk W.write_str_gives f.old result (item_text (hidden_item character)) f.new }
+    ensures { WritesStyledOnOk W.write_str_gives f.old result (item_text (hidden_item character))
+        f.new }
 {
     if character < 0x1_0000 {
         write_wide_unit(character as u16, f)
@@ -41,7 +42,8 @@ fn write_wide_unit<W: fmt::Write>(number: u16, f: &mut fmt::Formatter<W>) -> fmt
 /// Writes `\u{H..}` of five or six digits.
 fn write_long<W: fmt::Write>(number: u32, f: &mut fmt::Formatter<W>) -> fmt::Result
     requires { number < 0x11_0000 }
-    ensures { WritesStyledOnOk W.write_str_gives f.old result (item_text (LongCharacter number)) f.new }
+    ensures { WritesStyledOnOk W.write_str_gives f.old result (item_text (LongCharacter number))
+        f.new }
 {
     f.write_str("\\u{")?;
     write_high((number / 0x1_0000) as u8, f)?;
