@@ -4,6 +4,7 @@ mod chunks;
 mod clock;
 mod conversions;
 mod escapes;
+mod globs;
 mod inputs;
 mod joins;
 mod ours;
@@ -22,4 +23,5 @@ fn main() {
     symbols::time(&mut bench);
     joins::time(&mut bench);
     escapes::time(&mut bench);
+    globs::time(&mut bench);
 }

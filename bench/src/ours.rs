@@ -28,6 +28,7 @@ mod exports {
         pub fn port_push(part: *const u8, len: usize, count: usize) -> usize;
         pub fn port_repeat(bytes: *const u8, len: usize, count: usize) -> usize;
         pub fn port_starts_with_os(bytes: *const u8, len: usize, front: *const u8, front_len: usize) -> bool;
+        pub fn port_is_match(pattern: *const u8, pattern_len: usize, bytes: *const u8, len: usize) -> bool;
         pub fn port_escape(bytes: *const u8, len: usize) -> usize;
         pub fn port_escape_line(bytes: *const u8, len: usize) -> usize;
         pub fn port_unescape(text: *const u8, len: usize) -> usize;
@@ -130,6 +131,10 @@ pub fn symbols(bytes: &[u8]) -> u64 {
 
 pub fn split_first_char(bytes: &[u8]) -> u32 {
     unsafe { exports::port_split_first_char(bytes.as_ptr(), bytes.len()) }
+}
+
+pub fn is_match(pattern: &str, bytes: &[u8]) -> bool {
+    unsafe { exports::port_is_match(pattern.as_ptr(), pattern.len(), bytes.as_ptr(), bytes.len()) }
 }
 
 pub fn escape(bytes: &[u8]) -> usize {

@@ -1,7 +1,7 @@
 //! The calls that are timed, for a program in C or Rust: [`check`] the check of Windows,
 //! [`wide`] bytes to units and back, [`lossy`] lossy texts and readings, [`search`] searches,
 //! [`pieces`] splits, [`chunks`] chunks, [`symbols`] symbols and first characters, [`joins`] joins and
-//! prefixes by units, [`escapes`] escapes.
+//! prefixes by units, [`escapes`] escapes, [`globs`] path patterns.
 //!
 //! Each export is a call of the libraries below it, and nothing else. A slice crosses as a
 //! pointer and a length, and an allocator as nothing: what it takes is the program's own
@@ -11,6 +11,7 @@
 pub mod check;
 pub mod chunks;
 pub mod escapes;
+pub mod globs;
 pub mod joins;
 pub mod lossy;
 pub mod pieces;
