@@ -4,6 +4,7 @@
 mod cuts;
 mod names;
 mod options;
+mod patterns;
 
 use names::stem;
 use os_quote::escaped;
@@ -18,6 +19,7 @@ fn main(rt: HostRuntime) -> io::Result<()> {
         println!(rt; "{} and {}", escaped(before), escaped(after))?;
     }
     println!(rt; "{}", escaped(stem(name.as_os_str())))?;
+    patterns::show(&rt, name.as_os_str())?;
     options::show(&rt)?;
     Ok(())
 }
