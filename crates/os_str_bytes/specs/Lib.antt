@@ -21,6 +21,7 @@ pub use Rattle.wtf8_core.specs.Runs
 pub use Rattle.wtf8_core.specs.Standing
 pub use Rattle.wtf8_core.specs.StandingLaws
 pub use Rattle.wtf8_core.specs.Surrogate
+pub use Rattle.wtf8_core.specs.Truncated
 pub use Rattle.wtf8_core.specs.UnitPlace
 pub use Rattle.wtf8_core.specs.UnitsOf
 pub use Rattle.wtf8_core.specs.Utf8

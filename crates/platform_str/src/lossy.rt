@@ -1,15 +1,16 @@
 //! Lossy texts, by the laws of the platform.
-ghost use Rattle.std.specs.Prelude.{◌≡◌, ◌<◌, ◌≤◌, ◌+◌, ◌++◌, length, take, drop, IsOk, IfOk, IfSome, MatchOption, OnOk};
+ghost use Rattle.std.specs.Prelude.{◌≡◌, ◌<◌, ◌≤◌, ◌+◌, ◌*◌, ◌^◌, ◌++◌, length, take, drop, IsOk, IfOk, IfSome, MatchOption, OnOk};
 ghost use Rattle.std.specs.Str.{IsUtf8};
 ghost use Rattle.std.specs.String.{string_bytes};
 ghost use Rattle.wtf8_core.specs.Lossy.{replacement};
+ghost use Rattle.wtf8_core.specs.Truncated.{IsTruncated};
 ghost use Rattle.platform_str.specs.Cows.{byte_cow_bytes};
 ghost use Rattle.platform_str.specs.Lossy.{IsIoLossy, IsFirstText};
 
 use crate::cow::ByteCow;
 use crate::platform::Platform;
 use std::alloc::{AllocError, Allocator};
-use wtf8_core::utf8_fault;
+use wtf8_core::{push_truncated, utf8_fault};
 
 /// The bytes of U+FFFD.
 const REPLACEMENT: [u8; 3] = [0xEF, 0xBF, 0xBD];
@@ -109,6 +110,23 @@ pub(crate) fn text<E: Platform, A: Allocator>(
 {
     let text = text_bytes::<E, A>(alloc, bytes)?;
     Ok(unsafe { String::from_utf8_unchecked(text) })
+}
+
+/// Writes the lossy text of a string's bytes into a buffer, as far as there is room, and returns its
+/// length.
+pub(crate) fn write_text<E: Platform>(bytes: &[u8], buffer: &mut [u8]) -> usize
+    requires formed { E.well_formed bytes.now }
+    requires short { 3 * length bytes.now < 2 ^ 64 }
+    ensures { IsTruncated (E.lossy bytes.now) buffer.old buffer.new result }
+{
+    let mut count = 0;
+    let mut rest = bytes;
+    while let Some((text, behind)) = first_text::<E>(rest) {
+        count = push_truncated(buffer, count, text.as_bytes());
+        count = push_truncated(buffer, count, &REPLACEMENT);
+        rest = behind;
+    }
+    push_truncated(buffer, count, rest)
 }
 
 /// The IO-lossy bytes of a string: its own if they are IO-safe, which doesn't allocate.

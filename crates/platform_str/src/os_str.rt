@@ -1,6 +1,7 @@
 //! Borrowed strings.
-ghost use Rattle.std.specs.Prelude.{◌≡◌, ◌↔◌, [], length, IsTrue, IsOk, IfOk, MatchOption, MatchResult};
+ghost use Rattle.std.specs.Prelude.{◌≡◌, ◌↔◌, ◌*◌, ◌<◌, ◌^◌, [], length, IsTrue, IsOk, IfOk, MatchOption, MatchResult};
 ghost use Rattle.std.specs.Str.{IsUtf8};
+ghost use Rattle.wtf8_core.specs.Truncated.{IsTruncated};
 
 use crate::convert::OsStrBytes;
 use crate::cow::{ByteCow, OsStrCow, StrCow};
@@ -233,6 +234,28 @@ impl<'a, E: Platform> OsStr<'a, E> {
         ensures { shown_bytes result ≡ bytes self.entry }
     {
         OsStrDisplay::new(self)
+    }
+
+    /// Writes the lossy text into a buffer, truncated if the buffer is too short for it, and returns
+    /// the length of the whole text (own call; the text is that of [`OsStr::to_string_lossy`]). What
+    /// the text doesn't reach stays as it is. It doesn't allocate, and with an empty buffer only
+    /// counts.
+    ///
+    /// Three times the string's length is below 2^64 (test: `string.len() <= usize::MAX / 3`).
+    ///
+    /// ```
+    /// use os_str_bytes::{OsStr, Unix};
+    ///
+    /// let string = OsStr::<Unix>::from_encoded_bytes_unchecked(b"a\x80b");
+    /// let mut buffer = [b'-'; 6];
+    /// assert_eq!(rt; string.write_lossy(&mut buffer), 5);
+    /// assert_eq!(rt; buffer.as_slice(), b"a\xEF\xBF\xBDb-".as_slice());
+    /// ```
+    pub fn write_lossy(self, buffer: &mut [u8]) -> usize
+        requires { 3 * length (bytes self) < 2 ^ 64 }
+        ensures { IsTruncated (E.lossy (bytes self.entry)) buffer.old buffer.new result }
+    {
+        lossy::write_text::<E>(self.bytes, buffer)
     }
 
     /// An owned copy (std's `OsStr::to_os_string`). A copy of the empty string doesn't allocate.

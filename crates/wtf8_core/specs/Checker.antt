@@ -4,6 +4,8 @@ use Rattle.wtf8_core.specs.Byte.{is_continuation, needed_continuations}
 use Rattle.wtf8_core.specs.Surrogate.{is_high}
 use Rattle.wtf8_core.specs.Wtf8.{Spells, last_behind}
 use Rattle.wtf8_core.specs.Fault.{IsBegun, shape_value, IsFirstFault}
+use Rattle.wtf8_core.specs.Table.{state_at}
+use Rattle.wtf8_core.specs.declared.checker.SavedChecker.{SavedChecker}
 use Rattle.wtf8_core.specs.declared.fault.EncodingError.{EncodingError}
 use Rattle.wtf8_core.specs.declared.fault.EncodingError.TheVariants.{Byte, CodePoint, End}
 use Rattle.wtf8_core.specs.declared.table.State.{State}
@@ -135,3 +137,7 @@ progress state bits (Some fault) = Faulted fault
 abbrev pub StandsFor : Progress → List ℕ → Type 0
 StandsFor (Reading state bits) bytes = Stands state bits bytes
 StandsFor (Faulted fault) bytes = IsFaulty bytes fault
+
+-- the fields of the checker that was saved as these numbers
+abbrev pub saved_progress : SavedChecker → Progress
+saved_progress saved = progress (state_at saved.state) saved.bits saved.fault

@@ -29,3 +29,4 @@ pub mod LossyReading
 pub mod UnitsOf
 pub mod FirstForm
 pub mod PartUnits
+pub mod Truncated

@@ -1,6 +1,6 @@
 -- The table by which bytes are checked, and the order of its states and classes. Only private contracts name these.
 use Rattle.std.specs.Prelude.{ℕ, [], slice_index_or}
-use Rattle.wtf8_core.specs.declared.table.TheConstants.{CLASSES, NEXT}
+use Rattle.wtf8_core.specs.declared.table.TheConstants.{STATES, CLASSES, NEXT}
 use Rattle.wtf8_core.specs.declared.table.State.{State}
 use Rattle.wtf8_core.specs.declared.table.State.TheVariants.{Between, BehindHigh, OneMore, TwoMore, BehindE0, BehindEd, HighThenEd, LastOfHigh, BehindF0, BehindF1, BehindF4, BehindF5, BadLastTwo, BadFourth, Refused, BadThird}
 use Rattle.wtf8_core.specs.declared.table.Class.{Class}
@@ -24,6 +24,10 @@ state_index BadLastTwo = 12
 state_index BadFourth = 13
 state_index Refused = 14
 state_index BadThird = 15
+
+-- the state with an index in the table
+unfoldable pub state_at : ℕ → State
+state_at index = slice_index_or STATES index Between
 
 -- the index of a class in a row of the table
 abbrev pub class_index : Class → ℕ

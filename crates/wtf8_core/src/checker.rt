@@ -1,6 +1,6 @@
 //! Checking bytes that arrive in pieces.
-ghost use Rattle.std.specs.Prelude.{◌≡◌, ℕ, ◌∷◌, ◌++◌, List, [], MatchResult};
-ghost use Rattle.wtf8_core.specs.Checker.{Stands, StandsFor, IsFaulty, OnlyEnds, HasFirstFault, joined_bits, fault_at, is_between, is_plain};
+ghost use Rattle.std.specs.Prelude.{◌≡◌, ℕ, ◌<◌, ◌≤◌, ◌∷◌, ◌++◌, List, [], MatchOption, MatchResult};
+ghost use Rattle.wtf8_core.specs.Checker.{Stands, StandsFor, IsFaulty, OnlyEnds, HasFirstFault, joined_bits, fault_at, is_between, is_plain, saved_progress};
 ghost use Rattle.wtf8_core.specs.Wtf8.{IsWtf8};
 ghost use Rattle.wtf8_core.specs.declared.table.State.TheVariants.{Between};
 
@@ -8,7 +8,7 @@ use crate::byte::is_continuation;
 use crate::fault::EncodingError;
 use crate::scan::Encoding;
 use crate::scan::fronts::{front_of, is_behind_high};
-use crate::table::{State, class_at, next_at};
+use crate::table::{State, class_at, next_at, state_at, state_index};
 use std::marker::Model;
 
 /// Checks whether bytes that arrive in pieces are WTF-8, and finds their first fault if not.
@@ -33,6 +33,20 @@ impl Model for Checker {
     ghost Value = { Progress };
 
     ghost view = { λ it. progress it.state it.bits it.fault };
+}
+
+/// A [`Checker`] as numbers, for a caller that keeps it where a `Checker` can't be kept, as in a
+/// struct of C (this project's own type).
+///
+/// [`Checker::save`] makes it, and [`Checker::restore`] a checker of it.
+#[derive(Clone, Copy, Debug, PartialEq, Eq)]
+pub struct SavedChecker {
+    /// What is open after the last byte, a number below 16.
+    pub state: u8,
+    /// The bits that were read of what is open.
+    pub bits: u32,
+    /// The fault that was found.
+    pub fault: Option<EncodingError>,
 }
 
 impl Checker {
@@ -114,6 +128,50 @@ impl Checker {
         } else {
             Err(EncodingError::End)
         }
+    }
+
+    /// The checker as numbers (own call).
+    ///
+    /// ```
+    /// use os_str_bytes::{Checker, EncodingError};
+    ///
+    /// let mut checker = Checker::new();
+    /// assert_eq!(rt; checker.feed(b"\xE2"), Ok(()));
+    /// let saved = checker.save();
+    /// if let Some(mut restored) = Checker::restore(saved) {
+    ///     assert_eq!(rt; restored.feed(b"A"), Err(EncodingError::Byte(0x41)));
+    /// }
+    /// ```
+    pub fn save(&self) -> SavedChecker
+        ensures saved { saved_progress result ≡ self.now }
+        ensures state { result.state < 16 }
+    {
+        SavedChecker {
+            state: state_index(self.state) as u8,
+            bits: self.bits,
+            fault: self.fault,
+        }
+    }
+
+    /// The checker that was saved as these numbers; `None` if the state is a number that
+    /// [`Checker::save`] never returns (own call).
+    ///
+    /// ```
+    /// use os_str_bytes::{Checker, SavedChecker};
+    ///
+    /// let unknown = SavedChecker { state: 16, bits: 0, fault: None };
+    /// assert!(rt; Checker::restore(unknown).is_none());
+    /// assert!(rt; Checker::restore(Checker::new().save()).is_some());
+    /// ```
+    pub fn restore(saved: SavedChecker) -> Option<Checker>
+        ensures { MatchOption result (16 ≤ saved.state) (λ checker. checker ≡ saved_progress saved) }
+    {
+        let state = state_at(saved.state)?;
+        Some(Checker {
+            state,
+            bits: saved.bits,
+            fault: saved.fault,
+        })
     }
 }
 

@@ -1,7 +1,7 @@
 //! The table by which bytes are checked: from the state before a byte and the class of the byte to
 //! the state after it.
-ghost use Rattle.std.specs.Prelude.{◌≡◌, ◌<◌};
-ghost use Rattle.wtf8_core.specs.Table.{state_index, class_index, class_at, next_at};
+ghost use Rattle.std.specs.Prelude.{◌≡◌, ◌<◌, ◌≤◌, MatchOption};
+ghost use Rattle.wtf8_core.specs.Table.{state_index, state_at, class_index, class_at, next_at};
 
 use Class::*;
 use State::*;
@@ -66,11 +66,23 @@ pub(crate) enum Class {
 
 /// The index of a state in the table.
 #[inline(always)]
-fn state_index(state: State) -> usize
+pub(crate) fn state_index(state: State) -> usize
     ensures value { result ≡ state_index state }
     ensures within { result < 16 }
 {
     state as usize
+}
+
+/// The state with an index in the table, or `None` if there is none.
+pub(crate) fn state_at(index: u8) -> Option<State>
+    ensures { MatchOption result (16 ≤ index) (λ state. state ≡ state_at index) }
+{
+    let index = index as usize;
+    if index < 16 {
+        Some(STATES[index])
+    } else {
+        None
+    }
 }
 
 /// The index of a class in a row of the table.
@@ -97,6 +109,12 @@ pub(crate) fn next_at(state: State, class: Class) -> State
 {
     NEXT[state_index(state)][class_index(class)]
 }
+
+/// The states in the order of their indices.
+static STATES: [State; 16] = [
+    Between, BehindHigh, OneMore, TwoMore, BehindE0, BehindEd, HighThenEd, LastOfHigh, BehindF0,
+    BehindF1, BehindF4, BehindF5, BadLastTwo, BadFourth, Refused, BadThird,
+];
 
 /// The class of each byte.
 static CLASSES: [Class; 256] = [

@@ -1,0 +1,329 @@
+/* The edge of the library: tests the pointers that C passes, and calls the proved functions, to
+ * which a slice is never null, aligned, and apart from what is written. Nothing here is proved. */
+#include "osbytes.h"
+
+/* The exports of the crate osbytes_c, and what they take by a pointer. */
+struct core_fault {
+    uint32_t kind, value;
+    size_t place, count;
+};
+struct core_open {
+    uint32_t state, bits;
+};
+struct core_piece {
+    size_t edge, rest;
+    bool last;
+};
+struct core_ends {
+    size_t part, text;
+};
+
+_Static_assert(sizeof(size_t) == 8 && sizeof(bool) == 1, "a 64-bit machine");
+_Static_assert(sizeof(osb_view) == 16 && offsetof(osb_view, len) == 8, "osb_view");
+_Static_assert(sizeof(osb_fault) == 24 && sizeof(struct core_fault) == 24, "osb_fault");
+_Static_assert(offsetof(osb_fault, kind) == 0 && offsetof(osb_fault, value) == 4, "osb_fault");
+_Static_assert(offsetof(osb_fault, place) == 8 && offsetof(osb_fault, count) == 16, "osb_fault");
+_Static_assert(sizeof(osb_checker) == 16 && offsetof(osb_checker, bits) == 4, "osb_checker");
+_Static_assert(sizeof(osb_split) == 48 && offsetof(osb_split, pattern) == 16, "osb_split");
+_Static_assert(offsetof(osb_split, next) == 32 && offsetof(osb_split, ended) == 40, "osb_split");
+_Static_assert(sizeof(osb_chunks) == 24 && offsetof(osb_chunks, next) == 16, "osb_chunks");
+_Static_assert(sizeof(osb_chunk) == 32 && offsetof(osb_chunk, text) == 16, "osb_chunk");
+
+uint32_t osb_core_check(uint32_t platform, const char *at, size_t len, osb_fault *fault);
+void osb_core_start(struct core_open *opened);
+uint32_t osb_core_feed(struct core_open *opened, const char *at, size_t len, osb_fault *fault);
+uint32_t osb_core_finish(const struct core_open *opened, osb_fault *fault);
+uint32_t osb_core_fault_text(const osb_fault *fault, char *out, size_t room, size_t *count);
+uint32_t osb_core_to_wide(const char *at, size_t len, uint16_t *out, size_t room, size_t *count);
+uint32_t osb_core_from_wide(const uint16_t *at, size_t len, char *out, size_t room, size_t *count);
+uint32_t osb_core_lossy(uint32_t platform, const char *at, size_t len, char *out, size_t room,
+                        size_t *count);
+uint32_t osb_core_find(const char *at, size_t len, const char *pattern, size_t pattern_len,
+                       size_t *index);
+uint32_t osb_core_rfind(const char *at, size_t len, const char *pattern, size_t pattern_len,
+                        size_t *index);
+uint32_t osb_core_contains(const char *at, size_t len, const char *pattern, size_t pattern_len);
+uint32_t osb_core_starts_with(const char *at, size_t len, const char *pattern, size_t pattern_len);
+uint32_t osb_core_ends_with(const char *at, size_t len, const char *pattern, size_t pattern_len);
+uint32_t osb_core_starts_with_units(uint32_t platform, const char *at, size_t len,
+                                    const char *prefix, size_t prefix_len);
+uint32_t osb_core_ends_with_units(uint32_t platform, const char *at, size_t len,
+                                  const char *suffix, size_t suffix_len);
+uint32_t osb_core_is_boundary(const char *at, size_t len, size_t index);
+uint32_t osb_core_compare(const char *a, size_t a_len, const char *b, size_t b_len);
+uint32_t osb_core_cut(const char *at, size_t len, const char *pattern, size_t pattern_len,
+                      size_t from, struct core_piece *piece);
+uint32_t osb_core_rcut(const char *at, size_t len, const char *pattern, size_t pattern_len,
+                       size_t to, struct core_piece *piece);
+uint32_t osb_core_chunk(const char *at, size_t len, size_t from, struct core_ends *ends);
+
+/* Where the slices of no items are. */
+static const uint16_t nothing[1];
+static uint16_t no_room[1];
+
+static bool is_bad(const void *at, size_t len) {
+    return len != 0 && (at == NULL || len > PTRDIFF_MAX || (uintptr_t)at > UINTPTR_MAX - len);
+}
+
+static bool are_bad_units(const uint16_t *at, size_t len) {
+    return len > PTRDIFF_MAX / sizeof *at || is_bad(at, len * sizeof *at) ||
+           (len != 0 && (uintptr_t)at % _Alignof(uint16_t) != 0);
+}
+
+static bool do_overlap(const void *a, size_t a_len, const void *b, size_t b_len) {
+    return a_len != 0 && b_len != 0 && (uintptr_t)a < (uintptr_t)b + b_len &&
+           (uintptr_t)b < (uintptr_t)a + a_len;
+}
+
+static const char *bytes(const char *at, size_t len) {
+    return len == 0 ? (const char *)nothing : at;
+}
+
+uint32_t osb_version(void) {
+    return OSB_VERSION;
+}
+
+osb_status osb_check(osb_platform platform, const char *at, size_t len, osb_fault *fault) {
+    osb_fault own = {0, 0, 0, 0};
+    if (is_bad(at, len)) return OSB_BAD_POINTER;
+    osb_status status = osb_core_check(platform, bytes(at, len), len, &own);
+    if (status == OSB_FAULTY && fault != NULL) *fault = own;
+    return status;
+}
+
+osb_status osb_checker_start(osb_checker *checker) {
+    struct core_open own = {0, 0};
+    if (checker == NULL) return OSB_BAD_POINTER;
+    osb_core_start(&own);
+    *checker = (osb_checker){own.state, own.bits, 0, 0};
+    return OSB_OK;
+}
+
+/* The fault that an earlier piece had. */
+static osb_status kept_fault(const osb_checker *checker, osb_fault *fault) {
+    if (fault != NULL) *fault = (osb_fault){checker->kind, checker->value, 0, 0};
+    return OSB_FAULTY;
+}
+
+osb_status osb_checker_feed(osb_checker *checker, const char *at, size_t len, osb_fault *fault) {
+    osb_fault own = {0, 0, 0, 0};
+    if (checker == NULL || is_bad(at, len)) return OSB_BAD_POINTER;
+    if (checker->kind != 0) return kept_fault(checker, fault);
+    struct core_open opened = {checker->state, checker->bits};
+    osb_status status = osb_core_feed(&opened, bytes(at, len), len, &own);
+    if (status == OSB_OK) *checker = (osb_checker){opened.state, opened.bits, 0, 0};
+    if (status == OSB_FAULTY) {
+        checker->kind = own.kind;
+        checker->value = own.value;
+        if (fault != NULL) *fault = own;
+    }
+    return status;
+}
+
+osb_status osb_checker_finish(const osb_checker *checker, osb_fault *fault) {
+    osb_fault own = {0, 0, 0, 0};
+    if (checker == NULL) return OSB_BAD_POINTER;
+    if (checker->kind != 0) return kept_fault(checker, fault);
+    struct core_open opened = {checker->state, checker->bits};
+    osb_status status = osb_core_finish(&opened, &own);
+    if (status == OSB_FAULTY && fault != NULL) *fault = own;
+    return status;
+}
+
+osb_status osb_fault_text(const osb_fault *fault, char *out, size_t room, size_t *count) {
+    size_t own = 0;
+    if (fault == NULL || count == NULL || is_bad(out, room)) return OSB_BAD_POINTER;
+    osb_fault named = *fault;
+    size_t before = room == 0 ? 0 : room - 1;
+    char *to = before == 0 ? (char *)no_room : out;
+    osb_status status = osb_core_fault_text(&named, to, before, &own);
+    if (status == OSB_OK || status == OSB_NO_ROOM) *count = own;
+    if (status == OSB_OK) out[own] = 0;
+    return status;
+}
+
+size_t osb_wide_bound(size_t len) {
+    return len;
+}
+
+osb_status osb_to_wide(const char *at, size_t len, uint16_t *out, size_t room, size_t *count,
+                       osb_fault *fault) {
+    size_t own = 0;
+    if (count == NULL || is_bad(at, len) || are_bad_units(out, room) ||
+        do_overlap(at, len, out, room * sizeof *out))
+        return OSB_BAD_POINTER;
+    at = bytes(at, len);
+    osb_status status = osb_core_to_wide(at, len, room == 0 ? no_room : out, room, &own);
+    if (status == OSB_FAULTY) return osb_check(OSB_WINDOWS, at, len, fault);
+    *count = own;
+    return status;
+}
+
+size_t osb_bytes_bound(size_t len) {
+    return len > SIZE_MAX / 3 ? SIZE_MAX : 3 * len;
+}
+
+osb_status osb_from_wide(const uint16_t *units, size_t len, char *out, size_t room, size_t *count) {
+    size_t own = 0;
+    if (count == NULL || are_bad_units(units, len) || is_bad(out, room) ||
+        do_overlap(units, len * sizeof *units, out, room))
+        return OSB_BAD_POINTER;
+    osb_status status = osb_core_from_wide(len == 0 ? nothing : units, len,
+                                           room == 0 ? (char *)no_room : out, room, &own);
+    *count = own;
+    return status;
+}
+
+size_t osb_lossy_bound(size_t len) {
+    return len > SIZE_MAX / 3 ? SIZE_MAX : 3 * len;
+}
+
+osb_status osb_lossy(osb_platform platform, const char *at, size_t len, char *out, size_t room,
+                     size_t *count, osb_fault *fault) {
+    size_t own = 0;
+    if (count == NULL || is_bad(at, len) || is_bad(out, room) || do_overlap(at, len, out, room))
+        return OSB_BAD_POINTER;
+    at = bytes(at, len);
+    osb_status status =
+        osb_core_lossy(platform, at, len, room == 0 ? (char *)no_room : out, room, &own);
+    if (status == OSB_FAULTY) return osb_check(platform, at, len, fault);
+    if (status == OSB_OK || status == OSB_NO_ROOM) *count = own;
+    return status;
+}
+
+osb_status osb_find(const char *at, size_t len, const char *pattern, size_t pattern_len,
+                    size_t *index) {
+    size_t own = 0;
+    if (index == NULL || is_bad(at, len) || is_bad(pattern, pattern_len)) return OSB_BAD_POINTER;
+    osb_status status =
+        osb_core_find(bytes(at, len), len, bytes(pattern, pattern_len), pattern_len, &own);
+    if (status == OSB_OK) *index = own;
+    return status;
+}
+
+osb_status osb_rfind(const char *at, size_t len, const char *pattern, size_t pattern_len,
+                     size_t *index) {
+    size_t own = 0;
+    if (index == NULL || is_bad(at, len) || is_bad(pattern, pattern_len)) return OSB_BAD_POINTER;
+    osb_status status =
+        osb_core_rfind(bytes(at, len), len, bytes(pattern, pattern_len), pattern_len, &own);
+    if (status == OSB_OK) *index = own;
+    return status;
+}
+
+osb_status osb_contains(const char *at, size_t len, const char *pattern, size_t pattern_len) {
+    if (is_bad(at, len) || is_bad(pattern, pattern_len)) return OSB_BAD_POINTER;
+    return osb_core_contains(bytes(at, len), len, bytes(pattern, pattern_len), pattern_len);
+}
+
+osb_status osb_starts_with(const char *at, size_t len, const char *pattern, size_t pattern_len) {
+    if (is_bad(at, len) || is_bad(pattern, pattern_len)) return OSB_BAD_POINTER;
+    return osb_core_starts_with(bytes(at, len), len, bytes(pattern, pattern_len), pattern_len);
+}
+
+osb_status osb_ends_with(const char *at, size_t len, const char *pattern, size_t pattern_len) {
+    if (is_bad(at, len) || is_bad(pattern, pattern_len)) return OSB_BAD_POINTER;
+    return osb_core_ends_with(bytes(at, len), len, bytes(pattern, pattern_len), pattern_len);
+}
+
+osb_status osb_starts_with_units(osb_platform platform, const char *at, size_t len,
+                                 const char *prefix, size_t prefix_len) {
+    if (is_bad(at, len) || is_bad(prefix, prefix_len)) return OSB_BAD_POINTER;
+    return osb_core_starts_with_units(platform, bytes(at, len), len, bytes(prefix, prefix_len),
+                                      prefix_len);
+}
+
+osb_status osb_ends_with_units(osb_platform platform, const char *at, size_t len,
+                               const char *suffix, size_t suffix_len) {
+    if (is_bad(at, len) || is_bad(suffix, suffix_len)) return OSB_BAD_POINTER;
+    return osb_core_ends_with_units(platform, bytes(at, len), len, bytes(suffix, suffix_len),
+                                    suffix_len);
+}
+
+osb_status osb_is_boundary(const char *at, size_t len, size_t index) {
+    if (is_bad(at, len)) return OSB_BAD_POINTER;
+    return osb_core_is_boundary(bytes(at, len), len, index);
+}
+
+osb_status osb_compare(const char *a, size_t a_len, const char *b, size_t b_len, int32_t *order) {
+    if (order == NULL || is_bad(a, a_len) || is_bad(b, b_len)) return OSB_BAD_POINTER;
+    uint32_t number = osb_core_compare(bytes(a, a_len), a_len, bytes(b, b_len), b_len);
+    *order = number == 0 ? 0 : number == 1 ? -1 : 1;
+    return OSB_OK;
+}
+
+/* Starts an iterator at an index. Nothing is looked for in the empty string: the export only tests
+ * the pattern. */
+static osb_status start_split(osb_split *split, const char *at, size_t len, const char *pattern,
+                              size_t pattern_len, size_t next) {
+    struct core_piece own = {0, 0, false};
+    if (split == NULL || is_bad(at, len) || is_bad(pattern, pattern_len)) return OSB_BAD_POINTER;
+    pattern = bytes(pattern, pattern_len);
+    osb_status status = osb_core_cut((const char *)nothing, 0, pattern, pattern_len, 0, &own);
+    if (status == OSB_OK)
+        *split = (osb_split){{bytes(at, len), len}, {pattern, pattern_len}, next, 0};
+    return status;
+}
+
+/* A started iterator has no null pointers, a struct of zeros has. */
+static bool is_bad_split(const osb_split *split) {
+    return split == NULL || split->string.at == NULL || split->pattern.at == NULL ||
+           is_bad(split->string.at, split->string.len) ||
+           is_bad(split->pattern.at, split->pattern.len);
+}
+
+osb_status osb_split_start(osb_split *split, const char *at, size_t len, const char *pattern,
+                           size_t pattern_len) {
+    return start_split(split, at, len, pattern, pattern_len, 0);
+}
+
+osb_status osb_rsplit_start(osb_split *split, const char *at, size_t len, const char *pattern,
+                            size_t pattern_len) {
+    return start_split(split, at, len, pattern, pattern_len, len);
+}
+
+osb_status osb_split_next(osb_split *split, osb_view *piece) {
+    struct core_piece own = {0, 0, false};
+    if (piece == NULL || is_bad_split(split)) return OSB_BAD_POINTER;
+    if (split->ended != 0) return OSB_ENDED;
+    osb_status status = osb_core_cut(split->string.at, split->string.len, split->pattern.at,
+                                     split->pattern.len, split->next, &own);
+    if (status != OSB_OK) return status;
+    *piece = (osb_view){split->string.at + split->next, own.edge - split->next};
+    split->next = own.rest;
+    split->ended = own.last;
+    return OSB_OK;
+}
+
+osb_status osb_rsplit_next(osb_split *split, osb_view *piece) {
+    struct core_piece own = {0, 0, false};
+    if (piece == NULL || is_bad_split(split)) return OSB_BAD_POINTER;
+    if (split->ended != 0) return OSB_ENDED;
+    osb_status status = osb_core_rcut(split->string.at, split->string.len, split->pattern.at,
+                                      split->pattern.len, split->next, &own);
+    if (status != OSB_OK) return status;
+    *piece = (osb_view){split->string.at + own.edge, split->next - own.edge};
+    split->next = own.rest;
+    split->ended = own.last;
+    return OSB_OK;
+}
+
+osb_status osb_chunks_start(osb_chunks *chunks, const char *at, size_t len) {
+    if (chunks == NULL || is_bad(at, len)) return OSB_BAD_POINTER;
+    *chunks = (osb_chunks){{bytes(at, len), len}, 0};
+    return OSB_OK;
+}
+
+osb_status osb_chunks_next(osb_chunks *chunks, osb_chunk *chunk) {
+    struct core_ends own = {0, 0};
+    if (chunks == NULL || chunk == NULL || chunks->string.at == NULL ||
+        is_bad(chunks->string.at, chunks->string.len))
+        return OSB_BAD_POINTER;
+    osb_status status = osb_core_chunk(chunks->string.at, chunks->string.len, chunks->next, &own);
+    if (status != OSB_OK) return status;
+    const char *at = chunks->string.at;
+    chunk->part = (osb_view){at + chunks->next, own.part - chunks->next};
+    chunk->text = (osb_view){at + own.part, own.text - own.part};
+    chunks->next = own.text;
+    return OSB_OK;
+}

@@ -1,0 +1,207 @@
+/* osbytes.h: strings of operating systems, of any platform on any platform.
+ *
+ * A string of Unix is any bytes, one of Windows is WTF-8 (its 16-bit code units, lone surrogates
+ * too, as generalized UTF-8), one of wasm is UTF-8. Lengths and indices count bytes, if nothing
+ * else is said. No string ends with a 0 byte, and each may contain one.
+ *
+ * No call keeps state, allocates memory or writes anything but what its arguments say. So every
+ * call may run in any thread, and in a signal handler too, if no other thread writes to what it
+ * reads or touches what it writes.
+ *
+ * What a caller owes, since no call can test it:
+ *   - (at, len) is len readable bytes, (out, room) is room writable items, for the whole call;
+ *   - a struct or a number that a call is given by a pointer is there, is aligned as its type, and
+ *     overlaps nothing else that the call is given;
+ *   - an iterator or a checker was started by its own call, and its strings stay as they were.
+ * What a call tests: a null pointer with a length, a length past PTRDIFF_MAX, units that aren't
+ * aligned, a buffer that overlaps what is read (OSB_BAD_POINTER), and every value.
+ * A null pointer with length 0 is the empty string, or no room.
+ *
+ * A call that writes into a buffer writes as far as there is room, and its count is what the whole
+ * answer needs, with OSB_OK and with OSB_NO_ROOM alike: so with room 0 it is asked how much that
+ * is, and the _bound calls give a room that is always enough. What the answer doesn't reach stays
+ * as it is. With any other status the buffer's content isn't specified, and no count is written.
+ */
+#ifndef OSBYTES_H
+#define OSBYTES_H
+
+#include <stdbool.h>
+#include <stddef.h>
+#include <stdint.h>
+
+#ifdef __cplusplus
+extern "C" {
+#endif
+
+/* The version of this header. A library of another one is another library: compare it with
+ * osb_version(). */
+#define OSB_VERSION 1
+uint32_t osb_version(void);
+
+typedef uint32_t osb_platform;
+enum {
+    OSB_UNIX = 0,
+    OSB_WINDOWS = 1,
+    OSB_WASM = 2
+};
+
+typedef uint32_t osb_status;
+enum {
+    OSB_OK = 0,
+    OSB_FAULTY = 1,        /* bytes aren't a string of the platform */
+    OSB_NO_ROOM = 2,       /* the buffer is too short: the count is what it needs */
+    OSB_NONE = 3,          /* the pattern doesn't occur; the index is no boundary */
+    OSB_ENDED = 4,         /* there are no more items */
+    /* from 16 on: an argument is refused, and nothing was written */
+    OSB_BAD_PLATFORM = 16, /* there is no such platform */
+    OSB_BAD_PATTERN = 17,  /* the pattern isn't UTF-8, or is empty where it may not be */
+    OSB_BAD_INDEX = 18,    /* the index is past the end */
+    OSB_BAD_FAULT = 19,    /* there is no such fault */
+    OSB_BAD_STATE = 20,    /* no call leaves a checker so */
+    OSB_TOO_LONG = 21,     /* three times the string's length is past SIZE_MAX */
+    OSB_BAD_POINTER = 32   /* null, too long, not aligned, or overlapping */
+};
+
+/* Bytes of the caller's. */
+typedef struct osb_view {
+    const char *at;
+    size_t len;
+} osb_view;
+
+enum {
+    OSB_FAULT_BYTE = 1,       /* value: a byte that can't occur where it is */
+    OSB_FAULT_CODE_POINT = 2, /* value: overlong, past 10FFFF, or the low half of a pair */
+    OSB_FAULT_END = 3,        /* the bytes end within a code point */
+    OSB_FAULT_UTF8 = 4,       /* a part that isn't UTF-8 */
+    OSB_FAULT_UTF8_END = 5    /* the bytes end within a character */
+};
+
+/* The first fault of bytes. */
+typedef struct osb_fault {
+    uint32_t kind;  /* OSB_FAULT_.. */
+    uint32_t value; /* the byte, the code point, or 0 */
+    size_t place;   /* how many bytes before it are well formed */
+    size_t count;   /* how many bytes are refused with it */
+} osb_fault;
+
+/* Whether the bytes are a string of the platform: OSB_OK, OSB_FAULTY, OSB_BAD_PLATFORM. `fault`
+ * may be null, here and in every other call; it is written with OSB_FAULTY alone. */
+osb_status osb_check(osb_platform platform, const char *at, size_t len, osb_fault *fault);
+
+/* A check of bytes that come in pieces, for Windows. The fields are the library's. It holds no
+ * memory, and a copy of it goes on by itself. */
+typedef struct osb_checker {
+    uint32_t state;
+    uint32_t bits;
+    uint32_t kind;
+    uint32_t value;
+} osb_checker;
+
+/* OSB_OK. */
+osb_status osb_checker_start(osb_checker *checker);
+/* Reads one more piece: OSB_OK, or OSB_FAULTY if the bytes joined have a fault that no later byte
+ * changes, from then on in every call; OSB_BAD_STATE. The fault has kind and value, and 0 for
+ * place and count, since a checker keeps no bytes. */
+osb_status osb_checker_feed(osb_checker *checker, const char *at, size_t len, osb_fault *fault);
+/* Whether all the bytes that were fed, joined, are WTF-8: OSB_OK, OSB_FAULTY, OSB_BAD_STATE. */
+osb_status osb_checker_finish(const osb_checker *checker, osb_fault *fault);
+
+/* A room that is enough for each fault's text and the 0 after it. */
+#define OSB_FAULT_TEXT_ROOM 129
+
+/* Writes the text of a fault, in ASCII, and a 0 after it: OSB_OK, OSB_NO_ROOM, OSB_BAD_FAULT.
+ * `*count` is the length of the text without the 0; with OSB_NO_ROOM `room` must be greater. */
+osb_status osb_fault_text(const osb_fault *fault, char *out, size_t room, size_t *count);
+
+/* How many units a Windows string of so many bytes has at most. */
+size_t osb_wide_bound(size_t len);
+
+/* Writes the 16-bit units of a Windows string: OSB_OK, OSB_FAULTY, OSB_NO_ROOM. `room` and
+ * `*count` count units. */
+osb_status osb_to_wide(const char *at, size_t len, uint16_t *out, size_t room, size_t *count,
+                       osb_fault *fault);
+
+/* How many bytes the Windows string of so many units has at most; SIZE_MAX past that. */
+size_t osb_bytes_bound(size_t len);
+
+/* Writes the Windows string that has these units, which may be any: OSB_OK, OSB_NO_ROOM. */
+osb_status osb_from_wide(const uint16_t *units, size_t len, char *out, size_t room, size_t *count);
+
+/* How many bytes the lossy text of a string of so many bytes has at most; SIZE_MAX past that. */
+size_t osb_lossy_bound(size_t len);
+
+/* Writes the lossy text of a string, in which U+FFFD replaces what isn't text: OSB_OK, OSB_FAULTY,
+ * OSB_NO_ROOM, OSB_TOO_LONG, OSB_BAD_PLATFORM. */
+osb_status osb_lossy(osb_platform platform, const char *at, size_t len, char *out, size_t room,
+                     size_t *count, osb_fault *fault);
+
+/* The first and the last index at which a pattern, which is UTF-8, occurs in a string of any
+ * platform: OSB_OK, OSB_NONE, OSB_BAD_PATTERN. The empty pattern occurs at 0 and at the end. */
+osb_status osb_find(const char *at, size_t len, const char *pattern, size_t pattern_len,
+                    size_t *index);
+osb_status osb_rfind(const char *at, size_t len, const char *pattern, size_t pattern_len,
+                     size_t *index);
+
+/* Whether the string contains the pattern, starts with it, ends with it: OSB_OK, OSB_NONE,
+ * OSB_BAD_PATTERN. */
+osb_status osb_contains(const char *at, size_t len, const char *pattern, size_t pattern_len);
+osb_status osb_starts_with(const char *at, size_t len, const char *pattern, size_t pattern_len);
+osb_status osb_ends_with(const char *at, size_t len, const char *pattern, size_t pattern_len);
+
+/* Whether the units of a string start or end with those of another string of the platform; half
+ * of a surrogate pair counts: OSB_OK, OSB_NONE, OSB_FAULTY (either isn't a string),
+ * OSB_BAD_PLATFORM. */
+osb_status osb_starts_with_units(osb_platform platform, const char *at, size_t len,
+                                 const char *prefix, size_t prefix_len);
+osb_status osb_ends_with_units(osb_platform platform, const char *at, size_t len,
+                               const char *suffix, size_t suffix_len);
+
+/* Whether a string of any platform may be cut at an index: OSB_OK, OSB_NONE. */
+osb_status osb_is_boundary(const char *at, size_t len, size_t index);
+
+/* How two strings of a platform are ordered, as their bytes are: OSB_OK, and `*order` is -1, 0 or
+ * 1. */
+osb_status osb_compare(const char *a, size_t a_len, const char *b, size_t b_len, int32_t *order);
+
+/* The pieces of a string between the occurrences of a pattern, which isn't empty: from the start,
+ * or from the end. The fields are the library's: start an iterator by osb_split_start or
+ * osb_rsplit_start, and step it by osb_split_next or osb_rsplit_next. It holds no memory, and a
+ * copy of it goes on by itself. */
+typedef struct osb_split {
+    osb_view string;
+    osb_view pattern;
+    size_t next;
+    uint32_t ended;
+} osb_split;
+
+/* OSB_OK, OSB_BAD_PATTERN. */
+osb_status osb_split_start(osb_split *split, const char *at, size_t len, const char *pattern,
+                           size_t pattern_len);
+osb_status osb_rsplit_start(osb_split *split, const char *at, size_t len, const char *pattern,
+                            size_t pattern_len);
+/* OSB_OK with the next piece, OSB_ENDED after the last. */
+osb_status osb_split_next(osb_split *split, osb_view *piece);
+osb_status osb_rsplit_next(osb_split *split, osb_view *piece);
+
+/* The chunks of a string of any platform: each a part without whole characters, and the text
+ * (UTF-8) after it. osb_to_wide gives the units of a part of a Windows string. */
+typedef struct osb_chunks {
+    osb_view string;
+    size_t next;
+} osb_chunks;
+
+typedef struct osb_chunk {
+    osb_view part;
+    osb_view text;
+} osb_chunk;
+
+/* OSB_OK. */
+osb_status osb_chunks_start(osb_chunks *chunks, const char *at, size_t len);
+/* OSB_OK with the next chunk, OSB_ENDED after the last. */
+osb_status osb_chunks_next(osb_chunks *chunks, osb_chunk *chunk);
+
+#ifdef __cplusplus
+}
+#endif
+
+#endif

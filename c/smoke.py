@@ -1,0 +1,234 @@
+#!/usr/bin/env python3
+"""Calls libosbytes.so by ctypes, as a program outside would: smoke.py LIBRARY.
+
+What it expects comes from Python's own codecs, searches and splits.
+"""
+import ctypes
+import random
+import sys
+from ctypes import POINTER, Structure, byref, c_char_p, c_int32, c_size_t, c_uint16, c_uint32, c_void_p
+
+
+class View(Structure):
+    _fields_ = [("at", c_void_p), ("len", c_size_t)]
+
+    def __bytes__(self):
+        return ctypes.string_at(self.at, self.len)
+
+
+class Fault(Structure):
+    _fields_ = [("kind", c_uint32), ("value", c_uint32), ("place", c_size_t), ("count", c_size_t)]
+
+
+class Checker(Structure):
+    _fields_ = [("state", c_uint32), ("bits", c_uint32), ("kind", c_uint32), ("value", c_uint32)]
+
+
+class Split(Structure):
+    _fields_ = [("string", View), ("pattern", View), ("next", c_size_t), ("ended", c_uint32)]
+
+
+class Chunks(Structure):
+    _fields_ = [("string", View), ("next", c_size_t)]
+
+
+class Chunk(Structure):
+    _fields_ = [("part", View), ("text", View)]
+
+
+UNIX, WINDOWS, WASM = range(3)
+OK, FAULTY, NO_ROOM, NONE, ENDED = range(5)
+
+
+def load(name):
+    osb = ctypes.CDLL(name)
+    osb.osb_check.argtypes = [c_uint32, c_char_p, c_size_t, POINTER(Fault)]
+    osb.osb_fault_text.argtypes = [POINTER(Fault), c_char_p, c_size_t, POINTER(c_size_t)]
+    osb.osb_wide_bound.argtypes = [c_size_t]
+    osb.osb_wide_bound.restype = c_size_t
+    osb.osb_to_wide.argtypes = [c_char_p, c_size_t, POINTER(c_uint16), c_size_t, POINTER(c_size_t), POINTER(Fault)]
+    osb.osb_find.argtypes = [c_char_p, c_size_t, c_char_p, c_size_t, POINTER(c_size_t)]
+    osb.osb_split_start.argtypes = [POINTER(Split), c_char_p, c_size_t, c_char_p, c_size_t]
+    osb.osb_split_next.argtypes = [POINTER(Split), POINTER(View)]
+    osb.osb_chunks_start.argtypes = [POINTER(Chunks), c_char_p, c_size_t]
+    osb.osb_chunks_next.argtypes = [POINTER(Chunks), POINTER(Chunk)]
+    osb.osb_rfind.argtypes = osb.osb_find.argtypes
+    osb.osb_from_wide.argtypes = [POINTER(c_uint16), c_size_t, c_char_p, c_size_t, POINTER(c_size_t)]
+    osb.osb_lossy.argtypes = [c_uint32, c_char_p, c_size_t, c_char_p, c_size_t, POINTER(c_size_t), POINTER(Fault)]
+    osb.osb_contains.argtypes = [c_char_p, c_size_t, c_char_p, c_size_t]
+    osb.osb_starts_with.argtypes = osb.osb_ends_with.argtypes = osb.osb_contains.argtypes
+    osb.osb_starts_with_units.argtypes = [c_uint32, c_char_p, c_size_t, c_char_p, c_size_t]
+    osb.osb_ends_with_units.argtypes = osb.osb_starts_with_units.argtypes
+    osb.osb_compare.argtypes = [c_char_p, c_size_t, c_char_p, c_size_t, POINTER(c_int32)]
+    osb.osb_is_boundary.argtypes = [c_char_p, c_size_t, c_size_t]
+    osb.osb_rsplit_start.argtypes = osb.osb_split_start.argtypes
+    osb.osb_rsplit_next.argtypes = osb.osb_split_next.argtypes
+    osb.osb_checker_start.argtypes = [POINTER(Checker)]
+    osb.osb_checker_feed.argtypes = [POINTER(Checker), c_char_p, c_size_t, POINTER(Fault)]
+    osb.osb_checker_finish.argtypes = [POINTER(Checker), POINTER(Fault)]
+    return osb
+
+
+def to_wide(osb, string):
+    room = osb.osb_wide_bound(len(string))
+    out, count = (c_uint16 * room)(), c_size_t()
+    status = osb.osb_to_wide(string, len(string), out, room, byref(count), None)
+    assert status == OK, status
+    return b"".join(unit.to_bytes(2, "little") for unit in out[: count.value])
+
+
+def split(osb, string, pattern):
+    it, piece, pieces = Split(), View(), []
+    assert osb.osb_split_start(byref(it), string, len(string), pattern, len(pattern)) == OK
+    while osb.osb_split_next(byref(it), byref(piece)) == OK:
+        pieces.append(bytes(piece))
+    return pieces
+
+
+def rsplit(osb, string, pattern):
+    it, piece, pieces = Split(), View(), []
+    assert osb.osb_rsplit_start(byref(it), string, len(string), pattern, len(pattern)) == OK
+    while osb.osb_rsplit_next(byref(it), byref(piece)) == OK:
+        pieces.append(bytes(piece))
+    return pieces
+
+
+def rsplit_by_python(string, pattern):
+    pieces = []
+    while (at := string.rfind(pattern)) != -1:
+        pieces.append(string[at + len(pattern) :])
+        string = string[:at]
+    return pieces + [string]
+
+
+def from_wide(osb, units):
+    """The bytes of the string with the units that these bytes are, little-endian."""
+    count = len(units) // 2
+    wide = (c_uint16 * count).from_buffer_copy(units)
+    out, length = ctypes.create_string_buffer(3 * count + 1), c_size_t()
+    assert osb.osb_from_wide(wide, count, out, 3 * count, byref(length)) == OK
+    return out.raw[: length.value]
+
+
+def lossy(osb, platform, string):
+    out, length = ctypes.create_string_buffer(3 * len(string) + 1), c_size_t()
+    status = osb.osb_lossy(platform, string, len(string), out, 3 * len(string), byref(length), None)
+    return out.raw[: length.value] if status == OK else None
+
+
+def is_wtf8(osb, string, numbers):
+    """Whether a string is WTF-8, by pieces."""
+    checker = Checker()
+    assert osb.osb_checker_start(byref(checker)) == OK
+    while string:
+        size = numbers.randint(1, 5)
+        osb.osb_checker_feed(byref(checker), string[:size], len(string[:size]), None)
+        string = string[size:]
+    return osb.osb_checker_finish(byref(checker), None) == OK
+
+
+def units_of(string):
+    return string.decode("utf-8", "surrogatepass").encode("utf-16-le", "surrogatepass")
+
+
+def compare_more(osb, numbers, string, other, pattern):
+    """Compares the calls that need no codec of their own."""
+    index, order = c_size_t(), c_int32()
+    found = osb.osb_rfind(string, len(string), pattern, len(pattern), byref(index))
+    assert (index.value if found == OK else -1) == string.rfind(pattern), (string, pattern)
+    asked = string, len(string), pattern, len(pattern)
+    assert (osb.osb_contains(*asked) == OK) == (pattern in string), asked
+    assert (osb.osb_starts_with(*asked) == OK) == string.startswith(pattern), asked
+    assert (osb.osb_ends_with(*asked) == OK) == string.endswith(pattern), asked
+    assert rsplit(osb, string, pattern) == rsplit_by_python(string, pattern), asked
+    assert osb.osb_compare(string, len(string), other, len(other), byref(order)) == OK
+    assert order.value == (string > other) - (string < other), (string, other)
+    # surrogateescape keeps what isn't UTF-8, and replace writes U+FFFD for each maximal part.
+    text = string.decode("utf-8", "surrogateescape")
+    joined = b"".join(part + text for part, text in chunks(osb, string))
+    assert joined == text.encode("utf-8", "surrogateescape"), string
+    assert lossy(osb, UNIX, string) == string.decode("utf-8", "replace").encode(), string
+    whole = osb.osb_check(WINDOWS, string, len(string), None) == OK
+    assert is_wtf8(osb, string, numbers) == whole, string
+    if whole:
+        units = units_of(string)
+        assert from_wide(osb, units) == string, string
+        shown = units.decode("utf-16-le", "surrogatepass").encode("utf-16-le", "surrogatepass")
+        assert lossy(osb, WINDOWS, string) == bytes(
+            "".join("\ufffd" if "\ud800" <= c <= "\udfff" else c for c in shown.decode("utf-16-le", "surrogatepass")),
+            "utf-8",
+        ), string
+        if osb.osb_check(WINDOWS, other, len(other), None) == OK:
+            asked = WINDOWS, string, len(string), other, len(other)
+            assert (osb.osb_starts_with_units(*asked) == OK) == units.startswith(units_of(other)), asked
+            ends = units.endswith(units_of(other))
+            assert (osb.osb_ends_with_units(*asked) == OK) == ends, asked
+
+
+def chunks(osb, string):
+    it, chunk, found = Chunks(), Chunk(), []
+    assert osb.osb_chunks_start(byref(it), string, len(string)) == OK
+    while osb.osb_chunks_next(byref(it), byref(chunk)) == OK:
+        found.append((bytes(chunk.part), bytes(chunk.text)))
+    return found
+
+
+def compare_random(osb, rows):
+    """Asks about random bytes, and compares with Python's answers."""
+    numbers = random.Random(1)
+    forms = [text.encode("utf-8", "surrogatepass") for text in "a,b\u00e9\u20ac\ud800\udc00\U0001f600"]
+    forms += [b"\xc0", b"\xe2\x82", b"\xed", b"\xf4\x90", b"\x80"]
+    for _ in range(rows):
+        several = numbers.sample(forms, numbers.randint(1, 4))
+        string = b"".join(numbers.choice(several) for _ in range(numbers.randint(0, 40)))
+        fault = Fault()
+        status = osb.osb_check(WASM, string, len(string), byref(fault))
+        try:
+            string.decode("utf-8")
+            assert status == OK, string
+        except UnicodeDecodeError as error:
+            assert status == FAULTY and fault.place == error.start, (string, fault.place, error)
+            # A front of a character at the end is one part, which Python counts so too.
+            assert fault.count == error.end - error.start, (string, fault.count, error)
+        try:
+            wide = string.decode("utf-8", "surrogatepass").encode("utf-16-le", "surrogatepass")
+            # Python takes the halves of a pair too, which WTF-8 leaves to the four bytes.
+            if wide.decode("utf-16-le", "surrogatepass").encode("utf-8", "surrogatepass") == string:
+                assert to_wide(osb, string) == wide, string
+            else:
+                assert osb.osb_check(WINDOWS, string, len(string), None) == FAULTY, string
+        except UnicodeDecodeError:
+            assert osb.osb_check(WINDOWS, string, len(string), None) == FAULTY, string
+        pattern = numbers.choice([b",", b"a", b"ab", b"\xc3\xa9", b"\xf0\x9f\x98\x80"])
+        place = c_size_t()
+        found = osb.osb_find(string, len(string), pattern, len(pattern), byref(place))
+        assert (place.value if found == OK else -1) == string.find(pattern), (string, pattern)
+        assert split(osb, string, pattern) == string.split(pattern), (string, pattern)
+        assert b"".join(part + text for part, text in chunks(osb, string)) == string
+        for part, text in chunks(osb, string):
+            text.decode("utf-8")
+        other = b"".join(numbers.choice(several) for _ in range(numbers.randint(0, 2)))
+        compare_more(osb, numbers, string, other, pattern)
+
+
+def main(name):
+    osb = load(name)
+    fault, out, count = Fault(), ctypes.create_string_buffer(129), c_size_t()
+    assert osb.osb_check(WASM, b"a\xe2\x82A", 4, byref(fault)) == FAULTY
+    assert osb.osb_fault_text(byref(fault), out, 129, byref(count)) == OK
+    assert out.value == b"invalid utf-8 sequence of 2 bytes from index 1", out.value
+    for text in ["", "a", "h\u00e9llo", "\U0001f600\ud83d", "x" * 300 + "\u20ac"]:
+        string = text.encode("utf-8", "surrogatepass")
+        assert osb.osb_check(WINDOWS, string, len(string), None) == OK
+        assert to_wide(osb, string) == text.encode("utf-16-le", "surrogatepass"), text
+    place = c_size_t()
+    assert osb.osb_find(b"foobar", 6, b"bar", 3, byref(place)) == OK and place.value == 3
+    assert osb.osb_find(b"foobar", 6, b"x", 1, byref(place)) == NONE
+    assert split(osb, b"a,\xff,,b", b",") == b"a,\xff,,b".split(b",")
+    assert chunks(osb, b"ab\xff\xc3\xa9") == [(b"", b"ab"), (b"\xff", "\u00e9".encode())]
+    compare_random(osb, 20000)
+    print("smoke.py: as expected")
+
+
+if __name__ == "__main__":
+    main(sys.argv[1])

@@ -1,0 +1,417 @@
+/* Tests each call of libosbytes.a, and that bad arguments are answered. Prints what differs. */
+#include "osbytes.h"
+
+#include <stdio.h>
+#include <stdlib.h>
+#include <string.h>
+
+static int failed;
+static int asked;
+
+static void expect(bool holds, const char *what, int line) {
+    asked++;
+    if (!holds) {
+        failed++;
+        printf("test.c:%d: %s\n", line, what);
+    }
+}
+#define EXPECT(holds) expect(holds, #holds, __LINE__)
+
+/* A string literal, as a pointer and a length. */
+#define TEXT(s) (s), sizeof(s) - 1
+
+static bool is(osb_view view, const char *at, size_t len) {
+    return view.len == len && memcmp(view.at, at, len) == 0;
+}
+
+static bool faulty(osb_platform platform, const char *at, size_t len, uint32_t kind, uint32_t value,
+                   size_t place, size_t count, const char *text) {
+    osb_fault fault = {9, 9, 9, 9};
+    char out[OSB_FAULT_TEXT_ROOM];
+    size_t text_len = 0;
+    if (osb_check(platform, at, len, &fault) != OSB_FAULTY) return false;
+    if (fault.kind != kind || fault.value != value) return false;
+    if (fault.place != place || fault.count != count) return false;
+    if (osb_check(platform, at, len, NULL) != OSB_FAULTY) return false;
+    if (osb_fault_text(&fault, out, sizeof out, &text_len) != OSB_OK) return false;
+    if (strcmp(out, text) != 0 || text_len != strlen(text)) {
+        printf("  %s\n", out);
+        return false;
+    }
+    /* exactly as much room as is needed, and one less */
+    char *small = malloc(text_len + 1);
+    size_t needed = 0;
+    bool right = osb_fault_text(&fault, small, text_len + 1, &text_len) == OSB_OK &&
+                 strcmp(small, text) == 0 &&
+                 osb_fault_text(&fault, small, text_len, &needed) == OSB_NO_ROOM &&
+                 needed == text_len && osb_fault_text(&fault, NULL, 0, &needed) == OSB_NO_ROOM &&
+                 needed == text_len;
+    free(small);
+    return right;
+}
+
+#define NOT_REPRESENTABLE "byte sequence is not representable in the platform encoding; error at "
+
+static void checks(void) {
+    osb_fault fault = {9, 9, 9, 9};
+    EXPECT(osb_check(OSB_UNIX, TEXT("\x80\xFF"), &fault) == OSB_OK);
+    EXPECT(osb_check(OSB_WINDOWS, TEXT("a\xC3\xA9\xED\xA0\x80"), &fault) == OSB_OK);
+    EXPECT(osb_check(OSB_WASM, TEXT("a\xC3\xA9\xF0\x9F\x98\x80"), &fault) == OSB_OK);
+    EXPECT(osb_check(OSB_WINDOWS, "", 0, &fault) == OSB_OK);
+    EXPECT(osb_check(3, TEXT("a"), &fault) == OSB_BAD_PLATFORM);
+    EXPECT(osb_check(0xFFFFFFFF, TEXT("a"), &fault) == OSB_BAD_PLATFORM);
+    EXPECT(fault.kind == 9 && fault.value == 9 && fault.place == 9 && fault.count == 9);
+    EXPECT(faulty(OSB_WINDOWS, TEXT("a\xE2\x82" "A"), OSB_FAULT_BYTE, 0x41, 1, 2,
+                  NOT_REPRESENTABLE "byte b'\\x41'"));
+    EXPECT(faulty(OSB_WINDOWS, TEXT("\xED\xA0\x80\xED\xB0\x80"), OSB_FAULT_CODE_POINT, 0xDC00, 3, 3,
+                  NOT_REPRESENTABLE "code point U+DC00"));
+    EXPECT(faulty(OSB_WINDOWS, TEXT("\xF5\x80\x80\x80"), OSB_FAULT_CODE_POINT, 0x140000, 0, 4,
+                  NOT_REPRESENTABLE "code point U+140000"));
+    EXPECT(faulty(OSB_WINDOWS, TEXT("ab\xE2\x82"), OSB_FAULT_END, 0, 2, 2,
+                  NOT_REPRESENTABLE "end of string"));
+    EXPECT(faulty(OSB_WASM, TEXT("a\xE2\x82" "A"), OSB_FAULT_UTF8, 0, 1, 2,
+                  "invalid utf-8 sequence of 2 bytes from index 1"));
+    EXPECT(faulty(OSB_WASM, TEXT("a\xE2\x82"), OSB_FAULT_UTF8_END, 0, 1, 2,
+                  "incomplete utf-8 byte sequence from index 1"));
+    /* a long one, so that vectors are asked, with the fault at each place */
+    for (size_t at = 0; at < 300; at++) {
+        char *bytes = malloc(300);
+        memset(bytes, 'a', 300);
+        bytes[at] = '\xC0';
+        fault = (osb_fault){0, 0, 0, 0};
+        EXPECT(osb_check(OSB_WINDOWS, bytes, 300, &fault) == OSB_FAULTY && fault.place == at &&
+               fault.value == 0xC0 && fault.count == 1);
+        free(bytes);
+    }
+}
+
+static void texts(void) {
+    char out[OSB_FAULT_TEXT_ROOM];
+    size_t count = 7;
+    /* faults that there aren't */
+    EXPECT(osb_fault_text(&(osb_fault){0, 0, 0, 0}, out, sizeof out, &count) == OSB_BAD_FAULT);
+    EXPECT(osb_fault_text(&(osb_fault){6, 0, 0, 0}, out, sizeof out, &count) == OSB_BAD_FAULT);
+    EXPECT(osb_fault_text(&(osb_fault){1, 256, 0, 0}, out, sizeof out, &count) == OSB_BAD_FAULT);
+    EXPECT(osb_fault_text(&(osb_fault){4, 0, 0, 256}, out, sizeof out, &count) == OSB_BAD_FAULT);
+    EXPECT(count == 7);
+    /* the longest */
+    EXPECT(osb_fault_text(&(osb_fault){2, 0xFFFFFFFF, 0, 0}, out, sizeof out, &count) == OSB_OK);
+    EXPECT(strcmp(out, NOT_REPRESENTABLE "code point U+FFFFFFFF") == 0);
+    EXPECT(osb_fault_text(&(osb_fault){4, 0, SIZE_MAX, 255}, out, sizeof out, &count) == OSB_OK);
+    EXPECT(strcmp(out, "invalid utf-8 sequence of 255 bytes from index 18446744073709551615") == 0);
+    EXPECT(osb_fault_text(NULL, out, sizeof out, &count) == OSB_BAD_POINTER);
+    EXPECT(osb_fault_text(&(osb_fault){3, 0, 0, 0}, NULL, 5, &count) == OSB_BAD_POINTER);
+}
+
+static void wide(void) {
+    static const char string[] = "a\xC3\xA9\xED\xA0\xBD\xF0\x9F\x98\x80";
+    static const uint16_t units[] = {0x61, 0xE9, 0xD83D, 0xD83D, 0xDE00};
+    size_t len = sizeof string - 1;
+    size_t count = 0;
+    osb_fault fault = {0, 0, 0, 0};
+    EXPECT(osb_wide_bound(len) >= 5);
+    EXPECT(osb_to_wide(string, len, NULL, 0, &count, &fault) == OSB_NO_ROOM && count == 5);
+    for (size_t room = 0; room < 8; room++) {
+        uint16_t *out = malloc(room * sizeof *out + 1);
+        memset(out, 0x55, room * sizeof *out);
+        count = 0;
+        osb_status status = osb_to_wide(string, len, out, room, &count, &fault);
+        EXPECT(count == 5);
+        EXPECT(status == (room < 5 ? OSB_NO_ROOM : OSB_OK));
+        if (room >= 5) EXPECT(memcmp(out, units, sizeof units) == 0);
+        for (size_t i = 5; i < room; i++) EXPECT(out[i] == 0x5555);
+        free(out);
+    }
+    uint16_t out[8];
+    count = 7;
+    EXPECT(osb_to_wide(TEXT("ab\xED\xA0\x80\xED\xB0\x80"), out, 8, &count, &fault) == OSB_FAULTY);
+    EXPECT(fault.kind == OSB_FAULT_CODE_POINT && fault.value == 0xDC00 && fault.place == 5);
+    EXPECT(osb_to_wide(TEXT("\xC0"), out, 8, &count, NULL) == OSB_FAULTY && count == 7);
+    EXPECT(osb_to_wide(NULL, 0, out, 8, &count, NULL) == OSB_OK && count == 0);
+    EXPECT(osb_to_wide(NULL, 0, NULL, 0, &count, NULL) == OSB_OK && count == 0);
+    /* bad pointers */
+    EXPECT(osb_to_wide(NULL, 1, out, 8, &count, NULL) == OSB_BAD_POINTER);
+    EXPECT(osb_to_wide(TEXT("a"), NULL, 1, &count, NULL) == OSB_BAD_POINTER);
+    EXPECT(osb_to_wide(TEXT("a"), out, 8, NULL, NULL) == OSB_BAD_POINTER);
+    EXPECT(osb_to_wide(TEXT("a"), out, SIZE_MAX / 2, &count, NULL) == OSB_BAD_POINTER);
+    EXPECT(osb_to_wide(TEXT("a"), out, SIZE_MAX / 2 + 2, &count, NULL) == OSB_BAD_POINTER);
+    EXPECT(osb_to_wide("a", SIZE_MAX, out, 8, &count, NULL) == OSB_BAD_POINTER);
+    void *odd = (char *)out + 1;
+    EXPECT(osb_to_wide(TEXT("a"), odd, 2, &count, NULL) == OSB_BAD_POINTER);
+    EXPECT(osb_to_wide((char *)out + 3, 4, out, 4, &count, NULL) == OSB_BAD_POINTER);
+}
+
+static void searches(void) {
+    size_t index = 99;
+    EXPECT(osb_find(TEXT("foobar"), TEXT("o"), &index) == OSB_OK && index == 1);
+    EXPECT(osb_find(TEXT("foobar"), TEXT("bar"), &index) == OSB_OK && index == 3);
+    EXPECT(osb_find(TEXT("\x80\xFF" "a"), TEXT("a"), &index) == OSB_OK && index == 2);
+    EXPECT(osb_find(TEXT("foobar"), NULL, 0, &index) == OSB_OK && index == 0);
+    EXPECT(osb_find(NULL, 0, NULL, 0, &index) == OSB_OK && index == 0);
+    index = 99;
+    EXPECT(osb_find(TEXT("foobar"), TEXT("of"), &index) == OSB_NONE && index == 99);
+    EXPECT(osb_find(TEXT("foobar"), TEXT("\xFF"), &index) == OSB_BAD_PATTERN && index == 99);
+    EXPECT(osb_find(TEXT("foobar"), NULL, 1, &index) == OSB_BAD_POINTER);
+    EXPECT(osb_find(NULL, 1, TEXT("a"), &index) == OSB_BAD_POINTER);
+    EXPECT(osb_find(TEXT("foobar"), TEXT("a"), NULL) == OSB_BAD_POINTER);
+}
+
+static void splits(void) {
+    osb_split split;
+    osb_view piece;
+    EXPECT(osb_split_start(&split, TEXT("a, \xFF,, b"), TEXT(", ")) == OSB_OK);
+    osb_split copy = split;
+    EXPECT(osb_split_next(&split, &piece) == OSB_OK && is(piece, TEXT("a")));
+    EXPECT(osb_split_next(&split, &piece) == OSB_OK && is(piece, TEXT("\xFF,")));
+    EXPECT(osb_split_next(&split, &piece) == OSB_OK && is(piece, TEXT("b")));
+    EXPECT(osb_split_next(&split, &piece) == OSB_ENDED);
+    EXPECT(osb_split_next(&split, &piece) == OSB_ENDED);
+    EXPECT(osb_split_next(&copy, &piece) == OSB_OK && is(piece, TEXT("a")));
+    /* the empty string has one piece, and a pattern at the end an empty last one */
+    EXPECT(osb_split_start(&split, NULL, 0, TEXT(",")) == OSB_OK);
+    EXPECT(osb_split_next(&split, &piece) == OSB_OK && piece.len == 0);
+    EXPECT(osb_split_next(&split, &piece) == OSB_ENDED);
+    EXPECT(osb_split_start(&split, TEXT("a,"), TEXT(",")) == OSB_OK);
+    EXPECT(osb_split_next(&split, &piece) == OSB_OK && is(piece, TEXT("a")));
+    EXPECT(osb_split_next(&split, &piece) == OSB_OK && is(piece, TEXT("")));
+    EXPECT(osb_split_next(&split, &piece) == OSB_ENDED);
+    /* bad arguments, and fields that no call left so */
+    EXPECT(osb_split_start(&split, TEXT("b,c"), TEXT(",")) == OSB_OK);
+    EXPECT(osb_split_start(&split, TEXT("a"), TEXT("")) == OSB_BAD_PATTERN);
+    EXPECT(osb_split_next(&split, &piece) == OSB_OK && is(piece, TEXT("b")));
+    EXPECT(osb_split_start(&split, TEXT("a"), TEXT("\xFF")) == OSB_BAD_PATTERN);
+    EXPECT(osb_split_start(&split, NULL, 1, TEXT(",")) == OSB_BAD_POINTER);
+    EXPECT(osb_split_start(NULL, TEXT("a"), TEXT(",")) == OSB_BAD_POINTER);
+    EXPECT(osb_split_next(NULL, &piece) == OSB_BAD_POINTER);
+    split = (osb_split){{NULL, 0}, {NULL, 0}, 0, 0};
+    EXPECT(osb_split_next(&split, &piece) == OSB_BAD_POINTER);
+    EXPECT(osb_rsplit_next(&split, &piece) == OSB_BAD_POINTER);
+    split = (osb_split){{NULL, 0}, {",", 1}, 0, 0};
+    EXPECT(osb_split_next(&split, &piece) == OSB_BAD_POINTER);
+    split = (osb_split){{"a", 1}, {NULL, 0}, 0, 0};
+    EXPECT(osb_split_next(&split, &piece) == OSB_BAD_POINTER);
+    split = (osb_split){{"a", 1}, {",", 1}, 2, 0};
+    EXPECT(osb_split_next(&split, &piece) == OSB_BAD_INDEX);
+    EXPECT(osb_rsplit_next(&split, &piece) == OSB_BAD_INDEX);
+    split = (osb_split){{"a", 1}, {",", SIZE_MAX}, 0, 0};
+    EXPECT(osb_split_next(&split, &piece) == OSB_BAD_POINTER);
+    split = (osb_split){{"a", 1}, {"", 0}, 0, 0};
+    EXPECT(osb_split_next(&split, &piece) == OSB_BAD_PATTERN);
+    EXPECT(osb_rsplit_next(&split, &piece) == OSB_BAD_PATTERN);
+}
+
+static void rsplits(void) {
+    osb_split split;
+    osb_view piece;
+    EXPECT(osb_rsplit_start(&split, TEXT("aaa"), TEXT("aa")) == OSB_OK);
+    EXPECT(osb_rsplit_next(&split, &piece) == OSB_OK && is(piece, TEXT("")));
+    EXPECT(osb_rsplit_next(&split, &piece) == OSB_OK && is(piece, TEXT("a")));
+    EXPECT(osb_rsplit_next(&split, &piece) == OSB_ENDED);
+    EXPECT(osb_rsplit_start(&split, TEXT("a, \xFF,, b"), TEXT(", ")) == OSB_OK);
+    EXPECT(osb_rsplit_next(&split, &piece) == OSB_OK && is(piece, TEXT("b")));
+    EXPECT(osb_rsplit_next(&split, &piece) == OSB_OK && is(piece, TEXT("\xFF,")));
+    EXPECT(osb_rsplit_next(&split, &piece) == OSB_OK && is(piece, TEXT("a")));
+    EXPECT(osb_rsplit_next(&split, &piece) == OSB_ENDED);
+    EXPECT(osb_rsplit_next(&split, NULL) == OSB_BAD_POINTER);
+    EXPECT(osb_rsplit_start(&split, TEXT("a"), TEXT("")) == OSB_BAD_PATTERN);
+    EXPECT(osb_rsplit_start(&split, NULL, 0, TEXT(",")) == OSB_OK);
+    EXPECT(osb_rsplit_next(&split, &piece) == OSB_OK && piece.len == 0);
+    EXPECT(osb_rsplit_next(&split, &piece) == OSB_ENDED);
+}
+
+static void chunks(void) {
+    osb_chunks chunks;
+    osb_chunk chunk;
+    EXPECT(osb_chunks_start(&chunks, TEXT("ab\xFF\xC3\xC3\xA9" "c\x80")) == OSB_OK);
+    EXPECT(osb_chunks_next(&chunks, &chunk) == OSB_OK);
+    EXPECT(chunk.part.len == 0 && is(chunk.text, TEXT("ab")));
+    EXPECT(osb_chunks_next(&chunks, &chunk) == OSB_OK);
+    EXPECT(is(chunk.part, TEXT("\xFF\xC3")) && is(chunk.text, TEXT("\xC3\xA9" "c")));
+    EXPECT(osb_chunks_next(&chunks, &chunk) == OSB_OK);
+    EXPECT(is(chunk.part, TEXT("\x80")) && chunk.text.len == 0);
+    EXPECT(osb_chunks_next(&chunks, &chunk) == OSB_ENDED);
+    EXPECT(osb_chunks_next(&chunks, &chunk) == OSB_ENDED);
+    EXPECT(osb_chunks_start(&chunks, NULL, 0) == OSB_OK);
+    EXPECT(osb_chunks_next(&chunks, &chunk) == OSB_ENDED);
+    EXPECT(osb_chunks_start(&chunks, NULL, 1) == OSB_BAD_POINTER);
+    chunks = (osb_chunks){{NULL, 0}, 0};
+    EXPECT(osb_chunks_next(&chunks, &chunk) == OSB_BAD_POINTER);
+    chunks = (osb_chunks){{"a", 1}, 2};
+    EXPECT(osb_chunks_next(&chunks, &chunk) == OSB_BAD_INDEX);
+}
+
+static void checkers(void) {
+    osb_checker checker;
+    osb_fault fault = {9, 9, 9, 9};
+    EXPECT(osb_checker_start(&checker) == OSB_OK);
+    EXPECT(osb_checker_finish(&checker, &fault) == OSB_OK);
+    EXPECT(osb_checker_feed(&checker, TEXT("a\xE2"), &fault) == OSB_OK);
+    osb_checker copy = checker;
+    EXPECT(osb_checker_finish(&checker, &fault) == OSB_FAULTY && fault.kind == OSB_FAULT_END);
+    EXPECT(fault.value == 0 && fault.place == 0 && fault.count == 0);
+    EXPECT(osb_checker_feed(&checker, TEXT("\x82\xAC"), NULL) == OSB_OK);
+    EXPECT(osb_checker_feed(&checker, NULL, 0, NULL) == OSB_OK);
+    EXPECT(osb_checker_finish(&checker, NULL) == OSB_OK);
+    EXPECT(osb_checker_feed(&checker, TEXT("\xED\xA0\x80"), NULL) == OSB_OK);
+    EXPECT(osb_checker_feed(&checker, TEXT("\xED"), NULL) == OSB_OK);
+    EXPECT(osb_checker_feed(&checker, TEXT("\xB0\x80"), &fault) == OSB_FAULTY);
+    EXPECT(fault.kind == OSB_FAULT_CODE_POINT && fault.value == 0xDC00);
+    fault = (osb_fault){9, 9, 9, 9};
+    EXPECT(osb_checker_feed(&checker, TEXT("a"), &fault) == OSB_FAULTY);
+    EXPECT(fault.kind == OSB_FAULT_CODE_POINT && fault.value == 0xDC00 && fault.place == 0);
+    fault = (osb_fault){9, 9, 9, 9};
+    EXPECT(osb_checker_finish(&checker, &fault) == OSB_FAULTY);
+    EXPECT(fault.kind == OSB_FAULT_CODE_POINT && fault.value == 0xDC00 && fault.count == 0);
+    EXPECT(osb_checker_feed(&copy, TEXT("A"), &fault) == OSB_FAULTY);
+    EXPECT(fault.kind == OSB_FAULT_BYTE && fault.value == 'A');
+    checker = (osb_checker){16, 0, 0, 0};
+    EXPECT(osb_checker_feed(&checker, TEXT("a"), NULL) == OSB_BAD_STATE);
+    EXPECT(osb_checker_finish(&checker, NULL) == OSB_BAD_STATE);
+    checker = (osb_checker){256, 0, 0, 0};
+    EXPECT(osb_checker_feed(&checker, TEXT("a"), NULL) == OSB_BAD_STATE);
+    EXPECT(osb_checker_start(NULL) == OSB_BAD_POINTER);
+    EXPECT(osb_checker_feed(NULL, TEXT("a"), NULL) == OSB_BAD_POINTER);
+    EXPECT(osb_checker_feed(&copy, NULL, 1, NULL) == OSB_BAD_POINTER);
+    EXPECT(osb_checker_finish(NULL, NULL) == OSB_BAD_POINTER);
+}
+
+static void from_wide(void) {
+    static const uint16_t units[] = {0x61, 0xE9, 0xD83D, 0xD83D, 0xDE00};
+    static const char string[] = "a\xC3\xA9\xED\xA0\xBD\xF0\x9F\x98\x80";
+    size_t count = 0;
+    EXPECT(osb_bytes_bound(5) == 15 && osb_bytes_bound(SIZE_MAX) == SIZE_MAX);
+    for (size_t room = 0; room < 13; room++) {
+        char *out = malloc(room + 1);
+        memset(out, 0x55, room);
+        count = 0;
+        osb_status status = osb_from_wide(units, 5, out, room, &count);
+        EXPECT(count == 10 && status == (room < 10 ? OSB_NO_ROOM : OSB_OK));
+        EXPECT(memcmp(out, string, room < 10 ? room : 10) == 0);
+        for (size_t i = 10; i < room; i++) EXPECT(out[i] == 0x55);
+        free(out);
+    }
+    char out[8];
+    EXPECT(osb_from_wide(NULL, 0, NULL, 0, &count) == OSB_OK && count == 0);
+    EXPECT(osb_from_wide(NULL, 1, out, 8, &count) == OSB_BAD_POINTER);
+    EXPECT(osb_from_wide(units, 1, NULL, 8, &count) == OSB_BAD_POINTER);
+    EXPECT(osb_from_wide(units, 1, out, 8, NULL) == OSB_BAD_POINTER);
+    EXPECT(osb_from_wide(units, SIZE_MAX / 2 + 2, out, 8, &count) == OSB_BAD_POINTER);
+    uint16_t same[4] = {1, 2, 3, 4};
+    void *odd = (char *)same + 1;
+    EXPECT(osb_from_wide(odd, 1, out, 8, &count) == OSB_BAD_POINTER);
+    EXPECT(osb_from_wide(same, 4, (char *)same + 7, 1, &count) == OSB_BAD_POINTER);
+}
+
+static bool lossy(osb_platform platform, const char *at, size_t len, const char *text, size_t text_len) {
+    char out[64];
+    size_t count = 0;
+    if (osb_lossy_bound(len) < text_len) return false;
+    if (osb_lossy(platform, at, len, NULL, 0, &count, NULL) != (text_len == 0 ? OSB_OK : OSB_NO_ROOM)) return false;
+    if (count != text_len) return false;
+    for (size_t room = 0; room < text_len + 2; room++) {
+        memset(out, 0x55, sizeof out);
+        osb_status status = osb_lossy(platform, at, len, out, room, &count, NULL);
+        if (count != text_len || status != (room < text_len ? OSB_NO_ROOM : OSB_OK)) return false;
+        if (memcmp(out, text, room < text_len ? room : text_len) != 0 || out[text_len] != 0x55) return false;
+    }
+    return true;
+}
+
+static void lossies(void) {
+    char out[8];
+    size_t count = 7;
+    osb_fault fault = {9, 9, 9, 9};
+    EXPECT(osb_lossy_bound(5) == 15 && osb_lossy_bound(SIZE_MAX) == SIZE_MAX);
+    EXPECT(lossy(OSB_UNIX, TEXT("a\xE2\x82" "b\xFF"), TEXT("a\xEF\xBF\xBD" "b\xEF\xBF\xBD")));
+    EXPECT(lossy(OSB_WINDOWS, TEXT("a\xED\xA0\x80" "b"), TEXT("a\xEF\xBF\xBD" "b")));
+    EXPECT(lossy(OSB_WASM, TEXT("a\xC3\xA9"), TEXT("a\xC3\xA9")));
+    EXPECT(lossy(OSB_UNIX, NULL, 0, TEXT("")));
+    EXPECT(osb_lossy(OSB_WINDOWS, TEXT("ab\xC0"), out, 8, &count, &fault) == OSB_FAULTY);
+    EXPECT(fault.kind == OSB_FAULT_BYTE && fault.value == 0xC0 && fault.place == 2 && count == 7);
+    EXPECT(osb_lossy(OSB_WASM, TEXT("a\xC0"), out, 8, &count, &fault) == OSB_FAULTY);
+    EXPECT(fault.kind == OSB_FAULT_UTF8 && fault.place == 1 && fault.count == 1);
+    EXPECT(osb_lossy(3, TEXT("a"), out, 8, &count, NULL) == OSB_BAD_PLATFORM && count == 7);
+    EXPECT(osb_lossy(OSB_UNIX, NULL, 1, out, 8, &count, NULL) == OSB_BAD_POINTER);
+    EXPECT(osb_lossy(OSB_UNIX, TEXT("a"), NULL, 8, &count, NULL) == OSB_BAD_POINTER);
+    EXPECT(osb_lossy(OSB_UNIX, TEXT("a"), out, 8, NULL, NULL) == OSB_BAD_POINTER);
+    EXPECT(osb_lossy(OSB_UNIX, out, 4, out + 3, 4, &count, NULL) == OSB_BAD_POINTER);
+}
+
+static void edges(void) {
+    static const char halves[] = "\xF0\x9F\x98\x80";
+    size_t index = 99;
+    int32_t order = 9;
+    EXPECT(osb_version() == OSB_VERSION);
+    EXPECT(osb_rfind(TEXT("foobar"), TEXT("o"), &index) == OSB_OK && index == 2);
+    EXPECT(osb_rfind(TEXT("foobar"), TEXT(""), &index) == OSB_OK && index == 6);
+    index = 99;
+    EXPECT(osb_rfind(TEXT("foobar"), TEXT("of"), &index) == OSB_NONE && index == 99);
+    EXPECT(osb_rfind(TEXT("foobar"), TEXT("\xFF"), &index) == OSB_BAD_PATTERN);
+    EXPECT(osb_rfind(TEXT("foobar"), NULL, 1, &index) == OSB_BAD_POINTER);
+    EXPECT(osb_rfind(NULL, 1, TEXT("a"), &index) == OSB_BAD_POINTER);
+    EXPECT(osb_rfind(TEXT("foobar"), TEXT("a"), NULL) == OSB_BAD_POINTER);
+    EXPECT(osb_contains(TEXT("foobar"), TEXT("oba")) == OSB_OK);
+    EXPECT(osb_contains(TEXT("foobar"), TEXT("of")) == OSB_NONE);
+    EXPECT(osb_contains(TEXT("foobar"), TEXT("\xFF")) == OSB_BAD_PATTERN);
+    EXPECT(osb_contains(NULL, 1, TEXT("o")) == OSB_BAD_POINTER);
+    EXPECT(osb_contains(TEXT("o"), NULL, 1) == OSB_BAD_POINTER);
+    EXPECT(osb_contains(NULL, 0, NULL, 0) == OSB_OK);
+    EXPECT(osb_starts_with(TEXT("foobar"), TEXT("foo")) == OSB_OK);
+    EXPECT(osb_starts_with(TEXT("foobar"), TEXT("bar")) == OSB_NONE);
+    EXPECT(osb_starts_with(TEXT("foobar"), TEXT("\xFF")) == OSB_BAD_PATTERN);
+    EXPECT(osb_starts_with(NULL, 1, TEXT("o")) == OSB_BAD_POINTER);
+    EXPECT(osb_starts_with(TEXT("o"), NULL, 1) == OSB_BAD_POINTER);
+    EXPECT(osb_ends_with(TEXT("foobar"), TEXT("bar")) == OSB_OK);
+    EXPECT(osb_ends_with(TEXT("foobar"), TEXT("foo")) == OSB_NONE);
+    EXPECT(osb_ends_with(TEXT("foobar"), TEXT("\xFF")) == OSB_BAD_PATTERN);
+    EXPECT(osb_ends_with(NULL, 1, TEXT("o")) == OSB_BAD_POINTER);
+    EXPECT(osb_ends_with(TEXT("o"), NULL, 1) == OSB_BAD_POINTER);
+    EXPECT(osb_starts_with_units(OSB_WINDOWS, halves, 4, TEXT("\xED\xA0\xBD")) == OSB_OK);
+    EXPECT(osb_starts_with_units(OSB_UNIX, halves, 4, TEXT("\xED\xA0\xBD")) == OSB_NONE);
+    EXPECT(osb_starts_with_units(OSB_UNIX, halves, 4, TEXT("\xF0\x9F")) == OSB_OK);
+    EXPECT(osb_starts_with_units(OSB_WINDOWS, halves, 4, TEXT("\xED\xB8\x80")) == OSB_NONE);
+    EXPECT(osb_starts_with_units(OSB_WINDOWS, halves, 4, TEXT("\xF0\x9F")) == OSB_FAULTY);
+    EXPECT(osb_starts_with_units(OSB_WINDOWS, halves, 3, TEXT("a")) == OSB_FAULTY);
+    EXPECT(osb_starts_with_units(OSB_WASM, halves, 4, TEXT("\xED\xA0\xBD")) == OSB_FAULTY);
+    EXPECT(osb_starts_with_units(3, halves, 4, TEXT("a")) == OSB_BAD_PLATFORM);
+    EXPECT(osb_starts_with_units(OSB_UNIX, NULL, 1, TEXT("a")) == OSB_BAD_POINTER);
+    EXPECT(osb_starts_with_units(OSB_UNIX, TEXT("a"), NULL, 1) == OSB_BAD_POINTER);
+    EXPECT(osb_ends_with_units(OSB_WINDOWS, halves, 4, TEXT("\xED\xB8\x80")) == OSB_OK);
+    EXPECT(osb_ends_with_units(OSB_WINDOWS, halves, 4, TEXT("\xED\xA0\xBD")) == OSB_NONE);
+    EXPECT(osb_ends_with_units(OSB_UNIX, halves, 4, TEXT("\x98\x80")) == OSB_OK);
+    EXPECT(osb_ends_with_units(OSB_WASM, halves, 4, TEXT("\x98\x80")) == OSB_FAULTY);
+    EXPECT(osb_ends_with_units(3, halves, 4, TEXT("a")) == OSB_BAD_PLATFORM);
+    EXPECT(osb_ends_with_units(OSB_UNIX, NULL, 1, TEXT("a")) == OSB_BAD_POINTER);
+    EXPECT(osb_ends_with_units(OSB_UNIX, TEXT("a"), NULL, 1) == OSB_BAD_POINTER);
+    for (size_t i = 0; i < 7; i++)
+        EXPECT(osb_is_boundary(TEXT("\x80\xC3\xA9" "a\xFF"), i) == (i == 2 || i > 5 ? OSB_NONE : OSB_OK));
+    EXPECT(osb_is_boundary(NULL, 0, 0) == OSB_OK && osb_is_boundary(NULL, 1, 0) == OSB_BAD_POINTER);
+    EXPECT(osb_compare(TEXT("ab"), TEXT("b"), &order) == OSB_OK && order == -1);
+    EXPECT(osb_compare(TEXT("ab"), TEXT("a"), &order) == OSB_OK && order == 1);
+    EXPECT(osb_compare(TEXT("\xFF"), TEXT("a"), &order) == OSB_OK && order == 1);
+    EXPECT(osb_compare(TEXT("ab"), TEXT("ab"), &order) == OSB_OK && order == 0);
+    EXPECT(osb_compare(NULL, 0, NULL, 0, &order) == OSB_OK && order == 0);
+    EXPECT(osb_compare(NULL, 1, TEXT("a"), &order) == OSB_BAD_POINTER);
+    EXPECT(osb_compare(TEXT("a"), NULL, 1, &order) == OSB_BAD_POINTER);
+    EXPECT(osb_compare(TEXT("a"), TEXT("a"), NULL) == OSB_BAD_POINTER);
+    EXPECT(osb_check(OSB_UNIX, "a", SIZE_MAX, NULL) == OSB_BAD_POINTER);
+    EXPECT(osb_check(OSB_UNIX, "a", (size_t)PTRDIFF_MAX + 1, NULL) == OSB_BAD_POINTER);
+    EXPECT(osb_check(OSB_UNIX, NULL, 1, NULL) == OSB_BAD_POINTER);
+    EXPECT(osb_check(OSB_UNIX, NULL, 0, NULL) == OSB_OK);
+}
+
+int main(void) {
+    checks();
+    checkers();
+    from_wide();
+    lossies();
+    edges();
+    rsplits();
+    texts();
+    wide();
+    searches();
+    splits();
+    chunks();
+    printf("asked: %d, failed: %d\n", asked, failed);
+    return failed != 0;
+}

@@ -1,0 +1,5 @@
+use Rattle.std.proofs.Common.{refl}
+use Rattle.osbytes_c.proofs.search.osb_core_find.Goals as goal
+
+pub returns-in-None-clause-none : goal.returns-in-None-clause-none
+returns-in-None-clause-none c is = (rw (c.in-Some.ensures, c.unix.ensures) at c.in-None.ensures.bytes, refl)

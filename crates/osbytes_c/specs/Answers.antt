@@ -1,0 +1,21 @@
+-- What the exports answer.
+use Rattle.std.specs.Prelude.{ℕ, List}
+use Rattle.std.specs.declared.cmp.Ordering.{Ordering}
+use Rattle.std.specs.declared.cmp.Ordering.TheVariants.{Less, Equal, Greater}
+use Rattle.wtf8_core.specs.Truncated.{IsTruncated}
+use Rattle.wtf8_core.specs.declared.fault.EncodingError.{EncodingError}
+use Rattle.platform_str.specs.platforms.Windows.{IsWtf8Fault}
+
+-- the bytes aren't WTF-8: they have a first fault
+abbrev pub IsFaulty : List ℕ → Type 0
+IsFaulty bytes = (fault : EncodingError) × IsWtf8Fault bytes fault
+
+-- a wanted list is written into the buffer, truncated to the buffer's length, and has so many items
+abbrev pub Writes : (List ℕ → Type 0) → List ℕ → List ℕ → ℕ → Type 0
+Writes Wanted old new count = (list : List ℕ) × (Wanted list × IsTruncated list old new count)
+
+-- the number that stands for an order
+abbrev pub order_number : Ordering → ℕ
+order_number Less = 1
+order_number Equal = 0
+order_number Greater = 2

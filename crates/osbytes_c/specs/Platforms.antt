@@ -1,0 +1,16 @@
+-- The platforms by their numbers: 0 Unix, 1 Windows, 2 wasm.
+use Rattle.std.specs.Prelude.{ℕ, zero, suc, List, []}
+use Rattle.std.specs.Str.Lossy.{utf8_lossy}
+use Rattle.wtf8_core.specs.UnitsOf.{units_of, wtf8_lossy}
+use Rattle.platform_str.specs.PlatformWords.{itself}
+
+-- the units of a string
+abbrev pub units_on : ℕ → List ℕ → List ℕ
+units_on (suc zero) bytes = units_of bytes
+units_on platform bytes = itself bytes
+
+-- the lossy text of a string
+abbrev pub lossy_on : ℕ → List ℕ → List ℕ
+lossy_on zero bytes = utf8_lossy bytes
+lossy_on (suc zero) bytes = wtf8_lossy bytes
+lossy_on (suc (suc n)) bytes = itself bytes

@@ -1,0 +1,21 @@
+//! Where a string may be cut.
+ghost use Rattle.std.specs.Prelude.{◌≡◌, ◌⊎◌};
+ghost use Rattle.wtf8_core.specs.Boundary.{IsBoundary};
+
+use crate::status::{DONE, NONE};
+use crate::strings::unix;
+use os_str_ext::OsStrBytesExt;
+
+/// Whether a string of any platform may be cut at the index.
+#[unsafe(no_mangle)]
+pub extern "C" fn osb_core_is_boundary(bytes: &[u8], index: usize) -> u32
+    ensures is { result ≡ DONE → IsBoundary bytes.now index }
+    ensures none { result ≡ NONE → ¬ (IsBoundary bytes.now index) }
+    ensures answers { (result ≡ DONE) ⊎ (result ≡ NONE) }
+{
+    if unix(bytes).is_boundary(index) {
+        DONE
+    } else {
+        NONE
+    }
+}

@@ -1,0 +1,43 @@
+//! One chunk of a string.
+ghost use Rattle.std.specs.Prelude.{◌≡◌, ◌<◌, ◌↔◌, ◌⊎◌, length};
+ghost use Rattle.osbytes_c.specs.Steps.{IsChunkAt};
+
+use crate::status::{DONE, ENDED, NO_INDEX};
+use crate::strings::unix;
+use os_str_ext::OsStrBytesExt;
+
+/// Where a chunk's part ends, and where its text does.
+#[repr(C)]
+#[derive(Clone, Copy)]
+pub struct Ends {
+    /// The index after the part's last byte.
+    pub part: usize,
+    /// The index after the text's last byte.
+    pub text: usize,
+}
+
+/// The first chunk of what comes after an index.
+#[unsafe(no_mangle)]
+pub extern "C" fn osb_core_chunk(bytes: &[u8], at: usize, ends: &mut Ends) -> u32
+    ensures chunk { result ≡ DONE → IsChunkAt bytes.now at ends.new }
+    ensures index { (result ≡ NO_INDEX) ↔ (length bytes.now < at) }
+    ensures ended { (result ≡ ENDED) ↔ (at ≡ length bytes.now) }
+    ensures answers { (result ≡ DONE) ⊎ ((result ≡ NO_INDEX) ⊎ (result ≡ ENDED)) }
+{
+    if at > bytes.len() {
+        return NO_INDEX;
+    }
+    if at == bytes.len() {
+        return ENDED;
+    }
+    let (_, rest) = bytes.split_at(at);
+    let mut chunks = unix(rest).utf8_chunks();
+    let Some((part, _)) = chunks.next() else {
+        return ENDED;
+    };
+    *ends = Ends {
+        part: at + part.as_os_str().len(),
+        text: bytes.len() - chunks.rest().len(),
+    };
+    DONE
+}

@@ -1,0 +1,26 @@
+//! What the C library `libosbytes` is proved of: [`check`] and [`checker`] the check of bytes, whole
+//! and in pieces, [`fault_text`] the text of a fault, [`wide`] bytes to 16-bit units and back,
+//! [`lossy`] lossy texts, [`search`] searches, [`prefix`] prefixes and suffixes by units,
+//! [`boundary`] where strings may be cut, [`compare`] their order, and one step of each iterator:
+//! [`split`] and [`chunks`].
+//!
+//! A slice crosses as a pointer and a length. Each export takes any values: a platform, a pattern,
+//! an index or a fault that there isn't is answered by a status ([`status`]), so none has a
+//! `requires`. What no export can test is what its pointers point to; the edge in C (`c/osbytes.c`)
+//! tests what of it C can.
+#![tactic(auto)]
+
+pub mod boundary;
+pub mod check;
+pub mod checker;
+pub mod chunks;
+pub mod compare;
+pub mod fault;
+pub mod fault_text;
+pub mod lossy;
+pub mod prefix;
+pub mod search;
+pub mod split;
+pub mod status;
+mod strings;
+pub mod wide;

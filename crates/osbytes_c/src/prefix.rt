@@ -1,0 +1,93 @@
+//! Prefixes and suffixes that are strings, by units.
+ghost use Rattle.std.specs.Prelude.{◌≡◌, ◌<◌, ◌↔◌, ◌⊎◌};
+ghost use Rattle.wtf8_core.specs.Standing.{IsFront, IsEnd};
+ghost use Rattle.osbytes_c.specs.Faults.{IsUnstring};
+ghost use Rattle.osbytes_c.specs.Platforms.{units_on};
+
+use crate::status::{DONE, FAULTY, NO_PLATFORM, NONE};
+use os_str_ext::OsStrBytesExt;
+use platform_str::{OsStr, Platform, Unix, Wasm, Windows};
+
+/// Whether the units of a string start with those of another string of the platform.
+#[unsafe(no_mangle)]
+pub extern "C" fn osb_core_starts_with_units(platform: u32, bytes: &[u8], prefix: &[u8]) -> u32
+    ensures found { result ≡ DONE → IsFront (units_on platform prefix.now)
+        (units_on platform bytes.now) }
+    ensures none { result ≡ NONE → ¬ (IsFront (units_on platform prefix.now)
+        (units_on platform bytes.now)) }
+    ensures fault { result ≡ FAULTY → IsUnstring platform bytes.now
+        ⊎ IsUnstring platform prefix.now }
+    ensures platform { (result ≡ NO_PLATFORM) ↔ (2 < platform) }
+    ensures answers { (result ≡ DONE) ⊎ ((result ≡ NONE) ⊎ ((result ≡ FAULTY)
+        ⊎ (result ≡ NO_PLATFORM))) }
+{
+    match platform {
+        0 => starts_with::<Unix>(bytes, prefix),
+        1 => starts_with::<Windows>(bytes, prefix),
+        2 => starts_with::<Wasm>(bytes, prefix),
+        _ => NO_PLATFORM,
+    }
+}
+
+/// Whether the units of a string end with those of another string of the platform.
+#[unsafe(no_mangle)]
+pub extern "C" fn osb_core_ends_with_units(platform: u32, bytes: &[u8], suffix: &[u8]) -> u32
+    ensures found { result ≡ DONE → IsEnd (units_on platform suffix.now)
+        (units_on platform bytes.now) }
+    ensures none { result ≡ NONE → ¬ (IsEnd (units_on platform suffix.now)
+        (units_on platform bytes.now)) }
+    ensures fault { result ≡ FAULTY → IsUnstring platform bytes.now
+        ⊎ IsUnstring platform suffix.now }
+    ensures platform { (result ≡ NO_PLATFORM) ↔ (2 < platform) }
+    ensures answers { (result ≡ DONE) ⊎ ((result ≡ NONE) ⊎ ((result ≡ FAULTY)
+        ⊎ (result ≡ NO_PLATFORM))) }
+{
+    match platform {
+        0 => ends_with::<Unix>(bytes, suffix),
+        1 => ends_with::<Windows>(bytes, suffix),
+        2 => ends_with::<Wasm>(bytes, suffix),
+        _ => NO_PLATFORM,
+    }
+}
+
+/// The same of one platform.
+fn starts_with<E: Platform>(bytes: &[u8], prefix: &[u8]) -> u32
+    ensures found { result ≡ DONE → IsFront (E.units prefix.now) (E.units bytes.now) }
+    ensures none { result ≡ NONE → ¬ (IsFront (E.units prefix.now) (E.units bytes.now)) }
+    ensures fault { result ≡ FAULTY → (¬ (E.well_formed bytes.now))
+        ⊎ (¬ (E.well_formed prefix.now)) }
+    ensures answers { (result ≡ DONE) ⊎ ((result ≡ NONE) ⊎ (result ≡ FAULTY)) }
+{
+    let Ok(string) = OsStr::<E>::checked(bytes) else {
+        return FAULTY;
+    };
+    let Ok(prefix) = OsStr::<E>::checked(prefix) else {
+        return FAULTY;
+    };
+    if string.starts_with_os(prefix) {
+        DONE
+    } else {
+        NONE
+    }
+}
+
+/// The same of one platform.
+fn ends_with<E: Platform>(bytes: &[u8], suffix: &[u8]) -> u32
+    ensures found { result ≡ DONE → IsEnd (E.units suffix.now) (E.units bytes.now) }
+    ensures none { result ≡ NONE → ¬ (IsEnd (E.units suffix.now) (E.units bytes.now)) }
+    ensures fault { result ≡ FAULTY → (¬ (E.well_formed bytes.now))
+        ⊎ (¬ (E.well_formed suffix.now)) }
+    ensures answers { (result ≡ DONE) ⊎ ((result ≡ NONE) ⊎ (result ≡ FAULTY)) }
+{
+    let Ok(string) = OsStr::<E>::checked(bytes) else {
+        return FAULTY;
+    };
+    let Ok(suffix) = OsStr::<E>::checked(suffix) else {
+        return FAULTY;
+    };
+    if string.ends_with_os(suffix) {
+        DONE
+    } else {
+        NONE
+    }
+}

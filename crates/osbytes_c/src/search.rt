@@ -1,0 +1,104 @@
+//! Where a pattern occurs. Each pattern is UTF-8.
+ghost use Rattle.std.specs.Prelude.{◌≡◌, ◌↔◌, ◌⊎◌};
+ghost use Rattle.std.specs.Str.{IsUtf8};
+ghost use Rattle.wtf8_core.specs.Standing.{StandsNowhere, IsLeastPlace, IsGreatestPlace, IsFront, IsEnd};
+ghost use Rattle.wtf8_core.specs.Pieces.{StandsSomewhere};
+
+use crate::status::{DONE, NO_PATTERN, NONE};
+use crate::strings::{text, unix};
+use os_str_ext::OsStrBytesExt;
+
+/// The first index of the pattern in a string of any platform. If there is none, the index is as it
+/// was.
+#[unsafe(no_mangle)]
+pub extern "C" fn osb_core_find(bytes: &[u8], pattern: &[u8], index: &mut usize) -> u32
+    ensures found { result ≡ DONE → IsLeastPlace pattern.now bytes.now index.new }
+    ensures none { result ≡ NONE → StandsNowhere pattern.now bytes.now × (index.new ≡ index.old) }
+    ensures pattern { (result ≡ NO_PATTERN) ↔ (¬ (IsUtf8 pattern.now)) }
+    ensures answers { (result ≡ DONE) ⊎ ((result ≡ NONE) ⊎ (result ≡ NO_PATTERN)) }
+{
+    let Some(pattern) = text(pattern) else {
+        return NO_PATTERN;
+    };
+    match unix(bytes).find(pattern) {
+        Some(at) => {
+            *index = at;
+            DONE
+        }
+        None => NONE,
+    }
+}
+
+/// The last index of the pattern.
+#[unsafe(no_mangle)]
+pub extern "C" fn osb_core_rfind(bytes: &[u8], pattern: &[u8], index: &mut usize) -> u32
+    ensures found { result ≡ DONE → IsGreatestPlace pattern.now bytes.now index.new }
+    ensures none { result ≡ NONE → StandsNowhere pattern.now bytes.now × (index.new ≡ index.old) }
+    ensures pattern { (result ≡ NO_PATTERN) ↔ (¬ (IsUtf8 pattern.now)) }
+    ensures answers { (result ≡ DONE) ⊎ ((result ≡ NONE) ⊎ (result ≡ NO_PATTERN)) }
+{
+    let Some(pattern) = text(pattern) else {
+        return NO_PATTERN;
+    };
+    match unix(bytes).rfind(pattern) {
+        Some(at) => {
+            *index = at;
+            DONE
+        }
+        None => NONE,
+    }
+}
+
+/// Whether the pattern occurs.
+#[unsafe(no_mangle)]
+pub extern "C" fn osb_core_contains(bytes: &[u8], pattern: &[u8]) -> u32
+    ensures found { result ≡ DONE → StandsSomewhere pattern.now bytes.now }
+    ensures none { result ≡ NONE → ¬ (StandsSomewhere pattern.now bytes.now) }
+    ensures pattern { (result ≡ NO_PATTERN) ↔ (¬ (IsUtf8 pattern.now)) }
+    ensures answers { (result ≡ DONE) ⊎ ((result ≡ NONE) ⊎ (result ≡ NO_PATTERN)) }
+{
+    let Some(pattern) = text(pattern) else {
+        return NO_PATTERN;
+    };
+    if unix(bytes).contains(pattern) {
+        DONE
+    } else {
+        NONE
+    }
+}
+
+/// Whether the string starts with the pattern.
+#[unsafe(no_mangle)]
+pub extern "C" fn osb_core_starts_with(bytes: &[u8], pattern: &[u8]) -> u32
+    ensures found { result ≡ DONE → IsFront pattern.now bytes.now }
+    ensures none { result ≡ NONE → ¬ (IsFront pattern.now bytes.now) }
+    ensures pattern { (result ≡ NO_PATTERN) ↔ (¬ (IsUtf8 pattern.now)) }
+    ensures answers { (result ≡ DONE) ⊎ ((result ≡ NONE) ⊎ (result ≡ NO_PATTERN)) }
+{
+    let Some(pattern) = text(pattern) else {
+        return NO_PATTERN;
+    };
+    if unix(bytes).starts_with(pattern) {
+        DONE
+    } else {
+        NONE
+    }
+}
+
+/// Whether the string ends with the pattern.
+#[unsafe(no_mangle)]
+pub extern "C" fn osb_core_ends_with(bytes: &[u8], pattern: &[u8]) -> u32
+    ensures found { result ≡ DONE → IsEnd pattern.now bytes.now }
+    ensures none { result ≡ NONE → ¬ (IsEnd pattern.now bytes.now) }
+    ensures pattern { (result ≡ NO_PATTERN) ↔ (¬ (IsUtf8 pattern.now)) }
+    ensures answers { (result ≡ DONE) ⊎ ((result ≡ NONE) ⊎ (result ≡ NO_PATTERN)) }
+{
+    let Some(pattern) = text(pattern) else {
+        return NO_PATTERN;
+    };
+    if unix(bytes).ends_with(pattern) {
+        DONE
+    } else {
+        NONE
+    }
+}

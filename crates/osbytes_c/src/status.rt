@@ -1,0 +1,24 @@
+//! What the exports answer.
+
+/// The call did what it is for.
+pub const DONE: u32 = 0;
+/// The bytes aren't a string of the platform.
+pub const FAULTY: u32 = 1;
+/// The buffer is too short; the count is what it needs.
+pub const NO_ROOM: u32 = 2;
+/// There is none: the pattern doesn't occur, or the index is no boundary.
+pub const NONE: u32 = 3;
+/// There are no more items.
+pub const ENDED: u32 = 4;
+/// There is no such platform.
+pub const NO_PLATFORM: u32 = 16;
+/// The pattern isn't UTF-8, or is empty where it may not be.
+pub const NO_PATTERN: u32 = 17;
+/// The index is past the end.
+pub const NO_INDEX: u32 = 18;
+/// There is no such fault.
+pub const NO_FAULT: u32 = 19;
+/// There is no such state of a checker.
+pub const NO_STATE: u32 = 20;
+/// The string is too long for its text's length to be a `usize`.
+pub const TOO_LONG: u32 = 21;

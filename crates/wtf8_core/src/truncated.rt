@@ -1,0 +1,36 @@
+//! Texts in a buffer that may be too short for them.
+ghost use Rattle.std.specs.Prelude.{◌≡◌, ◌+◌, ◌<◌, ◌^◌, ◌++◌, ℕ, List, length};
+ghost use Rattle.wtf8_core.specs.Truncated.{IsTruncated};
+
+/// Appends bytes to a text of `count` bytes in a buffer, as far as there is room, and returns the
+/// length of the whole text (this project's own call).
+///
+/// The buffer has the text truncated to the buffer's length, and after it what was there before. So
+/// a text is written part by part, from count 0 on, and the last count says whether it has room:
+/// it is the length that a buffer needs. The counts stay below 2^64.
+///
+/// ```
+/// use os_str_bytes::push_truncated;
+///
+/// let mut buffer = [b'-'; 8];
+/// let count = push_truncated(&mut buffer, 0, b"abc");
+/// assert_eq!(rt; push_truncated(&mut buffer, count, b"def"), 6);
+/// assert_eq!(rt; buffer.as_slice(), b"abcdef--".as_slice());
+/// assert_eq!(rt; push_truncated(&mut buffer, 6, b"ghi"), 9);
+/// assert_eq!(rt; buffer.as_slice(), b"abcdefgh".as_slice());
+/// ```
+pub fn push_truncated(buffer: &mut [u8], count: usize, bytes: &[u8]) -> usize
+    requires { count + length bytes.now < 2 ^ 64 }
+    ensures written { (text : List ℕ) → (old : List ℕ) → IsTruncated text old buffer.old count
+        → IsTruncated (text ++ bytes.now) old buffer.new result }
+    ensures len { result ≡ count + length bytes.now }
+{
+    let mut written = count;
+    for byte in bytes {
+        if written < buffer.len() {
+            buffer[written] = *byte;
+        }
+        written += 1;
+    }
+    written
+}
