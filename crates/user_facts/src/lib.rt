@@ -7,6 +7,7 @@
 
 mod agreements;
 mod arguments;
+mod buffers;
 mod bytes;
 mod characters;
 mod chunks;
@@ -61,6 +62,9 @@ pub use agreements::twice;
 pub use arguments::Argument;
 pub use arguments::ArgumentOf;
 pub use arguments::read_argument;
+pub use buffers::checked_apart;
+pub use buffers::joined_in;
+pub use buffers::shown_in;
 pub use bytes::around_boundary;
 pub use bytes::check_says;
 pub use bytes::ends_before;
