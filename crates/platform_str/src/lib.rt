@@ -20,8 +20,9 @@
 //! with `assert_from_raw` or end in `_unchecked` need well-formed bytes (test:
 //! [`Platform::check`]), and so do the calls of [`Platform`] except `check`, `is_io_safe` and
 //! `read_lossy`. Of these, `lossy_len`, `replaced_len` and `first_unit` need bytes that aren't
-//! empty and don't begin with a whole character (test: `wtf8_core::char_at` at 0). Every other call
-//! can be made anywhere.
+//! empty and don't begin with a whole character (test: `wtf8_core::char_at` at 0).
+//! [`OsStr::write_lossy`] needs a string of at most a third of `usize::MAX` bytes (test:
+//! [`OsStr::len`]). Every other call can be made anywhere.
 #![tactic(auto)]
 
 mod blocks;
