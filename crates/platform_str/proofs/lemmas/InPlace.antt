@@ -36,12 +36,6 @@ drop-written b s n e =
     ∙ drop-set-lt n (set b s 0xEF) (s + 1) 0xBF (omega arith)
     ∙ drop-set-lt n b s 0xEF (omega arith)
 
-drop_twice : (b : List ℕ) (n m : ℕ) → drop (n + m) b ≡ drop m (drop n b)
-drop_twice b n m = sym (drop-drop m n b)
-
-take_both : (b : List ℕ) (n m : ℕ) → take (n + m) b ≡ take n b ++ take m (drop n b)
-take_both b n m = take-add n m b
-
 -- the part at a fault has three bytes, the string has them, and U+FFFD is written over them
 pub record IsWritten (well_formed : List ℕ → Type 0) (lossy : List ℕ → List ℕ) (all bytes : List ℕ) (at n m : ℕ) : Type 0 where
   pub three : m ≡ 3
@@ -54,15 +48,15 @@ module _ {first_fault : List ℕ → EncodingError → Type 0} {well_formed : Li
       → IsValidUpTo rest n → IsReplacedUpTo well_formed lossy all bytes at → replaces behind m → IsWritten well_formed lossy all bytes at n m
   put laws {all} {bytes} {rest} {behind} {at} {n} {m} f u e d v i r =
       let t : m ≡ 3 = laws.three all behind m f u r in
-      let k : behind ≡ drop n rest = d ∙ drop_twice bytes at n ∙ ap (drop n) (sym e) in
+      let k : behind ≡ drop n rest = d ∙ sym (drop-drop n at bytes) ∙ ap (drop n) (sym e) in
       let j : IsLeft well_formed lossy all (take at bytes) rest = subst (IsLeft well_formed lossy all (take at bytes)) (sym e) i.left in
       let s = first_part laws k v j.rest_is r in
       let left = made_more j (first_text laws refl k refl v j.rest_is r) in
       let l : length behind ≡ length bytes - (at + n) = ap length d ∙ length-drop (at + n) bytes in
       let b : at + n + 3 ≤ length bytes = omega (arith, s.within, s.some) in
       let p : take (at + n + m) (written bytes (at + n)) ≡ (take at bytes ++ take n rest) ++ replacement =
-      take-written bytes (at + n) (at + n + m) (omega arith) (omega arith) ∙ ap (λ x. x ++ replacement) (take_both bytes at n ∙ ap (λ x. take at bytes ++ take n x) (sym e)) in
-      let q : drop (at + n + m) (written bytes (at + n)) ≡ drop m behind = drop-written bytes (at + n) (at + n + m) (omega arith) ∙ drop_twice bytes (at + n) m ∙ ap (drop m) (sym d) in
+      take-written bytes (at + n) (at + n + m) (omega arith) (omega arith) ∙ ap (λ x. x ++ replacement) (take-add at n bytes ∙ ap (λ x. take at bytes ++ take n x) (sym e)) in
+      let q : drop (at + n + m) (written bytes (at + n)) ≡ drop m behind = drop-written bytes (at + n) (at + n + m) (omega arith) ∙ sym (drop-drop m (at + n) bytes) ∙ ap (drop m) (sym d) in
       record {
         three = t;
         room = b;
@@ -77,4 +71,4 @@ module _ {first_fault : List ℕ → EncodingError → Type 0} {well_formed : Li
 
 -- no whole character starts at a fault, also if the rest is given by its index
 pub bare_behind : (bytes : List ℕ) {rest behind : List ℕ} (at : ℕ) {n : ℕ} → rest ≡ drop at bytes → behind ≡ drop (at + n) bytes → IsValidUpTo rest n → StartsBare behind
-bare_behind bytes at {n} e d v = bare_at (d ∙ drop_twice bytes at n ∙ ap (drop n) (sym e)) v
+bare_behind bytes at {n} e d v = bare_at (d ∙ sym (drop-drop n at bytes) ∙ ap (drop n) (sym e)) v

@@ -8,7 +8,7 @@ use Rattle.wtf8_core.specs.UnitsOf.{ok_values}
 use Rattle.wtf8_core.specs.declared.fault.EncodingError.{EncodingError}
 use Rattle.wtf8_core.proofs.lemmas.reader.Complete.{never_both}
 use Rattle.wtf8_core.proofs.lemmas.reader.FirstErr.{units_whole}
-use Rattle.wtf8_core.proofs.lemmas.units.AsFunction.{ok_values_of_oks}
+use Rattle.wtf8_core.proofs.lemmas.reader.FirstErr.{ok_values_of_oks}
 
 abbrev pub Item : Type 0
 Item = Result ℕ EncodingError

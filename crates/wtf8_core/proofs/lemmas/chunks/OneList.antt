@@ -1,5 +1,6 @@
 -- A string has exactly one list of chunks.
-use Rattle.wtf8_core.proofs.Common.{◌≡◌, ⊎_elim, ℕ, ◌+◌, ◌-◌, ◌<◌, Bool, true, false, List, [], ◌∷◌, ◌++◌, length, take, drop, refl, sym, ap, ◌∙◌, subst, arith, length-append, append_assoc, cases_lt, cases_eq, append-nil, take_at, drop_at, IsCovered, IsSeam, Chunk, joined, AreChunks}
+use Rattle.wtf8_core.proofs.Common.{◌≡◌, ⊎_elim, ℕ, ◌+◌, ◌-◌, ◌<◌, Bool, true, false, List, [], ◌∷◌, ◌++◌, length, refl, sym, ap, ◌∙◌, subst, arith, length-append, append_assoc, cases_lt, cases_eq, append-nil, IsCovered, IsSeam, Chunk, joined, AreChunks}
+use Rattle.wtf8_core.proofs.lemmas.forms.Appending.{append_same}
 use Rattle.wtf8_core.proofs.lemmas.characters.Seams.{Bare, Covered, over_none, over_first, bare_or_covered, covered_within, covered_behind}
 use Rattle.wtf8_core.proofs.lemmas.chunks.Groups.{IsGroup, AreGroups, groups_from_each, each_from_groups, EachIsOfOne, grouped, not_first}
 
@@ -30,13 +31,6 @@ some_chunks s =
     each : (i : ℕ) (xs : List ℕ) → EachIsOfOne (Bare s) (Covered s) (λ k x. ¬ (IsCovered s k)) (λ k x. IsCovered s k) (over_none _) (over_none _) (over_first _) (over_first _) i xs
     each i [] = tt
     each i (x ∷ xs) = (bare_or_covered s i, each (i + 1) xs)
-
--- if two joined lists are equal and their first parts have one length, their parts are equal
-append_same : (a b c d : List ℕ) → a ++ b ≡ c ++ d → length a ≡ length c → (a ≡ c) × (b ≡ d)
-append_same a b c d e l = (
-  sym (take_at a b (length a) refl) ∙ ap (take (length a)) e ∙ take_at c d (length a) (sym l),
-  sym (drop_at a b (length a) refl) ∙ ap (drop (length a)) e ∙ drop_at c d (length a) (sym l),
-)
 
 -- a list of no elements
 pub empty : (xs : List ℕ) → length xs ≡ 0 → xs ≡ []

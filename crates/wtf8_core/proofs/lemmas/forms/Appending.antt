@@ -1,7 +1,14 @@
 -- Lists joined, and one more at the end: of code points, of the forms that bytes spell, and of a sequence that has begun.
-use Rattle.wtf8_core.proofs.Common.{◌≡◌, ℕ, ◌+◌, ◌*◌, ◌%◌, List, [], ◌∷◌, ◌++◌, refl, sym, ap, ◌∙◌, append-nil, AllByRecursion, flat_map, flat_map-append, IsContinuation, IsHigh, IsLow, IsCodePoint, form, Spells, IsPairedFree, MayPrecede, last_behind, IsBegun, shape_value, lead_bits, All, All-append, All-nil}
+use Rattle.wtf8_core.proofs.Common.{◌≡◌, ℕ, ◌+◌, ◌*◌, ◌%◌, List, [], ◌∷◌, ◌++◌, refl, sym, ap, ◌∙◌, append-nil, length, take, drop, take_at, drop_at, AllByRecursion, flat_map, flat_map-append, IsContinuation, IsHigh, IsLow, IsCodePoint, form, Spells, IsPairedFree, MayPrecede, last_behind, IsBegun, shape_value, lead_bits, All, All-append, All-nil}
 use Rattle.std.proofs.lemmas.List.Sums.{fold-append}
 use Rattle.wtf8_core.proofs.lemmas.reader.Continuations.{Join}
+
+-- if two joined lists are equal and their first parts have one length, their parts are equal
+pub append_same : (a b c d : List ℕ) → a ++ b ≡ c ++ d → length a ≡ length c → (a ≡ c) × (b ≡ d)
+append_same a b c d e l = (
+  sym (take_at a b (length a) refl) ∙ ap (take (length a)) e ∙ take_at c d (length a) (sym l),
+  sym (drop_at a b (length a) refl) ∙ ap (drop (length a)) e ∙ drop_at c d (length a) (sym l),
+)
 
 -- what holds of each element of two lists holds of each of both joined
 pub all_joined : (P : ℕ → Type 0) (xs ys : List ℕ) → AllByRecursion P xs → AllByRecursion P ys → AllByRecursion P (xs ++ ys)

@@ -1,5 +1,5 @@
 -- What a caller that stops at the first `Err` knows. None of these statements is about what comes after that `Err`.
-use Rattle.wtf8_core.proofs.Common.{◌≡◌, ℕ, List, [], ◌∷◌, ◌++◌, map, Result, Ok, Err, refl, sym, ap, ◌∙◌, subst, append_assoc, AllByRecursion, flat_map, append-nil, map-append, IsCodePoint, wide, HasUnits, units, IsFirstFault, AreItems, AreUnitItems, unit_items, EncodingError}
+use Rattle.wtf8_core.proofs.Common.{◌≡◌, ℕ, List, [], ◌∷◌, ◌++◌, map, Result, Ok, Err, refl, sym, ap, ◌∙◌, subst, append_assoc, AllByRecursion, flat_map, append-nil, map-append, IsCodePoint, wide, HasUnits, units, IsFirstFault, AreItems, AreUnitItems, unit_items, ok_values, EncodingError}
 use Rattle.wtf8_core.specs.Items.AreItems.{Whole, Faulty}
 use Rattle.wtf8_core.specs.Encoder.{IsCodePointItem}
 
@@ -25,12 +25,13 @@ same_faulty [] (d ∷ ds) f g l m e = cc
 same_faulty (c ∷ cs) [] f g l m e = cc
 same_faulty (c ∷ cs) (d ∷ ds) f g l m e = let u = same_faulty cs ds f g l m (cc) in (cc (u.0), u.1, u.2)
 
--- and, if all its items are Ok, their values
+-- the values of items that are all Ok, which the items determine
+pub ok_values_of_oks : (cs : List ℕ) → ok_values (map Ok cs) ≡ cs
+ok_values_of_oks [] = refl
+ok_values_of_oks (c ∷ cs) = ap (λ l. c ∷ l) (ok_values_of_oks cs)
+
 pub same_oks : (cs ds : List ℕ) → oks cs ≡ oks ds → cs ≡ ds
-same_oks [] [] e = refl
-same_oks [] (d ∷ ds) e = cc
-same_oks (c ∷ cs) [] e = cc
-same_oks (c ∷ cs) (d ∷ ds) e = cc (same_oks cs ds (cc))
+same_oks cs ds e = sym (ok_values_of_oks cs) ∙ ap ok_values e ∙ ok_values_of_oks ds
 
 -- one more item was Ok: for the invariant of a loop
 pub one_more_ok : (cs : List ℕ) (c : ℕ) (rest : List (Result ℕ EncodingError)) → oks cs ++ Ok c ∷ rest ≡ oks (cs ++ c ∷ []) ++ rest

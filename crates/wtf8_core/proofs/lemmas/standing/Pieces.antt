@@ -1,22 +1,13 @@
 -- From the laws of occurrences alone: pieces, strips and trims in units.
 use Rattle.wtf8_core.proofs.Common.{◌≡◌, ℕ, zero, suc, ◌<◌, List, [], ◌∷◌, ◌++◌, length, map, Option, Some, None, refl, sym, ap, ◌∙◌, subst, arith, append_assoc, append-nil, length-append, append_cancel_left, nil_from_length, repeat, IsUtf8, IsLeastPlace, IsGreatestPlace, IsFront, IsEnd, IsBytePlace, IsUnitPlaceOf, StandingLaws}
+use Rattle.wtf8_core.proofs.lemmas.forms.Appending.{append_same}
 use Rattle.wtf8_core.specs.Pieces.{SplitsAt, IsSplit, IsRSplit, IsStartTrim, IsEndTrim, IsTrim, StripsFront, StripsEnd, SplitsOnce}
 use Rattle.wtf8_core.specs.Pieces.FallsInto.{whole, cut}
-use Rattle.wtf8_core.proofs.lemmas.standing.Places.{shorter_front, no_units, nothing, around, least, greatest, nowhere, nowhere_in_units, none_first, none_last, no_units_first, no_units_last}
-
--- prefixes of one length are equal
-same_length : (x y z w : List ℕ) → x ++ z ≡ y ++ w → length x ≡ length y → x ≡ y
-same_length x y z w e h =
-    let c = shorter_front x y z w e (omega arith) in
-    no_more x c.0 y c.1 h
-  where
-    no_more : (x v y : List ℕ) → y ≡ x ++ v → length x ≡ length y → x ≡ y
-    no_more x [] y e h = sym (append-nil x) ∙ sym e
-    no_more x (a ∷ v) y e h = absurd (omega (arith, ap length e, length-append x (a ∷ v)))
+use Rattle.wtf8_core.proofs.lemmas.standing.Places.{no_units, nothing, around, least, greatest, nowhere, nowhere_in_units, none_first, none_last, no_units_first, no_units_last}
 
 module _ (wf : List ℕ → Type 0) (units : List ℕ → List ℕ) (laws : StandingLaws wf units) where
   unit_of_front : (s front rest : List ℕ) (i : ℕ) → s ≡ front ++ rest → IsBytePlace wf units s i (length front) → i ≡ length (units front)
-  unit_of_front s front rest i e b = sym b.many ∙ ap (λ z. length (units z)) (same_length b.front front b.rest rest (sym b.joined ∙ e) b.place)
+  unit_of_front s front rest i e b = sym b.many ∙ ap (λ z. length (units z)) (append_same b.front b.rest front rest (sym b.joined ∙ e) b.place).0
 
   -- one cut
   cut_by : (Is : List ℕ → List ℕ → ℕ → Type 0) (p s front back : List ℕ) → IsUtf8 p → 0 < length p → wf s → s ≡ front ++ (p ++ back) → IsUnitPlaceOf Is wf units p s (length front) → SplitsAt Is (units p) (units s) (units front) (units back)

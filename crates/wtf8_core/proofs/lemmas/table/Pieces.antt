@@ -1,5 +1,6 @@
 -- Pieces, one after the other.
-use Rattle.wtf8_core.proofs.Common.{◌≡◌, ◌≢◌, inl, inr, ⊎_elim, ℕ, ◌+◌, ◌<◌, Bool, true, false, List, [], ◌∷◌, ◌++◌, length, take, drop, get_or, take-append-drop, Option, None, refl, sym, ap, ◌∙◌, subst, arith, append_assoc, append-nil, common_steps, IsWtf8, Spells, last_behind, IsShort, IsRefused, class_at, next_at, Row, rows, SomeRow, IsOpen, IsOpenIn, Stands, IsFaulty, OnlyEnds, HasFirstFault, joined_bits, fault_at, Progress, progress, StandsFor, is_between, IsHigh, is_high, IsSpelledFront, EncodingError, Byte, CodePoint, End, Utf8, State, Between, BehindHigh, Refused, Class, cases_Bool}
+use Rattle.wtf8_core.proofs.Common.{◌≡◌, ◌≢◌, inl, inr, ⊎_elim, ℕ, ◌+◌, ◌<◌, Bool, true, false, List, [], ◌∷◌, ◌++◌, length, take, drop, get_or, take-append-drop, Option, None, refl, sym, ap, ◌∙◌, subst, arith, append_assoc, append-nil, IsWtf8, Spells, last_behind, IsShort, IsRefused, class_at, next_at, Row, rows, SomeRow, IsOpen, IsOpenIn, Stands, IsFaulty, OnlyEnds, HasFirstFault, joined_bits, fault_at, Progress, progress, StandsFor, is_between, IsHigh, is_high, IsSpelledFront, EncodingError, Byte, CodePoint, End, Utf8, State, Between, BehindHigh, Refused, Class, cases_Bool}
+use Rattle.std.proofs.lemmas.List.{take_more}
 use Rattle.wtf8_core.proofs.lemmas.forms.Ranges.{in_range-false}
 use Rattle.wtf8_core.proofs.lemmas.forms.Appending.{last_append, spells_joined}
 use Rattle.wtf8_core.proofs.lemmas.units.OneToOne.{may_precede}
@@ -84,10 +85,7 @@ read_off s bits class t joined fault b x v m e f g n h =
 
 -- the bytes up to an index, and one more
 pub one_more_read : (b xs : List ℕ) (i : ℕ) → i < length xs → (b ++ take i xs) ++ get_or xs i 0 ∷ [] ≡ b ++ take (i + 1) xs
-one_more_read b xs i h = append_assoc b (take i xs) (get_or xs i 0 ∷ []) ∙ ap (λ l. b ++ l) (sym (take_one i xs h))
-  where
-    take_one : (i : ℕ) (xs : List ℕ) → i < length xs → take (i + 1) xs ≡ take i xs ++ get_or xs i 0 ∷ []
-    take_one i xs h = grind (arith, common_steps)
+one_more_read b xs i h = append_assoc b (take i xs) (get_or xs i 0 ∷ []) ∙ ap (λ l. b ++ l) (sym (take_more xs i 0 h))
 
 -- a fault at an index is one of all the bytes
 pub read_fault : (b xs : List ℕ) (i : ℕ) (f : EncodingError) → i < length xs → IsFaulty ((b ++ take i xs) ++ get_or xs i 0 ∷ []) f → IsFaulty (b ++ xs) f

@@ -1,14 +1,10 @@
 -- The function and the relation of units, and units of parts.
-use Rattle.wtf8_core.proofs.Common.{◌≡◌, ◌↔◌, ℕ, ◌<◌, ◌^◌, List, [], ◌∷◌, ◌++◌, take, drop, map, Ok, refl, sym, ap, ◌∙◌, subst, flat_map-append, All, flat_map, All-from_recursion, recursion_from_All, IsCodePoint, form, wide, Spells, IsWtf8, HasUnits, units, IsWtf8LossyText, without_surrogate, ok_values, code_points_in, units_of, wtf8_lossy, IsBoundary}
+use Rattle.wtf8_core.proofs.Common.{◌≡◌, ◌↔◌, ℕ, ◌<◌, ◌^◌, List, ◌++◌, take, drop, map, sym, ap, ◌∙◌, subst, flat_map-append, All, flat_map, All-from_recursion, recursion_from_All, IsCodePoint, form, wide, Spells, IsWtf8, HasUnits, units, IsWtf8LossyText, without_surrogate, ok_values, code_points_in, units_of, wtf8_lossy, IsBoundary}
 use Rattle.wtf8_core.proofs.lemmas.reader.Complete.{items_if_spelled}
+use Rattle.wtf8_core.proofs.lemmas.reader.FirstErr.{ok_values_of_oks}
 use Rattle.wtf8_core.proofs.lemmas.forms.Appending.{all_flat_map}
 use Rattle.wtf8_core.proofs.lemmas.units.OneToOne.{wide_units, IsUnit, units_once, units_spelled}
 use Rattle.wtf8_core.proofs.lemmas.forms.Cuts.{boundary_cut, spells_parts}
-
--- the code points of items that are all Ok
-pub ok_values_of_oks : (cs : List ℕ) → ok_values (map Ok cs) ≡ cs
-ok_values_of_oks [] = refl
-ok_values_of_oks (c ∷ cs) = ap (λ l. c ∷ l) (ok_values_of_oks cs)
 
 -- the function of code points gives those that are spelled
 pub code_points_in-spelled : (b cs : List ℕ) → Spells b cs → code_points_in b ≡ cs
