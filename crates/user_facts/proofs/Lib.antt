@@ -6,8 +6,10 @@ pub mod GlobFaults
 pub mod NoMatch
 pub mod OnePiece
 pub mod Outcomes
+pub mod PiecesFromBothEnds
 pub mod PiecesJoined
 pub mod Places
 pub mod QuoteFaults
+pub mod Repeats
 pub mod SomePlace
 pub mod TrimsAgain

@@ -22,7 +22,7 @@ module _ (p : List ℕ) where
         ap (λ x. piece ++ x) (after_p rest others falls) ∙ ap (λ x. piece ++ (p ++ x)) (pieces_joined rest others falls) ∙ sym (cuts s piece rest c)
 
   -- one more piece at the end
-  with_last : (pieces : List (List ℕ)) (last : List ℕ) → 0 < length pieces → joined (pieces ++ last ∷ []) ≡ joined pieces ++ (p ++ last)
+  pub with_last : (pieces : List (List ℕ)) (last : List ℕ) → 0 < length pieces → joined (pieces ++ last ∷ []) ≡ joined pieces ++ (p ++ last)
   with_last [] last some = absurd (omega (arith, some))
   with_last (x ∷ pieces) last some =
       ap (λ y. x ++ y) (flat_map-append (λ y. p ++ y) pieces (last ∷ []) ∙ ap (λ y. flat_map (λ y. p ++ y) pieces ++ y) (append-nil (p ++ last))) ∙ sym (append_assoc x (flat_map (λ y. p ++ y) pieces) (p ++ last))

@@ -103,6 +103,24 @@ pub fn twice<'a, E: Platform + 'a>(alloc: Global, string: OsStr<'a, E>) -> Resul
     Ok(repeated == pushed)
 }
 
+/// The string once more than `count` times, which is the string `count` times with the string pushed.
+#[tactic(auto, using(crate::proofs::Repeats::once_more))]
+pub fn once_more<'a, E: Platform + 'a>(
+    alloc: Global,
+    string: OsStr<'a, E>,
+    count: usize,
+) -> Result<bool, AllocError>
+    requires { count < usize.MAX }
+    ensures { IfOk result (λ same. IsTrue same) }
+{
+    laws::spelling::<E>();
+    let repeated = string.repeat(alloc, count + 1)?;
+    let mut pushed = string.repeat(alloc, count)?;
+    pushed.push(string)?;
+    laws::owned_comparisons(&repeated, &pushed);
+    Ok(repeated == pushed)
+}
+
 /// The string once, which is the string.
 pub fn once<'a, E: Platform + 'a>(
     alloc: Global,

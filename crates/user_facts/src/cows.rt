@@ -5,6 +5,7 @@ ghost use Rattle.platform_str.specs.Strings.{bytes};
 ghost use Rattle.platform_str.specs.Cows.{byte_cow_bytes, cow_bytes, str_cow_bytes, IsOwnedString};
 ghost use Rattle.os_str_bytes.specs.Raw.{box_bytes, raw_bytes, raw_vec_of};
 ghost use Rattle.os_str_bytes.specs.RawCow.{raw_cow_bytes, IsKept};
+ghost use Rattle.os_str_bytes.specs.declared.raw_cow.CowRawOsStr.TheVariants.{Borrowed, Owned};
 
 use os_str_bytes::{
     ByteCow, CowRawOsStr, HasBytes, OsStr, OsStrBytes, OsStrCow, Platform, RawOsStr, RawOsStrBox,
@@ -71,20 +72,22 @@ pub fn from_raw_cow<'a, E: Platform + 'a, A: Allocator>(
     raw.into_os_str()
 }
 
-/// A borrowed raw string as one that might be owned.
+/// A borrowed raw string as one that might be owned: still borrowed.
 pub fn borrowed_raw<'a, E: Platform + 'a, A: Allocator>(
     raw: RawOsStr<'a, E>,
 ) -> CowRawOsStr<'a, E, A>
-    ensures { raw_cow_bytes result ≡ raw_bytes raw.entry }
+    ensures kept { result ≡ Borrowed raw.entry }
+    ensures bytes { raw_cow_bytes result ≡ raw_bytes raw.entry }
 {
     CowRawOsStr::from(raw)
 }
 
-/// An owned raw string as one that might be borrowed.
+/// An owned raw string as one that might be borrowed: still owned, in the same vector.
 pub fn owned_raw<'a, E: Platform + 'a, A: Allocator>(
     raw: RawOsString<E, A>,
 ) -> CowRawOsStr<'a, E, A>
-    ensures { raw_cow_bytes result ≡ (raw_vec_of raw).items }
+    ensures kept { result ≡ Owned raw }
+    ensures bytes { raw_cow_bytes result ≡ (raw_vec_of raw).items }
 {
     CowRawOsStr::from(raw)
 }

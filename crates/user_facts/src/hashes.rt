@@ -1,7 +1,10 @@
-//! Hashes: a hasher is fed the same of equal strings, and of equal symbols.
+//! Hashes: a hasher is fed the same of equal strings, parts, units and symbols.
 ghost use Rattle.std.specs.Prelude.{◌≡◌, IsTrue};
 
-use os_str_bytes::{OsString, Platform, RawOsStr, RawOsString, Symbol, laws, symbol_laws};
+use os_str_bytes::{
+    NonUnicodeOsStr, OsString, OsUnit, Platform, RawOsStr, RawOsString, Symbol, laws, part_laws,
+    symbol_laws,
+};
 use std::alloc::Allocator;
 use std::hash::Hash;
 
@@ -33,6 +36,30 @@ pub fn owned_raw_hash_alike<E: Platform, A: Allocator>(
     laws::raw_owned_comparisons(a, b);
     laws::raw_owned_comparisons(b, a);
     *a == *b
+}
+
+/// The same of parts.
+pub fn part_hash_alike<'a, E: Platform + 'a>(
+    a: NonUnicodeOsStr<'a, E>,
+    b: NonUnicodeOsStr<'a, E>,
+) -> bool
+    ensures { IsTrue result
+        → ⟦<NonUnicodeOsStr<'a, E> as Hash>⟧.hash_input a.entry
+        ≡ ⟦<NonUnicodeOsStr<'a, E> as Hash>⟧.hash_input b.entry }
+{
+    part_laws::part_comparisons(&a, &b);
+    part_laws::part_comparisons(&b, &a);
+    a == b
+}
+
+/// The same of units.
+pub fn unit_hash_alike(a: OsUnit, b: OsUnit) -> bool
+    ensures { IsTrue result
+        → ⟦<OsUnit as Hash>⟧.hash_input a ≡ ⟦<OsUnit as Hash>⟧.hash_input b }
+{
+    part_laws::unit_comparisons(&a, &b);
+    part_laws::unit_comparisons(&b, &a);
+    a == b
 }
 
 /// The same of symbols.

@@ -39,3 +39,14 @@ pub fn log_line_shown<'a, E: Platform + 'a, A: Allocator>(
 {
     log_line(log, &string.display())
 }
+
+/// Writes a line with the escape of a string of any platform at the end of a log.
+pub fn log_line_escaped<'a, E: Platform + 'a, A: Allocator>(
+    log: &mut String<A>,
+    string: OsStr<'a, E>,
+) -> Result<(), AllocError>
+    ensures { OnOk result ((text : List ℕ) × (IsEscape E.units (bytes string.entry) text
+        × (string_bytes log.new ≡ string_bytes log.old ++ (text ++ 0x0A ∷ [])))) }
+{
+    log_line(log, &escaped(string))
+}

@@ -74,3 +74,16 @@ pub fn pieces_without_match_from_the_end<'a, E: Platform + 'a>(
 {
     string.rsplit(text)
 }
+
+/// The pieces of a string between the occurrences of a character, from the start and from the end:
+/// the same ones, in reverse.
+pub fn pieces_from_both_ends<'a, E: Platform + 'a>(
+    string: OsStr<'a, E>,
+    character: char,
+) -> (Split<'a, E, char>, RSplit<'a, E, char>)
+    ensures { result.1 ≡ reverse result.0 }
+{
+    wtf8_core::laws::characters();
+    wtf8_core::laws::forms();
+    (string.split(character), string.rsplit(character))
+}

@@ -1,11 +1,13 @@
 //! A fourth platform, written outside: any bytes are a string, as on Unix.
+ghost use Rattle.std.specs.Prelude.{◌≡◌, IsOk, IfOk};
 ghost use Rattle.std.specs.Str.Lossy.{utf8_lossy};
 ghost use Rattle.wtf8_core.specs.Utf8.{IsIllFormedPart};
 ghost use Rattle.platform_str.specs.PlatformWords.{itself};
+ghost use Rattle.platform_str.specs.Strings.{bytes};
 ghost use Rattle.platform_str.specs.platforms.Unix.{AreBytes, IsNoFault, AreAboveAscii, IsSame, bytes_prop};
 ghost use Rattle.platform_str.specs.platforms.Unix.{unix_laws, unix_parts, unix_readings, unix_standing};
 
-use platform_str::{EncodingError, Platform, Unix};
+use platform_str::{EncodingError, OsStr, Platform, Unix};
 use std::alloc::{AllocError, Allocator};
 
 /// The marker of strings that are any bytes.
@@ -71,4 +73,19 @@ impl Platform for Plan9 {
     fn read_lossy<A: Allocator>(alloc: A, bytes: &[u8]) -> Result<Vec<u8, A>, AllocError> {
         Unix::read_lossy(alloc, bytes)
     }
+}
+
+/// Any bytes as a string of this platform: each are accepted, as they are.
+pub fn plan9_string(raw: &[u8]) -> Result<OsStr<'_, Plan9>, EncodingError>
+    ensures accepted { IsOk result }
+    ensures same { IfOk result (λ string. bytes string ≡ raw.now) }
+{
+    OsStr::checked(raw)
+}
+
+/// The lossy reading of any bytes on this platform: the bytes.
+pub fn plan9_reading<A: Allocator>(alloc: A, raw: &[u8]) -> Result<Vec<u8, A>, AllocError>
+    ensures { IfOk result (λ reading. reading.items ≡ raw.now) }
+{
+    Plan9::read_lossy(alloc, raw)
 }
