@@ -54,10 +54,12 @@ impl<'a, K: RowKind + Drop> AnswerFile<'a, K> {
 
     /// Whether the file has rows, as many as its head says.
     pub fn check_count(&self) -> Result<(), LineError>
-        ensures ok { IsOk result ↔ ((0 < vec_len self.now.rows) × (vec_len self.now.rows ≡ self.now.expected_rows)) }
+        ensures ok { IsOk result ↔ ((0 < vec_len self.now.rows)
+            × (vec_len self.now.rows ≡ self.now.expected_rows)) }
         ensures no_rows { vec_len self.now.rows ≡ 0 → IsErrOf result LineError.NoRows }
         ensures other_count { 0 < vec_len self.now.rows
-            → IfErr result (λ error. error ≡ LineError.RowCount self.now.expected_rows (vec_len self.now.rows)) }
+            → IfErr result (λ error. error
+            ≡ LineError.RowCount self.now.expected_rows (vec_len self.now.rows)) }
     {
         let expected = self.expected_rows;
         let found = self.rows.len();

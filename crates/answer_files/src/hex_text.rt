@@ -82,7 +82,8 @@ fn pairs(alloc: Global, bytes: &[u8]) -> Result<Vec<u16>, LineError>
 /// The bytes of digits in either case.
 #[tactic(auto, using(crate::proofs::HexTextLemmas::decode_of_bytes_text, crate::proofs::HexTextLemmas::dash_is_empty))]
 fn digits(alloc: Global, text: &str) -> Result<Vec<u8>, LineError>
-    ensures read { IfOk result (λ bytes. (other : List ℕ) → IsBytes other → bytes_text other ≡ text.now → bytes.items ≡ other) }
+    ensures read { IfOk result (λ bytes. (other : List ℕ) → IsBytes other
+        → bytes_text other ≡ text.now → bytes.items ≡ other) }
     ensures refused { IfErr result (IsUnread (HasNoBytes text.now)) }
 {
     if text == "-" {

@@ -16,5 +16,6 @@ pub trait RowKind: Sized {
 
     /// What a row asks, and what the calls answer.
     fn ask<'a>(&self, alloc: Global, row: &[&'a str]) -> Result<Vec<Column<'a>>, LineError>
-        ensures { IfOk result (λ columns. answers self.now (map (λ column. column.now) row.now) columns.items) };
+        ensures { IfOk result (λ columns. answers self.now (map
+            (λ column. column.now) row.now) columns.items) };
 }

@@ -38,7 +38,8 @@ pub struct Difference<'a> {
 pub fn ask<'a, K: RowKind + Drop>(alloc: Global, text: &'a str) -> Result<Summary<'a>, FileError>
     ensures some { IfOk result (λ summary. 0 < summary.rows) }
     ensures all { IfOk result (λ summary. summary.rows ≡ length (rows_of text.now)) }
-    ensures differing { IfOk result (λ summary. TextHasDifferences K.answers text.now summary.differing) }
+    ensures differing { IfOk result
+        (λ summary. TextHasDifferences K.answers text.now summary.differing) }
 {
     let file = AnswerFile::<K>::read(alloc, text).map_err(in_head)?;
     let summary = ask_rows(alloc, &file.kind, &file.rows)?;
@@ -56,7 +57,8 @@ fn ask_rows<'a, K: RowKind>(
     rows: &[Row<'a>],
 ) -> Result<Summary<'a>, FileError>
     ensures all { IfOk result (λ summary. summary.rows ≡ length rows.now) }
-    ensures differing { IfOk result (λ summary. HaveDifferences (K.answers kind.now) (map columns rows.now) summary.differing) }
+    ensures differing { IfOk result
+        (λ summary. HaveDifferences (K.answers kind.now) (map columns rows.now) summary.differing) }
 {
     let mut summary = Summary::new(alloc);
     for row in rows {
@@ -90,7 +92,8 @@ impl<'a> Summary<'a> {
     fn add(&mut self, alloc: Global, columns: Vec<Column<'a>>) -> Result<(), AllocError>
         requires { self.old.rows + 1 < 2 ^ 64 }
         ensures row { OnOk result (self.new.rows ≡ self.old.rows + 1) }
-        ensures differing { OnOk result (Counts columns.entry.items self.old.differing self.new.differing) }
+        ensures differing { OnOk result
+            (Counts columns.entry.items self.old.differing self.new.differing) }
     {
         if self.rows == 0 {
             self.not_asked = not_asked(alloc, &columns)?;

@@ -13,7 +13,8 @@ use std::alloc::Global;
 /// How many bytes the string has onto which a part was pushed so many times, or `usize::MAX`
 /// where memory was refused.
 fn pushed_len<E: Platform>(alloc: Global, part: OsStr<E>, count: usize) -> usize
-    ensures { result ≢ usize.MAX → IsRepeatedLength E.well_formed E.units (bytes part.entry) count result }
+    ensures { result ≢ usize.MAX → IsRepeatedLength E.well_formed E.units (bytes part.entry) count
+        result }
 {
     let mut all = OsString::new(alloc);
     for _ in 0..count {

@@ -40,7 +40,8 @@ pub extern "C" fn port_win_lossy(alloc: Global, raw: &[u8]) -> usize
 
 /// How many bytes the lossy reading of any bytes has, or `usize::MAX` where memory was refused.
 fn reading_len<E: Platform>(alloc: Global, raw: &[u8]) -> usize
-    ensures { result ≢ usize.MAX → (reading : List ℕ) × E.reads_as raw.now reading × (result ≡ length reading) }
+    ensures { result ≢ usize.MAX → (reading : List ℕ) × E.reads_as raw.now reading
+        × (result ≡ length reading) }
 {
     match OsStr::<E>::from_raw_bytes_lossy(alloc, raw) {
         Ok(string) => string.bytes().len(),
@@ -52,7 +53,8 @@ fn reading_len<E: Platform>(alloc: Global, raw: &[u8]) -> usize
 /// refused.
 #[unsafe(no_mangle)]
 pub extern "C" fn port_win_read_lossy(alloc: Global, raw: &[u8]) -> usize
-    ensures { result ≢ usize.MAX → (reading : List ℕ) × IsLossyReading raw.now reading × (result ≡ length reading) }
+    ensures { result ≢ usize.MAX → (reading : List ℕ) × IsLossyReading raw.now reading
+        × (result ≡ length reading) }
 {
     reading_len::<Windows>(alloc, raw)
 }
@@ -60,7 +62,8 @@ pub extern "C" fn port_win_read_lossy(alloc: Global, raw: &[u8]) -> usize
 /// The same on wasm.
 #[unsafe(no_mangle)]
 pub extern "C" fn port_wasm_read_lossy(alloc: Global, raw: &[u8]) -> usize
-    ensures { result ≢ usize.MAX → (reading : List ℕ) × IsLossyText raw.now reading × (result ≡ length reading) }
+    ensures { result ≢ usize.MAX → (reading : List ℕ) × IsLossyText raw.now reading
+        × (result ≡ length reading) }
 {
     reading_len::<Wasm>(alloc, raw)
 }

@@ -11,7 +11,8 @@ use os_str_ext::OsStrBytesExt;
 pub extern "C" fn port_split(raw: &[u8], pattern: &[u8]) -> usize
     requires text { IsUtf8 pattern.now }
     requires some { 0 < length pattern.now }
-    ensures { (pieces : List (List ℕ)) × IsSplit pattern.now raw.now pieces × (result ≡ length pieces) }
+    ensures { (pieces : List (List ℕ)) × IsSplit pattern.now raw.now pieces
+        × (result ≡ length pieces) }
 {
     let mut count = 0;
     for _ in unix(raw).split(text(pattern)) {
@@ -25,7 +26,8 @@ pub extern "C" fn port_split(raw: &[u8], pattern: &[u8]) -> usize
 pub extern "C" fn port_rsplit(raw: &[u8], pattern: &[u8]) -> usize
     requires text { IsUtf8 pattern.now }
     requires some { 0 < length pattern.now }
-    ensures { (pieces : List (List ℕ)) × IsRSplit pattern.now raw.now pieces × (result ≡ length pieces) }
+    ensures { (pieces : List (List ℕ)) × IsRSplit pattern.now raw.now pieces
+        × (result ≡ length pieces) }
 {
     let mut count = 0;
     for _ in unix(raw).rsplit(text(pattern)) {

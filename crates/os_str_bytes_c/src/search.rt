@@ -12,7 +12,8 @@ use os_str_ext::OsStrBytesExt;
 #[unsafe(no_mangle)]
 pub extern "C" fn port_find(raw: &[u8], pattern: &[u8]) -> usize
     requires { IsUtf8 pattern.now }
-    ensures { AnswersOr usize.MAX (StandsNowhere pattern.now raw.now) (IsLeastPlace pattern.now raw.now) result }
+    ensures { AnswersOr usize.MAX (StandsNowhere pattern.now raw.now)
+        (IsLeastPlace pattern.now raw.now) result }
 {
     match unix(raw).find(text(pattern)) {
         Some(place) => place,
@@ -24,7 +25,8 @@ pub extern "C" fn port_find(raw: &[u8], pattern: &[u8]) -> usize
 #[unsafe(no_mangle)]
 pub extern "C" fn port_rfind(raw: &[u8], pattern: &[u8]) -> usize
     requires { IsUtf8 pattern.now }
-    ensures { AnswersOr usize.MAX (StandsNowhere pattern.now raw.now) (IsGreatestPlace pattern.now raw.now) result }
+    ensures { AnswersOr usize.MAX (StandsNowhere pattern.now raw.now)
+        (IsGreatestPlace pattern.now raw.now) result }
 {
     match unix(raw).rfind(text(pattern)) {
         Some(place) => place,
@@ -37,7 +39,8 @@ pub extern "C" fn port_rfind(raw: &[u8], pattern: &[u8]) -> usize
 #[unsafe(no_mangle)]
 pub extern "C" fn port_split_once(raw: &[u8], pattern: &[u8]) -> usize
     requires { IsUtf8 pattern.now }
-    ensures { AnswersOr usize.MAX (StandsNowhere pattern.now raw.now) (IsLeastPlace pattern.now raw.now) result }
+    ensures { AnswersOr usize.MAX (StandsNowhere pattern.now raw.now)
+        (IsLeastPlace pattern.now raw.now) result }
 {
     match unix(raw).split_once(text(pattern)) {
         Some((front, _)) => front.len(),
@@ -50,7 +53,8 @@ pub extern "C" fn port_split_once(raw: &[u8], pattern: &[u8]) -> usize
 pub extern "C" fn port_strip_prefix(raw: &[u8], pattern: &[u8]) -> usize
     requires { IsUtf8 pattern.now }
     ensures { AnswersOr usize.MAX (¬ (IsFront pattern.now raw.now))
-        (λ count. (rest : List ℕ) × (raw.now ≡ pattern.now ++ rest) × (count ≡ length rest)) result }
+        (λ count. (rest : List ℕ) × (raw.now ≡ pattern.now ++ rest)
+        × (count ≡ length rest)) result }
 {
     match unix(raw).strip_prefix(text(pattern)) {
         Some(rest) => rest.len(),

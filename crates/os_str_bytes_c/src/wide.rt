@@ -46,7 +46,8 @@ pub extern "C" fn port_decode_wide(units: &[u16], out: &mut [u8]) -> usize
 /// How many bytes the string with the units has, or `usize::MAX` where memory was refused.
 #[unsafe(no_mangle)]
 pub extern "C" fn port_from_wide(alloc: Global, units: &[u16]) -> usize
-    ensures { result ≢ usize.MAX → (bytes : List ℕ) × HasUnits bytes units.now × (result ≡ length bytes) }
+    ensures { result ≢ usize.MAX → (bytes : List ℕ) × HasUnits bytes units.now
+        × (result ≡ length bytes) }
 {
     match OsString::from_wide(alloc, units) {
         Ok(string) => string.as_os_str().len(),
@@ -59,7 +60,8 @@ pub extern "C" fn port_from_wide(alloc: Global, units: &[u16]) -> usize
 #[unsafe(no_mangle)]
 pub extern "C" fn port_to_wide(alloc: Global, bytes: &[u8]) -> usize
     requires { IsWtf8 bytes.now }
-    ensures { result ≢ usize.MAX → (units : List ℕ) × HasUnits bytes.now units × (result ≡ length units) }
+    ensures { result ≢ usize.MAX → (units : List ℕ) × HasUnits bytes.now units
+        × (result ≡ length units) }
 {
     match OsStr::from_encoded_bytes_unchecked(bytes).to_wide(alloc) {
         Ok(units) => units.len(),

@@ -40,7 +40,8 @@ where
     A: Allocator + Copy,
     F: FnMut(&Refusing<A>, Plan) -> Result<(), AllocError>,
     requires { F.IsAlwaysCallable test }
-    ensures turns { IfOk result (λ refused. (last : F) × RanUnder F.step test (each_request (refused + 1)) last) }
+    ensures turns { IfOk result (λ refused. (last : F)
+        × RanUnder F.step test (each_request (refused + 1)) last) }
     ensures ended { IfErr result (EndedIn F.step test) }
 {
     for refused in 0..u64::MAX {

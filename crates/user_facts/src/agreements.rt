@@ -80,7 +80,8 @@ pub fn put_back<'a, E: Platform + 'a>(
     string: OsStr<'a, E>,
     text: &'a str,
 ) -> Result<Option<OsString<E>>, AllocError>
-    ensures { IfOk result (λ again. IfSome again (λ joined. (string_vec_of joined).items ≡ bytes string.entry)) }
+    ensures { IfOk result (λ again. IfSome again
+        (λ joined. (string_vec_of joined).items ≡ bytes string.entry)) }
 {
     laws::spelling::<E>();
     let Some(rest) = string.strip_prefix(text) else {

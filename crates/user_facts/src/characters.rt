@@ -28,7 +28,8 @@ pub fn last_says<'a, E: Platform + 'a>(
     rest: &[u8],
 ) -> Option<(char, OsStr<'a, E>)>
     requires { bytes string ≡ rest.now ++ encode_utf8 known }
-    ensures { IsSomeAnd result (λ parts. bytes parts.1 ++ encode_utf8 parts.0 ≡ rest.now ++ encode_utf8 known) }
+    ensures { IsSomeAnd result (λ parts. bytes parts.1 ++ encode_utf8 parts.0
+        ≡ rest.now ++ encode_utf8 known) }
 {
     wtf8_core::laws::forms();
     string.split_last_char()
@@ -38,8 +39,11 @@ pub fn last_says<'a, E: Platform + 'a>(
 pub fn edges_in_units<'a, E: Platform + 'a>(
     string: OsStr<'a, E>,
 ) -> (Option<(char, OsStr<'a, E>)>, Option<(char, OsStr<'a, E>)>)
-    ensures first { IfSome result.0 (λ parts. E.units (bytes string.entry) ≡ E.units (encode_utf8 parts.0) ++ E.units (bytes parts.1)) }
-    ensures last { IfSome result.1 (λ parts. E.units (bytes string.entry) ≡ E.units (bytes parts.1) ++ E.units (encode_utf8 parts.0)) }
+    ensures first { IfSome result.0
+        (λ parts. E.units (bytes string.entry)
+        ≡ E.units (encode_utf8 parts.0) ++ E.units (bytes parts.1)) }
+    ensures last { IfSome result.1 (λ parts. E.units (bytes string.entry)
+        ≡ E.units (bytes parts.1) ++ E.units (encode_utf8 parts.0)) }
 {
     (string.split_first_char(), string.split_last_char())
 }
@@ -47,7 +51,8 @@ pub fn edges_in_units<'a, E: Platform + 'a>(
 /// The first character of a raw string: that of its bytes.
 pub fn raw_first<'a, E: Platform + 'a>(string: RawOsStr<'a, E>) -> Option<(char, RawOsStr<'a, E>)>
     ensures bytes { SplitsFirstChar raw_bytes (raw_bytes string.entry) result }
-    ensures units { IfSome result (λ parts. raw_units string.entry ≡ E.units (encode_utf8 parts.0) ++ raw_units parts.1) }
+    ensures units { IfSome result (λ parts. raw_units string.entry
+        ≡ E.units (encode_utf8 parts.0) ++ raw_units parts.1) }
 {
     string.split_first_char()
 }
@@ -55,7 +60,8 @@ pub fn raw_first<'a, E: Platform + 'a>(string: RawOsStr<'a, E>) -> Option<(char,
 /// The last character of a raw string: that of its bytes.
 pub fn raw_last<'a, E: Platform + 'a>(string: RawOsStr<'a, E>) -> Option<(char, RawOsStr<'a, E>)>
     ensures bytes { SplitsLastChar raw_bytes (raw_bytes string.entry) result }
-    ensures units { IfSome result (λ parts. raw_units string.entry ≡ raw_units parts.1 ++ E.units (encode_utf8 parts.0)) }
+    ensures units { IfSome result (λ parts. raw_units string.entry
+        ≡ raw_units parts.1 ++ E.units (encode_utf8 parts.0)) }
 {
     string.split_last_char()
 }

@@ -45,7 +45,8 @@ pub fn has_chunks(raw: &[u8])
 /// spells, each with the scalar values after it.
 pub fn runs<'a>(string: OsStr<'a, Windows>, code_points: &[u32]) -> Utf8Chunks<'a, Windows>
     requires { Spells (bytes string) code_points.now }
-    ensures { (runs : List Chunk) × (AreRuns code_points.now runs × (result ≡ map form_chunk runs)) }
+    ensures { (runs : List Chunk) × (AreRuns code_points.now runs
+        × (result ≡ map form_chunk runs)) }
 {
     wtf8_core::laws::chunks();
     string.utf8_chunks()

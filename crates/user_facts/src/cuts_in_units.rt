@@ -15,7 +15,9 @@ pub fn part_in_units<'a, E: Platform + 'a>(
     start: usize,
     end: usize,
 ) -> Option<OsStr<'a, E>>
-    ensures { IfSome result (λ part. E.units (bytes string.entry) ≡ E.units (take start (bytes string.entry)) ++ (E.units (bytes part) ++ E.units (drop end (bytes string.entry)))) }
+    ensures { IfSome result (λ part. E.units (bytes string.entry)
+        ≡ E.units (take start (bytes string.entry))
+        ++ (E.units (bytes part) ++ E.units (drop end (bytes string.entry)))) }
 {
     let range = start..end;
     if range.fits(string) {
@@ -30,7 +32,9 @@ pub fn unchecked_part_in_units<'a, E: Platform + 'a>(
     start: usize,
     end: usize,
 ) -> Option<OsStr<'a, E>>
-    ensures { IfSome result (λ part. E.units (bytes string.entry) ≡ E.units (take start (bytes string.entry)) ++ (E.units (bytes part) ++ E.units (drop end (bytes string.entry)))) }
+    ensures { IfSome result (λ part. E.units (bytes string.entry)
+        ≡ E.units (take start (bytes string.entry))
+        ++ (E.units (bytes part) ++ E.units (drop end (bytes string.entry)))) }
 {
     let range = start..end;
     if range.fits(string) {
@@ -45,7 +49,9 @@ pub fn raw_part_in_units<'a, E: Platform + 'a>(
     start: usize,
     end: usize,
 ) -> Option<RawOsStr<'a, E>>
-    ensures { IfSome result (λ part. E.units (raw_bytes string.entry) ≡ E.units (take start (raw_bytes string.entry)) ++ (E.units (raw_bytes part) ++ E.units (drop end (raw_bytes string.entry)))) }
+    ensures { IfSome result (λ part. E.units (raw_bytes string.entry)
+        ≡ E.units (take start (raw_bytes string.entry))
+        ++ (E.units (raw_bytes part) ++ E.units (drop end (raw_bytes string.entry)))) }
 {
     let range = start..end;
     if string.fits(&range) {
@@ -60,7 +66,9 @@ pub fn raw_unchecked_part_in_units<'a, E: Platform + 'a>(
     start: usize,
     end: usize,
 ) -> Option<RawOsStr<'a, E>>
-    ensures { IfSome result (λ part. E.units (raw_bytes string.entry) ≡ E.units (take start (raw_bytes string.entry)) ++ (E.units (raw_bytes part) ++ E.units (drop end (raw_bytes string.entry)))) }
+    ensures { IfSome result (λ part. E.units (raw_bytes string.entry)
+        ≡ E.units (take start (raw_bytes string.entry))
+        ++ (E.units (raw_bytes part) ++ E.units (drop end (raw_bytes string.entry)))) }
 {
     let range = start..end;
     if string.fits(&range) {
@@ -75,7 +83,8 @@ pub fn taken_off_in_units<E: Platform, A: Allocator + Clone>(
     at: usize,
 ) -> Result<RawOsString<E, A>, AllocError>
     requires { IsBoundary (raw_vec_of string.old).items at }
-    ensures { IfOk result (λ back. E.units (raw_vec_of string.old).items ≡ E.units (raw_vec_of string.new).items ++ E.units (raw_vec_of back).items) }
+    ensures { IfOk result (λ back. E.units (raw_vec_of string.old).items
+        ≡ E.units (raw_vec_of string.new).items ++ E.units (raw_vec_of back).items) }
 {
     string.split_off(at)
 }
@@ -83,7 +92,8 @@ pub fn taken_off_in_units<E: Platform, A: Allocator + Clone>(
 /// The start of an owned raw string up to an index, and nothing else of it.
 pub fn cut_to_in_units<E: Platform, A: Allocator>(string: &mut RawOsString<E, A>, at: usize)
     requires { IsBoundary (raw_vec_of string.old).items at }
-    ensures { E.units (raw_vec_of string.old).items ≡ E.units (raw_vec_of string.new).items ++ E.units (drop at (raw_vec_of string.old).items) }
+    ensures { E.units (raw_vec_of string.old).items
+        ≡ E.units (raw_vec_of string.new).items ++ E.units (drop at (raw_vec_of string.old).items) }
 {
     string.truncate(at);
 }
@@ -94,8 +104,10 @@ pub fn cut_and_joined<E: Platform, A: Allocator + Clone>(
     at: usize,
 ) -> Result<OsString<E, A>, AllocError>
     requires { IsBoundary (raw_vec_of string).items at }
-    ensures units { IfOk result (λ joined. E.units (string_vec_of joined).items ≡ E.units (raw_vec_of string).items) }
-    ensures bytes { IfOk result (λ joined. (string_vec_of joined).items ≡ (raw_vec_of string).items) }
+    ensures units { IfOk result (λ joined. E.units (string_vec_of joined).items
+        ≡ E.units (raw_vec_of string).items) }
+    ensures bytes { IfOk result (λ joined. (string_vec_of joined).items
+        ≡ (raw_vec_of string).items) }
 {
     laws::spelling::<E>();
     let mut front = string;

@@ -51,7 +51,8 @@ pub fn bad_place_says<E: Platform, A: Allocator>(
     at: usize,
 ) -> Result<OsString<E, A>, QuoteError>
     requires { IsBadEscape text.now at }
-    ensures { IsErrAnd result (λ error. (error ≡ QuoteError.BadEscape at) ⊎ (error ≡ QuoteError.Memory)) }
+    ensures { IsErrAnd result (λ error. (error ≡ QuoteError.BadEscape at)
+        ⊎ (error ≡ QuoteError.Memory)) }
 {
     laws::bad_escapes::<E>();
     unescape(alloc, text)

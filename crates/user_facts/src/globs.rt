@@ -40,7 +40,8 @@ pub fn match_by_text<'a, E: Platform + 'a>(
     options: GlobOptions,
     symbols: &Symbols<'a, E>,
 ) -> Result<bool, GlobError>
-    ensures { MatchResult result (λ matched. IsTrue matched ↔ IsMatch options pattern.now symbols.now) (λ error. IsFirstFault pattern.now error) }
+    ensures { MatchResult result (λ matched. IsTrue matched
+        ↔ IsMatch options pattern.now symbols.now) (λ error. IsFirstFault pattern.now error) }
 {
     let glob = Glob::new(pattern)?;
     Ok(match_left(&glob, options, symbols))

@@ -10,7 +10,8 @@ use std::hash::Hash;
 
 /// Whether two owned strings are equal: then a hasher is fed the same of both.
 pub fn owned_hash_alike<E: Platform, A: Allocator>(a: &OsString<E, A>, b: &OsString<E, A>) -> bool
-    ensures { IsTrue result → ⟦<OsString<E, A> as Hash>⟧.hash_input a.now ≡ ⟦<OsString<E, A> as Hash>⟧.hash_input b.now }
+    ensures { IsTrue result → ⟦<OsString<E, A> as Hash>⟧.hash_input a.now
+        ≡ ⟦<OsString<E, A> as Hash>⟧.hash_input b.now }
 {
     laws::owned_comparisons(a, b);
     laws::owned_comparisons(b, a);
@@ -19,7 +20,8 @@ pub fn owned_hash_alike<E: Platform, A: Allocator>(a: &OsString<E, A>, b: &OsStr
 
 /// The same of raw strings.
 pub fn raw_hash_alike<'a, E: Platform + 'a>(a: RawOsStr<'a, E>, b: RawOsStr<'a, E>) -> bool
-    ensures { IsTrue result → ⟦<RawOsStr<'a, E> as Hash>⟧.hash_input a.entry ≡ ⟦<RawOsStr<'a, E> as Hash>⟧.hash_input b.entry }
+    ensures { IsTrue result → ⟦<RawOsStr<'a, E> as Hash>⟧.hash_input a.entry
+        ≡ ⟦<RawOsStr<'a, E> as Hash>⟧.hash_input b.entry }
 {
     laws::raw_comparisons(&a, &b);
     laws::raw_comparisons(&b, &a);
@@ -31,7 +33,8 @@ pub fn owned_raw_hash_alike<E: Platform, A: Allocator>(
     a: &RawOsString<E, A>,
     b: &RawOsString<E, A>,
 ) -> bool
-    ensures { IsTrue result → ⟦<RawOsString<E, A> as Hash>⟧.hash_input a.now ≡ ⟦<RawOsString<E, A> as Hash>⟧.hash_input b.now }
+    ensures { IsTrue result → ⟦<RawOsString<E, A> as Hash>⟧.hash_input a.now
+        ≡ ⟦<RawOsString<E, A> as Hash>⟧.hash_input b.now }
 {
     laws::raw_owned_comparisons(a, b);
     laws::raw_owned_comparisons(b, a);

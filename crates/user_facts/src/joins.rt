@@ -9,7 +9,8 @@ use std::alloc::{AllocError, Allocator, Global};
 /// Two strings, of which there is a join.
 pub fn has_join<'a, E: Platform + 'a>(a: OsStr<'a, E>, b: OsStr<'a, E>) -> OsStr<'a, E>
     ensures same { bytes result ≡ bytes a.entry }
-    ensures some { (joined : List ℕ) × IsJoin E.well_formed E.units (bytes a.entry) (bytes b.entry) joined }
+    ensures some { (joined : List ℕ)
+        × IsJoin E.well_formed E.units (bytes a.entry) (bytes b.entry) joined }
 {
     laws::joins::<E>();
     a
@@ -23,7 +24,8 @@ pub fn pushed_alike<E: Platform, A: Allocator>(
 ) -> Result<(), AllocError>
     requires { (string_vec_of a.old).items ≡ (string_vec_of b.old).items }
     ensures alike { OnOk result ((string_vec_of a.new).items ≡ (string_vec_of b.new).items) }
-    ensures units { OnOk result (E.units (string_vec_of a.new).items ≡ E.units (string_vec_of a.old).items ++ E.units (bytes more.entry)) }
+    ensures units { OnOk result (E.units (string_vec_of a.new).items
+        ≡ E.units (string_vec_of a.old).items ++ E.units (bytes more.entry)) }
 {
     laws::joins::<E>();
     a.push(more)?;
@@ -37,8 +39,10 @@ pub fn joined_either_way<'a, E: Platform + 'a>(
     b: OsStr<'a, E>,
     c: OsStr<'a, E>,
 ) -> Result<(OsString<E>, OsString<E>), AllocError>
-    ensures alike { IfOk result (λ both. (string_vec_of both.0).items ≡ (string_vec_of both.1).items) }
-    ensures units { IfOk result (λ both. E.units (string_vec_of both.0).items ≡ E.units (bytes a.entry) ++ E.units (bytes b.entry) ++ E.units (bytes c.entry)) }
+    ensures alike { IfOk result (λ both. (string_vec_of both.0).items
+        ≡ (string_vec_of both.1).items) }
+    ensures units { IfOk result (λ both. E.units (string_vec_of both.0).items
+        ≡ E.units (bytes a.entry) ++ E.units (bytes b.entry) ++ E.units (bytes c.entry)) }
 {
     laws::joins::<E>();
     let mut first = a.to_owned(alloc)?;
@@ -54,7 +58,9 @@ pub fn joined_either_way<'a, E: Platform + 'a>(
 /// Whether a string starts with another: exactly where it is the join of that one and some
 /// string.
 pub fn starts_as_joined<'a, E: Platform + 'a>(string: OsStr<'a, E>, front: OsStr<'a, E>) -> bool
-    ensures { IsTrue result ↔ ((rest : List ℕ) × (E.well_formed rest × IsJoin E.well_formed E.units (bytes front.entry) rest (bytes string.entry))) }
+    ensures { IsTrue result ↔ ((rest : List ℕ)
+        × (E.well_formed rest × IsJoin E.well_formed E.units (bytes front.entry) rest
+        (bytes string.entry))) }
 {
     laws::joins::<E>();
     E::starts_with_os(string.as_encoded_bytes(), front.as_encoded_bytes())

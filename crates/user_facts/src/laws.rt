@@ -53,7 +53,8 @@ pub fn fault_of_text(valid_up_to: usize, error_len: Option<u8>) -> EncodingError
 
 /// Whether two strings are equal: then a hasher is fed the same of both.
 pub fn hash_alike<'a, E: Platform + 'a>(a: OsStr<'a, E>, b: OsStr<'a, E>) -> bool
-    ensures { IsTrue result → ⟦<OsStr<'a, E> as Hash>⟧.hash_input a.entry ≡ ⟦<OsStr<'a, E> as Hash>⟧.hash_input b.entry }
+    ensures { IsTrue result → ⟦<OsStr<'a, E> as Hash>⟧.hash_input a.entry
+        ≡ ⟦<OsStr<'a, E> as Hash>⟧.hash_input b.entry }
 {
     laws::comparisons(&a, &b);
     a == b

@@ -56,7 +56,8 @@ pub fn bad_line_place_says<E: Platform, A: Allocator>(
     at: usize,
 ) -> Result<OsString<E, A>, QuoteError>
     requires { IsBadLineEscape text.now at }
-    ensures { IsErrAnd result (λ error. (error ≡ QuoteError.BadEscape at) ⊎ (error ≡ QuoteError.Memory)) }
+    ensures { IsErrAnd result (λ error. (error ≡ QuoteError.BadEscape at)
+        ⊎ (error ≡ QuoteError.Memory)) }
 {
     laws::line_escapes::<E>();
     unescape_line(alloc, text)

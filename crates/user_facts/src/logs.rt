@@ -10,21 +10,25 @@ use std::fmt::{Display, Write as _};
 
 /// Writes a line with the escape of a Unix string at the end of a log.
 pub fn log_escaped(log: &mut String, string: OsStr<'_, Unix>) -> Result<(), AllocError>
-    ensures { OnOk result ((text : List ℕ) × (IsEscape (λ b. b) (bytes string.entry) text × (string_bytes log.new ≡ string_bytes log.old ++ (text ++ 0x0A ∷ [])))) }
+    ensures { OnOk result ((text : List ℕ)
+        × (IsEscape (λ b. b) (bytes string.entry) text
+        × (string_bytes log.new ≡ string_bytes log.old ++ (text ++ 0x0A ∷ [])))) }
 {
     writeln!(log, "{}", escaped(string))
 }
 
 /// Writes the lossy text of a Windows string at the end of a log.
 pub fn log_shown(log: &mut String, string: OsStr<'_, Windows>) -> Result<(), AllocError>
-    ensures { OnOk result (string_bytes log.new ≡ string_bytes log.old ++ ⟦<Windows as Platform>⟧.lossy (bytes string.entry)) }
+    ensures { OnOk result (string_bytes log.new
+        ≡ string_bytes log.old ++ ⟦<Windows as Platform>⟧.lossy (bytes string.entry)) }
 {
     write!(log, "{}", string.display())
 }
 
 /// Writes a line with what `{}` writes of a value at the end of a log.
 pub fn log_line<D: Display, A: Allocator>(log: &mut String<A>, shown: &D) -> Result<(), AllocError>
-    ensures { OnOk result (IfSome (D.output shown.now) (λ text. string_bytes log.new ≡ string_bytes log.old ++ (text ++ 0x0A ∷ []))) }
+    ensures { OnOk result (IfSome (D.output shown.now)
+        (λ text. string_bytes log.new ≡ string_bytes log.old ++ (text ++ 0x0A ∷ []))) }
 {
     writeln!(log, "{shown}")
 }

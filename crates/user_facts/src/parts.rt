@@ -14,7 +14,8 @@ pub fn halves<'a, E: Platform + 'a>(
 ) -> Option<(OsStr<'a, E>, OsStr<'a, E>)>
     ensures cut { IsSome result ↔ IsBoundary (bytes string.entry) at }
     ensures joined { IfSome result (λ parts. bytes parts.0 ++ bytes parts.1 ≡ bytes string.entry) }
-    ensures units { IfSome result (λ parts. E.units (bytes parts.0) ++ E.units (bytes parts.1) ≡ E.units (bytes string.entry)) }
+    ensures units { IfSome result (λ parts. E.units (bytes parts.0) ++ E.units (bytes parts.1)
+        ≡ E.units (bytes string.entry)) }
 {
     if string.is_boundary(at) {
         return Some(string.split_at(at));
@@ -28,9 +29,12 @@ pub fn three_parts<'a, E: Platform + 'a>(
     start: usize,
     end: usize,
 ) -> Option<(OsStr<'a, E>, OsStr<'a, E>, OsStr<'a, E>)>
-    ensures cut { IsSome result ↔ ((start ≤ end) × IsBoundary (bytes string.entry) start × IsBoundary (bytes string.entry) end) }
-    ensures joined { IfSome result (λ parts. bytes parts.0 ++ (bytes parts.1 ++ bytes parts.2) ≡ bytes string.entry) }
-    ensures units { IfSome result (λ parts. E.units (bytes parts.0) ++ (E.units (bytes parts.1) ++ E.units (bytes parts.2)) ≡ E.units (bytes string.entry)) }
+    ensures cut { IsSome result ↔ ((start ≤ end) × IsBoundary (bytes string.entry) start
+        × IsBoundary (bytes string.entry) end) }
+    ensures joined { IfSome result (λ parts. bytes parts.0 ++ (bytes parts.1 ++ bytes parts.2)
+        ≡ bytes string.entry) }
+    ensures units { IfSome result (λ parts. E.units (bytes parts.0)
+        ++ (E.units (bytes parts.1) ++ E.units (bytes parts.2)) ≡ E.units (bytes string.entry)) }
 {
     if start <= end && string.is_boundary(start) && string.is_boundary(end) {
         wtf8_core::laws::boundaries();
@@ -47,8 +51,10 @@ pub fn three_parts_from_the_end<'a, E: Platform + 'a>(
     start: usize,
     end: usize,
 ) -> Option<(OsStr<'a, E>, OsStr<'a, E>, OsStr<'a, E>)>
-    ensures joined { IfSome result (λ parts. bytes parts.0 ++ bytes parts.1 ++ bytes parts.2 ≡ bytes string.entry) }
-    ensures units { IfSome result (λ parts. E.units (bytes parts.0) ++ E.units (bytes parts.1) ++ E.units (bytes parts.2) ≡ E.units (bytes string.entry)) }
+    ensures joined { IfSome result (λ parts. bytes parts.0 ++ bytes parts.1 ++ bytes parts.2
+        ≡ bytes string.entry) }
+    ensures units { IfSome result (λ parts. E.units (bytes parts.0) ++ E.units (bytes parts.1)
+        ++ E.units (bytes parts.2) ≡ E.units (bytes string.entry)) }
 {
     if start <= end && string.is_boundary(start) && string.is_boundary(end) {
         wtf8_core::laws::boundaries();

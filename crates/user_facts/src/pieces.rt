@@ -35,7 +35,8 @@ pub fn pieces_joined<'a, E: Platform + 'a>(
 ) -> Split<'a, E, &'a str>
     requires { 0 < length text.now }
     ensures bytes { join_by (λ piece. piece) text.now result ≡ bytes string.entry }
-    ensures units { join_by (λ piece. piece) (E.units text.now) (map E.units result) ≡ E.units (bytes string.entry) }
+    ensures units { join_by (λ piece. piece) (E.units text.now) (map E.units result)
+        ≡ E.units (bytes string.entry) }
 {
     string.split(text)
 }
@@ -48,7 +49,8 @@ pub fn pieces_joined_from_the_end<'a, E: Platform + 'a>(
 ) -> RSplit<'a, E, &'a str>
     requires { 0 < length text.now }
     ensures bytes { join_by (λ piece. piece) text.now (reverse result) ≡ bytes string.entry }
-    ensures units { join_by (λ piece. piece) (E.units text.now) (reverse (map E.units result)) ≡ E.units (bytes string.entry) }
+    ensures units { join_by (λ piece. piece) (E.units text.now) (reverse (map E.units result))
+        ≡ E.units (bytes string.entry) }
 {
     string.rsplit(text)
 }

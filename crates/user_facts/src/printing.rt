@@ -15,7 +15,9 @@ pub fn print<'a, E: Platform + 'a, W: fmt::Write>(
     string: OsStr<'a, E>,
     f: &mut fmt::Formatter<W>,
 ) -> fmt::Result
-    ensures { WritesStyledOnOk W.write_str_gives f.old result (filled (spec_fill (formatter_spec f.old)) (spec_align (formatter_spec f.old)) (spec_width (formatter_spec f.old)) (E.lossy (bytes string.entry))) f.new }
+    ensures { WritesStyledOnOk W.write_str_gives f.old result
+        (filled (spec_fill (formatter_spec f.old)) (spec_align (formatter_spec f.old))
+        (spec_width (formatter_spec f.old)) (E.lossy (bytes string.entry))) f.new }
 {
     let shown_of_string = string.display();
     shown_of_string.fmt(f)
@@ -26,7 +28,9 @@ pub fn print_path<'a, E: Platform + 'a, W: fmt::Write>(
     path: Path<'a, E>,
     f: &mut fmt::Formatter<W>,
 ) -> fmt::Result
-    ensures { WritesStyledOnOk W.write_str_gives f.old result (filled (spec_fill (formatter_spec f.old)) (spec_align (formatter_spec f.old)) (spec_width (formatter_spec f.old)) (E.lossy (path_bytes path.entry))) f.new }
+    ensures { WritesStyledOnOk W.write_str_gives f.old result
+        (filled (spec_fill (formatter_spec f.old)) (spec_align (formatter_spec f.old))
+        (spec_width (formatter_spec f.old)) (E.lossy (path_bytes path.entry))) f.new }
 {
     let shown = path.display();
     shown.fmt(f)
@@ -37,7 +41,9 @@ pub fn print_raw<'a, E: Platform + 'a, W: fmt::Write>(
     raw: RawOsStr<'a, E>,
     f: &mut fmt::Formatter<W>,
 ) -> fmt::Result
-    ensures { WritesStyledOnOk W.write_str_gives f.old result (filled (spec_fill (formatter_spec f.old)) (spec_align (formatter_spec f.old)) (spec_width (formatter_spec f.old)) (E.lossy (raw_bytes raw.entry))) f.new }
+    ensures { WritesStyledOnOk W.write_str_gives f.old result
+        (filled (spec_fill (formatter_spec f.old)) (spec_align (formatter_spec f.old))
+        (spec_width (formatter_spec f.old)) (E.lossy (raw_bytes raw.entry))) f.new }
 {
     let shown = raw.display();
     shown.fmt(f)

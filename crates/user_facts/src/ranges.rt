@@ -12,7 +12,8 @@ pub fn between<'a, E: Platform + 'a>(
     start: usize,
     end: usize,
 ) -> Option<OsStr<'a, E>>
-    ensures { MatchOption result (¬ (FitsIn (bytes string.entry) start end)) (λ part. bytes part ≡ drop start (take end (bytes string.entry))) }
+    ensures { MatchOption result (¬ (FitsIn (bytes string.entry) start end))
+        (λ part. bytes part ≡ drop start (take end (bytes string.entry))) }
 {
     let range = start..end;
     if range.fits(string) {
@@ -27,7 +28,8 @@ pub fn between_inclusive<'a, E: Platform + 'a>(
     start: usize,
     last: usize,
 ) -> Option<OsStr<'a, E>>
-    ensures { MatchOption result (¬ (FitsIn (bytes string.entry) start (last + 1))) (λ part. bytes part ≡ drop start (take (last + 1) (bytes string.entry))) }
+    ensures { MatchOption result (¬ (FitsIn (bytes string.entry) start (last + 1)))
+        (λ part. bytes part ≡ drop start (take (last + 1) (bytes string.entry))) }
 {
     let range = start..=last;
     if range.fits(string) {
@@ -38,7 +40,9 @@ pub fn between_inclusive<'a, E: Platform + 'a>(
 
 /// The part in `start..`.
 pub fn from<'a, E: Platform + 'a>(string: OsStr<'a, E>, start: usize) -> Option<OsStr<'a, E>>
-    ensures { MatchOption result (¬ (FitsIn (bytes string.entry) start (length (bytes string.entry)))) (λ part. bytes part ≡ drop start (bytes string.entry)) }
+    ensures { MatchOption result (¬
+        (FitsIn (bytes string.entry) start (length (bytes string.entry))))
+        (λ part. bytes part ≡ drop start (bytes string.entry)) }
 {
     let range = start..;
     if range.fits(string) {
@@ -49,7 +53,8 @@ pub fn from<'a, E: Platform + 'a>(string: OsStr<'a, E>, start: usize) -> Option<
 
 /// The part in `..end`.
 pub fn to<'a, E: Platform + 'a>(string: OsStr<'a, E>, end: usize) -> Option<OsStr<'a, E>>
-    ensures { MatchOption result (¬ (FitsIn (bytes string.entry) 0 end)) (λ part. bytes part ≡ take end (bytes string.entry)) }
+    ensures { MatchOption result (¬ (FitsIn (bytes string.entry) 0 end))
+        (λ part. bytes part ≡ take end (bytes string.entry)) }
 {
     let range = ..end;
     if range.fits(string) {
@@ -60,7 +65,8 @@ pub fn to<'a, E: Platform + 'a>(string: OsStr<'a, E>, end: usize) -> Option<OsSt
 
 /// The part in `..=last`.
 pub fn to_inclusive<'a, E: Platform + 'a>(string: OsStr<'a, E>, last: usize) -> Option<OsStr<'a, E>>
-    ensures { MatchOption result (¬ (FitsIn (bytes string.entry) 0 (last + 1))) (λ part. bytes part ≡ take (last + 1) (bytes string.entry)) }
+    ensures { MatchOption result (¬ (FitsIn (bytes string.entry) 0 (last + 1)))
+        (λ part. bytes part ≡ take (last + 1) (bytes string.entry)) }
 {
     let range = ..=last;
     if range.fits(string) {

@@ -77,9 +77,13 @@ pub fn taken_off<E: Platform, A: Allocator + Clone>(
     at: usize,
 ) -> Result<Option<RawOsString<E, A>>, AllocError>
     ensures cut { IfOk result (λ end. IsSome end ↔ IsBoundary (raw_vec_of string.old).items at) }
-    ensures joined { IfOk result (λ end. IfSome end (λ end. (raw_vec_of string.new).items ++ (raw_vec_of end).items ≡ (raw_vec_of string.old).items)) }
-    ensures place { IfOk result (λ end. IfSome end (λ _. (raw_vec_of string.new).items ≡ take at (raw_vec_of string.old).items)) }
-    ensures unchanged { OnErr result ((raw_vec_of string.new).items ≡ (raw_vec_of string.old).items) }
+    ensures joined { IfOk result (λ end. IfSome end
+        (λ end. (raw_vec_of string.new).items ++ (raw_vec_of end).items
+        ≡ (raw_vec_of string.old).items)) }
+    ensures place { IfOk result (λ end. IfSome end
+        (λ _. (raw_vec_of string.new).items ≡ take at (raw_vec_of string.old).items)) }
+    ensures unchanged { OnErr result ((raw_vec_of string.new).items
+        ≡ (raw_vec_of string.old).items) }
 {
     if !string.is_boundary(at) {
         return Ok(None);
@@ -90,7 +94,8 @@ pub fn taken_off<E: Platform, A: Allocator + Clone>(
 /// The start of a string up to an index, if it may be cut there, and nothing else of it.
 pub fn cut_to<E: Platform, A: Allocator>(string: &mut RawOsString<E, A>, at: usize) -> bool
     ensures cut { IsTrue result ↔ IsBoundary (raw_vec_of string.old).items at }
-    ensures start { IsTrue result → (raw_vec_of string.new).items ≡ take at (raw_vec_of string.old).items }
+    ensures start { IsTrue result → (raw_vec_of string.new).items
+        ≡ take at (raw_vec_of string.old).items }
     ensures room { vec_capacity (raw_vec_of string.new) ≡ vec_capacity (raw_vec_of string.old) }
 {
     if !string.is_boundary(at) {
@@ -111,7 +116,8 @@ pub fn cleared<E: Platform, A: Allocator>(string: &mut RawOsString<E, A>) -> boo
 
 /// Whether a string fills its memory once it was shrunk; the string is the same.
 pub fn fills<E: Platform, A: Allocator>(string: &mut RawOsString<E, A>) -> bool
-    ensures full { IsTrue result ↔ (vec_len (raw_vec_of string.new) ≡ vec_capacity (raw_vec_of string.new)) }
+    ensures full { IsTrue result ↔ (vec_len (raw_vec_of string.new)
+        ≡ vec_capacity (raw_vec_of string.new)) }
     ensures same { (raw_vec_of string.new).items ≡ (raw_vec_of string.old).items }
 {
     string.shrink_to_fit().is_ok()

@@ -13,7 +13,8 @@ pub fn raw_part<'a, E: Platform + 'a, I: SliceIndex + Drop>(
 ) -> Option<RawOsStr<'a, E>>
     ensures { MatchOption result
         (¬ (FitsIn (raw_bytes string.entry) (I.first_place range) (I.end_place range (length (raw_bytes string.entry)))))
-        (λ part. raw_bytes part ≡ drop (I.first_place range) (take (I.end_place range (length (raw_bytes string.entry))) (raw_bytes string.entry))) }
+        (λ part. raw_bytes part ≡ drop (I.first_place range)
+        (take (I.end_place range (length (raw_bytes string.entry))) (raw_bytes string.entry))) }
 {
     if string.fits(&range) {
         return Some(string.index(range));
@@ -27,7 +28,8 @@ pub fn raw_part_unchecked<'a, E: Platform + 'a>(
     start: usize,
     end: usize,
 ) -> Option<RawOsStr<'a, E>>
-    ensures { MatchOption result (¬ (FitsIn (raw_bytes string.entry) start end)) (λ part. raw_bytes part ≡ drop start (take end (raw_bytes string.entry))) }
+    ensures { MatchOption result (¬ (FitsIn (raw_bytes string.entry) start end))
+        (λ part. raw_bytes part ≡ drop start (take end (raw_bytes string.entry))) }
 {
     let range = start..end;
     if string.fits(&range) {
@@ -42,7 +44,8 @@ pub fn part_unchecked<'a, E: Platform + 'a>(
     start: usize,
     end: usize,
 ) -> Option<OsStr<'a, E>>
-    ensures { MatchOption result (¬ (FitsIn (bytes string.entry) start end)) (λ part. bytes part ≡ drop start (take end (bytes string.entry))) }
+    ensures { MatchOption result (¬ (FitsIn (bytes string.entry) start end))
+        (λ part. bytes part ≡ drop start (take end (bytes string.entry))) }
 {
     let range = start..end;
     if range.fits(string) {
@@ -57,7 +60,8 @@ pub fn raw_halves<'a, E: Platform + 'a>(
     string: RawOsStr<'a, E>,
     at: usize,
 ) -> Option<(RawOsStr<'a, E>, RawOsStr<'a, E>)>
-    ensures { IfSome result (λ parts. raw_bytes parts.0 ++ raw_bytes parts.1 ≡ raw_bytes string.entry) }
+    ensures { IfSome result (λ parts. raw_bytes parts.0 ++ raw_bytes parts.1
+        ≡ raw_bytes string.entry) }
 {
     if string.is_boundary(at) {
         return Some(string.split_at(at));

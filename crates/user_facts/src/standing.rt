@@ -16,7 +16,8 @@ pub fn byte_place<'a, E: Platform + 'a>(
 ) -> OsStr<'a, E>
     requires some { 0 < length text.now }
     requires stands { StandsAt (E.units text.now) (E.units (bytes string)) unit_place }
-    ensures { (at : ℕ) × (IsBytePlace E.well_formed E.units (bytes result) unit_place at × StandsAt text.now (bytes result) at) }
+    ensures { (at : ℕ) × (IsBytePlace E.well_formed E.units (bytes result) unit_place at
+        × StandsAt text.now (bytes result) at) }
 {
     laws::standing::<E>();
     string
@@ -26,7 +27,8 @@ pub fn byte_place<'a, E: Platform + 'a>(
 pub fn unit_place<'a, E: Platform + 'a>(string: OsStr<'a, E>, text: &str, at: usize) -> OsStr<'a, E>
     requires some { 0 < length text.now }
     requires stands { StandsAt text.now (bytes string) at }
-    ensures { (i : ℕ) × (IsBytePlace E.well_formed E.units (bytes result) i at × StandsAt (E.units text.now) (E.units (bytes result)) i) }
+    ensures { (i : ℕ) × (IsBytePlace E.well_formed E.units (bytes result) i at
+        × StandsAt (E.units text.now) (E.units (bytes result)) i) }
 {
     laws::standing::<E>();
     string

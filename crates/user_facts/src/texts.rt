@@ -91,7 +91,8 @@ pub fn behind_first<'a, E: Platform + 'a>(string: OsStr<'a, E>) -> Option<OsStr<
 pub fn replaced<'a, E: Platform + 'a>(string: OsStr<'a, E>) -> usize
     requires some { 0 < length (bytes string) }
     requires bare { StartsBare (bytes string) }
-    ensures { E.lossy (bytes string.entry) ≡ replacement ++ E.lossy (drop result (bytes string.entry)) }
+    ensures { E.lossy (bytes string.entry)
+        ≡ replacement ++ E.lossy (drop result (bytes string.entry)) }
 {
     laws::lossy_texts::<E>();
     E::lossy_len(string.as_encoded_bytes())
@@ -119,7 +120,8 @@ pub fn lossy_behind<'a, E: Platform + 'a>(
     len: usize,
 ) -> Result<StrCow<'a>, AllocError>
     requires { IsValidUpTo (bytes string) len }
-    ensures { IfOk result (λ text. str_cow_bytes text ≡ take len (bytes string.entry) ++ E.lossy (drop len (bytes string.entry))) }
+    ensures { IfOk result (λ text. str_cow_bytes text
+        ≡ take len (bytes string.entry) ++ E.lossy (drop len (bytes string.entry))) }
 {
     laws::lossy_texts::<E>();
     string.to_string_lossy(alloc)

@@ -56,7 +56,8 @@ pub fn owned_order<E: Platform, A: Allocator>(
     a: &OsString<E, A>,
     b: &OsString<E, A>,
 ) -> (Ordering, Option<Ordering>)
-    ensures order { result.0 ≡ slice_cmp nat_cmp (string_vec_of a.now).items (string_vec_of b.now).items }
+    ensures order { result.0 ≡ slice_cmp nat_cmp (string_vec_of a.now).items
+        (string_vec_of b.now).items }
     ensures partial_order { result.1 ≡ Some result.0 }
 {
     laws::owned_comparisons(a, b);

@@ -9,7 +9,8 @@ use wtf8_core::{Checker, laws};
 
 /// The check of bytes that come in two pieces.
 pub fn check_in_two(first: &[u8], second: &[u8]) -> Result<(), EncodingError>
-    ensures { MatchResult result (λ _. IsWtf8 (first.now ++ second.now)) (λ fault. HasFirstFault (first.now ++ second.now) fault) }
+    ensures { MatchResult result (λ _. IsWtf8 (first.now ++ second.now))
+        (λ fault. HasFirstFault (first.now ++ second.now) fault) }
 {
     laws::fault_stays();
     let mut checker = Checker::new();
@@ -20,7 +21,8 @@ pub fn check_in_two(first: &[u8], second: &[u8]) -> Result<(), EncodingError>
 
 /// The check of a Windows string.
 pub fn check_windows(raw: &[u8]) -> Result<(), EncodingError>
-    ensures { MatchResult result (λ _. ⟦<Windows as Platform>⟧.well_formed raw.now) (λ fault. ⟦<Windows as Platform>⟧.first_fault raw.now fault) }
+    ensures { MatchResult result (λ _. ⟦<Windows as Platform>⟧.well_formed raw.now)
+        (λ fault. ⟦<Windows as Platform>⟧.first_fault raw.now fault) }
 {
     Windows::check(raw)
 }

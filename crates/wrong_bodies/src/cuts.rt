@@ -34,7 +34,8 @@ pub fn parts_at<'a, E: Platform + 'a>(
     string: OsStr<'a, E>,
     at: usize,
 ) -> Option<(OsStr<'a, E>, OsStr<'a, E>)>
-    ensures { IfSome result (λ parts. (bytes parts.0 ≡ take at (bytes string.entry)) × (bytes parts.1 ≡ drop at (bytes string.entry))) }
+    ensures { IfSome result (λ parts. (bytes parts.0 ≡ take at (bytes string.entry))
+        × (bytes parts.1 ≡ drop at (bytes string.entry))) }
 {
     if string.is_boundary(at) {
         return Some(string.split_at(at));
@@ -44,7 +45,8 @@ pub fn parts_at<'a, E: Platform + 'a>(
 
 /// Cuts an owned string off at an index, where that is a boundary.
 pub fn cut_off<E: Platform, A: Allocator>(string: &mut RawOsString<E, A>, at: usize)
-    ensures { IsBoundary (raw_vec_of string.old).items at → (raw_vec_of string.new).items ≡ take at (raw_vec_of string.old).items }
+    ensures { IsBoundary (raw_vec_of string.old).items at
+        → (raw_vec_of string.new).items ≡ take at (raw_vec_of string.old).items }
 {
     if string.is_boundary(at) {
         string.truncate(at);

@@ -32,7 +32,8 @@ pub fn unescape_line<E: Platform, A: Allocator>(
     alloc: A,
     text: &str,
 ) -> Result<OsString<E, A>, QuoteError>
-    ensures string { IfOk result (λ string. IsLineEscape E.units (string_vec_of string).items text.now) }
+    ensures string { IfOk result (λ string. IsLineEscape E.units (string_vec_of string).items
+        text.now) }
     ensures fault { IfErr result (λ fault. IsLineFault E.well_formed E.units text.now fault) }
 {
     os_quote::unescape_line(alloc, text)

@@ -11,7 +11,8 @@ pub fn twice<'a, E: Platform + 'a, A: Allocator>(
     alloc: A,
     string: OsStr<'a, E>,
 ) -> Result<OsString<E, A>, AllocError>
-    ensures { IfOk result (λ made. E.units (string_vec_of made).items ≡ E.units (bytes string.entry) ++ E.units (bytes string.entry)) }
+    ensures { IfOk result (λ made. E.units (string_vec_of made).items
+        ≡ E.units (bytes string.entry) ++ E.units (bytes string.entry)) }
 {
     string.repeat(alloc, 2)
 }

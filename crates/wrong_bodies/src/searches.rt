@@ -11,7 +11,8 @@ use platform_str::{OsStr, Platform};
 /// The first index of a text.
 pub fn find<'a, E: Platform + 'a>(string: OsStr<'a, E>, text: &str) -> Option<usize>
     ensures bytes { Finds IsLeastPlace text.now (bytes string.entry) result }
-    ensures units { FindsInUnits IsLeastPlace E.well_formed E.units text.now (bytes string.entry) result }
+    ensures units { FindsInUnits IsLeastPlace E.well_formed E.units text.now (bytes string.entry)
+        result }
 {
     string.find(text)
 }

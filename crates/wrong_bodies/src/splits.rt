@@ -13,7 +13,8 @@ pub fn pieces<'a, E: Platform + 'a>(
     string: OsStr<'a, E>,
     text: &'a str,
 ) -> Option<Split<'a, E, &'a str>>
-    ensures { MatchOption result (length text.now ≡ 0) (λ pieces. IsSplit text.now (bytes string.entry) pieces) }
+    ensures { MatchOption result (length text.now ≡ 0)
+        (λ pieces. IsSplit text.now (bytes string.entry) pieces) }
 {
     if text.is_empty() {
         return None;
@@ -25,7 +26,8 @@ pub fn pieces<'a, E: Platform + 'a>(
 pub fn two_pieces<'a, E: Platform + 'a>(
     pieces: &mut Split<'a, E, &'a str>,
 ) -> (Option<OsStr<'a, E>>, Option<OsStr<'a, E>>)
-    ensures { (first : List ℕ) → (second : List ℕ) → (rest : List (List ℕ)) → pieces.old ≡ first ∷ second ∷ rest → option_map bytes result.1 ≡ Some second }
+    ensures { (first : List ℕ) → (second : List ℕ) → (rest : List (List ℕ))
+        → pieces.old ≡ first ∷ second ∷ rest → option_map bytes result.1 ≡ Some second }
 {
     let first = pieces.next();
     let second = pieces.next();
@@ -36,7 +38,8 @@ pub fn two_pieces<'a, E: Platform + 'a>(
 #[tactic(auto, using(crate::proofs::LastPiece::behind_greatest))]
 pub fn last_piece<'a, E: Platform + 'a>(string: OsStr<'a, E>, text: &'a str) -> Option<OsStr<'a, E>>
     requires { 0 < length text.now }
-    ensures { (at : ℕ) → IsGreatestPlace text.now (bytes string.entry) at → IfSome result (λ piece. bytes piece ≡ drop (at + length text.now) (bytes string.entry)) }
+    ensures { (at : ℕ) → IsGreatestPlace text.now (bytes string.entry) at
+        → IfSome result (λ piece. bytes piece ≡ drop (at + length text.now) (bytes string.entry)) }
 {
     let mut pieces = string.rsplit(text);
     pieces.next()

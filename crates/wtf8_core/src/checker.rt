@@ -87,8 +87,11 @@ impl Checker {
     /// assert_eq!(rt; halves.feed(b"\xED\xB0\x80"), Err(EncodingError::CodePoint(0xDC00)));
     /// ```
     pub fn feed(&mut self, piece: &[u8]) -> Result<(), EncodingError>
-        ensures stands { (fed : List ℕ) → StandsFor self.old fed → StandsFor self.new (fed ++ piece.now) }
-        ensures answer { (fed : List ℕ) → StandsFor self.old fed → MatchResult result (λ _. OnlyEnds (fed ++ piece.now)) (λ fault. IsFaulty (fed ++ piece.now) fault) }
+        ensures stands { (fed : List ℕ) → StandsFor self.old fed
+            → StandsFor self.new (fed ++ piece.now) }
+        ensures answer { (fed : List ℕ) → StandsFor self.old fed
+            → MatchResult result (λ _. OnlyEnds (fed ++ piece.now))
+            (λ fault. IsFaulty (fed ++ piece.now) fault) }
     {
         if let Some(fault) = self.fault {
             return Err(fault);
@@ -118,7 +121,8 @@ impl Checker {
     /// assert_eq!(rt; checker.finish(), Err(EncodingError::End));
     /// ```
     pub fn finish(self) -> Result<(), EncodingError>
-        ensures { (fed : List ℕ) → StandsFor self fed → MatchResult result (λ _. IsWtf8 fed) (λ fault. HasFirstFault fed fault) }
+        ensures { (fed : List ℕ) → StandsFor self fed
+            → MatchResult result (λ _. IsWtf8 fed) (λ fault. HasFirstFault fed fault) }
     {
         if let Some(fault) = self.fault {
             return Err(fault);
@@ -164,7 +168,8 @@ impl Checker {
     /// assert!(rt; Checker::restore(Checker::new().save()).is_some());
     /// ```
     pub fn restore(saved: SavedChecker) -> Option<Checker>
-        ensures { MatchOption result (16 ≤ saved.state) (λ checker. checker ≡ saved_progress saved) }
+        ensures { MatchOption result (16 ≤ saved.state)
+            (λ checker. checker ≡ saved_progress saved) }
     {
         let state = state_at(saved.state)?;
         Some(Checker {
@@ -217,7 +222,9 @@ fn is_plain(state: State) -> bool
 /// The state and the bits after one more byte, or its fault.
 #[inline(always)]
 fn read_byte(state: State, bits: u32, byte: u8) -> Result<(State, u32), EncodingError>
-    ensures { (fed : List ℕ) → Stands state bits fed → MatchResult result (λ r. Stands r.0 r.1 (fed ++ byte ∷ [])) (λ fault. IsFaulty (fed ++ byte ∷ []) fault) }
+    ensures { (fed : List ℕ) → Stands state bits fed
+        → MatchResult result (λ r. Stands r.0 r.1 (fed ++ byte ∷ []))
+        (λ fault. IsFaulty (fed ++ byte ∷ []) fault) }
 {
     let next = next_at(state, class_at(byte));
     let joined = joined_bits(bits, byte);
@@ -230,7 +237,9 @@ fn read_byte(state: State, bits: u32, byte: u8) -> Result<(State, u32), Encoding
 /// The same after more bytes, read one by one.
 #[inline(always)]
 fn read_bytes(state: State, bits: u32, bytes: &[u8]) -> Result<(State, u32), EncodingError>
-    ensures { (fed : List ℕ) → Stands state bits fed → MatchResult result (λ r. Stands r.0 r.1 (fed ++ bytes.now)) (λ fault. IsFaulty (fed ++ bytes.now) fault) }
+    ensures { (fed : List ℕ) → Stands state bits fed
+        → MatchResult result (λ r. Stands r.0 r.1 (fed ++ bytes.now))
+        (λ fault. IsFaulty (fed ++ bytes.now) fault) }
 {
     let mut state = state;
     let mut bits = bits;
@@ -250,7 +259,9 @@ fn read_bytes(state: State, bits: u32, bytes: &[u8]) -> Result<(State, u32), Enc
 /// WTF-8 is read with vectors.
 #[inline(always)]
 fn read_between(bits: u32, bytes: &[u8]) -> Result<(State, u32), EncodingError>
-    ensures { (fed : List ℕ) → Stands Between bits fed → MatchResult result (λ r. Stands r.0 r.1 (fed ++ bytes.now)) (λ fault. IsFaulty (fed ++ bytes.now) fault) }
+    ensures { (fed : List ℕ) → Stands Between bits fed
+        → MatchResult result (λ r. Stands r.0 r.1 (fed ++ bytes.now))
+        (λ fault. IsFaulty (fed ++ bytes.now) fault) }
 {
     let at = front_of(bytes, Encoding::Wtf8);
     let (_, rest) = bytes.split_at(at);
@@ -263,7 +274,9 @@ fn read_between(bits: u32, bytes: &[u8]) -> Result<(State, u32), EncodingError>
 
 /// The same from any state.
 fn read_piece(state: State, bits: u32, piece: &[u8]) -> Result<(State, u32), EncodingError>
-    ensures { (fed : List ℕ) → Stands state bits fed → MatchResult result (λ r. Stands r.0 r.1 (fed ++ piece.now)) (λ fault. IsFaulty (fed ++ piece.now) fault) }
+    ensures { (fed : List ℕ) → Stands state bits fed
+        → MatchResult result (λ r. Stands r.0 r.1 (fed ++ piece.now))
+        (λ fault. IsFaulty (fed ++ piece.now) fault) }
 {
     let mut state = state;
     let mut bits = bits;

@@ -94,7 +94,8 @@ pub(crate) fn next_item(
 ) -> Option<(Result<u32, EncodingError>, bool, &[u8])>
     ensures items { MatchOption result (items_after after_high bytes.now ≡ [])
         (λ step. items_after after_high bytes.now ≡ step.0 ∷ items_after step.1 step.2.now) }
-    ensures first { MatchOption result (bytes.now ≡ []) (λ step. IsFirstItem after_high bytes.now step.0 step.2.now) }
+    ensures first { MatchOption result (bytes.now ≡ [])
+        (λ step. IsFirstItem after_high bytes.now step.0 step.2.now) }
     ensures high { IfSome result (λ step. step.1 ≡ is_high_item step.0) }
 {
     let (first, behind) = bytes.split_first()?;
@@ -149,7 +150,8 @@ fn split_item(
 ) -> Result<(u32, bool, &[u8]), EncodingError>
     requires not_ascii { 0x80 ≤ first }
     ensures { MatchResult result
-        (λ step. (first_item after_high first behind.now ≡ Ok step.0) × (step.1 ≡ is_high step.0) × (step.2.now ≡ drop (needed_continuations first) behind.now))
+        (λ step. (first_item after_high first behind.now ≡ Ok step.0) × (step.1 ≡ is_high step.0)
+        × (step.2.now ≡ drop (needed_continuations first) behind.now))
         (λ fault. first_item after_high first behind.now ≡ Err fault) }
 {
     if first < 0xC2 {
@@ -191,7 +193,8 @@ pub(crate) fn first_item(after_high: bool, first: u8, behind: &[u8]) -> Result<u
 #[inline(always)]
 fn first_continuation(bytes: &[u8]) -> Result<(u32, &[u8]), EncodingError>
     ensures joined { (value n : ℕ) → MatchResult result
-        (λ first. with_continuations value (suc n) bytes.now ≡ with_continuations (value * 0x40 + first.0) n first.1.now)
+        (λ first. with_continuations value (suc n) bytes.now
+        ≡ with_continuations (value * 0x40 + first.0) n first.1.now)
         (λ fault. with_continuations value (suc n) bytes.now ≡ Err fault) }
     ensures behind { IfOk result (λ first. first.1.now ≡ drop 1 bytes.now) }
     ensures few { IfOk result (λ first. first.0 < 0x40) }
@@ -211,7 +214,8 @@ fn first_continuation(bytes: &[u8]) -> Result<(u32, &[u8]), EncodingError>
 fn with_one(value: u32, bytes: &[u8]) -> Result<(u32, &[u8]), EncodingError>
     requires room { value < 2 ^ 16 }
     ensures joined { MatchResult result
-        (λ joined. (with_continuations value 1 bytes.now ≡ Ok joined.0) × (joined.1.now ≡ drop 1 bytes.now))
+        (λ joined. (with_continuations value 1 bytes.now ≡ Ok joined.0)
+        × (joined.1.now ≡ drop 1 bytes.now))
         (λ fault. with_continuations value 1 bytes.now ≡ Err fault) }
     ensures least { IfOk result (λ joined. value * 2 ^ 6 ≤ joined.0) }
     ensures most { IfOk result (λ joined. joined.0 < (value + 1) * 2 ^ 6) }
@@ -226,7 +230,8 @@ fn with_one(value: u32, bytes: &[u8]) -> Result<(u32, &[u8]), EncodingError>
 fn with_two(value: u32, bytes: &[u8]) -> Result<(u32, &[u8]), EncodingError>
     requires room { value < 2 ^ 10 }
     ensures joined { MatchResult result
-        (λ joined. (with_continuations value 2 bytes.now ≡ Ok joined.0) × (joined.1.now ≡ drop 2 bytes.now))
+        (λ joined. (with_continuations value 2 bytes.now ≡ Ok joined.0)
+        × (joined.1.now ≡ drop 2 bytes.now))
         (λ fault. with_continuations value 2 bytes.now ≡ Err fault) }
     ensures least { IfOk result (λ joined. value * 2 ^ 12 ≤ joined.0) }
     ensures most { IfOk result (λ joined. joined.0 < (value + 1) * 2 ^ 12) }
@@ -241,7 +246,8 @@ fn with_two(value: u32, bytes: &[u8]) -> Result<(u32, &[u8]), EncodingError>
 fn with_three(value: u32, bytes: &[u8]) -> Result<(u32, &[u8]), EncodingError>
     requires room { value < 2 ^ 4 }
     ensures joined { MatchResult result
-        (λ joined. (with_continuations value 3 bytes.now ≡ Ok joined.0) × (joined.1.now ≡ drop 3 bytes.now))
+        (λ joined. (with_continuations value 3 bytes.now ≡ Ok joined.0)
+        × (joined.1.now ≡ drop 3 bytes.now))
         (λ fault. with_continuations value 3 bytes.now ≡ Err fault) }
     ensures least { IfOk result (λ joined. value * 2 ^ 18 ≤ joined.0) }
     ensures most { IfOk result (λ joined. joined.0 < (value + 1) * 2 ^ 18) }

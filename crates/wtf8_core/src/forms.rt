@@ -76,7 +76,8 @@ pub fn first_form(bytes: &[u8]) -> (u32, &[u8])
 /// The code point with whose form four bytes begin, and the length of that form.
 #[inline(always)]
 fn leading(first: u8, second: u8, third: u8, fourth: u8) -> (u32, usize)
-    ensures { (c : ℕ) (behind : List ℕ) → IsCodePoint c → form c ++ behind ≡ first ∷ second ∷ third ∷ fourth ∷ drop 4 (form c ++ behind)
+    ensures { (c : ℕ) (behind : List ℕ) → IsCodePoint c
+        → form c ++ behind ≡ first ∷ second ∷ third ∷ fourth ∷ drop 4 (form c ++ behind)
         → (result.0 ≡ c) × (result.1 ≡ length (form c)) }
 {
     if first < 0x80 {

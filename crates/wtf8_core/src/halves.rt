@@ -77,7 +77,8 @@ pub fn ends_with(string: &[u8], end: &[u8]) -> bool
 /// ```
 #[tactic(auto, using(std::proofs::lemmas::Bool::Decides::nat_tests))]
 pub fn pair_between(string: &[u8], more: &[u8]) -> Option<u32>
-    ensures { MatchOption result ((c : ℕ) → ¬ (IsPairBetween string.now more.now c)) (λ c. IsPairBetween string.now more.now c) }
+    ensures { MatchOption result ((c : ℕ) → ¬ (IsPairBetween string.now more.now c))
+        (λ c. IsPairBetween string.now more.now c) }
 {
     let Some((low, _)) = split_first_low(more) else {
         return None;
@@ -91,7 +92,8 @@ pub fn pair_between(string: &[u8], more: &[u8]) -> Option<u32>
 /// The surrogate whose form is these three bytes.
 #[tactic(auto, using(std::proofs::lemmas::Bool::Decides::nat_tests), unfolding(crate::specs::CodePoint::form))]
 fn surrogate(bytes: &[u8; 3]) -> Option<u16>
-    ensures { MatchOption result ((c : ℕ) → IsSurrogate c → bytes.now ≡ form c → ⊥) (λ c. IsSurrogate c × (bytes.now ≡ form c)) }
+    ensures { MatchOption result ((c : ℕ) → IsSurrogate c → bytes.now ≡ form c → ⊥)
+        (λ c. IsSurrogate c × (bytes.now ≡ form c)) }
 {
     let [lead, second, third] = *bytes;
     if lead == 0xED && (0xA0..=0xBF).contains(&second) && is_continuation(third) {

@@ -78,7 +78,8 @@ pub(crate) fn paired(high: u16, low: u16) -> u32
 #[tactic(auto, using(std::proofs::lemmas::Bool::Decides::nat_tests))]
 #[inline(always)]
 pub fn first_pair(units: &[u16]) -> Option<(u32, &[u16])>
-    ensures { MatchOption result (BeginsNoPair units.now) (λ first. BeginsPair units.now first.0 first.1.now) }
+    ensures { MatchOption result (BeginsNoPair units.now)
+        (λ first. BeginsPair units.now first.0 first.1.now) }
 {
     let [high, low, rest @ ..] = units else {
         return None;

@@ -32,7 +32,8 @@ use crate::scan::{BLOCK, Encoding, STEP};
 /// ```
 #[inline(always)]
 pub fn utf8_fault(bytes: &[u8]) -> Option<(usize, Option<u8>)>
-    ensures { MatchOption result (IsUtf8 bytes.now) (λ fault. IsUtf8Fault bytes.now fault.0 fault.1) }
+    ensures { MatchOption result (IsUtf8 bytes.now)
+        (λ fault. IsUtf8Fault bytes.now fault.0 fault.1) }
 {
     if bytes.len() < STEP {
         return fault_by_characters(bytes, 0);
@@ -76,7 +77,8 @@ fn after_three_characters(bytes: &[u8], from: usize) -> Result<usize, (usize, Op
     requires within { from ≤ length bytes.now }
     requires text { IsUtf8 (take from bytes.now) }
     ensures within { IfOk result (λ at. at ≤ length bytes.now) }
-    ensures read { MatchResult result (λ at. IsUtf8 (take at bytes.now)) (λ fault. IsUtf8Fault bytes.now fault.0 fault.1) }
+    ensures read { MatchResult result (λ at. IsUtf8 (take at bytes.now))
+        (λ fault. IsUtf8Fault bytes.now fault.0 fault.1) }
 {
     let (_, mut rest) = bytes.split_at(from);
     for _ in 0..3 {
@@ -97,7 +99,8 @@ fn after_three_characters(bytes: &[u8], from: usize) -> Result<usize, (usize, Op
 fn fault_by_steps(bytes: &[u8], at: usize) -> Option<(usize, Option<u8>)>
     requires within { at ≤ length bytes.now }
     requires text { IsUtf8 (take at bytes.now) }
-    ensures { MatchOption result (IsUtf8 bytes.now) (λ fault. IsUtf8Fault bytes.now fault.0 fault.1) }
+    ensures { MatchOption result (IsUtf8 bytes.now)
+        (λ fault. IsUtf8Fault bytes.now fault.0 fault.1) }
 {
     if bytes.len() - at < STEP {
         return fault_in_rest(bytes, at);
@@ -112,7 +115,8 @@ fn fault_by_steps(bytes: &[u8], at: usize) -> Option<(usize, Option<u8>)>
 fn fault_by_blocks(bytes: &[u8], at: usize) -> Option<(usize, Option<u8>)>
     requires within { at ≤ length bytes.now }
     requires kept { KeepsPattern Utf8 bytes.now at }
-    ensures { MatchOption result (IsUtf8 bytes.now) (λ fault. IsUtf8Fault bytes.now fault.0 fault.1) }
+    ensures { MatchOption result (IsUtf8 bytes.now)
+        (λ fault. IsUtf8Fault bytes.now fault.0 fault.1) }
 {
     fault_by_characters(bytes, scan_from(bytes, at, Encoding::Utf8))
 }
@@ -123,7 +127,8 @@ fn fault_by_blocks(bytes: &[u8], at: usize) -> Option<(usize, Option<u8>)>
 fn fault_by_characters(bytes: &[u8], at: usize) -> Option<(usize, Option<u8>)>
     requires within { at ≤ length bytes.now }
     requires text { IsUtf8 (take at bytes.now) }
-    ensures { MatchOption result (IsUtf8 bytes.now) (λ fault. IsUtf8Fault bytes.now fault.0 fault.1) }
+    ensures { MatchOption result (IsUtf8 bytes.now)
+        (λ fault. IsUtf8Fault bytes.now fault.0 fault.1) }
 {
     match after_three_characters(bytes, at) {
         Ok(at) => fault_in_rest(bytes, at),
@@ -136,7 +141,8 @@ fn fault_by_characters(bytes: &[u8], at: usize) -> Option<(usize, Option<u8>)>
 fn fault_in_rest(bytes: &[u8], at: usize) -> Option<(usize, Option<u8>)>
     requires within { at ≤ length bytes.now }
     requires text { IsUtf8 (take at bytes.now) }
-    ensures { MatchOption result (IsUtf8 bytes.now) (λ fault. IsUtf8Fault bytes.now fault.0 fault.1) }
+    ensures { MatchOption result (IsUtf8 bytes.now)
+        (λ fault. IsUtf8Fault bytes.now fault.0 fault.1) }
 {
     let (_, rest) = bytes.split_at(at);
     match fault_by_std(rest) {
@@ -148,7 +154,8 @@ fn fault_in_rest(bytes: &[u8], at: usize) -> Option<(usize, Option<u8>)>
 /// The first fault, by std's reader.
 #[inline(always)]
 fn fault_by_std(bytes: &[u8]) -> Option<(usize, Option<u8>)>
-    ensures { MatchOption result (IsUtf8 bytes.now) (λ fault. IsUtf8Fault bytes.now fault.0 fault.1) }
+    ensures { MatchOption result (IsUtf8 bytes.now)
+        (λ fault. IsUtf8Fault bytes.now fault.0 fault.1) }
 {
     match str::from_utf8(bytes) {
         Ok(_) => None,

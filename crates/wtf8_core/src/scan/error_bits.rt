@@ -18,7 +18,8 @@ use std::simd::prelude::*;
 fn error_bits(window: &[u8]) -> u8x64
     requires { 68 ≤ length window.now }
     ensures { (i : ℕ) → i < 64 → slice_index result i
-        ≡ error_bits (slice_index window.now (1 + i)) (slice_index window.now (2 + i)) (slice_index window.now (3 + i)) (slice_index window.now (4 + i)) }
+        ≡ error_bits (slice_index window.now (1 + i)) (slice_index window.now (2 + i))
+        (slice_index window.now (3 + i)) (slice_index window.now (4 + i)) }
 {
     let pairs = pair_bits(load(window, 3), load(window, 4));
     xor(pairs, continuation_due(load(window, 1), load(window, 2)))
@@ -29,7 +30,8 @@ fn error_bits(window: &[u8]) -> u8x64
 fn error_bits_of_16(window: &[u8]) -> u8x16
     requires { 20 ≤ length window.now }
     ensures { (i : ℕ) → i < 16 → slice_index result i
-        ≡ error_bits (slice_index window.now (1 + i)) (slice_index window.now (2 + i)) (slice_index window.now (3 + i)) (slice_index window.now (4 + i)) }
+        ≡ error_bits (slice_index window.now (1 + i)) (slice_index window.now (2 + i))
+        (slice_index window.now (3 + i)) (slice_index window.now (4 + i)) }
 {
     let pairs = pair_bits_of_16(load(window, 3), load(window, 4));
     xor(pairs, continuation_due(load(window, 1), load(window, 2)))
@@ -40,7 +42,9 @@ fn error_bits_of_16(window: &[u8]) -> u8x16
 fn surrogate_pair_difference(window: &[u8]) -> u8x64
     requires { 68 ≤ length window.now }
     ensures { (i : ℕ) → i < 64 → slice_index result i
-        ≡ surrogate_pair_difference (slice_index window.now (0 + i)) (slice_index window.now (1 + i)) (slice_index window.now (3 + i)) (slice_index window.now (4 + i)) }
+        ≡ surrogate_pair_difference (slice_index window.now (0 + i))
+        (slice_index window.now (1 + i)) (slice_index window.now (3 + i))
+        (slice_index window.now (4 + i)) }
 {
     let leads = or(
         xor_with(load(window, 0), 0xED),
@@ -77,7 +81,8 @@ pub(crate) fn kept_len(window: &[u8], encoding: Encoding) -> usize
 fn kept_with_surrogates(wrong: u8x64, window: &[u8]) -> usize
     requires window { 68 ≤ length window.now }
     requires wrong { (i : ℕ) → i < 64 → slice_index wrong i
-        ≡ error_bits (slice_index window.now (1 + i)) (slice_index window.now (2 + i)) (slice_index window.now (3 + i)) (slice_index window.now (4 + i)) }
+        ≡ error_bits (slice_index window.now (1 + i)) (slice_index window.now (2 + i))
+        (slice_index window.now (3 + i)) (slice_index window.now (4 + i)) }
     ensures within { result ≤ 64 }
     ensures pattern { AllMayStand Wtf8 result window.now }
 {

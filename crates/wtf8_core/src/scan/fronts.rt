@@ -54,7 +54,8 @@ pub(crate) fn scan_from(bytes: &[u8], at: usize, encoding: Encoding) -> usize
 fn first_len(bytes: &[u8], at: usize, encoding: Encoding) -> usize
     requires { at + 64 ≤ length bytes.now }
     ensures within { result ≤ 64 }
-    ensures kept { KeepsPattern encoding bytes.now at → KeepsPattern encoding bytes.now (at + result) }
+    ensures kept { KeepsPattern encoding bytes.now at
+        → KeepsPattern encoding bytes.now (at + result) }
 {
     if at == 0 && is_ascii_block(bytes, at) {
         return BLOCK;
@@ -91,8 +92,10 @@ fn scan_blocks(bytes: &[u8], at: usize, encoding: Encoding) -> usize
 pub(crate) fn scan_steps(bytes: &[u8], at: usize) -> Result<usize, usize>
     requires within { at ≤ length bytes.now }
     requires kept { KeepsPattern Utf8 bytes.now at }
-    ensures within { MatchResult result (λ end. end ≤ length bytes.now) (λ front. front ≤ length bytes.now) }
-    ensures front { MatchResult result (λ end. KeepsPattern Utf8 bytes.now end) (λ front. IsSpelledFront Utf8 bytes.now front) }
+    ensures within { MatchResult result (λ end. end ≤ length bytes.now)
+        (λ front. front ≤ length bytes.now) }
+    ensures front { MatchResult result (λ end. KeepsPattern Utf8 bytes.now end)
+        (λ front. IsSpelledFront Utf8 bytes.now front) }
 {
     let mut end = at;
     for _ in 0..8 {
@@ -123,7 +126,8 @@ fn step_len(bytes: &[u8], at: usize) -> usize
 #[inline(always)]
 pub(crate) fn is_behind_high(bytes: &[u8], at: usize) -> bool
     requires { at ≤ length bytes.now }
-    ensures { (f : IsSpelledFront Wtf8 bytes.now at) → result ≡ is_high (last_behind 0 f.code_points) }
+    ensures { (f : IsSpelledFront Wtf8 bytes.now at)
+        → result ≡ is_high (last_behind 0 f.code_points) }
 {
     if at < 3 {
         return false;
@@ -187,7 +191,8 @@ fn block_len(bytes: &[u8], at: usize, encoding: Encoding) -> usize
     requires from { 4 ≤ at }
     requires room { at + 64 ≤ length bytes.now }
     ensures within { result ≤ 64 }
-    ensures kept { KeepsPattern encoding bytes.now at → KeepsPattern encoding bytes.now (at + result) }
+    ensures kept { KeepsPattern encoding bytes.now at
+        → KeepsPattern encoding bytes.now (at + result) }
 {
     kept_len(&bytes[at - BEFORE..], encoding)
 }
@@ -213,7 +218,8 @@ fn scan_tail(bytes: &[u8], at: usize, encoding: Encoding) -> usize
 fn start_before(bytes: &[u8], end: usize) -> usize
     requires { end ≤ length bytes.now }
     ensures within { result ≤ length bytes.now }
-    ensures front { (e : Encoding) → KeepsPattern e bytes.now end → IsSpelledFront e bytes.now result }
+    ensures front { (e : Encoding) → KeepsPattern e bytes.now end
+        → IsSpelledFront e bytes.now result }
 {
     let mut at = end;
     while at > 0 {
@@ -231,7 +237,8 @@ fn start_before(bytes: &[u8], end: usize) -> usize
 fn window_len(bytes: &[u8], at: usize, encoding: Encoding) -> usize
     requires { at ≤ length bytes.now }
     ensures within { result ≤ 64 }
-    ensures kept { KeepsPattern encoding bytes.now at → KeepsPattern encoding bytes.now (at + result) }
+    ensures kept { KeepsPattern encoding bytes.now at
+        → KeepsPattern encoding bytes.now (at + result) }
 {
     let before = at.min(BEFORE);
     let behind = (bytes.len() - at).min(BLOCK);

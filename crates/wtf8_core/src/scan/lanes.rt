@@ -68,7 +68,8 @@ pub(crate) fn xor_with(bytes: u8x64, value: u8) -> u8x64
 /// The bits that at least one of the two has.
 #[inline(always)]
 pub(crate) fn or<const N: usize>(a: Simd<u8, N>, b: Simd<u8, N>) -> Simd<u8, N>
-    ensures { (i : ℕ) → i < N → slice_index result i ≡ bit_or (slice_index a.entry i) (slice_index b.entry i) }
+    ensures { (i : ℕ) → i < N → slice_index result i
+        ≡ bit_or (slice_index a.entry i) (slice_index b.entry i) }
 {
     a | b
 }
@@ -76,7 +77,8 @@ pub(crate) fn or<const N: usize>(a: Simd<u8, N>, b: Simd<u8, N>) -> Simd<u8, N>
 /// The bits that both have.
 #[inline(always)]
 fn and<const N: usize>(a: Simd<u8, N>, b: Simd<u8, N>) -> Simd<u8, N>
-    ensures { (i : ℕ) → i < N → slice_index result i ≡ bit_and (slice_index a.entry i) (slice_index b.entry i) }
+    ensures { (i : ℕ) → i < N → slice_index result i
+        ≡ bit_and (slice_index a.entry i) (slice_index b.entry i) }
 {
     a & b
 }
@@ -84,7 +86,8 @@ fn and<const N: usize>(a: Simd<u8, N>, b: Simd<u8, N>) -> Simd<u8, N>
 /// The bits that exactly one of the two has.
 #[inline(always)]
 pub(crate) fn xor<const N: usize>(a: Simd<u8, N>, b: Simd<u8, N>) -> Simd<u8, N>
-    ensures { (i : ℕ) → i < N → slice_index result i ≡ bit_xor (slice_index a.entry i) (slice_index b.entry i) }
+    ensures { (i : ℕ) → i < N → slice_index result i
+        ≡ bit_xor (slice_index a.entry i) (slice_index b.entry i) }
 {
     a ^ b
 }
@@ -100,7 +103,8 @@ fn above<const N: usize>(bytes: Simd<u8, N>, value: u8) -> Simd<u8, N>
 /// The entries of a table, four copies of 16, at these indices.
 #[inline(always)]
 fn entries(table: [u8; 64], places: u8x64) -> u8x64
-    requires copies { (i : ℕ) → i < 64 → (k : ℕ) → k < 16 → slice_index table (i / 16 * 16 + k) ≡ slice_index table k }
+    requires copies { (i : ℕ) → i < 64 → (k : ℕ) → k < 16
+        → slice_index table (i / 16 * 16 + k) ≡ slice_index table k }
     requires places { (i : ℕ) → i < 64 → slice_index places i < 16 }
     ensures { (i : ℕ) → i < 64 → slice_index result i ≡ slice_index table (slice_index places i) }
 {
@@ -119,7 +123,8 @@ fn entries_of_16(table: [u8; 64], places: u8x16) -> u8x16
 /// What is wrong with each second byte after its first.
 #[inline(always)]
 pub(crate) fn pair_bits(first: u8x64, second: u8x64) -> u8x64
-    ensures { (i : ℕ) → i < 64 → slice_index result i ≡ pair_bits (slice_index first i) (slice_index second i) }
+    ensures { (i : ℕ) → i < 64 → slice_index result i
+        ≡ pair_bits (slice_index first i) (slice_index second i) }
 {
     let by_high = entries(FIRST_HIGH, high_halves(first));
     let by_low = entries(FIRST_LOW, masked(first, 15));
@@ -132,7 +137,8 @@ pub(crate) fn pair_bits(first: u8x64, second: u8x64) -> u8x64
 /// The same for 16 lanes.
 #[inline(always)]
 pub(crate) fn pair_bits_of_16(first: u8x16, second: u8x16) -> u8x16
-    ensures { (i : ℕ) → i < 16 → slice_index result i ≡ pair_bits (slice_index first i) (slice_index second i) }
+    ensures { (i : ℕ) → i < 16 → slice_index result i
+        ≡ pair_bits (slice_index first i) (slice_index second i) }
 {
     let by_high = entries_of_16(FIRST_HIGH, high_halves(first));
     let by_low = entries_of_16(FIRST_LOW, masked(first, 15));
@@ -146,7 +152,8 @@ pub(crate) fn pair_bits_of_16(first: u8x16, second: u8x16) -> u8x16
 /// three or four; else 0.
 #[inline(always)]
 pub(crate) fn continuation_due<const N: usize>(three: Simd<u8, N>, two: Simd<u8, N>) -> Simd<u8, N>
-    ensures { (i : ℕ) → i < N → slice_index result i ≡ continuation_due (slice_index three.entry i) (slice_index two.entry i) }
+    ensures { (i : ℕ) → i < N → slice_index result i
+        ≡ continuation_due (slice_index three.entry i) (slice_index two.entry i) }
 {
     masked(or(above(three, 0x70), above(two, 0x60)), 0x80)
 }
