@@ -1,10 +1,10 @@
 //! Tokens, written digit by digit.
 ghost use Rattle.std.specs.Prelude.{◌≡◌, ◌<◌, ◌≤◌};
 ghost use Rattle.std.specs.Fmt.{WritesStyledOnOk};
-ghost use Rattle.wtf8_core.specs.FaultText.{upper_hex_digit};
 ghost use Rattle.os_quote.specs.Item.{WideUnit, LongCharacter, byte_digits, wide_digits, high_digits, item_text, unit_item, hidden_item};
 
 use std::fmt;
+use wtf8_core::upper_hex_digit;
 
 /// Writes a unit, as `\xHH` if it is below 100 (hexadecimal), else as `\uHHHH`.
 pub(crate) fn write_unit<W: fmt::Write>(unit: u16, f: &mut fmt::Formatter<W>) -> fmt::Result
@@ -76,17 +76,4 @@ fn write_byte<W: fmt::Write>(byte: u8, f: &mut fmt::Formatter<W>) -> fmt::Result
 {
     f.write_char(upper_hex_digit(byte / 16))?;
     f.write_char(upper_hex_digit(byte % 16))
-}
-
-/// A digit from `0` to `9` or from `A` to `F`.
-fn upper_hex_digit(digit: u8) -> char
-    requires { digit < 16 }
-    ensures value { result ≡ upper_hex_digit digit }
-    ensures ascii { result < 128 }
-{
-    if digit < 10 {
-        char::from(b'0' + digit)
-    } else {
-        char::from(b'A' + (digit - 10))
-    }
 }

@@ -1,7 +1,7 @@
 //! The text of a fault.
 ghost use Rattle.std.specs.Prelude.{◌≡◌, ◌⊎◌, ◌+◌, ◌<◌, ◌≤◌, ◌++◌, ℕ, List, length, MatchOption};
 ghost use Rattle.std.specs.Fmt.{decimal};
-ghost use Rattle.wtf8_core.specs.FaultText.{fault_text, upper_hex, upper_hex_digit, code_point_digits};
+ghost use Rattle.wtf8_core.specs.FaultText.{fault_text, upper_hex};
 ghost use Rattle.wtf8_core.specs.Truncated.{IsTruncated};
 ghost use Rattle.osbytes_c.specs.Answers.{Writes};
 ghost use Rattle.osbytes_c.specs.Faults.{Names, IsTextOf};
@@ -9,7 +9,7 @@ ghost use Rattle.osbytes_c.specs.Faults.{Names, IsTextOf};
 use crate::fault::Fault;
 use crate::status::{DONE, NO_FAULT, NO_ROOM};
 use itoa::Buffer;
-use wtf8_core::{EncodingError, push_truncated};
+use wtf8_core::{EncodingError, code_point_digits, push_truncated, upper_hex_digit};
 
 /// Writes the text of a fault into `out`, as far as there is room, and counts its bytes.
 #[unsafe(no_mangle)]
@@ -120,28 +120,5 @@ fn push_hex(out: &mut [u8], count: usize, value: u32, digits: u32) -> usize
         return count;
     }
     let at = push_hex(out, count, value / 16, digits - 1);
-    push_truncated(out, at, &[upper_hex_digit(value % 16)])
-}
-
-/// A digit from `0` to `9` or from `A` to `F`.
-fn upper_hex_digit(digit: u32) -> u8
-    requires { digit < 16 }
-    ensures { result ≡ upper_hex_digit digit }
-{
-    let digit = digit as u8;
-    if digit < 10 { 48 + digit } else { 55 + digit }
-}
-
-/// How many digits are written of a code point.
-fn code_point_digits(value: u32) -> u32
-    ensures value { result ≡ code_point_digits value }
-    ensures few { result ≤ 8 }
-{
-    match value {
-        0..=0xFFFF => 4,
-        0x1_0000..=0xF_FFFF => 5,
-        0x10_0000..=0xFF_FFFF => 6,
-        0x100_0000..=0xFFF_FFFF => 7,
-        _ => 8,
-    }
+    push_truncated(out, at, &[upper_hex_digit((value % 16) as u8) as u8])
 }

@@ -1,9 +1,10 @@
 //! The faults of bytes, and their texts.
-ghost use Rattle.std.specs.Prelude.{◌≡◌, ◌∷◌, [], ◌<◌, ◌≤◌, Some};
+ghost use Rattle.std.specs.Prelude.{◌≡◌, ◌∷◌, [], Some};
 ghost use Rattle.std.specs.Char.{encode_utf8};
 ghost use Rattle.std.specs.Fmt.{WritesStyledOnOk, decimal};
-ghost use Rattle.wtf8_core.specs.FaultText.{upper_hex, upper_hex_digit, code_point_digits, fault_text};
+ghost use Rattle.wtf8_core.specs.FaultText.{upper_hex, fault_text};
 
+use crate::digits::{code_point_digits, upper_hex_digit};
 use std::error::Error;
 use std::fmt;
 
@@ -49,20 +50,6 @@ pub enum EncodingError {
     },
 }
 
-/// A digit from `0` to `9` or from `A` to `F`.
-fn upper_hex_digit(digit: u32) -> char
-    requires { digit < 16 }
-    ensures value { result ≡ upper_hex_digit digit }
-    ensures ascii { result < 128 }
-{
-    let digit = digit as u8;
-    if digit < 10 {
-        char::from(b'0' + digit)
-    } else {
-        char::from(b'A' + (digit - 10))
-    }
-}
-
 /// Writes the last `digits` hexadecimal digits of a number, whatever width the formatter has.
 fn write_upper_hex<W: fmt::Write>(value: u32, digits: u32, f: &mut fmt::Formatter<W>) -> fmt::Result
     ensures { WritesStyledOnOk W.write_str_gives f.old result (upper_hex digits value) f.new }
@@ -71,7 +58,7 @@ fn write_upper_hex<W: fmt::Write>(value: u32, digits: u32, f: &mut fmt::Formatte
         return Ok(());
     }
     write_upper_hex(value / 16, digits - 1, f)?;
-    f.write_char(upper_hex_digit(value % 16))
+    f.write_char(upper_hex_digit((value % 16) as u8))
 }
 
 /// Writes the decimal digits of a number, whatever width the formatter has.
@@ -83,19 +70,6 @@ fn write_decimal<W: fmt::Write>(value: usize, f: &mut fmt::Formatter<W>) -> fmt:
     }
     write_decimal(value / 10, f)?;
     f.write_char(char::from(b'0' + (value % 10) as u8))
-}
-
-/// How many digits of a code point are written.
-fn code_point_digits(value: u32) -> u32
-    ensures { result ≡ code_point_digits value }
-{
-    match value {
-        0..=0xFFFF => 4,
-        0x1_0000..=0xF_FFFF => 5,
-        0x10_0000..=0xFF_FFFF => 6,
-        0x100_0000..=0xFFF_FFFF => 7,
-        _ => 8,
-    }
 }
 
 impl fmt::Display for EncodingError {

@@ -12,7 +12,7 @@ pub returns-clause-written : goal.returns-clause-written
 returns-clause-written t c done old h =
     let front = c.push_hex-at.ensures.written done old h in
     let all = c.push_truncated.ensures.written _ old front in
-    let digit = c.upper_hex_digit.ensures in
+    let digit = c.upper_hex_digit.ensures.value in
     let more = upper_hex_more c.args.digits c.args.value (omega (arith, c.if-digits-eq0.false)) in
     let first = upper_hex (c.args.digits - 1) (c.args.value / 16) in
     subst (λ t. IsTruncated t old c.push_truncated.new.buffer c.push_truncated.result) (ap (λ x. (done ++ first) ++ x ∷ []) digit ∙ append_assoc done first _ ∙ ap (λ x. done ++ x) (sym more)) all

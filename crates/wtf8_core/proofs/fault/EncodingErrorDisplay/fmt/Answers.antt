@@ -19,7 +19,7 @@ returns-in_ok-write_str-in-CodePoint-2-clause-styled g c = λ flush ok.
     let name = c.in_ok-write_str-in-CodePoint-2.ensures.styled head.flush (refl {a = true}) in
     let digits = c.write_upper_hex-in-CodePoint.ensures name.flush ok in
     has_written_styled_of_eq _ _ _ _ _
-    (ap (λ k. not_representable ++ (codes "code point U+" ++ upper_hex k c.in-CodePoint.value)) c.code_point_digits.ensures ∙ sym (ap fault_text c.in-CodePoint.is))
+    (ap (λ k. not_representable ++ (codes "code point U+" ++ upper_hex k c.in-CodePoint.value)) c.code_point_digits.ensures.value ∙ sym (ap fault_text c.in-CodePoint.is))
     (has_written_styled_append _ _ _ _ _ _ head (has_written_styled_append _ _ _ _ _ _ name digits))
 
 pub returns-in_ok-write_str-in-End-clause-styled : goal.returns-in_ok-write_str-in-End-clause-styled
