@@ -1,15 +1,5 @@
 -- The bytes of units, prefix by prefix.
-use Rattle.std.proofs.Common.{◌≡◌, ℕ, ◌+◌, ◌≤◌, ◌<◌, List, [], ◌∷◌, ◌++◌, length, length-append, take, drop, slice_index, get_or, Fits, w16, refl, sym, ap, ◌∙◌, subst, arith, append_assoc}
-use Rattle.std.proofs.lemmas.List.{append-nil, get_or-take, length-take, take_all, take-append-drop}
-use Rattle.std.proofs.lemmas.List.Elements.{recursion_from_All, All-from_get_or}
-use Rattle.std.specs.List.{All, AllByRecursion}
-use Rattle.wtf8_core.specs.Surrogate.{IsHigh, IsLow, paired}
-use Rattle.wtf8_core.specs.CodePoint.{IsCodePoint, form}
-use Rattle.wtf8_core.specs.Wtf8.{MayPrecede, HasUnits, units}
-use Rattle.wtf8_core.proofs.lemmas.forms.Shapes.{form_ascii}
-use Rattle.wtf8_core.proofs.lemmas.units.OneToOne.{IsUnit, wide_single, may_precede, paired_units, units_spelled}
-use Rattle.wtf8_core.specs.FirstForm.{BeginsPair, BeginsNoPair}
-use Rattle.platform_str.specs.Bulk.{SpellsBefore}
+use Rattle.platform_str.proofs.Common.{◌≡◌, ℕ, ◌+◌, ◌≤◌, ◌<◌, List, [], ◌∷◌, ◌++◌, length, length-append, take, drop, slice_index, get_or, Fits, w16, refl, sym, ap, ◌∙◌, subst, arith, append_assoc, append-nil, get_or-take, length-take, take_all, take-append-drop, recursion_from_All, All-from_get_or, All, AllByRecursion, IsHigh, IsLow, paired, IsCodePoint, form, MayPrecede, HasUnits, units, form_ascii, IsUnit, wide_single, may_precede, paired_units, units_spelled, BeginsPair, BeginsNoPair, SpellsBefore}
 use Rattle.platform_str.proofs.lemmas.BulkUnits.{units_short}
 
 -- before the first unit, and after the last

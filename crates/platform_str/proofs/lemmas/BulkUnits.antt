@@ -1,17 +1,6 @@
 -- A prefix of a string taken off, and its units with it.
-use Rattle.std.proofs.Common.{◌≡◌, ℕ, ◌+◌, ◌≤◌, ◌<◌, List, [], ◌∷◌, ◌++◌, length, take, drop, vec_len, vec_capacity, refl, sym, ap, ◌∙◌, subst, arith, append_assoc, length-append}
+use Rattle.platform_str.proofs.Common.{◌≡◌, ℕ, ◌+◌, ◌≤◌, ◌<◌, List, [], ◌∷◌, ◌++◌, length, take, drop, vec_len, vec_capacity, refl, sym, ap, ◌∙◌, subst, arith, append_assoc, length-append, take-append-drop, form_bounds, nat_tests, recursion_from_All, All, AllByRecursion, flat_map, form, wide, IsWtf8, HasUnits, units, units_of, wide_single, code_points_in-spelled, has_units_of, BeginsForm}
 use Rattle.std.specs.declared.vec.Vec.{Vec}
-use Rattle.std.proofs.lemmas.List.{take-append-drop}
-use Rattle.wtf8_core.proofs.lemmas.forms.Shapes.{form_bounds}
-use Rattle.std.proofs.lemmas.Bool.Decides.{nat_tests}
-use Rattle.std.proofs.lemmas.List.Elements.{recursion_from_All}
-use Rattle.std.specs.List.{All, AllByRecursion, flat_map}
-use Rattle.wtf8_core.specs.CodePoint.{form, wide}
-use Rattle.wtf8_core.specs.Wtf8.{IsWtf8, HasUnits, units}
-use Rattle.wtf8_core.specs.UnitsOf.{units_of}
-use Rattle.wtf8_core.proofs.lemmas.units.OneToOne.{wide_single}
-use Rattle.wtf8_core.proofs.lemmas.units.AsFunction.{code_points_in-spelled, has_units_of}
-use Rattle.wtf8_core.specs.FirstForm.{BeginsForm}
 use Rattle.wtf8_core.proofs.lemmas.forms.FirstForms.{first_of}
 
 ascii_first : (c x : ℕ) (rest l : List ℕ) → x < 0x80 → x ∷ l ≡ form c ++ rest → (c ≡ x) × (rest ≡ l)

@@ -1,13 +1,7 @@
 -- Characters of lossy texts, and texts that are filled.
-use Rattle.std.proofs.Common.{◌≡◌, ℕ, ◌+◌, ◌-◌, ◌≤◌, List, [], ◌∷◌, ◌++◌, length, cond, Option, Some, refl, sym, ap, ◌∙◌, arith, append_assoc, unwrap_or}
-use Rattle.std.specs.Char.{encode_utf8}
-use Rattle.std.specs.List.{repeat}
-use Rattle.std.specs.Fmt.{is_char_start, char_count}
+use Rattle.platform_str.proofs.Common.{◌≡◌, ℕ, ◌+◌, ◌-◌, ◌≤◌, List, [], ◌∷◌, ◌++◌, length, cond, Option, Some, refl, sym, ap, ◌∙◌, arith, append_assoc, unwrap_or, encode_utf8, repeat, is_char_start, char_count, replacement, IsFirstText, fill_before, filled}
 use Rattle.std.specs.declared.fmt.Alignment.{Alignment}
-use Rattle.wtf8_core.specs.Lossy.{replacement}
-use Rattle.platform_str.specs.Lossy.{IsFirstText}
 use Rattle.platform_str.proofs.lemmas.LossyLoops.{encode_fffd}
-use Rattle.platform_str.specs.Display.{fill_before, filled}
 
 count_none : (text : List ℕ) → length text ≡ 0 → char_count text ≡ 0
 unfolding char_count

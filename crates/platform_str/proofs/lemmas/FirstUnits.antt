@@ -1,13 +1,6 @@
 -- The first unit of bytes that are WTF-8 and don't begin with a whole character, as the encoder of units gives it.
-use Rattle.std.proofs.Common.{◌≡◌, ℕ, ◌<◌, List, [], ◌∷◌, length, drop, map, Ok, Err, sym, ap, ◌∙◌, subst, arith}
-use Rattle.wtf8_core.specs.Covered.{StartsBare}
-use Rattle.wtf8_core.specs.Items.{AreUnitItems}
-use Rattle.wtf8_core.specs.UnitsOf.{ok_values, units_of}
-use Rattle.wtf8_core.specs.Wtf8.{IsWtf8}
-use Rattle.wtf8_core.specs.declared.fault.EncodingError.{EncodingError}
+use Rattle.platform_str.proofs.Common.{◌≡◌, ℕ, ◌<◌, List, [], ◌∷◌, length, drop, map, Ok, Err, sym, ap, ◌∙◌, subst, arith, StartsBare, AreUnitItems, ok_values, units_of, IsWtf8, EncodingError, units_of-is, IsFirstUnit}
 use Rattle.wtf8_core.proofs.lemmas.chunks.PartUnits.{first_unit}
-use Rattle.wtf8_core.proofs.lemmas.units.AsFunction.{units_of-is}
-use Rattle.platform_str.specs.Laws.{IsFirstUnit}
 use Rattle.platform_str.proofs.lemmas.WideLemmas.{Item, ok_units}
 
 -- the items are the units, and the first one is a unit of three bytes

@@ -1,7 +1,6 @@
 -- Four bytes written over others.
 use Rattle.std.proofs.Common.{◌≡◌, ℕ, ◌+◌, ◌≤◌, List, ◌++◌, length, take, drop, sym, ap, ◌∙◌, append_assoc, take-append-drop}
-use Rattle.wtf8_core.specs.CodePoint.{form}
-use Rattle.wtf8_core.proofs.lemmas.forms.Shapes.{form_past}
+use Rattle.platform_str.proofs.Common.{form, form_past}
 
 -- the form of a code point past FFFF, between what came before it and what comes after it
 pub pair_written : (new old : List ℕ) (at end c : ℕ) → take end new ≡ take at old ++ form c → drop end new ≡ drop end old → end ≡ at + length (form c) → 0x1_0000 ≤ c → new ≡ take at old ++ (form c ++ drop (at + 4) old)

@@ -1,15 +1,6 @@
 -- U+FFFD written over three bytes.
-use Rattle.std.proofs.Common.{◌≡◌, ℕ, ◌+◌, ◌-◌, ◌≤◌, List, [], ◌∷◌, ◌++◌, length, take, drop, refl, sym, ap, ◌∙◌, subst, arith, append_assoc, length-drop, slice_set}
-use Rattle.std.proofs.Math.ListN.{set, length-set}
+use Rattle.platform_str.proofs.Common.{◌≡◌, ℕ, ◌+◌, ◌-◌, ◌≤◌, List, [], ◌∷◌, ◌++◌, length, take, drop, refl, sym, ap, ◌∙◌, subst, arith, append_assoc, length-drop, slice_set, set, length-set, drop-set-lt, drop-drop, take-add, IsValidUpTo, replacement, EncodingError, StartsBare, PlatformLaws, IsLeft, IsReplacedUpTo}
 use Rattle.std.proofs.lemmas.Grind.{take-set_at}
-use Rattle.std.proofs.lemmas.List.{drop-set-lt, drop-drop}
-use Rattle.std.proofs.Math.Seq.{take-add}
-use Rattle.std.specs.Str.{IsValidUpTo}
-use Rattle.wtf8_core.specs.Lossy.{replacement}
-use Rattle.wtf8_core.specs.declared.fault.EncodingError.{EncodingError}
-use Rattle.wtf8_core.specs.Covered.{StartsBare}
-use Rattle.platform_str.specs.Laws.{PlatformLaws}
-use Rattle.platform_str.specs.Lossy.{IsLeft, IsReplacedUpTo}
 use Rattle.platform_str.proofs.lemmas.LossyLoops.{first_part, first_text, made_more, bare_at}
 
 -- the bytes of U+FFFD, written one after the other from index s on

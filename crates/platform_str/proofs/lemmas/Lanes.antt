@@ -1,17 +1,11 @@
 -- What a test of all lanes says of each lane.
 use Rattle.std.proofs.Common.{◌≡◌, ℕ, zero, suc, ◌+◌, ◌*◌, ◌/◌, ◌-◌, ◌%◌, ◌^◌, ◌≤◌, ◌<◌, true, cond, eqb, leb, List, [], ◌∷◌, map, length, slice_index, replicate, take, set, not, ◌++◌, refl, sym, ap, ◌∙◌, subst, arith, eqb-true, leb-false}
 use Rattle.std.proofs.Math.Nat.{mod-eq_of_lt}
-use Rattle.std.proofs.Math.Seq.{take-append-add}
-use Rattle.std.proofs.lemmas.Bool.{cond_both}
-use Rattle.std.proofs.lemmas.Bool.Decides.{nat_tests}
-use Rattle.std.proofs.lemmas.List.{length-map, length-take-le, take_more_set, take-take}
-use Rattle.std.proofs.lemmas.List.Sums.{prefix_len-le-length}
+use Rattle.platform_str.proofs.Common.{take-append-add, cond_both, nat_tests, length-map, length-take-le, take_more_set, take-take, prefix_len-le-length, All, AllByRecursion, count_by, prefix_len, zip2, mask_l, top, put_chunk}
 use Rattle.std.proofs.lemmas.Simd.{tops_compared, zip2_splat, zip2_splat_left, mask_l-mod, bitmask_splat, ones-mask_l, length-zip2, map-map, trailing_mask_l, take_more_put_chunk}
 use Rattle.std.specs.Int.Count.{count_trailing_zeros}
 use Rattle.std.specs.Int.RustNames.{count_ones}
-use Rattle.std.specs.List.{All, AllByRecursion, count_by, prefix_len}
 use Rattle.wtf8_core.proofs.lemmas.scan.Lanes.{none_set}
-use lib.Lanes.{zip2, mask_l, top, put_chunk}
 use mir.Syntax.{Width, w16}
 use mir.Val.{bits, hbits}
 

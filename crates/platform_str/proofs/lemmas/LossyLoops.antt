@@ -1,16 +1,7 @@
 -- One step of a loop over a string's faults.
 use Rattle.std.proofs.Common.{◌≡◌, ℕ, ◌<◌, ◌≤◌, List, ◌++◌, length, take, drop, refl, sym, ap, ◌∙◌, subst, arith, append_assoc, length-append, length-drop, ◌+◌, ◌-◌, take-take}
-use Rattle.std.proofs.Math.Seq.{take-append-add}
-use Rattle.std.proofs.lemmas.List.{length-take-le}
-use Rattle.std.specs.Str.{IsValidUpTo}
-use Rattle.wtf8_core.specs.Lossy.{replacement}
-use Rattle.wtf8_core.specs.declared.fault.EncodingError.{EncodingError}
+use Rattle.platform_str.proofs.Common.{take-append-add, length-take-le, IsValidUpTo, replacement, EncodingError, none_at, encode_utf8, StartsBare, PlatformLaws, IsReplaced, IsLeft, IsFirstText}
 use Rattle.wtf8_core.proofs.lemmas.texts.StdFaults.{no_char}
-use Rattle.wtf8_core.proofs.lemmas.characters.AtPlaces.{none_at}
-use Rattle.std.specs.Char.{encode_utf8}
-use Rattle.wtf8_core.specs.Covered.{StartsBare}
-use Rattle.platform_str.specs.Laws.{PlatformLaws, IsReplaced}
-use Rattle.platform_str.specs.Lossy.{IsLeft, IsFirstText}
 
 -- no whole character starts at a fault
 pub bare_at : {b behind : List ℕ} {n : ℕ} → behind ≡ drop n b → IsValidUpTo b n → StartsBare behind

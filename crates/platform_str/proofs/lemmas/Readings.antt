@@ -1,13 +1,9 @@
 -- One step of the loop over the faults of bytes that aren't WTF-8.
-use Rattle.std.proofs.Common.{◌≡◌, ℕ, List, ◌++◌, take, drop, sym, ap, ◌∙◌, subst, append_assoc}
-use Rattle.std.proofs.lemmas.List.{take_at, drop_at}
-use Rattle.wtf8_core.specs.Wtf8.{IsWtf8}
+use Rattle.platform_str.proofs.Common.{◌≡◌, ℕ, List, ◌++◌, take, drop, sym, ap, ◌∙◌, subst, append_assoc, take_at, drop_at, IsWtf8, replacement, IsLeftToRead}
 use Rattle.wtf8_core.specs.Fault.{IsFaultAt}
-use Rattle.wtf8_core.specs.Lossy.{replacement}
 use Rattle.wtf8_core.specs.LossyReading.{IsLossyReading}
 use Rattle.wtf8_core.specs.LossyReading.IsLossyReading.{formed, replaced}
 use Rattle.wtf8_core.proofs.lemmas.reader.LossyReadings.{reading_wtf8}
-use Rattle.platform_str.specs.Lossy.{IsLeftToRead}
 
 module _ {rest : List ℕ} {v n : ℕ} (f : IsFaultAt rest v n) where
   front_is : take v rest ≡ f.first.before

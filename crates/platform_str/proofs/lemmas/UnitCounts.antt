@@ -1,18 +1,7 @@
 -- How many bytes units have, by counts of units and of pairs.
-use Rattle.std.proofs.Common.{◌≡◌, ℕ, zero, suc, ◌+◌, ◌*◌, ◌≤◌, ◌<◌, Bool, cond, eqb, leb, List, [], ◌∷◌, length, length-append, take, drop, refl, ap, ◌∙◌, arith}
-use Rattle.std.proofs.lemmas.Bool.{cond_both}
-use Rattle.std.proofs.lemmas.Bool.Decides.{nat_tests}
-use Rattle.std.proofs.lemmas.List.{length-take}
-use Rattle.std.proofs.lemmas.List.Sums.{sum_by-cons, count_by-le-length}
-use Rattle.std.specs.List.{AllByRecursion, flat_map, count_by}
-use lib.Lanes.{zip2}
+use Rattle.platform_str.proofs.Common.{◌≡◌, ℕ, zero, suc, ◌+◌, ◌*◌, ◌≤◌, ◌<◌, Bool, cond, eqb, leb, List, [], ◌∷◌, length, length-append, take, drop, refl, ap, ◌∙◌, arith, cond_both, nat_tests, length-take, sum_by-cons, count_by-le-length, AllByRecursion, flat_map, count_by, zip2, IsHigh, IsLow, is_pair, paired, form, HasUnits, IsUnit, units_once, spelled_units, begins_pair, pairs}
 use Rattle.platform_str.proofs.lemmas.Lanes.{six_and_six}
-use Rattle.wtf8_core.specs.Surrogate.{IsHigh, IsLow, is_pair, paired}
-use Rattle.wtf8_core.specs.CodePoint.{form}
-use Rattle.wtf8_core.specs.Wtf8.{HasUnits}
 use Rattle.wtf8_core.specs.Decoder.{code_points_of}
-use Rattle.wtf8_core.proofs.lemmas.units.OneToOne.{IsUnit, units_once, spelled_units}
-use Rattle.platform_str.specs.Bulk.{begins_pair, pairs}
 
 -- one byte for each unit, one more for each from 80 on, one more for each from 800 on
 abbrev pub counted : List ℕ → ℕ

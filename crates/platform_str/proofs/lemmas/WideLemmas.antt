@@ -1,14 +1,7 @@
 -- The units of a string, if its bytes have no fault.
-use Rattle.std.proofs.Common.{◌≡◌, ℕ, List, [], ◌∷◌, map, Result, Ok, Err, sym, ap, ◌∙◌}
-use Rattle.std.specs.List.{flat_map}
-use Rattle.wtf8_core.specs.Wtf8.{IsWtf8, HasUnits, units}
-use Rattle.wtf8_core.specs.Items.{AreItems, AreUnitItems, unit_items}
+use Rattle.platform_str.proofs.Common.{◌≡◌, ℕ, List, [], ◌∷◌, map, Result, Ok, Err, sym, ap, ◌∙◌, flat_map, IsWtf8, HasUnits, units, AreItems, AreUnitItems, unit_items, ok_values, EncodingError, units_whole, ok_values_of_oks}
 use Rattle.wtf8_core.specs.Items.AreItems.{Whole, Faulty}
-use Rattle.wtf8_core.specs.UnitsOf.{ok_values}
-use Rattle.wtf8_core.specs.declared.fault.EncodingError.{EncodingError}
 use Rattle.wtf8_core.proofs.lemmas.reader.Complete.{never_both}
-use Rattle.wtf8_core.proofs.lemmas.reader.FirstErr.{units_whole}
-use Rattle.wtf8_core.proofs.lemmas.reader.FirstErr.{ok_values_of_oks}
 
 abbrev pub Item : Type 0
 Item = Result ℕ EncodingError

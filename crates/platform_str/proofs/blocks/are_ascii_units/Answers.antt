@@ -1,4 +1,4 @@
-use Rattle.std.proofs.Common.{w16, arith}
+use Rattle.platform_str.proofs.Common.{w16, arith}
 use Rattle.platform_str.proofs.lemmas.Lanes.{all_below_splat}
 use Rattle.platform_str.proofs.blocks.are_ascii_units.Goals as goal
 

@@ -1,8 +1,4 @@
-use Rattle.std.proofs.Common.{◌<◌, w16, take, arith, subst}
-use Rattle.std.proofs.lemmas.Bool.{eq-eqb}
-use Rattle.std.proofs.lemmas.List.{length-take-le, take-take, get_or-take}
-use Rattle.std.proofs.lemmas.List.Elements.{All-from_recursion}
-use Rattle.std.specs.List.{All}
+use Rattle.platform_str.proofs.Common.{◌<◌, w16, take, arith, subst, eq-eqb, length-take-le, take-take, get_or-take, All-from_recursion, All}
 use Rattle.platform_str.proofs.lemmas.Lanes.{all_below_splat, first_below, front_below_splat}
 use Rattle.platform_str.proofs.blocks.ascii_len.Goals as goal
 

@@ -1,8 +1,4 @@
-use Rattle.std.proofs.Common.{rules, ◌≤◌, ◌<◌, ◌*◌, ◌^◌, length, take, drop, ap, sym, subst, arith}
-use Rattle.std.specs.List.{AllByRecursion}
-use Rattle.std.proofs.lemmas.List.{take-append-drop}
-use Rattle.wtf8_core.proofs.lemmas.units.OneToOne.{IsUnit}
-use Rattle.platform_str.specs.Bulk.{pairs}
+use Rattle.platform_str.proofs.Common.{rules, ◌≤◌, ◌<◌, ◌*◌, ◌^◌, length, take, drop, ap, sym, subst, arith, AllByRecursion, take-append-drop, IsUnit, pairs}
 use Rattle.platform_str.proofs.lemmas.UnitCounts.{counted, counted_front, counted_few, count_few, counted_none, pairs_few, all_counted, string_counted}
 use Rattle.platform_str.proofs.lemmas.BulkBytes.{are_units, units_behind}
 use Rattle.platform_str.proofs.blocks.bytes_len.Goals as goal

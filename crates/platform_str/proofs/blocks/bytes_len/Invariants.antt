@@ -1,7 +1,4 @@
-use Rattle.std.proofs.Common.{◌≡◌, ◌+◌, length}
-use Rattle.std.specs.List.{AllByRecursion}
-use Rattle.wtf8_core.proofs.lemmas.units.OneToOne.{IsUnit}
-use Rattle.platform_str.specs.Bulk.{pairs}
+use Rattle.platform_str.proofs.Common.{◌≡◌, ◌+◌, length, AllByRecursion, IsUnit, pairs}
 use Rattle.platform_str.proofs.lemmas.UnitCounts.{counted}
 use Rattle.platform_str.proofs.blocks.bytes_len.Given as goal
 

@@ -1,5 +1,4 @@
-use Rattle.std.proofs.Common.{w16, take, arith}
-use Rattle.std.proofs.lemmas.List.{length-take-le}
+use Rattle.platform_str.proofs.Common.{w16, take, arith, length-take-le}
 use Rattle.platform_str.proofs.lemmas.Lanes.{count_from_splat}
 use Rattle.platform_str.proofs.blocks.count_from.Goals as goal
 

@@ -1,6 +1,4 @@
-use Rattle.std.proofs.Common.{◌≤◌, ◌+◌, length, take, drop, arith, ap, sym, ◌∙◌, length-drop}
-use Rattle.std.proofs.lemmas.List.{length-take-le}
-use Rattle.platform_str.specs.Bulk.{pairs}
+use Rattle.platform_str.proofs.Common.{◌≤◌, ◌+◌, length, take, drop, arith, ap, sym, ◌∙◌, length-drop, length-take-le, pairs}
 use Rattle.platform_str.proofs.lemmas.BulkBytes.{are_units}
 use Rattle.platform_str.proofs.lemmas.Lanes.{count_is_splat}
 use Rattle.platform_str.proofs.lemmas.UnitCounts.{pairs_below, pairs_front}

@@ -1,4 +1,4 @@
-use Rattle.std.proofs.Common.{arith}
+use Rattle.platform_str.proofs.Common.{arith}
 use Rattle.platform_str.proofs.lemmas.BulkBytes.{of_pair, of_first, begins_none}
 use Rattle.platform_str.proofs.blocks.first_code_point.Goals as goal
 

@@ -1,4 +1,4 @@
-use Rattle.std.proofs.Common.{w8, arith}
+use Rattle.platform_str.proofs.Common.{w8, arith}
 use Rattle.platform_str.proofs.lemmas.Lanes.{all_below_splat}
 use Rattle.platform_str.proofs.blocks.is_ascii_block.Goals as goal
 

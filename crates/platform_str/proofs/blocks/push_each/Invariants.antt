@@ -1,5 +1,4 @@
-use Rattle.std.proofs.Common.{◌≡◌, ◌++◌, ◌≤◌, vec_capacity}
-use Rattle.wtf8_core.specs.UnitsOf.{units_of}
+use Rattle.platform_str.proofs.Common.{◌≡◌, ◌++◌, ◌≤◌, vec_capacity, units_of}
 use Rattle.platform_str.specs.Strings.{bytes}
 use Rattle.platform_str.proofs.blocks.push_each.Given as goal
 

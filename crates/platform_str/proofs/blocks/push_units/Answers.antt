@@ -1,8 +1,4 @@
-use Rattle.std.proofs.Common.{[], length, ap, ◌∙◌, arith}
-use Rattle.std.proofs.lemmas.Bool.{false≢true}
-use Rattle.std.proofs.lemmas.List.{append-nil}
-use Rattle.wtf8_core.specs.CodePoint.{wide}
-use Rattle.wtf8_core.specs.UnitsOf.{units_of}
+use Rattle.platform_str.proofs.Common.{[], length, ap, ◌∙◌, arith, false≢true, append-nil, wide, units_of}
 use Rattle.platform_str.proofs.lemmas.BulkUnits.{ascii_step, ascii_written, form_step, form_shorter, room_for}
 use Rattle.platform_str.proofs.blocks.push_units.Goals as goal
 

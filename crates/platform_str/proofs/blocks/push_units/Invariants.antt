@@ -1,6 +1,4 @@
-use Rattle.std.proofs.Common.{◌≡◌, ◌++◌, ◌≤◌, length, vec_capacity}
-use Rattle.wtf8_core.specs.Wtf8.{IsWtf8}
-use Rattle.wtf8_core.specs.UnitsOf.{units_of}
+use Rattle.platform_str.proofs.Common.{◌≡◌, ◌++◌, ◌≤◌, length, vec_capacity, IsWtf8, units_of}
 use Rattle.platform_str.proofs.blocks.push_units.Given as goal
 
 abbrev pub invariant-loop-block : goal.invariant-loop-block

@@ -1,4 +1,4 @@
-use Rattle.std.proofs.Common.{◌+◌, arith}
+use Rattle.platform_str.proofs.Common.{◌+◌, arith}
 use Rattle.std.proofs.lemmas.Simd.{take_more_put_chunk}
 use Rattle.platform_str.proofs.blocks.put_ascii.Goals as goal
 

@@ -1,8 +1,5 @@
-use Rattle.std.proofs.Common.{ℕ, ◌++◌, ◌%◌, ◌<◌, take, map, arith, ap, subst, ◌∙◌}
-use Rattle.std.proofs.lemmas.List.{length-take-le, length-map}
-use Rattle.std.proofs.lemmas.List.Elements.{recursion_from_All}
+use Rattle.platform_str.proofs.Common.{ℕ, ◌++◌, ◌%◌, ◌<◌, take, map, arith, ap, subst, ◌∙◌, length-take-le, length-map, recursion_from_All, All}
 use Rattle.std.proofs.lemmas.Simd.{zip2_splat, map-map}
-use Rattle.std.specs.List.{All}
 use Rattle.platform_str.proofs.lemmas.Lanes.{take_one_set, take_front_put_chunk, front_kept}
 use Rattle.platform_str.proofs.blocks.put_ascii_front.Goals as goal
 

@@ -1,7 +1,4 @@
-use Rattle.std.proofs.Common.{rules, ◌≡◌, length, take, sym, subst, arith, ◌∙◌}
-use Rattle.std.proofs.lemmas.List.{length-take-le}
-use Rattle.wtf8_core.specs.CodePoint.{form}
-use Rattle.platform_str.specs.Bulk.{SpellsBefore}
+use Rattle.platform_str.proofs.Common.{rules, ◌≡◌, length, take, sym, subst, arith, ◌∙◌, length-take-le, form, SpellsBefore}
 use Rattle.platform_str.proofs.lemmas.BulkBytes.{spells_both, spells_ascii_front, units_behind, units_room, bytes_fit, bytes_filled}
 use Rattle.platform_str.proofs.blocks.spell.Goals as goal
 

@@ -1,7 +1,4 @@
-use Rattle.std.proofs.Common.{◌≡◌, ◌≤◌, length, take}
-use Rattle.std.specs.List.{AllByRecursion}
-use Rattle.wtf8_core.proofs.lemmas.units.OneToOne.{IsUnit}
-use Rattle.platform_str.specs.Bulk.{SpellsBefore}
+use Rattle.platform_str.proofs.Common.{◌≡◌, ◌≤◌, length, take, AllByRecursion, IsUnit, SpellsBefore}
 use Rattle.platform_str.proofs.blocks.spell.Given as goal
 
 abbrev pub invariant-loop-rest : goal.invariant-loop-rest

@@ -1,4 +1,4 @@
-use Rattle.std.proofs.Common.{ℕ, sym, ap, ◌∙◌, cond, ◌+◌, arith}
+use Rattle.platform_str.proofs.Common.{ℕ, sym, ap, ◌∙◌, cond, ◌+◌, arith}
 use Rattle.platform_str.proofs.lemmas.Displays.{counted, all_counted}
 use Rattle.platform_str.proofs.display.chars.Goals as goal
 

@@ -1,5 +1,4 @@
-use Rattle.std.proofs.Common.{◌≡◌, ◌≤◌, ◌+◌, length}
-use Rattle.std.specs.Fmt.{char_count}
+use Rattle.platform_str.proofs.Common.{◌≡◌, ◌≤◌, ◌+◌, length, char_count}
 use Rattle.platform_str.proofs.display.chars.Given as goal
 
 abbrev pub invariant-loop-first : goal.invariant-loop-first

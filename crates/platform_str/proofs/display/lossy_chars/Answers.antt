@@ -1,5 +1,4 @@
-use Rattle.std.proofs.Common.{length, ap, ◌∙◌, arith}
-use Rattle.std.specs.Fmt.{char_count}
+use Rattle.platform_str.proofs.Common.{length, ap, ◌∙◌, arith, char_count}
 use Rattle.platform_str.proofs.lemmas.Displays.{count_first}
 use Rattle.platform_str.proofs.display.lossy_chars.Goals as goal
 

@@ -1,5 +1,4 @@
-use Rattle.std.proofs.Common.{true, refl, sym, ap, ◌++◌, ◌∙◌}
-use Rattle.std.specs.Char.{encode_utf8}
+use Rattle.platform_str.proofs.Common.{true, refl, sym, ap, ◌++◌, ◌∙◌, encode_utf8}
 use Rattle.std.proofs.Output.{has_written_styled_append, has_written_styled_of_eq}
 use Rattle.platform_str.proofs.lemmas.Displays.{write_first}
 use Rattle.platform_str.proofs.display.write_text.Goals as goal

@@ -1,5 +1,4 @@
-use Rattle.std.proofs.Common.{◌≡◌, List, ℕ, ◌++◌, length}
-use Rattle.std.specs.Fmt.{IsFlush, HasWrittenStyled}
+use Rattle.platform_str.proofs.Common.{◌≡◌, List, ℕ, ◌++◌, length, IsFlush, HasWrittenStyled}
 use Rattle.platform_str.proofs.display.write_text.Given as goal
 
 abbrev pub invariant-loop-front : goal.invariant-loop-front

@@ -1,9 +1,4 @@
-use Rattle.std.proofs.Common.{◌≡◌, ◌+◌, ◌-◌, ◌≤◌, ◌++◌, List, ℕ, Result, Ok, Err, length, length-append, length-drop, take, drop, sym, ap, ◌∙◌, subst, arith}
-use Rattle.std.specs.Result.{OnOk, OnErr}
-use Rattle.wtf8_core.specs.CodePoint.{form}
-use Rattle.wtf8_core.specs.Wtf8.{IsWtf8}
-use Rattle.wtf8_core.specs.UnitsOf.{units_of}
-use Rattle.wtf8_core.specs.Join.{IsJoin, IsPairBetween}
+use Rattle.platform_str.proofs.Common.{◌≡◌, ◌+◌, ◌-◌, ◌≤◌, ◌++◌, List, ℕ, Result, Ok, Err, length, length-append, length-drop, take, drop, sym, ap, ◌∙◌, subst, arith, OnOk, OnErr, form, IsWtf8, units_of, IsJoin, IsPairBetween}
 use Rattle.wtf8_core.proofs.lemmas.units.Joins.{plain_join, pair_bytes, written_join}
 use Rattle.platform_str.proofs.join.push_wtf8.Goals as goal
 

@@ -1,7 +1,4 @@
-use Rattle.std.proofs.Common.{rules, ◌≡◌, ◌++◌, ◌+◌, take, drop, length, ap, ◌∙◌, subst, arith}
-use Rattle.std.proofs.lemmas.List.{with_items_is}
-use Rattle.wtf8_core.specs.CodePoint.{form}
-use Rattle.wtf8_core.proofs.lemmas.forms.Shapes.{form_past}
+use Rattle.platform_str.proofs.Common.{rules, ◌≡◌, ◌++◌, ◌+◌, take, drop, length, ap, ◌∙◌, subst, arith, with_items_is, form, form_past}
 use Rattle.platform_str.proofs.lemmas.FourBytes.{pair_written}
 use Rattle.platform_str.proofs.join.write_form_at.Goals as goal
 

@@ -1,5 +1,4 @@
-use Rattle.std.proofs.Common.{◌≡◌, List, ℕ, ◌++◌, sym, ap, ◌∙◌, append_assoc}
-use Rattle.wtf8_core.specs.Join.{IsJoin}
+use Rattle.platform_str.proofs.Common.{◌≡◌, List, ℕ, ◌++◌, sym, ap, ◌∙◌, append_assoc, IsJoin}
 use Rattle.wtf8_core.specs.Standing.{IsFront}
 use Rattle.wtf8_core.specs.StandingLaws.{StandingLaws}
 use Rattle.platform_str.proofs.laws.joins.Goals as goal

@@ -1,4 +1,4 @@
-use Rattle.wtf8_core.proofs.lemmas.characters.AtPlaces.{text_of_character}
+use Rattle.platform_str.proofs.Common.{text_of_character}
 use Rattle.platform_str.proofs.laws.texts.Goals as goal
 
 pub returns-clause-behind_text : goal.returns-clause-behind_text

@@ -1,5 +1,4 @@
-use Rattle.std.proofs.Common.{refl, sym, subst}
-use Rattle.platform_str.specs.Lossy.{IsFaultPart}
+use Rattle.platform_str.proofs.Common.{refl, sym, subst, IsFaultPart}
 use Rattle.platform_str.proofs.lemmas.LossyLoops.{bare_at, first_part, first_text}
 use Rattle.platform_str.proofs.lossy.first_replaced.Goals as goal
 

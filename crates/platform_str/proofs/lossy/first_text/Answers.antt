@@ -1,5 +1,4 @@
-use Rattle.std.proofs.Common.{sym, ◌∙◌, subst}
-use Rattle.platform_str.specs.Lossy.{IsFirstText}
+use Rattle.platform_str.proofs.Common.{sym, ◌∙◌, subst, IsFirstText}
 use Rattle.platform_str.proofs.lossy.first_text.Goals as goal
 
 pub returns : goal.returns

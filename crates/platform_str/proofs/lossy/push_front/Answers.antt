@@ -1,4 +1,4 @@
-use Rattle.std.proofs.Common.{◌≡◌, ◌-◌, length, take, ap, ◌∙◌, arith}
+use Rattle.platform_str.proofs.Common.{◌≡◌, ◌-◌, length, take, ap, ◌∙◌, arith}
 use Rattle.platform_str.proofs.lemmas.LossyLoops.{front_of_block}
 use Rattle.platform_str.proofs.lossy.push_front.Goals as goal
 

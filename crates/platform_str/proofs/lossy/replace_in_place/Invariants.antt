@@ -1,5 +1,4 @@
-use Rattle.std.proofs.Common.{◌-◌, length}
-use Rattle.platform_str.specs.Lossy.{IsReplacedUpTo}
+use Rattle.platform_str.proofs.Common.{◌-◌, length, IsReplacedUpTo}
 use Rattle.platform_str.proofs.lossy.replace_in_place.Given as goal
 
 abbrev pub invariant-loop-valid : goal.invariant-loop-valid

@@ -1,5 +1,4 @@
-use Rattle.std.proofs.Common.{length}
-use Rattle.platform_str.specs.Lossy.{IsLeft}
+use Rattle.platform_str.proofs.Common.{length, IsLeft}
 use Rattle.platform_str.proofs.lossy.text_bytes.Given as goal
 
 abbrev pub invariant-loop-len : goal.invariant-loop-len

@@ -1,6 +1,4 @@
-use Rattle.std.proofs.Common.{ap, ◌++◌, length, subst, arith}
-use Rattle.wtf8_core.specs.Lossy.{replacement}
-use Rattle.wtf8_core.specs.Truncated.{IsTruncated}
+use Rattle.platform_str.proofs.Common.{ap, ◌++◌, length, subst, arith, replacement, IsTruncated}
 use Rattle.platform_str.proofs.lemmas.LossyLoops.{made_more}
 use Rattle.platform_str.proofs.lossy.write_text.Goals as goal
 

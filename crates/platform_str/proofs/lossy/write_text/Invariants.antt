@@ -1,6 +1,4 @@
-use Rattle.std.proofs.Common.{◌≡◌, ◌+◌, ◌*◌, ◌≤◌, ℕ, List, length}
-use Rattle.wtf8_core.specs.Truncated.{IsTruncated}
-use Rattle.platform_str.specs.Lossy.{IsLeft}
+use Rattle.platform_str.proofs.Common.{◌≡◌, ◌+◌, ◌*◌, ◌≤◌, ℕ, List, length, IsTruncated, IsLeft}
 use Rattle.platform_str.proofs.lossy.write_text.Given as goal
 
 -- what is written so far, and no more than three bytes for each that was read

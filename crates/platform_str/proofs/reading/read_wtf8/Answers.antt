@@ -1,4 +1,4 @@
-use Rattle.std.proofs.Common.{refl}
+use Rattle.platform_str.proofs.Common.{refl}
 use Rattle.platform_str.proofs.lemmas.Readings.{read_part, read_end, read_end_wtf8}
 use Rattle.platform_str.proofs.reading.read_wtf8.Goals as goal
 

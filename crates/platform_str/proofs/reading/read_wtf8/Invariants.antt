@@ -1,5 +1,4 @@
-use Rattle.std.proofs.Common.{length}
-use Rattle.platform_str.specs.Lossy.{IsLeftToRead}
+use Rattle.platform_str.proofs.Common.{length, IsLeftToRead}
 use Rattle.platform_str.proofs.reading.read_wtf8.Given as goal
 
 abbrev pub invariant-loop-valid_up_to : goal.invariant-loop-valid_up_to

@@ -1,5 +1,4 @@
-use Rattle.std.specs.Str.{IsUtf8}
-use Rattle.wtf8_core.proofs.lemmas.units.PrefixTests.{never}
+use Rattle.platform_str.proofs.Common.{IsUtf8, never}
 use Rattle.wtf8_core.proofs.lemmas.texts.LossyTexts.{no_text}
 use Rattle.platform_str.proofs.text.is_text.Goals as goal
 

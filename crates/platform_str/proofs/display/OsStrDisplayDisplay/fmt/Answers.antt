@@ -1,7 +1,5 @@
-use Rattle.std.proofs.Common.{true, refl, sym, ap, ◌∙◌}
-use Rattle.std.specs.Fmt.{formatter_spec, spec_align, spec_fill, spec_width}
+use Rattle.platform_str.proofs.Common.{true, refl, sym, ap, ◌∙◌, formatter_spec, spec_align, spec_fill, spec_width, fill_before}
 use Rattle.std.proofs.Output.{has_written_styled_append, has_written_styled_of_eq}
-use Rattle.platform_str.specs.Display.{fill_before}
 use Rattle.platform_str.proofs.lemmas.Displays.{filled_by}
 use Rattle.platform_str.proofs.display.OsStrDisplayDisplay.fmt.Goals as goal
 

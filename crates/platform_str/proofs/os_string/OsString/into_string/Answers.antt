@@ -1,6 +1,4 @@
-use Rattle.std.proofs.Common.{subst}
-use Rattle.std.specs.Str.{IsUtf8}
-use Rattle.std.proofs.lemmas.Str.{IsUtf8-string_bytes}
+use Rattle.platform_str.proofs.Common.{subst, IsUtf8, IsUtf8-string_bytes}
 use Rattle.platform_str.proofs.os_string.OsString.into_string.Goals as goal
 
 -- a text's bytes are UTF-8

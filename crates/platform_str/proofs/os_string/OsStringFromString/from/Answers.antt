@@ -1,4 +1,4 @@
-use Rattle.std.proofs.lemmas.Str.{IsUtf8-string_bytes}
+use Rattle.platform_str.proofs.Common.{IsUtf8-string_bytes}
 use Rattle.platform_str.proofs.os_string.OsStringFromString.from.Goals as goal
 
 -- a text is a string of every platform

@@ -1,4 +1,4 @@
-use Rattle.wtf8_core.proofs.lemmas.units.PrefixTests.{end_tested}
+use Rattle.platform_str.proofs.Common.{end_tested}
 use Rattle.platform_str.proofs.unix.UnixPlatform.ends_with_os.Goals as goal
 
 pub returns : goal.returns

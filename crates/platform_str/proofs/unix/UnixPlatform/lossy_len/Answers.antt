@@ -1,6 +1,4 @@
-use Rattle.wtf8_core.proofs.lemmas.characters.AtPlaces.{none_begins}
-use Rattle.wtf8_core.proofs.lemmas.texts.AreWtf8.{part_at_front}
-use Rattle.platform_str.specs.platforms.Wasm.{never_bare}
+use Rattle.platform_str.proofs.Common.{none_begins, part_at_front, never_bare}
 use Rattle.platform_str.proofs.unix.UnixPlatform.lossy_len.Goals as goal
 
 pub replaced_len-requires-clause-part : goal.replaced_len-requires-clause-part

@@ -1,6 +1,5 @@
-use Rattle.std.proofs.Common.{inl, inr, refl, sym, subst}
+use Rattle.platform_str.proofs.Common.{inl, inr, refl, sym, subst, IsFaultPart}
 use Rattle.wtf8_core.specs.Utf8.{IsIllFormed}
-use Rattle.platform_str.specs.Lossy.{IsFaultPart}
 use Rattle.platform_str.proofs.unix.UnixPlatform.replaced_len.Goals as goal
 
 pub returns-in-Some : goal.returns-in-Some

@@ -1,4 +1,4 @@
-use Rattle.wtf8_core.proofs.lemmas.units.PrefixTests.{front_tested}
+use Rattle.platform_str.proofs.Common.{front_tested}
 use Rattle.platform_str.proofs.unix.UnixPlatform.starts_with_os.Goals as goal
 
 pub returns : goal.returns

@@ -1,4 +1,4 @@
-use Rattle.platform_str.specs.platforms.Wasm.{never_bare}
+use Rattle.platform_str.proofs.Common.{never_bare}
 use Rattle.platform_str.proofs.wasm.WasmPlatform.first_unit.Goals as goal
 
 pub unreachable-requires : goal.unreachable-requires

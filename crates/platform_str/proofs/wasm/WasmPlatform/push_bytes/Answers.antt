@@ -1,7 +1,4 @@
-use Rattle.std.proofs.Common.{◌≡◌, ◌++◌, List, ℕ, Result, Ok, Err, sym, subst}
-use Rattle.std.specs.Result.{OnOk, OnErr}
-use Rattle.std.specs.Str.{IsUtf8}
-use Rattle.std.proofs.lemmas.Str.{IsUtf8-append}
+use Rattle.platform_str.proofs.Common.{◌≡◌, ◌++◌, List, ℕ, Result, Ok, Err, sym, subst, OnOk, OnErr, IsUtf8, IsUtf8-append}
 use Rattle.platform_str.proofs.wasm.WasmPlatform.push_bytes.Goals as goal
 
 formed : {T E : Type 0} (r : Result T E) (a b n : List ℕ) → IsUtf8 a → IsUtf8 b → OnOk r (n ≡ a ++ b) → OnErr r (n ≡ a) → IsUtf8 n

@@ -1,7 +1,5 @@
-use Rattle.std.proofs.Common.{sym, subst}
+use Rattle.platform_str.proofs.Common.{sym, subst, IsLossyText, lossy_text, lossy_is_utf8}
 use Rattle.std.proofs.lemmas.Result.{IfOk-weaker}
-use Rattle.wtf8_core.specs.Lossy.{IsLossyText}
-use Rattle.wtf8_core.proofs.lemmas.texts.AreWtf8.{lossy_text, lossy_is_utf8}
 use Rattle.platform_str.proofs.wasm.WasmPlatform.read_lossy.Goals as goal
 
 pub returns-clause-reading : goal.returns-clause-reading

@@ -1,7 +1,4 @@
-use Rattle.std.proofs.Common.{sym, subst}
-use Rattle.wtf8_core.specs.Wtf8.{HasUnits}
-use Rattle.wtf8_core.specs.UnitsOf.{ok_values}
-use Rattle.wtf8_core.proofs.lemmas.units.AsFunction.{units_of-is}
+use Rattle.platform_str.proofs.Common.{sym, subst, HasUnits, ok_values, units_of-is}
 use Rattle.platform_str.proofs.lemmas.WideLemmas.{ok_units}
 use Rattle.platform_str.proofs.wide.OsStr+Windows.encode_wide.Goals as goal
 

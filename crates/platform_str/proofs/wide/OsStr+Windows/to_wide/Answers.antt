@@ -1,5 +1,4 @@
-use Rattle.std.proofs.Common.{arith}
-use Rattle.std.proofs.lemmas.Bool.{false≢true}
+use Rattle.platform_str.proofs.Common.{arith, false≢true}
 use Rattle.platform_str.proofs.lemmas.BulkUnits.{units_fit, has_written}
 use Rattle.platform_str.proofs.wide.OsStr+Windows.to_wide.Goals as goal
 

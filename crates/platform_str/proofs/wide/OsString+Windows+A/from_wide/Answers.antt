@@ -1,8 +1,4 @@
-use Rattle.std.proofs.Common.{rules, ◌≡◌, [], length, sym, subst}
-use Rattle.std.proofs.lemmas.Bool.{false≢true}
-use Rattle.std.proofs.lemmas.List.{with_items_is}
-use Rattle.wtf8_core.specs.Wtf8.{HasUnits}
-use Rattle.wtf8_core.proofs.lemmas.units.AsFunction.{units_of-is}
+use Rattle.platform_str.proofs.Common.{rules, ◌≡◌, [], length, sym, subst, false≢true, with_items_is, HasUnits, units_of-is}
 use Rattle.platform_str.proofs.lemmas.BulkBytes.{has_none}
 use Rattle.platform_str.proofs.wide.OsString+Windows+A.from_wide.Goals as goal
 

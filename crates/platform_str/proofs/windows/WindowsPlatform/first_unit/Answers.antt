@@ -1,4 +1,4 @@
-use Rattle.std.proofs.Common.{◌∷◌, ap, ◌∙◌}
+use Rattle.platform_str.proofs.Common.{◌∷◌, ap, ◌∙◌}
 use Rattle.platform_str.proofs.lemmas.FirstUnits.{first_is_unit, first_is_no_fault, first_is_there}
 use Rattle.platform_str.proofs.windows.WindowsPlatform.first_unit.Goals as goal
 
