@@ -15,8 +15,6 @@ pub mod files;
 pub mod hex_text;
 mod kind;
 pub mod summary;
-#[cfg(test)]
-mod tests;
 
 pub use asked::{Asked, join};
 pub use column::Column;

@@ -20,6 +20,3 @@ mod turns;
 pub use allocator::Refusing;
 pub use plan::Plan;
 pub use turns::for_each_refusal;
-
-#[cfg(test)]
-mod tests;
