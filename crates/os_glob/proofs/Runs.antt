@@ -78,9 +78,6 @@ run_anywhere w ts ps h = record {
     anywhere [] t = tt
     anywhere (p ∷ ps) t = (takes_anywhere w p t.0, anywhere ps t.1)
 
-pub run_wider : (ts : List Token) (ps : List Place) → Matches (Run Star ∷ ts) ps → Matches (Run DoubleStar ∷ ts) ps
-run_wider ts ps h = record { run = h.run; rest = h.rest; joined = h.joined; taken = all_wider DoubleStar h.run h.taken; behind = h.behind }
-
 -- one place
 pub one_place : (x : Class) (ts : List Token) (p : Place) (ps : List Place) → Matches (One x ∷ ts) (p ∷ ps) → Fits x p × Matches ts ps
 one_place x ts p ps h = let e = parts h.joined in (subst (Fits x) (sym e.0) h.fits, subst (Matches ts) (sym e.1) h.behind)

@@ -175,9 +175,6 @@ pub text_skipped : (o : GlobOptions) → o.literal_leading_dot ≡ false → (w 
 text_skipped o dots w literal begins cs front rest ss e h =
     subst (λ x. IsSkipped w literal (places o begins (map Character x ++ ss)) (places o false (map Character rest ++ ss))) (sym e) (characters_skipped o dots w literal begins front rest ss h)
 
-pub none_skipped : (w : Wildcard) (literal : Option ℕ) (ps : List Place) → IsSkipped w literal ps ps
-none_skipped w literal ps = record { run = []; joined = refl; passed = tt }
-
 -- a text before the first unit
 pub text_first : (units : List ℕ → List ℕ) (s part text rest : List ℕ) → chunks_of s ≡ (part, text) ∷ chunks_of rest → units part ≡ [] → map Character (chars text) ++ symbols_of units rest ≡ symbols_of units s
 text_first units s part text rest e n =
@@ -194,19 +191,10 @@ never_at : (w : Wildcard) (run : List Place) → AllByRecursion (λ p. Takes w p
 never_at w [] h = tt
 never_at w (p ∷ run) h = ((h.0.0, λ left m. let k : ◌≡◌ {A = List Place} (p ∷ left) [] = m in cc), never_at w run h.1)
 
-pub skips_to_end : (w : Wildcard) (ts : List Token) (ps rest : List Place) → ts ≡ [] → IsSkipped w None ps rest → Skips w ts ps rest
-skips_to_end w ts ps rest e h = subst (λ t. Skips w t ps rest) (sym e) (record { run = h.run; joined = h.joined; passed = never_at w h.run h.passed; no_more_places = fewer w None ps rest h })
-
 module _ (w : Wildcard) (b : ℕ) (more : List Token) where
   never_byte : (run : List Place) → AllByRecursion (λ p. Takes w p × DiffersAt (Some b) p) run → AllByRecursion (λ p. Takes w p × ((left : List Place) → Matches (One (Same (Ordinary (Character b))) ∷ more) (p ∷ left) → ⊥)) run
   never_byte [] h = tt
   never_byte (p ∷ run) h = ((h.0.0, λ left m. h.0.1 (one_place (Same (Ordinary (Character b))) more p left m).0), never_byte run h.1)
-
-  pub skips_to_byte : (ts : List Token) (ps rest : List Place) → ts ≡ One (Same (Ordinary (Character b))) ∷ more → IsSkipped w (Some b) ps rest → Skips w ts ps rest
-  skips_to_byte ts ps rest e h = subst (λ t. Skips w t ps rest) (sym e) (record { run = h.run; joined = h.joined; passed = never_byte h.run h.passed; no_more_places = fewer w (Some b) ps rest h })
-
-pub skips_none : (w : Wildcard) (ts : List Token) (ps : List Place) → Skips w ts ps ps
-skips_none w ts ps = record { run = []; joined = refl; passed = tt; no_more_places = omega arith }
 
 -- matching goes on after them
 module _ (ts : List Token) (ps : List Place) (qs : List Token) where

@@ -20,20 +20,7 @@ pub record SoFar (ts : List Token) (ps : List Place) (qs : List Token) (rest : L
   pub no_more_places : length rest ≤ length ps
 
 module _ (ts : List Token) (ps : List Place) where
-  pub not_yet : SoFar ts ps ts ps
-  not_yet = record { alike = (λ m. m, λ m. m); behind = λ w m. m; no_more_tokens = omega arith; no_more_places = omega arith }
-
   module _ (qs : List Token) (rest : List Place) (so_far : SoFar ts ps qs rest) where
-    pub at_wildcard : (w : Wildcard) (more : List Token) → qs ≡ Run w ∷ more → GoesOn ts ps w more rest
-    at_wildcard w more e =
-        let h : SoFar ts ps (Run w ∷ more) rest = subst (λ x. SoFar ts ps x rest) e so_far in
-        let n : length (Run w ∷ more) ≤ length ts = h.no_more_tokens in record {
-          alike = h.alike;
-          behind = h.behind;
-          fewer_tokens = omega arith;
-          no_more_places = h.no_more_places;
-        }
-
     module _ (x : Class) (more : List Token) (e : qs ≡ One x ∷ more) where
       pub at_end : rest ≡ [] → Matches (Run DoubleStar ∷ ts) ps → ⊥
       at_end f m =
@@ -56,9 +43,6 @@ module _ (ts : List Token) (ps : List Place) where
 
     pub all : qs ≡ [] → rest ≡ [] → Matches ts ps
     all e f = so_far.alike.1 (subst (λ t. Matches t rest) (sym e) f)
-
-    pub left_over : (p : Place) (left : List Place) → qs ≡ [] → rest ≡ p ∷ left → Matches ts ps → ⊥
-    left_over p left e f m = let n : rest ≡ [] = subst (λ t. Matches t rest) e (so_far.alike.0 m) in let k : p ∷ left ≡ [] = sym f ∙ n in cc
 
 -- places at which the tokens don't match
 module _ (w : Wildcard) (qs : List Token) (from here : List Place) (never : Matches qs here → ⊥) (same : here ≡ from) where
@@ -88,9 +72,6 @@ pub record AfterStar (ts : List Token) (ps : List Place) (qs : List Token) (rest
   pub behind : Matches (Run DoubleStar ∷ ts) ps → Matches (Run DoubleStar ∷ qs) rest
   pub no_more_tokens : length qs ≤ length ts
   pub no_more_places : length rest ≤ length ps
-
-pub after_star : (ts : List Token) (ps : List Place) → AfterStar ts ps ts ps
-after_star ts ps = record { alike = (λ m. m, λ m. m); behind = λ m. m; no_more_tokens = omega arith; no_more_places = omega arith }
 
 module _ (ts : List Token) (ps : List Place) (qs : List Token) (rest : List Place) (so_far : AfterStar ts ps qs rest) where
   module _ (here : List Place) (same : here ≡ rest) where
@@ -180,9 +161,6 @@ pub record IsPast (ps rest : List Place) : Type 0 where
   pub joined : ps ≡ run ++ rest
   pub taken : AllByRecursion (Takes Star) run
   pub no_more_places : length rest ≤ length ps
-
-pub not_past : (ps : List Place) → IsPast ps ps
-not_past ps = record { run = []; joined = refl; taken = tt; no_more_places = omega arith }
 
 module _ (ps rest : List Place) (past : IsPast ps rest) where
   pub past_one : (p : Place) (left : List Place) → rest ≡ p ∷ left → Takes Star p → IsPast ps left
