@@ -1,5 +1,5 @@
 -- What follows of an `Option` or a `Result` from what each variant says.
-use Rattle.std.proofs.Common.{◌≡◌, ap, Option, None, Some, IfSome, MatchOption, Result, Ok, Err, IfOk, IfErr, IsErrAnd, MatchResult}
+use Rattle.std.proofs.Common.{◌≡◌, ◌∙◌, ap, Option, None, Some, IfSome, MatchOption, Result, Ok, Err, IfOk, IfErr, IsErrAnd, MatchResult}
 
 -- what follows of a value follows where there is one
 pub where_some : {A : Type 0} (P : Type 0) {Q R : A → Type 0} → ((x : A) → Q x → R x) → (o : Option A) → MatchOption o P Q → IfSome o R
@@ -24,3 +24,7 @@ only_some P (Some x) is some one = ap Some (one x is)
 pub err_and : {A B : Type 0} {P : A → Type 0} {Q R : B → Type 0} → (r : Result A B) → IfOk r P → IfErr r Q → ((x : A) → P x → ⊥) → ((e : B) → Q e → R e) → IsErrAnd r R
 err_and (Ok x) ok err none f = absurd (none x ok)
 err_and (Err e) ok err none f = f e err
+
+-- a pair of these two
+pub pair_of : {A B : Type 0} (pair : A × B) (a : A) (b : B) → (pair.0 ≡ a) × (pair.1 ≡ b) → pair ≡ (a, b)
+pair_of pair a b same = ap (λ x. (x, pair.1)) same.0 ∙ ap (λ y. (a, y)) same.1

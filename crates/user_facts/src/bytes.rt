@@ -1,5 +1,5 @@
 //! Bytes as code points, and their faults.
-ghost use Rattle.std.specs.Prelude.{◌≡◌, ◌↔◌, ◌⊎◌, ◌<◌, ◌≤◌, ◌++◌, ℕ, List, Err, IfSome, IsTrue, length};
+ghost use Rattle.std.specs.Prelude.{◌≡◌, ◌↔◌, ◌⊎◌, ◌<◌, ◌≤◌, ◌++◌, ℕ, List, Err, Some, IfSome, IsTrue, length};
 ghost use Rattle.wtf8_core.specs.Wtf8.{Spells, IsWtf8, HasUnits};
 ghost use Rattle.wtf8_core.specs.Fault.{IsFirstFault};
 ghost use Rattle.wtf8_core.specs.Boundary.{IsBoundary};
@@ -84,7 +84,7 @@ pub fn utf8_fault_says(
     error_len: Option<u8>,
 ) -> Option<(usize, Option<u8>)>
     requires { IsUtf8Fault raw.now valid_up_to error_len }
-    ensures { IfSome result (λ fault. (fault.0 ≡ valid_up_to) × (fault.1 ≡ error_len)) }
+    ensures { result ≡ Some (valid_up_to, error_len) }
 {
     laws::one_utf8_fault();
     utf8_fault(raw)

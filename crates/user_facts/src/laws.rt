@@ -1,5 +1,5 @@
 //! What stays: a fault once it was answered, its one index, and that equal strings hash alike.
-ghost use Rattle.std.specs.Prelude.{◌≡◌, ◌↔◌, ◌<◌, ◌^◌, [], Err, IsTrue, IfErr, IfSome};
+ghost use Rattle.std.specs.Prelude.{◌≡◌, ◌↔◌, ◌<◌, ◌^◌, [], Err, IsTrue, IfErr, Some};
 ghost use Rattle.std.specs.String.{string_vec};
 ghost use Rattle.wtf8_core.specs.Fault.{IsFaultAt};
 ghost use Rattle.wtf8_core.specs.declared.fault.EncodingError.TheVariants.{Utf8};
@@ -30,9 +30,10 @@ pub fn fault_again(
 /// The index of the fault of bytes of which one is known, which is that one.
 pub fn fault_place_says(raw: &[u8], at: usize, len: usize) -> Option<(usize, usize)>
     requires { IsFaultAt raw.now at len }
-    ensures { IfSome result (λ fault. (fault.0 ≡ at) × (fault.1 ≡ len)) }
+    ensures { result ≡ Some (at, len) }
 {
     wtf8_laws::one_fault_place();
+    wtf8_laws::spelled_or_faulty();
     wtf8_fault(raw)
 }
 
