@@ -3,13 +3,16 @@ pub mod CommandLines
 pub mod EqualOrder
 pub mod FirstAndLast
 pub mod GlobFaults
+pub mod LossyOfChunks
 pub mod NoMatch
 pub mod OnePiece
 pub mod Outcomes
+pub mod PieceCount
 pub mod PiecesFromBothEnds
 pub mod PiecesJoined
 pub mod Places
 pub mod QuoteFaults
 pub mod Repeats
+pub mod ReplacedParts
 pub mod SomePlace
 pub mod TrimsAgain

@@ -38,7 +38,7 @@ module _ (p : List ℕ) (some : 0 < length p) where
       ap (λ z. z ∷ xs) piece ∙ ap (λ zs. y ∷ zs) (one_rsplit b xs ys (subst (λ z. IsRSplit p z xs) rest f) g)
 
   -- what occurs after the first of two parts occurs in the second
-  in_second : (x y : List ℕ) (k : ℕ) → StandsAt p (x ++ y) k → length x ≤ k → StandsAt p y (k - length x)
+  pub in_second : (x y : List ℕ) (k : ℕ) → StandsAt p (x ++ y) k → length x ≤ k → StandsAt p y (k - length x)
   in_second x y k st far =
       let place = st.place in record {
         before = drop (length x) st.before;

@@ -1,8 +1,9 @@
 //! Pieces: what splits give.
-ghost use Rattle.std.specs.Prelude.{◌≡◌, [], ◌∷◌, ◌<◌, length, map, reverse};
+ghost use Rattle.std.specs.Prelude.{◌≡◌, [], ◌∷◌, ◌+◌, ◌<◌, ℕ, List, length, map, reverse};
 ghost use Rattle.std.specs.List.{All, join_by};
 ghost use Rattle.wtf8_core.specs.Standing.{StandsNowhere};
 ghost use Rattle.platform_str.specs.Strings.{bytes};
+ghost use Rattle.user_facts.specs.Matches.{AreMatches};
 
 use os_str_ext::{OsStrBytesExt, RSplit, Split};
 use platform_str::{OsStr, Platform};
@@ -88,4 +89,16 @@ pub fn pieces_from_both_ends<'a, E: Platform + 'a>(
     wtf8_core::laws::characters();
     wtf8_core::laws::forms();
     (string.split(character), string.rsplit(character))
+}
+
+/// The pieces of a string: one more than the matches of the pattern.
+pub fn pieces_and_matches<'a, E: Platform + 'a>(
+    string: OsStr<'a, E>,
+    text: &'a str,
+) -> Split<'a, E, &'a str>
+    requires { 0 < length text.now }
+    ensures { (matches : List ℕ) × (AreMatches text.now (bytes string.entry) 0 matches
+        × (length result ≡ length matches + 1)) }
+{
+    string.split(text)
 }
