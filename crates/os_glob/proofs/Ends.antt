@@ -1,128 +1,288 @@
--- The last character of a pattern, and of the strings that have it.
-use Rattle.std.proofs.Common.{◌≡◌, ℕ, nat_eq, ◌||◌, ◌&&◌, Bool, true, false, if◌then◌else◌, List, [], ◌∷◌, ◌++◌, Option, Some, None, refl, sym, ap, ◌∙◌, subst, append_assoc, append-nil}
-use Rattle.std.proofs.lemmas.Bool.{or_parts}
+-- The characters at a pattern's start and end that match themselves, and the strings that have it.
+use Rattle.std.proofs.Common.{◌≡◌, ◌≢◌, ◌⊎◌, inl, inr, ℕ, nat_eq, ◌==◌, ◌&&◌, Bool, true, false, if◌then◌else◌, List, [], ◌∷◌, ◌++◌, map, length, Option, Some, None, refl, sym, ap, ◌∙◌, subst, append_assoc, append-nil, arith}
+use Rattle.std.proofs.lemmas.Bool.{ne_eqb, eqb-true}
 use Rattle.std.proofs.lemmas.Grind.{flat_map-append}
+use Rattle.std.proofs.lemmas.Str.{chars-nil}
 use Rattle.std.specs.Char.{encode_utf8}
-use Rattle.std.specs.List.{flat_map}
-use Rattle.std.specs.Str.{chars}
-use Rattle.wtf8_core.specs.Standing.{IsEnd}
+use Rattle.std.specs.List.{AllByRecursion, flat_map}
+use Rattle.std.specs.Str.{chars, encode_utf8_all}
+use Rattle.wtf8_core.specs.Standing.{IsFront, IsEnd}
 use Rattle.os_str_ext.specs.Symbols.{symbol_bytes}
 use Rattle.os_str_ext.specs.declared.symbols.Symbol.{Symbol}
 use Rattle.os_str_ext.specs.declared.symbols.Symbol.TheVariants.{Character, Unit as LoneUnit}
 use Rattle.os_glob.specs.declared.error.GlobErrorKind.{GlobErrorKind}
+use Rattle.os_glob.specs.declared.item.Wildcard.{Wildcard}
 use Rattle.os_glob.specs.declared.options.GlobOptions.{GlobOptions}
+use Rattle.os_glob.specs.declared.options.Separators.{Separators}
+use Rattle.os_glob.specs.declared.options.Separators.TheVariants as separators
 use Rattle.os_glob.specs.declared.place.Place.{Place}
 use Rattle.os_glob.specs.declared.place.Place.TheVariants.{Separator, LeadingDot, Ordinary}
 use Rattle.os_glob.specs.Places.{separates, place, places, begins_component}
-use Rattle.os_glob.specs.Items.{Item, Run, AnyOne, Literal, OneOf, Refused, items, first_fault}
-use Rattle.os_glob.specs.Ends.{AreRead, EndsWith, IsKnown, Last, literal}
-use Rattle.os_glob.specs.Pattern.{Token, tokens, Same}
-use Rattle.os_glob.specs.Pattern as token
-use Rattle.os_glob.specs.Match.{Matches, IsMatch}
+use Rattle.os_glob.specs.Items.{Item, Run, AnyOne, Literal, OneOf, Refused, read_star, read_quoted, read_class, items, first_fault}
+use Rattle.os_glob.specs.Ends.{IsPlain, BeginsWith, EndsWith, AreRead, StandsAlone}
+use Rattle.os_glob.specs.Skips.{IsNone, left_out}
+use Rattle.os_glob.specs.Pattern.{tokens}
+use Rattle.os_glob.specs.Match.{Takes, Matches, IsMatch}
+use Rattle.os_glob.proofs.Readings.{items_after}
+use Rattle.os_glob.proofs.Runs.{parts}
+use Rattle.os_glob.proofs.Skips.{all_so, no_separator, passed_at}
 
--- reading goes on by one item
-pub nothing_read : (xs : List Item) → AreRead xs xs None
-nothing_read xs = record { front = []; joined = refl; ends = tt }
+-- a text of no bytes
+pub no_characters : (text : List ℕ) (empty : Bool) → empty ≡ (length text == 0) → empty ≡ true → chars text ≡ []
+no_characters [] empty e f = chars-nil
+no_characters (x ∷ text) empty e f = let n = eqb-true (length (x ∷ text)) 0 (sym e ∙ f) in absurd (omega arith)
 
-ends_with_item : (front : List Item) (x : Item) → EndsWith (front ++ (x ∷ [])) (literal x)
-ends_with_item front (Literal c) = (front, refl)
-ends_with_item front (Run w) = tt
-ends_with_item front AnyOne = tt
-ends_with_item front (OneOf negated ms) = tt
-ends_with_item front (Refused kind from) = tt
+-- characters that match themselves
+pub plain : (c : ℕ) → c ≢ 0x2A → c ≢ 0x3F → c ≢ 0x5C → c ≢ 0x5B → IsPlain c
+plain c star question backslash bracket = λ cs.
+    ap (λ b. if b then read_star cs else (if nat_eq c 0x3F then (AnyOne, cs) else (if nat_eq c 0x5C then read_quoted (c ∷ cs) cs else (if nat_eq c 0x5B then read_class (c ∷ cs) cs else (Literal c, cs))))) (ne_eqb c 0x2A star)
+    ∙ ap (λ b. if b then (AnyOne, cs) else (if nat_eq c 0x5C then read_quoted (c ∷ cs) cs else (if nat_eq c 0x5B then read_class (c ∷ cs) cs else (Literal c, cs)))) (ne_eqb c 0x3F question)
+    ∙ ap (λ b. if b then read_quoted (c ∷ cs) cs else (if nat_eq c 0x5B then read_class (c ∷ cs) cs else (Literal c, cs))) (ne_eqb c 0x5C backslash)
+    ∙ ap (λ b. if b then read_class (c ∷ cs) cs else (Literal c, cs)) (ne_eqb c 0x5B bracket)
 
-pub one_more_read : (all left more : List Item) (last now : Option ℕ) (x : Item) → AreRead all left last → left ≡ x ∷ more → now ≡ literal x → AreRead all more now
-one_more_read all left more last now x h e f = record {
-  front = h.front ++ (x ∷ []);
-  joined = h.joined ∙ ap (λ y. h.front ++ y) e ∙ sym (append_assoc h.front (x ∷ []) more);
-  ends = subst (EndsWith (h.front ++ (x ∷ []))) (sym f) (ends_with_item h.front x);
-}
+plain_items : (cs rest : List ℕ) → AllByRecursion IsPlain cs → items (cs ++ rest) ≡ map Literal cs ++ items rest
+plain_items [] rest h = refl
+plain_items (c ∷ cs) rest h =
+    items_after c (cs ++ rest) ∙ ap (λ (r : Item × List ℕ). r.0 ∷ items r.1) (h.0 (cs ++ rest)) ∙ ap (λ xs. Literal c ∷ xs) (plain_items cs rest h.1)
 
-pub all_read : (all left : List Item) (last : Option ℕ) → AreRead all left last → left ≡ [] → EndsWith all last
-all_read all left last h e = subst (λ xs. EndsWith xs last) (sym (h.joined ∙ ap (λ y. h.front ++ y) e ∙ append-nil h.front)) h.ends
+all_plain : (ps rs : List ℕ) → AllByRecursion (IsNone 0x2A 0x3F 0x5B) (ps ++ rs) → AllByRecursion (IsNone 0x5C 0x5C 0x5C) ps → AllByRecursion IsPlain ps
+all_plain [] rs h k = tt
+all_plain (c ∷ ps) rs h k = (plain c h.0.0 h.0.1.0 k.0.0 h.0.1.1, all_plain ps rs h.1 k.1)
 
--- lists that end with a value
-more_before : {A : Type 0} (x y : A) (xs : List A) → Last x xs → Last x (y ∷ xs)
-more_before x y xs h = record { front = y ∷ h.front; joined = ap (λ z. y ∷ z) h.joined }
+pub begins : (all front more prefix rest : List ℕ) → all ≡ front ++ more → front ≡ prefix ++ rest
+    → AllByRecursion (IsNone 0x2A 0x3F 0x5B) front → AllByRecursion (IsNone 0x5C 0x5C 0x5C) prefix → BeginsWith (items all) prefix
+begins all front more prefix rest e f h k = (
+  items (rest ++ more),
+  ap items (e ∙ ap (λ x. x ++ more) f ∙ append_assoc prefix rest more)
+      ∙ plain_items prefix (rest ++ more) (all_plain prefix rest (subst (AllByRecursion (IsNone 0x2A 0x3F 0x5B)) f h) k),
+)
 
--- the tokens of items that end with a character end with its place
-pub record LastPlace (o : GlobOptions) (c : ℕ) (ts : List Token) : Type 0 where
-  pub begins : Bool
-  pub last : Last (token.One (Same (place o begins (Character c)))) ts
+-- reading goes on by one character
+pub nothing_read : (cs : List ℕ) → AreRead (items cs) cs cs
+nothing_read cs = record { front = []; between = []; joined = refl; suffix_joined = refl; plain = tt }
 
-one_before : (o : GlobOptions) (c : ℕ) (t : Token) (ts : List Token) → LastPlace o c ts → LastPlace o c (t ∷ ts)
-one_before o c t ts h = record { begins = h.begins; last = more_before (token.One (Same (place o h.begins (Character c)))) t ts h.last }
+module _ (all : List Item) (suffix left : List ℕ) (h : AreRead all suffix left) where
+  pub plain_read : (c : ℕ) (more : List ℕ) → left ≡ c ∷ more → IsPlain c → AreRead all suffix more
+  plain_read c more e p = record {
+    front = h.front;
+    between = h.between ++ (c ∷ []);
+    joined = h.joined;
+    suffix_joined = h.suffix_joined ∙ ap (λ x. h.between ++ x) e ∙ sym (append_assoc h.between (c ∷ []) more);
+    plain = and_one h.between h.plain;
+  }
+    where
+      and_one : (cs : List ℕ) → AllByRecursion IsPlain cs → AllByRecursion IsPlain (cs ++ (c ∷ []))
+      and_one [] k = (p, tt)
+      and_one (d ∷ cs) k = (k.0, and_one cs k.1)
 
-last_token : (o : GlobOptions) (begins : Bool) (front : List Item) (c : ℕ) → first_fault (front ++ (Literal c ∷ [])) ≡ None → LastPlace o c (tokens o begins (front ++ (Literal c ∷ [])))
-last_token o begins [] c e = record { begins = begins; last = record { front = []; joined = refl } }
-last_token o begins (Run w ∷ xs) c e = one_before o c (token.Run w) (tokens o false (xs ++ (Literal c ∷ []))) (last_token o false xs c e)
-last_token o begins (AnyOne ∷ xs) c e = one_before o c (token.One token.Any) (tokens o false (xs ++ (Literal c ∷ []))) (last_token o false xs c e)
-last_token o begins (OneOf negated ms ∷ xs) c e = one_before o c (token.One (token.OneOf negated ms)) (tokens o false (xs ++ (Literal c ∷ []))) (last_token o false xs c e)
-last_token o begins (Literal d ∷ xs) c e =
-    let on = begins_component (place o begins (Character d)) in
-    one_before o c (token.One (Same (place o begins (Character d)))) (tokens o on (xs ++ (Literal c ∷ []))) (last_token o on xs c e)
-last_token o begins (Refused kind from ∷ xs) c e = absurd (let k : ◌≡◌ {A = Option (GlobErrorKind × List ℕ)} (Some (kind, from)) None = e in cc)
+  -- or by one item
+  pub item_read : (x : Item) (more : List ℕ) → items left ≡ x ∷ items more → AreRead all more more
+  item_read x more e = record {
+    front = h.front ++ (map Literal h.between ++ (x ∷ []));
+    between = [];
+    joined =
+        h.joined ∙ ap (λ y. h.front ++ items y) h.suffix_joined ∙ ap (λ y. h.front ++ y) (plain_items h.between left h.plain)
+        ∙ ap (λ y. h.front ++ (map Literal h.between ++ y)) e ∙ ap (λ y. h.front ++ y) (sym (append_assoc (map Literal h.between) (x ∷ []) (items more)))
+        ∙ sym (append_assoc h.front (map Literal h.between ++ (x ∷ [])) (items more));
+    suffix_joined = refl;
+    plain = tt;
+  }
 
--- places that have such tokens end with that place
-last_matched : (q : Place) (ts : List Token) (ps : List Place) → Matches (ts ++ (token.One (Same q) ∷ [])) ps → Last q ps
-last_matched q [] ps h = record { front = []; joined = h.joined ∙ ap (λ y. h.first ∷ y) h.behind ∙ ap (λ y. y ∷ []) (sym h.fits) }
-last_matched q (token.Run w ∷ ts) ps h =
-    let on = last_matched q ts h.rest h.behind in
-    record { front = h.run ++ on.front; joined = h.joined ∙ ap (λ y. h.run ++ y) on.joined ∙ sym (append_assoc h.run on.front (q ∷ [])) }
-last_matched q (token.One x ∷ ts) ps h =
-    let on = last_matched q ts h.rest h.behind in
-    record { front = h.first ∷ on.front; joined = h.joined ∙ ap (λ y. h.first ∷ y) on.joined }
+  pub all_read : left ≡ [] → EndsWith all suffix
+  all_read e =
+      let same : suffix ≡ h.between = h.suffix_joined ∙ ap (λ x. h.between ++ x) e ∙ append-nil h.between in (
+        h.front,
+        h.joined ∙ ap (λ y. h.front ++ items y) h.suffix_joined ∙ ap (λ y. h.front ++ y) (plain_items h.between left h.plain)
+            ∙ ap (λ y. h.front ++ (map Literal h.between ++ items y)) e ∙ ap (λ y. h.front ++ y) (append-nil (map Literal h.between))
+            ∙ ap (λ y. h.front ++ map Literal y) (sym same),
+      )
 
--- an ordinary place is that of its symbol alone
-if_either : {X : Type 0} (P : X → Type 0) (b : Bool) (x y : X) → P x → P y → P (if b then x else y)
-if_either P true x y p q = p
-if_either P false x y p q = q
-
-symbol_at : (o : GlobOptions) (begins : Bool) (s : Symbol) (c : ℕ) → place o begins s ≡ Ordinary (Character c) → s ≡ Character c
-symbol_at o begins (LoneUnit u) c e = cc
-symbol_at o begins (Character d) c e =
-    if_either (λ p. p ≡ Ordinary (Character c) → Character d ≡ Character c) (separates o.separators d) Separator _
-    (λ f. absurd (cc))
-    (if_either (λ p. p ≡ Ordinary (Character c) → Character d ≡ Character c) _ LeadingDot (Ordinary (Character d)) (λ f. absurd (cc)) (λ f. cc))
-    e
-
-last_symbol : (o : GlobOptions) (begins : Bool) (c : ℕ) (ss : List Symbol) (front : List Place) → places o begins ss ≡ front ++ (Ordinary (Character c) ∷ []) → Last (Character c) ss
-last_symbol o begins c [] [] e = absurd (cc)
-last_symbol o begins c [] (p ∷ front) e = absurd (cc)
-last_symbol o begins c (s ∷ []) [] e =
-    let first : place o begins s ≡ Ordinary (Character c) = cc in
-    record { front = []; joined = ap (λ x. x ∷ []) (symbol_at o begins s c first) }
-last_symbol o begins c (s ∷ r ∷ ss) [] e = absurd (cc)
-last_symbol o begins c (s ∷ ss) (p ∷ front) e =
-    let on = begins_component (place o begins s) in
-    let left : places o on ss ≡ front ++ (Ordinary (Character c) ∷ []) = cc in
-    more_before (Character c) s ss (last_symbol o on c ss front left)
-
--- so symbols that have a pattern end with the pattern's last character
-pub last_of_match : (o : GlobOptions) (c : ℕ) → ((begins : Bool) → place o begins (Character c) ≡ Ordinary (Character c))
-    → (pattern : List ℕ) (symbols : List Symbol) → IsKnown pattern (Some c) → IsMatch o pattern symbols → Last (Character c) symbols
-last_of_match o c ordinary pattern symbols known m =
-    let ends = known.ends in
-    let ts = last_token o true ends.0 c (sym (ap first_fault ends.1) ∙ known.well_formed) in
-    let in_tokens : Matches (tokens o true (ends.0 ++ (Literal c ∷ []))) (places o true symbols) = subst (λ xs. Matches (tokens o true xs) (places o true symbols)) ends.1 m in
-    let at_end : Matches (ts.last.front ++ (token.One (Same (place o ts.begins (Character c))) ∷ [])) (places o true symbols) = subst (λ t. Matches t (places o true symbols)) ts.last.joined in_tokens in
-    let ps = last_matched (place o ts.begins (Character c)) ts.last.front (places o true symbols) at_end in
-    last_symbol o true c symbols ps.front (ps.joined ∙ ap (λ p. ps.front ++ (p ∷ [])) (ordinary ts.begins))
-
--- and their bytes with that of the character
-pub last_bytes : (c : ℕ) (s : List ℕ) (symbols : List Symbol) → flat_map symbol_bytes symbols ≡ s → Last (Character c) symbols → IsEnd (encode_utf8 c) s
-last_bytes c s symbols joined at = record {
-  rest = flat_map symbol_bytes at.front;
-  joined = sym joined ∙ ap (flat_map symbol_bytes) at.joined ∙ flat_map-append symbol_bytes at.front (Character c ∷ []) ∙ ap (λ x. flat_map symbol_bytes at.front ++ x) (append-nil (encode_utf8 c));
-}
-
--- a character that isn't special is an ordinary place everywhere
-pub ordinary_place : (o : GlobOptions) (c : ℕ) → (separates o.separators c || (o.literal_leading_dot && nat_eq c 0x2E)) ≡ false → (begins : Bool) → place o begins (Character c) ≡ Ordinary (Character c)
-ordinary_place o c e begins =
-    let both = or_parts (separates o.separators c) (o.literal_leading_dot && nat_eq c 0x2E) e in
-    ap (λ b. if b then Separator else (if begins && o.literal_leading_dot && nat_eq c 0x2E then LeadingDot else Ordinary (Character c))) both.0
-    ∙ ap (λ b. if b then LeadingDot else Ordinary (Character c)) (no_dot begins both.1)
+-- what a character's place may be
+place_cases : (o : GlobOptions) (begins : Bool) (c : ℕ) → ((separates o.separators c ≡ true) × (place o begins (Character c) ≡ Separator)) ⊎ (((c ≡ 0x2E) × (place o begins (Character c) ≡ LeadingDot)) ⊎ (place o begins (Character c) ≡ Ordinary (Character c)))
+place_cases o begins c = at_separator (separates o.separators c) refl
   where
-    no_dot : (b : Bool) → (o.literal_leading_dot && nat_eq c 0x2E) ≡ false → (b && o.literal_leading_dot && nat_eq c 0x2E) ≡ false
-    no_dot true f = f
-    no_dot false f = refl
+    dot : (x y z : Bool) → (x && y && z) ≡ true → z ≡ true
+    dot true true z e = e
+    dot true false z e = absurd (cc)
+    dot false y z e = absurd (cc)
+
+    at_dot : (b : Bool) → (begins && o.literal_leading_dot && nat_eq c 0x2E) ≡ b → separates o.separators c ≡ false
+        → ((c ≡ 0x2E) × (place o begins (Character c) ≡ LeadingDot)) ⊎ (place o begins (Character c) ≡ Ordinary (Character c))
+    at_dot true f e = inl (
+      eqb-true c 0x2E (dot begins o.literal_leading_dot (nat_eq c 0x2E) f),
+      ap (λ b. if b then Separator else (if begins && o.literal_leading_dot && nat_eq c 0x2E then LeadingDot else Ordinary (Character c))) e ∙ ap (λ b. if b then LeadingDot else Ordinary (Character c)) f,
+    )
+    at_dot false f e =
+        inr (ap (λ b. if b then Separator else (if begins && o.literal_leading_dot && nat_eq c 0x2E then LeadingDot else Ordinary (Character c))) e ∙ ap (λ b. if b then LeadingDot else Ordinary (Character c)) f)
+
+    at_separator : (b : Bool) → separates o.separators c ≡ b
+        → ((separates o.separators c ≡ true) × (place o begins (Character c) ≡ Separator)) ⊎ (((c ≡ 0x2E) × (place o begins (Character c) ≡ LeadingDot)) ⊎ (place o begins (Character c) ≡ Ordinary (Character c)))
+    at_separator true e = inl (e, ap (λ b. if b then Separator else (if begins && o.literal_leading_dot && nat_eq c 0x2E then LeadingDot else Ordinary (Character c))) e)
+    at_separator false e = inr (at_dot (begins && o.literal_leading_dot && nat_eq c 0x2E) refl e)
+
+one_separator : (s : Separators) (c d : ℕ) → StandsAlone s c → separates s c ≡ true → separates s d ≡ true → d ≡ c
+one_separator separators.None c d h e f = absurd (let k : false ≡ true = e in cc)
+one_separator separators.Slash c d h e f = eqb-true d 0x2F f ∙ sym (eqb-true c 0x2F e)
+one_separator separators.SlashAndBackslash c d h e f = absurd (let k : false ≡ true = sym h ∙ e in cc)
+
+pub all_alone : (cs : List ℕ) → AllByRecursion (IsNone 0x2F 0x2F 0x5C) cs → AllByRecursion (StandsAlone separators.SlashAndBackslash) cs
+all_alone cs h = all_so (λ x no. no.0) cs (no_separator 0x2F cs h)
+
+-- a character that stands alone matches its own symbol alone
+symbol_at : (o : GlobOptions) (b d : Bool) (c : ℕ) (s : Symbol) → StandsAlone o.separators c → place o b (Character c) ≡ place o d s → s ≡ Character c
+symbol_at o b d c (LoneUnit u) h e = absurd (go (place_cases o b c))
+  where
+    go : ((separates o.separators c ≡ true) × (place o b (Character c) ≡ Separator)) ⊎ (((c ≡ 0x2E) × (place o b (Character c) ≡ LeadingDot)) ⊎ (place o b (Character c) ≡ Ordinary (Character c))) → ⊥
+    go (inl k) = let f : Separator ≡ Ordinary (LoneUnit u) = sym k.1 ∙ e in cc
+    go (inr (inl k)) = let f : LeadingDot ≡ Ordinary (LoneUnit u) = sym k.1 ∙ e in cc
+    go (inr (inr k)) = let f : Ordinary (Character c) ≡ Ordinary (LoneUnit u) = sym k ∙ e in cc
+symbol_at o b d c (Character x) h e = go (place_cases o b c) (place_cases o d x)
+  where
+    go : ((separates o.separators c ≡ true) × (place o b (Character c) ≡ Separator)) ⊎ (((c ≡ 0x2E) × (place o b (Character c) ≡ LeadingDot)) ⊎ (place o b (Character c) ≡ Ordinary (Character c)))
+        → ((separates o.separators x ≡ true) × (place o d (Character x) ≡ Separator)) ⊎ (((x ≡ 0x2E) × (place o d (Character x) ≡ LeadingDot)) ⊎ (place o d (Character x) ≡ Ordinary (Character x)))
+        → Character x ≡ Character c
+    go (inl k) (inl l) = ap Character (one_separator o.separators c x h k.0 l.0)
+    go (inl k) (inr (inl l)) = absurd (let f : Separator ≡ LeadingDot = sym k.1 ∙ e ∙ l.1 in cc)
+    go (inl k) (inr (inr l)) = absurd (let f : Separator ≡ Ordinary (Character x) = sym k.1 ∙ e ∙ l in cc)
+    go (inr (inl k)) (inl l) = absurd (let f : LeadingDot ≡ Separator = sym k.1 ∙ e ∙ l.1 in cc)
+    go (inr (inl k)) (inr (inl l)) = ap Character (l.0 ∙ sym k.0)
+    go (inr (inl k)) (inr (inr l)) = absurd (let f : LeadingDot ≡ Ordinary (Character x) = sym k.1 ∙ e ∙ l in cc)
+    go (inr (inr k)) (inl l) = absurd (let f : Ordinary (Character c) ≡ Separator = sym k ∙ e ∙ l.1 in cc)
+    go (inr (inr k)) (inr (inl l)) = absurd (let f : Ordinary (Character c) ≡ LeadingDot = sym k ∙ e ∙ l.1 in cc)
+    go (inr (inr k)) (inr (inr l)) = let f : Ordinary (Character c) ≡ Ordinary (Character x) = sym k ∙ e ∙ l in cc
+
+-- symbols that begin with characters, and what has to match after them
+pub record GoesPast (o : GlobOptions) (xs : List Item) (cs : List ℕ) (ss : List Symbol) : Type 0 where
+  pub rest : List Symbol
+  pub joined : ss ≡ map Character cs ++ rest
+  pub in_pattern : Bool
+  pub in_string : Bool
+  pub behind : Matches (tokens o in_pattern xs) (places o in_string rest)
+
+past_literals : (o : GlobOptions) (b d : Bool) (cs : List ℕ) (xs : List Item) (ss : List Symbol) → AllByRecursion (StandsAlone o.separators) cs
+    → Matches (tokens o b (map Literal cs ++ xs)) (places o d ss) → GoesPast o xs cs ss
+past_literals o b d [] xs ss h m = record { rest = ss; joined = refl; in_pattern = b; in_string = d; behind = m }
+past_literals o b d (c ∷ cs) xs [] h m = absurd (let e : ◌≡◌ {A = List Place} [] (m.first ∷ m.rest) = m.joined in cc)
+past_literals o b d (c ∷ cs) xs (s ∷ ss) h m =
+    let e = parts m.joined in
+    let q = place o b (Character c) in
+    let p = place o d s in
+    let same : s ≡ Character c = symbol_at o b d c s h.0 (m.fits ∙ sym e.0) in
+    let on = past_literals o (begins_component q) (begins_component p) cs xs ss h.1 (subst (Matches (tokens o (begins_component q) (map Literal cs ++ xs))) (sym e.1) m.behind) in
+    record {
+      rest = on.rest;
+      joined = ap (λ x. x ∷ ss) same ∙ ap (λ x. Character c ∷ x) on.joined;
+      in_pattern = on.in_pattern;
+      in_string = on.in_string;
+      behind = on.behind;
+    }
+
+-- symbols whose places are cut
+pub record IsCut (o : GlobOptions) (rest : List Place) (ss : List Symbol) : Type 0 where
+  pub front : List Symbol
+  pub back : List Symbol
+  pub begins : Bool
+  pub joined : ss ≡ front ++ back
+  pub left : places o begins back ≡ rest
+
+cut : (o : GlobOptions) (b : Bool) (run rest : List Place) (ss : List Symbol) → places o b ss ≡ run ++ rest → IsCut o rest ss
+cut o b [] rest ss e = record { front = []; back = ss; begins = b; joined = refl; left = e }
+cut o b (p ∷ run) rest [] e = absurd (let k : ◌≡◌ {A = List Place} [] (p ∷ (run ++ rest)) = e in cc)
+cut o b (p ∷ run) rest (s ∷ ss) e =
+    let on = cut o (begins_component (place o b s)) run rest ss (parts e).1 in
+    record { front = s ∷ on.front; back = on.back; begins = on.begins; joined = ap (λ x. s ∷ x) on.joined; left = on.left }
+
+-- what the last items have to match
+pub record Reaches (o : GlobOptions) (xs : List Item) (ss : List Symbol) : Type 0 where
+  pub front : List Symbol
+  pub back : List Symbol
+  pub joined : ss ≡ front ++ back
+  pub in_pattern : Bool
+  pub in_string : Bool
+  pub behind : Matches (tokens o in_pattern xs) (places o in_string back)
+
+after_cut : (o : GlobOptions) (xs : List Item) (rest : List Place) (ss : List Symbol) (c : IsCut o rest ss) → Reaches o xs c.back → Reaches o xs ss
+after_cut o xs rest ss c on = record {
+  front = c.front ++ on.front;
+  back = on.back;
+  joined = c.joined ∙ ap (λ y. c.front ++ y) on.joined ∙ sym (append_assoc c.front on.front on.back);
+  in_pattern = on.in_pattern;
+  in_string = on.in_string;
+  behind = on.behind;
+}
+
+reaches : (o : GlobOptions) (b d : Bool) (front xs : List Item) (ss : List Symbol) → first_fault (front ++ xs) ≡ None
+    → Matches (tokens o b (front ++ xs)) (places o d ss) → Reaches o xs ss
+reaches o b d [] xs ss n m = record { front = []; back = ss; joined = refl; in_pattern = b; in_string = d; behind = m }
+reaches o b d (Run w ∷ front) xs ss n m =
+    let c = cut o d m.run m.rest ss m.joined in
+    after_cut o xs m.rest ss c (reaches o false c.begins front xs c.back n (subst (Matches (tokens o false (front ++ xs))) (sym c.left) m.behind))
+reaches o b d (AnyOne ∷ front) xs ss n m =
+    let c = cut o d (m.first ∷ []) m.rest ss m.joined in
+    after_cut o xs m.rest ss c (reaches o false c.begins front xs c.back n (subst (Matches (tokens o false (front ++ xs))) (sym c.left) m.behind))
+reaches o b d (OneOf negated ms ∷ front) xs ss n m =
+    let c = cut o d (m.first ∷ []) m.rest ss m.joined in
+    after_cut o xs m.rest ss c (reaches o false c.begins front xs c.back n (subst (Matches (tokens o false (front ++ xs))) (sym c.left) m.behind))
+reaches o b d (Literal l ∷ front) xs ss n m =
+    let c = cut o d (m.first ∷ []) m.rest ss m.joined in
+    let on = begins_component (place o b (Character l)) in
+    after_cut o xs m.rest ss c (reaches o on c.begins front xs c.back n (subst (Matches (tokens o on (front ++ xs))) (sym c.left) m.behind))
+reaches o b d (Refused kind from ∷ front) xs ss n m = absurd (let j : ◌≡◌ {A = Option (GlobErrorKind × List ℕ)} (Some (kind, from)) None = n in cc)
+
+-- strings that have a pattern begin and end as the pattern does
+module _ (o : GlobOptions) (pattern : List ℕ) (cs : List ℕ) (symbols : List Symbol) (alone : AllByRecursion (StandsAlone o.separators) cs) (m : IsMatch o pattern symbols) where
+  pub begins_alike : BeginsWith (items (chars pattern)) cs → (rest : List Symbol) × (symbols ≡ map Character cs ++ rest)
+  begins_alike known =
+      let past = past_literals o true true cs known.0 symbols alone (subst (λ xs. Matches (tokens o true xs) (places o true symbols)) known.1 m) in
+      (past.rest, past.joined)
+
+  pub ends_alike : first_fault (items (chars pattern)) ≡ None → EndsWith (items (chars pattern)) cs → (front : List Symbol) × (symbols ≡ front ++ map Character cs)
+  ends_alike well_formed known =
+      let at = reaches o true true known.0 (map Literal cs) symbols (sym (ap first_fault known.1) ∙ well_formed) (subst (λ xs. Matches (tokens o true xs) (places o true symbols)) known.1 m) in
+      let past = past_literals o at.in_pattern at.in_string cs [] at.back alone (subst (λ xs. Matches (tokens o at.in_pattern xs) (places o at.in_string at.back)) (sym (append-nil (map Literal cs))) at.behind) in (
+        at.front,
+        at.joined ∙ ap (λ y. at.front ++ y) past.joined ∙ ap (λ y. at.front ++ (map Character cs ++ y)) (none past.in_string past.rest past.behind)
+            ∙ ap (λ y. at.front ++ y) (append-nil (map Character cs)),
+      )
+    where
+      none : (b : Bool) (ss : List Symbol) → places o b ss ≡ [] → ss ≡ []
+      none b [] e = refl
+      none b (s ∷ ss) e = absurd (let k : ◌≡◌ {A = List Place} (place o b s ∷ places o (begins_component (place o b s)) ss) [] = e in cc)
+
+-- and so do their bytes
+character_bytes : (cs : List ℕ) → flat_map symbol_bytes (map Character cs) ≡ encode_utf8_all cs
+character_bytes [] = refl
+character_bytes (c ∷ cs) = ap (λ x. encode_utf8 c ++ x) (character_bytes cs)
+
+module _ (text : List ℕ) (s : List ℕ) (symbols : List Symbol) (bytes : flat_map symbol_bytes symbols ≡ s) (cs : List ℕ) (of_text : encode_utf8_all cs ≡ text) where
+  pub front_bytes : (rest : List Symbol) → symbols ≡ map Character cs ++ rest → IsFront text s
+  front_bytes rest e = record {
+    rest = flat_map symbol_bytes rest;
+    joined = sym bytes ∙ ap (flat_map symbol_bytes) e ∙ flat_map-append symbol_bytes (map Character cs) rest ∙ ap (λ x. x ++ flat_map symbol_bytes rest) (character_bytes cs ∙ of_text);
+  }
+
+  pub end_bytes : (front : List Symbol) → symbols ≡ front ++ map Character cs → IsEnd text s
+  end_bytes front e = record {
+    rest = flat_map symbol_bytes front;
+    joined = sym bytes ∙ ap (flat_map symbol_bytes) e ∙ flat_map-append symbol_bytes front (map Character cs) ∙ ap (λ x. flat_map symbol_bytes front ++ x) (character_bytes cs ∙ of_text);
+  }
+
+-- a wildcard alone
+module _ (o : GlobOptions) (w : Wildcard) (dots : o.literal_leading_dot ≡ false) (none : left_out w o.separators ≡ separators.None) where
+  all_taken : (b : Bool) (ss : List Symbol) → AllByRecursion (Takes w) (places o b ss)
+  all_taken b [] = tt
+  all_taken b (s ∷ ss) = (taken s, all_taken (begins_component (place o b s)) ss)
+    where
+      taken : (s : Symbol) → Takes w (place o b s)
+      taken (LoneUnit u) = tt
+      taken (Character c) = (passed_at o dots w None b c (ap (λ x. separates x c) none, tt)).0
+
+  pub matches_all : (pattern : List ℕ) → items (chars pattern) ≡ Run w ∷ [] → (symbols : List Symbol) → IsMatch o pattern symbols
+  matches_all pattern e symbols =
+      subst (λ xs. Matches (tokens o true xs) (places o true symbols)) (sym e) (record {
+        run = places o true symbols;
+        rest = [];
+        joined = sym (append-nil (places o true symbols));
+        taken = all_taken true symbols;
+        behind = refl;
+      })

@@ -1,11 +1,9 @@
 -- What comes after an item, and where a fault is: both are suffixes of the characters that are read.
-use Rattle.std.proofs.Common.{◌≡◌, ◌⊎◌, inl, inr, ℕ, zero, suc, ◌+◌, ◌-◌, ◌≤◌, Bool, true, false, cond, if◌then◌else◌, nat_eq, List, [], ◌∷◌, ◌++◌, length, drop, Option, Some, None, refl, sym, ap, ◌∙◌, subst, arith, append_assoc, length-append}
+use Rattle.std.proofs.Common.{◌≡◌, ℕ, zero, suc, ◌+◌, ◌-◌, ◌≤◌, Bool, true, false, if◌then◌else◌, nat_eq, List, [], ◌∷◌, ◌++◌, length, drop, Option, Some, None, refl, sym, ap, ◌∙◌, subst, arith, append_assoc, length-append}
 use Rattle.std.specs.Str.{chars, IsUtf8, encode_utf8_all}
 use Rattle.std.proofs.lemmas.List.{drop_at}
 use Rattle.std.proofs.lemmas.Str.{encodes-append, encodes-chars}
-use Rattle.os_glob.specs.declared.error.GlobError.{GlobError}
 use Rattle.os_glob.specs.declared.error.GlobErrorKind.{GlobErrorKind}
-use Rattle.os_glob.specs.declared.error.GlobErrorKind.TheVariants.{UnclosedClass, ReversedRange, DanglingEscape}
 use Rattle.os_glob.specs.declared.item.Wildcard.TheVariants.{Star, DoubleStar}
 use Rattle.os_glob.specs.Members.{Member, range_at, ends_class, is_reversed, members_behind, members, after_class, first_reversed}
 use Rattle.os_glob.specs.Items.{Item, Run, AnyOne, Literal, OneOf, Refused, read, read_star, read_quoted, class_start, class_item, read_class, items_behind, items, first_fault, IsFirstFault}

@@ -1,7 +1,7 @@
 -- Places that are passed over, found as bytes.
-use Rattle.std.proofs.Common.{◌≡◌, ◌≢◌, ◌↔◌, ◌≤◌, ◌<◌, ℕ, zero, suc, nat_eq, ◌||◌, ◌&&◌, Bool, true, false, if◌then◌else◌, List, [], ◌∷◌, ◌++◌, map, length, take, drop, get_or, Option, Some, None, refl, sym, ap, ◌∙◌, subst, arith, append_assoc, take-append-drop, append-nil, length-append, ◌+◌, ⊎_elim}
-use Rattle.std.proofs.lemmas.Bool.{or_parts, or_cases, ne_eqb, eq-eqb, eqb-true}
-use Rattle.std.proofs.lemmas.Str.{IsCharBoundary-before_ascii, IsUtf8-take, IsUtf8-drop, chars-append, chars-nil, encode_ascii, encodes-chars}
+use Rattle.std.proofs.Common.{◌≡◌, ◌↔◌, ◌<◌, ℕ, zero, suc, nat_eq, ◌||◌, ◌&&◌, Bool, true, false, if◌then◌else◌, List, [], ◌∷◌, ◌++◌, map, length, take, drop, get_or, Option, Some, None, refl, sym, ap, ◌∙◌, subst, arith, take-append-drop, append-nil, ⊎_elim}
+use Rattle.std.proofs.lemmas.Bool.{or_cases, ne_eqb, eq-eqb, eqb-true}
+use Rattle.std.proofs.lemmas.Str.{IsCharBoundary-before_ascii, IsUtf8-take, chars-append, chars-nil, encode_ascii, encodes-chars}
 use Rattle.std.specs.Char.{encode_utf8}
 use Rattle.std.specs.List.{AllByRecursion}
 use Rattle.std.specs.Str.{IsUtf8, IsCharBoundary, chars, encode_utf8_all}
@@ -18,10 +18,9 @@ use Rattle.os_glob.specs.declared.item.Wildcard.TheVariants.{Star, DoubleStar}
 use Rattle.os_glob.specs.declared.place.Place.{Place}
 use Rattle.os_glob.specs.declared.place.Place.TheVariants.{Separator, LeadingDot, Ordinary}
 use Rattle.os_glob.specs.Places.{separates, place, places, begins_component}
-use Rattle.os_glob.specs.Pattern.{Class, Token, Run, One, Same}
-use Rattle.os_glob.specs.Match.{Takes, Fits, Matches}
+use Rattle.os_glob.specs.Pattern.{Token, Run}
+use Rattle.os_glob.specs.Match.{Takes, Matches}
 use Rattle.os_glob.specs.Skips.{IsNone, Differs, IsNoStop, left_out, DiffersAt, IsSkipped, Skips}
-use Rattle.os_glob.proofs.Runs.{takes_anywhere, one_place}
 use Rattle.os_glob.proofs.Steps.{AfterStar, next_place, later}
 
 -- bytes at which a search doesn't stop
@@ -94,7 +93,7 @@ pub nothing_after : (t : List ℕ) → chars t ≡ chars t ++ chars []
 nothing_after t = sym (ap (λ x. chars t ++ x) chars-nil ∙ append-nil (chars t))
 
 -- stops of each kind
-all_so : {P Q : ℕ → Type 0} → ((x : ℕ) → P x → Q x) → (xs : List ℕ) → AllByRecursion P xs → AllByRecursion Q xs
+pub all_so : {P Q : ℕ → Type 0} → ((x : ℕ) → P x → Q x) → (xs : List ℕ) → AllByRecursion P xs → AllByRecursion Q xs
 all_so f [] h = tt
 all_so f (x ∷ xs) h = (f x h.0, all_so f xs h.1)
 
@@ -152,7 +151,7 @@ module _ (o : GlobOptions) (dots : o.literal_leading_dot ≡ false) where
   abbrev IsPassed : Wildcard → Option ℕ → Place → Type 0
   IsPassed w literal p = Takes w p × DiffersAt literal p
 
-  passed_at : (w : Wildcard) (literal : Option ℕ) (begins : Bool) (c : ℕ) → IsNoStop (left_out w o.separators) literal c → IsPassed w literal (place o begins (Character c))
+  pub passed_at : (w : Wildcard) (literal : Option ℕ) (begins : Bool) (c : ℕ) → IsNoStop (left_out w o.separators) literal c → IsPassed w literal (place o begins (Character c))
   passed_at Star literal begins c h =
       subst (IsPassed Star literal) (sym (plain begins c ∙ ap (λ b. if b then Separator else Ordinary (Character c)) h.0)) (tt, ordinary_differs literal c h.1)
   passed_at DoubleStar literal begins c h =
@@ -182,19 +181,6 @@ text_first units s part text rest e n =
 
 pub no_text : (ss : List Symbol) → map Character (chars []) ++ ss ≡ ss
 no_text ss = ap (λ cs. map Character cs ++ ss) chars-nil
-
--- places at which tokens don't match
-fewer : (w : Wildcard) (literal : Option ℕ) (ps rest : List Place) → IsSkipped w literal ps rest → length rest ≤ length ps
-fewer w literal ps rest h = let n = ap length h.joined ∙ length-append h.run rest in omega arith
-
-never_at : (w : Wildcard) (run : List Place) → AllByRecursion (λ p. Takes w p × DiffersAt None p) run → AllByRecursion (λ p. Takes w p × ((left : List Place) → Matches [] (p ∷ left) → ⊥)) run
-never_at w [] h = tt
-never_at w (p ∷ run) h = ((h.0.0, λ left m. let k : ◌≡◌ {A = List Place} (p ∷ left) [] = m in cc), never_at w run h.1)
-
-module _ (w : Wildcard) (b : ℕ) (more : List Token) where
-  never_byte : (run : List Place) → AllByRecursion (λ p. Takes w p × DiffersAt (Some b) p) run → AllByRecursion (λ p. Takes w p × ((left : List Place) → Matches (One (Same (Ordinary (Character b))) ∷ more) (p ∷ left) → ⊥)) run
-  never_byte [] h = tt
-  never_byte (p ∷ run) h = ((h.0.0, λ left m. h.0.1 (one_place (Same (Ordinary (Character b))) more p left m).0), never_byte run h.1)
 
 -- matching goes on after them
 module _ (ts : List Token) (ps : List Place) (qs : List Token) where

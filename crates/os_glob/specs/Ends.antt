@@ -1,40 +1,51 @@
--- With which character a pattern ends: only private contracts name this.
-use Rattle.std.specs.Prelude.{◌≡◌, Bool, ℕ, List, [], ◌∷◌, ◌++◌, Option, Some, None}
+-- With which characters a pattern begins and ends: only private contracts name this.
+use Rattle.std.specs.Prelude.{◌≡◌, false, ℕ, List, [], ◌∷◌, ◌++◌, map, Option, IfSome}
+use Rattle.std.specs.List.{AllByRecursion}
 use Rattle.std.specs.Str.{chars}
 use Rattle.os_str_ext.specs.declared.symbols.Symbol.{Symbol}
 use Rattle.os_str_ext.specs.declared.symbols.Symbol.TheVariants.{Character}
 use Rattle.os_glob.specs.declared.options.GlobOptions.{GlobOptions}
-use Rattle.os_glob.specs.declared.place.Place.TheVariants.{Ordinary}
-use Rattle.os_glob.specs.Places.{place}
-use Rattle.os_glob.specs.Items.{Item, Literal, items, IsWellFormed}
+use Rattle.os_glob.specs.declared.options.Separators.{Separators}
+use Rattle.os_glob.specs.declared.options.Separators.TheVariants as separators
+use Rattle.os_glob.specs.declared.item.Wildcard.{Wildcard}
+use Rattle.os_glob.specs.Places.{separates}
+use Rattle.os_glob.specs.Items.{Item, Literal, Run, read, items, IsWellFormed}
 
--- the last of the items is a character that stands for itself, where there is one
-abbrev pub EndsWith : List Item → Option ℕ → Type 0
-EndsWith xs None = Unit {0}
-EndsWith xs (Some c) = (front : List Item) × (xs ≡ front ++ (Literal c ∷ []))
+-- the character matches itself, whatever comes after it in a pattern
+abbrev pub IsPlain : ℕ → Type 0
+IsPlain c = (cs : List ℕ) → read c cs ≡ (Literal c, cs)
 
--- a well-formed pattern, and the character at its end
-pub record IsKnown (pattern : List ℕ) (last : Option ℕ) : Type 0 where
+-- the first of the items, or the last, are characters that match themselves
+abbrev pub BeginsWith : List Item → List ℕ → Type 0
+BeginsWith xs cs = (rest : List Item) × (xs ≡ map Literal cs ++ rest)
+
+abbrev pub EndsWith : List Item → List ℕ → Type 0
+EndsWith xs cs = (front : List Item) × (xs ≡ front ++ map Literal cs)
+
+-- a well-formed pattern, the characters at its start and its end that match themselves, and the wildcard that it is, if it is one
+pub record IsKnown (pattern prefix suffix : List ℕ) (only : Option Wildcard) : Type 0 where
   pub well_formed : IsWellFormed pattern
-  pub ends : EndsWith (items (chars pattern)) last
+  pub begins : BeginsWith (items (chars pattern)) (chars prefix)
+  pub ends : EndsWith (items (chars pattern)) (chars suffix)
+  pub alone : IfSome only (λ w. items (chars pattern) ≡ Run w ∷ [])
 
--- all items up to these, and the character before these
-pub record AreRead (all left : List Item) (last : Option ℕ) : Type 0 where
+-- the items before a suffix, and characters that match themselves from there up to these
+pub record AreRead (all : List Item) (suffix left : List ℕ) : Type 0 where
   pub front : List Item
-  pub joined : all ≡ front ++ left
-  pub ends : EndsWith front last
+  pub between : List ℕ
+  pub joined : all ≡ front ++ items suffix
+  pub suffix_joined : suffix ≡ between ++ left
+  pub plain : AllByRecursion IsPlain between
 
--- the character for which an item stands
-abbrev pub literal : Item → Option ℕ
-literal (Literal c) = Some c
-literal x = None
+-- in a pattern no other character matches what the character matches
+abbrev pub StandsAlone : Separators → ℕ → Type 0
+StandsAlone separators.None c = Unit {0}
+StandsAlone separators.Slash c = Unit {0}
+StandsAlone separators.SlashAndBackslash c = separates separators.SlashAndBackslash c ≡ false
 
--- a list that ends with a value
-pub record Last {A : Type 0} (x : A) (xs : List A) : Type 0 where
-  pub front : List A
-  pub joined : xs ≡ front ++ (x ∷ [])
+-- the symbols don't begin, or end, with these characters, each of which stands alone
+abbrev pub DiffersAtStart : GlobOptions → List ℕ → List Symbol → Type 0
+DiffersAtStart o cs symbols = AllByRecursion (StandsAlone o.separators) cs × ((rest : List Symbol) → symbols ≡ map Character cs ++ rest → ⊥)
 
--- the character stands for itself alone, and the symbols don't end with it
-pub record DiffersAtEnd (o : GlobOptions) (c : ℕ) (symbols : List Symbol) : Type 0 where
-  pub ordinary : (begins : Bool) → place o begins (Character c) ≡ Ordinary (Character c)
-  pub never : ¬ (Last (Character c) symbols)
+abbrev pub DiffersAtEnd : GlobOptions → List ℕ → List Symbol → Type 0
+DiffersAtEnd o cs symbols = AllByRecursion (StandsAlone o.separators) cs × ((front : List Symbol) → symbols ≡ front ++ map Character cs → ⊥)

@@ -1,19 +1,20 @@
 //! Path patterns.
-ghost use Rattle.std.specs.Prelude.{List, ◌≡◌, ◌↔◌, false, IsTrue, MatchResult};
-ghost use Rattle.std.specs.Str.{chars};
+ghost use Rattle.std.specs.Prelude.{List, ◌≡◌, ◌∷◌, ◌↔◌, [], false, IsTrue, IfSome, MatchResult};
+ghost use Rattle.std.specs.Str.{IsUtf8, chars};
 ghost use Rattle.platform_str.specs.Strings.{bytes};
 ghost use Rattle.os_str_ext.specs.Symbols.{AreSymbols, symbols_of};
 ghost use Rattle.os_str_ext.specs.declared.symbols.Symbol.{Symbol};
-ghost use Rattle.os_glob.specs.Items.{IsWellFormed, IsFirstFault, items};
+ghost use Rattle.os_glob.specs.Items.{Run, IsWellFormed, IsFirstFault, items};
 ghost use Rattle.os_glob.specs.Match.{IsMatch};
-ghost use Rattle.os_glob.specs.Ends.{DiffersAtEnd, EndsWith};
+ghost use Rattle.os_glob.specs.Ends.{BeginsWith, EndsWith, DiffersAtStart, DiffersAtEnd};
 
 use crate::error::GlobError;
-use crate::item::{Item, first_item};
+use crate::item::{Item, Wildcard, first_item, is_plain};
 use crate::matching::matches;
 use crate::observer::{Nobody, Observer};
-use crate::options::GlobOptions;
+use crate::options::{GlobOptions, Separators};
 use crate::place::Places;
+use crate::text::{first_char, split_before};
 use crate::token::Tokens;
 use os_str_ext::{OsStr, OsStrBytesExt, Platform, Symbols, symbol_laws};
 use std::marker::Model;
@@ -41,8 +42,11 @@ use std::marker::Model;
 #[derive(Drop)]
 pub struct Glob<'p> {
     pattern: &'p str,
-    // The character that stands for itself at the pattern's end, where one does.
-    last: Option<char>,
+    // Characters at the pattern's start, and at its end, that match themselves.
+    prefix: &'p str,
+    suffix: &'p str,
+    // The wildcard that is the whole pattern, if one is.
+    only: Option<Wildcard>,
 }
 
 impl<'p> Model for Glob<'p> {
@@ -53,7 +57,7 @@ impl<'p> Model for Glob<'p> {
 
     ghost view = { λ it. it.pattern.now };
 
-    ghost invariant = { λ it. IsKnown it.pattern.now it.last };
+    ghost invariant = { λ it. IsKnown it.pattern.now it.prefix.now it.suffix.now it.only };
 }
 
 impl<'p> Glob<'p> {
@@ -90,7 +94,9 @@ impl<'p> Glob<'p> {
         }
         Ok(Glob {
             pattern,
-            last: last_literal(pattern),
+            prefix: literal_prefix(pattern),
+            suffix: literal_suffix(pattern),
+            only: only_wildcard(pattern),
         })
     }
 
@@ -123,8 +129,9 @@ impl<'p> Glob<'p> {
     }
 
     /// [`is_match`](Self::is_match), and how many symbols it looks at: the observer is told as it
-    /// goes on. Bytes that a search passes over count as symbols. A test wants at most as many as the
-    /// pattern's bytes and two, times the string's bytes and one.
+    /// goes on. Bytes that a search passes over count as symbols; those that are compared at once with
+    /// the pattern's start and end don't. A test wants at most as many as the pattern's bytes and two,
+    /// times the string's bytes and one.
     ///
     /// ```
     /// use os_glob::{Glob, GlobOptions, Observer, Separators};
@@ -169,10 +176,14 @@ impl<'p> Glob<'p> {
     ) -> bool
         ensures { IsTrue result ↔ IsMatch options self.now symbols.entry }
     {
-        if let Some(last) = self.last {
-            if !ends_alike(options, last, &symbols) {
-                return false;
-            }
+        if self.matches_all(options) {
+            return true;
+        }
+        if !begins_alike(options, self.prefix, &symbols) {
+            return false;
+        }
+        if !ends_alike(options, self.suffix, &symbols) {
+            return false;
         }
         matches(
             Tokens::new(options, self.pattern),
@@ -180,31 +191,89 @@ impl<'p> Glob<'p> {
             observer,
         )
     }
-}
 
-/// The character that stands for itself at a pattern's end, where one does.
-#[tactic(auto, using(crate::proofs::Ends::nothing_read, crate::proofs::Ends::one_more_read, crate::proofs::Ends::all_read))]
-fn last_literal(pattern: &str) -> Option<char>
-    ensures { EndsWith (items (chars pattern.now)) result }
-{
-    let mut rest = pattern;
-    let mut last = None;
-    while let Some((item, after)) = first_item(rest) {
-        last = item.literal();
-        rest = after;
+    /// Whether the pattern is one wildcard that takes each place.
+    #[inline(always)]
+    fn matches_all(&self, options: GlobOptions) -> bool
+        ensures { IsTrue result → (symbols : List Symbol) → IsMatch options self.now symbols }
+    {
+        let Some(wildcard) = self.only else {
+            return false;
+        };
+        if options.literal_leading_dot {
+            return false;
+        }
+        match wildcard.left_out(options.separators) {
+            Separators::None => true,
+            _ => false,
+        }
     }
-    last
 }
 
-/// Whether the symbols may end with a character that stands for itself at a pattern's end. By it
-/// most names are refused at once.
-#[inline(always)]
-fn ends_alike<E: Platform>(options: GlobOptions, last: char, symbols: &Symbols<'_, E>) -> bool
-    ensures { result ≡ false → DiffersAtEnd options last symbols.now }
+/// The characters at a pattern's start that match themselves.
+fn literal_prefix(pattern: &str) -> &str
+    ensures begins { BeginsWith (items (chars pattern.now)) (chars result.now) }
+    ensures text { IsUtf8 result.now }
 {
-    if options.is_special(last) {
+    let (front, _) = split_before(pattern, b'*', b'?', b'[');
+    let (prefix, _) = split_before(front, b'\\', b'\\', b'\\');
+    prefix
+}
+
+/// The characters at a pattern's end that match themselves.
+fn literal_suffix(pattern: &str) -> &str
+    ensures ends { EndsWith (items (chars pattern.now)) (chars result.now) }
+    ensures text { IsUtf8 result.now }
+{
+    let mut suffix = pattern;
+    let mut rest = pattern;
+    while let Some((character, after)) = first_char(rest) {
+        if is_plain(character) {
+            rest = after;
+        } else {
+            let Some((_, after_item)) = first_item(rest) else {
+                return "";
+            };
+            rest = after_item;
+            suffix = after_item;
+        }
+    }
+    suffix
+}
+
+/// The wildcard that is a whole pattern, if one is.
+fn only_wildcard(pattern: &str) -> Option<Wildcard>
+    ensures { IfSome result (λ wildcard. items (chars pattern.now) ≡ Run wildcard ∷ []) }
+{
+    let Some((Item::Run(wildcard), after)) = first_item(pattern) else {
+        return None;
+    };
+    if !after.is_empty() {
+        return None;
+    }
+    Some(wildcard)
+}
+
+/// Whether symbols may begin with characters that match themselves at a pattern's start.
+#[inline(always)]
+fn begins_alike<E: Platform>(options: GlobOptions, prefix: &str, symbols: &Symbols<'_, E>) -> bool
+    ensures { result ≡ false → DiffersAtStart options (chars prefix.now) symbols.now }
+{
+    if !options.separators.stand_apart_from(prefix) {
         return true;
     }
     symbol_laws::symbols::<E>();
-    symbols.rest().ends_with(last)
+    symbols.rest().starts_with(prefix)
+}
+
+/// Whether symbols may end with characters that match themselves at a pattern's end.
+#[inline(always)]
+fn ends_alike<E: Platform>(options: GlobOptions, suffix: &str, symbols: &Symbols<'_, E>) -> bool
+    ensures { result ≡ false → DiffersAtEnd options (chars suffix.now) symbols.now }
+{
+    if !options.separators.stand_apart_from(suffix) {
+        return true;
+    }
+    symbol_laws::symbols::<E>();
+    symbols.rest().ends_with(suffix)
 }

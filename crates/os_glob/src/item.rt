@@ -1,9 +1,9 @@
 //! The items of a pattern.
-ghost use Rattle.std.specs.Prelude.{◌≡◌, ◌∷◌, [], MatchOption, IfSome};
+ghost use Rattle.std.specs.Prelude.{◌≡◌, ◌∷◌, [], IsTrue, MatchOption, IfSome};
 ghost use Rattle.std.specs.Str.{IsUtf8, chars};
 ghost use Rattle.os_glob.specs.Items.{read, read_star, read_quoted, read_class, class_start, items};
 ghost use Rattle.os_glob.specs.Held.{item_of, IsFaultText};
-ghost use Rattle.os_glob.specs.Ends.{literal};
+ghost use Rattle.os_glob.specs.Ends.{IsPlain};
 
 use crate::error::GlobErrorKind;
 use crate::member::{after_members, first_reversed_range};
@@ -33,16 +33,17 @@ pub(crate) enum Item<'p> {
     Refused(GlobErrorKind, &'p str),
 }
 
-impl<'p> Item<'p> {
-    /// The character that stands for itself, if it is one.
-    #[inline(always)]
-    pub(crate) fn literal(self) -> Option<char>
-        ensures { result ≡ literal (item_of self.entry) }
-    {
-        match self {
-            Item::Literal(character) => Some(character),
-            _ => None,
-        }
+/// Whether a character matches itself in a pattern, whatever comes after it.
+#[tactic(auto, using(crate::proofs::Ends::plain))]
+pub(crate) fn is_plain(character: char) -> bool
+    ensures { IsTrue result → IsPlain character }
+{
+    match character {
+        '*' => false,
+        '?' => false,
+        '\\' => false,
+        '[' => false,
+        _ => true,
     }
 }
 

@@ -1,4 +1,11 @@
 //! How a pattern is matched.
+ghost use Rattle.std.specs.Prelude.{IsTrue};
+ghost use Rattle.std.specs.List.{AllByRecursion};
+ghost use Rattle.std.specs.Str.{chars};
+ghost use Rattle.os_glob.specs.declared.options.Separators.TheVariants as separators;
+ghost use Rattle.os_glob.specs.Ends.{StandsAlone};
+
+use crate::text::split_before;
 
 /// Which characters separate the components of a path.
 #[derive(Clone, Copy, PartialEq, Eq)]
@@ -44,19 +51,25 @@ impl Separators {
             Separators::SlashAndBackslash => character == '/' || character == '\\',
         }
     }
+
+    /// Whether each character of a text matches what no other character does: where `/` and `\` are
+    /// separators, a text has neither.
+    #[inline(always)]
+    pub(crate) fn stand_apart_from(self, text: &str) -> bool
+        ensures { IsTrue result → AllByRecursion (StandsAlone self) (chars text.now) }
+    {
+        match self {
+            Separators::SlashAndBackslash => has_no_separator(text),
+            _ => true,
+        }
+    }
 }
 
-impl GlobOptions {
-    ghost use Rattle.std.specs.Prelude.{◌≡◌, false, ◌||◌, ◌&&◌, nat_eq};
-    ghost use Rattle.os_glob.specs.Places.{separates};
-
-    /// Whether a character may stand for more than itself, or not everywhere for itself: a
-    /// separator, and a dot where leading dots are matched literally.
-    #[inline(always)]
-    pub(crate) fn is_special(self, character: char) -> bool
-        ensures { result ≡ (separates self.separators character
-            || (self.literal_leading_dot && nat_eq character 0x2E)) }
-    {
-        self.separators.contains(character) || self.literal_leading_dot && character == '.'
-    }
+/// Whether a text has neither `/` nor `\`.
+fn has_no_separator(text: &str) -> bool
+    ensures { IsTrue result
+        → AllByRecursion (StandsAlone separators.SlashAndBackslash) (chars text.now) }
+{
+    let (_, rest) = split_before(text, b'/', b'/', b'\\');
+    rest.is_empty()
 }

@@ -45,7 +45,7 @@ pub(crate) fn split_at_stop(text: &str, separators: Separators, literal: Option<
 
 /// A text up to the first of three characters of ASCII, and from there on.
 #[inline(always)]
-fn split_before(text: &str, one: u8, two: u8, three: u8) -> (&str, &str)
+pub(crate) fn split_before(text: &str, one: u8, two: u8, three: u8) -> (&str, &str)
     requires one { one < 0x80 }
     requires two { two < 0x80 }
     requires three { three < 0x80 }

@@ -1,11 +1,12 @@
-use Rattle.std.proofs.Common.{◌≡◌, true, false, IsTrue, sym, ◌∙◌}
-use Rattle.os_glob.proofs.Ends.{ordinary_place, last_bytes}
+use Rattle.std.proofs.Common.{◌≡◌, true, false, IsTrue, sym, ◌∙◌, chars}
+use Rattle.std.proofs.lemmas.Str.{encodes-chars}
+use Rattle.os_glob.proofs.Ends.{end_bytes}
 use Rattle.os_glob.proofs.glob.ends_alike.Goals as goal
 
 pub returns : goal.returns
-returns g c = λ e. record {
-  ordinary = ordinary_place c.args.options c.args.last (sym c.is_special.ensures ∙ c.if-is_special.false);
-  never = λ l.
-      let t : IsTrue c.ends_with.result = c.ends_with.ensures.bytes.1 (last_bytes _ _ _ (c.symbols.ensures.joined _ c.rest.result.ok _ c.rest.ensures.symbols) l) in
-      let k : true ≡ false = sym t ∙ e in cc;
-}
+returns g c = λ e. (
+  c.stand_apart_from.ensures c.if-not-stand_apart_from.false,
+  λ more f.
+      let t : IsTrue c.ends_with.result = c.ends_with.ensures.bytes.1 (end_bytes _ _ _ (c.symbols.ensures.joined _ c.rest.result.ok _ c.rest.ensures.symbols) (chars c.args.suffix.now) (encodes-chars c.args.suffix.now c.utf8.suffix) more f) in
+      let k : true ≡ false = sym t ∙ e in cc,
+)

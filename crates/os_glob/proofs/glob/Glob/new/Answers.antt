@@ -1,4 +1,4 @@
-use Rattle.std.proofs.Common.{◌≡◌, ◌∷◌, ap, ◌∙◌, chars, subst}
+use Rattle.std.proofs.Common.{◌∷◌, ap, ◌∙◌, chars, subst}
 use Rattle.os_glob.specs.Held.{item_of, IsFaultText}
 use Rattle.os_glob.specs.Items.{items, first_fault}
 use Rattle.os_glob.proofs.Readings.{is_first_fault, fault_within}

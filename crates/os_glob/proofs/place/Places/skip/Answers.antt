@@ -1,4 +1,4 @@
-use Rattle.std.proofs.Common.{◌≡◌, false, map, ◌++◌, subst, chars}
+use Rattle.std.proofs.Common.{false, map, ◌++◌, subst, chars}
 use Rattle.os_str_ext.specs.declared.symbols.Symbol.TheVariants.{Character}
 use Rattle.os_glob.specs.Places.{places}
 use Rattle.std.specs.List.{AllByRecursion}
