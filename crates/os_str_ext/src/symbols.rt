@@ -1,15 +1,18 @@
 //! The symbols of a string: its whole characters, and the units of what isn't text.
-ghost use Rattle.std.specs.Prelude.{◌≡◌, ◌∷◌, [], ◌<◌, ◌≤◌, length, MatchOption};
+ghost use Rattle.std.specs.Prelude.{◌≡◌, ◌∷◌, [], ◌<◌, ◌≤◌, ℕ, length, take, MatchOption};
 ghost use Rattle.std.specs.Iterator.{YieldsFirst, item_count};
+ghost use Rattle.std.specs.Str.{IsUtf8};
+ghost use Rattle.wtf8_core.specs.Covered.{StartsBare};
 ghost use Rattle.platform_str.specs.Strings.{bytes};
-ghost use Rattle.os_str_ext.specs.Chunks.{IsBareUpTo, IsFirstChunk};
-ghost use Rattle.os_str_ext.specs.Symbols.{AreSymbols, AreKnown, symbols_of};
+ghost use Rattle.os_str_ext.specs.Chunks.{IsFirstChunk};
+ghost use Rattle.os_str_ext.specs.Symbols.{AreSymbols, AreKnown, IsKnownPart, symbols_of};
 
-use crate::chunks::{ChunkEnds, chunk_ends};
+use crate::characters::{split_first_char, split_known_char};
 use crate::os_units::OsUnit;
 use platform_str::{OsStr, Platform};
 use std::alloc::AllocError;
 use std::marker::Model;
+use wtf8_core::{char_at, utf8_fault};
 
 /// One element of a string: a whole character, or a unit of what isn't text.
 ///
@@ -31,12 +34,10 @@ pub enum Symbol {
 #[derive(Drop)]
 pub struct Symbols<'a, E: Platform + 'a> {
     rest: OsStr<'a, E>,
-    // The number of bytes after the part of the rest's first chunk, and of those after its text. If
-    // the next chunk isn't known yet, the rest has at most `after_text` bytes.
-    after_part: usize,
+    // The bytes of the rest are a text but for the last `after_text`.
     after_text: usize,
-    // No whole character starts at any of the first `bare` bytes after that text.
-    bare: usize,
+    // The length of the part at the start of the rest, or 0 if it isn't known.
+    part: usize,
 }
 
 impl<'a, E: Platform> Model for Symbols<'a, E> {
@@ -49,7 +50,7 @@ impl<'a, E: Platform> Model for Symbols<'a, E> {
 
     ghost view = { λ it. symbols_of E.units (bytes it.rest) };
 
-    ghost invariant = { λ it. AreKnown (bytes it.rest) it.after_part it.after_text it.bare };
+    ghost invariant = { λ it. AreKnown (bytes it.rest) it.after_text it.part };
 }
 
 impl<'a, E: Platform> Clone for Symbols<'a, E> {
@@ -60,9 +61,8 @@ impl<'a, E: Platform> Clone for Symbols<'a, E> {
     fn clone(&self) -> Result<Self, AllocError> {
         Ok(Symbols {
             rest: self.rest,
-            after_part: self.after_part,
             after_text: self.after_text,
-            bare: self.bare,
+            part: self.part,
         })
     }
 }
@@ -74,12 +74,10 @@ impl<'a, E: Platform> Symbols<'a, E> {
         ensures symbols { AreSymbols E.units (bytes string.entry) result }
         ensures value { result ≡ symbols_of E.units (bytes string.entry) }
     {
-        let len = string.len();
         Symbols {
             rest: string,
-            after_part: len,
-            after_text: len,
-            bare: 0,
+            after_text: string.len(),
+            part: 0,
         }
     }
 
@@ -111,12 +109,7 @@ impl<'a, E: Platform> Iterator for Symbols<'a, E> {
 
     #[inline(always)]
     fn next(&mut self) -> Option<Symbol> {
-        let Some((symbol, rest)) = first_symbol(
-            self.rest,
-            self.after_part,
-            self.after_text,
-            self.bare,
-        ) else {
+        let Some((symbol, rest)) = first_symbol(self.rest, self.after_text, self.part) else {
             return None;
         };
         *self = rest;
@@ -128,110 +121,102 @@ impl<'a, E: Platform> Iterator for Symbols<'a, E> {
 #[inline(always)]
 fn first_symbol<'a, E: Platform>(
     string: OsStr<'a, E>,
-    after_part: usize,
     after_text: usize,
-    bare: usize,
+    part: usize,
 ) -> Option<(Symbol, Symbols<'a, E>)>
-    requires { AreKnown (bytes string) after_part after_text bare }
+    requires { AreKnown (bytes string) after_text part }
     ensures { MatchOption result (symbols_of E.units (bytes string.entry) ≡ [])
         (λ first. symbols_of E.units (bytes string.entry) ≡ first.0 ∷ first.1) }
 {
-    if string.len() > after_text {
-        return Some(first_of_chunk(string, after_part, after_text, bare));
+    if let Some((character, rest)) = split_known_char(string, after_text) {
+        let symbols = Symbols {
+            rest,
+            after_text,
+            part,
+        };
+        return Some((Symbol::Character(character), symbols));
     }
     if string.is_empty() {
         return None;
     }
-    Some(first_of_next_chunk(string, bare))
+    Some(first_of_unknown(string, part))
 }
 
-/// The same for a string that isn't empty and whose first chunk isn't known yet. No whole character
-/// starts at any of its first `bare` bytes.
-fn first_of_next_chunk<'a, E: Platform>(
-    string: OsStr<'a, E>,
-    bare: usize,
-) -> (Symbol, Symbols<'a, E>)
-    requires some { 0 < length (bytes string) }
-    requires bare { IsBareUpTo (bytes string) bare }
-    ensures { symbols_of E.units (bytes string.entry) ≡ result.0 ∷ result.1 }
-{
-    let bytes = string.as_encoded_bytes();
-    let ChunkEnds {
-        part_end,
-        text_end,
-        bare_after,
-    } = chunk_ends(bytes, bare);
-    let len = bytes.len();
-    first_of_chunk(string, len - part_end, len - text_end, bare_after)
-}
-
-/// The same for a string whose first chunk is known.
+/// The same for a string that isn't empty and doesn't begin with a known text.
 #[inline(always)]
-fn first_of_chunk<'a, E: Platform>(
-    string: OsStr<'a, E>,
-    after_part: usize,
-    after_text: usize,
-    bare: usize,
-) -> (Symbol, Symbols<'a, E>)
-    requires some { after_text < length (bytes string) }
-    requires known { AreKnown (bytes string) after_part after_text bare }
+fn first_of_unknown<'a, E: Platform>(string: OsStr<'a, E>, part: usize) -> (Symbol, Symbols<'a, E>)
+    requires some { 0 < length (bytes string) }
+    requires part { IsKnownPart (bytes string) part }
     ensures { symbols_of E.units (bytes string.entry) ≡ result.0 ∷ result.1 }
 {
-    if string.len() > after_part {
-        first_of_part(string, after_part, after_text, bare)
-    } else {
-        first_of_text(string, after_part, after_text, bare)
+    match split_first_char(string) {
+        Some((character, rest)) => (Symbol::Character(character), after_character(rest)),
+        None => first_of_part(string, part),
     }
 }
 
-/// The same if the first chunk begins with a unit.
-fn first_of_part<'a, E: Platform>(
-    string: OsStr<'a, E>,
-    after_part: usize,
-    after_text: usize,
-    bare: usize,
-) -> (Symbol, Symbols<'a, E>)
-    requires part { after_part < length (bytes string) }
-    requires some { after_text < length (bytes string) }
-    requires known { AreKnown (bytes string) after_part after_text bare }
+/// The symbols of a string, with the text with which it begins known.
+#[inline(always)]
+fn after_character<'a, E: Platform>(string: OsStr<'a, E>) -> Symbols<'a, E>
+    ensures { result ≡ symbols_of E.units (bytes string.entry) }
+{
+    let bytes = string.as_encoded_bytes();
+    Symbols {
+        rest: string,
+        after_text: bytes.len() - text_len(bytes),
+        part: 0,
+    }
+}
+
+/// The length of the text with which the bytes begin.
+fn text_len(bytes: &[u8]) -> usize
+    ensures within { result ≤ length bytes.now }
+    ensures text { IsUtf8 (take result bytes.now) }
+{
+    match utf8_fault(bytes) {
+        Some((valid_up_to, _)) => valid_up_to,
+        None => bytes.len(),
+    }
+}
+
+/// The first symbol and those after it if the string begins with a unit.
+#[inline(always)]
+fn first_of_part<'a, E: Platform>(string: OsStr<'a, E>, known: usize) -> (Symbol, Symbols<'a, E>)
+    requires some { 0 < length (bytes string) }
+    requires bare { StartsBare (bytes string) }
+    requires known { IsKnownPart (bytes string) known }
     ensures { symbols_of E.units (bytes string.entry) ≡ result.0 ∷ result.1 }
 {
     let bytes = string.as_encoded_bytes();
-    let (part, _) = bytes.split_at(bytes.len() - after_part);
+    let len = part_len(bytes, known);
+    let (part, _) = bytes.split_at(len);
     let (number, size) = E::first_unit(part);
     let (_, rest) = bytes.split_at(size);
     let symbols = Symbols {
         rest: OsStr::from_encoded_bytes_unchecked(rest),
-        after_part,
-        after_text,
-        bare,
+        after_text: rest.len(),
+        part: len - size,
     };
     (Symbol::Unit(OsUnit { number }), symbols)
 }
 
-/// The same if the first chunk has no part, only a text.
-#[inline(always)]
-fn first_of_text<'a, E: Platform>(
-    string: OsStr<'a, E>,
-    after_part: usize,
-    after_text: usize,
-    bare: usize,
-) -> (Symbol, Symbols<'a, E>)
-    requires no_part { length (bytes string) ≤ after_part }
-    requires some { after_text < length (bytes string) }
-    requires known { AreKnown (bytes string) after_part after_text bare }
-    ensures { symbols_of E.units (bytes string.entry) ≡ result.0 ∷ result.1 }
+/// The length of the part with which the bytes begin.
+fn part_len(bytes: &[u8], known: usize) -> usize
+    requires some { 0 < length bytes.now }
+    requires bare { StartsBare bytes.now }
+    requires known { IsKnownPart bytes.now known }
+    ensures some { 0 < result }
+    ensures part { (e : ℕ) × IsFirstChunk bytes.now result e }
 {
-    let bytes = string.as_encoded_bytes();
-    let (text, _) = bytes.split_at(bytes.len() - after_text);
-    let mut characters = unsafe { str::from_utf8_unchecked(text) }.chars();
-    let character = characters.next().unwrap();
-    let (_, rest) = bytes.split_at(text.len() - characters.as_str().len());
-    let symbols = Symbols {
-        rest: OsStr::from_encoded_bytes_unchecked(rest),
-        after_part,
-        after_text,
-        bare,
-    };
-    (Symbol::Character(character), symbols)
+    if known > 0 {
+        return known;
+    }
+    let mut at = 1;
+    while at < bytes.len() {
+        match char_at(bytes, at) {
+            Some(_) => return at,
+            None => at += 1,
+        }
+    }
+    bytes.len()
 }

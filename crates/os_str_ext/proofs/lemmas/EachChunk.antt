@@ -20,13 +20,13 @@ text_or_not : (r : List ℕ) → IsUtf8 r ⊎ (IsUtf8 r → ⊥)
 text_or_not r = ⊎_elim (λ t. inl (IsUtf8-from_is_utf8 r t)) (λ f. inr (λ u. false≢true (sym f ∙ is_utf8-from_IsUtf8 r u))) (cases_Bool (is_utf8 r))
 
 -- where the text ends that begins at index m
-record TextEnd (s : List ℕ) (m e : ℕ) : Type 0 where
-  ordered : m ≤ e
-  within : e ≤ length s
-  text : IsUtf8 (drop m (take e s))
-  ended : (j : ℕ) → WholeCharacter s e j → ⊥
+pub record TextEnd (s : List ℕ) (m e : ℕ) : Type 0 where
+  pub ordered : m ≤ e
+  pub within : e ≤ length s
+  pub text : IsUtf8 (drop m (take e s))
+  pub ended : (j : ℕ) → WholeCharacter s e j → ⊥
 
-text_end : (s : List ℕ) (m : ℕ) → m ≤ length s → (e : ℕ) × TextEnd s m e
+pub text_end : (s : List ℕ) (m : ℕ) → m ≤ length s → (e : ℕ) × TextEnd s m e
 text_end s m within =
     ⊎_elim
     (λ u. (

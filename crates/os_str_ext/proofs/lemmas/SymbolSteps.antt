@@ -1,18 +1,23 @@
 -- The symbols of a string, taken off one by one.
-use Rattle.std.proofs.Common.{◌≡◌, ⊎_elim, ℕ, ◌+◌, ◌-◌, ◌<◌, ◌≤◌, List, [], ◌∷◌, ◌++◌, map, length, take, drop, sym, ap, ◌∙◌, subst, arith, append_assoc, append-nil, length-append, length-drop, take-append-drop, drop-drop}
-use Rattle.std.proofs.lemmas.Bool.{cases_lt}
+use Rattle.std.proofs.Common.{◌≡◌, ⊎_elim, ℕ, ◌+◌, ◌-◌, ◌<◌, ◌≤◌, List, [], ◌∷◌, ◌++◌, map, length, take, drop, refl, sym, ap, ◌∙◌, subst, arith, append_assoc, append-nil, length-append, length-drop, take-append-drop, drop-drop}
+use Rattle.std.proofs.lemmas.Bool.{cases_lt, cases_eq}
 use Rattle.std.proofs.lemmas.List.{length-take-le, take-take, drop-take, drop_at, take_at}
-use Rattle.std.proofs.lemmas.Str.{chars-nil, chars_past_char}
-use Rattle.std.specs.Char.{encode_utf8}
-use Rattle.std.specs.Str.{IsUtf8, chars}
-use Rattle.wtf8_core.specs.Covered.{IsCovered}
+use Rattle.std.proofs.lemmas.Str.{IsUtf8-nil, IsUtf8-past_char, encode_same, chars-nil, chars_past_char}
+use Rattle.std.specs.Char.{IsScalar, encode_utf8}
+use Rattle.std.specs.Str.{IsUtf8, chars, encode_utf8_all}
+use Rattle.wtf8_core.specs.Character.{WholeCharacter}
+use Rattle.wtf8_core.specs.CodePoint.{form}
+use Rattle.wtf8_core.specs.Covered.{IsCovered, StartsBare}
 use Rattle.wtf8_core.specs.StandingLaws.{StandingLaws}
-use Rattle.wtf8_core.proofs.lemmas.characters.Seams.{covered_within}
+use Rattle.wtf8_core.proofs.lemmas.characters.AtPlaces.{character_fits, whole_at}
+use Rattle.wtf8_core.proofs.lemmas.characters.Seams.{covered_within, whole_within}
+use Rattle.wtf8_core.proofs.lemmas.forms.ByStd.{form_encode}
 use Rattle.platform_str.specs.Laws.{IsFirstUnit}
 use Rattle.os_str_ext.specs.Chunks.{IsBareUpTo, IsFirstChunk}
-use Rattle.os_str_ext.specs.Symbols.{AreKnown, chunks_symbols, symbols_of, unit_symbol}
+use Rattle.os_str_ext.specs.Symbols.{AreKnown, IsKnownPart, chunks_symbols, symbols_of, unit_symbol}
 use Rattle.os_str_ext.specs.declared.symbols.Symbol.TheVariants.{Character}
-use Rattle.os_str_ext.proofs.lemmas.FirstChunk.{first_and_rest, no_chunks}
+use Rattle.os_str_ext.proofs.lemmas.EachChunk.{text_end}
+use Rattle.os_str_ext.proofs.lemmas.FirstChunk.{first_and_rest, first_of_parts, no_chunks}
 
 -- no bytes have no symbols
 pub no_symbols : (units : List ℕ → List ℕ) (s : List ℕ) → s ≡ [] → symbols_of units s ≡ []
@@ -24,18 +29,6 @@ left_behind s n e le = drop-drop (e - n) n s ∙ ap (λ k. drop k s) (omega (ari
 
 left_between : (s : List ℕ) (n e : ℕ) → n ≤ e → take (e - n) (drop n s) ≡ drop n (take e s)
 left_between s n e le = sym (drop-take n (e - n) s) ∙ ap (λ k. drop n (take k s)) (omega (arith, le))
-
--- what is known of s by where its first chunk ends
-pub known_by_ends : (s : List ℕ) (m e bare : ℕ) → IsFirstChunk s m e → IsBareUpTo (drop e s) bare → AreKnown s (length s - m) (length s - e) bare
-known_by_ends s m e bare h after =
-    let ordered = h.ordered in
-    let within = h.within in
-    let p : length s - (length s - m) ≡ m = omega arith in
-    let q : length s - (length s - e) ≡ e = omega arith in
-    record {
-      ends = λ _. subst (λ i. IsFirstChunk s i (length s - (length s - e))) (sym p) (subst (IsFirstChunk s m) (sym q) h);
-      bare_after = subst (λ j. IsBareUpTo (drop j s) bare) (sym q) after;
-    }
 
 module _ (units : List ℕ → List ℕ) where
   -- the symbols by where the first chunk ends
@@ -75,114 +68,140 @@ module _ (s : List ℕ) (m e n : ℕ) (h : IsFirstChunk s m e) (within : n ≤ e
         ended = λ l c. h.ended (omega (arith, l)) (subst (IsCovered s) z (covered (e - n) c));
       }
 
-module _ (s : List ℕ) (after_part after_text bare n : ℕ) (some : after_text < length s) (known : AreKnown s after_part after_text bare) (within : n ≤ length s - after_text) where
-  abbrev m : ℕ
-  m = length s - after_part
+-- what is known where nothing is known but the part
+pub known_part : (s : List ℕ) (part : ℕ) → IsKnownPart s part → AreKnown s (length s) part
+known_part s part h = let none : length s - length s ≡ 0 = omega arith in record { text = subst (λ i. IsUtf8 (take i s)) (sym none) IsUtf8-nil; part_is = h }
 
-  abbrev e : ℕ
-  e = length s - after_text
+-- what is known where a text is known
+pub known_text : (s : List ℕ) (n : ℕ) → n ≤ length s → IsUtf8 (take n s) → AreKnown s (length s - n) 0
+known_text s n within text = let all : length s - (length s - n) ≡ n = omega (arith, within) in record { text = subst (λ i. IsUtf8 (take i s)) (sym all) text; part_is = λ lt. absurd (omega (arith, lt)) }
 
-  abbrev TextLeft : Type 0
-  TextLeft = IsUtf8 (drop (m - n) (take (e - n) (drop n s)))
+-- a part ends where a character begins
+pub part_before_character : (s : List ℕ) (i j : ℕ) → IsBareUpTo s i → WholeCharacter s i j → (e : ℕ) × IsFirstChunk s i e
+part_before_character s i j bare w =
+    let t = text_end s i bare.within in
+    let some : i < t.0 = ⊎_elim (λ same. absurd (t.1.ended j (subst (λ k. WholeCharacter s k j) same w))) (λ ne. omega (arith, ne, t.1.ordered)) (cases_eq i t.0) in
+    (t.0, first_of_parts s i t.0 bare.bare (λ _. some) t.1.ordered t.1.within t.1.text t.1.ended)
 
-  -- what is known of what is left
-  known_left : TextLeft → AreKnown (drop n s) after_part after_text bare
-  known_left text =
-      let size = length-drop n s in
-      let p : length (drop n s) - after_part ≡ m - n = omega (arith, size) in
-      let q : length (drop n s) - after_text ≡ e - n = omega (arith, size) in
-      record {
-        ends = λ lt.
-            subst (λ i. IsFirstChunk (drop n s) i (length (drop n s) - after_text)) (sym p)
-            (subst (λ j. IsFirstChunk (drop n s) (m - n) j) (sym q) (first_left s m e n (known.ends some) within (omega (arith, lt, size)) text));
-        bare_after = subst (λ r. IsBareUpTo r bare) (sym (ap (λ j. drop j (drop n s)) q ∙ left_behind s n e within)) known.bare_after;
-      }
+-- the first byte is in a part, and then the next one if no character starts there
+pub bare_first : (s : List ℕ) → 0 < length s → StartsBare s → IsBareUpTo s 1
+bare_first s some bare = record { within = omega (arith, some); bare = λ k j low w. let z : k ≡ 0 = omega (arith, low) in bare j (subst (λ x. WholeCharacter s x j) z w) }
 
-  symbols_left : (units : List ℕ → List ℕ) → units [] ≡ [] → TextLeft → symbols_of units (drop n s) ≡ map unit_symbol (units (take (m - n) (drop n s))) ++ (map Character (chars (drop (m - n) (take (e - n) (drop n s)))) ++ symbols_of units (drop e s))
-  symbols_left units none text =
-      let h = known.ends some in
-      laid_out units (drop n s) (m - n) (e - n) none (omega (arith, h.ordered)) (λ pos. first_left s m e n h within (omega (arith, pos)) text)
-      ∙ ap (λ r. map unit_symbol (units (take (m - n) (drop n s))) ++ (map Character (chars (drop (m - n) (take (e - n) (drop n s)))) ++ symbols_of units r)) (left_behind s n e within)
+pub bare_next : (s : List ℕ) (i : ℕ) → IsBareUpTo s i → i < length s → ((j : ℕ) → ¬ (WholeCharacter s i j)) → IsBareUpTo s (i + 1)
+bare_next s i p lt none = record {
+  within = omega (arith, lt);
+  bare = λ k j low w. ⊎_elim (λ e. none j (subst (λ x. WholeCharacter s x j) e w)) (λ ne. p.bare k j (omega (arith, low, ne)) w) (cases_eq k i);
+}
 
 -- after the first unit of the part
-module _ (well_formed : List ℕ → Type 0) (units : List ℕ → List ℕ) (s : List ℕ) (after_part after_text bare u n : ℕ) (some : after_text < length s) (known : AreKnown s after_part after_text bare) (first : IsFirstUnit well_formed units (take (length s - after_part) s) u n) where
-  in_part : n ≤ length s - after_part
-  in_part = let w = first.within in omega (arith, length-take-le (length s - after_part) s (omega arith))
+module _ (well_formed : List ℕ → Type 0) (units : List ℕ → List ℕ) (s : List ℕ) (m e u n : ℕ) (h : IsFirstChunk s m e) (first : IsFirstUnit well_formed units (take m s) u n) where
+  in_part : n ≤ m
+  in_part = let w = first.within in omega (arith, length-take-le m s (omega (arith, h.ordered, h.within)))
 
-  in_chunk : n ≤ length s - after_text
-  in_chunk = omega (arith, in_part, (known.ends some).ordered)
+  in_chunk : n ≤ e
+  in_chunk = omega (arith, in_part, h.ordered)
 
-  same_text : drop (length s - after_part - n) (take (length s - after_text - n) (drop n s)) ≡ drop (length s - after_part) (take (length s - after_text) s)
-  same_text =
-      ap (drop (length s - after_part - n)) (left_between s n (length s - after_text) in_chunk) ∙ left_behind (take (length s - after_text) s) n (length s - after_part) in_part
+  same_text : drop (m - n) (take (e - n) (drop n s)) ≡ drop m (take e s)
+  same_text = ap (drop (m - n)) (left_between s n e in_chunk) ∙ left_behind (take e s) n m in_part
 
-  text_behind_unit : IsUtf8 (drop (length s - after_part - n) (take (length s - after_text - n) (drop n s)))
-  text_behind_unit = subst IsUtf8 (sym same_text) (known.ends some).text
+  chunk_left : n < e → IsFirstChunk (drop n s) (m - n) (e - n)
+  chunk_left lt = first_left s m e n h in_chunk lt (subst IsUtf8 (sym same_text) h.text)
 
-  pub known_behind_unit : AreKnown (drop n s) after_part after_text bare
-  known_behind_unit = known_left s after_part after_text bare n some known in_chunk text_behind_unit
+  pub part_behind_unit : IsKnownPart (drop n s) (m - n)
+  part_behind_unit lt = (e - n, chunk_left (omega (arith, lt, h.ordered)))
 
-  pub symbols_by_unit : units [] ≡ [] → symbols_of units s ≡ unit_symbol u ∷ symbols_of units (drop n s)
-  symbols_by_unit none =
-      let h = known.ends some in
-      let m = length s - after_part in
-      let e = length s - after_text in
+  pub symbols_by_unit : 0 < length s → units [] ≡ [] → symbols_of units s ≡ unit_symbol u ∷ symbols_of units (drop n s)
+  symbols_by_unit some none =
       let behind = map Character (chars (drop m (take e s))) ++ symbols_of units (drop e s) in
-      by_first_chunk units s m e h (omega (arith, some))
+      by_first_chunk units s m e h some
       ∙ ap (λ us. map unit_symbol us ++ behind) first.units_are
       ∙ ap (λ x. unit_symbol u ∷ x)
       (ap (λ b. map unit_symbol (units b) ++ behind) (sym (left_between s n m in_part))
       ∙ ap (λ t. map unit_symbol (units (take (m - n) (drop n s))) ++ (map Character (chars t) ++ symbols_of units (drop e s))) (sym same_text)
-      ∙ sym (symbols_left s after_part after_text bare n some known in_chunk units none text_behind_unit))
+      ∙ ap (λ r. map unit_symbol (units (take (m - n) (drop n s))) ++ (map Character (chars (drop (m - n) (take (e - n) (drop n s)))) ++ symbols_of units r)) (sym (left_behind s n e in_chunk))
+      ∙ sym (laid_out units (drop n s) (m - n) (e - n) none (omega (arith, h.ordered)) (λ pos. chunk_left (omega (arith, pos)))))
 
   -- what is left is a string
-  pub formed_behind_unit : StandingLaws well_formed units → well_formed s → well_formed (take (length s - after_part) s) → well_formed (drop n s)
+  pub formed_behind_unit : StandingLaws well_formed units → well_formed s → well_formed (take m s) → well_formed (drop n s)
   formed_behind_unit laws formed part_formed =
-      let m = length s - after_part in
       let part = take m s in
       let front : well_formed (take n s) =
       subst well_formed (take-take n m s in_part) (laws.ends (take n part) (drop n part) first.behind (subst well_formed (sym (take-append-drop n part)) part_formed)) in
       (laws.fronts (take n s) (drop n s) front (subst well_formed (sym (take-append-drop n s)) formed)).0
 
--- after the first character of a text
-module _ (units : List ℕ → List ℕ) (s rest : List ℕ) (after_part after_text bare c n : ℕ) (some : after_text < length s) (no_part : length s ≤ after_part) (known : AreKnown s after_part after_text bare)
-    (text : take (length s - after_text) s ≡ encode_utf8 c ++ rest) (left : IsUtf8 rest) (size : n ≡ length (take (length s - after_text) s) - length rest) where
-  front_size : n ≡ length (encode_utf8 c)
-  front_size = omega (arith, size, ap length text, length-append (encode_utf8 c) rest)
+-- the first k bytes of s are a text that begins with c
+record BeginsText (s rest : List ℕ) (c k : ℕ) : Type 0 where
+  left : List ℕ
+  text : take k s ≡ encode_utf8 c ++ left
+  utf8 : IsUtf8 left
+  rest_is : rest ≡ left ++ drop k s
 
-  in_text : n ≤ length s - after_text
-  in_text = omega (arith, size, length-take-le (length s - after_text) s (omega arith))
+-- after the first character
+module _ (s rest : List ℕ) (c : ℕ) (scalar : IsScalar c) (is : s ≡ encode_utf8 c ++ rest) where
+  starts : WholeCharacter s 0 (0 + length (form c))
+  starts = whole_at s 0 c rest (omega arith) scalar (is ∙ ap (λ f. f ++ rest) (sym (form_encode c)))
 
-  rest_is : drop (length s - after_part - n) (take (length s - after_text - n) (drop n s)) ≡ rest
-  rest_is =
-      let z : length s - after_part - n ≡ 0 = omega (arith, no_part) in
-      ap (λ i. drop i (take (length s - after_text - n) (drop n s))) z ∙ left_between s n (length s - after_text) in_text ∙ ap (drop n) text ∙ drop_at (encode_utf8 c) rest n (sym front_size)
+  some : 0 < length s
+  some = let f = character_fits s 0 (0 + length (form c)) starts in omega (arith, f)
 
-  text_behind_character : IsUtf8 (drop (length s - after_part - n) (take (length s - after_text - n) (drop n s)))
-  text_behind_character = subst IsUtf8 (sym rest_is) left
+  begins_text : (k : ℕ) → 0 < k → k ≤ length s → IsUtf8 (take k s) → BeginsText s rest c k
+  begins_text k lt within u = by_chars u.0 u.1.1
+    where
+      by_chars : (cs : List ℕ) → encode_utf8_all cs ≡ take k s → BeginsText s rest c k
+      by_chars [] e = absurd (omega (arith, ap length e, length-take-le k s within, lt))
+      by_chars (d ∷ ds) e =
+          let left = encode_utf8_all ds in
+          let same = encode_same d c (left ++ drop k s) rest (sym (append_assoc (encode_utf8 d) left (drop k s)) ∙ ap (λ x. x ++ drop k s) e ∙ take-append-drop k s ∙ is) in
+          record {
+            left = left;
+            text = sym e ∙ ap (λ x. encode_utf8 x ++ left) same.0;
+            utf8 = IsUtf8-past_char (take k s) left d u (sym e);
+            rest_is = sym same.1;
+          }
 
-  pub character_front : take n s ≡ encode_utf8 c
-  character_front = sym (take-take n (length s - after_text) s in_text) ∙ ap (take n) text ∙ take_at (encode_utf8 c) rest n (sym front_size)
+  -- the known text goes on
+  text_left : (after_text : ℕ) → IsUtf8 (take (length s - after_text) s) → IsUtf8 (take (length rest - after_text) rest)
+  text_left after_text u =
+      let size = ap length is ∙ length-append (encode_utf8 c) rest in
+      ⊎_elim
+      (λ lt.
+      let k = length s - after_text in
+      let b = begins_text k (omega (arith, lt)) (omega arith) u in
+      let long = ap length b.rest_is ∙ length-append b.left (drop k s) in
+      let n : length b.left ≡ length rest - after_text = omega (arith, long, length-drop k s, lt) in
+      subst (λ r. IsUtf8 (take (length rest - after_text) r)) (sym b.rest_is) (subst IsUtf8 (sym (take_at b.left (drop k s) (length rest - after_text) n)) b.utf8))
+      (λ ge. let z : length rest - after_text ≡ 0 = omega (arith, ge, size) in subst (λ i. IsUtf8 (take i rest)) (sym z) IsUtf8-nil) (cases_lt after_text (length s))
 
-  pub known_behind_character : AreKnown (drop n s) after_part after_text bare
-  known_behind_character = known_left s after_part after_text bare n some known in_text text_behind_character
+  pub known_behind_character : (after_text part : ℕ) → AreKnown s after_text part → AreKnown rest after_text part
+  known_behind_character after_text part known = record {
+    text = text_left after_text known.text;
+    part_is = λ lt.
+        let f = character_fits s 0 (0 + length (form c)) starts in
+        absurd ((known.part_is lt).1.bare 0 lt (record { start = 0; end = 0 + length (form c); whole = starts; from = omega arith; below = omega (arith, f) }));
+  }
 
-  no_units_at : units [] ≡ [] → (i : ℕ) (b : List ℕ) → i ≡ 0 → units (take i b) ≡ []
-  no_units_at none i b z = ap (λ j. units (take j b)) z ∙ none
-
-  pub symbols_by_character : units [] ≡ [] → symbols_of units s ≡ Character c ∷ symbols_of units (drop n s)
-  symbols_by_character none =
-      let h = known.ends some in
-      let m = length s - after_part in
-      let e = length s - after_text in
-      let z : m ≡ 0 = omega (arith, no_part) in
-      let zn : m - n ≡ 0 = omega (arith, no_part) in
+  pub symbols_by_character : (units : List ℕ → List ℕ) → units [] ≡ [] → symbols_of units s ≡ Character c ∷ symbols_of units rest
+  symbols_by_character units none =
+      let chunk = part_before_character s 0 (0 + length (form c)) (record { within = omega arith; bare = λ k j lt w. absurd (omega (arith, lt)) }) starts in
+      let e = chunk.0 in
+      let h = chunk.1 in
+      let b = begins_text e (h.some some) h.within h.text in
+      let l = length b.left in
       let behind = symbols_of units (drop e s) in
-      by_first_chunk units s m e h (omega (arith, some))
-      ∙ ap (λ us. map unit_symbol us ++ (map Character (chars (drop m (take e s))) ++ behind)) (no_units_at none m s z)
-      ∙ ap (λ i. map Character (chars (drop i (take e s))) ++ behind) z
-      ∙ ap (λ cs. map Character cs ++ behind) (chars_past_char (take e s) rest c (subst (λ i. IsUtf8 (drop i (take e s))) z h.text) text)
+      let end : length (encode_utf8 c) + l ≡ e = sym (ap length b.text ∙ length-append (encode_utf8 c) b.left) ∙ length-take-le e s h.within in
+      let front : take l rest ≡ b.left = ap (take l) b.rest_is ∙ take_at b.left (drop e s) l refl in
+      let back : drop l rest ≡ drop e s = ap (drop l) b.rest_is ∙ drop_at b.left (drop e s) l refl in
+      let last : (j : ℕ) → WholeCharacter rest l j → ⊥ = λ j w.
+      let whole = subst (λ i. WholeCharacter s i (length (encode_utf8 c) + j)) end (whole_within s (encode_utf8 c) rest [] l j (is ∙ ap (λ r. encode_utf8 c ++ r) (sym (append-nil rest))) w) in
+      let f = character_fits s e (length (encode_utf8 c) + j) whole in
+      h.ended (omega (arith, f)) (record { start = e; end = length (encode_utf8 c) + j; whole = whole; from = omega arith; below = omega (arith, f) }) in
+      let within : l ≤ length rest = omega (arith, ap length b.rest_is, length-append b.left (drop e s)) in
+      let left : 0 < l → IsFirstChunk rest 0 l = λ pos. first_of_parts rest 0 l (λ k j lt w. absurd (omega (arith, lt))) (λ _. pos) (omega arith) within (subst IsUtf8 (sym front) b.utf8) last in
+      by_first_chunk units s 0 e h some
+      ∙ ap (λ us. map unit_symbol us ++ (map Character (chars (take e s)) ++ behind)) none
+      ∙ ap (λ cs. map Character cs ++ behind) (chars_past_char (take e s) b.left c h.text b.text)
       ∙ ap (λ x. Character c ∷ x)
-      (ap (λ t. map Character (chars t) ++ behind) (sym rest_is)
-      ∙ ap (λ us. map unit_symbol us ++ (map Character (chars (drop (m - n) (take (e - n) (drop n s)))) ++ behind)) (sym (no_units_at none (m - n) (drop n s) zn))
-      ∙ sym (symbols_left s after_part after_text bare n some known in_text units none text_behind_character))
+      (ap (λ x. map Character (chars x) ++ behind) (sym front)
+      ∙ ap (λ x. map Character (chars (take l rest)) ++ symbols_of units x) (sym back)
+      ∙ ap (λ us. map unit_symbol us ++ (map Character (chars (take l rest)) ++ symbols_of units (drop l rest))) (sym none)
+      ∙ sym (laid_out units rest 0 l none (omega arith) left))

@@ -1,57 +1,52 @@
-use Rattle.std.proofs.Common.{◌∙◌, ◌<◌, ◌∷◌, ap, length, subst, sym}
+use Rattle.std.proofs.Common.{◌∙◌, ◌-◌, ◌<◌, ◌∷◌, ap, length, subst, sym}
 use Rattle.wtf8_core.specs.Covered.{StartsBare}
 use Rattle.wtf8_core.proofs.lemmas.standing.Places.{no_units}
 use Rattle.platform_str.specs.Laws.{IsFirstUnit}
-use Rattle.os_str_ext.specs.Symbols.{AreKnown, symbols_of, unit_symbol}
+use Rattle.os_str_ext.specs.Symbols.{AreKnown, IsKnownPart, symbols_of, unit_symbol}
 use Rattle.os_str_ext.proofs.lemmas.FirstChunk.{edges, part_is_bare}
-use Rattle.os_str_ext.proofs.lemmas.SymbolSteps.{known_behind_unit, symbols_by_unit, formed_behind_unit}
+use Rattle.os_str_ext.proofs.lemmas.SymbolSteps.{known_part, part_behind_unit, symbols_by_unit, formed_behind_unit}
 use Rattle.os_str_ext.proofs.symbols.first_of_part.Goals as goal
+
+pub part_len-len-requires-clause-bare : goal.part_len-len-requires-clause-bare
+part_len-len-requires-clause-bare g c = subst StartsBare (sym c.as_encoded_bytes-bytes.ensures.value) c.requires.bare
+
+pub first_unit-number-requires-clause-some : goal.first_unit-number-requires-clause-some
+first_unit-number-requires-clause-some g c = subst (λ n. 0 < n) (sym c.split_at.ensures.front_len) c.part_len-len.ensures.some
 
 pub first_unit-number-requires-clause-formed : goal.first_unit-number-requires-clause-formed
 first_unit-number-requires-clause-formed g c =
     let s = c.as_encoded_bytes-bytes.result.now in
-    let value = sym c.as_encoded_bytes-bytes.ensures.value in
-    let known = subst (λ x. AreKnown x c.args.after_part c.args.after_text c.args.bare) value c.requires.known in
-    let h = known.ends (subst (λ x. c.args.after_text < length x) value c.requires.some) in
-    subst g.E.Platform.well_formed (sym c.split_at.ensures.front) (g.met.E.Platform.laws.cut_front s _ c.as_encoded_bytes-bytes.ensures.formed (edges s _ _ h).0)
+    subst g.E.Platform.well_formed (sym c.split_at.ensures.front) (g.met.E.Platform.laws.cut_front s _ c.as_encoded_bytes-bytes.ensures.formed (edges s _ _ c.part_len-len.ensures.part.1).0)
 
 pub first_unit-number-requires-clause-bare : goal.first_unit-number-requires-clause-bare
 first_unit-number-requires-clause-bare g c =
-    let s = c.as_encoded_bytes-bytes.result.now in
-    let value = sym c.as_encoded_bytes-bytes.ensures.value in
-    let known = subst (λ x. AreKnown x c.args.after_part c.args.after_text c.args.bare) value c.requires.known in
-    let h = known.ends (subst (λ x. c.args.after_text < length x) value c.requires.some) in
-    subst StartsBare (sym c.split_at.ensures.front) (part_is_bare s _ _ h 0)
+    subst StartsBare (sym c.split_at.ensures.front) (part_is_bare c.as_encoded_bytes-bytes.result.now _ _ c.part_len-len.ensures.part.1 0)
 
 pub from_encoded_bytes_unchecked-requires : goal.from_encoded_bytes_unchecked-requires
 from_encoded_bytes_unchecked-requires g c =
     let s = c.as_encoded_bytes-bytes.result.now in
-    let value = sym c.as_encoded_bytes-bytes.ensures.value in
-    let known = subst (λ x. AreKnown x c.args.after_part c.args.after_text c.args.bare) value c.requires.known in
-    let some = subst (λ x. c.args.after_text < length x) value c.requires.some in
+    let h = c.part_len-len.ensures.part.1 in
     let formed = c.as_encoded_bytes-bytes.ensures.formed in
     let first = subst (λ p. IsFirstUnit g.E.Platform.well_formed g.E.Platform.units p c.first_unit-number.result.0 c.first_unit-number.result.1) c.split_at.ensures.front c.first_unit-number.ensures in
     subst g.E.Platform.well_formed (sym c.split_at-2.ensures.back)
-    (formed_behind_unit g.E.Platform.well_formed g.E.Platform.units s _ _ _ _ _ some known first g.met.E.Platform.standing formed (g.met.E.Platform.laws.cut_front s _ formed (edges s _ _ (known.ends some)).0))
+    (formed_behind_unit g.E.Platform.well_formed g.E.Platform.units s _ _ _ _ h first g.met.E.Platform.standing formed (g.met.E.Platform.laws.cut_front s _ formed (edges s _ _ h).0))
 
 pub invariant_of-symbols : goal.invariant_of-symbols
 invariant_of-symbols g c =
     let s = c.as_encoded_bytes-bytes.result.now in
-    let value = sym c.as_encoded_bytes-bytes.ensures.value in
-    let known = subst (λ x. AreKnown x c.args.after_part c.args.after_text c.args.bare) value c.requires.known in
-    let some = subst (λ x. c.args.after_text < length x) value c.requires.some in
+    let rest = c.split_at-2.result.1.now in
+    let part = c.part_len-len.result - c.first_unit-number.result.1 in
     let first = subst (λ p. IsFirstUnit g.E.Platform.well_formed g.E.Platform.units p c.first_unit-number.result.0 c.first_unit-number.result.1) c.split_at.ensures.front c.first_unit-number.ensures in
-    subst (λ x. AreKnown x c.args.after_part c.args.after_text c.args.bare) (sym (c.from_encoded_bytes_unchecked.ensures ∙ c.split_at-2.ensures.back))
-    (known_behind_unit g.E.Platform.well_formed g.E.Platform.units s _ _ _ _ _ some known first)
+    subst (λ x. AreKnown x (length rest) part) (sym c.from_encoded_bytes_unchecked.ensures)
+    (known_part rest part (subst (λ x. IsKnownPart x part) (sym c.split_at-2.ensures.back) (part_behind_unit g.E.Platform.well_formed g.E.Platform.units s _ _ _ _ c.part_len-len.ensures.part.1 first)))
 
 pub returns : goal.returns
 returns g c =
     let s = c.as_encoded_bytes-bytes.result.now in
     let units = g.E.Platform.units in
     let value = sym c.as_encoded_bytes-bytes.ensures.value in
-    let known = subst (λ x. AreKnown x c.args.after_part c.args.after_text c.args.bare) value c.requires.known in
-    let some = subst (λ x. c.args.after_text < length x) value c.requires.some in
+    let some = subst (λ x. 0 < length x) value c.requires.some in
     let first = subst (λ p. IsFirstUnit g.E.Platform.well_formed units p c.first_unit-number.result.0 c.first_unit-number.result.1) c.split_at.ensures.front c.first_unit-number.ensures in
     ap (symbols_of units) value
-    ∙ symbols_by_unit g.E.Platform.well_formed units s _ _ _ _ _ some known first (no_units g.E.Platform.well_formed units g.met.E.Platform.standing)
+    ∙ symbols_by_unit g.E.Platform.well_formed units s _ _ _ _ c.part_len-len.ensures.part.1 first some (no_units g.E.Platform.well_formed units g.met.E.Platform.standing)
     ∙ ap (λ r. unit_symbol c.first_unit-number.result.0 ∷ symbols_of units r) (sym (c.from_encoded_bytes_unchecked.ensures ∙ c.split_at-2.ensures.back))

@@ -1,0 +1,9 @@
+use Rattle.std.proofs.Common.{length, ◌-◌, ◌<◌}
+use Rattle.os_str_ext.specs.Chunks.{IsBareUpTo}
+use Rattle.os_str_ext.proofs.symbols.part_len.Given as goal
+
+abbrev pub invariant-loop-at : goal.invariant-loop-at
+invariant-loop-at l = IsBareUpTo l.bytes l.at × (0 < l.at)
+
+abbrev pub decreases-loop-at : goal.decreases-loop-at
+decreases-loop-at l = length l.bytes - l.at
