@@ -169,6 +169,8 @@ fn after_character<'a, E: Platform>(string: OsStr<'a, E>) -> Symbols<'a, E>
 }
 
 /// The length of the text with which the bytes begin.
+#[cold]
+#[inline(never)]
 fn text_len(bytes: &[u8]) -> usize
     ensures within { result ≤ length bytes.now }
     ensures text { IsUtf8 (take result bytes.now) }
@@ -201,6 +203,8 @@ fn first_of_part<'a, E: Platform>(string: OsStr<'a, E>, known: usize) -> (Symbol
 }
 
 /// The length of the part with which the bytes begin.
+#[cold]
+#[inline(never)]
 fn part_len(bytes: &[u8], known: usize) -> usize
     requires some { 0 < length bytes.now }
     requires bare { StartsBare bytes.now }
