@@ -1,0 +1,2 @@
+pub mod RowsAsked
+pub mod TurnsEnded
