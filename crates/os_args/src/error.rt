@@ -7,7 +7,7 @@ ghost use Rattle.os_args.specs.ErrorText.{word_text, after_text, fault_text};
 ghost use Rattle.os_args.specs.Views.{fault_of};
 
 use crate::word::Word;
-use os_str_ext::{OsStr, Platform};
+use os_str_ext::{OsStr, Platform, Writeable};
 use std::fmt;
 
 /// Why the words of a command line are refused, of strings `S`.

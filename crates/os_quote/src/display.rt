@@ -1,14 +1,15 @@
 //! A string that prints as its escape.
 use crate::form::Form;
 use crate::write::{write_part, write_text};
-use os_str_bytes::{OsStr, OsStrBytesExt, Platform};
+use os_str_bytes::{OsStr, OsStrBytesExt, Platform, Writeable, write_filled};
 use std::alloc::AllocError;
 use std::fmt;
 
 /// A string that prints as its escape. Printing it allocates nothing.
 ///
-/// Returned by [`escaped`](crate::escaped) and [`escaped_line`](crate::escaped_line). Width and
-/// precision are ignored: `{:>9}` writes what `{}` does.
+/// Returned by [`escaped`](crate::escaped) and [`escaped_line`](crate::escaped_line). A width counts
+/// the characters of the escape, and fills after it if no alignment is given. A precision doesn't
+/// truncate.
 pub struct Escaped<'a, E: Platform + 'a> {
     string: OsStr<'a, E>,
     form: Form,
@@ -44,13 +45,26 @@ impl<'a, E: Platform> Escaped<'a, E> {
 
 impl<'a, E: Platform> fmt::Display for Escaped<'a, E> {
     ghost use Rattle.std.specs.Prelude.{Some};
+    ghost use Rattle.std.specs.Fmt.{spec_fill, spec_align, spec_width};
+    ghost use Rattle.platform_str.specs.Display.{filled};
     ghost use Rattle.os_quote.specs.Escaped.{escaped_text};
 
     ghost output = { λ e. Some (escaped_text e) };
 
-    ghost styled_output = { λ e _. Some (escaped_text e) };
+    ghost styled_output = { λ e spec. Some (filled (spec_fill spec) (spec_align spec)
+        (spec_width spec) (escaped_text e)) };
 
     fn fmt<W: fmt::Write>(&self, f: &mut fmt::Formatter<W>) -> fmt::Result {
+        write_filled(self, f)
+    }
+}
+
+impl<'a, E: Platform> Writeable for Escaped<'a, E> {
+    ghost use Rattle.os_quote.specs.Escaped.{escaped_text};
+
+    ghost text = { λ e. escaped_text e };
+
+    fn write_to<W: fmt::Write>(&self, f: &mut fmt::Formatter<W>) -> fmt::Result {
         for (part, text) in self.string.utf8_chunks() {
             write_part(part, f)?;
             write_text(self.form, text, f)?;

@@ -60,7 +60,7 @@ pub use os_str_ext::{
     NonUnicodeOsStr, OsStr, OsStrBytes, OsStrBytesExt, OsStrCow, OsStrDisplay, OsString,
     OsStringBytes, OsUnit, OsUnits, Path, PathBuf, PathCow, Pattern, Pieces, Platform, RSplit,
     SliceIndex, Split, StrCow, Symbol, Symbols, Unix, Utf8Chunks, Wasm, WideUnits, Windows,
-    chunk_laws, part_laws, search_laws, symbol_laws,
+    Writeable, chunk_laws, part_laws, search_laws, symbol_laws, write_filled,
 };
 pub use raw_box::RawOsStrBox;
 pub use raw_cow::{CowRawOsStr, RawOsStrCow};

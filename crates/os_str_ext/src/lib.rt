@@ -43,8 +43,8 @@ pub use os_units::{NonUnicodeOsStr, OsUnit, OsUnits};
 pub use pattern::{Encoded, EncodedChar, Pattern};
 pub use platform_str::{
     ByteCow, ByteVec, EncodingError, HasBytes, OsStr, OsStrBytes, OsStrCow, OsStrDisplay, OsString,
-    OsStringBytes, Path, PathBuf, PathCow, Platform, StrCow, Unix, Wasm, WideUnits, Windows, laws,
-    unix, wasm, windows,
+    OsStringBytes, Path, PathBuf, PathCow, Platform, StrCow, Unix, Wasm, WideUnits, Windows,
+    Writeable, laws, unix, wasm, windows, write_filled,
 };
 pub use slice_index::SliceIndex;
 pub use symbols::{Symbol, Symbols};

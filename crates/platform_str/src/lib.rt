@@ -42,6 +42,7 @@ pub mod unix;
 pub mod wasm;
 mod wide;
 pub mod windows;
+mod writeable;
 
 pub use convert::{ByteVec, OsStrBytes, OsStringBytes};
 pub use cow::{ByteCow, HasBytes, OsStrCow, PathCow, StrCow};
@@ -51,4 +52,5 @@ pub use os_string::OsString;
 pub use path::{Path, PathBuf};
 pub use platform::{Platform, Unix, Wasm, Windows};
 pub use wide::WideUnits;
+pub use writeable::{Writeable, write_filled};
 pub use wtf8_core::EncodingError;

@@ -1,7 +1,15 @@
 -- Characters of lossy texts, and texts that are filled.
-use Rattle.platform_str.proofs.Common.{◌≡◌, ℕ, ◌+◌, ◌-◌, ◌≤◌, List, [], ◌∷◌, ◌++◌, length, cond, Option, Some, refl, sym, ap, ◌∙◌, arith, append_assoc, unwrap_or, encode_utf8, repeat, is_char_start, char_count, replacement, IsFirstText, fill_before, filled}
+use Rattle.std.proofs.Common.{◌≡◌, ℕ, ◌+◌, ◌-◌, ◌≤◌, List, [], ◌∷◌, ◌++◌, length, cond, Option, Some, refl, sym, ap, ◌∙◌, arith, append_assoc, unwrap_or}
+use Rattle.std.specs.Char.{encode_utf8}
+use Rattle.std.specs.List.{repeat}
+use Rattle.std.specs.Fmt.{is_char_start, char_count}
 use Rattle.std.specs.declared.fmt.Alignment.{Alignment}
+use Rattle.wtf8_core.specs.Lossy.{replacement}
+use Rattle.platform_str.specs.Lossy.{IsFirstText}
 use Rattle.platform_str.proofs.lemmas.LossyLoops.{encode_fffd}
+use Rattle.platform_str.specs.Display.{fill_before, filled}
+use Rattle.platform_str.specs.declared.writeable.Shortfall.{Shortfall}
+use Rattle.std.specs.List.{FoldsTo, concat}
 
 count_none : (text : List ℕ) → length text ≡ 0 → char_count text ≡ 0
 unfolding char_count
@@ -30,32 +38,28 @@ unfolding char_count
 count_append [] b = omega arith
 count_append (x ∷ a) b = ap (λ n. cond (is_char_start x) 1 0 + n) (count_append a b) ∙ omega arith
 
-pub count_replacement : char_count replacement ≡ 1
+-- what is left up to a width after several writes
+pub left_after : (before after : Shortfall) (parts : List (List ℕ)) → FoldsTo (λ b text a. a.left ≡ b.left - char_count text) before parts after → after.left ≡ before.left - char_count (concat parts)
 unfolding char_count
-count_replacement = refl
+left_after before after [] same = let e = ap (λ s. s.left) (sym same) in omega (arith, e)
+left_after before after (text ∷ parts) steps =
+    let next = left_after steps.0 after parts steps.2 in
+    omega (arith, next, steps.1, count_append text (concat parts))
 
 -- the text with so much padding
 abbrev by_padding : ℕ → Option Alignment → List ℕ → ℕ → List ℕ
 by_padding fill align text padding = repeat (fill_before align padding) (encode_utf8 fill) ++ (text ++ repeat (padding - fill_before align padding) (encode_utf8 fill))
 
 -- what is written piece by piece, if a width is given
-pub filled_by : (fill later : ℕ) (align : Option Alignment) (width : Option ℕ) (asked count padding before : ℕ) (text written : List ℕ) → later ≡ fill → width ≡ Some asked → count ≡ char_count written → written ≡ text → padding ≡ asked - count → before ≡ fill_before align padding
-    → repeat before (encode_utf8 fill) ++ (written ++ repeat (padding - before) (encode_utf8 later)) ≡ filled fill align width text
-filled_by fill later align width asked count padding before text written l w c t p b =
-    let same : padding ≡ unwrap_or width 0 - char_count text = p ∙ ap (λ n. asked - n) (c ∙ ap char_count t) ∙ ap (λ o. unwrap_or o 0 - char_count text) (sym w) in
-    ap (λ z. repeat before (encode_utf8 fill) ++ (written ++ repeat (padding - before) (encode_utf8 z))) l
-    ∙ ap (λ x. repeat before (encode_utf8 fill) ++ (x ++ repeat (padding - before) (encode_utf8 fill))) t
+pub filled_by : (fill later : ℕ) (align : Option Alignment) (width : Option ℕ) (asked padding before : ℕ) (text : List ℕ) → later ≡ fill → width ≡ Some asked → padding ≡ asked - char_count text → before ≡ fill_before align padding
+    → repeat before (encode_utf8 fill) ++ (text ++ repeat (padding - before) (encode_utf8 later)) ≡ filled fill align width text
+filled_by fill later align width asked padding before text l w p b =
+    let same : padding ≡ unwrap_or width 0 - char_count text = p ∙ ap (λ o. unwrap_or o 0 - char_count text) (sym w) in
+    ap (λ z. repeat before (encode_utf8 fill) ++ (text ++ repeat (padding - before) (encode_utf8 z))) l
     ∙ ap (λ n. repeat n (encode_utf8 fill) ++ (text ++ repeat (padding - n) (encode_utf8 fill))) b
     ∙ ap (by_padding fill align text) same
 
 module _ {well_formed : List ℕ → Type 0} {lossy : List ℕ → List ℕ} {bytes front rest : List ℕ} (f : IsFirstText well_formed lossy bytes front rest) where
-  -- the characters up to the rest, and one more for what isn't text
-  pub count_first : char_count (lossy bytes) ≡ (char_count front + 1) + char_count (lossy rest)
-  count_first =
-      let all = ap char_count f.lossy_is ∙ count_append front (replacement ++ lossy rest) in
-      let behind = count_append replacement (lossy rest) in
-      omega (arith, count_replacement)
-
   -- what is written so far, and then the text and U+FFFD
   pub write_first : (done all : List ℕ) → done ++ lossy bytes ≡ all → ((done ++ front) ++ encode_utf8 0xFFFD) ++ lossy rest ≡ all
   write_first done all e =

@@ -1,9 +1,9 @@
 use Rattle.std.proofs.Common.{◌++◌, codes, true, refl, ap}
 use Rattle.std.proofs.Output.{has_written_styled_append, has_written_styled_of_eq}
-use Rattle.user_facts.proofs.shown.QuotedDisplay.fmt.Goals as goal
+use Rattle.user_facts.proofs.shown.QuotedWriteable.write_to.Goals as goal
 
-pub returns-clause-styled : goal.returns-clause-styled
-returns-clause-styled g c = λ flush ok.
+pub returns : goal.returns
+returns g c = λ flush ok.
     let head = c.in_ok-write_str.ensures.styled flush (refl {a = true}) in
     let string = c.in_ok-write_to.ensures head.flush (refl {a = true}) in
     let end = c.write_str-2.ensures.styled string.flush ok in

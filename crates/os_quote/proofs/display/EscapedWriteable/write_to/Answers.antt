@@ -7,7 +7,7 @@ use Rattle.os_quote.specs.Escape.{items_of}
 use Rattle.os_quote.specs.Escaped.{escaped_text}
 use Rattle.os_quote.proofs.lemmas.Texts.{text_items, item_texts-append}
 use Rattle.os_quote.proofs.lemmas.Writing.{WritesRest, nothing_yet, one_more, both}
-use Rattle.os_quote.proofs.display.EscapedDisplay.fmt.Goals as goal
+use Rattle.os_quote.proofs.display.EscapedWriteable.write_to.Goals as goal
 
 pub loop-part-init : goal.loop-part-init
 loop-part-init g c =

@@ -1,6 +1,6 @@
 use Rattle.platform_str.proofs.Common.{ℕ, sym, ap, ◌∙◌, cond, ◌+◌, arith}
 use Rattle.platform_str.proofs.lemmas.Displays.{counted, all_counted}
-use Rattle.platform_str.proofs.display.chars.Goals as goal
+use Rattle.platform_str.proofs.writeable.chars.Goals as goal
 
 pub loop-first-preserved-then-is_char_start : goal.loop-first-preserved-then-is_char_start
 loop-first-preserved-then-is_char_start c =

@@ -3,7 +3,7 @@ use Rattle.os_quote.specs.Shown.{shown_by}
 use Rattle.os_quote.specs.Escape.{items_of}
 use Rattle.os_quote.specs.Escaped.{escaped_text}
 use Rattle.os_quote.proofs.lemmas.Writing.{WritesRest}
-use Rattle.os_quote.proofs.display.EscapedDisplay.fmt.Given as goal
+use Rattle.os_quote.proofs.display.EscapedWriteable.write_to.Given as goal
 
 abbrev pub invariant-loop-part : goal.invariant-loop-part
 invariant-loop-part g l =
