@@ -2,14 +2,14 @@
 ghost use Rattle.std.specs.Prelude.{◌≡◌, ℕ, ◌+◌, ◌*◌, ◌/◌, ◌≤◌, ◌<◌, false, length, IsTrue};
 ghost use Rattle.std.specs.Prelude.{slice_index, bit_and};
 ghost use Rattle.os_quote.specs.Standing.{is_suspect, lead_bits};
-ghost use Rattle.os_quote.specs.declared.lanes.TheConstants.{SECOND_HIGH};
+ghost use Rattle.os_quote.specs.declared.lanes.TheConstants.{SECOND_HIGH, THIRD_HIGH};
 
 use std::simd::prelude::*;
 
 /// The bytes of a block.
 pub(crate) const BLOCK: usize = 64;
 
-// What a byte and the next one may begin, a bit each, which is set where all three tables have it.
+// What a byte and the next two may begin, a bit each, which is set where all four tables have it.
 // 01: a control character of ASCII; 02: the backslash; 04: DEL; 08: C1; 10: U+061C; 20: a
 // character from U+2000 on; 40: U+FEFF; 80: a tag. Each table is repeated four times.
 
@@ -34,20 +34,35 @@ const SECOND_HIGH: [u8; 64] = [
     31, 135, 71, 7, 7, 7, 7,
 ];
 
+/// By the high half of the third byte.
+const THIRD_HIGH: [u8; 64] = [
+    31, 31, 31, 31, 31, 31, 31, 31, 191, 31, 63, 95, 31, 31, 31, 31, 31, 31, 31, 31, 31, 31, 31,
+    31, 191, 31, 63, 95, 31, 31, 31, 31, 31, 31, 31, 31, 31, 31, 31, 31, 191, 31, 63, 95, 31, 31,
+    31, 31, 31, 31, 31, 31, 31, 31, 31, 31, 191, 31, 63, 95, 31, 31, 31, 31,
+];
+
 /// How many of the first 64 bytes come before the first that may be a suspect.
 #[inline(always)]
 pub(crate) fn clear_len(bytes: &[u8]) -> usize
-    requires { 65 ≤ length bytes.now }
+    requires { 66 ≤ length bytes.now }
     ensures within { result ≤ 64 }
     ensures clear { (i : ℕ) → i < result
-        → is_suspect (slice_index bytes.now (0 + i)) (slice_index bytes.now (1 + i)) ≡ false }
+        → is_suspect (slice_index bytes.now (0 + i)) (slice_index bytes.now (1 + i))
+        (slice_index bytes.now (2 + i)) ≡ false }
 {
     let leads = lead_bits(load(bytes, 0));
     if are_zero(leads) {
         return BLOCK;
     }
-    let seconds = second_bits(load(bytes, 1));
-    leading_zero(and(leads, seconds))
+    let pairs = and(leads, second_bits(load(bytes, 1)));
+    if are_zero(pairs) {
+        return BLOCK;
+    }
+    let suspects = and(pairs, third_bits(load(bytes, 2)));
+    if are_zero(suspects) {
+        return BLOCK;
+    }
+    leading_zero(suspects)
 }
 
 /// The next 64 bytes from an index on.
@@ -75,6 +90,15 @@ fn second_bits(lanes: u8x64) -> u8x64
         → slice_index result i ≡ slice_index SECOND_HIGH (slice_index lanes i / 16) }
 {
     entries(SECOND_HIGH, high_halves(lanes))
+}
+
+/// What may follow the first two bytes, by the third.
+#[inline(always)]
+fn third_bits(lanes: u8x64) -> u8x64
+    ensures { (i : ℕ) → i < 64
+        → slice_index result i ≡ slice_index THIRD_HIGH (slice_index lanes i / 16) }
+{
+    entries(THIRD_HIGH, high_halves(lanes))
 }
 
 /// The bits that both have.

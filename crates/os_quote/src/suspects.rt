@@ -1,6 +1,6 @@
 //! Bytes that may begin a character that is written as a token on one line: suspects.
 ghost use Rattle.std.specs.Prelude.{◌≡◌, ◌+◌, ◌≤◌, ◌<◌, length, slice_index, MatchOption};
-ghost use Rattle.os_quote.specs.Standing.{is_suspect, AllClear, IsNextSuspect};
+ghost use Rattle.os_quote.specs.Standing.{is_general, is_suspect, AllClear, IsNextSuspect};
 
 use crate::lanes::{BLOCK, clear_len};
 
@@ -18,7 +18,7 @@ pub(crate) fn first_suspect(bytes: &[u8], from: usize) -> Option<usize>
         if clear == BLOCK {
             continue;
         }
-        if is_suspect(bytes[at], byte_at(bytes, at + 1)) {
+        if is_suspect(bytes[at], byte_at(bytes, at + 1), byte_at(bytes, at + 2)) {
             return Some(at);
         }
         at += 1;
@@ -34,7 +34,7 @@ fn clear_from(bytes: &[u8], at: usize) -> usize
     ensures within { at + result < length bytes.now }
     ensures clear { AllClear bytes.now at (at + result) }
 {
-    if bytes.len() - at <= BLOCK {
+    if bytes.len() - at <= BLOCK + 1 {
         return 0;
     }
     let (_, rest) = bytes.split_at(at);
@@ -49,18 +49,30 @@ fn byte_at(bytes: &[u8], index: usize) -> u8
     if index < bytes.len() { bytes[index] } else { 0 }
 }
 
-/// Whether a byte before another may begin such a character.
+/// Whether a byte before two others may begin such a character.
 #[inline(always)]
-fn is_suspect(first: u8, second: u8) -> bool
-    ensures { result ≡ is_suspect first second }
+fn is_suspect(first: u8, second: u8, third: u8) -> bool
+    ensures { result ≡ is_suspect first second third }
 {
     match first {
         0..=0x1F | b'\\' | 0x7F => true,
         0xC2 => (0x80..=0x9F).contains(&second),
         0xD8 => second == 0x9C,
-        0xE2 => (0x80..=0x81).contains(&second),
-        0xEF => second == 0xBB,
-        0xF3 => second == 0xA0,
+        0xE2 => is_general(second, third),
+        0xEF => second == 0xBB && third == 0xBF,
+        0xF3 => second == 0xA0 && (0x80..=0x81).contains(&third),
+        _ => false,
+    }
+}
+
+/// Whether such a character of General Punctuation has these bytes after E2.
+#[inline(always)]
+fn is_general(second: u8, third: u8) -> bool
+    ensures { result ≡ is_general second third }
+{
+    match second {
+        0x80 => matches!(third, 0x8B..=0x8F | 0xA8..=0xAE),
+        0x81 => matches!(third, 0xA0 | 0xA6..=0xA9),
         _ => false,
     }
 }

@@ -18,9 +18,9 @@ use Rattle.os_quote.specs.Standing.{is_suspect, Stands, AllStand, AllClear, IsNe
 -- no byte is a suspect, where others follow
 abbrev ClearIn : List ℕ → List ℕ → Type 0
 ClearIn [] rest = Unit {0}
-ClearIn (x ∷ xs) rest = (is_suspect x (get_or (xs ++ rest) 0 0) ≡ false) × ClearIn xs rest
+ClearIn (x ∷ xs) rest = (is_suspect x (get_or (xs ++ rest) 0 0) (get_or (xs ++ rest) 1 0) ≡ false) × ClearIn xs rest
 
-clear_in : (xs rest : List ℕ) → ((k : ℕ) → k < length xs → is_suspect (get_or (xs ++ rest) k 0) (get_or (xs ++ rest) (suc k) 0) ≡ false) → ClearIn xs rest
+clear_in : (xs rest : List ℕ) → ((k : ℕ) → k < length xs → is_suspect (get_or (xs ++ rest) k 0) (get_or (xs ++ rest) (suc k) 0) (get_or (xs ++ rest) (suc (suc k)) 0) ≡ false) → ClearIn xs rest
 clear_in [] rest h = tt
 clear_in (x ∷ xs) rest h = (h 0 (omega arith), clear_in xs rest (λ k l. h (suc k) (omega (arith, l))))
 
@@ -29,19 +29,19 @@ clear_after [] ys rest h = h
 clear_after (x ∷ xs) ys rest h = clear_after xs ys rest h.1
 
 -- characters of one to four bytes
-one_stays : (c y : ℕ) → c < 0x80 → is_suspect c y ≡ false → stays_on_line c ≡ true
-one_stays c y h s = grind (arith, nat_tests, h, s)
+one_stays : (c y z : ℕ) → c < 0x80 → is_suspect c y z ≡ false → stays_on_line c ≡ true
+one_stays c y z h s = grind (arith, nat_tests, h, s)
 
-no_slash : (c y : ℕ) → is_suspect c y ≡ false → c ≢ 0x5C
-no_slash c y s e = grind (arith, nat_tests, s, e)
+no_slash : (c y z : ℕ) → is_suspect c y z ≡ false → c ≢ 0x5C
+no_slash c y z s e = grind (arith, nat_tests, s, e)
 
-two_stays : (c : ℕ) → 0x80 ≤ c → c < 0x800 → is_suspect (0xC0 + c / 0x40) (0x80 + c % 0x40) ≡ false → stays_on_line c ≡ true
-two_stays c l h s = grind (arith, nat_tests, l, h, s)
+two_stays : (c z : ℕ) → 0x80 ≤ c → c < 0x800 → is_suspect (0xC0 + c / 0x40) (0x80 + c % 0x40) z ≡ false → stays_on_line c ≡ true
+two_stays c z l h s = grind (arith, nat_tests, l, h, s)
 
-three_stays : (c : ℕ) → 0x800 ≤ c → c < 0x1_0000 → is_suspect (0xE0 + c / 0x1000) (0x80 + (c / 0x40) % 0x40) ≡ false → stays_on_line c ≡ true
+three_stays : (c : ℕ) → 0x800 ≤ c → c < 0x1_0000 → is_suspect (0xE0 + c / 0x1000) (0x80 + (c / 0x40) % 0x40) (0x80 + c % 0x40) ≡ false → stays_on_line c ≡ true
 three_stays c l h s = grind (arith, nat_tests, l, h, s)
 
-four_stays : (c : ℕ) → 0x1_0000 ≤ c → c < 0x11_0000 → is_suspect (0xF0 + c / 0x4_0000) (0x80 + (c / 0x1000) % 0x40) ≡ false → stays_on_line c ≡ true
+four_stays : (c : ℕ) → 0x1_0000 ≤ c → c < 0x11_0000 → is_suspect (0xF0 + c / 0x4_0000) (0x80 + (c / 0x1000) % 0x40) (0x80 + (c / 0x40) % 0x40) ≡ false → stays_on_line c ≡ true
 four_stays c l h s = grind (arith, nat_tests, l, h, s)
 
 form_two : (c : ℕ) → 0x80 ≤ c → c < 0x800 → form c ≡ (0xC0 + c / 0x40) ∷ (0x80 + c % 0x40) ∷ []
@@ -55,10 +55,10 @@ form_three c l h = grind (arith, nat_tests)
 character_stands : (c : ℕ) (more rest : List ℕ) → IsScalar c → ClearIn (encode_utf8 c ++ more) rest → Stands c
 character_stands c more rest s h =
     ⊎_elim
-    (λ (a : c < 0x80). let f = (by (form_ascii c a)).0 in let next = get_or (more ++ rest) 0 0 in (no_slash c next f, one_stays c next a f))
+    (λ (a : c < 0x80). let f = (by (form_ascii c a)).0 in let next = get_or (more ++ rest) 0 0 in let third = get_or (more ++ rest) 1 0 in (no_slash c next third f, one_stays c next third a f))
     (λ (l : 0x80 ≤ c).
     ⊎_elim
-    (λ (a : c < 0x800). (λ e. omega (arith, l, e), two_stays c l a (by (form_two c l a)).0))
+    (λ (a : c < 0x800). (λ e. omega (arith, l, e), two_stays c (get_or (more ++ rest) 0 0) l a (by (form_two c l a)).0))
     (λ (m : 0x800 ≤ c).
     ⊎_elim
     (λ (a : c < 0x1_0000). (λ e. omega (arith, l, e), three_stays c m a (by (form_three c m a)).0))
@@ -91,7 +91,7 @@ stand_to t at i u b d low stand clear =
     subst AllStand (ap (λ n. take n t) same)
     (subst AllStand (sym (take-add at (i - at) t))
     (subst (AllByRecursion Stands) (sym (chars-append (take at t) mid (IsUtf8-take t at u b))) (stand-append (chars (take at t)) (chars mid) stand
-    (characters_stand (chars mid) rest (scalars-chars mid text) (subst (λ x. ClearIn x rest) (sym (encodes-chars mid text)) (clear_in mid rest (λ k l. subst (λ x. is_suspect (get_or x k 0) (get_or x (suc k) 0) ≡ false) whole (from_at k l))))))))
+    (characters_stand (chars mid) rest (scalars-chars mid text) (subst (λ x. ClearIn x rest) (sym (encodes-chars mid text)) (clear_in mid rest (λ k l. subst (λ x. is_suspect (get_or x k 0) (get_or x (suc k) 0) (get_or x (suc (suc k)) 0) ≡ false) whole (from_at k l))))))))
   where
     mid : List ℕ
     mid = take (i - at) (drop at t)
@@ -105,22 +105,24 @@ stand_to t at i u b d low stand clear =
     many : length mid ≡ i - at
     many = length-take-le (i - at) (drop at t) (omega (arith, length-drop at t, d.0))
 
-    from_at : (k : ℕ) → k < length mid → is_suspect (get_or (drop at t) k 0) (get_or (drop at t) (suc k) 0) ≡ false
+    from_at : (k : ℕ) → k < length mid → is_suspect (get_or (drop at t) k 0) (get_or (drop at t) (suc k) 0) (get_or (drop at t) (suc (suc k)) 0) ≡ false
     from_at k l =
-        let e : 1 + (at + k) ≡ at + suc k = omega arith in
-        subst (λ x. is_suspect x (get_or (drop at t) (suc k) 0) ≡ false) (sym (get_or-drop at t k 0))
-        (subst (λ x. is_suspect (get_or t (at + k) 0) x ≡ false) (sym (get_or-drop at t (suc k) 0))
-        (subst (λ n. is_suspect (get_or t (at + k) 0) (get_or t n 0) ≡ false) e (clear (at + k) (omega arith) (omega (arith, l, many, low)))))
+        let second : 1 + (at + k) ≡ at + suc k = omega arith in
+        let third : 2 + (at + k) ≡ at + suc (suc k) = omega arith in
+        rw (get_or-drop at t k 0, get_or-drop at t (suc k) 0, get_or-drop at t (suc (suc k)) 0)
+        (subst (λ n. is_suspect (get_or t (at + k) 0) (get_or t n 0) (get_or t (at + suc (suc k)) 0) ≡ false) second
+        (subst (λ n. is_suspect (get_or t (at + k) 0) (get_or t (1 + (at + k)) 0) (get_or t n 0) ≡ false) third
+        (clear (at + k) (omega arith) (omega (arith, l, many, low)))))
 
 pub all_stand : (t : List ℕ) (at : ℕ) → IsUtf8 t → IsCharBoundary t at → AllStand (take at t) → AllClear t at (length t) → AllStand t
 all_stand t at u b stand clear = subst AllStand (take_all (length t) t (omega arith)) (stand_to t at (length t) u b (IsCharBoundary-end t) b.0 stand clear)
 
 -- a suspect begins a character
 pub suspect_begins : (t : List ℕ) (from at : ℕ) → IsNextSuspect t from at → IsCharBoundary t at
-suspect_begins t from at s = (omega (arith, s.within), λ _ high. leads (get_or t at 0) (get_or t (1 + at) 0) s.suspect high)
+suspect_begins t from at s = (omega (arith, s.within), λ _ high. leads (get_or t at 0) (get_or t (1 + at) 0) (get_or t (2 + at) 0) s.suspect high)
   where
-    leads : (x y : ℕ) → is_suspect x y ≡ true → 128 ≤ x → 192 ≤ x
-    leads x y e high = grind (arith, nat_tests, e, high)
+    leads : (x y z : ℕ) → is_suspect x y z ≡ true → 128 ≤ x → 192 ≤ x
+    leads x y z e high = grind (arith, nat_tests, e, high)
 
 -- each stands up to a character that does, and so up to what follows it
 pub record StandUpTo (t : List ℕ) (at : ℕ) : Type 0 where

@@ -8,11 +8,12 @@ returns-then-is_suspect c =
     let bytes = c.args.bytes.now in
     let at = c.loop-at.at + c.clear_from-clear.result in
     let one : at + 1 ≡ 1 + at = omega arith in
+    let two : at + 2 ≡ 2 + at = omega arith in
     record {
       from = omega (arith, c.loop-at.invariant.0);
       within = c.clear_from-clear.ensures.within;
       clear = some_more bytes _ _ _ c.loop-at.invariant.2 c.clear_from-clear.ensures.clear;
-      suspect = ap (is_suspect (get_or bytes at 0)) (ap (λ n. get_or bytes n 0) (sym one) ∙ sym c.byte_at.ensures) ∙ sym c.is_suspect.ensures ∙ c.if-is_suspect.true;
+      suspect = ap (λ y. is_suspect (get_or bytes at 0) y (get_or bytes (2 + at) 0)) (ap (λ n. get_or bytes n 0) (sym one) ∙ sym c.byte_at.ensures) ∙ ap (is_suspect (get_or bytes at 0) c.byte_at.result) (ap (λ n. get_or bytes n 0) (sym two) ∙ sym c.byte_at-in-loop-at.ensures) ∙ sym c.is_suspect.ensures ∙ c.if-is_suspect.true;
     }
 
 pub loop-at-preserved : goal.loop-at-preserved
@@ -20,7 +21,8 @@ loop-at-preserved c =
     let bytes = c.args.bytes.now in
     let at = c.loop-at.at + c.clear_from-clear.result in
     let one : at + 1 ≡ 1 + at = omega arith in
-    let none = ap (is_suspect (get_or bytes at 0)) (ap (λ n. get_or bytes n 0) (sym one) ∙ sym c.byte_at.ensures) ∙ sym c.is_suspect.ensures ∙ c.if-is_suspect.false in
+    let two : at + 2 ≡ 2 + at = omega arith in
+    let none = ap (λ y. is_suspect (get_or bytes at 0) y (get_or bytes (2 + at) 0)) (ap (λ n. get_or bytes n 0) (sym one) ∙ sym c.byte_at.ensures) ∙ ap (is_suspect (get_or bytes at 0) c.byte_at.result) (ap (λ n. get_or bytes n 0) (sym two) ∙ sym c.byte_at-in-loop-at.ensures) ∙ sym c.is_suspect.ensures ∙ c.if-is_suspect.false in
     (omega (arith, c.loop-at.invariant.0), omega (arith, c.clear_from-clear.ensures.within), one_more bytes _ _ _ c.loop-at.invariant.2 c.clear_from-clear.ensures.clear none)
 
 pub loop-at-preserved-then-clear-eq-BLOCK : goal.loop-at-preserved-then-clear-eq-BLOCK
