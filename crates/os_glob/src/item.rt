@@ -48,6 +48,7 @@ pub(crate) fn is_plain(character: char) -> bool
 }
 
 /// The first item of a pattern, and what comes after it. Nothing comes after a fault.
+#[inline(always)]
 pub(crate) fn first_item(pattern: &str) -> Option<(Item<'_>, &str)>
     ensures item { MatchOption result (items (chars pattern.now) ≡ [])
         (λ first. items (chars pattern.now) ≡ item_of first.0 ∷ items (chars first.1.now)) }
@@ -61,6 +62,7 @@ pub(crate) fn first_item(pattern: &str) -> Option<(Item<'_>, &str)>
 }
 
 /// The item that begins with a pattern's first character, and what comes after it.
+#[inline(always)]
 fn item_at<'p>(pattern: &'p str, first: char, rest: &'p str) -> (Item<'p>, &'p str)
     requires { chars pattern.now ≡ first ∷ chars rest.now }
     ensures item { item_of result.0 ≡ (read first (chars rest.now)).0 }

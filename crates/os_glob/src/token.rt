@@ -173,6 +173,7 @@ impl<'p> Tokens<'p> {
     }
 
     /// Removes the first token and returns it.
+    #[inline(always)]
     pub(crate) fn next(&mut self) -> Option<Token<'p>>
         ensures { MatchOption result (self.old ≡ [])
             (λ token. self.old ≡ token_of token ∷ self.new) }
@@ -214,6 +215,7 @@ impl<'p> Token<'p> {
 }
 
 /// The token of an item, which may begin a component; `None` for a fault.
+#[inline(always)]
 fn first_token(options: GlobOptions, begins: bool, item: Item<'_>) -> Option<Token<'_>>
     ensures { IsTokenOf options begins (item_of item.entry) result }
 {
