@@ -17,6 +17,10 @@ struct core_piece {
 struct core_ends {
     size_t part, text;
 };
+struct core_step {
+    uint32_t kind, value;
+    size_t end;
+};
 
 _Static_assert(sizeof(size_t) == 8 && sizeof(bool) == 1, "a 64-bit machine");
 _Static_assert(sizeof(osb_view) == 16 && offsetof(osb_view, len) == 8, "osb_view");
@@ -28,6 +32,9 @@ _Static_assert(sizeof(osb_split) == 48 && offsetof(osb_split, pattern) == 16, "o
 _Static_assert(offsetof(osb_split, next) == 32 && offsetof(osb_split, ended) == 40, "osb_split");
 _Static_assert(sizeof(osb_chunks) == 24 && offsetof(osb_chunks, next) == 16, "osb_chunks");
 _Static_assert(sizeof(osb_chunk) == 32 && offsetof(osb_chunk, text) == 16, "osb_chunk");
+_Static_assert(sizeof(osb_symbols) == 32 && offsetof(osb_symbols, next) == 16, "osb_symbols");
+_Static_assert(offsetof(osb_symbols, platform) == 24, "osb_symbols");
+_Static_assert(sizeof(osb_symbol) == 24 && offsetof(osb_symbol, bytes) == 8, "osb_symbol");
 
 uint32_t osb_core_check(uint32_t platform, const char *at, size_t len, osb_fault *fault);
 void osb_core_start(struct core_open *opened);
@@ -56,6 +63,8 @@ uint32_t osb_core_cut(const char *at, size_t len, const char *pattern, size_t pa
 uint32_t osb_core_rcut(const char *at, size_t len, const char *pattern, size_t pattern_len,
                        size_t to, struct core_piece *piece);
 uint32_t osb_core_chunk(const char *at, size_t len, size_t from, struct core_ends *ends);
+uint32_t osb_core_symbol(uint32_t platform, const char *at, size_t len, size_t from,
+                         struct core_step *step);
 
 /* Where the slices of no items are. */
 static const uint16_t nothing[1];
@@ -174,21 +183,29 @@ osb_status osb_from_wide(const uint16_t *units, size_t len, char *out, size_t ro
     return status;
 }
 
+/* An export that writes a text of a string. */
+typedef uint32_t core_text(uint32_t platform, const char *at, size_t len, char *out, size_t room,
+                           size_t *count);
+
+static osb_status write_text(core_text *call, osb_platform platform, const char *at, size_t len,
+                             char *out, size_t room, size_t *count, osb_fault *fault) {
+    size_t own = 0;
+    if (count == NULL || is_bad(at, len) || is_bad(out, room) || do_overlap(at, len, out, room))
+        return OSB_BAD_POINTER;
+    at = bytes(at, len);
+    osb_status status = call(platform, at, len, room == 0 ? (char *)no_room : out, room, &own);
+    if (status == OSB_FAULTY) return osb_check(platform, at, len, fault);
+    if (status == OSB_OK || status == OSB_NO_ROOM) *count = own;
+    return status;
+}
+
 size_t osb_lossy_bound(size_t len) {
     return len > SIZE_MAX / 3 ? SIZE_MAX : 3 * len;
 }
 
 osb_status osb_lossy(osb_platform platform, const char *at, size_t len, char *out, size_t room,
                      size_t *count, osb_fault *fault) {
-    size_t own = 0;
-    if (count == NULL || is_bad(at, len) || is_bad(out, room) || do_overlap(at, len, out, room))
-        return OSB_BAD_POINTER;
-    at = bytes(at, len);
-    osb_status status =
-        osb_core_lossy(platform, at, len, room == 0 ? (char *)no_room : out, room, &own);
-    if (status == OSB_FAULTY) return osb_check(platform, at, len, fault);
-    if (status == OSB_OK || status == OSB_NO_ROOM) *count = own;
-    return status;
+    return write_text(osb_core_lossy, platform, at, len, out, room, count, fault);
 }
 
 osb_status osb_find(const char *at, size_t len, const char *pattern, size_t pattern_len,
@@ -325,5 +342,27 @@ osb_status osb_chunks_next(osb_chunks *chunks, osb_chunk *chunk) {
     chunk->part = (osb_view){at + chunks->next, own.part - chunks->next};
     chunk->text = (osb_view){at + own.part, own.text - own.part};
     chunks->next = own.text;
+    return OSB_OK;
+}
+
+osb_status osb_symbols_start(osb_symbols *symbols, osb_platform platform, const char *at,
+                             size_t len, osb_fault *fault) {
+    if (symbols == NULL) return OSB_BAD_POINTER;
+    osb_status status = osb_check(platform, at, len, fault);
+    if (status == OSB_OK) *symbols = (osb_symbols){{bytes(at, len), len}, 0, platform};
+    return status;
+}
+
+osb_status osb_symbols_next(osb_symbols *symbols, osb_symbol *symbol) {
+    struct core_step own = {0, 0, 0};
+    if (symbols == NULL || symbol == NULL || symbols->string.at == NULL ||
+        is_bad(symbols->string.at, symbols->string.len))
+        return OSB_BAD_POINTER;
+    osb_status status = osb_core_symbol(symbols->platform, symbols->string.at, symbols->string.len,
+                                        symbols->next, &own);
+    if (status != OSB_OK) return status;
+    osb_view own_bytes = {symbols->string.at + symbols->next, own.end - symbols->next};
+    *symbol = (osb_symbol){own.kind, own.value, own_bytes};
+    symbols->next = own.end;
     return OSB_OK;
 }

@@ -58,7 +58,7 @@ enum {
     OSB_BAD_INDEX = 18,    /* the index is past the end */
     OSB_BAD_FAULT = 19,    /* there is no such fault */
     OSB_BAD_STATE = 20,    /* no call leaves a checker so */
-    OSB_TOO_LONG = 21,     /* three times the string's length is past SIZE_MAX */
+    OSB_TOO_LONG = 21,     /* what the _bound call says is past SIZE_MAX */
     OSB_BAD_POINTER = 32   /* null, too long, not aligned, or overlapping */
 };
 
@@ -199,6 +199,31 @@ typedef struct osb_chunk {
 osb_status osb_chunks_start(osb_chunks *chunks, const char *at, size_t len);
 /* OSB_OK with the next chunk, OSB_ENDED after the last. */
 osb_status osb_chunks_next(osb_chunks *chunks, osb_chunk *chunk);
+
+/* The symbols of a string: its whole characters, and the units of what isn't text. The fields are
+ * the library's. It holds no memory, and a copy of it goes on by itself. */
+typedef struct osb_symbols {
+    osb_view string;
+    size_t next;
+    osb_platform platform;
+} osb_symbols;
+
+enum {
+    OSB_CHARACTER = 1, /* value: the character */
+    OSB_UNIT = 2       /* value: a byte of Unix, at least 80 (hexadecimal), or a lone surrogate */
+};
+
+typedef struct osb_symbol {
+    uint32_t kind; /* OSB_CHARACTER, OSB_UNIT */
+    uint32_t value;
+    osb_view bytes;
+} osb_symbol;
+
+/* OSB_OK, OSB_FAULTY, OSB_BAD_PLATFORM. */
+osb_status osb_symbols_start(osb_symbols *symbols, osb_platform platform, const char *at,
+                             size_t len, osb_fault *fault);
+/* OSB_OK with the next symbol, OSB_ENDED after the last. */
+osb_status osb_symbols_next(osb_symbols *symbols, osb_symbol *symbol);
 
 #ifdef __cplusplus
 }

@@ -36,7 +36,16 @@ class Chunk(Structure):
     _fields_ = [("part", View), ("text", View)]
 
 
+class Symbols(Structure):
+    _fields_ = [("string", View), ("next", c_size_t), ("platform", c_uint32)]
+
+
+class Symbol(Structure):
+    _fields_ = [("kind", c_uint32), ("value", c_uint32), ("bytes", View)]
+
+
 UNIX, WINDOWS, WASM = range(3)
+CHARACTER, UNIT = 1, 2
 OK, FAULTY, NO_ROOM, NONE, ENDED = range(5)
 
 
@@ -55,6 +64,8 @@ def load(name):
     osb.osb_rfind.argtypes = osb.osb_find.argtypes
     osb.osb_from_wide.argtypes = [POINTER(c_uint16), c_size_t, c_char_p, c_size_t, POINTER(c_size_t)]
     osb.osb_lossy.argtypes = [c_uint32, c_char_p, c_size_t, c_char_p, c_size_t, POINTER(c_size_t), POINTER(Fault)]
+    osb.osb_symbols_start.argtypes = [POINTER(Symbols), c_uint32, c_char_p, c_size_t, POINTER(Fault)]
+    osb.osb_symbols_next.argtypes = [POINTER(Symbols), POINTER(Symbol)]
     osb.osb_contains.argtypes = [c_char_p, c_size_t, c_char_p, c_size_t]
     osb.osb_starts_with.argtypes = osb.osb_ends_with.argtypes = osb.osb_contains.argtypes
     osb.osb_starts_with_units.argtypes = [c_uint32, c_char_p, c_size_t, c_char_p, c_size_t]
@@ -116,6 +127,26 @@ def lossy(osb, platform, string):
     return out.raw[: length.value] if status == OK else None
 
 
+def symbols(osb, platform, string):
+    it, symbol, found = Symbols(), Symbol(), []
+    assert osb.osb_symbols_start(byref(it), platform, string, len(string), None) == OK
+    while (status := osb.osb_symbols_next(byref(it), byref(symbol))) == OK:
+        found.append((symbol.kind, symbol.value, bytes(symbol.bytes)))
+    assert status == ENDED, status
+    return found
+
+
+def symbols_by_python(platform, string):
+    """The symbols of a string of Unix or Windows, by Python's codecs."""
+    errors = "surrogateescape" if platform == UNIX else "surrogatepass"
+    for character in string.decode("utf-8", errors):
+        code, encoded = ord(character), character.encode("utf-8", errors)
+        if 0xD800 <= code <= 0xDFFF:
+            yield UNIT, code - 0xDC00 if platform == UNIX else code, encoded
+        else:
+            yield CHARACTER, code, encoded
+
+
 def is_wtf8(osb, string, numbers):
     """Whether a string is WTF-8, by pieces."""
     checker = Checker()
@@ -150,6 +181,8 @@ def compare_more(osb, numbers, string, other, pattern):
     assert lossy(osb, UNIX, string) == string.decode("utf-8", "replace").encode(), string
     whole = osb.osb_check(WINDOWS, string, len(string), None) == OK
     assert is_wtf8(osb, string, numbers) == whole, string
+    for platform in [UNIX, WINDOWS] if whole else [UNIX]:
+        assert symbols(osb, platform, string) == list(symbols_by_python(platform, string)), string
     if whole:
         units = units_of(string)
         assert from_wide(osb, units) == string, string
@@ -176,7 +209,7 @@ def chunks(osb, string):
 def compare_random(osb, rows):
     """Asks about random bytes, and compares with Python's answers."""
     numbers = random.Random(1)
-    forms = [text.encode("utf-8", "surrogatepass") for text in "a,b\u00e9\u20ac\ud800\udc00\U0001f600"]
+    forms = [text.encode("utf-8", "surrogatepass") for text in "a,b\\\n\u00e9\u20ac\u2028\U000e0041\ud800\udc00\U0001f600"]
     forms += [b"\xc0", b"\xe2\x82", b"\xed", b"\xf4\x90", b"\x80"]
     for _ in range(rows):
         several = numbers.sample(forms, numbers.randint(1, 4))

@@ -400,8 +400,61 @@ static void edges(void) {
     EXPECT(osb_check(OSB_UNIX, NULL, 0, NULL) == OSB_OK);
 }
 
+static bool next_is(osb_symbols *symbols, uint32_t kind, uint32_t value, const char *at,
+                    size_t len) {
+    osb_symbol symbol = {9, 9, {NULL, 9}};
+    return osb_symbols_next(symbols, &symbol) == OSB_OK && symbol.kind == kind &&
+           symbol.value == value && is(symbol.bytes, at, len);
+}
+
+static void symbols(void) {
+    osb_symbols symbols;
+    osb_symbol symbol = {9, 9, {NULL, 9}};
+    osb_fault fault = {9, 9, 9, 9};
+    EXPECT(osb_symbols_start(&symbols, OSB_UNIX, TEXT("a\xC3\xA9\xC3\xFF"), &fault) == OSB_OK);
+    EXPECT(next_is(&symbols, OSB_CHARACTER, 'a', TEXT("a")));
+    osb_symbols copy = symbols;
+    EXPECT(next_is(&symbols, OSB_CHARACTER, 0xE9, TEXT("\xC3\xA9")));
+    EXPECT(next_is(&symbols, OSB_UNIT, 0xC3, TEXT("\xC3")));
+    EXPECT(next_is(&symbols, OSB_UNIT, 0xFF, TEXT("\xFF")));
+    EXPECT(osb_symbols_next(&symbols, &symbol) == OSB_ENDED && symbol.kind == 9);
+    EXPECT(osb_symbols_next(&symbols, &symbol) == OSB_ENDED && symbol.value == 9);
+    EXPECT(next_is(&copy, OSB_CHARACTER, 0xE9, TEXT("\xC3\xA9")));
+    EXPECT(osb_symbols_start(&symbols, OSB_WINDOWS, TEXT("\xED\xB0\x80\xED\xA0\xBD\xF0\x9F\x98\x80"),
+                             NULL) == OSB_OK);
+    EXPECT(next_is(&symbols, OSB_UNIT, 0xDC00, TEXT("\xED\xB0\x80")));
+    EXPECT(next_is(&symbols, OSB_UNIT, 0xD83D, TEXT("\xED\xA0\xBD")));
+    EXPECT(next_is(&symbols, OSB_CHARACTER, 0x1F600, TEXT("\xF0\x9F\x98\x80")));
+    EXPECT(osb_symbols_next(&symbols, &symbol) == OSB_ENDED);
+    EXPECT(osb_symbols_start(&symbols, OSB_WASM, NULL, 0, NULL) == OSB_OK);
+    EXPECT(osb_symbols_next(&symbols, &symbol) == OSB_ENDED);
+    /* bad arguments, and fields that no call left so */
+    EXPECT(osb_symbols_start(&symbols, OSB_WINDOWS, TEXT("a\xC0"), &fault) == OSB_FAULTY);
+    EXPECT(fault.kind == OSB_FAULT_BYTE && fault.value == 0xC0 && fault.place == 1);
+    EXPECT(osb_symbols_next(&symbols, &symbol) == OSB_ENDED);
+    EXPECT(osb_symbols_start(&symbols, 3, TEXT("a"), NULL) == OSB_BAD_PLATFORM);
+    EXPECT(osb_symbols_start(&symbols, OSB_UNIX, NULL, 1, NULL) == OSB_BAD_POINTER);
+    EXPECT(osb_symbols_start(NULL, OSB_UNIX, TEXT("a"), NULL) == OSB_BAD_POINTER);
+    EXPECT(osb_symbols_next(NULL, &symbol) == OSB_BAD_POINTER);
+    EXPECT(osb_symbols_next(&copy, NULL) == OSB_BAD_POINTER);
+    EXPECT(next_is(&copy, OSB_UNIT, 0xC3, TEXT("\xC3")));
+    symbols = (osb_symbols){{NULL, 0}, 0, OSB_UNIX};
+    EXPECT(osb_symbols_next(&symbols, &symbol) == OSB_BAD_POINTER);
+    symbols = (osb_symbols){{"a", SIZE_MAX}, 0, OSB_UNIX};
+    EXPECT(osb_symbols_next(&symbols, &symbol) == OSB_BAD_POINTER);
+    symbols = (osb_symbols){{"a", 1}, 2, OSB_UNIX};
+    EXPECT(osb_symbols_next(&symbols, &symbol) == OSB_BAD_INDEX);
+    symbols = (osb_symbols){{"a", 1}, 0, 3};
+    EXPECT(osb_symbols_next(&symbols, &symbol) == OSB_BAD_PLATFORM);
+    symbols = (osb_symbols){{"\xED\xA0", 2}, 0, OSB_WINDOWS};
+    EXPECT(osb_symbols_next(&symbols, &symbol) == OSB_FAULTY);
+    symbols = (osb_symbols){{"\x80", 1}, 0, OSB_WASM};
+    EXPECT(osb_symbols_next(&symbols, &symbol) == OSB_FAULTY && symbol.kind == 9);
+}
+
 int main(void) {
     checks();
+    symbols();
     checkers();
     from_wide();
     lossies();

@@ -1,5 +1,5 @@
 -- The platforms by their numbers: 0 Unix, 1 Windows, 2 wasm.
-use Rattle.std.specs.Prelude.{ℕ, zero, suc, List, []}
+use Rattle.std.specs.Prelude.{ℕ, zero, suc, List}
 use Rattle.std.specs.Str.Lossy.{utf8_lossy}
 use Rattle.wtf8_core.specs.UnitsOf.{units_of, wtf8_lossy}
 use Rattle.platform_str.specs.PlatformWords.{itself}

@@ -1,11 +1,20 @@
 -- One step of an iterator, which knows only an index.
-use Rattle.std.specs.Prelude.{◌≡◌, ◌⊎◌, ℕ, ◌≤◌, true, false, List, [], ◌∷◌, length, take, drop}
+use Rattle.std.specs.Prelude.{◌≡◌, ◌⊎◌, ℕ, ◌≤◌, ◌<◌, true, false, List, [], ◌∷◌, length, take, drop}
 use Rattle.std.specs.Str.{IsUtf8}
 use Rattle.wtf8_core.specs.Standing.{StandsNowhere, IsLeastPlace, IsGreatestPlace}
 use Rattle.wtf8_core.specs.Pieces.{SplitsAt}
 use Rattle.wtf8_core.specs.Chunks.{Chunk, AreChunks}
 use Rattle.osbytes_c.specs.declared.split.Piece.{Piece}
+use Rattle.wtf8_core.specs.UnitsOf.{units_of}
+use Rattle.wtf8_core.specs.Wtf8.{IsWtf8}
+use Rattle.os_str_ext.specs.Parts.{unit_number}
+use Rattle.os_str_ext.specs.Symbols.{AreSymbols}
+use Rattle.os_str_ext.specs.declared.symbols.Symbol.{Symbol}
+use Rattle.os_str_ext.specs.declared.symbols.Symbol.TheVariants as symbol
 use Rattle.osbytes_c.specs.declared.chunks.Ends.{Ends}
+use Rattle.osbytes_c.specs.declared.symbols.Step.{Step}
+use Rattle.osbytes_c.specs.Faults.{IsString}
+use Rattle.osbytes_c.specs.Platforms.{units_on}
 
 -- the part of s from i up to j
 abbrev pub part : List ℕ → ℕ → ℕ → List ℕ
@@ -39,3 +48,29 @@ pub record IsChunkAt (s : List ℕ) (at : ℕ) (ends : Ends) : Type 0 where
   pub ordered : at ≤ ends.part
   pub text_ordered : ends.part ≤ ends.text
   pub within : ends.text ≤ length s
+
+-- the kind and the value that stand for a symbol: 1 and the character, or 2 and the unit's number
+abbrev pub Reports : Symbol → ℕ → ℕ → Type 0
+Reports (symbol.Character c) kind value = (kind ≡ 1) × (value ≡ c)
+Reports (symbol.Unit u) kind value = (kind ≡ 2) × (value ≡ unit_number u)
+
+-- after index `at` the string s of the platform has this first symbol, and after it those of the rest, which is a string too
+pub record IsSymbolAt (platform : ℕ) (s : List ℕ) (at : ℕ) (step : Step) : Type 0 where
+  pub first : Symbol
+  pub behind : List Symbol
+  pub is : Reports first step.kind step.value
+  pub all : AreSymbols (units_on platform) (drop at s) (first ∷ behind)
+  pub rest : AreSymbols (units_on platform) (drop step.end s) behind
+  pub formed : IsString platform (drop step.end s)
+  pub ordered : at < step.end
+  pub within : step.end ≤ length s
+
+-- the same of the whole string
+abbrev pub IsFirstOf : ℕ → List ℕ → Step → Type 0
+IsFirstOf platform s step = IsSymbolAt platform s 0 step
+
+-- three bytes, which are WTF-8, are the form of this surrogate
+pub record IsSurrogateFront (s : List ℕ) (unit : ℕ) : Type 0 where
+  pub within : 3 ≤ length s
+  pub formed : IsWtf8 (take 3 s)
+  pub units_are : units_of (take 3 s) ≡ unit ∷ []

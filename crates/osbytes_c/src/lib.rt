@@ -2,7 +2,7 @@
 //! and in pieces, [`fault_text`] the text of a fault, [`wide`] bytes to 16-bit units and back,
 //! [`lossy`] lossy texts, [`search`] searches, [`prefix`] prefixes and suffixes by units,
 //! [`boundary`] where strings may be cut, [`compare`] their order, and one step of each iterator:
-//! [`split`] and [`chunks`].
+//! [`split`], [`chunks`] and [`symbols`]. [`laws`] says what whole walks give.
 //!
 //! A slice crosses as a pointer and a length. Each export takes any values: a platform, a pattern,
 //! an index or a fault that there isn't is answered by a status ([`status`]), so none has a
@@ -17,10 +17,12 @@ pub mod chunks;
 pub mod compare;
 pub mod fault;
 pub mod fault_text;
+pub mod laws;
 pub mod lossy;
 pub mod prefix;
 pub mod search;
 pub mod split;
 pub mod status;
 mod strings;
+pub mod symbols;
 pub mod wide;

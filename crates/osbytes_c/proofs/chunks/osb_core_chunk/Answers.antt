@@ -1,4 +1,4 @@
-use Rattle.std.proofs.Common.{◌∷◌, ◌+◌, ◌-◌, ◌≤◌, drop, length, subst, sym, ap, ◌∙◌}
+use Rattle.std.proofs.Common.{◌∷◌, ◌+◌, ◌-◌, ◌≤◌, length, subst, sym, ap, ◌∙◌}
 use Rattle.wtf8_core.specs.Chunks.{AreChunks}
 use Rattle.platform_str.specs.Strings.{bytes}
 use Rattle.os_str_ext.specs.Parts.{part_bytes}

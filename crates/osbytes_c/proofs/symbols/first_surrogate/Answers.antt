@@ -1,0 +1,44 @@
+use Rattle.std.proofs.Common.{◌∷◌, ◌≤◌, ◌∙◌, length, take, ap, sym, subst, arith}
+use Rattle.std.proofs.lemmas.List.{length-take-le}
+use Rattle.wtf8_core.specs.Items.{AreUnitItems}
+use Rattle.wtf8_core.specs.Wtf8.{IsWtf8}
+use Rattle.platform_str.specs.platforms.Windows.{windows_laws}
+use Rattle.platform_str.proofs.lemmas.FirstUnits.{first_is_unit, first_is_no_fault, first_is_there}
+use Rattle.osbytes_c.specs.Steps.{IsSurrogateFront}
+use Rattle.osbytes_c.proofs.lemmas.Symbols.{front_bare, front_within, front_formed, front_units}
+use Rattle.osbytes_c.proofs.symbols.first_surrogate.Goals as goal
+
+pub returns-then-bytes-lt3 : goal.returns-then-bytes-lt3
+returns-then-bytes-lt3 c = λ w. let le = front_within c.args.bytes.now c.requires.some c.requires.bare w in omega (arith, le, c.if-bytes-lt3.true)
+
+pub returns-in_default : goal.returns-in_default
+returns-in_default c = λ w.
+    windows_laws.faulty _ _ c.in_default.ensures (subst IsWtf8 (sym c.split_at.ensures.front) (front_formed c.args.bytes.now c.requires.some c.requires.bare w))
+
+pub returns-in-Some-Ok : goal.returns-in-Some-Ok
+returns-in-Some-Ok c =
+    let s = c.args.bytes.now in
+    let front = c.split_at.ensures.front in
+    let le : 3 ≤ length s = c.if-bytes-lt3.false in
+    let formed = subst IsWtf8 front c.in-Ok.ensures in
+    let size = length-take-le 3 s le in
+    let items = c.in-Some-Ok.ensures.steps ∙ ap (λ x. x ∷ c.next.new.self) c.in-Some-Ok.field-0-is in
+    let first = first_is_unit {b = take 3 s} formed (omega (arith, size)) (front_bare s c.requires.bare) (subst (λ b. AreUnitItems b c.encode_wide.result) front c.encode_wide.ensures) items in
+    subst (IsSurrogateFront s) (sym c.from.ensures) (record { within = le; formed = formed; units_are = front_units s c.in-Some-Ok.unit le first })
+
+pub returns-in-Some-Err : goal.returns-in-Some-Err
+returns-in-Some-Err c = λ w.
+    let s = c.args.bytes.now in
+    let front = c.split_at.ensures.front in
+    let le : 3 ≤ length s = c.if-bytes-lt3.false in
+    let size = length-take-le 3 s le in
+    let items = c.in-Some-Err.ensures.steps ∙ ap (λ x. x ∷ c.next.new.self) c.in-Some-Err.field-0-is in
+    first_is_no_fault {b = take 3 s} (subst IsWtf8 front c.in-Ok.ensures) (omega (arith, size)) (front_bare s c.requires.bare) (subst (λ b. AreUnitItems b c.encode_wide.result) front c.encode_wide.ensures) items
+
+pub returns-in-None : goal.returns-in-None
+returns-in-None c = λ w.
+    let s = c.args.bytes.now in
+    let front = c.split_at.ensures.front in
+    let le : 3 ≤ length s = c.if-bytes-lt3.false in
+    let size = length-take-le 3 s le in
+    first_is_there {b = take 3 s} (subst IsWtf8 front c.in-Ok.ensures) (omega (arith, size)) (front_bare s c.requires.bare) (subst (λ b. AreUnitItems b c.encode_wide.result) front c.encode_wide.ensures) c.in-None.ensures.steps.0

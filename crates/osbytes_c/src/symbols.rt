@@ -1,0 +1,124 @@
+//! One symbol of a string.
+ghost use Rattle.std.specs.Prelude.{◌≡◌, ◌<◌, ◌≤◌, ◌↔◌, ◌⊎◌, ◌++◌, ℕ, length, drop, MatchOption};
+ghost use Rattle.std.specs.Char.{encode_utf8};
+ghost use Rattle.wtf8_core.specs.Covered.{StartsBare};
+ghost use Rattle.wtf8_core.specs.Wtf8.{IsWtf8};
+ghost use Rattle.osbytes_c.specs.Faults.{IsString, IsUnstring};
+ghost use Rattle.osbytes_c.specs.Steps.{IsSymbolAt, IsFirstOf, IsSurrogateFront};
+
+use crate::status::{DONE, ENDED, FAULTY, NO_INDEX, NO_PLATFORM};
+use crate::strings::unix;
+use os_str_ext::OsStrBytesExt;
+use platform_str::{Platform, Windows};
+use wtf8_core::encode_wide;
+
+/// A symbol, and where it ends.
+#[repr(C)]
+#[derive(Clone, Copy)]
+pub struct Step {
+    /// 1 a character, 2 a unit of what isn't text.
+    pub kind: u32,
+    /// The character, or the unit's number.
+    pub value: u32,
+    /// The index after its last byte.
+    pub end: usize,
+}
+
+/// The first symbol of what comes after an index, if that is a string of the platform.
+#[unsafe(no_mangle)]
+pub extern "C" fn osb_core_symbol(platform: u32, bytes: &[u8], at: usize, symbol: &mut Step) -> u32
+    ensures symbol { result ≡ DONE → IsString platform (drop at bytes.now) → IsSymbolAt platform
+        bytes.now at symbol.new }
+    ensures fault { result ≡ FAULTY → IsUnstring platform (drop at bytes.now) }
+    ensures index { result ≡ NO_INDEX → length bytes.now < at }
+    ensures ended { result ≡ ENDED → at ≡ length bytes.now }
+    ensures platform { (result ≡ NO_PLATFORM) ↔ (2 < platform) }
+    ensures answers { (result ≡ DONE) ⊎ ((result ≡ FAULTY) ⊎ ((result ≡ NO_INDEX)
+        ⊎ ((result ≡ ENDED) ⊎ (result ≡ NO_PLATFORM)))) }
+{
+    if platform > 2 {
+        return NO_PLATFORM;
+    }
+    if at > bytes.len() {
+        return NO_INDEX;
+    }
+    if at == bytes.len() {
+        return ENDED;
+    }
+    let (_, rest) = bytes.split_at(at);
+    let Some(first) = first_symbol(platform, rest) else {
+        return FAULTY;
+    };
+    *symbol = Step {
+        kind: first.kind,
+        value: first.value,
+        end: at + first.end,
+    };
+    DONE
+}
+
+/// The first symbol of bytes, or `None` if they aren't a string of the platform.
+fn first_symbol(platform: u32, bytes: &[u8]) -> Option<Step>
+    requires known { platform ≤ 2 }
+    requires some { 0 < length bytes.now }
+    ensures first { MatchOption result (IsUnstring platform bytes.now)
+        (λ step. IsString platform bytes.now → IsFirstOf platform bytes.now step) }
+    ensures within { MatchOption result (Unit {0}) (λ step. step.end ≤ length bytes.now) }
+{
+    if let Some((character, rest)) = unix(bytes).split_first_char() {
+        return Some(character_step(bytes, character, rest.as_encoded_bytes()));
+    }
+    if platform == 0 {
+        return Some(Step {
+            kind: 2,
+            value: u32::from(bytes[0]),
+            end: 1,
+        });
+    }
+    if platform == 1 {
+        let Some(unit) = first_surrogate(bytes) else {
+            return None;
+        };
+        return Some(Step {
+            kind: 2,
+            value: unit,
+            end: 3,
+        });
+    }
+    None
+}
+
+/// The step to a character with which bytes begin.
+fn character_step(bytes: &[u8], character: char, rest: &[u8]) -> Step
+    requires { bytes.now ≡ encode_utf8 character ++ rest.now }
+    ensures first { (platform : ℕ) → IsString platform bytes.now
+        → IsFirstOf platform bytes.now result }
+    ensures within { result.end ≤ length bytes.now }
+{
+    Step {
+        kind: 1,
+        value: character as u32,
+        end: bytes.len() - rest.len(),
+    }
+}
+
+/// The surrogate with whose form bytes begin, which begin with no whole character; `None` if they
+/// aren't WTF-8.
+fn first_surrogate(bytes: &[u8]) -> Option<u32>
+    requires some { 0 < length bytes.now }
+    requires bare { StartsBare bytes.now }
+    ensures { MatchOption result (¬ (IsWtf8 bytes.now)) (λ unit. IsSurrogateFront bytes.now unit) }
+{
+    if bytes.len() < 3 {
+        return None;
+    }
+    let (front, _) = bytes.split_at(3);
+    let Ok(()) = Windows::check(front) else {
+        return None;
+    };
+    match encode_wide(front).next() {
+        Some(Ok(unit)) => Some(u32::from(unit)),
+        Some(Err(_)) => None,
+        None => None,
+    }
+}
