@@ -1,4 +1,4 @@
-use Rattle.std.proofs.Common.{◌≡◌, ◌<◌, ◌+◌, ◌/◌, get_or, sym, ap, ◌∙◌, arith}
+use Rattle.std.proofs.Common.{◌<◌, ◌+◌, ◌/◌, get_or, sym, ap, ◌∙◌, arith}
 use Rattle.std.specs.List.{slice_index}
 use Rattle.os_quote.specs.Standing.{lead_bits}
 use Rattle.os_quote.specs.declared.lanes.TheConstants.{SECOND_HIGH, THIRD_HIGH}
