@@ -12,3 +12,6 @@ pub mod SuspectLanes
 pub mod Suspects
 pub mod Hidden
 pub use Rattle.os_str_ext.proofs.lemmas.EachChunk
+pub mod Fronts
+pub mod PlainBytes
+pub mod PlainLanes

@@ -17,6 +17,7 @@ mod form;
 mod lanes;
 pub mod laws;
 mod long_token;
+mod plain;
 mod quoting;
 mod reading;
 mod standing;

@@ -130,5 +130,7 @@ pub(crate) fn escape_by<E: Platform, A: Allocator>(
     ensures { IfOk result
         (λ text. IsEscapeBy (shown_by form) E.units (bytes string.entry) (string_bytes text)) }
 {
-    Escaped::new(form, string).to_string(alloc)
+    let mut text = String::with_capacity(alloc, string.len())?;
+    text.write(Escaped::new(form, string))?;
+    Ok(text)
 }

@@ -1,17 +1,36 @@
 //! The escapes of parts and of texts, written piece by piece.
-ghost use Rattle.std.specs.Prelude.{◌≡◌, ◌<◌, map};
+ghost use Rattle.std.specs.Prelude.{◌≡◌, ◌<◌, map, IfOk};
 ghost use Rattle.std.specs.Fmt.{WritesStyledOnOk};
 ghost use Rattle.std.specs.Str.{chars};
 ghost use Rattle.os_str_ext.specs.Parts.{part_bytes};
 ghost use Rattle.os_quote.specs.Item.{item_text, item_texts, unit_item, character_item};
+ghost use Rattle.os_quote.specs.Plain.{IsPlainWritten};
 ghost use Rattle.os_quote.specs.Shown.{is_any, stays_on_line, shown_by};
 
 use crate::form::{Form, stays_on_line};
+use crate::plain::split_plain;
 use crate::standing::split_hidden;
 use crate::token::split_backslash;
 use crate::write_token::{write_hidden, write_unit};
 use os_str_bytes::{NonUnicodeOsStr, Platform};
 use std::fmt;
+
+/// Writes the plain bytes at the start, and returns the bytes after them. Each piece is written right
+/// after it was looked at, and before the next one is.
+pub(crate) fn write_plain<'a, W: fmt::Write>(
+    bytes: &'a [u8],
+    f: &mut fmt::Formatter<W>,
+) -> Result<&'a [u8], fmt::Error>
+    ensures { IfOk result
+        (λ rest. IsPlainWritten W.write_str_gives f.old f.new bytes.now rest.now) }
+{
+    let mut rest = bytes;
+    while let Some((plain, behind)) = split_plain(rest) {
+        f.write_str(plain)?;
+        rest = behind;
+    }
+    Ok(rest)
+}
 
 /// Writes each unit of a part.
 pub(crate) fn write_part<'a, E: Platform, W: fmt::Write>(

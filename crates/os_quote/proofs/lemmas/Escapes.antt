@@ -89,19 +89,23 @@ module _ (shows : ℕ → Bool) (well_formed : List ℕ → Type 0) (units : Lis
         let c : ◌≡◌ {A = List ℕ} [] (backslash ∷ b.bad.behind) = q.1 ∙ b.bad.first in
         cc
 
+-- no bytes have no units
+pub no_units_of_none : (well_formed : List ℕ → Type 0) (units : List ℕ → List ℕ) (part_units : List ℕ → Type 0) → PartLaws well_formed units part_units → well_formed [] → units [] ≡ []
+no_units_of_none well_formed units part_units parts w = no_units (units []) (parts.spelled [] w bare)
+  where
+    bare : IsBare []
+    bare i j q = let f = character_fits [] i j q in omega arith
+
 module _ (shows : ℕ → Bool) (well_formed : List ℕ → Type 0) (units : List ℕ → List ℕ) (part_units : List ℕ → Type 0) (parts : PartLaws well_formed units part_units) where
   -- a text of which each character is unchanged is its own escape
   pub own_escape : (t : List ℕ) → well_formed [] → IsUtf8 t → text_escape shows t ≡ t → IsEscapeBy shows units t t
   own_escape t w u own = record { chunks = own_chunks t; are_chunks = text_chunks t u; text_is = by t own }
     where
-      bare : IsBare []
-      bare i j q = let f = character_fits [] i j q in omega arith
-
       by : (t : List ℕ) → text_escape shows t ≡ t → t ≡ item_texts (items_of shows units (own_chunks t))
       by [] own = refl
       by (x ∷ t) own =
           sym own
-          ∙ ap item_texts (sym (append-nil (text_items shows (x ∷ t))) ∙ ap (λ us. (map unit_item us ++ text_items shows (x ∷ t)) ++ []) (sym (no_units (units []) (parts.spelled [] w bare))))
+          ∙ ap item_texts (sym (append-nil (text_items shows (x ∷ t))) ∙ ap (λ us. (map unit_item us ++ text_items shows (x ∷ t)) ++ []) (sym (no_units_of_none well_formed units part_units parts w)))
 
 -- a string has one escape
 pub one_escape : (shows : ℕ → Bool) (units : List ℕ → List ℕ) (s text other : List ℕ) → IsEscapeBy shows units s text → IsEscapeBy shows units s other → text ≡ other

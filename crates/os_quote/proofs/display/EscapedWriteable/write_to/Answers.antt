@@ -1,22 +1,44 @@
-use Rattle.std.proofs.Common.{◌≡◌, ◌++◌, map, sym, ap, ◌∙◌, refl, subst, true}
+use Rattle.std.proofs.Common.{◌≡◌, ◌++◌, [], map, length, take, drop, sym, ap, ◌∙◌, refl, subst, true}
 use Rattle.std.specs.Fmt.{HasWrittenStyled, IsFlush}
+use Rattle.std.specs.Str.{IsUtf8}
+use Rattle.std.proofs.lemmas.List.{take_at, drop_at}
+use Rattle.std.proofs.lemmas.Str.{IsUtf8-nil}
+use Rattle.os_quote.proofs.lemmas.Escapes.{no_units_of_none}
+use Rattle.os_quote.proofs.lemmas.Fronts.{front_escape}
+use Rattle.os_quote.proofs.lemmas.PlainBytes.{plain_is_text, plain_is_own}
 use Rattle.os_str_ext.specs.Parts.{part_bytes}
 use Rattle.os_quote.specs.Item.{item_texts, unit_item}
 use Rattle.os_quote.specs.Shown.{shown_by}
 use Rattle.os_quote.specs.Escape.{items_of}
-use Rattle.os_quote.specs.Escaped.{escaped_text}
+use Rattle.os_quote.specs.Escaped.{escape_of}
 use Rattle.os_quote.proofs.lemmas.Texts.{text_items, item_texts-append}
-use Rattle.os_quote.proofs.lemmas.Writing.{WritesRest, nothing_yet, one_more, both}
+use Rattle.os_quote.proofs.lemmas.Writing.{one_more, both}
 use Rattle.os_quote.proofs.display.EscapedWriteable.write_to.Goals as goal
 
+pub from_encoded_bytes_unchecked-rest-requires : goal.from_encoded_bytes_unchecked-rest-requires
+from_encoded_bytes_unchecked-rest-requires g c =
+    let after = c.in_ok-rest.ensures.after in
+    let n = length c.in_ok-rest.ensures.front in
+    let bytes = c.as_encoded_bytes.result.now in
+    let front = ap (take n) after.joined ∙ take_at c.in_ok-rest.ensures.front c.in_ok-rest.rest.now n refl in
+    let rest = ap (drop n) after.joined ∙ drop_at c.in_ok-rest.ensures.front c.in_ok-rest.rest.now n refl in
+    subst g.E.Platform.well_formed rest (g.met.E.Platform.laws.behind_text bytes n c.as_encoded_bytes.ensures.formed (subst IsUtf8 (sym front) (plain_is_text c.in_ok-rest.ensures.front after.plain)))
+
 pub loop-part-init : goal.loop-part-init
-loop-part-init g c =
-    let took = g.W.Write.write_str_gives in
-    let shows = shown_by c.args.self.now.form in
-    let all = escaped_text c.args.self.now in
+loop-part-init g c = λ flush.
+    let form = c.args.self.now.form in
+    let units = g.E.Platform.units in
+    let written = c.in_ok-rest.ensures in
+    let rest = c.from_encoded_bytes_unchecked-rest.ensures in
     let chunks = c.into_iter-part-iterator.ensures.into_iter_gives ∙ c.utf8_chunks-part-items.ensures.value in
-    let text = ap (λ cs. item_texts (items_of shows g.E.Platform.units cs)) chunks in
-    subst (λ left. WritesRest took c.args.f.now c.args.f.now left all) (sym text) (nothing_yet took c.args.f.now all)
+    let none = no_units_of_none g.E.Platform.well_formed units g.E.Platform.part_units g.met.E.Platform.parts (g.met.E.Platform.laws.text [] IsUtf8-nil) in
+    let left = ap (λ cs. item_texts (items_of (shown_by form) units cs)) chunks ∙ ap (escape_of (shown_by form) units) rest in (
+      written.front,
+      written.wrote flush,
+      ap (λ x. written.front ++ x) left
+          ∙ sym (front_escape (shown_by form) units written.front c.in_ok-rest.rest.now none (plain_is_text written.front written.after.plain) (plain_is_own form written.front written.after.plain))
+          ∙ ap (escape_of (shown_by form) units) (sym written.after.joined ∙ c.as_encoded_bytes.ensures.value),
+    )
 
 pub loop-part-preserved : goal.loop-part-preserved
 loop-part-preserved g c =

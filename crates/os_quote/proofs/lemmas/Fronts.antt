@@ -1,0 +1,118 @@
+-- Escapes of strings that begin with a text of which each character is unchanged.
+use Rattle.std.proofs.Common.{◌≡◌, ⊎_elim, ℕ, ◌+◌, ◌-◌, ◌<◌, Bool, true, false, List, [], ◌∷◌, ◌++◌, map, length, refl, sym, ap, ◌∙◌, subst, arith, append_assoc, append-nil, length-append}
+use Rattle.std.specs.Str.{IsUtf8, chars}
+use Rattle.std.proofs.lemmas.Bool.{cases_lt}
+use Rattle.std.proofs.lemmas.Str.{chars-append}
+use Rattle.wtf8_core.specs.Covered.{IsCovered, IsSeam}
+use Rattle.wtf8_core.specs.Chunks.{Chunk, joined, AreChunks}
+use Rattle.wtf8_core.proofs.lemmas.chunks.OneList.{AreChunksFrom, chunks_from_start, are_chunks, some_chunks, chunks_once, one_more_chunk}
+use Rattle.wtf8_core.proofs.lemmas.characters.Seams.{Covered, over_none, covered_within, covered_behind, seam_at_start, text_covered}
+use Rattle.os_str_ext.specs.Chunks.{chunks_of}
+use Rattle.os_quote.specs.Item.{Item, item_texts, unit_item, character_item}
+use Rattle.os_quote.specs.Escape.{items_of}
+use Rattle.os_quote.specs.Escaped.{escape_of}
+use Rattle.os_quote.proofs.lemmas.Texts.{text_items, text_escape, map-append, item_texts-append}
+
+module _ (p r : List ℕ) (u : IsUtf8 p) (some : 0 < length p) where
+  -- what is known of the text at the start
+  covered : Covered (p ++ r) 0 p
+  covered = (text_covered (p ++ r) [] p r refl u (seam_at_start (p ++ r))).0
+
+  seam : IsSeam (p ++ r) (length p)
+  seam = let z : 0 + length p ≡ length p = omega arith in subst (IsSeam (p ++ r)) z (text_covered (p ++ r) [] p r refl u (seam_at_start (p ++ r))).1
+
+  -- the chunks of the string, by the part and the text of the first chunk of what follows that text
+  abbrev grown : List ℕ → List ℕ → List Chunk → List Chunk
+  grown [] t ds = ([], p ++ t) ∷ ds
+  grown (x ∷ q) t ds = ([], p) ∷ (x ∷ q, t) ∷ ds
+
+  abbrev front_chunks : List Chunk → List Chunk
+  front_chunks [] = ([], p) ∷ []
+  front_chunks (c ∷ ds) = grown c.0 c.1 ds
+
+  never_empty : p ≡ [] → ⊥
+  never_empty e = let l = ap length e in omega (arith, some, l)
+
+  long : 0 < length (p ++ r)
+  long = omega (arith, some, length-append p r)
+
+  -- the chunks of what follows the text, in the string
+  after_text : (i : ℕ) (first : Bool) (cs : List Chunk) → AreChunksFrom r i first cs → AreChunksFrom (p ++ r) (length p + i) first cs
+  after_text i first [] g = tt
+  after_text i first (c ∷ cs) g =
+      let h = g.0 in
+      let whole : p ++ r ≡ p ++ (r ++ []) = ap (λ y. p ++ y) (sym (append-nil r)) in
+      let z : length p + (i + length (c.0 ++ c.1)) ≡ length p + i + length (c.0 ++ c.1) = omega arith in (
+        record {
+          some = h.some;
+          part = λ k low high q. h.part (k - length p) (omega arith) (omega arith) (covered_behind (p ++ r) p r k refl seam (omega arith) q);
+          text = λ k low high. let y : length p + (k - length p) ≡ k = omega arith in subst (IsCovered (p ++ r)) y (covered_within (p ++ r) p r [] (k - length p) whole (h.text (k - length p) (omega arith) (omega arith)));
+          part_first = h.part_first;
+          text_last = h.text_last;
+        },
+        subst (λ n. AreChunksFrom (p ++ r) n false cs) z (after_text (i + length (c.0 ++ c.1)) false cs g.1),
+      )
+
+  are_grown : (q t : List ℕ) (ds : List Chunk) → AreChunks r ((q, t) ∷ ds) → AreChunks (p ++ r) (grown q t ds)
+  are_grown (x ∷ q) t ds h =
+      one_more_chunk (p ++ r) [] p r ((x ∷ q, t) ∷ ds) refl long (over_none _ 0) covered seam (λ none. absurd (never_empty none))
+      (λ lt c.
+      let first = (h.each [] ds (x ∷ q, t) refl).bare 0 (omega arith) (omega arith) in
+      let z : length p - length p ≡ 0 = omega arith in
+      first (subst (IsCovered r) z (covered_behind (p ++ r) p r (length p) refl seam (omega arith) c)))
+      h
+  are_grown [] t ds h =
+      let lifted = after_text 0 true (([], t) ∷ ds) (chunks_from_start r (([], t) ∷ ds) h) in
+      let size = length-append p t in
+      let z : length p + 0 + length ([] ++ t) ≡ 0 + length ([] ++ (p ++ t)) = omega (arith, size) in
+      are_chunks (p ++ r) (([], p ++ t) ∷ ds) (append_assoc p t (joined ds) ∙ ap (λ x. p ++ x) h.joins) (
+        record {
+          some = omega (arith, some, size);
+          part = over_none _ 0;
+          text = λ k low high. ⊎_elim (λ lt. covered k (omega arith) (omega (arith, lt))) (λ ge. lifted.0.text k (omega (arith, ge)) (omega (arith, high, size))) (cases_lt k (length p));
+          part_first = λ none. refl;
+          text_last = λ none. absurd (let l = ap length none in omega (arith, some, size, l));
+        },
+        subst (λ n. AreChunksFrom (p ++ r) n false ds) z lifted.1,
+      )
+
+  are_front : (cs : List Chunk) → AreChunks r cs → AreChunks (p ++ r) (front_chunks cs)
+  are_front [] h =
+      let none : r ≡ [] = sym h.joins in
+      one_more_chunk (p ++ r) [] p r [] refl long (over_none _ 0) covered seam (λ e. absurd (never_empty e)) (λ lt. absurd (let l = ap length none in omega (arith, lt, l))) h
+  are_front (c ∷ ds) h = are_grown c.0 c.1 ds h
+
+  module _ (shows : ℕ → Bool) (units : List ℕ → List ℕ) (no_units : units [] ≡ []) (own : text_escape shows p ≡ p) where
+    -- their items
+    after_front : (items : List Item) → item_texts ((map unit_item (units []) ++ text_items shows p) ++ items) ≡ p ++ item_texts items
+    after_front items =
+        ap (λ us. item_texts ((map unit_item us ++ text_items shows p) ++ items)) no_units
+        ∙ item_texts-append (text_items shows p) items
+        ∙ ap (λ x. x ++ item_texts items) own
+
+    grown_items : (q t : List ℕ) (ds : List Chunk) → item_texts (items_of shows units (grown q t ds)) ≡ p ++ item_texts (items_of shows units ((q, t) ∷ ds))
+    grown_items (x ∷ q) t ds = after_front (items_of shows units ((x ∷ q, t) ∷ ds))
+    grown_items [] t ds =
+        let rest = items_of shows units ds in
+        ap (λ us. item_texts ((map unit_item us ++ text_items shows (p ++ t)) ++ rest)) no_units
+        ∙ ap (λ cs. item_texts (map (character_item shows) cs ++ rest)) (chars-append p t u)
+        ∙ ap (λ items. item_texts (items ++ rest)) (map-append shows (chars p) (chars t))
+        ∙ ap item_texts (append_assoc (text_items shows p) (text_items shows t) rest)
+        ∙ item_texts-append (text_items shows p) (text_items shows t ++ rest)
+        ∙ ap (λ x. x ++ item_texts (text_items shows t ++ rest)) own
+        ∙ ap (λ us. p ++ item_texts ((map unit_item us ++ text_items shows t) ++ rest)) (sym no_units)
+
+    front_items : (cs : List Chunk) → item_texts (items_of shows units (front_chunks cs)) ≡ p ++ item_texts (items_of shows units cs)
+    front_items [] = after_front []
+    front_items (c ∷ ds) = grown_items c.0 c.1 ds
+
+    pub some_front : escape_of shows units (p ++ r) ≡ p ++ escape_of shows units r
+    some_front =
+        let cs = chunks_of r in
+        ap (λ x. item_texts (items_of shows units x)) (chunks_once (p ++ r) (chunks_of (p ++ r)) (front_chunks cs) (some_chunks (p ++ r)).1 (are_front cs (some_chunks r).1))
+        ∙ front_items cs
+
+-- the escape of a string after such a text
+pub front_escape : (shows : ℕ → Bool) (units : List ℕ → List ℕ) (p r : List ℕ) → units [] ≡ [] → IsUtf8 p → text_escape shows p ≡ p → escape_of shows units (p ++ r) ≡ p ++ escape_of shows units r
+front_escape shows units [] r none u own = refl
+front_escape shows units (x ∷ p) r none u own = some_front (x ∷ p) r u (omega arith) shows units none own

@@ -1,0 +1,79 @@
+-- Plain bytes: texts that both forms show unchanged.
+use Rattle.std.proofs.Common.{◌≡◌, ⊎_elim, ℕ, zero, suc, ◌+◌, ◌-◌, ◌<◌, ◌≤◌, true, List, [], ◌∷◌, ◌++◌, map, length, take, get_or, refl, sym, ap, ◌∙◌, subst, arith, append_assoc, rules}
+use Rattle.std.specs.List.{AllByRecursion}
+use Rattle.std.specs.Str.{IsUtf8}
+use Rattle.std.specs.Fmt.{HasWrittenStyled, IsFlush}
+use Rattle.std.specs.declared.fmt.Formatter.{Formatter}
+use Rattle.std.proofs.lemmas.Bool.{cases_lt, ne_eqb}
+use Rattle.std.proofs.lemmas.Str.{chars-IsAscii, encode_ascii, IsUtf8-from_ascii}
+use Rattle.os_quote.specs.Item.{Character, backslash, item_text, item_texts, character_item}
+use Rattle.os_quote.specs.Shown.{shown_by}
+use Rattle.os_quote.specs.Plain.{IsPlain, IsPlainUpTo, IsAfterPlain}
+use Rattle.os_quote.specs.declared.form.Form.{Form}
+use Rattle.os_quote.specs.declared.form.Form.TheVariants.{Text, Line}
+use Rattle.os_quote.proofs.lemmas.Readings.{ascii_all}
+use Rattle.os_quote.proofs.lemmas.Shown.{ascii_stays}
+use Rattle.os_quote.proofs.lemmas.Texts.{text_escape}
+
+plain_ascii : (bs : List ℕ) → AllByRecursion IsPlain bs → AllByRecursion (λ b. b < 128) bs
+plain_ascii [] a = tt
+plain_ascii (b ∷ bs) a = let high = a.0.0.1 in (omega arith, plain_ascii bs a.1)
+
+pub plain_is_text : (bs : List ℕ) → AllByRecursion IsPlain bs → IsUtf8 bs
+plain_is_text bs a = IsUtf8-from_ascii bs (ascii_all bs (plain_ascii bs a))
+
+plain_is_shown : (form : Form) (b : ℕ) → IsPlain b → shown_by form b ≡ true
+plain_is_shown Text b p = refl
+plain_is_shown Line b p = let high = p.0.1 in ascii_stays b p.0.0 (omega arith)
+
+own_bytes : (form : Form) (bs : List ℕ) → AllByRecursion IsPlain bs → item_texts (map (character_item (shown_by form)) bs) ≡ bs
+own_bytes form [] a = refl
+own_bytes form (b ∷ bs) a =
+    let high = a.0.0.1 in
+    let shown = plain_is_shown form b a.0 in
+    let item : character_item (shown_by form) b ≡ Character b = rw (ne_eqb b backslash a.0.1) (rw shown refl) in
+    ap (λ i. item_text i ++ item_texts (map (character_item (shown_by form)) bs)) item
+    ∙ ap (λ x. x ++ item_texts (map (character_item (shown_by form)) bs)) (encode_ascii b (omega arith))
+    ∙ ap (λ x. b ∷ x) (own_bytes form bs a.1)
+
+pub plain_is_own : (form : Form) (bs : List ℕ) → AllByRecursion IsPlain bs → text_escape (shown_by form) bs ≡ bs
+plain_is_own form bs a = ap (λ cs. item_texts (map (character_item (shown_by form)) cs)) (chars-IsAscii bs (ascii_all bs (plain_ascii bs a))) ∙ own_bytes form bs a
+
+-- by index
+pub plain_front : (bs : List ℕ) (n : ℕ) → ((i : ℕ) → i < n → IsPlain (get_or bs i 0)) → AllByRecursion IsPlain (take n bs)
+plain_front [] zero h = tt
+plain_front [] (suc n) h = tt
+plain_front (b ∷ bs) zero h = tt
+plain_front (b ∷ bs) (suc n) h = (h 0 (omega arith), plain_front bs n (λ k lt. h (suc k) (omega (arith, lt))))
+
+pub none_plain : (bs : List ℕ) → IsPlainUpTo bs 0
+none_plain bs = record { within = omega arith; plain = λ i lt. absurd (omega (arith, lt)) }
+
+pub more_plain : (bs : List ℕ) (at n : ℕ) → IsPlainUpTo bs at → at + n ≤ length bs → ((i : ℕ) → i < n → IsPlain (get_or bs (at + i) 0)) → IsPlainUpTo bs (at + n)
+more_plain bs at n before room more = record {
+  within = room;
+  plain = λ i lt.
+      ⊎_elim (λ l. before.plain i l)
+      (λ ge. let e : at + (i - at) ≡ i = omega (arith, ge) in subst (λ k. IsPlain (get_or bs k 0)) e (more (i - at) (omega (arith, ge, lt))))
+      (cases_lt i at);
+}
+
+pub one_plain : (bs : List ℕ) (at : ℕ) → IsPlainUpTo bs at → at < length bs → IsPlain (get_or bs at 0) → IsPlainUpTo bs (at + 1)
+one_plain bs at before room one =
+    more_plain bs at 1 before (omega (arith, room)) (λ i lt. let e : at ≡ at + i = omega (arith, lt) in subst (λ k. IsPlain (get_or bs k 0)) e one)
+
+-- some more after others
+pub all_plain : (xs ys : List ℕ) → AllByRecursion IsPlain xs → AllByRecursion IsPlain ys → AllByRecursion IsPlain (xs ++ ys)
+all_plain [] ys a b = b
+all_plain (x ∷ xs) ys a b = (a.0, all_plain xs ys a.1 b)
+
+pub after_more : (bs front rest more behind : List ℕ) → IsAfterPlain bs front rest → IsAfterPlain rest more behind → IsAfterPlain bs (front ++ more) behind
+after_more bs front rest more behind a b = record {
+  plain = all_plain front more a.plain b.plain;
+  joined = a.joined ∙ ap (λ x. front ++ x) b.joined ∙ sym (append_assoc front more behind);
+}
+
+pub none_written : {W : Type 0} (took : W → List ℕ → W → Type 0) (f : Formatter W) → IsFlush f → HasWrittenStyled took f [] f
+none_written took f flush = search rules
+
+pub ruleset plain_bytes = (none_plain, more_plain, one_plain)

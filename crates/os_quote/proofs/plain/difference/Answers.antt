@@ -1,0 +1,6 @@
+use Rattle.std.proofs.Common.{bit_xor}
+use Rattle.wtf8_core.proofs.lemmas.scan.Lanes.{lane_with}
+use Rattle.os_quote.proofs.plain.difference.Goals as goal
+
+pub returns : goal.returns
+returns c = lane_with bit_xor c.args.lanes 16 0x5C c.fits-lanes.0

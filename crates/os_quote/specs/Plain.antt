@@ -1,0 +1,32 @@
+-- Bytes that both forms of an escape show unchanged, found without reading characters. Only private contracts name these; `IsEscapeBy` says what an escape is.
+use Rattle.std.specs.Prelude.{◌≡◌, ◌≢◌, ℕ, ◌≤◌, ◌<◌, List, ◌++◌, length, slice_index}
+use Rattle.std.specs.Int.{IsInRange}
+use Rattle.std.specs.List.{AllByRecursion}
+use Rattle.std.specs.Fmt.{HasWrittenStyled, IsFlush}
+use Rattle.std.specs.declared.fmt.Formatter.{Formatter}
+use Rattle.os_quote.specs.Item.{backslash}
+
+-- a printable character of ASCII other than the backslash
+abbrev pub IsPlain : ℕ → Type 0
+IsPlain b = IsInRange 0x20 0x7E b × (b ≢ backslash)
+
+-- the first n bytes are plain
+pub record IsPlainUpTo (bytes : List ℕ) (n : ℕ) : Type 0 where
+  pub within : n ≤ length bytes
+  pub plain : (i : ℕ) → i < n → IsPlain (slice_index bytes i)
+
+-- the bytes are plain ones, and then the rest
+pub record IsAfterPlain (bytes front rest : List ℕ) : Type 0 where
+  pub plain : AllByRecursion IsPlain front
+  pub joined : bytes ≡ front ++ rest
+
+-- the same, where some are plain
+pub record IsCutAfterPlain (bytes front rest : List ℕ) : Type 0 where
+  pub after : IsAfterPlain bytes front rest
+  pub some : 0 < length front
+
+-- from f to g plain bytes were written, after which the rest comes
+pub record IsPlainWritten {W : Type 0} (took : W → List ℕ → W → Type 0) (f g : Formatter W) (bytes rest : List ℕ) : Type 0 where
+  pub front : List ℕ
+  pub after : IsAfterPlain bytes front rest
+  pub wrote : IsFlush f → HasWrittenStyled took f front g
