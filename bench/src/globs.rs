@@ -7,14 +7,14 @@ use std::path::Path;
 
 const PATTERNS: [&str; 5] = ["*", "*.gz", "/usr/*/man?/*", "*x*x*x*y", "**/[a-m]*.so"];
 
-/// As many paths of the file system are matched, at most.
+/// So many paths of the file system are matched, at most.
 const MOST: usize = 290_000;
 
-/// How many paths each pattern matches: ours reads the pattern anew at each call, the crates once.
+/// How many paths each pattern matches: each contestant reads the pattern once.
 pub fn time(bench: &mut Bench) {
-    let mut paths = Vec::new();
     let crates: [(&str, fn(&str) -> Option<Box<dyn Fn(&str) -> bool>>); 3] =
         [("glob", glob), ("globset", globset), ("wildmatch", wildmatch)];
+    let mut paths = None;
     for (name, compile) in crates {
         bench.table(&format!("Patterns beside {name}"), "a path");
         for pattern in PATTERNS {
@@ -22,23 +22,46 @@ pub fn time(bench: &mut Bench) {
                 continue;
             }
             let Some(theirs) = compile(pattern) else { continue };
-            if paths.is_empty() {
-                paths_below(Path::new("/"), &mut paths);
-            }
-            let ours: fn(&str, &[u8]) -> bool = black_box(ours::is_match);
-            let count = |is_match: &dyn Fn(&str) -> bool| paths.iter().filter(|path| is_match(path)).count() as u64;
+            let Paths { all, lens } = paths.get_or_insert_with(Paths::of_this_machine);
+            let ours = black_box(ours::matches as fn(&str, &str, &[usize]) -> usize);
             bench.line(
                 "is_match",
-                &format!("`{pattern}`, {} paths", paths.len()),
-                paths.len(),
+                &format!("`{pattern}`, {} paths", lens.len()),
+                lens.len(),
                 [
-                    Some(&mut || count(&|path| ours(black_box(pattern), path.as_bytes()))),
-                    Some(&mut || count(&*theirs)),
+                    Some(&mut || ours(black_box(pattern), all, lens) as u64),
+                    Some(&mut || cut(all, lens).filter(|path| theirs(path)).count() as u64),
                     None,
                 ],
             );
         }
     }
+}
+
+/// Paths, one after the other, and the length of each.
+struct Paths {
+    all: String,
+    lens: Vec<usize>,
+}
+
+impl Paths {
+    /// Those of this machine's files that are texts: at most so many, evenly chosen.
+    fn of_this_machine() -> Self {
+        let mut found = Vec::new();
+        paths_below(Path::new("/"), &mut found);
+        let count = found.len().min(MOST);
+        let chosen: Vec<_> = (0..count).map(|index| found[index * found.len() / count].as_str()).collect();
+        Self { all: chosen.concat(), lens: chosen.iter().map(|path| path.len()).collect() }
+    }
+}
+
+/// The texts of these lengths, one after the other.
+fn cut<'a>(mut all: &'a str, lens: &'a [usize]) -> impl Iterator<Item = &'a str> {
+    lens.iter().map(move |&len| {
+        let (path, rest) = all.split_at(len);
+        all = rest;
+        path
+    })
 }
 
 fn glob(pattern: &str) -> Option<Box<dyn Fn(&str) -> bool>> {
@@ -51,10 +74,11 @@ fn globset(pattern: &str) -> Option<Box<dyn Fn(&str) -> bool>> {
     Some(Box::new(move |path| matcher.is_match(path)))
 }
 
-/// It has no classes.
+/// It has no classes, and with a `?` it misses paths that the other two find.
 fn wildmatch(pattern: &str) -> Option<Box<dyn Fn(&str) -> bool>> {
     let matcher = wildmatch::WildMatch::new(pattern);
-    (!pattern.contains('[')).then(|| -> Box<dyn Fn(&str) -> bool> { Box::new(move |path| matcher.matches(path)) })
+    (!pattern.contains(['[', '?']))
+        .then(|| -> Box<dyn Fn(&str) -> bool> { Box::new(move |path| matcher.matches(path)) })
 }
 
 /// The paths of the files below a folder that are texts, in order of their names, without those that
@@ -65,9 +89,6 @@ fn paths_below(folder: &Path, paths: &mut Vec<String>) {
     entries.sort_by_key(|entry| entry.file_name());
     for entry in entries {
         let path = entry.path();
-        if paths.len() == MOST {
-            return;
-        }
         if ["/proc", "/sys", "/dev"].iter().any(|system| path == Path::new(system)) {
             continue;
         }

@@ -28,7 +28,14 @@ mod exports {
         pub fn port_push(part: *const u8, len: usize, count: usize) -> usize;
         pub fn port_repeat(bytes: *const u8, len: usize, count: usize) -> usize;
         pub fn port_starts_with_os(bytes: *const u8, len: usize, front: *const u8, front_len: usize) -> bool;
-        pub fn port_is_match(pattern: *const u8, pattern_len: usize, bytes: *const u8, len: usize) -> bool;
+        pub fn port_matches(
+            pattern: *const u8,
+            pattern_len: usize,
+            bytes: *const u8,
+            len: usize,
+            lens: *const usize,
+            count: usize,
+        ) -> usize;
         pub fn port_escape(bytes: *const u8, len: usize) -> usize;
         pub fn port_escape_line(bytes: *const u8, len: usize) -> usize;
         pub fn port_unescape(text: *const u8, len: usize) -> usize;
@@ -133,8 +140,11 @@ pub fn split_first_char(bytes: &[u8]) -> u32 {
     unsafe { exports::port_split_first_char(bytes.as_ptr(), bytes.len()) }
 }
 
-pub fn is_match(pattern: &str, bytes: &[u8]) -> bool {
-    unsafe { exports::port_is_match(pattern.as_ptr(), pattern.len(), bytes.as_ptr(), bytes.len()) }
+/// The texts of these lengths make up `texts`.
+pub fn matches(pattern: &str, texts: &str, lens: &[usize]) -> usize {
+    unsafe {
+        exports::port_matches(pattern.as_ptr(), pattern.len(), texts.as_ptr(), texts.len(), lens.as_ptr(), lens.len())
+    }
 }
 
 pub fn escape(bytes: &[u8]) -> usize {

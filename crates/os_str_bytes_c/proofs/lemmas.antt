@@ -2,3 +2,4 @@ pub mod Filling
 pub mod Room
 pub mod FewPieces
 pub mod FewChunks
+pub mod Counts

@@ -1,5 +1,5 @@
 -- What the exports answer.
-use Rattle.std.specs.Prelude.{◌≡◌, ◌⊎◌, ℕ, ◌+◌, ◌%◌, ◌^◌, ◌≤◌, false, List, length, take, drop}
+use Rattle.std.specs.Prelude.{◌≡◌, ◌⊎◌, ℕ, suc, ◌+◌, ◌%◌, ◌^◌, ◌≤◌, false, List, [], ◌∷◌, length, take, drop}
 use Rattle.std.specs.List.{repeat}
 use Rattle.wtf8_core.specs.declared.fault.EncodingError.{EncodingError}
 use Rattle.platform_str.specs.platforms.Windows.{IsWtf8Fault}
@@ -41,3 +41,18 @@ add_symbol sum s = (sum + symbol_number s) % 2 ^ 64
 -- patterns without separators, which match a leading dot by wildcards too
 abbrev pub no_separators : GlobOptions
 no_separators = record { separators = separators.None; literal_leading_dot = false }
+
+-- the bytes, cut into pieces of these lengths
+abbrev pub pieces_of : List ℕ → List ℕ → List (List ℕ)
+pieces_of [] bytes = []
+pieces_of (n ∷ ns) bytes = take n bytes ∷ pieces_of ns (drop n bytes)
+
+-- such pieces lie within the bytes
+abbrev pub Fit : List ℕ → List ℕ → Type 0
+Fit [] bytes = Unit {0}
+Fit (n ∷ ns) bytes = (n ≤ length bytes) × Fit ns (drop n bytes)
+
+-- so many of the strings are so
+abbrev pub IsCount : (List ℕ → Type 0) → List (List ℕ) → ℕ → Type 0
+IsCount Is [] n = n ≡ 0
+IsCount Is (s ∷ ss) n = (Is s × ((fewer : ℕ) × (n ≡ suc fewer) × IsCount Is ss fewer)) ⊎ ((Is s → ⊥) × IsCount Is ss n)
