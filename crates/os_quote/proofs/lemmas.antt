@@ -3,8 +3,10 @@ pub mod Tokens
 pub mod LongTokens
 pub mod Texts
 pub mod Writing
+pub mod Pushing
 pub mod Chunks
 pub mod Escapes
+pub mod ItemLengths
 pub mod Readings
 pub mod Shown
 pub mod Lines

@@ -5,3 +5,4 @@ pub mod Plain
 pub mod Escape
 pub mod Escaped
 pub mod Reading
+pub mod Buffers

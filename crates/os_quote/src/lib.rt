@@ -11,6 +11,8 @@
 //! token, too.
 #![tactic(auto)]
 
+mod buffer;
+mod buffer_token;
 mod display;
 mod error;
 mod form;
@@ -26,6 +28,7 @@ mod token;
 mod write;
 mod write_token;
 
+pub use buffer::{write_escape, write_escape_line};
 pub use display::Escaped;
 pub use error::QuoteError;
 pub use quoting::{escape, escape_line, escaped, escaped_line};

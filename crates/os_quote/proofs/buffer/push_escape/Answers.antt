@@ -1,0 +1,69 @@
+use Rattle.std.proofs.Common.{◌≡◌, ◌++◌, ◌+◌, ◌<◌, ◌^◌, length, map, append_assoc, ap, ◌∙◌, sym, subst, refl, arith}
+use Rattle.platform_str.specs.Strings.{bytes}
+use Rattle.os_str_ext.specs.Parts.{part_bytes}
+use Rattle.os_quote.specs.Item.{item_texts, unit_item}
+use Rattle.os_quote.specs.Shown.{shown_by}
+use Rattle.os_quote.specs.Escape.{items_of}
+use Rattle.os_quote.specs.Escaped.{escape_of}
+use Rattle.os_str_ext.proofs.lemmas.EachChunk.{are_chunks_of}
+use Rattle.os_quote.proofs.lemmas.ItemLengths.{escape_is_short}
+use Rattle.os_quote.proofs.lemmas.Texts.{text_items, item_texts-append}
+use Rattle.os_quote.proofs.lemmas.Pushing.{PushesRest, nothing_pushed, push_both, one_pushed, all_pushed, pushed_all, room_left}
+use Rattle.os_quote.proofs.buffer.push_escape.Goals as goal
+
+pub loop-part-init : goal.loop-part-init
+loop-part-init g c =
+    let shows = shown_by c.args.form in
+    let old = c.args.buffer.now in
+    let all = escape_of shows g.E.Platform.units (bytes c.args.string) in
+    let chunks = c.into_iter-part-iterator.ensures.into_iter_gives ∙ c.utf8_chunks-part-items.ensures.value in
+    let text = ap (λ cs. item_texts (items_of shows g.E.Platform.units cs)) chunks in
+    subst (λ left. PushesRest old 0 old 0 left all) (sym text) (nothing_pushed old 0 all)
+
+pub push_part-count-requires : goal.push_part-count-requires
+push_part-count-requires g c =
+    let P = g.E.Platform in
+    let laws = g.met.E.Platform.laws in
+    let shows = shown_by c.args.form in
+    let units = map unit_item (P.units (part_bytes c.in-Some.part)) in
+    let text = text_items shows c.in-Some.text.now in
+    let left = items_of shows P.units c.next.new.self in
+    let short = escape_is_short shows P.well_formed P.units P.part_units g.met.E.Platform.parts (are_chunks_of P.well_formed laws.cut_front laws.cut_back) (bytes c.args.string) c.args.string.ok in
+    room_left c.loop-part.invariant (item_texts units) (item_texts text ++ item_texts left) (omega (arith, short, c.requires))
+    (ap (λ cs. item_texts (items_of shows P.units cs)) c.in-Some.ensures.steps
+    ∙ item_texts-append (units ++ text) left
+    ∙ ap (λ x. x ++ item_texts left) (item_texts-append units text)
+    ∙ append_assoc (item_texts units) (item_texts text) (item_texts left))
+
+pub push_text-count-requires : goal.push_text-count-requires
+push_text-count-requires g c =
+    let P = g.E.Platform in
+    let laws = g.met.E.Platform.laws in
+    let shows = shown_by c.args.form in
+    let units = map unit_item (P.units (part_bytes c.in-Some.part)) in
+    let text = text_items shows c.in-Some.text.now in
+    let left = items_of shows P.units c.next.new.self in
+    let short = escape_is_short shows P.well_formed P.units P.part_units g.met.E.Platform.parts (are_chunks_of P.well_formed laws.cut_front laws.cut_back) (bytes c.args.string) c.args.string.ok in
+    let step =
+    ap (λ cs. item_texts (items_of shows P.units cs)) c.in-Some.ensures.steps
+    ∙ item_texts-append (units ++ text) left
+    ∙ ap (λ x. x ++ item_texts left) (item_texts-append units text)
+    ∙ append_assoc (item_texts units) (item_texts text) (item_texts left) in
+    room_left (one_pushed c.loop-part.invariant c.push_part-count.ensures step) (item_texts text) (item_texts left) (omega (arith, short, c.requires)) refl
+
+pub loop-part-preserved : goal.loop-part-preserved
+loop-part-preserved g c =
+    let shows = shown_by c.args.form in
+    let units = map unit_item (g.E.Platform.units (part_bytes c.in-Some.part)) in
+    let text = text_items shows c.in-Some.text.now in
+    let left = items_of shows g.E.Platform.units c.next.new.self in
+    let step : item_texts (items_of shows g.E.Platform.units c.loop-part.part-iterator) ≡ (item_texts units ++ item_texts text) ++ item_texts left =
+    ap (λ cs. item_texts (items_of shows g.E.Platform.units cs)) c.in-Some.ensures.steps
+    ∙ item_texts-append (units ++ text) left
+    ∙ ap (λ x. x ++ item_texts left) (item_texts-append units text) in
+    one_pushed c.loop-part.invariant (push_both c.push_part-count.ensures c.push_text-count.ensures) step
+
+pub returns : goal.returns
+returns g c =
+    let shows = shown_by c.args.form in
+    pushed_all (all_pushed c.loop-part.invariant (ap (λ cs. item_texts (items_of shows g.E.Platform.units cs)) c.in-None.ensures.steps.0))

@@ -1,0 +1,41 @@
+use Rattle.std.proofs.Common.{◌≡◌, ◌++◌, ◌+◌, ◌<◌, ◌^◌, [], length, append_assoc, append-nil, ap, ◌∙◌, sym, subst, refl}
+use Rattle.os_quote.specs.Buffers.{token_of, text_escape}
+use Rattle.os_quote.specs.Item.{item_text}
+use Rattle.os_quote.specs.Shown.{shown_by}
+use Rattle.os_quote.proofs.lemmas.Pushing.{push_bytes, push_both, one_pushed, all_pushed, room_left}
+use Rattle.os_quote.proofs.buffer.push_text.Goals as goal
+
+pub push_truncated-len-requires : goal.push_truncated-len-requires
+push_truncated-len-requires c =
+    let front = c.in-Some.front.now in
+    let token = item_text (token_of c.in-Some.character) in
+    let left = text_escape (shown_by c.args.form) c.in-Some.behind.now in
+    subst (λ x. c.loop-front.len + length x < 2 ^ 64) (sym c.as_bytes.ensures.value) (room_left c.loop-front.invariant.1 front (token ++ left) c.requires (c.in-Some.ensures.escape ∙ append_assoc front token left))
+
+pub push_token-len-requires : goal.push_token-len-requires
+push_token-len-requires c =
+    let front = c.in-Some.front.now in
+    let token = item_text (token_of c.in-Some.character) in
+    let left = text_escape (shown_by c.args.form) c.in-Some.behind.now in
+    let pushed = push_bytes c.loop-front.buffer c.loop-front.len c.push_truncated-len.new.buffer c.push_truncated-len.result _ front c.as_bytes.ensures.value c.push_truncated-len.ensures.written c.push_truncated-len.ensures.len in
+    room_left (one_pushed c.loop-front.invariant.1 pushed (c.in-Some.ensures.escape ∙ append_assoc front token left)) token left c.requires refl
+
+pub loop-front-preserved : goal.loop-front-preserved
+loop-front-preserved c =
+    let front = c.in-Some.front.now in
+    let pushed = push_bytes c.loop-front.buffer c.loop-front.len c.push_truncated-len.new.buffer c.push_truncated-len.result _ front c.as_bytes.ensures.value c.push_truncated-len.ensures.written c.push_truncated-len.ensures.len in
+    (c.in-Some.ensures.behind_text, one_pushed c.loop-front.invariant.1 (push_both pushed c.push_token-len.ensures) c.in-Some.ensures.escape)
+
+pub loop-front-smaller : goal.loop-front-smaller
+loop-front-smaller c = c.in-Some.ensures.shorter
+
+pub push_truncated-requires : goal.push_truncated-requires
+push_truncated-requires c =
+    let rest = c.loop-front.rest.now in
+    subst (λ x. c.loop-front.len + length x < 2 ^ 64) (sym c.as_bytes-2.ensures.value) (room_left c.loop-front.invariant.1 rest [] c.requires (c.in_default.ensures ∙ sym (append-nil rest)))
+
+pub returns : goal.returns
+returns c =
+    let rest = c.loop-front.rest.now in
+    let pushed = push_bytes c.loop-front.buffer c.loop-front.len c.push_truncated.new.buffer c.push_truncated.result _ rest c.as_bytes-2.ensures.value c.push_truncated.ensures.written c.push_truncated.ensures.len in
+    all_pushed (one_pushed c.loop-front.invariant.1 pushed (c.in_default.ensures ∙ sym (append-nil rest))) refl

@@ -1,0 +1,76 @@
+-- How long the text of an item is, beside the bytes that it means.
+use Rattle.std.proofs.Common.{◌≡◌, ⊎_elim, ℕ, ◌+◌, ◌*◌, ◌<◌, ◌≤◌, Bool, List, [], ◌∷◌, ◌++◌, length, refl, sym, ap, ◌∙◌, subst, arith, length-append}
+use Rattle.std.specs.Char.{encode_utf8}
+use Rattle.std.specs.List.{AllByRecursion, flat_map}
+use Rattle.std.proofs.lemmas.Bool.{cases_lt}
+use Rattle.std.proofs.lemmas.Bool.Decides.{nat_tests}
+use Rattle.std.proofs.lemmas.Str.{length-encode, len_utf8_bounds}
+use Rattle.wtf8_core.specs.CodePoint.{form}
+use Rattle.wtf8_core.proofs.lemmas.forms.ByStd.{form_encode}
+use Rattle.wtf8_core.proofs.lemmas.forms.Shapes.{form_bounds}
+use Rattle.os_quote.specs.Item.{Item, Character, Backslash, ByteUnit, WideUnit, LongCharacter, wide_digits, long_digits, item_text, item_texts, IsItem}
+use Rattle.wtf8_core.specs.Chunks.{Chunk, AreChunks}
+use Rattle.wtf8_core.proofs.lemmas.chunks.OneList.{some_chunks}
+use Rattle.platform_str.specs.Laws.{PartLaws}
+use Rattle.os_str_ext.specs.Chunks.{IsChunkOf, chunks_of}
+use Rattle.os_quote.specs.Escape.{IsEscapeBy, items_of}
+use Rattle.os_quote.specs.Escaped.{escape_of}
+use Rattle.os_quote.specs.Reading.{item_bytes}
+use Rattle.os_quote.proofs.lemmas.Escapes.{escape_is_items}
+use Rattle.os_quote.proofs.lemmas.Items.{five_digits, six_digits}
+
+-- a text of at most ten bytes, six for each that it means, and none for no byte
+pub record IsShort (text meant : List ℕ) : Type 0 where
+  pub ten : length text ≤ 10
+  pub six : length text ≤ 6 * length meant
+  pub some : length meant ≤ length text
+
+encoded_length : (c : ℕ) → (0 < length (encode_utf8 c)) × (length (encode_utf8 c) ≤ 4)
+encoded_length c = let n = length-encode c in let b = len_utf8_bounds c in (omega (arith, n, b.0), omega (arith, n, b.1))
+
+-- a character past FFFF has four bytes
+long_length : (c : ℕ) → 0x1_0000 ≤ c → 4 ≤ length (form c)
+unfolding form
+long_length c h = grind (arith, nat_tests)
+
+pub digits_length : (c : ℕ) → (5 ≤ length (long_digits c)) × (length (long_digits c) ≤ 6)
+digits_length c =
+    ⊎_elim
+    (λ l. let e = ap length (five_digits c l) in (omega (arith, e), omega (arith, e)))
+    (λ l. let e = ap length (six_digits c l) in (omega (arith, e), omega (arith, e)))
+    (cases_lt c 0x10_0000)
+
+module _ (shows : ℕ → Bool) where
+  pub item_is_short : (i : Item) → IsItem shows i → IsShort (item_text i) (item_bytes i)
+  item_is_short (Character c) h = let e = encoded_length c in record { ten = omega (arith, e.1); six = omega (arith, e.0); some = omega arith }
+  item_is_short Backslash h = record { ten = omega arith; six = omega arith; some = omega arith }
+  item_is_short (ByteUnit u) h = record { ten = omega arith; six = omega arith; some = omega arith }
+  item_is_short (WideUnit u) h = let b = form_bounds u in record { ten = omega arith; six = omega (arith, b.0); some = omega (arith, b.1) }
+  item_is_short (LongCharacter c) h =
+      let d = digits_length c in
+      let e = encoded_length c in
+      let four = long_length c h.1.0 in
+      let same = ap length (form_encode c) in
+      let n = length-append (long_digits c) (0x7D ∷ []) in
+      record { ten = omega (arith, d.1, n); six = omega (arith, d.1, n, four, same); some = omega (arith, d.0, n, e.1) }
+
+  -- the texts of items have at most six bytes for each that they mean, and at least as many
+  pub items_are_short : (items : List Item) → AllByRecursion (IsItem shows) items → (length (item_texts items) ≤ 6 * length (flat_map item_bytes items)) × (length (flat_map item_bytes items) ≤ length (item_texts items))
+  items_are_short [] a = (omega arith, omega arith)
+  items_are_short (i ∷ items) a =
+      let first = item_is_short i a.0 in
+      let rest = items_are_short items a.1 in
+      let t = length-append (item_text i) (item_texts items) in
+      let b = length-append (item_bytes i) (flat_map item_bytes items) in
+      (omega (arith, first.six, rest.0, t, b), omega (arith, first.some, rest.1, t, b))
+
+-- an escape has at most six bytes for each of the string
+pub escape_is_short : (shows : ℕ → Bool) (well_formed : List ℕ → Type 0) (units : List ℕ → List ℕ) (part_units : List ℕ → Type 0) (parts : PartLaws well_formed units part_units)
+    (each : (s : List ℕ) (cs : List Chunk) → well_formed s → AreChunks s cs → AllByRecursion (IsChunkOf well_formed) cs)
+    (s : List ℕ) → well_formed s → length (escape_of shows units s) ≤ 6 * length s
+escape_is_short shows well_formed units part_units parts each s w =
+    let items = items_of shows units (chunks_of s) in
+    let e : IsEscapeBy shows units s (escape_of shows units s) = record { chunks = chunks_of s; are_chunks = (some_chunks s).1; text_is = refl } in
+    let k = escape_is_items shows well_formed units part_units parts each s (escape_of shows units s) w e in
+    let l : length (escape_of shows units s) ≤ 6 * length (flat_map item_bytes items) = (items_are_short shows items k.0).0 in
+    omega (arith, l, ap length k.1)

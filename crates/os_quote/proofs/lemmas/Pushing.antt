@@ -1,0 +1,58 @@
+-- How far a text has been written into a buffer.
+use Rattle.std.proofs.Common.{◌≡◌, ⊎_elim, true, false, ℕ, ◌+◌, ◌<◌, ◌≤◌, ◌^◌, List, [], ◌++◌, length, take, refl, sym, ap, ◌∙◌, subst, arith, append_assoc, append-nil, length-append}
+use Rattle.std.proofs.lemmas.List.{take_all}
+use Rattle.std.proofs.lemmas.Bool.{cases_Bool, cases_eq, ne_eqb}
+use Rattle.wtf8_core.specs.Truncated.{IsTruncated}
+use Rattle.wtf8_core.proofs.lemmas.buffers.Truncated.{none_yet}
+use Rattle.os_quote.specs.Buffers.{Pushes, token_of}
+use Rattle.os_quote.specs.Item.{backslash, character_item}
+use Rattle.os_quote.specs.Shown.{stays_on_line}
+use Rattle.os_quote.specs.Standing.{Stands}
+
+pub push_nothing : (old : List ℕ) (count : ℕ) → Pushes [] old count old count
+push_nothing old count = (λ text buffer h. subst (λ t. IsTruncated t buffer old count) (sym (append-nil text)) h, omega arith)
+
+pub push_same : {a b : List ℕ} {old new : List ℕ} {n m : ℕ} → a ≡ b → Pushes a old n new m → Pushes b old n new m
+push_same {a} {b} {old} {new} {n} {m} e p = subst (λ x. Pushes x old n new m) e p
+
+-- what `push_truncated` says, of equal bytes
+pub push_bytes : (old : List ℕ) (n : ℕ) (new : List ℕ) (m : ℕ) (bytes more : List ℕ) → bytes ≡ more → ((text buffer : List ℕ) → IsTruncated text buffer old n → IsTruncated (text ++ bytes) buffer new m) → m ≡ n + length bytes
+    → Pushes more old n new m
+push_bytes old n new m bytes more e written len = subst (λ x. Pushes x old n new m) e (written, len)
+
+pub push_both : {a b old now new : List ℕ} {n m k : ℕ} → Pushes a old n now m → Pushes b now m new k → Pushes (a ++ b) old n new k
+push_both {a} {b} {old} {now} {new} {n} {m} {k} p q = (
+  λ text buffer h. subst (λ t. IsTruncated t buffer new k) (append_assoc text a b) (q.0 (text ++ a) buffer (p.0 text buffer h)),
+  omega (arith, p.1, q.1, length-append a b),
+)
+
+-- what is pushed onto nothing is all that is there
+pub pushed_all : {a old new : List ℕ} {k : ℕ} → Pushes a old 0 new k → IsTruncated a old new k
+pushed_all {a} {old} {new} {k} p = p.0 [] old (none_yet old)
+
+-- a prefix of `all` is written, and `left` is still to be written
+abbrev pub PushesRest : List ℕ → ℕ → List ℕ → ℕ → List ℕ → List ℕ → Type 0
+PushesRest old n new m left all = (done : List ℕ) × Pushes done old n new m × (done ++ left ≡ all)
+
+pub nothing_pushed : (old : List ℕ) (n : ℕ) (all : List ℕ) → PushesRest old n old n all all
+nothing_pushed old n all = ([], push_nothing old n, refl)
+
+module _ {old now : List ℕ} {n m : ℕ} {left all : List ℕ} (so_far : PushesRest old n now m left all) where
+  pub one_pushed : {new more rest : List ℕ} {k : ℕ} → Pushes more now m new k → left ≡ more ++ rest → PushesRest old n new k rest all
+  one_pushed {new} {more} {rest} {k} p e = (so_far.0 ++ more, push_both so_far.1 p, append_assoc so_far.0 more rest ∙ ap (λ x. so_far.0 ++ x) (sym e) ∙ so_far.2)
+
+  pub all_pushed : left ≡ [] → Pushes all old n now m
+  all_pushed e = push_same (sym (append-nil so_far.0) ∙ ap (λ x. so_far.0 ++ x) (sym e) ∙ so_far.2) so_far.1
+
+  -- there is a number for what is written with what comes next
+  pub room_left : (more rest : List ℕ) → n + length all < 2 ^ 64 → left ≡ more ++ rest → m + length more < 2 ^ 64
+  room_left more rest room e =
+      omega (arith, room, so_far.1.1, ap length so_far.2, length-append so_far.0 left, ap length e, length-append more rest)
+
+-- a character that isn't shown on one line is its token
+pub hidden_token : (c : ℕ) → ¬ (Stands c) → character_item stays_on_line c ≡ token_of c
+hidden_token c h =
+    ⊎_elim
+    (λ (e : c ≡ backslash). subst (λ x. character_item stays_on_line x ≡ token_of x) (sym e) refl)
+    (λ n. rw (ne_eqb c backslash n) (⊎_elim (λ (y : stays_on_line c ≡ true). absurd (h (n, y))) (λ (y : stays_on_line c ≡ false). rw y refl) (cases_Bool (stays_on_line c))))
+    (cases_eq c backslash)
