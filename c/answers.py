@@ -8,7 +8,23 @@ import sys
 from ctypes import byref, c_int32, c_size_t, c_uint16
 from pathlib import Path
 
-from smoke import FAULTY, NONE, OK, UNIX, WASM, WINDOWS, Checker, Fault, chunks, from_wide, load, lossy, rsplit, split
+from smoke import (
+    FAULTY,
+    NONE,
+    OK,
+    UNIX,
+    WASM,
+    WINDOWS,
+    Checker,
+    Fault,
+    chunks,
+    escape,
+    from_wide,
+    load,
+    lossy,
+    rsplit,
+    split,
+)
 
 PLATFORMS = {"unix": UNIX, "windows": WINDOWS, "wasm": WASM}
 KINDS = {1: "byte {:02x}", 2: "cp {:04x}", 3: "end"}
@@ -137,6 +153,10 @@ def join(osb, a, b, _pushed, _repeated, wanted):
     yield "<=>"[order.value + 1], wanted
 
 
+def quote(osb, platform, string, wanted):
+    yield shown(escape(osb.osb_escape, PLATFORMS[platform], raw(string))), wanted
+
+
 FILES = {
     "windows_decode": decode,
     "windows_encode": encode,
@@ -146,6 +166,7 @@ FILES = {
     "checker": pieces,
     "windows_prefix": prefix,
     "windows_join": join,
+    "quote": quote,
 }
 
 

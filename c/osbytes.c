@@ -36,6 +36,7 @@ _Static_assert(sizeof(osb_symbols) == 32 && offsetof(osb_symbols, next) == 16, "
 _Static_assert(offsetof(osb_symbols, platform) == 24, "osb_symbols");
 _Static_assert(sizeof(osb_symbol) == 24 && offsetof(osb_symbol, bytes) == 8, "osb_symbol");
 
+#pragma GCC visibility push(hidden)
 uint32_t osb_core_check(uint32_t platform, const char *at, size_t len, osb_fault *fault);
 void osb_core_start(struct core_open *opened);
 uint32_t osb_core_feed(struct core_open *opened, const char *at, size_t len, osb_fault *fault);
@@ -45,6 +46,10 @@ uint32_t osb_core_to_wide(const char *at, size_t len, uint16_t *out, size_t room
 uint32_t osb_core_from_wide(const uint16_t *at, size_t len, char *out, size_t room, size_t *count);
 uint32_t osb_core_lossy(uint32_t platform, const char *at, size_t len, char *out, size_t room,
                         size_t *count);
+uint32_t osb_core_escape(uint32_t platform, const char *at, size_t len, char *out, size_t room,
+                         size_t *count);
+uint32_t osb_core_escape_line(uint32_t platform, const char *at, size_t len, char *out, size_t room,
+                              size_t *count);
 uint32_t osb_core_find(const char *at, size_t len, const char *pattern, size_t pattern_len,
                        size_t *index);
 uint32_t osb_core_rfind(const char *at, size_t len, const char *pattern, size_t pattern_len,
@@ -65,6 +70,7 @@ uint32_t osb_core_rcut(const char *at, size_t len, const char *pattern, size_t p
 uint32_t osb_core_chunk(const char *at, size_t len, size_t from, struct core_ends *ends);
 uint32_t osb_core_symbol(uint32_t platform, const char *at, size_t len, size_t from,
                          struct core_step *step);
+#pragma GCC visibility pop
 
 /* Where the slices of no items are. */
 static const uint16_t nothing[1];
@@ -206,6 +212,20 @@ size_t osb_lossy_bound(size_t len) {
 osb_status osb_lossy(osb_platform platform, const char *at, size_t len, char *out, size_t room,
                      size_t *count, osb_fault *fault) {
     return write_text(osb_core_lossy, platform, at, len, out, room, count, fault);
+}
+
+size_t osb_escape_bound(size_t len) {
+    return len > SIZE_MAX / 6 ? SIZE_MAX : 6 * len;
+}
+
+osb_status osb_escape(osb_platform platform, const char *at, size_t len, char *out, size_t room,
+                      size_t *count, osb_fault *fault) {
+    return write_text(osb_core_escape, platform, at, len, out, room, count, fault);
+}
+
+osb_status osb_escape_line(osb_platform platform, const char *at, size_t len, char *out,
+                           size_t room, size_t *count, osb_fault *fault) {
+    return write_text(osb_core_escape_line, platform, at, len, out, room, count, fault);
 }
 
 osb_status osb_find(const char *at, size_t len, const char *pattern, size_t pattern_len,

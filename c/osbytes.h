@@ -135,6 +135,21 @@ size_t osb_lossy_bound(size_t len);
 osb_status osb_lossy(osb_platform platform, const char *at, size_t len, char *out, size_t room,
                      size_t *count, osb_fault *fault);
 
+/* How many bytes the escape of a string of so many bytes has at most, in either form; SIZE_MAX past
+ * that. */
+size_t osb_escape_bound(size_t len);
+
+/* Writes the escape of a string, a text (UTF-8) that no other string of the platform has: in it each
+ * backslash is doubled, a unit that is no part of a text is \xHH below 100 (hexadecimal), else
+ * \uHHHH, and all else is as it is. OSB_OK, OSB_FAULTY, OSB_NO_ROOM, OSB_TOO_LONG,
+ * OSB_BAD_PLATFORM. */
+osb_status osb_escape(osb_platform platform, const char *at, size_t len, char *out, size_t room,
+                      size_t *count, osb_fault *fault);
+/* The same for a log line or a terminal: control characters, line separators, bidirectional
+ * controls, zero-width spaces and joiners, and tags are \uHHHH or \u{HHHHH}, too. */
+osb_status osb_escape_line(osb_platform platform, const char *at, size_t len, char *out,
+                           size_t room, size_t *count, osb_fault *fault);
+
 /* The first and the last index at which a pattern, which is UTF-8, occurs in a string of any
  * platform: OSB_OK, OSB_NONE, OSB_BAD_PATTERN. The empty pattern occurs at 0 and at the end. */
 osb_status osb_find(const char *at, size_t len, const char *pattern, size_t pattern_len,

@@ -6,6 +6,7 @@ What it expects comes from Python's own codecs, searches and splits.
 import ctypes
 import random
 import sys
+import unicodedata
 from ctypes import POINTER, Structure, byref, c_char_p, c_int32, c_size_t, c_uint16, c_uint32, c_void_p
 
 
@@ -64,6 +65,7 @@ def load(name):
     osb.osb_rfind.argtypes = osb.osb_find.argtypes
     osb.osb_from_wide.argtypes = [POINTER(c_uint16), c_size_t, c_char_p, c_size_t, POINTER(c_size_t)]
     osb.osb_lossy.argtypes = [c_uint32, c_char_p, c_size_t, c_char_p, c_size_t, POINTER(c_size_t), POINTER(Fault)]
+    osb.osb_escape.argtypes = osb.osb_escape_line.argtypes = osb.osb_lossy.argtypes
     osb.osb_symbols_start.argtypes = [POINTER(Symbols), c_uint32, c_char_p, c_size_t, POINTER(Fault)]
     osb.osb_symbols_next.argtypes = [POINTER(Symbols), POINTER(Symbol)]
     osb.osb_contains.argtypes = [c_char_p, c_size_t, c_char_p, c_size_t]
@@ -127,6 +129,37 @@ def lossy(osb, platform, string):
     return out.raw[: length.value] if status == OK else None
 
 
+def escape(call, platform, string):
+    out, length = ctypes.create_string_buffer(6 * len(string) + 1), c_size_t()
+    assert call(platform, string, len(string), out, 6 * len(string), byref(length), None) == OK
+    return out.raw[: length.value]
+
+
+def stays_on_line(character):
+    code = ord(character)
+    if unicodedata.category(character) in ("Cc", "Zl", "Zp"):
+        return False
+    marks = code in (0x61C, 0x2060, 0xFEFF) or 0x200B <= code <= 0x200F or 0x202A <= code <= 0x202E
+    return not (marks or 0x2066 <= code <= 0x2069 or 0xE0000 <= code <= 0xE007F)
+
+
+def escape_by_python(platform, string, on_line):
+    """The escape of a string of Unix or Windows, by Python's codecs."""
+
+    def written(character):
+        code = ord(character)
+        if character == "\\":
+            return "\\\\"
+        if 0xD800 <= code <= 0xDFFF:
+            return f"\\x{code - 0xDC00:02X}" if platform == UNIX else f"\\u{code:04X}"
+        if on_line and not stays_on_line(character):
+            return f"\\u{code:04X}" if code < 0x10000 else f"\\u{{{code:X}}}"
+        return character
+
+    text = string.decode("utf-8", "surrogateescape" if platform == UNIX else "surrogatepass")
+    return "".join(map(written, text)).encode()
+
+
 def symbols(osb, platform, string):
     it, symbol, found = Symbols(), Symbol(), []
     assert osb.osb_symbols_start(byref(it), platform, string, len(string), None) == OK
@@ -182,6 +215,8 @@ def compare_more(osb, numbers, string, other, pattern):
     whole = osb.osb_check(WINDOWS, string, len(string), None) == OK
     assert is_wtf8(osb, string, numbers) == whole, string
     for platform in [UNIX, WINDOWS] if whole else [UNIX]:
+        for call, on_line in [(osb.osb_escape, False), (osb.osb_escape_line, True)]:
+            assert escape(call, platform, string) == escape_by_python(platform, string, on_line), string
         assert symbols(osb, platform, string) == list(symbols_by_python(platform, string)), string
     if whole:
         units = units_of(string)

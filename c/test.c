@@ -452,8 +452,56 @@ static void symbols(void) {
     EXPECT(osb_symbols_next(&symbols, &symbol) == OSB_FAULTY && symbol.kind == 9);
 }
 
+/* A call that writes a text of a string. */
+typedef osb_status to_text(osb_platform, const char *, size_t, char *, size_t, size_t *, osb_fault *);
+
+/* The string's escape, in every room. */
+static bool escaped(to_text *escape, osb_platform platform, const char *at, size_t len,
+                    const char *text, size_t text_len) {
+    char out[64];
+    size_t count = 0;
+    if (osb_escape_bound(len) < text_len) return false;
+    for (size_t room = 0; room < text_len + 2; room++) {
+        memset(out, 0x55, sizeof out);
+        osb_status status = escape(platform, at, len, room == 0 ? NULL : out, room, &count, NULL);
+        if (count != text_len || status != (room < text_len ? OSB_NO_ROOM : OSB_OK)) return false;
+        if (text_len > 0 && memcmp(out, text, room < text_len ? room : text_len) != 0) return false;
+        if (out[room < text_len ? room : text_len] != 0x55) return false;
+    }
+    return true;
+}
+
+static void bad_escapes(to_text *escape) {
+    char out[64];
+    size_t count = 7;
+    osb_fault fault = {9, 9, 9, 9};
+    EXPECT(escape(OSB_WINDOWS, TEXT("ab\xC0"), out, 8, &count, &fault) == OSB_FAULTY && count == 7);
+    EXPECT(fault.kind == OSB_FAULT_BYTE && fault.value == 0xC0 && fault.place == 2);
+    EXPECT(escape(3, TEXT("a"), out, 8, &count, NULL) == OSB_BAD_PLATFORM && count == 7);
+    EXPECT(escape(OSB_UNIX, NULL, 1, out, 8, &count, NULL) == OSB_BAD_POINTER);
+    EXPECT(escape(OSB_UNIX, TEXT("a"), NULL, 8, &count, NULL) == OSB_BAD_POINTER);
+    EXPECT(escape(OSB_UNIX, TEXT("a"), out, 8, NULL, NULL) == OSB_BAD_POINTER);
+    EXPECT(escape(OSB_UNIX, out + 7, 3, out, 8, &count, NULL) == OSB_BAD_POINTER);
+}
+
+static void escapes(void) {
+    to_text *line = osb_escape_line;
+    EXPECT(osb_escape_bound(5) == 30 && osb_escape_bound(SIZE_MAX) == SIZE_MAX);
+    EXPECT(escaped(osb_escape, OSB_UNIX, TEXT("a\n\\\x80\xFF"), TEXT("a\n\\\\\\x80\\xFF")));
+    EXPECT(escaped(osb_escape, OSB_WINDOWS, TEXT("a\xED\xA0\x80" "b"), TEXT("a\\uD800b")));
+    EXPECT(escaped(osb_escape, OSB_WASM, TEXT("\\\xC3\xA9"), TEXT("\\\\\xC3\xA9")));
+    EXPECT(escaped(osb_escape, OSB_UNIX, NULL, 0, NULL, 0));
+    EXPECT(escaped(line, OSB_UNIX, TEXT("a\n\\\xFF"), TEXT("a\\u000A\\\\\\xFF")));
+    EXPECT(escaped(line, OSB_WINDOWS, TEXT("\xED\xBF\xBF\xE2\x80\xA8"), TEXT("\\uDFFF\\u2028")));
+    EXPECT(escaped(line, OSB_WASM, TEXT("\xF3\xA0\x81\x81z"), TEXT("\\u{E0041}z")));
+    EXPECT(escaped(line, OSB_WASM, NULL, 0, NULL, 0));
+    bad_escapes(osb_escape);
+    bad_escapes(line);
+}
+
 int main(void) {
     checks();
+    escapes();
     symbols();
     checkers();
     from_wide();
