@@ -1,10 +1,11 @@
 //! Escapes: a string comes back from its own, and has one.
-ghost use Rattle.std.specs.Prelude.{◌≡◌, ◌⊎◌, ℕ, List, IsErrAnd, IfOk, IfErr, string_bytes};
+ghost use Rattle.std.specs.Prelude.{◌≡◌, ◌⊎◌, ◌*◌, ◌<◌, ◌^◌, ℕ, List, length, IsErrAnd, IfOk, IfErr, string_bytes};
 ghost use Rattle.std.specs.Str.{IsUtf8};
+ghost use Rattle.wtf8_core.specs.Truncated.{IsTruncated};
 ghost use Rattle.platform_str.specs.Strings.{bytes, string_vec_of};
 ghost use Rattle.os_quote.specs.Escape.{IsEscape, IsBadEscape};
 
-use os_quote::{QuoteError, escape, laws, unescape};
+use os_quote::{QuoteError, escape, laws, unescape, write_escape};
 use platform_str::{OsStr, OsString, Platform};
 use std::alloc::{AllocError, Allocator};
 
@@ -56,4 +57,14 @@ pub fn bad_place_says<E: Platform, A: Allocator>(
 {
     laws::bad_escapes::<E>();
     unescape(alloc, text)
+}
+
+/// The escape of a string of which one is known, in a buffer: that one, truncated.
+pub fn escape_in<E: Platform>(string: OsStr<'_, E>, known: &[u8], buffer: &mut [u8]) -> usize
+    requires known { IsEscape E.units (bytes string) known.now }
+    requires short { 6 * length (bytes string) < 2 ^ 64 }
+    ensures { IsTruncated known.now buffer.old buffer.new result }
+{
+    laws::escapes::<E>();
+    write_escape(string, buffer)
 }

@@ -1,13 +1,14 @@
 //! Escapes on one line: a string comes back from its own, has one, and nothing in it leaves the
 //! line.
-ghost use Rattle.std.specs.Prelude.{◌≡◌, ◌⊎◌, ℕ, List, IsTrue, IsErrAnd, IfOk, IfErr, string_bytes};
+ghost use Rattle.std.specs.Prelude.{◌≡◌, ◌⊎◌, ◌*◌, ◌<◌, ◌^◌, ℕ, List, length, IsTrue, IsErrAnd, IfOk, IfErr, string_bytes};
 ghost use Rattle.std.specs.List.{All};
 ghost use Rattle.std.specs.Str.{IsUtf8, chars};
+ghost use Rattle.wtf8_core.specs.Truncated.{IsTruncated};
 ghost use Rattle.platform_str.specs.Strings.{bytes, string_vec_of};
 ghost use Rattle.os_quote.specs.Shown.{stays_on_line};
 ghost use Rattle.os_quote.specs.Escape.{IsLineEscape, IsBadLineEscape};
 
-use os_quote::{QuoteError, escape_line, laws, unescape_line};
+use os_quote::{QuoteError, escape_line, laws, unescape_line, write_escape_line};
 use platform_str::{OsStr, OsString, Platform};
 use std::alloc::{AllocError, Allocator};
 
@@ -61,4 +62,14 @@ pub fn bad_line_place_says<E: Platform, A: Allocator>(
 {
     laws::line_escapes::<E>();
     unescape_line(alloc, text)
+}
+
+/// The escape on one line of a string of which one is known, in a buffer: that one, truncated.
+pub fn line_escape_in<E: Platform>(string: OsStr<'_, E>, known: &[u8], buffer: &mut [u8]) -> usize
+    requires known { IsLineEscape E.units (bytes string) known.now }
+    requires short { 6 * length (bytes string) < 2 ^ 64 }
+    ensures { IsTruncated known.now buffer.old buffer.new result }
+{
+    laws::line_escapes::<E>();
+    write_escape_line(string, buffer)
 }
