@@ -1,14 +1,22 @@
-//! For trying: what a user of answer files and of the allocator that refuses concludes from their
-//! public contracts alone.
+//! For trying: what a user of the program's library, of answer files and of the allocator that
+//! refuses concludes from their public contracts alone.
 //!
 //! Each function is a caller whose contract is such a conclusion. Nothing here cites a lemma
 //! or a private word of the crates below, so that a contract that says too little breaks a caller.
 #![tactic(auto)]
 
 mod lists;
+mod marks;
 mod plans;
+mod programs;
 mod rows;
+mod runs;
+mod words;
 
 pub use lists::{bytes_again, units_again};
+pub use marks::marked_by_no_bytes;
 pub use plans::{kept, refuses_first, turns};
+pub use programs::{with_words, without_arguments};
 pub use rows::{asked_alike, counts, differs, is_whole, status_of_difference};
+pub use runs::faults_match_marks;
+pub use words::{known_words, splits_at_nothing, too_many_words};

@@ -1,0 +1,50 @@
+//! The whole program, with arguments and without.
+ghost use Rattle.std.specs.Prelude.{◌≡◌, ◌<◌, true, false, OnOk, IsOk, codes, length};
+ghost use Rattle.std.specs.Io.KnownBytes.{Appends};
+ghost use Rattle.std.specs.Process.{exit_status};
+ghost use Rattle.commands.specs.Marked.{has_failed};
+
+use commands::fault::Fault;
+use commands::marked::Marked;
+use commands::program::{Messages, Output, execute};
+use std::alloc::{Allocator, Global};
+use std::io;
+use std::io::{Eprint, ErrorKind, Read};
+use std::process::{ExitCode, Termination};
+
+/// The program where its arguments can't be had: whether it told why, and its status.
+pub fn without_arguments<P: Eprint, A: Allocator, R: Read, W: Output, E: Messages>(
+    rt: &P,
+    alloc: A,
+    reader: &mut Marked<R>,
+    writer: &mut Marked<W>,
+    errors: &mut E,
+) -> (bool, ExitCode)
+    requires reader_unmarked { has_failed reader.old ≡ false }
+    requires writer_unmarked { has_failed writer.old ≡ false }
+    ensures told { result.0 ≡ true → Appends (E.contents errors.old) (E.contents errors.new)
+        (codes "osbytes: usage: osbytes units|raw|find|split|chunks unix|windows|wasm [PAT]\n") }
+    ensures status { exit_status result.1 ≡ 2 }
+    ensures kept { writer.new ≡ writer.old }
+{
+    let arguments = Err(io::Error::from(ErrorKind::InvalidInput));
+    let ended = execute(alloc, arguments, reader, writer, errors);
+    let told = ended.told();
+    (told, ended.report(rt))
+}
+
+/// The program with arguments of which the first is its name.
+pub fn with_words<R: Read, W: Output, E: Messages>(
+    alloc: Global,
+    words: Vec<String>,
+    reader: &mut Marked<R>,
+    writer: &mut Marked<W>,
+    errors: &mut E,
+) -> Result<(), Fault>
+    requires reader_unmarked { has_failed reader.old ≡ false }
+    requires writer_unmarked { has_failed writer.old ≡ false }
+    ensures quiet { OnOk result (errors.new ≡ errors.old) }
+    ensures too_many { 4 < length words.items → ¬ (IsOk result) }
+{
+    execute(alloc, Ok(words.into_iter()), reader, writer, errors).outcome()
+}
