@@ -1,10 +1,5 @@
 -- The chunks of a text.
-use Rattle.std.proofs.Common.{ℕ, ◌+◌, ◌≡◌, List, [], ◌∷◌, length, refl, sym, subst, arith, append-nil}
-use Rattle.std.specs.Str.{IsUtf8}
-use Rattle.wtf8_core.specs.Covered.{IsSeam}
-use Rattle.wtf8_core.specs.Chunks.{Chunk, AreChunks}
-use Rattle.wtf8_core.proofs.lemmas.chunks.OneList.{some_chunks, one_more_chunk}
-use Rattle.wtf8_core.proofs.lemmas.characters.Seams.{over_none, seam_at_start, text_covered}
+use Rattle.os_quote.proofs.Common.{ℕ, ◌+◌, ◌≡◌, List, [], ◌∷◌, length, refl, sym, subst, arith, append-nil, IsUtf8, IsSeam, Chunk, AreChunks, some_chunks, one_more_chunk, over_none, seam_at_start, text_covered}
 use Rattle.os_str_ext.proofs.lemmas.FirstChunk.{no_chunks}
 
 -- the chunks of a text: none, or itself

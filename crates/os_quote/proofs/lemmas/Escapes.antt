@@ -1,23 +1,9 @@
 -- Escapes, and their strings.
-use Rattle.std.proofs.Common.{◌≡◌, ⊎_elim, inl, inr, ℕ, ◌<◌, ◌^◌, Bool, List, [], ◌∷◌, ◌++◌, map, length, refl, sym, ap, ◌∙◌, arith, append_assoc, append-nil, length-append}
-use Rattle.std.specs.List.{AllByRecursion, flat_map}
-use Rattle.std.specs.Str.{IsUtf8}
-use Rattle.std.proofs.lemmas.Bool.{lt-ltb, le-ltb, cases_lt}
-use Rattle.std.proofs.lemmas.List.Elements.{recursion_from_All}
-use Rattle.wtf8_core.specs.Chunks.{Chunk, joined, AreChunks}
-use Rattle.wtf8_core.specs.Covered.{IsBare}
+use Rattle.os_quote.proofs.Common.{◌≡◌, ⊎_elim, inl, inr, ℕ, ◌<◌, ◌^◌, Bool, List, [], ◌∷◌, ◌++◌, map, length, refl, sym, ap, ◌∙◌, arith, append_assoc, append-nil, length-append, AllByRecursion, flat_map, IsUtf8, lt-ltb, le-ltb, cases_lt, recursion_from_All, Chunk, joined, AreChunks, IsBare, some_chunks, chunks_once, form_bounds, PartLaws, chunks_of, Item, backslash, item_texts, IsItem, unit_item, chunk_items, items_of, IsEscapeBy, IsBadEscapeBy, item_bytes, IsChunkOf}
 use Rattle.wtf8_core.specs.PartUnits.{unit_bytes}
 use Rattle.wtf8_core.proofs.lemmas.characters.AtPlaces.{character_fits}
-use Rattle.wtf8_core.proofs.lemmas.chunks.OneList.{some_chunks, chunks_once}
-use Rattle.wtf8_core.proofs.lemmas.forms.Shapes.{form_bounds}
-use Rattle.platform_str.specs.Laws.{PartLaws}
-use Rattle.os_str_ext.specs.Chunks.{chunks_of}
-use Rattle.os_quote.specs.Item.{Item, backslash, item_texts, IsItem, unit_item}
-use Rattle.os_quote.specs.Escape.{chunk_items, items_of, IsEscapeBy, IsBadEscapeBy}
-use Rattle.os_quote.specs.Reading.{item_bytes}
 use Rattle.os_quote.proofs.lemmas.Items.{same_items}
 use Rattle.os_quote.proofs.lemmas.Texts.{text_items, text_escape, text_is_items}
-use Rattle.os_str_ext.specs.Chunks.{IsChunkOf}
 use Rattle.os_quote.proofs.lemmas.Chunks.{own_chunks, text_chunks}
 
 pub bytes_of-append : (xs ys : List Item) → flat_map item_bytes (xs ++ ys) ≡ flat_map item_bytes xs ++ flat_map item_bytes ys

@@ -1,16 +1,5 @@
 -- Escapes of strings that begin with a text of which each character is unchanged.
-use Rattle.std.proofs.Common.{◌≡◌, ⊎_elim, ℕ, ◌+◌, ◌-◌, ◌<◌, Bool, true, false, List, [], ◌∷◌, ◌++◌, map, length, refl, sym, ap, ◌∙◌, subst, arith, append_assoc, append-nil, length-append}
-use Rattle.std.specs.Str.{IsUtf8, chars}
-use Rattle.std.proofs.lemmas.Bool.{cases_lt}
-use Rattle.std.proofs.lemmas.Str.{chars-append}
-use Rattle.wtf8_core.specs.Covered.{IsCovered, IsSeam}
-use Rattle.wtf8_core.specs.Chunks.{Chunk, joined, AreChunks}
-use Rattle.wtf8_core.proofs.lemmas.chunks.OneList.{AreChunksFrom, chunks_from_start, are_chunks, some_chunks, chunks_once, one_more_chunk}
-use Rattle.wtf8_core.proofs.lemmas.characters.Seams.{Covered, over_none, covered_within, covered_behind, seam_at_start, text_covered}
-use Rattle.os_str_ext.specs.Chunks.{chunks_of}
-use Rattle.os_quote.specs.Item.{Item, item_texts, unit_item, character_item}
-use Rattle.os_quote.specs.Escape.{items_of}
-use Rattle.os_quote.specs.Escaped.{escape_of}
+use Rattle.os_quote.proofs.Common.{◌≡◌, ⊎_elim, ℕ, ◌+◌, ◌-◌, ◌<◌, Bool, true, false, List, [], ◌∷◌, ◌++◌, map, length, refl, sym, ap, ◌∙◌, subst, arith, append_assoc, append-nil, length-append, IsUtf8, chars, cases_lt, chars-append, IsCovered, IsSeam, Chunk, joined, AreChunks, AreChunksFrom, chunks_from_start, are_chunks, some_chunks, chunks_once, one_more_chunk, Covered, over_none, covered_within, covered_behind, seam_at_start, text_covered, chunks_of, Item, item_texts, unit_item, character_item, items_of, escape_of}
 use Rattle.os_quote.proofs.lemmas.Texts.{text_items, text_escape, map-append, item_texts-append}
 
 module _ (p r : List ℕ) (u : IsUtf8 p) (some : 0 < length p) where

@@ -1,19 +1,6 @@
 -- Characters that stand as they are, between suspects.
-use Rattle.std.proofs.Common.{◌≡◌, ◌≢◌, ⊎_elim, ℕ, suc, ◌+◌, ◌-◌, ◌/◌, ◌%◌, ◌<◌, ◌≤◌, true, false, List, [], ◌∷◌, ◌++◌, length, take, drop, get_or, sym, ap, ◌∙◌, subst, arith, append_assoc, take-append-drop, length-append, length-drop, get_or-drop}
-use Rattle.std.specs.Char.{IsScalar, encode_utf8}
-use Rattle.std.specs.List.{AllByRecursion}
-use Rattle.std.specs.Str.{IsUtf8, IsCharBoundary, chars, all_scalars, encode_utf8_all}
-use Rattle.std.proofs.lemmas.Bool.{and_parts, cases_lt}
-use Rattle.std.proofs.lemmas.Bool.Decides.{nat_tests}
-use Rattle.std.proofs.lemmas.List.{append_cancel_right, length-take-le, drop_at, take_all}
-use Rattle.std.proofs.lemmas.Str.{IsCharBoundary-at_seam, IsCharBoundary-end, IsUtf8-between, IsUtf8-take, IsUtf8-drop, IsUtf8-past_char, chars-nil, chars-append, chars_past_char, encodes-chars, scalars-chars, length-encode, len_utf8_bounds}
+use Rattle.os_quote.proofs.Common.{◌≡◌, ◌≢◌, ⊎_elim, ℕ, suc, ◌+◌, ◌-◌, ◌/◌, ◌%◌, ◌<◌, ◌≤◌, true, false, List, [], ◌∷◌, ◌++◌, length, take, drop, get_or, sym, ap, ◌∙◌, subst, arith, append_assoc, take-append-drop, length-append, length-drop, get_or-drop, IsScalar, encode_utf8, AllByRecursion, IsUtf8, IsCharBoundary, chars, all_scalars, encode_utf8_all, and_parts, cases_lt, nat_tests, append_cancel_right, length-take-le, drop_at, take_all, IsCharBoundary-at_seam, IsCharBoundary-end, IsUtf8-between, IsUtf8-take, IsUtf8-drop, IsUtf8-past_char, chars-nil, chars-append, chars_past_char, encodes-chars, scalars-chars, length-encode, len_utf8_bounds, scalar, scalar_cases, form, form_ascii, form_past, form_encode, stays_on_line, is_suspect, Stands, AllStand, AllClear, IsNextSuspect}
 use Rattle.std.proofs.Math.Seq.{take-add}
-use Rattle.std.proofs.Math.Utf8.{scalar, scalar_cases}
-use Rattle.wtf8_core.specs.CodePoint.{form}
-use Rattle.wtf8_core.proofs.lemmas.forms.Shapes.{form_ascii, form_past}
-use Rattle.wtf8_core.proofs.lemmas.forms.ByStd.{form_encode}
-use Rattle.os_quote.specs.Shown.{stays_on_line}
-use Rattle.os_quote.specs.Standing.{is_suspect, Stands, AllStand, AllClear, IsNextSuspect}
 
 -- no byte is a suspect, where others follow
 abbrev ClearIn : List ℕ → List ℕ → Type 0

@@ -1,21 +1,5 @@
 -- How long the text of an item is, beside the bytes that it means.
-use Rattle.std.proofs.Common.{◌≡◌, ⊎_elim, ℕ, ◌+◌, ◌*◌, ◌<◌, ◌≤◌, Bool, List, [], ◌∷◌, ◌++◌, length, refl, sym, ap, ◌∙◌, subst, arith, length-append}
-use Rattle.std.specs.Char.{encode_utf8}
-use Rattle.std.specs.List.{AllByRecursion, flat_map}
-use Rattle.std.proofs.lemmas.Bool.{cases_lt}
-use Rattle.std.proofs.lemmas.Bool.Decides.{nat_tests}
-use Rattle.std.proofs.lemmas.Str.{length-encode, len_utf8_bounds}
-use Rattle.wtf8_core.specs.CodePoint.{form}
-use Rattle.wtf8_core.proofs.lemmas.forms.ByStd.{form_encode}
-use Rattle.wtf8_core.proofs.lemmas.forms.Shapes.{form_bounds}
-use Rattle.os_quote.specs.Item.{Item, Character, Backslash, ByteUnit, WideUnit, LongCharacter, wide_digits, long_digits, item_text, item_texts, IsItem}
-use Rattle.wtf8_core.specs.Chunks.{Chunk, AreChunks}
-use Rattle.wtf8_core.proofs.lemmas.chunks.OneList.{some_chunks}
-use Rattle.platform_str.specs.Laws.{PartLaws}
-use Rattle.os_str_ext.specs.Chunks.{IsChunkOf, chunks_of}
-use Rattle.os_quote.specs.Escape.{IsEscapeBy, items_of}
-use Rattle.os_quote.specs.Escaped.{escape_of}
-use Rattle.os_quote.specs.Reading.{item_bytes}
+use Rattle.os_quote.proofs.Common.{◌≡◌, ⊎_elim, ℕ, ◌+◌, ◌*◌, ◌<◌, ◌≤◌, Bool, List, [], ◌∷◌, ◌++◌, length, refl, sym, ap, ◌∙◌, subst, arith, length-append, encode_utf8, AllByRecursion, flat_map, cases_lt, nat_tests, length-encode, len_utf8_bounds, form, form_encode, form_bounds, Item, Character, Backslash, ByteUnit, WideUnit, LongCharacter, wide_digits, long_digits, item_text, item_texts, IsItem, Chunk, AreChunks, some_chunks, PartLaws, IsChunkOf, chunks_of, IsEscapeBy, items_of, escape_of, item_bytes}
 use Rattle.os_quote.proofs.lemmas.Escapes.{escape_is_items}
 use Rattle.os_quote.proofs.lemmas.Items.{five_digits, six_digits}
 

@@ -1,12 +1,5 @@
 -- Items and their texts, one to one: a text is read in one way.
-use Rattle.std.proofs.Common.{◌≡◌, ◌≢◌, ◌⊎◌, inl, inr, ⊎_elim, ℕ, ◌+◌, ◌/◌, ◌%◌, ◌<◌, ◌≤◌, Bool, List, [], ◌∷◌, ◌++◌, length, refl, sym, ap, ◌∙◌, arith, append_assoc, length-append}
-use Rattle.std.specs.Char.{encode_utf8}
-use Rattle.std.specs.List.{AllByRecursion}
-use Rattle.std.proofs.lemmas.Bool.{lt-ltb, le-ltb, cases_lt}
-use Rattle.std.proofs.lemmas.Str.{encode_same, encode_ascii, length-encode, len_utf8_bounds}
-use Rattle.wtf8_core.specs.FaultText.{upper_hex_digit}
-use Rattle.os_quote.specs.Item.{Item, Character, Backslash, ByteUnit, WideUnit, LongCharacter, backslash, byte_digits, wide_digits, long_digits, item_text, item_texts, IsItem}
-use Rattle.os_quote.specs.Escape.{BeginsNoToken}
+use Rattle.os_quote.proofs.Common.{◌≡◌, ◌≢◌, ◌⊎◌, inl, inr, ⊎_elim, ℕ, ◌+◌, ◌/◌, ◌%◌, ◌<◌, ◌≤◌, Bool, List, [], ◌∷◌, ◌++◌, length, refl, sym, ap, ◌∙◌, arith, append_assoc, length-append, encode_utf8, AllByRecursion, lt-ltb, le-ltb, cases_lt, encode_same, encode_ascii, length-encode, len_utf8_bounds, upper_hex_digit, Item, Character, Backslash, ByteUnit, WideUnit, LongCharacter, backslash, byte_digits, wide_digits, long_digits, item_text, item_texts, IsItem, BeginsNoToken}
 
 -- the digits below 10 and from 10 on
 pub digit_low : (d : ℕ) → d < 10 → upper_hex_digit d ≡ 48 + d

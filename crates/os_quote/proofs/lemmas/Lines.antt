@@ -1,22 +1,8 @@
 -- That an escape on one line stays there.
-use Rattle.std.proofs.Common.{◌≡◌, ⊎_elim, ℕ, ◌/◌, ◌%◌, ◌<◌, true, List, [], ◌∷◌, ◌++◌, map, length, IsTrue, refl, sym, ap, ◌∙◌, subst, arith, append_assoc, append-nil, length-append}
-use Rattle.std.specs.Char.{encode_utf8}
-use Rattle.std.specs.List.{All, AllByRecursion}
-use Rattle.std.specs.Str.{IsUtf8, chars, encode_utf8_all}
-use Rattle.std.proofs.lemmas.Bool.{cases_lt, cases_eq, cases_Bool, ne_eqb, lt-ltb, le-ltb}
-use Rattle.std.proofs.lemmas.List.Elements.{All-from_recursion}
-use Rattle.std.proofs.lemmas.Str.{chars-append, chars-nil, chars_past_char, chars-IsAscii, IsUtf8-encode, encodes-chars, length-encode, len_utf8_bounds}
-use Rattle.wtf8_core.specs.Chunks.{Chunk, AreChunks}
-use Rattle.wtf8_core.specs.FaultText.{upper_hex_digit}
-use Rattle.platform_str.specs.Laws.{PartLaws}
-use Rattle.os_quote.specs.Item.{Item, Character, Backslash, ByteUnit, WideUnit, LongCharacter, backslash, wide_digits, long_digits, item_text, item_texts, IsLong, IsItem, unit_item, hidden_item, character_item}
-use Rattle.os_quote.specs.Shown.{stays_on_line}
-use Rattle.os_quote.specs.Standing.{Stands, AllStand, IsCutAtHidden}
-use Rattle.os_quote.specs.Escape.{chunk_items, items_of, IsLineEscape}
+use Rattle.os_quote.proofs.Common.{◌≡◌, ⊎_elim, ℕ, ◌/◌, ◌%◌, ◌<◌, true, List, [], ◌∷◌, ◌++◌, map, length, IsTrue, refl, sym, ap, ◌∙◌, subst, arith, append_assoc, append-nil, length-append, encode_utf8, All, AllByRecursion, IsUtf8, chars, encode_utf8_all, cases_lt, cases_eq, cases_Bool, ne_eqb, lt-ltb, le-ltb, All-from_recursion, chars-append, chars-nil, chars_past_char, chars-IsAscii, IsUtf8-encode, encodes-chars, length-encode, len_utf8_bounds, Chunk, AreChunks, upper_hex_digit, PartLaws, Item, Character, Backslash, ByteUnit, WideUnit, LongCharacter, backslash, wide_digits, long_digits, item_text, item_texts, IsLong, IsItem, unit_item, hidden_item, character_item, stays_on_line, Stands, AllStand, IsCutAtHidden, chunk_items, items_of, IsLineEscape, IsChunkOf}
 use Rattle.os_quote.proofs.lemmas.Items.{digit_low, digit_high, five_digits, six_digits}
 use Rattle.os_quote.proofs.lemmas.Shown.{ascii_stays}
 use Rattle.os_quote.proofs.lemmas.Texts.{text_items, text_escape, text_behind, map-append, item_texts-append}
-use Rattle.os_str_ext.specs.Chunks.{IsChunkOf}
 use Rattle.os_quote.proofs.lemmas.Escapes.{escape_is_items}
 use Rattle.os_quote.proofs.lemmas.Readings.{ascii_all, ascii_byte_unit, ascii_wide_unit, ascii_long_character, item_is_text}
 

@@ -1,11 +1,5 @@
 -- Digits between braces.
-use Rattle.std.proofs.Common.{◌≡◌, ◌≢◌, ⊎_elim, ℕ, ◌+◌, ◌*◌, ◌/◌, ◌%◌, ◌<◌, ◌≤◌, List, [], ◌∷◌, ◌++◌, sym, ap, ◌∙◌, arith}
-use Rattle.std.specs.Char.{OutOfScalarRange}
-use Rattle.std.specs.Int.{IsInRange}
-use Rattle.std.proofs.lemmas.Bool.{cases_lt}
-use Rattle.wtf8_core.specs.FaultText.{upper_hex_digit}
-use Rattle.os_quote.specs.Item.{byte_digits, wide_digits, long_digits, IsLong}
-use Rattle.os_quote.specs.Reading.{HasNoWide, HasNoLong, HasNoClosed, HasNoFive, HasNoSix, IsClosed, IsFive, IsSix}
+use Rattle.os_quote.proofs.Common.{◌≡◌, ◌≢◌, ⊎_elim, ℕ, ◌+◌, ◌*◌, ◌/◌, ◌%◌, ◌<◌, ◌≤◌, List, [], ◌∷◌, ◌++◌, sym, ap, ◌∙◌, arith, OutOfScalarRange, IsInRange, cases_lt, upper_hex_digit, byte_digits, wide_digits, long_digits, IsLong, HasNoWide, HasNoLong, HasNoClosed, HasNoFive, HasNoSix, IsClosed, IsFive, IsSix}
 use Rattle.os_quote.proofs.lemmas.Items.{tails, digit_same, wide_same, five_digits, six_digits}
 
 -- a code point past FFFF has five digits or six

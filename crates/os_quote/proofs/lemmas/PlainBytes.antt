@@ -1,14 +1,5 @@
 -- Plain bytes: texts that both forms show unchanged.
-use Rattle.std.proofs.Common.{◌≡◌, ⊎_elim, ℕ, zero, suc, ◌+◌, ◌-◌, ◌<◌, ◌≤◌, true, List, [], ◌∷◌, ◌++◌, map, length, take, get_or, refl, sym, ap, ◌∙◌, subst, arith, append_assoc, rules}
-use Rattle.std.specs.List.{AllByRecursion}
-use Rattle.std.specs.Str.{IsUtf8}
-use Rattle.std.specs.Fmt.{HasWrittenStyled, IsFlush}
-use Rattle.std.specs.declared.fmt.Formatter.{Formatter}
-use Rattle.std.proofs.lemmas.Bool.{cases_lt, ne_eqb}
-use Rattle.std.proofs.lemmas.Str.{chars-IsAscii, encode_ascii, IsUtf8-from_ascii}
-use Rattle.os_quote.specs.Item.{Character, backslash, item_text, item_texts, character_item}
-use Rattle.os_quote.specs.Shown.{shown_by}
-use Rattle.os_quote.specs.Plain.{IsPlain, IsPlainUpTo, IsAfterPlain}
+use Rattle.os_quote.proofs.Common.{◌≡◌, ⊎_elim, ℕ, zero, suc, ◌+◌, ◌-◌, ◌<◌, ◌≤◌, true, List, [], ◌∷◌, ◌++◌, map, length, take, get_or, refl, sym, ap, ◌∙◌, subst, arith, append_assoc, rules, AllByRecursion, IsUtf8, HasWrittenStyled, IsFlush, Formatter, cases_lt, ne_eqb, chars-IsAscii, encode_ascii, IsUtf8-from_ascii, Character, backslash, item_text, item_texts, character_item, shown_by, IsPlain, IsPlainUpTo, IsAfterPlain}
 use Rattle.os_quote.specs.declared.form.Form.{Form}
 use Rattle.os_quote.specs.declared.form.Form.TheVariants.{Text, Line}
 use Rattle.os_quote.proofs.lemmas.Readings.{ascii_all}

@@ -1,12 +1,6 @@
 -- The operations on vectors that find plain bytes, lane by lane.
-use Rattle.std.proofs.Common.{◌≡◌, ℕ, ◌%◌, ◌^◌, ◌<◌, ◌≤◌, true, false, cond, ltb, List, map, length, get_or, bit_xor, replicate, refl, sym, ap, ◌∙◌, arith, w8, eqb, eqb-true}
-use Rattle.std.proofs.lemmas.Bool.{ltb-false}
-use Rattle.std.proofs.lemmas.List.{length-map}
-use Rattle.std.proofs.lemmas.Bool.Decides.{nat_tests}
+use Rattle.os_quote.proofs.Common.{◌≡◌, ℕ, ◌%◌, ◌^◌, ◌<◌, ◌≤◌, true, false, cond, ltb, List, map, length, get_or, bit_xor, replicate, refl, sym, ap, ◌∙◌, arith, w8, eqb, eqb-true, ltb-false, length-map, nat_tests, xor_self, none_set, IsPlain}
 use Rattle.std.proofs.lemmas.Simd.{get_or-zip2, get_or-sel_l, length-zip2, tops_compared, zip2_splat_left, mask_l-mod, bitmask_splat}
-use Rattle.std.specs.Int.Bits.{xor_self}
-use Rattle.wtf8_core.proofs.lemmas.scan.Lanes.{none_set}
-use Rattle.os_quote.specs.Plain.{IsPlain}
 use lib.Lanes.{zip2, sel_l, mask_l, top}
 
 -- the lanes of the first where they are below those of the second, and else those of other vectors

@@ -1,13 +1,7 @@
 -- How far a text has been written into a buffer.
-use Rattle.std.proofs.Common.{◌≡◌, ⊎_elim, true, false, ℕ, ◌+◌, ◌<◌, ◌≤◌, ◌^◌, List, [], ◌++◌, length, take, refl, sym, ap, ◌∙◌, subst, arith, append_assoc, append-nil, length-append}
-use Rattle.std.proofs.lemmas.List.{take_all}
-use Rattle.std.proofs.lemmas.Bool.{cases_Bool, cases_eq, ne_eqb}
+use Rattle.os_quote.proofs.Common.{◌≡◌, ⊎_elim, true, false, ℕ, ◌+◌, ◌<◌, ◌≤◌, ◌^◌, List, [], ◌++◌, length, take, refl, sym, ap, ◌∙◌, subst, arith, append_assoc, append-nil, length-append, take_all, cases_Bool, cases_eq, ne_eqb, Pushes, token_of, backslash, character_item, stays_on_line, Stands}
 use Rattle.wtf8_core.specs.Truncated.{IsTruncated}
 use Rattle.wtf8_core.proofs.lemmas.buffers.Truncated.{none_yet}
-use Rattle.os_quote.specs.Buffers.{Pushes, token_of}
-use Rattle.os_quote.specs.Item.{backslash, character_item}
-use Rattle.os_quote.specs.Shown.{stays_on_line}
-use Rattle.os_quote.specs.Standing.{Stands}
 
 pub push_nothing : (old : List ℕ) (count : ℕ) → Pushes [] old count old count
 push_nothing old count = (λ text buffer h. subst (λ t. IsTruncated t buffer old count) (sym (append-nil text)) h, omega arith)

@@ -1,23 +1,10 @@
 -- How far a text has been read.
-use Rattle.std.proofs.Common.{◌≡◌, ⊎_elim, inl, inr, ℕ, zero, suc, Bool, ◌-◌, ◌<◌, ◌/◌, ◌%◌, List, [], ◌∷◌, ◌++◌, length, refl, sym, ap, ◌∙◌, subst, arith, append_assoc, append-nil, length-append}
-use Rattle.std.specs.List.{AllByRecursion, flat_map}
-use Rattle.std.specs.Str.{IsUtf8, IsAscii}
-use Rattle.std.proofs.lemmas.Bool.{cases_lt}
-use Rattle.std.proofs.lemmas.Str.{IsUtf8-nil, IsUtf8-append, IsUtf8-encode, IsUtf8-from_ascii}
-use Rattle.wtf8_core.specs.Chunks.{Chunk, AreChunks}
-use Rattle.wtf8_core.specs.CodePoint.{form}
-use Rattle.platform_str.specs.Laws.{PartLaws}
-use Rattle.wtf8_core.specs.FaultText.{upper_hex_digit}
+use Rattle.os_quote.proofs.Common.{◌≡◌, ⊎_elim, inl, inr, ℕ, zero, suc, Bool, ◌-◌, ◌<◌, ◌/◌, ◌%◌, List, [], ◌∷◌, ◌++◌, length, refl, sym, ap, ◌∙◌, subst, arith, append_assoc, append-nil, length-append, AllByRecursion, flat_map, IsUtf8, IsAscii, cases_lt, IsUtf8-nil, IsUtf8-append, IsUtf8-encode, IsUtf8-from_ascii, Chunk, AreChunks, form, PartLaws, upper_hex_digit, Item, Character, Backslash, ByteUnit, WideUnit, LongCharacter, backslash, wide_digits, long_digits, item_text, item_texts, IsLong, IsItem, is_any, BeginsNoToken, IsBadEscapeBy, IsEscapeBy, items_of, HasNoBackslash, IsCutAtBackslash, IsRead, item_bytes, IsChunkOf}
 use Rattle.wtf8_core.specs.Wtf8.{HasUnits}
 use Rattle.wtf8_core.proofs.lemmas.units.OneToOne.{units_once, wide_single}
-use Rattle.os_quote.specs.Item.{Item, Character, Backslash, ByteUnit, WideUnit, LongCharacter, backslash, wide_digits, long_digits, item_text, item_texts, IsLong, IsItem}
-use Rattle.os_quote.specs.Shown.{is_any}
-use Rattle.os_quote.specs.Escape.{BeginsNoToken, IsBadEscapeBy, IsEscapeBy, items_of}
-use Rattle.os_quote.specs.Reading.{HasNoBackslash, IsCutAtBackslash, IsRead, item_bytes}
 use Rattle.os_quote.proofs.lemmas.Items.{digit_low, digit_high, five_digits, six_digits, some_bytes, same_items}
 use Rattle.os_quote.proofs.lemmas.Texts.{text_items, text_is_items, own_text, item_texts-append, text_behind}
 use Rattle.os_quote.proofs.lemmas.Escapes.{all-append, bytes_of-append, one_reading, escape_is_items}
-use Rattle.os_str_ext.specs.Chunks.{IsChunkOf}
 
 -- tokens are ASCII
 pub ascii_all : (bs : List ℕ) → AllByRecursion (λ b. b < 128) bs → IsAscii bs

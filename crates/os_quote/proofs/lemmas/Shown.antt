@@ -1,7 +1,5 @@
 -- What each form shows.
-use Rattle.std.proofs.Common.{◌≡◌, ℕ, ◌<◌, ◌≤◌, true, arith}
-use Rattle.std.proofs.lemmas.Bool.Decides.{nat_tests}
-use Rattle.os_quote.specs.Shown.{stays_on_line}
+use Rattle.os_quote.proofs.Common.{◌≡◌, ℕ, ◌<◌, ◌≤◌, true, arith, nat_tests, stays_on_line}
 
 -- ASCII from the space to the tilde
 pub ascii_stays : (b : ℕ) → 0x20 ≤ b → b < 0x7F → stays_on_line b ≡ true

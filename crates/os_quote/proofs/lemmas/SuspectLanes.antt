@@ -1,14 +1,8 @@
 -- What the tables say of neighbouring bytes.
-use Rattle.std.proofs.Common.{◌≡◌, ◌≢◌, ⊎_elim, ℕ, ◌+◌, ◌-◌, ◌<◌, ◌≤◌, ◌/◌, Bool, true, false, ◌&&◌, ◌||◌, eqb, bit_and, refl, sym, ap, ◌∙◌, subst, arith}
+use Rattle.os_quote.proofs.Common.{◌≡◌, ◌≢◌, ⊎_elim, ℕ, ◌+◌, ◌-◌, ◌<◌, ◌≤◌, ◌/◌, Bool, true, false, ◌&&◌, ◌||◌, eqb, bit_and, refl, sym, ap, ◌∙◌, subst, arith, IsInRange, is_in_range, and_zero_l, slice_index, all_below, each_below, fails_within, fails, SECOND_HIGH, THIRD_HIGH, is_general, is_suspect, lead_bits, pair_bits, suspect_bits}
 use Rattle.std.proofs.lemmas.Bool.{and_parts, cases_Bool, or_cases, eq-eqb, eqb-true, ltb-true}
 use Rattle.std.proofs.lemmas.Nat.{and_assoc}
-use Rattle.std.specs.Int.{IsInRange, is_in_range}
-use Rattle.std.specs.Int.Bits.{and_zero_l}
-use Rattle.std.specs.List.{slice_index}
-use Rattle.wtf8_core.proofs.lemmas.scan.ComputedTests.{all_below, each_below, fails_within, fails}
 use Rattle.wtf8_core.proofs.lemmas.forms.Ranges.{in_range-true}
-use Rattle.os_quote.specs.declared.lanes.TheConstants.{SECOND_HIGH, THIRD_HIGH}
-use Rattle.os_quote.specs.Standing.{is_general, is_suspect, lead_bits, pair_bits, suspect_bits}
 
 -- the bits of bytes by what the tables have of each
 pub pair_of : (x y lead second : ℕ) → lead ≡ lead_bits x → second ≡ slice_index SECOND_HIGH (y / 16) → bit_and lead second ≡ pair_bits x y

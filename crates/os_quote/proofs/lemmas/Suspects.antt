@@ -1,7 +1,5 @@
 -- Suspects: none from one index up to another.
-use Rattle.std.proofs.Common.{◌≡◌, ⊎_elim, ℕ, ◌+◌, ◌-◌, ◌<◌, false, List, get_or, drop, subst, arith, get_or-drop}
-use Rattle.std.proofs.lemmas.Bool.{cases_lt}
-use Rattle.os_quote.specs.Standing.{is_suspect, AllClear}
+use Rattle.os_quote.proofs.Common.{◌≡◌, ⊎_elim, ℕ, ◌+◌, ◌-◌, ◌<◌, false, List, get_or, drop, subst, arith, get_or-drop, cases_lt, is_suspect, AllClear}
 
 -- the byte at an index is none
 abbrev IsClear : List ℕ → ℕ → Type 0

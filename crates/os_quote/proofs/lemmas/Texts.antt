@@ -1,17 +1,6 @@
 -- Texts: the backslashes in them, and the items of their characters.
-use Rattle.std.proofs.Common.{◌≡◌, ◌≢◌, ⊎_elim, ℕ, zero, suc, ◌+◌, ◌<◌, ◌≤◌, Bool, true, false, List, [], ◌∷◌, ◌++◌, map, length, take, drop, get_or, refl, sym, ap, ◌∙◌, subst, arith, append_assoc, take-append-drop, length-append}
-use Rattle.std.specs.Char.{IsScalar, encode_utf8}
-use Rattle.std.specs.List.{AllByRecursion, flat_map}
-use Rattle.std.specs.Str.{IsUtf8, IsCharBoundary, chars, all_scalars, encode_utf8_all}
+use Rattle.os_quote.proofs.Common.{◌≡◌, ◌≢◌, ⊎_elim, ℕ, zero, suc, ◌+◌, ◌<◌, ◌≤◌, Bool, true, false, List, [], ◌∷◌, ◌++◌, map, length, take, drop, get_or, refl, sym, ap, ◌∙◌, subst, arith, append_assoc, take-append-drop, length-append, IsScalar, encode_utf8, AllByRecursion, flat_map, IsUtf8, IsCharBoundary, chars, all_scalars, encode_utf8_all, drop_more, take_at, drop_at, IsCharBoundary-after_ascii, IsCharBoundary-from_take, IsUtf8-drop, encode_ascii, chars-append, chars_past_char, encodes-chars, scalars-chars, scalar, scalar_cases, NoneBefore, Passes, is_byte, form_encode, Item, backslash, item_text, item_texts, IsItem, hidden_item, character_item, is_any, HasNoBackslash, item_bytes}
 use Rattle.std.proofs.lemmas.Bool.{and_parts, cases_eq, cases_lt, cases_Bool, lt-ltb, le-ltb, ne_eqb, eq-eqb, eqb-true}
-use Rattle.std.proofs.lemmas.List.{drop_more, take_at, drop_at}
-use Rattle.std.proofs.lemmas.Str.{IsCharBoundary-after_ascii, IsCharBoundary-from_take, IsUtf8-drop, encode_ascii, chars-append, chars_past_char, encodes-chars, scalars-chars}
-use Rattle.std.proofs.Math.Utf8.{scalar, scalar_cases}
-use Rattle.memchr.specs.Find.{NoneBefore, Passes, is_byte}
-use Rattle.wtf8_core.proofs.lemmas.forms.ByStd.{form_encode}
-use Rattle.os_quote.specs.Item.{Item, backslash, item_text, item_texts, IsItem, hidden_item, character_item}
-use Rattle.os_quote.specs.Shown.{is_any}
-use Rattle.os_quote.specs.Reading.{HasNoBackslash, item_bytes}
 
 -- the test of the search for a backslash
 abbrev pub IsPlace : List ℕ → ℕ → Type 0

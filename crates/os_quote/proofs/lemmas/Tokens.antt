@@ -1,10 +1,5 @@
 -- What no token begins with.
-use Rattle.std.proofs.Common.{◌≡◌, ◌≢◌, ℕ, ◌/◌, ◌%◌, ◌<◌, Bool, List, [], ◌∷◌, ◌++◌, refl, sym, ap, ◌∙◌, arith, append_assoc}
-use Rattle.std.proofs.lemmas.Str.{encode_same, encode_ascii}
-use Rattle.os_quote.specs.Item.{Item, Character, Backslash, ByteUnit, WideUnit, LongCharacter, backslash, byte_digits, wide_digits, long_digits, item_text, IsLong, HasLongTokens, IsItem}
-use Rattle.os_quote.specs.Shown.{is_any, stays_on_line}
-use Rattle.os_quote.specs.Escape.{BeginsNoToken}
-use Rattle.os_quote.specs.Reading.{HasNoWide, HasNoNumber}
+use Rattle.os_quote.proofs.Common.{◌≡◌, ◌≢◌, ℕ, ◌/◌, ◌%◌, ◌<◌, Bool, List, [], ◌∷◌, ◌++◌, refl, sym, ap, ◌∙◌, arith, append_assoc, encode_same, encode_ascii, Item, Character, Backslash, ByteUnit, WideUnit, LongCharacter, backslash, byte_digits, wide_digits, long_digits, item_text, IsLong, HasLongTokens, IsItem, is_any, stays_on_line, BeginsNoToken, HasNoWide, HasNoNumber}
 use Rattle.os_quote.proofs.lemmas.Items.{tails, byte_same}
 
 -- the bytes don't begin with the two digits of a byte

@@ -1,8 +1,6 @@
 -- How far a text has been written.
-use Rattle.std.proofs.Common.{◌≡◌, ℕ, List, [], ◌++◌, append_assoc, append-nil, rules, refl, sym, ap, ◌∙◌}
+use Rattle.os_quote.proofs.Common.{◌≡◌, ℕ, List, [], ◌++◌, append_assoc, append-nil, rules, refl, sym, ap, ◌∙◌, HasWrittenStyled, IsFlush, Formatter}
 use Rattle.std.proofs.Output.{has_written_styled_append, has_written_styled_of_eq}
-use Rattle.std.specs.Fmt.{HasWrittenStyled, IsFlush}
-use Rattle.std.specs.declared.fmt.Formatter.{Formatter}
 
 -- from f to g a prefix of `all` was written, and `left` is still to be written
 abbrev pub WritesRest : {W : Type 0} → (W → List ℕ → W → Type 0) → Formatter W → Formatter W → List ℕ → List ℕ → Type 0

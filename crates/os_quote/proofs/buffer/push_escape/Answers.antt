@@ -1,11 +1,4 @@
-use Rattle.std.proofs.Common.{◌≡◌, ◌++◌, ◌+◌, ◌<◌, ◌^◌, length, map, append_assoc, ap, ◌∙◌, sym, subst, refl, arith}
-use Rattle.platform_str.specs.Strings.{bytes}
-use Rattle.os_str_ext.specs.Parts.{part_bytes}
-use Rattle.os_quote.specs.Item.{item_texts, unit_item}
-use Rattle.os_quote.specs.Shown.{shown_by}
-use Rattle.os_quote.specs.Escape.{items_of}
-use Rattle.os_quote.specs.Escaped.{escape_of}
-use Rattle.os_str_ext.proofs.lemmas.EachChunk.{are_chunks_of}
+use Rattle.os_quote.proofs.Common.{◌≡◌, ◌++◌, ◌+◌, ◌<◌, ◌^◌, length, map, append_assoc, ap, ◌∙◌, sym, subst, refl, arith, bytes, part_bytes, item_texts, unit_item, shown_by, items_of, escape_of, are_chunks_of}
 use Rattle.os_quote.proofs.lemmas.ItemLengths.{escape_is_short}
 use Rattle.os_quote.proofs.lemmas.Texts.{text_items, item_texts-append}
 use Rattle.os_quote.proofs.lemmas.Pushing.{PushesRest, nothing_pushed, push_both, one_pushed, all_pushed, pushed_all, room_left}

@@ -1,8 +1,4 @@
-use Rattle.platform_str.specs.Strings.{bytes}
-use Rattle.os_quote.specs.Item.{item_texts}
-use Rattle.os_quote.specs.Shown.{shown_by}
-use Rattle.os_quote.specs.Escape.{items_of}
-use Rattle.os_quote.specs.Escaped.{escape_of}
+use Rattle.os_quote.proofs.Common.{bytes, item_texts, shown_by, items_of, escape_of}
 use Rattle.os_quote.proofs.lemmas.Pushing.{PushesRest}
 use Rattle.os_quote.proofs.buffer.push_escape.Given as goal
 

@@ -1,7 +1,4 @@
-use Rattle.std.proofs.Common.{map, length, ◌+◌, ◌<◌, ◌^◌, ap, ◌∙◌, sym, subst}
-use Rattle.os_str_ext.specs.Parts.{part_bytes, unit_number}
-use Rattle.os_quote.specs.Buffers.{Pushes}
-use Rattle.os_quote.specs.Item.{item_text, item_texts, unit_item}
+use Rattle.os_quote.proofs.Common.{map, length, ◌+◌, ◌<◌, ◌^◌, ap, ◌∙◌, sym, subst, part_bytes, unit_number, Pushes, item_text, item_texts, unit_item}
 use Rattle.os_quote.proofs.lemmas.Pushing.{PushesRest, nothing_pushed, one_pushed, all_pushed, room_left}
 use Rattle.os_quote.proofs.buffer.push_part.Goals as goal
 

@@ -1,7 +1,4 @@
-use Rattle.std.proofs.Common.{◌≡◌, ◌++◌, ◌+◌, ◌<◌, ◌^◌, [], length, append_assoc, append-nil, ap, ◌∙◌, sym, subst, refl}
-use Rattle.os_quote.specs.Buffers.{token_of, text_escape}
-use Rattle.os_quote.specs.Item.{item_text}
-use Rattle.os_quote.specs.Shown.{shown_by}
+use Rattle.os_quote.proofs.Common.{◌≡◌, ◌++◌, ◌+◌, ◌<◌, ◌^◌, [], length, append_assoc, append-nil, ap, ◌∙◌, sym, subst, refl, token_of, text_escape, item_text, shown_by}
 use Rattle.os_quote.proofs.lemmas.Pushing.{push_bytes, push_both, one_pushed, all_pushed, room_left}
 use Rattle.os_quote.proofs.buffer.push_text.Goals as goal
 

@@ -1,8 +1,4 @@
-use Rattle.std.proofs.Common.{length}
-use denote.Shadow.{shadow}
-use denote.Text.{Utf8}
-use Rattle.os_quote.specs.Buffers.{text_escape}
-use Rattle.os_quote.specs.Shown.{shown_by}
+use Rattle.os_quote.proofs.Common.{length, shadow, Utf8, text_escape, shown_by}
 use Rattle.os_quote.proofs.lemmas.Pushing.{PushesRest}
 use Rattle.os_quote.proofs.buffer.push_text.Given as goal
 

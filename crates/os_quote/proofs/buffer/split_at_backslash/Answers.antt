@@ -1,8 +1,4 @@
-use Rattle.std.proofs.Common.{◌∷◌, [], ◌∙◌, ap, length, subst, sym, append_assoc, length-append, arith}
-use Rattle.std.specs.Str.{IsUtf8}
-use Rattle.os_quote.specs.Buffers.{text_escape}
-use Rattle.os_quote.specs.Item.{backslash}
-use Rattle.os_quote.specs.Shown.{is_any}
+use Rattle.os_quote.proofs.Common.{◌∷◌, [], ◌∙◌, ap, length, subst, sym, append_assoc, length-append, arith, IsUtf8, text_escape, backslash, is_any}
 use Rattle.os_quote.proofs.lemmas.Texts.{one_backslash, slash_behind, own_text}
 use Rattle.os_quote.proofs.buffer.split_at_backslash.Goals as goal
 

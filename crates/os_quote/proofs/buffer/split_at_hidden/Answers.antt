@@ -1,7 +1,4 @@
-use Rattle.std.proofs.Common.{◌++◌, ◌∙◌, ap}
-use Rattle.os_quote.specs.Buffers.{text_escape}
-use Rattle.os_quote.specs.Item.{item_text}
-use Rattle.os_quote.specs.Shown.{stays_on_line}
+use Rattle.os_quote.proofs.Common.{◌++◌, ◌∙◌, ap, text_escape, item_text, stays_on_line}
 use Rattle.os_quote.proofs.lemmas.Pushing.{hidden_token}
 use Rattle.os_quote.proofs.lemmas.Lines.{standing_text, up_to_hidden, cut_is_shorter}
 use Rattle.os_quote.proofs.buffer.split_at_hidden.Goals as goal

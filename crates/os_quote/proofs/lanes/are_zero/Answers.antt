@@ -1,4 +1,4 @@
-use Rattle.wtf8_core.proofs.lemmas.scan.Lanes.{no_bit_of_both}
+use Rattle.os_quote.proofs.Common.{no_bit_of_both}
 use Rattle.os_quote.proofs.lanes.are_zero.Goals as goal
 
 pub returns : goal.returns

@@ -1,7 +1,4 @@
-use Rattle.std.proofs.Common.{◌<◌, ◌+◌, ◌/◌, get_or, sym, ap, ◌∙◌, arith}
-use Rattle.std.specs.List.{slice_index}
-use Rattle.os_quote.specs.Standing.{lead_bits}
-use Rattle.os_quote.specs.declared.lanes.TheConstants.{SECOND_HIGH, THIRD_HIGH}
+use Rattle.os_quote.proofs.Common.{◌<◌, ◌+◌, ◌/◌, get_or, sym, ap, ◌∙◌, arith, slice_index, lead_bits, SECOND_HIGH, THIRD_HIGH}
 use Rattle.os_quote.proofs.lemmas.SuspectLanes.{pair_of, suspect_of, none_by_bits, none_by_pair, none_by_lead}
 use Rattle.os_quote.proofs.lanes.clear_len.Goals as goal
 

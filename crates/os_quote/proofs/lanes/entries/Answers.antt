@@ -1,4 +1,4 @@
-use Rattle.std.proofs.Common.{◌≡◌, ◌+◌, ◌*◌, ◌/◌, ◌<◌, get_or, refl, ap, ◌∙◌, arith, w8}
+use Rattle.os_quote.proofs.Common.{◌≡◌, ◌+◌, ◌*◌, ◌/◌, ◌<◌, get_or, refl, ap, ◌∙◌, arith, w8}
 use Rattle.std.proofs.lemmas.Simd.{SwzOk-from_below, Each1-from_get_or, get_or-swz_l_below}
 use Rattle.os_quote.proofs.lanes.entries.Goals as goal
 

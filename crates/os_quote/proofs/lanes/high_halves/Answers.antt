@@ -1,6 +1,5 @@
-use Rattle.std.proofs.Common.{◌/◌, ◌^◌, arith}
+use Rattle.os_quote.proofs.Common.{◌/◌, ◌^◌, arith, lane_with}
 use Rattle.std.proofs.lemmas.Simd.{Each1-from_get_or, Each2-splat}
-use Rattle.wtf8_core.proofs.lemmas.scan.Lanes.{lane_with}
 use Rattle.os_quote.proofs.lanes.high_halves.Goals as goal
 
 pub overflow_shr-result : goal.overflow_shr-result

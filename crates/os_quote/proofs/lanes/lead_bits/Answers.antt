@@ -1,6 +1,4 @@
-use Rattle.std.proofs.Common.{refl}
-use Rattle.os_quote.specs.declared.lanes.TheConstants.{FIRST_HIGH, FIRST_LOW}
-use Rattle.wtf8_core.proofs.lemmas.scan.ComputedTests.{copies}
+use Rattle.os_quote.proofs.Common.{refl, FIRST_HIGH, FIRST_LOW, copies}
 use Rattle.os_quote.proofs.lanes.lead_bits.Goals as goal
 
 pub entries-by_high-requires-clause-copies : goal.entries-by_high-requires-clause-copies

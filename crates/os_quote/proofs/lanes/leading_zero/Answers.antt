@@ -1,6 +1,4 @@
-use Rattle.std.proofs.Common.{refl, not, eqb, eqb-true}
-use Rattle.std.proofs.lemmas.Bool.{not-false}
-use Rattle.wtf8_core.proofs.lemmas.scan.Lanes.{none_of_64_passes_before}
+use Rattle.os_quote.proofs.Common.{refl, not, eqb, eqb-true, not-false, none_of_64_passes_before}
 use Rattle.os_quote.proofs.lanes.leading_zero.Goals as goal
 
 pub returns-clause-zero : goal.returns-clause-zero

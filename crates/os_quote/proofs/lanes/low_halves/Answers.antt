@@ -1,5 +1,4 @@
-use Rattle.std.proofs.Common.{bit_and}
-use Rattle.wtf8_core.proofs.lemmas.scan.Lanes.{lane_with}
+use Rattle.os_quote.proofs.Common.{bit_and, lane_with}
 use Rattle.os_quote.proofs.lanes.low_halves.Goals as goal
 
 pub returns : goal.returns

@@ -1,6 +1,5 @@
-use Rattle.os_str_ext.proofs.lemmas.EachChunk.{are_chunks_of}
+use Rattle.os_quote.proofs.Common.{are_chunks_of, is_any}
 use Rattle.os_quote.proofs.lemmas.Escapes.{never_bad, one_bad_place}
-use Rattle.os_quote.specs.Shown.{is_any}
 use Rattle.os_quote.proofs.laws.bad_escapes.Goals as goal
 
 pub returns-clause-never : goal.returns-clause-never

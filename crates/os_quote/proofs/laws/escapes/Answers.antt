@@ -1,7 +1,6 @@
-use Rattle.os_str_ext.proofs.lemmas.EachChunk.{are_chunks_of}
+use Rattle.os_quote.proofs.Common.{are_chunks_of, is_any}
 use Rattle.os_quote.proofs.lemmas.Escapes.{some_escape, one_escape, one_string}
 use Rattle.os_quote.proofs.lemmas.Readings.{escape_is_text}
-use Rattle.os_quote.specs.Shown.{is_any}
 use Rattle.os_quote.proofs.laws.escapes.Goals as goal
 
 pub returns-clause-some : goal.returns-clause-some

@@ -1,8 +1,7 @@
-use Rattle.os_str_ext.proofs.lemmas.EachChunk.{are_chunks_of}
+use Rattle.os_quote.proofs.Common.{are_chunks_of, stays_on_line}
 use Rattle.os_quote.proofs.lemmas.Escapes.{some_escape, one_escape, one_string, never_bad, one_bad_place}
 use Rattle.os_quote.proofs.lemmas.Lines.{escape_is_on_line}
 use Rattle.os_quote.proofs.lemmas.Readings.{escape_is_text}
-use Rattle.os_quote.specs.Shown.{stays_on_line}
 use Rattle.os_quote.proofs.laws.line_escapes.Goals as goal
 
 pub returns-clause-some : goal.returns-clause-some

@@ -1,5 +1,4 @@
-use Rattle.std.proofs.Common.{arith}
-use Rattle.std.proofs.lemmas.List.{nil_from_length}
+use Rattle.os_quote.proofs.Common.{arith, nil_from_length}
 use Rattle.os_quote.proofs.lemmas.LongTokens.{no_bytes, no_first, zero_first, not_closed, five_closed}
 use Rattle.os_quote.proofs.long_token.five_digits.Goals as goal
 

@@ -1,4 +1,4 @@
-use Rattle.std.proofs.Common.{sym, ap, ◌∙◌, ◌∷◌}
+use Rattle.os_quote.proofs.Common.{sym, ap, ◌∙◌, ◌∷◌}
 use Rattle.os_quote.proofs.lemmas.Items.{tails}
 use Rattle.os_quote.proofs.long_token.six_digits.Goals as goal
 

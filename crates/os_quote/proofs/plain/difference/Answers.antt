@@ -1,5 +1,4 @@
-use Rattle.std.proofs.Common.{bit_xor}
-use Rattle.wtf8_core.proofs.lemmas.scan.Lanes.{lane_with}
+use Rattle.os_quote.proofs.Common.{bit_xor, lane_with}
 use Rattle.os_quote.proofs.plain.difference.Goals as goal
 
 pub returns : goal.returns

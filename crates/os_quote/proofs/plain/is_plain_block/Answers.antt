@@ -1,6 +1,4 @@
-use Rattle.std.proofs.Common.{◌≡◌, ◌+◌, ◌-◌, ◌<◌, ◌≤◌, ℕ, ⊎_elim, get_or, bit_xor, refl, subst, arith}
-use Rattle.std.proofs.lemmas.Bool.{and_parts, cases_lt}
-use Rattle.os_quote.specs.Plain.{IsPlain}
+use Rattle.os_quote.proofs.Common.{◌≡◌, ◌+◌, ◌-◌, ◌<◌, ◌≤◌, ℕ, ⊎_elim, get_or, bit_xor, refl, subst, arith, and_parts, cases_lt, IsPlain}
 use Rattle.os_quote.proofs.lemmas.PlainLanes.{plain_lane}
 use Rattle.os_quote.proofs.plain.is_plain_block.Goals as goal
 

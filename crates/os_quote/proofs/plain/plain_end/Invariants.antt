@@ -1,5 +1,4 @@
-use Rattle.std.proofs.Common.{length, ◌-◌}
-use Rattle.os_quote.specs.Plain.{IsPlainUpTo}
+use Rattle.os_quote.proofs.Common.{length, ◌-◌, IsPlainUpTo}
 use Rattle.os_quote.proofs.plain.plain_end.Given as goal
 
 abbrev pub invariant-loop-at : goal.invariant-loop-at

@@ -1,5 +1,5 @@
 use Rattle.os_quote.proofs.lemmas.PlainBytes.{more_plain}
-use Rattle.std.proofs.Common.{arith}
+use Rattle.os_quote.proofs.Common.{arith}
 use Rattle.os_quote.proofs.plain.plain_len.Goals as goal
 
 pub loop-at-preserved : goal.loop-at-preserved

@@ -1,8 +1,4 @@
-use Rattle.std.proofs.Common.{◌≡◌, ◌++◌, length, take, drop, sym, ap, ◌∙◌, subst, arith, take-append-drop}
-use Rattle.std.specs.List.{AllByRecursion}
-use Rattle.std.specs.Str.{IsUtf8}
-use Rattle.std.proofs.lemmas.List.{length-take-le}
-use Rattle.os_quote.specs.Plain.{IsPlain}
+use Rattle.os_quote.proofs.Common.{◌≡◌, ◌++◌, length, take, drop, sym, ap, ◌∙◌, subst, arith, take-append-drop, AllByRecursion, IsUtf8, length-take-le, IsPlain}
 use Rattle.os_quote.proofs.lemmas.PlainBytes.{plain_front, plain_is_text}
 use Rattle.os_quote.proofs.plain.split_plain.Goals as goal
 

@@ -1,7 +1,4 @@
-use Rattle.std.proofs.Common.{◌≡◌, true, false, sym, subst, ◌∙◌}
-use Rattle.os_quote.specs.Shown.{shown_by}
-use Rattle.os_quote.specs.Escape.{IsEscapeBy}
-use Rattle.os_str_ext.proofs.lemmas.EachChunk.{are_chunks_of}
+use Rattle.os_quote.proofs.Common.{◌≡◌, true, false, sym, subst, ◌∙◌, shown_by, IsEscapeBy, are_chunks_of}
 use Rattle.os_quote.proofs.lemmas.Readings.{no_escape}
 use Rattle.os_quote.proofs.reading.from_items.Goals as goal
 

@@ -1,7 +1,5 @@
-use Rattle.std.proofs.Common.{◌∙◌, sym, subst}
+use Rattle.os_quote.proofs.Common.{◌∙◌, sym, subst, shown_by, IsEscapeBy}
 use Rattle.std.proofs.lemmas.Slice.Eq.{bytes_eq-Decides}
-use Rattle.os_quote.specs.Shown.{shown_by}
-use Rattle.os_quote.specs.Escape.{IsEscapeBy}
 use Rattle.os_quote.proofs.lemmas.Escapes.{one_escape}
 use Rattle.os_quote.proofs.reading.has_escape.Goals as goal
 

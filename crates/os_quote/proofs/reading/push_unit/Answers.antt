@@ -1,4 +1,4 @@
-use Rattle.std.proofs.Common.{◌++◌, ap, ◌∙◌}
+use Rattle.os_quote.proofs.Common.{◌++◌, ap, ◌∙◌}
 use Rattle.os_quote.proofs.lemmas.Readings.{unit_form}
 use Rattle.os_quote.proofs.reading.push_unit.Goals as goal
 

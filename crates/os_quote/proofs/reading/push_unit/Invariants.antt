@@ -1,5 +1,4 @@
-use Rattle.std.proofs.Common.{◌≡◌, ◌++◌}
-use Rattle.wtf8_core.specs.CodePoint.{form}
+use Rattle.os_quote.proofs.Common.{◌≡◌, ◌++◌, form}
 use Rattle.os_quote.proofs.reading.push_unit.Given as goal
 
 abbrev pub invariant-loop-byte : goal.invariant-loop-byte

@@ -1,8 +1,4 @@
-use Rattle.std.proofs.Common.{◌∷◌, ap, subst, sym, ◌∙◌}
-use Rattle.os_quote.specs.Escape.{BeginsNoToken}
-use Rattle.os_quote.specs.Item.{backslash}
-use Rattle.os_quote.specs.Shown.{shown_by}
-use Rattle.os_quote.specs.Reading.{token_item}
+use Rattle.os_quote.proofs.Common.{◌∷◌, ap, subst, sym, ◌∙◌, BeginsNoToken, backslash, shown_by, token_item}
 use Rattle.os_quote.proofs.lemmas.Readings.{read_bad, text_after}
 use Rattle.os_quote.proofs.reading.read.Goals as goal
 

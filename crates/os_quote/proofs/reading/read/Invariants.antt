@@ -1,8 +1,4 @@
-use Rattle.std.proofs.Common.{length}
-use denote.Shadow.{shadow}
-use denote.Text.{Utf8}
-use Rattle.os_quote.specs.Shown.{shown_by}
-use Rattle.os_quote.specs.Reading.{IsRead}
+use Rattle.os_quote.proofs.Common.{length, shadow, Utf8, shown_by, IsRead}
 use Rattle.os_quote.proofs.reading.read.Given as goal
 
 abbrev pub invariant-loop-front : goal.invariant-loop-front

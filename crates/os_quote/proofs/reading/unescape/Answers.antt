@@ -1,7 +1,4 @@
-use Rattle.std.proofs.Common.{[], ◌∙◌, sym, subst}
-use Rattle.std.proofs.lemmas.Str.{IsUtf8-nil}
-use Rattle.os_quote.specs.Escape.{IsEscape}
-use Rattle.os_quote.specs.Shown.{is_any}
+use Rattle.os_quote.proofs.Common.{[], ◌∙◌, sym, subst, IsUtf8-nil, IsEscape, is_any}
 use Rattle.os_quote.proofs.lemmas.Texts.{own_text}
 use Rattle.os_quote.proofs.lemmas.Escapes.{own_escape}
 use Rattle.os_quote.proofs.reading.unescape.Goals as goal

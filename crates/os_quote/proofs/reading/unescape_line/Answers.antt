@@ -1,7 +1,4 @@
-use Rattle.std.proofs.Common.{[], ◌∙◌, sym, subst, arith}
-use Rattle.std.proofs.lemmas.Str.{IsUtf8-nil}
-use Rattle.os_quote.specs.Escape.{IsLineEscape}
-use Rattle.os_quote.specs.Shown.{stays_on_line}
+use Rattle.os_quote.proofs.Common.{[], ◌∙◌, sym, subst, arith, IsUtf8-nil, IsLineEscape, stays_on_line}
 use Rattle.os_quote.proofs.lemmas.Lines.{standing_text, cut_is_shorter}
 use Rattle.os_quote.proofs.lemmas.Escapes.{own_escape}
 use Rattle.os_quote.proofs.reading.unescape_line.Goals as goal

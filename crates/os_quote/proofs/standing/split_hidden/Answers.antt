@@ -1,9 +1,4 @@
-use Rattle.std.proofs.Common.{◌≡◌, ◌++◌, ◌-◌, length, take, drop, refl, sym, ap, ◌∙◌, subst, take-append-drop}
-use Rattle.std.proofs.Math.Nat.{sub-zero}
-use Rattle.std.proofs.lemmas.Bool.{true≢false}
-use Rattle.std.proofs.lemmas.Str.{IsCharBoundary-start}
-use Rattle.std.specs.Char.{encode_utf8}
-use Rattle.os_quote.specs.Standing.{AllStand, AllClear, IsNextSuspect}
+use Rattle.os_quote.proofs.Common.{◌≡◌, ◌++◌, ◌-◌, length, take, drop, refl, sym, ap, ◌∙◌, subst, take-append-drop, sub-zero, true≢false, IsCharBoundary-start, encode_utf8, AllStand, AllClear, IsNextSuspect}
 use Rattle.os_quote.proofs.lemmas.Hidden.{nothing_stands, suspect_begins, stand_to, stand_after, all_stand}
 use Rattle.os_quote.proofs.standing.split_hidden.Goals as goal
 

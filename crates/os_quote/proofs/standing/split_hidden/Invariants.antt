@@ -1,6 +1,4 @@
-use Rattle.std.proofs.Common.{length, take, ◌-◌}
-use Rattle.std.specs.Str.{IsCharBoundary}
-use Rattle.os_quote.specs.Standing.{AllStand}
+use Rattle.os_quote.proofs.Common.{length, take, ◌-◌, IsCharBoundary, AllStand}
 use Rattle.os_quote.proofs.standing.split_hidden.Given as goal
 
 abbrev pub invariant-loop-suspect : goal.invariant-loop-suspect

@@ -1,5 +1,4 @@
-use Rattle.std.proofs.Common.{◌≡◌, get_or, subst, List, ℕ, false, ◌+◌, ◌<◌}
-use Rattle.os_quote.specs.Standing.{is_suspect}
+use Rattle.os_quote.proofs.Common.{◌≡◌, get_or, subst, List, ℕ, false, ◌+◌, ◌<◌, is_suspect}
 use Rattle.os_quote.proofs.lemmas.Suspects.{in_block}
 use Rattle.os_quote.proofs.suspects.clear_from.Goals as goal
 

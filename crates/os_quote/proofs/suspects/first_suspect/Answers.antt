@@ -1,5 +1,4 @@
-use Rattle.std.proofs.Common.{◌≡◌, ◌+◌, get_or, sym, ap, ◌∙◌, arith}
-use Rattle.os_quote.specs.Standing.{is_suspect}
+use Rattle.os_quote.proofs.Common.{◌≡◌, ◌+◌, get_or, sym, ap, ◌∙◌, arith, is_suspect}
 use Rattle.os_quote.proofs.lemmas.Suspects.{some_more, one_more}
 use Rattle.os_quote.proofs.suspects.first_suspect.Goals as goal
 

@@ -1,5 +1,4 @@
-use Rattle.std.proofs.Common.{length, ◌-◌, ◌≤◌}
-use Rattle.os_quote.specs.Standing.{AllClear}
+use Rattle.os_quote.proofs.Common.{length, ◌-◌, ◌≤◌, AllClear}
 use Rattle.os_quote.proofs.suspects.first_suspect.Given as goal
 
 abbrev pub invariant-loop-at : goal.invariant-loop-at

@@ -1,5 +1,4 @@
-use Rattle.std.proofs.lemmas.List.{nil_from_length}
-use Rattle.os_quote.specs.Shown.{shown_by}
+use Rattle.os_quote.proofs.Common.{nil_from_length, shown_by}
 use Rattle.os_quote.proofs.lemmas.Tokens.{nothing_behind, no_digits, no_number}
 use Rattle.os_quote.proofs.token.first_token.Goals as goal
 

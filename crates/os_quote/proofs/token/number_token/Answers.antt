@@ -1,6 +1,4 @@
-use Rattle.std.proofs.Common.{ap, sym, subst}
-use Rattle.os_quote.specs.Item.{HasLongTokens}
-use Rattle.os_quote.specs.Shown.{shown_by}
+use Rattle.os_quote.proofs.Common.{ap, sym, subst, HasLongTokens, shown_by}
 use Rattle.os_quote.proofs.lemmas.Tokens.{no_long_tokens, long_token, line_has_long}
 use Rattle.os_quote.proofs.token.number_token.Goals as goal
 

@@ -1,8 +1,4 @@
-use Rattle.std.proofs.Common.{◌≡◌, ◌+◌, ◌++◌, ◌∷◌, length, take, drop, sym, ap, ◌∙◌, subst}
-use Rattle.os_quote.specs.Item.{backslash}
-use Rattle.std.proofs.Math.Nat.{sub-zero}
-use Rattle.memchr.specs.Find.{NoneBefore}
-use Rattle.os_quote.specs.Reading.{HasNoBackslash}
+use Rattle.os_quote.proofs.Common.{◌≡◌, ◌+◌, ◌++◌, ◌∷◌, length, take, drop, sym, ap, ◌∙◌, subst, backslash, sub-zero, NoneBefore, HasNoBackslash}
 use Rattle.os_quote.proofs.lemmas.Texts.{IsPlace, first_backslash}
 use Rattle.os_quote.proofs.token.split_backslash.Goals as goal
 

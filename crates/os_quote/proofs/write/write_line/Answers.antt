@@ -1,7 +1,4 @@
-use Rattle.std.proofs.Common.{◌≡◌, ◌++◌, [], ◌∙◌, sym, refl, true, append-nil}
-use Rattle.std.specs.Fmt.{HasWrittenStyled, IsFlush}
-use Rattle.os_quote.specs.Item.{item_text, character_item}
-use Rattle.os_quote.specs.Shown.{stays_on_line}
+use Rattle.os_quote.proofs.Common.{◌≡◌, ◌++◌, [], ◌∙◌, sym, refl, true, append-nil, HasWrittenStyled, IsFlush, item_text, character_item, stays_on_line}
 use Rattle.os_quote.proofs.lemmas.Texts.{text_escape}
 use Rattle.os_quote.proofs.lemmas.Lines.{standing_text, up_to_hidden, cut_is_shorter}
 use Rattle.os_quote.proofs.lemmas.Writing.{one_more, both, all_written}

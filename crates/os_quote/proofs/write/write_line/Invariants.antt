@@ -1,7 +1,4 @@
-use Rattle.std.proofs.Common.{length}
-use denote.Shadow.{shadow}
-use denote.Text.{Utf8}
-use Rattle.os_quote.specs.Shown.{stays_on_line}
+use Rattle.os_quote.proofs.Common.{length, shadow, Utf8, stays_on_line}
 use Rattle.os_quote.proofs.lemmas.Texts.{text_escape}
 use Rattle.os_quote.proofs.lemmas.Writing.{WritesRest}
 use Rattle.os_quote.proofs.write.write_line.Given as goal

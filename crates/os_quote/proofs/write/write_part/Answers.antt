@@ -1,7 +1,4 @@
-use Rattle.std.proofs.Common.{map, ap, ◌∙◌, sym, subst, refl, true}
-use Rattle.std.specs.Fmt.{HasWrittenStyled, IsFlush}
-use Rattle.os_str_ext.specs.Parts.{part_bytes, unit_number}
-use Rattle.os_quote.specs.Item.{item_text, item_texts, unit_item}
+use Rattle.os_quote.proofs.Common.{map, ap, ◌∙◌, sym, subst, refl, true, HasWrittenStyled, IsFlush, part_bytes, unit_number, item_text, item_texts, unit_item}
 use Rattle.os_quote.proofs.lemmas.Writing.{WritesRest, nothing_yet, one_more, all_written}
 use Rattle.os_quote.proofs.write.write_part.Goals as goal
 

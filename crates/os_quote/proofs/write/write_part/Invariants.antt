@@ -1,6 +1,4 @@
-use Rattle.std.proofs.Common.{map}
-use Rattle.os_str_ext.specs.Parts.{part_bytes}
-use Rattle.os_quote.specs.Item.{item_texts, unit_item}
+use Rattle.os_quote.proofs.Common.{map, part_bytes, item_texts, unit_item}
 use Rattle.os_quote.proofs.lemmas.Writing.{WritesRest}
 use Rattle.os_quote.proofs.write.write_part.Given as goal
 

@@ -1,4 +1,4 @@
-use Rattle.std.proofs.Common.{[], ◌++◌, true, length, refl, ap, arith, length-append}
+use Rattle.os_quote.proofs.Common.{[], ◌++◌, true, length, refl, ap, arith, length-append}
 use Rattle.os_quote.proofs.lemmas.PlainBytes.{after_more, none_written}
 use Rattle.os_quote.proofs.lemmas.Writing.{both}
 use Rattle.os_quote.proofs.write.write_plain.Goals as goal

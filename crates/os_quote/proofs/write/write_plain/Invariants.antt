@@ -1,5 +1,4 @@
-use Rattle.std.proofs.Common.{length}
-use Rattle.os_quote.specs.Plain.{IsPlainWritten}
+use Rattle.os_quote.proofs.Common.{length, IsPlainWritten}
 use Rattle.os_quote.proofs.write.write_plain.Given as goal
 
 abbrev pub invariant-loop-plain : goal.invariant-loop-plain

@@ -1,8 +1,4 @@
-use Rattle.std.proofs.Common.{◌≡◌, ◌++◌, ◌∷◌, [], ◌∙◌, sym, subst, refl, true, append_assoc, append-nil}
-use Rattle.std.specs.Fmt.{HasWrittenStyled, IsFlush}
-use Rattle.std.specs.Str.{IsUtf8}
-use Rattle.os_quote.specs.Item.{backslash}
-use Rattle.os_quote.specs.Shown.{is_any}
+use Rattle.os_quote.proofs.Common.{◌≡◌, ◌++◌, ◌∷◌, [], ◌∙◌, sym, subst, refl, true, append_assoc, append-nil, HasWrittenStyled, IsFlush, IsUtf8, backslash, is_any}
 use Rattle.os_quote.proofs.lemmas.Texts.{text_escape, one_backslash, slash_behind, own_text}
 use Rattle.os_quote.proofs.lemmas.Writing.{one_more, both, all_written}
 use Rattle.os_quote.proofs.write.write_shown.Goals as goal

@@ -1,7 +1,5 @@
-use Rattle.std.proofs.Common.{◌≡◌, [], ◌∷◌, ◌<◌, ℕ, true, refl, ap, ◌∙◌}
+use Rattle.os_quote.proofs.Common.{◌≡◌, [], ◌∷◌, ◌<◌, ℕ, true, refl, ap, ◌∙◌, encode_ascii, encode_utf8}
 use Rattle.std.proofs.Output.{has_written_styled_append, has_written_styled_of_eq}
-use Rattle.std.proofs.lemmas.Str.{encode_ascii}
-use Rattle.std.specs.Char.{encode_utf8}
 use Rattle.os_quote.proofs.write_token.write_byte.Goals as goal
 
 -- a digit's character is one byte

@@ -1,6 +1,5 @@
-use Rattle.std.proofs.Common.{◌≡◌, ◌++◌, ◌∷◌, ◌/◌, ◌%◌, [], true, refl, sym, ap, append_assoc, codes}
+use Rattle.os_quote.proofs.Common.{◌≡◌, ◌++◌, ◌∷◌, ◌/◌, ◌%◌, [], true, refl, sym, ap, append_assoc, codes, high_digits, wide_digits, item_text, LongCharacter}
 use Rattle.std.proofs.Output.{has_written_styled_append, has_written_styled_of_eq}
-use Rattle.os_quote.specs.Item.{high_digits, wide_digits, item_text, LongCharacter}
 use Rattle.os_quote.proofs.write_token.write_long.Goals as goal
 
 pub returns : goal.returns

@@ -1,6 +1,5 @@
-use Rattle.std.proofs.Common.{◌≡◌, ◌++◌, true, refl, sym, rules, codes}
+use Rattle.os_quote.proofs.Common.{◌≡◌, ◌++◌, true, refl, sym, rules, codes, byte_digits, item_text, unit_item}
 use Rattle.std.proofs.Output.{has_written_styled_append, has_written_styled_of_eq}
-use Rattle.os_quote.specs.Item.{byte_digits, item_text, unit_item}
 use Rattle.os_quote.proofs.write_token.write_unit.Goals as goal
 
 pub returns-in_ok-write_str : goal.returns-in_ok-write_str

@@ -1,4 +1,4 @@
-use Rattle.std.proofs.Common.{true, refl}
+use Rattle.os_quote.proofs.Common.{true, refl}
 use Rattle.std.proofs.Output.{has_written_styled_append}
 use Rattle.os_quote.proofs.write_token.write_wide.Goals as goal
 

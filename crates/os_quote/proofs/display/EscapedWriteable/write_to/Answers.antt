@@ -1,16 +1,7 @@
-use Rattle.std.proofs.Common.{◌≡◌, ◌++◌, [], map, length, take, drop, sym, ap, ◌∙◌, refl, subst, true}
-use Rattle.std.specs.Fmt.{HasWrittenStyled, IsFlush}
-use Rattle.std.specs.Str.{IsUtf8}
-use Rattle.std.proofs.lemmas.List.{take_at, drop_at}
-use Rattle.std.proofs.lemmas.Str.{IsUtf8-nil}
+use Rattle.os_quote.proofs.Common.{◌≡◌, ◌++◌, [], map, length, take, drop, sym, ap, ◌∙◌, refl, subst, true, HasWrittenStyled, IsFlush, IsUtf8, take_at, drop_at, IsUtf8-nil, part_bytes, item_texts, unit_item, shown_by, items_of, escape_of}
 use Rattle.os_quote.proofs.lemmas.Escapes.{no_units_of_none}
 use Rattle.os_quote.proofs.lemmas.Fronts.{front_escape}
 use Rattle.os_quote.proofs.lemmas.PlainBytes.{plain_is_text, plain_is_own}
-use Rattle.os_str_ext.specs.Parts.{part_bytes}
-use Rattle.os_quote.specs.Item.{item_texts, unit_item}
-use Rattle.os_quote.specs.Shown.{shown_by}
-use Rattle.os_quote.specs.Escape.{items_of}
-use Rattle.os_quote.specs.Escaped.{escape_of}
 use Rattle.os_quote.proofs.lemmas.Texts.{text_items, item_texts-append}
 use Rattle.os_quote.proofs.lemmas.Writing.{one_more, both}
 use Rattle.os_quote.proofs.display.EscapedWriteable.write_to.Goals as goal

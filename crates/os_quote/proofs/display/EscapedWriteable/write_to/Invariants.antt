@@ -1,7 +1,4 @@
-use Rattle.os_quote.specs.Item.{item_texts}
-use Rattle.os_quote.specs.Shown.{shown_by}
-use Rattle.os_quote.specs.Escape.{items_of}
-use Rattle.os_quote.specs.Escaped.{escaped_text}
+use Rattle.os_quote.proofs.Common.{item_texts, shown_by, items_of, escaped_text}
 use Rattle.os_quote.proofs.lemmas.Writing.{WritesRest}
 use Rattle.os_quote.proofs.display.EscapedWriteable.write_to.Given as goal
 
