@@ -18,5 +18,5 @@ pub use marks::marked_by_no_bytes;
 pub use plans::{kept, refuses_first, turns};
 pub use programs::{with_words, without_arguments};
 pub use rows::{asked_alike, counts, differs, is_whole, status_of_difference};
-pub use runs::faults_match_marks;
+pub use runs::{faults_match_marks, run_once, split_at_nothing};
 pub use words::{known_words, splits_at_nothing, too_many_words};

@@ -1,7 +1,9 @@
 //! Runs of commands.
-ghost use Rattle.std.specs.Prelude.{◌≡◌, true};
+ghost use Rattle.std.specs.Prelude.{◌≡◌, ◌≢◌, IfErr, OnOk, false, true};
+ghost use Rattle.commands.specs.Marked.{marked_inner, has_failed};
+ghost use Rattle.commands.specs.Run.{WritesOutput};
 
-use commands::command::Command;
+use commands::command::{Command, Os};
 use commands::fault::Fault;
 use commands::marked::Marked;
 use commands::run::run;
@@ -23,4 +25,35 @@ pub fn faults_match_marks<A: Allocator, R: Read + Drop, W: Write + Drop>(
     let answer = run(alloc, command, &mut reader, &mut writer);
     matches!(answer, Err(Fault::Read)) == reader.failed()
         && matches!(answer, Err(Fault::Write)) == writer.failed()
+}
+
+/// Runs a command, which writes its whole output, or nothing where no write failed.
+pub fn run_once<A: Allocator, R: Read, W: Write>(
+    alloc: A,
+    command: Command<'_>,
+    reader: &mut Marked<R>,
+    writer: &mut Marked<W>,
+) -> Result<(), Fault>
+    requires reader_unmarked { has_failed reader.old ≡ false }
+    requires writer_unmarked { has_failed writer.old ≡ false }
+    ensures written { OnOk result (WritesOutput command.entry (R.remaining (marked_inner reader.old))
+        (W.contents (marked_inner writer.old)) (W.contents (marked_inner writer.new))) }
+    ensures kept { IfErr result (λ fault. fault ≢ Fault.Write → writer.new ≡ writer.old) }
+{
+    run(alloc, command, reader, writer)
+}
+
+/// Splits at the empty pattern, which is refused before anything is read.
+pub fn split_at_nothing<A: Allocator, R: Read, W: Write>(
+    alloc: A,
+    os: Os,
+    reader: &mut Marked<R>,
+    writer: &mut Marked<W>,
+) -> Result<(), Fault>
+    requires reader_unmarked { has_failed reader.old ≡ false }
+    requires writer_unmarked { has_failed writer.old ≡ false }
+    ensures refused { result ≡ Err Fault.Usage }
+    ensures unread { reader.new ≡ reader.old }
+{
+    run(alloc, Command::Split(os, ""), reader, writer)
 }
