@@ -3,11 +3,13 @@ ghost use Rattle.std.specs.Prelude.{◌≡◌, ◌<◌, true, false, OnOk, IsOk,
 ghost use Rattle.std.specs.Io.KnownBytes.{Appends};
 ghost use Rattle.std.specs.Process.{exit_status};
 ghost use Rattle.commands.specs.Marked.{has_failed};
+ghost use Rattle.commands.specs.Program.{AreNoCommand, words_behind_name};
 
 use commands::fault::Fault;
 use commands::marked::Marked;
 use commands::program::{Messages, Output, execute};
 use std::alloc::{Allocator, Global};
+use std::env::Args;
 use std::io;
 use std::io::{Eprint, ErrorKind, Read};
 use std::process::{ExitCode, Termination};
@@ -47,4 +49,19 @@ pub fn with_words<R: Read, W: Output, E: Messages>(
     ensures too_many { 4 < length words.items → ¬ (IsOk result) }
 {
     execute(alloc, Ok(words.into_iter()), reader, writer, errors).outcome()
+}
+
+/// The program with arguments, which are no command's where it says so.
+pub fn with_arguments<A: Allocator, R: Read, W: Output, E: Messages>(
+    alloc: A,
+    arguments: Args,
+    reader: &mut Marked<R>,
+    writer: &mut Marked<W>,
+    errors: &mut E,
+) -> Result<(), Fault>
+    requires reader_unmarked { has_failed reader.old ≡ false }
+    requires writer_unmarked { has_failed writer.old ≡ false }
+    ensures { result ≡ Err Fault.Usage → AreNoCommand (words_behind_name arguments) }
+{
+    execute(alloc, Ok(arguments), reader, writer, errors).outcome()
 }
