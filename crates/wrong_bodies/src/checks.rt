@@ -1,10 +1,11 @@
 //! Checks of bytes.
-ghost use Rattle.std.specs.Prelude.{◌++◌, ◌↔◌, IsOk, MatchResult};
+ghost use Rattle.std.specs.Prelude.{◌≡◌, ◌++◌, ◌↔◌, IsOk, MatchResult};
+ghost use Rattle.wtf8_core.specs.declared.fault.EncodingError.{EncodingError};
 ghost use Rattle.wtf8_core.specs.Checker.{HasFirstFault};
 ghost use Rattle.wtf8_core.specs.Wtf8.{IsWtf8};
 
 use platform_str::{EncodingError, OsString, OsStringBytes, Platform, Windows};
-use std::alloc::Allocator;
+use std::alloc::{AllocError, Allocator};
 use wtf8_core::{Checker, laws};
 
 /// The check of bytes that come in two pieces.
@@ -35,4 +36,17 @@ pub fn from_raw_vec<E: Platform, A: Allocator>(
 {
     platform_str::laws::faults::<E>();
     OsString::from_raw_vec(raw)
+}
+
+/// The bytes of a string in new memory, or their first fault, for which no memory is asked: so the
+/// program's commands read their input.
+pub fn copied<E: Platform, A: Allocator>(
+    alloc: A,
+    raw: &[u8],
+) -> Result<Result<Vec<u8, A>, AllocError>, EncodingError>
+    ensures { (fault : EncodingError) → E.first_fault raw.now fault → result ≡ Err fault }
+{
+    platform_str::laws::faults::<E>();
+    E::check(raw)?;
+    Ok(Vec::from_slice(alloc, raw))
 }

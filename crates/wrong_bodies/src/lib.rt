@@ -15,7 +15,7 @@ mod readings;
 mod searches;
 mod splits;
 
-pub use checks::{check_in_two, check_windows, from_raw_vec};
+pub use checks::{check_in_two, check_windows, copied, from_raw_vec};
 pub use chunks::first_chunk;
 pub use cuts::{boundary, cut_off, part_to, parts_at};
 pub use escapes::{escape_line, unescape, unescape_line};
