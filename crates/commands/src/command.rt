@@ -38,8 +38,14 @@ pub enum Command<'a> {
 }
 
 impl Os {
-    /// The platform for this word.
-    fn named(word: &str) -> Option<Os>
+    /// The platform that this word names: `unix`, `windows` or `wasm`.
+    ///
+    /// ```
+    /// use commands::command::Os;
+    ///
+    /// assert!(rt; Os::named("wasm") == Some(Os::Wasm) && Os::named("linux").is_none());
+    /// ```
+    pub fn named(word: &str) -> Option<Os>
         ensures some { IfSome result (λ os. word.now ≡ os_word os) }
         ensures none { IfNone result ((os : Os) → word.now ≢ os_word os) }
     {

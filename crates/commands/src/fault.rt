@@ -89,8 +89,23 @@ impl fmt::Display for Fault {
     }
 }
 
-/// Writes the decimal digits of a number, whatever width is asked for.
-fn write_number<W: fmt::Write>(number: usize, f: &mut fmt::Formatter<W>) -> fmt::Result
+/// Writes the decimal digits of a number, whatever width is asked for: a fault's text has no width.
+///
+/// ```
+/// use commands::fault::write_number;
+/// use std::fmt;
+///
+/// struct Number(usize);
+///
+/// impl fmt::Display for Number {
+///     fn fmt<W: fmt::Write>(&self, f: &mut fmt::Formatter<W>) -> fmt::Result {
+///         write_number(self.0, f)
+///     }
+/// }
+///
+/// assert_eq!(rt; Number(17).to_string(alloc)?.as_str(), "17");
+/// ```
+pub fn write_number<W: fmt::Write>(number: usize, f: &mut fmt::Formatter<W>) -> fmt::Result
     ensures { WritesStyledOnOk W.write_str_gives f.old result (decimal number) f.new }
 {
     let mut digits = InlineText::<20>::new();

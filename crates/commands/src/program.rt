@@ -179,8 +179,20 @@ pub fn execute<A: Allocator, R: Read, W: Output, E: Messages>(
     }
 }
 
-/// The words after the program's name.
-fn words<A: Allocator>(alloc: A, args: io::Result<Args>) -> Result<Vec<String, A>, Fault>
+/// The words after the program's name, which is the first argument.
+///
+/// # Errors
+///
+/// [`Fault::Memory`] where memory was refused, and [`Fault::Usage`] where the arguments couldn't be
+/// had for another reason.
+///
+/// ```
+/// use commands::program::words;
+///
+/// let no_words = Ok(Vec::new(alloc).into_iter());
+/// assert!(rt; words(alloc, no_words).is_ok_and(|words| words.is_empty()));
+/// ```
+pub fn words<A: Allocator>(alloc: A, args: io::Result<Args>) -> Result<Vec<String, A>, Fault>
     ensures ok { OnOk result (IsOk args) }
     ensures words { IfOk result (λ words. IfOk args
         (λ args. map string_bytes words.items ≡ words_behind_name args)) }

@@ -99,9 +99,24 @@ fn read_all<A: Allocator, R: Read>(alloc: A, reader: &mut Marked<R>) -> Result<V
     }
 }
 
-/// Writes all of the output, and flushes.
+/// Writes all of the output, and flushes. The mark must be unset ([`Marked::failed`] tells).
+///
+/// # Errors
+///
+/// [`Fault::Write`] where a write failed or took nothing, or the flush failed. A beginning of the
+/// output was written then.
+///
+/// ```
+/// use commands::marked::Marked;
+/// use commands::run::write_out;
+///
+/// let mut taken = Vec::new(alloc);
+/// let mut writer = Marked::new(&mut taken);
+/// assert!(rt; write_out(&mut writer, b"ab") == Ok(()));
+/// assert_eq!(rt; taken.as_slice(), b"ab".as_slice());
+/// ```
 #[tactic(auto, using(crate::proofs::lemmas::Pieces::pieces))]
-fn write_out<W: Write>(writer: &mut Marked<W>, output: &[u8]) -> Result<(), Fault>
+pub fn write_out<W: Write>(writer: &mut Marked<W>, output: &[u8]) -> Result<(), Fault>
     requires { has_failed writer.old ≡ false }
     ensures written { OnOk result (Appends (W.contents (marked_inner writer.old))
         (W.contents (marked_inner writer.new)) output.now) }

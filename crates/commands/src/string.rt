@@ -7,7 +7,19 @@ ghost use Rattle.commands.specs.Output.{RefusesNoString};
 use crate::fault::Fault;
 use os_str_bytes::{OsStr, Platform, laws};
 
-/// The string of the input, or the first fault of its bytes. It takes no memory.
+/// The string of the input. It takes no memory.
+///
+/// # Errors
+///
+/// [`Fault::Refused`] with the first fault of bytes that aren't a string.
+///
+/// ```
+/// use commands::string::string;
+/// use os_str_bytes::{Wasm, Windows};
+///
+/// let half = b"\xED\xA0\x80";
+/// assert!(rt; string::<Windows>(half).is_ok() && string::<Wasm>(half).is_err());
+/// ```
 pub fn string<'a, E: Platform>(input: &'a [u8]) -> Result<OsStr<'a, E>, Fault>
     ensures bytes { IfOk result (λ string. bytes string ≡ input.now) }
     ensures formed { IfOk result (λ _. E.well_formed input.now) }

@@ -25,9 +25,18 @@ pub(crate) fn tell<E: Write>(fault: Fault, errors: &mut E) -> bool
     }
 }
 
-/// Writes a text as the output is written, and answers whether all of it was taken.
+/// Writes a text, and answers whether all of it was taken; else a beginning of it was. It takes no
+/// memory.
+///
+/// ```
+/// use commands::telling::write_text;
+///
+/// let mut taken: Vec<u8> = Vec::new(alloc);
+/// assert!(rt; write_text(b"ab", &mut taken));
+/// assert_eq!(rt; taken.as_slice(), b"ab".as_slice());
+/// ```
 #[tactic(auto, using(crate::proofs::lemmas::Pieces::pieces))]
-fn write_text<E: Write>(text: &[u8], errors: &mut E) -> bool
+pub fn write_text<E: Write>(text: &[u8], errors: &mut E) -> bool
     ensures told { result ≡ true → Appends (E.contents errors.old) (E.contents errors.new)
         text.now }
     ensures beginning { (count : ℕ) × Appends (E.contents errors.old) (E.contents errors.new)
