@@ -1,0 +1,144 @@
+-- Items of a block, one after the other.
+use Rattle.std.proofs.Common.{◌≡◌, ◌⊎◌, inl, inr, ℕ, ◌+◌, ◌^◌, ◌≤◌, ◌<◌, List, [], ◌∷◌, ◌++◌, length, refl, sym, ap, ◌∙◌, subst, arith, append_assoc, append-nil, length-append}
+use Rattle.std.specs.List.{AllByRecursion, flat_map}
+use Rattle.std.proofs.lemmas.Grind.{flat_map-append}
+use Rattle.os_str_bytes.specs.Platform.{Ghosts}
+use Rattle.commands.specs.declared.fault.Fault.TheVariants.{Memory}
+use Rattle.names_commands.specs.declared.fault.Fault.{Fault}
+use Rattle.names_commands.specs.declared.fault.Fault.TheVariants.{At, TooLong, HasNul, TooMuch, Usage, Run}
+use Rattle.names_commands.specs.declared.task.Settings.{Settings}
+use Rattle.names_commands.specs.Items.{Entry, Lacks, IsCutAt, ended, text_of, items_of, texts_of}
+use Rattle.names_commands.specs.Task.{end_of, IsItemFault, IsEntry}
+use Rattle.names_commands.specs.Reading.{State, HasBegun, Reads, Stops, IsEnded, IsKeepFault, IsUpTo}
+
+pub all-append : (P : Entry → Type 0) (es ds : List Entry) → AllByRecursion P es → AllByRecursion P ds → AllByRecursion P (es ++ ds)
+all-append P [] ds a b = b
+all-append P (e ∷ es) ds a b = (a.0, all-append P es ds a.1 b)
+
+-- no byte ends an item in two parts
+pub lacks-append : (end : ℕ) (xs ys : List ℕ) → Lacks end xs → Lacks end ys → Lacks end (xs ++ ys)
+lacks-append end [] ys a b = b
+lacks-append end (x ∷ xs) ys a b = (a.0, lacks-append end xs ys a.1 b)
+
+-- items that were read, and then one more
+pub more_items : (end : ℕ) (entries : List Entry) (e : Entry) → items_of end (entries ++ e ∷ []) ≡ items_of end entries ++ (e.0 ++ end ∷ [])
+more_items end entries e = flat_map-append (ended end) entries (e ∷ []) ∙ ap (λ x. items_of end entries ++ x) (append-nil (e.0 ++ end ∷ []))
+
+pub more_texts : (entries : List Entry) (e : Entry) → texts_of (entries ++ e ∷ []) ≡ texts_of entries ++ e.1
+more_texts entries e = flat_map-append text_of entries (e ∷ []) ∙ ap (λ x. texts_of entries ++ x) (append-nil e.1)
+
+-- bytes after others
+pub behind : (begun done front mid more : List ℕ) → begun ++ done ≡ front ++ mid → begun ++ (done ++ more) ≡ front ++ (mid ++ more)
+behind begun done front mid more e = sym (append_assoc begun done more) ∙ ap (λ x. x ++ more) e ∙ append_assoc front mid more
+
+-- an item in two parts and its end
+in_parts : (xs ys more : List ℕ) → xs ++ (ys ++ more) ≡ (xs ++ ys) ++ more
+in_parts xs ys more = sym (append_assoc xs ys more)
+
+module _ {E : Type 0} (p : Ghosts E) (s : Settings) where
+  abbrev end : ℕ
+  end = end_of s.task
+
+  -- nothing of the block has been read
+  pub at_start : (begun block output : List ℕ) (count : ℕ) → HasBegun s begun → count + length begun + length block + 1 < 2 ^ 64
+      → IsUpTo p s (record { begun = begun; count = count; output = output }) block block (record { begun = begun; count = count; output = output })
+  at_start begun block output count h room = record {
+    done = [];
+    cut = refl;
+    reads = record { entries = []; are = tt; joined = append-nil begun; begun = h; counted = omega arith; written = sym (append-nil output) };
+    room = room;
+  }
+
+  -- an item has ended
+  pub after_item : (old mid : State) (block rest last after text now : List ℕ) (count : ℕ) → IsUpTo p s old block rest mid → IsCutAt end rest last after
+      → IsEntry p s (mid.begun ++ last, text) → now ≡ mid.output ++ text → count ≡ mid.count + 1 → (kept : List ℕ) → kept ≡ []
+      → IsUpTo p s old block after (record { begun = kept; count = count; output = now })
+  after_item old mid block rest last after text now count u k e w n kept none = subst (λ x. IsUpTo p s old block after (record { begun = x; count = count; output = now })) (sym none) (record {
+    done = u.done ++ (last ++ end ∷ []);
+    cut = u.cut ∙ ap (λ x. u.done ++ x) (k.joined ∙ in_parts last (end ∷ []) after) ∙ in_parts u.done (last ++ end ∷ []) after;
+    reads = record {
+      entries = u.reads.entries ++ (mid.begun ++ last, text) ∷ [];
+      are = all-append (IsEntry p s) u.reads.entries ((mid.begun ++ last, text) ∷ []) u.reads.are (e, tt);
+      joined =
+          behind old.begun u.done (items_of end u.reads.entries) mid.begun (last ++ end ∷ []) u.reads.joined
+          ∙ ap (λ x. items_of end u.reads.entries ++ x) (in_parts mid.begun last (end ∷ []))
+          ∙ sym (more_items end u.reads.entries (mid.begun ++ last, text))
+          ∙ sym (append-nil (items_of end (u.reads.entries ++ (mid.begun ++ last, text) ∷ [])));
+      begun = record { whole = tt; short = omega arith };
+      counted = omega (arith, n, u.reads.counted, length-append u.reads.entries ((mid.begun ++ last, text) ∷ []));
+      written = w ∙ ap (λ x. x ++ text) u.reads.written ∙ append_assoc old.output (texts_of u.reads.entries) text ∙ ap (λ x. old.output ++ x) (sym (more_texts u.reads.entries (mid.begun ++ last, text)));
+    };
+    room = omega (arith, n, u.room, ap length k.joined, length-append last (end ∷ after));
+  })
+
+  -- an item that ended is refused
+  pub at_item : (old mid : State) (block rest last after now : List ℕ) (fault : Fault) → IsUpTo p s old block rest mid → IsCutAt end rest last after
+      → IsItemFault p s (mid.count + 1) (mid.begun ++ last) fault → now ≡ mid.output → (more : List ℕ) → Stops p s old (block ++ more) now fault
+  at_item old mid block rest last after now fault u k f w more = record {
+    entries = u.reads.entries;
+    are = u.reads.are;
+    item = mid.begun ++ last;
+    rest = end ∷ (after ++ more);
+    joined =
+        ap (λ x. old.begun ++ (x ++ more)) u.cut
+        ∙ ap (λ x. old.begun ++ x) (append_assoc u.done rest more)
+        ∙ behind old.begun u.done (items_of end u.reads.entries) mid.begun (rest ++ more) u.reads.joined
+        ∙ ap (λ x. items_of end u.reads.entries ++ (mid.begun ++ (x ++ more))) k.joined
+        ∙ ap (λ x. items_of end u.reads.entries ++ (mid.begun ++ x)) (append_assoc last (end ∷ after) more)
+        ∙ ap (λ x. items_of end u.reads.entries ++ x) (in_parts mid.begun last (end ∷ (after ++ more)));
+    whole = lacks-append end mid.begun last u.reads.begun.whole k.whole;
+    ended = then_end end fault (after ++ more);
+    because = subst (λ n. IsItemFault p s (n + 1) (mid.begun ++ last) fault) u.reads.counted f;
+    written = w ∙ u.reads.written;
+  }
+    where
+      then_end : (e : ℕ) (f : Fault) (r : List ℕ) → IsEnded e f (e ∷ r)
+      then_end e (At n why) r = inr (r, refl)
+      then_end e (TooLong n most) r = tt
+      then_end e (HasNul n) r = inr (r, refl)
+      then_end e TooMuch r = tt
+      then_end e Usage r = tt
+      then_end e (Run why) r = tt
+
+  -- the rest of the block belongs to an item that doesn't end in it
+  pub at_end : (old mid : State) (block rest now kept : List ℕ) → IsUpTo p s old block rest mid → Lacks end rest → kept ≡ mid.begun ++ rest → length kept ≤ s.max → now ≡ mid.output
+      → Reads p s old block (record { begun = kept; count = mid.count; output = now })
+  at_end old mid block rest now kept u l k short w = record {
+    entries = u.reads.entries;
+    are = u.reads.are;
+    joined =
+        ap (λ x. old.begun ++ x) u.cut
+        ∙ behind old.begun u.done (items_of end u.reads.entries) mid.begun rest u.reads.joined
+        ∙ ap (λ x. items_of end u.reads.entries ++ x) (sym k);
+    begun = record { whole = subst (Lacks end) (sym k) (lacks-append end mid.begun rest u.reads.begun.whole l); short = short };
+    counted = u.reads.counted;
+    written = w ∙ u.reads.written;
+  }
+
+  -- a fault of keeping bytes is one of the item
+  pub of_kept : (number : ℕ) (item : List ℕ) (fault : Fault) → IsKeepFault s number item fault → IsItemFault p s number item fault
+  of_kept number item fault (inl long) = subst (IsItemFault p s number item) (sym long.0) (refl, (refl, long.1))
+  of_kept number item fault (inr memory) = subst (IsItemFault p s number item) (sym memory) refl
+
+  ended_kept : (e number : ℕ) (item : List ℕ) (fault : Fault) (r : List ℕ) → IsKeepFault s number item fault → IsEnded e fault r
+  ended_kept e number item fault r (inl long) = subst (λ f. IsEnded e f r) (sym long.0) tt
+  ended_kept e number item fault r (inr memory) = subst (λ f. IsEnded e f r) (sym memory) tt
+
+  -- the rest can't be kept
+  pub not_kept : (old mid : State) (block rest now : List ℕ) (fault : Fault) → IsUpTo p s old block rest mid → Lacks end rest
+      → IsKeepFault s (mid.count + 1) (mid.begun ++ rest) fault → now ≡ mid.output → (more : List ℕ) → Stops p s old (block ++ more) now fault
+  not_kept old mid block rest now fault u l f w more = record {
+    entries = u.reads.entries;
+    are = u.reads.are;
+    item = mid.begun ++ rest;
+    rest = more;
+    joined =
+        ap (λ x. old.begun ++ (x ++ more)) u.cut
+        ∙ ap (λ x. old.begun ++ x) (append_assoc u.done rest more)
+        ∙ behind old.begun u.done (items_of end u.reads.entries) mid.begun (rest ++ more) u.reads.joined
+        ∙ ap (λ x. items_of end u.reads.entries ++ x) (in_parts mid.begun rest more);
+    whole = lacks-append end mid.begun rest u.reads.begun.whole l;
+    ended = ended_kept end (mid.count + 1) (mid.begun ++ rest) fault more f;
+    because = subst (λ n. IsItemFault p s (n + 1) (mid.begun ++ rest) fault) u.reads.counted (of_kept (mid.count + 1) (mid.begun ++ rest) fault f);
+    written = w ∙ u.reads.written;
+  }

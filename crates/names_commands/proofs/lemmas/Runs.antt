@@ -1,0 +1,258 @@
+-- Blocks, one after the other, to the end of the input.
+use Rattle.std.proofs.Common.{◌≡◌, ◌≢◌, ◌⊎◌, inl, inr, ℕ, ◌+◌, ◌-◌, ◌^◌, ◌≤◌, ◌<◌, List, [], ◌∷◌, ◌++◌, Option, None, Some, IfSome, length, take, refl, sym, ap, ◌∙◌, subst, arith, append_assoc, append-nil, length-append}
+use Rattle.std.proofs.KnownBytes.{Consumes-nil, Appends-nil, Consumes-trans, Appends-trans, Consumes-whole}
+use Rattle.std.proofs.lemmas.Grind.{flat_map-append}
+use Rattle.std.proofs.Math.Seq.{take-append-add}
+use Rattle.std.specs.Io.KnownBytes.{Appends, Consumes, IsAtEnd}
+use Rattle.os_str_bytes.specs.Platform.{Ghosts}
+use Rattle.commands.specs.declared.fault.Fault.{Fault as Reason}
+use Rattle.commands.specs.declared.fault.Fault.TheVariants as reason
+use Rattle.names_commands.specs.declared.fault.Fault.{Fault}
+use Rattle.names_commands.specs.declared.fault.Fault.TheVariants.{At, TooLong, HasNul, TooMuch, Usage, Run}
+use Rattle.names_commands.specs.declared.task.Settings.{Settings}
+use Rattle.names_commands.specs.Items.{Entry, ended, text_of, items_of, texts_of}
+use Rattle.names_commands.specs.Task.{end_of, IsItemFault, IsEntry}
+use Rattle.names_commands.specs.Reading.{State, HasBegun, Reads, Stops, IsEnded, Begins}
+use Rattle.names_commands.specs.Run.{start, IsOutput, IsBegun, StopsOn, WritesOutput, WritesUpTo, WritesBeginning, HasRead, IsLast, Finishes}
+use Rattle.names_commands.proofs.lemmas.Reading.{all-append, behind, more_texts}
+
+-- what is known of the first bytes, whatever comes after them, is known of the input
+pub known : (input left : Option (List ℕ)) (bytes : List ℕ) (P : List ℕ → Type 0) → Consumes input left bytes → ((more : List ℕ) → P (bytes ++ more)) → IfSome input P
+known None left bytes P e f = tt
+known (Some xs) None bytes P e f = absurd e
+known (Some xs) (Some ys) bytes P e f = subst P (sym e) (f ys)
+
+-- a beginning of what comes after other bytes
+take_after : (xs ys : List ℕ) (n : ℕ) → xs ++ take n ys ≡ take (length xs + n) (xs ++ ys)
+take_after xs ys n = sym (take-append-add xs ys n)
+
+-- each item has at least the byte that ends it
+few : (end : ℕ) (entries : List Entry) → length entries ≤ length (items_of end entries)
+few end [] = omega arith
+few end (e ∷ entries) = omega (arith, few end entries, length-append (e.0 ++ end ∷ []) (items_of end entries), length-append e.0 (end ∷ []))
+
+module _ {E : Type 0} (p : Ghosts E) (s : Settings) where
+  abbrev end : ℕ
+  end = end_of s.task
+
+  abbrev on : State → State
+  on mid = record { begun = mid.begun; count = mid.count; output = [] }
+
+  both_texts : (before first text : List ℕ) (entries more : List Entry) → first ≡ before ++ texts_of entries → text ≡ texts_of more → first ++ text ≡ before ++ texts_of (entries ++ more)
+  both_texts before first text entries more e f =
+      ap (λ x. x ++ text) e
+      ∙ append_assoc before (texts_of entries) text
+      ∙ ap (λ x. before ++ (texts_of entries ++ x)) f
+      ∙ ap (λ x. before ++ x) (sym (flat_map-append text_of entries more))
+
+  both_items : (old mid : State) (a b rest : List ℕ) (more : List Entry) (r : Reads p s old a mid) → mid.begun ++ b ≡ items_of end more ++ rest
+      → old.begun ++ (a ++ b) ≡ items_of end (r.entries ++ more) ++ rest
+  both_items old mid a b rest more r e =
+      behind old.begun a (items_of end r.entries) mid.begun b r.joined
+      ∙ ap (λ x. items_of end r.entries ++ x) e
+      ∙ sym (append_assoc (items_of end r.entries) (items_of end more) rest)
+      ∙ ap (λ x. x ++ rest) (sym (flat_map-append (ended end) r.entries more))
+
+  then_reads : (old mid new : State) (a b : List ℕ) → Reads p s old a mid → Reads p s (on mid) b new
+      → Reads p s old (a ++ b) (record { begun = new.begun; count = new.count; output = mid.output ++ new.output })
+  then_reads old mid new a b r q = record {
+    entries = r.entries ++ q.entries;
+    are = all-append (IsEntry p s) r.entries q.entries r.are q.are;
+    joined = both_items old mid a b new.begun q.entries r q.joined;
+    begun = q.begun;
+    counted = omega (arith, q.counted, r.counted, length-append r.entries q.entries);
+    written = both_texts old.output mid.output new.output r.entries q.entries r.written q.written;
+  }
+
+  then_stops : (old mid : State) (a b text : List ℕ) (fault : Fault) → Reads p s old a mid → Stops p s (on mid) b text fault → Stops p s old (a ++ b) (mid.output ++ text) fault
+  then_stops old mid a b text fault r q =
+      let n : mid.count + length q.entries + 1 ≡ old.count + length (r.entries ++ q.entries) + 1 = omega (arith, r.counted, length-append r.entries q.entries) in record {
+        entries = r.entries ++ q.entries;
+        are = all-append (IsEntry p s) r.entries q.entries r.are q.are;
+        item = q.item;
+        rest = q.rest;
+        joined = both_items old mid a b (q.item ++ q.rest) q.entries r q.joined;
+        whole = q.whole;
+        ended = q.ended;
+        because = subst (λ m. IsItemFault p s m q.item fault) n q.because;
+        written = both_texts old.output mid.output text r.entries q.entries r.written q.written;
+      }
+
+  then_begins : (old mid : State) (a b text : List ℕ) → Reads p s old a mid → Begins p s (on mid) b text → Begins p s old (a ++ b) (mid.output ++ text)
+  then_begins old mid a b text r q = record {
+    entries = r.entries ++ q.entries;
+    are = all-append (IsEntry p s) r.entries q.entries r.are q.are;
+    rest = q.rest;
+    joined = both_items old mid a b q.rest q.entries r q.joined;
+    written = both_texts old.output mid.output text r.entries q.entries r.written q.written;
+  }
+
+  pub reads_begin : (old new : State) (bytes : List ℕ) → Reads p s old bytes new → (more : List ℕ) → Begins p s old (bytes ++ more) new.output
+  reads_begin old new bytes r more = record {
+    entries = r.entries;
+    are = r.are;
+    rest = new.begun ++ more;
+    joined = behind old.begun bytes (items_of end r.entries) new.begun more r.joined;
+    written = r.written;
+  }
+
+  pub stops_begin : (old : State) (bytes text : List ℕ) (fault : Fault) → Stops p s old bytes text fault → Begins p s old bytes text
+  stops_begin old bytes text fault q = record { entries = q.entries; are = q.are; rest = q.item ++ q.rest; joined = q.joined; written = q.written }
+
+  of_begins : (input text : List ℕ) → Begins p s start input text → IsBegun p s input text
+  of_begins input text b = record {
+    front = items_of end b.entries;
+    rest = b.rest;
+    joined = b.joined;
+    of_front = record { entries = b.entries; are = b.are; items = inl refl; written = b.written };
+  }
+
+  of_stops : (input text : List ℕ) (fault : Fault) → Stops p s start input text fault → StopsOn p s input text fault
+  of_stops input text (At n why) q = q
+  of_stops input text (TooLong n most) q = q
+  of_stops input text (HasNul n) q = q
+  of_stops input text TooMuch q = absurd q.because
+  of_stops input text Usage q = absurd q.because
+  of_stops input text (Run why) q = of_begins input text (stops_begin start input text (Run why) q)
+
+  -- no item is refused for a write
+  pub no_write : (n : ℕ) (item : List ℕ) (fault : Fault) → IsItemFault p s n item fault → fault ≡ Run reason.Write → ⊥
+  no_write n item fault h e = no_memory (subst (IsItemFault p s n item) e h)
+    where
+      no_memory : reason.Write ≡ reason.Memory → ⊥
+      no_memory k = cc
+
+  pub nothing_read : (input old : Option (List ℕ)) → HasRead p s input input old old [] 0 0
+  nothing_read input old = record {
+    bytes = [];
+    text = [];
+    consumed = Consumes-nil input;
+    written = Appends-nil old;
+    reads = record { entries = []; are = tt; joined = refl; begun = record { whole = tt; short = omega arith }; counted = refl; written = refl };
+    total_is = refl;
+  }
+
+  module _ (input left next old mid new : Option (List ℕ)) (begun : List ℕ) (count total : ℕ) (h : HasRead p s input left old mid begun count total) where
+    abbrev at : State
+    at = record { begun = begun; count = count; output = [] }
+
+    -- as many items as bytes at most
+    pub counted : count + length begun ≤ total
+    counted = omega (arith, h.total_is, h.reads.counted, few end h.reads.entries, ap length h.reads.joined, length-append (items_of end h.reads.entries) begun)
+
+    pub more_read : (block kept text : List ℕ) (ended sum : ℕ) → Consumes left next block → Reads p s at block (record { begun = kept; count = ended; output = text }) → Appends mid new text → sum ≡ total + length block
+        → HasRead p s input next old new kept ended sum
+    more_read block kept text ended sum c r w e = record {
+      bytes = h.bytes ++ block;
+      text = h.text ++ text;
+      consumed = Consumes-trans input left next h.bytes block h.consumed c;
+      written = Appends-trans old mid new h.text text h.written w;
+      reads = then_reads start (record { begun = begun; count = count; output = h.text }) (record { begun = kept; count = ended; output = text }) h.bytes block h.reads r;
+      total_is = omega (arith, e, h.total_is, length-append h.bytes block);
+    }
+
+    pub stopped : (block text : List ℕ) (fault : Fault) → Consumes left next block → ((more : List ℕ) → Stops p s at (block ++ more) text fault) → Appends mid new text → WritesUpTo p s fault input old new
+    stopped block text fault c q w =
+        known input next (h.bytes ++ block) _ (Consumes-trans input left next h.bytes block h.consumed c)
+        (λ more. (
+          h.text ++ text,
+          (
+            of_stops ((h.bytes ++ block) ++ more) (h.text ++ text) fault
+                (subst (λ x. Stops p s start x (h.text ++ text) fault) (sym (append_assoc h.bytes block more))
+                (then_stops start (record { begun = begun; count = count; output = h.text }) h.bytes (block ++ more) text fault h.reads (q more))),
+            Appends-trans old mid new h.text text h.written w,
+          ),
+        ))
+
+    -- a beginning of a text comes after the text before it
+    half : (text : List ℕ) (size : ℕ) → Appends mid new (take size text) → Appends old new (take (length h.text + size) (h.text ++ text))
+    half text size w = subst (Appends old new) (take_after h.text text size) (Appends-trans old mid new h.text (take size text) h.written w)
+
+    pub half_written : (block text : List ℕ) (size : ℕ) → Consumes left next block → ((more : List ℕ) → Begins p s at (block ++ more) text) → Appends mid new (take size text) → WritesBeginning p s input old new
+    half_written block text size c q w =
+        known input next (h.bytes ++ block) _ (Consumes-trans input left next h.bytes block h.consumed c)
+        (λ more. (
+          h.text ++ text,
+          (
+            length h.text + size,
+            (
+              of_begins ((h.bytes ++ block) ++ more) (h.text ++ text)
+                  (subst (λ x. Begins p s start x (h.text ++ text)) (sym (append_assoc h.bytes block more))
+                  (then_begins start (record { begun = begun; count = count; output = h.text }) h.bytes (block ++ more) text h.reads (q more))),
+              half text size w,
+            ),
+          ),
+        ))
+
+    pub so_far : (why : Reason) → WritesUpTo p s (Run why) input old mid
+    so_far why = known input left h.bytes _ h.consumed (λ more. (h.text, (of_begins (h.bytes ++ more) h.text (reads_begin start (record { begun = begun; count = count; output = h.text }) h.bytes h.reads more), h.written)))
+
+    pub too_much : (block : List ℕ) → Consumes left next block → 2 ^ 64 ≤ total + length block + 1 → WritesUpTo p s TooMuch input old mid
+    too_much block c big =
+        known input next (h.bytes ++ block) _ (Consumes-trans input left next h.bytes block h.consumed c)
+        (λ more. (
+          h.text,
+          (
+            (
+              omega (arith, h.total_is, big, length-append h.bytes block, length-append (h.bytes ++ block) more),
+              subst (λ x. IsBegun p s x h.text) (sym (append_assoc h.bytes block more)) (of_begins (h.bytes ++ (block ++ more)) h.text (reads_begin start (record { begun = begun; count = count; output = h.text }) h.bytes h.reads (block ++ more))),
+            ),
+            h.written,
+          ),
+        ))
+
+    whole : Consumes left next [] → Consumes input next h.bytes
+    whole c = subst (Consumes input next) (append-nil h.bytes) (Consumes-trans input left next h.bytes [] h.consumed c)
+
+    with_last : (text : List ℕ) → IsLast p s begun text → IsOutput p s h.bytes (h.text ++ text)
+    with_last text l = record {
+      entries = h.reads.entries ++ (begun, text) ∷ [];
+      are = all-append (IsEntry p s) h.reads.entries ((begun, text) ∷ []) h.reads.are (l.entry, tt);
+      items = inr (record { before = h.reads.entries; last = (begun, text); entries_are = refl; some = l.some; joined = h.reads.joined });
+      written = both_texts [] h.text text h.reads.entries ((begun, text) ∷ []) h.reads.written (sym (append-nil text));
+    }
+
+    with_none : begun ≡ [] → IsOutput p s h.bytes h.text
+    with_none e = record {
+      entries = h.reads.entries;
+      are = h.reads.are;
+      items = inl (h.reads.joined ∙ ap (λ x. items_of end h.reads.entries ++ x) e ∙ append-nil (items_of end h.reads.entries));
+      written = h.reads.written;
+    }
+
+    output : (text : List ℕ) → Finishes p s begun text → IsOutput p s h.bytes (h.text ++ text)
+    output text (inl none) = subst (IsOutput p s h.bytes) (sym (append-nil h.text) ∙ ap (λ x. h.text ++ x) (sym none.1)) (with_none none.0)
+    output text (inr last) = with_last text last
+
+    pub finished : (text : List ℕ) → Consumes left next [] → IsAtEnd next → Finishes p s begun text → Appends mid new text → WritesOutput p s input old new
+    finished text c e f w = Consumes-whole input next h.bytes _ (whole c) e (h.text ++ text, (output text f, Appends-trans old mid new h.text text h.written w))
+
+    -- the last item is refused
+    at_last : (fault : Fault) → IsItemFault p s (count + 1) begun fault → Stops p s start h.bytes h.text fault
+    at_last fault f = record {
+      entries = h.reads.entries;
+      are = h.reads.are;
+      item = begun;
+      rest = [];
+      joined = h.reads.joined ∙ ap (λ x. items_of end h.reads.entries ++ x) (sym (append-nil begun));
+      whole = h.reads.begun.whole;
+      ended = at_end end fault;
+      because = subst (λ n. IsItemFault p s (n + 1) begun fault) h.reads.counted f;
+      written = h.reads.written;
+    }
+      where
+        at_end : (e : ℕ) (f : Fault) → IsEnded e f []
+        at_end e (At n why) = inl refl
+        at_end e (TooLong n most) = tt
+        at_end e (HasNul n) = inl refl
+        at_end e TooMuch = tt
+        at_end e Usage = tt
+        at_end e (Run why) = tt
+
+    pub last_refused : (fault : Fault) → Consumes left next [] → IsAtEnd next → IsItemFault p s (count + 1) begun fault → WritesUpTo p s fault input old mid
+    last_refused fault c e f = Consumes-whole input next h.bytes _ (whole c) e (h.text, (of_stops h.bytes h.text fault (at_last fault f), h.written))
+
+    pub last_half : (text : List ℕ) (size : ℕ) → Consumes left next [] → IsAtEnd next → IsLast p s begun text → Appends mid new (take size text) → WritesBeginning p s input old new
+    last_half text size c e l w =
+        Consumes-whole input next h.bytes _ (whole c) e
+        (h.text ++ text, (length h.text + size, (record { front = h.bytes; rest = []; joined = sym (append-nil h.bytes); of_front = with_last text l }, half text size w)))

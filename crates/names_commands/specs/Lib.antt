@@ -1,0 +1,5 @@
+pub mod Items
+pub mod Task
+pub mod Reading
+pub mod Run
+pub mod Fault

@@ -1,0 +1,88 @@
+-- What is written for an item, and with which fault it is refused.
+use Rattle.std.specs.Prelude.{◌≡◌, ◌≢◌, ◌⊎◌, ℕ, ◌≤◌, ◌<◌, List, [], ◌∷◌, ◌++◌, length}
+use Rattle.std.specs.Str.{IsUtf8}
+use Rattle.os_str_bytes.specs.EncodingError.{EncodingError}
+use Rattle.os_str_bytes.specs.Platform.{Ghosts}
+use Rattle.os_str_bytes.specs.WasmLaws.{IsTextFault}
+use Rattle.os_str_bytes.specs.Symbols.{symbols_of}
+use Rattle.os_quote.specs.Escape.{IsLineEscape, IsLineFault}
+use Rattle.os_quote.specs.declared.error.QuoteError.{QuoteError}
+use Rattle.os_quote.specs.declared.error.QuoteError.TheVariants as quote
+use Rattle.os_glob.specs.Match.{IsMatch}
+use Rattle.commands.specs.declared.fault.Fault.{Fault as Reason}
+use Rattle.commands.specs.declared.fault.Fault.TheVariants as reason
+use Rattle.names_commands.specs.declared.fault.Fault.{Fault}
+use Rattle.names_commands.specs.declared.fault.Fault.TheVariants.{At, TooLong, HasNul, TooMuch, Usage, Run}
+use Rattle.names_commands.specs.declared.task.Task.{Task}
+use Rattle.names_commands.specs.declared.task.Task.TheVariants.{ListAll, ListMatching, Check, Join}
+use Rattle.names_commands.specs.declared.task.Settings.{Settings}
+use Rattle.names_commands.specs.Items.{Entry, Lacks}
+
+-- the byte that ends an item
+abbrev pub end_of : Task → ℕ
+end_of ListAll = 0
+end_of (ListMatching options glob) = 0
+end_of Check = 0
+end_of Join = 0x0A
+
+-- on a platform that says this of its strings:
+module _ {E : Type 0} (p : Ghosts E) where
+  -- the text is the escape of the name on a line
+  abbrev pub IsLine : List ℕ → List ℕ → Type 0
+  IsLine name text = (line : List ℕ) × IsLineEscape p.units name line × (text ≡ line ++ 0x0A ∷ [])
+
+  -- this is written for an item that isn't refused
+  abbrev pub IsText : Task → List ℕ → List ℕ → Type 0
+  IsText ListAll name text = p.well_formed name × IsLine name text
+  IsText (ListMatching options glob) name text =
+      p.well_formed name
+      × ((IsMatch options glob.now (symbols_of p.units name) × IsLine name text)
+      ⊎ ((¬ (IsMatch options glob.now (symbols_of p.units name))) × (text ≡ [])))
+  IsText Check name text = p.well_formed name × (text ≡ [])
+  IsText Join line text = (name : List ℕ) × p.well_formed name × (Lacks 0 name × (IsLineEscape p.units name line × (text ≡ name ++ 0 ∷ [])))
+
+  -- the first fault of a name that is no string; of a line that isn't UTF-8
+  abbrev pub HasFault : Task → List ℕ → EncodingError → Type 0
+  HasFault ListAll name error = p.first_fault name error
+  HasFault (ListMatching options glob) name error = p.first_fault name error
+  HasFault Check name error = p.first_fault name error
+  HasFault Join line error = IsTextFault line error
+
+  -- why a line is the escape of no string
+  abbrev pub HasBadQuote : Task → List ℕ → QuoteError → Type 0
+  HasBadQuote ListAll name error = ⊥
+  HasBadQuote (ListMatching options glob) name error = ⊥
+  HasBadQuote Check name error = ⊥
+  HasBadQuote Join line error = IsUtf8 line × ((error ≢ quote.Memory) × IsLineFault p.well_formed p.units line error)
+
+  -- a line is the escape of a string with a NUL
+  abbrev pub IsOfNul : Task → List ℕ → Type 0
+  IsOfNul ListAll name = ⊥
+  IsOfNul (ListMatching options glob) name = ⊥
+  IsOfNul Check name = ⊥
+  IsOfNul Join line = (name : List ℕ) × p.well_formed name × ((¬ (Lacks 0 name)) × IsLineEscape p.units name line)
+
+  -- why an item is refused, whatever its length
+  abbrev pub IsReason : Task → List ℕ → Reason → Type 0
+  IsReason task item (reason.Refused error) = HasFault task item error
+  IsReason task item (reason.BadLine number) = ⊥
+  IsReason task item (reason.BadQuote error) = HasBadQuote task item error
+  IsReason task item reason.Usage = ⊥
+  IsReason task item reason.Memory = ⊥
+  IsReason task item reason.Read = ⊥
+  IsReason task item reason.Write = ⊥
+
+  -- with which fault the item with this number ends the run; memory may be refused at any item
+  abbrev pub IsItemFault : Settings → ℕ → List ℕ → Fault → Type 0
+  IsItemFault s number item (At n why) = (n ≡ number) × ((length item ≤ s.max) × IsReason s.task item why)
+  IsItemFault s number item (TooLong n most) = (n ≡ number) × ((most ≡ s.max) × (s.max < length item))
+  IsItemFault s number item (HasNul n) = (n ≡ number) × ((length item ≤ s.max) × IsOfNul s.task item)
+  IsItemFault s number item TooMuch = ⊥
+  IsItemFault s number item Usage = ⊥
+  IsItemFault s number item (Run why) = why ≡ reason.Memory
+
+  -- an item that isn't refused, and what is written for it
+  pub record IsEntry (s : Settings) (e : Entry) : Type 0 where
+    pub whole : Lacks (end_of s.task) e.0
+    pub short : length e.0 ≤ s.max
+    pub text : IsText s.task e.0 e.1

@@ -1,0 +1,47 @@
+//! What keeps the program from its output.
+use commands::fault::Fault as Reason;
+
+/// The reason why a run of the program ended before its input did.
+#[derive(Clone, Copy, PartialEq, Eq)]
+pub enum Fault {
+    /// The item with this number, counted from 1, is refused: why the name is no string of the
+    /// platform, or the line no escape of one.
+    At(u64, Reason),
+    /// The item with this number, counted from 1, is longer than this many bytes.
+    TooLong(u64, usize),
+    /// The line with this number, counted from 1, is the escape of a string with a NUL, which would
+    /// end the name.
+    HasNul(u64),
+    /// The input has 2^64 bytes or more.
+    TooMuch,
+    /// The words ask for no command.
+    Usage,
+    /// What keeps the program from going on, whatever the items are: a request for memory was
+    /// refused, a read failed or a write did.
+    Run(Reason),
+}
+
+impl Fault {
+    ghost use Rattle.std.specs.Prelude.{◌≡◌};
+    ghost use Rattle.names_commands.specs.Fault.{status_of};
+
+    /// The status that the program ends with: 1 for an input that it refuses, 2 for its words, 3 for
+    /// want of memory, and 4 for a failed read or write.
+    ///
+    /// ```
+    /// use commands::fault::Fault as Reason;
+    /// use names_commands::fault::Fault;
+    ///
+    /// assert_eq!(rt; Fault::TooLong(3, 255).status(), 1);
+    /// assert_eq!(rt; Fault::Run(Reason::Write).status(), 4);
+    /// ```
+    pub fn status(&self) -> u8
+        ensures { result ≡ status_of self.now }
+    {
+        match self {
+            Fault::At(_, _) | Fault::TooLong(_, _) | Fault::HasNul(_) | Fault::TooMuch => 1,
+            Fault::Usage => 2,
+            Fault::Run(why) => why.status(),
+        }
+    }
+}
