@@ -21,7 +21,7 @@ pub trait Observer {
     /// let options = GlobOptions { separators: Separators::None, literal_leading_dot: false };
     /// let mut count = Count(0);
     /// let name = OsStr::<Unix>::new("ab");
-    /// assert!(rt; !Glob::new("b").unwrap().is_match_observed(options, name, &mut count));
+    /// assert!(rt; !Glob::new("[b]?").unwrap().is_match_observed(options, name, &mut count));
     /// assert_eq!(rt; count.0, 1);
     /// ```
     fn looked_at(&mut self, symbols: usize);
