@@ -1,8 +1,21 @@
--- The exit status of each fault.
-use Rattle.std.specs.Prelude.{ℕ}
+-- The text and the exit status of each fault.
+use Rattle.std.specs.Prelude.{ℕ, List, ◌++◌, codes, decimal}
 use Rattle.commands.specs.Fault as reason
 use Rattle.names_commands.specs.declared.fault.Fault.{Fault}
 use Rattle.names_commands.specs.declared.fault.Fault.TheVariants.{At, TooLong, HasNul, TooMuch, Usage, Run}
+
+-- what comes before the reason why an item is refused
+abbrev pub place_text : ℕ → List ℕ
+place_text number = codes "name " ++ (decimal number ++ codes ": ")
+
+-- what the program prints of the fault
+abbrev pub text_of : Fault → List ℕ
+text_of (At number why) = place_text number ++ reason.text_of why
+text_of (TooLong number most) = place_text number ++ (codes "longer than " ++ (decimal most ++ codes " bytes"))
+text_of (HasNul number) = place_text number ++ codes "the name has a NUL"
+text_of TooMuch = codes "2^64 bytes of input or more"
+text_of Usage = codes "usage: names list|join|check unix|windows|wasm [GLOB]; names --help tells more"
+text_of (Run why) = reason.text_of why
 
 -- the status that the program ends with
 abbrev pub status_of : Fault → ℕ

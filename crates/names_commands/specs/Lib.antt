@@ -3,3 +3,6 @@ pub mod Task
 pub mod Reading
 pub mod Run
 pub mod Fault
+pub mod Command
+pub mod Ended
+pub mod Program

@@ -1,5 +1,10 @@
 //! What keeps the program from its output.
-use commands::fault::Fault as Reason;
+ghost use Rattle.std.specs.Fmt.{WritesStyledOnOk};
+ghost use Rattle.names_commands.specs.Fault.{place_text};
+
+use commands::fault::{Fault as Reason, write_number};
+use std::fmt;
+use std::fmt::Display as _;
 
 /// The reason why a run of the program ended before its input did.
 #[derive(Clone, Copy, PartialEq, Eq)]
@@ -44,4 +49,46 @@ impl Fault {
             Fault::Run(why) => why.status(),
         }
     }
+}
+
+impl fmt::Display for Fault {
+    ghost use Rattle.std.specs.Prelude.{Some};
+    ghost use Rattle.names_commands.specs.Fault.{text_of};
+
+    ghost output = { λ fault. Some (text_of fault) };
+
+    ghost styled_output = { λ fault _. Some (text_of fault) };
+
+    fn fmt<W: fmt::Write>(&self, f: &mut fmt::Formatter<W>) -> fmt::Result {
+        match *self {
+            Fault::At(number, why) => {
+                write_place(number, f)?;
+                why.fmt(f)
+            }
+            Fault::TooLong(number, most) => {
+                write_place(number, f)?;
+                f.write_str("longer than ")?;
+                write_number(most, f)?;
+                f.write_str(" bytes")
+            }
+            Fault::HasNul(number) => {
+                write_place(number, f)?;
+                f.write_str("the name has a NUL")
+            }
+            Fault::TooMuch => f.write_str("2^64 bytes of input or more"),
+            Fault::Usage => f.write_str(
+                "usage: names list|join|check unix|windows|wasm [GLOB]; names --help tells more",
+            ),
+            Fault::Run(why) => why.fmt(f),
+        }
+    }
+}
+
+/// Writes which item is refused.
+fn write_place<W: fmt::Write>(number: u64, f: &mut fmt::Formatter<W>) -> fmt::Result
+    ensures { WritesStyledOnOk W.write_str_gives f.old result (place_text number) f.new }
+{
+    f.write_str("name ")?;
+    write_number(number as usize, f)?;
+    f.write_str(": ")
 }

@@ -1,18 +1,23 @@
-//! Lists of names, read and written item by item, over ends of any kind.
+//! What the program `names` does, over ends of any kind: lists of names, read and written item by
+//! item.
 //!
-//! An item is a name, ended by NUL as `find -print0` writes it, or a line that is the escape of a
-//! name ([`os_quote::escape_line`]); the last may lack its end, and one may be empty. A run reads a
-//! block at a time, and writes what the items that end in it become ([`run::run`]), so it keeps one
-//! item and what a block becomes. Where it ends early, a [`Fault`](fault::Fault) says why, and of
-//! which item.
+//! An item is a name, ended by NUL, or a line that is the escape of a name
+//! ([`os_quote::escape_line`]); the last may lack its end, and one may be empty. Words are a
+//! command ([`Command::parse`](command::Command::parse)). A run reads a block at a time, and writes
+//! what the items that end in it become ([`run::run`]), so it keeps one item and what a block
+//! becomes. Where it ends early, the text of a [`Fault`](fault::Fault) says why, and with the number
+//! of which item ([`program::execute`]).
 //!
-//! One of its calls has a `requires`: [`run::run`] takes a reader and a writer whose marks are unset,
-//! as `Marked::new` makes them.
+//! Two of its calls have a `requires`: [`run::run`] and [`program::execute`] take a reader and a
+//! writer whose marks are unset, as `Marked::new` makes them.
 #![tactic(auto)]
 
+pub mod command;
 pub mod fault;
 mod item;
+pub mod program;
 mod reading;
 pub mod run;
 mod split;
 pub mod task;
+mod telling;

@@ -1,0 +1,71 @@
+-- The whole program, from the words after its name to its exit status.
+use Rattle.std.specs.Prelude.{◌≡◌, ◌≢◌, ◌⊎◌, ℕ, List, [], ◌++◌, codes, take, Option, OnOk, IfErr, Result, Ok, Err, ⊤}
+use Rattle.std.specs.Io.KnownBytes.{Appends, IsAtEnd}
+use Rattle.os_str_bytes.specs.Platform.{Ghosts}
+use Rattle.os_glob.specs.declared.options.GlobOptions.{GlobOptions}
+use Rattle.commands.specs.Strings.{strings}
+use Rattle.commands.specs.declared.fault.Fault.TheVariants.{Write}
+use Rattle.names_commands.specs.declared.command.Command.{Command}
+use Rattle.names_commands.specs.declared.command.Command.TheVariants.{ListAll, ListMatching, Join, Check, Help}
+use Rattle.names_commands.specs.declared.fault.Fault.{Fault}
+use Rattle.names_commands.specs.declared.fault.Fault.TheVariants.{Run, Usage}
+use Rattle.names_commands.specs.declared.task.Task.{Task}
+use Rattle.names_commands.specs.declared.task.Task.TheVariants as task
+use Rattle.names_commands.specs.declared.task.Settings.{Settings}
+use Rattle.names_commands.specs.declared.program.TheConstants.{LONGEST_NAME, LONGEST_LINE}
+use Rattle.names_commands.specs.Command.{words_of, options_of, IsUnusable}
+use Rattle.names_commands.specs.Fault.{text_of, status_of}
+use Rattle.names_commands.specs.Run.{WritesOutput, WritesUpTo, WritesBeginning}
+
+-- what `run` says of the bytes that its reader had and has left, of what its writer held and holds, and of its answer
+pub record IsRun {E : Type 0} (p : Ghosts E) (s : Settings) (input left old new : Option (List ℕ)) (answer : Result ⊤ Fault) : Type 0 where
+  pub all_read : OnOk answer (IsAtEnd left)
+  pub written : OnOk answer (WritesOutput p s input old new)
+  pub stopped : IfErr answer (λ fault. fault ≢ Run Write → WritesUpTo p s fault input old new)
+  pub beginning : answer ≡ Err (Run Write) → WritesBeginning p s input old new
+
+-- the task is to list the names that this pattern matches
+abbrev pub HasPattern : GlobOptions → List ℕ → Task → Type 0
+HasPattern options pattern task.ListAll = ⊥
+HasPattern options pattern (task.ListMatching o glob) = (o ≡ options) × (glob.now ≡ pattern)
+HasPattern options pattern task.Check = ⊥
+HasPattern options pattern task.Join = ⊥
+
+-- what `names --help` writes
+abbrev pub help_text : List ℕ
+help_text = codes "names: lists of file names, escaped one a line, and back\n\nnames list  unix|windows|wasm [GLOB]  names ended by NUL in, the escape of each out, one a line;\n                                      with GLOB of those that it matches\nnames join  unix|windows|wasm         such lines in, names ended by NUL out\nnames check unix|windows|wasm         names ended by NUL in, nothing out: the status tells\nnames --help                          this text\n\nThe last name or line may lack its end. A name has at most 1048576 bytes, a line 6291456.\nStatus: 0, or 1 where a name or line is refused, 2 for other words, 3 where memory is refused,\n4 where a read or write fails. The first refused name is told with its number, from 1.\n"
+
+-- what the help is, or as much of it as was written before a write failed
+pub record WritesHelp (old new : Option (List ℕ)) (answer : Result ⊤ Fault) : Type 0 where
+  pub written : OnOk answer (Appends old new help_text)
+  pub fault : IfErr answer (λ fault. fault ≡ Run Write)
+  pub beginning : answer ≡ Err (Run Write) → (count : ℕ) × Appends old new (take count help_text)
+
+-- what the command does
+abbrev pub Does : Command → Option (List ℕ) → Option (List ℕ) → Option (List ℕ) → Option (List ℕ) → Result ⊤ Fault → Type 0
+Does (ListAll os) input left old new answer = IsRun (strings os) (record { task = task.ListAll; max = LONGEST_NAME }) input left old new answer
+Does (ListMatching os pattern) input left old new answer =
+    ((IsUnusable (ListMatching os pattern)) × (answer ≡ Err Usage))
+    ⊎ ((t : Task) × (HasPattern (options_of os) pattern.now t × IsRun (strings os) (record { task = t; max = LONGEST_NAME }) input left old new answer))
+Does (Join os) input left old new answer = IsRun (strings os) (record { task = task.Join; max = LONGEST_LINE }) input left old new answer
+Does (Check os) input left old new answer = IsRun (strings os) (record { task = task.Check; max = LONGEST_NAME }) input left old new answer
+Does Help input left old new answer = WritesHelp old new answer
+
+-- the command with these words does this; words that no command has are refused
+abbrev pub RunsTo : List (List ℕ) → Option (List ℕ) → Option (List ℕ) → Option (List ℕ) → Option (List ℕ) → Result ⊤ Fault → Type 0
+RunsTo words input left old new answer =
+    (((command : Command) → words ≢ words_of command) × (answer ≡ Err Usage))
+    ⊎ ((command : Command) × ((words ≡ words_of command) × Does command input left old new answer))
+
+-- what the program prints of a fault
+abbrev pub message : Fault → List ℕ
+message fault = codes "names: " ++ (text_of fault ++ codes "\n")
+
+-- the contents grew by a beginning of that
+abbrev pub WritesMessageBeginning : Fault → Option (List ℕ) → Option (List ℕ) → Type 0
+WritesMessageBeginning fault old new = (count : ℕ) × Appends old new (take count (message fault))
+
+-- the status that the program ends with
+abbrev pub status_after : Result ⊤ Fault → ℕ
+status_after (Ok done) = 0
+status_after (Err fault) = status_of fault

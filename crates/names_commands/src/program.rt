@@ -1,0 +1,309 @@
+//! The whole program, over ends of any kind.
+ghost use Rattle.std.specs.Prelude.{◌≡◌, ◌≢◌, ◌↔◌, true, false, map, string_bytes, IfOk, IfErr, OnOk, IsOk, Ok, Err, ◌⊎◌};
+ghost use Rattle.std.specs.Io.KnownBytes.{Appends};
+ghost use Rattle.std.specs.IoError.{error_kind};
+ghost use Rattle.commands.specs.Marked.{marked_inner, has_failed};
+ghost use Rattle.commands.specs.Program.{words_behind_name};
+ghost use Rattle.commands.specs.Strings.{strings};
+ghost use Rattle.commands.specs.declared.fault.Fault.{Fault as Reason};
+ghost use Rattle.names_commands.specs.Ended.{outcome_of, was_told};
+ghost use Rattle.names_commands.specs.Program.{message, WritesMessageBeginning, IsRun, WritesHelp, Does, RunsTo};
+
+use crate::command::{Command, options_of};
+use crate::fault::Fault;
+use crate::run::run;
+use crate::task::{Settings, Task};
+use crate::telling::tell;
+use commands::command::Os;
+use commands::fault::Fault as Reason;
+use commands::marked::Marked;
+use commands::program::{Messages, Output, words};
+use commands::run::write_out;
+use os_glob::Glob;
+use os_str_bytes::{Unix, Wasm, Windows};
+use std::alloc::Allocator;
+use std::env::Args;
+use std::io;
+use std::io::{ErrorKind, Read, Write};
+use std::process::{ExitCode, Termination};
+
+/// How many bytes a name may have.
+const LONGEST_NAME: usize = 0x10_0000;
+
+/// How many bytes a line may have: an escape has at most six for each byte of a name.
+const LONGEST_LINE: usize = 0x60_0000;
+
+/// How the program ended. [`execute`] alone makes one.
+#[derive(Drop)]
+pub struct Ended {
+    outcome: Result<(), Fault>,
+    told: bool,
+}
+
+impl Ended {
+    /// The end of a run with this outcome: a fault's message goes to `errors`, which is `names: `,
+    /// the fault's text and a newline.
+    fn telling<E: Write>(outcome: Result<(), Fault>, errors: &mut E) -> Ended
+        ensures outcome { outcome_of result ≡ outcome }
+        ensures quiet { OnOk outcome (errors.new ≡ errors.old) }
+        ensures told { was_told result ≡ true → IfErr outcome (λ fault.
+            Appends (E.contents errors.old) (E.contents errors.new) (message fault)) }
+        ensures beginning { IfErr outcome (λ fault.
+            WritesMessageBeginning fault (E.contents errors.old) (E.contents errors.new)) }
+    {
+        match outcome {
+            Ok(()) => Ended {
+                outcome,
+                told: true,
+            },
+            Err(fault) => Ended {
+                outcome,
+                told: tell(fault, errors),
+            },
+        }
+    }
+
+    /// What the run answered.
+    ///
+    /// ```
+    /// use commands::marked::Marked;
+    /// use names_commands::fault::Fault;
+    /// use names_commands::program::execute;
+    ///
+    /// let no_words = Ok(Vec::new(alloc).into_iter());
+    /// let (mut input, mut output) = (Marked::new(b"".as_slice()), Marked::new(rt.stdout()));
+    /// let ended = execute(alloc, no_words, &mut input, &mut output, &mut rt.stderr());
+    /// assert!(rt; ended.outcome() == Err(Fault::Usage));
+    /// ```
+    pub fn outcome(&self) -> Result<(), Fault>
+        ensures { result ≡ outcome_of self.now }
+    {
+        self.outcome
+    }
+
+    /// Whether the whole message was taken, where there was one.
+    ///
+    /// ```
+    /// use commands::marked::Marked;
+    /// use names_commands::program::execute;
+    ///
+    /// let no_words = Ok(Vec::new(alloc).into_iter());
+    /// let (mut input, mut output) = (Marked::new(b"".as_slice()), Marked::new(rt.stdout()));
+    /// let ended = execute(alloc, no_words, &mut input, &mut output, &mut rt.stderr());
+    /// assert!(rt; ended.told());
+    /// ```
+    pub fn told(&self) -> bool
+        ensures { result ≡ was_told self.now }
+    {
+        self.told
+    }
+}
+
+impl Termination for Ended {
+    ghost use Rattle.std.specs.Process.{exit_status};
+    ghost use Rattle.names_commands.specs.Program.{status_after};
+
+    /// The status: 0, or that of the fault.
+    fn report<P: Eprint>(self, _rt: &P) -> ExitCode
+        ensures { exit_status result ≡ status_after (outcome_of self) }
+    {
+        match self.outcome {
+            Ok(()) => ExitCode::SUCCESS,
+            Err(fault) => ExitCode::from(fault.status()),
+        }
+    }
+}
+
+/// The program with these arguments over these ends.
+///
+/// The arguments begin with the program's name. Those after it are the words of a command
+/// ([`Command::parse`]), which is run as [`run`] says. Where no command that can run has them, where
+/// the arguments couldn't be had, or where the run fails, the fault's message goes to `errors`, or
+/// where not all of it is taken a beginning of it, and nothing else does. Both marks must be unset
+/// ([`Marked::failed`] tells).
+///
+/// ```
+/// use commands::marked::Marked;
+/// use names_commands::program::execute;
+/// use std::process::{ExitCode, Termination};
+///
+/// let mut words = Vec::new(alloc);
+/// for word in ["names", "check", "windows"] {
+///     words.push(String::from_str(alloc, word)?)?;
+/// }
+/// let (mut input, mut output) = (Marked::new(b"a\0".as_slice()), Marked::new(rt.stdout()));
+/// let words = Ok(words.into_iter());
+/// let ended = execute(alloc, words, &mut input, &mut output, &mut rt.stderr());
+/// assert!(rt; ended.report(&rt) == ExitCode::from(0));
+/// ```
+pub fn execute<A: Allocator, R: Read, W: Output, E: Messages>(
+    alloc: A,
+    args: io::Result<Args>,
+    reader: &mut Marked<R>,
+    writer: &mut Marked<W>,
+    errors: &mut E,
+) -> Ended
+    requires reader_unmarked { has_failed reader.old ≡ false }
+    requires writer_unmarked { has_failed writer.old ≡ false }
+
+    // The words.
+    ensures ok { OnOk (outcome_of result) (IsOk args) }
+    ensures no_words { IfErr args (λ error. error_kind error ≢ ErrorKind.OutOfMemory
+        → outcome_of result ≡ Err Fault.Usage) }
+
+    // The run.
+    ensures run { IfOk args (λ args. (outcome_of result ≡ Err (Fault.Run Reason.Memory))
+        ⊎ RunsTo (words_behind_name args) (R.remaining (marked_inner reader.old))
+        (R.remaining (marked_inner reader.new)) (W.contents (marked_inner writer.old))
+        (W.contents (marked_inner writer.new)) (outcome_of result)) }
+    ensures read { (outcome_of result ≡ Err (Fault.Run Reason.Read))
+        ↔ (has_failed reader.new ≡ true) }
+    ensures write { (outcome_of result ≡ Err (Fault.Run Reason.Write))
+        ↔ (has_failed writer.new ≡ true) }
+
+    // The message.
+    ensures quiet { OnOk (outcome_of result) (errors.new ≡ errors.old) }
+    ensures told { was_told result ≡ true → IfErr (outcome_of result) (λ fault.
+        Appends (E.contents errors.old) (E.contents errors.new) (message fault)) }
+    ensures beginning { IfErr (outcome_of result) (λ fault.
+        WritesMessageBeginning fault (E.contents errors.old) (E.contents errors.new)) }
+{
+    match words(&alloc, args) {
+        Ok(words) => Ended::telling(run_words(&alloc, &words, reader, writer), errors),
+        Err(Reason::Memory) => Ended::telling(Err(Fault::Run(Reason::Memory)), errors),
+        Err(_) => Ended::telling(Err(Fault::Usage), errors),
+    }
+}
+
+/// The answer of the run of the command that has these words.
+fn run_words<A: Allocator, R: Read, W: Write>(
+    alloc: A,
+    words: &[String],
+    reader: &mut Marked<R>,
+    writer: &mut Marked<W>,
+) -> Result<(), Fault>
+    requires reader_unmarked { has_failed reader.old ≡ false }
+    requires writer_unmarked { has_failed writer.old ≡ false }
+    ensures run { RunsTo (map string_bytes words.now) (R.remaining (marked_inner reader.old))
+        (R.remaining (marked_inner reader.new)) (W.contents (marked_inner writer.old))
+        (W.contents (marked_inner writer.new)) result }
+    ensures read { (result ≡ Err (Fault.Run Reason.Read)) ↔ (has_failed reader.new ≡ true) }
+    ensures write { (result ≡ Err (Fault.Run Reason.Write)) ↔ (has_failed writer.new ≡ true) }
+{
+    match Command::parse(words) {
+        Ok(command) => run_command(alloc, command, reader, writer),
+        Err(_) => Err(Fault::Usage),
+    }
+}
+
+/// The answer of the run of a command.
+fn run_command<A: Allocator, R: Read, W: Write>(
+    alloc: A,
+    command: Command<'_>,
+    reader: &mut Marked<R>,
+    writer: &mut Marked<W>,
+) -> Result<(), Fault>
+    requires reader_unmarked { has_failed reader.old ≡ false }
+    requires writer_unmarked { has_failed writer.old ≡ false }
+    ensures run { Does command.entry (R.remaining (marked_inner reader.old))
+        (R.remaining (marked_inner reader.new)) (W.contents (marked_inner writer.old))
+        (W.contents (marked_inner writer.new)) result }
+    ensures read { (result ≡ Err (Fault.Run Reason.Read)) ↔ (has_failed reader.new ≡ true) }
+    ensures write { (result ≡ Err (Fault.Run Reason.Write)) ↔ (has_failed writer.new ≡ true) }
+{
+    match command {
+        Command::ListAll(os) => {
+            run_on(
+                alloc,
+                os,
+                Settings {
+                    task: Task::ListAll,
+                    max: LONGEST_NAME,
+                },
+                reader,
+                writer,
+            )
+        }
+        Command::ListMatching(os, pattern) => match Glob::new(pattern) {
+            Ok(glob) => {
+                let task = Task::ListMatching(options_of(os), &glob);
+                run_on(
+                    alloc,
+                    os,
+                    Settings {
+                        task,
+                        max: LONGEST_NAME,
+                    },
+                    reader,
+                    writer,
+                )
+            }
+            Err(_) => Err(Fault::Usage),
+        },
+        Command::Join(os) => {
+            run_on(
+                alloc,
+                os,
+                Settings {
+                    task: Task::Join,
+                    max: LONGEST_LINE,
+                },
+                reader,
+                writer,
+            )
+        }
+        Command::Check(os) => {
+            run_on(
+                alloc,
+                os,
+                Settings {
+                    task: Task::Check,
+                    max: LONGEST_NAME,
+                },
+                reader,
+                writer,
+            )
+        }
+        Command::Help => write_help(writer),
+    }
+}
+
+/// The answer of the run on a platform.
+fn run_on<A: Allocator, R: Read, W: Write>(
+    alloc: A,
+    os: Os,
+    settings: Settings<'_, '_>,
+    reader: &mut Marked<R>,
+    writer: &mut Marked<W>,
+) -> Result<(), Fault>
+    requires reader_unmarked { has_failed reader.old ≡ false }
+    requires writer_unmarked { has_failed writer.old ≡ false }
+    ensures run { IsRun (strings os) settings.entry (R.remaining (marked_inner reader.old))
+        (R.remaining (marked_inner reader.new)) (W.contents (marked_inner writer.old))
+        (W.contents (marked_inner writer.new)) result }
+    ensures read { (result ≡ Err (Fault.Run Reason.Read)) ↔ (has_failed reader.new ≡ true) }
+    ensures write { (result ≡ Err (Fault.Run Reason.Write)) ↔ (has_failed writer.new ≡ true) }
+{
+    match os {
+        Os::Unix => run::<Unix, A, R, W>(alloc, settings, reader, writer),
+        Os::Windows => run::<Windows, A, R, W>(alloc, settings, reader, writer),
+        Os::Wasm => run::<Wasm, A, R, W>(alloc, settings, reader, writer),
+    }
+}
+
+/// Writes the help.
+fn write_help<W: Write>(writer: &mut Marked<W>) -> Result<(), Fault>
+    requires { has_failed writer.old ≡ false }
+    ensures help { WritesHelp (W.contents (marked_inner writer.old))
+        (W.contents (marked_inner writer.new)) result }
+    ensures no_read { result ≢ Err (Fault.Run Reason.Read) }
+    ensures write { (result ≡ Err (Fault.Run Reason.Write)) ↔ (has_failed writer.new ≡ true) }
+{
+    match write_out(
+        writer,
+        "names: lists of file names, escaped one a line, and back\n\nnames list  unix|windows|wasm [GLOB]  names ended by NUL in, the escape of each out, one a line;\n                                      with GLOB of those that it matches\nnames join  unix|windows|wasm         such lines in, names ended by NUL out\nnames check unix|windows|wasm         names ended by NUL in, nothing out: the status tells\nnames --help                          this text\n\nThe last name or line may lack its end. A name has at most 1048576 bytes, a line 6291456.\nStatus: 0, or 1 where a name or line is refused, 2 for other words, 3 where memory is refused,\n4 where a read or write fails. The first refused name is told with its number, from 1.\n".as_bytes(),
+    ) {
+        Ok(()) => Ok(()),
+        Err(_) => Err(Fault::Run(Reason::Write)),
+    }
+}
