@@ -1,0 +1,18 @@
+//! The program `names`: lists of file names, escaped one a line, and back.
+//!
+//! It hands its words and its ends to [`execute`], whose contract says what then is done.
+#![tactic(auto)]
+
+use commands::marked::Marked;
+use names_commands::program::{Ended, execute};
+use std::env;
+
+fn main(rt: HostRuntime) -> Ended {
+    execute(
+        rt.alloc(),
+        env::args(&rt),
+        &mut Marked::new(rt.reader()),
+        &mut Marked::new(rt.stdout()),
+        &mut rt.stderr(),
+    )
+}
