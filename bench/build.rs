@@ -1,12 +1,12 @@
-//! Links the static library of crates/os_str_bytes_c and the toolchain's C library.
+//! Links the static library of crates/bench_exports and the toolchain's C library.
 use std::env;
 use std::path::Path;
 
 fn main() {
-    let library = Path::new(&env::var("CARGO_MANIFEST_DIR").unwrap()).join("../crates/os_str_bytes_c/out");
-    println!("cargo:rerun-if-changed={}", library.join("libos_str_bytes_c.a").display());
+    let library = Path::new(&env::var("CARGO_MANIFEST_DIR").unwrap()).join("../crates/bench_exports/out");
+    println!("cargo:rerun-if-changed={}", library.join("libbench_exports.a").display());
     println!("cargo:rustc-link-search=native={}", library.display());
-    println!("cargo:rustc-link-lib=static=os_str_bytes_c");
+    println!("cargo:rustc-link-lib=static=bench_exports");
 
     println!("cargo:rerun-if-env-changed=C_LIBRARY");
     println!("cargo:rustc-link-arg={}", env::var("C_LIBRARY").unwrap());

@@ -1,4 +1,4 @@
-//! The exports of crates/os_str_bytes_c, which says what each answers.
+//! The exports of crates/bench_exports, which says what each answers.
 //!
 //! A slice crosses as a pointer and a length. The functions here are safe as long as the library
 //! is what its contracts say and the caller keeps what they ask.

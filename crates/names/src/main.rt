@@ -3,8 +3,8 @@
 //! It hands its words and its ends to [`execute`], whose contract says what then is done.
 #![tactic(auto)]
 
-use commands::marked::Marked;
 use names_commands::program::{Ended, execute};
+use osbytes_commands::marked::Marked;
 use std::env;
 
 fn main(rt: HostRuntime) -> Ended {

@@ -4,9 +4,9 @@ use Rattle.os_glob.specs.Items.{IsFirstFault}
 use Rattle.os_glob.specs.declared.error.GlobError.{GlobError}
 use Rattle.os_glob.specs.declared.options.GlobOptions.{GlobOptions}
 use Rattle.os_glob.specs.declared.options.Separators.TheVariants.{Slash, SlashAndBackslash}
-use Rattle.commands.specs.Command.{os_word}
-use Rattle.commands.specs.declared.command.Os.{Os}
-use Rattle.commands.specs.declared.command.Os.TheVariants.{Unix, Windows, Wasm}
+use Rattle.osbytes_commands.specs.Command.{os_word}
+use Rattle.osbytes_commands.specs.declared.command.Os.{Os}
+use Rattle.osbytes_commands.specs.declared.command.Os.TheVariants.{Unix, Windows, Wasm}
 use Rattle.names_commands.specs.declared.command.Command.{Command}
 use Rattle.names_commands.specs.declared.command.Command.TheVariants.{ListAll, ListMatching, Join, Check, Help}
 

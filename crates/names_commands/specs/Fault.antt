@@ -1,6 +1,6 @@
 -- The text and the exit status of each fault.
 use Rattle.std.specs.Prelude.{ℕ, List, ◌++◌, codes, decimal}
-use Rattle.commands.specs.Fault as reason
+use Rattle.osbytes_commands.specs.Fault as reason
 use Rattle.names_commands.specs.declared.fault.Fault.{Fault}
 use Rattle.names_commands.specs.declared.fault.Fault.TheVariants.{At, TooLong, HasNul, TooMuch, Usage, Run}
 

@@ -3,8 +3,8 @@ use Rattle.std.specs.Prelude.{◌≡◌, ◌≢◌, ◌⊎◌, ℕ, List, [], �
 use Rattle.std.specs.Io.KnownBytes.{Appends, IsAtEnd}
 use Rattle.os_str_bytes.specs.Platform.{Ghosts}
 use Rattle.os_glob.specs.declared.options.GlobOptions.{GlobOptions}
-use Rattle.commands.specs.Strings.{strings}
-use Rattle.commands.specs.declared.fault.Fault.TheVariants.{Write}
+use Rattle.osbytes_commands.specs.Strings.{strings}
+use Rattle.osbytes_commands.specs.declared.fault.Fault.TheVariants.{Write}
 use Rattle.names_commands.specs.declared.command.Command.{Command}
 use Rattle.names_commands.specs.declared.command.Command.TheVariants.{ListAll, ListMatching, Join, Check, Help}
 use Rattle.names_commands.specs.declared.fault.Fault.{Fault}

@@ -2,7 +2,7 @@
 use Rattle.std.specs.Prelude.{◌≡◌, ◌⊎◌, ℕ, ◌+◌, ◌^◌, ◌≤◌, ◌<◌, List, [], ◌∷◌, ◌++◌, length}
 use Rattle.std.specs.List.{AllByRecursion}
 use Rattle.os_str_bytes.specs.Platform.{Ghosts}
-use Rattle.commands.specs.declared.fault.Fault.TheVariants.{Memory}
+use Rattle.osbytes_commands.specs.declared.fault.Fault.TheVariants.{Memory}
 use Rattle.names_commands.specs.declared.fault.Fault.{Fault}
 use Rattle.names_commands.specs.declared.fault.Fault.TheVariants.{At, TooLong, HasNul, TooMuch, Usage, Run}
 use Rattle.names_commands.specs.declared.task.Settings.{Settings}

@@ -9,8 +9,8 @@ use Rattle.os_quote.specs.Escape.{IsLineEscape, IsLineFault}
 use Rattle.os_quote.specs.declared.error.QuoteError.{QuoteError}
 use Rattle.os_quote.specs.declared.error.QuoteError.TheVariants as quote
 use Rattle.os_glob.specs.Match.{IsMatch}
-use Rattle.commands.specs.declared.fault.Fault.{Fault as Reason}
-use Rattle.commands.specs.declared.fault.Fault.TheVariants as reason
+use Rattle.osbytes_commands.specs.declared.fault.Fault.{Fault as Reason}
+use Rattle.osbytes_commands.specs.declared.fault.Fault.TheVariants as reason
 use Rattle.names_commands.specs.declared.fault.Fault.{Fault}
 use Rattle.names_commands.specs.declared.fault.Fault.TheVariants.{At, TooLong, HasNul, TooMuch, Usage, Run}
 use Rattle.names_commands.specs.declared.task.Task.{Task}

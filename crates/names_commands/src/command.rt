@@ -4,8 +4,8 @@ ghost use Rattle.names_commands.specs.declared.command.Command.{Command};
 ghost use Rattle.names_commands.specs.Command.{words_of, options_of};
 
 use crate::fault::Fault;
-use commands::command::Os;
 use os_glob::{GlobOptions, Separators};
+use osbytes_commands::command::Os;
 
 /// What the program is asked to do.
 #[derive(Clone, Copy, PartialEq, Eq)]
@@ -31,7 +31,7 @@ impl<'a> Command<'a> {
     /// [`Fault::Usage`] for all other words.
     ///
     /// ```
-    /// use commands::command::Os;
+    /// use osbytes_commands::command::Os;
     /// use names_commands::command::Command;
     ///
     /// let mut words = Vec::new(alloc);

@@ -2,7 +2,7 @@
 ghost use Rattle.std.specs.Fmt.{WritesStyledOnOk};
 ghost use Rattle.names_commands.specs.Fault.{place_text};
 
-use commands::fault::{Fault as Reason, write_number};
+use osbytes_commands::fault::{Fault as Reason, write_number};
 use std::fmt;
 use std::fmt::Display as _;
 
@@ -34,7 +34,7 @@ impl Fault {
     /// want of memory, and 4 for a failed read or write.
     ///
     /// ```
-    /// use commands::fault::Fault as Reason;
+    /// use osbytes_commands::fault::Fault as Reason;
     /// use names_commands::fault::Fault;
     ///
     /// assert_eq!(rt; Fault::TooLong(3, 255).status(), 1);

@@ -3,7 +3,7 @@ ghost use Rattle.std.specs.Prelude.{◌≡◌, ◌≤◌, ◌++◌, ◌∷◌, [
 ghost use Rattle.os_str_bytes.specs.Strings.{bytes};
 ghost use Rattle.os_quote.specs.Escape.{IsLineEscape};
 ghost use Rattle.os_str_bytes.specs.EncodingError.{EncodingError};
-ghost use Rattle.commands.specs.declared.fault.Fault.TheVariants.{Refused, Memory};
+ghost use Rattle.osbytes_commands.specs.declared.fault.Fault.TheVariants.{Refused, Memory};
 ghost use Rattle.names_commands.specs.declared.fault.Fault.TheVariants.{At, Run};
 ghost use Rattle.names_commands.specs.declared.task.Task.TheVariants.{Join};
 ghost use Rattle.names_commands.specs.Task.{IsText, IsItemFault};
@@ -11,10 +11,10 @@ ghost use Rattle.names_commands.specs.Task.{IsText, IsItemFault};
 use crate::fault::Fault;
 use crate::split::split_at_end;
 use crate::task::{Settings, Task};
-use commands::fault::Fault as Reason;
-use commands::string::string;
 use os_quote::{QuoteError, escape_line, unescape_line};
 use os_str_bytes::{OsStr, Platform, Wasm};
+use osbytes_commands::fault::Fault as Reason;
+use osbytes_commands::string::string;
 use std::alloc::Allocator;
 
 /// Appends what is written for an item.

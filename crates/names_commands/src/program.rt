@@ -2,10 +2,10 @@
 ghost use Rattle.std.specs.Prelude.{◌≡◌, ◌≢◌, ◌↔◌, true, false, map, string_bytes, IfOk, IfErr, OnOk, IsOk, Ok, Err, ◌⊎◌};
 ghost use Rattle.std.specs.Io.KnownBytes.{Appends};
 ghost use Rattle.std.specs.IoError.{error_kind};
-ghost use Rattle.commands.specs.Marked.{marked_inner, has_failed};
-ghost use Rattle.commands.specs.Program.{words_behind_name};
-ghost use Rattle.commands.specs.Strings.{strings};
-ghost use Rattle.commands.specs.declared.fault.Fault.{Fault as Reason};
+ghost use Rattle.osbytes_commands.specs.Marked.{marked_inner, has_failed};
+ghost use Rattle.osbytes_commands.specs.Program.{words_behind_name};
+ghost use Rattle.osbytes_commands.specs.Strings.{strings};
+ghost use Rattle.osbytes_commands.specs.declared.fault.Fault.{Fault as Reason};
 ghost use Rattle.names_commands.specs.Ended.{outcome_of, was_told};
 ghost use Rattle.names_commands.specs.Program.{message, WritesMessageBeginning, IsRun, WritesHelp, Does, RunsTo};
 
@@ -14,13 +14,13 @@ use crate::fault::Fault;
 use crate::run::run;
 use crate::task::{Settings, Task};
 use crate::telling::tell;
-use commands::command::Os;
-use commands::fault::Fault as Reason;
-use commands::marked::Marked;
-use commands::program::{Messages, Output, words};
-use commands::run::write_out;
 use os_glob::Glob;
 use os_str_bytes::{Unix, Wasm, Windows};
+use osbytes_commands::command::Os;
+use osbytes_commands::fault::Fault as Reason;
+use osbytes_commands::marked::Marked;
+use osbytes_commands::program::{Messages, Output, words};
+use osbytes_commands::run::write_out;
 use std::alloc::Allocator;
 use std::env::Args;
 use std::io;
@@ -66,7 +66,7 @@ impl Ended {
     /// What the run answered.
     ///
     /// ```
-    /// use commands::marked::Marked;
+    /// use osbytes_commands::marked::Marked;
     /// use names_commands::fault::Fault;
     /// use names_commands::program::execute;
     ///
@@ -84,7 +84,7 @@ impl Ended {
     /// Whether the whole message was taken, where there was one.
     ///
     /// ```
-    /// use commands::marked::Marked;
+    /// use osbytes_commands::marked::Marked;
     /// use names_commands::program::execute;
     ///
     /// let no_words = Ok(Vec::new(alloc).into_iter());
@@ -123,7 +123,7 @@ impl Termination for Ended {
 /// ([`Marked::failed`] tells).
 ///
 /// ```
-/// use commands::marked::Marked;
+/// use osbytes_commands::marked::Marked;
 /// use names_commands::program::execute;
 /// use std::process::{ExitCode, Termination};
 ///

@@ -8,8 +8,8 @@ use crate::fault::Fault;
 use crate::item::write_item;
 use crate::split::split_at_end;
 use crate::task::Settings;
-use commands::fault::Fault as Reason;
 use os_str_bytes::Platform;
+use osbytes_commands::fault::Fault as Reason;
 use std::alloc::Allocator;
 
 /// Reads a block: what is to be written for the items that end in it is appended to the output,

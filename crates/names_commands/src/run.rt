@@ -1,9 +1,9 @@
 //! One run: items read, what is to be written for them made, and written, block by block.
 ghost use Rattle.std.specs.Prelude.{◌≡◌, ◌≢◌, ◌↔◌, ◌+◌, ◌<◌, ◌^◌, ◌++◌, [], length, take, ℕ, List, true, false, OnOk, OnErr, IfOk, IfErr};
 ghost use Rattle.std.specs.Io.KnownBytes.{Appends, IsAtEnd};
-ghost use Rattle.commands.specs.declared.fault.Fault.{Fault as Reason};
+ghost use Rattle.osbytes_commands.specs.declared.fault.Fault.{Fault as Reason};
 ghost use Rattle.names_commands.specs.declared.fault.Fault.{Fault};
-ghost use Rattle.commands.specs.Marked.{marked_inner, has_failed};
+ghost use Rattle.osbytes_commands.specs.Marked.{marked_inner, has_failed};
 ghost use Rattle.names_commands.specs.Task.{IsItemFault};
 ghost use Rattle.names_commands.specs.Reading.{HasBegun, Reads, Stops, Begins};
 ghost use Rattle.names_commands.specs.Run.{WritesOutput, WritesUpTo, WritesBeginning, Finishes, IsLast};
@@ -12,10 +12,10 @@ use crate::fault::Fault;
 use crate::item::write_item;
 use crate::reading::read_block;
 use crate::task::Settings;
-use commands::fault::Fault as Reason;
-use commands::marked::Marked;
-use commands::run::write_out;
 use os_str_bytes::Platform;
+use osbytes_commands::fault::Fault as Reason;
+use osbytes_commands::marked::Marked;
+use osbytes_commands::run::write_out;
 use std::alloc::Allocator;
 use std::io::{Read, Write};
 
@@ -37,7 +37,7 @@ const BLOCK: usize = 16384;
 /// items of a beginning of the input is written, or before `Write` a beginning of that.
 ///
 /// ```
-/// use commands::marked::Marked;
+/// use osbytes_commands::marked::Marked;
 /// use names_commands::run::run;
 /// use names_commands::task::{Settings, Task};
 /// use os_str_bytes::Unix;

@@ -5,7 +5,7 @@ ghost use Rattle.std.specs.Io.KnownBytes.{Appends};
 ghost use Rattle.names_commands.specs.Program.{message, WritesMessageBeginning};
 
 use crate::fault::Fault;
-use commands::telling::write_text;
+use osbytes_commands::telling::write_text;
 use std::fmt::{InlineText, Write as _};
 use std::io::Write;
 

@@ -3,7 +3,7 @@ use Rattle.std.proofs.Common.{◌≡◌, ◌⊎◌, inl, inr, ℕ, ◌+◌, ◌^
 use Rattle.std.specs.List.{AllByRecursion, flat_map}
 use Rattle.std.proofs.lemmas.Grind.{flat_map-append}
 use Rattle.os_str_bytes.specs.Platform.{Ghosts}
-use Rattle.commands.specs.declared.fault.Fault.TheVariants.{Memory}
+use Rattle.osbytes_commands.specs.declared.fault.Fault.TheVariants.{Memory}
 use Rattle.names_commands.specs.declared.fault.Fault.{Fault}
 use Rattle.names_commands.specs.declared.fault.Fault.TheVariants.{At, TooLong, HasNul, TooMuch, Usage, Run}
 use Rattle.names_commands.specs.declared.task.Settings.{Settings}

@@ -5,8 +5,8 @@ use Rattle.std.proofs.lemmas.Grind.{flat_map-append}
 use Rattle.std.proofs.Math.Seq.{take-append-add}
 use Rattle.std.specs.Io.KnownBytes.{Appends, Consumes, IsAtEnd}
 use Rattle.os_str_bytes.specs.Platform.{Ghosts}
-use Rattle.commands.specs.declared.fault.Fault.{Fault as Reason}
-use Rattle.commands.specs.declared.fault.Fault.TheVariants as reason
+use Rattle.osbytes_commands.specs.declared.fault.Fault.{Fault as Reason}
+use Rattle.osbytes_commands.specs.declared.fault.Fault.TheVariants as reason
 use Rattle.names_commands.specs.declared.fault.Fault.{Fault}
 use Rattle.names_commands.specs.declared.fault.Fault.TheVariants.{At, TooLong, HasNul, TooMuch, Usage, Run}
 use Rattle.names_commands.specs.declared.task.Settings.{Settings}

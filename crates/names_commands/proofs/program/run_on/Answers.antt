@@ -1,6 +1,6 @@
 use Rattle.std.proofs.Common.{sym, subst}
-use Rattle.commands.specs.Marked.{marked_inner}
-use Rattle.commands.specs.Strings.{strings}
+use Rattle.osbytes_commands.specs.Marked.{marked_inner}
+use Rattle.osbytes_commands.specs.Strings.{strings}
 use Rattle.names_commands.specs.Program.{IsRun}
 use Rattle.names_commands.proofs.program.run_on.Goals as goal
 

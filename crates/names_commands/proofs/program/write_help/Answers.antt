@@ -1,6 +1,6 @@
 use Rattle.std.proofs.Common.{refl, subst, take}
 use Rattle.std.specs.Io.KnownBytes.{Appends}
-use Rattle.commands.specs.Marked.{marked_inner}
+use Rattle.osbytes_commands.specs.Marked.{marked_inner}
 use Rattle.names_commands.proofs.program.write_help.Goals as goal
 
 pub returns-in-Err-clause-help : goal.returns-in-Err-clause-help

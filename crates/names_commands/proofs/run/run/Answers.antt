@@ -1,8 +1,8 @@
 use Rattle.std.proofs.Common.{rules, ◌≡◌, ◌≢◌, ◌+◌, ◌≤◌, ◌<◌, ◌^◌, length, take, Result, Ok, Err, OnOk, IfErr, refl, sym, subst, arith}
 use Rattle.std.proofs.lemmas.List.{length-take-le}
 use Rattle.std.specs.Io.KnownBytes.{Consumes, IsAtEnd}
-use Rattle.commands.specs.Marked.{marked_inner}
-use Rattle.commands.specs.declared.fault.Fault.TheVariants.{Read}
+use Rattle.osbytes_commands.specs.Marked.{marked_inner}
+use Rattle.osbytes_commands.specs.declared.fault.Fault.TheVariants.{Read}
 use Rattle.names_commands.specs.Task.{IsItemFault}
 use Rattle.names_commands.specs.Run.{WritesUpTo, Finishes, IsLast}
 use Rattle.names_commands.proofs.lemmas.Runs.{nothing_read, counted, more_read, stopped, half_written, so_far, too_much, finished, last_refused, last_half}

@@ -1,5 +1,5 @@
 use Rattle.std.proofs.Common.{◌≡◌, ◌+◌, ◌-◌, ◌^◌, ◌<◌, false}
-use Rattle.commands.specs.Marked.{marked_inner, has_failed}
+use Rattle.osbytes_commands.specs.Marked.{marked_inner, has_failed}
 use Rattle.names_commands.specs.Run.{HasRead}
 use Rattle.names_commands.proofs.run.run.Given as goal
 

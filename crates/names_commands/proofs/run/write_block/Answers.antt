@@ -1,7 +1,7 @@
 use Rattle.std.proofs.Common.{[], subst}
 use Rattle.std.specs.Io.KnownBytes.{Appends}
 use Rattle.std.proofs.Common.{take}
-use Rattle.commands.specs.Marked.{marked_inner}
+use Rattle.osbytes_commands.specs.Marked.{marked_inner}
 use Rattle.names_commands.specs.Reading.{Reads}
 use Rattle.names_commands.proofs.lemmas.Runs.{reads_begin, no_write}
 use Rattle.names_commands.proofs.run.write_block.Goals as goal

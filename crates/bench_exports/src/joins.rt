@@ -1,0 +1,65 @@
+//! Joins and fronts of Windows strings, whose bytes are WTF-8.
+ghost use Rattle.std.specs.Prelude.{◌≢◌, ◌↔◌, IsTrue};
+ghost use Rattle.wtf8_core.specs.Standing.{IsFront};
+ghost use Rattle.wtf8_core.specs.UnitsOf.{units_of};
+ghost use Rattle.wtf8_core.specs.Wtf8.{IsWtf8};
+ghost use Rattle.platform_str.specs.Strings.{bytes};
+ghost use Rattle.bench_exports.specs.Answers.{IsRepeatedLength};
+
+use os_str_ext::OsStrBytesExt;
+use platform_str::{OsStr, OsString, Platform, Windows};
+use std::alloc::Global;
+
+/// How many bytes the string has onto which a part was pushed so many times, or `usize::MAX`
+/// where memory was refused.
+fn pushed_len<E: Platform>(alloc: Global, part: OsStr<E>, count: usize) -> usize
+    ensures { result ≢ usize.MAX → IsRepeatedLength E.well_formed E.units (bytes part.entry) count
+        result }
+{
+    let mut all = OsString::new(alloc);
+    for _ in 0..count {
+        match all.push(part) {
+            Ok(()) => {}
+            Err(_) => return usize::MAX,
+        }
+    }
+    all.as_os_str().len()
+}
+
+/// How many bytes the empty string has after the part was pushed `count` times, or
+/// `usize::MAX` where memory was refused.
+#[unsafe(no_mangle)]
+pub extern "C" fn port_push(alloc: Global, raw: &[u8], count: usize) -> usize
+    requires { IsWtf8 raw.now }
+    ensures { result ≢ usize.MAX → IsRepeatedLength IsWtf8 units_of raw.now count result }
+{
+    pushed_len(
+        alloc,
+        OsStr::<Windows>::from_encoded_bytes_unchecked(raw),
+        count,
+    )
+}
+
+/// How many bytes the string has `count` times over, or `usize::MAX` where memory was refused or
+/// the length would pass it.
+#[unsafe(no_mangle)]
+pub extern "C" fn port_repeat(alloc: Global, raw: &[u8], count: usize) -> usize
+    requires { IsWtf8 raw.now }
+    ensures { result ≢ usize.MAX → IsRepeatedLength IsWtf8 units_of raw.now count result }
+{
+    match OsStr::<Windows>::from_encoded_bytes_unchecked(raw).repeat(alloc, count) {
+        Ok(all) => all.as_os_str().len(),
+        Err(_) => usize::MAX,
+    }
+}
+
+/// Whether the units of the second string are a prefix of those of the first.
+#[unsafe(no_mangle)]
+pub extern "C" fn port_starts_with_os(raw: &[u8], front: &[u8]) -> bool
+    requires string { IsWtf8 raw.now }
+    requires front { IsWtf8 front.now }
+    ensures { IsTrue result ↔ IsFront (units_of front.now) (units_of raw.now) }
+{
+    let front = OsStr::<Windows>::from_encoded_bytes_unchecked(front);
+    OsStr::<Windows>::from_encoded_bytes_unchecked(raw).starts_with_os(front)
+}

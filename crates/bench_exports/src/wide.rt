@@ -1,0 +1,70 @@
+//! Bytes to units and back.
+ghost use Rattle.std.specs.Prelude.{◌≡◌, ◌≢◌, ◌≤◌, ℕ, List, length};
+ghost use Rattle.wtf8_core.specs.Wtf8.{HasUnits, IsWtf8};
+ghost use Rattle.bench_exports.specs.Answers.{IsFaulty, IsFilled};
+
+use platform_str::windows::{OsStr, OsString};
+use std::alloc::Global;
+use wtf8_core::{DecodeWide, encode_wide};
+
+/// Writes the units of the bytes into `out`, which is at least as long as the bytes, and
+/// answers how many they are; `usize::MAX` where the bytes aren't WTF-8.
+#[unsafe(no_mangle)]
+pub extern "C" fn port_encode_wide(bytes: &[u8], out: &mut [u16]) -> usize
+    requires room { length bytes.now ≤ length out.old }
+    ensures units { result ≢ usize.MAX → IsFilled (HasUnits bytes.now) out.old out.new result }
+    ensures fault { result ≡ usize.MAX → IsFaulty bytes.now }
+{
+    let mut written = 0;
+    for item in encode_wide(bytes) {
+        match item {
+            Ok(unit) => {
+                out[written] = unit;
+                written += 1;
+            }
+            Err(_) => return usize::MAX,
+        }
+    }
+    written
+}
+
+/// Writes the bytes of the units into `out`, which has room for them, and answers how many
+/// they are. Three bytes for each unit are always room enough.
+#[unsafe(no_mangle)]
+pub extern "C" fn port_decode_wide(units: &[u16], out: &mut [u8]) -> usize
+    requires room { (bytes : List ℕ) → HasUnits bytes units.now → length bytes ≤ length out.old }
+    ensures { IsFilled (λ bytes. HasUnits bytes units.now) out.old out.new result }
+{
+    let mut written = 0;
+    for byte in DecodeWide::new(units) {
+        out[written] = byte;
+        written += 1;
+    }
+    written
+}
+
+/// How many bytes the string with the units has, or `usize::MAX` where memory was refused.
+#[unsafe(no_mangle)]
+pub extern "C" fn port_from_wide(alloc: Global, units: &[u16]) -> usize
+    ensures { result ≢ usize.MAX → (bytes : List ℕ) × HasUnits bytes units.now
+        × (result ≡ length bytes) }
+{
+    match OsString::from_wide(alloc, units) {
+        Ok(string) => string.as_os_str().len(),
+        Err(_) => usize::MAX,
+    }
+}
+
+/// How many units the string has that the bytes are, once all are in a vector; `usize::MAX` where
+/// memory was refused.
+#[unsafe(no_mangle)]
+pub extern "C" fn port_to_wide(alloc: Global, bytes: &[u8]) -> usize
+    requires { IsWtf8 bytes.now }
+    ensures { result ≢ usize.MAX → (units : List ℕ) × HasUnits bytes.now units
+        × (result ≡ length units) }
+{
+    match OsStr::from_encoded_bytes_unchecked(bytes).to_wide(alloc) {
+        Ok(units) => units.len(),
+        Err(_) => usize::MAX,
+    }
+}

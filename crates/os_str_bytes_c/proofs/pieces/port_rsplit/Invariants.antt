@@ -1,7 +1,0 @@
-use Rattle.std.proofs.Common.{◌≡◌, ℕ, ◌+◌, List, length}
-use Rattle.wtf8_core.specs.Pieces.{IsRSplit}
-use Rattle.os_str_bytes_c.proofs.pieces.port_rsplit.Given as goal
-
--- the pieces so far and those left are all
-abbrev pub invariant-loop : goal.invariant-loop
-invariant-loop l = (all : List (List ℕ)) × IsRSplit l.pattern l.raw all × (l.count + length l.iterator' ≡ length all)

@@ -1,5 +1,0 @@
-use Rattle.std.proofs.Common.{refl, inl}
-use Rattle.os_str_bytes_c.proofs.search.port_find.Goals as goal
-
-pub returns-in-None : goal.returns-in-None
-returns-in-None c = inl (rw (c.text.ensures, c.unix.ensures) at c.in-None.ensures.bytes, refl)

@@ -1,0 +1,95 @@
+-- What a command does is decided by its words.
+use Rattle.std.proofs.Common.{◌≡◌, ℕ, List, [], Option, Result, length, get_or, refl, sym, ap, subst, ◌∙◌, arith}
+use Rattle.std.specs.Prelude.{take, ◌<◌, IfSome, IfErr, OnOk, Err, ◌⊎◌}
+use Rattle.std.specs.Io.KnownBytes.{Appends}
+use Rattle.osbytes_commands.specs.declared.command.Os.{Os}
+use Rattle.osbytes_commands.specs.declared.command.Os.TheVariants.{Unix, Windows, Wasm}
+use Rattle.osbytes_commands.specs.declared.command.Command.{Command}
+use Rattle.osbytes_commands.specs.declared.command.Command.TheVariants.{Units, Raw, Find, Split, Chunks, Quote, Unquote}
+use Rattle.osbytes_commands.specs.declared.fault.Fault.{Fault}
+use Rattle.osbytes_commands.specs.declared.fault.Fault.TheVariants.{Refused, BadLine, BadQuote, Usage, Memory, Read, Write}
+use Rattle.osbytes_commands.specs.Command.{os_word, words_of, IsUnusable}
+use Rattle.osbytes_commands.specs.Lines.{place_line, piece_lines}
+use Rattle.osbytes_commands.specs.Output.{IsOutput, IsRefusal, IsOfInput, FindsLeast, AreSplit}
+use Rattle.osbytes_commands.specs.Program.{IsOutcome}
+use Rattle.osbytes_commands.specs.Strings.{strings}
+
+-- the refusals of `split` at a text
+abbrev SplitRefusal : Os → List ℕ → List ℕ → Fault → Type 0
+SplitRefusal os text input (Refused error) = (0 < length text) × (strings os).first_fault input error
+SplitRefusal os text input (BadLine number) = ⊥
+SplitRefusal os text input (BadQuote error) = ⊥
+SplitRefusal os text input Usage = ⊥
+SplitRefusal os text input Memory = ⊥
+SplitRefusal os text input Read = ⊥
+SplitRefusal os text input Write = ⊥
+
+same_os : (a b : Os) → os_word a ≡ os_word b → a ≡ b
+same_os Unix Unix e = refl
+same_os Unix Windows e = let lengths : ◌≡◌ {A = ℕ} 4 7 = ap length e in absurd (omega arith)
+same_os Unix Wasm e = let letters : ◌≡◌ {A = ℕ} 117 119 = ap (λ word. get_or word 0 0) e in absurd (omega arith)
+same_os Windows Unix e = let lengths : ◌≡◌ {A = ℕ} 7 4 = ap length e in absurd (omega arith)
+same_os Windows Windows e = refl
+same_os Windows Wasm e = let lengths : ◌≡◌ {A = ℕ} 7 4 = ap length e in absurd (omega arith)
+same_os Wasm Unix e = let letters : ◌≡◌ {A = ℕ} 119 117 = ap (λ word. get_or word 0 0) e in absurd (omega arith)
+same_os Wasm Windows e = let lengths : ◌≡◌ {A = ℕ} 4 7 = ap length e in absurd (omega arith)
+same_os Wasm Wasm e = refl
+
+-- the third letter of the command's word
+abbrev letter : Command → ℕ
+letter (Units os) = 105
+letter (Raw os) = 119
+letter (Find os pattern) = 110
+letter (Split os pattern) = 108
+letter (Chunks os) = 117
+letter (Quote os) = 111
+letter (Unquote os) = 113
+
+letter_is : (c : Command) → letter c ≡ get_or (get_or (words_of c) 0 []) 2 0
+letter_is (Units os) = refl
+letter_is (Raw os) = refl
+letter_is (Find os pattern) = refl
+letter_is (Split os pattern) = refl
+letter_is (Chunks os) = refl
+letter_is (Quote os) = refl
+letter_is (Unquote os) = refl
+
+same_letter : (c d : Command) → words_of c ≡ words_of d → letter c ≡ letter d
+same_letter c d e = letter_is c ∙ ap (λ words. get_or (get_or words 0 []) 2 0) e ∙ sym (letter_is d)
+
+-- what is said of one command's output, of its refusals and of whether it can't run is said of another's with the same words
+same_meaning : (M : (List ℕ → List ℕ → Type 0) → (List ℕ → Fault → Type 0) → Type 0 → Type 0) (c d : Command) → words_of c ≡ words_of d
+    → M (IsOutput c) (IsRefusal c) (IsUnusable c) → M (IsOutput d) (IsRefusal d) (IsUnusable d)
+same_meaning M (Units a) (Units b) e m = subst (λ os. M (IsOutput (Units os)) (IsRefusal (Units os)) ⊥) (same_os a b (ap (λ words. get_or words 1 []) e)) m
+same_meaning M (Raw a) (Raw b) e m = subst (λ os. M (IsOutput (Raw os)) (IsRefusal (Raw os)) ⊥) (same_os a b (ap (λ words. get_or words 1 []) e)) m
+same_meaning M (Chunks a) (Chunks b) e m = subst (λ os. M (IsOutput (Chunks os)) (IsRefusal (Chunks os)) ⊥) (same_os a b (ap (λ words. get_or words 1 []) e)) m
+same_meaning M (Quote a) (Quote b) e m = subst (λ os. M (IsOutput (Quote os)) (IsRefusal (Quote os)) ⊥) (same_os a b (ap (λ words. get_or words 1 []) e)) m
+same_meaning M (Unquote a) (Unquote b) e m = subst (λ os. M (IsOutput (Unquote os)) (IsRefusal (Unquote os)) ⊥) (same_os a b (ap (λ words. get_or words 1 []) e)) m
+same_meaning M (Find a p) (Find b q) e m =
+    let on_platform = subst (λ os. M (IsOutput (Find os p)) (IsRefusal (Find os p)) ⊥) (same_os a b (ap (λ words. get_or words 1 []) e)) m in
+    let same : p.now ≡ q.now = ap (λ words. get_or words 2 []) e in
+    subst (λ text. M (λ input output. (strings b).well_formed input × ((place : Option ℕ) × FindsLeast (strings b) text input place × (output ≡ place_line place))) (IsRefusal (Find b q)) ⊥) same on_platform
+same_meaning M (Split a p) (Split b q) e m =
+    let on_platform = subst (λ os. M (IsOutput (Split os p)) (IsRefusal (Split os p)) (length p.now ≡ 0)) (same_os a b (ap (λ words. get_or words 1 []) e)) m in
+    let same : p.now ≡ q.now = ap (λ words. get_or words 2 []) e in
+    subst (λ text. M (λ input output. (strings b).well_formed input × ((pieces : List (List ℕ)) × AreSplit (strings b) text input pieces × (output ≡ piece_lines pieces))) (SplitRefusal b text) (length text ≡ 0)) same on_platform
+same_meaning M (Units a) d e m = let letters = same_letter (Units a) d e in absurd (omega arith)
+same_meaning M (Raw a) d e m = let letters = same_letter (Raw a) d e in absurd (omega arith)
+same_meaning M (Quote a) d e m = let letters = same_letter (Quote a) d e in absurd (omega arith)
+same_meaning M (Unquote a) d e m = let letters = same_letter (Unquote a) d e in absurd (omega arith)
+same_meaning M (Chunks a) d e m = let letters = same_letter (Chunks a) d e in absurd (omega arith)
+same_meaning M (Find a p) d e m = let letters = same_letter (Find a p) d e in absurd (omega arith)
+same_meaning M (Split a p) d e m = let letters = same_letter (Split a p) d e in absurd (omega arith)
+
+-- a command with the words of one that can't run can't run
+pub same_unusable : (c d : Command) (words : List (List ℕ)) → words ≡ words_of c → IsUnusable c → words ≡ words_of d → IsUnusable d
+same_unusable c d words of_c unusable of_d = let e : words_of c ≡ words_of d = sym of_c ∙ of_d in same_meaning (λ Writes Refuses Unusable. Unusable) c d e unusable
+
+pub same_outcome : {T : Type 0} (c d : Command) (words : List (List ℕ)) (input old new : Option (List ℕ)) (answer : Result T Fault)
+    → words ≡ words_of c → IsOutcome c input old new answer → words ≡ words_of d → IsOutcome d input old new answer
+same_outcome c d words input old new answer of_c outcome of_d = let e : words_of c ≡ words_of d = sym of_c ∙ of_d in record {
+  written = same_meaning (λ Writes Refuses Unusable. OnOk answer (IfSome input (λ bytes. (output : List ℕ) × Writes bytes output × Appends old new output))) c d e outcome.written;
+  of_input = same_meaning (λ Writes Refuses Unusable. IfErr answer (λ fault. IsOfInput fault → IfSome input (λ bytes. Refuses bytes fault))) c d e outcome.of_input;
+  refusal = same_meaning (λ Writes Refuses Unusable. IfSome input (λ bytes. (fault : Fault) → Refuses bytes fault → (answer ≡ Err fault) ⊎ (answer ≡ Err Read) ⊎ (answer ≡ Err Memory))) c d e outcome.refusal;
+  beginning_written = same_meaning (λ Writes Refuses Unusable. answer ≡ Err Write → IfSome input (λ bytes. (output : List ℕ) × (count : ℕ) × Writes bytes output × Appends old new (take count output))) c d e outcome.beginning_written;
+}

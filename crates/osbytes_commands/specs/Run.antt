@@ -1,0 +1,27 @@
+-- What a run does with the bytes that its reader had left, as far as they are known.
+use Rattle.std.specs.Prelude.{◌≡◌, ◌⊎◌, ℕ, List, take, Option, IfSome, Result, Err}
+use Rattle.std.specs.Io.KnownBytes.{Appends}
+use Rattle.osbytes_commands.specs.declared.command.Command.{Command}
+use Rattle.osbytes_commands.specs.declared.fault.Fault.{Fault}
+use Rattle.osbytes_commands.specs.declared.fault.Fault.TheVariants.{Read, Memory}
+use Rattle.osbytes_commands.specs.Output.{IsOutput, IsRefusal}
+
+-- the contents grew by the output for the input
+abbrev pub WritesOutput : Command → Option (List ℕ) → Option (List ℕ) → Option (List ℕ) → Type 0
+WritesOutput command input old new =
+    IfSome input (λ bytes. (output : List ℕ) × IsOutput command bytes output × Appends old new output)
+
+-- the contents grew by a beginning of the output for the input
+abbrev pub WritesBeginning : Command → Option (List ℕ) → Option (List ℕ) → Option (List ℕ) → Type 0
+WritesBeginning command input old new =
+    IfSome input (λ bytes. (output : List ℕ) × (count : ℕ) × IsOutput command bytes output × Appends old new (take count output))
+
+-- the command refuses the input with the fault
+abbrev pub RefusesInput : Command → Option (List ℕ) → Fault → Type 0
+RefusesInput command input fault = IfSome input (λ bytes. IsRefusal command bytes fault)
+
+-- where the command refuses the input with a fault, the answer is that fault, unless a read failed or memory was refused
+abbrev pub AnswersRefusal : {T : Type 0} → Command → Option (List ℕ) → Result T Fault → Type 0
+AnswersRefusal command input answer =
+    IfSome input (λ bytes. (fault : Fault) → IsRefusal command bytes fault
+    → (answer ≡ Err fault) ⊎ (answer ≡ Err Read) ⊎ (answer ≡ Err Memory))

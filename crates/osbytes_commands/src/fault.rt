@@ -1,0 +1,138 @@
+//! What keeps the program from its output.
+ghost use Rattle.std.specs.Prelude.{◌≡◌, Some, decimal};
+ghost use Rattle.std.specs.Fmt.{WritesStyledOnOk};
+ghost use Rattle.osbytes_commands.specs.declared.fault.Fault.TheVariants.{Refused, Memory};
+
+use os_quote::QuoteError;
+use os_str_bytes::EncodingError;
+use std::alloc::{AllocError, AllocFailed};
+use std::fmt;
+use std::fmt::{Display as _, InlineText, Write as _};
+
+/// The reason why a run of the program wrote no output, or not all of it.
+///
+/// Its text is what the program prints of it: that of `BadLine(2)` is `line 2 is not a unit`. It
+/// has no width: `{:>99}` writes what `{}` does.
+#[derive(Clone, Copy, PartialEq, Eq)]
+pub enum Fault {
+    /// The input is not the bytes of a string of the platform.
+    Refused(EncodingError),
+    /// This line of the input, counted from 1, is the first that is no unit's.
+    BadLine(usize),
+    /// The input is the escape of no string of the platform. Want of memory is
+    /// [`Fault::Memory`], also in quoting.
+    BadQuote(QuoteError),
+    /// The words ask for no command.
+    Usage,
+    /// A request for memory was refused.
+    Memory,
+    /// A read of the input failed.
+    Read,
+    /// A write of the output failed or took nothing, or the flush failed.
+    Write,
+}
+
+impl Fault {
+    ghost use Rattle.osbytes_commands.specs.Fault.{status_of};
+
+    /// The status that the program ends with: 1 for input that it refuses, 2 for its
+    /// words, 3 for want of memory, and 4 for a failed read or write. That of `BadLine(2)` is 1.
+    ///
+    /// ```
+    /// use osbytes_commands::fault::Fault;
+    ///
+    /// assert_eq!(rt; Fault::BadLine(2).status(), 1);
+    /// assert_eq!(rt; Fault::Usage.status(), 2);
+    /// ```
+    pub fn status(&self) -> u8
+        ensures { result ≡ status_of self.now }
+    {
+        match self {
+            Fault::Refused(_) | Fault::BadLine(_) | Fault::BadQuote(_) => 1,
+            Fault::Usage => 2,
+            Fault::Memory => 3,
+            Fault::Read | Fault::Write => 4,
+        }
+    }
+}
+
+impl fmt::Display for Fault {
+    ghost use Rattle.osbytes_commands.specs.Fault.{text_of};
+
+    ghost output = { λ fault. Some (text_of fault) };
+
+    ghost styled_output = { λ fault _. Some (text_of fault) };
+
+    fn fmt<W: fmt::Write>(&self, f: &mut fmt::Formatter<W>) -> fmt::Result {
+        match *self {
+            Fault::Refused(error) => error.fmt(f),
+            Fault::BadLine(number) => {
+                f.write_str("line ")?;
+                write_number(number, f)?;
+                f.write_str(" is not a unit")
+            }
+            Fault::BadQuote(error) => match error {
+                QuoteError::BadEscape(place) => {
+                    f.write_str("bad escape at byte ")?;
+                    write_number(place, f)
+                }
+                QuoteError::NotCanonical => f.write_str("not the escape of a string"),
+                QuoteError::Memory => f.write_str("out of memory"),
+            },
+            Fault::Usage => {
+                f.write_str("usage: osbytes units|raw|find|split|chunks unix|windows|wasm [PAT]")
+            }
+            Fault::Memory => f.write_str("out of memory"),
+            Fault::Read => f.write_str("read failed"),
+            Fault::Write => f.write_str("write failed"),
+        }
+    }
+}
+
+/// Writes the decimal digits of a number, whatever width is asked for: a fault's text has no width.
+///
+/// ```
+/// use osbytes_commands::fault::write_number;
+/// use std::fmt;
+///
+/// struct Number(usize);
+///
+/// impl fmt::Display for Number {
+///     fn fmt<W: fmt::Write>(&self, f: &mut fmt::Formatter<W>) -> fmt::Result {
+///         write_number(self.0, f)
+///     }
+/// }
+///
+/// assert_eq!(rt; Number(17).to_string(alloc)?.as_str(), "17");
+/// ```
+pub fn write_number<W: fmt::Write>(number: usize, f: &mut fmt::Formatter<W>) -> fmt::Result
+    ensures { WritesStyledOnOk W.write_str_gives f.old result (decimal number) f.new }
+{
+    let mut digits = InlineText::<20>::new();
+    write!(digits, "{number}")?;
+    f.write_str(digits.as_str())
+}
+
+impl From<EncodingError> for Fault {
+    ghost from_gives = { λ error fault. fault ≡ Refused error };
+
+    fn from(error: EncodingError) -> Fault {
+        Fault::Refused(error)
+    }
+}
+
+impl From<AllocError> for Fault {
+    ghost from_gives = { λ _ fault. fault ≡ Memory };
+
+    fn from(_error: AllocError) -> Fault {
+        Fault::Memory
+    }
+}
+
+impl<T: Drop> From<AllocFailed<T>> for Fault {
+    ghost from_gives = { λ _ fault. fault ≡ Memory };
+
+    fn from(_error: AllocFailed<T>) -> Fault {
+        Fault::Memory
+    }
+}

@@ -1,0 +1,149 @@
+//! Readers and writers that remember a failure.
+ghost use Rattle.std.specs.Prelude.{◌≡◌, false, ◌||◌, is_err};
+ghost use Rattle.std.specs.Io.{ReadsAtMost, WritesAtMost};
+ghost use Rattle.std.specs.Io.KnownBytes.{Keeps, ReadConsumes, WriteAppends};
+
+use std::io;
+use std::io::{Read, Write};
+
+/// A reader or a writer with a mark that tells whether one of its calls failed.
+///
+/// The mark is unset at first. A call that answers an error sets it, and so does a write
+/// that takes nothing of bytes that aren't empty; no other call does. So after a `read`
+/// that answered an error [`Marked::failed`] is true.
+#[derive(Drop)]
+pub struct Marked<T> {
+    inner: T,
+    failed: bool,
+}
+
+impl<T> Marked<T> {
+    ghost use Rattle.osbytes_commands.specs.Marked.{marked_inner, has_failed};
+
+    /// The reader or the writer, with its mark unset.
+    ///
+    /// ```
+    /// use osbytes_commands::marked::Marked;
+    ///
+    /// let input: &[u8] = b"ab";
+    /// assert!(rt; !Marked::new(input).failed());
+    /// ```
+    pub fn new(inner: T) -> Marked<T>
+        ensures inner { marked_inner result ≡ inner }
+        ensures unset { has_failed result ≡ false }
+    {
+        Marked {
+            inner,
+            failed: false,
+        }
+    }
+
+    /// Whether the mark is set.
+    ///
+    /// ```
+    /// use osbytes_commands::marked::Marked;
+    ///
+    /// let input: &[u8] = b"ab";
+    /// let mut reader = Marked::new(input);
+    /// let mut piece = [0u8; 4];
+    /// assert!(rt; reader.read(&mut piece).is_ok() && !reader.failed());
+    /// ```
+    pub fn failed(&self) -> bool
+        ensures { result ≡ has_failed self.now }
+    {
+        self.failed
+    }
+}
+
+impl<R: Read> Marked<R> {
+    ghost use Rattle.osbytes_commands.specs.Marked.{marked_inner, has_failed};
+
+    /// Reads as the reader does, and sets the mark at an error.
+    ///
+    /// # Errors
+    ///
+    /// The reader's own.
+    ///
+    /// ```
+    /// use osbytes_commands::marked::Marked;
+    ///
+    /// let input: &[u8] = b"ab";
+    /// let mut reader = Marked::new(input);
+    /// let mut piece = [0u8; 4];
+    /// assert_eq!(rt; reader.read(&mut piece).ok(), Some(2));
+    /// ```
+    pub fn read(&mut self, buf: &mut [u8]) -> io::Result<usize>
+        ensures bound { ReadsAtMost result buf.new }
+        ensures bytes { ReadConsumes (R.remaining (marked_inner self.old))
+            (R.remaining (marked_inner self.new)) result buf.new }
+        ensures mark { has_failed self.new ≡ (has_failed self.old || is_err result) }
+    {
+        let result = self.inner.read(buf);
+        if result.is_err() {
+            self.failed = true;
+        }
+        result
+    }
+}
+
+impl<W: Write> Marked<W> {
+    ghost use Rattle.osbytes_commands.specs.Marked.{marked_inner, has_failed, failed_write};
+
+    /// Writes as the writer does, and sets the mark at an error, or where nothing is taken
+    /// of bytes that aren't empty.
+    ///
+    /// # Errors
+    ///
+    /// The writer's own.
+    ///
+    /// ```
+    /// use osbytes_commands::marked::Marked;
+    ///
+    /// let mut taken = Vec::new(alloc);
+    /// let mut writer = Marked::new(&mut taken);
+    /// assert_eq!(rt; writer.write(b"ab").ok(), Some(2));
+    /// assert!(rt; !writer.failed());
+    /// ```
+    pub fn write(&mut self, buf: &[u8]) -> io::Result<usize>
+        ensures bound { WritesAtMost result buf.now }
+        ensures bytes { WriteAppends (W.contents (marked_inner self.old))
+            (W.contents (marked_inner self.new)) result buf.now }
+        ensures mark { has_failed self.new ≡ (has_failed self.old || failed_write result buf.now) }
+    {
+        let result = self.inner.write(buf);
+        match result {
+            Ok(count) => {
+                if count == 0 && !buf.is_empty() {
+                    self.failed = true;
+                }
+            }
+            Err(_) => self.failed = true,
+        }
+        result
+    }
+
+    /// Flushes the writer, and sets the mark at an error.
+    ///
+    /// # Errors
+    ///
+    /// The writer's own.
+    ///
+    /// ```
+    /// use osbytes_commands::marked::Marked;
+    ///
+    /// let mut taken: Vec<u8> = Vec::new(alloc);
+    /// let mut writer = Marked::new(&mut taken);
+    /// assert!(rt; writer.flush().is_ok() && !writer.failed());
+    /// ```
+    pub fn flush(&mut self) -> io::Result<()>
+        ensures bytes { Keeps (W.contents (marked_inner self.old))
+            (W.contents (marked_inner self.new)) }
+        ensures mark { has_failed self.new ≡ (has_failed self.old || is_err result) }
+    {
+        let result = self.inner.flush();
+        if result.is_err() {
+            self.failed = true;
+        }
+        result
+    }
+}

@@ -1,0 +1,240 @@
+//! The whole program, over ends of any kind.
+ghost use Rattle.std.specs.Prelude.{◌≡◌, ◌≢◌, ◌⊎◌, ◌↔◌, true, false, drop, map, string_bytes, IfOk, IfErr, OnOk, IsOk};
+ghost use Rattle.std.specs.Io.KnownBytes.{Appends, IsAtEnd};
+ghost use Rattle.std.specs.IoError.{error_kind};
+ghost use Rattle.std.specs.Vec.Iter.{into_iter_items};
+ghost use Rattle.osbytes_commands.specs.Ended.{outcome_of, was_told};
+ghost use Rattle.osbytes_commands.specs.Marked.{marked_inner, has_failed};
+ghost use Rattle.osbytes_commands.specs.Program.{message, WritesMessageBeginning, words_behind_name, AreNoCommand, RunsTo};
+
+use crate::command::Command;
+use crate::fault::Fault;
+use crate::marked::Marked;
+use crate::run::run;
+use crate::telling::tell;
+use std::alloc::{AllocError, Allocator};
+use std::env::Args;
+use std::io;
+use std::io::{ErrorKind, Read, Stderr, Stdout, Write};
+use std::process::{ExitCode, Termination};
+
+/// A writer that output goes to: standard output is one, standard error isn't.
+pub trait Output: Write {}
+
+impl Output for Stdout {}
+
+/// A writer that messages go to: standard error is one, standard output isn't.
+pub trait Messages: Write {}
+
+impl Messages for Stderr {}
+
+/// How the program ended. [`execute`] alone makes one.
+#[derive(Drop)]
+pub struct Ended {
+    outcome: Result<(), Fault>,
+    told: bool,
+}
+
+impl Ended {
+    /// The end of a run with this outcome: a fault's message goes to `errors`, which is
+    /// `osbytes: `, the fault's text and a newline.
+    fn telling<E: Write>(outcome: Result<(), Fault>, errors: &mut E) -> Ended
+        ensures outcome { outcome_of result ≡ outcome }
+        ensures quiet { OnOk outcome (errors.new ≡ errors.old) }
+        ensures told { was_told result ≡ true → IfErr outcome (λ fault.
+            Appends (E.contents errors.old) (E.contents errors.new) (message fault)) }
+        ensures beginning { IfErr outcome (λ fault.
+            WritesMessageBeginning fault (E.contents errors.old) (E.contents errors.new)) }
+    {
+        match outcome {
+            Ok(()) => Ended {
+                outcome,
+                told: true,
+            },
+            Err(fault) => Ended {
+                outcome,
+                told: tell(fault, errors),
+            },
+        }
+    }
+
+    /// What the run answered.
+    ///
+    /// ```
+    /// use osbytes_commands::fault::Fault;
+    /// use osbytes_commands::marked::Marked;
+    /// use osbytes_commands::program::execute;
+    ///
+    /// let no_words = Ok(Vec::new(alloc).into_iter());
+    /// let (mut input, mut output) = (Marked::new(b"".as_slice()), Marked::new(rt.stdout()));
+    /// let ended = execute(alloc, no_words, &mut input, &mut output, &mut rt.stderr());
+    /// assert!(rt; ended.outcome() == Err(Fault::Usage));
+    /// ```
+    pub fn outcome(&self) -> Result<(), Fault>
+        ensures { result ≡ outcome_of self.now }
+    {
+        self.outcome
+    }
+
+    /// Whether the whole message was taken, where there was one.
+    ///
+    /// ```
+    /// use osbytes_commands::marked::Marked;
+    /// use osbytes_commands::program::execute;
+    ///
+    /// let no_words = Ok(Vec::new(alloc).into_iter());
+    /// let (mut input, mut output) = (Marked::new(b"".as_slice()), Marked::new(rt.stdout()));
+    /// let ended = execute(alloc, no_words, &mut input, &mut output, &mut rt.stderr());
+    /// assert!(rt; ended.told());
+    /// ```
+    pub fn told(&self) -> bool
+        ensures { result ≡ was_told self.now }
+    {
+        self.told
+    }
+}
+
+impl Termination for Ended {
+    ghost use Rattle.std.specs.Process.{exit_status};
+    ghost use Rattle.osbytes_commands.specs.Program.{status_after};
+
+    /// The status: 0, or that of the fault.
+    fn report<P: Eprint>(self, _rt: &P) -> ExitCode
+        ensures { exit_status result ≡ status_after (outcome_of self) }
+    {
+        match self.outcome {
+            Ok(()) => ExitCode::SUCCESS,
+            Err(fault) => ExitCode::from(fault.status()),
+        }
+    }
+}
+
+/// The program with these arguments over these ends.
+///
+/// The arguments begin with the program's name. Those after it are the words of a command
+/// ([`Command::parse`]), which is run as [`run`] says. Where no command that can run has them,
+/// where the arguments couldn't be had, or where the run fails, the fault's message goes to `errors`,
+/// or where not all of it is taken a beginning of it, and nothing else does. Both marks must be unset ([`Marked::failed`] tells).
+///
+/// For the words `units` and `windows` and the input F0 90 80 80 (hexadecimal) it writes
+/// `d800`, a newline, `dc00` and a newline, and its status is 0. For no words it writes the
+/// line `osbytes: usage: osbytes units|raw|find|split|chunks unix|windows|wasm [PAT]` to
+/// `errors`, and its status is 2.
+///
+/// ```
+/// use osbytes_commands::marked::Marked;
+/// use osbytes_commands::program::execute;
+/// use std::process::{ExitCode, Termination};
+///
+/// let mut words = Vec::new(alloc);
+/// for word in ["osbytes", "raw", "windows"] {
+///     words.push(String::from_str(alloc, word)?)?;
+/// }
+/// let (mut input, mut output) = (Marked::new(b"".as_slice()), Marked::new(rt.stdout()));
+/// let words = Ok(words.into_iter());
+/// let ended = execute(alloc, words, &mut input, &mut output, &mut rt.stderr());
+/// assert!(rt; ended.report(&rt) == ExitCode::from(0));
+/// ```
+pub fn execute<A: Allocator, R: Read, W: Output, E: Messages>(
+    alloc: A,
+    args: io::Result<Args>,
+    reader: &mut Marked<R>,
+    writer: &mut Marked<W>,
+    errors: &mut E,
+) -> Ended
+    requires reader_unmarked { has_failed reader.old ≡ false }
+    requires writer_unmarked { has_failed writer.old ≡ false }
+
+    // The words.
+    ensures ok { OnOk (outcome_of result) (IsOk args) }
+    ensures no_words { IfErr args
+        (λ error. error_kind error ≢ ErrorKind.OutOfMemory → outcome_of result ≡ Err Fault.Usage) }
+    ensures no_memory { IfErr args
+        (λ error. error_kind error ≡ ErrorKind.OutOfMemory → outcome_of result ≡ Err Fault.Memory) }
+    ensures usage { IfOk args (λ args. outcome_of result ≡ Err Fault.Usage → AreNoCommand
+        (words_behind_name args)) }
+    ensures no_command { IfOk args (λ args. AreNoCommand (words_behind_name args)
+        → (outcome_of result ≡ Err Fault.Usage) ⊎ (outcome_of result ≡ Err Fault.Memory)) }
+
+    // The run.
+    ensures run { IfOk args (λ args. RunsTo (words_behind_name args)
+        (R.remaining (marked_inner reader.old)) (W.contents (marked_inner writer.old))
+        (W.contents (marked_inner writer.new)) (outcome_of result)) }
+    ensures all_read { OnOk (outcome_of result) (IsAtEnd (R.remaining (marked_inner reader.new))) }
+    ensures read { (outcome_of result ≡ Err Fault.Read) ↔ (has_failed reader.new ≡ true) }
+    ensures write { (outcome_of result ≡ Err Fault.Write) ↔ (has_failed writer.new ≡ true) }
+    ensures nothing_written { IfErr (outcome_of result)
+        (λ fault. fault ≢ Fault.Write → writer.new ≡ writer.old) }
+
+    // The message.
+    ensures quiet { OnOk (outcome_of result) (errors.new ≡ errors.old) }
+    ensures told { was_told result ≡ true → IfErr (outcome_of result) (λ fault.
+        Appends (E.contents errors.old) (E.contents errors.new) (message fault)) }
+    ensures beginning { IfErr (outcome_of result) (λ fault.
+        WritesMessageBeginning fault (E.contents errors.old) (E.contents errors.new)) }
+{
+    match words(&alloc, args) {
+        Ok(words) => Ended::telling(run_words(&alloc, &words, reader, writer), errors),
+        Err(fault) => Ended::telling(Err(fault), errors),
+    }
+}
+
+/// The words after the program's name, which is the first argument.
+///
+/// # Errors
+///
+/// [`Fault::Memory`] where memory was refused, and [`Fault::Usage`] where the arguments couldn't be
+/// had for another reason.
+///
+/// ```
+/// use osbytes_commands::program::words;
+///
+/// let no_words = Ok(Vec::new(alloc).into_iter());
+/// assert!(rt; words(alloc, no_words).is_ok_and(|words| words.is_empty()));
+/// ```
+pub fn words<A: Allocator>(alloc: A, args: io::Result<Args>) -> Result<Vec<String, A>, Fault>
+    ensures ok { OnOk result (IsOk args) }
+    ensures words { IfOk result (λ words. IfOk args
+        (λ args. map string_bytes words.items ≡ words_behind_name args)) }
+    ensures memory { IfOk args (λ _. IfErr result (λ fault. fault ≡ Fault.Memory)) }
+    ensures no_words { IfErr args
+        (λ error. error_kind error ≢ ErrorKind.OutOfMemory → result ≡ Err Fault.Usage) }
+    ensures no_memory { IfErr args
+        (λ error. error_kind error ≡ ErrorKind.OutOfMemory → result ≡ Err Fault.Memory) }
+{
+    match args {
+        Ok(args) => Ok(behind_name(alloc, args)?),
+        Err(error) if error.kind() == ErrorKind::OutOfMemory => Err(Fault::Memory),
+        Err(_) => Err(Fault::Usage),
+    }
+}
+
+/// The arguments but the first.
+fn behind_name<A: Allocator>(alloc: A, args: Args) -> Result<Vec<String, A>, AllocError>
+    ensures { IfOk result (λ words. words.items ≡ drop 1 (into_iter_items args)) }
+{
+    args.skip(1).collect(alloc)
+}
+
+/// The answer of the run of the command that has these words.
+fn run_words<A: Allocator, R: Read, W: Write>(
+    alloc: A,
+    words: &[String],
+    reader: &mut Marked<R>,
+    writer: &mut Marked<W>,
+) -> Result<(), Fault>
+    requires reader_unmarked { has_failed reader.old ≡ false }
+    requires writer_unmarked { has_failed writer.old ≡ false }
+    ensures usage { (result ≡ Err Fault.Usage) ↔ AreNoCommand (map string_bytes words.now) }
+    ensures run { RunsTo (map string_bytes words.now)
+        (R.remaining (marked_inner reader.old)) (W.contents (marked_inner writer.old))
+        (W.contents (marked_inner writer.new)) result }
+    ensures all_read { OnOk result (IsAtEnd (R.remaining (marked_inner reader.new))) }
+    ensures read { (result ≡ Err Fault.Read) ↔ (has_failed reader.new ≡ true) }
+    ensures write { (result ≡ Err Fault.Write) ↔ (has_failed writer.new ≡ true) }
+    ensures nothing_written { IfErr result
+        (λ fault. fault ≢ Fault.Write → writer.new ≡ writer.old) }
+{
+    let command = Command::parse(words)?;
+    run(alloc, command, reader, writer)
+}

@@ -1,0 +1,140 @@
+//! One run: all input read, the whole output made, the output written.
+ghost use Rattle.std.specs.Prelude.{◌≡◌, ◌≢◌, ℕ, ◌⊎◌, ◌↔◌, true, false, take, IfOk, IfErr, OnOk, OnErr};
+ghost use Rattle.std.specs.Io.KnownBytes.{Appends, Consumes, IsAtEnd};
+ghost use Rattle.osbytes_commands.specs.Command.{IsUnusable};
+ghost use Rattle.osbytes_commands.specs.Marked.{marked_inner, has_failed};
+ghost use Rattle.osbytes_commands.specs.Output.{IsOfInput};
+ghost use Rattle.osbytes_commands.specs.Run.{WritesOutput, WritesBeginning, RefusesInput, AnswersRefusal};
+
+use crate::answer::answer;
+use crate::command::Command;
+use crate::fault::Fault;
+use crate::marked::Marked;
+use std::alloc::Allocator;
+use std::io::{Read, Write};
+
+/// Reads all that the reader has, then writes the command's output for it and flushes. Both marks
+/// must be unset ([`Marked::failed`] tells).
+///
+/// # Errors
+///
+/// [`Fault::Read`] exactly where a read failed, [`Fault::Write`] exactly where a write or the flush
+/// did, [`Fault::Memory`] where memory was refused, and [`Fault::Usage`] exactly where the command
+/// can't run ([`Command::is_unusable`]), with nothing read. Every other fault is that of the whole
+/// input. Nothing is written before a fault other than `Write`, and before that one a beginning of
+/// the output.
+///
+/// ```
+/// use osbytes_commands::command::{Command, Os};
+/// use osbytes_commands::marked::Marked;
+/// use osbytes_commands::run::run;
+///
+/// let input: &[u8] = b"\xF0\x90\x80\x80";
+/// let mut taken = Vec::new(alloc);
+/// let (mut reader, mut writer) = (Marked::new(input), Marked::new(&mut taken));
+/// let command = Command::Units(Os::Windows);
+/// assert!(rt; run(alloc, command, &mut reader, &mut writer) == Ok(()));
+/// assert_eq!(rt; taken.as_slice(), b"d800\ndc00\n".as_slice());
+/// ```
+#[tactic(auto, using(crate::proofs::lemmas::OneAnswer::one_answer))]
+pub fn run<A: Allocator, R: Read, W: Write>(
+    alloc: A,
+    command: Command<'_>,
+    reader: &mut Marked<R>,
+    writer: &mut Marked<W>,
+) -> Result<(), Fault>
+    requires reader_unmarked { has_failed reader.old ≡ false }
+    requires writer_unmarked { has_failed writer.old ≡ false }
+
+    // The output.
+    ensures no_read_failed { OnOk result (has_failed reader.new ≡ false) }
+    ensures no_write_failed { OnOk result (has_failed writer.new ≡ false) }
+    ensures all_read { OnOk result (IsAtEnd (R.remaining (marked_inner reader.new))) }
+    ensures written { OnOk result
+        (WritesOutput command.entry (R.remaining (marked_inner reader.old))
+        (W.contents (marked_inner writer.old)) (W.contents (marked_inner writer.new))) }
+
+    // When each fault comes.
+    ensures of_input { IfErr result (λ fault. IsOfInput fault
+        → RefusesInput command.entry (R.remaining (marked_inner reader.old)) fault) }
+    ensures refusal { AnswersRefusal command.entry (R.remaining (marked_inner reader.old)) result }
+    ensures usage { (result ≡ Err Fault.Usage) ↔ IsUnusable command.entry }
+    ensures nothing_read { result ≡ Err Fault.Usage → reader.new ≡ reader.old }
+    ensures read { (result ≡ Err Fault.Read) ↔ (has_failed reader.new ≡ true) }
+    ensures write { (result ≡ Err Fault.Write) ↔ (has_failed writer.new ≡ true) }
+
+    // What was written before a fault.
+    ensures nothing_written { IfErr result
+        (λ fault. fault ≢ Fault.Write → writer.new ≡ writer.old) }
+    ensures beginning_written { result ≡ Err Fault.Write
+        → WritesBeginning command.entry (R.remaining (marked_inner reader.old))
+        (W.contents (marked_inner writer.old)) (W.contents (marked_inner writer.new)) }
+{
+    if command.is_unusable() {
+        return Err(Fault::Usage);
+    }
+    let input = read_all(&alloc, reader)?;
+    let output = answer(&alloc, command, &input)?;
+    write_out(writer, &output)
+}
+
+/// All that the reader has left.
+fn read_all<A: Allocator, R: Read>(alloc: A, reader: &mut Marked<R>) -> Result<Vec<u8, A>, Fault>
+    requires { has_failed reader.old ≡ false }
+    ensures consumed { IfOk result (λ input. Consumes (R.remaining (marked_inner reader.old))
+        (R.remaining (marked_inner reader.new)) input.items) }
+    ensures end { OnOk result (IsAtEnd (R.remaining (marked_inner reader.new))) }
+    ensures unmarked { OnOk result (has_failed reader.new ≡ false) }
+    ensures fault { IfErr result (λ fault. (fault ≡ Fault.Memory) ⊎ (fault ≡ Fault.Read)) }
+    ensures marked { (result ≡ Err Fault.Read) ↔ (has_failed reader.new ≡ true) }
+{
+    let mut input = Vec::new(alloc);
+    let mut piece = [0u8; 8192];
+    loop {
+        match reader.read(&mut piece) {
+            Ok(0) => return Ok(input),
+            Ok(count) => input.extend_from_slice(&piece[..count])?,
+            Err(_) => return Err(Fault::Read),
+        }
+    }
+}
+
+/// Writes all of the output, and flushes. The mark must be unset ([`Marked::failed`] tells).
+///
+/// # Errors
+///
+/// [`Fault::Write`] where a write failed or took nothing, or the flush failed. A beginning of the
+/// output was written then.
+///
+/// ```
+/// use osbytes_commands::marked::Marked;
+/// use osbytes_commands::run::write_out;
+///
+/// let mut taken = Vec::new(alloc);
+/// let mut writer = Marked::new(&mut taken);
+/// assert!(rt; write_out(&mut writer, b"ab") == Ok(()));
+/// assert_eq!(rt; taken.as_slice(), b"ab".as_slice());
+/// ```
+#[tactic(auto, using(crate::proofs::lemmas::Pieces::pieces))]
+pub fn write_out<W: Write>(writer: &mut Marked<W>, output: &[u8]) -> Result<(), Fault>
+    requires { has_failed writer.old ≡ false }
+    ensures written { OnOk result (Appends (W.contents (marked_inner writer.old))
+        (W.contents (marked_inner writer.new)) output.now) }
+    ensures unmarked { OnOk result (has_failed writer.new ≡ false) }
+    ensures fault { IfErr result (λ fault. fault ≡ Fault.Write) }
+    ensures marked { OnErr result (has_failed writer.new ≡ true) }
+    ensures beginning { OnErr result ((count : ℕ) × Appends (W.contents (marked_inner writer.old))
+        (W.contents (marked_inner writer.new)) (take count output.now)) }
+{
+    let mut written = 0;
+    while written < output.len() {
+        match writer.write(&output[written..]) {
+            Ok(0) | Err(_) => return Err(Fault::Write),
+            Ok(count) => written += count,
+        }
+    }
+    match writer.flush() {
+        Ok(()) => Ok(()),
+        Err(_) => Err(Fault::Write),
+    }
+}

@@ -1,0 +1,33 @@
+//! The input of a command as a string.
+ghost use Rattle.std.specs.Prelude.{◌≡◌, IfOk, IfErr};
+ghost use Rattle.os_str_bytes.specs.EncodingError.{EncodingError};
+ghost use Rattle.os_str_bytes.specs.Strings.{bytes};
+ghost use Rattle.osbytes_commands.specs.Output.{RefusesNoString};
+
+use crate::fault::Fault;
+use os_str_bytes::{OsStr, Platform, laws};
+
+/// The string of the input. It takes no memory.
+///
+/// # Errors
+///
+/// [`Fault::Refused`] with the first fault of bytes that aren't a string.
+///
+/// ```
+/// use osbytes_commands::string::string;
+/// use os_str_bytes::{Wasm, Windows};
+///
+/// let half = b"\xED\xA0\x80";
+/// assert!(rt; string::<Windows>(half).is_ok() && string::<Wasm>(half).is_err());
+/// ```
+pub fn string<'a, E: Platform>(input: &'a [u8]) -> Result<OsStr<'a, E>, Fault>
+    ensures bytes { IfOk result (λ string. bytes string ≡ input.now) }
+    ensures formed { IfOk result (λ _. E.well_formed input.now) }
+    ensures fault { IfErr result (λ fault. (error : EncodingError) × (fault ≡ Fault.Refused error)
+        × E.first_fault input.now error) }
+    ensures refused { RefusesNoString ⟦<E as Platform>⟧ input.now result }
+{
+    laws::faults::<E>();
+    E::check(input)?;
+    Ok(OsStr::from_encoded_bytes_unchecked(input))
+}

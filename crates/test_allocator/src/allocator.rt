@@ -1,0 +1,74 @@
+//! The allocator that refuses.
+ghost use Rattle.std.specs.Prelude.{◌≡◌};
+ghost use Rattle.test_allocator.specs.Refusing.{allocator_of};
+
+use crate::Plan;
+use crate::requests::Requests;
+use std::alloc::{AllocError, Allocator};
+
+/// Stands before another allocator, refuses the requests of a [`Plan`] with `AllocError`,
+/// and passes each other one on. It also counts what was asked.
+///
+/// A collection takes it as `&heap`, and the test keeps `heap` to ask what was refused:
+///
+/// ```text
+/// let heap = Refusing::new(rt.alloc(), Plan::Never);
+/// let mut bytes = Vec::from_slice(&heap, b"abc")?;
+/// heap.restart(Plan::Nth(1));
+/// assert_eq!(rt; bytes.extend_from_slice(b"defghi"), Err(AllocError));
+/// assert!(rt; heap.refused());
+/// assert_eq!(rt; bytes.as_slice(), b"abc".as_slice());
+/// ```
+///
+/// One request is a call of `allocate`, `grow` or `shrink`: the last two keep their bodies
+/// from the trait, which call `allocate` once, for a new block of the whole new size. So a
+/// block never grows in place, and where the new block is refused the old one stays as it
+/// is. Giving a block back is no request. std answers `AllocError` at a size of 2^63 bytes
+/// or more without a request.
+#[derive(Drop)]
+pub struct Refusing<A: Allocator> {
+    alloc: A,
+    requests: Requests,
+}
+
+impl<A: Allocator> Refusing<A> {
+    /// Stands before `alloc`, with no request made yet.
+    pub fn new(alloc: A, plan: Plan) -> Refusing<A>
+        ensures { allocator_of result ≡ alloc }
+    {
+        Refusing {
+            alloc,
+            requests: Requests::new(plan),
+        }
+    }
+
+    /// Follows this plan from now on, and counts anew: the next request has number 1.
+    pub fn restart(&self, plan: Plan) {
+        self.requests.restart(plan);
+    }
+
+    /// How many requests were made under this plan, refused or not.
+    pub fn asked(&self) -> u64 {
+        self.requests.asked()
+    }
+
+    /// Whether a request was refused under this plan.
+    pub fn refused(&self) -> bool {
+        self.requests.refused()
+    }
+}
+
+unsafe impl<A: Allocator> Allocator for Refusing<A> {
+    ghost dealloc_token = { λ heap. A.dealloc_token (allocator_of heap) };
+
+    fn allocate(&self, size: usize, align: usize) -> Result<*mut u8, AllocError> {
+        if self.requests.refuses_next() {
+            return Err(AllocError);
+        }
+        self.alloc.allocate(size, align)
+    }
+
+    unsafe fn deallocate(&self, ptr: *mut u8, size: usize, align: usize) {
+        self.alloc.deallocate(ptr, size, align);
+    }
+}

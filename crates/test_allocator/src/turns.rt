@@ -1,0 +1,55 @@
+//! Each request of a call, refused in turn.
+ghost use Rattle.std.specs.Prelude.{◌+◌, IfOk, IfErr};
+ghost use Rattle.test_allocator.specs.Turns.{each_request, RanUnder, EndedIn};
+
+use crate::{Plan, Refusing};
+use std::alloc::{AllocError, Allocator};
+
+/// Calls `test` with the plan `Nth(1)`, then `Nth(2)`, and so on, each time with an allocator
+/// of its own that refuses nothing yet, until a run in which nothing was refused. Answers how
+/// many runs had a refusal: as many as there are requests in the call that is tested.
+///
+/// `test` makes what it needs, calls [`Refusing::restart`] with the plan, makes the tested
+/// call, and asks [`Refusing::refused`] which answer is right:
+///
+/// ```text
+/// let requests = for_each_refusal(rt.alloc(), |heap, plan| {
+///     let mut bytes = Vec::from_slice(heap, b"abc")?;
+///     heap.restart(plan);
+///     let answer = bytes.extend_from_slice(b"defghi");
+///     if heap.refused() {
+///         assert_eq!(rt; answer, Err(AllocError));
+///         assert_eq!(rt; bytes.as_slice(), b"abc".as_slice());
+///     } else {
+///         assert_eq!(rt; answer, Ok(()));
+///         assert_eq!(rt; bytes.as_slice(), b"abcdefghi".as_slice());
+///     }
+///     Ok(())
+/// })?;
+/// assert_eq!(rt; requests, 1);
+/// ```
+///
+/// Compare the count: at 0 no request was refused, as where `test` leaves out `restart`.
+///
+/// # Errors
+///
+/// The first `Err` of `test` ends the runs and is the answer. Else the answer is `Err` only
+/// after 2^64 - 1 runs, each with a refusal.
+pub fn for_each_refusal<A, F>(alloc: A, mut test: F) -> Result<u64, AllocError>
+where
+    A: Allocator + Copy,
+    F: FnMut(&Refusing<A>, Plan) -> Result<(), AllocError>,
+    requires { F.IsAlwaysCallable test }
+    ensures turns { IfOk result (λ refused. (last : F)
+        × RanUnder F.step test (each_request (refused + 1)) last) }
+    ensures ended { IfErr result (EndedIn F.step test) }
+{
+    for refused in 0..u64::MAX {
+        let heap = Refusing::new(alloc, Plan::Never);
+        test(&heap, Plan::Nth(refused + 1))?;
+        if !heap.refused() {
+            return Ok(refused);
+        }
+    }
+    Err(AllocError)
+}

@@ -1,0 +1,8 @@
+use Rattle.std.proofs.Common.{rules}
+use Rattle.test_uses.proofs.EqualOrder.{equal_where_same}
+use Rattle.test_uses.proofs.orders.order_agrees.Goals as goal
+
+pub returns : goal.returns
+returns g c =
+    let agree = equal_where_same _ _ _ _ c.comparisons.ensures.equal c.comparisons.ensures.order in
+    search (rules, agree)

@@ -1,0 +1,104 @@
+//! Pieces: what splits give.
+ghost use Rattle.std.specs.Prelude.{◌≡◌, [], ◌∷◌, ◌+◌, ◌<◌, ℕ, List, length, map, reverse};
+ghost use Rattle.std.specs.List.{All, join_by};
+ghost use Rattle.wtf8_core.specs.Standing.{StandsNowhere};
+ghost use Rattle.platform_str.specs.Strings.{bytes};
+ghost use Rattle.test_uses.specs.Matches.{AreMatches};
+
+use os_str_ext::{OsStrBytesExt, RSplit, Split};
+use platform_str::{OsStr, Platform};
+
+/// The pieces of a string in which a pattern doesn't occur: the string alone.
+pub fn uncut<'a, E: Platform + 'a>(string: OsStr<'a, E>, text: &'a str) -> Split<'a, E, &'a str>
+    requires some { 0 < length text.now }
+    requires nowhere { StandsNowhere text.now (bytes string) }
+    ensures { result ≡ bytes string.entry ∷ [] }
+{
+    string.split(text)
+}
+
+/// The same from the end.
+pub fn uncut_from_the_end<'a, E: Platform + 'a>(
+    string: OsStr<'a, E>,
+    text: &'a str,
+) -> RSplit<'a, E, &'a str>
+    requires some { 0 < length text.now }
+    requires nowhere { StandsNowhere text.now (bytes string) }
+    ensures { result ≡ bytes string.entry ∷ [] }
+{
+    string.rsplit(text)
+}
+
+/// The pieces of a string, which with the pattern between them are the string, in bytes and in units.
+pub fn pieces_joined<'a, E: Platform + 'a>(
+    string: OsStr<'a, E>,
+    text: &'a str,
+) -> Split<'a, E, &'a str>
+    requires { 0 < length text.now }
+    ensures bytes { join_by (λ piece. piece) text.now result ≡ bytes string.entry }
+    ensures units { join_by (λ piece. piece) (E.units text.now) (map E.units result)
+        ≡ E.units (bytes string.entry) }
+{
+    string.split(text)
+}
+
+/// The pieces of a string from the end, which in reverse with the pattern between them are the string,
+/// in bytes and in units.
+pub fn pieces_joined_from_the_end<'a, E: Platform + 'a>(
+    string: OsStr<'a, E>,
+    text: &'a str,
+) -> RSplit<'a, E, &'a str>
+    requires { 0 < length text.now }
+    ensures bytes { join_by (λ piece. piece) text.now (reverse result) ≡ bytes string.entry }
+    ensures units { join_by (λ piece. piece) (E.units text.now) (reverse (map E.units result))
+        ≡ E.units (bytes string.entry) }
+{
+    string.rsplit(text)
+}
+
+/// The pieces of a string, in none of which the pattern occurs.
+pub fn pieces_without_match<'a, E: Platform + 'a>(
+    string: OsStr<'a, E>,
+    text: &'a str,
+) -> Split<'a, E, &'a str>
+    requires { 0 < length text.now }
+    ensures { All (StandsNowhere text.now) result }
+{
+    string.split(text)
+}
+
+/// The same from the end.
+pub fn pieces_without_match_from_the_end<'a, E: Platform + 'a>(
+    string: OsStr<'a, E>,
+    text: &'a str,
+) -> RSplit<'a, E, &'a str>
+    requires { 0 < length text.now }
+    ensures { All (StandsNowhere text.now) result }
+{
+    string.rsplit(text)
+}
+
+/// The pieces of a string between the occurrences of a character, from the start and from the end:
+/// the same ones, in reverse.
+pub fn pieces_from_both_ends<'a, E: Platform + 'a>(
+    string: OsStr<'a, E>,
+    character: char,
+) -> (Split<'a, E, char>, RSplit<'a, E, char>)
+    ensures { result.1 ≡ reverse result.0 }
+{
+    wtf8_core::laws::characters();
+    wtf8_core::laws::forms();
+    (string.split(character), string.rsplit(character))
+}
+
+/// The pieces of a string: one more than the matches of the pattern.
+pub fn pieces_and_matches<'a, E: Platform + 'a>(
+    string: OsStr<'a, E>,
+    text: &'a str,
+) -> Split<'a, E, &'a str>
+    requires { 0 < length text.now }
+    ensures { (matches : List ℕ) × (AreMatches text.now (bytes string.entry) 0 matches
+        × (length result ≡ length matches + 1)) }
+{
+    string.split(text)
+}

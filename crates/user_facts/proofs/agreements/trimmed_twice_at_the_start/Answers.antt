@@ -1,5 +1,0 @@
-use Rattle.user_facts.proofs.TrimsAgain.{start_again}
-use Rattle.user_facts.proofs.agreements.trimmed_twice_at_the_start.Goals as goal
-
-pub returns : goal.returns
-returns g c = start_again _ _ _ (c.trim_start_matches-once.ensures.bytes c.requires).done (c.trim_start_matches-again.ensures.bytes c.requires)

@@ -1,5 +1,0 @@
-use Rattle.user_facts.proofs.Outcomes.{where_some}
-use Rattle.user_facts.proofs.bytes.parted_by_fault.Goals as goal
-
-pub returns : goal.returns
-returns c = where_some _ (λ fault is. c.ill_formed_parts.ensures _ _ _ is) c.utf8_fault.result c.utf8_fault.ensures

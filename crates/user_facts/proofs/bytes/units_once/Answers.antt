@@ -1,4 +1,0 @@
-use Rattle.user_facts.proofs.bytes.units_once.Goals as goal
-
-pub returns : goal.returns
-returns c = c.spelling.ensures.one_list_of_units _ _ _ c.requires.first c.requires.second

@@ -1,4 +1,0 @@
-use Rattle.user_facts.proofs.chunks.chunks_say.Goals as goal
-
-pub returns : goal.returns
-returns g c = c.chunks.ensures.once _ _ _ c.utf8_chunks.ensures.chunks c.requires

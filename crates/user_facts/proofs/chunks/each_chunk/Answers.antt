@@ -1,4 +1,0 @@
-use Rattle.user_facts.proofs.chunks.each_chunk.Goals as goal
-
-pub returns : goal.returns
-returns g c = c.each_chunk.ensures _ c.args.string.ok _ c.utf8_chunks.ensures.chunks

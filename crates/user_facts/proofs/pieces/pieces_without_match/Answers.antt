@@ -1,5 +1,0 @@
-use Rattle.user_facts.proofs.NoMatch.{in_no_piece}
-use Rattle.user_facts.proofs.pieces.pieces_without_match.Goals as goal
-
-pub returns : goal.returns
-returns g c = in_no_piece _ c.requires _ _ c.split.ensures.bytes

@@ -1,5 +1,0 @@
-use Rattle.user_facts.proofs.NoMatch.{in_no_piece_from_the_end}
-use Rattle.user_facts.proofs.pieces.pieces_without_match_from_the_end.Goals as goal
-
-pub returns : goal.returns
-returns g c = in_no_piece_from_the_end _ c.requires _ _ c.rsplit.ensures.bytes

@@ -1,5 +1,0 @@
-use Rattle.user_facts.proofs.OnePiece.{one_piece}
-use Rattle.user_facts.proofs.pieces.uncut.Goals as goal
-
-pub returns : goal.returns
-returns g c = one_piece _ _ (λ piece rest cut. c.requires.nowhere _ cut.found.stands) c.split.ensures.bytes

@@ -1,5 +1,0 @@
-use Rattle.user_facts.proofs.OnePiece.{one_piece}
-use Rattle.user_facts.proofs.pieces.uncut_from_the_end.Goals as goal
-
-pub returns : goal.returns
-returns g c = one_piece _ _ (λ piece rest cut. c.requires.nowhere _ cut.found.stands) c.rsplit.ensures.bytes

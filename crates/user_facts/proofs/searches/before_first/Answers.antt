@@ -1,4 +1,0 @@
-use Rattle.user_facts.proofs.searches.before_first.Goals as goal
-
-pub returns : goal.returns
-returns g c = c.around_place.ensures.before_least _ _ _ _ c.requires c.in_ok-before.ensures.bytes

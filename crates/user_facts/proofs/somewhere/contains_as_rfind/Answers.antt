@@ -1,5 +1,0 @@
-use Rattle.user_facts.proofs.SomePlace.{some_where_it_stands}
-use Rattle.user_facts.proofs.somewhere.contains_as_rfind.Goals as goal
-
-pub returns : goal.returns
-returns g c = some_where_it_stands _ _ c.contains.ensures.bytes c.rfind.ensures.bytes (λ nowhere somewhere. nowhere somewhere.0 somewhere.1) (λ at is. (at, is.stands))

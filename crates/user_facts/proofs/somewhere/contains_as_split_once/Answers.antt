@@ -1,5 +1,0 @@
-use Rattle.user_facts.proofs.SomePlace.{some_where_it_stands}
-use Rattle.user_facts.proofs.somewhere.contains_as_split_once.Goals as goal
-
-pub returns : goal.returns
-returns g c = some_where_it_stands _ _ c.contains.ensures.bytes c.split_once.ensures.bytes (λ nowhere somewhere. nowhere somewhere.0 somewhere.1) (λ _ is. (_, is.found.stands))

@@ -1,4 +1,0 @@
-use Rattle.user_facts.proofs.symbols.symbols_joined.Goals as goal
-
-pub returns : goal.returns
-returns g c = c.symbols.ensures.joined _ c.args.string.ok _ c.symbols-2.ensures.symbols

@@ -1,4 +1,0 @@
-use Rattle.user_facts.proofs.symbols.symbols_say.Goals as goal
-
-pub returns : goal.returns
-returns g c = c.symbols.ensures.once _ _ _ c.symbols-2.ensures.symbols c.requires
