@@ -3,18 +3,16 @@ use Rattle.std.proofs.Common.{◌≡◌, ⊎_elim, ℕ, zero, suc, slice_index_o
 use Rattle.std.proofs.lemmas.Bool.{cases_lt}
 use Rattle.std.proofs.lemmas.List.{length-take-le, take-take, take_at, drop_at, drop-drop, drop_all}
 use Rattle.std.proofs.lemmas.Str.{IsCharBoundary-from_take, IsUtf8-drop, IsUtf8-encode, length-encode, len_utf8_bounds}
-use Rattle.std.proofs.Math.Seq.{take-add}
 use Rattle.std.specs.Char.{IsScalar, encode_utf8}
 use Rattle.std.specs.Str.{IsUtf8}
 use Rattle.wtf8_core.specs.Character.{WholeCharacter}
 use Rattle.wtf8_core.specs.Chunks.{Chunk, AreChunks}
-use Rattle.wtf8_core.specs.Covered.{StartsBare, IsCovered}
+use Rattle.wtf8_core.specs.Covered.{StartsBare}
 use Rattle.wtf8_core.specs.UnitsOf.{units_of}
 use Rattle.wtf8_core.specs.Wtf8.{IsWtf8}
 use Rattle.wtf8_core.proofs.lemmas.characters.Seams.{text_covered, seam_at_start, whole_within}
 use Rattle.wtf8_core.proofs.lemmas.chunks.OneList.{some_chunks}
 use Rattle.wtf8_core.proofs.lemmas.chunks.PartUnits.{first_unit}
-use Rattle.wtf8_core.proofs.lemmas.forms.ByStd.{form_encode}
 use Rattle.wtf8_core.proofs.lemmas.standing.Places.{no_units}
 use Rattle.wtf8_core.proofs.lemmas.standing.Wtf8.{wtf8_standing}
 use Rattle.platform_str.specs.Laws.{IsFirstUnit}
@@ -27,7 +25,7 @@ use Rattle.os_str_ext.specs.declared.symbols.Symbol.{Symbol}
 use Rattle.os_str_ext.specs.declared.symbols.Symbol.TheVariants.{Character}
 use Rattle.os_str_ext.proofs.lemmas.EachChunk.{first_of}
 use Rattle.os_str_ext.proofs.lemmas.FirstChunk.{edges, part_is_bare}
-use Rattle.os_str_ext.proofs.lemmas.SymbolSteps.{known_by_ends, symbols_by_character, symbols_by_unit}
+use Rattle.os_str_ext.proofs.lemmas.SymbolSteps.{symbols_by_character, symbols_by_unit}
 use Rattle.osbytes_c.specs.Faults.{IsString, IsUnstring}
 use Rattle.osbytes_c.specs.Platforms.{units_on}
 use Rattle.osbytes_c.specs.Steps.{Reports, IsSymbolAt, IsFirstOf, IsSurrogateFront}
@@ -46,15 +44,6 @@ ends_by s (c ∷ cs) h some = let f = first_of s c cs h in (length c.0, f.end, f
 first_ends : (s : List ℕ) → 0 < length s → (m : ℕ) × (e : ℕ) × IsFirstChunk s m e
 first_ends s some = ends_by s (chunks_of s) (some_chunks s).1 some
 
--- a character with which bytes begin
-whole_at_start : (c : ℕ) (s rest : List ℕ) → IsScalar c → s ≡ encode_utf8 c ++ rest → WholeCharacter s 0 (length (encode_utf8 c))
-whole_at_start c s rest scalar e = record {
-  char = c;
-  scalar = scalar;
-  stands = record { before = []; behind = rest; joined = e ∙ ap (λ x. x ++ rest) (sym (form_encode c)); place = refl };
-  end = let l = ap length (form_encode c) in omega (arith, l);
-}
-
 module _ (c : ℕ) (s rest : List ℕ) (scalar : IsScalar c) (starts : s ≡ encode_utf8 c ++ rest) where
   abbrev width : ℕ
   width = length (encode_utf8 c)
@@ -65,33 +54,11 @@ module _ (c : ℕ) (s rest : List ℕ) (scalar : IsScalar c) (starts : s ≡ enc
   size : length s ≡ width + length rest
   size = ap length starts ∙ length-append (encode_utf8 c) rest
 
-  covered : (k : ℕ) → k < width → IsCovered s k
-  covered k lt = record { start = 0; end = width; whole = whole_at_start c s rest scalar starts; from = omega arith; below = lt }
-
   pub rest_is : drop width s ≡ rest
   rest_is = ap (drop width) starts ∙ drop_at (encode_utf8 c) rest width refl
 
   pub by_character : (units : List ℕ → List ℕ) → units [] ≡ [] → symbols_of units s ≡ Character c ∷ symbols_of units rest
-  by_character units none =
-      let f = first_ends s (omega (arith, size, some_n)) in
-      let m = f.0 in
-      let e = f.1 in
-      let h = f.2 in
-      let start : m ≡ 0 = ⊎_elim (λ lt. absurd (h.bare 0 lt (covered 0 some_n))) (λ ge. omega (arith, ge)) (cases_lt 0 m) in
-      let pos : 0 < e = let some = h.some (omega (arith, start, size, some_n)) in omega (arith, some) in
-      let long : width ≤ e = ⊎_elim (λ lt. absurd (h.ended (omega (arith, lt, size)) (covered e lt))) (λ ge. ge) (cases_lt e width) in
-      let after = take (e - width) rest in
-      let text : take e s ≡ encode_utf8 c ++ after =
-      ap (λ k. take k s) (omega (arith, long)) ∙ take-add width (e - width) s ∙ ap (λ x. x ++ take (e - width) (drop width s)) (ap (take width) starts ∙ take_at (encode_utf8 c) rest width refl) ∙ ap (λ x. encode_utf8 c ++ take (e - width) x) rest_is in
-      let utf8 : IsUtf8 (take e s) = subst (λ i. IsUtf8 (drop i (take e s))) start h.text in
-      let left : IsUtf8 after = text_behind (encode_utf8 c) after (IsUtf8-encode c scalar) (subst IsUtf8 text utf8) in
-      let within = h.within in
-      let back : length s - (length s - e) ≡ e = omega (arith, within) in
-      let known = known_by_ends s m e 0 h (record { within = omega arith; bare = λ k j low w. absurd (omega (arith, low)) }) in
-      let text_back : take (length s - (length s - e)) s ≡ encode_utf8 c ++ after = ap (λ k. take k s) back ∙ text in
-      let lengths = ap length text_back ∙ length-append (encode_utf8 c) after in
-      symbols_by_character units s after (length s - m) (length s - e) 0 c width (omega (arith, pos, within)) (omega (arith, start)) known text_back left (omega (arith, lengths)) none
-      ∙ ap (λ x. Character c ∷ symbols_of units x) rest_is
+  by_character units none = symbols_by_character s rest c scalar starts units none
 
 -- bytes that begin with no whole character have a part
 module _ (s : List ℕ) (some : 0 < length s) (bare : StartsBare s) where
@@ -112,12 +79,7 @@ module _ (s : List ℕ) (some : 0 < length s) (bare : StartsBare s) where
       let m = f.0 in
       let e = f.1 in
       let h = f.2 in
-      let pos = some_part m e h in
-      let within = h.within in
-      let ordered = h.ordered in
-      let back : length s - (length s - m) ≡ m = omega (arith, within, ordered) in
-      let known = known_by_ends s m e 0 h (record { within = omega arith; bare = λ k j low w. absurd (omega (arith, low)) }) in
-      symbols_by_unit well_formed units s (length s - m) (length s - e) 0 u n (omega (arith, pos, ordered, within)) known (subst (λ k. IsFirstUnit well_formed units (take k s) u n) (sym back) (first m e h pos)) none
+      symbols_by_unit well_formed units s m e u n h (first m e h (some_part m e h)) some none
 
 -- the units of no bytes
 none_on : (p : ℕ) → units_on p [] ≡ []
