@@ -1,5 +1,5 @@
 //! Hexadecimal digits.
-ghost use Rattle.std.specs.Prelude.{◌≡◌, ◌≤◌, ◌∷◌, []};
+ghost use Rattle.std.specs.Prelude.{◌≡◌, ◌≤◌, ◌/◌, ◌%◌, ◌∷◌, []};
 ghost use Rattle.wtf8_core.specs.FaultText.{upper_hex_digit};
 
 use wtf8_core::{code_point_digits, upper_hex_digit};
