@@ -1,24 +1,18 @@
 //! A column of a row: what the file has there, and what a call answers.
-ghost use Rattle.std.specs.Prelude.{◌≡◌, ◌↔◌, IsTrue};
+ghost use Rattle.std.specs.Prelude.{◌≡◌, ◌↔◌, Any, IsTrue};
 ghost use Rattle.test_answers.specs.Column.{Differs, RowDiffers};
 
 use std::fmt;
 
-/// A column of a row, by its name.
+/// A column of a row, by its name: what the file has there, and what a call of a type or a crate
+/// answers.
 #[derive(Drop)]
-pub enum Column<'a> {
-    /// What the file has there, and what a call of a type or a crate answers.
-    Asked {
-        name: &'static str,
-        of: &'static str,
-        call: &'static str,
-        expected: &'a str,
-        answered: String,
-    },
-    /// A column whose call isn't there yet.
-    NotAsked {
-        name: &'static str,
-    },
+pub struct Column<'a> {
+    name: &'static str,
+    of: &'static str,
+    call: &'static str,
+    expected: &'a str,
+    answered: String,
 }
 
 impl<'a> Column<'a> {
@@ -30,9 +24,10 @@ impl<'a> Column<'a> {
         expected: &'a str,
         answered: String,
     ) -> Self
-        ensures { result ≡ Column.Asked name.entry of.entry call.entry expected.entry answered }
+        ensures expected { result.expected ≡ expected.entry }
+        ensures answered { result.answered ≡ answered }
     {
-        Column::Asked {
+        Column {
             name,
             of,
             call,
@@ -41,49 +36,47 @@ impl<'a> Column<'a> {
         }
     }
 
-    /// A column whose call isn't there yet.
-    pub fn not_asked(name: &'static str) -> Self
-        ensures { result ≡ Column.NotAsked name.entry }
-    {
-        Column::NotAsked { name }
-    }
-
-    /// Whether a call answers something else than the file has.
+    /// Whether the call answers something else than the file has.
+    #[tactic(auto, unfolding(crate::specs::Column::Differs))]
     pub fn differs(&self) -> bool
         ensures { IsTrue result ↔ Differs self.now }
     {
-        match self {
-            Column::Asked {
-                expected,
-                answered,
-                ..
-            } => answered.as_str() != *expected,
-            Column::NotAsked { .. } => false,
-        }
+        self.answered.as_str() != self.expected
     }
 }
 
-/// Whether a column of a row differs.
+/// Whether nothing was asked of a row, or a column of it differs.
+#[tactic(auto, unfolding(crate::specs::Column::RowDiffers))]
 pub fn row_differs(columns: &[Column<'_>]) -> bool
     ensures { IsTrue result ↔ RowDiffers columns.now }
 {
-    columns.iter().any(|column| column.differs())
+    columns.is_empty() || some_differs(columns)
+}
+
+/// Whether a column of a row differs.
+fn some_differs(columns: &[Column<'_>]) -> bool
+    ensures { IsTrue result ↔ Any Differs columns.now }
+{
+    for column in columns {
+        if column.differs() {
+            return true;
+        }
+    }
+    false
 }
 
 impl<'a> fmt::Display for Column<'a> {
     fn fmt<W: fmt::Write>(&self, f: &mut fmt::Formatter<W>) -> fmt::Result {
-        match self {
-            Column::Asked {
-                name,
-                of,
-                call,
-                expected,
-                answered,
-            } => write!(
-                f,
-                "{name}: expected {expected}, {call} of {of} answered {answered}"
-            ),
-            Column::NotAsked { name } => write!(f, "{name}: not asked"),
-        }
+        let Column {
+            name,
+            of,
+            call,
+            expected,
+            answered,
+        } = self;
+        write!(
+            f,
+            "{name}: expected {expected}, {call} of {of} answered {answered}"
+        )
     }
 }

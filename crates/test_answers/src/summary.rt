@@ -5,7 +5,7 @@ ghost use Rattle.test_answers.specs.Asked.{Counts, HaveDifferences, TextHasDiffe
 ghost use Rattle.test_answers.specs.Row.{columns};
 
 use crate::answer_file::{AnswerFile, Row};
-use crate::column::{self, Column};
+use crate::column::{Column, row_differs};
 use crate::error::{FileError, LineError};
 use crate::kind::RowKind;
 use std::alloc::{AllocError, Global};
@@ -22,8 +22,6 @@ pub struct Summary<'a> {
     pub differing: usize,
     /// The first rows that differ.
     pub differences: Vec<Difference<'a>>,
-    /// The columns whose calls aren't there yet.
-    pub not_asked: Vec<&'static str>,
     ghost counted: { differing ≤ rows },
 }
 
@@ -66,7 +64,7 @@ fn ask_rows<'a, K: RowKind>(
         let columns = kind
             .ask(alloc, &row.columns)
             .map_err(|cause| FileError { line, cause })?;
-        summary.add(alloc, columns).map_err(|_| FileError {
+        summary.add(columns).map_err(|_| FileError {
             line,
             cause: LineError::Memory,
         })?;
@@ -84,22 +82,18 @@ impl<'a> Summary<'a> {
             rows: 0,
             differing: 0,
             differences: Vec::new(alloc),
-            not_asked: Vec::new(alloc),
         }
     }
 
     /// Adds the next row.
-    fn add(&mut self, alloc: Global, columns: Vec<Column<'a>>) -> Result<(), AllocError>
+    fn add(&mut self, columns: Vec<Column<'a>>) -> Result<(), AllocError>
         requires { self.old.rows + 1 < 2 ^ 64 }
         ensures row { OnOk result (self.new.rows ≡ self.old.rows + 1) }
         ensures differing { OnOk result
             (Counts columns.entry.items self.old.differing self.new.differing) }
     {
-        if self.rows == 0 {
-            self.not_asked = not_asked(alloc, &columns)?;
-        }
         self.rows += 1;
-        if column::row_differs(&columns) {
+        if row_differs(&columns) {
             self.differing += 1;
             if self.differences.len() < KEPT {
                 self.differences.push(Difference {
@@ -112,25 +106,11 @@ impl<'a> Summary<'a> {
     }
 }
 
-/// The names of the columns whose calls aren't there yet.
-fn not_asked(alloc: Global, columns: &[Column<'_>]) -> Result<Vec<&'static str>, AllocError> {
-    let mut names = Vec::new(alloc);
-    for column in columns {
-        if let Column::NotAsked { name } = column {
-            names.push(*name)?;
-        }
-    }
-    Ok(names)
-}
-
 impl<'a> fmt::Display for Summary<'a> {
     fn fmt<W: fmt::Write>(&self, f: &mut fmt::Formatter<W>) -> fmt::Result {
         let rows = self.rows;
         let differing = self.differing;
         write!(f, "rows asked: {rows}, rows that differ: {differing}")?;
-        for name in &self.not_asked {
-            write!(f, "\n    not asked: {name}")?;
-        }
         for difference in &self.differences {
             write!(f, "{difference}")?;
         }

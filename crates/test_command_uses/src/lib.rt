@@ -17,6 +17,6 @@ pub use lists::{bytes_again, units_again};
 pub use marks::marked_by_no_bytes;
 pub use plans::{kept, refuses_first, turns};
 pub use programs::{with_arguments, with_words, without_arguments};
-pub use rows::{asked_alike, counts, differs, is_whole, status_of_difference};
+pub use rows::{asked_alike, counts, differs, is_whole, nothing_asked, status_of_difference};
 pub use runs::{faults_match_marks, run_once, split_at_nothing};
 pub use words::{known_words, splits_at_nothing, too_many_words};

@@ -1,5 +1,5 @@
 //! Rows of answer files, how many of them differ, and what then is answered.
-ghost use Rattle.std.specs.Prelude.{◌≡◌, ◌≢◌, ◌↔◌, ℕ, List, All, IfOk, IsTrue, true, length, map, string_bytes, vec_len};
+ghost use Rattle.std.specs.Prelude.{◌≡◌, ◌≢◌, ◌↔◌, ℕ, List, [], All, IfOk, IsTrue, true, length, map, string_bytes, vec_len};
 ghost use Rattle.test_answers.specs.AnswerFile.{rows_of};
 ghost use Rattle.test_answers.specs.Asked.{TextHasDifferences};
 ghost use Rattle.test_answers.specs.Column.{RowDiffers};
@@ -12,6 +12,7 @@ use test_answers::files::File;
 use test_answers::{Column, Failure, FileError, RowKind, files, summary};
 
 /// Whether a column of these texts differs.
+#[tactic(auto, unfolding(test_answers::specs::Column::Differs))]
 pub fn differs(expected: &str, answered: String) -> bool
     ensures { IsTrue result ↔ string_bytes answered ≢ expected.now }
 {
@@ -33,6 +34,17 @@ pub fn counts<K: RowKind + Drop>(alloc: Global, text: &str) -> Result<(usize, us
 {
     let summary = summary::ask::<K>(alloc, text)?;
     Ok((summary.rows, summary.differing))
+}
+
+/// How many rows of a text differ, of whose kind nothing is ever asked: as many as there are.
+#[tactic(auto, unfolding(test_answers::specs::Column::RowDiffers))]
+pub fn nothing_asked<K: RowKind + Drop>(alloc: Global, text: &str) -> Result<usize, FileError>
+    ensures { ((kind : K) → (row : List (List ℕ)) → (asked : List Column)
+        → K.answers kind row asked → asked ≡ [])
+        → IfOk result (λ differing. differing ≡ length (rows_of text.now)) }
+{
+    let (_, differing) = counts::<K>(alloc, text)?;
+    Ok(differing)
 }
 
 /// Whether no row of files differs, which then is so of each file.
