@@ -19,70 +19,21 @@ struct Search<'a, P> {
     answers: Answers<'a>,
 }
 
-/// What a row has for each search.
-#[derive(Clone, Copy)]
-struct Answers<'a> {
-    find: &'a str,
-    rfind: &'a str,
-    contains: &'a str,
-    starts_with: &'a str,
-    ends_with: &'a str,
-    strip_prefix: &'a str,
-    strip_suffix: &'a str,
-    trim_start_matches: &'a str,
-    trim_end_matches: &'a str,
-    trim_matches: &'a str,
-    split: &'a str,
-    rsplit: &'a str,
-    split_once: &'a str,
-    rsplit_once: &'a str,
-}
+/// What a row has for each search, in the order of its columns.
+type Answers<'a> = [&'a str; 14];
 
 impl PlatformKind for Searches {
     fn ask_on<'a, E: Platform>(
         alloc: Global,
         row: &[&'a str],
     ) -> Result<Vec<Column<'a>>, LineError> {
-        let [
-            _,
-            raw,
-            pattern,
-            find,
-            rfind,
-            contains,
-            starts_with,
-            ends_with,
-            strip_prefix,
-            strip_suffix,
-            trim_start_matches,
-            trim_end_matches,
-            trim_matches,
-            split,
-            rsplit,
-            split_once,
-            rsplit_once,
-        ] = row
-        else {
+        if row.len() != 17 {
             return Err(LineError::column_count(row, 17));
-        };
-        let raw = read_bytes(alloc, raw)?;
-        let pattern = read_text(alloc, pattern)?;
-        let answers = Answers {
-            find,
-            rfind,
-            contains,
-            starts_with,
-            ends_with,
-            strip_prefix,
-            strip_suffix,
-            trim_start_matches,
-            trim_end_matches,
-            trim_matches,
-            split,
-            rsplit,
-            split_once,
-            rsplit_once,
-        };
+        }
+        let raw = read_bytes(alloc, row[1])?;
+        let pattern = read_text(alloc, row[2])?;
+        let mut answers = [""; 14];
+        answers.copy_from_slice(&row[3..]);
         let text = Search {
             call: "a search for a &str",
             pattern: pattern.as_str(),
@@ -142,12 +93,13 @@ impl<'a, P: Pattern + Copy> Search<'a, P> {
         asked: &mut Asked<'a>,
         found: &headline::Answers<'s, E, P, Global>,
     ) -> Result<(), AllocError> {
-        let Search { call, answers, .. } = *self;
-        asked.place("find", call, answers.find, found.find)?;
-        asked.place("rfind", call, answers.rfind, found.rfind)?;
-        asked.flag("contains", call, answers.contains, found.contains)?;
-        asked.flag("starts_with", call, answers.starts_with, found.starts_with)?;
-        asked.flag("ends_with", call, answers.ends_with, found.ends_with)
+        let call = self.call;
+        let [find, rfind, contains, starts_with, ends_with, ..] = self.answers;
+        asked.place("find", call, find, found.find)?;
+        asked.place("rfind", call, rfind, found.rfind)?;
+        asked.flag("contains", call, contains, found.contains)?;
+        asked.flag("starts_with", call, starts_with, found.starts_with)?;
+        asked.flag("ends_with", call, ends_with, found.ends_with)
     }
 
     fn compare_ends<'s, E: Platform + 's>(
@@ -155,29 +107,16 @@ impl<'a, P: Pattern + Copy> Search<'a, P> {
         asked: &mut Asked<'a>,
         found: &headline::Answers<'s, E, P, Global>,
     ) -> Result<(), AllocError> {
-        let Search { call, answers, .. } = *self;
-        let rest = found.strip_prefix;
-        add_string(asked, "strip_prefix", call, answers.strip_prefix, rest)?;
-        let rest = found.strip_suffix;
-        add_string(asked, "strip_suffix", call, answers.strip_suffix, rest)?;
-        let rest = Some(found.trim_start_matches);
-        add_string(
-            asked,
-            "trim_start_matches",
-            call,
-            answers.trim_start_matches,
-            rest,
-        )?;
-        let rest = Some(found.trim_end_matches);
-        add_string(
-            asked,
-            "trim_end_matches",
-            call,
-            answers.trim_end_matches,
-            rest,
-        )?;
-        let rest = Some(found.trim_matches);
-        add_string(asked, "trim_matches", call, answers.trim_matches, rest)
+        let call = self.call;
+        let [_, _, _, _, _, prefix, suffix, start, end, both, ..] = self.answers;
+        add_string(asked, "strip_prefix", call, prefix, found.strip_prefix)?;
+        add_string(asked, "strip_suffix", call, suffix, found.strip_suffix)?;
+        let trimmed = Some(found.trim_start_matches);
+        add_string(asked, "trim_start_matches", call, start, trimmed)?;
+        let trimmed = Some(found.trim_end_matches);
+        add_string(asked, "trim_end_matches", call, end, trimmed)?;
+        let trimmed = Some(found.trim_matches);
+        add_string(asked, "trim_matches", call, both, trimmed)
     }
 
     /// Compares the splits; for an empty pattern there are no pieces.
@@ -187,7 +126,8 @@ impl<'a, P: Pattern + Copy> Search<'a, P> {
         alloc: Global,
         found: headline::Answers<'s, E, P, Global>,
     ) -> Result<(), AllocError> {
-        let Search { call, answers, .. } = *self;
+        let call = self.call;
+        let [.., pieces, pieces_back, parts, parts_back] = self.answers;
         let headline::Answers {
             split_once,
             rsplit_once,
@@ -195,35 +135,21 @@ impl<'a, P: Pattern + Copy> Search<'a, P> {
             rsplit,
             ..
         } = found;
-        add_pair(
-            asked,
-            alloc,
-            "split_once",
-            call,
-            answers.split_once,
-            split_once,
-        )?;
-        add_pair(
-            asked,
-            alloc,
-            "rsplit_once",
-            call,
-            answers.rsplit_once,
-            rsplit_once,
-        )?;
+        add_pair(asked, alloc, "split_once", call, parts, split_once)?;
+        add_pair(asked, alloc, "rsplit_once", call, parts_back, rsplit_once)?;
         match split {
-            Some(pieces) => {
-                let pieces: Vec<RawOsStr<'s, E>> = pieces.collect(alloc)?;
-                add_strings(asked, alloc, "split", call, answers.split, &pieces)?;
+            Some(split) => {
+                let split: Vec<RawOsStr<'s, E>> = split.collect(alloc)?;
+                add_strings(asked, alloc, "split", call, pieces, &split)?;
             }
-            None => asked.none("split", call, answers.split)?,
+            None => asked.none("split", call, pieces)?,
         }
         match rsplit {
-            Some(pieces) => {
-                let pieces: Vec<RawOsStr<'s, E>> = pieces.collect(alloc)?;
-                add_strings(asked, alloc, "rsplit", call, answers.rsplit, &pieces)
+            Some(rsplit) => {
+                let rsplit: Vec<RawOsStr<'s, E>> = rsplit.collect(alloc)?;
+                add_strings(asked, alloc, "rsplit", call, pieces_back, &rsplit)
             }
-            None => asked.none("rsplit", call, answers.rsplit),
+            None => asked.none("rsplit", call, pieces_back),
         }
     }
 }
