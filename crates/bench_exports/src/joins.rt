@@ -1,6 +1,6 @@
 //! Joins and fronts of Windows strings, whose bytes are WTF-8.
 ghost use Rattle.std.specs.Prelude.{◌≢◌, ◌↔◌, IsTrue};
-ghost use Rattle.wtf8_core.specs.Standing.{IsFront};
+ghost use Rattle.wtf8_core.specs.Standing.{IsPrefix};
 ghost use Rattle.wtf8_core.specs.UnitsOf.{units_of};
 ghost use Rattle.wtf8_core.specs.Wtf8.{IsWtf8};
 ghost use Rattle.platform_str.specs.Strings.{bytes};
@@ -58,7 +58,7 @@ pub extern "C" fn port_repeat(alloc: Global, raw: &[u8], count: usize) -> usize
 pub extern "C" fn port_starts_with_os(raw: &[u8], front: &[u8]) -> bool
     requires string { IsWtf8 raw.now }
     requires front { IsWtf8 front.now }
-    ensures { IsTrue result ↔ IsFront (units_of front.now) (units_of raw.now) }
+    ensures { IsTrue result ↔ IsPrefix (units_of front.now) (units_of raw.now) }
 {
     let front = OsStr::<Windows>::from_encoded_bytes_unchecked(front);
     OsStr::<Windows>::from_encoded_bytes_unchecked(raw).starts_with_os(front)

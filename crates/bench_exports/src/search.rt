@@ -1,7 +1,7 @@
 //! Searches, strips, a trim and prefix tests on Unix. Each pattern is UTF-8.
 ghost use Rattle.std.specs.Prelude.{◌≡◌, ◌<◌, ◌↔◌, ◌++◌, ℕ, List, IsTrue, length};
 ghost use Rattle.std.specs.Str.{IsUtf8};
-ghost use Rattle.wtf8_core.specs.Standing.{StandsNowhere, IsLeastPlace, IsGreatestPlace, IsFront, IsEnd};
+ghost use Rattle.wtf8_core.specs.Standing.{StandsNowhere, IsFirstPlace, IsLastPlace, IsPrefix, IsSuffix};
 ghost use Rattle.wtf8_core.specs.Pieces.{IsTrim};
 ghost use Rattle.bench_exports.specs.Answers.{AnswersOr};
 
@@ -13,7 +13,7 @@ use os_str_ext::OsStrBytesExt;
 pub extern "C" fn port_find(raw: &[u8], pattern: &[u8]) -> usize
     requires { IsUtf8 pattern.now }
     ensures { AnswersOr usize.MAX (StandsNowhere pattern.now raw.now)
-        (IsLeastPlace pattern.now raw.now) result }
+        (IsFirstPlace pattern.now raw.now) result }
 {
     match unix(raw).find(text(pattern)) {
         Some(place) => place,
@@ -26,7 +26,7 @@ pub extern "C" fn port_find(raw: &[u8], pattern: &[u8]) -> usize
 pub extern "C" fn port_rfind(raw: &[u8], pattern: &[u8]) -> usize
     requires { IsUtf8 pattern.now }
     ensures { AnswersOr usize.MAX (StandsNowhere pattern.now raw.now)
-        (IsGreatestPlace pattern.now raw.now) result }
+        (IsLastPlace pattern.now raw.now) result }
 {
     match unix(raw).rfind(text(pattern)) {
         Some(place) => place,
@@ -40,7 +40,7 @@ pub extern "C" fn port_rfind(raw: &[u8], pattern: &[u8]) -> usize
 pub extern "C" fn port_split_once(raw: &[u8], pattern: &[u8]) -> usize
     requires { IsUtf8 pattern.now }
     ensures { AnswersOr usize.MAX (StandsNowhere pattern.now raw.now)
-        (IsLeastPlace pattern.now raw.now) result }
+        (IsFirstPlace pattern.now raw.now) result }
 {
     match unix(raw).split_once(text(pattern)) {
         Some((front, _)) => front.len(),
@@ -52,7 +52,7 @@ pub extern "C" fn port_split_once(raw: &[u8], pattern: &[u8]) -> usize
 #[unsafe(no_mangle)]
 pub extern "C" fn port_strip_prefix(raw: &[u8], pattern: &[u8]) -> usize
     requires { IsUtf8 pattern.now }
-    ensures { AnswersOr usize.MAX (¬ (IsFront pattern.now raw.now))
+    ensures { AnswersOr usize.MAX (¬ (IsPrefix pattern.now raw.now))
         (λ count. (rest : List ℕ) × (raw.now ≡ pattern.now ++ rest)
         × (count ≡ length rest)) result }
 {
@@ -77,7 +77,7 @@ pub extern "C" fn port_trim_matches(raw: &[u8], pattern: &[u8]) -> usize
 #[unsafe(no_mangle)]
 pub extern "C" fn port_starts_with(raw: &[u8], pattern: &[u8]) -> bool
     requires { IsUtf8 pattern.now }
-    ensures { IsTrue result ↔ IsFront pattern.now raw.now }
+    ensures { IsTrue result ↔ IsPrefix pattern.now raw.now }
 {
     unix(raw).starts_with(text(pattern))
 }
@@ -86,7 +86,7 @@ pub extern "C" fn port_starts_with(raw: &[u8], pattern: &[u8]) -> bool
 #[unsafe(no_mangle)]
 pub extern "C" fn port_ends_with(raw: &[u8], pattern: &[u8]) -> bool
     requires { IsUtf8 pattern.now }
-    ensures { IsTrue result ↔ IsEnd pattern.now raw.now }
+    ensures { IsTrue result ↔ IsSuffix pattern.now raw.now }
 {
     unix(raw).ends_with(text(pattern))
 }

@@ -2,7 +2,7 @@
 ghost use Rattle.std.specs.Prelude.{◌≡◌, ◌++◌, ℕ, List};
 ghost use Rattle.std.specs.Char.{encode_utf8};
 ghost use Rattle.std.specs.List.{fold};
-ghost use Rattle.wtf8_core.specs.Covered.{StartsBare};
+ghost use Rattle.wtf8_core.specs.Covered.{StartsWithNoCharacter};
 ghost use Rattle.platform_str.specs.PlatformWords.{itself};
 ghost use Rattle.os_str_ext.specs.Symbols.{AreSymbols};
 ghost use Rattle.os_str_ext.specs.declared.symbols.Symbol.{Symbol};
@@ -38,7 +38,7 @@ fn number(symbol: Symbol) -> u64
 /// The number of the string's first character, or `u32::MAX` where no whole character starts it.
 #[unsafe(no_mangle)]
 pub extern "C" fn port_split_first_char(raw: &[u8]) -> u32
-    ensures { AnswersOr u32.MAX (StartsBare raw.now)
+    ensures { AnswersOr u32.MAX (StartsWithNoCharacter raw.now)
         (λ number. (rest : List ℕ) × (raw.now ≡ encode_utf8 number ++ rest)) result }
 {
     match unix(raw).split_first_char() {

@@ -2,7 +2,7 @@
 use Rattle.std.proofs.Common.{◌≡◌, ◌⊎◌, inl, inr, ℕ, ◌+◌, ◌<◌, List, [], ◌∷◌, ◌++◌, take, drop, length, refl, sym, ap, ◌∙◌, subst, arith, append_assoc, append-nil, length-append}
 use Rattle.std.proofs.lemmas.List.{take-append-drop}
 use Rattle.std.proofs.Math.Seq.{take-append_seam, drop-append_seam}
-use Rattle.wtf8_core.specs.Standing.{IsFront, StandsAt, StandsNowhere, IsLeastPlace}
+use Rattle.wtf8_core.specs.Standing.{IsPrefix, StandsAt, StandsNowhere, IsFirstPlace}
 use Rattle.os_args.specs.Word.{equals, IsName}
 
 front_of : (s before behind : List ℕ) (i : ℕ) → s ≡ before ++ behind → length before ≡ i → take i s ≡ before
@@ -12,7 +12,7 @@ back_of : (s before behind : List ℕ) (i : ℕ) → s ≡ before ++ behind → 
 back_of s before behind i e l = ap (λ n. drop n s) (sym l) ∙ ap (drop (length before)) e ∙ drop-append_seam before behind
 
 -- in front of the least place there is none
-none_before : (s front back : List ℕ) (i : ℕ) → s ≡ front ++ back → length front ≡ i → IsLeastPlace equals s i → StandsNowhere equals front
+none_before : (s front back : List ℕ) (i : ℕ) → s ≡ front ++ back → length front ≡ i → IsFirstPlace equals s i → StandsNowhere equals front
 none_before s front back i e l h k st =
     let few : k < i = omega (arith, l, st.place, ap length st.joined, length-append st.before (equals ++ st.behind)) in
     h.least k few (record {
@@ -22,7 +22,7 @@ none_before s front back i e l h k st =
       place = st.place;
     })
 
-pub name_ends : (s : List ℕ) (i : ℕ) (name rest : List ℕ) → IsLeastPlace equals s i → name ≡ take i s → rest ≡ drop i s → IsName s name rest
+pub name_ends : (s : List ℕ) (i : ℕ) (name rest : List ℕ) → IsFirstPlace equals s i → name ≡ take i s → rest ≡ drop i s → IsName s name rest
 name_ends s i name rest h n r =
     let st = h.stands in
     let front = n ∙ front_of s st.before (equals ++ st.behind) i st.joined st.place in

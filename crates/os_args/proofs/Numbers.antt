@@ -1,6 +1,6 @@
 -- Which words start as numbers.
 use Rattle.std.proofs.Common.{◌≡◌, ◌⊎◌, inl, inr, ⊎_elim, ℕ, ◌≤◌, IsTrue, Bool, true, false, List, [], ◌∷◌, ◌++◌, refl, sym, ◌∙◌, arith, subst}
-use Rattle.wtf8_core.specs.Standing.{IsFront}
+use Rattle.wtf8_core.specs.Standing.{IsPrefix}
 use Rattle.os_args.specs.Word.{dash, point, StartsWithDigit, StartsWithFraction, StartsAsNegative}
 
 tails : {a b : ℕ} {x y : List ℕ} → a ∷ x ≡ b ∷ y → x ≡ y
@@ -22,7 +22,7 @@ fraction s t e h = record { fraction = t; joined = e; digit = h }
 pub of_fraction : (s t : List ℕ) → s ≡ point ++ t → StartsWithFraction s → StartsWithDigit t
 of_fraction s t e h = subst StartsWithDigit (tails (sym h.joined ∙ e)) h.digit
 
-pub no_fraction : (s : List ℕ) → ¬ (IsFront point s) → ¬ (StartsWithFraction s)
+pub no_fraction : (s : List ℕ) → ¬ (IsPrefix point s) → ¬ (StartsWithFraction s)
 no_fraction s n h = n (record { rest = h.fraction; joined = h.joined })
 
 pub negative : (s t : List ℕ) → s ≡ dash ++ t → StartsWithDigit t ⊎ StartsWithFraction t → StartsAsNegative s
@@ -31,7 +31,7 @@ negative s t e h = record { number = t; joined = e; starts = h }
 pub of_negative : (s t : List ℕ) → s ≡ dash ++ t → StartsAsNegative s → StartsWithDigit t ⊎ StartsWithFraction t
 of_negative s t e h = subst (λ x. StartsWithDigit x ⊎ StartsWithFraction x) (tails (sym h.joined ∙ e)) h.starts
 
-pub no_negative : (s : List ℕ) → ¬ (IsFront dash s) → ¬ (StartsAsNegative s)
+pub no_negative : (s : List ℕ) → ¬ (IsPrefix dash s) → ¬ (StartsAsNegative s)
 no_negative s n h = n (record { rest = h.number; joined = h.joined })
 
 pub ruleset numbers = (no_digit, no_digit_point, fraction, of_fraction, no_fraction, negative, of_negative, no_negative)

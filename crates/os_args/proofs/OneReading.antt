@@ -3,9 +3,9 @@ use Rattle.std.proofs.Common.{◌≡◌, ◌≢◌, ◌⊎◌, inl, inr, ℕ, �
 use Rattle.std.proofs.lemmas.Str.{encode_same}
 use Rattle.std.specs.Char.{encode_utf8, IsScalar}
 use Rattle.std.specs.Str.{IsUtf8}
-use Rattle.wtf8_core.specs.CodePoint.{form}
-use Rattle.wtf8_core.specs.Covered.{StartsBare}
-use Rattle.wtf8_core.specs.Standing.{IsFront, StandsAt, StandsNowhere}
+use Rattle.wtf8_core.specs.CodePoint.{encode}
+use Rattle.wtf8_core.specs.Covered.{StartsWithNoCharacter}
+use Rattle.wtf8_core.specs.Standing.{IsPrefix, StandsAt, StandsNowhere}
 use Rattle.wtf8_core.proofs.lemmas.forms.ByStd.{form_encode}
 use Rattle.os_args.specs.Word.{Kind, Long, LongBytes, Short, ShortBytes, Value, dash, dashes, equals, point, StartsWithDigit, StartsWithFraction, StartsAsNegative, IsName, IsNamed, IsFlag, IsLongOption, IsShortOption, IsOperand, IsReadAs}
 
@@ -16,7 +16,7 @@ heads : {a b : ℕ} {x y : List ℕ} → a ∷ x ≡ b ∷ y → a ≡ b
 heads e = cc
 
 -- where one name ends, the other has no `=` there
-clash : (m rest left : List ℕ) (y : ℕ) → StandsNowhere equals (y ∷ m) → ((rest ≡ []) ⊎ IsFront equals rest) → rest ≡ y ∷ (m ++ left) → ⊥
+clash : (m rest left : List ℕ) (y : ℕ) → StandsNowhere equals (y ∷ m) → ((rest ≡ []) ⊎ IsPrefix equals rest) → rest ≡ y ∷ (m ++ left) → ⊥
 clash m rest left y none (inl e) j = let never = sym e ∙ j in cc
 clash m rest left y none (inr f) j =
     none 0 (record { before = []; behind = m; joined = ap (λ x. x ∷ m) (heads (sym j ∙ f.joined)); place = refl })
@@ -25,7 +25,7 @@ later : (x : ℕ) (n : List ℕ) → StandsNowhere equals (x ∷ n) → StandsNo
 later x n h i s = h (1 + i) (record { before = x ∷ s.before; behind = s.behind; joined = ap (λ l. x ∷ l) s.joined; place = let p = s.place in omega arith })
 
 -- the first `=` is where the name ends
-one_end : (n m rest left : List ℕ) → StandsNowhere equals n → StandsNowhere equals m → ((rest ≡ []) ⊎ IsFront equals rest) → ((left ≡ []) ⊎ IsFront equals left) → n ++ rest ≡ m ++ left → (n ≡ m) × (rest ≡ left)
+one_end : (n m rest left : List ℕ) → StandsNowhere equals n → StandsNowhere equals m → ((rest ≡ []) ⊎ IsPrefix equals rest) → ((left ≡ []) ⊎ IsPrefix equals left) → n ++ rest ≡ m ++ left → (n ≡ m) × (rest ≡ left)
 one_end [] [] rest left a b h k e = (refl, e)
 one_end [] (y ∷ m) rest left a b h k e = absurd (clash m rest left y b h e)
 one_end (x ∷ n) [] rest left a b h k e = absurd (clash n left rest x a k (sym e))
@@ -52,8 +52,8 @@ one_named s (ShortBytes all) other rest left a b = absurd a
 one_named s (Value v) other rest left a b = absurd a
 
 -- a character is first, or none is
-not_bare : (s rest : List ℕ) (c : ℕ) → IsScalar c → s ≡ encode_utf8 c ++ rest → ¬ (StartsBare s)
-not_bare s rest c scalar e bare = bare (length (form c)) (record {
+not_bare : (s rest : List ℕ) (c : ℕ) → IsScalar c → s ≡ encode_utf8 c ++ rest → ¬ (StartsWithNoCharacter s)
+not_bare s rest c scalar e bare = bare (length (encode c)) (record {
   char = c;
   scalar = scalar;
   stands = record { before = []; behind = rest; joined = e ∙ ap (λ x. x ++ rest) (sym (form_encode c)); place = refl };
@@ -89,12 +89,12 @@ no_number n t e (inr h) = no_fraction n t e h
 long_short : (numbers : Bool) (s : List ℕ) (kind other : Kind) (rest left : List ℕ) → IsLongOption s kind rest → IsShortOption numbers s other left → ⊥
 long_short numbers s kind other rest left a b = b.one_dash (record { rest = a.text; joined = tails (sym b.joined ∙ a.joined) })
 
-long_operand : (numbers : Bool) (s : List ℕ) (kind : Kind) (rest : List ℕ) → IsLongOption s kind rest → (s ≡ dash) ⊎ (¬ (IsFront dash s) ⊎ (IsTrue numbers × StartsAsNegative s)) → ⊥
+long_operand : (numbers : Bool) (s : List ℕ) (kind : Kind) (rest : List ℕ) → IsLongOption s kind rest → (s ≡ dash) ⊎ (¬ (IsPrefix dash s) ⊎ (IsTrue numbers × StartsAsNegative s)) → ⊥
 long_operand numbers s kind rest a (inl e) = let never = tails (sym a.joined ∙ e) in cc
 long_operand numbers s kind rest a (inr (inl n)) = n (record { rest = dash ++ a.text; joined = a.joined })
 long_operand numbers s kind rest a (inr (inr h)) = no_number h.1.number a.text (tails (sym h.1.joined ∙ a.joined)) h.1.starts
 
-short_operand : (numbers : Bool) (s : List ℕ) (kind : Kind) (rest : List ℕ) → IsShortOption numbers s kind rest → (s ≡ dash) ⊎ (¬ (IsFront dash s) ⊎ (IsTrue numbers × StartsAsNegative s)) → ⊥
+short_operand : (numbers : Bool) (s : List ℕ) (kind : Kind) (rest : List ℕ) → IsShortOption numbers s kind rest → (s ≡ dash) ⊎ (¬ (IsPrefix dash s) ⊎ (IsTrue numbers × StartsAsNegative s)) → ⊥
 short_operand numbers s kind rest a (inl e) = a.some (tails (sym a.joined ∙ e))
 short_operand numbers s kind rest a (inr (inl n)) = n (record { rest = a.flags; joined = a.joined })
 short_operand numbers s kind rest a (inr (inr h)) = a.no_number h.0 h.1

@@ -1,12 +1,12 @@
 -- How a word is read.
 use Rattle.std.proofs.Common.{◌≡◌, ◌≢◌, ◌⊎◌, inl, inr, ⊎_elim, ℕ, Bool, IsTrue, List, [], ◌∷◌, ◌++◌, refl, sym, ap, ◌∙◌, subst, arith}
-use Rattle.wtf8_core.specs.Standing.{IsFront}
+use Rattle.wtf8_core.specs.Standing.{IsPrefix}
 use Rattle.os_args.specs.Word.{Kind, Value, dash, dashes, StartsAsNegative, IsNamed, IsFlag, IsReadAs}
 
 pub is_long : (numbers : Bool) (s text : List ℕ) (kind : Kind) (rest : List ℕ) → s ≢ dashes → s ≡ dashes ++ text → IsNamed text kind rest → IsReadAs numbers s kind rest
 is_long numbers s text kind rest n e h = inl (record { text = text; joined = e; some = λ z. n (e ∙ ap (λ x. dashes ++ x) z); named = h })
 
-pub is_short : (numbers : Bool) (s flags : List ℕ) (kind : Kind) (rest : List ℕ) → ¬ (IsFront dashes s) → s ≡ dash ++ flags → flags ≢ [] → (IsTrue numbers → ¬ (StartsAsNegative s)) → IsFlag flags kind rest → IsReadAs numbers s kind rest
+pub is_short : (numbers : Bool) (s flags : List ℕ) (kind : Kind) (rest : List ℕ) → ¬ (IsPrefix dashes s) → s ≡ dash ++ flags → flags ≢ [] → (IsTrue numbers → ¬ (StartsAsNegative s)) → IsFlag flags kind rest → IsReadAs numbers s kind rest
 is_short numbers s flags kind rest n e some numeral h = inr (inl (record {
   flags = flags;
   joined = e;
@@ -16,7 +16,7 @@ is_short numbers s flags kind rest n e some numeral h = inr (inl (record {
   flag = h;
 }))
 
-pub is_value : (numbers : Bool) (s rest : List ℕ) → ¬ (IsFront dash s) → rest ≡ [] → IsReadAs numbers s (Value s) rest
+pub is_value : (numbers : Bool) (s rest : List ℕ) → ¬ (IsPrefix dash s) → rest ≡ [] → IsReadAs numbers s (Value s) rest
 is_value numbers s rest n e = inr (inr (record { value = refl; whole = e; operand = inr (inl n) }))
 
 pub is_dash : (numbers : Bool) (s flags rest : List ℕ) → s ≡ dash ++ flags → flags ≡ [] → rest ≡ [] → IsReadAs numbers s (Value s) rest

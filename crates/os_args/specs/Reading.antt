@@ -1,6 +1,6 @@
 -- The words of a command line, taken step by step.
 use Rattle.std.specs.Prelude.{◌≡◌, ◌≢◌, ℕ, ◌+◌, ◌⊎◌, Bool, true, false, List, [], ◌∷◌, ◌++◌, drop, length, Option, Some, None, Result, Ok, Err}
-use Rattle.wtf8_core.specs.Standing.{IsFront}
+use Rattle.wtf8_core.specs.Standing.{IsPrefix}
 use Rattle.os_args.specs.Word.{Kind, Value, dashes, equals, IsFlag, IsReadAs, IsValueOf}
 
 -- why a step gives nothing: a value that nothing took after what was read last, or none where one is wanted
@@ -64,7 +64,7 @@ IsReadIn false numbers s kind rest = IsReadAs numbers s kind rest
 -- a flag is taken of those that are left
 pub record TakesFlag (before : Reading) (kind : Kind) (after : Reading) : Type 0 where
   pub some : before.pending ≢ []
-  pub no_equals : ¬ (IsFront equals before.pending)
+  pub no_equals : ¬ (IsPrefix equals before.pending)
   pub flag : IsFlag before.pending kind after.pending
   pub same : after ≡ having_read before before.place kind after.pending
 

@@ -2,8 +2,8 @@
 use Rattle.std.specs.Prelude.{◌≡◌, ◌≢◌, ◌⊎◌, ℕ, ◌≤◌, Bool, IsTrue, List, [], ◌∷◌, ◌++◌}
 use Rattle.std.specs.Char.{encode_utf8, IsScalar}
 use Rattle.std.specs.Str.{IsUtf8}
-use Rattle.wtf8_core.specs.Covered.{StartsBare}
-use Rattle.wtf8_core.specs.Standing.{IsFront, StandsNowhere}
+use Rattle.wtf8_core.specs.Covered.{StartsWithNoCharacter}
+use Rattle.wtf8_core.specs.Standing.{IsPrefix, StandsNowhere}
 
 -- `-`, `--`, `=` and `.`
 abbrev pub dash : List ℕ
@@ -50,7 +50,7 @@ pub record StartsAsNegative (s : List ℕ) : Type 0 where
 pub record IsName (s name rest : List ℕ) : Type 0 where
   pub joined : s ≡ name ++ rest
   pub no_equals : StandsNowhere equals name
-  pub end : (rest ≡ []) ⊎ IsFront equals rest
+  pub end : (rest ≡ []) ⊎ IsPrefix equals rest
 
 -- of s, what follows `--`, this name is read, and a rest is left
 abbrev pub IsNamed : List ℕ → Kind → List ℕ → Type 0
@@ -65,7 +65,7 @@ abbrev pub IsFlag : List ℕ → Kind → List ℕ → Type 0
 IsFlag s (Long name) rest = ⊥
 IsFlag s (LongBytes name) rest = ⊥
 IsFlag s (Short c) rest = IsScalar c × (s ≡ encode_utf8 c ++ rest)
-IsFlag s (ShortBytes all) rest = (all ≡ s) × ((s ≢ []) × (StartsBare s × (rest ≡ [])))
+IsFlag s (ShortBytes all) rest = (all ≡ s) × ((s ≢ []) × (StartsWithNoCharacter s × (rest ≡ [])))
 IsFlag s (Value value) rest = ⊥
 
 -- the word s is `--` and a name
@@ -80,7 +80,7 @@ pub record IsShortOption (numbers : Bool) (s : List ℕ) (kind : Kind) (rest : L
   pub flags : List ℕ
   pub joined : s ≡ dash ++ flags
   pub some : flags ≢ []
-  pub one_dash : ¬ (IsFront dash flags)
+  pub one_dash : ¬ (IsPrefix dash flags)
   pub no_number : IsTrue numbers → ¬ (StartsAsNegative s)
   pub flag : IsFlag flags kind rest
 
@@ -88,7 +88,7 @@ pub record IsShortOption (numbers : Bool) (s : List ℕ) (kind : Kind) (rest : L
 pub record IsOperand (numbers : Bool) (s : List ℕ) (kind : Kind) (rest : List ℕ) : Type 0 where
   pub value : kind ≡ Value s
   pub whole : rest ≡ []
-  pub operand : (s ≡ dash) ⊎ (¬ (IsFront dash s) ⊎ (IsTrue numbers × StartsAsNegative s))
+  pub operand : (s ≡ dash) ⊎ (¬ (IsPrefix dash s) ⊎ (IsTrue numbers × StartsAsNegative s))
 
 -- of the word s, before any `--`, this is read, and a rest of the word is left
 abbrev pub IsReadAs : Bool → List ℕ → Kind → List ℕ → Type 0
@@ -96,4 +96,4 @@ IsReadAs numbers s kind rest = IsLongOption s kind rest ⊎ (IsShortOption numbe
 
 -- of s, what is left of an option's word, this is the value: what follows `=`, or all where it doesn't start with one
 abbrev pub IsValueOf : List ℕ → List ℕ → Type 0
-IsValueOf s value = (s ≡ equals ++ value) ⊎ (¬ (IsFront equals s) × (value ≡ s))
+IsValueOf s value = (s ≡ equals ++ value) ⊎ (¬ (IsPrefix equals s) × (value ≡ s))

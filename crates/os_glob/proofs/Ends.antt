@@ -6,7 +6,7 @@ use Rattle.std.proofs.lemmas.Str.{chars-nil}
 use Rattle.std.specs.Char.{encode_utf8}
 use Rattle.std.specs.List.{AllByRecursion, flat_map}
 use Rattle.std.specs.Str.{chars, encode_utf8_all}
-use Rattle.wtf8_core.specs.Standing.{IsFront, IsEnd}
+use Rattle.wtf8_core.specs.Standing.{IsPrefix, IsSuffix}
 use Rattle.os_str_ext.specs.Symbols.{symbol_bytes}
 use Rattle.os_str_ext.specs.declared.symbols.Symbol.{Symbol}
 use Rattle.os_str_ext.specs.declared.symbols.Symbol.TheVariants.{Character, Unit as LoneUnit}
@@ -255,13 +255,13 @@ character_bytes [] = refl
 character_bytes (c ∷ cs) = ap (λ x. encode_utf8 c ++ x) (character_bytes cs)
 
 module _ (text : List ℕ) (s : List ℕ) (symbols : List Symbol) (bytes : flat_map symbol_bytes symbols ≡ s) (cs : List ℕ) (of_text : encode_utf8_all cs ≡ text) where
-  pub front_bytes : (rest : List Symbol) → symbols ≡ map Character cs ++ rest → IsFront text s
+  pub front_bytes : (rest : List Symbol) → symbols ≡ map Character cs ++ rest → IsPrefix text s
   front_bytes rest e = record {
     rest = flat_map symbol_bytes rest;
     joined = sym bytes ∙ ap (flat_map symbol_bytes) e ∙ flat_map-append symbol_bytes (map Character cs) rest ∙ ap (λ x. x ++ flat_map symbol_bytes rest) (character_bytes cs ∙ of_text);
   }
 
-  pub end_bytes : (front : List Symbol) → symbols ≡ front ++ map Character cs → IsEnd text s
+  pub end_bytes : (front : List Symbol) → symbols ≡ front ++ map Character cs → IsSuffix text s
   end_bytes front e = record {
     rest = flat_map symbol_bytes front;
     joined = sym bytes ∙ ap (flat_map symbol_bytes) e ∙ flat_map-append symbol_bytes front (map Character cs) ∙ ap (λ x. flat_map symbol_bytes front ++ x) (character_bytes cs ∙ of_text);

@@ -36,8 +36,8 @@ pub use Rattle.wtf8_core.proofs.lemmas.forms.Shapes.{form_ascii, form_bounds, fo
 pub use Rattle.wtf8_core.proofs.lemmas.scan.ComputedTests.{all_below, copies, each_below, fails, fails_within}
 pub use Rattle.wtf8_core.proofs.lemmas.scan.Lanes.{lane_with, no_bit_of_both, none_of_64_passes_before, none_set}
 pub use Rattle.wtf8_core.specs.Chunks.{AreChunks, Chunk, joined}
-unfoldable pub use Rattle.wtf8_core.specs.CodePoint.{form}
-pub use Rattle.wtf8_core.specs.Covered.{IsBare, IsCovered, IsSeam}
+unfoldable pub use Rattle.wtf8_core.specs.CodePoint.{encode}
+pub use Rattle.wtf8_core.specs.Covered.{HasNoCharacter, IsCovered, CrossesNoCharacter}
 pub use Rattle.wtf8_core.specs.FaultText.{upper_hex_digit}
 pub use denote.Shadow.{shadow}
 pub use denote.Text.{Utf8}

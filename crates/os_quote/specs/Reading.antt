@@ -3,7 +3,7 @@ use Rattle.std.specs.Prelude.{◌≡◌, ◌≢◌, ℕ, ◌/◌, ◌%◌, ◌<�
 use Rattle.std.specs.List.{flat_map, AllByRecursion}
 use Rattle.std.specs.Char.{encode_utf8}
 use Rattle.std.specs.Str.{IsUtf8}
-use Rattle.wtf8_core.specs.CodePoint.{form}
+use Rattle.wtf8_core.specs.CodePoint.{encode}
 use Rattle.wtf8_core.specs.FaultText.{upper_hex_digit}
 use Rattle.os_quote.specs.Item.{Item, Character, Backslash, ByteUnit, WideUnit, LongCharacter, backslash, wide_digits, long_digits, item_texts, IsLong, HasLongTokens, IsItem}
 use Rattle.os_quote.specs.Escape.{IsBadEscapeBy}
@@ -24,7 +24,7 @@ abbrev pub item_bytes : Item → List ℕ
 item_bytes (Character c) = encode_utf8 c
 item_bytes Backslash = backslash ∷ []
 item_bytes (ByteUnit u) = u ∷ []
-item_bytes (WideUnit u) = form u
+item_bytes (WideUnit u) = encode u
 item_bytes (LongCharacter c) = encode_utf8 c
 
 -- none of the bytes is a backslash

@@ -1,7 +1,7 @@
 //! From escapes to strings.
 ghost use Rattle.std.specs.Prelude.{◌≡◌, ◌++◌, ◌↔◌, [], length, IsOk, IfOk, IfErr, OnOk, IsTrue, MatchResult};
 ghost use Rattle.std.specs.Char.{encode_utf8};
-ghost use Rattle.wtf8_core.specs.CodePoint.{form};
+ghost use Rattle.wtf8_core.specs.CodePoint.{encode};
 ghost use Rattle.platform_str.specs.Strings.{bytes, string_vec_of};
 ghost use Rattle.os_quote.specs.Shown.{shown_by};
 ghost use Rattle.os_quote.specs.Escape.{IsEscape, IsLineEscape, IsEscapeBy, IsQuoteFault, IsLineFault, IsQuoteFaultBy};
@@ -160,7 +160,7 @@ fn push_token<A: Allocator>(encoded: &mut Vec<u8, A>, token: Token) -> Result<()
 
 /// Appends the bytes of one 16-bit unit.
 fn push_unit<A: Allocator>(encoded: &mut Vec<u8, A>, unit: u16) -> Result<(), AllocError>
-    ensures { OnOk result (encoded.new.items ≡ encoded.old.items ++ form unit) }
+    ensures { OnOk result (encoded.new.items ≡ encoded.old.items ++ encode unit) }
 {
     for byte in DecodeWide::new(&[unit]) {
         encoded.push(byte)?;

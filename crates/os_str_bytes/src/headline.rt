@@ -4,8 +4,8 @@ ghost use Rattle.std.specs.List.{repeat};
 ghost use Rattle.std.specs.Cmp.Lexicographic.{slice_cmp};
 ghost use Rattle.std.specs.Ordering.{nat_cmp};
 ghost use Rattle.std.specs.Str.{IsUtf8};
-ghost use Rattle.wtf8_core.specs.Wtf8.{Spells, HasUnits};
-ghost use Rattle.wtf8_core.specs.Standing.{IsLeastPlace, IsGreatestPlace, IsFront, IsEnd};
+ghost use Rattle.wtf8_core.specs.Wtf8.{Encodes, HasUnits};
+ghost use Rattle.wtf8_core.specs.Standing.{IsFirstPlace, IsLastPlace, IsPrefix, IsSuffix};
 ghost use Rattle.wtf8_core.specs.UnitPlace.{FindsInUnits};
 ghost use Rattle.wtf8_core.specs.Boundary.{IsBoundary};
 ghost use Rattle.wtf8_core.specs.Chunks.{Chunk, AreChunks};
@@ -101,21 +101,21 @@ pub fn ask<'a, E: Platform + 'a, P: Pattern + Copy, A: Allocator>(
     ensures eq { IsTrue result.eq ↔ (raw_units string.entry ≡ raw_units other.entry) }
     ensures cmp { result.cmp ≡ slice_cmp nat_cmp (raw_bytes string.entry) (raw_bytes other.entry) }
     ensures starts_with_os { IsTrue result.starts_with_os
-        ↔ IsFront (raw_units other.entry) (raw_units string.entry) }
+        ↔ IsPrefix (raw_units other.entry) (raw_units string.entry) }
     ensures ends_with_os { IsTrue result.ends_with_os
-        ↔ IsEnd (raw_units other.entry) (raw_units string.entry) }
+        ↔ IsSuffix (raw_units other.entry) (raw_units string.entry) }
     // So does each search: the index is that of the first or the last unit at which the pattern's
     // units occur,
-    ensures find { FindsInUnits IsLeastPlace E.well_formed E.units (P.text pattern)
+    ensures find { FindsInUnits IsFirstPlace E.well_formed E.units (P.text pattern)
         (raw_bytes string.entry) result.find }
-    ensures rfind { FindsInUnits IsGreatestPlace E.well_formed E.units (P.text pattern)
+    ensures rfind { FindsInUnits IsLastPlace E.well_formed E.units (P.text pattern)
         (raw_bytes string.entry) result.rfind }
     ensures contains { IsTrue result.contains
         ↔ StandsSomewhere (E.units (P.text pattern)) (raw_units string.entry) }
     ensures starts_with { IsTrue result.starts_with
-        ↔ IsFront (E.units (P.text pattern)) (raw_units string.entry) }
+        ↔ IsPrefix (E.units (P.text pattern)) (raw_units string.entry) }
     ensures ends_with { IsTrue result.ends_with
-        ↔ IsEnd (E.units (P.text pattern)) (raw_units string.entry) }
+        ↔ IsSuffix (E.units (P.text pattern)) (raw_units string.entry) }
     // and the string may be cut at every index answered, and after the match.
     ensures find_cuts { MayBeCutAround (raw_bytes string.entry) (length (P.text pattern))
         result.find }
@@ -133,9 +133,9 @@ pub fn ask<'a, E: Platform + 'a, P: Pattern + Copy, A: Allocator>(
     ensures trim { Trims E.units IsTrim (P.text pattern) (raw_bytes string.entry)
         (raw_bytes result.trim_matches) }
     // Each split cuts the units where those of the pattern occur.
-    ensures split_once { SplitsOnce IsLeastPlace raw_units (E.units (P.text pattern))
+    ensures split_once { SplitsOnce IsFirstPlace raw_units (E.units (P.text pattern))
         (raw_units string.entry) result.split_once }
-    ensures rsplit_once { SplitsOnce IsGreatestPlace raw_units (E.units (P.text pattern))
+    ensures rsplit_once { SplitsOnce IsLastPlace raw_units (E.units (P.text pattern))
         (raw_units string.entry) result.rsplit_once }
     ensures split { SplitsUnlessEmpty E.units IsSplit (P.text pattern) (raw_bytes string.entry)
         result.split }
@@ -202,14 +202,14 @@ pub fn ask_windows<'a>(
     string: RawOsStr<'a, Windows>,
     other: RawOsStr<'a, Windows>,
 ) -> WindowsAnswers<'a>
-    // The order is that of the lists of code points that the strings spell, and not of their units.
-    ensures cmp { (cs : List ℕ) → (ds : List ℕ) → Spells (raw_bytes string.entry) cs
-        → Spells (raw_bytes other.entry) ds → result.cmp ≡ slice_cmp nat_cmp cs ds }
+    // The order is that of the lists of code points that the strings encode, and not of their units.
+    ensures cmp { (cs : List ℕ) → (ds : List ℕ) → Encodes (raw_bytes string.entry) cs
+        → Encodes (raw_bytes other.entry) ds → result.cmp ≡ slice_cmp nat_cmp cs ds }
     // The units are given one by one.
     ensures encode_wide { HasUnits (raw_bytes string.entry) result.encode_wide }
     // The parts that aren't empty are the forms of the maximal runs of surrogates of the list that
-    // the string spells.
-    ensures utf8_chunks { (cs : List ℕ) → Spells (raw_bytes string.entry) cs
+    // the string encodes.
+    ensures utf8_chunks { (cs : List ℕ) → Encodes (raw_bytes string.entry) cs
         → (runs : List Chunk) × (AreRuns cs runs × (result.utf8_chunks ≡ map form_chunk runs)) }
 {
     wtf8_laws::order();

@@ -3,7 +3,7 @@
 ghost use Rattle.std.specs.Prelude.{◌≡◌, ◌<◌, ◌↔◌, ◌++◌, ◌+◌, ◌*◌, ◌^◌, IsTrue, IsOk, IsErr, IfOk, IfSome, length, take, drop};
 ghost use Rattle.std.specs.Char.{encode_utf8};
 ghost use Rattle.std.specs.List.{repeat};
-ghost use Rattle.wtf8_core.specs.Standing.{Finds, IsLeastPlace, IsGreatestPlace, IsFront, IsEnd};
+ghost use Rattle.wtf8_core.specs.Standing.{Finds, IsFirstPlace, IsLastPlace, IsPrefix, IsSuffix};
 ghost use Rattle.wtf8_core.specs.UnitPlace.{FindsInUnits};
 ghost use Rattle.wtf8_core.specs.Boundary.{IsBoundary};
 ghost use Rattle.wtf8_core.specs.Chunks.{AreChunks};
@@ -131,8 +131,8 @@ impl<'a, E: Platform> RawOsStr<'a, E> {
     /// assert_eq!(rt; string.find(""), Some(0));
     /// ```
     pub fn find<P: Pattern>(self, pattern: P) -> Option<usize>
-        ensures bytes { Finds IsLeastPlace (P.text pattern) (raw_bytes self.entry) result }
-        ensures units { FindsInUnits IsLeastPlace E.well_formed E.units (P.text pattern)
+        ensures bytes { Finds IsFirstPlace (P.text pattern) (raw_bytes self.entry) result }
+        ensures units { FindsInUnits IsFirstPlace E.well_formed E.units (P.text pattern)
             (raw_bytes self.entry) result }
         ensures edges { MayBeCutAround (raw_bytes self.entry) (length (P.text pattern)) result }
         ensures behind { IfSome result (λ at. at + length (P.text pattern) < 2 ^ 64) }
@@ -151,8 +151,8 @@ impl<'a, E: Platform> RawOsStr<'a, E> {
     /// assert_eq!(rt; string.rfind(""), Some(6));
     /// ```
     pub fn rfind<P: Pattern>(self, pattern: P) -> Option<usize>
-        ensures bytes { Finds IsGreatestPlace (P.text pattern) (raw_bytes self.entry) result }
-        ensures units { FindsInUnits IsGreatestPlace E.well_formed E.units (P.text pattern)
+        ensures bytes { Finds IsLastPlace (P.text pattern) (raw_bytes self.entry) result }
+        ensures units { FindsInUnits IsLastPlace E.well_formed E.units (P.text pattern)
             (raw_bytes self.entry) result }
         ensures edges { MayBeCutAround (raw_bytes self.entry) (length (P.text pattern)) result }
         ensures behind { IfSome result (λ at. at + length (P.text pattern) < 2 ^ 64) }
@@ -186,8 +186,8 @@ impl<'a, E: Platform> RawOsStr<'a, E> {
     /// assert!(rt; !string.starts_with('b'));
     /// ```
     pub fn starts_with<P: Pattern>(self, pattern: P) -> bool
-        ensures bytes { IsTrue result ↔ IsFront (P.text pattern) (raw_bytes self.entry) }
-        ensures units { IsTrue result ↔ IsFront (E.units (P.text pattern)) (raw_units self.entry) }
+        ensures bytes { IsTrue result ↔ IsPrefix (P.text pattern) (raw_bytes self.entry) }
+        ensures units { IsTrue result ↔ IsPrefix (E.units (P.text pattern)) (raw_units self.entry) }
     {
         self.string.starts_with(pattern)
     }
@@ -202,8 +202,8 @@ impl<'a, E: Platform> RawOsStr<'a, E> {
     /// assert!(rt; !string.ends_with('b'));
     /// ```
     pub fn ends_with<P: Pattern>(self, pattern: P) -> bool
-        ensures bytes { IsTrue result ↔ IsEnd (P.text pattern) (raw_bytes self.entry) }
-        ensures units { IsTrue result ↔ IsEnd (E.units (P.text pattern)) (raw_units self.entry) }
+        ensures bytes { IsTrue result ↔ IsSuffix (P.text pattern) (raw_bytes self.entry) }
+        ensures units { IsTrue result ↔ IsSuffix (E.units (P.text pattern)) (raw_units self.entry) }
     {
         self.string.ends_with(pattern)
     }
@@ -218,7 +218,7 @@ impl<'a, E: Platform> RawOsStr<'a, E> {
     /// assert!(rt; RawOsStr::from_str("\u{1F600}").starts_with_os(high.as_raw()));
     /// ```
     pub fn starts_with_os(self, front: Self) -> bool
-        ensures { IsTrue result ↔ IsFront (raw_units front.entry) (raw_units self.entry) }
+        ensures { IsTrue result ↔ IsPrefix (raw_units front.entry) (raw_units self.entry) }
     {
         self.string.starts_with_os(front.string)
     }
@@ -233,7 +233,7 @@ impl<'a, E: Platform> RawOsStr<'a, E> {
     /// assert!(rt; RawOsStr::from_str("\u{1F600}").ends_with_os(low.as_raw()));
     /// ```
     pub fn ends_with_os(self, end: Self) -> bool
-        ensures { IsTrue result ↔ IsEnd (raw_units end.entry) (raw_units self.entry) }
+        ensures { IsTrue result ↔ IsSuffix (raw_units end.entry) (raw_units self.entry) }
     {
         self.string.ends_with_os(end.string)
     }
@@ -339,9 +339,9 @@ impl<'a, E: Platform> RawOsStr<'a, E> {
     /// assert!(rt; string.split_once("of") == None);
     /// ```
     pub fn split_once<P: Pattern>(self, pattern: P) -> Option<(Self, Self)>
-        ensures bytes { SplitsOnce IsLeastPlace raw_bytes (P.text pattern) (raw_bytes self.entry)
+        ensures bytes { SplitsOnce IsFirstPlace raw_bytes (P.text pattern) (raw_bytes self.entry)
             result }
-        ensures units { SplitsOnce IsLeastPlace raw_units (E.units (P.text pattern))
+        ensures units { SplitsOnce IsFirstPlace raw_units (E.units (P.text pattern))
             (raw_units self.entry) result }
     {
         match self.string.split_once(pattern) {
@@ -361,9 +361,9 @@ impl<'a, E: Platform> RawOsStr<'a, E> {
     /// assert!(rt; string.rsplit_once("o") == Some((front, back)));
     /// ```
     pub fn rsplit_once<P: Pattern>(self, pattern: P) -> Option<(Self, Self)>
-        ensures bytes { SplitsOnce IsGreatestPlace raw_bytes (P.text pattern) (raw_bytes self.entry)
+        ensures bytes { SplitsOnce IsLastPlace raw_bytes (P.text pattern) (raw_bytes self.entry)
             result }
-        ensures units { SplitsOnce IsGreatestPlace raw_units (E.units (P.text pattern))
+        ensures units { SplitsOnce IsLastPlace raw_units (E.units (P.text pattern))
             (raw_units self.entry) result }
     {
         match self.string.rsplit_once(pattern) {

@@ -2,8 +2,8 @@
 use Rattle.std.specs.Prelude.{◌≡◌, ◌-◌, ◌≤◌, ℕ, List, ◌++◌, length, Option, MatchOption}
 use Rattle.std.specs.Char.{IsScalar, encode_utf8}
 use Rattle.wtf8_core.specs.Character.{WholeCharacter}
-use Rattle.wtf8_core.specs.CodePoint.{form}
-use Rattle.wtf8_core.specs.Covered.{StartsBare}
+use Rattle.wtf8_core.specs.CodePoint.{encode}
+use Rattle.wtf8_core.specs.Covered.{StartsWithNoCharacter}
 
 -- no whole character ends where s ends
 abbrev pub EndsBare : List ℕ → Type 0
@@ -11,7 +11,7 @@ EndsBare s = (i : ℕ) → ¬ (WholeCharacter s i (length s))
 
 -- r is the first character of s and the rest, or None if s doesn't start with a whole character; `of` gives the bytes of the rest
 abbrev pub SplitsFirstChar : {T : Type 0} → (T → List ℕ) → List ℕ → Option (ℕ × T) → Type 0
-SplitsFirstChar of s r = MatchOption r (StartsBare s) (λ parts. s ≡ encode_utf8 parts.0 ++ of parts.1)
+SplitsFirstChar of s r = MatchOption r (StartsWithNoCharacter s) (λ parts. s ≡ encode_utf8 parts.0 ++ of parts.1)
 
 -- r is the last character of s and the rest, or None if s doesn't end with a whole character
 abbrev pub SplitsLastChar : {T : Type 0} → (T → List ℕ) → List ℕ → Option (ℕ × T) → Type 0
@@ -25,4 +25,4 @@ IsCharacterBefore s i r = MatchOption r ((k : ℕ) → ¬ (WholeCharacter s k i)
 pub record IsOneCharacter (s : List ℕ) : Type 0 where
   pub char : ℕ
   pub scalar : IsScalar char
-  pub is : s ≡ form char
+  pub is : s ≡ encode char

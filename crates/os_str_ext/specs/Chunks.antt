@@ -3,7 +3,7 @@ use Rattle.std.specs.Prelude.{ℕ, ◌<◌, ◌≤◌, List, ◌++◌, length, t
 use Rattle.std.specs.Int.{IsInRange}
 use Rattle.std.specs.Str.{IsUtf8}
 use Rattle.wtf8_core.specs.Character.{WholeCharacter}
-use Rattle.wtf8_core.specs.Covered.{IsCovered, IsBare}
+use Rattle.wtf8_core.specs.Covered.{IsCovered, HasNoCharacter}
 use Rattle.wtf8_core.specs.Chunks.{Chunk}
 use Rattle.wtf8_core.proofs.lemmas.chunks.OneList.{some_chunks}
 
@@ -14,7 +14,7 @@ chunks_of bytes = (some_chunks bytes).0
 -- the chunk is a string without whole characters and a text, not both empty; well_formed says which bytes are a string
 pub record IsChunkOf (well_formed : List ℕ → Type 0) (c : Chunk) : Type 0 where
   pub formed : well_formed c.0
-  pub bare : IsBare c.0
+  pub bare : HasNoCharacter c.0
   pub text : IsUtf8 c.1
   pub some : 0 < length (c.0 ++ c.1)
 

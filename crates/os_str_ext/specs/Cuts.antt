@@ -1,15 +1,15 @@
 -- How a string is cut into pieces, from its start and from its end: what one cut is, and the pieces that are left.
 use Rattle.std.specs.Prelude.{◌≡◌, ℕ, ◌<◌, List, [], length, Option, None, Some}
-use Rattle.wtf8_core.specs.Standing.{StandsNowhere, IsLeastPlace, IsGreatestPlace}
+use Rattle.wtf8_core.specs.Standing.{StandsNowhere, IsFirstPlace, IsLastPlace}
 use Rattle.wtf8_core.specs.Pieces.{SplitsAt, FallsInto}
 
 -- a cut of s at the first occurrence of p: the piece that it takes off, and the rest
 abbrev pub FirstCut : List ℕ → List ℕ → List ℕ → List ℕ → Type 0
-FirstCut p s piece rest = SplitsAt IsLeastPlace p s piece rest
+FirstCut p s piece rest = SplitsAt IsFirstPlace p s piece rest
 
 -- a cut of s at the last occurrence of p
 abbrev pub LastCut : List ℕ → List ℕ → List ℕ → List ℕ → Type 0
-LastCut p s piece rest = SplitsAt IsGreatestPlace p s rest piece
+LastCut p s piece rest = SplitsAt IsLastPlace p s rest piece
 
 -- the pieces of s: those that cuts take off, one after the other, and at last the rest that can't be cut
 abbrev pub ArePieces : (List ℕ → List ℕ → List ℕ → List ℕ → Type 0) → List ℕ → List ℕ → List (List ℕ) → Type 0

@@ -3,12 +3,12 @@ use Rattle.std.proofs.Common.{◌≡◌, ℕ, zero, suc, ◌<◌, ◌≤◌, Lis
 use Rattle.std.proofs.lemmas.Bool.{cases_eq, cases_lt}
 use Rattle.std.proofs.lemmas.List.{append_cancel_left, take_at, drop_at}
 use Rattle.std.specs.Prelude.{take, drop}
-use Rattle.wtf8_core.specs.Standing.{StandsAt, StandsNowhere, IsFront}
+use Rattle.wtf8_core.specs.Standing.{StandsAt, StandsNowhere, IsPrefix}
 use Rattle.wtf8_core.specs.Pieces.FallsInto.{whole, cut}
 use Rattle.os_str_ext.specs.Cuts.{FirstCut, LastCut, ArePieces, PiecesOf, CutLaws}
 
 -- p is a prefix of s, or it isn't
-is_front : (p s : List ℕ) → IsFront p s ⊎ (IsFront p s → ⊥)
+is_front : (p s : List ℕ) → IsPrefix p s ⊎ (IsPrefix p s → ⊥)
 is_front [] s = inl (record { rest = s; joined = refl })
 is_front (a ∷ p) [] = inr (λ h. let e = ap length h.joined in omega arith)
 is_front (a ∷ p) (b ∷ s) =
@@ -21,10 +21,10 @@ is_front (a ∷ p) (b ∷ s) =
     (cases_eq a b)
 
 -- a prefix occurs at 0, and what occurs at 0 is a prefix
-front_stands : (p s : List ℕ) → IsFront p s → StandsAt p s 0
+front_stands : (p s : List ℕ) → IsPrefix p s → StandsAt p s 0
 front_stands p s h = record { before = []; behind = h.rest; joined = h.joined; place = refl }
 
-front_of : (p s before behind : List ℕ) → s ≡ before ++ (p ++ behind) → length before ≡ 0 → IsFront p s
+front_of : (p s before behind : List ℕ) → s ≡ before ++ (p ++ behind) → length before ≡ 0 → IsPrefix p s
 front_of p s [] behind e l = record { rest = behind; joined = e }
 front_of p s (y ∷ before) behind e l = absurd (omega arith)
 
@@ -43,7 +43,7 @@ earlier x p s i h = tail_stands x p s h.before h.behind i h.joined h.place
 none_past : (p : List ℕ) (k : ℕ) → 0 < k → StandsAt p [] k → ⊥
 none_past p k some h = let e = ap length h.joined ∙ length-append h.before (p ++ h.behind) in omega (arith, h.place)
 
-nowhere : (p s : List ℕ) → (IsFront p s → ⊥) → ((k : ℕ) → 0 < k → StandsAt p s k → ⊥) → (i : ℕ) → StandsAt p s i → ⊥
+nowhere : (p s : List ℕ) → (IsPrefix p s → ⊥) → ((k : ℕ) → 0 < k → StandsAt p s k → ⊥) → (i : ℕ) → StandsAt p s i → ⊥
 nowhere p s miss past zero h = miss (front_of p s h.before h.behind h.joined h.place)
 nowhere p s miss past (suc i) h = past (suc i) (omega arith) h
 
@@ -52,13 +52,13 @@ past_nowhere x p s n zero some h = omega arith
 past_nowhere x p s n (suc k) some h = n k (earlier x p s k h)
 
 -- the cuts if p is a prefix, and the cuts in what follows the first element
-cut_first : (p s : List ℕ) (h : IsFront p s) → FirstCut p s [] h.rest
+cut_first : (p s : List ℕ) (h : IsPrefix p s) → FirstCut p s [] h.rest
 cut_first p s h = record { joined = h.joined; found = record { stands = front_stands p s h; least = λ k lt. absurd (omega arith) } }
 
-cut_last : (p s : List ℕ) (h : IsFront p s) → ((k : ℕ) → 0 < k → StandsAt p s k → ⊥) → LastCut p s h.rest []
+cut_last : (p s : List ℕ) (h : IsPrefix p s) → ((k : ℕ) → 0 < k → StandsAt p s k → ⊥) → LastCut p s h.rest []
 cut_last p s h past = record { joined = h.joined; found = record { stands = front_stands p s h; greatest = past } }
 
-none_before : (x : ℕ) (p s : List ℕ) (n : ℕ) → (IsFront p (x ∷ s) → ⊥) → ((k : ℕ) → k < n → StandsAt p s k → ⊥) → (k : ℕ) → k < suc n → StandsAt p (x ∷ s) k → ⊥
+none_before : (x : ℕ) (p s : List ℕ) (n : ℕ) → (IsPrefix p (x ∷ s) → ⊥) → ((k : ℕ) → k < n → StandsAt p s k → ⊥) → (k : ℕ) → k < suc n → StandsAt p (x ∷ s) k → ⊥
 none_before x p s n miss least zero lt h = miss (front_of p (x ∷ s) h.before h.behind h.joined h.place)
 none_before x p s n miss least (suc k) lt h = least k (omega arith) (earlier x p s k h)
 
@@ -66,7 +66,7 @@ none_after : (x : ℕ) (p s : List ℕ) (n : ℕ) → ((k : ℕ) → n < k → S
 none_after x p s n greatest zero lt h = omega arith
 none_after x p s n greatest (suc k) lt h = greatest k (omega arith) (earlier x p s k h)
 
-first_later : (x : ℕ) (p s piece rest : List ℕ) → (IsFront p (x ∷ s) → ⊥) → FirstCut p s piece rest → FirstCut p (x ∷ s) (x ∷ piece) rest
+first_later : (x : ℕ) (p s piece rest : List ℕ) → (IsPrefix p (x ∷ s) → ⊥) → FirstCut p s piece rest → FirstCut p (x ∷ s) (x ∷ piece) rest
 first_later x p s piece rest miss c = record { joined = ap (λ l. x ∷ l) c.joined; found = record { stands = later x p s (length piece) c.found.stands; least = none_before x p s (length piece) miss c.found.least } }
 
 last_later : (x : ℕ) (p s piece rest : List ℕ) → LastCut p s piece rest → LastCut p (x ∷ s) piece (x ∷ rest)

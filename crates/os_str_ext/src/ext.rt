@@ -1,6 +1,6 @@
 //! The calls that every string of a platform has in addition to its conversions.
 ghost use Rattle.std.specs.Prelude.{◌≡◌, ◌<◌, ◌↔◌, ◌++◌, ◌+◌, ◌*◌, ◌^◌, IsTrue, IsOk, IsErr, IfOk, IfSome, length, take, drop};
-ghost use Rattle.wtf8_core.specs.Standing.{Finds, IsLeastPlace, IsGreatestPlace, IsFront, IsEnd};
+ghost use Rattle.wtf8_core.specs.Standing.{Finds, IsFirstPlace, IsLastPlace, IsPrefix, IsSuffix};
 ghost use Rattle.wtf8_core.specs.UnitPlace.{FindsInUnits};
 ghost use Rattle.wtf8_core.specs.Boundary.{IsBoundary};
 ghost use Rattle.wtf8_core.specs.Chunks.{AreChunks};
@@ -113,8 +113,8 @@ pub trait OsStrBytesExt<'a>: OsStrBytes<'a> {
     /// assert_eq!(rt; string.find(""), Some(0));
     /// ```
     fn find<P: Pattern>(self, pattern: P) -> Option<usize>
-        ensures bytes { Finds IsLeastPlace (P.text pattern) (Self.bytes_of self) result }
-        ensures units { FindsInUnits IsLeastPlace Self.Platform.well_formed Self.Platform.units
+        ensures bytes { Finds IsFirstPlace (P.text pattern) (Self.bytes_of self) result }
+        ensures units { FindsInUnits IsFirstPlace Self.Platform.well_formed Self.Platform.units
             (P.text pattern) (Self.bytes_of self) result }
         ensures edges { MayBeCutAround (Self.bytes_of self) (length (P.text pattern)) result }
         ensures behind { IfSome result (λ at. at + length (P.text pattern) < 2 ^ 64) };
@@ -130,8 +130,8 @@ pub trait OsStrBytesExt<'a>: OsStrBytes<'a> {
     /// assert_eq!(rt; string.rfind(""), Some(6));
     /// ```
     fn rfind<P: Pattern>(self, pattern: P) -> Option<usize>
-        ensures bytes { Finds IsGreatestPlace (P.text pattern) (Self.bytes_of self) result }
-        ensures units { FindsInUnits IsGreatestPlace Self.Platform.well_formed Self.Platform.units
+        ensures bytes { Finds IsLastPlace (P.text pattern) (Self.bytes_of self) result }
+        ensures units { FindsInUnits IsLastPlace Self.Platform.well_formed Self.Platform.units
             (P.text pattern) (Self.bytes_of self) result }
         ensures edges { MayBeCutAround (Self.bytes_of self) (length (P.text pattern)) result }
         ensures behind { IfSome result (λ at. at + length (P.text pattern) < 2 ^ 64) };
@@ -159,8 +159,8 @@ pub trait OsStrBytesExt<'a>: OsStrBytes<'a> {
     /// assert!(rt; !string.starts_with('b'));
     /// ```
     fn starts_with<P: Pattern>(self, pattern: P) -> bool
-        ensures bytes { IsTrue result ↔ IsFront (P.text pattern) (Self.bytes_of self) }
-        ensures units { IsTrue result ↔ IsFront (Self.Platform.units (P.text pattern))
+        ensures bytes { IsTrue result ↔ IsPrefix (P.text pattern) (Self.bytes_of self) }
+        ensures units { IsTrue result ↔ IsPrefix (Self.Platform.units (P.text pattern))
             (Self.Platform.units (Self.bytes_of self)) };
 
     /// Whether the string ends with the pattern.
@@ -173,8 +173,8 @@ pub trait OsStrBytesExt<'a>: OsStrBytes<'a> {
     /// assert!(rt; !string.ends_with('b'));
     /// ```
     fn ends_with<P: Pattern>(self, pattern: P) -> bool
-        ensures bytes { IsTrue result ↔ IsEnd (P.text pattern) (Self.bytes_of self) }
-        ensures units { IsTrue result ↔ IsEnd (Self.Platform.units (P.text pattern))
+        ensures bytes { IsTrue result ↔ IsSuffix (P.text pattern) (Self.bytes_of self) }
+        ensures units { IsTrue result ↔ IsSuffix (Self.Platform.units (P.text pattern))
             (Self.Platform.units (Self.bytes_of self)) };
 
     /// Whether the units of the string start with the units of `front`; half of a surrogate pair
@@ -188,7 +188,7 @@ pub trait OsStrBytesExt<'a>: OsStrBytes<'a> {
     /// assert!(rt; string.as_os_str().starts_with_os(high.as_os_str()));
     /// ```
     fn starts_with_os(self, front: Self) -> bool
-        ensures { IsTrue result ↔ IsFront (Self.Platform.units (Self.bytes_of front))
+        ensures { IsTrue result ↔ IsPrefix (Self.Platform.units (Self.bytes_of front))
             (Self.Platform.units (Self.bytes_of self)) };
 
     /// Whether the units of the string end with the units of `end`; half of a surrogate pair
@@ -202,7 +202,7 @@ pub trait OsStrBytesExt<'a>: OsStrBytes<'a> {
     /// assert!(rt; string.as_os_str().ends_with_os(low.as_os_str()));
     /// ```
     fn ends_with_os(self, end: Self) -> bool
-        ensures { IsTrue result ↔ IsEnd (Self.Platform.units (Self.bytes_of end))
+        ensures { IsTrue result ↔ IsSuffix (Self.Platform.units (Self.bytes_of end))
             (Self.Platform.units (Self.bytes_of self)) };
 
     // Strips and trims.
@@ -289,9 +289,9 @@ pub trait OsStrBytesExt<'a>: OsStrBytes<'a> {
     /// assert!(rt; string.split_once("") == Some((OsStr::new(""), string)));
     /// ```
     fn split_once<P: Pattern>(self, pattern: P) -> Option<(Self, Self)>
-        ensures bytes { SplitsOnce IsLeastPlace Self.bytes_of (P.text pattern) (Self.bytes_of self)
+        ensures bytes { SplitsOnce IsFirstPlace Self.bytes_of (P.text pattern) (Self.bytes_of self)
             result }
-        ensures units { SplitsOnce IsLeastPlace (λ part. Self.Platform.units (Self.bytes_of part))
+        ensures units { SplitsOnce IsFirstPlace (λ part. Self.Platform.units (Self.bytes_of part))
             (Self.Platform.units (P.text pattern)) (Self.Platform.units (Self.bytes_of self))
             result };
 
@@ -306,9 +306,9 @@ pub trait OsStrBytesExt<'a>: OsStrBytes<'a> {
     /// assert!(rt; string.rsplit_once("") == Some((string, OsStr::new(""))));
     /// ```
     fn rsplit_once<P: Pattern>(self, pattern: P) -> Option<(Self, Self)>
-        ensures bytes { SplitsOnce IsGreatestPlace Self.bytes_of (P.text pattern)
+        ensures bytes { SplitsOnce IsLastPlace Self.bytes_of (P.text pattern)
             (Self.bytes_of self) result }
-        ensures units { SplitsOnce IsGreatestPlace
+        ensures units { SplitsOnce IsLastPlace
             (λ part. Self.Platform.units (Self.bytes_of part))
             (Self.Platform.units (P.text pattern)) (Self.Platform.units (Self.bytes_of self))
             result };

@@ -1,6 +1,6 @@
 //! Parts, which are strings that contain no whole character, and their units.
 ghost use Rattle.std.specs.Prelude.{◌≡◌, ◌∷◌, ◌<◌, ◌^◌, length};
-ghost use Rattle.wtf8_core.specs.Covered.{IsBare};
+ghost use Rattle.wtf8_core.specs.Covered.{HasNoCharacter};
 ghost use Rattle.platform_str.specs.Strings.{bytes};
 
 use platform_str::{OsStr, Platform};
@@ -14,7 +14,7 @@ use std::marker::Model;
 #[derive_where(PartialEq, Eq, PartialOrd, Ord, Hash)]
 pub struct NonUnicodeOsStr<'a, E: Platform + 'a> {
     string: OsStr<'a, E>,
-    pub ghost bare: { IsBare (bytes string) },
+    pub ghost bare: { HasNoCharacter (bytes string) },
 }
 
 impl<'a, E: Platform> Clone for NonUnicodeOsStr<'a, E> {
@@ -35,7 +35,7 @@ impl<'a, E: Platform> NonUnicodeOsStr<'a, E> {
     ghost use Rattle.os_str_ext.specs.Parts.{part_bytes, unit_number};
 
     pub(crate) fn new(string: OsStr<'a, E>) -> Self
-        requires { IsBare (bytes string) }
+        requires { HasNoCharacter (bytes string) }
         ensures { part_bytes result ≡ bytes string.entry }
     {
         NonUnicodeOsStr { string }
@@ -53,7 +53,7 @@ impl<'a, E: Platform> NonUnicodeOsStr<'a, E> {
     /// ```
     pub fn as_os_str(self) -> OsStr<'a, E>
         ensures value { bytes result ≡ part_bytes self.entry }
-        ensures bare { IsBare (bytes result) }
+        ensures bare { HasNoCharacter (bytes result) }
     {
         self.string
     }
@@ -209,7 +209,7 @@ impl<'a, E: Platform> OsUnits<'a, E> {
     /// ```
     pub fn as_os_str(&self) -> OsStr<'a, E>
         ensures units { self.now ≡ E.units (bytes result) }
-        ensures bare { IsBare (bytes result) }
+        ensures bare { HasNoCharacter (bytes result) }
     {
         self.rest.as_os_str()
     }

@@ -1,6 +1,6 @@
 //! Parts of strings before, after and between texts.
 ghost use Rattle.std.specs.Prelude.{◌≡◌, ◌<◌, length, take, drop};
-ghost use Rattle.wtf8_core.specs.Standing.{IsLeastPlace, IsGreatestPlace};
+ghost use Rattle.wtf8_core.specs.Standing.{IsFirstPlace, IsLastPlace};
 ghost use Rattle.wtf8_core.specs.Boundary.{IsBoundary};
 ghost use Rattle.wtf8_core.specs.Pieces.{StripsFront, StripsEnd, SplitsOnce, IsStartTrim, IsEndTrim};
 ghost use Rattle.platform_str.specs.Strings.{bytes};
@@ -77,7 +77,7 @@ pub(crate) fn split_once<'a, E: Platform>(
     string: OsStr<'a, E>,
     text: &str,
 ) -> Option<(OsStr<'a, E>, OsStr<'a, E>)>
-    ensures { SplitsOnce IsLeastPlace bytes text.now (bytes string.entry) result }
+    ensures { SplitsOnce IsFirstPlace bytes text.now (bytes string.entry) result }
 {
     let Some(at) = find(string.as_encoded_bytes(), text) else {
         return None;
@@ -91,7 +91,7 @@ pub(crate) fn rsplit_once<'a, E: Platform>(
     string: OsStr<'a, E>,
     text: &str,
 ) -> Option<(OsStr<'a, E>, OsStr<'a, E>)>
-    ensures { SplitsOnce IsGreatestPlace bytes text.now (bytes string.entry) result }
+    ensures { SplitsOnce IsLastPlace bytes text.now (bytes string.entry) result }
 {
     let Some(at) = rfind(string.as_encoded_bytes(), text) else {
         return None;

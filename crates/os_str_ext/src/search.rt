@@ -1,6 +1,6 @@
 //! Where a text occurs in bytes.
 ghost use Rattle.std.specs.Prelude.{◌+◌, ◌-◌, ◌^◌, ◌↔◌, ◌<◌, ◌≤◌, IsTrue, IfSome, length};
-ghost use Rattle.wtf8_core.specs.Standing.{Finds, IsLeastPlace, IsGreatestPlace, IsFront, IsEnd};
+ghost use Rattle.wtf8_core.specs.Standing.{Finds, IsFirstPlace, IsLastPlace, IsPrefix, IsSuffix};
 ghost use Rattle.wtf8_core.specs.Boundary.{IsBoundary};
 ghost use Rattle.wtf8_core.specs.Pieces.{MayBeCutAround};
 
@@ -11,7 +11,7 @@ use wtf8_core::laws;
 /// The first index at which the text occurs.
 #[inline(always)]
 pub(crate) fn find(bytes: &[u8], text: &str) -> Option<usize>
-    ensures place { Finds IsLeastPlace text.now bytes.now result }
+    ensures place { Finds IsFirstPlace text.now bytes.now result }
     ensures edges { MayBeCutAround bytes.now (length text.now) result }
     ensures behind { IfSome result (λ at. at + length text.now < 2 ^ 64) }
 {
@@ -22,7 +22,7 @@ pub(crate) fn find(bytes: &[u8], text: &str) -> Option<usize>
 /// The last index at which the text occurs.
 #[inline(always)]
 pub(crate) fn rfind(bytes: &[u8], text: &str) -> Option<usize>
-    ensures place { Finds IsGreatestPlace text.now bytes.now result }
+    ensures place { Finds IsLastPlace text.now bytes.now result }
     ensures edges { MayBeCutAround bytes.now (length text.now) result }
     ensures behind { IfSome result (λ at. at + length text.now < 2 ^ 64) }
 {
@@ -33,7 +33,7 @@ pub(crate) fn rfind(bytes: &[u8], text: &str) -> Option<usize>
 /// Whether the bytes start with the text.
 #[inline(always)]
 pub(crate) fn starts_with(bytes: &[u8], text: &str) -> bool
-    ensures front { IsTrue result ↔ IsFront text.now bytes.now }
+    ensures front { IsTrue result ↔ IsPrefix text.now bytes.now }
     ensures edge { IsTrue result → IsBoundary bytes.now (length text.now) }
 {
     laws::boundaries();
@@ -47,7 +47,7 @@ pub(crate) fn starts_with(bytes: &[u8], text: &str) -> bool
 /// Whether the bytes end with the text.
 #[inline(always)]
 pub(crate) fn ends_with(bytes: &[u8], text: &str) -> bool
-    ensures end { IsTrue result ↔ IsEnd text.now bytes.now }
+    ensures end { IsTrue result ↔ IsSuffix text.now bytes.now }
     ensures edge { IsTrue result → IsBoundary bytes.now (length bytes.now - length text.now) }
     ensures fits { IsTrue result → length text.now ≤ length bytes.now }
 {

@@ -5,9 +5,9 @@
 ghost use Rattle.std.specs.Prelude.{◌≡◌, ◌<◌, [], ◌∷◌, ℕ, List, length};
 ghost use Rattle.std.specs.Char.{encode_utf8};
 ghost use Rattle.std.specs.String.{string_bytes};
-ghost use Rattle.wtf8_core.specs.CodePoint.{form};
+ghost use Rattle.wtf8_core.specs.CodePoint.{encode};
 ghost use Rattle.wtf8_core.specs.Pieces.{SplitsAt};
-ghost use Rattle.wtf8_core.specs.Standing.{StandsNowhere, IsLeastPlace, IsGreatestPlace};
+ghost use Rattle.wtf8_core.specs.Standing.{StandsNowhere, IsFirstPlace, IsLastPlace};
 
 use crate::pattern::Pattern;
 
@@ -17,16 +17,16 @@ use crate::pattern::Pattern;
 pub fn around_place()
     ensures before_least { (p : List ℕ) → (s : List ℕ) → (front : List ℕ) → (back : List ℕ)
         → 0 < length p
-        → SplitsAt IsLeastPlace p s front back → StandsNowhere p front }
+        → SplitsAt IsFirstPlace p s front back → StandsNowhere p front }
     ensures after_greatest { (p : List ℕ) → (s : List ℕ) → (front : List ℕ) → (back : List ℕ)
         → 0 < length p
-        → SplitsAt IsGreatestPlace p s front back → StandsNowhere p back }
+        → SplitsAt IsLastPlace p s front back → StandsNowhere p back }
 {}
 
 /// What a search looks for: the form of a `char` (RFC 3629, section 3), the bytes of a `&str`, the
 /// bytes of the text of a `&String`.
 pub fn patterns<'a>(c: char, text: &'a str, string: &'a String)
-    ensures of_char { ⟦<char as Pattern>⟧.text c ≡ form c }
+    ensures of_char { ⟦<char as Pattern>⟧.text c ≡ encode c }
     ensures of_str { ⟦<&'a str as Pattern>⟧.text text.entry ≡ text.now }
     ensures of_string { ⟦<&'a String as Pattern>⟧.text string.entry ≡ string_bytes string.now }
 {}

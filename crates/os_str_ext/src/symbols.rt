@@ -2,7 +2,7 @@
 ghost use Rattle.std.specs.Prelude.{◌≡◌, ◌∷◌, [], ◌<◌, ◌≤◌, ℕ, length, take, MatchOption};
 ghost use Rattle.std.specs.Iterator.{YieldsFirst, item_count};
 ghost use Rattle.std.specs.Str.{IsUtf8};
-ghost use Rattle.wtf8_core.specs.Covered.{StartsBare};
+ghost use Rattle.wtf8_core.specs.Covered.{StartsWithNoCharacter};
 ghost use Rattle.platform_str.specs.Strings.{bytes};
 ghost use Rattle.os_str_ext.specs.Chunks.{IsFirstChunk};
 ghost use Rattle.os_str_ext.specs.Symbols.{AreSymbols, AreKnown, IsKnownPart, symbols_of};
@@ -185,7 +185,7 @@ fn text_len(bytes: &[u8]) -> usize
 #[inline(always)]
 fn first_of_part<'a, E: Platform>(string: OsStr<'a, E>, known: usize) -> (Symbol, Symbols<'a, E>)
     requires some { 0 < length (bytes string) }
-    requires bare { StartsBare (bytes string) }
+    requires bare { StartsWithNoCharacter (bytes string) }
     requires known { IsKnownPart (bytes string) known }
     ensures { symbols_of E.units (bytes string.entry) ≡ result.0 ∷ result.1 }
 {
@@ -207,7 +207,7 @@ fn first_of_part<'a, E: Platform>(string: OsStr<'a, E>, known: usize) -> (Symbol
 #[inline(never)]
 fn part_len(bytes: &[u8], known: usize) -> usize
     requires some { 0 < length bytes.now }
-    requires bare { StartsBare bytes.now }
+    requires bare { StartsWithNoCharacter bytes.now }
     requires known { IsKnownPart bytes.now known }
     ensures some { 0 < result }
     ensures part { (e : ℕ) × IsFirstChunk bytes.now result e }

@@ -1,7 +1,7 @@
 -- One step of an iterator, which knows only an index.
 use Rattle.std.specs.Prelude.{◌≡◌, ◌⊎◌, ℕ, ◌≤◌, ◌<◌, true, false, List, [], ◌∷◌, length, take, drop}
 use Rattle.std.specs.Str.{IsUtf8}
-use Rattle.wtf8_core.specs.Standing.{StandsNowhere, IsLeastPlace, IsGreatestPlace}
+use Rattle.wtf8_core.specs.Standing.{StandsNowhere, IsFirstPlace, IsLastPlace}
 use Rattle.wtf8_core.specs.Pieces.{SplitsAt}
 use Rattle.wtf8_core.specs.Chunks.{Chunk, AreChunks}
 use Rattle.osbytes_c.specs.declared.split.Piece.{Piece}
@@ -29,7 +29,7 @@ abbrev pub IsFirstPiece : List ℕ → List ℕ → ℕ → Piece → Type 0
 IsFirstPiece p s at piece =
     elim piece.last [
       | true ↦ StandsNowhere p (drop at s) × (piece.edge ≡ length s)
-      | false ↦ SplitsAt IsLeastPlace p (drop at s) (part s at piece.edge) (drop piece.rest s)
+      | false ↦ SplitsAt IsFirstPlace p (drop at s) (part s at piece.edge) (drop piece.rest s)
     ]
 
 -- before index `at` s has this last piece: all of it, if p doesn't occur there; or what comes after the last occurrence of p, before which the rest ends
@@ -37,7 +37,7 @@ abbrev pub IsLastPiece : List ℕ → List ℕ → ℕ → Piece → Type 0
 IsLastPiece p s at piece =
     elim piece.last [
       | true ↦ StandsNowhere p (take at s) × (piece.edge ≡ 0)
-      | false ↦ SplitsAt IsGreatestPlace p (take at s) (take piece.rest s) (part s piece.edge at)
+      | false ↦ SplitsAt IsLastPlace p (take at s) (take piece.rest s) (part s piece.edge at)
     ]
 
 -- after index `at` s has this first chunk, and after it those of the rest

@@ -1,6 +1,6 @@
 //! Prefixes and suffixes that are strings, by units.
 ghost use Rattle.std.specs.Prelude.{◌≡◌, ◌<◌, ◌↔◌, ◌⊎◌};
-ghost use Rattle.wtf8_core.specs.Standing.{IsFront, IsEnd};
+ghost use Rattle.wtf8_core.specs.Standing.{IsPrefix, IsSuffix};
 ghost use Rattle.osbytes_c.specs.Faults.{IsUnstring};
 ghost use Rattle.osbytes_c.specs.Platforms.{units_on};
 
@@ -11,9 +11,9 @@ use platform_str::{OsStr, Platform, Unix, Wasm, Windows};
 /// Whether the units of a string start with those of another string of the platform.
 #[unsafe(no_mangle)]
 pub extern "C" fn osb_core_starts_with_units(platform: u32, bytes: &[u8], prefix: &[u8]) -> u32
-    ensures found { result ≡ DONE → IsFront (units_on platform prefix.now)
+    ensures found { result ≡ DONE → IsPrefix (units_on platform prefix.now)
         (units_on platform bytes.now) }
-    ensures none { result ≡ NONE → ¬ (IsFront (units_on platform prefix.now)
+    ensures none { result ≡ NONE → ¬ (IsPrefix (units_on platform prefix.now)
         (units_on platform bytes.now)) }
     ensures fault { result ≡ FAULTY → IsUnstring platform bytes.now
         ⊎ IsUnstring platform prefix.now }
@@ -32,9 +32,9 @@ pub extern "C" fn osb_core_starts_with_units(platform: u32, bytes: &[u8], prefix
 /// Whether the units of a string end with those of another string of the platform.
 #[unsafe(no_mangle)]
 pub extern "C" fn osb_core_ends_with_units(platform: u32, bytes: &[u8], suffix: &[u8]) -> u32
-    ensures found { result ≡ DONE → IsEnd (units_on platform suffix.now)
+    ensures found { result ≡ DONE → IsSuffix (units_on platform suffix.now)
         (units_on platform bytes.now) }
-    ensures none { result ≡ NONE → ¬ (IsEnd (units_on platform suffix.now)
+    ensures none { result ≡ NONE → ¬ (IsSuffix (units_on platform suffix.now)
         (units_on platform bytes.now)) }
     ensures fault { result ≡ FAULTY → IsUnstring platform bytes.now
         ⊎ IsUnstring platform suffix.now }
@@ -52,8 +52,8 @@ pub extern "C" fn osb_core_ends_with_units(platform: u32, bytes: &[u8], suffix: 
 
 /// The same of one platform.
 fn starts_with<E: Platform>(bytes: &[u8], prefix: &[u8]) -> u32
-    ensures found { result ≡ DONE → IsFront (E.units prefix.now) (E.units bytes.now) }
-    ensures none { result ≡ NONE → ¬ (IsFront (E.units prefix.now) (E.units bytes.now)) }
+    ensures found { result ≡ DONE → IsPrefix (E.units prefix.now) (E.units bytes.now) }
+    ensures none { result ≡ NONE → ¬ (IsPrefix (E.units prefix.now) (E.units bytes.now)) }
     ensures fault { result ≡ FAULTY → (¬ (E.well_formed bytes.now))
         ⊎ (¬ (E.well_formed prefix.now)) }
     ensures answers { (result ≡ DONE) ⊎ ((result ≡ NONE) ⊎ (result ≡ FAULTY)) }
@@ -73,8 +73,8 @@ fn starts_with<E: Platform>(bytes: &[u8], prefix: &[u8]) -> u32
 
 /// The same of one platform.
 fn ends_with<E: Platform>(bytes: &[u8], suffix: &[u8]) -> u32
-    ensures found { result ≡ DONE → IsEnd (E.units suffix.now) (E.units bytes.now) }
-    ensures none { result ≡ NONE → ¬ (IsEnd (E.units suffix.now) (E.units bytes.now)) }
+    ensures found { result ≡ DONE → IsSuffix (E.units suffix.now) (E.units bytes.now) }
+    ensures none { result ≡ NONE → ¬ (IsSuffix (E.units suffix.now) (E.units bytes.now)) }
     ensures fault { result ≡ FAULTY → (¬ (E.well_formed bytes.now))
         ⊎ (¬ (E.well_formed suffix.now)) }
     ensures answers { (result ≡ DONE) ⊎ ((result ≡ NONE) ⊎ (result ≡ FAULTY)) }

@@ -1,7 +1,7 @@
 //! Where a pattern occurs. Each pattern is UTF-8.
 ghost use Rattle.std.specs.Prelude.{◌≡◌, ◌↔◌, ◌⊎◌};
 ghost use Rattle.std.specs.Str.{IsUtf8};
-ghost use Rattle.wtf8_core.specs.Standing.{StandsNowhere, IsLeastPlace, IsGreatestPlace, IsFront, IsEnd};
+ghost use Rattle.wtf8_core.specs.Standing.{StandsNowhere, IsFirstPlace, IsLastPlace, IsPrefix, IsSuffix};
 ghost use Rattle.wtf8_core.specs.Pieces.{StandsSomewhere};
 
 use crate::status::{DONE, NO_PATTERN, NONE};
@@ -12,7 +12,7 @@ use os_str_ext::OsStrBytesExt;
 /// was.
 #[unsafe(no_mangle)]
 pub extern "C" fn osb_core_find(bytes: &[u8], pattern: &[u8], index: &mut usize) -> u32
-    ensures found { result ≡ DONE → IsLeastPlace pattern.now bytes.now index.new }
+    ensures found { result ≡ DONE → IsFirstPlace pattern.now bytes.now index.new }
     ensures none { result ≡ NONE → StandsNowhere pattern.now bytes.now × (index.new ≡ index.old) }
     ensures pattern { (result ≡ NO_PATTERN) ↔ (¬ (IsUtf8 pattern.now)) }
     ensures answers { (result ≡ DONE) ⊎ ((result ≡ NONE) ⊎ (result ≡ NO_PATTERN)) }
@@ -32,7 +32,7 @@ pub extern "C" fn osb_core_find(bytes: &[u8], pattern: &[u8], index: &mut usize)
 /// The last index of the pattern.
 #[unsafe(no_mangle)]
 pub extern "C" fn osb_core_rfind(bytes: &[u8], pattern: &[u8], index: &mut usize) -> u32
-    ensures found { result ≡ DONE → IsGreatestPlace pattern.now bytes.now index.new }
+    ensures found { result ≡ DONE → IsLastPlace pattern.now bytes.now index.new }
     ensures none { result ≡ NONE → StandsNowhere pattern.now bytes.now × (index.new ≡ index.old) }
     ensures pattern { (result ≡ NO_PATTERN) ↔ (¬ (IsUtf8 pattern.now)) }
     ensures answers { (result ≡ DONE) ⊎ ((result ≡ NONE) ⊎ (result ≡ NO_PATTERN)) }
@@ -70,8 +70,8 @@ pub extern "C" fn osb_core_contains(bytes: &[u8], pattern: &[u8]) -> u32
 /// Whether the string starts with the pattern.
 #[unsafe(no_mangle)]
 pub extern "C" fn osb_core_starts_with(bytes: &[u8], pattern: &[u8]) -> u32
-    ensures found { result ≡ DONE → IsFront pattern.now bytes.now }
-    ensures none { result ≡ NONE → ¬ (IsFront pattern.now bytes.now) }
+    ensures found { result ≡ DONE → IsPrefix pattern.now bytes.now }
+    ensures none { result ≡ NONE → ¬ (IsPrefix pattern.now bytes.now) }
     ensures pattern { (result ≡ NO_PATTERN) ↔ (¬ (IsUtf8 pattern.now)) }
     ensures answers { (result ≡ DONE) ⊎ ((result ≡ NONE) ⊎ (result ≡ NO_PATTERN)) }
 {
@@ -88,8 +88,8 @@ pub extern "C" fn osb_core_starts_with(bytes: &[u8], pattern: &[u8]) -> u32
 /// Whether the string ends with the pattern.
 #[unsafe(no_mangle)]
 pub extern "C" fn osb_core_ends_with(bytes: &[u8], pattern: &[u8]) -> u32
-    ensures found { result ≡ DONE → IsEnd pattern.now bytes.now }
-    ensures none { result ≡ NONE → ¬ (IsEnd pattern.now bytes.now) }
+    ensures found { result ≡ DONE → IsSuffix pattern.now bytes.now }
+    ensures none { result ≡ NONE → ¬ (IsSuffix pattern.now bytes.now) }
     ensures pattern { (result ≡ NO_PATTERN) ↔ (¬ (IsUtf8 pattern.now)) }
     ensures answers { (result ≡ DONE) ⊎ ((result ≡ NONE) ⊎ (result ≡ NO_PATTERN)) }
 {

@@ -1,7 +1,7 @@
 //! One symbol of a string.
 ghost use Rattle.std.specs.Prelude.{◌≡◌, ◌<◌, ◌≤◌, ◌↔◌, ◌⊎◌, ◌++◌, ℕ, length, drop, MatchOption};
 ghost use Rattle.std.specs.Char.{encode_utf8};
-ghost use Rattle.wtf8_core.specs.Covered.{StartsBare};
+ghost use Rattle.wtf8_core.specs.Covered.{StartsWithNoCharacter};
 ghost use Rattle.wtf8_core.specs.Wtf8.{IsWtf8};
 ghost use Rattle.osbytes_c.specs.Faults.{IsString, IsUnstring};
 ghost use Rattle.osbytes_c.specs.Steps.{IsSymbolAt, IsFirstOf, IsSurrogateFront};
@@ -106,7 +106,7 @@ fn character_step(bytes: &[u8], character: char, rest: &[u8]) -> Step
 /// aren't WTF-8.
 fn first_surrogate(bytes: &[u8]) -> Option<u32>
     requires some { 0 < length bytes.now }
-    requires bare { StartsBare bytes.now }
+    requires bare { StartsWithNoCharacter bytes.now }
     ensures { MatchOption result (¬ (IsWtf8 bytes.now)) (λ unit. IsSurrogateFront bytes.now unit) }
 {
     if bytes.len() < 3 {

@@ -3,7 +3,7 @@ use Rattle.std.specs.Prelude.{◌≡◌, ◌≢◌, ◌⊎◌, ℕ, ◌<◌, Lis
 use Rattle.std.specs.Str.{IsUtf8}
 use Rattle.os_str_bytes.specs.Chunks.{Chunk, AreChunks}
 use Rattle.os_str_bytes.specs.Pieces.{IsSplit}
-use Rattle.os_str_bytes.specs.Standing.{Finds, IsLeastPlace}
+use Rattle.os_str_bytes.specs.Standing.{Finds, IsFirstPlace}
 use Rattle.os_str_bytes.specs.UnitPlace.{FindsInUnits}
 use Rattle.os_str_bytes.specs.EncodingError.{EncodingError}
 use Rattle.os_str_bytes.specs.Platform.{Ghosts}
@@ -33,7 +33,7 @@ HasBadLine (Unquote os) input number = ⊥
 module _ {E : Type 0} (p : Ghosts E) where
   -- the first index of the pattern in the input, None where it doesn't occur: in their bytes, and in their units
   abbrev pub FindsLeast : List ℕ → List ℕ → Option ℕ → Type 0
-  FindsLeast pattern input place = Finds IsLeastPlace pattern input place × FindsInUnits IsLeastPlace p.well_formed p.units pattern input place
+  FindsLeast pattern input place = Finds IsFirstPlace pattern input place × FindsInUnits IsFirstPlace p.well_formed p.units pattern input place
 
   -- the pieces of the input between the matches of the pattern: of their bytes, and of their units
   abbrev pub AreSplit : List ℕ → List ℕ → List (List ℕ) → Type 0

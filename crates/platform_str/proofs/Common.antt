@@ -27,8 +27,8 @@ pub use Rattle.wtf8_core.proofs.lemmas.units.AsFunction.{code_points_in-spelled,
 pub use Rattle.wtf8_core.proofs.lemmas.units.OneToOne.{IsUnit, may_precede, paired_units, spelled_units, units_once, units_spelled, wide_single}
 pub use Rattle.wtf8_core.proofs.lemmas.units.PrefixTests.{end_tested, front_tested, never}
 pub use Rattle.wtf8_core.specs.CodePoint.{IsCodePoint}
-unfoldable pub use Rattle.wtf8_core.specs.CodePoint.{form, wide}
-pub use Rattle.wtf8_core.specs.Covered.{StartsBare}
+unfoldable pub use Rattle.wtf8_core.specs.CodePoint.{encode, encode_utf16}
+pub use Rattle.wtf8_core.specs.Covered.{StartsWithNoCharacter}
 pub use Rattle.wtf8_core.specs.FirstForm.{BeginsForm, BeginsNoPair, BeginsPair}
 pub use Rattle.wtf8_core.specs.Items.{AreItems, AreUnitItems, unit_items}
 pub use Rattle.wtf8_core.specs.Join.{IsJoin, IsPairBetween}

@@ -3,7 +3,7 @@ use Rattle.std.specs.Prelude.{◌≡◌, ℕ, ◌<◌, ◌≤◌, List, ◌∷�
 use Rattle.std.specs.List.{All, flat_map}
 use Rattle.std.specs.Str.{IsUtf8, IsValidUpTo}
 use Rattle.wtf8_core.specs.Byte.{IsByte}
-use Rattle.wtf8_core.specs.Covered.{StartsBare, IsBare}
+use Rattle.wtf8_core.specs.Covered.{StartsWithNoCharacter, HasNoCharacter}
 use Rattle.wtf8_core.specs.PartUnits.{unit_bytes}
 use Rattle.wtf8_core.specs.Boundary.{IsBoundary}
 use Rattle.wtf8_core.specs.Lossy.{replacement}
@@ -40,13 +40,13 @@ pub record PlatformLaws (first_fault : List ℕ → EncodingError → Type 0) (w
   pub lossy_utf8 : (b : List ℕ) → well_formed b → IsUtf8 (lossy b)
   pub lossy_text : (b : List ℕ) → IsUtf8 b → lossy b ≡ b
   pub lossy_front : (b : List ℕ) (n : ℕ) → well_formed b → IsValidUpTo b n → lossy b ≡ take n b ++ lossy (drop n b)
-  pub lossy_step : (b : List ℕ) (n : ℕ) → well_formed b → 0 < length b → StartsBare b → replaces b n → IsReplaced well_formed lossy b n
+  pub lossy_step : (b : List ℕ) (n : ℕ) → well_formed b → 0 < length b → StartsWithNoCharacter b → replaces b n → IsReplaced well_formed lossy b n
 
 -- the laws of a platform's parts: each unit has its own bytes, `part_units` says what the units are, and a unit has at most 16 bits
 pub record PartLaws (well_formed : List ℕ → Type 0) (units : List ℕ → List ℕ) (part_units : List ℕ → Type 0) : Type 0 where
-  pub spelled : (b : List ℕ) → well_formed b → IsBare b → b ≡ flat_map unit_bytes (units b)
-  pub are_units : (b : List ℕ) → well_formed b → IsBare b → part_units (units b)
-  pub are_wide : (b : List ℕ) → well_formed b → IsBare b → AreWideUnits (units b)
+  pub spelled : (b : List ℕ) → well_formed b → HasNoCharacter b → b ≡ flat_map unit_bytes (units b)
+  pub are_units : (b : List ℕ) → well_formed b → HasNoCharacter b → part_units (units b)
+  pub are_wide : (b : List ℕ) → well_formed b → HasNoCharacter b → AreWideUnits (units b)
 
 -- u is the first unit of b and has n bytes, and what follows them is well formed and has the other units
 pub record IsFirstUnit (well_formed : List ℕ → Type 0) (units : List ℕ → List ℕ) (b : List ℕ) (u n : ℕ) : Type 0 where

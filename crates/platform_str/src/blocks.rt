@@ -2,7 +2,7 @@
 //! for units, of 8), and what comes between code point by code point.
 ghost use Rattle.std.specs.Prelude.{◌≡◌, ◌++◌, ◌+◌, ◌*◌, ◌≤◌, ◌<◌, ◌∷◌, ℕ, List, true, leb, take, drop, length, slice_index, IsOk, IfSome, MatchOption, OnOk, vec_len, vec_capacity};
 ghost use Rattle.std.specs.List.{All, count_by};
-ghost use Rattle.wtf8_core.specs.CodePoint.{IsCodePoint, wide, form};
+ghost use Rattle.wtf8_core.specs.CodePoint.{IsCodePoint, encode_utf16, encode};
 ghost use Rattle.wtf8_core.specs.Wtf8.{IsWtf8, HasUnits};
 ghost use Rattle.wtf8_core.specs.UnitsOf.{units_of};
 ghost use Rattle.platform_str.specs.Strings.{bytes};
@@ -12,7 +12,7 @@ use crate::os_str::OsStr;
 use crate::platform::Windows;
 use std::alloc::{AllocError, Allocator};
 use std::simd::prelude::*;
-use wtf8_core::{first_form, first_pair, pair_units, write_form};
+use wtf8_core::{first_pair, pair_units, split_code_point, write_form};
 
 /// Whether all 16 bytes are ASCII.
 #[inline(always)]
@@ -54,12 +54,12 @@ fn narrowed(block: [u16; 16]) -> [u8; 16]
 }
 
 /// Appends the units of a code point.
-#[tactic(auto, unfolding(wtf8_core::specs::CodePoint::wide))]
+#[tactic(auto, unfolding(wtf8_core::specs::CodePoint::encode_utf16))]
 #[inline(always)]
 fn push_wide<A: Allocator>(units: &mut Vec<u16, A>, code_point: u32) -> Result<(), AllocError>
     requires { IsCodePoint code_point }
-    ensures ok { OnOk result (units.new.items ≡ units.old.items ++ wide code_point) }
-    ensures room { vec_len units.old + length (wide code_point) ≤ vec_capacity units.old
+    ensures ok { OnOk result (units.new.items ≡ units.old.items ++ encode_utf16 code_point) }
+    ensures room { vec_len units.old + length (encode_utf16 code_point) ≤ vec_capacity units.old
         → IsOk result }
     ensures capacity { vec_capacity units.old ≤ vec_capacity units.new }
 {
@@ -74,7 +74,7 @@ fn push_wide<A: Allocator>(units: &mut Vec<u16, A>, code_point: u32) -> Result<(
 }
 
 /// Appends the units of a string, one by one.
-fn push_each<A: Allocator>(
+fn push_one_by_one<A: Allocator>(
     units: &mut Vec<u16, A>,
     string: OsStr<'_, Windows>,
 ) -> Result<(), AllocError>
@@ -104,12 +104,12 @@ pub(crate) fn push_units<A: Allocator>(
             units.extend_from_slice(&widened(*block))?;
             rest = behind;
         } else {
-            let (code_point, behind) = first_form(rest);
+            let (code_point, behind) = split_code_point(rest);
             push_wide(units, code_point)?;
             rest = behind;
         }
     }
-    push_each(units, OsStr::from_encoded_bytes_unchecked(rest))
+    push_one_by_one(units, OsStr::from_encoded_bytes_unchecked(rest))
 }
 
 /// Whether there are at least 16 units and the first 16 are ASCII.
@@ -126,7 +126,7 @@ fn begins_ascii_block(units: &[u16]) -> bool
 fn first_code_point(units: &[u16]) -> (u32, &[u16])
     requires { 0 < length units.now }
     ensures code_point { IsCodePoint result.0 }
-    ensures spelled { SpellsBefore (form result.0) result.1.now units.now }
+    ensures spelled { SpellsBefore (encode result.0) result.1.now units.now }
     ensures shorter { length result.1.now < length units.now }
     ensures behind { (taken : List ℕ) × (units.now ≡ taken ++ result.1.now) }
 {
@@ -233,7 +233,7 @@ fn count_pairs(units: &[u16]) -> usize
 
 /// The number of bytes of the string with these units: one for each unit, one more for each unit
 /// from 80 on, one more for each from 800 on, and two less for each pair (hexadecimal).
-pub(crate) fn bytes_len(units: &[u16]) -> usize
+pub(crate) fn wtf8_len(units: &[u16]) -> usize
     ensures { (string : List ℕ) → HasUnits string units.now → result ≡ length string }
 {
     let mut len = 0;
@@ -255,7 +255,7 @@ pub(crate) fn bytes_len(units: &[u16]) -> usize
 }
 
 /// Writes the bytes of units over others of the same number.
-pub(crate) fn spell(units: &[u16], bytes: &mut [u8])
+pub(crate) fn write_wtf8(units: &[u16], bytes: &mut [u8])
     requires { (string : List ℕ) → HasUnits string units.now → length bytes.old ≡ length string }
     ensures { HasUnits bytes.new units.now }
 {

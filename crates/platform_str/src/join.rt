@@ -1,6 +1,6 @@
 //! Joining strings: appending bytes, and Windows strings.
 ghost use Rattle.std.specs.Prelude.{◌≡◌, ◌++◌, ◌+◌, ◌<◌, ◌≤◌, take, drop, length, OnOk, OnErr, vec_capacity, vec_len};
-ghost use Rattle.wtf8_core.specs.CodePoint.{IsCodePoint, form};
+ghost use Rattle.wtf8_core.specs.CodePoint.{IsCodePoint, encode};
 ghost use Rattle.wtf8_core.specs.Wtf8.{IsWtf8};
 ghost use Rattle.wtf8_core.specs.UnitsOf.{units_of};
 
@@ -49,7 +49,7 @@ fn write_form_at<A: Allocator>(bytes: &mut Vec<u8, A>, at: usize, c: u32)
     requires past { 0x1_0000 ≤ c }
     requires code_point { IsCodePoint c }
     ensures { bytes.new.items
-        ≡ take at bytes.old.items ++ (form c ++ drop (at + 4) bytes.old.items) }
+        ≡ take at bytes.old.items ++ (encode c ++ drop (at + 4) bytes.old.items) }
 {
     write_form(bytes.as_mut_slice(), at, c);
 }

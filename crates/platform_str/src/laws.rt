@@ -8,9 +8,9 @@ ghost use Rattle.std.specs.Str.{IsUtf8, IsValidUpTo};
 ghost use Rattle.wtf8_core.specs.Byte.{IsByte};
 ghost use Rattle.wtf8_core.specs.Character.{WholeCharacter};
 ghost use Rattle.wtf8_core.specs.Boundary.{IsBoundary};
-ghost use Rattle.wtf8_core.specs.Covered.{StartsBare, IsBare};
+ghost use Rattle.wtf8_core.specs.Covered.{StartsWithNoCharacter, HasNoCharacter};
 ghost use Rattle.wtf8_core.specs.PartUnits.{unit_bytes};
-ghost use Rattle.wtf8_core.specs.Standing.{StandsAt, IsFront};
+ghost use Rattle.wtf8_core.specs.Standing.{StandsAt, IsPrefix};
 ghost use Rattle.wtf8_core.specs.UnitPlace.{IsBytePlace};
 ghost use Rattle.wtf8_core.specs.Join.{IsJoin};
 ghost use Rattle.wtf8_core.specs.declared.fault.EncodingError.{EncodingError};
@@ -62,7 +62,8 @@ pub fn lossy_texts<E: Platform>()
     ensures lossy_text { (b : List ℕ) → IsUtf8 b → E.lossy b ≡ b }
     ensures lossy_front { (b : List ℕ) → (n : ℕ) → E.well_formed b → IsValidUpTo b n
         → E.lossy b ≡ take n b ++ E.lossy (drop n b) }
-    ensures lossy_step { (b : List ℕ) → (n : ℕ) → E.well_formed b → 0 < length b → StartsBare b
+    ensures lossy_step { (b : List ℕ) → (n : ℕ) → E.well_formed b → 0 < length b
+        → StartsWithNoCharacter b
         → E.replaces b n
         → IsReplaced E.well_formed E.lossy b n }
 {}
@@ -92,10 +93,10 @@ pub fn cuts<E: Platform>()
 /// surrogates, and no high one comes directly before a low one. On wasm there are none. A unit has
 /// at most 16 bits.
 pub fn parts<E: Platform>()
-    ensures spelled { (b : List ℕ) → E.well_formed b → IsBare b
+    ensures spelled { (b : List ℕ) → E.well_formed b → HasNoCharacter b
         → b ≡ flat_map unit_bytes (E.units b) }
-    ensures units { (b : List ℕ) → E.well_formed b → IsBare b → E.part_units (E.units b) }
-    ensures wide { (b : List ℕ) → E.well_formed b → IsBare b → AreWideUnits (E.units b) }
+    ensures units { (b : List ℕ) → E.well_formed b → HasNoCharacter b → E.part_units (E.units b) }
+    ensures wide { (b : List ℕ) → E.well_formed b → HasNoCharacter b → AreWideUnits (E.units b) }
 {}
 
 /// A text that isn't empty occurs in a string at a byte index exactly if its units occur in the
@@ -128,7 +129,7 @@ pub fn joins<E: Platform>()
         → IsJoin E.well_formed E.units a b ab → IsJoin E.well_formed E.units ab c v
         → IsJoin E.well_formed E.units b c bc → IsJoin E.well_formed E.units a bc w → v ≡ w }
     ensures fronts { (p : List ℕ) → (s : List ℕ) → E.well_formed p → E.well_formed s
-        → (IsFront (E.units p) (E.units s)
+        → (IsPrefix (E.units p) (E.units s)
         ↔ ((q : List ℕ) × (E.well_formed q × IsJoin E.well_formed E.units p q s))) }
 {}
 

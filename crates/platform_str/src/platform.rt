@@ -1,8 +1,8 @@
 //! What a platform is, and the three platforms of this crate.
 ghost use Rattle.std.specs.Prelude.{◌≡◌, ◌<◌, ◌↔◌, ◌++◌, ◌+◌, ℕ, List, length, IsTrue, IfOk, MatchResult, OnOk, OnErr, vec_capacity, vec_len};
-ghost use Rattle.wtf8_core.specs.Covered.{StartsBare};
+ghost use Rattle.wtf8_core.specs.Covered.{StartsWithNoCharacter};
 ghost use Rattle.platform_str.specs.Lossy.{IsFaultPart};
-ghost use Rattle.wtf8_core.specs.Standing.{IsFront, IsEnd};
+ghost use Rattle.wtf8_core.specs.Standing.{IsPrefix, IsSuffix};
 ghost use Rattle.wtf8_core.specs.StandingLaws.{StandingLaws};
 ghost use Rattle.wtf8_core.specs.declared.fault.EncodingError.{EncodingError};
 ghost use Rattle.platform_str.specs.Laws.{PlatformLaws, PartLaws, ReadingLaws, IsFirstUnit};
@@ -96,7 +96,7 @@ pub trait Platform {
     fn lossy_len(bytes: &[u8]) -> usize
         requires formed { well_formed bytes.now }
         requires some { 0 < length bytes.now }
-        requires bare { StartsBare bytes.now }
+        requires bare { StartsWithNoCharacter bytes.now }
         ensures { replaces bytes.now result };
 
     /// The same number as [`Platform::lossy_len`], for a caller that knows the fault at the start
@@ -112,7 +112,7 @@ pub trait Platform {
     fn replaced_len(bytes: &[u8], error_len: Option<u8>) -> usize
         requires formed { well_formed bytes.now }
         requires some { 0 < length bytes.now }
-        requires bare { StartsBare bytes.now }
+        requires bare { StartsWithNoCharacter bytes.now }
         requires part { IsFaultPart bytes.now error_len }
         ensures { replaces bytes.now result }
     {
@@ -135,7 +135,7 @@ pub trait Platform {
     fn first_unit(bytes: &[u8]) -> (u16, usize)
         requires formed { well_formed bytes.now }
         requires some { 0 < length bytes.now }
-        requires bare { StartsBare bytes.now }
+        requires bare { StartsWithNoCharacter bytes.now }
         ensures { IsFirstUnit well_formed units bytes.now result.0 result.1 };
 
     /// Whether the units of `string` start with the units of `front` (on Windows
@@ -153,7 +153,7 @@ pub trait Platform {
     fn starts_with_os(string: &[u8], front: &[u8]) -> bool
         requires string { well_formed string.now }
         requires front { well_formed front.now }
-        ensures { IsTrue result ↔ IsFront (units front.now) (units string.now) };
+        ensures { IsTrue result ↔ IsPrefix (units front.now) (units string.now) };
 
     /// Whether the units of `string` end with the units of `end` (on Windows
     /// `wtf8_core::ends_with`, else std's `ends_with` of slices). Both are well formed (test:
@@ -170,7 +170,7 @@ pub trait Platform {
     fn ends_with_os(string: &[u8], end: &[u8]) -> bool
         requires string { well_formed string.now }
         requires end { well_formed end.now }
-        ensures { IsTrue result ↔ IsEnd (units end.now) (units string.now) };
+        ensures { IsTrue result ↔ IsSuffix (units end.now) (units string.now) };
 
     /// Appends a string to another: the units are those of both, one after the other (std's
     /// `OsString::push`). On Windows a high surrogate at the end of the one and a low one at the

@@ -4,7 +4,7 @@ ghost use Rattle.std.specs.Iterator.{YieldsFirst, item_count};
 ghost use Rattle.wtf8_core.specs.Wtf8.{HasUnits};
 ghost use Rattle.platform_str.specs.Strings.{bytes, string_vec_of};
 
-use crate::blocks::{bytes_len, push_units, spell};
+use crate::blocks::{push_units, write_wtf8, wtf8_len};
 use crate::os_str::OsStr;
 use crate::os_string::OsString;
 use crate::platform::{Platform, Windows};
@@ -121,10 +121,10 @@ impl<A: Allocator> OsString<Windows, A> {
             (string_vec_of string).items ≡ units.now) }
         ensures without_memory { units.now ≡ [] → IsOk result }
     {
-        let len = bytes_len(units);
+        let len = wtf8_len(units);
         let mut vec = Vec::with_capacity(alloc, len)?;
         vec.resize(len, 0)?;
-        spell(units, vec.as_mut_slice());
+        write_wtf8(units, vec.as_mut_slice());
         Ok(OsString::from_encoded_bytes_unchecked(vec))
     }
 }

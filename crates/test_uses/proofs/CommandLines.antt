@@ -2,8 +2,8 @@
 use Rattle.std.proofs.Common.{◌≡◌, ◌≢◌, ◌⊎◌, inl, inr, ℕ, Bool, true, false, List, [], ◌∷◌, ◌++◌, drop, Option, Some, None, Result, Ok, Err, refl, sym, ap, ◌∙◌, subst, arith}
 use Rattle.std.specs.Char.{encode_utf8, IsScalar}
 use Rattle.std.specs.Str.{IsUtf8}
-use Rattle.wtf8_core.specs.Covered.{StartsBare}
-use Rattle.wtf8_core.specs.Standing.{IsFront, StandsNowhere}
+use Rattle.wtf8_core.specs.Covered.{StartsWithNoCharacter}
+use Rattle.wtf8_core.specs.Standing.{IsPrefix, StandsNowhere}
 use Rattle.os_args.specs.Word.{Kind, Long, LongBytes, Short, ShortBytes, Value, dash, dashes, equals, StartsWithDigit, StartsWithFraction, StartsAsNegative, IsReadAs, IsNamed}
 use Rattle.os_args.specs.Reading.{Fault, UnexpectedValue, MissingValue, Reading, without_pending, without_word, behind_dashes, having_read, TakesWord, TakesValue, TakesOptionalValue}
 
@@ -79,7 +79,7 @@ module _ (once : OneWord) (again : OneValue) (given : List (List ℕ)) (before :
   pub long_no_text : (name value : List ℕ) (more : List (List ℕ)) → ¬ (IsUtf8 name) → StandsNowhere equals name → given ≡ (dashes ++ (name ++ (equals ++ value))) ∷ more → (one ≡ Ok (Some (LongBytes name))) × (other ≡ Ok value)
   long_no_text name value more u n e = long name value more (LongBytes name) (u, record { joined = refl; no_equals = n; end = inr (record { rest = value; joined = refl }) }) e
 
-  pub no_text : (rest word : List ℕ) (more : List (List ℕ)) → rest ≢ [] → StartsBare rest → ¬ (IsFront dash rest) → given ≡ (dash ++ rest) ∷ (word ∷ more) → (one ≡ Ok (Some (ShortBytes rest))) × (other ≡ Ok word)
+  pub no_text : (rest word : List ℕ) (more : List (List ℕ)) → rest ≢ [] → StartsWithNoCharacter rest → ¬ (IsPrefix dash rest) → given ≡ (dash ++ rest) ∷ (word ∷ more) → (one ≡ Ok (Some (ShortBytes rest))) × (other ≡ Ok word)
   no_text rest word more some bare n e =
       let now = having_read (unread false given) 1 (ShortBytes rest) [] in
       word_and_value once again (unread false given) before one between other after new step then (Ok (Some (ShortBytes rest))) now (Ok word) (without_word now)
@@ -96,7 +96,7 @@ module _ (once : OneWord) (again : OneValue) (given : List (List ℕ)) (before :
 
 pub short : OneWord → OneOptionalValue → (given : List (List ℕ)) (before : Reading) (one : Result (Option Kind) Fault) (between : Reading) (other : Option (List ℕ)) (after : Reading)
     → before ≡ unread false given → TakesWord before one between → TakesOptionalValue between other after
-    → (flag : ℕ) (value : List ℕ) (more : List (List ℕ)) → IsScalar flag → value ≢ [] → ¬ (IsFront equals value) → ¬ (IsFront dash (encode_utf8 flag ++ value))
+    → (flag : ℕ) (value : List ℕ) (more : List (List ℕ)) → IsScalar flag → value ≢ [] → ¬ (IsPrefix equals value) → ¬ (IsPrefix dash (encode_utf8 flag ++ value))
     → given ≡ (dash ++ (encode_utf8 flag ++ value)) ∷ more → (one ≡ Ok (Some (Short flag))) × (other ≡ Some value)
 short once again given before one between other after new step then flag value more scalar some n m e =
     let now = having_read (unread false given) 1 (Short flag) value in

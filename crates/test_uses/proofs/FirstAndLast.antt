@@ -3,11 +3,11 @@ use Rattle.std.proofs.Common.{◌≡◌, ℕ, ◌+◌, List, [], ◌++◌, lengt
 use Rattle.std.specs.Char.{IsScalar, encode_utf8}
 use Rattle.std.proofs.lemmas.Str.{encode_same}
 use Rattle.wtf8_core.specs.Character.{WholeCharacter}
-use Rattle.wtf8_core.specs.CodePoint.{form}
+use Rattle.wtf8_core.specs.CodePoint.{encode}
 use Rattle.os_str_ext.specs.Characters.{SplitsFirstChar, SplitsLastChar}
 
 -- what std's `encode_utf8` writes of a scalar value is a whole character, wherever it occurs
-encoded_stands : ((c : ℕ) → form c ≡ encode_utf8 c) → (s before rest : List ℕ) (c : ℕ) → IsScalar c → s ≡ before ++ (encode_utf8 c ++ rest) → WholeCharacter s (length before) (length before + length (encode_utf8 c))
+encoded_stands : ((c : ℕ) → encode c ≡ encode_utf8 c) → (s before rest : List ℕ) (c : ℕ) → IsScalar c → s ≡ before ++ (encode_utf8 c ++ rest) → WholeCharacter s (length before) (length before + length (encode_utf8 c))
 encoded_stands forms s before rest c scalar e = record {
   char = c;
   scalar = scalar;
@@ -15,7 +15,7 @@ encoded_stands forms s before rest c scalar e = record {
   end = ap (λ x. length before + length x) (sym (forms c));
 }
 
-module _ {T : Type 0} (of : T → List ℕ) (forms : (c : ℕ) → form c ≡ encode_utf8 c) (s rest : List ℕ) (c : ℕ) where
+module _ {T : Type 0} (of : T → List ℕ) (forms : (c : ℕ) → encode c ≡ encode_utf8 c) (s rest : List ℕ) (c : ℕ) where
   pub only_first : s ≡ encode_utf8 c ++ rest → IsScalar c → (r : Option (ℕ × T)) → SplitsFirstChar of s r → IsSomeAnd r (λ parts. (parts.0 ≡ c) × (of parts.1 ≡ rest))
   only_first e scalar None h = absurd (h _ (encoded_stands forms s [] rest c scalar e))
   only_first e scalar (Some parts) h = encode_same parts.0 c (of parts.1) rest (sym h ∙ e)

@@ -12,8 +12,8 @@ use Rattle.std.specs.Str.{IsUtf8, IsValidUpTo, all_scalars, encode_utf8_all}
 use Rattle.wtf8_core.specs.Boundary.{IsBoundary}
 use Rattle.wtf8_core.specs.Character.{WholeCharacter}
 use Rattle.wtf8_core.specs.Chunks.{Chunk, joined, AreChunks}
-use Rattle.wtf8_core.specs.CodePoint.{form}
-use Rattle.wtf8_core.specs.Covered.{StartsBare}
+use Rattle.wtf8_core.specs.CodePoint.{encode}
+use Rattle.wtf8_core.specs.Covered.{StartsWithNoCharacter}
 use Rattle.wtf8_core.specs.Lossy.{replacement}
 use Rattle.wtf8_core.specs.Standing.{StandsAt}
 use Rattle.os_str_ext.specs.Chunks.{IsChunkOf}
@@ -31,7 +31,7 @@ later before s i j w =
     record {
       char = w.char;
       scalar = w.scalar;
-      stands = record { before = before ++ st.before; behind = st.behind; joined = ap (λ x. before ++ x) st.joined ∙ sym (append_assoc before st.before (form w.char ++ st.behind)); place = length-append before st.before ∙ ap (λ n. length before + n) st.place };
+      stands = record { before = before ++ st.before; behind = st.behind; joined = ap (λ x. before ++ x) st.joined ∙ sym (append_assoc before st.before (encode w.char ++ st.behind)); place = length-append before st.before ∙ ap (λ n. length before + n) st.place };
       end = omega (arith, end);
     }
 
@@ -53,7 +53,7 @@ record Part (well_formed : List ℕ → Type 0) (lossy : List ℕ → List ℕ) 
   formed : well_formed tail
 
 -- by what the laws say of forms
-module _ (forms : (c : ℕ) → form c ≡ encode_utf8 c) where
+module _ (forms : (c : ℕ) → encode c ≡ encode_utf8 c) where
   -- a text that isn't empty begins with a whole character
   pub begins : (t rest : List ℕ) → IsUtf8 t → 0 < length t → StartsWhole (t ++ rest)
   begins t rest u some = by u.0 u.1.0 u.1.1
@@ -61,7 +61,7 @@ module _ (forms : (c : ℕ) → form c ≡ encode_utf8 c) where
       by : (cs : List ℕ) → all_scalars cs ≡ true → encode_utf8_all cs ≡ t → StartsWhole (t ++ rest)
       by [] s e = absurd (let l = ap length e in omega (arith, l, some))
       by (c ∷ cs) s e = (
-        length (form c),
+        length (encode c),
         record {
           char = c;
           scalar = (and_parts (scalar c) _ s).0;
@@ -71,7 +71,7 @@ module _ (forms : (c : ℕ) → form c ≡ encode_utf8 c) where
       )
 
 -- and of characters and boundaries
-module _ (forms : (c : ℕ) → form c ≡ encode_utf8 c)
+module _ (forms : (c : ℕ) → encode c ≡ encode_utf8 c)
     (fits : (s : List ℕ) (i j : ℕ) → WholeCharacter s i j → (i + 1 ≤ j) × (j ≤ i + 4) × (j ≤ length s))
     (edges : (p s : List ℕ) (i : ℕ) → IsUtf8 p → 0 < length p → StandsAt p s i → IsBoundary s i × IsBoundary s (i + length p))
     (cut : (b : List ℕ) (i : ℕ) → IsUtf8 b → IsBoundary b i → IsUtf8 (take i b) × IsUtf8 (drop i b)) where
@@ -81,7 +81,7 @@ module _ (forms : (c : ℕ) → form c ≡ encode_utf8 c)
   edge (x ∷ t) rest u = subst (IsBoundary ((x ∷ t) ++ rest)) (omega arith) (edges (x ∷ t) ((x ∷ t) ++ rest) 0 u (omega arith) (record { before = []; behind = rest; joined = refl; place = refl })).1
 
   -- it is the longest text at the start where none begins after it
-  longest_text : (t rest : List ℕ) → IsUtf8 t → 0 < length rest → StartsBare rest → IsValidUpTo (t ++ rest) (length t)
+  longest_text : (t rest : List ℕ) → IsUtf8 t → 0 < length rest → StartsWithNoCharacter rest → IsValidUpTo (t ++ rest) (length t)
   longest_text t rest u some bare = record {
     short = omega (arith, some, length-append t rest);
     front = subst IsUtf8 (sym (take-append_seam t rest)) u;
@@ -104,7 +104,7 @@ module _ (forms : (c : ℕ) → form c ≡ encode_utf8 c)
       (back : (b : List ℕ) (i : ℕ) → well_formed b → IsBoundary b i → well_formed (drop i b))
       (one : ReplacesNoCharacter well_formed lossy) where
     -- a text stays
-    kept : (t rest : List ℕ) → IsUtf8 t → (rest ≡ []) ⊎ StartsBare rest → well_formed (t ++ rest) → lossy (t ++ rest) ≡ t ++ lossy rest
+    kept : (t rest : List ℕ) → IsUtf8 t → (rest ≡ []) ⊎ StartsWithNoCharacter rest → well_formed (t ++ rest) → lossy (t ++ rest) ≡ t ++ lossy rest
     kept t [] u after w = ap lossy (append-nil t) ∙ text t u ∙ sym (append-nil t) ∙ ap (λ x. t ++ x) (sym (text [] IsUtf8-nil))
     kept t (x ∷ rest) u (inl e) w = absurd (let l = ap length e in omega (arith, l))
     kept t (x ∷ rest) u (inr bare) w =
@@ -151,7 +151,7 @@ module _ (forms : (c : ℕ) → form c ≡ encode_utf8 c)
           (are.each before behind c e).bare (here + i) (omega arith) (omega (arith, l)) (record { start = here + i; end = here + j; whole = moved; from = omega arith; below = omega (arith, fit) })
 
       -- nothing follows a chunk, or a part that isn't empty
-      part_next : (before behind : List Chunk) (c : Chunk) → chunks ≡ before ++ c ∷ behind → (joined behind ≡ []) ⊎ StartsBare (joined behind)
+      part_next : (before behind : List Chunk) (c : Chunk) → chunks ≡ before ++ c ∷ behind → (joined behind ≡ []) ⊎ StartsWithNoCharacter (joined behind)
       part_next before [] c e = inl refl
       part_next before (d ∷ behind) c e = inr (λ j w.
           let e' : chunks ≡ (before ++ c ∷ []) ++ d ∷ behind = e ∙ sym (append_assoc before (c ∷ []) (d ∷ behind)) in

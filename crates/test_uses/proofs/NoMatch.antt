@@ -3,11 +3,11 @@ use Rattle.std.proofs.Common.{◌≡◌, ℕ, ◌+◌, ◌<◌, List, [], ◌++�
 use Rattle.std.proofs.lemmas.List.Elements.{All-nil, All-cons}
 use Rattle.std.specs.List.{All}
 use Rattle.wtf8_core.specs.Pieces.{SplitsAt, IsSplit, IsRSplit, whole, cut}
-use Rattle.wtf8_core.specs.Standing.{StandsAt, StandsNowhere, IsLeastPlace, IsGreatestPlace}
+use Rattle.wtf8_core.specs.Standing.{StandsAt, StandsNowhere, IsFirstPlace, IsLastPlace}
 
 module _ (p : List ℕ) (some : 0 < length p) where
   -- before the least index
-  before_least : (s piece rest : List ℕ) → SplitsAt IsLeastPlace p s piece rest → StandsNowhere p piece
+  before_least : (s piece rest : List ℕ) → SplitsAt IsFirstPlace p s piece rest → StandsNowhere p piece
   before_least s piece rest c i at =
       let size : length piece ≡ length at.before + (length p + length at.behind) = ap length at.joined ∙ length-append at.before (p ++ at.behind) ∙ ap (λ n. length at.before + n) (length-append p at.behind) in
       let earlier : StandsAt p s i = record {
@@ -20,7 +20,7 @@ module _ (p : List ℕ) (some : 0 < length p) where
       c.found.least i (omega (arith, some, size, place)) earlier
 
   -- after the greatest index
-  after_greatest : (s piece rest : List ℕ) → SplitsAt IsGreatestPlace p s rest piece → StandsNowhere p piece
+  after_greatest : (s piece rest : List ℕ) → SplitsAt IsLastPlace p s rest piece → StandsNowhere p piece
   after_greatest s piece rest c i at =
       let later : StandsAt p s (length (rest ++ (p ++ at.before))) = record {
         before = rest ++ (p ++ at.before);

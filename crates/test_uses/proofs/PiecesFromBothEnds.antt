@@ -5,7 +5,7 @@ use Rattle.std.proofs.lemmas.List.Elements.{All-head, All-tail, All-push, All-sa
 use Rattle.std.proofs.Math.Seq.{take-append_seam, drop-append_seam}
 use Rattle.std.specs.List.{All, join_by}
 use Rattle.wtf8_core.specs.Pieces.{SplitsAt, IsSplit, IsRSplit, whole, cut}
-use Rattle.wtf8_core.specs.Standing.{StandsAt, StandsNowhere, IsGreatestPlace}
+use Rattle.wtf8_core.specs.Standing.{StandsAt, StandsNowhere, IsLastPlace}
 use Rattle.test_uses.proofs.NoMatch.{in_no_piece}
 use Rattle.test_uses.proofs.PiecesJoined.{pieces_joined, with_last}
 
@@ -20,7 +20,7 @@ module _ (p : List ℕ) (some : 0 < length p) where
   joined pieces = join_by (λ piece. piece) p pieces
 
   -- there is one greatest index, and so one way to fall into pieces from the end
-  one_greatest : (s : List ℕ) (i j : ℕ) → IsGreatestPlace p s i → IsGreatestPlace p s j → i ≡ j
+  one_greatest : (s : List ℕ) (i j : ℕ) → IsLastPlace p s i → IsLastPlace p s j → i ≡ j
   one_greatest s i j a b =
       let before : ¬ (i < j) = λ l. a.greatest j l b.stands in
       let behind : ¬ (j < i) = λ l. b.greatest i l a.stands in
@@ -49,7 +49,7 @@ module _ (p : List ℕ) (some : 0 < length p) where
 
   module _ (apart : (s : List ℕ) (i j : ℕ) → StandsAt p s i → StandsAt p s j → i < j → i + length p ≤ j) where
     -- a match that a piece without one follows is the last
-    last_cut : (front piece : List ℕ) → StandsNowhere p piece → SplitsAt IsGreatestPlace p (front ++ (p ++ piece)) front piece
+    last_cut : (front piece : List ℕ) → StandsNowhere p piece → SplitsAt IsLastPlace p (front ++ (p ++ piece)) front piece
     last_cut front piece none =
         let here : StandsAt p (front ++ (p ++ piece)) (length front) = record { before = front; behind = piece; joined = refl; place = refl } in record {
           joined = refl;

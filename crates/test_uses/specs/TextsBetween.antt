@@ -3,7 +3,7 @@ use Rattle.std.specs.Prelude.{ℕ, ◌<◌, ◌≤◌, List, [], ◌∷◌, ◌+
 use Rattle.std.specs.List.{repeat}
 use Rattle.wtf8_core.specs.Character.{WholeCharacter}
 use Rattle.wtf8_core.specs.Chunks.{Chunk}
-use Rattle.wtf8_core.specs.Covered.{StartsBare}
+use Rattle.wtf8_core.specs.Covered.{StartsWithNoCharacter}
 use Rattle.wtf8_core.specs.Lossy.{replacement}
 use Rattle.platform_str.specs.Laws.{IsReplaced}
 
@@ -19,4 +19,4 @@ pub data AreTextsBetween : List Chunk → List ℕ → Type 0 where
 
 -- where no whole character starts, one U+FFFD replaces some first bytes, and all whole characters are after them
 abbrev pub ReplacesNoCharacter : (List ℕ → Type 0) → (List ℕ → List ℕ) → Type 0
-ReplacesNoCharacter well_formed lossy = (b : List ℕ) → well_formed b → 0 < length b → StartsBare b → (n : ℕ) × (IsReplaced well_formed lossy b n × ((i : ℕ) → (j : ℕ) → WholeCharacter b i j → n ≤ i))
+ReplacesNoCharacter well_formed lossy = (b : List ℕ) → well_formed b → 0 < length b → StartsWithNoCharacter b → (n : ℕ) × (IsReplaced well_formed lossy b n × ((i : ℕ) → (j : ℕ) → WholeCharacter b i j → n ≤ i))

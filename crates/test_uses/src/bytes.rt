@@ -1,6 +1,6 @@
 //! Bytes as code points, and their faults.
 ghost use Rattle.std.specs.Prelude.{◌≡◌, ◌↔◌, ◌⊎◌, ◌<◌, ◌≤◌, ◌++◌, ℕ, List, Err, Some, IfSome, IsTrue, length};
-ghost use Rattle.wtf8_core.specs.Wtf8.{Spells, IsWtf8, HasUnits};
+ghost use Rattle.wtf8_core.specs.Wtf8.{Encodes, IsWtf8, HasUnits};
 ghost use Rattle.wtf8_core.specs.Fault.{IsFirstFault};
 ghost use Rattle.wtf8_core.specs.Boundary.{IsBoundary};
 ghost use Rattle.wtf8_core.specs.Character.{WholeCharacter};
@@ -38,8 +38,8 @@ pub fn check_says(
 
 /// Two lists of code points of the same bytes, which are equal.
 pub fn spelled_once(raw: &[u8], code_points: &[u32], others: &[u32])
-    requires first { Spells raw.now code_points.now }
-    requires second { Spells raw.now others.now }
+    requires first { Encodes raw.now code_points.now }
+    requires second { Encodes raw.now others.now }
     ensures { code_points.now ≡ others.now }
 {
     laws::spelled_once();

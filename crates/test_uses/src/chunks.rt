@@ -4,10 +4,10 @@ ghost use Rattle.std.specs.List.{All, flat_map};
 ghost use Rattle.std.specs.Cmp.Lexicographic.{slice_cmp};
 ghost use Rattle.std.specs.Ordering.{nat_cmp};
 ghost use Rattle.wtf8_core.specs.Chunks.{Chunk, AreChunks};
-ghost use Rattle.wtf8_core.specs.Covered.{IsBare};
+ghost use Rattle.wtf8_core.specs.Covered.{HasNoCharacter};
 ghost use Rattle.wtf8_core.specs.PartUnits.{unit_bytes, AreLoneSurrogates};
 ghost use Rattle.wtf8_core.specs.Runs.{AreRuns, form_chunk};
-ghost use Rattle.wtf8_core.specs.Wtf8.{Spells};
+ghost use Rattle.wtf8_core.specs.Wtf8.{Encodes};
 ghost use Rattle.platform_str.specs.PlatformWords.{AreWideUnits};
 ghost use Rattle.platform_str.specs.Strings.{bytes};
 ghost use Rattle.os_str_ext.specs.Chunks.{IsChunkOf};
@@ -42,9 +42,9 @@ pub fn has_chunks(raw: &[u8])
 }
 
 /// The chunks of a Windows string: the maximal runs of surrogates of the code points that it
-/// spells, each with the scalar values after it.
+/// encodes, each with the scalar values after it.
 pub fn runs<'a>(string: OsStr<'a, Windows>, code_points: &[u32]) -> Utf8Chunks<'a, Windows>
-    requires { Spells (bytes string) code_points.now }
+    requires { Encodes (bytes string) code_points.now }
     ensures { (runs : List Chunk) × (AreRuns code_points.now runs
         × (result ≡ map form_chunk runs)) }
 {
@@ -94,7 +94,7 @@ pub fn text_without_parts<'a, E: Platform + 'a>(string: OsStr<'a, E>) -> (Utf8Ch
 
 /// A string without whole characters, whose bytes are those of its units.
 pub fn bare_units<'a, E: Platform + 'a>(string: OsStr<'a, E>) -> OsStr<'a, E>
-    requires { IsBare (bytes string) }
+    requires { HasNoCharacter (bytes string) }
     ensures spelled { bytes result ≡ flat_map unit_bytes (E.units (bytes result)) }
     ensures kind { E.part_units (E.units (bytes result)) }
     ensures wide { AreWideUnits (E.units (bytes result)) }

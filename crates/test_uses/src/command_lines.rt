@@ -3,8 +3,8 @@ ghost use Rattle.std.specs.Prelude.{◌≡◌, ◌≢◌, ◌++◌, ◌∷◌, [
 ghost use Rattle.std.specs.Char.{encode_utf8, IsScalar};
 ghost use Rattle.std.specs.Option.{option_map};
 ghost use Rattle.std.specs.Str.{IsUtf8};
-ghost use Rattle.wtf8_core.specs.Covered.{StartsBare};
-ghost use Rattle.wtf8_core.specs.Standing.{IsFront, StandsNowhere};
+ghost use Rattle.wtf8_core.specs.Covered.{StartsWithNoCharacter};
+ghost use Rattle.wtf8_core.specs.Standing.{IsPrefix, StandsNowhere};
 ghost use Rattle.platform_str.specs.Strings.{bytes};
 ghost use Rattle.os_args.specs.Kinds.{kind_of};
 ghost use Rattle.os_args.specs.Word.{Kind, Long, LongBytes, Short, ShortBytes, Value, dash, dashes, equals, StartsAsNegative};
@@ -103,7 +103,7 @@ pub fn short_option<'a, E: Platform + 'a>(
     Option<OsStr<'a, E>>,
 )
     ensures { (flag : ℕ) → (value : List ℕ) → (more : List (List ℕ)) → IsScalar flag → value ≢ []
-        → ¬ (IsFront equals value) → ¬ (IsFront dash (encode_utf8 flag ++ value))
+        → ¬ (IsPrefix equals value) → ¬ (IsPrefix dash (encode_utf8 flag ++ value))
         → map bytes words.now ≡ (dash ++ (encode_utf8 flag ++ value)) ∷ more
         → (outcome_of (λ read. option_map kind_of read) result.0 ≡ Ok (Some (Short flag)))
         × (option_map bytes result.1 ≡ Some value) }
@@ -123,7 +123,7 @@ pub fn flags_of_no_text<'a, E: Platform + 'a>(
     Result<OsStr<'a, E>, ErrorOf<'a, E>>,
 )
     ensures { (rest : List ℕ) → (word : List ℕ) → (more : List (List ℕ)) → rest ≢ []
-        → StartsBare rest → ¬ (IsFront dash rest)
+        → StartsWithNoCharacter rest → ¬ (IsPrefix dash rest)
         → map bytes words.now ≡ (dash ++ rest) ∷ (word ∷ more)
         → (outcome_of (λ read. option_map kind_of read) result.0 ≡ Ok (Some (ShortBytes rest)))
         × (outcome_of bytes result.1 ≡ Ok word) }

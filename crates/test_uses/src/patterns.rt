@@ -2,8 +2,8 @@
 ghost use Rattle.std.specs.Prelude.{◌≡◌, IfSome};
 ghost use Rattle.std.specs.String.{string_bytes};
 ghost use Rattle.wtf8_core.specs.Boundary.{IsBoundary};
-ghost use Rattle.wtf8_core.specs.CodePoint.{form};
-ghost use Rattle.wtf8_core.specs.Standing.{Finds, IsLeastPlace};
+ghost use Rattle.wtf8_core.specs.CodePoint.{encode};
+ghost use Rattle.wtf8_core.specs.Standing.{Finds, IsFirstPlace};
 ghost use Rattle.platform_str.specs.Strings.{bytes};
 ghost use Rattle.os_str_bytes.specs.Raw.{raw_bytes};
 
@@ -17,9 +17,9 @@ pub fn found_by_each<'a, E: Platform + 'a>(
     text: &'a str,
     owned: &'a String,
 ) -> (Option<usize>, Option<usize>, Option<usize>)
-    ensures of_char { Finds IsLeastPlace (form character) (bytes string.entry) result.0 }
-    ensures of_str { Finds IsLeastPlace text.now (bytes string.entry) result.1 }
-    ensures of_string { Finds IsLeastPlace (string_bytes owned.now) (bytes string.entry) result.2 }
+    ensures of_char { Finds IsFirstPlace (encode character) (bytes string.entry) result.0 }
+    ensures of_str { Finds IsFirstPlace text.now (bytes string.entry) result.1 }
+    ensures of_string { Finds IsFirstPlace (string_bytes owned.now) (bytes string.entry) result.2 }
 {
     search_laws::patterns(character, text, owned);
     (

@@ -1,7 +1,7 @@
 //! Searches: a string may be cut at what they find, and after it.
 ghost use Rattle.std.specs.Prelude.{◌≡◌, ◌<◌, ◌∷◌, IfSome, length};
 ghost use Rattle.wtf8_core.specs.Pieces.{SplitsOnce};
-ghost use Rattle.wtf8_core.specs.Standing.{IsLeastPlace, IsGreatestPlace, StandsNowhere};
+ghost use Rattle.wtf8_core.specs.Standing.{IsFirstPlace, IsLastPlace, StandsNowhere};
 ghost use Rattle.platform_str.specs.Strings.{bytes};
 ghost use Rattle.os_str_bytes.specs.Raw.{raw_bytes};
 
@@ -9,7 +9,7 @@ use os_str_bytes::{OsStr, OsStrBytesExt, Platform, RawOsStr, search_laws};
 
 /// The parts before the first match of a pattern and after it, by two cuts.
 pub fn around_first<'a, S: OsStrBytesExt<'a> + Copy>(string: S, pattern: &str) -> Option<(S, S)>
-    ensures { SplitsOnce IsLeastPlace S.bytes_of pattern.now (S.bytes_of string) result }
+    ensures { SplitsOnce IsFirstPlace S.bytes_of pattern.now (S.bytes_of string) result }
 {
     let Some(at) = string.find(pattern) else {
         return None;
@@ -21,7 +21,7 @@ pub fn around_first<'a, S: OsStrBytesExt<'a> + Copy>(string: S, pattern: &str) -
 
 /// The parts before the last match of a pattern and after it, by two cuts.
 pub fn around_last<'a, S: OsStrBytesExt<'a> + Copy>(string: S, pattern: &str) -> Option<(S, S)>
-    ensures { SplitsOnce IsGreatestPlace S.bytes_of pattern.now (S.bytes_of string) result }
+    ensures { SplitsOnce IsLastPlace S.bytes_of pattern.now (S.bytes_of string) result }
 {
     let Some(at) = string.rfind(pattern) else {
         return None;
@@ -36,7 +36,7 @@ pub fn raw_around_first<'a, E: Platform + 'a>(
     string: RawOsStr<'a, E>,
     pattern: &str,
 ) -> Option<(RawOsStr<'a, E>, RawOsStr<'a, E>)>
-    ensures { SplitsOnce IsLeastPlace raw_bytes pattern.now (raw_bytes string.entry) result }
+    ensures { SplitsOnce IsFirstPlace raw_bytes pattern.now (raw_bytes string.entry) result }
 {
     let Some(at) = string.find(pattern) else {
         return None;
@@ -51,7 +51,7 @@ pub fn raw_around_last<'a, E: Platform + 'a>(
     string: RawOsStr<'a, E>,
     pattern: &str,
 ) -> Option<(RawOsStr<'a, E>, RawOsStr<'a, E>)>
-    ensures { SplitsOnce IsGreatestPlace raw_bytes pattern.now (raw_bytes string.entry) result }
+    ensures { SplitsOnce IsLastPlace raw_bytes pattern.now (raw_bytes string.entry) result }
 {
     let Some(at) = string.rfind(pattern) else {
         return None;

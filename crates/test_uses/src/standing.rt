@@ -1,6 +1,6 @@
 //! Where texts occur: by bytes and by units alike.
 ghost use Rattle.std.specs.Prelude.{◌≡◌, ◌<◌, ℕ, Some, IsTrue, length};
-ghost use Rattle.wtf8_core.specs.Standing.{StandsAt, IsLeastPlace};
+ghost use Rattle.wtf8_core.specs.Standing.{StandsAt, IsFirstPlace};
 ghost use Rattle.wtf8_core.specs.UnitPlace.{IsBytePlace, IsUnitPlaceOf};
 ghost use Rattle.platform_str.specs.Strings.{bytes};
 
@@ -56,7 +56,7 @@ pub fn found_by_units<'a, E: Platform + 'a>(
     text: &str,
     at: usize,
 ) -> Option<usize>
-    requires place { IsUnitPlaceOf IsLeastPlace E.well_formed E.units text.now (bytes string) at }
+    requires place { IsUnitPlaceOf IsFirstPlace E.well_formed E.units text.now (bytes string) at }
     ensures { result ≡ Some at }
 {
     laws::standing::<E>();

@@ -2,7 +2,7 @@
 ghost use Rattle.std.specs.Prelude.{◌≡◌, ◌↔◌, ◌<◌, ◌++◌, IsOk, IfOk, IfSome, IsTrue, length, take, drop};
 ghost use Rattle.std.specs.Str.{IsUtf8, IsValidUpTo};
 ghost use Rattle.std.specs.Str.Lossy.{utf8_lossy};
-ghost use Rattle.wtf8_core.specs.Covered.{StartsBare};
+ghost use Rattle.wtf8_core.specs.Covered.{StartsWithNoCharacter};
 ghost use Rattle.wtf8_core.specs.Lossy.{replacement, IsLossyText, IsWtf8LossyText};
 ghost use Rattle.wtf8_core.specs.Standing.{StandsAt};
 ghost use Rattle.wtf8_core.specs.UnitsOf.{wtf8_lossy};
@@ -90,7 +90,7 @@ pub fn behind_first<'a, E: Platform + 'a>(string: OsStr<'a, E>) -> Option<OsStr<
 /// How many bytes U+FFFD replaces at the start of a string's lossy text.
 pub fn replaced<'a, E: Platform + 'a>(string: OsStr<'a, E>) -> usize
     requires some { 0 < length (bytes string) }
-    requires bare { StartsBare (bytes string) }
+    requires bare { StartsWithNoCharacter (bytes string) }
     ensures { E.lossy (bytes string.entry)
         ≡ replacement ++ E.lossy (drop result (bytes string.entry)) }
 {
@@ -104,7 +104,7 @@ pub fn replaced_by_as_many<'a, E: Platform + 'a>(
     not_safe: OsStr<'a, E>,
 ) -> usize
     requires some { 0 < length (bytes string) }
-    requires bare { StartsBare (bytes string) }
+    requires bare { StartsWithNoCharacter (bytes string) }
     requires not_safe { ¬ (E.io_safe (bytes not_safe)) }
     ensures { result ≡ length replacement }
 {

@@ -2,7 +2,7 @@
 ghost use Rattle.std.specs.Prelude.{◌≡◌, ◌↔◌, ℕ, List, IfOk, IsTrue, Some};
 ghost use Rattle.std.specs.Cmp.Lexicographic.{slice_cmp};
 ghost use Rattle.std.specs.Ordering.{nat_cmp};
-ghost use Rattle.wtf8_core.specs.Wtf8.{Spells, HasUnits};
+ghost use Rattle.wtf8_core.specs.Wtf8.{Encodes, HasUnits};
 ghost use Rattle.platform_str.specs.Strings.{bytes, string_vec_of};
 
 use platform_str::{OsStr, OsString, Platform, WideUnits, Windows, laws};
@@ -27,15 +27,15 @@ pub fn order<'a, E: Platform + 'a>(a: OsStr<'a, E>, b: OsStr<'a, E>) -> (Orderin
     (a.cmp(&b), a.partial_cmp(&b))
 }
 
-/// How two Windows strings are ordered: as the code points are that they spell.
+/// How two Windows strings are ordered: as the code points are that they encode.
 pub fn order_of_code_points<'a>(
     a: OsStr<'a, Windows>,
     b: OsStr<'a, Windows>,
     code_points: &[u32],
     others: &[u32],
 ) -> Ordering
-    requires first { Spells (bytes a) code_points.now }
-    requires second { Spells (bytes b) others.now }
+    requires first { Encodes (bytes a) code_points.now }
+    requires second { Encodes (bytes b) others.now }
     ensures { result ≡ slice_cmp nat_cmp code_points.now others.now }
 {
     wtf8_core::laws::order();

@@ -39,7 +39,7 @@ pub fn unit_as_number(unit: OsUnit) -> u64
     u64::from(unit)
 }
 
-/// The code points that bytes spell, read one by one.
+/// The code points that bytes encode, read one by one.
 pub fn items_of_bytes(
     alloc: Global,
     raw: &[u8],
@@ -59,7 +59,7 @@ pub fn unit_items_of_bytes(
     encode_wide(raw).collect(alloc)
 }
 
-/// The bytes that spell units, read one by one.
+/// The bytes that encode units, read one by one.
 pub fn bytes_of_units(alloc: Global, units: &[u16]) -> Result<Vec<u8>, AllocError>
     ensures { IfOk result (λ bytes. HasUnits bytes.items units.now) }
 {

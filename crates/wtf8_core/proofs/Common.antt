@@ -26,20 +26,20 @@ pub use Rattle.wtf8_core.specs.Character.{WholeCharacter, IsCharacterAt}
 pub use Rattle.wtf8_core.specs.Checker.{Stands, IsFaulty, Row, rows, SomeRow, IsOpen, IsOpenIn, kept_bits, joined_bits, fault_at, is_between, is_plain, OnlyEnds, HasFirstFault, Progress, progress, StandsFor}
 pub use Rattle.wtf8_core.specs.Chunks.{Chunk, joined, AreChunks}
 pub use Rattle.wtf8_core.specs.CodePoint.{IsCodePoint}
-unfoldable pub use Rattle.wtf8_core.specs.CodePoint.{form, wide}
-pub use Rattle.wtf8_core.specs.Covered.{IsCovered, IsSeam, StartsBare, IsBare}
+unfoldable pub use Rattle.wtf8_core.specs.CodePoint.{encode, encode_utf16}
+pub use Rattle.wtf8_core.specs.Covered.{IsCovered, CrossesNoCharacter, StartsWithNoCharacter, HasNoCharacter}
 pub use Rattle.wtf8_core.specs.Decoder.{decoder_bytes}
 unfoldable pub use Rattle.wtf8_core.specs.Decoder.{code_points_of}
-pub use Rattle.wtf8_core.specs.Fault.{IsFirstFault, BeginsFault, IsFaultAt, IsShape, shape_value, IsShort, IsBadShape, IsRefused, IsBegun}
+pub use Rattle.wtf8_core.specs.Fault.{IsFirstFault, BeginsFault, IsFaultAt, IsWholeSequence, shape_value, IsIncomplete, IsBadSequence, IsRefused, IsSequenceStart}
 pub use Rattle.wtf8_core.specs.FaultText.{upper_hex_digit, not_representable, fault_text}
 unfoldable pub use Rattle.wtf8_core.specs.FaultText.{upper_hex}
 pub use Rattle.wtf8_core.specs.Items.{AreItems, AreUnitItems, unit_items}
 pub use Rattle.wtf8_core.specs.Lossy.{replacement, IsWtf8LossyText, without_surrogate, IsLossyText}
-pub use Rattle.wtf8_core.specs.Neighbours.{AllMayStand, Steps, IsEdge, MayStand, MayFollow}
+pub use Rattle.wtf8_core.specs.Neighbours.{AllMayStand, Steps, IsBetweenCodePoints, MayStand, MayFollow}
 pub use Rattle.wtf8_core.specs.Reader.{is_high_item, IsFirstItem, least_value, items_after, then_items}
 unfoldable pub use Rattle.wtf8_core.specs.Reader.{first_item, behind_item, items_behind, with_continuations, checked_value, and_then_checked, continuations}
-pub use Rattle.wtf8_core.specs.SpelledFront.{IsSpelledFront, IsReadUpTo, behind_zeros, KeepsPattern}
-pub use Rattle.wtf8_core.specs.Standing.{StandsAt, IsFront, IsEnd, StandsNowhere, IsLeastPlace, IsGreatestPlace, Finds}
+pub use Rattle.wtf8_core.specs.EncodedPrefix.{IsEncodedPrefix, IsReadUpTo, behind_zeros, KeepsPattern}
+pub use Rattle.wtf8_core.specs.Standing.{StandsAt, IsPrefix, IsSuffix, StandsNowhere, IsFirstPlace, IsLastPlace, Finds}
 pub use Rattle.wtf8_core.specs.StandingLaws.{StandingLaws, IsCutAround}
 pub use Rattle.wtf8_core.specs.Surrogate.{is_high, IsSurrogate, is_surrogate, IsHigh, IsLow, high_unit, low_unit, paired, is_pair}
 pub use Rattle.wtf8_core.specs.Table.{state_index}
@@ -48,7 +48,7 @@ pub use Rattle.wtf8_core.specs.UnitPlace.{IsBytePlace, IsUnitPlaceOf, FindsInUni
 pub use Rattle.wtf8_core.specs.UnitsOf.{units_of, ok_values, wtf8_lossy}
 unfoldable pub use Rattle.wtf8_core.specs.UnitsOf.{code_points_in}
 pub use Rattle.wtf8_core.specs.Utf8.{IsUtf8Fault, IsFrontOfCharacter, IsProperFront, IsIllFormed, part_end, IsIllFormedPart, IsAtFront}
-pub use Rattle.wtf8_core.specs.Wtf8.{IsPairedFree, MayPrecede, Spells, IsWtf8, last_behind, units, HasUnits}
+pub use Rattle.wtf8_core.specs.Wtf8.{HasNoSurrogatePair, MayPrecede, Encodes, IsWtf8, last_or, units, HasUnits}
 pub use Rattle.wtf8_core.specs.declared.fault.EncodingError.{EncodingError}
 pub use Rattle.wtf8_core.specs.declared.fault.EncodingError.TheVariants.{Utf8, Byte, CodePoint, End}
 pub use Rattle.wtf8_core.specs.declared.table.Class.{Class}

@@ -2,8 +2,8 @@
 use Rattle.std.specs.Prelude.{◌≡◌, ◌≢◌, ◌⊎◌, ℕ, zero, suc, ◌+◌, ◌*◌, ◌%◌, ◌≤◌, Bool, true, false, if◌then◌else◌, List, [], ◌∷◌, ◌++◌, length, Option, Some, None}
 use Rattle.wtf8_core.specs.Byte.{is_continuation, needed_continuations}
 use Rattle.wtf8_core.specs.Surrogate.{is_high}
-use Rattle.wtf8_core.specs.Wtf8.{Spells, last_behind}
-use Rattle.wtf8_core.specs.Fault.{IsBegun, shape_value, IsFirstFault}
+use Rattle.wtf8_core.specs.Wtf8.{Encodes, last_or}
+use Rattle.wtf8_core.specs.Fault.{IsSequenceStart, shape_value, IsFirstFault}
 use Rattle.wtf8_core.specs.Table.{state_at}
 use Rattle.wtf8_core.specs.declared.checker.SavedChecker.{SavedChecker}
 use Rattle.wtf8_core.specs.declared.fault.EncodingError.{EncodingError}
@@ -91,7 +91,7 @@ pub record IsOpen (high : Bool) (bits : ℕ) (open_bytes : List ℕ) (r : Row) :
   pub lead : ℕ
   pub behind : List ℕ
   pub is : open_bytes ≡ lead ∷ behind
-  pub begun : IsBegun lead behind
+  pub begun : IsSequenceStart lead behind
   pub needed_is : r.needed ≡ needed_continuations lead
   pub missing_is : length behind + r.missing ≡ r.needed
   pub some_missing : 1 ≤ r.missing
@@ -111,8 +111,8 @@ pub record Stands (state : State) (bits : ℕ) (bytes : List ℕ) : Type 0 where
   pub before : List ℕ
   pub open_bytes : List ℕ
   pub joined : bytes ≡ before ++ open_bytes
-  pub spelled : Spells before code_points
-  pub opened : IsOpenIn state (is_high (last_behind 0 code_points)) bits open_bytes
+  pub spelled : Encodes before code_points
+  pub opened : IsOpenIn state (is_high (last_or 0 code_points)) bits open_bytes
 
 -- the fault of a continuation that is refused in this state
 abbrev pub value_fault : State → ℕ → ℕ → EncodingError

@@ -12,7 +12,7 @@ joined [] = []
 joined (c ∷ behind) = c.0 ++ (c.1 ++ joined behind)
 
 -- c is the chunk of s from index i on, between these other chunks
-pub record IsPair (s : List ℕ) (i : ℕ) (before : List Chunk) (c : Chunk) (behind : List Chunk) : Type 0 where
+pub record IsChunkBetween (s : List ℕ) (i : ℕ) (before : List Chunk) (c : Chunk) (behind : List Chunk) : Type 0 where
   pub some : 0 < length (c.0 ++ c.1)
   pub bare : (k : ℕ) → i ≤ k → k < i + length c.0 → ¬ (IsCovered s k)
   pub covered : (k : ℕ) → i + length c.0 ≤ k → k < i + length (c.0 ++ c.1) → IsCovered s k
@@ -22,4 +22,4 @@ pub record IsPair (s : List ℕ) (i : ℕ) (before : List Chunk) (c : Chunk) (be
 -- the chunks of s
 pub record AreChunks (s : List ℕ) (cs : List Chunk) : Type 0 where
   pub joins : joined cs ≡ s
-  pub each : (before behind : List Chunk) (c : Chunk) → cs ≡ before ++ c ∷ behind → IsPair s (length (joined before)) before c behind
+  pub each : (before behind : List Chunk) (c : Chunk) → cs ≡ before ++ c ∷ behind → IsChunkBetween s (length (joined before)) before c behind

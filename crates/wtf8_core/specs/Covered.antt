@@ -11,13 +11,13 @@ pub record IsCovered (s : List ℕ) (k : ℕ) : Type 0 where
   pub below : k < end
 
 -- no whole character extends across index i
-abbrev pub IsSeam : List ℕ → ℕ → Type 0
-IsSeam s i = (a : ℕ) → (b : ℕ) → WholeCharacter s a b → a < i → i < b → ⊥
+abbrev pub CrossesNoCharacter : List ℕ → ℕ → Type 0
+CrossesNoCharacter s i = (a : ℕ) → (b : ℕ) → WholeCharacter s a b → a < i → i < b → ⊥
 
 -- s begins with no whole character
-abbrev pub StartsBare : List ℕ → Type 0
-StartsBare s = (j : ℕ) → ¬ (WholeCharacter s 0 j)
+abbrev pub StartsWithNoCharacter : List ℕ → Type 0
+StartsWithNoCharacter s = (j : ℕ) → ¬ (WholeCharacter s 0 j)
 
 -- there is no whole character in s
-abbrev pub IsBare : List ℕ → Type 0
-IsBare s = (i : ℕ) → (j : ℕ) → ¬ (WholeCharacter s i j)
+abbrev pub HasNoCharacter : List ℕ → Type 0
+HasNoCharacter s = (i : ℕ) → (j : ℕ) → ¬ (WholeCharacter s i j)

@@ -4,19 +4,19 @@ use Rattle.std.specs.List.{fold, AllByRecursion}
 use Rattle.std.specs.Int.{IsInRange}
 use Rattle.wtf8_core.specs.Byte.{IsContinuation, IsLead, needed_continuations, lead_bits}
 use Rattle.wtf8_core.specs.Surrogate.{IsHigh, IsLow}
-use Rattle.wtf8_core.specs.CodePoint.{IsCodePoint, form}
-use Rattle.wtf8_core.specs.Wtf8.{Spells, last_behind}
+use Rattle.wtf8_core.specs.CodePoint.{IsCodePoint, encode}
+use Rattle.wtf8_core.specs.Wtf8.{Encodes, last_or}
 use Rattle.wtf8_core.specs.declared.fault.EncodingError.{EncodingError}
 use Rattle.wtf8_core.specs.declared.fault.EncodingError.TheVariants.{Byte, CodePoint, End, Utf8}
 
 -- a lead and continuations after it
-pub record IsBegun (lead : ℕ) (behind : List ℕ) : Type 0 where
+pub record IsSequenceStart (lead : ℕ) (behind : List ℕ) : Type 0 where
   pub lead_is : IsLead lead
   pub continued : AllByRecursion IsContinuation behind
 
 -- a lead and exactly as many continuations after it as it needs
-pub record IsShape (lead : ℕ) (behind : List ℕ) : Type 0 where
-  pub begun : IsBegun lead behind
+pub record IsWholeSequence (lead : ℕ) (behind : List ℕ) : Type 0 where
+  pub begun : IsSequenceStart lead behind
   pub whole : length behind ≡ needed_continuations lead
 
 -- the low bits of the lead, and then six bits of each continuation
@@ -29,34 +29,34 @@ pub record IsStray (refused : List ℕ) (x : ℕ) : Type 0 where
   pub stray : IsInRange 0x80 0xC1 x
 
 -- a lead with fewer continuations than it needs
-pub record IsShort (refused : List ℕ) : Type 0 where
+pub record IsIncomplete (refused : List ℕ) : Type 0 where
   pub lead : ℕ
   pub behind : List ℕ
   pub is : refused ≡ lead ∷ behind
-  pub begun : IsBegun lead behind
+  pub begun : IsSequenceStart lead behind
   pub short : length behind < needed_continuations lead
 
 -- a lead with fewer continuations than it needs, and then a byte that is no continuation
-pub record IsBroken (refused rest : List ℕ) (x : ℕ) : Type 0 where
-  pub begun : IsShort refused
+pub record IsInterrupted (refused rest : List ℕ) (x : ℕ) : Type 0 where
+  pub begun : IsIncomplete refused
   pub after : List ℕ
   pub next : rest ≡ x ∷ after
   pub breaks : IsContinuation x → ⊥
 
 -- a whole shape with this value, which is no form, or is the form of a low surrogate after a high one
-pub record IsBadShape (last : ℕ) (refused : List ℕ) (value : ℕ) : Type 0 where
+pub record IsBadSequence (last : ℕ) (refused : List ℕ) (value : ℕ) : Type 0 where
   pub lead : ℕ
   pub behind : List ℕ
   pub is : refused ≡ lead ∷ behind
-  pub shape : IsShape lead behind
+  pub shape : IsWholeSequence lead behind
   pub value_is : shape_value lead behind ≡ value
-  pub bad : ((c : ℕ) → IsCodePoint c → form c ≢ refused) ⊎ ((form value ≡ refused) × IsLow value × IsHigh last)
+  pub bad : ((c : ℕ) → IsCodePoint c → encode c ≢ refused) ⊎ ((encode value ≡ refused) × IsLow value × IsHigh last)
 
 -- these bytes, before this rest and after the code point `last`, are refused with this fault
 abbrev pub IsRefused : ℕ → List ℕ → List ℕ → EncodingError → Type 0
-IsRefused last refused rest (Byte x) = IsStray refused x ⊎ IsBroken refused rest x
-IsRefused last refused rest End = IsShort refused × (rest ≡ [])
-IsRefused last refused rest (CodePoint value) = IsBadShape last refused value
+IsRefused last refused rest (Byte x) = IsStray refused x ⊎ IsInterrupted refused rest x
+IsRefused last refused rest End = IsIncomplete refused × (rest ≡ [])
+IsRefused last refused rest (CodePoint value) = IsBadSequence last refused value
 IsRefused last refused rest (Utf8 valid_up_to error_len) = ⊥
 
 -- the bytes begin with a part that is refused with this fault
@@ -71,8 +71,8 @@ pub record IsFirstFault (bytes cs : List ℕ) (fault : EncodingError) : Type 0 w
   pub before : List ℕ
   pub from : List ℕ
   pub joined : bytes ≡ before ++ from
-  pub spelled : Spells before cs
-  pub begins : BeginsFault (last_behind 0 cs) from fault
+  pub spelled : Encodes before cs
+  pub begins : BeginsFault (last_or 0 cs) from fault
 
 -- the first fault begins at index `valid_up_to`, and `refused_len` bytes are refused with it
 pub record IsFaultAt (bytes : List ℕ) (valid_up_to refused_len : ℕ) : Type 0 where

@@ -1,7 +1,7 @@
 -- Strings joined (WTF-8: concatenation).
 use Rattle.std.specs.Prelude.{◌≡◌, ℕ, List, ◌++◌}
 use Rattle.wtf8_core.specs.Surrogate.{IsHigh, IsLow, paired}
-use Rattle.wtf8_core.specs.CodePoint.{form}
+use Rattle.wtf8_core.specs.CodePoint.{encode}
 
 -- w is the join of a and b: the string whose units are those of both, one after the other
 abbrev pub IsJoin : (List ℕ → Type 0) → (List ℕ → List ℕ) → List ℕ → List ℕ → List ℕ → Type 0
@@ -15,6 +15,6 @@ pub record IsPairBetween (a b : List ℕ) (c : ℕ) : Type 0 where
   pub rest : List ℕ
   pub is_high : IsHigh high
   pub is_low : IsLow low
-  pub ends : a ≡ front ++ form high
-  pub begins : b ≡ form low ++ rest
+  pub ends : a ≡ front ++ encode high
+  pub begins : b ≡ encode low ++ rest
   pub pair : c ≡ paired high low

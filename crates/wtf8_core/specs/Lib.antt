@@ -21,7 +21,7 @@ pub mod Pieces
 pub mod Table
 pub mod Neighbours
 pub mod PairBits
-pub mod SpelledFront
+pub mod EncodedPrefix
 pub mod Checker
 pub mod Utf8
 pub mod Lossy

@@ -3,8 +3,8 @@ use Rattle.std.specs.Prelude.{◌≡◌, ℕ, ◌+◌, if◌then◌else◌, List
 use Rattle.std.specs.List.{flat_map}
 use Rattle.std.specs.Str.{IsUtf8, IsValidUpTo}
 use Rattle.wtf8_core.specs.Surrogate.{is_surrogate}
-use Rattle.wtf8_core.specs.CodePoint.{form}
-use Rattle.wtf8_core.specs.Wtf8.{Spells}
+use Rattle.wtf8_core.specs.CodePoint.{encode}
+use Rattle.wtf8_core.specs.Wtf8.{Encodes}
 use Rattle.wtf8_core.specs.Utf8.{IsIllFormedPart}
 
 -- the bytes of U+FFFD
@@ -23,5 +23,5 @@ without_surrogate c = if is_surrogate c then 0xFFFD else c
 -- the lossy text of WTF-8 bytes: one U+FFFD replaces each surrogate
 pub record IsWtf8LossyText (bytes lossy : List ℕ) : Type 0 where
   pub code_points : List ℕ
-  pub spelled : Spells bytes code_points
-  pub are : lossy ≡ flat_map form (map without_surrogate code_points)
+  pub spelled : Encodes bytes code_points
+  pub are : lossy ≡ flat_map encode (map without_surrogate code_points)

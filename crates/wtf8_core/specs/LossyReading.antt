@@ -1,7 +1,7 @@
 -- The lossy reading of any bytes: U+FFFD in place of each refused part (this project's own; std's `String::from_utf8_lossy` reads UTF-8 in this way).
 use Rattle.std.specs.Prelude.{ℕ, List, ◌++◌, map, Result, Ok, Err}
 use Rattle.std.specs.List.{flat_map}
-use Rattle.wtf8_core.specs.CodePoint.{form}
+use Rattle.wtf8_core.specs.CodePoint.{encode}
 use Rattle.wtf8_core.specs.Wtf8.{IsWtf8}
 use Rattle.wtf8_core.specs.Fault.{IsFirstFault}
 use Rattle.wtf8_core.specs.Lossy.{replacement}
@@ -19,4 +19,4 @@ lossy_code_point (Err fault) = 0xFFFD
 
 -- the forms of the items joined, with that of FFFD for each fault
 abbrev pub lossy_forms : List (Result ℕ EncodingError) → List ℕ
-lossy_forms items = flat_map form (map lossy_code_point items)
+lossy_forms items = flat_map encode (map lossy_code_point items)

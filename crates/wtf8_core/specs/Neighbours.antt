@@ -42,7 +42,7 @@ Steps encoding w x y z [] = Unit {0}
 Steps encoding w x y z (b ∷ bs) = MayStand encoding w x y z b × Steps encoding x y z b bs
 
 -- a code point begins after the bytes x, y and z, and the code point p before it is a high surrogate exactly if these bytes are its form
-pub record IsEdge (p x y z : ℕ) : Type 0 where
+pub record IsBetweenCodePoints (p x y z : ℕ) : Type 0 where
   pub closed : IsClosed x y z
   pub high : IsHigh p → (x ≡ 0xED) × (0xA0 ≤ y) × (y < 0xB0)
   pub only_high : x ≡ 0xED → 0xA0 ≤ y → y < 0xB0 → IsHigh p

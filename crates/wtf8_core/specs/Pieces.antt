@@ -1,7 +1,7 @@
 -- Pieces, strips and trims of lists, of bytes as well as of units (std's `str` has the calls).
 use Rattle.std.specs.Prelude.{◌≡◌, ℕ, ◌+◌, ◌<◌, List, [], ◌∷◌, ◌++◌, length, map, Option, IfSome, MatchOption}
 use Rattle.std.specs.List.{repeat}
-use Rattle.wtf8_core.specs.Standing.{StandsAt, StandsNowhere, IsLeastPlace, IsGreatestPlace, IsFront, IsEnd}
+use Rattle.wtf8_core.specs.Standing.{StandsAt, StandsNowhere, IsFirstPlace, IsLastPlace, IsPrefix, IsSuffix}
 use Rattle.wtf8_core.specs.Boundary.{IsBoundary}
 
 -- p occurs somewhere in s
@@ -20,23 +20,23 @@ pub data FallsInto (Cuts : List ℕ → List ℕ → List ℕ → Type 0) (Whole
 
 -- the pieces of s between the occurrences of p, each cut at the first one in what is left
 abbrev pub IsSplit : List ℕ → List ℕ → List (List ℕ) → Type 0
-IsSplit p = FallsInto (λ s piece rest. SplitsAt IsLeastPlace p s piece rest) (StandsNowhere p)
+IsSplit p = FallsInto (λ s piece rest. SplitsAt IsFirstPlace p s piece rest) (StandsNowhere p)
 
 -- the same from the end, each cut at the last occurrence in what is left
 abbrev pub IsRSplit : List ℕ → List ℕ → List (List ℕ) → Type 0
-IsRSplit p = FallsInto (λ s piece rest. SplitsAt IsGreatestPlace p s rest piece) (StandsNowhere p)
+IsRSplit p = FallsInto (λ s piece rest. SplitsAt IsLastPlace p s rest piece) (StandsNowhere p)
 
 -- r is s without each p at its start, if p isn't empty
 pub record IsStartTrim (p s r : List ℕ) : Type 0 where
   pub count : ℕ
   pub trimmed : s ≡ repeat count p ++ r
-  pub done : ¬ (IsFront p r)
+  pub done : ¬ (IsPrefix p r)
 
 -- r is s without each p at its end, if p isn't empty
 pub record IsEndTrim (p s r : List ℕ) : Type 0 where
   pub count : ℕ
   pub trimmed : s ≡ r ++ repeat count p
-  pub done : ¬ (IsEnd p r)
+  pub done : ¬ (IsSuffix p r)
 
 -- r is s trimmed at its start, and then at its end
 abbrev pub IsTrim : List ℕ → List ℕ → List ℕ → Type 0
@@ -59,11 +59,11 @@ MayBeCutAround s n r = IfSome r (λ i. IsBoundary s i × IsBoundary s (i + n))
 
 -- r is what follows the prefix p of s, None if p is no prefix of s; `of` maps the result to its list of bytes or units
 abbrev pub StripsFront : {T : Type 0} → (T → List ℕ) → List ℕ → List ℕ → Option T → Type 0
-StripsFront of p s r = MatchOption r (¬ (IsFront p s)) (λ rest. s ≡ p ++ of rest)
+StripsFront of p s r = MatchOption r (¬ (IsPrefix p s)) (λ rest. s ≡ p ++ of rest)
 
 -- r is what comes before the suffix p of s, None if p is no suffix of s
 abbrev pub StripsEnd : {T : Type 0} → (T → List ℕ) → List ℕ → List ℕ → Option T → Type 0
-StripsEnd of p s r = MatchOption r (¬ (IsEnd p s)) (λ rest. s ≡ of rest ++ p)
+StripsEnd of p s r = MatchOption r (¬ (IsSuffix p s)) (λ rest. s ≡ of rest ++ p)
 
 -- r is both parts of s around the occurrence of p that Is names, None if p doesn't occur
 abbrev pub SplitsOnce : {T : Type 0} → (List ℕ → List ℕ → ℕ → Type 0) → (T → List ℕ) → List ℕ → List ℕ → Option (T × T) → Type 0

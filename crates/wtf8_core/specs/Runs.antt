@@ -3,7 +3,7 @@ use Rattle.std.specs.Prelude.{◌≡◌, ℕ, ◌<◌, List, [], ◌∷◌, ◌+
 use Rattle.std.specs.Char.{IsScalar}
 use Rattle.std.specs.List.{flat_map, AllByRecursion}
 use Rattle.wtf8_core.specs.Surrogate.{IsSurrogate}
-use Rattle.wtf8_core.specs.CodePoint.{form}
+use Rattle.wtf8_core.specs.CodePoint.{encode}
 use Rattle.wtf8_core.specs.Chunks.{Chunk, joined}
 
 -- a run of surrogates and the scalar values after it, between these others: no two runs are adjacent, so each is maximal
@@ -21,4 +21,4 @@ pub record AreRuns (cs : List ℕ) (runs : List Chunk) : Type 0 where
 
 -- the bytes of a run, and those of the scalar values after it
 abbrev pub form_chunk : Chunk → Chunk
-form_chunk c = (flat_map form c.0, flat_map form c.1)
+form_chunk c = (flat_map encode c.0, flat_map encode c.1)

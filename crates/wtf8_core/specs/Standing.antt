@@ -13,22 +13,22 @@ abbrev pub StandsNowhere : List ℕ → List ℕ → Type 0
 StandsNowhere p s = (i : ℕ) → ¬ (StandsAt p s i)
 
 -- p is a prefix of s
-pub record IsFront (p s : List ℕ) : Type 0 where
+pub record IsPrefix (p s : List ℕ) : Type 0 where
   pub rest : List ℕ
   pub joined : s ≡ p ++ rest
 
 -- p is a suffix of s
-pub record IsEnd (p s : List ℕ) : Type 0 where
+pub record IsSuffix (p s : List ℕ) : Type 0 where
   pub rest : List ℕ
   pub joined : s ≡ rest ++ p
 
 -- i is the first index at which p occurs in s
-pub record IsLeastPlace (p s : List ℕ) (i : ℕ) : Type 0 where
+pub record IsFirstPlace (p s : List ℕ) (i : ℕ) : Type 0 where
   pub stands : StandsAt p s i
   pub least : (k : ℕ) → k < i → ¬ (StandsAt p s k)
 
 -- i is the last index at which p occurs in s
-pub record IsGreatestPlace (p s : List ℕ) (i : ℕ) : Type 0 where
+pub record IsLastPlace (p s : List ℕ) (i : ℕ) : Type 0 where
   pub stands : StandsAt p s i
   pub greatest : (k : ℕ) → i < k → ¬ (StandsAt p s k)
 

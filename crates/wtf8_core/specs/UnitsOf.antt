@@ -1,7 +1,7 @@
 -- The code points, the units and the lossy text of bytes as functions. `laws::functions` says which relation each of them meets.
 use Rattle.std.specs.Prelude.{ℕ, false, List, [], ◌∷◌, map, Result, Ok, Err}
 use Rattle.std.specs.List.{flat_map}
-use Rattle.wtf8_core.specs.CodePoint.{form}
+use Rattle.wtf8_core.specs.CodePoint.{encode}
 use Rattle.wtf8_core.specs.Wtf8.{units}
 use Rattle.wtf8_core.specs.Lossy.{without_surrogate}
 use Rattle.wtf8_core.specs.Reader.{items_after}
@@ -23,4 +23,4 @@ units_of bytes = units (code_points_in bytes)
 
 -- their lossy text
 abbrev pub wtf8_lossy : List ℕ → List ℕ
-wtf8_lossy bytes = flat_map form (map without_surrogate (code_points_in bytes))
+wtf8_lossy bytes = flat_map encode (map without_surrogate (code_points_in bytes))

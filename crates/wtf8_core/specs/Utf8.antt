@@ -2,7 +2,7 @@
 use Rattle.std.specs.Prelude.{◌≡◌, ◌⊎◌, ℕ, ◌+◌, ◌<◌, ◌≤◌, List, ◌++◌, length, take, drop, Option, Some, None, MatchOption, Result, MatchResult}
 use Rattle.std.specs.Char.{IsScalar}
 use Rattle.std.specs.Str.{IsValidUpTo}
-use Rattle.wtf8_core.specs.CodePoint.{form}
+use Rattle.wtf8_core.specs.CodePoint.{encode}
 use Rattle.wtf8_core.specs.Character.{WholeCharacter}
 
 -- xs is a prefix of some character's form
@@ -10,7 +10,7 @@ pub record IsFrontOfCharacter (xs : List ℕ) : Type 0 where
   pub char : ℕ
   pub scalar : IsScalar char
   pub rest : List ℕ
-  pub is : form char ≡ xs ++ rest
+  pub is : encode char ≡ xs ++ rest
 
 -- xs is a prefix of some character's form, and not the whole form
 pub record IsProperFront (xs : List ℕ) : Type 0 where

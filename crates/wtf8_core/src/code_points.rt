@@ -1,4 +1,4 @@
-//! The code points that bytes spell.
+//! The code points that bytes encode.
 ghost use Rattle.std.specs.Prelude.{◌≡◌, ℕ, suc, ◌∷◌, ◌+◌, ◌*◌, ◌<◌, ◌≤◌, ◌^◌, [], Ok, Err, drop, IfOk, IfSome, MatchOption, MatchResult};
 ghost use Rattle.wtf8_core.specs.Byte.{needed_continuations};
 ghost use Rattle.std.specs.Iterator.{YieldsFirst, item_count};
@@ -11,9 +11,9 @@ use crate::fault::EncodingError;
 use crate::surrogate::{is_high, is_low};
 use std::marker::Model;
 
-/// An iterator over the code points that bytes spell, and over the faults of the bytes.
+/// An iterator over the code points that bytes encode, and over the faults of the bytes.
 ///
-/// Bytes spell code points as in WTF-8: they are the forms of the code points, one after the other
+/// Bytes encode code points as in WTF-8: they are the forms of the code points, one after the other
 /// (RFC 3629, section 3, and for surrogates the same rule), and the form of a high surrogate is
 /// never directly followed by that of a low one. If the bytes aren't WTF-8, the first `Err` is
 /// their first fault, and the items before it are the code points before that fault. The faults are

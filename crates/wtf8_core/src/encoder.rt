@@ -9,7 +9,7 @@ use crate::fault::EncodingError;
 use crate::surrogate::pair_units;
 use std::marker::Model;
 
-/// An iterator over the 16-bit units of the code points that bytes spell, and over the faults of
+/// An iterator over the 16-bit units of the code points that bytes encode, and over the faults of
 /// the bytes.
 ///
 /// It is returned by [`encode_wide`]. After a fault the items are those of the bytes after the
@@ -35,7 +35,7 @@ impl<'a> Model for EncodeWide<'a> {
     ghost invariant = { λ it. AllByRecursion IsCodePointItem it.code_points };
 }
 
-/// Iterates over the 16-bit units of bytes: those of the code points that the bytes spell as WTF-8
+/// Iterates over the 16-bit units of bytes: those of the code points that the bytes encode as WTF-8
 /// (RFC 2781, section 2.1), and over the faults of the bytes.
 ///
 /// A code point below 10000 (hexadecimal) is one unit, any other is a pair. The items are those of
@@ -65,7 +65,7 @@ pub fn encode_wide<'a>(bytes: &'a [u8]) -> EncodeWide<'a>
 }
 
 /// The first unit of a code point, and the second one if it has two; or the fault.
-#[tactic(auto, unfolding(crate::specs::CodePoint::wide))]
+#[tactic(auto, unfolding(crate::specs::CodePoint::encode_utf16))]
 #[inline(always)]
 fn first_unit(item: Result<u32, EncodingError>) -> (Result<u16, EncodingError>, Option<u16>)
     requires { IsCodePointItem item }

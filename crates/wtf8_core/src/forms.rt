@@ -1,6 +1,6 @@
 //! Forms: the bytes of code points, written and read.
 ghost use Rattle.std.specs.Prelude.{◌≡◌, ◌++◌, ◌∷◌, ◌+◌, ◌≤◌, ◌<◌, ◌^◌, ℕ, List, take, drop, length};
-ghost use Rattle.wtf8_core.specs.CodePoint.{IsCodePoint, form};
+ghost use Rattle.wtf8_core.specs.CodePoint.{IsCodePoint, encode};
 ghost use Rattle.wtf8_core.specs.Wtf8.{IsWtf8};
 ghost use Rattle.wtf8_core.specs.FirstForm.{BeginsForm};
 ghost use Rattle.wtf8_core.specs.Decoder.{packed_bytes};
@@ -17,14 +17,14 @@ ghost use Rattle.wtf8_core.specs.Decoder.{packed_bytes};
 /// assert_eq!(rt; wtf8_core::write_form(&mut bytes, 1, 0xE9), 3);
 /// assert_eq!(rt; bytes, [0, 0xC3, 0xA9, 0, 0]);
 /// ```
-#[tactic(auto, using(crate::proofs::lemmas::forms::WrittenInPlace::writing), unfolding(crate::specs::CodePoint::form))]
+#[tactic(auto, using(crate::proofs::lemmas::forms::WrittenInPlace::writing), unfolding(crate::specs::CodePoint::encode))]
 #[inline(always)]
 pub fn write_form(bytes: &mut [u8], at: usize, code_point: u32) -> usize
     requires code_point { IsCodePoint code_point }
-    requires room { at + length (form code_point) ≤ length bytes.old }
-    ensures written { take result bytes.new ≡ take at bytes.old ++ form code_point }
+    requires room { at + length (encode code_point) ≤ length bytes.old }
+    ensures written { take result bytes.new ≡ take at bytes.old ++ encode code_point }
     ensures behind { drop result bytes.new ≡ drop result bytes.old }
-    ensures end { result ≡ at + length (form code_point) }
+    ensures end { result ≡ at + length (encode code_point) }
     ensures len { length bytes.new ≡ length bytes.old }
 {
     if code_point < 0x80 {
@@ -58,12 +58,12 @@ pub fn write_form(bytes: &mut [u8], at: usize, code_point: u32) -> usize
 /// For a text these are `chars.next()` and then `chars.as_str()`, where `chars` is `text.chars()`.
 ///
 /// ```
-/// let (code_point, rest) = wtf8_core::first_form(b"\xC3\xA9abc");
+/// let (code_point, rest) = wtf8_core::split_code_point(b"\xC3\xA9abc");
 /// assert_eq!(rt; code_point, 0xE9);
 /// assert_eq!(rt; rest, b"abc".as_slice());
 /// ```
 #[inline(always)]
-pub fn first_form(bytes: &[u8]) -> (u32, &[u8])
+pub fn split_code_point(bytes: &[u8]) -> (u32, &[u8])
     requires formed { IsWtf8 bytes.now }
     requires four { 4 ≤ length bytes.now }
     ensures { BeginsForm bytes.now result.0 result.1.now }
@@ -77,8 +77,8 @@ pub fn first_form(bytes: &[u8]) -> (u32, &[u8])
 #[inline(always)]
 fn leading(first: u8, second: u8, third: u8, fourth: u8) -> (u32, usize)
     ensures { (c : ℕ) (behind : List ℕ) → IsCodePoint c
-        → form c ++ behind ≡ first ∷ second ∷ third ∷ fourth ∷ drop 4 (form c ++ behind)
-        → (result.0 ≡ c) × (result.1 ≡ length (form c)) }
+        → encode c ++ behind ≡ first ∷ second ∷ third ∷ fourth ∷ drop 4 (encode c ++ behind)
+        → (result.0 ≡ c) × (result.1 ≡ length (encode c)) }
 {
     if first < 0x80 {
         return (u32::from(first), 1);
@@ -97,11 +97,11 @@ fn leading(first: u8, second: u8, third: u8, fourth: u8) -> (u32, usize)
 
 /// The first byte of a form, and the others packed into a number, the first of them in the lowest
 /// bits.
-#[tactic(auto, unfolding(crate::specs::CodePoint::form))]
+#[tactic(auto, unfolding(crate::specs::CodePoint::encode))]
 #[inline(always)]
 pub(crate) fn split_form(code_point: u32) -> (u8, u32)
     requires { IsCodePoint code_point }
-    ensures form { form code_point ≡ result.0 ∷ packed_bytes 3 result.1 }
+    ensures form { encode code_point ≡ result.0 ∷ packed_bytes 3 result.1 }
     ensures few { result.1 < 2 ^ 24 }
 {
     let last = 0x80 + code_point % 0x40;

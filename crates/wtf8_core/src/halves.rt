@@ -1,10 +1,10 @@
 //! Prefixes, suffixes and joins of WTF-8 by units, where half of a surrogate pair counts.
 ghost use Rattle.std.specs.Prelude.{◌≡◌, ◌∷◌, ◌++◌, ◌≤◌, ◌↔◌, ℕ, List, [], IsTrue, MatchOption};
 ghost use Rattle.wtf8_core.specs.Surrogate.{IsHigh, IsLow, IsSurrogate};
-ghost use Rattle.wtf8_core.specs.CodePoint.{form};
+ghost use Rattle.wtf8_core.specs.CodePoint.{encode};
 ghost use Rattle.wtf8_core.specs.Wtf8.{IsWtf8};
 ghost use Rattle.wtf8_core.specs.UnitsOf.{units_of};
-ghost use Rattle.wtf8_core.specs.Standing.{IsFront, IsEnd};
+ghost use Rattle.wtf8_core.specs.Standing.{IsPrefix, IsSuffix};
 ghost use Rattle.wtf8_core.specs.Join.{IsPairBetween};
 
 use crate::byte::is_continuation;
@@ -27,7 +27,7 @@ use crate::surrogate::{is_high, is_low, paired};
 pub fn starts_with(string: &[u8], front: &[u8]) -> bool
     requires string { IsWtf8 string.now }
     requires front { IsWtf8 front.now }
-    ensures { IsTrue result ↔ IsFront (units_of front.now) (units_of string.now) }
+    ensures { IsTrue result ↔ IsPrefix (units_of front.now) (units_of string.now) }
 {
     let Some((before, high)) = split_last_high(front) else {
         return string.starts_with(front);
@@ -54,7 +54,7 @@ pub fn starts_with(string: &[u8], front: &[u8]) -> bool
 pub fn ends_with(string: &[u8], end: &[u8]) -> bool
     requires string { IsWtf8 string.now }
     requires end { IsWtf8 end.now }
-    ensures { IsTrue result ↔ IsEnd (units_of end.now) (units_of string.now) }
+    ensures { IsTrue result ↔ IsSuffix (units_of end.now) (units_of string.now) }
 {
     let Some((low, behind)) = split_first_low(end) else {
         return string.ends_with(end);
@@ -90,10 +90,10 @@ pub fn pair_between(string: &[u8], more: &[u8]) -> Option<u32>
 }
 
 /// The surrogate whose form is these three bytes.
-#[tactic(auto, using(std::proofs::lemmas::Bool::Decides::nat_tests), unfolding(crate::specs::CodePoint::form))]
+#[tactic(auto, using(std::proofs::lemmas::Bool::Decides::nat_tests), unfolding(crate::specs::CodePoint::encode))]
 fn surrogate(bytes: &[u8; 3]) -> Option<u16>
-    ensures { MatchOption result ((c : ℕ) → IsSurrogate c → bytes.now ≡ form c → ⊥)
-        (λ c. IsSurrogate c × (bytes.now ≡ form c)) }
+    ensures { MatchOption result ((c : ℕ) → IsSurrogate c → bytes.now ≡ encode c → ⊥)
+        (λ c. IsSurrogate c × (bytes.now ≡ encode c)) }
 {
     let [lead, second, third] = *bytes;
     if lead == 0xED && (0xA0..=0xBF).contains(&second) && is_continuation(third) {
@@ -105,8 +105,8 @@ fn surrogate(bytes: &[u8; 3]) -> Option<u16>
 /// Splits off the surrogate with which the bytes end: the bytes before it, and the surrogate.
 fn split_last_surrogate(string: &[u8]) -> Option<(&[u8], u16)>
     ensures { MatchOption result
-        ((front : List ℕ) → (c : ℕ) → IsSurrogate c → string.now ≡ front ++ form c → ⊥)
-        (λ r. IsSurrogate r.1 × (string.now ≡ r.0.now ++ form r.1)) }
+        ((front : List ℕ) → (c : ℕ) → IsSurrogate c → string.now ≡ front ++ encode c → ⊥)
+        (λ r. IsSurrogate r.1 × (string.now ≡ r.0.now ++ encode r.1)) }
 {
     let Some((front, last)) = string.split_last_chunk::<3>() else {
         return None;
@@ -121,8 +121,8 @@ fn split_last_surrogate(string: &[u8]) -> Option<(&[u8], u16)>
 #[tactic(auto, using(std::proofs::lemmas::Bool::Decides::nat_tests))]
 fn split_last_high(string: &[u8]) -> Option<(&[u8], u16)>
     ensures { MatchOption result
-        ((front : List ℕ) → (c : ℕ) → IsHigh c → string.now ≡ front ++ form c → ⊥)
-        (λ r. IsHigh r.1 × (string.now ≡ r.0.now ++ form r.1)) }
+        ((front : List ℕ) → (c : ℕ) → IsHigh c → string.now ≡ front ++ encode c → ⊥)
+        (λ r. IsHigh r.1 × (string.now ≡ r.0.now ++ encode r.1)) }
 {
     let Some((front, c)) = split_last_surrogate(string) else {
         return None;
@@ -138,8 +138,8 @@ fn split_last_high(string: &[u8]) -> Option<(&[u8], u16)>
 #[tactic(auto, using(std::proofs::lemmas::Bool::Decides::nat_tests))]
 fn split_first_low(string: &[u8]) -> Option<(u16, &[u8])>
     ensures { MatchOption result
-        ((c : ℕ) → (rest : List ℕ) → IsLow c → string.now ≡ form c ++ rest → ⊥)
-        (λ r. IsLow r.0 × (string.now ≡ form r.0 ++ r.1.now)) }
+        ((c : ℕ) → (rest : List ℕ) → IsLow c → string.now ≡ encode c ++ rest → ⊥)
+        (λ r. IsLow r.0 × (string.now ≡ encode r.0 ++ r.1.now)) }
 {
     let Some((first, rest)) = string.split_first_chunk::<3>() else {
         return None;
@@ -157,7 +157,7 @@ fn split_first_low(string: &[u8]) -> Option<(u16, &[u8])>
 /// Whether this is the first unit of a string.
 fn begins_with_unit(string: &[u8], unit: u16) -> bool
     requires { IsWtf8 string.now }
-    ensures { IsTrue result ↔ IsFront (unit ∷ []) (units_of string.now) }
+    ensures { IsTrue result ↔ IsPrefix (unit ∷ []) (units_of string.now) }
 {
     match encode_wide(string).next() {
         None => false,
@@ -170,7 +170,7 @@ fn begins_with_unit(string: &[u8], unit: u16) -> bool
 fn last_half(string: &[u8]) -> Option<u16>
     requires { IsWtf8 string.now }
     ensures { MatchOption result
-        ((front : List ℕ) → (c : ℕ) → 0x1_0000 ≤ c → string.now ≡ front ++ form c → ⊥)
+        ((front : List ℕ) → (c : ℕ) → 0x1_0000 ≤ c → string.now ≡ front ++ encode c → ⊥)
         (λ low. (us : List ℕ) × (units_of string.now ≡ us ++ low ∷ [])) }
 {
     let Some((_, last)) = string.split_last_chunk::<4>() else {
@@ -187,7 +187,7 @@ fn last_half(string: &[u8]) -> Option<u16>
 fn ends_with_low(string: &[u8], low: u16) -> bool
     requires string { IsWtf8 string.now }
     requires low { IsLow low }
-    ensures { IsTrue result ↔ IsEnd (low ∷ []) (units_of string.now) }
+    ensures { IsTrue result ↔ IsSuffix (low ∷ []) (units_of string.now) }
 {
     if let Some((_, c)) = split_last_surrogate(string) {
         return c == low;

@@ -11,8 +11,8 @@ ghost use Rattle.std.specs.Cmp.Lexicographic.{slice_cmp};
 ghost use Rattle.std.specs.Str.{IsUtf8, IsCharBoundary};
 ghost use Rattle.std.specs.Str.Lossy.{utf8_lossy};
 ghost use Rattle.wtf8_core.specs.Byte.{IsByte};
-ghost use Rattle.wtf8_core.specs.CodePoint.{form};
-ghost use Rattle.wtf8_core.specs.Wtf8.{Spells, IsWtf8, HasUnits};
+ghost use Rattle.wtf8_core.specs.CodePoint.{encode};
+ghost use Rattle.wtf8_core.specs.Wtf8.{Encodes, IsWtf8, HasUnits};
 ghost use Rattle.wtf8_core.specs.Fault.{IsFirstFault, IsFaultAt};
 ghost use Rattle.wtf8_core.specs.Checker.{IsFaulty};
 ghost use Rattle.wtf8_core.specs.Items.{AreItems};
@@ -31,9 +31,9 @@ ghost use Rattle.wtf8_core.specs.declared.fault.EncodingError.{EncodingError};
 use crate::checker::Checker;
 use crate::fault::EncodingError;
 
-/// Bytes spell at most one list of code points (WTF-8).
+/// Bytes encode at most one list of code points (WTF-8).
 pub fn spelled_once()
-    ensures { (bytes : List ℕ) → (cs : List ℕ) → (ds : List ℕ) → Spells bytes cs → Spells bytes ds
+    ensures { (bytes : List ℕ) → (cs : List ℕ) → (ds : List ℕ) → Encodes bytes cs → Encodes bytes ds
         → cs ≡ ds }
 {}
 
@@ -90,12 +90,12 @@ pub fn spelling()
         → HasUnits bytes vs → us ≡ vs }
 {}
 
-/// The order of bytes, as lists, is the order of the code points that they spell, and so not that
+/// The order of bytes, as lists, is the order of the code points that they encode, and so not that
 /// of their units.
 #[tactic(auto, using(crate::proofs::lemmas::forms::Order::order_of_spelled))]
 pub fn order()
-    ensures { (bytes : List ℕ) → (others : List ℕ) → (cs : List ℕ) → (ds : List ℕ) → Spells bytes cs
-        → Spells others ds
+    ensures { (bytes : List ℕ) → (others : List ℕ) → (cs : List ℕ) → (ds : List ℕ)
+        → Encodes bytes cs → Encodes others ds
         → slice_cmp nat_cmp bytes others ≡ slice_cmp nat_cmp cs ds }
 {}
 
@@ -141,7 +141,7 @@ pub fn one_utf8_fault()
 /// The form of a code point is what std's `char::encode_utf8` writes (RFC 3629, section 3).
 #[tactic(auto, using(crate::proofs::lemmas::forms::ByStd::form_encode))]
 pub fn forms()
-    ensures { (c : ℕ) → form c ≡ encode_utf8 c }
+    ensures { (c : ℕ) → encode c ≡ encode_utf8 c }
 {}
 
 /// A whole character has one to four bytes and lies within its string. Whole characters don't
@@ -195,12 +195,12 @@ pub fn standing()
 {}
 
 /// A string has exactly one list of chunks. If it is WTF-8, its chunks are the bytes of the maximal
-/// runs of surrogates among the code points that it spells, each with the scalar values after it.
+/// runs of surrogates among the code points that it encodes, each with the scalar values after it.
 pub fn chunks()
     ensures some { (s : List ℕ) → (chunks : List Chunk) × AreChunks s chunks }
     ensures once { (s : List ℕ) → (chunks : List Chunk) → (others : List Chunk) → AreChunks s chunks
         → AreChunks s others → chunks ≡ others }
-    ensures runs { (s : List ℕ) → (cs : List ℕ) → (chunks : List Chunk) → Spells s cs
+    ensures runs { (s : List ℕ) → (cs : List ℕ) → (chunks : List Chunk) → Encodes s cs
         → AreChunks s chunks
         → (runs : List Chunk) × (AreRuns cs runs × (chunks ≡ map form_chunk runs)) }
 {}

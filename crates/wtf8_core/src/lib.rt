@@ -7,7 +7,7 @@
 //! can use in proofs.
 //!
 //! Terms, besides those of the standards: a *unit* is a 16-bit code unit. A *form* is the bytes of
-//! one code point; bytes *spell* code points if they are their forms, one after the other. A
+//! one code point; bytes *encode* code points if they are their forms, one after the other. A
 //! *scalar value* is a code point that isn't a surrogate, and a *whole character* is the form of
 //! one. A *text* is bytes that are UTF-8. A *high* and a *low* surrogate are WTF-8's lead and trail
 //! surrogate. A *maximal ill-formed part* is a maximal subpart of an ill-formed subsequence
@@ -44,7 +44,7 @@ pub use decoder::DecodeWide;
 pub use digits::{code_point_digits, upper_hex_digit};
 pub use encoder::{EncodeWide, encode_wide};
 pub use fault::EncodingError;
-pub use forms::{first_form, write_form};
+pub use forms::{split_code_point, write_form};
 pub use halves::{ends_with, pair_between, starts_with};
 pub use surrogate::{first_pair, pair_units};
 pub use truncated::push_truncated;

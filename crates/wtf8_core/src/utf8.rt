@@ -1,7 +1,7 @@
 //! The first fault of bytes that aren't UTF-8.
 ghost use Rattle.std.specs.Prelude.{◌≡◌, ◌≤◌, MatchOption, MatchResult, IfOk, Some, length, take};
 ghost use Rattle.std.specs.Str.{IsUtf8};
-ghost use Rattle.wtf8_core.specs.SpelledFront.{KeepsPattern};
+ghost use Rattle.wtf8_core.specs.EncodedPrefix.{KeepsPattern};
 ghost use Rattle.wtf8_core.specs.declared.scan.Encoding.TheVariants.{Utf8};
 ghost use Rattle.wtf8_core.specs.Utf8.{IsUtf8Fault};
 

@@ -2,7 +2,7 @@
 ghost use Rattle.std.specs.Prelude.{MatchOption};
 ghost use Rattle.wtf8_core.specs.Wtf8.{IsWtf8};
 ghost use Rattle.wtf8_core.specs.Fault.{IsFaultAt};
-ghost use Rattle.wtf8_core.specs.SpelledFront.{IsReadUpTo};
+ghost use Rattle.wtf8_core.specs.EncodedPrefix.{IsReadUpTo};
 
 use crate::code_points::next_item;
 use crate::scan::Encoding;
@@ -44,7 +44,7 @@ pub fn wtf8_fault(bytes: &[u8]) -> Option<(usize, usize)>
     }
     let front = front_of(bytes, Encoding::Wtf8);
     let (_, rest) = bytes.split_at(front);
-    fault_behind(bytes, is_behind_high(bytes, front), rest)
+    fault_in_rest(bytes, is_behind_high(bytes, front), rest)
 }
 
 /// How many code points are read before vectors are tried, so that a loop over faults that are
@@ -53,7 +53,7 @@ const NEAR: u32 = 32;
 
 /// The same where the bytes before `rest` have been read; `after_high` says whether they end with a
 /// high surrogate.
-fn fault_behind(bytes: &[u8], after_high: bool, rest: &[u8]) -> Option<(usize, usize)>
+fn fault_in_rest(bytes: &[u8], after_high: bool, rest: &[u8]) -> Option<(usize, usize)>
     requires { IsReadUpTo bytes.now after_high rest.now }
     ensures { MatchOption result (IsWtf8 bytes.now) (λ fault. IsFaultAt bytes.now fault.0 fault.1) }
 {

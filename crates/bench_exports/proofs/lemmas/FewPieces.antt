@@ -3,7 +3,7 @@ use Rattle.std.proofs.Common.{ℕ, ◌+◌, ◌<◌, ◌≤◌, List, ◌++◌, 
 use Rattle.std.proofs.lemmas.List.{length-append}
 use Rattle.wtf8_core.specs.Pieces.{SplitsAt, FallsInto, IsSplit, IsRSplit}
 use Rattle.wtf8_core.specs.Pieces.FallsInto.{whole, cut}
-use Rattle.wtf8_core.specs.Standing.{IsLeastPlace, IsGreatestPlace}
+use Rattle.wtf8_core.specs.Standing.{IsFirstPlace, IsLastPlace}
 
 few_pieces : (Cuts : List ℕ → List ℕ → List ℕ → Type 0) (Whole : List ℕ → Type 0) (shorter : (s piece rest : List ℕ) → Cuts s piece rest → length rest < length s)
     (s : List ℕ) (pieces : List (List ℕ)) → FallsInto Cuts Whole s pieces → length pieces ≤ length s + 1
@@ -22,7 +22,7 @@ parts_shorter Is p s front back some parts =
     (omega arith, omega arith)
 
 pub few_of_split : (p s : List ℕ) (pieces : List (List ℕ)) → 0 < length p → IsSplit p s pieces → length pieces ≤ length s + 1
-few_of_split p s pieces some = few_pieces _ _ (λ s piece rest parts. (parts_shorter IsLeastPlace p s piece rest some parts).1) s pieces
+few_of_split p s pieces some = few_pieces _ _ (λ s piece rest parts. (parts_shorter IsFirstPlace p s piece rest some parts).1) s pieces
 
 pub few_of_rsplit : (p s : List ℕ) (pieces : List (List ℕ)) → 0 < length p → IsRSplit p s pieces → length pieces ≤ length s + 1
-few_of_rsplit p s pieces some = few_pieces _ _ (λ s piece rest parts. (parts_shorter IsGreatestPlace p s rest piece some parts).0) s pieces
+few_of_rsplit p s pieces some = few_pieces _ _ (λ s piece rest parts. (parts_shorter IsLastPlace p s rest piece some parts).0) s pieces

@@ -1,5 +1,5 @@
 -- The chunks of a text.
-use Rattle.os_quote.proofs.Common.{ℕ, ◌+◌, ◌≡◌, List, [], ◌∷◌, length, refl, sym, subst, arith, append-nil, IsUtf8, IsSeam, Chunk, AreChunks, some_chunks, one_more_chunk, over_none, seam_at_start, text_covered}
+use Rattle.os_quote.proofs.Common.{ℕ, ◌+◌, ◌≡◌, List, [], ◌∷◌, length, refl, sym, subst, arith, append-nil, IsUtf8, CrossesNoCharacter, Chunk, AreChunks, some_chunks, one_more_chunk, over_none, seam_at_start, text_covered}
 use Rattle.os_str_ext.proofs.lemmas.FirstChunk.{no_chunks}
 
 -- the chunks of a text: none, or itself
@@ -16,4 +16,4 @@ text_chunks (x ∷ t) u =
     let s = x ∷ t in
     let covered = text_covered s [] s [] (sym (append-nil s)) u (seam_at_start s) in
     let z : 0 + length s ≡ length s = omega arith in
-    one_more_chunk s [] s [] [] (sym (append-nil s)) (omega arith) (over_none _ 0) covered.0 (subst (IsSeam s) z covered.1) (λ none. refl) (λ lt. absurd (omega arith)) (subst (AreChunks []) (no_chunks [] refl) (some_chunks []).1)
+    one_more_chunk s [] s [] [] (sym (append-nil s)) (omega arith) (over_none _ 0) covered.0 (subst (CrossesNoCharacter s) z covered.1) (λ none. refl) (λ lt. absurd (omega arith)) (subst (AreChunks []) (no_chunks [] refl) (some_chunks []).1)

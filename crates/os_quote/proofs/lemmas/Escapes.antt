@@ -1,5 +1,5 @@
 -- Escapes, and their strings.
-use Rattle.os_quote.proofs.Common.{◌≡◌, ⊎_elim, inl, inr, ℕ, ◌<◌, ◌^◌, Bool, List, [], ◌∷◌, ◌++◌, map, length, refl, sym, ap, ◌∙◌, arith, append_assoc, append-nil, length-append, AllByRecursion, flat_map, IsUtf8, lt-ltb, le-ltb, cases_lt, recursion_from_All, Chunk, joined, AreChunks, IsBare, some_chunks, chunks_once, form_bounds, PartLaws, chunks_of, Item, backslash, item_texts, IsItem, unit_item, chunk_items, items_of, IsEscapeBy, IsBadEscapeBy, item_bytes, IsChunkOf}
+use Rattle.os_quote.proofs.Common.{◌≡◌, ⊎_elim, inl, inr, ℕ, ◌<◌, ◌^◌, Bool, List, [], ◌∷◌, ◌++◌, map, length, refl, sym, ap, ◌∙◌, arith, append_assoc, append-nil, length-append, AllByRecursion, flat_map, IsUtf8, lt-ltb, le-ltb, cases_lt, recursion_from_All, Chunk, joined, AreChunks, HasNoCharacter, some_chunks, chunks_once, form_bounds, PartLaws, chunks_of, Item, backslash, item_texts, IsItem, unit_item, chunk_items, items_of, IsEscapeBy, IsBadEscapeBy, item_bytes, IsChunkOf}
 use Rattle.wtf8_core.specs.PartUnits.{unit_bytes}
 use Rattle.wtf8_core.proofs.lemmas.characters.AtPlaces.{character_fits}
 use Rattle.os_quote.proofs.lemmas.Items.{same_items}
@@ -79,7 +79,7 @@ module _ (shows : ℕ → Bool) (well_formed : List ℕ → Type 0) (units : Lis
 pub no_units_of_none : (well_formed : List ℕ → Type 0) (units : List ℕ → List ℕ) (part_units : List ℕ → Type 0) → PartLaws well_formed units part_units → well_formed [] → units [] ≡ []
 no_units_of_none well_formed units part_units parts w = no_units (units []) (parts.spelled [] w bare)
   where
-    bare : IsBare []
+    bare : HasNoCharacter []
     bare i j q = let f = character_fits [] i j q in omega arith
 
 module _ (shows : ℕ → Bool) (well_formed : List ℕ → Type 0) (units : List ℕ → List ℕ) (part_units : List ℕ → Type 0) (parts : PartLaws well_formed units part_units) where

@@ -1,5 +1,5 @@
 -- Escapes of strings that begin with a text of which each character is unchanged.
-use Rattle.os_quote.proofs.Common.{◌≡◌, ⊎_elim, ℕ, ◌+◌, ◌-◌, ◌<◌, Bool, true, false, List, [], ◌∷◌, ◌++◌, map, length, refl, sym, ap, ◌∙◌, subst, arith, append_assoc, append-nil, length-append, IsUtf8, chars, cases_lt, chars-append, IsCovered, IsSeam, Chunk, joined, AreChunks, AreChunksFrom, chunks_from_start, are_chunks, some_chunks, chunks_once, one_more_chunk, Covered, over_none, covered_within, covered_behind, seam_at_start, text_covered, chunks_of, Item, item_texts, unit_item, character_item, items_of, escape_of}
+use Rattle.os_quote.proofs.Common.{◌≡◌, ⊎_elim, ℕ, ◌+◌, ◌-◌, ◌<◌, Bool, true, false, List, [], ◌∷◌, ◌++◌, map, length, refl, sym, ap, ◌∙◌, subst, arith, append_assoc, append-nil, length-append, IsUtf8, chars, cases_lt, chars-append, IsCovered, CrossesNoCharacter, Chunk, joined, AreChunks, AreChunksFrom, chunks_from_start, are_chunks, some_chunks, chunks_once, one_more_chunk, Covered, over_none, covered_within, covered_behind, seam_at_start, text_covered, chunks_of, Item, item_texts, unit_item, character_item, items_of, escape_of}
 use Rattle.os_quote.proofs.lemmas.Texts.{text_items, text_escape, map-append, item_texts-append}
 
 module _ (p r : List ℕ) (u : IsUtf8 p) (some : 0 < length p) where
@@ -7,8 +7,8 @@ module _ (p r : List ℕ) (u : IsUtf8 p) (some : 0 < length p) where
   covered : Covered (p ++ r) 0 p
   covered = (text_covered (p ++ r) [] p r refl u (seam_at_start (p ++ r))).0
 
-  seam : IsSeam (p ++ r) (length p)
-  seam = let z : 0 + length p ≡ length p = omega arith in subst (IsSeam (p ++ r)) z (text_covered (p ++ r) [] p r refl u (seam_at_start (p ++ r))).1
+  seam : CrossesNoCharacter (p ++ r) (length p)
+  seam = let z : 0 + length p ≡ length p = omega arith in subst (CrossesNoCharacter (p ++ r)) z (text_covered (p ++ r) [] p r refl u (seam_at_start (p ++ r))).1
 
   -- the chunks of the string, by the part and the text of the first chunk of what follows that text
   abbrev grown : List ℕ → List ℕ → List Chunk → List Chunk

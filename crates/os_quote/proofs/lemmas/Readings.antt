@@ -1,5 +1,5 @@
 -- How far a text has been read.
-use Rattle.os_quote.proofs.Common.{◌≡◌, ⊎_elim, inl, inr, ℕ, zero, suc, Bool, ◌-◌, ◌<◌, ◌/◌, ◌%◌, List, [], ◌∷◌, ◌++◌, length, refl, sym, ap, ◌∙◌, subst, arith, append_assoc, append-nil, length-append, AllByRecursion, flat_map, IsUtf8, IsAscii, cases_lt, IsUtf8-nil, IsUtf8-append, IsUtf8-encode, IsUtf8-from_ascii, Chunk, AreChunks, form, PartLaws, upper_hex_digit, Item, Character, Backslash, ByteUnit, WideUnit, LongCharacter, backslash, wide_digits, long_digits, item_text, item_texts, IsLong, IsItem, is_any, BeginsNoToken, IsBadEscapeBy, IsEscapeBy, items_of, HasNoBackslash, IsCutAtBackslash, IsRead, item_bytes, IsChunkOf}
+use Rattle.os_quote.proofs.Common.{◌≡◌, ⊎_elim, inl, inr, ℕ, zero, suc, Bool, ◌-◌, ◌<◌, ◌/◌, ◌%◌, List, [], ◌∷◌, ◌++◌, length, refl, sym, ap, ◌∙◌, subst, arith, append_assoc, append-nil, length-append, AllByRecursion, flat_map, IsUtf8, IsAscii, cases_lt, IsUtf8-nil, IsUtf8-append, IsUtf8-encode, IsUtf8-from_ascii, Chunk, AreChunks, encode, PartLaws, upper_hex_digit, Item, Character, Backslash, ByteUnit, WideUnit, LongCharacter, backslash, wide_digits, long_digits, item_text, item_texts, IsLong, IsItem, is_any, BeginsNoToken, IsBadEscapeBy, IsEscapeBy, items_of, HasNoBackslash, IsCutAtBackslash, IsRead, item_bytes, IsChunkOf}
 use Rattle.wtf8_core.specs.Wtf8.{HasUnits}
 use Rattle.wtf8_core.proofs.lemmas.units.OneToOne.{units_once, wide_single}
 use Rattle.os_quote.proofs.lemmas.Items.{digit_low, digit_high, five_digits, six_digits, some_bytes, same_items}
@@ -141,10 +141,10 @@ read_shorter rest front behind item after k t =
     omega (arith, ap length k.joined, length-append front (backslash ∷ behind), ap length t, length-append (item_text item) after)
 
 -- the bytes of one unit
-pub unit_form : (bytes : List ℕ) (u : ℕ) → u < 0x1_0000 → HasUnits bytes (u ∷ []) → bytes ≡ form u
-unit_form bytes u lt h = units_once bytes (form u) (u ∷ []) h (record {
+pub unit_form : (bytes : List ℕ) (u : ℕ) → u < 0x1_0000 → HasUnits bytes (u ∷ []) → bytes ≡ encode u
+unit_form bytes u lt h = units_once bytes (encode u) (u ∷ []) h (record {
   code_points = u ∷ [];
-  spelled = record { code_points = (omega arith, tt); paired_free = (tt, tt); joined = sym (append-nil (form u)) };
+  spelled = record { code_points = (omega arith, tt); paired_free = (tt, tt); joined = sym (append-nil (encode u)) };
   are = ap (λ x. x ++ []) (sym (wide_single u lt));
 })
 

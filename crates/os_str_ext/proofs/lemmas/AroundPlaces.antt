@@ -1,17 +1,17 @@
 -- A list doesn't occur again before its first occurrence, nor after its last one.
 use Rattle.std.proofs.Common.{◌≡◌, ℕ, ◌<◌, List, ◌++◌, length, sym, ap, ◌∙◌, refl, arith, length-append, append_assoc}
 use Rattle.wtf8_core.specs.Pieces.{SplitsAt}
-use Rattle.wtf8_core.specs.Standing.{StandsNowhere, IsLeastPlace, IsGreatestPlace}
+use Rattle.wtf8_core.specs.Standing.{StandsNowhere, IsFirstPlace, IsLastPlace}
 
 module _ (p s front back : List ℕ) (some : 0 < length p) where
-  pub before_least : SplitsAt IsLeastPlace p s front back → StandsNowhere p front
+  pub before_least : SplitsAt IsFirstPlace p s front back → StandsNowhere p front
   before_least c i h =
       let split : s ≡ h.before ++ (p ++ (h.behind ++ (p ++ back))) =
       c.joined ∙ ap (λ x. x ++ (p ++ back)) h.joined ∙ append_assoc h.before (p ++ h.behind) (p ++ back) ∙ ap (λ x. h.before ++ x) (append_assoc p h.behind (p ++ back)) in
       let size = ap length h.joined ∙ length-append h.before (p ++ h.behind) in
       c.found.least i (omega (arith, some, size, length-append p h.behind, h.place)) (record { before = h.before; behind = h.behind ++ (p ++ back); joined = split; place = h.place })
 
-  pub after_greatest : SplitsAt IsGreatestPlace p s front back → StandsNowhere p back
+  pub after_greatest : SplitsAt IsLastPlace p s front back → StandsNowhere p back
   after_greatest c i h =
       let front_of = front ++ (p ++ h.before) in
       let split : s ≡ front_of ++ (p ++ h.behind) =

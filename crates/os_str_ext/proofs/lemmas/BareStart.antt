@@ -4,7 +4,7 @@ use Rattle.std.proofs.lemmas.Bool.{cases_lt, cases_eq}
 use Rattle.std.proofs.lemmas.List.{get_or-drop, get_or_append_left, length-take-le}
 use Rattle.std.proofs.Math.Seq.{take-length}
 use Rattle.std.specs.Str.{IsUtf8}
-use Rattle.wtf8_core.specs.CodePoint.{form}
+use Rattle.wtf8_core.specs.CodePoint.{encode}
 use Rattle.wtf8_core.specs.Character.{WholeCharacter}
 use Rattle.wtf8_core.specs.Utf8.{IsUtf8Fault, part_end}
 use Rattle.wtf8_core.proofs.lemmas.characters.FourBytes.{past_ascii}
@@ -22,8 +22,8 @@ pub no_beginning : (s : List ℕ) (a b : ℕ) → BeginsNoCharacter (get_or s a 
 no_beginning s a b n w =
     let c = w.char in
     let here : a ≡ a + 0 = omega arith in
-    let same : get_or s a 0 ≡ get_or (form c) 0 0 =
-    ap (λ i. get_or s i 0) here ∙ sym (get_or-drop a s 0 0) ∙ ap (λ l. get_or l 0 0) (begins_at s a b w) ∙ get_or_append_left (form c) w.stands.behind 0 0 (form_bounds c).0 in
+    let same : get_or s a 0 ≡ get_or (encode c) 0 0 =
+    ap (λ i. get_or s i 0) here ∙ sym (get_or-drop a s 0 0) ∙ ap (λ l. get_or l 0 0) (begins_at s a b w) ∙ get_or_append_left (encode c) w.stands.behind 0 0 (form_bounds c).0 in
     n.1 (subst First (sym same) (lead_of c w.scalar (past_ascii c (subst (λ x. 0x80 ≤ x) same n.0))))
 
 module _ (s : List ℕ) (i : ℕ) (p : IsBareUpTo s i) where

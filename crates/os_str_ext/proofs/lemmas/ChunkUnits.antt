@@ -7,7 +7,7 @@ use Rattle.std.specs.List.{All, AllByRecursion, flat_map}
 use Rattle.std.specs.Str.{IsUtf8}
 use Rattle.wtf8_core.specs.Boundary.{IsBoundary}
 use Rattle.wtf8_core.specs.Chunks.{Chunk, joined, AreChunks}
-use Rattle.wtf8_core.specs.Covered.{IsBare}
+use Rattle.wtf8_core.specs.Covered.{HasNoCharacter}
 use Rattle.wtf8_core.proofs.lemmas.characters.AtPlaces.{none_begins}
 use Rattle.wtf8_core.proofs.lemmas.forms.Cuts.{utf8_cut}
 use Rattle.wtf8_core.proofs.lemmas.texts.AreWtf8.{no_text_begins}
@@ -36,7 +36,7 @@ module _ (well_formed : List ℕ → Type 0) (units : List ℕ → List ℕ)
       ∙ sym (part_in_units well_formed units cut_front cut_units s m f.end w (record { ordered = f.ends.ordered; within = f.ends.within; start = ends.0; end = ends.1 }))
 
 -- a text without whole characters is empty
-no_bare_text : (t : List ℕ) → IsUtf8 t → IsBare t → t ≡ []
+no_bare_text : (t : List ℕ) → IsUtf8 t → HasNoCharacter t → t ≡ []
 no_bare_text [] u bare = refl
 no_bare_text (x ∷ t) u bare =
     let s = x ∷ t in

@@ -2,7 +2,7 @@
 use Rattle.std.proofs.Common.{◌≡◌, ℕ, ◌+◌, ◌-◌, ◌≤◌, List, ◌++◌, length, take, drop, refl, sym, ap, ◌∙◌, arith, take-append-drop, length-append, length-drop}
 use Rattle.std.proofs.lemmas.List.{drop-drop, take_at}
 use Rattle.std.proofs.Math.Seq.{take-length}
-use Rattle.wtf8_core.specs.Standing.{IsFront, IsEnd}
+use Rattle.wtf8_core.specs.Standing.{IsPrefix, IsSuffix}
 
 same_by_ends : (k : ℕ) (a b : List ℕ) → k ≤ length a → length a ≤ k + k → take k a ≡ take k b → drop (length a - k) a ≡ drop (length a - k) b → a ≡ b
 same_by_ends k a b low high front back =
@@ -40,14 +40,14 @@ module _ (k : ℕ) (read : List ℕ → ℕ) (write : ℕ → List ℕ) (a b : L
   )
 
 -- a prefix is what `take` gives and fits in the list; a suffix is what `drop` leaves
-pub front_from_take : (p s : List ℕ) → take (length p) s ≡ p → IsFront p s
+pub front_from_take : (p s : List ℕ) → take (length p) s ≡ p → IsPrefix p s
 front_from_take p s e = record { rest = drop (length p) s; joined = sym (take-append-drop (length p) s) ∙ ap (λ x. x ++ drop (length p) s) e }
 
-pub take_from_front : (p s : List ℕ) → IsFront p s → take (length p) s ≡ p
+pub take_from_front : (p s : List ℕ) → IsPrefix p s → take (length p) s ≡ p
 take_from_front p s h = ap (take (length p)) h.joined ∙ take_at p h.rest (length p) refl
 
-pub front_fits : (p s : List ℕ) → IsFront p s → length p ≤ length s
+pub front_fits : (p s : List ℕ) → IsPrefix p s → length p ≤ length s
 front_fits p s h = let size : length s ≡ length p + length h.rest = ap length h.joined ∙ length-append p h.rest in omega arith
 
-pub end_from_drop : (p s : List ℕ) → drop (length s - length p) s ≡ p → IsEnd p s
+pub end_from_drop : (p s : List ℕ) → drop (length s - length p) s ≡ p → IsSuffix p s
 end_from_drop p s e = record { rest = take (length s - length p) s; joined = sym (take-append-drop (length s - length p) s) ∙ ap (λ x. take (length s - length p) s ++ x) e }

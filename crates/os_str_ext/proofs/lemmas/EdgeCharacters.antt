@@ -6,7 +6,7 @@ use Rattle.std.proofs.lemmas.List.{nil_from_length, take_at}
 use Rattle.std.proofs.lemmas.Str.{IsUtf8-encode, encode_same}
 use Rattle.wtf8_core.specs.Boundary.{IsBoundary}
 use Rattle.wtf8_core.specs.Character.{WholeCharacter}
-use Rattle.wtf8_core.specs.CodePoint.{form}
+use Rattle.wtf8_core.specs.CodePoint.{encode}
 use Rattle.wtf8_core.proofs.lemmas.characters.AtPlaces.{begins_at, character_fits}
 use Rattle.wtf8_core.proofs.lemmas.forms.Shapes.{form_bounds}
 use Rattle.wtf8_core.proofs.lemmas.forms.ByStd.{form_encode}
@@ -34,7 +34,7 @@ module _ (s : List ℕ) (n : ℕ) (w : WholeCharacter s 0 (0 + n)) where
   first_edge = let z : 0 + n ≡ n = omega arith in record { is = inr (inr (inr (0, subst (WholeCharacter s 0) z w))) }
 
   pub first_one : IsOneCharacter (take n s)
-  first_one = record { char = w.char; scalar = w.scalar; is = ap (take n) (begins_at s 0 (0 + n) w) ∙ take_at (form w.char) w.stands.behind n (omega (arith, w.end)) }
+  first_one = record { char = w.char; scalar = w.scalar; is = ap (take n) (begins_at s 0 (0 + n) w) ∙ take_at (encode w.char) w.stands.behind n (omega (arith, w.end)) }
 
 -- a character at the end
 module _ (s : List ℕ) (i : ℕ) (w : WholeCharacter s i (length s)) where
@@ -43,7 +43,7 @@ module _ (s : List ℕ) (i : ℕ) (w : WholeCharacter s i (length s)) where
 
   pub last_one : IsOneCharacter (drop i s)
   last_one =
-      let f = form w.char in
+      let f = encode w.char in
       let begins = begins_at s i (length s) w in
       let size : length (drop i s) ≡ length f + length w.stands.behind = ap length begins ∙ length-append f w.stands.behind in
       let none = nil_from_length w.stands.behind (omega (arith, size, length-drop i s, w.end, character_fits s i (length s) w)) in

@@ -7,10 +7,10 @@ use Rattle.std.proofs.Math.Seq.{take-add, take-append_seam}
 use Rattle.std.specs.Str.{IsUtf8, IsValidUpTo}
 use Rattle.wtf8_core.specs.Boundary.{IsBoundary}
 use Rattle.wtf8_core.specs.Character.{WholeCharacter}
-use Rattle.wtf8_core.specs.Covered.{IsCovered, IsSeam, IsBare}
+use Rattle.wtf8_core.specs.Covered.{IsCovered, CrossesNoCharacter, HasNoCharacter}
 use Rattle.wtf8_core.specs.Chunks.{Chunk}
 use Rattle.wtf8_core.specs.Standing.{StandsAt}
-use Rattle.wtf8_core.specs.CodePoint.{form}
+use Rattle.wtf8_core.specs.CodePoint.{encode}
 use Rattle.wtf8_core.proofs.lemmas.characters.AtPlaces.{character_fits, begins_at}
 use Rattle.wtf8_core.proofs.lemmas.forms.ByStd.{form_encode}
 use Rattle.wtf8_core.proofs.lemmas.chunks.OneList.{some_chunks, chunks_once, one_more_chunk}
@@ -36,8 +36,8 @@ module _ (s : List ℕ) (m e : ℕ) (ordered : m ≤ e) (within : e ≤ length s
   bare_in_front h k low high = h k (omega (arith, front_size))
 
   -- the bytes of a text after those lie in whole characters
-  text_in_rest : ((k : ℕ) → k < m → ¬ (IsCovered s k)) → IsUtf8 (drop m (take e s)) → IsSeam s e
-  text_in_rest h u = subst (IsSeam s) text_size (text_covered s (take m s) (drop m (take e s)) (drop e s) (cut_twice s m e ordered) u (seam_behind_bare s (take m s) (bare_in_front h))).1
+  text_in_rest : ((k : ℕ) → k < m → ¬ (IsCovered s k)) → IsUtf8 (drop m (take e s)) → CrossesNoCharacter s e
+  text_in_rest h u = subst (CrossesNoCharacter s) text_size (text_covered s (take m s) (drop m (take e s)) (drop e s) (cut_twice s m e ordered) u (seam_behind_bare s (take m s) (bare_in_front h))).1
 
 -- one more character of a text
 pub text_grows : (s : List ℕ) (i j k : ℕ) → i ≤ j → IsUtf8 (drop i (take j s)) → WholeCharacter s j k → IsUtf8 (drop i (take k s))
@@ -45,10 +45,10 @@ text_grows s i j k le u w =
     let f = character_fits s j k w in
     let end = w.end in
     let short : length (take j s) ≡ j = length-take-le j s (omega arith) in
-    let n = length (form w.char) in
-    let split : take k s ≡ take j s ++ form w.char =
-    ap (λ m. take m s) end ∙ take-add j n s ∙ ap (λ x. take j s ++ take n x) (begins_at s j k w) ∙ ap (λ x. take j s ++ x) (take-append_seam (form w.char) w.stands.behind) in
-    subst IsUtf8 (sym (ap (drop i) split ∙ drop-append-le i (take j s) (form w.char) (omega arith))) (IsUtf8-append _ _ u (subst IsUtf8 (sym (form_encode w.char)) (IsUtf8-encode w.char w.scalar)))
+    let n = length (encode w.char) in
+    let split : take k s ≡ take j s ++ encode w.char =
+    ap (λ m. take m s) end ∙ take-add j n s ∙ ap (λ x. take j s ++ take n x) (begins_at s j k w) ∙ ap (λ x. take j s ++ x) (take-append_seam (encode w.char) w.stands.behind) in
+    subst IsUtf8 (sym (ap (drop i) split ∙ drop-append-le i (take j s) (encode w.char) (omega arith))) (IsUtf8-append _ _ u (subst IsUtf8 (sym (form_encode w.char)) (IsUtf8-encode w.char w.scalar)))
 
 -- no bytes are a text
 empty_text : (s : List ℕ) (m : ℕ) → m ≤ length s → IsUtf8 (drop m (take m s))
@@ -96,7 +96,7 @@ module _ (s : List ℕ) (m e : ℕ) (h : IsFirstChunk s m e) where
       (λ end. let p : m ≡ length s = omega arith in let q : e ≡ length s = omega arith in (record { is = inr (inl p) }, record { is = inr (inl q) })) (cases_lt m (length s))) (cases_lt m e)
 
   -- the part has no whole character
-  pub part_is_bare : IsBare (take m s)
+  pub part_is_bare : HasNoCharacter (take m s)
   part_is_bare i j w =
       let f = character_fits (take m s) i j w in
       let size = front_size s m e h.ordered h.within in
@@ -120,7 +120,7 @@ module _ (s : List ℕ) (m e : ℕ) (h : IsFirstChunk s m e) where
       let b = front_size s m e h.ordered h.within in
       drop_all e s (⊎_elim (λ lt. absurd (let c = h.some lt in omega arith)) (λ ge. omega arith) (cases_lt m (length s))) in
       chunks_once s (chunks_of s) ((p, t) ∷ chunks_of r) (some_chunks s).1
-      (one_more_chunk s p t r (chunks_of r) (cut_twice s m e h.ordered) some bare text.0 (subst (IsSeam s) (sym size) (text_in_rest s m e h.ordered h.within h.bare h.text)) last (λ lt. subst (λ n. ¬ (IsCovered s n)) (sym size) (h.ended (omega (arith, length-drop e s)))) (some_chunks r).1)
+      (one_more_chunk s p t r (chunks_of r) (cut_twice s m e h.ordered) some bare text.0 (subst (CrossesNoCharacter s) (sym size) (text_in_rest s m e h.ordered h.within h.bare h.text)) last (λ lt. subst (λ n. ¬ (IsCovered s n)) (sym size) (h.ended (omega (arith, length-drop e s)))) (some_chunks r).1)
 
 -- chunks of equal bytes
 pub same_first : {p q t u r v : List ℕ} → p ≡ q → t ≡ u → r ≡ v → (p, t) ∷ chunks_of r ≡ (q, u) ∷ chunks_of v

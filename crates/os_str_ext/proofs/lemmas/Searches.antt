@@ -6,7 +6,7 @@ use Rattle.std.proofs.lemmas.Bool.{cases_eq, false≢true}
 use Rattle.std.specs.Option.{is_some, IfSome}
 use Rattle.std.specs.Str.{IsUtf8}
 use Rattle.memchr.specs.Find.{OccursAt, FindsNeedle, FindsLastNeedle}
-use Rattle.wtf8_core.specs.Standing.{StandsAt, Finds, IsLeastPlace, IsGreatestPlace, IsFront, IsEnd}
+use Rattle.wtf8_core.specs.Standing.{StandsAt, Finds, IsFirstPlace, IsLastPlace, IsPrefix, IsSuffix}
 use Rattle.wtf8_core.specs.Boundary.{IsBoundary}
 use Rattle.wtf8_core.specs.Pieces.{StandsSomewhere, SplitsAt, MayBeCutAround}
 
@@ -34,14 +34,14 @@ module _ (s p : List ℕ) where
       record { fits = omega arith; reads = at_reads 0 s p i h.behind rest }
 
   -- so the first index that is found is the least one, and the last the greatest
-  pub least_place_of_needle : (r : Option ℕ) → FindsNeedle s p 0 r → Finds IsLeastPlace p s r
+  pub least_place_of_needle : (r : Option ℕ) → FindsNeedle s p 0 r → Finds IsFirstPlace p s r
   least_place_of_needle None f = λ i h. let o = occurs_where_it_stands i h in let fits = o.fits in f i (omega arith) (omega arith) o
   least_place_of_needle (Some i) f = record {
     stands = stands_where_it_occurs i f.1;
     least = λ k lt h. f.0.before k (omega arith) lt (occurs_where_it_stands k h);
   }
 
-  pub greatest_place_of_needle : (r : Option ℕ) → FindsLastNeedle s p r → Finds IsGreatestPlace p s r
+  pub greatest_place_of_needle : (r : Option ℕ) → FindsLastNeedle s p r → Finds IsLastPlace p s r
   greatest_place_of_needle None f = λ i h. let o = occurs_where_it_stands i h in let fits = o.fits in f i (omega arith) (omega arith) o
   greatest_place_of_needle (Some i) f = record {
     stands = stands_where_it_occurs i f.1;
@@ -53,11 +53,11 @@ pub stands_within : (p s : List ℕ) (i : ℕ) → StandsAt p s i → i + length
 stands_within p s i h = (occurs_where_it_stands s p i h).fits
 
 -- so what is found ends below any bound of the length
-pub below_least : (n : ℕ) (p s : List ℕ) (r : Option ℕ) → length s < n → Finds IsLeastPlace p s r → IfSome r (λ i. i + length p < n)
+pub below_least : (n : ℕ) (p s : List ℕ) (r : Option ℕ) → length s < n → Finds IsFirstPlace p s r → IfSome r (λ i. i + length p < n)
 below_least n p s None low h = tt
 below_least n p s (Some i) low h = let fits = stands_within p s i h.stands in omega arith
 
-pub below_greatest : (n : ℕ) (p s : List ℕ) (r : Option ℕ) → length s < n → Finds IsGreatestPlace p s r → IfSome r (λ i. i + length p < n)
+pub below_greatest : (n : ℕ) (p s : List ℕ) (r : Option ℕ) → length s < n → Finds IsLastPlace p s r → IfSome r (λ i. i + length p < n)
 below_greatest n p s None low h = tt
 below_greatest n p s (Some i) low h = let fits = stands_within p s i h.stands in omega arith
 
@@ -72,16 +72,16 @@ module _ (s p : List ℕ) where
         place = length-take-le i s le;
       })
 
-  empty_first : (i : ℕ) → length p ≡ 0 → IsLeastPlace p s i → i ≡ 0
+  empty_first : (i : ℕ) → length p ≡ 0 → IsFirstPlace p s i → i ≡ 0
   empty_first i none h = ⊎_elim (λ e. e) (λ ne. absurd (h.least 0 (omega arith) (empty_stands 0 none (omega arith)))) (cases_eq i 0)
 
-  empty_last : (i : ℕ) → length p ≡ 0 → IsGreatestPlace p s i → i ≡ length s
+  empty_last : (i : ℕ) → length p ≡ 0 → IsLastPlace p s i → i ≡ length s
   empty_last i none h =
       let fits = stands_within p s i h.stands in
       ⊎_elim (λ e. e) (λ ne. absurd (h.greatest (length s) (omega arith) (empty_stands (length s) none (omega arith)))) (cases_eq i (length s))
 
   -- a string may be cut before and after what a search finds
-  pub cut_around_least : EdgesOfTexts → IsUtf8 p → (r : Option ℕ) → Finds IsLeastPlace p s r → MayBeCutAround s (length p) r
+  pub cut_around_least : EdgesOfTexts → IsUtf8 p → (r : Option ℕ) → Finds IsFirstPlace p s r → MayBeCutAround s (length p) r
   cut_around_least edges u None h = tt
   cut_around_least edges u (Some i) h =
       ⊎_elim
@@ -89,7 +89,7 @@ module _ (s p : List ℕ) where
       (λ some. edges p s i u (omega arith) h.stands)
       (cases_eq (length p) 0)
 
-  pub cut_around_greatest : EdgesOfTexts → IsUtf8 p → (r : Option ℕ) → Finds IsGreatestPlace p s r → MayBeCutAround s (length p) r
+  pub cut_around_greatest : EdgesOfTexts → IsUtf8 p → (r : Option ℕ) → Finds IsLastPlace p s r → MayBeCutAround s (length p) r
   cut_around_greatest edges u None h = tt
   cut_around_greatest edges u (Some i) h =
       ⊎_elim
@@ -98,20 +98,20 @@ module _ (s p : List ℕ) where
       (cases_eq (length p) 0)
 
 -- a prefix occurs at the start, and a suffix at the last index at which there is room for it
-front_stands : (p s : List ℕ) → IsFront p s → StandsAt p s 0
+front_stands : (p s : List ℕ) → IsPrefix p s → StandsAt p s 0
 front_stands p s h = record { before = []; behind = h.rest; joined = h.joined; place = refl }
 
-end_stands : (p s : List ℕ) → IsEnd p s → StandsAt p s (length s - length p)
+end_stands : (p s : List ℕ) → IsSuffix p s → StandsAt p s (length s - length p)
 end_stands p s h =
     let size : length s ≡ length h.rest + length p = ap length h.joined ∙ length-append h.rest p in
     record { before = h.rest; behind = []; joined = h.joined ∙ ap (λ q. h.rest ++ q) (sym (append-nil p)); place = omega arith }
 
 -- a string may be cut after a text at its start, and before one at its end
-pub cut_behind_front : EdgesOfTexts → (p s : List ℕ) → IsUtf8 p → IsFront p s → IsBoundary s (length p)
+pub cut_behind_front : EdgesOfTexts → (p s : List ℕ) → IsUtf8 p → IsPrefix p s → IsBoundary s (length p)
 cut_behind_front edges p s u h =
     ⊎_elim (λ none. record { is = inl none }) (λ some. subst (λ n. IsBoundary s n) (omega arith) (edges p s 0 u (omega arith) (front_stands p s h)).1) (cases_eq (length p) 0)
 
-pub cut_before_end : EdgesOfTexts → (p s : List ℕ) → IsUtf8 p → IsEnd p s → IsBoundary s (length s - length p)
+pub cut_before_end : EdgesOfTexts → (p s : List ℕ) → IsUtf8 p → IsSuffix p s → IsBoundary s (length s - length p)
 cut_before_end edges p s u h =
     ⊎_elim (λ none. record { is = inr (inl (omega arith)) }) (λ some. (edges p s (length s - length p) u (omega arith) (end_stands p s h)).0) (cases_eq (length p) 0)
 
@@ -127,6 +127,6 @@ parts_around Is p s front back i found h f b =
     }
 
 -- a pattern occurs in a string exactly if a search finds it
-pub found_somewhere : (p s : List ℕ) (r : Option ℕ) → Finds IsLeastPlace p s r → (is_some r ≡ true → StandsSomewhere p s) × (StandsSomewhere p s → is_some r ≡ true)
+pub found_somewhere : (p s : List ℕ) (r : Option ℕ) → Finds IsFirstPlace p s r → (is_some r ≡ true → StandsSomewhere p s) × (StandsSomewhere p s → is_some r ≡ true)
 found_somewhere p s None h = (λ e. absurd (false≢true e), λ w. absurd (h w.0 w.1))
 found_somewhere p s (Some i) h = (λ e. (i, h.stands), λ w. refl)

@@ -6,7 +6,7 @@ use Rattle.std.specs.List.{AllByRecursion, flat_map}
 use Rattle.std.specs.Str.{IsUtf8, chars, encode_utf8_all}
 use Rattle.wtf8_core.specs.Boundary.{IsBoundary}
 use Rattle.wtf8_core.specs.Chunks.{Chunk, joined}
-use Rattle.wtf8_core.specs.Covered.{IsBare}
+use Rattle.wtf8_core.specs.Covered.{HasNoCharacter}
 use Rattle.wtf8_core.specs.PartUnits.{unit_bytes}
 use Rattle.wtf8_core.proofs.lemmas.chunks.OneList.{some_chunks, chunks_once}
 use Rattle.os_str_ext.specs.Chunks.{chunks_of, IsChunkOf}
@@ -33,7 +33,7 @@ module _ (units : List ℕ → List ℕ) where
   pub symbols_once : (s : List ℕ) (xs ys : List Symbol) → AreSymbols units s xs → AreSymbols units s ys → xs ≡ ys
   symbols_once s xs ys h k = h.are ∙ ap (chunks_symbols units) (chunks_once s h.chunks k.chunks h.are_chunks k.are_chunks) ∙ sym k.are
 
-  module _ (well_formed : List ℕ → Type 0) (spelled : (b : List ℕ) → well_formed b → IsBare b → b ≡ flat_map unit_bytes (units b)) where
+  module _ (well_formed : List ℕ → Type 0) (spelled : (b : List ℕ) → well_formed b → HasNoCharacter b → b ≡ flat_map unit_bytes (units b)) where
     chunk_bytes : (c : Chunk) → IsChunkOf well_formed c → flat_map symbol_bytes (chunk_symbols units c) ≡ c.0 ++ c.1
     chunk_bytes c h =
         flat_map-append symbol_bytes (map unit_symbol (units c.0)) (map Character (chars c.1))

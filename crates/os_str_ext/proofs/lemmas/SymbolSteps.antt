@@ -6,8 +6,8 @@ use Rattle.std.proofs.lemmas.Str.{IsUtf8-nil, IsUtf8-past_char, encode_same, cha
 use Rattle.std.specs.Char.{IsScalar, encode_utf8}
 use Rattle.std.specs.Str.{IsUtf8, chars, encode_utf8_all}
 use Rattle.wtf8_core.specs.Character.{WholeCharacter}
-use Rattle.wtf8_core.specs.CodePoint.{form}
-use Rattle.wtf8_core.specs.Covered.{IsCovered, StartsBare}
+use Rattle.wtf8_core.specs.CodePoint.{encode}
+use Rattle.wtf8_core.specs.Covered.{IsCovered, StartsWithNoCharacter}
 use Rattle.wtf8_core.specs.StandingLaws.{StandingLaws}
 use Rattle.wtf8_core.proofs.lemmas.characters.AtPlaces.{character_fits, whole_at}
 use Rattle.wtf8_core.proofs.lemmas.characters.Seams.{covered_within, whole_within}
@@ -84,7 +84,7 @@ part_before_character s i j bare w =
     (t.0, first_of_parts s i t.0 bare.bare (λ _. some) t.1.ordered t.1.within t.1.text t.1.ended)
 
 -- the first byte is in a part, and then the next one if no character starts there
-pub bare_first : (s : List ℕ) → 0 < length s → StartsBare s → IsBareUpTo s 1
+pub bare_first : (s : List ℕ) → 0 < length s → StartsWithNoCharacter s → IsBareUpTo s 1
 bare_first s some bare = record { within = omega (arith, some); bare = λ k j low w. let z : k ≡ 0 = omega (arith, low) in bare j (subst (λ x. WholeCharacter s x j) z w) }
 
 pub bare_next : (s : List ℕ) (i : ℕ) → IsBareUpTo s i → i < length s → ((j : ℕ) → ¬ (WholeCharacter s i j)) → IsBareUpTo s (i + 1)
@@ -138,11 +138,11 @@ record BeginsText (s rest : List ℕ) (c k : ℕ) : Type 0 where
 
 -- after the first character
 module _ (s rest : List ℕ) (c : ℕ) (scalar : IsScalar c) (is : s ≡ encode_utf8 c ++ rest) where
-  starts : WholeCharacter s 0 (0 + length (form c))
+  starts : WholeCharacter s 0 (0 + length (encode c))
   starts = whole_at s 0 c rest (omega arith) scalar (is ∙ ap (λ f. f ++ rest) (sym (form_encode c)))
 
   some : 0 < length s
-  some = let f = character_fits s 0 (0 + length (form c)) starts in omega (arith, f)
+  some = let f = character_fits s 0 (0 + length (encode c)) starts in omega (arith, f)
 
   begins_text : (k : ℕ) → 0 < k → k ≤ length s → IsUtf8 (take k s) → BeginsText s rest c k
   begins_text k lt within u = by_chars u.0 u.1.1
@@ -176,13 +176,13 @@ module _ (s rest : List ℕ) (c : ℕ) (scalar : IsScalar c) (is : s ≡ encode_
   known_behind_character after_text part known = record {
     text = text_left after_text known.text;
     part_is = λ lt.
-        let f = character_fits s 0 (0 + length (form c)) starts in
-        absurd ((known.part_is lt).1.bare 0 lt (record { start = 0; end = 0 + length (form c); whole = starts; from = omega arith; below = omega (arith, f) }));
+        let f = character_fits s 0 (0 + length (encode c)) starts in
+        absurd ((known.part_is lt).1.bare 0 lt (record { start = 0; end = 0 + length (encode c); whole = starts; from = omega arith; below = omega (arith, f) }));
   }
 
   pub symbols_by_character : (units : List ℕ → List ℕ) → units [] ≡ [] → symbols_of units s ≡ Character c ∷ symbols_of units rest
   symbols_by_character units none =
-      let chunk = part_before_character s 0 (0 + length (form c)) (record { within = omega arith; bare = λ k j lt w. absurd (omega (arith, lt)) }) starts in
+      let chunk = part_before_character s 0 (0 + length (encode c)) (record { within = omega arith; bare = λ k j lt w. absurd (omega (arith, lt)) }) starts in
       let e = chunk.0 in
       let h = chunk.1 in
       let b = begins_text e (h.some some) h.within h.text in

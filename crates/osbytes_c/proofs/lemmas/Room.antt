@@ -3,7 +3,7 @@ use Rattle.std.proofs.Common.{◌≡◌, ℕ, ◌+◌, ◌*◌, ◌<◌, ◌≤�
 use Rattle.std.proofs.lemmas.Bool.Decides.{nat_tests}
 use Rattle.std.proofs.lemmas.List.{length-append, length-map, append-nil}
 use Rattle.std.specs.List.{flat_map}
-use Rattle.wtf8_core.specs.CodePoint.{form, wide}
+use Rattle.wtf8_core.specs.CodePoint.{encode, encode_utf16}
 use Rattle.wtf8_core.specs.Wtf8.{units, HasUnits}
 use Rattle.wtf8_core.specs.Items.{AreItems, AreUnitItems, unit_items}
 use Rattle.wtf8_core.specs.Items.AreItems.{Whole, Faulty}
@@ -12,15 +12,15 @@ use Rattle.wtf8_core.proofs.lemmas.reader.FirstErr.{oks}
 use Rattle.wtf8_core.proofs.lemmas.reader.Sound.{refused_some}
 
 -- a code point has no more units than bytes
-few_units : (c : ℕ) → length (wide c) ≤ length (form c)
-unfolding wide form
+few_units : (c : ℕ) → length (encode_utf16 c) ≤ length (encode c)
+unfolding encode_utf16 encode
 few_units c = grind (arith, nat_tests)
 
-units_fit : (cs : List ℕ) → length (units cs) ≤ length (flat_map form cs)
+units_fit : (cs : List ℕ) → length (units cs) ≤ length (flat_map encode cs)
 units_fit [] = omega arith
 units_fit (c ∷ cs) =
-    let u = length-append (wide c) (units cs) in
-    let b = length-append (form c) (flat_map form cs) in
+    let u = length-append (encode_utf16 c) (units cs) in
+    let b = length-append (encode c) (flat_map encode cs) in
     let first = few_units c in
     let rest = units_fit cs in
     omega arith
@@ -32,10 +32,10 @@ units_of_oks : (cs : List ℕ) (rest : List (Result ℕ EncodingError))
     → length (flat_map unit_items (oks cs ++ rest)) ≡ length (units cs) + length (flat_map unit_items rest)
 units_of_oks [] rest = omega arith
 units_of_oks (c ∷ cs) rest =
-    let all : length (flat_map unit_items (oks (c ∷ cs) ++ rest)) ≡ length (oks (wide c)) + length (flat_map unit_items (oks cs ++ rest)) =
-    length-append (oks (wide c)) (flat_map unit_items (oks cs ++ rest)) in
-    let both : length (units (c ∷ cs)) ≡ length (wide c) + length (units cs) = length-append (wide c) (units cs) in
-    let first = oks_length (wide c) in
+    let all : length (flat_map unit_items (oks (c ∷ cs) ++ rest)) ≡ length (oks (encode_utf16 c)) + length (flat_map unit_items (oks cs ++ rest)) =
+    length-append (oks (encode_utf16 c)) (flat_map unit_items (oks cs ++ rest)) in
+    let both : length (units (c ∷ cs)) ≡ length (encode_utf16 c) + length (units cs) = length-append (encode_utf16 c) (units cs) in
+    let first = oks_length (encode_utf16 c) in
     let others = units_of_oks cs rest in
     omega arith
 
@@ -66,15 +66,15 @@ unit_fits bytes us item rest all =
     omega arith
 
 -- a code point has at most three bytes for each of its units
-few_bytes : (c : ℕ) → length (form c) ≤ 3 * length (wide c)
-unfolding wide form
+few_bytes : (c : ℕ) → length (encode c) ≤ 3 * length (encode_utf16 c)
+unfolding encode_utf16 encode
 few_bytes c = grind (arith, nat_tests)
 
-forms_fit : (cs : List ℕ) → length (flat_map form cs) ≤ 3 * length (units cs)
+forms_fit : (cs : List ℕ) → length (flat_map encode cs) ≤ 3 * length (units cs)
 forms_fit [] = omega arith
 forms_fit (c ∷ cs) =
-    let u = length-append (wide c) (units cs) in
-    let b = length-append (form c) (flat_map form cs) in
+    let u = length-append (encode_utf16 c) (units cs) in
+    let b = length-append (encode c) (flat_map encode cs) in
     let first = few_bytes c in
     let rest = forms_fit cs in
     omega arith

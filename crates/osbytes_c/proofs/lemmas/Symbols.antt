@@ -7,7 +7,7 @@ use Rattle.std.specs.Char.{IsScalar, encode_utf8}
 use Rattle.std.specs.Str.{IsUtf8}
 use Rattle.wtf8_core.specs.Character.{WholeCharacter}
 use Rattle.wtf8_core.specs.Chunks.{Chunk, AreChunks}
-use Rattle.wtf8_core.specs.Covered.{StartsBare}
+use Rattle.wtf8_core.specs.Covered.{StartsWithNoCharacter}
 use Rattle.wtf8_core.specs.UnitsOf.{units_of}
 use Rattle.wtf8_core.specs.Wtf8.{IsWtf8}
 use Rattle.wtf8_core.proofs.lemmas.characters.Seams.{text_covered, seam_at_start, whole_within}
@@ -61,7 +61,7 @@ module _ (c : ℕ) (s rest : List ℕ) (scalar : IsScalar c) (starts : s ≡ enc
   by_character units none = symbols_by_character s rest c scalar starts units none
 
 -- bytes that begin with no whole character have a part
-module _ (s : List ℕ) (some : 0 < length s) (bare : StartsBare s) where
+module _ (s : List ℕ) (some : 0 < length s) (bare : StartsWithNoCharacter s) where
   some_part : (m e : ℕ) → IsFirstChunk s m e → 0 < m
   some_part m e h =
       ⊎_elim (λ lt. lt) (λ ge.
@@ -132,7 +132,7 @@ unix_unit [] some m pos = absurd (omega (arith, some))
 unix_unit (x ∷ t) some zero pos = absurd (omega (arith, pos))
 unix_unit (x ∷ t) some (suc m) pos = record { some = omega arith; within = omega arith; behind = tt; units_are = refl }
 
-pub byte_first : (s : List ℕ) (step : Step) → 0 < length s → StartsBare s → (step.kind ≡ 2) × (step.value ≡ slice_index_or s 0 0) → step.end ≡ 1 → IsFirstOf 0 s step
+pub byte_first : (s : List ℕ) (step : Step) → 0 < length s → StartsWithNoCharacter s → (step.kind ≡ 2) × (step.value ≡ slice_index_or s 0 0) → step.end ≡ 1 → IsFirstOf 0 s step
 byte_first s step some bare is end =
     first_step 0 s (unit_symbol (slice_index_or s 0 0)) step is
     (by_unit s some bare (λ _. Unit {0}) itself refl (slice_index_or s 0 0) 1 (λ m e h pos. unix_unit s some m pos) ∙ ap (λ k. unit_symbol (slice_index_or s 0 0) ∷ symbols_of itself (drop k s)) (sym end))
@@ -155,7 +155,7 @@ surrogate_unit s u w front m e h pos =
     sym f.first ∙ ap units_of (sym (take-append-drop 3 part)) ∙ both.1 ∙ ap (λ x. x ++ units_of (drop 3 part)) (ap units_of same ∙ front.units_are) in
     record { some = omega arith; within = short; behind = f.rest; units_are = f.first ∙ units }
 
-pub surrogate_first : (s : List ℕ) (u : ℕ) (step : Step) → 0 < length s → StartsBare s → IsSurrogateFront s u → (step.kind ≡ 2) × (step.value ≡ u) → step.end ≡ 3 → IsWtf8 s → IsFirstOf 1 s step
+pub surrogate_first : (s : List ℕ) (u : ℕ) (step : Step) → 0 < length s → StartsWithNoCharacter s → IsSurrogateFront s u → (step.kind ≡ 2) × (step.value ≡ u) → step.end ≡ 3 → IsWtf8 s → IsFirstOf 1 s step
 surrogate_first s u step some bare front is end w =
     let formed = (first_unit s w some bare).1.rest in
     first_step 1 s (unit_symbol u) step is
@@ -178,15 +178,15 @@ step_from p s at step le h =
     }
 
 -- the first three bytes of WTF-8 that begins with no whole character
-pub front_bare : (s : List ℕ) → StartsBare s → StartsBare (take 3 s)
+pub front_bare : (s : List ℕ) → StartsWithNoCharacter s → StartsWithNoCharacter (take 3 s)
 front_bare s bare j w =
     let z : 0 + j ≡ j = omega arith in
     bare j (subst (WholeCharacter s 0) z (whole_within s [] (take 3 s) (drop 3 s) 0 j (sym (take-append-drop 3 s)) w))
 
-pub front_within : (s : List ℕ) → 0 < length s → StartsBare s → IsWtf8 s → 3 ≤ length s
+pub front_within : (s : List ℕ) → 0 < length s → StartsWithNoCharacter s → IsWtf8 s → 3 ≤ length s
 front_within s some bare w = (first_unit s w some bare).1.within
 
-pub front_formed : (s : List ℕ) → 0 < length s → StartsBare s → IsWtf8 s → IsWtf8 (take 3 s)
+pub front_formed : (s : List ℕ) → 0 < length s → StartsWithNoCharacter s → IsWtf8 s → IsWtf8 (take 3 s)
 front_formed s some bare w =
     wtf8_standing.ends (take 3 s) (drop 3 s) (first_unit s w some bare).1.rest (subst IsWtf8 (sym (take-append-drop 3 s)) w)
 
@@ -196,7 +196,7 @@ front_units s u le first =
     first.units_are ∙ ap (λ x. u ∷ units_of x) none ∙ ap (λ x. u ∷ x) (none_on 1)
 
 -- no string of wasm begins so
-pub unstring_of_wasm : (p : ℕ) (s : List ℕ) → ¬ (p ≡ 0) → ¬ (p ≡ 1) → p ≤ 2 → 0 < length s → StartsBare s → IsUnstring p s
+pub unstring_of_wasm : (p : ℕ) (s : List ℕ) → ¬ (p ≡ 0) → ¬ (p ≡ 1) → p ≤ 2 → 0 < length s → StartsWithNoCharacter s → IsUnstring p s
 unstring_of_wasm zero s a b c some bare = absurd (a refl)
 unstring_of_wasm (suc zero) s a b c some bare = absurd (b refl)
 unstring_of_wasm (suc (suc zero)) s a b c some bare = λ u. never_bare s u some bare

@@ -4,7 +4,7 @@ use Rattle.std.proofs.lemmas.List.{take_all, drop_all}
 use Rattle.wtf8_core.specs.Chunks.{Chunk, AreChunks}
 use Rattle.wtf8_core.specs.Pieces.{SplitsAt, IsSplit, IsRSplit}
 use Rattle.wtf8_core.specs.Pieces.FallsInto.{whole, cut}
-use Rattle.wtf8_core.specs.Standing.{IsLeastPlace, IsGreatestPlace}
+use Rattle.wtf8_core.specs.Standing.{IsFirstPlace, IsLastPlace}
 use Rattle.wtf8_core.proofs.lemmas.chunks.OneList.{some_chunks, chunks_once}
 use Rattle.os_str_ext.specs.Symbols.{AreSymbols}
 use Rattle.os_str_ext.specs.declared.symbols.Symbol.{Symbol}
@@ -29,7 +29,7 @@ split_step p s at edge rest true piece pieces h e more =
     let all : piece ≡ drop at s = e ∙ ap (λ k. drop at (take k s)) h.1 ∙ ap (drop at) (take_all (length s) s (omega arith)) in
     subst (λ ps. IsSplit p (drop at s) (piece ∷ ps)) (sym more) (subst (λ x. IsSplit p (drop at s) (x ∷ [])) (sym all) (whole h.0))
 split_step p s at edge rest false piece pieces h e more =
-    cut (subst (λ x. SplitsAt IsLeastPlace p (drop at s) x (drop rest s)) (sym e) h) more
+    cut (subst (λ x. SplitsAt IsFirstPlace p (drop at s) x (drop rest s)) (sym e) h) more
 
 pub split_walk : (p s : List ℕ) (at : ℕ) (pieces : List (List ℕ)) → SplitWalk p s at pieces → IsSplit p (drop at s) pieces
 split_walk p s at [] w = absurd w
@@ -42,7 +42,7 @@ rsplit_step p s at edge rest true piece pieces h e more =
     let all : piece ≡ take at s = e ∙ ap (λ k. drop k (take at s)) h.1 in
     subst (λ ps. IsRSplit p (take at s) (piece ∷ ps)) (sym more) (subst (λ x. IsRSplit p (take at s) (x ∷ [])) (sym all) (whole h.0))
 rsplit_step p s at edge rest false piece pieces h e more =
-    cut (subst (λ x. SplitsAt IsGreatestPlace p (take at s) (take rest s) x) (sym e) h) more
+    cut (subst (λ x. SplitsAt IsLastPlace p (take at s) (take rest s) x) (sym e) h) more
 
 pub rsplit_walk : (p s : List ℕ) (at : ℕ) (pieces : List (List ℕ)) → RSplitWalk p s at pieces → IsRSplit p (take at s) pieces
 rsplit_walk p s at [] w = absurd w

@@ -1,5 +1,5 @@
 -- The bytes of units, prefix by prefix.
-use Rattle.platform_str.proofs.Common.{◌≡◌, ℕ, ◌+◌, ◌≤◌, ◌<◌, List, [], ◌∷◌, ◌++◌, length, length-append, take, drop, slice_index, get_or, Fits, w16, refl, sym, ap, ◌∙◌, subst, arith, append_assoc, append-nil, get_or-take, length-take, take_all, take-append-drop, recursion_from_All, All-from_get_or, All, AllByRecursion, IsHigh, IsLow, paired, IsCodePoint, form, MayPrecede, HasUnits, units, form_ascii, IsUnit, wide_single, may_precede, paired_units, units_spelled, BeginsPair, BeginsNoPair, SpellsBefore}
+use Rattle.platform_str.proofs.Common.{◌≡◌, ℕ, ◌+◌, ◌≤◌, ◌<◌, List, [], ◌∷◌, ◌++◌, length, length-append, take, drop, slice_index, get_or, Fits, w16, refl, sym, ap, ◌∙◌, subst, arith, append_assoc, append-nil, get_or-take, length-take, take_all, take-append-drop, recursion_from_All, All-from_get_or, All, AllByRecursion, IsHigh, IsLow, paired, IsCodePoint, encode, MayPrecede, HasUnits, units, form_ascii, IsUnit, wide_single, may_precede, paired_units, units_spelled, BeginsPair, BeginsNoPair, SpellsBefore}
 use Rattle.platform_str.proofs.lemmas.BulkUnits.{units_short}
 
 -- before the first unit, and after the last
@@ -23,18 +23,18 @@ precedes_points u [] m = tt
 precedes_points u (d ∷ cs) m = λ h l. subst (MayPrecede u) (ap (λ us. us ++ units cs) (wide_single d (omega (arith, l.1)))) m h l
 
 -- a unit that isn't part of a pair
-pub spells_single : (u : ℕ) (rest : List ℕ) → IsUnit u → MayPrecede u rest → SpellsBefore (form u) rest (u ∷ rest)
+pub spells_single : (u : ℕ) (rest : List ℕ) → IsUnit u → MayPrecede u rest → SpellsBefore (encode u) rest (u ∷ rest)
 spells_single u rest i m = λ b h. record {
   code_points = u ∷ h.code_points;
-  spelled = record { code_points = (omega arith, h.spelled.code_points); paired_free = (precedes_points u h.code_points (subst (MayPrecede u) h.are m), h.spelled.paired_free); joined = ap (λ x. form u ++ x) h.spelled.joined };
+  spelled = record { code_points = (omega arith, h.spelled.code_points); paired_free = (precedes_points u h.code_points (subst (MayPrecede u) h.are m), h.spelled.paired_free); joined = ap (λ x. encode u ++ x) h.spelled.joined };
   are = ap (λ x. u ∷ x) h.are ∙ ap (λ x. x ++ units h.code_points) (sym (wide_single u i));
 }
 
 -- a pair
-pub spells_pair : (u v : ℕ) (rest : List ℕ) → IsHigh u → IsLow v → SpellsBefore (form (paired u v)) rest (u ∷ v ∷ rest)
+pub spells_pair : (u v : ℕ) (rest : List ℕ) → IsHigh u → IsLow v → SpellsBefore (encode (paired u v)) rest (u ∷ v ∷ rest)
 spells_pair u v rest i j = λ b h. record {
   code_points = paired u v ∷ h.code_points;
-  spelled = record { code_points = (omega (arith, i.1, j.1), h.spelled.code_points); paired_free = (may_precede (paired u v) h.code_points (λ k. omega (arith, k.1)), h.spelled.paired_free); joined = ap (λ x. form (paired u v) ++ x) h.spelled.joined };
+  spelled = record { code_points = (omega (arith, i.1, j.1), h.spelled.code_points); paired_free = (may_precede (paired u v) h.code_points (λ k. omega (arith, k.1)), h.spelled.paired_free); joined = ap (λ x. encode (paired u v) ++ x) h.spelled.joined };
   are = ap (λ x. u ∷ v ∷ x) h.are ∙ ap (λ x. x ++ units h.code_points) (sym (paired_units u v i j));
 }
 
@@ -52,14 +52,14 @@ spells_ascii xs rest all a e = subst (SpellsBefore xs rest) (sym e) (spells_each
 -- the first code point, from a pair and from a single unit
 pub record FirstCodePoint (us : List ℕ) (c : ℕ) (rest : List ℕ) : Type 0 where
   pub code_point : IsCodePoint c
-  pub spelled : SpellsBefore (form c) rest us
+  pub spelled : SpellsBefore (encode c) rest us
   pub shorter : length rest < length us
   pub behind : (taken : List ℕ) × (us ≡ taken ++ rest)
 
 pub of_pair : {us : List ℕ} {c : ℕ} {rest : List ℕ} → BeginsPair us c rest → FirstCodePoint us c rest
 of_pair {us} {c} {rest} p = record {
   code_point = omega (arith, p.value, p.is_high.1, p.is_low.1);
-  spelled = subst (λ x. SpellsBefore (form x) rest us) (sym p.value) (subst (SpellsBefore (form (paired p.high p.low)) rest) (sym p.units_are) (spells_pair p.high p.low rest p.is_high p.is_low));
+  spelled = subst (λ x. SpellsBefore (encode x) rest us) (sym p.value) (subst (SpellsBefore (encode (paired p.high p.low)) rest) (sym p.units_are) (spells_pair p.high p.low rest p.is_high p.is_low));
   shorter = omega (arith, ap length p.units_are);
   behind = (p.high ∷ p.low ∷ [], p.units_are);
 }
@@ -71,7 +71,7 @@ single_precedes u (v ∷ rest) n = λ h l. n u v rest refl h l
 pub of_single : (us : List ℕ) (u : ℕ) (rest : List ℕ) → us ≡ u ∷ rest → IsUnit u → BeginsNoPair us → FirstCodePoint us u rest
 of_single us u rest e i n = record {
   code_point = omega arith;
-  spelled = subst (SpellsBefore (form u) rest) (sym e) (spells_single u rest i (single_precedes u rest (subst BeginsNoPair e n)));
+  spelled = subst (SpellsBefore (encode u) rest) (sym e) (spells_single u rest i (single_precedes u rest (subst BeginsNoPair e n)));
   shorter = omega (arith, ap length e);
   behind = (u ∷ [], e);
 }

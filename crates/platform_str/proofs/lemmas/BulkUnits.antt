@@ -1,10 +1,10 @@
 -- A prefix of a string taken off, and its units with it.
-use Rattle.platform_str.proofs.Common.{◌≡◌, ℕ, ◌+◌, ◌≤◌, ◌<◌, List, [], ◌∷◌, ◌++◌, length, take, drop, vec_len, vec_capacity, refl, sym, ap, ◌∙◌, subst, arith, append_assoc, length-append, take-append-drop, form_bounds, nat_tests, recursion_from_All, All, AllByRecursion, flat_map, form, wide, IsWtf8, HasUnits, units, units_of, wide_single, code_points_in-spelled, has_units_of, BeginsForm}
+use Rattle.platform_str.proofs.Common.{◌≡◌, ℕ, ◌+◌, ◌≤◌, ◌<◌, List, [], ◌∷◌, ◌++◌, length, take, drop, vec_len, vec_capacity, refl, sym, ap, ◌∙◌, subst, arith, append_assoc, length-append, take-append-drop, form_bounds, nat_tests, recursion_from_All, All, AllByRecursion, flat_map, encode, encode_utf16, IsWtf8, HasUnits, units, units_of, wide_single, code_points_in-spelled, has_units_of, BeginsForm}
 use Rattle.std.specs.declared.vec.Vec.{Vec}
 use Rattle.wtf8_core.proofs.lemmas.forms.FirstForms.{first_of}
 
-ascii_first : (c x : ℕ) (rest l : List ℕ) → x < 0x80 → x ∷ l ≡ form c ++ rest → (c ≡ x) × (rest ≡ l)
-unfolding form
+ascii_first : (c x : ℕ) (rest l : List ℕ) → x < 0x80 → x ∷ l ≡ encode c ++ rest → (c ≡ x) × (rest ≡ l)
+unfolding encode
 ascii_first c x rest l h e = (grind (arith, nat_tests, e), grind (arith, nat_tests, e))
 
 -- ASCII at the start of a string is its own units
@@ -14,8 +14,8 @@ ascii_front (x ∷ xs) r a w =
     let f = first_of (x ∷ xs ++ r) w (omega arith) in
     let s = ascii_first f.0 x f.1 (xs ++ r) a.0 f.2.joined in
     let i = ascii_front xs r a.1 (subst IsWtf8 s.1 f.2.formed) in
-    let one : wide f.0 ≡ x ∷ [] = ap wide s.0 ∙ wide_single x (omega (arith, a.0)) in
-    (i.0, f.2.units_are ∙ ap (λ l. wide f.0 ++ units_of l) s.1 ∙ ap (λ l. l ++ units_of (xs ++ r)) one ∙ ap (λ l. x ∷ l) i.1)
+    let one : encode_utf16 f.0 ≡ x ∷ [] = ap encode_utf16 s.0 ∙ wide_single x (omega (arith, a.0)) in
+    (i.0, f.2.units_are ∙ ap (λ l. encode_utf16 f.0 ++ units_of l) s.1 ∙ ap (λ l. l ++ units_of (xs ++ r)) one ∙ ap (λ l. x ∷ l) i.1)
 
 pub ascii_block : (b xs r : List ℕ) → b ≡ xs ++ r → All (λ x. x < 0x80) xs → IsWtf8 b → IsWtf8 r × (units_of b ≡ xs ++ units_of r)
 ascii_block b xs r e a w =
@@ -23,13 +23,13 @@ ascii_block b xs r e a w =
     (i.0, ap units_of e ∙ i.1)
 
 -- there are no more units than bytes
-wide_short : (c : ℕ) → length (wide c) ≤ length (form c)
-unfolding form wide
+wide_short : (c : ℕ) → length (encode_utf16 c) ≤ length (encode c)
+unfolding encode encode_utf16
 wide_short c = grind (arith, nat_tests)
 
-pub units_short : (cs : List ℕ) → length (units cs) ≤ length (flat_map form cs)
+pub units_short : (cs : List ℕ) → length (units cs) ≤ length (flat_map encode cs)
 units_short [] = omega arith
-units_short (c ∷ cs) = omega (arith, wide_short c, units_short cs, length-append (wide c) (units cs), length-append (form c) (flat_map form cs))
+units_short (c ∷ cs) = omega (arith, wide_short c, units_short cs, length-append (encode_utf16 c) (units cs), length-append (encode c) (flat_map encode cs))
 
 pub units_fit : (b : List ℕ) → IsWtf8 b → length (units_of b) ≤ length b
 units_fit b w = omega (arith, units_short w.0, ap (λ cs. length (units cs)) (code_points_in-spelled b w.0 w.1), ap length w.1.joined)
@@ -45,12 +45,12 @@ ascii_step written rest block behind all f d a w e =
     record { formed = s.0; units_are = append_assoc written block (units_of behind) ∙ ap (λ x. written ++ x) (sym s.1) ∙ e }
 
 -- the first code point of what is left
-pub form_step : (written rest behind all : List ℕ) (c : ℕ) → BeginsForm rest c behind → written ++ units_of rest ≡ all → (written ++ wide c) ++ units_of behind ≡ all
-form_step written rest behind all c b e = append_assoc written (wide c) (units_of behind) ∙ ap (λ x. written ++ x) (sym b.units_are) ∙ e
+pub form_step : (written rest behind all : List ℕ) (c : ℕ) → BeginsForm rest c behind → written ++ units_of rest ≡ all → (written ++ encode_utf16 c) ++ units_of behind ≡ all
+form_step written rest behind all c b e = append_assoc written (encode_utf16 c) (units_of behind) ∙ ap (λ x. written ++ x) (sym b.units_are) ∙ e
 
 -- the rest is shorter
 pub form_shorter : {rest behind : List ℕ} {c : ℕ} → BeginsForm rest c behind → length behind < length rest
-form_shorter {rest} {behind} {c} b = omega (arith, ap length b.joined, length-append (form c) behind, (form_bounds c).0)
+form_shorter {rest} {behind} {c} b = omega (arith, ap length b.joined, length-append (encode c) behind, (form_bounds c).0)
 
 -- if there is room for all units, there is room for those that come next
 pub room_for : {Z : Type 0} (u v : Vec ℕ Z) (next left all : List ℕ) → (v.items ++ next) ++ left ≡ u.items ++ all → vec_capacity u ≤ vec_capacity v → vec_len u + length all ≤ vec_capacity u → vec_len v + length next ≤ vec_capacity v

@@ -1,5 +1,5 @@
 -- The first unit of bytes that are WTF-8 and don't begin with a whole character, as the encoder of units gives it.
-use Rattle.platform_str.proofs.Common.{◌≡◌, ℕ, ◌<◌, List, [], ◌∷◌, length, drop, map, Ok, Err, sym, ap, ◌∙◌, subst, arith, StartsBare, AreUnitItems, ok_values, units_of, IsWtf8, EncodingError, units_of-is, IsFirstUnit}
+use Rattle.platform_str.proofs.Common.{◌≡◌, ℕ, ◌<◌, List, [], ◌∷◌, length, drop, map, Ok, Err, sym, ap, ◌∙◌, subst, arith, StartsWithNoCharacter, AreUnitItems, ok_values, units_of, IsWtf8, EncodingError, units_of-is, IsFirstUnit}
 use Rattle.wtf8_core.proofs.lemmas.chunks.PartUnits.{first_unit}
 use Rattle.platform_str.proofs.lemmas.WideLemmas.{Item, ok_units}
 
@@ -10,7 +10,7 @@ record BeginsUnit (b : List ℕ) (items : List Item) : Type 0 where
   items_are : items ≡ Ok unit ∷ others
   first : IsFirstUnit IsWtf8 units_of b unit 3
 
-begins_unit : (b : List ℕ) (items : List Item) → IsWtf8 b → 0 < length b → StartsBare b → AreUnitItems b items → BeginsUnit b items
+begins_unit : (b : List ℕ) (items : List Item) → IsWtf8 b → 0 < length b → StartsWithNoCharacter b → AreUnitItems b items → BeginsUnit b items
 begins_unit b items w some bare a =
     let k = ok_units w a in
     let u = first_unit b w some bare in
@@ -24,7 +24,7 @@ begins_unit b items w some bare a =
     }
 
 -- so the first item is that unit
-pub first_is_unit : {b : List ℕ} {items rest : List Item} {u : ℕ} → IsWtf8 b → 0 < length b → StartsBare b → AreUnitItems b items → items ≡ Ok u ∷ rest → IsFirstUnit IsWtf8 units_of b u 3
+pub first_is_unit : {b : List ℕ} {items rest : List Item} {u : ℕ} → IsWtf8 b → 0 < length b → StartsWithNoCharacter b → AreUnitItems b items → items ≡ Ok u ∷ rest → IsFirstUnit IsWtf8 units_of b u 3
 first_is_unit {b} {items} {rest} {u} w some bare a e =
     let f = begins_unit b items w some bare a in
     let q : Ok f.unit ∷ f.others ≡ Ok u ∷ rest = sym f.items_are ∙ e in
@@ -32,13 +32,13 @@ first_is_unit {b} {items} {rest} {u} w some bare a e =
     subst (λ n. IsFirstUnit IsWtf8 units_of b n 3) same f.first
 
 -- and it is neither a fault nor the end
-pub first_is_no_fault : {b : List ℕ} {items rest : List Item} {fault : EncodingError} → IsWtf8 b → 0 < length b → StartsBare b → AreUnitItems b items → items ≡ Err fault ∷ rest → ⊥
+pub first_is_no_fault : {b : List ℕ} {items rest : List Item} {fault : EncodingError} → IsWtf8 b → 0 < length b → StartsWithNoCharacter b → AreUnitItems b items → items ≡ Err fault ∷ rest → ⊥
 first_is_no_fault {b} {items} {rest} {fault} w some bare a e =
     let f = begins_unit b items w some bare a in
     let q : Ok f.unit ∷ f.others ≡ Err fault ∷ rest = sym f.items_are ∙ e in
     cc
 
-pub first_is_there : {b : List ℕ} {items : List Item} → IsWtf8 b → 0 < length b → StartsBare b → AreUnitItems b items → items ≡ [] → ⊥
+pub first_is_there : {b : List ℕ} {items : List Item} → IsWtf8 b → 0 < length b → StartsWithNoCharacter b → AreUnitItems b items → items ≡ [] → ⊥
 first_is_there {b} {items} w some bare a e =
     let f = begins_unit b items w some bare a in
     let q : Ok f.unit ∷ f.others ≡ [] = sym f.items_are ∙ e in

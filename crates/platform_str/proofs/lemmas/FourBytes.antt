@@ -1,11 +1,11 @@
 -- Four bytes written over others.
 use Rattle.std.proofs.Common.{◌≡◌, ℕ, ◌+◌, ◌≤◌, List, ◌++◌, length, take, drop, sym, ap, ◌∙◌, append_assoc, take-append-drop}
-use Rattle.platform_str.proofs.Common.{form, form_past}
+use Rattle.platform_str.proofs.Common.{encode, form_past}
 
 -- the form of a code point past FFFF, between what came before it and what comes after it
-pub pair_written : (new old : List ℕ) (at end c : ℕ) → take end new ≡ take at old ++ form c → drop end new ≡ drop end old → end ≡ at + length (form c) → 0x1_0000 ≤ c → new ≡ take at old ++ (form c ++ drop (at + 4) old)
+pub pair_written : (new old : List ℕ) (at end c : ℕ) → take end new ≡ take at old ++ encode c → drop end new ≡ drop end old → end ≡ at + length (encode c) → 0x1_0000 ≤ c → new ≡ take at old ++ (encode c ++ drop (at + 4) old)
 pair_written new old at end c front behind size past =
     let four : end ≡ at + 4 = size ∙ ap (λ f. at + length f) (form_past c past) in
     sym (take-append-drop end new)
-    ∙ ap (λ x. x ++ drop end new) front ∙ append_assoc (take at old) (form c) (drop end new)
-    ∙ ap (λ x. take at old ++ (form c ++ x)) (behind ∙ ap (λ n. drop n old) four)
+    ∙ ap (λ x. x ++ drop end new) front ∙ append_assoc (take at old) (encode c) (drop end new)
+    ∙ ap (λ x. take at old ++ (encode c ++ x)) (behind ∙ ap (λ n. drop n old) four)

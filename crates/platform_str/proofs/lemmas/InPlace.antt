@@ -1,5 +1,5 @@
 -- U+FFFD written over three bytes.
-use Rattle.platform_str.proofs.Common.{◌≡◌, ℕ, ◌+◌, ◌-◌, ◌≤◌, List, [], ◌∷◌, ◌++◌, length, take, drop, refl, sym, ap, ◌∙◌, subst, arith, append_assoc, length-drop, slice_set, set, length-set, drop-set-lt, drop-drop, take-add, IsValidUpTo, replacement, EncodingError, StartsBare, PlatformLaws, IsLeft, IsReplacedUpTo}
+use Rattle.platform_str.proofs.Common.{◌≡◌, ℕ, ◌+◌, ◌-◌, ◌≤◌, List, [], ◌∷◌, ◌++◌, length, take, drop, refl, sym, ap, ◌∙◌, subst, arith, append_assoc, length-drop, slice_set, set, length-set, drop-set-lt, drop-drop, take-add, IsValidUpTo, replacement, EncodingError, StartsWithNoCharacter, PlatformLaws, IsLeft, IsReplacedUpTo}
 use Rattle.std.proofs.lemmas.Grind.{take-set_at}
 use Rattle.platform_str.proofs.lemmas.LossyLoops.{first_part, first_text, made_more, bare_at}
 
@@ -61,5 +61,5 @@ module _ {first_fault : List ℕ → EncodingError → Type 0} {well_formed : Li
       }
 
 -- no whole character starts at a fault, also if the rest is given by its index
-pub bare_behind : (bytes : List ℕ) {rest behind : List ℕ} (at : ℕ) {n : ℕ} → rest ≡ drop at bytes → behind ≡ drop (at + n) bytes → IsValidUpTo rest n → StartsBare behind
+pub bare_behind : (bytes : List ℕ) {rest behind : List ℕ} (at : ℕ) {n : ℕ} → rest ≡ drop at bytes → behind ≡ drop (at + n) bytes → IsValidUpTo rest n → StartsWithNoCharacter behind
 bare_behind bytes at {n} e d v = bare_at (d ∙ sym (drop-drop n at bytes) ∙ ap (drop n) (sym e)) v

@@ -1,11 +1,11 @@
 -- One step of a loop over a string's faults.
 use Rattle.std.proofs.Common.{◌≡◌, ℕ, ◌<◌, ◌≤◌, List, ◌++◌, length, take, drop, refl, sym, ap, ◌∙◌, subst, arith, append_assoc, length-append, length-drop, ◌+◌, ◌-◌, take-take}
-use Rattle.platform_str.proofs.Common.{take-append-add, length-take-le, IsValidUpTo, replacement, EncodingError, none_at, encode_utf8, StartsBare, PlatformLaws, IsReplaced, IsLeft, IsFirstText}
+use Rattle.platform_str.proofs.Common.{take-append-add, length-take-le, IsValidUpTo, replacement, EncodingError, none_at, encode_utf8, StartsWithNoCharacter, PlatformLaws, IsReplaced, IsLeft, IsFirstText}
 use Rattle.wtf8_core.proofs.lemmas.texts.StdFaults.{no_char}
 
 -- no whole character starts at a fault
-pub bare_at : {b behind : List ℕ} {n : ℕ} → behind ≡ drop n b → IsValidUpTo b n → StartsBare behind
-bare_at {b} {behind} {n} e v = subst StartsBare (sym e) (none_at (drop n b) 0 (no_char b n v))
+pub bare_at : {b behind : List ℕ} {n : ℕ} → behind ≡ drop n b → IsValidUpTo b n → StartsWithNoCharacter behind
+bare_at {b} {behind} {n} e v = subst StartsWithNoCharacter (sym e) (none_at (drop n b) 0 (no_char b n v))
 
 -- there is some byte
 some_at : {b behind : List ℕ} {n : ℕ} → behind ≡ drop n b → IsValidUpTo b n → 0 < length behind

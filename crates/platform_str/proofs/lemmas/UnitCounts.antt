@@ -1,5 +1,5 @@
 -- How many bytes units have, by counts of units and of pairs.
-use Rattle.platform_str.proofs.Common.{◌≡◌, ℕ, zero, suc, ◌+◌, ◌*◌, ◌≤◌, ◌<◌, Bool, cond, eqb, leb, List, [], ◌∷◌, length, length-append, take, drop, refl, ap, ◌∙◌, arith, cond_both, nat_tests, length-take, sum_by-cons, count_by-le-length, AllByRecursion, flat_map, count_by, zip2, IsHigh, IsLow, is_pair, paired, form, HasUnits, IsUnit, units_once, spelled_units, begins_pair, pairs}
+use Rattle.platform_str.proofs.Common.{◌≡◌, ℕ, zero, suc, ◌+◌, ◌*◌, ◌≤◌, ◌<◌, Bool, cond, eqb, leb, List, [], ◌∷◌, length, length-append, take, drop, refl, ap, ◌∙◌, arith, cond_both, nat_tests, length-take, sum_by-cons, count_by-le-length, AllByRecursion, flat_map, count_by, zip2, IsHigh, IsLow, is_pair, paired, encode, HasUnits, IsUnit, units_once, spelled_units, begins_pair, pairs}
 use Rattle.platform_str.proofs.lemmas.Lanes.{six_and_six}
 use Rattle.wtf8_core.specs.Decoder.{code_points_of}
 
@@ -21,12 +21,12 @@ counted_first u us = omega (arith, count_first (leb 0x80) u us, count_first (leb
 three_from : (u : ℕ) → 0x800 ≤ u → counted_one u ≡ 3
 three_from u h = grind (arith, nat_tests)
 
-form_one : (u : ℕ) → IsUnit u → length (form u) ≡ counted_one u
-unfolding form
+form_one : (u : ℕ) → IsUnit u → length (encode u) ≡ counted_one u
+unfolding encode
 form_one u i = grind (arith, nat_tests)
 
-form_pair : (u v : ℕ) → length (form (paired u v)) ≡ 4
-unfolding form
+form_pair : (u v : ℕ) → length (encode (paired u v)) ≡ 4
+unfolding encode
 form_pair u v = grind (arith, nat_tests)
 
 no_pair_behind_low : (v : ℕ) (us : List ℕ) → 0xDC00 ≤ v → begins_pair v us ≡ 0
@@ -34,19 +34,19 @@ no_pair_behind_low v [] h = refl
 no_pair_behind_low v (w ∷ us) h = grind (arith, nat_tests)
 
 -- two less for each pair
-pub all_counted : (us : List ℕ) → AllByRecursion IsUnit us → length (flat_map form (code_points_of us)) + 2 * pairs us ≡ counted us
+pub all_counted : (us : List ℕ) → AllByRecursion IsUnit us → length (flat_map encode (code_points_of us)) + 2 * pairs us ≡ counted us
 unfolding code_points_of
 all_counted [] a = refl
-all_counted (u ∷ []) a = omega (arith, form_one u a.0, length-append (form u) [])
+all_counted (u ∷ []) a = omega (arith, form_one u a.0, length-append (encode u) [])
 all_counted (u ∷ v ∷ us) a =
-    cond_both (is_pair u v) _ _ (λ cs. length (flat_map form cs) + 2 * pairs (u ∷ v ∷ us) ≡ counted (u ∷ v ∷ us))
+    cond_both (is_pair u v) _ _ (λ cs. length (flat_map encode cs) + 2 * pairs (u ∷ v ∷ us) ≡ counted (u ∷ v ∷ us))
     (λ e.
     let h : IsHigh u × IsLow v = grind (arith, nat_tests) in
     let one : begins_pair u (v ∷ us) ≡ 1 = ap (λ t. cond t 1 0) e in
-    omega (arith, length-append (form (paired u v)) (flat_map form (code_points_of us)), form_pair u v, one, no_pair_behind_low v us h.1.0, counted_first u (v ∷ us), counted_first v us, three_from u (omega (arith, h.0.0)), three_from v (omega (arith, h.1.0)), all_counted us a.1.1))
+    omega (arith, length-append (encode (paired u v)) (flat_map encode (code_points_of us)), form_pair u v, one, no_pair_behind_low v us h.1.0, counted_first u (v ∷ us), counted_first v us, three_from u (omega (arith, h.0.0)), three_from v (omega (arith, h.1.0)), all_counted us a.1.1))
     (λ e.
     let none : begins_pair u (v ∷ us) ≡ 0 = ap (λ t. cond t 1 0) e in
-    omega (arith, length-append (form u) (flat_map form (code_points_of (v ∷ us))), form_one u a.0, none, counted_first u (v ∷ us), all_counted (v ∷ us) a.1))
+    omega (arith, length-append (encode u) (flat_map encode (code_points_of (v ∷ us))), form_one u a.0, none, counted_first u (v ∷ us), all_counted (v ∷ us) a.1))
 
 -- so this is the length of a string with these units
 pub string_counted : (string us : List ℕ) → AllByRecursion IsUnit us → HasUnits string us → length string + 2 * pairs us ≡ counted us

@@ -6,7 +6,7 @@ use Rattle.std.specs.Str.Lossy.{utf8_lossy}
 use Rattle.std.proofs.Math.Seq.{take-length}
 use Rattle.std.proofs.lemmas.List.{take_at, drop_at}
 use Rattle.std.proofs.lemmas.Str.{IsUtf8-append, IsUtf8-take, IsCharBoundary-from_drop}
-use Rattle.wtf8_core.specs.Covered.{StartsBare, IsBare}
+use Rattle.wtf8_core.specs.Covered.{StartsWithNoCharacter, HasNoCharacter}
 use Rattle.wtf8_core.specs.Lossy.{IsLossyText}
 use Rattle.wtf8_core.specs.Lossy.IsLossyText.{text as kept_text}
 use Rattle.wtf8_core.specs.PartUnits.{unit_bytes}
@@ -51,7 +51,7 @@ faulty b (CodePoint x) p u = p
 faulty b End p u = p
 
 -- a text that isn't empty starts with a whole character
-pub never_bare : (b : List ℕ) → IsUtf8 b → 0 < length b → StartsBare b → ⊥
+pub never_bare : (b : List ℕ) → IsUtf8 b → 0 < length b → StartsWithNoCharacter b → ⊥
 never_bare b u s k =
     let e = take-length b in
     no_text_begins b (length b) (none_begins b k) (subst IsUtf8 (sym e) u) (subst (λ x. 0 < length x) (sym e) s)
@@ -78,7 +78,7 @@ wasm_laws = record {
 }
 
 -- a text that contains no whole character is empty
-none_in_text : (b : List ℕ) → IsUtf8 b → IsBare b → b ≡ []
+none_in_text : (b : List ℕ) → IsUtf8 b → HasNoCharacter b → b ≡ []
 none_in_text [] u k = refl
 none_in_text (x ∷ b) u k = absurd (never_bare (x ∷ b) u (omega arith) (k 0))
 

@@ -1,4 +1,4 @@
-//! Files `windows_encode`: units, and the bytes that spell them.
+//! Files `windows_encode`: units, and the bytes that encode them.
 use os_str_bytes::DecodeWide;
 use os_str_bytes::windows::OsString;
 use std::alloc::{AllocError, Global};

@@ -2,5 +2,5 @@ pub mod ComputedTests
 pub mod Lanes
 pub mod LedForms
 pub mod PairBits
-pub mod ScannedIsSpelled
+pub mod ScannedIsEncoded
 pub mod Windows

@@ -4,11 +4,11 @@
 //! must not rely on its length.
 ghost use Rattle.std.specs.Prelude.{◌≡◌, ◌∷◌, ℕ, suc, ◌+◌, ◌-◌, ◌≤◌, ◌<◌, length, IsTrue, MatchResult, slice_index};
 ghost use Rattle.std.specs.Int.{is_in_range};
-ghost use Rattle.wtf8_core.specs.Wtf8.{last_behind};
+ghost use Rattle.wtf8_core.specs.Wtf8.{last_or};
 ghost use Rattle.wtf8_core.specs.Surrogate.{is_high};
 ghost use Rattle.wtf8_core.specs.declared.scan.Encoding.{Encoding};
 ghost use Rattle.wtf8_core.specs.declared.scan.Encoding.TheVariants.{Utf8, Wtf8};
-ghost use Rattle.wtf8_core.specs.SpelledFront.{IsSpelledFront, KeepsPattern};
+ghost use Rattle.wtf8_core.specs.EncodedPrefix.{IsEncodedPrefix, KeepsPattern};
 
 use crate::byte::is_continuation;
 use crate::scan::error_bits::{kept_len, kept_of_16};
@@ -20,7 +20,7 @@ use crate::scan::{BEFORE, BLOCK, Encoding, STEP};
 #[inline(always)]
 pub(crate) fn front_of(bytes: &[u8], encoding: Encoding) -> usize
     ensures within { result ≤ length bytes.now }
-    ensures front { IsSpelledFront encoding bytes.now result }
+    ensures front { IsEncodedPrefix encoding bytes.now result }
 {
     scan_from(bytes, 0, encoding)
 }
@@ -31,7 +31,7 @@ pub(crate) fn scan_from(bytes: &[u8], at: usize, encoding: Encoding) -> usize
     requires within { at ≤ length bytes.now }
     requires kept { KeepsPattern encoding bytes.now at }
     ensures within { result ≤ length bytes.now }
-    ensures front { IsSpelledFront encoding bytes.now result }
+    ensures front { IsEncodedPrefix encoding bytes.now result }
 {
     if bytes.len() - at < STEP {
         return start_before(bytes, at);
@@ -71,7 +71,7 @@ fn scan_blocks(bytes: &[u8], at: usize, encoding: Encoding) -> usize
     requires within { at ≤ length bytes.now }
     requires kept { KeepsPattern encoding bytes.now at }
     ensures within { result ≤ length bytes.now }
-    ensures front { IsSpelledFront encoding bytes.now result }
+    ensures front { IsEncodedPrefix encoding bytes.now result }
 {
     let mut end = ascii_end(bytes, at);
     while bytes.len() - end >= BLOCK {
@@ -95,7 +95,7 @@ pub(crate) fn scan_steps(bytes: &[u8], at: usize) -> Result<usize, usize>
     ensures within { MatchResult result (λ end. end ≤ length bytes.now)
         (λ front. front ≤ length bytes.now) }
     ensures front { MatchResult result (λ end. KeepsPattern Utf8 bytes.now end)
-        (λ front. IsSpelledFront Utf8 bytes.now front) }
+        (λ front. IsEncodedPrefix Utf8 bytes.now front) }
 {
     let mut end = at;
     for _ in 0..8 {
@@ -126,8 +126,8 @@ fn step_len(bytes: &[u8], at: usize) -> usize
 #[inline(always)]
 pub(crate) fn is_behind_high(bytes: &[u8], at: usize) -> bool
     requires { at ≤ length bytes.now }
-    ensures { (f : IsSpelledFront Wtf8 bytes.now at)
-        → result ≡ is_high (last_behind 0 f.code_points) }
+    ensures { (f : IsEncodedPrefix Wtf8 bytes.now at)
+        → result ≡ is_high (last_or 0 f.code_points) }
 {
     if at < 3 {
         return false;
@@ -203,7 +203,7 @@ fn scan_tail(bytes: &[u8], at: usize, encoding: Encoding) -> usize
     requires short { length bytes.now - at < 64 }
     requires kept { KeepsPattern encoding bytes.now at }
     ensures within { result ≤ length bytes.now }
-    ensures front { IsSpelledFront encoding bytes.now result }
+    ensures front { IsEncodedPrefix encoding bytes.now result }
 {
     let kept = window_len(bytes, at, encoding);
     if kept > bytes.len() - at {
@@ -219,7 +219,7 @@ fn start_before(bytes: &[u8], end: usize) -> usize
     requires { end ≤ length bytes.now }
     ensures within { result ≤ length bytes.now }
     ensures front { (e : Encoding) → KeepsPattern e bytes.now end
-        → IsSpelledFront e bytes.now result }
+        → IsEncodedPrefix e bytes.now result }
 {
     let mut at = end;
     while at > 0 {

@@ -1,6 +1,6 @@
 use Rattle.std.proofs.Common.{◌≡◌, true, false, [], length, refl, sym, ap, ◌∙◌, arith}
 use Rattle.std.specs.Str.Iter.{chars_rest}
-use Rattle.wtf8_core.specs.Covered.{StartsBare}
+use Rattle.wtf8_core.specs.Covered.{StartsWithNoCharacter}
 use Rattle.platform_str.specs.Strings.{bytes}
 use Rattle.os_str_ext.specs.Parts.{part_bytes}
 use Rattle.os_args.proofs.FirstFlag.{no_chunk, text_first, some_chunk, part_first}
@@ -13,7 +13,7 @@ returns g c =
     let chunks = c.utf8_chunks.result in
     let are = c.utf8_chunks.ensures.chunks in
     let more = c.next.new.self in
-    let bare : StartsBare s = elim c.match-next.branch [
+    let bare : StartsWithNoCharacter s = elim c.match-next.branch [
       | in-Some+then-is_empty+in-Some-next+in_default-strip_prefix w ↦
           let part = part_bytes w.in-Some.part in
           let empty : part ≡ [] = sym w.as_os_str.ensures.value ∙ w.is_empty.ensures.0 w.if-is_empty.true in

@@ -1,14 +1,14 @@
 use Rattle.std.proofs.Common.{◌∙◌, ◌+◌, ◌++◌, ap, drop, subst, sym, take-append-drop}
 use Rattle.std.specs.Char.{encode_utf8}
 use Rattle.wtf8_core.specs.Character.{WholeCharacter}
-use Rattle.wtf8_core.specs.Covered.{StartsBare}
+use Rattle.wtf8_core.specs.Covered.{StartsWithNoCharacter}
 use Rattle.platform_str.specs.Strings.{bytes}
 use Rattle.os_str_ext.specs.Characters.{IsOneCharacter}
 use Rattle.os_str_ext.proofs.lemmas.EdgeCharacters.{first_edge, first_one}
 use Rattle.os_str_ext.proofs.characters.split_first_char.Goals as goal
 
 pub returns-in_default-clause-bytes : goal.returns-in_default-clause-bytes
-returns-in_default-clause-bytes g c = subst StartsBare c.as_encoded_bytes.ensures.value c.in_default.ensures
+returns-in_default-clause-bytes g c = subst StartsWithNoCharacter c.as_encoded_bytes.ensures.value c.in_default.ensures
 
 pub split_at-requires : goal.split_at-requires
 split_at-requires g c = first_edge _ _ (subst (λ s. WholeCharacter s 0 (0 + c.in-Some.size)) c.as_encoded_bytes.ensures.value c.in-Some.ensures)

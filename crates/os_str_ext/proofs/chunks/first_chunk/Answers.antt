@@ -1,6 +1,6 @@
 use Rattle.std.proofs.Common.{◌∙◌, ◌<◌, ap, drop, length, subst, sym, take}
 use Rattle.std.proofs.lemmas.List.{take-take}
-use Rattle.wtf8_core.specs.Covered.{IsBare}
+use Rattle.wtf8_core.specs.Covered.{HasNoCharacter}
 use Rattle.os_str_ext.specs.Chunks.{chunks_of}
 use Rattle.os_str_ext.proofs.lemmas.FirstChunk.{edges, part_is_bare, first_and_rest, same_first}
 use Rattle.os_str_ext.proofs.chunks.first_chunk.Goals as goal
@@ -18,7 +18,7 @@ new-requires g c =
     let s = c.as_encoded_bytes-bytes.result.now in
     let m = c.chunk_ends-part_end.result.part_end in
     let h = c.chunk_ends-part_end.ensures.ends in
-    subst IsBare (sym (c.from_encoded_bytes_unchecked.ensures ∙ c.split_at-2.ensures.front ∙ ap (take m) c.split_at.ensures.front ∙ take-take m _ s h.ordered)) (part_is_bare s m _ h)
+    subst HasNoCharacter (sym (c.from_encoded_bytes_unchecked.ensures ∙ c.split_at-2.ensures.front ∙ ap (take m) c.split_at.ensures.front ∙ take-take m _ s h.ordered)) (part_is_bare s m _ h)
 
 pub from_encoded_bytes_unchecked-requires-2 : goal.from_encoded_bytes_unchecked-requires-2
 from_encoded_bytes_unchecked-requires-2 g c =

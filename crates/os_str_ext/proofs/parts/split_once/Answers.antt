@@ -1,4 +1,4 @@
-use Rattle.wtf8_core.specs.Standing.{IsLeastPlace}
+use Rattle.wtf8_core.specs.Standing.{IsFirstPlace}
 use Rattle.platform_str.specs.Strings.{bytes}
 use Rattle.os_str_ext.proofs.lemmas.Searches.{parts_around}
 use Rattle.os_str_ext.proofs.parts.split_once.Goals as goal
@@ -9,4 +9,4 @@ returns-in_default g c = rw c.as_encoded_bytes.ensures.value at c.in_default.ens
 pub returns : goal.returns
 returns g c =
     let found = rw c.as_encoded_bytes.ensures.value at c.in-Some.ensures.place in
-    parts_around IsLeastPlace c.args.text.now (bytes c.args.string) _ _ c.in-Some.at found found.stands c.around.ensures.front c.around.ensures.back
+    parts_around IsFirstPlace c.args.text.now (bytes c.args.string) _ _ c.in-Some.at found found.stands c.around.ensures.front c.around.ensures.back

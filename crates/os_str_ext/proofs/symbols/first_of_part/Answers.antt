@@ -1,5 +1,5 @@
 use Rattle.std.proofs.Common.{◌∙◌, ◌-◌, ◌<◌, ◌∷◌, ap, length, subst, sym}
-use Rattle.wtf8_core.specs.Covered.{StartsBare}
+use Rattle.wtf8_core.specs.Covered.{StartsWithNoCharacter}
 use Rattle.wtf8_core.proofs.lemmas.standing.Places.{no_units}
 use Rattle.platform_str.specs.Laws.{IsFirstUnit}
 use Rattle.os_str_ext.specs.Symbols.{AreKnown, IsKnownPart, symbols_of, unit_symbol}
@@ -8,7 +8,7 @@ use Rattle.os_str_ext.proofs.lemmas.SymbolSteps.{known_part, part_behind_unit, s
 use Rattle.os_str_ext.proofs.symbols.first_of_part.Goals as goal
 
 pub part_len-len-requires-clause-bare : goal.part_len-len-requires-clause-bare
-part_len-len-requires-clause-bare g c = subst StartsBare (sym c.as_encoded_bytes-bytes.ensures.value) c.requires.bare
+part_len-len-requires-clause-bare g c = subst StartsWithNoCharacter (sym c.as_encoded_bytes-bytes.ensures.value) c.requires.bare
 
 pub first_unit-number-requires-clause-some : goal.first_unit-number-requires-clause-some
 first_unit-number-requires-clause-some g c = subst (λ n. 0 < n) (sym c.split_at.ensures.front_len) c.part_len-len.ensures.some
@@ -20,7 +20,7 @@ first_unit-number-requires-clause-formed g c =
 
 pub first_unit-number-requires-clause-bare : goal.first_unit-number-requires-clause-bare
 first_unit-number-requires-clause-bare g c =
-    subst StartsBare (sym c.split_at.ensures.front) (part_is_bare c.as_encoded_bytes-bytes.result.now _ _ c.part_len-len.ensures.part.1 0)
+    subst StartsWithNoCharacter (sym c.split_at.ensures.front) (part_is_bare c.as_encoded_bytes-bytes.result.now _ _ c.part_len-len.ensures.part.1 0)
 
 pub from_encoded_bytes_unchecked-requires : goal.from_encoded_bytes_unchecked-requires
 from_encoded_bytes_unchecked-requires g c =

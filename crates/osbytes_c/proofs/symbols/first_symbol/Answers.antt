@@ -1,27 +1,27 @@
 use Rattle.std.proofs.Common.{refl, subst, sym}
-use Rattle.wtf8_core.specs.Covered.{StartsBare}
+use Rattle.wtf8_core.specs.Covered.{StartsWithNoCharacter}
 use Rattle.osbytes_c.specs.Faults.{IsString}
 use Rattle.osbytes_c.specs.Steps.{IsFirstOf}
 use Rattle.osbytes_c.proofs.lemmas.Symbols.{byte_first, surrogate_first, unstring_of_wasm}
 use Rattle.osbytes_c.proofs.symbols.first_symbol.Goals as goal
 
 pub first_surrogate-requires-clause-bare : goal.first_surrogate-requires-clause-bare
-first_surrogate-requires-clause-bare c = subst StartsBare c.unix.ensures c.in_default.ensures.bytes
+first_surrogate-requires-clause-bare c = subst StartsWithNoCharacter c.unix.ensures c.in_default.ensures.bytes
 
 pub returns-then-platform-eq0-clause-first : goal.returns-then-platform-eq0-clause-first
 returns-then-platform-eq0-clause-first c = λ w.
     let s = c.args.bytes.now in
-    let bare = subst StartsBare c.unix.ensures c.in_default.ensures.bytes in
+    let bare = subst StartsWithNoCharacter c.unix.ensures c.in_default.ensures.bytes in
     subst (λ p. IsFirstOf p s (record { kind = 2; value = c.from.result; end = 1 })) (sym c.if-platform-eq0.true) (byte_first s _ c.requires.some bare (refl, c.from.ensures) refl)
 
 pub returns-then-platform-eq1-clause-first : goal.returns-then-platform-eq1-clause-first
 returns-then-platform-eq1-clause-first c = λ w.
     let s = c.args.bytes.now in
-    let bare = subst StartsBare c.unix.ensures c.in_default.ensures.bytes in
+    let bare = subst StartsWithNoCharacter c.unix.ensures c.in_default.ensures.bytes in
     let e = c.if-platform-eq1.true in
     subst (λ p. IsFirstOf p s (record { kind = 2; value = c.in-Some-first_surrogate.unit; end = 3 })) (sym e) (surrogate_first s c.in-Some-first_surrogate.unit _ c.requires.some bare c.in-Some-first_surrogate.ensures (refl, refl) refl (subst (λ p. IsString p s) e w))
 
 pub returns-clause-first : goal.returns-clause-first
 returns-clause-first c =
     let s = c.args.bytes.now in
-    unstring_of_wasm c.args.platform s c.if-platform-eq0.false c.if-platform-eq1.false c.requires.known c.requires.some (subst StartsBare c.unix.ensures c.in_default.ensures.bytes)
+    unstring_of_wasm c.args.platform s c.if-platform-eq0.false c.if-platform-eq1.false c.requires.known c.requires.some (subst StartsWithNoCharacter c.unix.ensures c.in_default.ensures.bytes)

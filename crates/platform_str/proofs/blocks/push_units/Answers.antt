@@ -1,4 +1,4 @@
-use Rattle.platform_str.proofs.Common.{[], length, ap, ◌∙◌, arith, false≢true, append-nil, wide, units_of}
+use Rattle.platform_str.proofs.Common.{[], length, ap, ◌∙◌, arith, false≢true, append-nil, encode_utf16, units_of}
 use Rattle.platform_str.proofs.lemmas.BulkUnits.{ascii_step, ascii_written, form_step, form_shorter, room_for}
 use Rattle.platform_str.proofs.blocks.push_units.Goals as goal
 
@@ -14,11 +14,11 @@ loop-block-preserved-then-is_ascii_block g c =
 
 pub returns-in_err-push_wide-clause-room : goal.returns-in_err-push_wide-clause-room
 returns-in_err-push_wide-clause-room g c =
-    λ room. absurd (false≢true (c.in_err-push_wide.ensures.room (room_for c.args.units.now c.loop-block.units (wide c.first_form-code_point.result.0) _ _ (form_step c.loop-block.units.items c.loop-block.rest.now _ _ c.first_form-code_point.result.0 c.first_form-code_point.ensures c.loop-block.invariant.1) c.loop-block.invariant.2 room)))
+    λ room. absurd (false≢true (c.in_err-push_wide.ensures.room (room_for c.args.units.now c.loop-block.units (encode_utf16 c.split_code_point-code_point.result.0) _ _ (form_step c.loop-block.units.items c.loop-block.rest.now _ _ c.split_code_point-code_point.result.0 c.split_code_point-code_point.ensures c.loop-block.invariant.1) c.loop-block.invariant.2 room)))
 
 pub loop-block-smaller : goal.loop-block-smaller
-loop-block-smaller g c = omega (arith, form_shorter c.first_form-code_point.ensures)
+loop-block-smaller g c = omega (arith, form_shorter c.split_code_point-code_point.ensures)
 
 pub returns-clause-room : goal.returns-clause-room
 returns-clause-room g c =
-    λ room. c.push_each.ensures.room (omega (arith, ap (λ b. length (units_of b)) c.from_encoded_bytes_unchecked.ensures, room_for c.args.units.now c.loop-block.units (units_of c.loop-block.rest.now) [] _ (append-nil _ ∙ c.loop-block.invariant.1) c.loop-block.invariant.2 room))
+    λ room. c.push_one_by_one.ensures.room (omega (arith, ap (λ b. length (units_of b)) c.from_encoded_bytes_unchecked.ensures, room_for c.args.units.now c.loop-block.units (units_of c.loop-block.rest.now) [] _ (append-nil _ ∙ c.loop-block.invariant.1) c.loop-block.invariant.2 room))

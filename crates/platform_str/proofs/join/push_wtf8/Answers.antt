@@ -1,4 +1,4 @@
-use Rattle.platform_str.proofs.Common.{◌≡◌, ◌+◌, ◌-◌, ◌≤◌, ◌++◌, List, ℕ, Result, Ok, Err, length, length-append, length-drop, take, drop, sym, ap, ◌∙◌, subst, arith, OnOk, OnErr, form, IsWtf8, units_of, IsJoin, IsPairBetween}
+use Rattle.platform_str.proofs.Common.{◌≡◌, ◌+◌, ◌-◌, ◌≤◌, ◌++◌, List, ℕ, Result, Ok, Err, length, length-append, length-drop, take, drop, sym, ap, ◌∙◌, subst, arith, OnOk, OnErr, encode, IsWtf8, units_of, IsJoin, IsPairBetween}
 use Rattle.wtf8_core.proofs.lemmas.units.Joins.{plain_join, pair_bytes, written_join}
 use Rattle.platform_str.proofs.join.push_wtf8.Goals as goal
 
@@ -18,9 +18,9 @@ room a b s v d c m e f g =
     omega (arith, p.high_bytes, p.low_bytes, ap length e, ap length f, ap length g, length-append a d, length-drop 2 b)
 
 -- the join, if a pair arises
-written : (a b s d v w : List ℕ) (c : ℕ) → IsWtf8 a → IsWtf8 b → s ≡ a → IsPairBetween s b c → d ≡ drop 2 b → v ≡ a ++ d → w ≡ take (length s - 3) v ++ (form c ++ drop (length s - 3 + 4) v) → IsJoin IsWtf8 units_of a b w
+written : (a b s d v w : List ℕ) (c : ℕ) → IsWtf8 a → IsWtf8 b → s ≡ a → IsPairBetween s b c → d ≡ drop 2 b → v ≡ a ++ d → w ≡ take (length s - 3) v ++ (encode c ++ drop (length s - 3 + 4) v) → IsJoin IsWtf8 units_of a b w
 written a b s d v w c x y e m f g k =
-    written_join a b v w c x y (subst (λ z. IsPairBetween z b c) e m) (g ∙ ap (λ z. a ++ z) f) (k ∙ ap (λ z. take (length z - 3) v ++ (form c ++ drop (length z - 3 + 4) v)) e)
+    written_join a b v w c x y (subst (λ z. IsPairBetween z b c) e m) (g ∙ ap (λ z. a ++ z) f) (k ∙ ap (λ z. take (length z - 3) v ++ (encode c ++ drop (length z - 3 + 4) v)) e)
 
 pub returns-in_default-clause-formed : goal.returns-in_default-clause-formed
 returns-in_default-clause-formed g c =

@@ -1,5 +1,5 @@
 use Rattle.platform_str.proofs.Common.{◌≡◌, List, ℕ, ◌++◌, sym, ap, ◌∙◌, append_assoc, IsJoin}
-use Rattle.wtf8_core.specs.Standing.{IsFront}
+use Rattle.wtf8_core.specs.Standing.{IsPrefix}
 use Rattle.wtf8_core.specs.StandingLaws.{StandingLaws}
 use Rattle.platform_str.proofs.laws.joins.Goals as goal
 
@@ -15,7 +15,7 @@ module _ (wf : List ℕ → Type 0) (units : List ℕ → List ℕ) (laws : Stan
   abbrev IsSomeJoin : List ℕ → List ℕ → Type 0
   IsSomeJoin p s = (q : List ℕ) × (wf q × IsJoin wf units p q s)
 
-  fronts : (p s : List ℕ) → wf p → wf s → (IsFront (units p) (units s) → IsSomeJoin p s) × (IsSomeJoin p s → IsFront (units p) (units s))
+  fronts : (p s : List ℕ) → wf p → wf s → (IsPrefix (units p) (units s) → IsSomeJoin p s) × (IsSomeJoin p s → IsPrefix (units p) (units s))
   fronts p s v w = (
     λ f. let r = laws.some_rest p s f.rest v w f.joined in (r.0, (r.1.0, (w, f.joined ∙ ap (λ z. units p ++ z) (sym r.1.1)))),
     λ j. record { rest = units j.0; joined = j.1.1.1 },

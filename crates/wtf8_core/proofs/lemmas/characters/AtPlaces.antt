@@ -1,14 +1,14 @@
 -- Whole characters: where the reader finds them, and what their indices are.
-use Rattle.wtf8_core.proofs.Common.{◌≡◌, ℕ, ◌+◌, ◌-◌, ◌<◌, ◌≤◌, true, false, List, ◌∷◌, ◌++◌, length, take, drop, get_or, Option, Some, None, Result, Ok, Err, refl, sym, ap, ◌∙◌, subst, arith, length-append, take-append-drop, IsScalar, needed_continuations, is_surrogate, is_high, IsCodePoint, form, WholeCharacter, IsCharacterAt, first_item, items_behind, IsUtf8, IsUtf8-encode, take_at, drop_at, length-take-le, nat_tests, common_steps, low_scalar, EncodingError}
+use Rattle.wtf8_core.proofs.Common.{◌≡◌, ℕ, ◌+◌, ◌-◌, ◌<◌, ◌≤◌, true, false, List, ◌∷◌, ◌++◌, length, take, drop, get_or, Option, Some, None, Result, Ok, Err, refl, sym, ap, ◌∙◌, subst, arith, length-append, take-append-drop, IsScalar, needed_continuations, is_surrogate, is_high, IsCodePoint, encode, WholeCharacter, IsCharacterAt, first_item, items_behind, IsUtf8, IsUtf8-encode, take_at, drop_at, length-take-le, nat_tests, common_steps, low_scalar, EncodingError}
 use Rattle.wtf8_core.proofs.lemmas.reader.Reading.{items-ok, items-err}
-use Rattle.wtf8_core.proofs.lemmas.reader.Sound.{first_form}
+use Rattle.wtf8_core.proofs.lemmas.reader.Sound.{split_code_point}
 use Rattle.wtf8_core.proofs.lemmas.forms.Shapes.{form_ascii, form_bounds}
 use Rattle.wtf8_core.proofs.lemmas.forms.ByStd.{form_encode, form_same}
 use Rattle.wtf8_core.proofs.lemmas.reader.Complete.{item_of_form}
 
 -- no character begins the bytes
 abbrev pub NoChar : List ℕ → Type 0
-NoChar bytes = (c : ℕ) (rest : List ℕ) → IsScalar c → bytes ≡ form c ++ rest → ⊥
+NoChar bytes = (c : ℕ) (rest : List ℕ) → IsScalar c → bytes ≡ encode c ++ rest → ⊥
 
 -- scalars are code points, and no surrogates
 pub scalar_point : (c : ℕ) → IsScalar c → IsCodePoint c
@@ -27,16 +27,16 @@ character_fits s i j w =
     let b = form_bounds w.char in
     let e = w.end in
     let p = w.stands.place in
-    let l : length s ≡ length w.stands.before + (length (form w.char) + length w.stands.behind) = ap length w.stands.joined ∙ length-append w.stands.before (form w.char ++ w.stands.behind) ∙ ap (λ n. length w.stands.before + n) (length-append (form w.char) w.stands.behind) in
+    let l : length s ≡ length w.stands.before + (length (encode w.char) + length w.stands.behind) = ap length w.stands.joined ∙ length-append w.stands.before (encode w.char ++ w.stands.behind) ∙ ap (λ n. length w.stands.before + n) (length-append (encode w.char) w.stands.behind) in
     (omega arith, omega arith, omega arith)
 
 -- how many bytes a form of two or more has, by its first
-form_length : (c : ℕ) (rest : List ℕ) → IsCodePoint c → 0x80 ≤ get_or (form c ++ rest) 0 0 → length (form c) ≡ 1 + needed_continuations (get_or (form c ++ rest) 0 0)
-unfolding form
+form_length : (c : ℕ) (rest : List ℕ) → IsCodePoint c → 0x80 ≤ get_or (encode c ++ rest) 0 0 → length (encode c) ≡ 1 + needed_continuations (get_or (encode c ++ rest) 0 0)
+unfolding encode
 form_length c rest p h = grind (arith, nat_tests)
 
 -- the character that begins bytes is their first item
-first_of_char : (b c : ℕ) (bs rest : List ℕ) → IsScalar c → b ∷ bs ≡ form c ++ rest → (r : Result ℕ EncodingError) → first_item false b bs ≡ r → r ≡ Ok c
+first_of_char : (b c : ℕ) (bs rest : List ℕ) → IsScalar c → b ∷ bs ≡ encode c ++ rest → (r : Result ℕ EncodingError) → first_item false b bs ≡ r → r ≡ Ok c
 first_of_char b c bs rest s d r k =
     by r k (ap (items_behind 0 false) d ∙ item_of_form 0 c rest (scalar_point c s) (λ h l. omega (arith, h.0)))
   where
@@ -45,7 +45,7 @@ first_of_char b c bs rest s d r k =
     by (Err f) k e = let h = items-err false b f bs k in cc
 
 -- a whole character at an index is one at the start of the bytes from there on
-pub whole_at : (s : List ℕ) (i c : ℕ) (rest : List ℕ) → i ≤ length s → IsScalar c → drop i s ≡ form c ++ rest → WholeCharacter s i (i + length (form c))
+pub whole_at : (s : List ℕ) (i c : ℕ) (rest : List ℕ) → i ≤ length s → IsScalar c → drop i s ≡ encode c ++ rest → WholeCharacter s i (i + length (encode c))
 whole_at s i c rest h k e = record {
   char = c;
   scalar = k;
@@ -54,8 +54,8 @@ whole_at s i c rest h k e = record {
 }
 
 -- and the other way round
-pub begins_at : (s : List ℕ) (i j : ℕ) → (w : WholeCharacter s i j) → drop i s ≡ form w.char ++ w.stands.behind
-begins_at s i j w = ap (drop i) w.stands.joined ∙ drop_at w.stands.before (form w.char ++ w.stands.behind) i w.stands.place
+pub begins_at : (s : List ℕ) (i j : ℕ) → (w : WholeCharacter s i j) → drop i s ≡ encode w.char ++ w.stands.behind
+begins_at s i j w = ap (drop i) w.stands.joined ∙ drop_at w.stands.before (encode w.char ++ w.stands.behind) i w.stands.place
 
 -- where no character begins, none starts, at an index and at the start
 pub none_at : (s : List ℕ) (i : ℕ) → NoChar (drop i s) → (j : ℕ) → WholeCharacter s i j → ⊥
@@ -68,8 +68,8 @@ none_begins s h c rest k e = h _ (whole_at s 0 c rest (omega arith) k e)
 pub character_found : (bytes : List ℕ) (b c : ℕ) (bs : List ℕ) → bytes ≡ b ∷ bs → b < 256 → 0x80 ≤ b → first_item false b bs ≡ Ok c → is_surrogate c ≡ false
     → WholeCharacter bytes 0 (0 + (1 + needed_continuations b))
 character_found bytes b c bs d u l e s =
-    let f = first_form b c bs u e in
-    let n : length (form c) ≡ 1 + needed_continuations b = subst (λ x. length (form c) ≡ 1 + needed_continuations x) (ap (λ x. get_or x 0 0) (sym f.2)) (form_length c f.0 f.1 (subst (λ x. 0x80 ≤ get_or x 0 0) f.2 l)) in
+    let f = split_code_point b c bs u e in
+    let n : length (encode c) ≡ 1 + needed_continuations b = subst (λ x. length (encode c) ≡ 1 + needed_continuations x) (ap (λ x. get_or x 0 0) (sym f.2)) (form_length c f.0 f.1 (subst (λ x. 0x80 ≤ get_or x 0 0) f.2 l)) in
     subst (λ n. WholeCharacter bytes 0 (0 + n)) n (whole_at bytes 0 c f.0 (omega arith) (is_scalar c f.1 s) (d ∙ f.2))
 
 -- an ASCII byte is a whole character
@@ -108,10 +108,10 @@ character_in_rest s i r l h = by r (subst (λ x. IsCharacterAt x 0 r) rest h)
 pub same_end : (s : List ℕ) (i j k : ℕ) → WholeCharacter s i j → WholeCharacter s i k → j ≡ k
 same_end s i j k v w =
     let f = form_same v.char w.char v.stands.behind w.stands.behind (sym (begins_at s i j v) ∙ begins_at s i k w) in
-    v.end ∙ ap (λ c. i + length (form c)) f.0 ∙ sym w.end
+    v.end ∙ ap (λ c. i + length (encode c)) f.0 ∙ sym w.end
 
 -- the bytes of a whole character at the start are a text
 pub text_of_character : (s : List ℕ) (j : ℕ) → WholeCharacter s 0 j → IsUtf8 (take j s)
 text_of_character s j w =
-    let e : take j s ≡ form w.char = ap (take j) (begins_at s 0 j w) ∙ take_at (form w.char) w.stands.behind j (omega (arith, w.end)) in
+    let e : take j s ≡ encode w.char = ap (take j) (begins_at s 0 j w) ∙ take_at (encode w.char) w.stands.behind j (omega (arith, w.end)) in
     subst IsUtf8 (sym (e ∙ form_encode w.char)) (IsUtf8-encode w.char w.scalar)

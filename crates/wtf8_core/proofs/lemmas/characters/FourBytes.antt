@@ -1,5 +1,5 @@
 -- The first four bytes, and the character or the ill-formed part with which they begin.
-use Rattle.wtf8_core.proofs.Common.{◌≡◌, ℕ, ◌+◌, ◌<◌, ◌≤◌, List, ◌∷◌, ◌++◌, length, get_or, Some, true, false, sym, ap, ◌∙◌, subst, arith, refl, drop, [], if◌then◌else◌, cond-true, cond-false, nat_tests, get_or_append_left, IsScalar, is_in_range, utf8_error_len, second_byte_min, second_byte_max, IsContinuation, form, WholeCharacter, IsUtf8Fault}
+use Rattle.wtf8_core.proofs.Common.{◌≡◌, ℕ, ◌+◌, ◌<◌, ◌≤◌, List, ◌∷◌, ◌++◌, length, get_or, Some, true, false, sym, ap, ◌∙◌, subst, arith, refl, drop, [], if◌then◌else◌, cond-true, cond-false, nat_tests, get_or_append_left, IsScalar, is_in_range, utf8_error_len, second_byte_min, second_byte_max, IsContinuation, encode, WholeCharacter, IsUtf8Fault}
 use Rattle.wtf8_core.proofs.lemmas.characters.AtPlaces.{whole_at}
 use Rattle.wtf8_core.proofs.lemmas.characters.Overlaps.{form_behind}
 use Rattle.wtf8_core.proofs.lemmas.forms.Shapes.{form_bounds}
@@ -8,20 +8,20 @@ use Rattle.wtf8_core.proofs.lemmas.texts.AreWtf8.{valid_none}
 use Rattle.wtf8_core.proofs.lemmas.texts.StdFaults.{First, Second, Filled, filled, least_continuation, lead_of, second_of, len_of_four, fault_is}
 
 -- the length of a form, by its first byte
-pub past_ascii : (c : ℕ) → 0x80 ≤ get_or (form c) 0 0 → 0x80 ≤ c
-unfolding form
+pub past_ascii : (c : ℕ) → 0x80 ≤ get_or (encode c) 0 0 → 0x80 ≤ c
+unfolding encode
 past_ascii c h = grind (arith, nat_tests, h)
 
-two_or_more : (c : ℕ) → 0x80 ≤ c → 2 ≤ length (form c)
-unfolding form
+two_or_more : (c : ℕ) → 0x80 ≤ c → 2 ≤ length (encode c)
+unfolding encode
 two_or_more c h = grind (arith, nat_tests, h)
 
-three_or_more : (c : ℕ) → IsScalar c → 0xE0 ≤ get_or (form c) 0 0 → 3 ≤ length (form c)
-unfolding form
+three_or_more : (c : ℕ) → IsScalar c → 0xE0 ≤ get_or (encode c) 0 0 → 3 ≤ length (encode c)
+unfolding encode
 three_or_more c s h = grind (arith, nat_tests, s, h)
 
-four_or_more : (c : ℕ) → IsScalar c → 0xF0 ≤ get_or (form c) 0 0 → 4 ≤ length (form c)
-unfolding form
+four_or_more : (c : ℕ) → IsScalar c → 0xF0 ≤ get_or (encode c) 0 0 → 4 ≤ length (encode c)
+unfolding encode
 four_or_more c s h = grind (arith, nat_tests, s, h)
 
 -- the first four bytes of a list
@@ -51,20 +51,20 @@ no_second_of_two b x l n = grind (arith, nat_tests, l) ∙ not_in_range 0x80 0xB
 
 module _ (r : List ℕ) (long : 4 ≤ length r) (high : 0x80 ≤ get_or r 0 0) where
   -- what the first four bytes are if a character begins there
-  record IsBegun : Type 0 where
+  record IsSequenceStart : Type 0 where
     first : First (get_or r 0 0)
     second : Second (get_or r 0 0) (get_or r 1 0)
     third : 0xE0 ≤ get_or r 0 0 → IsContinuation (get_or r 2 0)
     fourth : 0xF0 ≤ get_or r 0 0 → IsContinuation (get_or r 3 0)
 
-  begun : (c : ℕ) (rest : List ℕ) → IsScalar c → r ≡ form c ++ rest → IsBegun
+  begun : (c : ℕ) (rest : List ℕ) → IsScalar c → r ≡ encode c ++ rest → IsSequenceStart
   begun c rest s e =
-      let at : (i : ℕ) → i < length (form c) → get_or r i 0 ≡ get_or (form c) i 0 = λ i h. ap (λ l. get_or l i 0) e ∙ get_or_append_left (form c) rest 0 i h in
+      let at : (i : ℕ) → i < length (encode c) → get_or r i 0 ≡ get_or (encode c) i 0 = λ i h. ap (λ l. get_or l i 0) e ∙ get_or_append_left (encode c) rest 0 i h in
       let b_is = at 0 (form_bounds c).0 in
       let past : 0x80 ≤ c = past_ascii c (subst (λ n. 0x80 ≤ n) b_is high) in
       record {
         first = subst First (sym b_is) (lead_of c s past);
-        second = subst (λ n. Second n (get_or r 1 0)) (sym b_is) (subst (Second (get_or (form c) 0 0)) (sym (at 1 (two_or_more c past))) (second_of c s past));
+        second = subst (λ n. Second n (get_or r 1 0)) (sym b_is) (subst (Second (get_or (encode c) 0 0)) (sym (at 1 (two_or_more c past))) (second_of c s past));
         third = λ h. let l = three_or_more c s (subst (λ n. 0xE0 ≤ n) b_is h) in subst IsContinuation (sym (at 2 l)) (form_behind c 2 (omega arith) l);
         fourth = λ h. let l = four_or_more c s (subst (λ n. 0xF0 ≤ n) b_is h) in subst IsContinuation (sym (at 3 l)) (form_behind c 3 (omega arith) l);
       }
@@ -75,7 +75,7 @@ module _ (r : List ℕ) (long : 4 ≤ length r) (high : 0x80 ≤ get_or r 0 0) w
   std_len = ap utf8_error_len (four_first r long) ∙ len_of_four (get_or r 0 0) (get_or r 1 0) (get_or r 2 0) (get_or r 3 0) (drop 4 r)
 
   -- if one of them isn't so, the part is as long as std says
-  fault : (k : ℕ) → (IsBegun → ⊥) → utf8_error_len r ≡ Some k → IsUtf8Fault r 0 (Some k)
+  fault : (k : ℕ) → (IsSequenceStart → ⊥) → utf8_error_len r ≡ Some k → IsUtf8Fault r 0 (Some k)
   fault k n e = fault_is r 0 (Some k) (valid_none r (omega (arith, long)) (λ c rest s w. n (begun c rest s w))) (sym e)
 
   pub at_first : is_in_range 0xC2 0xF4 (get_or r 0 0) ≡ false → IsUtf8Fault r 0 (Some 1)
@@ -90,7 +90,7 @@ module _ (r : List ℕ) (long : 4 ≤ length r) (high : 0x80 ≤ get_or r 0 0) w
       with_continuations : (y z : ℕ) → IsContinuation y → IsContinuation z → (front rest : List ℕ) → front ≡ Filled (get_or r 0 0) (get_or r 1 0) y z → r ≡ front ++ rest → WholeCharacter r 0 (0 + length front)
       with_continuations y z h k front rest e is =
           let w = filled (get_or r 0 0) (get_or r 1 0) y z (in_range-true 0xC2 0xF4 _ f) (in_range-true _ _ (get_or r 1 0) g) h k in
-          let form_is : form w.0 ≡ front = w.2 ∙ sym e in
+          let form_is : encode w.0 ≡ front = w.2 ∙ sym e in
           subst (λ l. WholeCharacter r 0 (0 + length l)) form_is (whole_at r 0 w.0 rest (omega arith) w.1 (is ∙ ap (λ l. l ++ rest) (sym form_is)))
 
       pub two_long : get_or r 0 0 < 0xE0 → WholeCharacter r 0 2

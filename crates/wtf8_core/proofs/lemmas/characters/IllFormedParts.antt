@@ -1,15 +1,15 @@
 -- No whole character starts or ends inside a maximal ill-formed part, and none extends across its start or end.
-use Rattle.wtf8_core.proofs.Common.{◌≡◌, ◌⊎◌, inl, inr, ⊎_elim, ℕ, ◌+◌, ◌-◌, ◌<◌, ◌≤◌, List, [], length, take, drop, get_or, Option, Some, None, sym, ap, ◌∙◌, subst, arith, length-drop, take-append-drop, take-length, cases_lt, cases_eq, get_or-drop, get_or-take, length-take-le, MatchOption, IsUtf8, IsContinuation, WholeCharacter, IsSeam, IsFrontOfCharacter, IsProperFront, IsIllFormed, IsUtf8Fault, part_end}
+use Rattle.wtf8_core.proofs.Common.{◌≡◌, ◌⊎◌, inl, inr, ⊎_elim, ℕ, ◌+◌, ◌-◌, ◌<◌, ◌≤◌, List, [], length, take, drop, get_or, Option, Some, None, sym, ap, ◌∙◌, subst, arith, length-drop, take-append-drop, take-length, cases_lt, cases_eq, get_or-drop, get_or-take, length-take-le, MatchOption, IsUtf8, IsContinuation, WholeCharacter, CrossesNoCharacter, IsFrontOfCharacter, IsProperFront, IsIllFormed, IsUtf8Fault, part_end}
 use Rattle.wtf8_core.proofs.lemmas.characters.AtPlaces.{none_at, character_fits}
 use Rattle.wtf8_core.proofs.lemmas.characters.Overlaps.{no_start}
 use Rattle.wtf8_core.proofs.lemmas.characters.Seams.{seam_at_start, text_covered}
 use Rattle.wtf8_core.proofs.lemmas.texts.StdFaults.{no_char, front_behind}
 
 -- no whole character extends across the end of a text at the start
-pub seam_behind_text : (s : List ℕ) (v : ℕ) → v ≤ length s → IsUtf8 (take v s) → IsSeam s v
+pub seam_behind_text : (s : List ℕ) (v : ℕ) → v ≤ length s → IsUtf8 (take v s) → CrossesNoCharacter s v
 seam_behind_text s v l u =
     let size : 0 + length (take v s) ≡ v = omega (arith, length-take-le v s l) in
-    subst (IsSeam s) size (text_covered s [] (take v s) (drop v s) (sym (take-append-drop v s)) u (seam_at_start s)).1
+    subst (CrossesNoCharacter s) size (text_covered s [] (take v s) (drop v s) (sym (take-append-drop v s)) u (seam_at_start s)).1
 
 -- none starts after the first byte of a prefix of a character
 none_inside : (s : List ℕ) (v k a b : ℕ) → (1 < k → IsFrontOfCharacter (take k (drop v s))) → k ≤ length (drop v s) → WholeCharacter s a b → v < a → a < v + k → ⊥

@@ -1,27 +1,27 @@
 -- Whole characters don't overlap, so a boundary stays one in a part that ends or starts at a boundary.
-use Rattle.wtf8_core.proofs.Common.{◌≡◌, ◌⊎◌, inl, inr, ⊎_elim, ℕ, zero, suc, ◌+◌, ◌-◌, ◌<◌, ◌≤◌, List, ◌++◌, length, take, drop, get_or, sym, ap, ◌∙◌, subst, arith, length-drop, take-append-add, cases_lt, cases_eq, drop-drop, drop-take, length-take-le, get_or-drop, get_or_append_left, IsContinuation, form, WholeCharacter, IsBoundary, All-from_recursion, All-get_or}
+use Rattle.wtf8_core.proofs.Common.{◌≡◌, ◌⊎◌, inl, inr, ⊎_elim, ℕ, zero, suc, ◌+◌, ◌-◌, ◌<◌, ◌≤◌, List, ◌++◌, length, take, drop, get_or, sym, ap, ◌∙◌, subst, arith, length-drop, take-append-add, cases_lt, cases_eq, drop-drop, drop-take, length-take-le, get_or-drop, get_or_append_left, IsContinuation, encode, WholeCharacter, IsBoundary, All-from_recursion, All-get_or}
 use Rattle.wtf8_core.proofs.lemmas.forms.Shapes.{form_bounds, form_parts}
 use Rattle.wtf8_core.proofs.lemmas.characters.AtPlaces.{begins_at, whole_at, character_fits, same_end}
 
 -- the bytes of a form after the first are continuations, and the first is none
-pub form_behind : (c m : ℕ) → 0 < m → m < length (form c) → IsContinuation (get_or (form c) m 0)
+pub form_behind : (c m : ℕ) → 0 < m → m < length (encode c) → IsContinuation (get_or (encode c) m 0)
 form_behind c zero l h = absurd (omega arith)
 form_behind c (suc m) l h =
     let p = form_parts c in
-    let n : length (form c) ≡ suc (length p.behind) = ap length p.is in
+    let n : length (encode c) ≡ suc (length p.behind) = ap length p.is in
     subst IsContinuation (sym (ap (λ x. get_or x (suc m) 0) p.is)) (All-get_or IsContinuation p.behind m 0 (omega arith) (All-from_recursion IsContinuation p.behind p.continued))
 
 -- the bytes of a whole character
-byte_of : (s : List ℕ) (i j m : ℕ) → (w : WholeCharacter s i j) → m < length (form w.char) → get_or s (i + m) 0 ≡ get_or (form w.char) m 0
+byte_of : (s : List ℕ) (i j m : ℕ) → (w : WholeCharacter s i j) → m < length (encode w.char) → get_or s (i + m) 0 ≡ get_or (encode w.char) m 0
 byte_of s i j m w h =
-    sym (get_or-drop i s m 0) ∙ ap (λ x. get_or x m 0) (begins_at s i j w) ∙ get_or_append_left (form w.char) w.stands.behind 0 m h
+    sym (get_or-drop i s m 0) ∙ ap (λ x. get_or x m 0) (begins_at s i j w) ∙ get_or_append_left (encode w.char) w.stands.behind 0 m h
 
 -- those after the first are continuations
 pub continued : (s : List ℕ) (i j k : ℕ) → WholeCharacter s i j → i < k → k < j → IsContinuation (get_or s k 0)
 continued s i j k w low high =
     let m = k - i in
     let e = w.end in
-    let b : get_or s (i + m) 0 ≡ get_or (form w.char) m 0 = byte_of s i j m w (omega arith) in
+    let b : get_or s (i + m) 0 ≡ get_or (encode w.char) m 0 = byte_of s i j m w (omega arith) in
     let z : i + m ≡ k = omega arith in
     subst (λ n. IsContinuation (get_or s n 0)) z (subst IsContinuation (sym b) (form_behind w.char m (omega arith) (omega arith)))
 
@@ -67,9 +67,9 @@ no_boundary_inside s i j k w b low high =
 in_front : (s : List ℕ) (a b j : ℕ) → WholeCharacter s a b → b ≤ j → j ≤ length s → WholeCharacter (take j s) a b
 in_front s a b j w le fits =
     let e = w.end in
-    let n = length (form w.char) + (j - b) in
-    let d : drop a (take j s) ≡ form w.char ++ take (j - b) w.stands.behind =
-    ap (λ m. drop a (take m s)) (let z : j ≡ a + n = omega arith in z) ∙ drop-take a n s ∙ ap (take n) (begins_at s a b w) ∙ take-append-add (form w.char) w.stands.behind (j - b) in
+    let n = length (encode w.char) + (j - b) in
+    let d : drop a (take j s) ≡ encode w.char ++ take (j - b) w.stands.behind =
+    ap (λ m. drop a (take m s)) (let z : j ≡ a + n = omega arith in z) ∙ drop-take a n s ∙ ap (take n) (begins_at s a b w) ∙ take-append-add (encode w.char) w.stands.behind (j - b) in
     subst (WholeCharacter (take j s) a) (sym e) (whole_at (take j s) a w.char (take (j - b) w.stands.behind) (omega (arith, length-take-le j s fits)) w.scalar d)
 
 -- the same for what follows an index
@@ -77,8 +77,8 @@ pub in_rest : (s : List ℕ) (a b j : ℕ) → WholeCharacter s a b → j ≤ a 
 in_rest s a b j w le =
     let e = w.end in
     let f = character_fits s a b w in
-    let d : drop (a - j) (drop j s) ≡ form w.char ++ w.stands.behind = drop-drop (a - j) j s ∙ ap (λ n. drop n s) (let z : j + (a - j) ≡ a = omega arith in z) ∙ begins_at s a b w in
-    let z : a - j + length (form w.char) ≡ b - j = omega arith in
+    let d : drop (a - j) (drop j s) ≡ encode w.char ++ w.stands.behind = drop-drop (a - j) j s ∙ ap (λ n. drop n s) (let z : j + (a - j) ≡ a = omega arith in z) ∙ begins_at s a b w in
+    let z : a - j + length (encode w.char) ≡ b - j = omega arith in
     subst (WholeCharacter (drop j s) (a - j)) z (whole_at (drop j s) (a - j) w.char w.stands.behind (omega (arith, length-drop j s)) w.scalar d)
 
 -- a boundary is also one of a prefix that ends at a boundary

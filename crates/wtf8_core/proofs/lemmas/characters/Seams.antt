@@ -1,10 +1,10 @@
 -- Bytes in whole characters and in none, and the indices across which no whole character extends.
-use Rattle.wtf8_core.proofs.Common.{◌≡◌, ◌⊎◌, inl, inr, ⊎_elim, ℕ, zero, suc, ◌+◌, ◌-◌, ◌<◌, ◌≤◌, true, false, List, [], ◌∷◌, ◌++◌, length, drop, Result, Ok, Err, refl, sym, ap, ◌∙◌, subst, arith, length-append, append_assoc, and_parts, cases_lt, cases_eq, cases_Bool, drop-append_seam, scalar, IsScalar, AllByRecursion, flat_map, IsUtf8, all_scalars, IsByte, is_surrogate, form, WholeCharacter, IsCovered, IsSeam, first_item, EncodingError}
+use Rattle.wtf8_core.proofs.Common.{◌≡◌, ◌⊎◌, inl, inr, ⊎_elim, ℕ, zero, suc, ◌+◌, ◌-◌, ◌<◌, ◌≤◌, true, false, List, [], ◌∷◌, ◌++◌, length, drop, Result, Ok, Err, refl, sym, ap, ◌∙◌, subst, arith, length-append, append_assoc, and_parts, cases_lt, cases_eq, cases_Bool, drop-append_seam, scalar, IsScalar, AllByRecursion, flat_map, IsUtf8, all_scalars, IsByte, is_surrogate, encode, WholeCharacter, IsCovered, CrossesNoCharacter, first_item, EncodingError}
 use Rattle.wtf8_core.proofs.lemmas.forms.Shapes.{form_bounds, form_bytes}
 use Rattle.wtf8_core.proofs.lemmas.forms.ByStd.{forms_encode}
 use Rattle.wtf8_core.proofs.lemmas.characters.AtPlaces.{character_fits, same_end, whole_at, begins_at, none_at, none_begins, none_past, none_in_none, none_at_surrogate, none_at_fault, scalar_point, is_scalar}
 use Rattle.wtf8_core.proofs.lemmas.characters.Overlaps.{no_start_inside, in_rest}
-use Rattle.wtf8_core.proofs.lemmas.reader.Sound.{first_form}
+use Rattle.wtf8_core.proofs.lemmas.reader.Sound.{split_code_point}
 
 -- P holds of each index of xs, counted from i on
 abbrev pub Over : (ℕ → Type 0) → ℕ → List ℕ → Type 0
@@ -28,11 +28,11 @@ pub over_both : (P : ℕ → Type 0) (i : ℕ) (xs ys : List ℕ) → Over P i x
 over_both P i xs ys h more k low high = ⊎_elim (λ lt. h k low lt) (λ ge. more k ge (omega (arith, length-append xs ys))) (cases_lt k (i + length xs))
 
 -- none extends across the start
-pub seam_at_start : (s : List ℕ) → IsSeam s 0
+pub seam_at_start : (s : List ℕ) → CrossesNoCharacter s 0
 seam_at_start s a b w low high = omega arith
 
 -- no other extends across the end of a whole character
-pub seam_past : (s : List ℕ) (i j : ℕ) → IsSeam s i → WholeCharacter s i j → IsSeam s j
+pub seam_past : (s : List ℕ) (i j : ℕ) → CrossesNoCharacter s i → WholeCharacter s i j → CrossesNoCharacter s j
 seam_past s i j h w a b v low high =
     let f = character_fits s i j w in
     ⊎_elim
@@ -41,7 +41,7 @@ seam_past s i j h w a b v low high =
     (cases_eq a i)
 
 -- bytes from a seam on, at which no whole character starts, are bare, and end at a seam
-pub bare_run : (s : List ℕ) (i : ℕ) (xs : List ℕ) → IsSeam s i → ((a b : ℕ) → i ≤ a → a < i + length xs → WholeCharacter s a b → ⊥) → Bare s i xs × IsSeam s (i + length xs)
+pub bare_run : (s : List ℕ) (i : ℕ) (xs : List ℕ) → CrossesNoCharacter s i → ((a b : ℕ) → i ≤ a → a < i + length xs → WholeCharacter s a b → ⊥) → Bare s i xs × CrossesNoCharacter s (i + length xs)
 bare_run s i xs h none = (
   λ k low high c. let from = c.from in let below = c.below in ⊎_elim (λ lt. h c.start c.end c.whole lt (omega arith)) (λ ge. none c.start c.end ge (omega arith) c.whole) (cases_lt c.start i),
   λ a b w low high. ⊎_elim (λ lt. h a b w lt (omega arith)) (λ ge. none a b ge low w) (cases_lt a i),
@@ -66,7 +66,7 @@ covered_within s x m y k e c =
     record { start = length x + c.start; end = length x + c.end; whole = whole_within s x m y c.start c.end e c.whole; from = omega arith; below = omega arith }
 
 -- and after a seam the bytes of s that are in whole characters are so in the rest, too
-pub covered_behind : (s x r : List ℕ) (k : ℕ) → s ≡ x ++ r → IsSeam s (length x) → length x ≤ k → IsCovered s k → IsCovered r (k - length x)
+pub covered_behind : (s x r : List ℕ) (k : ℕ) → s ≡ x ++ r → CrossesNoCharacter s (length x) → length x ≤ k → IsCovered s k → IsCovered r (k - length x)
 covered_behind s x r k e h low c =
     let from = c.from in
     let below = c.below in
@@ -85,13 +85,13 @@ front_or_none : (s : List ℕ) → ((j : ℕ) × WholeCharacter s 0 j) ⊎ ((j :
 front_or_none [] = inr (none_in_none [] refl)
 front_or_none (b ∷ bs) =
     ⊎_elim (λ lt. by lt (first_item false b bs) refl)
-    (λ ge. inr (λ j w. let f = first_byte b bs (form w.char) w.stands.behind (form_bytes w.char (scalar_point w.char w.scalar)) (form_bounds w.char).0 (begins_at (b ∷ bs) 0 j w) in omega arith))
+    (λ ge. inr (λ j w. let f = first_byte b bs (encode w.char) w.stands.behind (form_bytes w.char (scalar_point w.char w.scalar)) (form_bounds w.char).0 (begins_at (b ∷ bs) 0 j w) in omega arith))
     (cases_lt b 256)
   where
     by : b < 256 → (r : Result ℕ EncodingError) → first_item false b bs ≡ r → ((j : ℕ) × WholeCharacter (b ∷ bs) 0 j) ⊎ ((j : ℕ) → WholeCharacter (b ∷ bs) 0 j → ⊥)
     by lt (Ok c) e =
         ⊎_elim (λ t. inr (none_at_surrogate (b ∷ bs) b c bs refl e t))
-        (λ f. let p = first_form b c bs lt e in inl (0 + length (form c), whole_at (b ∷ bs) 0 c p.0 (omega arith) (is_scalar c p.1 f) p.2))
+        (λ f. let p = split_code_point b c bs lt e in inl (0 + length (encode c), whole_at (b ∷ bs) 0 c p.0 (omega arith) (is_scalar c p.1 f) p.2))
         (cases_Bool (is_surrogate c))
     by lt (Err f) e = inr (none_at_fault (b ∷ bs) b f bs refl e)
 
@@ -100,7 +100,7 @@ start_or_none : (s : List ℕ) (i : ℕ) → ((j : ℕ) × WholeCharacter s i j)
 start_or_none s i =
     ⊎_elim
     (λ past. inr (none_past s i (omega arith)))
-    (λ le. ⊎_elim (λ h. let w = h.1 in inl (i + length (form w.char), whole_at s i w.char w.stands.behind le w.scalar (begins_at (drop i s) 0 h.0 w))) (λ h. inr (none_at s i (none_begins (drop i s) h))) (front_or_none (drop i s)))
+    (λ le. ⊎_elim (λ h. let w = h.1 in inl (i + length (encode w.char), whole_at s i w.char w.stands.behind le w.scalar (begins_at (drop i s) 0 h.0 w))) (λ h. inr (none_at s i (none_begins (drop i s) h))) (front_or_none (drop i s)))
     (cases_lt (length s) i)
 
 -- a byte is in no whole character, or in one
@@ -126,38 +126,38 @@ bare_or_covered s k = ⊎_elim inr (λ h. inl (λ c. let f = character_fits s c.
 
 -- the bytes of code points
 abbrev pub Forms : List ℕ → List ℕ
-Forms cs = flat_map form cs
+Forms cs = flat_map encode cs
 
 -- what holds of the bytes of each code point after a seam, which end at a seam, holds of those of a list
 module _ (s : List ℕ) (P Q : ℕ → Type 0)
-    (one : (x r : List ℕ) (i c : ℕ) → s ≡ x ++ (form c ++ r) → length x ≡ i → Q c → IsSeam s i → Over P i (form c) × IsSeam s (i + length (form c))) where
-  pub forms_over : (x r : List ℕ) (i : ℕ) (cs : List ℕ) → s ≡ x ++ (Forms cs ++ r) → length x ≡ i → AllByRecursion Q cs → IsSeam s i → Over P i (Forms cs) × IsSeam s (i + length (Forms cs))
-  forms_over x r i [] e l h k = let z : i ≡ i + 0 = omega arith in (over_none P i, subst (IsSeam s) z k)
+    (one : (x r : List ℕ) (i c : ℕ) → s ≡ x ++ (encode c ++ r) → length x ≡ i → Q c → CrossesNoCharacter s i → Over P i (encode c) × CrossesNoCharacter s (i + length (encode c))) where
+  pub forms_over : (x r : List ℕ) (i : ℕ) (cs : List ℕ) → s ≡ x ++ (Forms cs ++ r) → length x ≡ i → AllByRecursion Q cs → CrossesNoCharacter s i → Over P i (Forms cs) × CrossesNoCharacter s (i + length (Forms cs))
+  forms_over x r i [] e l h k = let z : i ≡ i + 0 = omega arith in (over_none P i, subst (CrossesNoCharacter s) z k)
   forms_over x r i (c ∷ cs) e l h k =
-      let f : s ≡ x ++ (form c ++ (Forms cs ++ r)) = e ∙ ap (λ y. x ++ y) (append_assoc (form c) (Forms cs) r) in
+      let f : s ≡ x ++ (encode c ++ (Forms cs ++ r)) = e ∙ ap (λ y. x ++ y) (append_assoc (encode c) (Forms cs) r) in
       let first = one x (Forms cs ++ r) i c f l h.0 k in
-      let more = forms_over (x ++ form c) r (i + length (form c)) cs (f ∙ sym (append_assoc x (form c) (Forms cs ++ r))) (length-append x (form c) ∙ ap (λ n. n + length (form c)) l) h.1 first.1 in
-      let z : i + length (form c) + length (Forms cs) ≡ i + length (form c ++ Forms cs) = omega (arith, length-append (form c) (Forms cs)) in
-      (over_both P i (form c) (Forms cs) first.0 more.0, subst (IsSeam s) z more.1)
+      let more = forms_over (x ++ encode c) r (i + length (encode c)) cs (f ∙ sym (append_assoc x (encode c) (Forms cs ++ r))) (length-append x (encode c) ∙ ap (λ n. n + length (encode c)) l) h.1 first.1 in
+      let z : i + length (encode c) + length (Forms cs) ≡ i + length (encode c ++ Forms cs) = omega (arith, length-append (encode c) (Forms cs)) in
+      (over_both P i (encode c) (Forms cs) first.0 more.0, subst (CrossesNoCharacter s) z more.1)
 
 -- the bytes of a scalar are in a whole character
-pub scalar_covered : (s x r : List ℕ) (i c : ℕ) → s ≡ x ++ (form c ++ r) → length x ≡ i → IsScalar c → IsSeam s i → Covered s i (form c) × IsSeam s (i + length (form c))
+pub scalar_covered : (s x r : List ℕ) (i c : ℕ) → s ≡ x ++ (encode c ++ r) → length x ≡ i → IsScalar c → CrossesNoCharacter s i → Covered s i (encode c) × CrossesNoCharacter s (i + length (encode c))
 scalar_covered s x r i c e l h k =
-    let w : WholeCharacter s i (i + length (form c)) = record { char = c; scalar = h; stands = record { before = x; behind = r; joined = e; place = l }; end = refl } in
-    (λ j low high. record { start = i; end = i + length (form c); whole = w; from = low; below = high }, seam_past s i (i + length (form c)) k w)
+    let w : WholeCharacter s i (i + length (encode c)) = record { char = c; scalar = h; stands = record { before = x; behind = r; joined = e; place = l }; end = refl } in
+    (λ j low high. record { start = i; end = i + length (encode c); whole = w; from = low; below = high }, seam_past s i (i + length (encode c)) k w)
 
 -- those of a text are in whole characters, and a text after a seam ends at one
 pub scalars_are : (cs : List ℕ) → all_scalars cs ≡ true → AllByRecursion IsScalar cs
 scalars_are [] e = tt
 scalars_are (c ∷ cs) e = let both = and_parts (scalar c) _ e in (both.0, scalars_are cs both.1)
 
-pub text_covered : (s x t r : List ℕ) → s ≡ x ++ (t ++ r) → IsUtf8 t → IsSeam s (length x) → Covered s (length x) t × IsSeam s (length x + length t)
+pub text_covered : (s x t r : List ℕ) → s ≡ x ++ (t ++ r) → IsUtf8 t → CrossesNoCharacter s (length x) → Covered s (length x) t × CrossesNoCharacter s (length x + length t)
 text_covered s x t r e u k =
     let f : Forms u.0 ≡ t = forms_encode u.0 ∙ u.1.1 in
-    subst (λ y. Covered s (length x) y × IsSeam s (length x + length y)) f (forms_over s (IsCovered s) IsScalar (scalar_covered s) x r (length x) u.0 (e ∙ ap (λ y. x ++ (y ++ r)) (sym f)) refl (scalars_are u.0 u.1.0) k)
+    subst (λ y. Covered s (length x) y × CrossesNoCharacter s (length x + length y)) f (forms_over s (IsCovered s) IsScalar (scalar_covered s) x r (length x) u.0 (e ∙ ap (λ y. x ++ (y ++ r)) (sym f)) refl (scalars_are u.0 u.1.0) k)
 
 -- and bare bytes at the start end at a seam
-pub seam_behind_bare : (s p : List ℕ) → Bare s 0 p → IsSeam s (length p)
+pub seam_behind_bare : (s p : List ℕ) → Bare s 0 p → CrossesNoCharacter s (length p)
 seam_behind_bare s p h a b w low high =
     let f = character_fits s a b w in
     h a (omega arith) (omega arith) (record { start = a; end = b; whole = w; from = omega arith; below = omega arith })

@@ -1,5 +1,5 @@
 -- A string has exactly one list of chunks.
-use Rattle.wtf8_core.proofs.Common.{◌≡◌, ⊎_elim, ℕ, ◌+◌, ◌-◌, ◌<◌, Bool, true, false, List, [], ◌∷◌, ◌++◌, length, refl, sym, ap, ◌∙◌, subst, arith, length-append, append_assoc, cases_lt, cases_eq, append-nil, IsCovered, IsSeam, Chunk, joined, AreChunks}
+use Rattle.wtf8_core.proofs.Common.{◌≡◌, ⊎_elim, ℕ, ◌+◌, ◌-◌, ◌<◌, Bool, true, false, List, [], ◌∷◌, ◌++◌, length, refl, sym, ap, ◌∙◌, subst, arith, length-append, append_assoc, cases_lt, cases_eq, append-nil, IsCovered, CrossesNoCharacter, Chunk, joined, AreChunks}
 use Rattle.wtf8_core.proofs.lemmas.forms.Appending.{append_same}
 use Rattle.wtf8_core.proofs.lemmas.characters.Seams.{Bare, Covered, over_none, over_first, bare_or_covered, covered_within, covered_behind}
 use Rattle.wtf8_core.proofs.lemmas.chunks.Groups.{IsGroup, AreGroups, groups_from_each, each_from_groups, EachIsOfOne, grouped, not_first}
@@ -88,7 +88,7 @@ pub chunks_once : (s : List ℕ) (cs ds : List Chunk) → AreChunks s cs → Are
 chunks_once s cs ds h k = one_list s 0 true true cs ds (chunks_from_start s cs h) (chunks_from_start s ds k) (h.joins ∙ sym k.joins)
 
 -- the chunks of what follows a seam are chunks of s
-module _ (s x r : List ℕ) (is : s ≡ x ++ r) (seam : IsSeam s (length x)) where
+module _ (s x r : List ℕ) (is : s ≡ x ++ r) (seam : CrossesNoCharacter s (length x)) where
   behind_seam : (i : ℕ) (first : Bool) (cs : List Chunk) → AreChunksFrom r i first cs → AreChunksFrom s (length x + i) first cs
   behind_seam i first [] g = tt
   behind_seam i first (c ∷ cs) g =
@@ -106,7 +106,7 @@ module _ (s x r : List ℕ) (is : s ≡ x ++ r) (seam : IsSeam s (length x)) whe
       )
 
 -- a part and a text before a seam at which none or a part begins, and the chunks of what follows
-pub one_more_chunk : (s p t r : List ℕ) (cs : List Chunk) → s ≡ p ++ (t ++ r) → 0 < length s → Bare s 0 p → Covered s (length p) t → IsSeam s (length (p ++ t)) → (t ≡ [] → r ≡ []) → (0 < length r → ¬ (IsCovered s (length (p ++ t)))) → AreChunks r cs → AreChunks s ((p, t) ∷ cs)
+pub one_more_chunk : (s p t r : List ℕ) (cs : List Chunk) → s ≡ p ++ (t ++ r) → 0 < length s → Bare s 0 p → Covered s (length p) t → CrossesNoCharacter s (length (p ++ t)) → (t ≡ [] → r ≡ []) → (0 < length r → ¬ (IsCovered s (length (p ++ t)))) → AreChunks r cs → AreChunks s ((p, t) ∷ cs)
 one_more_chunk s p t r cs e some bare covered seam last ended h = are_chunks s ((p, t) ∷ cs) (ap (λ x. p ++ (t ++ x)) h.joins ∙ sym e) (
   record {
     some = ⊎_elim (λ z. let none = last (empty t z) in omega (arith, size (p, t), ap length none, long)) (λ ne. omega (arith, size (p, t))) (cases_eq (length t) 0);

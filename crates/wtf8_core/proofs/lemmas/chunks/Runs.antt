@@ -1,5 +1,5 @@
 -- The chunks of WTF-8 are the forms of its runs of surrogates, each with the scalar values after it.
-use Rattle.wtf8_core.proofs.Common.{◌≡◌, inl, inr, ⊎_elim, ℕ, ◌+◌, ◌-◌, ◌≤◌, Bool, true, false, List, [], ◌∷◌, ◌++◌, map, length, drop, get_or, refl, sym, ap, ◌∙◌, subst, arith, length-append, append_assoc, drop-append_seam, cases_eq, cases_Bool, flat_map-append, get_or-drop, get_or_append_left, IsScalar, AllByRecursion, IsContinuation, IsSurrogate, is_surrogate, IsCodePoint, form, IsCovered, IsSeam, Chunk, joined, AreChunks, Spells}
+use Rattle.wtf8_core.proofs.Common.{◌≡◌, inl, inr, ⊎_elim, ℕ, ◌+◌, ◌-◌, ◌≤◌, Bool, true, false, List, [], ◌∷◌, ◌++◌, map, length, drop, get_or, refl, sym, ap, ◌∙◌, subst, arith, length-append, append_assoc, drop-append_seam, cases_eq, cases_Bool, flat_map-append, get_or-drop, get_or_append_left, IsScalar, AllByRecursion, IsContinuation, IsSurrogate, is_surrogate, IsCodePoint, encode, IsCovered, CrossesNoCharacter, Chunk, joined, AreChunks, Encodes}
 use Rattle.wtf8_core.specs.Runs.{AreRuns, form_chunk}
 use Rattle.wtf8_core.proofs.lemmas.forms.Ranges.{in_range-true, in_range}
 use Rattle.wtf8_core.proofs.lemmas.forms.Shapes.{form_bounds}
@@ -11,17 +11,17 @@ use Rattle.wtf8_core.proofs.lemmas.chunks.Groups.{AreGroups, each_from_groups, E
 use Rattle.wtf8_core.proofs.lemmas.chunks.OneList.{AreChunksFrom, empty, are_chunks, chunks_once}
 
 -- the bytes of a surrogate aren't in any whole character
-surrogate_bare : (s x r : List ℕ) (i c : ℕ) → s ≡ x ++ (form c ++ r) → length x ≡ i → IsSurrogate c → IsSeam s i → Bare s i (form c) × IsSeam s (i + length (form c))
-surrogate_bare s x r i c e l h k = bare_run s i (form c) k (λ a b low high w. ⊎_elim
+surrogate_bare : (s x r : List ℕ) (i c : ℕ) → s ≡ x ++ (encode c ++ r) → length x ≡ i → IsSurrogate c → CrossesNoCharacter s i → Bare s i (encode c) × CrossesNoCharacter s (i + length (encode c))
+surrogate_bare s x r i c e l h k = bare_run s i (encode c) k (λ a b low high w. ⊎_elim
     (λ q. let same = form_same w.char c w.stands.behind r (sym (begins_at s a b w) ∙ ap (λ n. drop n s) q ∙ rest) in scalar_no_surrogate w.char w.scalar (ap is_surrogate same.0 ∙ in_range _ _ c h))
     (λ ne. let m = a - i in
     let z : i + m ≡ a = omega arith in
-    let byte : get_or s (i + m) 0 ≡ get_or (form c) m 0 = sym (get_or-drop i s m 0) ∙ ap (λ y. get_or y m 0) rest ∙ get_or_append_left (form c) r 0 m (omega arith) in
+    let byte : get_or s (i + m) 0 ≡ get_or (encode c) m 0 = sym (get_or-drop i s m 0) ∙ ap (λ y. get_or y m 0) rest ∙ get_or_append_left (encode c) r 0 m (omega arith) in
     no_start s a b (subst (λ n. IsContinuation (get_or s n 0)) z (subst IsContinuation (sym byte) (form_behind c m (omega arith) (omega arith)))) w)
     (cases_eq a i))
   where
-    rest : drop i s ≡ form c ++ r
-    rest = ap (λ n. drop n s) (sym l) ∙ ap (drop (length x)) e ∙ drop-append_seam x (form c ++ r)
+    rest : drop i s ≡ encode c ++ r
+    rest = ap (λ n. drop n s) (sym l) ∙ ap (drop (length x)) e ∙ drop-append_seam x (encode c ++ r)
 
 -- lists of surrogates, and of scalars, at any index
 abbrev Surrogates : ℕ → List ℕ → Type 0
@@ -33,19 +33,19 @@ Scalars i cs = AllByRecursion IsScalar cs
 -- each form has a byte
 as_many : (cs : List ℕ) → length cs ≤ length (Forms cs)
 as_many [] = omega arith
-as_many (c ∷ cs) = let b = form_bounds c in let more = as_many cs in omega (arith, length-append (form c) (Forms cs))
+as_many (c ∷ cs) = let b = form_bounds c in let more = as_many cs in omega (arith, length-append (encode c) (Forms cs))
 
 no_forms : (cs : List ℕ) → Forms cs ≡ [] → cs ≡ []
 no_forms cs e = empty cs (omega (arith, as_many cs, ap length e))
 
 -- the bytes of runs are chunks
-chunks_of_runs : (s x : List ℕ) (i j : ℕ) (first : Bool) (runs : List Chunk) → s ≡ x ++ Forms (joined runs) → length x ≡ i → AreGroups Surrogates Scalars j first runs → IsSeam s i → AreChunksFrom s i first (map form_chunk runs)
+chunks_of_runs : (s x : List ℕ) (i j : ℕ) (first : Bool) (runs : List Chunk) → s ≡ x ++ Forms (joined runs) → length x ≡ i → AreGroups Surrogates Scalars j first runs → CrossesNoCharacter s i → AreChunksFrom s i first (map form_chunk runs)
 chunks_of_runs s x i j first [] e l g k = tt
 chunks_of_runs s x i j first (c ∷ cs) e l g k =
     let p = Forms c.0 in
     let t = Forms c.1 in
     let r = Forms (joined cs) in
-    let f : s ≡ x ++ (p ++ (t ++ r)) = e ∙ ap (λ y. x ++ y) (flat_map-append form c.0 (c.1 ++ joined cs) ∙ ap (λ y. p ++ y) (flat_map-append form c.1 (joined cs))) in
+    let f : s ≡ x ++ (p ++ (t ++ r)) = e ∙ ap (λ y. x ++ y) (flat_map-append encode c.0 (c.1 ++ joined cs) ∙ ap (λ y. p ++ y) (flat_map-append encode c.1 (joined cs))) in
     let part = forms_over s (λ k. ¬ (IsCovered s k)) IsSurrogate (surrogate_bare s) x (t ++ r) i c.0 f l g.0.part k in
     let h : s ≡ (x ++ p) ++ (t ++ r) = f ∙ sym (append_assoc x p (t ++ r)) in
     let m : length (x ++ p) ≡ i + length p = length-append x p ∙ ap (λ n. n + length p) l in
@@ -59,7 +59,7 @@ chunks_of_runs s x i j first (c ∷ cs) e l g k =
         part_first = λ none. g.0.part_first (no_forms c.0 none);
         text_last = λ none. ap (map form_chunk) (g.0.text_last (no_forms c.1 none));
       },
-      chunks_of_runs s ((x ++ p) ++ t) (i + length (p ++ t)) (j + length (c.0 ++ c.1)) false cs (h ∙ sym (append_assoc (x ++ p) t r)) n g.1 (subst (IsSeam s) z text.1),
+      chunks_of_runs s ((x ++ p) ++ t) (i + length (p ++ t)) (j + length (c.0 ++ c.1)) false cs (h ∙ sym (append_assoc (x ++ p) t r)) n g.1 (subst (CrossesNoCharacter s) z text.1),
     )
 
 -- each list of code points has runs
@@ -68,7 +68,7 @@ each_of_one i [] h = tt
 each_of_one i (c ∷ cs) h = (⊎_elim (λ t. inl (in_range-true _ _ c t)) (λ f. inr (is_scalar c h.0 f)) (cases_Bool (is_surrogate c)), each_of_one (i + 1) cs h.1)
 
 -- the chunks of WTF-8 are the bytes of its runs
-pub chunks_by_runs : (s cs : List ℕ) (chunks : List Chunk) → Spells s cs → AreChunks s chunks → (runs : List Chunk) × (AreRuns cs runs × (chunks ≡ map form_chunk runs))
+pub chunks_by_runs : (s cs : List ℕ) (chunks : List Chunk) → Encodes s cs → AreChunks s chunks → (runs : List Chunk) × (AreRuns cs runs × (chunks ≡ map form_chunk runs))
 chunks_by_runs s cs chunks h k =
     let g = grouped Surrogates Scalars (λ _ c. IsSurrogate c) (λ _ c. IsScalar c) (λ _. tt) (λ _. tt) (λ _ _ _ h k. (h, k)) (λ _ _ _ h k. (h, k)) 0 cs (each_of_one 0 cs h.code_points) in
     let e : s ≡ Forms (joined g.0) = h.joined ∙ ap Forms (sym g.2) in (
@@ -81,4 +81,4 @@ chunks_by_runs s cs chunks h k =
   where
     joined_forms : (runs : List Chunk) → joined (map form_chunk runs) ≡ Forms (joined runs)
     joined_forms [] = refl
-    joined_forms (c ∷ runs) = ap (λ y. Forms c.0 ++ (Forms c.1 ++ y)) (joined_forms runs) ∙ ap (λ y. Forms c.0 ++ y) (sym (flat_map-append form c.1 (joined runs))) ∙ sym (flat_map-append form c.0 (c.1 ++ joined runs))
+    joined_forms (c ∷ runs) = ap (λ y. Forms c.0 ++ (Forms c.1 ++ y)) (joined_forms runs) ∙ ap (λ y. Forms c.0 ++ y) (sym (flat_map-append encode c.1 (joined runs))) ∙ sym (flat_map-append encode c.0 (c.1 ++ joined runs))

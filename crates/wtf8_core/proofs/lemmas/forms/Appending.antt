@@ -1,5 +1,5 @@
 -- Lists joined, and one more at the end: of code points, of the forms that bytes spell, and of a sequence that has begun.
-use Rattle.wtf8_core.proofs.Common.{◌≡◌, ℕ, ◌+◌, ◌*◌, ◌%◌, List, [], ◌∷◌, ◌++◌, refl, sym, ap, ◌∙◌, append-nil, length, take, drop, take_at, drop_at, AllByRecursion, flat_map, flat_map-append, IsContinuation, IsHigh, IsLow, IsCodePoint, form, Spells, IsPairedFree, MayPrecede, last_behind, IsBegun, shape_value, lead_bits, All, All-append, All-nil}
+use Rattle.wtf8_core.proofs.Common.{◌≡◌, ℕ, ◌+◌, ◌*◌, ◌%◌, List, [], ◌∷◌, ◌++◌, refl, sym, ap, ◌∙◌, append-nil, length, take, drop, take_at, drop_at, AllByRecursion, flat_map, flat_map-append, IsContinuation, IsHigh, IsLow, IsCodePoint, encode, Encodes, HasNoSurrogatePair, MayPrecede, last_or, IsSequenceStart, shape_value, lead_bits, All, All-append, All-nil}
 use Rattle.std.proofs.lemmas.List.Sums.{fold-append}
 use Rattle.wtf8_core.proofs.lemmas.reader.Continuations.{Join}
 
@@ -16,35 +16,35 @@ all_joined P [] ys a b = b
 all_joined P (x ∷ xs) ys a b = (a.0, all_joined P xs ys a.1 b)
 
 -- paired-free lists joined, where no pair arises
-pub paired_joined : (xs ys : List ℕ) → IsPairedFree xs → IsPairedFree ys → MayPrecede (last_behind 0 xs) ys → IsPairedFree (xs ++ ys)
+pub paired_joined : (xs ys : List ℕ) → HasNoSurrogatePair xs → HasNoSurrogatePair ys → MayPrecede (last_or 0 xs) ys → HasNoSurrogatePair (xs ++ ys)
 paired_joined [] ys f g m = g
 paired_joined (x ∷ []) ys f g m = (m, g)
 paired_joined (x ∷ y ∷ xs) ys f g m = (f.0, paired_joined (y ∷ xs) ys f.1 g m)
 
 -- the last of two lists
-pub last_append : (p : ℕ) (cs ds : List ℕ) → last_behind p (cs ++ ds) ≡ last_behind (last_behind p cs) ds
+pub last_append : (p : ℕ) (cs ds : List ℕ) → last_or p (cs ++ ds) ≡ last_or (last_or p cs) ds
 last_append p [] ds = refl
 last_append p (c ∷ cs) ds = last_append c cs ds
 
 -- what two lists of bytes spell, joined
-pub spells_joined : (v w cs ds : List ℕ) → Spells v cs → Spells w ds → MayPrecede (last_behind 0 cs) ds → Spells (v ++ w) (cs ++ ds)
+pub spells_joined : (v w cs ds : List ℕ) → Encodes v cs → Encodes w ds → MayPrecede (last_or 0 cs) ds → Encodes (v ++ w) (cs ++ ds)
 spells_joined v w cs ds s t m = record {
   code_points = all_joined IsCodePoint cs ds s.code_points t.code_points;
   paired_free = paired_joined cs ds s.paired_free t.paired_free m;
-  joined = ap (λ z. z ++ w) s.joined ∙ ap (λ z. flat_map form cs ++ z) t.joined ∙ sym (flat_map-append form cs ds);
+  joined = ap (λ z. z ++ w) s.joined ∙ ap (λ z. flat_map encode cs ++ z) t.joined ∙ sym (flat_map-append encode cs ds);
 }
 
-pub spells_one : (c : ℕ) → IsCodePoint c → Spells (form c) (c ∷ [])
-spells_one c k = record { code_points = (k, tt); paired_free = (tt, tt); joined = sym (append-nil (form c)) }
+pub spells_one : (c : ℕ) → IsCodePoint c → Encodes (encode c) (c ∷ [])
+spells_one c k = record { code_points = (k, tt); paired_free = (tt, tt); joined = sym (append-nil (encode c)) }
 
-pub spells_more : (w cs : List ℕ) (c : ℕ) → Spells w cs → IsCodePoint c → (IsHigh (last_behind 0 cs) → IsLow c → ⊥) → Spells (w ++ form c) (cs ++ c ∷ [])
-spells_more w cs c s k g = spells_joined w (form c) cs (c ∷ []) s (spells_one c k) g
+pub spells_more : (w cs : List ℕ) (c : ℕ) → Encodes w cs → IsCodePoint c → (IsHigh (last_or 0 cs) → IsLow c → ⊥) → Encodes (w ++ encode c) (cs ++ c ∷ [])
+spells_more w cs c s k g = spells_joined w (encode c) cs (c ∷ []) s (spells_one c k) g
 
 -- one more continuation
 pub value_more : (lead : ℕ) (ks : List ℕ) (x : ℕ) → shape_value lead (ks ++ x ∷ []) ≡ shape_value lead ks * 0x40 + x % 0x40
 value_more lead ks x = fold-append Join (lead_bits lead) ks (x ∷ [])
 
-pub begun_more : (lead : ℕ) (ks : List ℕ) (x : ℕ) → IsBegun lead ks → IsContinuation x → IsBegun lead (ks ++ x ∷ [])
+pub begun_more : (lead : ℕ) (ks : List ℕ) (x : ℕ) → IsSequenceStart lead ks → IsContinuation x → IsSequenceStart lead (ks ++ x ∷ [])
 begun_more lead ks x b h = record { lead_is = b.lead_is; continued = all_joined IsContinuation ks (x ∷ []) b.continued (h, tt) }
 
 -- what holds of each element of each piece holds of each element of the pieces joined

@@ -1,5 +1,5 @@
 -- Facts with at most one proof.
-use Rattle.wtf8_core.proofs.Common.{ℕ, List, [], ◌∷◌, true, sym, ◌∙◌, AllByRecursion, AllByRecursion-prop, IsCodePoint, IsPairedFree, MayPrecede, Spells, IsWtf8, IsUtf8, all_scalars, encode_utf8_all, encodes_same, Bool-set}
+use Rattle.wtf8_core.proofs.Common.{ℕ, List, [], ◌∷◌, true, sym, ◌∙◌, AllByRecursion, AllByRecursion-prop, IsCodePoint, HasNoSurrogatePair, MayPrecede, Encodes, IsWtf8, IsUtf8, all_scalars, encode_utf8_all, encodes_same, Bool-set}
 use Rattle.std.proofs.Math.Bridge.{le_prop}
 use mathlib.Core.HLevel.{Σ_prop, Σ_prop_path, hedberg}
 use mathlib.Core.List.{is_set}
@@ -11,7 +11,7 @@ may_precede_prop : (c : ℕ) (cs : List ℕ) → IsProp (MayPrecede c cs)
 may_precede_prop c [] = hlevel
 may_precede_prop c (d ∷ cs) = hlevel
 
-paired_prop : (cs : List ℕ) → IsProp (IsPairedFree cs)
+paired_prop : (cs : List ℕ) → IsProp (HasNoSurrogatePair cs)
 paired_prop [] = hlevel
 paired_prop (c ∷ cs) = hlevel (may_precede_prop, paired_prop cs)
 
@@ -20,7 +20,7 @@ points_prop : (cs : List ℕ) → IsProp (AllByRecursion IsCodePoint cs)
 points_prop cs = AllByRecursion-prop IsCodePoint (λ c. le_prop) cs
 
 -- what bytes spell
-pub spells_prop : (b cs : List ℕ) → IsProp (Spells b cs)
+pub spells_prop : (b cs : List ℕ) → IsProp (Encodes b cs)
 spells_prop b cs = hlevel (points_prop, paired_prop, is_set (hedberg ℕ_discrete))
 
 -- WTF-8

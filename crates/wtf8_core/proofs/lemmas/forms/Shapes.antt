@@ -1,58 +1,58 @@
 -- Forms and shapes: the arithmetic.
-use Rattle.wtf8_core.proofs.Common.{◌≡◌, ◌≢◌, ◌⊎◌, ℕ, ◌+◌, ◌/◌, ◌%◌, ◌<◌, ◌≤◌, List, [], ◌∷◌, length, drop, get_or, ap, arith, nat_tests, AllByRecursion, IsByte, IsContinuation, needed_continuations, IsCodePoint, form, IsSurrogate, IsShape, shape_value, least_value}
+use Rattle.wtf8_core.proofs.Common.{◌≡◌, ◌≢◌, ◌⊎◌, ℕ, ◌+◌, ◌/◌, ◌%◌, ◌<◌, ◌≤◌, List, [], ◌∷◌, length, drop, get_or, ap, arith, nat_tests, AllByRecursion, IsByte, IsContinuation, needed_continuations, IsCodePoint, encode, IsSurrogate, IsWholeSequence, shape_value, least_value}
 
 -- the form of an ASCII code point is one byte
-pub form_ascii : (c : ℕ) → c < 0x80 → form c ≡ c ∷ []
-unfolding form
+pub form_ascii : (c : ℕ) → c < 0x80 → encode c ≡ c ∷ []
+unfolding encode
 form_ascii c h = grind (arith, nat_tests)
 
 -- of a surrogate three
-pub form_surrogate : (c : ℕ) → IsSurrogate c → form c ≡ (0xE0 + c / 0x1000) ∷ (0x80 + (c / 0x40) % 0x40) ∷ (0x80 + c % 0x40) ∷ []
-unfolding form
+pub form_surrogate : (c : ℕ) → IsSurrogate c → encode c ≡ (0xE0 + c / 0x1000) ∷ (0x80 + (c / 0x40) % 0x40) ∷ (0x80 + c % 0x40) ∷ []
+unfolding encode
 form_surrogate c h = grind (arith, nat_tests, h)
 
-pub length-form_surrogate : (c : ℕ) → IsSurrogate c → length (form c) ≡ 3
+pub length-form_surrogate : (c : ℕ) → IsSurrogate c → length (encode c) ≡ 3
 length-form_surrogate c h = ap length (form_surrogate c h)
 
 -- of a code point past FFFF four
-pub form_past : (c : ℕ) → 0x1_0000 ≤ c → form c ≡ (0xF0 + c / 0x4_0000) ∷ (0x80 + (c / 0x1000) % 0x40) ∷ (0x80 + (c / 0x40) % 0x40) ∷ (0x80 + c % 0x40) ∷ []
-unfolding form
+pub form_past : (c : ℕ) → 0x1_0000 ≤ c → encode c ≡ (0xF0 + c / 0x4_0000) ∷ (0x80 + (c / 0x1000) % 0x40) ∷ (0x80 + (c / 0x40) % 0x40) ∷ (0x80 + c % 0x40) ∷ []
+unfolding encode
 form_past c h = grind (arith, nat_tests)
 
 -- a form has one to four bytes
-pub form_bounds : (c : ℕ) → (1 ≤ length (form c)) × (length (form c) ≤ 4)
-unfolding form
+pub form_bounds : (c : ℕ) → (1 ≤ length (encode c)) × (length (encode c) ≤ 4)
+unfolding encode
 form_bounds c = grind (arith, nat_tests)
 
-pub form_bytes : (c : ℕ) → IsCodePoint c → AllByRecursion IsByte (form c)
-unfolding form
+pub form_bytes : (c : ℕ) → IsCodePoint c → AllByRecursion IsByte (encode c)
+unfolding encode
 form_bytes c h = grind (arith, nat_tests)
 
 -- a byte that is no continuation, and then continuations
 pub record FormParts (c : ℕ) : Type 0 where
   pub lead : ℕ
   pub behind : List ℕ
-  pub is : form c ≡ lead ∷ behind
+  pub is : encode c ≡ lead ∷ behind
   pub begins : IsContinuation lead → ⊥
   pub continued : AllByRecursion IsContinuation behind
 
 -- each form is one
 pub form_parts : (c : ℕ) → FormParts c
-unfolding form
-form_parts c = record { lead = get_or (form c) 0 0; behind = drop 1 (form c); is = grind (arith, nat_tests); begins = λ h. grind (arith, nat_tests, h); continued = grind (arith, nat_tests) }
+unfolding encode
+form_parts c = record { lead = get_or (encode c) 0 0; behind = drop 1 (encode c); is = grind (arith, nat_tests); begins = λ h. grind (arith, nat_tests, h); continued = grind (arith, nat_tests) }
 
 -- a form of two bytes or more is a shape, of its code point
-pub long_shape : (c lead : ℕ) (behind : List ℕ) → form c ≡ lead ∷ behind → 0x80 ≤ c → IsCodePoint c → IsShape lead behind
-unfolding form
+pub long_shape : (c lead : ℕ) (behind : List ℕ) → encode c ≡ lead ∷ behind → 0x80 ≤ c → IsCodePoint c → IsWholeSequence lead behind
+unfolding encode
 long_shape c lead behind e l h = record { begun = record { lead_is = grind (arith, nat_tests, e); continued = grind (arith, nat_tests, e) }; whole = grind (arith, nat_tests, e) }
 
-pub long_value : (c lead : ℕ) (behind : List ℕ) → form c ≡ lead ∷ behind → 0x80 ≤ c → IsCodePoint c → (shape_value lead behind ≡ c) × (least_value (needed_continuations lead) ≤ c)
-unfolding form
+pub long_value : (c lead : ℕ) (behind : List ℕ) → encode c ≡ lead ∷ behind → 0x80 ≤ c → IsCodePoint c → (shape_value lead behind ≡ c) × (least_value (needed_continuations lead) ≤ c)
+unfolding encode
 long_value c lead behind e l h = (grind (arith, nat_tests, e), grind (arith, nat_tests, e))
 
 -- a shape of at least the least value is the form of its value
-pub shape_is_form : (b : ℕ) (ks : List ℕ) → IsShape b ks → least_value (needed_continuations b) ≤ shape_value b ks → form (shape_value b ks) ≡ b ∷ ks
-unfolding form
+pub shape_is_form : (b : ℕ) (ks : List ℕ) → IsWholeSequence b ks → least_value (needed_continuations b) ≤ shape_value b ks → encode (shape_value b ks) ≡ b ∷ ks
+unfolding encode
 shape_is_form b [] s m = grind (arith, nat_tests, s.whole)
 shape_is_form b (x ∷ []) s m = grind (arith, nat_tests, s.whole, s.begun.lead_is, s.begun.continued)
 shape_is_form b (x ∷ y ∷ []) s m = grind (arith, nat_tests, s.whole, s.begun.lead_is, s.begun.continued)
@@ -60,9 +60,9 @@ shape_is_form b (x ∷ y ∷ z ∷ []) s m = grind (arith, nat_tests, s.whole, s
 shape_is_form b (x ∷ y ∷ z ∷ w ∷ ks) s m = grind (arith, nat_tests, s.whole)
 
 -- no form is a shape of less than the least value, or past the last code point
-pub no_form : (b : ℕ) (ks : List ℕ) → IsShape b ks → (shape_value b ks < least_value (needed_continuations b)) ⊎ (0x10_FFFF < shape_value b ks)
-    → (c : ℕ) → IsCodePoint c → form c ≢ b ∷ ks
-unfolding form
+pub no_form : (b : ℕ) (ks : List ℕ) → IsWholeSequence b ks → (shape_value b ks < least_value (needed_continuations b)) ⊎ (0x10_FFFF < shape_value b ks)
+    → (c : ℕ) → IsCodePoint c → encode c ≢ b ∷ ks
+unfolding encode
 no_form b [] s w c p e = grind (arith, nat_tests, s.whole)
 no_form b (x ∷ []) s w c p e = grind (arith, nat_tests, s.whole, s.begun.lead_is, s.begun.continued, w, p, e)
 no_form b (x ∷ y ∷ []) s w c p e = grind (arith, nat_tests, s.whole, s.begun.lead_is, s.begun.continued, w, p, e)

@@ -1,5 +1,5 @@
 -- The reader gives what the definitions say, whatever the bytes begin with: so bytes have one list of items.
-use Rattle.wtf8_core.proofs.Common.{◌≡◌, inl, inr, ⊎_elim, ℕ, suc, ◌⊎◌, ◌<◌, ◌≤◌, Bool, false, List, [], ◌∷◌, ◌++◌, length, drop, map, Result, Ok, Err, refl, sym, ap, ◌∙◌, subst, arith, append_assoc, drop-append_seam, append-nil, cases_lt, nat_tests, AllByRecursion, flat_map, IsInRange, IsLead, needed_continuations, IsHigh, IsLow, is_high, IsCodePoint, form, IsPairedFree, last_behind, Spells, IsShape, shape_value, IsShort, IsBadShape, IsRefused, BeginsFault, IsFirstFault, with_continuations, lead_bits, least_value, checked_value, and_then_checked, continuations, behind_item, first_item, items_behind, items_after, AreItems, EncodingError, Byte, CodePoint, End, Utf8}
+use Rattle.wtf8_core.proofs.Common.{◌≡◌, inl, inr, ⊎_elim, ℕ, suc, ◌⊎◌, ◌<◌, ◌≤◌, Bool, false, List, [], ◌∷◌, ◌++◌, length, drop, map, Result, Ok, Err, refl, sym, ap, ◌∙◌, subst, arith, append_assoc, drop-append_seam, append-nil, cases_lt, nat_tests, AllByRecursion, flat_map, IsInRange, IsLead, needed_continuations, IsHigh, IsLow, is_high, IsCodePoint, encode, HasNoSurrogatePair, last_or, Encodes, IsWholeSequence, shape_value, IsIncomplete, IsBadSequence, IsRefused, BeginsFault, IsFirstFault, with_continuations, lead_bits, least_value, checked_value, and_then_checked, continuations, behind_item, first_item, items_behind, items_after, AreItems, EncodingError, Byte, CodePoint, End, Utf8}
 use Rattle.wtf8_core.specs.Items.AreItems.{Whole, Faulty}
 use Rattle.wtf8_core.proofs.lemmas.reader.FirstErr.{same_oks, no_err, same_faulty}
 use Rattle.wtf8_core.proofs.lemmas.reader.Reading.{items-ok, items-step-err, items_behind-drop, first_ascii}
@@ -20,7 +20,7 @@ first_lead : (h : Bool) (b : ℕ) (bs : List ℕ) → IsLead b → first_item h 
 unfolding first_item
 first_lead h b bs l = grind (arith, nat_tests, l)
 
-first_shape : (h : Bool) (b : ℕ) (ks rest : List ℕ) → IsShape b ks → first_item h b (ks ++ rest) ≡ checked_value h (needed_continuations b) (shape_value b ks)
+first_shape : (h : Bool) (b : ℕ) (ks rest : List ℕ) → IsWholeSequence b ks → first_item h b (ks ++ rest) ≡ checked_value h (needed_continuations b) (shape_value b ks)
 unfolding and_then_checked
 first_shape h b ks rest s =
     first_lead h b (ks ++ rest) s.begun.lead_is
@@ -28,11 +28,11 @@ first_shape h b ks rest s =
     ∙ ap (and_then_checked h (needed_continuations b)) (joins_all (lead_bits b) ks rest s.begun.continued)
 
 -- its continuations belong to the item
-behind_shape : (b : ℕ) (ks rest : List ℕ) → IsShape b ks → behind_item b (ks ++ rest) ≡ length ks
+behind_shape : (b : ℕ) (ks rest : List ℕ) → IsWholeSequence b ks → behind_item b (ks ++ rest) ≡ length ks
 behind_shape b ks rest s = behind_item-lead b (ks ++ rest) s.begun.lead_is.0 ∙ ap (λ n. continuations n (ks ++ rest)) (sym s.whole) ∙ counts_all ks rest s.begun.continued
 
 -- and so those of a form do
-pub behind_form : (c : ℕ) (rest : List ℕ) → IsCodePoint c → (b : ℕ) (bs : List ℕ) → b ∷ bs ≡ form c ++ rest → drop (behind_item b bs) bs ≡ rest
+pub behind_form : (c : ℕ) (rest : List ℕ) → IsCodePoint c → (b : ℕ) (bs : List ℕ) → b ∷ bs ≡ encode c ++ rest → drop (behind_item b bs) bs ≡ rest
 behind_form c rest k b bs e =
     ⊎_elim
     (λ h. let q : b ∷ bs ≡ c ∷ rest = e ∙ ap (λ x. x ++ rest) (form_ascii c h) in
@@ -56,7 +56,7 @@ when_good p n v low high free = grind (arith, nat_tests, free)
 
 -- the first item of a form of two bytes or more
 item_of_long : (p c : ℕ) (rest : List ℕ) → IsCodePoint c → (IsHigh p → IsLow c → ⊥) → 0x80 ≤ c
-    → items_behind 0 (is_high p) (form c ++ rest) ≡ Ok c ∷ items_behind 0 (is_high c) rest
+    → items_behind 0 (is_high p) (encode c ++ rest) ≡ Ok c ∷ items_behind 0 (is_high c) rest
 item_of_long p c rest k free long =
     let f = form_parts c in
     let lead = f.lead in
@@ -70,7 +70,7 @@ item_of_long p c rest k free long =
     ∙ ap (λ x. Ok c ∷ x) (items_behind-drop (behind_item lead bs) (is_high c) bs ∙ ap (λ m. items_behind 0 (is_high c) (drop m bs)) n ∙ ap (items_behind 0 (is_high c)) (drop-append_seam f.behind rest))
 
 -- the first item of a form, if its code point may come there
-pub item_of_form : (p c : ℕ) (rest : List ℕ) → IsCodePoint c → (IsHigh p → IsLow c → ⊥) → items_behind 0 (is_high p) (form c ++ rest) ≡ Ok c ∷ items_behind 0 (is_high c) rest
+pub item_of_form : (p c : ℕ) (rest : List ℕ) → IsCodePoint c → (IsHigh p → IsLow c → ⊥) → items_behind 0 (is_high p) (encode c ++ rest) ≡ Ok c ∷ items_behind 0 (is_high c) rest
 item_of_form p c rest k free =
     ⊎_elim
     (λ h. ap (λ x. items_behind 0 (is_high p) (x ++ rest)) (form_ascii c h) ∙ items-ok (is_high p) c c rest (first_ascii (is_high p) c rest h)
@@ -79,12 +79,12 @@ item_of_form p c rest k free =
     (cases_lt c 0x80)
 
 -- the items of forms that come before a rest
-pub items_of_spelled : (p : ℕ) (cs rest : List ℕ) → AllByRecursion IsCodePoint cs → IsPairedFree (p ∷ cs)
-    → items_behind 0 (is_high p) (flat_map form cs ++ rest) ≡ map Ok cs ++ items_behind 0 (is_high (last_behind p cs)) rest
+pub items_of_spelled : (p : ℕ) (cs rest : List ℕ) → AllByRecursion IsCodePoint cs → HasNoSurrogatePair (p ∷ cs)
+    → items_behind 0 (is_high p) (flat_map encode cs ++ rest) ≡ map Ok cs ++ items_behind 0 (is_high (last_or p cs)) rest
 items_of_spelled p [] rest a f = refl
 items_of_spelled p (c ∷ cs) rest a f =
-    ap (items_behind 0 (is_high p)) (append_assoc (form c) (flat_map form cs) rest)
-    ∙ item_of_form p c (flat_map form cs ++ rest) a.0 f.0
+    ap (items_behind 0 (is_high p)) (append_assoc (encode c) (flat_map encode cs) rest)
+    ∙ item_of_form p c (flat_map encode cs ++ rest) a.0 f.0
     ∙ ap (λ x. Ok c ∷ x) (items_of_spelled c cs rest a.1 f.1)
 
 -- the first item of a stray byte
@@ -101,7 +101,7 @@ unfolding checked_value
 when_bad p n v b = grind (arith, nat_tests, b)
 
 -- a bad shape has such a value
-is_bad : (p value : ℕ) (r : List ℕ) (s : IsBadShape p r value) → IsBad p (needed_continuations s.lead) (shape_value s.lead s.behind)
+is_bad : (p value : ℕ) (r : List ℕ) (s : IsBadSequence p r value) → IsBad p (needed_continuations s.lead) (shape_value s.lead s.behind)
 is_bad p value r s =
     let v = shape_value s.lead s.behind in
     ⊎_elim inl (λ low. inr (⊎_elim inl (λ most. inr (⊎_elim (λ none. absurd (none v most (shape_is_form s.lead s.behind s.shape low ∙ sym s.is))) (λ k. (k.2, subst IsLow (sym s.value_is) k.1)) s.bad)) (cases_lt 0x10_FFFF v))) (cases_lt v (least_value (needed_continuations s.lead)))
@@ -115,7 +115,7 @@ record RefusedParts (p : ℕ) (refused rest : List ℕ) (f : EncodingError) : Ty
   counted : behind_item first (behind ++ rest) ≡ length behind
 
 -- too few continuations, before a byte that is none
-parts_of_short : (p : ℕ) (refused rest : List ℕ) (f : EncodingError) → IsShort refused → ((w m : ℕ) → with_continuations w (suc m) rest ≡ Err f) → ((m : ℕ) → continuations m rest ≡ 0) → RefusedParts p refused rest f
+parts_of_short : (p : ℕ) (refused rest : List ℕ) (f : EncodingError) → IsIncomplete refused → ((w m : ℕ) → with_continuations w (suc m) rest ≡ Err f) → ((m : ℕ) → continuations m rest ≡ 0) → RefusedParts p refused rest f
 unfolding and_then_checked
 parts_of_short p refused rest f g e z = record {
   first = g.lead;
@@ -160,15 +160,15 @@ refused_len p b bs f s =
     (ap length w.is ∙ ap suc (sym counted), sym (ap (λ n. drop n bs) counted ∙ ap (drop (length w.behind)) same ∙ drop-append_seam w.behind s.rest))
 
 -- what begins nothing may come before any code points
-pub behind_zero : (cs : List ℕ) → IsPairedFree cs → IsPairedFree (0 ∷ cs)
+pub behind_zero : (cs : List ℕ) → HasNoSurrogatePair cs → HasNoSurrogatePair (0 ∷ cs)
 behind_zero [] f = (tt, f)
 behind_zero (c ∷ cs) f = ((λ h l. omega (arith, h.0)), f)
 
 -- what spells code points, or has a first fault, has these items
-pub items_if_spelled : (bytes cs : List ℕ) → Spells bytes cs → items_after false bytes ≡ map Ok cs
+pub items_if_spelled : (bytes cs : List ℕ) → Encodes bytes cs → items_after false bytes ≡ map Ok cs
 unfolding items_behind
 items_if_spelled bytes cs s =
-    ap (items_behind 0 false) (s.joined ∙ sym (append-nil (flat_map form cs)))
+    ap (items_behind 0 false) (s.joined ∙ sym (append-nil (flat_map encode cs)))
     ∙ items_of_spelled 0 cs [] s.code_points (behind_zero cs s.paired_free)
     ∙ append-nil (map Ok cs)
 
@@ -176,7 +176,7 @@ pub items_if_faulty : (bytes cs : List ℕ) (f : EncodingError) → (s : IsFirst
 items_if_faulty bytes cs f s =
     ap (items_behind 0 false) (s.joined ∙ ap (λ x. x ++ s.from) s.spelled.joined)
     ∙ items_of_spelled 0 cs s.from s.spelled.code_points (behind_zero cs s.spelled.paired_free)
-    ∙ ap (λ x. map Ok cs ++ x) (items_of_fault (last_behind 0 cs) s.from f s.begins)
+    ∙ ap (λ x. map Ok cs ++ x) (items_of_fault (last_or 0 cs) s.from f s.begins)
 
 pub items_if : (bytes : List ℕ) (items : List (Result ℕ EncodingError)) → AreItems bytes items → items_after false bytes ≡ items
 items_if bytes items (Whole r) = items_if_spelled bytes r.code_points r.spelled ∙ sym r.are
@@ -186,13 +186,13 @@ items_if bytes items (Faulty {rest = rest} {later = later} r l) =
     ∙ sym r.are
 
 -- so bytes spell one list, have one first fault, never both, and one list of items
-pub spelled_once : (bytes cs ds : List ℕ) → Spells bytes cs → Spells bytes ds → cs ≡ ds
+pub spelled_once : (bytes cs ds : List ℕ) → Encodes bytes cs → Encodes bytes ds → cs ≡ ds
 spelled_once bytes cs ds s t = same_oks cs ds (sym (items_if_spelled bytes cs s) ∙ items_if_spelled bytes ds t)
 
 pub one_fault : (bytes cs ds : List ℕ) (f g : EncodingError) → IsFirstFault bytes cs f → IsFirstFault bytes ds g → (cs ≡ ds) × (f ≡ g)
 one_fault bytes cs ds f g s t = let e = same_faulty cs ds f g _ _ (sym (items_if_faulty bytes cs f s) ∙ items_if_faulty bytes ds g t) in (e.0, e.1)
 
-pub never_both : (bytes cs ds : List ℕ) (f : EncodingError) → Spells bytes cs → IsFirstFault bytes ds f → ⊥
+pub never_both : (bytes cs ds : List ℕ) (f : EncodingError) → Encodes bytes cs → IsFirstFault bytes ds f → ⊥
 never_both bytes cs ds f s t = no_err cs ds f _ (sym (items_if_spelled bytes cs s) ∙ items_if_faulty bytes ds f t)
 
 pub one_list_of_items : (bytes : List ℕ) (xs ys : List (Result ℕ EncodingError)) → AreItems bytes xs → AreItems bytes ys → xs ≡ ys

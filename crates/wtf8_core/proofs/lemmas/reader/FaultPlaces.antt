@@ -1,5 +1,5 @@
 -- The index of the first fault: bytes that have been read up to it.
-use Rattle.wtf8_core.proofs.Common.{◌≡◌, ⊎_elim, ℕ, ◌-◌, Bool, false, List, [], ◌∷◌, ◌++◌, length, take, drop, Result, Ok, Err, refl, sym, ap, ◌∙◌, subst, arith, append_assoc, Fits, w8, get_or, length-append, take-append-drop, drop-append_seam, All, append-nil, All-drop, All-from_get_or, IsByte, is_high, form, Spells, IsWtf8, last_behind, BeginsFault, IsFaultAt, first_item, behind_item, items_behind, is_high_item, IsFirstItem, IsSpelledFront, IsReadUpTo, EncodingError, IsCodePoint, IsLow, suc, flat_map}
+use Rattle.wtf8_core.proofs.Common.{◌≡◌, ⊎_elim, ℕ, ◌-◌, Bool, false, List, [], ◌∷◌, ◌++◌, length, take, drop, Result, Ok, Err, refl, sym, ap, ◌∙◌, subst, arith, append_assoc, Fits, w8, get_or, length-append, take-append-drop, drop-append_seam, All, append-nil, All-drop, All-from_get_or, IsByte, is_high, encode, Encodes, IsWtf8, last_or, BeginsFault, IsFaultAt, first_item, behind_item, items_behind, is_high_item, IsFirstItem, IsEncodedPrefix, IsReadUpTo, EncodingError, IsCodePoint, IsLow, suc, flat_map}
 use Rattle.wtf8_core.proofs.lemmas.reader.Complete.{refused_len, item_of_form, items_of_fault, one_fault}
 use Rattle.wtf8_core.proofs.lemmas.reader.Reading.{items-err}
 use Rattle.wtf8_core.proofs.lemmas.reader.Sound.{begins, first_form_behind}
@@ -7,8 +7,8 @@ use Rattle.wtf8_core.proofs.lemmas.forms.Appending.{last_append, spells_more}
 use Rattle.wtf8_core.specs.declared.scan.Encoding.TheVariants.{Wtf8}
 
 -- a fault is read: it begins there
-fault_behind : (p b : ℕ) (f : EncodingError) (bs : List ℕ) → IsByte b → first_item (is_high p) b bs ≡ Err f → BeginsFault p (b ∷ bs) f
-fault_behind p b f bs u e = ⊎_elim
+fault_in_rest : (p b : ℕ) (f : EncodingError) (bs : List ℕ) → IsByte b → first_item (is_high p) b bs ≡ Err f → BeginsFault p (b ∷ bs) f
+fault_in_rest p b f bs u e = ⊎_elim
     (λ i. let q : Err f ∷ items_behind (behind_item b bs) false bs ≡ Ok i.c ∷ items_behind 0 (is_high i.c) i.rest = sym (items-err (is_high p) b f bs e) ∙ ap (items_behind 0 (is_high p)) i.is ∙ item_of_form p i.c i.rest i.code_point i.free in cc)
     (λ g. let q : Err f ∷ items_behind (behind_item b bs) false bs ≡ Err g.0 ∷ items_behind 0 false g.1.rest = sym (items-err (is_high p) b f bs e) ∙ items_of_fault p (b ∷ bs) g.0 g.1 in
     let same : g.0 ≡ f = cc in
@@ -20,7 +20,7 @@ pub read_none : (bytes : List ℕ) → IsReadUpTo bytes false bytes
 read_none bytes = record { code_points = []; front = []; joined = refl; spelled = record { code_points = tt; paired_free = tt; joined = refl }; high_is = refl }
 
 -- a prefix that vectors find has been read
-pub read_front : (bytes rest : List ℕ) (n : ℕ) (h : Bool) → (f : IsSpelledFront Wtf8 bytes n) → h ≡ is_high (last_behind 0 f.code_points) → rest ≡ drop n bytes → IsReadUpTo bytes h rest
+pub read_front : (bytes rest : List ℕ) (n : ℕ) (h : Bool) → (f : IsEncodedPrefix Wtf8 bytes n) → h ≡ is_high (last_or 0 f.code_points) → rest ≡ drop n bytes → IsReadUpTo bytes h rest
 read_front bytes rest n h f e d = record {
   code_points = f.code_points;
   front = take n bytes;
@@ -32,11 +32,11 @@ read_front bytes rest n h f e d = record {
 -- after the last byte all has been read
 pub read_all : (bytes : List ℕ) (h : Bool) (rest : List ℕ) → IsReadUpTo bytes h rest → rest ≡ [] → IsWtf8 bytes
 read_all bytes h rest r e =
-    (r.code_points, subst (λ x. Spells x r.code_points) (sym (r.joined ∙ ap (λ x. r.front ++ x) e ∙ append-nil r.front)) r.spelled)
+    (r.code_points, subst (λ x. Encodes x r.code_points) (sym (r.joined ∙ ap (λ x. r.front ++ x) e ∙ append-nil r.front)) r.spelled)
 
 module _ {bytes : List ℕ} {h : Bool} {rest later : List ℕ} {item : Result ℕ EncodingError} (fits : (i : ℕ) → Fits w8 (get_or bytes i 0)) (r : IsReadUpTo bytes h rest) (i : IsFirstItem h rest item later) where
   abbrev p : ℕ
-  p = last_behind 0 r.code_points
+  p = last_or 0 r.code_points
 
   -- the first byte of the rest
   first_byte : IsByte i.first
@@ -52,8 +52,8 @@ module _ {bytes : List ℕ} {h : Bool} {rest later : List ℕ} {item : Result �
       let f = w.0 in
       record {
         code_points = r.code_points ++ c ∷ [];
-        front = r.front ++ form c;
-        joined = r.joined ∙ ap (λ x. r.front ++ x) (i.is ∙ f.is ∙ ap (λ z. form z ++ f.rest) w.1 ∙ ap (λ z. form c ++ z) (w.2 ∙ sym i.rest_is)) ∙ sym (append_assoc r.front (form c) later);
+        front = r.front ++ encode c;
+        joined = r.joined ∙ ap (λ x. r.front ++ x) (i.is ∙ f.is ∙ ap (λ z. encode z ++ f.rest) w.1 ∙ ap (λ z. encode c ++ z) (w.2 ∙ sym i.rest_is)) ∙ sym (append_assoc r.front (encode c) later);
         spelled = spells_more r.front r.code_points c r.spelled (subst IsCodePoint w.1 f.code_point) (λ h l. f.free h (subst IsLow (sym w.1) l));
         high_is = ap is_high (last_append 0 r.code_points (c ∷ [])) ∙ sym (k ∙ ap is_high_item e);
       }
@@ -61,7 +61,7 @@ module _ {bytes : List ℕ} {h : Bool} {rest later : List ℕ} {item : Result �
   -- the first fault is read
   pub fault_read : (f : EncodingError) → item ≡ Err f → IsFaultAt bytes (length bytes - length rest) (length rest - length later)
   fault_read f e =
-      let s = fault_behind p i.first f i.behind first_byte (subst (λ t. first_item t i.first i.behind ≡ Err f) (sym r.high_is) (i.item_is ∙ e)) in
+      let s = fault_in_rest p i.first f i.behind first_byte (subst (λ t. first_item t i.first i.behind ≡ Err f) (sym r.high_is) (i.item_is ∙ e)) in
       let n = refused_len p i.first i.behind f s in
       let all = ap length r.joined ∙ length-append r.front rest in
       let parts = ap length s.is ∙ length-append s.refused s.rest in
@@ -88,7 +88,7 @@ refused_once p q (x ∷ b) (y ∷ c) f g e s t =
 pub one_fault_place : (bytes : List ℕ) (n m k l : ℕ) → IsFaultAt bytes n k → IsFaultAt bytes m l → (n ≡ m) × (k ≡ l)
 one_fault_place bytes n m k l s t =
     let one = one_fault bytes s.code_points t.code_points s.fault t.fault s.first t.first in
-    let before : s.first.before ≡ t.first.before = s.first.spelled.joined ∙ ap (flat_map form) one.0 ∙ sym t.first.spelled.joined in
+    let before : s.first.before ≡ t.first.before = s.first.spelled.joined ∙ ap (flat_map encode) one.0 ∙ sym t.first.spelled.joined in
     let from : s.first.from ≡ t.first.from =
     sym (drop-append_seam s.first.before s.first.from)
     ∙ ap (drop (length s.first.before)) (sym s.first.joined)

@@ -1,5 +1,5 @@
 -- What a caller that stops at the first `Err` knows. None of these statements is about what comes after that `Err`.
-use Rattle.wtf8_core.proofs.Common.{◌≡◌, ℕ, List, [], ◌∷◌, ◌++◌, map, Result, Ok, Err, refl, sym, ap, ◌∙◌, subst, append_assoc, AllByRecursion, flat_map, append-nil, map-append, IsCodePoint, wide, HasUnits, units, IsFirstFault, AreItems, AreUnitItems, unit_items, ok_values, EncodingError}
+use Rattle.wtf8_core.proofs.Common.{◌≡◌, ℕ, List, [], ◌∷◌, ◌++◌, map, Result, Ok, Err, refl, sym, ap, ◌∙◌, subst, append_assoc, AllByRecursion, flat_map, append-nil, map-append, IsCodePoint, encode_utf16, HasUnits, units, IsFirstFault, AreItems, AreUnitItems, unit_items, ok_values, EncodingError}
 use Rattle.wtf8_core.specs.Items.AreItems.{Whole, Faulty}
 use Rattle.wtf8_core.specs.Encoder.{IsCodePointItem}
 
@@ -49,9 +49,9 @@ items_first_err bytes cs f rest (Faulty {later = later} r l) =
 units_of_oks : (cs : List ℕ) (rest : List Item) → flat_map unit_items (oks cs ++ rest) ≡ oks (units cs) ++ flat_map unit_items rest
 units_of_oks [] rest = refl
 units_of_oks (c ∷ cs) rest =
-    ap (λ l. oks (wide c) ++ l) (units_of_oks cs rest)
-    ∙ sym (append_assoc (oks (wide c)) (oks (units cs)) (flat_map unit_items rest))
-    ∙ ap (λ l. l ++ flat_map unit_items rest) (sym (map-append Ok (wide c) (units cs)))
+    ap (λ l. oks (encode_utf16 c) ++ l) (units_of_oks cs rest)
+    ∙ sym (append_assoc (oks (encode_utf16 c)) (oks (units cs)) (flat_map unit_items rest))
+    ∙ ap (λ l. l ++ flat_map unit_items rest) (sym (map-append Ok (encode_utf16 c) (units cs)))
 
 -- the units of items that are all Ok
 pub units_whole : (cs : List ℕ) (items : List Item) → items ≡ oks cs → flat_map unit_items items ≡ oks (units cs)

@@ -1,5 +1,5 @@
 -- The definitions at some bytes: worked examples, which nothing cites.
-use Rattle.wtf8_core.proofs.Common.{◌≡◌, inl, inr, ⊎_elim, ℕ, ◌-◌, ◌<◌, false, List, [], ◌∷◌, ◌++◌, map, subst, length, drop, Result, Ok, Err, refl, arith, IsScalar, AllByRecursion, nat_tests, All-from_recursion, IsByte, form, wide, Spells, units, IsFirstFault, AreItems, WholeCharacter, IsBoundary, first_item, and_then_checked, with_continuations, checked_value, items_behind, items_after, behind_item, continuations, EncodingError, Byte, CodePoint, End}
+use Rattle.wtf8_core.proofs.Common.{◌≡◌, inl, inr, ⊎_elim, ℕ, ◌-◌, ◌<◌, false, List, [], ◌∷◌, ◌++◌, map, subst, length, drop, Result, Ok, Err, refl, arith, IsScalar, AllByRecursion, nat_tests, All-from_recursion, IsByte, encode, encode_utf16, Encodes, units, IsFirstFault, AreItems, WholeCharacter, IsBoundary, first_item, and_then_checked, with_continuations, checked_value, items_behind, items_after, behind_item, continuations, EncodingError, Byte, CodePoint, End}
 use borrow.Author.Count.{below_none, below_more}
 use Rattle.wtf8_core.proofs.lemmas.reader.FirstErr.{items_first_err}
 use Rattle.wtf8_core.proofs.lemmas.reader.Sound.{items_of_bytes}
@@ -24,18 +24,18 @@ unfolding items_behind behind_item continuations first_item and_then_checked wit
 items_behind_faults = (are_items _ _ (grind arith) refl, are_items _ _ (grind arith) refl, are_items _ _ (grind arith) refl)
 
 -- a low surrogate before a high one
-pub low_then_high : Spells (0xED ∷ 0xB0 ∷ 0x80 ∷ 0xED ∷ 0xA0 ∷ 0x80 ∷ []) (0xDC00 ∷ 0xD800 ∷ [])
-unfolding form
+pub low_then_high : Encodes (0xED ∷ 0xB0 ∷ 0x80 ∷ 0xED ∷ 0xA0 ∷ 0x80 ∷ []) (0xDC00 ∷ 0xD800 ∷ [])
+unfolding encode
 low_then_high = record { code_points = (omega arith, (omega arith, tt)); paired_free = ((λ h l. omega (arith, h.1)), (tt, tt)); joined = refl }
 
 -- the units of a code point past FFFF
 pub pair_units : units (0x1_F600 ∷ []) ≡ 0xD83D ∷ 0xDE00 ∷ []
-unfolding wide
+unfolding encode_utf16
 pair_units = refl
 
 -- no scalar value's form is in s from index a up to i
 abbrev NoneEnds : List ℕ → ℕ → ℕ → Type 0
-NoneEnds s i a = (c : ℕ) (rest : List ℕ) → IsScalar c → length (form c) ≡ i - a → drop a s ≡ form c ++ rest → ⊥
+NoneEnds s i a = (c : ℕ) (rest : List ℕ) → IsScalar c → length (encode c) ≡ i - a → drop a s ≡ encode c ++ rest → ⊥
 
 -- an index where no character starts or ends is no boundary
 no_boundary : (s : List ℕ) (i : ℕ) → 0 < i → i < length s → NoChar (drop i s) → ((a : ℕ) → a < i → NoneEnds s i a) → IsBoundary s i → ⊥
@@ -53,7 +53,7 @@ pub cut_behind_ascii : IsBoundary stray_behind 1
 cut_behind_ascii = record { is = inr (inr (inr (0, ascii_found stray_behind 0x41 (0x80 ∷ 0x80 ∷ []) refl (omega arith)))) }
 
 pub no_cut_between_strays : IsBoundary stray_behind 2 → ⊥
-unfolding form
+unfolding encode
 no_cut_between_strays =
     let P = NoneEnds stray_behind 2 in
     no_boundary stray_behind 2 (omega arith) (omega arith) (λ c rest k e. grind (arith, nat_tests, k, e))
@@ -64,7 +64,7 @@ abbrev two_leads : List ℕ
 two_leads = 0xE2 ∷ 0xC3 ∷ []
 
 pub no_cut_between_leads : IsBoundary two_leads 1 → ⊥
-unfolding form
+unfolding encode
 no_cut_between_leads =
     let P = NoneEnds two_leads 1 in
     no_boundary two_leads 1 (omega arith) (omega arith) (λ c rest k e. grind (arith, nat_tests, k, e))
@@ -75,14 +75,14 @@ abbrev stray_before : List ℕ
 stray_before = 0x80 ∷ 0xC3 ∷ 0xA9 ∷ []
 
 e_acute : WholeCharacter stray_before 1 3
-unfolding form
+unfolding encode
 e_acute = record { char = 0xE9; scalar = refl; stands = record { before = 0x80 ∷ []; behind = []; joined = refl; place = refl }; end = refl }
 
 pub cut_before_character : IsBoundary stray_before 1
 cut_before_character = record { is = inr (inr (inl (3, e_acute))) }
 
 pub no_cut_inside_character : IsBoundary stray_before 2 → ⊥
-unfolding form
+unfolding encode
 no_cut_inside_character =
     let P = NoneEnds stray_before 2 in
     no_boundary stray_before 2 (omega arith) (omega arith) (λ c rest k e. grind (arith, nat_tests, k, e))
@@ -93,7 +93,7 @@ abbrev two_highs : List ℕ
 two_highs = 0xED ∷ 0xA0 ∷ 0x80 ∷ 0xED ∷ 0xA0 ∷ 0x80 ∷ []
 
 pub no_cut_between_surrogates : IsBoundary two_highs 3 → ⊥
-unfolding form
+unfolding encode
 no_cut_between_surrogates =
     let P = NoneEnds two_highs 3 in
     no_boundary two_highs 3 (omega arith) (omega arith) (λ c rest k e. grind (arith, nat_tests, k, e))

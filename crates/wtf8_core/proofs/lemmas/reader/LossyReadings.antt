@@ -1,5 +1,5 @@
 -- The lossy reading of bytes is the forms of their items, with FFFD for each fault.
-use Rattle.wtf8_core.proofs.Common.{◌≡◌, ℕ, suc, List, [], ◌∷◌, ◌++◌, map, length, Result, Err, refl, sym, ap, ◌∙◌, subst, arith, flat_map-append, append-nil, All, flat_map, IsByte, form, Spells, IsWtf8, IsFirstFault, AreItems, replacement, EncodingError}
+use Rattle.wtf8_core.proofs.Common.{◌≡◌, ℕ, suc, List, [], ◌∷◌, ◌++◌, map, length, Result, Err, refl, sym, ap, ◌∙◌, subst, arith, flat_map-append, append-nil, All, flat_map, IsByte, encode, Encodes, IsWtf8, IsFirstFault, AreItems, replacement, EncodingError}
 use Rattle.wtf8_core.specs.Items.AreItems.{Whole, Faulty}
 use Rattle.wtf8_core.specs.LossyReading.{IsLossyReading, lossy_code_point, lossy_forms}
 use Rattle.wtf8_core.specs.LossyReading.IsLossyReading.{formed, replaced}
@@ -13,8 +13,8 @@ abbrev Items : Type 0
 Items = List (Result ℕ EncodingError)
 
 -- the form of FFFD
-replacement_is : form 0xFFFD ≡ replacement
-unfolding form
+replacement_is : encode 0xFFFD ≡ replacement
+unfolding encode
 replacement_is = refl
 
 -- the code points that items give, with FFFD for a fault
@@ -26,14 +26,14 @@ whole_points : (cs : List ℕ) → map lossy_code_point (oks cs) ≡ cs
 whole_points cs = ap (map lossy_code_point) (sym (append-nil (oks cs))) ∙ points_of_oks cs [] ∙ append-nil cs
 
 -- the forms of items that are all Ok, and of items up to a fault and after it
-whole_forms : (b cs : List ℕ) → Spells b cs → lossy_forms (oks cs) ≡ b
-whole_forms b cs s = ap (flat_map form) (whole_points cs) ∙ sym s.joined
+whole_forms : (b cs : List ℕ) → Encodes b cs → lossy_forms (oks cs) ≡ b
+whole_forms b cs s = ap (flat_map encode) (whole_points cs) ∙ sym s.joined
 
 faulty_forms : (b cs : List ℕ) (fault : EncodingError) (later : Items) → (f : IsFirstFault b cs fault) → lossy_forms (oks cs ++ Err fault ∷ later) ≡ f.before ++ (replacement ++ lossy_forms later)
 faulty_forms b cs fault later f =
-    ap (flat_map form) (points_of_oks cs (Err fault ∷ later))
-    ∙ flat_map-append form cs (0xFFFD ∷ map lossy_code_point later)
-    ∙ ap (λ x. x ++ (form 0xFFFD ++ lossy_forms later)) (sym f.spelled.joined)
+    ap (flat_map encode) (points_of_oks cs (Err fault ∷ later))
+    ∙ flat_map-append encode cs (0xFFFD ∷ map lossy_code_point later)
+    ∙ ap (λ x. x ++ (encode 0xFFFD ++ lossy_forms later)) (sym f.spelled.joined)
     ∙ ap (λ x. f.before ++ (x ++ lossy_forms later)) replacement_is
 
 -- the forms of the items are the reading
@@ -76,6 +76,6 @@ pub reading_wtf8 : (b reading : List ℕ) → IsLossyReading b reading → IsWtf
 reading_wtf8 b reading (formed w) = w
 reading_wtf8 b reading (replaced {cs = cs} {reading = behind} f l) =
     let w = reading_wtf8 f.begins.rest behind l in
-    let one : Spells replacement (0xFFFD ∷ []) = subst (λ x. Spells x (0xFFFD ∷ [])) replacement_is (spells_one 0xFFFD (omega arith)) in
+    let one : Encodes replacement (0xFFFD ∷ []) = subst (λ x. Encodes x (0xFFFD ∷ [])) replacement_is (spells_one 0xFFFD (omega arith)) in
     let more = spells_joined replacement behind (0xFFFD ∷ []) w.0 one w.1 (may_precede 0xFFFD w.0 (λ h. omega (arith, h.1))) in
     (cs ++ 0xFFFD ∷ w.0, spells_joined f.before (replacement ++ behind) cs (0xFFFD ∷ w.0) f.spelled more (λ h l. omega (arith, l.1)))

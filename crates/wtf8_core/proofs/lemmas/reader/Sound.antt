@@ -1,5 +1,5 @@
 -- Any bytes are forms up to their end or a fault, so the reader's items are those of the definitions.
-use Rattle.wtf8_core.proofs.Common.{◌≡◌, ◌⊎◌, inl, inr, ⊎_elim, ℕ, zero, suc, ◌+◌, ◌<◌, ◌≤◌, false, List, [], ◌∷◌, ◌++◌, length, drop, map, Result, Ok, Err, refl, sym, ap, ◌∙◌, subst, arith, append_assoc, length-append, Fits, w8, get_or, drop-append_seam, cases_lt, append-nil, All-drop, All-from_get_or, All, AllByRecursion, flat_map, IsByte, needed_continuations, IsHigh, IsLow, is_high, IsCodePoint, form, IsPairedFree, last_behind, IsWtf8, IsBegun, IsShape, shape_value, IsRefused, BeginsFault, IsFirstFault, AreItems, least_value, behind_item, first_item, items_behind, items_after, EncodingError, Byte, CodePoint, End, Utf8}
+use Rattle.wtf8_core.proofs.Common.{◌≡◌, ◌⊎◌, inl, inr, ⊎_elim, ℕ, zero, suc, ◌+◌, ◌<◌, ◌≤◌, false, List, [], ◌∷◌, ◌++◌, length, drop, map, Result, Ok, Err, refl, sym, ap, ◌∙◌, subst, arith, append_assoc, length-append, Fits, w8, get_or, drop-append_seam, cases_lt, append-nil, All-drop, All-from_get_or, All, AllByRecursion, flat_map, IsByte, needed_continuations, IsHigh, IsLow, is_high, IsCodePoint, encode, HasNoSurrogatePair, last_or, IsWtf8, IsSequenceStart, IsWholeSequence, shape_value, IsRefused, BeginsFault, IsFirstFault, AreItems, least_value, behind_item, first_item, items_behind, items_after, EncodingError, Byte, CodePoint, End, Utf8}
 use Rattle.wtf8_core.specs.Items.AreItems.{Whole, Faulty}
 use Rattle.wtf8_core.proofs.lemmas.forms.Ranges.{range_cases}
 use Rattle.wtf8_core.proofs.lemmas.forms.Shapes.{form_ascii, form_bounds, shape_is_form, no_form}
@@ -14,14 +14,14 @@ pub record BeginsForm (p : ℕ) (bs : List ℕ) : Type 0 where
   pub rest : List ℕ
   pub code_point : IsCodePoint c
   pub free : IsHigh p → IsLow c → ⊥
-  pub is : bs ≡ form c ++ rest
+  pub is : bs ≡ encode c ++ rest
 
 -- with a fault
 abbrev SomeFault : ℕ → List ℕ → Type 0
 SomeFault p bs = (f : EncodingError) × BeginsFault p bs f
 
 -- a shape is a form or a fault
-of_shape : (p b : ℕ) (ks rest : List ℕ) → IsShape b ks → BeginsForm p (b ∷ ks ++ rest) ⊎ SomeFault p (b ∷ ks ++ rest)
+of_shape : (p b : ℕ) (ks rest : List ℕ) → IsWholeSequence b ks → BeginsForm p (b ∷ ks ++ rest) ⊎ SomeFault p (b ∷ ks ++ rest)
 of_shape p b ks rest s =
     ⊎_elim (λ low. bad (inl (no_form b ks s (inl low))))
     (λ least. ⊎_elim (λ high. bad (inl (no_form b ks s (inr high))))
@@ -36,11 +36,11 @@ of_shape p b ks rest s =
     v : ℕ
     v = shape_value b ks
 
-    bad : ((c : ℕ) → IsCodePoint c → ¬ (form c ≡ b ∷ ks)) ⊎ ((form v ≡ b ∷ ks) × IsLow v × IsHigh p) → BeginsForm p (b ∷ ks ++ rest) ⊎ SomeFault p (b ∷ ks ++ rest)
+    bad : ((c : ℕ) → IsCodePoint c → ¬ (encode c ≡ b ∷ ks)) ⊎ ((encode v ≡ b ∷ ks) × IsLow v × IsHigh p) → BeginsForm p (b ∷ ks ++ rest) ⊎ SomeFault p (b ∷ ks ++ rest)
     bad w = inr (CodePoint v, record { refused = b ∷ ks; rest = rest; is = refl; refusal = record { lead = b; behind = ks; is = refl; shape = s; value_is = refl; bad = w } })
 
 -- what comes after a lead
-of_lead : (p b : ℕ) (ks rest : List ℕ) → IsBegun b ks → Stops (needed_continuations b) ks rest → BeginsForm p (b ∷ ks ++ rest) ⊎ SomeFault p (b ∷ ks ++ rest)
+of_lead : (p b : ℕ) (ks rest : List ℕ) → IsSequenceStart b ks → Stops (needed_continuations b) ks rest → BeginsForm p (b ∷ ks ++ rest) ⊎ SomeFault p (b ∷ ks ++ rest)
 of_lead p b ks rest g (whole e) = of_shape p b ks rest (record { begun = g; whole = e })
 of_lead p b ks rest g (ends h) = inr (End, record { refused = b ∷ ks; rest = []; is = refl; refusal = (record { lead = b; behind = ks; is = refl; begun = g; short = h }, refl) })
 of_lead p b ks rest g (breaks x t h k) =
@@ -61,9 +61,9 @@ record Run (p : ℕ) (bs : List ℕ) : Type 0 where
   cs : List ℕ
   from : List ℕ
   points : AllByRecursion IsCodePoint cs
-  free : IsPairedFree (p ∷ cs)
-  joined : bs ≡ flat_map form cs ++ from
-  stop : (from ≡ []) ⊎ SomeFault (last_behind p cs) from
+  free : HasNoSurrogatePair (p ∷ cs)
+  joined : bs ≡ flat_map encode cs ++ from
+  stop : (from ≡ []) ⊎ SomeFault (last_or p cs) from
 
 -- one more form at the start
 one_more : (p : ℕ) (bs : List ℕ) → (i : BeginsForm p bs) → Run i.c i.rest → Run p bs
@@ -72,7 +72,7 @@ one_more p bs i r = record {
   from = r.from;
   points = (i.code_point, r.points);
   free = (i.free, r.free);
-  joined = i.is ∙ ap (λ x. form i.c ++ x) r.joined ∙ sym (append_assoc (form i.c) (flat_map form r.cs) r.from);
+  joined = i.is ∙ ap (λ x. encode i.c ++ x) r.joined ∙ sym (append_assoc (encode i.c) (flat_map encode r.cs) r.from);
   stop = r.stop;
 }
 
@@ -85,15 +85,15 @@ run (suc n) p (b ∷ bs) h a = ⊎_elim (more (λ q r. run n q r)) (λ f. record
     more : ((q : ℕ) (rest : List ℕ) → length rest ≤ n → All IsByte rest → Run q rest) → BeginsForm p (b ∷ bs) → Run p (b ∷ bs)
     more go i =
         let l = form_bounds i.c in
-        let e : length (b ∷ bs) ≡ length (form i.c) + length i.rest = ap length i.is ∙ length-append (form i.c) i.rest in
-        one_more p (b ∷ bs) i (go i.c i.rest (omega arith) (subst (All IsByte) (ap (drop (length (form i.c))) i.is ∙ drop-append_seam (form i.c) i.rest) (All-drop IsByte (length (form i.c)) (b ∷ bs) a)))
+        let e : length (b ∷ bs) ≡ length (encode i.c) + length i.rest = ap length i.is ∙ length-append (encode i.c) i.rest in
+        one_more p (b ∷ bs) i (go i.c i.rest (omega arith) (subst (All IsByte) (ap (drop (length (encode i.c))) i.is ∙ drop-append_seam (encode i.c) i.rest) (All-drop IsByte (length (encode i.c)) (b ∷ bs) a)))
 
 -- bytes are WTF-8 or have a first fault
 pub either : (bs : List ℕ) → All IsByte bs → IsWtf8 bs ⊎ ((cs : List ℕ) × (f : EncodingError) × IsFirstFault bs cs f)
 either bs a =
     let r = run (length bs) 0 bs (omega arith) a in
-    ⊎_elim (λ e. inl (r.cs, record { code_points = r.points; paired_free = r.free.1; joined = r.joined ∙ ap (λ x. flat_map form r.cs ++ x) e ∙ append-nil (flat_map form r.cs) }))
-    (λ w. inr (r.cs, w.0, record { before = flat_map form r.cs; from = r.from; joined = r.joined; spelled = record { code_points = r.points; paired_free = r.free.1; joined = refl }; begins = w.1 }))
+    ⊎_elim (λ e. inl (r.cs, record { code_points = r.points; paired_free = r.free.1; joined = r.joined ∙ ap (λ x. flat_map encode r.cs ++ x) e ∙ append-nil (flat_map encode r.cs) }))
+    (λ w. inr (r.cs, w.0, record { before = flat_map encode r.cs; from = r.from; joined = r.joined; spelled = record { code_points = r.points; paired_free = r.free.1; joined = refl }; begins = w.1 }))
     r.stop
 
 -- what is refused has a byte
@@ -143,7 +143,7 @@ first_form_behind p b c bs u e = ⊎_elim
     (begins p b bs u)
 
 -- so at the front
-pub first_form : (b c : ℕ) (bs : List ℕ) → IsByte b → first_item false b bs ≡ Ok c → (rest : List ℕ) × IsCodePoint c × (b ∷ bs ≡ form c ++ rest)
-first_form b c bs u e =
+pub split_code_point : (b c : ℕ) (bs : List ℕ) → IsByte b → first_item false b bs ≡ Ok c → (rest : List ℕ) × IsCodePoint c × (b ∷ bs ≡ encode c ++ rest)
+split_code_point b c bs u e =
     let w = first_form_behind 0 b c bs u e in
-    (w.0.rest, subst IsCodePoint w.1 w.0.code_point, w.0.is ∙ ap (λ x. form x ++ w.0.rest) w.1)
+    (w.0.rest, subst IsCodePoint w.1 w.0.code_point, w.0.is ∙ ap (λ x. encode x ++ w.0.rest) w.1)

@@ -1,11 +1,11 @@
 -- A lead and its continuations are the form of a code point, if each of them may follow the one before.
-use Rattle.wtf8_core.proofs.Common.{◌≡◌, ℕ, ◌<◌, ◌≤◌, List, [], ◌∷◌, arith, nat_tests, IsScalar, IsContinuation, IsHigh, IsLow, IsCodePoint, form, shape_value}
+use Rattle.wtf8_core.proofs.Common.{◌≡◌, ℕ, ◌<◌, ◌≤◌, List, [], ◌∷◌, arith, nat_tests, IsScalar, IsContinuation, IsHigh, IsLow, IsCodePoint, encode, shape_value}
 use Rattle.wtf8_core.proofs.lemmas.forms.Shapes.{shape_is_form}
 
 -- the bytes are the form of the code point c
 pub record IsFormOf (c : ℕ) (bytes : List ℕ) : Type 0 where
   pub code_point : IsCodePoint c
-  pub is : form c ≡ bytes
+  pub is : encode c ≡ bytes
 
 -- of two bytes
 module _ (a b : ℕ) (l : 0xC2 ≤ a) (u : a < 0xE0) (k : IsContinuation b) where

@@ -1,5 +1,5 @@
 -- From windows to the bytes: which prefix they give.
-use Rattle.wtf8_core.proofs.Common.{Bool, true, false, ◌≡◌, ⊎_elim, ℕ, zero, suc, ◌+◌, ◌-◌, ◌<◌, ◌≤◌, List, [], ◌∷◌, ◌++◌, length, take, drop, get_or, refl, sym, ap, ◌∙◌, subst, arith, min, replicate, get_or-take, get_or-drop, get_or_append_left, get_or-append_right, get_or_past, length-append, length-take, length-take-le, length-drop, take-add, take-take, drop-drop, take-append-drop, cases_lt, and_from, AllByRecursion, IsScalar, low_scalar, scalars, IsUtf8, is_in_range, IsContinuation, is_high, Spells, last_behind, MayStand, AllMayStand, IsEdge, behind_zeros, KeepsPattern, IsSpelledFront}
+use Rattle.wtf8_core.proofs.Common.{Bool, true, false, ◌≡◌, ⊎_elim, ℕ, zero, suc, ◌+◌, ◌-◌, ◌<◌, ◌≤◌, List, [], ◌∷◌, ◌++◌, length, take, drop, get_or, refl, sym, ap, ◌∙◌, subst, arith, min, replicate, get_or-take, get_or-drop, get_or_append_left, get_or-append_right, get_or_past, length-append, length-take, length-take-le, length-drop, take-add, take-take, drop-drop, take-append-drop, cases_lt, and_from, AllByRecursion, IsScalar, low_scalar, scalars, IsUtf8, is_in_range, IsContinuation, is_high, Encodes, last_or, MayStand, AllMayStand, IsBetweenCodePoints, behind_zeros, KeepsPattern, IsEncodedPrefix}
 use Rattle.std.proofs.lemmas.List.{take_more}
 use borrow.Rule.Slice.PartMut.{put_mid}
 use Rattle.wtf8_core.proofs.lemmas.forms.Ranges.{in_range, in_range-true, in_range-false, not_in_range}
@@ -10,28 +10,28 @@ use Rattle.wtf8_core.proofs.lemmas.forms.Cuts.{all_parts, cut_before, spells_par
 use Rattle.wtf8_core.proofs.lemmas.characters.Seams.{scalars_are}
 use Rattle.wtf8_core.proofs.lemmas.texts.AreWtf8.{text_spells}
 use Rattle.wtf8_core.proofs.lemmas.scan.PairBits.{same_five}
-use Rattle.wtf8_core.proofs.lemmas.scan.ScannedIsSpelled.{IsEdgeAt, edge_of_forms, steps, whole}
+use Rattle.wtf8_core.proofs.lemmas.scan.ScannedIsEncoded.{IsBetweenCodePointsAt, edge_of_forms, steps, whole}
 use Rattle.wtf8_core.specs.declared.scan.Encoding.{Encoding}
 use Rattle.wtf8_core.specs.declared.scan.Encoding.TheVariants.{Utf8, Wtf8}
 
 -- where a prefix that spells code points ends, the next code point begins
-edge_at : (bytes cs : List ℕ) (n : ℕ) → n ≤ length bytes → Spells (take n bytes) cs → IsEdgeAt (last_behind 0 cs) n (behind_zeros bytes)
+edge_at : (bytes cs : List ℕ) (n : ℕ) → n ≤ length bytes → Encodes (take n bytes) cs → IsBetweenCodePointsAt (last_or 0 cs) n (behind_zeros bytes)
 edge_at bytes cs n h s =
-    let start : IsEdge 0 0 0 0 = record { closed = record { fourth = omega arith; third = omega arith; second = omega arith }; high = λ h. omega (arith, h.0); only_high = λ e. absurd (omega (arith, e)) } in
+    let start : IsBetweenCodePoints 0 0 0 0 = record { closed = record { fourth = omega arith; third = omega arith; second = omega arith }; high = λ h. omega (arith, h.0); only_high = λ e. absurd (omega (arith, e)) } in
     let edge = edge_of_forms 0 0 0 0 0 cs (drop n bytes) start in
-    subst (λ m. IsEdgeAt (last_behind 0 cs) m (behind_zeros bytes)) (length-take-le n bytes h)
-    (subst (λ l. IsEdgeAt (last_behind 0 cs) (length (take n bytes)) (behind_zeros l)) (take-append-drop n bytes)
-    (subst (λ f. IsEdgeAt (last_behind 0 cs) (length f) (behind_zeros (f ++ drop n bytes))) (sym s.joined) edge))
+    subst (λ m. IsBetweenCodePointsAt (last_or 0 cs) m (behind_zeros bytes)) (length-take-le n bytes h)
+    (subst (λ l. IsBetweenCodePointsAt (last_or 0 cs) (length (take n bytes)) (behind_zeros l)) (take-append-drop n bytes)
+    (subst (λ f. IsBetweenCodePointsAt (last_or 0 cs) (length f) (behind_zeros (f ++ drop n bytes))) (sym s.joined) edge))
 
 -- the empty prefix, and one that is a text
-pub no_front : (encoding : Encoding) (bytes : List ℕ) → IsSpelledFront encoding bytes 0
+pub no_front : (encoding : Encoding) (bytes : List ℕ) → IsEncodedPrefix encoding bytes 0
 no_front encoding bytes = record { within = omega arith; code_points = []; spelled = record { code_points = tt; paired_free = tt; joined = refl }; plain = λ _. tt }
 
-text_front : (encoding : Encoding) (bytes : List ℕ) (n : ℕ) → n ≤ length bytes → IsUtf8 (take n bytes) → IsSpelledFront encoding bytes n
+text_front : (encoding : Encoding) (bytes : List ℕ) (n : ℕ) → n ≤ length bytes → IsUtf8 (take n bytes) → IsEncodedPrefix encoding bytes n
 text_front encoding bytes n h u = record { within = h; code_points = u.0; spelled = text_spells (take n bytes) u; plain = λ _. scalars_are u.0 u.1.0 }
 
 -- such a prefix keeps to the pattern
-pub front_keeps : (encoding : Encoding) (bytes : List ℕ) (n : ℕ) → IsSpelledFront encoding bytes n → KeepsPattern encoding bytes n
+pub front_keeps : (encoding : Encoding) (bytes : List ℕ) (n : ℕ) → IsEncodedPrefix encoding bytes n → KeepsPattern encoding bytes n
 front_keeps encoding bytes n f = record { from = n; front = f; order = omega arith; pattern = λ i h. absurd (omega (arith, h)) }
 
 pub no_pattern : (encoding : Encoding) (bytes : List ℕ) → KeepsPattern encoding bytes 0
@@ -45,7 +45,7 @@ all_scalars : (cs : List ℕ) → AllByRecursion IsScalar cs → scalars cs ≡ 
 all_scalars [] p = refl
 all_scalars (c ∷ cs) p = and_from _ _ p.0 (all_scalars cs p.1)
 
-pub front_is_utf8 : (encoding : Encoding) (bytes : List ℕ) (n : ℕ) → encoding ≡ Utf8 → IsSpelledFront encoding bytes n → IsUtf8 (take n bytes)
+pub front_is_utf8 : (encoding : Encoding) (bytes : List ℕ) (n : ℕ) → encoding ≡ Utf8 → IsEncodedPrefix encoding bytes n → IsUtf8 (take n bytes)
 front_is_utf8 encoding bytes n e f = (f.code_points, (all_scalars f.code_points (f.plain e), sym (f.spelled.joined ∙ forms_encode f.code_points)))
 
 -- bytes from index m on, with the four before them
@@ -57,7 +57,7 @@ four_before a b c d (x ∷ l) (suc m) h = four_before b c d x l m (omega (arith,
 
 module _ (encoding : Encoding) (bytes : List ℕ) where
   -- a prefix may be cut before a byte that begins a code point
-  cut_front : (n m : ℕ) → n < m → IsSpelledFront encoding bytes m → (IsContinuation (get_or bytes n 0) → ⊥) → IsSpelledFront encoding bytes n
+  cut_front : (n m : ℕ) → n < m → IsEncodedPrefix encoding bytes m → (IsContinuation (get_or bytes n 0) → ⊥) → IsEncodedPrefix encoding bytes n
   cut_front n m l f ends = by (drop n t) (sym (take-append-drop n t)) (sym (get_or-drop n t 0 0))
     where
       t : List ℕ
@@ -66,7 +66,7 @@ module _ (encoding : Encoding) (bytes : List ℕ) where
       front : take n t ≡ take n bytes
       front = take-take n m bytes (omega (arith, l))
 
-      by : (r : List ℕ) → t ≡ take n t ++ r → get_or t (n + 0) 0 ≡ get_or r 0 0 → IsSpelledFront encoding bytes n
+      by : (r : List ℕ) → t ≡ take n t ++ r → get_or t (n + 0) 0 ≡ get_or r 0 0 → IsEncodedPrefix encoding bytes n
       by [] e d = absurd (omega (arith, l, f.within, length-take m bytes, ap length e, length-append (take n t) [], length-take n t))
       by (b ∷ y) e d =
           let z : n + 0 ≡ n = omega arith in
@@ -75,15 +75,15 @@ module _ (encoding : Encoding) (bytes : List ℕ) where
           record {
             within = omega (arith, l, f.within);
             code_points = w.front;
-            spelled = subst (λ x. Spells x w.front) front (spells_parts t f.code_points (take n t) (b ∷ y) f.spelled w).0;
+            spelled = subst (λ x. Encodes x w.front) front (spells_parts t f.code_points (take n t) (b ∷ y) f.spelled w).0;
             plain = λ e. (all_parts IsScalar w.front w.back (subst (AllByRecursion IsScalar) w.cut (f.plain e))).0;
           }
 
   -- if bytes keep to the pattern past a byte that begins a code point, a prefix ends before it
-  pub by_pattern : (n m : ℕ) → n ≤ length bytes → n < m → KeepsPattern encoding bytes m → (IsContinuation (get_or bytes n 0) → ⊥) → IsSpelledFront encoding bytes n
+  pub by_pattern : (n m : ℕ) → n ≤ length bytes → n < m → KeepsPattern encoding bytes m → (IsContinuation (get_or bytes n 0) → ⊥) → IsEncodedPrefix encoding bytes n
   by_pattern n m h l k ends = ⊎_elim (λ past. cut_front n k.from past k.front ends) from_front (cases_lt n k.from)
     where
-      from_front : k.from ≤ n → IsSpelledFront encoding bytes n
+      from_front : k.from ≤ n → IsEncodedPrefix encoding bytes n
       from_front le =
           let f = k.front in
           let bs = take (n - k.from) (drop k.from bytes) in
@@ -92,18 +92,18 @@ module _ (encoding : Encoding) (bytes : List ℕ) where
           let rest : drop (n - k.from) (drop k.from bytes) ≡ drop n bytes = drop-drop (n - k.from) k.from bytes ∙ ap (λ i. drop i bytes) place in
           let around = four_before 0 0 0 0 bytes k.from f.within ∙ ap (λ x. get_or (behind_zeros bytes) k.from 0 ∷ get_or (behind_zeros bytes) (suc k.from) 0 ∷ get_or (behind_zeros bytes) (suc (suc k.from)) 0 ∷ get_or (behind_zeros bytes) (suc (suc (suc k.from))) 0 ∷ x) (sym (take-append-drop (n - k.from) (drop k.from bytes)) ∙ ap (λ x. bs ++ x) rest) in
           let first : get_or (drop n bytes) 0 0 ≡ get_or bytes n 0 = get_or-drop n bytes 0 0 ∙ (let z : n + 0 ≡ n = omega arith in ap (λ i. get_or bytes i 0) z) in
-          let r = whole encoding _ (λ c. ends (subst IsContinuation first c)) (last_behind 0 f.code_points) _ _ _ _ bs (edge_at bytes f.code_points k.from f.within f.spelled)
+          let r = whole encoding _ (λ c. ends (subst IsContinuation first c)) (last_or 0 f.code_points) _ _ _ _ bs (edge_at bytes f.code_points k.from f.within f.spelled)
           (steps encoding _ _ _ _ bs (drop n bytes) (subst (AllMayStand encoding (suc (length bs))) around (λ i j. k.pattern i (omega (arith, j, size, l, le))))) in
           record {
             within = h;
             code_points = f.code_points ++ r.code_points;
-            spelled = subst (λ x. Spells x (f.code_points ++ r.code_points)) (sym (take-add k.from (n - k.from) bytes) ∙ ap (λ i. take i bytes) place) (spells_joined (take k.from bytes) bs f.code_points r.code_points f.spelled r.spelled r.free);
+            spelled = subst (λ x. Encodes x (f.code_points ++ r.code_points)) (sym (take-add k.from (n - k.from) bytes) ∙ ap (λ i. take i bytes) place) (spells_joined (take k.from bytes) bs f.code_points r.code_points f.spelled r.spelled r.free);
             plain = λ e. all_joined IsScalar f.code_points r.code_points (f.plain e) (r.plain e);
           }
 
   -- ASCII after a prefix
-  pub more_ascii : (n k : ℕ) → n + k ≤ length bytes → ((i : ℕ) → i < k → get_or bytes (n + i) 0 < 0x80) → IsSpelledFront encoding bytes n → IsSpelledFront encoding bytes (n + k)
-  more_ascii n zero h low f = let z : n ≡ n + 0 = omega arith in subst (IsSpelledFront encoding bytes) z f
+  pub more_ascii : (n k : ℕ) → n + k ≤ length bytes → ((i : ℕ) → i < k → get_or bytes (n + i) 0 < 0x80) → IsEncodedPrefix encoding bytes n → IsEncodedPrefix encoding bytes (n + k)
+  more_ascii n zero h low f = let z : n ≡ n + 0 = omega arith in subst (IsEncodedPrefix encoding bytes) z f
   more_ascii n (suc k) h low f =
       let a = get_or bytes (n + k) 0 in
       let u = low k (omega arith) in
@@ -112,15 +112,15 @@ module _ (encoding : Encoding) (bytes : List ℕ) where
       record {
         within = h;
         code_points = g.code_points ++ a ∷ [];
-        spelled = subst (λ x. Spells x (g.code_points ++ a ∷ [])) (ap (λ x. take (n + k) bytes ++ x) (form_ascii a u) ∙ sym (take_more bytes (n + k) 0 (omega (arith, h))) ∙ ap (λ i. take i bytes) z) (spells_more (take (n + k) bytes) g.code_points a g.spelled (omega (arith, u)) (λ _ l. omega (arith, l.0, u)));
+        spelled = subst (λ x. Encodes x (g.code_points ++ a ∷ [])) (ap (λ x. take (n + k) bytes ++ x) (form_ascii a u) ∙ sym (take_more bytes (n + k) 0 (omega (arith, h))) ∙ ap (λ i. take i bytes) z) (spells_more (take (n + k) bytes) g.code_points a g.spelled (omega (arith, u)) (λ _ l. omega (arith, l.0, u)));
         plain = λ e. all_joined IsScalar g.code_points (a ∷ []) (g.plain e) (low_scalar a (omega (arith, u)), tt);
       }
 
   -- if the byte before an index is ASCII, a prefix ends at that index
-  pub front_behind_ascii : (n : ℕ) → 0 < n → n ≤ length bytes → get_or bytes (n - 1) 0 < 0x80 → KeepsPattern encoding bytes n → IsSpelledFront encoding bytes n
+  pub front_behind_ascii : (n : ℕ) → 0 < n → n ≤ length bytes → get_or bytes (n - 1) 0 < 0x80 → KeepsPattern encoding bytes n → IsEncodedPrefix encoding bytes n
   front_behind_ascii n some h u k =
       let z : n - 1 + 1 ≡ n = omega (arith, some) in
-      subst (IsSpelledFront encoding bytes) z (more_ascii (n - 1) 1 (omega (arith, some, h)) (λ i l. let y : n - 1 ≡ n - 1 + i = omega (arith, l) in subst (λ m. get_or bytes m 0 < 0x80) y u) (by_pattern (n - 1) n (omega (arith, h)) (omega (arith, some)) k (λ c. omega (arith, c.0, u))))
+      subst (IsEncodedPrefix encoding bytes) z (more_ascii (n - 1) 1 (omega (arith, some, h)) (λ i l. let y : n - 1 ≡ n - 1 + i = omega (arith, l) in subst (λ m. get_or bytes m 0 < 0x80) y u) (by_pattern (n - 1) n (omega (arith, h)) (omega (arith, some)) k (λ c. omega (arith, c.0, u))))
 
   -- as many more as a window keeps
   module _ (at : ℕ) (window : List ℕ) (n : ℕ) (same : (i : ℕ) → i < 4 + n → get_or window i 0 ≡ get_or (behind_zeros bytes) (at + i) 0) where
@@ -202,21 +202,21 @@ pub copied : (bytes : List ℕ) (at b n : ℕ) (part : List ℕ) → at ≤ leng
 copied = copied_into (replicate 68 0) refl (zeros 68)
 
 -- whether the code point at an edge is a high surrogate, by the bytes before it
-edge_high : (p x y z : ℕ) → IsEdge p x y z → x ≡ 0xED → is_in_range 0xA0 0xAF y ≡ is_high p
+edge_high : (p x y z : ℕ) → IsBetweenCodePoints p x y z → x ≡ 0xED → is_in_range 0xA0 0xAF y ≡ is_high p
 edge_high p x y z edge e = go (is_in_range 0xA0 0xAF y) refl
   where
     go : (t : Bool) → is_in_range 0xA0 0xAF y ≡ t → is_in_range 0xA0 0xAF y ≡ is_high p
     go true k = let r = in_range-true 0xA0 0xAF y k in k ∙ sym (in_range 0xD800 0xDBFF p (edge.only_high e r.0 (omega (arith, r.1))))
     go false k = k ∙ sym (not_in_range 0xD800 0xDBFF p (λ h. let q = edge.high h in in_range-false 0xA0 0xAF y k (q.1, omega (arith, q.2))))
 
-edge_not_high : (p x y z : ℕ) → IsEdge p x y z → (x ≡ 0xED → ⊥) → false ≡ is_high p
+edge_not_high : (p x y z : ℕ) → IsBetweenCodePoints p x y z → (x ≡ 0xED → ⊥) → false ≡ is_high p
 edge_not_high p x y z edge n = sym (not_in_range 0xD800 0xDBFF p (λ h. n (edge.high h).0))
 
-module _ (bytes : List ℕ) (at : ℕ) (f : IsSpelledFront Wtf8 bytes at) where
-  edge : IsEdgeAt (last_behind 0 f.code_points) at (behind_zeros bytes)
+module _ (bytes : List ℕ) (at : ℕ) (f : IsEncodedPrefix Wtf8 bytes at) where
+  edge : IsBetweenCodePointsAt (last_or 0 f.code_points) at (behind_zeros bytes)
   edge = edge_at bytes f.code_points at f.within f.spelled
 
-  pub near_start : at < 3 → false ≡ is_high (last_behind 0 f.code_points)
+  pub near_start : at < 3 → false ≡ is_high (last_or 0 f.code_points)
   near_start l = edge_not_high _ _ _ _ edge (λ e. let z = before_bytes bytes (suc at) (omega (arith, l)) in omega (arith, e, z))
 
   third_before : 3 ≤ at → get_or (behind_zeros bytes) (suc at) 0 ≡ get_or bytes (at - 3) 0
@@ -225,8 +225,8 @@ module _ (bytes : List ℕ) (at : ℕ) (f : IsSpelledFront Wtf8 bytes at) where
   second_before : 3 ≤ at → get_or (behind_zeros bytes) (suc (suc at)) 0 ≡ get_or bytes (at - 2) 0
   second_before l = let place : suc (suc at) ≡ suc (suc (suc (suc (at - 2)))) = omega (arith, l) in ap (λ n. get_or (behind_zeros bytes) n 0) place
 
-  pub other_lead : 3 ≤ at → (get_or bytes (at - 3) 0 ≡ 0xED → ⊥) → false ≡ is_high (last_behind 0 f.code_points)
+  pub other_lead : 3 ≤ at → (get_or bytes (at - 3) 0 ≡ 0xED → ⊥) → false ≡ is_high (last_or 0 f.code_points)
   other_lead l n = edge_not_high _ _ _ _ edge (λ e. n (sym (third_before l) ∙ e))
 
-  pub by_second : 3 ≤ at → get_or bytes (at - 3) 0 ≡ 0xED → is_in_range 0xA0 0xAF (get_or bytes (at - 2) 0) ≡ is_high (last_behind 0 f.code_points)
+  pub by_second : 3 ≤ at → get_or bytes (at - 3) 0 ≡ 0xED → is_in_range 0xA0 0xAF (get_or bytes (at - 2) 0) ≡ is_high (last_or 0 f.code_points)
   by_second l e = ap (λ y. is_in_range 0xA0 0xAF y) (sym (second_before l)) ∙ edge_high _ _ _ _ edge (third_before l ∙ e)

@@ -1,5 +1,5 @@
 -- Where a text that isn't empty occurs in a string, the string may be cut before and after it.
-use Rattle.wtf8_core.proofs.Common.{◌≡◌, inl, inr, ⊎_elim, ℕ, ◌+◌, ◌-◌, ◌<◌, true, List, [], ◌∷◌, ◌++◌, length, refl, sym, ap, ◌∙◌, subst, arith, append_assoc, scalar, and_parts, cases_lt, flat_map, IsUtf8, all_scalars, form, StandsAt, WholeCharacter, IsBoundary}
+use Rattle.wtf8_core.proofs.Common.{◌≡◌, inl, inr, ⊎_elim, ℕ, ◌+◌, ◌-◌, ◌<◌, true, List, [], ◌∷◌, ◌++◌, length, refl, sym, ap, ◌∙◌, subst, arith, append_assoc, scalar, and_parts, cases_lt, flat_map, IsUtf8, all_scalars, encode, StandsAt, WholeCharacter, IsBoundary}
 use Rattle.wtf8_core.proofs.lemmas.forms.ByStd.{forms_encode}
 use Rattle.wtf8_core.proofs.lemmas.characters.Overlaps.{no_start_inside}
 use Rattle.wtf8_core.proofs.lemmas.characters.Seams.{text_covered}
@@ -8,11 +8,11 @@ use Rattle.wtf8_core.proofs.lemmas.characters.Seams.{text_covered}
 starts : (p s : List ℕ) (i : ℕ) → IsUtf8 p → 0 < length p → StandsAt p s i → (j : ℕ) × WholeCharacter s i j
 starts p s i u some h = by u.0 u.1.0 (forms_encode u.0 ∙ u.1.1)
   where
-    by : (cs : List ℕ) → all_scalars cs ≡ true → flat_map form cs ≡ p → (j : ℕ) × WholeCharacter s i j
+    by : (cs : List ℕ) → all_scalars cs ≡ true → flat_map encode cs ≡ p → (j : ℕ) × WholeCharacter s i j
     by [] a e = absurd (omega (arith, ap length e))
     by (c ∷ cs) a e =
-        let joined = h.joined ∙ ap (λ x. h.before ++ (x ++ h.behind)) (sym e) ∙ ap (λ x. h.before ++ x) (append_assoc (form c) (flat_map form cs) h.behind) in
-        (i + length (form c), record { char = c; scalar = (and_parts (scalar c) _ a).0; stands = record { before = h.before; behind = flat_map form cs ++ h.behind; joined = joined; place = h.place }; end = refl })
+        let joined = h.joined ∙ ap (λ x. h.before ++ (x ++ h.behind)) (sym e) ∙ ap (λ x. h.before ++ x) (append_assoc (encode c) (flat_map encode cs) h.behind) in
+        (i + length (encode c), record { char = c; scalar = (and_parts (scalar c) _ a).0; stands = record { before = h.before; behind = flat_map encode cs ++ h.behind; joined = joined; place = h.place }; end = refl })
 
 -- no whole character extends across its start, so none extends across its end, and the one around its last byte ends there
 pub edges_of_text : (p s : List ℕ) (i : ℕ) → IsUtf8 p → 0 < length p → StandsAt p s i → IsBoundary s i × IsBoundary s (i + length p)

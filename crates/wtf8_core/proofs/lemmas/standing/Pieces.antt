@@ -1,5 +1,5 @@
 -- From the laws of occurrences alone: pieces, strips and trims in units.
-use Rattle.wtf8_core.proofs.Common.{◌≡◌, ℕ, zero, suc, ◌<◌, List, [], ◌∷◌, ◌++◌, length, map, Option, Some, None, refl, sym, ap, ◌∙◌, subst, arith, append_assoc, append-nil, length-append, append_cancel_left, nil_from_length, repeat, IsUtf8, IsLeastPlace, IsGreatestPlace, IsFront, IsEnd, IsBytePlace, IsUnitPlaceOf, StandingLaws}
+use Rattle.wtf8_core.proofs.Common.{◌≡◌, ℕ, zero, suc, ◌<◌, List, [], ◌∷◌, ◌++◌, length, map, Option, Some, None, refl, sym, ap, ◌∙◌, subst, arith, append_assoc, append-nil, length-append, append_cancel_left, nil_from_length, repeat, IsUtf8, IsFirstPlace, IsLastPlace, IsPrefix, IsSuffix, IsBytePlace, IsUnitPlaceOf, StandingLaws}
 use Rattle.wtf8_core.proofs.lemmas.forms.Appending.{append_same}
 use Rattle.wtf8_core.specs.Pieces.{SplitsAt, IsSplit, IsRSplit, IsStartTrim, IsEndTrim, IsTrim, StripsFront, StripsEnd, SplitsOnce}
 use Rattle.wtf8_core.specs.Pieces.FallsInto.{whole, cut}
@@ -16,38 +16,38 @@ module _ (wf : List ℕ → Type 0) (units : List ℕ → List ℕ) (laws : Stan
     found = subst (λ i. Is (units p) (units s) i) (unit_of_front s front (p ++ back) l.unit_place e l.byte_place) l.is;
   }
 
-  least_cut : (p s front back : List ℕ) → IsUtf8 p → 0 < length p → wf s → SplitsAt IsLeastPlace p s front back → SplitsAt IsLeastPlace (units p) (units s) (units front) (units back)
-  least_cut p s front back t h w c = cut_by IsLeastPlace p s front back t h w c.joined (least wf units laws p s (length front) t h w c.found)
+  least_cut : (p s front back : List ℕ) → IsUtf8 p → 0 < length p → wf s → SplitsAt IsFirstPlace p s front back → SplitsAt IsFirstPlace (units p) (units s) (units front) (units back)
+  least_cut p s front back t h w c = cut_by IsFirstPlace p s front back t h w c.joined (least wf units laws p s (length front) t h w c.found)
 
-  greatest_cut : (p s front back : List ℕ) → IsUtf8 p → 0 < length p → wf s → SplitsAt IsGreatestPlace p s front back → SplitsAt IsGreatestPlace (units p) (units s) (units front) (units back)
-  greatest_cut p s front back t h w c = cut_by IsGreatestPlace p s front back t h w c.joined (greatest wf units laws p s (length front) t h w c.found)
+  greatest_cut : (p s front back : List ℕ) → IsUtf8 p → 0 < length p → wf s → SplitsAt IsLastPlace p s front back → SplitsAt IsLastPlace (units p) (units s) (units front) (units back)
+  greatest_cut p s front back t h w c = cut_by IsLastPlace p s front back t h w c.joined (greatest wf units laws p s (length front) t h w c.found)
 
   -- a cut around the empty text
   none_cut : (Is : List ℕ → List ℕ → ℕ → Type 0) (s front back : List ℕ) → units s ≡ units front ++ units back → Is (units []) (units s) (length (units front)) → SplitsAt Is (units []) (units s) (units front) (units back)
   none_cut Is s front back e f = record { joined = e ∙ ap (λ z. units front ++ (z ++ units back)) (sym (no_units wf units laws)); found = f }
 
-  least_cut_of_none : (s front back : List ℕ) → SplitsAt IsLeastPlace [] s front back → SplitsAt IsLeastPlace (units []) (units s) (units front) (units back)
+  least_cut_of_none : (s front back : List ℕ) → SplitsAt IsFirstPlace [] s front back → SplitsAt IsFirstPlace (units []) (units s) (units front) (units back)
   least_cut_of_none s front back c =
       let f : front ≡ [] = nil_from_length front (none_first wf units laws s (length front) c.found) in
       let e : units front ≡ [] = ap units f ∙ no_units wf units laws in
       let b : units s ≡ units back = ap units (c.joined ∙ ap (λ z. z ++ back) f) in
-      none_cut IsLeastPlace s front back (b ∙ ap (λ z. z ++ units back) (sym e)) (subst (λ n. IsLeastPlace (units []) (units s) n) (sym (ap length e)) (no_units_first wf units laws (units s)))
+      none_cut IsFirstPlace s front back (b ∙ ap (λ z. z ++ units back) (sym e)) (subst (λ n. IsFirstPlace (units []) (units s) n) (sym (ap length e)) (no_units_first wf units laws (units s)))
 
-  greatest_cut_of_none : (s front back : List ℕ) → SplitsAt IsGreatestPlace [] s front back → SplitsAt IsGreatestPlace (units []) (units s) (units front) (units back)
+  greatest_cut_of_none : (s front back : List ℕ) → SplitsAt IsLastPlace [] s front back → SplitsAt IsLastPlace (units []) (units s) (units front) (units back)
   greatest_cut_of_none s front back c =
       let n : length front ≡ length s = none_last wf units laws s (length front) c.found in
       let b : back ≡ [] = nil_from_length back (omega (arith, n, ap length c.joined, length-append front back)) in
       let f : s ≡ front = c.joined ∙ ap (λ z. front ++ z) b ∙ append-nil front in
       let e : units s ≡ units front ++ units back = ap units f ∙ sym (append-nil (units front)) ∙ ap (λ z. units front ++ z) (sym (ap units b ∙ no_units wf units laws)) in
-      none_cut IsGreatestPlace s front back e (subst (λ n. IsGreatestPlace (units []) (units s) n) (ap (λ z. length (units z)) f) (no_units_last wf units laws (units s)))
+      none_cut IsLastPlace s front back e (subst (λ n. IsLastPlace (units []) (units s) n) (ap (λ z. length (units z)) f) (no_units_last wf units laws (units s)))
 
   -- one cut, or none
-  pub once_in_units : {T : Type 0} (of : T → List ℕ) (p s : List ℕ) (r : Option (T × T)) → IsUtf8 p → wf s → SplitsOnce IsLeastPlace of p s r → SplitsOnce IsLeastPlace (λ x. units (of x)) (units p) (units s) r
+  pub once_in_units : {T : Type 0} (of : T → List ℕ) (p s : List ℕ) (r : Option (T × T)) → IsUtf8 p → wf s → SplitsOnce IsFirstPlace of p s r → SplitsOnce IsFirstPlace (λ x. units (of x)) (units p) (units s) r
   once_in_units of p s None t w c = nowhere_in_units wf units laws p s t w c
   once_in_units of [] s (Some parts) t w c = least_cut_of_none s (of parts.0) (of parts.1) c
   once_in_units of (x ∷ p) s (Some parts) t w c = least_cut (x ∷ p) s (of parts.0) (of parts.1) t (omega arith) w c
 
-  pub last_once_in_units : {T : Type 0} (of : T → List ℕ) (p s : List ℕ) (r : Option (T × T)) → IsUtf8 p → wf s → SplitsOnce IsGreatestPlace of p s r → SplitsOnce IsGreatestPlace (λ x. units (of x)) (units p) (units s) r
+  pub last_once_in_units : {T : Type 0} (of : T → List ℕ) (p s : List ℕ) (r : Option (T × T)) → IsUtf8 p → wf s → SplitsOnce IsLastPlace of p s r → SplitsOnce IsLastPlace (λ x. units (of x)) (units p) (units s) r
   last_once_in_units of p s None t w c = nowhere_in_units wf units laws p s t w c
   last_once_in_units of [] s (Some parts) t w c = greatest_cut_of_none s (of parts.0) (of parts.1) c
   last_once_in_units of (x ∷ p) s (Some parts) t w c = greatest_cut (x ∷ p) s (of parts.0) (of parts.1) t (omega arith) w c
@@ -74,17 +74,17 @@ module _ (wf : List ℕ → Type 0) (units : List ℕ → List ℕ) (laws : Stan
       (x, ap units e ∙ (laws.fronts rest p x (subst wf e w)).1)
 
   -- a text is a prefix in units exactly if it is one in bytes
-  pub front_in_bytes : (p s : List ℕ) → IsUtf8 p → wf s → IsFront (units p) (units s) → IsFront p s
+  pub front_in_bytes : (p s : List ℕ) → IsUtf8 p → wf s → IsPrefix (units p) (units s) → IsPrefix p s
   front_in_bytes [] s t w f = record { rest = s; joined = refl }
   front_in_bytes (x ∷ p) s t w f =
       let m = laws.units_stand (x ∷ p) s [] f.rest t (omega arith) w f.joined in
       record { rest = m.back; joined = m.joined ∙ ap (λ z. z ++ ((x ∷ p) ++ m.back)) (nothing wf units laws m.front m.formed m.units_are) }
 
-  pub front_alike : (p s : List ℕ) → IsUtf8 p → wf s → (IsFront p s → IsFront (units p) (units s)) × (IsFront (units p) (units s) → IsFront p s)
+  pub front_alike : (p s : List ℕ) → IsUtf8 p → wf s → (IsPrefix p s → IsPrefix (units p) (units s)) × (IsPrefix (units p) (units s) → IsPrefix p s)
   front_alike p s t w = (λ f. record { rest = units f.rest; joined = (behind_front p s f.rest t w f.joined).1 }, front_in_bytes p s t w)
 
   -- and a suffix
-  pub end_in_bytes : (p s : List ℕ) → IsUtf8 p → wf s → IsEnd (units p) (units s) → IsEnd p s
+  pub end_in_bytes : (p s : List ℕ) → IsUtf8 p → wf s → IsSuffix (units p) (units s) → IsSuffix p s
   end_in_bytes [] s t w f = record { rest = s; joined = sym (append-nil s) }
   end_in_bytes (x ∷ p) s t w f =
       let q = x ∷ p in
@@ -94,7 +94,7 @@ module _ (wf : List ℕ → Type 0) (units : List ℕ → List ℕ) (laws : Stan
       let n : m.back ≡ [] = nothing wf units laws m.back a.1 (append_cancel_left (units q) (units m.back) [] e) in
       record { rest = m.front; joined = m.joined ∙ ap (λ z. m.front ++ (q ++ z)) n ∙ ap (λ z. m.front ++ z) (append-nil q) }
 
-  pub end_alike : (p s : List ℕ) → IsUtf8 p → wf s → (IsEnd p s → IsEnd (units p) (units s)) × (IsEnd (units p) (units s) → IsEnd p s)
+  pub end_alike : (p s : List ℕ) → IsUtf8 p → wf s → (IsSuffix p s → IsSuffix (units p) (units s)) × (IsSuffix (units p) (units s) → IsSuffix p s)
   end_alike p s t w = (λ f. record { rest = units f.rest; joined = (before_end p s f.rest t w f.joined).1 }, end_in_bytes p s t w)
 
   -- strips

@@ -1,5 +1,5 @@
 -- From the laws of occurrences alone: what holds of indices in bytes holds of indices in units.
-use Rattle.wtf8_core.proofs.Common.{◌≡◌, ⊎_elim, ℕ, ◌+◌, ◌<◌, ◌≤◌, List, [], ◌∷◌, ◌++◌, length, Option, Some, None, refl, sym, ap, ◌∙◌, subst, arith, append-nil, length-append, cases_lt, append_cancel_left, nil_from_length, IsUtf8, StandsAt, StandsNowhere, IsLeastPlace, IsGreatestPlace, Finds, IsBytePlace, IsUnitPlaceOf, FindsInUnits, StandingLaws}
+use Rattle.wtf8_core.proofs.Common.{◌≡◌, ⊎_elim, ℕ, ◌+◌, ◌<◌, ◌≤◌, List, [], ◌∷◌, ◌++◌, length, Option, Some, None, refl, sym, ap, ◌∙◌, subst, arith, append-nil, length-append, cases_lt, append_cancel_left, nil_from_length, IsUtf8, StandsAt, StandsNowhere, IsFirstPlace, IsLastPlace, Finds, IsBytePlace, IsUnitPlaceOf, FindsInUnits, StandingLaws}
 
 -- of two prefixes of a list one is a prefix of the other
 pub shorter_front : (x y z w : List ℕ) → x ++ z ≡ y ++ w → length x ≤ length y → (v : List ℕ) × (y ≡ x ++ v) × (z ≡ v ++ w)
@@ -88,7 +88,7 @@ module _ (wf : List ℕ → Type 0) (units : List ℕ → List ℕ) (laws : Stan
   )
 
   -- the first byte index is that of the first unit index
-  pub least : (p s : List ℕ) (j : ℕ) → IsUtf8 p → 0 < length p → wf s → IsLeastPlace p s j → IsUnitPlaceOf IsLeastPlace wf units p s j
+  pub least : (p s : List ℕ) (j : ℕ) → IsUtf8 p → 0 < length p → wf s → IsFirstPlace p s j → IsUnitPlaceOf IsFirstPlace wf units p s j
   least p s j t h w l =
       let a = bytes_stand p s j t h w l.stands in
       record {
@@ -98,7 +98,7 @@ module _ (wf : List ℕ → Type 0) (units : List ℕ → List ℕ) (laws : Stan
       }
 
   -- the last byte index is that of the last unit index
-  pub greatest : (p s : List ℕ) (j : ℕ) → IsUtf8 p → 0 < length p → wf s → IsGreatestPlace p s j → IsUnitPlaceOf IsGreatestPlace wf units p s j
+  pub greatest : (p s : List ℕ) (j : ℕ) → IsUtf8 p → 0 < length p → wf s → IsLastPlace p s j → IsUnitPlaceOf IsLastPlace wf units p s j
   greatest p s j t h w g =
       let a = bytes_stand p s j t h w g.stands in
       record {
@@ -111,10 +111,10 @@ module _ (wf : List ℕ → Type 0) (units : List ℕ → List ℕ) (laws : Stan
   nowhere p s t h w n i st = let c = units_stand p s i t h w st in n c.0 c.1.1
 
   -- the first occurrence of the empty text is at the start, the last at the end
-  pub none_first : (s : List ℕ) (j : ℕ) → IsLeastPlace [] s j → j ≡ 0
+  pub none_first : (s : List ℕ) (j : ℕ) → IsFirstPlace [] s j → j ≡ 0
   none_first s j l = ⊎_elim (λ m. absurd (l.least 0 m (record { before = []; behind = s; joined = refl; place = refl }))) (λ m. omega arith) (cases_lt 0 j)
 
-  pub none_last : (s : List ℕ) (j : ℕ) → IsGreatestPlace [] s j → j ≡ length s
+  pub none_last : (s : List ℕ) (j : ℕ) → IsLastPlace [] s j → j ≡ length s
   none_last s j g =
       let n : length s ≡ length g.stands.before + length g.stands.behind = ap length g.stands.joined ∙ length-append g.stands.before g.stands.behind in
       ⊎_elim
@@ -123,26 +123,26 @@ module _ (wf : List ℕ → Type 0) (units : List ℕ → List ℕ) (laws : Stan
       (cases_lt j (length s))
 
   -- so do its units
-  pub no_units_first : (us : List ℕ) → IsLeastPlace (units []) us 0
+  pub no_units_first : (us : List ℕ) → IsFirstPlace (units []) us 0
   no_units_first us = record {
     stands = record { before = []; behind = us; joined = ap (λ z. z ++ us) (sym no_units); place = refl };
     least = λ k b st. absurd (omega (arith, b));
   }
 
-  pub no_units_last : (us : List ℕ) → IsGreatestPlace (units []) us (length us)
+  pub no_units_last : (us : List ℕ) → IsLastPlace (units []) us (length us)
   no_units_last us = record {
     stands = record { before = us; behind = []; joined = sym (append-nil us) ∙ ap (λ z. us ++ (z ++ [])) (sym no_units); place = refl };
     greatest = λ k b st. absurd (omega (arith, b, st.place, ap length st.joined, length-append st.before (units [] ++ st.behind)));
   }
 
-  least_of_none : (s : List ℕ) (j : ℕ) → wf s → IsLeastPlace [] s j → IsUnitPlaceOf IsLeastPlace wf units [] s j
+  least_of_none : (s : List ℕ) (j : ℕ) → wf s → IsFirstPlace [] s j → IsUnitPlaceOf IsFirstPlace wf units [] s j
   least_of_none s j w l = record {
     unit_place = 0;
     is = no_units_first (units s);
     byte_place = record { front = []; rest = s; joined = refl; formed = nil_formed; many = ap length no_units; place = sym (none_first s j l) };
   }
 
-  greatest_of_none : (s : List ℕ) (j : ℕ) → wf s → IsGreatestPlace [] s j → IsUnitPlaceOf IsGreatestPlace wf units [] s j
+  greatest_of_none : (s : List ℕ) (j : ℕ) → wf s → IsLastPlace [] s j → IsUnitPlaceOf IsLastPlace wf units [] s j
   greatest_of_none s j w g = record {
     unit_place = length (units s);
     is = no_units_last (units s);
@@ -155,12 +155,12 @@ module _ (wf : List ℕ → Type 0) (units : List ℕ → List ℕ) (laws : Stan
   nowhere_in_units (x ∷ p) s t w n = nowhere (x ∷ p) s t (omega arith) w n
 
   -- what is found in bytes is found in units
-  pub finds_first : (p s : List ℕ) (r : Option ℕ) → IsUtf8 p → wf s → Finds IsLeastPlace p s r → FindsInUnits IsLeastPlace wf units p s r
+  pub finds_first : (p s : List ℕ) (r : Option ℕ) → IsUtf8 p → wf s → Finds IsFirstPlace p s r → FindsInUnits IsFirstPlace wf units p s r
   finds_first p s None t w f = nowhere_in_units p s t w f
   finds_first [] s (Some j) t w f = least_of_none s j w f
   finds_first (x ∷ p) s (Some j) t w f = least (x ∷ p) s j t (omega arith) w f
 
-  pub finds_last : (p s : List ℕ) (r : Option ℕ) → IsUtf8 p → wf s → Finds IsGreatestPlace p s r → FindsInUnits IsGreatestPlace wf units p s r
+  pub finds_last : (p s : List ℕ) (r : Option ℕ) → IsUtf8 p → wf s → Finds IsLastPlace p s r → FindsInUnits IsLastPlace wf units p s r
   finds_last p s None t w f = nowhere_in_units p s t w f
   finds_last [] s (Some j) t w f = greatest_of_none s j w f
   finds_last (x ∷ p) s (Some j) t w f = greatest (x ∷ p) s j t (omega arith) w f

@@ -1,5 +1,5 @@
 -- The laws of occurrences and of joins for WTF-8.
-use Rattle.wtf8_core.proofs.Common.{◌≡◌, ⊎_elim, ℕ, ◌<◌, true, List, [], ◌∷◌, ◌++◌, length, sym, ap, ◌∙◌, subst, arith, append-nil, append_assoc, and_parts, flat_map-append, AllByRecursion, flat_map, IsScalar, IsUtf8, all_scalars, scalar, scalar_cases, IsHigh, IsLow, IsCodePoint, form, wide, IsPairedFree, MayPrecede, last_behind, units, Spells, IsWtf8, units_of, IsCutAround, StandingLaws}
+use Rattle.wtf8_core.proofs.Common.{◌≡◌, ⊎_elim, ℕ, ◌<◌, true, List, [], ◌∷◌, ◌++◌, length, sym, ap, ◌∙◌, subst, arith, append-nil, append_assoc, and_parts, flat_map-append, AllByRecursion, flat_map, IsScalar, IsUtf8, all_scalars, scalar, scalar_cases, IsHigh, IsLow, IsCodePoint, encode, encode_utf16, HasNoSurrogatePair, MayPrecede, last_or, units, Encodes, IsWtf8, units_of, IsCutAround, StandingLaws}
 use Rattle.wtf8_core.proofs.lemmas.forms.Cuts.{all_parts, paired_back, bytes_found}
 use Rattle.wtf8_core.proofs.lemmas.forms.ByStd.{forms_front}
 use Rattle.wtf8_core.proofs.lemmas.characters.AtPlaces.{scalar_point}
@@ -10,7 +10,7 @@ use Rattle.wtf8_core.proofs.lemmas.texts.AreWtf8.{text_spells, wtf8_of_text}
 use Rattle.wtf8_core.proofs.lemmas.units.Cuts.{spells_front, spells_back, units_fit, cut_at_units, last_unit, units_front}
 
 -- the units of what code points spell
-pub units_of_spelled : (b cs : List ℕ) → Spells b cs → units_of b ≡ units cs
+pub units_of_spelled : (b cs : List ℕ) → Encodes b cs → units_of b ≡ units cs
 units_of_spelled b cs s = ap units (code_points_in-spelled b cs s)
 
 -- a scalar is no surrogate
@@ -21,13 +21,13 @@ scalar_no_low : (c : ℕ) → IsScalar c → IsLow c → ⊥
 scalar_no_low c s l = ⊎_elim (λ h. omega (arith, l.0)) (λ h. omega (arith, h.0, l.1)) (scalar_cases c s)
 
 -- the last of some scalars is no high surrogate
-last_scalar : (u : ℕ) (ps : List ℕ) → (IsHigh u → ⊥) → all_scalars ps ≡ true → IsHigh (last_behind u ps) → ⊥
+last_scalar : (u : ℕ) (ps : List ℕ) → (IsHigh u → ⊥) → all_scalars ps ≡ true → IsHigh (last_or u ps) → ⊥
 last_scalar u [] n a h = n h
 last_scalar u (p ∷ ps) n a h = let b = and_parts (scalar p) (all_scalars ps) a in last_scalar p ps (scalar_no_high p b.0) b.1 h
 
 -- anything may precede the units of a scalar
 precedes_scalar : (c p : ℕ) (ps vs : List ℕ) → IsScalar p → MayPrecede c (units (p ∷ ps) ++ vs)
-precedes_scalar c p ps vs s = subst (MayPrecede c) (sym (append_assoc (wide p) (units ps) vs)) (precedes_wide c p (units ps ++ vs) (scalar_point p s) (λ i l. scalar_no_low p s l))
+precedes_scalar c p ps vs s = subst (MayPrecede c) (sym (append_assoc (encode_utf16 p) (units ps) vs)) (precedes_wide c p (units ps ++ vs) (scalar_point p s) (λ i l. scalar_no_low p s l))
 
 -- code points whose units are us, then those of ps, then vs
 record AreUnitsFound (cs us vs ps : List ℕ) : Type 0 where
@@ -37,19 +37,19 @@ record AreUnitsFound (cs us vs ps : List ℕ) : Type 0 where
   front_is : units front ≡ us
 
 -- where the units of a text occur, its characters occur
-units_found : (cs us vs ps : List ℕ) → AllByRecursion IsCodePoint cs → IsPairedFree cs → all_scalars ps ≡ true → AllByRecursion IsCodePoint ps → IsPairedFree ps → 0 < length ps → units cs ≡ us ++ (units ps ++ vs) → AreUnitsFound cs us vs ps
+units_found : (cs us vs ps : List ℕ) → AllByRecursion IsCodePoint cs → HasNoSurrogatePair cs → all_scalars ps ≡ true → AllByRecursion IsCodePoint ps → HasNoSurrogatePair ps → 0 < length ps → units cs ≡ us ++ (units ps ++ vs) → AreUnitsFound cs us vs ps
 units_found cs us vs [] a f b p g h e = absurd (omega arith)
 units_found cs us vs (p ∷ ps) a f b k g h e =
     let s = and_parts (scalar p) (all_scalars ps) b in
-    let c = cut_at_units cs us (units (p ∷ ps) ++ vs) a f e (precedes_scalar (last_behind 0 us) p ps vs s.0) in
+    let c = cut_at_units cs us (units (p ∷ ps) ++ vs) a f e (precedes_scalar (last_or 0 us) p ps vs s.0) in
     let a' = (all_parts IsCodePoint c.front c.back (subst (AllByRecursion IsCodePoint) c.cut a)).1 in
-    let f' = paired_back c.front c.back (subst IsPairedFree c.cut f) in
+    let f' = paired_back c.front c.back (subst HasNoSurrogatePair c.cut f) in
     let n = last_unit 0 (p ∷ ps) (last_scalar 0 (p ∷ ps) (λ l. omega (arith, l.0)) b) in
-    let w = units_front c.back (p ∷ ps) vs a' f' k g (may_precede (last_behind 0 (units (p ∷ ps))) vs n) c.back_is in
+    let w = units_front c.back (p ∷ ps) vs a' f' k g (may_precede (last_or 0 (units (p ∷ ps))) vs n) c.back_is in
     record { front = c.front; back = w.0; cut = c.cut ∙ ap (λ z. c.front ++ z) w.1; front_is = c.front_is }
 
 -- what isn't empty has code points
-some_points : (p ps : List ℕ) → p ≡ flat_map form ps → 0 < length p → 0 < length ps
+some_points : (p ps : List ℕ) → p ≡ flat_map encode ps → 0 < length p → 0 < length ps
 some_points p [] e h = absurd (omega (arith, ap length e))
 some_points p (q ∷ ps) e h = omega arith
 
@@ -57,39 +57,39 @@ some_points p (q ∷ ps) e h = omega arith
 wtf8_fronts : (x y : List ℕ) → IsWtf8 x → IsWtf8 (x ++ y) → IsWtf8 y × (units_of (x ++ y) ≡ units_of x ++ units_of y)
 wtf8_fronts x y (ds, d) (cs, c) =
     let w = forms_front ds cs y (sym c.joined ∙ ap (λ z. z ++ y) d.joined) in
-    let s : Spells y w.0 = subst (λ z. Spells z w.0) w.2 (spells_back ds w.0 (subst (AllByRecursion IsCodePoint) w.1 c.code_points) (subst IsPairedFree w.1 c.paired_free)) in
-    ((w.0, s), units_of_spelled (x ++ y) cs c ∙ ap units w.1 ∙ flat_map-append wide ds w.0 ∙ ap (λ z. z ++ units w.0) (sym (units_of_spelled x ds d)) ∙ ap (λ z. units_of x ++ z) (sym (units_of_spelled y w.0 s)))
+    let s : Encodes y w.0 = subst (λ z. Encodes z w.0) w.2 (spells_back ds w.0 (subst (AllByRecursion IsCodePoint) w.1 c.code_points) (subst HasNoSurrogatePair w.1 c.paired_free)) in
+    ((w.0, s), units_of_spelled (x ++ y) cs c ∙ ap units w.1 ∙ flat_map-append encode_utf16 ds w.0 ∙ ap (λ z. z ++ units w.0) (sym (units_of_spelled x ds d)) ∙ ap (λ z. units_of x ++ z) (sym (units_of_spelled y w.0 s)))
 
 -- what comes before the bytes of code points
-before_points : (x y cs ds : List ℕ) → Spells (x ++ (flat_map form ds ++ y)) cs → 0 < length ds → IsWtf8 x
+before_points : (x y cs ds : List ℕ) → Encodes (x ++ (flat_map encode ds ++ y)) cs → 0 < length ds → IsWtf8 x
 before_points x y cs ds c h =
     let f = bytes_found cs x y ds h (sym c.joined) in
-    (f.front, subst (λ z. Spells z f.front) f.front_is (spells_front f.front (ds ++ f.back) (subst (AllByRecursion IsCodePoint) f.cut c.code_points) (subst IsPairedFree f.cut c.paired_free)))
+    (f.front, subst (λ z. Encodes z f.front) f.front_is (spells_front f.front (ds ++ f.back) (subst (AllByRecursion IsCodePoint) f.cut c.code_points) (subst HasNoSurrogatePair f.cut c.paired_free)))
 
 wtf8_before_text : (p x y : List ℕ) → IsUtf8 p → 0 < length p → IsWtf8 (x ++ (p ++ y)) → IsWtf8 x
 wtf8_before_text p x y t h (cs, c) =
     let d = text_spells p t in
-    before_points x y cs t.0 (subst (λ z. Spells (x ++ (z ++ y)) cs) d.joined c) (some_points p t.0 d.joined h)
+    before_points x y cs t.0 (subst (λ z. Encodes (x ++ (z ++ y)) cs) d.joined c) (some_points p t.0 d.joined h)
 
 wtf8_ends : (x y : List ℕ) → IsWtf8 y → IsWtf8 (x ++ y) → IsWtf8 x
 wtf8_ends x y (es, e) (cs, c) = at es e.joined
   where
-    at : (es : List ℕ) → y ≡ flat_map form es → IsWtf8 x
-    at [] s = (cs, subst (λ z. Spells z cs) (ap (λ z. x ++ z) s ∙ append-nil x) c)
-    at (d ∷ ds) s = before_points x [] cs (d ∷ ds) (subst (λ z. Spells (x ++ z) cs) (s ∙ sym (append-nil (flat_map form (d ∷ ds)))) c) (omega arith)
+    at : (es : List ℕ) → y ≡ flat_map encode es → IsWtf8 x
+    at [] s = (cs, subst (λ z. Encodes z cs) (ap (λ z. x ++ z) s ∙ append-nil x) c)
+    at (d ∷ ds) s = before_points x [] cs (d ∷ ds) (subst (λ z. Encodes (x ++ z) cs) (s ∙ sym (append-nil (flat_map encode (d ∷ ds)))) c) (omega arith)
 
 wtf8_units_stand : (p s us vs : List ℕ) → IsUtf8 p → 0 < length p → IsWtf8 s → units_of s ≡ us ++ (units_of p ++ vs) → IsCutAround IsWtf8 units_of p s us
 wtf8_units_stand p s us vs t h (cs, c) e =
     let d = text_spells p t in
     let b = units_found cs us vs t.0 c.code_points c.paired_free t.1.0 d.code_points d.paired_free (some_points p t.0 d.joined h)
     (sym (units_of_spelled s cs c) ∙ e ∙ ap (λ z. us ++ (z ++ vs)) (units_of_spelled p t.0 d)) in
-    let f = spells_front b.front (t.0 ++ b.back) (subst (AllByRecursion IsCodePoint) b.cut c.code_points) (subst IsPairedFree b.cut c.paired_free) in
+    let f = spells_front b.front (t.0 ++ b.back) (subst (AllByRecursion IsCodePoint) b.cut c.code_points) (subst HasNoSurrogatePair b.cut c.paired_free) in
     record {
-      front = flat_map form b.front;
-      back = flat_map form b.back;
-      joined = c.joined ∙ ap (flat_map form) b.cut ∙ flat_map-append form b.front (t.0 ++ b.back) ∙ ap (λ z. flat_map form b.front ++ z) (flat_map-append form t.0 b.back ∙ ap (λ z. z ++ flat_map form b.back) (sym d.joined));
+      front = flat_map encode b.front;
+      back = flat_map encode b.back;
+      joined = c.joined ∙ ap (flat_map encode) b.cut ∙ flat_map-append encode b.front (t.0 ++ b.back) ∙ ap (λ z. flat_map encode b.front ++ z) (flat_map-append encode t.0 b.back ∙ ap (λ z. z ++ flat_map encode b.back) (sym d.joined));
       formed = (b.front, f);
-      units_are = units_of_spelled (flat_map form b.front) b.front f ∙ b.front_is;
+      units_are = units_of_spelled (flat_map encode b.front) b.front f ∙ b.front_is;
     }
 
 -- the units of WTF-8 are 16-bit numbers

@@ -1,5 +1,5 @@
 -- Pieces, one after the other.
-use Rattle.wtf8_core.proofs.Common.{◌≡◌, ◌≢◌, inl, inr, ⊎_elim, ℕ, ◌+◌, ◌<◌, Bool, true, false, List, [], ◌∷◌, ◌++◌, length, take, drop, get_or, take-append-drop, Option, None, refl, sym, ap, ◌∙◌, subst, arith, append_assoc, append-nil, IsWtf8, Spells, last_behind, IsShort, IsRefused, class_at, next_at, Row, rows, SomeRow, IsOpen, IsOpenIn, Stands, IsFaulty, OnlyEnds, HasFirstFault, joined_bits, fault_at, Progress, progress, StandsFor, is_between, IsHigh, is_high, IsSpelledFront, EncodingError, Byte, CodePoint, End, Utf8, State, Between, BehindHigh, Refused, Class, cases_Bool}
+use Rattle.wtf8_core.proofs.Common.{◌≡◌, ◌≢◌, inl, inr, ⊎_elim, ℕ, ◌+◌, ◌<◌, Bool, true, false, List, [], ◌∷◌, ◌++◌, length, take, drop, get_or, take-append-drop, Option, None, refl, sym, ap, ◌∙◌, subst, arith, append_assoc, append-nil, IsWtf8, Encodes, last_or, IsIncomplete, IsRefused, class_at, next_at, Row, rows, SomeRow, IsOpen, IsOpenIn, Stands, IsFaulty, OnlyEnds, HasFirstFault, joined_bits, fault_at, Progress, progress, StandsFor, is_between, IsHigh, is_high, IsEncodedPrefix, EncodingError, Byte, CodePoint, End, Utf8, State, Between, BehindHigh, Refused, Class, cases_Bool}
 use Rattle.std.proofs.lemmas.List.{take_more}
 use Rattle.wtf8_core.proofs.lemmas.forms.Ranges.{in_range-false}
 use Rattle.wtf8_core.proofs.lemmas.forms.Appending.{last_append, spells_joined}
@@ -39,11 +39,11 @@ extends b p f h =
     }
 
 pub whole : (s : State) (bits : ℕ) (b : List ℕ) → is_between s ≡ true → Stands s bits b → IsWtf8 b
-whole Between bits b h m = (m.code_points, subst (λ l. Spells l m.code_points) (sym (m.joined ∙ ap (λ l. m.before ++ l) m.opened.0 ∙ append-nil m.before)) m.spelled)
-whole BehindHigh bits b h m = (m.code_points, subst (λ l. Spells l m.code_points) (sym (m.joined ∙ ap (λ l. m.before ++ l) m.opened.0 ∙ append-nil m.before)) m.spelled)
+whole Between bits b h m = (m.code_points, subst (λ l. Encodes l m.code_points) (sym (m.joined ∙ ap (λ l. m.before ++ l) m.opened.0 ∙ append-nil m.before)) m.spelled)
+whole BehindHigh bits b h m = (m.code_points, subst (λ l. Encodes l m.code_points) (sym (m.joined ∙ ap (λ l. m.before ++ l) m.opened.0 ∙ append-nil m.before)) m.spelled)
 whole s bits b h m = cc
 
-short_of_rows : (h : Bool) (bits : ℕ) (o : List ℕ) (rs : List Row) → SomeRow (IsOpen h bits o) rs → IsShort o
+short_of_rows : (h : Bool) (bits : ℕ) (o : List ℕ) (rs : List Row) → SomeRow (IsOpen h bits o) rs → IsIncomplete o
 short_of_rows h bits o [] s = absurd s
 short_of_rows h bits o (r ∷ rs) (inl q) = record { lead = q.lead; behind = q.behind; is = q.is; begun = q.begun; short = omega (arith, q.missing_is, q.some_missing, q.needed_is) }
 short_of_rows h bits o (r ∷ rs) (inr q) = short_of_rows h bits o rs q
@@ -58,7 +58,7 @@ ends s bits b h m = (
     from = m.open_bytes;
     joined = m.joined;
     spelled = m.spelled;
-    begins = record { refused = m.open_bytes; rest = []; is = sym (append-nil m.open_bytes); refusal = (short_of_rows (is_high (last_behind 0 m.code_points)) bits m.open_bytes (rows s) m.opened, refl) };
+    begins = record { refused = m.open_bytes; rest = []; is = sym (append-nil m.open_bytes); refusal = (short_of_rows (is_high (last_or 0 m.code_points)) bits m.open_bytes (rows s) m.opened, refl) };
   },
 )
 
@@ -98,24 +98,24 @@ pub with_front : (b piece rest : List ℕ) (at : ℕ) → rest ≡ drop at piece
 with_front b piece rest at e = append_assoc b (take at piece) rest ∙ ap (λ l. b ++ l) (ap (λ r. take at piece ++ r) e ∙ take-append-drop at piece)
 
 -- a prefix that vectors read
-module _ (bits : ℕ) (b piece : List ℕ) (at : ℕ) (f : IsSpelledFront Wtf8 piece at) (m : Stands Between bits b) where
+module _ (bits : ℕ) (b piece : List ℕ) (at : ℕ) (f : IsEncodedPrefix Wtf8 piece at) (m : Stands Between bits b) where
   same_before : m.before ≡ b
   same_before = sym (m.joined ∙ ap (λ z. m.before ++ z) m.opened.0 ∙ append-nil m.before)
 
-  before : Spells b m.code_points
-  before = subst (λ z. Spells z m.code_points) same_before m.spelled
+  before : Encodes b m.code_points
+  before = subst (λ z. Encodes z m.code_points) same_before m.spelled
 
-  not_behind : IsHigh (last_behind 0 m.code_points) → ⊥
+  not_behind : IsHigh (last_or 0 m.code_points) → ⊥
   not_behind = in_range-false 0xD800 0xDBFF _ m.opened.1
 
-  same_last : is_high (last_behind 0 (m.code_points ++ f.code_points)) ≡ is_high (last_behind 0 f.code_points)
+  same_last : is_high (last_or 0 (m.code_points ++ f.code_points)) ≡ is_high (last_or 0 f.code_points)
   same_last = ap is_high (last_append 0 m.code_points f.code_points) ∙ by f.code_points
     where
-      by : (ds : List ℕ) → is_high (last_behind (last_behind 0 m.code_points) ds) ≡ is_high (last_behind 0 ds)
+      by : (ds : List ℕ) → is_high (last_or (last_or 0 m.code_points) ds) ≡ is_high (last_or 0 ds)
       by [] = m.opened.1
       by (d ∷ ds) = refl
 
-  gone : (s : State) (h : Bool) → (is_high (last_behind 0 f.code_points) ≡ h) → ((k : Bool) → k ≡ h → IsOpenIn s k bits []) → Stands s bits (b ++ take at piece)
+  gone : (s : State) (h : Bool) → (is_high (last_or 0 f.code_points) ≡ h) → ((k : Bool) → k ≡ h → IsOpenIn s k bits []) → Stands s bits (b ++ take at piece)
   gone s h e o = record {
     code_points = m.code_points ++ f.code_points;
     before = b ++ take at piece;
@@ -125,10 +125,10 @@ module _ (bits : ℕ) (b piece : List ℕ) (at : ℕ) (f : IsSpelledFront Wtf8 p
     opened = o _ (same_last ∙ e);
   }
 
-  pub gone_between : is_high (last_behind 0 f.code_points) ≡ false → Stands Between bits (b ++ take at piece)
+  pub gone_between : is_high (last_or 0 f.code_points) ≡ false → Stands Between bits (b ++ take at piece)
   gone_between e = gone Between false e (λ k h. (refl, h))
 
-  pub gone_behind_high : is_high (last_behind 0 f.code_points) ≡ true → Stands BehindHigh bits (b ++ take at piece)
+  pub gone_behind_high : is_high (last_or 0 f.code_points) ≡ true → Stands BehindHigh bits (b ++ take at piece)
   gone_behind_high e = gone BehindHigh true e (λ k h. (refl, h))
 
 pub open_progress : (s : State) (bits : ℕ) (f : Option EncodingError) (p : Progress) (b : List ℕ) → progress s bits f ≡ p → f ≡ None → StandsFor p b → Stands s bits b

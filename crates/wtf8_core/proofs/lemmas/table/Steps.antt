@@ -1,5 +1,5 @@
 -- One more byte: what the state after it means, or the fault.
-use Rattle.wtf8_core.proofs.Common.{◌≡◌, ◌≢◌, ◌⊎◌, inl, inr, ⊎_elim, ℕ, zero, suc, ◌+◌, ◌*◌, ◌-◌, ◌%◌, ◌<◌, ◌≤◌, Bool, true, false, List, [], ◌∷◌, ◌++◌, length, length-append, refl, sym, ap, ◌∙◌, subst, arith, nat_tests, append_assoc, append-nil, cond_both, cond-true, cond-false, le-ltb, is_in_range, IsContinuation, needed_continuations, IsHigh, IsLow, is_high, IsCodePoint, form, Spells, last_behind, IsBegun, IsShape, shape_value, BeginsFault, lead_bits, least_value, class_at, next_at, Row, rows, SomeRow, IsOpen, IsOpenIn, Stands, IsFaulty, kept_bits, joined_bits, fault_at, is_between, EncodingError, Byte, CodePoint, End, State, Between, BehindHigh, BadFourth, Refused, BadThird, Class}
+use Rattle.wtf8_core.proofs.Common.{◌≡◌, ◌≢◌, ◌⊎◌, inl, inr, ⊎_elim, ℕ, zero, suc, ◌+◌, ◌*◌, ◌-◌, ◌%◌, ◌<◌, ◌≤◌, Bool, true, false, List, [], ◌∷◌, ◌++◌, length, length-append, refl, sym, ap, ◌∙◌, subst, arith, nat_tests, append_assoc, append-nil, cond_both, cond-true, cond-false, le-ltb, is_in_range, IsContinuation, needed_continuations, IsHigh, IsLow, is_high, IsCodePoint, encode, Encodes, last_or, IsSequenceStart, IsWholeSequence, shape_value, BeginsFault, lead_bits, least_value, class_at, next_at, Row, rows, SomeRow, IsOpen, IsOpenIn, Stands, IsFaulty, kept_bits, joined_bits, fault_at, is_between, EncodingError, Byte, CodePoint, End, State, Between, BehindHigh, BadFourth, Refused, BadThird, Class}
 use Rattle.wtf8_core.proofs.lemmas.forms.Shapes.{form_ascii, shape_is_form, no_form}
 use Rattle.wtf8_core.proofs.lemmas.forms.Ranges.{in_range, in_range-true, not_in_range}
 use Rattle.wtf8_core.proofs.lemmas.forms.Appending.{value_more, begun_more, last_append, spells_more}
@@ -31,7 +31,7 @@ bits_more (suc (suc (suc n))) bits x v h e = absurd (omega arith)
 
 -- an open sequence and one more continuation of a class
 record IsMore (k : Class) (bits x : ℕ) (r : Row) (lead : ℕ) (behind : List ℕ) : Type 0 where
-  begun : IsBegun lead (behind ++ x ∷ [])
+  begun : IsSequenceStart lead (behind ++ x ∷ [])
   size : length (behind ++ x ∷ []) ≡ suc (length behind)
   above : least_behind k r ≤ shape_value lead (behind ++ x ∷ [])
   below : shape_value lead (behind ++ x ∷ []) ≤ most_behind k r
@@ -95,8 +95,8 @@ pub record Goes (state : State) (bits : ℕ) (b : List ℕ) (x : ℕ) (t : State
 -- what comes before a byte
 record Before (h : Bool) (b cs w o : List ℕ) : Type 0 where
   joined : b ≡ w ++ o
-  spelled : Spells w cs
-  high_is : is_high (last_behind 0 cs) ≡ h
+  spelled : Encodes w cs
+  high_is : is_high (last_or 0 cs) ≡ h
 
 fault_low : (s : State) (bits x : ℕ) → is_between s ≡ true → fault_at s bits x ≡ Byte x
 fault_low Between bits x h = cond_both (is_in_range 0x80 0xBF x) _ _ (λ f. f ≡ Byte x) (λ _. refl) (λ _. refl)
@@ -128,17 +128,17 @@ module _ (s : State) (bits : ℕ) (t : State) (x : ℕ) (h : Bool) (b cs w : Lis
     }
 
     -- a code point is read whole
-    whole_goes : (c : ℕ) → o ++ x ∷ [] ≡ form c → IsCodePoint c → (IsHigh (last_behind 0 cs) → IsLow c → ⊥) → ((t ≡ Between) × (is_high c ≡ false)) ⊎ ((t ≡ BehindHigh) × (is_high c ≡ true)) → Goes s bits b x t
+    whole_goes : (c : ℕ) → o ++ x ∷ [] ≡ encode c → IsCodePoint c → (IsHigh (last_or 0 cs) → IsLow c → ⊥) → ((t ≡ Between) × (is_high c ≡ false)) ⊎ ((t ≡ BehindHigh) × (is_high c ≡ true)) → Goes s bits b x t
     whole_goes c e k g u =
-        let sp : Spells (b ++ x ∷ []) (cs ++ c ∷ []) = subst (λ l. Spells l (cs ++ c ∷ [])) (sym (joined_more ∙ ap (λ l. w ++ l) e)) (spells_more w cs c f.spelled k g) in
-        let last : is_high (last_behind 0 (cs ++ c ∷ [])) ≡ is_high c = ap is_high (last_append 0 cs (c ∷ [])) in
-        let open_in = λ (z : State). IsOpenIn z (is_high (last_behind 0 (cs ++ c ∷ []))) (joined_bits bits x) [] in
+        let sp : Encodes (b ++ x ∷ []) (cs ++ c ∷ []) = subst (λ l. Encodes l (cs ++ c ∷ [])) (sym (joined_more ∙ ap (λ l. w ++ l) e)) (spells_more w cs c f.spelled k g) in
+        let last : is_high (last_or 0 (cs ++ c ∷ [])) ≡ is_high c = ap is_high (last_append 0 cs (c ∷ [])) in
+        let open_in = λ (z : State). IsOpenIn z (is_high (last_or 0 (cs ++ c ∷ []))) (joined_bits bits x) [] in
         record {
           on = λ _. record { code_points = cs ++ c ∷ []; before = b ++ x ∷ []; open_bytes = []; joined = sym (append-nil _); spelled = sp; opened = ⊎_elim (λ a. subst open_in (sym a.0) (refl, last ∙ a.1)) (λ a. subst open_in (sym a.0) (refl, last ∙ a.1)) u };
           off = λ z. ⊎_elim (λ a. let y = a.0 in cc) (λ a. let y = a.0 in cc) u;
         }
 
-    fault_goes : (e : EncodingError) → t ≡ Refused → fault_at s (joined_bits bits x) x ≡ e → BeginsFault (last_behind 0 cs) (o ++ x ∷ []) e → e ≢ End → Goes s bits b x t
+    fault_goes : (e : EncodingError) → t ≡ Refused → fault_at s (joined_bits bits x) x ≡ e → BeginsFault (last_or 0 cs) (o ++ x ∷ []) e → e ≢ End → Goes s bits b x t
     fault_goes e i same g n = record {
       on = λ z. absurd (z i);
       off = λ _. subst (IsFaulty (b ++ x ∷ [])) (sym same) (record { first = (cs, record { before = w; from = o ++ x ∷ []; joined = joined_more; spelled = f.spelled; begins = g }); stays = n });
@@ -153,13 +153,13 @@ module _ (s : State) (bits : ℕ) (t : State) (x : ℕ) (h : Bool) (b cs w : Lis
         abbrev v : ℕ
         v = shape_value q.lead ks
 
-        shape : IsShape q.lead ks
+        shape : IsWholeSequence q.lead ks
         shape = record { begun = m.begun; whole = m.size ∙ omega (arith, q.missing_is, one) ∙ q.needed_is }
 
         read : o ++ x ∷ [] ≡ q.lead ∷ ks
         read = ap (λ l. l ++ x ∷ []) q.is
 
-        formed : least_value r.needed ≤ v → form v ≡ q.lead ∷ ks
+        formed : least_value r.needed ≤ v → encode v ≡ q.lead ∷ ks
         formed l = shape_is_form q.lead ks shape (subst (λ n. least_value n ≤ v) q.needed_is l)
 
         value : (n : ℕ) → r.needed ≡ n → 2 ≤ n → kept_bits n (joined_bits bits x) ≡ v
@@ -169,7 +169,7 @@ module _ (s : State) (bits : ℕ) (t : State) (x : ℕ) (h : Bool) (b cs w : Lis
         accepted e =
             whole_goes v (read ∙ sym (formed (omega (arith, e.0, m.above)))) (omega (arith, e.1.0, m.below))
             (λ hi lo. ⊎_elim
-            (λ a. let z : true ≡ false = sym (in_range 0xD800 0xDBFF (last_behind 0 cs) hi) ∙ f.high_is ∙ sym q.high_is ∙ a in cc)
+            (λ a. let z : true ≡ false = sym (in_range 0xD800 0xDBFF (last_or 0 cs) hi) ∙ f.high_is ∙ sym q.high_is ∙ a in cc)
             (λ a. ⊎_elim (λ y. omega (arith, y, m.below, lo.0)) (λ y. omega (arith, y, m.above, lo.1)) a)
             e.1.1.0)
             (⊎_elim
@@ -193,7 +193,7 @@ module _ (s : State) (bits : ℕ) (t : State) (x : ℕ) (h : Bool) (b cs w : Lis
                 value_is = refl;
                 bad = ⊎_elim
                     (λ a. inl (no_form q.lead ks shape (⊎_elim (λ z. inl (subst (λ n. v < least_value n) q.needed_is (omega (arith, z, m.below)))) (λ z. inr (omega (arith, z, m.above))) a)))
-                    (λ a. inr (formed (omega (arith, a.1.1.1.0, m.above)), (omega (arith, a.1.0, m.above), omega (arith, a.1.1.0, m.below)), in_range-true 0xD800 0xDBFF (last_behind 0 cs) (f.high_is ∙ sym q.high_is ∙ a.0)))
+                    (λ a. inr (formed (omega (arith, a.1.1.1.0, m.above)), (omega (arith, a.1.0, m.above), omega (arith, a.1.1.0, m.below)), in_range-true 0xD800 0xDBFF (last_or 0 cs) (f.high_is ∙ sym q.high_is ∙ a.0)))
                     e.1;
               };
             }) (λ z. cc)
@@ -244,6 +244,6 @@ goes BehindHigh bits b x u m =
     (entered BehindHigh (class_at x))
 goes s bits b x u m =
     let t = next_at s (class_at x) in
-    let h = is_high (last_behind 0 m.code_points) in
+    let h = is_high (last_or 0 m.code_points) in
     some_with (open_entry s (class_at x) t) (IsOpen h bits m.open_bytes) (Goes s bits b x t) (rows s) m.opened (entered s (class_at x))
     (λ r q. open_goes s bits t x h b m.code_points m.before m.open_bytes (record { joined = m.joined; spelled = m.spelled; high_is = refl }) r q u)

@@ -1,5 +1,5 @@
 -- Texts are WTF-8, and what texts are.
-use Rattle.wtf8_core.proofs.Common.{◌≡◌, inl, inr, ⊎_elim, ℕ, zero, suc, ◌+◌, ◌<◌, ◌≤◌, true, List, [], ◌∷◌, ◌++◌, length, take, drop, map, Option, Some, None, refl, sym, ap, ◌∙◌, subst, arith, length-drop, drop-drop, take-append-drop, append_assoc, encode_utf8, MatchOption, unwrap_or, All, AllByRecursion, flat_map, IsUtf8, IsValidUpTo, all_scalars, is_utf8, utf8_lossy, utf8_error_len, utf8_invalid_len, utf8_valid_len, valid_len_up_to, cases_lt, and_parts, cond_both, cases_Bool, false≢true, nat_tests, All-from_recursion, length-take, take_all, IsUtf8-append, IsUtf8-nil, IsUtf8-from_is_utf8, is_utf8-from_IsUtf8, utf8_lossy-IsUtf8, IsByte, IsCodePoint, form, IsPairedFree, Spells, IsWtf8, IsProperFront, IsIllFormed, IsUtf8Fault, IsIllFormedPart, wtf8_lossy, replacement, IsLossyText, without_surrogate, scalar}
+use Rattle.wtf8_core.proofs.Common.{◌≡◌, inl, inr, ⊎_elim, ℕ, zero, suc, ◌+◌, ◌<◌, ◌≤◌, true, List, [], ◌∷◌, ◌++◌, length, take, drop, map, Option, Some, None, refl, sym, ap, ◌∙◌, subst, arith, length-drop, drop-drop, take-append-drop, append_assoc, encode_utf8, MatchOption, unwrap_or, All, AllByRecursion, flat_map, IsUtf8, IsValidUpTo, all_scalars, is_utf8, utf8_lossy, utf8_error_len, utf8_invalid_len, utf8_valid_len, valid_len_up_to, cases_lt, and_parts, cond_both, cases_Bool, false≢true, nat_tests, All-from_recursion, length-take, take_all, IsUtf8-append, IsUtf8-nil, IsUtf8-from_is_utf8, is_utf8-from_IsUtf8, utf8_lossy-IsUtf8, IsByte, IsCodePoint, encode, HasNoSurrogatePair, Encodes, IsWtf8, IsProperFront, IsIllFormed, IsUtf8Fault, IsIllFormedPart, wtf8_lossy, replacement, IsLossyText, without_surrogate, scalar}
 use Rattle.wtf8_core.specs.Lossy.IsLossyText.{text, replaced}
 use Rattle.wtf8_core.proofs.lemmas.forms.Appending.{all_flat_map}
 use Rattle.wtf8_core.proofs.lemmas.characters.AtPlaces.{NoChar, scalar_point}
@@ -14,13 +14,13 @@ points_of_scalars : (cs : List ℕ) → all_scalars cs ≡ true → AllByRecursi
 points_of_scalars [] e = tt
 points_of_scalars (c ∷ cs) e = let p = and_parts (scalar c) _ e in (scalar_point c p.0, points_of_scalars cs p.1)
 
-paired_of_scalars : (cs : List ℕ) → all_scalars cs ≡ true → IsPairedFree cs
+paired_of_scalars : (cs : List ℕ) → all_scalars cs ≡ true → HasNoSurrogatePair cs
 paired_of_scalars [] e = tt
 paired_of_scalars (c ∷ []) e = (tt, tt)
 paired_of_scalars (c ∷ d ∷ cs) e = let p = and_parts (scalar c) _ e in ((λ h l. grind (arith, nat_tests, p.0, h)), paired_of_scalars (d ∷ cs) p.1)
 
 -- a text spells its characters
-pub text_spells : (b : List ℕ) → (u : IsUtf8 b) → Spells b u.0
+pub text_spells : (b : List ℕ) → (u : IsUtf8 b) → Encodes b u.0
 text_spells b u = record { code_points = points_of_scalars u.0 u.1.0; paired_free = paired_of_scalars u.0 u.1.0; joined = sym (forms_encode u.0 ∙ u.1.1) }
 
 -- a text is WTF-8
@@ -30,8 +30,8 @@ wtf8_of_text b u = (u.0, text_spells b u)
 -- a text is its own lossy text
 pub wtf8_lossy_text : (b : List ℕ) → IsUtf8 b → wtf8_lossy b ≡ b
 wtf8_lossy_text b u =
-    ap (λ l. flat_map form (map without_surrogate l)) (code_points_in-spelled b u.0 (text_spells b u))
-    ∙ ap (flat_map form) (kept u.0 u.1.0) ∙ forms_encode u.0 ∙ u.1.1
+    ap (λ l. flat_map encode (map without_surrogate l)) (code_points_in-spelled b u.0 (text_spells b u))
+    ∙ ap (flat_map encode) (kept u.0 u.1.0) ∙ forms_encode u.0 ∙ u.1.1
 
 -- the lossy text of any bytes is a text
 pub lossy_is_utf8 : (b t : List ℕ) → IsLossyText b t → IsUtf8 t
@@ -58,7 +58,7 @@ Bytes b = All IsByte b
 
 -- forms are bytes, and so are WTF-8 and texts
 pub wtf8_bytes : (b : List ℕ) → IsWtf8 b → Bytes b
-wtf8_bytes b w = subst Bytes (sym w.1.joined) (all_flat_map IsCodePoint IsByte form (λ c h. All-from_recursion IsByte (form c) (form_bytes c h)) w.0 w.1.code_points)
+wtf8_bytes b w = subst Bytes (sym w.1.joined) (all_flat_map IsCodePoint IsByte encode (λ c h. All-from_recursion IsByte (encode c) (form_bytes c h)) w.0 w.1.code_points)
 
 pub text_bytes : (b : List ℕ) → IsUtf8 b → Bytes b
 text_bytes b u = wtf8_bytes b (wtf8_of_text b u)
@@ -71,9 +71,9 @@ wtf8_behind_text b n w u = let t = behind_text b w.0 n w.1 u in (t.0, t.2)
 pub no_text_begins : (b : List ℕ) (n : ℕ) → NoChar b → IsUtf8 (take n b) → 0 < length (take n b) → ⊥
 no_text_begins b n k u h = by u.0 u.1.0 (forms_encode u.0 ∙ u.1.1)
   where
-    by : (cs : List ℕ) → all_scalars cs ≡ true → flat_map form cs ≡ take n b → ⊥
+    by : (cs : List ℕ) → all_scalars cs ≡ true → flat_map encode cs ≡ take n b → ⊥
     by [] s e = let l = ap length e in omega arith
-    by (c ∷ cs) s e = k c (flat_map form cs ++ drop n b) (and_parts (scalar c) _ s).0 (sym (take-append-drop n b) ∙ ap (λ x. x ++ drop n b) (sym e) ∙ append_assoc (form c) (flat_map form cs) (drop n b))
+    by (c ∷ cs) s e = k c (flat_map encode cs ++ drop n b) (and_parts (scalar c) _ s).0 (sym (take-append-drop n b) ∙ ap (λ x. x ++ drop n b) (sym e) ∙ append_assoc (encode c) (flat_map encode cs) (drop n b))
 
 pub valid_none : (b : List ℕ) → 0 < length b → NoChar b → IsValidUpTo b 0
 valid_none b h k = record { short = h; front = IsUtf8-nil; longest = λ m l u. no_text_begins b m k u (simp length-take (omega arith)) }

@@ -1,5 +1,5 @@
 -- One fault, and lossy texts.
-use Rattle.wtf8_core.proofs.Common.{◌≡◌, inl, inr, ⊎_elim, ℕ, ◌+◌, ◌<◌, ◌≤◌, true, false, List, [], ◌∷◌, ◌++◌, length, take, drop, map, Option, Some, None, refl, sym, ap, ◌∙◌, subst, arith, take-append-drop, MatchOption, unwrap_or, flat_map, IsUtf8, IsValidUpTo, all_scalars, utf8_lossy, utf8_error_len, utf8_invalid_len, take-length, cases_lt, cases_Bool, and_parts, cond-true, cond-false, map-append, flat_map-append, utf8_lossy_step, utf8_lossy-IsUtf8, utf8_valid_len-IsValidUpTo, is_surrogate, form, Spells, IsWtf8, IsProperFront, IsIllFormed, IsUtf8Fault, IsIllFormedPart, wtf8_lossy, replacement, IsLossyText, without_surrogate, scalar, ◌-◌, take-add, length-drop, take-take, drop-drop, drop-take, IsUtf8-append}
+use Rattle.wtf8_core.proofs.Common.{◌≡◌, inl, inr, ⊎_elim, ℕ, ◌+◌, ◌<◌, ◌≤◌, true, false, List, [], ◌∷◌, ◌++◌, length, take, drop, map, Option, Some, None, refl, sym, ap, ◌∙◌, subst, arith, take-append-drop, MatchOption, unwrap_or, flat_map, IsUtf8, IsValidUpTo, all_scalars, utf8_lossy, utf8_error_len, utf8_invalid_len, take-length, cases_lt, cases_Bool, and_parts, cond-true, cond-false, map-append, flat_map-append, utf8_lossy_step, utf8_lossy-IsUtf8, utf8_valid_len-IsValidUpTo, is_surrogate, encode, Encodes, IsWtf8, IsProperFront, IsIllFormed, IsUtf8Fault, IsIllFormedPart, wtf8_lossy, replacement, IsLossyText, without_surrogate, scalar, ◌-◌, take-add, length-drop, take-take, drop-drop, drop-take, IsUtf8-append}
 use Rattle.wtf8_core.specs.Lossy.IsLossyText.{text, replaced}
 use Rattle.wtf8_core.proofs.lemmas.characters.AtPlaces.{NoChar, none_at, scalar_no_surrogate}
 use Rattle.wtf8_core.proofs.lemmas.forms.ByStd.{forms_encode, forms_front}
@@ -68,7 +68,7 @@ kept (t ∷ ts) e =
     ap (λ x. x ∷ map without_surrogate ts) (cond-false (is_surrogate t) 0xFFFD t s) ∙ ap (λ l. t ∷ l) (kept ts p.1)
 
 -- what follows a text at the start of WTF-8
-pub behind_text : (b cs : List ℕ) (n : ℕ) → Spells b cs → (u : IsUtf8 (take n b)) → (others : List ℕ) × (cs ≡ u.0 ++ others) × Spells (drop n b) others
+pub behind_text : (b cs : List ℕ) (n : ℕ) → Encodes b cs → (u : IsUtf8 (take n b)) → (others : List ℕ) × (cs ≡ u.0 ++ others) × Encodes (drop n b) others
 behind_text b cs n s u =
     let text = forms_encode u.0 ∙ u.1.1 in
     let f = forms_front u.0 cs (drop n b) (sym s.joined ∙ sym (take-append-drop n b) ∙ ap (λ x. x ++ drop n b) (sym text)) in
@@ -78,17 +78,17 @@ behind_text b cs n s u =
 pub wtf8_lossy_front : (b : List ℕ) (n : ℕ) → IsWtf8 b → IsUtf8 (take n b) → wtf8_lossy b ≡ take n b ++ wtf8_lossy (drop n b)
 wtf8_lossy_front b n w u =
     let t = behind_text b w.0 n w.1 u in
-    let ws : List ℕ → List ℕ = λ l. flat_map form (map without_surrogate l) in
+    let ws : List ℕ → List ℕ = λ l. flat_map encode (map without_surrogate l) in
     ap ws (code_points_in-spelled b w.0 w.1 ∙ t.1)
-    ∙ ap (flat_map form) (map-append without_surrogate u.0 t.0)
-    ∙ flat_map-append form (map without_surrogate u.0) (map without_surrogate t.0)
-    ∙ ap (λ l. flat_map form l ++ ws t.0) (kept u.0 u.1.0)
+    ∙ ap (flat_map encode) (map-append without_surrogate u.0 t.0)
+    ∙ flat_map-append encode (map without_surrogate u.0) (map without_surrogate t.0)
+    ∙ ap (λ l. flat_map encode l ++ ws t.0) (kept u.0 u.1.0)
     ∙ ap (λ l. l ++ ws t.0) (forms_encode u.0 ∙ u.1.1)
     ∙ ap (λ l. take n b ++ ws l) (sym (code_points_in-spelled (drop n b) t.0 t.2))
 
 -- the form of U+FFFD
-form_fffd : form 0xFFFD ≡ replacement
-unfolding form
+form_fffd : encode 0xFFFD ≡ replacement
+unfolding encode
 form_fffd = refl
 
 -- a surrogate at the start is replaced
@@ -101,17 +101,17 @@ pub record SurrogateFirst (b : List ℕ) : Type 0 where
 pub surrogate_first : (b : List ℕ) → IsWtf8 b → 0 < length b → NoChar b → SurrogateFirst b
 surrogate_first b w h k = by w.0 w.1
   where
-    by : (cs : List ℕ) → Spells b cs → SurrogateFirst b
+    by : (cs : List ℕ) → Encodes b cs → SurrogateFirst b
     by [] s = let e = ap length s.joined in absurd (omega arith)
     by (c ∷ cs) s =
         let f = begins_surrogate b c cs s (none_at b 0 k) in
         record {
           within = f.within;
           rest = (cs, f.rest);
-          lossy = ap (λ l. flat_map form (map without_surrogate l)) (code_points_in-spelled b (c ∷ cs) s)
-              ∙ ap (λ x. form x ++ flat_map form (map without_surrogate cs)) (cond-true (is_surrogate c) 0xFFFD c (in_range _ _ c f.surrogate))
-              ∙ ap (λ x. x ++ flat_map form (map without_surrogate cs)) form_fffd
-              ∙ ap (λ l. replacement ++ flat_map form (map without_surrogate l)) (sym (code_points_in-spelled (drop 3 b) cs f.rest));
+          lossy = ap (λ l. flat_map encode (map without_surrogate l)) (code_points_in-spelled b (c ∷ cs) s)
+              ∙ ap (λ x. encode x ++ flat_map encode (map without_surrogate cs)) (cond-true (is_surrogate c) 0xFFFD c (in_range _ _ c f.surrogate))
+              ∙ ap (λ x. x ++ flat_map encode (map without_surrogate cs)) form_fffd
+              ∙ ap (λ l. replacement ++ flat_map encode (map without_surrogate l)) (sym (code_points_in-spelled (drop 3 b) cs f.rest));
         }
 
 -- after a prefix that is UTF-8
@@ -122,8 +122,8 @@ module _ (b : List ℕ) (at : ℕ) (within : at ≤ length b) (front : IsUtf8 (t
   pub front_behind : (n : ℕ) → IsUtf8 (take n (drop at b)) → IsUtf8 (take (at + n) b)
   front_behind n more = subst IsUtf8 (sym (take-add at n b)) (IsUtf8-append (take at b) (take n (drop at b)) front more)
 
-  pub fault_behind : (n : ℕ) (len : Option ℕ) → IsUtf8Fault (drop at b) n len → IsUtf8Fault b (at + n) len
-  fault_behind n len w = record {
+  pub fault_in_rest : (n : ℕ) (len : Option ℕ) → IsUtf8Fault (drop at b) n len → IsUtf8Fault b (at + n) len
+  fault_in_rest n len w = record {
     valid = record {
       short = omega (arith, w.valid.short, length-drop at b);
       front = front_behind n w.valid.front;

@@ -1,5 +1,5 @@
 -- std's answer on bytes that aren't UTF-8, by the definitions.
-use Rattle.wtf8_core.proofs.Common.{◌≡◌, ⊎_elim, ℕ, suc, ◌+◌, ◌<◌, ◌≤◌, List, [], ◌∷◌, ◌++◌, length, take, drop, get_or, length-append, length-drop, append_assoc, take-append-drop, Option, Some, sym, ap, ◌∙◌, subst, arith, if◌then◌else◌, IsScalar, is_in_range, IsInRange, MatchOption, IsUtf8, IsValidUpTo, utf8_error_len, second_byte_min, second_byte_max, cond_both, cases_lt, nat_tests, take-take, get_or_append_left, IsUtf8-append, IsUtf8-encode, take-add, take-append_seam, IsContinuation, needed_continuations, form, shape_value, IsFrontOfCharacter, IsProperFront, IsIllFormed, IsUtf8Fault}
+use Rattle.wtf8_core.proofs.Common.{◌≡◌, ⊎_elim, ℕ, suc, ◌+◌, ◌<◌, ◌≤◌, List, [], ◌∷◌, ◌++◌, length, take, drop, get_or, length-append, length-drop, append_assoc, take-append-drop, Option, Some, sym, ap, ◌∙◌, subst, arith, if◌then◌else◌, IsScalar, is_in_range, IsInRange, MatchOption, IsUtf8, IsValidUpTo, utf8_error_len, second_byte_min, second_byte_max, cond_both, cases_lt, nat_tests, take-take, get_or_append_left, IsUtf8-append, IsUtf8-encode, take-add, take-append_seam, IsContinuation, needed_continuations, encode, shape_value, IsFrontOfCharacter, IsProperFront, IsIllFormed, IsUtf8Fault}
 use Rattle.wtf8_core.proofs.lemmas.characters.AtPlaces.{NoChar}
 use Rattle.wtf8_core.proofs.lemmas.forms.Shapes.{form_ascii, form_bounds}
 use Rattle.wtf8_core.proofs.lemmas.forms.ByStd.{form_encode}
@@ -17,12 +17,12 @@ First b = IsInRange 0xC2 0xF4 b
 abbrev pub Second : ℕ → ℕ → Type 0
 Second b x = IsInRange (second_byte_min b) (second_byte_max b) x
 
-pub lead_of : (c : ℕ) → IsScalar c → 0x80 ≤ c → First (get_or (form c) 0 0)
-unfolding form
+pub lead_of : (c : ℕ) → IsScalar c → 0x80 ≤ c → First (get_or (encode c) 0 0)
+unfolding encode
 lead_of c s h = grind (arith, nat_tests, s)
 
-pub second_of : (c : ℕ) → IsScalar c → 0x80 ≤ c → Second (get_or (form c) 0 0) (get_or (form c) 1 0)
-unfolding form
+pub second_of : (c : ℕ) → IsScalar c → 0x80 ≤ c → Second (get_or (encode c) 0 0) (get_or (encode c) 1 0)
+unfolding encode
 second_of c s h = grind (arith, nat_tests, s)
 
 -- b with as many of three continuations as it needs is the form of a scalar
@@ -30,10 +30,10 @@ abbrev pub Filled : ℕ → ℕ → ℕ → ℕ → List ℕ
 Filled b x y z = b ∷ take (needed_continuations b) (x ∷ y ∷ z ∷ [])
 
 abbrev pub IsForm : List ℕ → Type 0
-IsForm xs = (c : ℕ) × IsScalar c × (form c ≡ xs)
+IsForm xs = (c : ℕ) × IsScalar c × (encode c ≡ xs)
 
 pub filled : (b x y z : ℕ) → First b → Second b x → IsContinuation y → IsContinuation z → IsForm (Filled b x y z)
-unfolding form
+unfolding encode
 filled b x y z l s j k = (shape_value b (take (needed_continuations b) (x ∷ y ∷ z ∷ [])), grind (arith, nat_tests, s), grind (arith, nat_tests, s))
 
 -- so bytes that begin with no character don't begin with it
@@ -99,7 +99,7 @@ long_front b t u n w = ⊎_elim
 -- the bytes after the first one in a prefix of a character are continuations
 pub front_behind : (xs : List ℕ) → IsFrontOfCharacter xs → (m : ℕ) → 0 < m → m < length xs → IsContinuation (get_or xs m 0)
 front_behind xs w m low high =
-    let l : length (form w.char) ≡ length xs + length w.rest = ap length w.is ∙ length-append xs w.rest in
+    let l : length (encode w.char) ≡ length xs + length w.rest = ap length w.is ∙ length-append xs w.rest in
     subst IsContinuation (ap (λ x. get_or x m 0) w.is ∙ get_or_append_left xs w.rest 0 m high) (form_behind w.char m low (omega arith))
 
 -- the part, by the first byte, by the second, and by the third
@@ -140,8 +140,8 @@ part (b ∷ x ∷ y ∷ z ∷ t) h n = subst (Part (b ∷ x ∷ y ∷ z ∷ t)) 
 pub no_char : (bytes : List ℕ) (n : ℕ) → IsValidUpTo bytes n → NoChar (drop n bytes)
 no_char bytes n v c rest s e =
     let p = form_bounds c in
-    let f : take (n + length (form c)) bytes ≡ take n bytes ++ form c = take-add n (length (form c)) bytes ∙ ap (λ x. take n bytes ++ take (length (form c)) x) e ∙ ap (λ x. take n bytes ++ x) (take-append_seam (form c) rest) in
-    v.longest (n + length (form c)) (omega arith) (subst IsUtf8 (sym f) (IsUtf8-append (take n bytes) (form c) v.front (subst IsUtf8 (sym (form_encode c)) (IsUtf8-encode c s))))
+    let f : take (n + length (encode c)) bytes ≡ take n bytes ++ encode c = take-add n (length (encode c)) bytes ∙ ap (λ x. take n bytes ++ take (length (encode c)) x) e ∙ ap (λ x. take n bytes ++ x) (take-append_seam (encode c) rest) in
+    v.longest (n + length (encode c)) (omega arith) (subst IsUtf8 (sym f) (IsUtf8-append (take n bytes) (encode c) v.front (subst IsUtf8 (sym (form_encode c)) (IsUtf8-encode c s))))
 
 -- std's answer is the fault
 pub fault_is : (bytes : List ℕ) (n : ℕ) (len : Option ℕ) → IsValidUpTo bytes n → len ≡ utf8_error_len (drop n bytes) → IsUtf8Fault bytes n len

@@ -1,5 +1,5 @@
 -- The function and the relation of units, and units of parts.
-use Rattle.wtf8_core.proofs.Common.{◌≡◌, ◌↔◌, ℕ, ◌<◌, ◌^◌, List, ◌++◌, take, drop, map, sym, ap, ◌∙◌, subst, flat_map-append, All, flat_map, All-from_recursion, recursion_from_All, IsCodePoint, form, wide, Spells, IsWtf8, HasUnits, units, IsWtf8LossyText, without_surrogate, ok_values, code_points_in, units_of, wtf8_lossy, IsBoundary}
+use Rattle.wtf8_core.proofs.Common.{◌≡◌, ◌↔◌, ℕ, ◌<◌, ◌^◌, List, ◌++◌, take, drop, map, sym, ap, ◌∙◌, subst, flat_map-append, All, flat_map, All-from_recursion, recursion_from_All, IsCodePoint, encode, encode_utf16, Encodes, IsWtf8, HasUnits, units, IsWtf8LossyText, without_surrogate, ok_values, code_points_in, units_of, wtf8_lossy, IsBoundary}
 use Rattle.wtf8_core.proofs.lemmas.reader.Complete.{items_if_spelled}
 use Rattle.wtf8_core.proofs.lemmas.reader.FirstErr.{ok_values_of_oks}
 use Rattle.wtf8_core.proofs.lemmas.forms.Appending.{all_flat_map}
@@ -7,7 +7,7 @@ use Rattle.wtf8_core.proofs.lemmas.units.OneToOne.{wide_units, IsUnit, units_onc
 use Rattle.wtf8_core.proofs.lemmas.forms.Cuts.{boundary_cut, spells_parts}
 
 -- the function of code points gives those that are spelled
-pub code_points_in-spelled : (b cs : List ℕ) → Spells b cs → code_points_in b ≡ cs
+pub code_points_in-spelled : (b cs : List ℕ) → Encodes b cs → code_points_in b ≡ cs
 unfolding code_points_in
 code_points_in-spelled b cs s = ap ok_values (items_if_spelled b cs s) ∙ ok_values_of_oks cs
 
@@ -17,7 +17,7 @@ has_units_of b w = record { code_points = w.0; spelled = w.1; are = ap units (co
 
 -- the same of the lossy text
 pub has_lossy_text : (b : List ℕ) → IsWtf8 b → IsWtf8LossyText b (wtf8_lossy b)
-has_lossy_text b w = record { code_points = w.0; spelled = w.1; are = ap (λ cs. flat_map form (map without_surrogate cs)) (code_points_in-spelled b w.0 w.1) }
+has_lossy_text b w = record { code_points = w.0; spelled = w.1; are = ap (λ cs. flat_map encode (map without_surrogate cs)) (code_points_in-spelled b w.0 w.1) }
 
 -- the units are the only ones
 pub units_of-is : (b us : List ℕ) → HasUnits b us → units_of b ≡ us
@@ -40,15 +40,15 @@ some_spelling us a =
 -- units have 16 bits
 pub units_listed : (b : List ℕ) → IsWtf8 b → All (λ u. u < 2 ^ 16) (units_of b)
 units_listed b w =
-    subst (λ cs. All IsUnit (units cs)) (sym (code_points_in-spelled b w.0 w.1)) (all_flat_map IsCodePoint IsUnit wide (λ c h. All-from_recursion IsUnit (wide c) (wide_units c h)) w.0 w.1.code_points)
+    subst (λ cs. All IsUnit (units cs)) (sym (code_points_in-spelled b w.0 w.1)) (all_flat_map IsCodePoint IsUnit encode_utf16 (λ c h. All-from_recursion IsUnit (encode_utf16 c) (wide_units c h)) w.0 w.1.code_points)
 
 -- the units of two parts
-units_parts : (b p q cs ds es : List ℕ) → Spells b cs → Spells p ds → Spells q es → cs ≡ ds ++ es → units_of b ≡ units_of p ++ units_of q
+units_parts : (b p q cs ds es : List ℕ) → Encodes b cs → Encodes p ds → Encodes q es → cs ≡ ds ++ es → units_of b ≡ units_of p ++ units_of q
 units_parts b p q cs ds es s t u e =
     let x = code_points_in-spelled b cs s in
     let y = code_points_in-spelled p ds t in
     let z = code_points_in-spelled q es u in
-    ap units (x ∙ e) ∙ flat_map-append wide ds es ∙ ap (λ l. l ++ units es) (ap units (sym y)) ∙ ap (λ l. units_of p ++ l) (ap units (sym z))
+    ap units (x ∙ e) ∙ flat_map-append encode_utf16 ds es ∙ ap (λ l. l ++ units es) (ap units (sym y)) ∙ ap (λ l. units_of p ++ l) (ap units (sym z))
 
 -- the units of both sides of a boundary
 pub units_cut : (b : List ℕ) (i : ℕ) → IsWtf8 b → IsBoundary b i → units_of b ≡ units_of (take i b) ++ units_of (drop i b)

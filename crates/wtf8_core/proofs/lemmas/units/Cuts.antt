@@ -1,23 +1,23 @@
 -- Where the units of code points may be cut, and lists of code points joined.
-use Rattle.wtf8_core.proofs.Common.{◌≡◌, ⊎_elim, ℕ, Bool, true, false, cond, List, [], ◌∷◌, ◌++◌, refl, sym, ap, ◌∙◌, subst, arith, cases_lt, AllByRecursion, flat_map, IsCodePoint, form, wide, IsPairedFree, MayPrecede, last_behind, units, Spells, IsHigh, low_unit, paired, is_pair, code_points_of}
+use Rattle.wtf8_core.proofs.Common.{◌≡◌, ⊎_elim, ℕ, Bool, true, false, cond, List, [], ◌∷◌, ◌++◌, refl, sym, ap, ◌∙◌, subst, arith, cases_lt, AllByRecursion, flat_map, IsCodePoint, encode, encode_utf16, HasNoSurrogatePair, MayPrecede, last_or, units, Encodes, IsHigh, low_unit, paired, is_pair, code_points_of}
 use Rattle.wtf8_core.proofs.lemmas.forms.Cuts.{all_parts, paired_front, paired_back}
 use Rattle.wtf8_core.proofs.lemmas.forms.Appending.{all_joined}
 use Rattle.wtf8_core.proofs.lemmas.units.OneToOne.{wide_single, wide_pair, wide_units, read_single, reads_units, may_precede, IsUnit, reading}
 
 -- the parts of a spelled list are spelled
-pub spells_front : (cs ds : List ℕ) → AllByRecursion IsCodePoint (cs ++ ds) → IsPairedFree (cs ++ ds) → Spells (flat_map form cs) cs
+pub spells_front : (cs ds : List ℕ) → AllByRecursion IsCodePoint (cs ++ ds) → HasNoSurrogatePair (cs ++ ds) → Encodes (flat_map encode cs) cs
 spells_front cs ds a f = record { code_points = (all_parts IsCodePoint cs ds a).0; paired_free = paired_front cs ds f; joined = refl }
 
-pub spells_back : (cs ds : List ℕ) → AllByRecursion IsCodePoint (cs ++ ds) → IsPairedFree (cs ++ ds) → Spells (flat_map form ds) ds
+pub spells_back : (cs ds : List ℕ) → AllByRecursion IsCodePoint (cs ++ ds) → HasNoSurrogatePair (cs ++ ds) → Encodes (flat_map encode ds) ds
 spells_back cs ds a f = record { code_points = (all_parts IsCodePoint cs ds a).1; paired_free = paired_back cs ds f; joined = refl }
 
 -- the last of a list, whatever came before it
-other_before : (u v : ℕ) (xs ys : List ℕ) → (IsHigh v → ⊥) → MayPrecede (last_behind u xs) ys → MayPrecede (last_behind v xs) ys
+other_before : (u v : ℕ) (xs ys : List ℕ) → (IsHigh v → ⊥) → MayPrecede (last_or u xs) ys → MayPrecede (last_or v xs) ys
 other_before u v [] ys n m = may_precede v ys n
 other_before u v (x ∷ xs) ys n m = m
 
 -- the code points of units are cut where the units are, except within a pair
-cut_units : (us vs : List ℕ) → MayPrecede (last_behind 0 us) vs → code_points_of (us ++ vs) ≡ code_points_of us ++ code_points_of vs
+cut_units : (us vs : List ℕ) → MayPrecede (last_or 0 us) vs → code_points_of (us ++ vs) ≡ code_points_of us ++ code_points_of vs
 unfolding code_points_of
 cut_units [] vs m = refl
 cut_units (u ∷ []) vs m = read_single u vs m
@@ -33,7 +33,7 @@ cut_units (u ∷ v ∷ us) vs m =
 -- units are 16-bit numbers
 pub units_fit : (cs : List ℕ) → AllByRecursion IsCodePoint cs → AllByRecursion IsUnit (units cs)
 units_fit [] a = tt
-units_fit (c ∷ cs) a = all_joined IsUnit (wide c) (units cs) (wide_units c a.0) (units_fit cs a.1)
+units_fit (c ∷ cs) a = all_joined IsUnit (encode_utf16 c) (units cs) (wide_units c a.0) (units_fit cs a.1)
 
 -- code points whose units are us and then vs: those that us and vs are read as
 pub record AreUnitsCut (cs us vs : List ℕ) : Type 0 where
@@ -46,7 +46,7 @@ pub record AreUnitsCut (cs us vs : List ℕ) : Type 0 where
   pub back_reads : code_points_of vs ≡ back
 
 -- units may be cut where they don't begin within a pair
-pub cut_at_units : (cs us vs : List ℕ) → AllByRecursion IsCodePoint cs → IsPairedFree cs → units cs ≡ us ++ vs → MayPrecede (last_behind 0 us) vs → AreUnitsCut cs us vs
+pub cut_at_units : (cs us vs : List ℕ) → AllByRecursion IsCodePoint cs → HasNoSurrogatePair cs → units cs ≡ us ++ vs → MayPrecede (last_or 0 us) vs → AreUnitsCut cs us vs
 cut_at_units cs us vs a f e m =
     let fit = all_parts IsUnit us vs (subst (AllByRecursion IsUnit) e (units_fit cs a)) in
     record {
@@ -60,27 +60,27 @@ cut_at_units cs us vs a f e m =
     }
 
 -- if the last code point is no high surrogate, the last unit is none
-pub last_unit : (u : ℕ) (cs : List ℕ) → (IsHigh (last_behind u cs) → ⊥) → IsHigh (last_behind u (units cs)) → ⊥
+pub last_unit : (u : ℕ) (cs : List ℕ) → (IsHigh (last_or u cs) → ⊥) → IsHigh (last_or u (units cs)) → ⊥
 last_unit u [] n h = n h
 last_unit u (c ∷ cs) n h =
     ⊎_elim
-    (λ l. last_unit c cs n (subst (λ z. IsHigh (last_behind u (z ++ units cs))) (wide_single c l) h))
-    (λ l. last_unit (low_unit c) cs (other c (low_unit c) cs (λ k. omega (arith, k.1)) n) (subst (λ z. IsHigh (last_behind u (z ++ units cs))) (wide_pair c l) h))
+    (λ l. last_unit c cs n (subst (λ z. IsHigh (last_or u (z ++ units cs))) (wide_single c l) h))
+    (λ l. last_unit (low_unit c) cs (other c (low_unit c) cs (λ k. omega (arith, k.1)) n) (subst (λ z. IsHigh (last_or u (z ++ units cs))) (wide_pair c l) h))
     (cases_lt c 0x1_0000)
   where
-    other : (u v : ℕ) (xs : List ℕ) → (IsHigh v → ⊥) → (IsHigh (last_behind u xs) → ⊥) → IsHigh (last_behind v xs) → ⊥
+    other : (u v : ℕ) (xs : List ℕ) → (IsHigh v → ⊥) → (IsHigh (last_or u xs) → ⊥) → IsHigh (last_or v xs) → ⊥
     other u v [] n m h = n h
     other u v (x ∷ xs) n m h = m h
 
 -- a prefix of the units that may precede the units after it is a prefix of the code points
-pub units_front : (cs ps vs : List ℕ) → AllByRecursion IsCodePoint cs → IsPairedFree cs → AllByRecursion IsCodePoint ps → IsPairedFree ps → MayPrecede (last_behind 0 (units ps)) vs
+pub units_front : (cs ps vs : List ℕ) → AllByRecursion IsCodePoint cs → HasNoSurrogatePair cs → AllByRecursion IsCodePoint ps → HasNoSurrogatePair ps → MayPrecede (last_or 0 (units ps)) vs
     → units cs ≡ units ps ++ vs → (es : List ℕ) × (cs ≡ ps ++ es) × (units es ≡ vs)
 units_front cs ps vs a f b g n e =
     let c = cut_at_units cs (units ps) vs a f e n in
     (c.back, c.cut ∙ ap (λ z. z ++ c.back) (sym c.front_reads ∙ reads_units ps b g), c.back_is)
 
 -- the same at the end
-pub units_end : (cs us ps : List ℕ) → AllByRecursion IsCodePoint cs → IsPairedFree cs → AllByRecursion IsCodePoint ps → IsPairedFree ps → MayPrecede (last_behind 0 us) (units ps)
+pub units_end : (cs us ps : List ℕ) → AllByRecursion IsCodePoint cs → HasNoSurrogatePair cs → AllByRecursion IsCodePoint ps → HasNoSurrogatePair ps → MayPrecede (last_or 0 us) (units ps)
     → units cs ≡ us ++ units ps → (ds : List ℕ) × (cs ≡ ds ++ ps) × (units ds ≡ us)
 units_end cs us ps a f b g n e =
     let c = cut_at_units cs us (units ps) a f e n in

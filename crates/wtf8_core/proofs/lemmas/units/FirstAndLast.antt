@@ -1,5 +1,5 @@
 -- The first and the last unit of a string.
-use Rattle.wtf8_core.proofs.Common.{drop_all, ◌≡◌, ⊎_elim, ℕ, ◌+◌, ◌-◌, ◌*◌, ◌/◌, ◌%◌, ◌<◌, ◌≤◌, List, [], ◌∷◌, ◌++◌, length, take, drop, map, Result, Ok, Err, refl, sym, ap, ◌∙◌, subst, arith, append_assoc, length-append, length-drop, take-append-drop, get_or, eqb, cases_lt, eqb-true, eq-eqb, nat_tests, IsTrue, flat_map, IsLow, IsSurrogate, high_unit, low_unit, form, wide, units, IsWtf8, units_of, AreItems, AreUnitItems, unit_items, IsFront, IsEnd, EncodingError}
+use Rattle.wtf8_core.proofs.Common.{drop_all, ◌≡◌, ⊎_elim, ℕ, ◌+◌, ◌-◌, ◌*◌, ◌/◌, ◌%◌, ◌<◌, ◌≤◌, List, [], ◌∷◌, ◌++◌, length, take, drop, map, Result, Ok, Err, refl, sym, ap, ◌∙◌, subst, arith, append_assoc, length-append, length-drop, take-append-drop, get_or, eqb, cases_lt, eqb-true, eq-eqb, nat_tests, IsTrue, flat_map, IsLow, IsSurrogate, high_unit, low_unit, encode, encode_utf16, units, IsWtf8, units_of, AreItems, AreUnitItems, unit_items, IsPrefix, IsSuffix, EncodingError}
 use Rattle.wtf8_core.specs.Items.AreItems.{Whole, Faulty}
 use Rattle.wtf8_core.proofs.lemmas.forms.Shapes.{form_past}
 use Rattle.wtf8_core.proofs.lemmas.forms.Ranges.{low_surrogate}
@@ -16,10 +16,10 @@ last_is : (xs ys : List ℕ) (a b : ℕ) → xs ++ a ∷ [] ≡ ys ++ b ∷ [] �
 last_is xs ys a b e = let r : a ∷ [] ≡ b ∷ [] = sym (at_end (xs ++ a ∷ []) xs (a ∷ []) refl) ∙ at_end (xs ++ a ∷ []) ys (b ∷ []) e in cc
 
 -- units that end with one unit
-pub one_last : (us vs : List ℕ) (u l : ℕ) → vs ≡ us ++ u ∷ [] → (u ≡ l → IsEnd (l ∷ []) vs) × (IsEnd (l ∷ []) vs → u ≡ l)
+pub one_last : (us vs : List ℕ) (u l : ℕ) → vs ≡ us ++ u ∷ [] → (u ≡ l → IsSuffix (l ∷ []) vs) × (IsSuffix (l ∷ []) vs → u ≡ l)
 one_last us vs u l v = (λ q. record { rest = us; joined = v ∙ ap (λ z. us ++ z ∷ []) q }, λ f. last_is us f.rest u l (sym v ∙ f.joined))
 
-pub surrogate_last : (s x : List ℕ) (c : ℕ) → IsWtf8 s → IsSurrogate c → s ≡ x ++ form c → (us : List ℕ) × (units_of s ≡ us ++ c ∷ [])
+pub surrogate_last : (s x : List ℕ) (c : ℕ) → IsWtf8 s → IsSurrogate c → s ≡ x ++ encode c → (us : List ℕ) × (units_of s ≡ us ++ c ∷ [])
 surrogate_last s x c (cs, w) i e =
     let r = last_point cs x c (sym w.joined ∙ e) in
     (units r.0, units_of_spelled s cs w ∙ ap units r.1 ∙ units_last r.0 c ∙ ap (λ z. units r.0 ++ z) (wide_single c (omega (arith, i.1))))
@@ -32,17 +32,17 @@ record IsPastForm (back : List ℕ) (d e c : ℕ) : Type 0 where
   fourth : e ≡ 0x80 + c % 0x40
 
 -- a byte from F0 on leads no other
-past_lead : (c : ℕ) (rest : List ℕ) (a : ℕ) (bs : List ℕ) → 0xF0 ≤ a → form c ++ rest ≡ a ∷ bs → 0x1_0000 ≤ c
-unfolding form
+past_lead : (c : ℕ) (rest : List ℕ) (a : ℕ) (bs : List ℕ) → 0xF0 ≤ a → encode c ++ rest ≡ a ∷ bs → 0x1_0000 ≤ c
+unfolding encode
 past_lead c rest a bs h e = grind (arith, nat_tests)
 
 -- four bytes that F0 or more leads are one form
-four_bytes : (back : List ℕ) (a b d e : ℕ) → 0xF0 ≤ a → flat_map form back ≡ a ∷ b ∷ d ∷ e ∷ [] → (c : ℕ) × IsPastForm back d e c
+four_bytes : (back : List ℕ) (a b d e : ℕ) → 0xF0 ≤ a → flat_map encode back ≡ a ∷ b ∷ d ∷ e ∷ [] → (c : ℕ) × IsPastForm back d e c
 four_bytes [] a b d e h k = cc
 four_bytes (c ∷ cs) a b d e h k =
-    let q : 0x1_0000 ≤ c = past_lead c (flat_map form cs) a (b ∷ d ∷ e ∷ []) h k in
-    let w = ap (λ z. z ++ flat_map form cs) (sym (form_past c q)) ∙ k in
-    let r : flat_map form cs ≡ [] = cc in
+    let q : 0x1_0000 ≤ c = past_lead c (flat_map encode cs) a (b ∷ d ∷ e ∷ []) h k in
+    let w = ap (λ z. z ++ flat_map encode cs) (sym (form_past c q)) ∙ k in
+    let r : flat_map encode cs ≡ [] = cc in
     (c, record { only = ap (λ z. c ∷ z) (no_points cs r); past = q; third = cc; fourth = cc })
 
 -- the last unit of a string that ends with four bytes from F0 on
@@ -58,7 +58,7 @@ half_last s x a b d e (cs, w) h k =
     )
 
 -- a code point past FFFF has four bytes
-pub four_long : (c : ℕ) → 0x1_0000 ≤ c → length (form c) ≡ 4
+pub four_long : (c : ℕ) → 0x1_0000 ≤ c → length (encode c) ≡ 4
 four_long c h = ap length (form_past c h)
 
 -- four last bytes
@@ -72,30 +72,30 @@ half_of s last w l e h =
     (sym (take-append-drop (length s - 4) s) ∙ ap (λ z. take (length s - 4) s ++ z) (sym e ∙ four_items last m))
 
 -- bytes whose fourth last is below F0 end with no form past FFFF
-pub no_past_form : (s last front : List ℕ) (c : ℕ) → last ≡ drop (length s - 4) s → 0x1_0000 ≤ c → s ≡ front ++ form c → get_or last 0 0 < 0xF0 → ⊥
+pub no_past_form : (s last front : List ℕ) (c : ℕ) → last ≡ drop (length s - 4) s → 0x1_0000 ≤ c → s ≡ front ++ encode c → get_or last 0 0 < 0xF0 → ⊥
 no_past_form s last front c e h f i =
     let q : get_or last 0 0 ≡ 0xF0 + c / 0x4_0000 = ap (λ z. get_or z 0 0) (form_at_end s last front 4 c e (four_long c h) f ∙ form_past c h) in
     omega arith
 
 -- a string that ends with neither has no low surrogate as its last unit
 pub no_low_end : (s : List ℕ) (l : ℕ) → IsWtf8 s → IsLow l
-    → ((x : List ℕ) (c : ℕ) → IsSurrogate c → s ≡ x ++ form c → ⊥)
-    → ((x : List ℕ) (c : ℕ) → 0x1_0000 ≤ c → s ≡ x ++ form c → ⊥)
-    → IsEnd (l ∷ []) (units_of s) → ⊥
+    → ((x : List ℕ) (c : ℕ) → IsSurrogate c → s ≡ x ++ encode c → ⊥)
+    → ((x : List ℕ) (c : ℕ) → 0x1_0000 ≤ c → s ≡ x ++ encode c → ⊥)
+    → IsSuffix (l ∷ []) (units_of s) → ⊥
 no_low_end s l (cs, w) i n m f = at cs w.joined (sym (units_of_spelled s cs w) ∙ f.joined)
   where
-    last_case : (ds : List ℕ) (d : ℕ) → s ≡ flat_map form ds ++ form d → units ds ++ wide d ≡ f.rest ++ l ∷ [] → ⊥
+    last_case : (ds : List ℕ) (d : ℕ) → s ≡ flat_map encode ds ++ encode d → units ds ++ encode_utf16 d ≡ f.rest ++ l ∷ [] → ⊥
     last_case ds d e u =
         ⊎_elim
-        (λ h. let q : d ≡ l = last_is (units ds) f.rest d l (ap (λ z. units ds ++ z) (sym (wide_single d h)) ∙ u) in n (flat_map form ds) d (subst IsSurrogate (sym q) (low_surrogate l i)) e)
-        (λ h. m (flat_map form ds) d h e)
+        (λ h. let q : d ≡ l = last_is (units ds) f.rest d l (ap (λ z. units ds ++ z) (sym (wide_single d h)) ∙ u) in n (flat_map encode ds) d (subst IsSurrogate (sym q) (low_surrogate l i)) e)
+        (λ h. m (flat_map encode ds) d h e)
         (cases_lt d 0x1_0000)
 
-    at : (cs : List ℕ) → s ≡ flat_map form cs → units cs ≡ f.rest ++ l ∷ [] → ⊥
+    at : (cs : List ℕ) → s ≡ flat_map encode cs → units cs ≡ f.rest ++ l ∷ [] → ⊥
     at [] w u = omega (arith, ap length u, length-append f.rest (l ∷ []))
     at (c ∷ cs) w u =
         let r = at_last 0 c cs in
-        last_case r.0 _ (w ∙ ap (flat_map form) r.1 ∙ forms_last r.0 _) (sym (units_last r.0 _) ∙ ap units (sym r.1) ∙ u)
+        last_case r.0 _ (w ∙ ap (flat_map encode) r.1 ∙ forms_last r.0 _) (sym (units_last r.0 _) ∙ ap units (sym r.1) ∙ u)
 
 abbrev Item : Type 0
 Item = Result ℕ EncodingError
@@ -109,17 +109,17 @@ items_of_units b items w a = by a.items a.are_items a.are
     by points (Faulty r l) e = absurd (never_both b w.0 r.code_points r.fault w.1 r.first)
 
 -- so the first item tells the first unit
-pub no_first_item : (b : List ℕ) (u : ℕ) (items : List Item) → IsWtf8 b → AreUnitItems b items → items ≡ [] → IsFront (u ∷ []) (units_of b) → ⊥
+pub no_first_item : (b : List ℕ) (u : ℕ) (items : List Item) → IsWtf8 b → AreUnitItems b items → items ≡ [] → IsPrefix (u ∷ []) (units_of b) → ⊥
 no_first_item b u items w a e f = let q : items ≡ Ok u ∷ map Ok f.rest = items_of_units b items w a ∙ ap (map Ok) f.joined in cc
 
-pub first_item_err : (b : List ℕ) (u : ℕ) (items rest : List Item) (x : Item) (fault : EncodingError) → IsWtf8 b → AreUnitItems b items → items ≡ x ∷ rest → x ≡ Err fault → IsFront (u ∷ []) (units_of b) → ⊥
+pub first_item_err : (b : List ℕ) (u : ℕ) (items rest : List Item) (x : Item) (fault : EncodingError) → IsWtf8 b → AreUnitItems b items → items ≡ x ∷ rest → x ≡ Err fault → IsPrefix (u ∷ []) (units_of b) → ⊥
 first_item_err b u items rest x fault w a e i f = let q : items ≡ Ok u ∷ map Ok f.rest = items_of_units b items w a ∙ ap (map Ok) f.joined in cc
 
 first_is : (us : List ℕ) (u : ℕ) (rest : List Item) → map Ok us ≡ Ok u ∷ rest → (vs : List ℕ) × (us ≡ u ∷ vs)
 first_is [] u rest e = cc
 first_is (v ∷ us) u rest e = let k : v ≡ u = cc in (us, ap (λ z. z ∷ us) k)
 
-pub first_item_ok : (b : List ℕ) (v u : ℕ) (items rest : List Item) (x : Item) → IsWtf8 b → AreUnitItems b items → items ≡ x ∷ rest → x ≡ Ok v → (IsTrue (eqb v u) → IsFront (u ∷ []) (units_of b)) × (IsFront (u ∷ []) (units_of b) → IsTrue (eqb v u))
+pub first_item_ok : (b : List ℕ) (v u : ℕ) (items rest : List Item) (x : Item) → IsWtf8 b → AreUnitItems b items → items ≡ x ∷ rest → x ≡ Ok v → (IsTrue (eqb v u) → IsPrefix (u ∷ []) (units_of b)) × (IsPrefix (u ∷ []) (units_of b) → IsTrue (eqb v u))
 first_item_ok b v u items rest x w a e i =
     let r = first_is (units_of b) v rest (sym (items_of_units b items w a) ∙ e ∙ ap (λ z. z ∷ rest) i) in
     (λ t. record { rest = r.0; joined = r.1 ∙ ap (λ z. z ∷ r.0) (eqb-true v u t) }, λ f. let q : v ∷ r.0 ≡ u ∷ f.rest = sym r.1 ∙ f.joined in let k : v ≡ u = cc in eq-eqb v u k)

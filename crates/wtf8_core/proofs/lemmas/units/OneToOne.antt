@@ -1,14 +1,14 @@
 -- Units and code points, one to one.
-use Rattle.wtf8_core.proofs.Common.{◌≡◌, ℕ, ◌<◌, ◌≤◌, List, [], ◌∷◌, ◌++◌, length, get_or, Fits, w16, refl, sym, ap, ◌∙◌, arith, cond_both, nat_tests, All-from_get_or, recursion_from_All, AllByRecursion, flat_map, IsHigh, IsLow, high_unit, low_unit, is_pair, paired, IsCodePoint, form, wide, IsPairedFree, MayPrecede, units, HasUnits, code_points_of, decoder_bytes}
+use Rattle.wtf8_core.proofs.Common.{◌≡◌, ℕ, ◌<◌, ◌≤◌, List, [], ◌∷◌, ◌++◌, length, get_or, Fits, w16, refl, sym, ap, ◌∙◌, arith, cond_both, nat_tests, All-from_get_or, recursion_from_All, AllByRecursion, flat_map, IsHigh, IsLow, high_unit, low_unit, is_pair, paired, IsCodePoint, encode, encode_utf16, HasNoSurrogatePair, MayPrecede, units, HasUnits, code_points_of, decoder_bytes}
 use Rattle.wtf8_core.proofs.lemmas.reader.Complete.{spelled_once}
 
 -- the units of a code point, one or two
-pub wide_single : (c : ℕ) → c < 0x1_0000 → wide c ≡ c ∷ []
-unfolding wide
+pub wide_single : (c : ℕ) → c < 0x1_0000 → encode_utf16 c ≡ c ∷ []
+unfolding encode_utf16
 wide_single c h = grind (arith, nat_tests)
 
-pub wide_pair : (c : ℕ) → 0x1_0000 ≤ c → wide c ≡ high_unit c ∷ low_unit c ∷ []
-unfolding wide
+pub wide_pair : (c : ℕ) → 0x1_0000 ≤ c → encode_utf16 c ≡ high_unit c ∷ low_unit c ∷ []
+unfolding encode_utf16
 wide_pair c h = grind (arith, nat_tests)
 
 -- what is no high surrogate may precede anything
@@ -17,8 +17,8 @@ may_precede c [] n = tt
 may_precede c (v ∷ vs) n = λ h l. n h
 
 -- what may precede a code point may precede its units
-pub precedes_wide : (c d : ℕ) (us : List ℕ) → IsCodePoint d → (IsHigh c → IsLow d → ⊥) → MayPrecede c (wide d ++ us)
-unfolding wide
+pub precedes_wide : (c d : ℕ) (us : List ℕ) → IsCodePoint d → (IsHigh c → IsLow d → ⊥) → MayPrecede c (encode_utf16 d ++ us)
+unfolding encode_utf16
 precedes_wide c d us k m = grind (arith, nat_tests, m)
 
 precedes_units : (c : ℕ) (cs : List ℕ) → AllByRecursion IsCodePoint cs → MayPrecede c cs → MayPrecede c (units cs)
@@ -26,8 +26,8 @@ precedes_units c [] a m = tt
 precedes_units c (d ∷ cs) a m = precedes_wide c d (units cs) a.0 m
 
 -- the units of a code point are read as it, before units that it may precede
-reads_wide : (c : ℕ) (us : List ℕ) → IsCodePoint c → MayPrecede c us → code_points_of (wide c ++ us) ≡ c ∷ code_points_of us
-unfolding wide code_points_of
+reads_wide : (c : ℕ) (us : List ℕ) → IsCodePoint c → MayPrecede c us → code_points_of (encode_utf16 c ++ us) ≡ c ∷ code_points_of us
+unfolding encode_utf16 code_points_of
 reads_wide c [] k m = grind (arith, nat_tests)
 reads_wide c (u ∷ us) k m = grind (arith, nat_tests, m)
 
@@ -37,7 +37,7 @@ read_single u [] m = refl
 read_single u (v ∷ us) m = grind (arith, nat_tests, m)
 
 -- the code points of units of code points
-pub reads_units : (cs : List ℕ) → AllByRecursion IsCodePoint cs → IsPairedFree cs → code_points_of (units cs) ≡ cs
+pub reads_units : (cs : List ℕ) → AllByRecursion IsCodePoint cs → HasNoSurrogatePair cs → code_points_of (units cs) ≡ cs
 unfolding code_points_of
 reads_units [] a f = refl
 reads_units (c ∷ cs) a f = reads_wide c (units cs) a.0 (precedes_units c cs a.1 f.0) ∙ ap (λ x. c ∷ x) (reads_units cs a.1 f.1)
@@ -47,14 +47,14 @@ abbrev pub IsUnit : ℕ → Type 0
 IsUnit u = u < 0x1_0000
 
 -- the units of a code point are such numbers
-pub wide_units : (c : ℕ) → IsCodePoint c → AllByRecursion IsUnit (wide c)
-unfolding wide
+pub wide_units : (c : ℕ) → IsCodePoint c → AllByRecursion IsUnit (encode_utf16 c)
+unfolding encode_utf16
 wide_units c h = grind (arith, nat_tests)
 
 -- the code points of units: a paired-free list with these units
 pub record IsReading (us cs : List ℕ) : Type 0 where
   pub code_points : AllByRecursion IsCodePoint cs
-  pub paired_free : IsPairedFree cs
+  pub paired_free : HasNoSurrogatePair cs
   pub are : us ≡ units cs
 
 -- a unit before units that are read
@@ -64,8 +64,8 @@ read_precedes u v [] m = m
 read_precedes u v (w ∷ us) m = cond_both (is_pair v w) _ _ (MayPrecede u) (λ e h l. omega (arith, l.0, l.1)) (λ e. m)
 
 -- the units of a pair
-pub paired_units : (u v : ℕ) → IsHigh u → IsLow v → wide (paired u v) ≡ u ∷ v ∷ []
-unfolding wide
+pub paired_units : (u v : ℕ) → IsHigh u → IsLow v → encode_utf16 (paired u v) ≡ u ∷ v ∷ []
+unfolding encode_utf16
 paired_units u v h l = grind (arith, nat_tests, h, l)
 
 -- one more unit
@@ -99,17 +99,17 @@ pub units_once : (bytes others us : List ℕ) → HasUnits bytes us → HasUnits
 units_once bytes others us h k =
     let c : code_points_of us ≡ h.code_points = ap code_points_of h.are ∙ reads_units h.code_points h.spelled.code_points h.spelled.paired_free in
     let d : code_points_of us ≡ k.code_points = ap code_points_of k.are ∙ reads_units k.code_points k.spelled.code_points k.spelled.paired_free in
-    h.spelled.joined ∙ ap (flat_map form) (sym c ∙ d) ∙ sym k.spelled.joined
+    h.spelled.joined ∙ ap (flat_map encode) (sym c ∙ d) ∙ sym k.spelled.joined
 
 -- the forms of the code points of units spell these units
-pub spelled_units : (us : List ℕ) → AllByRecursion IsUnit us → HasUnits (flat_map form (code_points_of us)) us
+pub spelled_units : (us : List ℕ) → AllByRecursion IsUnit us → HasUnits (flat_map encode (code_points_of us)) us
 spelled_units us a =
     let r = reading us a in
     record { code_points = code_points_of us; spelled = record { code_points = r.code_points; paired_free = r.paired_free; joined = refl }; are = r.are }
 
 -- each list of units is that of some bytes
 pub units_spelled : (us : List ℕ) → AllByRecursion IsUnit us → (bytes : List ℕ) × HasUnits bytes us
-units_spelled us a = (flat_map form (code_points_of us), spelled_units us a)
+units_spelled us a = (flat_map encode (code_points_of us), spelled_units us a)
 
 -- bytes have one list of units
 pub one_list_of_units : (bytes us vs : List ℕ) → HasUnits bytes us → HasUnits bytes vs → us ≡ vs
@@ -123,8 +123,8 @@ bytes_none (u ∷ us) e = absurd (omega arith)
 
 -- a unit below 80 isn't half of a pair
 pub bytes_ascii : (u : ℕ) (us : List ℕ) → u < 0x80 → decoder_bytes 0 (u ∷ us) ≡ u ∷ decoder_bytes 0 us
-unfolding form
-bytes_ascii u us h = ap (flat_map form) (read_single u us (may_precede u us (λ i. omega (arith, i.0)))) ∙ grind (arith, nat_tests)
+unfolding encode
+bytes_ascii u us h = ap (flat_map encode) (read_single u us (may_precede u us (λ i. omega (arith, i.0)))) ∙ grind (arith, nat_tests)
 
 pub decoded : (us : List ℕ) → ((i : ℕ) → Fits w16 (get_or us i 0)) → HasUnits (decoder_bytes 0 us) us
 decoded us h = spelled_units us (recursion_from_All IsUnit us (All-from_get_or IsUnit us 0 (λ i _. omega (arith, h i))))

@@ -1,6 +1,6 @@
 use Rattle.wtf8_core.proofs.Common.{List, ℕ, ◌+◌, ◌-◌, ◌≡◌, ◌≤◌, Some, length, take, drop, length-drop, drop-drop, sym, ap, ◌∙◌, subst, arith, IsUtf8, IsUtf8Fault, IsAtFront, WholeCharacter}
 use Rattle.wtf8_core.proofs.lemmas.characters.AtPlaces.{character_fits, text_of_character}
-use Rattle.wtf8_core.proofs.lemmas.texts.LossyTexts.{front_behind, fault_behind}
+use Rattle.wtf8_core.proofs.lemmas.texts.LossyTexts.{front_behind, fault_in_rest}
 use Rattle.wtf8_core.proofs.utf8.after_three_characters.Goals as goal
 
 -- the index that the length of the rest gives
@@ -14,7 +14,7 @@ returns-in-Some-Err-clause-read c =
     let w : IsUtf8Fault c.loop.rest.now 0 (Some len) = subst (IsAtFront c.loop.rest.now) c.in-Some-Err.field-0-is c.in-Some-Err.ensures in
     let same : i.0 + 0 ≡ length c.args.bytes.now - length c.loop.rest.now = omega (arith, place c.args.bytes.now c.loop.rest.now i.0 i.1 i.2) in
     subst (λ k. IsUtf8Fault c.args.bytes.now k (Some len)) same
-    (fault_behind c.args.bytes.now i.0 i.1 i.3 0 (Some len) (subst (λ x. IsUtf8Fault x 0 (Some len)) i.2 w))
+    (fault_in_rest c.args.bytes.now i.0 i.1 i.3 0 (Some len) (subst (λ x. IsUtf8Fault x 0 (Some len)) i.2 w))
 
 pub returns-in-None-clause-read : goal.returns-in-None-clause-read
 returns-in-None-clause-read c =

@@ -3,10 +3,10 @@ use Rattle.platform_str.proofs.lemmas.BulkBytes.{has_none}
 use Rattle.platform_str.proofs.wide.OsString+Windows+A.from_wide.Goals as goal
 
 pub returns-in_err-vec-clause-without_memory : goal.returns-in_err-vec-clause-without_memory
-returns-in_err-vec-clause-without_memory g c = λ none. absurd (false≢true (c.in_err-vec.ensures.succeeds (c.bytes_len-len.ensures [] (has_none c.args.units.now none))))
+returns-in_err-vec-clause-without_memory g c = λ none. absurd (false≢true (c.in_err-vec.ensures.succeeds (c.wtf8_len-len.ensures [] (has_none c.args.units.now none))))
 
 pub returns-clause-units : goal.returns-clause-units
 returns-clause-units g c =
-    let len : length c.spell.new.bytes ≡ c.resize.new.self.len = search rules in
-    let has = subst (λ b. HasUnits b c.args.units.now) (sym (with_items_is c.resize.new.self c.spell.new.bytes len)) c.spell.ensures in
+    let len : length c.write_wtf8.new.bytes ≡ c.resize.new.self.len = search rules in
+    let has = subst (λ b. HasUnits b c.args.units.now) (sym (with_items_is c.resize.new.self c.write_wtf8.new.bytes len)) c.write_wtf8.ensures in
     units_of-is _ _ (subst (λ vec. HasUnits vec.items c.args.units.now) (sym c.from_encoded_bytes_unchecked.ensures) has)

@@ -1,7 +1,7 @@
 use Rattle.platform_str.proofs.Common.{rules, ◌≤◌, ◌<◌, ◌*◌, ◌^◌, length, take, drop, ap, sym, subst, arith, AllByRecursion, take-append-drop, IsUnit, pairs}
 use Rattle.platform_str.proofs.lemmas.UnitCounts.{counted, counted_front, counted_few, count_few, counted_none, pairs_few, all_counted, string_counted}
 use Rattle.platform_str.proofs.lemmas.BulkBytes.{are_units, units_behind}
-use Rattle.platform_str.proofs.blocks.bytes_len.Goals as goal
+use Rattle.platform_str.proofs.blocks.wtf8_len.Goals as goal
 
 pub overflow_add-len : goal.overflow_add-len
 overflow_add-len c = omega (arith, c.count_from.ensures, count_few 16 0x80 c.loop-rest.rest.now)

@@ -1,6 +1,6 @@
-use Rattle.platform_str.proofs.Common.{rules, ◌≡◌, length, take, sym, subst, arith, ◌∙◌, length-take-le, form, SpellsBefore}
+use Rattle.platform_str.proofs.Common.{rules, ◌≡◌, length, take, sym, subst, arith, ◌∙◌, length-take-le, encode, SpellsBefore}
 use Rattle.platform_str.proofs.lemmas.BulkBytes.{spells_both, spells_ascii_front, units_behind, units_room, bytes_fit, bytes_filled}
-use Rattle.platform_str.proofs.blocks.spell.Goals as goal
+use Rattle.platform_str.proofs.blocks.write_wtf8.Goals as goal
 
 pub put_ascii-requires-clause-ascii : goal.put_ascii-requires-clause-ascii
 put_ascii-requires-clause-ascii c = c.begins_ascii_block.ensures.ascii c.if-begins_ascii_block.true
@@ -68,7 +68,7 @@ loop-rest-preserved-else-wanted c =
 pub write_form-at-requires-clause-room : goal.write_form-at-requires-clause-room
 write_form-at-requires-clause-room c =
     let front = take c.loop-rest.at c.loop-rest.bytes in
-    let more = form c.first_code_point-code_point.result.0 in
+    let more = encode c.first_code_point-code_point.result.0 in
     let behind = c.first_code_point-code_point.result.1.now in
     let rest = c.loop-rest.rest.now in
     let k = c.first_code_point-code_point.ensures.behind in
@@ -83,7 +83,7 @@ write_form-at-requires-clause-room c =
 pub loop-rest-preserved : goal.loop-rest-preserved
 loop-rest-preserved c =
     let front = take c.loop-rest.at c.loop-rest.bytes in
-    let more = form c.first_code_point-code_point.result.0 in
+    let more = encode c.first_code_point-code_point.result.0 in
     let behind = c.first_code_point-code_point.result.1.now in
     let rest = c.loop-rest.rest.now in
     let k = c.first_code_point-code_point.ensures.behind in

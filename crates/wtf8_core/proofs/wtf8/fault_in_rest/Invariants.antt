@@ -1,5 +1,5 @@
 use Rattle.wtf8_core.proofs.Common.{length, IsReadUpTo}
-use Rattle.wtf8_core.proofs.wtf8.fault_behind.Given as goal
+use Rattle.wtf8_core.proofs.wtf8.fault_in_rest.Given as goal
 
 abbrev pub invariant-loop-item : goal.invariant-loop-item
 invariant-loop-item l = IsReadUpTo l.bytes l.high l.left

@@ -1,6 +1,6 @@
 use Rattle.platform_str.proofs.Common.{◌≡◌, ◌+◌, length, AllByRecursion, IsUnit, pairs}
 use Rattle.platform_str.proofs.lemmas.UnitCounts.{counted}
-use Rattle.platform_str.proofs.blocks.bytes_len.Given as goal
+use Rattle.platform_str.proofs.blocks.wtf8_len.Given as goal
 
 abbrev pub invariant-loop-rest : goal.invariant-loop-rest
 invariant-loop-rest l =

@@ -1,5 +1,5 @@
 use Rattle.platform_str.proofs.Common.{◌≡◌, ◌≤◌, length, take, AllByRecursion, IsUnit, SpellsBefore}
-use Rattle.platform_str.proofs.blocks.spell.Given as goal
+use Rattle.platform_str.proofs.blocks.write_wtf8.Given as goal
 
 abbrev pub invariant-loop-rest : goal.invariant-loop-rest
 invariant-loop-rest l =

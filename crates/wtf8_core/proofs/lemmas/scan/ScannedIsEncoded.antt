@@ -1,30 +1,30 @@
 -- Bytes that keep to the pattern are forms of code points.
-use Rattle.wtf8_core.proofs.Common.{◌≡◌, inl, inr, ⊎_elim, ℕ, zero, suc, ◌+◌, ◌<◌, ◌≤◌, List, [], ◌∷◌, ◌++◌, length, get_or, refl, sym, ap, ◌∙◌, subst, arith, cases_lt, nat_tests, AllByRecursion, flat_map, IsScalar, low_scalar, IsContinuation, IsHigh, IsLow, form, Spells, MayPrecede, last_behind, shape_value, AllMayStand, Steps, IsEdge, ◌/◌, ◌%◌}
+use Rattle.wtf8_core.proofs.Common.{◌≡◌, inl, inr, ⊎_elim, ℕ, zero, suc, ◌+◌, ◌<◌, ◌≤◌, List, [], ◌∷◌, ◌++◌, length, get_or, refl, sym, ap, ◌∙◌, subst, arith, cases_lt, nat_tests, AllByRecursion, flat_map, IsScalar, low_scalar, IsContinuation, IsHigh, IsLow, encode, Encodes, MayPrecede, last_or, shape_value, AllMayStand, Steps, IsBetweenCodePoints, ◌/◌, ◌%◌}
 use Rattle.wtf8_core.proofs.lemmas.forms.Shapes.{form_ascii, form_past}
 use Rattle.wtf8_core.proofs.lemmas.scan.LedForms.{IsFormOf, two_small, two_form, two_scalar, three_form, three_high, three_low, only_three_high, three_scalar, four_past, four_form, four_scalar}
 use Rattle.wtf8_core.specs.declared.scan.Encoding.{Encoding}
 use Rattle.wtf8_core.specs.declared.scan.Encoding.TheVariants.{Utf8}
 
 -- the edge after one more form, of one to four bytes
-module _ (p x y z : ℕ) (edge : IsEdge p x y z) where
-  edge_one : (a : ℕ) → a < 0x80 → IsEdge a y z a
+module _ (p x y z : ℕ) (edge : IsBetweenCodePoints p x y z) where
+  edge_one : (a : ℕ) → a < 0x80 → IsBetweenCodePoints a y z a
   edge_one a u = record {
     closed = record { fourth = omega (arith, edge.closed.third); third = omega (arith, edge.closed.second); second = omega (arith, u) };
     high = λ g. absurd (omega (arith, g.0, u));
     only_high = λ g. absurd (omega (arith, g, edge.closed.third));
   }
 
-  edge_two : (c a b : ℕ) → c < 0x800 → a < 0xE0 → IsContinuation b → IsEdge c z a b
+  edge_two : (c a b : ℕ) → c < 0x800 → a < 0xE0 → IsContinuation b → IsBetweenCodePoints c z a b
   edge_two c a b small u k = record {
     closed = record { fourth = omega (arith, edge.closed.second); third = u; second = omega (arith, k.1) };
     high = λ g. absurd (omega (arith, g.0, small));
     only_high = λ g. absurd (omega (arith, g, edge.closed.second));
   }
 
-edge_three : (c a b d : ℕ) → a < 0xF0 → IsContinuation b → IsContinuation d → (IsHigh c → (a ≡ 0xED) × (0xA0 ≤ b) × (b < 0xB0)) → (a ≡ 0xED → 0xA0 ≤ b → b < 0xB0 → IsHigh c) → IsEdge c a b d
+edge_three : (c a b d : ℕ) → a < 0xF0 → IsContinuation b → IsContinuation d → (IsHigh c → (a ≡ 0xED) × (0xA0 ≤ b) × (b < 0xB0)) → (a ≡ 0xED → 0xA0 ≤ b → b < 0xB0 → IsHigh c) → IsBetweenCodePoints c a b d
 edge_three c a b d u j k high only = record { closed = record { fourth = u; third = omega (arith, j.1); second = omega (arith, k.1) }; high = high; only_high = only }
 
-edge_four : (c b d g : ℕ) → 0x1_0000 ≤ c → IsContinuation b → IsContinuation d → IsContinuation g → IsEdge c b d g
+edge_four : (c b d g : ℕ) → 0x1_0000 ≤ c → IsContinuation b → IsContinuation d → IsContinuation g → IsBetweenCodePoints c b d g
 edge_four c b d g past i j k = record {
   closed = record { fourth = omega (arith, i.1); third = omega (arith, j.1); second = omega (arith, k.1) };
   high = λ v. absurd (omega (arith, v.1, past));
@@ -38,15 +38,15 @@ data IsShaped (c : ℕ) : List ℕ → Type 0 where
   three : (a b d : ℕ) → a < 0xF0 → IsContinuation b → IsContinuation d → (IsHigh c → (a ≡ 0xED) × (0xA0 ≤ b) × (b < 0xB0)) → (a ≡ 0xED → 0xA0 ≤ b → b < 0xB0 → IsHigh c) → IsShaped c (a ∷ b ∷ d ∷ [])
   four : (a b d g : ℕ) → 0x1_0000 ≤ c → IsContinuation b → IsContinuation d → IsContinuation g → IsShaped c (a ∷ b ∷ d ∷ g ∷ [])
 
-form_two : (c : ℕ) → 0x80 ≤ c → c < 0x800 → form c ≡ (0xC0 + c / 0x40) ∷ (0x80 + c % 0x40) ∷ []
-unfolding form
+form_two : (c : ℕ) → 0x80 ≤ c → c < 0x800 → encode c ≡ (0xC0 + c / 0x40) ∷ (0x80 + c % 0x40) ∷ []
+unfolding encode
 form_two c h l = grind (arith, nat_tests)
 
-form_three : (c : ℕ) → 0x800 ≤ c → c < 0x1_0000 → form c ≡ (0xE0 + c / 0x1000) ∷ (0x80 + (c / 0x40) % 0x40) ∷ (0x80 + c % 0x40) ∷ []
-unfolding form
+form_three : (c : ℕ) → 0x800 ≤ c → c < 0x1_0000 → encode c ≡ (0xE0 + c / 0x1000) ∷ (0x80 + (c / 0x40) % 0x40) ∷ (0x80 + c % 0x40) ∷ []
+unfolding encode
 form_three c h l = grind (arith, nat_tests)
 
-shaped : (c : ℕ) → IsShaped c (form c)
+shaped : (c : ℕ) → IsShaped c (encode c)
 shaped c =
     ⊎_elim (λ u. subst (IsShaped c) (sym (form_ascii c u)) (one u)) (λ h. ⊎_elim
     (λ u. subst (IsShaped c) (sym (form_two c h u)) (two _ _ u (omega arith) (omega arith, omega arith))) (λ h. ⊎_elim
@@ -55,16 +55,16 @@ shaped c =
     (cases_lt c 0x1_0000)) (cases_lt c 0x800)) (cases_lt c 0x80)
 
 -- the edge after n of the bytes that follow the first four
-abbrev pub IsEdgeAt : ℕ → ℕ → List ℕ → Type 0
-IsEdgeAt p n l = IsEdge p (get_or l (suc n) 0) (get_or l (suc (suc n)) 0) (get_or l (suc (suc (suc n))) 0)
+abbrev pub IsBetweenCodePointsAt : ℕ → ℕ → List ℕ → Type 0
+IsBetweenCodePointsAt p n l = IsBetweenCodePoints p (get_or l (suc n) 0) (get_or l (suc (suc n)) 0) (get_or l (suc (suc (suc n))) 0)
 
 -- the edge after forms
-pub edge_of_forms : (p w x y z : ℕ) (cs r : List ℕ) → IsEdge p x y z → IsEdgeAt (last_behind p cs) (length (flat_map form cs)) (w ∷ x ∷ y ∷ z ∷ (flat_map form cs ++ r))
+pub edge_of_forms : (p w x y z : ℕ) (cs r : List ℕ) → IsBetweenCodePoints p x y z → IsBetweenCodePointsAt (last_or p cs) (length (flat_map encode cs)) (w ∷ x ∷ y ∷ z ∷ (flat_map encode cs ++ r))
 edge_of_forms p w x y z [] r edge = edge
-edge_of_forms p w x y z (c ∷ cs) r edge = by (form c) (shaped c) (λ w x y z e. edge_of_forms c w x y z cs r e)
+edge_of_forms p w x y z (c ∷ cs) r edge = by (encode c) (shaped c) (λ w x y z e. edge_of_forms c w x y z cs r e)
   where
-    by : (f : List ℕ) → IsShaped c f → ((w x y z : ℕ) → IsEdge c x y z → IsEdgeAt (last_behind c cs) (length (flat_map form cs)) (w ∷ x ∷ y ∷ z ∷ (flat_map form cs ++ r)))
-        → IsEdgeAt (last_behind c cs) (length (f ++ flat_map form cs)) (w ∷ x ∷ y ∷ z ∷ ((f ++ flat_map form cs) ++ r))
+    by : (f : List ℕ) → IsShaped c f → ((w x y z : ℕ) → IsBetweenCodePoints c x y z → IsBetweenCodePointsAt (last_or c cs) (length (flat_map encode cs)) (w ∷ x ∷ y ∷ z ∷ (flat_map encode cs ++ r)))
+        → IsBetweenCodePointsAt (last_or c cs) (length (f ++ flat_map encode cs)) (w ∷ x ∷ y ∷ z ∷ ((f ++ flat_map encode cs) ++ r))
     by f (one u) more = more x y z c (edge_one p x y z edge c u)
     by f (two a b small u k) more = more y z a b (edge_two p x y z edge c a b small u k)
     by f (three a b d u j k high only) more = more z a b d (edge_three c a b d u j k high only)
@@ -73,7 +73,7 @@ edge_of_forms p w x y z (c ∷ cs) r edge = by (form c) (shaped c) (λ w x y z e
 -- bytes spell code points that p may precede
 pub record IsWhole (encoding : Encoding) (p : ℕ) (bytes : List ℕ) : Type 0 where
   pub code_points : List ℕ
-  pub spelled : Spells bytes code_points
+  pub spelled : Encodes bytes code_points
   pub free : MayPrecede p code_points
   pub plain : encoding ≡ Utf8 → AllByRecursion IsScalar code_points
 
@@ -83,7 +83,7 @@ one_more encoding p c front bytes i free scalar r = record {
   spelled = record {
     code_points = (i.code_point, r.spelled.code_points);
     paired_free = (r.free, r.spelled.paired_free);
-    joined = ap (λ x. x ++ bytes) (sym i.is) ∙ ap (λ x. form c ++ x) r.spelled.joined;
+    joined = ap (λ x. x ++ bytes) (sym i.is) ∙ ap (λ x. encode c ++ x) r.spelled.joined;
   };
   free = free;
   plain = λ e. (scalar e, r.plain e);
@@ -98,9 +98,9 @@ steps s w x y z (b ∷ bs) rest h = (h 0 (omega arith), steps s x y z b bs rest 
 module _ (s : Encoding) (next : ℕ) (ends : IsContinuation next → ⊥) where
   -- what is shown of n bytes at most
   abbrev Shown : ℕ → Type 0
-  Shown n = (p w x y z : ℕ) (bs : List ℕ) → length bs ≤ n → IsEdge p x y z → Steps s w x y z (bs ++ next ∷ []) → IsWhole s p bs
+  Shown n = (p w x y z : ℕ) (bs : List ℕ) → length bs ≤ n → IsBetweenCodePoints p x y z → Steps s w x y z (bs ++ next ∷ []) → IsWhole s p bs
 
-  module _ (n p x y z a : ℕ) (shown : Shown n) (edge : IsEdge p x y z) where
+  module _ (n p x y z a : ℕ) (shown : Shown n) (edge : IsBetweenCodePoints p x y z) where
     one_byte : (bs : List ℕ) → length bs ≤ n → a < 0x80 → Steps s x y z a (bs ++ next ∷ []) → IsWhole s p (a ∷ bs)
     one_byte bs m u h =
         one_more s p a (a ∷ []) bs (record { code_point = omega (arith, u); is = form_ascii a u }) (λ _ f. omega (arith, f.0, u)) (λ _. low_scalar a (omega (arith, u))) (shown a x y z a bs m (edge_one p x y z edge a u) h)
@@ -152,5 +152,5 @@ module _ (s : Encoding) (next : ℕ) (ends : IsContinuation next → ⊥) where
       (cases_lt a 0xF0)) (cases_lt a 0xE0)) (h.0.begins edge.closed)
 
   -- bytes that keep to the pattern, up to one that is no continuation, are whole
-  pub whole : (p w x y z : ℕ) (bs : List ℕ) → IsEdge p x y z → Steps s w x y z (bs ++ next ∷ []) → IsWhole s p bs
+  pub whole : (p w x y z : ℕ) (bs : List ℕ) → IsBetweenCodePoints p x y z → Steps s w x y z (bs ++ next ∷ []) → IsWhole s p bs
   whole p w x y z bs edge h = by_length (length bs) p w x y z bs (omega arith) edge h
