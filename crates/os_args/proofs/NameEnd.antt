@@ -2,7 +2,7 @@
 use Rattle.std.proofs.Common.{◌≡◌, ◌⊎◌, inl, inr, ℕ, ◌+◌, ◌<◌, List, [], ◌∷◌, ◌++◌, take, drop, length, refl, sym, ap, ◌∙◌, subst, arith, append_assoc, append-nil, length-append}
 use Rattle.std.proofs.lemmas.List.{take-append-drop}
 use Rattle.std.proofs.Math.Seq.{take-append_seam, drop-append_seam}
-use Rattle.wtf8_core.specs.Standing.{IsPrefix, StandsAt, StandsNowhere, IsFirstPlace}
+use Rattle.wtf8_core.specs.Standing.{StandsAt, StandsNowhere, IsFirstPlace}
 use Rattle.os_args.specs.Word.{equals, IsName}
 
 front_of : (s before behind : List ℕ) (i : ℕ) → s ≡ before ++ behind → length before ≡ i → take i s ≡ before
