@@ -1,4 +1,4 @@
-"""Edits of the crates, tried by the compiler on a copy of their sources. Nothing is proved there."""
+"""A crate of a copy of the sources, tried by the compiler. Nothing is proved there."""
 
 from __future__ import annotations
 
@@ -13,7 +13,7 @@ COMPILE = ("rt", "check", "--only=")
 
 
 class Failure(Exception):
-    """Why an edit, or the crate that it edits, does not pass."""
+    """Why what is tried, or the crate that it is in, does not pass."""
 
 
 def copy_sources(to: Path) -> None:
@@ -23,13 +23,6 @@ def copy_sources(to: Path) -> None:
         for part in ("src", "specs", "proofs"):
             if (crate / part).is_dir():
                 shutil.copytree(crate / part, to / "crates" / crate.name / part)
-
-
-def replaced(text: str, old: str, new: str, file: str) -> str:
-    """Returns the text of a file with its one old part replaced by a new one."""
-    if text.count(old) != 1:
-        raise Failure(f"this occurs {text.count(old)} times in {file}: {old}")
-    return text.replace(old, new)
 
 
 def compiled(crate: Path) -> list[str]:

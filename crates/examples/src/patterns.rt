@@ -18,8 +18,7 @@ pub fn has_pattern<'a, E: Platform + 'a>(
     ensures { IfOk result (λ has. IsTrue has
         ↔ IsMatch options pattern.now (symbols_of E.units (bytes path.entry))) }
 {
-    let glob = Glob::new(pattern)?;
-    Ok(glob.is_match(options, path))
+    Ok(Glob::new(pattern)?.is_match(options, path))
 }
 
 /// Prints whether a name is one symbol and an extension that begins with `t`.

@@ -269,7 +269,7 @@ module _ (text : List ℕ) (s : List ℕ) (symbols : List Symbol) (bytes : flat_
 
 -- a wildcard alone
 module _ (o : GlobOptions) (w : Wildcard) (dots : o.literal_leading_dot ≡ false) (none : left_out w o.separators ≡ separators.None) where
-  all_taken : (b : Bool) (ss : List Symbol) → AllByRecursion (Takes w) (places o b ss)
+  pub all_taken : (b : Bool) (ss : List Symbol) → AllByRecursion (Takes w) (places o b ss)
   all_taken b [] = tt
   all_taken b (s ∷ ss) = (taken s, all_taken (begins_component (place o b s)) ss)
     where

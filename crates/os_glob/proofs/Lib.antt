@@ -3,3 +3,4 @@ pub mod Steps
 pub mod Readings
 pub mod Ends
 pub mod Skips
+pub mod Literals

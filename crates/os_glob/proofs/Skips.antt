@@ -20,7 +20,7 @@ use Rattle.os_glob.specs.declared.place.Place.TheVariants.{Separator, LeadingDot
 use Rattle.os_glob.specs.Places.{separates, place, places, begins_component}
 use Rattle.os_glob.specs.Pattern.{Token, Run}
 use Rattle.os_glob.specs.Match.{Takes, Matches}
-use Rattle.os_glob.specs.Skips.{IsNone, Differs, IsNoStop, left_out, DiffersAt, IsSkipped, Skips}
+use Rattle.os_glob.specs.Skips.{IsNone, Differs, IsNoStop, left_out, DiffersAt, IsSkipped, PassesOver, Skips}
 use Rattle.os_glob.proofs.Steps.{AfterStar, next_place, later}
 
 -- bytes at which a search doesn't stop
@@ -125,7 +125,7 @@ module _ (o : GlobOptions) (dots : o.literal_leading_dot ≡ false) where
   no_dot true c = ap (λ d. d && nat_eq c 0x2E) dots
   no_dot false c = refl
 
-  plain : (begins : Bool) (c : ℕ) → place o begins (Character c) ≡ (if separates o.separators c then Separator else Ordinary (Character c))
+  pub plain : (begins : Bool) (c : ℕ) → place o begins (Character c) ≡ (if separates o.separators c then Separator else Ordinary (Character c))
   plain begins c = ap (λ b. if separates o.separators c then Separator else (if b then LeadingDot else Ordinary (Character c))) (no_dot begins c)
 
   alike_at : (begins : Bool) (s : Symbol) → place o begins s ≡ place o false s
@@ -184,19 +184,19 @@ no_text ss = ap (λ cs. map Character cs ++ ss) chars-nil
 
 -- matching goes on after them
 module _ (ts : List Token) (ps : List Place) (qs : List Token) where
-  past_run : (run rest : List Place) → AllByRecursion (λ p. Takes Star p × ((left : List Place) → Matches qs (p ∷ left) → ⊥)) run → AfterStar ts ps qs (run ++ rest) → AfterStar ts ps qs rest
+  past_run : (run rest : List Place) → PassesOver Star qs run rest → AfterStar ts ps qs (run ++ rest) → AfterStar ts ps qs rest
   past_run [] rest h so_far = so_far
   past_run (p ∷ run) rest h so_far =
-      past_run run rest h.1 (next_place ts ps qs (p ∷ run ++ rest) so_far (p ∷ run ++ rest) refl (h.0.1 (run ++ rest)) p (run ++ rest) refl h.0.0)
+      past_run run rest h.1 (next_place ts ps qs (p ∷ run ++ rest) so_far (p ∷ run ++ rest) refl h.0.1 p (run ++ rest) refl h.0.0)
 
   pub past_skipped : (from rest : List Place) → AfterStar ts ps qs from → Skips Star qs from rest → AfterStar ts ps qs rest
   past_skipped from rest so_far h = past_run h.run rest h.passed (subst (AfterStar ts ps qs) h.joined so_far)
 
 module _ (qs : List Token) where
-  anywhere_past : (run rest : List Place) → AllByRecursion (λ p. Takes DoubleStar p × ((left : List Place) → Matches qs (p ∷ left) → ⊥)) run → Matches (Run DoubleStar ∷ qs) (run ++ rest) ↔ Matches (Run DoubleStar ∷ qs) rest
+  anywhere_past : (run rest : List Place) → PassesOver DoubleStar qs run rest → Matches (Run DoubleStar ∷ qs) (run ++ rest) ↔ Matches (Run DoubleStar ∷ qs) rest
   anywhere_past [] rest h = (λ m. m, λ m. m)
   anywhere_past (p ∷ run) rest h =
-      let one = later DoubleStar qs (p ∷ run ++ rest) (p ∷ run ++ rest) (h.0.1 (run ++ rest)) refl p (run ++ rest) refl h.0.0 in
+      let one = later DoubleStar qs (p ∷ run ++ rest) (p ∷ run ++ rest) h.0.1 refl p (run ++ rest) refl h.0.0 in
       let on = anywhere_past run rest h.1 in
       (λ m. on.0 (one.0 m), λ m. one.1 (on.1 m))
 

@@ -1,6 +1,7 @@
 -- Places that are passed over: only private contracts name this.
-use Rattle.std.specs.Prelude.{◌≡◌, ◌≢◌, ◌<◌, ◌≤◌, length, false, ℕ, List, [], ◌∷◌, ◌++◌, Option, Some, None}
+use Rattle.std.specs.Prelude.{◌≡◌, ◌≢◌, ◌<◌, ◌≤◌, length, map, false, ℕ, List, [], ◌∷◌, ◌++◌, Option, Some, None}
 use Rattle.std.specs.List.{AllByRecursion}
+use Rattle.os_str_ext.specs.declared.symbols.Symbol.{Symbol}
 use Rattle.os_str_ext.specs.declared.symbols.Symbol.TheVariants.{Character}
 use Rattle.os_glob.specs.declared.options.Separators.{Separators}
 use Rattle.os_glob.specs.declared.place.Place.{Place}
@@ -49,9 +50,28 @@ IsStart ts start.End = ts ≡ []
 IsStart ts (start.Byte b) = (b < 0x80) × ((more : List Token) × (ts ≡ One (Same (Ordinary (Character b))) ∷ more))
 IsStart ts start.Other = Unit {0}
 
+-- the tokens start with these characters, each of which stands for itself alone
+abbrev pub StartsWith : List ℕ → List Token → Type 0
+StartsWith cs ts = (more : List Token) × (ts ≡ map (λ c. One (Same (Ordinary (Character c)))) cs ++ more)
+
+-- at none of the first characters of a text, with symbols after it, the characters ps begin to occur
+abbrev pub IsBeforeFirst : List ℕ → List Symbol → List ℕ → List ℕ → Type 0
+IsBeforeFirst ps ss front rest = (before : List ℕ) (more : List Symbol) → map Character (front ++ rest) ++ ss ≡ map Character (before ++ ps) ++ more → length front ≤ length before
+
+-- the first places, at none of which these characters begin to occur
+pub record IsSkippedBefore (cs : List ℕ) (ps rest : List Place) : Type 0 where
+  pub run : List Place
+  pub joined : ps ≡ run ++ rest
+  pub none : (before behind : List Place) → ps ≡ before ++ (map (λ c. Ordinary (Character c)) cs ++ behind) → length run ≤ length before
+
+-- a wildcard takes each place of a run, and at none of them the tokens match
+abbrev pub PassesOver : Wildcard → List Token → List Place → List Place → Type 0
+PassesOver w ts [] rest = Unit {0}
+PassesOver w ts (p ∷ run) rest = (Takes w p × ¬ (Matches ts (p ∷ run ++ rest))) × PassesOver w ts run rest
+
 -- a wildcard takes the first places, at none of which the tokens match
 pub record Skips (w : Wildcard) (ts : List Token) (ps rest : List Place) : Type 0 where
   pub run : List Place
   pub joined : ps ≡ run ++ rest
-  pub passed : AllByRecursion (λ p. Takes w p × ((left : List Place) → ¬ (Matches ts (p ∷ left)))) run
+  pub passed : PassesOver w ts run rest
   pub no_more_places : length rest ≤ length ps

@@ -6,15 +6,15 @@ ghost use Rattle.os_str_ext.specs.Symbols.{AreSymbols, symbols_of};
 ghost use Rattle.os_str_ext.specs.declared.symbols.Symbol.{Symbol};
 ghost use Rattle.os_glob.specs.Items.{Run, IsWellFormed, IsFirstFault, items};
 ghost use Rattle.os_glob.specs.Match.{IsMatch};
-ghost use Rattle.os_glob.specs.Ends.{BeginsWith, EndsWith, DiffersAtStart, DiffersAtEnd};
+ghost use Rattle.os_glob.specs.Ends.{EndsWith, DiffersAtStart, DiffersAtEnd};
 
 use crate::error::GlobError;
-use crate::item::{Item, Wildcard, first_item, is_plain};
+use crate::item::{Item, Wildcard, first_item, is_plain, literal_prefix};
 use crate::matching::matches;
 use crate::observer::{Nobody, Observer};
 use crate::options::{GlobOptions, Separators};
 use crate::place::Places;
-use crate::text::{first_char, split_before};
+use crate::text::first_char;
 use crate::token::Tokens;
 use os_str_ext::{OsStr, OsStrBytesExt, Platform, Symbols, symbol_laws};
 use std::marker::Model;
@@ -208,16 +208,6 @@ impl<'p> Glob<'p> {
             _ => false,
         }
     }
-}
-
-/// The characters at a pattern's start that match themselves.
-fn literal_prefix(pattern: &str) -> &str
-    ensures begins { BeginsWith (items (chars pattern.now)) (chars result.now) }
-    ensures text { IsUtf8 result.now }
-{
-    let (front, _) = split_before(pattern, b'*', b'?', b'[');
-    let (prefix, _) = split_before(front, b'\\', b'\\', b'\\');
-    prefix
 }
 
 /// The characters at a pattern's end that match themselves.

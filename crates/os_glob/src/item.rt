@@ -3,11 +3,11 @@ ghost use Rattle.std.specs.Prelude.{◌≡◌, ◌∷◌, [], IsTrue, MatchOptio
 ghost use Rattle.std.specs.Str.{IsUtf8, chars};
 ghost use Rattle.os_glob.specs.Items.{read, read_star, read_quoted, read_class, class_start, items};
 ghost use Rattle.os_glob.specs.Held.{item_of, IsFaultText};
-ghost use Rattle.os_glob.specs.Ends.{IsPlain};
+ghost use Rattle.os_glob.specs.Ends.{IsPlain, BeginsWith};
 
 use crate::error::GlobErrorKind;
 use crate::member::{after_members, first_reversed_range};
-use crate::text::first_char;
+use crate::text::{first_char, split_before};
 
 /// An item that matches any run of places.
 #[derive(Clone, Copy)]
@@ -45,6 +45,17 @@ pub(crate) fn is_plain(character: char) -> bool
         '[' => false,
         _ => true,
     }
+}
+
+/// The characters at a pattern's start that match themselves.
+#[inline(always)]
+pub(crate) fn literal_prefix(pattern: &str) -> &str
+    ensures begins { BeginsWith (items (chars pattern.now)) (chars result.now) }
+    ensures text { IsUtf8 result.now }
+{
+    let (front, _) = split_before(pattern, b'*', b'?', b'[');
+    let (prefix, _) = split_before(front, b'\\', b'\\', b'\\');
+    prefix
 }
 
 /// The first item of a pattern, and what comes after it. Nothing comes after a fault.

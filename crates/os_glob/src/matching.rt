@@ -97,7 +97,8 @@ fn is_after_double_star<E: Platform, O: Observer>(
 }
 
 /// Takes off places that a wildcard takes and at which the tokens don't match, as far as a search for
-/// a byte tells.
+/// the literal that they start with tells: where the wildcard takes each place for all of it, and else
+/// for its first byte, with the separators.
 #[inline(always)]
 fn skip_places<E: Platform, O: Observer>(
     wildcard: Wildcard,
@@ -107,6 +108,12 @@ fn skip_places<E: Platform, O: Observer>(
 )
     ensures { Skips wildcard tokens.now places.old places.new }
 {
+    if let Some(literal) = tokens.literal() {
+        if places.are_all_taken(wildcard) {
+            places.skip_before(literal, observer);
+            return;
+        }
+    }
     match tokens.start() {
         Start::End => places.skip(wildcard, None, observer),
         Start::Byte(byte) => places.skip(wildcard, Some(byte), observer),

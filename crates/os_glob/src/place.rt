@@ -1,14 +1,16 @@
 //! The places of a string: its symbols, as patterns see them.
-ghost use Rattle.std.specs.Prelude.{◌≡◌, ◌∷◌, ◌++◌, ◌<◌, [], map, MatchOption, IfSome};
+ghost use Rattle.std.specs.Prelude.{◌≡◌, ◌∷◌, ◌++◌, ◌<◌, [], map, IsTrue, MatchOption, IfSome, length};
+ghost use Rattle.std.specs.List.{AllByRecursion};
 ghost use Rattle.std.specs.Str.{IsUtf8, chars};
 ghost use Rattle.os_str_ext.specs.declared.symbols.Symbol.TheVariants.{Character};
 ghost use Rattle.os_glob.specs.Places.{place, begins_component};
-ghost use Rattle.os_glob.specs.Skips.{IsSkipped};
+ghost use Rattle.os_glob.specs.Match.{Takes};
+ghost use Rattle.os_glob.specs.Skips.{IsSkipped, IsSkippedBefore, IsBeforeFirst};
 
 use crate::item::Wildcard;
 use crate::observer::Observer;
-use crate::options::GlobOptions;
-use crate::text::{first_char, split_at_stop};
+use crate::options::{GlobOptions, Separators};
+use crate::text::{first_char, split_at_stop, split_before_literal};
 use os_str_ext::{OsStrBytesExt, Platform, Symbol, Symbols};
 use std::marker::Model;
 
@@ -140,6 +142,35 @@ impl<'a, E: Platform> Places<'a, E> {
         self.text = text;
         self.begins = false;
     }
+
+    /// Whether a wildcard takes each place, because nothing is left out of its runs.
+    #[inline(always)]
+    pub(crate) fn are_all_taken(&self, wildcard: Wildcard) -> bool
+        ensures { IsTrue result → AllByRecursion (Takes wildcard) self.now }
+    {
+        if self.options.literal_leading_dot {
+            return false;
+        }
+        match wildcard.left_out(self.options.separators) {
+            Separators::None => true,
+            _ => false,
+        }
+    }
+
+    /// Takes off the places before the first occurrence of a literal, or fewer.
+    #[inline(never)]
+    pub(crate) fn skip_before<O: Observer>(&mut self, literal: &str, observer: &mut O)
+        requires { 0 < length literal.now }
+        ensures { IsSkippedBefore (chars literal.now) self.old self.new }
+    {
+        if self.options.literal_leading_dot {
+            return;
+        }
+        let (front, text) = split_at_literal(self.text, &self.symbols, literal);
+        observer.looked_at(front.len());
+        self.text = text;
+        self.begins = false;
+    }
 }
 
 /// The characters up to the first unit, and the symbols from it on; no characters where the first
@@ -156,6 +187,31 @@ fn split_text<'a, E: Platform>(symbols: Symbols<'a, E>) -> (&'a str, Symbols<'a,
         return ("", symbols);
     }
     (text, chunks.rest().symbols())
+}
+
+/// The characters of a text before the first occurrence of a literal in it and in the symbols after
+/// it, and the other characters. Where only the symbols can tell, the first part is empty.
+#[inline(always)]
+fn split_at_literal<'a, E: Platform>(
+    text: &'a str,
+    symbols: &Symbols<'a, E>,
+    literal: &str,
+) -> (&'a str, &'a str)
+    requires { 0 < length literal.now }
+    ensures joined { chars text.now ≡ chars result.0.now ++ chars result.1.now }
+    ensures none { IsBeforeFirst (chars literal.now) symbols.now (chars result.0.now)
+        (chars result.1.now) }
+    ensures text { IsUtf8 result.1.now }
+{
+    if let Some(parts) = split_before_literal::<E>(text, literal) {
+        return parts;
+    }
+    let mut after = symbols.clone().unwrap();
+    match after.next() {
+        None => (text, ""),
+        Some(Symbol::Unit(_)) => (text, ""),
+        Some(Symbol::Character(_)) => ("", text),
+    }
 }
 
 /// The first symbol of a text and of the symbols after it, and what is left of the text.

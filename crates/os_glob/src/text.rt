@@ -1,11 +1,13 @@
-//! Texts, character by character, and up to a character.
-ghost use Rattle.std.specs.Prelude.{◌≡◌, ◌∷◌, ◌++◌, ◌<◌, [], MatchOption, IfSome};
+//! Texts, character by character, and up to a character or a text.
+ghost use Rattle.std.specs.Prelude.{◌≡◌, ◌∷◌, ◌++◌, ◌<◌, [], MatchOption, IfSome, length};
 ghost use Rattle.std.specs.List.{AllByRecursion};
 ghost use Rattle.std.specs.Str.{IsUtf8, chars};
+ghost use Rattle.wtf8_core.specs.Standing.{StandsNowhere, IsFirstPlace};
 ghost use Rattle.os_glob.specs.Skips.{IsNone, IsNoStop};
 
 use crate::options::Separators;
 use memchr::memchr3;
+use os_str_ext::{OsStr, OsStrBytesExt, Platform};
 
 /// The first character of a text, and what comes after it.
 #[inline(always)]
@@ -57,4 +59,23 @@ pub(crate) fn split_before(text: &str, one: u8, two: u8, three: u8) -> (&str, &s
         return (text, "");
     };
     (&text[..at], &text[at..])
+}
+
+/// A text up to the first occurrence of a literal, and from there on; `None` if it doesn't occur.
+#[inline(always)]
+pub(crate) fn split_before_literal<'t, E: Platform>(
+    text: &'t str,
+    literal: &str,
+) -> Option<(&'t str, &'t str)>
+    requires { 0 < length literal.now }
+    ensures joined { IfSome result (λ parts. chars text.now
+        ≡ chars parts.0.now ++ chars parts.1.now) }
+    ensures first { MatchOption result (StandsNowhere (chars literal.now) (chars text.now))
+        (λ parts. IsFirstPlace (chars literal.now) (chars text.now) (length (chars parts.0.now))) }
+    ensures text { IfSome result (λ parts. IsUtf8 parts.1.now) }
+{
+    let Some(at) = OsStr::<E>::new(text).find(literal) else {
+        return None;
+    };
+    Some((&text[..at], &text[at..]))
 }

@@ -1,16 +1,17 @@
 //! The tokens of a pattern.
-ghost use Rattle.std.specs.Prelude.{List, ◌≡◌, ◌∷◌, ◌↔◌, [], true, MatchOption, IsTrue};
+ghost use Rattle.std.specs.Prelude.{List, ◌≡◌, ◌∷◌, ◌↔◌, ◌<◌, [], true, IfSome, MatchOption, IsTrue, length};
 ghost use Rattle.std.specs.Str.{chars};
 ghost use Rattle.os_glob.specs.Members.{members};
 ghost use Rattle.os_glob.specs.Held.{item_of, token_of, class_of, begins_component_after, IsTokenOf};
 ghost use Rattle.os_glob.specs.Match.{Fits, Takes, permits};
 ghost use Rattle.os_glob.specs.Pattern.{Token as PatternToken, One, Same};
-ghost use Rattle.os_glob.specs.Skips.{IsStart, left_out};
+ghost use Rattle.os_glob.specs.Skips.{IsStart, StartsWith, left_out};
 
-use crate::item::{Item, Wildcard, first_item};
+use crate::item::{Item, Wildcard, first_item, is_plain, literal_prefix};
 use crate::member::has_member;
 use crate::options::{GlobOptions, Separators};
 use crate::place::{Place, place_of};
+use crate::text::split_at_stop;
 use os_str_ext::Symbol;
 use std::marker::Model;
 
@@ -158,6 +159,30 @@ impl<'p> Tokens<'p> {
             options: self.options,
             begins: self.begins,
         }
+    }
+
+    /// The characters that they start with and that stand for themselves alone, if these are a
+    /// literal of at least two bytes.
+    #[inline(always)]
+    pub(crate) fn literal(&self) -> Option<&'p str>
+        ensures literal { IfSome result (λ text. StartsWith (chars text.now) self.now) }
+        ensures some { IfSome result (λ text. 0 < length text.now) }
+    {
+        if self.options.literal_leading_dot {
+            return None;
+        }
+        let [_, second, ..] = self.rest.as_bytes() else {
+            return None;
+        };
+        if !is_plain(char::from(*second)) {
+            return None;
+        }
+        let plain = literal_prefix(self.rest);
+        let (text, _) = split_at_stop(plain, self.options.separators, None);
+        if text.len() < 2 {
+            return None;
+        }
+        Some(text)
     }
 
     /// How they start.

@@ -1,5 +1,5 @@
 use Rattle.os_glob.proofs.Ends.{begins}
-use Rattle.os_glob.proofs.glob.literal_prefix.Goals as goal
+use Rattle.os_glob.proofs.item.literal_prefix.Goals as goal
 
 pub returns-clause-begins : goal.returns-clause-begins
 returns-clause-begins c =
