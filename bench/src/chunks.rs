@@ -15,23 +15,20 @@ pub fn time(bench: &mut Bench) {
         line(bench, &long);
     }
     bench.table("Chunks of short strings", "a call");
-    for (name, strings) in [("paths", inputs::paths()), ("arguments", inputs::arguments())] {
-        short(bench, name, &strings);
-    }
-    for (name, strings) in inputs::paths_beyond_ascii() {
-        short(bench, name, &strings);
+    for strings in inputs::short_texts().iter().chain([&inputs::paths_with_a_fault()]) {
+        short(bench, strings);
     }
 }
 
 /// One call for each short string.
-fn short(bench: &mut Bench, name: &str, strings: &Short) {
+fn short(bench: &mut Bench, strings: &Short) {
     let all = |chunks: fn(&[u8]) -> usize| {
         let chunks = black_box(chunks);
-        strings.texts().map(|text| chunks(text.as_bytes()) as u64).sum()
+        strings.strings().map(|string| chunks(string) as u64).sum()
     };
     bench.line(
         "utf8_chunks",
-        name,
+        strings.name,
         strings.count(),
         [Some(&mut || all(ours::chunks)), Some(&mut || all(|bytes| theirs::unix(bytes).utf8_chunks().count())), None],
     );

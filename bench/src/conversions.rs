@@ -17,7 +17,7 @@ pub fn time(bench: &mut Bench) {
 }
 
 fn check(bench: &mut Bench, strings: &[Long]) {
-    bench.table("Check on Windows", "a byte");
+    bench.table_beside("Check on Windows", "a byte", &theirs::SIMDUTF8);
     for string @ Long { name, bytes } in strings {
         bench.line(
             "check",
@@ -27,24 +27,8 @@ fn check(bench: &mut Bench, strings: &[Long]) {
                 Some(&mut || ours::check(black_box(bytes)) as u64),
                 Some(&mut || OsStr::from_raw_bytes(black_box(bytes)).is_ok() as u64),
                 string.if_text(&mut || str::from_utf8(black_box(bytes)).is_ok() as u64),
-            ],
-        );
-    }
-
-    bench.table("Check of short strings on Windows", "a call");
-    for (name, strings) in [("10,000 paths", inputs::paths()), ("10,000 arguments", inputs::arguments())] {
-        let all = |accepts: fn(&[u8]) -> bool| {
-            let accepts = black_box(accepts);
-            strings.texts().filter(|text| accepts(text.as_bytes())).count() as u64
-        };
-        bench.line(
-            "check",
-            name,
-            strings.count(),
-            [
-                Some(&mut || all(ours::check)),
-                Some(&mut || all(|bytes| OsStr::from_raw_bytes(bytes).is_ok())),
-                Some(&mut || all(|bytes| str::from_utf8(bytes).is_ok())),
+                string.if_text(&mut || theirs::is_utf8_sse42(black_box(bytes)) as u64),
+                theirs::if_avx2(string.if_text(&mut || theirs::is_utf8_avx2(black_box(bytes)) as u64)),
             ],
         );
     }

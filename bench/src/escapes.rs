@@ -1,7 +1,7 @@
 //! Escapes of Unix strings in both forms, and back.
 use crate::inputs;
-use crate::ours;
 use crate::table::Bench;
+use crate::{ours, theirs};
 use std::hint::black_box;
 
 pub fn time(bench: &mut Bench) {
@@ -38,25 +38,24 @@ fn long(bench: &mut Bench) {
 /// Of short ones, beside std's escape, which has no way back, into one buffer.
 fn short(bench: &mut Bench) {
     bench.table("Escapes of short strings", "a call");
-    let ascii = [("10,000 paths", inputs::paths()), ("10,000 arguments", inputs::arguments())];
-    for (name, strings) in ascii.into_iter().chain(inputs::paths_beyond_ascii()) {
+    for strings in inputs::short_texts().iter().chain([&inputs::paths_with_a_fault()]) {
         let mut buffer = String::new();
-        let mut std_escape = |text: &str| {
+        let mut std_escape = |bytes: &[u8]| {
             buffer.clear();
-            buffer.extend(text.escape_debug());
+            buffer.extend(theirs::text(bytes).escape_debug());
             buffer.len()
         };
-        let escape_debug: &mut dyn FnMut(&str) -> usize = black_box(&mut std_escape);
+        let escape_debug: &mut dyn FnMut(&[u8]) -> usize = black_box(&mut std_escape);
         for (call, run) in [("escape", ours::escape as fn(&[u8]) -> usize), ("escape_line", ours::escape_line)] {
             let run = black_box(run);
             bench.line(
                 call,
-                name,
+                strings.name,
                 strings.count(),
                 [
-                    Some(&mut || strings.texts().map(|text| run(text.as_bytes())).sum::<usize>() as u64),
+                    Some(&mut || strings.strings().map(run).sum::<usize>() as u64),
                     None,
-                    Some(&mut || strings.texts().map(&mut *escape_debug).sum::<usize>() as u64),
+                    strings.if_texts(&mut || strings.strings().map(&mut *escape_debug).sum::<usize>() as u64),
                 ],
             );
         }

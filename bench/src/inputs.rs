@@ -126,6 +126,18 @@ fn arabic(random: &mut Random, len: usize) -> Vec<u8> {
     letters(random, len, (0x627, 36), 3, 9)
 }
 
+/// Paths of ASCII names in which one letter in eight is one of two bytes of Latin-1.
+fn latin(random: &mut Random, len: usize) -> Vec<u8> {
+    let mut text = String::new();
+    while text.len() < len {
+        text.push('/');
+        for letter in random.pick(&WORDS).chars() {
+            text.push(if random.once_in(8) { random.char(0xE0, 0x17) } else { letter });
+        }
+    }
+    cut(text, len)
+}
+
 /// Paths of ASCII names, some with a dash, quotation marks or an apostrophe of general punctuation.
 fn quoted(random: &mut Random, len: usize) -> Vec<u8> {
     let mut text = String::new();
@@ -256,16 +268,28 @@ pub fn periodic() -> Vec<Long> {
     pieces.map(|(name, piece)| named(name, 1, piece.repeat((1 << 20) / piece.len()))).into()
 }
 
-/// 10,000 short strings.
-pub struct Short(Vec<String>);
+/// 10,000 short strings of a kind.
+pub struct Short {
+    pub name: &'static str,
+    strings: Vec<Vec<u8>>,
+}
 
 impl Short {
-    pub fn texts(&self) -> impl Iterator<Item = &str> {
-        self.0.iter().map(String::as_str)
+    fn of(name: &'static str, string: impl FnMut(usize) -> Vec<u8>) -> Self {
+        Self { name, strings: (0..10_000).map(string).collect() }
+    }
+
+    pub fn strings(&self) -> impl Iterator<Item = &[u8]> {
+        self.strings.iter().map(Vec::as_slice)
     }
 
     pub fn count(&self) -> usize {
-        self.0.len()
+        self.strings.len()
+    }
+
+    /// What asks each string as a `str`, where all of them are UTF-8.
+    pub fn if_texts<'a>(&self, run: &'a mut dyn FnMut() -> u64) -> Contestant<'a> {
+        self.strings().all(|string| str::from_utf8(string).is_ok()).then_some(run)
     }
 }
 
@@ -293,26 +317,53 @@ fn argument(random: &mut Random) -> String {
 /// Paths of 10 to 80 bytes.
 pub fn paths() -> Short {
     let mut random = Random(7);
-    Short((0..10_000).map(|_| path(&mut random, 10, 80)).collect())
+    Short::of("paths", |_| path(&mut random, 10, 80).into_bytes())
 }
 
 /// Arguments of up to 30 bytes.
 pub fn arguments() -> Short {
     let mut random = Random(8);
-    Short((0..10_000).map(|_| argument(&mut random)).collect())
+    Short::of("arguments", |_| argument(&mut random).into_bytes())
 }
 
-/// Paths of 10 to 80 bytes whose names are letters of two, three and four bytes, and such of one to
-/// four.
-pub fn paths_beyond_ascii() -> [(&'static str, Short); 4] {
-    let kinds: [(&str, fn(&mut Random, usize) -> Vec<u8>); 4] =
-        [("Cyrillic paths", cyrillic), ("CJK paths", cjk), ("emoji paths", emoji), ("mixed paths", mixed)];
+/// Short texts of each kind: those of ASCII, paths of 10 to 80 bytes whose names are letters of
+/// two, three and four bytes, such of one to four, and names of ASCII with some letters of two.
+pub fn short_texts() -> Vec<Short> {
+    let beyond_ascii: [(&str, fn(&mut Random, usize) -> Vec<u8>); 5] = [
+        ("Cyrillic paths", cyrillic),
+        ("CJK paths", cjk),
+        ("emoji paths", emoji),
+        ("mixed paths", mixed),
+        ("Latin paths", latin),
+    ];
     let mut random = Random(9);
-    kinds.map(|(name, make)| {
-        let mut text = || {
+    let mut all = vec![paths(), arguments()];
+    for (name, make) in beyond_ascii {
+        all.push(Short::of(name, |_| {
             let len = 10 + random.below(71);
-            String::from_utf8(make(&mut random, len)).expect("these are texts")
-        };
-        (name, Short((0..10_000).map(|_| text()).collect()))
+            make(&mut random, len)
+        }));
+    }
+    all
+}
+
+/// Paths of 10 to 80 bytes with a lone surrogate each, as WTF-8.
+pub fn paths_with_a_surrogate() -> Short {
+    paths_with("paths with a surrogate", b"\xED\xA0\x80")
+}
+
+/// Paths of 10 to 80 bytes with a byte FF each, which only Unix has.
+pub fn paths_with_a_fault() -> Short {
+    paths_with("paths with FF", b"\xFF")
+}
+
+/// The paths, each with these bytes at some index.
+fn paths_with(name: &'static str, bytes: &[u8]) -> Short {
+    let mut random = Random(10);
+    Short::of(name, |_| {
+        let mut path = path(&mut random, 10, 80 - bytes.len()).into_bytes();
+        let at = random.below(path.len() + 1);
+        path.splice(at..at, bytes.iter().copied());
+        path
     })
 }

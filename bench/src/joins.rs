@@ -56,7 +56,7 @@ pub fn time(bench: &mut Bench) {
     for (name, front) in FRONTS {
         let all = |starts: fn(&[u8], &[u8]) -> bool| {
             let starts = black_box(starts);
-            paths.texts().filter(|path| starts(path.as_bytes(), front)).count() as u64
+            paths.strings().filter(|path| starts(path, front)).count() as u64
         };
         bench.line(
             "starts_with_os",

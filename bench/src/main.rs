@@ -9,6 +9,7 @@ mod inputs;
 mod joins;
 mod ours;
 mod searches;
+mod short;
 mod splits;
 mod symbols;
 mod table;
@@ -17,6 +18,7 @@ mod theirs;
 fn main() {
     let mut bench = table::Bench::from_arguments();
     conversions::time(&mut bench);
+    short::time(&mut bench);
     searches::time(&mut bench);
     splits::time(&mut bench);
     chunks::time(&mut bench);

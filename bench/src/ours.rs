@@ -6,17 +6,20 @@
 mod exports {
     unsafe extern "C" {
         pub fn port_check(bytes: *const u8, len: usize) -> u64;
+        pub fn port_from_raw_vec(bytes: *const u8, len: usize) -> usize;
         pub fn port_encode_wide(bytes: *const u8, len: usize, out: *mut u16, room: usize) -> usize;
         pub fn port_decode_wide(units: *const u16, len: usize, out: *mut u8, room: usize) -> usize;
         pub fn port_from_wide(units: *const u16, len: usize) -> usize;
         pub fn port_to_wide(bytes: *const u8, len: usize) -> usize;
         pub fn port_lossy(bytes: *const u8, len: usize) -> usize;
+        pub fn port_display(bytes: *const u8, len: usize) -> usize;
         pub fn port_win_lossy(bytes: *const u8, len: usize) -> usize;
         pub fn port_win_read_lossy(bytes: *const u8, len: usize) -> usize;
         pub fn port_wasm_read_lossy(bytes: *const u8, len: usize) -> usize;
         pub fn port_chunks(bytes: *const u8, len: usize) -> usize;
         pub fn port_symbols(bytes: *const u8, len: usize) -> u64;
         pub fn port_split_first_char(bytes: *const u8, len: usize) -> u32;
+        pub fn port_is_boundary(bytes: *const u8, len: usize, at: usize) -> bool;
         pub fn port_find(bytes: *const u8, len: usize, pattern: *const u8, pattern_len: usize) -> usize;
         pub fn port_rfind(bytes: *const u8, len: usize, pattern: *const u8, pattern_len: usize) -> usize;
         pub fn port_split_once(bytes: *const u8, len: usize, pattern: *const u8, pattern_len: usize) -> usize;
@@ -48,6 +51,11 @@ pub fn check(bytes: &[u8]) -> bool {
     unsafe { exports::port_check(bytes.as_ptr(), bytes.len()) == 0 }
 }
 
+/// The length of a string of a copy of the bytes, which are WTF-8.
+pub fn from_raw_vec(bytes: &[u8]) -> usize {
+    unsafe { exports::port_from_raw_vec(bytes.as_ptr(), bytes.len()) }
+}
+
 pub fn encode_wide(bytes: &[u8], out: &mut [u16]) -> usize {
     unsafe { exports::port_encode_wide(bytes.as_ptr(), bytes.len(), out.as_mut_ptr(), out.len()) }
 }
@@ -68,6 +76,10 @@ pub fn unix_lossy(bytes: &[u8]) -> usize {
     unsafe { exports::port_lossy(bytes.as_ptr(), bytes.len()) }
 }
 
+pub fn display(bytes: &[u8]) -> usize {
+    unsafe { exports::port_display(bytes.as_ptr(), bytes.len()) }
+}
+
 pub fn windows_lossy(bytes: &[u8]) -> usize {
     unsafe { exports::port_win_lossy(bytes.as_ptr(), bytes.len()) }
 }
@@ -78,6 +90,10 @@ pub fn windows_read_lossy(bytes: &[u8]) -> usize {
 
 pub fn wasm_read_lossy(bytes: &[u8]) -> usize {
     unsafe { exports::port_wasm_read_lossy(bytes.as_ptr(), bytes.len()) }
+}
+
+pub fn is_boundary(bytes: &[u8], at: usize) -> bool {
+    unsafe { exports::port_is_boundary(bytes.as_ptr(), bytes.len(), at) }
 }
 
 pub fn find(bytes: &[u8], pattern: &str) -> usize {

@@ -23,7 +23,7 @@ pub fn time(bench: &mut Bench) {
         ("strip_prefix", STRIP_PREFIX, "/usr/"),
         ("ends_with", ENDS_WITH, ".txt"),
     ] {
-        short(bench, call, contestants, ("paths", &paths), pattern);
+        short(bench, call, contestants, &paths, pattern);
     }
     for (call, contestants, pattern) in [
         ("find", FIND, "--"),
@@ -33,7 +33,7 @@ pub fn time(bench: &mut Bench) {
         ("strip_prefix", STRIP_PREFIX, "--output="),
         ("starts_with", STARTS_WITH, "--"),
     ] {
-        short(bench, call, contestants, ("arguments", &arguments), pattern);
+        short(bench, call, contestants, &arguments, pattern);
     }
 
     bench.table("Searches in long strings", "a byte");
@@ -81,15 +81,15 @@ const SPLIT_ONCE: [Search; 3] = [
 ];
 
 /// One call for each short string.
-fn short(bench: &mut Bench, call: &str, contestants: [Search; 3], (name, strings): (&str, &Short), pattern: &str) {
+fn short(bench: &mut Bench, call: &str, contestants: [Search; 3], strings: &Short, pattern: &str) {
     let all = |search: Search| {
         let search = black_box(search);
-        strings.texts().fold(0, |sum: usize, string| sum.wrapping_add(search(string.as_bytes(), pattern))) as u64
+        strings.strings().fold(0, |sum: usize, string| sum.wrapping_add(search(string, pattern))) as u64
     };
     let [ours, theirs, std] = contestants;
     bench.line(
         call,
-        &format!("{name}, `{pattern}`"),
+        &format!("{}, `{pattern}`", strings.name),
         strings.count(),
         [Some(&mut || all(ours)), Some(&mut || all(theirs)), Some(&mut || all(std))],
     );

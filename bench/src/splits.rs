@@ -37,7 +37,7 @@ pub fn time(bench: &mut Bench) {
         for (call, contestants) in [("split", SPLIT), ("rsplit", RSPLIT)] {
             let all = |count: Count| {
                 let count = black_box(count);
-                paths.texts().map(|path| count(path.as_bytes(), pattern) as u64).sum()
+                paths.strings().map(|path| count(path, pattern) as u64).sum()
             };
             let [ours, theirs, std] = contestants;
             bench.line(

@@ -10,11 +10,8 @@ pub fn time(bench: &mut Bench) {
         line(bench, &long);
     }
     bench.table("Symbols of short strings", "a call");
-    for (name, strings) in [("paths", inputs::paths()), ("arguments", inputs::arguments())] {
-        short(bench, name, &strings);
-    }
-    for (name, strings) in inputs::paths_beyond_ascii() {
-        short(bench, name, &strings);
+    for strings in inputs::short_texts().iter().chain([&inputs::paths_with_a_fault()]) {
+        short(bench, strings);
     }
 }
 
@@ -42,15 +39,20 @@ fn line(bench: &mut Bench, string: &Long) {
 }
 
 /// One call for each short string.
-fn short(bench: &mut Bench, name: &str, strings: &Short) {
+fn short(bench: &mut Bench, strings: &Short) {
     let all = |sum: fn(&[u8]) -> u64| {
         let sum = black_box(sum);
-        strings.texts().fold(0, |all: u64, text| all.wrapping_add(sum(text.as_bytes())))
+        strings.strings().fold(0, |all: u64, string| all.wrapping_add(sum(string)))
     };
     for (call, ours, std) in [
         ("symbols", ours::symbols as fn(&[u8]) -> u64, sum_of_chars as fn(&[u8]) -> u64),
         ("split_first_char", |bytes| u64::from(ours::split_first_char(bytes)), first_char),
     ] {
-        bench.line(call, name, strings.count(), [Some(&mut || all(ours)), None, Some(&mut || all(std))]);
+        bench.line(
+            call,
+            strings.name,
+            strings.count(),
+            [Some(&mut || all(ours)), None, strings.if_texts(&mut || all(std))],
+        );
     }
 }

@@ -8,7 +8,7 @@ use std::time::Duration;
 /// How often each contestant has its turn in a line.
 const ROUNDS: usize = 5;
 
-/// Who answers a line: this repository, the crate, the standard library.
+/// Who answers a line: this repository, the crate, the standard library, and maybe others.
 pub type Contestant<'a> = Option<&'a mut dyn FnMut() -> u64>;
 
 pub struct Bench {
@@ -33,11 +33,18 @@ impl Bench {
 
     /// Begins a table, whose times are in nanoseconds for `unit`.
     pub fn table(&mut self, title: &str, unit: &str) {
+        self.table_beside(title, unit, &[]);
+    }
+
+    /// Begins a table in which others answer too, next to the crate and the standard library.
+    pub fn table_beside(&mut self, title: &str, unit: &str, others: &[&str]) {
         self.title = title.to_owned();
+        let heads = others.iter().map(|other| format!(" {other} | Ours/{other} |")).collect::<String>();
         self.head = Some(format!(
             "\n### {title}, nanoseconds for {unit}\n\n\
-             | Call | Input | Ours | Crate | Ours/crate | Std | Ours/std |\n\
-             |---|---|---|---|---|---|---|"
+             | Call | Input | Ours | Crate | Ours/crate | Std | Ours/std |{heads}\n\
+             |---|---|---|---|---|---|---|{}",
+            "---|---|".repeat(others.len())
         ));
     }
 
@@ -48,12 +55,12 @@ impl Bench {
     }
 
     /// Times a call on an input, which has `count` units of the table. All have to answer the same.
-    pub fn line(&mut self, call: &str, input: &str, count: usize, mut contestants: [Contestant; 3]) {
+    pub fn line<const N: usize>(&mut self, call: &str, input: &str, count: usize, mut contestants: [Contestant; N]) {
         if !self.wants(call, input) {
             return;
         }
         let mut answer = None;
-        let mut least = [None::<Duration>; 3];
+        let mut least = [None::<Duration>; N];
         for _ in 0..ROUNDS {
             for (run, least) in contestants.iter_mut().zip(&mut least) {
                 let Some(run) = run else { continue };
@@ -74,10 +81,9 @@ impl Bench {
             println!("{head}");
         }
         let nanoseconds = least.map(|time| time.map(|time| time.as_nanos() as f64 / count as f64));
-        let [ours, theirs @ ..] = nanoseconds;
-        let ours = ours.expect("this repository answers each line");
+        let ours = nanoseconds[0].expect("this repository answers each line");
         print!("| {call} | {input} | {ours:.3} |");
-        for time in theirs {
+        for time in &nanoseconds[1..] {
             match time {
                 Some(time) => print!(" {time:.3} | {:.2} |", ours / time),
                 None => print!(" | |"),

@@ -1,13 +1,14 @@
 //! The calls that are timed, for a program in C or Rust: [`check`] the check of Windows,
 //! [`wide`] bytes to units and back, [`lossy`] lossy texts and readings, [`search`] searches,
-//! [`pieces`] splits, [`chunks`] chunks, [`symbols`] symbols and first characters, [`joins`] joins and
-//! prefixes by units, [`escapes`] escapes, [`globs`] path patterns.
+//! [`boundary`] boundaries, [`pieces`] splits, [`chunks`] chunks, [`symbols`] symbols and first
+//! characters, [`joins`] joins and prefixes by units, [`escapes`] escapes, [`globs`] path patterns.
 //!
 //! Each export is a call of the libraries below it, and nothing else. A slice crosses as a
 //! pointer and a length, and an allocator as nothing: what it takes is the program's own
 //! `malloc`. The caller keeps what each export asks.
 #![tactic(auto)]
 
+pub mod boundary;
 pub mod check;
 pub mod chunks;
 pub mod escapes;

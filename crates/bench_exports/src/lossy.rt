@@ -7,6 +7,7 @@ ghost use Rattle.wtf8_core.specs.LossyReading.{IsLossyReading};
 ghost use Rattle.wtf8_core.specs.UnitsOf.{wtf8_lossy};
 ghost use Rattle.platform_str.specs.Strings.{bytes};
 
+use crate::strings::unix;
 use platform_str::{HasBytes, OsStr, Platform, Unix, Wasm, Windows};
 use std::alloc::Global;
 
@@ -36,6 +37,18 @@ pub extern "C" fn port_win_lossy(alloc: Global, raw: &[u8]) -> usize
     ensures { result ≢ usize.MAX → result ≡ length (wtf8_lossy raw.now) }
 {
     lossy_len(alloc, OsStr::<Windows>::from_encoded_bytes_unchecked(raw))
+}
+
+/// How many bytes the string has as it is printed on Unix, as a new text, or `usize::MAX` where
+/// memory was refused.
+#[unsafe(no_mangle)]
+pub extern "C" fn port_display(alloc: Global, raw: &[u8]) -> usize
+    ensures { result ≢ usize.MAX → result ≡ length (utf8_lossy raw.now) }
+{
+    match unix(raw).display().to_string(alloc) {
+        Ok(text) => text.as_str().len(),
+        Err(_) => usize::MAX,
+    }
 }
 
 /// How many bytes the lossy reading of any bytes has, or `usize::MAX` where memory was refused.

@@ -1,5 +1,5 @@
 //! Where strings may be cut, and the parts that such cuts give.
-ghost use Rattle.std.specs.Prelude.{◌≡◌, ◌≤◌, ◌-◌, ◌↔◌, ◌++◌, IsTrue, take, drop};
+ghost use Rattle.std.specs.Prelude.{◌≡◌, ◌<◌, ◌≤◌, ◌+◌, ◌-◌, ◌↔◌, ◌++◌, IsTrue, length, take, drop};
 ghost use Rattle.wtf8_core.specs.Character.{WholeCharacter};
 ghost use Rattle.wtf8_core.specs.Boundary.{IsBoundary};
 ghost use Rattle.platform_str.specs.Strings.{bytes};
@@ -20,10 +20,22 @@ pub(crate) fn is_boundary(bytes: &[u8], at: usize) -> bool
     if at > bytes.len() {
         return false;
     }
+    if is_ascii_at(bytes, at) || is_ascii_at(bytes, at - 1) {
+        return true;
+    }
     if char_at(bytes, at).is_some() {
         return true;
     }
     char_before(bytes, at).is_some()
+}
+
+/// Whether the byte at index `at` is ASCII, which is a whole character.
+#[inline(always)]
+fn is_ascii_at(bytes: &[u8], at: usize) -> bool
+    requires { at < length bytes.now }
+    ensures { IsTrue result → WholeCharacter bytes.now at (at + 1) }
+{
+    bytes[at] < 0x80
 }
 
 /// The length in bytes of the whole character that ends at index `at`, or `None` if none ends

@@ -2,13 +2,14 @@
 //!
 //! No contract of another crate names anything in this module. The readers, in their order:
 //!
-//! 1. [`utf8_fault`](crate::utf8_fault) finds how many of the first [`STEP`] bytes are ASCII.
+//! 1. [`utf8_fault`](crate::utf8_fault) finds how many of the first [`STEP`] bytes are ASCII. It
+//!    reads fewer bytes than a block by 5 if all are ASCII, and after 3 if one of these isn't.
 //! 2. If all are, it looks at the first [`BLOCK`] bytes, and continues with 5 if these are, too.
 //! 3. From the first byte that isn't ASCII it reads up to three characters one by one.
 //! 4. Then it reads up to eight steps ([`fronts::scan_steps`]), and then blocks.
 //! 5. [`fronts::scan_from`] tests blocks in place, each with the [`BEFORE`] bytes before it
 //!    ([`error_bits`]), and skips blocks of ASCII without that test. The last bytes, fewer than a
-//!    block, are tested in a copy with zeros before and after them.
+//!    block, are tested in a copy with zeros before and after them, unless they are ASCII.
 //! 6. At the first byte that isn't allowed after those before it, the prefix ends before the last
 //!    byte that isn't a continuation ([`fronts`]). After the prefix characters are read one by one
 //!    again, and finally std's reader continues.

@@ -6,7 +6,7 @@ ghost use Rattle.wtf8_core.specs.declared.scan.Encoding.TheVariants.{Utf8};
 ghost use Rattle.wtf8_core.specs.Utf8.{IsUtf8Fault};
 
 use crate::character::char_or_fault_at_front;
-use crate::scan::fronts::{scan_from, scan_steps};
+use crate::scan::fronts::{ends_with_ascii, scan_from, scan_steps};
 use crate::scan::lanes::{ascii_before, ascii_of_16, load};
 use crate::scan::{BLOCK, Encoding, STEP};
 
@@ -38,12 +38,12 @@ pub fn utf8_fault(bytes: &[u8]) -> Option<(usize, Option<u8>)>
     if bytes.len() < STEP {
         return fault_by_characters(bytes, 0);
     }
+    if bytes.len() < BLOCK {
+        return fault_in_short(bytes);
+    }
     let ascii = ascii_len(bytes);
     if ascii == BLOCK {
         return fault_by_blocks(bytes, ascii);
-    }
-    if ascii >= STEP && bytes.len() < BLOCK {
-        return fault_in_rest(bytes, ascii);
     }
     match after_three_characters(bytes, ascii) {
         Ok(at) => fault_by_steps(bytes, at),
@@ -51,20 +51,38 @@ pub fn utf8_fault(bytes: &[u8]) -> Option<(usize, Option<u8>)>
     }
 }
 
-/// How many of the first 16 bytes, or of the first 64 if there are as many, are ASCII before the
-/// first that isn't. In a loop over faults that are close together, that is mostly one of the first
-/// 16.
+/// The first fault of 16 to 63 bytes. If all are ASCII they are read at once; if one of the first 16
+/// isn't, the bytes after three characters are.
+#[inline(always)]
+fn fault_in_short(bytes: &[u8]) -> Option<(usize, Option<u8>)>
+    requires { 16 ≤ length bytes.now }
+    ensures { MatchOption result (IsUtf8 bytes.now)
+        (λ fault. IsUtf8Fault bytes.now fault.0 fault.1) }
+{
+    let near = ascii_of_16(bytes);
+    if near < STEP {
+        return match after_three_characters(bytes, near) {
+            Ok(at) => fault_by_blocks(bytes, at),
+            Err(fault) => Some(fault),
+        };
+    }
+    if ends_with_ascii(bytes) {
+        return fault_by_blocks(bytes, 0);
+    }
+    fault_in_rest(bytes, STEP)
+}
+
+/// How many of the first 16 bytes, or of the first 64, are ASCII before the first that isn't. In a
+/// loop over faults that are close together, that is mostly one of the first 16.
 #[inline(always)]
 fn ascii_len(bytes: &[u8]) -> usize
-    requires { 16 ≤ length bytes.now }
+    requires { 64 ≤ length bytes.now }
     ensures within { result ≤ length bytes.now }
     ensures text { IsUtf8 (take result bytes.now) }
 {
     let near = ascii_of_16(bytes);
     if near < STEP {
         near
-    } else if bytes.len() < BLOCK {
-        STEP
     } else {
         ascii_before(load(bytes, 0))
     }

@@ -1,9 +1,13 @@
 -- Boundaries and whole characters, as the tests of them find them.
-use Rattle.std.proofs.Common.{◌≡◌, ℕ, ◌-◌, ◌<◌, true, false, List, length, Option, Some, None, inr, refl, sym, arith, ⊎_elim}
+use Rattle.std.proofs.Common.{◌≡◌, ℕ, ◌+◌, ◌-◌, ◌<◌, true, false, List, ◌++◌, length, drop, get_or, Option, Some, None, inl, inr, refl, sym, ap, ◌∙◌, subst, arith, ⊎_elim}
 use Rattle.std.proofs.lemmas.Bool.{false≢true}
+use Rattle.std.proofs.lemmas.List.{drop_more}
 use Rattle.std.specs.Option.{is_some}
 use Rattle.wtf8_core.specs.Character.{WholeCharacter, IsCharacterAt}
 use Rattle.wtf8_core.specs.Boundary.{IsBoundary}
+use Rattle.wtf8_core.proofs.Common.{low_scalar}
+use Rattle.wtf8_core.proofs.lemmas.forms.Shapes.{form_ascii}
+use Rattle.wtf8_core.proofs.lemmas.characters.AtPlaces.{whole_at}
 use Rattle.os_str_ext.specs.Characters.{IsCharacterBefore}
 
 pub none_from_test : (s : List ℕ) (i : ℕ) (r : Option ℕ) → is_some r ≡ false → IsCharacterAt s i r → (j : ℕ) → WholeCharacter s i j → ⊥
@@ -19,3 +23,16 @@ pub end_by_boundary : (s : List ℕ) (i : ℕ) (r : Option ℕ) → IsCharacterB
 end_by_boundary s i None h low high starts b =
     ⊎_elim (λ e. absurd (omega arith)) (⊎_elim (λ e. absurd (omega arith)) (⊎_elim (λ w. absurd (starts w.0 w.1)) (λ w. absurd (h w.0 w.1)))) b.is
 end_by_boundary s i (Some n) h low high starts b = refl
+
+-- an ASCII byte is a whole character, so that the indices before and after it are boundaries
+pub ascii_at : (s : List ℕ) (i : ℕ) → i < length s → get_or s i 0 < 0x80 → WholeCharacter s i (i + 1)
+ascii_at s i h low =
+    let b = get_or s i 0 in
+    let f = form_ascii b low in
+    subst (λ x. WholeCharacter s i (i + length x)) f (whole_at s i b (drop (i + 1) s) (omega (arith, h)) (low_scalar b (omega (arith, low))) (drop_more s i 0 h ∙ ap (λ x. x ++ drop (i + 1) s) (sym f)))
+
+pub boundary_by_start : (s : List ℕ) (i j : ℕ) → WholeCharacter s i j → IsBoundary s i
+boundary_by_start s i j w = record { is = inr (inr (inl (j, w))) }
+
+pub boundary_behind : (s : List ℕ) (i : ℕ) → 0 < i → WholeCharacter s (i - 1) (i - 1 + 1) → IsBoundary s i
+boundary_behind s i h w = let z : i - 1 + 1 ≡ i = omega (arith, h) in record { is = inr (inr (inr (i - 1, subst (WholeCharacter s (i - 1)) z w))) }

@@ -12,7 +12,7 @@ ghost use Rattle.wtf8_core.specs.EncodedPrefix.{IsEncodedPrefix, KeepsPattern};
 
 use crate::byte::is_continuation;
 use crate::scan::error_bits::{kept_len, kept_of_16};
-use crate::scan::lanes::{are_ascii, load};
+use crate::scan::lanes::{are_ascii, ascii_of_16, load};
 use crate::scan::{BEFORE, BLOCK, Encoding, STEP};
 
 /// The length of a prefix that is of this encoding: all the bytes, or some that end where the next
@@ -205,11 +205,40 @@ fn scan_tail(bytes: &[u8], at: usize, encoding: Encoding) -> usize
     ensures within { result ≤ length bytes.now }
     ensures front { IsEncodedPrefix encoding bytes.now result }
 {
+    if ends_with_ascii(bytes) {
+        return bytes.len();
+    }
     let kept = window_len(bytes, at, encoding);
     if kept > bytes.len() - at {
         return bytes.len();
     }
     start_before(bytes, at + kept)
+}
+
+/// Whether the last 64 bytes are ASCII, or all the bytes if they are fewer. It isn't found of fewer
+/// than 16 bytes.
+#[inline(always)]
+pub(crate) fn ends_with_ascii(bytes: &[u8]) -> bool
+    ensures { IsTrue result → (i : ℕ) → length bytes.now - 64 ≤ i → i < length bytes.now
+        → slice_index bytes.now i < 0x80 }
+{
+    let len = bytes.len();
+    if len >= BLOCK {
+        return is_ascii_block(bytes, len - BLOCK);
+    }
+    if len < STEP || !is_ascii_step(bytes, 0) || !is_ascii_step(bytes, len - STEP) {
+        return false;
+    }
+    len <= 2 * STEP || is_ascii_step(bytes, STEP) && is_ascii_step(bytes, len - 2 * STEP)
+}
+
+/// Whether the next 16 bytes are ASCII.
+#[inline(always)]
+fn is_ascii_step(bytes: &[u8], at: usize) -> bool
+    requires { at + 16 ≤ length bytes.now }
+    ensures { IsTrue result → (i : ℕ) → i < 16 → slice_index bytes.now (at + i) < 0x80 }
+{
+    ascii_of_16(&bytes[at..]) >= STEP
 }
 
 /// The last index before `end` at which a code point begins, if the bytes keep to the pattern up to

@@ -122,6 +122,17 @@ module _ (encoding : Encoding) (bytes : List ℕ) where
       let z : n - 1 + 1 ≡ n = omega (arith, some) in
       subst (IsEncodedPrefix encoding bytes) z (more_ascii (n - 1) 1 (omega (arith, some, h)) (λ i l. let y : n - 1 ≡ n - 1 + i = omega (arith, l) in subst (λ m. get_or bytes m 0 < 0x80) y u) (by_pattern (n - 1) n (omega (arith, h)) (omega (arith, some)) k (λ c. omega (arith, c.0, u))))
 
+  -- bytes spell code points up to their end, if they are ASCII from the last index on at which they keep to the pattern, or from the byte before it
+  pub ascii_to_end : (at : ℕ) → at ≤ length bytes → length bytes - at < 64 → ((i : ℕ) → length bytes - 64 ≤ i → i < length bytes → get_or bytes i 0 < 0x80) → KeepsPattern encoding bytes at → IsEncodedPrefix encoding bytes (length bytes)
+  ascii_to_end zero h short low k =
+      let z : 0 + length bytes ≡ length bytes = omega arith in
+      subst (IsEncodedPrefix encoding bytes) z (more_ascii 0 (length bytes) (omega arith) (λ i l. let y : i ≡ 0 + i = omega arith in subst (λ m. get_or bytes m 0 < 0x80) y (low i (omega (arith, short)) l)) (no_front encoding bytes))
+  ascii_to_end (suc n) h short low k =
+      let z : suc n + (length bytes - suc n) ≡ length bytes = omega (arith, h) in
+      let before : suc n - 1 ≡ n = omega arith in
+      let f = front_behind_ascii (suc n) (omega arith) h (subst (λ m. get_or bytes m 0 < 0x80) (sym before) (low n (omega (arith, short, h)) (omega (arith, h)))) k in
+      subst (IsEncodedPrefix encoding bytes) z (more_ascii (suc n) (length bytes - suc n) (omega (arith, h)) (λ i l. low (suc n + i) (omega (arith, short, h)) (omega (arith, l, h))) f)
+
   -- as many more as a window keeps
   module _ (at : ℕ) (window : List ℕ) (n : ℕ) (same : (i : ℕ) → i < 4 + n → get_or window i 0 ≡ get_or (behind_zeros bytes) (at + i) 0) where
     in_window : (from i j : ℕ) → at + j ≡ from + i → j < 4 + n → get_or window j 0 ≡ get_or (drop from (behind_zeros bytes)) i 0
@@ -152,6 +163,10 @@ pub ascii_is_utf8 : (bytes : List ℕ) (n : ℕ) → ((i : ℕ) → i < n → ge
 ascii_is_utf8 bytes n low h =
     let z : 0 + n ≡ n = omega arith in
     subst (λ m. IsUtf8 (take m bytes)) z (front_is_utf8 Utf8 bytes (0 + n) refl (more_ascii Utf8 bytes 0 n (omega (arith, h)) (λ i l. let y : i ≡ 0 + i = omega arith in subst (λ m. get_or bytes m 0 < 0x80) y (low i l)) (no_front Utf8 bytes)))
+
+-- what holds of so many bytes from an index on, at an index among them
+pub ascii_at : (bytes : List ℕ) (at n i : ℕ) → ((j : ℕ) → j < n → get_or bytes (at + j) 0 < 0x80) → at ≤ i → i < at + n → get_or bytes i 0 < 0x80
+ascii_at bytes at n i low h l = let z : at + (i - at) ≡ i = omega (arith, h) in subst (λ m. get_or bytes m 0 < 0x80) z (low (i - at) (omega (arith, h, l)))
 
 -- a window that was copied, with zeros around it
 pub before_bytes : (bytes : List ℕ) (m : ℕ) → m < 4 → get_or (behind_zeros bytes) m 0 ≡ 0

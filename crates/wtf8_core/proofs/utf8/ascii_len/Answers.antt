@@ -7,13 +7,9 @@ returns-then-near-lt-STEP-clause-text c =
     let near = c.if-near-lt-STEP.true in
     ascii_is_utf8 c.args.bytes.now c.ascii_of_16-near.result (λ i h. c.ascii_of_16-near.ensures.ascii i h (omega (arith, h, near))) (omega (arith, near, c.requires))
 
-pub returns-then-bytes-lt-BLOCK-clause-text : goal.returns-then-bytes-lt-BLOCK-clause-text
-returns-then-bytes-lt-BLOCK-clause-text c =
-    ascii_is_utf8 c.args.bytes.now 16 (λ i h. c.ascii_of_16-near.ensures.ascii i (omega (arith, h, c.if-near-lt-STEP.false)) h) c.requires
-
-pub returns-else-bytes-lt-BLOCK-clause-text : goal.returns-else-bytes-lt-BLOCK-clause-text
-returns-else-bytes-lt-BLOCK-clause-text c =
+pub returns-else-near-lt-STEP-clause-text : goal.returns-else-near-lt-STEP-clause-text
+returns-else-near-lt-STEP-clause-text c =
     let at = c.ascii_before.ensures in
     ascii_is_utf8 c.args.bytes.now c.ascii_before.result (λ i h.
     let e : 0 + i ≡ i = omega arith in
-    subst (λ k. get_or c.args.bytes.now k 0 < 0x80) e (subst (λ x. x < 0x80) (c.load.ensures i (omega (arith, h, at.within))) (at.ascii i h))) (omega (arith, at.within, c.if-bytes-lt-BLOCK.false))
+    subst (λ k. get_or c.args.bytes.now k 0 < 0x80) e (subst (λ x. x < 0x80) (c.load.ensures i (omega (arith, h, at.within))) (at.ascii i h))) (omega (arith, at.within, c.requires))

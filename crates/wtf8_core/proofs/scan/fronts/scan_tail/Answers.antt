@@ -1,5 +1,5 @@
-use Rattle.wtf8_core.proofs.Common.{◌+◌, length, arith, get_or_past}
-use Rattle.wtf8_core.proofs.lemmas.scan.Windows.{by_pattern}
+use Rattle.wtf8_core.proofs.Common.{◌+◌, length, arith, refl, get_or_past}
+use Rattle.wtf8_core.proofs.lemmas.scan.Windows.{by_pattern, ascii_to_end}
 use Rattle.wtf8_core.proofs.scan.fronts.scan_tail.Goals as goal
 
 pub returns-then-kept-bytes-clause-front : goal.returns-then-kept-bytes-clause-front
@@ -7,3 +7,7 @@ returns-then-kept-bytes-clause-front c =
     let bytes = c.args.bytes.now in
     by_pattern c.args.encoding bytes (length bytes) (c.args.at + c.window_len-kept.result) (omega arith) (omega (arith, c.if-kept-bytes.true)) (c.window_len-kept.ensures.kept c.requires.kept)
     (λ h. omega (arith, h.0, get_or_past bytes (length bytes) 0 (omega arith)))
+
+pub returns-then-ends_with_ascii-clause-front : goal.returns-then-ends_with_ascii-clause-front
+returns-then-ends_with_ascii-clause-front c =
+    ascii_to_end c.args.encoding c.args.bytes.now c.args.at c.requires.from c.requires.short (c.if-ends_with_ascii.ensures refl) c.requires.kept
