@@ -44,6 +44,7 @@ pub use Rattle.platform_str.specs.declared.platform.Unix
 pub use Rattle.platform_str.specs.declared.platform.Wasm
 pub use Rattle.platform_str.specs.declared.platform.Windows
 pub use Rattle.os_str_ext.specs.Chunks as StringChunks
+pub use Rattle.os_str_ext.specs.Cuts as StringCuts
 pub use Rattle.os_str_ext.specs.Parts
 pub use Rattle.os_str_ext.specs.Range
 pub use Rattle.os_str_ext.specs.Symbols

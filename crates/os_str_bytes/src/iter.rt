@@ -34,11 +34,32 @@ impl<'a, E: Platform, P: Pattern, D: Direction> Model for RawPieces<'a, E, P, D>
 
 impl<'a, E: Platform, P: Pattern, D: Direction> RawPieces<'a, E, P, D> {
     ghost use Rattle.std.specs.Prelude.{◌≡◌};
+    ghost use Rattle.os_str_ext.specs.Cuts.{AreOfRest};
+    ghost use Rattle.os_str_bytes.specs.Raw.{raw_bytes};
 
     pub(crate) fn new(pieces: Pieces<'a, E, P, D>) -> Self
         ensures { result ≡ pieces.entry }
     {
         RawPieces { pieces }
+    }
+
+    /// The rest of the raw string, whose pieces are left, or `None` once all pieces were given
+    /// ([`Pieces::rest`] as a raw string).
+    ///
+    /// ```
+    /// use os_str_bytes::{RawOsStr, Unix};
+    ///
+    /// let mut pieces = RawOsStr::<Unix>::from_str("foobar").split("o");
+    /// assert!(rt; pieces.next() == Some(RawOsStr::from_str("f")));
+    /// assert!(rt; pieces.rest() == Some(RawOsStr::from_str("obar")));
+    /// ```
+    pub fn rest(&self) -> Option<RawOsStr<'a, E>>
+        ensures { AreOfRest D.cuts raw_bytes result self.now }
+    {
+        match self.pieces.rest() {
+            Some(rest) => Some(RawOsStr::new(rest)),
+            None => None,
+        }
     }
 }
 

@@ -15,4 +15,5 @@ pub mod Runs
 pub mod CutUnits
 pub mod SymbolSteps
 pub mod EdgeCharacters
+pub mod FirstItem
 pub mod SymbolBytes

@@ -1,5 +1,5 @@
 -- The first and the last character of a string, each with the rest of the string (std's `str` has the first by `chars`).
-use Rattle.std.specs.Prelude.{◌≡◌, ◌-◌, ◌≤◌, ℕ, List, ◌++◌, length, Option, MatchOption}
+use Rattle.std.specs.Prelude.{◌≡◌, ◌+◌, ◌-◌, ◌≤◌, ℕ, List, ◌++◌, length, take, Option, MatchOption}
 use Rattle.std.specs.Char.{IsScalar, encode_utf8}
 use Rattle.wtf8_core.specs.Character.{WholeCharacter}
 use Rattle.wtf8_core.specs.CodePoint.{encode}
@@ -20,6 +20,10 @@ SplitsLastChar of s r = MatchOption r (EndsBare s) (λ parts. s ≡ of parts.1 +
 -- r is the length of the whole character that ends in s at i, or None if none ends there
 abbrev pub IsCharacterBefore : List ℕ → ℕ → Option ℕ → Type 0
 IsCharacterBefore s i r = MatchOption r ((k : ℕ) → ¬ (WholeCharacter s k i)) (λ n. (n ≤ i) × WholeCharacter s (i - n) i)
+
+-- c is the first character of s, and has n bytes
+abbrev pub IsFirstChar : List ℕ → ℕ → ℕ → Type 0
+IsFirstChar s c n = WholeCharacter s 0 (0 + n) × (take n s ≡ encode_utf8 c)
 
 -- the bytes are those of one character
 pub record IsOneCharacter (s : List ℕ) : Type 0 where

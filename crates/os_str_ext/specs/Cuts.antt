@@ -1,5 +1,5 @@
 -- How a string is cut into pieces, from its start and from its end: what one cut is, and the pieces that are left.
-use Rattle.std.specs.Prelude.{◌≡◌, ℕ, ◌<◌, List, [], length, Option, None, Some}
+use Rattle.std.specs.Prelude.{◌≡◌, ℕ, ◌<◌, List, [], length, Option, None, Some, MatchOption}
 use Rattle.wtf8_core.specs.Standing.{StandsNowhere, IsFirstPlace, IsLastPlace}
 use Rattle.wtf8_core.specs.Pieces.{SplitsAt, FallsInto}
 
@@ -14,6 +14,10 @@ LastCut p s piece rest = SplitsAt IsLastPlace p s rest piece
 -- the pieces of s: those that cuts take off, one after the other, and at last the rest that can't be cut
 abbrev pub ArePieces : (List ℕ → List ℕ → List ℕ → List ℕ → Type 0) → List ℕ → List ℕ → List (List ℕ) → Type 0
 ArePieces Cuts p = FallsInto (λ s piece rest. Cuts p s piece rest) (StandsNowhere p)
+
+-- these are the pieces of the rest of a string, by some pattern that isn't empty; there are none if there is no rest. `of` gives the bytes of the rest
+abbrev pub AreOfRest : {T : Type 0} → (List ℕ → List ℕ → List ℕ → List ℕ → Type 0) → (T → List ℕ) → Option T → List (List ℕ) → Type 0
+AreOfRest Cuts of rest pieces = MatchOption rest (pieces ≡ []) (λ s. (p : List ℕ) × (0 < length p) × ArePieces Cuts p (of s) pieces)
 
 -- for each pattern and each string a list, which has the string's pieces if the pattern isn't empty
 abbrev pub PiecesOf : (List ℕ → List ℕ → List ℕ → List ℕ → Type 0) → Type 0

@@ -1,10 +1,10 @@
 -- A string as symbols, from the first on: the characters of its texts and the units of its parts (this project's own words).
-use Rattle.std.specs.Prelude.{◌≡◌, ◌-◌, ◌<◌, ℕ, pos, List, ◌++◌, map, length, take}
+use Rattle.std.specs.Prelude.{◌≡◌, ◌<◌, ℕ, pos, List, ◌++◌, map}
 use Rattle.std.specs.Char.{encode_utf8}
 use Rattle.std.specs.Hash.{HashWrites}
 use Rattle.std.specs.Hash as fed
 use Rattle.std.specs.List.{flat_map}
-use Rattle.std.specs.Str.{IsUtf8, chars}
+use Rattle.std.specs.Str.{chars}
 use Rattle.wtf8_core.specs.Chunks.{Chunk, AreChunks}
 use Rattle.wtf8_core.specs.PartUnits.{unit_bytes}
 use Rattle.os_str_ext.specs.Chunks.{chunks_of, IsFirstChunk}
@@ -48,8 +48,3 @@ symbols_of units s = chunks_symbols units (chunks_of s)
 -- the first n bytes of s are the part of its first chunk, or n is 0
 abbrev pub IsKnownPart : List ℕ → ℕ → Type 0
 IsKnownPart s n = 0 < n → (e : ℕ) × IsFirstChunk s n e
-
--- what is known of s: its bytes are a text but for the last `after_text`, and which bytes are the part of its first chunk
-pub record AreKnown (s : List ℕ) (after_text part : ℕ) : Type 0 where
-  pub text : IsUtf8 (take (length s - after_text) s)
-  pub part_is : IsKnownPart s part

@@ -1,14 +1,15 @@
 //! The first and the last character of a string.
-ghost use Rattle.std.specs.Prelude.{◌≡◌, ◌-◌, ◌++◌, IfSome, length, take};
-ghost use Rattle.std.specs.Char.{IsScalar, encode_utf8};
-ghost use Rattle.std.specs.Str.{IsUtf8};
-ghost use Rattle.wtf8_core.specs.Character.{IsCharacterAt};
+ghost use Rattle.std.specs.Prelude.{◌≡◌, ◌+◌, ◌++◌, IfSome, MatchOption};
+ghost use Rattle.std.specs.Char.{encode_utf8};
+ghost use Rattle.wtf8_core.specs.Byte.{needed_continuations};
+ghost use Rattle.wtf8_core.specs.Covered.{StartsWithNoCharacter};
 ghost use Rattle.platform_str.specs.Strings.{bytes};
-ghost use Rattle.os_str_ext.specs.Characters.{IsOneCharacter, SplitsFirstChar, SplitsLastChar};
+ghost use Rattle.os_str_ext.specs.Characters.{IsFirstChar, IsOneCharacter};
+ghost use Rattle.os_str_ext.specs.Characters.{SplitsFirstChar, SplitsLastChar};
 
 use crate::boundary::{char_before, split_at};
 use platform_str::{OsStr, Platform};
-use wtf8_core::char_at;
+use wtf8_core::CodePoints;
 
 /// The character with which a string begins, and the rest of the string.
 #[inline(always)]
@@ -19,43 +20,11 @@ pub(crate) fn split_first_char<'a, E: Platform>(
     ensures units { IfSome result (λ parts. E.units (bytes string.entry)
         ≡ E.units (encode_utf8 parts.0) ++ E.units (bytes parts.1)) }
 {
-    let Some(size) = first_len(string.as_encoded_bytes()) else {
+    let Some((character, size)) = first_char(string.as_encoded_bytes()) else {
         return None;
     };
-    let (first, rest) = split_at(string, size);
-    Some((only_char(first.as_encoded_bytes()), rest))
-}
-
-/// The character with which a string begins, and the rest of the string, if that is known without
-/// looking for it: it is ASCII, or the string begins with a text. The bytes of the string are a
-/// text but for the last `after_text`.
-#[inline(always)]
-pub(crate) fn split_known_char<'a, E: Platform>(
-    string: OsStr<'a, E>,
-    after_text: usize,
-) -> Option<(char, OsStr<'a, E>)>
-    requires { IsUtf8 (take (length (bytes string) - after_text) (bytes string)) }
-    ensures { IfSome result (λ parts. IsScalar parts.0
-        × (bytes string.entry ≡ encode_utf8 parts.0 ++ bytes parts.1)) }
-{
-    let bytes = string.as_encoded_bytes();
-    let Some((first, rest)) = bytes.split_first() else {
-        return None;
-    };
-    if *first < 0x80 {
-        return Some((
-            char::from(*first),
-            OsStr::from_encoded_bytes_unchecked(rest),
-        ));
-    }
-    if bytes.len() <= after_text {
-        return None;
-    }
-    let (text, _) = bytes.split_at(bytes.len() - after_text);
-    let mut characters = unsafe { str::from_utf8_unchecked(text) }.chars();
-    let character = characters.next().unwrap();
-    let (_, rest) = bytes.split_at(text.len() - characters.as_str().len());
-    Some((character, OsStr::from_encoded_bytes_unchecked(rest)))
+    let (_, rest) = split_at(string, size);
+    Some((character, rest))
 }
 
 /// The character with which a string ends, and the rest of the string.
@@ -73,18 +42,40 @@ pub(crate) fn split_last_char<'a, E: Platform>(string: OsStr<'a, E>) -> Option<(
     Some((only_char(last.as_encoded_bytes()), rest))
 }
 
-/// The length of the character with which the bytes begin.
+/// The character with which the bytes begin, and its length in bytes.
 #[inline(always)]
-fn first_len(bytes: &[u8]) -> Option<usize>
-    ensures { IsCharacterAt bytes.now 0 result }
+fn first_char(bytes: &[u8]) -> Option<(char, usize)>
+    ensures { MatchOption result (StartsWithNoCharacter bytes.now)
+        (λ first. IsFirstChar bytes.now first.0 first.1) }
 {
     let Some((first, _)) = bytes.split_first() else {
         return None;
     };
     if *first < 0x80 {
-        return Some(1);
+        return Some((char::from(*first), 1));
     }
-    char_at(bytes, 0)
+    match CodePoints::new(bytes).next() {
+        Some(Ok(code_point)) => {
+            let character = char::from_u32(code_point)?;
+            Some((character, len_by_lead(*first)))
+        }
+        Some(Err(_)) => None,
+        None => None,
+    }
+}
+
+/// The length in bytes of a form that begins with this byte, which isn't ASCII.
+#[inline(always)]
+fn len_by_lead(lead: u8) -> usize
+    ensures { result ≡ 1 + needed_continuations lead }
+{
+    if lead < 0xE0 {
+        2
+    } else if lead < 0xF0 {
+        3
+    } else {
+        4
+    }
 }
 
 /// The character whose form the bytes are.

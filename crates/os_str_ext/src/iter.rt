@@ -6,7 +6,8 @@ ghost use Rattle.std.specs.Str.{IsUtf8};
 ghost use Rattle.wtf8_core.specs.Standing.{StandsNowhere};
 ghost use Rattle.wtf8_core.specs.Pieces.{IsSplit, IsRSplit, Splits};
 ghost use Rattle.platform_str.specs.Strings.{bytes};
-ghost use Rattle.os_str_ext.specs.Cuts.{FirstCut, LastCut, ArePieces, PiecesOf, CutLaws, pieces_left};
+ghost use Rattle.os_str_ext.specs.Cuts.{FirstCut, LastCut, ArePieces, AreOfRest};
+ghost use Rattle.os_str_ext.specs.Cuts.{PiecesOf, CutLaws, pieces_left};
 ghost use Rattle.os_str_ext.specs.SomePieces.{pieces_from_start, pieces_from_end, cuts_from_start, cuts_from_end};
 
 use crate::parts::{rsplit_once, split_once};
@@ -122,6 +123,24 @@ impl<'a, E: Platform, P: Pattern, D: Direction> Pieces<'a, E, P, D> {
             pattern: pattern.encode(),
             direction: PhantomData,
         }
+    }
+
+    /// The rest of the string, whose pieces are left, or `None` once all pieces were given (std's
+    /// `str::Split::remainder`). It borrows from the original string and doesn't allocate.
+    ///
+    /// ```
+    /// use os_str_bytes::{OsStr, OsStrBytesExt, Unix};
+    ///
+    /// let mut pieces = OsStr::<Unix>::new("PATH=a=b").split("=");
+    /// assert!(rt; pieces.next() == Some(OsStr::new("PATH")));
+    /// assert!(rt; pieces.rest() == Some(OsStr::new("a=b")));
+    /// assert!(rt; pieces.next().is_some() && pieces.next().is_some());
+    /// assert!(rt; pieces.rest().is_none());
+    /// ```
+    pub fn rest(&self) -> Option<OsStr<'a, E>>
+        ensures { AreOfRest D.cuts bytes result self.now }
+    {
+        self.rest
     }
 }
 

@@ -1,18 +1,17 @@
 //! The symbols of a string: its whole characters, and the units of what isn't text.
-ghost use Rattle.std.specs.Prelude.{◌≡◌, ◌∷◌, [], ◌<◌, ◌≤◌, ℕ, length, take, MatchOption};
+ghost use Rattle.std.specs.Prelude.{◌≡◌, ◌∷◌, [], ◌<◌, ℕ, length, MatchOption};
 ghost use Rattle.std.specs.Iterator.{YieldsFirst, item_count};
-ghost use Rattle.std.specs.Str.{IsUtf8};
 ghost use Rattle.wtf8_core.specs.Covered.{StartsWithNoCharacter};
 ghost use Rattle.platform_str.specs.Strings.{bytes};
 ghost use Rattle.os_str_ext.specs.Chunks.{IsFirstChunk};
-ghost use Rattle.os_str_ext.specs.Symbols.{AreSymbols, AreKnown, IsKnownPart, symbols_of};
+ghost use Rattle.os_str_ext.specs.Symbols.{AreSymbols, IsKnownPart, symbols_of};
 
-use crate::characters::{split_first_char, split_known_char};
+use crate::characters::split_first_char;
 use crate::os_units::OsUnit;
 use platform_str::{OsStr, Platform};
 use std::alloc::AllocError;
 use std::marker::Model;
-use wtf8_core::{char_at, utf8_fault};
+use wtf8_core::char_at;
 
 /// One element of a string: a whole character, or a unit of what isn't text.
 ///
@@ -34,8 +33,6 @@ pub enum Symbol {
 #[derive(Drop)]
 pub struct Symbols<'a, E: Platform + 'a> {
     rest: OsStr<'a, E>,
-    // The bytes of the rest are a text but for the last `after_text`.
-    after_text: usize,
     // The length of the part at the start of the rest, or 0 if it isn't known.
     part: usize,
 }
@@ -43,14 +40,14 @@ pub struct Symbols<'a, E: Platform + 'a> {
 impl<'a, E: Platform> Model for Symbols<'a, E> {
     ghost use Rattle.std.specs.Prelude.{List};
     ghost use Rattle.platform_str.specs.Strings.{bytes};
-    ghost use Rattle.os_str_ext.specs.Symbols.{AreKnown, symbols_of};
+    ghost use Rattle.os_str_ext.specs.Symbols.{IsKnownPart, symbols_of};
     ghost use Rattle.os_str_ext.specs.declared.symbols.Symbol.{Symbol};
 
     ghost Value = { List Symbol };
 
     ghost view = { λ it. symbols_of E.units (bytes it.rest) };
 
-    ghost invariant = { λ it. AreKnown (bytes it.rest) it.after_text it.part };
+    ghost invariant = { λ it. IsKnownPart (bytes it.rest) it.part };
 }
 
 impl<'a, E: Platform> Clone for Symbols<'a, E> {
@@ -61,7 +58,6 @@ impl<'a, E: Platform> Clone for Symbols<'a, E> {
     fn clone(&self) -> Result<Self, AllocError> {
         Ok(Symbols {
             rest: self.rest,
-            after_text: self.after_text,
             part: self.part,
         })
     }
@@ -76,7 +72,6 @@ impl<'a, E: Platform> Symbols<'a, E> {
     {
         Symbols {
             rest: string,
-            after_text: string.len(),
             part: 0,
         }
     }
@@ -109,7 +104,7 @@ impl<'a, E: Platform> Iterator for Symbols<'a, E> {
 
     #[inline(always)]
     fn next(&mut self) -> Option<Symbol> {
-        let Some((symbol, rest)) = first_symbol(self.rest, self.after_text, self.part) else {
+        let Some((symbol, rest)) = first_symbol(self.rest, self.part) else {
             return None;
         };
         *self = rest;
@@ -121,64 +116,19 @@ impl<'a, E: Platform> Iterator for Symbols<'a, E> {
 #[inline(always)]
 fn first_symbol<'a, E: Platform>(
     string: OsStr<'a, E>,
-    after_text: usize,
     part: usize,
 ) -> Option<(Symbol, Symbols<'a, E>)>
-    requires { AreKnown (bytes string) after_text part }
+    requires { IsKnownPart (bytes string) part }
     ensures { MatchOption result (symbols_of E.units (bytes string.entry) ≡ [])
         (λ first. symbols_of E.units (bytes string.entry) ≡ first.0 ∷ first.1) }
 {
-    if let Some((character, rest)) = split_known_char(string, after_text) {
-        let symbols = Symbols {
-            rest,
-            after_text,
-            part,
-        };
-        return Some((Symbol::Character(character), symbols));
+    if let Some((character, rest)) = split_first_char(string) {
+        return Some((Symbol::Character(character), Symbols { rest, part }));
     }
     if string.is_empty() {
         return None;
     }
-    Some(first_of_unknown(string, part))
-}
-
-/// The same for a string that isn't empty and doesn't begin with a known text.
-#[inline(always)]
-fn first_of_unknown<'a, E: Platform>(string: OsStr<'a, E>, part: usize) -> (Symbol, Symbols<'a, E>)
-    requires some { 0 < length (bytes string) }
-    requires part { IsKnownPart (bytes string) part }
-    ensures { symbols_of E.units (bytes string.entry) ≡ result.0 ∷ result.1 }
-{
-    match split_first_char(string) {
-        Some((character, rest)) => (Symbol::Character(character), after_character(rest)),
-        None => first_of_part(string, part),
-    }
-}
-
-/// The symbols of a string, with the text with which it begins known.
-#[inline(always)]
-fn after_character<'a, E: Platform>(string: OsStr<'a, E>) -> Symbols<'a, E>
-    ensures { result ≡ symbols_of E.units (bytes string.entry) }
-{
-    let bytes = string.as_encoded_bytes();
-    Symbols {
-        rest: string,
-        after_text: bytes.len() - text_len(bytes),
-        part: 0,
-    }
-}
-
-/// The length of the text with which the bytes begin.
-#[cold]
-#[inline(never)]
-fn text_len(bytes: &[u8]) -> usize
-    ensures within { result ≤ length bytes.now }
-    ensures text { IsUtf8 (take result bytes.now) }
-{
-    match utf8_fault(bytes) {
-        Some((valid_up_to, _)) => valid_up_to,
-        None => bytes.len(),
-    }
+    Some(first_of_part(string, part))
 }
 
 /// The first symbol and those after it if the string begins with a unit.
@@ -196,7 +146,6 @@ fn first_of_part<'a, E: Platform>(string: OsStr<'a, E>, known: usize) -> (Symbol
     let (_, rest) = bytes.split_at(size);
     let symbols = Symbols {
         rest: OsStr::from_encoded_bytes_unchecked(rest),
-        after_text: rest.len(),
         part: len - size,
     };
     (Symbol::Unit(OsUnit { number }), symbols)

@@ -1,11 +1,13 @@
 //! Pieces: what splits give.
-ghost use Rattle.std.specs.Prelude.{◌≡◌, [], ◌∷◌, ◌+◌, ◌<◌, ℕ, List, length, map, reverse};
+ghost use Rattle.std.specs.Prelude.{◌≡◌, ◌↔◌, [], ◌∷◌, ◌+◌, ◌<◌, ℕ, List, length, map, reverse};
+ghost use Rattle.std.specs.Prelude.{IsSomeAnd, IsTrue};
 ghost use Rattle.std.specs.List.{All, join_by};
 ghost use Rattle.wtf8_core.specs.Standing.{StandsNowhere};
 ghost use Rattle.platform_str.specs.Strings.{bytes};
 ghost use Rattle.test_uses.specs.Matches.{AreMatches};
 
-use os_str_ext::{OsStrBytesExt, RSplit, Split};
+use os_str_bytes::RawSplit;
+use os_str_ext::{OsStrBytesExt, Pattern, RSplit, Split};
 use platform_str::{OsStr, Platform};
 
 /// The pieces of a string in which a pattern doesn't occur: the string alone.
@@ -27,6 +29,34 @@ pub fn uncut_from_the_end<'a, E: Platform + 'a>(
     ensures { result ≡ bytes string.entry ∷ [] }
 {
     string.rsplit(text)
+}
+
+/// The rest of a string in which a pattern doesn't occur, before its one piece was given: the string.
+pub fn uncut_rest<'a, E: Platform + 'a>(string: OsStr<'a, E>, text: &'a str) -> Option<OsStr<'a, E>>
+    requires some { 0 < length text.now }
+    requires nowhere { StandsNowhere text.now (bytes string) }
+    ensures { IsSomeAnd result (λ rest. bytes rest ≡ bytes string.entry) }
+{
+    uncut(string, text).rest()
+}
+
+/// The same from the end.
+pub fn uncut_rest_from_the_end<'a, E: Platform + 'a>(
+    string: OsStr<'a, E>,
+    text: &'a str,
+) -> Option<OsStr<'a, E>>
+    requires some { 0 < length text.now }
+    requires nowhere { StandsNowhere text.now (bytes string) }
+    ensures { IsSomeAnd result (λ rest. bytes rest ≡ bytes string.entry) }
+{
+    uncut_from_the_end(string, text).rest()
+}
+
+/// Whether pieces of a raw string are left, by what is left of the string.
+pub fn has_pieces_left<'a, E: Platform + 'a, P: Pattern>(pieces: &RawSplit<'a, E, P>) -> bool
+    ensures { IsTrue result ↔ (0 < length pieces.now) }
+{
+    pieces.rest().is_some()
 }
 
 /// The pieces of a string, which with the pattern between them are the string, in bytes and in units.

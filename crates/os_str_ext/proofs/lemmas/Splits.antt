@@ -1,9 +1,10 @@
 -- A string has one list of pieces, and a cut takes the first of them off.
-use Rattle.std.proofs.Common.{◌≡◌, ℕ, ◌<◌, List, [], ◌∷◌, length, Some, refl, sym, ap, subst, ◌∙◌, arith}
+use Rattle.std.proofs.Common.{◌≡◌, ℕ, ◌<◌, List, [], ◌∷◌, length, Option, None, Some, refl, sym, ap, subst, ◌∙◌, arith}
 use Rattle.std.specs.Iterator.{MakesProgress, item_count}
+use Rattle.std.specs.Option.{option_map}
 use Rattle.wtf8_core.specs.Standing.{StandsNowhere}
 use Rattle.wtf8_core.specs.Pieces.FallsInto.{whole, cut}
-use Rattle.os_str_ext.specs.Cuts.{ArePieces, PiecesOf, CutLaws}
+use Rattle.os_str_ext.specs.Cuts.{ArePieces, AreOfRest, PiecesOf, CutLaws, pieces_left}
 
 module _ (Cuts : List ℕ → List ℕ → List ℕ → List ℕ → Type 0) (laws : CutLaws Cuts) (p : List ℕ) where
   one_list : (s : List ℕ) (qs rs : List (List ℕ)) → ArePieces Cuts p s qs → ArePieces Cuts p s rs → qs ≡ rs
@@ -21,6 +22,12 @@ module _ (Cuts : List ℕ → List ℕ → List ℕ → List ℕ → Type 0) (la
 
     pub pieces_whole : (s : List ℕ) → StandsNowhere p s → (pieces_of p s).0 ≡ s ∷ []
     pieces_whole s n = one_list s _ _ ((pieces_of p s).1 some) (whole n)
+
+-- the pieces left are those of the rest
+pub pieces_of_rest : {T : Type 0} (Cuts : List ℕ → List ℕ → List ℕ → List ℕ → Type 0) (pieces_of : PiecesOf Cuts) (p : List ℕ) → 0 < length p → (of : T → List ℕ) (rest : Option T)
+    → AreOfRest Cuts of rest (pieces_left pieces_of p (option_map of rest))
+pieces_of_rest Cuts pieces_of p some of None = refl
+pieces_of_rest Cuts pieces_of p some of (Some s) = (p, some, (pieces_of p (of s)).1 some)
 
 -- a call of `next` that gave the first piece left makes progress
 pub first_piece_goes : {A : Type 0} (can : List (List ℕ) → Type 0) → ((l : List (List ℕ)) → can l) → (s t : List (List ℕ)) (x : A) (v : List ℕ) → s ≡ v ∷ t

@@ -2,7 +2,7 @@
 use Rattle.std.proofs.Common.{◌≡◌, ⊎_elim, ℕ, ◌+◌, ◌-◌, ◌<◌, ◌≤◌, List, [], ◌∷◌, ◌++◌, map, length, take, drop, refl, sym, ap, ◌∙◌, subst, arith, append_assoc, append-nil, length-append, length-drop, take-append-drop, drop-drop}
 use Rattle.std.proofs.lemmas.Bool.{cases_lt, cases_eq}
 use Rattle.std.proofs.lemmas.List.{length-take-le, take-take, drop-take, drop_at, take_at}
-use Rattle.std.proofs.lemmas.Str.{IsUtf8-nil, IsUtf8-past_char, encode_same, chars-nil, chars_past_char}
+use Rattle.std.proofs.lemmas.Str.{IsUtf8-past_char, encode_same, chars-nil, chars_past_char}
 use Rattle.std.specs.Char.{IsScalar, encode_utf8}
 use Rattle.std.specs.Str.{IsUtf8, chars, encode_utf8_all}
 use Rattle.wtf8_core.specs.Character.{WholeCharacter}
@@ -14,7 +14,7 @@ use Rattle.wtf8_core.proofs.lemmas.characters.Seams.{covered_within, whole_withi
 use Rattle.wtf8_core.proofs.lemmas.forms.ByStd.{form_encode}
 use Rattle.platform_str.specs.Laws.{IsFirstUnit}
 use Rattle.os_str_ext.specs.Chunks.{IsBareUpTo, IsFirstChunk}
-use Rattle.os_str_ext.specs.Symbols.{AreKnown, IsKnownPart, chunks_symbols, symbols_of, unit_symbol}
+use Rattle.os_str_ext.specs.Symbols.{IsKnownPart, chunks_symbols, symbols_of, unit_symbol}
 use Rattle.os_str_ext.specs.declared.symbols.Symbol.TheVariants.{Character}
 use Rattle.os_str_ext.proofs.lemmas.EachChunk.{text_end}
 use Rattle.os_str_ext.proofs.lemmas.FirstChunk.{first_and_rest, first_of_parts, no_chunks}
@@ -67,14 +67,6 @@ module _ (s : List ℕ) (m e n : ℕ) (h : IsFirstChunk s m e) (within : n ≤ e
         some = λ l. ⊎_elim (λ below. omega (arith, h.some below)) (λ past. absurd (omega (arith, l, past))) (cases_lt m (length s));
         ended = λ l c. h.ended (omega (arith, l)) (subst (IsCovered s) z (covered (e - n) c));
       }
-
--- what is known where nothing is known but the part
-pub known_part : (s : List ℕ) (part : ℕ) → IsKnownPart s part → AreKnown s (length s) part
-known_part s part h = let none : length s - length s ≡ 0 = omega arith in record { text = subst (λ i. IsUtf8 (take i s)) (sym none) IsUtf8-nil; part_is = h }
-
--- what is known where a text is known
-pub known_text : (s : List ℕ) (n : ℕ) → n ≤ length s → IsUtf8 (take n s) → AreKnown s (length s - n) 0
-known_text s n within text = let all : length s - (length s - n) ≡ n = omega (arith, within) in record { text = subst (λ i. IsUtf8 (take i s)) (sym all) text; part_is = λ lt. absurd (omega (arith, lt)) }
 
 -- a part ends where a character begins
 pub part_before_character : (s : List ℕ) (i j : ℕ) → IsBareUpTo s i → WholeCharacter s i j → (e : ℕ) × IsFirstChunk s i e
@@ -159,26 +151,11 @@ module _ (s rest : List ℕ) (c : ℕ) (scalar : IsScalar c) (is : s ≡ encode_
             rest_is = sym same.1;
           }
 
-  -- the known text goes on
-  text_left : (after_text : ℕ) → IsUtf8 (take (length s - after_text) s) → IsUtf8 (take (length rest - after_text) rest)
-  text_left after_text u =
-      let size = ap length is ∙ length-append (encode_utf8 c) rest in
-      ⊎_elim
-      (λ lt.
-      let k = length s - after_text in
-      let b = begins_text k (omega (arith, lt)) (omega arith) u in
-      let long = ap length b.rest_is ∙ length-append b.left (drop k s) in
-      let n : length b.left ≡ length rest - after_text = omega (arith, long, length-drop k s, lt) in
-      subst (λ r. IsUtf8 (take (length rest - after_text) r)) (sym b.rest_is) (subst IsUtf8 (sym (take_at b.left (drop k s) (length rest - after_text) n)) b.utf8))
-      (λ ge. let z : length rest - after_text ≡ 0 = omega (arith, ge, size) in subst (λ i. IsUtf8 (take i rest)) (sym z) IsUtf8-nil) (cases_lt after_text (length s))
-
-  pub known_behind_character : (after_text part : ℕ) → AreKnown s after_text part → AreKnown rest after_text part
-  known_behind_character after_text part known = record {
-    text = text_left after_text known.text;
-    part_is = λ lt.
-        let f = character_fits s 0 (0 + length (encode c)) starts in
-        absurd ((known.part_is lt).1.bare 0 lt (record { start = 0; end = 0 + length (encode c); whole = starts; from = omega arith; below = omega (arith, f) }));
-  }
+  -- so it doesn't begin with a part
+  pub known_behind_character : (part : ℕ) → IsKnownPart s part → IsKnownPart rest part
+  known_behind_character part known lt =
+      let f = character_fits s 0 (0 + length (encode c)) starts in
+      absurd ((known lt).1.bare 0 lt (record { start = 0; end = 0 + length (encode c); whole = starts; from = omega arith; below = omega (arith, f) }))
 
   pub symbols_by_character : (units : List ℕ → List ℕ) → units [] ≡ [] → symbols_of units s ≡ Character c ∷ symbols_of units rest
   symbols_by_character units none =

@@ -2,9 +2,9 @@ use Rattle.std.proofs.Common.{◌∙◌, ◌-◌, ◌<◌, ◌∷◌, ap, length
 use Rattle.wtf8_core.specs.Covered.{StartsWithNoCharacter}
 use Rattle.wtf8_core.proofs.lemmas.standing.Places.{no_units}
 use Rattle.platform_str.specs.Laws.{IsFirstUnit}
-use Rattle.os_str_ext.specs.Symbols.{AreKnown, IsKnownPart, symbols_of, unit_symbol}
+use Rattle.os_str_ext.specs.Symbols.{IsKnownPart, symbols_of, unit_symbol}
 use Rattle.os_str_ext.proofs.lemmas.FirstChunk.{edges, part_is_bare}
-use Rattle.os_str_ext.proofs.lemmas.SymbolSteps.{known_part, part_behind_unit, symbols_by_unit, formed_behind_unit}
+use Rattle.os_str_ext.proofs.lemmas.SymbolSteps.{part_behind_unit, symbols_by_unit, formed_behind_unit}
 use Rattle.os_str_ext.proofs.symbols.first_of_part.Goals as goal
 
 pub part_len-len-requires-clause-bare : goal.part_len-len-requires-clause-bare
@@ -34,11 +34,10 @@ from_encoded_bytes_unchecked-requires g c =
 pub invariant_of-symbols : goal.invariant_of-symbols
 invariant_of-symbols g c =
     let s = c.as_encoded_bytes-bytes.result.now in
-    let rest = c.split_at-2.result.1.now in
     let part = c.part_len-len.result - c.first_unit-number.result.1 in
     let first = subst (λ p. IsFirstUnit g.E.Platform.well_formed g.E.Platform.units p c.first_unit-number.result.0 c.first_unit-number.result.1) c.split_at.ensures.front c.first_unit-number.ensures in
-    subst (λ x. AreKnown x (length rest) part) (sym c.from_encoded_bytes_unchecked.ensures)
-    (known_part rest part (subst (λ x. IsKnownPart x part) (sym c.split_at-2.ensures.back) (part_behind_unit g.E.Platform.well_formed g.E.Platform.units s _ _ _ _ c.part_len-len.ensures.part.1 first)))
+    subst (λ x. IsKnownPart x part) (sym c.from_encoded_bytes_unchecked.ensures)
+    (subst (λ x. IsKnownPart x part) (sym c.split_at-2.ensures.back) (part_behind_unit g.E.Platform.well_formed g.E.Platform.units s _ _ _ _ c.part_len-len.ensures.part.1 first))
 
 pub returns : goal.returns
 returns g c =

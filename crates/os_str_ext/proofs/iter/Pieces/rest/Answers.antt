@@ -1,0 +1,10 @@
+use Rattle.std.proofs.Common.{subst}
+use Rattle.platform_str.specs.Strings.{bytes}
+use Rattle.os_str_ext.specs.Cuts.{AreOfRest}
+use Rattle.os_str_ext.proofs.lemmas.Splits.{pieces_of_rest}
+use Rattle.os_str_ext.proofs.iter.Pieces.rest.Goals as goal
+
+pub returns : goal.returns
+returns g c =
+    let p = g.P.__Encoded.Encoded.text c.self.inside.pattern in
+    subst (AreOfRest g.D.Direction.cuts bytes c.self.inside.rest) c.self.view_is (pieces_of_rest g.D.Direction.cuts g.D.Direction.pieces p c.self.invariant bytes c.self.inside.rest)
