@@ -9,7 +9,9 @@ from ctypes import byref, c_int32, c_size_t, c_uint16
 from pathlib import Path
 
 from smoke import (
+    BAD_ESCAPE,
     FAULTY,
+    NO_STRING,
     NONE,
     OK,
     UNIX,
@@ -24,6 +26,7 @@ from smoke import (
     lossy,
     rsplit,
     split,
+    unescape,
 )
 
 PLATFORMS = {"unix": UNIX, "windows": WINDOWS, "wasm": WASM}
@@ -157,6 +160,11 @@ def quote(osb, platform, string, wanted):
     yield shown(escape(osb.osb_escape, PLATFORMS[platform], raw(string))), wanted
 
 
+def unquote(osb, platform, text, wanted):
+    status, answer = unescape(osb.osb_unescape, PLATFORMS[platform], raw(text))
+    yield {OK: f"ok {shown(answer)}" if status == OK else "", BAD_ESCAPE: f"bad {answer}", NO_STRING: "notcanonical"}[status], wanted
+
+
 FILES = {
     "windows_decode": decode,
     "windows_encode": encode,
@@ -167,6 +175,7 @@ FILES = {
     "windows_prefix": prefix,
     "windows_join": join,
     "quote": quote,
+    "unquote": unquote,
 }
 
 

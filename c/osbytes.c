@@ -50,6 +50,10 @@ uint32_t osb_core_escape(uint32_t platform, const char *at, size_t len, char *ou
                          size_t *count);
 uint32_t osb_core_escape_line(uint32_t platform, const char *at, size_t len, char *out, size_t room,
                               size_t *count);
+uint32_t osb_core_unescape(uint32_t platform, const char *escape, size_t len, char *out,
+                           size_t room, size_t *count, size_t *index);
+uint32_t osb_core_unescape_line(uint32_t platform, const char *escape, size_t len, char *out,
+                                size_t room, size_t *count, size_t *index);
 uint32_t osb_core_find(const char *at, size_t len, const char *pattern, size_t pattern_len,
                        size_t *index);
 uint32_t osb_core_rfind(const char *at, size_t len, const char *pattern, size_t pattern_len,
@@ -226,6 +230,37 @@ osb_status osb_escape(osb_platform platform, const char *at, size_t len, char *o
 osb_status osb_escape_line(osb_platform platform, const char *at, size_t len, char *out,
                            size_t room, size_t *count, osb_fault *fault) {
     return write_text(osb_core_escape_line, platform, at, len, out, room, count, fault);
+}
+
+/* An export that writes the string with an escape. */
+typedef uint32_t core_string(uint32_t platform, const char *escape, size_t len, char *out,
+                             size_t room, size_t *count, size_t *index);
+
+static osb_status write_string(core_string *call, osb_platform platform, const char *escape,
+                               size_t len, char *out, size_t room, size_t *count, size_t *index) {
+    size_t own = 0, own_index = 0;
+    if (count == NULL || is_bad(escape, len) || is_bad(out, room) ||
+        do_overlap(escape, len, out, room))
+        return OSB_BAD_POINTER;
+    osb_status status = call(platform, bytes(escape, len), len,
+                             room == 0 ? (char *)no_room : out, room, &own, &own_index);
+    if (status == OSB_OK || status == OSB_NO_ROOM) *count = own;
+    if (status == OSB_BAD_ESCAPE && index != NULL) *index = own_index;
+    return status;
+}
+
+size_t osb_unescape_bound(size_t len) {
+    return len;
+}
+
+osb_status osb_unescape(osb_platform platform, const char *escape, size_t len, char *out,
+                        size_t room, size_t *count, size_t *index) {
+    return write_string(osb_core_unescape, platform, escape, len, out, room, count, index);
+}
+
+osb_status osb_unescape_line(osb_platform platform, const char *escape, size_t len, char *out,
+                             size_t room, size_t *count, size_t *index) {
+    return write_string(osb_core_unescape_line, platform, escape, len, out, room, count, index);
 }
 
 osb_status osb_find(const char *at, size_t len, const char *pattern, size_t pattern_len,

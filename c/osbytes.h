@@ -52,9 +52,12 @@ enum {
     OSB_NO_ROOM = 2,       /* the buffer is too short: the count is what it needs */
     OSB_NONE = 3,          /* the pattern doesn't occur; the index is no boundary */
     OSB_ENDED = 4,         /* there are no more items */
+    OSB_BAD_ESCAPE = 5,    /* a backslash of an escape begins no token */
+    OSB_NO_STRING = 6,     /* no string of the platform has this escape */
     /* from 16 on: an argument is refused, and nothing was written */
     OSB_BAD_PLATFORM = 16, /* there is no such platform */
-    OSB_BAD_PATTERN = 17,  /* the pattern isn't UTF-8, or is empty where it may not be */
+    OSB_BAD_PATTERN = 17,  /* the pattern or the escape isn't UTF-8, or the pattern is empty where
+                            * it may not be */
     OSB_BAD_INDEX = 18,    /* the index is past the end */
     OSB_BAD_FAULT = 19,    /* there is no such fault */
     OSB_BAD_STATE = 20,    /* no call leaves a checker so */
@@ -149,6 +152,20 @@ osb_status osb_escape(osb_platform platform, const char *at, size_t len, char *o
  * controls, zero-width spaces and joiners, and tags are \uHHHH or \u{HHHHH}, too. */
 osb_status osb_escape_line(osb_platform platform, const char *at, size_t len, char *out,
                            size_t room, size_t *count, osb_fault *fault);
+
+/* How many bytes the string with an escape of so many bytes has at most: as many. */
+size_t osb_unescape_bound(size_t len);
+
+/* Writes the string that has this escape: OSB_OK, OSB_NO_ROOM, OSB_BAD_ESCAPE, OSB_NO_STRING,
+ * OSB_BAD_PATTERN, OSB_BAD_PLATFORM. With OSB_BAD_ESCAPE `*index` is the index of the first
+ * backslash that begins no token; `index` may be null. With OSB_NO_ROOM each backslash is in a
+ * token, but whether a string of the platform has this escape is known only where there is room
+ * for it: `*count` is the length of the one that may. */
+osb_status osb_unescape(osb_platform platform, const char *escape, size_t len, char *out,
+                        size_t room, size_t *count, size_t *index);
+/* The same of an escape on one line. */
+osb_status osb_unescape_line(osb_platform platform, const char *escape, size_t len, char *out,
+                             size_t room, size_t *count, size_t *index);
 
 /* The first and the last index at which a pattern, which is UTF-8, occurs in a string of any
  * platform: OSB_OK, OSB_NONE, OSB_BAD_PATTERN. The empty pattern occurs at 0 and at the end. */

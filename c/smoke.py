@@ -5,6 +5,7 @@ What it expects comes from Python's own codecs, searches and splits.
 """
 import ctypes
 import random
+import re
 import sys
 import unicodedata
 from ctypes import POINTER, Structure, byref, c_char_p, c_int32, c_size_t, c_uint16, c_uint32, c_void_p
@@ -47,7 +48,7 @@ class Symbol(Structure):
 
 UNIX, WINDOWS, WASM = range(3)
 CHARACTER, UNIT = 1, 2
-OK, FAULTY, NO_ROOM, NONE, ENDED = range(5)
+OK, FAULTY, NO_ROOM, NONE, ENDED, BAD_ESCAPE, NO_STRING = range(7)
 
 
 def load(name):
@@ -66,6 +67,8 @@ def load(name):
     osb.osb_from_wide.argtypes = [POINTER(c_uint16), c_size_t, c_char_p, c_size_t, POINTER(c_size_t)]
     osb.osb_lossy.argtypes = [c_uint32, c_char_p, c_size_t, c_char_p, c_size_t, POINTER(c_size_t), POINTER(Fault)]
     osb.osb_escape.argtypes = osb.osb_escape_line.argtypes = osb.osb_lossy.argtypes
+    osb.osb_unescape.argtypes = [c_uint32, c_char_p, c_size_t, c_char_p, c_size_t, POINTER(c_size_t), POINTER(c_size_t)]
+    osb.osb_unescape_line.argtypes = osb.osb_unescape.argtypes
     osb.osb_symbols_start.argtypes = [POINTER(Symbols), c_uint32, c_char_p, c_size_t, POINTER(Fault)]
     osb.osb_symbols_next.argtypes = [POINTER(Symbols), POINTER(Symbol)]
     osb.osb_contains.argtypes = [c_char_p, c_size_t, c_char_p, c_size_t]
@@ -160,6 +163,55 @@ def escape_by_python(platform, string, on_line):
     return "".join(map(written, text)).encode()
 
 
+def unescape(call, platform, escape):
+    """The status of an escape, and its string or the index of a backslash."""
+    room = len(escape)
+    out, length, index = ctypes.create_string_buffer(room + 1), c_size_t(), c_size_t()
+    status = call(platform, escape, len(escape), out, room, byref(length), byref(index))
+    return status, {OK: out.raw[: length.value], BAD_ESCAPE: index.value}.get(status)
+
+
+def unescape_by_python(platform, escape, on_line):
+    """The same, by Python's codecs: what an escape means, and whether that has this escape."""
+
+    def meaning(token):
+        if token[1] in "\\x":
+            return b"\\" if token[1] == "\\" else bytes.fromhex(token[2:])
+        return chr(int(token[2:].strip("{}"), 16)).encode("utf-8", "surrogatepass")
+
+    text, string, at = escape.decode(), b"", 0
+    long = r"|u\{(?:[1-9A-F]|10)[0-9A-F]{4}\}" if on_line else ""
+    token = re.compile(rf"\\(?:\\|x[0-9A-F]{{2}}|u[0-9A-F]{{4}}{long})")
+    while (slash := text.find("\\", at)) != -1:
+        found = token.match(text, slash)
+        if not found:
+            return BAD_ESCAPE, len(text[:slash].encode())
+        string += text[at:slash].encode() + meaning(found[0])
+        at = found.end()
+    string += text[at:].encode()
+    if platform == WINDOWS and not is_wtf8_by_python(string):
+        return NO_STRING, None
+    return (OK, string) if escape_by_python(platform, string, on_line) == escape else (NO_STRING, None)
+
+
+def is_wtf8_by_python(string):
+    """Python takes the halves of a pair too, which WTF-8 leaves to the four bytes."""
+    try:
+        wide = string.decode("utf-8", "surrogatepass").encode("utf-16-le", "surrogatepass")
+    except UnicodeDecodeError:
+        return False
+    return wide.decode("utf-16-le", "surrogatepass").encode("utf-8", "surrogatepass") == string
+
+
+def made_wrong(numbers, escape):
+    """An escape in which some characters are others."""
+    text = list(escape.decode())
+    for _ in range(numbers.randint(0, 2)):
+        at = numbers.randint(0, len(text))
+        text[at : at + numbers.randint(0, 2)] = numbers.choice(["", "\\", "\\x80", "\\uD800", "\\u{E0041}", "\n", "4", "}"])
+    return "".join(text).encode()
+
+
 def symbols(osb, platform, string):
     it, symbol, found = Symbols(), Symbol(), []
     assert osb.osb_symbols_start(byref(it), platform, string, len(string), None) == OK
@@ -217,6 +269,11 @@ def compare_more(osb, numbers, string, other, pattern):
     for platform in [UNIX, WINDOWS] if whole else [UNIX]:
         for call, on_line in [(osb.osb_escape, False), (osb.osb_escape_line, True)]:
             assert escape(call, platform, string) == escape_by_python(platform, string, on_line), string
+        for call, on_line in [(osb.osb_unescape, False), (osb.osb_unescape_line, True)]:
+            text = escape_by_python(platform, string, on_line)
+            assert unescape(call, platform, text) == (OK, string), text
+            text = made_wrong(numbers, text)
+            assert unescape(call, platform, text) == unescape_by_python(platform, text, on_line), text
         assert symbols(osb, platform, string) == list(symbols_by_python(platform, string)), string
     if whole:
         units = units_of(string)
@@ -258,14 +315,9 @@ def compare_random(osb, rows):
             assert status == FAULTY and fault.place == error.start, (string, fault.place, error)
             # A front of a character at the end is one part, which Python counts so too.
             assert fault.count == error.end - error.start, (string, fault.count, error)
-        try:
-            wide = string.decode("utf-8", "surrogatepass").encode("utf-16-le", "surrogatepass")
-            # Python takes the halves of a pair too, which WTF-8 leaves to the four bytes.
-            if wide.decode("utf-16-le", "surrogatepass").encode("utf-8", "surrogatepass") == string:
-                assert to_wide(osb, string) == wide, string
-            else:
-                assert osb.osb_check(WINDOWS, string, len(string), None) == FAULTY, string
-        except UnicodeDecodeError:
+        if is_wtf8_by_python(string):
+            assert to_wide(osb, string) == units_of(string), string
+        else:
             assert osb.osb_check(WINDOWS, string, len(string), None) == FAULTY, string
         pattern = numbers.choice([b",", b"a", b"ab", b"\xc3\xa9", b"\xf0\x9f\x98\x80"])
         place = c_size_t()

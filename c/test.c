@@ -499,9 +499,90 @@ static void escapes(void) {
     bad_escapes(line);
 }
 
+/* A call that writes the string with an escape. */
+typedef osb_status to_string(osb_platform, const char *, size_t, char *, size_t, size_t *, size_t *);
+
+/* The string with an escape, in every room. */
+static bool unescaped(to_string *unescape, osb_platform platform, const char *escape, size_t len,
+                      const char *string, size_t string_len) {
+    char out[64];
+    size_t count = 0, index = 7;
+    if (osb_unescape_bound(len) < string_len) return false;
+    for (size_t room = 0; room < string_len + 2; room++) {
+        size_t end = room < string_len ? room : string_len;
+        memset(out, 0x55, sizeof out);
+        osb_status status =
+            unescape(platform, escape, len, room == 0 ? NULL : out, room, &count, &index);
+        if (count != string_len || status != (end < string_len ? OSB_NO_ROOM : OSB_OK)) return false;
+        if (index != 7 || out[end] != 0x55) return false;
+        if (string_len > 0 && memcmp(out, string, end) != 0) return false;
+    }
+    return true;
+}
+
+/* An escape that isn't read: the index of the backslash, or 7 where each is in a token. */
+static bool unread(to_string *unescape, osb_platform platform, const char *escape, size_t len,
+                   osb_status wanted, size_t place) {
+    char out[64];
+    size_t count = 9, index = 7;
+    osb_status status = unescape(platform, escape, len, out, sizeof out, &count, &index);
+    if (status != wanted || count != 9 || index != place) return false;
+    return unescape(platform, escape, len, out, sizeof out, &count, NULL) == wanted && count == 9;
+}
+
+static void bad_strings(to_string *unescape) {
+    char out[64] = "abcdefgh";
+    size_t count = 7, index = 7;
+    EXPECT(unescape(3, TEXT("a"), out, 8, &count, &index) == OSB_BAD_PLATFORM && count == 7);
+    EXPECT(unescape(OSB_UNIX, NULL, 1, out, 8, &count, &index) == OSB_BAD_POINTER);
+    EXPECT(unescape(OSB_UNIX, TEXT("a"), NULL, 8, &count, &index) == OSB_BAD_POINTER);
+    EXPECT(unescape(OSB_UNIX, "a", SIZE_MAX, out, 8, &count, &index) == OSB_BAD_POINTER);
+    EXPECT(unescape(OSB_UNIX, TEXT("a"), out, SIZE_MAX, &count, &index) == OSB_BAD_POINTER);
+    EXPECT(unescape(OSB_UNIX, TEXT("a"), out, 8, NULL, &index) == OSB_BAD_POINTER);
+    EXPECT(unescape(OSB_UNIX, out + 7, 3, out, 8, &count, &index) == OSB_BAD_POINTER);
+    EXPECT(unescape(OSB_UNIX, out, 3, out + 2, 8, &count, &index) == OSB_BAD_POINTER);
+    EXPECT(unescape(OSB_UNIX, out, 3, out, 8, &count, &index) == OSB_BAD_POINTER);
+    EXPECT(count == 7 && index == 7 && memcmp(out, "abcdefgh", 8) == 0);
+    EXPECT(unescape(OSB_UNIX, out, 3, out + 3, 5, &count, &index) == OSB_OK && count == 3);
+    EXPECT(memcmp(out, "abcabcgh", 8) == 0);
+    /* Without room it isn't known yet that no string has it. */
+    EXPECT(unescape(OSB_UNIX, TEXT("\\x41"), out, 0, &count, &index) == OSB_NO_ROOM && count == 1);
+    EXPECT(unescape(OSB_UNIX, TEXT("\\"), NULL, 0, &count, &index) == OSB_BAD_ESCAPE);
+    EXPECT(count == 1 && index == 0);
+}
+
+static void unescapes(void) {
+    to_string *plain = osb_unescape, *line = osb_unescape_line;
+    EXPECT(osb_unescape_bound(5) == 5 && osb_unescape_bound(SIZE_MAX) == SIZE_MAX);
+    EXPECT(unescaped(plain, OSB_UNIX, TEXT("a\n\\\\\\x80\\xFF"), TEXT("a\n\\\x80\xFF")));
+    EXPECT(unescaped(plain, OSB_WINDOWS, TEXT("a\\uD800b"), TEXT("a\xED\xA0\x80" "b")));
+    EXPECT(unescaped(plain, OSB_WASM, TEXT("\\\\\xC3\xA9"), TEXT("\\\xC3\xA9")));
+    EXPECT(unescaped(plain, OSB_UNIX, TEXT("abc"), TEXT("abc")));
+    EXPECT(unescaped(plain, OSB_UNIX, NULL, 0, NULL, 0));
+    EXPECT(unescaped(line, OSB_UNIX, TEXT("a\\u000A\\\\\\xFF"), TEXT("a\n\\\xFF")));
+    EXPECT(unescaped(line, OSB_WINDOWS, TEXT("\\uDFFF\\u2028"), TEXT("\xED\xBF\xBF\xE2\x80\xA8")));
+    EXPECT(unescaped(line, OSB_WASM, TEXT("\\u{E0041}z"), TEXT("\xF3\xA0\x81\x81z")));
+    EXPECT(unescaped(line, OSB_WASM, NULL, 0, NULL, 0));
+    EXPECT(unread(plain, OSB_UNIX, TEXT("ab\\q\\x4"), OSB_BAD_ESCAPE, 2));
+    EXPECT(unread(plain, OSB_UNIX, TEXT("\\u{E0041}z"), OSB_BAD_ESCAPE, 0));
+    EXPECT(unread(line, OSB_UNIX, TEXT("a\\u{041}"), OSB_BAD_ESCAPE, 1));
+    EXPECT(unread(plain, OSB_UNIX, TEXT("\\x41"), OSB_NO_STRING, 7));
+    EXPECT(unread(plain, OSB_UNIX, TEXT("\\u000A"), OSB_NO_STRING, 7));
+    EXPECT(unread(plain, OSB_UNIX, TEXT("\\xC3\\xA9"), OSB_NO_STRING, 7));
+    EXPECT(unread(plain, OSB_WINDOWS, TEXT("\\x80"), OSB_NO_STRING, 7));
+    EXPECT(unread(plain, OSB_WINDOWS, TEXT("\\uD83D\\uDE00"), OSB_NO_STRING, 7));
+    EXPECT(unread(plain, OSB_WASM, TEXT("\\uD800"), OSB_NO_STRING, 7));
+    EXPECT(unread(line, OSB_UNIX, TEXT("a\n"), OSB_NO_STRING, 7));
+    EXPECT(unread(plain, OSB_UNIX, TEXT("a\xFF"), OSB_BAD_PATTERN, 7));
+    EXPECT(unread(line, OSB_UNIX, TEXT("\xED\xA0\x80"), OSB_BAD_PATTERN, 7));
+    bad_strings(plain);
+    bad_strings(line);
+}
+
 int main(void) {
     checks();
     escapes();
+    unescapes();
     symbols();
     checkers();
     from_wide();

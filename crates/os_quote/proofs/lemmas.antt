@@ -4,10 +4,12 @@ pub mod LongTokens
 pub mod Texts
 pub mod Writing
 pub mod Pushing
+pub mod Stripping
 pub mod Chunks
 pub mod Escapes
 pub mod ItemLengths
 pub mod Readings
+pub mod Unescaping
 pub mod Shown
 pub mod Lines
 pub mod SuspectLanes

@@ -6,3 +6,5 @@ pub mod Escape
 pub mod Escaped
 pub mod Reading
 pub mod Buffers
+pub mod Unescaped
+pub mod Stripping

@@ -3,7 +3,7 @@ ghost use Rattle.std.specs.Prelude.{◌≡◌, ◌+◌, ◌*◌, ◌<◌, ◌^�
 ghost use Rattle.wtf8_core.specs.Truncated.{IsTruncated};
 ghost use Rattle.platform_str.specs.Strings.{bytes};
 ghost use Rattle.os_str_ext.specs.Parts.{part_bytes};
-ghost use Rattle.os_quote.specs.Buffers.{Pushes, IsCutAtToken, text_escape};
+ghost use Rattle.os_quote.specs.Buffers.{Pushes, IsPlainPushed, IsCutAtToken, text_escape};
 ghost use Rattle.os_quote.specs.Escape.{IsEscape, IsLineEscape};
 ghost use Rattle.os_quote.specs.Escaped.{escape_of};
 ghost use Rattle.os_quote.specs.Item.{item_texts, unit_item};
@@ -11,6 +11,7 @@ ghost use Rattle.os_quote.specs.Shown.{is_any, stays_on_line, shown_by};
 
 use crate::buffer_token::{push_token, push_unit};
 use crate::form::Form;
+use crate::plain::split_plain;
 use crate::standing::split_hidden;
 use crate::token::split_backslash;
 use os_str_bytes::{NonUnicodeOsStr, OsStr, OsStrBytesExt, Platform};
@@ -68,12 +69,27 @@ fn push_escape<E: Platform>(form: Form, string: OsStr<'_, E>, buffer: &mut [u8])
     ensures { IsTruncated (escape_of (shown_by form) E.units (bytes string.entry)) buffer.old
         buffer.new result }
 {
-    let mut count = 0;
-    for (part, text) in string.utf8_chunks() {
+    let (plain, rest) = push_plain(buffer, string.as_encoded_bytes());
+    let rest = OsStr::<E>::from_encoded_bytes_unchecked(rest);
+    let mut count = plain;
+    for (part, text) in rest.utf8_chunks() {
         count = push_part(buffer, count, part);
         count = push_text(form, buffer, count, text);
     }
     count
+}
+
+/// Writes the plain bytes at the start, and returns how many they are and the bytes after them.
+fn push_plain<'a>(buffer: &mut [u8], bytes: &'a [u8]) -> (usize, &'a [u8])
+    ensures { IsPlainPushed bytes.now buffer.old buffer.new result.0 result.1.now }
+{
+    let mut count = 0;
+    let mut rest = bytes;
+    while let Some((plain, behind)) = split_plain(rest) {
+        count = push_truncated(buffer, count, plain.as_bytes());
+        rest = behind;
+    }
+    (count, rest)
 }
 
 /// Appends each unit of a part.
@@ -110,7 +126,7 @@ fn push_text(form: Form, buffer: &mut [u8], count: usize, text: &str) -> usize
 
 /// What comes before the first character of a text that is written as a token, that character, and
 /// what comes after it.
-fn split_token(form: Form, text: &str) -> Option<(&str, char, &str)>
+pub(crate) fn split_token(form: Form, text: &str) -> Option<(&str, char, &str)>
     ensures { MatchOption result (text_escape (shown_by form) text.now ≡ text.now)
         (λ parts. IsCutAtToken (shown_by form) text.now parts.0.now parts.1 parts.2.now) }
 {

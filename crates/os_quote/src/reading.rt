@@ -1,19 +1,17 @@
 //! From escapes to strings.
-ghost use Rattle.std.specs.Prelude.{◌≡◌, ◌++◌, ◌↔◌, [], length, IsOk, IfOk, IfErr, OnOk, IsTrue, MatchResult};
-ghost use Rattle.std.specs.Char.{encode_utf8};
-ghost use Rattle.wtf8_core.specs.CodePoint.{encode};
-ghost use Rattle.platform_str.specs.Strings.{bytes, string_vec_of};
+ghost use Rattle.std.specs.Prelude.{◌≡◌, ◌↔◌, length, IsOk, IfOk, IfErr, IsTrue};
+ghost use Rattle.platform_str.specs.Strings.{string_vec_of};
 ghost use Rattle.os_quote.specs.Shown.{shown_by};
 ghost use Rattle.os_quote.specs.Escape.{IsEscape, IsLineEscape, IsEscapeBy, IsQuoteFault, IsLineFault, IsQuoteFaultBy};
-ghost use Rattle.os_quote.specs.Reading.{IsRead, IsReadFault, item_bytes, token_item};
 
 use crate::error::QuoteError;
 use crate::form::Form;
-use crate::quoting::escape_by;
+use crate::matching::has_escape;
+use crate::meaning::read;
 use crate::standing::split_hidden;
-use crate::token::{Token, first_token, split_backslash};
-use os_str_bytes::{DecodeWide, OsStr, OsString, Platform, laws};
-use std::alloc::{AllocError, Allocator};
+use crate::token::split_backslash;
+use os_str_bytes::{OsStr, OsString, Platform, laws};
+use std::alloc::Allocator;
 
 /// Returns the string that has this escape ([`escape`](crate::escape)).
 ///
@@ -97,81 +95,27 @@ fn from_items<E: Platform, A: Allocator>(
     ensures fault { IfErr result
         (λ fault. IsQuoteFaultBy (shown_by form) E.well_formed E.units text.now fault) }
 {
-    laws::faults::<E>();
-    let encoded = read(form, alloc, text)?;
-    let Ok(()) = E::check(&encoded) else {
-        return Err(QuoteError::NotCanonical);
+    let mut encoded = vec![in alloc; 0; text.len()]?;
+    let count = match read(form, text, encoded.as_mut_slice()) {
+        Ok(count) => count,
+        Err(index) => return Err(QuoteError::BadEscape(index)),
     };
-    if has_escape::<E, &A>(form, encoded.allocator(), &encoded, text)? {
+    encoded.truncate(count);
+    if is_unescaped::<E>(form, &encoded, text) {
         Ok(OsString::from_encoded_bytes_unchecked(encoded))
     } else {
         Err(QuoteError::NotCanonical)
     }
 }
 
-/// Whether the text is the escape of the string with these bytes.
-fn has_escape<E: Platform, A: Allocator>(
-    form: Form,
-    alloc: A,
-    encoded: &[u8],
-    text: &str,
-) -> Result<bool, AllocError>
-    requires { E.well_formed encoded.now }
-    ensures { IfOk result
-        (λ same. IsTrue same ↔ IsEscapeBy (shown_by form) E.units encoded.now text.now) }
+/// Whether the bytes are a string of the platform, and the text is its escape.
+pub(crate) fn is_unescaped<E: Platform>(form: Form, encoded: &[u8], text: &str) -> bool
+    ensures { IsTrue result ↔ (E.well_formed encoded.now
+        × IsEscapeBy (shown_by form) E.units encoded.now text.now) }
 {
-    let string = OsStr::<E>::from_encoded_bytes_unchecked(encoded);
-    let escaped = escape_by(form, alloc, string)?;
-    Ok(escaped.as_str() == text)
-}
-
-/// The bytes that the characters and tokens of a text mean.
-#[tactic(auto, using(crate::proofs::lemmas::Readings::readings))]
-fn read<A: Allocator>(form: Form, alloc: A, text: &str) -> Result<Vec<u8, A>, QuoteError>
-    ensures { MatchResult result (λ encoded. IsRead (shown_by form) text.now encoded.items [])
-        (λ fault. IsReadFault (shown_by form) text.now fault) }
-{
-    let mut encoded = Vec::with_capacity(alloc, text.len())?;
-    let mut rest = text;
-    while let Some((front, behind)) = split_backslash(rest) {
-        encoded.extend_from_slice(front.as_bytes())?;
-        let Some((token, after)) = first_token(form, behind.as_bytes()) else {
-            return Err(QuoteError::BadEscape(text.len() - behind.len() - 1));
-        };
-        push_token(&mut encoded, token)?;
-        rest = unsafe { str::from_utf8_unchecked(after) };
+    laws::faults::<E>();
+    match OsStr::<E>::checked(encoded) {
+        Ok(string) => has_escape(form, string, text),
+        Err(_) => false,
     }
-    encoded.extend_from_slice(rest.as_bytes())?;
-    Ok(encoded)
-}
-
-/// Appends the bytes that a token means.
-fn push_token<A: Allocator>(encoded: &mut Vec<u8, A>, token: Token) -> Result<(), AllocError>
-    ensures { OnOk result (encoded.new.items ≡ encoded.old.items ++ item_bytes (token_item token)) }
-{
-    match token {
-        Token::Backslash => encoded.push(b'\\')?,
-        Token::Byte(unit) => encoded.push(unit)?,
-        Token::Wide(unit) => push_unit(encoded, unit)?,
-        Token::Long(character) => push_character(encoded, character)?,
-    }
-    Ok(())
-}
-
-/// Appends the bytes of one 16-bit unit.
-fn push_unit<A: Allocator>(encoded: &mut Vec<u8, A>, unit: u16) -> Result<(), AllocError>
-    ensures { OnOk result (encoded.new.items ≡ encoded.old.items ++ encode unit) }
-{
-    for byte in DecodeWide::new(&[unit]) {
-        encoded.push(byte)?;
-    }
-    Ok(())
-}
-
-/// Appends the bytes of a character.
-fn push_character<A: Allocator>(encoded: &mut Vec<u8, A>, character: char) -> Result<(), AllocError>
-    ensures { OnOk result (encoded.new.items ≡ encoded.old.items ++ encode_utf8 character) }
-{
-    let mut buffer = [0; 4];
-    encoded.extend_from_slice(character.encode_utf8(&mut buffer).as_bytes())
 }

@@ -1,8 +1,9 @@
 //! What the C library `libosbytes` is proved of: [`check`] and [`checker`] the check of bytes, whole
 //! and in pieces, [`fault_text`] the text of a fault, [`wide`] bytes to 16-bit units and back,
-//! [`lossy`] lossy texts, [`escapes`] escapes, [`search`] searches, [`prefix`] prefixes and suffixes
-//! by units, [`boundary`] where strings may be cut, [`compare`] their order, and one step of each
-//! iterator: [`split`], [`chunks`] and [`symbols`]. [`laws`] says what whole walks give.
+//! [`lossy`] lossy texts, [`escapes`] and [`unescapes`] escapes and back, [`search`] searches,
+//! [`prefix`] prefixes and suffixes by units, [`boundary`] where strings may be cut, [`compare`]
+//! their order, and one step of each iterator: [`split`], [`chunks`] and [`symbols`]. [`laws`] says
+//! what whole walks give.
 //!
 //! A slice crosses as a pointer and a length. Each export takes any values: a platform, a pattern,
 //! an index or a fault that there isn't is answered by a status ([`status`]), so none has a
@@ -26,4 +27,5 @@ pub mod split;
 pub mod status;
 mod strings;
 pub mod symbols;
+pub mod unescapes;
 pub mod wide;

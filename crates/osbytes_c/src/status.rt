@@ -10,9 +10,13 @@ pub const NO_ROOM: u32 = 2;
 pub const NONE: u32 = 3;
 /// There are no more items.
 pub const ENDED: u32 = 4;
+/// A backslash of the escape begins no token.
+pub const BAD_ESCAPE: u32 = 5;
+/// No string of the platform has this escape.
+pub const NO_STRING: u32 = 6;
 /// There is no such platform.
 pub const NO_PLATFORM: u32 = 16;
-/// The pattern isn't UTF-8, or is empty where it may not be.
+/// The pattern or the escape isn't UTF-8, or the pattern is empty where it may not be.
 pub const NO_PATTERN: u32 = 17;
 /// The index is past the end.
 pub const NO_INDEX: u32 = 18;

@@ -1,5 +1,6 @@
 -- What follows of an `Option` or a `Result` from what each variant says.
-use Rattle.std.proofs.Common.{◌≡◌, ◌∙◌, ap, Option, None, Some, IfSome, MatchOption, Result, Ok, Err, IfOk, IfErr, IsErrAnd, MatchResult}
+use Rattle.std.specs.Result.{is_ok}
+use Rattle.std.proofs.Common.{◌≡◌, ◌∙◌, ap, refl, true, false, IsTrue, Option, None, Some, IfSome, MatchOption, Result, Ok, Err, IfOk, IfErr, IsOkAnd, IsErrAnd, MatchResult}
 
 -- what follows of a value follows where there is one
 pub where_some : {A : Type 0} (P : Type 0) {Q R : A → Type 0} → ((x : A) → Q x → R x) → (o : Option A) → MatchOption o P Q → IfSome o R
@@ -24,6 +25,21 @@ only_some P (Some x) is some one = ap Some (one x is)
 pub err_and : {A B : Type 0} {P : A → Type 0} {Q R : B → Type 0} → (r : Result A B) → IfOk r P → IfErr r Q → ((x : A) → P x → ⊥) → ((e : B) → Q e → R e) → IsErrAnd r R
 err_and (Ok x) ok err none f = absurd (none x ok)
 err_and (Err e) ok err none f = f e err
+
+-- where no error is one of two kinds that each is, what follows of a value follows where there is one
+pub ok_and : {A B : Type 0} {P R : A → Type 0} {Q S : B → Type 0} → (r : Result A B) → IfOk r P → IfErr r Q → IfErr r S → ((e : B) → Q e → S e → ⊥) → ((x : A) → P x → R x) → IsOkAnd r R
+ok_and (Ok x) ok err also none f = f x ok
+ok_and (Err e) ok err also none f = absurd (none e err also)
+
+-- where it can't be `Ok`, and each error of two kinds is this one
+pub err_is : {A B : Type 0} {P : A → Type 0} {Q S : B → Type 0} {error : B} → (r : Result A B) → IfOk r P → IfErr r Q → IfErr r S → ((x : A) → P x → ⊥) → ((e : B) → Q e → S e → e ≡ error) → r ≡ Err error
+err_is (Ok x) ok err also none one = absurd (none x ok)
+err_is (Err e) ok err also none one = ap Err (one e err also)
+
+-- whether it is `Ok` tells whether W is so, which each value says, and no error of two kinds
+pub ok_tells : {A B : Type 0} {P : A → Type 0} {Q S : B → Type 0} (W : Type 0) → (r : Result A B) → IfOk r P → IfErr r Q → IfErr r S → ((x : A) → P x → W) → ((e : B) → Q e → S e → W → ⊥) → (IsTrue (is_ok r) → W) × (W → IsTrue (is_ok r))
+ok_tells W (Ok x) ok err also f g = (λ _. f x ok, λ _. refl)
+ok_tells W (Err e) ok err also f g = (λ t. let no : ¬ (false ≡ true) = λ e. cc in absurd (no t), λ w. absurd (g e err also w))
 
 -- a pair of these two
 pub pair_of : {A B : Type 0} (pair : A × B) (a : A) (b : B) → (pair.0 ≡ a) × (pair.1 ≡ b) → pair ≡ (a, b)

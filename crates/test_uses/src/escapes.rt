@@ -1,11 +1,11 @@
 //! Escapes: a string comes back from its own, and has one.
-ghost use Rattle.std.specs.Prelude.{◌≡◌, ◌⊎◌, ◌*◌, ◌<◌, ◌^◌, ℕ, List, length, IsErrAnd, IfOk, IfErr, string_bytes};
+ghost use Rattle.std.specs.Prelude.{◌≡◌, ◌⊎◌, ◌↔◌, ◌*◌, ◌<◌, ◌≤◌, ◌^◌, ℕ, List, length, Err, IsTrue, IsOkAnd, IsErrAnd, IfOk, IfErr, string_bytes};
 ghost use Rattle.std.specs.Str.{IsUtf8};
 ghost use Rattle.wtf8_core.specs.Truncated.{IsTruncated};
 ghost use Rattle.platform_str.specs.Strings.{bytes, string_vec_of};
 ghost use Rattle.os_quote.specs.Escape.{IsEscape, IsBadEscape};
 
-use os_quote::{QuoteError, escape, laws, unescape, write_escape};
+use os_quote::{QuoteError, escape, laws, unescape, write_escape, write_unescaped};
 use platform_str::{OsStr, OsString, Platform};
 use std::alloc::{AllocError, Allocator};
 
@@ -67,4 +67,40 @@ pub fn escape_in<E: Platform>(string: OsStr<'_, E>, known: &[u8], buffer: &mut [
 {
     laws::escapes::<E>();
     write_escape(string, buffer)
+}
+
+/// The string with an escape that is known to be its own, in a buffer: that string, truncated.
+pub fn unescape_in<E: Platform>(
+    string: OsStr<'_, E>,
+    known: &str,
+    buffer: &mut [u8],
+) -> Result<usize, QuoteError>
+    requires { IsEscape E.units (bytes string) known.now }
+    ensures { IsOkAnd result
+        (λ count. IsTruncated (bytes string.entry) buffer.old buffer.new count) }
+{
+    laws::bad_escapes::<E>();
+    write_unescaped::<E>(known, buffer)
+}
+
+/// What comes of a text with a known index at which no token begins, in a buffer: that index.
+pub fn bad_place_in<E: Platform>(
+    text: &str,
+    at: usize,
+    buffer: &mut [u8],
+) -> Result<usize, QuoteError>
+    requires { IsBadEscape text.now at }
+    ensures { result ≡ Err (QuoteError.BadEscape at) }
+{
+    laws::bad_escapes::<E>();
+    write_unescaped::<E>(text, buffer)
+}
+
+/// Whether a text is the escape of a string, found in a buffer that is as long as the text.
+pub fn is_escape_in<E: Platform>(text: &str, buffer: &mut [u8]) -> bool
+    requires { length text.now ≤ length buffer.now }
+    ensures { IsTrue result ↔ (s : List ℕ) × (E.well_formed s × IsEscape E.units s text.now) }
+{
+    laws::bad_escapes::<E>();
+    write_unescaped::<E>(text, buffer).is_ok()
 }

@@ -1,6 +1,6 @@
 //! Escapes on one line: a string comes back from its own, has one, and nothing in it leaves the
 //! line.
-ghost use Rattle.std.specs.Prelude.{◌≡◌, ◌⊎◌, ◌*◌, ◌<◌, ◌^◌, ℕ, List, length, IsTrue, IsErrAnd, IfOk, IfErr, string_bytes};
+ghost use Rattle.std.specs.Prelude.{◌≡◌, ◌⊎◌, ◌*◌, ◌<◌, ◌^◌, ℕ, List, length, Err, IsTrue, IsOkAnd, IsErrAnd, IfOk, IfErr, string_bytes};
 ghost use Rattle.std.specs.List.{All};
 ghost use Rattle.std.specs.Str.{IsUtf8, chars};
 ghost use Rattle.wtf8_core.specs.Truncated.{IsTruncated};
@@ -8,7 +8,9 @@ ghost use Rattle.platform_str.specs.Strings.{bytes, string_vec_of};
 ghost use Rattle.os_quote.specs.Shown.{stays_on_line};
 ghost use Rattle.os_quote.specs.Escape.{IsLineEscape, IsBadLineEscape};
 
-use os_quote::{QuoteError, escape_line, laws, unescape_line, write_escape_line};
+use os_quote::{
+    QuoteError, escape_line, laws, unescape_line, write_escape_line, write_unescaped_line,
+};
 use platform_str::{OsStr, OsString, Platform};
 use std::alloc::{AllocError, Allocator};
 
@@ -72,4 +74,33 @@ pub fn line_escape_in<E: Platform>(string: OsStr<'_, E>, known: &[u8], buffer: &
 {
     laws::line_escapes::<E>();
     write_escape_line(string, buffer)
+}
+
+/// The string with an escape on one line that is known to be its own, in a buffer: that string,
+/// truncated.
+pub fn line_unescape_in<E: Platform>(
+    string: OsStr<'_, E>,
+    known: &str,
+    buffer: &mut [u8],
+) -> Result<usize, QuoteError>
+    requires { IsLineEscape E.units (bytes string) known.now }
+    ensures { IsOkAnd result
+        (λ count. IsTruncated (bytes string.entry) buffer.old buffer.new count) }
+{
+    laws::line_escapes::<E>();
+    write_unescaped_line::<E>(known, buffer)
+}
+
+/// What comes of a text with a known index at which no token of this form begins, in a buffer: that
+/// index.
+pub fn bad_line_place_in<E: Platform>(
+    text: &str,
+    at: usize,
+    buffer: &mut [u8],
+) -> Result<usize, QuoteError>
+    requires { IsBadLineEscape text.now at }
+    ensures { result ≡ Err (QuoteError.BadEscape at) }
+{
+    laws::line_escapes::<E>();
+    write_unescaped_line::<E>(text, buffer)
 }

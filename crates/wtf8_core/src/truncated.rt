@@ -19,18 +19,30 @@ ghost use Rattle.wtf8_core.specs.Truncated.{IsTruncated};
 /// assert_eq!(rt; push_truncated(&mut buffer, 6, b"ghi"), 9);
 /// assert_eq!(rt; buffer.as_slice(), b"abcdefgh".as_slice());
 /// ```
+#[inline(always)]
 pub fn push_truncated(buffer: &mut [u8], count: usize, bytes: &[u8]) -> usize
     requires { count + length bytes.now < 2 ^ 64 }
     ensures written { (text : List ℕ) → (old : List ℕ) → IsTruncated text old buffer.old count
         → IsTruncated (text ++ bytes.now) old buffer.new result }
     ensures len { result ≡ count + length bytes.now }
 {
-    let mut written = count;
-    for byte in bytes {
-        if written < buffer.len() {
-            buffer[written] = *byte;
-        }
-        written += 1;
+    let len = count + bytes.len();
+    if len <= buffer.len() {
+        buffer[count..len].copy_from_slice(bytes);
+    } else {
+        fill_up(buffer, count, bytes);
     }
-    written
+    len
+}
+
+/// The same where there is no room for all the bytes.
+fn fill_up(buffer: &mut [u8], count: usize, bytes: &[u8])
+    requires { length buffer.now < count + length bytes.now }
+    ensures { (text : List ℕ) → (old : List ℕ) → IsTruncated text old buffer.old count
+        → IsTruncated (text ++ bytes.now) old buffer.new (count + length bytes.now) }
+{
+    if count < buffer.len() {
+        let room = buffer.len() - count;
+        buffer[count..].copy_from_slice(&bytes[..room]);
+    }
 }

@@ -15,7 +15,7 @@ all-append shows [] ys a b = b
 all-append shows (x ∷ xs) ys a b = (a.0, all-append shows xs ys a.1 b)
 
 -- the items of units
-unit_is_item : (shows : ℕ → Bool) (u : ℕ) → u < 2 ^ 16 → IsItem shows (unit_item u) × (item_bytes (unit_item u) ≡ unit_bytes u)
+pub unit_is_item : (shows : ℕ → Bool) (u : ℕ) → u < 2 ^ 16 → IsItem shows (unit_item u) × (item_bytes (unit_item u) ≡ unit_bytes u)
 unit_is_item shows u h = ⊎_elim (λ l. rw (lt-ltb u 0x100 l) (l, refl)) (λ l. rw (le-ltb u 0x100 l) (h, refl)) (cases_lt u 0x100)
 
 units_are_items : (shows : ℕ → Bool) (us : List ℕ) → AllByRecursion (λ u. u < 2 ^ 16) us → AllByRecursion (IsItem shows) (map unit_item us) × (flat_map item_bytes (map unit_item us) ≡ flat_map unit_bytes us)

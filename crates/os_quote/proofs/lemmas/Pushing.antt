@@ -1,5 +1,5 @@
 -- How far a text has been written into a buffer.
-use Rattle.os_quote.proofs.Common.{◌≡◌, ⊎_elim, true, false, ℕ, ◌+◌, ◌<◌, ◌≤◌, ◌^◌, List, [], ◌++◌, length, take, refl, sym, ap, ◌∙◌, subst, arith, append_assoc, append-nil, length-append, take_all, cases_Bool, cases_eq, ne_eqb, Pushes, token_of, backslash, character_item, stays_on_line, Stands}
+use Rattle.os_quote.proofs.Common.{◌≡◌, ⊎_elim, true, false, ℕ, ◌+◌, ◌<◌, ◌^◌, List, [], ◌++◌, length, refl, sym, ap, ◌∙◌, subst, arith, append_assoc, append-nil, length-append, cases_Bool, cases_eq, ne_eqb, Pushes, token_of, backslash, character_item, stays_on_line, Stands}
 use Rattle.wtf8_core.specs.Truncated.{IsTruncated}
 use Rattle.wtf8_core.proofs.lemmas.buffers.Truncated.{none_yet}
 

@@ -1,4 +1,4 @@
-use Rattle.os_quote.proofs.Common.{◌≡◌, ◌++◌, ◌+◌, ◌<◌, ◌^◌, [], length, append_assoc, append-nil, ap, ◌∙◌, sym, subst, refl, token_of, text_escape, item_text, shown_by}
+use Rattle.os_quote.proofs.Common.{◌++◌, ◌+◌, ◌<◌, ◌^◌, [], length, append_assoc, append-nil, ◌∙◌, sym, subst, refl, token_of, text_escape, item_text, shown_by}
 use Rattle.os_quote.proofs.lemmas.Pushing.{push_bytes, push_both, one_pushed, all_pushed, room_left}
 use Rattle.os_quote.proofs.buffer.push_text.Goals as goal
 

@@ -1,5 +1,4 @@
-use Rattle.os_quote.proofs.Common.{◌≡◌, ◌∷◌, ◌++◌, ◌/◌, ◌%◌, [], length, append_assoc, length-append, ap, ◌∙◌, sym, subst, refl, arith, codes, high_digits, wide_digits, long_digits, item_text, LongCharacter}
-use Rattle.os_quote.proofs.lemmas.ItemLengths.{digits_length}
+use Rattle.os_quote.proofs.Common.{◌∷◌, ◌++◌, ◌/◌, ◌%◌, [], append_assoc, ap, sym, refl, high_digits, wide_digits}
 use Rattle.os_quote.proofs.lemmas.Pushing.{push_same, push_bytes, push_both}
 use Rattle.os_quote.proofs.buffer_token.push_long.Goals as goal
 

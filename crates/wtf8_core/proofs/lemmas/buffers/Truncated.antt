@@ -1,10 +1,18 @@
 -- A list that is written into a buffer from its start, as far as there is room.
-use Rattle.std.proofs.Common.{◌≡◌, ℕ, ◌+◌, ◌<◌, ◌≤◌, List, [], ◌∷◌, ◌++◌, length, take, drop, set, refl, subst, sym, ap, ◌∙◌, arith}
-use Rattle.std.proofs.lemmas.List.{take_more_set, drop-set-lt, drop-drop, length-set, length-append, take_all, drop_all, take-append-le}
+use Rattle.std.proofs.Common.{◌≡◌, ℕ, ◌+◌, ◌-◌, ◌<◌, ◌≤◌, List, [], ◌∷◌, ◌++◌, length, take, drop, set, refl, subst, sym, ap, ◌∙◌, arith}
+use borrow.Rule.Slice.PartMut.{put_mid}
+use Rattle.std.proofs.Math.Seq.{take-append-add}
+use Rattle.std.proofs.lemmas.List.{take_more_set, drop-set-lt, drop-drop, length-set, length-append, length-take-le, length-drop, take_all, drop_all, take-append-le}
+use Rattle.std.proofs.lemmas.Slice.{take-put_mid, drop-put_mid}
 use Rattle.wtf8_core.specs.Truncated.{IsTruncated}
 
 pub none_yet : (old : List ℕ) → IsTruncated [] old old 0
 none_yet old = record { same_length = refl; count_is = refl; front = take_all (length old) [] (omega arith); behind = refl }
+
+put_length : (at n : ℕ) (list part : List ℕ) → at + n ≤ length list → length part ≡ n → length (put_mid at n list part) ≡ length list
+put_length at n list part within l =
+    let behind = drop n (drop at list) in
+    omega (arith, within, l, length-append (take at list) (part ++ behind), length-append part behind, length-take-le at list (omega (arith, within)), length-drop n (drop at list), length-drop at list)
 
 module _ (done old new : List ℕ) (count : ℕ) (h : IsTruncated done old new count) where
   -- where there was room, all of it is there
@@ -26,15 +34,60 @@ module _ (done old new : List ℕ) (count : ℕ) (h : IsTruncated done old new c
             ∙ sym (drop-drop 1 count new) ∙ ap (drop 1) h.behind ∙ drop-drop 1 count old;
       }
 
-  -- or there is no room for it
-  pub one_lost : (x : ℕ) → length new ≤ count → IsTruncated (done ++ x ∷ []) old new (count + 1)
-  one_lost x full =
+  -- a list is written after it
+  pub all_written : (more part : List ℕ) (n : ℕ) → part ≡ more → n ≡ length more → count + n ≤ length new → IsTruncated (done ++ more) old (put_mid count n new part) (count + n)
+  all_written more part n is k room =
+      let c = h.count_is in
+      let l = h.same_length in
+      let joined = length-append done more in
+      let part_length = ap length is in
+      record {
+        same_length = put_length count n new part room (part_length ∙ sym k) ∙ h.same_length;
+        count_is = omega arith;
+        front =
+            take_all (length old) (done ++ more) (omega arith)
+            ∙ ap (λ d. d ++ more) (sym (whole (omega arith)))
+            ∙ ap (λ p. take count new ++ p) (sym is)
+            ∙ sym (take-put_mid count n new part (count + n) (omega arith) (omega arith));
+        behind =
+            drop-put_mid count n new part (count + n) (omega arith) (omega arith) (part_length ∙ sym k)
+            ∙ sym (drop-drop n count new) ∙ ap (drop n) h.behind ∙ drop-drop n count old;
+      }
+
+  -- a list is written up to the buffer's end
+  pub front_written : (more part : List ℕ) (n : ℕ) → part ≡ take n more → count + n ≡ length new → n ≤ length more → IsTruncated (done ++ more) old (put_mid count n new part) (count + length more)
+  front_written more part n is full within =
+      let c = h.count_is in
+      let l = h.same_length in
+      let joined = length-append done more in
+      let part_length = ap length is ∙ length-take-le n more within in
+      let all = put_length count n new part (omega arith) part_length in
+      record {
+        same_length = all ∙ h.same_length;
+        count_is = omega arith;
+        front =
+            ap (λ m. take m (done ++ more)) (omega arith)
+            ∙ take-append-add done more n
+            ∙ ap (λ d. d ++ take n more) (sym (whole (omega arith)))
+            ∙ ap (λ p. take count new ++ p) (sym is)
+            ∙ sym (take-put_mid count n new part (count + n) (omega arith) (omega arith))
+            ∙ take_all (count + n) (put_mid count n new part) (omega arith)
+            ∙ sym (take_all (count + length more) (put_mid count n new part) (omega arith));
+        behind = drop_all (count + length more) (put_mid count n new part) (omega arith) ∙ sym (drop_all (count + length more) old (omega arith));
+      }
+
+  -- or there is no room for any of it
+  pub all_lost : (more : List ℕ) → length new ≤ count → IsTruncated (done ++ more) old new (count + length more)
+  all_lost more full =
       let n = h.count_is in
       let l = h.same_length in
-      let more = length-append done (x ∷ []) in
+      let joined = length-append done more in
       record {
         same_length = h.same_length;
         count_is = omega arith;
-        front = take-append-le (length old) done (x ∷ []) (omega arith) ∙ h.front ∙ take_all count new full ∙ sym (take_all (count + 1) new (omega arith));
-        behind = drop_all (count + 1) new (omega arith) ∙ sym (drop_all (count + 1) old (omega arith));
+        front = take-append-le (length old) done more (omega arith) ∙ h.front ∙ take_all count new full ∙ sym (take_all (count + length more) new (omega arith));
+        behind = drop_all (count + length more) new (omega arith) ∙ sym (drop_all (count + length more) old (omega arith));
       }
+
+  pub one_lost : (x : ℕ) → length new ≤ count → IsTruncated (done ++ x ∷ []) old new (count + 1)
+  one_lost x full = all_lost (x ∷ []) full

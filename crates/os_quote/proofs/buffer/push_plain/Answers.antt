@@ -1,0 +1,34 @@
+use Rattle.os_quote.proofs.Common.{[], ◌++◌, length, refl, ap, arith, length-append}
+use Rattle.os_quote.proofs.lemmas.PlainBytes.{after_more}
+use Rattle.os_quote.proofs.lemmas.Pushing.{push_nothing, push_bytes, push_both}
+use Rattle.os_quote.proofs.buffer.push_plain.Goals as goal
+
+pub loop-plain-init : goal.loop-plain-init
+loop-plain-init c = record {
+  front = [];
+  after = record { plain = tt; joined = refl };
+  pushes = push_nothing c.args.buffer.now 0;
+}
+
+pub push_truncated-count-requires : goal.push_truncated-count-requires
+push_truncated-count-requires c =
+    let so_far = c.loop-plain.invariant in
+    let plain = c.in-Some.plain.now in
+    omega (arith, so_far.pushes.1, ap length so_far.after.joined, length-append so_far.front c.loop-plain.rest.now, ap length c.in-Some.ensures.after.joined, length-append plain c.in-Some.behind.now, ap length c.as_bytes.ensures.value)
+
+pub loop-plain-preserved : goal.loop-plain-preserved
+loop-plain-preserved c =
+    let so_far = c.loop-plain.invariant in
+    let plain = c.in-Some.plain.now in
+    record {
+      front = so_far.front ++ plain;
+      after = after_more _ _ _ _ _ so_far.after c.in-Some.ensures.after;
+      pushes = push_both so_far.pushes (push_bytes c.loop-plain.buffer c.loop-plain.count c.push_truncated-count.new.buffer c.push_truncated-count.result _ plain c.as_bytes.ensures.value c.push_truncated-count.ensures.written c.push_truncated-count.ensures.len);
+    }
+
+pub loop-plain-smaller : goal.loop-plain-smaller
+loop-plain-smaller c =
+    let cut = c.in-Some.ensures in
+    let some = cut.some in
+    let e = ap length cut.after.joined in
+    omega (arith, some, e, length-append c.in-Some.plain.now c.in-Some.behind.now)

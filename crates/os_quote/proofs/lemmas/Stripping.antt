@@ -1,0 +1,68 @@
+-- How far a text begins with an escape.
+use Rattle.os_quote.proofs.Common.{◌≡◌, ℕ, ◌<◌, ◌≤◌, Bool, List, [], ◌∷◌, ◌++◌, length, take, ⊎_elim, refl, sym, ap, ◌∙◌, subst, arith, append_assoc, append-nil, length-append, cases_lt, cases_eq, ne_eqb, lt-ltb, le-ltb, Pushes, backslash, token_of, item_text, long_digits, IsEscapeBy, some_chunks, chunks_of, escape_of}
+use Rattle.std.proofs.Common.{Option, None, Some, Bor, MatchOption}
+use Rattle.std.proofs.lemmas.Bool.{eq-eqb}
+use Rattle.std.proofs.lemmas.List.{append_cancel_left}
+use Rattle.wtf8_core.proofs.lemmas.buffers.Truncated.{whole}
+use Rattle.os_quote.specs.Stripping.{StartsNot}
+use Rattle.os_quote.proofs.lemmas.Escapes.{one_escape}
+use Rattle.os_quote.proofs.lemmas.ItemLengths.{digits_length}
+use Rattle.os_quote.proofs.lemmas.Pushing.{pushed_all}
+
+-- a prefix of `all` is the start of the text, after which the rest comes, and `left` is still to be found
+abbrev pub StripsRest : List ℕ → List ℕ → List ℕ → List ℕ → Type 0
+StripsRest text rest left all = (done : List ℕ) × (text ≡ done ++ rest) × (done ++ left ≡ all)
+
+module _ {text rest left all : List ℕ} (so_far : StripsRest text rest left all) (front : List ℕ) where
+  pub one_stripped : (behind after : List ℕ) → rest ≡ front ++ behind → left ≡ front ++ after → StripsRest text behind after all
+  one_stripped behind after r l = (
+    so_far.0 ++ front,
+    so_far.1 ∙ ap (λ x. so_far.0 ++ x) r ∙ sym (append_assoc so_far.0 front behind),
+    append_assoc so_far.0 front after ∙ ap (λ x. so_far.0 ++ x) (sym l) ∙ so_far.2,
+  )
+
+  pub not_stripped : (after : List ℕ) → StartsNot front rest → left ≡ front ++ after → StartsNot all text
+  not_stripped after never l behind e =
+      never (after ++ behind) (append_cancel_left so_far.0 rest (front ++ (after ++ behind)) (
+      sym so_far.1
+      ∙ e
+      ∙ ap (λ x. x ++ behind) (sym so_far.2 ∙ ap (λ x. so_far.0 ++ x) l)
+      ∙ append_assoc so_far.0 (front ++ after) behind
+      ∙ ap (λ x. so_far.0 ++ x) (append_assoc front after behind)
+      ))
+
+pub all_stripped : (text rest left all : List ℕ) → StripsRest text rest left all → left ≡ [] → text ≡ all ++ rest
+all_stripped text rest left all so_far n = so_far.1 ∙ ap (λ x. x ++ rest) (sym (append-nil so_far.0) ∙ ap (λ x. so_far.0 ++ x) (sym n) ∙ so_far.2)
+
+-- what is left is stripped at once
+pub last_stripped : (text rest left all front : List ℕ) → StripsRest text rest left all → left ≡ front → (r : Option (Bor (List ℕ))) → MatchOption r (StartsNot front rest) (λ x. rest ≡ front ++ x.now) → MatchOption r (StartsNot all text) (λ x. text ≡ all ++ x.now)
+last_stripped text rest left all front so_far e None never = not_stripped so_far front [] never (e ∙ sym (append-nil front))
+last_stripped text rest left all front so_far e (Some x) is = all_stripped text x.now [] all (one_stripped so_far front x.now [] is (e ∙ sym (append-nil front))) refl
+
+-- a token in a buffer of its own
+pub token_text : (text old new : List ℕ) (count : ℕ) → Pushes text old 0 new count → length text ≤ length old → take count new ≡ text
+token_text text old new count p fits = let t = pushed_all p in whole text old new count t (omega (arith, t.count_is, t.same_length, fits))
+
+pub token_is_short : (c : ℕ) → length (item_text (token_of c)) ≤ 10
+token_is_short c =
+    ⊎_elim
+    (λ (e : c ≡ backslash). rw (eq-eqb c backslash e) (omega arith))
+    (λ (n : ¬ (c ≡ backslash)). rw (ne_eqb c backslash n) (⊎_elim
+    (λ (l : c < 0x1_0000). rw (lt-ltb c 0x1_0000 l) (omega arith))
+    (λ (l : 0x1_0000 ≤ c). rw (le-ltb c 0x1_0000 l) (omega (arith, (digits_length c).1, length-append (long_digits c) (0x7D ∷ []))))
+    (cases_lt c 0x1_0000)))
+    (cases_eq c backslash)
+
+-- a text that is stripped of an escape is that escape where nothing is left
+module _ (shows : ℕ → Bool) (units : List ℕ → List ℕ) (s text : List ℕ) where
+  own : IsEscapeBy shows units s (escape_of shows units s)
+  own = record { chunks = chunks_of s; are_chunks = (some_chunks s).1; text_is = refl }
+
+  pub is_escape : text ≡ escape_of shows units s → IsEscapeBy shows units s text
+  is_escape e = subst (IsEscapeBy shows units s) (sym e) own
+
+  pub escape_is : IsEscapeBy shows units s text → text ≡ escape_of shows units s
+  escape_is e = one_escape shows units s text (escape_of shows units s) e own
+
+  pub no_escape_of : StartsNot (escape_of shows units s) text → IsEscapeBy shows units s text → ⊥
+  no_escape_of never e = never [] (escape_is e ∙ sym (append-nil (escape_of shows units s)))

@@ -1,0 +1,21 @@
+-- Strings read from escapes into a buffer that may be too short for them (this project's own words).
+use Rattle.std.specs.Prelude.{◌≡◌, ℕ, ◌≤◌, Bool, List, length}
+use Rattle.wtf8_core.specs.Truncated.{IsTruncated}
+use Rattle.os_quote.specs.Shown.{is_any, stays_on_line}
+use Rattle.os_quote.specs.Escape.{IsEscapeBy, IsBadEscapeBy}
+
+-- the buffer has what the text means, truncated to the buffer's length: the string with this escape, if there is room for it, and else the only one that may have it
+pub record IsUnescapedBy (shows : ℕ → Bool) (well_formed : List ℕ → Type 0) (units : List ℕ → List ℕ) (text old new : List ℕ) (count : ℕ) : Type 0 where
+  pub string : List ℕ
+  pub written : IsTruncated string old new count
+  pub short : count ≤ length text
+  pub escape : count ≤ length old → well_formed string × IsEscapeBy shows units string text
+  pub only : (s : List ℕ) → well_formed s → IsEscapeBy shows units s text → s ≡ string
+  pub tokens : (n : ℕ) → ¬ (IsBadEscapeBy shows text n)
+
+-- the same in each form
+abbrev pub IsUnescaped : (List ℕ → Type 0) → (List ℕ → List ℕ) → List ℕ → List ℕ → List ℕ → ℕ → Type 0
+IsUnescaped = IsUnescapedBy is_any
+
+abbrev pub IsLineUnescaped : (List ℕ → Type 0) → (List ℕ → List ℕ) → List ℕ → List ℕ → List ℕ → ℕ → Type 0
+IsLineUnescaped = IsUnescapedBy stays_on_line

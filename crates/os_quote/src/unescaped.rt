@@ -1,0 +1,100 @@
+//! Strings written into a buffer that may be too short for them, from escapes.
+ghost use Rattle.std.specs.Prelude.{◌≡◌, ◌≢◌, IfOk, IfErr};
+ghost use Rattle.os_quote.specs.Shown.{shown_by};
+ghost use Rattle.os_quote.specs.Escape.{IsQuoteFault, IsLineFault, IsQuoteFaultBy};
+ghost use Rattle.os_quote.specs.Unescaped.{IsUnescaped, IsLineUnescaped, IsUnescapedBy};
+ghost use Rattle.os_quote.specs.declared.error.QuoteError.TheVariants.{Memory};
+
+use crate::error::QuoteError;
+use crate::form::Form;
+use crate::meaning::read;
+use crate::reading::is_unescaped;
+use crate::standing::split_hidden;
+use crate::token::split_backslash;
+use os_str_bytes::Platform;
+use wtf8_core::push_truncated;
+
+/// Writes the string that has this escape ([`unescape`](crate::unescape)) into a buffer, truncated if
+/// the buffer is too short for it, and returns the length of the whole string. What the string doesn't
+/// reach stays as it is. It doesn't allocate.
+///
+/// A string is never longer than its escape, so a buffer of `text.len()` bytes is always long enough.
+/// If the buffer is too short, it isn't known yet that the text is an escape: each backslash is in a
+/// token, and if a string has this escape, it is this one.
+///
+/// # Errors
+///
+/// [`QuoteError::BadEscape`] and [`QuoteError::NotCanonical`] as in [`unescape`](crate::unescape); the
+/// content of the buffer isn't specified then. The second comes only if the buffer is long enough.
+///
+/// ```
+/// use os_quote::{QuoteError, write_unescaped};
+/// use os_str_bytes::Unix;
+///
+/// let mut buffer = [b'-'; 6];
+/// assert_eq!(rt; write_unescaped::<Unix>("fo\\x80o", &mut buffer), Ok(4));
+/// assert_eq!(rt; buffer.as_slice(), b"fo\x80o--".as_slice());
+/// assert_eq!(rt; write_unescaped::<Unix>("a\\q", &mut buffer), Err(QuoteError::BadEscape(1)));
+/// ```
+pub fn write_unescaped<E: Platform>(text: &str, buffer: &mut [u8]) -> Result<usize, QuoteError>
+    ensures string { IfOk result
+        (λ count. IsUnescaped E.well_formed E.units text.now buffer.old buffer.new count) }
+    ensures fault { IfErr result (λ fault. IsQuoteFault E.well_formed E.units text.now fault) }
+    ensures never_memory { IfErr result (λ fault. fault ≢ Memory) }
+{
+    match split_backslash(text) {
+        None => Ok(push_truncated(buffer, 0, text.as_bytes())),
+        Some(_) => write_by::<E>(Form::Text, text, buffer),
+    }
+}
+
+/// Writes the string that has this escape on one line ([`unescape_line`](crate::unescape_line)) into a
+/// buffer, as [`write_unescaped`] does.
+///
+/// # Errors
+///
+/// Those of [`write_unescaped`], of the form for one line.
+///
+/// ```
+/// use os_quote::{QuoteError, write_unescaped_line};
+/// use os_str_bytes::Unix;
+///
+/// let mut buffer = [b'-'; 4];
+/// assert_eq!(rt; write_unescaped_line::<Unix>("a\\u000A\\xFF", &mut buffer), Ok(3));
+/// assert_eq!(rt; buffer.as_slice(), b"a\n\xFF-".as_slice());
+/// let refused = write_unescaped_line::<Unix>("a\n", &mut buffer);
+/// assert_eq!(rt; refused, Err(QuoteError::NotCanonical));
+/// ```
+pub fn write_unescaped_line<E: Platform>(text: &str, buffer: &mut [u8]) -> Result<usize, QuoteError>
+    ensures string { IfOk result
+        (λ count. IsLineUnescaped E.well_formed E.units text.now buffer.old buffer.new count) }
+    ensures fault { IfErr result (λ fault. IsLineFault E.well_formed E.units text.now fault) }
+    ensures never_memory { IfErr result (λ fault. fault ≢ Memory) }
+{
+    match split_hidden(text) {
+        None => Ok(push_truncated(buffer, 0, text.as_bytes())),
+        Some(_) => write_by::<E>(Form::Line, text, buffer),
+    }
+}
+
+/// The same in a form, token by token.
+fn write_by<E: Platform>(form: Form, text: &str, buffer: &mut [u8]) -> Result<usize, QuoteError>
+    ensures string { IfOk result (λ count. IsUnescapedBy (shown_by form) E.well_formed E.units
+        text.now buffer.old buffer.new count) }
+    ensures fault { IfErr result
+        (λ fault. IsQuoteFaultBy (shown_by form) E.well_formed E.units text.now fault) }
+    ensures never_memory { IfErr result (λ fault. fault ≢ Memory) }
+{
+    let count = match read(form, text, buffer) {
+        Ok(count) => count,
+        Err(index) => return Err(QuoteError::BadEscape(index)),
+    };
+    if count > buffer.len() {
+        return Ok(count);
+    }
+    if is_unescaped::<E>(form, &buffer[..count], text) {
+        Ok(count)
+    } else {
+        Err(QuoteError::NotCanonical)
+    }
+}
