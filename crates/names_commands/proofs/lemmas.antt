@@ -1,3 +1,5 @@
+pub mod Back
 pub mod Items
+pub mod Lines
 pub mod Reading
 pub mod Runs

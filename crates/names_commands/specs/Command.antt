@@ -1,5 +1,6 @@
 -- The words that ask for each command, and what it does with each item.
-use Rattle.std.specs.Prelude.{◌≡◌, ℕ, false, List, [], ◌∷◌, codes}
+use Rattle.std.specs.Prelude.{◌≡◌, ◌⊎◌, ℕ, ◌<◌, ◌^◌, false, List, [], ◌∷◌, codes}
+use Rattle.std.specs.Str.Parse.{IsNumeral, digits_value, without_leading_plus}
 use Rattle.os_glob.specs.Items.{IsFirstFault}
 use Rattle.os_glob.specs.declared.error.GlobError.{GlobError}
 use Rattle.os_glob.specs.declared.options.GlobOptions.{GlobOptions}
@@ -9,6 +10,8 @@ use Rattle.osbytes_commands.specs.declared.command.Os.{Os}
 use Rattle.osbytes_commands.specs.declared.command.Os.TheVariants.{Unix, Windows, Wasm}
 use Rattle.names_commands.specs.declared.command.Command.{Command}
 use Rattle.names_commands.specs.declared.command.Command.TheVariants.{ListAll, ListMatching, Join, Check, Help}
+use Rattle.names_commands.specs.declared.command.Request.{Request}
+use Rattle.names_commands.specs.declared.command.TheConstants.{LONGEST_NAME}
 
 -- the words after the program's name that ask for the command
 abbrev pub words_of : Command → List (List ℕ)
@@ -17,6 +20,18 @@ words_of (ListMatching os pattern) = codes "list" ∷ os_word os ∷ pattern.now
 words_of (Join os) = codes "join" ∷ os_word os ∷ []
 words_of (Check os) = codes "check" ∷ os_word os ∷ []
 words_of Help = codes "--help" ∷ []
+
+-- the text says this number of bytes, as std reads a `usize`: digits, after a `+` or not
+pub record IsLimit (text : List ℕ) (max : ℕ) : Type 0 where
+  pub digits : IsNumeral 10 (without_leading_plus text)
+  pub value : max ≡ digits_value 10 (without_leading_plus text)
+  pub fits : max < 2 ^ 64
+
+-- the words after the program's name make the request: a command's, or `--max`, a limit and a command's
+abbrev pub AsksFor : List (List ℕ) → Request → Type 0
+AsksFor words r =
+    ((words ≡ words_of r.command) × (r.max ≡ LONGEST_NAME))
+    ⊎ ((number : List ℕ) × ((words ≡ codes "--max" ∷ number ∷ words_of r.command) × IsLimit number r.max))
 
 -- how a pattern is matched on the platform: `\` is a separator on Windows alone
 abbrev pub options_of : Os → GlobOptions

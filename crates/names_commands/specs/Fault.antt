@@ -14,7 +14,7 @@ text_of (At number why) = place_text number ++ reason.text_of why
 text_of (TooLong number most) = place_text number ++ (codes "longer than " ++ (decimal most ++ codes " bytes"))
 text_of (HasNul number) = place_text number ++ codes "the name has a NUL"
 text_of TooMuch = codes "2^64 bytes of input or more"
-text_of Usage = codes "usage: names list|join|check unix|windows|wasm [GLOB]; names --help tells more"
+text_of Usage = codes "usage: names [--max N] list|join|check unix|windows|wasm [GLOB]; names --help tells more"
 text_of (Run why) = reason.text_of why
 
 -- the status that the program ends with

@@ -6,3 +6,4 @@ pub mod Fault
 pub mod Command
 pub mod Ended
 pub mod Program
+pub mod Back

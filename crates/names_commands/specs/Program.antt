@@ -12,8 +12,8 @@ use Rattle.names_commands.specs.declared.fault.Fault.TheVariants.{Run, Usage}
 use Rattle.names_commands.specs.declared.task.Task.{Task}
 use Rattle.names_commands.specs.declared.task.Task.TheVariants as task
 use Rattle.names_commands.specs.declared.task.Settings.{Settings}
-use Rattle.names_commands.specs.declared.program.TheConstants.{LONGEST_NAME, LONGEST_LINE}
-use Rattle.names_commands.specs.Command.{words_of, options_of, IsUnusable}
+use Rattle.names_commands.specs.declared.command.Request.{Request}
+use Rattle.names_commands.specs.Command.{AsksFor, options_of, IsUnusable}
 use Rattle.names_commands.specs.Fault.{text_of, status_of}
 use Rattle.names_commands.specs.Run.{WritesOutput, WritesUpTo, WritesBeginning}
 
@@ -33,7 +33,7 @@ HasPattern options pattern task.Join = ⊥
 
 -- what `names --help` writes
 abbrev pub help_text : List ℕ
-help_text = codes "names: lists of file names, escaped one a line, and back\n\nnames list  unix|windows|wasm [GLOB]  names ended by NUL in, the escape of each out, one a line;\n                                      with GLOB of those that it matches\nnames join  unix|windows|wasm         such lines in, names ended by NUL out\nnames check unix|windows|wasm         names ended by NUL in, nothing out: the status tells\nnames --help                          this text\n\nThe last name or line may lack its end. A name has at most 1048576 bytes, a line 6291456.\nStatus: 0, or 1 where a name or line is refused, 2 for other words, 3 where memory is refused,\n4 where a read or write fails. The first refused name is told with its number, from 1.\n"
+help_text = codes "names: lists of file names, escaped one a line, and back\n\nnames list  unix|windows|wasm [GLOB]  names ended by NUL in, the escape of each out, one a line;\n                                      with GLOB of those that it matches\nnames join  unix|windows|wasm         such lines in, names ended by NUL out\nnames check unix|windows|wasm         names ended by NUL in, nothing out: the status tells\nnames --help                          this text\nnames --max N ..                      one of these, for names of at most N bytes, not 1048576\n\nThe last name or line may lack its end. A line has at most six times as many bytes as a name.\nStatus: 0, or 1 where a name or line is refused, 2 for other words, 3 where memory is refused,\n4 where a read or write fails. The first refused name is told with its number, from 1.\n"
 
 -- what the help is, or as much of it as was written before a write failed
 pub record WritesHelp (old new : Option (List ℕ)) (answer : Result ⊤ Fault) : Type 0 where
@@ -41,21 +41,21 @@ pub record WritesHelp (old new : Option (List ℕ)) (answer : Result ⊤ Fault) 
   pub fault : IfErr answer (λ fault. fault ≡ Run Write)
   pub beginning : answer ≡ Err (Run Write) → (count : ℕ) × Appends old new (take count help_text)
 
--- what the command does
-abbrev pub Does : Command → Option (List ℕ) → Option (List ℕ) → Option (List ℕ) → Option (List ℕ) → Result ⊤ Fault → Type 0
-Does (ListAll os) input left old new answer = IsRun (strings os) (record { task = task.ListAll; max = LONGEST_NAME }) input left old new answer
-Does (ListMatching os pattern) input left old new answer =
+-- what the command does where a name may have `max` bytes
+abbrev pub Does : Command → ℕ → Option (List ℕ) → Option (List ℕ) → Option (List ℕ) → Option (List ℕ) → Result ⊤ Fault → Type 0
+Does (ListAll os) max input left old new answer = IsRun (strings os) (record { task = task.ListAll; max = max }) input left old new answer
+Does (ListMatching os pattern) max input left old new answer =
     ((IsUnusable (ListMatching os pattern)) × (answer ≡ Err Usage))
-    ⊎ ((t : Task) × (HasPattern (options_of os) pattern.now t × IsRun (strings os) (record { task = t; max = LONGEST_NAME }) input left old new answer))
-Does (Join os) input left old new answer = IsRun (strings os) (record { task = task.Join; max = LONGEST_LINE }) input left old new answer
-Does (Check os) input left old new answer = IsRun (strings os) (record { task = task.Check; max = LONGEST_NAME }) input left old new answer
-Does Help input left old new answer = WritesHelp old new answer
+    ⊎ ((t : Task) × (HasPattern (options_of os) pattern.now t × IsRun (strings os) (record { task = t; max = max }) input left old new answer))
+Does (Join os) max input left old new answer = IsRun (strings os) (record { task = task.Join; max = max }) input left old new answer
+Does (Check os) max input left old new answer = IsRun (strings os) (record { task = task.Check; max = max }) input left old new answer
+Does Help max input left old new answer = WritesHelp old new answer
 
--- the command with these words does this; words that no command has are refused
+-- the request that these words make is answered by this; words that make none are refused
 abbrev pub RunsTo : List (List ℕ) → Option (List ℕ) → Option (List ℕ) → Option (List ℕ) → Option (List ℕ) → Result ⊤ Fault → Type 0
 RunsTo words input left old new answer =
-    (((command : Command) → words ≢ words_of command) × (answer ≡ Err Usage))
-    ⊎ ((command : Command) × ((words ≡ words_of command) × Does command input left old new answer))
+    (((request : Request) → ¬ (AsksFor words request)) × (answer ≡ Err Usage))
+    ⊎ ((request : Request) × (AsksFor words request × Does request.command request.max input left old new answer))
 
 -- what the program prints of a fault
 abbrev pub message : Fault → List ℕ

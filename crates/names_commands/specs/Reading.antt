@@ -7,7 +7,7 @@ use Rattle.names_commands.specs.declared.fault.Fault.{Fault}
 use Rattle.names_commands.specs.declared.fault.Fault.TheVariants.{At, TooLong, HasNul, TooMuch, Usage, Run}
 use Rattle.names_commands.specs.declared.task.Settings.{Settings}
 use Rattle.names_commands.specs.Items.{Entry, Lacks, items_of, texts_of}
-use Rattle.names_commands.specs.Task.{end_of, IsItemFault, IsEntry}
+use Rattle.names_commands.specs.Task.{end_of, longest_item, IsItemFault, IsEntry}
 
 -- the bytes of the item that has begun, how many items have ended, and what was written for them
 pub record State : Type 0 where
@@ -18,7 +18,7 @@ pub record State : Type 0 where
 -- an item has begun, and isn't too long yet
 pub record HasBegun (s : Settings) (begun : List ℕ) : Type 0 where
   pub whole : Lacks (end_of s.task) begun
-  pub short : length begun ≤ s.max
+  pub short : length begun ≤ longest_item s
 
 -- these bytes lead from one state to another
 pub record Reads {E : Type 0} (p : Ghosts E) (s : Settings) (old : State) (bytes : List ℕ) (new : State) : Type 0 where
@@ -52,7 +52,7 @@ pub record Stops {E : Type 0} (p : Ghosts E) (s : Settings) (old : State) (bytes
 
 -- an item is too long, or memory for it was refused
 abbrev pub IsKeepFault : Settings → ℕ → List ℕ → Fault → Type 0
-IsKeepFault s number item fault = ((fault ≡ TooLong number s.max) × (s.max < length item)) ⊎ (fault ≡ Run Memory)
+IsKeepFault s number item fault = ((fault ≡ TooLong number s.max) × (longest_item s < length item)) ⊎ (fault ≡ Run Memory)
 
 -- the block has been read up to `rest`, and these bytes of it led from one state to another; all items can be counted
 pub record IsUpTo {E : Type 0} (p : Ghosts E) (s : Settings) (old : State) (block rest : List ℕ) (new : State) : Type 0 where

@@ -1,5 +1,5 @@
 -- What is written for an item, and with which fault it is refused.
-use Rattle.std.specs.Prelude.{◌≡◌, ◌≢◌, ◌⊎◌, ℕ, ◌≤◌, ◌<◌, List, [], ◌∷◌, ◌++◌, length}
+use Rattle.std.specs.Prelude.{◌≡◌, ◌≢◌, ◌⊎◌, ℕ, ◌*◌, ◌≤◌, ◌<◌, List, [], ◌∷◌, ◌++◌, length}
 use Rattle.std.specs.Str.{IsUtf8}
 use Rattle.os_str_bytes.specs.EncodingError.{EncodingError}
 use Rattle.os_str_bytes.specs.Platform.{Ghosts}
@@ -25,21 +25,37 @@ end_of (ListMatching options glob) = 0
 end_of Check = 0
 end_of Join = 0x0A
 
+-- how long an item may be where a name may have `max` bytes: for each of them an escape has at most six
+abbrev pub longest : Task → ℕ → ℕ
+longest ListAll max = max
+longest (ListMatching options glob) max = max
+longest Check max = max
+longest Join max = 6 * max
+
+abbrev pub longest_item : Settings → ℕ
+longest_item s = longest s.task s.max
+
 -- on a platform that says this of its strings:
 module _ {E : Type 0} (p : Ghosts E) where
   -- the text is the escape of the name on a line
   abbrev pub IsLine : List ℕ → List ℕ → Type 0
   IsLine name text = (line : List ℕ) × IsLineEscape p.units name line × (text ≡ line ++ 0x0A ∷ [])
 
+  -- a name of at most `max` bytes, which a line is the escape of
+  pub record IsNameOf (max : ℕ) (line name : List ℕ) : Type 0 where
+    pub formed : p.well_formed name
+    pub escape : IsLineEscape p.units name line
+    pub short : length name ≤ max
+
   -- this is written for an item that isn't refused
-  abbrev pub IsText : Task → List ℕ → List ℕ → Type 0
-  IsText ListAll name text = p.well_formed name × IsLine name text
-  IsText (ListMatching options glob) name text =
+  abbrev pub IsText : Task → ℕ → List ℕ → List ℕ → Type 0
+  IsText ListAll max name text = p.well_formed name × IsLine name text
+  IsText (ListMatching options glob) max name text =
       p.well_formed name
       × ((IsMatch options glob.now (symbols_of p.units name) × IsLine name text)
       ⊎ ((¬ (IsMatch options glob.now (symbols_of p.units name))) × (text ≡ [])))
-  IsText Check name text = p.well_formed name × (text ≡ [])
-  IsText Join line text = (name : List ℕ) × p.well_formed name × (Lacks 0 name × (IsLineEscape p.units name line × (text ≡ name ++ 0 ∷ [])))
+  IsText Check max name text = p.well_formed name × (text ≡ [])
+  IsText Join max line text = (name : List ℕ) × IsNameOf max line name × (Lacks 0 name × (text ≡ name ++ 0 ∷ []))
 
   -- the first fault of a name that is no string; of a line that isn't UTF-8
   abbrev pub HasFault : Task → List ℕ → EncodingError → Type 0
@@ -55,12 +71,19 @@ module _ {E : Type 0} (p : Ghosts E) where
   HasBadQuote Check name error = ⊥
   HasBadQuote Join line error = IsUtf8 line × ((error ≢ quote.Memory) × IsLineFault p.well_formed p.units line error)
 
-  -- a line is the escape of a string with a NUL
-  abbrev pub IsOfNul : Task → List ℕ → Type 0
-  IsOfNul ListAll name = ⊥
-  IsOfNul (ListMatching options glob) name = ⊥
-  IsOfNul Check name = ⊥
-  IsOfNul Join line = (name : List ℕ) × p.well_formed name × ((¬ (Lacks 0 name)) × IsLineEscape p.units name line)
+  -- a line is the escape of a name with a NUL
+  abbrev pub IsOfNul : Task → ℕ → List ℕ → Type 0
+  IsOfNul ListAll max name = ⊥
+  IsOfNul (ListMatching options glob) max name = ⊥
+  IsOfNul Check max name = ⊥
+  IsOfNul Join max line = (name : List ℕ) × IsNameOf max line name × (¬ (Lacks 0 name))
+
+  -- a line is the escape of a name of more than `max` bytes
+  abbrev pub IsOfLong : Task → ℕ → List ℕ → Type 0
+  IsOfLong ListAll max name = ⊥
+  IsOfLong (ListMatching options glob) max name = ⊥
+  IsOfLong Check max name = ⊥
+  IsOfLong Join max line = (name : List ℕ) × p.well_formed name × (IsLineEscape p.units name line × (max < length name))
 
   -- why an item is refused, whatever its length
   abbrev pub IsReason : Task → List ℕ → Reason → Type 0
@@ -74,9 +97,9 @@ module _ {E : Type 0} (p : Ghosts E) where
 
   -- with which fault the item with this number ends the run; memory may be refused at any item
   abbrev pub IsItemFault : Settings → ℕ → List ℕ → Fault → Type 0
-  IsItemFault s number item (At n why) = (n ≡ number) × ((length item ≤ s.max) × IsReason s.task item why)
-  IsItemFault s number item (TooLong n most) = (n ≡ number) × ((most ≡ s.max) × (s.max < length item))
-  IsItemFault s number item (HasNul n) = (n ≡ number) × ((length item ≤ s.max) × IsOfNul s.task item)
+  IsItemFault s number item (At n why) = (n ≡ number) × ((length item ≤ longest_item s) × IsReason s.task item why)
+  IsItemFault s number item (TooLong n most) = (n ≡ number) × ((most ≡ s.max) × ((longest_item s < length item) ⊎ IsOfLong s.task s.max item))
+  IsItemFault s number item (HasNul n) = (n ≡ number) × ((length item ≤ longest_item s) × IsOfNul s.task s.max item)
   IsItemFault s number item TooMuch = ⊥
   IsItemFault s number item Usage = ⊥
   IsItemFault s number item (Run why) = why ≡ reason.Memory
@@ -84,5 +107,5 @@ module _ {E : Type 0} (p : Ghosts E) where
   -- an item that isn't refused, and what is written for it
   pub record IsEntry (s : Settings) (e : Entry) : Type 0 where
     pub whole : Lacks (end_of s.task) e.0
-    pub short : length e.0 ≤ s.max
-    pub text : IsText s.task e.0 e.1
+    pub short : length e.0 ≤ longest_item s
+    pub text : IsText s.task s.max e.0 e.1

@@ -1,11 +1,96 @@
 //! Commands, and the words that ask for them.
-ghost use Rattle.std.specs.Prelude.{◌≡◌, ◌≢◌, IfOk, IfErr, OnErr, map, string_bytes};
+ghost use Rattle.std.specs.Prelude.{◌≡◌, ◌≢◌, ℕ, IfOk, IfErr, OnErr, map, string_bytes};
 ghost use Rattle.names_commands.specs.declared.command.Command.{Command};
-ghost use Rattle.names_commands.specs.Command.{words_of, options_of};
+ghost use Rattle.names_commands.specs.declared.command.Request.{Request};
+ghost use Rattle.names_commands.specs.Command.{words_of, AsksFor, IsLimit, options_of};
 
 use crate::fault::Fault;
 use os_glob::{GlobOptions, Separators};
 use osbytes_commands::command::Os;
+
+/// How many bytes a name may have where the words don't say.
+const LONGEST_NAME: usize = 0x10_0000;
+
+/// What the program is asked to do, and how long a name may be.
+#[derive(Clone, Copy, PartialEq, Eq)]
+pub struct Request<'a> {
+    /// What it is asked to do.
+    pub command: Command<'a>,
+    /// How many bytes a name may have.
+    pub max: usize,
+}
+
+impl<'a> Request<'a> {
+    /// The request that the words after the program's name make: those of a command, or `--max`, a
+    /// number as [`usize`] is parsed from a text, and those of a command. Without `--max` a name may
+    /// have 1,048,576 bytes. It takes no memory.
+    ///
+    /// # Errors
+    ///
+    /// [`Fault::Usage`] for all other words.
+    ///
+    /// ```
+    /// use osbytes_commands::command::Os;
+    /// use names_commands::command::{Command, Request};
+    ///
+    /// let mut words = Vec::new(alloc);
+    /// for word in ["--max", "255", "join", "wasm"] {
+    ///     words.push(String::from_str(alloc, word)?)?;
+    /// }
+    /// let request = Request {
+    ///     command: Command::Join(Os::Wasm),
+    ///     max: 255,
+    /// };
+    /// assert!(rt; Request::parse(&words) == Ok(request));
+    /// assert!(rt; Request::parse(&words[1..]).is_err());
+    /// ```
+    pub fn parse(words: &'a [String]) -> Result<Request<'a>, Fault>
+        ensures request { IfOk result (λ request. AsksFor (map string_bytes words.now) request) }
+        ensures usage { IfErr result (λ fault. fault ≡ Fault.Usage) }
+        ensures no_request { OnErr result ((request : Request)
+            → ¬ (AsksFor (map string_bytes words.now) request)) }
+    {
+        match words {
+            [option, number, rest @ ..] => match option.as_str() {
+                "--max" => {
+                    let max = limit(number.as_str())?;
+                    let command = Command::parse(rest)?;
+                    Ok(Request { command, max })
+                }
+                _ => Request::with_default(words),
+            },
+            _ => Request::with_default(words),
+        }
+    }
+
+    /// The request of the words of a command alone.
+    fn with_default(words: &'a [String]) -> Result<Request<'a>, Fault>
+        ensures command { IfOk result
+            (λ request. map string_bytes words.now ≡ words_of request.command) }
+        ensures max { IfOk result (λ request. request.max ≡ LONGEST_NAME) }
+        ensures usage { IfErr result (λ fault. fault ≡ Fault.Usage) }
+        ensures no_command { OnErr result ((command : Command)
+            → map string_bytes words.now ≢ words_of command) }
+    {
+        let command = Command::parse(words)?;
+        Ok(Request {
+            command,
+            max: LONGEST_NAME,
+        })
+    }
+}
+
+/// The limit that a text says.
+fn limit(number: &str) -> Result<usize, Fault>
+    ensures limit { IfOk result (λ max. IsLimit number.now max) }
+    ensures usage { IfErr result (λ fault. fault ≡ Fault.Usage) }
+    ensures no_limit { OnErr result ((max : ℕ) → ¬ (IsLimit number.now max)) }
+{
+    match number.parse::<usize>() {
+        Ok(max) => Ok(max),
+        Err(_) => Err(Fault::Usage),
+    }
+}
 
 /// What the program is asked to do.
 #[derive(Clone, Copy, PartialEq, Eq)]

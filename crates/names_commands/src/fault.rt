@@ -12,7 +12,8 @@ pub enum Fault {
     /// The item with this number, counted from 1, is refused: why the name is no string of the
     /// platform, or the line no escape of one.
     At(u64, Reason),
-    /// The item with this number, counted from 1, is longer than this many bytes.
+    /// The name with this number, counted from 1, is longer than this many bytes, or the line the
+    /// escape of such a name.
     TooLong(u64, usize),
     /// The line with this number, counted from 1, is the escape of a string with a NUL, which would
     /// end the name.
@@ -77,7 +78,7 @@ impl fmt::Display for Fault {
             }
             Fault::TooMuch => f.write_str("2^64 bytes of input or more"),
             Fault::Usage => f.write_str(
-                "usage: names list|join|check unix|windows|wasm [GLOB]; names --help tells more",
+                "usage: names [--max N] list|join|check unix|windows|wasm [GLOB]; names --help tells more",
             ),
             Fault::Run(why) => why.fmt(f),
         }

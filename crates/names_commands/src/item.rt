@@ -6,9 +6,10 @@ ghost use Rattle.os_str_bytes.specs.EncodingError.{EncodingError};
 ghost use Rattle.osbytes_commands.specs.declared.fault.Fault.TheVariants.{Refused, Memory};
 ghost use Rattle.names_commands.specs.declared.fault.Fault.TheVariants.{At, Run};
 ghost use Rattle.names_commands.specs.declared.task.Task.TheVariants.{Join};
-ghost use Rattle.names_commands.specs.Task.{IsText, IsItemFault};
+ghost use Rattle.names_commands.specs.Task.{longest_item, IsText, IsItemFault};
 
 use crate::fault::Fault;
+use crate::plain::is_plain;
 use crate::split::split_at_end;
 use crate::task::{Settings, Task};
 use os_quote::{QuoteError, escape_line, unescape_line};
@@ -25,9 +26,9 @@ pub fn write_item<E: Platform, A: Allocator + Copy>(
     item: &[u8],
     output: &mut Vec<u8, A>,
 ) -> Result<(), Fault>
-    requires { length item.now ≤ settings.max }
+    requires { length item.now ≤ longest_item settings }
     ensures ok { OnOk result ((text : List ℕ)
-        × (IsText ⟦<E as Platform>⟧ settings.entry.task item.now text
+        × (IsText ⟦<E as Platform>⟧ settings.entry.task settings.entry.max item.now text
         × (output.new.items ≡ output.old.items ++ text))) }
     ensures fault { IfErr result (λ fault.
         IsItemFault ⟦<E as Platform>⟧ settings.entry number item.now fault) }
@@ -80,15 +81,11 @@ fn write_line<E: Platform, A: Allocator>(
     ensures fault { IfErr result (λ fault. fault ≡ Run Memory) }
     ensures unchanged { OnErr result (output.new.items ≡ output.old.items) }
 {
-    let Ok(escape) = escape_line(alloc, name) else {
-        return Err(Fault::Run(Reason::Memory));
-    };
-    let mut line = escape.into_bytes();
-    let Ok(()) = line.push(b'\n') else {
-        return Err(Fault::Run(Reason::Memory));
-    };
-    match output.extend_from_slice(&line) {
-        Ok(()) => Ok(()),
+    if is_plain(name.as_encoded_bytes()) {
+        return push_ended(name.as_encoded_bytes(), b'\n', output);
+    }
+    match escape_line(alloc, name) {
+        Ok(escape) => push_ended(escape.as_bytes(), b'\n', output),
         Err(_) => Err(Fault::Run(Reason::Memory)),
     }
 }
@@ -102,19 +99,22 @@ fn write_name<E: Platform, A: Allocator>(
     line: &[u8],
     output: &mut Vec<u8, A>,
 ) -> Result<(), Fault>
-    requires { length line.now ≤ max }
+    requires { length line.now ≤ longest_item (record { task = Join; max = max }) }
     ensures ok { OnOk result ((text : List ℕ)
-        × (IsText ⟦<E as Platform>⟧ Join line.now text
+        × (IsText ⟦<E as Platform>⟧ Join max line.now text
         × (output.new.items ≡ output.old.items ++ text))) }
     ensures fault { IfErr result (λ fault. IsItemFault ⟦<E as Platform>⟧
         (record { task = Join; max = max }) number line.now fault) }
     ensures unchanged { OnErr result (output.new.items ≡ output.old.items) }
 {
+    if line.len() <= max && is_plain(line) {
+        return push_ended(line, 0, output);
+    }
     if let Err(error) = Wasm::check(line) {
         return Err(Fault::At(number, Reason::Refused(error)));
     }
     let text = unsafe { str::from_utf8_unchecked(line) };
-    let mut name = match unescape_line::<E, A>(alloc, text) {
+    let name = match unescape_line::<E, A>(alloc, text) {
         Ok(string) => string.into_encoded_bytes(),
         Err(QuoteError::BadEscape(place)) => {
             return Err(Fault::At(number, Reason::BadQuote(QuoteError::BadEscape(place))));
@@ -124,14 +124,27 @@ fn write_name<E: Platform, A: Allocator>(
         }
         Err(QuoteError::Memory) => return Err(Fault::Run(Reason::Memory)),
     };
+    if name.len() > max {
+        return Err(Fault::TooLong(number, max));
+    }
     if let Some(_) = split_at_end(0, &name) {
         return Err(Fault::HasNul(number));
     }
-    let Ok(()) = name.push(0) else {
+    push_ended(&name, 0, output)
+}
+
+/// Appends bytes and the byte that ends them.
+fn push_ended<A: Allocator>(bytes: &[u8], end: u8, output: &mut Vec<u8, A>) -> Result<(), Fault>
+    ensures ok { OnOk result (output.new.items ≡ output.old.items ++ (bytes.now ++ end ∷ [])) }
+    ensures fault { IfErr result (λ fault. fault ≡ Run Memory) }
+    ensures unchanged { OnErr result (output.new.items ≡ output.old.items) }
+{
+    let Ok(()) = output.reserve(bytes.len() + 1) else {
         return Err(Fault::Run(Reason::Memory));
     };
-    match output.extend_from_slice(&name) {
-        Ok(()) => Ok(()),
-        Err(_) => Err(Fault::Run(Reason::Memory)),
-    }
+    let Ok(()) = output.extend_from_slice(bytes) else {
+        return Err(Fault::Run(Reason::Memory));
+    };
+    output.push_reserved(end);
+    Ok(())
 }

@@ -15,6 +15,8 @@
 pub mod command;
 pub mod fault;
 mod item;
+pub mod laws;
+mod plain;
 pub mod program;
 mod reading;
 pub mod run;

@@ -9,7 +9,7 @@ ghost use Rattle.osbytes_commands.specs.declared.fault.Fault.{Fault as Reason};
 ghost use Rattle.names_commands.specs.Ended.{outcome_of, was_told};
 ghost use Rattle.names_commands.specs.Program.{message, WritesMessageBeginning, IsRun, WritesHelp, Does, RunsTo};
 
-use crate::command::{Command, options_of};
+use crate::command::{Command, Request, options_of};
 use crate::fault::Fault;
 use crate::run::run;
 use crate::task::{Settings, Task};
@@ -26,12 +26,6 @@ use std::env::Args;
 use std::io;
 use std::io::{ErrorKind, Read, Write};
 use std::process::{ExitCode, Termination};
-
-/// How many bytes a name may have.
-const LONGEST_NAME: usize = 0x10_0000;
-
-/// How many bytes a line may have: an escape has at most six for each byte of a name.
-const LONGEST_LINE: usize = 0x60_0000;
 
 /// How the program ended. [`execute`] alone makes one.
 #[derive(Drop)]
@@ -117,7 +111,7 @@ impl Termination for Ended {
 /// The program with these arguments over these ends.
 ///
 /// The arguments begin with the program's name. Those after it are the words of a command
-/// ([`Command::parse`]), which is run as [`run`] says. Where no command that can run has them, where
+/// ([`Request::parse`]), which is run as [`run`] says. Where no command that can run has them, where
 /// the arguments couldn't be had, or where the run fails, the fault's message goes to `errors`, or
 /// where not all of it is taken a beginning of it, and nothing else does. Both marks must be unset
 /// ([`Marked::failed`] tells).
@@ -190,8 +184,8 @@ fn run_words<A: Allocator, R: Read, W: Write>(
     ensures read { (result ≡ Err (Fault.Run Reason.Read)) ↔ (has_failed reader.new ≡ true) }
     ensures write { (result ≡ Err (Fault.Run Reason.Write)) ↔ (has_failed writer.new ≡ true) }
 {
-    match Command::parse(words) {
-        Ok(command) => run_command(alloc, command, reader, writer),
+    match Request::parse(words) {
+        Ok(request) => run_command(alloc, request.command, request.max, reader, writer),
         Err(_) => Err(Fault::Usage),
     }
 }
@@ -200,12 +194,13 @@ fn run_words<A: Allocator, R: Read, W: Write>(
 fn run_command<A: Allocator, R: Read, W: Write>(
     alloc: A,
     command: Command<'_>,
+    max: usize,
     reader: &mut Marked<R>,
     writer: &mut Marked<W>,
 ) -> Result<(), Fault>
     requires reader_unmarked { has_failed reader.old ≡ false }
     requires writer_unmarked { has_failed writer.old ≡ false }
-    ensures run { Does command.entry (R.remaining (marked_inner reader.old))
+    ensures run { Does command.entry max (R.remaining (marked_inner reader.old))
         (R.remaining (marked_inner reader.new)) (W.contents (marked_inner writer.old))
         (W.contents (marked_inner writer.new)) result }
     ensures read { (result ≡ Err (Fault.Run Reason.Read)) ↔ (has_failed reader.new ≡ true) }
@@ -218,7 +213,7 @@ fn run_command<A: Allocator, R: Read, W: Write>(
                 os,
                 Settings {
                     task: Task::ListAll,
-                    max: LONGEST_NAME,
+                    max,
                 },
                 reader,
                 writer,
@@ -227,16 +222,7 @@ fn run_command<A: Allocator, R: Read, W: Write>(
         Command::ListMatching(os, pattern) => match Glob::new(pattern) {
             Ok(glob) => {
                 let task = Task::ListMatching(options_of(os), &glob);
-                run_on(
-                    alloc,
-                    os,
-                    Settings {
-                        task,
-                        max: LONGEST_NAME,
-                    },
-                    reader,
-                    writer,
-                )
+                run_on(alloc, os, Settings { task, max }, reader, writer)
             }
             Err(_) => Err(Fault::Usage),
         },
@@ -246,7 +232,7 @@ fn run_command<A: Allocator, R: Read, W: Write>(
                 os,
                 Settings {
                     task: Task::Join,
-                    max: LONGEST_LINE,
+                    max,
                 },
                 reader,
                 writer,
@@ -258,7 +244,7 @@ fn run_command<A: Allocator, R: Read, W: Write>(
                 os,
                 Settings {
                     task: Task::Check,
-                    max: LONGEST_NAME,
+                    max,
                 },
                 reader,
                 writer,
@@ -301,7 +287,7 @@ fn write_help<W: Write>(writer: &mut Marked<W>) -> Result<(), Fault>
 {
     match write_out(
         writer,
-        "names: lists of file names, escaped one a line, and back\n\nnames list  unix|windows|wasm [GLOB]  names ended by NUL in, the escape of each out, one a line;\n                                      with GLOB of those that it matches\nnames join  unix|windows|wasm         such lines in, names ended by NUL out\nnames check unix|windows|wasm         names ended by NUL in, nothing out: the status tells\nnames --help                          this text\n\nThe last name or line may lack its end. A name has at most 1048576 bytes, a line 6291456.\nStatus: 0, or 1 where a name or line is refused, 2 for other words, 3 where memory is refused,\n4 where a read or write fails. The first refused name is told with its number, from 1.\n".as_bytes(),
+        "names: lists of file names, escaped one a line, and back\n\nnames list  unix|windows|wasm [GLOB]  names ended by NUL in, the escape of each out, one a line;\n                                      with GLOB of those that it matches\nnames join  unix|windows|wasm         such lines in, names ended by NUL out\nnames check unix|windows|wasm         names ended by NUL in, nothing out: the status tells\nnames --help                          this text\nnames --max N ..                      one of these, for names of at most N bytes, not 1048576\n\nThe last name or line may lack its end. A line has at most six times as many bytes as a name.\nStatus: 0, or 1 where a name or line is refused, 2 for other words, 3 where memory is refused,\n4 where a read or write fails. The first refused name is told with its number, from 1.\n".as_bytes(),
     ) {
         Ok(()) => Ok(()),
         Err(_) => Err(Fault::Run(Reason::Write)),

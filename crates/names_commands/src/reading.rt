@@ -1,7 +1,7 @@
 //! Items of an input that comes in blocks.
 ghost use Rattle.std.specs.Prelude.{◌≡◌, ◌+◌, ◌<◌, ◌^◌, ◌≤◌, ◌++◌, [], length, ℕ, List, OnOk, OnErr, IfOk, IfErr};
 ghost use Rattle.names_commands.specs.Items.{Lacks};
-ghost use Rattle.names_commands.specs.Task.{end_of, IsItemFault, IsEntry};
+ghost use Rattle.names_commands.specs.Task.{end_of, longest_item, IsItemFault, IsEntry};
 ghost use Rattle.names_commands.specs.Reading.{HasBegun, IsKeepFault, Reads, Stops};
 
 use crate::fault::Fault;
@@ -66,7 +66,7 @@ fn end_item<E: Platform, A: Allocator + Copy>(
         IsItemFault ⟦<E as Platform>⟧ settings.entry number (begun.old.items ++ last.now) fault) }
     ensures unchanged { OnErr result (output.new.items ≡ output.old.items) }
 {
-    if begun.is_empty() && last.len() <= settings.max {
+    if begun.is_empty() && last.len() <= settings.longest_item() {
         return write_item::<E, A>(alloc, settings, number, last, output);
     }
     match keep(settings, number, last, begun) {
@@ -88,13 +88,13 @@ fn keep<A: Allocator>(
     more: &[u8],
     begun: &mut Vec<u8, A>,
 ) -> Result<(), Fault>
-    requires { length begun.old.items ≤ settings.max }
+    requires { length begun.old.items ≤ longest_item settings }
     ensures kept { OnOk result (begun.new.items ≡ begun.old.items ++ more.now) }
-    ensures short { OnOk result (length begun.new.items ≤ settings.entry.max) }
+    ensures short { OnOk result (length begun.new.items ≤ longest_item settings.entry) }
     ensures fault { IfErr result (λ fault.
         IsKeepFault settings.entry number (begun.old.items ++ more.now) fault) }
 {
-    if more.len() > settings.max - begun.len() {
+    if more.len() > settings.longest_item() - begun.len() {
         return Err(Fault::TooLong(number, settings.max));
     }
     match begun.extend_from_slice(more) {

@@ -1,6 +1,6 @@
 //! What is done with the items of the input.
-ghost use Rattle.std.specs.Prelude.{◌≡◌};
-ghost use Rattle.names_commands.specs.Task.{end_of};
+ghost use Rattle.std.specs.Prelude.{◌≡◌, ◌-◌, ◌^◌, min};
+ghost use Rattle.names_commands.specs.Task.{end_of, longest_item};
 
 use os_glob::{Glob, GlobOptions};
 
@@ -17,13 +17,33 @@ pub enum Task<'g, 'p> {
     Join,
 }
 
-/// What is done with each item, and how long an item may be.
+/// What is done with each item, and how long a name may be.
 #[derive(Clone, Copy)]
 pub struct Settings<'g, 'p> {
-    /// What is done with it.
+    /// What is done with each item.
     pub task: Task<'g, 'p>,
-    /// How many bytes it may have.
+    /// How many bytes a name may have.
     pub max: usize,
+}
+
+impl<'g, 'p> Settings<'g, 'p> {
+    /// How many bytes an item may have, or `usize::MAX` where that is less: a name as many as it may,
+    /// a line six times as many, since an escape has at most six for each byte of a name.
+    ///
+    /// ```
+    /// use names_commands::task::{Settings, Task};
+    ///
+    /// let (names, lines) = (Settings { task: Task::Check, max: 255 }, Settings { task: Task::Join, max: 255 });
+    /// assert!(rt; names.longest_item() == 255 && lines.longest_item() == 1530);
+    /// ```
+    pub fn longest_item(self) -> usize
+        ensures { result ≡ min (longest_item self.entry) (2 ^ 64 - 1) }
+    {
+        match self.task {
+            Task::ListAll | Task::ListMatching(_, _) | Task::Check => self.max,
+            Task::Join => self.max.saturating_mul(6),
+        }
+    }
 }
 
 impl<'g, 'p> Task<'g, 'p> {

@@ -1,4 +1,4 @@
-//! For trying: what a user of the program's library, of answer files and of the allocator that
+//! For trying: what a user of the programs' libraries, of answer files and of the allocator that
 //! refuses concludes from their public contracts alone.
 //!
 //! Each function is a caller whose contract is such a conclusion. Nothing here cites a lemma
@@ -7,6 +7,7 @@
 
 mod lists;
 mod marks;
+mod names;
 mod plans;
 mod programs;
 mod rows;
@@ -15,6 +16,7 @@ mod words;
 
 pub use lists::{bytes_again, units_again};
 pub use marks::marked_by_no_bytes;
+pub use names::{known_request, request_of_two};
 pub use plans::{kept, refuses_first, turns};
 pub use programs::{with_arguments, with_words, without_arguments};
 pub use rows::{asked_alike, counts, differs, is_whole, nothing_asked, status_of_difference};

@@ -2,7 +2,7 @@
 use Rattle.std.proofs.Common.{◌≡◌, ℕ, List, [], ◌∷◌, ◌++◌, refl, subst}
 use Rattle.names_commands.specs.Items.{Lacks, IsCutAt}
 
-end_in : (end : ℕ) (front behind : List ℕ) → ¬ (Lacks end (front ++ end ∷ behind))
+pub end_in : (end : ℕ) (front behind : List ℕ) → ¬ (Lacks end (front ++ end ∷ behind))
 end_in end [] behind h = h.0 refl
 end_in end (x ∷ front) behind h = end_in end front behind h.1
 

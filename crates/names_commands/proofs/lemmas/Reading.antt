@@ -8,7 +8,7 @@ use Rattle.names_commands.specs.declared.fault.Fault.{Fault}
 use Rattle.names_commands.specs.declared.fault.Fault.TheVariants.{At, TooLong, HasNul, TooMuch, Usage, Run}
 use Rattle.names_commands.specs.declared.task.Settings.{Settings}
 use Rattle.names_commands.specs.Items.{Entry, Lacks, IsCutAt, ended, text_of, items_of, texts_of}
-use Rattle.names_commands.specs.Task.{end_of, IsItemFault, IsEntry}
+use Rattle.names_commands.specs.Task.{end_of, longest_item, IsItemFault, IsEntry}
 use Rattle.names_commands.specs.Reading.{State, HasBegun, Reads, Stops, IsEnded, IsKeepFault, IsUpTo}
 
 pub all-append : (P : Entry → Type 0) (es ds : List Entry) → AllByRecursion P es → AllByRecursion P ds → AllByRecursion P (es ++ ds)
@@ -101,7 +101,7 @@ module _ {E : Type 0} (p : Ghosts E) (s : Settings) where
       then_end e (Run why) r = tt
 
   -- the rest of the block belongs to an item that doesn't end in it
-  pub at_end : (old mid : State) (block rest now kept : List ℕ) → IsUpTo p s old block rest mid → Lacks end rest → kept ≡ mid.begun ++ rest → length kept ≤ s.max → now ≡ mid.output
+  pub at_end : (old mid : State) (block rest now kept : List ℕ) → IsUpTo p s old block rest mid → Lacks end rest → kept ≡ mid.begun ++ rest → length kept ≤ longest_item s → now ≡ mid.output
       → Reads p s old block (record { begun = kept; count = mid.count; output = now })
   at_end old mid block rest now kept u l k short w = record {
     entries = u.reads.entries;
@@ -117,7 +117,7 @@ module _ {E : Type 0} (p : Ghosts E) (s : Settings) where
 
   -- a fault of keeping bytes is one of the item
   pub of_kept : (number : ℕ) (item : List ℕ) (fault : Fault) → IsKeepFault s number item fault → IsItemFault p s number item fault
-  of_kept number item fault (inl long) = subst (IsItemFault p s number item) (sym long.0) (refl, (refl, long.1))
+  of_kept number item fault (inl long) = subst (IsItemFault p s number item) (sym long.0) (refl, (refl, inl long.1))
   of_kept number item fault (inr memory) = subst (IsItemFault p s number item) (sym memory) refl
 
   ended_kept : (e number : ℕ) (item : List ℕ) (fault : Fault) (r : List ℕ) → IsKeepFault s number item fault → IsEnded e fault r

@@ -17,5 +17,5 @@ returns-else-is_match-clause-ok g c =
     subst (λ b. ¬ (IsTrue b)) (sym c.if-is_match.false) not_true
     (c.is_match.ensures.value.1 (subst (λ b. IsMatch options pattern (symbols_of P.units b)) (sym c.in-Ok-named.ensures.bytes) matches)) in (
       [],
-      (subst (λ t. IsText P t c.args.item.now []) (sym c.in-ListMatching.is) (c.in-Ok-named.ensures.formed, inr (other, refl)), sym (append-nil c.args.output.now.items)),
+      (subst (λ t. IsText P t c.args.settings.max c.args.item.now []) (sym c.in-ListMatching.is) (c.in-Ok-named.ensures.formed, inr (other, refl)), sym (append-nil c.args.output.now.items)),
     )

@@ -1,0 +1,19 @@
+-- What `join` gives back of the names that `list` was given.
+use Rattle.std.specs.Prelude.{◌≡◌, ◌⊎◌, ℕ, List, [], ◌∷◌, ◌++◌}
+use Rattle.names_commands.specs.declared.task.Task.TheVariants.{ListAll, Join}
+use Rattle.names_commands.specs.declared.task.Settings.{Settings}
+
+-- all names are listed, and lines are joined, where a name may have `max` bytes
+abbrev pub listing : ℕ → Settings
+listing max = record { task = ListAll; max = max }
+
+abbrev pub joining : ℕ → Settings
+joining max = record { task = Join; max = max }
+
+-- the last name has its end: there is none, or the last byte is NUL
+abbrev pub EndsWithNul : List ℕ → Type 0
+EndsWithNul names = (names ≡ []) ⊎ ((front : List ℕ) × (names ≡ front ++ 0 ∷ []))
+
+-- the names, with the NUL that the last may lack
+abbrev pub IsCompleted : List ℕ → List ℕ → Type 0
+IsCompleted names completed = (EndsWithNul names × (completed ≡ names)) ⊎ ((¬ (EndsWithNul names)) × (completed ≡ names ++ 0 ∷ []))
