@@ -1,2 +1,3 @@
+pub mod KnownNames
 pub mod RowsAsked
 pub mod TurnsEnded

@@ -16,7 +16,7 @@ mod words;
 
 pub use lists::{bytes_again, units_again};
 pub use marks::marked_by_no_bytes;
-pub use names::{known_request, request_of_two};
+pub use names::{check_one, known_request, line_before, line_of, names_again, request_of_two};
 pub use plans::{kept, refuses_first, turns};
 pub use programs::{with_arguments, with_words, without_arguments};
 pub use rows::{asked_alike, counts, differs, is_whole, nothing_asked, status_of_difference};

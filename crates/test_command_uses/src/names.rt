@@ -1,10 +1,27 @@
-//! Words of requests to list names.
-ghost use Rattle.std.specs.Prelude.{◌≡◌, IsOk, IfOk, length, map, string_bytes};
+//! Lists of names: the words of requests, what runs write and refuse, and the way back.
+ghost use Rattle.std.specs.Prelude.{◌≡◌, ◌≢◌, ◌≤◌, ◌∷◌, ◌++◌, [], ℕ, List, false, IsOk, IfOk, IfErr, OnOk, length, map, string_bytes};
+ghost use Rattle.std.specs.Io.KnownBytes.{Appends};
+ghost use Rattle.os_quote.specs.Escape.{IsLineEscape};
+ghost use Rattle.os_str_bytes.specs.EncodingError.{EncodingError};
+ghost use Rattle.osbytes_commands.specs.Marked.{marked_inner, has_failed};
+ghost use Rattle.osbytes_commands.specs.declared.fault.Fault.{Fault as Reason};
+ghost use Rattle.osbytes_commands.specs.declared.fault.Fault.TheVariants.{Refused, Write as WriteFault};
+ghost use Rattle.names_commands.specs.Back.{listing, IsCompleted};
 ghost use Rattle.names_commands.specs.Command.{AsksFor};
+ghost use Rattle.names_commands.specs.Items.{Lacks};
+ghost use Rattle.names_commands.specs.Run.{IsOutput, StopsOn};
 ghost use Rattle.names_commands.specs.declared.command.Request.{Request};
+ghost use Rattle.names_commands.specs.declared.fault.Fault.TheVariants.{At, Run};
 
 use names_commands::command::Request;
 use names_commands::fault::Fault;
+use names_commands::laws::names_come_back;
+use names_commands::run::run;
+use names_commands::task::{Settings, Task};
+use os_str_bytes::Platform;
+use osbytes_commands::marked::Marked;
+use std::alloc::Allocator;
+use std::io::Write;
 
 /// The request of two words, whose limit is the one that holds where no word says another.
 pub fn request_of_two(words: &[String]) -> Result<Request<'_>, Fault>
@@ -18,4 +35,109 @@ pub fn known_request(words: &[String]) -> Result<Request<'_>, Fault>
     ensures { (request : Request) → AsksFor (map string_bytes words.now) request → IsOk result }
 {
     Request::parse(words)
+}
+
+/// A run over bytes.
+fn run_over<E: Platform, A: Allocator, W: Write>(
+    alloc: A,
+    settings: Settings<'_, '_>,
+    input: &[u8],
+    writer: &mut Marked<W>,
+) -> Result<(), Fault>
+    requires { has_failed writer.old ≡ false }
+    ensures written { OnOk result ((output : List ℕ)
+        × (IsOutput ⟦<E as Platform>⟧ settings.entry input.now output
+        × Appends (W.contents (marked_inner writer.old)) (W.contents (marked_inner writer.new))
+        output)) }
+    ensures stopped { IfErr result (λ fault. fault ≢ Run WriteFault → (output : List ℕ)
+        × (StopsOn ⟦<E as Platform>⟧ settings.entry input.now output fault
+        × Appends (W.contents (marked_inner writer.old)) (W.contents (marked_inner writer.new))
+        output)) }
+{
+    let mut reader = Marked::new(input);
+    run::<E, A, _, _>(alloc, settings, &mut reader, writer)
+}
+
+/// Joins the lines that were written of names, which gives back the names.
+pub fn names_again<E: Platform, A: Allocator, W: Write>(
+    alloc: A,
+    max: usize,
+    names: &[u8],
+    lines: &[u8],
+    writer: &mut Marked<W>,
+) -> Result<(), Fault>
+    requires listed { IsOutput ⟦<E as Platform>⟧ (listing max) names.now lines.now }
+    requires unmarked { has_failed writer.old ≡ false }
+    ensures { OnOk result ((back : List ℕ) × (IsCompleted names.now back
+        × Appends (W.contents (marked_inner writer.old)) (W.contents (marked_inner writer.new))
+        back)) }
+{
+    names_come_back::<E>();
+    let settings = Settings {
+        task: Task::Join,
+        max,
+    };
+    run_over::<E, A, W>(alloc, settings, lines, writer)
+}
+
+/// Lists one name, which is written as its escape on a line, and not past the limit.
+pub fn line_of<E: Platform, A: Allocator, W: Write>(
+    alloc: A,
+    max: usize,
+    name: &[u8],
+    writer: &mut Marked<W>,
+) -> Result<(), Fault>
+    requires whole { Lacks 0 name.now }
+    requires some { name.now ≢ [] }
+    requires unmarked { has_failed writer.old ≡ false }
+    ensures line { OnOk result ((line : List ℕ) × (IsLineEscape E.units name.now line
+        × Appends (W.contents (marked_inner writer.old)) (W.contents (marked_inner writer.new))
+        (line ++ 0x0A ∷ []))) }
+    ensures short { OnOk result (length name.now ≤ max) }
+{
+    let settings = Settings {
+        task: Task::ListAll,
+        max,
+    };
+    run_over::<E, A, W>(alloc, settings, name, writer)
+}
+
+/// Lists names of which the second is refused: the line of the first is written, and nothing else.
+pub fn line_before<E: Platform, A: Allocator, W: Write>(
+    alloc: A,
+    max: usize,
+    names: &[u8],
+    writer: &mut Marked<W>,
+) -> Result<(), Fault>
+    requires { has_failed writer.old ≡ false }
+    ensures { IfErr result (λ fault. (name : List ℕ) → (rest : List ℕ) → (why : Reason)
+        → names.now ≡ name ++ 0 ∷ rest → Lacks 0 name → fault ≡ At 2 why → (line : List ℕ)
+        × (IsLineEscape E.units name line
+        × Appends (W.contents (marked_inner writer.old)) (W.contents (marked_inner writer.new))
+        (line ++ 0x0A ∷ []))) }
+{
+    let settings = Settings {
+        task: Task::ListAll,
+        max,
+    };
+    run_over::<E, A, W>(alloc, settings, names, writer)
+}
+
+/// Checks one name: where it is refused, it is the first, with the first fault of its bytes.
+pub fn check_one<E: Platform, A: Allocator, W: Write>(
+    alloc: A,
+    max: usize,
+    name: &[u8],
+    writer: &mut Marked<W>,
+) -> Result<(), Fault>
+    requires whole { Lacks 0 name.now }
+    requires unmarked { has_failed writer.old ≡ false }
+    ensures { IfErr result (λ fault. (number : ℕ) → (error : EncodingError)
+        → fault ≡ At number (Refused error) → (number ≡ 1) × E.first_fault name.now error) }
+{
+    let settings = Settings {
+        task: Task::Check,
+        max,
+    };
+    run_over::<E, A, W>(alloc, settings, name, writer)
 }

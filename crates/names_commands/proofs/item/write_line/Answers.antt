@@ -1,13 +1,10 @@
 use Rattle.std.proofs.Common.{◌++◌, ◌∷◌, [], length, Result, Ok, Err, OnOk, ap, ◌∙◌, subst}
 use Rattle.std.proofs.lemmas.Str.{IsUtf8-nil}
+use Rattle.std.proofs.lemmas.Result.{on_ok_weaker}
 use Rattle.os_str_bytes.specs.Strings.{bytes}
 use Rattle.os_quote.specs.Plain.{IsPlainUpTo}
 use Rattle.names_commands.proofs.lemmas.Lines.{own_line}
 use Rattle.names_commands.proofs.item.write_line.Goals as goal
-
-on_ok : {X F : Type 0} (r : Result X F) (P Q : Type 0) → (P → Q) → OnOk r P → OnOk r Q
-on_ok (Ok x) P Q f h = f h
-on_ok (Err e) P Q f h = tt
 
 pub returns-then-is_plain-clause-line : goal.returns-then-is_plain-clause-line
 returns-then-is_plain-clause-line g c =
@@ -15,6 +12,6 @@ returns-then-is_plain-clause-line g c =
     let name = bytes c.args.name in
     let plain : IsPlainUpTo name (length name) = subst (λ x. IsPlainUpTo x (length x)) c.as_encoded_bytes.ensures.value (c.is_plain.ensures c.if-is_plain.true) in
     let line = own_line P.well_formed P.units P.part_units g.met.E.Platform.parts (g.met.E.Platform.laws.text [] IsUtf8-nil) name plain in
-    on_ok c.push_ended.result _ _
+    on_ok_weaker c.push_ended.result
     (λ e. (name, (line, e ∙ ap (λ x. c.args.output.now.items ++ (x ++ 0x0A ∷ [])) c.as_encoded_bytes-then-is_plain.ensures.value)))
     c.push_ended.ensures.ok

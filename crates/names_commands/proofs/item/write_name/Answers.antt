@@ -1,6 +1,7 @@
 use Rattle.std.proofs.Common.{◌≡◌, ◌≤◌, ◌++◌, ◌∷◌, [], length, rules, Result, Ok, Err, OnOk, refl, subst, arith}
 use Rattle.std.proofs.lemmas.Str.{IsUtf8-nil}
 use Rattle.std.specs.Str.{IsUtf8}
+use Rattle.std.proofs.lemmas.Result.{on_ok_weaker}
 use Rattle.os_quote.specs.Escape.{IsLineFault}
 use Rattle.os_quote.specs.declared.error.QuoteError.TheVariants.{NotCanonical, Memory}
 use Rattle.names_commands.specs.Task.{IsNameOf}
@@ -18,10 +19,6 @@ returns-in-Err-NotCanonical-clause-fault g c =
     let utf8 : IsUtf8 c.args.line.now = search rules in
     (refl, (c.requires, (utf8, (other_error, subst (λ t. IsLineFault P.well_formed P.units t NotCanonical) c.from_utf8_unchecked-text.ensures fault))))
 
-on_ok : {X F : Type 0} (r : Result X F) (P Q : Type 0) → (P → Q) → OnOk r P → OnOk r Q
-on_ok (Ok x) P Q f h = f h
-on_ok (Err e) P Q f h = tt
-
 pub returns-then-is_plain-clause-ok : goal.returns-then-is_plain-clause-ok
 returns-then-is_plain-clause-ok g c =
     let P = g.E.Platform in
@@ -33,6 +30,6 @@ returns-then-is_plain-clause-ok g c =
       escape = own_line P.well_formed P.units P.part_units g.met.E.Platform.parts (laws.text [] IsUtf8-nil) line plain;
       short = omega (arith, c.if-line-max.true);
     } in
-    on_ok c.push_ended.result _ _
+    on_ok_weaker c.push_ended.result
     (λ e. (line ++ 0 ∷ [], ((line, name, (plain_lacks line plain, refl)), e)))
     c.push_ended.ensures.ok

@@ -1,12 +1,9 @@
 use Rattle.std.proofs.Common.{◌≡◌, ◌≤◌, ◌++◌, [], length, Result, Ok, Err, OnOk, sym, ◌∙◌, subst, arith}
 use Rattle.std.proofs.lemmas.Bool.{eqb-true}
 use Rattle.std.proofs.lemmas.List.{nil_from_length}
+use Rattle.std.proofs.lemmas.Result.{on_ok_weaker}
 use Rattle.names_commands.specs.Task.{longest_item, IsEntry}
 use Rattle.names_commands.proofs.reading.end_item.Goals as goal
-
-on_ok : {X F : Type 0} (r : Result X F) (P Q : Type 0) → (P → Q) → OnOk r P → OnOk r Q
-on_ok (Ok x) P Q f h = f h
-on_ok (Err e) P Q f h = tt
 
 pub returns-then-last-longest_item-clause-ok : goal.returns-then-last-longest_item-clause-ok
 returns-then-last-longest_item-clause-ok g c =
@@ -14,7 +11,7 @@ returns-then-last-longest_item-clause-ok g c =
     let none = eqb-true _ _ (sym c.is_empty.ensures ∙ c.if-is_empty.true) in
     let empty : c.args.begun.now.items ≡ [] = nil_from_length c.args.begun.now.items (sym c.args.begun.now.ok.0 ∙ none) in
     let short : length last ≤ longest_item c.args.settings = omega (arith, c.longest_item.ensures, c.if-last-longest_item.true) in
-    on_ok c.write_item.result _ _
+    on_ok_weaker c.write_item.result
     (λ text. (
       text.0,
       subst (λ x. IsEntry g.E.Platform c.args.settings (x ++ last, text.0)) (sym empty) (record { whole = c.requires.whole; short = short; text = text.1.0 }),

@@ -1,16 +1,13 @@
 use Rattle.std.proofs.Common.{rules, ◌≡◌, ◌≢◌, ◌+◌, ◌≤◌, ◌<◌, ◌^◌, length, take, Result, Ok, Err, OnOk, IfErr, refl, sym, subst, arith}
 use Rattle.std.proofs.lemmas.List.{length-take-le}
 use Rattle.std.specs.Io.KnownBytes.{Consumes, IsAtEnd}
+use Rattle.std.proofs.lemmas.Result.{on_ok_weaker}
 use Rattle.osbytes_commands.specs.Marked.{marked_inner}
 use Rattle.osbytes_commands.specs.declared.fault.Fault.TheVariants.{Read}
 use Rattle.names_commands.specs.Task.{IsItemFault}
 use Rattle.names_commands.specs.Run.{WritesUpTo, Finishes, IsLast}
 use Rattle.names_commands.proofs.lemmas.Runs.{nothing_read, counted, more_read, stopped, half_written, so_far, too_much, finished, last_refused, last_half}
 use Rattle.names_commands.proofs.run.run.Goals as goal
-
-on_ok : {X F : Type 0} (r : Result X F) (P Q : Type 0) → (P → Q) → OnOk r P → OnOk r Q
-on_ok (Ok x) P Q f h = f h
-on_ok (Err e) P Q f h = tt
 
 both_err : {X F : Type 0} (r : Result X F) (P Q S : F → Type 0) → ((e : F) → P e → Q e → S e) → IfErr r P → IfErr r Q → IfErr r S
 both_err (Ok x) P Q S f h k = tt
@@ -29,7 +26,7 @@ returns-in-Ok-eq0-clause-written g c =
     let none : Consumes (g.R.Read.remaining (marked_inner c.loop-alloc.reader)) (g.R.Read.remaining (marked_inner c.read.new.self)) (take c.in-Ok-eq0.field-0 c.read.new.buf) = search rules in
     let consumed = subst (λ n. Consumes (g.R.Read.remaining (marked_inner c.loop-alloc.reader)) (g.R.Read.remaining (marked_inner c.read.new.self)) (take n c.read.new.buf)) c.in-Ok-eq0.field-0-test none in
     let end : IsAtEnd (g.R.Read.remaining (marked_inner c.read.new.self)) = search rules in
-    on_ok c.finish.result _ _
+    on_ok_weaker c.finish.result
     (λ text. finished g.E.Platform c.args.settings _ _ _ _ _ _ _ _ _ c.loop-alloc.invariant.read text.0 consumed end (subst (λ x. Finishes g.E.Platform c.args.settings x text.0) c.deref.ensures.value text.1.0) text.1.1)
     c.finish.ensures.ok
 
