@@ -1,0 +1,74 @@
+-- Lists of which the first name is known.
+use Rattle.std.proofs.Common.{◌≡◌, ◌≢◌, ◌⊎◌, inl, inr, ⊎_elim, ℕ, ◌+◌, ◌≤◌, List, [], ◌∷◌, ◌++◌, length, drop, get_or, refl, sym, ap, ◌∙◌, subst, arith, append_assoc, append-nil}
+use Rattle.std.specs.List.{AllByRecursion}
+use Rattle.os_quote.specs.Escape.{IsLineEscape}
+use Rattle.os_str_bytes.specs.EncodingError.{EncodingError}
+use Rattle.os_str_bytes.specs.Platform.{Ghosts}
+use Rattle.osbytes_commands.specs.declared.fault.Fault.{Fault as Reason}
+use Rattle.osbytes_commands.specs.declared.fault.Fault.TheVariants.{Refused, Write}
+use Rattle.names_commands.specs.declared.fault.Fault.TheVariants.{At, Run}
+use Rattle.names_commands.specs.declared.task.Task.TheVariants.{Check}
+use Rattle.names_commands.specs.declared.task.Settings.{Settings}
+use Rattle.names_commands.specs.Back.{listing}
+use Rattle.names_commands.specs.Items.{Entry, Lacks, AreIn, IsLastUnended, items_of, texts_of}
+use Rattle.names_commands.specs.Task.{IsEntry}
+use Rattle.names_commands.specs.Reading.{Stops}
+use Rattle.names_commands.specs.Run.{IsOutput, start}
+
+has_end : (end : ℕ) (front behind : List ℕ) → ¬ (Lacks end (front ++ end ∷ behind))
+has_end end [] behind l = l.0 refl
+has_end end (x ∷ front) behind l = has_end end front behind l.1
+
+-- bytes are cut in one way at the first that ends an item
+same_first : (end : ℕ) (a b xs ys : List ℕ) → Lacks end a → Lacks end b → a ++ end ∷ xs ≡ b ++ end ∷ ys → a ≡ b
+same_first end [] [] xs ys l k e = refl
+same_first end [] (y ∷ b) xs ys l k e = absurd (k.0 (sym (ap (λ l. get_or l 0 0) e)))
+same_first end (x ∷ a) [] xs ys l k e = absurd (l.0 (ap (λ l. get_or l 0 0) e))
+same_first end (x ∷ a) (y ∷ b) xs ys l k e = ap (λ c. c ∷ a) (ap (λ l. get_or l 0 0) e) ∙ ap (λ l. y ∷ l) (same_first end a b xs ys l.1 k.1 (ap (drop 1) e))
+
+-- an item, its end and more
+in_front : (end : ℕ) (item more behind : List ℕ) → ((item ++ end ∷ []) ++ more) ++ behind ≡ item ++ end ∷ (more ++ behind)
+in_front end item more behind = ap (λ x. x ++ behind) (append_assoc item (end ∷ []) more) ∙ append_assoc item (end ∷ more) behind
+
+-- bytes without an end are one item
+one_item : (end : ℕ) (es : List Entry) (input : List ℕ) → Lacks end input → input ≢ [] → AreIn end es input → (text : List ℕ) × (es ≡ (input, text) ∷ [])
+one_item end [] input l some (inl same) = absurd (some same)
+one_item end (e ∷ es) input l some (inl same) = absurd (has_end end e.0 (items_of end es) (subst (Lacks end) (same ∙ append_assoc e.0 (end ∷ []) (items_of end es)) l))
+one_item end es input l some (inr u) = by u.before u.last u.entries_are u.joined
+  where
+    by : (before : List Entry) (last : Entry) → es ≡ before ++ last ∷ [] → input ≡ items_of end before ++ last.0 → (text : List ℕ) × (es ≡ (input, text) ∷ [])
+    by [] last e j = (last.1, e ∙ ap (λ x. (x, last.1) ∷ []) (sym j))
+    by (b ∷ before) last e j = absurd (has_end end b.0 (items_of end before ++ last.0) (subst (Lacks end) (j ∙ in_front end b.0 (items_of end before) last.0) l))
+
+module _ {E : Type 0} (p : Ghosts E) where
+  pub known_line : (max : ℕ) (name output : List ℕ) → Lacks 0 name → name ≢ [] → IsOutput p (listing max) name output → ((line : List ℕ) × (IsLineEscape p.units name line × (output ≡ line ++ 0x0A ∷ []))) × (length name ≤ max)
+  known_line max name output l some o =
+      let one = one_item 0 o.entries name l some o.items in
+      let entry = (subst (λ es. AllByRecursion (IsEntry p (listing max)) es) one.1 o.are).0 in
+      let line = entry.text.1 in
+      ((line.0, (line.1, o.written ∙ ap texts_of one.1 ∙ append-nil one.0 ∙ line.2)), entry.short)
+
+  -- the name that `check` refuses
+  pub known_fault : (max : ℕ) (name output : List ℕ) (number : ℕ) (error : EncodingError) → Lacks 0 name → Stops p (record { task = Check; max = max }) start name output (At number (Refused error)) → (number ≡ 1) × p.first_fault name error
+  known_fault max name output number error l s = by s.entries s.item s.rest s.joined s.ended s.because
+    where
+      by : (es : List Entry) (item rest : List ℕ) → name ≡ items_of 0 es ++ (item ++ rest) → (rest ≡ []) ⊎ ((more : List ℕ) × (rest ≡ 0 ∷ more)) → (number ≡ 0 + length es + 1) × ((length item ≤ max) × p.first_fault item error) → (number ≡ 1) × p.first_fault name error
+      by [] item rest j (inl none) f = (f.0, subst (λ x. p.first_fault x error) (sym (j ∙ ap (λ x. item ++ x) none ∙ append-nil item)) f.1.1)
+      by [] item rest j (inr more) f = absurd (has_end 0 item more.0 (subst (Lacks 0) (j ∙ ap (λ x. item ++ x) more.1) l))
+      by (e ∷ es) item rest j ended f = absurd (has_end 0 e.0 (items_of 0 es ++ (item ++ rest)) (subst (Lacks 0) (j ∙ in_front 0 e.0 (items_of 0 es) (item ++ rest)) l))
+
+  -- the line before the second name
+  pub line_before_second : (max : ℕ) (names output : List ℕ) (why : Reason) → Stops p (listing max) start names output (At 2 why) → (name rest : List ℕ) → names ≡ name ++ 0 ∷ rest → Lacks 0 name → (line : List ℕ) × (IsLineEscape p.units name line × (output ≡ line ++ 0x0A ∷ []))
+  line_before_second max names output why s name rest cut l = by s.entries s.are s.joined s.written s.because.0
+    where
+      by : (es : List Entry) → AllByRecursion (IsEntry p (listing max)) es → names ≡ items_of 0 es ++ (s.item ++ s.rest) → output ≡ texts_of es → 2 ≡ 0 + length es + 1 → (line : List ℕ) × (IsLineEscape p.units name line × (output ≡ line ++ 0x0A ∷ []))
+      by [] a j w n = omega (arith, n)
+      by (e ∷ []) a j w n =
+          let same = same_first 0 e.0 name (s.item ++ s.rest) rest a.0.whole l (sym (in_front 0 e.0 [] (s.item ++ s.rest)) ∙ sym j ∙ cut) in
+          let line = a.0.text.1 in
+          (line.0, (subst (λ x. IsLineEscape p.units x line.0) same line.1, w ∙ append-nil e.1 ∙ line.2))
+      by (e ∷ d ∷ es) a j w n = omega (arith, n)
+
+-- an item that is refused is no failed write
+pub no_write : (number : ℕ) (why : Reason) → ¬ (At number why ≡ Run Write)
+no_write number why e = cc

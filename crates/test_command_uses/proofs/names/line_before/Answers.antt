@@ -1,0 +1,18 @@
+use Rattle.std.proofs.Common.{◌∷◌, ◌++◌, [], sym, ◌∙◌, subst}
+use Rattle.std.proofs.lemmas.Result.{IfErr-weaker}
+use Rattle.std.specs.Io.KnownBytes.{Appends}
+use Rattle.names_commands.specs.Back.{listing}
+use Rattle.names_commands.specs.Run.{StopsOn}
+use Rattle.test_command_uses.proofs.KnownNames.{line_before_second, no_write}
+use Rattle.test_command_uses.proofs.names.line_before.Goals as goal
+
+pub returns : goal.returns
+returns g c =
+    let P = g.E.Platform in
+    let names = c.args.names.now in
+    IfErr-weaker c.run_over.result _ _
+    (λ fault stopped name rest why cut whole is.
+    let s = stopped (λ e. no_write 2 why (sym is ∙ e)) in
+    let line = line_before_second P c.args.max names s.0 why (subst (λ f. StopsOn P (listing c.args.max) names s.0 f) is s.1.0) name rest cut whole in
+    (line.0, (line.1.0, subst (λ text. Appends _ _ text) line.1.1 s.1.1)))
+    c.run_over.ensures.stopped
