@@ -1,6 +1,4 @@
 -- What clauses see of a word: its kind.
-use Rattle.std.specs.Prelude.{Option}
-use Rattle.std.specs.Option.{option_map}
 use Rattle.platform_str.specs.declared.platform.Platform.{Ghosts}
 use Rattle.platform_str.specs.declared.os_str.OsStr.{OsStr}
 use Rattle.platform_str.specs.Strings.{bytes}

@@ -5,7 +5,7 @@ ghost use Rattle.os_args.specs.Word.{dashes, IsName, IsNamed, IsFlag, IsReadAs, 
 ghost use Rattle.os_args.specs.Kinds.{kind_of};
 
 use crate::number::starts_as_negative;
-use os_str_ext::{OsStr, OsStrBytesExt, Platform};
+use os_str_ext::{OsStr, OsStrBytesExt, Platform, search_laws};
 
 /// What one step reads of the words of a command line, of strings `S` (lexopt's `Arg`).
 ///
@@ -64,6 +64,7 @@ fn read_long<'a, E: Platform>(long: OsStr<'a, E>) -> (Word<'a, OsStr<'a, E>>, Os
 fn split_name<'a, E: Platform>(long: OsStr<'a, E>) -> (OsStr<'a, E>, OsStr<'a, E>)
     ensures { IsName (bytes long.entry) (bytes result.0) (bytes result.1) }
 {
+    search_laws::around_place();
     match long.find("=") {
         Some(end) => long.split_at(end),
         None => (long, OsStr::new("")),
