@@ -62,12 +62,16 @@ module _ {E : Type 0} (p : Ghosts E) where
   line_before_second max names output why s name rest cut l = by s.entries s.are s.joined s.written s.because.0
     where
       by : (es : List Entry) → AllByRecursion (IsEntry p (listing max)) es → names ≡ items_of 0 es ++ (s.item ++ s.rest) → output ≡ texts_of es → 2 ≡ 0 + length es + 1 → (line : List ℕ) × (IsLineEscape p.units name line × (output ≡ line ++ 0x0A ∷ []))
-      by [] a j w n = omega (arith, n)
+      by [] a j w n =
+          let no : 2 ≢ 1 = omega arith in
+          absurd (no n)
       by (e ∷ []) a j w n =
           let same = same_first 0 e.0 name (s.item ++ s.rest) rest a.0.whole l (sym (in_front 0 e.0 [] (s.item ++ s.rest)) ∙ sym j ∙ cut) in
           let line = a.0.text.1 in
           (line.0, (subst (λ x. IsLineEscape p.units x line.0) same line.1, w ∙ append-nil e.1 ∙ line.2))
-      by (e ∷ d ∷ es) a j w n = omega (arith, n)
+      by (e ∷ d ∷ es) a j w n =
+          let no : 2 ≢ 0 + length (e ∷ d ∷ es) + 1 = omega arith in
+          absurd (no n)
 
 -- an item that is refused is no failed write
 pub no_write : (number : ℕ) (why : Reason) → ¬ (At number why ≡ Run Write)
