@@ -1,4 +1,4 @@
-"""A crate of a copy of the sources, tried by the compiler. Nothing is proved there."""
+"""A crate of a copy of the sources, tried by the compiler. It isn't proved there."""
 
 from __future__ import annotations
 
