@@ -156,9 +156,17 @@ pub(crate) fn replace_in_place<E: Platform>(bytes: &mut [u8])
     while let Some((valid, _)) = utf8_fault(bytes.split_at(at).1) {
         let start = at + valid;
         let len = E::lossy_len(bytes.split_at(start).1);
-        bytes[start] = 0xEF;
-        bytes[start + 1] = 0xBF;
-        bytes[start + 2] = 0xBD;
+        write_replacement(bytes, start);
         at = start + len;
     }
+}
+
+/// Writes U+FFFD over the three bytes from an index on.
+fn write_replacement(bytes: &mut [u8], start: usize)
+    requires { start + 3 ≤ length bytes.old }
+    ensures front { take (start + 3) bytes.new ≡ take start bytes.old ++ replacement }
+    ensures behind { drop (start + 3) bytes.new ≡ drop (start + 3) bytes.old }
+    ensures same_length { length bytes.new ≡ length bytes.old }
+{
+    bytes[start..start + 3].copy_from_slice(&REPLACEMENT);
 }

@@ -3,6 +3,7 @@ ghost use Rattle.std.specs.Prelude.{◌≡◌, ◌∷◌, [], Some};
 ghost use Rattle.std.specs.Char.{encode_utf8};
 ghost use Rattle.std.specs.Fmt.{WritesStyledOnOk, decimal};
 ghost use Rattle.wtf8_core.specs.FaultText.{upper_hex, fault_text};
+ghost use Rattle.wtf8_core.specs.declared.fault.EncodingError.TheVariants.{Byte, CodePoint, Utf8};
 
 use crate::digits::{code_point_digits, upper_hex_digit};
 use std::error::Error;
@@ -72,6 +73,36 @@ fn write_decimal<W: fmt::Write>(value: usize, f: &mut fmt::Formatter<W>) -> fmt:
     f.write_char(char::from(b'0' + (value % 10) as u8))
 }
 
+/// Writes the text of a byte that can't occur where it is.
+fn write_byte<W: fmt::Write>(byte: u8, f: &mut fmt::Formatter<W>) -> fmt::Result
+    ensures { WritesStyledOnOk W.write_str_gives f.old result (fault_text (Byte byte)) f.new }
+{
+    f.write_str(NOT_REPRESENTABLE)?;
+    f.write_str("byte b'\\x")?;
+    write_upper_hex(u32::from(byte), 2, f)?;
+    f.write_str("'")
+}
+
+/// Writes the text of a value that is no code point there.
+fn write_code_point<W: fmt::Write>(value: u32, f: &mut fmt::Formatter<W>) -> fmt::Result
+    ensures { WritesStyledOnOk W.write_str_gives f.old result (fault_text (CodePoint value)) f.new }
+{
+    f.write_str(NOT_REPRESENTABLE)?;
+    f.write_str("code point U+")?;
+    write_upper_hex(value, code_point_digits(value), f)
+}
+
+/// Writes the text of an ill-formed part of UTF-8, of its length and index.
+fn write_ill_formed<W: fmt::Write>(len: u8, index: usize, f: &mut fmt::Formatter<W>) -> fmt::Result
+    ensures { WritesStyledOnOk W.write_str_gives f.old result (fault_text (Utf8 index (Some len)))
+        f.new }
+{
+    f.write_str("invalid utf-8 sequence of ")?;
+    write_decimal(usize::from(len), f)?;
+    f.write_str(" bytes from index ")?;
+    write_decimal(index, f)
+}
+
 impl fmt::Display for EncodingError {
     ghost output = { λ fault. Some (fault_text fault) };
 
@@ -79,17 +110,8 @@ impl fmt::Display for EncodingError {
 
     fn fmt<W: fmt::Write>(&self, f: &mut fmt::Formatter<W>) -> fmt::Result {
         match *self {
-            EncodingError::Byte(byte) => {
-                f.write_str(NOT_REPRESENTABLE)?;
-                f.write_str("byte b'\\x")?;
-                write_upper_hex(u32::from(byte), 2, f)?;
-                f.write_str("'")
-            }
-            EncodingError::CodePoint(value) => {
-                f.write_str(NOT_REPRESENTABLE)?;
-                f.write_str("code point U+")?;
-                write_upper_hex(value, code_point_digits(value), f)
-            }
+            EncodingError::Byte(byte) => write_byte(byte, f),
+            EncodingError::CodePoint(value) => write_code_point(value, f),
             EncodingError::End => {
                 f.write_str(NOT_REPRESENTABLE)?;
                 f.write_str("end of string")
@@ -98,12 +120,7 @@ impl fmt::Display for EncodingError {
                 valid_up_to,
                 error_len,
             } => match error_len {
-                Some(len) => {
-                    f.write_str("invalid utf-8 sequence of ")?;
-                    write_decimal(usize::from(len), f)?;
-                    f.write_str(" bytes from index ")?;
-                    write_decimal(valid_up_to, f)
-                }
+                Some(len) => write_ill_formed(len, valid_up_to, f),
                 None => {
                     f.write_str("incomplete utf-8 byte sequence from index ")?;
                     write_decimal(valid_up_to, f)
