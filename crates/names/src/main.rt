@@ -3,11 +3,13 @@
 //! It hands its words and its ends to [`execute`], whose contract says what then is done.
 #![tactic(auto)]
 
-use names_commands::program::{Ended, execute};
+use names_commands::fault::Fault;
+use names_commands::program::execute;
+use osbytes_commands::ended::Ended;
 use osbytes_commands::marked::Marked;
 use std::env;
 
-fn main(rt: HostRuntime) -> Ended {
+fn main(rt: HostRuntime) -> Ended<Fault> {
     execute(
         rt.alloc(),
         env::args(&rt),

@@ -4,6 +4,5 @@ pub mod Reading
 pub mod Run
 pub mod Fault
 pub mod Command
-pub mod Ended
 pub mod Program
 pub mod Back

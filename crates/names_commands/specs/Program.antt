@@ -1,9 +1,10 @@
 -- The whole program, from the words after its name to its exit status.
-use Rattle.std.specs.Prelude.{◌≡◌, ◌≢◌, ◌⊎◌, ℕ, List, [], ◌++◌, codes, take, Option, OnOk, IfErr, Result, Ok, Err, ⊤}
+use Rattle.std.specs.Prelude.{◌≡◌, ◌≢◌, ◌⊎◌, ℕ, List, codes, Option, OnOk, IfErr, Result, Err, ⊤}
 use Rattle.std.specs.Io.KnownBytes.{Appends, IsAtEnd}
 use Rattle.os_str_bytes.specs.Platform.{Ghosts}
 use Rattle.os_glob.specs.declared.options.GlobOptions.{GlobOptions}
 use Rattle.osbytes_commands.specs.Strings.{strings}
+use Rattle.osbytes_commands.specs.Written.{AppendsBeginning}
 use Rattle.osbytes_commands.specs.declared.fault.Fault.TheVariants.{Write}
 use Rattle.names_commands.specs.declared.command.Command.{Command}
 use Rattle.names_commands.specs.declared.command.Command.TheVariants.{ListAll, ListMatching, Join, Check, Help}
@@ -14,7 +15,6 @@ use Rattle.names_commands.specs.declared.task.Task.TheVariants as task
 use Rattle.names_commands.specs.declared.task.Settings.{Settings}
 use Rattle.names_commands.specs.declared.command.Request.{Request}
 use Rattle.names_commands.specs.Command.{AsksFor, options_of, IsUnusable}
-use Rattle.names_commands.specs.Fault.{text_of, status_of}
 use Rattle.names_commands.specs.Run.{WritesOutput, WritesUpTo, WritesBeginning}
 
 -- what `run` says of the bytes that its reader had and has left, of what its writer held and holds, and of its answer
@@ -39,7 +39,7 @@ help_text = codes "names: lists of file names, escaped one a line, and back\n\nn
 pub record WritesHelp (old new : Option (List ℕ)) (answer : Result ⊤ Fault) : Type 0 where
   pub written : OnOk answer (Appends old new help_text)
   pub fault : IfErr answer (λ fault. fault ≡ Run Write)
-  pub beginning : answer ≡ Err (Run Write) → (count : ℕ) × Appends old new (take count help_text)
+  pub beginning : answer ≡ Err (Run Write) → AppendsBeginning old new help_text
 
 -- what the command does where a name may have `max` bytes
 abbrev pub Does : Command → ℕ → Option (List ℕ) → Option (List ℕ) → Option (List ℕ) → Option (List ℕ) → Result ⊤ Fault → Type 0
@@ -56,16 +56,3 @@ abbrev pub RunsTo : List (List ℕ) → Option (List ℕ) → Option (List ℕ) 
 RunsTo words input left old new answer =
     (((request : Request) → ¬ (AsksFor words request)) × (answer ≡ Err Usage))
     ⊎ ((request : Request) × (AsksFor words request × Does request.command request.max input left old new answer))
-
--- what the program prints of a fault
-abbrev pub message : Fault → List ℕ
-message fault = codes "names: " ++ (text_of fault ++ codes "\n")
-
--- the contents grew by a beginning of that
-abbrev pub WritesMessageBeginning : Fault → Option (List ℕ) → Option (List ℕ) → Type 0
-WritesMessageBeginning fault old new = (count : ℕ) × Appends old new (take count (message fault))
-
--- the status that the program ends with
-abbrev pub status_after : Result ⊤ Fault → ℕ
-status_after (Ok done) = 0
-status_after (Err fault) = status_of fault

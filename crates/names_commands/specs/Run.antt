@@ -1,8 +1,9 @@
 -- What a run writes for the bytes that its reader had left, as far as they are known.
-use Rattle.std.specs.Prelude.{◌≡◌, ◌≢◌, ◌⊎◌, ℕ, ◌+◌, ◌-◌, ◌^◌, ◌≤◌, List, [], ◌++◌, length, take, Option, IfSome}
+use Rattle.std.specs.Prelude.{◌≡◌, ◌≢◌, ◌⊎◌, ℕ, ◌+◌, ◌-◌, ◌^◌, ◌≤◌, List, [], ◌++◌, length, Option, IfSome}
 use Rattle.std.specs.List.{AllByRecursion}
 use Rattle.std.specs.Io.KnownBytes.{Appends, Consumes}
 use Rattle.os_str_bytes.specs.Platform.{Ghosts}
+use Rattle.osbytes_commands.specs.Written.{AppendsBeginning}
 use Rattle.names_commands.specs.declared.fault.Fault.{Fault}
 use Rattle.names_commands.specs.declared.fault.Fault.TheVariants.{At, TooLong, HasNul, TooMuch, Usage, Run}
 use Rattle.names_commands.specs.declared.task.Settings.{Settings}
@@ -48,7 +49,7 @@ module _ {E : Type 0} (p : Ghosts E) (s : Settings) where
 
   -- the contents grew by a beginning of the output for a beginning of the input
   abbrev pub WritesBeginning : Option (List ℕ) → Option (List ℕ) → Option (List ℕ) → Type 0
-  WritesBeginning input old new = IfSome input (λ bytes. (output : List ℕ) × ((count : ℕ) × (IsBegun bytes output × Appends old new (take count output))))
+  WritesBeginning input old new = IfSome input (λ bytes. (output : List ℕ) × (IsBegun bytes output × AppendsBeginning old new output))
 
   -- so much has been read of an input and written: the bytes left and the contents at first, and now
   pub record HasRead (input left old new : Option (List ℕ)) (begun : List ℕ) (count total : ℕ) : Type 0 where

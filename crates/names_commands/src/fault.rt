@@ -2,6 +2,7 @@
 ghost use Rattle.std.specs.Fmt.{WritesStyledOnOk};
 ghost use Rattle.names_commands.specs.Fault.{place_text};
 
+use osbytes_commands::ended::ProgramFault;
 use osbytes_commands::fault::{Fault as Reason, write_number};
 use std::fmt;
 use std::fmt::Display as _;
@@ -25,31 +26,6 @@ pub enum Fault {
     /// What keeps the program from going on, whatever the items are: a request for memory was
     /// refused, a read failed or a write did.
     Run(Reason),
-}
-
-impl Fault {
-    ghost use Rattle.std.specs.Prelude.{◌≡◌};
-    ghost use Rattle.names_commands.specs.Fault.{status_of};
-
-    /// The status that the program ends with: 1 for an input that it refuses, 2 for its words, 3 for
-    /// want of memory, and 4 for a failed read or write.
-    ///
-    /// ```
-    /// use osbytes_commands::fault::Fault as Reason;
-    /// use names_commands::fault::Fault;
-    ///
-    /// assert_eq!(rt; Fault::TooLong(3, 255).status(), 1);
-    /// assert_eq!(rt; Fault::Run(Reason::Write).status(), 4);
-    /// ```
-    pub fn status(&self) -> u8
-        ensures { result ≡ status_of self.now }
-    {
-        match self {
-            Fault::At(_, _) | Fault::TooLong(_, _) | Fault::HasNul(_) | Fault::TooMuch => 1,
-            Fault::Usage => 2,
-            Fault::Run(why) => why.status(),
-        }
-    }
 }
 
 impl fmt::Display for Fault {
@@ -81,6 +57,42 @@ impl fmt::Display for Fault {
                 "usage: names [--max N] list|join|check unix|windows|wasm [GLOB]; names --help tells more",
             ),
             Fault::Run(why) => why.fmt(f),
+        }
+    }
+}
+
+impl ProgramFault for Fault {
+    ghost use Rattle.std.specs.Prelude.{codes, refl};
+    ghost use Rattle.names_commands.specs.Fault.{text_of, status_of};
+
+    ghost name = { codes "names" };
+
+    ghost text_of = { text_of };
+
+    ghost status_of = { status_of };
+
+    ghost printed = { λ _. refl };
+
+    fn program_name() -> &'static str {
+        "names"
+    }
+
+    /// The status that the program ends with: 1 for an input that it refuses, 2 for its words, 3 for
+    /// want of memory, and 4 for a failed read or write.
+    ///
+    /// ```
+    /// use osbytes_commands::ended::ProgramFault;
+    /// use osbytes_commands::fault::Fault as Reason;
+    /// use names_commands::fault::Fault;
+    ///
+    /// assert_eq!(rt; Fault::TooLong(3, 255).status(), 1);
+    /// assert_eq!(rt; Fault::Run(Reason::Write).status(), 4);
+    /// ```
+    fn status(&self) -> u8 {
+        match self {
+            Fault::At(_, _) | Fault::TooLong(_, _) | Fault::HasNul(_) | Fault::TooMuch => 1,
+            Fault::Usage => 2,
+            Fault::Run(why) => why.status(),
         }
     }
 }

@@ -22,4 +22,3 @@ mod reading;
 pub mod run;
 mod split;
 pub mod task;
-mod telling;

@@ -1,22 +1,24 @@
 //! The whole program, over ends of any kind.
-ghost use Rattle.std.specs.Prelude.{◌≡◌, ◌≢◌, ◌↔◌, true, false, map, string_bytes, IfOk, IfErr, OnOk, IsOk, Ok, Err, ◌⊎◌};
+ghost use Rattle.std.specs.Prelude.{◌≡◌, ◌≢◌, ◌↔◌, true, false, codes, map, string_bytes, IfOk, IfErr, OnOk, IsOk, Ok, Err, ◌⊎◌};
 ghost use Rattle.std.specs.Io.KnownBytes.{Appends};
 ghost use Rattle.std.specs.IoError.{error_kind};
+ghost use Rattle.osbytes_commands.specs.Ended.{message, outcome_of, was_told};
 ghost use Rattle.osbytes_commands.specs.Marked.{marked_inner, has_failed};
 ghost use Rattle.osbytes_commands.specs.Program.{words_behind_name};
 ghost use Rattle.osbytes_commands.specs.Strings.{strings};
+ghost use Rattle.osbytes_commands.specs.Written.{AppendsBeginning};
 ghost use Rattle.osbytes_commands.specs.declared.fault.Fault.{Fault as Reason};
-ghost use Rattle.names_commands.specs.Ended.{outcome_of, was_told};
-ghost use Rattle.names_commands.specs.Program.{message, WritesMessageBeginning, IsRun, WritesHelp, Does, RunsTo};
+ghost use Rattle.names_commands.specs.Fault.{text_of};
+ghost use Rattle.names_commands.specs.Program.{IsRun, WritesHelp, Does, RunsTo};
 
 use crate::command::{Command, Request, options_of};
 use crate::fault::Fault;
 use crate::run::run;
 use crate::task::{Settings, Task};
-use crate::telling::tell;
 use os_glob::Glob;
 use os_str_bytes::{Unix, Wasm, Windows};
 use osbytes_commands::command::Os;
+use osbytes_commands::ended::Ended;
 use osbytes_commands::fault::Fault as Reason;
 use osbytes_commands::marked::Marked;
 use osbytes_commands::program::{Messages, Output, words};
@@ -25,88 +27,6 @@ use std::alloc::Allocator;
 use std::env::Args;
 use std::io;
 use std::io::{ErrorKind, Read, Write};
-use std::process::{ExitCode, Termination};
-
-/// How the program ended. [`execute`] alone makes one.
-#[derive(Drop)]
-pub struct Ended {
-    outcome: Result<(), Fault>,
-    told: bool,
-}
-
-impl Ended {
-    /// The end of a run with this outcome: a fault's message goes to `errors`, which is `names: `,
-    /// the fault's text and a newline.
-    fn telling<E: Write>(outcome: Result<(), Fault>, errors: &mut E) -> Ended
-        ensures outcome { outcome_of result ≡ outcome }
-        ensures quiet { OnOk outcome (errors.new ≡ errors.old) }
-        ensures told { was_told result ≡ true → IfErr outcome (λ fault.
-            Appends (E.contents errors.old) (E.contents errors.new) (message fault)) }
-        ensures beginning { IfErr outcome (λ fault.
-            WritesMessageBeginning fault (E.contents errors.old) (E.contents errors.new)) }
-    {
-        match outcome {
-            Ok(()) => Ended {
-                outcome,
-                told: true,
-            },
-            Err(fault) => Ended {
-                outcome,
-                told: tell(fault, errors),
-            },
-        }
-    }
-
-    /// What the run answered.
-    ///
-    /// ```
-    /// use osbytes_commands::marked::Marked;
-    /// use names_commands::fault::Fault;
-    /// use names_commands::program::execute;
-    ///
-    /// let no_words = Ok(Vec::new(alloc).into_iter());
-    /// let (mut input, mut output) = (Marked::new(b"".as_slice()), Marked::new(rt.stdout()));
-    /// let ended = execute(alloc, no_words, &mut input, &mut output, &mut rt.stderr());
-    /// assert!(rt; ended.outcome() == Err(Fault::Usage));
-    /// ```
-    pub fn outcome(&self) -> Result<(), Fault>
-        ensures { result ≡ outcome_of self.now }
-    {
-        self.outcome
-    }
-
-    /// Whether the whole message was taken, where there was one.
-    ///
-    /// ```
-    /// use osbytes_commands::marked::Marked;
-    /// use names_commands::program::execute;
-    ///
-    /// let no_words = Ok(Vec::new(alloc).into_iter());
-    /// let (mut input, mut output) = (Marked::new(b"".as_slice()), Marked::new(rt.stdout()));
-    /// let ended = execute(alloc, no_words, &mut input, &mut output, &mut rt.stderr());
-    /// assert!(rt; ended.told());
-    /// ```
-    pub fn told(&self) -> bool
-        ensures { result ≡ was_told self.now }
-    {
-        self.told
-    }
-}
-
-impl Termination for Ended {
-    ghost use Rattle.std.specs.Process.{exit_status};
-    ghost use Rattle.names_commands.specs.Program.{status_after};
-
-    /// The status: 0, or that of the fault.
-    fn report<P: Eprint>(self, _rt: &P) -> ExitCode
-        ensures { exit_status result ≡ status_after (outcome_of self) }
-    {
-        match self.outcome {
-            Ok(()) => ExitCode::SUCCESS,
-            Err(fault) => ExitCode::from(fault.status()),
-        }
-    }
-}
 
 /// The program with these arguments over these ends.
 ///
@@ -136,7 +56,7 @@ pub fn execute<A: Allocator, R: Read, W: Output, E: Messages>(
     reader: &mut Marked<R>,
     writer: &mut Marked<W>,
     errors: &mut E,
-) -> Ended
+) -> Ended<Fault>
     requires reader_unmarked { has_failed reader.old ≡ false }
     requires writer_unmarked { has_failed writer.old ≡ false }
 
@@ -158,9 +78,11 @@ pub fn execute<A: Allocator, R: Read, W: Output, E: Messages>(
     // The message.
     ensures quiet { OnOk (outcome_of result) (errors.new ≡ errors.old) }
     ensures told { was_told result ≡ true → IfErr (outcome_of result) (λ fault.
-        Appends (E.contents errors.old) (E.contents errors.new) (message fault)) }
+        Appends (E.contents errors.old) (E.contents errors.new)
+        (message (codes "names") (text_of fault))) }
     ensures beginning { IfErr (outcome_of result) (λ fault.
-        WritesMessageBeginning fault (E.contents errors.old) (E.contents errors.new)) }
+        AppendsBeginning (E.contents errors.old) (E.contents errors.new)
+        (message (codes "names") (text_of fault))) }
 {
     match words(&alloc, args) {
         Ok(words) => Ended::telling(run_words(&alloc, &words, reader, writer), errors),

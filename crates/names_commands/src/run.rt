@@ -1,9 +1,10 @@
 //! One run: items read, what is to be written for them made, and written, block by block.
-ghost use Rattle.std.specs.Prelude.{◌≡◌, ◌≢◌, ◌↔◌, ◌+◌, ◌<◌, ◌^◌, ◌++◌, [], length, take, ℕ, List, true, false, OnOk, OnErr, IfOk, IfErr};
+ghost use Rattle.std.specs.Prelude.{◌≡◌, ◌≢◌, ◌↔◌, ◌+◌, ◌<◌, ◌^◌, ◌++◌, [], length, ℕ, List, true, false, OnOk, OnErr, IfOk, IfErr};
 ghost use Rattle.std.specs.Io.KnownBytes.{Appends, IsAtEnd};
 ghost use Rattle.osbytes_commands.specs.declared.fault.Fault.{Fault as Reason};
 ghost use Rattle.names_commands.specs.declared.fault.Fault.{Fault};
 ghost use Rattle.osbytes_commands.specs.Marked.{marked_inner, has_failed};
+ghost use Rattle.osbytes_commands.specs.Written.{AppendsBeginning};
 ghost use Rattle.names_commands.specs.Task.{IsItemFault};
 ghost use Rattle.names_commands.specs.Reading.{HasBegun, Reads, Stops, Begins};
 ghost use Rattle.names_commands.specs.Run.{WritesOutput, WritesUpTo, WritesBeginning, Finishes, IsLast};
@@ -125,11 +126,11 @@ fn write_block<E: Platform, A: Allocator + Copy, W: Write>(
         fault)
         × Appends (W.contents (marked_inner writer.old)) (W.contents (marked_inner writer.new))
         text)) }
-    ensures beginning { result ≡ Err (Fault.Run Reason.Write) → (text : List ℕ) × ((size : ℕ)
+    ensures beginning { result ≡ Err (Fault.Run Reason.Write) → (text : List ℕ)
         × (((more : List ℕ) → Begins ⟦<E as Platform>⟧ settings.entry
         (record { begun = begun.old.items; count = count; output = [] }) (block.now ++ more) text)
-        × Appends (W.contents (marked_inner writer.old)) (W.contents (marked_inner writer.new))
-        (take size text))) }
+        × AppendsBeginning (W.contents (marked_inner writer.old))
+        (W.contents (marked_inner writer.new)) text) }
     ensures no_read { result ≢ Err (Fault.Run Reason.Read) }
     ensures marked { (result ≡ Err (Fault.Run Reason.Write)) ↔ (has_failed writer.new ≡ true) }
 {
@@ -165,10 +166,10 @@ fn finish<E: Platform, A: Allocator + Copy, W: Write>(
         → IsItemFault ⟦<E as Platform>⟧ settings.entry (count + 1) begun.now fault) }
     ensures unchanged { IfErr result (λ fault. fault ≢ Fault.Run Reason.Write
         → writer.new ≡ writer.old) }
-    ensures beginning { result ≡ Err (Fault.Run Reason.Write) → (text : List ℕ) × ((size : ℕ)
+    ensures beginning { result ≡ Err (Fault.Run Reason.Write) → (text : List ℕ)
         × (IsLast ⟦<E as Platform>⟧ settings.entry begun.now text
-        × Appends (W.contents (marked_inner writer.old)) (W.contents (marked_inner writer.new))
-        (take size text))) }
+        × AppendsBeginning (W.contents (marked_inner writer.old))
+        (W.contents (marked_inner writer.new)) text) }
     ensures no_read { result ≢ Err (Fault.Run Reason.Read) }
     ensures marked { (result ≡ Err (Fault.Run Reason.Write)) ↔ (has_failed writer.new ≡ true) }
 {

@@ -1,5 +1,5 @@
 //! The calls that every string of a platform has in addition to its conversions.
-ghost use Rattle.std.specs.Prelude.{◌≡◌, ◌<◌, ◌↔◌, ◌++◌, ◌+◌, ◌*◌, ◌^◌, IsTrue, IsOk, IsErr, IfOk, IfSome, length, take, drop};
+ghost use Rattle.std.specs.Prelude.{ℕ, List, ◌≡◌, ◌<◌, ◌↔◌, ◌++◌, ◌+◌, ◌*◌, ◌^◌, IsTrue, IsOk, IsErr, IfOk, IfSome, length, take, drop};
 ghost use Rattle.wtf8_core.specs.Standing.{Finds, IsFirstPlace, IsLastPlace, IsPrefix, IsSuffix};
 ghost use Rattle.wtf8_core.specs.UnitPlace.{FindsInUnits};
 ghost use Rattle.wtf8_core.specs.Boundary.{IsBoundary};
@@ -30,6 +30,9 @@ use std::alloc::{AllocError, Allocator};
 /// A boundary is 0, the length, or an index at which a whole character starts or ends, as in the
 /// documentation of std's `OsStr::slice_encoded_bytes`. A search looks for its pattern's text.
 pub trait OsStrBytesExt<'a>: OsStrBytes<'a> {
+    // the string's units
+    ghost units_of: { Self → List ℕ };
+
     // Cuts.
 
     /// Whether the string may be cut at index `at`, as std's `str::is_char_boundary`; `false` if
@@ -59,9 +62,7 @@ pub trait OsStrBytesExt<'a>: OsStrBytes<'a> {
         requires { IsBoundary (Self.bytes_of self) at }
         ensures front { Self.bytes_of result.0 ≡ take at (Self.bytes_of self) }
         ensures back { Self.bytes_of result.1 ≡ drop at (Self.bytes_of self) }
-        ensures units { Self.Platform.units (Self.bytes_of self)
-            ≡ Self.Platform.units (Self.bytes_of result.0)
-            ++ Self.Platform.units (Self.bytes_of result.1) };
+        ensures units { units_of self ≡ units_of result.0 ++ units_of result.1 };
 
     /// The part in a range that fits (test: [`SliceIndex::fits`]), as std's indexing of `str`. The
     /// units before the range, those of the part and those after the range, joined, are the
@@ -147,7 +148,7 @@ pub trait OsStrBytesExt<'a>: OsStrBytes<'a> {
     fn contains<P: Pattern>(self, pattern: P) -> bool
         ensures bytes { IsTrue result ↔ StandsSomewhere (P.text pattern) (Self.bytes_of self) }
         ensures units { IsTrue result ↔ StandsSomewhere (Self.Platform.units (P.text pattern))
-            (Self.Platform.units (Self.bytes_of self)) };
+            (units_of self) };
 
     /// Whether the string starts with the pattern.
     ///
@@ -161,7 +162,7 @@ pub trait OsStrBytesExt<'a>: OsStrBytes<'a> {
     fn starts_with<P: Pattern>(self, pattern: P) -> bool
         ensures bytes { IsTrue result ↔ IsPrefix (P.text pattern) (Self.bytes_of self) }
         ensures units { IsTrue result ↔ IsPrefix (Self.Platform.units (P.text pattern))
-            (Self.Platform.units (Self.bytes_of self)) };
+            (units_of self) };
 
     /// Whether the string ends with the pattern.
     ///
@@ -175,7 +176,7 @@ pub trait OsStrBytesExt<'a>: OsStrBytes<'a> {
     fn ends_with<P: Pattern>(self, pattern: P) -> bool
         ensures bytes { IsTrue result ↔ IsSuffix (P.text pattern) (Self.bytes_of self) }
         ensures units { IsTrue result ↔ IsSuffix (Self.Platform.units (P.text pattern))
-            (Self.Platform.units (Self.bytes_of self)) };
+            (units_of self) };
 
     /// Whether the units of the string start with the units of `front`; half of a surrogate pair
     /// counts.
@@ -188,8 +189,7 @@ pub trait OsStrBytesExt<'a>: OsStrBytes<'a> {
     /// assert!(rt; string.as_os_str().starts_with_os(high.as_os_str()));
     /// ```
     fn starts_with_os(self, front: Self) -> bool
-        ensures { IsTrue result ↔ IsPrefix (Self.Platform.units (Self.bytes_of front))
-            (Self.Platform.units (Self.bytes_of self)) };
+        ensures { IsTrue result ↔ IsPrefix (units_of front) (units_of self) };
 
     /// Whether the units of the string end with the units of `end`; half of a surrogate pair
     /// counts.
@@ -202,8 +202,7 @@ pub trait OsStrBytesExt<'a>: OsStrBytes<'a> {
     /// assert!(rt; string.as_os_str().ends_with_os(low.as_os_str()));
     /// ```
     fn ends_with_os(self, end: Self) -> bool
-        ensures { IsTrue result ↔ IsSuffix (Self.Platform.units (Self.bytes_of end))
-            (Self.Platform.units (Self.bytes_of self)) };
+        ensures { IsTrue result ↔ IsSuffix (units_of end) (units_of self) };
 
     // Strips and trims.
 
@@ -218,8 +217,7 @@ pub trait OsStrBytesExt<'a>: OsStrBytes<'a> {
     /// ```
     fn strip_prefix<P: Pattern>(self, pattern: P) -> Option<Self>
         ensures bytes { StripsFront Self.bytes_of (P.text pattern) (Self.bytes_of self) result }
-        ensures units { StripsFront (λ part. Self.Platform.units (Self.bytes_of part))
-            (Self.Platform.units (P.text pattern)) (Self.Platform.units (Self.bytes_of self))
+        ensures units { StripsFront units_of (Self.Platform.units (P.text pattern)) (units_of self)
             result };
 
     /// The string without the pattern at its end, or `None` if it doesn't end with the pattern.
@@ -232,8 +230,7 @@ pub trait OsStrBytesExt<'a>: OsStrBytes<'a> {
     /// ```
     fn strip_suffix<P: Pattern>(self, pattern: P) -> Option<Self>
         ensures bytes { StripsEnd Self.bytes_of (P.text pattern) (Self.bytes_of self) result }
-        ensures units { StripsEnd (λ part. Self.Platform.units (Self.bytes_of part))
-            (Self.Platform.units (P.text pattern)) (Self.Platform.units (Self.bytes_of self))
+        ensures units { StripsEnd units_of (Self.Platform.units (P.text pattern)) (units_of self)
             result };
 
     /// The string with all prefixes that match the pattern repeatedly removed; the whole string if
@@ -291,9 +288,8 @@ pub trait OsStrBytesExt<'a>: OsStrBytes<'a> {
     fn split_once<P: Pattern>(self, pattern: P) -> Option<(Self, Self)>
         ensures bytes { SplitsOnce IsFirstPlace Self.bytes_of (P.text pattern) (Self.bytes_of self)
             result }
-        ensures units { SplitsOnce IsFirstPlace (λ part. Self.Platform.units (Self.bytes_of part))
-            (Self.Platform.units (P.text pattern)) (Self.Platform.units (Self.bytes_of self))
-            result };
+        ensures units { SplitsOnce IsFirstPlace units_of (Self.Platform.units (P.text pattern))
+            (units_of self) result };
 
     /// The parts before and after the last occurrence of the pattern, or `None` if it doesn't
     /// occur.
@@ -308,10 +304,8 @@ pub trait OsStrBytesExt<'a>: OsStrBytes<'a> {
     fn rsplit_once<P: Pattern>(self, pattern: P) -> Option<(Self, Self)>
         ensures bytes { SplitsOnce IsLastPlace Self.bytes_of (P.text pattern)
             (Self.bytes_of self) result }
-        ensures units { SplitsOnce IsLastPlace
-            (λ part. Self.Platform.units (Self.bytes_of part))
-            (Self.Platform.units (P.text pattern)) (Self.Platform.units (Self.bytes_of self))
-            result };
+        ensures units { SplitsOnce IsLastPlace units_of (Self.Platform.units (P.text pattern))
+            (units_of self) result };
 
     /// The pieces between occurrences of the pattern, each cut at the first one in what is left.
     /// The pattern isn't empty (test: `str::is_empty`; a `char` never is).
@@ -372,9 +366,8 @@ pub trait OsStrBytesExt<'a>: OsStrBytes<'a> {
     /// ```
     fn split_first_char(self) -> Option<(char, Self)>
         ensures bytes { SplitsFirstChar Self.bytes_of (Self.bytes_of self) result }
-        ensures units { IfSome result (λ parts. Self.Platform.units (Self.bytes_of self)
-            ≡ Self.Platform.units (encode_utf8 parts.0)
-            ++ Self.Platform.units (Self.bytes_of parts.1)) };
+        ensures units { IfSome result (λ parts. units_of self
+            ≡ Self.Platform.units (encode_utf8 parts.0) ++ units_of parts.1) };
 
     /// The last character and the rest of the string, or `None` if the string doesn't end with a
     /// whole character (own call; if the string is a text, what std's `str::chars` gives by
@@ -390,9 +383,8 @@ pub trait OsStrBytesExt<'a>: OsStrBytes<'a> {
     /// ```
     fn split_last_char(self) -> Option<(char, Self)>
         ensures bytes { SplitsLastChar Self.bytes_of (Self.bytes_of self) result }
-        ensures units { IfSome result (λ parts. Self.Platform.units (Self.bytes_of self)
-            ≡ Self.Platform.units (Self.bytes_of parts.1)
-            ++ Self.Platform.units (encode_utf8 parts.0)) };
+        ensures units { IfSome result (λ parts. units_of self
+            ≡ units_of parts.1 ++ Self.Platform.units (encode_utf8 parts.0)) };
 
     // Chunks.
 
@@ -477,7 +469,7 @@ pub trait OsStrBytesExt<'a>: OsStrBytes<'a> {
         count: usize,
     ) -> Result<OsString<Self::Platform, A>, AllocError>
         ensures units { IfOk result (λ made. Self.Platform.units (string_vec_of made).items
-            ≡ repeat count (Self.Platform.units (Self.bytes_of self))) }
+            ≡ repeat count (units_of self)) }
         ensures empty { count * length (Self.bytes_of self) ≡ 0 → IsOk result }
         ensures overflow { usize.MAX < count * length (Self.bytes_of self) → IsErr result }
     {
@@ -487,9 +479,20 @@ pub trait OsStrBytesExt<'a>: OsStrBytes<'a> {
             count,
         )
     }
+
+    // the units of a string are the platform's units of its bytes
+    ghost units_are: { (string : Self) → units_of string
+        ≡ Self.Platform.units (Self.bytes_of string) };
 }
 
 impl<'a, E: Platform + 'a> OsStrBytesExt<'a> for OsStr<'a, E> {
+    ghost use Rattle.std.specs.Prelude.{refl};
+    ghost use Rattle.platform_str.specs.Strings.{bytes};
+
+    ghost units_of = { λ string. E.units (bytes string) };
+
+    ghost units_are = { λ _. refl };
+
     fn is_boundary(self, at: usize) -> bool {
         boundary::is_boundary(self.as_encoded_bytes(), at)
     }

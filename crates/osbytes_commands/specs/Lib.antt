@@ -1,6 +1,7 @@
 pub mod Command
 pub mod Fault
 pub mod Marked
+pub mod Written
 pub mod Lines
 pub mod Strings
 pub mod Output

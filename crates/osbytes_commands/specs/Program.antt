@@ -1,13 +1,11 @@
 -- The whole program, from the words after its name to its exit status.
-use Rattle.std.specs.Prelude.{◌≡◌, ℕ, List, ◌++◌, codes, drop, take, map, Option, IfErr, OnOk, Result, Ok, Err, String, string_bytes}
-use Rattle.std.specs.Io.KnownBytes.{Appends}
+use Rattle.std.specs.Prelude.{◌≡◌, ℕ, List, drop, map, Option, IfErr, OnOk, Result, Err, String, string_bytes}
 use Rattle.std.specs.Vec.Iter.{into_iter_items}
 use Rattle.std.specs.declared.vec.IntoIter.{IntoIter}
 use Rattle.osbytes_commands.specs.declared.command.Command.{Command}
 use Rattle.osbytes_commands.specs.declared.fault.Fault.{Fault}
 use Rattle.osbytes_commands.specs.declared.fault.Fault.TheVariants.{Write}
 use Rattle.osbytes_commands.specs.Command.{words_of, IsUnusable}
-use Rattle.osbytes_commands.specs.Fault.{text_of, status_of}
 use Rattle.osbytes_commands.specs.Output.{IsOfInput}
 use Rattle.osbytes_commands.specs.Run.{WritesOutput, WritesBeginning, RefusesInput, AnswersRefusal}
 
@@ -29,16 +27,3 @@ pub record IsOutcome {T : Type 0} (command : Command) (input old new : Option (L
 -- the command that has these words has this outcome
 abbrev pub RunsTo : {T : Type 0} → List (List ℕ) → Option (List ℕ) → Option (List ℕ) → Option (List ℕ) → Result T Fault → Type 0
 RunsTo words input old new outcome = (command : Command) → words ≡ words_of command → IsOutcome command input old new outcome
-
--- what the program prints of a fault
-abbrev pub message : Fault → List ℕ
-message fault = codes "osbytes: " ++ (text_of fault ++ codes "\n")
-
--- the contents grew by a beginning of that
-abbrev pub WritesMessageBeginning : Fault → Option (List ℕ) → Option (List ℕ) → Type 0
-WritesMessageBeginning fault old new = (count : ℕ) × Appends old new (take count (message fault))
-
--- the status that the program ends with
-abbrev pub status_after : {T : Type 0} → Result T Fault → ℕ
-status_after (Ok done) = 0
-status_after (Err fault) = status_of fault

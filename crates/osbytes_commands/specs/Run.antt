@@ -1,10 +1,11 @@
 -- What a run does with the bytes that its reader had left, as far as they are known.
-use Rattle.std.specs.Prelude.{◌≡◌, ◌⊎◌, ℕ, List, take, Option, IfSome, Result, Err}
+use Rattle.std.specs.Prelude.{◌≡◌, ◌⊎◌, ℕ, List, Option, IfSome, Result, Err}
 use Rattle.std.specs.Io.KnownBytes.{Appends}
 use Rattle.osbytes_commands.specs.declared.command.Command.{Command}
 use Rattle.osbytes_commands.specs.declared.fault.Fault.{Fault}
 use Rattle.osbytes_commands.specs.declared.fault.Fault.TheVariants.{Read, Memory}
 use Rattle.osbytes_commands.specs.Output.{IsOutput, IsRefusal}
+use Rattle.osbytes_commands.specs.Written.{AppendsBeginning}
 
 -- the contents grew by the output for the input
 abbrev pub WritesOutput : Command → Option (List ℕ) → Option (List ℕ) → Option (List ℕ) → Type 0
@@ -14,7 +15,7 @@ WritesOutput command input old new =
 -- the contents grew by a beginning of the output for the input
 abbrev pub WritesBeginning : Command → Option (List ℕ) → Option (List ℕ) → Option (List ℕ) → Type 0
 WritesBeginning command input old new =
-    IfSome input (λ bytes. (output : List ℕ) × (count : ℕ) × IsOutput command bytes output × Appends old new (take count output))
+    IfSome input (λ bytes. (output : List ℕ) × IsOutput command bytes output × AppendsBeginning old new output)
 
 -- the command refuses the input with the fault
 abbrev pub RefusesInput : Command → Option (List ℕ) → Fault → Type 0

@@ -3,6 +3,7 @@ ghost use Rattle.std.specs.Prelude.{◌≡◌, Some, decimal};
 ghost use Rattle.std.specs.Fmt.{WritesStyledOnOk};
 ghost use Rattle.osbytes_commands.specs.declared.fault.Fault.TheVariants.{Refused, Memory};
 
+use crate::ended::ProgramFault;
 use os_quote::QuoteError;
 use os_str_bytes::EncodingError;
 use std::alloc::{AllocError, AllocFailed};
@@ -30,30 +31,6 @@ pub enum Fault {
     Read,
     /// A write of the output failed or took nothing, or the flush failed.
     Write,
-}
-
-impl Fault {
-    ghost use Rattle.osbytes_commands.specs.Fault.{status_of};
-
-    /// The status that the program ends with: 1 for input that it refuses, 2 for its
-    /// words, 3 for want of memory, and 4 for a failed read or write. That of `BadLine(2)` is 1.
-    ///
-    /// ```
-    /// use osbytes_commands::fault::Fault;
-    ///
-    /// assert_eq!(rt; Fault::BadLine(2).status(), 1);
-    /// assert_eq!(rt; Fault::Usage.status(), 2);
-    /// ```
-    pub fn status(&self) -> u8
-        ensures { result ≡ status_of self.now }
-    {
-        match self {
-            Fault::Refused(_) | Fault::BadLine(_) | Fault::BadQuote(_) => 1,
-            Fault::Usage => 2,
-            Fault::Memory => 3,
-            Fault::Read | Fault::Write => 4,
-        }
-    }
 }
 
 impl fmt::Display for Fault {
@@ -85,6 +62,42 @@ impl fmt::Display for Fault {
             Fault::Memory => f.write_str("out of memory"),
             Fault::Read => f.write_str("read failed"),
             Fault::Write => f.write_str("write failed"),
+        }
+    }
+}
+
+impl ProgramFault for Fault {
+    ghost use Rattle.std.specs.Prelude.{codes, refl};
+    ghost use Rattle.osbytes_commands.specs.Fault.{text_of, status_of};
+
+    ghost name = { codes "osbytes" };
+
+    ghost text_of = { text_of };
+
+    ghost status_of = { status_of };
+
+    ghost printed = { λ _. refl };
+
+    fn program_name() -> &'static str {
+        "osbytes"
+    }
+
+    /// The status that the program ends with: 1 for input that it refuses, 2 for its
+    /// words, 3 for want of memory, and 4 for a failed read or write. That of `BadLine(2)` is 1.
+    ///
+    /// ```
+    /// use osbytes_commands::ended::ProgramFault;
+    /// use osbytes_commands::fault::Fault;
+    ///
+    /// assert_eq!(rt; Fault::BadLine(2).status(), 1);
+    /// assert_eq!(rt; Fault::Usage.status(), 2);
+    /// ```
+    fn status(&self) -> u8 {
+        match self {
+            Fault::Refused(_) | Fault::BadLine(_) | Fault::BadQuote(_) => 1,
+            Fault::Usage => 2,
+            Fault::Memory => 3,
+            Fault::Read | Fault::Write => 4,
         }
     }
 }

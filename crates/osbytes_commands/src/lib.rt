@@ -11,6 +11,7 @@
 mod answer;
 mod chunks;
 pub mod command;
+pub mod ended;
 pub mod fault;
 mod find;
 mod lines;

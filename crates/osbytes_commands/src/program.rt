@@ -1,22 +1,23 @@
 //! The whole program, over ends of any kind.
-ghost use Rattle.std.specs.Prelude.{◌≡◌, ◌≢◌, ◌⊎◌, ◌↔◌, true, false, drop, map, string_bytes, IfOk, IfErr, OnOk, IsOk};
+ghost use Rattle.std.specs.Prelude.{◌≡◌, ◌≢◌, ◌⊎◌, ◌↔◌, true, false, codes, drop, map, string_bytes, IfOk, IfErr, OnOk, IsOk};
 ghost use Rattle.std.specs.Io.KnownBytes.{Appends, IsAtEnd};
 ghost use Rattle.std.specs.IoError.{error_kind};
 ghost use Rattle.std.specs.Vec.Iter.{into_iter_items};
-ghost use Rattle.osbytes_commands.specs.Ended.{outcome_of, was_told};
+ghost use Rattle.osbytes_commands.specs.Ended.{message, outcome_of, was_told};
+ghost use Rattle.osbytes_commands.specs.Fault.{text_of};
 ghost use Rattle.osbytes_commands.specs.Marked.{marked_inner, has_failed};
-ghost use Rattle.osbytes_commands.specs.Program.{message, WritesMessageBeginning, words_behind_name, AreNoCommand, RunsTo};
+ghost use Rattle.osbytes_commands.specs.Program.{words_behind_name, AreNoCommand, RunsTo};
+ghost use Rattle.osbytes_commands.specs.Written.{AppendsBeginning};
 
 use crate::command::Command;
+use crate::ended::Ended;
 use crate::fault::Fault;
 use crate::marked::Marked;
 use crate::run::run;
-use crate::telling::tell;
 use std::alloc::{AllocError, Allocator};
 use std::env::Args;
 use std::io;
 use std::io::{ErrorKind, Read, Stderr, Stdout, Write};
-use std::process::{ExitCode, Termination};
 
 /// A writer that output goes to: standard output is one, standard error isn't.
 pub trait Output: Write {}
@@ -27,87 +28,6 @@ impl Output for Stdout {}
 pub trait Messages: Write {}
 
 impl Messages for Stderr {}
-
-/// How the program ended. [`execute`] alone makes one.
-#[derive(Drop)]
-pub struct Ended {
-    outcome: Result<(), Fault>,
-    told: bool,
-}
-
-impl Ended {
-    /// The end of a run with this outcome: a fault's message goes to `errors`, which is
-    /// `osbytes: `, the fault's text and a newline.
-    fn telling<E: Write>(outcome: Result<(), Fault>, errors: &mut E) -> Ended
-        ensures outcome { outcome_of result ≡ outcome }
-        ensures quiet { OnOk outcome (errors.new ≡ errors.old) }
-        ensures told { was_told result ≡ true → IfErr outcome (λ fault.
-            Appends (E.contents errors.old) (E.contents errors.new) (message fault)) }
-        ensures beginning { IfErr outcome (λ fault.
-            WritesMessageBeginning fault (E.contents errors.old) (E.contents errors.new)) }
-    {
-        match outcome {
-            Ok(()) => Ended {
-                outcome,
-                told: true,
-            },
-            Err(fault) => Ended {
-                outcome,
-                told: tell(fault, errors),
-            },
-        }
-    }
-
-    /// What the run answered.
-    ///
-    /// ```
-    /// use osbytes_commands::fault::Fault;
-    /// use osbytes_commands::marked::Marked;
-    /// use osbytes_commands::program::execute;
-    ///
-    /// let no_words = Ok(Vec::new(alloc).into_iter());
-    /// let (mut input, mut output) = (Marked::new(b"".as_slice()), Marked::new(rt.stdout()));
-    /// let ended = execute(alloc, no_words, &mut input, &mut output, &mut rt.stderr());
-    /// assert!(rt; ended.outcome() == Err(Fault::Usage));
-    /// ```
-    pub fn outcome(&self) -> Result<(), Fault>
-        ensures { result ≡ outcome_of self.now }
-    {
-        self.outcome
-    }
-
-    /// Whether the whole message was taken, where there was one.
-    ///
-    /// ```
-    /// use osbytes_commands::marked::Marked;
-    /// use osbytes_commands::program::execute;
-    ///
-    /// let no_words = Ok(Vec::new(alloc).into_iter());
-    /// let (mut input, mut output) = (Marked::new(b"".as_slice()), Marked::new(rt.stdout()));
-    /// let ended = execute(alloc, no_words, &mut input, &mut output, &mut rt.stderr());
-    /// assert!(rt; ended.told());
-    /// ```
-    pub fn told(&self) -> bool
-        ensures { result ≡ was_told self.now }
-    {
-        self.told
-    }
-}
-
-impl Termination for Ended {
-    ghost use Rattle.std.specs.Process.{exit_status};
-    ghost use Rattle.osbytes_commands.specs.Program.{status_after};
-
-    /// The status: 0, or that of the fault.
-    fn report<P: Eprint>(self, _rt: &P) -> ExitCode
-        ensures { exit_status result ≡ status_after (outcome_of self) }
-    {
-        match self.outcome {
-            Ok(()) => ExitCode::SUCCESS,
-            Err(fault) => ExitCode::from(fault.status()),
-        }
-    }
-}
 
 /// The program with these arguments over these ends.
 ///
@@ -141,7 +61,7 @@ pub fn execute<A: Allocator, R: Read, W: Output, E: Messages>(
     reader: &mut Marked<R>,
     writer: &mut Marked<W>,
     errors: &mut E,
-) -> Ended
+) -> Ended<Fault>
     requires reader_unmarked { has_failed reader.old ≡ false }
     requires writer_unmarked { has_failed writer.old ≡ false }
 
@@ -169,9 +89,11 @@ pub fn execute<A: Allocator, R: Read, W: Output, E: Messages>(
     // The message.
     ensures quiet { OnOk (outcome_of result) (errors.new ≡ errors.old) }
     ensures told { was_told result ≡ true → IfErr (outcome_of result) (λ fault.
-        Appends (E.contents errors.old) (E.contents errors.new) (message fault)) }
+        Appends (E.contents errors.old) (E.contents errors.new)
+        (message (codes "osbytes") (text_of fault))) }
     ensures beginning { IfErr (outcome_of result) (λ fault.
-        WritesMessageBeginning fault (E.contents errors.old) (E.contents errors.new)) }
+        AppendsBeginning (E.contents errors.old) (E.contents errors.new)
+        (message (codes "osbytes") (text_of fault))) }
 {
     match words(&alloc, args) {
         Ok(words) => Ended::telling(run_words(&alloc, &words, reader, writer), errors),

@@ -1,9 +1,10 @@
 //! One run: all input read, the whole output made, the output written.
-ghost use Rattle.std.specs.Prelude.{◌≡◌, ◌≢◌, ℕ, ◌⊎◌, ◌↔◌, true, false, take, IfOk, IfErr, OnOk, OnErr};
+ghost use Rattle.std.specs.Prelude.{◌≡◌, ◌≢◌, ◌⊎◌, ◌↔◌, true, false, IfOk, IfErr, OnOk, OnErr};
 ghost use Rattle.std.specs.Io.KnownBytes.{Appends, Consumes, IsAtEnd};
 ghost use Rattle.osbytes_commands.specs.Command.{IsUnusable};
 ghost use Rattle.osbytes_commands.specs.Marked.{marked_inner, has_failed};
 ghost use Rattle.osbytes_commands.specs.Output.{IsOfInput};
+ghost use Rattle.osbytes_commands.specs.Written.{AppendsBeginning};
 ghost use Rattle.osbytes_commands.specs.Run.{WritesOutput, WritesBeginning, RefusesInput, AnswersRefusal};
 
 use crate::answer::answer;
@@ -123,8 +124,8 @@ pub fn write_out<W: Write>(writer: &mut Marked<W>, output: &[u8]) -> Result<(), 
     ensures unmarked { OnOk result (has_failed writer.new ≡ false) }
     ensures fault { IfErr result (λ fault. fault ≡ Fault.Write) }
     ensures marked { OnErr result (has_failed writer.new ≡ true) }
-    ensures beginning { OnErr result ((count : ℕ) × Appends (W.contents (marked_inner writer.old))
-        (W.contents (marked_inner writer.new)) (take count output.now)) }
+    ensures beginning { OnErr result (AppendsBeginning (W.contents (marked_inner writer.old))
+        (W.contents (marked_inner writer.new)) output.now) }
 {
     let mut written = 0;
     while written < output.len() {

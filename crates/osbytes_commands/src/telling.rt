@@ -1,23 +1,24 @@
 //! The message of a fault.
-ghost use Rattle.std.specs.Prelude.{◌≡◌, ℕ, true, take, IfSome};
+ghost use Rattle.std.specs.Prelude.{◌≡◌, true, IfSome};
 ghost use Rattle.std.specs.Fmt.InlineText.{inline_text};
 ghost use Rattle.std.specs.Io.KnownBytes.{Appends};
-ghost use Rattle.osbytes_commands.specs.Program.{message, WritesMessageBeginning};
+ghost use Rattle.osbytes_commands.specs.Ended.{message};
+ghost use Rattle.osbytes_commands.specs.Written.{AppendsBeginning};
 
-use crate::fault::Fault;
+use crate::ended::ProgramFault;
 use std::fmt::{InlineText, Write as _};
 use std::io::Write;
 
-/// How many bytes a message may have; the longest has 101.
-const ROOM: usize = 128;
+/// How many bytes a message may have; the longest of the two programs' has 133.
+const ROOM: usize = 160;
 
 /// Writes the message of a fault, and answers whether all of it was taken; else a beginning of it
 /// was. It takes no memory.
-pub(crate) fn tell<E: Write>(fault: Fault, errors: &mut E) -> bool
+pub(crate) fn tell<F: ProgramFault, E: Write>(fault: &F, errors: &mut E) -> bool
     ensures told { result ≡ true → Appends (E.contents errors.old) (E.contents errors.new)
-        (message fault) }
-    ensures beginning { WritesMessageBeginning fault (E.contents errors.old)
-        (E.contents errors.new) }
+        (message F.name (F.text_of fault.now)) }
+    ensures beginning { AppendsBeginning (E.contents errors.old) (E.contents errors.new)
+        (message F.name (F.text_of fault.now)) }
 {
     match message(fault) {
         Some(text) => write_text(text.as_str().as_bytes(), errors),
@@ -39,8 +40,7 @@ pub(crate) fn tell<E: Write>(fault: Fault, errors: &mut E) -> bool
 pub fn write_text<E: Write>(text: &[u8], errors: &mut E) -> bool
     ensures told { result ≡ true → Appends (E.contents errors.old) (E.contents errors.new)
         text.now }
-    ensures beginning { (count : ℕ) × Appends (E.contents errors.old) (E.contents errors.new)
-        (take count text.now) }
+    ensures beginning { AppendsBeginning (E.contents errors.old) (E.contents errors.new) text.now }
 {
     let mut written = 0;
     while written < text.len() {
@@ -52,12 +52,14 @@ pub fn write_text<E: Write>(text: &[u8], errors: &mut E) -> bool
     true
 }
 
-/// `osbytes: `, the fault's text and a newline, where there is room for them.
-fn message(fault: Fault) -> Option<InlineText<ROOM>>
-    ensures { IfSome result (λ text. inline_text text ≡ message fault) }
+/// The program's name, `: `, the fault's text and a newline, where there is room for them.
+fn message<F: ProgramFault>(fault: &F) -> Option<InlineText<ROOM>>
+    ensures { IfSome result (λ text.
+        inline_text text ≡ message F.name (F.text_of fault.now)) }
 {
     let mut text = InlineText::new();
-    match writeln!(text, "osbytes: {fault}") {
+    let name = F::program_name();
+    match writeln!(text, "{name}: {fault}") {
         Ok(()) => Some(text),
         Err(_) => None,
     }

@@ -1,17 +1,20 @@
-//! The whole program, with arguments and without.
+//! The whole programs, with arguments and without, and how they end.
 ghost use Rattle.std.specs.Prelude.{◌≡◌, ◌<◌, true, false, OnOk, IsOk, codes, length};
 ghost use Rattle.std.specs.Io.KnownBytes.{Appends};
 ghost use Rattle.std.specs.Process.{exit_status};
+ghost use Rattle.osbytes_commands.specs.Ended.{message};
 ghost use Rattle.osbytes_commands.specs.Marked.{has_failed};
 ghost use Rattle.osbytes_commands.specs.Program.{AreNoCommand, words_behind_name};
 
+use names_commands::program::execute as execute_names;
+use osbytes_commands::ended::{Ended, ProgramFault};
 use osbytes_commands::fault::Fault;
 use osbytes_commands::marked::Marked;
 use osbytes_commands::program::{Messages, Output, execute};
 use std::alloc::{Allocator, Global};
 use std::env::Args;
 use std::io;
-use std::io::{Eprint, ErrorKind, Read};
+use std::io::{Eprint, ErrorKind, Read, Write};
 use std::process::{ExitCode, Termination};
 
 /// The program where its arguments can't be had: whether it told why, and its status.
@@ -64,4 +67,50 @@ pub fn with_arguments<A: Allocator, R: Read, W: Output, E: Messages>(
     ensures { result ≡ Err Fault.Usage → AreNoCommand (words_behind_name arguments) }
 {
     execute(alloc, Ok(arguments), reader, writer, errors).outcome()
+}
+
+/// The program for names where its arguments can't be had: whether it told why, and its status.
+pub fn names_without_arguments<P: Eprint, A: Allocator, R: Read, W: Output, E: Messages>(
+    rt: &P,
+    alloc: A,
+    reader: &mut Marked<R>,
+    writer: &mut Marked<W>,
+    errors: &mut E,
+) -> (bool, ExitCode)
+    requires reader_unmarked { has_failed reader.old ≡ false }
+    requires writer_unmarked { has_failed writer.old ≡ false }
+    ensures told { result.0 ≡ true → Appends (E.contents errors.old) (E.contents errors.new)
+        (codes "names: usage: names [--max N] list|join|check unix|windows|wasm [GLOB]; names --help tells more\n") }
+    ensures status { exit_status result.1 ≡ 2 }
+{
+    let arguments = Err(io::Error::from(ErrorKind::InvalidInput));
+    let ended = execute_names(alloc, arguments, reader, writer, errors);
+    let told = ended.told();
+    (told, ended.report(rt))
+}
+
+/// The end of a program after a fault: whether it told it, and its status.
+pub fn after_a_fault<F: ProgramFault, P: Eprint, E: Write>(
+    rt: &P,
+    fault: F,
+    errors: &mut E,
+) -> (bool, ExitCode)
+    ensures told { result.0 ≡ true → Appends (E.contents errors.old) (E.contents errors.new)
+        (message F.name (F.text_of fault)) }
+    ensures status { exit_status result.1 ≡ F.status_of fault }
+{
+    let ended = Ended::telling(Err(fault), errors);
+    let told = ended.told();
+    (told, ended.report(rt))
+}
+
+/// The end of a program without a fault: what it answered, and its status.
+pub fn after_success<P: Eprint, E: Write>(rt: &P, errors: &mut E) -> (Result<(), Fault>, ExitCode)
+    ensures outcome { IsOk result.0 }
+    ensures status { exit_status result.1 ≡ 0 }
+    ensures quiet { errors.new ≡ errors.old }
+{
+    let ended = Ended::telling(Ok(()), errors);
+    let outcome = ended.outcome();
+    (outcome, ended.report(rt))
 }

@@ -9,6 +9,27 @@ use os_str_bytes::{
 };
 use std::alloc::{AllocError, Allocator};
 
+/// A string of any kind, cut in two: the units of its bytes are those of the parts' bytes, joined.
+pub fn cut_in_units<'a, S: OsStrBytesExt<'a> + Copy>(string: S, at: usize) -> (S, S)
+    requires { IsBoundary (S.bytes_of string) at }
+    ensures { S.Platform.units (S.bytes_of string)
+        ≡ S.Platform.units (S.bytes_of result.0) ++ S.Platform.units (S.bytes_of result.1) }
+{
+    string.split_at(at)
+}
+
+/// A string of a platform, cut in two.
+pub fn os_cut_in_units<'a, E: Platform + 'a>(
+    string: OsStr<'a, E>,
+    at: usize,
+) -> (OsStr<'a, E>, OsStr<'a, E>)
+    requires { IsBoundary (bytes string) at }
+    ensures { E.units (bytes string.entry)
+        ≡ E.units (bytes result.0) ++ E.units (bytes result.1) }
+{
+    cut_in_units(string, at)
+}
+
 /// The part in `start..end`, and the units before it, in it and after it.
 pub fn part_in_units<'a, E: Platform + 'a>(
     string: OsStr<'a, E>,

@@ -12,6 +12,7 @@ use Rattle.names_commands.specs.declared.fault.Fault.TheVariants.{At, TooLong, H
 use Rattle.names_commands.specs.declared.task.Settings.{Settings}
 use Rattle.names_commands.specs.Items.{Entry, ended, text_of, items_of, texts_of}
 use Rattle.names_commands.specs.Task.{end_of, IsItemFault, IsEntry}
+use Rattle.osbytes_commands.specs.Written.{AppendsBeginning}
 use Rattle.names_commands.specs.Reading.{State, HasBegun, Reads, Stops, IsEnded, Begins}
 use Rattle.names_commands.specs.Run.{start, IsOutput, IsBegun, StopsOn, WritesOutput, WritesUpTo, WritesBeginning, HasRead, IsLast, Finishes}
 use Rattle.names_commands.proofs.lemmas.Reading.{all-append, behind, more_texts}
@@ -165,22 +166,19 @@ module _ {E : Type 0} (p : Ghosts E) (s : Settings) where
         ))
 
     -- a beginning of a text comes after the text before it
-    half : (text : List ℕ) (size : ℕ) → Appends mid new (take size text) → Appends old new (take (length h.text + size) (h.text ++ text))
-    half text size w = subst (Appends old new) (take_after h.text text size) (Appends-trans old mid new h.text (take size text) h.written w)
+    half : (text : List ℕ) → AppendsBeginning mid new text → AppendsBeginning old new (h.text ++ text)
+    half text w = (length h.text + w.0, subst (Appends old new) (take_after h.text text w.0) (Appends-trans old mid new h.text (take w.0 text) h.written w.1))
 
-    pub half_written : (block text : List ℕ) (size : ℕ) → Consumes left next block → ((more : List ℕ) → Begins p s at (block ++ more) text) → Appends mid new (take size text) → WritesBeginning p s input old new
-    half_written block text size c q w =
+    pub half_written : (block text : List ℕ) → Consumes left next block → ((more : List ℕ) → Begins p s at (block ++ more) text) → AppendsBeginning mid new text → WritesBeginning p s input old new
+    half_written block text c q w =
         known input next (h.bytes ++ block) _ (Consumes-trans input left next h.bytes block h.consumed c)
         (λ more. (
           h.text ++ text,
           (
-            length h.text + size,
-            (
-              of_begins ((h.bytes ++ block) ++ more) (h.text ++ text)
-                  (subst (λ x. Begins p s start x (h.text ++ text)) (sym (append_assoc h.bytes block more))
-                  (then_begins start (record { begun = begun; count = count; output = h.text }) h.bytes (block ++ more) text h.reads (q more))),
-              half text size w,
-            ),
+            of_begins ((h.bytes ++ block) ++ more) (h.text ++ text)
+                (subst (λ x. Begins p s start x (h.text ++ text)) (sym (append_assoc h.bytes block more))
+                (then_begins start (record { begun = begun; count = count; output = h.text }) h.bytes (block ++ more) text h.reads (q more))),
+            half text w,
           ),
         ))
 
@@ -252,7 +250,7 @@ module _ {E : Type 0} (p : Ghosts E) (s : Settings) where
     pub last_refused : (fault : Fault) → Consumes left next [] → IsAtEnd next → IsItemFault p s (count + 1) begun fault → WritesUpTo p s fault input old mid
     last_refused fault c e f = Consumes-whole input next h.bytes _ (whole c) e (h.text, (of_stops h.bytes h.text fault (at_last fault f), h.written))
 
-    pub last_half : (text : List ℕ) (size : ℕ) → Consumes left next [] → IsAtEnd next → IsLast p s begun text → Appends mid new (take size text) → WritesBeginning p s input old new
-    last_half text size c e l w =
+    pub last_half : (text : List ℕ) → Consumes left next [] → IsAtEnd next → IsLast p s begun text → AppendsBeginning mid new text → WritesBeginning p s input old new
+    last_half text c e l w =
         Consumes-whole input next h.bytes _ (whole c) e
-        (h.text ++ text, (length h.text + size, (record { front = h.bytes; rest = []; joined = sym (append-nil h.bytes); of_front = with_last text l }, half text size w)))
+        (h.text ++ text, (record { front = h.bytes; rest = []; joined = sym (append-nil h.bytes); of_front = with_last text l }, half text w))

@@ -1,6 +1,6 @@
 -- What a command does is decided by its words.
 use Rattle.std.proofs.Common.{◌≡◌, ℕ, List, [], Option, Result, length, get_or, refl, sym, ap, subst, ◌∙◌, arith}
-use Rattle.std.specs.Prelude.{take, ◌<◌, IfSome, IfErr, OnOk, Err, ◌⊎◌}
+use Rattle.std.specs.Prelude.{◌<◌, IfSome, IfErr, OnOk, Err, ◌⊎◌}
 use Rattle.std.specs.Io.KnownBytes.{Appends}
 use Rattle.osbytes_commands.specs.declared.command.Os.{Os}
 use Rattle.osbytes_commands.specs.declared.command.Os.TheVariants.{Unix, Windows, Wasm}
@@ -13,6 +13,7 @@ use Rattle.osbytes_commands.specs.Lines.{place_line, piece_lines}
 use Rattle.osbytes_commands.specs.Output.{IsOutput, IsRefusal, IsOfInput, FindsLeast, AreSplit}
 use Rattle.osbytes_commands.specs.Program.{IsOutcome}
 use Rattle.osbytes_commands.specs.Strings.{strings}
+use Rattle.osbytes_commands.specs.Written.{AppendsBeginning}
 
 -- the refusals of `split` at a text
 abbrev SplitRefusal : Os → List ℕ → List ℕ → Fault → Type 0
@@ -91,5 +92,5 @@ same_outcome c d words input old new answer of_c outcome of_d = let e : words_of
   written = same_meaning (λ Writes Refuses Unusable. OnOk answer (IfSome input (λ bytes. (output : List ℕ) × Writes bytes output × Appends old new output))) c d e outcome.written;
   of_input = same_meaning (λ Writes Refuses Unusable. IfErr answer (λ fault. IsOfInput fault → IfSome input (λ bytes. Refuses bytes fault))) c d e outcome.of_input;
   refusal = same_meaning (λ Writes Refuses Unusable. IfSome input (λ bytes. (fault : Fault) → Refuses bytes fault → (answer ≡ Err fault) ⊎ (answer ≡ Err Read) ⊎ (answer ≡ Err Memory))) c d e outcome.refusal;
-  beginning_written = same_meaning (λ Writes Refuses Unusable. answer ≡ Err Write → IfSome input (λ bytes. (output : List ℕ) × (count : ℕ) × Writes bytes output × Appends old new (take count output))) c d e outcome.beginning_written;
+  beginning_written = same_meaning (λ Writes Refuses Unusable. answer ≡ Err Write → IfSome input (λ bytes. (output : List ℕ) × Writes bytes output × AppendsBeginning old new output)) c d e outcome.beginning_written;
 }

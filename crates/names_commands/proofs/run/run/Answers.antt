@@ -47,7 +47,7 @@ returns-in-Ok-eq0-clause-beginning g c = λ e.
     let consumed = subst (λ n. Consumes (g.R.Read.remaining (marked_inner c.loop-alloc.reader)) (g.R.Read.remaining (marked_inner c.read.new.self)) (take n c.read.new.buf)) c.in-Ok-eq0.field-0-test none in
     let end : IsAtEnd (g.R.Read.remaining (marked_inner c.read.new.self)) = search rules in
     let text = c.finish.ensures.beginning e in
-    last_half g.E.Platform c.args.settings _ _ _ _ _ _ _ _ _ c.loop-alloc.invariant.read text.0 text.1.0 consumed end (subst (λ x. IsLast g.E.Platform c.args.settings x text.0) c.deref.ensures.value text.1.1.0) text.1.1.1
+    last_half g.E.Platform c.args.settings _ _ _ _ _ _ _ _ _ c.loop-alloc.invariant.read text.0 consumed end (subst (λ x. IsLast g.E.Platform c.args.settings x text.0) c.deref.ensures.value text.1.0) text.1.1
 
 pub returns-in-Err-clause-stopped : goal.returns-in-Err-clause-stopped
 returns-in-Err-clause-stopped g c = λ not_write. so_far g.E.Platform c.args.settings _ _ (g.R.Read.remaining (marked_inner c.loop-alloc.reader)) _ _ (g.W.Write.contents (marked_inner c.loop-alloc.writer)) _ _ _ c.loop-alloc.invariant.read Read
@@ -79,4 +79,4 @@ pub returns-in-Err-write_block-clause-beginning : goal.returns-in-Err-write_bloc
 returns-in-Err-write_block-clause-beginning g c = λ e.
     let consumed : Consumes (g.R.Read.remaining (marked_inner c.loop-alloc.reader)) (g.R.Read.remaining (marked_inner c.read.new.self)) (take c.in-Ok.size c.read.new.buf) = search rules in
     let text = c.in-Err-write_block.ensures.beginning (cc) in
-    half_written g.E.Platform c.args.settings _ _ _ _ _ _ _ _ _ c.loop-alloc.invariant.read _ text.0 text.1.0 consumed text.1.1.0 text.1.1.1
+    half_written g.E.Platform c.args.settings _ _ _ _ _ _ _ _ _ c.loop-alloc.invariant.read _ text.0 consumed text.1.0 text.1.1
