@@ -151,6 +151,3 @@ stand_after t rest i c at u b e stand s is = (record { boundary = bound; stand =
         ∙ chars-append (take i t) (drop i t) (IsUtf8-take t i u b)
         ∙ ap (λ x. chars (take i t) ++ x) (chars_past_char (drop i t) rest c text e)
         ∙ sym (append_assoc (chars (take i t)) (c ∷ []) (chars rest)))
-
-pub nothing_stands : (t : List ℕ) → AllStand (take 0 t)
-nothing_stands t = subst (AllByRecursion Stands) (sym chars-nil) tt
