@@ -14,11 +14,19 @@ const PIECE: usize = 4096;
 /// The bytes of one vector.
 const LANES: usize = 16;
 
-/// Whether all bytes are plain, and no more than a piece.
+/// Whether all bytes are plain, and no more than a piece. Of a vector or more, it ends at the first
+/// vector in which one isn't.
 pub(crate) fn are_plain(bytes: &[u8]) -> bool
     ensures { IsTrue result → AllByRecursion IsPlain bytes.now }
 {
-    plain_len(bytes) == bytes.len()
+    if bytes.len() > PIECE {
+        return false;
+    }
+    let at = after_lanes(bytes, 0);
+    if at > 0 && bytes.len() - at >= LANES {
+        return false;
+    }
+    plain_end(bytes, at) == bytes.len()
 }
 
 /// Plain bytes at the start, at most a piece, as a text, and the bytes after them.

@@ -1,6 +1,7 @@
 //! Strings written into a buffer, from escapes that may not be UTF-8.
-ghost use Rattle.std.specs.Prelude.{◌≡◌, ◌≢◌, MatchOption, MatchResult, IfOk, IfErr};
+ghost use Rattle.std.specs.Prelude.{◌≡◌, ◌≢◌, MatchOption, MatchResult};
 ghost use Rattle.std.specs.Str.{IsUtf8};
+ghost use Rattle.os_quote.specs.Reading.{HasNoBackslash};
 ghost use Rattle.os_quote.specs.Shown.{shown_by};
 ghost use Rattle.os_quote.specs.Escape.{IsQuoteFault, IsLineFault, IsQuoteFaultBy};
 ghost use Rattle.os_quote.specs.Unescaped.{IsUnescaped, IsLineUnescaped, IsUnescapedBy};
@@ -10,7 +11,7 @@ use crate::error::QuoteError;
 use crate::form::Form;
 use crate::plain::are_plain;
 use crate::token::cut_backslash;
-use crate::unescaped::{write_by, write_unescaped, write_unescaped_line};
+use crate::unescaped::{write_by, write_unescaped_line};
 use os_str_bytes::{OsStr, Platform, Unix};
 use wtf8_core::push_truncated;
 
@@ -73,8 +74,7 @@ pub fn write_unescaped_line_bytes<E: Platform>(
     write_bytes_by::<E>(Form::Line, escape, buffer)
 }
 
-/// The same in a form. Plain bytes are their own escape; what has a backslash is read, and whether it
-/// is UTF-8 is asked only if it isn't the escape of a string for which there is room.
+/// The same in a form. Plain bytes are their own escape.
 fn write_bytes_by<E: Platform>(
     form: Form,
     escape: &[u8],
@@ -89,12 +89,47 @@ fn write_bytes_by<E: Platform>(
     if are_plain(escape) {
         return Some(Ok(push_truncated(buffer, 0, escape)));
     }
-    if cut_backslash(escape).is_none() {
-        let Some(text) = text(escape) else {
-            return None;
-        };
-        return Some(write_text::<E>(form, text, buffer));
+    match cut_backslash(escape) {
+        None => write_shown::<E>(form, escape, buffer),
+        Some(_) => write_tokens::<E>(form, escape, buffer),
     }
+}
+
+/// The same of an escape without a backslash.
+fn write_shown<E: Platform>(
+    form: Form,
+    escape: &[u8],
+    buffer: &mut [u8],
+) -> Option<Result<usize, QuoteError>>
+    requires { HasNoBackslash escape.now }
+    ensures { MatchOption result (¬ (IsUtf8 escape.now)) (λ read. MatchResult read
+        (λ count. IsUnescapedBy (shown_by form) E.well_formed E.units escape.now buffer.old
+        buffer.new count)
+        (λ fault. IsQuoteFaultBy (shown_by form) E.well_formed E.units escape.now fault
+        × (fault ≢ Memory))) }
+{
+    let Some(text) = text(escape) else {
+        return None;
+    };
+    match form {
+        Form::Text => Some(Ok(push_truncated(buffer, 0, text.as_bytes()))),
+        Form::Line => Some(write_unescaped_line::<E>(text, buffer)),
+    }
+}
+
+/// The same of an escape with a backslash. It is read first, and whether it is UTF-8 is asked only if it
+/// isn't the escape of a string for which there is room.
+fn write_tokens<E: Platform>(
+    form: Form,
+    escape: &[u8],
+    buffer: &mut [u8],
+) -> Option<Result<usize, QuoteError>>
+    ensures { MatchOption result (¬ (IsUtf8 escape.now)) (λ read. MatchResult read
+        (λ count. IsUnescapedBy (shown_by form) E.well_formed E.units escape.now buffer.old
+        buffer.new count)
+        (λ fault. IsQuoteFaultBy (shown_by form) E.well_formed E.units escape.now fault
+        × (fault ≢ Memory))) }
+{
     let read = write_by::<E>(form, escape, buffer);
     match read {
         Ok(count) => {
@@ -107,20 +142,6 @@ fn write_bytes_by<E: Platform>(
     match text(escape) {
         Some(_) => Some(read),
         None => None,
-    }
-}
-
-/// The same of a text.
-fn write_text<E: Platform>(form: Form, text: &str, buffer: &mut [u8]) -> Result<usize, QuoteError>
-    ensures string { IfOk result (λ count. IsUnescapedBy (shown_by form) E.well_formed E.units
-        text.now buffer.old buffer.new count) }
-    ensures fault { IfErr result
-        (λ fault. IsQuoteFaultBy (shown_by form) E.well_formed E.units text.now fault) }
-    ensures never_memory { IfErr result (λ fault. fault ≢ Memory) }
-{
-    match form {
-        Form::Text => write_unescaped::<E>(text, buffer),
-        Form::Line => write_unescaped_line::<E>(text, buffer),
     }
 }
 

@@ -1,5 +1,6 @@
 -- How far a text has been read.
 use Rattle.os_quote.proofs.Common.{get_or, take_at, encode_ascii, IsUtf8-take, IsCharBoundary-before_ascii, IsCutAtFirst, ◌≡◌, ⊎_elim, inl, inr, ℕ, zero, suc, Bool, ◌-◌, ◌<◌, ◌/◌, ◌%◌, List, [], ◌∷◌, ◌++◌, length, refl, sym, ap, ◌∙◌, subst, arith, append_assoc, append-nil, length-append, AllByRecursion, flat_map, IsUtf8, IsAscii, cases_lt, IsUtf8-nil, IsUtf8-append, IsUtf8-encode, IsUtf8-from_ascii, Chunk, AreChunks, encode, PartLaws, upper_hex_digit, Item, Character, Backslash, ByteUnit, WideUnit, LongCharacter, backslash, wide_digits, long_digits, item_text, item_texts, IsLong, IsItem, is_any, BeginsNoToken, IsBadEscapeBy, IsEscapeBy, items_of, HasNoBackslash, IsCutAtBackslash, IsRead, item_bytes, IsChunkOf}
+use Rattle.std.proofs.Math.Seq.{get_or-append_seam}
 use Rattle.wtf8_core.specs.Wtf8.{HasUnits}
 use Rattle.wtf8_core.proofs.lemmas.units.OneToOne.{units_once, wide_single}
 use Rattle.os_quote.proofs.lemmas.Items.{digit_low, digit_high, five_digits, six_digits, some_bytes, same_items}
@@ -7,17 +8,13 @@ use Rattle.os_quote.proofs.lemmas.Texts.{text_items, text_is_items, own_text, it
 use Rattle.os_quote.proofs.lemmas.Escapes.{all-append, bytes_of-append, one_reading, escape_is_items}
 
 -- the first backslash of a text is between two texts
-at_seam : (xs ys : List ℕ) (y : ℕ) → get_or (xs ++ y ∷ ys) (length xs) 0 ≡ y
-at_seam [] ys y = refl
-at_seam (x ∷ xs) ys y = at_seam xs ys y
-
 pub cut_of_text : (t front behind : List ℕ) → IsUtf8 t → IsCutAtFirst t front behind → IsCutAtBackslash t front behind
 cut_of_text t front behind u k =
     let n = length front in
     let whole = front ++ backslash ∷ behind in
     let v : IsUtf8 whole = subst IsUtf8 k.joined u in
     let low : n < length whole = omega (arith, length-append front (backslash ∷ behind)) in
-    let ascii : get_or whole n 0 < 128 = omega (arith, at_seam front behind backslash) in
+    let ascii : get_or whole n 0 < 128 = omega (arith, get_or-append_seam front backslash behind 0) in
     let f : IsUtf8 front = subst IsUtf8 (take_at front (backslash ∷ behind) n refl) (IsUtf8-take whole n v (IsCharBoundary-before_ascii whole n low ascii)) in
     let slash : IsUtf8 (backslash ∷ []) = subst IsUtf8 (encode_ascii backslash (omega arith)) (IsUtf8-encode backslash refl) in
     record {

@@ -1,5 +1,5 @@
 -- Texts: the backslashes in them, and the items of their characters.
-use Rattle.os_quote.proofs.Common.{◌≡◌, ◌≢◌, ⊎_elim, ℕ, zero, suc, ◌+◌, ◌<◌, ◌≤◌, Bool, true, false, List, [], ◌∷◌, ◌++◌, map, length, take, drop, get_or, refl, sym, ap, ◌∙◌, subst, arith, append_assoc, take-append-drop, length-append, IsScalar, encode_utf8, AllByRecursion, flat_map, IsUtf8, IsCharBoundary, chars, all_scalars, encode_utf8_all, drop_more, take_at, drop_at, IsCharBoundary-after_ascii, IsCharBoundary-from_take, IsUtf8-drop, encode_ascii, chars-append, chars_past_char, encodes-chars, scalars-chars, scalar, scalar_cases, NoneBefore, Passes, is_byte, form_encode, Item, backslash, item_text, item_texts, IsItem, hidden_item, character_item, is_any, HasNoBackslash, IsCutAtFirst, item_bytes}
+use Rattle.os_quote.proofs.Common.{◌≡◌, ◌≢◌, ⊎_elim, ℕ, zero, suc, ◌+◌, ◌<◌, ◌≤◌, Bool, true, false, List, [], ◌∷◌, ◌++◌, map, length, take, drop, get_or, refl, sym, ap, ◌∙◌, subst, arith, append_assoc, take-append-drop, length-append, IsScalar, encode_utf8, AllByRecursion, flat_map, IsUtf8, chars, all_scalars, encode_utf8_all, drop_more, take_at, drop_at, IsCharBoundary-from_take, IsUtf8-drop, encode_ascii, chars-append, chars_past_char, encodes-chars, scalars-chars, scalar, scalar_cases, NoneBefore, Passes, is_byte, form_encode, Item, backslash, item_text, item_texts, IsItem, hidden_item, character_item, is_any, HasNoBackslash, IsCutAtFirst, item_bytes}
 use Rattle.std.proofs.lemmas.Bool.{and_parts, cases_eq, cases_lt, cases_Bool, lt-ltb, le-ltb, ne_eqb, eq-eqb, eqb-true}
 
 -- the test of the search for a backslash

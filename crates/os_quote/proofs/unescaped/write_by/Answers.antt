@@ -1,4 +1,4 @@
-use Rattle.os_quote.proofs.Common.{◌≡◌, true, false, sym, ◌∙◌, subst, arith, IsUtf8, shown_by, IsEscapeBy, are_chunks_of}
+use Rattle.os_quote.proofs.Common.{◌≡◌, true, false, sym, ◌∙◌, subst, arith, shown_by, IsEscapeBy, are_chunks_of}
 use Rattle.os_quote.proofs.lemmas.Readings.{escape_is_text, no_escape}
 use Rattle.os_quote.proofs.lemmas.Unescaping.{read_fits, unescaped}
 use Rattle.os_quote.proofs.unescaped.write_by.Goals as goal

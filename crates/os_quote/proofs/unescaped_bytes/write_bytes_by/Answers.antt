@@ -1,12 +1,8 @@
-use Rattle.os_quote.proofs.Common.{◌≢◌, [], subst, IsUtf8-nil, shown_by, are_chunks_of}
-use Rattle.std.proofs.Common.{MatchResult}
+use Rattle.os_quote.proofs.Common.{[], IsUtf8-nil, shown_by, are_chunks_of}
 use Rattle.wtf8_core.proofs.lemmas.buffers.Truncated.{none_yet}
-use Rattle.os_quote.specs.Escape.{IsQuoteFaultBy}
-use Rattle.os_quote.specs.Unescaped.{IsUnescapedBy}
-use Rattle.os_quote.specs.declared.error.QuoteError.TheVariants.{Memory}
 use Rattle.os_quote.proofs.lemmas.Escapes.{own_escape}
 use Rattle.os_quote.proofs.lemmas.PlainBytes.{plain_is_own, plain_is_text}
-use Rattle.os_quote.proofs.lemmas.Unescaping.{own_unescaped, with_both}
+use Rattle.os_quote.proofs.lemmas.Unescaping.{own_unescaped}
 use Rattle.os_quote.proofs.unescaped_bytes.write_bytes_by.Goals as goal
 
 pub returns-then-are_plain : goal.returns-then-are_plain
@@ -20,11 +16,3 @@ returns-then-are_plain g c =
     let own = own_escape shows P.well_formed P.units P.part_units g.met.E.Platform.parts escape (laws.text [] IsUtf8-nil) is_text (plain_is_own c.args.form escape plain) in
     own_unescaped shows P.well_formed P.units P.part_units g.met.E.Platform.parts (are_chunks_of P.well_formed laws.cut_front laws.cut_back) escape c.args.buffer.now c.push_truncated.new.buffer c.push_truncated.result (laws.text escape is_text) own
     (c.push_truncated.ensures.written [] c.args.buffer.now (none_yet c.args.buffer.now))
-
-pub returns-then-is_none : goal.returns-then-is_none
-returns-then-is_none g c =
-    let P = g.E.Platform in
-    let shows = shown_by c.args.form in
-    let read = c.write_text.result in
-    subst (λ x. MatchResult read (λ count. IsUnescapedBy shows P.well_formed P.units x c.args.buffer.now c.write_text.new.buffer count) (λ fault. IsQuoteFaultBy shows P.well_formed P.units x fault × (fault ≢ Memory))) c.in-Some.ensures
-    (with_both _ _ _ read c.write_text.ensures.string c.write_text.ensures.fault c.write_text.ensures.never_memory)
