@@ -5,7 +5,7 @@ pub use Rattle.os_quote.specs.Escape.{BeginsNoToken, IsBadEscapeBy, IsEscape, Is
 pub use Rattle.os_quote.specs.Escaped.{escape_of, escaped_text}
 pub use Rattle.os_quote.specs.Item.{Backslash, ByteUnit, Character, HasLongTokens, IsItem, IsLong, Item, LongCharacter, WideUnit, backslash, byte_digits, character_item, hidden_item, high_digits, item_text, item_texts, long_digits, unit_item, wide_digits}
 pub use Rattle.os_quote.specs.Plain.{IsAfterPlain, IsPlain, IsPlainUpTo, IsPlainWritten}
-pub use Rattle.os_quote.specs.Reading.{HasNoBackslash, HasNoClosed, HasNoFive, HasNoLong, HasNoNumber, HasNoSix, HasNoWide, IsClosed, IsCutAtBackslash, IsFive, IsRead, IsSix, item_bytes, token_item}
+pub use Rattle.os_quote.specs.Reading.{HasNoBackslash, HasNoClosed, HasNoFive, HasNoLong, HasNoNumber, HasNoSix, HasNoWide, AreBytesRead, IsClosed, IsCutAtBackslash, IsCutAtFirst, IsFive, IsRead, IsSix, item_bytes, token_item}
 pub use Rattle.os_quote.specs.Shown.{is_any, shown_by, stays_on_line}
 pub use Rattle.os_quote.specs.Standing.{AllClear, AllStand, IsCutAtHidden, IsNextSuspect, Stands, is_general, is_suspect, lead_bits, pair_bits, suspect_bits}
 pub use Rattle.os_quote.specs.declared.lanes.TheConstants.{FIRST_HIGH, FIRST_LOW, SECOND_HIGH, THIRD_HIGH}
@@ -21,7 +21,7 @@ pub use Rattle.std.proofs.lemmas.Bool.{and_parts, cases_Bool, cases_eq, cases_lt
 pub use Rattle.std.proofs.lemmas.Bool.Decides.{nat_tests}
 pub use Rattle.std.proofs.lemmas.List.{append_cancel_right, drop_at, drop_more, length-map, length-take-le, nil_from_length, take_all, take_at}
 pub use Rattle.std.proofs.lemmas.List.Elements.{All-from_recursion, recursion_from_All}
-pub use Rattle.std.proofs.lemmas.Str.{IsCharBoundary-after_ascii, IsCharBoundary-at_seam, IsCharBoundary-end, IsCharBoundary-from_take, IsCharBoundary-start, IsUtf8-append, IsUtf8-between, IsUtf8-drop, IsUtf8-encode, IsUtf8-from_ascii, IsUtf8-nil, IsUtf8-past_char, IsUtf8-take, chars-IsAscii, chars-append, chars-nil, chars_past_char, encode_ascii, encode_same, encodes-chars, len_utf8_bounds, length-encode, scalars-chars}
+pub use Rattle.std.proofs.lemmas.Str.{IsCharBoundary-after_ascii, IsCharBoundary-before_ascii, IsCharBoundary-at_seam, IsCharBoundary-end, IsCharBoundary-from_take, IsCharBoundary-start, IsUtf8-append, IsUtf8-between, IsUtf8-drop, IsUtf8-encode, IsUtf8-from_ascii, IsUtf8-nil, IsUtf8-past_char, IsUtf8-take, chars-IsAscii, chars-append, chars-nil, chars_past_char, encode_ascii, encode_same, encodes-chars, len_utf8_bounds, length-encode, scalars-chars}
 pub use Rattle.std.specs.Char.{IsScalar, OutOfScalarRange, encode_utf8}
 pub use Rattle.std.specs.Fmt.{HasWrittenStyled, IsFlush}
 pub use Rattle.std.specs.Int.{IsInRange, is_in_range}

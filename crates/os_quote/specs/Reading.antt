@@ -1,5 +1,5 @@
 -- How far an escape has been read, step by step. Only private contracts name these; `IsEscape` says what an escape is.
-use Rattle.std.specs.Prelude.{◌≡◌, ◌≢◌, ℕ, ◌/◌, ◌%◌, ◌<◌, Bool, List, [], ◌∷◌, ◌++◌}
+use Rattle.std.specs.Prelude.{◌≡◌, ◌≢◌, ℕ, ◌+◌, ◌/◌, ◌%◌, ◌<◌, ◌≤◌, Bool, List, [], ◌∷◌, ◌++◌, length}
 use Rattle.std.specs.List.{flat_map, AllByRecursion}
 use Rattle.std.specs.Char.{encode_utf8}
 use Rattle.std.specs.Str.{IsUtf8}
@@ -31,6 +31,11 @@ item_bytes (LongCharacter c) = encode_utf8 c
 abbrev pub HasNoBackslash : List ℕ → Type 0
 HasNoBackslash bs = AllByRecursion (λ b. b ≢ backslash) bs
 
+-- the bytes are cut at their first backslash
+pub record IsCutAtFirst (bytes front behind : List ℕ) : Type 0 where
+  pub none_before : HasNoBackslash front
+  pub joined : bytes ≡ front ++ backslash ∷ behind
+
 -- the text is cut at its first backslash, and both sides are text
 pub record IsCutAtBackslash (text front behind : List ℕ) : Type 0 where
   pub none_before : HasNoBackslash front
@@ -45,6 +50,11 @@ pub record IsRead (shows : ℕ → Bool) (text bytes rest : List ℕ) : Type 0 w
   pub joined : text ≡ item_texts items ++ rest
   pub bytes_are : bytes ≡ flat_map item_bytes items
   pub text_left : IsUtf8 rest
+
+-- the same of bytes that may not be a text: if they are one, they are read
+pub record AreBytesRead (shows : ℕ → Bool) (bytes meant rest : List ℕ) : Type 0 where
+  pub short : length meant + length rest ≤ length bytes
+  pub read : IsUtf8 bytes → IsRead shows bytes meant rest
 
 -- why a text isn't read
 abbrev pub IsReadFault : (ℕ → Bool) → List ℕ → QuoteError → Type 0

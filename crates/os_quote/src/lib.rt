@@ -28,6 +28,7 @@ mod standing;
 mod suspects;
 mod token;
 mod unescaped;
+mod unescaped_bytes;
 mod write;
 mod write_token;
 
@@ -37,3 +38,4 @@ pub use error::QuoteError;
 pub use quoting::{escape, escape_line, escaped, escaped_line};
 pub use reading::{unescape, unescape_line};
 pub use unescaped::{write_unescaped, write_unescaped_line};
+pub use unescaped_bytes::{write_unescaped_bytes, write_unescaped_line_bytes};

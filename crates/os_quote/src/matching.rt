@@ -13,11 +13,11 @@ use crate::buffer_token::{push_token, push_unit};
 use crate::form::Form;
 use os_str_bytes::{NonUnicodeOsStr, OsStr, OsStrBytesExt, Platform};
 
-/// Whether the text is the escape of the string in a form.
-pub(crate) fn has_escape<E: Platform>(form: Form, string: OsStr<'_, E>, text: &str) -> bool
+/// Whether the bytes are the escape of the string in a form.
+pub(crate) fn has_escape<E: Platform>(form: Form, string: OsStr<'_, E>, text: &[u8]) -> bool
     ensures { IsTrue result ↔ IsEscapeBy (shown_by form) E.units (bytes string.entry) text.now }
 {
-    let mut rest = text.as_bytes();
+    let mut rest = text;
     for (part, shown) in string.utf8_chunks() {
         let Some(after_part) = strip_part(rest, part) else {
             return false;

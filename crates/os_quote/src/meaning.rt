@@ -1,35 +1,37 @@
-//! What the characters and tokens of a text mean, written into a buffer.
+//! What the characters and tokens of an escape mean, written into a buffer.
 ghost use Rattle.std.specs.Prelude.{◌≡◌, ◌+◌, ◌<◌, ◌^◌, ◌++◌, [], ℕ, List, length, MatchResult};
+ghost use Rattle.std.specs.Str.{IsUtf8};
 ghost use Rattle.wtf8_core.specs.CodePoint.{IsCodePoint, encode};
 ghost use Rattle.wtf8_core.specs.Truncated.{IsTruncated};
 ghost use Rattle.os_quote.specs.Buffers.{Pushes};
 ghost use Rattle.os_quote.specs.Shown.{shown_by};
 ghost use Rattle.os_quote.specs.Escape.{IsBadEscapeBy};
-ghost use Rattle.os_quote.specs.Reading.{IsRead, item_bytes, token_item};
+ghost use Rattle.os_quote.specs.Reading.{AreBytesRead, item_bytes, token_item};
 
 use crate::form::Form;
-use crate::token::{Token, first_token, split_backslash};
+use crate::token::{Token, cut_backslash, first_token};
 use wtf8_core::{push_truncated, write_form};
 
-/// Writes the bytes that a text means, truncated if the buffer is too short for them, and returns how
-/// many they are; or else the index of the first backslash that begins no token.
-pub(crate) fn read(form: Form, text: &str, buffer: &mut [u8]) -> Result<usize, usize>
+/// Writes the bytes that an escape means, truncated if the buffer is too short for them, and returns
+/// how many they are; or else the index of the first backslash that begins no token. It doesn't check
+/// whether the escape is UTF-8.
+pub(crate) fn read(form: Form, escape: &[u8], buffer: &mut [u8]) -> Result<usize, usize>
     ensures { MatchResult result
-        (λ count. (meant : List ℕ) × IsRead (shown_by form) text.now meant []
+        (λ count. (meant : List ℕ) × AreBytesRead (shown_by form) escape.now meant []
         × IsTruncated meant buffer.old buffer.new count)
-        (λ index. IsBadEscapeBy (shown_by form) text.now index) }
+        (λ index. IsUtf8 escape.now → IsBadEscapeBy (shown_by form) escape.now index) }
 {
     let mut count = 0;
-    let mut rest = text;
-    while let Some((front, behind)) = split_backslash(rest) {
-        let Some((token, after)) = first_token(form, behind.as_bytes()) else {
-            return Err(text.len() - behind.len() - 1);
+    let mut rest = escape;
+    while let Some((front, behind)) = cut_backslash(rest) {
+        let Some((token, after)) = first_token(form, behind) else {
+            return Err(escape.len() - behind.len() - 1);
         };
-        count = push_truncated(buffer, count, front.as_bytes());
+        count = push_truncated(buffer, count, front);
         count = push_meaning(buffer, count, token);
-        rest = unsafe { str::from_utf8_unchecked(after) };
+        rest = after;
     }
-    Ok(push_truncated(buffer, count, rest.as_bytes()))
+    Ok(push_truncated(buffer, count, rest))
 }
 
 /// Appends the bytes that a token means.

@@ -1,6 +1,7 @@
 //! Plain bytes: printable ASCII other than the backslash. Both forms of an escape show them as they
 //! are.
 ghost use Rattle.std.specs.Prelude.{◌≡◌, ◌≢◌, ℕ, ◌+◌, ◌≤◌, ◌<◌, length, IsTrue, MatchOption, slice_index, bit_xor};
+ghost use Rattle.std.specs.List.{AllByRecursion};
 ghost use Rattle.os_quote.specs.Plain.{IsPlain, IsPlainUpTo, IsCutAfterPlain};
 
 use crate::lanes::BLOCK;
@@ -9,6 +10,24 @@ use std::simd::prelude::*;
 /// How many bytes are looked at before they are written: a few blocks, which are still in the cache
 /// next to the processor when they are copied.
 const PIECE: usize = 4096;
+
+/// The bytes of one vector.
+const LANES: usize = 16;
+
+/// Whether all bytes are plain, and no more than a piece. Of a vector or more, it ends at the first
+/// vector in which one isn't.
+pub(crate) fn are_plain(bytes: &[u8]) -> bool
+    ensures { IsTrue result → AllByRecursion IsPlain bytes.now }
+{
+    if bytes.len() > PIECE {
+        return false;
+    }
+    let at = after_lanes(bytes, 0);
+    if at > 0 && bytes.len() - at >= LANES {
+        return false;
+    }
+    plain_end(bytes, at) == bytes.len()
+}
 
 /// Plain bytes at the start, at most a piece, as a text, and the bytes after them.
 pub(crate) fn split_plain(bytes: &[u8]) -> Option<(&str, &[u8])>
@@ -25,7 +44,7 @@ pub(crate) fn split_plain(bytes: &[u8]) -> Option<(&str, &[u8])>
 
 /// How many bytes at the start are plain, or a piece.
 #[tactic(auto, using(crate::proofs::lemmas::PlainBytes::plain_bytes))]
-fn plain_len(bytes: &[u8]) -> usize
+pub(crate) fn plain_len(bytes: &[u8]) -> usize
     ensures { IsPlainUpTo bytes.now result }
 {
     let mut at = 0;
@@ -35,20 +54,50 @@ fn plain_len(bytes: &[u8]) -> usize
     if at == PIECE {
         return at;
     }
-    plain_end(bytes, at)
+    plain_end(bytes, after_lanes(bytes, at))
+}
+
+/// The index after whole vectors of plain bytes, from an index on up to which all are plain.
+#[tactic(auto, using(crate::proofs::lemmas::PlainBytes::plain_bytes))]
+fn after_lanes(bytes: &[u8], from: usize) -> usize
+    requires { IsPlainUpTo bytes.now from }
+    ensures { IsPlainUpTo bytes.now result }
+{
+    let mut at = from;
+    while bytes.len() - at >= LANES && are_lanes_plain(bytes, at) {
+        at += LANES;
+    }
+    at
 }
 
 /// The index of the first byte that isn't plain, or the length, from an index on up to which all are.
+/// If fewer bytes than a vector has are left, the last vector of all is asked first.
 #[tactic(auto, using(crate::proofs::lemmas::PlainBytes::plain_bytes))]
 fn plain_end(bytes: &[u8], from: usize) -> usize
     requires { IsPlainUpTo bytes.now from }
     ensures { IsPlainUpTo bytes.now result }
 {
+    if bytes.len() >= LANES
+        && bytes.len() - from < LANES
+        && are_lanes_plain(bytes, bytes.len() - LANES)
+    {
+        return bytes.len();
+    }
     let mut at = from;
     while at < bytes.len() && is_plain(bytes[at]) {
         at += 1;
     }
     at
+}
+
+/// Whether the next 16 bytes are plain.
+#[inline(always)]
+fn are_lanes_plain(bytes: &[u8], at: usize) -> bool
+    requires { at + 16 ≤ length bytes.now }
+    ensures { IsTrue result → (i : ℕ) → i < 16 → IsPlain (slice_index bytes.now (at + i)) }
+{
+    let lanes = load(bytes, at);
+    are_at_least(lanes, b' ') & are_at_most(lanes, b'~') & are_at_least(difference(lanes), 1)
 }
 
 /// Whether a byte is plain.

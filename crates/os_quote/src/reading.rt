@@ -96,26 +96,26 @@ fn from_items<E: Platform, A: Allocator>(
         (λ fault. IsQuoteFaultBy (shown_by form) E.well_formed E.units text.now fault) }
 {
     let mut encoded = vec![in alloc; 0; text.len()]?;
-    let count = match read(form, text, encoded.as_mut_slice()) {
+    let count = match read(form, text.as_bytes(), encoded.as_mut_slice()) {
         Ok(count) => count,
         Err(index) => return Err(QuoteError::BadEscape(index)),
     };
     encoded.truncate(count);
-    if is_unescaped::<E>(form, &encoded, text) {
+    if is_unescaped::<E>(form, &encoded, text.as_bytes()) {
         Ok(OsString::from_encoded_bytes_unchecked(encoded))
     } else {
         Err(QuoteError::NotCanonical)
     }
 }
 
-/// Whether the bytes are a string of the platform, and the text is its escape.
-pub(crate) fn is_unescaped<E: Platform>(form: Form, encoded: &[u8], text: &str) -> bool
+/// Whether the bytes are a string of the platform, and the others are its escape.
+pub(crate) fn is_unescaped<E: Platform>(form: Form, encoded: &[u8], escape: &[u8]) -> bool
     ensures { IsTrue result ↔ (E.well_formed encoded.now
-        × IsEscapeBy (shown_by form) E.units encoded.now text.now) }
+        × IsEscapeBy (shown_by form) E.units encoded.now escape.now) }
 {
     laws::faults::<E>();
     match OsStr::<E>::checked(encoded) {
-        Ok(string) => has_escape(form, string, text),
+        Ok(string) => has_escape(form, string, escape),
         Err(_) => false,
     }
 }

@@ -3,6 +3,7 @@ ghost use Rattle.std.specs.Prelude.{◌≡◌, ◌↔◌, IsTrue, MatchOption};
 ghost use Rattle.os_quote.specs.Standing.{Stands, AllStand, IsCutAtHidden};
 
 use crate::form::stays_on_line;
+use crate::plain::plain_len;
 use crate::suspects::first_suspect;
 
 /// What comes before the first character that is written as a token, that character, and what comes
@@ -11,7 +12,7 @@ pub(crate) fn split_hidden(text: &str) -> Option<(&str, char, &str)>
     ensures { MatchOption result (AllStand text.now)
         (λ parts. IsCutAtHidden text.now parts.0.now parts.1 parts.2.now) }
 {
-    let mut at = 0;
+    let mut at = plain_len(text.as_bytes());
     while let Some(suspect) = first_suspect(text.as_bytes(), at) {
         let mut characters = text[suspect..].chars();
         let character = characters.next()?;

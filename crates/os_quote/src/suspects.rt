@@ -4,6 +4,9 @@ ghost use Rattle.os_quote.specs.Standing.{is_general, is_suspect, AllClear, IsNe
 
 use crate::lanes::{BLOCK, clear_len};
 
+/// The fewest bytes of which a copy is looked at.
+const LEAST: usize = 16;
+
 /// The index of the first suspect from an index on.
 #[tactic(auto, using(crate::proofs::lemmas::Suspects::suspects))]
 pub(crate) fn first_suspect(bytes: &[u8], from: usize) -> Option<usize>
@@ -11,7 +14,7 @@ pub(crate) fn first_suspect(bytes: &[u8], from: usize) -> Option<usize>
     ensures { MatchOption result (AllClear bytes.now from (length bytes.now))
         (λ at. IsNextSuspect bytes.now from at) }
 {
-    let mut at = from;
+    let mut at = from + clear_of_short(bytes, from);
     while at < bytes.len() {
         let clear = clear_from(bytes, at);
         at += clear;
@@ -39,6 +42,23 @@ fn clear_from(bytes: &[u8], at: usize) -> usize
     }
     let (_, rest) = bytes.split_at(at);
     clear_len(rest)
+}
+
+/// How many bytes from an index on aren't suspects, as far as a copy of them says, with zeros after it.
+/// A copy is made if they are few, but not so few that they are looked at as soon one by one.
+#[inline(always)]
+fn clear_of_short(bytes: &[u8], from: usize) -> usize
+    requires { from ≤ length bytes.now }
+    ensures within { from + result ≤ length bytes.now }
+    ensures clear { AllClear bytes.now from (from + result) }
+{
+    let (_, rest) = bytes.split_at(from);
+    if rest.len() < LEAST || rest.len() > BLOCK + 1 {
+        return 0;
+    }
+    let mut block = [0; BLOCK + 2];
+    block[..rest.len()].copy_from_slice(rest);
+    clear_len(&block).min(rest.len())
 }
 
 /// The byte at an index, or 0 after the last.

@@ -4,7 +4,7 @@ ghost use Rattle.wtf8_core.specs.FaultText.{upper_hex_digit};
 ghost use Rattle.os_quote.specs.Item.{backslash, byte_digits, wide_digits, item_text, IsItem};
 ghost use Rattle.os_quote.specs.Shown.{shown_by};
 ghost use Rattle.os_quote.specs.Escape.{BeginsNoToken};
-ghost use Rattle.os_quote.specs.Reading.{HasNoBackslash, IsCutAtBackslash, HasNoNumber, token_item};
+ghost use Rattle.os_quote.specs.Reading.{HasNoBackslash, IsCutAtFirst, IsCutAtBackslash, HasNoNumber, token_item};
 
 use crate::form::Form;
 use crate::long_token::long_character;
@@ -28,10 +28,26 @@ pub(crate) fn split_backslash(text: &str) -> Option<(&str, &str)>
     ensures { MatchOption result (HasNoBackslash text.now)
         (λ parts. IsCutAtBackslash text.now parts.0.now parts.1.now) }
 {
-    let Some(at) = memchr(b'\\', text.as_bytes()) else {
+    let Some((front, behind)) = cut_backslash(text.as_bytes()) else {
         return None;
     };
-    Some((&text[..at], &text[at + 1..]))
+    Some(unsafe {
+        (
+            str::from_utf8_unchecked(front),
+            str::from_utf8_unchecked(behind),
+        )
+    })
+}
+
+/// The same of bytes, which may not be a text.
+pub(crate) fn cut_backslash(bytes: &[u8]) -> Option<(&[u8], &[u8])>
+    ensures { MatchOption result (HasNoBackslash bytes.now)
+        (λ parts. IsCutAtFirst bytes.now parts.0.now parts.1.now) }
+{
+    let Some(at) = memchr(b'\\', bytes) else {
+        return None;
+    };
+    Some((&bytes[..at], &bytes[at + 1..]))
 }
 
 /// The token of a form that a backslash begins, and what comes after the token; `behind` is what

@@ -1,5 +1,6 @@
 //! Strings written into a buffer that may be too short for them, from escapes.
-ghost use Rattle.std.specs.Prelude.{◌≡◌, ◌≢◌, IfOk, IfErr};
+ghost use Rattle.std.specs.Prelude.{◌≡◌, ◌≢◌, ◌≤◌, length, IfOk, IfErr};
+ghost use Rattle.std.specs.Str.{IsUtf8};
 ghost use Rattle.os_quote.specs.Shown.{shown_by};
 ghost use Rattle.os_quote.specs.Escape.{IsQuoteFault, IsLineFault, IsQuoteFaultBy};
 ghost use Rattle.os_quote.specs.Unescaped.{IsUnescaped, IsLineUnescaped, IsUnescapedBy};
@@ -44,7 +45,7 @@ pub fn write_unescaped<E: Platform>(text: &str, buffer: &mut [u8]) -> Result<usi
 {
     match split_backslash(text) {
         None => Ok(push_truncated(buffer, 0, text.as_bytes())),
-        Some(_) => write_by::<E>(Form::Text, text, buffer),
+        Some(_) => write_by::<E>(Form::Text, text.as_bytes(), buffer),
     }
 }
 
@@ -73,26 +74,33 @@ pub fn write_unescaped_line<E: Platform>(text: &str, buffer: &mut [u8]) -> Resul
 {
     match split_hidden(text) {
         None => Ok(push_truncated(buffer, 0, text.as_bytes())),
-        Some(_) => write_by::<E>(Form::Line, text, buffer),
+        Some(_) => write_by::<E>(Form::Line, text.as_bytes(), buffer),
     }
 }
 
-/// The same in a form, token by token.
-fn write_by<E: Platform>(form: Form, text: &str, buffer: &mut [u8]) -> Result<usize, QuoteError>
-    ensures string { IfOk result (λ count. IsUnescapedBy (shown_by form) E.well_formed E.units
-        text.now buffer.old buffer.new count) }
-    ensures fault { IfErr result
-        (λ fault. IsQuoteFaultBy (shown_by form) E.well_formed E.units text.now fault) }
+/// The same in a form, token by token, of bytes that may not be UTF-8. If they are the escape of a
+/// string for which there is room, that alone says that they are UTF-8; any other answer is right only
+/// if they are.
+pub(crate) fn write_by<E: Platform>(
+    form: Form,
+    escape: &[u8],
+    buffer: &mut [u8],
+) -> Result<usize, QuoteError>
+    ensures string { IsUtf8 escape.now → IfOk result (λ count. IsUnescapedBy (shown_by form)
+        E.well_formed E.units escape.now buffer.old buffer.new count) }
+    ensures room { IfOk result (λ count. count ≤ length buffer.old → IsUtf8 escape.now) }
+    ensures fault { IsUtf8 escape.now → IfErr result
+        (λ fault. IsQuoteFaultBy (shown_by form) E.well_formed E.units escape.now fault) }
     ensures never_memory { IfErr result (λ fault. fault ≢ Memory) }
 {
-    let count = match read(form, text, buffer) {
+    let count = match read(form, escape, buffer) {
         Ok(count) => count,
         Err(index) => return Err(QuoteError::BadEscape(index)),
     };
     if count > buffer.len() {
         return Ok(count);
     }
-    if is_unescaped::<E>(form, &buffer[..count], text) {
+    if is_unescaped::<E>(form, &buffer[..count], escape) {
         Ok(count)
     } else {
         Err(QuoteError::NotCanonical)

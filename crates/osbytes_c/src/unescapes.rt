@@ -6,8 +6,7 @@ ghost use Rattle.os_quote.specs.Unescaped.{IsUnescaped, IsLineUnescaped};
 ghost use Rattle.osbytes_c.specs.Platforms.{formed_on, units_on};
 
 use crate::status::{BAD_ESCAPE, DONE, NO_PATTERN, NO_PLATFORM, NO_ROOM, NO_STRING};
-use crate::strings::text;
-use os_quote::{QuoteError, write_unescaped, write_unescaped_line};
+use os_quote::{QuoteError, write_unescaped_bytes, write_unescaped_line_bytes};
 use platform_str::{Platform, Unix, Wasm, Windows};
 
 /// Writes the string of a platform with this escape into `out`, as far as there is room, and counts
@@ -83,10 +82,10 @@ fn unescape<E: Platform>(escape: &[u8], out: &mut [u8], count: &mut usize, index
     ensures answers { (result ≡ DONE) ⊎ ((result ≡ NO_ROOM) ⊎ ((result ≡ BAD_ESCAPE)
         ⊎ ((result ≡ NO_STRING) ⊎ (result ≡ NO_PATTERN)))) }
 {
-    let Some(escape) = text(escape) else {
+    let Some(read) = write_unescaped_bytes::<E>(escape, out) else {
         return NO_PATTERN;
     };
-    match write_unescaped::<E>(escape, out) {
+    match read {
         Ok(written) => {
             *count = written;
             if written <= out.len() { DONE } else { NO_ROOM }
@@ -113,10 +112,10 @@ fn unescape_line<E: Platform>(
     ensures answers { (result ≡ DONE) ⊎ ((result ≡ NO_ROOM) ⊎ ((result ≡ BAD_ESCAPE)
         ⊎ ((result ≡ NO_STRING) ⊎ (result ≡ NO_PATTERN)))) }
 {
-    let Some(escape) = text(escape) else {
+    let Some(read) = write_unescaped_line_bytes::<E>(escape, out) else {
         return NO_PATTERN;
     };
-    match write_unescaped_line::<E>(escape, out) {
+    match read {
         Ok(written) => {
             *count = written;
             if written <= out.len() { DONE } else { NO_ROOM }

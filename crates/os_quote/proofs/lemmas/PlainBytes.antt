@@ -1,5 +1,5 @@
 -- Plain bytes: texts that both forms show unchanged.
-use Rattle.os_quote.proofs.Common.{◌≡◌, ⊎_elim, ℕ, zero, suc, ◌+◌, ◌-◌, ◌<◌, ◌≤◌, true, List, [], ◌∷◌, ◌++◌, map, length, take, get_or, refl, sym, ap, ◌∙◌, subst, arith, append_assoc, rules, AllByRecursion, IsUtf8, HasWrittenStyled, IsFlush, Formatter, cases_lt, ne_eqb, chars-IsAscii, encode_ascii, IsUtf8-from_ascii, Character, backslash, item_text, item_texts, character_item, shown_by, IsPlain, IsPlainUpTo, IsAfterPlain}
+use Rattle.os_quote.proofs.Common.{◌≡◌, ⊎_elim, ℕ, zero, suc, ◌+◌, ◌-◌, ◌<◌, ◌≤◌, true, List, [], ◌∷◌, ◌++◌, map, length, take, get_or, refl, sym, ap, ◌∙◌, subst, arith, append_assoc, rules, AllByRecursion, IsUtf8, HasWrittenStyled, IsFlush, Formatter, cases_lt, ne_eqb, chars-IsAscii, encode_ascii, IsUtf8-from_ascii, Character, backslash, item_text, item_texts, character_item, shown_by, IsPlain, IsPlainUpTo, IsAfterPlain, AllStand, Stands}
 use Rattle.os_quote.specs.declared.form.Form.{Form}
 use Rattle.os_quote.specs.declared.form.Form.TheVariants.{Text, Line}
 use Rattle.os_quote.proofs.lemmas.Readings.{ascii_all}
@@ -30,6 +30,14 @@ own_bytes form (b ∷ bs) a =
 pub plain_is_own : (form : Form) (bs : List ℕ) → AllByRecursion IsPlain bs → text_escape (shown_by form) bs ≡ bs
 plain_is_own form bs a = ap (λ cs. item_texts (map (character_item (shown_by form)) cs)) (chars-IsAscii bs (ascii_all bs (plain_ascii bs a))) ∙ own_bytes form bs a
 
+-- each of their characters stays on a line
+each_stands : (bs : List ℕ) → AllByRecursion IsPlain bs → AllByRecursion Stands bs
+each_stands [] a = tt
+each_stands (b ∷ bs) a = ((a.0.1, plain_is_shown Line b a.0), each_stands bs a.1)
+
+pub plain_stands : (bs : List ℕ) → AllByRecursion IsPlain bs → AllStand bs
+plain_stands bs a = subst (AllByRecursion Stands) (sym (chars-IsAscii bs (ascii_all bs (plain_ascii bs a)))) (each_stands bs a)
+
 -- by index
 pub plain_front : (bs : List ℕ) (n : ℕ) → ((i : ℕ) → i < n → IsPlain (get_or bs i 0)) → AllByRecursion IsPlain (take n bs)
 plain_front [] zero h = tt
@@ -52,6 +60,13 @@ more_plain bs at n before room more = record {
 pub one_plain : (bs : List ℕ) (at : ℕ) → IsPlainUpTo bs at → at < length bs → IsPlain (get_or bs at 0) → IsPlainUpTo bs (at + 1)
 one_plain bs at before room one =
     more_plain bs at 1 before (omega (arith, room)) (λ i lt. let e : at ≡ at + i = omega (arith, lt) in subst (λ k. IsPlain (get_or bs k 0)) e one)
+
+-- all, where fewer than n follow and the last n are
+pub last_plain : (bs : List ℕ) (at n : ℕ) → IsPlainUpTo bs at → n ≤ length bs → length bs - at < n → ((i : ℕ) → i < n → IsPlain (get_or bs (length bs - n + i) 0)) → IsPlainUpTo bs (length bs)
+last_plain bs at n before room near last =
+    let up_to : IsPlainUpTo bs (length bs - n) = record { within = omega arith; plain = λ i lt. before.plain i (omega (arith, lt, room, near, before.within)) } in
+    let all : length bs - n + n ≡ length bs = omega (arith, room) in
+    subst (IsPlainUpTo bs) all (more_plain bs (length bs - n) n up_to (omega (arith, room)) last)
 
 -- some more after others
 pub all_plain : (xs ys : List ℕ) → AllByRecursion IsPlain xs → AllByRecursion IsPlain ys → AllByRecursion IsPlain (xs ++ ys)

@@ -1,10 +1,28 @@
 -- How far a text has been read.
-use Rattle.os_quote.proofs.Common.{◌≡◌, ⊎_elim, inl, inr, ℕ, zero, suc, Bool, ◌-◌, ◌<◌, ◌/◌, ◌%◌, List, [], ◌∷◌, ◌++◌, length, refl, sym, ap, ◌∙◌, subst, arith, append_assoc, append-nil, length-append, AllByRecursion, flat_map, IsUtf8, IsAscii, cases_lt, IsUtf8-nil, IsUtf8-append, IsUtf8-encode, IsUtf8-from_ascii, Chunk, AreChunks, encode, PartLaws, upper_hex_digit, Item, Character, Backslash, ByteUnit, WideUnit, LongCharacter, backslash, wide_digits, long_digits, item_text, item_texts, IsLong, IsItem, is_any, BeginsNoToken, IsBadEscapeBy, IsEscapeBy, items_of, HasNoBackslash, IsCutAtBackslash, IsRead, item_bytes, IsChunkOf}
+use Rattle.os_quote.proofs.Common.{get_or, take_at, encode_ascii, IsUtf8-take, IsCharBoundary-before_ascii, IsCutAtFirst, ◌≡◌, ⊎_elim, inl, inr, ℕ, zero, suc, Bool, ◌-◌, ◌<◌, ◌/◌, ◌%◌, List, [], ◌∷◌, ◌++◌, length, refl, sym, ap, ◌∙◌, subst, arith, append_assoc, append-nil, length-append, AllByRecursion, flat_map, IsUtf8, IsAscii, cases_lt, IsUtf8-nil, IsUtf8-append, IsUtf8-encode, IsUtf8-from_ascii, Chunk, AreChunks, encode, PartLaws, upper_hex_digit, Item, Character, Backslash, ByteUnit, WideUnit, LongCharacter, backslash, wide_digits, long_digits, item_text, item_texts, IsLong, IsItem, is_any, BeginsNoToken, IsBadEscapeBy, IsEscapeBy, items_of, HasNoBackslash, IsCutAtBackslash, IsRead, item_bytes, IsChunkOf}
+use Rattle.std.proofs.Math.Seq.{get_or-append_seam}
 use Rattle.wtf8_core.specs.Wtf8.{HasUnits}
 use Rattle.wtf8_core.proofs.lemmas.units.OneToOne.{units_once, wide_single}
 use Rattle.os_quote.proofs.lemmas.Items.{digit_low, digit_high, five_digits, six_digits, some_bytes, same_items}
-use Rattle.os_quote.proofs.lemmas.Texts.{text_items, text_is_items, own_text, item_texts-append, text_behind}
+use Rattle.os_quote.proofs.lemmas.Texts.{text_items, text_is_items, own_text, item_texts-append, slash_behind, text_behind}
 use Rattle.os_quote.proofs.lemmas.Escapes.{all-append, bytes_of-append, one_reading, escape_is_items}
+
+-- the first backslash of a text is between two texts
+pub cut_of_text : (t front behind : List ℕ) → IsUtf8 t → IsCutAtFirst t front behind → IsCutAtBackslash t front behind
+cut_of_text t front behind u k =
+    let n = length front in
+    let whole = front ++ backslash ∷ behind in
+    let v : IsUtf8 whole = subst IsUtf8 k.joined u in
+    let low : n < length whole = omega (arith, length-append front (backslash ∷ behind)) in
+    let ascii : get_or whole n 0 < 128 = omega (arith, get_or-append_seam front backslash behind 0) in
+    let f : IsUtf8 front = subst IsUtf8 (take_at front (backslash ∷ behind) n refl) (IsUtf8-take whole n v (IsCharBoundary-before_ascii whole n low ascii)) in
+    let slash : IsUtf8 (backslash ∷ []) = subst IsUtf8 (encode_ascii backslash (omega arith)) (IsUtf8-encode backslash refl) in
+    record {
+      none_before = k.none_before;
+      joined = k.joined;
+      front_text = f;
+      behind_text = text_behind (backslash ∷ []) behind slash (slash_behind front behind f v);
+    }
 
 -- tokens are ASCII
 pub ascii_all : (bs : List ℕ) → AllByRecursion (λ b. b < 128) bs → IsAscii bs
@@ -101,11 +119,6 @@ module _ (shows : ℕ → Bool) where
       let g = read_items text (out ++ front) (backslash ∷ behind) (item ∷ []) after f (i, tt) all (text_behind (item_text item) after (item_is_text item i) (subst IsUtf8 t f.text_left)) in
       subst (λ x. IsRead shows text x after) (ap (λ x. (out ++ front) ++ x) (append-nil (item_bytes item)) ∙ ap (λ x. x ++ item_bytes item) (sym m) ∙ sym n) g
 
-  -- what is left after the token is text
-  pub text_after : (text out rest front behind : List ℕ) (item : Item) (after : List ℕ) → IsRead shows text out rest → IsCutAtBackslash rest front behind → IsItem shows item → backslash ∷ behind ≡ item_text item ++ after → IsUtf8 after
-  text_after text out rest front behind item after r k i t =
-      text_behind (item_text item) after (item_is_text item i) (subst IsUtf8 t (text_behind front (backslash ∷ behind) k.front_text (subst IsUtf8 k.joined r.text_left)))
-
   -- all has been read
   pub read_all : (text out rest now : List ℕ) → IsRead shows text out rest → HasNoBackslash rest → now ≡ out ++ rest → IsRead shows text now []
   read_all text out rest now r h n = subst (λ x. IsRead shows text x []) (sym n) (read_front text out rest rest [] r r.text_left h (sym (append-nil rest)))
@@ -135,7 +148,7 @@ module _ (shows : ℕ → Bool) where
     λ n. read_no_bad text out n r,
   )
 
-pub read_shorter : (rest front behind : List ℕ) (item : Item) (after : List ℕ) → IsCutAtBackslash rest front behind → backslash ∷ behind ≡ item_text item ++ after → length after < length rest
+pub read_shorter : (rest front behind : List ℕ) (item : Item) (after : List ℕ) → IsCutAtFirst rest front behind → backslash ∷ behind ≡ item_text item ++ after → length after < length rest
 read_shorter rest front behind item after k t =
     let s = some_bytes item in
     omega (arith, ap length k.joined, length-append front (backslash ∷ behind), ap length t, length-append (item_text item) after)
@@ -148,4 +161,4 @@ unit_form bytes u lt h = units_once bytes (encode u) (u ∷ []) h (record {
   are = ap (λ x. x ++ []) (sym (wide_single u lt));
 })
 
-pub ruleset readings = (read_none, read_more, text_after, read_shorter, read_all, read_bad)
+pub ruleset readings = (read_none, read_more, read_shorter, read_all, read_bad)

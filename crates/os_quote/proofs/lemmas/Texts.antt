@@ -1,5 +1,5 @@
 -- Texts: the backslashes in them, and the items of their characters.
-use Rattle.os_quote.proofs.Common.{◌≡◌, ◌≢◌, ⊎_elim, ℕ, zero, suc, ◌+◌, ◌<◌, ◌≤◌, Bool, true, false, List, [], ◌∷◌, ◌++◌, map, length, take, drop, get_or, refl, sym, ap, ◌∙◌, subst, arith, append_assoc, take-append-drop, length-append, IsScalar, encode_utf8, AllByRecursion, flat_map, IsUtf8, IsCharBoundary, chars, all_scalars, encode_utf8_all, drop_more, take_at, drop_at, IsCharBoundary-after_ascii, IsCharBoundary-from_take, IsUtf8-drop, encode_ascii, chars-append, chars_past_char, encodes-chars, scalars-chars, scalar, scalar_cases, NoneBefore, Passes, is_byte, form_encode, Item, backslash, item_text, item_texts, IsItem, hidden_item, character_item, is_any, HasNoBackslash, item_bytes}
+use Rattle.os_quote.proofs.Common.{◌≡◌, ◌≢◌, ⊎_elim, ℕ, zero, suc, ◌+◌, ◌<◌, ◌≤◌, Bool, true, false, List, [], ◌∷◌, ◌++◌, map, length, take, drop, get_or, refl, sym, ap, ◌∙◌, subst, arith, append_assoc, take-append-drop, length-append, IsScalar, encode_utf8, AllByRecursion, flat_map, IsUtf8, chars, all_scalars, encode_utf8_all, drop_more, take_at, drop_at, IsCharBoundary-from_take, IsUtf8-drop, encode_ascii, chars-append, chars_past_char, encodes-chars, scalars-chars, scalar, scalar_cases, NoneBefore, Passes, is_byte, form_encode, Item, backslash, item_text, item_texts, IsItem, hidden_item, character_item, is_any, HasNoBackslash, IsCutAtFirst, item_bytes}
 use Rattle.std.proofs.lemmas.Bool.{and_parts, cases_eq, cases_lt, cases_Bool, lt-ltb, le-ltb, ne_eqb, eq-eqb, eqb-true}
 
 -- the test of the search for a backslash
@@ -15,18 +15,12 @@ none_from [] (suc n) h = tt
 none_from (x ∷ t) zero h = tt
 none_from (x ∷ t) (suc n) h = (no_place x (h 0 (omega arith)), none_from t n (λ k lt. h (suc k) (omega arith)))
 
--- if it finds one, that is the first, and the text may be cut after it
-pub record IsFirstBackslash (t : List ℕ) (i : ℕ) : Type 0 where
-  pub none_before : HasNoBackslash (take i t)
-  pub joined : t ≡ take i t ++ backslash ∷ drop (i + 1) t
-  pub cut : IsCharBoundary t (i + 1)
-
-pub first_backslash : (t : List ℕ) (i : ℕ) → IsUtf8 t → NoneBefore (IsPlace t) 0 (length t) i × IsPlace t i → IsFirstBackslash t i
-first_backslash t i u h =
+-- if it finds one, that is the first
+pub first_backslash : (t : List ℕ) (i : ℕ) → NoneBefore (IsPlace t) 0 (length t) i × IsPlace t i → IsCutAtFirst t (take i t) (drop (i + 1) t)
+first_backslash t i h =
     let e : get_or t i 0 ≡ backslash = eqb-true _ _ h.1 in record {
       none_before = none_from t i (λ k lt. h.0.before k (omega arith) lt);
       joined = sym (take-append-drop i t) ∙ ap (λ x. take i t ++ x) (drop_more t i 0 h.0.high ∙ ap (λ x. x ∷ drop (i + 1) t) e);
-      cut = IsCharBoundary-after_ascii t i u h.0.high (omega (arith, e));
     }
 
 -- an ASCII character at the start

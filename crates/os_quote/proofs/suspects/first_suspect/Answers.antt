@@ -2,6 +2,9 @@ use Rattle.os_quote.proofs.Common.{◌≡◌, ◌+◌, get_or, sym, ap, ◌∙�
 use Rattle.os_quote.proofs.lemmas.Suspects.{some_more, one_more}
 use Rattle.os_quote.proofs.suspects.first_suspect.Goals as goal
 
+pub loop-at-init : goal.loop-at-init
+loop-at-init c = (omega arith, omega (arith, c.clear_of_short.ensures.within), c.clear_of_short.ensures.clear)
+
 pub returns-then-is_suspect : goal.returns-then-is_suspect
 returns-then-is_suspect c =
     let bytes = c.args.bytes.now in
