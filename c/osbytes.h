@@ -54,7 +54,7 @@ enum {
     OSB_ENDED = 4,         /* there are no more items */
     OSB_BAD_ESCAPE = 5,    /* a backslash of an escape begins no token */
     OSB_NO_STRING = 6,     /* no string of the platform has this escape */
-    /* from 16 on: an argument is refused, and nothing was written */
+    /* from 16 on: an argument is refused, and nothing was written but maybe into a buffer */
     OSB_BAD_PLATFORM = 16, /* there is no such platform */
     OSB_BAD_PATTERN = 17,  /* the pattern or the escape isn't UTF-8, or the pattern is empty where
                             * it may not be */

@@ -551,8 +551,32 @@ static void bad_strings(to_string *unescape) {
     EXPECT(count == 1 && index == 0);
 }
 
+/* One byte among others, at each index of each length about those that are read at once. */
+static void byte_among_others(to_string *unescape) {
+    char escape[82], out[82];
+    for (size_t len = 1; len <= sizeof escape; len++)
+        for (size_t at = 0; at < len; at++) {
+            size_t count = 9, index = 99;
+            memset(escape, 'a', len);
+            escape[at] = '~';
+            EXPECT(unescape(OSB_UNIX, escape, len, out, len, &count, &index) == OSB_OK);
+            EXPECT(count == len && memcmp(out, escape, len) == 0);
+            escape[at] = '\\';
+            EXPECT(unescape(OSB_UNIX, escape, len, out, len, &count, &index) == OSB_BAD_ESCAPE);
+            EXPECT(index == at);
+            escape[at] = '\xFF';
+            EXPECT(unescape(OSB_UNIX, escape, len, out, len, &count, &index) == OSB_BAD_PATTERN);
+            EXPECT(unescape(OSB_UNIX, escape, len, NULL, 0, &count, &index) == OSB_BAD_PATTERN);
+            EXPECT(count == len && index == at);
+        }
+}
+
 static void unescapes(void) {
     to_string *plain = osb_unescape, *line = osb_unescape_line;
+    byte_among_others(plain);
+    byte_among_others(line);
+    EXPECT(unread(plain, OSB_UNIX, TEXT("\\xFF\xC3\\x28"), OSB_BAD_PATTERN, 7));
+    EXPECT(unread(line, OSB_WINDOWS, TEXT("\\uD83D\xF0\x9F\x98"), OSB_BAD_PATTERN, 7));
     EXPECT(osb_unescape_bound(5) == 5 && osb_unescape_bound(SIZE_MAX) == SIZE_MAX);
     EXPECT(unescaped(plain, OSB_UNIX, TEXT("a\n\\\\\\x80\\xFF"), TEXT("a\n\\\x80\xFF")));
     EXPECT(unescaped(plain, OSB_WINDOWS, TEXT("a\\uD800b"), TEXT("a\xED\xA0\x80" "b")));

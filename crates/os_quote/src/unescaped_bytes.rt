@@ -1,5 +1,5 @@
 //! Strings written into a buffer, from escapes that may not be UTF-8.
-ghost use Rattle.std.specs.Prelude.{◌≡◌, ◌≢◌, MatchOption, MatchResult};
+ghost use Rattle.std.specs.Prelude.{◌≡◌, ◌≢◌, IfSome, MatchOption, MatchResult};
 ghost use Rattle.std.specs.Str.{IsUtf8};
 ghost use Rattle.os_quote.specs.Reading.{HasNoBackslash};
 ghost use Rattle.os_quote.specs.Shown.{shown_by};
@@ -39,7 +39,8 @@ pub fn write_unescaped_bytes<E: Platform>(
     escape: &[u8],
     buffer: &mut [u8],
 ) -> Option<Result<usize, QuoteError>>
-    ensures { MatchOption result (¬ (IsUtf8 escape.now)) (λ read. MatchResult read
+    ensures utf8 { IfSome result (λ _. IsUtf8 escape.now) }
+    ensures read { MatchOption result (¬ (IsUtf8 escape.now)) (λ read. MatchResult read
         (λ count. IsUnescaped E.well_formed E.units escape.now buffer.old buffer.new count)
         (λ fault. IsQuoteFault E.well_formed E.units escape.now fault × (fault ≢ Memory))) }
 {
@@ -67,7 +68,8 @@ pub fn write_unescaped_line_bytes<E: Platform>(
     escape: &[u8],
     buffer: &mut [u8],
 ) -> Option<Result<usize, QuoteError>>
-    ensures { MatchOption result (¬ (IsUtf8 escape.now)) (λ read. MatchResult read
+    ensures utf8 { IfSome result (λ _. IsUtf8 escape.now) }
+    ensures read { MatchOption result (¬ (IsUtf8 escape.now)) (λ read. MatchResult read
         (λ count. IsLineUnescaped E.well_formed E.units escape.now buffer.old buffer.new count)
         (λ fault. IsLineFault E.well_formed E.units escape.now fault × (fault ≢ Memory))) }
 {
@@ -80,7 +82,8 @@ fn write_bytes_by<E: Platform>(
     escape: &[u8],
     buffer: &mut [u8],
 ) -> Option<Result<usize, QuoteError>>
-    ensures { MatchOption result (¬ (IsUtf8 escape.now)) (λ read. MatchResult read
+    ensures utf8 { IfSome result (λ _. IsUtf8 escape.now) }
+    ensures read { MatchOption result (¬ (IsUtf8 escape.now)) (λ read. MatchResult read
         (λ count. IsUnescapedBy (shown_by form) E.well_formed E.units escape.now buffer.old
         buffer.new count)
         (λ fault. IsQuoteFaultBy (shown_by form) E.well_formed E.units escape.now fault
@@ -102,7 +105,8 @@ fn write_shown<E: Platform>(
     buffer: &mut [u8],
 ) -> Option<Result<usize, QuoteError>>
     requires { HasNoBackslash escape.now }
-    ensures { MatchOption result (¬ (IsUtf8 escape.now)) (λ read. MatchResult read
+    ensures utf8 { IfSome result (λ _. IsUtf8 escape.now) }
+    ensures read { MatchOption result (¬ (IsUtf8 escape.now)) (λ read. MatchResult read
         (λ count. IsUnescapedBy (shown_by form) E.well_formed E.units escape.now buffer.old
         buffer.new count)
         (λ fault. IsQuoteFaultBy (shown_by form) E.well_formed E.units escape.now fault
@@ -124,7 +128,8 @@ fn write_tokens<E: Platform>(
     escape: &[u8],
     buffer: &mut [u8],
 ) -> Option<Result<usize, QuoteError>>
-    ensures { MatchOption result (¬ (IsUtf8 escape.now)) (λ read. MatchResult read
+    ensures utf8 { IfSome result (λ _. IsUtf8 escape.now) }
+    ensures read { MatchOption result (¬ (IsUtf8 escape.now)) (λ read. MatchResult read
         (λ count. IsUnescapedBy (shown_by form) E.well_formed E.units escape.now buffer.old
         buffer.new count)
         (λ fault. IsQuoteFaultBy (shown_by form) E.well_formed E.units escape.now fault

@@ -1,6 +1,6 @@
 -- What follows of an `Option` or a `Result` from what each variant says.
 use Rattle.std.specs.Result.{is_ok}
-use Rattle.std.proofs.Common.{◌≡◌, ◌∙◌, ap, refl, true, false, IsTrue, Option, None, Some, IfSome, MatchOption, Result, Ok, Err, IfOk, IfErr, IsOkAnd, IsErrAnd, MatchResult}
+use Rattle.std.proofs.Common.{◌≡◌, ◌∙◌, ap, refl, true, false, IsTrue, Option, None, Some, IfSome, MatchOption, Result, Ok, Err, IfOk, IfErr, IsSomeAnd, IsOkAnd, IsErrAnd, MatchResult}
 
 -- what follows of a value follows where there is one
 pub where_some : {A : Type 0} (P : Type 0) {Q R : A → Type 0} → ((x : A) → Q x → R x) → (o : Option A) → MatchOption o P Q → IfSome o R
@@ -44,3 +44,14 @@ ok_tells W (Err e) ok err also f g = (λ t. let no : ¬ (false ≡ true) = λ e.
 -- a pair of these two
 pub pair_of : {A B : Type 0} (pair : A × B) (a : A) (b : B) → (pair.0 ≡ a) × (pair.1 ≡ b) → pair ≡ (a, b)
 pair_of pair a b same = ap (λ x. (x, pair.1)) same.0 ∙ ap (λ y. (a, y)) same.1
+
+-- where there must be a result, no error of which is of two kinds, what follows of a value follows of its value
+pub some_ok_and : {A B : Type 0} (N : Type 0) (P R : A → Type 0) (Q S : B → Type 0) → (o : Option (Result A B)) → MatchOption o N (λ r. MatchResult r P (λ e. Q e × S e)) → ¬ N → ((e : B) → Q e → S e → ⊥) → ((x : A) → P x → R x) → IsSomeAnd o (λ r. IsOkAnd r R)
+some_ok_and N P R Q S None none some bad f = absurd (some none)
+some_ok_and N P R Q S (Some (Ok x)) is some bad f = f x is
+some_ok_and N P R Q S (Some (Err e)) is some bad f = absurd (bad e is.0 is.1)
+
+-- where a value would say what isn't so
+pub none_is : {A : Type 0} (P : Type 0) → (o : Option A) → IfSome o (λ _. P) → ¬ P → o ≡ None
+none_is P None some none = refl
+none_is P (Some x) some none = absurd (none some)

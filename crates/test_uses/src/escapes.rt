@@ -1,11 +1,13 @@
 //! Escapes: a string comes back from its own, and has one.
-ghost use Rattle.std.specs.Prelude.{◌≡◌, ◌⊎◌, ◌↔◌, ◌*◌, ◌<◌, ◌≤◌, ◌^◌, ℕ, List, length, Err, IsTrue, IsOkAnd, IsErrAnd, IfOk, IfErr, string_bytes};
+ghost use Rattle.std.specs.Prelude.{◌≡◌, ◌⊎◌, ◌↔◌, ◌*◌, ◌<◌, ◌≤◌, ◌^◌, ℕ, List, length, None, Err, IsTrue, IsSomeAnd, IsOkAnd, IsErrAnd, IfOk, IfErr, string_bytes};
 ghost use Rattle.std.specs.Str.{IsUtf8};
 ghost use Rattle.wtf8_core.specs.Truncated.{IsTruncated};
 ghost use Rattle.platform_str.specs.Strings.{bytes, string_vec_of};
 ghost use Rattle.os_quote.specs.Escape.{IsEscape, IsBadEscape};
 
-use os_quote::{QuoteError, escape, laws, unescape, write_escape, write_unescaped};
+use os_quote::{
+    QuoteError, escape, laws, unescape, write_escape, write_unescaped, write_unescaped_bytes,
+};
 use platform_str::{OsStr, OsString, Platform};
 use std::alloc::{AllocError, Allocator};
 
@@ -103,4 +105,28 @@ pub fn is_escape_in<E: Platform>(text: &str, buffer: &mut [u8]) -> bool
 {
     laws::bad_escapes::<E>();
     write_unescaped::<E>(text, buffer).is_ok()
+}
+
+/// The string with an escape that is known to be its own, from the bytes of the escape: that string,
+/// truncated.
+pub fn unescape_bytes_in<E: Platform>(
+    string: OsStr<'_, E>,
+    known: &[u8],
+    buffer: &mut [u8],
+) -> Option<Result<usize, QuoteError>>
+    requires { IsEscape E.units (bytes string) known.now }
+    ensures { IsSomeAnd result (λ read. IsOkAnd read
+        (λ count. IsTruncated (bytes string.entry) buffer.old buffer.new count)) }
+{
+    laws::escapes::<E>();
+    laws::bad_escapes::<E>();
+    write_unescaped_bytes::<E>(known, buffer)
+}
+
+/// What comes of bytes that aren't UTF-8: nothing.
+pub fn no_text_in<E: Platform>(raw: &[u8], buffer: &mut [u8]) -> Option<Result<usize, QuoteError>>
+    requires { ¬ (IsUtf8 raw.now) }
+    ensures { result ≡ None }
+{
+    write_unescaped_bytes::<E>(raw, buffer)
 }

@@ -1,6 +1,6 @@
 //! Escapes on one line: a string comes back from its own, has one, and nothing in it leaves the
 //! line.
-ghost use Rattle.std.specs.Prelude.{◌≡◌, ◌⊎◌, ◌*◌, ◌<◌, ◌^◌, ℕ, List, length, Err, IsTrue, IsOkAnd, IsErrAnd, IfOk, IfErr, string_bytes};
+ghost use Rattle.std.specs.Prelude.{◌≡◌, ◌⊎◌, ◌*◌, ◌<◌, ◌^◌, ℕ, List, length, Err, IsTrue, IsSomeAnd, IsOkAnd, IsErrAnd, IfOk, IfErr, string_bytes};
 ghost use Rattle.std.specs.List.{All};
 ghost use Rattle.std.specs.Str.{IsUtf8, chars};
 ghost use Rattle.wtf8_core.specs.Truncated.{IsTruncated};
@@ -10,6 +10,7 @@ ghost use Rattle.os_quote.specs.Escape.{IsLineEscape, IsBadLineEscape};
 
 use os_quote::{
     QuoteError, escape_line, laws, unescape_line, write_escape_line, write_unescaped_line,
+    write_unescaped_line_bytes,
 };
 use platform_str::{OsStr, OsString, Platform};
 use std::alloc::{AllocError, Allocator};
@@ -103,4 +104,19 @@ pub fn bad_line_place_in<E: Platform>(
 {
     laws::line_escapes::<E>();
     write_unescaped_line::<E>(text, buffer)
+}
+
+/// The string with an escape on one line that is known to be its own, from the bytes of the escape: that
+/// string, truncated.
+pub fn line_unescape_bytes_in<E: Platform>(
+    string: OsStr<'_, E>,
+    known: &[u8],
+    buffer: &mut [u8],
+) -> Option<Result<usize, QuoteError>>
+    requires { IsLineEscape E.units (bytes string) known.now }
+    ensures { IsSomeAnd result (λ read. IsOkAnd read
+        (λ count. IsTruncated (bytes string.entry) buffer.old buffer.new count)) }
+{
+    laws::line_escapes::<E>();
+    write_unescaped_line_bytes::<E>(known, buffer)
 }

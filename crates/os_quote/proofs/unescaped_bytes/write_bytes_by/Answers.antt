@@ -5,8 +5,8 @@ use Rattle.os_quote.proofs.lemmas.PlainBytes.{plain_is_own, plain_is_text}
 use Rattle.os_quote.proofs.lemmas.Unescaping.{own_unescaped}
 use Rattle.os_quote.proofs.unescaped_bytes.write_bytes_by.Goals as goal
 
-pub returns-then-are_plain : goal.returns-then-are_plain
-returns-then-are_plain g c =
+pub returns-then-are_plain-clause-read : goal.returns-then-are_plain-clause-read
+returns-then-are_plain-clause-read g c =
     let P = g.E.Platform in
     let laws = g.met.E.Platform.laws in
     let shows = shown_by c.args.form in
@@ -16,3 +16,6 @@ returns-then-are_plain g c =
     let own = own_escape shows P.well_formed P.units P.part_units g.met.E.Platform.parts escape (laws.text [] IsUtf8-nil) is_text (plain_is_own c.args.form escape plain) in
     own_unescaped shows P.well_formed P.units P.part_units g.met.E.Platform.parts (are_chunks_of P.well_formed laws.cut_front laws.cut_back) escape c.args.buffer.now c.push_truncated.new.buffer c.push_truncated.result (laws.text escape is_text) own
     (c.push_truncated.ensures.written [] c.args.buffer.now (none_yet c.args.buffer.now))
+
+pub returns-then-are_plain-clause-utf8 : goal.returns-then-are_plain-clause-utf8
+returns-then-are_plain-clause-utf8 g c = plain_is_text c.args.escape.now (c.are_plain.ensures c.if-are_plain.true)

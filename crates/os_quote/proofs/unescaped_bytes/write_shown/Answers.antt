@@ -10,8 +10,8 @@ use Rattle.os_quote.proofs.lemmas.Texts.{own_text}
 use Rattle.os_quote.proofs.lemmas.Unescaping.{own_unescaped, with_both}
 use Rattle.os_quote.proofs.unescaped_bytes.write_shown.Goals as goal
 
-pub returns-in-Text : goal.returns-in-Text
-returns-in-Text g c =
+pub returns-in-Text-clause-read : goal.returns-in-Text-clause-read
+returns-in-Text-clause-read g c =
     let P = g.E.Platform in
     let laws = g.met.E.Platform.laws in
     let escape = c.args.escape.now in
@@ -21,8 +21,8 @@ returns-in-Text g c =
     rw c.in-Text.is (own_unescaped is_any P.well_formed P.units P.part_units g.met.E.Platform.parts (are_chunks_of P.well_formed laws.cut_front laws.cut_back) escape c.args.buffer.now c.push_truncated.new.buffer c.push_truncated.result (laws.text escape is_text) own
     (subst (λ x. IsTruncated x c.args.buffer.now c.push_truncated.new.buffer c.push_truncated.result) c.in-Some.ensures (subst (λ x. IsTruncated x c.args.buffer.now c.push_truncated.new.buffer c.push_truncated.result) c.as_bytes.ensures.value written)))
 
-pub returns-in-Line : goal.returns-in-Line
-returns-in-Line g c =
+pub returns-in-Line-clause-read : goal.returns-in-Line-clause-read
+returns-in-Line-clause-read g c =
     let P = g.E.Platform in
     let read = c.write_unescaped_line.result in
     rw c.in-Line.is (subst (λ x. MatchResult read (λ count. IsUnescapedBy stays_on_line P.well_formed P.units x c.args.buffer.now c.write_unescaped_line.new.buffer count) (λ fault. IsQuoteFaultBy stays_on_line P.well_formed P.units x fault × (fault ≢ Memory))) c.in-Some.ensures
