@@ -115,9 +115,8 @@ fn push_marked<A: Allocator>(
     Ok(())
 }
 
-/// Appends what 16 bytes after the first add. It is kept out of the loop over ASCII, which is faster
-/// without it.
-#[inline(never)]
+/// Appends what 16 bytes after the first add.
+#[inline(always)]
 fn push_block<A: Allocator>(units: &mut Vec<u16, A>, bytes: &[u8]) -> Result<(), AllocError>
     requires { 19 ≤ length bytes.now }
     ensures ok { OnOk result (units.new.items ++ units_after_first (drop 16 bytes.now)
@@ -131,7 +130,7 @@ fn push_block<A: Allocator>(units: &mut Vec<u16, A>, bytes: &[u8]) -> Result<(),
 }
 
 /// Appends what up to 16 bytes after the first add, where fewer than 19 are left.
-#[inline(never)]
+#[inline(always)]
 fn push_end<A: Allocator>(
     units: &mut Vec<u16, A>,
     bytes: &[u8],
@@ -150,6 +149,31 @@ fn push_end<A: Allocator>(
     let lanes = unit_lanes(&window);
     let marks = unit_marks(&window);
     push_marked(units, &lanes[..count], &marks[..count])?;
+    Ok(())
+}
+
+/// Appends what the next bytes after the first add: 16, or up to 16 where fewer than 19 are left. It
+/// is kept out of the loop over ASCII, which is faster without it.
+#[inline(never)]
+fn push_next<A: Allocator>(
+    units: &mut Vec<u16, A>,
+    bytes: &[u8],
+    count: usize,
+) -> Result<(), AllocError>
+    requires block { 19 ≤ length bytes.now → count ≡ 16 }
+    requires count { count ≤ 16 }
+    requires within { count < length bytes.now }
+    ensures ok { OnOk result (units.new.items ++ units_after_first (drop count bytes.now)
+        ≡ units.old.items ++ units_after_first bytes.now) }
+    ensures room { vec_len units.old + count ≤ vec_capacity units.old → IsOk result }
+    ensures capacity { vec_capacity units.old ≤ vec_capacity units.new }
+    ensures len { vec_len units.new ≤ vec_len units.old + count }
+{
+    if bytes.len() >= 19 {
+        push_block(units, bytes)?;
+    } else {
+        push_end(units, bytes, count)?;
+    }
     Ok(())
 }
 
@@ -232,13 +256,9 @@ fn push_after_first<A: Allocator>(units: &mut Vec<u16, A>, bytes: &[u8]) -> Resu
             units.push(u16::from(rest[1]))?;
             let (_, behind) = rest.split_at(1);
             rest = behind;
-        } else if rest.len() >= 19 {
-            push_block(units, rest)?;
-            let (_, behind) = rest.split_at(16);
-            rest = behind;
         } else {
             let count = (rest.len() - 1).min(16);
-            push_end(units, rest, count)?;
+            push_next(units, rest, count)?;
             let (_, behind) = rest.split_at(count);
             rest = behind;
         }
