@@ -10,3 +10,5 @@ pub mod BulkUnits
 pub mod BulkBytes
 pub mod Displays
 pub mod UnitCounts
+pub mod SixteenLanes
+pub mod ByteUnits

@@ -1,4 +1,5 @@
 pub mod Bulk
+pub mod ByteUnits
 pub mod Laws
 pub mod PlatformWords
 pub mod platforms

@@ -1,37 +1,13 @@
-//! The units of Windows strings and the bytes of units, many at once: ASCII in blocks of 16 (and,
-//! for units, of 8), and what comes between code point by code point.
-ghost use Rattle.std.specs.Prelude.{◌≡◌, ◌++◌, ◌+◌, ◌*◌, ◌≤◌, ◌<◌, ◌∷◌, ℕ, List, true, leb, take, drop, length, slice_index, IsOk, IfSome, MatchOption, OnOk, vec_len, vec_capacity};
+//! The bytes of units, many at once: ASCII in blocks of 16 and of 8, and what comes between code point
+//! by code point.
+ghost use Rattle.std.specs.Prelude.{◌≡◌, ◌++◌, ◌+◌, ◌*◌, ◌≤◌, ◌<◌, ℕ, List, true, leb, take, drop, length, slice_index};
 ghost use Rattle.std.specs.List.{All, count_by};
-ghost use Rattle.wtf8_core.specs.CodePoint.{IsCodePoint, encode_utf16, encode};
-ghost use Rattle.wtf8_core.specs.Wtf8.{IsWtf8, HasUnits};
-ghost use Rattle.wtf8_core.specs.UnitsOf.{units_of};
-ghost use Rattle.platform_str.specs.Strings.{bytes};
+ghost use Rattle.wtf8_core.specs.CodePoint.{IsCodePoint, encode};
+ghost use Rattle.wtf8_core.specs.Wtf8.{HasUnits};
 ghost use Rattle.platform_str.specs.Bulk.{SpellsBefore, pairs};
 
-use crate::os_str::OsStr;
-use crate::platform::Windows;
-use std::alloc::{AllocError, Allocator};
 use std::simd::prelude::*;
-use wtf8_core::{first_pair, pair_units, split_code_point, write_form};
-
-/// Whether all 16 bytes are ASCII.
-#[inline(always)]
-fn is_ascii_block(block: [u8; 16]) -> bool
-    ensures { result ≡ true → All (λ b. b < 0x80) block }
-{
-    u8x16::from_array(block)
-        .simd_ge(u8x16::splat(0x80))
-        .to_bitmask()
-        == 0
-}
-
-/// The units of 16 ASCII bytes.
-#[inline(always)]
-fn widened(block: [u8; 16]) -> [u16; 16]
-    ensures { result ≡ block }
-{
-    u8x16::from_array(block).cast::<u16>().to_array()
-}
+use wtf8_core::{first_pair, write_form};
 
 /// Whether all 16 units are ASCII.
 #[inline(always)]
@@ -51,65 +27,6 @@ fn narrowed(block: [u16; 16]) -> [u8; 16]
     ensures { result ≡ block }
 {
     u16x16::from_array(block).cast::<u8>().to_array()
-}
-
-/// Appends the units of a code point.
-#[tactic(auto, unfolding(wtf8_core::specs::CodePoint::encode_utf16))]
-#[inline(always)]
-fn push_wide<A: Allocator>(units: &mut Vec<u16, A>, code_point: u32) -> Result<(), AllocError>
-    requires { IsCodePoint code_point }
-    ensures ok { OnOk result (units.new.items ≡ units.old.items ++ encode_utf16 code_point) }
-    ensures room { vec_len units.old + length (encode_utf16 code_point) ≤ vec_capacity units.old
-        → IsOk result }
-    ensures capacity { vec_capacity units.old ≤ vec_capacity units.new }
-{
-    if code_point < 0x1_0000 {
-        units.push(code_point as u16)?;
-        return Ok(());
-    }
-    let (high, low) = pair_units(code_point);
-    units.push(high)?;
-    units.push(low)?;
-    Ok(())
-}
-
-/// Appends the units of a string, one by one.
-fn push_one_by_one<A: Allocator>(
-    units: &mut Vec<u16, A>,
-    string: OsStr<'_, Windows>,
-) -> Result<(), AllocError>
-    ensures ok { OnOk result (units.new.items ≡ units.old.items ++ units_of (bytes string.entry)) }
-    ensures room { vec_len units.old + length (units_of (bytes string.entry))
-        ≤ vec_capacity units.old → IsOk result }
-{
-    for unit in string.encode_wide() {
-        units.push(unit)?;
-    }
-    Ok(())
-}
-
-/// Appends the units of a string. If the vector has room for all of them, this doesn't allocate.
-pub(crate) fn push_units<A: Allocator>(
-    units: &mut Vec<u16, A>,
-    string: &[u8],
-) -> Result<(), AllocError>
-    requires { IsWtf8 string.now }
-    ensures ok { OnOk result (units.new.items ≡ units.old.items ++ units_of string.now) }
-    ensures room { vec_len units.old + length (units_of string.now) ≤ vec_capacity units.old
-        → IsOk result }
-{
-    let mut rest = string;
-    while let Some((block, behind)) = rest.split_first_chunk::<16>() {
-        if is_ascii_block(*block) {
-            units.extend_from_slice(&widened(*block))?;
-            rest = behind;
-        } else {
-            let (code_point, behind) = split_code_point(rest);
-            push_wide(units, code_point)?;
-            rest = behind;
-        }
-    }
-    push_one_by_one(units, OsStr::from_encoded_bytes_unchecked(rest))
 }
 
 /// Whether there are at least 16 units and the first 16 are ASCII.

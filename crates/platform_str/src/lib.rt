@@ -26,6 +26,7 @@
 #![tactic(auto)]
 
 mod blocks;
+mod byte_units;
 mod convert;
 mod cow;
 mod display;

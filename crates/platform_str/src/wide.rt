@@ -4,7 +4,8 @@ ghost use Rattle.std.specs.Iterator.{YieldsFirst, item_count};
 ghost use Rattle.wtf8_core.specs.Wtf8.{HasUnits};
 ghost use Rattle.platform_str.specs.Strings.{bytes, string_vec_of};
 
-use crate::blocks::{push_units, write_wtf8, wtf8_len};
+use crate::blocks::{write_wtf8, wtf8_len};
+use crate::byte_units::push_units;
 use crate::os_str::OsStr;
 use crate::os_string::OsString;
 use crate::platform::{Platform, Windows};

@@ -1,0 +1,11 @@
+use Rattle.platform_str.proofs.Common.{◌+◌, rules}
+use Rattle.platform_str.proofs.lemmas.ByteUnits.{appended, some_chosen}
+use Rattle.platform_str.proofs.byte_units.push_end.Goals as goal
+
+pub returns-clause-ok : goal.returns-clause-ok
+returns-clause-ok g c =
+    let same = c.padded-window.ensures in
+    appended _ c.args.units.now.items _ _ _ c.in_ok-push_marked.ensures.ok
+    (some_chosen c.args.count c.args.bytes.now c.unit_lanes-lanes.result c.unit_marks-marks.result (search rules) (search rules) c.requires.count c.requires.within
+    (λ i h. rw (same i, same (1 + i), same (2 + i), same (3 + i)) at (c.unit_lanes-lanes.ensures i h))
+    (λ i h. rw (same i, same (1 + i)) at (c.unit_marks-marks.ensures i h)))

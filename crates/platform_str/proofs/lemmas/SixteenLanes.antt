@@ -1,0 +1,39 @@
+-- Vectors of 16 lanes, lane by lane.
+use Rattle.std.proofs.Common.{◌≡◌, ℕ, ◌+◌, ◌<◌, Bool, false, cond, List, map, length, get_or, replicate, sym, ap, ◌∙◌, arith}
+use Rattle.platform_str.proofs.Common.{zip2, top}
+use Rattle.std.proofs.lemmas.Simd.{get_or-zip2, get_or-replicate, length-replicate, length-zip2, tops_compared, length-sel_l, get_or-sel_l}
+use lib.Lanes.{sel_l}
+use mir.Syntax.{w16}
+
+-- there are 16 lanes, and f says what each is
+pub record HasLanes (xs : List ℕ) (f : ℕ → ℕ) : Type 0 where
+  pub many : length xs ≡ 16
+  pub each : (i : ℕ) → i < 16 → get_or xs i 0 ≡ f i
+
+-- those of a list, from its first item on
+pub from_first : {lanes : List ℕ} (xs : List ℕ) → length lanes ≡ 16 → ((i : ℕ) → i < 16 → get_or lanes i 0 ≡ get_or xs (0 + i) 0) → HasLanes lanes (λ i. get_or xs i 0)
+from_first {lanes} xs m e = record { many = m; each = λ i h. let same : 0 + i ≡ i = omega arith in e i h ∙ ap (λ k. get_or xs k 0) same }
+
+pub splat : (y : ℕ) → HasLanes (replicate 16 y) (λ _. y)
+splat y = record { many = length-replicate 16 y; each = λ i h. get_or-replicate 16 i y 0 h }
+
+pub both : (op : ℕ → ℕ → ℕ) {xs ys : List ℕ} {f g : ℕ → ℕ} → HasLanes xs f → HasLanes ys g → HasLanes (zip2 op xs ys) (λ i. op (f i) (g i))
+both op {xs} {ys} {f} {g} a b = record {
+  many = length-zip2 op xs ys (a.many ∙ sym b.many) ∙ a.many;
+  each = λ i h. get_or-zip2 op xs ys i 0 0 0 (omega (arith, a.many, h)) (omega (arith, b.many, h)) ∙ ap (λ x. op x (get_or ys i 0)) (a.each i h) ∙ ap (op (f i)) (b.each i h);
+}
+
+-- `select` by a comparison
+pub choice : (test : ℕ → ℕ → Bool) {xs ys yes no : List ℕ} {f g p q : ℕ → ℕ} → HasLanes xs f → HasLanes ys g → HasLanes yes p → HasLanes no q
+    → HasLanes (sel_l (map (top 15) (zip2 (λ a b. cond (test a b) 65535 0) xs ys)) yes no) (λ i. cond (test (f i) (g i)) (p i) (q i))
+choice test {xs} {ys} {yes} {no} {f} {g} {p} {q} a b y n =
+    let m : List Bool = zip2 test xs ys in
+    let many : length m ≡ 16 = length-zip2 test xs ys (a.many ∙ sym b.many) ∙ a.many in
+    rw (tops_compared w16 test xs ys) (record {
+      many = length-sel_l m yes no (many ∙ sym y.many) (many ∙ sym n.many) ∙ many;
+      each = λ i h.
+          get_or-sel_l m yes no i 0 (omega (arith, many, h)) (omega (arith, y.many, h)) (omega (arith, n.many, h))
+          ∙ ap (λ t. cond t (get_or yes i 0) (get_or no i 0)) (get_or-zip2 test xs ys i 0 0 false (omega (arith, a.many, h)) (omega (arith, b.many, h)) ∙ ap (λ x. test x (get_or ys i 0)) (a.each i h) ∙ ap (test (f i)) (b.each i h))
+          ∙ ap (λ x. cond (test (f i) (g i)) x (get_or no i 0)) (y.each i h)
+          ∙ ap (λ x. cond (test (f i) (g i)) (p i) x) (n.each i h);
+    })
