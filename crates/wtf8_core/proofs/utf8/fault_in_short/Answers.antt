@@ -1,4 +1,4 @@
-use Rattle.wtf8_core.proofs.Common.{◌≤◌, arith}
+use Rattle.wtf8_core.proofs.Common.{arith}
 use Rattle.wtf8_core.specs.declared.scan.Encoding.TheVariants.{Utf8}
 use Rattle.wtf8_core.proofs.lemmas.scan.Windows.{ascii_is_utf8, no_pattern, text_keeps}
 use Rattle.wtf8_core.proofs.utf8.fault_in_short.Goals as goal
