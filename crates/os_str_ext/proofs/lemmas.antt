@@ -17,3 +17,4 @@ pub mod SymbolSteps
 pub mod EdgeCharacters
 pub mod FirstItem
 pub mod SymbolBytes
+pub mod FewBytes

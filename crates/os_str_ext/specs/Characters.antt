@@ -25,6 +25,10 @@ IsCharacterBefore s i r = MatchOption r ((k : ℕ) → ¬ (WholeCharacter s k i)
 abbrev pub IsFirstChar : List ℕ → ℕ → ℕ → Type 0
 IsFirstChar s c n = WholeCharacter s 0 (0 + n) × (take n s ≡ encode_utf8 c)
 
+-- r is the character with which any bytes begin that begin with xs, and xs are its bytes; or None, and they begin with no character
+abbrev pub IsCharOf : List ℕ → Option ℕ → Type 0
+IsCharOf xs r = (rest : List ℕ) → MatchOption r (StartsWithNoCharacter (xs ++ rest)) (λ c. IsFirstChar (xs ++ rest) c (length xs))
+
 -- the bytes are those of one character
 pub record IsOneCharacter (s : List ℕ) : Type 0 where
   pub char : ℕ

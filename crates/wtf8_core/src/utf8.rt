@@ -35,9 +35,6 @@ pub fn utf8_fault(bytes: &[u8]) -> Option<(usize, Option<u8>)>
     ensures { MatchOption result (IsUtf8 bytes.now)
         (λ fault. IsUtf8Fault bytes.now fault.0 fault.1) }
 {
-    if bytes.len() < STEP {
-        return fault_by_characters(bytes, 0);
-    }
     if bytes.len() < BLOCK {
         return fault_in_short(bytes);
     }
@@ -51,14 +48,18 @@ pub fn utf8_fault(bytes: &[u8]) -> Option<(usize, Option<u8>)>
     }
 }
 
-/// The first fault of 16 to 63 bytes. If all are ASCII they are read at once; if one of the first 16
-/// isn't, the bytes after three characters are.
-#[inline(always)]
+/// The first fault of fewer than 64 bytes. If all are ASCII they are read at once; if one of the
+/// first 16 isn't, the bytes after three characters are.
+///
+/// It isn't inlined: in a loop over the faults of a long string, it is needed only near the end.
+#[inline(never)]
 fn fault_in_short(bytes: &[u8]) -> Option<(usize, Option<u8>)>
-    requires { 16 ≤ length bytes.now }
     ensures { MatchOption result (IsUtf8 bytes.now)
         (λ fault. IsUtf8Fault bytes.now fault.0 fault.1) }
 {
+    if bytes.len() < STEP {
+        return fault_by_characters(bytes, 0);
+    }
     let near = ascii_of_16(bytes);
     if near < STEP {
         return match after_three_characters(bytes, near) {

@@ -38,7 +38,7 @@ module _ (s : List ℕ) (b : ℕ) (bs : List ℕ) (is : s ≡ b ∷ bs) where
   ascii_first low = is_first s 1 b bs (ascii_found s b bs is low) (is ∙ ap (λ x. x ++ bs) (sym (form_ascii b low)))
 
   -- what the reader reads at the start is the first item
-  read_first : (r : Result ℕ EncodingError) (later : List (Result ℕ EncodingError)) → AreItems s (r ∷ later) → first_item false b bs ≡ r
+  pub read_first : (r : Result ℕ EncodingError) (later : List (Result ℕ EncodingError)) → AreItems s (r ∷ later) → first_item false b bs ≡ r
   read_first r later h = by (first_item false b bs) refl
     where
       by : (q : Result ℕ EncodingError) → first_item false b bs ≡ q → first_item false b bs ≡ r
@@ -63,17 +63,13 @@ module _ (s : List ℕ) (b : ℕ) (bs : List ℕ) (is : s ≡ b ∷ bs) where
   pub bare_at_fault : (later : List (Result ℕ EncodingError)) (f : EncodingError) → AreItems s (Err f ∷ later) → StartsWithNoCharacter s
   bare_at_fault later f h = none_at_fault s b f bs is (read_first (Err f) later h)
 
-  module _ (small : b < 256) (high : 0x80 ≤ b) (later : List (Result ℕ EncodingError)) where
-    -- a scalar is a character
-    pub char_first : (c : ℕ) → AreItems s (Ok c ∷ later) → IsScalar c → IsFirstChar s c (1 + needed_continuations b)
-    char_first c h k =
-        let read = read_first (Ok c) later h in
+  module _ (small : b < 256) where
+    -- a scalar that the reader reads is a character
+    pub char_read : (c : ℕ) → 0x80 ≤ b → first_item false b bs ≡ Ok c → IsScalar c → IsFirstChar s c (1 + needed_continuations b)
+    char_read c high read k =
         let f = split_code_point b c bs small read in
         is_first s (1 + needed_continuations b) c f.0 (character_found s b c bs is small high read (no_surrogate c k)) (is ∙ f.2)
 
-    -- at a surrogate no character begins
-    pub bare_at_surrogate : (c : ℕ) → AreItems s (Ok c ∷ later) → OutOfScalarRange c → StartsWithNoCharacter s
-    bare_at_surrogate c h out =
-        let read = read_first (Ok c) later h in
-        let f = split_code_point b c bs small read in
-        none_at_surrogate s b c bs is read (surrogate c f.1 out)
+    -- where it reads a surrogate no character begins
+    pub surrogate_read : (c : ℕ) → first_item false b bs ≡ Ok c → OutOfScalarRange c → StartsWithNoCharacter s
+    surrogate_read c read out = none_at_surrogate s b c bs is read (surrogate c (split_code_point b c bs small read).1 out)
