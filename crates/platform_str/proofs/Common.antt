@@ -29,7 +29,7 @@ pub use Rattle.wtf8_core.proofs.lemmas.units.PrefixTests.{end_tested, front_test
 pub use Rattle.wtf8_core.specs.CodePoint.{IsCodePoint}
 unfoldable pub use Rattle.wtf8_core.specs.CodePoint.{encode, encode_utf16}
 pub use Rattle.wtf8_core.specs.Covered.{StartsWithNoCharacter}
-pub use Rattle.wtf8_core.specs.FirstForm.{BeginsForm, BeginsNoPair, BeginsPair}
+pub use Rattle.wtf8_core.specs.FirstPair.{BeginsNoPair, BeginsPair}
 pub use Rattle.wtf8_core.specs.Items.{AreItems, AreUnitItems, unit_items}
 pub use Rattle.wtf8_core.specs.Join.{IsJoin, IsPairBetween}
 pub use Rattle.wtf8_core.specs.Lossy.{IsLossyText, replacement}

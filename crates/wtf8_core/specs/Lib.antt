@@ -27,6 +27,6 @@ pub mod Utf8
 pub mod Lossy
 pub mod LossyReading
 pub mod UnitsOf
-pub mod FirstForm
+pub mod FirstPair
 pub mod PartUnits
 pub mod Truncated

@@ -1,8 +1,6 @@
-//! Forms: the bytes of code points, written and read.
-ghost use Rattle.std.specs.Prelude.{◌≡◌, ◌++◌, ◌∷◌, ◌+◌, ◌≤◌, ◌<◌, ◌^◌, ℕ, List, take, drop, length};
+//! Forms: the bytes of code points, written.
+ghost use Rattle.std.specs.Prelude.{◌≡◌, ◌++◌, ◌∷◌, ◌+◌, ◌≤◌, ◌<◌, ◌^◌, take, drop, length};
 ghost use Rattle.wtf8_core.specs.CodePoint.{IsCodePoint, encode};
-ghost use Rattle.wtf8_core.specs.Wtf8.{IsWtf8};
-ghost use Rattle.wtf8_core.specs.FirstForm.{BeginsForm};
 ghost use Rattle.wtf8_core.specs.Decoder.{packed_bytes};
 
 /// Writes the form of a code point over the bytes from index `at` on, and returns the index after
@@ -49,50 +47,6 @@ pub fn write_form(bytes: &mut [u8], at: usize, code_point: u32) -> usize
     bytes[at + 2] = third;
     bytes[at + 3] = last;
     at + 4
-}
-
-/// The first code point of a string of four bytes or more, and the bytes after its form (WTF-8;
-/// this project's own call). The bytes have to be WTF-8 (test: [`wtf8_fault`](crate::wtf8_fault) is
-/// `None`).
-///
-/// For a text these are `chars.next()` and then `chars.as_str()`, where `chars` is `text.chars()`.
-///
-/// ```
-/// let (code_point, rest) = wtf8_core::split_code_point(b"\xC3\xA9abc");
-/// assert_eq!(rt; code_point, 0xE9);
-/// assert_eq!(rt; rest, b"abc".as_slice());
-/// ```
-#[inline(always)]
-pub fn split_code_point(bytes: &[u8]) -> (u32, &[u8])
-    requires formed { IsWtf8 bytes.now }
-    requires four { 4 ≤ length bytes.now }
-    ensures { BeginsForm bytes.now result.0 result.1.now }
-{
-    let (code_point, len) = leading(bytes[0], bytes[1], bytes[2], bytes[3]);
-    let (_, rest) = bytes.split_at(len);
-    (code_point, rest)
-}
-
-/// The code point with whose form four bytes begin, and the length of that form.
-#[inline(always)]
-fn leading(first: u8, second: u8, third: u8, fourth: u8) -> (u32, usize)
-    ensures { (c : ℕ) (behind : List ℕ) → IsCodePoint c
-        → encode c ++ behind ≡ first ∷ second ∷ third ∷ fourth ∷ drop 4 (encode c ++ behind)
-        → (result.0 ≡ c) × (result.1 ≡ length (encode c)) }
-{
-    if first < 0x80 {
-        return (u32::from(first), 1);
-    }
-    let last = u32::from(second % 0x40);
-    if first < 0xE0 {
-        return (u32::from(first % 0x20) * 0x40 + last, 2);
-    }
-    let last = last * 0x40 + u32::from(third % 0x40);
-    if first < 0xF0 {
-        return (u32::from(first % 0x10) * 0x1000 + last, 3);
-    }
-    let last = last * 0x40 + u32::from(fourth % 0x40);
-    (u32::from(first % 0x10) * 0x4_0000 + last, 4)
 }
 
 /// The first byte of a form, and the others packed into a number, the first of them in the lowest

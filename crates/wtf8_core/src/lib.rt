@@ -44,7 +44,7 @@ pub use decoder::DecodeWide;
 pub use digits::{code_point_digits, upper_hex_digit};
 pub use encoder::{EncodeWide, encode_wide};
 pub use fault::EncodingError;
-pub use forms::{split_code_point, write_form};
+pub use forms::write_form;
 pub use halves::{ends_with, pair_between, starts_with};
 pub use surrogate::{first_pair, pair_units};
 pub use truncated::push_truncated;

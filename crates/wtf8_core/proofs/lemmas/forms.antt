@@ -1,7 +1,6 @@
 pub mod Appending
 pub mod ByStd
 pub mod Cuts
-pub mod FirstForms
 pub mod LastForms
 pub mod Order
 pub mod Propositions
