@@ -77,8 +77,8 @@ impl ProgramFault for Fault {
         "names"
     }
 
-    /// The status that the program ends with: 1 for an input that it refuses, 2 for its words, 3 for
-    /// want of memory, and 4 for a failed read or write.
+    /// The status that the program ends with: 1 for an input that it refuses, 2 for its words, 3
+    /// for want of memory, and 4 for a failed read or write.
     ///
     /// ```
     /// use osbytes_commands::ended::ProgramFault;

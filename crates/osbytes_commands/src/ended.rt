@@ -19,10 +19,24 @@ pub trait ProgramFault: Display + Copy {
     ghost status_of: { Self → ℕ };
 
     /// The program's name.
+    ///
+    /// ```
+    /// use osbytes_commands::ended::ProgramFault;
+    /// use osbytes_commands::fault::Fault;
+    ///
+    /// assert_eq!(rt; Fault::program_name(), "osbytes");
+    /// ```
     fn program_name() -> &'static str
         ensures { result.now ≡ name };
 
     /// The status that the program ends with.
+    ///
+    /// ```
+    /// use osbytes_commands::ended::ProgramFault;
+    /// use osbytes_commands::fault::Fault;
+    ///
+    /// assert_eq!(rt; Fault::Usage.status(), 2);
+    /// ```
     fn status(&self) -> u8
         ensures { result ≡ status_of self.now };
 

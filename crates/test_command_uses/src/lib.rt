@@ -18,7 +18,10 @@ pub use lists::{bytes_again, units_again};
 pub use marks::marked_by_no_bytes;
 pub use names::{check_one, known_request, line_before, line_of, names_again, request_of_two};
 pub use plans::{kept, refuses_first, turns};
-pub use programs::{with_arguments, with_words, without_arguments};
+pub use programs::{
+    after_a_fault, after_success, names_without_arguments, program_names, statuses, with_arguments,
+    with_words, without_arguments,
+};
 pub use rows::{asked_alike, counts, differs, is_whole, nothing_asked, status_of_difference};
 pub use runs::{faults_match_marks, run_once, split_at_nothing};
 pub use words::{known_words, splits_at_nothing, too_many_words};

@@ -6,6 +6,7 @@ ghost use Rattle.osbytes_commands.specs.Ended.{message};
 ghost use Rattle.osbytes_commands.specs.Marked.{has_failed};
 ghost use Rattle.osbytes_commands.specs.Program.{AreNoCommand, words_behind_name};
 
+use names_commands::fault::Fault as NamesFault;
 use names_commands::program::execute as execute_names;
 use osbytes_commands::ended::{Ended, ProgramFault};
 use osbytes_commands::fault::Fault;
@@ -113,4 +114,23 @@ pub fn after_success<P: Eprint, E: Write>(rt: &P, errors: &mut E) -> (Result<(),
     let ended = Ended::telling(Ok(()), errors);
     let outcome = ended.outcome();
     (outcome, ended.report(rt))
+}
+
+/// The names that the messages of the two programs begin with.
+pub fn program_names() -> (&'static str, &'static str)
+    ensures osbytes { result.0.now ≡ codes "osbytes" }
+    ensures names { result.1.now ≡ codes "names" }
+{
+    (Fault::program_name(), NamesFault::program_name())
+}
+
+/// The statuses after a bad line, and after a name that is too long.
+pub fn statuses() -> (u8, u8)
+    ensures osbytes { result.0 ≡ 1 }
+    ensures names { result.1 ≡ 1 }
+{
+    (
+        Fault::BadLine(2).status(),
+        NamesFault::TooLong(3, 255).status(),
+    )
 }
