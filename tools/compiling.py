@@ -1,43 +1,55 @@
-"""A crate of a copy of the sources, tried by the compiler. It isn't proved there."""
+"""A changed crate, checked over the libraries that `rt ci` has built in this checkout."""
 
 from __future__ import annotations
 
 import os
+import re
 import shutil
-import signal
 import subprocess
 from pathlib import Path
 
+from laid_in import kit as toolchain
+
 ROOT = Path(__file__).resolve().parent.parent
-COMPILE = ("rt", "check", "--only=")
+CRATES = ROOT / "crates"
 
 
 class Failure(Exception):
     """Why what is tried, or the crate that it is in, does not pass."""
 
 
-def copy_sources(to: Path) -> None:
-    """Copies what the crates are compiled from, and nothing that was built from it."""
-    shutil.copy(ROOT / "crates.txt", to)
-    for crate in (ROOT / "crates").iterdir():
-        for part in ("src", "specs", "proofs"):
-            if (crate / part).is_dir():
-                shutil.copytree(crate / part, to / "crates" / crate.name / part)
+def copy_sources(name: str, to: Path) -> None:
+    """Copies what a crate is compiled from."""
+    for part in ("src", "specs", "proofs"):
+        if (CRATES / name / part).is_dir():
+            shutil.copytree(CRATES / name / part, to / part)
 
 
-def compiled(crate: Path) -> list[str]:
-    """Returns the lines that the compiler prints of a crate, up to the one that begins with `only=`
-    where all compiles.
+def check(name: str, jobs: int) -> list[str]:
+    """Returns the check of a crate in the current folder, over the libraries as `rt ci` has built them.
 
-    A check of no function would then go on to prove and build the libraries below the crate, so it
-    is ended there.
+    `rt check` would prove them again, since it takes no proof of `rt ci` for another folder.
     """
+    text = re.sub(r"#.*", "", (ROOT / "crates.txt").read_text(encoding="utf-8"))
+    uses = dict(re.findall(r"^(\w+)[^:\n]*:(.*)$", text, re.M))
+    kit = toolchain()
+    built = {it: CRATES / it / "out" / "rlib" / f"{it}.rlib" for it in uses}
+    root = "src/main.rt" if (CRATES / name / "src" / "main.rt").exists() else "src/lib.rt"
+    words = [str(kit / "bin" / "rattle"), "check", "--crate-name", name, root]
+    words += ["--extern", f"std={kit}/rlibs/std.rlib", "-L", f"dependency={kit}/rlibs"]
+    for it in uses[name].split():
+        words += ["--extern", f"{it}={built.get(it, kit / 'rlibs' / f'{it}.rlib')}"]
+    for path in built.values():
+        words += ["-L", f"dependency={path.parent}"] * path.is_dir()
+    words += ["--antt-project", f"{kit}/rattle/logic/antt-project.json", "--logic-built", f"{kit}/logic_built"]
+    return [*words, "--links", f"{name}=", "--jobs", str(jobs)]
+
+
+def said_by(words: list[str], folder: Path) -> str:
+    """Returns what a check in a folder prints."""
     pipes = {"stdin": subprocess.DEVNULL, "stdout": subprocess.PIPE, "stderr": subprocess.STDOUT}
-    lines = []
-    with subprocess.Popen(COMPILE, cwd=crate, text=True, start_new_session=True, **pipes) as check:
-        for line in check.stdout:
-            lines.append(line.strip())
-            if line.startswith("only="):
-                os.killpg(check.pid, signal.SIGKILL)
-                break
-    return lines
+    return subprocess.run(words, cwd=folder, text=True, errors="replace", **pipes).stdout
+
+
+def processors() -> int:
+    return len(os.sched_getaffinity(0))
