@@ -25,24 +25,37 @@ def copy_sources(name: str, to: Path) -> None:
             shutil.copytree(CRATES / name / part, to / part)
 
 
-def check(name: str, jobs: int) -> list[str]:
-    """Returns the check of a crate in the current folder, over the libraries as `rt ci` has built them.
-
-    `rt check` would prove them again, since it takes no proof of `rt ci` for another folder.
-    """
+def uses() -> dict[str, list[str]]:
+    """Returns the libraries that crates.txt gives each crate."""
     text = re.sub(r"#.*", "", (ROOT / "crates.txt").read_text(encoding="utf-8"))
-    uses = dict(re.findall(r"^(\w+)[^:\n]*:(.*)$", text, re.M))
+    return {name: below.split() for name, below in re.findall(r"^(\w+)[^:\n]*:(.*)$", text, re.M)}
+
+
+def built(name: str) -> Path:
+    """Returns where `rt ci` leaves a library that it has built."""
+    return CRATES / name / "out" / "rlib" / f"{name}.rlib"
+
+
+def over_libraries(name: str) -> list[str]:
+    """Returns the words that name a crate and its libraries, as `rt ci` has built them.
+
+    `rt check` would prove them again, since it takes no proof of `rt ci`.
+    """
     kit = toolchain()
-    built = {it: CRATES / it / "out" / "rlib" / f"{it}.rlib" for it in uses}
     root = "src/main.rt" if (CRATES / name / "src" / "main.rt").exists() else "src/lib.rt"
-    words = [str(kit / "bin" / "rattle"), "check", "--crate-name", name, root]
+    words = ["--crate-name", name, root, "--links", f"{name}="]
     words += ["--extern", f"std={kit}/rlibs/std.rlib", "-L", f"dependency={kit}/rlibs"]
-    for it in uses[name].split():
-        words += ["--extern", f"{it}={built.get(it, kit / 'rlibs' / f'{it}.rlib')}"]
-    for path in built.values():
-        words += ["-L", f"dependency={path.parent}"] * path.is_dir()
-    words += ["--antt-project", f"{kit}/rattle/logic/antt-project.json", "--logic-built", f"{kit}/logic_built"]
-    return [*words, "--links", f"{name}=", "--jobs", str(jobs)]
+    listed = uses()
+    for it in listed[name]:
+        words += ["--extern", f"{it}={built(it) if it in listed else kit / 'rlibs' / f'{it}.rlib'}"]
+    for it in listed:
+        words += ["-L", f"dependency={built(it).parent}"] * built(it).is_dir()
+    return [*words, "--antt-project", f"{kit}/rattle/logic/antt-project.json", "--logic-built", f"{kit}/logic_built"]
+
+
+def check(name: str, jobs: int) -> list[str]:
+    """Returns the check of a crate in the current folder, over the libraries as `rt ci` has built them."""
+    return [str(toolchain() / "bin" / "rattle"), "check", *over_libraries(name), "--jobs", str(jobs)]
 
 
 def said_by(words: list[str], folder: Path) -> str:
