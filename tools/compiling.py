@@ -31,6 +31,13 @@ def uses() -> dict[str, list[str]]:
     return {name: below.split() for name, below in re.findall(r"^(\w+)[^:\n]*:(.*)$", text, re.M)}
 
 
+def below(name: str) -> set[str]:
+    """Returns the libraries of this repository that a crate stands on."""
+    listed = uses()
+    direct = {it for it in listed[name] if it in listed}
+    return direct.union(*map(below, direct))
+
+
 def built(name: str) -> Path:
     """Returns where `rt ci` leaves a library that it has built."""
     return CRATES / name / "out" / "rlib" / f"{name}.rlib"
