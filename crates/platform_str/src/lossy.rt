@@ -82,6 +82,14 @@ pub(crate) fn push_replaced<A: Allocator>(
     text.extend_from_slice(&REPLACEMENT)
 }
 
+/// The room for the lossy text of a string in which one byte is replaced; none if there are no bytes.
+fn text_room(bytes: &[u8]) -> usize {
+    if bytes.is_empty() {
+        return 0;
+    }
+    bytes.len().saturating_add(REPLACEMENT.len() - 1)
+}
+
 /// The bytes of the lossy text of a string, in new memory.
 pub(crate) fn text_bytes<E: Platform, A: Allocator>(
     alloc: A,
@@ -90,7 +98,7 @@ pub(crate) fn text_bytes<E: Platform, A: Allocator>(
     requires { E.well_formed bytes.now }
     ensures { IfOk result (λ text. text.items ≡ E.lossy bytes.now) }
 {
-    let mut text = Vec::with_capacity(alloc, bytes.len())?;
+    let mut text = Vec::with_capacity(alloc, text_room(bytes))?;
     let mut rest = bytes;
     while let Some((len, behind)) = first_replaced::<E>(rest) {
         push_replaced(&mut text, rest, len)?;
