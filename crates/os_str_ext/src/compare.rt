@@ -3,7 +3,7 @@ ghost use Rattle.std.specs.Prelude.{◌≡◌, ◌+◌, ◌≤◌, ◌↔◌, Is
 ghost use Rattle.std.specs.Int.{from_le_bytes, to_le_bytes, w16, w32, w64};
 
 /// Whether two lists of bytes of the same length are equal. With two to sixteen bytes, the first
-/// ones and the last ones are compared as numbers.
+/// ones and the last ones are compared as numbers, both without a branch between them.
 #[inline(always)]
 pub(crate) fn are_same(a: &[u8], b: &[u8]) -> bool
     requires { length a.now ≡ length b.now }
@@ -34,7 +34,9 @@ fn are_same_by_two(a: &[u8], b: &[u8]) -> bool
 {
     let (_, a_back) = a.split_at(a.len() - 2);
     let (_, b_back) = b.split_at(b.len() - 2);
-    first_two(a) == first_two(b) && first_two(a_back) == first_two(b_back)
+    let is_front = first_two(a) == first_two(b);
+    let is_back = first_two(a_back) == first_two(b_back);
+    is_front && is_back
 }
 
 /// The same for four to eight bytes.
@@ -47,7 +49,9 @@ fn are_same_by_four(a: &[u8], b: &[u8]) -> bool
 {
     let (_, a_back) = a.split_at(a.len() - 4);
     let (_, b_back) = b.split_at(b.len() - 4);
-    first_four(a) == first_four(b) && first_four(a_back) == first_four(b_back)
+    let is_front = first_four(a) == first_four(b);
+    let is_back = first_four(a_back) == first_four(b_back);
+    is_front && is_back
 }
 
 /// The same for eight to sixteen bytes.
@@ -60,7 +64,9 @@ fn are_same_by_eight(a: &[u8], b: &[u8]) -> bool
 {
     let (_, a_back) = a.split_at(a.len() - 8);
     let (_, b_back) = b.split_at(b.len() - 8);
-    first_eight(a) == first_eight(b) && first_eight(a_back) == first_eight(b_back)
+    let is_front = first_eight(a) == first_eight(b);
+    let is_back = first_eight(a_back) == first_eight(b_back);
+    is_front && is_back
 }
 
 /// The first two bytes as a number, which determines them.
