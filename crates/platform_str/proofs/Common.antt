@@ -1,16 +1,16 @@
 -- The names that most proofs cite, re-exported from one file. Declares nothing.
-pub use Rattle.platform_str.specs.Bulk.{SpellsBefore, begins_pair, pairs}
+pub use Rattle.platform_str.specs.Bulk.{begins_pair, pairs}
 pub use Rattle.platform_str.specs.Display.{fill_before, filled}
 pub use Rattle.platform_str.specs.Laws.{IsFirstUnit, IsReplaced, PlatformLaws}
 pub use Rattle.platform_str.specs.Lossy.{IsFaultPart, IsFirstText, IsLeft, IsLeftToRead, IsReplacedUpTo}
 pub use Rattle.platform_str.specs.platforms.Wasm.{never_bare}
-pub use Rattle.std.proofs.Common.{Bool, Err, Fits, List, Ok, Option, Result, Some, [], ap, append_assoc, arith, cond, drop, eqb, get_or, inl, inr, leb, length, length-append, length-drop, map, refl, rules, slice_index, slice_set, subst, suc, sym, take, true, unwrap_or, vec_capacity, vec_len, w16, w8, zero, ℕ, ◌%◌, ◌*◌, ◌++◌, ◌+◌, ◌-◌, ◌<◌, ◌^◌, ◌∙◌, ◌∷◌, ◌≡◌, ◌≤◌}
+pub use Rattle.std.proofs.Common.{Bool, Err, List, Ok, Option, Result, Some, [], ap, append_assoc, arith, cond, drop, eqb, inl, inr, leb, length, length-append, length-drop, map, refl, rules, slice_index, slice_set, subst, suc, sym, take, true, unwrap_or, vec_capacity, vec_len, w16, w8, zero, ℕ, ◌%◌, ◌*◌, ◌/◌, ◌++◌, ◌+◌, ◌-◌, ◌<◌, ◌^◌, ◌∙◌, ◌∷◌, ◌≡◌, ◌≤◌}
 pub use Rattle.std.proofs.Math.ListN.{length-set, set}
 pub use Rattle.std.proofs.Math.Seq.{take-add, take-append-add}
-pub use Rattle.std.proofs.lemmas.Bool.{cond_both, eq-eqb, false≢true}
+pub use Rattle.std.proofs.lemmas.Bool.{cond_both, false≢true}
 pub use Rattle.std.proofs.lemmas.Bool.Decides.{nat_tests}
 pub use Rattle.std.proofs.lemmas.List.{append-nil, drop-drop, drop-set-lt, drop_at, get_or-take, length-map, length-take, length-take-le, take-append-drop, take-take, take_all, take_at, take_more_set, with_items_is}
-pub use Rattle.std.proofs.lemmas.List.Elements.{All-from_get_or, All-from_recursion, recursion_from_All}
+pub use Rattle.std.proofs.lemmas.List.Elements.{All-from_get_or, recursion_from_All}
 pub use Rattle.std.proofs.lemmas.List.Sums.{count_by-le-length, prefix_len-le-length, sum_by-cons}
 pub use Rattle.std.proofs.lemmas.Str.{IsUtf8-append, IsUtf8-string_bytes}
 unfoldable pub use Rattle.std.specs.Char.{encode_utf8}
@@ -24,18 +24,17 @@ pub use Rattle.wtf8_core.proofs.lemmas.forms.Shapes.{form_ascii, form_bounds, fo
 pub use Rattle.wtf8_core.proofs.lemmas.reader.FirstErr.{ok_values_of_oks, units_whole}
 pub use Rattle.wtf8_core.proofs.lemmas.texts.AreWtf8.{lossy_is_utf8, lossy_text, part_at_front}
 pub use Rattle.wtf8_core.proofs.lemmas.units.AsFunction.{code_points_in-spelled, has_units_of, units_of-is}
-pub use Rattle.wtf8_core.proofs.lemmas.units.OneToOne.{IsUnit, may_precede, paired_units, spelled_units, units_once, units_spelled, wide_single}
+pub use Rattle.wtf8_core.proofs.lemmas.units.OneToOne.{IsUnit, spelled_units, units_once, wide_single}
 pub use Rattle.wtf8_core.proofs.lemmas.units.PrefixTests.{end_tested, front_tested, never}
 pub use Rattle.wtf8_core.specs.CodePoint.{IsCodePoint}
 unfoldable pub use Rattle.wtf8_core.specs.CodePoint.{encode, encode_utf16}
 pub use Rattle.wtf8_core.specs.Covered.{StartsWithNoCharacter}
-pub use Rattle.wtf8_core.specs.FirstPair.{BeginsNoPair, BeginsPair}
 pub use Rattle.wtf8_core.specs.Items.{AreItems, AreUnitItems, unit_items}
 pub use Rattle.wtf8_core.specs.Join.{IsJoin, IsPairBetween}
 pub use Rattle.wtf8_core.specs.Lossy.{IsLossyText, replacement}
 pub use Rattle.wtf8_core.specs.Surrogate.{IsHigh, IsLow, is_pair, paired}
 pub use Rattle.wtf8_core.specs.Truncated.{IsTruncated}
 pub use Rattle.wtf8_core.specs.UnitsOf.{ok_values, units_of}
-pub use Rattle.wtf8_core.specs.Wtf8.{HasUnits, IsWtf8, MayPrecede, units}
+pub use Rattle.wtf8_core.specs.Wtf8.{HasUnits, IsWtf8, units}
 pub use Rattle.wtf8_core.specs.declared.fault.EncodingError.{EncodingError}
 pub use lib.Lanes.{mask_l, put_chunk, top, zip2}

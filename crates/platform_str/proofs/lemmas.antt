@@ -6,8 +6,8 @@ pub mod FourBytes
 pub mod WideLemmas
 pub mod ByteOrder
 pub mod Lanes
-pub mod BulkUnits
-pub mod BulkBytes
+pub mod UnitBytes
+pub mod UnitLanes
 pub mod Displays
 pub mod UnitCounts
 pub mod SixteenLanes

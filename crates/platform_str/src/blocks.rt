@@ -1,118 +1,14 @@
-//! The bytes of units, many at once: ASCII in blocks of 16 and of 8, and what comes between code point
-//! by code point.
-ghost use Rattle.std.specs.Prelude.{◌≡◌, ◌++◌, ◌+◌, ◌*◌, ◌≤◌, ◌<◌, ℕ, List, true, leb, take, drop, length, slice_index};
-ghost use Rattle.std.specs.List.{All, count_by};
-ghost use Rattle.wtf8_core.specs.CodePoint.{IsCodePoint, encode};
+//! The bytes of units, 16 units at once: ASCII is narrowed, and of other units each gives what the
+//! units beside it say, without a branch.
+ghost use Rattle.std.specs.Prelude.{◌≡◌, ◌++◌, ◌+◌, ◌*◌, ◌/◌, ◌≤◌, ◌<◌, ℕ, List, true, leb, take, drop, length, slice_index};
+ghost use Rattle.std.specs.List.{All, count_by, flat_map};
 ghost use Rattle.wtf8_core.specs.Wtf8.{HasUnits};
-ghost use Rattle.platform_str.specs.Bulk.{SpellsBefore, pairs};
+ghost use Rattle.wtf8_core.specs.Surrogate.{is_pair};
+ghost use Rattle.platform_str.specs.Bulk.{pairs};
+ghost use Rattle.platform_str.specs.UnitBytes.{given, bytes_after_first, word_bytes};
 
 use std::simd::prelude::*;
 use wtf8_core::{first_pair, write_form};
-
-/// Whether all 16 units are ASCII.
-#[inline(always)]
-fn are_ascii_units(block: [u16; 16]) -> bool
-    ensures { result ≡ true → All (λ u. u < 0x80) block }
-{
-    u16x16::from_array(block)
-        .simd_ge(u16x16::splat(0x80))
-        .to_bitmask()
-        == 0
-}
-
-/// The bytes of 16 ASCII units.
-#[inline(always)]
-fn narrowed(block: [u16; 16]) -> [u8; 16]
-    requires { All (λ u. u < 0x80) block }
-    ensures { result ≡ block }
-{
-    u16x16::from_array(block).cast::<u8>().to_array()
-}
-
-/// Whether there are at least 16 units and the first 16 are ASCII.
-#[inline(always)]
-fn begins_ascii_block(units: &[u16]) -> bool
-    ensures ascii { result ≡ true → All (λ u. u < 0x80) (take 16 units.now) }
-    ensures room { result ≡ true → 16 ≤ length units.now }
-{
-    units.len() >= 16 && are_ascii_units(u16x16::from_slice(units).to_array())
-}
-
-/// The first code point of the units, and the units after it.
-#[inline(always)]
-fn first_code_point(units: &[u16]) -> (u32, &[u16])
-    requires { 0 < length units.now }
-    ensures code_point { IsCodePoint result.0 }
-    ensures spelled { SpellsBefore (encode result.0) result.1.now units.now }
-    ensures shorter { length result.1.now < length units.now }
-    ensures behind { (taken : List ℕ) × (units.now ≡ taken ++ result.1.now) }
-{
-    let (first, rest) = units.split_at(1);
-    let unit = first[0];
-
-    // most units aren't half of a pair
-    if unit < 0xD800 {
-        return (u32::from(unit), rest);
-    }
-    match first_pair(units) {
-        Some(first) => first,
-        None => (u32::from(unit), rest),
-    }
-}
-
-/// The number of ASCII units at the start of the first 8 units, the first of which is ASCII; 1 if
-/// there are fewer than 8 units.
-#[inline(always)]
-fn ascii_len(units: &[u16]) -> usize
-    requires some { 0 < length units.now }
-    requires ascii { slice_index units.now 0 < 0x80 }
-    ensures ascii { All (λ u. u < 0x80) (take result units.now) }
-    ensures some { 0 < result }
-    ensures first { result ≤ 8 }
-    ensures one { length units.now < 8 → result ≡ 1 }
-{
-    if units.len() < 8 {
-        return 1;
-    }
-    let others = u16x8::from_slice(units)
-        .simd_ge(u16x8::splat(0x80))
-        .to_bitmask();
-    if others == 0 {
-        return 8;
-    }
-    others.trailing_zeros() as usize
-}
-
-/// Writes 16 ASCII units from index `at` on.
-#[inline(always)]
-fn put_ascii(bytes: &mut [u8], at: usize, block: [u16; 16])
-    requires ascii { All (λ u. u < 0x80) block }
-    requires room { at + 16 ≤ length bytes.old }
-    ensures written { take (at + 16) bytes.new ≡ take at bytes.old ++ block }
-    ensures len { length bytes.new ≡ length bytes.old }
-{
-    u8x16::from_array(narrowed(block)).copy_to_slice(&mut bytes[at..]);
-}
-
-/// Writes the first `len` units, which are ASCII, from index `at` on. If there are at least 8
-/// units, it also overwrites bytes after them.
-#[inline(always)]
-fn put_ascii_front(bytes: &mut [u8], at: usize, units: &[u16], len: usize)
-    requires ascii { All (λ u. u < 0x80) (take len units.now) }
-    requires some { 0 < length units.now }
-    requires first { len ≤ 8 }
-    requires one { length units.now < 8 → len ≡ 1 }
-    requires room { at + length units.now ≤ length bytes.old }
-    ensures written { take (at + len) bytes.new ≡ take at bytes.old ++ take len units.now }
-    ensures len { length bytes.new ≡ length bytes.old }
-{
-    if units.len() < 8 {
-        bytes[at] = (units[0] % 0x80) as u8;
-        return;
-    }
-    let low = u16x8::from_slice(units) % u16x8::splat(0x80);
-    low.cast::<u8>().copy_to_slice(&mut bytes[at..]);
-}
 
 /// How many of the first 16 units are `least` or more.
 #[inline(always)]
@@ -171,35 +67,190 @@ pub(crate) fn wtf8_len(units: &[u16]) -> usize
     len - pairs - pairs
 }
 
+/// Whether there are at least 16 units after the first and the next 16 are ASCII.
+#[inline(always)]
+fn goes_on_in_ascii(units: &[u16]) -> bool
+    ensures room { result ≡ true → 16 < length units.now }
+    ensures ascii { result ≡ true → All (λ u. u < 0x80) (take 16 (drop 1 units.now)) }
+{
+    units.len() > 16
+        && u16x16::from_slice(&units[1..])
+            .simd_ge(u16x16::splat(0x80))
+            .to_bitmask()
+            == 0
+}
+
+/// The bytes of 16 ASCII units.
+#[inline(always)]
+fn narrowed(block: [u16; 16]) -> [u8; 16]
+    requires { All (λ u. u < 0x80) block }
+    ensures { result ≡ block }
+{
+    u16x16::from_array(block).cast::<u8>().to_array()
+}
+
+/// Writes 16 ASCII units from index `at` on.
+#[inline(always)]
+fn put_ascii(bytes: &mut [u8], at: usize, block: [u16; 16])
+    requires ascii { All (λ u. u < 0x80) block }
+    requires room { at + 16 ≤ length bytes.old }
+    ensures written { take (at + 16) bytes.new ≡ take at bytes.old ++ block }
+    ensures len { length bytes.new ≡ length bytes.old }
+{
+    u8x16::from_array(narrowed(block)).copy_to_slice(&mut bytes[at..]);
+}
+
+/// The bytes that each of 16 units after the first gives, as a word: the first byte in its lowest
+/// bits, and in its highest how many they are.
+#[inline(always)]
+fn unit_words(units: &[u16]) -> [u32; 16]
+    requires { 18 ≤ length units.now }
+    ensures { (i : ℕ) → i < 16 → word_bytes (slice_index result i)
+        ≡ given (slice_index units.now i) (slice_index units.now (1 + i))
+        (slice_index units.now (2 + i)) }
+{
+    let before = u16x16::from_slice(units);
+    let unit = u16x16::from_slice(&units[1..]);
+    let after = u16x16::from_slice(&units[2..]);
+    let ten = u16x16::splat(10);
+    let six = u16x16::splat(6);
+
+    // the high six bits of two units identify a pair
+    let pair = u16x16::splat(0x36 * 0x40 + 0x37);
+    let ends = (((before >> ten) << six) + (unit >> ten)).simd_eq(pair);
+    let begins = (((unit >> ten) << six) + (after >> ten)).simd_eq(pair);
+
+    // the high 16 bits of the three bytes that a high surrogate gives, and else the unit
+    let high = (unit << u16x16::splat(4)) + (after >> six) + u16x16::splat(0x8090);
+    let value = begins.select(high, unit);
+    let lead = begins.select(u16x16::splat(0xF0), u16x16::splat(0xE0))
+        + (value >> u16x16::splat(12));
+    let middle = u16x16::splat(0x80) + (value >> six) % u16x16::splat(0x40);
+    let last = u16x16::splat(0x80) + value % u16x16::splat(0x40);
+
+    let long = unit.simd_ge(u16x16::splat(0x800));
+    let ascii = unit.simd_lt(u16x16::splat(0x80));
+    let first = long.select(lead, u16x16::splat(0xC0) + (value >> six));
+    let first = ends.select(last, first);
+    let first = ascii.select(unit, first);
+    let second = long.select(middle, last);
+    let count = long.select(u16x16::splat(3), u16x16::splat(2));
+    let count = ends.select(u16x16::splat(1), count);
+    let count = ascii.select(u16x16::splat(1), count);
+
+    let low = first + (second << u16x16::splat(8));
+    let high = last + (count << u16x16::splat(8));
+    (low.cast::<u32>() + (high.cast::<u32>() << u32x16::splat(16))).to_array()
+}
+
+/// Writes the bytes of words from index `at` on, and returns the index after them. It also
+/// overwrites up to four bytes after them.
+#[inline(always)]
+fn put_words(bytes: &mut [u8], at: usize, words: &[u32]) -> usize
+    requires few { (i : ℕ) → i < length words.now → slice_index words.now i / 0x100_0000 ≤ 4 }
+    requires room { at + length (flat_map word_bytes words.now) + 4 ≤ length bytes.old }
+    ensures written { take result bytes.new ≡ take at bytes.old ++ flat_map word_bytes words.now }
+    ensures end { result ≡ at + length (flat_map word_bytes words.now) }
+    ensures len { length bytes.new ≡ length bytes.old }
+{
+    let mut end = at;
+    for i in 0..words.len() {
+        Simd::<u32, 1>::splat(words[i])
+            .to_le_bytes()
+            .copy_to_slice(&mut bytes[end..]);
+        end += (words[i] / 0x100_0000) as usize;
+    }
+    end
+}
+
+/// Writes what 16 units after the first give from index `at` on, and returns the index after it. It
+/// is kept out of the loop over ASCII, which is faster without it.
+#[inline(never)]
+fn put_block(bytes: &mut [u8], at: usize, units: &[u16]) -> usize
+    requires some { 20 < length units.now }
+    requires room { at + length (bytes_after_first units.now) ≤ length bytes.old }
+    ensures written { take result bytes.new ++ bytes_after_first (drop 16 units.now)
+        ≡ take at bytes.old ++ bytes_after_first units.now }
+    ensures end { result + length (bytes_after_first (drop 16 units.now))
+        ≡ at + length (bytes_after_first units.now) }
+    ensures len { length bytes.new ≡ length bytes.old }
+{
+    put_words(bytes, at, &unit_words(units))
+}
+
+/// Whether two units are a pair.
+#[inline(always)]
+fn is_pair(high: u16, low: u16) -> bool
+    ensures { result ≡ is_pair high low }
+{
+    (0xD800..=0xDBFF).contains(&high) && (0xDC00..=0xDFFF).contains(&low)
+}
+
+/// Writes what a unit gives from index `at` on, and returns the index after it.
+#[tactic(auto, using(crate::proofs::lemmas::UnitBytes::giving))]
+#[inline(always)]
+fn put_unit(bytes: &mut [u8], at: usize, before: u16, unit: u16, after: u16) -> usize
+    requires { at + length (given before unit after) ≤ length bytes.old }
+    ensures written { take result bytes.new ≡ take at bytes.old ++ given before unit after }
+    ensures end { result ≡ at + length (given before unit after) }
+    ensures len { length bytes.new ≡ length bytes.old }
+{
+    if is_pair(before, unit) {
+        bytes[at] = (0x80 + unit % 0x40) as u8;
+        return at + 1;
+    }
+    if is_pair(unit, after) {
+        let high = unit - 0xD7C0;
+        bytes[at] = (0xF0 + high / 0x100) as u8;
+        bytes[at + 1] = (0x80 + high / 4 % 0x40) as u8;
+        bytes[at + 2] = (0x80 + high % 4 * 0x10 + after / 0x40 % 0x10) as u8;
+        return at + 3;
+    }
+    write_form(bytes, at, u32::from(unit))
+}
+
+/// The unit at an index, or 0 if there is none.
+#[inline(always)]
+fn unit_or_zero(units: &[u16], at: usize) -> u16
+    ensures { result ≡ slice_index units.now at }
+{
+    if at < units.len() { units[at] } else { 0 }
+}
+
+/// Writes what the units after the first give from index `at` on.
+fn write_after_first(bytes: &mut [u8], at: usize, units: &[u16])
+    requires some { 0 < length units.now }
+    requires room { at + length (bytes_after_first units.now) ≡ length bytes.old }
+    ensures { bytes.new ≡ take at bytes.old ++ bytes_after_first units.now }
+{
+    let mut rest = units;
+    let mut end = at;
+    while rest.len() > 1 {
+        if goes_on_in_ascii(rest) {
+            put_ascii(bytes, end, u16x16::from_slice(&rest[1..]).to_array());
+            end += 16;
+            let (_, behind) = rest.split_at(16);
+            rest = behind;
+        } else if rest.len() > 20 {
+            end = put_block(bytes, end, rest);
+            let (_, behind) = rest.split_at(16);
+            rest = behind;
+        } else {
+            end = put_unit(bytes, end, rest[0], rest[1], unit_or_zero(rest, 2));
+            let (_, behind) = rest.split_at(1);
+            rest = behind;
+        }
+    }
+}
+
 /// Writes the bytes of units over others of the same number.
 pub(crate) fn write_wtf8(units: &[u16], bytes: &mut [u8])
     requires { (string : List ℕ) → HasUnits string units.now → length bytes.old ≡ length string }
     ensures { HasUnits bytes.new units.now }
 {
-    let mut rest = units;
-    let mut at = 0;
-
-    // try a block of 16 only if the last 8 units that were read together were ASCII
-    let mut wanted = true;
-    while !rest.is_empty() {
-        if rest[0] < 0x80 {
-            if wanted && begins_ascii_block(rest) {
-                put_ascii(bytes, at, u16x16::from_slice(rest).to_array());
-                at += 16;
-                let (_, behind) = rest.split_at(16);
-                rest = behind;
-            } else {
-                let len = ascii_len(rest);
-                put_ascii_front(bytes, at, rest, len);
-                at += len;
-                let (_, behind) = rest.split_at(len);
-                rest = behind;
-                wanted = len == 8;
-            }
-        } else {
-            let (code_point, behind) = first_code_point(rest);
-            at = write_form(bytes, at, code_point);
-            rest = behind;
-        }
+    if units.is_empty() {
+        return;
     }
+    let at = put_unit(bytes, 0, 0, units[0], unit_or_zero(units, 1));
+    write_after_first(bytes, at, units);
 }

@@ -1,8 +1,8 @@
 -- The units of a string, byte by byte.
-use Rattle.std.proofs.Common.{◌≡◌, ⊎_elim, ℕ, zero, suc, Bool, true, false, ◌+◌, ◌*◌, ◌/◌, ◌%◌, ◌^◌, ◌<◌, ◌≤◌, cond, ltb, leb, eqb, not, refl, sym, ap, ◌∙◌, arith, List, [], ◌∷◌, ◌++◌, get_or, length, drop, take}
+use Rattle.std.proofs.Common.{◌≡◌, ⊎_elim, ℕ, zero, suc, Bool, true, false, ◌+◌, ◌*◌, ◌/◌, ◌%◌, ◌^◌, ◌<◌, ◌≤◌, cond, ltb, leb, eqb, not, refl, sym, ap, ◌∙◌, subst, arith, List, [], ◌∷◌, ◌++◌, get_or, length, drop, take}
 use Rattle.wtf8_core.proofs.Common.{cases_lt}
 use Rattle.wtf8_core.proofs.lemmas.units.OneToOne.{wide_pair}
-use Rattle.platform_str.proofs.Common.{nat_tests, take_all, length-take-le, get_or-take, wide_single, form_ascii, form_past, encode, encode_utf16, IsCodePoint, units, flat_map, IsWtf8, units_of, code_points_in-spelled, AllByRecursion, append_assoc}
+use Rattle.platform_str.proofs.Common.{nat_tests, take_all, length-take-le, get_or-take, wide_single, form_ascii, form_past, encode, encode_utf16, IsCodePoint, units, flat_map, IsWtf8, HasUnits, units_of, has_units_of, code_points_in-spelled, AllByRecursion, append_assoc}
 use Rattle.wtf8_core.specs.Surrogate.{high_unit, low_unit}
 use Rattle.platform_str.specs.ByteUnits.{adds_unit, bits_of_two, bits_of_three, unit_at, added, units_after_first, marked}
 
@@ -222,3 +222,7 @@ begins_once (b ∷ bs) w h = sym (string_adds (b ∷ bs) w)
 
 pub no_units : (s : List ℕ) → IsWtf8 s → length s ≡ 0 → units_of s ≡ []
 no_units s w h = sym (string_adds s w) ∙ none_after (0 ∷ s) (omega (arith, h))
+
+-- units written into an empty vector
+pub has_written : {b e none new : List ℕ} → IsWtf8 e → e ≡ b → none ≡ [] → new ≡ none ++ units_of e → HasUnits b new
+has_written {b} {e} {none} {new} w s n is = subst (λ x. HasUnits x new) s (subst (HasUnits e) (sym (is ∙ ap (λ x. x ++ units_of e) n)) (has_units_of e w))

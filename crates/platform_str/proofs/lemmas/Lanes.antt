@@ -1,9 +1,7 @@
 -- What a test of all lanes says of each lane.
-use Rattle.std.proofs.Common.{◌≡◌, ℕ, zero, suc, ◌+◌, ◌*◌, ◌/◌, ◌-◌, ◌%◌, ◌^◌, ◌≤◌, ◌<◌, true, cond, eqb, leb, List, [], ◌∷◌, map, length, slice_index, replicate, take, set, not, ◌++◌, refl, sym, ap, ◌∙◌, subst, arith, eqb-true, leb-false}
-use Rattle.std.proofs.Math.Nat.{mod-eq_of_lt}
-use Rattle.platform_str.proofs.Common.{take-append-add, cond_both, nat_tests, length-map, length-take-le, take_more_set, take-take, prefix_len-le-length, All, AllByRecursion, count_by, prefix_len, zip2, mask_l, top, put_chunk}
-use Rattle.std.proofs.lemmas.Simd.{tops_compared, zip2_splat, zip2_splat_left, mask_l-mod, bitmask_splat, ones-mask_l, length-zip2, map-map, trailing_mask_l, take_more_put_chunk}
-use Rattle.std.specs.Int.Count.{count_trailing_zeros}
+use Rattle.std.proofs.Common.{◌≡◌, ℕ, ◌+◌, ◌*◌, ◌/◌, ◌-◌, ◌%◌, ◌^◌, ◌≤◌, ◌<◌, true, cond, eqb, leb, List, [], ◌∷◌, map, length, replicate, take, ◌++◌, refl, sym, ap, ◌∙◌, arith, eqb-true, leb-false}
+use Rattle.platform_str.proofs.Common.{take-append-add, length-map, length-take-le, take-take, All, count_by, zip2, mask_l, top, put_chunk}
+use Rattle.std.proofs.lemmas.Simd.{tops_compared, zip2_splat, zip2_splat_left, mask_l-mod, bitmask_splat, ones-mask_l, length-zip2, map-map, take_more_put_chunk}
 use Rattle.std.specs.Int.RustNames.{count_ones}
 use Rattle.wtf8_core.proofs.lemmas.scan.Lanes.{none_set}
 use mir.Syntax.{Width, w16}
@@ -47,37 +45,6 @@ count_is_splat n y us vs p q l =
     let k = length-zip2 six_and_six us vs (p ∙ sym q) in
     rw (a, b, s, m, z) (ap count_ones (bitmask_splat w16 eqb (zip2 six_and_six us vs) n y (k ∙ p) l) ∙ ones-mask_l (λ x. eqb x y) (zip2 six_and_six us vs))
 
--- the lanes before the first lane that is y or more
-below_first : (y : ℕ) (xs : List ℕ) → AllByRecursion (λ x. x < y) (take (prefix_len (λ x. not (leb y x)) xs) xs)
-below_first y [] = tt
-below_first y (x ∷ xs) =
-    cond_both (not (leb y x)) _ _ (λ n. AllByRecursion (λ z. z < y) (take n (x ∷ xs)))
-    (λ e.
-    let more : suc (prefix_len (λ z. not (leb y z)) xs) ≡ 1 + prefix_len (λ z. not (leb y z)) xs = omega arith in
-    subst (λ n. AllByRecursion (λ z. z < y) (take n (x ∷ xs))) more (grind (arith, nat_tests, e), below_first y xs))
-    (λ e. tt)
-
--- there is at least one if the first lane is less than y
-some_below_first : (y : ℕ) (xs : List ℕ) → 0 < length xs → slice_index xs 0 < y → 0 < prefix_len (λ x. not (leb y x)) xs
-some_below_first y [] h b = h
-some_below_first y (x ∷ xs) h b = cond_both (not (leb y x)) _ _ (λ n. 0 < n) (λ e. omega arith) (λ e. absurd (grind (arith, nat_tests, e, b)))
-
--- and how many there are if a bit of the comparison is set
-pub front_below_splat : (w : Width) (y n : ℕ) (xs : List ℕ) → length xs ≡ n → n ≤ 64 → 0 < mask_l (map (top (hbits w)) (zip2 (λ a b. cond (leb a b) (2 ^ bits w - 1) 0) (replicate n y) xs)) % 2 ^ 64
-    → (count_trailing_zeros 64 (mask_l (map (top (hbits w)) (zip2 (λ a b. cond (leb a b) (2 ^ bits w - 1) 0) (replicate n y) xs)) % 2 ^ 64) ≤ n)
-    × (0 < length xs → slice_index xs 0 < y → 0 < count_trailing_zeros 64 (mask_l (map (top (hbits w)) (zip2 (λ a b. cond (leb a b) (2 ^ bits w - 1) 0) (replicate n y) xs)) % 2 ^ 64))
-    × AllByRecursion (λ x. x < y) (take (count_trailing_zeros 64 (mask_l (map (top (hbits w)) (zip2 (λ a b. cond (leb a b) (2 ^ bits w - 1) 0) (replicate n y) xs)) % 2 ^ 64)) xs)
-front_below_splat w y n xs p l e =
-    let m : mask_l (map (leb y) xs) % 2 ^ 64 ≡ mask_l (map (leb y) xs) = mask_l-mod (map (leb y) xs) 64 (omega (arith, length-map xs (leb y), p)) in
-    let is = rw (tops_compared w leb (replicate n y) xs, zip2_splat_left leb y n xs p) at e in
-    let some : 0 < mask_l (map (leb y) xs) = omega (arith, is, m) in
-    let first = ap (count_trailing_zeros 64) m ∙ trailing_mask_l (leb y) 64 xs (omega (arith, p, l)) some in
-    rw (tops_compared w leb (replicate n y) xs, zip2_splat_left leb y n xs p) (
-      omega (arith, first, prefix_len-le-length (λ x. not (leb y x)) xs, p),
-      λ h b. omega (arith, first, some_below_first y xs h b),
-      subst (λ k. AllByRecursion (λ x. x < y) (take k xs)) (sym first) (below_first y xs),
-    )
-
 -- the first lanes of a vector that was stored
 pub take_front_put_chunk : (i n : ℕ) (xs ys : List ℕ) → i + length ys ≤ length xs → n ≤ length ys → take (i + n) (put_chunk i xs ys) ≡ take i xs ++ take n ys
 take_front_put_chunk i n xs ys h k =
@@ -85,20 +52,3 @@ take_front_put_chunk i n xs ys h k =
     ∙ ap (take (i + n)) (take_more_put_chunk i xs ys (i + length ys) refl h)
     ∙ ap (λ j. take (j + n) (take i xs ++ ys)) (sym (length-take-le i xs (omega (arith, h))))
     ∙ take-append-add (take i xs) ys n
-
--- lanes that f doesn't change
-pub front_kept : (f : ℕ → ℕ) (y n m : ℕ) (xs : List ℕ) → ((x : ℕ) → x < y → f x ≡ x) → n ≤ m → AllByRecursion (λ x. x < y) (take n xs) → take n (map f (take m xs)) ≡ take n xs
-front_kept f y zero m xs k h a = refl
-front_kept f y (suc n) zero xs k h a = absurd (omega arith)
-front_kept f y (suc n) (suc m) [] k h a = refl
-front_kept f y (suc n) (suc m) (x ∷ xs) k h a = ap (λ z. z ∷ take n (map f (take m xs))) (k x a.0) ∙ ap (λ l. x ∷ l) (front_kept f y n m xs k (omega arith) a.1)
-
--- one lane that is less
-pub first_below : (y : ℕ) (xs : List ℕ) → 0 < length xs → slice_index xs 0 < y → AllByRecursion (λ x. x < y) (take 1 xs)
-first_below y [] h b = tt
-first_below y (x ∷ xs) h b = (b, tt)
-
--- the first that is stored alone
-pub take_one_set : (i y : ℕ) (xs us : List ℕ) → 0 < length us → i < length xs → AllByRecursion (λ x. x < y) (take 1 us) → take (i + 1) (set xs i (slice_index us 0 % y)) ≡ take i xs ++ take 1 us
-take_one_set i y xs [] h k a = absurd (omega arith)
-take_one_set i y xs (u ∷ us) h k a = take_more_set xs i (u % y) k ∙ ap (λ z. take i xs ++ z ∷ []) (mod-eq_of_lt a.0)

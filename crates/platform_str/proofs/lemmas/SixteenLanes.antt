@@ -1,7 +1,8 @@
 -- Vectors of 16 lanes, lane by lane.
-use Rattle.std.proofs.Common.{◌≡◌, ℕ, ◌+◌, ◌<◌, Bool, false, cond, List, map, length, get_or, replicate, sym, ap, ◌∙◌, arith}
-use Rattle.platform_str.proofs.Common.{zip2, top}
-use Rattle.std.proofs.lemmas.Simd.{get_or-zip2, get_or-replicate, length-replicate, length-zip2, tops_compared, length-sel_l, get_or-sel_l}
+use Rattle.std.proofs.Common.{◌≡◌, ℕ, ◌+◌, ◌≤◌, ◌<◌, Bool, false, cond, List, map, length, take, drop, get_or, replicate, sym, ap, ◌∙◌, arith}
+use Rattle.platform_str.proofs.Common.{zip2, top, length-map}
+use Rattle.std.proofs.lemmas.List.{get_or-map, get_or-take}
+use Rattle.std.proofs.lemmas.Simd.{length-chunk, get_or-chunk, get_or-zip2, get_or-replicate, length-replicate, length-zip2, tops_compared, length-sel_l, get_or-sel_l}
 use lib.Lanes.{sel_l}
 use mir.Syntax.{w16}
 
@@ -13,6 +14,17 @@ pub record HasLanes (xs : List ℕ) (f : ℕ → ℕ) : Type 0 where
 -- those of a list, from its first item on
 pub from_first : {lanes : List ℕ} (xs : List ℕ) → length lanes ≡ 16 → ((i : ℕ) → i < 16 → get_or lanes i 0 ≡ get_or xs (0 + i) 0) → HasLanes lanes (λ i. get_or xs i 0)
 from_first {lanes} xs m e = record { many = m; each = λ i h. let same : 0 + i ≡ i = omega arith in e i h ∙ ap (λ k. get_or xs k 0) same }
+
+-- a load from a list, at an index
+pub loaded : (at : ℕ) (xs : List ℕ) → at + 16 ≤ length xs → HasLanes (take 16 (drop at xs)) (λ i. get_or xs (at + i) 0)
+loaded at xs h = record { many = length-chunk at 16 xs h; each = λ i l. get_or-chunk at 16 xs i 0 l }
+
+pub loaded_first : (xs : List ℕ) → 16 ≤ length xs → HasLanes (take 16 xs) (λ i. get_or xs i 0)
+loaded_first xs h = record { many = length-chunk 0 16 xs h; each = λ i l. get_or-take 16 xs i 0 l }
+
+-- a cast to a wider type
+pub widened : {xs : List ℕ} {f : ℕ → ℕ} → HasLanes xs f → HasLanes (map (λ x. x) xs) f
+widened {xs} {f} a = record { many = length-map xs (λ x. x) ∙ a.many; each = λ i h. get_or-map (λ x. x) xs i 0 0 (omega (arith, a.many, h)) ∙ a.each i h }
 
 pub splat : (y : ℕ) → HasLanes (replicate 16 y) (λ _. y)
 splat y = record { many = length-replicate 16 y; each = λ i h. get_or-replicate 16 i y 0 h }

@@ -58,7 +58,7 @@ counted_front zero us h = omega arith
 counted_front (suc n) [] h = absurd (omega arith)
 counted_front (suc n) (u ∷ us) h = omega (arith, count_first (leb 0x80) u (take n us), count_first (leb 0x800) u (take n us), counted_first u us, counted_front n us (omega arith))
 
-lane_is_pair : (u v : ℕ) → IsUnit u → IsUnit v → eqb (six_and_six u v) 3511 ≡ is_pair u v
+pub lane_is_pair : (u v : ℕ) → IsUnit u → IsUnit v → eqb (six_and_six u v) 3511 ≡ is_pair u v
 lane_is_pair u v h k = grind (arith, nat_tests)
 
 pub pairs_front : (n : ℕ) (us : List ℕ) → n < length us → AllByRecursion IsUnit us → count_by (λ x. eqb x 3511) (zip2 six_and_six (take n us) (take n (drop 1 us))) + pairs (drop n us) ≡ pairs us

@@ -1,5 +1,5 @@
 use Rattle.platform_str.proofs.Common.{◌≤◌, ◌+◌, length, take, drop, arith, ap, sym, ◌∙◌, length-drop, length-take-le, pairs}
-use Rattle.platform_str.proofs.lemmas.BulkBytes.{are_units}
+use Rattle.platform_str.proofs.lemmas.UnitBytes.{are_units}
 use Rattle.platform_str.proofs.lemmas.Lanes.{count_is_splat}
 use Rattle.platform_str.proofs.lemmas.UnitCounts.{pairs_below, pairs_front}
 use Rattle.platform_str.proofs.blocks.count_pairs.Goals as goal

@@ -1,6 +1,6 @@
-use Rattle.platform_str.proofs.Common.{rules, ◌≤◌, ◌<◌, ◌*◌, ◌^◌, length, take, drop, ap, sym, subst, arith, AllByRecursion, take-append-drop, IsUnit, pairs}
+use Rattle.platform_str.proofs.Common.{rules, ◌≤◌, ◌<◌, ◌*◌, ◌^◌, length, ap, sym, subst, arith, AllByRecursion, IsUnit, pairs}
 use Rattle.platform_str.proofs.lemmas.UnitCounts.{counted, counted_front, counted_few, count_few, counted_none, pairs_few, all_counted, string_counted}
-use Rattle.platform_str.proofs.lemmas.BulkBytes.{are_units, units_behind}
+use Rattle.platform_str.proofs.lemmas.UnitBytes.{are_units, units_behind}
 use Rattle.platform_str.proofs.blocks.wtf8_len.Goals as goal
 
 pub overflow_add-len : goal.overflow_add-len
@@ -31,7 +31,7 @@ loop-rest-preserved-then-rest-gt16 c =
     let behind = c.split_at.ensures.back in (
       omega (arith, c.loop-rest.invariant.0, c.count_from.ensures, c.count_from-then-rest-gt16.ensures, counted_front 16 rest (omega (arith, c.if-rest-gt16.true)), ap counted behind),
       omega (arith, c.loop-rest.invariant.1, c.count_pairs-pairs.ensures, ap pairs behind),
-      subst (AllByRecursion IsUnit) (sym behind) (units_behind (take 16 rest) (drop 16 rest) rest (sym (take-append-drop 16 rest)) c.loop-rest.invariant.2),
+      subst (AllByRecursion IsUnit) (sym behind) (units_behind 16 rest c.loop-rest.invariant.2),
     )
 
 pub overflow_sub-result : goal.overflow_sub-result

@@ -1,5 +1,5 @@
 use Rattle.platform_str.proofs.Common.{arith, false≢true}
-use Rattle.platform_str.proofs.lemmas.BulkUnits.{has_written}
+use Rattle.platform_str.proofs.lemmas.ByteUnits.{has_written}
 use Rattle.platform_str.proofs.wide.OsStr+Windows.to_wide.Goals as goal
 
 pub returns-in_err-push_units-clause-without_memory : goal.returns-in_err-push_units-clause-without_memory

@@ -1,5 +1,5 @@
 use Rattle.platform_str.proofs.Common.{rules, ◌≡◌, [], length, sym, subst, false≢true, with_items_is, HasUnits, units_of-is}
-use Rattle.platform_str.proofs.lemmas.BulkBytes.{has_none}
+use Rattle.platform_str.proofs.lemmas.UnitBytes.{has_none}
 use Rattle.platform_str.proofs.wide.OsString+Windows+A.from_wide.Goals as goal
 
 pub returns-in_err-vec-clause-without_memory : goal.returns-in_err-vec-clause-without_memory

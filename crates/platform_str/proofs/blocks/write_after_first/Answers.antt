@@ -1,0 +1,36 @@
+use Rattle.platform_str.proofs.Common.{◌++◌, ◌<◌, [], length, length-append, length-take-le, length-drop, take, drop, ap, ◌∙◌, sym, arith, take_all, append-nil, recursion_from_All}
+use Rattle.platform_str.specs.UnitBytes.{bytes_after_first}
+use Rattle.platform_str.proofs.lemmas.ByteUnits.{appended}
+use Rattle.platform_str.proofs.lemmas.UnitBytes.{block_ascii, none_after}
+use Rattle.platform_str.proofs.blocks.write_after_first.Goals as goal
+
+pub put_ascii-requires-clause-ascii : goal.put_ascii-requires-clause-ascii
+put_ascii-requires-clause-ascii c = c.goes_on_in_ascii.ensures.ascii c.if-goes_on_in_ascii.true
+
+pub put_ascii-requires-clause-room : goal.put_ascii-requires-clause-room
+put_ascii-requires-clause-room c =
+    let rest = c.loop-rest.rest.now in
+    let block = take 16 (drop 1 rest) in
+    let room = c.goes_on_in_ascii.ensures.room c.if-goes_on_in_ascii.true in
+    let gives = block_ascii 16 rest room (recursion_from_All (λ u. u < 0x80) _ (c.goes_on_in_ascii.ensures.ascii c.if-goes_on_in_ascii.true)) in
+    omega (arith, c.requires.room, c.loop-rest.invariant.2, c.loop-rest.invariant.3, room, ap length gives, length-append block (bytes_after_first (drop 16 rest)), length-take-le 16 (drop 1 rest) (omega (arith, room, length-drop 1 rest)))
+
+pub loop-rest-preserved-then-goes_on_in_ascii : goal.loop-rest-preserved-then-goes_on_in_ascii
+loop-rest-preserved-then-goes_on_in_ascii c =
+    let rest = c.loop-rest.rest.now in
+    let block = take 16 (drop 1 rest) in
+    let room = c.goes_on_in_ascii.ensures.room c.if-goes_on_in_ascii.true in
+    let ascii = recursion_from_All (λ u. u < 0x80) _ (c.goes_on_in_ascii.ensures.ascii c.if-goes_on_in_ascii.true) in
+    let gives = block_ascii 16 rest room ascii ∙ ap (λ r. block ++ bytes_after_first r) (sym c.split_at.ensures.back) in (
+      omega (arith, room, c.split_at.ensures.back_len),
+      appended _ (take c.loop-rest.end c.loop-rest.bytes) block _ _ c.put_ascii.ensures.written gives ∙ c.loop-rest.invariant.1,
+      omega (arith, c.loop-rest.invariant.2, ap length gives, length-append block (bytes_after_first c.split_at.result.1.now), length-take-le 16 (drop 1 rest) (omega (arith, room, length-drop 1 rest))),
+      c.put_ascii.ensures.len ∙ c.loop-rest.invariant.3,
+    )
+
+pub returns : goal.returns
+returns c =
+    let bytes = c.loop-rest.bytes in
+    let none = none_after c.loop-rest.rest.now (omega (arith, c.loop-rest-test.false)) in
+    let all = take_all c.loop-rest.end bytes (omega (arith, c.requires.room, c.loop-rest.invariant.2, c.loop-rest.invariant.3, ap length none)) in
+    sym (append-nil bytes) ∙ ap (λ x. x ++ []) (sym all) ∙ ap (λ x. take c.loop-rest.end bytes ++ x) (sym none) ∙ c.loop-rest.invariant.1
