@@ -19,5 +19,5 @@ pub fn is_plain(bytes: &[u8]) -> bool
 fn is_plain_byte(byte: u8) -> bool
     ensures { IsTrue result → IsPlain byte }
 {
-    (b' '..=b'~').contains(&byte) & (byte != b'\\')
+    (b' ' <= byte) & (byte <= b'~') & (byte != b'\\')
 }
