@@ -85,6 +85,7 @@ pub trait Platform {
     /// assert_eq!(rt; Windows::utf8_fault(b"a\xED\xA0\x80"), Some((1, Some(1))));
     /// assert_eq!(rt; Wasm::utf8_fault(b"\xC3\xA9"), None);
     /// ```
+    #[inline(always)]
     fn utf8_fault(bytes: &[u8]) -> Option<(usize, Option<u8>)>
         requires { well_formed bytes.now }
         ensures { MatchOption result (IsUtf8 bytes.now)

@@ -67,6 +67,7 @@ impl Platform for Wasm {
         }
     }
 
+    #[inline(always)]
     fn utf8_fault(_bytes: &[u8]) -> Option<(usize, Option<u8>)> {
         None
     }

@@ -72,6 +72,7 @@ impl Platform for Windows {
         checker.finish()
     }
 
+    #[inline(always)]
     fn utf8_fault(bytes: &[u8]) -> Option<(usize, Option<u8>)> {
         surrogate_fault(bytes)
     }
