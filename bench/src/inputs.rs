@@ -232,6 +232,11 @@ pub fn texts() -> Vec<Long> {
     kinds.map(|(name, make)| named(name, 1, make(&mut random, 1 << 20))).into()
 }
 
+/// Paths of Korean syllables, of which one in six begins with ED, as a surrogate does.
+pub fn hangul() -> Long {
+    named("Hangul", 1, letters(&mut Random(12), 1 << 20, (0xAC00, 11172), 2, 6))
+}
+
 /// Strings that only Unix has: ASCII paths with an FF once in so many bytes, and random bytes.
 pub fn faulty() -> Vec<Long> {
     let mut random = Random(3);

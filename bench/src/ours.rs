@@ -40,6 +40,8 @@ mod exports {
             count: usize,
         ) -> usize;
         pub fn port_escape(bytes: *const u8, len: usize) -> usize;
+        pub fn port_win_escape(bytes: *const u8, len: usize) -> usize;
+        pub fn port_wasm_escape(bytes: *const u8, len: usize) -> usize;
         pub fn port_escape_line(bytes: *const u8, len: usize) -> usize;
         pub fn port_unescape(text: *const u8, len: usize) -> usize;
         pub fn port_unescape_line(text: *const u8, len: usize) -> usize;
@@ -165,6 +167,16 @@ pub fn matches(pattern: &str, texts: &str, lens: &[usize]) -> usize {
 
 pub fn escape(bytes: &[u8]) -> usize {
     unsafe { exports::port_escape(bytes.as_ptr(), bytes.len()) }
+}
+
+/// The length of the escape on Windows, of bytes that are WTF-8.
+pub fn windows_escape(bytes: &[u8]) -> usize {
+    unsafe { exports::port_win_escape(bytes.as_ptr(), bytes.len()) }
+}
+
+/// The length of the escape on wasm, of bytes that are UTF-8.
+pub fn wasm_escape(bytes: &[u8]) -> usize {
+    unsafe { exports::port_wasm_escape(bytes.as_ptr(), bytes.len()) }
 }
 
 pub fn escape_line(bytes: &[u8]) -> usize {

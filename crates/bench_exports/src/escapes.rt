@@ -1,27 +1,58 @@
-//! Escapes of Unix strings, in both forms, and back.
+//! Escapes in both forms, and back.
 ghost use Rattle.std.specs.Prelude.{◌≡◌, ◌≢◌, ℕ, List, length};
 ghost use Rattle.std.specs.Str.{IsUtf8};
+ghost use Rattle.wtf8_core.specs.Wtf8.{IsWtf8};
+ghost use Rattle.wtf8_core.specs.UnitsOf.{units_of};
 ghost use Rattle.platform_str.specs.PlatformWords.{itself};
+ghost use Rattle.platform_str.specs.Strings.{bytes};
 ghost use Rattle.os_quote.specs.Escape.{IsEscape, IsLineEscape};
 
 use crate::strings::{text, unix};
 use os_quote::{escape, escape_line, unescape, unescape_line};
-use platform_str::{OsString, Unix};
+use platform_str::{OsStr, OsString, Platform, Unix, Wasm, Windows};
 use std::alloc::Global;
 
-/// How many bytes the escape of the string has, or `usize::MAX` where memory was refused.
-#[unsafe(no_mangle)]
-pub extern "C" fn port_escape(alloc: Global, raw: &[u8]) -> usize
-    ensures { result ≢ usize.MAX → (escaped : List ℕ) × IsEscape itself raw.now escaped
-        × (result ≡ length escaped) }
+/// How many bytes the escape of a string has, or `usize::MAX` where memory was refused.
+fn escape_len<E: Platform>(alloc: Global, string: OsStr<E>) -> usize
+    ensures { result ≢ usize.MAX → (escaped : List ℕ)
+        × IsEscape E.units (bytes string.entry) escaped × (result ≡ length escaped) }
 {
-    match escape(alloc, unix(raw)) {
+    match escape(alloc, string) {
         Ok(escaped) => escaped.as_str().len(),
         Err(_) => usize::MAX,
     }
 }
 
-/// The same of the escape on one line.
+/// How many bytes the escape of the string has on Unix, or `usize::MAX` where memory was refused.
+#[unsafe(no_mangle)]
+pub extern "C" fn port_escape(alloc: Global, raw: &[u8]) -> usize
+    ensures { result ≢ usize.MAX → (escaped : List ℕ) × IsEscape itself raw.now escaped
+        × (result ≡ length escaped) }
+{
+    escape_len(alloc, unix(raw))
+}
+
+/// The same on Windows, for bytes that are WTF-8.
+#[unsafe(no_mangle)]
+pub extern "C" fn port_win_escape(alloc: Global, raw: &[u8]) -> usize
+    requires { IsWtf8 raw.now }
+    ensures { result ≢ usize.MAX → (escaped : List ℕ) × IsEscape units_of raw.now escaped
+        × (result ≡ length escaped) }
+{
+    escape_len(alloc, OsStr::<Windows>::from_encoded_bytes_unchecked(raw))
+}
+
+/// The same on wasm, for bytes that are UTF-8.
+#[unsafe(no_mangle)]
+pub extern "C" fn port_wasm_escape(alloc: Global, raw: &[u8]) -> usize
+    requires { IsUtf8 raw.now }
+    ensures { result ≢ usize.MAX → (escaped : List ℕ) × IsEscape itself raw.now escaped
+        × (result ≡ length escaped) }
+{
+    escape_len(alloc, OsStr::<Wasm>::from_encoded_bytes_unchecked(raw))
+}
+
+/// How many bytes the escape on one line has on Unix, or `usize::MAX` where memory was refused.
 #[unsafe(no_mangle)]
 pub extern "C" fn port_escape_line(alloc: Global, raw: &[u8]) -> usize
     ensures { result ≢ usize.MAX → (escaped : List ℕ) × IsLineEscape itself raw.now escaped

@@ -11,7 +11,6 @@ use crate::os_units::NonUnicodeOsStr;
 use platform_str::{OsStr, Platform};
 use std::alloc::AllocError;
 use std::marker::Model;
-use wtf8_core::utf8_fault;
 
 /// An iterator over the chunks of a string, from the first on. After `None` it gives only `None`.
 ///
@@ -117,7 +116,7 @@ fn first_chunk<'a, E: Platform>(
         part_end,
         text_end,
         bare_after,
-    } = chunk_ends(bytes, bare);
+    } = chunk_ends::<E>(bytes, bare);
     let (front, rest) = bytes.split_at(text_end);
     let (part, text) = front.split_at(part_end);
     (
@@ -142,8 +141,9 @@ pub(crate) struct ChunkEnds {
 ///
 /// The part is skipped fault by fault, by the length of each. A byte with which no character begins
 /// is skipped by itself, without a search.
-pub(crate) fn chunk_ends(bytes: &[u8], bare: usize) -> ChunkEnds
-    requires { IsBareUpTo bytes.now bare }
+pub(crate) fn chunk_ends<E: Platform>(bytes: &[u8], bare: usize) -> ChunkEnds
+    requires formed { E.well_formed bytes.now }
+    requires bare { IsBareUpTo bytes.now bare }
     ensures ends { IsFirstChunk bytes.now result.part_end result.text_end }
     ensures bare { IsBareUpTo (drop result.text_end bytes.now) result.bare_after }
 {
@@ -154,7 +154,7 @@ pub(crate) fn chunk_ends(bytes: &[u8], bare: usize) -> ChunkEnds
             continue;
         }
         let (_, rest) = bytes.split_at(at);
-        let Some((valid_up_to, error_len)) = utf8_fault(rest) else {
+        let Some((valid_up_to, error_len)) = E::utf8_fault(rest) else {
             return ChunkEnds {
                 part_end: at,
                 text_end: bytes.len(),

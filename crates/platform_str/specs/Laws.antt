@@ -1,8 +1,8 @@
 -- What each platform proves of its strings: of all, of their parts without whole characters, and of lossy reading. What it proves of standing and of joins is `StandingLaws` of wtf8_core.
-use Rattle.std.specs.Prelude.{◌≡◌, ℕ, ◌<◌, ◌≤◌, List, ◌∷◌, ◌++◌, length, take, drop}
+use Rattle.std.specs.Prelude.{◌≡◌, ℕ, ◌<◌, ◌≤◌, List, ◌∷◌, ◌++◌, length, take, drop, slice_index}
 use Rattle.std.specs.List.{All, flat_map}
 use Rattle.std.specs.Str.{IsUtf8, IsValidUpTo}
-use Rattle.wtf8_core.specs.Byte.{IsByte}
+use Rattle.wtf8_core.specs.Byte.{IsByte, IsContinuation}
 use Rattle.wtf8_core.specs.Covered.{StartsWithNoCharacter, HasNoCharacter}
 use Rattle.wtf8_core.specs.PartUnits.{unit_bytes}
 use Rattle.wtf8_core.specs.Boundary.{IsBoundary}
@@ -32,9 +32,10 @@ pub record PlatformLaws (first_fault : List ℕ → EncodingError → Type 0) (w
   pub io_safe_string : (b : List ℕ) → io_safe b → well_formed b
   pub behind_text : (b : List ℕ) (n : ℕ) → well_formed b → IsUtf8 (take n b) → well_formed (drop n b)
   pub three : (b c : List ℕ) (n : ℕ) → well_formed b → ¬ (io_safe b) → replaces c n → n ≡ 3
-  -- cuts: at a boundary both parts are strings, and their units, joined, are the string's
+  -- cuts: at a boundary both parts are strings, and their units, joined, are the string's; before a byte that is no continuation what follows is a string
   pub cut_front : (b : List ℕ) (i : ℕ) → well_formed b → IsBoundary b i → well_formed (take i b)
   pub cut_back : (b : List ℕ) (i : ℕ) → well_formed b → IsBoundary b i → well_formed (drop i b)
+  pub cut_lead : (b : List ℕ) (i : ℕ) → i < length b → well_formed b → ¬ (IsContinuation (slice_index b i)) → well_formed (drop i b)
   pub cut_units : (b : List ℕ) (i : ℕ) → well_formed b → IsBoundary b i → units b ≡ units (take i b) ++ units (drop i b)
   -- lossy texts: they are texts, a text is its own lossy text, a text at the start stays, and one U+FFFD replaces as many bytes as `replaces` says
   pub lossy_utf8 : (b : List ℕ) → well_formed b → IsUtf8 (lossy b)

@@ -10,7 +10,7 @@ ghost use Rattle.platform_str.specs.Lossy.{IsIoLossy, IsFirstText};
 use crate::cow::ByteCow;
 use crate::platform::Platform;
 use std::alloc::{AllocError, Allocator};
-use wtf8_core::{push_truncated, utf8_fault};
+use wtf8_core::push_truncated;
 
 /// The bytes of U+FFFD.
 const REPLACEMENT: [u8; 3] = [0xEF, 0xBF, 0xBD];
@@ -26,7 +26,7 @@ fn first_replaced<E: Platform>(bytes: &[u8]) -> Option<(usize, &[u8])>
         (λ first. IsFirstText E.well_formed E.lossy bytes.now (take first.0 bytes.now)
         first.1.now) }
 {
-    let (valid, error_len) = utf8_fault(bytes)?;
+    let (valid, error_len) = E::utf8_fault(bytes)?;
     let (_, behind) = bytes.split_at(valid);
     let (_, rest) = behind.split_at(E::replaced_len(behind, error_len));
     Some((valid, rest))
@@ -161,7 +161,7 @@ pub(crate) fn replace_in_place<E: Platform>(bytes: &mut [u8])
     ensures { bytes.new ≡ E.lossy bytes.old }
 {
     let mut at = 0;
-    while let Some((valid, _)) = utf8_fault(bytes.split_at(at).1) {
+    while let Some((valid, _)) = E::utf8_fault(bytes.split_at(at).1) {
         let start = at + valid;
         let len = E::lossy_len(bytes.split_at(start).1);
         write_replacement(bytes, start);

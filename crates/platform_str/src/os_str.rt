@@ -9,7 +9,6 @@ use crate::display::OsStrDisplay;
 use crate::lossy;
 use crate::os_string::OsString;
 use crate::platform::Platform;
-use crate::text::is_text;
 use std::alloc::{AllocError, Allocator};
 use std::marker::PhantomData;
 use wtf8_core::EncodingError;
@@ -190,10 +189,10 @@ impl<'a, E: Platform> OsStr<'a, E> {
         ensures { MatchOption result (¬ (IsUtf8 (bytes self.entry)))
             (λ text. text.now ≡ bytes self.entry) }
     {
-        if !is_text(self.bytes) {
-            return None;
+        match E::utf8_fault(self.bytes) {
+            Some(_) => None,
+            None => Some(unsafe { str::from_utf8_unchecked(self.bytes) }),
         }
-        Some(unsafe { str::from_utf8_unchecked(self.bytes) })
     }
 
     /// The lossy text. If the string is UTF-8 it is the string itself, which doesn't allocate. Else

@@ -1,6 +1,8 @@
 //! What a platform is, and the three platforms of this crate.
-ghost use Rattle.std.specs.Prelude.{◌≡◌, ◌<◌, ◌↔◌, ◌++◌, ◌+◌, ℕ, List, length, IsTrue, IfOk, MatchResult, OnOk, OnErr, vec_capacity, vec_len};
+ghost use Rattle.std.specs.Prelude.{◌≡◌, ◌<◌, ◌↔◌, ◌++◌, ◌+◌, ℕ, List, length, IsTrue, IfOk, MatchOption, MatchResult, OnOk, OnErr, vec_capacity, vec_len};
+ghost use Rattle.std.specs.Str.{IsUtf8};
 ghost use Rattle.wtf8_core.specs.Covered.{StartsWithNoCharacter};
+ghost use Rattle.wtf8_core.specs.Utf8.{IsUtf8Fault};
 ghost use Rattle.platform_str.specs.Lossy.{IsFaultPart};
 ghost use Rattle.wtf8_core.specs.Standing.{IsPrefix, IsSuffix};
 ghost use Rattle.wtf8_core.specs.StandingLaws.{StandingLaws};
@@ -8,16 +10,17 @@ ghost use Rattle.wtf8_core.specs.declared.fault.EncodingError.{EncodingError};
 ghost use Rattle.platform_str.specs.Laws.{PlatformLaws, PartLaws, ReadingLaws, IsFirstUnit};
 
 use std::alloc::{AllocError, Allocator};
-use wtf8_core::EncodingError;
+use wtf8_core::{EncodingError, utf8_fault};
 
 /// The strings of a platform, as lists of bytes.
 ///
 /// An implementation proves the laws of the trait, which are all that generic code knows of a
 /// platform: each list of units has one spelling; texts are strings, and what follows a text at the
 /// start of a string is well formed; at a boundary both parts are well formed, and their units,
-/// joined, are the string's; a text occurs in a string's bytes where its units occur in the
-/// string's; for any two strings some string has the units of both, joined; any bytes have one
-/// lossy reading, which is a string. The module `laws` states them one by one.
+/// joined, are the string's; before a byte that is no continuation what follows is well formed; a
+/// text occurs in a string's bytes where its units occur in the string's; for any two strings some
+/// string has the units of both, joined; any bytes have one lossy reading, which is a string. The
+/// module `laws` states them one by one.
 pub trait Platform {
     // which bytes are a string
     ghost well_formed: { List ℕ → Type 0 };
@@ -68,6 +71,28 @@ pub trait Platform {
     fn check(bytes: &[u8]) -> Result<(), EncodingError>
         ensures { MatchResult result (λ _. well_formed bytes.now)
             (λ fault. first_fault bytes.now fault) };
+
+    /// The first fault of a string that isn't UTF-8, `None` for UTF-8: what `wtf8_core::utf8_fault`
+    /// returns for the bytes. It doesn't allocate.
+    ///
+    /// The bytes are well formed (test: [`Platform::check`]), so on Windows it is their first
+    /// surrogate, and on wasm there is none. The default implementation calls `utf8_fault`.
+    ///
+    /// ```
+    /// use os_str_bytes::{Platform, Unix, Wasm, Windows};
+    ///
+    /// assert_eq!(rt; Unix::utf8_fault(b"a\xE2\x82"), Some((1, None)));
+    /// assert_eq!(rt; Windows::utf8_fault(b"a\xED\xA0\x80"), Some((1, Some(1))));
+    /// assert_eq!(rt; Wasm::utf8_fault(b"\xC3\xA9"), None);
+    /// ```
+    #[inline(always)]
+    fn utf8_fault(bytes: &[u8]) -> Option<(usize, Option<u8>)>
+        requires { well_formed bytes.now }
+        ensures { MatchOption result (IsUtf8 bytes.now)
+            (λ fault. IsUtf8Fault bytes.now fault.0 fault.1) }
+    {
+        utf8_fault(bytes)
+    }
 
     /// Whether bytes may be passed to reads and writes of files as they are: on Unix always, on the
     /// other platforms if they are UTF-8. It doesn't allocate.

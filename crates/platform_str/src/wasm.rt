@@ -67,6 +67,11 @@ impl Platform for Wasm {
         }
     }
 
+    #[inline(always)]
+    fn utf8_fault(_bytes: &[u8]) -> Option<(usize, Option<u8>)> {
+        None
+    }
+
     fn is_io_safe(bytes: &[u8]) -> bool {
         is_text(bytes)
     }

@@ -14,7 +14,7 @@ use crate::platform::{Platform, Windows};
 use crate::reading::read_wtf8;
 use crate::text::is_text;
 use std::alloc::{AllocError, Allocator, Global};
-use wtf8_core::{Checker, EncodingError, encode_wide};
+use wtf8_core::{Checker, EncodingError, encode_wide, surrogate_fault};
 
 /// A borrowed string of Windows.
 pub type OsStr<'a> = crate::OsStr<'a, Windows>;
@@ -70,6 +70,11 @@ impl Platform for Windows {
         let mut checker = Checker::new();
         checker.feed(bytes)?;
         checker.finish()
+    }
+
+    #[inline(always)]
+    fn utf8_fault(bytes: &[u8]) -> Option<(usize, Option<u8>)> {
+        surrogate_fault(bytes)
     }
 
     fn is_io_safe(bytes: &[u8]) -> bool {

@@ -1,5 +1,5 @@
 -- Surrogates: the code points that pairs of 16-bit units are made of (RFC 2781, section 2). They aren't scalar values; a WTF-8 string may have lone ones.
-use Rattle.std.specs.Prelude.{ℕ, ◌+◌, ◌-◌, ◌*◌, ◌/◌, ◌%◌, ◌&&◌, Bool}
+use Rattle.std.specs.Prelude.{◌≡◌, ℕ, ◌+◌, ◌-◌, ◌*◌, ◌/◌, ◌%◌, ◌≤◌, ◌&&◌, Bool, List, slice_index}
 use Rattle.std.specs.Int.{IsInRange, is_in_range}
 
 -- a high surrogate, which begins a pair of units (WTF-8: a lead surrogate)
@@ -40,3 +40,7 @@ low_unit c = 0xDC00 + (c - 0x1_0000) % 0x400
 -- the code point of a pair (RFC 2781, section 2.2)
 abbrev pub paired : ℕ → ℕ → ℕ
 paired u v = 0x1_0000 + (u - 0xD800) * 0x400 + (v - 0xDC00)
+
+-- in WTF-8 a surrogate's form begins at index i: ED, and then a byte from A0 on (RFC 3629, section 4)
+abbrev pub IsSurrogateAt : List ℕ → ℕ → Type 0
+IsSurrogateAt b i = (slice_index b i ≡ 0xED) × (0xA0 ≤ slice_index b (i + 1))

@@ -15,11 +15,13 @@
 //!    again, and finally std's reader continues.
 //!
 //! [`Checker`](crate::Checker) and [`wtf8_fault`](crate::wtf8_fault) use 5 and 6 for WTF-8, and then
-//! their table or the reader of code points.
+//! their table or the reader of code points. [`surrogate_fault`](crate::surrogate_fault) looks for
+//! surrogates alone ([`surrogates`]).
 
 pub(crate) mod error_bits;
 pub(crate) mod fronts;
 pub(crate) mod lanes;
+pub(crate) mod surrogates;
 
 /// The length of a block in bytes.
 pub(crate) const BLOCK: usize = 64;

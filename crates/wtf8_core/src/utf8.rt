@@ -4,11 +4,14 @@ ghost use Rattle.std.specs.Str.{IsUtf8};
 ghost use Rattle.wtf8_core.specs.EncodedPrefix.{KeepsPattern};
 ghost use Rattle.wtf8_core.specs.declared.scan.Encoding.TheVariants.{Utf8};
 ghost use Rattle.wtf8_core.specs.Utf8.{IsUtf8Fault};
+ghost use Rattle.wtf8_core.specs.Wtf8.{IsWtf8};
 
 use crate::character::char_or_fault_at_front;
 use crate::scan::fronts::{ends_with_ascii, scan_from, scan_steps};
 use crate::scan::lanes::{ascii_before, ascii_of_16, load};
+use crate::scan::surrogates::text_from;
 use crate::scan::{BLOCK, Encoding, STEP};
+use memchr::memchr;
 
 /// The first fault of bytes that aren't UTF-8, `None` for UTF-8 (RFC 3629, section 4).
 ///
@@ -45,6 +48,29 @@ pub fn utf8_fault(bytes: &[u8]) -> Option<(usize, Option<u8>)>
     match after_three_characters(bytes, ascii) {
         Ok(at) => fault_by_steps(bytes, at),
         Err(fault) => Some(fault),
+    }
+}
+
+/// The first fault of WTF-8 that isn't UTF-8, `None` for UTF-8: the same as [`utf8_fault`] of the
+/// bytes (this project's own call).
+///
+/// The bytes are WTF-8 (test: [`wtf8_fault`](crate::wtf8_fault)). So the fault is their first
+/// surrogate, and it is found by the byte ED, with which each surrogate begins.
+///
+/// ```
+/// use os_str_bytes::surrogate_fault;
+///
+/// assert_eq!(rt; surrogate_fault(b"a\xED\xA0\x80"), Some((1, Some(1))));
+/// assert_eq!(rt; surrogate_fault(b"\xED\x95\x9C"), None);
+/// ```
+pub fn surrogate_fault(bytes: &[u8]) -> Option<(usize, Option<u8>)>
+    requires { IsWtf8 bytes.now }
+    ensures { MatchOption result (IsUtf8 bytes.now)
+        (λ fault. IsUtf8Fault bytes.now fault.0 fault.1) }
+{
+    match memchr(0xED, bytes) {
+        Some(lead) => fault_by_characters(bytes, text_from(bytes, lead)),
+        None => None,
     }
 }
 

@@ -50,6 +50,7 @@ unix_laws = record {
   three = λ b c n h k r. absurd (k h);
   cut_front = λ b i h k. All-take (λ x. x < 256) i b h;
   cut_back = λ b i h k. All-drop (λ x. x < 256) i b h;
+  cut_lead = λ b i lt h n. All-drop (λ x. x < 256) i b h;
   cut_units = λ b i h k. sym (take-append-drop i b);
   lossy_utf8 = λ b h. lossy_is_utf8 b _ (lossy_text b);
   lossy_text = utf8_lossy-IsUtf8;

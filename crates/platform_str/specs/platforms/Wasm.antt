@@ -1,11 +1,12 @@
 -- The strings of wasm: UTF-8. What its words mean, and its four records of laws, proved.
-use Rattle.std.proofs.Common.{◌≡◌, ℕ, ◌<◌, List, [], ◌∷◌, ◌++◌, length, length-append, drop, refl, sym, ap, ◌∙◌, subst, take-append-drop, arith}
+use Rattle.std.proofs.Common.{◌≡◌, ⊎_elim, get_or, ℕ, ◌<◌, List, [], ◌∷◌, ◌++◌, length, length-append, drop, refl, sym, ap, ◌∙◌, subst, take-append-drop, arith}
 use Rattle.std.specs.List.{flat_map}
 use Rattle.std.specs.Str.{IsUtf8}
 use Rattle.std.specs.Str.Lossy.{utf8_lossy}
 use Rattle.std.proofs.Math.Seq.{take-length}
 use Rattle.std.proofs.lemmas.List.{take_at, drop_at}
-use Rattle.std.proofs.lemmas.Str.{IsUtf8-append, IsUtf8-take, IsCharBoundary-from_drop}
+use Rattle.std.proofs.lemmas.Bool.{cases_lt}
+use Rattle.std.proofs.lemmas.Str.{IsUtf8-append, IsUtf8-take, IsUtf8-drop, IsCharBoundary-from_drop}
 use Rattle.wtf8_core.specs.Covered.{StartsWithNoCharacter, HasNoCharacter}
 use Rattle.wtf8_core.specs.Lossy.{IsLossyText}
 use Rattle.wtf8_core.specs.Lossy.IsLossyText.{text as kept_text}
@@ -70,6 +71,7 @@ wasm_laws = record {
   three = λ b c n h k r. r;
   cut_front = λ b i h k. (utf8_cut b i h k).0;
   cut_back = λ b i h k. (utf8_cut b i h k).1;
+  cut_lead = λ b i lt h n. IsUtf8-drop b i h (omega (arith, lt), λ l high. ⊎_elim (λ low. absurd (n (high, omega (arith, low)))) (λ ge. ge) (cases_lt (get_or b i 0) 0xC0));
   cut_units = λ b i h k. sym (take-append-drop i b);
   lossy_utf8 = λ b h. h;
   lossy_text = λ b h. refl;

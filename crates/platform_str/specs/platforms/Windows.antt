@@ -17,6 +17,7 @@ use Rattle.wtf8_core.proofs.lemmas.reader.LossyReadings.{one_reading, some_readi
 use Rattle.wtf8_core.proofs.lemmas.chunks.PartUnits.{bare_wtf8}
 use Rattle.wtf8_core.proofs.lemmas.texts.LossyTexts.{wtf8_lossy_front, surrogate_first}
 use Rattle.wtf8_core.proofs.lemmas.texts.AreWtf8.{wtf8_of_text, wtf8_lossy_text, wtf8_lossy_is_utf8, wtf8_behind_text}
+use Rattle.wtf8_core.proofs.lemmas.texts.WithoutSurrogates.{cut_at_lead}
 use Rattle.platform_str.specs.Laws.{PlatformLaws, PartLaws, ReadingLaws}
 use Rattle.platform_str.specs.PlatformWords.{AreWideUnits, IsThree}
 
@@ -38,6 +39,7 @@ windows_laws = record {
   three = λ b c n h k r. r;
   cut_front = λ b i h k. (wtf8_cut b i h k).0;
   cut_back = λ b i h k. (wtf8_cut b i h k).1;
+  cut_lead = λ b i lt h n. (cut_at_lead b i lt h n).1;
   cut_units = units_cut;
   lossy_utf8 = wtf8_lossy_is_utf8;
   lossy_text = wtf8_lossy_text;

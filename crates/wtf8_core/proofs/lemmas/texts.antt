@@ -2,3 +2,4 @@ pub mod AreWtf8
 pub mod FormatterOptions
 pub mod LossyTexts
 pub mod StdFaults
+pub mod WithoutSurrogates

@@ -1,5 +1,6 @@
 //! Operations on the lanes of a vector, and what they say of neighbouring bytes.
-ghost use Rattle.std.specs.Prelude.{◌≡◌, ◌≢◌, ℕ, ◌+◌, ◌-◌, ◌*◌, ◌/◌, ◌≤◌, ◌<◌, length, IsTrue, slice_index, bit_and, bit_or, bit_xor};
+ghost use Rattle.std.specs.Prelude.{◌≡◌, ◌≢◌, ℕ, ◌+◌, ◌-◌, ◌*◌, ◌/◌, ◌≤◌, ◌<◌, length, IsTrue, slice_index, nat_eq, bit_and, bit_or, bit_xor};
+ghost use Rattle.std.specs.Bool.{if◌then◌else◌};
 ghost use Rattle.wtf8_core.specs.PairBits.{pair_bits, continuation_due};
 
 use std::simd::prelude::*;
@@ -94,7 +95,7 @@ pub(crate) fn xor<const N: usize>(a: Simd<u8, N>, b: Simd<u8, N>) -> Simd<u8, N>
 
 /// How far each lane is above a value; 0 if it is below.
 #[inline(always)]
-fn above<const N: usize>(bytes: Simd<u8, N>, value: u8) -> Simd<u8, N>
+pub(crate) fn above<const N: usize>(bytes: Simd<u8, N>, value: u8) -> Simd<u8, N>
     ensures { (i : ℕ) → i < N → slice_index result i ≡ slice_index bytes.entry i - value }
 {
     bytes.saturating_sub(Simd::splat(value))
@@ -156,6 +157,17 @@ pub(crate) fn continuation_due<const N: usize>(three: Simd<u8, N>, two: Simd<u8,
         ≡ continuation_due (slice_index three.entry i) (slice_index two.entry i) }
 {
     masked(or(above(three, 0x70), above(two, 0x60)), 0x80)
+}
+
+/// The lanes of the second where the first has ED, and else 0.
+#[inline(always)]
+pub(crate) fn after_surrogate_lead(first: u8x64, second: u8x64) -> u8x64
+    ensures { (i : ℕ) → i < 64 → slice_index result i
+        ≡ (if nat_eq (slice_index first i) 0xED then slice_index second i else 0) }
+{
+    first
+        .simd_eq(u8x64::splat(0xED))
+        .select(second, u8x64::splat(0))
 }
 
 /// Whether all lanes are 0. It tests both halves together, so that no mask of 64 bits is made.

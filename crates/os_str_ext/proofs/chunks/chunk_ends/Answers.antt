@@ -1,27 +1,32 @@
-use Rattle.std.proofs.Common.{arith}
+use Rattle.std.proofs.Common.{arith, sym, subst}
 use Rattle.os_str_ext.proofs.lemmas.BareStart.{one_more, part_more, text_found, bare_after_text, text_to_end, all_bare}
 use Rattle.os_str_ext.proofs.chunks.chunk_ends.Goals as goal
 
 pub loop-at-preserved-then-begins_no_character : goal.loop-at-preserved-then-begins_no_character
-loop-at-preserved-then-begins_no_character c = one_more c.args.bytes.now c.loop-at.at c.loop-at.invariant c.loop-at-test.true (c.begins_no_character.ensures.0 c.if-begins_no_character.true)
+loop-at-preserved-then-begins_no_character g c = one_more c.args.bytes.now c.loop-at.at c.loop-at.invariant c.loop-at-test.true (c.begins_no_character.ensures.0 c.if-begins_no_character.true)
+
+pub utf8_fault-requires : goal.utf8_fault-requires
+utf8_fault-requires g c =
+    subst g.E.Platform.well_formed (sym c.split_at.ensures.back) (g.met.E.Platform.laws.cut_lead c.args.bytes.now c.loop-at.at c.loop-at-test.true c.requires.formed
+    (λ k. let none = c.begins_no_character.ensures.1 (omega (arith, k), λ r. omega (arith, k, r)) in cc))
 
 pub returns-in_default-clause-ends : goal.returns-in_default-clause-ends
-returns-in_default-clause-ends c = text_to_end c.args.bytes.now c.loop-at.at c.loop-at.invariant _ c.split_at.ensures.back c.loop-at-test.true c.in_default.ensures
+returns-in_default-clause-ends g c = text_to_end c.args.bytes.now c.loop-at.at c.loop-at.invariant _ c.split_at.ensures.back c.loop-at-test.true c.in_default.ensures
 
 pub returns-then-valid_up_to-gt0-clause-ends : goal.returns-then-valid_up_to-gt0-clause-ends
-returns-then-valid_up_to-gt0-clause-ends c =
+returns-then-valid_up_to-gt0-clause-ends g c =
     let e = c.part_len-len.ensures in
     text_found c.args.bytes.now c.loop-at.at c.loop-at.invariant _ c.split_at.ensures.back _ _ _ c.in-Some.ensures e.end e.within c.if-valid_up_to-gt0.true
 
 pub returns-then-valid_up_to-gt0-clause-bare : goal.returns-then-valid_up_to-gt0-clause-bare
-returns-then-valid_up_to-gt0-clause-bare c =
+returns-then-valid_up_to-gt0-clause-bare g c =
     let e = c.part_len-len.ensures in
     bare_after_text c.args.bytes.now c.loop-at.at c.loop-at.invariant _ c.split_at.ensures.back _ _ _ c.in-Some.ensures e.end e.within
 
 pub loop-at-preserved : goal.loop-at-preserved
-loop-at-preserved c =
+loop-at-preserved g c =
     let e = c.part_len-len.ensures in
     part_more c.args.bytes.now c.loop-at.at c.loop-at.invariant _ c.split_at.ensures.back _ _ _ c.in-Some.ensures e.end e.within (omega (arith, c.if-valid_up_to-gt0.false))
 
 pub returns-clause-ends : goal.returns-clause-ends
-returns-clause-ends c = all_bare c.args.bytes.now c.loop-at.at c.loop-at.invariant c.loop-at-test.false
+returns-clause-ends g c = all_bare c.args.bytes.now c.loop-at.at c.loop-at.invariant c.loop-at-test.false

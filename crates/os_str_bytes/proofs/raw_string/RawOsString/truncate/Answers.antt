@@ -1,0 +1,20 @@
+use Rattle.std.proofs.Common.{◌≡◌, ⊎_elim, inl, inr, refl, length, take, drop, ◌++◌, sym, ap, ◌∙◌, subst, arith}
+use Rattle.std.proofs.lemmas.Bool.{cases_lt}
+use Rattle.std.proofs.lemmas.List.{take_all, drop_all}
+use Rattle.std.proofs.Math.Seq.{take-length}
+use Rattle.os_str_bytes.specs.Raw.{raw_vec_of}
+use Rattle.os_str_bytes.proofs.raw_string.RawOsString.truncate.Goals as goal
+
+-- an index past the length cuts as the length does
+pub returns-clause-units : goal.returns-clause-units
+returns-clause-units g c =
+    let s = (raw_vec_of c.args.self.now).items in
+    let at = c.args.at in
+    let units = g.E.Platform.units in
+    let cut = g.met.E.Platform.laws.cut_units s in
+    subst (λ x. units s ≡ units x ++ units (drop at s)) (sym c.truncate.ensures.items)
+    (⊎_elim
+    (λ past. cut (length s) c.args.self.now.ok (record { is = inr (inl refl) })
+    ∙ ap (λ x. units x ++ units (drop (length s) s)) (take-length s ∙ sym (take_all at s (omega (arith, past))))
+    ∙ ap (λ x. units (take at s) ++ units x) (drop_all (length s) s (omega arith) ∙ sym (drop_all at s (omega (arith, past)))))
+    (λ le. cut at c.args.self.now.ok (c.requires le)) (cases_lt (length s) at))
