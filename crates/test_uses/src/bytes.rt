@@ -1,5 +1,6 @@
 //! Bytes as code points, and their faults.
-ghost use Rattle.std.specs.Prelude.{◌≡◌, ◌↔◌, ◌⊎◌, ◌<◌, ◌≤◌, ◌++◌, ℕ, List, Err, Some, IfSome, IsTrue, length};
+ghost use Rattle.std.specs.Prelude.{◌≡◌, ◌↔◌, ◌⊎◌, ◌<◌, ◌≤◌, ◌++◌, ℕ, List, Err, Some, IfSome, IsTrue, MatchOption, length};
+ghost use Rattle.std.specs.Str.{IsUtf8};
 ghost use Rattle.wtf8_core.specs.Wtf8.{Encodes, IsWtf8, HasUnits};
 ghost use Rattle.wtf8_core.specs.Fault.{IsFirstFault};
 ghost use Rattle.wtf8_core.specs.Boundary.{IsBoundary};
@@ -9,7 +10,7 @@ ghost use Rattle.wtf8_core.specs.UnitsOf.{units_of};
 ghost use Rattle.wtf8_core.specs.Utf8.{IsUtf8Fault, part_end};
 
 use platform_str::{EncodingError, Platform, Windows};
-use wtf8_core::{CodePoints, char_at, ends_with, laws, starts_with, utf8_fault};
+use wtf8_core::{CodePoints, char_at, ends_with, laws, starts_with, surrogate_fault, utf8_fault};
 
 /// Whether bytes are WTF-8.
 pub fn is_wtf8(raw: &[u8]) -> bool
@@ -88,6 +89,29 @@ pub fn utf8_fault_says(
 {
     laws::one_utf8_fault();
     utf8_fault(raw)
+}
+
+/// The fault of WTF-8 of which a fault of UTF-8 is known, which is that one.
+pub fn surrogate_fault_says(
+    raw: &[u8],
+    valid_up_to: usize,
+    error_len: Option<u8>,
+) -> Option<(usize, Option<u8>)>
+    requires formed { IsWtf8 raw.now }
+    requires fault { IsUtf8Fault raw.now valid_up_to error_len }
+    ensures { result ≡ Some (valid_up_to, error_len) }
+{
+    laws::one_utf8_fault();
+    surrogate_fault(raw)
+}
+
+/// The fault of a platform's string: `None` just for UTF-8, and else the fault of UTF-8.
+pub fn fault_of_string<E: Platform>(raw: &[u8]) -> Option<(usize, Option<u8>)>
+    requires { E.well_formed raw.now }
+    ensures { MatchOption result (IsUtf8 raw.now)
+        (λ fault. IsUtf8Fault raw.now fault.0 fault.1) }
+{
+    E::utf8_fault(raw)
 }
 
 /// Whether a character ends before a later one begins: it always does.
