@@ -134,9 +134,9 @@ fn unit_words(units: &[u16]) -> [u32; 16]
     let first = ends.select(last, first);
     let first = ascii.select(unit, first);
     let second = long.select(middle, last);
-    let count = long.select(u16x16::splat(3), u16x16::splat(2));
+    let count = ascii.select(u16x16::splat(1), u16x16::splat(2));
+    let count = long.select(u16x16::splat(3), count);
     let count = ends.select(u16x16::splat(1), count);
-    let count = ascii.select(u16x16::splat(1), count);
 
     let low = first + (second << u16x16::splat(8));
     let high = last + (count << u16x16::splat(8));
@@ -145,7 +145,7 @@ fn unit_words(units: &[u16]) -> [u32; 16]
 
 /// Writes the bytes of words from index `at` on, and returns the index after them. It also
 /// overwrites up to four bytes after them.
-#[inline(always)]
+#[inline(never)]
 fn put_words(bytes: &mut [u8], at: usize, words: &[u32]) -> usize
     requires few { (i : ℕ) → i < length words.now → slice_index words.now i / 0x100_0000 ≤ 4 }
     requires room { at + length (flat_map word_bytes words.now) + 4 ≤ length bytes.old }
@@ -195,6 +195,9 @@ fn put_unit(bytes: &mut [u8], at: usize, before: u16, unit: u16, after: u16) -> 
     ensures end { result ≡ at + length (given before unit after) }
     ensures len { length bytes.new ≡ length bytes.old }
 {
+    if unit < 0xD800 {
+        return write_form(bytes, at, u32::from(unit));
+    }
     if is_pair(before, unit) {
         bytes[at] = (0x80 + unit % 0x40) as u8;
         return at + 1;

@@ -47,16 +47,17 @@ pub high_gives : (b u v : ℕ) → is_pair b u ≡ false → is_pair u v ≡ tru
 unfolding encode
 high_gives b u v p q = grind (arith, nat_tests, p, q)
 
-pub ruleset giving = (last_gives, high_gives, alone_gives)
+-- a unit below the surrogates
+pub below_gives : (b u v : ℕ) → u < 0xD800 → given b u v ≡ encode u
+below_gives b u v h = grind (arith, nat_tests, h)
+
+pub ruleset giving = (below_gives, last_gives, high_gives, alone_gives)
 
 no_pair_at_end : (u : ℕ) → is_pair u 0 ≡ false
 no_pair_at_end u = grind (arith, nat_tests)
 
 pub no_pair_after_low : (b u v : ℕ) → is_pair b u ≡ true → is_pair u v ≡ false
 no_pair_after_low b u v p = grind (arith, nat_tests, p)
-
-no_pair_after_high : (b u v : ℕ) → is_pair u v ≡ true → is_pair b u ≡ false
-no_pair_after_high b u v p = grind (arith, nat_tests, p)
 
 -- the units after one that isn't the first of a pair give the forms of their code points
 forms_given : (b : ℕ) (us : List ℕ) → is_pair b (get_or us 0 0) ≡ false → bytes_after_first (b ∷ us) ≡ flat_map encode (code_points_of us)
@@ -79,15 +80,10 @@ string_given us a = subst (λ b. HasUnits b us) (sym (forms_given 0 us (grind (a
 pub has_none : (us : List ℕ) → us ≡ [] → HasUnits [] us
 has_none us e = subst (HasUnits []) (sym e) (string_given [] tt)
 
--- the first unit gives its part, and the second one
+-- the first unit gives its part
 pub first_gives : (us : List ℕ) → 0 < length us → bytes_after_first (0 ∷ us) ≡ given 0 (get_or us 0 0) (get_or us 1 0) ++ bytes_after_first us
 first_gives [] h = absurd (omega (arith, h))
 first_gives (u ∷ us) h = refl
-
-pub second_gives : (w : List ℕ) → 1 < length w → bytes_after_first w ≡ given (get_or w 0 0) (get_or w 1 0) (get_or w 2 0) ++ bytes_after_first (drop 1 w)
-second_gives [] h = absurd (omega (arith, h))
-second_gives (a ∷ []) h = absurd (omega (arith, h))
-second_gives (a ∷ b ∷ bs) h = refl
 
 -- nothing comes after one unit
 pub none_after : (w : List ℕ) → length w ≤ 1 → bytes_after_first w ≡ []
@@ -121,7 +117,11 @@ block_words (suc n) [] (x ∷ xs) p h g = absurd (omega (arith, h))
 block_words (suc n) (a ∷ []) (x ∷ xs) p h g = absurd (omega (arith, h))
 block_words (suc n) (a ∷ b ∷ bs) (x ∷ xs) p h g =
     let rest = bytes_after_first (drop n (b ∷ bs)) in
-    let more = block_words n (b ∷ bs) xs (omega (arith, p)) (omega (arith, h)) (λ i l. let one : 1 + suc i ≡ suc (1 + i) = omega arith in let two : 2 + suc i ≡ suc (2 + i) = omega arith in g (suc i) (omega (arith, l)) ∙ ap (λ k. given (get_or (b ∷ bs) i 0) (get_or (a ∷ b ∷ bs) k 0) (get_or (a ∷ b ∷ bs) (2 + suc i) 0)) one ∙ ap (λ k. given (get_or (b ∷ bs) i 0) (get_or (b ∷ bs) (1 + i) 0) (get_or (a ∷ b ∷ bs) k 0)) two) in
+    let shifted : (i : ℕ) → i < n → word_bytes (get_or xs i 0) ≡ given (get_or (b ∷ bs) i 0) (get_or (b ∷ bs) (1 + i) 0) (get_or (b ∷ bs) (2 + i) 0) =
+    λ i l. let one : 1 + suc i ≡ suc (1 + i) = omega arith in
+    let two : 2 + suc i ≡ suc (2 + i) = omega arith in
+    rw (ap (λ k. get_or (a ∷ b ∷ bs) k 0) one, ap (λ k. get_or (a ∷ b ∷ bs) k 0) two) at (g (suc i) (omega (arith, l))) in
+    let more = block_words n (b ∷ bs) xs (omega (arith, p)) (omega (arith, h)) shifted in
     ap (λ r. given a b (get_or bs 0 0) ++ r) more
     ∙ sym (append_assoc (given a b (get_or bs 0 0)) (flat_map word_bytes xs) rest)
     ∙ ap (λ r. (r ++ flat_map word_bytes xs) ++ rest) (sym (g 0 (omega arith)))

@@ -34,17 +34,14 @@ lane_value t u v = cond t (((u * 2 ^ 4 % 2 ^ 16 + v / 2 ^ 6) % 2 ^ 16 + 0x8090) 
 abbrev lane_last : ℕ → ℕ
 lane_last x = (0x80 + x % 0x40) % 2 ^ 16
 
-abbrev lane_middle : ℕ → ℕ
-lane_middle x = (0x80 + x / 2 ^ 6 % 0x40) % 2 ^ 16
-
 abbrev lane_first : Bool → Bool → ℕ → ℕ → ℕ
 lane_first e t u x = cond (ltb u 0x80) u (cond e (lane_last x) (cond (leb 0x800 u) ((cond t 0xF0 0xE0 + x / 2 ^ 12) % 2 ^ 16) ((0xC0 + x / 2 ^ 6) % 2 ^ 16)))
 
 abbrev lane_second : ℕ → ℕ → ℕ
-lane_second u x = cond (leb 0x800 u) (lane_middle x) (lane_last x)
+lane_second u x = cond (leb 0x800 u) ((0x80 + x / 2 ^ 6 % 0x40) % 2 ^ 16) (lane_last x)
 
 abbrev lane_count : Bool → ℕ → ℕ
-lane_count e u = cond (ltb u 0x80) 1 (cond e 1 (cond (leb 0x800 u) 3 2))
+lane_count e u = cond e 1 (cond (leb 0x800 u) 3 (cond (ltb u 0x80) 1 2))
 
 abbrev lane_word : Bool → Bool → ℕ → ℕ → ℕ
 lane_word e t u x = packed (lane_first e t u x) (lane_second u x) (lane_last x) (lane_count e u)
@@ -54,7 +51,7 @@ by_tests : (b u v : ℕ) → IsUnit u → IsUnit v → (e t : Bool) → is_pair 
 unfolding encode
 by_tests b u v i j true true p q = absurd (false≢true (sym (no_pair_after_low b u v p) ∙ q))
 by_tests b u v i j true false p q =
-    packed_bytes _ _ _ _ (grind (arith, nat_tests, p)) (grind (arith, nat_tests, p)) (omega arith) (grind (arith, nat_tests, p))
+    packed_bytes (lane_first true false u u) (lane_second u u) (lane_last u) 1 (grind (arith, nat_tests, p)) (grind (arith, nat_tests, p)) (omega arith) (omega arith)
     ∙ grind (arith, nat_tests, p)
     ∙ sym (last_gives b u v p)
 by_tests b u v i j false true p q =
@@ -70,7 +67,7 @@ pub lane_given : (b u v : ℕ) → IsUnit b → IsUnit u → IsUnit v
     → word_bytes (lane_word (eqb (six_and_six b u) 3511) (eqb (six_and_six u v) 3511) u (lane_value (eqb (six_and_six u v) 3511) u v)) ≡ given b u v
 lane_given b u v h i j = rw (lane_is_pair b u h i, lane_is_pair u v i j) (by_tests b u v i j (is_pair b u) (is_pair u v) refl refl)
 
--- the word of at most three bytes says how many
+-- a word of at most three bytes says how many
 pub few_bytes : (w : ℕ) → length (word_bytes w) ≤ 3 → w / 0x100_0000 ≤ 4
 few_bytes w h = omega (arith, h, length-take (w / 0x100_0000) (to_le_bytes w32 w))
 
