@@ -23,7 +23,7 @@ pub use mathlib.Core.Bool.{Bool-set, beq}
 pub use Rattle.wtf8_core.specs.Boundary.{IsBoundary}
 pub use Rattle.wtf8_core.specs.Byte.{IsByte, IsContinuation, is_continuation, needed_continuations, lead_bits, IsLead}
 pub use Rattle.wtf8_core.specs.Character.{WholeCharacter, IsCharacterAt}
-pub use Rattle.wtf8_core.specs.Checker.{Stands, IsFaulty, Row, rows, SomeRow, IsOpen, IsOpenIn, kept_bits, joined_bits, fault_at, is_between, is_plain, OnlyEnds, HasFirstFault, Progress, progress, StandsFor}
+pub use Rattle.wtf8_core.specs.Checker.{Stands, IsFaulty, Gives, Row, needed, rows, SomeRow, IsOpen, kept_bits, joined_bits, fault_at, is_between, is_plain, OnlyEnds, HasFirstFault, Progress, progress, StandsFor}
 pub use Rattle.wtf8_core.specs.Chunks.{Chunk, joined, AreChunks}
 pub use Rattle.wtf8_core.specs.CodePoint.{IsCodePoint}
 unfoldable pub use Rattle.wtf8_core.specs.CodePoint.{encode, encode_utf16}
@@ -36,8 +36,8 @@ unfoldable pub use Rattle.wtf8_core.specs.FaultText.{upper_hex}
 pub use Rattle.wtf8_core.specs.Items.{AreItems, AreUnitItems, unit_items}
 pub use Rattle.wtf8_core.specs.Lossy.{replacement, IsWtf8LossyText, without_surrogate, IsLossyText}
 pub use Rattle.wtf8_core.specs.Neighbours.{AllMayStand, Steps, IsBetweenCodePoints, MayStand, MayFollow}
-pub use Rattle.wtf8_core.specs.Reader.{is_high_item, IsFirstItem, least_value, items_after, then_items}
-unfoldable pub use Rattle.wtf8_core.specs.Reader.{first_item, behind_item, items_behind, with_continuations, checked_value, and_then_checked, continuations}
+pub use Rattle.wtf8_core.specs.Reader.{is_high_item, IsFirstItem, least_value, items_after, then_items, first_split, items_from}
+unfoldable pub use Rattle.wtf8_core.specs.Reader.{first_item, behind_item, items_behind, with_continuations, checked_value, and_then_checked, continuations, split_within}
 pub use Rattle.wtf8_core.specs.EncodedPrefix.{IsEncodedPrefix, IsReadUpTo, behind_zeros, KeepsPattern}
 pub use Rattle.wtf8_core.specs.Standing.{StandsAt, IsPrefix, IsSuffix, StandsNowhere, IsFirstPlace, IsLastPlace, Finds}
 pub use Rattle.wtf8_core.specs.StandingLaws.{StandingLaws, IsCutAround}

@@ -1,9 +1,9 @@
 -- What the few fields of a checker say of the bytes that were fed so far (this project's own).
-use Rattle.std.specs.Prelude.{◌≡◌, ◌≢◌, ◌⊎◌, ℕ, zero, suc, ◌+◌, ◌*◌, ◌%◌, ◌≤◌, Bool, true, false, if◌then◌else◌, List, [], ◌∷◌, ◌++◌, length, Option, Some, None}
-use Rattle.wtf8_core.specs.Byte.{is_continuation, needed_continuations}
-use Rattle.wtf8_core.specs.Surrogate.{is_high}
-use Rattle.wtf8_core.specs.Wtf8.{Encodes, last_or}
-use Rattle.wtf8_core.specs.Fault.{IsSequenceStart, shape_value, IsFirstFault}
+use Rattle.std.specs.Prelude.{◌≡◌, ◌≢◌, ◌⊎◌, ℕ, zero, suc, ◌+◌, ◌*◌, ◌%◌, ◌≤◌, Bool, true, false, if◌then◌else◌, List, [], ◌∷◌, ◌++◌, map, Option, Some, None, Result, Ok}
+use Rattle.std.specs.List.{All}
+use Rattle.wtf8_core.specs.Byte.{IsByte, is_continuation}
+use Rattle.wtf8_core.specs.Fault.{IsFirstFault}
+use Rattle.wtf8_core.specs.Reader.{split_within, items_from, items_after}
 use Rattle.wtf8_core.specs.Table.{state_at}
 use Rattle.wtf8_core.specs.declared.checker.SavedChecker.{SavedChecker}
 use Rattle.wtf8_core.specs.declared.fault.EncodingError.{EncodingError}
@@ -35,39 +35,43 @@ abbrev pub is_plain : State → Bool
 is_plain Between = true
 is_plain s = false
 
--- open sequences: whether a high surrogate comes directly before, how many continuations are needed and how many are missing, and between which numbers the value so far lies
+-- open sequences: whether a high surrogate comes directly before, how many continuations were read, how many are missing after the next, and between which numbers the value so far lies
 pub record Row : Type 0 where
   pub high : Bool
-  pub needed : ℕ
-  pub missing : ℕ
+  pub read : ℕ
+  pub later : ℕ
   pub least : ℕ
   pub most : ℕ
 
 abbrev row : Bool → ℕ → ℕ → ℕ → ℕ → Row
-row high needed missing least most = record { high = high; needed = needed; missing = missing; least = least; most = most }
+row high read later least most = record { high = high; read = read; later = later; least = least; most = most }
+
+-- how many continuations the lead needs
+abbrev pub needed : Row → ℕ
+needed r = suc (r.read + r.later)
 
 -- two rows with these numbers, without and with a high surrogate directly before, and then the rows rs
 abbrev both : ℕ → ℕ → ℕ → ℕ → List Row → List Row
-both needed missing least most rs = row false needed missing least most ∷ row true needed missing least most ∷ rs
+both read later least most rs = row false read later least most ∷ row true read later least most ∷ rs
 
 -- the open sequences that each state means
 abbrev pub rows : State → List Row
 rows Between = []
 rows BehindHigh = []
-rows OneMore = both 1 1 2 0x1F (both 2 1 0x20 0x35F (row false 2 1 0x370 0x3FF ∷ row true 2 1 0x380 0x3FF ∷ both 3 1 0x400 0x43FF []))
-rows TwoMore = both 2 2 1 0xC (both 2 2 0xE 0xF (both 3 2 0x10 0x10F []))
-rows BehindE0 = both 2 2 0 0 []
-rows BehindEd = row false 2 2 0xD 0xD ∷ []
-rows HighThenEd = row true 2 2 0xD 0xD ∷ []
-rows LastOfHigh = both 2 1 0x360 0x36F []
-rows BehindF0 = both 3 3 0 0 []
-rows BehindF1 = both 3 3 1 3 []
-rows BehindF4 = both 3 3 4 4 []
-rows BehindF5 = both 3 3 5 0xF []
-rows BadLastTwo = both 3 2 0 0xF (both 3 2 0x110 0x3FF [])
-rows BadFourth = both 3 1 0 0x3FF (both 3 1 0x4400 0xFFFF [])
+rows OneMore = both 0 0 2 0x1F (both 1 0 0x20 0x35F (row false 1 0 0x370 0x3FF ∷ row true 1 0 0x380 0x3FF ∷ both 2 0 0x400 0x43FF []))
+rows TwoMore = both 0 1 1 0xC (both 0 1 0xE 0xF (both 1 1 0x10 0x10F []))
+rows BehindE0 = both 0 1 0 0 []
+rows BehindEd = row false 0 1 0xD 0xD ∷ []
+rows HighThenEd = row true 0 1 0xD 0xD ∷ []
+rows LastOfHigh = both 1 0 0x360 0x36F []
+rows BehindF0 = both 0 2 0 0 []
+rows BehindF1 = both 0 2 1 3 []
+rows BehindF4 = both 0 2 4 4 []
+rows BehindF5 = both 0 2 5 0xF []
+rows BadLastTwo = both 1 1 0 0xF (both 1 1 0x110 0x3FF [])
+rows BadFourth = both 2 0 0 0x3FF (both 2 0 0x4400 0xFFFF [])
 rows Refused = []
-rows BadThird = both 2 1 0 0x1F (row true 2 1 0x370 0x37F ∷ [])
+rows BadThird = both 1 0 0 0x1F (row true 1 0 0x370 0x37F ∷ [])
 
 -- P holds of some row
 abbrev pub SomeRow : (Row → Type 0) → List Row → Type 0
@@ -85,34 +89,25 @@ kept_bits (suc (suc (suc n))) bits = bits % 0x40_0000
 abbrev pub joined_bits : ℕ → ℕ → ℕ
 joined_bits bits byte = bits % 0x400_0000 * 0x40 + byte % 0x40
 
--- the bytes are an open sequence of this row
-pub record IsOpen (high : Bool) (bits : ℕ) (open_bytes : List ℕ) (r : Row) : Type 0 where
-  pub high_is : r.high ≡ high
-  pub lead : ℕ
-  pub behind : List ℕ
-  pub is : open_bytes ≡ lead ∷ behind
-  pub begun : IsSequenceStart lead behind
-  pub needed_is : r.needed ≡ needed_continuations lead
-  pub missing_is : length behind + r.missing ≡ r.needed
-  pub some_missing : 1 ≤ r.missing
-  pub least_is : r.least ≤ shape_value lead behind
-  pub most_is : shape_value lead behind ≤ r.most
-  pub bits_are : 2 ≤ r.needed → kept_bits (length behind) bits ≡ shape_value lead behind
-
--- the bytes are an open sequence that this state has, after a high surrogate or not
-abbrev pub IsOpenIn : State → Bool → ℕ → List ℕ → Type 0
-IsOpenIn Between high bits open_bytes = (open_bytes ≡ []) × (high ≡ false)
-IsOpenIn BehindHigh high bits open_bytes = (open_bytes ≡ []) × (high ≡ true)
-IsOpenIn s high bits open_bytes = SomeRow (IsOpen high bits open_bytes) (rows s)
-
--- the bytes spell code points up to an index, and what follows is open in this state with these bits
-pub record Stands (state : State) (bits : ℕ) (bytes : List ℕ) : Type 0 where
+-- whatever comes after the bytes, the reader gives code points for them, and then these items for what comes
+pub record Gives (bytes : List ℕ) (behind : List ℕ → List (Result ℕ EncodingError)) : Type 0 where
+  pub are_bytes : All IsByte bytes
   pub code_points : List ℕ
-  pub before : List ℕ
-  pub open_bytes : List ℕ
-  pub joined : bytes ≡ before ++ open_bytes
-  pub spelled : Encodes before code_points
-  pub opened : IsOpenIn state (is_high (last_or 0 code_points)) bits open_bytes
+  pub items : (more : List ℕ) → items_after false (bytes ++ more) ≡ map Ok code_points ++ behind more
+
+-- the bytes end within a sequence of this row, of which the reader has this value so far
+pub record IsOpen (bits : ℕ) (bytes : List ℕ) (r : Row) : Type 0 where
+  pub value : ℕ
+  pub given : Gives bytes (λ more. items_from (split_within r.high (needed r) (suc r.later) value more))
+  pub least_is : r.least ≤ value
+  pub most_is : value ≤ r.most
+  pub bits_are : 2 ≤ needed r → kept_bits r.read bits ≡ value
+
+-- after the bytes the reader is where this state says, with these bits
+abbrev pub Stands : State → ℕ → List ℕ → Type 0
+Stands Between bits bytes = Gives bytes (items_after false)
+Stands BehindHigh bits bytes = Gives bytes (items_after true)
+Stands s bits bytes = SomeRow (IsOpen bits bytes) (rows s)
 
 -- the fault of a continuation that is refused in this state
 abbrev pub value_fault : State → ℕ → ℕ → EncodingError

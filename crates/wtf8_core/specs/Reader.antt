@@ -44,6 +44,15 @@ first_item after_high b bytes =
     else (if nat_lt b 0xC2 then Err (Byte b)
     else and_then_checked after_high (needed_continuations b) (with_continuations (lead_bits b) (needed_continuations b) bytes))
 
+-- the item with which the bytes begin, and the bytes after it
+abbrev pub first_split : Bool → List ℕ → Result ℕ EncodingError × List ℕ
+first_split after_high [] = (Err End, [])
+first_split after_high (b ∷ bytes) = (first_item after_high b bytes, drop (behind_item b bytes) bytes)
+
+-- the same within a sequence that needs n continuations, of which m are missing, with the value so far
+unfoldable pub split_within : Bool → ℕ → ℕ → ℕ → List ℕ → Result ℕ EncodingError × List ℕ
+split_within after_high n m value bytes = (and_then_checked after_high n (with_continuations value m bytes), drop (continuations m bytes) bytes)
+
 -- an item and the items after it; those after a fault are read as if no high surrogate came before them
 abbrev pub then_items : Result ℕ EncodingError → (Bool → List (Result ℕ EncodingError)) → List (Result ℕ EncodingError)
 then_items (Ok c) behind = Ok c ∷ behind (is_high c)
@@ -54,6 +63,10 @@ unfoldable pub items_behind : ℕ → Bool → List ℕ → List (Result ℕ Enc
 items_behind n after_high [] = []
 items_behind (suc n) after_high (b ∷ bytes) = items_behind n after_high bytes
 items_behind zero after_high (b ∷ bytes) = then_items (first_item after_high b bytes) (λ h. items_behind (behind_item b bytes) h bytes)
+
+-- an item and the items of the bytes after it
+abbrev pub items_from : Result ℕ EncodingError × List ℕ → List (Result ℕ EncodingError)
+items_from split = then_items split.0 (λ h. items_behind 0 h split.1)
 
 -- whether an item is a high surrogate
 abbrev pub is_high_item : Result ℕ EncodingError → Bool

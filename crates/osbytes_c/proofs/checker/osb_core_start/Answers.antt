@@ -1,14 +1,9 @@
 use Rattle.std.proofs.Common.{[], refl}
+use Rattle.std.proofs.lemmas.List.Elements.{All-nil}
+use Rattle.wtf8_core.specs.Byte.{IsByte}
 use Rattle.wtf8_core.specs.Table.{state_at}
 use Rattle.osbytes_c.proofs.checker.osb_core_start.Goals as goal
 
 pub returns : goal.returns
 unfolding state_at
-returns c = record {
-  code_points = [];
-  before = [];
-  open_bytes = [];
-  joined = refl;
-  spelled = record { code_points = tt; paired_free = tt; joined = refl };
-  opened = (refl, refl);
-}
+returns c = record { are_bytes = All-nil IsByte; code_points = []; items = λ more. refl }

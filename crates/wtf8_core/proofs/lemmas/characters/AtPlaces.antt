@@ -1,10 +1,9 @@
 -- Whole characters: where the reader finds them, and what their indices are.
-use Rattle.wtf8_core.proofs.Common.{◌≡◌, ℕ, ◌+◌, ◌-◌, ◌<◌, ◌≤◌, true, false, List, ◌∷◌, ◌++◌, length, take, drop, get_or, Option, Some, None, Result, Ok, Err, refl, sym, ap, ◌∙◌, subst, arith, length-append, take-append-drop, IsScalar, needed_continuations, is_surrogate, is_high, IsCodePoint, encode, WholeCharacter, IsCharacterAt, first_item, items_behind, IsUtf8, IsUtf8-encode, take_at, drop_at, length-take-le, nat_tests, common_steps, low_scalar, EncodingError}
-use Rattle.wtf8_core.proofs.lemmas.reader.Reading.{items-ok, items-err}
+use Rattle.wtf8_core.proofs.Common.{◌≡◌, ℕ, ◌+◌, ◌-◌, ◌<◌, ◌≤◌, true, false, List, ◌∷◌, ◌++◌, length, take, drop, get_or, Option, Some, None, Ok, Err, refl, sym, ap, ◌∙◌, subst, arith, length-append, take-append-drop, IsScalar, needed_continuations, is_surrogate, IsCodePoint, encode, WholeCharacter, IsCharacterAt, first_item, first_split, IsUtf8, IsUtf8-encode, take_at, drop_at, length-take-le, nat_tests, common_steps, low_scalar, EncodingError}
 use Rattle.wtf8_core.proofs.lemmas.reader.Sound.{split_code_point}
 use Rattle.wtf8_core.proofs.lemmas.forms.Shapes.{form_ascii, form_bounds}
 use Rattle.wtf8_core.proofs.lemmas.forms.ByStd.{form_encode, form_same}
-use Rattle.wtf8_core.proofs.lemmas.reader.Complete.{item_of_form}
+use Rattle.wtf8_core.proofs.lemmas.reader.Complete.{split_of_form}
 
 -- no character begins the bytes
 abbrev pub NoChar : List ℕ → Type 0
@@ -36,13 +35,8 @@ unfolding encode
 form_length c rest p h = grind (arith, nat_tests)
 
 -- the character that begins bytes is their first item
-first_of_char : (b c : ℕ) (bs rest : List ℕ) → IsScalar c → b ∷ bs ≡ encode c ++ rest → (r : Result ℕ EncodingError) → first_item false b bs ≡ r → r ≡ Ok c
-first_of_char b c bs rest s d r k =
-    by r k (ap (items_behind 0 false) d ∙ item_of_form 0 c rest (scalar_point c s) (λ h l. omega (arith, h.0)))
-  where
-    by : (r : Result ℕ EncodingError) → first_item false b bs ≡ r → items_behind 0 false (b ∷ bs) ≡ Ok c ∷ items_behind 0 (is_high c) rest → r ≡ Ok c
-    by (Ok a) k e = let h = items-ok false b a bs k in cc
-    by (Err f) k e = let h = items-err false b f bs k in cc
+first_of_char : (b c : ℕ) (bs rest : List ℕ) → IsScalar c → b ∷ bs ≡ encode c ++ rest → first_item false b bs ≡ Ok c
+first_of_char b c bs rest s d = ap (λ s. s.0) (ap (first_split false) d ∙ split_of_form 0 c rest (scalar_point c s) (λ h l. omega (arith, h.0)))
 
 -- a whole character at an index is one at the start of the bytes from there on
 pub whole_at : (s : List ℕ) (i c : ℕ) (rest : List ℕ) → i ≤ length s → IsScalar c → drop i s ≡ encode c ++ rest → WholeCharacter s i (i + length (encode c))
@@ -83,10 +77,10 @@ pub none_in_none : (bytes : List ℕ) → length bytes ≡ 0 → (j : ℕ) → W
 none_in_none bytes h j w = let f = character_fits bytes 0 j w in omega arith
 
 pub none_at_surrogate : (bytes : List ℕ) (b c : ℕ) (bs : List ℕ) → bytes ≡ b ∷ bs → first_item false b bs ≡ Ok c → is_surrogate c ≡ true → (j : ℕ) → WholeCharacter bytes 0 j → ⊥
-none_at_surrogate bytes b c bs d e s = none_at bytes 0 (λ a rest k i. let o : Ok c ≡ Ok a = first_of_char b a bs rest k (sym d ∙ i) (Ok c) e in let q : a ≡ c = cc in scalar_no_surrogate c (subst IsScalar q k) s)
+none_at_surrogate bytes b c bs d e s = none_at bytes 0 (λ a rest k i. let o : Ok c ≡ Ok a = sym e ∙ first_of_char b a bs rest k (sym d ∙ i) in let q : a ≡ c = cc in scalar_no_surrogate c (subst IsScalar q k) s)
 
 pub none_at_fault : (bytes : List ℕ) (b : ℕ) (f : EncodingError) (bs : List ℕ) → bytes ≡ b ∷ bs → first_item false b bs ≡ Err f → (j : ℕ) → WholeCharacter bytes 0 j → ⊥
-none_at_fault bytes b f bs d e = none_at bytes 0 (λ a rest k i. let o : Err f ≡ Ok a = first_of_char b a bs rest k (sym d ∙ i) (Err f) e in cc)
+none_at_fault bytes b f bs d e = none_at bytes 0 (λ a rest k i. let o : Err f ≡ Ok a = sym e ∙ first_of_char b a bs rest k (sym d ∙ i) in cc)
 
 pub none_past : (s : List ℕ) (i : ℕ) → length s ≤ i → (j : ℕ) → WholeCharacter s i j → ⊥
 none_past s i h j w = let f = character_fits s i j w in omega arith

@@ -1,82 +1,46 @@
 -- The reader gives what the definitions say, whatever the bytes begin with: so bytes have one list of items.
-use Rattle.wtf8_core.proofs.Common.{◌≡◌, inl, inr, ⊎_elim, ℕ, suc, ◌⊎◌, ◌<◌, ◌≤◌, Bool, false, List, [], ◌∷◌, ◌++◌, length, drop, map, Result, Ok, Err, refl, sym, ap, ◌∙◌, subst, arith, append_assoc, drop-append_seam, append-nil, cases_lt, nat_tests, AllByRecursion, flat_map, IsInRange, IsLead, needed_continuations, IsHigh, IsLow, is_high, IsCodePoint, encode, HasNoSurrogatePair, last_or, Encodes, IsWholeSequence, shape_value, IsIncomplete, IsBadSequence, IsRefused, BeginsFault, IsFirstFault, with_continuations, lead_bits, least_value, checked_value, and_then_checked, continuations, behind_item, first_item, items_behind, items_after, AreItems, EncodingError, Byte, CodePoint, End, Utf8}
+use Rattle.wtf8_core.proofs.Common.{◌≡◌, inl, inr, ⊎_elim, ℕ, suc, ◌⊎◌, ◌<◌, ◌≤◌, Bool, false, List, [], ◌∷◌, ◌++◌, length, map, Result, Ok, Err, refl, sym, ap, ◌∙◌, subst, arith, append_assoc, append-nil, cases_lt, nat_tests, AllByRecursion, flat_map, needed_continuations, IsHigh, IsLow, is_high, IsCodePoint, encode, HasNoSurrogatePair, last_or, Encodes, IsWholeSequence, shape_value, IsIncomplete, IsBadSequence, IsRefused, BeginsFault, IsFirstFault, lead_bits, least_value, checked_value, items_behind, items_after, first_split, split_within, items_from, true, ◌-◌, length-append, AreItems, EncodingError, Byte, CodePoint, End, Utf8}
 use Rattle.wtf8_core.specs.Items.AreItems.{Whole, Faulty}
 use Rattle.wtf8_core.proofs.lemmas.reader.FirstErr.{same_oks, no_err, same_faulty}
-use Rattle.wtf8_core.proofs.lemmas.reader.Reading.{items-ok, items-step-err, items_behind-drop, first_ascii}
-use Rattle.wtf8_core.proofs.lemmas.forms.Shapes.{form_ascii, form_parts, shape_is_form, long_shape, long_value}
-use Rattle.wtf8_core.proofs.lemmas.reader.Continuations.{joins_all, joins_short, none_at_end, none_at_break, counts_all, counts_short, none_counted_at_end, none_counted_at_break}
-
--- how many bytes after the first belong to its item
-behind_item-none : (b : ℕ) (bs : List ℕ) → b < 0xC2 → behind_item b bs ≡ 0
-unfolding behind_item
-behind_item-none b bs h = grind (arith, nat_tests)
-
-behind_item-lead : (b : ℕ) (bs : List ℕ) → 0xC2 ≤ b → behind_item b bs ≡ continuations (needed_continuations b) bs
-unfolding behind_item
-behind_item-lead b bs h = grind (arith, nat_tests)
-
--- the first item of a lead, and of a shape
-first_lead : (h : Bool) (b : ℕ) (bs : List ℕ) → IsLead b → first_item h b bs ≡ and_then_checked h (needed_continuations b) (with_continuations (lead_bits b) (needed_continuations b) bs)
-unfolding first_item
-first_lead h b bs l = grind (arith, nat_tests, l)
-
-first_shape : (h : Bool) (b : ℕ) (ks rest : List ℕ) → IsWholeSequence b ks → first_item h b (ks ++ rest) ≡ checked_value h (needed_continuations b) (shape_value b ks)
-unfolding and_then_checked
-first_shape h b ks rest s =
-    first_lead h b (ks ++ rest) s.begun.lead_is
-    ∙ ap (λ n. and_then_checked h (needed_continuations b) (with_continuations (lead_bits b) n (ks ++ rest))) (sym s.whole)
-    ∙ ap (and_then_checked h (needed_continuations b)) (joins_all (lead_bits b) ks rest s.begun.continued)
-
--- its continuations belong to the item
-behind_shape : (b : ℕ) (ks rest : List ℕ) → IsWholeSequence b ks → behind_item b (ks ++ rest) ≡ length ks
-behind_shape b ks rest s = behind_item-lead b (ks ++ rest) s.begun.lead_is.0 ∙ ap (λ n. continuations n (ks ++ rest)) (sym s.whole) ∙ counts_all ks rest s.begun.continued
-
--- and so those of a form do
-pub behind_form : (c : ℕ) (rest : List ℕ) → IsCodePoint c → (b : ℕ) (bs : List ℕ) → b ∷ bs ≡ encode c ++ rest → drop (behind_item b bs) bs ≡ rest
-behind_form c rest k b bs e =
-    ⊎_elim
-    (λ h. let q : b ∷ bs ≡ c ∷ rest = e ∙ ap (λ x. x ++ rest) (form_ascii c h) in
-    let first : b ≡ c = cc in
-    let same : bs ≡ rest = cc in
-    ap (λ n. drop n bs) (behind_item-none b bs (omega (arith, first, h))) ∙ same)
-    (λ l. let f = form_parts c in
-    let q : b ∷ bs ≡ f.lead ∷ (f.behind ++ rest) = e ∙ ap (λ x. x ++ rest) f.is in
-    let first : b ≡ f.lead = cc in
-    let same : bs ≡ f.behind ++ rest = cc in
-    ap (λ x. drop (behind_item x bs) bs) first
-    ∙ ap (λ x. drop (behind_item f.lead x) x) same
-    ∙ ap (λ n. drop n (f.behind ++ rest)) (behind_shape f.lead f.behind rest (long_shape c f.lead f.behind f.is l k))
-    ∙ drop-append_seam f.behind rest)
-    (cases_lt c 0x80)
+use Rattle.wtf8_core.proofs.lemmas.reader.Reading.{split-ascii, split-stray, split-lead, within-broken, within-end, within-whole, items-split}
+use Rattle.wtf8_core.proofs.lemmas.forms.Ranges.{in_range, in_range-true}
+use Rattle.wtf8_core.proofs.lemmas.forms.Shapes.{form_ascii, form_bounds, form_parts, shape_is_form, long_shape, long_value}
+use Rattle.wtf8_core.proofs.lemmas.reader.Continuations.{within_all}
 
 -- what the reader says of a value
-pub when_good : (p n v : ℕ) → least_value n ≤ v → v ≤ 0x10_FFFF → (IsHigh p → IsLow v → ⊥) → checked_value (is_high p) n v ≡ Ok v
+pub when_good : (h : Bool) (n v : ℕ) → least_value n ≤ v → v ≤ 0x10_FFFF → (h ≡ true → IsLow v → ⊥) → checked_value h n v ≡ Ok v
 unfolding checked_value
-when_good p n v low high free = grind (arith, nat_tests, free)
+when_good h n v low high free = grind (arith, nat_tests, free)
 
--- the first item of a form of two bytes or more
-item_of_long : (p c : ℕ) (rest : List ℕ) → IsCodePoint c → (IsHigh p → IsLow c → ⊥) → 0x80 ≤ c
-    → items_behind 0 (is_high p) (encode c ++ rest) ≡ Ok c ∷ items_behind 0 (is_high c) rest
-item_of_long p c rest k free long =
-    let f = form_parts c in
-    let lead = f.lead in
-    let bs = f.behind ++ rest in
-    let s = long_shape c lead f.behind f.is long k in
-    let v = long_value c lead f.behind f.is long k in
-    let o : first_item (is_high p) lead bs ≡ Ok c = first_shape (is_high p) lead f.behind rest s ∙ ap (checked_value (is_high p) (needed_continuations lead)) v.0 ∙ when_good p (needed_continuations lead) c v.1 k free in
-    let n : behind_item lead bs ≡ length f.behind = behind_shape lead f.behind rest s in
-    ap (λ x. items_behind 0 (is_high p) (x ++ rest)) f.is
-    ∙ items-ok (is_high p) lead c bs o
-    ∙ ap (λ x. Ok c ∷ x) (items_behind-drop (behind_item lead bs) (is_high c) bs ∙ ap (λ m. items_behind 0 (is_high c) (drop m bs)) n ∙ ap (items_behind 0 (is_high c)) (drop-append_seam f.behind rest))
+pub when_bad : (h : Bool) (n v : ℕ) → (v < least_value n) ⊎ ((0x10_FFFF < v) ⊎ ((h ≡ true) × IsLow v)) → checked_value h n v ≡ Err (CodePoint v)
+unfolding checked_value
+when_bad h n v b = grind (arith, nat_tests, b)
 
--- the first item of a form, if its code point may come there
+-- a whole sequence is read as its value
+split_of_shape : (h : Bool) (b : ℕ) (ks rest : List ℕ) → IsWholeSequence b ks → first_split h (b ∷ ks ++ rest) ≡ (checked_value h (needed_continuations b) (shape_value b ks), rest)
+split_of_shape h b ks rest s =
+    let n = needed_continuations b in
+    split-lead h b (ks ++ rest) s.begun.lead_is.0
+    ∙ within_all h n 0 n (lead_bits b) ks rest s.begun.continued (omega (arith, s.whole))
+    ∙ within-whole h n (shape_value b ks) rest
+
+-- a form as its code point, if that may come there
+pub split_of_form : (p c : ℕ) (rest : List ℕ) → IsCodePoint c → (IsHigh p → IsLow c → ⊥) → first_split (is_high p) (encode c ++ rest) ≡ (Ok c, rest)
+split_of_form p c rest k free =
+    ⊎_elim
+    (λ h. ap (λ x. first_split (is_high p) (x ++ rest)) (form_ascii c h) ∙ split-ascii (is_high p) c rest h)
+    (λ l. let f = form_parts c in
+    let v = long_value c f.lead f.behind f.is l k in
+    ap (λ x. first_split (is_high p) (x ++ rest)) f.is
+    ∙ split_of_shape (is_high p) f.lead f.behind rest (long_shape c f.lead f.behind f.is l k)
+    ∙ ap (λ x. (checked_value (is_high p) (needed_continuations f.lead) x, rest)) v.0
+    ∙ ap (λ x. (x, rest)) (when_good (is_high p) (needed_continuations f.lead) c v.1 k (λ e. free (in_range-true 0xD800 0xDBFF p e))))
+    (cases_lt c 0x80)
+
 pub item_of_form : (p c : ℕ) (rest : List ℕ) → IsCodePoint c → (IsHigh p → IsLow c → ⊥) → items_behind 0 (is_high p) (encode c ++ rest) ≡ Ok c ∷ items_behind 0 (is_high c) rest
 item_of_form p c rest k free =
-    ⊎_elim
-    (λ h. ap (λ x. items_behind 0 (is_high p) (x ++ rest)) (form_ascii c h) ∙ items-ok (is_high p) c c rest (first_ascii (is_high p) c rest h)
-    ∙ ap (λ m. Ok c ∷ items_behind m (is_high c) rest) (behind_item-none c rest (omega arith)))
-    (λ h. item_of_long p c rest k free h)
-    (cases_lt c 0x80)
+    let l = form_bounds c in
+    items-split (is_high p) (encode c ++ rest) (omega (arith, length-append (encode c) rest)) ∙ ap items_from (split_of_form p c rest k free)
 
 -- the items of forms that come before a rest
 pub items_of_spelled : (p : ℕ) (cs rest : List ℕ) → AllByRecursion IsCodePoint cs → HasNoSurrogatePair (p ∷ cs)
@@ -87,77 +51,57 @@ items_of_spelled p (c ∷ cs) rest a f =
     ∙ item_of_form p c (flat_map encode cs ++ rest) a.0 f.0
     ∙ ap (λ x. Ok c ∷ x) (items_of_spelled c cs rest a.1 f.1)
 
--- the first item of a stray byte
-first_stray : (h : Bool) (x : ℕ) (bs : List ℕ) → IsInRange 0x80 0xC1 x → first_item h x bs ≡ Err (Byte x)
-unfolding first_item
-first_stray h x bs s = grind (arith, nat_tests, s)
-
--- a value that is bad for p
-abbrev IsBad : ℕ → ℕ → ℕ → Type 0
-IsBad p n v = (v < least_value n) ⊎ ((0x10_FFFF < v) ⊎ (IsHigh p × IsLow v))
-
-when_bad : (p n v : ℕ) → IsBad p n v → checked_value (is_high p) n v ≡ Err (CodePoint v)
-unfolding checked_value
-when_bad p n v b = grind (arith, nat_tests, b)
-
--- a bad shape has such a value
-is_bad : (p value : ℕ) (r : List ℕ) (s : IsBadSequence p r value) → IsBad p (needed_continuations s.lead) (shape_value s.lead s.behind)
+-- a bad shape has a value that is refused
+is_bad : (p value : ℕ) (r : List ℕ) (s : IsBadSequence p r value) → checked_value (is_high p) (needed_continuations s.lead) (shape_value s.lead s.behind) ≡ Err (CodePoint value)
 is_bad p value r s =
     let v = shape_value s.lead s.behind in
-    ⊎_elim inl (λ low. inr (⊎_elim inl (λ most. inr (⊎_elim (λ none. absurd (none v most (shape_is_form s.lead s.behind s.shape low ∙ sym s.is))) (λ k. (k.2, subst IsLow (sym s.value_is) k.1)) s.bad)) (cases_lt 0x10_FFFF v))) (cases_lt v (least_value (needed_continuations s.lead)))
+    let n = needed_continuations s.lead in
+    when_bad (is_high p) n v
+    (⊎_elim inl
+    (λ low. inr (⊎_elim inl
+    (λ most. inr (⊎_elim (λ none. absurd (none v most (shape_is_form s.lead s.behind s.shape low ∙ sym s.is))) (λ k. (in_range 0xD800 0xDBFF p k.2, subst IsLow (sym s.value_is) k.1)) s.bad))
+    (cases_lt 0x10_FFFF v)))
+    (cases_lt v (least_value n)))
+    ∙ ap (λ x. Err (CodePoint x)) s.value_is
 
--- the first byte of what is refused, and how the reader reads it: its item is the fault, and the other bytes belong to it
-record RefusedParts (p : ℕ) (refused rest : List ℕ) (f : EncodingError) : Type 0 where
-  first : ℕ
-  behind : List ℕ
-  is : refused ≡ first ∷ behind
-  item : first_item (is_high p) first (behind ++ rest) ≡ Err f
-  counted : behind_item first (behind ++ rest) ≡ length behind
+-- too few continuations are read as what comes after them
+split_of_start : (h : Bool) (refused rest : List ℕ) (r : Result ℕ EncodingError × List ℕ) → IsIncomplete refused → ((n m v : ℕ) → split_within h n (suc m) v rest ≡ r) → first_split h (refused ++ rest) ≡ r
+split_of_start h refused rest r g e =
+    let n = needed_continuations g.lead in
+    let m = n - suc (length g.behind) in
+    ap (λ z. first_split h (z ++ rest)) g.is
+    ∙ split-lead h g.lead (g.behind ++ rest) g.begun.lead_is.0
+    ∙ within_all h n (suc m) n (lead_bits g.lead) g.behind rest g.begun.continued (omega (arith, g.short))
+    ∙ e n m (shape_value g.lead g.behind)
 
--- too few continuations, before a byte that is none
-parts_of_short : (p : ℕ) (refused rest : List ℕ) (f : EncodingError) → IsIncomplete refused → ((w m : ℕ) → with_continuations w (suc m) rest ≡ Err f) → ((m : ℕ) → continuations m rest ≡ 0) → RefusedParts p refused rest f
-unfolding and_then_checked
-parts_of_short p refused rest f g e z = record {
-  first = g.lead;
-  behind = g.behind;
-  is = g.is;
-  item = first_lead (is_high p) g.lead _ g.begun.lead_is ∙ ap (and_then_checked (is_high p) (needed_continuations g.lead)) (joins_short (lead_bits g.lead) (needed_continuations g.lead) g.behind rest f g.begun.continued g.short e);
-  counted = behind_item-lead g.lead (g.behind ++ rest) g.begun.lead_is.0 ∙ counts_short (needed_continuations g.lead) g.behind rest g.begun.continued g.short z;
-}
+split_of_refused : (p : ℕ) (refused rest : List ℕ) (f : EncodingError) → IsRefused p refused rest f → first_split (is_high p) (refused ++ rest) ≡ (Err f, rest)
+split_of_refused p refused rest (Byte x) (inl s) = ap (λ z. first_split (is_high p) (z ++ rest)) s.is ∙ split-stray (is_high p) x rest s.stray
+split_of_refused p refused rest (Byte x) (inr s) =
+    split_of_start (is_high p) refused rest (Err (Byte x), rest) s.begun
+    (λ n m v. ap (split_within (is_high p) n (suc m) v) s.next ∙ within-broken (is_high p) n m v x s.after s.breaks ∙ ap (λ z. (Err (Byte x), z)) (sym s.next))
+split_of_refused p refused rest End s =
+    split_of_start (is_high p) refused rest (Err End, rest) s.0 (λ n m v. ap (split_within (is_high p) n (suc m) v) s.1 ∙ within-end (is_high p) n m v ∙ ap (λ z. (Err End, z)) (sym s.1))
+split_of_refused p refused rest (CodePoint value) s =
+    ap (λ z. first_split (is_high p) (z ++ rest)) s.is ∙ split_of_shape (is_high p) s.lead s.behind rest s.shape ∙ ap (λ z. (z, rest)) (is_bad p value refused s)
+split_of_refused p refused rest (Utf8 i j) s = absurd s
 
-refused_parts : (p : ℕ) (refused rest : List ℕ) (f : EncodingError) → IsRefused p refused rest f → RefusedParts p refused rest f
-refused_parts p refused rest (Byte x) (inl s) = record { first = x; behind = []; is = s.is; item = first_stray (is_high p) x rest s.stray; counted = behind_item-none x rest (omega (arith, s.stray.1)) }
-refused_parts p refused rest (Byte x) (inr s) =
-    parts_of_short p refused rest (Byte x) s.begun (λ w m. ap (with_continuations w (suc m)) s.next ∙ none_at_break x s.after s.breaks w m)
-    (λ m. ap (continuations m) s.next ∙ none_counted_at_break x s.after s.breaks m)
-refused_parts p refused rest End s = parts_of_short p refused rest End s.0 (λ w m. ap (with_continuations w (suc m)) s.1 ∙ none_at_end w m) (λ m. ap (continuations m) s.1 ∙ none_counted_at_end m)
-refused_parts p refused rest (CodePoint value) s = record {
-  first = s.lead;
-  behind = s.behind;
-  is = s.is;
-  item = first_shape (is_high p) s.lead s.behind rest s.shape
-      ∙ when_bad p (needed_continuations s.lead) (shape_value s.lead s.behind) (is_bad p value refused s)
-      ∙ ap (λ v. Err (CodePoint v)) s.value_is;
-  counted = behind_shape s.lead s.behind rest s.shape;
-}
-refused_parts p refused rest (Utf8 i j) s = absurd s
+-- bytes that begin with a fault are read as it
+pub split_of_fault : (p : ℕ) (r : List ℕ) (f : EncodingError) → (s : BeginsFault p r f) → first_split (is_high p) r ≡ (Err f, s.rest)
+split_of_fault p r f s = ap (first_split (is_high p)) s.is ∙ split_of_refused p s.refused s.rest f s.refusal
+
+-- what is refused has a byte
+pub refused_some : (last : ℕ) (refused rest : List ℕ) (f : EncodingError) → IsRefused last refused rest f → 0 < length refused
+refused_some last refused rest (Byte x) (inl s) = let e = ap length s.is in omega arith
+refused_some last refused rest (Byte x) (inr s) = let e = ap length s.begun.is in omega arith
+refused_some last refused rest End s = let e = ap length s.0.is in omega arith
+refused_some last refused rest (CodePoint value) s = let e = ap length s.is in omega arith
+refused_some last refused rest (Utf8 i j) s = absurd s
 
 -- the items of a fault: it, and those of what follows the refused part
-pub items_of_fault : (p : ℕ) (r : List ℕ) (f : EncodingError) → (s : BeginsFault p r f) → items_behind 0 (is_high p) r ≡ Err f ∷ items_behind 0 false s.rest
+items_of_fault : (p : ℕ) (r : List ℕ) (f : EncodingError) → (s : BeginsFault p r f) → items_behind 0 (is_high p) r ≡ Err f ∷ items_behind 0 false s.rest
 items_of_fault p r f s =
-    let w = refused_parts p s.refused s.rest f s.refusal in
-    ap (items_behind 0 (is_high p)) (s.is ∙ ap (λ x. x ++ s.rest) w.is)
-    ∙ items-step-err (is_high p) w.first f (w.behind ++ s.rest) s.rest w.item (sym (ap (λ n. drop n (w.behind ++ s.rest)) w.counted ∙ drop-append_seam w.behind s.rest))
-
--- so many bytes are refused
-pub refused_len : (p b : ℕ) (bs : List ℕ) (f : EncodingError) → (s : BeginsFault p (b ∷ bs) f) → (length s.refused ≡ suc (behind_item b bs)) × (s.rest ≡ drop (behind_item b bs) bs)
-refused_len p b bs f s =
-    let w = refused_parts p s.refused s.rest f s.refusal in
-    let q : b ∷ bs ≡ w.first ∷ (w.behind ++ s.rest) = s.is ∙ ap (λ x. x ++ s.rest) w.is in
-    let first : b ≡ w.first = cc in
-    let same : bs ≡ w.behind ++ s.rest = cc in
-    let counted : behind_item b bs ≡ length w.behind = ap (λ x. behind_item x bs) first ∙ ap (behind_item w.first) same ∙ w.counted in
-    (ap length w.is ∙ ap suc (sym counted), sym (ap (λ n. drop n bs) counted ∙ ap (drop (length w.behind)) same ∙ drop-append_seam w.behind s.rest))
+    let l = refused_some p s.refused s.rest f s.refusal in
+    items-split (is_high p) r (omega (arith, ap length s.is ∙ length-append s.refused s.rest)) ∙ ap items_from (split_of_fault p r f s)
 
 -- what begins nothing may come before any code points
 pub behind_zero : (cs : List ℕ) → HasNoSurrogatePair cs → HasNoSurrogatePair (0 ∷ cs)

@@ -1,18 +1,18 @@
 -- The index of the first fault: bytes that have been read up to it.
-use Rattle.wtf8_core.proofs.Common.{◌≡◌, ⊎_elim, ℕ, ◌-◌, Bool, false, List, [], ◌∷◌, ◌++◌, length, take, drop, Result, Ok, Err, refl, sym, ap, ◌∙◌, subst, arith, append_assoc, Fits, w8, get_or, length-append, take-append-drop, drop-append_seam, All, append-nil, All-drop, All-from_get_or, IsByte, is_high, encode, Encodes, IsWtf8, last_or, BeginsFault, IsFaultAt, first_item, behind_item, items_behind, is_high_item, IsFirstItem, IsEncodedPrefix, IsReadUpTo, EncodingError, IsCodePoint, IsLow, suc, flat_map}
-use Rattle.wtf8_core.proofs.lemmas.reader.Complete.{refused_len, item_of_form, items_of_fault, one_fault}
-use Rattle.wtf8_core.proofs.lemmas.reader.Reading.{items-err}
+use Rattle.wtf8_core.proofs.Common.{◌≡◌, ⊎_elim, ℕ, ◌-◌, Bool, false, List, [], ◌∷◌, ◌++◌, length, take, drop, Result, Ok, Err, refl, sym, ap, ◌∙◌, subst, arith, append_assoc, Fits, w8, get_or, length-append, take-append-drop, drop-append_seam, All, append-nil, All-drop, All-from_get_or, IsByte, is_high, encode, Encodes, IsWtf8, last_or, BeginsFault, IsFaultAt, first_item, behind_item, first_split, is_high_item, IsFirstItem, IsEncodedPrefix, IsReadUpTo, EncodingError, IsCodePoint, IsLow, flat_map}
+use Rattle.wtf8_core.proofs.lemmas.reader.Complete.{split_of_form, split_of_fault, one_fault}
 use Rattle.wtf8_core.proofs.lemmas.reader.Sound.{begins, first_form_behind}
 use Rattle.wtf8_core.proofs.lemmas.forms.Appending.{last_append, spells_more}
 use Rattle.wtf8_core.specs.declared.scan.Encoding.TheVariants.{Wtf8}
 
--- a fault is read: it begins there
-fault_in_rest : (p b : ℕ) (f : EncodingError) (bs : List ℕ) → IsByte b → first_item (is_high p) b bs ≡ Err f → BeginsFault p (b ∷ bs) f
+-- a fault is read: it begins there, and as many bytes are refused
+fault_in_rest : (p b : ℕ) (f : EncodingError) (bs : List ℕ) → IsByte b → first_item (is_high p) b bs ≡ Err f → (s : BeginsFault p (b ∷ bs) f) × (s.rest ≡ drop (behind_item b bs) bs)
 fault_in_rest p b f bs u e = ⊎_elim
-    (λ i. let q : Err f ∷ items_behind (behind_item b bs) false bs ≡ Ok i.c ∷ items_behind 0 (is_high i.c) i.rest = sym (items-err (is_high p) b f bs e) ∙ ap (items_behind 0 (is_high p)) i.is ∙ item_of_form p i.c i.rest i.code_point i.free in cc)
-    (λ g. let q : Err f ∷ items_behind (behind_item b bs) false bs ≡ Err g.0 ∷ items_behind 0 false g.1.rest = sym (items-err (is_high p) b f bs e) ∙ items_of_fault p (b ∷ bs) g.0 g.1 in
+    (λ i. let q : Err f ≡ Ok i.c = sym e ∙ ap (λ s. s.0) (ap (first_split (is_high p)) i.is ∙ split_of_form p i.c i.rest i.code_point i.free) in cc)
+    (λ g. let w = split_of_fault p (b ∷ bs) g.0 g.1 in
+    let q : Err g.0 ≡ Err f = sym (ap (λ s. s.0) w) ∙ e in
     let same : g.0 ≡ f = cc in
-    subst (BeginsFault p (b ∷ bs)) same g.1)
+    subst (λ z. (s : BeginsFault p (b ∷ bs) z) × (s.rest ≡ drop (behind_item b bs) bs)) same (g.1, sym (ap (λ s. s.1) w)))
     (begins p b bs u)
 
 -- at the start nothing is read
@@ -61,12 +61,12 @@ module _ {bytes : List ℕ} {h : Bool} {rest later : List ℕ} {item : Result �
   -- the first fault is read
   pub fault_read : (f : EncodingError) → item ≡ Err f → IsFaultAt bytes (length bytes - length rest) (length rest - length later)
   fault_read f e =
-      let s = fault_in_rest p i.first f i.behind first_byte (subst (λ t. first_item t i.first i.behind ≡ Err f) (sym r.high_is) (i.item_is ∙ e)) in
-      let n = refused_len p i.first i.behind f s in
+      let w = fault_in_rest p i.first f i.behind first_byte (subst (λ t. first_item t i.first i.behind ≡ Err f) (sym r.high_is) (i.item_is ∙ e)) in
+      let s = w.0 in
       let all = ap length r.joined ∙ length-append r.front rest in
       let parts = ap length s.is ∙ length-append s.refused s.rest in
       let left = ap length i.is in
-      let behind = ap length (n.1 ∙ sym i.rest_is) in
+      let behind = ap length (w.1 ∙ sym i.rest_is) in
       record {
         code_points = r.code_points;
         fault = f;
@@ -77,13 +77,13 @@ module _ {bytes : List ℕ} {h : Bool} {rest later : List ℕ} {item : Result �
 
 -- as many bytes are refused, whatever comes before them
 refused_once : (p q : ℕ) (b c : List ℕ) (f g : EncodingError) → b ≡ c → (s : BeginsFault p b f) → (t : BeginsFault q c g) → length s.refused ≡ length t.refused
-unfolding items_behind
-refused_once p q [] c f g e s t = let none : [] ≡ Err f ∷ items_behind 0 false s.rest = items_of_fault p [] f s in cc
-refused_once p q (x ∷ b) [] f g e s t = cc
-refused_once p q (x ∷ b) (y ∷ c) f g e s t =
-    let first : x ≡ y = cc in
-    let same : b ≡ c = cc in
-    (refused_len p x b f s).0 ∙ ap (λ z. suc (behind_item z b)) first ∙ ap (λ l. suc (behind_item y l)) same ∙ sym (refused_len q y c g t).0
+refused_once p q b c f g e s t =
+    let rest = ap length (sym (ap (λ z. z.1) (split_of_fault p b f s)) ∙ after_high b ∙ ap (λ z. (first_split (is_high q) z).1) e ∙ ap (λ z. z.1) (split_of_fault q c g t)) in
+    omega (arith, rest, ap length s.is ∙ length-append s.refused s.rest, ap length t.is ∙ length-append t.refused t.rest, ap length e)
+  where
+    after_high : (b : List ℕ) → (first_split (is_high p) b).1 ≡ (first_split (is_high q) b).1
+    after_high [] = refl
+    after_high (x ∷ b) = refl
 
 pub one_fault_place : (bytes : List ℕ) (n m k l : ℕ) → IsFaultAt bytes n k → IsFaultAt bytes m l → (n ≡ m) × (k ≡ l)
 one_fault_place bytes n m k l s t =

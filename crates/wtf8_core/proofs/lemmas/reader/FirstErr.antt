@@ -1,5 +1,5 @@
 -- What a caller that stops at the first `Err` knows. None of these statements is about what comes after that `Err`.
-use Rattle.wtf8_core.proofs.Common.{◌≡◌, ℕ, List, [], ◌∷◌, ◌++◌, map, Result, Ok, Err, refl, sym, ap, ◌∙◌, subst, append_assoc, AllByRecursion, flat_map, append-nil, map-append, IsCodePoint, encode_utf16, HasUnits, units, IsFirstFault, AreItems, AreUnitItems, unit_items, ok_values, EncodingError}
+use Rattle.wtf8_core.proofs.Common.{◌≡◌, ℕ, List, [], ◌∷◌, ◌++◌, map, Result, Ok, Err, refl, sym, ap, ◌∙◌, subst, append_assoc, AllByRecursion, flat_map, append-nil, map-append, IsCodePoint, encode_utf16, HasUnits, units, Encodes, IsFirstFault, AreItems, AreUnitItems, unit_items, ok_values, EncodingError}
 use Rattle.wtf8_core.specs.Items.AreItems.{Whole, Faulty}
 use Rattle.wtf8_core.specs.Encoder.{IsCodePointItem}
 
@@ -37,6 +37,11 @@ same_oks cs ds e = sym (ok_values_of_oks cs) ∙ ap ok_values e ∙ ok_values_of
 pub one_more_ok : (cs : List ℕ) (c : ℕ) (rest : List (Result ℕ EncodingError)) → oks cs ++ Ok c ∷ rest ≡ oks (cs ++ c ∷ []) ++ rest
 one_more_ok [] c rest = refl
 one_more_ok (x ∷ cs) c rest = ap (λ l. Ok x ∷ l) (one_more_ok cs c rest)
+
+-- items that are all Ok are the code points of bytes
+pub items_all_ok : (bytes cs : List ℕ) → AreItems bytes (oks cs) → Encodes bytes cs
+items_all_ok bytes cs (Whole r) = subst (Encodes bytes) (same_oks r.code_points cs (sym r.are)) r.spelled
+items_all_ok bytes cs (Faulty {later = later} r l) = absurd (no_err cs r.code_points r.fault later r.are)
 
 -- the first Err is the first fault
 pub items_first_err : (bytes cs : List ℕ) (f : EncodingError) (rest : List (Result ℕ EncodingError)) → AreItems bytes (oks cs ++ Err f ∷ rest) → IsFirstFault bytes cs f

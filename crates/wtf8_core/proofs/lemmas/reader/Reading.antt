@@ -1,5 +1,5 @@
 -- The reader's definitions, one step at a time.
-use Rattle.wtf8_core.proofs.Common.{◌≡◌, ℕ, zero, suc, ◌+◌, ◌-◌, ◌*◌, ◌%◌, ◌<◌, ◌≤◌, Bool, true, false, cond, ltb, List, [], ◌∷◌, length, drop, Result, Ok, Err, refl, sym, ap, ◌∙◌, arith, sub-one, nat_tests, is_in_range, is_high, with_continuations, first_item, and_then_checked, continuations, behind_item, items_behind, then_items, lead_bits, IsFirstItem, needed_continuations, cond-false, le-ltb, EncodingError, Byte}
+use Rattle.wtf8_core.proofs.Common.{◌≡◌, ℕ, zero, suc, ◌+◌, ◌-◌, ◌*◌, ◌%◌, ◌<◌, ◌≤◌, Bool, true, false, cond, ltb, List, [], ◌∷◌, length, drop, Result, Ok, Err, refl, sym, ap, ◌∙◌, arith, sub-one, nat_tests, is_in_range, is_high, with_continuations, first_item, and_then_checked, continuations, behind_item, items_behind, then_items, lead_bits, IsFirstItem, needed_continuations, cond-false, le-ltb, EncodingError, Byte, End, IsInRange, IsContinuation, checked_value, first_split, split_within, items_from}
 
 pub with_continuations-none : (v n : ℕ) (bs : List ℕ) → n ≡ 0 → with_continuations v n bs ≡ Ok v
 unfolding with_continuations
@@ -110,3 +110,42 @@ pub first-code_point : (h : Bool) (b c : ℕ) (bs rest : List ℕ) → 0x80 ≤ 
 first-code_point h b c bs rest l e d = record { first = b; behind = bs; is = refl; item_is = e; rest_is = d ∙ sym (ap (λ n. drop n bs) (behind_code_point h b c bs l e)) }
 
 pub ruleset reading = (first-ascii, first-code_point, with_continuations-none, items-nil, items-step, items-step-err, items-ascii)
+
+-- how bytes are split by their first
+pub split-ascii : (h : Bool) (b : ℕ) (bs : List ℕ) → b < 0x80 → first_split h (b ∷ bs) ≡ (Ok b, bs)
+unfolding first_item behind_item
+split-ascii h b bs l = grind (arith, nat_tests)
+
+pub split-stray : (h : Bool) (b : ℕ) (bs : List ℕ) → IsInRange 0x80 0xC1 b → first_split h (b ∷ bs) ≡ (Err (Byte b), bs)
+unfolding first_item behind_item
+split-stray h b bs s = grind (arith, nat_tests, s)
+
+pub split-lead : (h : Bool) (b : ℕ) (bs : List ℕ) → 0xC2 ≤ b → first_split h (b ∷ bs) ≡ split_within h (needed_continuations b) (needed_continuations b) (lead_bits b) bs
+unfolding first_item behind_item split_within
+split-lead h b bs l = grind (arith, nat_tests)
+
+-- and within a sequence
+pub within-more : (h : Bool) (n m v x : ℕ) (bs : List ℕ) → IsContinuation x → split_within h n (suc m) v (x ∷ bs) ≡ split_within h n m (v * 0x40 + x % 0x40) bs
+unfolding split_within with_continuations continuations
+within-more h n m v x bs c = grind (arith, nat_tests, c)
+
+pub within-broken : (h : Bool) (n m v x : ℕ) (bs : List ℕ) → (IsContinuation x → ⊥) → split_within h n (suc m) v (x ∷ bs) ≡ (Err (Byte x), x ∷ bs)
+unfolding split_within and_then_checked with_continuations continuations
+within-broken h n m v x bs c = grind (arith, nat_tests, c)
+
+pub within-end : (h : Bool) (n m v : ℕ) → split_within h n (suc m) v [] ≡ (Err End, [])
+unfolding split_within and_then_checked with_continuations continuations
+within-end h n m v = refl
+
+pub within-whole : (h : Bool) (n v : ℕ) (bs : List ℕ) → split_within h n 0 v bs ≡ (checked_value h n v, bs)
+unfolding split_within and_then_checked with_continuations continuations
+within-whole h n v bs = refl
+
+-- the items of bytes are those of their split
+pub items-split : (h : Bool) (bs : List ℕ) → 0 < length bs → items_behind 0 h bs ≡ items_from (first_split h bs)
+items-split h [] l = absurd (omega arith)
+items-split h (b ∷ bs) l = by (first_item h b bs) refl
+  where
+    by : (r : Result ℕ EncodingError) → first_item h b bs ≡ r → items_behind 0 h (b ∷ bs) ≡ then_items r (λ t. items_behind 0 t (drop (behind_item b bs) bs))
+    by (Ok c) e = items-ok h b c bs e ∙ ap (λ l. Ok c ∷ l) (items_behind-drop (behind_item b bs) (is_high c) bs)
+    by (Err f) e = items-step-err h b f bs _ e refl

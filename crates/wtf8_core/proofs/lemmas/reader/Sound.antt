@@ -1,12 +1,12 @@
 -- Any bytes are forms up to their end or a fault, so the reader's items are those of the definitions.
-use Rattle.wtf8_core.proofs.Common.{◌≡◌, ◌⊎◌, inl, inr, ⊎_elim, ℕ, zero, suc, ◌+◌, ◌<◌, ◌≤◌, false, List, [], ◌∷◌, ◌++◌, length, drop, map, Result, Ok, Err, refl, sym, ap, ◌∙◌, subst, arith, append_assoc, length-append, Fits, w8, get_or, drop-append_seam, cases_lt, append-nil, All-drop, All-from_get_or, All, AllByRecursion, flat_map, IsByte, needed_continuations, IsHigh, IsLow, is_high, IsCodePoint, encode, HasNoSurrogatePair, last_or, IsWtf8, IsSequenceStart, IsWholeSequence, shape_value, IsRefused, BeginsFault, IsFirstFault, AreItems, least_value, behind_item, first_item, items_behind, items_after, EncodingError, Byte, CodePoint, End, Utf8}
+use Rattle.wtf8_core.proofs.Common.{◌≡◌, ◌⊎◌, inl, inr, ⊎_elim, ℕ, zero, suc, ◌+◌, ◌<◌, ◌≤◌, false, List, [], ◌∷◌, ◌++◌, length, drop, map, Result, Ok, Err, refl, sym, ap, ◌∙◌, subst, arith, append_assoc, length-append, Fits, w8, get_or, drop-append_seam, cases_lt, append-nil, All-drop, All-from_get_or, All, AllByRecursion, flat_map, IsByte, needed_continuations, IsHigh, IsLow, is_high, IsCodePoint, encode, HasNoSurrogatePair, last_or, IsWtf8, IsSequenceStart, IsWholeSequence, shape_value, BeginsFault, IsFirstFault, AreItems, least_value, behind_item, first_item, first_split, items_after, EncodingError, Byte, CodePoint, End}
 use Rattle.wtf8_core.specs.Items.AreItems.{Whole, Faulty}
 use Rattle.wtf8_core.proofs.lemmas.forms.Ranges.{range_cases}
 use Rattle.wtf8_core.proofs.lemmas.forms.Shapes.{form_ascii, form_bounds, shape_is_form, no_form}
 use Rattle.wtf8_core.proofs.lemmas.reader.Continuations.{Stops, split}
 use Rattle.wtf8_core.proofs.lemmas.reader.Continuations.Stops.{whole, ends, breaks}
-use Rattle.wtf8_core.proofs.lemmas.reader.Reading.{items-ok}
-use Rattle.wtf8_core.proofs.lemmas.reader.Complete.{behind_form, item_of_form, items_of_fault, items_if}
+pub use Rattle.wtf8_core.proofs.lemmas.reader.Complete.{refused_some}
+use Rattle.wtf8_core.proofs.lemmas.reader.Complete.{split_of_form, split_of_fault, items_if}
 
 -- after the code point p the bytes begin with a form
 pub record BeginsForm (p : ℕ) (bs : List ℕ) : Type 0 where
@@ -96,15 +96,7 @@ either bs a =
     (λ w. inr (r.cs, w.0, record { before = flat_map encode r.cs; from = r.from; joined = r.joined; spelled = record { code_points = r.points; paired_free = r.free.1; joined = refl }; begins = w.1 }))
     r.stop
 
--- what is refused has a byte
-pub refused_some : (last : ℕ) (refused rest : List ℕ) (f : EncodingError) → IsRefused last refused rest f → 0 < length refused
-refused_some last refused rest (Byte x) (inl s) = let e = ap length s.is in omega arith
-refused_some last refused rest (Byte x) (inr s) = let e = ap length s.begun.is in omega arith
-refused_some last refused rest End s = let e = ap length s.0.is in omega arith
-refused_some last refused rest (CodePoint value) s = let e = ap length s.is in omega arith
-refused_some last refused rest (Utf8 i j) s = absurd s
-
--- and so what follows it is shorter than the bytes, and is bytes, too
+-- what follows a fault is shorter than the bytes, and is bytes, too
 pub behind_fault : (bs cs : List ℕ) (f : EncodingError) → (s : IsFirstFault bs cs f) → (length s.begins.rest < length bs) × (All IsByte bs → All IsByte s.begins.rest)
 behind_fault bs cs f s =
     let front = s.before ++ s.begins.refused in
@@ -136,10 +128,10 @@ items_sound bs h = items_of_bytes bs (All-from_get_or IsByte bs 0 (λ i _. omega
 -- behind the code point p a code point is read: its form stands there
 pub first_form_behind : (p b c : ℕ) (bs : List ℕ) → IsByte b → first_item (is_high p) b bs ≡ Ok c → (i : BeginsForm p (b ∷ bs)) × (i.c ≡ c) × (i.rest ≡ drop (behind_item b bs) bs)
 first_form_behind p b c bs u e = ⊎_elim
-    (λ i. let q : Ok c ∷ items_behind (behind_item b bs) (is_high c) bs ≡ Ok i.c ∷ items_behind 0 (is_high i.c) i.rest = sym (items-ok (is_high p) b c bs e) ∙ ap (items_behind 0 (is_high p)) i.is ∙ item_of_form p i.c i.rest i.code_point i.free in
-    let same : i.c ≡ c = cc in
-    (i, same, sym (behind_form i.c i.rest i.code_point b bs i.is)))
-    (λ f. let q : Ok c ∷ items_behind (behind_item b bs) (is_high c) bs ≡ Err f.0 ∷ items_behind 0 false f.1.rest = sym (items-ok (is_high p) b c bs e) ∙ items_of_fault p (b ∷ bs) f.0 f.1 in cc)
+    (λ i. let w = ap (first_split (is_high p)) i.is ∙ split_of_form p i.c i.rest i.code_point i.free in
+    let q : Ok c ≡ Ok i.c = sym e ∙ ap (λ s. s.0) w in
+    (i, cc, sym (ap (λ s. s.1) w)))
+    (λ f. let q : Ok c ≡ Err f.0 = sym e ∙ ap (λ s. s.0) (split_of_fault p (b ∷ bs) f.0 f.1) in cc)
     (begins p b bs u)
 
 -- so at the front

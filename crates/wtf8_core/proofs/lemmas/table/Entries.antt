@@ -1,5 +1,5 @@
 -- What the tables say, by a test of each of their entries.
-use Rattle.wtf8_core.proofs.Common.{◌≡◌, ◌⊎◌, inl, inr, ⊎_elim, ℕ, suc, ◌+◌, ◌-◌, ◌*◌, ◌≤◌, Bool, true, false, leb, eqb, ◌&&◌, ◌||◌, List, [], ◌∷◌, map, ◌<◌, get_or, refl, sym, ap, ◌∙◌, and_parts, or_cases, leb-true, eqb-true, beq, needed_continuations, lead_bits, least_value, class_at, next_at, Row, rows, SomeRow, is_plain, State, Between, BehindHigh, OneMore, TwoMore, BehindE0, BehindEd, HighThenEd, LastOfHigh, BehindF0, BehindF1, BehindF4, BehindF5, BadLastTwo, BadFourth, Refused, BadThird, Class, state_index}
+use Rattle.wtf8_core.proofs.Common.{◌≡◌, ◌⊎◌, inl, inr, ⊎_elim, ℕ, suc, ◌+◌, ◌-◌, ◌*◌, ◌≤◌, Bool, true, false, leb, eqb, ◌&&◌, ◌||◌, List, [], ◌∷◌, map, ◌<◌, get_or, refl, sym, ap, ◌∙◌, and_parts, or_cases, leb-true, eqb-true, beq, needed_continuations, lead_bits, least_value, class_at, next_at, Row, needed, rows, SomeRow, is_plain, State, Between, BehindHigh, OneMore, TwoMore, BehindE0, BehindEd, HighThenEd, LastOfHigh, BehindF0, BehindF1, BehindF4, BehindF5, BadLastTwo, BadFourth, Refused, BadThird, Class, state_index}
 use Rattle.wtf8_core.specs.Table.{class_index}
 use Rattle.wtf8_core.specs.declared.table.Class.TheVariants.{Ascii}
 use Rattle.wtf8_core.proofs.lemmas.scan.ComputedTests.{each_below}
@@ -93,7 +93,7 @@ continuing k = both (at_most 0x80 (first_of k)) (at_most (last_of k) 0xBF)
 -- the row of a class of leads
 abbrev pub begins : Bool → Class → Row → Test
 begins h k r =
-    every (alike r.high h ∷ equal r.needed (needed_continuations (first_of k)) ∷ equal r.missing r.needed
+    every (alike r.high h ∷ equal r.read 0 ∷ equal (needed r) (needed_continuations (first_of k))
     ∷ at_most r.least (lead_bits (first_of k)) ∷ at_most (lead_bits (last_of k)) r.most ∷ at_most 0xC2 (first_of k) ∷ [])
 
 abbrev pub between_entry : Bool → Class → State → Test
@@ -109,29 +109,28 @@ most_behind k r = r.most * 0x40 + (last_of k - 0x80)
 
 -- one more continuation of the class, and one or more are still missing
 abbrev pub goes_on : Class → Row → Row → Test
-goes_on k r s =
-    every (alike s.high r.high ∷ equal s.needed r.needed ∷ equal (s.missing + 1) r.missing
-    ∷ at_most 1 s.missing ∷ at_most s.least (least_behind k r) ∷ at_most (most_behind k r) s.most ∷ [])
+goes_on k r s = every (alike s.high r.high ∷ equal s.read (suc r.read) ∷ equal r.later (suc s.later) ∷ at_most s.least (least_behind k r) ∷ at_most (most_behind k r) s.most ∷ [])
 
 -- the last continuation, with which every value is refused
 abbrev pub all_refused : State → Class → Row → Test
 all_refused s k r =
-    both (either (both (is s BadFourth) (equal r.needed 3)) (both (is s BadThird) (equal r.needed 2)))
-    (either (either (at_most (most_behind k r + 1) (least_value r.needed)) (at_most 0x11_0000 (least_behind k r)))
-    (every (alike r.high true ∷ at_most 0xDC00 (least_behind k r) ∷ at_most (most_behind k r) 0xDFFF ∷ at_most (least_value r.needed) (least_behind k r) ∷ [])))
+    both (either (both (is s BadFourth) (equal r.read 2)) (both (is s BadThird) (equal r.read 1)))
+    (either (at_most (most_behind k r + 1) (least_value (needed r)))
+    (either (at_most 0x11_0000 (least_behind k r)) (both (alike r.high true) (both (at_most 0xDC00 (least_behind k r)) (at_most (most_behind k r) 0xDFFF)))))
 
 -- the same, and every value is a code point that may come here
 abbrev pub all_accepted : State → Class → Row → Test
 all_accepted t k r =
-    every (at_most (least_value r.needed) (least_behind k r) ∷ at_most (most_behind k r) 0x10_FFFF
+    every (at_most (least_value (needed r)) (least_behind k r) ∷ at_most (most_behind k r) 0x10_FFFF
     ∷ either (alike r.high false) (either (at_most (most_behind k r) 0xDBFF) (at_most 0xE000 (least_behind k r)))
     ∷ either (both (is t Between) (either (at_most (most_behind k r) 0xD7FF) (at_most 0xDC00 (least_behind k r))))
     (both (is t BehindHigh) (both (at_most 0xD800 (least_behind k r)) (at_most (most_behind k r) 0xDBFF))) ∷ [])
 
 abbrev pub open_entry : State → Class → State → Row → Test
 open_entry s k t r =
-    either (both (continuing k) (either (both (equal r.missing 1) (either (both (is t Refused) (all_refused s k r)) (all_accepted t k r))) (some (map (goes_on k r) (rows t)))))
-    (both (is t Refused) (either (at_most (last_of k) 0x7F) (at_most 0xC0 (first_of k))))
+    both (at_most r.read 2)
+    (either (both (continuing k) (either (both (equal r.later 0) (either (both (is t Refused) (all_refused s k r)) (all_accepted t k r))) (some (map (goes_on k r) (rows t)))))
+    (both (is t Refused) (either (at_most (last_of k) 0x7F) (at_most 0xC0 (first_of k)))))
 
 abbrev pub entry : State → Class → Test
 entry Between k = between_entry false k (next_at Between k)

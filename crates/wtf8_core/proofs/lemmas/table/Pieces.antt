@@ -1,11 +1,13 @@
 -- Pieces, one after the other.
-use Rattle.wtf8_core.proofs.Common.{◌≡◌, ◌≢◌, inl, inr, ⊎_elim, ℕ, ◌+◌, ◌<◌, Bool, true, false, List, [], ◌∷◌, ◌++◌, length, take, drop, get_or, take-append-drop, Option, None, refl, sym, ap, ◌∙◌, subst, arith, append_assoc, append-nil, IsWtf8, Encodes, last_or, IsIncomplete, IsRefused, class_at, next_at, Row, rows, SomeRow, IsOpen, IsOpenIn, Stands, IsFaulty, OnlyEnds, HasFirstFault, joined_bits, fault_at, Progress, progress, StandsFor, is_between, IsHigh, is_high, IsEncodedPrefix, EncodingError, Byte, CodePoint, End, Utf8, State, Between, BehindHigh, Refused, Class, cases_Bool}
+use Rattle.wtf8_core.proofs.Common.{◌≡◌, ◌≢◌, inl, inr, ⊎_elim, ℕ, ◌+◌, ◌<◌, Bool, true, false, List, [], ◌∷◌, ◌++◌, map, length, take, drop, get_or, take-append-drop, Option, None, Ok, refl, sym, ap, ◌∙◌, subst, append_assoc, append-nil, All, All-from_recursion, IsByte, IsCodePoint, encode, IsWtf8, last_or, IsRefused, AreItems, items_after, items_from, class_at, next_at, Gives, Row, needed, SomeRow, IsOpen, rows, Stands, IsFaulty, OnlyEnds, HasFirstFault, joined_bits, fault_at, Progress, progress, StandsFor, is_between, is_high, IsEncodedPrefix, EncodingError, Byte, CodePoint, End, Utf8, State, Between, BehindHigh, Refused, Class, cases_Bool}
 use Rattle.std.proofs.lemmas.List.{take_more}
-use Rattle.wtf8_core.proofs.lemmas.forms.Ranges.{in_range-false}
-use Rattle.wtf8_core.proofs.lemmas.forms.Appending.{last_append, spells_joined}
-use Rattle.wtf8_core.proofs.lemmas.units.OneToOne.{may_precede}
-use Rattle.wtf8_core.proofs.lemmas.reader.Complete.{never_both, one_fault}
-use Rattle.wtf8_core.proofs.lemmas.table.Steps.{goes}
+use Rattle.wtf8_core.proofs.lemmas.forms.Appending.{all_flat_map}
+use Rattle.wtf8_core.proofs.lemmas.forms.Shapes.{form_bytes}
+use Rattle.wtf8_core.proofs.lemmas.reader.Complete.{never_both, one_fault, items_of_spelled, behind_zero}
+use Rattle.wtf8_core.proofs.lemmas.reader.FirstErr.{items_all_ok}
+use Rattle.wtf8_core.proofs.lemmas.reader.Reading.{items-nil, within-end}
+use Rattle.wtf8_core.proofs.lemmas.reader.Sound.{items_of_bytes}
+use Rattle.wtf8_core.proofs.lemmas.table.Steps.{items_now, gives_more, first_fault, goes}
 use Rattle.wtf8_core.specs.declared.scan.Encoding.TheVariants.{Wtf8}
 
 refused_extends : (last : ℕ) (refused rest p : List ℕ) (f : EncodingError) → f ≢ End → IsRefused last refused rest f → IsRefused last refused (rest ++ p) f
@@ -38,29 +40,24 @@ extends b p f h =
       stays = h.stays;
     }
 
-pub whole : (s : State) (bits : ℕ) (b : List ℕ) → is_between s ≡ true → Stands s bits b → IsWtf8 b
-whole Between bits b h m = (m.code_points, subst (λ l. Encodes l m.code_points) (sym (m.joined ∙ ap (λ l. m.before ++ l) m.opened.0 ∙ append-nil m.before)) m.spelled)
-whole BehindHigh bits b h m = (m.code_points, subst (λ l. Encodes l m.code_points) (sym (m.joined ∙ ap (λ l. m.before ++ l) m.opened.0 ∙ append-nil m.before)) m.spelled)
-whole s bits b h m = cc
+-- no sequence is open: all bytes were read
+spelled : (h : Bool) (b : List ℕ) → Gives b (items_after h) → IsWtf8 b
+spelled h b g = (g.code_points, items_all_ok b g.code_points (subst (AreItems b) (items_now b g ∙ ap (λ l. map Ok g.code_points ++ l) (items-nil 0 h [] refl) ∙ append-nil (map Ok g.code_points)) (items_of_bytes b g.are_bytes)))
 
-short_of_rows : (h : Bool) (bits : ℕ) (o : List ℕ) (rs : List Row) → SomeRow (IsOpen h bits o) rs → IsIncomplete o
-short_of_rows h bits o [] s = absurd s
-short_of_rows h bits o (r ∷ rs) (inl q) = record { lead = q.lead; behind = q.behind; is = q.is; begun = q.begun; short = omega (arith, q.missing_is, q.some_missing, q.needed_is) }
-short_of_rows h bits o (r ∷ rs) (inr q) = short_of_rows h bits o rs q
+pub whole : (s : State) (bits : ℕ) (b : List ℕ) → is_between s ≡ true → Stands s bits b → IsWtf8 b
+whole Between bits b h g = spelled false b g
+whole BehindHigh bits b h g = spelled true b g
+whole s bits b h g = cc
+
+ends_of_rows : (bits : ℕ) (b : List ℕ) (rs : List Row) → SomeRow (IsOpen bits b) rs → HasFirstFault b End
+ends_of_rows bits b [] s = absurd s
+ends_of_rows bits b (r ∷ rs) (inl q) = first_fault b End (items_after false []) q.given (ap items_from (within-end r.high (needed r) r.later q.value))
+ends_of_rows bits b (r ∷ rs) (inr q) = ends_of_rows bits b rs q
 
 pub ends : (s : State) (bits : ℕ) (b : List ℕ) → is_between s ≡ false → Stands s bits b → HasFirstFault b End
 ends Between bits b h m = cc
 ends BehindHigh bits b h m = cc
-ends s bits b h m = (
-  m.code_points,
-  record {
-    before = m.before;
-    from = m.open_bytes;
-    joined = m.joined;
-    spelled = m.spelled;
-    begins = record { refused = m.open_bytes; rest = []; is = sym (append-nil m.open_bytes); refusal = (short_of_rows (is_high (last_or 0 m.code_points)) bits m.open_bytes (rows s) m.opened, refl) };
-  },
-)
+ends s bits b h m = ends_of_rows bits b (rows s) m
 
 pub only_ends : (s : State) (bits : ℕ) (b : List ℕ) → Stands s bits b → OnlyEnds b
 only_ends s bits b m f g =
@@ -98,38 +95,13 @@ pub with_front : (b piece rest : List ℕ) (at : ℕ) → rest ≡ drop at piece
 with_front b piece rest at e = append_assoc b (take at piece) rest ∙ ap (λ l. b ++ l) (ap (λ r. take at piece ++ r) e ∙ take-append-drop at piece)
 
 -- a prefix that vectors read
-module _ (bits : ℕ) (b piece : List ℕ) (at : ℕ) (f : IsEncodedPrefix Wtf8 piece at) (m : Stands Between bits b) where
-  same_before : m.before ≡ b
-  same_before = sym (m.joined ∙ ap (λ z. m.before ++ z) m.opened.0 ∙ append-nil m.before)
-
-  before : Encodes b m.code_points
-  before = subst (λ z. Encodes z m.code_points) same_before m.spelled
-
-  not_behind : IsHigh (last_or 0 m.code_points) → ⊥
-  not_behind = in_range-false 0xD800 0xDBFF _ m.opened.1
-
-  same_last : is_high (last_or 0 (m.code_points ++ f.code_points)) ≡ is_high (last_or 0 f.code_points)
-  same_last = ap is_high (last_append 0 m.code_points f.code_points) ∙ by f.code_points
-    where
-      by : (ds : List ℕ) → is_high (last_or (last_or 0 m.code_points) ds) ≡ is_high (last_or 0 ds)
-      by [] = m.opened.1
-      by (d ∷ ds) = refl
-
-  gone : (s : State) (h : Bool) → (is_high (last_or 0 f.code_points) ≡ h) → ((k : Bool) → k ≡ h → IsOpenIn s k bits []) → Stands s bits (b ++ take at piece)
-  gone s h e o = record {
-    code_points = m.code_points ++ f.code_points;
-    before = b ++ take at piece;
-    open_bytes = [];
-    joined = sym (append-nil (b ++ take at piece));
-    spelled = spells_joined b (take at piece) m.code_points f.code_points before f.spelled (may_precede _ f.code_points not_behind);
-    opened = o _ (same_last ∙ e);
-  }
-
-  pub gone_between : is_high (last_or 0 f.code_points) ≡ false → Stands Between bits (b ++ take at piece)
-  gone_between e = gone Between false e (λ k h. (refl, h))
-
-  pub gone_behind_high : is_high (last_or 0 f.code_points) ≡ true → Stands BehindHigh bits (b ++ take at piece)
-  gone_behind_high e = gone BehindHigh true e (λ k h. (refl, h))
+pub front_read : (b piece : List ℕ) (at : ℕ) (f : IsEncodedPrefix Wtf8 piece at) → Gives b (items_after false) → Gives (b ++ take at piece) (items_after (is_high (last_or 0 f.code_points)))
+front_read b piece at f g =
+    let cs = f.code_points in
+    let s = f.spelled in
+    let bytes = all_flat_map IsCodePoint IsByte encode (λ c k. All-from_recursion IsByte (encode c) (form_bytes c k)) cs s.code_points in
+    gives_more b (take at piece) cs g (subst (All IsByte) (sym s.joined) bytes)
+    (λ more. ap (λ z. items_after false (z ++ more)) s.joined ∙ items_of_spelled 0 cs more s.code_points (behind_zero cs s.paired_free))
 
 pub open_progress : (s : State) (bits : ℕ) (f : Option EncodingError) (p : Progress) (b : List ℕ) → progress s bits f ≡ p → f ≡ None → StandsFor p b → Stands s bits b
 open_progress s bits f p b e n h = subst (λ z. StandsFor (progress s bits z) b) n (subst (λ z. StandsFor z b) (sym e) h)

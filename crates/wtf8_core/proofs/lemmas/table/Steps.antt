@@ -1,102 +1,46 @@
--- One more byte: what the state after it means, or the fault.
-use Rattle.wtf8_core.proofs.Common.{◌≡◌, ◌≢◌, ◌⊎◌, inl, inr, ⊎_elim, ℕ, zero, suc, ◌+◌, ◌*◌, ◌-◌, ◌%◌, ◌<◌, ◌≤◌, Bool, true, false, List, [], ◌∷◌, ◌++◌, length, length-append, refl, sym, ap, ◌∙◌, subst, arith, nat_tests, append_assoc, append-nil, cond_both, cond-true, cond-false, le-ltb, is_in_range, IsContinuation, needed_continuations, IsHigh, IsLow, is_high, IsCodePoint, encode, Encodes, last_or, IsSequenceStart, IsWholeSequence, shape_value, BeginsFault, lead_bits, least_value, class_at, next_at, Row, rows, SomeRow, IsOpen, IsOpenIn, Stands, IsFaulty, kept_bits, joined_bits, fault_at, is_between, EncodingError, Byte, CodePoint, End, State, Between, BehindHigh, BadFourth, Refused, BadThird, Class}
-use Rattle.wtf8_core.proofs.lemmas.forms.Shapes.{form_ascii, shape_is_form, no_form}
-use Rattle.wtf8_core.proofs.lemmas.forms.Ranges.{in_range, in_range-true, not_in_range}
-use Rattle.wtf8_core.proofs.lemmas.forms.Appending.{value_more, begun_more, last_append, spells_more}
-use Rattle.wtf8_core.proofs.lemmas.table.Entries.{Holds, some_from, some_with, in_class, classed, continuing, begins, between_entry, least_behind, most_behind, goes_on, all_refused, all_accepted, open_entry, entered}
+-- One more byte in the table is one more byte of the reader.
+use Rattle.wtf8_core.proofs.Common.{◌≡◌, ◌≢◌, ◌⊎◌, refl, HasFirstFault, inl, inr, ⊎_elim, ℕ, zero, suc, ◌+◌, ◌*◌, ◌-◌, ◌%◌, ◌<◌, ◌≤◌, Bool, true, false, List, [], ◌∷◌, ◌++◌, map, Result, Ok, Err, sym, ap, ◌∙◌, subst, arith, nat_tests, append_assoc, append-nil, map-append, cond_both, cond-true, cond-false, is_in_range, All, All-append, All-from_recursion, IsByte, IsContinuation, needed_continuations, is_high, lead_bits, checked_value, first_split, split_within, items_from, items_after, AreItems, class_at, next_at, Gives, Row, needed, rows, SomeRow, IsOpen, Stands, IsFaulty, kept_bits, joined_bits, fault_at, is_between, EncodingError, Byte, CodePoint, End, State, Between, BehindHigh, BadFourth, Refused, BadThird}
+use Rattle.wtf8_core.proofs.lemmas.forms.Ranges.{in_range, not_in_range}
+use Rattle.wtf8_core.proofs.lemmas.reader.Complete.{when_good, when_bad}
+use Rattle.wtf8_core.proofs.lemmas.reader.FirstErr.{items_first_err}
+use Rattle.wtf8_core.proofs.lemmas.reader.Reading.{items-split, split-ascii, split-stray, split-lead, within-more, within-broken, within-whole}
+use Rattle.wtf8_core.proofs.lemmas.reader.Sound.{items_of_bytes}
+use Rattle.wtf8_core.proofs.lemmas.table.Entries.{Holds, some_from, some_with, in_class, classed, begins, between_entry, least_behind, most_behind, goes_on, open_entry, entered}
 
-opened_of_rows : (t : State) (h : Bool) (bits : ℕ) (o : List ℕ) → SomeRow (IsOpen h bits o) (rows t) → IsOpenIn t h bits o
-opened_of_rows Between h bits o r = absurd r
-opened_of_rows BehindHigh h bits o r = absurd r
-opened_of_rows t h bits o r = r
+-- the bits of a lead that needs two continuations or more, and of one more continuation
+lead_kept : (bits x : ℕ) → 2 ≤ needed_continuations x → kept_bits 0 (joined_bits bits x) ≡ lead_bits x
+lead_kept bits x h = grind (arith, nat_tests)
 
-need_few : (b : ℕ) → needed_continuations b ≤ 3
-need_few b = grind (arith, nat_tests)
-
-need_some : (b : ℕ) → 1 ≤ needed_continuations b
-need_some b = grind (arith, nat_tests)
-
-long_lead : (b : ℕ) → 2 ≤ needed_continuations b → 0xE0 ≤ b
-long_lead b h = grind (arith, nat_tests)
-
-lead_kept : (bits x : ℕ) → 0xE0 ≤ x → kept_bits 0 (joined_bits bits x) ≡ lead_bits x
-lead_kept bits x h = rw (le-ltb x 0xE0 h) (omega arith)
-
--- the bits of one more continuation
 bits_more : (n bits x v : ℕ) → n ≤ 2 → kept_bits n bits ≡ v → kept_bits (suc n) (joined_bits bits x) ≡ v * 0x40 + x % 0x40
 bits_more zero bits x v h e = omega arith
 bits_more (suc zero) bits x v h e = omega arith
 bits_more (suc (suc zero)) bits x v h e = omega arith
 bits_more (suc (suc (suc n))) bits x v h e = absurd (omega arith)
 
--- an open sequence and one more continuation of a class
-record IsMore (k : Class) (bits x : ℕ) (r : Row) (lead : ℕ) (behind : List ℕ) : Type 0 where
-  begun : IsSequenceStart lead (behind ++ x ∷ [])
-  size : length (behind ++ x ∷ []) ≡ suc (length behind)
-  above : least_behind k r ≤ shape_value lead (behind ++ x ∷ [])
-  below : shape_value lead (behind ++ x ∷ []) ≤ most_behind k r
-  bits_are : 2 ≤ r.needed → kept_bits (length (behind ++ x ∷ [])) (joined_bits bits x) ≡ shape_value lead (behind ++ x ∷ [])
+-- the items of the bytes if none come after them
+pub items_now : {behind : List ℕ → List (Result ℕ EncodingError)} (b : List ℕ) → (g : Gives b behind) → items_after false b ≡ map Ok g.code_points ++ behind []
+items_now b g = ap (items_after false) (sym (append-nil b)) ∙ g.items []
 
-more : (k : Class) (h : Bool) (bits x : ℕ) (o : List ℕ) (r : Row) → Holds (in_class k x) → Holds (continuing k) → (p : IsOpen h bits o r) → IsMore k bits x r p.lead p.behind
-more k h bits x o r c f p =
-    let v = value_more p.lead p.behind x in
-    let n : length (p.behind ++ x ∷ []) ≡ suc (length p.behind) = omega (arith, length-append p.behind (x ∷ [])) in
-    let low : x % 0x40 ≡ x - 0x80 = omega (arith, f.0, f.1, c.0, c.1.0) in
-    let few : length p.behind ≤ 2 = omega (arith, need_few p.lead, p.needed_is, p.missing_is, p.some_missing) in
-    record {
-      begun = begun_more p.lead p.behind x p.begun (omega (arith, f.0, c.0), omega (arith, f.1, c.1.0));
-      size = n;
-      above = rw v (omega (arith, low, p.least_is, f.0, c.0));
-      below = rw v (omega (arith, low, p.most_is, c.1.0));
-      bits_are = λ two. rw n (bits_more (length p.behind) bits x _ few (p.bits_are two) ∙ sym v);
-    }
+-- more bytes are read
+pub gives_more : {behind then : List ℕ → List (Result ℕ EncodingError)} (b bs ds : List ℕ) → Gives b behind → All IsByte bs → ((more : List ℕ) → behind (bs ++ more) ≡ map Ok ds ++ then more) → Gives (b ++ bs) then
+gives_more {behind} {then} b bs ds g a e = record {
+  are_bytes = All-append IsByte b bs g.are_bytes a;
+  code_points = g.code_points ++ ds;
+  items = λ more. ap (items_after false) (append_assoc b bs more)
+      ∙ g.items (bs ++ more)
+      ∙ ap (λ l. map Ok g.code_points ++ l) (e more)
+      ∙ sym (append_assoc (map Ok g.code_points) (map Ok ds) (then more))
+      ∙ ap (λ l. l ++ then more) (sym (map-append Ok g.code_points ds));
+}
 
-opens_more : (k : Class) (h : Bool) (bits x : ℕ) (o : List ℕ) (r s : Row) → Holds (in_class k x) → Holds (continuing k) → IsOpen h bits o r → Holds (goes_on k r s)
-    → IsOpen h (joined_bits bits x) (o ++ x ∷ []) s
-opens_more k h bits x o r s c f p t =
-    let m = more k h bits x o r c f p in
-    record {
-      high_is = t.0 ∙ p.high_is;
-      lead = p.lead;
-      behind = p.behind ++ x ∷ [];
-      is = ap (λ l. l ++ x ∷ []) p.is;
-      begun = m.begun;
-      needed_is = t.1.0 ∙ p.needed_is;
-      missing_is = omega (arith, m.size, t.1.0, t.1.1.0, p.missing_is);
-      some_missing = t.1.1.1.0;
-      least_is = omega (arith, t.1.1.1.1.0, m.above);
-      most_is = omega (arith, t.1.1.1.1.1.0, m.below);
-      bits_are = λ two. m.bits_are (omega (arith, t.1.0, two));
-    }
+-- what it refuses is the first fault
+pub first_fault : {behind : List ℕ → List (Result ℕ EncodingError)} (b : List ℕ) (f : EncodingError) (later : List (Result ℕ EncodingError)) → Gives b behind → behind [] ≡ Err f ∷ later → HasFirstFault b f
+first_fault b f later g e = (g.code_points, items_first_err b g.code_points f later (subst (AreItems b) (items_now b g ∙ ap (λ l. map Ok g.code_points ++ l) e) (items_of_bytes b g.are_bytes)))
 
-opens : (k : Class) (h : Bool) (bits x : ℕ) (s : Row) → x < 256 → Holds (in_class k x) → Holds (begins h k s) → IsOpen h (joined_bits bits x) (x ∷ []) s
-opens k h bits x s u c t =
-    ⊎_elim (λ l. absurd (omega (arith, l, t.1.1.1.1.1.0)))
-    (λ p. let needed : s.needed ≡ needed_continuations x = t.1.0 ∙ sym p.1.1.0 in
-    record {
-      high_is = t.0;
-      lead = x;
-      behind = [];
-      is = refl;
-      begun = record { lead_is = (omega (arith, c.0, t.1.1.1.1.1.0), omega arith); continued = tt };
-      needed_is = needed;
-      missing_is = omega (arith, t.1.1.0);
-      some_missing = omega (arith, t.1.1.0, needed, need_some x);
-      least_is = omega (arith, t.1.1.1.0, p.0);
-      most_is = omega (arith, t.1.1.1.1.0, p.1.0);
-      bits_are = λ two. lead_kept bits x (long_lead x (omega (arith, needed, two)));
-    }) c.1.1.0
-
--- what a byte does in a state
-pub record Goes (state : State) (bits : ℕ) (b : List ℕ) (x : ℕ) (t : State) : Type 0 where
-  pub on : t ≢ Refused → Stands t (joined_bits bits x) (b ++ x ∷ [])
-  pub off : t ≡ Refused → IsFaulty (b ++ x ∷ []) (fault_at state (joined_bits bits x) x)
-
--- what comes before a byte
-record Before (h : Bool) (b cs w o : List ℕ) : Type 0 where
-  joined : b ≡ w ++ o
-  spelled : Encodes w cs
-  high_is : is_high (last_or 0 cs) ≡ h
+opened_of_rows : (t : State) (bits : ℕ) (b : List ℕ) → SomeRow (IsOpen bits b) (rows t) → Stands t bits b
+opened_of_rows Between bits b r = absurd r
+opened_of_rows BehindHigh bits b r = absurd r
+opened_of_rows t bits b r = r
 
 fault_low : (s : State) (bits x : ℕ) → is_between s ≡ true → fault_at s bits x ≡ Byte x
 fault_low Between bits x h = cond_both (is_in_range 0x80 0xBF x) _ _ (λ f. f ≡ Byte x) (λ _. refl) (λ _. refl)
@@ -109,141 +53,130 @@ fault_four s bits x v e c h = subst (λ z. fault_at z bits x ≡ CodePoint v) (s
 fault_three : (s : State) (bits x v : ℕ) → s ≡ BadThird → IsContinuation x → bits % 0x1_0000 ≡ v → fault_at s bits x ≡ CodePoint v
 fault_three s bits x v e c h = subst (λ z. fault_at z bits x ≡ CodePoint v) (sym e) (cond-true _ _ _ (in_range 0x80 0xBF x c) ∙ ap CodePoint h)
 
-module _ (s : State) (bits : ℕ) (t : State) (x : ℕ) (h : Bool) (b cs w : List ℕ) where
-  module _ (o : List ℕ) (f : Before h b cs w o) where
-    joined_more : b ++ x ∷ [] ≡ w ++ (o ++ x ∷ [])
-    joined_more = ap (λ l. l ++ x ∷ []) f.joined ∙ append_assoc w o (x ∷ [])
+-- what a byte does in a state
+pub record Goes (state : State) (bits : ℕ) (b : List ℕ) (x : ℕ) (t : State) : Type 0 where
+  pub on : t ≢ Refused → Stands t (joined_bits bits x) (b ++ x ∷ [])
+  pub off : t ≡ Refused → IsFaulty (b ++ x ∷ []) (fault_at state (joined_bits bits x) x)
 
-    rows_go : SomeRow (IsOpen h (joined_bits bits x) (o ++ x ∷ [])) (rows t) → Goes s bits b x t
-    rows_go r = record {
-      on = λ _. record {
-        code_points = cs;
-        before = w;
-        open_bytes = o ++ x ∷ [];
-        joined = joined_more;
-        spelled = f.spelled;
-        opened = opened_of_rows t _ (joined_bits bits x) (o ++ x ∷ []) (subst (λ z. SomeRow (IsOpen z (joined_bits bits x) (o ++ x ∷ [])) (rows t)) (sym f.high_is) r);
-      };
-      off = λ e. absurd (subst (λ z. SomeRow (IsOpen h (joined_bits bits x) (o ++ x ∷ [])) (rows z)) e r);
-    }
+module _ (s t : State) (bits : ℕ) (b : List ℕ) (x : ℕ) (u : x < 256) where
+  one : All IsByte (x ∷ [])
+  one = All-from_recursion IsByte (x ∷ []) (u, tt)
 
-    -- a code point is read whole
-    whole_goes : (c : ℕ) → o ++ x ∷ [] ≡ encode c → IsCodePoint c → (IsHigh (last_or 0 cs) → IsLow c → ⊥) → ((t ≡ Between) × (is_high c ≡ false)) ⊎ ((t ≡ BehindHigh) × (is_high c ≡ true)) → Goes s bits b x t
-    whole_goes c e k g u =
-        let sp : Encodes (b ++ x ∷ []) (cs ++ c ∷ []) = subst (λ l. Encodes l (cs ++ c ∷ [])) (sym (joined_more ∙ ap (λ l. w ++ l) e)) (spells_more w cs c f.spelled k g) in
-        let last : is_high (last_or 0 (cs ++ c ∷ [])) ≡ is_high c = ap is_high (last_append 0 cs (c ∷ [])) in
-        let open_in = λ (z : State). IsOpenIn z (is_high (last_or 0 (cs ++ c ∷ []))) (joined_bits bits x) [] in
+  rows_go : SomeRow (IsOpen (joined_bits bits x) (b ++ x ∷ [])) (rows t) → Goes s bits b x t
+  rows_go r = record {
+    on = λ _. opened_of_rows t (joined_bits bits x) (b ++ x ∷ []) r;
+    off = λ e. absurd (subst (λ z. SomeRow (IsOpen (joined_bits bits x) (b ++ x ∷ [])) (rows z)) e r);
+  }
+
+  module _ {behind : List ℕ → List (Result ℕ EncodingError)} (g : Gives b behind) where
+    -- the byte ends a code point
+    accepted : (c : ℕ) → ((more : List ℕ) → behind (x ∷ more) ≡ Ok c ∷ items_after (is_high c) more) → ((t ≡ Between) × (is_high c ≡ false)) ⊎ ((t ≡ BehindHigh) × (is_high c ≡ true)) → Goes s bits b x t
+    accepted c e h =
+        let more : (after : Bool) → is_high c ≡ after → Gives (b ++ x ∷ []) (items_after after) = λ after k. gives_more b (x ∷ []) (c ∷ []) g one (λ more. e more ∙ ap (λ z. Ok c ∷ items_after z more) k) in
         record {
-          on = λ _. record { code_points = cs ++ c ∷ []; before = b ++ x ∷ []; open_bytes = []; joined = sym (append-nil _); spelled = sp; opened = ⊎_elim (λ a. subst open_in (sym a.0) (refl, last ∙ a.1)) (λ a. subst open_in (sym a.0) (refl, last ∙ a.1)) u };
-          off = λ z. ⊎_elim (λ a. let y = a.0 in cc) (λ a. let y = a.0 in cc) u;
+          on = λ _. ⊎_elim (λ a. subst (λ z. Stands z (joined_bits bits x) (b ++ x ∷ [])) (sym a.0) (more false a.1)) (λ a. subst (λ z. Stands z (joined_bits bits x) (b ++ x ∷ [])) (sym a.0) (more true a.1)) h;
+          off = λ z. ⊎_elim (λ a. let y = a.0 in cc) (λ a. let y = a.0 in cc) h;
         }
 
-    fault_goes : (e : EncodingError) → t ≡ Refused → fault_at s (joined_bits bits x) x ≡ e → BeginsFault (last_or 0 cs) (o ++ x ∷ []) e → e ≢ End → Goes s bits b x t
-    fault_goes e i same g n = record {
+    -- the byte is refused
+    refused : {later : List ℕ → List (Result ℕ EncodingError)} (f : EncodingError) → f ≢ End → ((more : List ℕ) → behind (x ∷ more) ≡ Err f ∷ later more) → t ≡ Refused → fault_at s (joined_bits bits x) x ≡ f → Goes s bits b x t
+    refused f n e i same = record {
       on = λ z. absurd (z i);
-      off = λ _. subst (IsFaulty (b ++ x ∷ [])) (sym same) (record { first = (cs, record { before = w; from = o ++ x ∷ []; joined = joined_more; spelled = f.spelled; begins = g }); stays = n });
+      off = λ _. subst (IsFaulty (b ++ x ∷ [])) (sym same) (record { first = first_fault (b ++ x ∷ []) f _ (gives_more b (x ∷ []) [] g one e) refl; stays = n });
     }
 
-    module _ (r : Row) (q : IsOpen h bits o r) where
-      -- the last continuation of a shape
-      module _ (k : Class) (m : IsMore k bits x r q.lead q.behind) (one : r.missing ≡ 1) where
-        abbrev ks : List ℕ
-        ks = q.behind ++ x ∷ []
+  -- within a sequence
+  module _ (r : Row) (q : IsOpen bits b r) where
+    abbrev v : ℕ
+    v = q.value * 0x40 + x % 0x40
 
-        abbrev v : ℕ
-        v = shape_value q.lead ks
+    continued : IsContinuation x → (more : List ℕ) → items_from (split_within r.high (needed r) (suc r.later) q.value (x ∷ more)) ≡ items_from (split_within r.high (needed r) r.later v more)
+    continued c more = ap items_from (within-more r.high (needed r) r.later q.value x more c)
 
-        shape : IsWholeSequence q.lead ks
-        shape = record { begun = m.begun; whole = m.size ∙ omega (arith, q.missing_is, one) ∙ q.needed_is }
+    whole : IsContinuation x → r.later ≡ 0 → (item : Result ℕ EncodingError) → checked_value r.high (needed r) v ≡ item → (more : List ℕ) → items_from (split_within r.high (needed r) (suc r.later) q.value (x ∷ more)) ≡ items_from (item, more)
+    whole c z item e more = continued c more ∙ ap items_from (ap (λ m. split_within r.high (needed r) m v more) z ∙ within-whole r.high (needed r) v more ∙ ap (λ i. (i, more)) e)
 
-        read : o ++ x ∷ [] ≡ q.lead ∷ ks
-        read = ap (λ l. l ++ x ∷ []) q.is
+    open_goes : Holds (open_entry s (class_at x) t r) → Goes s bits b x t
+    open_goes e = ⊎_elim
+        (λ a. let c : IsContinuation x = (omega (arith, a.0.0, k.0), omega (arith, a.0.1, k.1.0)) in
+        let low : x % 0x40 ≡ x - 0x80 = omega (arith, c.0, c.1) in
+        let above : least_behind (class_at x) r ≤ v = omega (arith, low, q.least_is, k.0, a.0.0) in
+        let below : v ≤ most_behind (class_at x) r = omega (arith, low, q.most_is, k.1.0) in
+        let kept : 2 ≤ needed r → kept_bits (suc r.read) (joined_bits bits x) ≡ v = λ two. bits_more r.read bits x q.value e.0 (q.bits_are two) in
+        ⊎_elim
+        (λ y. ⊎_elim
+        (λ z. let f = z.1 in
+        refused q.given (CodePoint v) (λ i. cc)
+        (whole c y.0 (Err (CodePoint v)) (when_bad r.high (needed r) v (⊎_elim (λ w. inl (omega (arith, w, below))) (λ w. inr (⊎_elim (λ w. inl (omega (arith, w, above))) (λ w. inr (w.0, (omega (arith, w.1.0, above), omega (arith, w.1.1, below)))) w)) f.1))) z.0
+        (⊎_elim
+        (λ w. fault_four s _ x v w.0 c (subst (λ n. kept_bits (suc n) (joined_bits bits x) ≡ v) w.1 (kept (omega (arith, w.1)))))
+        (λ w. fault_three s _ x v w.0 c (subst (λ n. kept_bits (suc n) (joined_bits bits x) ≡ v) w.1 (kept (omega (arith, w.1)))))
+        f.0))
+        (λ z. accepted q.given v
+        (whole c y.0 (Ok v) (when_good r.high (needed r) v (omega (arith, z.0, above)) (omega (arith, z.1.0, below))
+        (λ h l. ⊎_elim (λ w. let no : true ≡ false = sym h ∙ w in cc) (λ w. ⊎_elim (λ w. omega (arith, w, below, l.0)) (λ w. omega (arith, w, above, l.1)) w) z.1.1.0)))
+        (⊎_elim
+        (λ w. inl (w.0, not_in_range 0xD800 0xDBFF v (λ y. ⊎_elim (λ z. omega (arith, z, below, y.0)) (λ z. omega (arith, z, above, y.1)) w.1)))
+        (λ w. inr (w.0, in_range 0xD800 0xDBFF v (omega (arith, w.1.0, above), omega (arith, w.1.1, below))))
+        z.1.1.1.0))
+        y.1)
+        (λ y. rows_go (some_from (goes_on (class_at x) r) (IsOpen (joined_bits bits x) (b ++ x ∷ [])) (rows t) y (λ n g. record {
+          value = v;
+          given = gives_more b (x ∷ []) [] q.given one (λ more. continued c more ∙ on n g more);
+          least_is = omega (arith, g.1.1.1.0, above);
+          most_is = omega (arith, g.1.1.1.1.0, below);
+          bits_are = λ two. subst (λ m. kept_bits m (joined_bits bits x) ≡ v) (sym g.1.0) (kept (omega (arith, two, g.1.0, g.1.1.0)));
+        })))
+        a.1)
+        (λ a. let c : IsContinuation x → ⊥ = λ y. ⊎_elim (λ z. omega (arith, z, k.1.0, y.0)) (λ z. omega (arith, z, k.0, y.1)) a.1 in
+        refused q.given (Byte x) (λ i. cc) (λ more. ap items_from (within-broken r.high (needed r) r.later q.value x more c)) a.0 (cond-false _ _ _ (not_in_range 0x80 0xBF x c)))
+        e.1
+      where
+        k : Holds (in_class (class_at x) x)
+        k = classed x u
 
-        formed : least_value r.needed ≤ v → encode v ≡ q.lead ∷ ks
-        formed l = shape_is_form q.lead ks shape (subst (λ n. least_value n ≤ v) q.needed_is l)
-
-        value : (n : ℕ) → r.needed ≡ n → 2 ≤ n → kept_bits n (joined_bits bits x) ≡ v
-        value n e l = subst (λ j. kept_bits j (joined_bits bits x) ≡ v) (shape.whole ∙ sym q.needed_is ∙ e) (m.bits_are (omega (arith, e, l)))
-
-        accepted : Holds (all_accepted t k r) → Goes s bits b x t
-        accepted e =
-            whole_goes v (read ∙ sym (formed (omega (arith, e.0, m.above)))) (omega (arith, e.1.0, m.below))
-            (λ hi lo. ⊎_elim
-            (λ a. let z : true ≡ false = sym (in_range 0xD800 0xDBFF (last_or 0 cs) hi) ∙ f.high_is ∙ sym q.high_is ∙ a in cc)
-            (λ a. ⊎_elim (λ y. omega (arith, y, m.below, lo.0)) (λ y. omega (arith, y, m.above, lo.1)) a)
-            e.1.1.0)
-            (⊎_elim
-            (λ a. inl (a.0, not_in_range 0xD800 0xDBFF v (λ y. ⊎_elim (λ z. omega (arith, z, m.below, y.0)) (λ z. omega (arith, z, m.above, y.1)) a.1)))
-            (λ a. inr (a.0, in_range 0xD800 0xDBFF v (omega (arith, a.1.0, m.above), omega (arith, a.1.1, m.below))))
-            e.1.1.1.0)
-
-        refused : IsContinuation x → t ≡ Refused → Holds (all_refused s k r) → Goes s bits b x t
-        refused c i e =
-            fault_goes (CodePoint v) i
-            (⊎_elim (λ a. fault_four s _ x v a.0 c (value 3 a.1 (omega arith))) (λ a. fault_three s _ x v a.0 c (value 2 a.1 (omega arith))) e.0)
-            (record {
-              refused = q.lead ∷ ks;
-              rest = [];
-              is = read ∙ sym (append-nil (q.lead ∷ ks));
-              refusal = record {
-                lead = q.lead;
-                behind = ks;
-                is = refl;
-                shape = shape;
-                value_is = refl;
-                bad = ⊎_elim
-                    (λ a. inl (no_form q.lead ks shape (⊎_elim (λ z. inl (subst (λ n. v < least_value n) q.needed_is (omega (arith, z, m.below)))) (λ z. inr (omega (arith, z, m.above))) a)))
-                    (λ a. inr (formed (omega (arith, a.1.1.1.0, m.above)), (omega (arith, a.1.0, m.above), omega (arith, a.1.1.0, m.below)), in_range-true 0xD800 0xDBFF (last_or 0 cs) (f.high_is ∙ sym q.high_is ∙ a.0)))
-                    e.1;
-              };
-            }) (λ z. cc)
-
-      broken : (IsContinuation x → ⊥) → t ≡ Refused → Goes s bits b x t
-      broken c i =
-          fault_goes (Byte x) i (cond-false _ _ _ (not_in_range 0x80 0xBF x c)) (record {
-            refused = o;
-            rest = x ∷ [];
-            is = refl;
-            refusal = inr (record { begun = record { lead = q.lead; behind = q.behind; is = q.is; begun = q.begun; short = omega (arith, q.missing_is, q.some_missing, q.needed_is) }; after = []; next = refl; breaks = c });
-          }) (λ z. cc)
-
-      -- within a sequence
-      open_goes : x < 256 → Holds (open_entry s (class_at x) t r) → Goes s bits b x t
-      open_goes u e =
-          let k = class_at x in
-          let c = classed x u in
-          ⊎_elim
-          (λ a. ⊎_elim
-          (λ y. let m = more k h bits x o r c a.0 q in
-          ⊎_elim (λ z. refused k m y.0 (omega (arith, a.0.0, c.0), omega (arith, a.0.1, c.1.0)) z.0 z.1) (accepted k m y.0) y.1)
-          (λ y. rows_go (some_from (goes_on k r) (IsOpen h (joined_bits bits x) (o ++ x ∷ [])) (rows t) y (λ n g. opens_more k h bits x o r n c a.0 q g)))
-          a.1)
-          (λ a. broken (λ y. ⊎_elim (λ z. omega (arith, z, c.1.0, y.0)) (λ z. omega (arith, z, c.0, y.1)) a.1) a.0)
-          e
+        on : (n : Row) → Holds (goes_on (class_at x) r n) → (more : List ℕ) → items_from (split_within r.high (needed r) r.later v more) ≡ items_from (split_within n.high (needed n) (suc n.later) v more)
+        on n g more =
+            let same : needed r ≡ needed n = omega (arith, g.1.0, g.1.1.0) in
+            ap (λ h. items_from (split_within h (needed r) r.later v more)) (sym g.0)
+            ∙ ap (λ m. items_from (split_within n.high m r.later v more)) same
+            ∙ ap (λ m. items_from (split_within n.high (needed n) m v more)) g.1.1.0
 
   -- after a whole form
-  between_goes : is_between s ≡ true → x < 256 → Before h b cs w [] → Holds (between_entry h (class_at x) t) → Goes s bits b x t
-  between_goes l u f e =
-      let k = class_at x in
-      let c = classed x u in
-      ⊎_elim
-      (λ a. let small : x < 0x80 = omega (arith, a.0, c.1.0) in
-      whole_goes [] f x (sym (form_ascii x small)) (omega (arith, small)) (λ _ j. omega (arith, j.0, small)) (inl (a.1, not_in_range 0xD800 0xDBFF x (λ q. omega (arith, q.0, small)))))
+  between_goes : (h : Bool) → is_between s ≡ true → Gives b (items_after h) → Holds (between_entry h (class_at x) t) → Goes s bits b x t
+  between_goes h l g e = ⊎_elim
+      (λ a. let small : x < 0x80 = omega (arith, a.0, k.1.0) in
+      accepted g x (first (Ok x) (λ more. more) (λ more. split-ascii h x more small)) (inl (a.1, not_in_range 0xD800 0xDBFF x (λ q. omega (arith, q.0, small)))))
       (λ a. ⊎_elim
-      (λ y. fault_goes [] f (Byte x) y.1 (fault_low s _ x l) (record { refused = x ∷ []; rest = []; is = refl; refusal = inl (record { is = refl; stray = (omega (arith, y.0.0, c.0), omega (arith, y.0.1, c.1.0)) }) }) (λ z. cc))
-      (λ y. rows_go [] f (some_from (begins h k) (IsOpen h (joined_bits bits x) (x ∷ [])) (rows t) y (λ r q. opens k h bits x r u c q)))
+      (λ y. refused g (Byte x) (λ i. cc) (first (Err (Byte x)) (λ more. more) (λ more. split-stray h x more (omega (arith, y.0.0, k.0), omega (arith, y.0.1, k.1.0)))) y.1 (fault_low s _ x l))
+      (λ y. rows_go (some_from (begins h (class_at x)) (IsOpen (joined_bits bits x) (b ++ x ∷ [])) (rows t) y opens))
       a)
       e
+    where
+      k : Holds (in_class (class_at x) x)
+      k = classed x u
+
+      first : (item : Result ℕ EncodingError) (rest : List ℕ → List ℕ) → ((more : List ℕ) → first_split h (x ∷ more) ≡ (item, rest more)) → (more : List ℕ) → items_after h (x ∷ more) ≡ items_from (item, rest more)
+      first item rest e more = items-split h (x ∷ more) (omega arith) ∙ ap items_from (e more)
+
+      opens : (r : Row) → Holds (begins h (class_at x) r) → IsOpen (joined_bits bits x) (b ++ x ∷ []) r
+      opens r t = ⊎_elim (λ l. absurd (omega (arith, l, t.1.1.1.1.1.0)))
+          (λ p. let same : needed_continuations x ≡ needed r = p.1.1.0 ∙ sym t.1.1.0 in
+          let all : needed r ≡ suc r.later = omega (arith, t.1.0) in
+          record {
+            value = lead_bits x;
+            given = gives_more b (x ∷ []) [] g one (λ more. items-split h (x ∷ more) (omega arith) ∙ ap items_from (split-lead h x more (omega (arith, k.0, t.1.1.1.1.1.0))
+                ∙ ap (λ n. split_within h n n (lead_bits x) more) same
+                ∙ ap (λ n. split_within h (needed r) n (lead_bits x) more) all
+                ∙ ap (λ z. split_within z (needed r) (suc r.later) (lead_bits x) more) (sym t.0)));
+            least_is = omega (arith, t.1.1.1.0, p.0);
+            most_is = omega (arith, t.1.1.1.1.0, p.1.0);
+            bits_are = λ two. subst (λ n. kept_bits n (joined_bits bits x) ≡ lead_bits x) (sym t.1.0) (lead_kept bits x (omega (arith, two, same)));
+          }) k.1.1.0
 
 pub goes : (s : State) (bits : ℕ) (b : List ℕ) (x : ℕ) → x < 256 → Stands s bits b → Goes s bits b x (next_at s (class_at x))
-goes Between bits b x u m =
-    between_goes Between bits (next_at Between (class_at x)) x false b m.code_points m.before refl u (record { joined = m.joined ∙ ap (λ z. m.before ++ z) m.opened.0; spelled = m.spelled; high_is = m.opened.1 })
-    (entered Between (class_at x))
-goes BehindHigh bits b x u m =
-    between_goes BehindHigh bits (next_at BehindHigh (class_at x)) x true b m.code_points m.before refl u (record { joined = m.joined ∙ ap (λ z. m.before ++ z) m.opened.0; spelled = m.spelled; high_is = m.opened.1 })
-    (entered BehindHigh (class_at x))
+goes Between bits b x u m = between_goes Between (next_at Between (class_at x)) bits b x u false refl m (entered Between (class_at x))
+goes BehindHigh bits b x u m = between_goes BehindHigh (next_at BehindHigh (class_at x)) bits b x u true refl m (entered BehindHigh (class_at x))
 goes s bits b x u m =
     let t = next_at s (class_at x) in
-    let h = is_high (last_or 0 m.code_points) in
-    some_with (open_entry s (class_at x) t) (IsOpen h bits m.open_bytes) (Goes s bits b x t) (rows s) m.opened (entered s (class_at x))
-    (λ r q. open_goes s bits t x h b m.code_points m.before m.open_bytes (record { joined = m.joined; spelled = m.spelled; high_is = refl }) r q u)
+    some_with (open_entry s (class_at x) t) (IsOpen bits b) (Goes s bits b x t) (rows s) m (entered s (class_at x)) (λ r q. open_goes s t bits b x u r q)

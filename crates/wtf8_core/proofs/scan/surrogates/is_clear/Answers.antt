@@ -1,4 +1,4 @@
-use Rattle.wtf8_core.proofs.Common.{◌≡◌, ◌+◌, ◌-◌, get_or, sym, ap, ◌∙◌, arith, eqb, eq-eqb, cond-true}
+use Rattle.wtf8_core.proofs.Common.{◌≡◌, ◌+◌, get_or, sym, ap, ◌∙◌, arith, eqb, eq-eqb, cond-true}
 use Rattle.wtf8_core.proofs.scan.surrogates.is_clear.Goals as goal
 
 pub returns : goal.returns
