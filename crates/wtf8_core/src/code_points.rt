@@ -4,7 +4,7 @@ ghost use Rattle.wtf8_core.specs.Byte.{needed_continuations};
 ghost use Rattle.std.specs.Iterator.{YieldsFirst, item_count};
 ghost use Rattle.wtf8_core.specs.Items.{AreItems};
 ghost use Rattle.wtf8_core.specs.Surrogate.{is_high};
-ghost use Rattle.wtf8_core.specs.Reader.{with_continuations, continuations, behind_item, first_item, items_after, is_high_item, IsFirstItem};
+ghost use Rattle.wtf8_core.specs.Reader.{with_continuations, continuations, behind_item, first_item, is_high_item, IsFirstItem};
 
 use crate::byte::{is_continuation, needed_continuations};
 use crate::fault::EncodingError;
@@ -75,6 +75,7 @@ impl<'a> Iterator for CodePoints<'a> {
 
     ghost remaining = { item_count (λ rest. rest) };
 
+    #[tactic(auto, using(crate::proofs::lemmas::reader::Reading::items_of_first))]
     #[inline(always)]
     fn next(&mut self) -> Option<Result<u32, EncodingError>> {
         let (item, after_high, rest) = next_item(self.after_high, self.rest)?;
@@ -92,8 +93,6 @@ pub(crate) fn next_item(
     after_high: bool,
     bytes: &[u8],
 ) -> Option<(Result<u32, EncodingError>, bool, &[u8])>
-    ensures items { MatchOption result (items_after after_high bytes.now ≡ [])
-        (λ step. items_after after_high bytes.now ≡ step.0 ∷ items_after step.1 step.2.now) }
     ensures first { MatchOption result (bytes.now ≡ [])
         (λ step. IsFirstItem after_high bytes.now step.0 step.2.now) }
     ensures high { IfSome result (λ step. step.1 ≡ is_high_item step.0) }

@@ -1,5 +1,4 @@
 pub mod AreWtf8
-pub mod FormatterOptions
 pub mod LossyTexts
 pub mod StdFaults
 pub mod WithoutSurrogates

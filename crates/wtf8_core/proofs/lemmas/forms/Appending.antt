@@ -1,7 +1,5 @@
 -- Lists joined, and one more at the end: of code points, of the forms that bytes spell, and of a sequence that has begun.
-use Rattle.wtf8_core.proofs.Common.{◌≡◌, ℕ, ◌+◌, ◌*◌, ◌%◌, List, [], ◌∷◌, ◌++◌, refl, sym, ap, ◌∙◌, append-nil, length, take, drop, take_at, drop_at, AllByRecursion, flat_map, flat_map-append, IsContinuation, IsHigh, IsLow, IsCodePoint, encode, Encodes, HasNoSurrogatePair, MayPrecede, last_or, IsSequenceStart, shape_value, lead_bits, All, All-append, All-nil}
-use Rattle.std.proofs.lemmas.List.Sums.{fold-append}
-use Rattle.wtf8_core.proofs.lemmas.reader.Continuations.{Join}
+use Rattle.wtf8_core.proofs.Common.{◌≡◌, ℕ, List, [], ◌∷◌, ◌++◌, refl, sym, ap, ◌∙◌, append-nil, length, take, drop, take_at, drop_at, AllByRecursion, flat_map, flat_map-append, IsHigh, IsLow, IsCodePoint, encode, Encodes, HasNoSurrogatePair, MayPrecede, last_or, All, All-append, All-nil}
 
 -- if two joined lists are equal and their first parts have one length, their parts are equal
 pub append_same : (a b c d : List ℕ) → a ++ b ≡ c ++ d → length a ≡ length c → (a ≡ c) × (b ≡ d)
@@ -39,13 +37,6 @@ spells_one c k = record { code_points = (k, tt); paired_free = (tt, tt); joined 
 
 pub spells_more : (w cs : List ℕ) (c : ℕ) → Encodes w cs → IsCodePoint c → (IsHigh (last_or 0 cs) → IsLow c → ⊥) → Encodes (w ++ encode c) (cs ++ c ∷ [])
 spells_more w cs c s k g = spells_joined w (encode c) cs (c ∷ []) s (spells_one c k) g
-
--- one more continuation
-pub value_more : (lead : ℕ) (ks : List ℕ) (x : ℕ) → shape_value lead (ks ++ x ∷ []) ≡ shape_value lead ks * 0x40 + x % 0x40
-value_more lead ks x = fold-append Join (lead_bits lead) ks (x ∷ [])
-
-pub begun_more : (lead : ℕ) (ks : List ℕ) (x : ℕ) → IsSequenceStart lead ks → IsContinuation x → IsSequenceStart lead (ks ++ x ∷ [])
-begun_more lead ks x b h = record { lead_is = b.lead_is; continued = all_joined IsContinuation ks (x ∷ []) b.continued (h, tt) }
 
 -- what holds of each element of each piece holds of each element of the pieces joined
 pub all_flat_map : (P Q : ℕ → Type 0) (f : ℕ → List ℕ) → ((x : ℕ) → P x → All Q (f x)) → (xs : List ℕ) → AllByRecursion P xs → All Q (flat_map f xs)

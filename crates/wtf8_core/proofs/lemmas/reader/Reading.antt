@@ -1,5 +1,5 @@
 -- The reader's definitions, one step at a time.
-use Rattle.wtf8_core.proofs.Common.{◌≡◌, ℕ, zero, suc, ◌+◌, ◌-◌, ◌*◌, ◌%◌, ◌<◌, ◌≤◌, Bool, true, false, cond, ltb, List, [], ◌∷◌, length, drop, Result, Ok, Err, refl, sym, ap, ◌∙◌, arith, sub-one, nat_tests, is_in_range, is_high, with_continuations, first_item, and_then_checked, continuations, behind_item, items_behind, then_items, lead_bits, IsFirstItem, needed_continuations, cond-false, le-ltb, EncodingError, Byte, End, IsInRange, IsContinuation, checked_value, first_split, split_within, items_from}
+use Rattle.wtf8_core.proofs.Common.{◌≡◌, ℕ, zero, suc, ◌+◌, ◌-◌, ◌*◌, ◌%◌, ◌<◌, ◌≤◌, Bool, true, false, cond, ltb, List, [], ◌∷◌, length, drop, Result, Ok, Err, refl, sym, ap, ◌∙◌, arith, sub-one, nat_tests, is_in_range, is_high, with_continuations, first_item, and_then_checked, continuations, behind_item, items_behind, then_items, lead_bits, IsFirstItem, needed_continuations, cond-false, le-ltb, EncodingError, Byte, End, IsInRange, IsContinuation, checked_value, first_split, split_within, items_from, is_high_item}
 
 pub with_continuations-none : (v n : ℕ) (bs : List ℕ) → n ≡ 0 → with_continuations v n bs ≡ Ok v
 unfolding with_continuations
@@ -58,14 +58,6 @@ behind_code_point h b c bs l e =
     elim (ltb b 0xC2) as P [ true ↦ λ k. cc | false ↦ λ k. and_then_whole h n c bs r (λ v. whole_count (lead_bits b) n v bs) k ]
     (sym (cond-false _ _ _ (le-ltb b 0x80 l)) ∙ e)
 
--- what follows a code point
-pub items-step : (h : Bool) (b c : ℕ) (bs rest : List ℕ) → 0x80 ≤ b → first_item h b bs ≡ Ok c → rest ≡ drop (needed_continuations b) bs
-    → items_behind 0 h (b ∷ bs) ≡ Ok c ∷ items_behind 0 (is_high c) rest
-items-step h b c bs rest l e d =
-    items-ok h b c bs e
-    ∙ ap (λ n. Ok c ∷ items_behind n (is_high c) bs) (behind_code_point h b c bs l e)
-    ∙ ap (λ r. Ok c ∷ r) (items_behind-drop (needed_continuations b) (is_high c) bs ∙ ap (items_behind 0 (is_high c)) (sym d))
-
 pub first_ascii : (h : Bool) (b : ℕ) (bs : List ℕ) → b < 0x80 → first_item h b bs ≡ Ok b
 unfolding first_item
 first_ascii h b bs l = grind (arith, nat_tests)
@@ -73,15 +65,6 @@ first_ascii h b bs l = grind (arith, nat_tests)
 behind_ascii : (b : ℕ) (bs : List ℕ) → b < 0x80 → behind_item b bs ≡ 0
 unfolding behind_item
 behind_ascii b bs l = grind (arith, nat_tests)
-
-ascii_low : (b : ℕ) → b < 0x80 → is_high b ≡ false
-ascii_low b l = grind (arith, nat_tests)
-
-pub items-ascii : (h : Bool) (b : ℕ) (bs : List ℕ) → b < 0x80 → items_behind 0 h (b ∷ bs) ≡ Ok b ∷ items_behind 0 false bs
-items-ascii h b bs l =
-    items-ok h b b bs (first_ascii h b bs l)
-    ∙ ap (λ n. Ok b ∷ items_behind n (is_high b) bs) (behind_ascii b bs l)
-    ∙ ap (λ t. Ok b ∷ items_behind 0 t bs) (ascii_low b l)
 
 -- the continuations at the start, dropped
 pub no_continuations : (n : ℕ) (bs : List ℕ) → n ≡ 0 → drop (continuations n bs) bs ≡ bs
@@ -109,7 +92,7 @@ first-ascii h b bs l = record { first = b; behind = bs; is = refl; item_is = fir
 pub first-code_point : (h : Bool) (b c : ℕ) (bs rest : List ℕ) → 0x80 ≤ b → first_item h b bs ≡ Ok c → rest ≡ drop (needed_continuations b) bs → IsFirstItem h (b ∷ bs) (Ok c) rest
 first-code_point h b c bs rest l e d = record { first = b; behind = bs; is = refl; item_is = e; rest_is = d ∙ sym (ap (λ n. drop n bs) (behind_code_point h b c bs l e)) }
 
-pub ruleset reading = (first-ascii, first-code_point, with_continuations-none, items-nil, items-step, items-step-err, items-ascii)
+pub ruleset reading = (first-ascii, first-code_point, with_continuations-none)
 
 -- how bytes are split by their first
 pub split-ascii : (h : Bool) (b : ℕ) (bs : List ℕ) → b < 0x80 → first_split h (b ∷ bs) ≡ (Ok b, bs)
@@ -149,3 +132,18 @@ items-split h (b ∷ bs) l = by (first_item h b bs) refl
     by : (r : Result ℕ EncodingError) → first_item h b bs ≡ r → items_behind 0 h (b ∷ bs) ≡ then_items r (λ t. items_behind 0 t (drop (behind_item b bs) bs))
     by (Ok c) e = items-ok h b c bs e ∙ ap (λ l. Ok c ∷ l) (items_behind-drop (behind_item b bs) (is_high c) bs)
     by (Err f) e = items-step-err h b f bs _ e refl
+
+-- and so the items are those of the first and of what follows it
+pub split_of_first : (h : Bool) (bs rest : List ℕ) (item : Result ℕ EncodingError) → IsFirstItem h bs item rest → first_split h bs ≡ (item, rest)
+split_of_first h bs rest item i =
+    ap (first_split h) i.is ∙ ap (λ r. (r, drop (behind_item i.first i.behind) i.behind)) i.item_is ∙ ap (λ l. (item, l)) (sym i.rest_is)
+
+pub items_of_step : (h t : Bool) (bs rest : List ℕ) (item : Result ℕ EncodingError) → IsFirstItem h bs item rest → t ≡ is_high_item item → items_behind 0 h bs ≡ item ∷ items_behind 0 t rest
+items_of_step h t bs rest item i e =
+    items-split h bs (let l = ap length i.is in omega arith) ∙ ap items_from (split_of_first h bs rest item i) ∙ by item ∙ ap (λ t. item ∷ items_behind 0 t rest) (sym e)
+  where
+    by : (r : Result ℕ EncodingError) → items_from (r, rest) ≡ r ∷ items_behind 0 (is_high_item r) rest
+    by (Ok c) = refl
+    by (Err f) = refl
+
+pub ruleset items_of_first = (items_of_step, items-nil)

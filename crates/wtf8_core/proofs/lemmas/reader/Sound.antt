@@ -1,11 +1,12 @@
 -- Any bytes are forms up to their end or a fault, so the reader's items are those of the definitions.
-use Rattle.wtf8_core.proofs.Common.{◌≡◌, ◌⊎◌, inl, inr, ⊎_elim, ℕ, zero, suc, ◌+◌, ◌<◌, ◌≤◌, false, List, [], ◌∷◌, ◌++◌, length, drop, map, Result, Ok, Err, refl, sym, ap, ◌∙◌, subst, arith, append_assoc, length-append, Fits, w8, get_or, drop-append_seam, cases_lt, append-nil, All-drop, All-from_get_or, All, AllByRecursion, flat_map, IsByte, needed_continuations, IsHigh, IsLow, is_high, IsCodePoint, encode, HasNoSurrogatePair, last_or, IsWtf8, IsSequenceStart, IsWholeSequence, shape_value, BeginsFault, IsFirstFault, AreItems, least_value, behind_item, first_item, first_split, items_after, EncodingError, Byte, CodePoint, End}
+use Rattle.wtf8_core.proofs.Common.{◌≡◌, ◌⊎◌, inl, inr, ⊎_elim, ℕ, zero, suc, ◌+◌, ◌<◌, ◌≤◌, false, List, [], ◌∷◌, ◌++◌, length, drop, map, Result, Ok, Err, refl, sym, ap, ◌∙◌, subst, arith, append_assoc, length-append, Fits, w8, get_or, drop-append_seam, cases_lt, append-nil, All-drop, All-from_get_or, All, AllByRecursion, flat_map, IsByte, needed_continuations, IsHigh, IsLow, is_high, IsCodePoint, encode, HasNoSurrogatePair, last_or, IsWtf8, IsSequenceStart, IsWholeSequence, shape_value, BeginsFault, IsFirstFault, AreItems, least_value, behind_item, first_item, first_split, IsFirstItem, items_after, EncodingError, Byte, CodePoint, End}
 use Rattle.wtf8_core.specs.Items.AreItems.{Whole, Faulty}
 use Rattle.wtf8_core.proofs.lemmas.forms.Ranges.{range_cases}
 use Rattle.wtf8_core.proofs.lemmas.forms.Shapes.{form_ascii, form_bounds, shape_is_form, no_form}
 use Rattle.wtf8_core.proofs.lemmas.reader.Continuations.{Stops, split}
 use Rattle.wtf8_core.proofs.lemmas.reader.Continuations.Stops.{whole, ends, breaks}
 pub use Rattle.wtf8_core.proofs.lemmas.reader.Complete.{refused_some}
+use Rattle.wtf8_core.proofs.lemmas.reader.Reading.{split_of_first}
 use Rattle.wtf8_core.proofs.lemmas.reader.Complete.{split_of_form, split_of_fault, items_if}
 
 -- after the code point p the bytes begin with a form
@@ -125,17 +126,24 @@ items_of_bytes bs a =
 pub items_sound : (bs : List ℕ) → ((i : ℕ) → Fits w8 (get_or bs i 0)) → AreItems bs (items_after false bs)
 items_sound bs h = items_of_bytes bs (All-from_get_or IsByte bs 0 (λ i _. omega (arith, h i)))
 
--- behind the code point p a code point is read: its form stands there
-pub first_form_behind : (p b c : ℕ) (bs : List ℕ) → IsByte b → first_item (is_high p) b bs ≡ Ok c → (i : BeginsForm p (b ∷ bs)) × (i.c ≡ c) × (i.rest ≡ drop (behind_item b bs) bs)
-first_form_behind p b c bs u e = ⊎_elim
-    (λ i. let w = ap (first_split (is_high p)) i.is ∙ split_of_form p i.c i.rest i.code_point i.free in
-    let q : Ok c ≡ Ok i.c = sym e ∙ ap (λ s. s.0) w in
-    (i, cc, sym (ap (λ s. s.1) w)))
-    (λ f. let q : Ok c ≡ Err f.0 = sym e ∙ ap (λ s. s.0) (split_of_fault p (b ∷ bs) f.0 f.1) in cc)
+-- what bytes begin with after the code point p, where this is read: the form of a code point, or a fault
+abbrev pub Begins : ℕ → List ℕ → Result ℕ EncodingError × List ℕ → Type 0
+Begins p bs (Ok c, rest) = IsCodePoint c × (IsHigh p → IsLow c → ⊥) × (bs ≡ encode c ++ rest)
+Begins p bs (Err f, rest) = (s : BeginsFault p bs f) × (s.rest ≡ rest)
+
+begins_split : (p b : ℕ) (bs : List ℕ) → IsByte b → Begins p (b ∷ bs) (first_split (is_high p) (b ∷ bs))
+begins_split p b bs u = ⊎_elim
+    (λ i. subst (Begins p (b ∷ bs)) (sym (ap (first_split (is_high p)) i.is ∙ split_of_form p i.c i.rest i.code_point i.free)) (i.code_point, i.free, i.is))
+    (λ f. subst (Begins p (b ∷ bs)) (sym (split_of_fault p (b ∷ bs) f.0 f.1)) (f.1, refl))
     (begins p b bs u)
+
+pub begins_item : (p : ℕ) (bs rest : List ℕ) (item : Result ℕ EncodingError) → All IsByte bs → IsFirstItem (is_high p) bs item rest → Begins p bs (item, rest)
+begins_item p bs rest item a i =
+    let e = split_of_first (is_high p) bs rest item i in
+    subst (Begins p bs) e (subst (λ z. Begins p z (first_split (is_high p) z)) (sym i.is) (begins_split p i.first i.behind (subst (All IsByte) i.is a 0 0 (omega arith))))
 
 -- so at the front
 pub split_code_point : (b c : ℕ) (bs : List ℕ) → IsByte b → first_item false b bs ≡ Ok c → (rest : List ℕ) × IsCodePoint c × (b ∷ bs ≡ encode c ++ rest)
 split_code_point b c bs u e =
-    let w = first_form_behind 0 b c bs u e in
-    (w.0.rest, subst IsCodePoint w.1 w.0.code_point, w.0.is ∙ ap (λ x. encode x ++ w.0.rest) w.1)
+    let w : Begins 0 (b ∷ bs) (Ok c, drop (behind_item b bs) bs) = subst (λ r. Begins 0 (b ∷ bs) (r, drop (behind_item b bs) bs)) e (begins_split 0 b bs u) in
+    (drop (behind_item b bs) bs, w.0, w.2)
