@@ -56,12 +56,6 @@ pub record AreBytesRead (shows : ℕ → Bool) (bytes meant rest : List ℕ) : T
   pub short : length meant + length rest ≤ length bytes
   pub read : IsUtf8 bytes → IsRead shows bytes meant rest
 
--- why a text isn't read
-abbrev pub IsReadFault : (ℕ → Bool) → List ℕ → QuoteError → Type 0
-IsReadFault shows text (BadEscape n) = IsBadEscapeBy shows text n
-IsReadFault shows text NotCanonical = ⊥
-IsReadFault shows text Memory = Unit {0}
-
 -- the bytes don't begin with the four digits of a number of 16 bits
 abbrev pub HasNoWide : List ℕ → Type 0
 HasNoWide bytes = (u : ℕ) → u < 0x1_0000 → (after : List ℕ) → bytes ≢ wide_digits u ++ after

@@ -20,7 +20,7 @@ pub use Rattle.std.specs.List.{All, AllByRecursion, count_by, flat_map, prefix_l
 pub use Rattle.std.specs.Result.{OnErr, OnOk}
 pub use Rattle.std.specs.Str.{IsUtf8, IsValidUpTo}
 pub use Rattle.wtf8_core.proofs.lemmas.characters.AtPlaces.{none_at, none_begins, text_of_character}
-pub use Rattle.wtf8_core.proofs.lemmas.forms.Shapes.{form_ascii, form_bounds, form_past}
+pub use Rattle.wtf8_core.proofs.lemmas.forms.Shapes.{form_ascii, form_bounds, form_two, form_three, form_past}
 pub use Rattle.wtf8_core.proofs.lemmas.reader.FirstErr.{ok_values_of_oks, units_whole}
 pub use Rattle.wtf8_core.proofs.lemmas.texts.AreWtf8.{lossy_is_utf8, lossy_text, part_at_front}
 pub use Rattle.wtf8_core.proofs.lemmas.units.AsFunction.{code_points_in-spelled, has_units_of, units_of-is}

@@ -1,5 +1,5 @@
 -- How long the text of an item is, beside the bytes that it means.
-use Rattle.os_quote.proofs.Common.{⊎_elim, ℕ, ◌*◌, ◌<◌, ◌≤◌, Bool, List, [], ◌∷◌, length, refl, ap, arith, length-append, encode_utf8, AllByRecursion, flat_map, cases_lt, nat_tests, length-encode, len_utf8_bounds, encode, form_encode, form_bounds, Item, Character, Backslash, ByteUnit, WideUnit, LongCharacter, long_digits, item_text, item_texts, IsItem, Chunk, AreChunks, some_chunks, PartLaws, IsChunkOf, chunks_of, IsEscapeBy, items_of, escape_of, item_bytes}
+use Rattle.os_quote.proofs.Common.{⊎_elim, ℕ, ◌*◌, ◌<◌, ◌≤◌, Bool, List, [], ◌∷◌, length, refl, ap, arith, length-append, encode_utf8, AllByRecursion, flat_map, cases_lt, nat_tests, length-encode, len_utf8_bounds, encode, form_encode, form_bounds, form_past, Item, Character, Backslash, ByteUnit, WideUnit, LongCharacter, long_digits, item_text, item_texts, IsItem, Chunk, AreChunks, some_chunks, PartLaws, IsChunkOf, chunks_of, IsEscapeBy, items_of, escape_of, item_bytes}
 use Rattle.os_quote.proofs.lemmas.Escapes.{escape_is_items}
 use Rattle.os_quote.proofs.lemmas.Items.{five_digits, six_digits}
 
@@ -11,11 +11,6 @@ pub record IsShort (text meant : List ℕ) : Type 0 where
 
 encoded_length : (c : ℕ) → (0 < length (encode_utf8 c)) × (length (encode_utf8 c) ≤ 4)
 encoded_length c = let n = length-encode c in let b = len_utf8_bounds c in (omega (arith, n, b.0), omega (arith, n, b.1))
-
--- a character past FFFF has four bytes
-long_length : (c : ℕ) → 0x1_0000 ≤ c → 4 ≤ length (encode c)
-unfolding encode
-long_length c h = grind (arith, nat_tests)
 
 pub digits_length : (c : ℕ) → (5 ≤ length (long_digits c)) × (length (long_digits c) ≤ 6)
 digits_length c =
@@ -33,7 +28,7 @@ module _ (shows : ℕ → Bool) where
   item_is_short (LongCharacter c) h =
       let d = digits_length c in
       let e = encoded_length c in
-      let four = long_length c h.1.0 in
+      let four = ap length (form_past c h.1.0) in
       let same = ap length (form_encode c) in
       let n = length-append (long_digits c) (0x7D ∷ []) in
       record { ten = omega (arith, d.1, n); six = omega (arith, d.1, n, four, same); some = omega (arith, d.0, n, e.1) }

@@ -153,12 +153,4 @@ read_shorter rest front behind item after k t =
     let s = some_bytes item in
     omega (arith, ap length k.joined, length-append front (backslash ∷ behind), ap length t, length-append (item_text item) after)
 
--- the bytes of one unit
-pub unit_form : (bytes : List ℕ) (u : ℕ) → u < 0x1_0000 → HasUnits bytes (u ∷ []) → bytes ≡ encode u
-unit_form bytes u lt h = units_once bytes (encode u) (u ∷ []) h (record {
-  code_points = u ∷ [];
-  spelled = record { code_points = (omega arith, tt); paired_free = (tt, tt); joined = sym (append-nil (encode u)) };
-  are = ap (λ x. x ++ []) (sym (wide_single u lt));
-})
-
 pub ruleset readings = (read_none, read_more, read_shorter, read_all, read_bad)

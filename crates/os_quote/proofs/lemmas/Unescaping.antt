@@ -18,10 +18,6 @@ module _ (shows : ℕ → Bool) where
   pub read_is_short : (text meant rest : List ℕ) → IsRead shows text meant rest → length meant + length rest ≤ length text
   read_is_short text meant rest r = omega (arith, (items_are_short shows r.items r.are).1, ap length r.bytes_are, ap length r.joined, length-append (item_texts r.items) rest)
 
-  -- nothing has been read of bytes
-  pub no_bytes_read : (bytes : List ℕ) → AreBytesRead shows bytes [] bytes
-  no_bytes_read bytes = record { short = omega arith; read = λ u. read_none shows bytes u }
-
   -- there is a number for those that are read with the next ones
   pub room_for_front : (bytes meant rest front behind : List ℕ) (count : ℕ) → AreBytesRead shows bytes meant rest → IsCutAtFirst rest front behind → count ≡ length meant → count + length front ≤ length bytes
   room_for_front bytes meant rest front behind count r cut n = omega (arith, r.short, n, ap length cut.joined, length-append front (backslash ∷ behind))

@@ -33,9 +33,6 @@ module _ (s : List ℕ) (n : ℕ) (w : WholeCharacter s 0 (0 + n)) where
   pub first_edge : IsBoundary s n
   first_edge = let z : 0 + n ≡ n = omega arith in record { is = inr (inr (inr (0, subst (WholeCharacter s 0) z w))) }
 
-  pub first_one : IsOneCharacter (take n s)
-  first_one = record { char = w.char; scalar = w.scalar; is = ap (take n) (begins_at s 0 (0 + n) w) ∙ take_at (encode w.char) w.stands.behind n (omega (arith, w.end)) }
-
 -- a character at the end
 module _ (s : List ℕ) (i : ℕ) (w : WholeCharacter s i (length s)) where
   pub last_edge : IsBoundary s i
@@ -48,12 +45,3 @@ module _ (s : List ℕ) (i : ℕ) (w : WholeCharacter s i (length s)) where
       let size : length (drop i s) ≡ length f + length w.stands.behind = ap length begins ∙ length-append f w.stands.behind in
       let none = nil_from_length w.stands.behind (omega (arith, size, length-drop i s, w.end, character_fits s i (length s) w)) in
       record { char = w.char; scalar = w.scalar; is = begins ∙ ap (λ r. f ++ r) none ∙ append-nil f }
-
--- what follows the first character of a text at the start of a string is a string
-pub formed_behind_character : (well_formed : List ℕ → Type 0) → ((b : List ℕ) (n : ℕ) → well_formed b → IsUtf8 (take n b) → well_formed (drop n b))
-    → (s left : List ℕ) (k c n : ℕ) → IsScalar c → take k s ≡ encode_utf8 c ++ left → n ≡ length (take k s) - length left → well_formed s → well_formed (drop n s)
-formed_behind_character well_formed behind_text s left k c n scalar text size formed =
-    let long : length (encode_utf8 c) ≡ n = omega (arith, size, ap length text, length-append (encode_utf8 c) left) in
-    let split : s ≡ encode_utf8 c ++ (left ++ drop k s) = sym (take-append-drop k s) ∙ ap (λ x. x ++ drop k s) text ∙ append_assoc (encode_utf8 c) left (drop k s) in
-    let front : take n s ≡ encode_utf8 c = ap (take n) split ∙ take_at (encode_utf8 c) (left ++ drop k s) n long in
-    behind_text s n formed (subst IsUtf8 (sym front) (IsUtf8-encode c scalar))

@@ -30,9 +30,3 @@ ascii_at s i h low =
     let b = get_or s i 0 in
     let f = form_ascii b low in
     subst (λ x. WholeCharacter s i (i + length x)) f (whole_at s i b (drop (i + 1) s) (omega (arith, h)) (low_scalar b (omega (arith, low))) (drop_more s i 0 h ∙ ap (λ x. x ++ drop (i + 1) s) (sym f)))
-
-pub boundary_by_start : (s : List ℕ) (i j : ℕ) → WholeCharacter s i j → IsBoundary s i
-boundary_by_start s i j w = record { is = inr (inr (inl (j, w))) }
-
-pub boundary_behind : (s : List ℕ) (i : ℕ) → 0 < i → WholeCharacter s (i - 1) (i - 1 + 1) → IsBoundary s i
-boundary_behind s i h w = let z : i - 1 + 1 ≡ i = omega (arith, h) in record { is = inr (inr (inr (i - 1, subst (WholeCharacter s (i - 1)) z w))) }

@@ -2,7 +2,7 @@
 use Rattle.std.proofs.Common.{◌≡◌, ⊎_elim, ℕ, zero, suc, Bool, true, false, ◌+◌, ◌*◌, ◌/◌, ◌%◌, ◌^◌, ◌<◌, ◌≤◌, cond, ltb, leb, eqb, not, refl, sym, ap, ◌∙◌, subst, arith, List, [], ◌∷◌, ◌++◌, get_or, length, drop, take}
 use Rattle.wtf8_core.proofs.Common.{cases_lt}
 use Rattle.wtf8_core.proofs.lemmas.units.OneToOne.{wide_pair}
-use Rattle.platform_str.proofs.Common.{nat_tests, take_all, length-take-le, get_or-take, wide_single, form_ascii, form_past, encode, encode_utf16, IsCodePoint, units, flat_map, IsWtf8, HasUnits, units_of, has_units_of, code_points_in-spelled, AllByRecursion, append_assoc}
+use Rattle.platform_str.proofs.Common.{nat_tests, take_all, length-take-le, get_or-take, wide_single, form_ascii, form_two, form_three, form_past, encode, encode_utf16, IsCodePoint, units, flat_map, IsWtf8, HasUnits, units_of, has_units_of, code_points_in-spelled, AllByRecursion, append_assoc}
 use Rattle.wtf8_core.specs.Surrogate.{high_unit, low_unit}
 use Rattle.platform_str.specs.ByteUnits.{adds_unit, bits_of_two, bits_of_three, unit_at, added, units_after_first, marked}
 
@@ -104,12 +104,6 @@ block_chosen w lanes marks p q h u m =
     ∙ ap (λ l. marked l (take 16 marks) ++ units_after_first (drop 16 w)) (take_all 16 lanes (omega (arith, p)))
     ∙ ap (λ l. marked lanes l ++ units_after_first (drop 16 w)) (take_all 16 marks (omega (arith, q)))
 
--- the second byte's part
-pub second_adds : (w : List ℕ) → 1 < length w → units_after_first w ≡ added (get_or w 0 0) (get_or w 1 0) (get_or w 2 0) (get_or w 3 0) ++ units_after_first (drop 1 w)
-second_adds [] h = absurd (omega (arith, h))
-second_adds (a ∷ []) h = absurd (omega (arith, h))
-second_adds (a ∷ b ∷ bs) h = refl
-
 -- one byte adds nothing
 pub none_after : (w : List ℕ) → length w ≤ 1 → units_after_first w ≡ []
 none_after [] h = refl
@@ -132,14 +126,6 @@ high_adds a c h l m = grind (arith, nat_tests, h, l, m)
 
 low_adds : (c : ℕ) → 0x1_0000 ≤ c → IsCodePoint c → added (0xF0 + c / 0x4_0000) (0x80 + (c / 0x1000) % 0x40) (0x80 + (c / 0x40) % 0x40) (0x80 + c % 0x40) ≡ low_unit c ∷ []
 low_adds c l m = grind (arith, nat_tests, l, m)
-
-form_two : (c : ℕ) → 0x80 ≤ c → c < 0x800 → encode c ≡ (0xC0 + c / 0x40) ∷ (0x80 + c % 0x40) ∷ []
-unfolding encode
-form_two c h l = grind (arith, nat_tests)
-
-form_three : (c : ℕ) → 0x800 ≤ c → c < 0x1_0000 → encode c ≡ (0xE0 + c / 0x1000) ∷ (0x80 + (c / 0x40) % 0x40) ∷ (0x80 + c % 0x40) ∷ []
-unfolding encode
-form_three c h l = grind (arith, nat_tests)
 
 skip : (f k : ℕ) (rest : List ℕ) → f < 0xF0 → 0x80 ≤ k → k < 0xC0 → units_after_first (f ∷ k ∷ rest) ≡ units_after_first (k ∷ rest)
 skip f k rest h l m = ap (λ x. x ++ units_after_first (k ∷ rest)) (adds_nothing f k (get_or rest 0 0) (get_or rest 1 0) h l m)

@@ -1,5 +1,5 @@
 -- How many bytes units have, by counts of units and of pairs.
-use Rattle.platform_str.proofs.Common.{◌≡◌, ℕ, zero, suc, ◌+◌, ◌*◌, ◌≤◌, ◌<◌, Bool, cond, eqb, leb, List, [], ◌∷◌, length, length-append, take, drop, refl, ap, ◌∙◌, arith, cond_both, nat_tests, length-take, sum_by-cons, count_by-le-length, AllByRecursion, flat_map, count_by, zip2, IsHigh, IsLow, is_pair, paired, encode, HasUnits, IsUnit, units_once, spelled_units, begins_pair, pairs}
+use Rattle.platform_str.proofs.Common.{◌≡◌, ℕ, zero, suc, ◌+◌, ◌*◌, ◌≤◌, ◌<◌, Bool, cond, eqb, leb, List, [], ◌∷◌, length, length-append, take, drop, refl, ap, ◌∙◌, arith, cond_both, nat_tests, length-take, sum_by-cons, count_by-le-length, AllByRecursion, flat_map, count_by, zip2, IsHigh, IsLow, is_pair, paired, encode, form_past, HasUnits, IsUnit, units_once, spelled_units, begins_pair, pairs}
 use Rattle.platform_str.proofs.lemmas.Lanes.{six_and_six}
 use Rattle.wtf8_core.specs.Decoder.{code_points_of}
 
@@ -25,10 +25,6 @@ form_one : (u : ℕ) → IsUnit u → length (encode u) ≡ counted_one u
 unfolding encode
 form_one u i = grind (arith, nat_tests)
 
-form_pair : (u v : ℕ) → length (encode (paired u v)) ≡ 4
-unfolding encode
-form_pair u v = grind (arith, nat_tests)
-
 no_pair_behind_low : (v : ℕ) (us : List ℕ) → 0xDC00 ≤ v → begins_pair v us ≡ 0
 no_pair_behind_low v [] h = refl
 no_pair_behind_low v (w ∷ us) h = grind (arith, nat_tests)
@@ -43,7 +39,7 @@ all_counted (u ∷ v ∷ us) a =
     (λ e.
     let h : IsHigh u × IsLow v = grind (arith, nat_tests) in
     let one : begins_pair u (v ∷ us) ≡ 1 = ap (λ t. cond t 1 0) e in
-    omega (arith, length-append (encode (paired u v)) (flat_map encode (code_points_of us)), form_pair u v, one, no_pair_behind_low v us h.1.0, counted_first u (v ∷ us), counted_first v us, three_from u (omega (arith, h.0.0)), three_from v (omega (arith, h.1.0)), all_counted us a.1.1))
+    omega (arith, length-append (encode (paired u v)) (flat_map encode (code_points_of us)), ap length (form_past (paired u v) (omega arith)), one, no_pair_behind_low v us h.1.0, counted_first u (v ∷ us), counted_first v us, three_from u (omega (arith, h.0.0)), three_from v (omega (arith, h.1.0)), all_counted us a.1.1))
     (λ e.
     let none : begins_pair u (v ∷ us) ≡ 0 = ap (λ t. cond t 1 0) e in
     omega (arith, length-append (encode u) (flat_map encode (code_points_of (v ∷ us))), form_one u a.0, none, counted_first u (v ∷ us), all_counted (v ∷ us) a.1))

@@ -6,10 +6,18 @@ pub form_ascii : (c : ℕ) → c < 0x80 → encode c ≡ c ∷ []
 unfolding encode
 form_ascii c h = grind (arith, nat_tests)
 
+-- of one below 800 two, and below 10000 three
+pub form_two : (c : ℕ) → 0x80 ≤ c → c < 0x800 → encode c ≡ (0xC0 + c / 0x40) ∷ (0x80 + c % 0x40) ∷ []
+unfolding encode
+form_two c h l = grind (arith, nat_tests)
+
+pub form_three : (c : ℕ) → 0x800 ≤ c → c < 0x1_0000 → encode c ≡ (0xE0 + c / 0x1000) ∷ (0x80 + (c / 0x40) % 0x40) ∷ (0x80 + c % 0x40) ∷ []
+unfolding encode
+form_three c h l = grind (arith, nat_tests)
+
 -- of a surrogate three
 pub form_surrogate : (c : ℕ) → IsSurrogate c → encode c ≡ (0xE0 + c / 0x1000) ∷ (0x80 + (c / 0x40) % 0x40) ∷ (0x80 + c % 0x40) ∷ []
-unfolding encode
-form_surrogate c h = grind (arith, nat_tests, h)
+form_surrogate c h = form_three c (omega (arith, h.0)) (omega (arith, h.1))
 
 pub length-form_surrogate : (c : ℕ) → IsSurrogate c → length (encode c) ≡ 3
 length-form_surrogate c h = ap length (form_surrogate c h)

@@ -1,6 +1,6 @@
 -- Bytes that keep to the pattern are forms of code points.
-use Rattle.wtf8_core.proofs.Common.{◌≡◌, inl, inr, ⊎_elim, ℕ, zero, suc, ◌+◌, ◌<◌, ◌≤◌, List, [], ◌∷◌, ◌++◌, length, get_or, refl, sym, ap, ◌∙◌, subst, arith, cases_lt, nat_tests, AllByRecursion, flat_map, IsScalar, low_scalar, IsContinuation, IsHigh, IsLow, encode, Encodes, MayPrecede, last_or, shape_value, AllMayStand, Steps, IsBetweenCodePoints, ◌/◌, ◌%◌}
-use Rattle.wtf8_core.proofs.lemmas.forms.Shapes.{form_ascii, form_past}
+use Rattle.wtf8_core.proofs.Common.{◌≡◌, inl, inr, ⊎_elim, ℕ, zero, suc, ◌<◌, ◌≤◌, List, [], ◌∷◌, ◌++◌, length, get_or, refl, sym, ap, ◌∙◌, subst, arith, cases_lt, AllByRecursion, flat_map, IsScalar, low_scalar, IsContinuation, IsHigh, IsLow, encode, Encodes, MayPrecede, last_or, shape_value, AllMayStand, Steps, IsBetweenCodePoints}
+use Rattle.wtf8_core.proofs.lemmas.forms.Shapes.{form_ascii, form_two, form_three, form_past}
 use Rattle.wtf8_core.proofs.lemmas.scan.LedForms.{IsFormOf, two_small, two_form, two_scalar, three_form, three_high, three_low, only_three_high, three_scalar, four_past, four_form, four_scalar}
 use Rattle.wtf8_core.specs.declared.scan.Encoding.{Encoding}
 use Rattle.wtf8_core.specs.declared.scan.Encoding.TheVariants.{Utf8}
@@ -37,14 +37,6 @@ data IsShaped (c : ℕ) : List ℕ → Type 0 where
   two : (a b : ℕ) → c < 0x800 → a < 0xE0 → IsContinuation b → IsShaped c (a ∷ b ∷ [])
   three : (a b d : ℕ) → a < 0xF0 → IsContinuation b → IsContinuation d → (IsHigh c → (a ≡ 0xED) × (0xA0 ≤ b) × (b < 0xB0)) → (a ≡ 0xED → 0xA0 ≤ b → b < 0xB0 → IsHigh c) → IsShaped c (a ∷ b ∷ d ∷ [])
   four : (a b d g : ℕ) → 0x1_0000 ≤ c → IsContinuation b → IsContinuation d → IsContinuation g → IsShaped c (a ∷ b ∷ d ∷ g ∷ [])
-
-form_two : (c : ℕ) → 0x80 ≤ c → c < 0x800 → encode c ≡ (0xC0 + c / 0x40) ∷ (0x80 + c % 0x40) ∷ []
-unfolding encode
-form_two c h l = grind (arith, nat_tests)
-
-form_three : (c : ℕ) → 0x800 ≤ c → c < 0x1_0000 → encode c ≡ (0xE0 + c / 0x1000) ∷ (0x80 + (c / 0x40) % 0x40) ∷ (0x80 + c % 0x40) ∷ []
-unfolding encode
-form_three c h l = grind (arith, nat_tests)
 
 shaped : (c : ℕ) → IsShaped c (encode c)
 shaped c =
