@@ -1,6 +1,6 @@
 -- What the tables say, by a test of each of their entries.
-use Rattle.wtf8_core.proofs.Common.{◌≡◌, ◌⊎◌, inl, inr, ⊎_elim, ℕ, suc, ◌+◌, ◌-◌, ◌*◌, ◌≤◌, Bool, true, false, leb, eqb, ◌&&◌, ◌||◌, List, [], ◌∷◌, map, ◌<◌, get_or, refl, sym, ap, ◌∙◌, and_parts, or_cases, leb-true, eqb-true, beq, needed_continuations, lead_bits, least_value, class_at, next_at, Row, needed, rows, SomeRow, is_plain, State, Between, BehindHigh, OneMore, TwoMore, BehindE0, BehindEd, HighThenEd, LastOfHigh, BehindF0, BehindF1, BehindF4, BehindF5, BadLastTwo, BadFourth, Refused, BadThird, Class, state_index}
-use Rattle.wtf8_core.specs.Table.{class_index}
+use Rattle.wtf8_core.proofs.Common.{◌≡◌, ◌⊎◌, inl, inr, ⊎_elim, ℕ, suc, ◌+◌, ◌-◌, ◌*◌, ◌≤◌, Bool, true, false, leb, eqb, ◌&&◌, ◌||◌, List, [], ◌∷◌, map, ◌<◌, get_or, refl, sym, ap, ◌∙◌, and_parts, or_cases, leb-true, eqb-true, beq, needed_continuations, lead_bits, least_value, class_at, next_at, Row, needed, rows, SomeRow, is_plain, State, Between, BehindHigh, BadFourth, Refused, BadThird, Class, state_index}
+use Rattle.wtf8_core.specs.Table.{state_at, class_index}
 use Rattle.wtf8_core.specs.declared.table.Class.TheVariants.{Ascii}
 use Rattle.wtf8_core.proofs.lemmas.scan.ComputedTests.{each_below}
 
@@ -30,12 +30,11 @@ Holds (is s t) = s ≡ t
 Holds (both p q) = Holds p × Holds q
 Holds (either p q) = Holds p ⊎ Holds q
 
-abbrev states : List State
-states = Between ∷ BehindHigh ∷ OneMore ∷ TwoMore ∷ BehindE0 ∷ BehindEd ∷ HighThenEd ∷ LastOfHigh ∷ BehindF0 ∷ BehindF1 ∷ BehindF4 ∷ BehindF5 ∷ BadLastTwo ∷ BadFourth ∷ Refused ∷ BadThird ∷ []
-
-state_at : (s : State) → get_or states (state_index s) Between ≡ s
-state_at Between = refl
-state_at s = refl
+-- the state at its own index
+pub at_index : (s : State) → state_at (state_index s) ≡ s
+unfolding state_at
+at_index Between = refl
+at_index s = refl
 
 holds : (t : Test) → passes t ≡ true → Holds t
 holds (at_most a b) e = leb-true a b e
@@ -43,7 +42,7 @@ holds (equal a b) e = eqb-true a b e
 holds (alike true true) e = refl
 holds (alike false false) e = refl
 holds (alike a b) e = cc
-holds (is s t) e = sym (state_at s) ∙ ap (λ i. get_or states i Between) (eqb-true _ _ e) ∙ state_at t
+holds (is s t) e = sym (at_index s) ∙ ap state_at (eqb-true _ _ e) ∙ at_index t
 holds (both p q) e = let w = and_parts (passes p) (passes q) e in (holds p w.0, holds q w.1)
 holds (either p q) e = ⊎_elim (λ a. inl (holds p a)) (λ a. inr (holds q a)) (or_cases (passes p) (passes q) e)
 

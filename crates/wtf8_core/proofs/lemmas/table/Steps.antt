@@ -1,5 +1,6 @@
 -- One more byte in the table is one more byte of the reader.
-use Rattle.wtf8_core.proofs.Common.{◌≡◌, ◌≢◌, ◌⊎◌, refl, HasFirstFault, inl, inr, ⊎_elim, ℕ, zero, suc, ◌+◌, ◌*◌, ◌-◌, ◌%◌, ◌<◌, ◌≤◌, Bool, true, false, List, [], ◌∷◌, ◌++◌, map, Result, Ok, Err, sym, ap, ◌∙◌, subst, arith, nat_tests, append_assoc, append-nil, map-append, cond_both, cond-true, cond-false, is_in_range, All, All-append, All-from_recursion, IsByte, IsContinuation, needed_continuations, is_high, lead_bits, checked_value, first_split, split_within, items_from, items_after, AreItems, class_at, next_at, Gives, Row, needed, rows, SomeRow, IsOpen, Stands, IsFaulty, kept_bits, joined_bits, fault_at, is_between, EncodingError, Byte, CodePoint, End, State, Between, BehindHigh, BadFourth, Refused, BadThird}
+use Rattle.wtf8_core.proofs.Common.{◌≡◌, ◌≢◌, ◌⊎◌, refl, HasFirstFault, inl, inr, ⊎_elim, ℕ, zero, suc, ◌+◌, ◌*◌, ◌-◌, ◌%◌, ◌<◌, ◌≤◌, Bool, true, false, List, [], ◌∷◌, ◌++◌, map, Result, Ok, Err, sym, ap, ◌∙◌, subst, arith, nat_tests, append_assoc, append-nil, map-append, cond_both, cond-true, cond-false, All, All-append, All-from_recursion, IsByte, IsContinuation, needed_continuations, is_high, lead_bits, checked_value, first_split, split_within, items_from, items_after, AreItems, class_at, next_at, Gives, Row, needed, rows, SomeRow, IsOpen, Stands, IsFaulty, kept_bits, joined_bits, fault_at, is_continuation, cond, EncodingError, Byte, CodePoint, End, State, Between, BehindHigh, BadFourth, Refused, BadThird}
+use Rattle.wtf8_core.specs.Checker.{value_fault}
 use Rattle.wtf8_core.proofs.lemmas.forms.Ranges.{in_range, not_in_range}
 use Rattle.wtf8_core.proofs.lemmas.reader.Complete.{when_good, when_bad}
 use Rattle.wtf8_core.proofs.lemmas.reader.FirstErr.{items_first_err}
@@ -42,16 +43,13 @@ opened_of_rows Between bits b r = absurd r
 opened_of_rows BehindHigh bits b r = absurd r
 opened_of_rows t bits b r = r
 
-fault_low : (s : State) (bits x : ℕ) → is_between s ≡ true → fault_at s bits x ≡ Byte x
-fault_low Between bits x h = cond_both (is_in_range 0x80 0xBF x) _ _ (λ f. f ≡ Byte x) (λ _. refl) (λ _. refl)
-fault_low BehindHigh bits x h = cond_both (is_in_range 0x80 0xBF x) _ _ (λ f. f ≡ Byte x) (λ _. refl) (λ _. refl)
-fault_low s bits x h = cc
+-- the fault of a last continuation that is refused
+fault_last : (s t : State) (bits x v : ℕ) → s ≡ t → IsContinuation x → value_fault t bits x ≡ CodePoint v → fault_at s bits x ≡ CodePoint v
+fault_last s t bits x v e c h = subst (λ z. fault_at z bits x ≡ CodePoint v) (sym e) (cond-true _ _ _ (in_range 0x80 0xBF x c) ∙ h)
 
-fault_four : (s : State) (bits x v : ℕ) → s ≡ BadFourth → IsContinuation x → bits % 0x40_0000 ≡ v → fault_at s bits x ≡ CodePoint v
-fault_four s bits x v e c h = subst (λ z. fault_at z bits x ≡ CodePoint v) (sym e) (cond-true _ _ _ (in_range 0x80 0xBF x c) ∙ ap CodePoint h)
-
-fault_three : (s : State) (bits x v : ℕ) → s ≡ BadThird → IsContinuation x → bits % 0x1_0000 ≡ v → fault_at s bits x ≡ CodePoint v
-fault_three s bits x v e c h = subst (λ z. fault_at z bits x ≡ CodePoint v) (sym e) (cond-true _ _ _ (in_range 0x80 0xBF x c) ∙ ap CodePoint h)
+-- where no sequence is open any byte that is refused is the fault
+no_value : (x : ℕ) → cond (is_continuation x) (Byte x) (Byte x) ≡ Byte x
+no_value x = cond_both (is_continuation x) _ _ (λ f. f ≡ Byte x) (λ _. refl) (λ _. refl)
 
 -- what a byte does in a state
 pub record Goes (state : State) (bits : ℕ) (b : List ℕ) (x : ℕ) (t : State) : Type 0 where
@@ -109,8 +107,8 @@ module _ (s t : State) (bits : ℕ) (b : List ℕ) (x : ℕ) (u : x < 256) where
         refused q.given (CodePoint v) (λ i. cc)
         (whole c y.0 (Err (CodePoint v)) (when_bad r.high (needed r) v (⊎_elim (λ w. inl (omega (arith, w, below))) (λ w. inr (⊎_elim (λ w. inl (omega (arith, w, above))) (λ w. inr (w.0, (omega (arith, w.1.0, above), omega (arith, w.1.1, below)))) w)) f.1))) z.0
         (⊎_elim
-        (λ w. fault_four s _ x v w.0 c (subst (λ n. kept_bits (suc n) (joined_bits bits x) ≡ v) w.1 (kept (omega (arith, w.1)))))
-        (λ w. fault_three s _ x v w.0 c (subst (λ n. kept_bits (suc n) (joined_bits bits x) ≡ v) w.1 (kept (omega (arith, w.1)))))
+        (λ w. fault_last s BadFourth _ x v w.0 c (ap CodePoint (subst (λ n. kept_bits (suc n) (joined_bits bits x) ≡ v) w.1 (kept (omega (arith, w.1))))))
+        (λ w. fault_last s BadThird _ x v w.0 c (ap CodePoint (subst (λ n. kept_bits (suc n) (joined_bits bits x) ≡ v) w.1 (kept (omega (arith, w.1))))))
         f.0))
         (λ z. accepted q.given v
         (whole c y.0 (Ok v) (when_good r.high (needed r) v (omega (arith, z.0, above)) (omega (arith, z.1.0, below))
@@ -143,12 +141,12 @@ module _ (s t : State) (bits : ℕ) (b : List ℕ) (x : ℕ) (u : x < 256) where
             ∙ ap (λ m. items_from (split_within n.high (needed n) m v more)) g.1.1.0
 
   -- after a whole form
-  between_goes : (h : Bool) → is_between s ≡ true → Gives b (items_after h) → Holds (between_entry h (class_at x) t) → Goes s bits b x t
-  between_goes h l g e = ⊎_elim
+  between_goes : (h : Bool) → fault_at s (joined_bits bits x) x ≡ Byte x → Gives b (items_after h) → Holds (between_entry h (class_at x) t) → Goes s bits b x t
+  between_goes h fault g e = ⊎_elim
       (λ a. let small : x < 0x80 = omega (arith, a.0, k.1.0) in
       accepted g x (first (Ok x) (λ more. more) (λ more. split-ascii h x more small)) (inl (a.1, not_in_range 0xD800 0xDBFF x (λ q. omega (arith, q.0, small)))))
       (λ a. ⊎_elim
-      (λ y. refused g (Byte x) (λ i. cc) (first (Err (Byte x)) (λ more. more) (λ more. split-stray h x more (omega (arith, y.0.0, k.0), omega (arith, y.0.1, k.1.0)))) y.1 (fault_low s _ x l))
+      (λ y. refused g (Byte x) (λ i. cc) (first (Err (Byte x)) (λ more. more) (λ more. split-stray h x more (omega (arith, y.0.0, k.0), omega (arith, y.0.1, k.1.0)))) y.1 fault)
       (λ y. rows_go (some_from (begins h (class_at x)) (IsOpen (joined_bits bits x) (b ++ x ∷ [])) (rows t) y opens))
       a)
       e
@@ -175,8 +173,8 @@ module _ (s t : State) (bits : ℕ) (b : List ℕ) (x : ℕ) (u : x < 256) where
           }) k.1.1.0
 
 pub goes : (s : State) (bits : ℕ) (b : List ℕ) (x : ℕ) → x < 256 → Stands s bits b → Goes s bits b x (next_at s (class_at x))
-goes Between bits b x u m = between_goes Between (next_at Between (class_at x)) bits b x u false refl m (entered Between (class_at x))
-goes BehindHigh bits b x u m = between_goes BehindHigh (next_at BehindHigh (class_at x)) bits b x u true refl m (entered BehindHigh (class_at x))
+goes Between bits b x u m = between_goes Between (next_at Between (class_at x)) bits b x u false (no_value x) m (entered Between (class_at x))
+goes BehindHigh bits b x u m = between_goes BehindHigh (next_at BehindHigh (class_at x)) bits b x u true (no_value x) m (entered BehindHigh (class_at x))
 goes s bits b x u m =
     let t = next_at s (class_at x) in
     some_with (open_entry s (class_at x) t) (IsOpen bits b) (Goes s bits b x t) (rows s) m (entered s (class_at x)) (λ r q. open_goes s t bits b x u r q)
