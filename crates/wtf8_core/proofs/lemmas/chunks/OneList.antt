@@ -1,5 +1,5 @@
 -- A string has exactly one list of chunks.
-use Rattle.wtf8_core.proofs.Common.{◌≡◌, ⊎_elim, ℕ, ◌+◌, ◌-◌, ◌<◌, Bool, true, false, List, [], ◌∷◌, ◌++◌, length, refl, sym, ap, ◌∙◌, subst, arith, length-append, append_assoc, cases_lt, cases_eq, append-nil, IsCovered, CrossesNoCharacter, Chunk, joined, AreChunks}
+use Rattle.wtf8_core.proofs.Common.{◌≡◌, ⊎_elim, ℕ, ◌+◌, ◌-◌, ◌<◌, Bool, true, false, List, [], ◌∷◌, ◌++◌, length, refl, sym, ap, ◌∙◌, subst, arith, length-append, append_assoc, cases_lt, cases_eq, append-nil, nil_from_length, IsCovered, CrossesNoCharacter, Chunk, joined, AreChunks}
 use Rattle.wtf8_core.proofs.lemmas.forms.Appending.{append_same}
 use Rattle.wtf8_core.proofs.lemmas.characters.Seams.{Bare, Covered, over_none, over_first, bare_or_covered, covered_within, covered_behind}
 use Rattle.wtf8_core.proofs.lemmas.chunks.Groups.{IsGroup, AreGroups, groups_from_each, each_from_groups, EachIsOfOne, grouped, not_first}
@@ -32,13 +32,8 @@ some_chunks s =
     each i [] = tt
     each i (x ∷ xs) = (bare_or_covered s i, each (i + 1) xs)
 
--- a list of no elements
-pub empty : (xs : List ℕ) → length xs ≡ 0 → xs ≡ []
-empty [] e = refl
-empty (x ∷ xs) e = absurd (omega arith)
-
 some_bytes : (xs : List ℕ) → (xs ≡ [] → ⊥) → 0 < length xs
-some_bytes xs h = ⊎_elim (λ e. absurd (h (empty xs e))) (λ ne. omega arith) (cases_eq (length xs) 0)
+some_bytes xs h = ⊎_elim (λ e. absurd (h (nil_from_length xs e))) (λ ne. omega arith) (cases_eq (length xs) 0)
 
 joined_size : (c : Chunk) (cs : List Chunk) → length (joined (c ∷ cs)) ≡ length c.0 + length c.1 + length (joined cs)
 joined_size c cs = simp length-append (omega arith)
@@ -56,7 +51,7 @@ module _ (s : List ℕ) where
   part_not_longer i f g c d cs ds h k same lt =
       let l = sym (joined_size c cs) ∙ ap length same ∙ joined_size d ds in
       ⊎_elim
-      (λ e. let none : length (joined cs) ≡ 0 = ap (λ x. length (joined x)) (h.text_last (empty c.1 e)) in omega arith)
+      (λ e. let none : length (joined cs) ≡ 0 = ap (λ x. length (joined x)) (h.text_last (nil_from_length c.1 e)) in omega arith)
       (λ ne. k.part (i + length c.0) (omega arith) (omega arith) (h.text (i + length c.0) (omega arith) (omega arith)))
       (cases_eq (length c.1) 0)
 
@@ -109,7 +104,7 @@ module _ (s x r : List ℕ) (is : s ≡ x ++ r) (seam : CrossesNoCharacter s (le
 pub one_more_chunk : (s p t r : List ℕ) (cs : List Chunk) → s ≡ p ++ (t ++ r) → 0 < length s → Bare s 0 p → Covered s (length p) t → CrossesNoCharacter s (length (p ++ t)) → (t ≡ [] → r ≡ []) → (0 < length r → ¬ (IsCovered s (length (p ++ t)))) → AreChunks r cs → AreChunks s ((p, t) ∷ cs)
 one_more_chunk s p t r cs e some bare covered seam last ended h = are_chunks s ((p, t) ∷ cs) (ap (λ x. p ++ (t ++ x)) h.joins ∙ sym e) (
   record {
-    some = ⊎_elim (λ z. let none = last (empty t z) in omega (arith, size (p, t), ap length none, long)) (λ ne. omega (arith, size (p, t))) (cases_eq (length t) 0);
+    some = ⊎_elim (λ z. let none = last (nil_from_length t z) in omega (arith, size (p, t), ap length none, long)) (λ ne. omega (arith, size (p, t))) (cases_eq (length t) 0);
     part = bare;
     text = λ k low high. covered k (omega arith) (omega arith);
     part_first = λ _. refl;

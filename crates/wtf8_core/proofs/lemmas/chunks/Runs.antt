@@ -1,5 +1,5 @@
 -- The chunks of WTF-8 are the forms of its runs of surrogates, each with the scalar values after it.
-use Rattle.wtf8_core.proofs.Common.{◌≡◌, inl, inr, ⊎_elim, ℕ, ◌+◌, ◌-◌, ◌≤◌, Bool, true, false, List, [], ◌∷◌, ◌++◌, map, length, drop, get_or, refl, sym, ap, ◌∙◌, subst, arith, length-append, append_assoc, drop-append_seam, cases_eq, cases_Bool, flat_map-append, get_or-drop, get_or_append_left, IsScalar, AllByRecursion, IsContinuation, IsSurrogate, is_surrogate, IsCodePoint, encode, IsCovered, CrossesNoCharacter, Chunk, joined, AreChunks, Encodes}
+use Rattle.wtf8_core.proofs.Common.{nil_from_length, ◌≡◌, inl, inr, ⊎_elim, ℕ, ◌+◌, ◌-◌, ◌≤◌, Bool, true, false, List, [], ◌∷◌, ◌++◌, map, length, drop, get_or, refl, sym, ap, ◌∙◌, subst, arith, length-append, append_assoc, drop-append_seam, cases_eq, cases_Bool, flat_map-append, get_or-drop, get_or_append_left, IsScalar, AllByRecursion, IsContinuation, IsSurrogate, is_surrogate, IsCodePoint, encode, IsCovered, CrossesNoCharacter, Chunk, joined, AreChunks, Encodes}
 use Rattle.wtf8_core.specs.Runs.{AreRuns, form_chunk}
 use Rattle.wtf8_core.proofs.lemmas.forms.Ranges.{in_range-true, in_range}
 use Rattle.wtf8_core.proofs.lemmas.forms.Shapes.{form_bounds}
@@ -8,7 +8,7 @@ use Rattle.wtf8_core.proofs.lemmas.characters.AtPlaces.{begins_at, is_scalar, sc
 use Rattle.wtf8_core.proofs.lemmas.characters.Overlaps.{form_behind, no_start}
 use Rattle.wtf8_core.proofs.lemmas.characters.Seams.{Bare, bare_run, seam_at_start, Forms, forms_over, scalar_covered}
 use Rattle.wtf8_core.proofs.lemmas.chunks.Groups.{AreGroups, each_from_groups, EachIsOfOne, grouped}
-use Rattle.wtf8_core.proofs.lemmas.chunks.OneList.{AreChunksFrom, empty, are_chunks, chunks_once}
+use Rattle.wtf8_core.proofs.lemmas.chunks.OneList.{AreChunksFrom, are_chunks, chunks_once}
 
 -- the bytes of a surrogate aren't in any whole character
 surrogate_bare : (s x r : List ℕ) (i c : ℕ) → s ≡ x ++ (encode c ++ r) → length x ≡ i → IsSurrogate c → CrossesNoCharacter s i → Bare s i (encode c) × CrossesNoCharacter s (i + length (encode c))
@@ -36,7 +36,7 @@ as_many [] = omega arith
 as_many (c ∷ cs) = let b = form_bounds c in let more = as_many cs in omega (arith, length-append (encode c) (Forms cs))
 
 no_forms : (cs : List ℕ) → Forms cs ≡ [] → cs ≡ []
-no_forms cs e = empty cs (omega (arith, as_many cs, ap length e))
+no_forms cs e = nil_from_length cs (omega (arith, as_many cs, ap length e))
 
 -- the bytes of runs are chunks
 chunks_of_runs : (s x : List ℕ) (i j : ℕ) (first : Bool) (runs : List Chunk) → s ≡ x ++ Forms (joined runs) → length x ≡ i → AreGroups Surrogates Scalars j first runs → CrossesNoCharacter s i → AreChunksFrom s i first (map form_chunk runs)

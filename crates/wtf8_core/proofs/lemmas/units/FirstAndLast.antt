@@ -57,10 +57,6 @@ half_last s x a b d e (cs, w) h k =
       units_of_spelled s cs w ∙ ap units (r.cut ∙ ap (λ z. r.front ++ z) p.1.only) ∙ units_last r.front c ∙ ap (λ z. units r.front ++ z) (wide_pair c p.1.past) ∙ sym (append_assoc (units r.front) (high ∷ []) (low_unit c ∷ [])) ∙ ap (λ z. (units r.front ++ high ∷ []) ++ z ∷ []) low,
     )
 
--- a code point past FFFF has four bytes
-pub four_long : (c : ℕ) → 0x1_0000 ≤ c → length (encode c) ≡ 4
-four_long c h = ap length (form_past c h)
-
 -- four last bytes
 four_items : (last : List ℕ) → length last ≡ 4 → last ≡ get_or last 0 0 ∷ get_or last 1 0 ∷ get_or last 2 0 ∷ get_or last 3 0 ∷ []
 four_items last h = four_first last (omega (arith, h)) ∙ ap (λ z. get_or last 0 0 ∷ get_or last 1 0 ∷ get_or last 2 0 ∷ get_or last 3 0 ∷ z) (drop_all 4 last (omega (arith, h)))
@@ -74,7 +70,7 @@ half_of s last w l e h =
 -- bytes whose fourth last is below F0 end with no form past FFFF
 pub no_past_form : (s last front : List ℕ) (c : ℕ) → last ≡ drop (length s - 4) s → 0x1_0000 ≤ c → s ≡ front ++ encode c → get_or last 0 0 < 0xF0 → ⊥
 no_past_form s last front c e h f i =
-    let q : get_or last 0 0 ≡ 0xF0 + c / 0x4_0000 = ap (λ z. get_or z 0 0) (form_at_end s last front 4 c e (four_long c h) f ∙ form_past c h) in
+    let q : get_or last 0 0 ≡ 0xF0 + c / 0x4_0000 = ap (λ z. get_or z 0 0) (form_at_end s last front 4 c e (ap length (form_past c h)) f ∙ form_past c h) in
     omega arith
 
 -- a string that ends with neither has no low surrogate as its last unit
