@@ -1,3 +1,2 @@
 pub mod KnownNames
-pub mod RowsAsked
 pub mod TurnsEnded

@@ -1,20 +1,17 @@
-//! For trying: what a user of the programs' libraries, of answer files and of the allocator that
-//! refuses concludes from their public contracts alone.
+//! For trying: what a user of the programs' libraries and of the allocator that refuses concludes
+//! from their public contracts alone.
 //!
 //! Each function is a caller whose contract is such a conclusion. Nothing here cites a lemma
 //! or a private word of the crates below, so that a contract that says too little breaks a caller.
 #![tactic(auto)]
 
-mod lists;
 mod marks;
 mod names;
 mod plans;
 mod programs;
-mod rows;
 mod runs;
 mod words;
 
-pub use lists::{bytes_again, units_again};
 pub use marks::marked_by_no_bytes;
 pub use names::{check_one, known_request, line_before, line_of, names_again, request_of_two};
 pub use plans::{kept, refuses_first, turns};
@@ -22,6 +19,5 @@ pub use programs::{
     after_a_fault, after_success, names_without_arguments, program_names, statuses, with_arguments,
     with_words, without_arguments,
 };
-pub use rows::{asked_alike, counts, differs, is_whole, nothing_asked, status_of_difference};
 pub use runs::{faults_match_marks, run_once, split_at_nothing};
 pub use words::{known_words, splits_at_nothing, too_many_words};

@@ -1,3 +1,0 @@
-pub mod AnswerFileLemmas
-pub mod AskedLemmas
-pub mod HexTextLemmas

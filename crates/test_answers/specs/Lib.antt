@@ -1,6 +1,0 @@
-pub mod AnswerFile
-pub mod Asked
-pub mod Column
-pub mod File
-pub mod HexText
-pub mod Row
