@@ -1,4 +1,4 @@
-"""A changed crate, checked over the libraries that `rt ci` has built in this checkout."""
+"""Crates, checked and built over the libraries that are built in this checkout."""
 
 from __future__ import annotations
 
@@ -12,6 +12,8 @@ from laid_in import kit as toolchain
 
 ROOT = Path(__file__).resolve().parent.parent
 CRATES = ROOT / "crates"
+LIST = ROOT / "crates.txt"
+PARTS = ("src", "specs", "proofs")
 
 
 class Failure(Exception):
@@ -20,27 +22,66 @@ class Failure(Exception):
 
 def copy_sources(name: str, to: Path) -> None:
     """Copies what a crate is compiled from."""
-    for part in ("src", "specs", "proofs"):
+    for part in PARTS:
         if (CRATES / name / part).is_dir():
             shutil.copytree(CRATES / name / part, to / part)
 
 
+def listed() -> str:
+    """Returns the lines of crates.txt."""
+    return re.sub(r"#.*", "", LIST.read_text(encoding="utf-8"))
+
+
 def uses() -> dict[str, list[str]]:
     """Returns the libraries that crates.txt gives each crate."""
-    text = re.sub(r"#.*", "", (ROOT / "crates.txt").read_text(encoding="utf-8"))
-    return {name: below.split() for name, below in re.findall(r"^(\w+)[^:\n]*:(.*)$", text, re.M)}
+    return {name: below.split() for name, below in re.findall(r"^(\w+)[^:\n]*:(.*)$", listed(), re.M)}
 
 
-def below(name: str) -> set[str]:
-    """Returns the libraries of this repository that a crate stands on."""
-    listed = uses()
-    direct = {it for it in listed[name] if it in listed}
-    return direct.union(*map(below, direct))
+def below(name: str) -> list[str]:
+    """Returns the libraries of this repository that a crate depends on, lowest first."""
+    libraries = uses()
+    found: dict[str, None] = {}
+    for it in libraries[name]:
+        if it in libraries:
+            found.update(dict.fromkeys([*below(it), it]))
+    return list(found)
+
+
+def is_program(name: str) -> bool:
+    return (CRATES / name / "src" / "main.rt").exists()
+
+
+def is_archive(name: str) -> bool:
+    return re.search(rf"^{name} staticlib:", listed(), re.M) is not None
 
 
 def built(name: str) -> Path:
-    """Returns where `rt ci` leaves a library that it has built."""
-    return CRATES / name / "out" / "rlib" / f"{name}.rlib"
+    """Returns what is built of a crate: a library where `rt ci` leaves it, a program or an archive."""
+    out = CRATES / name / "out"
+    if is_program(name):
+        return out / name
+    return out / f"lib{name}.a" if is_archive(name) else out / "rlib" / f"{name}.rlib"
+
+
+def build_of(library: Path) -> str:
+    """Returns the line of a library's format that names the prover's build, which alone can read it; of none, nothing."""
+    form = library / "format"
+    return form.read_text(encoding="utf-8").splitlines()[1] if form.exists() else ""
+
+
+def is_built(name: str) -> bool:
+    """Returns whether a library is there, built by this toolchain."""
+    return build_of(built(name)) == build_of(toolchain() / "rlibs" / "std.rlib")
+
+
+def is_current(name: str) -> bool:
+    """Returns whether a library is there that is no older than what it is made from."""
+    if not is_built(name):
+        return False
+    parts = (path for part in PARTS if (path := CRATES / name / part).is_dir())
+    sources = (path for part in parts for path in (part, *part.rglob("*")))
+    needed = [LIST, *sources, *(built(it) / "format" for it in below(name))]
+    return (built(name) / "format").stat().st_mtime >= max(path.stat().st_mtime for path in needed)
 
 
 def over_libraries(name: str) -> list[str]:
@@ -49,14 +90,14 @@ def over_libraries(name: str) -> list[str]:
     `rt check` would prove them again, since it takes no proof of `rt ci`.
     """
     kit = toolchain()
-    root = "src/main.rt" if (CRATES / name / "src" / "main.rt").exists() else "src/lib.rt"
+    root = "src/main.rt" if is_program(name) else "src/lib.rt"
     words = ["--crate-name", name, root, "--links", f"{name}="]
     words += ["--extern", f"std={kit}/rlibs/std.rlib", "-L", f"dependency={kit}/rlibs"]
-    listed = uses()
-    for it in listed[name]:
-        words += ["--extern", f"{it}={built(it) if it in listed else kit / 'rlibs' / f'{it}.rlib'}"]
-    for it in listed:
-        words += ["-L", f"dependency={built(it).parent}"] * built(it).is_dir()
+    libraries = uses()
+    for it in libraries[name]:
+        words += ["--extern", f"{it}={built(it) if it in libraries else kit / 'rlibs' / f'{it}.rlib'}"]
+    for it in below(name):
+        words += ["-L", f"dependency={built(it).parent}"]
     return [*words, "--antt-project", f"{kit}/rattle/logic/antt-project.json", "--logic-built", f"{kit}/logic_built"]
 
 
