@@ -2,8 +2,9 @@
 //!
 //! No contract of another crate names anything in this module. The readers, in their order:
 //!
-//! 1. [`utf8_fault`](crate::utf8_fault) finds how many of the first [`STEP`] bytes are ASCII. It
-//!    reads fewer bytes than a block by 5 if all are ASCII, and after 3 if one of these isn't.
+//! 1. [`utf8_fault`](crate::utf8_fault) finds how many of the first [`STEP`] bytes are ASCII. Of fewer
+//!    bytes than a block it asks before whether all are, and reads them by 5 after 3 if one of these
+//!    isn't.
 //! 2. If all are, it looks at the first [`BLOCK`] bytes, and continues with 5 if these are, too.
 //! 3. From the first byte that isn't ASCII it reads up to three characters one by one.
 //! 4. Then it reads up to eight steps ([`fronts::scan_steps`]), and then blocks.
@@ -28,6 +29,9 @@ pub(crate) const BLOCK: usize = 64;
 
 /// The length of a step in bytes. It is shorter than a block, for bytes where a fault may be near.
 pub(crate) const STEP: usize = 16;
+
+/// Half a step, for strings that are shorter than one.
+pub(crate) const HALF: usize = 8;
 
 /// How many bytes before a block or a step its test looks at.
 pub(crate) const BEFORE: usize = 4;

@@ -1,5 +1,5 @@
 //! The first fault of bytes that aren't UTF-8.
-ghost use Rattle.std.specs.Prelude.{◌≡◌, ◌≤◌, MatchOption, MatchResult, IfOk, Some, length, take};
+ghost use Rattle.std.specs.Prelude.{◌≡◌, ◌≤◌, MatchOption, MatchResult, IfOk, IsTrue, Some, length, take};
 ghost use Rattle.std.specs.Str.{IsUtf8};
 ghost use Rattle.wtf8_core.specs.EncodedPrefix.{KeepsPattern};
 ghost use Rattle.wtf8_core.specs.declared.scan.Encoding.TheVariants.{Utf8};
@@ -8,7 +8,7 @@ ghost use Rattle.wtf8_core.specs.Wtf8.{IsWtf8};
 
 use crate::character::char_or_fault_at_front;
 use crate::scan::fronts::{ends_with_ascii, scan_from, scan_steps};
-use crate::scan::lanes::{ascii_before, ascii_of_16, load};
+use crate::scan::lanes::ascii_of;
 use crate::scan::surrogates::text_from;
 use crate::scan::{BLOCK, Encoding, STEP};
 use memchr::memchr;
@@ -68,6 +68,9 @@ pub fn surrogate_fault(bytes: &[u8]) -> Option<(usize, Option<u8>)>
     ensures { MatchOption result (IsUtf8 bytes.now)
         (λ fault. IsUtf8Fault bytes.now fault.0 fault.1) }
 {
+    if is_short_ascii(bytes) {
+        return None;
+    }
     match memchr(0xED, bytes) {
         Some(lead) => fault_by_characters(bytes, text_from(bytes, lead)),
         None => None,
@@ -83,20 +86,28 @@ fn fault_in_short(bytes: &[u8]) -> Option<(usize, Option<u8>)>
     ensures { MatchOption result (IsUtf8 bytes.now)
         (λ fault. IsUtf8Fault bytes.now fault.0 fault.1) }
 {
+    if is_short_ascii(bytes) {
+        return None;
+    }
     if bytes.len() < STEP {
         return fault_by_characters(bytes, 0);
     }
-    let near = ascii_of_16(bytes);
+    let near = ascii_of::<STEP>(bytes);
     if near < STEP {
         return match after_three_characters(bytes, near) {
             Ok(at) => fault_by_blocks(bytes, at),
             Err(fault) => Some(fault),
         };
     }
-    if ends_with_ascii(bytes) {
-        return fault_by_blocks(bytes, 0);
-    }
     fault_in_rest(bytes, STEP)
+}
+
+/// Whether the bytes are fewer than 64 and ASCII. It isn't found of fewer than 8.
+#[inline(always)]
+fn is_short_ascii(bytes: &[u8]) -> bool
+    ensures { IsTrue result → IsUtf8 bytes.now }
+{
+    bytes.len() < BLOCK && ends_with_ascii(bytes)
 }
 
 /// How many of the first 16 bytes, or of the first 64, are ASCII before the first that isn't. In a
@@ -107,11 +118,11 @@ fn ascii_len(bytes: &[u8]) -> usize
     ensures within { result ≤ length bytes.now }
     ensures text { IsUtf8 (take result bytes.now) }
 {
-    let near = ascii_of_16(bytes);
+    let near = ascii_of::<STEP>(bytes);
     if near < STEP {
         near
     } else {
-        ascii_before(load(bytes, 0))
+        ascii_of::<BLOCK>(bytes)
     }
 }
 

@@ -12,8 +12,8 @@ ghost use Rattle.wtf8_core.specs.EncodedPrefix.{IsEncodedPrefix, KeepsPattern};
 
 use crate::byte::is_continuation;
 use crate::scan::error_bits::{kept_len, kept_of_16};
-use crate::scan::lanes::{are_ascii, ascii_of_16, load};
-use crate::scan::{BEFORE, BLOCK, Encoding, STEP};
+use crate::scan::lanes::{are_ascii, ascii_of, load};
+use crate::scan::{BEFORE, BLOCK, Encoding, HALF, STEP};
 
 /// The length of a prefix that is of this encoding: all the bytes, or some that end where the next
 /// code point begins.
@@ -216,7 +216,7 @@ fn scan_tail(bytes: &[u8], at: usize, encoding: Encoding) -> usize
 }
 
 /// Whether the last 64 bytes are ASCII, or all the bytes if they are fewer. It isn't found of fewer
-/// than 16 bytes.
+/// than 8 bytes.
 #[inline(always)]
 pub(crate) fn ends_with_ascii(bytes: &[u8]) -> bool
     ensures { IsTrue result → (i : ℕ) → length bytes.now - 64 ≤ i → i < length bytes.now
@@ -226,19 +226,36 @@ pub(crate) fn ends_with_ascii(bytes: &[u8]) -> bool
     if len >= BLOCK {
         return is_ascii_block(bytes, len - BLOCK);
     }
-    if len < STEP || !is_ascii_step(bytes, 0) || !is_ascii_step(bytes, len - STEP) {
+    if len < STEP {
+        return are_ends_ascii::<HALF>(bytes);
+    }
+    if !are_ends_ascii::<STEP>(bytes) {
         return false;
     }
-    len <= 2 * STEP || is_ascii_step(bytes, STEP) && is_ascii_step(bytes, len - 2 * STEP)
+    len <= 2 * STEP
+        || is_ascii_at::<STEP>(bytes, STEP) && is_ascii_at::<STEP>(bytes, len - 2 * STEP)
 }
 
-/// Whether the next 16 bytes are ASCII.
+/// Whether the first N bytes and the last N are ASCII. It isn't found of fewer than N bytes.
 #[inline(always)]
-fn is_ascii_step(bytes: &[u8], at: usize) -> bool
-    requires { at + 16 ≤ length bytes.now }
-    ensures { IsTrue result → (i : ℕ) → i < 16 → slice_index bytes.now (at + i) < 0x80 }
+fn are_ends_ascii<const N: usize>(bytes: &[u8]) -> bool
+    requires { N ≤ 64 }
+    ensures long { IsTrue result → N ≤ length bytes.now }
+    ensures first { IsTrue result → (i : ℕ) → i < N → slice_index bytes.now i < 0x80 }
+    ensures last { IsTrue result → (i : ℕ) → i < N
+        → slice_index bytes.now (length bytes.now - N + i) < 0x80 }
 {
-    ascii_of_16(&bytes[at..]) >= STEP
+    bytes.len() >= N && is_ascii_at::<N>(bytes, 0) && is_ascii_at::<N>(bytes, bytes.len() - N)
+}
+
+/// Whether the next N bytes are ASCII.
+#[inline(always)]
+fn is_ascii_at<const N: usize>(bytes: &[u8], at: usize) -> bool
+    requires room { at + N ≤ length bytes.now }
+    requires few { N ≤ 64 }
+    ensures { IsTrue result → (i : ℕ) → i < N → slice_index bytes.now (at + i) < 0x80 }
+{
+    ascii_of::<N>(&bytes[at..]) >= N
 }
 
 /// The last index before `end` at which a code point begins, if the bytes keep to the pattern up to

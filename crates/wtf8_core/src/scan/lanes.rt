@@ -198,27 +198,16 @@ pub(crate) fn leading_nonzero(lanes: u8x64) -> usize
     lanes.simd_eq(u8x64::splat(0)).to_bitmask().trailing_zeros() as usize
 }
 
-/// How many of the first 16 bytes are below 80 before the first that isn't.
+/// How many of the first N bytes are below 80 before the first that isn't.
 #[inline(always)]
-pub(crate) fn ascii_of_16(bytes: &[u8]) -> usize
-    requires { 16 ≤ length bytes.now }
+pub(crate) fn ascii_of<const N: usize>(bytes: &[u8]) -> usize
+    requires room { N ≤ length bytes.now }
+    requires few { N ≤ 64 }
     ensures within { result ≤ 64 }
-    ensures ascii { (i : ℕ) → i < result → i < 16 → slice_index bytes.now i < 0x80 }
+    ensures ascii { (i : ℕ) → i < result → i < N → slice_index bytes.now i < 0x80 }
 {
-    u8x16::from_slice(bytes)
-        .simd_ge(u8x16::splat(0x80))
-        .to_bitmask()
-        .trailing_zeros() as usize
-}
-
-/// How many lanes are below 80 before the first that isn't.
-#[inline(always)]
-pub(crate) fn ascii_before(lanes: u8x64) -> usize
-    ensures within { result ≤ 64 }
-    ensures ascii { (i : ℕ) → i < result → slice_index lanes i < 0x80 }
-{
-    lanes
-        .simd_ge(u8x64::splat(0x80))
+    Simd::<u8, N>::from_slice(bytes)
+        .simd_ge(Simd::splat(0x80))
         .to_bitmask()
         .trailing_zeros() as usize
 }

@@ -112,8 +112,3 @@ pub none_passes_left_before : (t : ℕ → ℕ → Bool) (xs : List ℕ) (k y n 
 none_passes_left_before t xs k y n few p e i l h =
     none_before (t y) xs (omega (arith, few, p)) i (omega (arith, p, l)) (subst (λ m. i < m)
     (e ∙ ap (count_trailing_zeros 64) (rw (tops_compared w8 t (replicate k y) xs, zip2_splat_left t y k xs p) (mask_l-mod (map (t y) xs) 64 (omega (arith, length-map xs (t y), p, few))))) h)
-
-pub none_of_64_passes_left_before : (t : ℕ → ℕ → Bool) (xs : List ℕ) (y n : ℕ) → length xs ≡ 64 → n ≡ count_trailing_zeros 64 (mask_l (map (top 7) (zip2 (λ a b. cond (t a b) 255 0) (replicate 64 y) xs)) % 2 ^ 64)
-    → (i : ℕ) → i < n → t y (get_or xs i 0) ≡ false
-none_of_64_passes_left_before t xs y n p e i h =
-    none_passes_left_before t xs 64 y n (omega arith) p e i (omega (arith, h, e, trailing_le 64 (mask_l (map (top 7) (zip2 (λ a b. cond (t a b) 255 0) (replicate 64 y) xs)) % 2 ^ 64))) h

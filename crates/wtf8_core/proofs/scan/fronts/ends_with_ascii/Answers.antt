@@ -1,4 +1,4 @@
-use Rattle.wtf8_core.proofs.Common.{◌-◌, length, arith, refl, cases_lt, ⊎_elim}
+use Rattle.wtf8_core.proofs.Common.{◌+◌, ◌-◌, ◌<◌, length, get_or, arith, refl, cases_lt, ⊎_elim}
 use Rattle.wtf8_core.proofs.lemmas.scan.Windows.{ascii_at}
 use Rattle.wtf8_core.proofs.scan.fronts.ends_with_ascii.Goals as goal
 
@@ -11,20 +11,21 @@ pub returns-then-len : goal.returns-then-len
 returns-then-len c t i h l =
     let bytes = c.args.bytes.now in
     let short = c.if-len.true in
-    let long = c.if-len-lt-STEP.false in
-    ⊎_elim (λ u. ascii_at bytes 0 16 i (c.if-not-is_ascii_step.ensures refl) (omega arith) u)
-    (λ u. ascii_at bytes (length bytes - 16) 16 i (c.if-not-is_ascii_step-2.ensures refl) (omega (arith, short, u)) (omega (arith, l, long)))
+    let ends = c.if-not-are_ends_ascii.ensures in
+    ⊎_elim (λ u. ends.first refl i u)
+    (λ u. ascii_at bytes (length bytes - 16) 16 i (ends.last refl) (omega (arith, short, u)) (omega (arith, l, ends.long refl)))
     (cases_lt i 16)
 
-pub returns-then-is_ascii_step : goal.returns-then-is_ascii_step
-returns-then-is_ascii_step c t i h l =
+pub returns-then-is_ascii_at : goal.returns-then-is_ascii_at
+returns-then-is_ascii_at c t i h l =
     let bytes = c.args.bytes.now in
     let short = c.if-len-ge-BLOCK.false in
     let long = c.if-len.false in
-    ⊎_elim (λ u. ascii_at bytes 0 16 i (c.if-not-is_ascii_step.ensures refl) (omega arith) u)
-    (λ v. ⊎_elim (λ u. ascii_at bytes 16 16 i (c.if-is_ascii_step.ensures refl) v (omega (arith, u)))
-    (λ w. ⊎_elim (λ u. ascii_at bytes (length bytes - 32) 16 i (c.is_ascii_step-then-is_ascii_step.ensures t) (omega (arith, short, w)) (omega (arith, u, long)))
-    (λ x. ascii_at bytes (length bytes - 16) 16 i (c.if-not-is_ascii_step-2.ensures refl) x (omega (arith, l, long)))
+    let ends = c.if-not-are_ends_ascii.ensures in
+    ⊎_elim (λ u. ends.first refl i u)
+    (λ v. ⊎_elim (λ u. ascii_at bytes 16 16 i (c.if-is_ascii_at.ensures refl) v (omega (arith, u)))
+    (λ w. ⊎_elim (λ u. ascii_at bytes (length bytes - 32) 16 i (c.is_ascii_at-then-is_ascii_at.ensures t) (omega (arith, short, w)) (omega (arith, u, long)))
+    (λ x. ascii_at bytes (length bytes - 16) 16 i (ends.last refl) x (omega (arith, l, long)))
     (cases_lt i (length bytes - 16)))
     (cases_lt i 32))
     (cases_lt i 16)
