@@ -68,6 +68,6 @@ pub use raw_str::RawOsStr;
 pub use raw_string::RawOsString;
 pub use wtf8_core::{
     Checker, CodePoints, DecodeWide, EncodeWide, SavedChecker, char_at, encode_wide, ends_with,
-    is_continuation, laws as wtf8_laws, pair_between, push_truncated, starts_with, surrogate_fault,
-    utf8_fault, wtf8_fault,
+    is_continuation, is_utf8, laws as wtf8_laws, pair_between, push_truncated, starts_with,
+    surrogate_fault, utf8_fault, wtf8_fault,
 };

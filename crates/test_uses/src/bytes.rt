@@ -10,7 +10,9 @@ ghost use Rattle.wtf8_core.specs.UnitsOf.{units_of};
 ghost use Rattle.wtf8_core.specs.Utf8.{IsUtf8Fault, part_end};
 
 use platform_str::{EncodingError, Platform, Windows};
-use wtf8_core::{CodePoints, char_at, ends_with, laws, starts_with, surrogate_fault, utf8_fault};
+use wtf8_core::{
+    CodePoints, char_at, ends_with, is_utf8, laws, starts_with, surrogate_fault, utf8_fault,
+};
 
 /// Whether bytes are WTF-8.
 pub fn is_wtf8(raw: &[u8]) -> bool
@@ -89,6 +91,17 @@ pub fn utf8_fault_says(
 {
     laws::one_utf8_fault();
     utf8_fault(raw)
+}
+
+/// The text that bytes are, `None` where they aren't UTF-8.
+pub fn text_of(raw: &[u8]) -> Option<&str>
+    ensures { MatchOption result (¬ (IsUtf8 raw.now)) (λ text. text.now ≡ raw.now) }
+{
+    if is_utf8(raw) {
+        Some(unsafe { str::from_utf8_unchecked(raw) })
+    } else {
+        None
+    }
 }
 
 /// The fault of WTF-8 of which a fault of UTF-8 is known, which is that one.

@@ -79,6 +79,7 @@ pub use bytes::read_twice;
 pub use bytes::spelled_once;
 pub use bytes::stands_in_bytes;
 pub use bytes::surrogate_fault_says;
+pub use bytes::text_of;
 pub use bytes::units_once;
 pub use bytes::utf8_fault_says;
 pub use bytes::wide_units;

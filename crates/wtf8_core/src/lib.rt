@@ -48,5 +48,5 @@ pub use forms::write_form;
 pub use halves::{ends_with, pair_between, starts_with};
 pub use surrogate::{first_pair, pair_units};
 pub use truncated::push_truncated;
-pub use utf8::{surrogate_fault, utf8_fault};
+pub use utf8::{is_utf8, surrogate_fault, utf8_fault};
 pub use wtf8::wtf8_fault;

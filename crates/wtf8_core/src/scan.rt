@@ -16,8 +16,9 @@
 //!    again, and finally std's reader continues.
 //!
 //! [`Checker`](crate::Checker) and [`wtf8_fault`](crate::wtf8_fault) use 5 and 6 for WTF-8, and then
-//! their table or the reader of code points. [`surrogate_fault`](crate::surrogate_fault) looks for
-//! surrogates alone ([`surrogates`]).
+//! their table or the reader of code points; [`is_utf8`](crate::is_utf8) uses them for UTF-8, and then
+//! std's reader. [`surrogate_fault`](crate::surrogate_fault) looks for surrogates alone
+//! ([`surrogates`]).
 
 pub(crate) mod error_bits;
 pub(crate) mod fronts;

@@ -1,5 +1,5 @@
 //! The first fault of bytes that aren't UTF-8.
-ghost use Rattle.std.specs.Prelude.{◌≡◌, ◌≤◌, MatchOption, MatchResult, IfOk, IsTrue, Some, length, take};
+ghost use Rattle.std.specs.Prelude.{◌≡◌, ◌≤◌, ◌↔◌, MatchOption, MatchResult, IfOk, IsTrue, Some, length, take};
 ghost use Rattle.std.specs.Str.{IsUtf8};
 ghost use Rattle.wtf8_core.specs.EncodedPrefix.{KeepsPattern};
 ghost use Rattle.wtf8_core.specs.declared.scan.Encoding.TheVariants.{Utf8};
@@ -7,7 +7,7 @@ ghost use Rattle.wtf8_core.specs.Utf8.{IsUtf8Fault};
 ghost use Rattle.wtf8_core.specs.Wtf8.{IsWtf8};
 
 use crate::character::char_or_fault_at_front;
-use crate::scan::fronts::{ends_with_ascii, scan_from, scan_steps};
+use crate::scan::fronts::{ends_with_ascii, front_of, scan_from, scan_steps};
 use crate::scan::lanes::ascii_of;
 use crate::scan::surrogates::text_from;
 use crate::scan::{BLOCK, Encoding, STEP};
@@ -48,6 +48,30 @@ pub fn utf8_fault(bytes: &[u8]) -> Option<(usize, Option<u8>)>
     match after_three_characters(bytes, ascii) {
         Ok(at) => fault_by_steps(bytes, at),
         Err(fault) => Some(fault),
+    }
+}
+
+/// Whether bytes are UTF-8 (RFC 3629, section 4).
+///
+/// Equivalent to `str::from_utf8(bytes).is_ok()`, and to [`utf8_fault`] being `None`. It is for bytes
+/// that mostly are UTF-8: it reads them with vectors from the start on, so that few of them take less
+/// time than by that call, which expects a fault to be near.
+///
+/// ```
+/// use os_str_bytes::is_utf8;
+///
+/// assert!(rt; is_utf8(b"a\xC3\xA9") && !is_utf8(b"a\xC3"));
+/// ```
+pub fn is_utf8(bytes: &[u8]) -> bool
+    ensures { IsTrue result ↔ IsUtf8 bytes.now }
+{
+    let front = front_of(bytes, Encoding::Utf8);
+    if front == bytes.len() {
+        return true;
+    }
+    match fault_in_rest(bytes, front) {
+        None => true,
+        Some(_) => false,
     }
 }
 
