@@ -12,8 +12,8 @@ use crate::form::Form;
 use crate::plain::are_plain;
 use crate::token::cut_backslash;
 use crate::unescaped::{write_by, write_unescaped_line};
-use os_str_bytes::{OsStr, Platform, Unix};
-use wtf8_core::push_truncated;
+use os_str_bytes::Platform;
+use wtf8_core::{is_utf8, push_truncated};
 
 /// Writes the string that has this escape into a buffer, as
 /// [`write_unescaped`](crate::write_unescaped) does, or returns `None` if the escape isn't UTF-8.
@@ -154,5 +154,9 @@ fn write_tokens<E: Platform>(
 fn text(bytes: &[u8]) -> Option<&str>
     ensures { MatchOption result (¬ (IsUtf8 bytes.now)) (λ text. text.now ≡ bytes.now) }
 {
-    OsStr::<Unix>::from_encoded_bytes_unchecked(bytes).to_str()
+    if is_utf8(bytes) {
+        Some(unsafe { str::from_utf8_unchecked(bytes) })
+    } else {
+        None
+    }
 }
