@@ -1,4 +1,4 @@
-use Rattle.wtf8_core.proofs.Common.{◌+◌, ◌-◌, ◌<◌, length, get_or, arith, refl, cases_lt, ⊎_elim}
+use Rattle.wtf8_core.proofs.Common.{◌-◌, length, arith, refl, cases_lt, ⊎_elim}
 use Rattle.wtf8_core.proofs.lemmas.scan.Windows.{ascii_at}
 use Rattle.wtf8_core.proofs.scan.fronts.ends_with_ascii.Goals as goal
 
