@@ -1,6 +1,6 @@
 //! Parts of strings before, after and between texts.
-ghost use Rattle.std.specs.Prelude.{◌≡◌, ◌<◌, length, take, drop};
-ghost use Rattle.wtf8_core.specs.Standing.{IsFirstPlace, IsLastPlace};
+ghost use Rattle.std.specs.Prelude.{◌≡◌, ◌<◌, ◌↔◌, IsTrue, length, take, drop};
+ghost use Rattle.wtf8_core.specs.Standing.{IsFirstPlace, IsLastPlace, IsPrefix};
 ghost use Rattle.wtf8_core.specs.Boundary.{IsBoundary};
 ghost use Rattle.wtf8_core.specs.Pieces.{StripsFront, StripsEnd, SplitsOnce, IsStartTrim, IsEndTrim};
 ghost use Rattle.platform_str.specs.Strings.{bytes};
@@ -19,11 +19,21 @@ pub(crate) fn strip_prefix<'a, E: Platform>(
 ) -> Option<OsStr<'a, E>>
     ensures { StripsFront bytes text.now (bytes string.entry) result }
 {
-    if !starts_with(string.as_encoded_bytes(), text) {
+    if !has_prefix(string.as_encoded_bytes(), text) {
         return None;
     }
     let (_, rest) = split_at(string, text.len());
     Some(rest)
+}
+
+/// The same as [`starts_with`]. It isn't inlined, so that a caller gets an answer and no jump for each
+/// length of the text.
+#[inline(never)]
+fn has_prefix(bytes: &[u8], text: &str) -> bool
+    ensures front { IsTrue result ↔ IsPrefix text.now bytes.now }
+    ensures edge { IsTrue result → IsBoundary bytes.now (length text.now) }
+{
+    starts_with(bytes, text)
 }
 
 /// The string without the text at its end, or `None` if it doesn't end with the text.
