@@ -13,7 +13,7 @@ ghost use Rattle.names_commands.specs.Program.{IsRun, WritesHelp, Does, RunsTo};
 
 use crate::command::{Command, Request, options_of};
 use crate::fault::Fault;
-use crate::run::run;
+use crate::run::{run, write_output};
 use crate::task::{Settings, Task};
 use os_glob::Glob;
 use os_str_bytes::{Unix, Wasm, Windows};
@@ -22,7 +22,6 @@ use osbytes_commands::ended::Ended;
 use osbytes_commands::fault::Fault as Reason;
 use osbytes_commands::marked::Marked;
 use osbytes_commands::program::{Messages, Output, words};
-use osbytes_commands::run::write_out;
 use std::alloc::Allocator;
 use std::env::Args;
 use std::io;
@@ -207,11 +206,8 @@ fn write_help<W: Write>(writer: &mut Marked<W>) -> Result<(), Fault>
     ensures no_read { result ≢ Err (Fault.Run Reason.Read) }
     ensures write { (result ≡ Err (Fault.Run Reason.Write)) ↔ (has_failed writer.new ≡ true) }
 {
-    match write_out(
+    write_output(
         writer,
         "names: lists of file names, escaped one a line, and back\n\nnames list  unix|windows|wasm [GLOB]  names ended by NUL in, the escape of each out, one a line;\n                                      with GLOB of those that it matches\nnames join  unix|windows|wasm         such lines in, names ended by NUL out\nnames check unix|windows|wasm         names ended by NUL in, nothing out: the status tells\nnames --help                          this text\nnames --max N ..                      one of these, for names of at most N bytes, not 1048576\n\nThe last name or line may lack its end. A line has at most six times as many bytes as a name.\nStatus: 0, or 1 where a name or line is refused, 2 for other words, 3 where memory is refused,\n4 where a read or write fails. The first refused name is told with its number, from 1.\n".as_bytes(),
-    ) {
-        Ok(()) => Ok(()),
-        Err(_) => Err(Fault::Run(Reason::Write)),
-    }
+    )
 }

@@ -135,15 +135,10 @@ fn write_block<E: Platform, A: Allocator + Copy, W: Write>(
     ensures marked { (result ≡ Err (Fault.Run Reason.Write)) ↔ (has_failed writer.new ≡ true) }
 {
     let mut output = Vec::new(alloc);
-    match read_block::<E, A>(alloc, settings, count, block, begun, &mut output) {
-        Ok(ended) => match write_out(writer, &output) {
-            Ok(()) => Ok(ended),
-            Err(_) => Err(Fault::Run(Reason::Write)),
-        },
-        Err(fault) => match write_out(writer, &output) {
-            Ok(()) => Err(fault),
-            Err(_) => Err(Fault::Run(Reason::Write)),
-        },
+    let ended = read_block::<E, A>(alloc, settings, count, block, begun, &mut output);
+    match write_output(writer, &output) {
+        Ok(()) => ended,
+        Err(fault) => Err(fault),
     }
 }
 
@@ -178,10 +173,24 @@ fn finish<E: Platform, A: Allocator + Copy, W: Write>(
     }
     let mut output = Vec::new(alloc);
     match write_item::<E, A>(alloc, settings, count + 1, begun, &mut output) {
-        Ok(()) => {}
-        Err(fault) => return Err(fault),
+        Ok(()) => write_output(writer, &output),
+        Err(fault) => Err(fault),
     }
-    match write_out(writer, &output) {
+}
+
+/// Writes all of the output, and flushes.
+pub(crate) fn write_output<W: Write>(writer: &mut Marked<W>, output: &[u8]) -> Result<(), Fault>
+    requires { has_failed writer.old ≡ false }
+    ensures written { OnOk result (Appends (W.contents (marked_inner writer.old))
+        (W.contents (marked_inner writer.new)) output.now) }
+    ensures fault { IfErr result (λ fault. fault ≡ Fault.Run Reason.Write) }
+    ensures beginning { result ≡ Err (Fault.Run Reason.Write)
+        → AppendsBeginning (W.contents (marked_inner writer.old))
+        (W.contents (marked_inner writer.new)) output.now }
+    ensures no_read { result ≢ Err (Fault.Run Reason.Read) }
+    ensures marked { (result ≡ Err (Fault.Run Reason.Write)) ↔ (has_failed writer.new ≡ true) }
+{
+    match write_out(writer, output) {
         Ok(()) => Ok(()),
         Err(_) => Err(Fault::Run(Reason::Write)),
     }

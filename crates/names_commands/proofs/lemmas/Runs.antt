@@ -1,7 +1,8 @@
 -- Blocks, one after the other, to the end of the input.
-use Rattle.std.proofs.Common.{◌≡◌, ◌≢◌, ◌⊎◌, inl, inr, ℕ, ◌+◌, ◌-◌, ◌^◌, ◌≤◌, ◌<◌, List, [], ◌∷◌, ◌++◌, Option, None, Some, IfSome, length, take, refl, sym, ap, ◌∙◌, subst, arith, append_assoc, append-nil, length-append}
+use Rattle.std.proofs.Common.{◌≡◌, inl, inr, ℕ, ◌+◌, ◌^◌, ◌≤◌, List, [], ◌∷◌, ◌++◌, Option, None, Some, IfSome, Result, Ok, Err, IfOk, IfErr, length, take, refl, sym, ap, ◌∙◌, subst, arith, append_assoc, append-nil, length-append}
 use Rattle.std.proofs.KnownBytes.{Consumes-nil, Appends-nil, Consumes-trans, Appends-trans, Consumes-whole}
 use Rattle.std.proofs.lemmas.Grind.{flat_map-append}
+use Rattle.std.proofs.lemmas.Result.{IfErr-at_err}
 use Rattle.std.proofs.Math.Seq.{take-append-add}
 use Rattle.std.specs.Io.KnownBytes.{Appends, Consumes, IsAtEnd}
 use Rattle.os_str_bytes.specs.Platform.{Ghosts}
@@ -13,9 +14,9 @@ use Rattle.names_commands.specs.declared.task.Settings.{Settings}
 use Rattle.names_commands.specs.Items.{Entry, ended, text_of, items_of, texts_of}
 use Rattle.names_commands.specs.Task.{end_of, IsItemFault, IsEntry}
 use Rattle.osbytes_commands.specs.Written.{AppendsBeginning}
-use Rattle.names_commands.specs.Reading.{State, HasBegun, Reads, Stops, IsEnded, Begins}
+use Rattle.names_commands.specs.Reading.{State, Reads, Stops, IsEnded, Begins}
 use Rattle.names_commands.specs.Run.{start, IsOutput, IsBegun, StopsOn, WritesOutput, WritesUpTo, WritesBeginning, HasRead, IsLast, Finishes}
-use Rattle.names_commands.proofs.lemmas.Reading.{all-append, behind, more_texts}
+use Rattle.names_commands.proofs.lemmas.Reading.{all-append, behind}
 
 -- what is known of the first bytes, whatever comes after them, is known of the input
 pub known : (input left : Option (List ℕ)) (bytes : List ℕ) (P : List ℕ → Type 0) → Consumes input left bytes → ((more : List ℕ) → P (bytes ++ more)) → IfSome input P
@@ -31,6 +32,26 @@ take_after xs ys n = sym (take-append-add xs ys n)
 few : (end : ℕ) (entries : List Entry) → length entries ≤ length (items_of end entries)
 few end [] = omega arith
 few end (e ∷ entries) = omega (arith, few end entries, length-append (e.0 ++ end ∷ []) (items_of end entries), length-append e.0 (end ∷ []))
+
+-- what tells answers and faults apart
+pub no_err : {X F : Type 0} {x : X} {fault : F} → ◌≡◌ {A = Result X F} (Ok x) (Err fault) → ⊥
+no_err e = cc
+
+same_run : {X : Type 0} (fault : Fault) (why : Reason) → ◌≡◌ {A = Result X Fault} (Err fault) (Err (Run why)) → fault ≡ Run why
+same_run fault why e = cc
+
+-- the same fault in place of another value
+pub other_err : (X Y : Type 0) (fault other : Fault) → ◌≡◌ {A = Result X Fault} (Err fault) (Err other) → ◌≡◌ {A = Result Y Fault} (Err fault) (Err other)
+other_err X Y fault other e = cc
+
+pub read_no_memory : reason.Read ≡ reason.Memory → ⊥
+read_no_memory e = cc
+
+pub write_no_memory : reason.Write ≡ reason.Memory → ⊥
+write_no_memory e = cc
+
+pub write_no_read : {X : Type 0} → ◌≡◌ {A = Result X Fault} (Err (Run reason.Write)) (Err (Run reason.Read)) → ⊥
+write_no_read e = cc
 
 module _ {E : Type 0} (p : Ghosts E) (s : Settings) where
   abbrev end : ℕ
@@ -116,12 +137,22 @@ module _ {E : Type 0} (p : Ghosts E) (s : Settings) where
   of_stops input text Usage q = absurd q.because
   of_stops input text (Run why) q = of_begins input text (stops_begin start input text (Run why) q)
 
-  -- no item is refused for a write
-  pub no_write : (n : ℕ) (item : List ℕ) (fault : Fault) → IsItemFault p s n item fault → fault ≡ Run reason.Write → ⊥
-  no_write n item fault h e = no_memory (subst (IsItemFault p s n item) e h)
-    where
-      no_memory : reason.Write ≡ reason.Memory → ⊥
-      no_memory k = cc
+  -- no item is refused for a read or a write
+  pub item_memory : {X : Type 0} (n : ℕ) (item : List ℕ) (fault : Fault) (why : Reason) → IsItemFault p s n item fault → ◌≡◌ {A = Result X Fault} (Err fault) (Err (Run why)) → why ≡ reason.Memory
+  item_memory n item fault why h e = subst (IsItemFault p s n item) (same_run fault why e) h
+
+  pub block_memory : (answer : Result ℕ Fault) (old : State) (bytes text : List ℕ) (why : Reason) → IfErr answer (λ fault. (more : List ℕ) → Stops p s old (bytes ++ more) text fault) → answer ≡ Err (Run why) → why ≡ reason.Memory
+  block_memory answer old bytes text why h e = (IfErr-at_err (λ fault. (more : List ℕ) → Stops p s old (bytes ++ more) text fault) e h []).because
+
+  -- what a block led to or stopped with begins the output
+  pub block_begins : (answer : Result ℕ Fault) (begun kept bytes none text : List ℕ) (count : ℕ) → none ≡ []
+      → IfOk answer (λ ended. Reads p s (record { begun = begun; count = count; output = none }) bytes (record { begun = kept; count = ended; output = text }))
+      → IfErr answer (λ fault. (more : List ℕ) → Stops p s (record { begun = begun; count = count; output = none }) (bytes ++ more) text fault)
+      → (more : List ℕ) → Begins p s (record { begun = begun; count = count; output = [] }) (bytes ++ more) text
+  block_begins (Ok ended) begun kept bytes none text count e read stop more =
+      subst (λ x. Begins p s (record { begun = begun; count = count; output = x }) (bytes ++ more) text) e (reads_begin _ _ bytes read more)
+  block_begins (Err fault) begun kept bytes none text count e read stop more =
+      subst (λ x. Begins p s (record { begun = begun; count = count; output = x }) (bytes ++ more) text) e (stops_begin _ (bytes ++ more) text fault (stop more))
 
   pub nothing_read : (input old : Option (List ℕ)) → HasRead p s input input old old [] 0 0
   nothing_read input old = record {

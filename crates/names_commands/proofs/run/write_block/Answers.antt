@@ -1,22 +1,49 @@
-use Rattle.std.proofs.Common.{[], subst}
+use Rattle.std.proofs.Common.{ℕ, ◌++◌, subst}
+use Rattle.std.proofs.lemmas.Result.{IfOk-weaker, IfErr-weaker}
+use Rattle.std.specs.Prelude.{⊤}
 use Rattle.std.specs.Io.KnownBytes.{Appends}
-use Rattle.std.proofs.Common.{take}
 use Rattle.osbytes_commands.specs.Marked.{marked_inner}
 use Rattle.osbytes_commands.specs.Written.{AppendsBeginning}
-use Rattle.names_commands.specs.Reading.{Reads}
-use Rattle.names_commands.proofs.lemmas.Runs.{reads_begin, no_write}
+use Rattle.osbytes_commands.specs.declared.fault.Fault.{Fault as Reason}
+use Rattle.osbytes_commands.specs.declared.fault.Fault.TheVariants.{Read, Write}
+use Rattle.names_commands.specs.Reading.{Reads, Stops}
+use Rattle.names_commands.proofs.lemmas.Runs.{no_err, other_err, block_memory, block_begins, read_no_memory, write_no_memory}
 use Rattle.names_commands.proofs.run.write_block.Goals as goal
 
-pub returns-in-Ok-clause-beginning : goal.returns-in-Ok-clause-beginning
-returns-in-Ok-clause-beginning g c = λ e.
-    let items = c.read_block.new.output.items in
-    let read = subst (λ x. Reads g.E.Platform c.args.settings (record { begun = c.args.begun.now.items; count = c.args.count; output = x }) c.args.block.now (record { begun = c.read_block.new.begun.items; count = c.in-Ok.ended; output = items })) c.new-output.ensures.items c.in-Ok.ensures.ok in (
-      items,
-      (
-        reads_begin g.E.Platform c.args.settings _ _ _ read,
-        subst (AppendsBeginning (g.W.Write.contents (marked_inner c.args.writer.now)) (g.W.Write.contents (marked_inner c.write_out.new.writer))) c.deref.ensures.value c.in-Err-write_out.ensures.beginning,
-      ),
-    )
+pub returns-in-Ok : goal.returns-in-Ok
+returns-in-Ok g c =
+    let P = g.E.Platform in
+    let s = c.args.settings in
+    let answer = c.read_block-ended.result in
+    let read = c.read_block-ended.ensures in
+    let text = c.read_block-ended.new.output.items in
+    let none = c.new-output.ensures.items in
+    let written = subst (Appends (g.W.Write.contents (marked_inner c.args.writer.now)) (g.W.Write.contents (marked_inner c.write_output.new.writer))) c.deref.ensures.value c.in-Ok.ensures.written in
+    let refused = λ (why : Reason). block_memory P s answer _ _ _ why read.fault in record {
+      ok = IfOk-weaker answer _ _
+          (λ ended reads. (text, (subst (λ x. Reads P s (record { begun = c.args.begun.now.items; count = c.args.count; output = x }) c.args.block.now (record { begun = c.read_block-ended.new.begun.items; count = ended; output = text })) none reads, written)))
+          read.ok;
+      stopped = IfErr-weaker answer _ _
+          (λ fault stops not_write. (text, ((λ more. subst (λ x. Stops P s (record { begun = c.args.begun.now.items; count = c.args.count; output = x }) (c.args.block.now ++ more) text fault) none (stops more)), written)))
+          read.fault;
+      beginning = λ e. absurd (write_no_memory (refused Write e));
+      no_read = λ e. read_no_memory (refused Read e);
+      marked = (λ e. absurd (write_no_memory (refused Write e)), λ set. absurd (no_err (c.in-Ok.ensures.marked.1 set)));
+    }
 
-pub returns-in-Ok-write_out-2-clause-beginning : goal.returns-in-Ok-write_out-2-clause-beginning
-returns-in-Ok-write_out-2-clause-beginning g c = λ e. absurd (no_write g.E.Platform c.args.settings _ _ _ (c.in-Err.ensures.fault []).because (cc))
+pub returns : goal.returns
+returns g c =
+    let read = c.read_block-ended.ensures in
+    let text = c.read_block-ended.new.output.items in record {
+      ok = tt;
+      stopped = λ not_write. absurd (not_write c.in-Err.ensures.fault);
+      beginning = λ e. (
+        text,
+        (
+          block_begins g.E.Platform c.args.settings c.read_block-ended.result _ c.read_block-ended.new.begun.items _ _ text _ c.new-output.ensures.items read.ok read.fault,
+          subst (AppendsBeginning (g.W.Write.contents (marked_inner c.args.writer.now)) (g.W.Write.contents (marked_inner c.write_output.new.writer))) c.deref.ensures.value (c.in-Err.ensures.beginning (other_err ℕ ⊤ _ _ e)),
+        ),
+      );
+      no_read = λ e. c.in-Err.ensures.no_read (other_err ℕ ⊤ _ _ e);
+      marked = (λ e. c.in-Err.ensures.marked.0 (other_err ℕ ⊤ _ _ e), λ set. other_err ⊤ ℕ _ _ (c.in-Err.ensures.marked.1 set));
+    }
