@@ -1,10 +1,18 @@
-//! The check of Windows, of bytes and of a vector.
-ghost use Rattle.std.specs.Prelude.{◌≡◌, ◌≢◌, length};
+//! The check of Windows, of bytes, of a vector and of a piece, first faults, and the text of a fault.
+ghost use Rattle.std.specs.Prelude.{◌≡◌, ◌≢◌, ℕ, Option, length};
+ghost use Rattle.std.specs.Str.{IsUtf8};
+ghost use Rattle.wtf8_core.specs.Checker.{HasFirstFault};
+ghost use Rattle.wtf8_core.specs.Fault.{IsFaultAt};
+ghost use Rattle.wtf8_core.specs.FaultText.{fault_text};
+ghost use Rattle.wtf8_core.specs.Utf8.{IsUtf8Fault};
 ghost use Rattle.wtf8_core.specs.Wtf8.{IsWtf8};
-ghost use Rattle.bench_exports.specs.Answers.{IsFaulty};
+ghost use Rattle.wtf8_core.specs.declared.fault.EncodingError.{EncodingError};
+ghost use Rattle.wtf8_core.specs.declared.fault.EncodingError.TheVariants.{Byte};
+ghost use Rattle.bench_exports.specs.Answers.{AnswersOr, IsFaulty};
 
 use platform_str::{OsString, OsStringBytes, Platform, Windows};
 use std::alloc::Global;
+use wtf8_core::{Checker, EncodingError, utf8_fault, wtf8_fault};
 
 /// 0 where the bytes are WTF-8, and else 1.
 #[unsafe(no_mangle)]
@@ -30,6 +38,56 @@ pub extern "C" fn port_from_raw_vec(alloc: Global, bytes: &[u8]) -> usize
     };
     match OsString::<Windows>::from_raw_vec(raw) {
         Ok(string) => string.as_os_str().len(),
+        Err(_) => usize::MAX,
+    }
+}
+
+/// 0 where the bytes, fed to a checker as one piece, are WTF-8, and else 1.
+#[unsafe(no_mangle)]
+pub extern "C" fn port_feed(bytes: &[u8]) -> u64
+    ensures accepts { result ≡ 0 → IsWtf8 bytes.now }
+    ensures refuses { result ≢ 0 → (fault : EncodingError) × HasFirstFault bytes.now fault }
+{
+    let mut checker = Checker::new();
+    let _ = checker.feed(bytes);
+    match checker.finish() {
+        Ok(()) => 0,
+        Err(_) => 1,
+    }
+}
+
+/// The index of the first fault of bytes that aren't WTF-8, or `usize::MAX` where they are.
+#[unsafe(no_mangle)]
+pub extern "C" fn port_wtf8_fault(bytes: &[u8]) -> usize
+    ensures { AnswersOr usize.MAX (IsWtf8 bytes.now)
+        (λ index. (count : ℕ) × IsFaultAt bytes.now index count) result }
+{
+    match wtf8_fault(bytes) {
+        Some((index, _)) => index,
+        None => usize::MAX,
+    }
+}
+
+/// The index of the first fault of bytes that aren't UTF-8, or `usize::MAX` where they are.
+#[unsafe(no_mangle)]
+pub extern "C" fn port_utf8_fault(bytes: &[u8]) -> usize
+    ensures { AnswersOr usize.MAX (IsUtf8 bytes.now)
+        (λ index. (len : Option ℕ) × IsUtf8Fault bytes.now index len) result }
+{
+    match utf8_fault(bytes) {
+        Some((index, _)) => index,
+        None => usize::MAX,
+    }
+}
+
+/// How many bytes the text has of the fault that is this byte, or `usize::MAX` where memory was
+/// refused.
+#[unsafe(no_mangle)]
+pub extern "C" fn port_fault_text(alloc: Global, byte: u8) -> usize
+    ensures { result ≢ usize.MAX → result ≡ length (fault_text (Byte byte)) }
+{
+    match EncodingError::Byte(byte).to_string(alloc) {
+        Ok(text) => text.as_str().len(),
         Err(_) => usize::MAX,
     }
 }

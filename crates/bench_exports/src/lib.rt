@@ -1,7 +1,8 @@
-//! The calls that are timed, for a program in C or Rust: [`check`] the check of Windows,
+//! The calls that are timed, for a program in C or Rust: [`check`] the check of Windows and faults,
 //! [`wide`] bytes to units and back, [`lossy`] lossy texts and readings, [`search`] searches,
-//! [`boundary`] boundaries, [`pieces`] splits, [`chunks`] chunks, [`symbols`] symbols and first
-//! characters, [`joins`] joins and prefixes by units, [`escapes`] escapes, [`globs`] path patterns.
+//! [`boundary`] boundaries, [`compare`] the order, [`pieces`] splits, [`chunks`] chunks, [`symbols`]
+//! symbols and first characters, [`joins`] joins and prefixes by units, [`escapes`] escapes,
+//! [`buffers`] what is written into a buffer, [`globs`] path patterns.
 //!
 //! Each export is a call of the libraries below it, and nothing else. A slice crosses as a
 //! pointer and a length, and an allocator as nothing: what it takes is the program's own
@@ -9,8 +10,10 @@
 #![tactic(auto)]
 
 pub mod boundary;
+pub mod buffers;
 pub mod check;
 pub mod chunks;
+pub mod compare;
 pub mod escapes;
 pub mod globs;
 pub mod joins;

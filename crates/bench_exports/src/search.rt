@@ -2,7 +2,7 @@
 ghost use Rattle.std.specs.Prelude.{◌≡◌, ◌<◌, ◌↔◌, ◌++◌, ℕ, List, IsTrue, length};
 ghost use Rattle.std.specs.Str.{IsUtf8};
 ghost use Rattle.wtf8_core.specs.Standing.{StandsNowhere, IsFirstPlace, IsLastPlace, IsPrefix, IsSuffix};
-ghost use Rattle.wtf8_core.specs.Pieces.{IsTrim};
+ghost use Rattle.wtf8_core.specs.Pieces.{IsTrim, StandsSomewhere};
 ghost use Rattle.bench_exports.specs.Answers.{AnswersOr};
 
 use crate::strings::{text, unix};
@@ -32,6 +32,15 @@ pub extern "C" fn port_rfind(raw: &[u8], pattern: &[u8]) -> usize
         Some(place) => place,
         None => usize::MAX,
     }
+}
+
+/// Whether the pattern occurs.
+#[unsafe(no_mangle)]
+pub extern "C" fn port_contains(raw: &[u8], pattern: &[u8]) -> bool
+    requires { IsUtf8 pattern.now }
+    ensures { IsTrue result ↔ StandsSomewhere pattern.now raw.now }
+{
+    unix(raw).contains(text(pattern))
 }
 
 /// Where the pattern first occurs, by the length of the part before it; `usize::MAX` where it

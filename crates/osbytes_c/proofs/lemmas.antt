@@ -1,5 +1,5 @@
+pub mod Digits
 pub mod Room
 pub mod Steps
 pub mod Symbols
-pub mod Texts
 pub mod Walks

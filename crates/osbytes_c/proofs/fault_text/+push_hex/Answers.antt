@@ -1,7 +1,7 @@
 use Rattle.std.proofs.Common.{◌∷◌, ◌++◌, ◌∙◌, [], ◌-◌, ◌/◌, subst, sym, ap, append_assoc, append-nil, arith}
 use Rattle.wtf8_core.specs.FaultText.{upper_hex}
 use Rattle.wtf8_core.specs.Truncated.{IsTruncated}
-use Rattle.osbytes_c.proofs.lemmas.Texts.{upper_hex_none, upper_hex_more}
+use Rattle.osbytes_c.proofs.lemmas.Digits.{upper_hex_none, upper_hex_more}
 use Rattle.osbytes_c.proofs.fault_text.+push_hex.Goals as goal
 
 pub returns-then-digits-eq0-clause-written : goal.returns-then-digits-eq0-clause-written

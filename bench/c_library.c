@@ -1,0 +1,416 @@
+/* Times each call of the C library beside the Rattle call that does the same work: an export of
+ * crates/bench_exports, the two by turns. For each it prints by how many nanoseconds the call of C
+ * takes longer, on strings of 10 to 80 bytes. README.md says how. */
+#include <osbytes.h>
+
+#include <stdio.h>
+#include <stdlib.h>
+#include <string.h>
+#include <time.h>
+
+uint64_t port_check(const char *at, size_t len);
+uint64_t port_feed(const char *at, size_t len);
+size_t port_wtf8_fault(const char *at, size_t len);
+size_t port_utf8_fault(const char *at, size_t len);
+size_t port_fault_text(uint8_t byte);
+size_t port_encode_wide(const char *at, size_t len, uint16_t *out, size_t room);
+size_t port_decode_wide(const uint16_t *units, size_t len, char *out, size_t room);
+size_t port_lossy(const char *at, size_t len);
+size_t port_write_lossy(const char *at, size_t len, char *out, size_t room);
+size_t port_win_write_lossy(const char *at, size_t len, char *out, size_t room);
+size_t port_escape(const char *at, size_t len);
+size_t port_escape_line(const char *at, size_t len);
+size_t port_write_escape(const char *at, size_t len, char *out, size_t room);
+size_t port_win_write_escape(const char *at, size_t len, char *out, size_t room);
+size_t port_write_escape_line(const char *at, size_t len, char *out, size_t room);
+size_t port_unescape(const char *at, size_t len);
+size_t port_unescape_line(const char *at, size_t len);
+size_t port_write_unescaped(const char *at, size_t len, char *out, size_t room);
+size_t port_win_write_unescaped(const char *at, size_t len, char *out, size_t room);
+size_t port_wasm_write_unescaped(const char *at, size_t len, char *out, size_t room);
+size_t port_write_unescaped_line(const char *at, size_t len, char *out, size_t room);
+size_t port_find(const char *at, size_t len, const char *pattern, size_t pattern_len);
+size_t port_rfind(const char *at, size_t len, const char *pattern, size_t pattern_len);
+bool port_contains(const char *at, size_t len, const char *pattern, size_t pattern_len);
+bool port_starts_with(const char *at, size_t len, const char *pattern, size_t pattern_len);
+bool port_ends_with(const char *at, size_t len, const char *pattern, size_t pattern_len);
+bool port_starts_with_os(const char *at, size_t len, const char *front, size_t front_len);
+bool port_ends_with_os(const char *at, size_t len, const char *end, size_t end_len);
+bool port_is_boundary(const char *at, size_t len, size_t index);
+bool port_is_less(const char *a, size_t a_len, const char *b, size_t b_len);
+size_t port_split(const char *at, size_t len, const char *pattern, size_t pattern_len);
+size_t port_rsplit(const char *at, size_t len, const char *pattern, size_t pattern_len);
+size_t port_chunks(const char *at, size_t len);
+uint64_t port_symbols(const char *at, size_t len);
+
+/* How long the strings are, in bytes, and how many calls are timed together. */
+static const size_t LENS[] = {10, 16, 24, 40, 64, 80};
+enum { LEN_COUNT = 6, CALLS = 64, ROOM = 1024, LIMIT = 20 };
+
+/* On which platforms a string is one. */
+enum { TEXT = 7, OF_WINDOWS = 3, OF_UNIX = 1 };
+
+/* What strings are made of: a text, again and again, and what is put into their middle. */
+static const struct {
+    const char *name, *text, *middle;
+    int platforms;
+} KINDS[] = {
+    {"ASCII", "/usr/share/doc-1.2/name.txt", "", TEXT},
+    {"Cyrillic", "/привет/мир-2024/имена.txt", "", TEXT},
+    {"CJK", "/中文/文件名字-2024/目录.txt", "", TEXT},
+    {"emoji", "/😀😁😂/🤣😃-2024/😄.txt", "", TEXT},
+    {"mixed", "/aé中😀я-ñ文b/😁ö.txt", "", TEXT},
+    {"a line feed", "/usr/share/имена/name.txt", "\n", TEXT},
+    {"backslashes", "\\usr\\share\\имя\\name.txt", "", TEXT},
+    {"a surrogate", "/имя/usr/文件/name.txt", "\xED\xA0\x80", OF_WINDOWS},
+    {"FF", "/имя/usr/文件/name.txt", "\xFF", OF_UNIX},
+};
+enum { KIND_COUNT = sizeof KINDS / sizeof *KINDS };
+
+/* A string, its first half and its second, which are texts, its escapes and its units. */
+struct input {
+    char string[128], escape[3][ROOM], line[ROOM];
+    uint16_t units[128];
+    size_t len, front, back, escape_len[3], line_len, unit_count;
+};
+static struct input inputs[KIND_COUNT][LEN_COUNT];
+
+/* The pattern that a search is asked: a slash, or a half of the string. */
+static bool is_half;
+static const char *front_of(const struct input *it) { return is_half ? it->string : "/"; }
+static size_t front_len(const struct input *it) { return is_half ? it->front : 1; }
+static const char *back_of(const struct input *it) { return is_half ? it->string + it->back : "/"; }
+static size_t back_len(const struct input *it) { return is_half ? it->len - it->back : 1; }
+
+static char out[ROOM];
+static uint16_t wide[ROOM];
+static size_t count;
+static osb_fault fault;
+
+typedef size_t timed(const struct input *it);
+#define TIMED(name, answer)                                                                        \
+    static size_t name(const struct input *it) { return answer; }
+#define STRING it->string, it->len
+#define FRONT front_of(it), front_len(it)
+#define BACK back_of(it), back_len(it)
+#define OR_NONE(status, answer) ((status) == OSB_OK ? (answer) : SIZE_MAX)
+
+/* What was counted, or the index of the first fault of bytes that are no string of Windows. */
+static size_t or_fault(osb_status status) { return status == OSB_OK ? count : fault.place; }
+static size_t or_fault_of(const struct input *it, size_t answer) {
+    return answer == SIZE_MAX ? port_wtf8_fault(STRING) : answer;
+}
+
+/* Checks answer the index of the first fault. */
+TIMED(c_check_windows, osb_check(OSB_WINDOWS, STRING, &fault) == OSB_OK ? SIZE_MAX : fault.place)
+TIMED(r_check_windows, port_check(STRING) == 0 ? SIZE_MAX : port_wtf8_fault(STRING))
+TIMED(c_check_wasm, osb_check(OSB_WASM, STRING, &fault) == OSB_OK ? SIZE_MAX : fault.place)
+TIMED(r_check_wasm, port_utf8_fault(STRING))
+static size_t c_feed(const struct input *it) {
+    osb_checker checker;
+    osb_checker_start(&checker);
+    osb_checker_feed(&checker, STRING, &fault);
+    return osb_checker_finish(&checker, &fault);
+}
+TIMED(r_feed, port_feed(STRING))
+static size_t c_fault_text(const struct input *it) {
+    osb_fault named = {OSB_FAULT_BYTE, (uint8_t)it->len, 0, 1};
+    return OR_NONE(osb_fault_text(&named, out, ROOM, &count), count);
+}
+TIMED(r_fault_text, port_fault_text((uint8_t)it->len))
+
+/* Conversions. */
+TIMED(c_to_wide, or_fault(osb_to_wide(STRING, wide, ROOM, &count, &fault)))
+TIMED(r_to_wide, or_fault_of(it, port_encode_wide(STRING, wide, ROOM)))
+TIMED(c_from_wide, OR_NONE(osb_from_wide(it->units, it->unit_count, out, ROOM, &count), count))
+TIMED(r_from_wide, port_decode_wide(it->units, it->unit_count, out, ROOM))
+
+/* Texts. */
+#define WRITTEN(call, platform) or_fault(call(platform, STRING, out, ROOM, &count, &fault))
+TIMED(c_lossy, WRITTEN(osb_lossy, OSB_UNIX))
+TIMED(r_lossy, port_lossy(STRING))
+TIMED(r_write_lossy, port_write_lossy(STRING, out, ROOM))
+TIMED(c_lossy_windows, WRITTEN(osb_lossy, OSB_WINDOWS))
+TIMED(r_lossy_windows, or_fault_of(it, port_win_write_lossy(STRING, out, ROOM)))
+TIMED(c_escape, WRITTEN(osb_escape, OSB_UNIX))
+TIMED(r_escape, port_escape(STRING))
+TIMED(r_write_escape, port_write_escape(STRING, out, ROOM))
+TIMED(c_escape_windows, WRITTEN(osb_escape, OSB_WINDOWS))
+TIMED(r_escape_windows, or_fault_of(it, port_win_write_escape(STRING, out, ROOM)))
+TIMED(c_escape_line, WRITTEN(osb_escape_line, OSB_UNIX))
+TIMED(r_escape_line, port_escape_line(STRING))
+TIMED(r_write_escape_line, port_write_escape_line(STRING, out, ROOM))
+
+/* Strings from escapes. */
+#define ESCAPE(platform) it->escape[platform], it->escape_len[platform]
+#define LINE it->line, it->line_len
+#define READ(platform)                                                                             \
+    OR_NONE(osb_unescape(platform, ESCAPE(platform), out, ROOM, &count, NULL), count)
+TIMED(c_unescape, READ(OSB_UNIX))
+TIMED(r_unescape, port_unescape(ESCAPE(OSB_UNIX)))
+TIMED(r_write_unescaped, port_write_unescaped(ESCAPE(OSB_UNIX), out, ROOM))
+TIMED(c_unescape_windows, READ(OSB_WINDOWS))
+TIMED(r_unescape_windows, port_win_write_unescaped(ESCAPE(OSB_WINDOWS), out, ROOM))
+TIMED(c_unescape_wasm, READ(OSB_WASM))
+TIMED(r_unescape_wasm, port_wasm_write_unescaped(ESCAPE(OSB_WASM), out, ROOM))
+TIMED(c_unescape_line, OR_NONE(osb_unescape_line(OSB_UNIX, LINE, out, ROOM, &count, NULL), count))
+TIMED(r_unescape_line, port_unescape_line(LINE))
+TIMED(r_write_unescaped_line, port_write_unescaped_line(LINE, out, ROOM))
+
+/* Searches. */
+TIMED(c_find, OR_NONE(osb_find(STRING, BACK, &count), count))
+TIMED(r_find, port_find(STRING, BACK))
+TIMED(c_rfind, OR_NONE(osb_rfind(STRING, FRONT, &count), count))
+TIMED(r_rfind, port_rfind(STRING, FRONT))
+TIMED(c_contains, osb_contains(STRING, BACK) == OSB_OK)
+TIMED(r_contains, port_contains(STRING, BACK))
+TIMED(c_starts_with, osb_starts_with(STRING, FRONT) == OSB_OK)
+TIMED(r_starts_with, port_starts_with(STRING, FRONT))
+TIMED(c_ends_with, osb_ends_with(STRING, BACK) == OSB_OK)
+TIMED(r_ends_with, port_ends_with(STRING, BACK))
+TIMED(c_starts_units, osb_starts_with_units(OSB_WINDOWS, STRING, FRONT) == OSB_OK)
+TIMED(r_starts_units,
+      port_check(STRING) == 0 && port_check(FRONT) == 0 && port_starts_with_os(STRING, FRONT))
+TIMED(c_ends_units, osb_ends_with_units(OSB_WINDOWS, STRING, BACK) == OSB_OK)
+TIMED(r_ends_units,
+      port_check(STRING) == 0 && port_check(BACK) == 0 && port_ends_with_os(STRING, BACK))
+TIMED(c_is_boundary, osb_is_boundary(STRING, it->back) == OSB_OK)
+TIMED(r_is_boundary, port_is_boundary(STRING, it->back))
+static size_t c_compare(const struct input *it) {
+    int32_t order = 0;
+    osb_compare(STRING, it->escape[0], it->escape_len[0], &order);
+    return order < 0;
+}
+TIMED(r_compare, port_is_less(STRING, ESCAPE(OSB_UNIX)))
+
+/* Walks: from the start on to the end, which is a call more than there are items. */
+static size_t c_split(const struct input *it) {
+    osb_split split;
+    osb_view piece;
+    size_t pieces = 0;
+    osb_split_start(&split, STRING, "/", 1);
+    while (osb_split_next(&split, &piece) == OSB_OK) pieces++;
+    return pieces;
+}
+TIMED(r_split, port_split(STRING, "/", 1))
+static size_t c_rsplit(const struct input *it) {
+    osb_split split;
+    osb_view piece;
+    size_t pieces = 0;
+    osb_rsplit_start(&split, STRING, "/", 1);
+    while (osb_rsplit_next(&split, &piece) == OSB_OK) pieces++;
+    return pieces;
+}
+TIMED(r_rsplit, port_rsplit(STRING, "/", 1))
+static size_t c_chunks(const struct input *it) {
+    osb_chunks chunks;
+    osb_chunk chunk;
+    size_t number = 0;
+    osb_chunks_start(&chunks, STRING);
+    while (osb_chunks_next(&chunks, &chunk) == OSB_OK) number++;
+    return number;
+}
+TIMED(r_chunks, port_chunks(STRING))
+static size_t symbol_count;
+static size_t c_symbols(const struct input *it) {
+    osb_symbols symbols;
+    osb_symbol symbol;
+    size_t sum = 0;
+    symbol_count = 0;
+    osb_symbols_start(&symbols, OSB_UNIX, STRING, NULL);
+    while (osb_symbols_next(&symbols, &symbol) == OSB_OK) {
+        sum += symbol.value;
+        symbol_count++;
+    }
+    return sum;
+}
+TIMED(r_symbols, port_symbols(STRING))
+
+/* How many calls of C a walk is. */
+static size_t one(const struct input *it) {
+    (void)it;
+    return 1;
+}
+static size_t for_pieces(const struct input *it) { return c_split(it) + 2; }
+static size_t for_chunks(const struct input *it) { return c_chunks(it) + 2; }
+static size_t for_symbols(const struct input *it) {
+    c_symbols(it);
+    return symbol_count + 2;
+}
+
+/* The pairs, and on the strings of which platforms they are timed. */
+enum { ANY = 0 };
+static const struct pair {
+    const char *c, *rattle;
+    timed *call, *beside, *calls;
+    int platforms;
+    bool searches;
+} PAIRS[] = {
+    {"`osb_check`, Windows", "`check`, `wtf8_fault`", c_check_windows, r_check_windows, one, ANY,
+     false},
+    {"`osb_check`, wasm", "`utf8_fault`", c_check_wasm, r_check_wasm, one, ANY, false},
+    {"`osb_checker_start`, `_feed`, `_finish`", "`Checker`", c_feed, r_feed, one, ANY, false},
+    {"`osb_fault_text`", "`to_string`", c_fault_text, r_fault_text, one, ANY, false},
+    {"`osb_to_wide`", "`encode_wide`", c_to_wide, r_to_wide, one, ANY, false},
+    {"`osb_from_wide`", "`DecodeWide`", c_from_wide, r_from_wide, one, OF_WINDOWS, false},
+    {"`osb_lossy`", "`write_lossy`", c_lossy, r_write_lossy, one, ANY, false},
+    {"`osb_lossy`", "`to_string_lossy`", c_lossy, r_lossy, one, ANY, false},
+    {"`osb_lossy`, Windows", "`checked`, `write_lossy`", c_lossy_windows, r_lossy_windows, one, ANY,
+     false},
+    {"`osb_escape`", "`write_escape`", c_escape, r_write_escape, one, ANY, false},
+    {"`osb_escape`", "`escape`", c_escape, r_escape, one, ANY, false},
+    {"`osb_escape`, Windows", "`checked`, `write_escape`", c_escape_windows, r_escape_windows, one,
+     ANY, false},
+    {"`osb_escape_line`", "`write_escape_line`", c_escape_line, r_write_escape_line, one, ANY,
+     false},
+    {"`osb_escape_line`", "`escape_line`", c_escape_line, r_escape_line, one, ANY, false},
+    {"`osb_unescape`", "`write_unescaped_bytes`", c_unescape, r_write_unescaped, one, ANY, false},
+    {"`osb_unescape`", "`unescape` of a `str`", c_unescape, r_unescape, one, ANY, false},
+    {"`osb_unescape`, Windows", "`write_unescaped_bytes`", c_unescape_windows, r_unescape_windows,
+     one, OF_WINDOWS, false},
+    {"`osb_unescape`, wasm", "`write_unescaped_bytes`", c_unescape_wasm, r_unescape_wasm, one, TEXT,
+     false},
+    {"`osb_unescape_line`", "`write_unescaped_line_bytes`", c_unescape_line, r_write_unescaped_line,
+     one, ANY, false},
+    {"`osb_unescape_line`", "`unescape_line` of a `str`", c_unescape_line, r_unescape_line, one,
+     ANY, false},
+    {"`osb_find`", "`find`", c_find, r_find, one, ANY, true},
+    {"`osb_rfind`", "`rfind`", c_rfind, r_rfind, one, ANY, true},
+    {"`osb_contains`", "`contains`", c_contains, r_contains, one, ANY, true},
+    {"`osb_starts_with`", "`starts_with`", c_starts_with, r_starts_with, one, ANY, true},
+    {"`osb_ends_with`", "`ends_with`", c_ends_with, r_ends_with, one, ANY, true},
+    {"`osb_starts_with_units`, Windows", "`check` of both, `starts_with_os`", c_starts_units,
+     r_starts_units, one, OF_WINDOWS, true},
+    {"`osb_ends_with_units`, Windows", "`check` of both, `ends_with_os`", c_ends_units,
+     r_ends_units, one, OF_WINDOWS, true},
+    {"`osb_is_boundary`", "`is_boundary`", c_is_boundary, r_is_boundary, one, ANY, false},
+    {"`osb_compare`", "`cmp`", c_compare, r_compare, one, ANY, false},
+    {"`osb_split_start`, `_next`", "`split`", c_split, r_split, for_pieces, ANY, false},
+    {"`osb_rsplit_start`, `_next`", "`rsplit`", c_rsplit, r_rsplit, for_pieces, ANY, false},
+    {"`osb_chunks_start`, `_next`", "`utf8_chunks`", c_chunks, r_chunks, for_chunks, ANY, false},
+    {"`osb_symbols_start`, `_next`", "`symbols`", c_symbols, r_symbols, for_symbols, ANY, false},
+};
+enum { PAIR_COUNT = sizeof PAIRS / sizeof *PAIRS };
+
+static void fail(const struct pair *pair, const struct input *it) {
+    fprintf(stderr, "%s and %s differ on %.*s\n", pair->c, pair->rattle, (int)it->len, it->string);
+    exit(1);
+}
+
+/* Appends a text again and again, up to a length, and fills up what is less than a character. */
+static void append(struct input *it, const char *text, size_t to) {
+    for (size_t at = 0; it->len < to; at++) it->string[it->len++] = text[at % strlen(text)];
+    while (it->len > 0 && (it->string[it->len - 1] & 0xC0) == 0x80) it->len--;
+    if (it->len > 0 && (it->string[it->len - 1] & 0x80) != 0) it->len--;
+    while (it->len < to) it->string[it->len++] = 'x';
+}
+
+static void make(struct input *it, size_t kind, size_t len) {
+    const char *middle = KINDS[kind].middle;
+    append(it, KINDS[kind].text, (len - strlen(middle)) / 2);
+    it->front = it->len;
+    memcpy(it->string + it->len, middle, strlen(middle));
+    it->len += strlen(middle);
+    it->back = it->len;
+    append(it, KINDS[kind].text, len);
+    osb_to_wide(STRING, it->units, 128, &it->unit_count, NULL);
+    for (osb_platform platform = 0; platform < 3; platform++)
+        osb_escape(platform, STRING, it->escape[platform], ROOM, &it->escape_len[platform], NULL);
+    osb_escape_line(OSB_UNIX, STRING, it->line, ROOM, &it->line_len, NULL);
+}
+
+static uint64_t nanoseconds(void) {
+    struct timespec now;
+    clock_gettime(CLOCK_MONOTONIC, &now);
+    return (uint64_t)now.tv_sec * 1000000000 + (uint64_t)now.tv_nsec;
+}
+
+/* By how many nanoseconds a call of C takes longer: the least times of all turns are compared. */
+static volatile size_t sink;
+static double over(const struct pair *pair, const struct input *const *strings, size_t turns) {
+    timed *const calls[2] = {pair->call, pair->beside};
+    uint64_t least[2] = {UINT64_MAX, UINT64_MAX};
+    size_t number = 0;
+    for (size_t i = 0; i < CALLS; i++) {
+        if (pair->call(strings[i]) != pair->beside(strings[i])) fail(pair, strings[i]);
+        number += pair->calls(strings[i]);
+    }
+    for (size_t turn = 0; turn < 2 * turns; turn++) {
+        timed *call = calls[turn % 2];
+        uint64_t start = nanoseconds();
+        for (size_t i = 0; i < CALLS; i++) sink = call(strings[i]);
+        uint64_t time = nanoseconds() - start;
+        if (time < least[turn % 2]) least[turn % 2] = time;
+    }
+    return ((double)least[0] - (double)least[1]) / (double)number;
+}
+
+static int by_size(const void *a, const void *b) {
+    double x = *(const double *)a, y = *(const double *)b;
+    return (x > y) - (x < y);
+}
+
+/* The figures of a pair, or of all. */
+struct figures {
+    double items[8192];
+    size_t count;
+};
+static struct figures of_pairs[PAIR_COUNT], of_all;
+
+static void add(struct figures *figures, double item) { figures->items[figures->count++] = item; }
+
+/* A line of the summary: the least figure, the median, the greatest, and how many are past the
+ * limit. */
+static void summarize(const char *c, const char *rattle, struct figures *figures) {
+    double *items = figures->items;
+    size_t number = figures->count, above = 0;
+    qsort(items, number, sizeof *items, by_size);
+    while (above < number && items[number - 1 - above] > LIMIT) above++;
+    printf("| %s | %s | %.0f | %.0f | %.0f | %zu of %zu |\n", c, rattle, items[0],
+           items[number / 2], items[number - 1], above, number);
+}
+
+/* A line of a table: a kind of strings by their lengths, and all lengths in turn. */
+static void time_kind(size_t at, size_t kind, size_t turns) {
+    const struct pair *pair = &PAIRS[at];
+    const struct input *strings[CALLS];
+    printf("| %s%s |", KINDS[kind].name, pair->searches && is_half ? ", a half" : "");
+    for (size_t column = 0; column <= LEN_COUNT; column++) {
+        for (size_t i = 0, random = 1; i < CALLS; i++, random = random * 13 % 67)
+            strings[i] = &inputs[kind][column < LEN_COUNT ? column : random % LEN_COUNT];
+        double figure = over(pair, strings, turns);
+        printf(" %.1f |", figure);
+        add(&of_pairs[at], figure);
+        add(&of_all, figure);
+    }
+    printf("\n");
+}
+
+static void time_pair(size_t at, size_t turns) {
+    const struct pair *pair = &PAIRS[at];
+    printf("\n### %s over %s\n\n| String |", pair->c, pair->rattle);
+    for (size_t i = 0; i < LEN_COUNT; i++) printf(" %zu bytes |", LENS[i]);
+    printf(" in turn |\n|---|---|---|---|---|---|---|---|\n");
+    for (int half = 0; half <= pair->searches; half++) {
+        is_half = half != 0;
+        for (size_t kind = 0; kind < KIND_COUNT; kind++)
+            if ((KINDS[kind].platforms & pair->platforms) == pair->platforms)
+                time_kind(at, kind, turns);
+    }
+    fflush(stdout);
+}
+
+int main(int words, char **word) {
+    size_t turns = words > 1 ? strtoul(word[1], NULL, 10) : 1000;
+    const char *part = words > 2 ? word[2] : "";
+    for (size_t kind = 0; kind < KIND_COUNT; kind++)
+        for (size_t i = 0; i < LEN_COUNT; i++) make(&inputs[kind][i], kind, LENS[i]);
+    for (size_t at = 0; at < PAIR_COUNT; at++)
+        if (strstr(PAIRS[at].c, part) != NULL) time_pair(at, turns);
+    printf("\n### Summary\n\n| C | Rattle | Least | Median | Greatest | Past %d "
+           "|\n|---|---|---|---|---|---|\n",
+           LIMIT);
+    for (size_t at = 0; at < PAIR_COUNT; at++)
+        if (of_pairs[at].count != 0) summarize(PAIRS[at].c, PAIRS[at].rattle, &of_pairs[at]);
+    if (of_all.count != 0) summarize("all", "", &of_all);
+}
