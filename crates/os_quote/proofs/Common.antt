@@ -3,7 +3,6 @@ pub use Rattle.memchr.specs.Find.{NoneBefore, Passes, is_byte}
 pub use Rattle.os_quote.specs.Buffers.{Pushes, text_escape, token_of}
 pub use Rattle.os_quote.specs.Escape.{BeginsNoToken, IsBadEscapeBy, IsEscape, IsEscapeBy, IsLineEscape, chunk_items, items_of}
 pub use Rattle.os_quote.specs.Escaped.{escape_of, escaped_text}
-pub use Rattle.os_quote.specs.Fronts.{IsCutAfterText, IsFrontWritten}
 pub use Rattle.os_quote.specs.Item.{Backslash, ByteUnit, Character, HasLongTokens, IsItem, IsLong, Item, LongCharacter, WideUnit, backslash, byte_digits, character_item, hidden_item, high_digits, item_text, item_texts, long_digits, unit_item, wide_digits}
 pub use Rattle.os_quote.specs.Plain.{IsAfterPlain, IsPlain, IsPlainUpTo, IsPlainWritten}
 pub use Rattle.os_quote.specs.Reading.{HasNoBackslash, HasNoClosed, HasNoFive, HasNoLong, HasNoNumber, HasNoSix, HasNoWide, AreBytesRead, IsClosed, IsCutAtBackslash, IsCutAtFirst, IsFive, IsRead, IsSix, item_bytes, token_item}

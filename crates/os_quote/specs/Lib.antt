@@ -2,7 +2,6 @@ pub mod Item
 pub mod Shown
 pub mod Standing
 pub mod Plain
-pub mod Fronts
 pub mod Escape
 pub mod Escaped
 pub mod Reading

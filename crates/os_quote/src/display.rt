@@ -1,6 +1,6 @@
 //! A string that prints as its escape.
 use crate::form::Form;
-use crate::write::{write_front, write_part, write_text};
+use crate::write::{write_part, write_plain, write_text};
 use os_str_bytes::{OsStr, OsStrBytesExt, Platform, Writeable, write_filled};
 use std::alloc::AllocError;
 use std::fmt;
@@ -65,7 +65,8 @@ impl<'a, E: Platform> Writeable for Escaped<'a, E> {
     ghost text = { λ e. escaped_text e };
 
     fn write_to<W: fmt::Write>(&self, f: &mut fmt::Formatter<W>) -> fmt::Result {
-        let rest = write_front(self.form, self.string, f)?;
+        let rest = write_plain(self.string.as_encoded_bytes(), f)?;
+        let rest = OsStr::<E>::from_encoded_bytes_unchecked(rest);
         for (part, text) in rest.utf8_chunks() {
             write_part(part, f)?;
             write_text(self.form, text, f)?;

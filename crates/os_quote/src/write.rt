@@ -1,13 +1,10 @@
 //! The escapes of parts and of texts, written piece by piece.
-ghost use Rattle.std.specs.Prelude.{◌≡◌, ◌<◌, ◌++◌, map, length, IfOk, IfSome};
+ghost use Rattle.std.specs.Prelude.{◌≡◌, ◌<◌, map, IfOk};
 ghost use Rattle.std.specs.Fmt.{WritesStyledOnOk};
 ghost use Rattle.std.specs.Str.{chars};
-ghost use Rattle.wtf8_core.specs.Boundary.{IsBoundary};
-ghost use Rattle.platform_str.specs.Strings.{bytes};
 ghost use Rattle.os_str_ext.specs.Parts.{part_bytes};
 ghost use Rattle.os_quote.specs.Item.{item_text, item_texts, unit_item, character_item};
 ghost use Rattle.os_quote.specs.Plain.{IsPlainWritten};
-ghost use Rattle.os_quote.specs.Fronts.{IsCutAfterText, IsFrontWritten};
 ghost use Rattle.os_quote.specs.Shown.{is_any, stays_on_line, shown_by};
 
 use crate::form::{Form, stays_on_line};
@@ -15,55 +12,8 @@ use crate::plain::split_plain;
 use crate::standing::split_hidden;
 use crate::token::split_backslash;
 use crate::write_token::{write_hidden, write_unit};
-use os_str_bytes::{NonUnicodeOsStr, OsStr, OsStrBytesExt, Platform};
+use os_str_bytes::{NonUnicodeOsStr, Platform};
 use std::fmt;
-
-/// How many bytes of a long string are looked at before they are written: so few that they are copied
-/// from the cache next to the processor.
-const PIECE: usize = 1024;
-
-/// Writes what is text at the start of a string, as far as whole pieces are, and returns what follows it.
-pub(crate) fn write_front<'a, E: Platform, W: fmt::Write>(
-    form: Form,
-    string: OsStr<'a, E>,
-    f: &mut fmt::Formatter<W>,
-) -> Result<OsStr<'a, E>, fmt::Error>
-    ensures { IfOk result (λ rest. IsFrontWritten W.write_str_gives (shown_by form) f.old f.new
-        (bytes string.entry) (bytes rest)) }
-{
-    let rest = write_plain(string.as_encoded_bytes(), f)?;
-    let mut rest = OsStr::<E>::from_encoded_bytes_unchecked(rest);
-    while let Some((text, behind)) = split_text(rest) {
-        write_text(form, text, f)?;
-        rest = behind;
-    }
-    Ok(rest)
-}
-
-/// The first piece of a string that is longer, if it is a text, and what follows it.
-fn split_text<'a, E: Platform>(string: OsStr<'a, E>) -> Option<(&'a str, OsStr<'a, E>)>
-    ensures { IfSome result (λ parts. IsCutAfterText (bytes string.entry) parts.0.now
-        (bytes parts.1)) }
-{
-    let (piece, behind) = string.split_at(piece_end(string)?);
-    Some((piece.to_str()?, behind))
-}
-
-/// A boundary at which the first piece of a string that is longer may end.
-fn piece_end<'a, E: Platform>(string: OsStr<'a, E>) -> Option<usize>
-    ensures boundary { IfSome result (λ at. IsBoundary (bytes string.entry) at) }
-    ensures some { IfSome result (λ at. 0 < at) }
-{
-    if string.len() <= PIECE {
-        return None;
-    }
-    for at in PIECE - 3..PIECE + 1 {
-        if string.is_boundary(at) {
-            return Some(at);
-        }
-    }
-    None
-}
 
 /// Writes the plain bytes at the start, and returns the bytes after them. Each piece is written right
 /// after it was looked at, and before the next one is.

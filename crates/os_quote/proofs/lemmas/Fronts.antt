@@ -1,5 +1,5 @@
--- Escapes of strings that begin with a text.
-use Rattle.os_quote.proofs.Common.{◌≡◌, ⊎_elim, ℕ, ◌+◌, ◌-◌, ◌<◌, Bool, true, false, List, [], ◌∷◌, ◌++◌, map, length, refl, sym, ap, ◌∙◌, subst, arith, append_assoc, append-nil, length-append, IsUtf8, chars, cases_lt, chars-append, chars-nil, IsCovered, CrossesNoCharacter, Chunk, joined, AreChunks, AreChunksFrom, chunks_from_start, are_chunks, some_chunks, chunks_once, one_more_chunk, Covered, over_none, covered_within, covered_behind, seam_at_start, text_covered, chunks_of, Item, item_texts, unit_item, character_item, items_of, escape_of}
+-- Escapes of strings that begin with a text of which each character is unchanged.
+use Rattle.os_quote.proofs.Common.{◌≡◌, ⊎_elim, ℕ, ◌+◌, ◌-◌, ◌<◌, Bool, true, false, List, [], ◌∷◌, ◌++◌, map, length, refl, sym, ap, ◌∙◌, subst, arith, append_assoc, append-nil, length-append, IsUtf8, chars, cases_lt, chars-append, IsCovered, CrossesNoCharacter, Chunk, joined, AreChunks, AreChunksFrom, chunks_from_start, are_chunks, some_chunks, chunks_once, one_more_chunk, Covered, over_none, covered_within, covered_behind, seam_at_start, text_covered, chunks_of, Item, item_texts, unit_item, character_item, items_of, escape_of}
 use Rattle.os_quote.proofs.lemmas.Texts.{text_items, text_escape, map-append, item_texts-append}
 
 module _ (p r : List ℕ) (u : IsUtf8 p) (some : 0 < length p) where
@@ -71,14 +71,15 @@ module _ (p r : List ℕ) (u : IsUtf8 p) (some : 0 < length p) where
       one_more_chunk (p ++ r) [] p r [] refl long (over_none _ 0) covered seam (λ e. absurd (never_empty e)) (λ lt. absurd (let l = ap length none in omega (arith, lt, l))) h
   are_front (c ∷ ds) h = are_grown c.0 c.1 ds h
 
-  module _ (shows : ℕ → Bool) (units : List ℕ → List ℕ) (no_units : units [] ≡ []) where
+  module _ (shows : ℕ → Bool) (units : List ℕ → List ℕ) (no_units : units [] ≡ []) (own : text_escape shows p ≡ p) where
     -- their items
-    after_front : (items : List Item) → item_texts ((map unit_item (units []) ++ text_items shows p) ++ items) ≡ text_escape shows p ++ item_texts items
+    after_front : (items : List Item) → item_texts ((map unit_item (units []) ++ text_items shows p) ++ items) ≡ p ++ item_texts items
     after_front items =
         ap (λ us. item_texts ((map unit_item us ++ text_items shows p) ++ items)) no_units
         ∙ item_texts-append (text_items shows p) items
+        ∙ ap (λ x. x ++ item_texts items) own
 
-    grown_items : (q t : List ℕ) (ds : List Chunk) → item_texts (items_of shows units (grown q t ds)) ≡ text_escape shows p ++ item_texts (items_of shows units ((q, t) ∷ ds))
+    grown_items : (q t : List ℕ) (ds : List Chunk) → item_texts (items_of shows units (grown q t ds)) ≡ p ++ item_texts (items_of shows units ((q, t) ∷ ds))
     grown_items (x ∷ q) t ds = after_front (items_of shows units ((x ∷ q, t) ∷ ds))
     grown_items [] t ds =
         let rest = items_of shows units ds in
@@ -87,26 +88,20 @@ module _ (p r : List ℕ) (u : IsUtf8 p) (some : 0 < length p) where
         ∙ ap (λ items. item_texts (items ++ rest)) (map-append shows (chars p) (chars t))
         ∙ ap item_texts (append_assoc (text_items shows p) (text_items shows t) rest)
         ∙ item_texts-append (text_items shows p) (text_items shows t ++ rest)
-        ∙ ap (λ us. text_escape shows p ++ item_texts ((map unit_item us ++ text_items shows t) ++ rest)) (sym no_units)
+        ∙ ap (λ x. x ++ item_texts (text_items shows t ++ rest)) own
+        ∙ ap (λ us. p ++ item_texts ((map unit_item us ++ text_items shows t) ++ rest)) (sym no_units)
 
-    front_items : (cs : List Chunk) → item_texts (items_of shows units (front_chunks cs)) ≡ text_escape shows p ++ item_texts (items_of shows units cs)
+    front_items : (cs : List Chunk) → item_texts (items_of shows units (front_chunks cs)) ≡ p ++ item_texts (items_of shows units cs)
     front_items [] = after_front []
     front_items (c ∷ ds) = grown_items c.0 c.1 ds
 
-    pub some_front : escape_of shows units (p ++ r) ≡ text_escape shows p ++ escape_of shows units r
+    pub some_front : escape_of shows units (p ++ r) ≡ p ++ escape_of shows units r
     some_front =
         let cs = chunks_of r in
         ap (λ x. item_texts (items_of shows units x)) (chunks_once (p ++ r) (chunks_of (p ++ r)) (front_chunks cs) (some_chunks (p ++ r)).1 (are_front cs (some_chunks r).1))
         ∙ front_items cs
 
--- the escape of a string after a text
-pub front_escape : (shows : ℕ → Bool) (units : List ℕ → List ℕ) (p r : List ℕ) → units [] ≡ [] → IsUtf8 p → escape_of shows units (p ++ r) ≡ text_escape shows p ++ escape_of shows units r
-front_escape shows units [] r none u = ap (λ cs. item_texts (map (character_item shows) cs) ++ escape_of shows units r) (sym chars-nil)
-front_escape shows units (x ∷ p) r none u = some_front (x ∷ p) r u (omega arith) shows units none
-
--- the escape of two texts
-pub two_texts : (shows : ℕ → Bool) (p q : List ℕ) → IsUtf8 p → text_escape shows (p ++ q) ≡ text_escape shows p ++ text_escape shows q
-two_texts shows p q u =
-    ap (λ cs. item_texts (map (character_item shows) cs)) (chars-append p q u)
-    ∙ ap item_texts (map-append shows (chars p) (chars q))
-    ∙ item_texts-append (text_items shows p) (text_items shows q)
+-- the escape of a string after such a text
+pub front_escape : (shows : ℕ → Bool) (units : List ℕ → List ℕ) (p r : List ℕ) → units [] ≡ [] → IsUtf8 p → text_escape shows p ≡ p → escape_of shows units (p ++ r) ≡ p ++ escape_of shows units r
+front_escape shows units [] r none u own = refl
+front_escape shows units (x ∷ p) r none u own = some_front (x ∷ p) r u (omega arith) shows units none own

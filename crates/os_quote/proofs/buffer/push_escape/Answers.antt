@@ -30,7 +30,7 @@ loop-part-init g c =
       plain.front,
       plain.pushes,
       ap (λ x. plain.front ++ x) left
-          ∙ sym (front_escape shows units plain.front c.push_plain-plain.result.1.now none (plain_is_text plain.front plain.after.plain) ∙ ap (λ x. x ++ escape_of shows units c.push_plain-plain.result.1.now) (plain_is_own form plain.front plain.after.plain))
+          ∙ sym (front_escape shows units plain.front c.push_plain-plain.result.1.now none (plain_is_text plain.front plain.after.plain) (plain_is_own form plain.front plain.after.plain))
           ∙ ap (escape_of shows units) (sym plain.after.joined ∙ c.as_encoded_bytes.ensures.value),
     )
 
