@@ -1,2 +1,3 @@
 pub mod FirstChunk
+pub mod FirstPiece
 pub mod LastPiece

@@ -9,6 +9,7 @@ use std::alloc::{AllocError, Allocator};
 use wtf8_core::{Checker, laws};
 
 /// The check of bytes that come in two pieces.
+#[tactic(auto, using(crate::proofs::FirstPiece::is_of_both))]
 pub fn check_in_two(first: &[u8], second: &[u8]) -> Result<(), EncodingError>
     ensures { MatchResult result (λ _. IsWtf8 (first.now ++ second.now))
         (λ fault. HasFirstFault (first.now ++ second.now) fault) }
