@@ -105,7 +105,7 @@ fn are_lanes_plain(bytes: &[u8], at: usize) -> bool
 fn is_plain(byte: u8) -> bool
     ensures { IsTrue result → IsPlain byte }
 {
-    (b' '..=b'~').contains(&byte) && byte != b'\\'
+    matches!(byte, b' '..=b'~') && byte != b'\\'
 }
 
 /// Whether the next 64 bytes are plain. The least and the greatest of four lanes tell whether all four

@@ -76,11 +76,11 @@ fn is_suspect(first: u8, second: u8, third: u8) -> bool
 {
     match first {
         0..=0x1F | b'\\' | 0x7F => true,
-        0xC2 => (0x80..=0x9F).contains(&second),
+        0xC2 => matches!(second, 0x80..=0x9F),
         0xD8 => second == 0x9C,
         0xE2 => is_general(second, third),
         0xEF => second == 0xBB && third == 0xBF,
-        0xF3 => second == 0xA0 && (0x80..=0x81).contains(&third),
+        0xF3 => second == 0xA0 && matches!(third, 0x80..=0x81),
         _ => false,
     }
 }

@@ -183,7 +183,7 @@ pub(crate) fn chunk_ends<E: Platform>(bytes: &[u8], bare: usize) -> ChunkEnds
 fn begins_no_character(byte: u8) -> bool
     ensures { IsTrue result ↔ BeginsNoCharacter byte }
 {
-    byte >= 0x80 && !(0xC2..=0xF4).contains(&byte)
+    byte >= 0x80 && !matches!(byte, 0xC2..=0xF4)
 }
 
 /// The length in bytes of the ill-formed part of a fault; the part may reach the end of the bytes.

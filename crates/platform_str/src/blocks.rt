@@ -183,7 +183,7 @@ fn put_block(bytes: &mut [u8], at: usize, units: &[u16]) -> usize
 fn is_pair(high: u16, low: u16) -> bool
     ensures { result ≡ is_pair high low }
 {
-    (0xD800..=0xDBFF).contains(&high) && (0xDC00..=0xDFFF).contains(&low)
+    matches!(high, 0xD800..=0xDBFF) && matches!(low, 0xDC00..=0xDFFF)
 }
 
 /// Writes what a unit gives from index `at` on, and returns the index after it.
