@@ -1,5 +1,5 @@
 -- Pieces, one after the other.
-use Rattle.wtf8_core.proofs.Common.{◌≡◌, ◌≢◌, inl, inr, ⊎_elim, ℕ, ◌+◌, ◌<◌, Bool, true, false, List, [], ◌∷◌, ◌++◌, map, length, take, drop, get_or, take-append-drop, Option, None, Ok, refl, sym, ap, ◌∙◌, subst, append_assoc, append-nil, All, All-from_recursion, IsByte, IsCodePoint, encode, IsWtf8, last_or, IsRefused, AreItems, items_after, items_from, class_at, next_at, Gives, Row, needed, SomeRow, IsOpen, rows, Stands, IsFaulty, OnlyEnds, HasFirstFault, joined_bits, fault_at, Progress, progress, StandsFor, is_between, is_high, IsEncodedPrefix, EncodingError, Byte, CodePoint, End, Utf8, State, Between, BehindHigh, Refused, Class, cases_Bool}
+use Rattle.wtf8_core.proofs.Common.{◌≡◌, ◌≢◌, inl, inr, ⊎_elim, ℕ, ◌+◌, ◌<◌, Bool, true, false, List, [], ◌∷◌, ◌++◌, map, length, take, drop, get_or, take-append-drop, Option, None, Some, Ok, refl, sym, ap, ◌∙◌, subst, append_assoc, append-nil, All, All-from_recursion, IsByte, IsCodePoint, encode, IsWtf8, last_or, IsRefused, AreItems, items_after, items_from, class_at, next_at, Gives, Row, needed, SomeRow, IsOpen, rows, Stands, IsFaulty, OnlyEnds, HasFirstFault, joined_bits, fault_at, Progress, progress, StandsFor, is_between, is_high, IsEncodedPrefix, EncodingError, Byte, CodePoint, End, Utf8, State, Between, BehindHigh, Refused, Class, cases_Bool}
 use Rattle.std.proofs.lemmas.List.{take_more}
 use Rattle.wtf8_core.proofs.lemmas.forms.Appending.{all_flat_map}
 use Rattle.wtf8_core.proofs.lemmas.forms.Shapes.{form_bytes}
@@ -105,3 +105,11 @@ front_read b piece at f g =
 
 pub open_progress : (s : State) (bits : ℕ) (f : Option EncodingError) (p : Progress) (b : List ℕ) → progress s bits f ≡ p → f ≡ None → StandsFor p b → Stands s bits b
 open_progress s bits f p b e n h = subst (λ z. StandsFor (progress s bits z) b) n (subst (λ z. StandsFor z b) (sym e) h)
+
+pub faulted_progress : (s : State) (bits : ℕ) (f : Option EncodingError) (p : Progress) (b : List ℕ) (e : EncodingError) → progress s bits f ≡ p → f ≡ Some e → StandsFor p b → IsFaulty b e
+faulted_progress s bits f p b e q n h = subst (λ z. StandsFor (progress s bits z) b) n (subst (λ z. StandsFor z b) (sym q) h)
+
+pub faulted_stays : (s : State) (bits : ℕ) (f : Option EncodingError) (p : Progress) (b more : List ℕ) (e : EncodingError) → progress s bits f ≡ p → f ≡ Some e → StandsFor p b → StandsFor p (b ++ more)
+faulted_stays s bits f p b more e q n h =
+    subst (λ z. StandsFor z (b ++ more)) q
+    (subst (λ z. StandsFor (progress s bits z) (b ++ more)) (sym n) (extends b more e (faulted_progress s bits f p b e q n h)))
