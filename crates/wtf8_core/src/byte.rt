@@ -17,7 +17,7 @@ ghost use Rattle.wtf8_core.specs.Byte.{IsContinuation, needed_continuations};
 pub fn is_continuation(byte: u8) -> bool
     ensures { IsTrue result ↔ IsContinuation byte }
 {
-    (0x80..=0xBF).contains(&byte)
+    matches!(byte, 0x80..=0xBF)
 }
 
 /// How many continuations a lead needs.

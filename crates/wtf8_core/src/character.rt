@@ -115,7 +115,7 @@ pub(crate) fn char_or_fault_at_front(bytes: &[u8]) -> Option<Result<usize, u8>>
 fn is_lead(byte: u8) -> bool
     ensures { result ≡ is_in_range 0xC2 0xF4 byte }
 {
-    (0xC2..=0xF4).contains(&byte)
+    matches!(byte, 0xC2..=0xF4)
 }
 
 /// Whether some character has this byte directly after such a lead (the table of RFC 3629, section
@@ -127,14 +127,14 @@ fn is_second(lead: u8, byte: u8) -> bool
 {
     if lead < 0xF0 {
         match lead {
-            0xE0 => (0xA0..=0xBF).contains(&byte),
-            0xED => (0x80..=0x9F).contains(&byte),
+            0xE0 => matches!(byte, 0xA0..=0xBF),
+            0xED => matches!(byte, 0x80..=0x9F),
             _ => is_continuation(byte),
         }
     } else {
         match lead {
-            0xF0 => (0x90..=0xBF).contains(&byte),
-            0xF4 => (0x80..=0x8F).contains(&byte),
+            0xF0 => matches!(byte, 0x90..=0xBF),
+            0xF4 => matches!(byte, 0x80..=0x8F),
             _ => is_continuation(byte),
         }
     }

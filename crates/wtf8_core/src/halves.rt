@@ -96,7 +96,7 @@ fn surrogate(bytes: &[u8; 3]) -> Option<u16>
         (λ c. IsSurrogate c × (bytes.now ≡ encode c)) }
 {
     let [lead, second, third] = *bytes;
-    if lead == 0xED && (0xA0..=0xBF).contains(&second) && is_continuation(third) {
+    if lead == 0xED && matches!(second, 0xA0..=0xBF) && is_continuation(third) {
         return Some(0xD000 + u16::from(second % 0x40) * 0x40 + u16::from(third % 0x40));
     }
     None

@@ -9,7 +9,7 @@ ghost use Rattle.wtf8_core.specs.Surrogate.{is_high, is_low, is_surrogate, is_pa
 pub(crate) fn is_high(code_point: u32) -> bool
     ensures { result ≡ is_high code_point }
 {
-    (0xD800..=0xDBFF).contains(&code_point)
+    matches!(code_point, 0xD800..=0xDBFF)
 }
 
 /// Whether it is a low one.
@@ -17,7 +17,7 @@ pub(crate) fn is_high(code_point: u32) -> bool
 pub(crate) fn is_low(code_point: u32) -> bool
     ensures { result ≡ is_low code_point }
 {
-    (0xDC00..=0xDFFF).contains(&code_point)
+    matches!(code_point, 0xDC00..=0xDFFF)
 }
 
 /// Whether it is a surrogate, high or low.
@@ -25,7 +25,7 @@ pub(crate) fn is_low(code_point: u32) -> bool
 pub(crate) fn is_surrogate(code_point: u32) -> bool
     ensures { result ≡ is_surrogate code_point }
 {
-    (0xD800..=0xDFFF).contains(&code_point)
+    matches!(code_point, 0xD800..=0xDFFF)
 }
 
 /// Whether two units are a pair: a high surrogate and then a low one.

@@ -143,7 +143,7 @@ pub(crate) fn is_behind_high(bytes: &[u8], at: usize) -> bool
 fn is_high_second(byte: u8) -> bool
     ensures { result ≡ is_in_range 0xA0 0xAF byte }
 {
-    (0xA0..=0xAF).contains(&byte)
+    matches!(byte, 0xA0..=0xAF)
 }
 
 /// The index at which the blocks of ASCII from `at` on end, if the byte before them is ASCII, too;
