@@ -42,14 +42,15 @@ void osb_core_start(struct core_open *opened);
 uint32_t osb_core_feed(struct core_open *opened, const char *at, size_t len, osb_fault *fault);
 uint32_t osb_core_finish(const struct core_open *opened, osb_fault *fault);
 uint32_t osb_core_fault_text(const osb_fault *fault, char *out, size_t room, size_t *count);
-uint32_t osb_core_to_wide(const char *at, size_t len, uint16_t *out, size_t room, size_t *count);
+uint32_t osb_core_to_wide(const char *at, size_t len, uint16_t *out, size_t room, size_t *count,
+                          osb_fault *fault);
 uint32_t osb_core_from_wide(const uint16_t *at, size_t len, char *out, size_t room, size_t *count);
 uint32_t osb_core_lossy(uint32_t platform, const char *at, size_t len, char *out, size_t room,
-                        size_t *count);
+                        size_t *count, osb_fault *fault);
 uint32_t osb_core_escape(uint32_t platform, const char *at, size_t len, char *out, size_t room,
-                         size_t *count);
+                         size_t *count, osb_fault *fault);
 uint32_t osb_core_escape_line(uint32_t platform, const char *at, size_t len, char *out, size_t room,
-                              size_t *count);
+                              size_t *count, osb_fault *fault);
 uint32_t osb_core_unescape(uint32_t platform, const char *escape, size_t len, char *out,
                            size_t room, size_t *count, size_t *index);
 uint32_t osb_core_unescape_line(uint32_t platform, const char *escape, size_t len, char *out,
@@ -168,13 +169,14 @@ size_t osb_wide_bound(size_t len) {
 osb_status osb_to_wide(const char *at, size_t len, uint16_t *out, size_t room, size_t *count,
                        osb_fault *fault) {
     size_t own = 0;
+    osb_fault own_fault = {0, 0, 0, 0};
     if (count == NULL || is_bad(at, len) || are_bad_units(out, room) ||
         do_overlap(at, len, out, room * sizeof *out))
         return OSB_BAD_POINTER;
-    at = bytes(at, len);
-    osb_status status = osb_core_to_wide(at, len, room == 0 ? no_room : out, room, &own);
-    if (status == OSB_FAULTY) return osb_check(OSB_WINDOWS, at, len, fault);
-    *count = own;
+    osb_status status = osb_core_to_wide(bytes(at, len), len, room == 0 ? no_room : out, room, &own,
+                                         &own_fault);
+    if (status == OSB_OK || status == OSB_NO_ROOM) *count = own;
+    if (status == OSB_FAULTY && fault != NULL) *fault = own_fault;
     return status;
 }
 
@@ -195,17 +197,18 @@ osb_status osb_from_wide(const uint16_t *units, size_t len, char *out, size_t ro
 
 /* An export that writes a text of a string. */
 typedef uint32_t core_text(uint32_t platform, const char *at, size_t len, char *out, size_t room,
-                           size_t *count);
+                           size_t *count, osb_fault *fault);
 
 static osb_status write_text(core_text *call, osb_platform platform, const char *at, size_t len,
                              char *out, size_t room, size_t *count, osb_fault *fault) {
     size_t own = 0;
+    osb_fault own_fault = {0, 0, 0, 0};
     if (count == NULL || is_bad(at, len) || is_bad(out, room) || do_overlap(at, len, out, room))
         return OSB_BAD_POINTER;
-    at = bytes(at, len);
-    osb_status status = call(platform, at, len, room == 0 ? (char *)no_room : out, room, &own);
-    if (status == OSB_FAULTY) return osb_check(platform, at, len, fault);
+    osb_status status = call(platform, bytes(at, len), len, room == 0 ? (char *)no_room : out, room,
+                             &own, &own_fault);
     if (status == OSB_OK || status == OSB_NO_ROOM) *count = own;
+    if (status == OSB_FAULTY && fault != NULL) *fault = own_fault;
     return status;
 }
 

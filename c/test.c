@@ -111,7 +111,8 @@ static void wide(void) {
     osb_fault fault = {0, 0, 0, 0};
     EXPECT(osb_wide_bound(len) >= 5);
     EXPECT(osb_to_wide(string, len, NULL, 0, &count, &fault) == OSB_NO_ROOM && count == 5);
-    for (size_t room = 0; room < 8; room++) {
+    /* from as many units on as there are bytes there is surely room */
+    for (size_t room = 0; room < len + 3; room++) {
         uint16_t *out = malloc(room * sizeof *out + 1);
         memset(out, 0x55, room * sizeof *out);
         count = 0;
@@ -127,6 +128,7 @@ static void wide(void) {
     EXPECT(osb_to_wide(TEXT("ab\xED\xA0\x80\xED\xB0\x80"), out, 8, &count, &fault) == OSB_FAULTY);
     EXPECT(fault.kind == OSB_FAULT_CODE_POINT && fault.value == 0xDC00 && fault.place == 5);
     EXPECT(osb_to_wide(TEXT("\xC0"), out, 8, &count, NULL) == OSB_FAULTY && count == 7);
+    EXPECT(osb_to_wide(TEXT("\xC0"), NULL, 0, &count, NULL) == OSB_FAULTY && count == 7);
     EXPECT(osb_to_wide(NULL, 0, out, 8, &count, NULL) == OSB_OK && count == 0);
     EXPECT(osb_to_wide(NULL, 0, NULL, 0, &count, NULL) == OSB_OK && count == 0);
     /* bad pointers */
@@ -139,6 +141,27 @@ static void wide(void) {
     void *odd = (char *)out + 1;
     EXPECT(osb_to_wide(TEXT("a"), odd, 2, &count, NULL) == OSB_BAD_POINTER);
     EXPECT(osb_to_wide((char *)out + 3, 4, out, 4, &count, NULL) == OSB_BAD_POINTER);
+}
+
+/* A text is a pattern where it's cut between characters, and no pattern where it's cut within one or
+ * has a byte FF, at each index of each length about those that are read in different ways. */
+static void patterns(void) {
+    char text[150];
+    for (size_t i = 0; i < sizeof text; i++) text[i] = "a\xC3\xA9\xE4\xB8\xAD\xF0\x9F\x98\x80"[i % 10];
+    for (size_t from = 0; from < 10; from++)
+        for (size_t len = 1; from + len < sizeof text; len++) {
+            const char *at = text + from;
+            bool whole = (at[0] & 0xC0) != 0x80 && (at[len] & 0xC0) != 0x80;
+            EXPECT(osb_contains(at, len, at, len) == (whole ? OSB_OK : OSB_BAD_PATTERN));
+            for (size_t i = 0; i < len && from == 0 && whole; i++) {
+                char kept = text[i];
+                text[i] = '\xFF';
+                EXPECT(osb_ends_with(text, len, text, len) == OSB_BAD_PATTERN);
+                text[i] = kept;
+            }
+        }
+    EXPECT(osb_find(TEXT("a"), TEXT("\x7F"), &(size_t){0}) == OSB_NONE);
+    EXPECT(osb_find(TEXT("a"), TEXT("\x80"), &(size_t){0}) == OSB_BAD_PATTERN);
 }
 
 static void searches(void) {
@@ -280,7 +303,8 @@ static void from_wide(void) {
     static const char string[] = "a\xC3\xA9\xED\xA0\xBD\xF0\x9F\x98\x80";
     size_t count = 0;
     EXPECT(osb_bytes_bound(5) == 15 && osb_bytes_bound(SIZE_MAX) == SIZE_MAX);
-    for (size_t room = 0; room < 13; room++) {
+    /* from three bytes a unit on there is surely room */
+    for (size_t room = 0; room < 18; room++) {
         char *out = malloc(room + 1);
         memset(out, 0x55, room);
         count = 0;
@@ -315,6 +339,47 @@ static bool lossy(osb_platform platform, const char *at, size_t len, const char 
         if (memcmp(out, text, room < text_len ? room : text_len) != 0 || out[text_len] != 0x55) return false;
     }
     return true;
+}
+
+/* A call that writes a text of a string. */
+typedef osb_status to_text(osb_platform, const char *, size_t, char *, size_t, size_t *, osb_fault *);
+
+static osb_status units(osb_platform platform, const char *at, size_t len, char *out, size_t room,
+                        size_t *count, osb_fault *fault) {
+    uint16_t wide[64];
+    (void)platform, (void)out;
+    return osb_to_wide(at, len, wide, room, count, fault);
+}
+
+/* The call reports the fault that osb_check does, in any room, and writes nothing where it may not. */
+static bool same_fault(to_text *call, osb_platform platform, const char *at, size_t len) {
+    char out[64];
+    for (size_t room = 0; room < 2 * len; room++) {
+        osb_fault fault = {9, 9, 9, 9}, wanted = {7, 7, 7, 7};
+        size_t count = 5;
+        if (osb_check(platform, at, len, &wanted) != OSB_FAULTY) return false;
+        if (call(platform, at, len, out, room, &count, &fault) != OSB_FAULTY) return false;
+        if (memcmp(&fault, &wanted, sizeof fault) != 0 || count != 5) return false;
+        if (call(platform, at, len, out, room, &count, NULL) != OSB_FAULTY || count != 5) return false;
+    }
+    osb_fault fault = {9, 9, 9, 9};
+    size_t count = 5;
+    return call(platform, "a", 1, out, 8, &count, &fault) == OSB_OK && fault.kind == 9 &&
+           fault.value == 9 && fault.place == 9 && fault.count == 9;
+}
+
+static void faults(void) {
+    to_text *const calls[] = {units, osb_lossy, osb_escape, osb_escape_line};
+    for (size_t i = 0; i < sizeof calls / sizeof *calls; i++) {
+        EXPECT(same_fault(calls[i], OSB_WINDOWS, TEXT("ab\xC0" "cd")));
+        EXPECT(same_fault(calls[i], OSB_WINDOWS, TEXT("\xC3\xA9\xE2\x82" "A")));
+        EXPECT(same_fault(calls[i], OSB_WINDOWS, TEXT("\xED\xA0\x80\xED\xB0\x80")));
+        EXPECT(same_fault(calls[i], OSB_WINDOWS, TEXT("a\xF0\x9F\x98")));
+        if (calls[i] == units) continue;
+        EXPECT(same_fault(calls[i], OSB_WASM, TEXT("a\xE2\x82" "A")));
+        EXPECT(same_fault(calls[i], OSB_WASM, TEXT("a\xED\xA0\x80")));
+        EXPECT(same_fault(calls[i], OSB_WASM, TEXT("ab\xE2\x82")));
+    }
 }
 
 static void lossies(void) {
@@ -451,9 +516,6 @@ static void symbols(void) {
     symbols = (osb_symbols){{"\x80", 1}, 0, OSB_WASM};
     EXPECT(osb_symbols_next(&symbols, &symbol) == OSB_FAULTY && symbol.kind == 9);
 }
-
-/* A call that writes a text of a string. */
-typedef osb_status to_text(osb_platform, const char *, size_t, char *, size_t, size_t *, osb_fault *);
 
 /* The string's escape, in every room. */
 static bool escaped(to_text *escape, osb_platform platform, const char *at, size_t len,
@@ -610,12 +672,14 @@ int main(void) {
     symbols();
     checkers();
     from_wide();
+    faults();
     lossies();
     edges();
     rsplits();
     texts();
     wide();
     searches();
+    patterns();
     splits();
     chunks();
     printf("asked: %d, failed: %d\n", asked, failed);

@@ -1,3 +1,4 @@
+pub mod Conversions
 pub mod Digits
 pub mod Room
 pub mod Steps

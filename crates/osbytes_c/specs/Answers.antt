@@ -3,12 +3,6 @@ use Rattle.std.specs.Prelude.{ℕ, List}
 use Rattle.std.specs.declared.cmp.Ordering.{Ordering}
 use Rattle.std.specs.declared.cmp.Ordering.TheVariants.{Less, Equal, Greater}
 use Rattle.wtf8_core.specs.Truncated.{IsTruncated}
-use Rattle.wtf8_core.specs.declared.fault.EncodingError.{EncodingError}
-use Rattle.platform_str.specs.platforms.Windows.{IsWtf8Fault}
-
--- the bytes aren't WTF-8: they have a first fault
-abbrev pub IsFaulty : List ℕ → Type 0
-IsFaulty bytes = (fault : EncodingError) × IsWtf8Fault bytes fault
 
 -- a wanted list is written into the buffer, truncated to the buffer's length, and has so many items
 abbrev pub Writes : (List ℕ → Type 0) → List ℕ → List ℕ → ℕ → Type 0

@@ -2,6 +2,7 @@
 ghost use Rattle.std.specs.Prelude.{◌≡◌, ◌<◌, ◌↔◌, ◌⊎◌};
 ghost use Rattle.std.specs.Str.{IsUtf8};
 ghost use Rattle.wtf8_core.specs.Wtf8.{IsWtf8};
+ghost use Rattle.platform_str.specs.platforms.Windows.{IsWtf8Fault};
 ghost use Rattle.osbytes_c.specs.Faults.{IsString, IsReport, IsWtf8Report, IsUtf8Report};
 
 use crate::fault::{Fault, kind_of, value_of};
@@ -27,28 +28,40 @@ pub extern "C" fn osb_core_check(platform: u32, bytes: &[u8], fault: &mut Fault)
 }
 
 /// The same on Windows.
-fn check_wtf8(bytes: &[u8], fault: &mut Fault) -> u32
+pub(crate) fn check_wtf8(bytes: &[u8], fault: &mut Fault) -> u32
     ensures string { result ≡ DONE → IsWtf8 bytes.now × (fault.new ≡ fault.old) }
     ensures fault { result ≡ FAULTY → IsWtf8Report bytes.now fault.new }
     ensures answers { (result ≡ DONE) ⊎ (result ≡ FAULTY) }
 {
-    let Err(error) = Windows::check(bytes) else {
-        return DONE;
-    };
-    let Some((place, count)) = wtf8_fault(bytes) else {
-        return DONE;
-    };
-    *fault = Fault {
-        kind: kind_of(error),
-        value: value_of(error),
-        place,
-        count,
-    };
-    FAULTY
+    match Windows::check(bytes) {
+        Ok(()) => DONE,
+        Err(error) => {
+            report_wtf8(bytes, error, fault);
+            FAULTY
+        }
+    }
+}
+
+/// Reports the first fault of bytes that aren't WTF-8.
+pub(crate) fn report_wtf8(bytes: &[u8], error: EncodingError, fault: &mut Fault)
+    requires { IsWtf8Fault bytes.now error }
+    ensures { IsWtf8Report bytes.now fault.new }
+{
+    match wtf8_fault(bytes) {
+        Some((place, count)) => {
+            *fault = Fault {
+                kind: kind_of(error),
+                value: value_of(error),
+                place,
+                count,
+            };
+        }
+        None => unreachable!(),
+    }
 }
 
 /// The same on wasm.
-fn check_utf8(bytes: &[u8], fault: &mut Fault) -> u32
+pub(crate) fn check_utf8(bytes: &[u8], fault: &mut Fault) -> u32
     ensures string { result ≡ DONE → IsUtf8 bytes.now × (fault.new ≡ fault.old) }
     ensures fault { result ≡ FAULTY → IsUtf8Report bytes.now fault.new }
     ensures answers { (result ≡ DONE) ⊎ (result ≡ FAULTY) }

@@ -1,37 +1,48 @@
 //! Escapes, plain and on one line.
 ghost use Rattle.std.specs.Prelude.{◌≡◌, ◌⊎◌, ◌≤◌, ◌<◌, ◌↔◌, ◌*◌, length};
+ghost use Rattle.platform_str.specs.Strings.{bytes};
 ghost use Rattle.os_quote.specs.Escape.{IsEscape, IsLineEscape};
 ghost use Rattle.osbytes_c.specs.Answers.{Writes};
-ghost use Rattle.osbytes_c.specs.Faults.{IsString, IsUnstring};
+ghost use Rattle.osbytes_c.specs.Faults.{IsReport};
 ghost use Rattle.osbytes_c.specs.Platforms.{units_on};
 
+use crate::fault::Fault;
 use crate::status::{DONE, FAULTY, NO_PLATFORM, NO_ROOM, TOO_LONG};
+use crate::strings::{unix, wasm, windows};
 use os_quote::{write_escape, write_escape_line};
-use platform_str::{OsStr, Platform, Unix, Wasm, Windows};
+use platform_str::{OsStr, Platform};
 
 /// Writes the escape of a string of a platform into `out`, as far as there is room, and counts its
-/// bytes: at most six for each byte of the string.
+/// bytes: at most six for each byte of the string. If the bytes are no string, the fault is their first
+/// one.
 #[unsafe(no_mangle)]
 pub extern "C" fn osb_core_escape(
     platform: u32,
     bytes: &[u8],
     out: &mut [u8],
     count: &mut usize,
+    fault: &mut Fault,
 ) -> u32
     ensures done { result ≡ DONE → Writes (IsEscape (units_on platform) bytes.now) out.old out.new
         count.new × (count.new ≤ length out.old) }
     ensures room { result ≡ NO_ROOM → Writes (IsEscape (units_on platform) bytes.now) out.old
         out.new count.new × (length out.old < count.new) }
-    ensures fault { result ≡ FAULTY → IsUnstring platform bytes.now }
+    ensures fault { result ≡ FAULTY → IsReport platform bytes.now fault.new }
     ensures long { result ≡ TOO_LONG → usize.MAX < 6 * length bytes.now }
     ensures platform { (result ≡ NO_PLATFORM) ↔ (2 < platform) }
     ensures answers { (result ≡ DONE) ⊎ ((result ≡ NO_ROOM) ⊎ ((result ≡ FAULTY)
         ⊎ ((result ≡ TOO_LONG) ⊎ (result ≡ NO_PLATFORM)))) }
 {
     match platform {
-        0 => escape::<Unix>(bytes, out, count),
-        1 => escape::<Windows>(bytes, out, count),
-        2 => escape::<Wasm>(bytes, out, count),
+        0 => escape(unix(bytes), out, count),
+        1 => match windows(bytes, fault) {
+            Some(string) => escape(string, out, count),
+            None => FAULTY,
+        },
+        2 => match wasm(bytes, fault) {
+            Some(string) => escape(string, out, count),
+            None => FAULTY,
+        },
         _ => NO_PLATFORM,
     }
 }
@@ -43,64 +54,61 @@ pub extern "C" fn osb_core_escape_line(
     bytes: &[u8],
     out: &mut [u8],
     count: &mut usize,
+    fault: &mut Fault,
 ) -> u32
     ensures done { result ≡ DONE → Writes (IsLineEscape (units_on platform) bytes.now) out.old
         out.new count.new × (count.new ≤ length out.old) }
     ensures room { result ≡ NO_ROOM → Writes (IsLineEscape (units_on platform) bytes.now) out.old
         out.new count.new × (length out.old < count.new) }
-    ensures fault { result ≡ FAULTY → IsUnstring platform bytes.now }
+    ensures fault { result ≡ FAULTY → IsReport platform bytes.now fault.new }
     ensures long { result ≡ TOO_LONG → usize.MAX < 6 * length bytes.now }
     ensures platform { (result ≡ NO_PLATFORM) ↔ (2 < platform) }
     ensures answers { (result ≡ DONE) ⊎ ((result ≡ NO_ROOM) ⊎ ((result ≡ FAULTY)
         ⊎ ((result ≡ TOO_LONG) ⊎ (result ≡ NO_PLATFORM)))) }
 {
     match platform {
-        0 => escape_line::<Unix>(bytes, out, count),
-        1 => escape_line::<Windows>(bytes, out, count),
-        2 => escape_line::<Wasm>(bytes, out, count),
+        0 => escape_line(unix(bytes), out, count),
+        1 => match windows(bytes, fault) {
+            Some(string) => escape_line(string, out, count),
+            None => FAULTY,
+        },
+        2 => match wasm(bytes, fault) {
+            Some(string) => escape_line(string, out, count),
+            None => FAULTY,
+        },
         _ => NO_PLATFORM,
     }
 }
 
-/// The escape of a string of one platform.
-fn escape<E: Platform>(bytes: &[u8], out: &mut [u8], count: &mut usize) -> u32
-    ensures done { result ≡ DONE → Writes (IsEscape E.units bytes.now) out.old out.new count.new
+/// The escape of a string.
+fn escape<E: Platform>(string: OsStr<'_, E>, out: &mut [u8], count: &mut usize) -> u32
+    ensures done { result ≡ DONE → Writes (IsEscape E.units (bytes string.entry)) out.old out.new count.new
         × (count.new ≤ length out.old) }
-    ensures room { result ≡ NO_ROOM → Writes (IsEscape E.units bytes.now) out.old out.new count.new
+    ensures room { result ≡ NO_ROOM → Writes (IsEscape E.units (bytes string.entry)) out.old out.new count.new
         × (length out.old < count.new) }
-    ensures fault { result ≡ FAULTY → ¬ (E.well_formed bytes.now) }
-    ensures long { result ≡ TOO_LONG → usize.MAX < 6 * length bytes.now }
-    ensures answers { (result ≡ DONE) ⊎ ((result ≡ NO_ROOM) ⊎ ((result ≡ FAULTY)
-        ⊎ (result ≡ TOO_LONG))) }
+    ensures long { result ≡ TOO_LONG → usize.MAX < 6 * length (bytes string.entry) }
+    ensures answers { (result ≡ DONE) ⊎ ((result ≡ NO_ROOM) ⊎ (result ≡ TOO_LONG)) }
 {
-    if bytes.len() > usize::MAX / 6 {
+    if string.len() > usize::MAX / 6 {
         return TOO_LONG;
     }
-    let Ok(string) = OsStr::<E>::checked(bytes) else {
-        return FAULTY;
-    };
     let written = write_escape(string, out);
     *count = written;
     if written <= out.len() { DONE } else { NO_ROOM }
 }
 
 /// The escape on one line.
-fn escape_line<E: Platform>(bytes: &[u8], out: &mut [u8], count: &mut usize) -> u32
-    ensures done { result ≡ DONE → Writes (IsLineEscape E.units bytes.now) out.old out.new count.new
+fn escape_line<E: Platform>(string: OsStr<'_, E>, out: &mut [u8], count: &mut usize) -> u32
+    ensures done { result ≡ DONE → Writes (IsLineEscape E.units (bytes string.entry)) out.old out.new count.new
         × (count.new ≤ length out.old) }
-    ensures room { result ≡ NO_ROOM → Writes (IsLineEscape E.units bytes.now) out.old out.new
+    ensures room { result ≡ NO_ROOM → Writes (IsLineEscape E.units (bytes string.entry)) out.old out.new
         count.new × (length out.old < count.new) }
-    ensures fault { result ≡ FAULTY → ¬ (E.well_formed bytes.now) }
-    ensures long { result ≡ TOO_LONG → usize.MAX < 6 * length bytes.now }
-    ensures answers { (result ≡ DONE) ⊎ ((result ≡ NO_ROOM) ⊎ ((result ≡ FAULTY)
-        ⊎ (result ≡ TOO_LONG))) }
+    ensures long { result ≡ TOO_LONG → usize.MAX < 6 * length (bytes string.entry) }
+    ensures answers { (result ≡ DONE) ⊎ ((result ≡ NO_ROOM) ⊎ (result ≡ TOO_LONG)) }
 {
-    if bytes.len() > usize::MAX / 6 {
+    if string.len() > usize::MAX / 6 {
         return TOO_LONG;
     }
-    let Ok(string) = OsStr::<E>::checked(bytes) else {
-        return FAULTY;
-    };
     let written = write_escape_line(string, out);
     *count = written;
     if written <= out.len() { DONE } else { NO_ROOM }

@@ -1,21 +1,74 @@
 //! Bytes to 16-bit units, and back.
-ghost use Rattle.std.specs.Prelude.{◌≡◌, ◌⊎◌, ◌≤◌, ◌<◌, length};
+ghost use Rattle.std.specs.Prelude.{◌≡◌, ◌⊎◌, ◌≤◌, ◌<◌, ◌*◌, length, MatchResult};
 ghost use Rattle.wtf8_core.specs.Wtf8.{HasUnits};
-ghost use Rattle.osbytes_c.specs.Answers.{IsFaulty, Writes};
+ghost use Rattle.platform_str.specs.platforms.Windows.{IsWtf8Fault};
+ghost use Rattle.osbytes_c.specs.Answers.{Writes};
+ghost use Rattle.osbytes_c.specs.Faults.{IsWtf8Report};
 
+use crate::check::report_wtf8;
+use crate::fault::Fault;
 use crate::status::{DONE, FAULTY, NO_ROOM};
-use wtf8_core::{DecodeWide, encode_wide};
+use wtf8_core::{DecodeWide, EncodingError, encode_wide};
 
 /// Writes the units of the bytes into `out`, as far as there is room, and counts them. The bytes
-/// have no more units than bytes.
+/// have no more units than bytes. If they aren't WTF-8, the fault is their first one.
 #[unsafe(no_mangle)]
-pub extern "C" fn osb_core_to_wide(bytes: &[u8], out: &mut [u16], count: &mut usize) -> u32
+pub extern "C" fn osb_core_to_wide(
+    bytes: &[u8],
+    out: &mut [u16],
+    count: &mut usize,
+    fault: &mut Fault,
+) -> u32
     ensures done { result ≡ DONE → Writes (HasUnits bytes.now) out.old out.new count.new
         × (count.new ≤ length out.old) }
     ensures room { result ≡ NO_ROOM → Writes (HasUnits bytes.now) out.old out.new count.new
         × (length out.old < count.new) }
-    ensures fault { result ≡ FAULTY → IsFaulty bytes.now }
+    ensures fault { result ≡ FAULTY → IsWtf8Report bytes.now fault.new }
     ensures answers { (result ≡ DONE) ⊎ ((result ≡ NO_ROOM) ⊎ (result ≡ FAULTY)) }
+{
+    let read = if bytes.len() <= out.len() {
+        write_units(bytes, out)
+    } else {
+        write_some_units(bytes, out)
+    };
+    match read {
+        Ok(written) => {
+            *count = written;
+            if written <= out.len() { DONE } else { NO_ROOM }
+        }
+        Err(error) => {
+            report_wtf8(bytes, error, fault);
+            FAULTY
+        }
+    }
+}
+
+/// Writes the units of the bytes, for which there is surely room, and counts them.
+#[inline(always)]
+fn write_units(bytes: &[u8], out: &mut [u16]) -> Result<usize, EncodingError>
+    requires { length bytes.now ≤ length out.now }
+    ensures { MatchResult result
+        (λ count. Writes (HasUnits bytes.now) out.old out.new count)
+        (λ error. IsWtf8Fault bytes.now error) }
+{
+    let mut written = 0;
+    for item in encode_wide(bytes) {
+        match item {
+            Ok(unit) => {
+                out[written] = unit;
+                written += 1;
+            }
+            Err(error) => return Err(error),
+        }
+    }
+    Ok(written)
+}
+
+/// Writes the units of the bytes as far as there is room, and counts them.
+fn write_some_units(bytes: &[u8], out: &mut [u16]) -> Result<usize, EncodingError>
+    ensures { MatchResult result
+        (λ count. Writes (HasUnits bytes.now) out.old out.new count)
+        (λ error. IsWtf8Fault bytes.now error) }
 {
     let mut written = 0;
     for item in encode_wide(bytes) {
@@ -26,11 +79,10 @@ pub extern "C" fn osb_core_to_wide(bytes: &[u8], out: &mut [u16], count: &mut us
                 }
                 written += 1;
             }
-            Err(_) => return FAULTY,
+            Err(error) => return Err(error),
         }
     }
-    *count = written;
-    if written <= out.len() { DONE } else { NO_ROOM }
+    Ok(written)
 }
 
 /// Writes the bytes of the string with these units into `out`, as far as there is room, and counts
@@ -43,6 +95,34 @@ pub extern "C" fn osb_core_from_wide(units: &[u16], out: &mut [u8], count: &mut 
         count.new × (length out.old < count.new) }
     ensures answers { (result ≡ DONE) ⊎ (result ≡ NO_ROOM) }
 {
+    let written = if units.len() <= out.len() / 3 {
+        write_bytes(units, out)
+    } else {
+        write_some_bytes(units, out)
+    };
+    *count = written;
+    if written <= out.len() { DONE } else { NO_ROOM }
+}
+
+/// Writes the bytes of the string with these units, for which there is surely room, and counts them.
+/// It isn't inlined: beside the other loop the compiler makes one of ASCII that is much slower.
+#[inline(never)]
+fn write_bytes(units: &[u16], out: &mut [u8]) -> usize
+    requires { 3 * length units.now ≤ length out.now }
+    ensures { Writes (λ bytes. HasUnits bytes units.now) out.old out.new result }
+{
+    let mut written = 0;
+    for byte in DecodeWide::new(units) {
+        out[written] = byte;
+        written += 1;
+    }
+    written
+}
+
+/// Writes the bytes of the string with these units as far as there is room, and counts them.
+fn write_some_bytes(units: &[u16], out: &mut [u8]) -> usize
+    ensures { Writes (λ bytes. HasUnits bytes units.now) out.old out.new result }
+{
     let mut written = 0;
     for byte in DecodeWide::new(units) {
         if written < out.len() {
@@ -50,6 +130,5 @@ pub extern "C" fn osb_core_from_wide(units: &[u16], out: &mut [u8], count: &mut 
         }
         written += 1;
     }
-    *count = written;
-    if written <= out.len() { DONE } else { NO_ROOM }
+    written
 }

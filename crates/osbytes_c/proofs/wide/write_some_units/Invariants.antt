@@ -2,7 +2,7 @@ use Rattle.std.proofs.Common.{ℕ, List, ◌++◌}
 use Rattle.wtf8_core.specs.Items.{AreUnitItems}
 use Rattle.wtf8_core.specs.Truncated.{IsTruncated}
 use Rattle.wtf8_core.proofs.lemmas.reader.FirstErr.{oks}
-use Rattle.osbytes_c.proofs.wide.osb_core_to_wide.Given as goal
+use Rattle.osbytes_c.proofs.wide.write_some_units.Given as goal
 
 -- the units so far, which are written as far as there is room
 abbrev pub invariant-loop-item : goal.invariant-loop-item

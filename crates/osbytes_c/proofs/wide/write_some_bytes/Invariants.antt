@@ -1,7 +1,7 @@
 use Rattle.std.proofs.Common.{ℕ, List, ◌++◌}
 use Rattle.wtf8_core.specs.Wtf8.{HasUnits}
 use Rattle.wtf8_core.specs.Truncated.{IsTruncated}
-use Rattle.osbytes_c.proofs.wide.osb_core_from_wide.Given as goal
+use Rattle.osbytes_c.proofs.wide.write_some_bytes.Given as goal
 
 -- the bytes so far, which are written as far as there is room
 abbrev pub invariant-loop-byte : goal.invariant-loop-byte
