@@ -12,3 +12,4 @@ pub mod Displays
 pub mod UnitCounts
 pub mod SixteenLanes
 pub mod ByteUnits
+pub mod Filled

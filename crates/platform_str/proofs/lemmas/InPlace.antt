@@ -1,6 +1,6 @@
 -- U+FFFD written over three bytes.
-use Rattle.platform_str.proofs.Common.{◌≡◌, ℕ, ◌+◌, ◌-◌, ◌≤◌, List, ◌++◌, length, take, drop, refl, sym, ap, ◌∙◌, subst, arith, length-drop, drop-drop, take-add, IsValidUpTo, replacement, EncodingError, StartsWithNoCharacter, PlatformLaws, IsLeft, IsReplacedUpTo}
-use Rattle.platform_str.proofs.lemmas.LossyLoops.{first_part, first_text, made_more, bare_at}
+use Rattle.platform_str.proofs.Common.{◌≡◌, ℕ, ◌+◌, ◌-◌, ◌<◌, ◌≤◌, List, ◌++◌, length, take, drop, refl, sym, ap, ◌∙◌, subst, arith, length-drop, drop-drop, take-add, IsValidUpTo, replacement, EncodingError, StartsWithNoCharacter, PlatformLaws, IsLeft, IsReplacedUpTo}
+use Rattle.platform_str.proofs.lemmas.LossyLoops.{first_part, first_text, made_more, bare_at, some_at}
 
 -- the part at a fault has three bytes, and the string has them
 pub record HasThree (bytes : List ℕ) (at m : ℕ) : Type 0 where
@@ -45,3 +45,13 @@ module _ {first_fault : List ℕ → EncodingError → Type 0} {well_formed : Li
 -- no whole character starts at a fault, also if the rest is given by its index
 pub bare_behind : (bytes : List ℕ) {rest behind : List ℕ} (at : ℕ) {n : ℕ} → rest ≡ drop at bytes → behind ≡ drop (at + n) bytes → IsValidUpTo rest n → StartsWithNoCharacter behind
 bare_behind bytes at {n} e d v = bare_at (d ∙ sym (drop-drop n at bytes) ∙ ap (drop n) (sym e)) v
+
+-- some byte is left there
+pub some_behind : (bytes : List ℕ) {rest behind : List ℕ} (at : ℕ) {n : ℕ} → rest ≡ drop at bytes → behind ≡ drop (at + n) bytes → IsValidUpTo rest n → 0 < length behind
+some_behind bytes at {n} e d v = some_at (d ∙ sym (drop-drop n at bytes) ∙ ap (drop n) (sym e)) v
+
+-- and what is left is well formed
+pub formed_behind : {first_fault : List ℕ → EncodingError → Type 0} {well_formed : List ℕ → Type 0} {units : List ℕ → List ℕ} {is_unit_list io_safe : List ℕ → Type 0} {lossy : List ℕ → List ℕ} {replaces : List ℕ → ℕ → Type 0} → PlatformLaws first_fault well_formed units is_unit_list io_safe lossy replaces
+    → {all bytes rest behind : List ℕ} {at n : ℕ} → rest ≡ drop at bytes → behind ≡ drop (at + n) bytes → IsValidUpTo rest n → IsReplacedUpTo well_formed lossy all bytes at → well_formed behind
+formed_behind {well_formed = well_formed} laws {bytes = bytes} {rest = rest} {at = at} {n = n} e d v i =
+    subst well_formed (sym (d ∙ sym (drop-drop n at bytes) ∙ ap (drop n) (sym e))) (laws.behind_text rest n (subst well_formed (sym e) i.left.rest_is) v.front)

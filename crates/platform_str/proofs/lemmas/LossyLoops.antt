@@ -8,7 +8,7 @@ pub bare_at : {b behind : List ℕ} {n : ℕ} → behind ≡ drop n b → IsVali
 bare_at {b} {behind} {n} e v = subst StartsWithNoCharacter (sym e) (none_at (drop n b) 0 (no_char b n v))
 
 -- there is some byte
-some_at : {b behind : List ℕ} {n : ℕ} → behind ≡ drop n b → IsValidUpTo b n → 0 < length behind
+pub some_at : {b behind : List ℕ} {n : ℕ} → behind ≡ drop n b → IsValidUpTo b n → 0 < length behind
 some_at {b} {behind} {n} e v = let s = v.short in omega (arith, length-drop n b, ap length e)
 
 -- as std encodes it
@@ -17,10 +17,14 @@ unfolding encode_utf8
 encode_fffd = refl
 
 module _ {first_fault : List ℕ → EncodingError → Type 0} {well_formed : List ℕ → Type 0} {units : List ℕ → List ℕ} {is_unit_list io_safe : List ℕ → Type 0} {lossy : List ℕ → List ℕ} {replaces : List ℕ → ℕ → Type 0} (laws : PlatformLaws first_fault well_formed units is_unit_list io_safe lossy replaces) where
+  -- what follows the text at the start is well formed
+  pub formed_at : {bytes behind : List ℕ} {n : ℕ} → behind ≡ drop n bytes → IsValidUpTo bytes n → well_formed bytes → well_formed behind
+  formed_at {bytes} {behind} {n} e v w = subst well_formed (sym e) (laws.behind_text bytes n w v.front)
+
   -- after the text at the start, one U+FFFD replaces the first m bytes
   pub first_part : {bytes behind : List ℕ} {n m : ℕ} → behind ≡ drop n bytes → IsValidUpTo bytes n → well_formed bytes → replaces behind m → IsReplaced well_formed lossy behind m
   first_part {bytes} {behind} {n} {m} e v w r =
-      laws.lossy_step behind m (subst well_formed (sym e) (laws.behind_text bytes n w v.front)) (some_at e v) (bare_at e v) r
+      laws.lossy_step behind m (formed_at e v w) (some_at e v) (bare_at e v) r
 
   pub first_text : {bytes front behind rest : List ℕ} {n m : ℕ} → front ≡ take n bytes → behind ≡ drop n bytes → rest ≡ drop m behind → IsValidUpTo bytes n → well_formed bytes → replaces behind m → IsFirstText well_formed lossy bytes front rest
   first_text {bytes} {front} {behind} {rest} {n} {m} t e d v w r =

@@ -1,4 +1,4 @@
-use Rattle.platform_str.proofs.Common.{◌++◌, ◌<◌, [], length, length-append, length-take-le, length-drop, take, drop, ap, ◌∙◌, sym, arith, take_all, append-nil, recursion_from_All}
+use Rattle.platform_str.proofs.Common.{refl, ◌++◌, ◌<◌, [], length, length-append, length-take-le, length-drop, take, drop, ap, ◌∙◌, sym, arith, take_all, append-nil, recursion_from_All}
 use Rattle.platform_str.specs.UnitBytes.{bytes_after_first}
 use Rattle.platform_str.proofs.lemmas.ByteUnits.{appended}
 use Rattle.platform_str.proofs.lemmas.UnitBytes.{block_ascii, none_after}
@@ -34,3 +34,18 @@ returns c =
     let none = none_after c.loop-rest.rest.now (omega (arith, c.loop-rest-test.false)) in
     let all = take_all c.loop-rest.end bytes (omega (arith, c.requires.room, c.loop-rest.invariant.2, c.loop-rest.invariant.3, ap length none)) in
     sym (append-nil bytes) ∙ ap (λ x. x ++ []) (sym all) ∙ ap (λ x. take c.loop-rest.end bytes ++ x) (sym none) ∙ c.loop-rest.invariant.1
+
+pub loop-rest-init : goal.loop-rest-init
+loop-rest-init c = (c.requires.some, refl, refl, refl)
+
+pub put_block-end-requires-clause-room : goal.put_block-end-requires-clause-room
+put_block-end-requires-clause-room c = omega (arith, c.requires.room, c.loop-rest.invariant.2, c.loop-rest.invariant.3)
+
+pub loop-rest-preserved-then-rest-gt20 : goal.loop-rest-preserved-then-rest-gt20
+loop-rest-preserved-then-rest-gt20 c =
+    let back = c.split_at-then-rest-gt20.ensures.back in (
+      omega (arith, c.if-rest-gt20.true, c.split_at-then-rest-gt20.ensures.back_len),
+      ap (λ r. take c.put_block-end.result c.put_block-end.new.bytes ++ bytes_after_first r) back ∙ c.put_block-end.ensures.written ∙ c.loop-rest.invariant.1,
+      omega (arith, c.put_block-end.ensures.end, ap (λ r. length (bytes_after_first r)) back, c.loop-rest.invariant.2),
+      c.put_block-end.ensures.len ∙ c.loop-rest.invariant.3,
+    )

@@ -1,3 +1,4 @@
+use Rattle.platform_str.proofs.lemmas.Filled.{mark_few, marked_few}
 use Rattle.platform_str.proofs.Common.{arith, rules}
 use Rattle.platform_str.proofs.lemmas.ByteUnits.{appended, block_chosen}
 use Rattle.platform_str.proofs.byte_units.push_block.Goals as goal
@@ -6,3 +7,6 @@ pub returns-clause-ok : goal.returns-clause-ok
 returns-clause-ok g c =
     appended _ c.args.units.now.items _ _ _ c.in_ok-push_marked.ensures.ok
     (block_chosen c.args.bytes.now c.unit_lanes.result c.unit_marks.result (search rules) (search rules) (omega (arith, c.requires)) c.unit_lanes.ensures c.unit_marks.ensures)
+
+pub push_marked-requires-clause-least : goal.push_marked-requires-clause-least
+push_marked-requires-clause-least g c = mark_few c.unit_marks.result (search rules) (λ k h. marked_few _ (c.unit_marks.ensures k h))

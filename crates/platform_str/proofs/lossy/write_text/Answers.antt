@@ -1,4 +1,5 @@
-use Rattle.platform_str.proofs.Common.{ap, ◌++◌, length, subst, arith, replacement, IsTruncated}
+use Rattle.wtf8_core.proofs.lemmas.buffers.Truncated.{none_yet}
+use Rattle.platform_str.proofs.Common.{[], refl, sym, ◌∙◌, ap, ◌++◌, length, subst, arith, replacement, IsTruncated}
 use Rattle.platform_str.proofs.lemmas.LossyLoops.{made_more}
 use Rattle.platform_str.proofs.lossy.write_text.Goals as goal
 
@@ -17,3 +18,24 @@ loop-text-preserved g c =
     let one = c.push_truncated-count.ensures.len in
     let two = c.push_truncated-count-in-Some.ensures.len in
     ((made ++ text) ++ replacement, (written, (made_more all.1.1.0 c.in-Some.ensures, omega arith)))
+
+pub loop-text-init : goal.loop-text-init
+loop-text-init g c = ([], (none_yet c.args.buffer.now, (record { rest_is = c.requires.formed; lossy_is = refl }, omega arith)))
+
+pub push_truncated-count-requires : goal.push_truncated-count-requires
+push_truncated-count-requires g c = omega (arith, c.loop-text.invariant.1.1.1, c.in-Some.ensures.shorter, ap length c.as_bytes.ensures.value, c.requires.short)
+
+pub push_truncated-count-requires-in-Some : goal.push_truncated-count-requires-in-Some
+push_truncated-count-requires-in-Some g c = omega (arith, c.loop-text.invariant.1.1.1, c.in-Some.ensures.shorter, ap length c.as_bytes.ensures.value, c.push_truncated-count.ensures.len, c.requires.short)
+
+pub loop-text-smaller : goal.loop-text-smaller
+loop-text-smaller g c = omega (arith, c.in-Some.ensures.shorter)
+
+pub push_truncated-requires : goal.push_truncated-requires
+push_truncated-requires g c = omega (arith, c.loop-text.invariant.1.1.1, c.requires.short)
+
+pub returns : goal.returns
+returns g c =
+    let all = c.loop-text.invariant in
+    let text = all.1.1.0.lossy_is ∙ ap (λ x. all.0 ++ x) (g.met.E.Platform.laws.lossy_text _ c.in_default.ensures) in
+    subst (λ t. IsTruncated t c.args.buffer.now c.push_truncated.new.buffer c.push_truncated.result) (sym text) (c.push_truncated.ensures.written all.0 c.args.buffer.now all.1.0)

@@ -1,5 +1,6 @@
-use Rattle.platform_str.proofs.Common.{sym, subst, IsLossyText, lossy_text, lossy_is_utf8}
 use Rattle.std.proofs.lemmas.Result.{IfOk-weaker}
+use Rattle.platform_str.proofs.lemmas.Filled.{all_bytes}
+use Rattle.platform_str.proofs.Common.{sym, subst, IsLossyText, lossy_text, lossy_is_utf8}
 use Rattle.platform_str.proofs.wasm.WasmPlatform.read_lossy.Goals as goal
 
 pub returns-clause-reading : goal.returns-clause-reading
@@ -7,3 +8,6 @@ returns-clause-reading g c = IfOk-weaker c.text_bytes.result _ _ (λ reading e. 
 
 pub returns-clause-formed : goal.returns-clause-formed
 returns-clause-formed g c = IfOk-weaker c.text_bytes.result _ _ (λ reading w. lossy_is_utf8 c.args.bytes.now reading.items w) (returns-clause-reading g c)
+
+pub text_bytes-requires : goal.text_bytes-requires
+text_bytes-requires g c = all_bytes c.args.bytes.now c.type_inv.bytes

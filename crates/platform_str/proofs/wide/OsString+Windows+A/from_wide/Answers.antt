@@ -1,12 +1,24 @@
-use Rattle.platform_str.proofs.Common.{rules, ◌≡◌, [], length, sym, subst, false≢true, with_items_is, HasUnits, units_of-is}
+use Rattle.platform_str.proofs.Common.{◌≡◌, [], length, sym, subst, false≢true, with_items_is, HasUnits, units_of-is, ◌∙◌}
 use Rattle.platform_str.proofs.lemmas.UnitBytes.{has_none}
 use Rattle.platform_str.proofs.wide.OsString+Windows+A.from_wide.Goals as goal
 
 pub returns-in_err-vec-clause-without_memory : goal.returns-in_err-vec-clause-without_memory
 returns-in_err-vec-clause-without_memory g c = λ none. absurd (false≢true (c.in_err-vec.ensures.succeeds (c.wtf8_len-len.ensures [] (has_none c.args.units.now none))))
 
-pub returns-clause-units : goal.returns-clause-units
-returns-clause-units g c =
-    let len : length c.write_wtf8.new.bytes ≡ c.resize.new.self.len = search rules in
+pub write_wtf8-requires : goal.write_wtf8-requires
+write_wtf8-requires g c = λ string h. c.as_mut_slice.ensures.len ∙ c.in_ok-resize.ensures.len ∙ c.wtf8_len-len.ensures string h
+
+pub from_encoded_bytes_unchecked-requires : goal.from_encoded_bytes_unchecked-requires
+from_encoded_bytes_unchecked-requires g c =
+    let len : length c.write_wtf8.new.bytes ≡ c.resize.new.self.len = c.write_wtf8.auto.bytes ∙ c.as_mut_slice.ensures.len in
     let has = subst (λ b. HasUnits b c.args.units.now) (sym (with_items_is c.resize.new.self c.write_wtf8.new.bytes len)) c.write_wtf8.ensures in
-    units_of-is _ _ (subst (λ vec. HasUnits vec.items c.args.units.now) (sym c.from_encoded_bytes_unchecked.ensures) has)
+    (has.code_points, has.spelled)
+
+pub returns-clause-has_units : goal.returns-clause-has_units
+returns-clause-has_units g c =
+    let len : length c.write_wtf8.new.bytes ≡ c.resize.new.self.len = c.write_wtf8.auto.bytes ∙ c.as_mut_slice.ensures.len in
+    let has = subst (λ b. HasUnits b c.args.units.now) (sym (with_items_is c.resize.new.self c.write_wtf8.new.bytes len)) c.write_wtf8.ensures in
+    subst (λ vec. HasUnits vec.items c.args.units.now) (sym c.from_encoded_bytes_unchecked.ensures) has
+
+pub returns-clause-units : goal.returns-clause-units
+returns-clause-units g c = units_of-is _ _ (returns-clause-has_units g c)

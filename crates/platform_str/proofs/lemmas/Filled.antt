@@ -1,0 +1,37 @@
+-- Bytes as the type of a slice knows them, and bytes with zeros after them.
+use Rattle.std.proofs.Common.{◌≡◌, ⊎_elim, ℕ, zero, suc, ◌<◌, ◌≤◌, Bool, cond, List, [], ◌∷◌, ◌++◌, length, take, drop, get_or, replicate, w8, Fits, ◌∙◌, refl, sym, subst, arith}
+use Rattle.std.proofs.lemmas.List.{get_or-drop, get_or_past}
+use Rattle.std.proofs.lemmas.Bool.{cond_both, cases_lt}
+use Rattle.std.proofs.lemmas.List.Elements.{All-from_get_or}
+use Rattle.std.specs.List.{All}
+
+pub all_bytes : (bytes : List ℕ) → ((i : ℕ) → Fits w8 (get_or bytes i 0)) → All (λ x. x < 256) bytes
+all_bytes bytes fits = All-from_get_or (λ x. x < 256) bytes 0 (λ i _. (fits i).fits)
+
+-- zeros after a list change nothing, since 0 is what an index past its end gives
+pub zeros_after : (xs zs : List ℕ) → ((i : ℕ) → get_or zs i 0 ≡ 0) → (i : ℕ) → get_or (xs ++ zs) i 0 ≡ get_or xs i 0
+zeros_after [] zs z i = z i
+zeros_after (x ∷ xs) zs z zero = refl
+zeros_after (x ∷ xs) zs z (suc i) = zeros_after xs zs z i
+
+pub zeros_behind : (n : ℕ) (zs : List ℕ) → ((i : ℕ) → get_or zs i 0 ≡ 0) → (i : ℕ) → get_or (drop n zs) i 0 ≡ 0
+zeros_behind n zs z i = get_or-drop n zs i 0 ∙ z _
+
+pub no_byte : (n i : ℕ) → ◌≡◌ {A = ℕ} (get_or (replicate n 0) i 0) 0
+no_byte zero i = refl
+no_byte (suc n) zero = refl
+no_byte (suc n) (suc i) = no_byte n i
+
+-- marks are at most 1, also those of a prefix
+pub few_taken : (n : ℕ) (xs : List ℕ) (i : ℕ) → get_or (take n xs) i 0 ≤ get_or xs i 0
+few_taken zero xs i = omega arith
+few_taken (suc n) [] i = omega arith
+few_taken (suc n) (x ∷ xs) zero = omega arith
+few_taken (suc n) (x ∷ xs) (suc i) = few_taken n xs i
+
+pub marked_few : {m : ℕ} (b : Bool) → m ≡ cond b 1 0 → m ≤ 1
+marked_few b e = subst (λ k. k ≤ 1) (sym e) (cond_both b 1 0 (λ k. k ≤ 1) (λ _. omega arith) (λ _. omega arith))
+
+pub mark_few : (marks : List ℕ) → length marks ≡ 16 → ((i : ℕ) → i < 16 → get_or marks i 0 ≤ 1) → (i : ℕ) → get_or marks i 0 ≤ 1
+mark_few marks len few i =
+    ⊎_elim (few i) (λ past. subst (λ k. k ≤ 1) (sym (get_or_past marks i 0 (omega (arith, past, len)))) (omega arith)) (cases_lt i 16)
