@@ -35,7 +35,6 @@ pub(crate) fn both_parts<'a, E: Platform>(
 }
 
 /// Calls `index` with the ranges before an index and from it on.
-#[tactic(auto, using(wtf8_core::proofs::lemmas::characters::Overlaps::boundary_within))]
 pub(crate) fn indexed<'a, E: Platform>(
     string: RawOsStr<'a, E>,
     at: usize,
@@ -48,7 +47,6 @@ pub(crate) fn indexed<'a, E: Platform>(
 }
 
 /// Calls `get_unchecked` with the same ranges.
-#[tactic(auto, using(wtf8_core::proofs::lemmas::characters::Overlaps::boundary_within))]
 pub(crate) fn indexed_unchecked<'a, E: Platform>(
     string: RawOsStr<'a, E>,
     at: usize,
