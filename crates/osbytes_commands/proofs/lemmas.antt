@@ -3,3 +3,4 @@ pub mod UnitLines
 pub mod OneAnswer
 pub mod SameWords
 pub mod InlineTexts
+pub mod PieceLines

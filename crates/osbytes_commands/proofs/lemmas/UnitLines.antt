@@ -1,5 +1,5 @@
 -- Bytes are the lines of one list of units or have a first bad line, which is one line, and never both.
-use Rattle.std.proofs.Common.{◌≡◌, ℕ, ◌+◌, ◌/◌, ◌%◌, ◌<◌, ◌≤◌, List, [], ◌∷◌, ◌++◌, All, length, map, suc, refl, sym, ap, subst, ◌∙◌, arith, append_assoc, ⊎_elim}
+use Rattle.std.proofs.Common.{◌≡◌, ℕ, ◌+◌, ◌/◌, ◌%◌, ◌<◌, ◌≤◌, List, [], ◌∷◌, ◌++◌, All, length, length-append, map, suc, refl, sym, ap, subst, ◌∙◌, arith, append_assoc, ⊎_elim}
 use Rattle.std.proofs.lemmas.Bool.{cases_lt, lt-ltb, le-ltb}
 use Rattle.std.proofs.lemmas.Grind.{flat_map-append}
 use Rattle.std.proofs.lemmas.List.{append-nil, map-append}
@@ -98,3 +98,12 @@ pub one_more_unit : {U : Type 0} (os : Os) (number : U → ℕ) (units : List U)
     → All (IsUnit os) (map number units) → IsUnit os (number unit) → All (IsUnit os) (map number (units ++ unit ∷ []))
 one_more_unit os number units unit all one =
     subst (All (IsUnit os)) (sym (map-append number units (unit ∷ []))) (All-push (IsUnit os) (map number units) (number unit) all one)
+
+-- a line has some byte, so what comes after it is shorter
+some_line : (os : Os) (u : ℕ) → 0 < length (unit_line os u)
+some_line Unix u = omega arith
+some_line Windows u = omega arith
+some_line Wasm u = omega arith
+
+pub shorter_behind : (os : Os) (u : ℕ) (rest behind : List ℕ) → rest ≡ unit_line os u ++ behind → length behind < length rest
+shorter_behind os u rest behind e = omega (arith, ap length e, length-append (unit_line os u) behind, some_line os u)
