@@ -4,3 +4,4 @@ pub mod OneAnswer
 pub mod SameWords
 pub mod InlineTexts
 pub mod PieceLines
+pub mod CommandWords
