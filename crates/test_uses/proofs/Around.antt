@@ -1,5 +1,5 @@
 -- What two cuts around a match in a list leave.
-use Rattle.std.proofs.Common.{◌≡◌, ℕ, ◌+◌, List, ◌++◌, length, take, drop, sym, ap, ◌∙◌, append_assoc, length-append}
+use Rattle.std.proofs.Common.{◌≡◌, ℕ, ◌+◌, List, ◌++◌, length, take, drop, sym, ap, ◌∙◌}
 use Rattle.std.proofs.Math.Seq.{take-append_seam, drop-append-add, drop-append_seam}
 use Rattle.wtf8_core.specs.Pieces.{SplitsAt}
 use Rattle.wtf8_core.specs.Standing.{StandsAt}

@@ -1,5 +1,6 @@
 //! Searches that answer the same question, and cuts of what they find.
-ghost use Rattle.std.specs.Prelude.{◌≡◌, ◌<◌, IfOk, IfSome, IsTrue, length};
+ghost use Rattle.std.specs.Prelude.{◌≡◌, ◌<◌, IfOk, IsTrue, length};
+ghost use Rattle.std.specs.List.{repeat};
 ghost use Rattle.platform_str.specs.Strings.{bytes, string_vec_of};
 
 use os_str_ext::OsStrBytesExt;
@@ -74,52 +75,43 @@ pub fn trimmed_twice<'a, S: OsStrBytesExt<'a> + Copy>(string: S, pattern: &str) 
     (once, again)
 }
 
-/// The string that a stripped pattern and what follows it make, joined: the string again.
+/// Whether a string starts with a pattern, and the pattern with what follows it pushed: the string
+/// again.
 pub fn put_back<'a, E: Platform + 'a>(
-    alloc: Global,
     string: OsStr<'a, E>,
-    text: &'a str,
-) -> Result<Option<OsString<E>>, AllocError>
-    ensures { IfOk result (λ again. IfSome again
-        (λ joined. (string_vec_of joined).items ≡ bytes string.entry)) }
+    text: &str,
+    front: &mut OsString<E>,
+) -> Result<bool, AllocError>
+    requires { (string_vec_of front.old).items ≡ text.now }
+    ensures { IfOk result (λ starts. IsTrue starts
+        → (string_vec_of front.new).items ≡ bytes string.entry) }
 {
     laws::spelling::<E>();
     let Some(rest) = string.strip_prefix(text) else {
-        return Ok(None);
+        return Ok(false);
     };
-    let mut joined = OsStr::new(text).to_owned(alloc)?;
-    joined.push(rest)?;
-    Ok(Some(joined))
+    front.push(rest)?;
+    Ok(true)
 }
 
-/// The string twice over, which is the string with itself pushed.
-pub fn twice<'a, E: Platform + 'a>(alloc: Global, string: OsStr<'a, E>) -> Result<bool, AllocError>
-    ensures { IfOk result (λ same. IsTrue same) }
-{
-    laws::spelling::<E>();
-    let repeated = string.repeat(alloc, 2)?;
-    let mut pushed = string.to_owned(alloc)?;
-    pushed.push(string)?;
-    laws::owned_comparisons(&repeated, &pushed);
-    Ok(repeated == pushed)
-}
-
-/// The string once more than `count` times, which is the string `count` times with the string pushed.
+/// The string once more than `count` times, and one with the units of `count` times to which the string
+/// is pushed: the same.
 #[tactic(auto, using(crate::proofs::Repeats::once_more))]
 pub fn once_more<'a, E: Platform + 'a>(
     alloc: Global,
     string: OsStr<'a, E>,
     count: usize,
-) -> Result<bool, AllocError>
-    requires { count < usize.MAX }
-    ensures { IfOk result (λ same. IsTrue same) }
+    pushed: &mut OsString<E>,
+) -> Result<OsString<E>, AllocError>
+    requires more { count < usize.MAX }
+    requires units { E.units (string_vec_of pushed.old).items
+        ≡ repeat count (E.units (bytes string)) }
+    ensures { IfOk result (λ repeated. (string_vec_of repeated).items
+        ≡ (string_vec_of pushed.new).items) }
 {
     laws::spelling::<E>();
-    let repeated = string.repeat(alloc, count + 1)?;
-    let mut pushed = string.repeat(alloc, count)?;
     pushed.push(string)?;
-    laws::owned_comparisons(&repeated, &pushed);
-    Ok(repeated == pushed)
+    string.repeat(alloc, count + 1)
 }
 
 /// The string once, which is the string.

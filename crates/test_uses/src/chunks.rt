@@ -1,5 +1,5 @@
 //! Chunks: one list of them, joined the string; parts and their units.
-ghost use Rattle.std.specs.Prelude.{◌≡◌, ◌↔◌, ◌≤◌, [], ◌++◌, ℕ, List, IfOk, IsTrue, Some, map};
+ghost use Rattle.std.specs.Prelude.{◌≡◌, ◌↔◌, ◌≤◌, [], ◌∷◌, ◌++◌, ℕ, List, IfOk, IsSomeAnd, IsTrue, Some, map};
 ghost use Rattle.std.specs.List.{All, flat_map};
 ghost use Rattle.std.specs.Cmp.Lexicographic.{slice_cmp};
 ghost use Rattle.std.specs.Ordering.{nat_cmp};
@@ -65,6 +65,16 @@ pub fn rejoined<'a, E: Platform + 'a, A: Allocator>(
         all.extend_from_slice(text.as_bytes())?;
     }
     Ok(all)
+}
+
+/// The next chunk of those that are left, which is the first of them.
+pub fn next_chunk<'a, E: Platform + 'a>(
+    chunks: &mut Utf8Chunks<'a, E>,
+) -> Option<(NonUnicodeOsStr<'a, E>, &'a str)>
+    ensures { (chunk : Chunk) → (rest : List Chunk) → chunks.old ≡ chunk ∷ rest
+        → IsSomeAnd result (λ next. (part_bytes next.0 ≡ chunk.0) × (next.1.now ≡ chunk.1)) }
+{
+    chunks.next()
 }
 
 /// The chunks of a string: each a string without whole characters and a text, not both empty.

@@ -1,12 +1,11 @@
 //! Cuts in units: the units of the parts, joined, are the string's.
-ghost use Rattle.std.specs.Prelude.{◌≡◌, ◌++◌, drop, take, IfOk, IfSome};
+ghost use Rattle.std.specs.Prelude.{◌≡◌, ◌++◌, drop, take, IfOk};
 ghost use Rattle.wtf8_core.specs.Boundary.{IsBoundary};
 ghost use Rattle.platform_str.specs.Strings.{bytes, string_vec_of};
+ghost use Rattle.os_str_ext.specs.Range.{FitsIn};
 ghost use Rattle.os_str_bytes.specs.Raw.{raw_bytes, raw_vec_of};
 
-use os_str_bytes::{
-    OsStr, OsStrBytesExt, OsString, Platform, RawOsStr, RawOsString, SliceIndex, laws,
-};
+use os_str_bytes::{OsStr, OsStrBytesExt, OsString, Platform, RawOsStr, RawOsString, laws};
 use std::alloc::{AllocError, Allocator};
 
 /// A string of any kind, cut in two: the units of its bytes are those of the parts' bytes, joined.
@@ -30,21 +29,17 @@ pub fn os_cut_in_units<'a, E: Platform + 'a>(
     cut_in_units(string, at)
 }
 
-/// The part in `start..end`, and the units before it, in it and after it.
+/// The part in `start..end`: the units before it, in it and after it are those of the string.
 pub fn part_in_units<'a, E: Platform + 'a>(
     string: OsStr<'a, E>,
     start: usize,
     end: usize,
-) -> Option<OsStr<'a, E>>
-    ensures { IfSome result (λ part. E.units (bytes string.entry)
-        ≡ E.units (take start (bytes string.entry))
-        ++ (E.units (bytes part) ++ E.units (drop end (bytes string.entry)))) }
+) -> OsStr<'a, E>
+    requires { FitsIn (bytes string) start end }
+    ensures { E.units (bytes string.entry) ≡ E.units (take start (bytes string.entry))
+        ++ (E.units (bytes result) ++ E.units (drop end (bytes string.entry))) }
 {
-    let range = start..end;
-    if range.fits(string) {
-        return Some(string.index(range));
-    }
-    None
+    string.index(start..end)
 }
 
 /// The same by `get_unchecked`.
@@ -52,16 +47,12 @@ pub fn unchecked_part_in_units<'a, E: Platform + 'a>(
     string: OsStr<'a, E>,
     start: usize,
     end: usize,
-) -> Option<OsStr<'a, E>>
-    ensures { IfSome result (λ part. E.units (bytes string.entry)
-        ≡ E.units (take start (bytes string.entry))
-        ++ (E.units (bytes part) ++ E.units (drop end (bytes string.entry)))) }
+) -> OsStr<'a, E>
+    requires { FitsIn (bytes string) start end }
+    ensures { E.units (bytes string.entry) ≡ E.units (take start (bytes string.entry))
+        ++ (E.units (bytes result) ++ E.units (drop end (bytes string.entry))) }
 {
-    let range = start..end;
-    if range.fits(string) {
-        return Some(string.get_unchecked(range));
-    }
-    None
+    string.get_unchecked(start..end)
 }
 
 /// The same of a raw string.
@@ -69,16 +60,12 @@ pub fn raw_part_in_units<'a, E: Platform + 'a>(
     string: RawOsStr<'a, E>,
     start: usize,
     end: usize,
-) -> Option<RawOsStr<'a, E>>
-    ensures { IfSome result (λ part. E.units (raw_bytes string.entry)
-        ≡ E.units (take start (raw_bytes string.entry))
-        ++ (E.units (raw_bytes part) ++ E.units (drop end (raw_bytes string.entry)))) }
+) -> RawOsStr<'a, E>
+    requires { FitsIn (raw_bytes string) start end }
+    ensures { E.units (raw_bytes string.entry) ≡ E.units (take start (raw_bytes string.entry))
+        ++ (E.units (raw_bytes result) ++ E.units (drop end (raw_bytes string.entry))) }
 {
-    let range = start..end;
-    if string.fits(&range) {
-        return Some(string.index(range));
-    }
-    None
+    string.index(start..end)
 }
 
 /// The same of a raw string by `get_unchecked`.
@@ -86,16 +73,12 @@ pub fn raw_unchecked_part_in_units<'a, E: Platform + 'a>(
     string: RawOsStr<'a, E>,
     start: usize,
     end: usize,
-) -> Option<RawOsStr<'a, E>>
-    ensures { IfSome result (λ part. E.units (raw_bytes string.entry)
-        ≡ E.units (take start (raw_bytes string.entry))
-        ++ (E.units (raw_bytes part) ++ E.units (drop end (raw_bytes string.entry)))) }
+) -> RawOsStr<'a, E>
+    requires { FitsIn (raw_bytes string) start end }
+    ensures { E.units (raw_bytes string.entry) ≡ E.units (take start (raw_bytes string.entry))
+        ++ (E.units (raw_bytes result) ++ E.units (drop end (raw_bytes string.entry))) }
 {
-    let range = start..end;
-    if string.fits(&range) {
-        return Some(string.get_unchecked(range));
-    }
-    None
+    string.get_unchecked(start..end)
 }
 
 /// The end of an owned raw string from an index on, taken off it.

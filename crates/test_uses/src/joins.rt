@@ -3,6 +3,7 @@ ghost use Rattle.std.specs.Prelude.{◌≡◌, ◌↔◌, ◌++◌, ℕ, List, I
 ghost use Rattle.wtf8_core.specs.Join.{IsJoin};
 ghost use Rattle.platform_str.specs.Strings.{bytes, string_vec_of};
 
+use os_str_ext::OsStrBytesExt;
 use platform_str::{OsStr, OsString, Platform, laws};
 use std::alloc::{AllocError, Allocator, Global};
 
@@ -45,14 +46,43 @@ pub fn joined_either_way<'a, E: Platform + 'a>(
         ≡ E.units (bytes a.entry) ++ E.units (bytes b.entry) ++ E.units (bytes c.entry)) }
 {
     laws::joins::<E>();
-    let mut first = a.to_owned(alloc)?;
-    first.push(b)?;
-    first.push(c)?;
+    Ok((
+        joined_from_the_front(alloc, a, b, c)?,
+        joined_from_the_back(alloc, a, b, c)?,
+    ))
+}
+
+/// Three strings joined, the first two first.
+fn joined_from_the_front<'a, E: Platform + 'a>(
+    alloc: Global,
+    a: OsStr<'a, E>,
+    b: OsStr<'a, E>,
+    c: OsStr<'a, E>,
+) -> Result<OsString<E>, AllocError>
+    ensures { IfOk result (λ joined. E.units (string_vec_of joined).items
+        ≡ E.units (bytes a.entry) ++ E.units (bytes b.entry) ++ E.units (bytes c.entry)) }
+{
+    let mut joined = a.to_owned(alloc)?;
+    joined.push(b)?;
+    joined.push(c)?;
+    Ok(joined)
+}
+
+/// Three strings joined, the last two first.
+fn joined_from_the_back<'a, E: Platform + 'a>(
+    alloc: Global,
+    a: OsStr<'a, E>,
+    b: OsStr<'a, E>,
+    c: OsStr<'a, E>,
+) -> Result<OsString<E>, AllocError>
+    ensures { IfOk result (λ joined. E.units (string_vec_of joined).items
+        ≡ E.units (bytes a.entry) ++ E.units (bytes b.entry) ++ E.units (bytes c.entry)) }
+{
     let mut back = b.to_owned(alloc)?;
     back.push(c)?;
-    let mut second = a.to_owned(alloc)?;
-    second.push(back.as_os_str())?;
-    Ok((first, second))
+    let mut joined = a.to_owned(alloc)?;
+    joined.push(back.as_os_str())?;
+    Ok(joined)
 }
 
 /// Whether a string starts with another: exactly where it is the join of that one and some
@@ -63,18 +93,18 @@ pub fn starts_as_joined<'a, E: Platform + 'a>(string: OsStr<'a, E>, front: OsStr
         (bytes string.entry))) }
 {
     laws::joins::<E>();
-    E::starts_with_os(string.as_encoded_bytes(), front.as_encoded_bytes())
+    string.starts_with_os(front)
 }
 
 /// Whether a string onto which one was pushed starts with what it was: it always does.
 pub fn starts_with_what_was_there<'a, E: Platform + 'a>(
-    alloc: Global,
+    longer: &mut OsString<E>,
     string: OsStr<'a, E>,
     more: OsStr<'a, E>,
 ) -> Result<bool, AllocError>
+    requires { (string_vec_of longer.old).items ≡ bytes string }
     ensures { IfOk result (λ starts. IsTrue starts) }
 {
-    let mut longer = string.to_owned(alloc)?;
     longer.push(more)?;
     Ok(E::starts_with_os(
         longer.as_os_str().as_encoded_bytes(),

@@ -23,26 +23,23 @@ pub fn halves<'a, E: Platform + 'a>(
     None
 }
 
-/// The parts before, between and after two indices, if the string may be cut at both.
+/// The parts before, between and after two indices at which the string may be cut.
 pub fn three_parts<'a, E: Platform + 'a>(
     string: OsStr<'a, E>,
     start: usize,
     end: usize,
-) -> Option<(OsStr<'a, E>, OsStr<'a, E>, OsStr<'a, E>)>
-    ensures cut { IsSome result ↔ ((start ≤ end) × IsBoundary (bytes string.entry) start
-        × IsBoundary (bytes string.entry) end) }
-    ensures joined { IfSome result (λ parts. bytes parts.0 ++ (bytes parts.1 ++ bytes parts.2)
-        ≡ bytes string.entry) }
-    ensures units { IfSome result (λ parts. E.units (bytes parts.0)
-        ++ (E.units (bytes parts.1) ++ E.units (bytes parts.2)) ≡ E.units (bytes string.entry)) }
+) -> (OsStr<'a, E>, OsStr<'a, E>, OsStr<'a, E>)
+    requires order { start ≤ end }
+    requires start { IsBoundary (bytes string) start }
+    requires end { IsBoundary (bytes string) end }
+    ensures joined { bytes result.0 ++ (bytes result.1 ++ bytes result.2) ≡ bytes string.entry }
+    ensures units { E.units (bytes result.0) ++ (E.units (bytes result.1)
+        ++ E.units (bytes result.2)) ≡ E.units (bytes string.entry) }
 {
-    if start <= end && string.is_boundary(start) && string.is_boundary(end) {
-        wtf8_core::laws::boundaries();
-        let (front, rest) = string.split_at(start);
-        let (middle, back) = rest.split_at(end - start);
-        return Some((front, middle, back));
-    }
-    None
+    wtf8_core::laws::boundaries();
+    let (front, rest) = string.split_at(start);
+    let (middle, back) = rest.split_at(end - start);
+    (front, middle, back)
 }
 
 /// The same parts, cut at the second index first.
@@ -50,19 +47,18 @@ pub fn three_parts_from_the_end<'a, E: Platform + 'a>(
     string: OsStr<'a, E>,
     start: usize,
     end: usize,
-) -> Option<(OsStr<'a, E>, OsStr<'a, E>, OsStr<'a, E>)>
-    ensures joined { IfSome result (λ parts. bytes parts.0 ++ bytes parts.1 ++ bytes parts.2
-        ≡ bytes string.entry) }
-    ensures units { IfSome result (λ parts. E.units (bytes parts.0) ++ E.units (bytes parts.1)
-        ++ E.units (bytes parts.2) ≡ E.units (bytes string.entry)) }
+) -> (OsStr<'a, E>, OsStr<'a, E>, OsStr<'a, E>)
+    requires order { start ≤ end }
+    requires start { IsBoundary (bytes string) start }
+    requires end { IsBoundary (bytes string) end }
+    ensures joined { bytes result.0 ++ bytes result.1 ++ bytes result.2 ≡ bytes string.entry }
+    ensures units { E.units (bytes result.0) ++ E.units (bytes result.1) ++ E.units (bytes result.2)
+        ≡ E.units (bytes string.entry) }
 {
-    if start <= end && string.is_boundary(start) && string.is_boundary(end) {
-        wtf8_core::laws::boundaries();
-        let (rest, back) = string.split_at(end);
-        let (front, middle) = rest.split_at(start);
-        return Some((front, middle, back));
-    }
-    None
+    wtf8_core::laws::boundaries();
+    let (rest, back) = string.split_at(end);
+    let (front, middle) = rest.split_at(start);
+    (front, middle, back)
 }
 
 /// Whether a part of a string is accepted as raw bytes: it always is.

@@ -6,6 +6,22 @@ ghost use Rattle.os_str_ext.specs.Range.{FitsIn};
 use os_str_ext::{OsStrBytesExt, SliceIndex};
 use platform_str::{OsStr, Platform};
 
+/// The part in a range, where that fits.
+fn part<'a, E: Platform + 'a, I: SliceIndex + Drop>(
+    string: OsStr<'a, E>,
+    range: I,
+) -> Option<OsStr<'a, E>>
+    ensures { MatchOption result
+        (¬ (FitsIn (bytes string.entry) (I.first_place range) (I.end_place range (length (bytes string.entry)))))
+        (λ part. bytes part ≡ drop (I.first_place range)
+        (take (I.end_place range (length (bytes string.entry))) (bytes string.entry))) }
+{
+    if range.fits(string) {
+        return Some(string.index(range));
+    }
+    None
+}
+
 /// The part in `start..end`.
 pub fn between<'a, E: Platform + 'a>(
     string: OsStr<'a, E>,
@@ -15,11 +31,7 @@ pub fn between<'a, E: Platform + 'a>(
     ensures { MatchOption result (¬ (FitsIn (bytes string.entry) start end))
         (λ part. bytes part ≡ drop start (take end (bytes string.entry))) }
 {
-    let range = start..end;
-    if range.fits(string) {
-        return Some(string.index(range));
-    }
-    None
+    part(string, start..end)
 }
 
 /// The part in `start..=last`.
@@ -31,11 +43,7 @@ pub fn between_inclusive<'a, E: Platform + 'a>(
     ensures { MatchOption result (¬ (FitsIn (bytes string.entry) start (last + 1)))
         (λ part. bytes part ≡ drop start (take (last + 1) (bytes string.entry))) }
 {
-    let range = start..=last;
-    if range.fits(string) {
-        return Some(string.index(range));
-    }
-    None
+    part(string, start..=last)
 }
 
 /// The part in `start..`.
@@ -44,11 +52,7 @@ pub fn from<'a, E: Platform + 'a>(string: OsStr<'a, E>, start: usize) -> Option<
         (FitsIn (bytes string.entry) start (length (bytes string.entry))))
         (λ part. bytes part ≡ drop start (bytes string.entry)) }
 {
-    let range = start..;
-    if range.fits(string) {
-        return Some(string.index(range));
-    }
-    None
+    part(string, start..)
 }
 
 /// The part in `..end`.
@@ -56,11 +60,7 @@ pub fn to<'a, E: Platform + 'a>(string: OsStr<'a, E>, end: usize) -> Option<OsSt
     ensures { MatchOption result (¬ (FitsIn (bytes string.entry) 0 end))
         (λ part. bytes part ≡ take end (bytes string.entry)) }
 {
-    let range = ..end;
-    if range.fits(string) {
-        return Some(string.index(range));
-    }
-    None
+    part(string, ..end)
 }
 
 /// The part in `..=last`.
@@ -68,11 +68,7 @@ pub fn to_inclusive<'a, E: Platform + 'a>(string: OsStr<'a, E>, last: usize) -> 
     ensures { MatchOption result (¬ (FitsIn (bytes string.entry) 0 (last + 1)))
         (λ part. bytes part ≡ take (last + 1) (bytes string.entry)) }
 {
-    let range = ..=last;
-    if range.fits(string) {
-        return Some(string.index(range));
-    }
-    None
+    part(string, ..=last)
 }
 
 /// The part in `..`.

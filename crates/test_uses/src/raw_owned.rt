@@ -6,7 +6,7 @@ ghost use Rattle.wtf8_core.specs.Boundary.{IsBoundary};
 ghost use Rattle.platform_str.specs.Strings.{string_vec_of};
 ghost use Rattle.os_str_bytes.specs.Raw.{box_bytes, raw_bytes, raw_vec_of};
 
-use os_str_bytes::{OsString, Platform, RawOsStr, RawOsStrBox, RawOsString, laws};
+use os_str_bytes::{EncodingError, OsString, Platform, RawOsStr, RawOsStrBox, RawOsString, laws};
 use std::alloc::{AllocError, Allocator};
 
 /// An owned string, by way of an owned raw string: the same vector.
@@ -45,19 +45,23 @@ pub fn encoded_moved_back<E: Platform, A: Allocator>(string: RawOsString<E, A>) 
     RawOsString::from_raw_vec_unchecked(string.into_raw_vec())
 }
 
-/// Whether a vector of raw bytes is accepted: exactly where it is well formed.
-pub fn accepts<E: Platform, A: Allocator>(raw: Vec<u8, A>) -> bool
-    ensures { IsTrue result ↔ E.well_formed raw.items }
+/// The string of a vector of raw bytes, which is accepted exactly where it is well formed.
+pub fn accepted<E: Platform, A: Allocator>(
+    raw: Vec<u8, A>,
+) -> Result<RawOsString<E, A>, EncodingError>
+    ensures { IsOk result ↔ E.well_formed raw.items }
 {
     laws::faults::<E>();
-    RawOsString::<E, A>::from_raw_vec(raw).is_ok()
+    RawOsString::from_raw_vec(raw)
 }
 
-/// Whether an owned raw string is a text.
-pub fn is_owned_text<E: Platform, A: Allocator>(string: RawOsString<E, A>) -> bool
-    ensures { IsTrue result ↔ IsUtf8 (raw_vec_of string).items }
+/// The text that an owned raw string is, exactly where its bytes are UTF-8.
+pub fn owned_text<E: Platform, A: Allocator>(
+    string: RawOsString<E, A>,
+) -> Result<String<A>, RawOsString<E, A>>
+    ensures { IsOk result ↔ IsUtf8 (raw_vec_of string).items }
 {
-    string.into_string().is_ok()
+    string.into_string()
 }
 
 /// An owned raw string, by way of a text where it is one: the same vector.

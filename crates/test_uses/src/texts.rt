@@ -84,7 +84,8 @@ pub fn behind_first<'a, E: Platform + 'a>(string: OsStr<'a, E>) -> Option<OsStr<
     laws::texts::<E>();
     let raw = string.as_encoded_bytes();
     let len = char_at(raw, 0)?;
-    Some(OsStr::from_encoded_bytes_unchecked(&raw[len..]))
+    let (_, rest) = raw.split_at(len);
+    Some(OsStr::from_encoded_bytes_unchecked(rest))
 }
 
 /// How many bytes U+FFFD replaces at the start of a string's lossy text.
