@@ -22,6 +22,13 @@ use platform_str::{OsStr, Platform};
 use std::alloc::{AllocError, Allocator};
 use std::cmp::Ordering;
 
+/// The chunks of a string.
+pub(crate) fn utf8_chunks<'a, E: Platform + 'a>(string: OsStr<'a, E>) -> Utf8Chunks<'a, E>
+    ensures chunks { AreChunks (bytes string.entry) result }
+{
+    string.utf8_chunks()
+}
+
 /// The chunks of a string of which some are known, which are those.
 pub fn chunks_say<'a, E: Platform + 'a>(
     string: OsStr<'a, E>,
@@ -31,7 +38,7 @@ pub fn chunks_say<'a, E: Platform + 'a>(
     ensures { result ≡ known.entry }
 {
     wtf8_core::laws::chunks();
-    string.utf8_chunks()
+    utf8_chunks(string)
 }
 
 /// Any bytes, of which there are chunks.
@@ -49,7 +56,7 @@ pub fn runs<'a>(string: OsStr<'a, Windows>, code_points: &[u32]) -> Utf8Chunks<'
         × (result ≡ map form_chunk runs)) }
 {
     wtf8_core::laws::chunks();
-    string.utf8_chunks()
+    utf8_chunks(string)
 }
 
 /// The chunks of a string, joined again, which are the string.
@@ -60,7 +67,7 @@ pub fn rejoined<'a, E: Platform + 'a, A: Allocator>(
     ensures { IfOk result (λ all. all.items ≡ bytes string.entry) }
 {
     let mut all = Vec::new(alloc);
-    for (part, text) in string.utf8_chunks() {
+    for (part, text) in utf8_chunks(string) {
         all.extend_from_slice(part.as_os_str().as_encoded_bytes())?;
         all.extend_from_slice(text.as_bytes())?;
     }
@@ -82,7 +89,7 @@ pub fn each_chunk<'a, E: Platform + 'a>(string: OsStr<'a, E>) -> Utf8Chunks<'a, 
     ensures { All (IsChunkOf E.well_formed) result }
 {
     chunk_laws::each_chunk::<E>();
-    string.utf8_chunks()
+    utf8_chunks(string)
 }
 
 /// The chunks of a string, whose units joined are the string's.
@@ -91,7 +98,7 @@ pub fn rejoined_in_units<'a, E: Platform + 'a>(string: OsStr<'a, E>) -> Utf8Chun
         ≡ E.units (bytes string.entry) }
 {
     chunk_laws::chunk_units::<E>();
-    string.utf8_chunks()
+    utf8_chunks(string)
 }
 
 /// The chunks of a string, and whether it is a text: exactly where each of its parts is empty.
@@ -99,7 +106,7 @@ pub fn text_without_parts<'a, E: Platform + 'a>(string: OsStr<'a, E>) -> (Utf8Ch
     ensures { IsTrue result.1 ↔ All (λ chunk. chunk.0 ≡ []) result.0 }
 {
     chunk_laws::text_without_parts();
-    (string.utf8_chunks(), is_text(string))
+    (utf8_chunks(string), is_text(string))
 }
 
 /// A string without whole characters, whose bytes are those of its units.

@@ -3,7 +3,8 @@ ghost use Rattle.std.specs.Prelude.{IfOk};
 ghost use Rattle.platform_str.specs.Cows.{str_cow_bytes};
 ghost use Rattle.test_uses.specs.TextsBetween.{AreTextsBetween, ReplacesNoCharacter};
 
-use os_str_ext::{OsStrBytesExt, Utf8Chunks, chunk_laws};
+use crate::chunks::utf8_chunks;
+use os_str_ext::{Utf8Chunks, chunk_laws};
 use platform_str::{OsStr, OsStrBytes, Platform, StrCow, Unix, Wasm, Windows, laws};
 use std::alloc::{AllocError, Global};
 
@@ -23,7 +24,7 @@ pub fn texts_between<'a, E: Platform + 'a>(
     laws::lossy_texts::<E>();
     laws::cuts::<E>();
     chunk_laws::each_chunk::<E>();
-    Ok((string.utf8_chunks(), string.to_string_lossy(alloc)?))
+    Ok((utf8_chunks(string), string.to_string_lossy(alloc)?))
 }
 
 /// The same on Unix.

@@ -3,6 +3,7 @@ ghost use Rattle.std.specs.Prelude.{◌≡◌, ◌↔◌, [], ◌∷◌, ◌+◌
 ghost use Rattle.std.specs.Prelude.{IfSome, IsSomeAnd, IsTrue, Some};
 ghost use Rattle.std.specs.List.{All, join_by};
 ghost use Rattle.std.specs.Option.{option_map};
+ghost use Rattle.wtf8_core.specs.Pieces.{IsRSplit, IsSplit, Splits};
 ghost use Rattle.wtf8_core.specs.Standing.{IsLastPlace, StandsNowhere};
 ghost use Rattle.platform_str.specs.Strings.{bytes};
 ghost use Rattle.test_uses.specs.Matches.{AreMatches};
@@ -11,13 +12,29 @@ use os_str_bytes::RawSplit;
 use os_str_ext::{OsStrBytesExt, Pattern, RSplit, Split};
 use platform_str::{OsStr, Platform};
 
+/// The pieces of a string.
+fn split<'a, E: Platform + 'a>(string: OsStr<'a, E>, text: &'a str) -> Split<'a, E, &'a str>
+    requires { 0 < length text.now }
+    ensures { Splits E.units IsSplit text.now (bytes string.entry) result }
+{
+    string.split(text)
+}
+
+/// The pieces of a string from the end.
+fn rsplit<'a, E: Platform + 'a>(string: OsStr<'a, E>, text: &'a str) -> RSplit<'a, E, &'a str>
+    requires { 0 < length text.now }
+    ensures { Splits E.units IsRSplit text.now (bytes string.entry) result }
+{
+    string.rsplit(text)
+}
+
 /// The pieces of a string in which a pattern doesn't occur: the string alone.
 pub fn uncut<'a, E: Platform + 'a>(string: OsStr<'a, E>, text: &'a str) -> Split<'a, E, &'a str>
     requires some { 0 < length text.now }
     requires nowhere { StandsNowhere text.now (bytes string) }
     ensures { result ≡ bytes string.entry ∷ [] }
 {
-    string.split(text)
+    split(string, text)
 }
 
 /// The same from the end.
@@ -29,7 +46,7 @@ pub fn uncut_from_the_end<'a, E: Platform + 'a>(
     requires nowhere { StandsNowhere text.now (bytes string) }
     ensures { result ≡ bytes string.entry ∷ [] }
 {
-    string.rsplit(text)
+    rsplit(string, text)
 }
 
 /// The rest of a string in which a pattern doesn't occur, before its one piece was given: the string.
@@ -70,7 +87,7 @@ pub fn pieces_joined<'a, E: Platform + 'a>(
     ensures units { join_by (λ piece. piece) (E.units text.now) (map E.units result)
         ≡ E.units (bytes string.entry) }
 {
-    string.split(text)
+    split(string, text)
 }
 
 /// The pieces of a string from the end, which in reverse with the pattern between them are the string,
@@ -84,7 +101,7 @@ pub fn pieces_joined_from_the_end<'a, E: Platform + 'a>(
     ensures units { join_by (λ piece. piece) (E.units text.now) (reverse (map E.units result))
         ≡ E.units (bytes string.entry) }
 {
-    string.rsplit(text)
+    rsplit(string, text)
 }
 
 /// The pieces of a string, in none of which the pattern occurs.
@@ -95,7 +112,7 @@ pub fn pieces_without_match<'a, E: Platform + 'a>(
     requires { 0 < length text.now }
     ensures { All (StandsNowhere text.now) result }
 {
-    string.split(text)
+    split(string, text)
 }
 
 /// The same from the end.
@@ -106,7 +123,7 @@ pub fn pieces_without_match_from_the_end<'a, E: Platform + 'a>(
     requires { 0 < length text.now }
     ensures { All (StandsNowhere text.now) result }
 {
-    string.rsplit(text)
+    rsplit(string, text)
 }
 
 /// The pieces of a string between the occurrences of a character, from the start and from the end:
@@ -131,7 +148,7 @@ pub fn pieces_and_matches<'a, E: Platform + 'a>(
     ensures { (matches : List ℕ) × (AreMatches text.now (bytes string.entry) 0 matches
         × (length result ≡ length matches + 1)) }
 {
-    string.split(text)
+    split(string, text)
 }
 
 /// The next two pieces, of which the second is the second of those that are left.
@@ -156,6 +173,6 @@ pub fn first_from_the_end<'a, E: Platform + 'a>(
     ensures { (at : ℕ) → IsLastPlace text.now (bytes string.entry) at
         → IfSome result (λ piece. bytes piece ≡ drop (at + length text.now) (bytes string.entry)) }
 {
-    let mut pieces = string.rsplit(text);
+    let mut pieces = rsplit(string, text);
     pieces.next()
 }

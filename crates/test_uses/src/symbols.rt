@@ -11,6 +11,13 @@ ghost use Rattle.os_str_bytes.specs.Raw.{raw_bytes};
 use os_str_bytes::{OsStr, OsStrBytesExt, Platform, RawOsStr, Symbol, Symbols, Unix, symbol_laws};
 use std::alloc::AllocError;
 
+/// The symbols of a string.
+fn symbols<'a, E: Platform + 'a>(string: OsStr<'a, E>) -> Symbols<'a, E>
+    ensures symbols { AreSymbols E.units (bytes string.entry) result }
+{
+    string.symbols()
+}
+
 /// The symbols of a string of which some are known, which are those.
 pub fn symbols_say<'a, E: Platform + 'a>(
     string: OsStr<'a, E>,
@@ -20,7 +27,7 @@ pub fn symbols_say<'a, E: Platform + 'a>(
     ensures { result ≡ known.entry }
 {
     symbol_laws::symbols::<E>();
-    string.symbols()
+    symbols(string)
 }
 
 /// Any bytes, of which there are symbols.
@@ -35,7 +42,7 @@ pub fn symbols_joined<'a, E: Platform + 'a>(string: OsStr<'a, E>) -> Symbols<'a,
     ensures { flat_map symbol_bytes result ≡ bytes string.entry }
 {
     symbol_laws::symbols::<E>();
-    string.symbols()
+    symbols(string)
 }
 
 /// The symbols of a raw string: those of its bytes.
@@ -76,7 +83,7 @@ pub fn one_of_each<'a>(string: OsStr<'a, Unix>) -> Symbols<'a, Unix>
     ensures { result ≡ Character 0x61 ∷ unit_symbol 0x80 ∷ [] }
 {
     wtf8_core::laws::chunks();
-    string.symbols()
+    symbols(string)
 }
 
 /// Whether two symbols are equal: exactly where they are the same character, or units of the same
