@@ -230,6 +230,7 @@ pub use parts::cuts_agree;
 pub use parts::halves;
 pub use parts::halves_of_bytes;
 pub use parts::halves_of_text;
+pub use parts::may_be_cut;
 pub use parts::part_is_accepted;
 pub use parts::three_parts;
 pub use parts::three_parts_from_the_end;

@@ -1,5 +1,5 @@
 //! Parts of strings: joined they are the string, in bytes and in units.
-ghost use Rattle.std.specs.Prelude.{◌≡◌, ◌↔◌, ◌++◌, ◌≤◌, IsOk, IsSome, IfSome, IsTrue, length};
+ghost use Rattle.std.specs.Prelude.{◌≡◌, ◌↔◌, ◌++◌, ◌≤◌, IsOk, IsTrue, length};
 ghost use Rattle.std.specs.Str.{IsUtf8};
 ghost use Rattle.wtf8_core.specs.Boundary.{IsBoundary};
 ghost use Rattle.platform_str.specs.Strings.{bytes};
@@ -7,20 +7,21 @@ ghost use Rattle.platform_str.specs.Strings.{bytes};
 use os_str_ext::OsStrBytesExt;
 use platform_str::{EncodingError, OsStr, Platform, laws};
 
-/// The parts before and after an index, if the string may be cut there.
-pub fn halves<'a, E: Platform + 'a>(
-    string: OsStr<'a, E>,
-    at: usize,
-) -> Option<(OsStr<'a, E>, OsStr<'a, E>)>
-    ensures cut { IsSome result ↔ IsBoundary (bytes string.entry) at }
-    ensures joined { IfSome result (λ parts. bytes parts.0 ++ bytes parts.1 ≡ bytes string.entry) }
-    ensures units { IfSome result (λ parts. E.units (bytes parts.0) ++ E.units (bytes parts.1)
-        ≡ E.units (bytes string.entry)) }
+/// Whether a string may be cut at an index.
+pub fn may_be_cut<'a, E: Platform + 'a>(string: OsStr<'a, E>, at: usize) -> bool
+    ensures { IsTrue result ↔ IsBoundary (bytes string.entry) at }
 {
-    if string.is_boundary(at) {
-        return Some(string.split_at(at));
-    }
-    None
+    string.is_boundary(at)
+}
+
+/// The parts before and after an index at which the string may be cut.
+pub fn halves<'a, E: Platform + 'a>(string: OsStr<'a, E>, at: usize) -> (OsStr<'a, E>, OsStr<'a, E>)
+    requires { IsBoundary (bytes string) at }
+    ensures joined { bytes result.0 ++ bytes result.1 ≡ bytes string.entry }
+    ensures units { E.units (bytes result.0) ++ E.units (bytes result.1)
+        ≡ E.units (bytes string.entry) }
+{
+    string.split_at(at)
 }
 
 /// The parts before, between and after two indices at which the string may be cut.
