@@ -2,9 +2,7 @@ pub mod Around
 pub mod CommandLines
 pub mod EqualOrder
 pub mod FirstAndLast
-pub mod FirstPiece
 pub mod GlobFaults
-pub mod LastPiece
 pub mod LossyOfChunks
 pub mod NoMatch
 pub mod OnePiece

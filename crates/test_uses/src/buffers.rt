@@ -5,20 +5,7 @@ ghost use Rattle.wtf8_core.specs.Wtf8.{IsWtf8};
 ghost use Rattle.platform_str.specs.Strings.{bytes};
 
 use platform_str::{OsStr, Platform};
-use wtf8_core::{Checker, EncodingError, laws, push_truncated};
-
-/// The check of two pieces, which ends at the first that has a fault.
-#[tactic(auto, using(crate::proofs::FirstPiece::is_of_both))]
-pub fn checked_in_two(first: &[u8], second: &[u8]) -> Result<(), EncodingError>
-    ensures { MatchResult result (λ _. IsWtf8 (first.now ++ second.now))
-        (λ fault. HasFirstFault (first.now ++ second.now) fault) }
-{
-    laws::fault_stays();
-    let mut checker = Checker::new();
-    checker.feed(first)?;
-    checker.feed(second)?;
-    checker.finish()
-}
+use wtf8_core::{Checker, EncodingError, push_truncated};
 
 /// The check of two pieces, between which the checker is saved and restored.
 pub fn checked_apart(first: &[u8], second: &[u8]) -> Result<(), EncodingError>

@@ -25,16 +25,6 @@ pub fn there_and_back<E: Platform, A: Allocator + Copy>(
     unescape(alloc, text.as_str())
 }
 
-/// The string with a text as its escape, where there is one.
-pub fn unescaped<E: Platform, A: Allocator + Copy>(
-    alloc: A,
-    text: &str,
-) -> Result<OsString<E, A>, QuoteError>
-    ensures { IfOk result (λ string. IsEscape E.units (string_vec_of string).items text.now) }
-{
-    unescape(alloc, text)
-}
-
 /// A string, of which there is an escape.
 pub fn has_escape<'a, E: Platform + 'a>(string: OsStr<'a, E>) -> OsStr<'a, E>
     ensures { (text : List ℕ) × IsEscape E.units (bytes result) text }

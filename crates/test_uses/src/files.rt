@@ -1,7 +1,6 @@
 //! Bytes that files take: exactly those that are IO-safe.
 ghost use Rattle.std.specs.Prelude.{◌≡◌, ◌↔◌, IsTrue, IsOk, IfOk};
 ghost use Rattle.std.specs.String.{string_vec};
-ghost use Rattle.platform_str.specs.Lossy.{IsIoLossy};
 ghost use Rattle.platform_str.specs.Strings.{string_vec_of};
 
 use platform_str::{OsStrBytes, OsString, OsStringBytes, Platform, laws};
@@ -71,12 +70,4 @@ pub fn vec_for_files<E: Platform, A: Allocator>(string: OsString<E, A>) -> bool
     laws::lossy_texts::<E>();
     let _formed = string.as_os_str();
     E::is_io_safe(string.into_io_vec_lossy().as_slice())
-}
-
-/// The vector of an owned string for files: the same where it may be handed to them, else its lossy
-/// text.
-pub fn lossy_for_files<E: Platform, A: Allocator>(string: OsString<E, A>) -> Vec<u8, A>
-    ensures { IsIoLossy E.io_safe E.lossy (string_vec_of string).items result.items }
-{
-    string.into_io_vec_lossy()
 }

@@ -1,10 +1,10 @@
 //! Pieces: what splits give.
-ghost use Rattle.std.specs.Prelude.{◌≡◌, ◌↔◌, [], ◌∷◌, ◌+◌, ◌<◌, ℕ, List, drop, length, map, reverse};
-ghost use Rattle.std.specs.Prelude.{IfSome, IsSomeAnd, IsTrue, Some};
+ghost use Rattle.std.specs.Prelude.{◌≡◌, ◌↔◌, [], ◌∷◌, ◌+◌, ◌<◌, ℕ, List, length, map, reverse};
+ghost use Rattle.std.specs.Prelude.{IsSomeAnd, IsTrue, Some};
 ghost use Rattle.std.specs.List.{All, join_by};
 ghost use Rattle.std.specs.Option.{option_map};
 ghost use Rattle.wtf8_core.specs.Pieces.{IsRSplit, IsSplit, Splits};
-ghost use Rattle.wtf8_core.specs.Standing.{IsLastPlace, StandsNowhere};
+ghost use Rattle.wtf8_core.specs.Standing.{StandsNowhere};
 ghost use Rattle.platform_str.specs.Strings.{bytes};
 ghost use Rattle.test_uses.specs.Matches.{AreMatches};
 
@@ -161,18 +161,4 @@ pub fn next_two<'a, E: Platform + 'a>(
     let first = pieces.next();
     let second = pieces.next();
     (first, second)
-}
-
-/// The first piece from the end, which is what comes after the last match of the pattern.
-#[tactic(auto, using(crate::proofs::LastPiece::behind_greatest))]
-pub fn first_from_the_end<'a, E: Platform + 'a>(
-    string: OsStr<'a, E>,
-    text: &'a str,
-) -> Option<OsStr<'a, E>>
-    requires { 0 < length text.now }
-    ensures { (at : ℕ) → IsLastPlace text.now (bytes string.entry) at
-        → IfSome result (λ piece. bytes piece ≡ drop (at + length text.now) (bytes string.entry)) }
-{
-    let mut pieces = rsplit(string, text);
-    pieces.next()
 }
