@@ -16,9 +16,10 @@
 //!    again, and finally std's reader continues.
 //!
 //! [`Checker`](crate::Checker) and [`wtf8_fault`](crate::wtf8_fault) use 5 and 6 for WTF-8, and then
-//! their table or the reader of code points; [`is_utf8`](crate::is_utf8) uses them for UTF-8, and then
-//! std's reader. [`surrogate_fault`](crate::surrogate_fault) looks for surrogates alone
-//! ([`surrogates`]).
+//! their table or the reader of code points. [`is_utf8`](crate::is_utf8) uses 3 and 4 of up to two
+//! blocks, and then one more step that ends with the last byte ([`fronts::ends_by_step`]), and of more
+//! bytes 5 and 6; what these don't vouch for std's reader reads.
+//! [`surrogate_fault`](crate::surrogate_fault) looks for surrogates alone ([`surrogates`]).
 
 pub(crate) mod error_bits;
 pub(crate) mod fronts;

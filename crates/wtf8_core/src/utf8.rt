@@ -7,10 +7,10 @@ ghost use Rattle.wtf8_core.specs.Utf8.{IsUtf8Fault};
 ghost use Rattle.wtf8_core.specs.Wtf8.{IsWtf8};
 
 use crate::character::char_or_fault_at_front;
-use crate::scan::fronts::{ends_with_ascii, front_of, scan_from, scan_steps};
+use crate::scan::fronts::{ends_by_step, ends_with_ascii, front_of, scan_from, scan_steps};
 use crate::scan::lanes::ascii_of;
 use crate::scan::surrogates::text_from;
-use crate::scan::{BLOCK, Encoding, STEP};
+use crate::scan::{BEFORE, BLOCK, Encoding, STEP};
 use memchr::memchr;
 
 /// The first fault of bytes that aren't UTF-8, `None` for UTF-8 (RFC 3629, section 4).
@@ -65,11 +65,13 @@ pub fn utf8_fault(bytes: &[u8]) -> Option<(usize, Option<u8>)>
 pub fn is_utf8(bytes: &[u8]) -> bool
     ensures { IsTrue result ↔ IsUtf8 bytes.now }
 {
-    let front = front_of(bytes, Encoding::Utf8);
-    if front == bytes.len() {
+    if bytes.len() > 2 * BLOCK {
+        return is_long_utf8(bytes);
+    }
+    if is_one_ascii(bytes) || is_short_ascii(bytes) || is_utf8_by_steps(bytes) {
         return true;
     }
-    match fault_in_rest(bytes, front) {
+    match fault_by_std(bytes) {
         None => true,
         Some(_) => false,
     }
@@ -124,6 +126,47 @@ fn fault_in_short(bytes: &[u8]) -> Option<(usize, Option<u8>)>
         };
     }
     fault_in_rest(bytes, STEP)
+}
+
+/// The same as [`is_utf8`], by blocks.
+fn is_long_utf8(bytes: &[u8]) -> bool
+    ensures { IsTrue result ↔ IsUtf8 bytes.now }
+{
+    let front = front_of(bytes, Encoding::Utf8);
+    if front == bytes.len() {
+        return true;
+    }
+    match fault_in_rest(bytes, front) {
+        None => true,
+        Some(_) => false,
+    }
+}
+
+/// Whether the bytes are found to be UTF-8 by steps, after the first character that isn't ASCII and
+/// two more. That isn't found of fewer than 20 bytes.
+#[inline(always)]
+fn is_utf8_by_steps(bytes: &[u8]) -> bool
+    ensures { IsTrue result → IsUtf8 bytes.now }
+{
+    if bytes.len() < STEP + BEFORE {
+        return false;
+    }
+    let near = ascii_of::<STEP>(bytes).min(STEP);
+    let Ok(at) = after_three_characters(bytes, near) else {
+        return false;
+    };
+    match scan_steps(bytes, at) {
+        Ok(end) => ends_by_step(bytes, end),
+        Err(_) => false,
+    }
+}
+
+/// Whether there is one byte, and it is ASCII.
+#[inline(always)]
+fn is_one_ascii(bytes: &[u8]) -> bool
+    ensures { IsTrue result → IsUtf8 bytes.now }
+{
+    bytes.len() == 1 && bytes[0] < 0x80
 }
 
 /// Whether the bytes are fewer than 64 and ASCII. It isn't found of fewer than 8.

@@ -9,6 +9,7 @@ ghost use Rattle.wtf8_core.specs.Surrogate.{is_high};
 ghost use Rattle.wtf8_core.specs.declared.scan.Encoding.{Encoding};
 ghost use Rattle.wtf8_core.specs.declared.scan.Encoding.TheVariants.{Utf8, Wtf8};
 ghost use Rattle.wtf8_core.specs.EncodedPrefix.{IsEncodedPrefix, KeepsPattern};
+ghost use Rattle.wtf8_core.specs.Neighbours.{IsClosed};
 
 use crate::byte::is_continuation;
 use crate::scan::error_bits::{kept_len, kept_of_16};
@@ -120,6 +121,34 @@ fn step_len(bytes: &[u8], at: usize) -> usize
     ensures kept { KeepsPattern Utf8 bytes.now at → KeepsPattern Utf8 bytes.now (at + result) }
 {
     kept_of_16(&bytes[at - BEFORE..])
+}
+
+/// Whether bytes are found to be UTF-8 that keep to its pattern up to index `at`, by one more step:
+/// the last 16 bytes, of which those before `at` are read again. So no copy with zeros after them is
+/// made. That isn't found if more bytes are left, or if there are fewer than 20.
+#[inline(always)]
+pub(crate) fn ends_by_step(bytes: &[u8], at: usize) -> bool
+    requires within { at ≤ length bytes.now }
+    requires kept { KeepsPattern Utf8 bytes.now at }
+    ensures { IsTrue result → IsEncodedPrefix Utf8 bytes.now (length bytes.now) }
+{
+    let len = bytes.len();
+    if len < BEFORE + STEP || len - at > STEP || !ends_closed(bytes) {
+        return false;
+    }
+    kept_of_16(&bytes[len - STEP - BEFORE..]) >= STEP
+}
+
+/// Whether none of the last three bytes is the lead of a form that continues after the last byte.
+#[inline(always)]
+fn ends_closed(bytes: &[u8]) -> bool
+    requires { 3 ≤ length bytes.now }
+    ensures { IsTrue result → IsClosed (slice_index bytes.now (length bytes.now - 3))
+        (slice_index bytes.now (length bytes.now - 2))
+        (slice_index bytes.now (length bytes.now - 1)) }
+{
+    let len = bytes.len();
+    bytes[len - 3] < 0xF0 && bytes[len - 2] < 0xE0 && bytes[len - 1] < 0xC0
 }
 
 /// Whether the first `at` bytes, if they are such a prefix of WTF-8, end with a high surrogate.

@@ -1,5 +1,5 @@
 -- From windows to the bytes: which prefix they give.
-use Rattle.wtf8_core.proofs.Common.{Bool, true, false, ◌≡◌, ⊎_elim, ℕ, zero, suc, ◌+◌, ◌-◌, ◌<◌, ◌≤◌, List, [], ◌∷◌, ◌++◌, length, take, drop, get_or, refl, sym, ap, ◌∙◌, subst, arith, min, replicate, get_or-take, get_or-drop, get_or_append_left, get_or-append_right, get_or_past, length-append, length-take, length-take-le, length-drop, take-add, take-take, drop-drop, take-append-drop, cases_lt, and_from, AllByRecursion, IsScalar, low_scalar, scalars, IsUtf8, is_in_range, IsContinuation, is_high, Encodes, last_or, MayStand, AllMayStand, IsBetweenCodePoints, behind_zeros, KeepsPattern, IsEncodedPrefix}
+use Rattle.wtf8_core.proofs.Common.{Bool, true, false, ◌≡◌, inl, ⊎_elim, ℕ, zero, suc, ◌+◌, ◌-◌, ◌<◌, ◌≤◌, List, [], ◌∷◌, ◌++◌, length, take, drop, get_or, refl, sym, ap, ◌∙◌, subst, arith, min, replicate, get_or-take, get_or-drop, get_or_append_left, get_or-append_right, get_or_past, length-append, length-take, length-take-le, length-drop, take-add, take-take, drop-drop, take-append-drop, cases_lt, and_from, AllByRecursion, IsScalar, low_scalar, scalars, IsUtf8, is_in_range, IsContinuation, is_high, Encodes, last_or, MayStand, AllMayStand, IsBetweenCodePoints, behind_zeros, KeepsPattern, IsEncodedPrefix}
 use Rattle.std.proofs.lemmas.List.{take_more}
 use borrow.Rule.Slice.PartMut.{put_mid}
 use Rattle.wtf8_core.proofs.lemmas.forms.Ranges.{in_range, in_range-true, in_range-false, not_in_range}
@@ -11,6 +11,7 @@ use Rattle.wtf8_core.proofs.lemmas.characters.Seams.{scalars_are}
 use Rattle.wtf8_core.proofs.lemmas.texts.AreWtf8.{text_spells}
 use Rattle.wtf8_core.proofs.lemmas.scan.PairBits.{same_five}
 use Rattle.wtf8_core.proofs.lemmas.scan.ScannedIsEncoded.{IsBetweenCodePointsAt, edge_of_forms, steps, whole}
+use Rattle.wtf8_core.specs.Neighbours.{IsClosed}
 use Rattle.wtf8_core.specs.declared.scan.Encoding.{Encoding}
 use Rattle.wtf8_core.specs.declared.scan.Encoding.TheVariants.{Utf8, Wtf8}
 
@@ -54,6 +55,21 @@ four_before : (a b c d : ℕ) (l : List ℕ) (m : ℕ) → m ≤ length l
 four_before a b c d l zero h = refl
 four_before a b c d [] (suc m) h = absurd (omega (arith, h))
 four_before a b c d (x ∷ l) (suc m) h = four_before b c d x l m (omega (arith, h))
+
+-- a zero may follow where no form continues
+zero_follows : (encoding : Encoding) (w x y z b : ℕ) → IsClosed x y z → b ≡ 0 → MayStand encoding w x y z b
+zero_follows encoding w x y z b closed is = record {
+  begins = λ _. inl (omega (arith, is));
+  continues = λ goes. absurd (⊎_elim (λ h. omega (arith, h, closed.fourth)) (λ r. ⊎_elim (λ h. omega (arith, h, closed.third)) (λ h. omega (arith, h, closed.second)) r) goes);
+  follows = record {
+    lead = λ h. absurd (omega (arith, h, closed.second));
+    three_long = λ h. absurd (omega (arith, h, closed.second));
+    four_long = λ h. absurd (omega (arith, h, closed.second));
+    within = λ h. absurd (omega (arith, h, closed.second));
+  };
+  unpaired = λ _ _ _ h. absurd (omega (arith, h, closed.second));
+  plain = λ _ h. absurd (omega (arith, h, closed.second));
+}
 
 module _ (encoding : Encoding) (bytes : List ℕ) where
   -- a prefix may be cut before a byte that begins a code point
@@ -153,10 +169,57 @@ module _ (encoding : Encoding) (bytes : List ℕ) where
           (pattern j (omega (arith, h, l, k.order)))) (cases_lt i (at - k.from));
     }
 
+    -- the same where the bytes are known to keep to it up to an index within the window
+    pub more_over : (to : ℕ) → at ≤ to → to ≤ at + n → AllMayStand encoding n window → KeepsPattern encoding bytes to → KeepsPattern encoding bytes (at + n)
+    more_over to low high pattern k = record {
+      from = k.from;
+      front = k.front;
+      order = omega (arith, k.order, high);
+      pattern = λ i h. ⊎_elim (k.pattern i) (λ l. let j = k.from + i - at in
+          same_five (MayStand encoding)
+          (in_window k.from i j (omega (arith, l, k.order, low)) (omega (arith, h, l, k.order, low)))
+          (in_window k.from (suc i) (suc j) (omega (arith, l, k.order, low)) (omega (arith, h, l, k.order, low)))
+          (in_window k.from (suc (suc i)) (suc (suc j)) (omega (arith, l, k.order, low)) (omega (arith, h, l, k.order, low)))
+          (in_window k.from (suc (suc (suc i))) (suc (suc (suc j))) (omega (arith, l, k.order, low)) (omega (arith, h, l, k.order, low)))
+          (in_window k.from (suc (suc (suc (suc i)))) (suc (suc (suc (suc j)))) (omega (arith, l, k.order, low)) (omega (arith, h, l, k.order, low)))
+          (pattern j (omega (arith, h, l, k.order, low)))) (cases_lt i (to - k.from));
+    }
+
   -- a window that is part of the bytes
   pub more_inside : (at : ℕ) (window : List ℕ) (n : ℕ) → 4 ≤ at → window ≡ drop (at - 4) bytes → AllMayStand encoding n window → KeepsPattern encoding bytes at → KeepsPattern encoding bytes (at + n)
   more_inside at window n l is = more at window n (λ i _. let place : suc (suc (suc (suc ((at - 4) + i)))) ≡ at + i = omega (arith, l) in
       ap (λ x. get_or x i 0) is ∙ get_or-drop (at - 4) bytes i 0 ∙ ap (λ m. get_or (behind_zeros bytes) m 0) place)
+
+  -- a window that is their end
+  pub more_at_end : (to : ℕ) (window : List ℕ) (n : ℕ) → n + 4 ≤ length bytes → window ≡ drop (length bytes - n - 4) bytes → to ≤ length bytes → length bytes - n ≤ to → AllMayStand encoding n window → KeepsPattern encoding bytes to → KeepsPattern encoding bytes (length bytes)
+  more_at_end to window n long is high low pattern k =
+      let at = length bytes - n in
+      let end : at + n ≡ length bytes = omega (arith, long) in
+      subst (KeepsPattern encoding bytes) end (more_over at window n (λ i _. let place : suc (suc (suc (suc ((length bytes - n - 4) + i)))) ≡ at + i = omega (arith, long) in
+      ap (λ x. get_or x i 0) is ∙ get_or-drop (length bytes - n - 4) bytes i 0 ∙ ap (λ m. get_or (behind_zeros bytes) m 0) place) to low (omega (arith, end, high)) pattern k)
+
+  -- bytes spell code points up to their end, if they keep to the pattern and no form continues there
+  pub closed_end : 3 ≤ length bytes → IsClosed (get_or bytes (length bytes - 3) 0) (get_or bytes (length bytes - 2) 0) (get_or bytes (length bytes - 1) 0) → KeepsPattern encoding bytes (length bytes) → IsEncodedPrefix encoding bytes (length bytes)
+  closed_end long closed k = by_pattern (length bytes) (suc (length bytes)) (omega arith) (omega arith) kept (λ h. omega (arith, h.0, past))
+    where
+      past : get_or bytes (length bytes) 0 ≡ 0
+      past = get_or_past bytes (length bytes) 0 (omega arith)
+
+      at_end : (i j : ℕ) → k.from + i ≡ suc (suc (suc (suc j))) → get_or (drop k.from (behind_zeros bytes)) i 0 ≡ get_or bytes j 0
+      at_end i j e = get_or-drop k.from (behind_zeros bytes) i 0 ∙ ap (λ m. get_or (behind_zeros bytes) m 0) e
+
+      kept : KeepsPattern encoding bytes (suc (length bytes))
+      kept = record {
+        from = k.from;
+        front = k.front;
+        order = omega (arith, k.order);
+        pattern = λ i h. ⊎_elim (k.pattern i) (λ l.
+            let x = at_end (suc i) (length bytes - 3) (omega (arith, h, l, k.order, long)) in
+            let y = at_end (suc (suc i)) (length bytes - 2) (omega (arith, h, l, k.order, long)) in
+            let z = at_end (suc (suc (suc i))) (length bytes - 1) (omega (arith, h, l, k.order, long)) in
+            let b = at_end (suc (suc (suc (suc i)))) (length bytes) (omega (arith, h, l, k.order, long)) ∙ past in
+            zero_follows encoding _ _ _ _ _ (record { fourth = omega (arith, x, closed.fourth); third = omega (arith, y, closed.third); second = omega (arith, z, closed.second) }) b) (cases_lt i (length bytes - k.from));
+      }
 
 -- ASCII at the start is a text
 pub ascii_is_utf8 : (bytes : List ℕ) (n : ℕ) → ((i : ℕ) → i < n → get_or bytes i 0 < 0x80) → n ≤ length bytes → IsUtf8 (take n bytes)
