@@ -6,7 +6,8 @@
 //!    bytes than a block it asks before whether all are, and reads them by 5 after 3 if one of these
 //!    isn't.
 //! 2. If all are, it looks at the first [`BLOCK`] bytes, and continues with 5 if these are, too.
-//! 3. From the first byte that isn't ASCII it reads up to three characters one by one.
+//! 3. From the first byte that isn't ASCII it reads up to five characters one by one, or up to three of
+//!    fewer bytes than a block.
 //! 4. Then it reads up to eight steps ([`fronts::scan_steps`]), and then blocks.
 //! 5. [`fronts::scan_from`] tests blocks in place, each with the [`BEFORE`] bytes before it
 //!    ([`error_bits`]), and skips blocks of ASCII without that test. The last bytes, fewer than a

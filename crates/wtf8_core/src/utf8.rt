@@ -1,5 +1,5 @@
 //! The first fault of bytes that aren't UTF-8.
-ghost use Rattle.std.specs.Prelude.{◌≡◌, ◌≤◌, ◌↔◌, MatchOption, MatchResult, IfOk, IsTrue, Some, length, take};
+ghost use Rattle.std.specs.Prelude.{◌≡◌, ◌+◌, ◌≤◌, ◌<◌, ◌↔◌, ℕ, MatchOption, MatchResult, IfOk, IsTrue, Some, length, slice_index, take};
 ghost use Rattle.std.specs.Str.{IsUtf8};
 ghost use Rattle.wtf8_core.specs.EncodedPrefix.{KeepsPattern};
 ghost use Rattle.wtf8_core.specs.declared.scan.Encoding.TheVariants.{Utf8};
@@ -12,6 +12,13 @@ use crate::scan::lanes::ascii_of;
 use crate::scan::surrogates::text_from;
 use crate::scan::{BEFORE, BLOCK, Encoding, STEP};
 use memchr::memchr;
+
+/// How many characters are read one by one in long bytes before steps: if faults are a few letters
+/// apart, a loop over them mostly needs nothing more.
+const NEAR: usize = 5;
+
+/// How many are read one by one in short bytes, and after what vectors have read.
+const FEW: usize = 3;
 
 /// The first fault of bytes that aren't UTF-8, `None` for UTF-8 (RFC 3629, section 4).
 ///
@@ -45,7 +52,7 @@ pub fn utf8_fault(bytes: &[u8]) -> Option<(usize, Option<u8>)>
     if ascii == BLOCK {
         return fault_by_blocks(bytes, ascii);
     }
-    match after_three_characters(bytes, ascii) {
+    match after_characters(bytes, ascii, NEAR) {
         Ok(at) => fault_by_steps(bytes, at),
         Err(fault) => Some(fault),
     }
@@ -97,6 +104,10 @@ pub fn surrogate_fault(bytes: &[u8]) -> Option<(usize, Option<u8>)>
     if is_short_ascii(bytes) {
         return None;
     }
+    let ascii = short_ascii_len(bytes);
+    if ascii < bytes.len() && bytes[ascii] == 0xED {
+        return fault_by_characters(bytes, ascii);
+    }
     match memchr(0xED, bytes) {
         Some(lead) => fault_by_characters(bytes, text_from(bytes, lead)),
         None => None,
@@ -120,7 +131,7 @@ fn fault_in_short(bytes: &[u8]) -> Option<(usize, Option<u8>)>
     }
     let near = ascii_of::<STEP>(bytes);
     if near < STEP {
-        return match after_three_characters(bytes, near) {
+        return match after_characters(bytes, near, FEW) {
             Ok(at) => fault_by_blocks(bytes, at),
             Err(fault) => Some(fault),
         };
@@ -152,7 +163,7 @@ fn is_utf8_by_steps(bytes: &[u8]) -> bool
         return false;
     }
     let near = ascii_of::<STEP>(bytes).min(STEP);
-    let Ok(at) = after_three_characters(bytes, near) else {
+    let Ok(at) = after_characters(bytes, near, FEW) else {
         return false;
     };
     match scan_steps(bytes, at) {
@@ -177,6 +188,37 @@ fn is_short_ascii(bytes: &[u8]) -> bool
     bytes.len() < BLOCK && ends_with_ascii(bytes)
 }
 
+/// How many of 16 to 63 bytes are ASCII before the first that isn't; it isn't found of fewer or more.
+#[inline(always)]
+fn short_ascii_len(bytes: &[u8]) -> usize
+    ensures within { result ≤ length bytes.now }
+    ensures text { IsUtf8 (take result bytes.now) }
+{
+    if bytes.len() < STEP || bytes.len() >= BLOCK {
+        return 0;
+    }
+    let last = bytes.len() - STEP;
+    let mut at = 0;
+    while at < last {
+        let count = ascii_of_step(bytes, at);
+        if count < STEP {
+            return at + count;
+        }
+        at += STEP;
+    }
+    last + ascii_of_step(bytes, last)
+}
+
+/// How many of the 16 bytes from an index on are ASCII before the first that isn't.
+#[inline(always)]
+fn ascii_of_step(bytes: &[u8], at: usize) -> usize
+    requires { at + 16 ≤ length bytes.now }
+    ensures within { result ≤ 16 }
+    ensures ascii { (i : ℕ) → i < result → slice_index bytes.now (at + i) < 0x80 }
+{
+    ascii_of::<STEP>(&bytes[at..]).min(STEP)
+}
+
 /// How many of the first 16 bytes, or of the first 64, are ASCII before the first that isn't. In a
 /// loop over faults that are close together, that is mostly one of the first 16.
 #[inline(always)]
@@ -193,10 +235,9 @@ fn ascii_len(bytes: &[u8]) -> usize
     }
 }
 
-/// The index at which up to three characters after a text end, or the fault among them. If faults
-/// are close together, a loop over them mostly needs nothing more.
+/// The index at which up to `most` characters after a text end, or the fault among them.
 #[inline(always)]
-fn after_three_characters(bytes: &[u8], from: usize) -> Result<usize, (usize, Option<u8>)>
+fn after_characters(bytes: &[u8], from: usize, most: usize) -> Result<usize, (usize, Option<u8>)>
     requires within { from ≤ length bytes.now }
     requires text { IsUtf8 (take from bytes.now) }
     ensures within { IfOk result (λ at. at ≤ length bytes.now) }
@@ -204,7 +245,7 @@ fn after_three_characters(bytes: &[u8], from: usize) -> Result<usize, (usize, Op
         (λ fault. IsUtf8Fault bytes.now fault.0 fault.1) }
 {
     let (_, mut rest) = bytes.split_at(from);
-    for _ in 0..3 {
+    for _ in 0..most {
         match char_or_fault_at_front(rest) {
             Some(Ok(len)) => {
                 let (_, behind) = rest.split_at(len);
@@ -253,7 +294,7 @@ fn fault_by_characters(bytes: &[u8], at: usize) -> Option<(usize, Option<u8>)>
     ensures { MatchOption result (IsUtf8 bytes.now)
         (λ fault. IsUtf8Fault bytes.now fault.0 fault.1) }
 {
-    match after_three_characters(bytes, at) {
+    match after_characters(bytes, at, FEW) {
         Ok(at) => fault_in_rest(bytes, at),
         Err(fault) => Some(fault),
     }

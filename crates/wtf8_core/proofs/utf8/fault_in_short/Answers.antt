@@ -2,8 +2,8 @@ use Rattle.wtf8_core.proofs.Common.{arith}
 use Rattle.wtf8_core.proofs.lemmas.scan.Windows.{ascii_is_utf8, text_keeps}
 use Rattle.wtf8_core.proofs.utf8.fault_in_short.Goals as goal
 
-pub after_three_characters-requires-clause-text : goal.after_three_characters-requires-clause-text
-after_three_characters-requires-clause-text c =
+pub after_characters-requires-clause-text : goal.after_characters-requires-clause-text
+after_characters-requires-clause-text c =
     let near = c.if-near-lt-STEP.true in
     ascii_is_utf8 c.args.bytes.now c.ascii_of-near.result (λ i h. c.ascii_of-near.ensures.ascii i h (omega (arith, h, near))) (omega (arith, near))
 

@@ -3,8 +3,8 @@ use Rattle.wtf8_core.proofs.lemmas.scan.Windows.{ascii_is_utf8, front_is_utf8, t
 use Rattle.wtf8_core.specs.declared.scan.Encoding.TheVariants.{Utf8}
 use Rattle.wtf8_core.proofs.utf8.is_utf8_by_steps.Goals as goal
 
-pub after_three_characters-requires-clause-text : goal.after_three_characters-requires-clause-text
-after_three_characters-requires-clause-text c =
+pub after_characters-requires-clause-text : goal.after_characters-requires-clause-text
+after_characters-requires-clause-text c =
     ascii_is_utf8 c.args.bytes.now _ (λ i h. c.ascii_of.ensures.ascii i (omega (arith, h, c.min-near.ensures)) (omega (arith, h, c.min-near.ensures))) (omega (arith, c.min-near.ensures, c.if-bytes.false))
 
 pub scan_steps-requires-clause-kept : goal.scan_steps-requires-clause-kept

@@ -1,7 +1,7 @@
 use Rattle.wtf8_core.proofs.Common.{List, ℕ, ◌+◌, ◌-◌, ◌≡◌, ◌≤◌, Some, length, take, drop, length-drop, drop-drop, sym, ap, ◌∙◌, subst, arith, IsUtf8, IsUtf8Fault, IsAtFront, WholeCharacter}
 use Rattle.wtf8_core.proofs.lemmas.characters.AtPlaces.{character_fits, text_of_character}
 use Rattle.wtf8_core.proofs.lemmas.texts.LossyTexts.{front_behind, fault_in_rest}
-use Rattle.wtf8_core.proofs.utf8.after_three_characters.Goals as goal
+use Rattle.wtf8_core.proofs.utf8.after_characters.Goals as goal
 
 -- the index that the length of the rest gives
 place : (bytes rest : List ℕ) (at : ℕ) → at ≤ length bytes → rest ≡ drop at bytes → length bytes - length rest ≡ at
