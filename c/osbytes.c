@@ -77,6 +77,9 @@ uint32_t osb_core_symbol(uint32_t platform, const char *at, size_t len, size_t f
                          struct core_step *step);
 #pragma GCC visibility pop
 
+/* A function that is inlined, so that the export it is given is called directly. */
+#define INLINED static inline __attribute__((always_inline))
+
 /* Where the slices of no items are. */
 static const uint16_t nothing[1];
 static uint16_t no_room[1];
@@ -199,7 +202,7 @@ osb_status osb_from_wide(const uint16_t *units, size_t len, char *out, size_t ro
 typedef uint32_t core_text(uint32_t platform, const char *at, size_t len, char *out, size_t room,
                            size_t *count, osb_fault *fault);
 
-static osb_status write_text(core_text *call, osb_platform platform, const char *at, size_t len,
+INLINED osb_status write_text(core_text *call, osb_platform platform, const char *at, size_t len,
                              char *out, size_t room, size_t *count, osb_fault *fault) {
     size_t own = 0;
     osb_fault own_fault = {0, 0, 0, 0};
@@ -239,7 +242,7 @@ osb_status osb_escape_line(osb_platform platform, const char *at, size_t len, ch
 typedef uint32_t core_string(uint32_t platform, const char *escape, size_t len, char *out,
                              size_t room, size_t *count, size_t *index);
 
-static osb_status write_string(core_string *call, osb_platform platform, const char *escape,
+INLINED osb_status write_string(core_string *call, osb_platform platform, const char *escape,
                                size_t len, char *out, size_t room, size_t *count, size_t *index) {
     size_t own = 0, own_index = 0;
     if (count == NULL || is_bad(escape, len) || is_bad(out, room) ||
