@@ -13,8 +13,8 @@ use os_quote::{write_escape, write_escape_line};
 use platform_str::{OsStr, Platform};
 
 /// Writes the escape of a string of a platform into `out`, as far as there is room, and counts its
-/// bytes: at most six for each byte of the string. If the bytes are no string, the fault is their first
-/// one.
+/// bytes: at most six for each byte of the string. If the bytes are no string, the fault is their
+/// first one.
 #[unsafe(no_mangle)]
 pub extern "C" fn osb_core_escape(
     platform: u32,
@@ -82,10 +82,10 @@ pub extern "C" fn osb_core_escape_line(
 
 /// The escape of a string.
 fn escape<E: Platform>(string: OsStr<'_, E>, out: &mut [u8], count: &mut usize) -> u32
-    ensures done { result ≡ DONE → Writes (IsEscape E.units (bytes string.entry)) out.old out.new count.new
-        × (count.new ≤ length out.old) }
-    ensures room { result ≡ NO_ROOM → Writes (IsEscape E.units (bytes string.entry)) out.old out.new count.new
-        × (length out.old < count.new) }
+    ensures done { result ≡ DONE → Writes (IsEscape E.units (bytes string.entry)) out.old
+        out.new count.new × (count.new ≤ length out.old) }
+    ensures room { result ≡ NO_ROOM → Writes (IsEscape E.units (bytes string.entry)) out.old
+        out.new count.new × (length out.old < count.new) }
     ensures long { result ≡ TOO_LONG → usize.MAX < 6 * length (bytes string.entry) }
     ensures answers { (result ≡ DONE) ⊎ ((result ≡ NO_ROOM) ⊎ (result ≡ TOO_LONG)) }
 {
@@ -99,10 +99,10 @@ fn escape<E: Platform>(string: OsStr<'_, E>, out: &mut [u8], count: &mut usize) 
 
 /// The escape on one line.
 fn escape_line<E: Platform>(string: OsStr<'_, E>, out: &mut [u8], count: &mut usize) -> u32
-    ensures done { result ≡ DONE → Writes (IsLineEscape E.units (bytes string.entry)) out.old out.new count.new
-        × (count.new ≤ length out.old) }
-    ensures room { result ≡ NO_ROOM → Writes (IsLineEscape E.units (bytes string.entry)) out.old out.new
-        count.new × (length out.old < count.new) }
+    ensures done { result ≡ DONE → Writes (IsLineEscape E.units (bytes string.entry)) out.old
+        out.new count.new × (count.new ≤ length out.old) }
+    ensures room { result ≡ NO_ROOM → Writes (IsLineEscape E.units (bytes string.entry)) out.old
+        out.new count.new × (length out.old < count.new) }
     ensures long { result ≡ TOO_LONG → usize.MAX < 6 * length (bytes string.entry) }
     ensures answers { (result ≡ DONE) ⊎ ((result ≡ NO_ROOM) ⊎ (result ≡ TOO_LONG)) }
 {

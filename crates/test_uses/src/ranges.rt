@@ -12,7 +12,8 @@ fn part<'a, E: Platform + 'a, I: SliceIndex + Drop>(
     range: I,
 ) -> Option<OsStr<'a, E>>
     ensures { MatchOption result
-        (¬ (FitsIn (bytes string.entry) (I.first_place range) (I.end_place range (length (bytes string.entry)))))
+        (¬ (FitsIn (bytes string.entry) (I.first_place range)
+        (I.end_place range (length (bytes string.entry)))))
         (λ part. bytes part ≡ drop (I.first_place range)
         (take (I.end_place range (length (bytes string.entry))) (bytes string.entry))) }
 {

@@ -12,7 +12,8 @@ pub fn raw_part<'a, E: Platform + 'a, I: SliceIndex + Drop>(
     range: I,
 ) -> Option<RawOsStr<'a, E>>
     ensures { MatchOption result
-        (¬ (FitsIn (raw_bytes string.entry) (I.first_place range) (I.end_place range (length (raw_bytes string.entry)))))
+        (¬ (FitsIn (raw_bytes string.entry) (I.first_place range)
+        (I.end_place range (length (raw_bytes string.entry)))))
         (λ part. raw_bytes part ≡ drop (I.first_place range)
         (take (I.end_place range (length (raw_bytes string.entry))) (raw_bytes string.entry))) }
 {
