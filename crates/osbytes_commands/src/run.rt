@@ -37,7 +37,6 @@ use std::io::{Read, Write};
 /// assert!(rt; run(alloc, command, &mut reader, &mut writer) == Ok(()));
 /// assert_eq!(rt; taken.as_slice(), b"d800\ndc00\n".as_slice());
 /// ```
-#[tactic(auto, using(crate::proofs::lemmas::OneAnswer::one_answer))]
 pub fn run<A: Allocator, R: Read, W: Write>(
     alloc: A,
     command: Command<'_>,

@@ -185,5 +185,3 @@ pub not_refused : {T : Type 0} (command : Command) (input left : Option (List �
     → Consumes input left bytes → IsAtEnd left → IsOutput command bytes output → AnswersRefusal command input answer
 not_refused command input left bytes output answer read end given =
     Consumes-whole input left bytes _ read end (λ fault refusal. absurd (output_or_refusal command bytes output fault given refusal))
-
-pub ruleset one_answer = (refused, not_refused)
