@@ -149,29 +149,13 @@ module _ (encoding : Encoding) (bytes : List ℕ) where
       let f = front_behind_ascii (suc n) (omega arith) h (subst (λ m. get_or bytes m 0 < 0x80) (sym before) (low n (omega (arith, short, h)) (omega (arith, h)))) k in
       subst (IsEncodedPrefix encoding bytes) z (more_ascii (suc n) (length bytes - suc n) (omega (arith, h)) (λ i l. low (suc n + i) (omega (arith, short, h)) (omega (arith, l, h))) f)
 
-  -- as many more as a window keeps
+  -- as many more as a window keeps, where the bytes are known to keep to the pattern up to an index within it
   module _ (at : ℕ) (window : List ℕ) (n : ℕ) (same : (i : ℕ) → i < 4 + n → get_or window i 0 ≡ get_or (behind_zeros bytes) (at + i) 0) where
     in_window : (from i j : ℕ) → at + j ≡ from + i → j < 4 + n → get_or window j 0 ≡ get_or (drop from (behind_zeros bytes)) i 0
     in_window from i j e h = same j h ∙ ap (λ m. get_or (behind_zeros bytes) m 0) e ∙ sym (get_or-drop from (behind_zeros bytes) i 0)
 
-    pub more : AllMayStand encoding n window → KeepsPattern encoding bytes at → KeepsPattern encoding bytes (at + n)
-    more pattern k = record {
-      from = k.from;
-      front = k.front;
-      order = omega (arith, k.order);
-      pattern = λ i h. ⊎_elim (k.pattern i) (λ l. let j = i - (at - k.from) in
-          same_five (MayStand encoding)
-          (in_window k.from i j (omega (arith, l, k.order)) (omega (arith, h, l, k.order)))
-          (in_window k.from (suc i) (suc j) (omega (arith, l, k.order)) (omega (arith, h, l, k.order)))
-          (in_window k.from (suc (suc i)) (suc (suc j)) (omega (arith, l, k.order)) (omega (arith, h, l, k.order)))
-          (in_window k.from (suc (suc (suc i))) (suc (suc (suc j))) (omega (arith, l, k.order)) (omega (arith, h, l, k.order)))
-          (in_window k.from (suc (suc (suc (suc i)))) (suc (suc (suc (suc j)))) (omega (arith, l, k.order)) (omega (arith, h, l, k.order)))
-          (pattern j (omega (arith, h, l, k.order)))) (cases_lt i (at - k.from));
-    }
-
-    -- the same where the bytes are known to keep to it up to an index within the window
-    pub more_over : (to : ℕ) → at ≤ to → to ≤ at + n → AllMayStand encoding n window → KeepsPattern encoding bytes to → KeepsPattern encoding bytes (at + n)
-    more_over to low high pattern k = record {
+    pub more : (to : ℕ) → at ≤ to → to ≤ at + n → AllMayStand encoding n window → KeepsPattern encoding bytes to → KeepsPattern encoding bytes (at + n)
+    more to low high pattern k = record {
       from = k.from;
       front = k.front;
       order = omega (arith, k.order, high);
@@ -188,14 +172,14 @@ module _ (encoding : Encoding) (bytes : List ℕ) where
   -- a window that is part of the bytes
   pub more_inside : (at : ℕ) (window : List ℕ) (n : ℕ) → 4 ≤ at → window ≡ drop (at - 4) bytes → AllMayStand encoding n window → KeepsPattern encoding bytes at → KeepsPattern encoding bytes (at + n)
   more_inside at window n l is = more at window n (λ i _. let place : suc (suc (suc (suc ((at - 4) + i)))) ≡ at + i = omega (arith, l) in
-      ap (λ x. get_or x i 0) is ∙ get_or-drop (at - 4) bytes i 0 ∙ ap (λ m. get_or (behind_zeros bytes) m 0) place)
+      ap (λ x. get_or x i 0) is ∙ get_or-drop (at - 4) bytes i 0 ∙ ap (λ m. get_or (behind_zeros bytes) m 0) place) at (omega arith) (omega arith)
 
   -- a window that is their end
   pub more_at_end : (to : ℕ) (window : List ℕ) (n : ℕ) → n + 4 ≤ length bytes → window ≡ drop (length bytes - n - 4) bytes → to ≤ length bytes → length bytes - n ≤ to → AllMayStand encoding n window → KeepsPattern encoding bytes to → KeepsPattern encoding bytes (length bytes)
   more_at_end to window n long is high low pattern k =
       let at = length bytes - n in
       let end : at + n ≡ length bytes = omega (arith, long) in
-      subst (KeepsPattern encoding bytes) end (more_over at window n (λ i _. let place : suc (suc (suc (suc ((length bytes - n - 4) + i)))) ≡ at + i = omega (arith, long) in
+      subst (KeepsPattern encoding bytes) end (more at window n (λ i _. let place : suc (suc (suc (suc ((length bytes - n - 4) + i)))) ≡ at + i = omega (arith, long) in
       ap (λ x. get_or x i 0) is ∙ get_or-drop (length bytes - n - 4) bytes i 0 ∙ ap (λ m. get_or (behind_zeros bytes) m 0) place) to low (omega (arith, end, high)) pattern k)
 
   -- bytes spell code points up to their end, if they keep to the pattern and no form continues there

@@ -7,4 +7,4 @@ returns-clause-kept c k =
     let e = c.kept_len.ensures in
     more c.args.encoding c.args.bytes.now c.args.at _ c.kept_len.result
     (λ i h. copied c.args.bytes.now c.args.at c.min-before.result c.min-behind.result _ c.requires c.min-before.ensures c.min-behind.ensures c.copy_from_slice.ensures.after i (omega (arith, h, e.within)))
-    e.pattern k
+    c.args.at (omega arith) (omega arith) e.pattern k
