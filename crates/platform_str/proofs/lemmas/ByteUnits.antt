@@ -52,12 +52,6 @@ pub block_marked : (n : ℕ) (w lanes marks : List ℕ) → length lanes ≡ n �
     → ((i : ℕ) → i < n → get_or marks i 0 ≡ cond (adds_unit (get_or w i 0) (get_or w (suc i) 0)) 1 0)
     → units_after_first w ≡ marked lanes marks ++ units_after_first (drop n w)
 block_marked zero w [] [] p q h u m = refl
-block_marked zero w (x ∷ xs) ms p q h u m = absurd (omega (arith, p))
-block_marked zero w [] (m ∷ ms) p q h u k = absurd (omega (arith, q))
-block_marked (suc n) w [] ms p q h u m = absurd (omega (arith, p))
-block_marked (suc n) w (x ∷ xs) [] p q h u m = absurd (omega (arith, q))
-block_marked (suc n) [] (x ∷ xs) (y ∷ ms) p q h u m = absurd (omega (arith, h))
-block_marked (suc n) (a ∷ []) (x ∷ xs) (y ∷ ms) p q h u m = absurd (omega (arith, h))
 block_marked (suc n) (a ∷ b ∷ bs) (x ∷ xs) (y ∷ ms) p q h u m =
     let z : 0 < suc n = omega arith in
     let i = block_marked n (b ∷ bs) xs ms (omega (arith, p)) (omega (arith, q)) (omega (arith, h)) (λ i l. u (suc i) (omega (arith, l))) (λ i l. m (suc i) (omega (arith, l))) in
@@ -65,6 +59,7 @@ block_marked (suc n) (a ∷ b ∷ bs) (x ∷ xs) (y ∷ ms) p q h u m =
     ∙ sym (append_assoc (added a b (get_or bs 0 0) (get_or bs 1 0)) (marked xs ms) (units_after_first (drop n (b ∷ bs))))
     ∙ ap (λ r. (r ++ marked xs ms) ++ units_after_first (drop n (b ∷ bs)))
     (ap (λ v. cond (adds_unit a b) (v ∷ []) []) (sym (u 0 z)) ∙ sym (mark_chooses (adds_unit a b) x y (m 0 z)))
+block_marked n w lanes marks p q h u m = absurd (omega (arith, p, q, h))
 
 -- ASCII adds itself
 ascii_adds : (a b s t : ℕ) → b < 0x80 → added a b s t ≡ b ∷ []
@@ -72,11 +67,10 @@ ascii_adds a b s t h = grind (arith, nat_tests, h)
 
 pub block_ascii : (n : ℕ) (w : List ℕ) → n < length w → AllByRecursion (λ b. b < 0x80) (take n (drop 1 w)) → units_after_first w ≡ take n (drop 1 w) ++ units_after_first (drop n w)
 block_ascii zero w h a = refl
-block_ascii (suc n) [] h a = absurd (omega (arith, h))
-block_ascii (suc n) (p ∷ []) h a = absurd (omega (arith, h))
 block_ascii (suc n) (p ∷ b ∷ bs) h a =
     ap (λ r. r ++ units_after_first (b ∷ bs)) (ascii_adds p b (get_or bs 0 0) (get_or bs 1 0) a.0)
     ∙ ap (λ r. b ∷ r) (block_ascii n (b ∷ bs) (omega (arith, h)) a.1)
+block_ascii n w h a = absurd (omega (arith, h))
 
 -- the same by what the lanes and the marks of a block are said to be
 pub some_chosen : (n : ℕ) (w lanes marks : List ℕ) → length lanes ≡ 16 → length marks ≡ 16 → n ≤ 16 → n < length w
@@ -106,9 +100,8 @@ block_chosen w lanes marks p q h u m =
 
 -- one byte adds nothing
 pub none_after : (w : List ℕ) → length w ≤ 1 → units_after_first w ≡ []
-none_after [] h = refl
-none_after (a ∷ []) h = refl
 none_after (a ∷ b ∷ bs) h = absurd (omega (arith, h))
+none_after w h = refl
 
 -- a continuation adds nothing, but for the one after a lead of four
 adds_nothing : (a k s t : ℕ) → a < 0xF0 → 0x80 ≤ k → k < 0xC0 → added a k s t ≡ []

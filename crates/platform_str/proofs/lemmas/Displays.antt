@@ -4,7 +4,6 @@ use Rattle.std.specs.Char.{encode_utf8}
 use Rattle.std.specs.List.{repeat}
 use Rattle.std.specs.Fmt.{is_char_start, char_count}
 use Rattle.std.specs.declared.fmt.Alignment.{Alignment}
-use Rattle.wtf8_core.specs.Lossy.{replacement}
 use Rattle.platform_str.specs.Lossy.{IsFirstText}
 use Rattle.platform_str.proofs.lemmas.LossyLoops.{encode_fffd}
 use Rattle.platform_str.specs.Display.{fill_before, filled}

@@ -18,16 +18,13 @@ pub zeros_behind : (n : ℕ) (zs : List ℕ) → ((i : ℕ) → get_or zs i 0 �
 zeros_behind n zs z i = get_or-drop n zs i 0 ∙ z _
 
 pub no_byte : (n i : ℕ) → ◌≡◌ {A = ℕ} (get_or (replicate n 0) i 0) 0
-no_byte zero i = refl
-no_byte (suc n) zero = refl
 no_byte (suc n) (suc i) = no_byte n i
+no_byte n i = refl
 
 -- marks are at most 1, also those of a prefix
 pub few_taken : (n : ℕ) (xs : List ℕ) (i : ℕ) → get_or (take n xs) i 0 ≤ get_or xs i 0
-few_taken zero xs i = omega arith
-few_taken (suc n) [] i = omega arith
-few_taken (suc n) (x ∷ xs) zero = omega arith
 few_taken (suc n) (x ∷ xs) (suc i) = few_taken n xs i
+few_taken n xs i = omega arith
 
 pub marked_few : {m : ℕ} (b : Bool) → m ≡ cond b 1 0 → m ≤ 1
 marked_few b e = subst (λ k. k ≤ 1) (sym e) (cond_both b 1 0 (λ k. k ≤ 1) (λ _. omega arith) (λ _. omega arith))

@@ -1,5 +1,5 @@
 -- What a test of all lanes says of each lane.
-use Rattle.std.proofs.Common.{◌≡◌, ℕ, ◌+◌, ◌*◌, ◌/◌, ◌-◌, ◌%◌, ◌^◌, ◌≤◌, ◌<◌, true, cond, eqb, leb, List, [], ◌∷◌, map, length, replicate, take, ◌++◌, refl, sym, ap, ◌∙◌, arith, eqb-true, leb-false}
+use Rattle.std.proofs.Common.{◌≡◌, ℕ, ◌+◌, ◌*◌, ◌/◌, ◌-◌, ◌%◌, ◌^◌, ◌≤◌, ◌<◌, true, cond, eqb, leb, List, ◌∷◌, map, length, replicate, take, ◌++◌, refl, sym, ap, ◌∙◌, arith, eqb-true, leb-false}
 use Rattle.platform_str.proofs.Common.{take-append-add, length-map, length-take-le, take-take, All, count_by, zip2, mask_l, top, put_chunk}
 use Rattle.std.proofs.lemmas.Simd.{tops_compared, zip2_splat, zip2_splat_left, mask_l-mod, bitmask_splat, ones-mask_l, length-zip2, map-map, take_more_put_chunk}
 use Rattle.std.specs.Int.RustNames.{count_ones}
@@ -26,9 +26,8 @@ six_and_six u v = ((u / 2 ^ 10) * 2 ^ 6 % 2 ^ 16 + v / 2 ^ 10) % 2 ^ 16
 
 -- lane by lane from two lists
 zip2_maps : {X Y Z W V : Type 0} (f : X → Y → Z) (g : W → X) (h : V → Y) (us : List W) (vs : List V) → zip2 f (map g us) (map h vs) ≡ zip2 (λ a b. f (g a) (h b)) us vs
-zip2_maps f g h [] vs = refl
-zip2_maps f g h (u ∷ us) [] = refl
 zip2_maps f g h (u ∷ us) (v ∷ vs) = ap (λ l. f (g u) (h v) ∷ l) (zip2_maps f g h us vs)
+zip2_maps f g h us vs = refl
 
 -- how many lanes equal y, for the bits of units and of the units after them
 pub count_is_splat : (n y : ℕ) (us vs : List ℕ) → length us ≡ n → length vs ≡ n → n ≤ 64

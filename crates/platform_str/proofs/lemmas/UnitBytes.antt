@@ -87,34 +87,27 @@ first_gives (u ∷ us) h = refl
 
 -- nothing comes after one unit
 pub none_after : (w : List ℕ) → length w ≤ 1 → bytes_after_first w ≡ []
-none_after [] h = refl
-none_after (a ∷ []) h = refl
 none_after (a ∷ b ∷ bs) h = absurd (omega (arith, h))
+none_after w h = refl
 
 -- there are no more units than bytes
 pub some_after : (w : List ℕ) → length w ≤ length (bytes_after_first w) + 1
-some_after [] = omega arith
-some_after (a ∷ []) = omega arith
 some_after (a ∷ b ∷ bs) = omega (arith, gives_some a b (get_or bs 0 0), length-append (given a b (get_or bs 0 0)) (bytes_after_first (b ∷ bs)), some_after (b ∷ bs))
+some_after w = omega arith
 
 -- what a block of ASCII gives
 pub block_ascii : (n : ℕ) (w : List ℕ) → n < length w → AllByRecursion (λ u. u < 0x80) (take n (drop 1 w)) → bytes_after_first w ≡ take n (drop 1 w) ++ bytes_after_first (drop n w)
 block_ascii zero w h a = refl
-block_ascii (suc n) [] h a = absurd (omega (arith, h))
-block_ascii (suc n) (p ∷ []) h a = absurd (omega (arith, h))
 block_ascii (suc n) (p ∷ b ∷ bs) h a =
     ap (λ r. r ++ bytes_after_first (b ∷ bs)) (ascii_gives p b (get_or bs 0 0) a.0)
     ∙ ap (λ r. b ∷ r) (block_ascii n (b ∷ bs) (omega (arith, h)) a.1)
+block_ascii n w h a = absurd (omega (arith, h))
 
 -- and a block by its words
 pub block_words : (n : ℕ) (w words : List ℕ) → length words ≡ n → n < length w
     → ((i : ℕ) → i < n → word_bytes (get_or words i 0) ≡ given (get_or w i 0) (get_or w (1 + i) 0) (get_or w (2 + i) 0))
     → bytes_after_first w ≡ flat_map word_bytes words ++ bytes_after_first (drop n w)
 block_words zero w [] p h g = refl
-block_words zero w (x ∷ xs) p h g = absurd (omega (arith, p))
-block_words (suc n) w [] p h g = absurd (omega (arith, p))
-block_words (suc n) [] (x ∷ xs) p h g = absurd (omega (arith, h))
-block_words (suc n) (a ∷ []) (x ∷ xs) p h g = absurd (omega (arith, h))
 block_words (suc n) (a ∷ b ∷ bs) (x ∷ xs) p h g =
     let rest = bytes_after_first (drop n (b ∷ bs)) in
     let shifted : (i : ℕ) → i < n → word_bytes (get_or xs i 0) ≡ given (get_or (b ∷ bs) i 0) (get_or (b ∷ bs) (1 + i) 0) (get_or (b ∷ bs) (2 + i) 0) =
@@ -125,3 +118,4 @@ block_words (suc n) (a ∷ b ∷ bs) (x ∷ xs) p h g =
     ap (λ r. given a b (get_or bs 0 0) ++ r) more
     ∙ sym (append_assoc (given a b (get_or bs 0 0)) (flat_map word_bytes xs) rest)
     ∙ ap (λ r. (r ++ flat_map word_bytes xs) ++ rest) (sym (g 0 (omega arith)))
+block_words n w words p h g = absurd (omega (arith, p, h))

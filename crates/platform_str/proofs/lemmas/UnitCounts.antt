@@ -59,11 +59,10 @@ lane_is_pair u v h k = grind (arith, nat_tests)
 
 pub pairs_front : (n : ℕ) (us : List ℕ) → n < length us → AllByRecursion IsUnit us → count_by (λ x. eqb x 3511) (zip2 six_and_six (take n us) (take n (drop 1 us))) + pairs (drop n us) ≡ pairs us
 pairs_front zero us h a = omega arith
-pairs_front (suc n) [] h a = absurd (omega arith)
-pairs_front (suc n) (u ∷ []) h a = absurd (omega arith)
 pairs_front (suc n) (u ∷ v ∷ us) h a =
     let one : cond (eqb (six_and_six u v) 3511) 1 0 ≡ begins_pair u (v ∷ us) = ap (λ t. cond t 1 0) (lane_is_pair u v a.0 a.1.0) in
     omega (arith, one, count_first (λ x. eqb x 3511) (six_and_six u v) (zip2 six_and_six (take n (v ∷ us)) (take n us)), pairs_front n (v ∷ us) (omega arith) a.1)
+pairs_front n us h a = absurd (omega arith)
 
 -- at most three bytes for a unit, and at most as many pairs as units
 pub counted_few : (us : List ℕ) → counted us ≤ 3 * length us
@@ -92,9 +91,8 @@ begins_none_below u [] h = refl
 begins_none_below u (v ∷ us) h = grind (arith, nat_tests)
 
 pub pairs_below : (n : ℕ) (us : List ℕ) → count_by (leb 0x800) (take n us) ≡ 0 → pairs (drop n us) ≡ pairs us
-pairs_below zero us e = refl
-pairs_below (suc n) [] e = refl
 pairs_below (suc n) (u ∷ us) e =
     let first = count_first (leb 0x800) u (take n us) in
     let low : u < 0x800 = grind (arith, nat_tests, first, e) in
     omega (arith, begins_none_below u us low, pairs_below n us (omega (arith, first, e)))
+pairs_below n us e = refl

@@ -37,19 +37,13 @@ AreNone us = us ≡ []
 -- the first fault is unique
 one_fault : (b : List ℕ) (f g : EncodingError) → IsTextFault b f → IsTextFault b g → f ≡ g
 one_fault b (Utf8 n l) (Utf8 m k) p q = let e = one_utf8_fault b n m l k p q in ap (λ x. Utf8 x l) e.0 ∙ ap (λ x. Utf8 m x) e.1
-one_fault b (Utf8 n l) (Byte x) p q = absurd q
-one_fault b (Utf8 n l) (CodePoint x) p q = absurd q
-one_fault b (Utf8 n l) End p q = absurd q
-one_fault b (Byte x) g p q = absurd p
-one_fault b (CodePoint x) g p q = absurd p
-one_fault b End g p q = absurd p
+one_fault b (Utf8 n l) g p q = absurd q
+one_fault b f g p q = absurd p
 
 -- bytes with a fault aren't a text
 faulty : (b : List ℕ) (f : EncodingError) → IsTextFault b f → IsUtf8 b → ⊥
 faulty b (Utf8 n l) p u = no_text b n p.valid u
-faulty b (Byte x) p u = p
-faulty b (CodePoint x) p u = p
-faulty b End p u = p
+faulty b f p u = p
 
 -- a text that isn't empty starts with a whole character
 pub never_bare : (b : List ℕ) → IsUtf8 b → 0 < length b → StartsWithNoCharacter b → ⊥

@@ -1,4 +1,4 @@
-use Rattle.platform_str.proofs.Common.{◌≡◌, ◌+◌, ◌*◌, ◌≤◌, ℕ, List, length, IsTruncated, IsLeft}
+use Rattle.platform_str.proofs.Common.{◌+◌, ◌*◌, ◌≤◌, ℕ, List, length, IsTruncated, IsLeft}
 use Rattle.platform_str.proofs.lossy.write_text.Given as goal
 
 -- what is written so far, and no more than three bytes for each that was read

@@ -26,11 +26,8 @@ four_or_more c s h = grind (arith, nat_tests, s, h)
 
 -- the first four bytes of a list
 pub four_first : (r : List ℕ) → 4 ≤ length r → r ≡ get_or r 0 0 ∷ get_or r 1 0 ∷ get_or r 2 0 ∷ get_or r 3 0 ∷ drop 4 r
-four_first [] h = absurd (omega (arith, h))
-four_first (b ∷ []) h = absurd (omega (arith, h))
-four_first (b ∷ x ∷ []) h = absurd (omega (arith, h))
-four_first (b ∷ x ∷ y ∷ []) h = absurd (omega (arith, h))
 four_first (b ∷ x ∷ y ∷ z ∷ t) h = refl
+four_first r h = absurd (omega (arith, h))
 
 -- how many continuations a lead takes
 two_filled : (b x : ℕ) → 0xC2 ≤ b → b < 0xE0 → b ∷ x ∷ [] ≡ Filled b x 0x80 0x80

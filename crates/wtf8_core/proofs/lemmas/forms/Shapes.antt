@@ -62,17 +62,13 @@ long_value c lead behind e l h = (grind (arith, nat_tests, e), grind (arith, nat
 pub shape_is_form : (b : ℕ) (ks : List ℕ) → IsWholeSequence b ks → least_value (needed_continuations b) ≤ shape_value b ks → encode (shape_value b ks) ≡ b ∷ ks
 unfolding encode
 shape_is_form b [] s m = grind (arith, nat_tests, s.whole)
-shape_is_form b (x ∷ []) s m = grind (arith, nat_tests, s.whole, s.begun.lead_is, s.begun.continued)
-shape_is_form b (x ∷ y ∷ []) s m = grind (arith, nat_tests, s.whole, s.begun.lead_is, s.begun.continued)
-shape_is_form b (x ∷ y ∷ z ∷ []) s m = grind (arith, nat_tests, s.whole, s.begun.lead_is, s.begun.continued)
 shape_is_form b (x ∷ y ∷ z ∷ w ∷ ks) s m = grind (arith, nat_tests, s.whole)
+shape_is_form b ks s m = grind (arith, nat_tests, s.whole, s.begun.lead_is, s.begun.continued)
 
 -- no form is a shape of less than the least value, or past the last code point
 pub no_form : (b : ℕ) (ks : List ℕ) → IsWholeSequence b ks → (shape_value b ks < least_value (needed_continuations b)) ⊎ (0x10_FFFF < shape_value b ks)
     → (c : ℕ) → IsCodePoint c → encode c ≢ b ∷ ks
 unfolding encode
 no_form b [] s w c p e = grind (arith, nat_tests, s.whole)
-no_form b (x ∷ []) s w c p e = grind (arith, nat_tests, s.whole, s.begun.lead_is, s.begun.continued, w, p, e)
-no_form b (x ∷ y ∷ []) s w c p e = grind (arith, nat_tests, s.whole, s.begun.lead_is, s.begun.continued, w, p, e)
-no_form b (x ∷ y ∷ z ∷ []) s w c p e = grind (arith, nat_tests, s.whole, s.begun.lead_is, s.begun.continued, w, p, e)
 no_form b (x ∷ y ∷ z ∷ u ∷ ks) s w c p e = grind (arith, nat_tests, s.whole)
+no_form b ks s w c p e = grind (arith, nat_tests, s.whole, s.begun.lead_is, s.begun.continued, w, p, e)

@@ -14,16 +14,14 @@ oks cs = map Ok cs
 -- items that are all Ok have no fault
 pub no_err : (cs ds : List ℕ) (f : EncodingError) (later : List Item) → oks cs ≡ oks ds ++ Err f ∷ later → ⊥
 no_err [] [] f l e = cc
-no_err [] (d ∷ ds) f l e = cc
-no_err (c ∷ cs) [] f l e = cc
 no_err (c ∷ cs) (d ∷ ds) f l e = no_err cs ds f l (cc)
+no_err cs ds f l e = cc
 
 -- a list determines the items before its first fault, and that fault
 pub same_faulty : (cs ds : List ℕ) (f g : EncodingError) (l m : List Item) → oks cs ++ Err f ∷ l ≡ oks ds ++ Err g ∷ m → (cs ≡ ds) × (f ≡ g) × (l ≡ m)
 same_faulty [] [] f g l m e = (refl, cc, cc)
-same_faulty [] (d ∷ ds) f g l m e = cc
-same_faulty (c ∷ cs) [] f g l m e = cc
 same_faulty (c ∷ cs) (d ∷ ds) f g l m e = let u = same_faulty cs ds f g l m (cc) in (cc (u.0), u.1, u.2)
+same_faulty cs ds f g l m e = cc
 
 -- the values of items that are all Ok, which the items determine
 pub ok_values_of_oks : (cs : List ℕ) → ok_values (map Ok cs) ≡ cs

@@ -32,9 +32,8 @@ items-err h b f bs e = ap (λ r. then_items r (λ h. items_behind (behind_item b
 
 pub items_behind-drop : (n : ℕ) (h : Bool) (bs : List ℕ) → items_behind n h bs ≡ items_behind 0 h (drop n bs)
 unfolding items_behind
-items_behind-drop zero h bs = refl
-items_behind-drop (suc n) h [] = refl
 items_behind-drop (suc n) h (b ∷ bs) = items_behind-drop n h bs
+items_behind-drop n h bs = refl
 
 -- what follows a fault
 pub items-step-err : (h : Bool) (b : ℕ) (f : EncodingError) (bs rest : List ℕ) → first_item h b bs ≡ Err f → rest ≡ drop (behind_item b bs) bs

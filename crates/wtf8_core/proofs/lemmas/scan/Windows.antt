@@ -217,16 +217,12 @@ ascii_at bytes at n i low h l = let z : at + (i - at) ≡ i = omega (arith, h) i
 
 -- a window that was copied, with zeros around it
 pub before_bytes : (bytes : List ℕ) (m : ℕ) → m < 4 → get_or (behind_zeros bytes) m 0 ≡ 0
-before_bytes bytes zero h = refl
-before_bytes bytes (suc zero) h = refl
-before_bytes bytes (suc (suc zero)) h = refl
-before_bytes bytes (suc (suc (suc zero))) h = refl
 before_bytes bytes (suc (suc (suc (suc m)))) h = absurd (omega (arith, h))
+before_bytes bytes m h = refl
 
 zeros : (n i : ℕ) → ◌≡◌ {A = ℕ} (get_or (replicate n 0) i 0) 0
-zeros zero i = refl
-zeros (suc n) zero = refl
 zeros (suc n) (suc i) = zeros n i
+zeros n i = refl
 
 -- the window that is copied into 68 zeros
 copied_into : (zs : List ℕ) → length zs ≡ 68 → ((k : ℕ) → get_or zs k 0 ≡ 0) → (bytes : List ℕ) (at b n : ℕ) (part : List ℕ) → at ≤ length bytes → b ≡ min at 4 → n ≡ min (length bytes - at) 64

@@ -1,5 +1,5 @@
 -- One more byte in the table is one more byte of the reader.
-use Rattle.wtf8_core.proofs.Common.{◌≡◌, ◌≢◌, ◌⊎◌, refl, HasFirstFault, inl, inr, ⊎_elim, ℕ, zero, suc, ◌+◌, ◌*◌, ◌-◌, ◌%◌, ◌<◌, ◌≤◌, Bool, true, false, List, [], ◌∷◌, ◌++◌, map, Result, Ok, Err, sym, ap, ◌∙◌, subst, arith, nat_tests, append_assoc, append-nil, map-append, cond_both, cond-true, cond-false, All, All-append, All-from_recursion, IsByte, IsContinuation, needed_continuations, is_high, lead_bits, checked_value, first_split, split_within, items_from, items_after, AreItems, class_at, next_at, Gives, Row, needed, rows, SomeRow, IsOpen, Stands, IsFaulty, kept_bits, joined_bits, fault_at, is_continuation, cond, EncodingError, Byte, CodePoint, End, State, Between, BehindHigh, BadFourth, Refused, BadThird}
+use Rattle.wtf8_core.proofs.Common.{◌≡◌, ◌≢◌, ◌⊎◌, refl, HasFirstFault, inl, inr, ⊎_elim, ℕ, suc, ◌+◌, ◌*◌, ◌-◌, ◌%◌, ◌<◌, ◌≤◌, Bool, true, false, List, [], ◌∷◌, ◌++◌, map, Result, Ok, Err, sym, ap, ◌∙◌, subst, arith, nat_tests, append_assoc, append-nil, map-append, cond_both, cond-true, cond-false, All, All-append, All-from_recursion, IsByte, IsContinuation, needed_continuations, is_high, lead_bits, checked_value, first_split, split_within, items_from, items_after, AreItems, class_at, next_at, Gives, Row, needed, rows, SomeRow, IsOpen, Stands, IsFaulty, kept_bits, joined_bits, fault_at, is_continuation, cond, EncodingError, Byte, CodePoint, End, State, Between, BehindHigh, BadFourth, Refused, BadThird}
 use Rattle.wtf8_core.specs.Checker.{value_fault}
 use Rattle.wtf8_core.proofs.lemmas.forms.Ranges.{in_range, not_in_range}
 use Rattle.wtf8_core.proofs.lemmas.reader.Complete.{when_good, when_bad}
@@ -13,10 +13,8 @@ lead_kept : (bits x : ℕ) → 2 ≤ needed_continuations x → kept_bits 0 (joi
 lead_kept bits x h = grind (arith, nat_tests)
 
 bits_more : (n bits x v : ℕ) → n ≤ 2 → kept_bits n bits ≡ v → kept_bits (suc n) (joined_bits bits x) ≡ v * 0x40 + x % 0x40
-bits_more zero bits x v h e = omega arith
-bits_more (suc zero) bits x v h e = omega arith
-bits_more (suc (suc zero)) bits x v h e = omega arith
 bits_more (suc (suc (suc n))) bits x v h e = absurd (omega arith)
+bits_more n bits x v h e = omega arith
 
 -- the items of the bytes if none come after them
 pub items_now : {behind : List ℕ → List (Result ℕ EncodingError)} (b : List ℕ) → (g : Gives b behind) → items_after false b ≡ map Ok g.code_points ++ behind []
