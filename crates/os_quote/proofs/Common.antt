@@ -19,9 +19,10 @@ pub use Rattle.std.proofs.Math.Nat.{sub-zero}
 pub use Rattle.std.proofs.Math.Utf8.{scalar, scalar_cases}
 pub use Rattle.std.proofs.lemmas.Bool.{and_parts, cases_Bool, cases_eq, cases_lt, le-ltb, lt-ltb, ltb-false, ne_eqb, not-false, true≢false}
 pub use Rattle.std.proofs.lemmas.Bool.Decides.{nat_tests}
-pub use Rattle.std.proofs.lemmas.List.{append_cancel_right, drop_at, drop_more, length-map, length-take-le, nil_from_length, take_all, take_at}
+pub use Rattle.std.proofs.lemmas.Grind.{flat_map-append}
+pub use Rattle.std.proofs.lemmas.List.{append_cancel_right, drop_at, drop_more, length-map, length-take-le, map-append, nil_from_length, take_all, take_at}
 pub use Rattle.std.proofs.lemmas.List.Elements.{All-from_recursion, recursion_from_All}
-pub use Rattle.std.proofs.lemmas.Str.{IsCharBoundary-after_ascii, IsCharBoundary-before_ascii, IsCharBoundary-at_seam, IsCharBoundary-end, IsCharBoundary-from_take, IsCharBoundary-start, IsUtf8-append, IsUtf8-between, IsUtf8-drop, IsUtf8-encode, IsUtf8-from_ascii, IsUtf8-nil, IsUtf8-past_char, IsUtf8-take, chars-IsAscii, chars-append, chars-nil, chars_past_char, encode_ascii, encode_same, encodes-chars, len_utf8_bounds, length-encode, scalars-chars}
+pub use Rattle.std.proofs.lemmas.Str.{IsCharBoundary-before_ascii, IsCharBoundary-at_seam, IsCharBoundary-end, IsCharBoundary-from_take, IsUtf8-append, IsUtf8-between, IsUtf8-drop, IsUtf8-encode, IsUtf8-from_ascii, IsUtf8-nil, IsUtf8-past_char, IsUtf8-take, chars-IsAscii, chars-append, chars-nil, chars_past_char, encode_ascii, encode_same, encodes-chars, len_utf8_bounds, length-encode, scalars-chars}
 pub use Rattle.std.specs.Char.{IsScalar, OutOfScalarRange, encode_utf8}
 pub use Rattle.std.specs.Fmt.{HasWrittenStyled, IsFlush}
 pub use Rattle.std.specs.Int.{IsInRange, is_in_range}

@@ -1,18 +1,26 @@
 -- Escapes, and their strings.
-use Rattle.os_quote.proofs.Common.{◌≡◌, ⊎_elim, inl, inr, ℕ, ◌<◌, ◌^◌, Bool, List, [], ◌∷◌, ◌++◌, map, length, refl, sym, ap, ◌∙◌, arith, append_assoc, append-nil, length-append, AllByRecursion, flat_map, IsUtf8, lt-ltb, le-ltb, cases_lt, recursion_from_All, Chunk, joined, AreChunks, HasNoCharacter, some_chunks, chunks_once, form_bounds, PartLaws, chunks_of, Item, backslash, item_texts, IsItem, unit_item, chunk_items, items_of, IsEscapeBy, IsBadEscapeBy, item_bytes, IsChunkOf}
+use Rattle.os_quote.proofs.Common.{◌≡◌, ⊎_elim, inl, inr, ℕ, ◌<◌, ◌^◌, Bool, List, [], ◌∷◌, ◌++◌, map, length, refl, sym, ap, ◌∙◌, arith, append_assoc, append-nil, length-append, AllByRecursion, flat_map, IsUtf8, lt-ltb, le-ltb, cases_lt, recursion_from_All, Chunk, joined, AreChunks, HasNoCharacter, some_chunks, chunks_once, form_bounds, PartLaws, chunks_of, Item, backslash, item_texts, IsItem, unit_item, chunk_items, items_of, IsEscapeBy, IsBadEscapeBy, item_bytes, IsChunkOf, flat_map-append, item_text}
 use Rattle.wtf8_core.specs.PartUnits.{unit_bytes}
 use Rattle.wtf8_core.proofs.lemmas.characters.AtPlaces.{character_fits}
 use Rattle.os_quote.proofs.lemmas.Items.{same_items}
 use Rattle.os_quote.proofs.lemmas.Texts.{text_items, text_escape, text_is_items}
 use Rattle.os_quote.proofs.lemmas.Chunks.{own_chunks, text_chunks}
 
-pub bytes_of-append : (xs ys : List Item) → flat_map item_bytes (xs ++ ys) ≡ flat_map item_bytes xs ++ flat_map item_bytes ys
-bytes_of-append [] ys = refl
-bytes_of-append (x ∷ xs) ys = ap (λ l. item_bytes x ++ l) (bytes_of-append xs ys) ∙ sym (append_assoc (item_bytes x) (flat_map item_bytes xs) (flat_map item_bytes ys))
+pub all-append : {X : Type 0} (P : X → Type 0) (xs ys : List X) → AllByRecursion P xs → AllByRecursion P ys → AllByRecursion P (xs ++ ys)
+all-append P [] ys a b = b
+all-append P (x ∷ xs) ys a b = (a.0, all-append P xs ys a.1 b)
 
-pub all-append : (shows : ℕ → Bool) (xs ys : List Item) → AllByRecursion (IsItem shows) xs → AllByRecursion (IsItem shows) ys → AllByRecursion (IsItem shows) (xs ++ ys)
-all-append shows [] ys a b = b
-all-append shows (x ∷ xs) ys a b = (a.0, all-append shows xs ys a.1 b)
+-- the text of a chunk's items comes before that of the others
+pub next_text : (shows : ℕ → Bool) (units : List ℕ → List ℕ) {all cs : List Chunk} {c : Chunk} → all ≡ c ∷ cs
+    → item_texts (items_of shows units all) ≡ item_texts (map unit_item (units c.0)) ++ (item_texts (text_items shows c.1) ++ item_texts (items_of shows units cs))
+next_text shows units {all} {cs} {c} e =
+    let part = map unit_item (units c.0) in
+    let text = text_items shows c.1 in
+    let left = items_of shows units cs in
+    ap (λ cs. item_texts (items_of shows units cs)) e
+    ∙ flat_map-append item_text (part ++ text) left
+    ∙ ap (λ x. x ++ item_texts left) (flat_map-append item_text part text)
+    ∙ append_assoc (item_texts part) (item_texts text) (item_texts left)
 
 -- the items of units
 pub unit_is_item : (shows : ℕ → Bool) (u : ℕ) → u < 2 ^ 16 → IsItem shows (unit_item u) × (item_bytes (unit_item u) ≡ unit_bytes u)
@@ -38,8 +46,8 @@ module _ (shows : ℕ → Bool) (well_formed : List ℕ → Type 0) (units : Lis
   chunk_is_items c h =
       let u = units_are_items shows (units c.0) (recursion_from_All (λ v. v < 2 ^ 16) (units c.0) (parts.are_wide c.0 h.formed h.bare)) in
       let t = text_is_items shows c.1 h.text in (
-        all-append shows (map unit_item (units c.0)) (text_items shows c.1) u.0 t.0,
-        bytes_of-append (map unit_item (units c.0)) (text_items shows c.1) ∙ ap (λ x. x ++ flat_map item_bytes (text_items shows c.1)) (u.1 ∙ sym (parts.spelled c.0 h.formed h.bare)) ∙ ap (λ x. c.0 ++ x) t.1,
+        all-append (IsItem shows) (map unit_item (units c.0)) (text_items shows c.1) u.0 t.0,
+        flat_map-append item_bytes (map unit_item (units c.0)) (text_items shows c.1) ∙ ap (λ x. x ++ flat_map item_bytes (text_items shows c.1)) (u.1 ∙ sym (parts.spelled c.0 h.formed h.bare)) ∙ ap (λ x. c.0 ++ x) t.1,
       )
 
   chunks_are_items : (cs : List Chunk) → AllByRecursion (IsChunkOf well_formed) cs → AllByRecursion (IsItem shows) (items_of shows units cs) × (flat_map item_bytes (items_of shows units cs) ≡ joined cs)
@@ -47,8 +55,8 @@ module _ (shows : ℕ → Bool) (well_formed : List ℕ → Type 0) (units : Lis
   chunks_are_items (c ∷ cs) a =
       let i = chunk_is_items c a.0 in
       let r = chunks_are_items cs a.1 in (
-        all-append shows (chunk_items shows units c) (items_of shows units cs) i.0 r.0,
-        bytes_of-append (chunk_items shows units c) (items_of shows units cs) ∙ ap (λ x. x ++ flat_map item_bytes (items_of shows units cs)) i.1 ∙ ap (λ x. (c.0 ++ c.1) ++ x) r.1 ∙ append_assoc c.0 c.1 (joined cs),
+        all-append (IsItem shows) (chunk_items shows units c) (items_of shows units cs) i.0 r.0,
+        flat_map-append item_bytes (chunk_items shows units c) (items_of shows units cs) ∙ ap (λ x. x ++ flat_map item_bytes (items_of shows units cs)) i.1 ∙ ap (λ x. (c.0 ++ c.1) ++ x) r.1 ∙ append_assoc c.0 c.1 (joined cs),
       )
 
   module _ (each : (s : List ℕ) (cs : List Chunk) → well_formed s → AreChunks s cs → AllByRecursion (IsChunkOf well_formed) cs) where

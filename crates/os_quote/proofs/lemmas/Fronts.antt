@@ -1,6 +1,8 @@
 -- Escapes of strings that begin with a text of which each character is unchanged.
-use Rattle.os_quote.proofs.Common.{◌≡◌, ⊎_elim, ℕ, ◌+◌, ◌-◌, ◌<◌, Bool, true, false, List, [], ◌∷◌, ◌++◌, map, length, refl, sym, ap, ◌∙◌, subst, arith, append_assoc, append-nil, length-append, IsUtf8, chars, cases_lt, chars-append, IsCovered, CrossesNoCharacter, Chunk, joined, AreChunks, AreChunksFrom, chunks_from_start, are_chunks, some_chunks, chunks_once, one_more_chunk, Covered, over_none, covered_within, covered_behind, seam_at_start, text_covered, chunks_of, Item, item_texts, unit_item, character_item, items_of, escape_of}
-use Rattle.os_quote.proofs.lemmas.Texts.{text_items, text_escape, map-append, item_texts-append}
+use Rattle.os_quote.proofs.Common.{◌≡◌, ⊎_elim, ℕ, ◌+◌, ◌-◌, ◌<◌, Bool, true, false, List, [], ◌∷◌, ◌++◌, map, length, refl, sym, ap, ◌∙◌, subst, arith, append_assoc, append-nil, length-append, IsUtf8, chars, cases_lt, chars-append, IsCovered, CrossesNoCharacter, Chunk, joined, AreChunks, AreChunksFrom, chunks_from_start, are_chunks, some_chunks, chunks_once, one_more_chunk, Covered, over_none, covered_within, covered_behind, seam_at_start, text_covered, chunks_of, Item, item_texts, unit_item, character_item, items_of, escape_of, item_text, flat_map-append, map-append, take, drop, take_at, drop_at, IsAfterPlain, shown_by}
+use Rattle.os_quote.specs.declared.form.Form.{Form}
+use Rattle.os_quote.proofs.lemmas.PlainBytes.{plain_is_text, plain_is_own}
+use Rattle.os_quote.proofs.lemmas.Texts.{text_items, text_escape}
 
 module _ (p r : List ℕ) (u : IsUtf8 p) (some : 0 < length p) where
   -- what is known of the text at the start
@@ -76,7 +78,7 @@ module _ (p r : List ℕ) (u : IsUtf8 p) (some : 0 < length p) where
     after_front : (items : List Item) → item_texts ((map unit_item (units []) ++ text_items shows p) ++ items) ≡ p ++ item_texts items
     after_front items =
         ap (λ us. item_texts ((map unit_item us ++ text_items shows p) ++ items)) no_units
-        ∙ item_texts-append (text_items shows p) items
+        ∙ flat_map-append item_text (text_items shows p) items
         ∙ ap (λ x. x ++ item_texts items) own
 
     grown_items : (q t : List ℕ) (ds : List Chunk) → item_texts (items_of shows units (grown q t ds)) ≡ p ++ item_texts (items_of shows units ((q, t) ∷ ds))
@@ -85,9 +87,9 @@ module _ (p r : List ℕ) (u : IsUtf8 p) (some : 0 < length p) where
         let rest = items_of shows units ds in
         ap (λ us. item_texts ((map unit_item us ++ text_items shows (p ++ t)) ++ rest)) no_units
         ∙ ap (λ cs. item_texts (map (character_item shows) cs ++ rest)) (chars-append p t u)
-        ∙ ap (λ items. item_texts (items ++ rest)) (map-append shows (chars p) (chars t))
+        ∙ ap (λ items. item_texts (items ++ rest)) (map-append (character_item shows) (chars p) (chars t))
         ∙ ap item_texts (append_assoc (text_items shows p) (text_items shows t) rest)
-        ∙ item_texts-append (text_items shows p) (text_items shows t ++ rest)
+        ∙ flat_map-append item_text (text_items shows p) (text_items shows t ++ rest)
         ∙ ap (λ x. x ++ item_texts (text_items shows t ++ rest)) own
         ∙ ap (λ us. p ++ item_texts ((map unit_item us ++ text_items shows t) ++ rest)) (sym no_units)
 
@@ -105,3 +107,19 @@ module _ (p r : List ℕ) (u : IsUtf8 p) (some : 0 < length p) where
 pub front_escape : (shows : ℕ → Bool) (units : List ℕ → List ℕ) (p r : List ℕ) → units [] ≡ [] → IsUtf8 p → text_escape shows p ≡ p → escape_of shows units (p ++ r) ≡ p ++ escape_of shows units r
 front_escape shows units [] r none u own = refl
 front_escape shows units (x ∷ p) r none u own = some_front (x ∷ p) r u (omega arith) shows units none own
+
+-- what follows plain bytes at the start of a string is a string, and its escape follows them
+pub rest_formed : (well_formed : List ℕ → Type 0) → ((b : List ℕ) (n : ℕ) → well_formed b → IsUtf8 (take n b) → well_formed (drop n b)) → {bytes front rest : List ℕ} → well_formed bytes → IsAfterPlain bytes front rest → well_formed rest
+rest_formed well_formed behind_text {bytes} {front} {rest} w after =
+    let n = length front in
+    let first = ap (take n) after.joined ∙ take_at front rest n refl in
+    subst well_formed (ap (drop n) after.joined ∙ drop_at front rest n refl) (behind_text bytes n w (subst IsUtf8 (sym first) (plain_is_text front after.plain)))
+
+pub plain_first : (form : Form) (units : List ℕ → List ℕ) → units [] ≡ [] → {s bytes front rest behind : List ℕ} {chunks : List Chunk} → IsAfterPlain bytes front rest → bytes ≡ s → behind ≡ rest → chunks ≡ chunks_of behind
+    → front ++ item_texts (items_of (shown_by form) units chunks) ≡ escape_of (shown_by form) units s
+plain_first form units none {front = front} {rest = rest} after same is chunks =
+    let escape = escape_of (shown_by form) units in
+    ap (λ cs. front ++ item_texts (items_of (shown_by form) units cs)) chunks
+    ∙ ap (λ r. front ++ escape r) is
+    ∙ sym (front_escape (shown_by form) units front rest none (plain_is_text front after.plain) (plain_is_own form front after.plain))
+    ∙ ap escape (sym after.joined ∙ same)

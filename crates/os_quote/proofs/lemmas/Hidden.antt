@@ -1,6 +1,7 @@
 -- Characters that stand as they are, between suspects.
 use Rattle.os_quote.proofs.Common.{◌≡◌, ◌≢◌, ⊎_elim, ℕ, suc, ◌+◌, ◌-◌, ◌/◌, ◌%◌, ◌<◌, ◌≤◌, true, false, List, [], ◌∷◌, ◌++◌, length, take, drop, get_or, sym, ap, ◌∙◌, subst, arith, append_assoc, take-append-drop, length-append, length-drop, get_or-drop, IsScalar, encode_utf8, AllByRecursion, IsUtf8, IsCharBoundary, chars, all_scalars, encode_utf8_all, and_parts, cases_lt, nat_tests, append_cancel_right, length-take-le, drop_at, take_all, IsCharBoundary-at_seam, IsCharBoundary-end, IsUtf8-between, IsUtf8-take, IsUtf8-drop, IsUtf8-past_char, chars-append, chars_past_char, encodes-chars, scalars-chars, length-encode, len_utf8_bounds, scalar, scalar_cases, encode, form_ascii, form_two, form_three, form_past, form_encode, stays_on_line, is_suspect, Stands, AllStand, AllClear, IsNextSuspect}
 use Rattle.std.proofs.Math.Seq.{take-add}
+use Rattle.os_quote.proofs.lemmas.Escapes.{all-append}
 
 -- no byte is a suspect, where others follow
 abbrev ClearIn : List ℕ → List ℕ → Type 0
@@ -58,10 +59,6 @@ characters_stand (c ∷ cs) rest s h =
     let both = and_parts (scalar c) _ s in
     (character_stands c (encode_utf8_all cs) rest both.0 h, characters_stand cs rest both.1 (clear_after (encode_utf8 c) (encode_utf8_all cs) rest h))
 
-stand-append : (xs ys : List ℕ) → AllByRecursion Stands xs → AllByRecursion Stands ys → AllByRecursion Stands (xs ++ ys)
-stand-append [] ys a b = b
-stand-append (x ∷ xs) ys a b = (a.0, stand-append xs ys a.1 b)
-
 -- each stands up to an index, and none is a suspect up to another
 pub stand_to : (t : List ℕ) (at i : ℕ) → IsUtf8 t → IsCharBoundary t at → IsCharBoundary t i → at ≤ i → AllStand (take at t) → AllClear t at i → AllStand (take i t)
 stand_to t at i u b d low stand clear =
@@ -69,7 +66,7 @@ stand_to t at i u b d low stand clear =
     let same : at + (i - at) ≡ i = omega (arith, low) in
     subst AllStand (ap (λ n. take n t) same)
     (subst AllStand (sym (take-add at (i - at) t))
-    (subst (AllByRecursion Stands) (sym (chars-append (take at t) mid (IsUtf8-take t at u b))) (stand-append (chars (take at t)) (chars mid) stand
+    (subst (AllByRecursion Stands) (sym (chars-append (take at t) mid (IsUtf8-take t at u b))) (all-append Stands (chars (take at t)) (chars mid) stand
     (characters_stand (chars mid) rest (scalars-chars mid text) (subst (λ x. ClearIn x rest) (sym (encodes-chars mid text)) (clear_in mid rest (λ k l. subst (λ x. is_suspect (get_or x k 0) (get_or x (suc k) 0) (get_or x (suc (suc k)) 0) ≡ false) whole (from_at k l))))))))
   where
     mid : List ℕ
@@ -109,7 +106,7 @@ pub record StandUpTo (t : List ℕ) (at : ℕ) : Type 0 where
   pub stand : AllStand (take at t)
 
 pub stand_after : (t rest : List ℕ) (i c at : ℕ) → IsUtf8 t → IsCharBoundary t i → drop i t ≡ encode_utf8 c ++ rest → AllStand (take i t) → Stands c → at ≡ length t - length rest → StandUpTo t at × (i < at)
-stand_after t rest i c at u b e stand s is = (record { boundary = bound; stand = subst (AllByRecursion Stands) (sym same) (stand-append (chars (take i t)) (c ∷ []) stand (s, tt)) }, omega (arith, is, some, size, lengths, length-drop i t, b.0))
+stand_after t rest i c at u b e stand s is = (record { boundary = bound; stand = subst (AllByRecursion Stands) (sym same) (all-append Stands (chars (take i t)) (c ∷ []) stand (s, tt)) }, omega (arith, is, some, size, lengths, length-drop i t, b.0))
   where
     text : IsUtf8 (drop i t)
     text = IsUtf8-drop t i u b

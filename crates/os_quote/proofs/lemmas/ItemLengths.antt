@@ -1,5 +1,5 @@
 -- How long the text of an item is, beside the bytes that it means.
-use Rattle.os_quote.proofs.Common.{⊎_elim, ℕ, ◌*◌, ◌<◌, ◌≤◌, Bool, List, [], ◌∷◌, length, refl, ap, arith, length-append, encode_utf8, AllByRecursion, flat_map, cases_lt, nat_tests, length-encode, len_utf8_bounds, encode, form_encode, form_bounds, form_past, Item, Character, Backslash, ByteUnit, WideUnit, LongCharacter, long_digits, item_text, item_texts, IsItem, Chunk, AreChunks, some_chunks, PartLaws, IsChunkOf, chunks_of, IsEscapeBy, items_of, escape_of, item_bytes}
+use Rattle.os_quote.proofs.Common.{⊎_elim, ℕ, ◌*◌, ◌<◌, ◌≤◌, Bool, List, [], ◌∷◌, length, refl, ap, arith, length-append, encode_utf8, AllByRecursion, flat_map, cases_lt, length-encode, len_utf8_bounds, form_encode, form_bounds, form_past, Item, Character, Backslash, ByteUnit, WideUnit, LongCharacter, long_digits, item_text, item_texts, IsItem, Chunk, AreChunks, some_chunks, PartLaws, IsChunkOf, chunks_of, IsEscapeBy, items_of, escape_of, item_bytes}
 use Rattle.os_quote.proofs.lemmas.Escapes.{escape_is_items}
 use Rattle.os_quote.proofs.lemmas.Items.{five_digits, six_digits}
 

@@ -100,40 +100,22 @@ module _ (shows : ℕ → Bool) where
   -- an item at the start is the only one
   pub item_same : (i j : Item) (x y : List ℕ) → IsItem shows i → IsItem shows j → item_text i ++ x ≡ item_text j ++ y → (i ≡ j) × (x ≡ y)
   item_same (Character b) (Character c) x y h k e = let s = encode_same b c x y e in (ap Character s.0, s.1)
-  item_same (Character b) Backslash x y h k e = absurd (no_slash b x _ h.1 e)
-  item_same (Character b) (ByteUnit u) x y h k e = absurd (no_slash b x _ h.1 e)
-  item_same (Character b) (WideUnit u) x y h k e = absurd (no_slash b x _ h.1 e)
-  item_same (Character b) (LongCharacter c) x y h k e = absurd (no_slash b x _ h.1 e)
-  item_same Backslash (Character c) x y h k e = absurd (no_slash c y _ k.1 (sym e))
+  item_same (Character b) j x y h k e = absurd (no_slash b x _ h.1 e)
+  item_same i (Character c) x y h k e = absurd (no_slash c y _ k.1 (sym e))
   item_same Backslash Backslash x y h k e = (refl, (tails (tails e).1).1)
-  item_same Backslash (ByteUnit u) x y h k e = let n = second e in absurd (omega arith)
-  item_same Backslash (WideUnit u) x y h k e = let n = second e in absurd (omega arith)
-  item_same Backslash (LongCharacter c) x y h k e = let n = second e in absurd (omega arith)
-  item_same (ByteUnit u) (Character c) x y h k e = absurd (no_slash c y _ k.1 (sym e))
-  item_same (ByteUnit u) Backslash x y h k e = let n = second e in absurd (omega arith)
   item_same (ByteUnit u) (ByteUnit v) x y h k e = let s = byte_same u v x y (tails (tails e).1).1 in (ap ByteUnit s.0, s.1)
-  item_same (ByteUnit u) (WideUnit v) x y h k e = let n = second e in absurd (omega arith)
-  item_same (ByteUnit u) (LongCharacter c) x y h k e = let n = second e in absurd (omega arith)
-  item_same (WideUnit u) (Character c) x y h k e = absurd (no_slash c y _ k.1 (sym e))
-  item_same (WideUnit u) Backslash x y h k e = let n = second e in absurd (omega arith)
-  item_same (WideUnit u) (ByteUnit v) x y h k e = let n = second e in absurd (omega arith)
   item_same (WideUnit u) (WideUnit v) x y h k e = let s = wide_same u v x y (tails (tails e).1).1 in (ap WideUnit s.0, s.1)
   item_same (WideUnit u) (LongCharacter c) x y h k e = absurd (wide_or_long u x _ h e)
-  item_same (LongCharacter b) (Character c) x y h k e = absurd (no_slash c y _ k.1 (sym e))
-  item_same (LongCharacter b) Backslash x y h k e = let n = second e in absurd (omega arith)
-  item_same (LongCharacter b) (ByteUnit u) x y h k e = let n = second e in absurd (omega arith)
   item_same (LongCharacter b) (WideUnit u) x y h k e = absurd (wide_or_long u y _ k (sym e))
   item_same (LongCharacter b) (LongCharacter c) x y h k e =
       let s = long_same b c x y (sym (append_assoc (long_digits b) (0x7D ∷ []) x) ∙ (tails (tails (tails e).1).1).1 ∙ append_assoc (long_digits c) (0x7D ∷ []) y) in
       (ap LongCharacter s.0, s.1)
+  item_same i j x y h k e = let n = second e in absurd (omega arith)
 
 -- an item's text isn't empty
 pub some_bytes : (i : Item) → 0 < length (item_text i)
 some_bytes (Character c) = omega (arith, length-encode c, (len_utf8_bounds c).0)
-some_bytes Backslash = omega arith
-some_bytes (ByteUnit u) = omega arith
-some_bytes (WideUnit u) = omega arith
-some_bytes (LongCharacter c) = omega arith
+some_bytes i = omega arith
 
 module _ (shows : ℕ → Bool) where
   -- nothing is left, or what begins with no token

@@ -1,30 +1,19 @@
 -- That an escape on one line stays there.
-use Rattle.os_quote.proofs.Common.{◌≡◌, ⊎_elim, ℕ, ◌/◌, ◌%◌, ◌<◌, true, List, [], ◌∷◌, ◌++◌, map, length, IsTrue, refl, sym, ap, ◌∙◌, subst, arith, append_assoc, append-nil, length-append, encode_utf8, All, AllByRecursion, IsUtf8, chars, encode_utf8_all, cases_lt, cases_eq, cases_Bool, ne_eqb, lt-ltb, le-ltb, All-from_recursion, chars-append, chars-nil, chars_past_char, chars-IsAscii, IsUtf8-encode, encodes-chars, length-encode, len_utf8_bounds, Chunk, AreChunks, upper_hex_digit, PartLaws, Item, Character, Backslash, ByteUnit, WideUnit, LongCharacter, backslash, wide_digits, long_digits, item_text, item_texts, IsLong, IsItem, unit_item, hidden_item, character_item, stays_on_line, Stands, AllStand, IsCutAtHidden, chunk_items, items_of, IsLineEscape, IsChunkOf}
+use Rattle.os_quote.proofs.Common.{◌≡◌, ⊎_elim, ℕ, ◌/◌, ◌%◌, ◌<◌, true, List, [], ◌∷◌, ◌++◌, map, length, IsTrue, refl, sym, ap, ◌∙◌, subst, arith, append_assoc, append-nil, length-append, encode_utf8, All, AllByRecursion, IsUtf8, chars, encode_utf8_all, cases_lt, cases_eq, cases_Bool, ne_eqb, lt-ltb, le-ltb, All-from_recursion, chars-append, chars-nil, chars_past_char, chars-IsAscii, IsUtf8-encode, encodes-chars, length-encode, len_utf8_bounds, Chunk, AreChunks, upper_hex_digit, PartLaws, Item, Character, Backslash, ByteUnit, WideUnit, LongCharacter, backslash, wide_digits, long_digits, item_text, item_texts, IsLong, IsItem, unit_item, hidden_item, character_item, stays_on_line, Stands, AllStand, IsCutAtHidden, chunk_items, items_of, IsLineEscape, IsChunkOf, flat_map-append, map-append}
 use Rattle.os_quote.proofs.lemmas.Items.{digit_low, digit_high, five_digits, six_digits}
 use Rattle.os_quote.proofs.lemmas.Shown.{ascii_stays}
-use Rattle.os_quote.proofs.lemmas.Texts.{text_items, text_escape, text_behind, map-append, item_texts-append}
-use Rattle.os_quote.proofs.lemmas.Escapes.{escape_is_items}
+use Rattle.os_quote.proofs.lemmas.Texts.{text_items, text_escape, text_behind}
+use Rattle.os_quote.proofs.lemmas.Escapes.{all-append, escape_is_items}
 use Rattle.os_quote.proofs.lemmas.Readings.{ascii_all, ascii_byte_unit, ascii_wide_unit, ascii_long_character, item_is_text}
 
 -- the characters stay on the line
 abbrev AllStay : List ℕ → Type 0
 AllStay cs = AllByRecursion (λ c. stays_on_line c ≡ true) cs
 
-stay-append : (xs ys : List ℕ) → AllStay xs → AllStay ys → AllStay (xs ++ ys)
-stay-append [] ys a b = b
-stay-append (x ∷ xs) ys a b = (a.0, stay-append xs ys a.1 b)
-
 -- a character that is unchanged does
 abbrev Stays : Item → Type 0
 Stays (Character c) = stays_on_line c ≡ true
-Stays Backslash = Unit {0}
-Stays (ByteUnit u) = Unit {0}
-Stays (WideUnit u) = Unit {0}
-Stays (LongCharacter c) = Unit {0}
-
-all_stay-append : (xs ys : List Item) → AllByRecursion Stays xs → AllByRecursion Stays ys → AllByRecursion Stays (xs ++ ys)
-all_stay-append [] ys a b = b
-all_stay-append (x ∷ xs) ys a b = (a.0, all_stay-append xs ys a.1 b)
+Stays i = Unit {0}
 
 units_stay : (us : List ℕ) → AllByRecursion Stays (map unit_item us)
 units_stay [] = tt
@@ -47,7 +36,7 @@ characters_stay (c ∷ cs) = (character_stays c, characters_stay cs)
 chunks_stay : (units : List ℕ → List ℕ) (cs : List Chunk) → AllByRecursion Stays (items_of stays_on_line units cs)
 chunks_stay units [] = tt
 chunks_stay units (c ∷ cs) =
-    all_stay-append (chunk_items stays_on_line units c) (items_of stays_on_line units cs) (all_stay-append (map unit_item (units c.0)) (map (character_item stays_on_line) (chars c.1)) (units_stay (units c.0)) (characters_stay (chars c.1))) (chunks_stay units cs)
+    all-append Stays (chunk_items stays_on_line units c) (items_of stays_on_line units cs) (all-append Stays (map unit_item (units c.0)) (map (character_item stays_on_line) (chars c.1)) (units_stay (units c.0)) (characters_stay (chars c.1))) (chunks_stay units cs)
 
 -- a digit stays
 digit_stays : (d : ℕ) → d < 16 → stays_on_line (upper_hex_digit d) ≡ true
@@ -88,7 +77,7 @@ item_stays (LongCharacter c) h s =
 texts_stay : (items : List Item) → AllByRecursion (IsItem stays_on_line) items → AllByRecursion Stays items → AllStay (chars (item_texts items))
 texts_stay [] a s = subst AllStay (sym chars-nil) tt
 texts_stay (i ∷ items) a s =
-    subst AllStay (sym (chars-append (item_text i) (item_texts items) (item_is_text stays_on_line i a.0))) (stay-append (chars (item_text i)) (chars (item_texts items)) (item_stays i a.0 s.0) (texts_stay items a.1 s.1))
+    subst AllStay (sym (chars-append (item_text i) (item_texts items) (item_is_text stays_on_line i a.0))) (all-append (λ c. stays_on_line c ≡ true) (chars (item_text i)) (chars (item_texts items)) (item_stays i a.0 s.0) (texts_stay items a.1 s.1))
 
 -- an escape's characters
 pub escape_is_on_line : (well_formed : List ℕ → Type 0) (units : List ℕ → List ℕ) (part_units : List ℕ → Type 0) (parts : PartLaws well_formed units part_units)
@@ -118,8 +107,8 @@ up_to_hidden t front c behind u k =
     let text = text_behind front rest k.front_text (subst IsUtf8 k.joined u) in
     ap (text_escape stays_on_line) k.joined
     ∙ ap (λ x. item_texts (map (character_item stays_on_line) x)) (chars-append front rest k.front_text ∙ ap (λ x. chars front ++ x) (chars_past_char rest behind c text refl))
-    ∙ ap item_texts (map-append stays_on_line (chars front) (c ∷ chars behind))
-    ∙ item_texts-append (text_items stays_on_line front) (map (character_item stays_on_line) (c ∷ chars behind))
+    ∙ ap item_texts (map-append (character_item stays_on_line) (chars front) (c ∷ chars behind))
+    ∙ flat_map-append item_text (text_items stays_on_line front) (map (character_item stays_on_line) (c ∷ chars behind))
     ∙ ap (λ x. x ++ (item_text (character_item stays_on_line c) ++ text_escape stays_on_line behind)) (standing_text front k.front_text k.stand)
     ∙ sym (append_assoc front (item_text (character_item stays_on_line c)) (text_escape stays_on_line behind))
 

@@ -41,9 +41,8 @@ plain_stands bs a = subst (AllByRecursion Stands) (sym (chars-IsAscii bs (ascii_
 -- by index
 pub plain_front : (bs : List ℕ) (n : ℕ) → ((i : ℕ) → i < n → IsPlain (get_or bs i 0)) → AllByRecursion IsPlain (take n bs)
 plain_front [] zero h = tt
-plain_front [] (suc n) h = tt
-plain_front (b ∷ bs) zero h = tt
 plain_front (b ∷ bs) (suc n) h = (h 0 (omega arith), plain_front bs n (λ k lt. h (suc k) (omega (arith, lt))))
+plain_front bs n h = tt
 
 pub none_plain : (bs : List ℕ) → IsPlainUpTo bs 0
 none_plain bs = record { within = omega arith; plain = λ i lt. absurd (omega (arith, lt)) }

@@ -1,11 +1,9 @@
 -- How far a text has been read.
-use Rattle.os_quote.proofs.Common.{get_or, take_at, encode_ascii, IsUtf8-take, IsCharBoundary-before_ascii, IsCutAtFirst, ◌≡◌, ⊎_elim, inl, inr, ℕ, zero, suc, Bool, ◌-◌, ◌<◌, ◌/◌, ◌%◌, List, [], ◌∷◌, ◌++◌, length, refl, sym, ap, ◌∙◌, subst, arith, append_assoc, append-nil, length-append, AllByRecursion, flat_map, IsUtf8, IsAscii, cases_lt, IsUtf8-nil, IsUtf8-append, IsUtf8-encode, IsUtf8-from_ascii, Chunk, AreChunks, encode, PartLaws, upper_hex_digit, Item, Character, Backslash, ByteUnit, WideUnit, LongCharacter, backslash, wide_digits, long_digits, item_text, item_texts, IsLong, IsItem, is_any, BeginsNoToken, IsBadEscapeBy, IsEscapeBy, items_of, HasNoBackslash, IsCutAtBackslash, IsRead, item_bytes, IsChunkOf}
+use Rattle.os_quote.proofs.Common.{get_or, take_at, encode_ascii, IsUtf8-take, IsCharBoundary-before_ascii, IsCutAtFirst, ◌≡◌, ⊎_elim, inl, inr, ℕ, zero, suc, Bool, ◌-◌, ◌<◌, ◌/◌, ◌%◌, List, [], ◌∷◌, ◌++◌, length, refl, sym, ap, ◌∙◌, subst, arith, append_assoc, append-nil, length-append, AllByRecursion, flat_map, IsUtf8, IsAscii, cases_lt, IsUtf8-nil, IsUtf8-append, IsUtf8-encode, IsUtf8-from_ascii, Chunk, AreChunks, PartLaws, upper_hex_digit, Item, Character, Backslash, ByteUnit, WideUnit, LongCharacter, backslash, wide_digits, long_digits, item_text, item_texts, IsLong, IsItem, is_any, BeginsNoToken, IsBadEscapeBy, IsEscapeBy, items_of, HasNoBackslash, IsCutAtBackslash, IsRead, item_bytes, IsChunkOf, flat_map-append}
 use Rattle.std.proofs.Math.Seq.{get_or-append_seam}
-use Rattle.wtf8_core.specs.Wtf8.{HasUnits}
-use Rattle.wtf8_core.proofs.lemmas.units.OneToOne.{units_once, wide_single}
 use Rattle.os_quote.proofs.lemmas.Items.{digit_low, digit_high, five_digits, six_digits, some_bytes, same_items}
-use Rattle.os_quote.proofs.lemmas.Texts.{text_items, text_is_items, own_text, item_texts-append, slash_behind, text_behind}
-use Rattle.os_quote.proofs.lemmas.Escapes.{all-append, bytes_of-append, one_reading, escape_is_items}
+use Rattle.os_quote.proofs.lemmas.Texts.{text_items, text_is_items, own_text, slash_behind, text_behind}
+use Rattle.os_quote.proofs.lemmas.Escapes.{all-append, one_reading, escape_is_items}
 
 -- the first backslash of a text is between two texts
 pub cut_of_text : (t front behind : List ℕ) → IsUtf8 t → IsCutAtFirst t front behind → IsCutAtBackslash t front behind
@@ -86,19 +84,17 @@ module _ (shows : ℕ → Bool) where
   read_items : (text out rest : List ℕ) (items : List Item) (after : List ℕ) → IsRead shows text out rest → AllByRecursion (IsItem shows) items → rest ≡ item_texts items ++ after → IsUtf8 after → IsRead shows text (out ++ flat_map item_bytes items) after
   read_items text out rest items after r a e u = record {
     items = r.items ++ items;
-    are = all-append shows r.items items r.are a;
-    joined = r.joined ∙ ap (λ x. item_texts r.items ++ x) e ∙ sym (append_assoc (item_texts r.items) (item_texts items) after) ∙ ap (λ x. x ++ after) (sym (item_texts-append r.items items));
-    bytes_are = ap (λ x. x ++ flat_map item_bytes items) r.bytes_are ∙ sym (bytes_of-append r.items items);
+    are = all-append (IsItem shows) r.items items r.are a;
+    joined = r.joined ∙ ap (λ x. item_texts r.items ++ x) e ∙ sym (append_assoc (item_texts r.items) (item_texts items) after) ∙ ap (λ x. x ++ after) (sym (flat_map-append item_text r.items items));
+    bytes_are = ap (λ x. x ++ flat_map item_bytes items) r.bytes_are ∙ sym (flat_map-append item_bytes r.items items);
     text_left = u;
   }
 
   -- the items of the form that shows every character are items of each form
   shown_item : (i : Item) → IsItem is_any i → IsItem shows i
-  shown_item (Character c) h = h
   shown_item Backslash h = tt
-  shown_item (ByteUnit u) h = h
-  shown_item (WideUnit u) h = h
   shown_item (LongCharacter c) h = let n = h.0.hidden in cc
+  shown_item i h = h
 
   shown_items : (items : List Item) → AllByRecursion (IsItem is_any) items → AllByRecursion (IsItem shows) items
   shown_items [] a = tt

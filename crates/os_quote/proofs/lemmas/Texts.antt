@@ -1,5 +1,5 @@
 -- Texts: the backslashes in them, and the items of their characters.
-use Rattle.os_quote.proofs.Common.{◌≡◌, ◌≢◌, ⊎_elim, ℕ, zero, suc, ◌+◌, ◌<◌, ◌≤◌, Bool, true, false, List, [], ◌∷◌, ◌++◌, map, length, take, drop, get_or, refl, sym, ap, ◌∙◌, subst, arith, append_assoc, take-append-drop, length-append, IsScalar, encode_utf8, AllByRecursion, flat_map, IsUtf8, chars, all_scalars, encode_utf8_all, drop_more, take_at, drop_at, IsCharBoundary-from_take, IsUtf8-drop, encode_ascii, chars-append, chars_past_char, encodes-chars, scalars-chars, scalar, scalar_cases, NoneBefore, Passes, is_byte, form_encode, Item, backslash, item_text, item_texts, IsItem, hidden_item, character_item, is_any, HasNoBackslash, IsCutAtFirst, item_bytes}
+use Rattle.os_quote.proofs.Common.{◌≡◌, ◌≢◌, ⊎_elim, ℕ, zero, suc, ◌+◌, ◌<◌, ◌≤◌, Bool, true, false, List, [], ◌∷◌, ◌++◌, map, length, take, drop, get_or, refl, sym, ap, ◌∙◌, subst, arith, take-append-drop, length-append, IsScalar, encode_utf8, AllByRecursion, flat_map, IsUtf8, chars, all_scalars, encode_utf8_all, drop_more, take_at, drop_at, IsCharBoundary-from_take, IsUtf8-drop, encode_ascii, chars-append, chars_past_char, encodes-chars, scalars-chars, scalar, scalar_cases, NoneBefore, Passes, is_byte, form_encode, Item, backslash, item_text, item_texts, IsItem, hidden_item, character_item, is_any, HasNoBackslash, IsCutAtFirst, item_bytes, flat_map-append, map-append}
 use Rattle.std.proofs.lemmas.Bool.{and_parts, cases_eq, cases_lt, cases_Bool, lt-ltb, le-ltb, ne_eqb, eq-eqb, eqb-true}
 
 -- the test of the search for a backslash
@@ -11,9 +11,8 @@ no_place x n e = n (eq-eqb x backslash e)
 
 none_from : (t : List ℕ) (n : ℕ) → ((k : ℕ) → k < n → ¬ (is_byte backslash (get_or t k 0) ≡ true)) → HasNoBackslash (take n t)
 none_from [] zero h = tt
-none_from [] (suc n) h = tt
-none_from (x ∷ t) zero h = tt
 none_from (x ∷ t) (suc n) h = (no_place x (h 0 (omega arith)), none_from t n (λ k lt. h (suc k) (omega arith)))
+none_from t n h = tt
 
 -- if it finds one, that is the first
 pub first_backslash : (t : List ℕ) (i : ℕ) → NoneBefore (IsPlace t) 0 (length t) i × IsPlace t i → IsCutAtFirst t (take i t) (drop (i + 1) t)
@@ -89,20 +88,11 @@ own_characters (c ∷ cs) h =
 pub own_text : (t : List ℕ) → IsUtf8 t → HasNoBackslash t → text_escape is_any t ≡ t
 own_text t u h = own_characters (chars t) (subst HasNoBackslash (sym (encodes-chars t u)) h) ∙ encodes-chars t u
 
--- what follows a backslash is text again
-pub item_texts-append : (xs ys : List Item) → item_texts (xs ++ ys) ≡ item_texts xs ++ item_texts ys
-item_texts-append [] ys = refl
-item_texts-append (x ∷ xs) ys = ap (λ l. item_text x ++ l) (item_texts-append xs ys) ∙ sym (append_assoc (item_text x) (item_texts xs) (item_texts ys))
-
-pub map-append : (shows : ℕ → Bool) (xs ys : List ℕ) → map (character_item shows) (xs ++ ys) ≡ map (character_item shows) xs ++ map (character_item shows) ys
-map-append shows [] ys = refl
-map-append shows (x ∷ xs) ys = ap (λ l. character_item shows x ∷ l) (map-append shows xs ys)
-
 -- the escape of a text up to its first backslash, and after that
 pub one_backslash : (t front behind : List ℕ) → t ≡ front ++ backslash ∷ behind → IsUtf8 front → IsUtf8 (backslash ∷ behind) → HasNoBackslash front → text_escape is_any t ≡ front ++ (backslash ∷ backslash ∷ text_escape is_any behind)
 one_backslash t front behind e u v h =
     ap (text_escape is_any) e
     ∙ ap (λ x. item_texts (map (character_item is_any) x)) (chars-append front (backslash ∷ behind) u ∙ ap (λ x. chars front ++ x) (chars_past_char (backslash ∷ behind) behind backslash v (slash_in_front behind)))
-    ∙ ap item_texts (map-append is_any (chars front) (backslash ∷ chars behind))
-    ∙ item_texts-append (text_items is_any front) (map (character_item is_any) (backslash ∷ chars behind))
+    ∙ ap item_texts (map-append (character_item is_any) (chars front) (backslash ∷ chars behind))
+    ∙ flat_map-append item_text (text_items is_any front) (map (character_item is_any) (backslash ∷ chars behind))
     ∙ ap (λ x. x ++ (backslash ∷ backslash ∷ text_escape is_any behind)) (own_text front u h)

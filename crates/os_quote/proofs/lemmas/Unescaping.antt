@@ -6,7 +6,7 @@ use Rattle.wtf8_core.proofs.lemmas.buffers.Truncated.{whole}
 use Rattle.os_quote.specs.Unescaped.{IsUnescapedBy}
 use Rattle.os_quote.proofs.lemmas.ItemLengths.{item_is_short, items_are_short}
 use Rattle.os_quote.proofs.lemmas.Escapes.{one_reading, one_string, never_bad}
-use Rattle.os_quote.proofs.lemmas.Readings.{cut_of_text, read_all, read_bad, read_more, read_no_bad, read_none}
+use Rattle.os_quote.proofs.lemmas.Readings.{cut_of_text, read_all, read_bad, read_more, read_no_bad}
 
 -- what is known of a result, and two things of each error
 pub with_both : {A B : Type 0} (P : A → Type 0) (Q S : B → Type 0) (r : Result A B) → IfOk r P → IfErr r Q → IfErr r S → MatchResult r P (λ e. Q e × S e)

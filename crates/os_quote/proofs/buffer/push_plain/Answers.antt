@@ -27,8 +27,4 @@ loop-plain-preserved c =
     }
 
 pub loop-plain-smaller : goal.loop-plain-smaller
-loop-plain-smaller c =
-    let cut = c.in-Some.ensures in
-    let some = cut.some in
-    let e = ap length cut.after.joined in
-    omega (arith, some, e, length-append c.in-Some.plain.now c.in-Some.behind.now)
+loop-plain-smaller c = omega (arith, c.in-Some.ensures.some, ap length c.in-Some.ensures.after.joined, length-append c.in-Some.plain.now c.in-Some.behind.now)

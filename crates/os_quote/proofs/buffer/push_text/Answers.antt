@@ -1,21 +1,15 @@
-use Rattle.os_quote.proofs.Common.{◌++◌, ◌+◌, ◌<◌, ◌^◌, [], length, append_assoc, append-nil, ◌∙◌, sym, subst, refl, token_of, text_escape, item_text, shown_by}
-use Rattle.os_quote.proofs.lemmas.Pushing.{push_bytes, push_both, one_pushed, all_pushed, room_left}
+use Rattle.os_quote.proofs.Common.{◌+◌, ◌<◌, ◌^◌, [], length, append-nil, ◌∙◌, sym, subst, refl}
+use Rattle.os_quote.proofs.lemmas.Pushing.{cut_escape, push_bytes, push_both, one_pushed, all_pushed, room_left}
 use Rattle.os_quote.proofs.buffer.push_text.Goals as goal
 
 pub push_truncated-len-requires : goal.push_truncated-len-requires
 push_truncated-len-requires c =
-    let front = c.in-Some.front.now in
-    let token = item_text (token_of c.in-Some.character) in
-    let left = text_escape (shown_by c.args.form) c.in-Some.behind.now in
-    subst (λ x. c.loop-front.len + length x < 2 ^ 64) (sym c.as_bytes.ensures.value) (room_left c.loop-front.invariant.1 front (token ++ left) c.requires (c.in-Some.ensures.escape ∙ append_assoc front token left))
+    subst (λ x. c.loop-front.len + length x < 2 ^ 64) (sym c.as_bytes.ensures.value) (room_left c.loop-front.invariant.1 c.in-Some.front.now _ c.requires (cut_escape c.in-Some.ensures))
 
 pub push_token-len-requires : goal.push_token-len-requires
 push_token-len-requires c =
-    let front = c.in-Some.front.now in
-    let token = item_text (token_of c.in-Some.character) in
-    let left = text_escape (shown_by c.args.form) c.in-Some.behind.now in
-    let pushed = push_bytes c.loop-front.buffer c.loop-front.len c.push_truncated-len.new.buffer c.push_truncated-len.result _ front c.as_bytes.ensures.value c.push_truncated-len.ensures.written c.push_truncated-len.ensures.len in
-    room_left (one_pushed c.loop-front.invariant.1 pushed (c.in-Some.ensures.escape ∙ append_assoc front token left)) token left c.requires refl
+    let pushed = push_bytes c.loop-front.buffer c.loop-front.len c.push_truncated-len.new.buffer c.push_truncated-len.result _ c.in-Some.front.now c.as_bytes.ensures.value c.push_truncated-len.ensures.written c.push_truncated-len.ensures.len in
+    room_left (one_pushed c.loop-front.invariant.1 pushed (cut_escape c.in-Some.ensures)) _ _ c.requires refl
 
 pub loop-front-preserved : goal.loop-front-preserved
 loop-front-preserved c =

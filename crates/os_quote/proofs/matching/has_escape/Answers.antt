@@ -1,56 +1,24 @@
-use Rattle.os_quote.proofs.Common.{◌≡◌, ◌++◌, true, false, length, map, append_assoc, append-nil, refl, ap, ◌∙◌, sym, arith, nil_from_length, length-append, eqb-true, bytes, part_bytes, item_texts, unit_item, shown_by, items_of, escape_of}
+use Rattle.os_quote.proofs.Common.{◌++◌, length, append-nil, refl, ap, ◌∙◌, sym, arith, nil_from_length, length-append, eqb-true, bytes, item_texts, shown_by, items_of, escape_of, true≢false}
 use Rattle.std.proofs.lemmas.Bool.{eq-eqb}
-use Rattle.os_quote.proofs.lemmas.Texts.{text_items, item_texts-append}
+use Rattle.os_quote.proofs.lemmas.Escapes.{next_text}
 use Rattle.os_quote.proofs.lemmas.Stripping.{one_stripped, not_stripped, all_stripped, is_escape, escape_is, no_escape_of}
 use Rattle.os_quote.proofs.matching.has_escape.Goals as goal
 
 pub returns-in_default : goal.returns-in_default
 returns-in_default g c =
-    let shows = shown_by c.args.form in
-    let P = g.E.Platform in
-    let units = map unit_item (P.units (part_bytes c.in-Some.part)) in
-    let text = text_items shows c.in-Some.shown.now in
-    let left = items_of shows P.units c.next.new.self in
-    let step =
-    ap (λ cs. item_texts (items_of shows P.units cs)) c.in-Some.ensures.steps
-    ∙ item_texts-append (units ++ text) left
-    ∙ ap (λ x. x ++ item_texts left) (item_texts-append units text)
-    ∙ append_assoc (item_texts units) (item_texts text) (item_texts left) in
-    let no : ¬ (false ≡ true) = λ e. cc in
-    let never = not_stripped c.loop-part.invariant (item_texts units) (item_texts text ++ item_texts left) c.in_default.ensures step in
-    (λ t. absurd (no t), λ e. absurd (no_escape_of shows P.units (bytes c.args.string) c.args.text.now never e))
+    let never = not_stripped c.loop-part.invariant _ _ c.in_default.ensures (next_text (shown_by c.args.form) g.E.Platform.units c.in-Some.ensures.steps) in
+    (λ t. absurd (true≢false (sym t)), λ e. absurd (no_escape_of (shown_by c.args.form) g.E.Platform.units (bytes c.args.string) c.args.text.now never e))
 
 pub returns-in_default-strip_text : goal.returns-in_default-strip_text
 returns-in_default-strip_text g c =
-    let shows = shown_by c.args.form in
-    let P = g.E.Platform in
-    let units = map unit_item (P.units (part_bytes c.in-Some.part)) in
-    let text = text_items shows c.in-Some.shown.now in
-    let left = items_of shows P.units c.next.new.self in
-    let step =
-    ap (λ cs. item_texts (items_of shows P.units cs)) c.in-Some.ensures.steps
-    ∙ item_texts-append (units ++ text) left
-    ∙ ap (λ x. x ++ item_texts left) (item_texts-append units text)
-    ∙ append_assoc (item_texts units) (item_texts text) (item_texts left) in
-    let no : ¬ (false ≡ true) = λ e. cc in
-    let first = one_stripped c.loop-part.invariant (item_texts units) c.in-Some-strip_part.after_part.now (item_texts text ++ item_texts left) c.in-Some-strip_part.ensures step in
-    let never = not_stripped first (item_texts text) (item_texts left) c.in_default-strip_text.ensures refl in
-    (λ t. absurd (no t), λ e. absurd (no_escape_of shows P.units (bytes c.args.string) c.args.text.now never e))
+    let first = one_stripped c.loop-part.invariant _ _ _ c.in-Some-strip_part.ensures (next_text (shown_by c.args.form) g.E.Platform.units c.in-Some.ensures.steps) in
+    let never = not_stripped first _ _ c.in_default-strip_text.ensures refl in
+    (λ t. absurd (true≢false (sym t)), λ e. absurd (no_escape_of (shown_by c.args.form) g.E.Platform.units (bytes c.args.string) c.args.text.now never e))
 
 pub loop-part-preserved : goal.loop-part-preserved
 loop-part-preserved g c =
-    let shows = shown_by c.args.form in
-    let P = g.E.Platform in
-    let units = map unit_item (P.units (part_bytes c.in-Some.part)) in
-    let text = text_items shows c.in-Some.shown.now in
-    let left = items_of shows P.units c.next.new.self in
-    let step =
-    ap (λ cs. item_texts (items_of shows P.units cs)) c.in-Some.ensures.steps
-    ∙ item_texts-append (units ++ text) left
-    ∙ ap (λ x. x ++ item_texts left) (item_texts-append units text)
-    ∙ append_assoc (item_texts units) (item_texts text) (item_texts left) in
-    let first = one_stripped c.loop-part.invariant (item_texts units) c.in-Some-strip_part.after_part.now (item_texts text ++ item_texts left) c.in-Some-strip_part.ensures step in
-    one_stripped first (item_texts text) c.in-Some-strip_text.after_text.now (item_texts left) c.in-Some-strip_text.ensures refl
+    let first = one_stripped c.loop-part.invariant _ _ _ c.in-Some-strip_part.ensures (next_text (shown_by c.args.form) g.E.Platform.units c.in-Some.ensures.steps) in
+    one_stripped first _ _ _ c.in-Some-strip_text.ensures refl
 
 pub returns : goal.returns
 returns g c =

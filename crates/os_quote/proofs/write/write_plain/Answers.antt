@@ -20,8 +20,4 @@ loop-plain-preserved g c =
     }
 
 pub loop-plain-smaller : goal.loop-plain-smaller
-loop-plain-smaller g c =
-    let cut = c.in-Some.ensures in
-    let some = cut.some in
-    let e = ap length cut.after.joined in
-    omega (arith, some, e, length-append c.in-Some.plain.now c.in-Some.behind.now)
+loop-plain-smaller g c = omega (arith, c.in-Some.ensures.some, ap length c.in-Some.ensures.after.joined, length-append c.in-Some.plain.now c.in-Some.behind.now)
