@@ -1,4 +1,4 @@
-use Rattle.platform_str.proofs.Common.{refl, false≢true, ◌++◌, ◌<◌, arith, ap, sym, ◌∙◌, append-nil, take, drop, length, length-drop, length-take-le, recursion_from_All}
+use Rattle.platform_str.proofs.Common.{◌++◌, ◌<◌, arith, ap, sym, ◌∙◌, append-nil, take, drop, length, length-drop, length-take-le, recursion_from_All}
 use Rattle.platform_str.specs.ByteUnits.{units_after_first}
 use Rattle.platform_str.proofs.lemmas.ByteUnits.{none_after, appended, block_ascii}
 use Rattle.platform_str.proofs.byte_units.push_after_first.Goals as goal
@@ -21,31 +21,3 @@ pub returns-clause-ok : goal.returns-clause-ok
 returns-clause-ok g c =
     let items = c.loop-rest.units.items in
     sym (ap (λ x. items ++ x) (none_after c.loop-rest.rest.now (omega (arith, c.loop-rest-test.false))) ∙ append-nil items) ∙ c.loop-rest.invariant.1
-
-pub loop-rest-init : goal.loop-rest-init
-loop-rest-init g c = (c.requires, refl, omega arith, omega arith)
-
-pub returns-in_err-extend_from_slice-clause-room : goal.returns-in_err-extend_from_slice-clause-room
-returns-in_err-extend_from_slice-clause-room g c = λ enough.
-    let rest = c.loop-rest.rest.now in
-    let room = c.goes_on_in_ascii.ensures.room c.if-goes_on_in_ascii.true in
-    absurd (false≢true (c.in_err-extend_from_slice.ensures.succeeds (omega (arith, enough, room, c.loop-rest.invariant.2, c.loop-rest.invariant.3, ap length c.widened.ensures, length-take-le 16 (drop 1 rest) (omega (arith, room, length-drop 1 rest))))))
-
-pub returns-in_err-push-clause-room : goal.returns-in_err-push-clause-room
-returns-in_err-push-clause-room g c = λ enough.
-    absurd (false≢true (c.in_err-push.ensures.succeeds (omega (arith, enough, c.loop-rest-test.true, c.loop-rest.invariant.2, c.loop-rest.invariant.3))))
-
-pub returns-in_err-push_next-clause-room : goal.returns-in_err-push_next-clause-room
-returns-in_err-push_next-clause-room g c = λ enough.
-    absurd (false≢true (c.in_err-push_next.ensures.room (omega (arith, enough, c.loop-rest-test.true, c.min-count.ensures, c.loop-rest.invariant.2, c.loop-rest.invariant.3))))
-
-pub loop-rest-preserved : goal.loop-rest-preserved
-loop-rest-preserved g c = (
-  omega (arith, c.loop-rest-test.true, c.split_at-else-rest-le16.ensures.back_len, c.min-count.ensures),
-  ap (λ r. c.push_next.new.units.items ++ units_after_first r) c.split_at-else-rest-le16.ensures.back ∙ c.in_ok-push_next.ensures.ok ∙ c.loop-rest.invariant.1,
-  omega (arith, c.loop-rest.invariant.2, c.in_ok-push_next.ensures.capacity),
-  omega (arith, c.loop-rest-test.true, c.loop-rest.invariant.3, c.split_at-else-rest-le16.ensures.back_len, c.in_ok-push_next.ensures.len, c.min-count.ensures),
-)
-
-pub returns-clause-room : goal.returns-clause-room
-returns-clause-room g c = λ _. refl

@@ -1,4 +1,4 @@
-use Rattle.platform_str.proofs.Common.{refl, ◌+◌, rules, arith}
+use Rattle.platform_str.proofs.Common.{◌+◌, rules, arith}
 use Rattle.platform_str.proofs.lemmas.Filled.{few_taken, mark_few, marked_few}
 use Rattle.platform_str.proofs.lemmas.ByteUnits.{appended, some_chosen}
 use Rattle.platform_str.proofs.byte_units.push_end.Goals as goal
@@ -11,15 +11,6 @@ returns-clause-ok g c =
     (λ i h. rw (same i, same (1 + i), same (2 + i), same (3 + i)) at (c.unit_lanes-lanes.ensures i h))
     (λ i h. rw (same i, same (1 + i)) at (c.unit_marks-marks.ensures i h)))
 
-pub returns-in_err-push_marked-clause-capacity : goal.returns-in_err-push_marked-clause-capacity
-returns-in_err-push_marked-clause-capacity g c = c.in_err-push_marked.ensures.capacity
-
 pub push_marked-requires-clause-least : goal.push_marked-requires-clause-least
 push_marked-requires-clause-least g c = λ i.
     omega (arith, few_taken c.args.count c.unit_marks-marks.result i, mark_few c.unit_marks-marks.result (search rules) (λ k h. marked_few _ (c.unit_marks-marks.ensures k h)) i)
-
-pub returns-clause-room : goal.returns-clause-room
-returns-clause-room g c = λ _. refl
-
-pub returns-clause-capacity : goal.returns-clause-capacity
-returns-clause-capacity g c = c.in_ok-push_marked.ensures.capacity

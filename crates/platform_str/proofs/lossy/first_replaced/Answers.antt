@@ -1,4 +1,4 @@
-use Rattle.platform_str.proofs.Common.{arith, refl, sym, subst, IsFaultPart}
+use Rattle.platform_str.proofs.Common.{refl}
 use Rattle.platform_str.proofs.lemmas.LossyLoops.{bare_at, some_at, formed_at, first_part, first_text}
 use Rattle.platform_str.proofs.lossy.first_replaced.Goals as goal
 
@@ -11,20 +11,8 @@ split_at-requires-2 g c = (first_part g.met.E.Platform.laws c.split_at.ensures.b
 pub returns-clause-cases : goal.returns-clause-cases
 returns-clause-cases g c = first_text g.met.E.Platform.laws refl c.split_at.ensures.back c.split_at-2.ensures.back c.in_ok-valid.ensures.valid c.requires c.replaced_len.ensures
 
-pub replaced_len-requires-clause-part : goal.replaced_len-requires-clause-part
-replaced_len-requires-clause-part g c = subst (λ b. IsFaultPart b c.in_ok-valid.error_len) (sym c.split_at.ensures.back) c.in_ok-valid.ensures.part
-
-pub split_at-requires : goal.split_at-requires
-split_at-requires g c = omega (arith, c.in_ok-valid.ensures.valid.short)
-
 pub replaced_len-requires-clause-formed : goal.replaced_len-requires-clause-formed
 replaced_len-requires-clause-formed g c = formed_at g.met.E.Platform.laws c.split_at.ensures.back c.in_ok-valid.ensures.valid c.requires
 
 pub replaced_len-requires-clause-some : goal.replaced_len-requires-clause-some
 replaced_len-requires-clause-some g c = some_at c.split_at.ensures.back c.in_ok-valid.ensures.valid
-
-pub returns-clause-within : goal.returns-clause-within
-returns-clause-within g c = omega (arith, c.in_ok-valid.ensures.valid.short)
-
-pub returns-clause-text : goal.returns-clause-text
-returns-clause-text g c = c.in_ok-valid.ensures.valid.front

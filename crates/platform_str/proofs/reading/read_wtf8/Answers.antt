@@ -1,5 +1,4 @@
-use Rattle.platform_str.proofs.Common.{◌++◌, sym, subst, refl}
-use Rattle.wtf8_core.specs.LossyReading.{IsLossyReading}
+use Rattle.platform_str.proofs.Common.{refl}
 use Rattle.platform_str.proofs.lemmas.Readings.{read_part, read_end, read_end_wtf8}
 use Rattle.platform_str.proofs.reading.read_wtf8.Goals as goal
 
@@ -11,6 +10,3 @@ returns-clause-reading g c = read_end c.args.bytes.now _ c.loop-valid_up_to.inva
 
 pub returns-clause-formed : goal.returns-clause-formed
 returns-clause-formed g c = read_end_wtf8 c.args.bytes.now _ c.loop-valid_up_to.invariant c.in_default.ensures c.in_ok-extend_from_slice.ensures.items
-
-pub loop-valid_up_to-init : goal.loop-valid_up_to-init
-loop-valid_up_to-init g c = λ later reads. subst (λ x. IsLossyReading c.args.bytes.now (x ++ later)) (sym c.in_ok-reading.ensures.items) reads

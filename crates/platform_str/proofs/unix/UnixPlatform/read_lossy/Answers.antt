@@ -4,8 +4,5 @@ use Rattle.platform_str.specs.platforms.Unix.{AreBytes}
 use Rattle.platform_str.proofs.lemmas.Filled.{all_bytes}
 use Rattle.platform_str.proofs.unix.UnixPlatform.read_lossy.Goals as goal
 
-pub returns-clause-reading : goal.returns-clause-reading
-returns-clause-reading g c = c.from_slice.ensures.items
-
 pub returns-clause-formed : goal.returns-clause-formed
 returns-clause-formed g c = IfOk-weaker c.from_slice.result _ _ (λ reading e. subst AreBytes (sym e) (all_bytes c.args.bytes.now c.type_inv.bytes)) c.from_slice.ensures.items
