@@ -1,7 +1,5 @@
 -- A list doesn't occur again before its first occurrence, nor after its last one.
-use Rattle.std.proofs.Common.{◌≡◌, ℕ, ◌<◌, List, ◌++◌, length, sym, ap, ◌∙◌, refl, arith, length-append, append_assoc}
-use Rattle.wtf8_core.specs.Pieces.{SplitsAt}
-use Rattle.wtf8_core.specs.Standing.{StandsNowhere, IsFirstPlace, IsLastPlace}
+use Rattle.os_str_ext.proofs.Common.{◌≡◌, ℕ, ◌<◌, List, ◌++◌, length, sym, ap, ◌∙◌, refl, arith, length-append, append_assoc, SplitsAt, StandsNowhere, IsFirstPlace, IsLastPlace}
 
 module _ (p s front back : List ℕ) (some : 0 < length p) where
   pub before_least : SplitsAt IsFirstPlace p s front back → StandsNowhere p front

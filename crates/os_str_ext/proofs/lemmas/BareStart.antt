@@ -1,20 +1,11 @@
 -- Bytes at the start of a string at which no whole character starts, by the faults there.
-use Rattle.std.proofs.Common.{◌≡◌, ◌⊎◌, ⊎_elim, ℕ, ◌+◌, ◌-◌, ◌<◌, ◌≤◌, List, [], ◌++◌, length, take, drop, get_or, Option, sym, ap, ◌∙◌, subst, arith, length-drop, take-append-drop, append-nil, drop-drop}
-use Rattle.std.proofs.lemmas.Bool.{cases_lt, cases_eq}
-use Rattle.std.proofs.lemmas.List.{get_or-drop, get_or_append_left, length-take-le}
-use Rattle.std.proofs.Math.Seq.{take-length}
-use Rattle.std.specs.Str.{IsUtf8}
-use Rattle.wtf8_core.specs.CodePoint.{encode}
-use Rattle.wtf8_core.specs.Character.{WholeCharacter}
+use Rattle.os_str_ext.proofs.Common.{◌≡◌, ◌⊎◌, ⊎_elim, ℕ, ◌+◌, ◌-◌, ◌<◌, ◌≤◌, List, [], ◌++◌, length, take, drop, get_or, Option, sym, ap, ◌∙◌, subst, arith, length-drop, take-append-drop, append-nil, drop-drop, cases_lt, cases_eq, get_or-drop, length-take-le, take-length, IsUtf8, encode, WholeCharacter, form_bounds, character_fits, begins_at, in_rest, whole_within, IsBareUpTo, IsFirstChunk}
+use Rattle.std.proofs.lemmas.List.{get_or_append_left}
 use Rattle.wtf8_core.specs.Utf8.{IsUtf8Fault, part_end}
 use Rattle.wtf8_core.proofs.lemmas.characters.FourBytes.{past_ascii}
-use Rattle.wtf8_core.proofs.lemmas.forms.Shapes.{form_bounds}
-use Rattle.wtf8_core.proofs.lemmas.characters.AtPlaces.{character_fits, begins_at}
 use Rattle.wtf8_core.proofs.lemmas.characters.IllFormedParts.{apart_from_part}
-use Rattle.wtf8_core.proofs.lemmas.characters.Overlaps.{in_rest}
-use Rattle.wtf8_core.proofs.lemmas.characters.Seams.{whole_within}
 use Rattle.wtf8_core.proofs.lemmas.texts.StdFaults.{First, lead_of}
-use Rattle.os_str_ext.specs.Chunks.{BeginsNoCharacter, IsBareUpTo, IsFirstChunk}
+use Rattle.os_str_ext.specs.Chunks.{BeginsNoCharacter}
 use Rattle.os_str_ext.proofs.lemmas.FirstChunk.{first_of_parts, text_from, no_character_behind, without_character}
 
 -- no whole character starts at a byte with which none begins
@@ -26,13 +17,16 @@ no_beginning s a b n w =
     ap (λ i. get_or s i 0) here ∙ sym (get_or-drop a s 0 0) ∙ ap (λ l. get_or l 0 0) (begins_at s a b w) ∙ get_or_append_left (encode c) w.stands.behind 0 0 (form_bounds c).0 in
     n.1 (subst First (sym same) (lead_of c w.scalar (past_ascii c (subst (λ x. 0x80 ≤ x) same n.0))))
 
+-- one byte more, if no character starts there
+pub bare_next : (s : List ℕ) (i : ℕ) → IsBareUpTo s i → i < length s → ((j : ℕ) → ¬ (WholeCharacter s i j)) → IsBareUpTo s (i + 1)
+bare_next s i p lt none = record {
+  within = omega (arith, lt);
+  bare = λ k j low w. ⊎_elim (λ e. none j (subst (λ x. WholeCharacter s x j) e w)) (λ ne. p.bare k j (omega (arith, low, ne)) w) (cases_eq k i);
+}
+
 module _ (s : List ℕ) (i : ℕ) (p : IsBareUpTo s i) where
-  -- one such byte more
   pub one_more : i < length s → BeginsNoCharacter (get_or s i 0) → IsBareUpTo s (i + 1)
-  one_more lt n = record {
-    within = omega (arith, lt);
-    bare = λ k j low w. ⊎_elim (λ e. no_beginning s i j n (subst (λ x. WholeCharacter s x j) e w)) (λ ne. p.bare k j (omega arith) w) (cases_eq k i);
-  }
+  one_more lt n = bare_next s i p lt (λ j. no_beginning s i j n)
 
   -- if those are all the bytes, all of them are the part
   pub all_bare : length s ≤ i → IsFirstChunk s (length s) (length s)

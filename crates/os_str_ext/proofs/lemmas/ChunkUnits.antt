@@ -1,17 +1,10 @@
 -- The units of a string's chunks, and that the chunks of a text have no parts.
-use Rattle.std.proofs.Common.{◌≡◌, ◌↔◌, ℕ, ◌<◌, List, [], ◌∷◌, ◌++◌, length, take, drop, inl, refl, sym, ap, ◌∙◌, subst, arith, append_assoc}
-use Rattle.std.proofs.Math.Seq.{take-length}
-use Rattle.std.proofs.lemmas.List.Elements.{All-from_recursion, recursion_from_All}
-use Rattle.std.proofs.lemmas.Str.{IsUtf8-nil, IsUtf8-append}
-use Rattle.std.specs.List.{All, AllByRecursion, flat_map}
-use Rattle.std.specs.Str.{IsUtf8}
-use Rattle.wtf8_core.specs.Boundary.{IsBoundary}
-use Rattle.wtf8_core.specs.Chunks.{Chunk, joined, AreChunks}
-use Rattle.wtf8_core.specs.Covered.{HasNoCharacter}
+use Rattle.os_str_ext.proofs.Common.{◌≡◌, ℕ, ◌<◌, List, [], ◌∷◌, ◌++◌, length, take, drop, inl, refl, sym, ap, ◌∙◌, subst, arith, append_assoc, take-length, All-from_recursion, IsUtf8-nil, IsUtf8-append, All, AllByRecursion, flat_map, IsUtf8, IsBoundary, Chunk, joined, AreChunks, HasNoCharacter, IsChunkOf}
+use Rattle.std.proofs.Common.{◌↔◌}
+use Rattle.std.proofs.lemmas.List.Elements.{recursion_from_All}
 use Rattle.wtf8_core.proofs.lemmas.characters.AtPlaces.{none_begins}
 use Rattle.wtf8_core.proofs.lemmas.forms.Cuts.{utf8_cut}
 use Rattle.wtf8_core.proofs.lemmas.texts.AreWtf8.{no_text_begins}
-use Rattle.os_str_ext.specs.Chunks.{IsChunkOf}
 use Rattle.os_str_ext.proofs.lemmas.CutUnits.{part_in_units}
 use Rattle.os_str_ext.proofs.lemmas.EachChunk.{are_chunks_of, first_of}
 use Rattle.os_str_ext.proofs.lemmas.FirstChunk.{edges}

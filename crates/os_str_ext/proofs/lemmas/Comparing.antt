@@ -1,8 +1,5 @@
 -- Bytes are equal if their first bytes are and their last bytes are.
-use Rattle.std.proofs.Common.{◌≡◌, ℕ, ◌+◌, ◌-◌, ◌≤◌, List, ◌++◌, length, take, drop, refl, sym, ap, ◌∙◌, arith, take-append-drop, length-append, length-drop}
-use Rattle.std.proofs.lemmas.List.{drop-drop, take_at}
-use Rattle.std.proofs.Math.Seq.{take-length}
-use Rattle.wtf8_core.specs.Standing.{IsPrefix, IsSuffix}
+use Rattle.os_str_ext.proofs.Common.{◌≡◌, ℕ, ◌+◌, ◌-◌, ◌≤◌, List, ◌++◌, length, take, drop, refl, sym, ap, ◌∙◌, arith, take-append-drop, length-append, length-drop, drop-drop, take_at, take-length, IsPrefix, IsSuffix}
 
 same_by_ends : (k : ℕ) (a b : List ℕ) → k ≤ length a → length a ≤ k + k → take k a ≡ take k b → drop (length a - k) a ≡ drop (length a - k) b → a ≡ b
 same_by_ends k a b low high front back =

@@ -1,8 +1,5 @@
 -- The units of a part that is cut out, with those before it and those after it.
-use Rattle.std.proofs.Common.{◌≡◌, ℕ, List, [], ◌++◌, length, take, drop, inl, inr, refl, ap, ◌∙◌, append_assoc}
-use Rattle.std.proofs.lemmas.List.{take-take}
-use Rattle.std.proofs.Math.Seq.{take-length}
-use Rattle.wtf8_core.specs.Boundary.{IsBoundary}
+use Rattle.os_str_ext.proofs.Common.{◌≡◌, ℕ, List, [], ◌++◌, length, take, drop, inl, inr, refl, ap, ◌∙◌, append_assoc, take-take, take-length, IsBoundary}
 use Rattle.wtf8_core.proofs.lemmas.characters.Overlaps.{boundary_in_front}
 use Rattle.os_str_ext.specs.Range.{FitsIn, IsPartInUnits}
 

@@ -1,16 +1,5 @@
 -- The first and the last character of a string.
-use Rattle.std.proofs.Common.{◌≡◌, ℕ, ◌+◌, ◌-◌, ◌<◌, List, [], ◌++◌, length, take, drop, inl, inr, sym, ap, ◌∙◌, subst, arith, append-nil, append_assoc, take-append-drop, length-append, length-drop}
-use Rattle.std.specs.Char.{IsScalar, encode_utf8}
-use Rattle.std.specs.Str.{IsUtf8}
-use Rattle.std.proofs.lemmas.List.{nil_from_length, take_at}
-use Rattle.std.proofs.lemmas.Str.{IsUtf8-encode, encode_same}
-use Rattle.wtf8_core.specs.Boundary.{IsBoundary}
-use Rattle.wtf8_core.specs.Character.{WholeCharacter}
-use Rattle.wtf8_core.specs.CodePoint.{encode}
-use Rattle.wtf8_core.proofs.lemmas.characters.AtPlaces.{begins_at, character_fits}
-use Rattle.wtf8_core.proofs.lemmas.forms.Shapes.{form_bounds}
-use Rattle.wtf8_core.proofs.lemmas.forms.ByStd.{form_encode}
-use Rattle.os_str_ext.specs.Characters.{IsOneCharacter}
+use Rattle.os_str_ext.proofs.Common.{◌≡◌, ℕ, ◌+◌, ◌<◌, List, [], ◌++◌, length, drop, inl, inr, sym, ap, ◌∙◌, subst, arith, append-nil, length-append, length-drop, encode_utf8, IsUtf8, nil_from_length, IsUtf8-encode, encode_same, IsBoundary, WholeCharacter, encode, begins_at, character_fits, form_bounds, form_encode, IsOneCharacter}
 
 -- the bytes of one character are a text that isn't empty, and are its encoding by std
 module _ (s : List ℕ) (h : IsOneCharacter s) where

@@ -1,19 +1,17 @@
 -- The character with which two, three or four bytes begin.
-use Rattle.std.proofs.Common.{◌≡◌, ◌⊎◌, ◌+◌, ◌*◌, ◌%◌, ◌<◌, ◌≤◌, ℕ, suc, false, List, ◌∷◌, ◌++◌, [], length, Ok, Err, Option, Some, None, MatchOption, refl, sym, ap, ◌∙◌, subst, drop, get_or, arith, ⊎_elim, inl, inr}
-use Rattle.std.proofs.lemmas.Bool.{cases_lt, cond-true, cond-false, le-ltb}
-use Rattle.std.proofs.lemmas.Bool.Decides.{nat_tests}
-use Rattle.std.specs.Char.{IsScalar, InScalarRange, OutOfScalarRange}
+use Rattle.os_str_ext.proofs.Common.{◌≡◌, ◌⊎◌, ◌+◌, ◌<◌, ◌≤◌, ℕ, suc, false, List, ◌∷◌, ◌++◌, [], length, Ok, Err, Option, Some, None, refl, sym, ap, ◌∙◌, subst, drop, get_or, arith, ⊎_elim, inl, inr, cases_lt, cond-true, cond-false, nat_tests, IsScalar, OutOfScalarRange, needed_continuations, StartsWithNoCharacter, EncodingError, none_at_fault, IsFirstChar}
+use Rattle.std.proofs.Common.{◌*◌, ◌%◌, MatchOption}
+use Rattle.std.proofs.lemmas.Bool.{le-ltb}
+use Rattle.std.specs.Char.{InScalarRange}
 use Rattle.std.specs.Option.{SomeIff}
-use Rattle.wtf8_core.specs.Byte.{IsContinuation, lead_bits, needed_continuations}
-use Rattle.wtf8_core.specs.Covered.{StartsWithNoCharacter}
+use Rattle.wtf8_core.specs.Byte.{IsContinuation, lead_bits}
 use Rattle.wtf8_core.specs.Reader.{and_then_checked, checked_value, first_item, least_value, with_continuations}
-use Rattle.wtf8_core.specs.declared.fault.EncodingError.{EncodingError}
 use Rattle.wtf8_core.specs.declared.fault.EncodingError.TheVariants.{Byte, CodePoint}
-use Rattle.wtf8_core.proofs.lemmas.characters.AtPlaces.{none_at, none_at_fault}
+use Rattle.wtf8_core.proofs.lemmas.characters.AtPlaces.{none_at}
 use Rattle.wtf8_core.proofs.lemmas.characters.FourBytes.{at_first}
 use Rattle.wtf8_core.proofs.lemmas.forms.Ranges.{in_range, not_in_range, range_cases}
 use Rattle.wtf8_core.proofs.lemmas.texts.StdFaults.{no_char}
-use Rattle.os_str_ext.specs.Characters.{IsCharOf, IsFirstChar}
+use Rattle.os_str_ext.specs.Characters.{IsCharOf}
 use Rattle.os_str_ext.proofs.lemmas.FirstItem.{char_read, surrogate_read}
 
 -- the first bytes tell with which character bytes begin, and that they begin with none

@@ -1,23 +1,12 @@
 -- The first chunk by where its part and its text end, and the chunks after it.
-use Rattle.std.proofs.Common.{◌≡◌, ⊎_elim, inl, inr, ℕ, ◌+◌, ◌-◌, ◌<◌, ◌≤◌, List, [], ◌∷◌, ◌++◌, length, take, drop, sym, ap, ◌∙◌, subst, arith, length-append, length-drop, take-append-drop, append_assoc}
-use Rattle.std.proofs.lemmas.Bool.{cases_lt, cases_eq}
-use Rattle.std.proofs.lemmas.List.{length-take-le, take-take, drop-take, drop_all, drop-append-le}
-use Rattle.std.proofs.lemmas.Str.{IsUtf8-nil, IsUtf8-append, IsUtf8-encode}
-use Rattle.std.proofs.Math.Seq.{take-add, take-append_seam}
-use Rattle.std.specs.Str.{IsUtf8, IsValidUpTo}
-use Rattle.wtf8_core.specs.Boundary.{IsBoundary}
-use Rattle.wtf8_core.specs.Character.{WholeCharacter}
-use Rattle.wtf8_core.specs.Covered.{IsCovered, CrossesNoCharacter, HasNoCharacter}
-use Rattle.wtf8_core.specs.Chunks.{Chunk}
-use Rattle.wtf8_core.specs.Standing.{StandsAt}
-use Rattle.wtf8_core.specs.CodePoint.{encode}
-use Rattle.wtf8_core.proofs.lemmas.characters.AtPlaces.{character_fits, begins_at}
-use Rattle.wtf8_core.proofs.lemmas.forms.ByStd.{form_encode}
-use Rattle.wtf8_core.proofs.lemmas.chunks.OneList.{some_chunks, chunks_once, one_more_chunk}
+use Rattle.os_str_ext.proofs.Common.{◌≡◌, ⊎_elim, inl, inr, ℕ, ◌+◌, ◌-◌, ◌<◌, ◌≤◌, List, [], ◌∷◌, ◌++◌, length, take, drop, sym, ap, ◌∙◌, subst, arith, length-append, length-drop, take-append-drop, append_assoc, cases_lt, cases_eq, length-take-le, take-take, drop-take, IsUtf8-nil, IsUtf8-append, IsUtf8-encode, take-add, IsUtf8, IsBoundary, WholeCharacter, IsCovered, HasNoCharacter, Chunk, StandsAt, encode, character_fits, begins_at, form_encode, some_chunks, chunks_once, in_rest, whole_within, chunks_of, IsFirstChunk}
+use Rattle.std.proofs.lemmas.List.{drop_all, drop-append-le}
+use Rattle.std.proofs.Math.Seq.{take-append_seam}
+use Rattle.std.specs.Str.{IsValidUpTo}
+use Rattle.wtf8_core.specs.Covered.{CrossesNoCharacter}
+use Rattle.wtf8_core.proofs.lemmas.chunks.OneList.{one_more_chunk}
 use Rattle.wtf8_core.proofs.lemmas.standing.Boundaries.{edges_of_text}
-use Rattle.wtf8_core.proofs.lemmas.characters.Overlaps.{in_rest}
-use Rattle.wtf8_core.proofs.lemmas.characters.Seams.{Bare, text_covered, seam_behind_bare, whole_within}
-use Rattle.os_str_ext.specs.Chunks.{chunks_of, IsFirstChunk}
+use Rattle.wtf8_core.proofs.lemmas.characters.Seams.{Bare, text_covered, seam_behind_bare}
 
 -- the three parts of a string that is cut twice
 cut_twice : (s : List ℕ) (m e : ℕ) → m ≤ e → s ≡ take m s ++ (drop m (take e s) ++ drop e s)

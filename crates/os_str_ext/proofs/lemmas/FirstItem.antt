@@ -1,23 +1,14 @@
 -- The first item of bytes, and the character with which they begin.
-use Rattle.std.proofs.Common.{◌≡◌, ℕ, ◌+◌, ◌<◌, ◌≤◌, List, [], ◌∷◌, ◌++◌, take, true, false, Result, Ok, Err, refl, sym, ap, ◌∙◌, arith}
-use Rattle.std.proofs.lemmas.Bool.Decides.{nat_tests}
-use Rattle.std.proofs.lemmas.List.{take_at}
-use Rattle.std.specs.Char.{IsScalar, OutOfScalarRange}
-use Rattle.wtf8_core.specs.Byte.{needed_continuations}
-use Rattle.wtf8_core.specs.Character.{WholeCharacter}
-use Rattle.wtf8_core.specs.CodePoint.{encode, IsCodePoint}
-use Rattle.wtf8_core.specs.Covered.{StartsWithNoCharacter}
-use Rattle.wtf8_core.specs.Items.{AreItems}
+use Rattle.os_str_ext.proofs.Common.{◌≡◌, ℕ, ◌+◌, ◌<◌, ◌≤◌, List, [], ◌∷◌, ◌++◌, take, true, false, Ok, Err, refl, sym, ap, ◌∙◌, arith, nat_tests, take_at, IsScalar, OutOfScalarRange, needed_continuations, WholeCharacter, encode, StartsWithNoCharacter, AreItems, EncodingError, begins_at, none_at_fault, form_encode, form_ascii, IsFirstChar}
+use Rattle.std.proofs.Common.{Result}
+use Rattle.wtf8_core.specs.CodePoint.{IsCodePoint}
 use Rattle.wtf8_core.specs.Reader.{first_item, behind_item, items_behind, items_after}
 use Rattle.wtf8_core.specs.Surrogate.{is_high, is_surrogate}
-use Rattle.wtf8_core.specs.declared.fault.EncodingError.{EncodingError}
-use Rattle.wtf8_core.proofs.lemmas.characters.AtPlaces.{ascii_found, begins_at, character_found, none_at_fault, none_at_surrogate}
-use Rattle.wtf8_core.proofs.lemmas.forms.ByStd.{form_encode, form_same}
-use Rattle.wtf8_core.proofs.lemmas.forms.Shapes.{form_ascii}
+use Rattle.wtf8_core.proofs.lemmas.characters.AtPlaces.{ascii_found, character_found, none_at_surrogate}
+use Rattle.wtf8_core.proofs.lemmas.forms.ByStd.{form_same}
 use Rattle.wtf8_core.proofs.lemmas.reader.Complete.{items_if}
 use Rattle.wtf8_core.proofs.lemmas.reader.Reading.{items-err, items-ok}
 use Rattle.wtf8_core.proofs.lemmas.reader.Sound.{split_code_point}
-use Rattle.os_str_ext.specs.Characters.{IsFirstChar}
 
 -- a whole character at the start is the one whose form the bytes begin with
 is_first : (s : List ℕ) (n c : ℕ) (rest : List ℕ) → WholeCharacter s 0 (0 + n) → s ≡ encode c ++ rest → IsFirstChar s c n

@@ -1,10 +1,8 @@
 -- Where a needle occurs in a part of a string, and where its first and last occurrences are.
-use Rattle.std.proofs.Common.{◌≡◌, ℕ, zero, suc, ◌+◌, ◌-◌, ◌<◌, ◌≤◌, Bool, List, [], ◌∷◌, length, take, drop, max, Option, Some, None, sym, ap, subst, ◌∙◌, arith, ⊎_elim, length-drop}
-use Rattle.std.proofs.lemmas.Bool.{cases_Bool, cases_eq, cases_lt, cond-true, cond-false, eq-eqb, false≢true}
-use Rattle.std.proofs.lemmas.List.{get_or-take, get_or-drop, length-take-le}
-use Rattle.std.specs.Option.{option_map}
-use Rattle.std.specs.Prelude.{slice_index}
-use Rattle.memchr.specs.Find.{OccursAt, FindsNeedle, FindsLastNeedle, IsFirst, IsFirstByte, IsLast, Nowhere, NoneBefore, NoneAfter, Passes, TakesFirst, is_byte, places, places_from}
+use Rattle.os_str_ext.proofs.Common.{◌≡◌, ℕ, zero, suc, ◌+◌, ◌-◌, ◌<◌, ◌≤◌, List, [], ◌∷◌, length, take, drop, Option, Some, None, sym, ap, subst, ◌∙◌, arith, ⊎_elim, length-drop, cases_Bool, cases_eq, cases_lt, cond-true, cond-false, eq-eqb, false≢true, get_or-drop, length-take-le, option_map, slice_index, OccursAt, FindsNeedle, FindsLastNeedle, IsFirstByte, Nowhere, Passes, is_byte}
+use Rattle.std.proofs.Common.{Bool, max}
+use Rattle.std.proofs.lemmas.List.{get_or-take}
+use Rattle.memchr.specs.Find.{IsFirst, IsLast, NoneBefore, NoneAfter, TakesFirst, places, places_from}
 use Rattle.memchr.specs.Pairs.{HasPair, IsPairFinderOf, reach_of}
 use Rattle.memchr.specs.declared.arch.all.packedpair.Finder.{Finder}
 

@@ -1,8 +1,6 @@
 -- A needle of one byte occurs where the byte is.
-use Rattle.std.proofs.Common.{◌≡◌, ℕ, ◌+◌, ◌<◌, List, length, Option, Some, None, ap, subst, ◌∙◌, arith}
-use Rattle.std.proofs.lemmas.Bool.{eqb-true, eq-eqb}
-use Rattle.std.specs.Prelude.{slice_index}
-use Rattle.memchr.specs.Find.{OccursAt, Passes, is_byte, IsFirstByte, IsLastByte, FindsNeedle, FindsLastNeedle}
+use Rattle.os_str_ext.proofs.Common.{◌≡◌, ℕ, ◌+◌, ◌<◌, List, length, Option, Some, None, ap, subst, ◌∙◌, arith, eqb-true, eq-eqb, slice_index, OccursAt, Passes, is_byte, IsFirstByte, FindsNeedle, FindsLastNeedle}
+use Rattle.memchr.specs.Find.{IsLastByte}
 
 module _ (s p : List ℕ) (one : length p ≡ 1) where
   occurs_where_the_byte_is : (k : ℕ) → k < length s → Passes (is_byte (slice_index p 0)) s k → OccursAt s p k

@@ -1,5 +1,5 @@
 -- The units of parts.
-use Rattle.std.proofs.Common.{◌≡◌, ℕ, List, [], ◌∷◌, ◌++◌, length, refl, ap, ◌∙◌, arith, length-append}
+use Rattle.os_str_ext.proofs.Common.{◌≡◌, ℕ, List, [], ◌∷◌, ◌++◌, length, refl, ap, ◌∙◌, arith, length-append}
 
 -- no bytes have no units
 pub no_units : (units : List ℕ → List ℕ) → units [] ≡ units [] ++ units [] → units [] ≡ []

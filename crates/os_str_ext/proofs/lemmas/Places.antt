@@ -1,13 +1,8 @@
 -- Boundaries and whole characters, as the tests of them find them.
-use Rattle.std.proofs.Common.{◌≡◌, ℕ, ◌+◌, ◌-◌, ◌<◌, true, false, List, ◌++◌, length, drop, get_or, Option, Some, None, inl, inr, refl, sym, ap, ◌∙◌, subst, arith, ⊎_elim}
-use Rattle.std.proofs.lemmas.Bool.{false≢true}
+use Rattle.os_str_ext.proofs.Common.{◌≡◌, ℕ, ◌+◌, ◌-◌, ◌<◌, true, false, List, ◌++◌, length, drop, get_or, Option, Some, None, inr, refl, sym, ap, ◌∙◌, subst, arith, ⊎_elim, false≢true, is_some, WholeCharacter, IsBoundary, form_ascii, whole_at}
 use Rattle.std.proofs.lemmas.List.{drop_more}
-use Rattle.std.specs.Option.{is_some}
-use Rattle.wtf8_core.specs.Character.{WholeCharacter, IsCharacterAt}
-use Rattle.wtf8_core.specs.Boundary.{IsBoundary}
+use Rattle.wtf8_core.specs.Character.{IsCharacterAt}
 use Rattle.wtf8_core.proofs.Common.{low_scalar}
-use Rattle.wtf8_core.proofs.lemmas.forms.Shapes.{form_ascii}
-use Rattle.wtf8_core.proofs.lemmas.characters.AtPlaces.{whole_at}
 use Rattle.os_str_ext.specs.Characters.{IsCharacterBefore}
 
 pub none_from_test : (s : List ℕ) (i : ℕ) (r : Option ℕ) → is_some r ≡ false → IsCharacterAt s i r → (j : ℕ) → WholeCharacter s i j → ⊥

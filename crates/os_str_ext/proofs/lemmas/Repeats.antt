@@ -1,8 +1,6 @@
 -- Repeated strings, by the laws of standing.
-use Rattle.std.proofs.Common.{◌≡◌, ℕ, zero, suc, ◌+◌, List, [], ◌∷◌, ◌++◌, length, refl, sym, ap, ◌∙◌, subst, arith, append_assoc, append-nil}
-use Rattle.std.specs.List.{repeat}
-use Rattle.wtf8_core.specs.StandingLaws.{StandingLaws}
-use Rattle.wtf8_core.proofs.lemmas.standing.Places.{nil_formed, no_units}
+use Rattle.os_str_ext.proofs.Common.{◌≡◌, ℕ, zero, suc, ◌+◌, List, [], ◌∷◌, ◌++◌, length, refl, sym, ap, ◌∙◌, subst, arith, append_assoc, append-nil, repeat, StandingLaws, no_units}
+use Rattle.wtf8_core.proofs.lemmas.standing.Places.{nil_formed}
 
 -- no list
 abbrev empty : List ℕ

@@ -1,13 +1,6 @@
 -- Runs of a text: lists that are the text repeated.
-use Rattle.std.proofs.Common.{◌≡◌, ℕ, zero, suc, ◌+◌, ◌-◌, ◌<◌, ◌≤◌, List, ◌++◌, length, take, drop, refl, sym, ap, subst, ◌∙◌, arith, inl, inr, append_assoc, length-append, length-drop, take-append-drop, drop_of_length-le}
-use Rattle.std.proofs.lemmas.List.{append-nil, length-take-le, drop-drop}
-use Rattle.std.proofs.Math.Seq.{take-add}
-use Rattle.std.specs.List.{repeat}
-use Rattle.std.specs.Str.{IsUtf8}
-use Rattle.memchr.specs.Find.{OccursAt}
-use Rattle.memchr.proofs.lemmas.MatchLemmas.{OccursAt-part, OccursAt-from_part}
-use Rattle.wtf8_core.specs.Standing.{StandsAt}
-use Rattle.wtf8_core.specs.Boundary.{IsBoundary}
+use Rattle.os_str_ext.proofs.Common.{◌≡◌, ℕ, zero, suc, ◌+◌, ◌-◌, ◌<◌, ◌≤◌, List, ◌++◌, length, take, drop, refl, sym, ap, subst, ◌∙◌, arith, inl, inr, append_assoc, length-append, length-drop, take-append-drop, append-nil, length-take-le, drop-drop, take-add, repeat, IsUtf8, OccursAt, OccursAt-part, OccursAt-from_part, StandsAt, IsBoundary}
+use Rattle.std.proofs.Common.{drop_of_length-le}
 use Rattle.wtf8_core.specs.Pieces.{IsStartTrim, IsEndTrim}
 use Rattle.os_str_ext.proofs.lemmas.Comparing.{take_from_front, front_fits}
 use Rattle.os_str_ext.proofs.lemmas.Searches.{EdgesOfTexts, occurs_where_it_stands}

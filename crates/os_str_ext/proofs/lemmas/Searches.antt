@@ -1,14 +1,9 @@
 -- What the searches of `memchr` find, and that a string may be cut before and after a text.
-use Rattle.std.proofs.Common.{◌≡◌, ℕ, ◌+◌, ◌-◌, ◌<◌, ◌≤◌, true, List, [], ◌++◌, length, take, drop, Option, Some, None, refl, sym, ap, subst, ◌∙◌, arith, inl, inr, ⊎_elim, length-append, take-append-drop}
-use Rattle.std.proofs.lemmas.List.{append-nil, length-take-le, drop_at, nil_from_length}
+use Rattle.os_str_ext.proofs.Common.{◌≡◌, ℕ, ◌+◌, ◌-◌, ◌<◌, ◌≤◌, true, List, [], ◌++◌, length, take, drop, Option, Some, None, refl, sym, ap, subst, ◌∙◌, arith, inl, inr, ⊎_elim, length-append, take-append-drop, append-nil, length-take-le, drop_at, nil_from_length, cases_eq, false≢true, is_some, IsUtf8, OccursAt, FindsNeedle, FindsLastNeedle, StandsAt, IsFirstPlace, IsLastPlace, IsPrefix, IsSuffix, IsBoundary, SplitsAt}
 use Rattle.std.proofs.lemmas.List.Prefix.{at_from_reads, at_reads}
-use Rattle.std.proofs.lemmas.Bool.{cases_eq, false≢true}
-use Rattle.std.specs.Option.{is_some, IfSome}
-use Rattle.std.specs.Str.{IsUtf8}
-use Rattle.memchr.specs.Find.{OccursAt, FindsNeedle, FindsLastNeedle}
-use Rattle.wtf8_core.specs.Standing.{StandsAt, Finds, IsFirstPlace, IsLastPlace, IsPrefix, IsSuffix}
-use Rattle.wtf8_core.specs.Boundary.{IsBoundary}
-use Rattle.wtf8_core.specs.Pieces.{StandsSomewhere, SplitsAt, MayBeCutAround}
+use Rattle.std.specs.Option.{IfSome}
+use Rattle.wtf8_core.specs.Standing.{Finds}
+use Rattle.wtf8_core.specs.Pieces.{StandsSomewhere, MayBeCutAround}
 
 -- a string may be cut before and after a text that occurs in it (`laws::boundaries`)
 abbrev pub EdgesOfTexts : Type 0

@@ -1,10 +1,8 @@
 -- A string has one list of pieces, and a cut takes the first of them off.
-use Rattle.std.proofs.Common.{◌≡◌, ℕ, ◌<◌, List, [], ◌∷◌, length, Option, None, Some, refl, sym, ap, subst, ◌∙◌, arith}
+use Rattle.os_str_ext.proofs.Common.{◌≡◌, ℕ, ◌<◌, List, [], ◌∷◌, length, Option, None, Some, refl, sym, ap, subst, ◌∙◌, arith, option_map, StandsNowhere, ArePieces, AreOfRest, pieces_left}
 use Rattle.std.specs.Iterator.{MakesProgress, item_count}
-use Rattle.std.specs.Option.{option_map}
-use Rattle.wtf8_core.specs.Standing.{StandsNowhere}
 use Rattle.wtf8_core.specs.Pieces.FallsInto.{whole, cut}
-use Rattle.os_str_ext.specs.Cuts.{ArePieces, AreOfRest, PiecesOf, CutLaws, pieces_left}
+use Rattle.os_str_ext.specs.Cuts.{PiecesOf, CutLaws}
 
 module _ (Cuts : List ℕ → List ℕ → List ℕ → List ℕ → Type 0) (laws : CutLaws Cuts) (p : List ℕ) where
   one_list : (s : List ℕ) (qs rs : List (List ℕ)) → ArePieces Cuts p s qs → ArePieces Cuts p s rs → qs ≡ rs

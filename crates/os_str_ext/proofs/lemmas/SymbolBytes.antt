@@ -1,18 +1,10 @@
 -- A string's one list of symbols, and the bytes of them.
-use Rattle.std.proofs.Common.{◌≡◌, ℕ, List, [], ◌∷◌, ◌++◌, map, take, drop, refl, sym, ap, ◌∙◌, append_assoc}
+use Rattle.os_str_ext.proofs.Common.{◌≡◌, ℕ, List, [], ◌∷◌, ◌++◌, map, take, drop, refl, sym, ap, ◌∙◌, append_assoc, AllByRecursion, flat_map, IsUtf8, chars, encode_utf8_all, IsBoundary, Chunk, joined, HasNoCharacter, some_chunks, chunks_once, chunks_of, IsChunkOf, chunks_symbols, symbols_of, unit_symbol, Character}
 use Rattle.std.proofs.lemmas.Grind.{flat_map-append}
 use Rattle.std.proofs.lemmas.Str.{chars-encodes}
-use Rattle.std.specs.List.{AllByRecursion, flat_map}
-use Rattle.std.specs.Str.{IsUtf8, chars, encode_utf8_all}
-use Rattle.wtf8_core.specs.Boundary.{IsBoundary}
-use Rattle.wtf8_core.specs.Chunks.{Chunk, joined}
-use Rattle.wtf8_core.specs.Covered.{HasNoCharacter}
 use Rattle.wtf8_core.specs.PartUnits.{unit_bytes}
-use Rattle.wtf8_core.proofs.lemmas.chunks.OneList.{some_chunks, chunks_once}
-use Rattle.os_str_ext.specs.Chunks.{chunks_of, IsChunkOf}
-use Rattle.os_str_ext.specs.Symbols.{AreSymbols, chunk_symbols, chunks_symbols, symbol_bytes, symbols_of, unit_symbol}
+use Rattle.os_str_ext.specs.Symbols.{AreSymbols, chunk_symbols, symbol_bytes}
 use Rattle.os_str_ext.specs.declared.symbols.Symbol.{Symbol}
-use Rattle.os_str_ext.specs.declared.symbols.Symbol.TheVariants.{Character}
 use Rattle.os_str_ext.proofs.lemmas.EachChunk.{are_chunks_of}
 
 unit_symbols_bytes : (us : List ℕ) → flat_map symbol_bytes (map unit_symbol us) ≡ flat_map unit_bytes us

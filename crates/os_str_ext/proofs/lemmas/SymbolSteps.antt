@@ -1,21 +1,7 @@
 -- The symbols of a string, taken off one by one.
-use Rattle.std.proofs.Common.{◌≡◌, ⊎_elim, ℕ, ◌+◌, ◌-◌, ◌<◌, ◌≤◌, List, [], ◌∷◌, ◌++◌, map, length, take, drop, refl, sym, ap, ◌∙◌, subst, arith, append_assoc, append-nil, length-append, length-drop, take-append-drop, drop-drop}
-use Rattle.std.proofs.lemmas.Bool.{cases_lt, cases_eq}
-use Rattle.std.proofs.lemmas.List.{length-take-le, take-take, drop-take, drop_at, take_at}
-use Rattle.std.proofs.lemmas.Str.{IsUtf8-past_char, encode_same, chars-nil, chars_past_char}
-use Rattle.std.specs.Char.{IsScalar, encode_utf8}
-use Rattle.std.specs.Str.{IsUtf8, chars, encode_utf8_all}
-use Rattle.wtf8_core.specs.Character.{WholeCharacter}
-use Rattle.wtf8_core.specs.CodePoint.{encode}
-use Rattle.wtf8_core.specs.Covered.{IsCovered, StartsWithNoCharacter}
-use Rattle.wtf8_core.specs.StandingLaws.{StandingLaws}
-use Rattle.wtf8_core.proofs.lemmas.characters.AtPlaces.{character_fits, whole_at}
-use Rattle.wtf8_core.proofs.lemmas.characters.Seams.{covered_within, whole_within}
-use Rattle.wtf8_core.proofs.lemmas.forms.ByStd.{form_encode}
-use Rattle.platform_str.specs.Laws.{IsFirstUnit}
-use Rattle.os_str_ext.specs.Chunks.{IsBareUpTo, IsFirstChunk}
-use Rattle.os_str_ext.specs.Symbols.{IsKnownPart, chunks_symbols, symbols_of, unit_symbol}
-use Rattle.os_str_ext.specs.declared.symbols.Symbol.TheVariants.{Character}
+use Rattle.os_str_ext.proofs.Common.{◌≡◌, ⊎_elim, ℕ, ◌+◌, ◌-◌, ◌<◌, ◌≤◌, List, [], ◌∷◌, ◌++◌, map, length, take, drop, refl, sym, ap, ◌∙◌, subst, arith, append_assoc, append-nil, length-append, length-drop, take-append-drop, drop-drop, cases_lt, cases_eq, length-take-le, take-take, drop-take, drop_at, take_at, encode_same, IsScalar, encode_utf8, IsUtf8, chars, encode_utf8_all, WholeCharacter, encode, IsCovered, StartsWithNoCharacter, StandingLaws, character_fits, whole_at, whole_within, form_encode, IsFirstUnit, IsBareUpTo, IsFirstChunk, IsKnownPart, chunks_symbols, symbols_of, unit_symbol, Character}
+use Rattle.std.proofs.lemmas.Str.{IsUtf8-past_char, chars-nil, chars_past_char}
+use Rattle.wtf8_core.proofs.lemmas.characters.Seams.{covered_within}
 use Rattle.os_str_ext.proofs.lemmas.EachChunk.{text_end}
 use Rattle.os_str_ext.proofs.lemmas.FirstChunk.{first_and_rest, first_of_parts, no_chunks}
 
@@ -75,15 +61,9 @@ part_before_character s i j bare w =
     let some : i < t.0 = ⊎_elim (λ same. absurd (t.1.ended j (subst (λ k. WholeCharacter s k j) same w))) (λ ne. omega (arith, ne, t.1.ordered)) (cases_eq i t.0) in
     (t.0, first_of_parts s i t.0 bare.bare (λ _. some) t.1.ordered t.1.within t.1.text t.1.ended)
 
--- the first byte is in a part, and then the next one if no character starts there
+-- the first byte is in a part
 pub bare_first : (s : List ℕ) → 0 < length s → StartsWithNoCharacter s → IsBareUpTo s 1
 bare_first s some bare = record { within = omega (arith, some); bare = λ k j low w. let z : k ≡ 0 = omega (arith, low) in bare j (subst (λ x. WholeCharacter s x j) z w) }
-
-pub bare_next : (s : List ℕ) (i : ℕ) → IsBareUpTo s i → i < length s → ((j : ℕ) → ¬ (WholeCharacter s i j)) → IsBareUpTo s (i + 1)
-bare_next s i p lt none = record {
-  within = omega (arith, lt);
-  bare = λ k j low w. ⊎_elim (λ e. none j (subst (λ x. WholeCharacter s x j) e w)) (λ ne. p.bare k j (omega (arith, low, ne)) w) (cases_eq k i);
-}
 
 -- after the first unit of the part
 module _ (well_formed : List ℕ → Type 0) (units : List ℕ → List ℕ) (s : List ℕ) (m e u n : ℕ) (h : IsFirstChunk s m e) (first : IsFirstUnit well_formed units (take m s) u n) where

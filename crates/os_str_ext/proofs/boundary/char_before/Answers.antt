@@ -1,5 +1,4 @@
-use Rattle.std.proofs.Common.{◌≡◌, ◌-◌, arith, subst, sym}
-use Rattle.wtf8_core.specs.Character.{WholeCharacter}
+use Rattle.os_str_ext.proofs.Common.{◌≡◌, ◌-◌, arith, subst, sym, WholeCharacter}
 use Rattle.os_str_ext.proofs.boundary.char_before.Goals as goal
 
 pub returns : goal.returns

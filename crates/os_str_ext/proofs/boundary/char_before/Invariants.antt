@@ -1,5 +1,4 @@
-use Rattle.std.proofs.Common.{ℕ, ◌<◌, ◌≤◌, ◌-◌}
-use Rattle.wtf8_core.specs.Character.{WholeCharacter}
+use Rattle.os_str_ext.proofs.Common.{ℕ, ◌<◌, ◌≤◌, ◌-◌, WholeCharacter}
 use Rattle.os_str_ext.proofs.boundary.char_before.Given as goal
 
 abbrev pub invariant-loop-size : goal.invariant-loop-size

@@ -1,6 +1,4 @@
-use Rattle.std.proofs.Common.{◌≡◌, ◌+◌, ◌-◌, ℕ, arith, subst, ⊎_elim}
-use Rattle.std.proofs.lemmas.Bool.{false≢true, eqb-true, eq-eqb}
-use Rattle.wtf8_core.specs.Character.{WholeCharacter}
+use Rattle.os_str_ext.proofs.Common.{◌≡◌, ◌+◌, ◌-◌, ℕ, arith, subst, ⊎_elim, false≢true, eqb-true, eq-eqb, WholeCharacter}
 use Rattle.os_str_ext.proofs.boundary.ends_character.Goals as goal
 
 pub returns-in-None : goal.returns-in-None

@@ -1,6 +1,4 @@
-use Rattle.std.proofs.Common.{sym, subst}
-use Rattle.wtf8_core.specs.Boundary.{IsBoundary}
-use Rattle.platform_str.specs.Strings.{bytes}
+use Rattle.os_str_ext.proofs.Common.{sym, subst, IsBoundary, bytes}
 use Rattle.os_str_ext.proofs.lemmas.CutUnits.{part_in_units}
 use Rattle.os_str_ext.proofs.boundary.part.Goals as goal
 

@@ -1,5 +1,4 @@
-use Rattle.std.proofs.Common.{sym, ap, ◌∙◌, subst, take, drop}
-use Rattle.platform_str.specs.Strings.{bytes}
+use Rattle.os_str_ext.proofs.Common.{sym, ap, ◌∙◌, subst, take, drop, bytes}
 use Rattle.os_str_ext.proofs.boundary.split_at.Goals as goal
 
 pub from_encoded_bytes_unchecked-requires : goal.from_encoded_bytes_unchecked-requires

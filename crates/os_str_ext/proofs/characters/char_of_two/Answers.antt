@@ -1,5 +1,4 @@
-use Rattle.std.proofs.Common.{arith}
-use Rattle.std.proofs.lemmas.Bool.Decides.{nat_tests}
+use Rattle.os_str_ext.proofs.Common.{arith, nat_tests}
 use Rattle.os_str_ext.proofs.lemmas.FewBytes.{char_of_two, none_of_two}
 use Rattle.os_str_ext.proofs.characters.char_of_two.Goals as goal
 

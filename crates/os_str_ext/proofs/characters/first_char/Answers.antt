@@ -1,7 +1,5 @@
-use Rattle.std.proofs.Common.{◌∷◌, [], arith, drop, get_or, subst, sym}
-use Rattle.std.proofs.lemmas.Bool.Decides.{nat_tests}
+use Rattle.os_str_ext.proofs.Common.{◌∷◌, [], arith, drop, get_or, subst, sym, nat_tests, IsFirstChar}
 use Rattle.wtf8_core.proofs.lemmas.characters.FourBytes.{four_first}
-use Rattle.os_str_ext.specs.Characters.{IsFirstChar}
 use Rattle.os_str_ext.proofs.lemmas.FewBytes.{char_by_few, none_by_few, none_by_first}
 use Rattle.os_str_ext.proofs.lemmas.FirstItem.{ascii_first}
 use Rattle.os_str_ext.proofs.characters.first_char.Goals as goal

@@ -1,4 +1,4 @@
-use Rattle.std.proofs.Common.{◌<◌, ◌∙◌, length, subst, sym}
+use Rattle.os_str_ext.proofs.Common.{◌<◌, ◌∙◌, length, subst, sym}
 use Rattle.os_str_ext.proofs.lemmas.EdgeCharacters.{text_of_one, some_of_one, one_encoded}
 use Rattle.os_str_ext.proofs.characters.only_char.Goals as goal
 

@@ -1,5 +1,4 @@
-use Rattle.std.proofs.Common.{◌≡◌, ◌<◌, ◌∷◌, arith, drop, false, get_or, Ok, subst}
-use Rattle.wtf8_core.specs.Items.{AreItems}
+use Rattle.os_str_ext.proofs.Common.{◌≡◌, ◌<◌, ◌∷◌, arith, drop, false, get_or, Ok, subst, AreItems}
 use Rattle.wtf8_core.specs.Reader.{first_item}
 use Rattle.os_str_ext.proofs.lemmas.FewBytes.{has_first}
 use Rattle.os_str_ext.proofs.lemmas.FirstItem.{bare_at_fault, char_read, read_first, some_item, surrogate_read}

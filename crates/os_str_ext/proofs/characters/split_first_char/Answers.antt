@@ -1,9 +1,4 @@
-use Rattle.std.proofs.Common.{◌∙◌, ◌+◌, ◌++◌, ap, drop, subst, sym, take-append-drop}
-use Rattle.std.specs.Char.{encode_utf8}
-use Rattle.wtf8_core.specs.Character.{WholeCharacter}
-use Rattle.wtf8_core.specs.Covered.{StartsWithNoCharacter}
-use Rattle.platform_str.specs.Strings.{bytes}
-use Rattle.os_str_ext.specs.Characters.{IsFirstChar}
+use Rattle.os_str_ext.proofs.Common.{◌∙◌, ◌+◌, ◌++◌, ap, drop, subst, sym, take-append-drop, encode_utf8, WholeCharacter, StartsWithNoCharacter, bytes, IsFirstChar}
 use Rattle.os_str_ext.proofs.lemmas.EdgeCharacters.{first_edge}
 use Rattle.os_str_ext.proofs.characters.split_first_char.Goals as goal
 

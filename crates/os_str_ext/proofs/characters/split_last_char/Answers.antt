@@ -1,7 +1,4 @@
-use Rattle.std.proofs.Common.{◌∙◌, ◌-◌, ◌++◌, ap, drop, subst, sym, take-append-drop}
-use Rattle.wtf8_core.specs.Boundary.{IsBoundary}
-use Rattle.platform_str.specs.Strings.{bytes}
-use Rattle.os_str_ext.specs.Characters.{IsOneCharacter}
+use Rattle.os_str_ext.proofs.Common.{◌∙◌, ◌-◌, ◌++◌, ap, drop, subst, sym, take-append-drop, IsBoundary, bytes, IsOneCharacter}
 use Rattle.os_str_ext.proofs.lemmas.EdgeCharacters.{last_edge, last_one}
 use Rattle.os_str_ext.proofs.characters.split_last_char.Goals as goal
 

@@ -1,14 +1,9 @@
-use Rattle.std.proofs.Common.{arith, sym, subst}
+use Rattle.os_str_ext.proofs.Common.{arith}
 use Rattle.os_str_ext.proofs.lemmas.BareStart.{one_more, part_more, text_found, bare_after_text, text_to_end, all_bare}
 use Rattle.os_str_ext.proofs.chunks.chunk_ends.Goals as goal
 
 pub loop-at-preserved-then-begins_no_character : goal.loop-at-preserved-then-begins_no_character
 loop-at-preserved-then-begins_no_character g c = one_more c.args.bytes.now c.loop-at.at c.loop-at.invariant c.loop-at-test.true (c.begins_no_character.ensures.0 c.if-begins_no_character.true)
-
-pub utf8_fault-requires : goal.utf8_fault-requires
-utf8_fault-requires g c =
-    subst g.E.Platform.well_formed (sym c.split_at.ensures.back) (g.met.E.Platform.laws.cut_lead c.args.bytes.now c.loop-at.at c.loop-at-test.true c.requires.formed
-    (λ k. let none = c.begins_no_character.ensures.1 (omega (arith, k), λ r. omega (arith, k, r)) in cc))
 
 pub returns-in_default-clause-ends : goal.returns-in_default-clause-ends
 returns-in_default-clause-ends g c = text_to_end c.args.bytes.now c.loop-at.at c.loop-at.invariant _ c.split_at.ensures.back c.loop-at-test.true c.in_default.ensures

@@ -1,5 +1,4 @@
-use Rattle.std.proofs.Common.{length, ◌-◌}
-use Rattle.os_str_ext.specs.Chunks.{IsBareUpTo}
+use Rattle.os_str_ext.proofs.Common.{length, ◌-◌, IsBareUpTo}
 use Rattle.os_str_ext.proofs.chunks.chunk_ends.Given as goal
 
 abbrev pub invariant-loop-at : goal.invariant-loop-at

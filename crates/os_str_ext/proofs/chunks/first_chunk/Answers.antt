@@ -1,7 +1,4 @@
-use Rattle.std.proofs.Common.{◌∙◌, ◌<◌, ap, drop, length, subst, sym, take}
-use Rattle.std.proofs.lemmas.List.{take-take}
-use Rattle.wtf8_core.specs.Covered.{HasNoCharacter}
-use Rattle.os_str_ext.specs.Chunks.{chunks_of}
+use Rattle.os_str_ext.proofs.Common.{◌∙◌, ◌<◌, ap, drop, length, subst, sym, take, take-take, HasNoCharacter, chunks_of}
 use Rattle.os_str_ext.proofs.lemmas.FirstChunk.{edges, part_is_bare, first_and_rest, same_first}
 use Rattle.os_str_ext.proofs.chunks.first_chunk.Goals as goal
 

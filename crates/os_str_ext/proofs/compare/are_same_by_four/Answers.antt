@@ -1,6 +1,5 @@
-use Rattle.std.proofs.Common.{◌-◌, length, drop, subst}
-use Rattle.std.proofs.lemmas.Bool.{eqb-true, eq-eqb}
-use Rattle.std.specs.Int.{from_le_bytes, to_le_bytes, w32}
+use Rattle.os_str_ext.proofs.Common.{◌-◌, length, drop, subst, eqb-true, eq-eqb, from_le_bytes, to_le_bytes}
+use Rattle.std.specs.Int.{w32}
 use Rattle.os_str_ext.proofs.lemmas.Comparing.{IsNumberOf, same_from_numbers, numbers_from_same}
 use Rattle.os_str_ext.proofs.compare.are_same_by_four.Goals as goal
 

@@ -1,5 +1,5 @@
+use Rattle.os_str_ext.proofs.Common.{bytes}
 use Rattle.wtf8_core.proofs.lemmas.standing.Pieces.{split_in_units}
-use Rattle.platform_str.specs.Strings.{bytes}
 use Rattle.os_str_ext.proofs.iter.split.Goals as goal
 
 pub returns : goal.returns

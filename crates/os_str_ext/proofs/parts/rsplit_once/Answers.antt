@@ -1,5 +1,4 @@
-use Rattle.wtf8_core.specs.Standing.{IsLastPlace}
-use Rattle.platform_str.specs.Strings.{bytes}
+use Rattle.os_str_ext.proofs.Common.{IsLastPlace, bytes}
 use Rattle.os_str_ext.proofs.lemmas.Searches.{parts_around}
 use Rattle.os_str_ext.proofs.parts.rsplit_once.Goals as goal
 

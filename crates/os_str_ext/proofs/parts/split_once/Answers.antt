@@ -1,5 +1,4 @@
-use Rattle.wtf8_core.specs.Standing.{IsFirstPlace}
-use Rattle.platform_str.specs.Strings.{bytes}
+use Rattle.os_str_ext.proofs.Common.{IsFirstPlace, bytes}
 use Rattle.os_str_ext.proofs.lemmas.Searches.{parts_around}
 use Rattle.os_str_ext.proofs.parts.split_once.Goals as goal
 

@@ -1,5 +1,4 @@
-use Rattle.std.proofs.Common.{◌<◌, ◌≢◌, length, false-eqb, arith}
-use Rattle.platform_str.specs.Strings.{bytes}
+use Rattle.os_str_ext.proofs.Common.{◌<◌, ◌≢◌, length, false-eqb, arith, bytes}
 use Rattle.os_str_ext.proofs.lemmas.Runs.{cut_behind_run}
 use Rattle.os_str_ext.proofs.parts.trim_start.Goals as goal
 

@@ -1,5 +1,5 @@
-use Rattle.std.proofs.Common.{◌≡◌, length, true-eqb, refl, sym, ap, ◌∙◌}
-use Rattle.platform_str.specs.Strings.{bytes}
+use Rattle.os_str_ext.proofs.Common.{◌≡◌, length, refl, sym, ap, ◌∙◌, bytes}
+use Rattle.std.proofs.Common.{true-eqb}
 use Rattle.os_str_ext.proofs.lemmas.Repeats.{no_times, of_nothing, once_more}
 use Rattle.os_str_ext.proofs.repeat.repeat.Goals as goal
 

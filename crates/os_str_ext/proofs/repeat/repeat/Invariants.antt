@@ -1,5 +1,4 @@
-use Rattle.std.proofs.Common.{◌≡◌}
-use Rattle.std.specs.List.{repeat}
+use Rattle.os_str_ext.proofs.Common.{◌≡◌, repeat}
 use Rattle.os_str_ext.proofs.repeat.repeat.Given as goal
 
 abbrev pub invariant-loop : goal.invariant-loop

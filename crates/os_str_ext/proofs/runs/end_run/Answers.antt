@@ -1,4 +1,4 @@
-use Rattle.std.proofs.Common.{arith}
+use Rattle.os_str_ext.proofs.Common.{arith}
 use Rattle.os_str_ext.proofs.lemmas.Runs.{run_at_end, run_before, end_trim}
 use Rattle.os_str_ext.proofs.runs.end_run.Goals as goal
 

@@ -1,4 +1,4 @@
-use Rattle.std.proofs.Common.{suc, refl, arith}
+use Rattle.os_str_ext.proofs.Common.{suc, refl, arith}
 use Rattle.os_str_ext.proofs.lemmas.Runs.{passed_more}
 use Rattle.os_str_ext.proofs.runs.skip.Goals as goal
 

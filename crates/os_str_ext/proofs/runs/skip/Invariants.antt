@@ -1,5 +1,4 @@
-use Rattle.std.proofs.Common.{◌≡◌, ◌-◌, ◌≤◌, ◌++◌, ℕ, length, take}
-use Rattle.std.specs.List.{repeat}
+use Rattle.os_str_ext.proofs.Common.{◌≡◌, ◌-◌, ◌≤◌, ◌++◌, ℕ, length, take, repeat}
 use Rattle.os_str_ext.proofs.runs.skip.Given as goal
 
 abbrev pub invariant-loop-at : goal.invariant-loop-at

@@ -1,4 +1,4 @@
-use Rattle.std.proofs.Common.{suc, refl, arith}
+use Rattle.os_str_ext.proofs.Common.{suc, refl, arith}
 use Rattle.os_str_ext.proofs.lemmas.Runs.{passed_back}
 use Rattle.os_str_ext.proofs.runs.skip_back.Goals as goal
 

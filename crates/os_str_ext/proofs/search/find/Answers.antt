@@ -1,5 +1,5 @@
 use Rattle.os_str_ext.proofs.lemmas.Searches.{least_place_of_needle, cut_around_least, below_least}
-use Rattle.std.proofs.Common.{◌^◌, arith}
+use Rattle.os_str_ext.proofs.Common.{◌^◌, arith}
 use Rattle.os_str_ext.proofs.search.find.Goals as goal
 
 pub returns-clause-place : goal.returns-clause-place

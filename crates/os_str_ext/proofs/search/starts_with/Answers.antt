@@ -1,4 +1,4 @@
-use Rattle.std.proofs.Common.{sym, ◌∙◌}
+use Rattle.os_str_ext.proofs.Common.{sym, ◌∙◌}
 use Rattle.os_str_ext.proofs.lemmas.Comparing.{front_from_take}
 use Rattle.os_str_ext.proofs.lemmas.Searches.{cut_behind_front}
 use Rattle.os_str_ext.proofs.search.starts_with.Goals as goal

@@ -1,5 +1,4 @@
-use Rattle.std.proofs.Common.{sym}
-use Rattle.wtf8_core.proofs.lemmas.forms.ByStd.{form_encode}
+use Rattle.os_str_ext.proofs.Common.{sym, form_encode}
 use Rattle.os_str_ext.proofs.search_laws.patterns.Goals as goal
 
 pub returns-clause-of_char : goal.returns-clause-of_char

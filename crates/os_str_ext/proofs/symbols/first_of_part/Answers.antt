@@ -1,8 +1,4 @@
-use Rattle.std.proofs.Common.{◌∙◌, ◌-◌, ◌<◌, ◌∷◌, ap, length, subst, sym}
-use Rattle.wtf8_core.specs.Covered.{StartsWithNoCharacter}
-use Rattle.wtf8_core.proofs.lemmas.standing.Places.{no_units}
-use Rattle.platform_str.specs.Laws.{IsFirstUnit}
-use Rattle.os_str_ext.specs.Symbols.{IsKnownPart, symbols_of, unit_symbol}
+use Rattle.os_str_ext.proofs.Common.{◌∙◌, ◌-◌, ◌<◌, ◌∷◌, ap, length, subst, sym, StartsWithNoCharacter, no_units, IsFirstUnit, IsKnownPart, symbols_of, unit_symbol}
 use Rattle.os_str_ext.proofs.lemmas.FirstChunk.{edges, part_is_bare}
 use Rattle.os_str_ext.proofs.lemmas.SymbolSteps.{part_behind_unit, symbols_by_unit, formed_behind_unit}
 use Rattle.os_str_ext.proofs.symbols.first_of_part.Goals as goal

@@ -1,6 +1,5 @@
+use Rattle.os_str_ext.proofs.Common.{no_units, bytes}
 use Rattle.std.proofs.Common.{rules}
-use Rattle.wtf8_core.proofs.lemmas.standing.Places.{no_units}
-use Rattle.platform_str.specs.Strings.{bytes}
 use Rattle.os_str_ext.proofs.lemmas.SymbolSteps.{known_behind_character, no_symbols, symbols_by_character}
 use Rattle.os_str_ext.proofs.symbols.first_symbol.Goals as goal
 

@@ -1,6 +1,7 @@
-use Rattle.std.proofs.Common.{length, arith}
+use Rattle.os_str_ext.proofs.Common.{length, arith}
 use Rattle.os_str_ext.proofs.lemmas.BareStart.{all_bare}
-use Rattle.os_str_ext.proofs.lemmas.SymbolSteps.{bare_first, bare_next, part_before_character}
+use Rattle.os_str_ext.proofs.lemmas.BareStart.{bare_next}
+use Rattle.os_str_ext.proofs.lemmas.SymbolSteps.{bare_first, part_before_character}
 use Rattle.os_str_ext.proofs.symbols.part_len.Goals as goal
 
 pub loop-at-init : goal.loop-at-init

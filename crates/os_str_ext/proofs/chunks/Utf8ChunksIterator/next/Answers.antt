@@ -1,4 +1,4 @@
-use Rattle.std.proofs.Common.{◌∙◌, sym}
+use Rattle.os_str_ext.proofs.Common.{◌∙◌, sym}
 use Rattle.os_str_ext.proofs.lemmas.FirstChunk.{no_chunks}
 use Rattle.os_str_ext.proofs.chunks.Utf8ChunksIterator.next.Goals as goal
 

@@ -1,7 +1,5 @@
-use Rattle.std.proofs.Common.{subst}
-use Rattle.std.specs.Str.{IsUtf8}
+use Rattle.os_str_ext.proofs.Common.{subst, IsUtf8, bytes}
 use Rattle.wtf8_core.proofs.lemmas.standing.Pieces.{strip_end_in_units}
-use Rattle.platform_str.specs.Strings.{bytes}
 use Rattle.os_str_ext.proofs.ext.OsStrOsStrBytesExt.strip_suffix.Goals as goal
 
 pub returns-clause-units : goal.returns-clause-units

@@ -1,7 +1,4 @@
-use Rattle.std.proofs.Common.{subst, sym}
-use Rattle.std.specs.Str.{IsUtf8}
-use Rattle.platform_str.specs.Strings.{bytes}
-use Rattle.os_str_ext.specs.Cuts.{ArePieces}
+use Rattle.os_str_ext.proofs.Common.{subst, sym, IsUtf8, bytes, ArePieces}
 use Rattle.os_str_ext.proofs.iter.Pieces.new.Goals as goal
 
 pub returns-clause-pieces : goal.returns-clause-pieces

@@ -1,6 +1,4 @@
-use Rattle.std.proofs.Common.{subst}
-use Rattle.platform_str.specs.Strings.{bytes}
-use Rattle.os_str_ext.specs.Cuts.{AreOfRest}
+use Rattle.os_str_ext.proofs.Common.{subst, bytes, AreOfRest}
 use Rattle.os_str_ext.proofs.lemmas.Splits.{pieces_of_rest}
 use Rattle.os_str_ext.proofs.iter.Pieces.rest.Goals as goal
 

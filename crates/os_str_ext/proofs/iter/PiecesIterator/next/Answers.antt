@@ -1,7 +1,4 @@
-use Rattle.std.proofs.Common.{ap, sym, ◌∙◌}
-use Rattle.std.specs.Option.{option_map}
-use Rattle.platform_str.specs.Strings.{bytes}
-use Rattle.os_str_ext.specs.Cuts.{pieces_left}
+use Rattle.os_str_ext.proofs.Common.{ap, sym, ◌∙◌, option_map, bytes, pieces_left}
 use Rattle.os_str_ext.proofs.lemmas.Splits.{pieces_whole, pieces_cut, first_piece_goes}
 use Rattle.os_str_ext.proofs.iter.PiecesIterator.next.Goals as goal
 

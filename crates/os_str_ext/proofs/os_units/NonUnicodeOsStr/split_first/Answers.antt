@@ -1,5 +1,4 @@
-use Rattle.std.proofs.Common.{◌∙◌, subst, sym}
-use Rattle.wtf8_core.specs.Covered.{StartsWithNoCharacter, HasNoCharacter}
+use Rattle.os_str_ext.proofs.Common.{◌∙◌, subst, sym, StartsWithNoCharacter, HasNoCharacter}
 use Rattle.wtf8_core.proofs.lemmas.chunks.PartUnits.{bare_rest}
 use Rattle.os_str_ext.proofs.os_units.NonUnicodeOsStr.split_first.Goals as goal
 

@@ -1,7 +1,4 @@
-use Rattle.std.proofs.Common.{[], ◌∙◌, sym, ap, subst, arith}
-use Rattle.wtf8_core.specs.Covered.{HasNoCharacter}
-use Rattle.wtf8_core.proofs.lemmas.characters.AtPlaces.{character_fits}
-use Rattle.wtf8_core.proofs.lemmas.standing.Places.{no_units}
+use Rattle.os_str_ext.proofs.Common.{[], ◌∙◌, sym, ap, subst, arith, HasNoCharacter, character_fits, no_units}
 use Rattle.os_str_ext.proofs.os_units.OsUnits.empty.Goals as goal
 
 pub new-requires-2 : goal.new-requires-2

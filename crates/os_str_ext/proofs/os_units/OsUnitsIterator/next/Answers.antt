@@ -1,5 +1,4 @@
-use Rattle.std.proofs.Common.{[], ap, inl, refl, sym, ◌∙◌}
-use Rattle.std.proofs.lemmas.Str.{IsUtf8-nil}
+use Rattle.os_str_ext.proofs.Common.{[], ap, inl, refl, sym, ◌∙◌, IsUtf8-nil}
 use Rattle.os_str_ext.proofs.lemmas.PartUnits.{no_units}
 use Rattle.os_str_ext.proofs.os_units.OsUnitsIterator.next.Goals as goal
 

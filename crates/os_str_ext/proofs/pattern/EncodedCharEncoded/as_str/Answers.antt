@@ -1,4 +1,4 @@
-use Rattle.std.proofs.lemmas.Str.{IsUtf8-had}
+use Rattle.os_str_ext.proofs.Common.{IsUtf8-had}
 use Rattle.os_str_ext.proofs.pattern.EncodedCharEncoded.as_str.Goals as goal
 
 pub from_utf8_unchecked-requires : goal.from_utf8_unchecked-requires

@@ -1,4 +1,4 @@
-use Rattle.platform_str.specs.Strings.{bytes}
+use Rattle.os_str_ext.proofs.Common.{bytes}
 use Rattle.os_str_ext.proofs.lemmas.CutUnits.{whole_in_units}
 use Rattle.os_str_ext.proofs.slice_index.RangeFullSliceIndex.index.Goals as goal
 
