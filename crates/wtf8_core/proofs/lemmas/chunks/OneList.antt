@@ -5,16 +5,16 @@ use Rattle.wtf8_core.proofs.lemmas.characters.Seams.{Bare, Covered, over_none, o
 use Rattle.wtf8_core.proofs.lemmas.chunks.Groups.{IsGroup, AreGroups, groups_from_each, each_from_groups, EachIsOfOne, grouped, not_first}
 
 -- the chunks of s one after the other, from index i on
-abbrev pub AreChunksFrom : List ℕ → ℕ → Bool → List Chunk → Type 0
-AreChunksFrom s i first cs = AreGroups (Bare s) (Covered s) i first cs
+abbrev pub AreChunksFrom : List ℕ → ℕ → Type 0 → List Chunk → Type 0
+AreChunksFrom s i First cs = AreGroups (Bare s) (Covered s) i First cs
 
 -- the same as each between its others
-pub chunks_from_start : (s : List ℕ) (cs : List Chunk) → AreChunks s cs → AreChunksFrom s 0 true cs
-chunks_from_start s cs h = groups_from_each (Bare s) (Covered s) cs [] cs (λ before behind c e.
+pub chunks_from_start : (s : List ℕ) (cs : List Chunk) → AreChunks s cs → AreChunksFrom s 0 (Unit {0}) cs
+chunks_from_start s cs h = groups_from_each (Bare s) (Covered s) cs [] cs (Unit {0}) (λ _. tt) (λ before behind c e.
     let p = h.each before behind c e in
     record { some = p.some; part = p.bare; text = λ k low high. p.covered k low (omega (arith, length-append c.0 c.1)); part_first = p.part_first; text_last = p.text_last }) refl
 
-pub are_chunks : (s : List ℕ) (cs : List Chunk) → joined cs ≡ s → AreChunksFrom s 0 true cs → AreChunks s cs
+pub are_chunks : (s : List ℕ) (cs : List Chunk) → joined cs ≡ s → AreChunksFrom s 0 (Unit {0}) cs → AreChunks s cs
 are_chunks s cs j g = record {
   joins = j;
   each = λ before behind c e.
@@ -47,7 +47,7 @@ same_chunk c d p t = ap (λ x. (x, c.1)) p ∙ ap (λ x. (d.0, x)) t
 
 module _ (s : List ℕ) where
   -- the byte after a part is covered, unless nothing follows
-  part_not_longer : (i : ℕ) (f g : Bool) (c d : Chunk) (cs ds : List Chunk) → IsGroup (Bare s) (Covered s) i f c cs → IsGroup (Bare s) (Covered s) i g d ds → joined (c ∷ cs) ≡ joined (d ∷ ds) → length c.0 < length d.0 → ⊥
+  part_not_longer : (i : ℕ) (f g : Type 0) (c d : Chunk) (cs ds : List Chunk) → IsGroup (Bare s) (Covered s) i f c (cs ≡ []) → IsGroup (Bare s) (Covered s) i g d (ds ≡ []) → joined (c ∷ cs) ≡ joined (d ∷ ds) → length c.0 < length d.0 → ⊥
   part_not_longer i f g c d cs ds h k same lt =
       let l = sym (joined_size c cs) ∙ ap length same ∙ joined_size d ds in
       ⊎_elim
@@ -56,14 +56,14 @@ module _ (s : List ℕ) where
       (cases_eq (length c.1) 0)
 
   -- the byte after a text is bare, unless nothing follows
-  text_not_longer : (i : ℕ) (f g : Bool) (c d : Chunk) (cs ds : List Chunk) → AreChunksFrom s i f (c ∷ cs) → IsGroup (Bare s) (Covered s) i g d ds → joined (c ∷ cs) ≡ joined (d ∷ ds) → length c.0 ≡ length d.0 → length c.1 < length d.1 → ⊥
+  text_not_longer : (i : ℕ) (f g : Type 0) (c d : Chunk) (cs ds : List Chunk) → AreChunksFrom s i f (c ∷ cs) → IsGroup (Bare s) (Covered s) i g d (ds ≡ []) → joined (c ∷ cs) ≡ joined (d ∷ ds) → length c.0 ≡ length d.0 → length c.1 < length d.1 → ⊥
   text_not_longer i f g c d [] ds h k same e lt = let l = sym (joined_size c []) ∙ ap length same ∙ joined_size d ds in omega arith
   text_not_longer i f g c d (x ∷ cs) ds h k same e lt =
       let n = size c in
-      let some = some_bytes x.0 (λ none. let z = h.1.0.part_first none in cc) in
+      let some = some_bytes x.0 h.1.0.part_first in
       h.1.0.part (i + length (c.0 ++ c.1)) (omega arith) (omega arith) (k.text (i + length (c.0 ++ c.1)) (omega arith) (omega arith))
 
-  one_list : (i : ℕ) (f g : Bool) (cs ds : List Chunk) → AreChunksFrom s i f cs → AreChunksFrom s i g ds → joined cs ≡ joined ds → cs ≡ ds
+  one_list : (i : ℕ) (f g : Type 0) (cs ds : List Chunk) → AreChunksFrom s i f cs → AreChunksFrom s i g ds → joined cs ≡ joined ds → cs ≡ ds
   one_list i f g [] [] h k e = refl
   one_list i f g [] (d ∷ ds) h k e = let l = ap length e ∙ joined_size d ds in let n = size d in let some = k.0.some in absurd (omega arith)
   one_list i f g (c ∷ cs) [] h k e = let l = ap length (sym e) ∙ joined_size c cs in let n = size c in let some = h.0.some in absurd (omega arith)
@@ -75,18 +75,18 @@ module _ (s : List ℕ) where
       ⊎_elim (λ lt. absurd (text_not_longer i f g c d cs ds h k.0 e parts lt)) (λ ge. ⊎_elim (λ lt. absurd (text_not_longer i g f d c ds cs k h.0 (sym e) (sym parts) lt)) (λ le. omega arith) (cases_lt (length d.1) (length c.1))) (cases_lt (length c.1) (length d.1)) in
       let t = append_same c.1 (joined cs) d.1 (joined ds) p.1 texts in
       let same : c ≡ d = same_chunk c d p.0 t.0 in
-      let rest : cs ≡ ds = one_list (i + length (c.0 ++ c.1)) false false cs ds h.1 (subst (λ x. AreChunksFrom s (i + length (x.0 ++ x.1)) false ds) (sym same) k.1) t.1 in
+      let rest : cs ≡ ds = one_list (i + length (c.0 ++ c.1)) ⊥ ⊥ cs ds h.1 (subst (λ x. AreChunksFrom s (i + length (x.0 ++ x.1)) ⊥ ds) (sym same) k.1) t.1 in
       ap (λ x. x ∷ cs) same ∙ ap (λ x. d ∷ x) rest
 
 -- and no others
 pub chunks_once : (s : List ℕ) (cs ds : List Chunk) → AreChunks s cs → AreChunks s ds → cs ≡ ds
-chunks_once s cs ds h k = one_list s 0 true true cs ds (chunks_from_start s cs h) (chunks_from_start s ds k) (h.joins ∙ sym k.joins)
+chunks_once s cs ds h k = one_list s 0 (Unit {0}) (Unit {0}) cs ds (chunks_from_start s cs h) (chunks_from_start s ds k) (h.joins ∙ sym k.joins)
 
 -- the chunks of what follows a seam are chunks of s
 module _ (s x r : List ℕ) (is : s ≡ x ++ r) (seam : CrossesNoCharacter s (length x)) where
-  behind_seam : (i : ℕ) (first : Bool) (cs : List Chunk) → AreChunksFrom r i first cs → AreChunksFrom s (length x + i) first cs
-  behind_seam i first [] g = tt
-  behind_seam i first (c ∷ cs) g =
+  pub behind_seam : (i : ℕ) (First : Type 0) (cs : List Chunk) → AreChunksFrom r i First cs → AreChunksFrom s (length x + i) First cs
+  behind_seam i First [] g = tt
+  behind_seam i First (c ∷ cs) g =
       let h = g.0 in
       let e : s ≡ x ++ (r ++ []) = is ∙ ap (λ y. x ++ y) (sym (append-nil r)) in
       let z : length x + (i + length (c.0 ++ c.1)) ≡ length x + i + length (c.0 ++ c.1) = omega arith in (
@@ -97,7 +97,7 @@ module _ (s x r : List ℕ) (is : s ≡ x ++ r) (seam : CrossesNoCharacter s (le
           part_first = h.part_first;
           text_last = h.text_last;
         },
-        subst (λ n. AreChunksFrom s n false cs) z (behind_seam (i + length (c.0 ++ c.1)) false cs g.1),
+        subst (λ n. AreChunksFrom s n ⊥ cs) z (behind_seam (i + length (c.0 ++ c.1)) ⊥ cs g.1),
       )
 
 -- a part and a text before a seam at which none or a part begins, and the chunks of what follows
@@ -107,26 +107,26 @@ one_more_chunk s p t r cs e some bare covered seam last ended h = are_chunks s (
     some = ⊎_elim (λ z. let none = last (nil_from_length t z) in omega (arith, size (p, t), ap length none, long)) (λ ne. omega (arith, size (p, t))) (cases_eq (length t) 0);
     part = bare;
     text = λ k low high. covered k (omega arith) (omega arith);
-    part_first = λ _. refl;
+    part_first = λ _. tt;
     text_last = λ none. no_more cs (h.joins ∙ last none) start;
   },
-  behind cs h.joins (subst (λ n. AreChunksFrom s n true cs) (let z : length (p ++ t) + 0 ≡ 0 + length (p ++ t) = omega arith in z) (behind_seam s (p ++ t) r (e ∙ sym (append_assoc p t r)) seam 0 true cs start)),
+  behind cs h.joins (subst (λ n. AreChunksFrom s n (Unit {0}) cs) (let z : length (p ++ t) + 0 ≡ 0 + length (p ++ t) = omega arith in z) (behind_seam s (p ++ t) r (e ∙ sym (append_assoc p t r)) seam 0 (Unit {0}) cs start)),
 )
   where
     long : length s ≡ length p + (length t + length r)
     long = simp length-append at (ap length e)
 
-    start : AreChunksFrom r 0 true cs
+    start : AreChunksFrom r 0 (Unit {0}) cs
     start = chunks_from_start r cs h
 
-    no_more : (cs : List Chunk) → joined cs ≡ [] → AreChunksFrom r 0 true cs → cs ≡ []
+    no_more : (cs : List Chunk) → joined cs ≡ [] → AreChunksFrom r 0 (Unit {0}) cs → cs ≡ []
     no_more [] j g = refl
     no_more (d ∷ ds) j g = let l = sym (joined_size d ds) ∙ ap length j in let n = size d in let some = g.0.some in absurd (omega arith)
 
-    behind : (cs : List Chunk) → joined cs ≡ r → AreChunksFrom s (0 + length (p ++ t)) true cs → AreChunksFrom s (0 + length (p ++ t)) false cs
+    behind : (cs : List Chunk) → joined cs ≡ r → AreChunksFrom s (0 + length (p ++ t)) (Unit {0}) cs → AreChunksFrom s (0 + length (p ++ t)) ⊥ cs
     behind [] j g = tt
     behind (d ∷ ds) j g =
         let l = sym (joined_size d ds) ∙ ap length j in
         let n = size d in
         let some = g.0.some in
-        not_first (Bare s) (Covered s) (0 + length (p ++ t)) false d ds (λ none. ended (omega arith) (g.0.text (length (p ++ t)) (omega (arith, ap length none)) (omega (arith, ap length none)))) g
+        not_first (Bare s) (Covered s) (0 + length (p ++ t)) ⊥ d ds (λ none. ended (omega arith) (g.0.text (length (p ++ t)) (omega (arith, ap length none)) (omega (arith, ap length none)))) g

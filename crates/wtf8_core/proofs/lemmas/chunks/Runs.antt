@@ -39,9 +39,9 @@ no_forms : (cs : List ℕ) → Forms cs ≡ [] → cs ≡ []
 no_forms cs e = nil_from_length cs (omega (arith, as_many cs, ap length e))
 
 -- the bytes of runs are chunks
-chunks_of_runs : (s x : List ℕ) (i j : ℕ) (first : Bool) (runs : List Chunk) → s ≡ x ++ Forms (joined runs) → length x ≡ i → AreGroups Surrogates Scalars j first runs → CrossesNoCharacter s i → AreChunksFrom s i first (map form_chunk runs)
-chunks_of_runs s x i j first [] e l g k = tt
-chunks_of_runs s x i j first (c ∷ cs) e l g k =
+chunks_of_runs : (s x : List ℕ) (i j : ℕ) (First : Type 0) (runs : List Chunk) → s ≡ x ++ Forms (joined runs) → length x ≡ i → AreGroups Surrogates Scalars j First runs → CrossesNoCharacter s i → AreChunksFrom s i First (map form_chunk runs)
+chunks_of_runs s x i j First [] e l g k = tt
+chunks_of_runs s x i j First (c ∷ cs) e l g k =
     let p = Forms c.0 in
     let t = Forms c.1 in
     let r = Forms (joined cs) in
@@ -59,7 +59,7 @@ chunks_of_runs s x i j first (c ∷ cs) e l g k =
         part_first = λ none. g.0.part_first (no_forms c.0 none);
         text_last = λ none. ap (map form_chunk) (g.0.text_last (no_forms c.1 none));
       },
-      chunks_of_runs s ((x ++ p) ++ t) (i + length (p ++ t)) (j + length (c.0 ++ c.1)) false cs (h ∙ sym (append_assoc (x ++ p) t r)) n g.1 (subst (CrossesNoCharacter s) z text.1),
+      chunks_of_runs s ((x ++ p) ++ t) (i + length (p ++ t)) (j + length (c.0 ++ c.1)) ⊥ cs (h ∙ sym (append_assoc (x ++ p) t r)) n g.1 (subst (CrossesNoCharacter s) z text.1),
     )
 
 -- each list of code points has runs
@@ -75,7 +75,7 @@ chunks_by_runs s cs chunks h k =
       g.0,
       (
         record { joins = g.2; each = λ before behind c e. let p = each_from_groups Surrogates Scalars g.0 before behind c g.1 e in record { some = p.some; surrogates = p.part; scalars = p.text; run_first = p.part_first; scalars_last = p.text_last } },
-        chunks_once s chunks (map form_chunk g.0) k (are_chunks s (map form_chunk g.0) (joined_forms g.0 ∙ sym e) (chunks_of_runs s [] 0 0 true g.0 e refl g.1 (seam_at_start s))),
+        chunks_once s chunks (map form_chunk g.0) k (are_chunks s (map form_chunk g.0) (joined_forms g.0 ∙ sym e) (chunks_of_runs s [] 0 0 (Unit {0}) g.0 e refl g.1 (seam_at_start s))),
       ),
     )
   where

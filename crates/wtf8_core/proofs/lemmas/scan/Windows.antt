@@ -220,9 +220,15 @@ pub before_bytes : (bytes : List ℕ) (m : ℕ) → m < 4 → get_or (behind_zer
 before_bytes bytes (suc (suc (suc (suc m)))) h = absurd (omega (arith, h))
 before_bytes bytes m h = refl
 
-zeros : (n i : ℕ) → ◌≡◌ {A = ℕ} (get_or (replicate n 0) i 0) 0
+-- zeros, and zeros after a list, which change nothing, since 0 is what an index past its end gives
+pub zeros : (n i : ℕ) → ◌≡◌ {A = ℕ} (get_or (replicate n 0) i 0) 0
 zeros (suc n) (suc i) = zeros n i
 zeros n i = refl
+
+pub zeros_after : (xs zs : List ℕ) → ((i : ℕ) → get_or zs i 0 ≡ 0) → (i : ℕ) → get_or (xs ++ zs) i 0 ≡ get_or xs i 0
+zeros_after [] zs z i = z i
+zeros_after (x ∷ xs) zs z zero = refl
+zeros_after (x ∷ xs) zs z (suc i) = zeros_after xs zs z i
 
 -- the window that is copied into 68 zeros
 copied_into : (zs : List ℕ) → length zs ≡ 68 → ((k : ℕ) → get_or zs k 0 ≡ 0) → (bytes : List ℕ) (at b n : ℕ) (part : List ℕ) → at ≤ length bytes → b ≡ min at 4 → n ≡ min (length bytes - at) 64
@@ -236,22 +242,15 @@ copied_into zs wide zero_at bytes at b n part within few most is i h =
     let many : length part ≡ b + n = ap length is ∙ length-take (at + n - (at - b)) (drop (at - b) bytes) ∙ omega (arith, length-drop (at - b) bytes, few, most, within) in
     ⊎_elim
     (λ l. get_or_append_left front (part ++ post) 0 i (omega (arith, size, l)) ∙ get_or-take a zs i 0 l ∙ zero_at i ∙ sym (before_bytes bytes (at + i) (omega (arith, few, l))))
-    (λ l. get_or-append_right front (part ++ post) a i 0 size l ∙ ⊎_elim
-    (λ m. let place : suc (suc (suc (suc ((at - b) + (i - a))))) ≡ at + i = omega (arith, few, l) in
-    get_or_append_left part post 0 (i - a) (omega (arith, many, m))
-    ∙ ap (λ x. get_or x (i - a) 0) is
-    ∙ get_or-take (at + n - (at - b)) (drop (at - b) bytes) (i - a) 0 (omega (arith, few, m))
+    (λ l. let place : suc (suc (suc (suc ((at - b) + (i - a))))) ≡ at + i = omega (arith, few, l) in
+    get_or-append_right front (part ++ post) a i 0 size l
+    ∙ zeros_after part post (λ k. get_or-drop (4 + n - a) (drop a zs) k 0 ∙ get_or-drop a zs (4 + n - a + k) 0 ∙ zero_at (a + (4 + n - a + k))) (i - a)
+    ∙ ⊎_elim
+    (λ m. ap (λ x. get_or x (i - a) 0) is ∙ get_or-take (at + n - (at - b)) (drop (at - b) bytes) (i - a) 0 (omega (arith, few, m)))
+    (λ m. get_or_past part (i - a) 0 (omega (arith, many, m)) ∙ sym (get_or_past (drop (at - b) bytes) (i - a) 0 (omega (arith, length-drop (at - b) bytes, few, most, m, l, h, within))))
+    (cases_lt (i - a) (b + n))
     ∙ get_or-drop (at - b) bytes (i - a) 0
     ∙ ap (λ x. get_or (behind_zeros bytes) x 0) place)
-    (λ m. let past : length bytes ≤ at + i - 4 = omega (arith, few, most, m, l, h, within) in
-    let place : suc (suc (suc (suc (at + i - 4)))) ≡ at + i = omega (arith, few, m, l) in
-    get_or-append_right part post (b + n) (i - a) 0 many m
-    ∙ get_or-drop (4 + n - a) (drop a zs) (i - a - (b + n)) 0
-    ∙ get_or-drop a zs (4 + n - a + (i - a - (b + n))) 0
-    ∙ zero_at (a + (4 + n - a + (i - a - (b + n))))
-    ∙ sym (get_or_past bytes (at + i - 4) 0 past)
-    ∙ ap (λ x. get_or (behind_zeros bytes) x 0) place)
-    (cases_lt (i - a) (b + n)))
     (cases_lt i a)
 
 pub copied : (bytes : List ℕ) (at b n : ℕ) (part : List ℕ) → at ≤ length bytes → b ≡ min at 4 → n ≡ min (length bytes - at) 64
