@@ -1,4 +1,6 @@
-use Rattle.os_str_ext.proofs.Common.{◌+◌, length, refl, subst, arith, ⊎_elim, cases_eq, cases_lt, false≢true, OccursAt}
+use Rattle.std.proofs.Common.{◌+◌, length, refl, subst, arith, ⊎_elim}
+use Rattle.std.proofs.lemmas.Bool.{cases_eq, cases_lt, false≢true}
+use Rattle.memchr.specs.Find.{OccursAt}
 use Rattle.os_str_ext.proofs.lemmas.Needles.{first_of_all}
 use Rattle.os_str_ext.proofs.needle.first_by_ends.Goals as goal
 

@@ -1,4 +1,5 @@
-use Rattle.os_str_ext.proofs.Common.{◌≤◌, length, Nowhere, OccursAt}
+use Rattle.std.proofs.Common.{◌≤◌, length}
+use Rattle.memchr.specs.Find.{Nowhere, OccursAt}
 use Rattle.os_str_ext.proofs.needle.first_by_ends.Given as goal
 
 abbrev pub invariant-loop : goal.invariant-loop

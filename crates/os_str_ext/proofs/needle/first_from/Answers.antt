@@ -1,4 +1,4 @@
-use Rattle.os_str_ext.proofs.Common.{Some, None}
+use Rattle.std.proofs.Common.{Some, None}
 use Rattle.os_str_ext.proofs.lemmas.Needles.{first_behind}
 use Rattle.os_str_ext.proofs.needle.first_from.Goals as goal
 

@@ -1,4 +1,5 @@
-use Rattle.os_str_ext.proofs.Common.{ℕ, ◌+◌, ◌≤◌, length, OccursAt}
+use Rattle.std.proofs.Common.{ℕ, ◌+◌, ◌≤◌, length}
+use Rattle.memchr.specs.Find.{OccursAt}
 use Rattle.os_str_ext.proofs.needle.last_by_end.Given as goal
 
 abbrev pub invariant-loop : goal.invariant-loop

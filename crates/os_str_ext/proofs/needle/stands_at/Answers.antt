@@ -1,4 +1,5 @@
-use Rattle.os_str_ext.proofs.Common.{length, take, sym, ap, ◌∙◌, arith, OccursAt-part, OccursAt-from_part}
+use Rattle.std.proofs.Common.{length, take, sym, ap, ◌∙◌, arith}
+use Rattle.memchr.proofs.lemmas.MatchLemmas.{OccursAt-part, OccursAt-from_part}
 use Rattle.os_str_ext.proofs.needle.stands_at.Goals as goal
 
 pub returns : goal.returns

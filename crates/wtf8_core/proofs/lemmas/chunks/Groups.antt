@@ -1,5 +1,5 @@
 -- Lists of pairs that alternate between two kinds of elements, as chunks do over bytes and runs over code points.
-use Rattle.wtf8_core.proofs.Common.{◌≡◌, ◌⊎◌, ⊎_elim, ℕ, ◌+◌, ◌<◌, Bool, true, false, List, [], ◌∷◌, ◌++◌, length, refl, sym, ap, ◌∙◌, subst, arith, length-append, append_assoc, Chunk, joined}
+use Rattle.wtf8_core.proofs.Common.{◌≡◌, ◌⊎◌, ⊎_elim, ℕ, ◌+◌, ◌<◌, List, [], ◌∷◌, ◌++◌, length, refl, sym, ap, ◌∙◌, subst, arith, length-append, append_assoc, Chunk, joined}
 
 -- the pair c is at index i; a pair without a part comes first, and one without a text comes last
 pub record IsGroup (IsPart IsText : ℕ → List ℕ → Type 0) (i : ℕ) (First : Type 0) (c : Chunk) (Last : Type 0) : Type 0 where

@@ -1,5 +1,5 @@
 -- A string has exactly one list of chunks.
-use Rattle.wtf8_core.proofs.Common.{◌≡◌, ⊎_elim, ℕ, ◌+◌, ◌-◌, ◌<◌, Bool, true, false, List, [], ◌∷◌, ◌++◌, length, refl, sym, ap, ◌∙◌, subst, arith, length-append, append_assoc, cases_lt, cases_eq, append-nil, nil_from_length, IsCovered, CrossesNoCharacter, Chunk, joined, AreChunks}
+use Rattle.wtf8_core.proofs.Common.{◌≡◌, ⊎_elim, ℕ, ◌+◌, ◌-◌, ◌<◌, List, [], ◌∷◌, ◌++◌, length, refl, sym, ap, ◌∙◌, subst, arith, length-append, append_assoc, cases_lt, cases_eq, append-nil, nil_from_length, IsCovered, CrossesNoCharacter, Chunk, joined, AreChunks}
 use Rattle.wtf8_core.proofs.lemmas.forms.Appending.{append_same}
 use Rattle.wtf8_core.proofs.lemmas.characters.Seams.{Bare, Covered, over_none, over_first, bare_or_covered, covered_within, covered_behind}
 use Rattle.wtf8_core.proofs.lemmas.chunks.Groups.{IsGroup, AreGroups, groups_from_each, each_from_groups, EachIsOfOne, grouped, not_first}

@@ -1,5 +1,5 @@
 -- The chunks of WTF-8 are the forms of its runs of surrogates, each with the scalar values after it.
-use Rattle.wtf8_core.proofs.Common.{nil_from_length, ◌≡◌, inl, inr, ⊎_elim, ℕ, ◌+◌, ◌-◌, ◌≤◌, Bool, true, false, List, [], ◌∷◌, ◌++◌, map, length, drop, get_or, refl, sym, ap, ◌∙◌, subst, arith, length-append, append_assoc, drop-append_seam, cases_eq, cases_Bool, flat_map-append, get_or-drop, get_or_append_left, IsScalar, AllByRecursion, IsContinuation, IsSurrogate, is_surrogate, IsCodePoint, encode, IsCovered, CrossesNoCharacter, Chunk, joined, AreChunks, Encodes}
+use Rattle.wtf8_core.proofs.Common.{nil_from_length, ◌≡◌, inl, inr, ⊎_elim, ℕ, ◌+◌, ◌-◌, ◌≤◌, List, [], ◌∷◌, ◌++◌, map, length, drop, get_or, refl, sym, ap, ◌∙◌, subst, arith, length-append, append_assoc, drop-append_seam, cases_eq, cases_Bool, flat_map-append, get_or-drop, get_or_append_left, IsScalar, AllByRecursion, IsContinuation, IsSurrogate, is_surrogate, IsCodePoint, encode, IsCovered, CrossesNoCharacter, Chunk, joined, AreChunks, Encodes}
 use Rattle.wtf8_core.specs.Runs.{AreRuns, form_chunk}
 use Rattle.wtf8_core.proofs.lemmas.forms.Ranges.{in_range-true, in_range}
 use Rattle.wtf8_core.proofs.lemmas.forms.Shapes.{form_bounds}

@@ -58,6 +58,9 @@ module _ (s t : State) (bits : ℕ) (b : List ℕ) (x : ℕ) (u : x < 256) where
   one : All IsByte (x ∷ [])
   one = All-from_recursion IsByte (x ∷ []) (u, tt)
 
+  k : Holds (in_class (class_at x) x)
+  k = classed x u
+
   rows_go : SomeRow (IsOpen (joined_bits bits x) (b ++ x ∷ [])) (rows t) → Goes s bits b x t
   rows_go r = record {
     on = λ _. opened_of_rows t (joined_bits bits x) (b ++ x ∷ []) r;
@@ -128,9 +131,6 @@ module _ (s t : State) (bits : ℕ) (b : List ℕ) (x : ℕ) (u : x < 256) where
         refused q.given (Byte x) (λ i. cc) (λ more. ap items_from (within-broken r.high (needed r) r.later q.value x more c)) a.0 (cond-false _ _ _ (not_in_range 0x80 0xBF x c)))
         e.1
       where
-        k : Holds (in_class (class_at x) x)
-        k = classed x u
-
         on : (n : Row) → Holds (goes_on (class_at x) r n) → (more : List ℕ) → items_from (split_within r.high (needed r) r.later v more) ≡ items_from (split_within n.high (needed n) (suc n.later) v more)
         on n g more =
             let same : needed r ≡ needed n = omega (arith, g.1.0, g.1.1.0) in
@@ -149,9 +149,6 @@ module _ (s t : State) (bits : ℕ) (b : List ℕ) (x : ℕ) (u : x < 256) where
       a)
       e
     where
-      k : Holds (in_class (class_at x) x)
-      k = classed x u
-
       first : (item : Result ℕ EncodingError) (rest : List ℕ → List ℕ) → ((more : List ℕ) → first_split h (x ∷ more) ≡ (item, rest more)) → (more : List ℕ) → items_after h (x ∷ more) ≡ items_from (item, rest more)
       first item rest e more = items-split h (x ∷ more) (omega arith) ∙ ap items_from (e more)
 

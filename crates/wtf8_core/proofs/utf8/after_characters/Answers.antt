@@ -1,4 +1,4 @@
-use Rattle.wtf8_core.proofs.Common.{List, ℕ, ◌+◌, ◌-◌, ◌≡◌, ◌≤◌, Some, length, take, drop, length-drop, drop-drop, sym, ap, ◌∙◌, subst, arith, IsUtf8, IsUtf8Fault, IsAtFront, WholeCharacter}
+use Rattle.wtf8_core.proofs.Common.{List, ℕ, ◌+◌, ◌-◌, ◌≡◌, ◌≤◌, Some, length, take, drop, length-drop, drop-drop, ap, ◌∙◌, subst, arith, IsUtf8, IsUtf8Fault, IsAtFront, WholeCharacter}
 use Rattle.wtf8_core.proofs.lemmas.characters.AtPlaces.{character_fits, text_of_character}
 use Rattle.wtf8_core.proofs.lemmas.texts.LossyTexts.{front_behind, fault_in_rest}
 use Rattle.wtf8_core.proofs.utf8.after_characters.Goals as goal
@@ -16,11 +16,6 @@ returns-in-Some-Err-clause-read c =
     subst (λ k. IsUtf8Fault c.args.bytes.now k (Some len)) same
     (fault_in_rest c.args.bytes.now i.0 i.1 i.3 0 (Some len) (subst (λ x. IsUtf8Fault x 0 (Some len)) i.2 w))
 
-pub returns-in-None-clause-read : goal.returns-in-None-clause-read
-returns-in-None-clause-read c =
-    let i = c.loop.invariant in
-    subst (λ k. IsUtf8 (take k c.args.bytes.now)) (sym (place c.args.bytes.now c.loop.rest.now i.0 i.1 i.2)) i.3
-
 pub loop-preserved : goal.loop-preserved
 loop-preserved c =
     let i = c.loop.invariant in
@@ -30,8 +25,3 @@ loop-preserved c =
     let fits = character_fits rest 0 len w in
     let size = ap length i.2 ∙ length-drop i.0 c.args.bytes.now in
     (i.0 + len, omega (arith, fits.2, size, i.1), c.split_at-in-Some-Ok.ensures.back ∙ ap (drop len) i.2 ∙ drop-drop len i.0 c.args.bytes.now, front_behind c.args.bytes.now i.0 i.1 i.3 len (subst (λ x. IsUtf8 (take len x)) i.2 (text_of_character rest len w)))
-
-pub returns-clause-read : goal.returns-clause-read
-returns-clause-read c =
-    let i = c.loop.invariant in
-    subst (λ k. IsUtf8 (take k c.args.bytes.now)) (sym (place c.args.bytes.now c.loop.rest.now i.0 i.1 i.2)) i.3

@@ -2,9 +2,6 @@ use Rattle.wtf8_core.proofs.Common.{⊎_elim, arith, length, get_or_past, cases_
 use Rattle.wtf8_core.proofs.lemmas.texts.WithoutSurrogates.{text_without}
 use Rattle.wtf8_core.proofs.utf8.surrogate_fault.Goals as goal
 
-pub text_from-requires-clause-clear : goal.text_from-requires-clause-clear
-text_from-requires-clause-clear c i h k = c.in-Some.ensures.0.before i (omega arith) h (eq-eqb _ _ k.0)
-
 pub returns-in-None : goal.returns-in-None
 returns-in-None c =
     let bytes = c.args.bytes.now in
