@@ -1,23 +1,11 @@
-use Rattle.std.proofs.Common.{inl, inr, refl, arith}
-use Rattle.wtf8_core.proofs.lemmas.characters.Overlaps.{boundary_within}
-use Rattle.os_str_bytes.specs.Raw.{raw_bytes}
+use Rattle.os_str_bytes.proofs.lemmas.Halves.{front_fits, back_fits}
 use Rattle.os_str_bytes.proofs.cuts.indexed_unchecked.Goals as goal
 
 pub get_unchecked-requires : goal.get_unchecked-requires
-get_unchecked-requires g c = record {
-  ordered = omega arith;
-  within = boundary_within (raw_bytes c.args.string) c.args.at c.requires;
-  start = record { is = inl refl };
-  end = c.requires;
-}
+get_unchecked-requires g c = front_fits _ _ c.requires
 
 pub get_unchecked-requires-2 : goal.get_unchecked-requires-2
-get_unchecked-requires-2 g c = record {
-  ordered = boundary_within (raw_bytes c.args.string) c.args.at c.requires;
-  within = omega arith;
-  start = c.requires;
-  end = record { is = inr (inl refl) };
-}
+get_unchecked-requires-2 g c = back_fits _ _ c.requires
 
 pub returns-clause-front : goal.returns-clause-front
 returns-clause-front g c = record { bytes = c.get_unchecked.ensures.bytes; units = c.get_unchecked.ensures.units }
