@@ -1,4 +1,4 @@
--- Bytes as the type of a slice knows them, and bytes with zeros after them.
+-- Bytes as the type of a slice knows them, and marks.
 use Rattle.std.proofs.Common.{◌≡◌, ⊎_elim, ℕ, zero, suc, ◌<◌, ◌≤◌, Bool, cond, List, [], ◌∷◌, ◌++◌, length, take, drop, get_or, replicate, w8, Fits, ◌∙◌, refl, sym, subst, arith}
 use Rattle.std.proofs.lemmas.List.{get_or-drop, get_or_past}
 use Rattle.std.proofs.lemmas.Bool.{cond_both, cases_lt}
@@ -7,19 +7,6 @@ use Rattle.std.specs.List.{All}
 
 pub all_bytes : (bytes : List ℕ) → ((i : ℕ) → Fits w8 (get_or bytes i 0)) → All (λ x. x < 256) bytes
 all_bytes bytes fits = All-from_get_or (λ x. x < 256) bytes 0 (λ i _. (fits i).fits)
-
--- zeros after a list change nothing, since 0 is what an index past its end gives
-pub zeros_after : (xs zs : List ℕ) → ((i : ℕ) → get_or zs i 0 ≡ 0) → (i : ℕ) → get_or (xs ++ zs) i 0 ≡ get_or xs i 0
-zeros_after [] zs z i = z i
-zeros_after (x ∷ xs) zs z zero = refl
-zeros_after (x ∷ xs) zs z (suc i) = zeros_after xs zs z i
-
-pub zeros_behind : (n : ℕ) (zs : List ℕ) → ((i : ℕ) → get_or zs i 0 ≡ 0) → (i : ℕ) → get_or (drop n zs) i 0 ≡ 0
-zeros_behind n zs z i = get_or-drop n zs i 0 ∙ z _
-
-pub no_byte : (n i : ℕ) → ◌≡◌ {A = ℕ} (get_or (replicate n 0) i 0) 0
-no_byte (suc n) (suc i) = no_byte n i
-no_byte n i = refl
 
 -- marks are at most 1, also those of a prefix
 pub few_taken : (n : ℕ) (xs : List ℕ) (i : ℕ) → get_or (take n xs) i 0 ≤ get_or xs i 0
