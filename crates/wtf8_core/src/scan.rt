@@ -17,9 +17,11 @@
 //!    again, and finally std's reader continues.
 //!
 //! [`Checker`](crate::Checker) and [`wtf8_fault`](crate::wtf8_fault) use 5 and 6 for WTF-8, and then
-//! their table or the reader of code points. [`is_utf8`](crate::is_utf8) uses 3 and 4 of up to two
-//! blocks, and then one more step that ends with the last byte ([`fronts::ends_by_step`]), and of more
-//! bytes 5 and 6; what these don't vouch for std's reader reads.
+//! their table or the reader of code points. [`is_utf8`](crate::is_utf8) reads 20 bytes to two blocks
+//! by steps from the first byte on: the first by lanes after zeros ([`fronts::starts_by_step`]), then
+//! 4, and one more step that ends with the last byte ([`fronts::ends_by_step`]). It reads 4 to 19
+//! bytes in a copy with zeros before and after them ([`fronts::is_short_by_steps`]), and more than two
+//! blocks by 5 and 6. What these don't vouch for std's reader reads.
 //! [`surrogate_fault`](crate::surrogate_fault) looks for surrogates alone ([`surrogates`]).
 
 pub(crate) mod error_bits;

@@ -7,7 +7,10 @@ ghost use Rattle.wtf8_core.specs.Utf8.{IsUtf8Fault};
 ghost use Rattle.wtf8_core.specs.Wtf8.{IsWtf8};
 
 use crate::character::char_or_fault_at_front;
-use crate::scan::fronts::{ends_by_step, ends_with_ascii, front_of, scan_from, scan_steps};
+use crate::scan::fronts::{
+    ends_by_step, ends_with_ascii, front_of, is_short_by_steps, scan_from, scan_steps,
+    starts_by_step,
+};
 use crate::scan::lanes::ascii_of;
 use crate::scan::surrogates::text_from;
 use crate::scan::{BEFORE, BLOCK, Encoding, STEP};
@@ -153,20 +156,21 @@ fn is_long_utf8(bytes: &[u8]) -> bool
     }
 }
 
-/// Whether the bytes are found to be UTF-8 by steps, after the first character that isn't ASCII and
-/// two more. That isn't found of fewer than 20 bytes.
+/// Whether the bytes are found to be UTF-8 by steps. That isn't found of fewer than four bytes.
 #[inline(always)]
 fn is_utf8_by_steps(bytes: &[u8]) -> bool
     ensures { IsTrue result → IsUtf8 bytes.now }
 {
-    if bytes.len() < STEP + BEFORE {
+    if bytes.len() < BEFORE {
         return false;
     }
-    let near = ascii_of::<STEP>(bytes).min(STEP);
-    let Ok(at) = after_characters(bytes, near, FEW) else {
+    if bytes.len() < BEFORE + STEP {
+        return is_short_by_steps(bytes);
+    }
+    if !starts_by_step(bytes) {
         return false;
-    };
-    match scan_steps(bytes, at) {
+    }
+    match scan_steps(bytes, STEP) {
         Ok(end) => ends_by_step(bytes, end),
         Err(_) => false,
     }

@@ -1,6 +1,7 @@
 //! How many bytes of a window are allowed after those before them. A window is a block or a step
 //! with the [`BEFORE`](crate::scan::BEFORE) bytes before it.
 ghost use Rattle.std.specs.Prelude.{◌≡◌, ◌≢◌, ℕ, ◌+◌, ◌≤◌, ◌<◌, length, slice_index, bit_and, bit_or, bit_xor};
+ghost use Rattle.wtf8_core.specs.EncodedPrefix.{behind_zeros};
 ghost use Rattle.wtf8_core.specs.PairBits.{error_bits, surrogate_pair_difference};
 ghost use Rattle.wtf8_core.specs.Neighbours.{AllMayStand};
 ghost use Rattle.wtf8_core.specs.declared.scan.Encoding.TheVariants.{Utf8, Wtf8};
@@ -35,6 +36,39 @@ fn error_bits_of_16(window: &[u8]) -> u8x16
 {
     let pairs = pair_bits_of_16(load(window, 3), load(window, 4));
     xor(pairs, continuation_due(load(window, 1), load(window, 2)))
+}
+
+/// The same for the first 16 bytes, with zeros before them.
+#[inline(always)]
+fn error_bits_of_first_16(bytes: &[u8]) -> u8x16
+    requires { 16 ≤ length bytes.now }
+    ensures { (i : ℕ) → i < 16 → slice_index result i
+        ≡ error_bits (slice_index (behind_zeros bytes.now) (1 + i))
+        (slice_index (behind_zeros bytes.now) (2 + i))
+        (slice_index (behind_zeros bytes.now) (3 + i))
+        (slice_index (behind_zeros bytes.now) (4 + i)) }
+{
+    let zeros = u8x16::splat(0);
+    let first = u8x16::from_slice(bytes);
+    let one = zeros.shuffle(
+        first,
+        [
+            15, 16, 17, 18, 19, 20, 21, 22, 23, 24, 25, 26, 27, 28, 29, 30,
+        ],
+    );
+    let two = zeros.shuffle(
+        first,
+        [
+            14, 15, 16, 17, 18, 19, 20, 21, 22, 23, 24, 25, 26, 27, 28, 29,
+        ],
+    );
+    let three = zeros.shuffle(
+        first,
+        [
+            13, 14, 15, 16, 17, 18, 19, 20, 21, 22, 23, 24, 25, 26, 27, 28,
+        ],
+    );
+    xor(pair_bits_of_16(one, first), continuation_due(three, two))
 }
 
 /// For each of the 64 bytes, 0 where a low surrogate begins directly after a high one.
@@ -98,4 +132,15 @@ pub(crate) fn kept_of_16(window: &[u8]) -> usize
     ensures pattern { AllMayStand Utf8 result window.now }
 {
     leading_zero(error_bits_of_16(window)).min(STEP)
+}
+
+/// How many of the first 16 bytes are allowed in UTF-8 after those before them, up to the first that
+/// isn't.
+#[inline(always)]
+pub(crate) fn kept_of_first_16(bytes: &[u8]) -> usize
+    requires { 16 ≤ length bytes.now }
+    ensures within { result ≤ 16 }
+    ensures pattern { AllMayStand Utf8 result (behind_zeros bytes.now) }
+{
+    leading_zero(error_bits_of_first_16(bytes)).min(STEP)
 }

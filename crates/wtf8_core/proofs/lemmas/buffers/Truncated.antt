@@ -9,7 +9,7 @@ use Rattle.wtf8_core.specs.Truncated.{IsTruncated}
 pub none_yet : (old : List ℕ) → IsTruncated [] old old 0
 none_yet old = record { same_length = refl; count_is = refl; front = take_all (length old) [] (omega arith); behind = refl }
 
-put_length : (at n : ℕ) (list part : List ℕ) → at + n ≤ length list → length part ≡ n → length (put_mid at n list part) ≡ length list
+pub put_length : (at n : ℕ) (list part : List ℕ) → at + n ≤ length list → length part ≡ n → length (put_mid at n list part) ≡ length list
 put_length at n list part within l =
     let behind = drop n (drop at list) in
     omega (arith, within, l, length-append (take at list) (part ++ behind), length-append part behind, length-take-le at list (omega (arith, within)), length-drop n (drop at list), length-drop at list)

@@ -1,5 +1,5 @@
 -- From windows to the bytes: which prefix they give.
-use Rattle.wtf8_core.proofs.Common.{Bool, true, false, ◌≡◌, inl, ⊎_elim, ℕ, zero, suc, ◌+◌, ◌-◌, ◌<◌, ◌≤◌, List, [], ◌∷◌, ◌++◌, length, take, drop, get_or, refl, sym, ap, ◌∙◌, subst, arith, min, replicate, get_or-take, get_or-drop, get_or_append_left, get_or-append_right, get_or_past, length-append, length-take, length-take-le, length-drop, take-add, take-take, drop-drop, take-append-drop, cases_lt, and_from, AllByRecursion, IsScalar, low_scalar, scalars, IsUtf8, is_in_range, IsContinuation, is_high, Encodes, last_or, MayStand, AllMayStand, IsBetweenCodePoints, behind_zeros, KeepsPattern, IsEncodedPrefix}
+use Rattle.wtf8_core.proofs.Common.{Bool, true, false, ◌≡◌, inl, inr, ◌⊎◌, ⊎_elim, ℕ, zero, suc, ◌+◌, ◌-◌, ◌<◌, ◌≤◌, List, [], ◌∷◌, ◌++◌, length, take, drop, get_or, refl, sym, ap, ◌∙◌, subst, arith, min, replicate, get_or-take, get_or-drop, get_or_append_left, get_or-append_right, get_or_past, length-append, length-take, length-take-le, length-drop, take-add, take-take, drop-drop, take-append-drop, cases_lt, and_from, AllByRecursion, IsScalar, low_scalar, scalars, IsUtf8, is_in_range, IsContinuation, is_high, Encodes, last_or, MayStand, AllMayStand, IsBetweenCodePoints, behind_zeros, KeepsPattern, IsEncodedPrefix}
 use Rattle.std.proofs.lemmas.List.{take_more}
 use borrow.Rule.Slice.PartMut.{put_mid}
 use Rattle.wtf8_core.proofs.lemmas.forms.Ranges.{in_range, in_range-true, in_range-false, not_in_range}
@@ -9,6 +9,7 @@ use Rattle.wtf8_core.proofs.lemmas.forms.Appending.{all_joined, spells_joined, s
 use Rattle.wtf8_core.proofs.lemmas.forms.Cuts.{all_parts, cut_before, spells_parts}
 use Rattle.wtf8_core.proofs.lemmas.characters.Seams.{scalars_are}
 use Rattle.wtf8_core.proofs.lemmas.texts.AreWtf8.{text_spells}
+use Rattle.wtf8_core.proofs.lemmas.buffers.Truncated.{put_length}
 use Rattle.wtf8_core.proofs.lemmas.scan.PairBits.{same_five}
 use Rattle.wtf8_core.proofs.lemmas.scan.ScannedIsEncoded.{IsBetweenCodePointsAt, edge_of_forms, steps, whole}
 use Rattle.wtf8_core.specs.Neighbours.{IsClosed}
@@ -117,6 +118,10 @@ module _ (encoding : Encoding) (bytes : List ℕ) where
             plain = λ e. all_joined IsScalar f.code_points r.code_points (f.plain e) (r.plain e);
           }
 
+  -- all bytes spell code points, if a zero after them keeps to it, too
+  pub past_end : (end : ℕ) → length bytes < end → KeepsPattern encoding bytes end → IsEncodedPrefix encoding bytes (length bytes)
+  past_end end h k = by_pattern (length bytes) end (omega arith) h k (λ z. omega (arith, z.0, get_or_past bytes (length bytes) 0 (omega arith)))
+
   -- ASCII after a prefix
   pub more_ascii : (n k : ℕ) → n + k ≤ length bytes → ((i : ℕ) → i < k → get_or bytes (n + i) 0 < 0x80) → IsEncodedPrefix encoding bytes n → IsEncodedPrefix encoding bytes (n + k)
   more_ascii n zero h low f = let z : n ≡ n + 0 = omega arith in subst (IsEncodedPrefix encoding bytes) z f
@@ -169,6 +174,12 @@ module _ (encoding : Encoding) (bytes : List ℕ) where
           (pattern j (omega (arith, h, l, k.order, low)))) (cases_lt i (to - k.from));
     }
 
+  -- a window that starts with them, after zeros
+  pub more_from_start : (window : List ℕ) (n : ℕ) → ((i : ℕ) → i < 4 + n → get_or window i 0 ≡ get_or (behind_zeros bytes) i 0) → AllMayStand encoding n window → KeepsPattern encoding bytes n
+  more_from_start window n same pattern =
+      let z : 0 + n ≡ n = omega arith in
+      subst (KeepsPattern encoding bytes) z (more 0 window n (λ i h. let y : i ≡ 0 + i = omega arith in same i h ∙ ap (λ m. get_or (behind_zeros bytes) m 0) y) 0 (omega arith) (omega arith) pattern (no_pattern encoding bytes))
+
   -- a window that is part of the bytes
   pub more_inside : (at : ℕ) (window : List ℕ) (n : ℕ) → 4 ≤ at → window ≡ drop (at - 4) bytes → AllMayStand encoding n window → KeepsPattern encoding bytes at → KeepsPattern encoding bytes (at + n)
   more_inside at window n l is = more at window n (λ i _. let place : suc (suc (suc (suc ((at - 4) + i)))) ≡ at + i = omega (arith, l) in
@@ -184,7 +195,7 @@ module _ (encoding : Encoding) (bytes : List ℕ) where
 
   -- bytes spell code points up to their end, if they keep to the pattern and no form continues there
   pub closed_end : 3 ≤ length bytes → IsClosed (get_or bytes (length bytes - 3) 0) (get_or bytes (length bytes - 2) 0) (get_or bytes (length bytes - 1) 0) → KeepsPattern encoding bytes (length bytes) → IsEncodedPrefix encoding bytes (length bytes)
-  closed_end long closed k = by_pattern (length bytes) (suc (length bytes)) (omega arith) (omega arith) kept (λ h. omega (arith, h.0, past))
+  closed_end long closed k = past_end (suc (length bytes)) (omega arith) kept
     where
       past : get_or bytes (length bytes) 0 ≡ 0
       past = get_or_past bytes (length bytes) 0 (omega arith)
@@ -220,6 +231,9 @@ pub before_bytes : (bytes : List ℕ) (m : ℕ) → m < 4 → get_or (behind_zer
 before_bytes bytes (suc (suc (suc (suc m)))) h = absurd (omega (arith, h))
 before_bytes bytes m h = refl
 
+past_bytes : (bytes : List ℕ) (m : ℕ) → 4 + length bytes ≤ m → get_or (behind_zeros bytes) m 0 ≡ 0
+past_bytes bytes m h = get_or_past (behind_zeros bytes) m 0 (omega (arith, h))
+
 -- zeros, and zeros after a list, which change nothing, since 0 is what an index past its end gives
 pub zeros : (n i : ℕ) → ◌≡◌ {A = ℕ} (get_or (replicate n 0) i 0) 0
 zeros (suc n) (suc i) = zeros n i
@@ -230,33 +244,60 @@ zeros_after [] zs z i = z i
 zeros_after (x ∷ xs) zs z zero = refl
 zeros_after (x ∷ xs) zs z (suc i) = zeros_after xs zs z i
 
+-- a list has the items that f gives, if a part is written over it that has them, and the others are those of the list before
+put_items : (f : ℕ → ℕ) (a n : ℕ) (xs part : List ℕ) → a + n ≤ length xs → length part ≡ n → ((i : ℕ) → i < n → get_or part i 0 ≡ f (a + i))
+    → (i : ℕ) → ((i < a) ⊎ (a + n ≤ i) → get_or xs i 0 ≡ f i) → get_or (put_mid a n xs part) i 0 ≡ f i
+put_items f a n xs part room many written i kept =
+    let front : List ℕ = take a xs in
+    let post : List ℕ = drop n (drop a xs) in
+    let size : length front ≡ a = length-take-le a xs (omega (arith, room)) in
+    ⊎_elim
+    (λ l. get_or_append_left front (part ++ post) 0 i (omega (arith, size, l)) ∙ get_or-take a xs i 0 l ∙ kept (inl l))
+    (λ l. get_or-append_right front (part ++ post) a i 0 size l ∙ ⊎_elim
+    (λ m. let place : a + (i - a) ≡ i = omega (arith, l) in get_or_append_left part post 0 (i - a) (omega (arith, many, m)) ∙ written (i - a) m ∙ ap f place)
+    (λ m. let place : a + (n + (i - a - n)) ≡ i = omega (arith, l, m) in
+    get_or-append_right part post n (i - a) 0 many m
+    ∙ get_or-drop n (drop a xs) (i - a - n) 0
+    ∙ get_or-drop a xs (n + (i - a - n)) 0
+    ∙ ap (λ k. get_or xs k 0) place
+    ∙ kept (inr (omega (arith, l, m))))
+    (cases_lt (i - a) n))
+    (cases_lt i a)
+
 -- the window that is copied into 68 zeros
 copied_into : (zs : List ℕ) → length zs ≡ 68 → ((k : ℕ) → get_or zs k 0 ≡ 0) → (bytes : List ℕ) (at b n : ℕ) (part : List ℕ) → at ≤ length bytes → b ≡ min at 4 → n ≡ min (length bytes - at) 64
     → part ≡ take (at + n - (at - b)) (drop (at - b) bytes) → (i : ℕ) → i < 68
     → get_or (put_mid (4 - b) (4 + n - (4 - b)) zs part) i 0 ≡ get_or (behind_zeros bytes) (at + i) 0
 copied_into zs wide zero_at bytes at b n part within few most is i h =
-    let a = 4 - b in
-    let front : List ℕ = take a zs in
-    let post : List ℕ = drop (4 + n - a) (drop a zs) in
-    let size : length front ≡ a = length-take a zs ∙ omega (arith, wide) in
-    let many : length part ≡ b + n = ap length is ∙ length-take (at + n - (at - b)) (drop (at - b) bytes) ∙ omega (arith, length-drop (at - b) bytes, few, most, within) in
-    ⊎_elim
-    (λ l. get_or_append_left front (part ++ post) 0 i (omega (arith, size, l)) ∙ get_or-take a zs i 0 l ∙ zero_at i ∙ sym (before_bytes bytes (at + i) (omega (arith, few, l))))
-    (λ l. let place : suc (suc (suc (suc ((at - b) + (i - a))))) ≡ at + i = omega (arith, few, l) in
-    get_or-append_right front (part ++ post) a i 0 size l
-    ∙ zeros_after part post (λ k. get_or-drop (4 + n - a) (drop a zs) k 0 ∙ get_or-drop a zs (4 + n - a + k) 0 ∙ zero_at (a + (4 + n - a + k))) (i - a)
-    ∙ ⊎_elim
-    (λ m. ap (λ x. get_or x (i - a) 0) is ∙ get_or-take (at + n - (at - b)) (drop (at - b) bytes) (i - a) 0 (omega (arith, few, m)))
-    (λ m. get_or_past part (i - a) 0 (omega (arith, many, m)) ∙ sym (get_or_past (drop (at - b) bytes) (i - a) 0 (omega (arith, length-drop (at - b) bytes, few, most, m, l, h, within))))
-    (cases_lt (i - a) (b + n))
-    ∙ get_or-drop (at - b) bytes (i - a) 0
+    put_items (λ k. get_or (behind_zeros bytes) (at + k) 0) (4 - b) (4 + n - (4 - b)) zs part (omega (arith, wide, few, most))
+    (ap length is ∙ length-take (at + n - (at - b)) (drop (at - b) bytes) ∙ omega (arith, length-drop (at - b) bytes, few, most, within))
+    (λ k l. let place : suc (suc (suc (suc ((at - b) + k)))) ≡ at + (4 - b + k) = omega (arith, few) in
+    ap (λ x. get_or x k 0) is
+    ∙ get_or-take (at + n - (at - b)) (drop (at - b) bytes) k 0 (omega (arith, few, l))
+    ∙ get_or-drop (at - b) bytes k 0
     ∙ ap (λ x. get_or (behind_zeros bytes) x 0) place)
-    (cases_lt i a)
+    i (λ o. zero_at i ∙ sym (⊎_elim (λ l. before_bytes bytes (at + i) (omega (arith, few, l))) (λ l. past_bytes bytes (at + i) (omega (arith, few, most, l, h, within))) o))
 
 pub copied : (bytes : List ℕ) (at b n : ℕ) (part : List ℕ) → at ≤ length bytes → b ≡ min at 4 → n ≡ min (length bytes - at) 64
     → part ≡ take (at + n - (at - b)) (drop (at - b) bytes) → (i : ℕ) → i < 68
     → get_or (put_mid (4 - b) (4 + n - (4 - b)) (replicate 68 0) part) i 0 ≡ get_or (behind_zeros bytes) (at + i) 0
 copied = copied_into (replicate 68 0) refl (zeros 68)
+
+-- the window that the first n bytes and the last n, which are all of them, are copied into
+module _ (bytes : List ℕ) (n last m k : ℕ) (first part : List ℕ) (few : n ≤ 16) (all : last + n ≡ length bytes) (over : last ≤ n) (m_is : m ≡ n) (k_is : k ≡ n) (is_first : first ≡ take n bytes) (is_last : part ≡ drop last bytes) where
+  ends_copied_into : (zs : List ℕ) → length zs ≡ 36 → ((k : ℕ) → get_or zs k 0 ≡ 0) → (i : ℕ) → get_or (put_mid (4 + last) k (put_mid 4 m zs first) part) i 0 ≡ get_or (behind_zeros bytes) i 0
+  ends_copied_into zs wide zero_at i =
+      let f : ℕ → ℕ = λ j. get_or (behind_zeros bytes) j 0 in
+      let size : length first ≡ m = ap length is_first ∙ length-take-le n bytes (omega (arith, all)) ∙ sym m_is in
+      put_items f (4 + last) k (put_mid 4 m zs first) part (omega (arith, put_length 4 m zs first (omega (arith, wide, few, m_is)) size, wide, few, over, k_is))
+      (ap length is_last ∙ length-drop last bytes ∙ omega (arith, all, k_is))
+      (λ j l. let place : suc (suc (suc (suc (last + j)))) ≡ 4 + last + j = omega arith in ap (λ x. get_or x j 0) is_last ∙ get_or-drop last bytes j 0 ∙ ap f place)
+      i (λ o. put_items f 4 m zs first (omega (arith, wide, few, m_is)) size
+      (λ j l. let place : suc (suc (suc (suc j))) ≡ 4 + j = omega arith in ap (λ x. get_or x j 0) is_first ∙ get_or-take n bytes j 0 (omega (arith, l, m_is)) ∙ ap f place)
+      i (λ q. zero_at i ∙ sym (⊎_elim (λ l. before_bytes bytes i l) (λ l. past_bytes bytes i (⊎_elim (λ b. absurd (omega (arith, l, b, over, m_is))) (λ b. omega (arith, b, all, k_is)) o)) q)))
+
+  pub ends_copied : (i : ℕ) → get_or (put_mid (4 + last) k (put_mid 4 m (replicate 36 0) first) part) i 0 ≡ get_or (behind_zeros bytes) i 0
+  ends_copied = ends_copied_into (replicate 36 0) refl (zeros 36)
 
 -- whether the code point at an edge is a high surrogate, by the bytes before it
 edge_high : (p x y z : ℕ) → IsBetweenCodePoints p x y z → x ≡ 0xED → is_in_range 0xA0 0xAF y ≡ is_high p

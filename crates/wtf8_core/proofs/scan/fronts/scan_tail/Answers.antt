@@ -1,12 +1,10 @@
-use Rattle.wtf8_core.proofs.Common.{◌+◌, length, arith, refl, get_or_past}
-use Rattle.wtf8_core.proofs.lemmas.scan.Windows.{by_pattern, ascii_to_end}
+use Rattle.wtf8_core.proofs.Common.{◌+◌, arith, refl}
+use Rattle.wtf8_core.proofs.lemmas.scan.Windows.{past_end, ascii_to_end}
 use Rattle.wtf8_core.proofs.scan.fronts.scan_tail.Goals as goal
 
 pub returns-then-kept-bytes-clause-front : goal.returns-then-kept-bytes-clause-front
 returns-then-kept-bytes-clause-front c =
-    let bytes = c.args.bytes.now in
-    by_pattern c.args.encoding bytes (length bytes) (c.args.at + c.window_len-kept.result) (omega arith) (omega (arith, c.if-kept-bytes.true)) (c.window_len-kept.ensures.kept c.requires.kept)
-    (λ h. omega (arith, h.0, get_or_past bytes (length bytes) 0 (omega arith)))
+    past_end c.args.encoding c.args.bytes.now (c.args.at + c.window_len-kept.result) (omega (arith, c.if-kept-bytes.true)) (c.window_len-kept.ensures.kept c.requires.kept)
 
 pub returns-then-ends_with_ascii-clause-front : goal.returns-then-ends_with_ascii-clause-front
 returns-then-ends_with_ascii-clause-front c =
