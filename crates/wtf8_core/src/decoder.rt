@@ -79,8 +79,8 @@ fn first_code_point(units: &[u16]) -> Option<(u32, &[u16])>
 }
 
 /// The first byte of units, the other bytes of its form packed into a number, and the units after
-/// that code point.
-#[tactic(auto, using(crate::proofs::lemmas::units::OneToOne::bytes_none, crate::proofs::lemmas::units::OneToOne::bytes_ascii))]
+/// that code point. ASCII, and then units below the surrogates, are found by one test each.
+#[tactic(auto, using(crate::proofs::lemmas::units::OneToOne::bytes_none, crate::proofs::lemmas::units::OneToOne::bytes_ascii, crate::proofs::lemmas::units::OneToOne::bytes_below))]
 #[inline(always)]
 fn next_bytes(units: &[u16]) -> Option<(u8, u32, &[u16])>
     ensures bytes { MatchOption result (decoder_bytes 0 units.now ≡ [])
@@ -90,6 +90,10 @@ fn next_bytes(units: &[u16]) -> Option<(u8, u32, &[u16])>
     let (first, rest) = units.split_first()?;
     if *first < 0x80 {
         return Some((*first as u8, 0, rest));
+    }
+    if *first < 0xD800 {
+        let (byte, pending) = split_form(u32::from(*first));
+        return Some((byte, pending, rest));
     }
     let (code_point, rest) = first_code_point(units)?;
     let (byte, pending) = split_form(code_point);

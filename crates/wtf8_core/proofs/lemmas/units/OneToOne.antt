@@ -121,10 +121,13 @@ unfolding code_points_of
 bytes_none [] e = refl
 bytes_none (u ∷ us) e = absurd (omega arith)
 
--- a unit below 80 isn't half of a pair
+-- a unit below the surrogates isn't half of a pair
+pub bytes_below : (u : ℕ) (us : List ℕ) → u < 0xD800 → decoder_bytes 0 (u ∷ us) ≡ encode u ++ decoder_bytes 0 us
+bytes_below u us h = ap (flat_map encode) (read_single u us (may_precede u us (λ i. omega (arith, i.0))))
+
 pub bytes_ascii : (u : ℕ) (us : List ℕ) → u < 0x80 → decoder_bytes 0 (u ∷ us) ≡ u ∷ decoder_bytes 0 us
 unfolding encode
-bytes_ascii u us h = ap (flat_map encode) (read_single u us (may_precede u us (λ i. omega (arith, i.0)))) ∙ grind (arith, nat_tests)
+bytes_ascii u us h = bytes_below u us (omega arith) ∙ grind (arith, nat_tests)
 
 pub decoded : (us : List ℕ) → ((i : ℕ) → Fits w16 (get_or us i 0)) → HasUnits (decoder_bytes 0 us) us
 decoded us h = spelled_units us (recursion_from_All IsUnit us (All-from_get_or IsUnit us 0 (λ i _. omega (arith, h i))))
