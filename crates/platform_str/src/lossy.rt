@@ -4,6 +4,7 @@ ghost use Rattle.std.specs.Str.{IsUtf8};
 ghost use Rattle.std.specs.String.{string_bytes};
 ghost use Rattle.wtf8_core.specs.Lossy.{replacement};
 ghost use Rattle.wtf8_core.specs.Truncated.{IsTruncated};
+ghost use Rattle.wtf8_core.specs.Utf8.{IsUtf8Fault};
 ghost use Rattle.platform_str.specs.Cows.{byte_cow_bytes};
 ghost use Rattle.platform_str.specs.Lossy.{IsIoLossy, IsFirstText};
 
@@ -27,9 +28,19 @@ fn first_replaced<E: Platform>(bytes: &[u8]) -> Option<(usize, &[u8])>
         first.1.now) }
 {
     let (valid, error_len) = E::utf8_fault(bytes)?;
+    Some((valid, behind_fault::<E>(bytes, valid, error_len)))
+}
+
+/// The bytes after the part that one U+FFFD replaces at a string's first fault.
+#[inline(always)]
+fn behind_fault<E: Platform>(bytes: &[u8], valid: usize, error_len: Option<u8>) -> &[u8]
+    requires formed { E.well_formed bytes.now }
+    requires fault { IsUtf8Fault bytes.now valid error_len }
+    ensures { IsFirstText E.well_formed E.lossy bytes.now (take valid bytes.now) result.now }
+{
     let (_, behind) = bytes.split_at(valid);
     let (_, rest) = behind.split_at(E::replaced_len(behind, error_len));
-    Some((valid, rest))
+    rest
 }
 
 /// The same, with the text itself in place of its length.
@@ -90,6 +101,22 @@ fn text_room(bytes: &[u8]) -> usize {
     bytes.len().saturating_add(REPLACEMENT.len() - 1)
 }
 
+/// Appends the lossy text of a string.
+fn push_text<E: Platform, A: Allocator>(
+    text: &mut Vec<u8, A>,
+    bytes: &[u8],
+) -> Result<(), AllocError>
+    requires { E.well_formed bytes.now }
+    ensures { OnOk result (text.new.items ≡ text.old.items ++ E.lossy bytes.now) }
+{
+    let mut rest = bytes;
+    while let Some((len, behind)) = first_replaced::<E>(rest) {
+        push_replaced(text, rest, len)?;
+        rest = behind;
+    }
+    text.extend_from_slice(rest)
+}
+
 /// The bytes of the lossy text of a string, in new memory.
 pub(crate) fn text_bytes<E: Platform, A: Allocator>(
     alloc: A,
@@ -99,24 +126,39 @@ pub(crate) fn text_bytes<E: Platform, A: Allocator>(
     ensures { IfOk result (λ text. text.items ≡ E.lossy bytes.now) }
 {
     let mut text = Vec::with_capacity(alloc, text_room(bytes))?;
-    let mut rest = bytes;
-    while let Some((len, behind)) = first_replaced::<E>(rest) {
-        push_replaced(&mut text, rest, len)?;
-        rest = behind;
-    }
-    text.extend_from_slice(rest)?;
+    push_text::<E, A>(&mut text, bytes)?;
     Ok(text)
 }
 
-/// The lossy text of a string's bytes, in new memory.
+/// The same for a string whose first fault is known.
+fn text_bytes_from_fault<E: Platform, A: Allocator>(
+    alloc: A,
+    bytes: &[u8],
+    valid: usize,
+    error_len: Option<u8>,
+) -> Result<Vec<u8, A>, AllocError>
+    requires formed { E.well_formed bytes.now }
+    requires fault { IsUtf8Fault bytes.now valid error_len }
+    ensures { IfOk result (λ text. text.items ≡ E.lossy bytes.now) }
+{
+    let mut text = Vec::with_capacity(alloc, text_room(bytes))?;
+    push_replaced(&mut text, bytes, valid)?;
+    push_text::<E, A>(&mut text, behind_fault::<E>(bytes, valid, error_len))?;
+    Ok(text)
+}
+
+/// The lossy text of a string whose first fault is known, in new memory.
 pub(crate) fn text<E: Platform, A: Allocator>(
     alloc: A,
     bytes: &[u8],
+    valid: usize,
+    error_len: Option<u8>,
 ) -> Result<String<A>, AllocError>
-    requires { E.well_formed bytes.now }
+    requires formed { E.well_formed bytes.now }
+    requires fault { IsUtf8Fault bytes.now valid error_len }
     ensures { IfOk result (λ text. string_bytes text ≡ E.lossy bytes.now) }
 {
-    let text = text_bytes::<E, A>(alloc, bytes)?;
+    let text = text_bytes_from_fault::<E, A>(alloc, bytes, valid, error_len)?;
     Ok(unsafe { String::from_utf8_unchecked(text) })
 }
 

@@ -40,17 +40,14 @@ module _ {first_fault : List ℕ → EncodingError → Type 0} {well_formed : Li
       }
 
 -- one more text and one more U+FFFD are made
+pub one_more : {well_formed : List ℕ → Type 0} {lossy : List ℕ → List ℕ} {front rest behind : List ℕ} (made : List ℕ) → IsFirstText well_formed lossy rest front behind
+    → made ++ lossy rest ≡ ((made ++ front) ++ replacement) ++ lossy behind
+one_more {lossy = lossy} {front = front} {behind = behind} made f =
+    ap (λ x. made ++ x) f.lossy_is ∙ sym (append_assoc made front (replacement ++ lossy behind)) ∙ sym (append_assoc (made ++ front) replacement (lossy behind))
+
 pub made_more : {well_formed : List ℕ → Type 0} {lossy : List ℕ → List ℕ} {all made front rest behind : List ℕ} → IsLeft well_formed lossy all made rest → IsFirstText well_formed lossy rest front behind
     → IsLeft well_formed lossy all ((made ++ front) ++ replacement) behind
-made_more {lossy = lossy} {made = made} {front = front} {behind = behind} i f = record {
-  rest_is = f.rest_is;
-  lossy_is = i.lossy_is ∙ ap (λ x. made ++ x) f.lossy_is ∙ sym (append_assoc made front (replacement ++ lossy behind)) ∙ sym (append_assoc (made ++ front) replacement (lossy behind));
-}
-
--- the same for the text that the loop has made
-pub next : {well_formed : List ℕ → Type 0} {lossy : List ℕ → List ℕ} {all made front rest after behind : List ℕ} → IsLeft well_formed lossy all made rest → IsFirstText well_formed lossy rest front behind
-    → after ≡ (made ++ front) ++ replacement → IsLeft well_formed lossy all after behind
-next {well_formed} {lossy} {all} {behind = behind} i f a = subst (λ x. IsLeft well_formed lossy all x behind) (sym a) (made_more i f)
+made_more {made = made} i f = record { rest_is = f.rest_is; lossy_is = i.lossy_is ∙ one_more made f }
 
 -- a prefix that was written as a block of n bytes, of which the first k are kept
 pub front_of_block : (before bytes block text : List ℕ) (n k : ℕ) → k ≤ n → n ≤ length bytes → block ≡ take n bytes → text ≡ before ++ block → take (length text - (n - k)) text ≡ before ++ take k bytes
