@@ -1,7 +1,8 @@
 -- Escapes of strings that begin with a text of which each character is unchanged.
-use Rattle.os_quote.proofs.Common.{◌≡◌, ⊎_elim, ℕ, ◌+◌, ◌-◌, ◌<◌, Bool, true, false, List, [], ◌∷◌, ◌++◌, map, length, refl, sym, ap, ◌∙◌, subst, arith, append_assoc, append-nil, length-append, IsUtf8, chars, cases_lt, chars-append, IsCovered, CrossesNoCharacter, Chunk, joined, AreChunks, AreChunksFrom, chunks_from_start, are_chunks, some_chunks, chunks_once, one_more_chunk, Covered, over_none, covered_within, covered_behind, seam_at_start, text_covered, chunks_of, Item, item_texts, unit_item, character_item, items_of, escape_of, item_text, flat_map-append, map-append, take, drop, take_at, drop_at, IsAfterPlain, shown_by}
+use Rattle.os_quote.proofs.Common.{◌≡◌, ⊎_elim, ℕ, ◌+◌, ◌-◌, ◌<◌, Bool, List, [], ◌∷◌, ◌++◌, map, length, refl, sym, ap, ◌∙◌, subst, arith, append_assoc, length-append, IsUtf8, chars, cases_lt, chars-append, IsCovered, CrossesNoCharacter, Chunk, joined, AreChunks, AreChunksFrom, chunks_from_start, are_chunks, some_chunks, chunks_once, one_more_chunk, Covered, over_none, covered_behind, seam_at_start, text_covered, chunks_of, Item, item_texts, unit_item, character_item, items_of, escape_of, item_text, flat_map-append, map-append, take, drop, take_at, drop_at, IsAfterPlain, shown_by}
 use Rattle.os_quote.specs.declared.form.Form.{Form}
 use Rattle.os_quote.proofs.lemmas.PlainBytes.{plain_is_text, plain_is_own}
+use Rattle.wtf8_core.proofs.lemmas.chunks.OneList.{behind_seam}
 use Rattle.os_quote.proofs.lemmas.Texts.{text_items, text_escape}
 
 module _ (p r : List ℕ) (u : IsUtf8 p) (some : 0 < length p) where
@@ -27,23 +28,6 @@ module _ (p r : List ℕ) (u : IsUtf8 p) (some : 0 < length p) where
   long : 0 < length (p ++ r)
   long = omega (arith, some, length-append p r)
 
-  -- the chunks of what follows the text, in the string
-  after_text : (i : ℕ) (first : Bool) (cs : List Chunk) → AreChunksFrom r i first cs → AreChunksFrom (p ++ r) (length p + i) first cs
-  after_text i first [] g = tt
-  after_text i first (c ∷ cs) g =
-      let h = g.0 in
-      let whole : p ++ r ≡ p ++ (r ++ []) = ap (λ y. p ++ y) (sym (append-nil r)) in
-      let z : length p + (i + length (c.0 ++ c.1)) ≡ length p + i + length (c.0 ++ c.1) = omega arith in (
-        record {
-          some = h.some;
-          part = λ k low high q. h.part (k - length p) (omega arith) (omega arith) (covered_behind (p ++ r) p r k refl seam (omega arith) q);
-          text = λ k low high. let y : length p + (k - length p) ≡ k = omega arith in subst (IsCovered (p ++ r)) y (covered_within (p ++ r) p r [] (k - length p) whole (h.text (k - length p) (omega arith) (omega arith)));
-          part_first = h.part_first;
-          text_last = h.text_last;
-        },
-        subst (λ n. AreChunksFrom (p ++ r) n false cs) z (after_text (i + length (c.0 ++ c.1)) false cs g.1),
-      )
-
   are_grown : (q t : List ℕ) (ds : List Chunk) → AreChunks r ((q, t) ∷ ds) → AreChunks (p ++ r) (grown q t ds)
   are_grown (x ∷ q) t ds h =
       one_more_chunk (p ++ r) [] p r ((x ∷ q, t) ∷ ds) refl long (over_none _ 0) covered seam (λ none. absurd (never_empty none))
@@ -53,7 +37,7 @@ module _ (p r : List ℕ) (u : IsUtf8 p) (some : 0 < length p) where
       first (subst (IsCovered r) z (covered_behind (p ++ r) p r (length p) refl seam (omega arith) c)))
       h
   are_grown [] t ds h =
-      let lifted = after_text 0 true (([], t) ∷ ds) (chunks_from_start r (([], t) ∷ ds) h) in
+      let lifted = behind_seam (p ++ r) p r refl seam 0 (Unit {0}) (([], t) ∷ ds) (chunks_from_start r (([], t) ∷ ds) h) in
       let size = length-append p t in
       let z : length p + 0 + length ([] ++ t) ≡ 0 + length ([] ++ (p ++ t)) = omega (arith, size) in
       are_chunks (p ++ r) (([], p ++ t) ∷ ds) (append_assoc p t (joined ds) ∙ ap (λ x. p ++ x) h.joins) (
@@ -61,10 +45,10 @@ module _ (p r : List ℕ) (u : IsUtf8 p) (some : 0 < length p) where
           some = omega (arith, some, size);
           part = over_none _ 0;
           text = λ k low high. ⊎_elim (λ lt. covered k (omega arith) (omega (arith, lt))) (λ ge. lifted.0.text k (omega (arith, ge)) (omega (arith, high, size))) (cases_lt k (length p));
-          part_first = λ none. refl;
+          part_first = λ none. tt;
           text_last = λ none. absurd (let l = ap length none in omega (arith, some, size, l));
         },
-        subst (λ n. AreChunksFrom (p ++ r) n false ds) z lifted.1,
+        subst (λ n. AreChunksFrom (p ++ r) n ⊥ ds) z lifted.1,
       )
 
   are_front : (cs : List Chunk) → AreChunks r cs → AreChunks (p ++ r) (front_chunks cs)

@@ -11,9 +11,9 @@ pub push_same : {a b : List ℕ} {old new : List ℕ} {n m : ℕ} → a ≡ b �
 push_same {a} {b} {old} {new} {n} {m} e p = subst (λ x. Pushes x old n new m) e p
 
 -- what `push_truncated` says, of equal bytes
-pub push_bytes : (old : List ℕ) (n : ℕ) (new : List ℕ) (m : ℕ) (bytes more : List ℕ) → bytes ≡ more → ((text buffer : List ℕ) → IsTruncated text buffer old n → IsTruncated (text ++ bytes) buffer new m) → m ≡ n + length bytes
+pub push_bytes : {old new bytes more : List ℕ} {n m : ℕ} → bytes ≡ more → ((text buffer : List ℕ) → IsTruncated text buffer old n → IsTruncated (text ++ bytes) buffer new m) → m ≡ n + length bytes
     → Pushes more old n new m
-push_bytes old n new m bytes more e written len = subst (λ x. Pushes x old n new m) e (written, len)
+push_bytes {old} {new} {n = n} {m = m} e written len = subst (λ x. Pushes x old n new m) e (written, len)
 
 pub push_both : {a b old now new : List ℕ} {n m k : ℕ} → Pushes a old n now m → Pushes b now m new k → Pushes (a ++ b) old n new k
 push_both {a} {b} {old} {now} {new} {n} {m} {k} p q = (

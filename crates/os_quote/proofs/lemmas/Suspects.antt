@@ -1,6 +1,6 @@
 -- Suspects: none from one index up to another.
-use Rattle.os_quote.proofs.Common.{◌≡◌, ⊎_elim, ℕ, ◌+◌, ◌-◌, ◌<◌, false, List, length, get_or, drop, replicate, refl, sym, ap, ◌∙◌, subst, arith, get_or-drop, cases_lt, is_suspect, AllClear}
-use Rattle.std.proofs.lemmas.List.{get_or-append_right, get_or-replicate, get_or_append_left, get_or_past, length-replicate}
+use Rattle.wtf8_core.proofs.lemmas.scan.Windows.{zeros, zeros_after}
+use Rattle.os_quote.proofs.Common.{◌≡◌, ⊎_elim, ℕ, ◌+◌, ◌-◌, ◌<◌, false, List, get_or, drop, replicate, ap, ◌∙◌, subst, arith, get_or-drop, cases_lt, is_suspect, AllClear}
 use borrow.Rule.Slice.PartMut.{put_mid}
 
 -- the byte at an index is none
@@ -30,23 +30,12 @@ in_block bytes at n clear k low lt =
     (rw (get_or-drop at bytes (0 + (k - at)) 0, get_or-drop at bytes (1 + (k - at)) 0, get_or-drop at bytes (2 + (k - at)) 0) at (clear (k - at) (omega (arith, low, lt))))))
 
 -- those of a copy of what follows an index, with zeros after it
-zeros : (n i : ℕ) → ◌≡◌ {A = ℕ} (get_or (replicate n 0) i 0) 0
-zeros n i = ⊎_elim (λ l. get_or-replicate n i 0 0 l) (λ m. get_or_past (replicate n 0) i 0 (omega (arith, m, length-replicate {A = ℕ} n 0))) (cases_lt i n)
+in_zeros : (zs : List ℕ) → ((k : ℕ) → get_or zs k 0 ≡ 0) → (list part : List ℕ) (n : ℕ) → part ≡ list → (i : ℕ) → get_or (put_mid 0 n zs part) i 0 ≡ get_or list i 0
+in_zeros zs zero_at list part n same i =
+    zeros_after part (drop n (drop 0 zs)) (λ k. get_or-drop n (drop 0 zs) k 0 ∙ get_or-drop 0 zs (n + k) 0 ∙ zero_at (0 + (n + k))) i
+    ∙ ap (λ x. get_or x i 0) same
 
-in_zeros : (zs : List ℕ) → ((k : ℕ) → get_or zs k 0 ≡ 0) → (list part : List ℕ) (n : ℕ) → part ≡ list → n ≡ length list → (i : ℕ) → get_or (put_mid 0 n zs part) i 0 ≡ get_or list i 0
-in_zeros zs zero_at list part n same size i =
-    let post = drop n (drop 0 zs) in
-    ⊎_elim
-    (λ l. get_or_append_left part post 0 i l ∙ ap (λ x. get_or x i 0) same)
-    (λ m.
-    get_or-append_right part post (length part) i 0 refl m
-    ∙ get_or-drop n (drop 0 zs) (i - length part) 0
-    ∙ get_or-drop 0 zs (n + (i - length part)) 0
-    ∙ zero_at (0 + (n + (i - length part)))
-    ∙ sym (get_or_past list i 0 (omega (arith, m, ap length same))))
-    (cases_lt i (length part))
-
-pub in_block_of_zeros : (list part : List ℕ) (n : ℕ) → part ≡ list → n ≡ length list → (i : ℕ) → get_or (put_mid 0 n (replicate 66 0) part) i 0 ≡ get_or list i 0
+pub in_block_of_zeros : (list part : List ℕ) (n : ℕ) → part ≡ list → (i : ℕ) → get_or (put_mid 0 n (replicate 66 0) part) i 0 ≡ get_or list i 0
 in_block_of_zeros = in_zeros (replicate 66 0) (zeros 66)
 
 pub in_copy : (bytes rest block : List ℕ) (at n : ℕ) → rest ≡ drop at bytes → ((i : ℕ) → get_or block i 0 ≡ get_or rest i 0)

@@ -23,7 +23,7 @@ loop-plain-preserved c =
     record {
       front = so_far.front ++ plain;
       after = after_more _ _ _ _ _ so_far.after c.in-Some.ensures.after;
-      pushes = push_both so_far.pushes (push_bytes c.loop-plain.buffer c.loop-plain.count c.push_truncated-count.new.buffer c.push_truncated-count.result _ plain c.as_bytes.ensures.value c.push_truncated-count.ensures.written c.push_truncated-count.ensures.len);
+      pushes = push_both so_far.pushes (push_bytes c.as_bytes.ensures.value c.push_truncated-count.ensures.written c.push_truncated-count.ensures.len);
     }
 
 pub loop-plain-smaller : goal.loop-plain-smaller

@@ -8,13 +8,12 @@ push_truncated-len-requires c =
 
 pub push_token-len-requires : goal.push_token-len-requires
 push_token-len-requires c =
-    let pushed = push_bytes c.loop-front.buffer c.loop-front.len c.push_truncated-len.new.buffer c.push_truncated-len.result _ c.in-Some.front.now c.as_bytes.ensures.value c.push_truncated-len.ensures.written c.push_truncated-len.ensures.len in
+    let pushed = push_bytes c.as_bytes.ensures.value c.push_truncated-len.ensures.written c.push_truncated-len.ensures.len in
     room_left (one_pushed c.loop-front.invariant.1 pushed (cut_escape c.in-Some.ensures)) _ _ c.requires refl
 
 pub loop-front-preserved : goal.loop-front-preserved
 loop-front-preserved c =
-    let front = c.in-Some.front.now in
-    let pushed = push_bytes c.loop-front.buffer c.loop-front.len c.push_truncated-len.new.buffer c.push_truncated-len.result _ front c.as_bytes.ensures.value c.push_truncated-len.ensures.written c.push_truncated-len.ensures.len in
+    let pushed = push_bytes c.as_bytes.ensures.value c.push_truncated-len.ensures.written c.push_truncated-len.ensures.len in
     (c.in-Some.ensures.behind_text, one_pushed c.loop-front.invariant.1 (push_both pushed c.push_token-len.ensures) c.in-Some.ensures.escape)
 
 pub loop-front-smaller : goal.loop-front-smaller
@@ -28,5 +27,5 @@ push_truncated-requires c =
 pub returns : goal.returns
 returns c =
     let rest = c.loop-front.rest.now in
-    let pushed = push_bytes c.loop-front.buffer c.loop-front.len c.push_truncated.new.buffer c.push_truncated.result _ rest c.as_bytes-2.ensures.value c.push_truncated.ensures.written c.push_truncated.ensures.len in
+    let pushed = push_bytes c.as_bytes-2.ensures.value c.push_truncated.ensures.written c.push_truncated.ensures.len in
     all_pushed (one_pushed c.loop-front.invariant.1 pushed (c.in_default.ensures ∙ sym (append-nil rest))) refl

@@ -7,7 +7,7 @@ returns c =
     let number = c.args.number in
     let high = high_digits (number / 0x1_0000) in
     let wide = wide_digits (number % 0x1_0000) in
-    let name = push_bytes c.args.buffer.now c.args.count c.push_truncated-len.new.buffer c.push_truncated-len.result _ (0x5C ∷ 0x75 ∷ 0x7B ∷ []) refl c.push_truncated-len.ensures.written c.push_truncated-len.ensures.len in
-    let brace = push_bytes c.push_digits-len.new.buffer c.push_digits-len.result c.push_truncated.new.buffer c.push_truncated.result _ (0x7D ∷ []) refl c.push_truncated.ensures.written c.push_truncated.ensures.len in
+    let name = push_bytes {more = 0x5C ∷ 0x75 ∷ 0x7B ∷ []} refl c.push_truncated-len.ensures.written c.push_truncated-len.ensures.len in
+    let brace = push_bytes {more = 0x7D ∷ []} refl c.push_truncated.ensures.written c.push_truncated.ensures.len in
     let all = push_both name (push_both c.push_high-len.ensures (push_both c.push_digits-len.ensures brace)) in
     push_same (ap (λ x. (0x5C ∷ 0x75 ∷ 0x7B ∷ []) ++ x) (sym (append_assoc high wide (0x7D ∷ [])))) all
