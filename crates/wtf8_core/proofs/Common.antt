@@ -1,8 +1,8 @@
 -- The names that most proofs cite, re-exported from one file. Declares nothing.
-pub use Rattle.std.proofs.Common.{◌≡◌, ℕ, zero, suc, ◌-◌, ◌<◌, ◌/◌, ◌%◌, [], ◌∷◌, ◌++◌, true, refl, sym, ap, ◌∙◌, arith, rules, sub-one, codes, ◌+◌, List, take, subst, MatchResult, length, append_assoc, map, Result, Err, append-nil, ⊎_elim, Bool, false, drop, Ok, Fits, w8, get_or, length-append, length-drop, take-append-drop, ◌≤◌, Some, inl, inr, get_or-drop, ◌≢◌, ◌⊎◌, ◌*◌, ltb, leb, eqb, ◌&&◌, ◌||◌, not, eqb-true, Bor, None, eq-eqb, MatchOption, Option, get_or-take, ◌^◌, cond, bit_or, replicate, ◌↔◌, true≢false, length-take, drop-drop, w16, min, max, bit_and, bit_xor, take-take, take-add, leb-false, slice_index, set}
+pub use Rattle.std.proofs.Common.{◌≡◌, ℕ, zero, suc, ◌-◌, ◌<◌, ◌/◌, ◌%◌, [], ◌∷◌, ◌++◌, true, refl, sym, ap, ◌∙◌, arith, rules, sub-one, codes, ◌+◌, List, take, subst, MatchResult, length, append_assoc, map, Result, Err, append-nil, ⊎_elim, Bool, false, drop, Ok, Fits, w8, get_or, length-append, length-drop, take-append-drop, ◌≤◌, Some, inl, inr, get_or-drop, ◌≢◌, ◌⊎◌, ◌*◌, ltb, leb, eqb, ◌&&◌, ◌||◌, not, eqb-true, Bor, None, eq-eqb, MatchOption, Option, get_or-take, ◌^◌, cond, bit_or, replicate, ◌↔◌, true≢false, length-take, drop-drop, w16, min, max, bit_and, bit_xor, take-take, take-add, leb-false, set}
 pub use Rattle.std.proofs.Math.Seq.{drop-append_seam, take-append_seam, take-length, drop-append-add, take-append-add}
 pub use Rattle.std.proofs.Math.Utf8.{scalar, low_scalar, scalar_cases, scalars}
-pub use Rattle.std.proofs.lemmas.Bool.{cond-true, cond-false, and_parts, cases_lt, cases_eq, cases_Bool, or_cases, leb-true, ltb-true, lt-leb, not-true, and_left, and_right, cond_both, lt-ltb, le-ltb, not-false, false≢true, cases_order, and_from, le-leb, eqb-false}
+pub use Rattle.std.proofs.lemmas.Bool.{cond-true, cond-false, and_parts, cases_lt, cases_eq, cases_Bool, or_cases, leb-true, not-true, cond_both, lt-ltb, le-ltb, not-false, false≢true, cases_order, and_from, eqb-false}
 pub use Rattle.std.proofs.lemmas.Bool.Decides.{nat_tests, Decides-eqb}
 pub use Rattle.std.proofs.lemmas.Grind.{common_steps, flat_map-append}
 pub use Rattle.std.proofs.lemmas.List.{get_or_append_left, append_cancel_left, append_cancel_right, length-take-le, map-append, length-map, length-replicate, get_or-map, drop_all, take_at, drop_at, nil_from_length, take_all, get_or-append_right, get_or_past, drop-take, take_rest}
@@ -12,7 +12,7 @@ pub use Rattle.std.specs.Bool.{if◌then◌else◌, IsTrue}
 pub use Rattle.std.specs.Char.{IsScalar}
 unfoldable pub use Rattle.std.specs.Char.{encode_utf8}
 pub use Rattle.std.specs.Cmp.Lexicographic.{pointwise, slice_cmp, nat_list_cmp_total}
-pub use Rattle.std.specs.Fmt.{decimal, WritesStyledOnOk, WritesOnOk, IsDefaultSpec}
+pub use Rattle.std.specs.Fmt.{decimal}
 pub use Rattle.std.specs.Int.{is_in_range, IsInRange, bit_at}
 pub use Rattle.std.specs.List.{AllByRecursion, AllByRecursion-prop, All, flat_map, fold, range_with_len, repeat}
 pub use Rattle.std.specs.Option.{unwrap_or}
@@ -21,7 +21,7 @@ pub use Rattle.std.specs.Str.Lossy.{second_byte_min, second_byte_max, utf8_lossy
 unfoldable pub use Rattle.std.specs.Str.Lossy.{utf8_error_len, utf8_valid_len}
 pub use mathlib.Core.Bool.{Bool-set, beq}
 pub use Rattle.wtf8_core.specs.Boundary.{IsBoundary}
-pub use Rattle.wtf8_core.specs.Byte.{IsByte, IsContinuation, is_continuation, needed_continuations, lead_bits, IsLead}
+pub use Rattle.wtf8_core.specs.Byte.{IsByte, IsContinuation, is_continuation, needed_continuations, lead_bits}
 pub use Rattle.wtf8_core.specs.Character.{WholeCharacter, IsCharacterAt}
 pub use Rattle.wtf8_core.specs.Checker.{Stands, IsFaulty, Gives, Row, needed, rows, SomeRow, IsOpen, kept_bits, joined_bits, fault_at, is_between, is_plain, OnlyEnds, HasFirstFault, Progress, progress, StandsFor}
 pub use Rattle.wtf8_core.specs.Chunks.{Chunk, joined, AreChunks}
@@ -53,4 +53,4 @@ pub use Rattle.wtf8_core.specs.declared.fault.EncodingError.{EncodingError}
 pub use Rattle.wtf8_core.specs.declared.fault.EncodingError.TheVariants.{Utf8, Byte, CodePoint, End}
 pub use Rattle.wtf8_core.specs.declared.table.Class.{Class}
 pub use Rattle.wtf8_core.specs.declared.table.State.{State}
-pub use Rattle.wtf8_core.specs.declared.table.State.TheVariants.{Between, BehindHigh, BadFourth, Refused, BadThird, OneMore, TwoMore, BehindE0, BehindEd, HighThenEd, LastOfHigh, BehindF0, BehindF1, BehindF4, BehindF5, BadLastTwo}
+pub use Rattle.wtf8_core.specs.declared.table.State.TheVariants.{Between, BehindHigh, BadFourth, Refused, BadThird}
