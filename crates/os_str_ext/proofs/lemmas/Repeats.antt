@@ -1,6 +1,7 @@
 -- Repeated strings, by the laws of standing.
-use Rattle.os_str_ext.proofs.Common.{◌≡◌, ℕ, zero, suc, ◌+◌, List, [], ◌∷◌, ◌++◌, length, refl, sym, ap, ◌∙◌, subst, arith, append_assoc, append-nil, repeat, StandingLaws, no_units}
+use Rattle.os_str_ext.proofs.Common.{◌≡◌, ℕ, zero, suc, ◌+◌, List, [], ◌∷◌, ◌++◌, length, refl, sym, ap, ◌∙◌, subst, arith, repeat, StandingLaws, no_units}
 use Rattle.wtf8_core.proofs.lemmas.standing.Places.{nil_formed}
+use Rattle.os_str_ext.proofs.lemmas.Runs.{repeat-behind}
 
 -- no list
 abbrev empty : List ℕ
@@ -10,11 +11,6 @@ empty = []
 repeat-nil : (n : ℕ) → repeat n empty ≡ []
 repeat-nil zero = refl
 repeat-nil (suc n) = repeat-nil n
-
--- a list repeated one more time
-repeat-more : (n : ℕ) (xs : List ℕ) → repeat (n + 1) xs ≡ repeat n xs ++ xs
-repeat-more zero xs = append-nil xs
-repeat-more (suc n) xs = let e : suc n + 1 ≡ suc (n + 1) = omega arith in rw e (ap (λ ys. xs ++ ys) (repeat-more n xs) ∙ sym (append_assoc xs (repeat n xs) xs))
 
 module _ (wf : List ℕ → Type 0) (units : List ℕ → List ℕ) (laws : StandingLaws wf units) where
   -- v has the units of s repeated so many times
@@ -29,4 +25,4 @@ module _ (wf : List ℕ → Type 0) (units : List ℕ → List ℕ) (laws : Stan
   of_nothing (x ∷ s) v n e h = absurd (omega arith)
 
   pub once_more : (s v w : List ℕ) (n : ℕ) → IsRepeated s n v → wf w → units w ≡ units v ++ units s → IsRepeated s (n + 1) w
-  once_more s v w n r f e = (f, e ∙ ap (λ z. z ++ units s) r.1 ∙ sym (repeat-more n (units s)))
+  once_more s v w n r f e = let more : suc n ≡ n + 1 = omega arith in (f, e ∙ ap (λ z. z ++ units s) r.1 ∙ repeat-behind (units s) n ∙ ap (λ k. repeat k (units s)) more)

@@ -6,7 +6,7 @@ use Rattle.os_str_ext.proofs.lemmas.Comparing.{take_from_front, front_fits}
 use Rattle.os_str_ext.proofs.lemmas.Searches.{EdgesOfTexts, occurs_where_it_stands}
 
 -- one more repetition at the start is one more at the end
-repeat-behind : (p : List ℕ) (n : ℕ) → repeat n p ++ p ≡ repeat (suc n) p
+pub repeat-behind : (p : List ℕ) (n : ℕ) → repeat n p ++ p ≡ repeat (suc n) p
 repeat-behind p zero = sym (append-nil p)
 repeat-behind p (suc n) = append_assoc p (repeat n p) p ∙ ap (λ r. p ++ r) (repeat-behind p n)
 
