@@ -20,6 +20,10 @@ module _ {W : Type 0} (took : W → List ℕ → W → Type 0) where
       let s = so_far flush in
       has_written_styled_of_eq _ _ _ _ _ (sym (append-nil s.0) ∙ ap (λ x. s.0 ++ x) (sym e) ∙ s.2) s.1
 
+  -- what is left is written at once
+  pub last_written : (f g h : Formatter W) (left now all : List ℕ) → WritesRest took f g left all → (IsFlush g → HasWrittenStyled took g now h) → left ≡ now → IsFlush f → HasWrittenStyled took f all h
+  last_written f g h left now all so_far next e flush = all_written f h [] all (one_more f g h left now [] all so_far next (e ∙ sym (append-nil now))) refl flush
+
   -- two writes, one after the other
   pub both : (f g h : Formatter W) (a b : List ℕ) → (IsFlush f → HasWrittenStyled took f a g) → (IsFlush g → HasWrittenStyled took g b h) → IsFlush f → HasWrittenStyled took f (a ++ b) h
   both f g h a b first next flush = let p = first flush in has_written_styled_append _ _ _ _ _ _ p (next p.flush)
