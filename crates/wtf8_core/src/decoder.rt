@@ -1,7 +1,7 @@
 //! From 16-bit units to bytes.
-ghost use Rattle.std.specs.Prelude.{◌≡◌, ◌∷◌, ◌<◌, ◌^◌, [], ℕ, IfSome, MatchOption};
+ghost use Rattle.std.specs.Prelude.{◌≡◌, ◌++◌, ◌∷◌, ◌<◌, ◌^◌, [], ℕ, IfSome, MatchOption};
 ghost use Rattle.std.specs.Iterator.{YieldsFirst, item_count};
-ghost use Rattle.wtf8_core.specs.CodePoint.{IsCodePoint};
+ghost use Rattle.wtf8_core.specs.CodePoint.{IsCodePoint, encode};
 ghost use Rattle.wtf8_core.specs.Wtf8.{HasUnits};
 ghost use Rattle.wtf8_core.specs.Decoder.{code_points_of, decoder_bytes};
 
@@ -78,6 +78,19 @@ fn first_code_point(units: &[u16]) -> Option<(u32, &[u16])>
     Some((u32::from(*first), rest))
 }
 
+/// The first byte of a code point's form, the other bytes of it packed into a number, and the units
+/// after the code point.
+#[inline(always)]
+fn bytes_before(code_point: u32, rest: &[u16]) -> (u8, u32, &[u16])
+    requires { IsCodePoint code_point }
+    ensures bytes { encode code_point ++ decoder_bytes 0 rest.now
+        ≡ result.0 ∷ decoder_bytes result.1 result.2.now }
+    ensures few { result.1 < 2 ^ 24 }
+{
+    let (byte, pending) = split_form(code_point);
+    (byte, pending, rest)
+}
+
 /// The first byte of units, the other bytes of its form packed into a number, and the units after
 /// that code point. ASCII, and then units below the surrogates, are found by one test each.
 #[tactic(auto, using(crate::proofs::lemmas::units::OneToOne::bytes_none, crate::proofs::lemmas::units::OneToOne::bytes_ascii, crate::proofs::lemmas::units::OneToOne::bytes_below))]
@@ -92,12 +105,10 @@ fn next_bytes(units: &[u16]) -> Option<(u8, u32, &[u16])>
         return Some((*first as u8, 0, rest));
     }
     if *first < 0xD800 {
-        let (byte, pending) = split_form(u32::from(*first));
-        return Some((byte, pending, rest));
+        return Some(bytes_before(u32::from(*first), rest));
     }
     let (code_point, rest) = first_code_point(units)?;
-    let (byte, pending) = split_form(code_point);
-    Some((byte, pending, rest))
+    Some(bytes_before(code_point, rest))
 }
 
 impl<'a> Iterator for DecodeWide<'a> {
