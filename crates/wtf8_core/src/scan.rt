@@ -20,13 +20,14 @@
 //! their table or the reader of code points. [`is_utf8`](crate::is_utf8) reads 20 bytes to two blocks
 //! by steps from the first byte on: the first by lanes after zeros ([`fronts::starts_by_step`]), then
 //! 4, and one more step that ends with the last byte ([`fronts::ends_by_step`]). It reads 4 to 19
-//! bytes in a copy with zeros before and after them ([`fronts::is_short_by_steps`]), and more than two
+//! bytes in a copy with zeros before and after them ([`short::is_short_by_steps`]), and more than two
 //! blocks by 5 and 6. What these don't vouch for std's reader reads.
 //! [`surrogate_fault`](crate::surrogate_fault) looks for surrogates alone ([`surrogates`]).
 
 pub(crate) mod error_bits;
 pub(crate) mod fronts;
 pub(crate) mod lanes;
+pub(crate) mod short;
 pub(crate) mod surrogates;
 
 /// The length of a block in bytes.

@@ -8,10 +8,10 @@ ghost use Rattle.wtf8_core.specs.Wtf8.{IsWtf8};
 
 use crate::character::char_or_fault_at_front;
 use crate::scan::fronts::{
-    ends_by_step, ends_with_ascii, front_of, is_short_by_steps, scan_from, scan_steps,
-    starts_by_step,
+    ends_by_step, ends_with_ascii, front_of, scan_from, scan_steps, starts_by_step,
 };
 use crate::scan::lanes::ascii_of;
+use crate::scan::short::is_short_by_steps;
 use crate::scan::surrogates::text_from;
 use crate::scan::{BEFORE, BLOCK, Encoding, STEP};
 use memchr::memchr;

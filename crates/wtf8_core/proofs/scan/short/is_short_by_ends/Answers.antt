@@ -1,6 +1,6 @@
 use Rattle.wtf8_core.proofs.Common.{◌+◌, ◌-◌, ◌∙◌, length, arith, take_rest}
 use Rattle.wtf8_core.proofs.lemmas.scan.Windows.{ends_copied}
-use Rattle.wtf8_core.proofs.scan.fronts.is_short_by_ends.Goals as goal
+use Rattle.wtf8_core.proofs.scan.short.is_short_by_ends.Goals as goal
 
 pub is_copy_kept-requires-clause-copy : goal.is_copy_kept-requires-clause-copy
 is_copy_kept-requires-clause-copy g c i _ =

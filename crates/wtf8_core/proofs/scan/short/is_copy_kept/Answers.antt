@@ -2,7 +2,7 @@ use Rattle.wtf8_core.proofs.Common.{◌+◌, arith, get_or, get_or-drop, ap, ◌
 use Rattle.std.proofs.lemmas.Bool.{ltb-true}
 use Rattle.wtf8_core.proofs.lemmas.scan.Windows.{more, more_from_start, past_end}
 use Rattle.wtf8_core.specs.declared.scan.Encoding.TheVariants.{Utf8}
-use Rattle.wtf8_core.proofs.scan.fronts.is_copy_kept.Goals as goal
+use Rattle.wtf8_core.proofs.scan.short.is_copy_kept.Goals as goal
 
 pub returns-then-kept-bytes : goal.returns-then-kept-bytes
 returns-then-kept-bytes c _ =
