@@ -23,12 +23,15 @@ size_t port_escape_line(const char *at, size_t len);
 size_t port_write_escape(const char *at, size_t len, char *out, size_t room);
 size_t port_win_write_escape(const char *at, size_t len, char *out, size_t room);
 size_t port_write_escape_line(const char *at, size_t len, char *out, size_t room);
+size_t port_win_write_escape_line(const char *at, size_t len, char *out, size_t room);
 size_t port_unescape(const char *at, size_t len);
 size_t port_unescape_line(const char *at, size_t len);
 size_t port_write_unescaped(const char *at, size_t len, char *out, size_t room);
 size_t port_win_write_unescaped(const char *at, size_t len, char *out, size_t room);
 size_t port_wasm_write_unescaped(const char *at, size_t len, char *out, size_t room);
 size_t port_write_unescaped_line(const char *at, size_t len, char *out, size_t room);
+size_t port_win_write_unescaped_line(const char *at, size_t len, char *out, size_t room);
+size_t port_wasm_write_unescaped_line(const char *at, size_t len, char *out, size_t room);
 size_t port_find(const char *at, size_t len, const char *pattern, size_t pattern_len);
 size_t port_rfind(const char *at, size_t len, const char *pattern, size_t pattern_len);
 bool port_contains(const char *at, size_t len, const char *pattern, size_t pattern_len);
@@ -69,9 +72,9 @@ enum { KIND_COUNT = sizeof KINDS / sizeof *KINDS };
 
 /* A string, its first half and its second, which are texts, its escapes and its units. */
 struct input {
-    char string[128], escape[3][ROOM], line[ROOM];
+    char string[128], escape[3][ROOM], line[3][ROOM];
     uint16_t units[128];
-    size_t len, front, back, escape_len[3], line_len, unit_count;
+    size_t len, front, back, escape_len[3], line_len[3], unit_count;
 };
 static struct input inputs[KIND_COUNT][LEN_COUNT];
 
@@ -140,10 +143,12 @@ TIMED(r_escape_windows, or_fault_of(it, port_win_write_escape(STRING, out, ROOM)
 TIMED(c_escape_line, WRITTEN(osb_escape_line, OSB_UNIX))
 TIMED(r_escape_line, port_escape_line(STRING))
 TIMED(r_write_escape_line, port_write_escape_line(STRING, out, ROOM))
+TIMED(c_escape_line_windows, WRITTEN(osb_escape_line, OSB_WINDOWS))
+TIMED(r_escape_line_windows, or_fault_of(it, port_win_write_escape_line(STRING, out, ROOM)))
 
 /* Strings from escapes. */
 #define ESCAPE(platform) it->escape[platform], it->escape_len[platform]
-#define LINE it->line, it->line_len
+#define LINE(platform) it->line[platform], it->line_len[platform]
 #define READ(platform)                                                                             \
     OR_NONE(osb_unescape(platform, ESCAPE(platform), out, ROOM, &count, NULL), count)
 TIMED(c_unescape, READ(OSB_UNIX))
@@ -153,9 +158,15 @@ TIMED(c_unescape_windows, READ(OSB_WINDOWS))
 TIMED(r_unescape_windows, port_win_write_unescaped(ESCAPE(OSB_WINDOWS), out, ROOM))
 TIMED(c_unescape_wasm, READ(OSB_WASM))
 TIMED(r_unescape_wasm, port_wasm_write_unescaped(ESCAPE(OSB_WASM), out, ROOM))
-TIMED(c_unescape_line, OR_NONE(osb_unescape_line(OSB_UNIX, LINE, out, ROOM, &count, NULL), count))
-TIMED(r_unescape_line, port_unescape_line(LINE))
-TIMED(r_write_unescaped_line, port_write_unescaped_line(LINE, out, ROOM))
+#define READ_LINE(platform)                                                                        \
+    OR_NONE(osb_unescape_line(platform, LINE(platform), out, ROOM, &count, NULL), count)
+TIMED(c_unescape_line, READ_LINE(OSB_UNIX))
+TIMED(r_unescape_line, port_unescape_line(LINE(OSB_UNIX)))
+TIMED(r_write_unescaped_line, port_write_unescaped_line(LINE(OSB_UNIX), out, ROOM))
+TIMED(c_unescape_line_windows, READ_LINE(OSB_WINDOWS))
+TIMED(r_unescape_line_windows, port_win_write_unescaped_line(LINE(OSB_WINDOWS), out, ROOM))
+TIMED(c_unescape_line_wasm, READ_LINE(OSB_WASM))
+TIMED(r_unescape_line_wasm, port_wasm_write_unescaped_line(LINE(OSB_WASM), out, ROOM))
 
 /* Searches. */
 TIMED(c_find, OR_NONE(osb_find(STRING, BACK, &count), count))
@@ -264,6 +275,8 @@ static const struct pair {
     {"`osb_escape_line`", "`write_escape_line`", c_escape_line, r_write_escape_line, one, ANY,
      false},
     {"`osb_escape_line`", "`escape_line`", c_escape_line, r_escape_line, one, ANY, false},
+    {"`osb_escape_line`, Windows", "`checked`, `write_escape_line`", c_escape_line_windows,
+     r_escape_line_windows, one, ANY, false},
     {"`osb_unescape`", "`write_unescaped_bytes`", c_unescape, r_write_unescaped, one, ANY, false},
     {"`osb_unescape`", "`unescape` of a `str`", c_unescape, r_unescape, one, ANY, false},
     {"`osb_unescape`, Windows", "`write_unescaped_bytes`", c_unescape_windows, r_unescape_windows,
@@ -274,6 +287,10 @@ static const struct pair {
      one, ANY, false},
     {"`osb_unescape_line`", "`unescape_line` of a `str`", c_unescape_line, r_unescape_line, one,
      ANY, false},
+    {"`osb_unescape_line`, Windows", "`write_unescaped_line_bytes`", c_unescape_line_windows,
+     r_unescape_line_windows, one, OF_WINDOWS, false},
+    {"`osb_unescape_line`, wasm", "`write_unescaped_line_bytes`", c_unescape_line_wasm,
+     r_unescape_line_wasm, one, TEXT, false},
     {"`osb_find`", "`find`", c_find, r_find, one, ANY, true},
     {"`osb_rfind`", "`rfind`", c_rfind, r_rfind, one, ANY, true},
     {"`osb_contains`", "`contains`", c_contains, r_contains, one, ANY, true},
@@ -314,9 +331,10 @@ static void make(struct input *it, size_t kind, size_t len) {
     it->back = it->len;
     append(it, KINDS[kind].text, len);
     osb_to_wide(STRING, it->units, 128, &it->unit_count, NULL);
-    for (osb_platform platform = 0; platform < 3; platform++)
+    for (osb_platform platform = 0; platform < 3; platform++) {
         osb_escape(platform, STRING, it->escape[platform], ROOM, &it->escape_len[platform], NULL);
-    osb_escape_line(OSB_UNIX, STRING, it->line, ROOM, &it->line_len, NULL);
+        osb_escape_line(platform, STRING, it->line[platform], ROOM, &it->line_len[platform], NULL);
+    }
 }
 
 static uint64_t nanoseconds(void) {

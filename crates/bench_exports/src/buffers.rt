@@ -70,6 +70,19 @@ pub extern "C" fn port_write_escape_line(raw: &[u8], out: &mut [u8]) -> usize
     write_escape_line(unix(raw), out)
 }
 
+/// The same on Windows, or `usize::MAX` where the bytes aren't WTF-8.
+#[unsafe(no_mangle)]
+pub extern "C" fn port_win_write_escape_line(raw: &[u8], out: &mut [u8]) -> usize
+    requires { 6 * length raw.now < 2 ^ 64 }
+    ensures { result ≢ usize.MAX → (escaped : List ℕ) × IsLineEscape units_of raw.now escaped
+        × IsTruncated escaped out.old out.new result }
+{
+    match OsStr::<Windows>::checked(raw) {
+        Ok(string) => write_escape_line(string, out),
+        Err(_) => usize::MAX,
+    }
+}
+
 /// Writes the string that has this escape, and answers how many bytes it has, or `usize::MAX` where
 /// the escape is refused.
 fn unescaped_len<E: Platform>(escape: &[u8], out: &mut [u8]) -> usize
@@ -108,15 +121,42 @@ pub extern "C" fn port_wasm_write_unescaped(escape: &[u8], out: &mut [u8]) -> us
     unescaped_len::<Wasm>(escape, out)
 }
 
-/// The same on Unix, of an escape on one line.
+/// Writes the string that has this escape on one line, as `unescaped_len` does.
+fn line_unescaped_len<E: Platform>(escape: &[u8], out: &mut [u8]) -> usize
+    ensures { result ≢ usize.MAX
+        → IsLineUnescaped E.well_formed E.units escape.now out.old out.new result }
+{
+    match write_unescaped_line_bytes::<E>(escape, out) {
+        Some(Ok(len)) => len,
+        Some(Err(_)) => usize::MAX,
+        None => usize::MAX,
+    }
+}
+
+/// Writes the string of Unix that has this escape on one line, and answers how many bytes it has, or
+/// `usize::MAX` where the escape is refused.
 #[unsafe(no_mangle)]
 pub extern "C" fn port_write_unescaped_line(escape: &[u8], out: &mut [u8]) -> usize
     ensures { result ≢ usize.MAX
         → IsLineUnescaped AreBytes itself escape.now out.old out.new result }
 {
-    match write_unescaped_line_bytes::<Unix>(escape, out) {
-        Some(Ok(len)) => len,
-        Some(Err(_)) => usize::MAX,
-        None => usize::MAX,
-    }
+    line_unescaped_len::<Unix>(escape, out)
+}
+
+/// The same on Windows.
+#[unsafe(no_mangle)]
+pub extern "C" fn port_win_write_unescaped_line(escape: &[u8], out: &mut [u8]) -> usize
+    ensures { result ≢ usize.MAX
+        → IsLineUnescaped IsWtf8 units_of escape.now out.old out.new result }
+{
+    line_unescaped_len::<Windows>(escape, out)
+}
+
+/// The same on wasm.
+#[unsafe(no_mangle)]
+pub extern "C" fn port_wasm_write_unescaped_line(escape: &[u8], out: &mut [u8]) -> usize
+    ensures { result ≢ usize.MAX
+        → IsLineUnescaped IsUtf8 itself escape.now out.old out.new result }
+{
+    line_unescaped_len::<Wasm>(escape, out)
 }
