@@ -1,14 +1,9 @@
-use Rattle.std.proofs.Common.{◌≡◌, ◌∙◌, map, sym, ap, subst, inl, inr, Result, Ok, Err, IfOk, IfErr, IsOk, OnOk}
+use Rattle.std.proofs.Common.{◌≡◌, ◌∙◌, map, sym, ap, subst, inl, inr, Result, Ok, Err, IfErr, IsOk, OnOk}
 use Rattle.std.proofs.lemmas.Bool.{false≢true}
-use Rattle.std.proofs.lemmas.Result.{IfErr-weaker, IfErr-at_err}
+use Rattle.std.proofs.lemmas.Result.{IfOk-weaker, IfErr-weaker, IfErr-at_err}
 use Rattle.std.specs.Prelude.{string_bytes}
 use Rattle.osbytes_commands.specs.Program.{AreNoCommand}
 use Rattle.osbytes_commands.proofs.program.execute.Goals as goal
-
--- what follows of an `Ok`'s value
-if_ok : {X E : Type 0} (r : Result X E) (P Q : X → Type 0) → ((x : X) → P x → Q x) → IfOk r P → IfOk r Q
-if_ok (Ok x) P Q f h = f x h
-if_ok (Err e) P Q f h = tt
 
 -- what needs no value
 on_ok : {X E P : Type 0} (r : Result X E) → P → OnOk r P
@@ -31,19 +26,19 @@ returns-in-Ok-clause-no_memory g c = no_error c.args.args _ c.in-Ok.ensures.ok
 
 pub returns-in-Ok-clause-usage : goal.returns-in-Ok-clause-usage
 returns-in-Ok-clause-usage g c =
-    if_ok c.args.args _ _
+    IfOk-weaker c.args.args _ _
     (λ args same is_usage. subst AreNoCommand (ap (map string_bytes) c.deref.ensures.value ∙ same) (c.run_words.ensures.usage.0 (sym c.telling.ensures.outcome ∙ is_usage)))
     c.in-Ok.ensures.words
 
 pub returns-in-Ok-clause-no_command : goal.returns-in-Ok-clause-no_command
 returns-in-Ok-clause-no_command g c =
-    if_ok c.args.args _ _
+    IfOk-weaker c.args.args _ _
     (λ args same none. inl (c.telling.ensures.outcome ∙ c.run_words.ensures.usage.1 (subst AreNoCommand (sym (ap (map string_bytes) c.deref.ensures.value ∙ same)) none)))
     c.in-Ok.ensures.words
 
 pub returns-in-Ok-clause-run : goal.returns-in-Ok-clause-run
 returns-in-Ok-clause-run g c =
-    if_ok c.args.args _ _
+    IfOk-weaker c.args.args _ _
     (λ args same command with_words. rw c.telling.ensures.outcome (c.run_words.ensures.run command (ap (map string_bytes) c.deref.ensures.value ∙ (same ∙ with_words))))
     c.in-Ok.ensures.words
 
@@ -85,7 +80,7 @@ returns-clause-no_memory g c =
 
 pub returns-clause-no_command : goal.returns-clause-no_command
 returns-clause-no_command g c =
-    if_ok c.args.args _ _
+    IfOk-weaker c.args.args _ _
     (λ args is_memory none. inr (c.telling-in-Err.ensures.outcome ∙ ap Err is_memory))
     c.in-Err.ensures.memory
 
