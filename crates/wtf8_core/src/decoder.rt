@@ -1,11 +1,10 @@
 //! From 16-bit units to bytes.
-ghost use Rattle.std.specs.Prelude.{◌≡◌, ◌++◌, ◌∷◌, ◌<◌, ◌^◌, [], ℕ, IfSome, MatchOption};
+ghost use Rattle.std.specs.Prelude.{◌≡◌, ◌∷◌, ◌<◌, ◌^◌, ◌/◌, ◌%◌, [], drop, MatchOption};
 ghost use Rattle.std.specs.Iterator.{YieldsFirst, item_count};
-ghost use Rattle.wtf8_core.specs.CodePoint.{IsCodePoint, encode};
 ghost use Rattle.wtf8_core.specs.Wtf8.{HasUnits};
-ghost use Rattle.wtf8_core.specs.Decoder.{code_points_of, decoder_bytes};
+ghost use Rattle.wtf8_core.specs.Decoder.{decoder_bytes};
 
-use crate::forms::split_form;
+use crate::forms::packed_form;
 use crate::surrogate::{is_pair, paired};
 use std::marker::Model;
 
@@ -22,20 +21,22 @@ use std::marker::Model;
 /// The bytes of D83D, D83D, DE00 (hexadecimal) are ED A0 BD F0 9F 98 80.
 #[derive(Drop)]
 pub struct DecodeWide<'a> {
-    rest: &'a [u16],
+    units: &'a [u16],
+    // The index of the next unit to be read.
+    at: usize,
     // The bytes of a form that are still to come, the next one in the lowest bits; 0 if there are
     // none.
     pending: u32,
 }
 
 impl<'a> Model for DecodeWide<'a> {
-    ghost use Rattle.std.specs.Prelude.{List, ℕ, ◌<◌, ◌^◌};
+    ghost use Rattle.std.specs.Prelude.{List, ℕ, ◌<◌, ◌^◌, drop};
 
     ghost Value = { List ℕ };
 
     ghost use Rattle.wtf8_core.specs.Decoder.{decoder_bytes};
 
-    ghost view = { λ it. decoder_bytes it.pending it.rest.now };
+    ghost view = { λ it. decoder_bytes it.pending (drop it.at it.units.now) };
 
     ghost invariant = { λ it. it.pending < 2 ^ 24 };
 }
@@ -56,59 +57,52 @@ impl<'a> DecodeWide<'a> {
         ensures { HasUnits result units.now }
     {
         DecodeWide {
-            rest: units,
+            units,
+            at: 0,
             pending: 0,
         }
     }
 }
 
-/// The first code point of units, and the units after it.
-#[tactic(auto, unfolding(crate::specs::Decoder::code_points_of))]
+/// The bytes of the code point that begins at an index of units, packed into a number, the first of
+/// them in the lowest bits, and the index after that code point.
+///
+/// Whether a unit is below the surrogates is asked first: most are, in text of every script, and
+/// such a unit is no half of a pair.
+#[tactic(auto, using(crate::proofs::lemmas::units::OneToOne::decoding))]
 #[inline(always)]
-fn first_code_point(units: &[u16]) -> Option<(u32, &[u16])>
-    ensures { MatchOption result (code_points_of units.now ≡ [])
-        (λ r. (code_points_of units.now ≡ r.0 ∷ code_points_of r.1.now) × IsCodePoint r.0) }
+fn form_at(units: &[u16], at: usize) -> Option<(u32, usize)>
+    ensures { MatchOption result (decoder_bytes 0 (drop at units.now) ≡ [])
+        (λ r. decoder_bytes 0 (drop at units.now)
+        ≡ r.0 % 0x100 ∷ decoder_bytes (r.0 / 0x100) (drop r.1 units.now)) }
 {
-    let (first, rest) = units.split_first()?;
-    if let Some((second, behind)) = rest.split_first() {
-        if is_pair(*first, *second) {
-            return Some((paired(*first, *second), behind));
-        }
+    if at >= units.len() {
+        return None;
     }
-    Some((u32::from(*first), rest))
+    let unit = units[at];
+    let after = at + 1;
+    if unit < 0xD800 {
+        return Some((packed_form(u32::from(unit)), after));
+    }
+    if after < units.len() && is_pair(unit, units[after]) {
+        return Some((packed_form(paired(unit, units[after])), after + 1));
+    }
+    Some((packed_form(u32::from(unit)), after))
 }
 
-/// The first byte of a code point's form, the other bytes of it packed into a number, and the units
-/// after the code point.
+/// The bytes of a form that are still to come, or, if there are none, those of the form at an
+/// index, packed into a number, and the index of the unit after that form.
 #[inline(always)]
-fn bytes_before(code_point: u32, rest: &[u16]) -> (u8, u32, &[u16])
-    requires { IsCodePoint code_point }
-    ensures bytes { encode code_point ++ decoder_bytes 0 rest.now
-        ≡ result.0 ∷ decoder_bytes result.1 result.2.now }
-    ensures few { result.1 < 2 ^ 24 }
+fn next_bytes(pending: u32, units: &[u16], at: usize) -> Option<(u32, usize)>
+    requires { pending < 2 ^ 24 }
+    ensures { MatchOption result (decoder_bytes pending (drop at units.now) ≡ [])
+        (λ r. decoder_bytes pending (drop at units.now)
+        ≡ r.0 % 0x100 ∷ decoder_bytes (r.0 / 0x100) (drop r.1 units.now)) }
 {
-    let (byte, pending) = split_form(code_point);
-    (byte, pending, rest)
-}
-
-/// The first byte of units, the other bytes of its form packed into a number, and the units after
-/// that code point. ASCII, and then units below the surrogates, are found by one test each.
-#[tactic(auto, using(crate::proofs::lemmas::units::OneToOne::bytes_none, crate::proofs::lemmas::units::OneToOne::bytes_ascii, crate::proofs::lemmas::units::OneToOne::bytes_below))]
-#[inline(always)]
-fn next_bytes(units: &[u16]) -> Option<(u8, u32, &[u16])>
-    ensures bytes { MatchOption result (decoder_bytes 0 units.now ≡ [])
-        (λ r. decoder_bytes 0 units.now ≡ r.0 ∷ decoder_bytes r.1 r.2.now) }
-    ensures few { IfSome result (λ r. r.1 < 2 ^ 24) }
-{
-    let (first, rest) = units.split_first()?;
-    if *first < 0x80 {
-        return Some((*first as u8, 0, rest));
+    if pending > 0 {
+        return Some((pending, at));
     }
-    if *first < 0xD800 {
-        return Some(bytes_before(u32::from(*first), rest));
-    }
-    let (code_point, rest) = first_code_point(units)?;
-    Some(bytes_before(code_point, rest))
+    form_at(units, at)
 }
 
 impl<'a> Iterator for DecodeWide<'a> {
@@ -120,14 +114,9 @@ impl<'a> Iterator for DecodeWide<'a> {
 
     #[inline(always)]
     fn next(&mut self) -> Option<u8> {
-        if self.pending > 0 {
-            let byte = (self.pending % 0x100) as u8;
-            self.pending /= 0x100;
-            return Some(byte);
-        }
-        let (byte, pending, rest) = next_bytes(self.rest)?;
-        self.pending = pending;
-        self.rest = rest;
-        Some(byte)
+        let (bytes, at) = next_bytes(self.pending, self.units, self.at)?;
+        self.pending = bytes / 0x100;
+        self.at = at;
+        Some((bytes % 0x100) as u8)
     }
 }

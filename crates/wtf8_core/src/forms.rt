@@ -1,5 +1,5 @@
 //! Forms: the bytes of code points, written.
-ghost use Rattle.std.specs.Prelude.{◌≡◌, ◌++◌, ◌∷◌, ◌+◌, ◌≤◌, ◌<◌, ◌^◌, take, drop, length};
+ghost use Rattle.std.specs.Prelude.{◌≡◌, ◌++◌, ◌∷◌, ◌+◌, ◌/◌, ◌%◌, ◌≤◌, take, drop, length};
 ghost use Rattle.wtf8_core.specs.CodePoint.{IsCodePoint, encode};
 ghost use Rattle.wtf8_core.specs.Decoder.{packed_bytes};
 
@@ -29,7 +29,7 @@ pub fn write_form(bytes: &mut [u8], at: usize, code_point: u32) -> usize
         bytes[at] = code_point as u8;
         return at + 1;
     }
-    let last = (0x80 + code_point % 0x40) as u8;
+    let last = last_continuation(code_point) as u8;
     if code_point < 0x800 {
         bytes[at] = (0xC0 + code_point / 0x40) as u8;
         bytes[at + 1] = last;
@@ -49,26 +49,34 @@ pub fn write_form(bytes: &mut [u8], at: usize, code_point: u32) -> usize
     at + 4
 }
 
-/// The first byte of a form, and the others packed into a number, the first of them in the lowest
-/// bits.
+/// The last byte of a form that has more than one.
+#[inline(always)]
+fn last_continuation(code_point: u32) -> u32
+    ensures { result ≡ 0x80 + code_point % 0x40 }
+{
+    0x80 + code_point % 0x40
+}
+
+/// The bytes of a form packed into a number, the first of them in the lowest bits.
+///
+/// Whether there are fewer than three is asked before whether there is one: where lengths are
+/// mixed, that is the question whose answer a processor foresees more often.
 #[tactic(auto, unfolding(crate::specs::CodePoint::encode))]
 #[inline(always)]
-pub(crate) fn split_form(code_point: u32) -> (u8, u32)
+pub(crate) fn packed_form(code_point: u32) -> u32
     requires { IsCodePoint code_point }
-    ensures form { encode code_point ≡ result.0 ∷ packed_bytes 3 result.1 }
-    ensures few { result.1 < 2 ^ 24 }
+    ensures { encode code_point ≡ result % 0x100 ∷ packed_bytes 3 (result / 0x100) }
 {
-    let last = 0x80 + code_point % 0x40;
-    if code_point < 0x80 {
-        return (code_point as u8, 0);
-    }
     if code_point < 0x800 {
-        return ((0xC0 + code_point / 0x40) as u8, last);
+        if code_point < 0x80 {
+            return code_point;
+        }
+        return 0xC0 + code_point / 0x40 + last_continuation(code_point) * 0x100;
     }
-    let last_two = 0x80 + code_point / 0x40 % 0x40 + last * 0x100;
+    let last_two = 0x80 + code_point / 0x40 % 0x40 + last_continuation(code_point) * 0x100;
     if code_point < 0x1_0000 {
-        return ((0xE0 + code_point / 0x1000) as u8, last_two);
+        return 0xE0 + code_point / 0x1000 + last_two * 0x100;
     }
     let last_three = 0x80 + code_point / 0x1000 % 0x40 + last_two * 0x100;
-    ((0xF0 + code_point / 0x4_0000) as u8, last_three)
+    0xF0 + code_point / 0x4_0000 + last_three * 0x100
 }

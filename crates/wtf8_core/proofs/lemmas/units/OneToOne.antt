@@ -1,5 +1,7 @@
 -- Units and code points, one to one.
-use Rattle.wtf8_core.proofs.Common.{◌≡◌, ℕ, ◌<◌, ◌≤◌, List, [], ◌∷◌, ◌++◌, length, get_or, Fits, w16, refl, sym, ap, ◌∙◌, arith, cond_both, nat_tests, All-from_get_or, recursion_from_All, AllByRecursion, flat_map, IsHigh, IsLow, high_unit, low_unit, is_pair, paired, IsCodePoint, encode, encode_utf16, HasNoSurrogatePair, MayPrecede, units, HasUnits, code_points_of, decoder_bytes}
+use Rattle.wtf8_core.proofs.Common.{◌≡◌, ℕ, ◌<◌, ◌≤◌, List, [], ◌∷◌, ◌++◌, length, get_or, Fits, w16, refl, sym, ap, ◌∙◌, arith, cond_both, nat_tests, All-from_get_or, recursion_from_All, AllByRecursion, flat_map, IsHigh, IsLow, high_unit, low_unit, is_pair, paired, IsCodePoint, encode, encode_utf16, HasNoSurrogatePair, MayPrecede, units, HasUnits, code_points_of, decoder_bytes, drop, drop_all, subst, true, false, ◌+◌}
+use Rattle.std.specs.Prelude.{slice_index}
+use Rattle.std.proofs.lemmas.List.{drop_more}
 use Rattle.wtf8_core.proofs.lemmas.reader.Complete.{spelled_once}
 
 -- the units of a code point, one or two
@@ -115,19 +117,38 @@ units_spelled us a = (flat_map encode (code_points_of us), spelled_units us a)
 pub one_list_of_units : (bytes us vs : List ℕ) → HasUnits bytes us → HasUnits bytes vs → us ≡ vs
 one_list_of_units bytes us vs h k = h.are ∙ ap units (spelled_once bytes h.code_points k.code_points h.spelled k.spelled) ∙ sym k.are
 
--- no units have no bytes
-pub bytes_none : (us : List ℕ) → length us ≡ 0 → decoder_bytes 0 us ≡ []
+-- past the units no bytes come
+pub bytes_none : (us : List ℕ) (i : ℕ) → length us ≤ i → decoder_bytes 0 (drop i us) ≡ []
 unfolding code_points_of
-bytes_none [] e = refl
-bytes_none (u ∷ us) e = absurd (omega arith)
+bytes_none us i h = ap (decoder_bytes 0) (drop_all i us h)
 
--- a unit below the surrogates isn't half of a pair
-pub bytes_below : (u : ℕ) (us : List ℕ) → u < 0xD800 → decoder_bytes 0 (u ∷ us) ≡ encode u ++ decoder_bytes 0 us
-bytes_below u us h = ap (flat_map encode) (read_single u us (may_precede u us (λ i. omega (arith, i.0))))
+-- a unit that isn't half of a pair
+bytes_single : (us : List ℕ) (i : ℕ) → i < length us → MayPrecede (slice_index us i) (drop (i + 1) us)
+    → decoder_bytes 0 (drop i us) ≡ encode (slice_index us i) ++ decoder_bytes 0 (drop (i + 1) us)
+bytes_single us i h m = ap (decoder_bytes 0) (drop_more us i 0 h) ∙ ap (flat_map encode) (read_single _ _ m)
 
-pub bytes_ascii : (u : ℕ) (us : List ℕ) → u < 0x80 → decoder_bytes 0 (u ∷ us) ≡ u ∷ decoder_bytes 0 us
-unfolding encode
-bytes_ascii u us h = bytes_below u us (omega arith) ∙ grind (arith, nat_tests)
+-- a unit below the surrogates isn't
+pub bytes_below : (us : List ℕ) (i : ℕ) → i < length us → slice_index us i < 0xD800
+    → decoder_bytes 0 (drop i us) ≡ encode (slice_index us i) ++ decoder_bytes 0 (drop (i + 1) us)
+bytes_below us i h b = bytes_single us i h (may_precede _ _ (λ s. omega (arith, s.0)))
+
+-- the last unit isn't, and one that begins no pair
+pub bytes_last : (us : List ℕ) (i : ℕ) → i < length us → length us ≤ i + 1
+    → decoder_bytes 0 (drop i us) ≡ encode (slice_index us i) ++ decoder_bytes 0 (drop (i + 1) us)
+bytes_last us i h e = bytes_single us i h (subst (MayPrecede (slice_index us i)) (sym (drop_all (i + 1) us e)) tt)
+
+pub bytes_unpaired : (us : List ℕ) (i : ℕ) → i + 1 < length us → is_pair (slice_index us i) (slice_index us (i + 1)) ≡ false
+    → decoder_bytes 0 (drop i us) ≡ encode (slice_index us i) ++ decoder_bytes 0 (drop (i + 1) us)
+bytes_unpaired us i h e =
+    bytes_single us i (omega arith) (subst (MayPrecede (slice_index us i)) (sym (drop_more us (i + 1) 0 h)) (λ s l. grind (arith, nat_tests, s, l)))
+
+pub bytes_pair : (us : List ℕ) (i : ℕ) → i + 1 < length us → is_pair (slice_index us i) (slice_index us (i + 1)) ≡ true
+    → decoder_bytes 0 (drop i us) ≡ encode (paired (slice_index us i) (slice_index us (i + 1))) ++ decoder_bytes 0 (drop (i + 1 + 1) us)
+unfolding code_points_of
+bytes_pair us i h e =
+    ap (decoder_bytes 0) (drop_more us i 0 (omega arith) ∙ ap (λ x. slice_index us i ∷ x) (drop_more us (i + 1) 0 h)) ∙ grind (arith, nat_tests)
+
+pub ruleset decoding = (bytes_none, bytes_below, bytes_last, bytes_unpaired, bytes_pair)
 
 pub decoded : (us : List ℕ) → ((i : ℕ) → Fits w16 (get_or us i 0)) → HasUnits (decoder_bytes 0 us) us
 decoded us h = spelled_units us (recursion_from_All IsUnit us (All-from_get_or IsUnit us 0 (λ i _. omega (arith, h i))))
