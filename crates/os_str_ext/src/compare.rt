@@ -2,26 +2,29 @@
 ghost use Rattle.std.specs.Prelude.{◌≡◌, ◌+◌, ◌≤◌, ◌↔◌, IsTrue, length, take};
 ghost use Rattle.std.specs.Int.{from_le_bytes, to_le_bytes, w16, w32, w64};
 
-/// Whether two lists of bytes of the same length are equal. With two to sixteen bytes, the first
-/// ones and the last ones are compared as numbers, both without a branch between them.
+/// Whether two lists of bytes of the same length are equal. With two to 32 bytes, the first ones and
+/// the last ones are compared as numbers.
 #[inline(always)]
 pub(crate) fn are_same(a: &[u8], b: &[u8]) -> bool
     requires { length a.now ≡ length b.now }
     ensures { IsTrue result ↔ (a.now ≡ b.now) }
 {
-    if a.is_empty() || 16 < a.len() {
+    if a.is_empty() || 32 < a.len() {
         return a == b;
     }
-    if 8 < a.len() {
-        return are_same_by_eight(a, b);
+    if a.len() < 2 {
+        return a[0] == b[0];
     }
-    if 4 <= a.len() {
-        return are_same_by_four(a, b);
-    }
-    if 2 <= a.len() {
+    if a.len() < 4 {
         return are_same_by_two(a, b);
     }
-    a[0] == b[0]
+    if a.len() <= 8 {
+        return are_same_by_four(a, b);
+    }
+    if a.len() <= 16 {
+        return are_same_by_eight(a, b);
+    }
+    are_same_by_sixteen(a, b)
 }
 
 /// The same for two to four bytes.
@@ -67,6 +70,21 @@ fn are_same_by_eight(a: &[u8], b: &[u8]) -> bool
     let is_front = first_eight(a) == first_eight(b);
     let is_back = first_eight(a_back) == first_eight(b_back);
     is_front && is_back
+}
+
+/// The same for sixteen to 32 bytes.
+#[inline(always)]
+fn are_same_by_sixteen(a: &[u8], b: &[u8]) -> bool
+    requires lengths { length a.now ≡ length b.now }
+    requires at_least { 16 ≤ length a.now }
+    requires at_most { length a.now ≤ 32 }
+    ensures { IsTrue result ↔ (a.now ≡ b.now) }
+{
+    let (a_front, _) = a.split_at(16);
+    let (b_front, _) = b.split_at(16);
+    let (_, a_back) = a.split_at(a.len() - 16);
+    let (_, b_back) = b.split_at(b.len() - 16);
+    are_same_by_eight(a_front, b_front) && are_same_by_eight(a_back, b_back)
 }
 
 /// The first two bytes as a number, which determines them.

@@ -4,10 +4,11 @@ ghost use Rattle.memchr.specs.Find.{FindsNeedle, FindsLastNeedle, IsFirstByte, N
 ghost use Rattle.memchr.specs.Pairs.{IsPairFinderOf, IsPairOf};
 
 use crate::compare::are_same;
+use crate::window::{WINDOW, copied};
 use memchr::arch::all::packedpair::{Finder, Pair};
 use memchr::{memchr_iter, memmem, memrchr};
 
-/// The longest needle that is searched for by its first and last byte, or by its last byte alone.
+/// The longest needle that is searched for by two of its bytes, or by its last byte alone.
 const LONGEST: usize = 32;
 
 /// In longer strings the time that `memmem` takes to prepare for the needle pays off.
@@ -21,7 +22,7 @@ pub(crate) fn first_of(bytes: &[u8], needle: &[u8]) -> Option<usize>
     if needle.len() == 1 {
         return first_byte(needle[0], bytes);
     }
-    first_by_ends(bytes, needle)
+    first_by_pair(bytes, needle)
 }
 
 /// The index of the last occurrence of a needle; a needle of one byte is searched for as a byte.
@@ -68,51 +69,86 @@ fn first_byte(byte: u8, bytes: &[u8]) -> Option<usize>
     places.next()
 }
 
-/// The index of the first occurrence of a needle, which often is the start. In short strings the
-/// needle is compared where its first and last byte match. After four such indices where it doesn't
-/// occur, and in longer strings, `memmem` searches for it.
+/// The index of the first occurrence of a needle, which often is the start. `memmem` searches for long
+/// needles, and in long strings.
 #[inline(never)]
-fn first_by_ends(bytes: &[u8], needle: &[u8]) -> Option<usize>
+fn first_by_pair(bytes: &[u8], needle: &[u8]) -> Option<usize>
+    ensures { FindsNeedle bytes.now needle.now 0 result }
+{
+    if needle.len() < 2 || LONGEST < needle.len() || SHORT < bytes.len() {
+        return first_by_memmem(bytes, needle);
+    }
+    if bytes.len() < needle.len() {
+        return None;
+    }
+    if stands_at(bytes, needle, 0) {
+        return Some(0);
+    }
+    first_in_short(bytes, needle)
+}
+
+/// The same for any needle and string.
+#[inline(never)]
+fn first_by_memmem(bytes: &[u8], needle: &[u8]) -> Option<usize>
     ensures { FindsNeedle bytes.now needle.now 0 result }
 {
     if stands_at(bytes, needle, 0) {
         return Some(0);
     }
-    if SHORT < bytes.len() {
-        return memmem::find(bytes, needle);
-    }
-    let Some(pair) = ends_of(needle) else {
+    memmem::find(bytes, needle)
+}
+
+/// The index of the first occurrence of a needle in a short string, by two of the needle's bytes.
+#[inline(never)]
+fn first_in_short(bytes: &[u8], needle: &[u8]) -> Option<usize>
+    requires at_least { 2 ≤ length needle.now }
+    requires fits { length needle.now ≤ length bytes.now }
+    ensures { FindsNeedle bytes.now needle.now 0 result }
+{
+    let Some(pair) = pair_of(needle) else {
         return memmem::find(bytes, needle);
     };
     let finder = Finder::with_pair(needle, pair);
+    let mut window = [0; WINDOW];
+    first_in_copy(&finder, bytes, copied(bytes, &mut window), needle)
+}
+
+/// Two bytes of a needle. Of more than two bytes the first isn't one of them: that is often a
+/// separator, or the first byte of a character, and so more common than those after it.
+#[inline(always)]
+fn pair_of(needle: &[u8]) -> Option<Pair>
+    ensures { IfSome result (λ pair. IsPairOf pair needle.now) }
+{
+    match needle.len() {
+        2 => Pair::with_indices(needle, 0, 1),
+        3 => Pair::with_indices(needle, 1, 2),
+        _ => Pair::with_indices(needle, 1, 3),
+    }
+}
+
+/// The index of the first occurrence of a needle, by a copy of the bytes, which may go on after them.
+/// The needle is compared where its pair of bytes occurs. After four such indices where it doesn't
+/// occur, `memmem` searches for it.
+#[inline(always)]
+fn first_in_copy(finder: &Finder, bytes: &[u8], copy: &[u8], needle: &[u8]) -> Option<usize>
+    requires finder { IsPairFinderOf finder.now needle.now }
+    requires copy { OccursAt copy.now bytes.now 0 }
+    ensures { FindsNeedle bytes.now needle.now 0 result }
+{
     let mut from = 0;
     for _ in 0..4 {
-        let Some(at) = next_candidate(&finder, bytes, from) else {
+        let Some(at) = next_candidate(finder, copy, from) else {
             return None;
         };
+        if bytes.len() <= at {
+            return None;
+        }
         if stands_at(bytes, needle, at) {
             return Some(at);
         }
         from = at + 1;
     }
     first_from(bytes, needle, from)
-}
-
-/// The first and the last byte of a needle of at least two bytes. The greater one comes first: in
-/// names small bytes such as `/`, `.` and `-` are common.
-#[inline(always)]
-fn ends_of(needle: &[u8]) -> Option<Pair>
-    ensures { IfSome result (λ pair. IsPairOf pair needle.now) }
-{
-    if needle.len() < 2 || LONGEST < needle.len() {
-        return None;
-    }
-    let last = needle.len() - 1;
-    if needle[0] < needle[last] {
-        Pair::with_indices(needle, last as u8, 0)
-    } else {
-        Pair::with_indices(needle, 0, last as u8)
-    }
 }
 
 /// The first index, from `from` on, at which the needle's pair of bytes occurs.

@@ -147,6 +147,18 @@ module _ (s p : List ℕ) (f : Finder) (is : IsPairFinderOf f p) (i : ℕ) (le :
         before = λ k low lt o. none.before (k - i) (omega arith) (omega arith) (pair_stands (drop i s) p f is (k - i) (in_rest s p i k low o));
       }
 
+-- what occurs in bytes occurs in what begins with a copy of them
+pub in_copy : (s copy p : List ℕ) → OccursAt copy s 0 → (k : ℕ) → OccursAt s p k → OccursAt copy p k
+in_copy s copy p begins k o =
+    let fits = o.fits in
+    let room = begins.fits in
+    record {
+      fits = omega arith;
+      reads = λ j below.
+          let place : 0 + (k + j) ≡ k + j = omega arith in
+          ap (slice_index copy) (sym place) ∙ begins.reads (k + j) (omega arith) ∙ o.reads j below;
+    }
+
 -- the first one in the list of the indices that pass a test is the first index that passes it
 module _ (test : ℕ → Bool) (hay : List ℕ) where
   none_pass : (i n : ℕ) → places_from test hay i n ≡ [] → Nowhere (Passes test hay) i (i + n)
