@@ -9,22 +9,32 @@ pub(crate) fn are_same(a: &[u8], b: &[u8]) -> bool
     requires { length a.now ≡ length b.now }
     ensures { IsTrue result ↔ (a.now ≡ b.now) }
 {
-    if a.is_empty() || 32 < a.len() {
-        return a == b;
-    }
-    if a.len() < 2 {
-        return a[0] == b[0];
-    }
-    if a.len() < 4 {
-        return are_same_by_two(a, b);
-    }
     if a.len() <= 8 {
-        return are_same_by_four(a, b);
+        return are_same_few(a, b);
     }
     if a.len() <= 16 {
         return are_same_by_eight(a, b);
     }
-    are_same_by_sixteen(a, b)
+    if a.len() <= 32 {
+        return are_same_by_sixteen(a, b);
+    }
+    a == b
+}
+
+/// The same for up to eight bytes.
+#[inline(always)]
+fn are_same_few(a: &[u8], b: &[u8]) -> bool
+    requires lengths { length a.now ≡ length b.now }
+    requires at_most { length a.now ≤ 8 }
+    ensures { IsTrue result ↔ (a.now ≡ b.now) }
+{
+    if 4 <= a.len() {
+        return are_same_by_four(a, b);
+    }
+    if 2 <= a.len() {
+        return are_same_by_two(a, b);
+    }
+    a.is_empty() || a[0] == b[0]
 }
 
 /// The same for two to four bytes.
