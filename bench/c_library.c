@@ -12,6 +12,7 @@ uint64_t port_check(const char *at, size_t len);
 uint64_t port_feed(const char *at, size_t len);
 size_t port_wtf8_fault(const char *at, size_t len);
 size_t port_utf8_fault(const char *at, size_t len);
+bool port_is_utf8(const char *at, size_t len);
 size_t port_fault_text(uint8_t byte);
 size_t port_encode_wide(const char *at, size_t len, uint16_t *out, size_t room);
 size_t port_decode_wide(const uint16_t *units, size_t len, char *out, size_t room);
@@ -153,6 +154,8 @@ TIMED(r_escape_line_windows, or_fault_of(it, port_win_write_escape_line(STRING, 
     OR_NONE(osb_unescape(platform, ESCAPE(platform), out, ROOM, &count, NULL), count)
 TIMED(c_unescape, READ(OSB_UNIX))
 TIMED(r_unescape, port_unescape(ESCAPE(OSB_UNIX)))
+TIMED(r_checked_unescape,
+      port_is_utf8(ESCAPE(OSB_UNIX)) ? port_unescape(ESCAPE(OSB_UNIX)) : SIZE_MAX)
 TIMED(r_write_unescaped, port_write_unescaped(ESCAPE(OSB_UNIX), out, ROOM))
 TIMED(c_unescape_windows, READ(OSB_WINDOWS))
 TIMED(r_unescape_windows, port_win_write_unescaped(ESCAPE(OSB_WINDOWS), out, ROOM))
@@ -162,6 +165,8 @@ TIMED(r_unescape_wasm, port_wasm_write_unescaped(ESCAPE(OSB_WASM), out, ROOM))
     OR_NONE(osb_unescape_line(platform, LINE(platform), out, ROOM, &count, NULL), count)
 TIMED(c_unescape_line, READ_LINE(OSB_UNIX))
 TIMED(r_unescape_line, port_unescape_line(LINE(OSB_UNIX)))
+TIMED(r_checked_unescape_line,
+      port_is_utf8(LINE(OSB_UNIX)) ? port_unescape_line(LINE(OSB_UNIX)) : SIZE_MAX)
 TIMED(r_write_unescaped_line, port_write_unescaped_line(LINE(OSB_UNIX), out, ROOM))
 TIMED(c_unescape_line_windows, READ_LINE(OSB_WINDOWS))
 TIMED(r_unescape_line_windows, port_win_write_unescaped_line(LINE(OSB_WINDOWS), out, ROOM))
@@ -171,14 +176,19 @@ TIMED(r_unescape_line_wasm, port_wasm_write_unescaped_line(LINE(OSB_WASM), out, 
 /* Searches. */
 TIMED(c_find, OR_NONE(osb_find(STRING, BACK, &count), count))
 TIMED(r_find, port_find(STRING, BACK))
+TIMED(r_checked_find, port_is_utf8(BACK) ? port_find(STRING, BACK) : SIZE_MAX)
 TIMED(c_rfind, OR_NONE(osb_rfind(STRING, FRONT, &count), count))
 TIMED(r_rfind, port_rfind(STRING, FRONT))
+TIMED(r_checked_rfind, port_is_utf8(FRONT) ? port_rfind(STRING, FRONT) : SIZE_MAX)
 TIMED(c_contains, osb_contains(STRING, BACK) == OSB_OK)
 TIMED(r_contains, port_contains(STRING, BACK))
+TIMED(r_checked_contains, port_is_utf8(BACK) && port_contains(STRING, BACK))
 TIMED(c_starts_with, osb_starts_with(STRING, FRONT) == OSB_OK)
 TIMED(r_starts_with, port_starts_with(STRING, FRONT))
+TIMED(r_checked_starts_with, port_is_utf8(FRONT) && port_starts_with(STRING, FRONT))
 TIMED(c_ends_with, osb_ends_with(STRING, BACK) == OSB_OK)
 TIMED(r_ends_with, port_ends_with(STRING, BACK))
+TIMED(r_checked_ends_with, port_is_utf8(BACK) && port_ends_with(STRING, BACK))
 TIMED(c_starts_units, osb_starts_with_units(OSB_WINDOWS, STRING, FRONT) == OSB_OK)
 TIMED(r_starts_units,
       port_check(STRING) == 0 && port_check(FRONT) == 0 && port_starts_with_os(STRING, FRONT))
@@ -204,6 +214,7 @@ static size_t c_split(const struct input *it) {
     return pieces;
 }
 TIMED(r_split, port_split(STRING, "/", 1))
+TIMED(r_checked_split, port_is_utf8("/", 1) ? port_split(STRING, "/", 1) : SIZE_MAX)
 static size_t c_rsplit(const struct input *it) {
     osb_split split;
     osb_view piece;
@@ -213,6 +224,7 @@ static size_t c_rsplit(const struct input *it) {
     return pieces;
 }
 TIMED(r_rsplit, port_rsplit(STRING, "/", 1))
+TIMED(r_checked_rsplit, port_is_utf8("/", 1) ? port_rsplit(STRING, "/", 1) : SIZE_MAX)
 static size_t c_chunks(const struct input *it) {
     osb_chunks chunks;
     osb_chunk chunk;
@@ -237,10 +249,15 @@ static size_t c_symbols(const struct input *it) {
 }
 TIMED(r_symbols, port_symbols(STRING))
 
-/* How many calls of C a walk is. */
+/* How many calls of C are timed together. */
 static size_t one(const struct input *it) {
     (void)it;
     return 1;
+}
+/* Of a checker: start, one piece, finish. */
+static size_t three(const struct input *it) {
+    (void)it;
+    return 3;
 }
 static size_t for_pieces(const struct input *it) { return c_split(it) + 2; }
 static size_t for_chunks(const struct input *it) { return c_chunks(it) + 2; }
@@ -249,65 +266,84 @@ static size_t for_symbols(const struct input *it) {
     return symbol_count + 2;
 }
 
-/* The pairs, and on the strings of which platforms they are timed. */
-enum { ANY = 0 };
+/* The pairs: on the strings of which platforms they are timed, whether the calls search for a
+ * pattern, and whether that of Rattle takes a `str`, which that of C has to check. */
+enum { ANY = 0, SEARCHES = 1, OF_STR = 2 };
 static const struct pair {
     const char *c, *rattle;
     timed *call, *beside, *calls;
-    int platforms;
-    bool searches;
+    int platforms, traits;
 } PAIRS[] = {
     {"`osb_check`, Windows", "`check`, `wtf8_fault`", c_check_windows, r_check_windows, one, ANY,
-     false},
-    {"`osb_check`, wasm", "`utf8_fault`", c_check_wasm, r_check_wasm, one, ANY, false},
-    {"`osb_checker_start`, `_feed`, `_finish`", "`Checker`", c_feed, r_feed, one, ANY, false},
-    {"`osb_fault_text`", "`to_string`", c_fault_text, r_fault_text, one, ANY, false},
-    {"`osb_to_wide`", "`encode_wide`", c_to_wide, r_to_wide, one, ANY, false},
-    {"`osb_from_wide`", "`DecodeWide`", c_from_wide, r_from_wide, one, OF_WINDOWS, false},
-    {"`osb_lossy`", "`write_lossy`", c_lossy, r_write_lossy, one, ANY, false},
-    {"`osb_lossy`", "`to_string_lossy`", c_lossy, r_lossy, one, ANY, false},
+     0},
+    {"`osb_check`, wasm", "`utf8_fault`", c_check_wasm, r_check_wasm, one, ANY, 0},
+    {"`osb_checker_start`, `_feed`, `_finish`", "`Checker`", c_feed, r_feed, three, ANY, 0},
+    {"`osb_fault_text`", "`to_string`", c_fault_text, r_fault_text, one, ANY, 0},
+    {"`osb_to_wide`", "`encode_wide`", c_to_wide, r_to_wide, one, ANY, 0},
+    {"`osb_from_wide`", "`DecodeWide`", c_from_wide, r_from_wide, one, OF_WINDOWS, 0},
+    {"`osb_lossy`", "`write_lossy`", c_lossy, r_write_lossy, one, ANY, 0},
+    {"`osb_lossy`", "`to_string_lossy`", c_lossy, r_lossy, one, ANY, 0},
     {"`osb_lossy`, Windows", "`checked`, `write_lossy`", c_lossy_windows, r_lossy_windows, one, ANY,
-     false},
-    {"`osb_escape`", "`write_escape`", c_escape, r_write_escape, one, ANY, false},
-    {"`osb_escape`", "`escape`", c_escape, r_escape, one, ANY, false},
+     0},
+    {"`osb_escape`", "`write_escape`", c_escape, r_write_escape, one, ANY, 0},
+    {"`osb_escape`", "`escape`", c_escape, r_escape, one, ANY, 0},
     {"`osb_escape`, Windows", "`checked`, `write_escape`", c_escape_windows, r_escape_windows, one,
-     ANY, false},
-    {"`osb_escape_line`", "`write_escape_line`", c_escape_line, r_write_escape_line, one, ANY,
-     false},
-    {"`osb_escape_line`", "`escape_line`", c_escape_line, r_escape_line, one, ANY, false},
+     ANY, 0},
+    {"`osb_escape_line`", "`write_escape_line`", c_escape_line, r_write_escape_line, one, ANY, 0},
+    {"`osb_escape_line`", "`escape_line`", c_escape_line, r_escape_line, one, ANY, 0},
     {"`osb_escape_line`, Windows", "`checked`, `write_escape_line`", c_escape_line_windows,
-     r_escape_line_windows, one, ANY, false},
-    {"`osb_unescape`", "`write_unescaped_bytes`", c_unescape, r_write_unescaped, one, ANY, false},
-    {"`osb_unescape`", "`unescape` of a `str`", c_unescape, r_unescape, one, ANY, false},
+     r_escape_line_windows, one, ANY, 0},
+    {"`osb_unescape`", "`write_unescaped_bytes`", c_unescape, r_write_unescaped, one, ANY, 0},
+    {"`osb_unescape`", "`is_utf8`, `unescape`", c_unescape, r_checked_unescape, one, ANY, 0},
+    {"`osb_unescape`", "`unescape` of a `str`", c_unescape, r_unescape, one, ANY, OF_STR},
     {"`osb_unescape`, Windows", "`write_unescaped_bytes`", c_unescape_windows, r_unescape_windows,
-     one, OF_WINDOWS, false},
+     one, OF_WINDOWS, 0},
     {"`osb_unescape`, wasm", "`write_unescaped_bytes`", c_unescape_wasm, r_unescape_wasm, one, TEXT,
-     false},
+     0},
     {"`osb_unescape_line`", "`write_unescaped_line_bytes`", c_unescape_line, r_write_unescaped_line,
-     one, ANY, false},
+     one, ANY, 0},
+    {"`osb_unescape_line`", "`is_utf8`, `unescape_line`", c_unescape_line, r_checked_unescape_line,
+     one, ANY, 0},
     {"`osb_unescape_line`", "`unescape_line` of a `str`", c_unescape_line, r_unescape_line, one,
-     ANY, false},
+     ANY, OF_STR},
     {"`osb_unescape_line`, Windows", "`write_unescaped_line_bytes`", c_unescape_line_windows,
-     r_unescape_line_windows, one, OF_WINDOWS, false},
+     r_unescape_line_windows, one, OF_WINDOWS, 0},
     {"`osb_unescape_line`, wasm", "`write_unescaped_line_bytes`", c_unescape_line_wasm,
-     r_unescape_line_wasm, one, TEXT, false},
-    {"`osb_find`", "`find`", c_find, r_find, one, ANY, true},
-    {"`osb_rfind`", "`rfind`", c_rfind, r_rfind, one, ANY, true},
-    {"`osb_contains`", "`contains`", c_contains, r_contains, one, ANY, true},
-    {"`osb_starts_with`", "`starts_with`", c_starts_with, r_starts_with, one, ANY, true},
-    {"`osb_ends_with`", "`ends_with`", c_ends_with, r_ends_with, one, ANY, true},
+     r_unescape_line_wasm, one, TEXT, 0},
+    {"`osb_find`", "`is_utf8`, `find`", c_find, r_checked_find, one, ANY, SEARCHES},
+    {"`osb_find`", "`find` of a `str`", c_find, r_find, one, ANY, SEARCHES | OF_STR},
+    {"`osb_rfind`", "`is_utf8`, `rfind`", c_rfind, r_checked_rfind, one, ANY, SEARCHES},
+    {"`osb_rfind`", "`rfind` of a `str`", c_rfind, r_rfind, one, ANY, SEARCHES | OF_STR},
+    {"`osb_contains`", "`is_utf8`, `contains`", c_contains, r_checked_contains, one, ANY, SEARCHES},
+    {"`osb_contains`", "`contains` of a `str`", c_contains, r_contains, one, ANY,
+     SEARCHES | OF_STR},
+    {"`osb_starts_with`", "`is_utf8`, `starts_with`", c_starts_with, r_checked_starts_with, one,
+     ANY, SEARCHES},
+    {"`osb_starts_with`", "`starts_with` of a `str`", c_starts_with, r_starts_with, one, ANY,
+     SEARCHES | OF_STR},
+    {"`osb_ends_with`", "`is_utf8`, `ends_with`", c_ends_with, r_checked_ends_with, one, ANY,
+     SEARCHES},
+    {"`osb_ends_with`", "`ends_with` of a `str`", c_ends_with, r_ends_with, one, ANY,
+     SEARCHES | OF_STR},
     {"`osb_starts_with_units`, Windows", "`check` of both, `starts_with_os`", c_starts_units,
-     r_starts_units, one, OF_WINDOWS, true},
+     r_starts_units, one, OF_WINDOWS, SEARCHES},
     {"`osb_ends_with_units`, Windows", "`check` of both, `ends_with_os`", c_ends_units,
-     r_ends_units, one, OF_WINDOWS, true},
-    {"`osb_is_boundary`", "`is_boundary`", c_is_boundary, r_is_boundary, one, ANY, false},
-    {"`osb_compare`", "`cmp`", c_compare, r_compare, one, ANY, false},
-    {"`osb_split_start`, `_next`", "`split`", c_split, r_split, for_pieces, ANY, false},
-    {"`osb_rsplit_start`, `_next`", "`rsplit`", c_rsplit, r_rsplit, for_pieces, ANY, false},
-    {"`osb_chunks_start`, `_next`", "`utf8_chunks`", c_chunks, r_chunks, for_chunks, ANY, false},
-    {"`osb_symbols_start`, `_next`", "`symbols`", c_symbols, r_symbols, for_symbols, ANY, false},
+     r_ends_units, one, OF_WINDOWS, SEARCHES},
+    {"`osb_is_boundary`", "`is_boundary`", c_is_boundary, r_is_boundary, one, ANY, 0},
+    {"`osb_compare`", "`cmp`", c_compare, r_compare, one, ANY, 0},
+    {"`osb_split_start`, `_next`", "`is_utf8`, `split`", c_split, r_checked_split, for_pieces, ANY,
+     0},
+    {"`osb_split_start`, `_next`", "`split` by a `str`", c_split, r_split, for_pieces, ANY, OF_STR},
+    {"`osb_rsplit_start`, `_next`", "`is_utf8`, `rsplit`", c_rsplit, r_checked_rsplit, for_pieces,
+     ANY, 0},
+    {"`osb_rsplit_start`, `_next`", "`rsplit` by a `str`", c_rsplit, r_rsplit, for_pieces, ANY,
+     OF_STR},
+    {"`osb_chunks_start`, `_next`", "`utf8_chunks`", c_chunks, r_chunks, for_chunks, ANY, 0},
+    {"`osb_symbols_start`, `_next`", "`symbols`", c_symbols, r_symbols, for_symbols, ANY, 0},
 };
 enum { PAIR_COUNT = sizeof PAIRS / sizeof *PAIRS };
+static bool searches(const struct pair *pair) { return (pair->traits & SEARCHES) != 0; }
+static bool is_of_str(const struct pair *pair) { return (pair->traits & OF_STR) != 0; }
 
 static void fail(const struct pair *pair, const struct input *it) {
     fprintf(stderr, "%s and %s differ on %.*s\n", pair->c, pair->rattle, (int)it->len, it->string);
@@ -368,12 +404,13 @@ static int by_size(const void *a, const void *b) {
     return (x > y) - (x < y);
 }
 
-/* The figures of a pair, or of all. */
+/* The figures of a pair, or of many: of those that do the same work, of those whose call of Rattle
+ * takes a `str`, of all. */
 struct figures {
     double items[8192];
     size_t count;
 };
-static struct figures of_pairs[PAIR_COUNT], of_all;
+static struct figures of_pairs[PAIR_COUNT], of_the_same, of_a_str, of_all;
 
 static void add(struct figures *figures, double item) { figures->items[figures->count++] = item; }
 
@@ -382,6 +419,7 @@ static void add(struct figures *figures, double item) { figures->items[figures->
 static void summarize(const char *c, const char *rattle, struct figures *figures) {
     double *items = figures->items;
     size_t number = figures->count, above = 0;
+    if (number == 0) return;
     qsort(items, number, sizeof *items, by_size);
     while (above < number && items[number - 1 - above] > LIMIT) above++;
     printf("| %s | %s | %.0f | %.0f | %.0f | %zu of %zu |\n", c, rattle, items[0],
@@ -392,13 +430,14 @@ static void summarize(const char *c, const char *rattle, struct figures *figures
 static void time_kind(size_t at, size_t kind, size_t turns) {
     const struct pair *pair = &PAIRS[at];
     const struct input *strings[CALLS];
-    printf("| %s%s |", KINDS[kind].name, pair->searches && is_half ? ", a half" : "");
+    printf("| %s%s |", KINDS[kind].name, searches(pair) && is_half ? ", a half" : "");
     for (size_t column = 0; column <= LEN_COUNT; column++) {
         for (size_t i = 0, random = 1; i < CALLS; i++, random = random * 13 % 67)
             strings[i] = &inputs[kind][column < LEN_COUNT ? column : random % LEN_COUNT];
         double figure = over(pair, strings, turns);
         printf(" %.1f |", figure);
         add(&of_pairs[at], figure);
+        add(is_of_str(pair) ? &of_a_str : &of_the_same, figure);
         add(&of_all, figure);
     }
     printf("\n");
@@ -409,7 +448,7 @@ static void time_pair(size_t at, size_t turns) {
     printf("\n### %s over %s\n\n| String |", pair->c, pair->rattle);
     for (size_t i = 0; i < LEN_COUNT; i++) printf(" %zu bytes |", LENS[i]);
     printf(" in turn |\n|---|---|---|---|---|---|---|---|\n");
-    for (int half = 0; half <= pair->searches; half++) {
+    for (int half = 0; half <= searches(pair); half++) {
         is_half = half != 0;
         for (size_t kind = 0; kind < KIND_COUNT; kind++)
             if ((KINDS[kind].platforms & pair->platforms) == pair->platforms)
@@ -429,6 +468,8 @@ int main(int words, char **word) {
            "|\n|---|---|---|---|---|---|\n",
            LIMIT);
     for (size_t at = 0; at < PAIR_COUNT; at++)
-        if (of_pairs[at].count != 0) summarize(PAIRS[at].c, PAIRS[at].rattle, &of_pairs[at]);
-    if (of_all.count != 0) summarize("all", "", &of_all);
+        summarize(PAIRS[at].c, PAIRS[at].rattle, &of_pairs[at]);
+    summarize("all", "the same work", &of_the_same);
+    summarize("all", "of a `str`", &of_a_str);
+    summarize("all", "", &of_all);
 }

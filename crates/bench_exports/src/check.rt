@@ -1,5 +1,5 @@
 //! The check of Windows, of bytes, of a vector and of a piece, first faults, and the text of a fault.
-ghost use Rattle.std.specs.Prelude.{◌≡◌, ◌≢◌, ℕ, Option, length};
+ghost use Rattle.std.specs.Prelude.{◌≡◌, ◌≢◌, ◌↔◌, ℕ, IsTrue, Option, length};
 ghost use Rattle.std.specs.Str.{IsUtf8};
 ghost use Rattle.wtf8_core.specs.Checker.{HasFirstFault};
 ghost use Rattle.wtf8_core.specs.Fault.{IsFaultAt};
@@ -12,7 +12,7 @@ ghost use Rattle.bench_exports.specs.Answers.{AnswersOr, IsFaulty};
 
 use platform_str::{OsString, OsStringBytes, Platform, Windows};
 use std::alloc::Global;
-use wtf8_core::{Checker, EncodingError, utf8_fault, wtf8_fault};
+use wtf8_core::{Checker, EncodingError, is_utf8, utf8_fault, wtf8_fault};
 
 /// 0 where the bytes are WTF-8, and else 1.
 #[unsafe(no_mangle)]
@@ -78,6 +78,14 @@ pub extern "C" fn port_utf8_fault(bytes: &[u8]) -> usize
         Some((index, _)) => index,
         None => usize::MAX,
     }
+}
+
+/// Whether the bytes are UTF-8.
+#[unsafe(no_mangle)]
+pub extern "C" fn port_is_utf8(bytes: &[u8]) -> bool
+    ensures { IsTrue result ↔ IsUtf8 bytes.now }
+{
+    is_utf8(bytes)
 }
 
 /// How many bytes the text has of the fault that is this byte, or `usize::MAX` where memory was
