@@ -77,7 +77,8 @@ uint32_t osb_core_symbol(uint32_t platform, const char *at, size_t len, size_t f
                          struct core_step *step);
 #pragma GCC visibility pop
 
-/* A function that is inlined, so that the export it is given is called directly. */
+/* A function that is inlined: so the export that it is given is called directly, and a step of an
+ * iterator makes one call. */
 #define INLINED static inline __attribute__((always_inline))
 
 /* Where the slices of no items are. */
@@ -344,7 +345,7 @@ static osb_status start_split(osb_split *split, const char *at, size_t len, cons
 }
 
 /* A started iterator has no null pointers, a struct of zeros has. */
-static bool is_bad_split(const osb_split *split) {
+INLINED bool is_bad_split(const osb_split *split) {
     return split == NULL || split->string.at == NULL || split->pattern.at == NULL ||
            is_bad(split->string.at, split->string.len) ||
            is_bad(split->pattern.at, split->pattern.len);
