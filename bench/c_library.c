@@ -47,9 +47,10 @@ size_t port_rsplit(const char *at, size_t len, const char *pattern, size_t patte
 size_t port_chunks(const char *at, size_t len);
 uint64_t port_symbols(const char *at, size_t len);
 
-/* How long the strings are, in bytes, and how many calls are timed together. */
+/* How long the strings are, in bytes, how many calls are timed together, and how many turns a line
+ * has at once: then come all the others, so that what else runs on the machine weighs little. */
 static const size_t LENS[] = {10, 16, 24, 40, 64, 80};
-enum { LEN_COUNT = 6, CALLS = 64, ROOM = 1024, LIMIT = 20 };
+enum { LEN_COUNT = 6, COLUMNS = LEN_COUNT + 1, CALLS = 64, AT_ONCE = 100, ROOM = 1024, LIMIT = 20 };
 
 /* On which platforms a string is one. */
 enum { TEXT = 7, OF_WINDOWS = 3, OF_UNIX = 1 };
@@ -379,24 +380,38 @@ static uint64_t nanoseconds(void) {
     return (uint64_t)now.tv_sec * 1000000000 + (uint64_t)now.tv_nsec;
 }
 
-/* By how many nanoseconds a call of C takes longer: the least times of all turns are compared. */
+/* What is timed in a cell of a table: the least times of both calls, and how many calls of C one of
+ * those is. */
+struct cell {
+    uint64_t least[2];
+    size_t number;
+};
+static struct cell cells[PAIR_COUNT][2][KIND_COUNT][COLUMNS];
+
+/* Gives both calls of a pair some turns. */
 static volatile size_t sink;
-static double over(const struct pair *pair, const struct input *const *strings, size_t turns) {
+static void time_cell(struct cell *cell, const struct pair *pair,
+                      const struct input *const *strings) {
     timed *const calls[2] = {pair->call, pair->beside};
-    uint64_t least[2] = {UINT64_MAX, UINT64_MAX};
     size_t number = 0;
     for (size_t i = 0; i < CALLS; i++) {
         if (pair->call(strings[i]) != pair->beside(strings[i])) fail(pair, strings[i]);
         number += pair->calls(strings[i]);
     }
-    for (size_t turn = 0; turn < 2 * turns; turn++) {
+    cell->number = number;
+    for (size_t turn = 0; turn < 2 * AT_ONCE; turn++) {
         timed *call = calls[turn % 2];
+        uint64_t *least = &cell->least[turn % 2];
         uint64_t start = nanoseconds();
         for (size_t i = 0; i < CALLS; i++) sink = call(strings[i]);
         uint64_t time = nanoseconds() - start;
-        if (time < least[turn % 2]) least[turn % 2] = time;
+        if (*least == 0 || time < *least) *least = time;
     }
-    return ((double)least[0] - (double)least[1]) / (double)number;
+}
+
+/* By how many nanoseconds a call of C takes longer. */
+static double over(const struct cell *cell) {
+    return ((double)cell->least[0] - (double)cell->least[1]) / (double)cell->number;
 }
 
 static int by_size(const void *a, const void *b) {
@@ -426,35 +441,49 @@ static void summarize(const char *c, const char *rattle, struct figures *figures
            items[number / 2], items[number - 1], above, number);
 }
 
-/* A line of a table: a kind of strings by their lengths, and all lengths in turn. */
-static void time_kind(size_t at, size_t kind, size_t turns) {
-    const struct pair *pair = &PAIRS[at];
+/* Whether a pair is timed on strings of a kind. */
+static bool is_timed_on(const struct pair *pair, size_t kind) {
+    return (KINDS[kind].platforms & pair->platforms) == pair->platforms;
+}
+
+/* Times a pair on strings of a kind, by their lengths, and on all lengths in turn. */
+static void time_kind(size_t at, size_t kind) {
     const struct input *strings[CALLS];
-    printf("| %s%s |", KINDS[kind].name, searches(pair) && is_half ? ", a half" : "");
-    for (size_t column = 0; column <= LEN_COUNT; column++) {
+    for (size_t column = 0; column < COLUMNS; column++) {
         for (size_t i = 0, random = 1; i < CALLS; i++, random = random * 13 % 67)
             strings[i] = &inputs[kind][column < LEN_COUNT ? column : random % LEN_COUNT];
-        double figure = over(pair, strings, turns);
+        time_cell(&cells[at][is_half][kind][column], &PAIRS[at], strings);
+    }
+}
+
+static void time_pair(size_t at) {
+    for (int half = 0; half <= searches(&PAIRS[at]); half++) {
+        is_half = half != 0;
+        for (size_t kind = 0; kind < KIND_COUNT; kind++)
+            if (is_timed_on(&PAIRS[at], kind)) time_kind(at, kind);
+    }
+}
+
+/* Prints a line of a table. */
+static void print_kind(size_t at, int half, size_t kind) {
+    printf("| %s%s |", KINDS[kind].name, half != 0 ? ", a half" : "");
+    for (size_t column = 0; column < COLUMNS; column++) {
+        double figure = over(&cells[at][half][kind][column]);
         printf(" %.1f |", figure);
         add(&of_pairs[at], figure);
-        add(is_of_str(pair) ? &of_a_str : &of_the_same, figure);
+        add(is_of_str(&PAIRS[at]) ? &of_a_str : &of_the_same, figure);
         add(&of_all, figure);
     }
     printf("\n");
 }
 
-static void time_pair(size_t at, size_t turns) {
-    const struct pair *pair = &PAIRS[at];
-    printf("\n### %s over %s\n\n| String |", pair->c, pair->rattle);
+static void print_pair(size_t at) {
+    printf("\n### %s over %s\n\n| String |", PAIRS[at].c, PAIRS[at].rattle);
     for (size_t i = 0; i < LEN_COUNT; i++) printf(" %zu bytes |", LENS[i]);
     printf(" in turn |\n|---|---|---|---|---|---|---|---|\n");
-    for (int half = 0; half <= searches(pair); half++) {
-        is_half = half != 0;
+    for (int half = 0; half <= searches(&PAIRS[at]); half++)
         for (size_t kind = 0; kind < KIND_COUNT; kind++)
-            if ((KINDS[kind].platforms & pair->platforms) == pair->platforms)
-                time_kind(at, kind, turns);
-    }
-    fflush(stdout);
+            if (is_timed_on(&PAIRS[at], kind)) print_kind(at, half, kind);
 }
 
 int main(int words, char **word) {
@@ -462,8 +491,11 @@ int main(int words, char **word) {
     const char *part = words > 2 ? word[2] : "";
     for (size_t kind = 0; kind < KIND_COUNT; kind++)
         for (size_t i = 0; i < LEN_COUNT; i++) make(&inputs[kind][i], kind, LENS[i]);
+    for (size_t done = 0; done < turns; done += AT_ONCE)
+        for (size_t at = 0; at < PAIR_COUNT; at++)
+            if (strstr(PAIRS[at].c, part) != NULL) time_pair(at);
     for (size_t at = 0; at < PAIR_COUNT; at++)
-        if (strstr(PAIRS[at].c, part) != NULL) time_pair(at, turns);
+        if (strstr(PAIRS[at].c, part) != NULL) print_pair(at);
     printf("\n### Summary\n\n| C | Rattle | Least | Median | Greatest | Past %d "
            "|\n|---|---|---|---|---|---|\n",
            LIMIT);
