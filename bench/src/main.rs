@@ -17,13 +17,15 @@ mod theirs;
 
 fn main() {
     let mut bench = table::Bench::from_arguments();
-    conversions::time(&mut bench);
-    short::time(&mut bench);
-    searches::time(&mut bench);
-    splits::time(&mut bench);
-    chunks::time(&mut bench);
-    symbols::time(&mut bench);
-    joins::time(&mut bench);
-    escapes::time(&mut bench);
-    globs::time(&mut bench);
+    while bench.begin_round() {
+        conversions::time(&mut bench);
+        short::time(&mut bench);
+        searches::time(&mut bench);
+        splits::time(&mut bench);
+        chunks::time(&mut bench);
+        symbols::time(&mut bench);
+        joins::time(&mut bench);
+        escapes::time(&mut bench);
+        globs::time(&mut bench);
+    }
 }

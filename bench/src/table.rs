@@ -1,11 +1,13 @@
 //! Least times of those who answer the same, and tables of them.
 use crate::clock;
+use std::collections::HashMap;
 use std::env;
 use std::hint::black_box;
 use std::process;
 use std::time::Duration;
 
-/// How often each contestant has its turn in a line.
+/// How often each contestant has its turn in a line. Before its next turn all other lines have theirs,
+/// so that what else the machine does for some seconds weighs little.
 const ROUNDS: usize = 5;
 
 /// Who answers a line: this repository, the crate, the standard library, and maybe others.
@@ -15,6 +17,10 @@ pub struct Bench {
     filters: Vec<String>,
     /// how long a turn lasts
     turn: Duration,
+    /// how often all lines have had, or now have, their turns
+    round: usize,
+    /// the least time of each contestant of a line
+    least: HashMap<String, Vec<Option<Duration>>>,
     title: String,
     /// the head of the table that begins with the next line
     head: Option<String>,
@@ -26,9 +32,17 @@ impl Bench {
         Self {
             filters: env::args().skip(1).collect(),
             turn: Duration::from_secs_f64(seconds / ROUNDS as f64),
+            round: 0,
+            least: HashMap::new(),
             title: String::new(),
             head: None,
         }
+    }
+
+    /// Begins the next round through all tables, which are printed in the last one, unless that is over.
+    pub fn begin_round(&mut self) -> bool {
+        self.round += 1;
+        self.round <= ROUNDS
     }
 
     /// Begins a table, whose times are in nanoseconds for `unit`.
@@ -50,7 +64,7 @@ impl Bench {
 
     /// Whether a filter asks for lines of the table that was begun.
     pub fn wants(&self, call: &str, input: &str) -> bool {
-        let name = format!("{} {call} {input}", self.title);
+        let name = self.name(call, input);
         self.filters.is_empty() || self.filters.iter().any(|filter| name.contains(filter))
     }
 
@@ -59,28 +73,42 @@ impl Bench {
         if !self.wants(call, input) {
             return;
         }
+        let name = self.name(call, input);
+        let least = self.least.entry(name).or_insert_with(|| vec![None; N]);
         let mut answer = None;
-        let mut least = [None::<Duration>; N];
-        for _ in 0..ROUNDS {
-            for (run, least) in contestants.iter_mut().zip(&mut least) {
-                let Some(run) = run else { continue };
-                let begin = clock::now();
-                while least.is_none() || clock::now() - begin < self.turn {
-                    let start = clock::now();
-                    let answered = black_box(run());
-                    let time = clock::now() - start;
-                    *least = Some(least.map_or(time, |least| least.min(time)));
-                    if *answer.get_or_insert(answered) != answered {
-                        eprintln!("different answers: {}, {call}, {input}: {answer:?}, {answered}", self.title);
-                        process::exit(1);
-                    }
+        for (run, least) in contestants.iter_mut().zip(least) {
+            let Some(run) = run else { continue };
+            let begin = clock::now();
+            loop {
+                let start = clock::now();
+                let answered = black_box(run());
+                let end = clock::now();
+                *least = Some(least.map_or(end - start, |least| least.min(end - start)));
+                if *answer.get_or_insert(answered) != answered {
+                    eprintln!("different answers: {}, {call}, {input}: {answer:?}, {answered}", self.title);
+                    process::exit(1);
+                }
+                if end - begin >= self.turn {
+                    break;
                 }
             }
         }
+        if self.round == ROUNDS {
+            self.print(call, input, count);
+        }
+    }
+
+    fn name(&self, call: &str, input: &str) -> String {
+        format!("{} {call} {input}", self.title)
+    }
+
+    fn print(&mut self, call: &str, input: &str, count: usize) {
         if let Some(head) = self.head.take() {
             println!("{head}");
         }
-        let nanoseconds = least.map(|time| time.map(|time| time.as_nanos() as f64 / count as f64));
+        let least = &self.least[&self.name(call, input)];
+        let nanoseconds: Vec<_> =
+            least.iter().map(|time| time.map(|time| time.as_nanos() as f64 / count as f64)).collect();
         let ours = nanoseconds[0].expect("this repository answers each line");
         print!("| {call} | {input} | {ours:.3} |");
         for time in &nanoseconds[1..] {
