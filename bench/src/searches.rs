@@ -4,6 +4,7 @@ use crate::table::Bench;
 use crate::{ours, theirs};
 use crate_unix::OsStrBytesExt;
 use std::hint::black_box;
+use std::slice;
 
 /// A call on a string and a pattern: a place or a length, `usize::MAX` where there is none.
 type Search = fn(&[u8], &str) -> usize;
@@ -49,35 +50,59 @@ fn or_max(found: Option<usize>) -> usize {
     found.unwrap_or(usize::MAX)
 }
 
+/// A search behind the signature in C that the exports of this repository have: a slice is a pointer,
+/// which may be null where nothing is, and a length. So all contestants pay for it.
+macro_rules! through_c {
+    ($name:ident, |$bytes:ident, $pattern:ident| $answer:expr) => {{
+        #[unsafe(no_mangle)]
+        #[inline(never)]
+        extern "C" fn $name(bytes: *const u8, len: usize, pattern: *const u8, pattern_len: usize) -> usize {
+            let ($bytes, $pattern) = unsafe { (from_c(bytes, len), theirs::text(from_c(pattern, pattern_len))) };
+            $answer
+        }
+        |bytes, pattern| $name(bytes.as_ptr(), bytes.len(), pattern.as_ptr(), pattern.len())
+    }};
+}
+
+unsafe fn from_c<'a>(at: *const u8, len: usize) -> &'a [u8] {
+    if at.is_null() { &[] } else { unsafe { slice::from_raw_parts(at, len) } }
+}
+
 const FIND: [Search; 3] = [
     ours::find,
-    |bytes, pattern| or_max(theirs::unix(bytes).find(pattern)),
-    |bytes, pattern| or_max(theirs::text(bytes).find(pattern)),
+    through_c!(their_find, |bytes, pattern| or_max(theirs::unix(bytes).find(pattern))),
+    through_c!(std_find, |bytes, pattern| or_max(theirs::text(bytes).find(pattern))),
 ];
 const RFIND: [Search; 3] = [
     ours::rfind,
-    |bytes, pattern| or_max(theirs::unix(bytes).rfind(pattern)),
-    |bytes, pattern| or_max(theirs::text(bytes).rfind(pattern)),
+    through_c!(their_rfind, |bytes, pattern| or_max(theirs::unix(bytes).rfind(pattern))),
+    through_c!(std_rfind, |bytes, pattern| or_max(theirs::text(bytes).rfind(pattern))),
 ];
 const STRIP_PREFIX: [Search; 3] = [
     ours::strip_prefix,
-    |bytes, pattern| or_max(theirs::unix(bytes).strip_prefix(pattern).map(|rest| rest.len())),
-    |bytes, pattern| or_max(theirs::text(bytes).strip_prefix(pattern).map(str::len)),
+    through_c!(their_strip_prefix, |bytes, pattern| or_max(
+        theirs::unix(bytes).strip_prefix(pattern).map(|rest| rest.len())
+    )),
+    through_c!(std_strip_prefix, |bytes, pattern| or_max(theirs::text(bytes).strip_prefix(pattern).map(str::len))),
 ];
 const STARTS_WITH: [Search; 3] = [
     |bytes, pattern| usize::from(ours::starts_with(bytes, pattern)),
-    |bytes, pattern| usize::from(theirs::unix(bytes).starts_with(pattern)),
-    |bytes, pattern| usize::from(theirs::text(bytes).starts_with(pattern)),
+    through_c!(their_starts_with, |bytes, pattern| usize::from(theirs::unix(bytes).starts_with(pattern))),
+    through_c!(std_starts_with, |bytes, pattern| usize::from(theirs::text(bytes).starts_with(pattern))),
 ];
 const ENDS_WITH: [Search; 3] = [
     |bytes, pattern| usize::from(ours::ends_with(bytes, pattern)),
-    |bytes, pattern| usize::from(theirs::unix(bytes).ends_with(pattern)),
-    |bytes, pattern| usize::from(theirs::text(bytes).ends_with(pattern)),
+    through_c!(their_ends_with, |bytes, pattern| usize::from(theirs::unix(bytes).ends_with(pattern))),
+    through_c!(std_ends_with, |bytes, pattern| usize::from(theirs::text(bytes).ends_with(pattern))),
 ];
 const SPLIT_ONCE: [Search; 3] = [
     ours::split_once,
-    |bytes, pattern| or_max(theirs::unix(bytes).split_once(pattern).map(|(front, _)| front.len())),
-    |bytes, pattern| or_max(theirs::text(bytes).split_once(pattern).map(|(front, _)| front.len())),
+    through_c!(their_split_once, |bytes, pattern| or_max(
+        theirs::unix(bytes).split_once(pattern).map(|(front, _)| front.len())
+    )),
+    through_c!(std_split_once, |bytes, pattern| or_max(
+        theirs::text(bytes).split_once(pattern).map(|(front, _)| front.len())
+    )),
 ];
 
 /// One call for each short string.
