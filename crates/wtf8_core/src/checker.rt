@@ -1,7 +1,9 @@
 //! Checking bytes that arrive in pieces.
-ghost use Rattle.std.specs.Prelude.{◌≡◌, ℕ, ◌<◌, ◌≤◌, ◌∷◌, ◌++◌, List, [], MatchOption, MatchResult};
+ghost use Rattle.std.specs.Prelude.{◌≡◌, ℕ, ◌<◌, ◌≤◌, ◌∷◌, ◌++◌, List, [], length, MatchOption, MatchResult};
 ghost use Rattle.wtf8_core.specs.Checker.{Stands, StandsFor, IsFaulty, OnlyEnds, HasFirstFault, joined_bits, fault_at, is_between, is_plain, saved_progress};
 ghost use Rattle.wtf8_core.specs.Wtf8.{IsWtf8};
+ghost use Rattle.wtf8_core.specs.EncodedPrefix.{IsEncodedPrefix};
+ghost use Rattle.wtf8_core.specs.declared.scan.Encoding.TheVariants.{Wtf8};
 ghost use Rattle.wtf8_core.specs.declared.table.State.TheVariants.{Between};
 
 use crate::byte::is_continuation;
@@ -9,6 +11,7 @@ use crate::fault::EncodingError;
 use crate::scan::Encoding;
 use crate::scan::fronts::{front_of, is_behind_high};
 use crate::table::{State, class_at, next_at, state_at, state_index};
+use crate::utf8::is_short_utf8;
 use std::marker::Model;
 
 /// Checks whether bytes that arrive in pieces are WTF-8, and finds their first fault if not.
@@ -263,12 +266,25 @@ fn read_between(bits: u32, bytes: &[u8]) -> Result<(State, u32), EncodingError>
         → MatchResult result (λ r. Stands r.0 r.1 (fed ++ bytes.now))
         (λ fault. IsFaulty (fed ++ bytes.now) fault) }
 {
-    let at = front_of(bytes, Encoding::Wtf8);
+    let at = front_of_piece(bytes);
     let (_, rest) = bytes.split_at(at);
     if is_behind_high(bytes, at) {
         read_bytes(State::BehindHigh, bits, rest)
     } else {
         read_bytes(State::Between, bits, rest)
+    }
+}
+
+/// The length of a prefix that is WTF-8: all of a short text, or what blocks find.
+#[inline(always)]
+fn front_of_piece(bytes: &[u8]) -> usize
+    ensures within { result ≤ length bytes.now }
+    ensures front { IsEncodedPrefix Wtf8 bytes.now result }
+{
+    if is_short_utf8(bytes) {
+        bytes.len()
+    } else {
+        front_of(bytes, Encoding::Wtf8)
     }
 }
 

@@ -78,7 +78,7 @@ pub fn is_utf8(bytes: &[u8]) -> bool
     if bytes.len() > 2 * BLOCK {
         return is_long_utf8(bytes);
     }
-    if is_one_ascii(bytes) || is_short_ascii(bytes) || is_utf8_by_steps(bytes) {
+    if is_short_utf8(bytes) {
         return true;
     }
     match fault_by_std(bytes) {
@@ -140,6 +140,15 @@ fn fault_in_short(bytes: &[u8]) -> Option<(usize, Option<u8>)>
         };
     }
     fault_in_rest(bytes, STEP)
+}
+
+/// Whether the bytes are found to be UTF-8 at once, or by steps. That isn't found of more than two blocks.
+#[inline(always)]
+pub(crate) fn is_short_utf8(bytes: &[u8]) -> bool
+    ensures { IsTrue result → IsUtf8 bytes.now }
+{
+    bytes.len() <= 2 * BLOCK
+        && (is_one_ascii(bytes) || is_short_ascii(bytes) || is_utf8_by_steps(bytes))
 }
 
 /// The same as [`is_utf8`], by blocks.

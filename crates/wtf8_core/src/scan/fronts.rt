@@ -194,7 +194,7 @@ fn ascii_end(bytes: &[u8], at: usize) -> usize
     ensures within { result ≤ length bytes.now }
     ensures kept { (e : Encoding) → KeepsPattern e bytes.now at → KeepsPattern e bytes.now result }
 {
-    if bytes.len() - at < BLOCK || !is_behind_ascii(bytes, at) || !is_ascii_block(bytes, at) {
+    if bytes.len() - at < BLOCK || !is_amid_ascii(bytes, at) || !is_ascii_block(bytes, at) {
         return at;
     }
     let mut end = at + BLOCK;
@@ -213,14 +213,15 @@ fn is_ascii_block(bytes: &[u8], at: usize) -> bool
     are_ascii(load(bytes, at))
 }
 
-/// Whether the byte before index `at` is ASCII.
+/// Whether the byte before index `at` is ASCII, and one amid the next 64 is, too. In text whose every
+/// few letters are ASCII, a processor foresees that better than whether the one byte is.
 #[inline(always)]
-fn is_behind_ascii(bytes: &[u8], at: usize) -> bool
+fn is_amid_ascii(bytes: &[u8], at: usize) -> bool
     requires some { 0 < at }
-    requires within { at ≤ length bytes.now }
+    requires within { at + 64 ≤ length bytes.now }
     ensures { IsTrue result → slice_index bytes.now (at - 1) < 0x80 }
 {
-    bytes[at - 1] < 0x80
+    (bytes[at - 1] < 0x80) & (bytes[at + BLOCK / 2] < 0x80)
 }
 
 /// How many of the next 64 bytes keep to the pattern, up to the first that doesn't.

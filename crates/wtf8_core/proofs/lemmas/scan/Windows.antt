@@ -29,7 +29,7 @@ edge_at bytes cs n h s =
 pub no_front : (encoding : Encoding) (bytes : List ℕ) → IsEncodedPrefix encoding bytes 0
 no_front encoding bytes = record { within = omega arith; code_points = []; spelled = record { code_points = tt; paired_free = tt; joined = refl }; plain = λ _. tt }
 
-text_front : (encoding : Encoding) (bytes : List ℕ) (n : ℕ) → n ≤ length bytes → IsUtf8 (take n bytes) → IsEncodedPrefix encoding bytes n
+pub text_front : (encoding : Encoding) (bytes : List ℕ) (n : ℕ) → n ≤ length bytes → IsUtf8 (take n bytes) → IsEncodedPrefix encoding bytes n
 text_front encoding bytes n h u = record { within = h; code_points = u.0; spelled = text_spells (take n bytes) u; plain = λ _. scalars_are u.0 u.1.0 }
 
 -- such a prefix keeps to the pattern
