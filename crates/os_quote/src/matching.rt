@@ -82,6 +82,9 @@ fn strip_token(text: &[u8], character: char) -> Option<&[u8]>
     ensures { MatchOption result (StartsNot (item_text (token_of character)) text.now)
         (λ rest. text.now ≡ item_text (token_of character) ++ rest.now) }
 {
+    if character == '\\' {
+        return strip(text, b"\\\\");
+    }
     let mut token = [0; 10];
     let len = push_token(&mut token, 0, character);
     strip(text, &token[..len])

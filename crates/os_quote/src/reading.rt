@@ -108,7 +108,9 @@ fn from_items<E: Platform, A: Allocator>(
     }
 }
 
-/// Whether the bytes are a string of the platform, and the others are its escape.
+/// Whether the bytes are a string of the platform, and the others are its escape. It isn't inlined, so
+/// that the loop of each caller is the same, whoever else calls it.
+#[inline(never)]
 pub(crate) fn is_unescaped<E: Platform>(form: Form, encoded: &[u8], escape: &[u8]) -> bool
     ensures { IsTrue result ↔ (E.well_formed encoded.now
         × IsEscapeBy (shown_by form) E.units encoded.now escape.now) }

@@ -39,11 +39,16 @@ pub(crate) fn split_backslash(text: &str) -> Option<(&str, &str)>
     })
 }
 
-/// The same of bytes, which may not be a text.
+/// The same of bytes, which may not be a text. Where one token follows another, no search is begun.
 pub(crate) fn cut_backslash(bytes: &[u8]) -> Option<(&[u8], &[u8])>
     ensures { MatchOption result (HasNoBackslash bytes.now)
         (λ parts. IsCutAtFirst bytes.now parts.0.now parts.1.now) }
 {
+    if let Some((first, behind)) = bytes.split_first() {
+        if *first == b'\\' {
+            return Some((&bytes[..0], behind));
+        }
+    }
     let Some(at) = memchr(b'\\', bytes) else {
         return None;
     };

@@ -5,7 +5,7 @@ use Rattle.os_quote.proofs.token.cut_backslash.Goals as goal
 pub returns : goal.returns
 returns c =
     let bytes = c.args.bytes.now in
-    let i = c.in-Some.at in
+    let i = c.in-Some-memchr.at in
     let behind = drop (i + 1) bytes in
     let whole : take (length bytes - (i + 1)) behind ≡ behind = take_all (length bytes - (i + 1)) behind (omega (arith, length-drop (i + 1) bytes)) in
-    subst (IsCutAtFirst bytes (take i bytes)) (sym whole) (first_backslash bytes i c.in-Some.ensures)
+    subst (IsCutAtFirst bytes (take i bytes)) (sym whole) (first_backslash bytes i c.in-Some-memchr.ensures)
