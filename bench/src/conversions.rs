@@ -31,6 +31,20 @@ fn check(bench: &mut Bench, strings: &[Long]) {
                 theirs::if_avx2(string.if_text(&mut || theirs::is_utf8_avx2(black_box(bytes)) as u64)),
             ],
         );
+        if str::from_utf8(bytes).is_ok() {
+            bench.line(
+                "is_utf8",
+                name,
+                bytes.len(),
+                [
+                    Some(&mut || ours::is_utf8(black_box(bytes)) as u64),
+                    None,
+                    Some(&mut || str::from_utf8(black_box(bytes)).is_ok() as u64),
+                    Some(&mut || theirs::is_utf8_sse42(black_box(bytes)) as u64),
+                    theirs::if_avx2(Some(&mut || theirs::is_utf8_avx2(black_box(bytes)) as u64)),
+                ],
+            );
+        }
     }
 }
 

@@ -294,7 +294,11 @@ impl Short {
 
     /// What asks each string as a `str`, where all of them are UTF-8.
     pub fn if_texts<'a>(&self, run: &'a mut dyn FnMut() -> u64) -> Contestant<'a> {
-        self.strings().all(|string| str::from_utf8(string).is_ok()).then_some(run)
+        self.are_texts().then_some(run)
+    }
+
+    pub fn are_texts(&self) -> bool {
+        self.strings().all(|string| str::from_utf8(string).is_ok())
     }
 }
 

@@ -14,6 +14,7 @@ mod splits;
 mod symbols;
 mod table;
 mod theirs;
+mod through_c;
 
 fn main() {
     let mut bench = table::Bench::from_arguments();

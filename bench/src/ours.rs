@@ -6,6 +6,7 @@
 mod exports {
     unsafe extern "C" {
         pub fn port_check(bytes: *const u8, len: usize) -> u64;
+        pub fn port_is_utf8(bytes: *const u8, len: usize) -> bool;
         pub fn port_from_raw_vec(bytes: *const u8, len: usize) -> usize;
         pub fn port_encode_wide(bytes: *const u8, len: usize, out: *mut u16, room: usize) -> usize;
         pub fn port_decode_wide(units: *const u16, len: usize, out: *mut u8, room: usize) -> usize;
@@ -51,6 +52,10 @@ mod exports {
 
 pub fn check(bytes: &[u8]) -> bool {
     unsafe { exports::port_check(bytes.as_ptr(), bytes.len()) == 0 }
+}
+
+pub fn is_utf8(bytes: &[u8]) -> bool {
+    unsafe { exports::port_is_utf8(bytes.as_ptr(), bytes.len()) }
 }
 
 /// The length of a string of a copy of the bytes, which are WTF-8.

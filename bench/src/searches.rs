@@ -1,10 +1,10 @@
 //! Searches, strips and prefix tests on Unix, in many short strings and in long ones.
 use crate::inputs::{self, Long, Short};
 use crate::table::Bench;
+use crate::through_c::through_c;
 use crate::{ours, theirs};
 use crate_unix::OsStrBytesExt;
 use std::hint::black_box;
-use std::slice;
 
 /// A call on a string and a pattern: a place or a length, `usize::MAX` where there is none.
 type Search = fn(&[u8], &str) -> usize;
@@ -48,24 +48,6 @@ pub fn time(bench: &mut Bench) {
 
 fn or_max(found: Option<usize>) -> usize {
     found.unwrap_or(usize::MAX)
-}
-
-/// A search behind the signature in C that the exports of this repository have: a slice is a pointer,
-/// which may be null where nothing is, and a length. So all contestants pay for it.
-macro_rules! through_c {
-    ($name:ident, |$bytes:ident, $pattern:ident| $answer:expr) => {{
-        #[unsafe(no_mangle)]
-        #[inline(never)]
-        extern "C" fn $name(bytes: *const u8, len: usize, pattern: *const u8, pattern_len: usize) -> usize {
-            let ($bytes, $pattern) = unsafe { (from_c(bytes, len), theirs::text(from_c(pattern, pattern_len))) };
-            $answer
-        }
-        |bytes, pattern| $name(bytes.as_ptr(), bytes.len(), pattern.as_ptr(), pattern.len())
-    }};
-}
-
-unsafe fn from_c<'a>(at: *const u8, len: usize) -> &'a [u8] {
-    if at.is_null() { &[] } else { unsafe { slice::from_raw_parts(at, len) } }
 }
 
 const FIND: [Search; 3] = [

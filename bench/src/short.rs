@@ -1,6 +1,7 @@
 //! Conversions, cuts and joins of short strings, one call for each.
 use crate::inputs::{self, Short};
 use crate::table::Bench;
+use crate::through_c::through_c;
 use crate::{ours, theirs};
 use crate_unix::{OsStrBytesExt, RawOsStr as UnixStr};
 use crate_windows::windows_strings::os::ffi::{OsStrExt, OsStringExt};
@@ -74,6 +75,20 @@ fn check(bench: &mut Bench, strings: &Short) {
             theirs::if_avx2(strings.if_texts(&mut || all(strings, |bytes| theirs::is_utf8_avx2(bytes).into()))),
         ],
     );
+    if strings.are_texts() {
+        bench.line(
+            "is_utf8",
+            strings.name,
+            strings.count(),
+            [
+                Some(&mut || all(strings, |bytes| ours::is_utf8(bytes).into())),
+                None,
+                Some(&mut || all(strings, |bytes| str::from_utf8(bytes).is_ok().into())),
+                Some(&mut || all(strings, |bytes| theirs::is_utf8_sse42(bytes).into())),
+                theirs::if_avx2(Some(&mut || all(strings, |bytes| theirs::is_utf8_avx2(bytes).into()))),
+            ],
+        );
+    }
     bench.line(
         "from_raw_vec",
         strings.name,
@@ -150,6 +165,9 @@ fn units(bench: &mut Bench, strings: &Short) {
 
 fn cuts(bench: &mut Bench, strings: &Short) {
     type Cut = fn(&[u8], usize) -> bool;
+    let their_cut: Cut =
+        through_c!(their_is_boundary, |bytes, at: usize| theirs::unix(bytes).split_at(at).0.len() == at);
+    let std_cut: Cut = through_c!(std_is_boundary, |bytes, at: usize| theirs::text(bytes).is_char_boundary(at));
     let at: Vec<usize> = strings.strings().map(|bytes| theirs::boundary_from(bytes, bytes.len() / 2)).collect();
     let all = |cut: Cut| {
         let cut = black_box(cut);
@@ -159,11 +177,7 @@ fn cuts(bench: &mut Bench, strings: &Short) {
         "is_boundary",
         strings.name,
         strings.count(),
-        [
-            Some(&mut || all(ours::is_boundary)),
-            Some(&mut || all(|bytes, at| theirs::unix(bytes).split_at(at).0.len() == at)),
-            strings.if_texts(&mut || all(|bytes, at| theirs::text(bytes).is_char_boundary(at))),
-        ],
+        [Some(&mut || all(ours::is_boundary)), Some(&mut || all(their_cut)), strings.if_texts(&mut || all(std_cut))],
     );
     line(
         bench,

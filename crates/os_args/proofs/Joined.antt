@@ -1,12 +1,12 @@
 -- What was taken of the words, joined again, is the words.
-use Rattle.std.proofs.Common.{◌≡◌, ◌≢◌, ◌⊎◌, inl, inr, ℕ, suc, ◌+◌, ◌<◌, ◌≤◌, Bool, true, false, List, [], ◌∷◌, ◌++◌, map, drop, length, Option, Some, None, Result, Ok, Err, refl, sym, ap, ◌∙◌, subst, arith, append_assoc, append-nil, length-append}
+use Rattle.std.proofs.Common.{◌≡◌, ◌≢◌, ◌⊎◌, inl, inr, ℕ, ◌+◌, ◌<◌, ◌≤◌, Bool, true, false, List, [], ◌∷◌, ◌++◌, drop, length, Option, Some, None, Ok, Err, refl, sym, ap, ◌∙◌, subst, arith, append_assoc, append-nil, length-append}
 use Rattle.std.proofs.Math.Seq.{drop-length}
 use Rattle.std.proofs.lemmas.List.{drop-drop}
 use Rattle.std.specs.Char.{encode_utf8}
 use Rattle.std.specs.List.{flat_map}
 use Rattle.os_str_ext.specs.Patterns.{char_has_bytes}
-use Rattle.os_args.specs.Word.{Kind, Long, LongBytes, Short, ShortBytes, Value, dash, dashes, equals, IsNamed, IsFlag, IsLongOption, IsShortOption, IsOperand, IsReadAs, IsValueOf}
-use Rattle.os_args.specs.Reading.{Fault, UnexpectedValue, MissingValue, UnexpectedArgument, Reading, words_left, SkipsDashes, IsReadIn, TakesFlag, TakesNext, TakesNone, TakesWhole, DropsValue, TakesWord, TakesPending, LacksValue, TakesValue, TakesOptionalValue, DropsPending, TakesRest}
+use Rattle.os_args.specs.Word.{Kind, Long, LongBytes, Short, ShortBytes, Value, dashes, equals, IsNamed, IsFlag, IsValueOf}
+use Rattle.os_args.specs.Reading.{Fault, UnexpectedValue, Reading, words_left, SkipsDashes, IsReadIn, TakesFlag, TakesNext, TakesNone, TakesWhole, TakesWord, TakesPending, TakesRest}
 use Rattle.os_args.specs.Joining.{Mark, Bare, Dash, Dashes, Equals, mark_bytes, Piece, Inner, Last, Separator, joined_to, before_words, pieces_joined, piece_texts, with_pending, all_left, weight, Step, Next, TookValue, TookOptionalValue, TookRest, IsStep, AreSteps, kind_text, fault_texts, step_texts, IsJoinedAgain}
 
 -- these texts were taken, and what is left is `left`, of what was there

@@ -1,13 +1,13 @@
 -- A word is read in one way.
-use Rattle.std.proofs.Common.{◌≡◌, ◌≢◌, ◌⊎◌, inl, inr, ℕ, ◌+◌, ◌≤◌, Bool, IsTrue, List, [], ◌∷◌, ◌++◌, length, refl, sym, ap, ◌∙◌, subst, arith}
+use Rattle.std.proofs.Common.{◌≡◌, ◌⊎◌, inl, inr, ℕ, ◌+◌, Bool, IsTrue, List, [], ◌∷◌, ◌++◌, length, refl, sym, ap, ◌∙◌, subst, arith}
 use Rattle.std.proofs.lemmas.Str.{encode_same}
 use Rattle.std.specs.Char.{encode_utf8, IsScalar}
 use Rattle.std.specs.Str.{IsUtf8}
 use Rattle.wtf8_core.specs.CodePoint.{encode}
 use Rattle.wtf8_core.specs.Covered.{StartsWithNoCharacter}
-use Rattle.wtf8_core.specs.Standing.{IsPrefix, StandsAt, StandsNowhere}
+use Rattle.wtf8_core.specs.Standing.{IsPrefix, StandsNowhere}
 use Rattle.wtf8_core.proofs.lemmas.forms.ByStd.{form_encode}
-use Rattle.os_args.specs.Word.{Kind, Long, LongBytes, Short, ShortBytes, Value, dash, dashes, equals, point, StartsWithDigit, StartsWithFraction, StartsAsNegative, IsName, IsNamed, IsFlag, IsLongOption, IsShortOption, IsOperand, IsReadAs}
+use Rattle.os_args.specs.Word.{Kind, Long, LongBytes, Short, ShortBytes, Value, dash, equals, StartsWithDigit, StartsWithFraction, StartsAsNegative, IsName, IsNamed, IsFlag, IsLongOption, IsShortOption, IsReadAs}
 
 tails : {a b : ℕ} {x y : List ℕ} → a ∷ x ≡ b ∷ y → x ≡ y
 tails e = cc

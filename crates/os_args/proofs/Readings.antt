@@ -1,5 +1,5 @@
 -- How a word is read.
-use Rattle.std.proofs.Common.{◌≡◌, ◌≢◌, ◌⊎◌, inl, inr, ⊎_elim, ℕ, Bool, IsTrue, List, [], ◌∷◌, ◌++◌, refl, sym, ap, ◌∙◌, subst, arith}
+use Rattle.std.proofs.Common.{◌≡◌, ◌≢◌, inl, inr, ℕ, Bool, IsTrue, List, [], ◌++◌, refl, ap, ◌∙◌}
 use Rattle.wtf8_core.specs.Standing.{IsPrefix}
 use Rattle.os_args.specs.Word.{Kind, Value, dash, dashes, StartsAsNegative, IsNamed, IsFlag, IsReadAs}
 

@@ -1,7 +1,7 @@
 -- Steps, from what is known of their parts.
-use Rattle.std.proofs.Common.{◌≡◌, ◌≢◌, ◌⊎◌, inl, inr, ℕ, ◌+◌, Bool, true, false, List, [], ◌∷◌, ◌++◌, refl, sym, ap, ◌∙◌}
+use Rattle.std.proofs.Common.{◌≡◌, inl, inr, ℕ, ◌+◌, true, false, List, [], ◌∷◌, refl, sym, ap, ◌∙◌}
 use Rattle.os_args.specs.Word.{Kind, dashes}
-use Rattle.os_args.specs.Reading.{Reading, words_left, without_word, having_read, SkipsDashes, StartsWithDashes, IsReadIn, TakesNext, TakesWhole}
+use Rattle.os_args.specs.Reading.{Reading, words_left, without_word, having_read, SkipsDashes, IsReadIn, TakesNext, TakesWhole}
 
 -- after `--` was skipped no other ends the options
 pub no_dashes : (before after : Reading) (word : List ℕ) (more : List (List ℕ)) → SkipsDashes before after → words_left after ≡ word ∷ more → after.ended ≡ false → word ≡ dashes → ⊥

@@ -1,5 +1,5 @@
 -- Literals that are searched for as texts.
-use Rattle.std.proofs.Common.{◌≡◌, ◌⊎◌, inl, inr, ◌<◌, ◌≤◌, ◌+◌, ℕ, zero, suc, get_or, Bool, true, false, if◌then◌else◌, List, [], ◌∷◌, ◌++◌, map, length, take, drop, Option, Some, None, refl, sym, ap, ◌∙◌, subst, arith, append_assoc, append-nil, length-append, take-append-drop}
+use Rattle.std.proofs.Common.{◌≡◌, ◌⊎◌, inl, inr, ◌<◌, ◌≤◌, ◌+◌, ℕ, suc, get_or, Bool, true, false, if◌then◌else◌, List, [], ◌∷◌, ◌++◌, map, length, take, drop, Option, Some, None, refl, sym, ap, ◌∙◌, subst, arith, append_assoc, append-nil, length-append, take-append-drop}
 use Rattle.std.proofs.lemmas.Bool.{cases_lt}
 use Rattle.std.proofs.lemmas.List.{take_at, drop_at, map-append}
 use Rattle.std.proofs.lemmas.Str.{IsCharBoundary-start, IsUtf8-take, chars-append, chars-nil, encodes-append, encodes-chars, length-encode, len_utf8_bounds}
@@ -15,7 +15,7 @@ use Rattle.os_glob.specs.declared.options.GlobOptions.{GlobOptions}
 use Rattle.os_glob.specs.declared.item.Wildcard.{Wildcard}
 use Rattle.os_glob.specs.declared.place.Place.{Place}
 use Rattle.os_glob.specs.declared.place.Place.TheVariants.{Separator, LeadingDot, Ordinary}
-use Rattle.os_glob.specs.Places.{separates, place, places, begins_component}
+use Rattle.os_glob.specs.Places.{place, places, begins_component}
 use Rattle.os_glob.specs.Items.{Item, Literal, items}
 use Rattle.os_glob.specs.Ends.{BeginsWith}
 use Rattle.os_glob.specs.Pattern.{Token, One, Same, tokens}

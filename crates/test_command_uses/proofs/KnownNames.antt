@@ -1,5 +1,5 @@
 -- Lists of which the first name is known.
-use Rattle.std.proofs.Common.{◌≡◌, ◌≢◌, ◌⊎◌, inl, inr, ⊎_elim, ℕ, ◌+◌, ◌≤◌, List, [], ◌∷◌, ◌++◌, length, drop, get_or, refl, sym, ap, ◌∙◌, subst, arith, append_assoc, append-nil}
+use Rattle.std.proofs.Common.{◌≡◌, ◌≢◌, ◌⊎◌, inl, inr, ℕ, ◌+◌, ◌≤◌, List, [], ◌∷◌, ◌++◌, length, drop, get_or, refl, sym, ap, ◌∙◌, subst, arith, append_assoc, append-nil}
 use Rattle.std.specs.List.{AllByRecursion}
 use Rattle.os_quote.specs.Escape.{IsLineEscape}
 use Rattle.os_str_bytes.specs.EncodingError.{EncodingError}
@@ -8,9 +8,8 @@ use Rattle.osbytes_commands.specs.declared.fault.Fault.{Fault as Reason}
 use Rattle.osbytes_commands.specs.declared.fault.Fault.TheVariants.{Refused, Write}
 use Rattle.names_commands.specs.declared.fault.Fault.TheVariants.{At, Run}
 use Rattle.names_commands.specs.declared.task.Task.TheVariants.{Check}
-use Rattle.names_commands.specs.declared.task.Settings.{Settings}
 use Rattle.names_commands.specs.Back.{listing}
-use Rattle.names_commands.specs.Items.{Entry, Lacks, AreIn, IsLastUnended, items_of, texts_of}
+use Rattle.names_commands.specs.Items.{Entry, Lacks, AreIn, items_of, texts_of}
 use Rattle.names_commands.specs.Task.{IsEntry}
 use Rattle.names_commands.specs.Reading.{Stops}
 use Rattle.names_commands.specs.Run.{IsOutput, start}

@@ -1,5 +1,5 @@
 -- Bytes that are cut at the end of an item.
-use Rattle.std.proofs.Common.{◌≡◌, ℕ, List, [], ◌∷◌, ◌++◌, refl, subst}
+use Rattle.std.proofs.Common.{ℕ, List, [], ◌∷◌, ◌++◌, refl, subst}
 use Rattle.names_commands.specs.Items.{Lacks, IsCutAt}
 
 pub end_in : (end : ℕ) (front behind : List ℕ) → ¬ (Lacks end (front ++ end ∷ behind))

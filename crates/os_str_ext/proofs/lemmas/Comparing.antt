@@ -1,7 +1,7 @@
 -- Bytes are equal if their first bytes are and their last bytes are.
 use Rattle.os_str_ext.proofs.Common.{◌≡◌, ℕ, ◌+◌, ◌-◌, ◌≤◌, List, ◌++◌, length, take, drop, refl, sym, ap, ◌∙◌, arith, take-append-drop, length-append, length-drop, drop-drop, take_at, take-length, IsPrefix, IsSuffix}
 
-pub same_by_ends : (k : ℕ) (a b : List ℕ) → k ≤ length a → length a ≤ k + k → take k a ≡ take k b → drop (length a - k) a ≡ drop (length a - k) b → a ≡ b
+same_by_ends : (k : ℕ) (a b : List ℕ) → k ≤ length a → length a ≤ k + k → take k a ≡ take k b → drop (length a - k) a ≡ drop (length a - k) b → a ≡ b
 same_by_ends k a b low high front back =
     let m = length a - k in
     let skip = k - m in

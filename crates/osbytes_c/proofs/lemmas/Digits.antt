@@ -1,5 +1,5 @@
 -- Hexadecimal numbers.
-use Rattle.std.proofs.Common.{◌≡◌, ℕ, zero, suc, ◌-◌, ◌<◌, ◌/◌, ◌%◌, List, [], ◌∷◌, ◌++◌, refl, arith, sub-one}
+use Rattle.std.proofs.Common.{◌≡◌, ℕ, zero, suc, ◌-◌, ◌<◌, ◌/◌, ◌%◌, [], ◌∷◌, ◌++◌, refl, arith, sub-one}
 use Rattle.wtf8_core.specs.FaultText.{upper_hex, upper_hex_digit}
 
 -- the digits of a number: none, or those before the last and the last

@@ -1,4 +1,4 @@
-use Rattle.std.proofs.Common.{◌≡◌, inr, [], refl, sym, subst, append-nil}
+use Rattle.std.proofs.Common.{inr, [], refl, sym, subst, append-nil}
 use Rattle.std.specs.Prelude.{false, IsTrue}
 use Rattle.os_str_bytes.specs.Symbols.{symbols_of}
 use Rattle.os_glob.specs.Match.{IsMatch}

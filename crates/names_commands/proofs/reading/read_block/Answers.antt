@@ -1,6 +1,6 @@
 use Rattle.std.proofs.Common.{refl, subst}
 use Rattle.names_commands.specs.Items.{Lacks, IsCutAt}
-use Rattle.names_commands.proofs.lemmas.Reading.{at_start, after_item, at_item, at_end, not_kept}
+use Rattle.names_commands.proofs.lemmas.Reading.{at_start, after_item, at_item, not_kept}
 use Rattle.names_commands.proofs.reading.read_block.Goals as goal
 
 pub loop-last-init : goal.loop-last-init

@@ -1,4 +1,4 @@
-use Rattle.std.proofs.Common.{rules, ◌≡◌, ◌≢◌, ◌+◌, ◌≤◌, ◌<◌, ◌^◌, length, take, Result, Ok, Err, OnOk, IfErr, refl, sym, subst, arith}
+use Rattle.std.proofs.Common.{rules, ◌≡◌, ◌+◌, length, take, Result, Ok, Err, IfErr, sym, subst, arith}
 use Rattle.std.proofs.lemmas.List.{length-take-le}
 use Rattle.std.specs.Io.KnownBytes.{Consumes, IsAtEnd}
 use Rattle.std.proofs.lemmas.Result.{on_ok_weaker}
@@ -6,7 +6,7 @@ use Rattle.osbytes_commands.specs.Marked.{marked_inner}
 use Rattle.osbytes_commands.specs.declared.fault.Fault.TheVariants.{Read}
 use Rattle.names_commands.specs.Task.{IsItemFault}
 use Rattle.names_commands.specs.Run.{WritesUpTo, Finishes, IsLast}
-use Rattle.names_commands.proofs.lemmas.Runs.{nothing_read, counted, more_read, stopped, half_written, so_far, too_much, finished, last_refused, last_half}
+use Rattle.names_commands.proofs.lemmas.Runs.{counted, more_read, stopped, half_written, so_far, too_much, finished, last_refused, last_half}
 use Rattle.names_commands.proofs.run.run.Goals as goal
 
 both_err : {X F : Type 0} (r : Result X F) (P Q S : F → Type 0) → ((e : F) → P e → Q e → S e) → IfErr r P → IfErr r Q → IfErr r S
