@@ -11,7 +11,7 @@ ghost use Rattle.os_quote.specs.Stripping.{StartsNot};
 use crate::buffer::split_token;
 use crate::buffer_token::{push_token, push_unit};
 use crate::form::Form;
-use os_str_bytes::{NonUnicodeOsStr, OsStr, OsStrBytesExt, Platform};
+use os_str_bytes::{NonUnicodeOsStr, OsStr, OsStrBytesExt, Platform, Unix};
 
 /// Whether the bytes are the escape of the string in a form.
 pub(crate) fn has_escape<E: Platform>(form: Form, string: OsStr<'_, E>, text: &[u8]) -> bool
@@ -55,7 +55,7 @@ fn strip_text<'a>(form: Form, text: &'a [u8], shown: &str) -> Option<&'a [u8]>
     let mut rest = text;
     let mut left = shown;
     while let Some((front, character, behind)) = split_token(form, left) {
-        let Some(token) = strip(rest, front.as_bytes()) else {
+        let Some(token) = strip_front(rest, front) else {
             return None;
         };
         let Some(after) = strip_token(token, character) else {
@@ -64,7 +64,7 @@ fn strip_text<'a>(form: Form, text: &'a [u8], shown: &str) -> Option<&'a [u8]>
         rest = after;
         left = behind;
     }
-    strip(rest, left.as_bytes())
+    strip_front(rest, left)
 }
 
 /// What comes after a unit.
@@ -83,11 +83,26 @@ fn strip_token(text: &[u8], character: char) -> Option<&[u8]>
         (λ rest. text.now ≡ item_text (token_of character) ++ rest.now) }
 {
     if character == '\\' {
-        return strip(text, b"\\\\");
+        return match text {
+            [b'\\', b'\\', behind @ ..] => Some(behind),
+            _ => None,
+        };
     }
     let mut token = [0; 10];
     let len = push_token(&mut token, 0, character);
     strip(text, &token[..len])
+}
+
+/// What comes after a text.
+fn strip_front<'a>(text: &'a [u8], front: &str) -> Option<&'a [u8]>
+    ensures { MatchOption result (StartsNot front.now text.now)
+        (λ rest. text.now ≡ front.now ++ rest.now) }
+{
+    let string = OsStr::<Unix>::from_encoded_bytes_unchecked(text);
+    let Some(rest) = string.strip_prefix(front) else {
+        return None;
+    };
+    Some(rest.as_encoded_bytes())
 }
 
 /// What comes after these bytes.

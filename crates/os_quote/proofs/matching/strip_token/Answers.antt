@@ -7,4 +7,4 @@ use Rattle.os_quote.proofs.matching.strip_token.Goals as goal
 pub returns : goal.returns
 returns c =
     let is = token_text (item_text (token_of c.args.character)) _ c.push_token-len.new.buffer c.push_token-len.result c.push_token-len.ensures (token_is_short c.args.character) in
-    subst (λ x. MatchOption c.strip-2.result (StartsNot x c.args.text.now) (λ rest. c.args.text.now ≡ x ++ rest.now)) is c.strip-2.ensures
+    subst (λ x. MatchOption c.strip.result (StartsNot x c.args.text.now) (λ rest. c.args.text.now ≡ x ++ rest.now)) is c.strip.ensures
