@@ -21,7 +21,8 @@
 //! by steps from the first byte on: the first by lanes after zeros ([`fronts::starts_by_step`]), then
 //! 4, and one more step that ends with the last byte ([`fronts::ends_by_step`]). It reads 4 to 19
 //! bytes in a copy with zeros before and after them ([`short::is_short_by_steps`]), and more than two
-//! blocks by 5 and 6. What these don't vouch for std's reader reads.
+//! blocks by 5 and 6. What these don't vouch for std's reader reads. A `Checker` asks the same of a piece
+//! of at most two blocks before anything else, since most pieces are short texts.
 //! [`surrogate_fault`](crate::surrogate_fault) looks for surrogates alone ([`surrogates`]).
 
 pub(crate) mod error_bits;
