@@ -96,7 +96,7 @@ pub extern "C" fn osb_core_from_wide(units: &[u16], out: &mut [u8], count: &mut 
         count.new × (length out.old < count.new) }
     ensures answers { (result ≡ DONE) ⊎ (result ≡ NO_ROOM) }
 {
-    let written = if units.len() <= out.len() / 3 {
+    let written = if 3 * units.len() <= out.len() {
         write_bytes(units, out)
     } else {
         write_some_bytes(units, out)
@@ -106,8 +106,7 @@ pub extern "C" fn osb_core_from_wide(units: &[u16], out: &mut [u8], count: &mut 
 }
 
 /// Writes the bytes of the string with these units, for which there is surely room, and counts them.
-/// It isn't inlined: beside the other loop the compiler makes a slower one of it.
-#[inline(never)]
+#[inline(always)]
 fn write_bytes(units: &[u16], out: &mut [u8]) -> usize
     requires { 3 * length units.now ≤ length out.now }
     ensures { Writes (λ bytes. HasUnits bytes units.now) out.old out.new result }
@@ -121,6 +120,8 @@ fn write_bytes(units: &[u16], out: &mut [u8]) -> usize
 }
 
 /// Writes the bytes of the string with these units as far as there is room, and counts them.
+/// It isn't inlined: beside it the compiler makes a slower one of the other loop.
+#[inline(never)]
 fn write_some_bytes(units: &[u16], out: &mut [u8]) -> usize
     ensures { Writes (λ bytes. HasUnits bytes units.now) out.old out.new result }
 {
