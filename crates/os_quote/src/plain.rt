@@ -23,7 +23,7 @@ pub(crate) fn are_plain(bytes: &[u8]) -> bool
         return false;
     }
     let at = after_lanes(bytes, 0);
-    if at > 0 && bytes.len() - at >= LANES {
+    if bytes.len() - at >= LANES {
         return false;
     }
     plain_end(bytes, at) == bytes.len()
