@@ -8,7 +8,7 @@ use std::time::Duration;
 
 /// How often each contestant has its turn in a line. Before its next turn all other lines have theirs,
 /// so that what else the machine does for some seconds weighs little.
-const ROUNDS: usize = 5;
+const ROUNDS: usize = 10;
 
 /// Who answers a line: this repository, the crate, the standard library, and maybe others.
 pub type Contestant<'a> = Option<&'a mut dyn FnMut() -> u64>;
