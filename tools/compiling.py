@@ -3,16 +3,13 @@
 from __future__ import annotations
 
 import os
-import re
 import shutil
 import subprocess
 from pathlib import Path
 
 from laid_in import kit as toolchain
+from sources import CRATES, LIST, crates
 
-ROOT = Path(__file__).resolve().parent.parent
-CRATES = ROOT / "crates"
-LIST = ROOT / "crates.txt"
 PARTS = ("src", "specs", "proofs")
 
 
@@ -27,14 +24,9 @@ def copy_sources(name: str, to: Path) -> None:
             shutil.copytree(CRATES / name / part, to / part)
 
 
-def listed() -> str:
-    """Returns the lines of crates.txt."""
-    return re.sub(r"#.*", "", LIST.read_text(encoding="utf-8"))
-
-
 def uses() -> dict[str, list[str]]:
     """Returns the libraries that crates.txt gives each crate."""
-    return {name: below.split() for name, below in re.findall(r"^(\w+)[^:\n]*:(.*)$", listed(), re.M)}
+    return {name: crate.uses for name, crate in crates().items()}
 
 
 def below(name: str) -> list[str]:
@@ -52,7 +44,7 @@ def is_program(name: str) -> bool:
 
 
 def is_archive(name: str) -> bool:
-    return re.search(rf"^{name} staticlib:", listed(), re.M) is not None
+    return crates()[name].is_archive
 
 
 def built(name: str) -> Path:
