@@ -57,6 +57,6 @@ Matches [] ps = ps ≡ []
 Matches (Run w ∷ ts) ps = BeginsWithRun w (Matches ts) ps
 Matches (One x ∷ ts) ps = BeginsWithOne x (Matches ts) ps
 
--- the pattern matches the symbols
+-- the pattern's tokens match the symbols, as the options have patterns see them, one after the other
 abbrev pub IsMatch : GlobOptions → List ℕ → List Symbol → Type 0
 IsMatch o pattern symbols = Matches (tokens o true (items (chars pattern))) (places o true symbols)

@@ -43,7 +43,7 @@ pub record IsInterrupted (refused rest : List ℕ) (x : ℕ) : Type 0 where
   pub next : rest ≡ x ∷ after
   pub breaks : IsContinuation x → ⊥
 
--- a whole shape with this value, which is no form, or is the form of a low surrogate after a high one
+-- a whole sequence with this value that encodes no code point, or encodes a low surrogate after a high one
 pub record IsBadSequence (last : ℕ) (refused : List ℕ) (value : ℕ) : Type 0 where
   pub lead : ℕ
   pub behind : List ℕ
