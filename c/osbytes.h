@@ -33,9 +33,9 @@
 extern "C" {
 #endif
 
-/* The version of this header. A library of another one is another library: compare it with
- * osb_version(). */
-#define OSB_VERSION 1
+/* The version of this header, 0.1.0, as one number. A library is another one if more than the last two digits
+ * differ: compare OSB_VERSION / 100 with osb_version() / 100. */
+#define OSB_VERSION 100
 uint32_t osb_version(void);
 
 typedef uint32_t osb_platform;
