@@ -1,4 +1,4 @@
--- The items of a pattern: what its characters say, from the first on (POSIX, "Shell Command Language", 2.13).
+-- The items of a pattern: what its characters say, from the first on (in the manner of POSIX, "Shell Command Language", 2.13, but that a `[` without its `]` is a fault and `\` a member of a class).
 use Rattle.std.specs.Prelude.{◌≡◌, Bool, true, false, if◌then◌else◌, ℕ, zero, suc, ◌-◌, nat_eq, List, [], ◌∷◌, ◌++◌, length, Option, Some, None}
 use Rattle.std.specs.Str.{chars, encode_utf8_all}
 use Rattle.os_glob.specs.declared.error.GlobError.{GlobError}

@@ -22,7 +22,8 @@ pub enum Separators {
 #[derive(Clone, Copy, PartialEq, Eq)]
 pub struct GlobOptions {
     /// Which characters are separators, which neither `*` nor `?` matches. A separator in a pattern
-    /// matches any of them.
+    /// matches any of them. `\` in a pattern always quotes the next character, so it is written `/`
+    /// or `\\`, on Windows too.
     pub separators: Separators,
     /// Whether a dot at the start, or right after a separator, is only matched by a dot that is
     /// first in the pattern, or right after a separator there (POSIX, "Shell Command Language",
