@@ -3,10 +3,13 @@
 
 The columns of each kind of file are named in its second line. The status is 1 where a row differs.
 """
-import ctypes
+
+from __future__ import annotations
+
 import sys
-from ctypes import byref, c_int32, c_size_t, c_uint16
+from ctypes import CDLL, byref, c_int32, c_size_t, c_uint16
 from pathlib import Path
+from typing import Callable, Iterable, Iterator
 
 from smoke import (
     BAD_ESCAPE,
@@ -29,46 +32,50 @@ from smoke import (
     unescape,
 )
 
+# A call of the library, and what a row wants beside what was answered.
+Call = Callable[..., int]
+Answers = Iterator[tuple[object, str]]
+
 PLATFORMS = {"unix": UNIX, "windows": WINDOWS, "wasm": WASM}
 KINDS = {1: "byte {:02x}", 2: "cp {:04x}", 3: "end"}
 
 
-def raw(column):
+def raw(column: str) -> bytes:
     return b"" if column == "-" else bytes.fromhex(column)
 
 
-def shown(answer):
+def shown(answer: bytes) -> str:
     return answer.hex() or "-"
 
 
-def joined(answers):
+def joined(answers: Iterable[bytes]) -> str:
     return ",".join(map(shown, answers))
 
 
-def fault_text(fault):
+def fault_text(fault: Fault) -> str:
     return KINDS[fault.kind].format(fault.value)
 
 
-def check(osb, platform, string):
+def check(osb: CDLL, platform: int, string: bytes) -> Fault | None:
     fault = Fault()
     status = osb.osb_check(platform, string, len(string), byref(fault))
     assert status in (OK, FAULTY), status
     return fault if status == FAULTY else None
 
 
-def windows_fault(osb, string):
+def windows_fault(osb: CDLL, string: bytes) -> str:
     fault = check(osb, WINDOWS, string)
     return fault_text(fault) if fault else "ok"
 
 
-def utf8_fault(osb, string):
+def utf8_fault(osb: CDLL, string: bytes) -> str:
     fault = check(osb, WASM, string)
     if not fault:
         return "ok"
     return f"utf8 {fault.place} {fault.count if fault.kind == 4 else 'none'}"
 
 
-def units(osb, string, digits=4):
+def units(osb: CDLL, string: bytes, digits: int = 4) -> str | None:
     """The units of a string, as digits; None where it is refused."""
     room = len(string)
     out, count = (c_uint16 * room)(), c_size_t()
@@ -77,19 +84,19 @@ def units(osb, string, digits=4):
     return "".join(f"{unit:0{digits}x}" for unit in out[: count.value]) or "-"
 
 
-def index(call, string, pattern):
+def index(call: Call, string: bytes, pattern: bytes) -> str:
     place = c_size_t()
     status = call(string, len(string), pattern, len(pattern), byref(place))
     assert status in (OK, NONE), status
     return str(place.value) if status == OK else "!"
 
 
-def told(status):
+def told(status: int) -> str:
     assert status in (OK, NONE), status
     return "1" if status == OK else "0"
 
 
-def decode(osb, string, before, fault):
+def decode(osb: CDLL, string: str, before: str, fault: str) -> Answers:
     string = raw(string)
     yield windows_fault(osb, string), fault
     well = check(osb, WINDOWS, string)
@@ -97,12 +104,12 @@ def decode(osb, string, before, fault):
     yield units(osb, front), before
 
 
-def encode(osb, wide, string):
+def encode(osb: CDLL, wide: str, string: str) -> Answers:
     swapped = b"".join(raw(wide)[i : i + 2][::-1] for i in range(0, len(raw(wide)), 2))
     yield shown(from_wide(osb, swapped)), string
 
 
-def search(osb, platform, string, pattern, *wanted):
+def search(osb: CDLL, platform: str, string: str, pattern: str, *wanted: str) -> Answers:
     string, pattern = raw(string), raw(pattern)
     asked = string, len(string), pattern, len(pattern)
     yield index(osb.osb_find, string, pattern), wanted[0]
@@ -114,7 +121,9 @@ def search(osb, platform, string, pattern, *wanted):
     yield joined(rsplit(osb, string, pattern)) if pattern else "!", wanted[11]
 
 
-def strings(osb, platform, string, boundaries, pairs, parts_units, _text, lossy_text, *_):
+def strings(
+    osb: CDLL, platform: str, string: str, boundaries: str, pairs: str, parts_units: str, _text: str, lossy_text: str, *_: str
+) -> Answers:
     string = raw(string)
     digits = (told(osb.osb_is_boundary(string, len(string), at)) for at in range(len(string) + 2))
     yield "".join(digits), boundaries
@@ -125,14 +134,14 @@ def strings(osb, platform, string, boundaries, pairs, parts_units, _text, lossy_
     yield shown(lossy(osb, PLATFORMS[platform], string)), lossy_text
 
 
-def lossies(osb, string, utf8, text, checked, _reading):
+def lossies(osb: CDLL, string: str, utf8: str, text: str, checked: str, _reading: str) -> Answers:
     string = raw(string)
     yield utf8_fault(osb, string), utf8
     yield shown(lossy(osb, UNIX, string)), text
     yield windows_fault(osb, string), checked
 
 
-def pieces(osb, parts, wanted):
+def pieces(osb: CDLL, parts: str, wanted: str) -> Answers:
     checker, fault, answers = Checker(), Fault(), []
     assert osb.osb_checker_start(byref(checker)) == OK
     for part in map(raw, parts.split(",")):
@@ -143,24 +152,24 @@ def pieces(osb, parts, wanted):
     yield ";".join(answers), wanted
 
 
-def prefix(osb, string, pattern, starts, ends):
+def prefix(osb: CDLL, string: str, pattern: str, starts: str, ends: str) -> Answers:
     string, pattern = raw(string), raw(pattern)
     asked = WINDOWS, string, len(string), pattern, len(pattern)
     yield told(osb.osb_starts_with_units(*asked)), starts
     yield told(osb.osb_ends_with_units(*asked)), ends
 
 
-def join(osb, a, b, _pushed, _repeated, wanted):
+def join(osb: CDLL, a: str, b: str, _pushed: str, _repeated: str, wanted: str) -> Answers:
     a, b, order = raw(a), raw(b), c_int32()
     assert osb.osb_compare(a, len(a), b, len(b), byref(order)) == OK
     yield "<=>"[order.value + 1], wanted
 
 
-def quote(osb, platform, string, wanted):
+def quote(osb: CDLL, platform: str, string: str, wanted: str) -> Answers:
     yield shown(escape(osb.osb_escape, PLATFORMS[platform], raw(string))), wanted
 
 
-def unquote(osb, platform, text, wanted):
+def unquote(osb: CDLL, platform: str, text: str, wanted: str) -> Answers:
     status, answer = unescape(osb.osb_unescape, PLATFORMS[platform], raw(text))
     yield {OK: f"ok {shown(answer)}" if status == OK else "", BAD_ESCAPE: f"bad {answer}", NO_STRING: "notcanonical"}[status], wanted
 
@@ -179,7 +188,7 @@ FILES = {
 }
 
 
-def main(library, *files):
+def main(library: str, *files: str) -> int:
     osb = load(library)
     asked = differ = 0
     for name in files:

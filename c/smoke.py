@@ -3,18 +3,25 @@
 
 What it expects comes from Python's own codecs, searches and splits.
 """
+
+from __future__ import annotations
+
 import ctypes
 import random
 import re
 import sys
 import unicodedata
-from ctypes import POINTER, Structure, byref, c_char_p, c_int32, c_size_t, c_uint16, c_uint32, c_void_p
+from ctypes import CDLL, POINTER, Structure, byref, c_char_p, c_int32, c_size_t, c_uint16, c_uint32, c_void_p
+from typing import Callable, Iterator
+
+# A call of the library.
+Call = Callable[..., int]
 
 
 class View(Structure):
     _fields_ = [("at", c_void_p), ("len", c_size_t)]
 
-    def __bytes__(self):
+    def __bytes__(self) -> bytes:
         return ctypes.string_at(self.at, self.len)
 
 
@@ -51,8 +58,8 @@ CHARACTER, UNIT = 1, 2
 OK, FAULTY, NO_ROOM, NONE, ENDED, BAD_ESCAPE, NO_STRING = range(7)
 
 
-def load(name):
-    osb = ctypes.CDLL(name)
+def load(name: str) -> CDLL:
+    osb = CDLL(name)
     osb.osb_check.argtypes = [c_uint32, c_char_p, c_size_t, POINTER(Fault)]
     osb.osb_fault_text.argtypes = [POINTER(Fault), c_char_p, c_size_t, POINTER(c_size_t)]
     osb.osb_wide_bound.argtypes = [c_size_t]
@@ -85,7 +92,7 @@ def load(name):
     return osb
 
 
-def to_wide(osb, string):
+def to_wide(osb: CDLL, string: bytes) -> bytes:
     room = osb.osb_wide_bound(len(string))
     out, count = (c_uint16 * room)(), c_size_t()
     status = osb.osb_to_wide(string, len(string), out, room, byref(count), None)
@@ -93,7 +100,7 @@ def to_wide(osb, string):
     return b"".join(unit.to_bytes(2, "little") for unit in out[: count.value])
 
 
-def split(osb, string, pattern):
+def split(osb: CDLL, string: bytes, pattern: bytes) -> list[bytes]:
     it, piece, pieces = Split(), View(), []
     assert osb.osb_split_start(byref(it), string, len(string), pattern, len(pattern)) == OK
     while osb.osb_split_next(byref(it), byref(piece)) == OK:
@@ -101,7 +108,7 @@ def split(osb, string, pattern):
     return pieces
 
 
-def rsplit(osb, string, pattern):
+def rsplit(osb: CDLL, string: bytes, pattern: bytes) -> list[bytes]:
     it, piece, pieces = Split(), View(), []
     assert osb.osb_rsplit_start(byref(it), string, len(string), pattern, len(pattern)) == OK
     while osb.osb_rsplit_next(byref(it), byref(piece)) == OK:
@@ -109,7 +116,7 @@ def rsplit(osb, string, pattern):
     return pieces
 
 
-def rsplit_by_python(string, pattern):
+def rsplit_by_python(string: bytes, pattern: bytes) -> list[bytes]:
     pieces = []
     while (at := string.rfind(pattern)) != -1:
         pieces.append(string[at + len(pattern) :])
@@ -117,7 +124,7 @@ def rsplit_by_python(string, pattern):
     return pieces + [string]
 
 
-def from_wide(osb, units):
+def from_wide(osb: CDLL, units: bytes) -> bytes:
     """The bytes of the string with the units that these bytes are, little-endian."""
     count = len(units) // 2
     wide = (c_uint16 * count).from_buffer_copy(units)
@@ -126,19 +133,19 @@ def from_wide(osb, units):
     return out.raw[: length.value]
 
 
-def lossy(osb, platform, string):
+def lossy(osb: CDLL, platform: int, string: bytes) -> bytes | None:
     out, length = ctypes.create_string_buffer(3 * len(string) + 1), c_size_t()
     status = osb.osb_lossy(platform, string, len(string), out, 3 * len(string), byref(length), None)
     return out.raw[: length.value] if status == OK else None
 
 
-def escape(call, platform, string):
+def escape(call: Call, platform: int, string: bytes) -> bytes:
     out, length = ctypes.create_string_buffer(6 * len(string) + 1), c_size_t()
     assert call(platform, string, len(string), out, 6 * len(string), byref(length), None) == OK
     return out.raw[: length.value]
 
 
-def stays_on_line(character):
+def stays_on_line(character: str) -> bool:
     code = ord(character)
     if unicodedata.category(character) in ("Cc", "Zl", "Zp"):
         return False
@@ -146,10 +153,10 @@ def stays_on_line(character):
     return not (marks or 0x2066 <= code <= 0x2069 or 0xE0000 <= code <= 0xE007F)
 
 
-def escape_by_python(platform, string, on_line):
+def escape_by_python(platform: int, string: bytes, on_line: bool) -> bytes:
     """The escape of a string of Unix or Windows, by Python's codecs."""
 
-    def written(character):
+    def written(character: str) -> str:
         code = ord(character)
         if character == "\\":
             return "\\\\"
@@ -163,7 +170,7 @@ def escape_by_python(platform, string, on_line):
     return "".join(map(written, text)).encode()
 
 
-def unescape(call, platform, escape):
+def unescape(call: Call, platform: int, escape: bytes) -> tuple[int, bytes | int | None]:
     """The status of an escape, and its string or the index of a backslash."""
     room = len(escape)
     out, length, index = ctypes.create_string_buffer(room + 1), c_size_t(), c_size_t()
@@ -171,10 +178,10 @@ def unescape(call, platform, escape):
     return status, {OK: out.raw[: length.value], BAD_ESCAPE: index.value}.get(status)
 
 
-def unescape_by_python(platform, escape, on_line):
+def unescape_by_python(platform: int, escape: bytes, on_line: bool) -> tuple[int, bytes | int | None]:
     """The same, by Python's codecs: what an escape means, and whether that has this escape."""
 
-    def meaning(token):
+    def meaning(token: str) -> bytes:
         if token[1] in "\\x":
             return b"\\" if token[1] == "\\" else bytes.fromhex(token[2:])
         return chr(int(token[2:].strip("{}"), 16)).encode("utf-8", "surrogatepass")
@@ -194,7 +201,7 @@ def unescape_by_python(platform, escape, on_line):
     return (OK, string) if escape_by_python(platform, string, on_line) == escape else (NO_STRING, None)
 
 
-def is_wtf8_by_python(string):
+def is_wtf8_by_python(string: bytes) -> bool:
     """Python takes the halves of a pair too, which WTF-8 leaves to the four bytes."""
     try:
         wide = string.decode("utf-8", "surrogatepass").encode("utf-16-le", "surrogatepass")
@@ -203,7 +210,7 @@ def is_wtf8_by_python(string):
     return wide.decode("utf-16-le", "surrogatepass").encode("utf-8", "surrogatepass") == string
 
 
-def made_wrong(numbers, escape):
+def made_wrong(numbers: random.Random, escape: bytes) -> bytes:
     """An escape in which some characters are others."""
     text = list(escape.decode())
     for _ in range(numbers.randint(0, 2)):
@@ -212,7 +219,7 @@ def made_wrong(numbers, escape):
     return "".join(text).encode()
 
 
-def symbols(osb, platform, string):
+def symbols(osb: CDLL, platform: int, string: bytes) -> list[tuple[int, int, bytes]]:
     it, symbol, found = Symbols(), Symbol(), []
     assert osb.osb_symbols_start(byref(it), platform, string, len(string), None) == OK
     while (status := osb.osb_symbols_next(byref(it), byref(symbol))) == OK:
@@ -221,7 +228,7 @@ def symbols(osb, platform, string):
     return found
 
 
-def symbols_by_python(platform, string):
+def symbols_by_python(platform: int, string: bytes) -> Iterator[tuple[int, int, bytes]]:
     """The symbols of a string of Unix or Windows, by Python's codecs."""
     errors = "surrogateescape" if platform == UNIX else "surrogatepass"
     for character in string.decode("utf-8", errors):
@@ -232,7 +239,7 @@ def symbols_by_python(platform, string):
             yield CHARACTER, code, encoded
 
 
-def is_wtf8(osb, string, numbers):
+def is_wtf8(osb: CDLL, string: bytes, numbers: random.Random) -> bool:
     """Whether a string is WTF-8, by pieces."""
     checker = Checker()
     assert osb.osb_checker_start(byref(checker)) == OK
@@ -243,11 +250,11 @@ def is_wtf8(osb, string, numbers):
     return osb.osb_checker_finish(byref(checker), None) == OK
 
 
-def units_of(string):
+def units_of(string: bytes) -> bytes:
     return string.decode("utf-8", "surrogatepass").encode("utf-16-le", "surrogatepass")
 
 
-def compare_more(osb, numbers, string, other, pattern):
+def compare_more(osb: CDLL, numbers: random.Random, string: bytes, other: bytes, pattern: bytes) -> None:
     """Compares the calls that need no codec of their own."""
     index, order = c_size_t(), c_int32()
     found = osb.osb_rfind(string, len(string), pattern, len(pattern), byref(index))
@@ -290,7 +297,7 @@ def compare_more(osb, numbers, string, other, pattern):
             assert (osb.osb_ends_with_units(*asked) == OK) == ends, asked
 
 
-def chunks(osb, string):
+def chunks(osb: CDLL, string: bytes) -> list[tuple[bytes, bytes]]:
     it, chunk, found = Chunks(), Chunk(), []
     assert osb.osb_chunks_start(byref(it), string, len(string)) == OK
     while osb.osb_chunks_next(byref(it), byref(chunk)) == OK:
@@ -298,7 +305,7 @@ def chunks(osb, string):
     return found
 
 
-def compare_random(osb, rows):
+def compare_random(osb: CDLL, rows: int) -> None:
     """Asks about random bytes, and compares with Python's answers."""
     numbers = random.Random(1)
     forms = [text.encode("utf-8", "surrogatepass") for text in "a,b\\\n\u00e9\u20ac\u2028\U000e0041\ud800\udc00\U0001f600"]
@@ -331,7 +338,7 @@ def compare_random(osb, rows):
         compare_more(osb, numbers, string, other, pattern)
 
 
-def main(name):
+def main(name: str) -> None:
     osb = load(name)
     fault, out, count = Fault(), ctypes.create_string_buffer(129), c_size_t()
     assert osb.osb_check(WASM, b"a\xe2\x82A", 4, byref(fault)) == FAULTY
