@@ -108,6 +108,26 @@ uint32_t osb_version(void) {
     return OSB_VERSION;
 }
 
+const char *osb_status_text(osb_status status) {
+    switch (status) {
+    case OSB_OK: return "success";
+    case OSB_FAULTY: return "the bytes aren't a string of the platform";
+    case OSB_NO_ROOM: return "the buffer is too short";
+    case OSB_NONE: return "there is none";
+    case OSB_ENDED: return "there are no more items";
+    case OSB_BAD_ESCAPE: return "a backslash of the escape begins no token";
+    case OSB_NO_STRING: return "no string of the platform has this escape";
+    case OSB_BAD_PLATFORM: return "there is no such platform";
+    case OSB_BAD_PATTERN: return "the text isn't UTF-8, or the pattern is empty";
+    case OSB_BAD_INDEX: return "the index is past the end";
+    case OSB_BAD_FAULT: return "there is no such fault";
+    case OSB_BAD_STATE: return "there is no such state of a checker";
+    case OSB_TOO_LONG: return "the string is too long";
+    case OSB_BAD_POINTER: return "a pointer or a length is refused";
+    default: return "there is no such status";
+    }
+}
+
 osb_status osb_check(osb_platform platform, const char *at, size_t len, osb_fault *fault) {
     osb_fault own = {0, 0, 0, 0};
     if (is_bad(at, len)) return OSB_BAD_POINTER;

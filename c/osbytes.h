@@ -71,6 +71,9 @@ enum {
     OSB_BAD_POINTER = 32   /* null, too long, not aligned, or overlapping */
 };
 
+/* What a status means, in English and ASCII, ended by a 0. It is never null, and stays. */
+const char *osb_status_text(osb_status status);
+
 /* Bytes of the caller's string. Where a call writes one, `at` is never null: a view of no bytes is
  * where it would be in the string, or anywhere if that was a null pointer. */
 typedef struct osb_view {

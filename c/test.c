@@ -803,6 +803,21 @@ static void unescapes(void) {
     bad_strings(line);
 }
 
+/* Each status has a text of its own, and all that are none have one. */
+static void status_texts(void) {
+    static const osb_status all[] = {
+        OSB_OK, OSB_FAULTY, OSB_NO_ROOM, OSB_NONE, OSB_ENDED, OSB_BAD_ESCAPE, OSB_NO_STRING,
+        OSB_BAD_PLATFORM, OSB_BAD_PATTERN, OSB_BAD_INDEX, OSB_BAD_FAULT, OSB_BAD_STATE, OSB_TOO_LONG,
+        OSB_BAD_POINTER, 7,
+    };
+    size_t count = sizeof all / sizeof *all;
+    for (size_t i = 0; i < count; i++)
+        for (size_t j = 0; j < count; j++)
+            EXPECT((strcmp(osb_status_text(all[i]), osb_status_text(all[j])) == 0) == (i == j));
+    EXPECT(strcmp(osb_status_text(0xFFFFFFFF), osb_status_text(7)) == 0);
+    EXPECT(strcmp(osb_status_text(OSB_TOO_LONG), "the string is too long") == 0);
+}
+
 int main(void) {
     checks();
     escapes();
@@ -810,6 +825,7 @@ int main(void) {
     symbols();
     views();
     bounds();
+    status_texts();
     checkers();
     from_wide();
     faults();
