@@ -81,7 +81,7 @@ uint32_t osb_core_symbol(uint32_t platform, const char *at, size_t len, size_t f
  * iterator makes one call. */
 #define INLINED static inline __attribute__((always_inline))
 
-/* Where the slices of no items are. */
+/* Where a string without a pointer is, and where the units of no string are. */
 static const uint16_t nothing[1];
 static uint16_t no_room[1];
 
@@ -99,18 +99,39 @@ static bool do_overlap(const void *a, size_t a_len, const void *b, size_t b_len)
            (uintptr_t)b < (uintptr_t)a + a_len;
 }
 
-static const char *bytes(const char *at, size_t len) {
-    return len == 0 ? (const char *)nothing : at;
+/* Bytes of the caller's. An empty string stays where it is, so a view of it is there, too. */
+static const char *bytes(const char *at) {
+    return at == NULL ? (const char *)nothing : at;
 }
 
 uint32_t osb_version(void) {
     return OSB_VERSION;
 }
 
+const char *osb_status_text(osb_status status) {
+    switch (status) {
+    case OSB_OK: return "success";
+    case OSB_FAULTY: return "the bytes aren't a string of the platform";
+    case OSB_NO_ROOM: return "the buffer is too short";
+    case OSB_NONE: return "there is none";
+    case OSB_ENDED: return "there are no more items";
+    case OSB_BAD_ESCAPE: return "a backslash of the escape begins no token";
+    case OSB_NO_STRING: return "no string of the platform has this escape";
+    case OSB_BAD_PLATFORM: return "there is no such platform";
+    case OSB_BAD_PATTERN: return "the text isn't UTF-8, or the pattern is empty";
+    case OSB_BAD_INDEX: return "the index is past the end";
+    case OSB_BAD_FAULT: return "there is no such fault";
+    case OSB_BAD_STATE: return "there is no such state of a checker";
+    case OSB_TOO_LONG: return "the string is too long";
+    case OSB_BAD_POINTER: return "a pointer or a length is refused";
+    default: return "there is no such status";
+    }
+}
+
 osb_status osb_check(osb_platform platform, const char *at, size_t len, osb_fault *fault) {
     osb_fault own = {0, 0, 0, 0};
     if (is_bad(at, len)) return OSB_BAD_POINTER;
-    osb_status status = osb_core_check(platform, bytes(at, len), len, &own);
+    osb_status status = osb_core_check(platform, bytes(at), len, &own);
     if (status == OSB_FAULTY && fault != NULL) *fault = own;
     return status;
 }
@@ -134,7 +155,7 @@ osb_status osb_checker_feed(osb_checker *checker, const char *at, size_t len, os
     if (checker == NULL || is_bad(at, len)) return OSB_BAD_POINTER;
     if (checker->kind != 0) return kept_fault(checker, fault);
     struct core_open opened = {checker->state, checker->bits};
-    osb_status status = osb_core_feed(&opened, bytes(at, len), len, &own);
+    osb_status status = osb_core_feed(&opened, bytes(at), len, &own);
     if (status == OSB_OK) *checker = (osb_checker){opened.state, opened.bits, 0, 0};
     if (status == OSB_FAULTY) {
         checker->kind = own.kind;
@@ -177,8 +198,8 @@ osb_status osb_to_wide(const char *at, size_t len, uint16_t *out, size_t room, s
     if (count == NULL || is_bad(at, len) || are_bad_units(out, room) ||
         do_overlap(at, len, out, room * sizeof *out))
         return OSB_BAD_POINTER;
-    osb_status status = osb_core_to_wide(bytes(at, len), len, room == 0 ? no_room : out, room, &own,
-                                         &own_fault);
+    osb_status status =
+        osb_core_to_wide(bytes(at), len, room == 0 ? no_room : out, room, &own, &own_fault);
     if (status == OSB_OK || status == OSB_NO_ROOM) *count = own;
     if (status == OSB_FAULTY && fault != NULL) *fault = own_fault;
     return status;
@@ -209,8 +230,8 @@ INLINED osb_status write_text(core_text *call, osb_platform platform, const char
     osb_fault own_fault = {0, 0, 0, 0};
     if (count == NULL || is_bad(at, len) || is_bad(out, room) || do_overlap(at, len, out, room))
         return OSB_BAD_POINTER;
-    osb_status status = call(platform, bytes(at, len), len, room == 0 ? (char *)no_room : out, room,
-                             &own, &own_fault);
+    osb_status status = call(platform, bytes(at), len, room == 0 ? (char *)no_room : out, room, &own,
+                             &own_fault);
     if (status == OSB_OK || status == OSB_NO_ROOM) *count = own;
     if (status == OSB_FAULTY && fault != NULL) *fault = own_fault;
     return status;
@@ -249,8 +270,8 @@ INLINED osb_status write_string(core_string *call, osb_platform platform, const 
     if (count == NULL || is_bad(escape, len) || is_bad(out, room) ||
         do_overlap(escape, len, out, room))
         return OSB_BAD_POINTER;
-    osb_status status = call(platform, bytes(escape, len), len,
-                             room == 0 ? (char *)no_room : out, room, &own, &own_index);
+    osb_status status = call(platform, bytes(escape), len, room == 0 ? (char *)no_room : out, room,
+                             &own, &own_index);
     if (status == OSB_OK || status == OSB_NO_ROOM) *count = own;
     if (status == OSB_BAD_ESCAPE && index != NULL) *index = own_index;
     return status;
@@ -274,8 +295,7 @@ osb_status osb_find(const char *at, size_t len, const char *pattern, size_t patt
                     size_t *index) {
     size_t own = 0;
     if (index == NULL || is_bad(at, len) || is_bad(pattern, pattern_len)) return OSB_BAD_POINTER;
-    osb_status status =
-        osb_core_find(bytes(at, len), len, bytes(pattern, pattern_len), pattern_len, &own);
+    osb_status status = osb_core_find(bytes(at), len, bytes(pattern), pattern_len, &own);
     if (status == OSB_OK) *index = own;
     return status;
 }
@@ -284,49 +304,46 @@ osb_status osb_rfind(const char *at, size_t len, const char *pattern, size_t pat
                      size_t *index) {
     size_t own = 0;
     if (index == NULL || is_bad(at, len) || is_bad(pattern, pattern_len)) return OSB_BAD_POINTER;
-    osb_status status =
-        osb_core_rfind(bytes(at, len), len, bytes(pattern, pattern_len), pattern_len, &own);
+    osb_status status = osb_core_rfind(bytes(at), len, bytes(pattern), pattern_len, &own);
     if (status == OSB_OK) *index = own;
     return status;
 }
 
 osb_status osb_contains(const char *at, size_t len, const char *pattern, size_t pattern_len) {
     if (is_bad(at, len) || is_bad(pattern, pattern_len)) return OSB_BAD_POINTER;
-    return osb_core_contains(bytes(at, len), len, bytes(pattern, pattern_len), pattern_len);
+    return osb_core_contains(bytes(at), len, bytes(pattern), pattern_len);
 }
 
 osb_status osb_starts_with(const char *at, size_t len, const char *pattern, size_t pattern_len) {
     if (is_bad(at, len) || is_bad(pattern, pattern_len)) return OSB_BAD_POINTER;
-    return osb_core_starts_with(bytes(at, len), len, bytes(pattern, pattern_len), pattern_len);
+    return osb_core_starts_with(bytes(at), len, bytes(pattern), pattern_len);
 }
 
 osb_status osb_ends_with(const char *at, size_t len, const char *pattern, size_t pattern_len) {
     if (is_bad(at, len) || is_bad(pattern, pattern_len)) return OSB_BAD_POINTER;
-    return osb_core_ends_with(bytes(at, len), len, bytes(pattern, pattern_len), pattern_len);
+    return osb_core_ends_with(bytes(at), len, bytes(pattern), pattern_len);
 }
 
 osb_status osb_starts_with_units(osb_platform platform, const char *at, size_t len,
                                  const char *prefix, size_t prefix_len) {
     if (is_bad(at, len) || is_bad(prefix, prefix_len)) return OSB_BAD_POINTER;
-    return osb_core_starts_with_units(platform, bytes(at, len), len, bytes(prefix, prefix_len),
-                                      prefix_len);
+    return osb_core_starts_with_units(platform, bytes(at), len, bytes(prefix), prefix_len);
 }
 
 osb_status osb_ends_with_units(osb_platform platform, const char *at, size_t len,
                                const char *suffix, size_t suffix_len) {
     if (is_bad(at, len) || is_bad(suffix, suffix_len)) return OSB_BAD_POINTER;
-    return osb_core_ends_with_units(platform, bytes(at, len), len, bytes(suffix, suffix_len),
-                                    suffix_len);
+    return osb_core_ends_with_units(platform, bytes(at), len, bytes(suffix), suffix_len);
 }
 
 osb_status osb_is_boundary(const char *at, size_t len, size_t index) {
     if (is_bad(at, len)) return OSB_BAD_POINTER;
-    return osb_core_is_boundary(bytes(at, len), len, index);
+    return osb_core_is_boundary(bytes(at), len, index);
 }
 
 osb_status osb_compare(const char *a, size_t a_len, const char *b, size_t b_len, int32_t *order) {
     if (order == NULL || is_bad(a, a_len) || is_bad(b, b_len)) return OSB_BAD_POINTER;
-    uint32_t number = osb_core_compare(bytes(a, a_len), a_len, bytes(b, b_len), b_len);
+    uint32_t number = osb_core_compare(bytes(a), a_len, bytes(b), b_len);
     *order = number == 0 ? 0 : number == 1 ? -1 : 1;
     return OSB_OK;
 }
@@ -337,10 +354,10 @@ static osb_status start_split(osb_split *split, const char *at, size_t len, cons
                               size_t pattern_len, size_t next) {
     struct core_piece own = {0, 0, false};
     if (split == NULL || is_bad(at, len) || is_bad(pattern, pattern_len)) return OSB_BAD_POINTER;
-    pattern = bytes(pattern, pattern_len);
+    pattern = bytes(pattern);
     osb_status status = osb_core_cut((const char *)nothing, 0, pattern, pattern_len, 0, &own);
     if (status == OSB_OK)
-        *split = (osb_split){{bytes(at, len), len}, {pattern, pattern_len}, next, 0};
+        *split = (osb_split){{bytes(at), len}, {pattern, pattern_len}, next, 0};
     return status;
 }
 
@@ -389,7 +406,7 @@ osb_status osb_rsplit_next(osb_split *split, osb_view *piece) {
 
 osb_status osb_chunks_start(osb_chunks *chunks, const char *at, size_t len) {
     if (chunks == NULL || is_bad(at, len)) return OSB_BAD_POINTER;
-    *chunks = (osb_chunks){{bytes(at, len), len}, 0};
+    *chunks = (osb_chunks){{bytes(at), len}, 0};
     return OSB_OK;
 }
 
@@ -411,7 +428,7 @@ osb_status osb_symbols_start(osb_symbols *symbols, osb_platform platform, const 
                              size_t len, osb_fault *fault) {
     if (symbols == NULL) return OSB_BAD_POINTER;
     osb_status status = osb_check(platform, at, len, fault);
-    if (status == OSB_OK) *symbols = (osb_symbols){{bytes(at, len), len}, 0, platform};
+    if (status == OSB_OK) *symbols = (osb_symbols){{bytes(at), len}, 0, platform};
     return status;
 }
 

@@ -2,7 +2,10 @@
  *
  * A string of Unix is any bytes, one of Windows is WTF-8 (its 16-bit code units, lone surrogates
  * too, as generalized UTF-8), one of wasm is UTF-8. Lengths and indices count bytes, if nothing
- * else is said. No string ends with a 0 byte, and each may contain one.
+ * else is said. A 0 byte is a byte like any other: no string is ended by one.
+ *
+ * The library is for Linux on x86-64 processors of level x86-64-v2 or later; an older one stops the
+ * program with SIGILL.
  *
  * No call keeps state, allocates memory or writes anything but what its arguments say. So every
  * call may run in any thread, and in a signal handler too, if no other thread writes to what it
@@ -14,13 +17,15 @@
  *     overlaps nothing else that the call is given;
  *   - an iterator or a checker was started by its own call, and its strings stay as they were.
  * What a call tests: a null pointer with a length, a length past PTRDIFF_MAX, units that aren't
- * aligned, a buffer that overlaps what is read (OSB_BAD_POINTER), and every value.
+ * aligned, a buffer that overlaps what is read (OSB_BAD_POINTER, which any call can answer and none
+ * lists), and every value but the bits, kind and value of a checker, which are taken as they are.
  * A null pointer with length 0 is the empty string, or no room.
  *
  * A call that writes into a buffer writes as far as there is room, and its count is what the whole
  * answer needs, with OSB_OK and with OSB_NO_ROOM alike: so with room 0 it is asked how much that
  * is, and the _bound calls give a room that is always enough. What the answer doesn't reach stays
- * as it is. With any other status the buffer's content isn't specified, and no count is written.
+ * as it is. An answer that is cut off may end within a character, a token or a surrogate pair. With
+ * any other status the buffer's content isn't specified, and no count is written.
  */
 #ifndef OSBYTES_H
 #define OSBYTES_H
@@ -33,8 +38,9 @@
 extern "C" {
 #endif
 
-/* The version of this header, 0.1.0, as one number. A library is another one if more than the last two digits
- * differ: compare OSB_VERSION / 100 with osb_version() / 100. */
+/* The version of this header, 0.1.0, as one number. The shared library's name has its first two parts, which change if
+ * a program that was compiled with the header before them no longer fits the library. osb_version() is that of the
+ * library: compare OSB_VERSION / 100 with osb_version() / 100. */
 #define OSB_VERSION 100
 uint32_t osb_version(void);
 
@@ -65,7 +71,11 @@ enum {
     OSB_BAD_POINTER = 32   /* null, too long, not aligned, or overlapping */
 };
 
-/* Bytes of the caller's. */
+/* What a status means, in English and ASCII, ended by a 0. It is never null, and stays. */
+const char *osb_status_text(osb_status status);
+
+/* Bytes of the caller's string. Where a call writes one, `at` is never null: a view of no bytes is
+ * where it would be in the string, or anywhere if that was a null pointer. */
 typedef struct osb_view {
     const char *at;
     size_t len;
@@ -88,7 +98,7 @@ typedef struct osb_fault {
 } osb_fault;
 
 /* Whether the bytes are a string of the platform: OSB_OK, OSB_FAULTY, OSB_BAD_PLATFORM. `fault`
- * may be null, here and in every other call; it is written with OSB_FAULTY alone. */
+ * may be null, here and in each call that writes one; it is written with OSB_FAULTY alone. */
 osb_status osb_check(osb_platform platform, const char *at, size_t len, osb_fault *fault);
 
 /* A check of bytes that come in pieces, for Windows. The fields are the library's. It holds no
@@ -113,7 +123,8 @@ osb_status osb_checker_finish(const osb_checker *checker, osb_fault *fault);
 #define OSB_FAULT_TEXT_ROOM 129
 
 /* Writes the text of a fault, in ASCII, and a 0 after it: OSB_OK, OSB_NO_ROOM, OSB_BAD_FAULT.
- * `*count` is the length of the text without the 0; with OSB_NO_ROOM `room` must be greater. */
+ * `fault` may not be null. `*count` is the length of the text without the 0, and `room` must be
+ * greater. With OSB_NO_ROOM the first room - 1 bytes of the text are written, and no 0. */
 osb_status osb_fault_text(const osb_fault *fault, char *out, size_t room, size_t *count);
 
 /* How many units a Windows string of so many bytes has at most. */
@@ -211,7 +222,8 @@ osb_status osb_split_start(osb_split *split, const char *at, size_t len, const c
                            size_t pattern_len);
 osb_status osb_rsplit_start(osb_split *split, const char *at, size_t len, const char *pattern,
                             size_t pattern_len);
-/* OSB_OK with the next piece, OSB_ENDED after the last. */
+/* OSB_OK with the next piece, OSB_ENDED after the last. Of an iterator that isn't as a call left
+ * it, or whose pattern has changed, OSB_BAD_INDEX or OSB_BAD_PATTERN. */
 osb_status osb_split_next(osb_split *split, osb_view *piece);
 osb_status osb_rsplit_next(osb_split *split, osb_view *piece);
 
@@ -229,7 +241,8 @@ typedef struct osb_chunk {
 
 /* OSB_OK. */
 osb_status osb_chunks_start(osb_chunks *chunks, const char *at, size_t len);
-/* OSB_OK with the next chunk, OSB_ENDED after the last. */
+/* OSB_OK with the next chunk, OSB_ENDED after the last. Of an iterator that isn't as a call left it,
+ * OSB_BAD_INDEX. */
 osb_status osb_chunks_next(osb_chunks *chunks, osb_chunk *chunk);
 
 /* The symbols of a string: its whole characters, and the units of what isn't text. The fields are
@@ -254,7 +267,8 @@ typedef struct osb_symbol {
 /* OSB_OK, OSB_FAULTY, OSB_BAD_PLATFORM. */
 osb_status osb_symbols_start(osb_symbols *symbols, osb_platform platform, const char *at,
                              size_t len, osb_fault *fault);
-/* OSB_OK with the next symbol, OSB_ENDED after the last. */
+/* OSB_OK with the next symbol, OSB_ENDED after the last. Of an iterator that isn't as a call left
+ * it, or whose string has changed, OSB_BAD_INDEX, OSB_BAD_PLATFORM or OSB_FAULTY. */
 osb_status osb_symbols_next(osb_symbols *symbols, osb_symbol *symbol);
 
 #ifdef __cplusplus

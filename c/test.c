@@ -101,6 +101,12 @@ static void texts(void) {
     EXPECT(strcmp(out, "invalid utf-8 sequence of 255 bytes from index 18446744073709551615") == 0);
     EXPECT(osb_fault_text(NULL, out, sizeof out, &count) == OSB_BAD_POINTER);
     EXPECT(osb_fault_text(&(osb_fault){3, 0, 0, 0}, NULL, 5, &count) == OSB_BAD_POINTER);
+    EXPECT(osb_fault_text(&(osb_fault){3, 0, 0, 0}, out, SIZE_MAX, &count) == OSB_BAD_POINTER);
+    EXPECT(osb_fault_text(&(osb_fault){3, 0, 0, 0}, out, (size_t)PTRDIFF_MAX + 1, &count) == OSB_BAD_POINTER);
+    /* one byte of the room is kept for the 0, which comes after a whole text alone */
+    memset(out, 0x55, sizeof out);
+    EXPECT(osb_fault_text(&(osb_fault){3, 0, 0, 0}, out, 6, &count) == OSB_NO_ROOM);
+    EXPECT(memcmp(out, "byte \x55", 6) == 0);
 }
 
 static void wide(void) {
@@ -140,7 +146,13 @@ static void wide(void) {
     EXPECT(osb_to_wide("a", SIZE_MAX, out, 8, &count, NULL) == OSB_BAD_POINTER);
     void *odd = (char *)out + 1;
     EXPECT(osb_to_wide(TEXT("a"), odd, 2, &count, NULL) == OSB_BAD_POINTER);
+    /* an overlap in the first half of the buffer, in the second, and input directly after it */
     EXPECT(osb_to_wide((char *)out + 3, 4, out, 4, &count, NULL) == OSB_BAD_POINTER);
+    EXPECT(osb_to_wide((char *)out + 5, 2, out, 4, &count, NULL) == OSB_BAD_POINTER);
+    EXPECT(osb_to_wide((char *)out + 7, 4, out, 4, &count, NULL) == OSB_BAD_POINTER);
+    memcpy(out + 4, "abcd", 4);
+    EXPECT(osb_to_wide((char *)(out + 4), 4, out, 4, &count, NULL) == OSB_OK && count == 4);
+    EXPECT(out[0] == 'a' && out[3] == 'd');
 }
 
 /* A text is a pattern where it's cut between characters, and no pattern where it's cut within one or
@@ -302,7 +314,6 @@ static void from_wide(void) {
     static const uint16_t units[] = {0x61, 0xE9, 0xD83D, 0xD83D, 0xDE00};
     static const char string[] = "a\xC3\xA9\xED\xA0\xBD\xF0\x9F\x98\x80";
     size_t count = 0;
-    EXPECT(osb_bytes_bound(5) == 15 && osb_bytes_bound(SIZE_MAX) == SIZE_MAX);
     /* from three bytes a unit on there is surely room */
     for (size_t room = 0; room < 18; room++) {
         char *out = malloc(room + 1);
@@ -324,6 +335,9 @@ static void from_wide(void) {
     void *odd = (char *)same + 1;
     EXPECT(osb_from_wide(odd, 1, out, 8, &count) == OSB_BAD_POINTER);
     EXPECT(osb_from_wide(same, 4, (char *)same + 7, 1, &count) == OSB_BAD_POINTER);
+    EXPECT(osb_from_wide(units, 1, out, SIZE_MAX, &count) == OSB_BAD_POINTER);
+    EXPECT(osb_from_wide(same, 1, (char *)(same + 1), 2, &count) == OSB_OK && count == 1);
+    EXPECT(osb_from_wide(same + 2, 2, (char *)same, 4, &count) == OSB_OK && count == 2);
 }
 
 static bool lossy(osb_platform platform, const char *at, size_t len, const char *text, size_t text_len) {
@@ -382,11 +396,31 @@ static void faults(void) {
     }
 }
 
+/* What is read may be directly before the buffer, and directly after it. */
+static void apart(to_text *call) {
+    char out[8] = "abcdefgh";
+    size_t count = 7;
+    EXPECT(call(OSB_UNIX, out, 4, out + 4, 4, &count, NULL) == OSB_OK && count == 4);
+    EXPECT(memcmp(out, "abcdabcd", 8) == 0);
+    memcpy(out, "abcdefgh", 8);
+    EXPECT(call(OSB_UNIX, out + 4, 4, out, 4, &count, NULL) == OSB_OK && count == 4);
+    EXPECT(memcmp(out, "efghefgh", 8) == 0);
+    EXPECT(call(OSB_UNIX, out, 4, out + 4, SIZE_MAX, &count, NULL) == OSB_BAD_POINTER);
+}
+
+/* On Unix nothing is read of a string that is too long, so one can be asked for that isn't there. */
+static void too_long(to_text *call, size_t len) {
+    osb_fault fault = {9, 9, 9, 9};
+    size_t count = 7;
+    EXPECT(call(OSB_UNIX, "a", len, NULL, 0, &count, &fault) == OSB_TOO_LONG);
+    EXPECT(call(OSB_UNIX, "a", PTRDIFF_MAX, NULL, 0, &count, &fault) == OSB_TOO_LONG);
+    EXPECT(count == 7 && fault.kind == 9 && fault.value == 9 && fault.place == 9 && fault.count == 9);
+}
+
 static void lossies(void) {
     char out[8];
     size_t count = 7;
     osb_fault fault = {9, 9, 9, 9};
-    EXPECT(osb_lossy_bound(5) == 15 && osb_lossy_bound(SIZE_MAX) == SIZE_MAX);
     EXPECT(lossy(OSB_UNIX, TEXT("a\xE2\x82" "b\xFF"), TEXT("a\xEF\xBF\xBD" "b\xEF\xBF\xBD")));
     EXPECT(lossy(OSB_WINDOWS, TEXT("a\xED\xA0\x80" "b"), TEXT("a\xEF\xBF\xBD" "b")));
     EXPECT(lossy(OSB_WASM, TEXT("a\xC3\xA9"), TEXT("a\xC3\xA9")));
@@ -400,6 +434,42 @@ static void lossies(void) {
     EXPECT(osb_lossy(OSB_UNIX, TEXT("a"), NULL, 8, &count, NULL) == OSB_BAD_POINTER);
     EXPECT(osb_lossy(OSB_UNIX, TEXT("a"), out, 8, NULL, NULL) == OSB_BAD_POINTER);
     EXPECT(osb_lossy(OSB_UNIX, out, 4, out + 3, 4, &count, NULL) == OSB_BAD_POINTER);
+    apart(osb_lossy);
+    too_long(osb_lossy, SIZE_MAX / 3 + 1);
+}
+
+/* A call that tests a prefix or a suffix by units. */
+typedef osb_status with_units(osb_platform, const char *, size_t, const char *, size_t);
+
+/* Either string may be none, also where the other is empty, or isn't one either. */
+static void faulty_units(with_units *call) {
+    static const struct {
+        osb_platform platform;
+        const char *at;
+        size_t len;
+    } bad[] = {
+        {OSB_WINDOWS, TEXT("\xC0")},
+        {OSB_WINDOWS, TEXT("a\xE2\x82" "a")},
+        {OSB_WINDOWS, TEXT("\xED\xA0\x80\xED\xB0\x80")},
+        {OSB_WASM, TEXT("\x80")},
+        {OSB_WASM, TEXT("a\xC0" "a")},
+        {OSB_WASM, TEXT("\xED\xA0\x80")},
+    };
+    for (size_t i = 0; i < sizeof bad / sizeof *bad; i++) {
+        osb_platform platform = bad[i].platform;
+        const char *at = bad[i].at;
+        size_t len = bad[i].len;
+        EXPECT(call(platform, at, len, TEXT("a")) == OSB_FAULTY);
+        EXPECT(call(platform, at, len, TEXT("b")) == OSB_FAULTY);
+        EXPECT(call(platform, at, len, TEXT("")) == OSB_FAULTY);
+        EXPECT(call(platform, at, len, NULL, 0) == OSB_FAULTY);
+        EXPECT(call(platform, TEXT("a"), at, len) == OSB_FAULTY);
+        EXPECT(call(platform, TEXT(""), at, len) == OSB_FAULTY);
+        EXPECT(call(platform, at, len, at, len) == OSB_FAULTY);
+        EXPECT(call(OSB_UNIX, at, len, at, len) == OSB_OK);
+        EXPECT(call(platform, TEXT("a"), TEXT("")) == OSB_OK);
+        EXPECT(call(platform, TEXT(""), TEXT("a")) == OSB_NONE);
+    }
 }
 
 static void edges(void) {
@@ -448,6 +518,8 @@ static void edges(void) {
     EXPECT(osb_ends_with_units(3, halves, 4, TEXT("a")) == OSB_BAD_PLATFORM);
     EXPECT(osb_ends_with_units(OSB_UNIX, NULL, 1, TEXT("a")) == OSB_BAD_POINTER);
     EXPECT(osb_ends_with_units(OSB_UNIX, TEXT("a"), NULL, 1) == OSB_BAD_POINTER);
+    faulty_units(osb_starts_with_units);
+    faulty_units(osb_ends_with_units);
     for (size_t i = 0; i < 7; i++)
         EXPECT(osb_is_boundary(TEXT("\x80\xC3\xA9" "a\xFF"), i) == (i == 2 || i > 5 ? OSB_NONE : OSB_OK));
     EXPECT(osb_is_boundary(NULL, 0, 0) == OSB_OK && osb_is_boundary(NULL, 1, 0) == OSB_BAD_POINTER);
@@ -462,6 +534,8 @@ static void edges(void) {
     EXPECT(osb_check(OSB_UNIX, "a", SIZE_MAX, NULL) == OSB_BAD_POINTER);
     EXPECT(osb_check(OSB_UNIX, "a", (size_t)PTRDIFF_MAX + 1, NULL) == OSB_BAD_POINTER);
     EXPECT(osb_check(OSB_UNIX, NULL, 1, NULL) == OSB_BAD_POINTER);
+    /* past the last address; on Unix nothing is read */
+    EXPECT(osb_check(OSB_UNIX, (const char *)(UINTPTR_MAX - 7), 8, NULL) == OSB_BAD_POINTER);
     EXPECT(osb_check(OSB_UNIX, NULL, 0, NULL) == OSB_OK);
 }
 
@@ -517,6 +591,47 @@ static void symbols(void) {
     EXPECT(osb_symbols_next(&symbols, &symbol) == OSB_FAULTY && symbol.kind == 9);
 }
 
+/* Each view is of the caller's string, the empty ones too, also of the empty string. */
+static void views(void) {
+    static const char text[] = ",a,,\xFF" "b\xC3\xA9\xFF,";
+    for (size_t len = 0; len < sizeof text; len++) {
+        osb_split split;
+        osb_view piece;
+        osb_chunks chunks;
+        osb_chunk chunk;
+        osb_symbols symbols;
+        osb_symbol symbol;
+        size_t at = 0;
+        EXPECT(osb_split_start(&split, text, len, TEXT(",")) == OSB_OK);
+        for (; osb_split_next(&split, &piece) == OSB_OK; at += piece.len + 1)
+            EXPECT(piece.at == text + at);
+        EXPECT(at == len + 1);
+        EXPECT(osb_rsplit_start(&split, text, len, TEXT(",")) == OSB_OK);
+        for (; osb_rsplit_next(&split, &piece) == OSB_OK; at -= piece.len + 1)
+            EXPECT(piece.at + piece.len + 1 == text + at);
+        EXPECT(at == 0);
+        EXPECT(osb_chunks_start(&chunks, text, len) == OSB_OK);
+        for (; osb_chunks_next(&chunks, &chunk) == OSB_OK; at += chunk.text.len) {
+            EXPECT(chunk.part.at == text + at);
+            at += chunk.part.len;
+            EXPECT(chunk.text.at == text + at);
+        }
+        EXPECT(at == len);
+        EXPECT(osb_symbols_start(&symbols, OSB_UNIX, text, len, NULL) == OSB_OK);
+        for (at = 0; osb_symbols_next(&symbols, &symbol) == OSB_OK; at += symbol.bytes.len)
+            EXPECT(symbol.bytes.at == text + at);
+        EXPECT(at == len);
+    }
+    /* a string without a pointer is somewhere, too */
+    osb_split split;
+    osb_view piece = {NULL, 9};
+    EXPECT(osb_split_start(&split, NULL, 0, TEXT(",")) == OSB_OK);
+    EXPECT(osb_split_next(&split, &piece) == OSB_OK && piece.at != NULL && piece.len == 0);
+    piece = (osb_view){NULL, 9};
+    EXPECT(osb_rsplit_start(&split, NULL, 0, TEXT(",")) == OSB_OK);
+    EXPECT(osb_rsplit_next(&split, &piece) == OSB_OK && piece.at != NULL && piece.len == 0);
+}
+
 /* The string's escape, in every room. */
 static bool escaped(to_text *escape, osb_platform platform, const char *at, size_t len,
                     const char *text, size_t text_len) {
@@ -548,7 +663,6 @@ static void bad_escapes(to_text *escape) {
 
 static void escapes(void) {
     to_text *line = osb_escape_line;
-    EXPECT(osb_escape_bound(5) == 30 && osb_escape_bound(SIZE_MAX) == SIZE_MAX);
     EXPECT(escaped(osb_escape, OSB_UNIX, TEXT("a\n\\\x80\xFF"), TEXT("a\n\\\\\\x80\\xFF")));
     EXPECT(escaped(osb_escape, OSB_WINDOWS, TEXT("a\xED\xA0\x80" "b"), TEXT("a\\uD800b")));
     EXPECT(escaped(osb_escape, OSB_WASM, TEXT("\\\xC3\xA9"), TEXT("\\\\\xC3\xA9")));
@@ -559,6 +673,29 @@ static void escapes(void) {
     EXPECT(escaped(line, OSB_WASM, NULL, 0, NULL, 0));
     bad_escapes(osb_escape);
     bad_escapes(line);
+    apart(osb_escape);
+    apart(line);
+    too_long(osb_escape, SIZE_MAX / 6 + 1);
+    too_long(line, SIZE_MAX / 6 + 1);
+}
+
+/* The least bound is a number of items for each item, and SIZE_MAX where that is greater. */
+static bool is_bound(size_t (*bound)(size_t), size_t each) {
+    for (size_t parts = 1; parts <= each; parts++) {
+        size_t len = SIZE_MAX / parts;
+        if (bound(len) != (parts < each ? SIZE_MAX : each * len)) return false;
+        if (bound(len - 1) != (parts < each ? SIZE_MAX : each * (len - 1))) return false;
+        if (parts > 1 && bound(len + 1) != SIZE_MAX) return false;
+    }
+    return bound(0) == 0 && bound(1) == each && bound(5) == 5 * each;
+}
+
+static void bounds(void) {
+    EXPECT(is_bound(osb_wide_bound, 1));
+    EXPECT(is_bound(osb_bytes_bound, 3));
+    EXPECT(is_bound(osb_lossy_bound, 3));
+    EXPECT(is_bound(osb_escape_bound, 6));
+    EXPECT(is_bound(osb_unescape_bound, 1));
 }
 
 /* A call that writes the string with an escape. */
@@ -607,6 +744,8 @@ static void bad_strings(to_string *unescape) {
     EXPECT(count == 7 && index == 7 && memcmp(out, "abcdefgh", 8) == 0);
     EXPECT(unescape(OSB_UNIX, out, 3, out + 3, 5, &count, &index) == OSB_OK && count == 3);
     EXPECT(memcmp(out, "abcabcgh", 8) == 0);
+    EXPECT(unescape(OSB_UNIX, out + 5, 3, out, 5, &count, &index) == OSB_OK && count == 3);
+    EXPECT(memcmp(out, "cghabcgh", 8) == 0);
     /* Without room it isn't known yet that no string has it. */
     EXPECT(unescape(OSB_UNIX, TEXT("\\x41"), out, 0, &count, &index) == OSB_NO_ROOM && count == 1);
     EXPECT(unescape(OSB_UNIX, TEXT("\\"), NULL, 0, &count, &index) == OSB_BAD_ESCAPE);
@@ -639,7 +778,6 @@ static void unescapes(void) {
     byte_among_others(line);
     EXPECT(unread(plain, OSB_UNIX, TEXT("\\xFF\xC3\\x28"), OSB_BAD_PATTERN, 7));
     EXPECT(unread(line, OSB_WINDOWS, TEXT("\\uD83D\xF0\x9F\x98"), OSB_BAD_PATTERN, 7));
-    EXPECT(osb_unescape_bound(5) == 5 && osb_unescape_bound(SIZE_MAX) == SIZE_MAX);
     EXPECT(unescaped(plain, OSB_UNIX, TEXT("a\n\\\\\\x80\\xFF"), TEXT("a\n\\\x80\xFF")));
     EXPECT(unescaped(plain, OSB_WINDOWS, TEXT("a\\uD800b"), TEXT("a\xED\xA0\x80" "b")));
     EXPECT(unescaped(plain, OSB_WASM, TEXT("\\\\\xC3\xA9"), TEXT("\\\xC3\xA9")));
@@ -665,11 +803,29 @@ static void unescapes(void) {
     bad_strings(line);
 }
 
+/* Each status has a text of its own, and all that are none have one. */
+static void status_texts(void) {
+    static const osb_status all[] = {
+        OSB_OK, OSB_FAULTY, OSB_NO_ROOM, OSB_NONE, OSB_ENDED, OSB_BAD_ESCAPE, OSB_NO_STRING,
+        OSB_BAD_PLATFORM, OSB_BAD_PATTERN, OSB_BAD_INDEX, OSB_BAD_FAULT, OSB_BAD_STATE, OSB_TOO_LONG,
+        OSB_BAD_POINTER, 7,
+    };
+    size_t count = sizeof all / sizeof *all;
+    for (size_t i = 0; i < count; i++)
+        for (size_t j = 0; j < count; j++)
+            EXPECT((strcmp(osb_status_text(all[i]), osb_status_text(all[j])) == 0) == (i == j));
+    EXPECT(strcmp(osb_status_text(0xFFFFFFFF), osb_status_text(7)) == 0);
+    EXPECT(strcmp(osb_status_text(OSB_TOO_LONG), "the string is too long") == 0);
+}
+
 int main(void) {
     checks();
     escapes();
     unescapes();
     symbols();
+    views();
+    bounds();
+    status_texts();
     checkers();
     from_wide();
     faults();

@@ -1,5 +1,5 @@
 -- One step of an iterator, which knows only an index.
-use Rattle.std.specs.Prelude.{◌≡◌, ◌⊎◌, ℕ, ◌≤◌, ◌<◌, true, false, List, [], ◌∷◌, length, take, drop}
+use Rattle.std.specs.Prelude.{◌≡◌, ◌⊎◌, ℕ, zero, suc, ◌≤◌, ◌<◌, true, false, List, [], ◌∷◌, length, take, drop}
 use Rattle.std.specs.Str.{IsUtf8}
 use Rattle.wtf8_core.specs.Standing.{StandsNowhere, IsFirstPlace, IsLastPlace}
 use Rattle.wtf8_core.specs.Pieces.{SplitsAt}
@@ -7,6 +7,7 @@ use Rattle.wtf8_core.specs.Chunks.{Chunk, AreChunks}
 use Rattle.osbytes_c.specs.declared.split.Piece.{Piece}
 use Rattle.wtf8_core.specs.UnitsOf.{units_of}
 use Rattle.wtf8_core.specs.Wtf8.{IsWtf8}
+use Rattle.wtf8_core.specs.Covered.{StartsWithNoCharacter}
 use Rattle.os_str_ext.specs.Parts.{unit_number}
 use Rattle.os_str_ext.specs.Symbols.{AreSymbols}
 use Rattle.os_str_ext.specs.declared.symbols.Symbol.{Symbol}
@@ -74,3 +75,10 @@ pub record IsSurrogateFront (s : List ℕ) (unit : ℕ) : Type 0 where
   pub within : 3 ≤ length s
   pub formed : IsWtf8 (take 3 s)
   pub units_are : units_of (take 3 s) ≡ unit ∷ []
+
+-- bytes that aren't empty begin with no symbol of the platform: on Windows with no whole character and no form of a surrogate, on wasm with no whole character
+abbrev pub StartsWithNoSymbol : ℕ → List ℕ → Type 0
+StartsWithNoSymbol zero s = ⊥
+StartsWithNoSymbol (suc zero) s = StartsWithNoCharacter s × ((unit : ℕ) → ¬ (IsSurrogateFront s unit))
+StartsWithNoSymbol (suc (suc zero)) s = StartsWithNoCharacter s
+StartsWithNoSymbol (suc (suc (suc n))) s = ⊥

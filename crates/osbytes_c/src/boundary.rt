@@ -9,9 +9,9 @@ use os_str_ext::OsStrBytesExt;
 /// Whether a string of any platform may be cut at the index.
 #[unsafe(no_mangle)]
 pub extern "C" fn osb_core_is_boundary(bytes: &[u8], index: usize) -> u32
-    ensures is { result ≡ DONE → IsBoundary bytes.now index }
-    ensures none { result ≡ NONE → ¬ (IsBoundary bytes.now index) }
-    ensures answers { (result ≡ DONE) ⊎ (result ≡ NONE) }
+    ensures is { result ≡ 0 → IsBoundary bytes.now index }
+    ensures none { result ≡ 3 → ¬ (IsBoundary bytes.now index) }
+    ensures answers { (result ≡ 0) ⊎ (result ≡ 3) }
 {
     if unix(bytes).is_boundary(index) {
         DONE

@@ -1,5 +1,5 @@
 //! The check of bytes, and their first fault.
-ghost use Rattle.std.specs.Prelude.{◌≡◌, ◌<◌, ◌↔◌, ◌⊎◌};
+ghost use Rattle.std.specs.Prelude.{◌≡◌, ◌≢◌, ◌<◌, ◌↔◌, ◌⊎◌};
 ghost use Rattle.std.specs.Str.{IsUtf8};
 ghost use Rattle.wtf8_core.specs.Wtf8.{IsWtf8};
 ghost use Rattle.platform_str.specs.platforms.Windows.{IsWtf8Fault};
@@ -14,10 +14,11 @@ use wtf8_core::{EncodingError, utf8_fault, wtf8_fault};
 /// fault is their first one, and else as it was.
 #[unsafe(no_mangle)]
 pub extern "C" fn osb_core_check(platform: u32, bytes: &[u8], fault: &mut Fault) -> u32
-    ensures string { result ≡ DONE → IsString platform bytes.now × (fault.new ≡ fault.old) }
-    ensures fault { result ≡ FAULTY → IsReport platform bytes.now fault.new }
-    ensures platform { (result ≡ NO_PLATFORM) ↔ (2 < platform) }
-    ensures answers { (result ≡ DONE) ⊎ ((result ≡ FAULTY) ⊎ (result ≡ NO_PLATFORM)) }
+    ensures string { (result ≡ 0) ↔ IsString platform bytes.now }
+    ensures fault { result ≡ 1 → IsReport platform bytes.now fault.new }
+    ensures kept { result ≢ 1 → fault.new ≡ fault.old }
+    ensures platform { (result ≡ 16) ↔ (2 < platform) }
+    ensures answers { (result ≡ 0) ⊎ ((result ≡ 1) ⊎ (result ≡ 16)) }
 {
     match platform {
         0 => DONE,
@@ -29,9 +30,10 @@ pub extern "C" fn osb_core_check(platform: u32, bytes: &[u8], fault: &mut Fault)
 
 /// The same on Windows.
 pub(crate) fn check_wtf8(bytes: &[u8], fault: &mut Fault) -> u32
-    ensures string { result ≡ DONE → IsWtf8 bytes.now × (fault.new ≡ fault.old) }
-    ensures fault { result ≡ FAULTY → IsWtf8Report bytes.now fault.new }
-    ensures answers { (result ≡ DONE) ⊎ (result ≡ FAULTY) }
+    ensures string { (result ≡ 0) ↔ IsWtf8 bytes.now }
+    ensures fault { result ≡ 1 → IsWtf8Report bytes.now fault.new }
+    ensures kept { result ≢ 1 → fault.new ≡ fault.old }
+    ensures answers { (result ≡ 0) ⊎ (result ≡ 1) }
 {
     match Windows::check(bytes) {
         Ok(()) => DONE,
@@ -62,9 +64,10 @@ pub(crate) fn report_wtf8(bytes: &[u8], error: EncodingError, fault: &mut Fault)
 
 /// The same on wasm.
 pub(crate) fn check_utf8(bytes: &[u8], fault: &mut Fault) -> u32
-    ensures string { result ≡ DONE → IsUtf8 bytes.now × (fault.new ≡ fault.old) }
-    ensures fault { result ≡ FAULTY → IsUtf8Report bytes.now fault.new }
-    ensures answers { (result ≡ DONE) ⊎ (result ≡ FAULTY) }
+    ensures string { (result ≡ 0) ↔ IsUtf8 bytes.now }
+    ensures fault { result ≡ 1 → IsUtf8Report bytes.now fault.new }
+    ensures kept { result ≢ 1 → fault.new ≡ fault.old }
+    ensures answers { (result ≡ 0) ⊎ (result ≡ 1) }
 {
     let Some((place, len)) = utf8_fault(bytes) else {
         return DONE;

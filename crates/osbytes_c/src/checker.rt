@@ -1,5 +1,5 @@
 //! The check of bytes that come in pieces, for Windows.
-ghost use Rattle.std.specs.Prelude.{◌≡◌, ◌<◌, ◌≤◌, ◌↔◌, ◌⊎◌, ◌++◌, ℕ, List, [], MatchOption};
+ghost use Rattle.std.specs.Prelude.{◌≡◌, ◌≢◌, ◌<◌, ◌≤◌, ◌↔◌, ◌⊎◌, ◌++◌, ℕ, List, [], MatchOption};
 ghost use Rattle.wtf8_core.specs.Wtf8.{IsWtf8};
 ghost use Rattle.wtf8_core.specs.Checker.{saved_progress};
 ghost use Rattle.wtf8_core.specs.declared.checker.SavedChecker.{SavedChecker};
@@ -31,12 +31,13 @@ pub extern "C" fn osb_core_start(opened: &mut Open)
 /// answer, and nothing else is written; a check that found one isn't to be fed again.
 #[unsafe(no_mangle)]
 pub extern "C" fn osb_core_feed(opened: &mut Open, piece: &[u8], fault: &mut Fault) -> u32
-    ensures stands { result ≡ DONE → (fed : List ℕ) → StandsFor opened.old fed
+    ensures stands { result ≡ 0 → (fed : List ℕ) → StandsFor opened.old fed
         → StandsFor opened.new (fed ++ piece.now) }
-    ensures fault { result ≡ FAULTY → (fed : List ℕ) → StandsFor opened.old fed
+    ensures fault { result ≡ 1 → (fed : List ℕ) → StandsFor opened.old fed
         → ReportsFaulty (fed ++ piece.now) fault.new }
-    ensures state { (result ≡ NO_STATE) ↔ (16 ≤ opened.old.state) }
-    ensures answers { (result ≡ DONE) ⊎ ((result ≡ FAULTY) ⊎ (result ≡ NO_STATE)) }
+    ensures kept { result ≢ 0 → opened.new ≡ opened.old }
+    ensures state { (result ≡ 20) ↔ (16 ≤ opened.old.state) }
+    ensures answers { (result ≡ 0) ⊎ ((result ≡ 1) ⊎ (result ≡ 20)) }
 {
     let Some(mut checker) = restored(*opened) else {
         return NO_STATE;
@@ -61,11 +62,11 @@ pub extern "C" fn osb_core_feed(opened: &mut Open, piece: &[u8], fault: &mut Fau
 /// Whether all the bytes that were fed are WTF-8.
 #[unsafe(no_mangle)]
 pub extern "C" fn osb_core_finish(opened: &Open, fault: &mut Fault) -> u32
-    ensures string { result ≡ DONE → (fed : List ℕ) → StandsFor opened.now fed → IsWtf8 fed }
-    ensures fault { result ≡ FAULTY → (fed : List ℕ) → StandsFor opened.now fed
+    ensures string { result ≡ 0 → (fed : List ℕ) → StandsFor opened.now fed → IsWtf8 fed }
+    ensures fault { result ≡ 1 → (fed : List ℕ) → StandsFor opened.now fed
         → ReportsFirst fed fault.new }
-    ensures state { (result ≡ NO_STATE) ↔ (16 ≤ opened.now.state) }
-    ensures answers { (result ≡ DONE) ⊎ ((result ≡ FAULTY) ⊎ (result ≡ NO_STATE)) }
+    ensures state { (result ≡ 20) ↔ (16 ≤ opened.now.state) }
+    ensures answers { (result ≡ 0) ⊎ ((result ≡ 1) ⊎ (result ≡ 20)) }
 {
     let Some(checker) = restored(*opened) else {
         return NO_STATE;

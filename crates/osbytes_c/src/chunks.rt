@@ -19,10 +19,10 @@ pub struct Ends {
 /// The first chunk of what comes after an index.
 #[unsafe(no_mangle)]
 pub extern "C" fn osb_core_chunk(bytes: &[u8], at: usize, ends: &mut Ends) -> u32
-    ensures chunk { result ≡ DONE → IsChunkAt bytes.now at ends.new }
-    ensures index { (result ≡ NO_INDEX) ↔ (length bytes.now < at) }
-    ensures ended { (result ≡ ENDED) ↔ (at ≡ length bytes.now) }
-    ensures answers { (result ≡ DONE) ⊎ ((result ≡ NO_INDEX) ⊎ (result ≡ ENDED)) }
+    ensures chunk { result ≡ 0 → IsChunkAt bytes.now at ends.new }
+    ensures index { (result ≡ 18) ↔ (length bytes.now < at) }
+    ensures ended { (result ≡ 4) ↔ (at ≡ length bytes.now) }
+    ensures answers { (result ≡ 0) ⊎ ((result ≡ 18) ⊎ (result ≡ 4)) }
 {
     if at > bytes.len() {
         return NO_INDEX;

@@ -3,7 +3,7 @@ ghost use Rattle.std.specs.Prelude.{◌≡◌, ◌⊎◌, ◌≤◌, ◌<◌, �
 ghost use Rattle.platform_str.specs.Strings.{bytes};
 ghost use Rattle.os_quote.specs.Escape.{IsEscape, IsLineEscape};
 ghost use Rattle.osbytes_c.specs.Answers.{Writes};
-ghost use Rattle.osbytes_c.specs.Faults.{IsReport};
+ghost use Rattle.osbytes_c.specs.Faults.{IsString, IsReport};
 ghost use Rattle.osbytes_c.specs.Platforms.{units_on};
 
 use crate::fault::Fault;
@@ -23,15 +23,17 @@ pub extern "C" fn osb_core_escape(
     count: &mut usize,
     fault: &mut Fault,
 ) -> u32
-    ensures done { result ≡ DONE → Writes (IsEscape (units_on platform) bytes.now) out.old out.new
+    ensures done { result ≡ 0 → Writes (IsEscape (units_on platform) bytes.now) out.old out.new
         count.new × (count.new ≤ length out.old) }
-    ensures room { result ≡ NO_ROOM → Writes (IsEscape (units_on platform) bytes.now) out.old
+    ensures room { result ≡ 2 → Writes (IsEscape (units_on platform) bytes.now) out.old
         out.new count.new × (length out.old < count.new) }
-    ensures fault { result ≡ FAULTY → IsReport platform bytes.now fault.new }
-    ensures long { result ≡ TOO_LONG → usize.MAX < 6 * length bytes.now }
-    ensures platform { (result ≡ NO_PLATFORM) ↔ (2 < platform) }
-    ensures answers { (result ≡ DONE) ⊎ ((result ≡ NO_ROOM) ⊎ ((result ≡ FAULTY)
-        ⊎ ((result ≡ TOO_LONG) ⊎ (result ≡ NO_PLATFORM)))) }
+    ensures fault { result ≡ 1 → IsReport platform bytes.now fault.new }
+    ensures string { (result ≡ 0) ⊎ (result ≡ 2) → IsString platform bytes.now }
+    ensures long { (result ≡ 21) ↔ (IsString platform bytes.now
+        × (usize.MAX < 6 * length bytes.now)) }
+    ensures platform { (result ≡ 16) ↔ (2 < platform) }
+    ensures answers { (result ≡ 0) ⊎ ((result ≡ 2) ⊎ ((result ≡ 1)
+        ⊎ ((result ≡ 21) ⊎ (result ≡ 16)))) }
 {
     match platform {
         0 => escape(unix(bytes), out, count),
@@ -56,15 +58,17 @@ pub extern "C" fn osb_core_escape_line(
     count: &mut usize,
     fault: &mut Fault,
 ) -> u32
-    ensures done { result ≡ DONE → Writes (IsLineEscape (units_on platform) bytes.now) out.old
+    ensures done { result ≡ 0 → Writes (IsLineEscape (units_on platform) bytes.now) out.old
         out.new count.new × (count.new ≤ length out.old) }
-    ensures room { result ≡ NO_ROOM → Writes (IsLineEscape (units_on platform) bytes.now) out.old
+    ensures room { result ≡ 2 → Writes (IsLineEscape (units_on platform) bytes.now) out.old
         out.new count.new × (length out.old < count.new) }
-    ensures fault { result ≡ FAULTY → IsReport platform bytes.now fault.new }
-    ensures long { result ≡ TOO_LONG → usize.MAX < 6 * length bytes.now }
-    ensures platform { (result ≡ NO_PLATFORM) ↔ (2 < platform) }
-    ensures answers { (result ≡ DONE) ⊎ ((result ≡ NO_ROOM) ⊎ ((result ≡ FAULTY)
-        ⊎ ((result ≡ TOO_LONG) ⊎ (result ≡ NO_PLATFORM)))) }
+    ensures fault { result ≡ 1 → IsReport platform bytes.now fault.new }
+    ensures string { (result ≡ 0) ⊎ (result ≡ 2) → IsString platform bytes.now }
+    ensures long { (result ≡ 21) ↔ (IsString platform bytes.now
+        × (usize.MAX < 6 * length bytes.now)) }
+    ensures platform { (result ≡ 16) ↔ (2 < platform) }
+    ensures answers { (result ≡ 0) ⊎ ((result ≡ 2) ⊎ ((result ≡ 1)
+        ⊎ ((result ≡ 21) ⊎ (result ≡ 16)))) }
 {
     match platform {
         0 => escape_line(unix(bytes), out, count),
@@ -82,12 +86,12 @@ pub extern "C" fn osb_core_escape_line(
 
 /// The escape of a string.
 fn escape<E: Platform>(string: OsStr<'_, E>, out: &mut [u8], count: &mut usize) -> u32
-    ensures done { result ≡ DONE → Writes (IsEscape E.units (bytes string.entry)) out.old
+    ensures done { result ≡ 0 → Writes (IsEscape E.units (bytes string.entry)) out.old
         out.new count.new × (count.new ≤ length out.old) }
-    ensures room { result ≡ NO_ROOM → Writes (IsEscape E.units (bytes string.entry)) out.old
+    ensures room { result ≡ 2 → Writes (IsEscape E.units (bytes string.entry)) out.old
         out.new count.new × (length out.old < count.new) }
-    ensures long { result ≡ TOO_LONG → usize.MAX < 6 * length (bytes string.entry) }
-    ensures answers { (result ≡ DONE) ⊎ ((result ≡ NO_ROOM) ⊎ (result ≡ TOO_LONG)) }
+    ensures long { (result ≡ 21) ↔ (usize.MAX < 6 * length (bytes string.entry)) }
+    ensures answers { (result ≡ 0) ⊎ ((result ≡ 2) ⊎ (result ≡ 21)) }
 {
     if string.len() > usize::MAX / 6 {
         return TOO_LONG;
@@ -99,12 +103,12 @@ fn escape<E: Platform>(string: OsStr<'_, E>, out: &mut [u8], count: &mut usize) 
 
 /// The escape on one line.
 fn escape_line<E: Platform>(string: OsStr<'_, E>, out: &mut [u8], count: &mut usize) -> u32
-    ensures done { result ≡ DONE → Writes (IsLineEscape E.units (bytes string.entry)) out.old
+    ensures done { result ≡ 0 → Writes (IsLineEscape E.units (bytes string.entry)) out.old
         out.new count.new × (count.new ≤ length out.old) }
-    ensures room { result ≡ NO_ROOM → Writes (IsLineEscape E.units (bytes string.entry)) out.old
+    ensures room { result ≡ 2 → Writes (IsLineEscape E.units (bytes string.entry)) out.old
         out.new count.new × (length out.old < count.new) }
-    ensures long { result ≡ TOO_LONG → usize.MAX < 6 * length (bytes string.entry) }
-    ensures answers { (result ≡ DONE) ⊎ ((result ≡ NO_ROOM) ⊎ (result ≡ TOO_LONG)) }
+    ensures long { (result ≡ 21) ↔ (usize.MAX < 6 * length (bytes string.entry)) }
+    ensures answers { (result ≡ 0) ⊎ ((result ≡ 2) ⊎ (result ≡ 21)) }
 {
     if string.len() > usize::MAX / 6 {
         return TOO_LONG;

@@ -14,12 +14,12 @@ use wtf8_core::{EncodingError, code_point_digits, push_truncated, upper_hex_digi
 /// Writes the text of a fault into `out`, as far as there is room, and counts its bytes.
 #[unsafe(no_mangle)]
 pub extern "C" fn osb_core_fault_text(fault: &Fault, out: &mut [u8], count: &mut usize) -> u32
-    ensures done { result ≡ DONE → Writes (IsTextOf fault.now) out.old out.new count.new
+    ensures done { result ≡ 0 → Writes (IsTextOf fault.now) out.old out.new count.new
         × (count.new ≤ length out.old) }
-    ensures room { result ≡ NO_ROOM → Writes (IsTextOf fault.now) out.old out.new count.new
+    ensures room { result ≡ 2 → Writes (IsTextOf fault.now) out.old out.new count.new
         × (length out.old < count.new) }
-    ensures none { result ≡ NO_FAULT → (error : EncodingError) → ¬ (Names fault.now error) }
-    ensures answers { (result ≡ DONE) ⊎ ((result ≡ NO_ROOM) ⊎ (result ≡ NO_FAULT)) }
+    ensures none { result ≡ 19 → (error : EncodingError) → ¬ (Names fault.now error) }
+    ensures answers { (result ≡ 0) ⊎ ((result ≡ 2) ⊎ (result ≡ 19)) }
 {
     let Some(error) = error_of(*fault) else {
         return NO_FAULT;

@@ -3,7 +3,7 @@
 //! [`lossy`] lossy texts, [`escapes`] and [`unescapes`] escapes and back, [`search`] searches,
 //! [`prefix`] prefixes and suffixes by units, [`boundary`] where strings may be cut, [`compare`]
 //! their order, and one step of each iterator: [`split`], [`chunks`] and [`symbols`]. [`laws`] says
-//! what whole walks give.
+//! what whole walks give, and [`uses`] concludes from it.
 //!
 //! A slice crosses as a pointer and a length. Each export takes any values: a platform, a pattern,
 //! an index or a fault that there isn't is answered by a status ([`status`]), so none has a
@@ -28,4 +28,5 @@ pub mod status;
 mod strings;
 pub mod symbols;
 pub mod unescapes;
+pub mod uses;
 pub mod wide;

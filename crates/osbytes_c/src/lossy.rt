@@ -2,7 +2,7 @@
 ghost use Rattle.std.specs.Prelude.{◌≡◌, ◌⊎◌, ◌≤◌, ◌<◌, ◌↔◌, ◌*◌, length};
 ghost use Rattle.platform_str.specs.Strings.{bytes};
 ghost use Rattle.osbytes_c.specs.Answers.{Writes};
-ghost use Rattle.osbytes_c.specs.Faults.{IsReport};
+ghost use Rattle.osbytes_c.specs.Faults.{IsString, IsReport};
 ghost use Rattle.osbytes_c.specs.Platforms.{lossy_on};
 
 use crate::fault::Fault;
@@ -21,15 +21,17 @@ pub extern "C" fn osb_core_lossy(
     count: &mut usize,
     fault: &mut Fault,
 ) -> u32
-    ensures done { result ≡ DONE → Writes (λ text. text ≡ lossy_on platform bytes.now) out.old
+    ensures done { result ≡ 0 → Writes (λ text. text ≡ lossy_on platform bytes.now) out.old
         out.new count.new × (count.new ≤ length out.old) }
-    ensures room { result ≡ NO_ROOM → Writes (λ text. text ≡ lossy_on platform bytes.now) out.old
+    ensures room { result ≡ 2 → Writes (λ text. text ≡ lossy_on platform bytes.now) out.old
         out.new count.new × (length out.old < count.new) }
-    ensures fault { result ≡ FAULTY → IsReport platform bytes.now fault.new }
-    ensures long { result ≡ TOO_LONG → usize.MAX < 3 * length bytes.now }
-    ensures platform { (result ≡ NO_PLATFORM) ↔ (2 < platform) }
-    ensures answers { (result ≡ DONE) ⊎ ((result ≡ NO_ROOM) ⊎ ((result ≡ FAULTY)
-        ⊎ ((result ≡ TOO_LONG) ⊎ (result ≡ NO_PLATFORM)))) }
+    ensures fault { result ≡ 1 → IsReport platform bytes.now fault.new }
+    ensures string { (result ≡ 0) ⊎ (result ≡ 2) → IsString platform bytes.now }
+    ensures long { (result ≡ 21) ↔ (IsString platform bytes.now
+        × (usize.MAX < 3 * length bytes.now)) }
+    ensures platform { (result ≡ 16) ↔ (2 < platform) }
+    ensures answers { (result ≡ 0) ⊎ ((result ≡ 2) ⊎ ((result ≡ 1)
+        ⊎ ((result ≡ 21) ⊎ (result ≡ 16)))) }
 {
     match platform {
         0 => write_lossy(unix(bytes), out, count),
@@ -47,12 +49,12 @@ pub extern "C" fn osb_core_lossy(
 
 /// The same of a string.
 fn write_lossy<E: Platform>(string: OsStr<'_, E>, out: &mut [u8], count: &mut usize) -> u32
-    ensures done { result ≡ DONE → Writes (λ text. text ≡ E.lossy (bytes string.entry)) out.old
+    ensures done { result ≡ 0 → Writes (λ text. text ≡ E.lossy (bytes string.entry)) out.old
         out.new count.new × (count.new ≤ length out.old) }
-    ensures room { result ≡ NO_ROOM → Writes (λ text. text ≡ E.lossy (bytes string.entry)) out.old
+    ensures room { result ≡ 2 → Writes (λ text. text ≡ E.lossy (bytes string.entry)) out.old
         out.new count.new × (length out.old < count.new) }
-    ensures long { result ≡ TOO_LONG → usize.MAX < 3 * length (bytes string.entry) }
-    ensures answers { (result ≡ DONE) ⊎ ((result ≡ NO_ROOM) ⊎ (result ≡ TOO_LONG)) }
+    ensures long { (result ≡ 21) ↔ (usize.MAX < 3 * length (bytes string.entry)) }
+    ensures answers { (result ≡ 0) ⊎ ((result ≡ 2) ⊎ (result ≡ 21)) }
 {
     if string.len() > usize::MAX / 3 {
         return TOO_LONG;

@@ -1,7 +1,7 @@
 //! Prefixes and suffixes that are strings, by units.
 ghost use Rattle.std.specs.Prelude.{◌≡◌, ◌<◌, ◌↔◌, ◌⊎◌};
 ghost use Rattle.wtf8_core.specs.Standing.{IsPrefix, IsSuffix};
-ghost use Rattle.osbytes_c.specs.Faults.{IsUnstring};
+ghost use Rattle.osbytes_c.specs.Faults.{IsString, IsUnstring};
 ghost use Rattle.osbytes_c.specs.Platforms.{units_on};
 
 use crate::status::{DONE, FAULTY, NO_PLATFORM, NONE};
@@ -11,15 +11,17 @@ use platform_str::{OsStr, Platform, Unix, Wasm, Windows};
 /// Whether the units of a string start with those of another string of the platform.
 #[unsafe(no_mangle)]
 pub extern "C" fn osb_core_starts_with_units(platform: u32, bytes: &[u8], prefix: &[u8]) -> u32
-    ensures found { result ≡ DONE → IsPrefix (units_on platform prefix.now)
+    ensures found { result ≡ 0 → IsPrefix (units_on platform prefix.now)
         (units_on platform bytes.now) }
-    ensures none { result ≡ NONE → ¬ (IsPrefix (units_on platform prefix.now)
+    ensures none { result ≡ 3 → ¬ (IsPrefix (units_on platform prefix.now)
         (units_on platform bytes.now)) }
-    ensures fault { result ≡ FAULTY → IsUnstring platform bytes.now
+    ensures strings { (result ≡ 0) ⊎ (result ≡ 3) → IsString platform bytes.now
+        × IsString platform prefix.now }
+    ensures fault { result ≡ 1 → IsUnstring platform bytes.now
         ⊎ IsUnstring platform prefix.now }
-    ensures platform { (result ≡ NO_PLATFORM) ↔ (2 < platform) }
-    ensures answers { (result ≡ DONE) ⊎ ((result ≡ NONE) ⊎ ((result ≡ FAULTY)
-        ⊎ (result ≡ NO_PLATFORM))) }
+    ensures platform { (result ≡ 16) ↔ (2 < platform) }
+    ensures answers { (result ≡ 0) ⊎ ((result ≡ 3) ⊎ ((result ≡ 1)
+        ⊎ (result ≡ 16))) }
 {
     match platform {
         0 => starts_with::<Unix>(bytes, prefix),
@@ -32,15 +34,17 @@ pub extern "C" fn osb_core_starts_with_units(platform: u32, bytes: &[u8], prefix
 /// Whether the units of a string end with those of another string of the platform.
 #[unsafe(no_mangle)]
 pub extern "C" fn osb_core_ends_with_units(platform: u32, bytes: &[u8], suffix: &[u8]) -> u32
-    ensures found { result ≡ DONE → IsSuffix (units_on platform suffix.now)
+    ensures found { result ≡ 0 → IsSuffix (units_on platform suffix.now)
         (units_on platform bytes.now) }
-    ensures none { result ≡ NONE → ¬ (IsSuffix (units_on platform suffix.now)
+    ensures none { result ≡ 3 → ¬ (IsSuffix (units_on platform suffix.now)
         (units_on platform bytes.now)) }
-    ensures fault { result ≡ FAULTY → IsUnstring platform bytes.now
+    ensures strings { (result ≡ 0) ⊎ (result ≡ 3) → IsString platform bytes.now
+        × IsString platform suffix.now }
+    ensures fault { result ≡ 1 → IsUnstring platform bytes.now
         ⊎ IsUnstring platform suffix.now }
-    ensures platform { (result ≡ NO_PLATFORM) ↔ (2 < platform) }
-    ensures answers { (result ≡ DONE) ⊎ ((result ≡ NONE) ⊎ ((result ≡ FAULTY)
-        ⊎ (result ≡ NO_PLATFORM))) }
+    ensures platform { (result ≡ 16) ↔ (2 < platform) }
+    ensures answers { (result ≡ 0) ⊎ ((result ≡ 3) ⊎ ((result ≡ 1)
+        ⊎ (result ≡ 16))) }
 {
     match platform {
         0 => ends_with::<Unix>(bytes, suffix),
@@ -52,11 +56,13 @@ pub extern "C" fn osb_core_ends_with_units(platform: u32, bytes: &[u8], suffix: 
 
 /// The same of one platform.
 fn starts_with<E: Platform>(bytes: &[u8], prefix: &[u8]) -> u32
-    ensures found { result ≡ DONE → IsPrefix (E.units prefix.now) (E.units bytes.now) }
-    ensures none { result ≡ NONE → ¬ (IsPrefix (E.units prefix.now) (E.units bytes.now)) }
-    ensures fault { result ≡ FAULTY → (¬ (E.well_formed bytes.now))
+    ensures found { result ≡ 0 → IsPrefix (E.units prefix.now) (E.units bytes.now) }
+    ensures none { result ≡ 3 → ¬ (IsPrefix (E.units prefix.now) (E.units bytes.now)) }
+    ensures strings { (result ≡ 0) ⊎ (result ≡ 3) → E.well_formed bytes.now
+        × E.well_formed prefix.now }
+    ensures fault { result ≡ 1 → (¬ (E.well_formed bytes.now))
         ⊎ (¬ (E.well_formed prefix.now)) }
-    ensures answers { (result ≡ DONE) ⊎ ((result ≡ NONE) ⊎ (result ≡ FAULTY)) }
+    ensures answers { (result ≡ 0) ⊎ ((result ≡ 3) ⊎ (result ≡ 1)) }
 {
     let Ok(string) = OsStr::<E>::checked(bytes) else {
         return FAULTY;
@@ -73,11 +79,13 @@ fn starts_with<E: Platform>(bytes: &[u8], prefix: &[u8]) -> u32
 
 /// The same of one platform.
 fn ends_with<E: Platform>(bytes: &[u8], suffix: &[u8]) -> u32
-    ensures found { result ≡ DONE → IsSuffix (E.units suffix.now) (E.units bytes.now) }
-    ensures none { result ≡ NONE → ¬ (IsSuffix (E.units suffix.now) (E.units bytes.now)) }
-    ensures fault { result ≡ FAULTY → (¬ (E.well_formed bytes.now))
+    ensures found { result ≡ 0 → IsSuffix (E.units suffix.now) (E.units bytes.now) }
+    ensures none { result ≡ 3 → ¬ (IsSuffix (E.units suffix.now) (E.units bytes.now)) }
+    ensures strings { (result ≡ 0) ⊎ (result ≡ 3) → E.well_formed bytes.now
+        × E.well_formed suffix.now }
+    ensures fault { result ≡ 1 → (¬ (E.well_formed bytes.now))
         ⊎ (¬ (E.well_formed suffix.now)) }
-    ensures answers { (result ≡ DONE) ⊎ ((result ≡ NONE) ⊎ (result ≡ FAULTY)) }
+    ensures answers { (result ≡ 0) ⊎ ((result ≡ 3) ⊎ (result ≡ 1)) }
 {
     let Ok(string) = OsStr::<E>::checked(bytes) else {
         return FAULTY;

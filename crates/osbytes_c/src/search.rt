@@ -12,10 +12,10 @@ use os_str_ext::OsStrBytesExt;
 /// was.
 #[unsafe(no_mangle)]
 pub extern "C" fn osb_core_find(bytes: &[u8], pattern: &[u8], index: &mut usize) -> u32
-    ensures found { result ≡ DONE → IsFirstPlace pattern.now bytes.now index.new }
-    ensures none { result ≡ NONE → StandsNowhere pattern.now bytes.now × (index.new ≡ index.old) }
-    ensures pattern { (result ≡ NO_PATTERN) ↔ (¬ (IsUtf8 pattern.now)) }
-    ensures answers { (result ≡ DONE) ⊎ ((result ≡ NONE) ⊎ (result ≡ NO_PATTERN)) }
+    ensures found { result ≡ 0 → IsFirstPlace pattern.now bytes.now index.new }
+    ensures none { result ≡ 3 → StandsNowhere pattern.now bytes.now × (index.new ≡ index.old) }
+    ensures pattern { (result ≡ 17) ↔ (¬ (IsUtf8 pattern.now)) }
+    ensures answers { (result ≡ 0) ⊎ ((result ≡ 3) ⊎ (result ≡ 17)) }
 {
     let Some(pattern) = text(pattern) else {
         return NO_PATTERN;
@@ -32,10 +32,10 @@ pub extern "C" fn osb_core_find(bytes: &[u8], pattern: &[u8], index: &mut usize)
 /// The last index of the pattern.
 #[unsafe(no_mangle)]
 pub extern "C" fn osb_core_rfind(bytes: &[u8], pattern: &[u8], index: &mut usize) -> u32
-    ensures found { result ≡ DONE → IsLastPlace pattern.now bytes.now index.new }
-    ensures none { result ≡ NONE → StandsNowhere pattern.now bytes.now × (index.new ≡ index.old) }
-    ensures pattern { (result ≡ NO_PATTERN) ↔ (¬ (IsUtf8 pattern.now)) }
-    ensures answers { (result ≡ DONE) ⊎ ((result ≡ NONE) ⊎ (result ≡ NO_PATTERN)) }
+    ensures found { result ≡ 0 → IsLastPlace pattern.now bytes.now index.new }
+    ensures none { result ≡ 3 → StandsNowhere pattern.now bytes.now × (index.new ≡ index.old) }
+    ensures pattern { (result ≡ 17) ↔ (¬ (IsUtf8 pattern.now)) }
+    ensures answers { (result ≡ 0) ⊎ ((result ≡ 3) ⊎ (result ≡ 17)) }
 {
     let Some(pattern) = text(pattern) else {
         return NO_PATTERN;
@@ -52,10 +52,10 @@ pub extern "C" fn osb_core_rfind(bytes: &[u8], pattern: &[u8], index: &mut usize
 /// Whether the pattern occurs.
 #[unsafe(no_mangle)]
 pub extern "C" fn osb_core_contains(bytes: &[u8], pattern: &[u8]) -> u32
-    ensures found { result ≡ DONE → StandsSomewhere pattern.now bytes.now }
-    ensures none { result ≡ NONE → ¬ (StandsSomewhere pattern.now bytes.now) }
-    ensures pattern { (result ≡ NO_PATTERN) ↔ (¬ (IsUtf8 pattern.now)) }
-    ensures answers { (result ≡ DONE) ⊎ ((result ≡ NONE) ⊎ (result ≡ NO_PATTERN)) }
+    ensures found { result ≡ 0 → StandsSomewhere pattern.now bytes.now }
+    ensures none { result ≡ 3 → ¬ (StandsSomewhere pattern.now bytes.now) }
+    ensures pattern { (result ≡ 17) ↔ (¬ (IsUtf8 pattern.now)) }
+    ensures answers { (result ≡ 0) ⊎ ((result ≡ 3) ⊎ (result ≡ 17)) }
 {
     let Some(pattern) = text(pattern) else {
         return NO_PATTERN;
@@ -70,10 +70,10 @@ pub extern "C" fn osb_core_contains(bytes: &[u8], pattern: &[u8]) -> u32
 /// Whether the string starts with the pattern.
 #[unsafe(no_mangle)]
 pub extern "C" fn osb_core_starts_with(bytes: &[u8], pattern: &[u8]) -> u32
-    ensures found { result ≡ DONE → IsPrefix pattern.now bytes.now }
-    ensures none { result ≡ NONE → ¬ (IsPrefix pattern.now bytes.now) }
-    ensures pattern { (result ≡ NO_PATTERN) ↔ (¬ (IsUtf8 pattern.now)) }
-    ensures answers { (result ≡ DONE) ⊎ ((result ≡ NONE) ⊎ (result ≡ NO_PATTERN)) }
+    ensures found { result ≡ 0 → IsPrefix pattern.now bytes.now }
+    ensures none { result ≡ 3 → ¬ (IsPrefix pattern.now bytes.now) }
+    ensures pattern { (result ≡ 17) ↔ (¬ (IsUtf8 pattern.now)) }
+    ensures answers { (result ≡ 0) ⊎ ((result ≡ 3) ⊎ (result ≡ 17)) }
 {
     let Some(pattern) = text(pattern) else {
         return NO_PATTERN;
@@ -88,10 +88,10 @@ pub extern "C" fn osb_core_starts_with(bytes: &[u8], pattern: &[u8]) -> u32
 /// Whether the string ends with the pattern.
 #[unsafe(no_mangle)]
 pub extern "C" fn osb_core_ends_with(bytes: &[u8], pattern: &[u8]) -> u32
-    ensures found { result ≡ DONE → IsSuffix pattern.now bytes.now }
-    ensures none { result ≡ NONE → ¬ (IsSuffix pattern.now bytes.now) }
-    ensures pattern { (result ≡ NO_PATTERN) ↔ (¬ (IsUtf8 pattern.now)) }
-    ensures answers { (result ≡ DONE) ⊎ ((result ≡ NONE) ⊎ (result ≡ NO_PATTERN)) }
+    ensures found { result ≡ 0 → IsSuffix pattern.now bytes.now }
+    ensures none { result ≡ 3 → ¬ (IsSuffix pattern.now bytes.now) }
+    ensures pattern { (result ≡ 17) ↔ (¬ (IsUtf8 pattern.now)) }
+    ensures answers { (result ≡ 0) ⊎ ((result ≡ 3) ⊎ (result ≡ 17)) }
 {
     let Some(pattern) = text(pattern) else {
         return NO_PATTERN;

@@ -1,5 +1,5 @@
 //! One piece of a split.
-ghost use Rattle.std.specs.Prelude.{◌≡◌, ◌<◌, ◌↔◌, ◌⊎◌, length};
+ghost use Rattle.std.specs.Prelude.{◌≡◌, ◌≤◌, ◌<◌, ◌↔◌, ◌⊎◌, length};
 ghost use Rattle.osbytes_c.specs.Steps.{IsFirstPiece, IsLastPiece, IsNoPattern};
 
 use crate::status::{DONE, NO_INDEX, NO_PATTERN};
@@ -21,10 +21,10 @@ pub struct Piece {
 /// The first piece of what comes after an index, between the occurrences of the pattern.
 #[unsafe(no_mangle)]
 pub extern "C" fn osb_core_cut(bytes: &[u8], pattern: &[u8], at: usize, piece: &mut Piece) -> u32
-    ensures piece { result ≡ DONE → IsFirstPiece pattern.now bytes.now at piece.new }
-    ensures index { (result ≡ NO_INDEX) ↔ (length bytes.now < at) }
-    ensures pattern { result ≡ NO_PATTERN → IsNoPattern pattern.now }
-    ensures answers { (result ≡ DONE) ⊎ ((result ≡ NO_INDEX) ⊎ (result ≡ NO_PATTERN)) }
+    ensures piece { result ≡ 0 → IsFirstPiece pattern.now bytes.now at piece.new }
+    ensures index { (result ≡ 18) ↔ (length bytes.now < at) }
+    ensures pattern { (result ≡ 17) ↔ ((at ≤ length bytes.now) × IsNoPattern pattern.now) }
+    ensures answers { (result ≡ 0) ⊎ ((result ≡ 18) ⊎ (result ≡ 17)) }
 {
     if at > bytes.len() {
         return NO_INDEX;
@@ -54,10 +54,10 @@ pub extern "C" fn osb_core_cut(bytes: &[u8], pattern: &[u8], at: usize, piece: &
 /// The last piece of what comes before an index, between the occurrences of the pattern.
 #[unsafe(no_mangle)]
 pub extern "C" fn osb_core_rcut(bytes: &[u8], pattern: &[u8], at: usize, piece: &mut Piece) -> u32
-    ensures piece { result ≡ DONE → IsLastPiece pattern.now bytes.now at piece.new }
-    ensures index { (result ≡ NO_INDEX) ↔ (length bytes.now < at) }
-    ensures pattern { result ≡ NO_PATTERN → IsNoPattern pattern.now }
-    ensures answers { (result ≡ DONE) ⊎ ((result ≡ NO_INDEX) ⊎ (result ≡ NO_PATTERN)) }
+    ensures piece { result ≡ 0 → IsLastPiece pattern.now bytes.now at piece.new }
+    ensures index { (result ≡ 18) ↔ (length bytes.now < at) }
+    ensures pattern { (result ≡ 17) ↔ ((at ≤ length bytes.now) × IsNoPattern pattern.now) }
+    ensures answers { (result ≡ 0) ⊎ ((result ≡ 18) ⊎ (result ≡ 17)) }
 {
     if at > bytes.len() {
         return NO_INDEX;

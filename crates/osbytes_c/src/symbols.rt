@@ -1,10 +1,10 @@
 //! One symbol of a string.
-ghost use Rattle.std.specs.Prelude.{◌≡◌, ◌<◌, ◌≤◌, ◌↔◌, ◌⊎◌, ◌++◌, ℕ, length, drop, MatchOption};
+ghost use Rattle.std.specs.Prelude.{◌≡◌, ◌<◌, ◌≤◌, ◌↔◌, ◌⊎◌, ◌++◌, ℕ, length, drop, MatchOption, IfSome, IfNone};
 ghost use Rattle.std.specs.Char.{encode_utf8};
 ghost use Rattle.wtf8_core.specs.Covered.{StartsWithNoCharacter};
 ghost use Rattle.wtf8_core.specs.Wtf8.{IsWtf8};
 ghost use Rattle.osbytes_c.specs.Faults.{IsString, IsUnstring};
-ghost use Rattle.osbytes_c.specs.Steps.{IsSymbolAt, IsFirstOf, IsSurrogateFront};
+ghost use Rattle.osbytes_c.specs.Steps.{IsSymbolAt, IsFirstOf, IsSurrogateFront, StartsWithNoSymbol};
 
 use crate::status::{DONE, ENDED, FAULTY, NO_INDEX, NO_PLATFORM};
 use crate::strings::unix;
@@ -27,14 +27,17 @@ pub struct Step {
 /// The first symbol of what comes after an index, if that is a string of the platform.
 #[unsafe(no_mangle)]
 pub extern "C" fn osb_core_symbol(platform: u32, bytes: &[u8], at: usize, symbol: &mut Step) -> u32
-    ensures symbol { result ≡ DONE → IsString platform (drop at bytes.now) → IsSymbolAt platform
+    ensures symbol { result ≡ 0 → IsString platform (drop at bytes.now) → IsSymbolAt platform
         bytes.now at symbol.new }
-    ensures fault { result ≡ FAULTY → IsUnstring platform (drop at bytes.now) }
-    ensures index { result ≡ NO_INDEX → length bytes.now < at }
-    ensures ended { result ≡ ENDED → at ≡ length bytes.now }
-    ensures platform { (result ≡ NO_PLATFORM) ↔ (2 < platform) }
-    ensures answers { (result ≡ DONE) ⊎ ((result ≡ FAULTY) ⊎ ((result ≡ NO_INDEX)
-        ⊎ ((result ≡ ENDED) ⊎ (result ≡ NO_PLATFORM)))) }
+    ensures within { result ≡ 0 → (at < symbol.new.end) × (symbol.new.end ≤ length bytes.now) }
+    ensures fault { result ≡ 1 → IsUnstring platform (drop at bytes.now) }
+    ensures none { (result ≡ 1) ↔ ((at < length bytes.now)
+        × StartsWithNoSymbol platform (drop at bytes.now)) }
+    ensures index { (result ≡ 18) ↔ ((platform ≤ 2) × (length bytes.now < at)) }
+    ensures ended { (result ≡ 4) ↔ ((platform ≤ 2) × (at ≡ length bytes.now)) }
+    ensures platform { (result ≡ 16) ↔ (2 < platform) }
+    ensures answers { (result ≡ 0) ⊎ ((result ≡ 1) ⊎ ((result ≡ 18)
+        ⊎ ((result ≡ 4) ⊎ (result ≡ 16)))) }
 {
     if platform > 2 {
         return NO_PLATFORM;
@@ -63,7 +66,9 @@ fn first_symbol(platform: u32, bytes: &[u8]) -> Option<Step>
     requires some { 0 < length bytes.now }
     ensures first { MatchOption result (IsUnstring platform bytes.now)
         (λ step. IsString platform bytes.now → IsFirstOf platform bytes.now step) }
-    ensures within { MatchOption result (Unit {0}) (λ step. step.end ≤ length bytes.now) }
+    ensures none { MatchOption result (StartsWithNoSymbol platform bytes.now)
+        (λ _. ¬ (StartsWithNoSymbol platform bytes.now)) }
+    ensures within { IfSome result (λ step. (0 < step.end) × (step.end ≤ length bytes.now)) }
 {
     if let Some((character, rest)) = unix(bytes).split_first_char() {
         return Some(character_step(bytes, character, rest.as_encoded_bytes()));
@@ -93,7 +98,8 @@ fn character_step(bytes: &[u8], character: char, rest: &[u8]) -> Step
     requires { bytes.now ≡ encode_utf8 character ++ rest.now }
     ensures first { (platform : ℕ) → IsString platform bytes.now
         → IsFirstOf platform bytes.now result }
-    ensures within { result.end ≤ length bytes.now }
+    ensures some { (platform : ℕ) → ¬ (StartsWithNoSymbol platform bytes.now) }
+    ensures within { (0 < result.end) × (result.end ≤ length bytes.now) }
 {
     Step {
         kind: 1,
@@ -107,7 +113,9 @@ fn character_step(bytes: &[u8], character: char, rest: &[u8]) -> Step
 fn first_surrogate(bytes: &[u8]) -> Option<u32>
     requires some { 0 < length bytes.now }
     requires bare { StartsWithNoCharacter bytes.now }
-    ensures { MatchOption result (¬ (IsWtf8 bytes.now)) (λ unit. IsSurrogateFront bytes.now unit) }
+    ensures unit { MatchOption result (¬ (IsWtf8 bytes.now))
+        (λ unit. IsSurrogateFront bytes.now unit) }
+    ensures none { IfNone result ((unit : ℕ) → ¬ (IsSurrogateFront bytes.now unit)) }
 {
     if bytes.len() < 3 {
         return None;

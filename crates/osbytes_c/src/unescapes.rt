@@ -20,17 +20,17 @@ pub extern "C" fn osb_core_unescape(
     count: &mut usize,
     index: &mut usize,
 ) -> u32
-    ensures done { result ≡ DONE → IsUnescaped (formed_on platform) (units_on platform) escape.now
+    ensures done { result ≡ 0 → IsUnescaped (formed_on platform) (units_on platform) escape.now
         out.old out.new count.new × (count.new ≤ length out.old) }
-    ensures room { result ≡ NO_ROOM → IsUnescaped (formed_on platform) (units_on platform)
+    ensures room { result ≡ 2 → IsUnescaped (formed_on platform) (units_on platform)
         escape.now out.old out.new count.new × (length out.old < count.new) }
-    ensures token { result ≡ BAD_ESCAPE → IsBadEscape escape.now index.new }
-    ensures string { result ≡ NO_STRING
+    ensures token { result ≡ 5 → IsBadEscape escape.now index.new }
+    ensures string { result ≡ 6
         → IsQuoteFault (formed_on platform) (units_on platform) escape.now QuoteError.NotCanonical }
-    ensures pattern { result ≡ NO_PATTERN → ¬ (IsUtf8 escape.now) }
-    ensures platform { (result ≡ NO_PLATFORM) ↔ (2 < platform) }
-    ensures answers { (result ≡ DONE) ⊎ ((result ≡ NO_ROOM) ⊎ ((result ≡ BAD_ESCAPE)
-        ⊎ ((result ≡ NO_STRING) ⊎ ((result ≡ NO_PATTERN) ⊎ (result ≡ NO_PLATFORM))))) }
+    ensures pattern { (result ≡ 17) ↔ ((platform ≤ 2) × (¬ (IsUtf8 escape.now))) }
+    ensures platform { (result ≡ 16) ↔ (2 < platform) }
+    ensures answers { (result ≡ 0) ⊎ ((result ≡ 2) ⊎ ((result ≡ 5)
+        ⊎ ((result ≡ 6) ⊎ ((result ≡ 17) ⊎ (result ≡ 16))))) }
 {
     match platform {
         0 => unescape::<Unix>(escape, out, count, index),
@@ -49,17 +49,17 @@ pub extern "C" fn osb_core_unescape_line(
     count: &mut usize,
     index: &mut usize,
 ) -> u32
-    ensures done { result ≡ DONE → IsLineUnescaped (formed_on platform) (units_on platform)
+    ensures done { result ≡ 0 → IsLineUnescaped (formed_on platform) (units_on platform)
         escape.now out.old out.new count.new × (count.new ≤ length out.old) }
-    ensures room { result ≡ NO_ROOM → IsLineUnescaped (formed_on platform) (units_on platform)
+    ensures room { result ≡ 2 → IsLineUnescaped (formed_on platform) (units_on platform)
         escape.now out.old out.new count.new × (length out.old < count.new) }
-    ensures token { result ≡ BAD_ESCAPE → IsBadLineEscape escape.now index.new }
-    ensures string { result ≡ NO_STRING
+    ensures token { result ≡ 5 → IsBadLineEscape escape.now index.new }
+    ensures string { result ≡ 6
         → IsLineFault (formed_on platform) (units_on platform) escape.now QuoteError.NotCanonical }
-    ensures pattern { result ≡ NO_PATTERN → ¬ (IsUtf8 escape.now) }
-    ensures platform { (result ≡ NO_PLATFORM) ↔ (2 < platform) }
-    ensures answers { (result ≡ DONE) ⊎ ((result ≡ NO_ROOM) ⊎ ((result ≡ BAD_ESCAPE)
-        ⊎ ((result ≡ NO_STRING) ⊎ ((result ≡ NO_PATTERN) ⊎ (result ≡ NO_PLATFORM))))) }
+    ensures pattern { (result ≡ 17) ↔ ((platform ≤ 2) × (¬ (IsUtf8 escape.now))) }
+    ensures platform { (result ≡ 16) ↔ (2 < platform) }
+    ensures answers { (result ≡ 0) ⊎ ((result ≡ 2) ⊎ ((result ≡ 5)
+        ⊎ ((result ≡ 6) ⊎ ((result ≡ 17) ⊎ (result ≡ 16))))) }
 {
     match platform {
         0 => unescape_line::<Unix>(escape, out, count, index),
@@ -71,16 +71,16 @@ pub extern "C" fn osb_core_unescape_line(
 
 /// The string of one platform.
 fn unescape<E: Platform>(escape: &[u8], out: &mut [u8], count: &mut usize, index: &mut usize) -> u32
-    ensures done { result ≡ DONE → IsUnescaped E.well_formed E.units escape.now out.old out.new
+    ensures done { result ≡ 0 → IsUnescaped E.well_formed E.units escape.now out.old out.new
         count.new × (count.new ≤ length out.old) }
-    ensures room { result ≡ NO_ROOM → IsUnescaped E.well_formed E.units escape.now out.old out.new
+    ensures room { result ≡ 2 → IsUnescaped E.well_formed E.units escape.now out.old out.new
         count.new × (length out.old < count.new) }
-    ensures token { result ≡ BAD_ESCAPE → IsBadEscape escape.now index.new }
-    ensures string { result ≡ NO_STRING
+    ensures token { result ≡ 5 → IsBadEscape escape.now index.new }
+    ensures string { result ≡ 6
         → IsQuoteFault E.well_formed E.units escape.now QuoteError.NotCanonical }
-    ensures pattern { result ≡ NO_PATTERN → ¬ (IsUtf8 escape.now) }
-    ensures answers { (result ≡ DONE) ⊎ ((result ≡ NO_ROOM) ⊎ ((result ≡ BAD_ESCAPE)
-        ⊎ ((result ≡ NO_STRING) ⊎ (result ≡ NO_PATTERN)))) }
+    ensures pattern { (result ≡ 17) ↔ (¬ (IsUtf8 escape.now)) }
+    ensures answers { (result ≡ 0) ⊎ ((result ≡ 2) ⊎ ((result ≡ 5)
+        ⊎ ((result ≡ 6) ⊎ (result ≡ 17)))) }
 {
     let Some(read) = write_unescaped_bytes::<E>(escape, out) else {
         return NO_PATTERN;
@@ -101,16 +101,16 @@ fn unescape_line<E: Platform>(
     count: &mut usize,
     index: &mut usize,
 ) -> u32
-    ensures done { result ≡ DONE → IsLineUnescaped E.well_formed E.units escape.now out.old out.new
+    ensures done { result ≡ 0 → IsLineUnescaped E.well_formed E.units escape.now out.old out.new
         count.new × (count.new ≤ length out.old) }
-    ensures room { result ≡ NO_ROOM → IsLineUnescaped E.well_formed E.units escape.now out.old
+    ensures room { result ≡ 2 → IsLineUnescaped E.well_formed E.units escape.now out.old
         out.new count.new × (length out.old < count.new) }
-    ensures token { result ≡ BAD_ESCAPE → IsBadLineEscape escape.now index.new }
-    ensures string { result ≡ NO_STRING
+    ensures token { result ≡ 5 → IsBadLineEscape escape.now index.new }
+    ensures string { result ≡ 6
         → IsLineFault E.well_formed E.units escape.now QuoteError.NotCanonical }
-    ensures pattern { result ≡ NO_PATTERN → ¬ (IsUtf8 escape.now) }
-    ensures answers { (result ≡ DONE) ⊎ ((result ≡ NO_ROOM) ⊎ ((result ≡ BAD_ESCAPE)
-        ⊎ ((result ≡ NO_STRING) ⊎ (result ≡ NO_PATTERN)))) }
+    ensures pattern { (result ≡ 17) ↔ (¬ (IsUtf8 escape.now)) }
+    ensures answers { (result ≡ 0) ⊎ ((result ≡ 2) ⊎ ((result ≡ 5)
+        ⊎ ((result ≡ 6) ⊎ (result ≡ 17)))) }
 {
     let Some(read) = write_unescaped_line_bytes::<E>(escape, out) else {
         return NO_PATTERN;
@@ -126,10 +126,10 @@ fn unescape_line<E: Platform>(
 
 /// The status of a text that isn't read.
 fn refused(error: QuoteError, index: &mut usize) -> u32
-    ensures token { result ≡ BAD_ESCAPE → error ≡ QuoteError.BadEscape index.new }
-    ensures string { result ≡ NO_STRING → error ≢ QuoteError.Memory
+    ensures token { result ≡ 5 → error ≡ QuoteError.BadEscape index.new }
+    ensures string { result ≡ 6 → error ≢ QuoteError.Memory
         → error ≡ QuoteError.NotCanonical }
-    ensures answers { (result ≡ BAD_ESCAPE) ⊎ (result ≡ NO_STRING) }
+    ensures answers { (result ≡ 5) ⊎ (result ≡ 6) }
 {
     match error {
         QuoteError::BadEscape(at) => {

@@ -19,12 +19,12 @@ pub extern "C" fn osb_core_to_wide(
     count: &mut usize,
     fault: &mut Fault,
 ) -> u32
-    ensures done { result ≡ DONE → Writes (HasUnits bytes.now) out.old out.new count.new
+    ensures done { result ≡ 0 → Writes (HasUnits bytes.now) out.old out.new count.new
         × (count.new ≤ length out.old) }
-    ensures room { result ≡ NO_ROOM → Writes (HasUnits bytes.now) out.old out.new count.new
+    ensures room { result ≡ 2 → Writes (HasUnits bytes.now) out.old out.new count.new
         × (length out.old < count.new) }
-    ensures fault { result ≡ FAULTY → IsWtf8Report bytes.now fault.new }
-    ensures answers { (result ≡ DONE) ⊎ ((result ≡ NO_ROOM) ⊎ (result ≡ FAULTY)) }
+    ensures fault { result ≡ 1 → IsWtf8Report bytes.now fault.new }
+    ensures answers { (result ≡ 0) ⊎ ((result ≡ 2) ⊎ (result ≡ 1)) }
 {
     let read = if bytes.len() <= out.len() {
         write_units(bytes, out)
@@ -90,11 +90,11 @@ fn write_some_units(bytes: &[u8], out: &mut [u16]) -> Result<usize, EncodingErro
 /// them. There are at most three for each unit.
 #[unsafe(no_mangle)]
 pub extern "C" fn osb_core_from_wide(units: &[u16], out: &mut [u8], count: &mut usize) -> u32
-    ensures done { result ≡ DONE → Writes (λ bytes. HasUnits bytes units.now) out.old out.new
+    ensures done { result ≡ 0 → Writes (λ bytes. HasUnits bytes units.now) out.old out.new
         count.new × (count.new ≤ length out.old) }
-    ensures room { result ≡ NO_ROOM → Writes (λ bytes. HasUnits bytes units.now) out.old out.new
+    ensures room { result ≡ 2 → Writes (λ bytes. HasUnits bytes units.now) out.old out.new
         count.new × (length out.old < count.new) }
-    ensures answers { (result ≡ DONE) ⊎ (result ≡ NO_ROOM) }
+    ensures answers { (result ≡ 0) ⊎ (result ≡ 2) }
 {
     let written = if 3 * units.len() <= out.len() {
         write_bytes(units, out)

@@ -10,9 +10,11 @@ use Rattle.wtf8_core.specs.Chunks.{Chunk, AreChunks}
 use Rattle.wtf8_core.specs.Covered.{StartsWithNoCharacter}
 use Rattle.wtf8_core.specs.UnitsOf.{units_of}
 use Rattle.wtf8_core.specs.Wtf8.{IsWtf8}
+use Rattle.wtf8_core.proofs.lemmas.characters.AtPlaces.{none_begins}
 use Rattle.wtf8_core.proofs.lemmas.characters.Seams.{text_covered, seam_at_start, whole_within}
 use Rattle.wtf8_core.proofs.lemmas.chunks.OneList.{some_chunks}
 use Rattle.wtf8_core.proofs.lemmas.chunks.PartUnits.{first_unit}
+use Rattle.wtf8_core.proofs.lemmas.forms.ByStd.{form_encode}
 use Rattle.wtf8_core.proofs.lemmas.standing.Places.{no_units}
 use Rattle.wtf8_core.proofs.lemmas.standing.Wtf8.{wtf8_standing}
 use Rattle.platform_str.specs.Laws.{IsFirstUnit}
@@ -28,7 +30,7 @@ use Rattle.os_str_ext.proofs.lemmas.FirstChunk.{edges, part_is_bare}
 use Rattle.os_str_ext.proofs.lemmas.SymbolSteps.{symbols_by_character, symbols_by_unit}
 use Rattle.osbytes_c.specs.Faults.{IsString, IsUnstring}
 use Rattle.osbytes_c.specs.Platforms.{units_on}
-use Rattle.osbytes_c.specs.Steps.{Reports, IsSymbolAt, IsFirstOf, IsSurrogateFront}
+use Rattle.osbytes_c.specs.Steps.{Reports, IsSymbolAt, IsFirstOf, IsSurrogateFront, StartsWithNoSymbol}
 use Rattle.osbytes_c.specs.declared.symbols.Step.{Step}
 
 -- what follows a text within a text is one
@@ -48,10 +50,10 @@ module _ (c : ℕ) (s rest : List ℕ) (scalar : IsScalar c) (starts : s ≡ enc
   abbrev width : ℕ
   width = length (encode_utf8 c)
 
-  some_n : 0 < width
+  pub some_n : 0 < width
   some_n = let l = length-encode c in let b = len_utf8_bounds c in omega (arith, l, b.0)
 
-  size : length s ≡ width + length rest
+  pub size : length s ≡ width + length rest
   size = ap length starts ∙ length-append (encode_utf8 c) rest
 
   pub rest_is : drop width s ≡ rest
@@ -201,3 +203,22 @@ unstring_of_wasm zero s a b c some bare = absurd (a refl)
 unstring_of_wasm (suc zero) s a b c some bare = absurd (b refl)
 unstring_of_wasm (suc (suc zero)) s a b c some bare = λ u. never_bare s u some bare
 unstring_of_wasm (suc (suc (suc p))) s a b c some bare = absurd (omega (arith, c))
+
+-- where no symbol begins, no character does
+bare_of : (p : ℕ) (s : List ℕ) → StartsWithNoSymbol p s → StartsWithNoCharacter s
+bare_of zero s h = absurd h
+bare_of (suc zero) s h = h.0
+bare_of (suc (suc zero)) s h = h
+bare_of (suc (suc (suc p))) s h = absurd h
+
+-- a character is a symbol
+pub character_is_symbol : (p c : ℕ) (s rest : List ℕ) → IsScalar c → s ≡ encode_utf8 c ++ rest → ¬ (StartsWithNoSymbol p s)
+character_is_symbol p c s rest scalar starts none =
+    none_begins s (bare_of p s none) c rest scalar (starts ∙ ap (λ x. x ++ rest) (sym (form_encode c)))
+
+-- on wasm there are no symbols but characters
+pub no_symbol_of_wasm : (p : ℕ) (s : List ℕ) → ¬ (p ≡ 0) → ¬ (p ≡ 1) → p ≤ 2 → StartsWithNoCharacter s → StartsWithNoSymbol p s
+no_symbol_of_wasm zero s a b c bare = absurd (a refl)
+no_symbol_of_wasm (suc zero) s a b c bare = absurd (b refl)
+no_symbol_of_wasm (suc (suc zero)) s a b c bare = bare
+no_symbol_of_wasm (suc (suc (suc p))) s a b c bare = absurd (omega (arith, c))

@@ -1,5 +1,5 @@
 -- What whole walks give.
-use Rattle.std.proofs.Common.{◌≡◌, ℕ, Bool, true, false, List, [], ◌∷◌, length, take, drop, sym, ap, ◌∙◌, subst, arith}
+use Rattle.std.proofs.Common.{◌≡◌, ℕ, Bool, true, false, List, [], ◌∷◌, length, take, drop, refl, sym, ap, ◌∙◌, subst, arith}
 use Rattle.std.proofs.lemmas.List.{take_all, drop_all}
 use Rattle.wtf8_core.specs.Chunks.{Chunk, AreChunks}
 use Rattle.wtf8_core.specs.Pieces.{SplitsAt, IsSplit, IsRSplit}
@@ -74,3 +74,15 @@ symbol_walk platform s at (x ∷ symbols) w =
     let same = symbols_once (units_on platform) (drop w.0.end s) step.behind symbols step.rest later in
     let first = one_symbol w.0.kind w.0.value step.first x step.is w.1.1.0 in
     subst (λ y. AreSymbols (units_on platform) (drop at s) (y ∷ symbols)) first (subst (λ xs. AreSymbols (units_on platform) (drop at s) (step.first ∷ xs)) same step.all)
+
+-- the walk of a step that is the first and the last
+pub one_piece : (p s : List ℕ) (edge rest : ℕ) (last : Bool) → IsFirstPiece p s 0 (record { edge = edge; rest = rest; last = last }) → last ≡ true → SplitWalk p s 0 (s ∷ [])
+one_piece p s edge rest true h e =
+    (record { edge = edge; rest = rest; last = true }, (h, (sym (ap (λ k. take k s) h.1 ∙ take_all (length s) s (omega arith)), refl)))
+one_piece p s edge rest false h e = cc
+
+-- the same from the end
+pub one_last_piece : (p s : List ℕ) (edge rest : ℕ) (last : Bool) → IsLastPiece p s (length s) (record { edge = edge; rest = rest; last = last }) → last ≡ true → RSplitWalk p s (length s) (s ∷ [])
+one_last_piece p s edge rest true h e =
+    (record { edge = edge; rest = rest; last = true }, (h, (sym (ap (λ k. drop k (take (length s) s)) h.1 ∙ take_all (length s) s (omega arith)), refl)))
+one_last_piece p s edge rest false h e = cc

@@ -8,15 +8,15 @@ use Rattle.osbytes_c.specs.Steps.{IsSurrogateFront}
 use Rattle.osbytes_c.proofs.lemmas.Symbols.{front_bare, front_within, front_formed, front_units}
 use Rattle.osbytes_c.proofs.symbols.first_surrogate.Goals as goal
 
-pub returns-then-bytes-lt3 : goal.returns-then-bytes-lt3
-returns-then-bytes-lt3 c = λ w. let le = front_within c.args.bytes.now c.requires.some c.requires.bare w in omega (arith, le, c.if-bytes-lt3.true)
+pub returns-then-bytes-lt3-clause-unit : goal.returns-then-bytes-lt3-clause-unit
+returns-then-bytes-lt3-clause-unit c = λ w. let le = front_within c.args.bytes.now c.requires.some c.requires.bare w in omega (arith, le, c.if-bytes-lt3.true)
 
-pub returns-in_default : goal.returns-in_default
-returns-in_default c = λ w.
+pub returns-in_default-clause-unit : goal.returns-in_default-clause-unit
+returns-in_default-clause-unit c = λ w.
     windows_laws.faulty _ _ c.in_default.ensures (subst IsWtf8 (sym c.split_at.ensures.front) (front_formed c.args.bytes.now c.requires.some c.requires.bare w))
 
-pub returns-in-Some-Ok : goal.returns-in-Some-Ok
-returns-in-Some-Ok c =
+pub returns-in-Some-Ok-clause-unit : goal.returns-in-Some-Ok-clause-unit
+returns-in-Some-Ok-clause-unit c =
     let s = c.args.bytes.now in
     let front = c.split_at.ensures.front in
     let le : 3 ≤ length s = c.if-bytes-lt3.false in
@@ -26,8 +26,8 @@ returns-in-Some-Ok c =
     let first = first_is_unit {b = take 3 s} formed (omega (arith, size)) (front_bare s c.requires.bare) (subst (λ b. AreUnitItems b c.encode_wide.result) front c.encode_wide.ensures) items in
     subst (IsSurrogateFront s) (sym c.from.ensures) (record { within = le; formed = formed; units_are = front_units s c.in-Some-Ok.unit le first })
 
-pub returns-in-Some-Err : goal.returns-in-Some-Err
-returns-in-Some-Err c = λ w.
+pub returns-in-Some-Err-clause-unit : goal.returns-in-Some-Err-clause-unit
+returns-in-Some-Err-clause-unit c = λ w.
     let s = c.args.bytes.now in
     let front = c.split_at.ensures.front in
     let le : 3 ≤ length s = c.if-bytes-lt3.false in
@@ -35,10 +35,28 @@ returns-in-Some-Err c = λ w.
     let items = c.in-Some-Err.ensures.steps ∙ ap (λ x. x ∷ c.next.new.self) c.in-Some-Err.field-0-is in
     first_is_no_fault {b = take 3 s} (subst IsWtf8 front c.in-Ok.ensures) (omega (arith, size)) (front_bare s c.requires.bare) (subst (λ b. AreUnitItems b c.encode_wide.result) front c.encode_wide.ensures) items
 
-pub returns-in-None : goal.returns-in-None
-returns-in-None c = λ w.
+pub returns-in-None-clause-unit : goal.returns-in-None-clause-unit
+returns-in-None-clause-unit c = λ w.
     let s = c.args.bytes.now in
     let front = c.split_at.ensures.front in
     let le : 3 ≤ length s = c.if-bytes-lt3.false in
     let size = length-take-le 3 s le in
     first_is_there {b = take 3 s} (subst IsWtf8 front c.in-Ok.ensures) (omega (arith, size)) (front_bare s c.requires.bare) (subst (λ b. AreUnitItems b c.encode_wide.result) front c.encode_wide.ensures) c.in-None.ensures.steps.0
+
+pub returns-in_default-clause-none : goal.returns-in_default-clause-none
+returns-in_default-clause-none c = λ unit front. windows_laws.faulty _ _ c.in_default.ensures (subst IsWtf8 (sym c.split_at.ensures.front) front.formed)
+
+pub returns-in-Some-Err-clause-none : goal.returns-in-Some-Err-clause-none
+returns-in-Some-Err-clause-none c = λ unit front.
+    let s = c.args.bytes.now in
+    let start = c.split_at.ensures.front in
+    let size = length-take-le 3 s c.if-bytes-lt3.false in
+    let items = c.in-Some-Err.ensures.steps ∙ ap (λ x. x ∷ c.next.new.self) c.in-Some-Err.field-0-is in
+    first_is_no_fault {b = take 3 s} front.formed (omega (arith, size)) (front_bare s c.requires.bare) (subst (λ b. AreUnitItems b c.encode_wide.result) start c.encode_wide.ensures) items
+
+pub returns-in-None-clause-none : goal.returns-in-None-clause-none
+returns-in-None-clause-none c = λ unit front.
+    let s = c.args.bytes.now in
+    let start = c.split_at.ensures.front in
+    let size = length-take-le 3 s c.if-bytes-lt3.false in
+    first_is_there {b = take 3 s} front.formed (omega (arith, size)) (front_bare s c.requires.bare) (subst (λ b. AreUnitItems b c.encode_wide.result) start c.encode_wide.ensures) c.in-None.ensures.steps.0
