@@ -67,7 +67,7 @@ def unpack(file: Path, room: Path) -> str:
     try:
         with tarfile.open(file, "r|xz") as packed:
             text = unpack_members(packed, room)
-    except (tarfile.TarError, LZMAError, EOFError) as error:
+    except (tarfile.TarError, LZMAError) as error:
         raise Refusal(f"{file} isn't a whole file of the libraries: {error}") from None
     except Refusal as why:
         raise Refusal(f"{file} isn't a whole file of the libraries: {why}") from None

@@ -4,10 +4,13 @@ from __future__ import annotations
 
 import os
 import shutil
+import signal
 import tempfile
 from contextlib import contextmanager
 from pathlib import Path
 from typing import Iterable, Iterator
+
+ENDINGS = (signal.SIGINT, signal.SIGTERM)
 
 
 @contextmanager
@@ -39,6 +42,7 @@ def replace(moves: Iterable[tuple[Path | None, Path]], aside: Path) -> None:
     """Moves files and folders to their places, on one disk, and what is there to an empty folder.
 
     Where nothing is to come to a place, what is there only goes. Where one can't be moved, all are moved back.
+    Signals wait meanwhile.
     """
     done: list[tuple[Path, Path]] = []
     made: list[Path] = []
@@ -47,6 +51,7 @@ def replace(moves: Iterable[tuple[Path | None, Path]], aside: Path) -> None:
         os.rename(one, other)
         done.append((one, other))
 
+    waiting = signal.pthread_sigmask(signal.SIG_BLOCK, ENDINGS)
     try:
         for at, (new, place) in enumerate(moves):
             if not place.parent.exists():
@@ -62,3 +67,5 @@ def replace(moves: Iterable[tuple[Path | None, Path]], aside: Path) -> None:
         for folder in reversed(made):
             folder.rmdir()
         raise
+    finally:
+        signal.pthread_sigmask(signal.SIG_SETMASK, waiting)
