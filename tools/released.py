@@ -9,7 +9,6 @@ from __future__ import annotations
 import hashlib
 import io
 import tarfile
-from lzma import LZMAError
 from pathlib import Path, PurePosixPath
 from typing import IO
 
@@ -67,7 +66,7 @@ def unpack(file: Path, room: Path) -> str:
     try:
         with tarfile.open(file, "r|xz") as packed:
             text = unpack_members(packed, room)
-    except (tarfile.TarError, LZMAError) as error:
+    except tarfile.TarError as error:
         raise Refusal(f"{file} isn't a whole file of the libraries: {error}") from None
     except Refusal as why:
         raise Refusal(f"{file} isn't a whole file of the libraries: {why}") from None
