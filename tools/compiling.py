@@ -5,7 +5,9 @@ from __future__ import annotations
 import os
 import shutil
 import subprocess
+import sys
 from pathlib import Path
+from typing import Iterable
 
 from laid_in import kit as toolchain
 from sources import CRATES, LIST, crates
@@ -47,6 +49,10 @@ def is_archive(name: str) -> bool:
     return crates()[name].is_archive
 
 
+def is_library(name: str) -> bool:
+    return not is_program(name) and not is_archive(name)
+
+
 def built(name: str) -> Path:
     """Returns what is built of a crate: a library where `rt ci` leaves it, a program or an archive."""
     out = CRATES / name / "out"
@@ -66,10 +72,53 @@ def is_built(name: str) -> bool:
     return build_of(built(name)) == build_of(toolchain() / "rlibs" / "std.rlib")
 
 
+def stamps(top: Path, names: Iterable[str]) -> dict[str, str]:
+    """Returns the stamp of each of these libraries of a repository, as the kit's `rt` computes it.
+
+    It is the sum of all that a library is made from: its sources, its line of crates.txt, the kit and the
+    stamps of the libraries below it. `rt` takes a library as built that has this stamp beside it.
+    """
+    sys.path.insert(0, f"{toolchain()}/bin")
+    import rtlib
+
+    known: dict[str, rtlib.Crate] = {}
+    found = {}
+    for name in names:
+        folder = f"{top}/crates/{name}"
+        if folder not in known:
+            known[folder] = rtlib.Crate(folder, str(top), known)
+        found[name] = stamp = known[folder].stamp()
+        # the libraries above ask for it again
+        known[folder].stamp = lambda stamp=stamp: stamp
+    return found
+
+
+def stamp_now(name: str) -> str:
+    """Returns the stamp that a crate of this checkout has now."""
+    return stamps(ROOT, [name])[name]
+
+
+def note_built(name: str, stamp: str) -> None:
+    """Notes that a library was built of what has a stamp, if it has it still."""
+    if stamp == stamp_now(name):
+        built(name).with_name("stamp").write_text(stamp, encoding="utf-8")
+
+
+def stamp_beside(library: Path) -> str:
+    """Returns the stamp that is beside a library, or nothing where none is."""
+    stamp = library.with_name("stamp")
+    return stamp.read_text(encoding="utf-8") if stamp.exists() else ""
+
+
 def is_current(name: str) -> bool:
-    """Returns whether a library is there that is no older than what it is made from."""
+    """Returns whether a library is there that is built of what it is made from now.
+
+    The stamp beside it tells. Where there is none, as `rt ci` leaves it, the times do.
+    """
     if not is_built(name):
         return False
+    if stamp := stamp_beside(built(name)):
+        return stamp == stamp_now(name)
     parts = (path for part in PARTS if (path := CRATES / name / part).is_dir())
     sources = (path for part in parts for path in (part, *part.rglob("*")))
     needed = [LIST, *sources, *(built(it) / "format" for it in below(name))]

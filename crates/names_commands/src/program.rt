@@ -3,7 +3,7 @@ ghost use Rattle.std.specs.Prelude.{◌≡◌, ◌≢◌, ◌↔◌, true, false
 ghost use Rattle.std.specs.Io.KnownBytes.{Appends};
 ghost use Rattle.std.specs.IoError.{error_kind};
 ghost use Rattle.osbytes_commands.specs.Ended.{message, outcome_of, was_told};
-ghost use Rattle.osbytes_commands.specs.Marked.{marked_inner, has_failed};
+ghost use Rattle.osbytes_commands.specs.Marked.{marked_inner, has_failed, is_closed};
 ghost use Rattle.osbytes_commands.specs.Program.{words_behind_name};
 ghost use Rattle.osbytes_commands.specs.Strings.{strings};
 ghost use Rattle.osbytes_commands.specs.Written.{AppendsBeginning};
@@ -32,7 +32,8 @@ use std::io::{ErrorKind, Read, Write};
 /// The arguments begin with the program's name. Those after it are the words of a command
 /// ([`Request::parse`]), which is run as [`run`] says. Where no command that can run has them, where
 /// the arguments couldn't be had, or where the run fails, the fault's message goes to `errors`, or
-/// where not all of it is taken a beginning of it, and nothing else does. Both marks must be unset
+/// where not all of it is taken a beginning of it, and nothing else does. Nothing goes there where
+/// nobody reads the output any more ([`Marked::closed`]). Both marks must be unset
 /// ([`Marked::failed`] tells).
 ///
 /// ```
@@ -75,6 +76,7 @@ pub fn execute<A: Allocator, R: Read, W: Output, E: Messages>(
         ↔ (has_failed writer.new ≡ true) }
 
     // The message.
+    ensures closed { is_closed writer.new ≡ true → errors.new ≡ errors.old }
     ensures quiet { OnOk (outcome_of result) (errors.new ≡ errors.old) }
     ensures told { was_told result ≡ true → IfErr (outcome_of result) (λ fault.
         Appends (E.contents errors.old) (E.contents errors.new)
@@ -84,7 +86,10 @@ pub fn execute<A: Allocator, R: Read, W: Output, E: Messages>(
         (message (codes "names") (text_of fault))) }
 {
     match words(&alloc, args) {
-        Ok(words) => Ended::telling(run_words(&alloc, &words, reader, writer), errors),
+        Ok(words) => {
+            let outcome = run_words(&alloc, &words, reader, writer);
+            Ended::telling_unless(writer.closed(), outcome, errors)
+        }
         Err(Reason::Memory) => Ended::telling(Err(Fault::Run(Reason::Memory)), errors),
         Err(_) => Ended::telling(Err(Fault::Usage), errors),
     }

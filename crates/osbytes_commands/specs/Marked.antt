@@ -1,5 +1,8 @@
 -- A reader or a writer with a mark that one of its calls failed.
-use Rattle.std.specs.Prelude.{ℕ, List, Bool, true, ◌==◌, not, ◌&&◌, length, Result, Ok, Err}
+use Rattle.std.specs.Prelude.{◌≡◌, ℕ, List, Bool, true, ◌==◌, not, ◌&&◌, length, Result, Ok, Err}
+use Rattle.std.specs.declared.io.Error.{Error}
+use Rattle.std.specs.IoError.{error_kind}
+use Rattle.std.specs.declared.io.ErrorKind.TheVariants.{BrokenPipe}
 use Rattle.osbytes_commands.specs.declared.marked.Marked.{Marked}
 
 -- the reader or the writer itself
@@ -9,6 +12,15 @@ marked_inner marked = marked.inner
 -- the mark
 abbrev pub has_failed : {T : Type 0} → Marked T → Bool
 has_failed marked = marked.failed
+
+-- the mark, where the call that failed found that nobody reads any more what is written
+abbrev pub is_closed : {T : Type 0} → Marked T → Bool
+is_closed marked = marked.failed && marked.closed
+
+-- a call failed since nobody reads any more what is written
+abbrev pub IsBrokenPipe : {T : Type 0} → Result T Error → Type 0
+IsBrokenPipe (Ok value) = ⊥
+IsBrokenPipe (Err error) = error_kind error ≡ BrokenPipe
 
 -- whether a write of these bytes answered an error, or took none of them where there were some
 abbrev pub failed_write : {E : Type 0} → Result ℕ E → List ℕ → Bool

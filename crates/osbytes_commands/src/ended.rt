@@ -80,6 +80,42 @@ impl<F: ProgramFault> Ended<F> {
         Ended { outcome, told }
     }
 
+    /// The end of a run with this outcome, told by [`Ended::telling`], or not told at all where nobody
+    /// reads any more what the run writes (`is_closed`).
+    ///
+    /// ```
+    /// use osbytes_commands::ended::Ended;
+    /// use osbytes_commands::fault::Fault;
+    ///
+    /// let mut errors: Vec<u8> = Vec::new(alloc);
+    /// let ended = Ended::telling_unless(true, Err(Fault::Write), &mut errors);
+    /// assert!(rt; !ended.told() && ended.outcome() == Err(Fault::Write));
+    /// assert!(rt; errors.is_empty());
+    /// ```
+    pub fn telling_unless<E: Write>(
+        is_closed: bool,
+        outcome: Result<(), F>,
+        errors: &mut E,
+    ) -> Ended<F>
+        ensures outcome { outcome_of result ≡ outcome }
+        ensures closed { is_closed ≡ true → errors.new ≡ errors.old }
+        ensures quiet { OnOk outcome (errors.new ≡ errors.old) }
+        ensures told { was_told result ≡ true → IfErr outcome (λ fault.
+            Appends (E.contents errors.old) (E.contents errors.new)
+            (message F.name (F.text_of fault))) }
+        ensures beginning { IfErr outcome (λ fault.
+            AppendsBeginning (E.contents errors.old) (E.contents errors.new)
+            (message F.name (F.text_of fault))) }
+    {
+        if is_closed {
+            return Ended {
+                outcome,
+                told: false,
+            };
+        }
+        Ended::telling(outcome, errors)
+    }
+
     /// What the run answered.
     ///
     /// ```

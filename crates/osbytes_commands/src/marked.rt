@@ -1,24 +1,37 @@
 //! Readers and writers that remember a failure.
-ghost use Rattle.std.specs.Prelude.{◌≡◌, false, ◌||◌, is_err};
+ghost use Rattle.std.specs.Prelude.{◌≡◌, ◌⊎◌, ◌↔◌, true, false, ◌||◌, is_err, IsTrue};
+ghost use Rattle.osbytes_commands.specs.Marked.{IsBrokenPipe};
 ghost use Rattle.std.specs.Io.{ReadsAtMost, WritesAtMost};
 ghost use Rattle.std.specs.Io.KnownBytes.{Keeps, ReadConsumes, WriteAppends};
 
 use std::io;
-use std::io::{Read, Write};
+use std::io::{ErrorKind, Read, Write};
 
 /// A reader or a writer with a mark that tells whether one of its calls failed.
 ///
 /// The mark is unset at first. A call that answers an error sets it, and so does a write
 /// that takes nothing of bytes that aren't empty; no other call does. So after a `read`
-/// that answered an error [`Marked::failed`] is true.
+/// that answered an error [`Marked::failed`] is true. It also keeps whether the last write or flush
+/// that failed found that nobody reads what it writes any more ([`Marked::closed`]).
 #[derive(Drop)]
 pub struct Marked<T> {
     inner: T,
     failed: bool,
+    closed: bool,
+}
+
+/// Whether a call failed since nobody reads any more what is written: by the kind `BrokenPipe`.
+fn is_broken_pipe<T>(answer: &io::Result<T>) -> bool
+    ensures { IsTrue result ↔ IsBrokenPipe answer.now }
+{
+    match answer {
+        Ok(_) => false,
+        Err(error) => error.kind() == ErrorKind::BrokenPipe,
+    }
 }
 
 impl<T> Marked<T> {
-    ghost use Rattle.osbytes_commands.specs.Marked.{marked_inner, has_failed};
+    ghost use Rattle.osbytes_commands.specs.Marked.{marked_inner, has_failed, is_closed};
 
     /// The reader or the writer, with its mark unset.
     ///
@@ -35,6 +48,7 @@ impl<T> Marked<T> {
         Marked {
             inner,
             failed: false,
+            closed: false,
         }
     }
 
@@ -52,6 +66,22 @@ impl<T> Marked<T> {
         ensures { result ≡ has_failed self.now }
     {
         self.failed
+    }
+
+    /// Whether the mark is set, and the last write or flush that failed found that nobody reads what it
+    /// writes any more: a pipe whose reader has gone, as that of `head` has.
+    ///
+    /// ```
+    /// use osbytes_commands::marked::Marked;
+    ///
+    /// let mut taken = Vec::new(alloc);
+    /// let mut writer = Marked::new(&mut taken);
+    /// assert!(rt; writer.write(b"ab").is_ok() && !writer.closed());
+    /// ```
+    pub fn closed(&self) -> bool
+        ensures { result ≡ is_closed self.now }
+    {
+        self.failed && self.closed
     }
 }
 
@@ -81,13 +111,14 @@ impl<R: Read> Marked<R> {
         let result = self.inner.read(buf);
         if result.is_err() {
             self.failed = true;
+            self.closed = false;
         }
         result
     }
 }
 
 impl<W: Write> Marked<W> {
-    ghost use Rattle.osbytes_commands.specs.Marked.{marked_inner, has_failed, failed_write};
+    ghost use Rattle.osbytes_commands.specs.Marked.{marked_inner, has_failed, failed_write, is_closed};
 
     /// Writes as the writer does, and sets the mark at an error, or where nothing is taken
     /// of bytes that aren't empty.
@@ -109,15 +140,17 @@ impl<W: Write> Marked<W> {
         ensures bytes { WriteAppends (W.contents (marked_inner self.old))
             (W.contents (marked_inner self.new)) result buf.now }
         ensures mark { has_failed self.new ≡ (has_failed self.old || failed_write result buf.now) }
+        ensures closed { (is_closed self.new ≡ true) ↔ (IsBrokenPipe result
+            ⊎ ((failed_write result buf.now ≡ false) × (is_closed self.old ≡ true))) }
     {
         let result = self.inner.write(buf);
-        match result {
-            Ok(count) => {
-                if count == 0 && !buf.is_empty() {
-                    self.failed = true;
-                }
-            }
-            Err(_) => self.failed = true,
+        let has_failed = match result {
+            Ok(count) => count == 0 && !buf.is_empty(),
+            Err(_) => true,
+        };
+        if has_failed {
+            self.failed = true;
+            self.closed = is_broken_pipe(&result);
         }
         result
     }
@@ -139,10 +172,13 @@ impl<W: Write> Marked<W> {
         ensures bytes { Keeps (W.contents (marked_inner self.old))
             (W.contents (marked_inner self.new)) }
         ensures mark { has_failed self.new ≡ (has_failed self.old || is_err result) }
+        ensures closed { (is_closed self.new ≡ true) ↔ (IsBrokenPipe result
+            ⊎ ((is_err result ≡ false) × (is_closed self.old ≡ true))) }
     {
         let result = self.inner.flush();
         if result.is_err() {
             self.failed = true;
+            self.closed = is_broken_pipe(&result);
         }
         result
     }

@@ -5,7 +5,7 @@ ghost use Rattle.std.specs.IoError.{error_kind};
 ghost use Rattle.std.specs.Vec.Iter.{into_iter_items};
 ghost use Rattle.osbytes_commands.specs.Ended.{message, outcome_of, was_told};
 ghost use Rattle.osbytes_commands.specs.Fault.{text_of};
-ghost use Rattle.osbytes_commands.specs.Marked.{marked_inner, has_failed};
+ghost use Rattle.osbytes_commands.specs.Marked.{marked_inner, has_failed, is_closed};
 ghost use Rattle.osbytes_commands.specs.Program.{words_behind_name, AreNoCommand, RunsTo};
 ghost use Rattle.osbytes_commands.specs.Written.{AppendsBeginning};
 
@@ -34,7 +34,9 @@ impl Messages for Stderr {}
 /// The arguments begin with the program's name. Those after it are the words of a command
 /// ([`Command::parse`]), which is run as [`run`] says. Where no command that can run has them,
 /// where the arguments couldn't be had, or where the run fails, the fault's message goes to `errors`,
-/// or where not all of it is taken a beginning of it, and nothing else does. Both marks must be unset ([`Marked::failed`] tells).
+/// or where not all of it is taken a beginning of it, and nothing else does. Nothing goes there where
+/// nobody reads the output any more ([`Marked::closed`]). Both marks must be unset ([`Marked::failed`]
+/// tells).
 ///
 /// For the words `units` and `windows` and the input F0 90 80 80 (hexadecimal) it writes
 /// `d800`, a newline, `dc00` and a newline, and its status is 0. For no words it writes the
@@ -87,6 +89,7 @@ pub fn execute<A: Allocator, R: Read, W: Output, E: Messages>(
         (λ fault. fault ≢ Fault.Write → writer.new ≡ writer.old) }
 
     // The message.
+    ensures closed { is_closed writer.new ≡ true → errors.new ≡ errors.old }
     ensures quiet { OnOk (outcome_of result) (errors.new ≡ errors.old) }
     ensures told { was_told result ≡ true → IfErr (outcome_of result) (λ fault.
         Appends (E.contents errors.old) (E.contents errors.new)
@@ -96,7 +99,10 @@ pub fn execute<A: Allocator, R: Read, W: Output, E: Messages>(
         (message (codes "osbytes") (text_of fault))) }
 {
     match words(&alloc, args) {
-        Ok(words) => Ended::telling(run_words(&alloc, &words, reader, writer), errors),
+        Ok(words) => {
+            let outcome = run_words(&alloc, &words, reader, writer);
+            Ended::telling_unless(writer.closed(), outcome, errors)
+        }
         Err(fault) => Ended::telling(Err(fault), errors),
     }
 }

@@ -12,12 +12,13 @@ mod programs;
 mod runs;
 mod words;
 
-pub use marks::marked_by_no_bytes;
+pub use marks::{closed_by_a_flush, closed_by_a_write, closed_by_no_bytes, marked_by_no_bytes};
 pub use names::{check_one, known_request, line_before, line_of, names_again, request_of_two};
 pub use plans::{kept, refuses_first, turns};
 pub use programs::{
-    after_a_fault, after_success, names_without_arguments, program_names, statuses, with_arguments,
-    with_words, without_arguments,
+    after_a_fault, after_success, names_silent_where_closed, names_without_arguments,
+    program_names, silent_where_closed, statuses, untold, with_arguments, with_words,
+    without_arguments,
 };
 pub use runs::{faults_match_marks, run_once, split_at_nothing};
 pub use words::{known_words, splits_at_nothing, too_many_words};

@@ -1,8 +1,8 @@
 //! Marks of readers and writers.
-ghost use Rattle.std.specs.Prelude.{◌≡◌, false};
+ghost use Rattle.std.specs.Prelude.{◌≡◌, ◌↔◌, false, IsTrue};
 
 use osbytes_commands::marked::Marked;
-use std::io::Write;
+use std::io::{ErrorKind, Write};
 
 /// Whether a write of no bytes that answers `Ok` sets a writer's mark.
 pub fn marked_by_no_bytes<W: Write + Drop>(writer: W) -> bool
@@ -10,4 +10,34 @@ pub fn marked_by_no_bytes<W: Write + Drop>(writer: W) -> bool
 {
     let mut writer = Marked::new(writer);
     writer.write(b"").is_ok() && writer.failed()
+}
+
+/// Whether a writer is closed after a write that answers `Ok`.
+pub fn closed_by_no_bytes<W: Write + Drop>(writer: W) -> bool
+    ensures { result ≡ false }
+{
+    let mut writer = Marked::new(writer);
+    writer.write(b"").is_ok() && writer.closed()
+}
+
+/// Whether a write failed since nobody reads any more, by its error and by the writer.
+pub fn closed_by_a_write<W: Write + Drop>(writer: W) -> (bool, bool)
+    ensures { IsTrue result.0 ↔ IsTrue result.1 }
+{
+    let mut writer = Marked::new(writer);
+    match writer.write(b"a") {
+        Ok(_) => (false, writer.closed()),
+        Err(error) => (error.kind() == ErrorKind::BrokenPipe, writer.closed()),
+    }
+}
+
+/// The same of a flush.
+pub fn closed_by_a_flush<W: Write + Drop>(writer: W) -> (bool, bool)
+    ensures { IsTrue result.0 ↔ IsTrue result.1 }
+{
+    let mut writer = Marked::new(writer);
+    match writer.flush() {
+        Ok(()) => (false, writer.closed()),
+        Err(error) => (error.kind() == ErrorKind::BrokenPipe, writer.closed()),
+    }
 }

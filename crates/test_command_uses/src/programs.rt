@@ -70,6 +70,46 @@ pub fn with_arguments<A: Allocator, R: Read, W: Output, E: Messages>(
     execute(alloc, Ok(arguments), reader, writer, errors).outcome()
 }
 
+/// Whether nobody reads the program's output any more; it then has told nothing.
+pub fn silent_where_closed<A: Allocator, R: Read, W: Output, E: Messages>(
+    alloc: A,
+    arguments: Args,
+    reader: &mut Marked<R>,
+    writer: &mut Marked<W>,
+    errors: &mut E,
+) -> bool
+    requires reader_unmarked { has_failed reader.old ≡ false }
+    requires writer_unmarked { has_failed writer.old ≡ false }
+    ensures { result ≡ true → errors.new ≡ errors.old }
+{
+    let _ = execute(alloc, Ok(arguments), reader, writer, errors);
+    writer.closed()
+}
+
+/// Whether nobody reads the output of the program for names any more; it then has told nothing.
+pub fn names_silent_where_closed<A: Allocator, R: Read, W: Output, E: Messages>(
+    alloc: A,
+    arguments: Args,
+    reader: &mut Marked<R>,
+    writer: &mut Marked<W>,
+    errors: &mut E,
+) -> bool
+    requires reader_unmarked { has_failed reader.old ≡ false }
+    requires writer_unmarked { has_failed writer.old ≡ false }
+    ensures { result ≡ true → errors.new ≡ errors.old }
+{
+    let _ = execute_names(alloc, Ok(arguments), reader, writer, errors);
+    writer.closed()
+}
+
+/// The end of a run whose outcome nobody waits for: it is told nowhere.
+pub fn untold<F: ProgramFault, E: Write>(outcome: Result<(), F>, errors: &mut E) -> Result<(), F>
+    ensures outcome { result ≡ outcome }
+    ensures quiet { errors.new ≡ errors.old }
+{
+    Ended::telling_unless(true, outcome, errors).outcome()
+}
+
 /// The program for names where its arguments can't be had: whether it told why, and its status.
 pub fn names_without_arguments<P: Eprint, A: Allocator, R: Read, W: Output, E: Messages>(
     rt: &P,

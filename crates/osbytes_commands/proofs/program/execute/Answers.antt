@@ -16,7 +16,7 @@ no_error (Ok x) P is = tt
 no_error (Err e) P is = absurd (false≢true is)
 
 pub returns-in-Ok-clause-ok : goal.returns-in-Ok-clause-ok
-returns-in-Ok-clause-ok g c = on_ok c.telling.result.outcome c.in-Ok.ensures.ok
+returns-in-Ok-clause-ok g c = on_ok c.telling_unless.result.outcome c.in-Ok.ensures.ok
 
 pub returns-in-Ok-clause-no_words : goal.returns-in-Ok-clause-no_words
 returns-in-Ok-clause-no_words g c = no_error c.args.args _ c.in-Ok.ensures.ok
@@ -27,71 +27,71 @@ returns-in-Ok-clause-no_memory g c = no_error c.args.args _ c.in-Ok.ensures.ok
 pub returns-in-Ok-clause-usage : goal.returns-in-Ok-clause-usage
 returns-in-Ok-clause-usage g c =
     IfOk-weaker c.args.args _ _
-    (λ args same is_usage. subst AreNoCommand (ap (map string_bytes) c.deref.ensures.value ∙ same) (c.run_words.ensures.usage.0 (sym c.telling.ensures.outcome ∙ is_usage)))
+    (λ args same is_usage. subst AreNoCommand (ap (map string_bytes) c.deref.ensures.value ∙ same) (c.run_words-outcome.ensures.usage.0 (sym c.telling_unless.ensures.outcome ∙ is_usage)))
     c.in-Ok.ensures.words
 
 pub returns-in-Ok-clause-no_command : goal.returns-in-Ok-clause-no_command
 returns-in-Ok-clause-no_command g c =
     IfOk-weaker c.args.args _ _
-    (λ args same none. inl (c.telling.ensures.outcome ∙ c.run_words.ensures.usage.1 (subst AreNoCommand (sym (ap (map string_bytes) c.deref.ensures.value ∙ same)) none)))
+    (λ args same none. inl (c.telling_unless.ensures.outcome ∙ c.run_words-outcome.ensures.usage.1 (subst AreNoCommand (sym (ap (map string_bytes) c.deref.ensures.value ∙ same)) none)))
     c.in-Ok.ensures.words
 
 pub returns-in-Ok-clause-run : goal.returns-in-Ok-clause-run
 returns-in-Ok-clause-run g c =
     IfOk-weaker c.args.args _ _
-    (λ args same command with_words. rw c.telling.ensures.outcome (c.run_words.ensures.run command (ap (map string_bytes) c.deref.ensures.value ∙ (same ∙ with_words))))
+    (λ args same command with_words. rw c.telling_unless.ensures.outcome (c.run_words-outcome.ensures.run command (ap (map string_bytes) c.deref.ensures.value ∙ (same ∙ with_words))))
     c.in-Ok.ensures.words
 
 pub returns-in-Ok-clause-all_read : goal.returns-in-Ok-clause-all_read
-returns-in-Ok-clause-all_read g c = rw c.telling.ensures.outcome c.run_words.ensures.all_read
+returns-in-Ok-clause-all_read g c = rw c.telling_unless.ensures.outcome c.run_words-outcome.ensures.all_read
 
 pub returns-in-Ok-clause-read : goal.returns-in-Ok-clause-read
-returns-in-Ok-clause-read g c = rw c.telling.ensures.outcome c.run_words.ensures.read
+returns-in-Ok-clause-read g c = rw c.telling_unless.ensures.outcome c.run_words-outcome.ensures.read
 
 pub returns-in-Ok-clause-write : goal.returns-in-Ok-clause-write
-returns-in-Ok-clause-write g c = rw c.telling.ensures.outcome c.run_words.ensures.write
+returns-in-Ok-clause-write g c = rw c.telling_unless.ensures.outcome c.run_words-outcome.ensures.write
 
 pub returns-in-Ok-clause-nothing_written : goal.returns-in-Ok-clause-nothing_written
-returns-in-Ok-clause-nothing_written g c = rw c.telling.ensures.outcome c.run_words.ensures.nothing_written
+returns-in-Ok-clause-nothing_written g c = rw c.telling_unless.ensures.outcome c.run_words-outcome.ensures.nothing_written
 
 pub returns-in-Ok-clause-quiet : goal.returns-in-Ok-clause-quiet
-returns-in-Ok-clause-quiet g c = rw c.telling.ensures.outcome c.telling.ensures.quiet
+returns-in-Ok-clause-quiet g c = rw c.telling_unless.ensures.outcome c.telling_unless.ensures.quiet
 
 pub returns-in-Ok-clause-told : goal.returns-in-Ok-clause-told
-returns-in-Ok-clause-told g c = rw c.telling.ensures.outcome c.telling.ensures.told
+returns-in-Ok-clause-told g c = rw c.telling_unless.ensures.outcome c.telling_unless.ensures.told
 
 pub returns-in-Ok-clause-beginning : goal.returns-in-Ok-clause-beginning
-returns-in-Ok-clause-beginning g c = rw c.telling.ensures.outcome c.telling.ensures.beginning
+returns-in-Ok-clause-beginning g c = rw c.telling_unless.ensures.outcome c.telling_unless.ensures.beginning
 
 pub returns-clause-ok : goal.returns-clause-ok
-returns-clause-ok g c = rw c.telling-in-Err.ensures.outcome tt
+returns-clause-ok g c = rw c.telling.ensures.outcome tt
 
 pub returns-clause-no_words : goal.returns-clause-no_words
 returns-clause-no_words g c =
     IfErr-weaker c.args.args _ _
-    (λ error is kind. IfErr-at_err (λ fault. c.telling-in-Err.result.outcome ≡ Err fault) (is kind) c.telling-in-Err.ensures.outcome)
+    (λ error is kind. IfErr-at_err (λ fault. c.telling.result.outcome ≡ Err fault) (is kind) c.telling.ensures.outcome)
     c.in-Err.ensures.no_words
 
 pub returns-clause-no_memory : goal.returns-clause-no_memory
 returns-clause-no_memory g c =
     IfErr-weaker c.args.args _ _
-    (λ error is kind. IfErr-at_err (λ fault. c.telling-in-Err.result.outcome ≡ Err fault) (is kind) c.telling-in-Err.ensures.outcome)
+    (λ error is kind. IfErr-at_err (λ fault. c.telling.result.outcome ≡ Err fault) (is kind) c.telling.ensures.outcome)
     c.in-Err.ensures.no_memory
 
 pub returns-clause-no_command : goal.returns-clause-no_command
 returns-clause-no_command g c =
     IfOk-weaker c.args.args _ _
-    (λ args is_memory none. inr (c.telling-in-Err.ensures.outcome ∙ ap Err is_memory))
+    (λ args is_memory none. inr (c.telling.ensures.outcome ∙ ap Err is_memory))
     c.in-Err.ensures.memory
 
 pub returns-clause-all_read : goal.returns-clause-all_read
-returns-clause-all_read g c = rw c.telling-in-Err.ensures.outcome tt
+returns-clause-all_read g c = rw c.telling.ensures.outcome tt
 
 pub returns-clause-quiet : goal.returns-clause-quiet
-returns-clause-quiet g c = rw c.telling-in-Err.ensures.outcome tt
+returns-clause-quiet g c = rw c.telling.ensures.outcome tt
 
 pub returns-clause-told : goal.returns-clause-told
-returns-clause-told g c = rw c.telling-in-Err.ensures.outcome c.telling-in-Err.ensures.told
+returns-clause-told g c = rw c.telling.ensures.outcome c.telling.ensures.told
 
 pub returns-clause-beginning : goal.returns-clause-beginning
-returns-clause-beginning g c = rw c.telling-in-Err.ensures.outcome c.telling-in-Err.ensures.beginning
+returns-clause-beginning g c = rw c.telling.ensures.outcome c.telling.ensures.beginning

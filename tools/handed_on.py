@@ -1,0 +1,114 @@
+"""What users get of this repository: the libraries, as files with their sums, and as they are built.
+
+A folder that is laid out for users has the lines of the libraries in `crates.txt`, their sources in
+`crates/NAME/src`, `specs` and `proofs`, and in `crates/NAME/out/rlib` what is built of them, with the stamp
+by which `rt` knows that it is built of these very sources, lines and kit.
+"""
+
+from __future__ import annotations
+
+import hashlib
+import re
+import subprocess
+from pathlib import Path
+from typing import Iterator
+
+from compiling import CRATES, LIST, PARTS, ROOT, built, is_current, stamp_beside, stamps
+from replacing import copy_folder
+
+PROJECT = "os_str_bytes"
+# The program logic that the libraries are proved in, as `rt version` ends.
+LOGIC = "logic dac8208d650f15bf"
+# Where a repository keeps the sums of the sources that were laid into it: `sha256sum -c` reads it at its top.
+SUMS = f"crates/{PROJECT}.sha256"
+ROW = re.compile(r"([0-9a-f]{64})  (.+)")
+VERSION = re.compile(r"^# .* version (\S+)$", re.M)
+
+
+class Refusal(Exception):
+    """Why nothing was done."""
+
+
+def version() -> str:
+    """Returns the version of this checkout, of which docs/VERSION is the one place."""
+    path = ROOT / "docs" / "VERSION"
+    return path.read_text(encoding="utf-8").split()[0] if path.exists() else "unnumbered"
+
+
+def kit_line() -> str:
+    """Returns the line of the kit that `rt` is of, if that has the program logic of the libraries."""
+    try:
+        line = subprocess.run(["rt", "version"], stdout=subprocess.PIPE, text=True, check=True).stdout.strip()
+    except (OSError, subprocess.CalledProcessError) as error:
+        raise Refusal(f"there is no kit, whose command is rt: {error}") from None
+    if not line.endswith(LOGIC):
+        raise Refusal(f"the libraries are proved in another program logic: this kit is {line}, and they need {LOGIC}")
+    return line
+
+
+def libraries() -> list[str]:
+    """Returns the libraries that users get, lowest first: the first group of crates.txt."""
+    return list(lines_of(LIST.read_text(encoding="utf-8").split("\n\n")[0]))
+
+
+def lines_of(text: str) -> dict[str, str]:
+    """Returns the lines of a crates.txt by the crates that they name, without comments."""
+    return {row[1]: row[0].strip() for row in re.finditer(r"^(\w+)[^:\n#]*:[^\n#]*", text, re.M)}
+
+
+def sources(top: Path, name: str) -> list[Path]:
+    """Returns the files that a library of a repository is made from."""
+    folders = (top / "crates" / name / part for part in PARTS)
+    return [path for folder in folders for path in sorted(folder.rglob("*")) if path.is_file()]
+
+
+def sum_of(path: Path) -> str:
+    return hashlib.sha256(path.read_bytes()).hexdigest()
+
+
+def sums_of(top: Path, paths: list[Path]) -> dict[str, str]:
+    """Returns the sums of files by their paths below a folder."""
+    return {str(path.relative_to(top)): sum_of(path) for path in paths}
+
+
+def sums_text(sums: dict[str, str], version: str) -> str:
+    """Returns sums as the lines that `sha256sum` writes and reads, after the version and the kit's line."""
+    head = f"# {PROJECT} in Rattle, version {version}\n# {kit_line()}\n"
+    return head + "".join(f"{sum}  {path}\n" for path, sum in sums.items())
+
+
+def read_sums(text: str) -> dict[str, str]:
+    """Returns the sums of such lines by their paths."""
+    return {row[2]: row[1] for line in text.splitlines() if (row := ROW.fullmatch(line))}
+
+
+def version_in(text: str) -> str:
+    """Returns the version that is before such lines."""
+    found = VERSION.search(text)
+    return found[1] if found else "unnumbered"
+
+
+def gather(room: Path) -> None:
+    """Lays the libraries of this checkout out for users, in an empty folder: sources, and what is built of them."""
+    of = libraries()
+    lines = lines_of(LIST.read_text(encoding="utf-8"))
+    (room / "crates.txt").write_text("".join(f"{lines[name]}\n" for name in of), encoding="utf-8")
+    for name in of:
+        for part in PARTS:
+            if (CRATES / name / part).is_dir():
+                copy_folder(CRATES / name / part, room / "crates" / name / part)
+    for name, stamp in stamps(room, of).items():
+        if is_current(name):
+            rlib = room / "crates" / name / "out" / "rlib"
+            copy_folder(built(name), rlib / built(name).name)
+            (rlib / "stamp").write_text(stamp, encoding="utf-8")
+
+
+def is_laid_built(top: Path, name: str, stamp: str) -> bool:
+    """Returns whether a repository has a library built, with this stamp."""
+    rlib = top / "crates" / name / "out" / "rlib"
+    return (rlib / f"{name}.rlib" / "format").exists() and stamp_beside(rlib / f"{name}.rlib") == stamp
+
+
+def files_below(folder: Path) -> Iterator[Path]:
+    return (path for path in sorted(folder.rglob("*")) if path.is_file())
