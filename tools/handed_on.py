@@ -13,8 +13,9 @@ import subprocess
 from pathlib import Path
 from typing import Iterator
 
-from compiling import CRATES, LIST, PARTS, ROOT, built, is_current, stamp_beside, stamps
+from compiling import CRATES, LIST, PARTS, built, is_current, stamp_beside, stamps
 from replacing import copy_folder
+from sources import ROOT
 
 PROJECT = "os_str_bytes"
 # The program logic that the libraries are proved in, as `rt version` ends.
