@@ -34,7 +34,7 @@ pub(crate) enum Item<'p> {
 }
 
 /// Whether a character matches itself in a pattern, whatever comes after it.
-#[tactic(auto, using(crate::proofs::Ends::plain))]
+#[tactic(auto, using(crate::proofs::lemmas::Ends::plain))]
 pub(crate) fn is_plain(character: char) -> bool
     ensures { IsTrue result → IsPlain character }
 {

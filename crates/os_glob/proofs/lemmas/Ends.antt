@@ -23,9 +23,9 @@ use Rattle.os_glob.specs.Ends.{IsPlain, BeginsWith, EndsWith, AreRead, StandsAlo
 use Rattle.os_glob.specs.Skips.{IsNone, left_out}
 use Rattle.os_glob.specs.Pattern.{tokens}
 use Rattle.os_glob.specs.Match.{Takes, Matches, IsMatch}
-use Rattle.os_glob.proofs.Readings.{items_after}
-use Rattle.os_glob.proofs.Runs.{parts}
-use Rattle.os_glob.proofs.Skips.{all_so, no_separator, passed_at}
+use Rattle.os_glob.proofs.lemmas.Readings.{items_after}
+use Rattle.os_glob.proofs.lemmas.Runs.{parts}
+use Rattle.os_glob.proofs.lemmas.Skips.{all_so, no_separator, passed_at}
 
 -- a text of no bytes
 pub no_characters : (text : List ℕ) (empty : Bool) → empty ≡ (length text == 0) → empty ≡ true → chars text ≡ []
