@@ -53,8 +53,8 @@ pub(crate) fn literal_prefix(pattern: &str) -> &str
     ensures begins { BeginsWith (items (chars pattern.now)) (chars result.now) }
     ensures text { IsUtf8 result.now }
 {
-    let (front, _) = split_before(pattern, b'*', b'?', b'[');
-    let (prefix, _) = split_before(front, b'\\', b'\\', b'\\');
+    let (plain, _) = split_before(pattern, b'*', b'?', b'[');
+    let (prefix, _) = split_before(plain, b'\\', b'\\', b'\\');
     prefix
 }
 

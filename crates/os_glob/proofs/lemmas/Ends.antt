@@ -49,9 +49,9 @@ all_plain : (ps rs : List ℕ) → AllByRecursion (IsNone 0x2A 0x3F 0x5B) (ps ++
 all_plain [] rs h k = tt
 all_plain (c ∷ ps) rs h k = (plain c h.0.0 h.0.1.0 k.0.0 h.0.1.1, all_plain ps rs h.1 k.1)
 
-pub begins : (all front more prefix rest : List ℕ) → all ≡ front ++ more → front ≡ prefix ++ rest
-    → AllByRecursion (IsNone 0x2A 0x3F 0x5B) front → AllByRecursion (IsNone 0x5C 0x5C 0x5C) prefix → BeginsWith (items all) prefix
-begins all front more prefix rest e f h k = (
+pub begins : (all start more prefix rest : List ℕ) → all ≡ start ++ more → start ≡ prefix ++ rest
+    → AllByRecursion (IsNone 0x2A 0x3F 0x5B) start → AllByRecursion (IsNone 0x5C 0x5C 0x5C) prefix → BeginsWith (items all) prefix
+begins all start more prefix rest e f h k = (
   items (rest ++ more),
   ap items (e ∙ ap (λ x. x ++ more) f ∙ append_assoc prefix rest more)
       ∙ plain_items prefix (rest ++ more) (all_plain prefix rest (subst (AllByRecursion (IsNone 0x2A 0x3F 0x5B)) f h) k),
