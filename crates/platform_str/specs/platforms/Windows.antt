@@ -1,5 +1,5 @@
 -- The strings of Windows: WTF-8. What its words mean, and its records of laws, proved; that of standing is wtf8_core's.
-use Rattle.std.proofs.Common.{ℕ, ◌≤◌, List, ◌++◌, length, drop, sym, ap, ◌∙◌, subst, arith}
+use Rattle.std.proofs.Common.{◌≤◌, ◌++◌, length, drop, sym, ap, ◌∙◌, subst, arith}
 use Rattle.std.specs.Str.{IsUtf8}
 use Rattle.wtf8_core.specs.Checker.{HasFirstFault}
 use Rattle.wtf8_core.specs.Wtf8.{IsWtf8}
@@ -8,7 +8,6 @@ use Rattle.wtf8_core.specs.Lossy.{replacement}
 use Rattle.wtf8_core.specs.LossyReading.{IsLossyReading}
 use Rattle.wtf8_core.specs.LossyReading.IsLossyReading.{formed}
 use Rattle.wtf8_core.specs.PartUnits.{AreLoneSurrogates}
-use Rattle.wtf8_core.specs.declared.fault.EncodingError.{EncodingError}
 use Rattle.wtf8_core.proofs.lemmas.reader.Complete.{never_both, one_fault}
 use Rattle.wtf8_core.proofs.lemmas.units.AsFunction.{one_spelling, some_spelling, units_listed, units_cut}
 use Rattle.wtf8_core.proofs.lemmas.characters.AtPlaces.{none_begins}
