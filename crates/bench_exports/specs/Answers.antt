@@ -2,7 +2,7 @@
 use Rattle.std.specs.Prelude.{◌≡◌, ◌⊎◌, ℕ, suc, ◌+◌, ◌%◌, ◌^◌, ◌≤◌, false, List, [], ◌∷◌, length, take, drop}
 use Rattle.std.specs.List.{repeat}
 use Rattle.wtf8_core.specs.declared.fault.EncodingError.{EncodingError}
-use Rattle.platform_str.specs.platforms.Windows.{IsWtf8Fault}
+use Rattle.wtf8_core.specs.Checker.{HasFirstFault}
 use Rattle.os_str_ext.specs.Parts.{unit_number}
 use Rattle.os_str_ext.specs.declared.symbols.Symbol.{Symbol}
 use Rattle.os_str_ext.specs.declared.symbols.Symbol.TheVariants.{Character}
@@ -12,7 +12,7 @@ use Rattle.os_glob.specs.declared.options.Separators.TheVariants as separators
 
 -- the bytes aren't WTF-8: they have a first fault
 abbrev pub IsFaulty : List ℕ → Type 0
-IsFaulty bytes = (fault : EncodingError) × IsWtf8Fault bytes fault
+IsFaulty bytes = (fault : EncodingError) × HasFirstFault bytes fault
 
 -- the first `count` items of the new list are wanted ones, and those after them are as they were
 pub record IsFilled (Wanted : List ℕ → Type 0) (old new : List ℕ) (count : ℕ) : Type 0 where

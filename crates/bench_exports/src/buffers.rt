@@ -1,12 +1,13 @@
 //! Texts and strings written into a buffer, of bytes that may not be a string.
 ghost use Rattle.std.specs.Prelude.{◌≢◌, ◌*◌, ◌<◌, ◌^◌, ℕ, List, length};
+ghost use Rattle.std.specs.List.{All};
 ghost use Rattle.std.specs.Str.{IsUtf8};
 ghost use Rattle.std.specs.Str.Lossy.{utf8_lossy};
+ghost use Rattle.wtf8_core.specs.Byte.{IsByte};
 ghost use Rattle.wtf8_core.specs.Truncated.{IsTruncated};
 ghost use Rattle.wtf8_core.specs.UnitsOf.{units_of, wtf8_lossy};
 ghost use Rattle.wtf8_core.specs.Wtf8.{IsWtf8};
 ghost use Rattle.platform_str.specs.PlatformWords.{itself};
-ghost use Rattle.platform_str.specs.platforms.Unix.{AreBytes};
 ghost use Rattle.os_quote.specs.Escape.{IsEscape, IsLineEscape};
 ghost use Rattle.os_quote.specs.Unescaped.{IsUnescaped, IsLineUnescaped};
 
@@ -100,7 +101,8 @@ fn unescaped_len<E: Platform>(escape: &[u8], out: &mut [u8]) -> usize
 /// `usize::MAX` where the escape is refused.
 #[unsafe(no_mangle)]
 pub extern "C" fn port_write_unescaped(escape: &[u8], out: &mut [u8]) -> usize
-    ensures { result ≢ usize.MAX → IsUnescaped AreBytes itself escape.now out.old out.new result }
+    ensures { result ≢ usize.MAX
+        → IsUnescaped (All IsByte) itself escape.now out.old out.new result }
 {
     unescaped_len::<Unix>(escape, out)
 }
@@ -138,7 +140,7 @@ fn line_unescaped_len<E: Platform>(escape: &[u8], out: &mut [u8]) -> usize
 #[unsafe(no_mangle)]
 pub extern "C" fn port_write_unescaped_line(escape: &[u8], out: &mut [u8]) -> usize
     ensures { result ≢ usize.MAX
-        → IsLineUnescaped AreBytes itself escape.now out.old out.new result }
+        → IsLineUnescaped (All IsByte) itself escape.now out.old out.new result }
 {
     line_unescaped_len::<Unix>(escape, out)
 }

@@ -6,7 +6,7 @@ ghost use Rattle.os_args.specs.Word.{StartsWithDigit, StartsWithFraction, Starts
 use os_str_ext::{OsStr, OsStrBytesExt, Platform};
 
 /// Whether a word starts with a dash and a digit, or with a dash, a point and a digit.
-#[tactic(auto, using(crate::proofs::Numbers::numbers))]
+#[tactic(auto, using(crate::proofs::lemmas::Numbers::numbers))]
 pub(crate) fn starts_as_negative<'a, E: Platform>(word: OsStr<'a, E>) -> bool
     ensures { IsTrue result ↔ StartsAsNegative (bytes word.entry) }
 {
@@ -17,7 +17,7 @@ pub(crate) fn starts_as_negative<'a, E: Platform>(word: OsStr<'a, E>) -> bool
 }
 
 /// Whether a string starts with a digit, or with a point and a digit.
-#[tactic(auto, using(crate::proofs::Numbers::numbers))]
+#[tactic(auto, using(crate::proofs::lemmas::Numbers::numbers))]
 fn starts_as_number<'a, E: Platform>(number: OsStr<'a, E>) -> bool
     ensures { IsTrue result
         ↔ (StartsWithDigit (bytes number.entry) ⊎ StartsWithFraction (bytes number.entry)) }
@@ -29,7 +29,7 @@ fn starts_as_number<'a, E: Platform>(number: OsStr<'a, E>) -> bool
 }
 
 /// Whether the first byte is an ASCII digit.
-#[tactic(auto, using(crate::proofs::Numbers::numbers))]
+#[tactic(auto, using(crate::proofs::lemmas::Numbers::numbers))]
 fn starts_with_digit(bytes: &[u8]) -> bool
     ensures { IsTrue result ↔ StartsWithDigit bytes.now }
 {

@@ -26,7 +26,7 @@ pub enum Word<'a, S> {
 }
 
 /// Reads a word before any `--`, which it isn't, and returns the rest of the word.
-#[tactic(auto, using(crate::proofs::Readings::kinds))]
+#[tactic(auto, using(crate::proofs::lemmas::Readings::kinds))]
 pub(crate) fn read_word<'a, E: Platform>(
     numbers: bool,
     word: OsStr<'a, E>,

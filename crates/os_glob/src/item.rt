@@ -34,7 +34,7 @@ pub(crate) enum Item<'p> {
 }
 
 /// Whether a character matches itself in a pattern, whatever comes after it.
-#[tactic(auto, using(crate::proofs::Ends::plain))]
+#[tactic(auto, using(crate::proofs::lemmas::Ends::plain))]
 pub(crate) fn is_plain(character: char) -> bool
     ensures { IsTrue result → IsPlain character }
 {
@@ -53,8 +53,8 @@ pub(crate) fn literal_prefix(pattern: &str) -> &str
     ensures begins { BeginsWith (items (chars pattern.now)) (chars result.now) }
     ensures text { IsUtf8 result.now }
 {
-    let (front, _) = split_before(pattern, b'*', b'?', b'[');
-    let (prefix, _) = split_before(front, b'\\', b'\\', b'\\');
+    let (plain, _) = split_before(pattern, b'*', b'?', b'[');
+    let (prefix, _) = split_before(plain, b'\\', b'\\', b'\\');
     prefix
 }
 

@@ -112,9 +112,9 @@ fn first_range(first: char, rest: &str) -> (Range, &str)
     ensures text { IsUtf8 result.1.now }
 {
     if let Some(('-', after)) = first_char(rest) {
-        if let Some((last, behind)) = first_char(after) {
+        if let Some((last, left)) = first_char(after) {
             if last != ']' {
-                return (Range { first, last }, behind);
+                return (Range { first, last }, left);
             }
         }
     }

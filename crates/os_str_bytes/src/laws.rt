@@ -5,15 +5,17 @@ ghost use Rattle.std.specs.Prelude.{◌≡◌, ◌↔◌, ℕ, List, IsTrue, Som
 ghost use Rattle.std.specs.Cmp.Lexicographic.{slice_cmp};
 ghost use Rattle.std.specs.Ordering.{nat_cmp};
 ghost use Rattle.std.specs.Hash as fed;
+ghost use Rattle.std.specs.List.{All};
 ghost use Rattle.std.specs.Str.{IsUtf8};
+ghost use Rattle.wtf8_core.specs.Byte.{IsByte};
+ghost use Rattle.wtf8_core.specs.Checker.{HasFirstFault};
 ghost use Rattle.wtf8_core.specs.Wtf8.{IsWtf8, HasUnits};
 ghost use Rattle.wtf8_core.specs.Lossy.{IsLossyText, IsWtf8LossyText};
 ghost use Rattle.wtf8_core.specs.PartUnits.{AreLoneSurrogates};
 ghost use Rattle.wtf8_core.specs.Utf8.{IsIllFormedPart};
 ghost use Rattle.wtf8_core.specs.LossyReading.{IsLossyReading};
 ghost use Rattle.platform_str.specs.PlatformWords.{AreWideUnits, IsThree};
-ghost use Rattle.platform_str.specs.platforms.Unix.{AreAboveAscii, AreBytes, IsNoFault, IsSame};
-ghost use Rattle.platform_str.specs.platforms.Windows.{IsWtf8Fault};
+ghost use Rattle.platform_str.specs.platforms.Unix.{AreAboveAscii, IsNoFault, IsSame};
 ghost use Rattle.platform_str.specs.platforms.Wasm.{AreNone, IsTextFault};
 ghost use Rattle.os_str_bytes.specs.Raw.{raw_bytes, raw_vec_of};
 ghost use Rattle.os_str_bytes.specs.Headline.{IsPlatform, AreItself};
@@ -36,9 +38,9 @@ pub use wtf8_core::laws::order;
 /// string. The units of the part of a chunk are at least 80 (hexadecimal) on Unix and lone
 /// surrogates on Windows; on wasm there are none.
 pub fn platforms()
-    ensures unix { IsPlatform ⟦<Unix as Platform>⟧ AreBytes (AreItself AreBytes) AreBytes IsNoFault
-        AreBytes IsLossyText IsIllFormedPart AreAboveAscii }
-    ensures windows { IsPlatform ⟦<Windows as Platform>⟧ IsWtf8 HasUnits AreWideUnits IsWtf8Fault
+    ensures unix { IsPlatform ⟦<Unix as Platform>⟧ (All IsByte) (AreItself (All IsByte))
+        (All IsByte) IsNoFault (All IsByte) IsLossyText IsIllFormedPart AreAboveAscii }
+    ensures windows { IsPlatform ⟦<Windows as Platform>⟧ IsWtf8 HasUnits AreWideUnits HasFirstFault
         IsUtf8 IsWtf8LossyText IsThree AreLoneSurrogates }
     ensures wasm { IsPlatform ⟦<Wasm as Platform>⟧ IsUtf8 (AreItself IsUtf8) IsUtf8 IsTextFault
         IsUtf8 IsSame IsThree AreNone }

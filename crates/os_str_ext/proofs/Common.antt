@@ -1,6 +1,6 @@
 -- The names that most proofs cite, re-exported from one file. Declares nothing.
 pub use Rattle.memchr.proofs.lemmas.MatchLemmas.{OccursAt-from_part, OccursAt-part}
-pub use Rattle.memchr.specs.Find.{FindsLastNeedle, FindsNeedle, IsFirstByte, Nowhere, OccursAt, Passes, is_byte}
+pub use Rattle.memchr.specs.Find.{FindsLastNeedle, FindsNeedle, IsFirstByte, Nowhere, OccursAt as NeedleOccursAt, Passes, is_byte}
 pub use Rattle.os_str_ext.specs.Characters.{IsFirstChar, IsOneCharacter}
 pub use Rattle.os_str_ext.specs.Chunks.{IsBareUpTo, IsChunkOf, IsFirstChunk, chunks_of}
 pub use Rattle.os_str_ext.specs.Cuts.{AreOfRest, ArePieces, pieces_left}

@@ -5,8 +5,8 @@ use Rattle.std.proofs.Common.{sym, subst}
 use Rattle.std.proofs.lemmas.Str.{length-encode, len_utf8_bounds}
 
 -- for a pattern that may be any text, `not_empty` is just that it has a byte
-abbrev pub itself : (p : List ℕ) → (0 < length p) ↔ (0 < length p)
-itself p = (λ h. h, λ h. h)
+abbrev pub either_way : (p : List ℕ) → (0 < length p) ↔ (0 < length p)
+either_way p = (λ h. h, λ h. h)
 
 -- a character has at least one byte
 pub char_has_bytes : (c : ℕ) → Unit {0} ↔ (0 < length (encode_utf8 c))

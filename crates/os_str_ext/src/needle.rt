@@ -1,6 +1,6 @@
 //! The first and the last occurrence of a needle. The searches themselves are those of `memchr`.
 ghost use Rattle.std.specs.Prelude.{◌≡◌, ◌↔◌, ◌+◌, ◌-◌, ◌≤◌, ℕ, List, IsTrue, IfSome, MatchOption, length};
-ghost use Rattle.memchr.specs.Find.{FindsNeedle, FindsLastNeedle, IsFirstByte, NoneBefore, Nowhere, OccursAt, is_byte};
+ghost use Rattle.memchr.specs.Find.{FindsNeedle, FindsLastNeedle, IsFirstByte, NoneBefore, Nowhere, OccursAt as NeedleOccursAt, is_byte};
 ghost use Rattle.memchr.specs.Pairs.{IsPairFinderOf, IsPairOf};
 
 use crate::compare::are_same;
@@ -40,7 +40,7 @@ pub(crate) fn last_of(bytes: &[u8], needle: &[u8]) -> Option<usize>
 #[inline(always)]
 pub(crate) fn stands_at(bytes: &[u8], needle: &[u8], at: usize) -> bool
     requires { at ≤ length bytes.now }
-    ensures { IsTrue result ↔ OccursAt bytes.now needle.now at }
+    ensures { IsTrue result ↔ NeedleOccursAt bytes.now needle.now at }
 {
     let (_, rest) = bytes.split_at(at);
     if rest.len() < needle.len() {
@@ -55,7 +55,8 @@ pub(crate) fn stands_at(bytes: &[u8], needle: &[u8], at: usize) -> bool
 pub(crate) fn ends_at(bytes: &[u8], needle: &[u8], at: usize) -> bool
     requires { at ≤ length bytes.now }
     ensures { IsTrue result
-        ↔ ((length needle.now ≤ at) × OccursAt bytes.now needle.now (at - length needle.now)) }
+        ↔ ((length needle.now ≤ at)
+        × NeedleOccursAt bytes.now needle.now (at - length needle.now)) }
 {
     needle.len() <= at && stands_at(bytes, needle, at - needle.len())
 }
@@ -132,7 +133,7 @@ fn pair_of(needle: &[u8]) -> Option<Pair>
 #[inline(always)]
 fn first_in_copy(finder: &Finder, bytes: &[u8], copy: &[u8], needle: &[u8]) -> Option<usize>
     requires finder { IsPairFinderOf finder.now needle.now }
-    requires copy { OccursAt copy.now bytes.now 0 }
+    requires copy { NeedleOccursAt copy.now bytes.now 0 }
     ensures { FindsNeedle bytes.now needle.now 0 result }
 {
     let mut from = 0;
@@ -156,8 +157,8 @@ fn first_in_copy(finder: &Finder, bytes: &[u8], copy: &[u8], needle: &[u8]) -> O
 fn next_candidate(finder: &Finder, bytes: &[u8], from: usize) -> Option<usize>
     requires { from ≤ length bytes.now }
     ensures { (needle : List ℕ) → IsPairFinderOf finder.now needle → MatchOption result
-        (Nowhere (OccursAt bytes.now needle) from (length bytes.now + 1))
-        (NoneBefore (OccursAt bytes.now needle) from (length bytes.now)) }
+        (Nowhere (NeedleOccursAt bytes.now needle) from (length bytes.now + 1))
+        (NoneBefore (NeedleOccursAt bytes.now needle) from (length bytes.now)) }
 {
     let (_, rest) = bytes.split_at(from);
     match finder.find_prefilter(rest) {

@@ -3,7 +3,7 @@ ghost use Rattle.std.specs.Prelude.{◌≡◌, ◌<◌, ◌≤◌, ◌↔◌, �
 ghost use Rattle.std.specs.Char.{encode_utf8};
 ghost use Rattle.std.specs.Str.{IsUtf8};
 ghost use Rattle.std.specs.String.{string_bytes};
-ghost use Rattle.os_str_ext.specs.Patterns.{itself, char_has_bytes};
+ghost use Rattle.os_str_ext.specs.Patterns.{either_way, char_has_bytes};
 
 use std::alloc::AllocError;
 
@@ -83,7 +83,7 @@ impl<'a> Pattern for &'a str {
 
     ghost not_empty = { λ s. 0 < length s.now };
 
-    ghost not_empty_is = { λ s. itself s.now };
+    ghost not_empty_is = { λ s. either_way s.now };
 
     #[inline(always)]
     fn encode(self) -> &'a str {
@@ -98,7 +98,7 @@ impl<'a> Pattern for &'a String {
 
     ghost not_empty = { λ s. 0 < length (string_bytes s.now) };
 
-    ghost not_empty_is = { λ s. itself (string_bytes s.now) };
+    ghost not_empty_is = { λ s. either_way (string_bytes s.now) };
 
     #[inline(always)]
     fn encode(self) -> &'a str {

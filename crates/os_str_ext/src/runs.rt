@@ -1,7 +1,7 @@
 //! Runs of a text: how often it is repeated at the start or at the end of bytes.
 ghost use Rattle.std.specs.Prelude.{◌≡◌, ◌+◌, ◌-◌, ◌<◌, ◌≤◌, ◌++◌, ℕ, length, take, drop};
 ghost use Rattle.std.specs.List.{repeat};
-ghost use Rattle.memchr.specs.Find.{OccursAt};
+ghost use Rattle.memchr.specs.Find.{OccursAt as NeedleOccursAt};
 ghost use Rattle.wtf8_core.specs.Pieces.{IsStartTrim, IsEndTrim};
 
 use crate::needle::{ends_at, stands_at};
@@ -46,7 +46,7 @@ fn skip(bytes: &[u8], piece: &[u8], from: usize, to: usize) -> usize
     requires start { from ≤ length bytes.now }
     ensures within { result ≤ length bytes.now }
     ensures run { (n : ℕ) × (take result bytes.now ≡ take from bytes.now ++ repeat n piece.now) }
-    ensures done { result < to → ¬ (OccursAt bytes.now piece.now result) }
+    ensures done { result < to → ¬ (NeedleOccursAt bytes.now piece.now result) }
 {
     let mut at = from;
     while at < to && stands_at(bytes, piece, at) {
@@ -63,7 +63,7 @@ fn skip_back(bytes: &[u8], piece: &[u8], from: usize, most: usize) -> usize
     ensures within { result ≤ length bytes.now }
     ensures run { (n : ℕ) × (drop result bytes.now ≡ repeat n piece.now ++ drop from bytes.now) }
     ensures done { length bytes.now - result < most → length piece.now ≤ result
-        → ¬ (OccursAt bytes.now piece.now (result - length piece.now)) }
+        → ¬ (NeedleOccursAt bytes.now piece.now (result - length piece.now)) }
 {
     let mut at = from;
     while bytes.len() - at < most && ends_at(bytes, piece, at) {

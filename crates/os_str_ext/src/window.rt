@@ -1,6 +1,6 @@
 //! A copy of a few bytes with zeros after them, so that a search reads them by whole vectors.
 ghost use Rattle.std.specs.Prelude.{◌≡◌, ◌+◌, ◌*◌, ◌≤◌, ◌<◌, ℕ, length, slice_index};
-ghost use Rattle.memchr.specs.Find.{OccursAt};
+ghost use Rattle.memchr.specs.Find.{OccursAt as NeedleOccursAt};
 
 /// The length of a copy.
 pub(crate) const WINDOW: usize = 64;
@@ -12,7 +12,7 @@ const ENOUGH: usize = 35;
 #[inline(always)]
 pub(crate) fn copied<'a>(bytes: &'a [u8], window: &'a mut [u8; WINDOW]) -> &'a [u8]
     requires { 2 ≤ length bytes.now }
-    ensures { OccursAt result.now bytes.now 0 }
+    ensures { NeedleOccursAt result.now bytes.now 0 }
 {
     if ENOUGH <= bytes.len() {
         return bytes;
@@ -26,7 +26,7 @@ pub(crate) fn copied<'a>(bytes: &'a [u8], window: &'a mut [u8; WINDOW]) -> &'a [
 fn copy(bytes: &[u8], window: &mut [u8; WINDOW])
     requires at_least { 2 ≤ length bytes.now }
     requires at_most { length bytes.now < 35 }
-    ensures { OccursAt window.new bytes.now 0 }
+    ensures { NeedleOccursAt window.new bytes.now 0 }
 {
     if bytes.len() < 8 {
         copy_quarters::<2>(bytes, window);
@@ -44,7 +44,7 @@ fn copy_quarters<const N: usize>(bytes: &[u8], window: &mut [u8; WINDOW])
     requires at_least { N ≤ length bytes.now }
     requires at_most { length bytes.now ≤ 4 * N }
     requires few { N ≤ 16 }
-    ensures { OccursAt window.new bytes.now 0 }
+    ensures { NeedleOccursAt window.new bytes.now 0 }
 {
     let last = bytes.len() - N;
     let step = N.min(last);

@@ -10,7 +10,6 @@ use Rattle.wtf8_core.specs.declared.checker.SavedChecker.{SavedChecker}
 use Rattle.wtf8_core.specs.declared.fault.EncodingError.{EncodingError}
 use Rattle.wtf8_core.specs.declared.fault.EncodingError.TheVariants.{Byte, CodePoint, End, Utf8}
 use Rattle.wtf8_core.specs.FaultText.{fault_text}
-use Rattle.platform_str.specs.platforms.Windows.{IsWtf8Fault}
 use Rattle.osbytes_c.specs.declared.fault.Fault.{Fault}
 use Rattle.osbytes_c.specs.declared.checker.Open.{Open}
 
@@ -46,7 +45,7 @@ IsUnstring (suc (suc (suc n))) bytes = ⊥
 -- the report is the first fault of bytes that aren't WTF-8
 pub record IsWtf8Report (bytes : List ℕ) (report : Fault) : Type 0 where
   pub fault : EncodingError
-  pub first : IsWtf8Fault bytes fault
+  pub first : HasFirstFault bytes fault
   pub kind : report.kind ≡ kind_of fault
   pub value : report.value ≡ value_of fault
   pub place : IsFaultAt bytes report.place report.count

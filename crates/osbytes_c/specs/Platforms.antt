@@ -1,15 +1,16 @@
 -- The platforms by their numbers: 0 Unix, 1 Windows, 2 wasm.
 use Rattle.std.specs.Prelude.{ℕ, zero, suc, List}
+use Rattle.std.specs.List.{All}
 use Rattle.std.specs.Str.Lossy.{utf8_lossy}
 use Rattle.std.specs.Str.{IsUtf8}
+use Rattle.wtf8_core.specs.Byte.{IsByte}
 use Rattle.wtf8_core.specs.Wtf8.{IsWtf8}
 use Rattle.wtf8_core.specs.UnitsOf.{units_of, wtf8_lossy}
 use Rattle.platform_str.specs.PlatformWords.{itself}
-use Rattle.platform_str.specs.platforms.Unix.{AreBytes}
 
 -- which lists are strings
 abbrev pub formed_on : ℕ → List ℕ → Type 0
-formed_on zero list = AreBytes list
+formed_on zero list = All IsByte list
 formed_on (suc zero) list = IsWtf8 list
 formed_on (suc (suc n)) list = IsUtf8 list
 

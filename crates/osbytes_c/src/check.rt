@@ -2,7 +2,7 @@
 ghost use Rattle.std.specs.Prelude.{◌≡◌, ◌≢◌, ◌<◌, ◌↔◌, ◌⊎◌};
 ghost use Rattle.std.specs.Str.{IsUtf8};
 ghost use Rattle.wtf8_core.specs.Wtf8.{IsWtf8};
-ghost use Rattle.platform_str.specs.platforms.Windows.{IsWtf8Fault};
+ghost use Rattle.wtf8_core.specs.Checker.{HasFirstFault};
 ghost use Rattle.osbytes_c.specs.Faults.{IsString, IsReport, IsWtf8Report, IsUtf8Report};
 
 use crate::fault::{Fault, kind_of, value_of};
@@ -46,7 +46,7 @@ pub(crate) fn check_wtf8(bytes: &[u8], fault: &mut Fault) -> u32
 
 /// Reports the first fault of bytes that aren't WTF-8.
 pub(crate) fn report_wtf8(bytes: &[u8], error: EncodingError, fault: &mut Fault)
-    requires { IsWtf8Fault bytes.now error }
+    requires { HasFirstFault bytes.now error }
     ensures { IsWtf8Report bytes.now fault.new }
 {
     match wtf8_fault(bytes) {

@@ -1,7 +1,7 @@
 //! Bytes to 16-bit units, and back.
 ghost use Rattle.std.specs.Prelude.{◌≡◌, ◌⊎◌, ◌≤◌, ◌<◌, ◌*◌, length, MatchResult};
 ghost use Rattle.wtf8_core.specs.Wtf8.{HasUnits};
-ghost use Rattle.platform_str.specs.platforms.Windows.{IsWtf8Fault};
+ghost use Rattle.wtf8_core.specs.Checker.{HasFirstFault};
 ghost use Rattle.osbytes_c.specs.Answers.{Writes};
 ghost use Rattle.osbytes_c.specs.Faults.{IsWtf8Report};
 
@@ -50,7 +50,7 @@ fn write_units(bytes: &[u8], out: &mut [u16]) -> Result<usize, EncodingError>
     requires { length bytes.now ≤ length out.now }
     ensures { MatchResult result
         (λ count. Writes (HasUnits bytes.now) out.old out.new count)
-        (λ error. IsWtf8Fault bytes.now error) }
+        (λ error. HasFirstFault bytes.now error) }
 {
     let mut written = 0;
     for item in encode_wide(bytes) {
@@ -69,7 +69,7 @@ fn write_units(bytes: &[u8], out: &mut [u16]) -> Result<usize, EncodingError>
 fn write_some_units(bytes: &[u8], out: &mut [u16]) -> Result<usize, EncodingError>
     ensures { MatchResult result
         (λ count. Writes (HasUnits bytes.now) out.old out.new count)
-        (λ error. IsWtf8Fault bytes.now error) }
+        (λ error. HasFirstFault bytes.now error) }
 {
     let mut written = 0;
     for item in encode_wide(bytes) {

@@ -1,14 +1,12 @@
 //! Lossy texts, by the laws of the platform.
-ghost use Rattle.std.specs.Prelude.{◌≡◌, ◌<◌, ◌≤◌, ◌+◌, ◌*◌, ◌^◌, ◌++◌, length, take, drop, IsOk, IfOk, IfSome, MatchOption, OnOk};
+ghost use Rattle.std.specs.Prelude.{◌≡◌, ◌<◌, ◌≤◌, ◌+◌, ◌*◌, ◌^◌, ◌++◌, length, take, drop, IfOk, IfSome, MatchOption, OnOk};
 ghost use Rattle.std.specs.Str.{IsUtf8};
 ghost use Rattle.std.specs.String.{string_bytes};
 ghost use Rattle.wtf8_core.specs.Lossy.{replacement};
 ghost use Rattle.wtf8_core.specs.Truncated.{IsTruncated};
 ghost use Rattle.wtf8_core.specs.Utf8.{IsUtf8Fault};
-ghost use Rattle.platform_str.specs.Cows.{byte_cow_bytes};
-ghost use Rattle.platform_str.specs.Lossy.{IsIoLossy, IsFirstText};
+ghost use Rattle.platform_str.specs.Lossy.{IsFirstText};
 
-use crate::cow::ByteCow;
 use crate::platform::Platform;
 use std::alloc::{AllocError, Allocator};
 use wtf8_core::push_truncated;
@@ -177,22 +175,6 @@ pub(crate) fn write_text<E: Platform>(bytes: &[u8], buffer: &mut [u8]) -> usize
         rest = behind;
     }
     push_truncated(buffer, count, rest)
-}
-
-/// The IO-lossy bytes of a string: its own if they are IO-safe, which doesn't allocate.
-pub(crate) fn io_bytes<'a, E: Platform, A: Allocator>(
-    alloc: A,
-    bytes: &'a [u8],
-) -> Result<ByteCow<'a, A>, AllocError>
-    requires { E.well_formed bytes.now }
-    ensures bytes { IfOk result (λ io. IsIoLossy E.io_safe E.lossy bytes.entry.now
-        (byte_cow_bytes io)) }
-    ensures without_memory { E.io_safe bytes.entry.now → IsOk result }
-{
-    if E::is_io_safe(bytes) {
-        return Ok(ByteCow::Borrowed(bytes));
-    }
-    Ok(ByteCow::Owned(text_bytes::<E, A>(alloc, bytes)?))
 }
 
 /// Overwrites each part that isn't text with U+FFFD, in a string that isn't IO-safe. If a platform

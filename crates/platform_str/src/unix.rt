@@ -1,8 +1,10 @@
 //! The strings of Unix: any bytes. Their units are their bytes, and no bytes are refused.
+ghost use Rattle.std.specs.List.{All};
 ghost use Rattle.std.specs.Str.Lossy.{utf8_lossy};
+ghost use Rattle.wtf8_core.specs.Byte.{IsByte};
 ghost use Rattle.wtf8_core.specs.Utf8.{IsIllFormedPart};
 ghost use Rattle.platform_str.specs.PlatformWords.{itself};
-ghost use Rattle.platform_str.specs.platforms.Unix.{AreBytes, IsNoFault, AreAboveAscii, IsSame, bytes_prop};
+ghost use Rattle.platform_str.specs.platforms.Unix.{IsNoFault, AreAboveAscii, IsSame, bytes_prop};
 ghost use Rattle.platform_str.specs.platforms.Unix.{unix_laws, unix_parts, unix_readings, unix_standing};
 
 use crate::join::append;
@@ -29,15 +31,15 @@ pub type PathBuf<A = Global> = crate::PathBuf<Unix, A>;
 pub type PathCow<'a, A = Global> = crate::PathCow<'a, Unix, A>;
 
 impl Platform for Unix {
-    ghost well_formed = { AreBytes };
+    ghost well_formed = { All IsByte };
 
     ghost well_formed_prop = { bytes_prop };
 
     ghost units = { itself };
 
-    ghost is_unit_list = { AreBytes };
+    ghost is_unit_list = { All IsByte };
 
-    ghost io_safe = { AreBytes };
+    ghost io_safe = { All IsByte };
 
     ghost first_fault = { IsNoFault };
 

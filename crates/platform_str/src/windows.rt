@@ -5,7 +5,8 @@ ghost use Rattle.wtf8_core.specs.UnitsOf.{units_of, wtf8_lossy};
 ghost use Rattle.wtf8_core.proofs.lemmas.forms.Propositions.{wtf8_prop};
 ghost use Rattle.wtf8_core.proofs.lemmas.standing.Wtf8.{wtf8_standing};
 ghost use Rattle.platform_str.specs.PlatformWords.{AreWideUnits, IsThree};
-ghost use Rattle.platform_str.specs.platforms.Windows.{IsWtf8Fault, windows_laws, windows_parts, windows_readings};
+ghost use Rattle.platform_str.specs.platforms.Windows.{windows_laws, windows_parts, windows_readings};
+ghost use Rattle.wtf8_core.specs.Checker.{HasFirstFault};
 ghost use Rattle.wtf8_core.specs.PartUnits.{AreLoneSurrogates};
 ghost use Rattle.wtf8_core.specs.LossyReading.{IsLossyReading};
 
@@ -48,7 +49,7 @@ impl Platform for Windows {
 
     ghost io_safe = { IsUtf8 };
 
-    ghost first_fault = { IsWtf8Fault };
+    ghost first_fault = { HasFirstFault };
 
     ghost lossy = { wtf8_lossy };
 

@@ -1,10 +1,12 @@
 //! A fourth platform, written outside: any bytes are a string, as on Unix.
 ghost use Rattle.std.specs.Prelude.{◌≡◌, IsOk, IfOk};
+ghost use Rattle.std.specs.List.{All};
 ghost use Rattle.std.specs.Str.Lossy.{utf8_lossy};
+ghost use Rattle.wtf8_core.specs.Byte.{IsByte};
 ghost use Rattle.wtf8_core.specs.Utf8.{IsIllFormedPart};
 ghost use Rattle.platform_str.specs.PlatformWords.{itself};
 ghost use Rattle.platform_str.specs.Strings.{bytes};
-ghost use Rattle.platform_str.specs.platforms.Unix.{AreBytes, IsNoFault, AreAboveAscii, IsSame, bytes_prop};
+ghost use Rattle.platform_str.specs.platforms.Unix.{IsNoFault, AreAboveAscii, IsSame, bytes_prop};
 ghost use Rattle.platform_str.specs.platforms.Unix.{unix_laws, unix_parts, unix_readings, unix_standing};
 
 use platform_str::{EncodingError, OsStr, Platform, Unix};
@@ -14,15 +16,15 @@ use std::alloc::{AllocError, Allocator};
 pub struct Plan9;
 
 impl Platform for Plan9 {
-    ghost well_formed = { AreBytes };
+    ghost well_formed = { All IsByte };
 
     ghost well_formed_prop = { bytes_prop };
 
     ghost units = { itself };
 
-    ghost is_unit_list = { AreBytes };
+    ghost is_unit_list = { All IsByte };
 
-    ghost io_safe = { AreBytes };
+    ghost io_safe = { All IsByte };
 
     ghost first_fault = { IsNoFault };
 

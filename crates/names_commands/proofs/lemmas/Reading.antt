@@ -27,8 +27,8 @@ pub more_texts : (entries : List Entry) (e : Entry) → texts_of (entries ++ e �
 more_texts entries e = flat_map-append text_of entries (e ∷ []) ∙ ap (λ x. texts_of entries ++ x) (append-nil e.1)
 
 -- bytes after others
-pub behind : (begun done front mid more : List ℕ) → begun ++ done ≡ front ++ mid → begun ++ (done ++ more) ≡ front ++ (mid ++ more)
-behind begun done front mid more e = sym (append_assoc begun done more) ∙ ap (λ x. x ++ more) e ∙ append_assoc front mid more
+pub with_more_after : (begun done front mid more : List ℕ) → begun ++ done ≡ front ++ mid → begun ++ (done ++ more) ≡ front ++ (mid ++ more)
+with_more_after begun done front mid more e = sym (append_assoc begun done more) ∙ ap (λ x. x ++ more) e ∙ append_assoc front mid more
 
 -- an item in two parts and its end
 in_parts : (xs ys more : List ℕ) → xs ++ (ys ++ more) ≡ (xs ++ ys) ++ more
@@ -59,7 +59,7 @@ module _ {E : Type 0} (p : Ghosts E) (s : Settings) where
       entries = u.reads.entries ++ (mid.begun ++ last, text) ∷ [];
       are = all-append (IsEntry p s) u.reads.entries ((mid.begun ++ last, text) ∷ []) u.reads.are (e, tt);
       joined =
-          behind old.begun u.done (items_of end u.reads.entries) mid.begun (last ++ end ∷ []) u.reads.joined
+          with_more_after old.begun u.done (items_of end u.reads.entries) mid.begun (last ++ end ∷ []) u.reads.joined
           ∙ ap (λ x. items_of end u.reads.entries ++ x) (in_parts mid.begun last (end ∷ []))
           ∙ sym (more_items end u.reads.entries (mid.begun ++ last, text))
           ∙ sym (append-nil (items_of end (u.reads.entries ++ (mid.begun ++ last, text) ∷ [])));
@@ -81,7 +81,7 @@ module _ {E : Type 0} (p : Ghosts E) (s : Settings) where
     joined =
         ap (λ x. old.begun ++ (x ++ more)) u.cut
         ∙ ap (λ x. old.begun ++ x) (append_assoc u.done rest more)
-        ∙ behind old.begun u.done (items_of end u.reads.entries) mid.begun (rest ++ more) u.reads.joined
+        ∙ with_more_after old.begun u.done (items_of end u.reads.entries) mid.begun (rest ++ more) u.reads.joined
         ∙ ap (λ x. items_of end u.reads.entries ++ (mid.begun ++ (x ++ more))) k.joined
         ∙ ap (λ x. items_of end u.reads.entries ++ (mid.begun ++ x)) (append_assoc last (end ∷ after) more)
         ∙ ap (λ x. items_of end u.reads.entries ++ x) (in_parts mid.begun last (end ∷ (after ++ more)));
@@ -107,7 +107,7 @@ module _ {E : Type 0} (p : Ghosts E) (s : Settings) where
     are = u.reads.are;
     joined =
         ap (λ x. old.begun ++ x) u.cut
-        ∙ behind old.begun u.done (items_of end u.reads.entries) mid.begun rest u.reads.joined
+        ∙ with_more_after old.begun u.done (items_of end u.reads.entries) mid.begun rest u.reads.joined
         ∙ ap (λ x. items_of end u.reads.entries ++ x) (sym k);
     begun = record { whole = subst (Lacks end) (sym k) (lacks-append end mid.begun rest u.reads.begun.whole l); short = short };
     counted = u.reads.counted;
@@ -134,7 +134,7 @@ module _ {E : Type 0} (p : Ghosts E) (s : Settings) where
     joined =
         ap (λ x. old.begun ++ (x ++ more)) u.cut
         ∙ ap (λ x. old.begun ++ x) (append_assoc u.done rest more)
-        ∙ behind old.begun u.done (items_of end u.reads.entries) mid.begun (rest ++ more) u.reads.joined
+        ∙ with_more_after old.begun u.done (items_of end u.reads.entries) mid.begun (rest ++ more) u.reads.joined
         ∙ ap (λ x. items_of end u.reads.entries ++ x) (in_parts mid.begun rest more);
     whole = lacks-append end mid.begun rest u.reads.begun.whole l;
     ended = ended_kept end (mid.count + 1) (mid.begun ++ rest) fault more f;

@@ -16,7 +16,7 @@ use Rattle.names_commands.specs.Task.{end_of, IsItemFault, IsEntry}
 use Rattle.osbytes_commands.specs.Written.{AppendsBeginning}
 use Rattle.names_commands.specs.Reading.{State, Reads, Stops, IsEnded, Begins}
 use Rattle.names_commands.specs.Run.{start, IsOutput, IsBegun, StopsOn, WritesOutput, WritesUpTo, WritesBeginning, HasRead, IsLast, Finishes}
-use Rattle.names_commands.proofs.lemmas.Reading.{all-append, behind}
+use Rattle.names_commands.proofs.lemmas.Reading.{all-append, with_more_after}
 
 -- what is known of the first bytes, whatever comes after them, is known of the input
 pub known : (input left : Option (List ℕ)) (bytes : List ℕ) (P : List ℕ → Type 0) → Consumes input left bytes → ((more : List ℕ) → P (bytes ++ more)) → IfSome input P
@@ -70,7 +70,7 @@ module _ {E : Type 0} (p : Ghosts E) (s : Settings) where
   both_items : (old mid : State) (a b rest : List ℕ) (more : List Entry) (r : Reads p s old a mid) → mid.begun ++ b ≡ items_of end more ++ rest
       → old.begun ++ (a ++ b) ≡ items_of end (r.entries ++ more) ++ rest
   both_items old mid a b rest more r e =
-      behind old.begun a (items_of end r.entries) mid.begun b r.joined
+      with_more_after old.begun a (items_of end r.entries) mid.begun b r.joined
       ∙ ap (λ x. items_of end r.entries ++ x) e
       ∙ sym (append_assoc (items_of end r.entries) (items_of end more) rest)
       ∙ ap (λ x. x ++ rest) (sym (flat_map-append (ended end) r.entries more))
@@ -114,7 +114,7 @@ module _ {E : Type 0} (p : Ghosts E) (s : Settings) where
     entries = r.entries;
     are = r.are;
     rest = new.begun ++ more;
-    joined = behind old.begun bytes (items_of end r.entries) new.begun more r.joined;
+    joined = with_more_after old.begun bytes (items_of end r.entries) new.begun more r.joined;
     written = r.written;
   }
 

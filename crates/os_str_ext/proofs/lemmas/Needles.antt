@@ -1,5 +1,5 @@
 -- Where a needle occurs in a part of a string, and where its first and last occurrences are.
-use Rattle.os_str_ext.proofs.Common.{◌≡◌, ℕ, zero, suc, ◌+◌, ◌-◌, ◌<◌, ◌≤◌, List, [], ◌∷◌, length, take, drop, Option, Some, None, sym, ap, subst, ◌∙◌, arith, ⊎_elim, length-drop, cases_Bool, cases_eq, cases_lt, cond-true, cond-false, eq-eqb, false≢true, get_or-drop, length-take-le, option_map, slice_index, OccursAt, FindsNeedle, FindsLastNeedle, IsFirstByte, Nowhere, Passes, is_byte}
+use Rattle.os_str_ext.proofs.Common.{◌≡◌, ℕ, zero, suc, ◌+◌, ◌-◌, ◌<◌, ◌≤◌, List, [], ◌∷◌, length, take, drop, Option, Some, None, sym, ap, subst, ◌∙◌, arith, ⊎_elim, length-drop, cases_Bool, cases_eq, cases_lt, cond-true, cond-false, eq-eqb, false≢true, get_or-drop, length-take-le, option_map, slice_index, NeedleOccursAt, FindsNeedle, FindsLastNeedle, IsFirstByte, Nowhere, Passes, is_byte}
 use Rattle.std.proofs.Common.{Bool, max}
 use Rattle.std.proofs.lemmas.List.{get_or-take}
 use Rattle.memchr.specs.Find.{IsFirst, IsLast, NoneBefore, NoneAfter, TakesFirst, places, places_from}
@@ -11,7 +11,7 @@ max_below a b n x y = omega arith
 
 module _ (s p : List ℕ) where
   -- what occurs at an index or after it occurs in what is left from there
-  in_rest : (i k : ℕ) → i ≤ k → OccursAt s p k → OccursAt (drop i s) p (k - i)
+  in_rest : (i k : ℕ) → i ≤ k → NeedleOccursAt s p k → NeedleOccursAt (drop i s) p (k - i)
   in_rest i k le o =
       let fits = o.fits in
       let size = length-drop i s in
@@ -22,7 +22,7 @@ module _ (s p : List ℕ) where
             get_or-drop i s (k - i + j) 0 ∙ ap (slice_index s) place ∙ o.reads j below;
       }
 
-  from_rest : (i k : ℕ) → i ≤ length s → OccursAt (drop i s) p k → OccursAt s p (i + k)
+  from_rest : (i k : ℕ) → i ≤ length s → NeedleOccursAt (drop i s) p k → NeedleOccursAt s p (i + k)
   from_rest i k le o =
       let fits = o.fits in
       let size = length-drop i s in
@@ -50,7 +50,7 @@ module _ (s p : List ℕ) where
       )
 
   -- what ends at an index or before it occurs in the bytes before that index
-  in_front : (e k : ℕ) → e ≤ length s → k + length p ≤ e → OccursAt s p k → OccursAt (take e s) p k
+  in_front : (e k : ℕ) → e ≤ length s → k + length p ≤ e → NeedleOccursAt s p k → NeedleOccursAt (take e s) p k
   in_front e k le ends o =
       let size = length-take-le e s le in
       record {
@@ -58,7 +58,7 @@ module _ (s p : List ℕ) where
         reads = λ j below. get_or-take e s (k + j) 0 (omega arith) ∙ o.reads j below;
       }
 
-  from_front : (e k : ℕ) → e ≤ length s → OccursAt (take e s) p k → OccursAt s p k
+  from_front : (e k : ℕ) → e ≤ length s → NeedleOccursAt (take e s) p k → NeedleOccursAt s p k
   from_front e k le o =
       let fits = o.fits in
       let size = length-take-le e s le in
@@ -68,7 +68,7 @@ module _ (s p : List ℕ) where
       }
 
   -- so if no occurrence ends after an index, the last one in the bytes before that index is the last of all
-  pub last_before : (e : ℕ) → e ≤ length s → ((k : ℕ) → OccursAt s p k → k + length p ≤ e) → (r : Option ℕ) → FindsLastNeedle (take e s) p r → FindsLastNeedle s p r
+  pub last_before : (e : ℕ) → e ≤ length s → ((k : ℕ) → NeedleOccursAt s p k → k + length p ≤ e) → (r : Option ℕ) → FindsLastNeedle (take e s) p r → FindsLastNeedle s p r
   last_before e le by None f = λ k low high o.
       let ends = by k o in
       let size = length-take-le e s le in
@@ -87,17 +87,17 @@ module _ (s p : List ℕ) where
       )
 
   -- a needle that isn't empty ends at its last byte
-  last_byte_within : (e k : ℕ) → 0 < length p → k + length p ≤ e → OccursAt s p k → Passes (is_byte (slice_index p (length p - 1))) (take e s) (k + (length p - 1))
+  last_byte_within : (e k : ℕ) → 0 < length p → k + length p ≤ e → NeedleOccursAt s p k → Passes (is_byte (slice_index p (length p - 1))) (take e s) (k + (length p - 1))
   last_byte_within e k some ends o = eq-eqb _ _ (get_or-take e s (k + (length p - 1)) 0 (omega arith) ∙ o.reads (length p - 1) (omega arith))
 
   -- so no occurrence ends after the last such byte
-  pub none_by_byte : (e : ℕ) → e ≤ length s → 0 < length p → ((k : ℕ) → OccursAt s p k → k + length p ≤ e) → Nowhere (Passes (is_byte (slice_index p (length p - 1))) (take e s)) 0 (length (take e s)) → (k : ℕ) → ¬ (OccursAt s p k)
+  pub none_by_byte : (e : ℕ) → e ≤ length s → 0 < length p → ((k : ℕ) → NeedleOccursAt s p k → k + length p ≤ e) → Nowhere (Passes (is_byte (slice_index p (length p - 1))) (take e s)) 0 (length (take e s)) → (k : ℕ) → ¬ (NeedleOccursAt s p k)
   none_by_byte e le some by f k o =
       let ends = by k o in
       let size = length-take-le e s le in
       f (k + (length p - 1)) (omega arith) (omega arith) (last_byte_within e k some ends o)
 
-  pub ends_by_byte : (e at : ℕ) → e ≤ length s → 0 < length p → ((k : ℕ) → OccursAt s p k → k + length p ≤ e) → NoneAfter (Passes (is_byte (slice_index p (length p - 1))) (take e s)) 0 (length (take e s)) at → (k : ℕ) → OccursAt s p k → k + length p ≤ at + 1
+  pub ends_by_byte : (e at : ℕ) → e ≤ length s → 0 < length p → ((k : ℕ) → NeedleOccursAt s p k → k + length p ≤ e) → NoneAfter (Passes (is_byte (slice_index p (length p - 1))) (take e s)) 0 (length (take e s)) at → (k : ℕ) → NeedleOccursAt s p k → k + length p ≤ at + 1
   ends_by_byte e at le some by f k o =
       let ends = by k o in
       let size = length-take-le e s le in
@@ -107,19 +107,19 @@ module _ (s p : List ℕ) where
       (cases_lt (at + 1) (k + length p))
 
   -- if one ends there, it is the last; if none does, all end before it
-  pub last_there : (at : ℕ) → at ≤ length s → ((k : ℕ) → OccursAt s p k → k + length p ≤ at) → length p ≤ at → OccursAt s p (at - length p) → IsLast (OccursAt s p) 0 (length s + 1) (Some (at - length p))
+  pub last_there : (at : ℕ) → at ≤ length s → ((k : ℕ) → NeedleOccursAt s p k → k + length p ≤ at) → length p ≤ at → NeedleOccursAt s p (at - length p) → IsLast (NeedleOccursAt s p) 0 (length s + 1) (Some (at - length p))
   last_there at le by fits here = (record { low = omega arith; high = omega arith; after = λ k low high o. let ends = by k o in absurd (omega arith) }, here)
 
-  pub ends_before : (at : ℕ) → 0 < length p → ((k : ℕ) → OccursAt s p k → k + length p ≤ at + 1) → ((length p ≤ at + 1) × OccursAt s p (at + 1 - length p) → ⊥) → (k : ℕ) → OccursAt s p k → k + length p ≤ at
+  pub ends_before : (at : ℕ) → 0 < length p → ((k : ℕ) → NeedleOccursAt s p k → k + length p ≤ at + 1) → ((length p ≤ at + 1) × NeedleOccursAt s p (at + 1 - length p) → ⊥) → (k : ℕ) → NeedleOccursAt s p k → k + length p ≤ at
   ends_before at some by not_there k o =
       let ends = by k o in
       ⊎_elim
-      (λ there. let place : k ≡ at + 1 - length p = omega arith in absurd (not_there (omega arith, subst (OccursAt s p) place o)))
+      (λ there. let place : k ≡ at + 1 - length p = omega arith in absurd (not_there (omega arith, subst (NeedleOccursAt s p) place o)))
       (λ other. omega arith)
       (cases_eq (k + length p) (at + 1))
 
   -- where a needle occurs, its pair of bytes occurs
-  pair_stands : (f : Finder) → IsPairFinderOf f p → (k : ℕ) → OccursAt s p k → HasPair f s k
+  pair_stands : (f : Finder) → IsPairFinderOf f p → (k : ℕ) → NeedleOccursAt s p k → HasPair f s k
   pair_stands f is k o = record {
     first = o.reads f.pair.index1 is.pair.first ∙ sym is.byte1;
     second = o.reads f.pair.index2 is.pair.second ∙ sym is.byte2;
@@ -130,14 +130,14 @@ module _ (s p : List ℕ) where
 
 module _ (s p : List ℕ) (f : Finder) (is : IsPairFinderOf f p) (i : ℕ) (le : i ≤ length s) where
   -- so where the pair doesn't occur the needle doesn't either, nor before the first index at which the pair does
-  pub no_candidate : Nowhere (HasPair f (drop i s)) 0 (length (drop i s) - reach_of f) → Nowhere (OccursAt s p) i (length s + 1)
+  pub no_candidate : Nowhere (HasPair f (drop i s)) 0 (length (drop i s) - reach_of f) → Nowhere (NeedleOccursAt s p) i (length s + 1)
   no_candidate none k low high o =
       let here = in_rest s p i k low o in
       let fits = here.fits in
       let reach = reach_within s p f is in
       none (k - i) (omega arith) (omega arith) (pair_stands (drop i s) p f is (k - i) here)
 
-  pub candidate : (at : ℕ) → NoneBefore (HasPair f (drop i s)) 0 (length (drop i s) - reach_of f) at → NoneBefore (OccursAt s p) i (length s) (i + at)
+  pub candidate : (at : ℕ) → NoneBefore (HasPair f (drop i s)) 0 (length (drop i s) - reach_of f) at → NoneBefore (NeedleOccursAt s p) i (length s) (i + at)
   candidate at none =
       let size = length-drop i s in
       let high = none.high in
@@ -148,7 +148,7 @@ module _ (s p : List ℕ) (f : Finder) (is : IsPairFinderOf f p) (i : ℕ) (le :
       }
 
 -- what occurs in bytes occurs in what begins with a copy of them
-pub in_copy : (s copy p : List ℕ) → OccursAt copy s 0 → (k : ℕ) → OccursAt s p k → OccursAt copy p k
+pub in_copy : (s copy p : List ℕ) → NeedleOccursAt copy s 0 → (k : ℕ) → NeedleOccursAt s p k → NeedleOccursAt copy p k
 in_copy s copy p begins k o =
     let fits = o.fits in
     let room = begins.fits in

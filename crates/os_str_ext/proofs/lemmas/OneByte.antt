@@ -1,9 +1,9 @@
 -- A needle of one byte occurs where the byte is.
-use Rattle.os_str_ext.proofs.Common.{◌≡◌, ℕ, ◌+◌, ◌<◌, List, length, Option, Some, None, ap, subst, ◌∙◌, arith, eqb-true, eq-eqb, slice_index, OccursAt, Passes, is_byte, IsFirstByte, FindsNeedle, FindsLastNeedle}
+use Rattle.os_str_ext.proofs.Common.{◌≡◌, ℕ, ◌+◌, ◌<◌, List, length, Option, Some, None, ap, subst, ◌∙◌, arith, eqb-true, eq-eqb, slice_index, NeedleOccursAt, Passes, is_byte, IsFirstByte, FindsNeedle, FindsLastNeedle}
 use Rattle.memchr.specs.Find.{IsLastByte}
 
 module _ (s p : List ℕ) (one : length p ≡ 1) where
-  occurs_where_the_byte_is : (k : ℕ) → k < length s → Passes (is_byte (slice_index p 0)) s k → OccursAt s p k
+  occurs_where_the_byte_is : (k : ℕ) → k < length s → Passes (is_byte (slice_index p 0)) s k → NeedleOccursAt s p k
   occurs_where_the_byte_is k low h =
       let same : slice_index s k ≡ slice_index p 0 = eqb-true _ _ h in
       let here : k + 0 ≡ k = omega arith in
@@ -14,7 +14,7 @@ module _ (s p : List ℕ) (one : length p ≡ 1) where
             subst (λ n. slice_index s (k + n) ≡ slice_index p n) first (ap (slice_index s) here ∙ same);
       }
 
-  the_byte_is_where_it_occurs : (k : ℕ) → OccursAt s p k → Passes (is_byte (slice_index p 0)) s k
+  the_byte_is_where_it_occurs : (k : ℕ) → NeedleOccursAt s p k → Passes (is_byte (slice_index p 0)) s k
   the_byte_is_where_it_occurs k o =
       let here : k ≡ k + 0 = omega arith in
       eq-eqb _ _ (ap (slice_index s) here ∙ o.reads 0 (omega arith))

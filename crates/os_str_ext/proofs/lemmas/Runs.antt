@@ -1,5 +1,5 @@
 -- Runs of a text: lists that are the text repeated.
-use Rattle.os_str_ext.proofs.Common.{◌≡◌, ℕ, zero, suc, ◌+◌, ◌-◌, ◌<◌, ◌≤◌, List, ◌++◌, length, take, drop, refl, sym, ap, subst, ◌∙◌, arith, inl, inr, append_assoc, length-append, length-drop, take-append-drop, append-nil, length-take-le, drop-drop, take-add, repeat, IsUtf8, OccursAt, OccursAt-part, OccursAt-from_part, StandsAt, IsBoundary}
+use Rattle.os_str_ext.proofs.Common.{◌≡◌, ℕ, zero, suc, ◌+◌, ◌-◌, ◌<◌, ◌≤◌, List, ◌++◌, length, take, drop, refl, sym, ap, subst, ◌∙◌, arith, inl, inr, append_assoc, length-append, length-drop, take-append-drop, append-nil, length-take-le, drop-drop, take-add, repeat, IsUtf8, NeedleOccursAt, OccursAt-part, OccursAt-from_part, StandsAt, IsBoundary}
 use Rattle.std.proofs.Common.{drop_of_length-le}
 use Rattle.wtf8_core.specs.Pieces.{IsStartTrim, IsEndTrim}
 use Rattle.os_str_ext.proofs.lemmas.Comparing.{take_from_front, front_fits}
@@ -38,7 +38,7 @@ module _ (p : List ℕ) where
 
 module _ (s p : List ℕ) (i : ℕ) (le : i ≤ length s) where
   -- if the text doesn't occur after a run at the start, what follows the run is the start trim
-  pub start_trim : IsRun p (take i s) → ¬ (OccursAt s p i) → IsStartTrim p s (drop i s)
+  pub start_trim : IsRun p (take i s) → ¬ (NeedleOccursAt s p i) → IsStartTrim p s (drop i s)
   start_trim run none = record {
     count = run.0;
     trimmed = sym (take-append-drop i s) ∙ ap (λ r. r ++ drop i s) run.1;
@@ -48,14 +48,14 @@ module _ (s p : List ℕ) (i : ℕ) (le : i ≤ length s) where
         none (OccursAt-from_part s p i (omega arith) (take_from_front p (drop i s) front));
   }
 
-  pub end_trim : IsRun p (drop i s) → (length p ≤ i → ¬ (OccursAt s p (i - length p))) → IsEndTrim p s (take i s)
+  pub end_trim : IsRun p (drop i s) → (length p ≤ i → ¬ (NeedleOccursAt s p (i - length p))) → IsEndTrim p s (take i s)
   end_trim run none = record {
     count = run.0;
     trimmed = sym (take-append-drop i s) ∙ ap (λ r. take i s ++ r) run.1;
     done = λ end.
         let size : i ≡ length end.rest + length p = sym (length-take-le i s le) ∙ ap length end.joined ∙ length-append end.rest p in
         let place : length end.rest ≡ i - length p = omega arith in
-        none (omega arith) (subst (OccursAt s p) place (occurs_where_it_stands s p (length end.rest) (record {
+        none (omega arith) (subst (NeedleOccursAt s p) place (occurs_where_it_stands s p (length end.rest) (record {
           before = end.rest;
           behind = drop i s;
           joined = sym (take-append-drop i s) ∙ ap (λ r. r ++ drop i s) end.joined ∙ append_assoc end.rest p (drop i s);
@@ -94,12 +94,12 @@ run_at_end s p i n e = (n, e ∙ ap (λ r. repeat n p ++ r) (drop_of_length-le s
 
 module _ (s p : List ℕ) (i : ℕ) where
   -- one more repetition after those that were skipped, and one before them
-  pub passed_more : (start n : ℕ) → take i s ≡ take start s ++ repeat n p → OccursAt s p i → take (i + length p) s ≡ take start s ++ repeat (suc n) p
+  pub passed_more : (start n : ℕ) → take i s ≡ take start s ++ repeat n p → NeedleOccursAt s p i → take (i + length p) s ≡ take start s ++ repeat (suc n) p
   passed_more start n e o =
       take-add i (length p) s ∙ ap (λ r. take i s ++ r) (OccursAt-part s p i o) ∙ ap (λ r. r ++ p) e
       ∙ append_assoc (take start s) (repeat n p) p ∙ ap (λ r. take start s ++ r) (repeat-behind p n)
 
-  pub passed_back : (start n : ℕ) → drop i s ≡ repeat n p ++ drop start s → length p ≤ i → OccursAt s p (i - length p) → drop (i - length p) s ≡ repeat (suc n) p ++ drop start s
+  pub passed_back : (start n : ℕ) → drop i s ≡ repeat n p ++ drop start s → length p ≤ i → NeedleOccursAt s p (i - length p) → drop (i - length p) s ≡ repeat (suc n) p ++ drop start s
   passed_back start n e le o =
       let place : i - length p + length p ≡ i = omega arith in
       sym (take-append-drop (length p) (drop (i - length p) s))

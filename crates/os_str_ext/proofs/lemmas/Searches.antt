@@ -1,5 +1,5 @@
 -- What the searches of `memchr` find, and that a string may be cut before and after a text.
-use Rattle.os_str_ext.proofs.Common.{◌≡◌, ℕ, ◌+◌, ◌-◌, ◌<◌, ◌≤◌, true, List, [], ◌++◌, length, take, drop, Option, Some, None, refl, sym, ap, subst, ◌∙◌, arith, inl, inr, ⊎_elim, length-append, take-append-drop, append-nil, length-take-le, drop_at, nil_from_length, cases_eq, false≢true, is_some, IsUtf8, OccursAt, FindsNeedle, FindsLastNeedle, StandsAt, IsFirstPlace, IsLastPlace, IsPrefix, IsSuffix, IsBoundary, SplitsAt}
+use Rattle.os_str_ext.proofs.Common.{◌≡◌, ℕ, ◌+◌, ◌-◌, ◌<◌, ◌≤◌, true, List, [], ◌++◌, length, take, drop, Option, Some, None, refl, sym, ap, subst, ◌∙◌, arith, inl, inr, ⊎_elim, length-append, take-append-drop, append-nil, length-take-le, drop_at, nil_from_length, cases_eq, false≢true, is_some, IsUtf8, NeedleOccursAt, FindsNeedle, FindsLastNeedle, StandsAt, IsFirstPlace, IsLastPlace, IsPrefix, IsSuffix, IsBoundary, SplitsAt}
 use Rattle.std.proofs.lemmas.List.Prefix.{at_from_reads, at_reads}
 use Rattle.std.specs.Option.{IfSome}
 use Rattle.wtf8_core.specs.Standing.{Finds}
@@ -11,7 +11,7 @@ EdgesOfTexts = (p : List ℕ) → (s : List ℕ) → (i : ℕ) → IsUtf8 p → 
 
 module _ (s p : List ℕ) where
   -- a needle occurs in the words of `memchr` where it does in the words of `Standing`, and the other way round
-  pub stands_where_it_occurs : (i : ℕ) → OccursAt s p i → StandsAt p s i
+  pub stands_where_it_occurs : (i : ℕ) → NeedleOccursAt s p i → StandsAt p s i
   stands_where_it_occurs i o =
       let fits = o.fits in
       record {
@@ -21,7 +21,7 @@ module _ (s p : List ℕ) where
         place = length-take-le i s (omega arith);
       }
 
-  pub occurs_where_it_stands : (i : ℕ) → StandsAt p s i → OccursAt s p i
+  pub occurs_where_it_stands : (i : ℕ) → StandsAt p s i → NeedleOccursAt s p i
   occurs_where_it_stands i h =
       let rest : drop i s ≡ p ++ h.behind = ap (drop i) h.joined ∙ drop_at h.before (p ++ h.behind) i h.place in
       let size : length s ≡ length h.before + (length p + length h.behind) = ap length h.joined ∙ length-append h.before (p ++ h.behind) ∙ ap (λ n. length h.before + n) (length-append p h.behind) in

@@ -5,7 +5,7 @@ use Rattle.wtf8_core.specs.Wtf8.{HasUnits}
 use Rattle.wtf8_core.specs.Items.{AreUnitItems}
 use Rattle.wtf8_core.specs.declared.fault.EncodingError.{EncodingError}
 use Rattle.wtf8_core.proofs.lemmas.reader.FirstErr.{oks, one_more_ok, units_all_ok, units_first_err}
-use Rattle.platform_str.specs.platforms.Windows.{IsWtf8Fault}
+use Rattle.wtf8_core.specs.Checker.{HasFirstFault}
 use Rattle.osbytes_c.proofs.lemmas.Room.{unit_fits, bytes_fit}
 
 abbrev Item : Type 0
@@ -26,7 +26,7 @@ module _ (bytes done : List ℕ) (left rest : List Item) (item : Item) (next : l
       subst (AreUnitItems bytes) (ap (λ items. oks done ++ items) (ap (λ x. x ∷ rest) is) ∙ one_more_ok done unit rest) items_next
 
   -- or the first fault
-  pub fault_read : (fault : EncodingError) → item ≡ Err fault → IsWtf8Fault bytes fault
+  pub fault_read : (fault : EncodingError) → item ≡ Err fault → HasFirstFault bytes fault
   fault_read fault is =
       let before = units_first_err bytes done fault rest (subst (AreUnitItems bytes) (ap (λ items. oks done ++ items) (ap (λ x. x ∷ rest) is)) items_next) in
       (before.code_points, before.first)

@@ -16,10 +16,6 @@ use Rattle.wtf8_core.proofs.lemmas.texts.AreWtf8.{text_bytes, lossy_front, lossy
 use Rattle.platform_str.specs.Laws.{PlatformLaws, PartLaws, ReadingLaws}
 use Rattle.platform_str.specs.PlatformWords.{itself, wide_bytes}
 
--- a string is any bytes
-abbrev pub AreBytes : List ℕ → Type 0
-AreBytes b = All (λ x. x < 256) b
-
 -- no bytes are refused
 abbrev pub IsNoFault : List ℕ → EncodingError → Type 0
 IsNoFault b fault = ⊥
@@ -33,10 +29,10 @@ abbrev pub IsSame : List ℕ → List ℕ → Type 0
 IsSame b c = c ≡ b
 
 -- any two proofs that numbers are bytes are equal
-pub bytes_prop : (b : List ℕ) → IsProp (AreBytes b)
+pub bytes_prop : (b : List ℕ) → IsProp (All IsByte b)
 bytes_prop b = hlevel le_prop
 
-pub unix_laws : PlatformLaws IsNoFault AreBytes itself AreBytes AreBytes utf8_lossy IsIllFormedPart
+pub unix_laws : PlatformLaws IsNoFault (All IsByte) itself (All IsByte) (All IsByte) utf8_lossy IsIllFormedPart
 unix_laws = record {
   faulty = λ b f k h. k;
   one_fault = λ b f g k l. absurd k;
@@ -60,36 +56,36 @@ unix_laws = record {
       record { some = p.some; within = p.within; behind = All-drop (λ x. x < 256) n b h; lossy_is = p.lossy };
 }
 
-pub unix_parts : PartLaws AreBytes itself AreAboveAscii
+pub unix_parts : PartLaws (All IsByte) itself AreAboveAscii
 unix_parts = record {
   spelled = λ b h k. (bare_bytes b (recursion_from_All IsByte b h) k).0;
   are_units = λ b h k. All-from_recursion (λ u. 0x80 ≤ u) b (bare_bytes b (recursion_from_All IsByte b h) k).1;
   are_wide = λ b h k. wide_bytes b h;
 }
 
-pub unix_readings : ReadingLaws AreBytes IsSame
+pub unix_readings : ReadingLaws (All IsByte) IsSame
 unix_readings = record {
-  reading_formed = λ b c a e. subst AreBytes (sym e) a;
+  reading_formed = λ b c a e. subst (All IsByte) (sym e) a;
   reads_itself = λ b h. refl;
   one_reading = λ b c d e f. e ∙ sym f;
   some_reading = λ b a. (b, refl);
 }
 
 -- the parts of a list of bytes are lists of bytes
-bytes_front : (x y : List ℕ) → AreBytes (x ++ y) → AreBytes x
-bytes_front x y h = subst AreBytes (take_at x y (length x) refl) (All-take (λ b. b < 256) (length x) (x ++ y) h)
+bytes_front : (x y : List ℕ) → All IsByte (x ++ y) → All IsByte x
+bytes_front x y h = subst (All IsByte) (take_at x y (length x) refl) (All-take (λ b. b < 256) (length x) (x ++ y) h)
 
-bytes_back : (x y : List ℕ) → AreBytes (x ++ y) → AreBytes y
-bytes_back x y h = subst AreBytes (drop_at x y (length x) refl) (All-drop (λ b. b < 256) (length x) (x ++ y) h)
+bytes_back : (x y : List ℕ) → All IsByte (x ++ y) → All IsByte y
+bytes_back x y h = subst (All IsByte) (drop_at x y (length x) refl) (All-drop (λ b. b < 256) (length x) (x ++ y) h)
 
-pub unix_standing : StandingLaws AreBytes itself
+pub unix_standing : StandingLaws (All IsByte) itself
 unix_standing = record {
   texts = text_bytes;
   once = λ v w a b e. e;
   fronts = λ x y a b. (bytes_back x y b, refl);
   ends = λ x y a b. bytes_front x y b;
   before_text = λ p x y t h w. bytes_front x (p ++ y) w;
-  units_stand = λ p s us vs t h w e. record { front = us; back = vs; joined = e; formed = bytes_front us _ (subst AreBytes e w); units_are = refl };
+  units_stand = λ p s us vs t h w e. record { front = us; back = vs; joined = e; formed = bytes_front us _ (subst (All IsByte) e w); units_are = refl };
   some_join = λ x y a b. (x ++ y, (All-append (λ b. b < 256) x y a b, refl));
-  some_rest = λ x s us a b e. (us, (bytes_back x us (subst AreBytes e b), refl));
+  some_rest = λ x s us a b e. (us, (bytes_back x us (subst (All IsByte) e b), refl));
 }

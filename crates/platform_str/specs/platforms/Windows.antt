@@ -1,14 +1,13 @@
 -- The strings of Windows: WTF-8. What its words mean, and its records of laws, proved; that of standing is wtf8_core's.
-use Rattle.std.proofs.Common.{ℕ, ◌≤◌, List, ◌++◌, length, drop, sym, ap, ◌∙◌, subst, arith}
+use Rattle.std.proofs.Common.{◌≤◌, ◌++◌, length, drop, sym, ap, ◌∙◌, subst, arith}
 use Rattle.std.specs.Str.{IsUtf8}
-use Rattle.wtf8_core.specs.Fault.{IsFirstFault}
+use Rattle.wtf8_core.specs.Checker.{HasFirstFault}
 use Rattle.wtf8_core.specs.Wtf8.{IsWtf8}
 use Rattle.wtf8_core.specs.UnitsOf.{units_of, wtf8_lossy}
 use Rattle.wtf8_core.specs.Lossy.{replacement}
 use Rattle.wtf8_core.specs.LossyReading.{IsLossyReading}
 use Rattle.wtf8_core.specs.LossyReading.IsLossyReading.{formed}
 use Rattle.wtf8_core.specs.PartUnits.{AreLoneSurrogates}
-use Rattle.wtf8_core.specs.declared.fault.EncodingError.{EncodingError}
 use Rattle.wtf8_core.proofs.lemmas.reader.Complete.{never_both, one_fault}
 use Rattle.wtf8_core.proofs.lemmas.units.AsFunction.{one_spelling, some_spelling, units_listed, units_cut}
 use Rattle.wtf8_core.proofs.lemmas.characters.AtPlaces.{none_begins}
@@ -21,11 +20,7 @@ use Rattle.wtf8_core.proofs.lemmas.texts.WithoutSurrogates.{cut_at_lead}
 use Rattle.platform_str.specs.Laws.{PlatformLaws, PartLaws, ReadingLaws}
 use Rattle.platform_str.specs.PlatformWords.{AreWideUnits, IsThree}
 
--- the first fault of bytes that aren't WTF-8
-abbrev pub IsWtf8Fault : List ℕ → EncodingError → Type 0
-IsWtf8Fault b fault = (cs : List ℕ) × IsFirstFault b cs fault
-
-pub windows_laws : PlatformLaws IsWtf8Fault IsWtf8 units_of AreWideUnits IsUtf8 wtf8_lossy IsThree
+pub windows_laws : PlatformLaws HasFirstFault IsWtf8 units_of AreWideUnits IsUtf8 wtf8_lossy IsThree
 windows_laws = record {
   faulty = λ b f k h. never_both b h.0 k.0 f h.1 k.1;
   one_fault = λ b f g k l. (one_fault b k.0 l.0 f g k.1 l.1).1;

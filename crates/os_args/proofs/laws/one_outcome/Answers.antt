@@ -1,4 +1,4 @@
-use Rattle.os_args.proofs.OneOutcome.{one_word, one_value, one_optional_value, one_rest}
+use Rattle.os_args.proofs.lemmas.OneOutcome.{one_word, one_value, one_optional_value, one_rest}
 use Rattle.os_args.proofs.laws.one_outcome.Goals as goal
 
 pub returns-clause-next : goal.returns-clause-next

@@ -1,4 +1,4 @@
-use Rattle.os_args.proofs.Joined.{less_left, never_more}
+use Rattle.os_args.proofs.lemmas.Joined.{less_left, never_more}
 use Rattle.os_args.proofs.laws.steps_end.Goals as goal
 
 pub returns-clause-next : goal.returns-clause-next

@@ -3,7 +3,7 @@ use Rattle.std.specs.Str.Iter.{chars_rest}
 use Rattle.wtf8_core.specs.Covered.{StartsWithNoCharacter}
 use Rattle.platform_str.specs.Strings.{bytes}
 use Rattle.os_str_ext.specs.Parts.{part_bytes}
-use Rattle.os_args.proofs.FirstFlag.{no_chunk, text_first, some_chunk, part_first}
+use Rattle.os_args.proofs.lemmas.FirstFlag.{no_chunk, text_first, some_chunk, part_first}
 use Rattle.os_args.proofs.word.read_flag.Goals as goal
 use Rattle.os_args.proofs.word.read_flag.Goals.{in-Some+then-is_empty+in-Some-next+in_default-strip_prefix, in-Some+then-is_empty+in_default-next, in-Some+else-is_empty, in_default}
 

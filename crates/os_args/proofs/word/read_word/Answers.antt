@@ -2,7 +2,7 @@ use Rattle.std.proofs.Common.{◌≡◌, ◌≢◌, IsTrue, true, false, [], sym
 use Rattle.platform_str.specs.Strings.{bytes}
 use Rattle.os_args.specs.Kinds.{kind_of}
 use Rattle.os_args.specs.Word.{StartsAsNegative}
-use Rattle.os_args.proofs.Readings.{is_short}
+use Rattle.os_args.proofs.lemmas.Readings.{is_short}
 use Rattle.os_args.proofs.word.read_word.Goals as goal
 use Rattle.os_args.proofs.word.read_word.Goals.{else-numbers-via-then-numbers+else-starts_as_negative, else-numbers-via-else-numbers}
 

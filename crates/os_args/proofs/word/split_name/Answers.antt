@@ -1,5 +1,5 @@
 use Rattle.platform_str.specs.Strings.{bytes}
-use Rattle.os_args.proofs.NameEnd.{name_ends}
+use Rattle.os_args.proofs.lemmas.NameEnd.{name_ends}
 use Rattle.os_args.proofs.word.split_name.Goals as goal
 
 pub returns-in-Some : goal.returns-in-Some

@@ -1,6 +1,6 @@
 use Rattle.std.proofs.Common.{◌≡◌, true, false, IsTrue, sym, ◌∙◌, chars}
 use Rattle.std.proofs.lemmas.Str.{encodes-chars}
-use Rattle.os_glob.proofs.Ends.{end_bytes}
+use Rattle.os_glob.proofs.lemmas.Ends.{end_bytes}
 use Rattle.os_glob.proofs.glob.ends_alike.Goals as goal
 
 pub returns : goal.returns

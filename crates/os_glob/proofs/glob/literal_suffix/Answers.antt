@@ -1,4 +1,4 @@
-use Rattle.os_glob.proofs.Ends.{nothing_read, plain_read, item_read, all_read}
+use Rattle.os_glob.proofs.lemmas.Ends.{nothing_read, plain_read, item_read, all_read}
 use Rattle.os_glob.proofs.glob.literal_suffix.Goals as goal
 
 pub loop-character-init : goal.loop-character-init

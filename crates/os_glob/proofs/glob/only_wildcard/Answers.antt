@@ -1,7 +1,7 @@
 use Rattle.std.proofs.Common.{◌∷◌, ap, ◌∙◌, chars}
 use Rattle.os_glob.specs.Held.{item_of}
 use Rattle.os_glob.specs.Items.{Run, items}
-use Rattle.os_glob.proofs.Ends.{no_characters}
+use Rattle.os_glob.proofs.lemmas.Ends.{no_characters}
 use Rattle.os_glob.proofs.glob.only_wildcard.Goals as goal
 
 pub returns : goal.returns

@@ -1,5 +1,5 @@
 use Rattle.std.specs.Str.{chars}
-use Rattle.os_glob.proofs.Readings.{unclosed_leaves, reversed_leaves}
+use Rattle.os_glob.proofs.lemmas.Readings.{unclosed_leaves, reversed_leaves}
 use Rattle.os_glob.proofs.item.class_at.Goals as goal
 
 pub returns-in_default-clause-rest : goal.returns-in_default-clause-rest

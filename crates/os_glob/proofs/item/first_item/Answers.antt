@@ -1,4 +1,4 @@
-use Rattle.os_glob.proofs.Readings.{item_then}
+use Rattle.os_glob.proofs.lemmas.Readings.{item_then}
 use Rattle.os_glob.proofs.item.first_item.Goals as goal
 
 pub returns-clause-item : goal.returns-clause-item

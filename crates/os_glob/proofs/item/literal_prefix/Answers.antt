@@ -1,4 +1,4 @@
-use Rattle.os_glob.proofs.Ends.{begins}
+use Rattle.os_glob.proofs.lemmas.Ends.{begins}
 use Rattle.os_glob.proofs.item.literal_prefix.Goals as goal
 
 pub returns-clause-begins : goal.returns-clause-begins

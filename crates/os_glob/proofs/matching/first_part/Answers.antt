@@ -1,6 +1,6 @@
 use Rattle.std.proofs.Common.{subst}
 use Rattle.os_glob.specs.Parts.{GoesOn}
-use Rattle.os_glob.proofs.Steps.{from_star, at_double_star}
+use Rattle.os_glob.proofs.lemmas.Steps.{from_star, at_double_star}
 use Rattle.os_glob.proofs.matching.first_part.Goals as goal
 
 pub returns-in-Run-DoubleStar-default-default : goal.returns-in-Run-DoubleStar-default-default

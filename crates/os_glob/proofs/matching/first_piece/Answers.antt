@@ -1,6 +1,6 @@
 use Rattle.std.proofs.Common.{◌∷◌, ap, ◌∙◌}
 use Rattle.os_glob.specs.Held.{token_of}
-use Rattle.os_glob.proofs.Steps.{at_end, one_more}
+use Rattle.os_glob.proofs.lemmas.Steps.{at_end, one_more}
 use Rattle.os_glob.proofs.matching.first_piece.Goals as goal
 
 pub returns-in_default-next : goal.returns-in_default-next

@@ -1,5 +1,5 @@
 use Rattle.std.proofs.Common.{length}
-use Rattle.os_glob.proofs.Steps.{SoFar}
+use Rattle.os_glob.proofs.lemmas.Steps.{SoFar}
 use Rattle.os_glob.proofs.matching.first_piece.Given as goal
 
 abbrev pub invariant-loop-token : goal.invariant-loop-token

@@ -3,9 +3,9 @@ use Rattle.os_glob.specs.declared.item.Wildcard.TheVariants.{Star, DoubleStar}
 use Rattle.os_glob.specs.Pattern.{Run}
 use Rattle.os_glob.specs.Match.{Matches}
 use Rattle.os_glob.specs.Parts.{GoesOnAnywhere, SkipsComponent}
-use Rattle.os_glob.proofs.Runs.{empty_run}
-use Rattle.os_glob.proofs.Steps.{both, later, stopped, never_later}
-use Rattle.os_glob.proofs.Skips.{anywhere_on}
+use Rattle.os_glob.proofs.lemmas.Runs.{empty_run}
+use Rattle.os_glob.proofs.lemmas.Steps.{both, later, stopped, never_later}
+use Rattle.os_glob.proofs.lemmas.Skips.{anywhere_on}
 use Rattle.os_glob.proofs.matching.is_after_double_star.Goals as goal
 
 pub returns-in-All : goal.returns-in-All

@@ -3,8 +3,8 @@ use Rattle.os_glob.specs.declared.item.Wildcard.TheVariants.{Star, DoubleStar}
 use Rattle.os_glob.specs.Pattern.{Run}
 use Rattle.os_glob.specs.Match.{Matches}
 use Rattle.os_glob.specs.Parts.{GoesOn}
-use Rattle.os_glob.proofs.Steps.{both, next_star, anywhere, all_after, ends_after, next_place, blocked, blocked_at_end}
-use Rattle.os_glob.proofs.Skips.{past_skipped}
+use Rattle.os_glob.proofs.lemmas.Steps.{both, next_star, anywhere, all_after, ends_after, next_place, blocked, blocked_at_end}
+use Rattle.os_glob.proofs.lemmas.Skips.{past_skipped}
 use Rattle.os_glob.proofs.matching.part_after_star.Goals as goal
 
 pub returns-in-All : goal.returns-in-All

@@ -1,5 +1,5 @@
 use Rattle.std.proofs.Common.{◌+◌, length}
-use Rattle.os_glob.proofs.Steps.{AfterStar}
+use Rattle.os_glob.proofs.lemmas.Steps.{AfterStar}
 use Rattle.os_glob.proofs.matching.part_after_star.Given as goal
 
 abbrev pub invariant-loop-after : goal.invariant-loop-after

@@ -1,7 +1,7 @@
 use Rattle.std.proofs.Common.{sym, subst}
 use Rattle.os_glob.specs.declared.item.Wildcard.TheVariants.{Star}
 use Rattle.os_glob.specs.Match.{Takes}
-use Rattle.os_glob.proofs.Steps.{past_one, at_separator, at_leading_dot, at_last}
+use Rattle.os_glob.proofs.lemmas.Steps.{past_one, at_separator, at_leading_dot, at_last}
 use Rattle.os_glob.proofs.matching.skip_component.Goals as goal
 
 pub returns-in-Separator : goal.returns-in-Separator

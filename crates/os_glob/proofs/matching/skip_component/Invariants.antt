@@ -1,5 +1,5 @@
 use Rattle.std.proofs.Common.{length}
-use Rattle.os_glob.proofs.Steps.{IsPast}
+use Rattle.os_glob.proofs.lemmas.Steps.{IsPast}
 use Rattle.os_glob.proofs.matching.skip_component.Given as goal
 
 abbrev pub invariant-loop-place : goal.invariant-loop-place

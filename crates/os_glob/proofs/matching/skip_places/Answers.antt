@@ -1,5 +1,5 @@
 use Rattle.std.proofs.Common.{chars}
-use Rattle.os_glob.proofs.Literals.{skips_literal, skips_to_end, skips_byte}
+use Rattle.os_glob.proofs.lemmas.Literals.{skips_literal, skips_to_end, skips_byte}
 use Rattle.os_glob.proofs.matching.skip_places.Goals as goal
 
 pub returns-then-are_all_taken : goal.returns-then-are_all_taken

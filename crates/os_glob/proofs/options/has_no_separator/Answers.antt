@@ -2,7 +2,7 @@ use Rattle.std.proofs.Common.{◌++◌, sym, ap, ◌∙◌, subst, append-nil, c
 use Rattle.std.specs.List.{AllByRecursion}
 use Rattle.os_glob.specs.declared.options.Separators.TheVariants as separators
 use Rattle.os_glob.specs.Ends.{StandsAlone}
-use Rattle.os_glob.proofs.Ends.{no_characters, all_alone}
+use Rattle.os_glob.proofs.lemmas.Ends.{no_characters, all_alone}
 use Rattle.os_glob.proofs.options.has_no_separator.Goals as goal
 
 pub returns : goal.returns

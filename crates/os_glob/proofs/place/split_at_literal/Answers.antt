@@ -1,7 +1,7 @@
 use Rattle.std.proofs.Common.{rules, ◌++◌, sym, ap, chars}
 use Rattle.std.proofs.lemmas.Str.{chars-nil}
-use Rattle.os_glob.proofs.Skips.{nothing_after}
-use Rattle.os_glob.proofs.Literals.{before_found, before_end, before_any, no_text_at_end, no_text_at_unit}
+use Rattle.os_glob.proofs.lemmas.Skips.{nothing_after}
+use Rattle.os_glob.proofs.lemmas.Literals.{before_found, before_end, before_any, no_text_at_end, no_text_at_unit}
 use Rattle.os_glob.proofs.place.split_at_literal.Goals as goal
 
 pub returns-in-Some-clause-none : goal.returns-in-Some-clause-none

@@ -1,4 +1,4 @@
-use Rattle.os_glob.proofs.Skips.{no_text}
+use Rattle.os_glob.proofs.lemmas.Skips.{no_text}
 use Rattle.os_glob.proofs.place.split_text.Goals as goal
 
 pub returns-in_default-clause-symbols : goal.returns-in_default-clause-symbols

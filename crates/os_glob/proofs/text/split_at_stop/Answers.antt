@@ -1,4 +1,4 @@
-use Rattle.os_glob.proofs.Skips.{nothing_after, kinds, anything, no_slash, no_separator, no_literal, no_slash_or_literal, no_separator_or_literal}
+use Rattle.os_glob.proofs.lemmas.Skips.{nothing_after, kinds, anything, no_slash, no_separator, no_literal, no_slash_or_literal, no_separator_or_literal}
 use Rattle.os_glob.proofs.text.split_at_stop.Goals as goal
 
 pub returns-in-None-separators-clause-joined : goal.returns-in-None-separators-clause-joined

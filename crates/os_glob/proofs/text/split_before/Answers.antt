@@ -3,7 +3,7 @@ use Rattle.std.specs.List.{AllByRecursion}
 use Rattle.std.proofs.Math.Nat.{sub-zero}
 use Rattle.memchr.specs.Find.{NoneBefore, Nowhere}
 use Rattle.os_glob.specs.Skips.{IsNone}
-use Rattle.os_glob.proofs.Skips.{IsStop, nowhere, nothing_after, cut_joined, none_before}
+use Rattle.os_glob.proofs.lemmas.Skips.{IsStop, nowhere, nothing_after, cut_joined, none_before}
 use Rattle.os_glob.proofs.text.split_before.Goals as goal
 
 pub returns-in_default-clause-joined : goal.returns-in_default-clause-joined

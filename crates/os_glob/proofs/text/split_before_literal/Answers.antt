@@ -1,7 +1,7 @@
 use Rattle.std.proofs.Common.{◌≡◌, ◌++◌, length, take, drop, sym, ap, ◌∙◌, subst, chars}
 use Rattle.std.proofs.Math.Nat.{sub-zero}
 use Rattle.wtf8_core.specs.Standing.{StandsNowhere, IsFirstPlace}
-use Rattle.os_glob.proofs.Literals.{occurs_nowhere, occurs_first, literal_cut, literal_joined}
+use Rattle.os_glob.proofs.lemmas.Literals.{occurs_nowhere, occurs_first, literal_cut, literal_joined}
 use Rattle.os_glob.proofs.text.split_before_literal.Goals as goal
 
 pub returns-in_default-clause-first : goal.returns-in_default-clause-first

@@ -1,6 +1,6 @@
 use Rattle.std.proofs.Common.{◌+◌, length, refl, subst, arith, ⊎_elim}
 use Rattle.std.proofs.lemmas.Bool.{cases_eq, cases_lt, false≢true}
-use Rattle.memchr.specs.Find.{OccursAt}
+use Rattle.memchr.specs.Find.{OccursAt as NeedleOccursAt}
 use Rattle.os_str_ext.proofs.lemmas.Needles.{first_of_all, in_copy}
 use Rattle.os_str_ext.proofs.needle.first_in_copy.Goals as goal
 
@@ -32,10 +32,10 @@ loop-preserved c =
     let within = c.if-bytes-at.false in (
       omega arith,
       λ k low lt o. ⊎_elim
-          (λ same. false≢true (c.if-stands_at.ensures.1 (subst (OccursAt c.args.bytes.now c.args.needle.now) same o)))
+          (λ same. false≢true (c.if-stands_at.ensures.1 (subst (NeedleOccursAt c.args.bytes.now c.args.needle.now) same o)))
           (λ other. ⊎_elim (λ near. c.loop.invariant.1 k low near o) (λ far. here.before k far (omega arith) (in_copy c.args.bytes.now c.args.copy.now c.args.needle.now c.requires.copy k o)) (cases_lt k c.loop.from))
           (cases_eq k c.in-Some.at),
     )
 
 pub returns : goal.returns
-returns c = first_of_all (OccursAt c.args.bytes.now c.args.needle.now) c.loop.from (length c.args.bytes.now + 1) c.loop.invariant.1 _ c.first_from.ensures
+returns c = first_of_all (NeedleOccursAt c.args.bytes.now c.args.needle.now) c.loop.from (length c.args.bytes.now + 1) c.loop.invariant.1 _ c.first_from.ensures

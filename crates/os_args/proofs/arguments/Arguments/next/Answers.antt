@@ -2,7 +2,7 @@ use Rattle.std.proofs.Common.{inr, ◌+◌, map, drop}
 use Rattle.platform_str.specs.Strings.{bytes}
 use Rattle.os_args.specs.Kinds.{kind_of}
 use Rattle.os_args.specs.Views.{reading}
-use Rattle.os_args.proofs.Steps.{no_dashes, takes_next}
+use Rattle.os_args.proofs.lemmas.Steps.{no_dashes, takes_next}
 use Rattle.os_args.proofs.arguments.Arguments.next.Goals as goal
 
 pub read_in-requires : goal.read_in-requires

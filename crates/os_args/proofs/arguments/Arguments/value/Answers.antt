@@ -1,7 +1,7 @@
 use Rattle.std.proofs.Common.{inr, ◌+◌, map, drop}
 use Rattle.platform_str.specs.Strings.{bytes}
 use Rattle.os_args.specs.Views.{reading}
-use Rattle.os_args.proofs.Steps.{takes_whole}
+use Rattle.os_args.proofs.lemmas.Steps.{takes_whole}
 use Rattle.os_args.proofs.arguments.Arguments.value.Goals as goal
 
 pub returns : goal.returns

@@ -1,7 +1,7 @@
 use Rattle.std.proofs.Common.{◌≡◌, ◌∷◌, [], IfSome, sym, ◌∙◌, subst, chars}
 use Rattle.os_glob.specs.Items.{Run, items}
 use Rattle.os_glob.specs.Match.{IsMatch}
-use Rattle.os_glob.proofs.Ends.{matches_all}
+use Rattle.os_glob.proofs.lemmas.Ends.{matches_all}
 use Rattle.os_glob.proofs.glob.Glob.matches_all.Goals as goal
 
 pub returns-in-None : goal.returns-in-None

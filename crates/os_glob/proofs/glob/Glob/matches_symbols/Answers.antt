@@ -1,6 +1,6 @@
 use Rattle.std.proofs.Common.{◌≡◌, true, false, sym, subst}
 use Rattle.os_glob.specs.Match.{IsMatch}
-use Rattle.os_glob.proofs.Ends.{begins_alike, ends_alike}
+use Rattle.os_glob.proofs.lemmas.Ends.{begins_alike, ends_alike}
 use Rattle.os_glob.proofs.glob.Glob.matches_symbols.Goals as goal
 
 pub returns-then-not-begins_alike : goal.returns-then-not-begins_alike

@@ -1,7 +1,7 @@
 use Rattle.std.proofs.Common.{◌∷◌, ap, ◌∙◌, chars, subst}
 use Rattle.os_glob.specs.Held.{item_of, IsFaultText}
 use Rattle.os_glob.specs.Items.{items, first_fault}
-use Rattle.os_glob.proofs.Readings.{is_first_fault, fault_within}
+use Rattle.os_glob.proofs.lemmas.Readings.{is_first_fault, fault_within}
 use Rattle.os_glob.proofs.glob.Glob.new.Goals as goal
 
 pub returns-in-Refused : goal.returns-in-Refused

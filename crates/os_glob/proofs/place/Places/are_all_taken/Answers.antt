@@ -1,7 +1,7 @@
 use Rattle.std.proofs.Common.{sym, ◌∙◌, subst}
 use Rattle.std.specs.List.{AllByRecursion}
 use Rattle.os_glob.specs.Match.{Takes}
-use Rattle.os_glob.proofs.Ends.{all_taken}
+use Rattle.os_glob.proofs.lemmas.Ends.{all_taken}
 use Rattle.os_glob.proofs.place.Places.are_all_taken.Goals as goal
 
 pub returns-in-None : goal.returns-in-None

@@ -3,7 +3,7 @@ use Rattle.os_str_ext.specs.declared.symbols.Symbol.TheVariants.{Character}
 use Rattle.os_glob.specs.Places.{places}
 use Rattle.std.specs.List.{AllByRecursion}
 use Rattle.os_glob.specs.Skips.{IsNoStop, IsSkipped}
-use Rattle.os_glob.proofs.Skips.{text_skipped}
+use Rattle.os_glob.proofs.lemmas.Skips.{text_skipped}
 use Rattle.os_glob.proofs.place.Places.skip.Goals as goal
 
 pub returns : goal.returns

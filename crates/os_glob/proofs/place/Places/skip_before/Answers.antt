@@ -2,7 +2,7 @@ use Rattle.std.proofs.Common.{false, map, ◌++◌, subst, chars}
 use Rattle.os_str_ext.specs.declared.symbols.Symbol.TheVariants.{Character}
 use Rattle.os_glob.specs.Places.{places}
 use Rattle.os_glob.specs.Skips.{IsSkippedBefore}
-use Rattle.os_glob.proofs.Literals.{literal_skipped}
+use Rattle.os_glob.proofs.lemmas.Literals.{literal_skipped}
 use Rattle.os_glob.proofs.place.Places.skip_before.Goals as goal
 
 pub returns : goal.returns

@@ -1,6 +1,6 @@
 use Rattle.std.proofs.Common.{subst, chars}
 use Rattle.os_glob.specs.Skips.{StartsWith}
-use Rattle.os_glob.proofs.Literals.{starts_with}
+use Rattle.os_glob.proofs.lemmas.Literals.{starts_with}
 use Rattle.os_glob.proofs.token.Tokens.literal.Goals as goal
 
 pub returns-clause-literal : goal.returns-clause-literal

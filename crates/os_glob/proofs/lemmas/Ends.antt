@@ -23,9 +23,9 @@ use Rattle.os_glob.specs.Ends.{IsPlain, BeginsWith, EndsWith, AreRead, StandsAlo
 use Rattle.os_glob.specs.Skips.{IsNone, left_out}
 use Rattle.os_glob.specs.Pattern.{tokens}
 use Rattle.os_glob.specs.Match.{Takes, Matches, IsMatch}
-use Rattle.os_glob.proofs.Readings.{items_after}
-use Rattle.os_glob.proofs.Runs.{parts}
-use Rattle.os_glob.proofs.Skips.{all_so, no_separator, passed_at}
+use Rattle.os_glob.proofs.lemmas.Readings.{items_after}
+use Rattle.os_glob.proofs.lemmas.Runs.{parts}
+use Rattle.os_glob.proofs.lemmas.Skips.{all_so, no_separator, passed_at}
 
 -- a text of no bytes
 pub no_characters : (text : List ℕ) (empty : Bool) → empty ≡ (length text == 0) → empty ≡ true → chars text ≡ []
@@ -49,9 +49,9 @@ all_plain : (ps rs : List ℕ) → AllByRecursion (IsNone 0x2A 0x3F 0x5B) (ps ++
 all_plain [] rs h k = tt
 all_plain (c ∷ ps) rs h k = (plain c h.0.0 h.0.1.0 k.0.0 h.0.1.1, all_plain ps rs h.1 k.1)
 
-pub begins : (all front more prefix rest : List ℕ) → all ≡ front ++ more → front ≡ prefix ++ rest
-    → AllByRecursion (IsNone 0x2A 0x3F 0x5B) front → AllByRecursion (IsNone 0x5C 0x5C 0x5C) prefix → BeginsWith (items all) prefix
-begins all front more prefix rest e f h k = (
+pub begins : (all start more prefix rest : List ℕ) → all ≡ start ++ more → start ≡ prefix ++ rest
+    → AllByRecursion (IsNone 0x2A 0x3F 0x5B) start → AllByRecursion (IsNone 0x5C 0x5C 0x5C) prefix → BeginsWith (items all) prefix
+begins all start more prefix rest e f h k = (
   items (rest ++ more),
   ap items (e ∙ ap (λ x. x ++ more) f ∙ append_assoc prefix rest more)
       ∙ plain_items prefix (rest ++ more) (all_plain prefix rest (subst (AllByRecursion (IsNone 0x2A 0x3F 0x5B)) f h) k),

@@ -2,7 +2,7 @@
 use Rattle.std.proofs.Common.{◌≡◌, inl, inr, ℕ, ◌+◌, Bool, true, false, List, [], ◌∷◌, Option, Some, None, Result, Ok, Err, refl, sym, ap, ◌∙◌, subst}
 use Rattle.os_args.specs.Word.{Kind, IsValueOf}
 use Rattle.os_args.specs.Reading.{Fault, UnexpectedValue, Reading, words_left, having_read, SkipsDashes, IsReadIn, TakesFlag, TakesNext, TakesNone, TakesWhole, DropsValue, TakesWord, TakesPending, LacksValue, TakesValue, TakesOptionalValue, TakesRest}
-use Rattle.os_args.proofs.OneReading.{one_flag, one_reading}
+use Rattle.os_args.proofs.lemmas.OneReading.{one_flag, one_reading}
 
 heads : {A : Type 0} {a b : A} {x y : List A} → a ∷ x ≡ b ∷ y → a ≡ b
 heads e = cc

@@ -21,8 +21,8 @@ use Rattle.os_glob.specs.Ends.{BeginsWith}
 use Rattle.os_glob.specs.Pattern.{Token, One, Same, tokens}
 use Rattle.os_glob.specs.Match.{Takes, Matches}
 use Rattle.os_glob.specs.Skips.{IsNoStop, StartsWith, IsBeforeFirst, IsSkippedBefore, DiffersAt, IsSkipped, PassesOver, Skips}
-use Rattle.os_glob.proofs.Runs.{parts}
-use Rattle.os_glob.proofs.Skips.{plain, alike}
+use Rattle.os_glob.proofs.lemmas.Runs.{parts}
+use Rattle.os_glob.proofs.lemmas.Skips.{plain, alike}
 
 -- more bytes are more characters
 no_longer : (cs ds xs ys : List ℕ) → cs ++ xs ≡ ds ++ ys → length (encode_utf8_all cs) ≤ length (encode_utf8_all ds) → length cs ≤ length ds

@@ -10,7 +10,7 @@ use Rattle.os_glob.specs.declared.item.Wildcard.TheVariants.{Star, DoubleStar}
 use Rattle.os_glob.specs.Pattern.{Class, Token, Run, One}
 use Rattle.os_glob.specs.Match.{Takes, Fits, Matches}
 use Rattle.os_glob.specs.Parts.{GoesOn, GoesOnAnywhere, PartSays, GoesPast}
-use Rattle.os_glob.proofs.Runs.{takes_wider, all_append, empty_run, longer_run, run_cases, run_at_end, run_star, run_anywhere, one_place, no_place, run_one}
+use Rattle.os_glob.proofs.lemmas.Runs.{takes_wider, all_append, empty_run, longer_run, run_cases, run_at_end, run_star, run_anywhere, one_place, no_place, run_one}
 
 -- matching has come from the tokens ts and the places ps to qs and rest, with no wildcard between
 pub record SoFar (ts : List Token) (ps : List Place) (qs : List Token) (rest : List Place) : Type 0 where

@@ -21,7 +21,7 @@ use Rattle.os_glob.specs.Places.{separates, place, places, begins_component}
 use Rattle.os_glob.specs.Pattern.{Token, Run}
 use Rattle.os_glob.specs.Match.{Takes, Matches}
 use Rattle.os_glob.specs.Skips.{IsNone, Differs, IsNoStop, left_out, DiffersAt, IsSkipped, PassesOver, Skips}
-use Rattle.os_glob.proofs.Steps.{AfterStar, next_place, later}
+use Rattle.os_glob.proofs.lemmas.Steps.{AfterStar, next_place, later}
 
 -- bytes at which a search doesn't stop
 module _ (a b c : ℕ) where
