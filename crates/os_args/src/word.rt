@@ -78,15 +78,8 @@ pub(crate) fn read_flag<'a, E: Platform>(
     requires { bytes flags ≢ [] }
     ensures { IsFlag (bytes flags.entry) (kind_of result.0) (bytes result.1) }
 {
-    wtf8_core::laws::characters();
-    if let Some((part, text)) = flags.utf8_chunks().next() {
-        if part.as_os_str().is_empty() {
-            if let Some(flag) = text.chars().next() {
-                if let Some(rest) = flags.strip_prefix(flag) {
-                    return (Word::Short(flag), rest);
-                }
-            }
-        }
+    if let Some((flag, rest)) = flags.split_first_char() {
+        return (Word::Short(flag), rest);
     }
     (Word::ShortBytes(flags), OsStr::new(""))
 }
