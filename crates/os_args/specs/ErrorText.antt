@@ -12,7 +12,7 @@ word_text lossy (Short c) = codes "-" ++ encode_utf8 c
 word_text lossy (ShortBytes rest) = codes "-" ++ lossy rest
 word_text lossy (Value value) = lossy value
 
--- the word after which the fault is, where there is one
+-- the option after which the fault is, where there is one
 abbrev pub after_text : (List ℕ → List ℕ) → Option Kind → List ℕ
 after_text lossy None = []
 after_text lossy (Some kind) = codes " after '" ++ (word_text lossy kind ++ codes "'")

@@ -17,9 +17,10 @@ use std::fmt;
 /// writes what `{}` does.
 #[derive(Clone, Copy)]
 pub enum ArgumentError<'a, S> {
-    /// A value that nothing took, after this word: `--name=value` where the option takes none.
+    /// A value that nothing took, after this option: `--name=value` where the option takes none.
     UnexpectedValue(Option<Word<'a, S>>, S),
-    /// No value where one was asked for, after this word.
+    /// No value where one was asked for; the last option that was read, whatever operands came
+    /// after it, or `None` where no option was read.
     MissingValue(Option<Word<'a, S>>),
     /// An option that isn't known, or an operand too many: [`Word::unexpected`] makes it.
     UnexpectedArgument(Word<'a, S>),
@@ -72,7 +73,7 @@ impl<'a, E: Platform> fmt::Display for ArgumentError<'a, OsStr<'a, E>> {
     }
 }
 
-/// Writes after which word a fault is.
+/// Writes after which option a fault is.
 fn write_after<'a, E: Platform, W: fmt::Write>(
     last: Option<Word<'a, OsStr<'a, E>>>,
     f: &mut fmt::Formatter<W>,
