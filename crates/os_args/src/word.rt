@@ -11,7 +11,16 @@ use os_str_ext::{OsStr, OsStrBytesExt, Platform, search_laws};
 ///
 /// [`Arguments::next`](crate::Arguments::next) gives `Word<'a, OsStr<'a, E>>`. The word is generic in
 /// the strings, as a user's own enum over strings of any platform is.
-#[derive(Clone, Copy)]
+///
+/// ```
+/// use os_args::{Arguments, Word};
+/// use os_str_bytes::{OsStr, Unix};
+///
+/// let words = [OsStr::<Unix>::new("--name=value")];
+/// let mut arguments = Arguments::new(words.as_slice());
+/// assert_eq!(rt; arguments.next(), Ok(Some(Word::Long("name"))));
+/// ```
+#[derive(Clone, Copy, PartialEq, Eq)]
 pub enum Word<'a, S> {
     /// The name of `--name` and of `--name=value`.
     Long(&'a str),
