@@ -3,6 +3,7 @@ pub mod Tokens
 pub mod LongTokens
 pub mod Texts
 pub mod Writing
+pub mod InlineTexts
 pub mod Pushing
 pub mod Stripping
 pub mod Chunks

@@ -8,3 +8,4 @@ pub mod Reading
 pub mod Buffers
 pub mod Unescaped
 pub mod Stripping
+pub mod ErrorText
