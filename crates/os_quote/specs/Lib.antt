@@ -1,4 +1,5 @@
 pub mod Item
+pub mod HiddenCharacters
 pub mod Shown
 pub mod Standing
 pub mod Plain
