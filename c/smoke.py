@@ -7,7 +7,6 @@ import ctypes
 import random
 import re
 import sys
-import unicodedata
 from ctypes import POINTER, Structure, byref, c_char_p, c_int32, c_size_t, c_uint16, c_uint32, c_void_p
 
 
