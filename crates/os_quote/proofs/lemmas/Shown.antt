@@ -1,5 +1,5 @@
 -- What each form shows.
-use Rattle.os_quote.proofs.Common.{◌≡◌, ℕ, ◌+◌, ◌-◌, ◌<◌, ◌≤◌, true, refl, subst, arith, all_below, each_below, stays_on_line}
+use Rattle.os_quote.proofs.Common.{◌≡◌, ℕ, ◌+◌, ◌-◌, ◌<◌, ◌≤◌, true, refl, subst, arith, each_below, stays_on_line}
 
 -- ASCII from the space to the tilde
 pub ascii_stays : (b : ℕ) → 0x20 ≤ b → b < 0x7F → stays_on_line b ≡ true

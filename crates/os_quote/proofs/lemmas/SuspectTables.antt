@@ -1,5 +1,5 @@
 -- The tables have each character that is hidden, and the backslash.
-use Rattle.os_quote.proofs.Common.{◌≡◌, ◌≢◌, ⊎_elim, ℕ, suc, ◌+◌, ◌-◌, ◌/◌, ◌%◌, ◌<◌, ◌≤◌, Bool, true, false, ◌&&◌, List, [], ◌∷◌, not, eqb, ltb, bit_and, refl, sym, ap, ◌∙◌, subst, arith, true≢false, is_in_range, cases_lt, lt-ltb, le-ltb, all_below, each_below, hidden_ranges, is_in_ranges, Stands, lead_bits, second_bits, third_bits, pair_bits, suspect_bits}
+use Rattle.os_quote.proofs.Common.{◌≡◌, ⊎_elim, ℕ, suc, ◌+◌, ◌-◌, ◌/◌, ◌%◌, ◌<◌, ◌≤◌, Bool, true, false, ◌&&◌, List, [], ◌∷◌, not, eqb, ltb, bit_and, refl, sym, ap, ◌∙◌, subst, arith, true≢false, is_in_range, cases_lt, lt-ltb, le-ltb, all_below, each_below, hidden_ranges, is_in_ranges, Stands, lead_bits, second_bits, third_bits, pair_bits, suspect_bits}
 use Rattle.std.specs.Bool.{if◌then◌else◌}
 use Rattle.std.proofs.lemmas.Bool.{and_parts, cases_Bool, or_cases, eqb-true, not-false}
 use Rattle.std.proofs.lemmas.Nat.{and_assoc}
