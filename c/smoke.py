@@ -10,7 +10,6 @@ import ctypes
 import random
 import re
 import sys
-import unicodedata
 from ctypes import CDLL, POINTER, Structure, byref, c_char_p, c_int32, c_size_t, c_uint16, c_uint32, c_void_p
 from typing import Callable, Iterator
 
@@ -145,12 +144,15 @@ def escape(call: Call, platform: int, string: bytes) -> bytes:
     return out.raw[: length.value]
 
 
+# the characters that Unicode 18.0 hides or takes for controls: the first and the last of each range
+HIDDEN = """0-1F 7F-A0 AD 34F 600-605 61C 6DD 70F 890-891 8E2 115F-1160 1680 17B4-17B5 180B-180F 2000-200F
+    2028-202F 205F-206F 2800 3000 3164 FE00-FE0F FEFF FFA0 FFF0-FFFB 110BD 110CD 13430-1343F 1BCA0-1BCA3
+    1D173-1D17A E0000-E0FFF"""
+RANGES = [(int(words[0], 16), int(words[-1], 16)) for words in (word.split("-") for word in HIDDEN.split())]
+
+
 def stays_on_line(character: str) -> bool:
-    code = ord(character)
-    if unicodedata.category(character) in ("Cc", "Zl", "Zp"):
-        return False
-    marks = code in (0x61C, 0x2060, 0xFEFF) or 0x200B <= code <= 0x200F or 0x202A <= code <= 0x202E
-    return not (marks or 0x2066 <= code <= 0x2069 or 0xE0000 <= code <= 0xE007F)
+    return not any(first <= ord(character) <= last for first, last in RANGES)
 
 
 def escape_by_python(platform: int, string: bytes, on_line: bool) -> bytes:

@@ -1,5 +1,6 @@
 //! Times the calls of this repository beside the Rust crate and the standard library, and prints a
 //! table for each family of calls. README.md says what is timed.
+mod arguments;
 mod chunks;
 mod clock;
 mod conversions;
@@ -28,5 +29,6 @@ fn main() {
         joins::time(&mut bench);
         escapes::time(&mut bench);
         globs::time(&mut bench);
+        arguments::time(&mut bench);
     }
 }

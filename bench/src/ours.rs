@@ -40,6 +40,7 @@ mod exports {
             lens: *const usize,
             count: usize,
         ) -> usize;
+        pub fn port_flags(bytes: *const u8, len: usize) -> u64;
         pub fn port_escape(bytes: *const u8, len: usize) -> usize;
         pub fn port_win_escape(bytes: *const u8, len: usize) -> usize;
         pub fn port_wasm_escape(bytes: *const u8, len: usize) -> usize;
@@ -168,6 +169,11 @@ pub fn matches(pattern: &str, texts: &str, lens: &[usize]) -> usize {
     unsafe {
         exports::port_matches(pattern.as_ptr(), pattern.len(), texts.as_ptr(), texts.len(), lens.as_ptr(), lens.len())
     }
+}
+
+/// The sum of the flags of a word.
+pub fn flags(word: &[u8]) -> u64 {
+    unsafe { exports::port_flags(word.as_ptr(), word.len()) }
 }
 
 pub fn escape(bytes: &[u8]) -> usize {

@@ -2,13 +2,14 @@
 //! [`wide`] bytes to units and back, [`lossy`] lossy texts and readings, [`search`] searches,
 //! [`boundary`] boundaries, [`compare`] the order, [`pieces`] splits, [`chunks`] chunks, [`symbols`]
 //! symbols and first characters, [`joins`] joins and prefixes by units, [`escapes`] escapes,
-//! [`buffers`] what is written into a buffer, [`globs`] path patterns.
+//! [`buffers`] what is written into a buffer, [`globs`] path patterns, [`arguments`] options.
 //!
 //! Each export is a call of the libraries below it, and nothing else. A slice crosses as a
 //! pointer and a length, and an allocator as nothing: what it takes is the program's own
 //! `malloc`. The caller keeps what each export asks.
 #![tactic(auto)]
 
+pub mod arguments;
 pub mod boundary;
 pub mod buffers;
 pub mod check;

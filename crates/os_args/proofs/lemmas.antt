@@ -1,8 +1,8 @@
 pub mod Numbers
 pub mod Readings
-pub mod FirstFlag
 pub mod NameEnd
 pub mod OneReading
 pub mod Joined
+pub mod OneEscape
 pub mod Steps
 pub mod OneOutcome

@@ -1,15 +1,15 @@
 -- The words of a command line, taken step by step.
 use Rattle.std.specs.Prelude.{◌≡◌, ◌≢◌, ℕ, ◌+◌, ◌⊎◌, Bool, true, false, List, [], ◌∷◌, ◌++◌, drop, length, Option, Some, None, Result, Ok, Err}
 use Rattle.wtf8_core.specs.Standing.{IsPrefix}
-use Rattle.os_args.specs.Word.{Kind, Value, dashes, equals, IsFlag, IsReadAs, IsValueOf}
+use Rattle.os_args.specs.Word.{Kind, Long, LongBytes, Short, ShortBytes, Value, dashes, equals, IsFlag, IsReadAs, IsValueOf}
 
--- why a step gives nothing: a value that nothing took after what was read last, or none where one is wanted
+-- why a step gives nothing: a value that nothing took after the last option, or none where one is wanted
 pub data Fault : Type 0 where
   UnexpectedValue : Option Kind → List ℕ → Fault
   MissingValue : Option Kind → Fault
   UnexpectedArgument : Kind → Fault
 
--- the words as they were given, how many of them were taken, what is left of the last one that was taken, whether `--` was taken, whether negative numbers are values, and what was read last
+-- the words as they were given, how many of them were taken, what is left of the last one that was taken, whether `--` was taken, whether negative numbers are values, and the last option that was read
 pub record Reading : Type 0 where
   pub given : List (List ℕ)
   pub place : ℕ
@@ -42,9 +42,17 @@ without_words r = record { given = r.given; place = length r.given; pending = r.
 abbrev pub behind_dashes : Reading → Reading
 behind_dashes r = record { given = r.given; place = r.place + 1; pending = r.pending; ended = true; numbers = r.numbers; last = r.last }
 
+-- the last option once this is read: it, or the one before where it is a value
+abbrev pub last_option : Option Kind → Kind → Option Kind
+last_option before (Long name) = Some (Long name)
+last_option before (LongBytes name) = Some (LongBytes name)
+last_option before (Short c) = Some (Short c)
+last_option before (ShortBytes rest) = Some (ShortBytes rest)
+last_option before (Value value) = before
+
 -- the same, where so many words are taken, this is read and a rest is left of its word
 abbrev pub having_read : Reading → ℕ → Kind → List ℕ → Reading
-having_read r place kind rest = record { given = r.given; place = place; pending = rest; ended = r.ended; numbers = r.numbers; last = Some kind }
+having_read r place kind rest = record { given = r.given; place = place; pending = rest; ended = r.ended; numbers = r.numbers; last = last_option r.last kind }
 
 -- the words that are left begin with `--`, which ends the options
 pub record StartsWithDashes (r : Reading) : Type 0 where

@@ -4,7 +4,7 @@ ghost use Rattle.std.specs.Option.{option_map};
 ghost use Rattle.platform_str.specs.Strings.{bytes};
 ghost use Rattle.os_args.specs.Kinds.{kind_of};
 ghost use Rattle.os_args.specs.Word.{dashes};
-ghost use Rattle.os_args.specs.Reading.{with_numbers, SkipsDashes, IsReadIn, TakesWord, TakesValue, TakesOptionalValue, TakesRest};
+ghost use Rattle.os_args.specs.Reading.{last_option, with_numbers, SkipsDashes, IsReadIn, TakesWord, TakesValue, TakesOptionalValue, TakesRest};
 ghost use Rattle.os_args.specs.Views.{outcome_of, reading};
 
 use crate::error::ArgumentError;
@@ -44,6 +44,7 @@ pub struct Arguments<'s, 'a, E: Platform + 'a> {
     pending: OsStr<'a, E>,
     ended: bool,
     numbers: bool,
+    // the last option that was read
     last: Option<Word<'a, OsStr<'a, E>>>,
 }
 
@@ -141,7 +142,7 @@ impl<'s, 'a, E: Platform> Arguments<'s, 'a, E> {
         if !self.pending.is_empty() {
             let (flag, rest) = read_flag(self.pending);
             self.pending = rest;
-            self.last = Some(flag);
+            self.last = last_option(self.last, flag);
             return Ok(Some(flag));
         }
         self.skip_dashes();
@@ -151,7 +152,7 @@ impl<'s, 'a, E: Platform> Arguments<'s, 'a, E> {
         let (read, rest) = read_in(self.ended, self.numbers, word);
         self.place += 1;
         self.pending = rest;
-        self.last = Some(read);
+        self.last = last_option(self.last, read);
         Ok(Some(read))
     }
 
@@ -180,7 +181,8 @@ impl<'s, 'a, E: Platform> Arguments<'s, 'a, E> {
     ///
     /// # Errors
     ///
-    /// [`ArgumentError::MissingValue`] where no word is left.
+    /// [`ArgumentError::MissingValue`] where no word is left. It names the last option that was
+    /// read, whatever operands came after it, and none where there was none, as lexopt's does.
     ///
     /// ```
     /// use os_args::{Arguments, Word};
@@ -263,6 +265,20 @@ impl<'s, 'a, E: Platform> Arguments<'s, 'a, E> {
         let left = all_after(self.words, self.place);
         self.place = self.words.len();
         Ok(left)
+    }
+}
+
+/// The last option once a word was read: the word, or the option before where the word is a value.
+fn last_option<'a, E: Platform>(
+    before: Option<Word<'a, OsStr<'a, E>>>,
+    read: Word<'a, OsStr<'a, E>>,
+) -> Option<Word<'a, OsStr<'a, E>>>
+    ensures { option_map kind_of result
+        ≡ last_option (option_map kind_of before.entry) (kind_of read.entry) }
+{
+    match read {
+        Word::Value(_) => before,
+        option => Some(option),
     }
 }
 

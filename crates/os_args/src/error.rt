@@ -3,23 +3,37 @@ ghost use Rattle.std.specs.Prelude.{◌≡◌, Some};
 ghost use Rattle.std.specs.Option.{option_map};
 ghost use Rattle.std.specs.Fmt.{WritesStyledOnOk};
 ghost use Rattle.os_args.specs.Kinds.{kind_of};
-ghost use Rattle.os_args.specs.ErrorText.{word_text, after_text, fault_text};
+ghost use Rattle.os_args.specs.ErrorText.{after_text, fault_text};
 ghost use Rattle.os_args.specs.Views.{fault_of};
 
+use crate::shown::{write_string, write_word};
 use crate::word::Word;
-use os_str_ext::{OsStr, Platform, Writeable};
+use os_str_ext::{OsStr, Platform};
+use std::error::Error;
 use std::fmt;
 
 /// Why the words of a command line are refused, of strings `S`.
 ///
 /// Its text is for a person: that of `MissingValue(Some(Word::Long("output")))` is `missing value
-/// after '--output'`. What is no text is printed as by [`OsStr::display`]. It has no width: `{:>99}`
-/// writes what `{}` does.
-#[derive(Clone, Copy)]
+/// after '--output'`. It is one line, whatever the words hold: they are printed as
+/// [`escaped_line`](os_quote::escaped_line) does. It has no width: `{:>99}` writes what `{}` does, and
+/// so does `{:?}`, which a `main` prints of the error that it returns (as lexopt's).
+///
+/// ```
+/// use os_args::{ArgumentError, Word};
+/// use os_str_bytes::{OsStr, Unix};
+///
+/// let word = OsStr::<Unix>::from_encoded_bytes_unchecked(b"a\x1B[2J\n\xFF");
+/// let error = ArgumentError::UnexpectedArgument(Word::Value(word));
+/// let text = "unexpected argument 'a\\u001B[2J\\u000A\\xFF'";
+/// assert_eq!(rt; format!(in alloc; "{error}")?.as_str(), text);
+/// ```
+#[derive(Clone, Copy, PartialEq, Eq)]
 pub enum ArgumentError<'a, S> {
-    /// A value that nothing took, after this word: `--name=value` where the option takes none.
+    /// A value that nothing took, after this option: `--name=value` where the option takes none.
     UnexpectedValue(Option<Word<'a, S>>, S),
-    /// No value where one was asked for, after this word.
+    /// No value where one was asked for; the last option that was read, whatever operands came
+    /// after it, or `None` where no option was read.
     MissingValue(Option<Word<'a, S>>),
     /// An option that isn't known, or an operand too many: [`Word::unexpected`] makes it.
     UnexpectedArgument(Word<'a, S>),
@@ -47,15 +61,15 @@ impl<'a, S> Word<'a, S> {
 }
 
 impl<'a, E: Platform> fmt::Display for ArgumentError<'a, OsStr<'a, E>> {
-    ghost output = { λ error. Some (fault_text E.lossy (fault_of error)) };
+    ghost output = { λ error. Some (fault_text E.units (fault_of error)) };
 
-    ghost styled_output = { λ error _. Some (fault_text E.lossy (fault_of error)) };
+    ghost styled_output = { λ error _. Some (fault_text E.units (fault_of error)) };
 
     fn fmt<W: fmt::Write>(&self, f: &mut fmt::Formatter<W>) -> fmt::Result {
         match *self {
             ArgumentError::UnexpectedValue(last, value) => {
                 f.write_str("unexpected value '")?;
-                value.display().write_to(f)?;
+                write_string(value, f)?;
                 f.write_str("'")?;
                 write_after(last, f)
             }
@@ -72,13 +86,23 @@ impl<'a, E: Platform> fmt::Display for ArgumentError<'a, OsStr<'a, E>> {
     }
 }
 
-/// Writes after which word a fault is.
+impl<'a, E: Platform> fmt::Debug for ArgumentError<'a, OsStr<'a, E>> {
+    ghost debug_output = { λ error. Some (fault_text E.units (fault_of error)) };
+
+    fn fmt<W: fmt::Write>(&self, f: &mut fmt::Formatter<W>) -> fmt::Result {
+        fmt::Display::fmt(self, f)
+    }
+}
+
+impl<'a, E: Platform> Error for ArgumentError<'a, OsStr<'a, E>> {}
+
+/// Writes after which option a fault is.
 fn write_after<'a, E: Platform, W: fmt::Write>(
     last: Option<Word<'a, OsStr<'a, E>>>,
     f: &mut fmt::Formatter<W>,
 ) -> fmt::Result
     ensures { WritesStyledOnOk W.write_str_gives f.old result
-        (after_text E.lossy (option_map kind_of last.entry)) f.new }
+        (after_text E.units (option_map kind_of last.entry)) f.new }
 {
     match last {
         None => f.write_str(""),
@@ -87,34 +111,5 @@ fn write_after<'a, E: Platform, W: fmt::Write>(
             write_word(word, f)?;
             f.write_str("'")
         }
-    }
-}
-
-/// Writes a word as it was given, without its value.
-fn write_word<'a, E: Platform, W: fmt::Write>(
-    word: Word<'a, OsStr<'a, E>>,
-    f: &mut fmt::Formatter<W>,
-) -> fmt::Result
-    ensures { WritesStyledOnOk W.write_str_gives f.old result
-        (word_text E.lossy (kind_of word.entry)) f.new }
-{
-    match word {
-        Word::Long(name) => {
-            f.write_str("--")?;
-            f.write_str(name)
-        }
-        Word::LongBytes(name) => {
-            f.write_str("--")?;
-            name.display().write_to(f)
-        }
-        Word::Short(flag) => {
-            f.write_str("-")?;
-            f.write_char(flag)
-        }
-        Word::ShortBytes(rest) => {
-            f.write_str("-")?;
-            rest.display().write_to(f)
-        }
-        Word::Value(value) => value.display().write_to(f),
     }
 }

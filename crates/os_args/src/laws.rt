@@ -1,9 +1,13 @@
 //! What holds of words and of the steps that take them: each law is the contract of a function that
 //! does nothing.
 ghost use Rattle.std.specs.Prelude.{◌≡◌, ◌<◌, ◌≤◌, ℕ, Bool, List, Option, Result, Some, Ok};
+ghost use Rattle.os_quote.specs.Escape.{IsLineEscape};
 ghost use Rattle.os_args.specs.Word.{Kind, IsReadAs};
 ghost use Rattle.os_args.specs.Reading.{Reading, Fault, TakesWord, TakesValue, TakesOptionalValue, TakesRest};
 ghost use Rattle.os_args.specs.Joining.{Step, IsStep, AreSteps, IsJoinedAgain, all_left, weight};
+ghost use Rattle.os_args.specs.ErrorText.{shown};
+
+use os_str_ext::Platform;
 
 /// A word is read in one way.
 pub fn one_reading()
@@ -39,6 +43,11 @@ pub fn one_outcome()
 pub fn nothing_lost()
     ensures { (before : Reading) → (steps : List Step) → (after : Reading)
         → AreSteps before steps after → IsJoinedAgain before steps after }
+{}
+
+/// What an error prints of a string is its one escape on one line (`os_quote::escape_line`).
+pub fn errors<E: Platform>()
+    ensures { (s : List ℕ) → IsLineEscape E.units s (shown E.units s) }
 {}
 
 /// Each option or operand leaves less, and no step leaves more: a loop over

@@ -12,6 +12,7 @@ mod arguments;
 mod error;
 pub mod laws;
 mod number;
+mod shown;
 mod word;
 mod words;
 

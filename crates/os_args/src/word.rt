@@ -11,7 +11,16 @@ use os_str_ext::{OsStr, OsStrBytesExt, Platform, search_laws};
 ///
 /// [`Arguments::next`](crate::Arguments::next) gives `Word<'a, OsStr<'a, E>>`. The word is generic in
 /// the strings, as a user's own enum over strings of any platform is.
-#[derive(Clone, Copy)]
+///
+/// ```
+/// use os_args::{Arguments, Word};
+/// use os_str_bytes::{OsStr, Unix};
+///
+/// let words = [OsStr::<Unix>::new("--name=value")];
+/// let mut arguments = Arguments::new(words.as_slice());
+/// assert_eq!(rt; arguments.next(), Ok(Some(Word::Long("name"))));
+/// ```
+#[derive(Clone, Copy, PartialEq, Eq)]
 pub enum Word<'a, S> {
     /// The name of `--name` and of `--name=value`.
     Long(&'a str),
@@ -78,15 +87,8 @@ pub(crate) fn read_flag<'a, E: Platform>(
     requires { bytes flags ≢ [] }
     ensures { IsFlag (bytes flags.entry) (kind_of result.0) (bytes result.1) }
 {
-    wtf8_core::laws::characters();
-    if let Some((part, text)) = flags.utf8_chunks().next() {
-        if part.as_os_str().is_empty() {
-            if let Some(flag) = text.chars().next() {
-                if let Some(rest) = flags.strip_prefix(flag) {
-                    return (Word::Short(flag), rest);
-                }
-            }
-        }
+    if let Some((flag, rest)) = flags.split_first_char() {
+        return (Word::Short(flag), rest);
     }
     (Word::ShortBytes(flags), OsStr::new(""))
 }

@@ -4,3 +4,4 @@ pub mod Readings
 pub mod Ends
 pub mod Skips
 pub mod Literals
+pub mod InlineTexts

@@ -7,3 +7,4 @@ pub mod Match
 pub mod Ends
 pub mod Skips
 pub mod Parts
+pub mod ErrorText

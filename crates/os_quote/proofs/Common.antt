@@ -7,8 +7,9 @@ pub use Rattle.os_quote.specs.Item.{Backslash, ByteUnit, Character, HasLongToken
 pub use Rattle.os_quote.specs.Plain.{IsAfterPlain, IsPlain, IsPlainUpTo, IsPlainWritten}
 pub use Rattle.os_quote.specs.Reading.{HasNoBackslash, HasNoClosed, HasNoFive, HasNoLong, HasNoNumber, HasNoSix, HasNoWide, AreBytesRead, IsClosed, IsCutAtBackslash, IsCutAtFirst, IsFive, IsRead, IsSix, item_bytes, token_item}
 pub use Rattle.os_quote.specs.Shown.{is_any, shown_by, stays_on_line}
-pub use Rattle.os_quote.specs.Standing.{AllClear, AllStand, IsCutAtHidden, IsNextSuspect, Stands, is_general, is_suspect, lead_bits, pair_bits, suspect_bits}
-pub use Rattle.os_quote.specs.declared.lanes.TheConstants.{FIRST_HIGH, FIRST_LOW, SECOND_HIGH, THIRD_HIGH}
+pub use Rattle.os_quote.specs.HiddenCharacters.{hidden_ranges, is_in_ranges}
+pub use Rattle.os_quote.specs.Standing.{AllClear, AllStand, IsCutAtHidden, IsNextSuspect, Stands, byte_bits, is_suspect, lead_bits, pair_bits, second_bits, suspect_bits, third_bits}
+pub use Rattle.os_quote.specs.declared.suspect_bits.TheConstants.{FIRST_HIGH, FIRST_LOW, SECOND_HIGH, SECOND_LOW, THIRD_HIGH, THIRD_LOW, OTHER_HIGH, OTHER_LOW}
 pub use Rattle.os_str_ext.proofs.lemmas.EachChunk.{are_chunks_of}
 pub use Rattle.os_str_ext.specs.Chunks.{IsChunkOf, chunks_of}
 pub use Rattle.os_str_ext.specs.Parts.{part_bytes, unit_number}

@@ -3,6 +3,7 @@ pub mod Tokens
 pub mod LongTokens
 pub mod Texts
 pub mod Writing
+pub mod InlineTexts
 pub mod Pushing
 pub mod Stripping
 pub mod Chunks
@@ -13,6 +14,7 @@ pub mod Unescaping
 pub mod Shown
 pub mod Lines
 pub mod SuspectLanes
+pub mod SuspectTables
 pub mod Suspects
 pub mod Hidden
 pub use Rattle.os_str_ext.proofs.lemmas.EachChunk

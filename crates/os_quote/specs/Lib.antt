@@ -1,4 +1,5 @@
 pub mod Item
+pub mod HiddenCharacters
 pub mod Shown
 pub mod Standing
 pub mod Plain
@@ -8,3 +9,4 @@ pub mod Reading
 pub mod Buffers
 pub mod Unescaped
 pub mod Stripping
+pub mod ErrorText

@@ -1,12 +1,11 @@
 -- What of a text is unchanged in its escape on one line, found by its bytes. Only private contracts name these; `IsEscapeBy` says what an escape is.
-use Rattle.std.specs.Prelude.{◌≡◌, ◌≢◌, ℕ, ◌+◌, ◌/◌, ◌≤◌, ◌<◌, ◌&&◌, ◌||◌, nat_lt, nat_eq, Bool, true, false, List, ◌++◌, length, slice_index, bit_and}
-use Rattle.std.specs.Int.{is_in_range}
+use Rattle.std.specs.Prelude.{◌≡◌, ◌≢◌, ℕ, ◌+◌, ◌/◌, ◌≤◌, ◌<◌, nat_eq, not, Bool, true, false, List, ◌++◌, length, slice_index, bit_and, bit_or}
 use Rattle.std.specs.List.{AllByRecursion}
 use Rattle.std.specs.Char.{encode_utf8}
 use Rattle.std.specs.Str.{IsUtf8, chars}
 use Rattle.os_quote.specs.Item.{backslash}
 use Rattle.os_quote.specs.Shown.{stays_on_line}
-use Rattle.os_quote.specs.declared.lanes.TheConstants.{FIRST_HIGH, FIRST_LOW, SECOND_HIGH, THIRD_HIGH}
+use Rattle.os_quote.specs.declared.suspect_bits.TheConstants.{FIRST_HIGH, FIRST_LOW, SECOND_HIGH, SECOND_LOW, THIRD_HIGH, THIRD_LOW, OTHER_HIGH, OTHER_LOW}
 
 -- the character is unchanged in the escape
 abbrev pub Stands : ℕ → Type 0
@@ -24,19 +23,30 @@ pub record IsCutAtHidden (text front : List ℕ) (character : ℕ) (behind : Lis
   pub front_text : IsUtf8 front
   pub behind_text : IsUtf8 behind
 
--- the bytes after E2 in a character of General Punctuation that doesn't stay as it is
-abbrev pub is_general : ℕ → ℕ → Bool
-is_general y z =
-    (nat_eq y 0x80 && (is_in_range 0x8B 0x8F z || is_in_range 0xA8 0xAE z))
-    || (nat_eq y 0x81 && (nat_eq z 0xA0 || is_in_range 0xA6 0xA9 z))
+-- the kinds of a byte, a bit each, by two small tables of its halves
+abbrev pub byte_bits : List ℕ → List ℕ → ℕ → ℕ
+byte_bits high low b = bit_and (slice_index high (b / 16)) (slice_index low (bit_and b 15))
 
--- a byte before two others may begin a character that doesn't stay as it is
-abbrev pub is_suspect : ℕ → ℕ → ℕ → Bool
-is_suspect x y z =
-    (nat_lt x 0x20 || (nat_eq x 0x5C || nat_eq x 0x7F))
-    || (((nat_eq x 0xC2 && is_in_range 0x80 0x9F y) || (nat_eq x 0xD8 && nat_eq y 0x9C))
-    || ((nat_eq x 0xE2 && is_general y z)
-    || ((nat_eq x 0xEF && (nat_eq y 0xBB && nat_eq z 0xBF)) || (nat_eq x 0xF3 && (nat_eq y 0xA0 && is_in_range 0x80 0x81 z)))))
+-- the kinds of characters that a byte may begin, that may have it second, and third
+abbrev pub lead_bits : ℕ → ℕ
+lead_bits x = byte_bits FIRST_HIGH FIRST_LOW x
+
+abbrev pub second_bits : ℕ → ℕ
+second_bits y = byte_bits SECOND_HIGH SECOND_LOW y
+
+abbrev pub third_bits : ℕ → ℕ
+third_bits z = bit_or (byte_bits THIRD_HIGH THIRD_LOW z) (byte_bits OTHER_HIGH OTHER_LOW z)
+
+-- the kinds that it may begin before two others
+abbrev pub pair_bits : ℕ → ℕ → ℕ
+pair_bits x y = bit_and (lead_bits x) (second_bits y)
+
+abbrev pub suspect_bits : ℕ → ℕ → ℕ → ℕ
+suspect_bits x y z = bit_and (pair_bits x y) (third_bits z)
+
+-- whether a byte before two others may begin a character that doesn't stay as it is: it may be of some kind
+unfoldable pub is_suspect : ℕ → ℕ → ℕ → Bool
+is_suspect x y z = not (nat_eq (suspect_bits x y z) 0)
 
 -- no byte from one index up to another is a suspect
 abbrev pub AllClear : List ℕ → ℕ → ℕ → Type 0
@@ -48,15 +58,3 @@ pub record IsNextSuspect (bytes : List ℕ) (start at : ℕ) : Type 0 where
   pub within : at < length bytes
   pub clear : AllClear bytes start at
   pub suspect : is_suspect (slice_index bytes at) (slice_index bytes (1 + at)) (slice_index bytes (2 + at)) ≡ true
-
--- what a byte may begin, a bit for each kind of character, by two small tables
-abbrev pub lead_bits : ℕ → ℕ
-lead_bits x = bit_and (slice_index FIRST_HIGH (x / 16)) (slice_index FIRST_LOW (bit_and x 15))
-
--- what it may begin before another, by a third
-abbrev pub pair_bits : ℕ → ℕ → ℕ
-pair_bits x y = bit_and (lead_bits x) (slice_index SECOND_HIGH (y / 16))
-
--- what it may begin before two others, by a fourth; 0 where it is no suspect
-abbrev pub suspect_bits : ℕ → ℕ → ℕ → ℕ
-suspect_bits x y z = bit_and (pair_bits x y) (slice_index THIRD_HIGH (z / 16))

@@ -1,7 +1,24 @@
 //! Why a text isn't an escape.
+ghost use Rattle.std.specs.Prelude.{Some, decimal};
+ghost use Rattle.std.specs.Fmt.{WritesStyledOnOk};
+
 use std::alloc::AllocError;
+use std::error::Error;
+use std::fmt;
+use std::fmt::{InlineText, Write as _};
 
 /// Why [`unescape`](crate::unescape) or [`unescape_line`](crate::unescape_line) returns no string.
+///
+/// Its text says it to a person. It has no width: `{:>99}` writes what `{}` does.
+///
+/// ```
+/// use os_quote::QuoteError;
+///
+/// let error = QuoteError::BadEscape(3);
+/// assert_eq!(rt; format!(in alloc; "{error}")?.as_str(), "bad escape at byte 3");
+/// let error = QuoteError::NotCanonical;
+/// assert_eq!(rt; format!(in alloc; "{error}")?.as_str(), "not the escape of a string");
+/// ```
 #[derive(Clone, Copy, Debug, PartialEq, Eq)]
 pub enum QuoteError {
     /// The byte index of the first backslash that begins no token: `\\`, `\x` with two digits,
@@ -18,6 +35,36 @@ pub enum QuoteError {
     NotCanonical,
     /// An allocation failed.
     Memory,
+}
+
+impl fmt::Display for QuoteError {
+    ghost use Rattle.os_quote.specs.ErrorText.{error_text};
+
+    ghost output = { λ error. Some (error_text error) };
+
+    ghost styled_output = { λ error _. Some (error_text error) };
+
+    fn fmt<W: fmt::Write>(&self, f: &mut fmt::Formatter<W>) -> fmt::Result {
+        match *self {
+            QuoteError::BadEscape(index) => {
+                f.write_str("bad escape at byte ")?;
+                write_number(index, f)
+            }
+            QuoteError::NotCanonical => f.write_str("not the escape of a string"),
+            QuoteError::Memory => f.write_str("out of memory"),
+        }
+    }
+}
+
+impl Error for QuoteError {}
+
+/// Writes the decimal digits of a number, whatever width is asked for.
+fn write_number<W: fmt::Write>(number: usize, f: &mut fmt::Formatter<W>) -> fmt::Result
+    ensures { WritesStyledOnOk W.write_str_gives f.old result (decimal number) f.new }
+{
+    let mut digits = InlineText::<20>::new();
+    write!(digits, "{number}")?;
+    f.write_str(digits.as_str())
 }
 
 impl From<AllocError> for QuoteError {

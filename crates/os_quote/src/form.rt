@@ -1,5 +1,6 @@
 //! The two forms of an escape, which differ in the characters that they show as they are.
-ghost use Rattle.std.specs.Prelude.{◌↔◌, IsTrue};
+ghost use Rattle.std.specs.Prelude.{◌≡◌};
+ghost use Rattle.os_quote.specs.HiddenCharacters.{is_in_ranges};
 ghost use Rattle.os_quote.specs.Shown.{stays_on_line};
 
 /// Which characters are shown as they are.
@@ -11,21 +12,58 @@ pub(crate) enum Form {
     Line,
 }
 
-/// Whether a character stays on a line: it isn't a control character, a line or paragraph
-/// separator, a bidirectional control, a zero-width space or joiner, or a tag.
+/// The characters that the escape on one line writes as tokens, beside the backslash: the first and
+/// the last of each range (`hidden_ranges` of the definitions, which is the same list).
+const HIDDEN: [(u32, u32); 30] = [
+    (0x00, 0x1F),
+    (0x7F, 0xA0),
+    (0xAD, 0xAD),
+    (0x34F, 0x34F),
+    (0x600, 0x605),
+    (0x61C, 0x61C),
+    (0x6DD, 0x6DD),
+    (0x70F, 0x70F),
+    (0x890, 0x891),
+    (0x8E2, 0x8E2),
+    (0x115F, 0x1160),
+    (0x1680, 0x1680),
+    (0x17B4, 0x17B5),
+    (0x180B, 0x180F),
+    (0x2000, 0x200F),
+    (0x2028, 0x202F),
+    (0x205F, 0x206F),
+    (0x2800, 0x2800),
+    (0x3000, 0x3000),
+    (0x3164, 0x3164),
+    (0xFE00, 0xFE0F),
+    (0xFEFF, 0xFEFF),
+    (0xFFA0, 0xFFA0),
+    (0xFFF0, 0xFFFB),
+    (0x1_10BD, 0x1_10BD),
+    (0x1_10CD, 0x1_10CD),
+    (0x1_3430, 0x1_343F),
+    (0x1_BCA0, 0x1_BCA3),
+    (0x1_D173, 0x1_D17A),
+    (0xE_0000, 0xE_0FFF),
+];
+
+/// Whether a character stays on a line.
 pub(crate) fn stays_on_line(character: char) -> bool
-    ensures { IsTrue result ↔ IsTrue (stays_on_line character) }
+    ensures { result ≡ stays_on_line character }
 {
-    !matches!(
-        character,
-        '\u{0}'..='\u{1F}'
-            | '\u{7F}'..='\u{9F}'
-            | '\u{61C}'
-            | '\u{200B}'..='\u{200F}'
-            | '\u{2028}'..='\u{202E}'
-            | '\u{2060}'
-            | '\u{2066}'..='\u{2069}'
-            | '\u{FEFF}'
-            | '\u{E0000}'..='\u{E007F}'
-    )
+    !is_in_ranges(&HIDDEN, character as u32)
+}
+
+/// Whether a number is in one of these ranges.
+fn is_in_ranges(ranges: &[(u32, u32)], number: u32) -> bool
+    ensures { result ≡ is_in_ranges ranges.now number }
+{
+    let mut rest = ranges;
+    while let Some((range, more)) = rest.split_first() {
+        if range.0 <= number && number <= range.1 {
+            return true;
+        }
+        rest = more;
+    }
+    false
 }

@@ -1,45 +1,15 @@
 //! 64 bytes at once: how many of them begin no character that is written as a token on one line.
 ghost use Rattle.std.specs.Prelude.{◌≡◌, ℕ, ◌+◌, ◌*◌, ◌/◌, ◌≤◌, ◌<◌, false, length, IsTrue};
-ghost use Rattle.std.specs.Prelude.{slice_index, bit_and};
-ghost use Rattle.os_quote.specs.Standing.{is_suspect, lead_bits};
-ghost use Rattle.os_quote.specs.declared.lanes.TheConstants.{SECOND_HIGH, THIRD_HIGH};
+ghost use Rattle.std.specs.Prelude.{slice_index, bit_and, bit_or};
+ghost use Rattle.os_quote.specs.Standing.{is_suspect, byte_bits, lead_bits, second_bits, third_bits};
 
+use crate::suspect_bits::{
+    FIRST_HIGH, FIRST_LOW, OTHER_HIGH, OTHER_LOW, SECOND_HIGH, SECOND_LOW, THIRD_HIGH, THIRD_LOW,
+};
 use std::simd::prelude::*;
 
 /// The bytes of a block.
 pub(crate) const BLOCK: usize = 64;
-
-// What a byte and the next two may begin, a bit each, which is set where all four tables have it.
-// 01: a control character of ASCII; 02: the backslash; 04: DEL; 08: C1; 10: U+061C; 20: a
-// character from U+2000 on; 40: U+FEFF; 80: a tag. Each table is repeated four times.
-
-/// By the high half of the first byte.
-const FIRST_HIGH: [u8; 64] = [
-    1, 1, 0, 0, 0, 2, 0, 4, 0, 0, 0, 0, 8, 16, 96, 128, 1, 1, 0, 0, 0, 2, 0, 4, 0, 0, 0, 0, 8, 16,
-    96, 128, 1, 1, 0, 0, 0, 2, 0, 4, 0, 0, 0, 0, 8, 16, 96, 128, 1, 1, 0, 0, 0, 2, 0, 4, 0, 0, 0,
-    0, 8, 16, 96, 128,
-];
-
-/// By its low half.
-const FIRST_LOW: [u8; 64] = [
-    1, 1, 41, 129, 1, 1, 1, 1, 17, 1, 1, 1, 3, 1, 1, 69, 1, 1, 41, 129, 1, 1, 1, 1, 17, 1, 1, 1, 3,
-    1, 1, 69, 1, 1, 41, 129, 1, 1, 1, 1, 17, 1, 1, 1, 3, 1, 1, 69, 1, 1, 41, 129, 1, 1, 1, 1, 17,
-    1, 1, 1, 3, 1, 1, 69,
-];
-
-/// By the high half of the second byte.
-const SECOND_HIGH: [u8; 64] = [
-    7, 7, 7, 7, 7, 7, 7, 7, 47, 31, 135, 71, 7, 7, 7, 7, 7, 7, 7, 7, 7, 7, 7, 7, 47, 31, 135, 71,
-    7, 7, 7, 7, 7, 7, 7, 7, 7, 7, 7, 7, 47, 31, 135, 71, 7, 7, 7, 7, 7, 7, 7, 7, 7, 7, 7, 7, 47,
-    31, 135, 71, 7, 7, 7, 7,
-];
-
-/// By the high half of the third byte.
-const THIRD_HIGH: [u8; 64] = [
-    31, 31, 31, 31, 31, 31, 31, 31, 191, 31, 63, 95, 31, 31, 31, 31, 31, 31, 31, 31, 31, 31, 31,
-    31, 191, 31, 63, 95, 31, 31, 31, 31, 31, 31, 31, 31, 31, 31, 31, 31, 191, 31, 63, 95, 31, 31,
-    31, 31, 31, 31, 31, 31, 31, 31, 31, 31, 191, 31, 63, 95, 31, 31, 31, 31,
-];
 
 /// How many of the first 64 bytes come before the first that may be a suspect.
 #[inline(always)]
@@ -74,31 +44,43 @@ fn load(bytes: &[u8], from: usize) -> u8x64
     u8x64::from_slice(&bytes[from..])
 }
 
-/// What each byte may begin, whatever follows it.
+/// The kinds of characters that each byte may begin.
 #[inline(always)]
 fn lead_bits(lanes: u8x64) -> u8x64
     ensures { (i : ℕ) → i < 64 → slice_index result i ≡ lead_bits (slice_index lanes i) }
 {
-    let by_high = entries(FIRST_HIGH, high_halves(lanes));
-    and(by_high, entries(FIRST_LOW, low_halves(lanes)))
+    bits(FIRST_HIGH, FIRST_LOW, lanes)
 }
 
-/// What may follow the first byte, by the one after it.
+/// The kinds of characters that may have each byte second.
 #[inline(always)]
 fn second_bits(lanes: u8x64) -> u8x64
-    ensures { (i : ℕ) → i < 64
-        → slice_index result i ≡ slice_index SECOND_HIGH (slice_index lanes i / 16) }
+    ensures { (i : ℕ) → i < 64 → slice_index result i ≡ second_bits (slice_index lanes i) }
 {
-    entries(SECOND_HIGH, high_halves(lanes))
+    bits(SECOND_HIGH, SECOND_LOW, lanes)
 }
 
-/// What may follow the first two bytes, by the third.
+/// The kinds of characters that may have each byte third.
 #[inline(always)]
 fn third_bits(lanes: u8x64) -> u8x64
-    ensures { (i : ℕ) → i < 64
-        → slice_index result i ≡ slice_index THIRD_HIGH (slice_index lanes i / 16) }
+    ensures { (i : ℕ) → i < 64 → slice_index result i ≡ third_bits (slice_index lanes i) }
 {
-    entries(THIRD_HIGH, high_halves(lanes))
+    let some = bits(THIRD_HIGH, THIRD_LOW, lanes);
+    or(some, bits(OTHER_HIGH, OTHER_LOW, lanes))
+}
+
+/// The kinds of each byte by tables of its halves, four copies of 16 entries each.
+#[inline(always)]
+fn bits(high: [u8; 64], low: [u8; 64], lanes: u8x64) -> u8x64
+    requires high { (i : ℕ) → i < 64 → (k : ℕ) → k < 16
+        → slice_index high (i / 16 * 16 + k) ≡ slice_index high k }
+    requires low { (i : ℕ) → i < 64 → (k : ℕ) → k < 16
+        → slice_index low (i / 16 * 16 + k) ≡ slice_index low k }
+    ensures { (i : ℕ) → i < 64 → slice_index result i
+        ≡ byte_bits high low (slice_index lanes i) }
+{
+    let by_high = entries(high, high_halves(lanes));
+    and(by_high, entries(low, low_halves(lanes)))
 }
 
 /// The bits that both have.
@@ -108,6 +90,15 @@ fn and<const N: usize>(a: Simd<u8, N>, b: Simd<u8, N>) -> Simd<u8, N>
         → slice_index result i ≡ bit_and (slice_index a.entry i) (slice_index b.entry i) }
 {
     a & b
+}
+
+/// The bits that one of them has.
+#[inline(always)]
+fn or<const N: usize>(a: Simd<u8, N>, b: Simd<u8, N>) -> Simd<u8, N>
+    ensures { (i : ℕ) → i < N
+        → slice_index result i ≡ bit_or (slice_index a.entry i) (slice_index b.entry i) }
+{
+    a | b
 }
 
 /// Each lane's high half.

@@ -7,8 +7,8 @@
 //! The format is this project's own.
 //!
 //! [`escape_line`], [`escaped_line`] and [`unescape_line`] are a second form, for log lines and
-//! terminals: what ends a line, moves the cursor, reorders text or isn't seen is written as a
-//! token, too.
+//! terminals: controls, format characters, blanks other than the space, and what Unicode ignores in
+//! display are written as tokens, too.
 #![tactic(auto)]
 
 mod buffer;
@@ -25,6 +25,7 @@ mod plain;
 mod quoting;
 mod reading;
 mod standing;
+mod suspect_bits;
 mod suspects;
 mod token;
 mod unescaped;

@@ -68,18 +68,23 @@ pub fn escaped<'a, E: Platform>(string: OsStr<'a, E>) -> Escaped<'a, E>
 /// It is written as by [`escape`], and these characters of a text are written as tokens, too,
 /// `\uHHHH` or, past U+FFFF, `\u{H..}` of five or six digits:
 ///
-/// - control characters: U+0000 to U+001F and U+007F to U+009F (Unicode, general category Cc)
-/// - the line and the paragraph separator, U+2028 and U+2029 (categories Zl and Zp)
-/// - bidirectional controls: U+061C, U+200E, U+200F, U+202A to U+202E, U+2066 to U+2069 (property
-///   Bidi_Control)
-/// - zero-width spaces and joiners: U+200B to U+200D, U+2060, U+FEFF (The Unicode Standard, section
-///   23.2)
-/// - tags: U+E0000 to U+E007F (section 23.9)
+/// - controls, format characters, and line and paragraph separators (Unicode 18.0, general categories
+///   Cc, Cf, Zl and Zp): what ends a line, moves the cursor or sets the direction of text, joiners and
+///   spaces without width, and tags
+/// - blanks other than the space U+0020 (category Zs), as the no-break space U+00A0 and the
+///   ideographic space U+3000
+/// - what is ignored in display (property Default_Ignorable_Code_Point): fillers, variation
+///   selectors, and code points that are reserved for such characters
+/// - U+2800, the braille pattern without dots, which is a symbol and looks like a blank
 ///
-/// So nothing in it ends the line, moves the cursor or reorders text, and nothing in it is there
-/// without being seen. All other characters are shown as they are, also those that change how a
-/// neighbour looks, as combining marks and variation selectors do, and letters that look alike:
-/// names in many languages need them.
+/// So nothing in it ends the line, moves the cursor or sets the direction of text, and each of its
+/// characters but the space is one that fonts have a sign for. All other characters are shown as they
+/// are: letters from right to left, which need no control for that, combining marks, which change how a
+/// neighbor looks, letters that look alike, and code points that Unicode 18.0 hasn't assigned. Names in
+/// many languages need the first three.
+///
+/// The list is that of one version of Unicode. A later version may assign more such characters, and
+/// then the escape of a string with one of these changes.
 ///
 /// Rust's `str::escape_debug` takes texts only, and its result can't be read back.
 ///

@@ -1,8 +1,9 @@
 //! Bytes that may begin a character that is written as a token on one line: suspects.
 ghost use Rattle.std.specs.Prelude.{◌≡◌, ◌+◌, ◌≤◌, ◌<◌, length, slice_index, MatchOption};
-ghost use Rattle.os_quote.specs.Standing.{is_general, is_suspect, AllClear, IsNextSuspect};
+ghost use Rattle.os_quote.specs.Standing.{AllClear, IsNextSuspect};
 
 use crate::lanes::{BLOCK, clear_len};
+use crate::suspect_bits::is_suspect;
 
 /// The fewest bytes of which a copy is looked at.
 const LEAST: usize = 16;
@@ -67,32 +68,4 @@ fn byte_at(bytes: &[u8], index: usize) -> u8
     ensures { result ≡ slice_index bytes.now index }
 {
     if index < bytes.len() { bytes[index] } else { 0 }
-}
-
-/// Whether a byte before two others may begin such a character.
-#[inline(always)]
-fn is_suspect(first: u8, second: u8, third: u8) -> bool
-    ensures { result ≡ is_suspect first second third }
-{
-    match first {
-        0..=0x1F | b'\\' | 0x7F => true,
-        0xC2 => matches!(second, 0x80..=0x9F),
-        0xD8 => second == 0x9C,
-        0xE2 => is_general(second, third),
-        0xEF => second == 0xBB && third == 0xBF,
-        0xF3 => second == 0xA0 && matches!(third, 0x80..=0x81),
-        _ => false,
-    }
-}
-
-/// Whether such a character of General Punctuation has these bytes after E2.
-#[inline(always)]
-fn is_general(second: u8, third: u8) -> bool
-    ensures { result ≡ is_general second third }
-{
-    match second {
-        0x80 => matches!(third, 0x8B..=0x8F | 0xA8..=0xAE),
-        0x81 => matches!(third, 0xA0 | 0xA6..=0xA9),
-        _ => false,
-    }
 }

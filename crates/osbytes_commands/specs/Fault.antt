@@ -1,22 +1,15 @@
 -- The text and the exit status of each fault.
 use Rattle.std.specs.Prelude.{ℕ, List, ◌++◌, codes, decimal}
 use Rattle.os_str_bytes.specs.FaultText.{fault_text}
-use Rattle.os_quote.specs.declared.error.QuoteError.{QuoteError}
-use Rattle.os_quote.specs.declared.error.QuoteError.TheVariants as quote
+use Rattle.os_quote.specs.ErrorText.{error_text}
 use Rattle.osbytes_commands.specs.declared.fault.Fault.{Fault}
 use Rattle.osbytes_commands.specs.declared.fault.Fault.TheVariants.{Refused, BadLine, BadQuote, Usage, Memory, Read, Write}
 
--- why a text is no escape; want of memory is a fault of its own
-abbrev pub quote_text : QuoteError → List ℕ
-quote_text (quote.BadEscape place) = codes "bad escape at byte " ++ decimal place
-quote_text quote.NotCanonical = codes "not the escape of a string"
-quote_text quote.Memory = codes "out of memory"
-
--- what the program prints of the fault
+-- what the program prints of the fault; want of memory is a fault of its own
 abbrev pub text_of : Fault → List ℕ
 text_of (Refused error) = fault_text error
 text_of (BadLine number) = codes "line " ++ (decimal number ++ codes " is not a unit")
-text_of (BadQuote error) = quote_text error
+text_of (BadQuote error) = error_text error
 text_of Usage = codes "usage: osbytes units|raw|find|split|chunks unix|windows|wasm [PAT]"
 text_of Memory = codes "out of memory"
 text_of Read = codes "read failed"

@@ -48,14 +48,7 @@ impl fmt::Display for Fault {
                 write_number(number, f)?;
                 f.write_str(" is not a unit")
             }
-            Fault::BadQuote(error) => match error {
-                QuoteError::BadEscape(place) => {
-                    f.write_str("bad escape at byte ")?;
-                    write_number(place, f)
-                }
-                QuoteError::NotCanonical => f.write_str("not the escape of a string"),
-                QuoteError::Memory => f.write_str("out of memory"),
-            },
+            Fault::BadQuote(error) => error.fmt(f),
             Fault::Usage => {
                 f.write_str("usage: osbytes units|raw|find|split|chunks unix|windows|wasm [PAT]")
             }

@@ -1,11 +1,12 @@
 -- What is read of words that are known.
-use Rattle.std.proofs.Common.{◌≡◌, ◌≢◌, ◌⊎◌, inl, inr, ℕ, Bool, true, false, List, [], ◌∷◌, ◌++◌, drop, Option, Some, None, Result, Ok, Err, refl, sym, ap, ◌∙◌, subst, arith}
+use Rattle.std.proofs.Common.{◌≡◌, ◌≢◌, ◌⊎◌, inl, inr, ℕ, ◌+◌, Bool, true, false, List, [], ◌∷◌, ◌++◌, drop, Option, Some, None, Result, Ok, Err, refl, sym, ap, ◌∙◌, subst, arith}
+use Rattle.std.proofs.lemmas.List.{drop-drop}
 use Rattle.std.specs.Char.{encode_utf8, IsScalar}
 use Rattle.std.specs.Str.{IsUtf8}
 use Rattle.wtf8_core.specs.Covered.{StartsWithNoCharacter}
 use Rattle.wtf8_core.specs.Standing.{IsPrefix, StandsNowhere}
 use Rattle.os_args.specs.Word.{Kind, Long, LongBytes, Short, ShortBytes, Value, dash, dashes, equals, StartsWithDigit, StartsWithFraction, StartsAsNegative, IsReadAs, IsNamed}
-use Rattle.os_args.specs.Reading.{Fault, UnexpectedValue, MissingValue, Reading, without_pending, without_word, behind_dashes, having_read, TakesWord, TakesValue, TakesOptionalValue}
+use Rattle.os_args.specs.Reading.{Fault, UnexpectedValue, MissingValue, Reading, words_left, without_pending, without_word, behind_dashes, having_read, IsReadIn, TakesWord, TakesValue, TakesOptionalValue}
 
 -- what the laws of one outcome say
 abbrev OneWord : Type 0
@@ -138,3 +139,21 @@ pub dropped : OneWord → (before : Reading) (one : Result (Option Kind) Fault) 
     → (value : List ℕ) → before.pending ≡ equals ++ value → one ≡ Err (UnexpectedValue before.last value)
 dropped once before one after step value e =
     (once before one (Err (UnexpectedValue before.last value)) after (without_pending before) step (record { value = value; pending = e; is_fault = refl; same = refl })).0
+
+pub missing : OneWord → OneValue → (r : Reading) (one : Result (Option Kind) Fault) (between : Reading) (other : Result (List ℕ) Fault) (after : Reading) → TakesWord r one between → TakesValue between other after
+    → (word : List ℕ) → r.pending ≡ [] → r.ended ≡ false → words_left r ≡ word ∷ [] → ¬ (IsPrefix dash word) → (one ≡ Ok (Some (Value word))) × (other ≡ Err (MissingValue r.last))
+missing once again r one between other after step then word none ended next n =
+    let now = having_read r (r.place + 1) (Value word) [] in
+    let read : IsReadIn r.ended r.numbers word (Value word) [] = subst (λ x. IsReadIn x r.numbers word (Value word) []) (sym ended) (inr (inr (record { value = refl; whole = refl; operand = inr (inl n) }))) in
+    word_and_value once again r r one between other after refl step then (Ok (Some (Value word))) now (Err (MissingValue r.last)) now
+    (inr (record {
+      none_pending = none;
+      between = r;
+      skips = inr (λ k. n (record { rest = dash; joined = heads (sym next ∙ k.first) }), refl);
+      word = word;
+      more = [];
+      next = next;
+      read = read;
+      same = refl;
+    }))
+    (record { none_pending = refl; none_left = sym (drop-drop 1 r.place r.given) ∙ ap (drop 1) next; is_fault = refl; same = refl })

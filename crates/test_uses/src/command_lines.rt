@@ -1,5 +1,5 @@
 //! Command lines: what is read of words that are known.
-ghost use Rattle.std.specs.Prelude.{◌≡◌, ◌≢◌, ◌++◌, ◌∷◌, [], ℕ, List, Result, Option, None, Some, Ok, Err, map};
+ghost use Rattle.std.specs.Prelude.{◌≡◌, ◌≢◌, ◌++◌, ◌∷◌, [], ℕ, List, Result, Option, None, Some, Ok, Err, false, map};
 ghost use Rattle.std.specs.Char.{encode_utf8, IsScalar};
 ghost use Rattle.std.specs.Option.{option_map};
 ghost use Rattle.std.specs.Str.{IsUtf8};
@@ -8,7 +8,7 @@ ghost use Rattle.wtf8_core.specs.Standing.{IsPrefix, StandsNowhere};
 ghost use Rattle.platform_str.specs.Strings.{bytes};
 ghost use Rattle.os_args.specs.Kinds.{kind_of};
 ghost use Rattle.os_args.specs.Word.{Kind, Long, LongBytes, Short, ShortBytes, Value, dash, dashes, equals, StartsAsNegative};
-ghost use Rattle.os_args.specs.Reading.{Reading, Fault, UnexpectedValue, MissingValue, TakesWord, TakesValue, TakesOptionalValue, TakesRest};
+ghost use Rattle.os_args.specs.Reading.{Reading, words_left, Fault, UnexpectedValue, MissingValue, TakesWord, TakesValue, TakesOptionalValue, TakesRest};
 ghost use Rattle.os_args.specs.Views.{outcome_of, reading};
 
 use os_args::{ArgumentError, Arguments, Word, laws};
@@ -172,6 +172,25 @@ pub fn value_too_many<'s, 'a, E: Platform + 'a>(
 {
     laws::one_outcome();
     arguments.next()
+}
+
+/// The last word, which is an operand, and what is said of a value after it: the option before it.
+pub fn value_after_operand<'s, 'a, E: Platform + 'a>(
+    arguments: &mut Arguments<'s, 'a, E>,
+) -> (
+    Result<Option<WordOf<'a, E>>, ErrorOf<'a, E>>,
+    Result<OsStr<'a, E>, ErrorOf<'a, E>>,
+)
+    ensures { (word : List ℕ) → (reading arguments.old).pending ≡ []
+        → (reading arguments.old).ended ≡ false → words_left (reading arguments.old) ≡ word ∷ []
+        → ¬ (IsPrefix dash word)
+        → (outcome_of (λ read. option_map kind_of read) result.0 ≡ Ok (Some (Value word)))
+        × (outcome_of bytes result.1 ≡ Err (MissingValue (reading arguments.old).last)) }
+{
+    laws::one_outcome();
+    let word = arguments.next();
+    let value = arguments.value();
+    (word, value)
 }
 
 /// What is read of no words: no option or operand, and no value.

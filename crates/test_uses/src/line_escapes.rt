@@ -1,6 +1,6 @@
 //! Escapes on one line: a string comes back from its own, has one, and nothing in it leaves the
 //! line.
-ghost use Rattle.std.specs.Prelude.{◌≡◌, ◌⊎◌, ◌*◌, ◌<◌, ◌^◌, ℕ, List, length, Err, IsTrue, IsSomeAnd, IsOkAnd, IsErrAnd, IfOk, IfErr, string_bytes};
+ghost use Rattle.std.specs.Prelude.{◌≡◌, ◌≢◌, ◌⊎◌, ◌*◌, ◌<◌, ◌^◌, ℕ, List, length, Err, IsTrue, IsSomeAnd, IsOkAnd, IsErrAnd, IfOk, IfErr, string_bytes};
 ghost use Rattle.std.specs.List.{All};
 ghost use Rattle.std.specs.Str.{IsUtf8, chars};
 ghost use Rattle.wtf8_core.specs.Truncated.{IsTruncated};
@@ -48,6 +48,21 @@ pub fn line_escape_says<E: Platform, A: Allocator>(
     ensures text { IsUtf8 known.now }
     ensures on_line { All (λ c. IsTrue (stays_on_line c)) (chars known.now) }
     ensures same { IfOk result (λ text. string_bytes text ≡ known.now) }
+{
+    laws::line_escapes::<E>();
+    escape_line(alloc, string)
+}
+
+/// The escape on one line of a string, in which nothing is unseen: no newline, no soft hyphen, no
+/// no-break space, no ideographic space, no override of the direction, no empty braille pattern, no
+/// variation selector and no tag.
+pub fn line_without_unseen<E: Platform, A: Allocator>(
+    alloc: A,
+    string: OsStr<'_, E>,
+) -> Result<String<A>, AllocError>
+    ensures { IfOk result (λ text. All (λ c. c ≢ 0x0A × (c ≢ 0xAD × (c ≢ 0xA0 × (c ≢ 0x3000
+        × (c ≢ 0x202E × (c ≢ 0x2800 × (c ≢ 0xFE0F × (c ≢ 0xE_0041))))))))
+        (chars (string_bytes text))) }
 {
     laws::line_escapes::<E>();
     escape_line(alloc, string)

@@ -1,5 +1,5 @@
 -- Escapes, and their strings.
-use Rattle.os_quote.proofs.Common.{◌≡◌, ⊎_elim, inl, inr, ℕ, ◌<◌, ◌^◌, Bool, List, [], ◌∷◌, ◌++◌, map, length, refl, sym, ap, ◌∙◌, arith, append_assoc, append-nil, length-append, AllByRecursion, flat_map, IsUtf8, lt-ltb, le-ltb, cases_lt, recursion_from_All, Chunk, joined, AreChunks, HasNoCharacter, some_chunks, chunks_once, form_bounds, PartLaws, chunks_of, Item, backslash, item_texts, IsItem, unit_item, chunk_items, items_of, IsEscapeBy, IsBadEscapeBy, item_bytes, IsChunkOf, flat_map-append, item_text}
+use Rattle.os_quote.proofs.Common.{◌≡◌, ⊎_elim, inl, inr, ℕ, ◌<◌, ◌^◌, Bool, List, [], ◌∷◌, ◌++◌, map, length, refl, sym, ap, ◌∙◌, arith, append_assoc, append-nil, length-append, AllByRecursion, flat_map, IsUtf8, lt-ltb, le-ltb, cases_lt, recursion_from_All, Chunk, joined, AreChunks, HasNoCharacter, some_chunks, chunks_once, form_bounds, PartLaws, chunks_of, Item, backslash, item_texts, IsItem, unit_item, chunk_items, items_of, IsEscapeBy, IsBadEscapeBy, item_bytes, IsChunkOf, flat_map-append, item_text, escape_of}
 use Rattle.wtf8_core.specs.PartUnits.{unit_bytes}
 use Rattle.wtf8_core.proofs.lemmas.characters.AtPlaces.{character_fits}
 use Rattle.os_quote.proofs.lemmas.Items.{same_items}
@@ -106,8 +106,11 @@ pub one_escape : (shows : ℕ → Bool) (units : List ℕ → List ℕ) (s text 
 one_escape shows units s text other e f = e.text_is ∙ ap (λ x. item_texts (items_of shows units x)) (chunks_once s e.chunks f.chunks e.are_chunks f.are_chunks) ∙ sym f.text_is
 
 -- each string has one
+pub escape_of_is : (shows : ℕ → Bool) (units : List ℕ → List ℕ) (s : List ℕ) → IsEscapeBy shows units s (escape_of shows units s)
+escape_of_is shows units s = record { chunks = chunks_of s; are_chunks = (some_chunks s).1; text_is = refl }
+
 pub some_escape : (shows : ℕ → Bool) (units : List ℕ → List ℕ) (s : List ℕ) → (text : List ℕ) × IsEscapeBy shows units s text
-some_escape shows units s = (item_texts (items_of shows units (chunks_of s)), record { chunks = chunks_of s; are_chunks = (some_chunks s).1; text_is = refl })
+some_escape shows units s = (escape_of shows units s, escape_of_is shows units s)
 
 -- a text has one index at most at which no token begins
 pub one_bad_place : (shows : ℕ → Bool) (text : List ℕ) (n m : ℕ) → IsBadEscapeBy shows text n → IsBadEscapeBy shows text m → n ≡ m

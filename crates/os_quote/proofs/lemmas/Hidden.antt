@@ -1,57 +1,39 @@
 -- Characters that stand as they are, between suspects.
-use Rattle.os_quote.proofs.Common.{◌≡◌, ◌≢◌, ⊎_elim, ℕ, suc, ◌+◌, ◌-◌, ◌/◌, ◌%◌, ◌<◌, ◌≤◌, true, false, List, [], ◌∷◌, ◌++◌, length, take, drop, get_or, sym, ap, ◌∙◌, subst, arith, append_assoc, take-append-drop, length-append, length-drop, get_or-drop, IsScalar, encode_utf8, AllByRecursion, IsUtf8, IsCharBoundary, chars, all_scalars, encode_utf8_all, and_parts, cases_lt, nat_tests, append_cancel_right, length-take-le, drop_at, take_all, IsCharBoundary-at_seam, IsCharBoundary-end, IsUtf8-between, IsUtf8-take, IsUtf8-drop, IsUtf8-past_char, chars-append, chars_past_char, encodes-chars, scalars-chars, length-encode, len_utf8_bounds, scalar, scalar_cases, encode, form_ascii, form_two, form_three, form_past, form_encode, stays_on_line, is_suspect, Stands, AllStand, AllClear, IsNextSuspect}
+use Rattle.os_quote.proofs.Common.{◌≡◌, ⊎_elim, ℕ, suc, ◌+◌, ◌-◌, ◌<◌, ◌≤◌, true, false, List, [], ◌∷◌, ◌++◌, length, take, drop, get_or, sym, ap, ◌∙◌, subst, arith, append_assoc, take-append-drop, length-append, length-drop, get_or-drop, IsScalar, encode_utf8, AllByRecursion, IsUtf8, IsCharBoundary, chars, all_scalars, encode_utf8_all, and_parts, cases_lt, append_cancel_right, length-take-le, drop_at, take_all, IsCharBoundary-at_seam, IsCharBoundary-end, IsUtf8-between, IsUtf8-take, IsUtf8-drop, IsUtf8-past_char, chars-append, chars_past_char, encodes-chars, scalars-chars, length-encode, len_utf8_bounds, scalar, encode, form_ascii, form_two, form_three, form_past, form_encode, is_suspect, Stands, AllStand, AllClear, IsNextSuspect}
 use Rattle.std.proofs.Math.Seq.{take-add}
 use Rattle.os_quote.proofs.lemmas.Escapes.{all-append}
+use Rattle.os_quote.proofs.lemmas.SuspectTables.{one_stands, two_stands, three_stands, four_stands, lead_from}
 
 -- no byte is a suspect, where others follow
 abbrev ClearIn : List ℕ → List ℕ → Type 0
 ClearIn [] rest = Unit {0}
-ClearIn (x ∷ xs) rest = (is_suspect x (get_or (xs ++ rest) 0 0) (get_or (xs ++ rest) 1 0) ≡ false) × ClearIn xs rest
+ClearIn (x ∷ xs) rest = (is_suspect x (get_or (xs ++ rest) 0 0) (get_or (xs ++ rest) 1 0) ≡ false) × (((get_or (xs ++ rest) 0 0 < 256) × (get_or (xs ++ rest) 1 0 < 256)) × ClearIn xs rest)
 
-clear_in : (xs rest : List ℕ) → ((k : ℕ) → k < length xs → is_suspect (get_or (xs ++ rest) k 0) (get_or (xs ++ rest) (suc k) 0) (get_or (xs ++ rest) (suc (suc k)) 0) ≡ false) → ClearIn xs rest
-clear_in [] rest h = tt
-clear_in (x ∷ xs) rest h = (h 0 (omega arith), clear_in xs rest (λ k l. h (suc k) (omega (arith, l))))
+clear_in : (xs rest : List ℕ) → ((k : ℕ) → get_or (xs ++ rest) k 0 < 256) → ((k : ℕ) → k < length xs → is_suspect (get_or (xs ++ rest) k 0) (get_or (xs ++ rest) (suc k) 0) (get_or (xs ++ rest) (suc (suc k)) 0) ≡ false) → ClearIn xs rest
+clear_in [] rest b h = tt
+clear_in (x ∷ xs) rest b h = (h 0 (omega arith), ((b 1, b 2), clear_in xs rest (λ k. b (suc k)) (λ k l. h (suc k) (omega (arith, l)))))
 
 clear_after : (xs ys rest : List ℕ) → ClearIn (xs ++ ys) rest → ClearIn ys rest
 clear_after [] ys rest h = h
-clear_after (x ∷ xs) ys rest h = clear_after xs ys rest h.1
-
--- characters of one to four bytes
-one_stays : (c y z : ℕ) → c < 0x80 → is_suspect c y z ≡ false → stays_on_line c ≡ true
-one_stays c y z h s = grind (arith, nat_tests, h, s)
-
-no_slash : (c y z : ℕ) → is_suspect c y z ≡ false → c ≢ 0x5C
-no_slash c y z s e = grind (arith, nat_tests, s, e)
-
-two_stays : (c z : ℕ) → 0x80 ≤ c → c < 0x800 → is_suspect (0xC0 + c / 0x40) (0x80 + c % 0x40) z ≡ false → stays_on_line c ≡ true
-two_stays c z l h s = grind (arith, nat_tests, l, h, s)
-
-three_stays : (c : ℕ) → 0x800 ≤ c → c < 0x1_0000 → is_suspect (0xE0 + c / 0x1000) (0x80 + (c / 0x40) % 0x40) (0x80 + c % 0x40) ≡ false → stays_on_line c ≡ true
-three_stays c l h s = grind (arith, nat_tests, l, h, s)
-
-four_stays : (c : ℕ) → 0x1_0000 ≤ c → c < 0x11_0000 → is_suspect (0xF0 + c / 0x4_0000) (0x80 + (c / 0x1000) % 0x40) (0x80 + (c / 0x40) % 0x40) ≡ false → stays_on_line c ≡ true
-four_stays c l h s = grind (arith, nat_tests, l, h, s)
+clear_after (x ∷ xs) ys rest h = clear_after xs ys rest h.1.1
 
 character_stands : (c : ℕ) (more rest : List ℕ) → IsScalar c → ClearIn (encode_utf8 c ++ more) rest → Stands c
 character_stands c more rest s h =
     ⊎_elim
-    (λ (a : c < 0x80). let f = (by (form_ascii c a)).0 in let next = get_or (more ++ rest) 0 0 in let third = get_or (more ++ rest) 1 0 in (no_slash c next third f, one_stays c next third a f))
+    (λ (a : c < 0x80). let f = by (form_ascii c a) in one_stands c (get_or (more ++ rest) 0 0) (get_or (more ++ rest) 1 0) a f.1.0.0 f.1.0.1 f.0)
     (λ (l : 0x80 ≤ c).
     ⊎_elim
-    (λ (a : c < 0x800). (λ e. omega (arith, l, e), two_stays c (get_or (more ++ rest) 0 0) l a (by (form_two c l a)).0))
+    (λ (a : c < 0x800). let f = by (form_two c l a) in two_stands c (get_or (more ++ rest) 0 0) l a f.1.0.1 f.0)
     (λ (m : 0x800 ≤ c).
     ⊎_elim
-    (λ (a : c < 0x1_0000). (λ e. omega (arith, l, e), three_stays c m a (by (form_three c m a)).0))
-    (λ (n : 0x1_0000 ≤ c). (λ e. omega (arith, l, e), four_stays c n below (by (form_past c n)).0))
+    (λ (a : c < 0x1_0000). three_stands c m a (by (form_three c m a)).0)
+    (λ (n : 0x1_0000 ≤ c). four_stands c n (by (form_past c n)).0)
     (cases_lt c 0x1_0000))
     (cases_lt c 0x800))
     (cases_lt c 0x80)
   where
     by : {bs : List ℕ} → encode c ≡ bs → ClearIn (bs ++ more) rest
     by e = subst (λ x. ClearIn (x ++ more) rest) (sym (form_encode c) ∙ e) h
-
-    below : c < 0x11_0000
-    below = ⊎_elim (λ l. omega (arith, l)) (λ p. p.1) (scalar_cases c s)
 
 characters_stand : (cs rest : List ℕ) → all_scalars cs ≡ true → ClearIn (encode_utf8_all cs) rest → AllByRecursion Stands cs
 characters_stand [] rest s h = tt
@@ -60,14 +42,14 @@ characters_stand (c ∷ cs) rest s h =
     (character_stands c (encode_utf8_all cs) rest both.0 h, characters_stand cs rest both.1 (clear_after (encode_utf8 c) (encode_utf8_all cs) rest h))
 
 -- each stands up to an index, and none is a suspect up to another
-pub stand_to : (t : List ℕ) (at i : ℕ) → IsUtf8 t → IsCharBoundary t at → IsCharBoundary t i → at ≤ i → AllStand (take at t) → AllClear t at i → AllStand (take i t)
-stand_to t at i u b d low stand clear =
+pub stand_to : (t : List ℕ) (at i : ℕ) → ((k : ℕ) → get_or t k 0 < 256) → IsUtf8 t → IsCharBoundary t at → IsCharBoundary t i → at ≤ i → AllStand (take at t) → AllClear t at i → AllStand (take i t)
+stand_to t at i bytes u b d low stand clear =
     let whole = sym (take-append-drop (i - at) (drop at t)) in
     let same : at + (i - at) ≡ i = omega (arith, low) in
     subst AllStand (ap (λ n. take n t) same)
     (subst AllStand (sym (take-add at (i - at) t))
     (subst (AllByRecursion Stands) (sym (chars-append (take at t) mid (IsUtf8-take t at u b))) (all-append Stands (chars (take at t)) (chars mid) stand
-    (characters_stand (chars mid) rest (scalars-chars mid text) (subst (λ x. ClearIn x rest) (sym (encodes-chars mid text)) (clear_in mid rest (λ k l. subst (λ x. is_suspect (get_or x k 0) (get_or x (suc k) 0) (get_or x (suc (suc k)) 0) ≡ false) whole (from_at k l))))))))
+    (characters_stand (chars mid) rest (scalars-chars mid text) (subst (λ x. ClearIn x rest) (sym (encodes-chars mid text)) (clear_in mid rest (λ k. subst (λ x. get_or x k 0 < 256) whole (rw (get_or-drop at t k 0) (bytes (at + k)))) (λ k l. subst (λ x. is_suspect (get_or x k 0) (get_or x (suc k) 0) (get_or x (suc (suc k)) 0) ≡ false) whole (from_at k l))))))))
   where
     mid : List ℕ
     mid = take (i - at) (drop at t)
@@ -90,15 +72,12 @@ stand_to t at i u b d low stand clear =
         (subst (λ n. is_suspect (get_or t (at + k) 0) (get_or t (1 + (at + k)) 0) (get_or t n 0) ≡ false) third
         (clear (at + k) (omega arith) (omega (arith, l, many, low)))))
 
-pub all_stand : (t : List ℕ) (at : ℕ) → IsUtf8 t → IsCharBoundary t at → AllStand (take at t) → AllClear t at (length t) → AllStand t
-all_stand t at u b stand clear = subst AllStand (take_all (length t) t (omega arith)) (stand_to t at (length t) u b (IsCharBoundary-end t) b.0 stand clear)
+pub all_stand : (t : List ℕ) (at : ℕ) → ((k : ℕ) → get_or t k 0 < 256) → IsUtf8 t → IsCharBoundary t at → AllStand (take at t) → AllClear t at (length t) → AllStand t
+all_stand t at bytes u b stand clear = subst AllStand (take_all (length t) t (omega arith)) (stand_to t at (length t) bytes u b (IsCharBoundary-end t) b.0 stand clear)
 
 -- a suspect begins a character
 pub suspect_begins : (t : List ℕ) (from at : ℕ) → IsNextSuspect t from at → IsCharBoundary t at
-suspect_begins t from at s = (omega (arith, s.within), λ _ high. leads (get_or t at 0) (get_or t (1 + at) 0) (get_or t (2 + at) 0) s.suspect high)
-  where
-    leads : (x y z : ℕ) → is_suspect x y z ≡ true → 128 ≤ x → 192 ≤ x
-    leads x y z e high = grind (arith, nat_tests, e, high)
+suspect_begins t from at s = (omega (arith, s.within), λ _ high. lead_from (get_or t at 0) (get_or t (1 + at) 0) (get_or t (2 + at) 0) s.suspect high)
 
 -- each stands up to a character that does, and so up to what follows it
 pub record StandUpTo (t : List ℕ) (at : ℕ) : Type 0 where

@@ -1,5 +1,8 @@
-use Rattle.os_quote.proofs.Common.{refl, SECOND_HIGH, copies}
+use Rattle.os_quote.proofs.Common.{refl, SECOND_HIGH, SECOND_LOW, copies}
 use Rattle.os_quote.proofs.lanes.second_bits.Goals as goal
 
-pub entries-requires-clause-copies : goal.entries-requires-clause-copies
-entries-requires-clause-copies c = copies SECOND_HIGH refl
+pub bits-requires-clause-high : goal.bits-requires-clause-high
+bits-requires-clause-high c = copies SECOND_HIGH refl
+
+pub bits-requires-clause-low : goal.bits-requires-clause-low
+bits-requires-clause-low c = copies SECOND_LOW refl

@@ -1,4 +1,4 @@
-use Rattle.os_quote.proofs.Common.{◌≡◌, ◌++◌, ◌-◌, length, take, drop, refl, sym, ap, ◌∙◌, subst, take-append-drop, sub-zero, true≢false, IsCharBoundary-from_take, IsPlainUpTo, encode_utf8, AllStand, AllClear, IsNextSuspect}
+use Rattle.os_quote.proofs.Common.{◌≡◌, ◌++◌, ◌-◌, length, take, drop, refl, sym, ap, ◌∙◌, subst, arith, take-append-drop, sub-zero, true≢false, IsCharBoundary-from_take, IsPlainUpTo, encode_utf8, AllStand, AllClear, IsNextSuspect}
 use Rattle.os_quote.proofs.lemmas.Hidden.{suspect_begins, stand_to, stand_after, all_stand}
 use Rattle.os_quote.proofs.lemmas.PlainBytes.{plain_front, plain_is_text, plain_stands}
 use Rattle.os_quote.proofs.standing.split_hidden.Goals as goal
@@ -11,12 +11,22 @@ loop-suspect-init c =
     let plain = plain_front text n up_to.plain in
     (IsCharBoundary-from_take text n c.utf8.text up_to.within (plain_is_text (take n text) plain), plain_stands (take n text) plain)
 
+pub range_from-requires : goal.range_from-requires
+range_from-requires c _ =
+    let text = c.args.text.now in
+    suspect_begins text c.loop-suspect.at c.in-Some.suspect (subst (λ x. IsNextSuspect x c.loop-suspect.at c.in-Some.suspect) c.as_bytes-in-loop-suspect.ensures.value c.in-Some.ensures)
+
+pub range-requires-clause-end_boundary : goal.range-requires-clause-end_boundary
+range-requires-clause-end_boundary c =
+    let text = c.args.text.now in
+    suspect_begins text c.loop-suspect.at c.in-Some.suspect (subst (λ x. IsNextSuspect x c.loop-suspect.at c.in-Some.suspect) c.as_bytes-in-loop-suspect.ensures.value c.in-Some.ensures)
+
 pub returns-then-not-stands : goal.returns-then-not-stands
 returns-then-not-stands c =
     let text = c.args.text.now in
     let i = c.in-Some.suspect in
     let next = subst (λ x. IsNextSuspect x c.loop-suspect.at i) c.as_bytes-in-loop-suspect.ensures.value c.in-Some.ensures in
-    let stand = stand_to text c.loop-suspect.at i c.utf8.text c.loop-suspect.invariant.0 (suspect_begins text c.loop-suspect.at i next) next.from c.loop-suspect.invariant.1 next.clear in
+    let stand = stand_to text c.loop-suspect.at i (λ k. omega (arith, c.type_inv.text k)) c.utf8.text c.loop-suspect.invariant.0 (suspect_begins text c.loop-suspect.at i next) next.from c.loop-suspect.invariant.1 next.clear in
     let front : c.range.result.now ≡ take i text = c.range.ensures.value ∙ ap (λ n. take n text) (sub-zero i) in
     let rest = sym c.range_from.ensures.value ∙ sym c.chars-characters.ensures.rest ∙ c.in_ok-character.ensures.steps.0 ∙ ap (λ x. encode_utf8 c.in_ok-character.character ++ x) (sym c.as_str-rest.ensures) in
     record {
@@ -33,7 +43,7 @@ loop-suspect-preserved c =
     let i = c.in-Some.suspect in
     let next = subst (λ x. IsNextSuspect x c.loop-suspect.at i) c.as_bytes-in-loop-suspect.ensures.value c.in-Some.ensures in
     let begins = suspect_begins text c.loop-suspect.at i next in
-    let stand = stand_to text c.loop-suspect.at i c.utf8.text c.loop-suspect.invariant.0 begins next.from c.loop-suspect.invariant.1 next.clear in
+    let stand = stand_to text c.loop-suspect.at i (λ k. omega (arith, c.type_inv.text k)) c.utf8.text c.loop-suspect.invariant.0 begins next.from c.loop-suspect.invariant.1 next.clear in
     let rest = sym c.range_from.ensures.value ∙ sym c.chars-characters.ensures.rest ∙ c.in_ok-character.ensures.steps.0 ∙ ap (λ x. encode_utf8 c.in_ok-character.character ++ x) (sym c.as_str-rest.ensures) in
     let up_to = stand_after text c.as_str-rest.result.now i c.in_ok-character.character (length text - length c.as_str-rest.result.now) c.utf8.text begins rest stand (c.stands.ensures.0 c.if-not-stands.false) refl in
     (up_to.0.boundary, up_to.0.stand)
@@ -42,4 +52,4 @@ pub returns : goal.returns
 returns c =
     let text = c.args.text.now in
     let clear = subst (λ x. AllClear x c.loop-suspect.at (length x)) c.as_bytes-in-loop-suspect.ensures.value c.in_default.ensures in
-    all_stand text c.loop-suspect.at c.utf8.text c.loop-suspect.invariant.0 c.loop-suspect.invariant.1 clear
+    all_stand text c.loop-suspect.at (λ k. omega (arith, c.type_inv.text k)) c.utf8.text c.loop-suspect.invariant.0 c.loop-suspect.invariant.1 clear

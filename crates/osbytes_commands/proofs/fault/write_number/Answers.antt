@@ -1,6 +1,6 @@
 use Rattle.std.proofs.Common.{◌∙◌}
 use Rattle.std.proofs.Output.{has_written_styled_of_eq}
-use Rattle.osbytes_commands.proofs.lemmas.InlineTexts.{of_writes}
+use Rattle.os_quote.proofs.lemmas.InlineTexts.{of_writes}
 use Rattle.osbytes_commands.proofs.fault.write_number.Goals as goal
 
 pub returns : goal.returns

@@ -1,4 +1,4 @@
-use Rattle.osbytes_commands.proofs.lemmas.InlineTexts.{of_writes}
+use Rattle.os_quote.proofs.lemmas.InlineTexts.{of_writes}
 use Rattle.osbytes_commands.proofs.telling.message.Goals as goal
 
 pub returns-in-Ok : goal.returns-in-Ok

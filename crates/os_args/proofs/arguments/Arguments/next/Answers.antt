@@ -1,4 +1,5 @@
 use Rattle.std.proofs.Common.{inr, ◌+◌, map, drop}
+use Rattle.std.specs.Option.{option_map}
 use Rattle.platform_str.specs.Strings.{bytes}
 use Rattle.os_args.specs.Kinds.{kind_of}
 use Rattle.os_args.specs.Views.{reading}
@@ -13,5 +14,5 @@ read_in-requires g c =
 pub returns : goal.returns
 returns g c =
     let now = c.skip_dashes.new.self in
-    inr (takes_next (reading c.args.self.now) (reading now) (bytes c.in-Some-first_after.word) (drop (now.place + 1) (map bytes now.words.now)) (kind_of c.read_in.result.0) (bytes c.read_in.result.1)
-    (c.is_empty.ensures.0 c.if-not-is_empty.false) c.skip_dashes.ensures c.in-Some-first_after.ensures.first c.read_in.ensures)
+    inr (takes_next (reading c.args.self.now) (reading now) (bytes c.in-Some-first_after.word) (drop (now.place + 1) (map bytes now.words.now)) (kind_of c.read_in.result.0) (bytes c.read_in.result.1) (option_map kind_of c.last_option-self-2.result)
+    (c.is_empty.ensures.0 c.if-not-is_empty.false) c.skip_dashes.ensures c.in-Some-first_after.ensures.first c.read_in.ensures c.last_option-self-2.ensures)

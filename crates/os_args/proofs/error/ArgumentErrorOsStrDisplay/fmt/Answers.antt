@@ -1,8 +1,6 @@
-use Rattle.std.proofs.Common.{◌++◌, codes, true, refl, sym, ap, ◌∙◌}
+use Rattle.std.proofs.Common.{true, refl, sym, ap}
 use Rattle.std.proofs.Output.{has_written_styled_append, has_written_styled_of_eq}
-use Rattle.std.specs.Option.{option_map}
-use Rattle.os_args.specs.Kinds.{kind_of}
-use Rattle.os_args.specs.ErrorText.{after_text, fault_text}
+use Rattle.os_args.specs.ErrorText.{fault_text}
 use Rattle.os_args.specs.Views.{fault_of}
 use Rattle.os_args.proofs.error.ArgumentErrorOsStrDisplay.fmt.Goals as goal
 
@@ -10,12 +8,10 @@ pub returns-in_ok-write_str-in-UnexpectedValue-2-clause-styled :
     goal.returns-in_ok-write_str-in-UnexpectedValue-2-clause-styled
 returns-in_ok-write_str-in-UnexpectedValue-2-clause-styled g c = λ flush ok.
     let head = c.in_ok-write_str-in-UnexpectedValue.ensures.styled flush (refl {a = true}) in
-    let value = c.in_ok-write_to-in-UnexpectedValue.ensures head.flush (refl {a = true}) in
+    let value = c.in_ok-write_string-in-UnexpectedValue.ensures head.flush (refl {a = true}) in
     let quote = c.in_ok-write_str-in-UnexpectedValue-2.ensures.styled value.flush (refl {a = true}) in
     let end = c.write_after.ensures quote.flush ok in
-    has_written_styled_of_eq _ _ _ _ _
-    (ap (λ x. codes "unexpected value '" ++ (g.E.Platform.lossy x ++ (codes "'" ++ after_text g.E.Platform.lossy (option_map kind_of c.in-UnexpectedValue.last)))) c.display.ensures
-    ∙ sym (ap (λ e. fault_text g.E.Platform.lossy (fault_of e)) c.in-UnexpectedValue.is))
+    has_written_styled_of_eq _ _ _ _ _ (sym (ap (λ e. fault_text g.E.Platform.units (fault_of e)) c.in-UnexpectedValue.is))
     (has_written_styled_append _ _ _ _ _ _ head (has_written_styled_append _ _ _ _ _ _ value (has_written_styled_append _ _ _ _ _ _ quote end)))
 
 pub returns-in_ok-write_str-in-MissingValue-clause-styled :
@@ -23,7 +19,7 @@ pub returns-in_ok-write_str-in-MissingValue-clause-styled :
 returns-in_ok-write_str-in-MissingValue-clause-styled g c = λ flush ok.
     let head = c.in_ok-write_str-in-MissingValue.ensures.styled flush (refl {a = true}) in
     let end = c.write_after-in-MissingValue.ensures head.flush ok in
-    has_written_styled_of_eq _ _ _ _ _ (sym (ap (λ e. fault_text g.E.Platform.lossy (fault_of e)) c.in-MissingValue.is)) (has_written_styled_append _ _ _ _ _ _ head end)
+    has_written_styled_of_eq _ _ _ _ _ (sym (ap (λ e. fault_text g.E.Platform.units (fault_of e)) c.in-MissingValue.is)) (has_written_styled_append _ _ _ _ _ _ head end)
 
 pub returns-in_ok-write_word-in-UnexpectedArgument-clause-styled :
     goal.returns-in_ok-write_word-in-UnexpectedArgument-clause-styled
@@ -31,5 +27,5 @@ returns-in_ok-write_word-in-UnexpectedArgument-clause-styled g c = λ flush ok.
     let head = c.in_ok-write_str-in-UnexpectedArgument.ensures.styled flush (refl {a = true}) in
     let word = c.in_ok-write_word-in-UnexpectedArgument.ensures head.flush (refl {a = true}) in
     let end = c.write_str-in-UnexpectedArgument-2.ensures.styled word.flush ok in
-    has_written_styled_of_eq _ _ _ _ _ (sym (ap (λ e. fault_text g.E.Platform.lossy (fault_of e)) c.in-UnexpectedArgument.is))
+    has_written_styled_of_eq _ _ _ _ _ (sym (ap (λ e. fault_text g.E.Platform.units (fault_of e)) c.in-UnexpectedArgument.is))
     (has_written_styled_append _ _ _ _ _ _ head (has_written_styled_append _ _ _ _ _ _ word end))

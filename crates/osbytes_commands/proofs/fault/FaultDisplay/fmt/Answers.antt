@@ -1,6 +1,6 @@
-use Rattle.std.proofs.Common.{true, refl, sym, ap, ◌∙◌}
+use Rattle.std.proofs.Common.{true, refl, sym, ap}
 use Rattle.std.proofs.Output.{has_written_styled_append, has_written_styled_of_eq}
-use Rattle.osbytes_commands.specs.Fault.{text_of, quote_text}
+use Rattle.osbytes_commands.specs.Fault.{text_of}
 use Rattle.osbytes_commands.proofs.fault.FaultDisplay.fmt.Goals as goal
 
 pub returns-in_ok-write_number-in-BadLine-clause-styled : goal.returns-in_ok-write_number-in-BadLine-clause-styled
@@ -9,9 +9,3 @@ returns-in_ok-write_number-in-BadLine-clause-styled g c = λ flush ok.
     let number = c.in_ok-write_number-in-BadLine.ensures head.flush (refl {a = true}) in
     let end = c.write_str-in-BadLine.ensures.styled number.flush ok in
     has_written_styled_of_eq _ _ _ _ _ (sym (ap text_of c.in-BadLine.is)) (has_written_styled_append _ _ _ _ _ _ head (has_written_styled_append _ _ _ _ _ _ number end))
-
-pub returns-in_ok-write_str-in-BadEscape-clause-styled : goal.returns-in_ok-write_str-in-BadEscape-clause-styled
-returns-in_ok-write_str-in-BadEscape-clause-styled g c = λ flush ok.
-    let head = c.in_ok-write_str-in-BadEscape.ensures.styled flush (refl {a = true}) in
-    let place = c.write_number-in-BadEscape.ensures head.flush ok in
-    has_written_styled_of_eq _ _ _ _ _ (sym (ap quote_text c.in-BadEscape.is) ∙ sym (ap text_of c.in-BadQuote.is)) (has_written_styled_append _ _ _ _ _ _ head place)

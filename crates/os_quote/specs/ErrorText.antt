@@ -1,0 +1,10 @@
+-- What an error prints.
+use Rattle.std.specs.Prelude.{ℕ, List, ◌++◌, codes, decimal}
+use Rattle.os_quote.specs.declared.error.QuoteError.{QuoteError}
+use Rattle.os_quote.specs.declared.error.QuoteError.TheVariants.{BadEscape, NotCanonical, Memory}
+
+-- why a text is no escape
+abbrev pub error_text : QuoteError → List ℕ
+error_text (BadEscape index) = codes "bad escape at byte " ++ decimal index
+error_text NotCanonical = codes "not the escape of a string"
+error_text Memory = codes "out of memory"

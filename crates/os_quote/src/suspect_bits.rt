@@ -1,0 +1,98 @@
+//! Tables of which bytes may begin a character that is written as a token on one line: suspects.
+ghost use Rattle.std.specs.Prelude.{◌≡◌};
+ghost use Rattle.os_quote.specs.Standing.{byte_bits, third_bits, is_suspect};
+
+// Each bit stands for some kinds of characters. Three bytes may begin one of these if each of them has
+// the bit; a byte has the bits that both tables of its halves have, and the third byte those of either
+// pair. The bits are dealt so that few other characters pass for suspects: none of Greek, Hebrew,
+// Devanagari, Thai, hiragana, full-width katakana, the syllables of Hangul, the first block of CJK
+// ideographs and emoji; of Latin, Cyrillic and Arabic some past the basic ones, as `ț`, `ґ` and the comma.
+// Each table is repeated four times, as vectors want it.
+
+/// By the high half of the first byte.
+pub(crate) const FIRST_HIGH: [u8; 64] = [
+    1, 1, 0, 0, 0, 2, 0, 4, 0, 0, 0, 0, 48, 50, 200, 128, 1, 1, 0, 0, 0, 2, 0, 4, 0, 0, 0, 0, 48,
+    50, 200, 128, 1, 1, 0, 0, 0, 2, 0, 4, 0, 0, 0, 0, 48, 50, 200, 128, 1, 1, 0, 0, 0, 2, 0, 4, 0,
+    0, 0, 0, 48, 50, 200, 128,
+];
+
+/// By its low half.
+pub(crate) const FIRST_LOW: [u8; 64] = [
+    129, 137, 241, 137, 1, 1, 1, 1, 33, 1, 1, 17, 3, 17, 1, 69, 129, 137, 241, 137, 1, 1, 1, 1, 33,
+    1, 1, 17, 3, 17, 1, 69, 129, 137, 241, 137, 1, 1, 1, 1, 33, 1, 1, 17, 3, 17, 1, 69, 129, 137,
+    241, 137, 1, 1, 1, 1, 33, 1, 1, 17, 3, 17, 1, 69,
+];
+
+/// By the high half of the second byte.
+pub(crate) const SECOND_HIGH: [u8; 64] = [
+    7, 7, 7, 7, 7, 7, 7, 7, 127, 191, 151, 71, 7, 7, 7, 7, 7, 7, 7, 7, 7, 7, 7, 7, 127, 191, 151,
+    71, 7, 7, 7, 7, 7, 7, 7, 7, 7, 7, 7, 7, 127, 191, 151, 71, 7, 7, 7, 7, 7, 7, 7, 7, 7, 7, 7, 7,
+    127, 191, 151, 71, 7, 7, 7, 7,
+];
+
+/// By its low half.
+pub(crate) const SECOND_LOW: [u8; 64] = [
+    255, 231, 167, 167, 39, 47, 39, 39, 103, 39, 47, 231, 39, 183, 111, 119, 255, 231, 167, 167,
+    39, 47, 39, 39, 103, 39, 47, 231, 39, 183, 111, 119, 255, 231, 167, 167, 39, 47, 39, 39, 103,
+    39, 47, 231, 39, 183, 111, 119, 255, 231, 167, 167, 39, 47, 39, 39, 103, 39, 47, 231, 39, 183,
+    111, 119,
+];
+
+/// By the high half of the third byte.
+pub(crate) const THIRD_HIGH: [u8; 64] = [
+    55, 55, 55, 55, 55, 55, 55, 55, 191, 247, 191, 247, 55, 55, 55, 55, 55, 55, 55, 55, 55, 55, 55,
+    55, 191, 247, 191, 247, 55, 55, 55, 55, 55, 55, 55, 55, 55, 55, 55, 55, 191, 247, 191, 247, 55,
+    55, 55, 55, 55, 55, 55, 55, 55, 55, 55, 55, 191, 247, 191, 247, 55, 55, 55, 55,
+];
+
+/// By its low half.
+pub(crate) const THIRD_LOW: [u8; 64] = [
+    191, 183, 183, 183, 191, 183, 183, 183, 183, 183, 183, 183, 183, 183, 183, 247, 191, 183, 183,
+    183, 191, 183, 183, 183, 183, 183, 183, 183, 183, 183, 183, 247, 191, 183, 183, 183, 191, 183,
+    183, 183, 183, 183, 183, 183, 183, 183, 183, 247, 191, 183, 183, 183, 191, 183, 183, 183, 183,
+    183, 183, 183, 183, 183, 183, 247,
+];
+
+/// The same of the third byte once more, for kinds that have it in two boxes.
+pub(crate) const OTHER_HIGH: [u8; 64] = [
+    32, 32, 32, 32, 32, 32, 32, 32, 224, 168, 96, 104, 32, 32, 32, 32, 32, 32, 32, 32, 32, 32, 32,
+    32, 224, 168, 96, 104, 32, 32, 32, 32, 32, 32, 32, 32, 32, 32, 32, 32, 224, 168, 96, 104, 32,
+    32, 32, 32, 32, 32, 32, 32, 32, 32, 32, 32, 224, 168, 96, 104, 32, 32, 32, 32,
+];
+
+/// By its low half.
+pub(crate) const OTHER_LOW: [u8; 64] = [
+    224, 224, 224, 224, 104, 104, 96, 96, 96, 96, 96, 224, 224, 224, 224, 232, 224, 224, 224, 224,
+    104, 104, 96, 96, 96, 96, 96, 224, 224, 224, 224, 232, 224, 224, 224, 224, 104, 104, 96, 96,
+    96, 96, 96, 224, 224, 224, 224, 232, 224, 224, 224, 224, 104, 104, 96, 96, 96, 96, 96, 224,
+    224, 224, 224, 232,
+];
+
+/// Whether a byte before two others may begin such a character.
+#[inline(always)]
+pub(crate) fn is_suspect(first: u8, second: u8, third: u8) -> bool
+    ensures { result ≡ is_suspect first second third }
+{
+    let leads = bits(FIRST_HIGH, FIRST_LOW, first);
+    if leads == 0 {
+        return false;
+    }
+    let pairs = leads & bits(SECOND_HIGH, SECOND_LOW, second);
+    pairs & third_bits(third) != 0
+}
+
+/// The kinds of characters that may have a byte third.
+#[inline(always)]
+fn third_bits(byte: u8) -> u8
+    ensures { result ≡ third_bits byte }
+{
+    bits(THIRD_HIGH, THIRD_LOW, byte) | bits(OTHER_HIGH, OTHER_LOW, byte)
+}
+
+/// The bits of a byte by tables of its halves.
+#[inline(always)]
+fn bits(high: [u8; 64], low: [u8; 64], byte: u8) -> u8
+    ensures { result ≡ byte_bits high low byte }
+{
+    high[usize::from(byte / 16)] & low[usize::from(byte & 15)]
+}
