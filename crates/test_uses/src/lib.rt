@@ -229,6 +229,7 @@ pub use parts::halves_of_bytes;
 pub use parts::halves_of_text;
 pub use parts::may_be_cut;
 pub use parts::part_is_accepted;
+pub use parts::rest_is_accepted;
 pub use parts::three_parts;
 pub use parts::three_parts_from_the_end;
 pub use paths::bytes_of_path_cow;
