@@ -1,4 +1,4 @@
-use Rattle.std.proofs.Common.{◌++◌, drop, sym, subst}
+use Rattle.std.proofs.Common.{drop, sym, subst}
 use Rattle.std.proofs.lemmas.List.{take-append-drop}
 use Rattle.std.proofs.lemmas.Result.{on_ok_weaker}
 use Rattle.names_commands.specs.Back.{joining}
