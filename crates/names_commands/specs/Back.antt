@@ -1,14 +1,15 @@
 -- What `join` gives back of the names that `list` was given.
 use Rattle.std.specs.Prelude.{◌≡◌, ◌⊎◌, ℕ, List, [], ◌∷◌, ◌++◌}
 use Rattle.names_commands.specs.declared.task.Task.TheVariants.{ListAll, Join}
+use Rattle.names_commands.specs.declared.task.LastLine.{LastLine}
 use Rattle.names_commands.specs.declared.task.Settings.{Settings}
 
--- all names are listed, and lines are joined, where a name may have `max` bytes
+-- all names are listed, and lines are joined, the last of which must have its end or not, where a name may have `max` bytes
 abbrev pub listing : ℕ → Settings
 listing max = record { task = ListAll; max = max }
 
-abbrev pub joining : ℕ → Settings
-joining max = record { task = Join; max = max }
+abbrev pub joining : LastLine → ℕ → Settings
+joining last max = record { task = Join last; max = max }
 
 -- the last name has its end: there is none, or the last byte is NUL
 abbrev pub EndsWithNul : List ℕ → Type 0
@@ -17,3 +18,7 @@ EndsWithNul names = (names ≡ []) ⊎ ((front : List ℕ) × (names ≡ front +
 -- the names, with the NUL that the last may lack
 abbrev pub IsCompleted : List ℕ → List ℕ → Type 0
 IsCompleted names completed = (EndsWithNul names × (completed ≡ names)) ⊎ ((¬ (EndsWithNul names)) × (completed ≡ names ++ 0 ∷ []))
+
+-- some of the first names, each with its NUL
+abbrev pub AreFirst : List ℕ → List ℕ → Type 0
+AreFirst names some = EndsWithNul some × ((rest : List ℕ) × (completed : List ℕ) × IsCompleted names completed × (completed ≡ some ++ rest))

@@ -1,23 +1,23 @@
 -- The words that ask for each command, and what it does with each item.
 use Rattle.std.specs.Prelude.{◌≡◌, ◌⊎◌, ℕ, ◌<◌, ◌^◌, false, List, [], ◌∷◌, codes}
 use Rattle.std.specs.Str.Parse.{IsNumeral, digits_value, without_leading_plus}
-use Rattle.os_glob.specs.Items.{IsFirstFault}
-use Rattle.os_glob.specs.declared.error.GlobError.{GlobError}
 use Rattle.os_glob.specs.declared.options.GlobOptions.{GlobOptions}
 use Rattle.os_glob.specs.declared.options.Separators.TheVariants.{Slash, SlashAndBackslash}
 use Rattle.osbytes_commands.specs.Command.{os_word}
 use Rattle.osbytes_commands.specs.declared.command.Os.{Os}
 use Rattle.osbytes_commands.specs.declared.command.Os.TheVariants.{Unix, Windows, Wasm}
 use Rattle.names_commands.specs.declared.command.Command.{Command}
-use Rattle.names_commands.specs.declared.command.Command.TheVariants.{ListAll, ListMatching, Join, Check, Help}
+use Rattle.names_commands.specs.declared.command.Command.TheVariants.{ListAll, ListMatching, Filter, Join, Check, Help}
 use Rattle.names_commands.specs.declared.command.Request.{Request}
-use Rattle.names_commands.specs.declared.command.TheConstants.{LONGEST_NAME}
+use Rattle.names_commands.specs.declared.task.LastLine.TheVariants.{MustEnd, MayLackEnd}
 
 -- the words after the program's name that ask for the command
 abbrev pub words_of : Command → List (List ℕ)
 words_of (ListAll os) = codes "list" ∷ os_word os ∷ []
 words_of (ListMatching os pattern) = codes "list" ∷ os_word os ∷ pattern.now ∷ []
-words_of (Join os) = codes "join" ∷ os_word os ∷ []
+words_of (Filter os pattern) = codes "filter" ∷ os_word os ∷ pattern.now ∷ []
+words_of (Join os MustEnd) = codes "join" ∷ os_word os ∷ []
+words_of (Join os MayLackEnd) = codes "join" ∷ os_word os ∷ codes "--unterminated" ∷ []
 words_of (Check os) = codes "check" ∷ os_word os ∷ []
 words_of Help = codes "--help" ∷ []
 
@@ -30,7 +30,7 @@ pub record IsLimit (text : List ℕ) (max : ℕ) : Type 0 where
 -- the words after the program's name make the request: a command's, or `--max`, a limit and a command's
 abbrev pub AsksFor : List (List ℕ) → Request → Type 0
 AsksFor words r =
-    ((words ≡ words_of r.command) × (r.max ≡ LONGEST_NAME))
+    ((words ≡ words_of r.command) × (r.max ≡ 1048576))
     ⊎ ((number : List ℕ) × ((words ≡ codes "--max" ∷ number ∷ words_of r.command) × IsLimit number r.max))
 
 -- how a pattern is matched on the platform: `\` is a separator on Windows alone
@@ -38,11 +38,3 @@ abbrev pub options_of : Os → GlobOptions
 options_of Unix = record { separators = Slash; literal_leading_dot = false }
 options_of Windows = record { separators = SlashAndBackslash; literal_leading_dot = false }
 options_of Wasm = record { separators = Slash; literal_leading_dot = false }
-
--- the command can't run: its pattern is refused
-abbrev pub IsUnusable : Command → Type 0
-IsUnusable (ListAll os) = ⊥
-IsUnusable (ListMatching os pattern) = (error : GlobError) × IsFirstFault pattern.now error
-IsUnusable (Join os) = ⊥
-IsUnusable (Check os) = ⊥
-IsUnusable Help = ⊥

@@ -1,5 +1,5 @@
 -- Items of an input, each ended by a byte: names ended by NUL, lines ended by a newline.
-use Rattle.std.specs.Prelude.{◌≡◌, ◌≢◌, ◌⊎◌, ℕ, List, [], ◌∷◌, ◌++◌}
+use Rattle.std.specs.Prelude.{◌≡◌, ◌≢◌, ℕ, List, [], ◌∷◌, ◌++◌}
 use Rattle.std.specs.List.{flat_map, AllByRecursion}
 
 -- no byte ends an item
@@ -37,7 +37,3 @@ pub record IsLastUnended (end : ℕ) (entries : List Entry) (input : List ℕ) :
   pub entries_are : entries ≡ before ++ last ∷ []
   pub some : last.0 ≢ []
   pub joined : input ≡ items_of end before ++ last.0
-
--- the items of the entries are those of the input
-abbrev pub AreIn : ℕ → List Entry → List ℕ → Type 0
-AreIn end entries input = (input ≡ items_of end entries) ⊎ IsLastUnended end entries input

@@ -4,10 +4,11 @@ use Rattle.std.specs.List.{AllByRecursion}
 use Rattle.os_str_bytes.specs.Platform.{Ghosts}
 use Rattle.osbytes_commands.specs.declared.fault.Fault.TheVariants.{Memory}
 use Rattle.names_commands.specs.declared.fault.Fault.{Fault}
-use Rattle.names_commands.specs.declared.fault.Fault.TheVariants.{At, TooLong, HasNul, TooMuch, Usage, Run}
+use Rattle.names_commands.specs.declared.fault.Fault.TheVariants.{At, TooLong, HasNul, Unended, TooMuch, Usage, Pattern, Run}
+use Rattle.names_commands.specs.declared.task.Task.{Task}
 use Rattle.names_commands.specs.declared.task.Settings.{Settings}
 use Rattle.names_commands.specs.Items.{Entry, Lacks, items_of, texts_of}
-use Rattle.names_commands.specs.Task.{end_of, longest_item, IsItemFault, IsEntry}
+use Rattle.names_commands.specs.Task.{TakesUnended, end_of, longest_item, IsRefused, IsEntry}
 
 -- the bytes of the item that has begun, how many items have ended, and what was written for them
 pub record State : Type 0 where
@@ -29,14 +30,20 @@ pub record Reads {E : Type 0} (p : Ghosts E) (s : Settings) (old : State) (bytes
   pub counted : new.count ≡ old.count + length entries
   pub written : new.output ≡ old.output ++ texts_of entries
 
--- an item that is refused with this fault is whole if an end or nothing comes after it; one that is too long, or that has no memory, is refused before its end is known
-abbrev pub IsEnded : ℕ → Fault → List ℕ → Type 0
-IsEnded end (At n why) rest = (rest ≡ []) ⊎ ((more : List ℕ) × (rest ≡ end ∷ more))
-IsEnded end (TooLong n most) rest = Unit {0}
-IsEnded end (HasNul n) rest = (rest ≡ []) ⊎ ((more : List ℕ) × (rest ≡ end ∷ more))
-IsEnded end TooMuch rest = Unit {0}
-IsEnded end Usage rest = Unit {0}
-IsEnded end (Run why) rest = Unit {0}
+-- an item is whole: its end comes after it, or nothing where it may lack that
+abbrev pub IsWhole : Task → List ℕ → Type 0
+IsWhole task rest = ((rest ≡ []) × TakesUnended task) ⊎ ((more : List ℕ) × (rest ≡ end_of task ∷ more))
+
+-- what comes after an item that is refused with this fault: one that is too long, or that has no memory, is refused before its end is known
+abbrev pub IsEnded : Task → Fault → List ℕ → Type 0
+IsEnded task (At n why) rest = IsWhole task rest
+IsEnded task (TooLong n most) rest = Unit {0}
+IsEnded task (HasNul n) rest = IsWhole task rest
+IsEnded task (Unended n) rest = rest ≡ []
+IsEnded task TooMuch rest = Unit {0}
+IsEnded task Usage rest = Unit {0}
+IsEnded task (Pattern error) rest = Unit {0}
+IsEnded task (Run why) rest = Unit {0}
 
 -- among these bytes is an item with this fault, and for those before it this was written
 pub record Stops {E : Type 0} (p : Ghosts E) (s : Settings) (old : State) (bytes output : List ℕ) (fault : Fault) : Type 0 where
@@ -46,8 +53,8 @@ pub record Stops {E : Type 0} (p : Ghosts E) (s : Settings) (old : State) (bytes
   pub rest : List ℕ
   pub joined : old.begun ++ bytes ≡ items_of (end_of s.task) entries ++ (item ++ rest)
   pub whole : Lacks (end_of s.task) item
-  pub ended : IsEnded (end_of s.task) fault rest
-  pub because : IsItemFault p s (old.count + length entries + 1) item fault
+  pub ended : IsEnded s.task fault rest
+  pub because : IsRefused p s (old.count + length entries + 1) item fault
   pub written : output ≡ old.output ++ texts_of entries
 
 -- an item is too long, or memory for it was refused

@@ -5,6 +5,7 @@ ghost use Rattle.names_commands.specs.declared.command.Request.{Request};
 ghost use Rattle.names_commands.specs.Command.{words_of, AsksFor, IsLimit, options_of};
 
 use crate::fault::Fault;
+use crate::task::LastLine;
 use os_glob::{GlobOptions, Separators};
 use osbytes_commands::command::Os;
 
@@ -34,11 +35,11 @@ impl<'a> Request<'a> {
     /// use names_commands::command::{Command, Request};
     ///
     /// let mut words = Vec::new(alloc);
-    /// for word in ["--max", "255", "join", "wasm"] {
+    /// for word in ["--max", "255", "check", "wasm"] {
     ///     words.push(String::from_str(alloc, word)?)?;
     /// }
     /// let request = Request {
-    ///     command: Command::Join(Os::Wasm),
+    ///     command: Command::Check(Os::Wasm),
     ///     max: 255,
     /// };
     /// assert!(rt; Request::parse(&words) == Ok(request));
@@ -67,7 +68,7 @@ impl<'a> Request<'a> {
     fn with_default(words: &'a [String]) -> Result<Request<'a>, Fault>
         ensures command { IfOk result
             (λ request. map string_bytes words.now ≡ words_of request.command) }
-        ensures max { IfOk result (λ request. request.max ≡ LONGEST_NAME) }
+        ensures max { IfOk result (λ request. request.max ≡ 1048576) }
         ensures usage { IfErr result (λ fault. fault ≡ Fault.Usage) }
         ensures no_command { OnErr result ((command : Command)
             → map string_bytes words.now ≢ words_of command) }
@@ -99,8 +100,12 @@ pub enum Command<'a> {
     ListAll(Os),
     /// `list` with a pattern: the same for the names that the pattern matches.
     ListMatching(Os, &'a str),
-    /// `join`: reads what `list` writes, and writes the names, each ended by NUL.
-    Join(Os),
+    /// `filter`: reads names, each ended by NUL, and writes those that the pattern matches, each
+    /// ended by NUL.
+    Filter(Os, &'a str),
+    /// `join`: reads what `list` writes, and writes the names, each ended by NUL. With
+    /// `--unterminated` the last line may lack its newline.
+    Join(Os, LastLine),
     /// `check`: reads names, each ended by NUL, and writes nothing.
     Check(Os),
     /// `--help`: writes what the commands are.
@@ -141,15 +146,20 @@ impl<'a> Command<'a> {
                 let os = Os::named(os.as_str()).ok_or(Fault::Usage)?;
                 match name.as_str() {
                     "list" => Ok(Command::ListAll(os)),
-                    "join" => Ok(Command::Join(os)),
+                    "join" => Ok(Command::Join(os, LastLine::MustEnd)),
                     "check" => Ok(Command::Check(os)),
                     _ => Err(Fault::Usage),
                 }
             }
-            [name, os, pattern] => {
+            [name, os, word] => {
                 let os = Os::named(os.as_str()).ok_or(Fault::Usage)?;
                 match name.as_str() {
-                    "list" => Ok(Command::ListMatching(os, pattern.as_str())),
+                    "list" => Ok(Command::ListMatching(os, word.as_str())),
+                    "filter" => Ok(Command::Filter(os, word.as_str())),
+                    "join" => match word.as_str() {
+                        "--unterminated" => Ok(Command::Join(os, LastLine::MayLackEnd)),
+                        _ => Err(Fault::Usage),
+                    },
                     _ => Err(Fault::Usage),
                 }
             }

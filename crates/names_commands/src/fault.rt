@@ -1,7 +1,9 @@
 //! What keeps the program from its output.
 ghost use Rattle.std.specs.Fmt.{WritesStyledOnOk};
-ghost use Rattle.names_commands.specs.Fault.{place_text};
+ghost use Rattle.std.specs.Prelude.{◌≡◌};
+ghost use Rattle.names_commands.specs.Fault.{place_text, pattern_text, kind_text};
 
+use os_glob::{GlobError, GlobErrorKind};
 use osbytes_commands::ended::ProgramFault;
 use osbytes_commands::fault::{Fault as Reason, write_number};
 use std::fmt;
@@ -19,10 +21,14 @@ pub enum Fault {
     /// The line with this number, counted from 1, is the escape of a string with a NUL, which would
     /// end the name.
     HasNul(u64),
+    /// The line with this number, counted from 1, is the last, and no newline ends it.
+    Unended(u64),
     /// The input has 2^64 bytes or more.
     TooMuch,
     /// The words ask for no command.
     Usage,
+    /// The pattern is refused: its first fault.
+    Pattern(GlobError),
     /// What keeps the program from going on, whatever the items are: a request for memory was
     /// refused, a read failed or a write did.
     Run(Reason),
@@ -52,10 +58,15 @@ impl fmt::Display for Fault {
                 write_place(number, f)?;
                 f.write_str("the name has a NUL")
             }
+            Fault::Unended(number) => {
+                write_place(number, f)?;
+                f.write_str("no newline ends the line")
+            }
             Fault::TooMuch => f.write_str("2^64 bytes of input or more"),
             Fault::Usage => f.write_str(
-                "usage: names [--max N] list|join|check unix|windows|wasm [GLOB]; names --help tells more",
+                "usage: names [--max N] list|filter|join|check unix|windows|wasm [GLOB]; names --help tells more",
             ),
+            Fault::Pattern(error) => write_pattern(error, f),
             Fault::Run(why) => why.fmt(f),
         }
     }
@@ -90,8 +101,12 @@ impl ProgramFault for Fault {
     /// ```
     fn status(&self) -> u8 {
         match self {
-            Fault::At(_, _) | Fault::TooLong(_, _) | Fault::HasNul(_) | Fault::TooMuch => 1,
-            Fault::Usage => 2,
+            Fault::At(_, _)
+            | Fault::TooLong(_, _)
+            | Fault::HasNul(_)
+            | Fault::Unended(_)
+            | Fault::TooMuch => 1,
+            Fault::Usage | Fault::Pattern(_) => 2,
             Fault::Run(why) => why.status(),
         }
     }
@@ -104,4 +119,25 @@ fn write_place<W: fmt::Write>(number: u64, f: &mut fmt::Formatter<W>) -> fmt::Re
     f.write_str("name ")?;
     write_number(number as usize, f)?;
     f.write_str(": ")
+}
+
+/// Writes why a pattern is refused, and where.
+fn write_pattern<W: fmt::Write>(error: GlobError, f: &mut fmt::Formatter<W>) -> fmt::Result
+    ensures { WritesStyledOnOk W.write_str_gives f.old result (pattern_text error) f.new }
+{
+    f.write_str("pattern: ")?;
+    f.write_str(kind_text(error.kind))?;
+    f.write_str(" at byte ")?;
+    write_number(error.index, f)
+}
+
+/// What is wrong with a pattern, in words.
+fn kind_text(kind: GlobErrorKind) -> &'static str
+    ensures { result.now ≡ kind_text kind }
+{
+    match kind {
+        GlobErrorKind::UnclosedClass => "no ] ends the class",
+        GlobErrorKind::ReversedRange => "the range is reversed",
+        GlobErrorKind::DanglingEscape => "nothing follows the \\",
+    }
 }

@@ -1,11 +1,12 @@
 //! What is written for one item.
-ghost use Rattle.std.specs.Prelude.{◌≡◌, ◌≤◌, ◌++◌, ◌∷◌, [], length, ℕ, List, OnOk, OnErr, IfOk, IfErr};
+ghost use Rattle.std.specs.Prelude.{◌≡◌, ◌≤◌, ◌*◌, ◌++◌, ◌∷◌, [], length, ℕ, List, OnOk, OnErr, IfOk, IfErr};
 ghost use Rattle.os_str_bytes.specs.Strings.{bytes};
 ghost use Rattle.os_quote.specs.Escape.{IsLineEscape};
 ghost use Rattle.os_str_bytes.specs.EncodingError.{EncodingError};
 ghost use Rattle.osbytes_commands.specs.declared.fault.Fault.TheVariants.{Refused, Memory};
 ghost use Rattle.names_commands.specs.declared.fault.Fault.TheVariants.{At, Run};
 ghost use Rattle.names_commands.specs.declared.task.Task.TheVariants.{Join};
+ghost use Rattle.names_commands.specs.declared.task.LastLine.{LastLine};
 ghost use Rattle.names_commands.specs.Task.{longest_item, IsText, IsItemFault};
 
 use crate::fault::Fault;
@@ -49,11 +50,21 @@ pub fn write_item<E: Platform, A: Allocator + Copy>(
             }
             Err(fault) => Err(fault),
         },
+        Task::Filter(options, glob) => match named::<E>(number, item) {
+            Ok(name) => {
+                if glob.is_match(options, name) {
+                    push_ended(item, 0, output)
+                } else {
+                    Ok(())
+                }
+            }
+            Err(fault) => Err(fault),
+        },
         Task::Check => match named::<E>(number, item) {
             Ok(_) => Ok(()),
             Err(fault) => Err(fault),
         },
-        Task::Join => write_name::<E, A>(alloc, settings.max, number, item, output),
+        Task::Join(_) => write_name::<E, A>(alloc, settings.max, number, item, output),
     }
 }
 
@@ -99,12 +110,12 @@ fn write_name<E: Platform, A: Allocator>(
     line: &[u8],
     output: &mut Vec<u8, A>,
 ) -> Result<(), Fault>
-    requires { length line.now ≤ longest_item (record { task = Join; max = max }) }
+    requires { length line.now ≤ 6 * max }
     ensures ok { OnOk result ((text : List ℕ)
-        × (IsText ⟦<E as Platform>⟧ Join max line.now text
+        × (((last : LastLine) → IsText ⟦<E as Platform>⟧ (Join last) max line.now text)
         × (output.new.items ≡ output.old.items ++ text))) }
-    ensures fault { IfErr result (λ fault. IsItemFault ⟦<E as Platform>⟧
-        (record { task = Join; max = max }) number line.now fault) }
+    ensures fault { IfErr result (λ fault. (last : LastLine) → IsItemFault ⟦<E as Platform>⟧
+        (record { task = Join last; max = max }) number line.now fault) }
     ensures unchanged { OnErr result (output.new.items ≡ output.old.items) }
 {
     if line.len() <= max && is_plain(line) {

@@ -1,17 +1,25 @@
 //! Laws of lists of names. Each is the contract of a function that does nothing.
-ghost use Rattle.std.specs.Prelude.{ℕ, List};
-ghost use Rattle.names_commands.specs.Back.{listing, joining, IsCompleted};
+ghost use Rattle.std.specs.Prelude.{◌≡◌, ◌++◌, ℕ, List};
+ghost use Rattle.names_commands.specs.Back.{listing, joining, AreFirst, IsCompleted};
 ghost use Rattle.names_commands.specs.Run.{IsOutput};
+ghost use Rattle.names_commands.specs.declared.task.LastLine.{LastLine};
+ghost use Rattle.names_commands.specs.declared.task.LastLine.TheVariants.{MustEnd};
 
 use os_str_bytes::Platform;
 
 /// `join` gives back the names of which `list` wrote the lines, with the NUL that the last may lack:
 /// with the same limit it refuses none of the lines, and with another it gives back nothing else.
+/// Where the lines were cut off, it gives back some of the first names, each of them whole, or
+/// refuses them, unless it is told that the last line may lack its newline.
 pub fn names_come_back<E: Platform>()
-    ensures some { (max : ℕ) → (names : List ℕ) → (lines : List ℕ)
+    ensures some { (last : LastLine) → (max : ℕ) → (names : List ℕ) → (lines : List ℕ)
         → IsOutput ⟦<E as Platform>⟧ (listing max) names lines → (back : List ℕ)
-        × (IsOutput ⟦<E as Platform>⟧ (joining max) lines back × IsCompleted names back) }
-    ensures same { (max : ℕ) → (other : ℕ) → (names : List ℕ) → (lines : List ℕ)
+        × (IsOutput ⟦<E as Platform>⟧ (joining last max) lines back × IsCompleted names back) }
+    ensures same { (last : LastLine) → (max : ℕ) → (other : ℕ) → (names : List ℕ) → (lines : List ℕ)
         → (back : List ℕ) → IsOutput ⟦<E as Platform>⟧ (listing max) names lines
-        → IsOutput ⟦<E as Platform>⟧ (joining other) lines back → IsCompleted names back }
+        → IsOutput ⟦<E as Platform>⟧ (joining last other) lines back → IsCompleted names back }
+    ensures cut { (max : ℕ) → (other : ℕ) → (names : List ℕ) → (lines : List ℕ)
+        → (front : List ℕ) → (rest : List ℕ) → (back : List ℕ)
+        → IsOutput ⟦<E as Platform>⟧ (listing max) names lines → lines ≡ front ++ rest
+        → IsOutput ⟦<E as Platform>⟧ (joining MustEnd other) front back → AreFirst names back }
 {}

@@ -2,7 +2,8 @@
 //! item.
 //!
 //! An item is a name, ended by NUL, or a line that is the escape of a name
-//! ([`os_quote::escape_line`]); the last may lack its end, and one may be empty. Words are a
+//! ([`os_quote::escape_line`]); one may be empty. The last name may lack its end, and a last line where
+//! that was asked for ([`task::LastLine`]). Words are a
 //! command ([`Command::parse`](command::Command::parse)). A run reads a block at a time, and writes
 //! what the items that end in it become ([`run::run`]), so it keeps one item and what a block
 //! becomes. Where it ends early, the text of a [`Fault`](fault::Fault) says why, and with the number

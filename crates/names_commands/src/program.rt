@@ -30,10 +30,10 @@ use std::io::{ErrorKind, Read, Write};
 /// The program with these arguments over these ends.
 ///
 /// The arguments begin with the program's name. Those after it are the words of a command
-/// ([`Request::parse`]), which is run as [`run`] says. Where no command that can run has them, where
-/// the arguments couldn't be had, or where the run fails, the fault's message goes to `errors`, or
-/// where not all of it is taken a beginning of it, and nothing else does. Nothing goes there where
-/// nobody reads the output any more ([`Marked::closed`]). Both marks must be unset
+/// ([`Request::parse`]), which is run as [`run`] says. Where no command has them, where its pattern is
+/// refused, where the arguments couldn't be had, or where the run fails, the fault's message goes to
+/// `errors`, or where not all of it is taken a beginning of it, and nothing else does. Nothing goes there
+/// where nobody reads the output any more ([`Marked::closed`]). Both marks must be unset
 /// ([`Marked::failed`] tells).
 ///
 /// ```
@@ -150,14 +150,21 @@ fn run_command<A: Allocator, R: Read, W: Write>(
                 let task = Task::ListMatching(options_of(os), &glob);
                 run_on(alloc, os, Settings { task, max }, reader, writer)
             }
-            Err(_) => Err(Fault::Usage),
+            Err(error) => Err(Fault::Pattern(error)),
         },
-        Command::Join(os) => {
+        Command::Filter(os, pattern) => match Glob::new(pattern) {
+            Ok(glob) => {
+                let task = Task::Filter(options_of(os), &glob);
+                run_on(alloc, os, Settings { task, max }, reader, writer)
+            }
+            Err(error) => Err(Fault::Pattern(error)),
+        },
+        Command::Join(os, last) => {
             run_on(
                 alloc,
                 os,
                 Settings {
-                    task: Task::Join,
+                    task: Task::Join(last),
                     max,
                 },
                 reader,
@@ -213,6 +220,6 @@ fn write_help<W: Write>(writer: &mut Marked<W>) -> Result<(), Fault>
 {
     write_output(
         writer,
-        "names: lists of file names, escaped one a line, and back\n\nnames list  unix|windows|wasm [GLOB]  names ended by NUL in, the escape of each out, one a line;\n                                      with GLOB of those that it matches\nnames join  unix|windows|wasm         such lines in, names ended by NUL out\nnames check unix|windows|wasm         names ended by NUL in, nothing out: the status tells\nnames --help                          this text\nnames --max N ..                      one of these, for names of at most N bytes, not 1048576\n\nThe last name or line may lack its end. A line has at most six times as many bytes as a name.\nStatus: 0, or 1 where a name or line is refused, 2 for other words, 3 where memory is refused,\n4 where a read or write fails. The first refused name is told with its number, from 1.\n".as_bytes(),
+        "names: lists of file names, escaped one a line, and back\n\nnames list   unix|windows|wasm [GLOB]  names ended by NUL in, the escape of each out, one a line;\n                                       with GLOB of those that it matches\nnames filter unix|windows|wasm GLOB    names ended by NUL in, those that GLOB matches out, ended by NUL\nnames join   unix|windows|wasm         such lines in, names ended by NUL out\nnames join   .. --unterminated         the same, where the last line may lack its newline\nnames check  unix|windows|wasm         names ended by NUL in, nothing out: the status tells\nnames --help                           this text\nnames --max N ..                       one of these, for names of at most N bytes, not 1048576\n\nThe last name may lack its NUL. A last line without its newline is refused, since a list that was\ncut off ends with one. A line has at most six times as many bytes as a name.\n\nGLOB matches a whole name, ./ and folders too. * is any run of symbols without a separator, ** any run,\n? one symbol that is no separator, [a-z] one of these and [!a-z] one of the others, also no separator;\n\\ quotes the character after it, other characters are themselves. The separator is /. On windows \\ is\none as well: / in GLOB matches both, and \\ in GLOB still quotes. So **.rs matches ./src/a.rs, *.rs doesn't.\n\nStatus: 0, or 1 where a name or line is refused, 2 for other words or a GLOB that is refused, 3 where\nmemory is refused, 4 where a read or write fails. The first refused name is told with its number,\nfrom 1.\n".as_bytes(),
     )
 }

@@ -5,8 +5,8 @@ ghost use Rattle.osbytes_commands.specs.declared.fault.Fault.{Fault as Reason};
 ghost use Rattle.names_commands.specs.declared.fault.Fault.{Fault};
 ghost use Rattle.osbytes_commands.specs.Marked.{marked_inner, has_failed};
 ghost use Rattle.osbytes_commands.specs.Written.{AppendsBeginning};
-ghost use Rattle.names_commands.specs.Task.{IsItemFault};
-ghost use Rattle.names_commands.specs.Reading.{HasBegun, Reads, Stops, Begins};
+ghost use Rattle.names_commands.specs.Task.{IsRefused};
+ghost use Rattle.names_commands.specs.Reading.{HasBegun, IsEnded, Reads, Stops, Begins};
 ghost use Rattle.names_commands.specs.Run.{WritesOutput, WritesUpTo, WritesBeginning, Finishes, IsLast};
 
 use crate::fault::Fault;
@@ -26,16 +26,19 @@ const BLOCK: usize = 16384;
 /// Reads all items that the reader has, and writes what each becomes, block by block. Both marks must
 /// be unset ([`Marked::failed`] tells).
 ///
-/// The last item may lack its end: names `a`, NUL, `b` are two. After each block all of its output
+/// The last name may lack its NUL: names `a`, NUL, `b` are two. The last line may lack its newline
+/// where [`LastLine`](crate::task::LastLine) says so. After each block all of its output
 /// is written and flushed. What is kept is the item that has begun, and the output of a block.
 ///
 /// # Errors
 ///
-/// [`Fault::At`], [`Fault::TooLong`] and [`Fault::HasNul`] for the first item that is refused, with
-/// exactly the output for the items before it written. [`Fault::Run`] with `Read` exactly where a
+/// [`Fault::At`], [`Fault::TooLong`] and [`Fault::HasNul`] for the first item that is refused, and
+/// [`Fault::Unended`] for a last line that must have its end and lacks it, with exactly the output
+/// for the items before it written. [`Fault::Run`] with `Read` exactly where a
 /// read failed, with `Write` exactly where a write or a flush did, and with `Memory` where memory
-/// was refused; [`Fault::TooMuch`] for an input of 2^64 - 1 bytes or more. Then the output for the
-/// items of a beginning of the input is written, or before `Write` a beginning of that.
+/// was refused; [`Fault::TooMuch`] for an input of 2^64 - 1 bytes or more. Then the output for some
+/// of the first items is written, each of which has its end, or before `Write` a beginning of that or
+/// of all the output.
 ///
 /// ```
 /// use osbytes_commands::marked::Marked;
@@ -158,7 +161,8 @@ fn finish<E: Platform, A: Allocator + Copy, W: Write>(
         × Appends (W.contents (marked_inner writer.old)) (W.contents (marked_inner writer.new))
         text)) }
     ensures stopped { IfErr result (λ fault. fault ≢ Fault.Run Reason.Write
-        → IsItemFault ⟦<E as Platform>⟧ settings.entry (count + 1) begun.now fault) }
+        → IsRefused ⟦<E as Platform>⟧ settings.entry (count + 1) begun.now fault) }
+    ensures ended { IfErr result (λ fault. IsEnded settings.entry.task fault []) }
     ensures unchanged { IfErr result (λ fault. fault ≢ Fault.Run Reason.Write
         → writer.new ≡ writer.old) }
     ensures beginning { result ≡ Err (Fault.Run Reason.Write) → (text : List ℕ)
@@ -170,6 +174,9 @@ fn finish<E: Platform, A: Allocator + Copy, W: Write>(
 {
     if begun.is_empty() {
         return Ok(());
+    }
+    if !settings.task.takes_unended() {
+        return Err(Fault::Unended(count + 1));
     }
     let mut output = Vec::new(alloc);
     match write_item::<E, A>(alloc, settings, count + 1, begun, &mut output) {

@@ -1,8 +1,17 @@
 //! What is done with the items of the input.
-ghost use Rattle.std.specs.Prelude.{◌≡◌, ◌-◌, ◌^◌, min};
-ghost use Rattle.names_commands.specs.Task.{end_of, longest_item};
+ghost use Rattle.std.specs.Prelude.{◌≡◌, ◌↔◌, ◌-◌, ◌^◌, IsTrue, min};
+ghost use Rattle.names_commands.specs.Task.{TakesUnended, end_of, longest_item};
 
 use os_glob::{Glob, GlobOptions};
+
+/// Whether the last line of the input may lack its newline.
+#[derive(Clone, Copy, PartialEq, Eq)]
+pub enum LastLine {
+    /// A last line without its newline is refused: a list that was cut off ends with such a line.
+    MustEnd,
+    /// It is read as any other line.
+    MayLackEnd,
+}
 
 /// What is done with each item of the input.
 #[derive(Clone, Copy)]
@@ -11,10 +20,12 @@ pub enum Task<'g, 'p> {
     ListAll,
     /// The same for each name that the pattern matches, and nothing for the others.
     ListMatching(GlobOptions, &'g Glob<'p>),
+    /// Each name that the pattern matches is written with NUL, and nothing for the others.
+    Filter(GlobOptions, &'g Glob<'p>),
     /// Nothing is written.
     Check,
     /// Each line, the escape of a name, is written as that name and NUL.
-    Join,
+    Join(LastLine),
 }
 
 /// What is done with each item, and how long a name may be.
@@ -31,17 +42,18 @@ impl<'g, 'p> Settings<'g, 'p> {
     /// a line six times as many, since an escape has at most six for each byte of a name.
     ///
     /// ```
-    /// use names_commands::task::{Settings, Task};
+    /// use names_commands::task::{LastLine, Settings, Task};
     ///
-    /// let (names, lines) = (Settings { task: Task::Check, max: 255 }, Settings { task: Task::Join, max: 255 });
+    /// let names = Settings { task: Task::Check, max: 255 };
+    /// let lines = Settings { task: Task::Join(LastLine::MustEnd), max: 255 };
     /// assert!(rt; names.longest_item() == 255 && lines.longest_item() == 1530);
     /// ```
     pub fn longest_item(self) -> usize
         ensures { result ≡ min (longest_item self.entry) (2 ^ 64 - 1) }
     {
         match self.task {
-            Task::ListAll | Task::ListMatching(_, _) | Task::Check => self.max,
-            Task::Join => self.max.saturating_mul(6),
+            Task::ListAll | Task::ListMatching(_, _) | Task::Filter(_, _) | Task::Check => self.max,
+            Task::Join(_) => self.max.saturating_mul(6),
         }
     }
 }
@@ -50,16 +62,34 @@ impl<'g, 'p> Task<'g, 'p> {
     /// The byte that ends an item: NUL after a name, a newline after a line.
     ///
     /// ```
-    /// use names_commands::task::Task;
+    /// use names_commands::task::{LastLine, Task};
     ///
-    /// assert!(rt; Task::Check.end() == 0 && Task::Join.end() == b'\n');
+    /// assert!(rt; Task::Check.end() == 0 && Task::Join(LastLine::MustEnd).end() == b'\n');
     /// ```
     pub fn end(self) -> u8
         ensures { result ≡ end_of self.entry }
     {
         match self {
-            Task::ListAll | Task::ListMatching(_, _) | Task::Check => 0,
-            Task::Join => b'\n',
+            Task::ListAll | Task::ListMatching(_, _) | Task::Filter(_, _) | Task::Check => 0,
+            Task::Join(_) => b'\n',
+        }
+    }
+
+    /// Whether the last item may lack the byte that ends it: a name may, and a line where
+    /// [`LastLine`] says so.
+    ///
+    /// ```
+    /// use names_commands::task::{LastLine, Task};
+    ///
+    /// assert!(rt; Task::ListAll.takes_unended() && !Task::Join(LastLine::MustEnd).takes_unended());
+    /// ```
+    pub fn takes_unended(self) -> bool
+        ensures { IsTrue result ↔ TakesUnended self.entry }
+    {
+        match self {
+            Task::ListAll | Task::ListMatching(_, _) | Task::Filter(_, _) | Task::Check => true,
+            Task::Join(LastLine::MustEnd) => false,
+            Task::Join(LastLine::MayLackEnd) => true,
         }
     }
 }

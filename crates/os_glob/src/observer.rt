@@ -3,7 +3,8 @@
 /// Is told how many symbols a matcher looks at, as
 /// [`Glob::is_match_observed`](crate::Glob::is_match_observed) does.
 pub trait Observer {
-    /// So many symbols were looked at. A symbol that is looked at again counts again.
+    /// So many symbols were looked at, or passed over by a search. A symbol that is looked at again
+    /// counts again. No contract says how many: tests count them.
     ///
     /// ```
     /// use os_glob::{Glob, GlobOptions, Observer, Separators};

@@ -1,11 +1,11 @@
 //! The laws of every platform. Each is the contract of a function that does nothing.
-ghost use Rattle.std.specs.Prelude.{◌≡◌, ◌<◌, ◌↔◌, ℕ, List, ◌++◌, length, take, drop, IsTrue, Some};
+ghost use Rattle.std.specs.Prelude.{◌≡◌, ◌<◌, ◌↔◌, ℕ, List, ◌++◌, length, take, drop, slice_index, IsTrue, Some};
 ghost use Rattle.std.specs.Cmp.Lexicographic.{slice_cmp};
 ghost use Rattle.std.specs.Ordering.{nat_cmp};
 ghost use Rattle.std.specs.Hash as fed;
 ghost use Rattle.std.specs.List.{All, flat_map};
 ghost use Rattle.std.specs.Str.{IsUtf8, IsValidUpTo};
-ghost use Rattle.wtf8_core.specs.Byte.{IsByte};
+ghost use Rattle.wtf8_core.specs.Byte.{IsByte, IsContinuation};
 ghost use Rattle.wtf8_core.specs.Character.{WholeCharacter};
 ghost use Rattle.wtf8_core.specs.Boundary.{IsBoundary};
 ghost use Rattle.wtf8_core.specs.Covered.{StartsWithNoCharacter, HasNoCharacter};
@@ -79,6 +79,7 @@ pub fn readings<E: Platform>()
 {}
 
 /// At a boundary both parts of a string are strings, and their units, joined, are the string's.
+/// What follows is a string, too, at the index of a byte that is no continuation byte.
 pub fn cuts<E: Platform>()
     ensures cut_front { (b : List ℕ) → (i : ℕ) → E.well_formed b → IsBoundary b i
         → E.well_formed (take i b) }
@@ -86,6 +87,9 @@ pub fn cuts<E: Platform>()
         → E.well_formed (drop i b) }
     ensures cut_units { (b : List ℕ) → (i : ℕ) → E.well_formed b → IsBoundary b i
         → E.units b ≡ E.units (take i b) ++ E.units (drop i b) }
+    ensures cut_lead { (b : List ℕ) → (i : ℕ) → i < length b → E.well_formed b
+        → ¬ (IsContinuation (slice_index b i))
+        → E.well_formed (drop i b) }
 {}
 
 /// In a string without whole characters each unit has its own bytes: one byte for a unit below 100

@@ -1,5 +1,5 @@
 -- Lists of which the first name is known.
-use Rattle.std.proofs.Common.{◌≡◌, ◌≢◌, ◌⊎◌, inl, inr, ℕ, ◌+◌, ◌≤◌, List, [], ◌∷◌, ◌++◌, length, drop, get_or, refl, sym, ap, ◌∙◌, subst, arith, append_assoc, append-nil}
+use Rattle.std.proofs.Common.{◌≡◌, ◌≢◌, ◌⊎◌, ⊎_elim, inl, inr, ℕ, ◌+◌, ◌≤◌, List, [], ◌∷◌, ◌++◌, length, drop, get_or, refl, sym, ap, ◌∙◌, subst, arith, append_assoc, append-nil}
 use Rattle.std.specs.List.{AllByRecursion}
 use Rattle.os_quote.specs.Escape.{IsLineEscape}
 use Rattle.os_str_bytes.specs.EncodingError.{EncodingError}
@@ -7,10 +7,16 @@ use Rattle.os_str_bytes.specs.Platform.{Ghosts}
 use Rattle.osbytes_commands.specs.declared.fault.Fault.{Fault as Reason}
 use Rattle.osbytes_commands.specs.declared.fault.Fault.TheVariants.{Refused, Write}
 use Rattle.names_commands.specs.declared.fault.Fault.TheVariants.{At, Run}
-use Rattle.names_commands.specs.declared.task.Task.TheVariants.{Check}
-use Rattle.names_commands.specs.Back.{listing}
-use Rattle.names_commands.specs.Items.{Entry, Lacks, AreIn, items_of, texts_of}
-use Rattle.names_commands.specs.Task.{IsEntry}
+use Rattle.names_commands.specs.declared.task.LastLine.TheVariants.{MustEnd}
+use Rattle.names_commands.specs.declared.task.Settings.{Settings}
+use Rattle.names_commands.specs.declared.task.Task.{Task}
+use Rattle.names_commands.specs.declared.task.Task.TheVariants.{Check, Filter}
+use Rattle.os_glob.specs.Match.{IsMatch}
+use Rattle.os_str_bytes.specs.Symbols.{symbols_of}
+use Rattle.os_glob.specs.declared.options.GlobOptions.{GlobOptions}
+use Rattle.names_commands.specs.Back.{listing, joining}
+use Rattle.names_commands.specs.Items.{Entry, Lacks, items_of, texts_of}
+use Rattle.names_commands.specs.Task.{end_of, AreIn, IsEntry}
 use Rattle.names_commands.specs.Reading.{Stops}
 use Rattle.names_commands.specs.Run.{IsOutput, start}
 
@@ -29,20 +35,24 @@ same_first end (x ∷ a) (y ∷ b) xs ys l k e = ap (λ c. c ∷ a) (ap (λ l. g
 in_front : (end : ℕ) (item more behind : List ℕ) → ((item ++ end ∷ []) ++ more) ++ behind ≡ item ++ end ∷ (more ++ behind)
 in_front end item more behind = ap (λ x. x ++ behind) (append_assoc item (end ∷ []) more) ∙ append_assoc item (end ∷ more) behind
 
+-- bytes without an end are no items that have their ends
+not_ended : (end : ℕ) (es : List Entry) (input : List ℕ) → Lacks end input → input ≢ [] → ¬ (input ≡ items_of end es)
+not_ended end [] input l some same = some same
+not_ended end (e ∷ es) input l some same = has_end end e.0 (items_of end es) (subst (Lacks end) (same ∙ append_assoc e.0 (end ∷ []) (items_of end es)) l)
+
 -- bytes without an end are one item
-one_item : (end : ℕ) (es : List Entry) (input : List ℕ) → Lacks end input → input ≢ [] → AreIn end es input → (text : List ℕ) × (es ≡ (input, text) ∷ [])
-one_item end [] input l some (inl same) = absurd (some same)
-one_item end (e ∷ es) input l some (inl same) = absurd (has_end end e.0 (items_of end es) (subst (Lacks end) (same ∙ append_assoc e.0 (end ∷ []) (items_of end es)) l))
-one_item end es input l some (inr u) = by u.before u.last u.entries_are u.joined
+one_item : (task : Task) (es : List Entry) (input : List ℕ) → Lacks (end_of task) input → input ≢ [] → AreIn task es input → (text : List ℕ) × (es ≡ (input, text) ∷ [])
+one_item task es input l some (inl same) = absurd (not_ended (end_of task) es input l some same)
+one_item task es input l some (inr taken) = by taken.1.before taken.1.last taken.1.entries_are taken.1.joined
   where
-    by : (before : List Entry) (last : Entry) → es ≡ before ++ last ∷ [] → input ≡ items_of end before ++ last.0 → (text : List ℕ) × (es ≡ (input, text) ∷ [])
+    by : (before : List Entry) (last : Entry) → es ≡ before ++ last ∷ [] → input ≡ items_of (end_of task) before ++ last.0 → (text : List ℕ) × (es ≡ (input, text) ∷ [])
     by [] last e j = (last.1, e ∙ ap (λ x. (x, last.1) ∷ []) (sym j))
-    by (b ∷ before) last e j = absurd (has_end end b.0 (items_of end before ++ last.0) (subst (Lacks end) (j ∙ in_front end b.0 (items_of end before) last.0) l))
+    by (b ∷ before) last e j = absurd (has_end (end_of task) b.0 (items_of (end_of task) before ++ last.0) (subst (Lacks (end_of task)) (j ∙ in_front (end_of task) b.0 (items_of (end_of task) before) last.0) l))
 
 module _ {E : Type 0} (p : Ghosts E) where
   pub known_line : (max : ℕ) (name output : List ℕ) → Lacks 0 name → name ≢ [] → IsOutput p (listing max) name output → ((line : List ℕ) × (IsLineEscape p.units name line × (output ≡ line ++ 0x0A ∷ []))) × (length name ≤ max)
   known_line max name output l some o =
-      let one = one_item 0 o.entries name l some o.items in
+      let one = one_item (listing max).task o.entries name l some o.items in
       let entry = (subst (λ es. AllByRecursion (IsEntry p (listing max)) es) one.1 o.are).0 in
       let line = entry.text.1 in
       ((line.0, (line.1, o.written ∙ ap texts_of one.1 ∙ append-nil one.0 ∙ line.2)), entry.short)
@@ -51,10 +61,27 @@ module _ {E : Type 0} (p : Ghosts E) where
   pub known_fault : (max : ℕ) (name output : List ℕ) (number : ℕ) (error : EncodingError) → Lacks 0 name → Stops p (record { task = Check; max = max }) start name output (At number (Refused error)) → (number ≡ 1) × p.first_fault name error
   known_fault max name output number error l s = by s.entries s.item s.rest s.joined s.ended s.because
     where
-      by : (es : List Entry) (item rest : List ℕ) → name ≡ items_of 0 es ++ (item ++ rest) → (rest ≡ []) ⊎ ((more : List ℕ) × (rest ≡ 0 ∷ more)) → (number ≡ 0 + length es + 1) × ((length item ≤ max) × p.first_fault item error) → (number ≡ 1) × p.first_fault name error
-      by [] item rest j (inl none) f = (f.0, subst (λ x. p.first_fault x error) (sym (j ∙ ap (λ x. item ++ x) none ∙ append-nil item)) f.1.1)
+      by : (es : List Entry) (item rest : List ℕ) → name ≡ items_of 0 es ++ (item ++ rest) → ((rest ≡ []) × Unit {0}) ⊎ ((more : List ℕ) × (rest ≡ 0 ∷ more)) → (number ≡ 0 + length es + 1) × ((length item ≤ max) × p.first_fault item error) → (number ≡ 1) × p.first_fault name error
+      by [] item rest j (inl none) f = (f.0, subst (λ x. p.first_fault x error) (sym (j ∙ ap (λ x. item ++ x) none.0 ∙ append-nil item)) f.1.1)
       by [] item rest j (inr more) f = absurd (has_end 0 item more.0 (subst (Lacks 0) (j ∙ ap (λ x. item ++ x) more.1) l))
       by (e ∷ es) item rest j ended f = absurd (has_end 0 e.0 (items_of 0 es ++ (item ++ rest)) (subst (Lacks 0) (j ∙ in_front 0 e.0 (items_of 0 es) (item ++ rest)) l))
+
+  -- what is written for one name that is filtered
+  pub known_filtered : (options : GlobOptions) (glob : _) (max : ℕ) (name output : List ℕ) → Lacks 0 name → name ≢ [] → IsOutput p (record { task = Filter options glob; max = max }) name output
+      → (IsMatch options glob.now (symbols_of p.units name) × (output ≡ name ++ 0 ∷ [])) ⊎ ((¬ (IsMatch options glob.now (symbols_of p.units name))) × (output ≡ []))
+  known_filtered options glob max name output l some o =
+      let s : Settings = record { task = Filter options glob; max = max } in
+      let one = one_item s.task o.entries name l some o.items in
+      let entry = (subst (λ es. AllByRecursion (IsEntry p s) es) one.1 o.are).0 in
+      let is : output ≡ one.0 = o.written ∙ ap texts_of one.1 ∙ append-nil one.0 in
+      ⊎_elim
+      (λ yes. inl (yes.0, is ∙ yes.1))
+      (λ no. inr (no.0, is ∙ no.1))
+      entry.text.1
+
+  -- a line without its newline isn't joined
+  pub not_joined : (max : ℕ) (line output : List ℕ) → Lacks 0x0A line → line ≢ [] → ¬ (IsOutput p (joining MustEnd max) line output)
+  not_joined max line output l some o = ⊎_elim (λ same. not_ended 0x0A o.entries line l some same) (λ taken. taken.0) o.items
 
   -- the line before the second name
   pub line_before_second : (max : ℕ) (names output : List ℕ) (why : Reason) → Stops p (listing max) start names output (At 2 why) → (name rest : List ℕ) → names ≡ name ++ 0 ∷ rest → Lacks 0 name → (line : List ℕ) × (IsLineEscape p.units name line × (output ≡ line ++ 0x0A ∷ []))

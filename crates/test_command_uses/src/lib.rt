@@ -13,7 +13,10 @@ mod runs;
 mod words;
 
 pub use marks::{closed_by_a_flush, closed_by_a_write, closed_by_no_bytes, marked_by_no_bytes};
-pub use names::{check_one, known_request, line_before, line_of, names_again, request_of_two};
+pub use names::{
+    check_one, filtered, first_names_again, known_request, line_before, line_of, names_again,
+    request_of_two, unended_line,
+};
 pub use plans::{kept, refuses_first, turns};
 pub use programs::{
     after_a_fault, after_success, names_silent_where_closed, names_without_arguments,

@@ -1,12 +1,14 @@
 //! Lists of names: the words of requests, what runs write and refuse, and the way back.
-ghost use Rattle.std.specs.Prelude.{◌≡◌, ◌≢◌, ◌≤◌, ◌∷◌, ◌++◌, [], ℕ, List, false, IsOk, IfOk, IfErr, OnOk, length, map, string_bytes};
+ghost use Rattle.std.specs.Prelude.{◌≡◌, ◌≢◌, ◌≤◌, ◌∷◌, ◌++◌, ◌⊎◌, [], ℕ, List, false, IsOk, IfOk, IfErr, OnOk, length, map, string_bytes};
 ghost use Rattle.std.specs.Io.KnownBytes.{Appends};
 ghost use Rattle.os_quote.specs.Escape.{IsLineEscape};
+ghost use Rattle.os_glob.specs.Match.{IsMatch};
 ghost use Rattle.os_str_bytes.specs.EncodingError.{EncodingError};
+ghost use Rattle.os_str_bytes.specs.Symbols.{symbols_of};
 ghost use Rattle.osbytes_commands.specs.Marked.{marked_inner, has_failed};
 ghost use Rattle.osbytes_commands.specs.declared.fault.Fault.{Fault as Reason};
 ghost use Rattle.osbytes_commands.specs.declared.fault.Fault.TheVariants.{Refused, Write as WriteFault};
-ghost use Rattle.names_commands.specs.Back.{listing, IsCompleted};
+ghost use Rattle.names_commands.specs.Back.{listing, AreFirst, IsCompleted};
 ghost use Rattle.names_commands.specs.Command.{AsksFor};
 ghost use Rattle.names_commands.specs.Items.{Lacks};
 ghost use Rattle.names_commands.specs.Run.{IsOutput, StopsOn};
@@ -17,7 +19,8 @@ use names_commands::command::Request;
 use names_commands::fault::Fault;
 use names_commands::laws::names_come_back;
 use names_commands::run::run;
-use names_commands::task::{Settings, Task};
+use names_commands::task::{LastLine, Settings, Task};
+use os_glob::{Glob, GlobOptions};
 use os_str_bytes::Platform;
 use osbytes_commands::marked::Marked;
 use std::alloc::Allocator;
@@ -74,10 +77,80 @@ pub fn names_again<E: Platform, A: Allocator, W: Write>(
 {
     names_come_back::<E>();
     let settings = Settings {
-        task: Task::Join,
+        task: Task::Join(LastLine::MustEnd),
         max,
     };
     run_over::<E, A, W>(alloc, settings, lines, writer)
+}
+
+/// Joins lines that were written of names and cut off anywhere, which gives back some of the first
+/// names, each of them whole.
+pub fn first_names_again<E: Platform, A: Allocator, W: Write>(
+    alloc: A,
+    max: usize,
+    names: &[u8],
+    lines: &[u8],
+    cut: usize,
+    writer: &mut Marked<W>,
+) -> Result<(), Fault>
+    requires listed { IsOutput ⟦<E as Platform>⟧ (listing max) names.now lines.now }
+    requires within { cut ≤ length lines.now }
+    requires unmarked { has_failed writer.old ≡ false }
+    ensures { OnOk result ((back : List ℕ) × (AreFirst names.now back
+        × Appends (W.contents (marked_inner writer.old)) (W.contents (marked_inner writer.new))
+        back)) }
+{
+    names_come_back::<E>();
+    let settings = Settings {
+        task: Task::Join(LastLine::MustEnd),
+        max,
+    };
+    let (front, _rest) = lines.split_at(cut);
+    run_over::<E, A, W>(alloc, settings, front, writer)
+}
+
+/// Joins a line without its newline, which is refused.
+pub fn unended_line<E: Platform, A: Allocator, W: Write>(
+    alloc: A,
+    max: usize,
+    line: &[u8],
+    writer: &mut Marked<W>,
+) -> Result<(), Fault>
+    requires whole { Lacks 0x0A line.now }
+    requires some { line.now ≢ [] }
+    requires unmarked { has_failed writer.old ≡ false }
+    ensures { ¬ (IsOk result) }
+{
+    let settings = Settings {
+        task: Task::Join(LastLine::MustEnd),
+        max,
+    };
+    run_over::<E, A, W>(alloc, settings, line, writer)
+}
+
+/// Filters one name, which is written with NUL, or not at all.
+pub fn filtered<E: Platform, A: Allocator, W: Write>(
+    alloc: A,
+    max: usize,
+    options: GlobOptions,
+    glob: &Glob<'_>,
+    name: &[u8],
+    writer: &mut Marked<W>,
+) -> Result<(), Fault>
+    requires whole { Lacks 0 name.now }
+    requires some { name.now ≢ [] }
+    requires unmarked { has_failed writer.old ≡ false }
+    ensures { OnOk result ((text : List ℕ)
+        × (((IsMatch options glob.now (symbols_of E.units name.now) × (text ≡ name.now ++ 0 ∷ []))
+        ⊎ ((¬ (IsMatch options glob.now (symbols_of E.units name.now))) × (text ≡ [])))
+        × Appends (W.contents (marked_inner writer.old)) (W.contents (marked_inner writer.new))
+        text)) }
+{
+    let settings = Settings {
+        task: Task::Filter(options, glob),
+        max,
+    };
+    run_over::<E, A, W>(alloc, settings, name, writer)
 }
 
 /// Lists one name, which is written as its escape on a line, and not past the limit.

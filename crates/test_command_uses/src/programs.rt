@@ -121,7 +121,7 @@ pub fn names_without_arguments<P: Eprint, A: Allocator, R: Read, W: Output, E: M
     requires reader_unmarked { has_failed reader.old ≡ false }
     requires writer_unmarked { has_failed writer.old ≡ false }
     ensures told { result.0 ≡ true → Appends (E.contents errors.old) (E.contents errors.new)
-        (codes "names: usage: names [--max N] list|join|check unix|windows|wasm [GLOB]; names --help tells more\n") }
+        (codes "names: usage: names [--max N] list|filter|join|check unix|windows|wasm [GLOB]; names --help tells more\n") }
     ensures status { exit_status result.1 ≡ 2 }
 {
     let arguments = Err(io::Error::from(ErrorKind::InvalidInput));
@@ -164,13 +164,15 @@ pub fn program_names() -> (&'static str, &'static str)
     (Fault::program_name(), NamesFault::program_name())
 }
 
-/// The statuses after a bad line, and after a name that is too long.
-pub fn statuses() -> (u8, u8)
+/// The statuses after a bad line, after a name that is too long, and after a line without its end.
+pub fn statuses() -> (u8, u8, u8)
     ensures osbytes { result.0 ≡ 1 }
     ensures names { result.1 ≡ 1 }
+    ensures unended { result.2 ≡ 1 }
 {
     (
         Fault::BadLine(2).status(),
         NamesFault::TooLong(3, 255).status(),
+        NamesFault::Unended(3).status(),
     )
 }

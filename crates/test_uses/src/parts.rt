@@ -1,7 +1,8 @@
 //! Parts of strings: joined they are the string, in bytes and in units.
-ghost use Rattle.std.specs.Prelude.{◌≡◌, ◌↔◌, ◌++◌, ◌≤◌, IsOk, IsTrue, length};
+ghost use Rattle.std.specs.Prelude.{◌≡◌, ◌↔◌, ◌++◌, ◌<◌, ◌≤◌, IsOk, IsTrue, length, slice_index};
 ghost use Rattle.std.specs.Str.{IsUtf8};
 ghost use Rattle.wtf8_core.specs.Boundary.{IsBoundary};
+ghost use Rattle.wtf8_core.specs.Byte.{IsContinuation};
 ghost use Rattle.platform_str.specs.Strings.{bytes};
 
 use os_str_ext::OsStrBytesExt;
@@ -73,6 +74,20 @@ pub fn part_is_accepted<'a, E: Platform + 'a>(
     laws::faults::<E>();
     let (front, _) = string.split_at(at);
     E::check(front.as_encoded_bytes())
+}
+
+/// Whether what follows in a string is accepted as raw bytes, from the index of a byte on that is no
+/// continuation byte: it always is.
+pub fn rest_is_accepted<E: Platform>(raw: &[u8], at: usize) -> Result<(), EncodingError>
+    requires string { E.well_formed raw.now }
+    requires within { at < length raw.now }
+    requires first { ¬ (IsContinuation (slice_index raw.now at)) }
+    ensures { IsOk result }
+{
+    laws::cuts::<E>();
+    laws::faults::<E>();
+    let (_, rest) = raw.split_at(at);
+    E::check(rest)
 }
 
 /// The strings before and after a boundary of well-formed bytes.

@@ -1,10 +1,11 @@
 //! Checks of bytes.
-ghost use Rattle.std.specs.Prelude.{◌≡◌, ◌++◌, ◌↔◌, IsOk, MatchResult};
+ghost use Rattle.std.specs.Prelude.{◌≡◌, ◌++◌, ◌↔◌, IfOk, IsOk, MatchResult};
+ghost use Rattle.platform_str.specs.Strings.{bytes};
 ghost use Rattle.wtf8_core.specs.declared.fault.EncodingError.{EncodingError};
 ghost use Rattle.wtf8_core.specs.Checker.{HasFirstFault};
 ghost use Rattle.wtf8_core.specs.Wtf8.{IsWtf8};
 
-use platform_str::{EncodingError, OsString, OsStringBytes, Platform, Windows};
+use platform_str::{EncodingError, OsStr, OsString, OsStringBytes, Platform, Windows};
 use std::alloc::{AllocError, Allocator};
 use wtf8_core::{Checker, laws};
 
@@ -27,6 +28,13 @@ pub fn check_windows(raw: &[u8]) -> Result<(), EncodingError>
         (λ fault. ⟦<Windows as Platform>⟧.first_fault raw.now fault) }
 {
     Windows::check(raw)
+}
+
+/// Bytes as a Windows string.
+pub fn from_raw_bytes(raw: &[u8]) -> Result<OsStr<'_, Windows>, EncodingError>
+    ensures { IfOk result (λ string. bytes string ≡ raw.now) }
+{
+    OsStr::checked(raw)
 }
 
 /// A vector as a string, without memory.

@@ -4,15 +4,16 @@ ghost use Rattle.os_quote.specs.Escape.{IsEscape};
 ghost use Rattle.platform_str.specs.Strings.{string_vec_of};
 
 use os_quote::QuoteError;
-use platform_str::{OsString, Platform};
+use platform_str::{OsString, Platform, Unix};
 use std::alloc::Allocator;
 
-/// The string of an escape.
-pub fn unescape<E: Platform, A: Allocator + Copy>(
+/// The Unix string of an escape.
+pub fn unescape_unix<A: Allocator + Copy>(
     alloc: A,
     text: &str,
-) -> Result<OsString<E, A>, QuoteError>
-    ensures { IfOk result (λ string. IsEscape E.units (string_vec_of string).items text.now) }
+) -> Result<OsString<Unix, A>, QuoteError>
+    ensures { IfOk result (λ string.
+        IsEscape ⟦<Unix as Platform>⟧.units (string_vec_of string).items text.now) }
 {
     os_quote::unescape(alloc, text)
 }

@@ -3,7 +3,7 @@ ghost use Rattle.std.specs.Prelude.{IfOk};
 ghost use Rattle.platform_str.specs.Lossy.{IsIoLossy};
 ghost use Rattle.platform_str.specs.Strings.{string_vec_of};
 
-use platform_str::{OsString, OsStringBytes, Platform};
+use platform_str::{OsString, OsStringBytes, Platform, Windows};
 use std::alloc::{AllocError, Allocator};
 
 /// A string as its lossy text, in its memory.
@@ -13,9 +13,9 @@ pub fn into_lossy<E: Platform, A: Allocator>(string: OsString<E, A>) -> Vec<u8, 
     string.into_io_vec_lossy()
 }
 
-/// The lossy reading of any bytes.
-pub fn read_lossy<E: Platform, A: Allocator>(alloc: A, raw: &[u8]) -> Result<Vec<u8, A>, AllocError>
-    ensures { IfOk result (λ reading. E.reads_as raw.now reading.items) }
+/// The lossy reading of any bytes on Windows.
+pub fn read_windows_lossy<A: Allocator>(alloc: A, raw: &[u8]) -> Result<Vec<u8, A>, AllocError>
+    ensures { IfOk result (λ reading. ⟦<Windows as Platform>⟧.reads_as raw.now reading.items) }
 {
-    E::read_lossy(alloc, raw)
+    Windows::read_lossy(alloc, raw)
 }

@@ -1,12 +1,16 @@
 -- What `join` makes of the lines that `list` makes of names.
-use Rattle.std.proofs.Common.{◌≡◌, ◌≢◌, ◌⊎◌, ⊎_elim, inl, inr, ℕ, ◌+◌, ◌*◌, ◌≤◌, List, [], ◌∷◌, ◌++◌, length, drop, get_or, refl, sym, ap, ◌∙◌, subst, arith, append_assoc, append-nil, length-append}
+use Rattle.std.proofs.Common.{◌≡◌, ◌≢◌, ⊎_elim, inl, inr, ℕ, ◌*◌, ◌≤◌, List, [], ◌∷◌, ◌++◌, length, drop, get_or, refl, sym, ap, ◌∙◌, subst, arith, append_assoc, append-nil, length-append}
+use Rattle.std.proofs.lemmas.Grind.{flat_map-append}
 use Rattle.std.specs.List.{AllByRecursion}
 use Rattle.os_str_bytes.specs.Platform.{Ghosts}
 use Rattle.os_quote.specs.Escape.{IsLineEscape}
-use Rattle.names_commands.specs.Items.{Entry, Lacks, AreIn, IsLastUnended, items_of, texts_of}
-use Rattle.names_commands.specs.Task.{IsEntry}
+use Rattle.names_commands.specs.Items.{Entry, Lacks, IsLastUnended, ended, items_of, texts_of}
+use Rattle.names_commands.specs.declared.task.LastLine.{LastLine}
+use Rattle.names_commands.specs.declared.task.LastLine.TheVariants.{MustEnd}
+use Rattle.names_commands.specs.declared.task.Task.TheVariants.{ListAll, Join}
+use Rattle.names_commands.specs.Task.{TakesUnended, AreIn, IsEntry}
 use Rattle.names_commands.specs.Run.{IsOutput}
-use Rattle.names_commands.specs.Back.{listing, joining, EndsWithNul, IsCompleted}
+use Rattle.names_commands.specs.Back.{listing, joining, AreFirst, EndsWithNul, IsCompleted}
 use Rattle.names_commands.proofs.lemmas.Items.{end_in}
 use Rattle.names_commands.proofs.lemmas.Lines.{AreLines}
 use Rattle.names_commands.proofs.lemmas.Reading.{more_items}
@@ -55,9 +59,10 @@ ends (e ∷ es) = ⊎_elim
     (ends es)
 
 -- the names with their ends are the input with the end that the last may lack
-completed : (es : List Entry) (names : List ℕ) → AllByRecursion (λ e. Lacks 0 e.0) es → AreIn 0 es names → IsCompleted names (items_of 0 es)
+completed : (es : List Entry) (names : List ℕ) → AllByRecursion (λ e. Lacks 0 e.0) es → AreIn ListAll es names → IsCompleted names (items_of 0 es)
 completed es names l (inl same) = inl (subst EndsWithNul (sym same) (ends es), sym same)
-completed es names l (inr u) =
+completed es names l (inr last) =
+    let u = last.1 in
     let lacks : Lacks 0 u.last.0 = (all_behind (λ e. Lacks 0 e.0) u.before (u.last ∷ []) (subst (AllByRecursion (λ e. Lacks 0 e.0)) u.entries_are l)).0 in
     inr (
       ⊎_elim
@@ -70,16 +75,16 @@ completed es names l (inr u) =
     )
 
 -- all names, each with the line that was joined and what it gave back
-pub record GivesBack {E : Type 0} (p : Ghosts E) (max : ℕ) (es : List Entry) : Type 0 where
+pub record GivesBack {E : Type 0} (p : Ghosts E) (last : LastLine) (max : ℕ) (es : List Entry) : Type 0 where
   pub entries : List Entry
-  pub are : AllByRecursion (IsEntry p (joining max)) entries
+  pub are : AllByRecursion (IsEntry p (joining last max)) entries
   pub lines : texts_of es ≡ items_of 0x0A entries
   pub names : texts_of entries ≡ items_of 0 es
 
 module _ {E : Type 0} (p : Ghosts E) (law : AreLines p) where
   -- one name
-  joined : (max : ℕ) (e : Entry) (l : IsEntry p (listing max) e) → IsEntry p (joining max) (l.text.1.0, e.0 ++ 0 ∷ [])
-  joined max e l =
+  joined : (last : LastLine) (max : ℕ) (e : Entry) (l : IsEntry p (listing max) e) → IsEntry p (joining last max) (l.text.1.0, e.0 ++ 0 ∷ [])
+  joined last max e l =
       let formed = l.text.0 in
       let line = l.text.1 in
       let few : length line.0 ≤ 6 * length e.0 = law.short e.0 line.0 formed line.1 in
@@ -90,13 +95,13 @@ module _ {E : Type 0} (p : Ghosts E) (law : AreLines p) where
         text = (e.0, record { formed = formed; escape = line.1; short = l.short }, (l.whole, refl));
       }
 
-  all_joined : (max : ℕ) (es : List Entry) → AllByRecursion (IsEntry p (listing max)) es → GivesBack p max es
-  all_joined max [] a = record { entries = []; are = tt; lines = refl; names = refl }
-  all_joined max (e ∷ es) a =
+  all_joined : (last : LastLine) (max : ℕ) (es : List Entry) → AllByRecursion (IsEntry p (listing max)) es → GivesBack p last max es
+  all_joined last max [] a = record { entries = []; are = tt; lines = refl; names = refl }
+  all_joined last max (e ∷ es) a =
       let line = a.0.text.1 in
-      let rest = all_joined max es a.1 in record {
+      let rest = all_joined last max es a.1 in record {
         entries = (line.0, e.0 ++ 0 ∷ []) ∷ rest.entries;
-        are = (joined max e a.0, rest.are);
+        are = (joined last max e a.0, rest.are);
         lines = ap (λ x. x ++ texts_of es) line.2 ∙ ap (λ x. (line.0 ++ 0x0A ∷ []) ++ x) rest.lines;
         names = ap (λ x. (e.0 ++ 0 ∷ []) ++ x) rest.names;
       }
@@ -105,9 +110,9 @@ module _ {E : Type 0} (p : Ghosts E) (law : AreLines p) where
   whole_names max [] a = tt
   whole_names max (e ∷ es) a = (a.0.whole, whole_names max es a.1)
 
-  pub some_back : (max : ℕ) (names lines : List ℕ) → IsOutput p (listing max) names lines → (back : List ℕ) × (IsOutput p (joining max) lines back × IsCompleted names back)
-  some_back max names lines o =
-      let r = all_joined max o.entries o.are in (
+  pub some_back : (last : LastLine) (max : ℕ) (names lines : List ℕ) → IsOutput p (listing max) names lines → (back : List ℕ) × (IsOutput p (joining last max) lines back × IsCompleted names back)
+  some_back last max names lines o =
+      let r = all_joined last max o.entries o.are in (
         items_of 0 o.entries,
         (
           record { entries = r.entries; are = r.are; items = inl (o.written ∙ r.lines); written = sym r.names },
@@ -135,27 +140,69 @@ module _ {E : Type 0} (p : Ghosts E) (law : AreLines p) where
       let cut = cut_line max e (texts_of es) d.0 (items_of 0x0A before ++ last) a.0 b.0 (q ∙ append_assoc (d.0 ++ 0x0A ∷ []) (items_of 0x0A before) last) in
       no_last max es before last a.1 b.1 some l cut.1
 
-  whole_lines : (max : ℕ) (es : List Entry) → AllByRecursion (IsEntry p (joining max)) es → AllByRecursion (λ e. Lacks 0x0A e.0) es
-  whole_lines max [] a = tt
-  whole_lines max (e ∷ es) a = (a.0.whole, whole_lines max es a.1)
+  whole_lines : (last : LastLine) (max : ℕ) (es : List Entry) → AllByRecursion (IsEntry p (joining last max)) es → AllByRecursion (λ e. Lacks 0x0A e.0) es
+  whole_lines last max [] a = tt
+  whole_lines last max (e ∷ es) a = (a.0.whole, whole_lines last max es a.1)
 
-  back_of : (max other : ℕ) (es fs : List Entry) → AllByRecursion (IsEntry p (listing max)) es → AllByRecursion (IsEntry p (joining other)) fs → texts_of es ≡ items_of 0x0A fs → texts_of fs ≡ items_of 0 es
-  back_of max other [] [] a b q = refl
-  back_of max other [] (f ∷ fs) a b q = absurd (omega (arith, ap length q, length-append (f.0 ++ 0x0A ∷ []) (items_of 0x0A fs), length-append f.0 (0x0A ∷ [])))
-  back_of max other (e ∷ es) [] a b q = absurd (omega (arith, ap length (sym (first_line max e (texts_of es) a.0) ∙ q), length-append a.0.text.1.0 (0x0A ∷ texts_of es)))
-  back_of max other (e ∷ es) (f ∷ fs) a b q =
-      let cut = cut_line max e (texts_of es) f.0 (items_of 0x0A fs) a.0 b.0.whole q in
+  -- some of the first names, of which some of the first lines were joined, and the others
+  record AreJoined (es : List Entry) (rest texts : List ℕ) : Type 0 where
+    some : List Entry
+    others : List Entry
+    cut : es ≡ some ++ others
+    names : texts ≡ items_of 0 some
+    left : texts_of others ≡ rest
+
+  first_back : (last : LastLine) (max other : ℕ) (es fs : List Entry) (rest : List ℕ) → AllByRecursion (IsEntry p (listing max)) es → AllByRecursion (IsEntry p (joining last other)) fs → texts_of es ≡ items_of 0x0A fs ++ rest → AreJoined es rest (texts_of fs)
+  first_back last max other es [] rest a b q = record { some = []; others = es; cut = refl; names = refl; left = q }
+  first_back last max other [] (f ∷ fs) rest a b q = absurd (omega (arith, ap length q, length-append ((f.0 ++ 0x0A ∷ []) ++ items_of 0x0A fs) rest, length-append (f.0 ++ 0x0A ∷ []) (items_of 0x0A fs), length-append f.0 (0x0A ∷ [])))
+  first_back last max other (e ∷ es) (f ∷ fs) rest a b q =
+      let cut = cut_line max e (texts_of es) f.0 (items_of 0x0A fs ++ rest) a.0 b.0.whole (q ∙ append_assoc (f.0 ++ 0x0A ∷ []) (items_of 0x0A fs) rest) in
       let name = b.0.text in
       let same = law.one_string name.0 e.0 f.0 name.1.formed a.0.text.0 name.1.escape (subst (IsLineEscape p.units e.0) cut.0 a.0.text.1.1) in
-      ap (λ x. x ++ texts_of fs) (name.2.1 ∙ ap (λ x. x ++ 0 ∷ []) same) ∙ ap (λ x. (e.0 ++ 0 ∷ []) ++ x) (back_of max other es fs a.1 b.1 cut.1)
+      let more = first_back last max other es fs rest a.1 b.1 cut.1 in record {
+        some = e ∷ more.some;
+        others = more.others;
+        cut = ap (λ x. e ∷ x) more.cut;
+        names = ap (λ x. x ++ texts_of fs) (name.2.1 ∙ ap (λ x. x ++ 0 ∷ []) same) ∙ ap (λ x. (e.0 ++ 0 ∷ []) ++ x) more.names;
+        left = more.left;
+      }
 
-  pub same_back : (max other : ℕ) (names lines back : List ℕ) → IsOutput p (listing max) names lines → IsOutput p (joining other) lines back → IsCompleted names back
-  same_back max other names lines back o q =
+  -- no lines, no names
+  none_of : (max : ℕ) (es : List Entry) → AllByRecursion (IsEntry p (listing max)) es → texts_of es ≡ [] → es ≡ []
+  none_of max [] a q = refl
+  none_of max (e ∷ es) a q = absurd (omega (arith, ap length (sym (first_line max e (texts_of es) a.0) ∙ q), length-append a.0.text.1.0 (0x0A ∷ texts_of es)))
+
+  back_of : (last : LastLine) (max other : ℕ) (es fs : List Entry) → AllByRecursion (IsEntry p (listing max)) es → AllByRecursion (IsEntry p (joining last other)) fs → texts_of es ≡ items_of 0x0A fs → texts_of fs ≡ items_of 0 es
+  back_of last max other es fs a b q =
+      let j = first_back last max other es fs [] a b (q ∙ sym (append-nil (items_of 0x0A fs))) in
+      let none = none_of max j.others (all_behind (IsEntry p (listing max)) j.some j.others (subst (AllByRecursion (IsEntry p (listing max))) j.cut a)) j.left in
+      j.names ∙ ap (items_of 0) (sym (j.cut ∙ ap (λ x. j.some ++ x) none ∙ append-nil j.some))
+
+  pub same_back : (last : LastLine) (max other : ℕ) (names lines back : List ℕ) → IsOutput p (listing max) names lines → IsOutput p (joining last other) lines back → IsCompleted names back
+  same_back last max other names lines back o q =
       let fs = q.entries in
       let all = completed o.entries names (whole_names max o.entries o.are) o.items in
-      let by : AreIn 0x0A fs lines → back ≡ items_of 0 o.entries = ⊎_elim
-      (λ same. q.written ∙ back_of max other o.entries fs o.are q.are (sym o.written ∙ same))
-      (λ (u : IsLastUnended 0x0A fs lines).
-      let whole = subst (AllByRecursion (λ e. Lacks 0x0A e.0)) u.entries_are (whole_lines other fs q.are) in
+      let by : AreIn (Join last) fs lines → back ≡ items_of 0 o.entries = ⊎_elim
+      (λ same. q.written ∙ back_of last max other o.entries fs o.are q.are (sym o.written ∙ same))
+      (λ (taken : TakesUnended (Join last) × IsLastUnended 0x0A fs lines).
+      let u = taken.1 in
+      let whole = subst (AllByRecursion (λ e. Lacks 0x0A e.0)) u.entries_are (whole_lines last other fs q.are) in
       absurd (no_last max o.entries u.before u.last.0 o.are (all_front (λ e. Lacks 0x0A e.0) u.before (u.last ∷ []) whole) u.some (all_behind (λ e. Lacks 0x0A e.0) u.before (u.last ∷ []) whole).0 (sym o.written ∙ u.joined))) in
       subst (IsCompleted names) (sym (by q.items)) all
+
+  -- of lines that were cut off, some of the first names
+  pub cut_back : (max other : ℕ) (names lines front rest back : List ℕ) → IsOutput p (listing max) names lines → lines ≡ front ++ rest → IsOutput p (joining MustEnd other) front back → AreFirst names back
+  cut_back max other names lines front rest back o cut q = ⊎_elim
+      (λ same.
+      let j = first_back MustEnd max other o.entries q.entries rest o.are q.are (sym o.written ∙ cut ∙ ap (λ x. x ++ rest) same) in
+      let is : back ≡ items_of 0 j.some = q.written ∙ j.names in (
+        subst EndsWithNul (sym is) (ends j.some),
+        (
+          items_of 0 j.others,
+          items_of 0 o.entries,
+          completed o.entries names (whole_names max o.entries o.are) o.items,
+          ap (items_of 0) j.cut ∙ flat_map-append (ended 0) j.some j.others ∙ ap (λ x. x ++ items_of 0 j.others) (sym is),
+        ),
+      ))
+      (λ taken. absurd taken.0)
+      q.items

@@ -4,10 +4,11 @@ use Rattle.std.specs.List.{AllByRecursion}
 use Rattle.std.proofs.lemmas.Grind.{flat_map-append}
 use Rattle.os_str_bytes.specs.Platform.{Ghosts}
 use Rattle.names_commands.specs.declared.fault.Fault.{Fault}
-use Rattle.names_commands.specs.declared.fault.Fault.TheVariants.{At, TooLong, HasNul, TooMuch, Usage, Run}
+use Rattle.names_commands.specs.declared.fault.Fault.TheVariants.{At, TooLong, HasNul, Unended, TooMuch, Usage, Pattern, Run}
+use Rattle.names_commands.specs.declared.task.Task.{Task}
 use Rattle.names_commands.specs.declared.task.Settings.{Settings}
 use Rattle.names_commands.specs.Items.{Entry, Lacks, IsCutAt, ended, text_of, items_of, texts_of}
-use Rattle.names_commands.specs.Task.{end_of, longest_item, IsItemFault, IsEntry}
+use Rattle.names_commands.specs.Task.{end_of, longest_item, IsItemFault, IsRefused, IsEntry}
 use Rattle.names_commands.specs.Reading.{State, HasBegun, Reads, Stops, IsEnded, IsKeepFault, IsUpTo}
 
 pub all-append : (P : Entry → Type 0) (es ds : List Entry) → AllByRecursion P es → AllByRecursion P ds → AllByRecursion P (es ++ ds)
@@ -70,6 +71,17 @@ module _ {E : Type 0} (p : Ghosts E) (s : Settings) where
     room = omega (arith, n, u.room, ap length k.joined, length-append last (end ∷ after));
   })
 
+  -- a fault of the item is one with which the run ends at it
+  pub of_item : (number : ℕ) (item : List ℕ) (fault : Fault) → IsItemFault p s number item fault → IsRefused p s number item fault
+  of_item number item (At n why) h = h
+  of_item number item (TooLong n most) h = h
+  of_item number item (HasNul n) h = h
+  of_item number item (Unended n) h = absurd h
+  of_item number item TooMuch h = absurd h
+  of_item number item Usage h = absurd h
+  of_item number item (Pattern error) h = absurd h
+  of_item number item (Run why) h = h
+
   -- an item that ended is refused
   pub at_item : (old mid : State) (block rest last after now : List ℕ) (fault : Fault) → IsUpTo p s old block rest mid → IsCutAt end rest last after
       → IsItemFault p s (mid.count + 1) (mid.begun ++ last) fault → now ≡ mid.output → (more : List ℕ) → Stops p s old (block ++ more) now fault
@@ -86,18 +98,20 @@ module _ {E : Type 0} (p : Ghosts E) (s : Settings) where
         ∙ ap (λ x. items_of end u.reads.entries ++ (mid.begun ++ x)) (append_assoc last (end ∷ after) more)
         ∙ ap (λ x. items_of end u.reads.entries ++ x) (in_parts mid.begun last (end ∷ (after ++ more)));
     whole = lacks-append end mid.begun last u.reads.begun.whole k.whole;
-    ended = then_end end fault (after ++ more);
-    because = subst (λ n. IsItemFault p s (n + 1) (mid.begun ++ last) fault) u.reads.counted f;
+    ended = then_end s.task fault (after ++ more) f;
+    because = subst (λ n. IsRefused p s (n + 1) (mid.begun ++ last) fault) u.reads.counted (of_item (mid.count + 1) (mid.begun ++ last) fault f);
     written = w ∙ u.reads.written;
   }
     where
-      then_end : (e : ℕ) (f : Fault) (r : List ℕ) → IsEnded e f (e ∷ r)
-      then_end e (At n why) r = inr (r, refl)
-      then_end e (TooLong n most) r = tt
-      then_end e (HasNul n) r = inr (r, refl)
-      then_end e TooMuch r = tt
-      then_end e Usage r = tt
-      then_end e (Run why) r = tt
+      then_end : (t : Task) (f : Fault) (r : List ℕ) → IsItemFault p s (mid.count + 1) (mid.begun ++ last) f → IsEnded t f (end_of t ∷ r)
+      then_end t (At n why) r h = inr (r, refl)
+      then_end t (TooLong n most) r h = tt
+      then_end t (HasNul n) r h = inr (r, refl)
+      then_end t (Unended n) r h = absurd h
+      then_end t TooMuch r h = tt
+      then_end t Usage r h = tt
+      then_end t (Pattern error) r h = tt
+      then_end t (Run why) r h = tt
 
   -- the rest of the block belongs to an item that doesn't end in it
   pub at_end : (old mid : State) (block rest now kept : List ℕ) → IsUpTo p s old block rest mid → Lacks end rest → kept ≡ mid.begun ++ rest → length kept ≤ longest_item s → now ≡ mid.output
@@ -119,9 +133,9 @@ module _ {E : Type 0} (p : Ghosts E) (s : Settings) where
   of_kept number item fault (inl long) = subst (IsItemFault p s number item) (sym long.0) (refl, (refl, inl long.1))
   of_kept number item fault (inr memory) = subst (IsItemFault p s number item) (sym memory) refl
 
-  ended_kept : (e number : ℕ) (item : List ℕ) (fault : Fault) (r : List ℕ) → IsKeepFault s number item fault → IsEnded e fault r
-  ended_kept e number item fault r (inl long) = subst (λ f. IsEnded e f r) (sym long.0) tt
-  ended_kept e number item fault r (inr memory) = subst (λ f. IsEnded e f r) (sym memory) tt
+  ended_kept : (t : Task) (number : ℕ) (item : List ℕ) (fault : Fault) (r : List ℕ) → IsKeepFault s number item fault → IsEnded t fault r
+  ended_kept t number item fault r (inl long) = subst (λ f. IsEnded t f r) (sym long.0) tt
+  ended_kept t number item fault r (inr memory) = subst (λ f. IsEnded t f r) (sym memory) tt
 
   -- the rest can't be kept
   pub not_kept : (old mid : State) (block rest now : List ℕ) (fault : Fault) → IsUpTo p s old block rest mid → Lacks end rest
@@ -137,7 +151,7 @@ module _ {E : Type 0} (p : Ghosts E) (s : Settings) where
         ∙ with_more_after old.begun u.done (items_of end u.reads.entries) mid.begun (rest ++ more) u.reads.joined
         ∙ ap (λ x. items_of end u.reads.entries ++ x) (in_parts mid.begun rest more);
     whole = lacks-append end mid.begun rest u.reads.begun.whole l;
-    ended = ended_kept end (mid.count + 1) (mid.begun ++ rest) fault more f;
-    because = subst (λ n. IsItemFault p s (n + 1) (mid.begun ++ rest) fault) u.reads.counted (of_kept (mid.count + 1) (mid.begun ++ rest) fault f);
+    ended = ended_kept s.task (mid.count + 1) (mid.begun ++ rest) fault more f;
+    because = subst (λ n. IsRefused p s (n + 1) (mid.begun ++ rest) fault) u.reads.counted (of_item (mid.count + 1) (mid.begun ++ rest) fault (of_kept (mid.count + 1) (mid.begun ++ rest) fault f));
     written = w ∙ u.reads.written;
   }

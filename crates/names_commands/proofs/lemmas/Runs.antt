@@ -9,10 +9,10 @@ use Rattle.os_str_bytes.specs.Platform.{Ghosts}
 use Rattle.osbytes_commands.specs.declared.fault.Fault.{Fault as Reason}
 use Rattle.osbytes_commands.specs.declared.fault.Fault.TheVariants as reason
 use Rattle.names_commands.specs.declared.fault.Fault.{Fault}
-use Rattle.names_commands.specs.declared.fault.Fault.TheVariants.{At, TooLong, HasNul, TooMuch, Usage, Run}
+use Rattle.names_commands.specs.declared.fault.Fault.TheVariants.{At, TooLong, HasNul, Unended, TooMuch, Usage, Pattern, Run}
 use Rattle.names_commands.specs.declared.task.Settings.{Settings}
 use Rattle.names_commands.specs.Items.{Entry, ended, text_of, items_of, texts_of}
-use Rattle.names_commands.specs.Task.{end_of, IsItemFault, IsEntry}
+use Rattle.names_commands.specs.Task.{TakesUnended, end_of, IsItemFault, IsRefused, IsEntry}
 use Rattle.osbytes_commands.specs.Written.{AppendsBeginning}
 use Rattle.names_commands.specs.Reading.{State, Reads, Stops, IsEnded, Begins}
 use Rattle.names_commands.specs.Run.{start, IsOutput, IsBegun, StopsOn, WritesOutput, WritesUpTo, WritesBeginning, HasRead, IsLast, Finishes}
@@ -96,7 +96,7 @@ module _ {E : Type 0} (p : Ghosts E) (s : Settings) where
         joined = both_items old mid a b (q.item ++ q.rest) q.entries r q.joined;
         whole = q.whole;
         ended = q.ended;
-        because = subst (λ m. IsItemFault p s m q.item fault) n q.because;
+        because = subst (λ m. IsRefused p s m q.item fault) n q.because;
         written = both_texts old.output mid.output text r.entries q.entries r.written q.written;
       }
 
@@ -122,24 +122,32 @@ module _ {E : Type 0} (p : Ghosts E) (s : Settings) where
   stops_begin old bytes text fault q = record { entries = q.entries; are = q.are; rest = q.item ++ q.rest; joined = q.joined; written = q.written }
 
   of_begins : (input text : List ℕ) → Begins p s start input text → IsBegun p s input text
-  of_begins input text b = record {
-    front = items_of end b.entries;
-    rest = b.rest;
-    joined = b.joined;
-    of_front = record { entries = b.entries; are = b.are; items = inl refl; written = b.written };
-  }
+  of_begins input text b = record { entries = b.entries; are = b.are; rest = b.rest; joined = b.joined; written = b.written }
 
   of_stops : (input text : List ℕ) (fault : Fault) → Stops p s start input text fault → StopsOn p s input text fault
   of_stops input text (At n why) q = q
   of_stops input text (TooLong n most) q = q
   of_stops input text (HasNul n) q = q
+  of_stops input text (Unended n) q = q
   of_stops input text TooMuch q = absurd q.because
   of_stops input text Usage q = absurd q.because
+  of_stops input text (Pattern error) q = absurd q.because
   of_stops input text (Run why) q = of_begins input text (stops_begin start input text (Run why) q)
 
   -- no item is refused for a read or a write
   pub item_memory : {X : Type 0} (n : ℕ) (item : List ℕ) (fault : Fault) (why : Reason) → IsItemFault p s n item fault → ◌≡◌ {A = Result X Fault} (Err fault) (Err (Run why)) → why ≡ reason.Memory
   item_memory n item fault why h e = subst (IsItemFault p s n item) (same_run fault why e) h
+
+  -- nothing comes after the last item, which may lack its end
+  pub at_end : (f : Fault) → (n : ℕ) (item : List ℕ) → TakesUnended s.task → IsItemFault p s n item f → IsEnded s.task f []
+  at_end (At m why) n item t h = inl (refl, t)
+  at_end (TooLong m most) n item t h = tt
+  at_end (HasNul m) n item t h = inl (refl, t)
+  at_end (Unended m) n item t h = refl
+  at_end TooMuch n item t h = tt
+  at_end Usage n item t h = tt
+  at_end (Pattern error) n item t h = tt
+  at_end (Run why) n item t h = tt
 
   pub block_memory : (answer : Result ℕ Fault) (old : State) (bytes text : List ℕ) (why : Reason) → IfErr answer (λ fault. (more : List ℕ) → Stops p s old (bytes ++ more) text fault) → answer ≡ Err (Run why) → why ≡ reason.Memory
   block_memory answer old bytes text why h e = (IfErr-at_err (λ fault. (more : List ℕ) → Stops p s old (bytes ++ more) text fault) e h []).because
@@ -206,9 +214,9 @@ module _ {E : Type 0} (p : Ghosts E) (s : Settings) where
         (λ more. (
           h.text ++ text,
           (
-            of_begins ((h.bytes ++ block) ++ more) (h.text ++ text)
+            inl (of_begins ((h.bytes ++ block) ++ more) (h.text ++ text)
                 (subst (λ x. Begins p s start x (h.text ++ text)) (sym (append_assoc h.bytes block more))
-                (then_begins start (record { begun = begun; count = count; output = h.text }) h.bytes (block ++ more) text h.reads (q more))),
+                (then_begins start (record { begun = begun; count = count; output = h.text }) h.bytes (block ++ more) text h.reads (q more)))),
             half text w,
           ),
         ))
@@ -237,7 +245,7 @@ module _ {E : Type 0} (p : Ghosts E) (s : Settings) where
     with_last text l = record {
       entries = h.reads.entries ++ (begun, text) ∷ [];
       are = all-append (IsEntry p s) h.reads.entries ((begun, text) ∷ []) h.reads.are (l.entry, tt);
-      items = inr (record { before = h.reads.entries; last = (begun, text); entries_are = refl; some = l.some; joined = h.reads.joined });
+      items = inr (l.taken, record { before = h.reads.entries; last = (begun, text); entries_are = refl; some = l.some; joined = h.reads.joined });
       written = both_texts [] h.text text h.reads.entries ((begun, text) ∷ []) h.reads.written (sym (append-nil text));
     }
 
@@ -257,31 +265,23 @@ module _ {E : Type 0} (p : Ghosts E) (s : Settings) where
     finished text c e f w = Consumes-whole input next h.bytes _ (whole c) e (h.text ++ text, (output text f, Appends-trans old mid new h.text text h.written w))
 
     -- the last item is refused
-    at_last : (fault : Fault) → IsItemFault p s (count + 1) begun fault → Stops p s start h.bytes h.text fault
-    at_last fault f = record {
+    at_last : (fault : Fault) → IsRefused p s (count + 1) begun fault → IsEnded s.task fault [] → Stops p s start h.bytes h.text fault
+    at_last fault f ended = record {
       entries = h.reads.entries;
       are = h.reads.are;
       item = begun;
       rest = [];
       joined = h.reads.joined ∙ ap (λ x. items_of end h.reads.entries ++ x) (sym (append-nil begun));
       whole = h.reads.begun.whole;
-      ended = at_end end fault;
-      because = subst (λ n. IsItemFault p s (n + 1) begun fault) h.reads.counted f;
+      ended = ended;
+      because = subst (λ n. IsRefused p s (n + 1) begun fault) h.reads.counted f;
       written = h.reads.written;
     }
-      where
-        at_end : (e : ℕ) (f : Fault) → IsEnded e f []
-        at_end e (At n why) = inl refl
-        at_end e (TooLong n most) = tt
-        at_end e (HasNul n) = inl refl
-        at_end e TooMuch = tt
-        at_end e Usage = tt
-        at_end e (Run why) = tt
 
-    pub last_refused : (fault : Fault) → Consumes left next [] → IsAtEnd next → IsItemFault p s (count + 1) begun fault → WritesUpTo p s fault input old mid
-    last_refused fault c e f = Consumes-whole input next h.bytes _ (whole c) e (h.text, (of_stops h.bytes h.text fault (at_last fault f), h.written))
+    pub last_refused : (fault : Fault) → Consumes left next [] → IsAtEnd next → IsRefused p s (count + 1) begun fault → IsEnded s.task fault [] → WritesUpTo p s fault input old mid
+    last_refused fault c e f ended = Consumes-whole input next h.bytes _ (whole c) e (h.text, (of_stops h.bytes h.text fault (at_last fault f ended), h.written))
 
     pub last_half : (text : List ℕ) → Consumes left next [] → IsAtEnd next → IsLast p s begun text → AppendsBeginning mid new text → WritesBeginning p s input old new
     last_half text c e l w =
         Consumes-whole input next h.bytes _ (whole c) e
-        (h.text ++ text, (record { front = h.bytes; rest = []; joined = sym (append-nil h.bytes); of_front = with_last text l }, half text w))
+        (h.text ++ text, (inr (with_last text l), half text w))

@@ -17,7 +17,7 @@ returns-in-Err-NotCanonical-clause-fault g c =
     let text = c.from_utf8_unchecked-text.result.now in
     let fault = subst (IsLineFault P.well_formed P.units text) c.in-Err-NotCanonical.field-0-is c.in-Err-NotCanonical.ensures.fault in
     let utf8 : IsUtf8 c.args.line.now = search rules in
-    (refl, (c.requires, (utf8, (other_error, subst (λ t. IsLineFault P.well_formed P.units t NotCanonical) c.from_utf8_unchecked-text.ensures fault))))
+    λ last. (refl, (c.requires, (utf8, (other_error, subst (λ t. IsLineFault P.well_formed P.units t NotCanonical) c.from_utf8_unchecked-text.ensures fault))))
 
 pub returns-then-is_plain-clause-ok : goal.returns-then-is_plain-clause-ok
 returns-then-is_plain-clause-ok g c =
@@ -31,5 +31,5 @@ returns-then-is_plain-clause-ok g c =
       short = omega (arith, c.if-line-max.true);
     } in
     on_ok_weaker c.push_ended.result
-    (λ e. (line ++ 0 ∷ [], ((line, name, (plain_lacks line plain, refl)), e)))
+    (λ e. (line ++ 0 ∷ [], ((λ last. (line, name, (plain_lacks line plain, refl))), e)))
     c.push_ended.ensures.ok

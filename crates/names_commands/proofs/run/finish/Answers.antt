@@ -10,7 +10,9 @@ use Rattle.osbytes_commands.specs.Written.{AppendsBeginning}
 use Rattle.osbytes_commands.specs.declared.fault.Fault.{Fault as Reason}
 use Rattle.osbytes_commands.specs.declared.fault.Fault.TheVariants.{Read, Write}
 use Rattle.names_commands.specs.Run.{IsLast}
-use Rattle.names_commands.proofs.lemmas.Runs.{no_err, item_memory, read_no_memory, write_no_memory}
+use Rattle.names_commands.specs.Reading.{IsEnded}
+use Rattle.names_commands.proofs.lemmas.Runs.{no_err, at_end, item_memory, read_no_memory, write_no_memory}
+use Rattle.names_commands.proofs.lemmas.Reading.{of_item}
 use Rattle.names_commands.proofs.run.finish.Goals as goal
 
 pub returns-then-is_empty : goal.returns-then-is_empty
@@ -18,6 +20,7 @@ returns-then-is_empty g c =
     let none = nil_from_length c.args.begun.now (eqb-true _ _ (sym c.is_empty.ensures ∙ c.if-is_empty.true)) in record {
       ok = ([], (inl (none, refl), Appends-nil (g.W.Write.contents (marked_inner c.args.writer.now))));
       stopped = tt;
+      ended = tt;
       unchanged = tt;
       beginning = λ e. absurd (no_err e);
       no_read = λ e. no_err e;
@@ -26,9 +29,11 @@ returns-then-is_empty g c =
 
 pub returns : goal.returns
 returns g c =
+    let taken = c.takes_unended.ensures.0 c.if-not-takes_unended.false in
     let refused = λ (why : Reason). item_memory g.E.Platform c.args.settings {X = ⊤} _ _ _ why c.in-Err.ensures.fault in record {
       ok = tt;
-      stopped = λ _. c.in-Err.ensures.fault;
+      stopped = λ _. of_item g.E.Platform c.args.settings _ _ _ c.in-Err.ensures.fault;
+      ended = at_end g.E.Platform c.args.settings _ _ _ taken c.in-Err.ensures.fault;
       unchanged = λ _. refl;
       beginning = λ e. absurd (write_no_memory (refused Write e));
       no_read = λ e. read_no_memory (refused Read e);
@@ -44,10 +49,12 @@ returns-in-Ok g c =
     let same = c.deref.ensures.value ∙ text.1.1 ∙ ap (λ x. x ++ text.0) c.new-output.ensures.items in
     let last : IsLast g.E.Platform c.args.settings c.args.begun.now text.0 = record {
       some = λ none. false≢true (sym c.if-is_empty.false ∙ c.is_empty.ensures ∙ ap (λ x. length x == 0) none);
+      taken = c.takes_unended.ensures.0 c.if-not-takes_unended.false;
       entry = record { whole = c.requires.begun.whole; short = c.requires.begun.short; text = text.1.0 };
     } in record {
       ok = on_ok_weaker c.write_output.result (λ all. (text.0, (inr last, subst (Appends old new) same all))) written.written;
       stopped = IfErr-weaker c.write_output.result _ _ (λ fault is not_write. absurd (not_write is)) written.fault;
+      ended = IfErr-weaker c.write_output.result _ _ (λ fault is. subst (λ f. IsEnded c.args.settings.task f []) (sym is) tt) written.fault;
       unchanged = IfErr-weaker c.write_output.result _ _ (λ fault is not_write. absurd (not_write is)) written.fault;
       beginning = λ e. (text.0, (last, subst (AppendsBeginning old new) same (written.beginning e)));
       no_read = written.no_read;

@@ -4,14 +4,14 @@ use Rattle.std.specs.Io.KnownBytes.{Consumes, IsAtEnd}
 use Rattle.std.proofs.lemmas.Result.{on_ok_weaker}
 use Rattle.osbytes_commands.specs.Marked.{marked_inner}
 use Rattle.osbytes_commands.specs.declared.fault.Fault.TheVariants.{Read}
-use Rattle.names_commands.specs.Task.{IsItemFault}
+use Rattle.names_commands.specs.Task.{IsRefused}
 use Rattle.names_commands.specs.Run.{WritesUpTo, Finishes, IsLast}
 use Rattle.names_commands.proofs.lemmas.Runs.{counted, more_read, stopped, half_written, so_far, too_much, finished, last_refused, last_half}
 use Rattle.names_commands.proofs.run.run.Goals as goal
 
-both_err : {X F : Type 0} (r : Result X F) (P Q S : F → Type 0) → ((e : F) → P e → Q e → S e) → IfErr r P → IfErr r Q → IfErr r S
-both_err (Ok x) P Q S f h k = tt
-both_err (Err e) P Q S f h k = f e h k
+all_err : {X F : Type 0} (r : Result X F) (P Q R S : F → Type 0) → ((e : F) → P e → Q e → R e → S e) → IfErr r P → IfErr r Q → IfErr r R → IfErr r S
+all_err (Ok x) P Q R S f h k l = tt
+all_err (Err e) P Q R S f h k l = f e h k l
 
 pub finish-requires-clause-counted : goal.finish-requires-clause-counted
 finish-requires-clause-counted g c = omega (arith, counted g.E.Platform c.args.settings _ _ (g.R.Read.remaining (marked_inner c.loop-alloc.reader)) _ _ (g.W.Write.contents (marked_inner c.loop-alloc.writer)) _ _ _ c.loop-alloc.invariant.read, c.loop-alloc.invariant.within)
@@ -35,11 +35,11 @@ returns-in-Ok-eq0-clause-stopped g c =
     let none : Consumes (g.R.Read.remaining (marked_inner c.loop-alloc.reader)) (g.R.Read.remaining (marked_inner c.read.new.self)) (take c.in-Ok-eq0.field-0 c.read.new.buf) = search rules in
     let consumed = subst (λ n. Consumes (g.R.Read.remaining (marked_inner c.loop-alloc.reader)) (g.R.Read.remaining (marked_inner c.read.new.self)) (take n c.read.new.buf)) c.in-Ok-eq0.field-0-test none in
     let end : IsAtEnd (g.R.Read.remaining (marked_inner c.read.new.self)) = search rules in
-    both_err c.finish.result _ _ _
-    (λ fault item same not_write.
+    all_err c.finish.result _ _ _ _
+    (λ fault item same ended not_write.
     subst (λ w. WritesUpTo g.E.Platform c.args.settings fault (g.R.Read.remaining (marked_inner c.args.reader.now)) (g.W.Write.contents (marked_inner c.args.writer.now)) (g.W.Write.contents (marked_inner w))) (sym (same not_write))
-    (last_refused g.E.Platform c.args.settings _ _ _ _ _ (g.W.Write.contents (marked_inner c.loop-alloc.writer)) _ _ _ c.loop-alloc.invariant.read fault consumed end (subst (λ x. IsItemFault g.E.Platform c.args.settings (c.loop-alloc.count + 1) x fault) c.deref.ensures.value (item not_write))))
-    c.finish.ensures.stopped c.finish.ensures.unchanged
+    (last_refused g.E.Platform c.args.settings _ _ _ _ _ (g.W.Write.contents (marked_inner c.loop-alloc.writer)) _ _ _ c.loop-alloc.invariant.read fault consumed end (subst (λ x. IsRefused g.E.Platform c.args.settings (c.loop-alloc.count + 1) x fault) c.deref.ensures.value (item not_write)) ended))
+    c.finish.ensures.stopped c.finish.ensures.unchanged c.finish.ensures.ended
 
 pub returns-in-Ok-eq0-clause-beginning : goal.returns-in-Ok-eq0-clause-beginning
 returns-in-Ok-eq0-clause-beginning g c = λ e.

@@ -22,3 +22,9 @@ returns-in_ok-write_place-in-HasNul-clause-styled g c = λ flush ok.
     let head = c.in_ok-write_place-in-HasNul.ensures flush (refl {a = true}) in
     let end = c.write_str-in-HasNul.ensures.styled head.flush ok in
     has_written_styled_of_eq _ _ _ _ _ (sym (ap text_of c.in-HasNul.is)) (has_written_styled_append _ _ _ _ _ _ head end)
+
+pub returns-in_ok-write_place-in-Unended-clause-styled : goal.returns-in_ok-write_place-in-Unended-clause-styled
+returns-in_ok-write_place-in-Unended-clause-styled g c = λ flush ok.
+    let head = c.in_ok-write_place-in-Unended.ensures flush (refl {a = true}) in
+    let end = c.write_str-in-Unended.ensures.styled head.flush ok in
+    has_written_styled_of_eq _ _ _ _ _ (sym (ap text_of c.in-Unended.is)) (has_written_styled_append _ _ _ _ _ _ head end)
