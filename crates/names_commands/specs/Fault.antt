@@ -1,8 +1,6 @@
 -- The text and the exit status of each fault.
 use Rattle.std.specs.Prelude.{ℕ, List, ◌++◌, codes, decimal}
-use Rattle.os_glob.specs.declared.error.GlobError.{GlobError}
-use Rattle.os_glob.specs.declared.error.GlobErrorKind.{GlobErrorKind}
-use Rattle.os_glob.specs.declared.error.GlobErrorKind.TheVariants.{UnclosedClass, ReversedRange, DanglingEscape}
+use Rattle.os_glob.specs.ErrorText.{error_text}
 use Rattle.osbytes_commands.specs.Fault as reason
 use Rattle.names_commands.specs.declared.fault.Fault.{Fault}
 use Rattle.names_commands.specs.declared.fault.Fault.TheVariants.{At, TooLong, HasNul, Unended, TooMuch, Usage, Pattern, Run}
@@ -10,15 +8,6 @@ use Rattle.names_commands.specs.declared.fault.Fault.TheVariants.{At, TooLong, H
 -- what comes before the reason why an item is refused
 abbrev pub place_text : ℕ → List ℕ
 place_text number = codes "name " ++ (decimal number ++ codes ": ")
-
--- what is wrong with a pattern, in words, and where
-abbrev pub kind_text : GlobErrorKind → List ℕ
-kind_text UnclosedClass = codes "no ] ends the class"
-kind_text ReversedRange = codes "the range is reversed"
-kind_text DanglingEscape = codes "nothing follows the \\"
-
-abbrev pub pattern_text : GlobError → List ℕ
-pattern_text error = codes "pattern: " ++ (kind_text error.kind ++ (codes " at byte " ++ decimal error.index))
 
 -- what the program prints of the fault
 abbrev pub text_of : Fault → List ℕ
@@ -28,7 +17,7 @@ text_of (HasNul number) = place_text number ++ codes "the name has a NUL"
 text_of (Unended number) = place_text number ++ codes "no newline ends the line"
 text_of TooMuch = codes "2^64 bytes of input or more"
 text_of Usage = codes "usage: names [--max N] list|filter|join|check unix|windows|wasm [GLOB]; names --help tells more"
-text_of (Pattern error) = pattern_text error
+text_of (Pattern why) = codes "pattern: " ++ error_text why
 text_of (Run why) = reason.text_of why
 
 -- the status that the program ends with

@@ -1,9 +1,9 @@
 //! What keeps the program from its output.
 ghost use Rattle.std.specs.Fmt.{WritesStyledOnOk};
 ghost use Rattle.std.specs.Prelude.{◌≡◌};
-ghost use Rattle.names_commands.specs.Fault.{place_text, pattern_text, kind_text};
+ghost use Rattle.names_commands.specs.Fault.{place_text};
 
-use os_glob::{GlobError, GlobErrorKind};
+use os_glob::GlobError;
 use osbytes_commands::ended::ProgramFault;
 use osbytes_commands::fault::{Fault as Reason, write_number};
 use std::fmt;
@@ -66,7 +66,10 @@ impl fmt::Display for Fault {
             Fault::Usage => f.write_str(
                 "usage: names [--max N] list|filter|join|check unix|windows|wasm [GLOB]; names --help tells more",
             ),
-            Fault::Pattern(error) => write_pattern(error, f),
+            Fault::Pattern(why) => {
+                f.write_str("pattern: ")?;
+                why.fmt(f)
+            }
             Fault::Run(why) => why.fmt(f),
         }
     }
@@ -119,25 +122,4 @@ fn write_place<W: fmt::Write>(number: u64, f: &mut fmt::Formatter<W>) -> fmt::Re
     f.write_str("name ")?;
     write_number(number as usize, f)?;
     f.write_str(": ")
-}
-
-/// Writes why a pattern is refused, and where.
-fn write_pattern<W: fmt::Write>(error: GlobError, f: &mut fmt::Formatter<W>) -> fmt::Result
-    ensures { WritesStyledOnOk W.write_str_gives f.old result (pattern_text error) f.new }
-{
-    f.write_str("pattern: ")?;
-    f.write_str(kind_text(error.kind))?;
-    f.write_str(" at byte ")?;
-    write_number(error.index, f)
-}
-
-/// What is wrong with a pattern, in words.
-fn kind_text(kind: GlobErrorKind) -> &'static str
-    ensures { result.now ≡ kind_text kind }
-{
-    match kind {
-        GlobErrorKind::UnclosedClass => "no ] ends the class",
-        GlobErrorKind::ReversedRange => "the range is reversed",
-        GlobErrorKind::DanglingEscape => "nothing follows the \\",
-    }
 }
