@@ -1,6 +1,5 @@
 -- A path without its last component, and its last name (std's `Path::parent` and `Path::file_name`).
-use Rattle.std.specs.Prelude.{◌≡◌, ℕ, List, [], ◌∷◌, ◌++◌, Option, Some, None}
-use denote.Ref.{Bor}
+use Rattle.std.specs.Prelude.{◌≡◌, ℕ, List, [], ◌∷◌, ◌++◌}
 use Rattle.path_rules.specs.declared.rules.Style.{Style}
 use Rattle.path_rules.specs.Component.{Item, Prefix, RootDir, CurDir, ParentDir, Normal}
 use Rattle.path_rules.specs.Components.{AreComponents}
@@ -37,16 +36,10 @@ pub record IsParent (style : Style) (path parent : List ℕ) : Type 0 where
 abbrev pub HasNoParent : Style → List ℕ → Type 0
 HasNoParent style path = (items : List Item) (last : Item) → AreComponents style path (items ++ last ∷ []) → IsTop last
 
--- the component is this name, or no name
-abbrev pub IsNameOf : Item → Option (Bor (List ℕ)) → Type 0
-IsNameOf item (Some name) = item ≡ Normal name.now
-IsNameOf item None = (name : List ℕ) → ¬ (item ≡ Normal name)
+-- the last component of the path is this name
+abbrev pub HasFileName : Style → List ℕ → List ℕ → Type 0
+HasFileName style path name = (items : List Item) → AreComponents style path items → (before : List Item) × (items ≡ before ++ Normal name ∷ [])
 
--- the name is the last component, or the last component is no name
-abbrev pub IsLastName : List Item → Option (Bor (List ℕ)) → Type 0
-IsLastName items (Some name) = (before : List Item) × (items ≡ before ++ Normal name.now ∷ [])
-IsLastName items None = (before : List Item) (name : List ℕ) → ¬ (items ≡ before ++ Normal name ∷ [])
-
--- the last component of a path where it is a name
-abbrev pub IsFileName : Style → List ℕ → Option (Bor (List ℕ)) → Type 0
-IsFileName style path name = (items : List Item) → AreComponents style path items → IsLastName items name
+-- the path has no component, or its last one is no name
+abbrev pub HasNoFileName : Style → List ℕ → Type 0
+HasNoFileName style path = (items before : List Item) (name : List ℕ) → AreComponents style path items → ¬ (items ≡ before ++ Normal name ∷ [])

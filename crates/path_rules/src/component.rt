@@ -1,9 +1,9 @@
 //! Components of a path.
-ghost use Rattle.std.specs.Prelude.{◌≡◌, IfSome};
+ghost use Rattle.std.specs.Prelude.{◌≡◌, ℕ, List, IfSome, MatchOption};
 ghost use Rattle.std.specs.Option.{option_map};
-ghost use Rattle.path_rules.specs.Component.{named};
+ghost use Rattle.path_rules.specs.Component.{Normal, named};
 ghost use Rattle.path_rules.specs.Views.{item_of};
-ghost use Rattle.path_rules.specs.Parent.{IsBelow, IsNameOf};
+ghost use Rattle.path_rules.specs.Parent.{IsBelow};
 
 use crate::rules::Rules;
 
@@ -33,7 +33,8 @@ impl<'a> Component<&'a [u8]> {
     /// assert_eq!(rt; Component::<&[u8]>::ParentDir.name(), None);
     /// ```
     pub fn name(self) -> Option<&'a [u8]>
-        ensures { IsNameOf (item_of self.entry) result }
+        ensures { MatchOption result ((name : List ℕ) → ¬ (item_of self.entry ≡ Normal name))
+            (λ name. item_of self.entry ≡ Normal name.now) }
     {
         match self {
             Component::Normal(name) => Some(name),

@@ -1,6 +1,6 @@
 //! A path without its last component, and its last name.
 ghost use Rattle.std.specs.Prelude.{MatchOption};
-ghost use Rattle.path_rules.specs.Parent.{IsParent, HasNoParent, IsFileName};
+ghost use Rattle.path_rules.specs.Parent.{IsParent, HasNoParent, HasFileName, HasNoFileName};
 
 use crate::body::{next_back_in, trimmed};
 use crate::components::Components;
@@ -51,7 +51,8 @@ pub fn parent(style: Style, path: &[u8]) -> Option<&[u8]>
 /// assert_eq!(rt; file_name(Style::Windows, b"C:"), None);
 /// ```
 pub fn file_name(style: Style, path: &[u8]) -> Option<&[u8]>
-    ensures { IsFileName style path.entry.now result }
+    ensures { MatchOption result (HasNoFileName style path.now)
+        (λ name. HasFileName style path.now name.now) }
 {
     let Some(last) = Components::new(style, path).next_back() else {
         return None;
