@@ -1,0 +1,4 @@
+pub mod Parts
+pub mod Cuts
+pub mod Whole
+pub mod Names
