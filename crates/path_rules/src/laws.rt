@@ -1,6 +1,6 @@
 //! What holds of paths whatever a call answers. Each law is the contract of a function that does
 //! nothing.
-ghost use Rattle.std.specs.Prelude.{◌≡◌, ◌≢◌, ◌⊎◌, ◌++◌, ◌∷◌, [], List, ℕ};
+ghost use Rattle.std.specs.Prelude.{◌≡◌, ◌≢◌, ◌<◌, ◌⊎◌, ◌++◌, ◌∷◌, [], List, ℕ, length};
 ghost use Rattle.path_rules.specs.declared.rules.Style as whose;
 ghost use Rattle.path_rules.specs.Component.{Item};
 ghost use Rattle.path_rules.specs.Prefix.{Kind, IsPrefixOf};
@@ -9,6 +9,8 @@ ghost use Rattle.path_rules.specs.declared.rules.Rules.TheVariants as rules;
 ghost use Rattle.path_rules.specs.Separators.{Edge};
 ghost use Rattle.path_rules.specs.Components.{IsRelative};
 ghost use Rattle.path_rules.specs.Normal.{AreNormalOf};
+ghost use Rattle.path_rules.specs.Name.{IsExtension};
+ghost use Rattle.path_rules.specs.Parent.{IsParent, HasFileName};
 
 /// A Windows path has at most one prefix, of one kind, and a path has one list of components.
 pub fn one_list()
@@ -53,4 +55,24 @@ pub fn none_by_cut()
         → Edge rules.Either more
         → ((kind : Kind) → (rest : List ℕ) → ¬ (IsPrefixOf s kind rest))
         → (kind : Kind) → (rest : List ℕ) → ¬ (IsPrefixOf f kind rest) }
+{}
+
+/// A name has at most one extension, and then one stem.
+pub fn one_extension()
+    ensures { (name : List ℕ) → (stem : List ℕ) → (extension : List ℕ) → (other : List ℕ)
+        → (another : List ℕ) → IsExtension name stem extension → IsExtension name other another
+        → (stem ≡ other) × (extension ≡ another) }
+{}
+
+/// A path has at most one last name.
+pub fn one_file_name()
+    ensures { (style : whose.Style) → (s : List ℕ) → (items : List Item) → (one : List ℕ)
+        → (other : List ℕ) → AreComponents style s items → HasFileName style s one
+        → HasFileName style s other → one ≡ other }
+{}
+
+/// The parent of a path is shorter than the path.
+pub fn parent_is_shorter()
+    ensures { (style : whose.Style) → (s : List ℕ) → (parent : List ℕ) → IsParent style s parent
+        → length parent < length s }
 {}

@@ -1,7 +1,7 @@
 -- The parts of a name around its dots.
 use Rattle.std.proofs.Common.{◌≡◌, ◌≢◌, ◌<◌, ◌≤◌, ◌+◌, inl, inr, ℕ, zero, suc, nat_eq, true, false, List, [], ◌∷◌, ◌++◌, length, take, drop, get_or, refl, sym, ap, ◌∙◌, subst, arith, take-append-drop, length-append}
 use Rattle.std.proofs.lemmas.List.{drop_more, get_or-take, get_or_at, length-take-le}
-use Rattle.std.proofs.lemmas.List.Elements.{All-from_get_or}
+use Rattle.std.proofs.lemmas.List.Elements.{All-from_get_or, All-head, All-tail}
 use Rattle.path_rules.specs.Name.{IsExtension, HasNoExtension, HasNoDot, HasNoLaterDot, IsNamePrefix, dot_dot}
 use Rattle.path_rules.proofs.lemmas.Cuts.{NoneFrom, plain_after}
 
@@ -76,3 +76,22 @@ prefix_whole name n l h = inr (refl, inl (later_whole name n l h))
 
 pub prefix_of_dots : (name : List ℕ) → name ≡ dot_dot → IsNamePrefix name name
 prefix_of_dots name e = inr (refl, inr e)
+
+-- the last dot is one
+dot_inside : (t f : List ℕ) → HasNoDot (t ++ 0x2E ∷ f) → ⊥
+dot_inside [] f h = let never : true ≡ false = All-head (λ b. nat_eq b 0x2E ≡ false) 0x2E f h in cc
+dot_inside (c ∷ t) f h = dot_inside t f (All-tail (λ b. nat_eq b 0x2E ≡ false) c (t ++ 0x2E ∷ f) h)
+
+last_dot : (s t e f : List ℕ) → s ++ 0x2E ∷ e ≡ t ++ 0x2E ∷ f → HasNoDot e → HasNoDot f → (s ≡ t) × (e ≡ f)
+last_dot [] [] e f h p q = (refl, cc)
+last_dot [] (c ∷ t) e f h p q = let later : e ≡ t ++ 0x2E ∷ f = cc in absurd (dot_inside t f (subst HasNoDot later p))
+last_dot (c ∷ s) [] e f h p q = let later : s ++ 0x2E ∷ e ≡ f = cc in absurd (dot_inside s e (subst HasNoDot (sym later) q))
+last_dot (c ∷ s) (d ∷ t) e f h p q =
+    let first : c ≡ d = cc in
+    let later : s ++ 0x2E ∷ e ≡ t ++ 0x2E ∷ f = cc in
+    let rest = last_dot s t e f later p q in
+    let stems : s ≡ t = rest.0 in
+    (cc, rest.1)
+
+pub one_extension : (name s e t f : List ℕ) → IsExtension name s e → IsExtension name t f → (s ≡ t) × (e ≡ f)
+one_extension name s e t f a b = last_dot s t e f (sym a.joined ∙ b.joined) a.no_dot b.no_dot
