@@ -1,5 +1,5 @@
 //! The calls that every path of a platform has.
-ghost use Rattle.std.specs.Prelude.{List, ℕ, ◌≡◌, ◌↔◌, IsTrue, MatchOption};
+ghost use Rattle.std.specs.Prelude.{List, ℕ, ◌≡◌, ◌↔◌, IsTrue, MatchOption, Some};
 ghost use Rattle.platform_str.specs.Strings.{bytes, path_bytes};
 ghost use Rattle.path_rules.specs.Components.{AreComponents};
 ghost use Rattle.path_rules.specs.Parent.{IsParent, HasNoParent, HasFileName, HasNoFileName};
@@ -7,11 +7,14 @@ ghost use Rattle.path_rules.specs.Root.{HasRoot, IsAbsolute};
 ghost use Rattle.path_rules.specs.Compare.{StartsWith, EndsWith};
 ghost use Rattle.path_rules.specs.StyleRules.{rules_of_style};
 ghost use Rattle.path_rules.specs.Trailing.{EndsWithSeparator, TrimsTrailing};
+ghost use Rattle.os_path.specs.Prefixes.{os_kind_of, HasPrefix, HasNoPrefix};
 ghost use Rattle.os_path.specs.Names.{HasFileStem, HasFilePrefix, HasExtension, LacksExtension};
 
+use crate::ancestors::Ancestors;
 use crate::components::Components;
-use crate::parts;
 use crate::style::PathStyle;
+use crate::{parts, prefixes};
+use path_rules::Prefix;
 use platform_str::{OsStr, Path};
 
 /// The calls of std's `Path` that look at the path alone, for a path of any platform.
@@ -78,6 +81,24 @@ pub trait PathExt<'a>: Sized + Copy {
             Some(parent) => Some(Path::new(parent)),
             None => None,
         }
+    }
+
+    /// The path and its parents, each after the path that it is the parent of (std's
+    /// `Path::ancestors`).
+    ///
+    /// ```
+    /// use os_path::PathExt;
+    /// use platform_str::{OsStr, Path, Unix};
+    ///
+    /// let mut left = Path::<Unix>::new(OsStr::new("/a")).ancestors();
+    /// assert!(rt; left.next().is_some_and(|path| path.as_os_str() == OsStr::new("/a")));
+    /// assert!(rt; left.next().is_some_and(|path| path.as_os_str() == OsStr::new("/")));
+    /// assert!(rt; left.next().is_none());
+    /// ```
+    final fn ancestors(self) -> Ancestors<'a, Self::Platform>
+        ensures { result ≡ Some (bytes_of self) }
+    {
+        Ancestors::new(OsStr::from_encoded_bytes_unchecked(self.path_bytes()))
     }
 
     /// The last component if it is a name (std's `Path::file_name`).
@@ -147,7 +168,26 @@ pub trait PathExt<'a>: Sized + Copy {
         parts::extension(OsStr::from_encoded_bytes_unchecked(self.path_bytes()))
     }
 
-    // Roots.
+    // Prefixes and roots.
+
+    /// The prefix of a Windows path, if it has one (std's `Component::Prefix`, and its `kind`);
+    /// `None` for a path of another platform.
+    ///
+    /// ```
+    /// use os_path::{PathExt, Prefix};
+    /// use platform_str::{OsStr, Path, Unix, Windows};
+    ///
+    /// let path = Path::<Windows>::new(OsStr::new("//server/share/a"));
+    /// let expected = Prefix::Unc(OsStr::new("server"), OsStr::new("share"));
+    /// assert!(rt; path.prefix() == Some(expected));
+    /// assert!(rt; Path::<Unix>::new(OsStr::new("C:/a")).prefix().is_none());
+    /// ```
+    final fn prefix(self) -> Option<Prefix<OsStr<'a, Self::Platform>>>
+        ensures { MatchOption result (HasNoPrefix Self.Platform.follows (bytes_of self))
+            (λ prefix. HasPrefix Self.Platform.follows (bytes_of self) (os_kind_of prefix)) }
+    {
+        prefixes::prefix_of(OsStr::from_encoded_bytes_unchecked(self.path_bytes()))
+    }
 
     /// Whether the path has a root (std's `Path::has_root`).
     ///

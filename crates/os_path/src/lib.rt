@@ -9,12 +9,15 @@
 //! surrogate pair is ever joined to another. No call allocates, and none has a condition.
 #![tactic(auto)]
 
+mod ancestors;
 mod components;
 mod ext;
 mod parts;
+mod prefixes;
 mod style;
 
+pub use ancestors::Ancestors;
 pub use components::Components;
 pub use ext::PathExt;
-pub use path_rules::{Component, Style};
+pub use path_rules::{Component, Prefix, Style};
 pub use style::PathStyle;
