@@ -1,5 +1,5 @@
 -- The next parent, as an option whose strings view sees as bytes.
-use Rattle.std.proofs.Common.{◌≡◌, ◌<◌, ◌+◌, ℕ, List, length, Option, Some, None, MatchOption, arith}
+use Rattle.std.proofs.Common.{◌<◌, ◌+◌, ℕ, List, length, Option, Some, None, MatchOption, arith}
 use Rattle.std.specs.Option.{option_map}
 use Rattle.path_rules.specs.declared.rules.Style.{Style}
 use Rattle.path_rules.specs.Parent.{IsParent, HasNoParent}

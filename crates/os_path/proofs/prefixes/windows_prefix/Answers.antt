@@ -1,4 +1,3 @@
-use Rattle.std.proofs.Common.{sym, subst}
 use Rattle.path_rules.specs.PrefixViews.{kind_of}
 use Rattle.os_path.proofs.lemmas.PrefixParts.{kind_formed}
 use Rattle.os_path.proofs.prefixes.windows_prefix.Goals as goal
