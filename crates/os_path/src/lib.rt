@@ -12,6 +12,7 @@
 mod ancestors;
 mod components;
 mod ext;
+pub mod laws;
 mod parts;
 mod prefixes;
 mod style;
