@@ -1,7 +1,8 @@
 -- What the contracts of paths say together.
-use Rattle.std.proofs.Common.{◌≡◌, ◌<◌, inl, inr, ℕ, List, [], ◌∷◌, ◌++◌, length, Option, Some, None, MatchOption, sym, ap, ◌∙◌, subst}
+use Rattle.std.proofs.Common.{◌≡◌, ◌<◌, inl, inr, ℕ, List, [], ◌∷◌, ◌++◌, length, Option, Some, None, MatchOption, refl, sym, ap, ◌∙◌, subst, take, drop}
 use Rattle.std.specs.Prelude.{IfSome}
-use Rattle.std.proofs.lemmas.List.{same_from_push}
+use Rattle.std.proofs.lemmas.List.{same_from_push, take_at}
+use Rattle.path_rules.specs.Cut.{IsAsciiCut}
 use Rattle.path_rules.specs.declared.rules.Style.{Style}
 use Rattle.path_rules.specs.Component.{Item}
 use Rattle.path_rules.specs.Components.{AreComponents}
@@ -57,3 +58,13 @@ whole_name w s stem extension names extensions h k =
     let same : h.0 ≡ name = names h.0 name h.1.0 k.1.1.0 in
     let stems : stem ≡ other = stem_is name stem other extension (λ e a. extensions name stem e other extension a is) (subst (λ x. IsStem x stem) same h.1.1) is in
     subst (HasFileName w s) (is.joined ∙ ap (λ x. x ++ 0x2E ∷ extension) (sym stems)) k.1.1.0
+
+-- the units of a parent begin the path's
+module _ {X : Type 0} (view : X → List ℕ) (w : Style) (s : List ℕ) (units : List ℕ → List ℕ)
+    (cut : (before after : List ℕ) → s ≡ before ++ after → IsAsciiCut before after → units s ≡ units (take (length before) s) ++ units (drop (length before) s)) where
+  pub begins_with_units : (r : Option X) → MatchOption r (HasNoParent w s) (λ p. IsParent w s (view p)) → IfSome r (λ p. (rest : List ℕ) × (units s ≡ units (view p) ++ rest))
+  begins_with_units None h = tt
+  begins_with_units (Some x) h =
+      let n = length (view x) in
+      let front : take n s ≡ view x = ap (take n) h.joined ∙ take_at (view x) h.after n refl in
+      (units (drop n s), cut (view x) h.after h.joined h.cut ∙ ap (λ y. units y ++ units (drop n s)) front)

@@ -234,6 +234,7 @@ pub use parts::three_parts;
 pub use parts::three_parts_from_the_end;
 pub use path_parts::parent_of;
 pub use path_parts::prefix_of_bytes;
+pub use path_parts::prefix_of_units;
 pub use path_parts::stem_and_extension;
 pub use path_parts::without_ends;
 pub use paths::bytes_of_path_cow;

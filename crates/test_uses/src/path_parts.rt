@@ -61,3 +61,14 @@ pub fn stem_and_extension<'a, E: PathStyle + 'a>(
     };
     Some((stem, extension))
 }
+
+/// The parent, whose units the path's units begin with: no surrogate pair is cut.
+pub fn prefix_of_units<'a, E: PathStyle + 'a>(path: Path<'a, E>) -> Option<Path<'a, E>>
+    ensures { IfSome result (λ parent. (units : List ℕ)
+        × (E.units (path_bytes path.entry) ≡ E.units (path_bytes parent) ++ units)) }
+{
+    os_path::laws::cut_boundaries();
+    platform_str::laws::cuts::<E>();
+    let _raw = path.path_bytes();
+    path.parent()
+}
