@@ -1,4 +1,5 @@
 pub mod Around
+pub mod PathParts
 pub mod CommandLines
 pub mod EqualOrder
 pub mod FirstAndLast

@@ -30,6 +30,7 @@ pub mod logs;
 pub mod lossy_chunks;
 pub mod orders;
 pub mod parts;
+pub mod path_parts;
 pub mod paths;
 pub mod patterns;
 pub mod pieces;

@@ -1,0 +1,6 @@
+pub mod Parts
+pub mod Cuts
+pub mod Whole
+pub mod Names
+pub mod Parents
+pub mod PrefixParts

@@ -1,0 +1,5 @@
+pub mod Formed
+pub mod Views
+pub mod Names
+pub mod Prefixes
+pub mod Ancestors

@@ -1,0 +1,323 @@
+//! The calls that every path of a platform has.
+ghost use Rattle.std.specs.Prelude.{List, ℕ, ◌≡◌, ◌↔◌, IsTrue, MatchOption, Some};
+ghost use Rattle.platform_str.specs.Strings.{bytes, path_bytes};
+ghost use Rattle.path_rules.specs.Components.{AreComponents};
+ghost use Rattle.path_rules.specs.Parent.{IsParent, HasNoParent, HasFileName, HasNoFileName};
+ghost use Rattle.path_rules.specs.Root.{HasRoot, IsAbsolute};
+ghost use Rattle.path_rules.specs.Compare.{StartsWith, EndsWith};
+ghost use Rattle.path_rules.specs.StyleRules.{rules_of_style};
+ghost use Rattle.path_rules.specs.Trailing.{EndsWithSeparator, TrimsTrailing};
+ghost use Rattle.os_path.specs.Prefixes.{os_kind_of, HasPrefix, HasNoPrefix};
+ghost use Rattle.os_path.specs.Names.{HasFileStem, HasFilePrefix, HasExtension, LacksExtension};
+
+use crate::ancestors::Ancestors;
+use crate::components::Components;
+use crate::style::PathStyle;
+use crate::{parts, prefixes};
+use path_rules::Prefix;
+use platform_str::{OsStr, Path};
+
+/// The calls of std's `Path` that look at the path alone, for a path of any platform.
+///
+/// A component is what `path_rules` says: parts between separators, where an empty part and `.`
+/// name nothing, but for a `.` at the start. `..` is never resolved. Each part that a call answers
+/// is a part of the path's bytes and a string of its platform.
+pub trait PathExt<'a>: Sized + Copy {
+    /// The platform whose rules the path follows.
+    type Platform: PathStyle + 'a;
+
+    // the path's bytes
+    ghost bytes_of: { Self → List ℕ };
+
+    /// The path's bytes (own call).
+    ///
+    /// ```
+    /// use os_path::PathExt;
+    /// use platform_str::{OsStr, Path, Unix};
+    ///
+    /// assert_eq!(rt; Path::<Unix>::new(OsStr::new("a/b")).path_bytes(), b"a/b".as_slice());
+    /// ```
+    fn path_bytes(self) -> &'a [u8]
+        ensures value { result.now ≡ bytes_of self }
+        ensures formed { Self.Platform.well_formed result.now };
+
+    // Components.
+
+    /// The components, from both ends (std's `Path::components`).
+    ///
+    /// ```
+    /// use os_path::{Component, PathExt};
+    /// use platform_str::{OsStr, Path, Windows};
+    ///
+    /// let mut left = Path::<Windows>::new(OsStr::new("C:\\a/.\\..")).components();
+    /// assert!(rt; left.next() == Some(Component::Prefix(OsStr::new("C:"))));
+    /// assert!(rt; left.next_back() == Some(Component::ParentDir));
+    /// assert!(rt; left.next() == Some(Component::RootDir));
+    /// assert!(rt; left.next() == Some(Component::Normal(OsStr::new("a"))));
+    /// assert!(rt; left.next().is_none());
+    /// ```
+    final fn components(self) -> Components<'a, Self::Platform>
+        ensures { AreComponents Self.Platform.follows (bytes_of self) result }
+    {
+        Components::new(OsStr::from_encoded_bytes_unchecked(self.path_bytes()))
+    }
+
+    /// The path without its last component (std's `Path::parent`); `None` if the path has no
+    /// component, or if its last one is a prefix or a root.
+    ///
+    /// ```
+    /// use os_path::PathExt;
+    /// use platform_str::{OsStr, Path, Unix};
+    ///
+    /// let path = Path::<Unix>::new(OsStr::new("/usr//lib/"));
+    /// assert!(rt; path.parent().is_some_and(|parent| parent.as_os_str() == OsStr::new("/usr")));
+    /// assert!(rt; Path::<Unix>::new(OsStr::new("/")).parent().is_none());
+    /// ```
+    final fn parent(self) -> Option<Path<'a, Self::Platform>>
+        ensures { MatchOption result (HasNoParent Self.Platform.follows (bytes_of self))
+            (λ parent. IsParent Self.Platform.follows (bytes_of self) (path_bytes parent)) }
+    {
+        match parts::parent(OsStr::from_encoded_bytes_unchecked(self.path_bytes())) {
+            Some(parent) => Some(Path::new(parent)),
+            None => None,
+        }
+    }
+
+    /// The path and its parents, each after the path that it is the parent of (std's
+    /// `Path::ancestors`).
+    ///
+    /// ```
+    /// use os_path::PathExt;
+    /// use platform_str::{OsStr, Path, Unix};
+    ///
+    /// let mut left = Path::<Unix>::new(OsStr::new("/a")).ancestors();
+    /// assert!(rt; left.next().is_some_and(|path| path.as_os_str() == OsStr::new("/a")));
+    /// assert!(rt; left.next().is_some_and(|path| path.as_os_str() == OsStr::new("/")));
+    /// assert!(rt; left.next().is_none());
+    /// ```
+    final fn ancestors(self) -> Ancestors<'a, Self::Platform>
+        ensures { result ≡ Some (bytes_of self) }
+    {
+        Ancestors::new(OsStr::from_encoded_bytes_unchecked(self.path_bytes()))
+    }
+
+    /// The last component if it is a name (std's `Path::file_name`).
+    ///
+    /// ```
+    /// use os_path::PathExt;
+    /// use platform_str::{OsStr, Path, Unix};
+    ///
+    /// let path = Path::<Unix>::new(OsStr::new("/usr/lib/."));
+    /// assert!(rt; path.file_name() == Some(OsStr::new("lib")));
+    /// assert!(rt; Path::<Unix>::new(OsStr::new("a/..")).file_name().is_none());
+    /// ```
+    final fn file_name(self) -> Option<OsStr<'a, Self::Platform>>
+        ensures { MatchOption result (HasNoFileName Self.Platform.follows (bytes_of self))
+            (λ name. HasFileName Self.Platform.follows (bytes_of self) (bytes name)) }
+    {
+        parts::file_name(OsStr::from_encoded_bytes_unchecked(self.path_bytes()))
+    }
+
+    /// The last name without its extension and the dot before it (std's `Path::file_stem`).
+    ///
+    /// ```
+    /// use os_path::PathExt;
+    /// use platform_str::{OsStr, Path, Unix};
+    ///
+    /// let path = Path::<Unix>::new(OsStr::new("a/b.tar.gz"));
+    /// assert!(rt; path.file_stem() == Some(OsStr::new("b.tar")));
+    /// ```
+    final fn file_stem(self) -> Option<OsStr<'a, Self::Platform>>
+        ensures { MatchOption result (HasNoFileName Self.Platform.follows (bytes_of self))
+            (λ stem. HasFileStem Self.Platform.follows (bytes_of self) (bytes stem)) }
+    {
+        parts::file_stem(OsStr::from_encoded_bytes_unchecked(self.path_bytes()))
+    }
+
+    /// The last name up to its first dot that isn't its first byte (std's `Path::file_prefix`).
+    ///
+    /// ```
+    /// use os_path::PathExt;
+    /// use platform_str::{OsStr, Path, Unix};
+    ///
+    /// let path = Path::<Unix>::new(OsStr::new("a/b.tar.gz"));
+    /// assert!(rt; path.file_prefix() == Some(OsStr::new("b")));
+    /// ```
+    final fn file_prefix(self) -> Option<OsStr<'a, Self::Platform>>
+        ensures { MatchOption result (HasNoFileName Self.Platform.follows (bytes_of self))
+            (λ prefix. HasFilePrefix Self.Platform.follows (bytes_of self) (bytes prefix)) }
+    {
+        parts::file_prefix(OsStr::from_encoded_bytes_unchecked(self.path_bytes()))
+    }
+
+    /// What comes after the last dot of the last name, if that dot isn't its first byte (std's
+    /// `Path::extension`).
+    ///
+    /// ```
+    /// use os_path::PathExt;
+    /// use platform_str::{OsStr, Path, Unix};
+    ///
+    /// let path = Path::<Unix>::new(OsStr::new("a/b.tar.gz"));
+    /// assert!(rt; path.extension() == Some(OsStr::new("gz")));
+    /// assert!(rt; Path::<Unix>::new(OsStr::new("a/.profile")).extension().is_none());
+    /// ```
+    final fn extension(self) -> Option<OsStr<'a, Self::Platform>>
+        ensures { MatchOption result (LacksExtension Self.Platform.follows (bytes_of self))
+            (λ extension. HasExtension Self.Platform.follows (bytes_of self) (bytes extension)) }
+    {
+        parts::extension(OsStr::from_encoded_bytes_unchecked(self.path_bytes()))
+    }
+
+    // Prefixes and roots.
+
+    /// The prefix of a Windows path, if it has one (std's `Component::Prefix`, and its `kind`);
+    /// `None` for a path of another platform.
+    ///
+    /// ```
+    /// use os_path::{PathExt, Prefix};
+    /// use platform_str::{OsStr, Path, Unix, Windows};
+    ///
+    /// let path = Path::<Windows>::new(OsStr::new("//server/share/a"));
+    /// let expected = Prefix::Unc(OsStr::new("server"), OsStr::new("share"));
+    /// assert!(rt; path.prefix() == Some(expected));
+    /// assert!(rt; Path::<Unix>::new(OsStr::new("C:/a")).prefix().is_none());
+    /// ```
+    final fn prefix(self) -> Option<Prefix<OsStr<'a, Self::Platform>>>
+        ensures { MatchOption result (HasNoPrefix Self.Platform.follows (bytes_of self))
+            (λ prefix. HasPrefix Self.Platform.follows (bytes_of self) (os_kind_of prefix)) }
+    {
+        prefixes::prefix_of(OsStr::from_encoded_bytes_unchecked(self.path_bytes()))
+    }
+
+    /// Whether the path has a root (std's `Path::has_root`).
+    ///
+    /// ```
+    /// use os_path::PathExt;
+    /// use platform_str::{OsStr, Path, Windows};
+    ///
+    /// assert!(rt; Path::<Windows>::new(OsStr::new("C:\\a")).has_root());
+    /// assert!(rt; !Path::<Windows>::new(OsStr::new("C:a")).has_root());
+    /// ```
+    final fn has_root(self) -> bool
+        ensures { IsTrue result ↔ HasRoot Self.Platform.follows (bytes_of self) }
+    {
+        path_rules::has_root(Self::Platform::style(), self.path_bytes())
+    }
+
+    /// Whether the path is absolute (std's `Path::is_absolute`): on Unix and wasm, if it has a
+    /// root; on Windows, if it has a prefix and a root.
+    ///
+    /// ```
+    /// use os_path::PathExt;
+    /// use platform_str::{OsStr, Path, Windows};
+    ///
+    /// assert!(rt; Path::<Windows>::new(OsStr::new("C:\\a")).is_absolute());
+    /// assert!(rt; !Path::<Windows>::new(OsStr::new("\\a")).is_absolute());
+    /// ```
+    final fn is_absolute(self) -> bool
+        ensures { IsTrue result ↔ IsAbsolute Self.Platform.follows (bytes_of self) }
+    {
+        path_rules::is_absolute(Self::Platform::style(), self.path_bytes())
+    }
+
+    /// Whether the path isn't absolute (std's `Path::is_relative`).
+    ///
+    /// ```
+    /// use os_path::PathExt;
+    /// use platform_str::{OsStr, Path, Unix};
+    ///
+    /// assert!(rt; Path::<Unix>::new(OsStr::new("a")).is_relative());
+    /// ```
+    final fn is_relative(self) -> bool
+        ensures { IsTrue result ↔ (¬ (IsAbsolute Self.Platform.follows (bytes_of self))) }
+    {
+        !path_rules::is_absolute(Self::Platform::style(), self.path_bytes())
+    }
+
+    // Comparisons.
+
+    /// Whether the first components of the path are those of the base (std's `Path::starts_with`).
+    /// Components are compared, not bytes.
+    ///
+    /// ```
+    /// use os_path::PathExt;
+    /// use platform_str::{OsStr, Path, Unix};
+    ///
+    /// let path = Path::<Unix>::new(OsStr::new("/usr//lib"));
+    /// assert!(rt; path.starts_with(Path::new(OsStr::new("/usr/"))));
+    /// assert!(rt; !path.starts_with(Path::new(OsStr::new("/us"))));
+    /// ```
+    final fn starts_with(self, base: Path<'_, Self::Platform>) -> bool
+        ensures { IsTrue result ↔ StartsWith Self.Platform.follows (bytes_of self) (path_bytes base.entry) }
+    {
+        path_rules::starts_with(
+            Self::Platform::style(),
+            self.path_bytes(),
+            base.as_os_str().as_encoded_bytes(),
+        )
+    }
+
+    /// Whether the last components of the path are those of the child (std's `Path::ends_with`).
+    ///
+    /// ```
+    /// use os_path::PathExt;
+    /// use platform_str::{OsStr, Path, Unix};
+    ///
+    /// let path = Path::<Unix>::new(OsStr::new("/usr/lib/"));
+    /// assert!(rt; path.ends_with(Path::new(OsStr::new("lib"))));
+    /// assert!(rt; !path.ends_with(Path::new(OsStr::new("/lib"))));
+    /// ```
+    final fn ends_with(self, child: Path<'_, Self::Platform>) -> bool
+        ensures { IsTrue result ↔ EndsWith Self.Platform.follows (bytes_of self) (path_bytes child.entry) }
+    {
+        path_rules::ends_with(
+            Self::Platform::style(),
+            self.path_bytes(),
+            child.as_os_str().as_encoded_bytes(),
+        )
+    }
+
+    // Separators at the end.
+
+    /// Whether the last byte is a separator (std's `Path::has_trailing_sep`).
+    ///
+    /// ```
+    /// use os_path::PathExt;
+    /// use platform_str::{OsStr, Path, Unix};
+    ///
+    /// assert!(rt; Path::<Unix>::new(OsStr::new("a/")).has_trailing_sep());
+    /// ```
+    final fn has_trailing_sep(self) -> bool
+        ensures { IsTrue result ↔ EndsWithSeparator (rules_of_style Self.Platform.follows) (bytes_of self) }
+    {
+        path_rules::has_trailing_sep(Self::Platform::style(), self.path_bytes())
+    }
+
+    /// The path without the separators at its end (std's `Path::trim_trailing_sep`). A path that
+    /// has a root and no parent is kept as it is.
+    ///
+    /// ```
+    /// use os_path::PathExt;
+    /// use platform_str::{OsStr, Path, Unix};
+    ///
+    /// let path = Path::<Unix>::new(OsStr::new("a//"));
+    /// assert!(rt; path.trim_trailing_sep().as_os_str() == OsStr::new("a"));
+    /// ```
+    final fn trim_trailing_sep(self) -> Path<'a, Self::Platform>
+        ensures { TrimsTrailing Self.Platform.follows (bytes_of self) (path_bytes result) }
+    {
+        Path::new(parts::trim_trailing_sep(OsStr::from_encoded_bytes_unchecked(self.path_bytes())))
+    }
+}
+
+impl<'a, E: PathStyle + 'a> PathExt<'a> for Path<'a, E> {
+    ghost use Rattle.platform_str.specs.Strings.{path_bytes};
+
+    type Platform = E;
+
+    ghost bytes_of = { path_bytes };
+
+    fn path_bytes(self) -> &'a [u8] {
+        self.as_os_str().as_encoded_bytes()
+    }
+}

@@ -1,0 +1,17 @@
+pub mod Separators
+pub mod StyleRules
+pub mod Component
+pub mod Views
+pub mod Prefix
+pub mod PrefixViews
+pub mod Heads
+pub mod Cut
+pub mod Components
+pub mod HeadParts
+pub mod Parent
+pub mod Normal
+pub mod Name
+pub mod Reserved
+pub mod Compare
+pub mod Root
+pub mod Trailing

@@ -1,0 +1,72 @@
+//! The components of what follows a path's prefix and root, from both ends.
+ghost use Rattle.std.specs.Prelude.{◌≡◌, ◌∷◌, ◌++◌, ◌<◌, ◌⊎◌, [], length, MatchOption, IfSome};
+ghost use Rattle.path_rules.specs.Separators.{IsUpTo};
+ghost use Rattle.path_rules.specs.Component.{components_in, EndsNamed};
+ghost use Rattle.path_rules.specs.Views.{item_of};
+ghost use Rattle.path_rules.specs.Parent.{IsBelow};
+
+use crate::component::{Component, component_of};
+use crate::rules::Rules;
+
+/// The first component, and what follows it.
+pub fn next_in(rules: Rules, body: &[u8]) -> Option<(Component<&[u8]>, &[u8])>
+    ensures { MatchOption result (components_in rules body.now ≡ [])
+        (λ first. components_in rules body.now ≡ item_of first.0 ∷ components_in rules first.1.now) }
+{
+    let mut left = body;
+    loop {
+        let Some((part, rest)) = rules.split_first(left) else {
+            return match component_of(rules, left) {
+                Some(item) => Some((item, b"".as_slice())),
+                None => None,
+            };
+        };
+        if let Some(item) = component_of(rules, part) {
+            return Some((item, rest));
+        }
+        left = rest;
+    }
+}
+
+/// The last component, and what comes before it.
+pub fn next_back_in(rules: Rules, body: &[u8]) -> Option<(&[u8], Component<&[u8]>)>
+    ensures items { MatchOption result (components_in rules body.now ≡ [])
+        (λ last. components_in rules body.now ≡ components_in rules last.0.now ++ item_of last.1 ∷ []) }
+    ensures before { IfSome result (λ last. (last.0.now ≡ []) ⊎ IsUpTo rules body.now last.0.now) }
+    ensures below { IfSome result (λ last. IsBelow (item_of last.1)) }
+{
+    let mut left = body;
+    loop {
+        let Some((rest, part)) = rules.split_last(left) else {
+            return match component_of(rules, left) {
+                Some(item) => Some((b"".as_slice(), item)),
+                None => None,
+            };
+        };
+        if let Some(item) = component_of(rules, part) {
+            return Some((rest, item));
+        }
+        left = rest;
+    }
+}
+
+/// Without the separators and parts at the end that name nothing.
+pub fn trimmed(rules: Rules, body: &[u8]) -> &[u8]
+    ensures items { components_in rules body.now ≡ components_in rules result.now }
+    ensures before { (result.now ≡ []) ⊎ IsUpTo rules body.now result.now }
+    ensures named { EndsNamed rules result.now }
+{
+    let mut left = body;
+    loop {
+        let Some((rest, part)) = rules.split_last(left) else {
+            return match component_of(rules, left) {
+                Some(_) => left,
+                None => b"".as_slice(),
+            };
+        };
+        if let Some(_) = component_of(rules, part) {
+            return left;
+        }
+        left = rest;
+    }
+}

@@ -1,0 +1,106 @@
+//! The parts of a name around its dots.
+ghost use Rattle.std.specs.Prelude.{◌≡◌, ◌↔◌, IsTrue, MatchOption, List, ℕ};
+ghost use Rattle.path_rules.specs.Name.{IsExtension, HasNoExtension, IsStem, IsNamePrefix, dot_dot};
+
+/// The name without its extension, and the extension: what comes before the last dot, and what
+/// comes after it. `None` if the only dot is the first byte, if there is none, and for `..`.
+///
+/// The two parts, joined by a dot, are the name.
+///
+/// ```
+/// use path_rules::split_extension;
+///
+/// assert!(rt; split_extension(b"a.tar.gz") == Some((b"a.tar".as_slice(), b"gz".as_slice())));
+/// assert!(rt; split_extension(b"a.") == Some((b"a".as_slice(), b"".as_slice())));
+/// assert!(rt; split_extension(b".profile").is_none() && split_extension(b"..").is_none());
+/// ```
+pub fn split_extension(name: &[u8]) -> Option<(&[u8], &[u8])>
+    ensures { MatchOption result (HasNoExtension name.now)
+        (λ parts. IsExtension name.now parts.0.now parts.1.now) }
+{
+    if is_dot_dot(name) {
+        return None;
+    }
+    let mut at = name.len();
+    while at > 1 {
+        if name[at - 1] == b'.' {
+            return Some((&name[..at - 1], &name[at..]));
+        }
+        at -= 1;
+    }
+    None
+}
+
+/// The name without its extension and the dot before it (std's `Path::file_stem` of a path whose
+/// last component is the name); the name itself if it has no extension.
+///
+/// ```
+/// use path_rules::stem;
+///
+/// assert_eq!(rt; stem(b"a.tar.gz"), b"a.tar".as_slice());
+/// assert_eq!(rt; stem(b".profile"), b".profile".as_slice());
+/// ```
+pub fn stem(name: &[u8]) -> &[u8]
+    ensures { IsStem name.now result.now }
+{
+    match split_extension(name) {
+        Some((stem, _)) => stem,
+        None => name,
+    }
+}
+
+/// What comes after the last dot of a name (std's `Path::extension` of a path whose last component
+/// is the name); `None` if the only dot is the first byte, if there is none, and for `..`.
+///
+/// ```
+/// use path_rules::extension;
+///
+/// assert_eq!(rt; extension(b"a.tar.gz"), Some(b"gz".as_slice()));
+/// assert_eq!(rt; extension(b".profile"), None);
+/// ```
+pub fn extension(name: &[u8]) -> Option<&[u8]>
+    ensures { MatchOption result (HasNoExtension name.now)
+        (λ extension. (stem : List ℕ) × IsExtension name.now stem extension.now) }
+{
+    match split_extension(name) {
+        Some((_, extension)) => Some(extension),
+        None => None,
+    }
+}
+
+/// What comes before the first dot of a name that isn't its first byte (std's `Path::file_prefix`
+/// of a path whose last component is the name); the name itself if there is no such dot, and for
+/// `..`.
+///
+/// ```
+/// use path_rules::name_prefix;
+///
+/// assert_eq!(rt; name_prefix(b"a.tar.gz"), b"a".as_slice());
+/// assert_eq!(rt; name_prefix(b".profile.d"), b".profile".as_slice());
+/// ```
+pub fn name_prefix(name: &[u8]) -> &[u8]
+    ensures { IsNamePrefix name.now result.now }
+{
+    if is_dot_dot(name) {
+        return name;
+    }
+    let mut at = 1;
+    while at < name.len() {
+        if name[at] == b'.' {
+            return &name[..at];
+        }
+        at += 1;
+    }
+    name
+}
+
+/// Whether a name is `..`.
+#[inline(always)]
+fn is_dot_dot(name: &[u8]) -> bool
+    ensures { IsTrue result ↔ (name.now ≡ dot_dot) }
+{
+    match name {
+        [b'.', b'.'] => true,
+        _ => false,
+    }
+}

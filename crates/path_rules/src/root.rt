@@ -1,0 +1,85 @@
+//! Whether a path has a root, and whether it is absolute.
+ghost use Rattle.std.specs.Prelude.{◌↔◌, IsTrue};
+ghost use Rattle.path_rules.specs.PrefixViews.{kind_of};
+ghost use Rattle.path_rules.specs.declared.rules.Style.TheVariants as whose;
+ghost use Rattle.path_rules.specs.Root.{BeginsWithSeparator, HasRootAfter, HasPrefixAndRoot, HasBareRoot, HasRoot, IsAbsolute};
+
+use crate::prefix::{Prefix, windows_prefix};
+use crate::rules::{Rules, Style};
+
+/// Whether the path has a root (std's `Path::has_root`).
+///
+/// A Unix path has one if it begins with `/`, and so has a Windows path without a prefix that
+/// begins with `/` or `\`. After a drive, as in `C:\`, the root is such a separator; every other
+/// prefix has a root, also where no separator follows it.
+///
+/// ```
+/// use path_rules::{Style, has_root};
+///
+/// assert!(rt; has_root(Style::Unix, b"/a") && !has_root(Style::Unix, b"a"));
+/// assert!(rt; has_root(Style::Windows, br"C:\a") && !has_root(Style::Windows, b"C:a"));
+/// assert!(rt; has_root(Style::Windows, br"\\server\share"));
+/// ```
+pub fn has_root(style: Style, path: &[u8]) -> bool
+    ensures { IsTrue result ↔ HasRoot style path.now }
+{
+    match style {
+        Style::Unix => begins_with_separator(Rules::Slash, path),
+        Style::Windows => has_windows_root(path),
+    }
+}
+
+/// Whether the path is absolute (std's `Path::is_absolute`): on Unix, if it has a root; on Windows,
+/// if it has a prefix and a root.
+///
+/// ```
+/// use path_rules::{Style, is_absolute};
+///
+/// assert!(rt; is_absolute(Style::Unix, b"/a"));
+/// assert!(rt; is_absolute(Style::Windows, br"C:\a") && !is_absolute(Style::Windows, br"\a"));
+/// ```
+pub fn is_absolute(style: Style, path: &[u8]) -> bool
+    ensures { IsTrue result ↔ IsAbsolute style path.now }
+{
+    match style {
+        Style::Unix => begins_with_separator(Rules::Slash, path),
+        Style::Windows => has_prefix_and_root(path),
+    }
+}
+
+#[inline(always)]
+fn begins_with_separator(rules: Rules, path: &[u8]) -> bool
+    ensures { IsTrue result ↔ BeginsWithSeparator rules path.now }
+{
+    match path {
+        [first, ..] => rules.is_separator(*first),
+        [] => false,
+    }
+}
+
+fn has_root_after(prefix: Prefix<&[u8]>, rest: &[u8]) -> bool
+    ensures { IsTrue result ↔ HasRootAfter (kind_of prefix.entry) rest.now }
+{
+    match prefix {
+        Prefix::Disk(_) => begins_with_separator(Rules::Either, rest),
+        _ => true,
+    }
+}
+
+fn has_prefix_and_root(path: &[u8]) -> bool
+    ensures { IsTrue result ↔ HasPrefixAndRoot path.now }
+{
+    match windows_prefix(path) {
+        Some((prefix, rest)) => has_root_after(prefix, rest),
+        None => false,
+    }
+}
+
+fn has_windows_root(path: &[u8]) -> bool
+    ensures { IsTrue result ↔ HasRoot whose.Windows path.now }
+{
+    match windows_prefix(path) {
+        Some((prefix, rest)) => has_root_after(prefix, rest),
+        None => begins_with_separator(Rules::Either, path),
+    }
+}

@@ -1,0 +1,120 @@
+//! Which bytes separate, and whose rules a path follows.
+ghost use Rattle.std.specs.Prelude.{◌≡◌, ◌++◌, ◌∷◌, ◌<◌, length, MatchOption, IfSome};
+ghost use Rattle.std.specs.List.{All, AllPass};
+ghost use Rattle.path_rules.specs.Separators.{separates, IsPlain, IsCut, IsField};
+ghost use Rattle.path_rules.specs.StyleRules.{rules_of_style, main_separator};
+
+/// Which bytes separate the components of a path.
+#[derive(Clone, Copy, Debug, PartialEq, Eq)]
+pub enum Rules {
+    /// `/` alone: Unix and wasm.
+    Slash,
+    /// `/` and `\`: Windows.
+    Either,
+    /// `\` alone, and `.` is a component: Windows paths that begin with `\\?\`.
+    Verbatim,
+}
+
+impl Rules {
+    /// Whether a byte separates (std's `path::is_separator`, of a byte).
+    ///
+    /// ```
+    /// use path_rules::Rules;
+    ///
+    /// assert!(rt; Rules::Either.is_separator(b'/') && !Rules::Verbatim.is_separator(b'/'));
+    /// ```
+    #[inline(always)]
+    pub fn is_separator(self, byte: u8) -> bool
+        ensures { result ≡ separates self byte }
+    {
+        match self {
+            Rules::Slash => byte == b'/',
+            Rules::Either => byte == b'/' || byte == b'\\',
+            Rules::Verbatim => byte == b'\\',
+        }
+    }
+
+    /// What comes before the first separator, and what comes after it; `None` where there is none.
+    pub(crate) fn split_first(self, path: &[u8]) -> Option<(&[u8], &[u8])>
+        ensures { MatchOption result (IsPlain self path.now)
+            (λ cut. IsCut self path.now cut.0.now cut.1.now × IsPlain self cut.0.now) }
+    {
+        for (i, b) in path.iter().enumerate() {
+            if self.is_separator(*b) {
+                return Some((&path[..i], &path[i + 1..]));
+            }
+        }
+        None
+    }
+
+    /// What comes before the first separator, and what follows from there on.
+    pub(crate) fn split_field(self, path: &[u8]) -> (&[u8], &[u8])
+        ensures { IsField self path.now result.0.now result.1.now }
+    {
+        for (i, b) in path.iter().enumerate() {
+            if self.is_separator(*b) {
+                return (&path[..i], &path[i..]);
+            }
+        }
+        (path, b"".as_slice())
+    }
+
+    /// What comes before the last separator, and what comes after it; `None` where there is none.
+    pub(crate) fn split_last(self, path: &[u8]) -> Option<(&[u8], &[u8])>
+        ensures { MatchOption result (IsPlain self path.now)
+            (λ cut. IsCut self path.now cut.0.now cut.1.now × IsPlain self cut.1.now) }
+    {
+        let mut at = path.len();
+        while at > 0 {
+            if self.is_separator(path[at - 1]) {
+                return Some((&path[..at - 1], &path[at..]));
+            }
+            at -= 1;
+        }
+        None
+    }
+}
+
+/// Whose rules a path follows.
+#[derive(Clone, Copy, Debug, PartialEq, Eq)]
+pub enum Style {
+    /// POSIX: `/` separates, and there are no prefixes.
+    Unix,
+    /// Windows: `/` and `\` separate, and a path may begin with a prefix, as `C:` or
+    /// `\\server\share`; after one that begins with `\\?\` only `\` separates.
+    Windows,
+}
+
+impl Style {
+    /// What separates in a path without a prefix.
+    ///
+    /// ```
+    /// use path_rules::{Rules, Style};
+    ///
+    /// assert!(rt; Style::Unix.rules() == Rules::Slash && Style::Windows.rules() == Rules::Either);
+    /// ```
+    pub fn rules(self) -> Rules
+        ensures { result ≡ rules_of_style self }
+    {
+        match self {
+            Style::Unix => Rules::Slash,
+            Style::Windows => Rules::Either,
+        }
+    }
+
+    /// The separator that is written: `/` on Unix, `\` on Windows (std's `MAIN_SEPARATOR`).
+    ///
+    /// ```
+    /// use path_rules::Style;
+    ///
+    /// assert!(rt; Style::Unix.main_separator() == b'/' && Style::Windows.main_separator() == b'\\');
+    /// ```
+    pub fn main_separator(self) -> u8
+        ensures { result ≡ main_separator self }
+    {
+        match self {
+            Style::Unix => b'/',
+            Style::Windows => b'\\',
+        }
+    }
+}

@@ -1,0 +1,70 @@
+-- What the contracts of paths say together.
+use Rattle.std.proofs.Common.{◌≡◌, ◌<◌, inl, inr, ℕ, List, [], ◌∷◌, ◌++◌, length, Option, Some, None, MatchOption, refl, sym, ap, ◌∙◌, subst, take, drop}
+use Rattle.std.specs.Prelude.{IfSome}
+use Rattle.std.proofs.lemmas.List.{same_from_push, take_at}
+use Rattle.path_rules.specs.Cut.{IsAsciiCut}
+use Rattle.path_rules.specs.declared.rules.Style.{Style}
+use Rattle.path_rules.specs.Component.{Item}
+use Rattle.path_rules.specs.Components.{AreComponents}
+use Rattle.path_rules.specs.Parent.{IsParent, HasNoParent, HasFileName}
+use Rattle.path_rules.specs.Name.{IsExtension, IsStem}
+use Rattle.os_path.specs.Names.{HasFileStem, HasExtension}
+
+push_some : (xs : List Item) (x : Item) → xs ++ x ∷ [] ≡ [] → ⊥
+push_some [] x e = cc
+push_some (y ∷ xs) x e = cc
+
+-- the first item was taken, and then the last
+pub ends_taken : {X : Type 0} (view : X → Item) (r q : Option X) (xs ys zs : List Item) (first : Item) (middle : List Item) (last : Item)
+    → MatchOption r ((xs ≡ []) × (ys ≡ [])) (λ x. xs ≡ view x ∷ ys) → MatchOption q ((ys ≡ []) × (zs ≡ [])) (λ x. ys ≡ zs ++ view x ∷ [])
+    → xs ≡ first ∷ (middle ++ last ∷ []) → zs ≡ middle
+ends_taken view None q xs ys zs first middle last h k e = let never : [] ≡ first ∷ (middle ++ last ∷ []) = sym h.0 ∙ e in cc
+ends_taken view (Some x) None xs ys zs first middle last h k e =
+    let both : view x ∷ ys ≡ first ∷ (middle ++ last ∷ []) = sym h ∙ e in
+    let rest : ys ≡ middle ++ last ∷ [] = cc in
+    absurd (push_some middle last (sym rest ∙ k.0))
+ends_taken view (Some x) (Some y) xs ys zs first middle last h k e =
+    let both : view x ∷ ys ≡ first ∷ (middle ++ last ∷ []) = sym h ∙ e in
+    let rest : ys ≡ middle ++ last ∷ [] = cc in
+    (same_from_push zs middle (view y) last (sym k ∙ rest)).0
+
+module _ {X : Type 0} (view : X → List ℕ) (w : Style) (s : List ℕ) where
+  pub all_but_last : ((one other : List Item) → AreComponents w s one → AreComponents w s other → one ≡ other) → (r : Option X) → MatchOption r (HasNoParent w s) (λ p. IsParent w s (view p))
+      → IfSome r (λ p. (items : List Item) (last : Item) → AreComponents w s (items ++ last ∷ []) → AreComponents w (view p) items)
+  all_but_last one None h = tt
+  all_but_last one (Some x) h = λ items last are.
+      subst (AreComponents w (view x)) ((same_from_push h.items items h.last last (one (h.items ++ h.last ∷ []) (items ++ last ∷ []) h.whole are)).0) h.are
+
+  pub begins_with : (r : Option X) → MatchOption r (HasNoParent w s) (λ p. IsParent w s (view p)) → IfSome r (λ p. (after : List ℕ) × (s ≡ view p ++ after))
+  begins_with None h = tt
+  begins_with (Some x) h = (h.after, h.joined)
+
+  pub is_shorter : ((parent : List ℕ) → IsParent w s parent → length parent < length s) → (r : Option X) → MatchOption r (HasNoParent w s) (λ p. IsParent w s (view p))
+      → IfSome r (λ p. length (view p) < length s)
+  is_shorter law None h = tt
+  is_shorter law (Some x) h = law (view x) h
+
+-- the stem of a name that has an extension
+stem_is : (name stem other extension : List ℕ) → ((e : List ℕ) → IsExtension name stem e → stem ≡ other) → IsStem name stem → IsExtension name other extension → stem ≡ other
+stem_is name stem other extension one (inl h) e = one h.0 h.1
+stem_is name stem other extension one (inr h) e = absurd (h.0 other extension e)
+
+pub whole_name : (w : Style) (s stem extension : List ℕ) → ((a b : List ℕ) → HasFileName w s a → HasFileName w s b → a ≡ b)
+    → ((name a e b f : List ℕ) → IsExtension name a e → IsExtension name b f → a ≡ b) → HasFileStem w s stem → HasExtension w s extension → HasFileName w s (stem ++ 0x2E ∷ extension)
+whole_name w s stem extension names extensions h k =
+    let name = k.0 in
+    let other = k.1.0 in
+    let is = k.1.1.1 in
+    let same : h.0 ≡ name = names h.0 name h.1.0 k.1.1.0 in
+    let stems : stem ≡ other = stem_is name stem other extension (λ e a. extensions name stem e other extension a is) (subst (λ x. IsStem x stem) same h.1.1) is in
+    subst (HasFileName w s) (is.joined ∙ ap (λ x. x ++ 0x2E ∷ extension) (sym stems)) k.1.1.0
+
+-- the units of a parent begin the path's
+module _ {X : Type 0} (view : X → List ℕ) (w : Style) (s : List ℕ) (units : List ℕ → List ℕ)
+    (cut : (before after : List ℕ) → s ≡ before ++ after → IsAsciiCut before after → units s ≡ units (take (length before) s) ++ units (drop (length before) s)) where
+  pub begins_with_units : (r : Option X) → MatchOption r (HasNoParent w s) (λ p. IsParent w s (view p)) → IfSome r (λ p. (rest : List ℕ) × (units s ≡ units (view p) ++ rest))
+  begins_with_units None h = tt
+  begins_with_units (Some x) h =
+      let n = length (view x) in
+      let front : take n s ≡ view x = ap (take n) h.joined ∙ take_at (view x) h.after n refl in
+      (units (drop n s), cut (view x) h.after h.joined h.cut ∙ ap (λ y. units y ++ units (drop n s)) front)

@@ -1,0 +1,74 @@
+//! Paths taken apart: what their components, parents and names have to do with each other.
+ghost use Rattle.std.specs.Prelude.{◌≡◌, ◌++◌, ◌∷◌, ◌<◌, [], ℕ, List, IfSome, length};
+ghost use Rattle.platform_str.specs.Strings.{bytes, path_bytes};
+ghost use Rattle.path_rules.specs.Component.{Item};
+ghost use Rattle.path_rules.specs.Components.{AreComponents};
+ghost use Rattle.path_rules.specs.Parent.{HasFileName};
+
+use os_path::{Components, PathExt, PathStyle};
+use path_rules::laws;
+use platform_str::{OsStr, Path};
+
+/// What is left of the components after the first and the last one.
+pub fn without_ends<'a, E: PathStyle + 'a>(path: Path<'a, E>) -> Components<'a, E>
+    ensures { (first : Item) → (middle : List Item) → (last : Item)
+        → AreComponents E.follows (path_bytes path.entry) (first ∷ (middle ++ last ∷ []))
+        → result ≡ middle }
+{
+    laws::one_list();
+    let mut left = path.components();
+    let _ = left.next();
+    let _ = left.next_back();
+    left
+}
+
+/// The parent, whose components are all but the last of the path's.
+pub fn parent_of<'a, E: PathStyle + 'a>(path: Path<'a, E>) -> Option<Path<'a, E>>
+    ensures { IfSome result (λ parent. (items : List Item) → (last : Item)
+        → AreComponents E.follows (path_bytes path.entry) (items ++ last ∷ [])
+        → AreComponents E.follows (path_bytes parent) items) }
+{
+    laws::one_list();
+    path.parent()
+}
+
+/// The parent, which the path's bytes begin with, and which is shorter.
+pub fn prefix_of_bytes<'a, E: PathStyle + 'a>(path: Path<'a, E>) -> Option<Path<'a, E>>
+    ensures bytes { IfSome result (λ parent. (after : List ℕ)
+        × (path_bytes path.entry ≡ path_bytes parent ++ after)) }
+    ensures shorter { IfSome result (λ parent. length (path_bytes parent)
+        < length (path_bytes path.entry)) }
+{
+    laws::parent_is_shorter();
+    path.parent()
+}
+
+/// The stem and the extension of the last name: with a dot between they are the name.
+pub fn stem_and_extension<'a, E: PathStyle + 'a>(
+    path: Path<'a, E>,
+) -> Option<(OsStr<'a, E>, OsStr<'a, E>)>
+    ensures { IfSome result (λ parts. HasFileName E.follows (path_bytes path.entry)
+        (bytes parts.0 ++ 0x2E ∷ bytes parts.1)) }
+{
+    laws::one_extension();
+    laws::one_file_name();
+    let _components = path.components();
+    let Some(stem) = path.file_stem() else {
+        return None;
+    };
+    let Some(extension) = path.extension() else {
+        return None;
+    };
+    Some((stem, extension))
+}
+
+/// The parent, whose units the path's units begin with: no surrogate pair is cut.
+pub fn prefix_of_units<'a, E: PathStyle + 'a>(path: Path<'a, E>) -> Option<Path<'a, E>>
+    ensures { IfSome result (λ parent. (units : List ℕ)
+        × (E.units (path_bytes path.entry) ≡ E.units (path_bytes parent) ++ units)) }
+{
+    os_path::laws::cut_boundaries();
+    platform_str::laws::cuts::<E>();
+    let _raw = path.path_bytes();
+    path.parent()
+}
