@@ -1,0 +1,4 @@
+pub mod Windows
+pub mod WindowsReader
+pub mod WindowsSteps
+pub mod WindowsViews
