@@ -5,3 +5,5 @@ pub mod WindowsStrings
 pub mod WindowsScan
 pub mod WindowsUnits
 pub mod WindowsCuts
+pub mod WindowsWriting
+pub mod WindowsLines

@@ -2,3 +2,4 @@ pub mod Windows
 pub mod WindowsReader
 pub mod WindowsSteps
 pub mod WindowsViews
+pub mod WindowsWriting

@@ -6,11 +6,18 @@
 
 mod argument;
 mod arguments;
+mod checks;
 mod cuts;
+mod error;
+pub mod laws;
+mod owned;
 mod place;
 mod scan;
 mod units;
+mod writing;
 
 pub use argument::Argument;
 pub use arguments::Arguments;
+pub use error::CommandLineError;
 pub use units::ArgumentUnits;
+pub use writing::{command_line, push_argument};

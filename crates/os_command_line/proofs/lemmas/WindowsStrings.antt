@@ -3,6 +3,7 @@ use Rattle.std.proofs.Common.{◌≡◌, ◌≢◌, ℕ, ◌+◌, ◌<◌, ◌�
 use Rattle.std.specs.List.{AllByRecursion, flat_map}
 use Rattle.std.proofs.lemmas.Grind.{flat_map-append}
 use Rattle.std.proofs.lemmas.Bool.{cases_lt}
+use Rattle.std.proofs.lemmas.List.{nil_from_length}
 use Rattle.wtf8_core.specs.CodePoint.{IsCodePoint, encode, encode_utf16}
 use Rattle.wtf8_core.specs.Wtf8.{Encodes, IsWtf8, HasNoSurrogatePair, units}
 use Rattle.wtf8_core.specs.UnitsOf.{code_points_in, units_of}
@@ -145,3 +146,20 @@ blank_units line blanks w are e =
   where
     own_blanks : flat_map encode blanks ≡ blanks
     own_blanks = ap (flat_map encode) (sym (append-nil blanks)) ∙ blanks_form encode bytes_form blanks [] are ∙ append-nil blanks
+
+-- a string has no units where it has no bytes, and no other
+pub no_units : (b : List ℕ) → IsWtf8 b → b ≡ [] → units_of b ≡ []
+no_units b w e = nil_from_length (units_of b) (omega (arith, units_fit b w, ap length e))
+
+pub no_bytes : (b : List ℕ) → IsWtf8 b → units_of b ≡ [] → b ≡ []
+no_bytes b w e = w.1.joined ∙ ap (flat_map encode) (none w.0 (sym (ap units (code_points_in-spelled b w.0 w.1)) ∙ e))
+  where
+    some : (c : ℕ) (us : List ℕ) → encode_utf16 c ++ us ≡ [] → ⊥
+    some c us e = elim (cases_lt c 0x1_0000) [
+      | inl lt ↦ let f : c ∷ us ≡ [] = ap (λ z. z ++ us) (sym (wide_single c lt)) ∙ e in cc
+      | inr past ↦ let n = ap length (ap (λ z. z ++ us) (sym (wide_pair c past)) ∙ e) in omega (arith, n)
+    ]
+
+    none : (cs : List ℕ) → units cs ≡ [] → cs ≡ []
+    none [] e = refl
+    none (c ∷ cs) e = absurd (some c (units cs) e)

@@ -1,6 +1,9 @@
 -- Units of an argument, one after the other.
 use Rattle.std.proofs.Common.{◌≡◌, ◌≢◌, ℕ, ◌+◌, ◌-◌, ◌<◌, ◌≤◌, ◌^◌, Bool, true, false, cond, eqb, ◌&&◌, ◌%◌, List, [], ◌∷◌, ◌++◌, take, drop, length, Option, None, Some, MatchOption, option_to_list, refl, sym, ap, ◌∙◌, subst, arith, append_assoc, append-nil, length-append}
 use Rattle.std.proofs.Math.Seq.{take-append_seam, drop-append_seam}
+use Rattle.std.specs.Prelude.{IsTrue}
+use Rattle.wtf8_core.proofs.lemmas.forms.Appending.{append_same}
+use Rattle.wtf8_core.proofs.lemmas.units.PrefixTests.{never}
 use Rattle.os_command_line.specs.declared.windows.place.Place.{Place}
 use Rattle.os_command_line.specs.declared.windows.place.Known.{Known}
 use Rattle.os_command_line.specs.Windows.{quote, backslashes}
@@ -44,3 +47,20 @@ pub cut_before_end : (text raw rest : List ℕ) (n : ℕ) → text ≡ raw ++ re
 cut_before_end text raw rest n e k =
     let at : n ≡ length raw = omega (arith, k, ap length e, length-append raw rest) in
     (ap (λ m. take m text) at ∙ ap (take (length raw)) e ∙ take-append_seam raw rest, ap (λ m. drop m text) at ∙ ap (drop (length raw)) e ∙ drop-append_seam raw rest)
+
+-- lists that differ, or end together, after the same units
+module _ (mine other front m w : List ℕ) (a : mine ≡ front ++ m) (b : other ≡ front ++ w) where
+  pub never_equal : (m ≡ w → ⊥) → (IsTrue false → mine ≡ other) × (mine ≡ other → IsTrue false)
+  never_equal n = never (mine ≡ other) (λ e. n (append_same front m front w (sym a ∙ e ∙ b) refl).1)
+
+  pub are_equal : m ≡ [] → w ≡ [] → (IsTrue true → mine ≡ other) × (mine ≡ other → IsTrue true)
+  are_equal e f = (λ _. a ∙ ap (λ z. front ++ z) (e ∙ sym f) ∙ sym b, λ _. refl)
+
+pub not_nil : (xs ys : List ℕ) (y : ℕ) (zs : List ℕ) → xs ≡ [] → ys ≡ y ∷ zs → xs ≡ ys → ⊥
+not_nil xs ys y zs e f g = let h : [] ≡ y ∷ zs = sym e ∙ g ∙ f in cc
+
+pub not_first : (xs ys : List ℕ) (x y : ℕ) (us zs : List ℕ) → xs ≡ x ∷ us → ys ≡ y ∷ zs → x ≢ y → xs ≡ ys → ⊥
+not_first xs ys x y us zs e f n g = let h : x ∷ us ≡ y ∷ zs = sym e ∙ g ∙ f in let k : x ≡ y = cc in n k
+
+pub both_more : (mine front m : List ℕ) (u : ℕ) (us : List ℕ) → mine ≡ front ++ m → m ≡ u ∷ us → mine ≡ (front ++ u ∷ []) ++ us
+both_more mine front m u us a e = a ∙ ap (λ z. front ++ z) e ∙ sym (append_assoc front (u ∷ []) us)

@@ -166,7 +166,7 @@ fn next_unit(known: Known, place: Place, units: &mut WideUnits<'_>) -> (Option<u
 }
 
 /// An iterator over the 16-bit units of an argument, from the first on. After `None` it gives only
-/// `None`.
+/// `None`. [`Argument::units`] makes it.
 #[derive(Drop)]
 pub struct ArgumentUnits<'a> {
     known: Known,
@@ -205,7 +205,21 @@ impl<'a> Iterator for ArgumentUnits<'a> {
 impl<'a> Argument<'a> {
     ghost use Rattle.os_command_line.specs.WindowsViews.{argument_units};
 
-    /// An iterator over the argument's 16-bit units. It doesn't allocate.
+    /// An iterator over the argument's 16-bit units, lone surrogates included. It doesn't allocate.
+    ///
+    /// ```
+    /// use os_command_line::windows::Arguments;
+    /// use os_str_bytes::{OsStr, Windows};
+    ///
+    /// let mut arguments = Arguments::new(OsStr::<Windows>::new("E \"a\"\\\"b"));
+    /// if let Some(argument) = arguments.next() {
+    ///     let mut units = argument.units();
+    ///     assert_eq!(rt; units.next(), Some(0x61));
+    ///     assert_eq!(rt; units.next(), Some(0x22));
+    ///     assert_eq!(rt; units.next(), Some(0x62));
+    ///     assert_eq!(rt; units.next(), None);
+    /// }
+    /// ```
     pub fn units(self) -> ArgumentUnits<'a>
         ensures { result ≡ argument_units self.entry }
     {
