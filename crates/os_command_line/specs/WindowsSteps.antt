@@ -1,8 +1,8 @@
 -- Parts of command lines, read or written. Only private contracts name these.
-use Rattle.std.specs.Prelude.{◌≡◌, ℕ, ◌+◌, ◌<◌, ◌≤◌, Bool, false, List, [], ◌∷◌, ◌++◌, length}
+use Rattle.std.specs.Prelude.{◌≡◌, ℕ, ◌+◌, ◌<◌, ◌≤◌, Bool, false, List, ◌++◌, length}
 use Rattle.wtf8_core.specs.Wtf8.{IsWtf8}
 use Rattle.wtf8_core.specs.UnitsOf.{units_of}
-use Rattle.os_command_line.specs.Windows.{quote, IsBlank, backslashes, Begins, Reads, IsNext, ReadsName}
+use Rattle.os_command_line.specs.Windows.{backslashes, Reads, IsNext, ReadsName}
 use Rattle.os_command_line.specs.WindowsReader.{meant, first_place, name_place}
 
 -- from here, after `run` backslashes, the text goes on as from there, where these units of the argument come first

@@ -1,9 +1,9 @@
 -- Command lines written (std's `append_arg` and `make_command_line`), and what can't be.
-use Rattle.std.specs.Prelude.{◌≡◌, ◌≢◌, ◌⊎◌, ℕ, ◌+◌, Bool, false, List, [], ◌∷◌, ◌++◌, length}
+use Rattle.std.specs.Prelude.{◌≡◌, ◌≢◌, ◌⊎◌, ℕ, Bool, false, List, [], ◌∷◌, ◌++◌, length}
 use Rattle.std.specs.List.{AllByRecursion}
 use Rattle.os_command_line.specs.declared.windows.error.CommandLineError.{CommandLineError}
 use Rattle.os_command_line.specs.declared.windows.error.CommandLineError.TheVariants as error
-use Rattle.os_command_line.specs.Windows.{quote, IsBlank, backslashes, Begins, Reads}
+use Rattle.os_command_line.specs.Windows.{quote, backslashes, Begins, Reads}
 
 -- the unit isn't there
 abbrev pub HasNo : ℕ → List ℕ → Type 0

@@ -1,13 +1,12 @@
 -- Each line is some arguments: the steps of the reader give what the rules say.
-use Rattle.std.proofs.Common.{◌≡◌, ◌≢◌, ℕ, zero, suc, ◌+◌, ◌*◌, ◌/◌, ◌%◌, ◌<◌, ◌≤◌, Bool, true, false, cond, not, ◌&&◌, ◌||◌, eqb, List, [], ◌∷◌, ◌++◌, length, refl, sym, ap, ◌∙◌, subst, arith, append_assoc, append-nil, length-append, inl, inr, ◌⊎◌}
-use Rattle.std.specs.List.{AllByRecursion}
-use Rattle.std.proofs.lemmas.Bool.{ne_eqb, eq-eqb, cases_eq}
+use Rattle.std.proofs.Common.{◌≡◌, ◌≢◌, ℕ, zero, suc, ◌+◌, ◌*◌, ◌/◌, ◌%◌, ◌<◌, ◌≤◌, Bool, true, false, not, List, [], ◌∷◌, ◌++◌, length, refl, sym, ap, ◌∙◌, subst, arith, append_assoc, length-append, inl, inr, ◌⊎◌}
+use Rattle.std.proofs.lemmas.Bool.{cases_eq}
 use Rattle.std.proofs.lemmas.List.{replicate_more}
-use Rattle.os_command_line.specs.Windows.{backslash, quote, IsBlank, backslashes, IsLiteral, Ends, StartsWithNoQuote, Begins, Reads, IsNext, AreArguments, ReadsName, IsCommandLine}
+use Rattle.os_command_line.specs.Windows.{backslash, quote, IsBlank, backslashes, IsLiteral, Ends, Begins, Reads, AreArguments, ReadsName}
 use Rattle.os_command_line.specs.Windows.Reads.{ends, literal, escaped, opens, closes, doubled}
 use Rattle.os_command_line.specs.Windows.ReadsName.{name_ends, name_quote, name_unit}
-use Rattle.os_command_line.specs.WindowsReader.{is_blank, place, is_end, is_slash, output, step, prepend, word_from, Mode, first_place, name_place, arguments_from, arguments_in}
-use Rattle.os_command_line.proofs.lemmas.WindowsOneReading.{at, in_name, slash_at, ends_at, literal_at, escaped_at, opens_at, closes_at, closed_at, doubled_at, quote_at, unit_at, blanks_are, between_is, complete_list, not_blank}
+use Rattle.os_command_line.specs.WindowsReader.{place, word_from, first_place, arguments_in}
+use Rattle.os_command_line.proofs.lemmas.WindowsOneReading.{at, in_name, slash_at, ends_at, literal_at, escaped_at, opens_at, closes_at, closed_at, doubled_at, quote_at, unit_at, complete_list}
 
 -- a reading of equal texts and arguments
 pub same : {after a b x y : List ℕ} {inside : Bool} → a ≡ b → x ≡ y → Reads after inside a x → Reads after inside b y

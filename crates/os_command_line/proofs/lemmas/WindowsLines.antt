@@ -1,7 +1,7 @@
 -- Whole command lines, written.
-use Rattle.std.proofs.Common.{◌≡◌, ◌≢◌, ℕ, Bool, true, false, not, List, [], ◌∷◌, ◌++◌, length, map, take, refl, sym, ap, ◌∙◌, subst, arith, append_assoc, append-nil, inl, inr}
+use Rattle.std.proofs.Common.{◌≡◌, ℕ, true, false, List, [], ◌∷◌, ◌++◌, map, refl, sym, ap, ◌∙◌, subst, append_assoc, append-nil, inl}
 use Rattle.std.specs.List.{AllByRecursion}
-use Rattle.os_command_line.specs.Windows.{quote, IsBlank, Ends, Begins, IsNext, AreArguments, ReadsName, IsCommandLine, IsTextOf}
+use Rattle.os_command_line.specs.Windows.{quote, Ends, IsNext, AreArguments, ReadsName, IsCommandLine, IsTextOf}
 use Rattle.os_command_line.specs.Windows.ReadsName.{name_ends, name_quote, name_unit}
 use Rattle.os_command_line.specs.WindowsWriting.{HasNo, IsArgumentFault, IsFirstFault}
 use Rattle.os_command_line.specs.declared.windows.error.CommandLineError.{CommandLineError}

@@ -1,13 +1,13 @@
 -- A line is read in one way: what the rules say is what the steps of the reader give.
-use Rattle.std.proofs.Common.{◌≡◌, ◌≢◌, ℕ, zero, suc, ◌+◌, ◌*◌, ◌/◌, ◌%◌, Bool, true, false, cond, not, ◌&&◌, ◌||◌, eqb, List, [], ◌∷◌, ◌++◌, refl, sym, ap, ◌∙◌, subst, arith, append_assoc, inl, inr}
+use Rattle.std.proofs.Common.{◌≡◌, ◌≢◌, ℕ, zero, suc, ◌+◌, ◌*◌, ◌/◌, ◌%◌, Bool, true, false, not, ◌&&◌, eqb, List, [], ◌∷◌, ◌++◌, refl, sym, ap, ◌∙◌, subst, arith, append_assoc, inl, inr}
 use Rattle.std.specs.List.{AllByRecursion}
 use Rattle.std.proofs.lemmas.Bool.{ne_eqb, eq-eqb}
 use Rattle.os_command_line.specs.Windows.{backslash, quote, IsBlank, backslashes, IsLiteral, Ends, StartsWithNoQuote, Begins, Reads, IsNext, AreArguments, ReadsName, IsCommandLine}
 use Rattle.os_command_line.specs.Windows.Reads.{ends, literal, escaped, opens, closes, doubled}
 use Rattle.os_command_line.specs.Windows.ReadsName.{name_ends, name_quote, name_unit}
 use Rattle.os_command_line.specs.declared.windows.place.Place.{Place}
-use Rattle.os_command_line.specs.WindowsReader.{is_blank, place, is_end, is_slash, output, step, prepend, word_from, meant, Mode, first_place, name_place, arguments_from, arguments_in}
-use Rattle.os_command_line.specs.WindowsReader.Mode.{Between, Within}
+use Rattle.os_command_line.specs.WindowsReader.{is_blank, place, is_end, output, step, prepend, word_from, meant, first_place, name_place, arguments_from, arguments_in}
+use Rattle.os_command_line.specs.WindowsReader.Mode.{Within}
 
 -- in an argument
 abbrev pub at : Bool → ℕ → Place

@@ -1,12 +1,12 @@
 -- A Windows string is read by its bytes as it is by its units.
-use Rattle.std.proofs.Common.{◌≡◌, ◌≢◌, ℕ, ◌+◌, ◌<◌, ◌≤◌, Bool, true, false, List, [], ◌∷◌, ◌++◌, length, refl, sym, ap, ◌∙◌, subst, arith, append_assoc, append-nil, length-append, inl, inr}
+use Rattle.std.proofs.Common.{◌≡◌, ℕ, ◌≤◌, false, List, [], ◌∷◌, ◌++◌, length, refl, sym, ap, ◌∙◌, subst, arith, append-nil, length-append, inl, inr}
 use Rattle.std.specs.List.{AllByRecursion, flat_map}
 use Rattle.std.proofs.lemmas.Grind.{flat_map-append}
 use Rattle.std.proofs.lemmas.Bool.{cases_lt}
 use Rattle.std.proofs.lemmas.List.{nil_from_length}
 use Rattle.wtf8_core.specs.CodePoint.{IsCodePoint, encode, encode_utf16}
-use Rattle.wtf8_core.specs.Wtf8.{Encodes, IsWtf8, HasNoSurrogatePair, units}
-use Rattle.wtf8_core.specs.UnitsOf.{code_points_in, units_of}
+use Rattle.wtf8_core.specs.Wtf8.{IsWtf8, HasNoSurrogatePair, units}
+use Rattle.wtf8_core.specs.UnitsOf.{units_of}
 use Rattle.wtf8_core.proofs.lemmas.forms.Appending.{append_same}
 use Rattle.wtf8_core.proofs.lemmas.forms.ByStd.{forms_front}
 use Rattle.wtf8_core.proofs.lemmas.forms.LastForms.{no_points}
@@ -14,7 +14,7 @@ use Rattle.wtf8_core.proofs.lemmas.forms.Shapes.{form_ascii, form_two, form_thre
 use Rattle.wtf8_core.proofs.lemmas.units.OneToOne.{wide_single, wide_pair}
 use Rattle.wtf8_core.proofs.lemmas.units.Cuts.{spells_front, spells_back}
 use Rattle.wtf8_core.proofs.lemmas.units.AsFunction.{code_points_in-spelled}
-use Rattle.os_command_line.specs.Windows.{IsBlank, Ends, Begins, Reads, IsNext, ReadsName}
+use Rattle.os_command_line.specs.Windows.{IsBlank, Begins, Reads, ReadsName}
 use Rattle.os_command_line.specs.WindowsReader.{word_from, meant, first_place, name_place}
 use Rattle.os_command_line.specs.WindowsSteps.{IsArgumentCut, IsNameCut}
 use Rattle.os_command_line.proofs.lemmas.WindowsOneReading.{complete_alone, complete_name_alone, one_reading, one_name}

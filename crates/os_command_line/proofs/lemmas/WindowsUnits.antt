@@ -1,5 +1,5 @@
 -- Units of an argument, one after the other.
-use Rattle.std.proofs.Common.{◌≡◌, ◌≢◌, ℕ, ◌+◌, ◌-◌, ◌<◌, ◌≤◌, ◌^◌, Bool, true, false, cond, eqb, ◌&&◌, ◌%◌, List, [], ◌∷◌, ◌++◌, take, drop, length, Option, None, Some, MatchOption, option_to_list, refl, sym, ap, ◌∙◌, subst, arith, append_assoc, append-nil, length-append}
+use Rattle.std.proofs.Common.{◌≡◌, ◌≢◌, ℕ, ◌+◌, ◌-◌, ◌≤◌, Bool, true, false, cond, eqb, ◌&&◌, ◌%◌, List, [], ◌∷◌, ◌++◌, take, drop, length, Option, None, Some, MatchOption, refl, sym, ap, ◌∙◌, arith, append_assoc, append-nil, length-append}
 use Rattle.std.proofs.Math.Seq.{take-append_seam, drop-append_seam}
 use Rattle.std.specs.Prelude.{IsTrue}
 use Rattle.wtf8_core.proofs.lemmas.forms.Appending.{append_same}
@@ -7,7 +7,7 @@ use Rattle.wtf8_core.proofs.lemmas.units.PrefixTests.{never}
 use Rattle.os_command_line.specs.declared.windows.place.Place.{Place}
 use Rattle.os_command_line.specs.declared.windows.place.Known.{Known}
 use Rattle.os_command_line.specs.Windows.{quote, backslashes}
-use Rattle.os_command_line.specs.WindowsReader.{output, step, is_slash, meant, place, known_units}
+use Rattle.os_command_line.specs.WindowsReader.{output, step, is_slash, meant, known_units}
 use Rattle.os_command_line.proofs.lemmas.WindowsOneReading.{meant_step, meant_end}
 
 pub nothing_meant : (q : Place) (rest : List ℕ) → rest ≡ [] → q.run ≡ 0 → meant q rest ≡ []

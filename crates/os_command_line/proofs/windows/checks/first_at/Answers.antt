@@ -1,4 +1,4 @@
-use Rattle.std.proofs.Common.{arith, length, ap, ◌∙◌, sym}
+use Rattle.std.proofs.Common.{arith, length, ap, ◌∙◌}
 use Rattle.wtf8_core.specs.UnitsOf.{units_of}
 use Rattle.platform_str.specs.Strings.{bytes}
 use Rattle.os_command_line.proofs.lemmas.WindowsStrings.{units_fit}

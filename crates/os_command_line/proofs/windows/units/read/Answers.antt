@@ -1,4 +1,4 @@
-use Rattle.std.proofs.Common.{arith, length, ap, sym, refl, ◌∙◌, true, false}
+use Rattle.std.proofs.Common.{arith, length, ap, sym, refl, ◌∙◌}
 use Rattle.std.proofs.lemmas.Bool.{true≢false}
 use Rattle.os_command_line.specs.WindowsReader.{place}
 use Rattle.os_command_line.proofs.lemmas.WindowsUnits.{read_known, read_on, read_end, nothing_meant, short_step}

@@ -1,4 +1,4 @@
-use Rattle.std.proofs.Common.{map, drop, ap, sym, inl, inr, [], length}
+use Rattle.std.proofs.Common.{map, ap, inl, inr}
 use Rattle.wtf8_core.specs.UnitsOf.{units_of}
 use Rattle.platform_str.specs.Strings.{bytes}
 use Rattle.os_command_line.proofs.lemmas.WindowsLines.{none_yet, one_more_argument, fault_here, whole_line, whole_no_nul, maps}

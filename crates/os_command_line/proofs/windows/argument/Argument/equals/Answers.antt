@@ -1,8 +1,5 @@
-use Rattle.std.proofs.Common.{◌∷◌, ◌++◌, ◌∙◌, [], ap, sym, subst, ◌≡◌}
-use Rattle.wtf8_core.specs.UnitsOf.{units_of}
-use Rattle.platform_str.specs.Strings.{bytes}
-use Rattle.os_command_line.specs.WindowsViews.{argument_units}
-use Rattle.os_command_line.proofs.lemmas.WindowsUnits.{never_equal, are_equal, not_nil, not_first, both_more}
+use Rattle.std.proofs.Common.{◌∷◌, ◌++◌, ◌∙◌, [], ap, sym}
+use Rattle.os_command_line.proofs.lemmas.WindowsUnits.{never_equal, not_nil, not_first, both_more}
 use Rattle.os_command_line.proofs.windows.argument.Argument.equals.Goals as goal
 
 pub loop-wanted-init : goal.loop-wanted-init

@@ -1,8 +1,7 @@
-use Rattle.std.proofs.Common.{rules, arith, length, ◌<◌, ◌^◌, ap, ◌∙◌, sym, refl, ◌≡◌, Bool, true, false, List, ℕ}
+use Rattle.std.proofs.Common.{rules, arith, length, ◌<◌, ◌^◌, ap, ◌∙◌, refl, ◌≡◌, Bool, true, false, List, ℕ}
 use Rattle.wtf8_core.specs.UnitsOf.{units_of}
 use Rattle.platform_str.specs.Strings.{bytes}
 use Rattle.os_command_line.specs.WindowsReader.{meant, place, first_place, name_place}
-use Rattle.os_command_line.specs.WindowsViews.{argument_units}
 use Rattle.os_command_line.proofs.lemmas.WindowsStrings.{units_fit}
 use Rattle.os_command_line.proofs.windows.argument.Argument.units.Goals as goal
 
