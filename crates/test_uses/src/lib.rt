@@ -50,6 +50,7 @@ mod texts;
 mod units;
 mod views;
 mod wide;
+mod windows_lines;
 
 pub use agreements::ends_alike;
 pub use agreements::once;
