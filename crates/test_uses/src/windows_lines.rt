@@ -1,5 +1,5 @@
 //! Command lines of Windows: what was written is read back.
-ghost use Rattle.std.specs.Prelude.{◌≡◌, IfOk};
+ghost use Rattle.std.specs.Prelude.{◌≡◌, IsTrue, IfOk};
 ghost use Rattle.platform_str.specs.Strings.{bytes, string_vec_of};
 
 use os_command_line::windows::{Arguments, CommandLineError, command_line, laws};
@@ -21,4 +21,22 @@ pub fn name_comes_back<A: Allocator + Copy>(
     let read = Arguments::new(line.as_os_str());
     let name = read.program().to_owned(alloc)?;
     Ok(name)
+}
+
+/// Whether an argument, alone on a command line, is the one that is read: always.
+pub fn argument_comes_back<A: Allocator + Copy>(
+    alloc: A,
+    program: OsStr<'_, Windows>,
+    argument: OsStr<'_, Windows>,
+) -> Result<bool, CommandLineError>
+    ensures { IfOk result (λ same. IsTrue same) }
+{
+    laws::lines();
+    let line = command_line(alloc, program, &[argument])?;
+    let line = OsString::<Windows, A>::from_wide(alloc, &line)?;
+    let mut read = Arguments::new(line.as_os_str());
+    match read.next() {
+        Some(found) => Ok(found.equals(argument)),
+        None => Ok(false),
+    }
 }
