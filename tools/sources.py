@@ -60,7 +60,7 @@ def files_of(crate: str) -> list[Path]:
 
 
 class Exports(NamedTuple):
-    """The public modules of a crate, and the names that its root re-exports."""
+    """The public modules of a crate, and the names that its root and these re-export."""
 
     modules: set[str]
     names: set[str]
@@ -68,9 +68,15 @@ class Exports(NamedTuple):
 
 def exports_of(crate: str) -> Exports:
     modules, names = set(), set()
-    for _, group, module in EXPORTED.findall(root_of(crate).read_text(encoding="utf-8")):
-        modules.update([module] if module else [])
-        names.update(re.findall(r"\w+", group))
+    left = [root_of(crate)]
+    while left:
+        source = left.pop()
+        folder = source.parent if source == root_of(crate) else source.with_suffix("")
+        for _, group, module in EXPORTED.findall(source.read_text(encoding="utf-8")):
+            names.update(re.findall(r"\w+", group))
+            if module:
+                modules.add(module)
+                left += [path for path in [folder / f"{module}.rt"] if path.exists()]
     return Exports(modules, names)
 
 

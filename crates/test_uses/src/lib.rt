@@ -51,3 +51,4 @@ pub mod texts;
 pub mod units;
 pub mod views;
 pub mod wide;
+pub mod windows_lines;

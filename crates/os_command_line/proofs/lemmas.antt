@@ -1,0 +1,9 @@
+pub mod WindowsOneReading
+pub mod WindowsEachLine
+pub mod WindowsLifted
+pub mod WindowsStrings
+pub mod WindowsScan
+pub mod WindowsUnits
+pub mod WindowsCuts
+pub mod WindowsWriting
+pub mod WindowsLines

@@ -1,0 +1,5 @@
+pub mod Windows
+pub mod WindowsReader
+pub mod WindowsSteps
+pub mod WindowsViews
+pub mod WindowsWriting

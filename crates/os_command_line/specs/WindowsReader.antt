@@ -1,0 +1,75 @@
+-- The steps of a reader of command lines. Only views and private contracts name these; `Reads`, `ReadsName` and `AreArguments` say how a line is read.
+use Rattle.std.specs.Prelude.{ℕ, ◌+◌, ◌/◌, ◌%◌, Bool, true, false, not, nat_eq, ◌&&◌, ◌||◌, if◌then◌else◌, option_to_list, List, [], ◌∷◌, ◌++◌}
+use Rattle.os_command_line.specs.declared.windows.place.Place.{Place}
+use Rattle.os_command_line.specs.declared.windows.place.Known.{Known}
+use Rattle.os_command_line.specs.Windows.{backslash, quote, backslashes}
+
+abbrev pub is_blank : ℕ → Bool
+is_blank u = nat_eq u 0x20 || nat_eq u 0x09
+
+abbrev pub place : Bool → Bool → Bool → ℕ → Place
+place name closing inside run = record { in_name = name; closing = closing; inside = inside; run = run }
+
+-- a blank here is after the word
+abbrev pub is_end : Place → ℕ → Bool
+is_end p u = not p.inside && is_blank u
+
+-- a backslash that may escape
+abbrev pub is_slash : Place → ℕ → Bool
+is_slash p u = not p.in_name && nat_eq u backslash
+
+-- what is known to be meant after one more unit
+abbrev pub output : Place → ℕ → List ℕ
+output p u =
+    if p.closing && nat_eq u quote then quote ∷ []
+    else (if is_slash p u then []
+    else (if nat_eq u quote then (if nat_eq (p.run % 2) 1 then backslashes (p.run / 2) ++ quote ∷ [] else backslashes (p.run / 2))
+    else backslashes p.run ++ u ∷ []))
+
+-- where the reader is then
+abbrev pub step : Place → ℕ → Place
+step p u =
+    if p.closing && nat_eq u quote then place false false true 0
+    else (if is_slash p u then place p.in_name false p.inside (p.run + 1)
+    else (if nat_eq u quote then (if nat_eq (p.run % 2) 1 then place p.in_name false p.inside 0 else place p.in_name (not p.in_name && p.inside) (not p.inside) 0)
+    else place p.in_name false p.inside 0))
+
+-- the same with these units in front
+abbrev pub prepend : List ℕ → List ℕ × List ℕ → List ℕ × List ℕ
+prepend front read = (front ++ read.0, read.1)
+
+-- what is still to come of a word, and what comes after it
+unfoldable pub word_from : Place → List ℕ → List ℕ × List ℕ
+word_from p [] = (backslashes p.run, [])
+word_from p (u ∷ us) = if is_end p u then (backslashes p.run, u ∷ us) else prepend (output p u) (word_from (step p u) us)
+
+-- what is still to come of a text that is one word, whatever blanks are in it
+unfoldable pub meant : Place → List ℕ → List ℕ
+meant p [] = backslashes p.run
+meant p (u ∷ us) = output p u ++ meant (step p u) us
+
+-- the units that are known
+abbrev pub known_units : Known → List ℕ
+known_units k = backslashes k.backslashes ++ option_to_list k.unit
+
+-- between arguments, or in one of which this much was read
+pub data Mode : Type 0 where
+  Between : Mode
+  Within : Place → List ℕ → Mode
+
+abbrev pub first_place : Place
+first_place = place false false false 0
+
+abbrev pub name_place : Place
+name_place = place true false false 0
+
+-- the arguments from here on
+unfoldable pub arguments_from : Mode → List ℕ → List (List ℕ)
+arguments_from Between [] = []
+arguments_from (Within p word) [] = (word ++ backslashes p.run) ∷ []
+arguments_from Between (u ∷ us) = if is_blank u then arguments_from Between us else arguments_from (Within (step first_place u) (output first_place u)) us
+arguments_from (Within p word) (u ∷ us) = if is_end p u then (word ++ backslashes p.run) ∷ arguments_from Between us else arguments_from (Within (step p u) (word ++ output p u)) us
+
+-- the arguments of a line
+abbrev pub arguments_in : List ℕ → List (List ℕ)
+arguments_in line = arguments_from Between line

@@ -1,0 +1,40 @@
+-- Parts of command lines, read or written. Only private contracts name these.
+use Rattle.std.specs.Prelude.{◌≡◌, ℕ, ◌+◌, ◌<◌, ◌≤◌, Bool, false, List, ◌++◌, length}
+use Rattle.wtf8_core.specs.Wtf8.{IsWtf8}
+use Rattle.wtf8_core.specs.UnitsOf.{units_of}
+use Rattle.os_command_line.specs.Windows.{backslashes, Reads, IsNext, ReadsName}
+use Rattle.os_command_line.specs.WindowsReader.{meant, first_place, name_place}
+
+-- from here, after `run` backslashes, the text goes on as from there, where these units of the argument come first
+abbrev pub Leads : Bool → ℕ → List ℕ → List ℕ → Bool → ℕ → List ℕ → Type 0
+Leads inside run text added inside' run' text' =
+    (argument after : List ℕ) → Reads after inside' (backslashes run' ++ text') argument → Reads after inside (backslashes run ++ text) (added ++ argument)
+
+-- some of an argument was read
+pub record IsStep (inside : Bool) (run : ℕ) (text : List ℕ) (inside' : Bool) (run' : ℕ) (text' : List ℕ) : Type 0 where
+  pub taken : List ℕ
+  pub parts : text ≡ taken ++ text'
+  pub added : List ℕ
+  pub leads : Leads inside run text added inside' run' text'
+  pub within : run' + length text' ≤ run + length text
+  pub shorter : length text' < length text
+
+-- some of a program's name was read
+pub record IsNameStep (inside : Bool) (text : List ℕ) (inside' : Bool) (text' : List ℕ) : Type 0 where
+  pub taken : List ℕ
+  pub parts : text ≡ taken ++ text'
+  pub added : List ℕ
+  pub leads : (name after : List ℕ) → ReadsName after inside' text' name → ReadsName after inside text (added ++ name)
+  pub shorter : length text' < length text
+
+-- a string of Windows after blanks is the text of an argument and the rest, by bytes; the units are read so
+pub record IsArgumentCut (line raw rest : List ℕ) : Type 0 where
+  pub raw_formed : IsWtf8 raw
+  pub rest_formed : IsWtf8 rest
+  pub next : IsNext (units_of line) (meant first_place (units_of raw)) (units_of rest)
+
+-- and of a program's name
+pub record IsNameCut (line raw rest : List ℕ) : Type 0 where
+  pub raw_formed : IsWtf8 raw
+  pub rest_formed : IsWtf8 rest
+  pub reads : ReadsName (units_of rest) false (units_of line) (meant name_place (units_of raw))

@@ -1,0 +1,23 @@
+//! Command lines of Windows: program's names and arguments, read and written.
+//!
+//! A Windows program gets one command line, a string of 16-bit units, and splits it itself. These
+//! calls read it as the C runtime of 2015 and later does (Microsoft, "Parsing C command-line
+//! arguments"), which is how Rust's std reads it, too.
+
+mod argument;
+mod arguments;
+mod checks;
+mod cuts;
+mod error;
+pub mod laws;
+mod owned;
+mod place;
+mod scan;
+mod units;
+mod writing;
+
+pub use argument::Argument;
+pub use arguments::Arguments;
+pub use error::CommandLineError;
+pub use units::ArgumentUnits;
+pub use writing::{command_line, push_argument};

@@ -1,0 +1,22 @@
+//! Laws of command lines. Each is the contract of a function that does nothing.
+ghost use Rattle.std.specs.Prelude.{◌≡◌, ◌++◌, false, ℕ, List};
+ghost use Rattle.os_command_line.specs.Windows.{AreArguments, IsCommandLine, IsTextOf, Ends};
+
+/// Each line is one program's name and one list of arguments, and each text one list of arguments.
+pub fn lines()
+    ensures some { (line : List ℕ) → (name : List ℕ) × ((arguments : List (List ℕ))
+        × IsCommandLine line name arguments) }
+    ensures one_name { (line : List ℕ) → (a : List ℕ) → (b : List ℕ) → (xs : List (List ℕ))
+        → (ys : List (List ℕ)) → IsCommandLine line a xs → IsCommandLine line b ys → a ≡ b }
+    ensures one_list { (line : List ℕ) → (a : List ℕ) → (b : List ℕ) → (xs : List (List ℕ))
+        → (ys : List (List ℕ)) → IsCommandLine line a xs → IsCommandLine line b ys → xs ≡ ys }
+    ensures arguments { (text : List ℕ) → (arguments : List (List ℕ)) × AreArguments text arguments }
+    ensures one { (text : List ℕ) → (xs : List (List ℕ)) → (ys : List (List ℕ))
+        → AreArguments text xs → AreArguments text ys → xs ≡ ys }
+{}
+
+/// A text that is read as an argument, whatever ends it, is read as no other.
+pub fn texts()
+    ensures { (text : List ℕ) → (a : List ℕ) → (b : List ℕ) → IsTextOf text a → IsTextOf text b
+        → a ≡ b }
+{}

@@ -1,0 +1,240 @@
+//! The units of an argument.
+ghost use Rattle.std.specs.Prelude.{◌≡◌, ◌+◌, ◌<◌, ◌^◌, ◌++◌, ◌∷◌, ◌↔◌, [], length, option_to_list, IsTrue, MatchOption};
+ghost use Rattle.std.specs.Iterator.{YieldsFirst, item_count};
+ghost use Rattle.os_command_line.specs.WindowsReader.{output, step, meant, known_units};
+
+use crate::windows::argument::Argument;
+use crate::windows::place::{Known, Place};
+use platform_str::WideUnits;
+use std::marker::Model;
+
+const BACKSLASH: u16 = 0x5C;
+
+const QUOTE: u16 = 0x22;
+
+impl Known {
+    /// Whether there are none.
+    #[inline(always)]
+    fn is_empty(self) -> bool
+        ensures { IsTrue result ↔ (known_units self ≡ []) }
+    {
+        self.backslashes == 0 && self.unit.is_none()
+    }
+
+    /// The first of them, and the others.
+    #[inline(always)]
+    fn split_first(self) -> (Option<u16>, Known)
+        ensures { MatchOption result.0 ((known_units self ≡ []) × (known_units result.1 ≡ []))
+            (λ unit. known_units self ≡ unit ∷ known_units result.1) }
+    {
+        if self.backslashes > 0 {
+            return (
+                Some(BACKSLASH),
+                Known {
+                    backslashes: self.backslashes - 1,
+                    unit: self.unit,
+                },
+            );
+        }
+        (
+            self.unit,
+            Known {
+                backslashes: 0,
+                unit: None,
+            },
+        )
+    }
+}
+
+impl Place {
+    /// The units that are known to be meant after one more unit.
+    #[inline(always)]
+    fn output(self, unit: u16) -> Known
+        ensures { known_units result ≡ output self unit }
+    {
+        if self.closing && unit == QUOTE {
+            return Known {
+                backslashes: 0,
+                unit: Some(QUOTE),
+            };
+        }
+        if !self.in_name && unit == BACKSLASH {
+            return Known {
+                backslashes: 0,
+                unit: None,
+            };
+        }
+        if unit != QUOTE {
+            return Known {
+                backslashes: self.run,
+                unit: Some(unit),
+            };
+        }
+        if self.run % 2 == 1 {
+            return Known {
+                backslashes: self.run / 2,
+                unit: Some(QUOTE),
+            };
+        }
+        Known {
+            backslashes: self.run / 2,
+            unit: None,
+        }
+    }
+
+    /// Where the reader is then.
+    #[inline(always)]
+    fn step(self, unit: u16) -> Place
+        requires { self.run + 1 < 2 ^ 64 }
+        ensures { result ≡ step self unit }
+    {
+        if self.closing && unit == QUOTE {
+            return Place {
+                in_name: false,
+                closing: false,
+                inside: true,
+                run: 0,
+            };
+        }
+        if !self.in_name && unit == BACKSLASH {
+            return Place {
+                in_name: self.in_name,
+                closing: false,
+                inside: self.inside,
+                run: self.run + 1,
+            };
+        }
+        if unit != QUOTE || self.run % 2 == 1 {
+            return Place {
+                in_name: self.in_name,
+                closing: false,
+                inside: self.inside,
+                run: 0,
+            };
+        }
+        Place {
+            in_name: self.in_name,
+            closing: !self.in_name && self.inside,
+            inside: !self.inside,
+            run: 0,
+        }
+    }
+}
+
+/// Reads units until some are known to be meant.
+#[inline(always)]
+fn read(units: &mut WideUnits<'_>, place: Place) -> (Known, Place)
+    requires { place.run + length units.old < 2 ^ 64 }
+    ensures meant { meant place units.old ≡ known_units result.0 ++ meant result.1 units.new }
+    ensures none { known_units result.0 ≡ [] → meant result.1 units.new ≡ [] }
+    ensures room { result.1.run + length units.new < 2 ^ 64 }
+{
+    let mut place = place;
+    while let Some(unit) = units.next() {
+        let known = place.output(unit);
+        place = place.step(unit);
+        if !known.is_empty() {
+            return (known, place);
+        }
+    }
+    let known = Known {
+        backslashes: place.run,
+        unit: None,
+    };
+    place.run = 0;
+    (known, place)
+}
+
+/// The next unit that is meant, and those that are known after it.
+#[inline(always)]
+fn next_unit(known: Known, place: Place, units: &mut WideUnits<'_>) -> (Option<u16>, Known, Place)
+    requires { place.run + length units.old < 2 ^ 64 }
+    ensures next { MatchOption result.0
+        ((known_units known ++ meant place units.old ≡ [])
+        × (known_units result.1 ++ meant result.2 units.new ≡ []))
+        (λ unit. known_units known ++ meant place units.old
+        ≡ unit ∷ (known_units result.1 ++ meant result.2 units.new)) }
+    ensures room { result.2.run + length units.new < 2 ^ 64 }
+{
+    if !known.is_empty() {
+        let (unit, known) = known.split_first();
+        return (unit, known, place);
+    }
+    let (known, place) = read(units, place);
+    let (unit, known) = known.split_first();
+    (unit, known, place)
+}
+
+/// An iterator over the 16-bit units of an argument, from the first on. After `None` it gives only
+/// `None`. [`Argument::units`] makes it.
+#[derive(Drop)]
+pub struct ArgumentUnits<'a> {
+    known: Known,
+    place: Place,
+    units: WideUnits<'a>,
+}
+
+impl<'a> Model for ArgumentUnits<'a> {
+    ghost use Rattle.std.specs.Prelude.{List, ℕ, ◌+◌, ◌<◌, ◌^◌, ◌++◌, length};
+
+    ghost Value = { List ℕ };
+
+    ghost use Rattle.os_command_line.specs.WindowsReader.{meant, known_units};
+
+    ghost view = { λ it. known_units it.known ++ meant it.place it.units };
+
+    ghost invariant = { λ it. it.place.run + length it.units < 2 ^ 64 };
+}
+
+impl<'a> Iterator for ArgumentUnits<'a> {
+    type Item = u16;
+
+    ghost next_gives = { YieldsFirst (λ left. left) };
+
+    ghost remaining = { item_count (λ left. left) };
+
+    #[inline(always)]
+    fn next(&mut self) -> Option<u16> {
+        let (unit, known, place) = next_unit(self.known, self.place, &mut self.units);
+        self.known = known;
+        self.place = place;
+        unit
+    }
+}
+
+impl<'a> Argument<'a> {
+    ghost use Rattle.os_command_line.specs.WindowsViews.{argument_units};
+
+    /// An iterator over the argument's 16-bit units, lone surrogates included. It doesn't allocate.
+    ///
+    /// ```
+    /// use os_command_line::windows::Arguments;
+    /// use os_str_bytes::{OsStr, Windows};
+    ///
+    /// let mut arguments = Arguments::new(OsStr::<Windows>::new("E \"a\"\\\"b"));
+    /// if let Some(argument) = arguments.next() {
+    ///     let mut units = argument.units();
+    ///     assert_eq!(rt; units.next(), Some(0x61));
+    ///     assert_eq!(rt; units.next(), Some(0x22));
+    ///     assert_eq!(rt; units.next(), Some(0x62));
+    ///     assert_eq!(rt; units.next(), None);
+    /// }
+    /// ```
+    pub fn units(self) -> ArgumentUnits<'a>
+        ensures { result ≡ argument_units self.entry }
+    {
+        ArgumentUnits {
+            known: Known {
+                backslashes: 0,
+                unit: None,
+            },
+            place: Place {
+                in_name: self.is_program,
+                closing: false,
+                inside: false,
+                run: 0,
+            },
+            units: self.text.encode_wide(),
+        }
+    }
+}
