@@ -32,5 +32,5 @@ returns-in_ok-write_place-in-Unended-clause-styled g c = λ flush ok.
 pub returns-in_ok-write_str-in-Pattern-clause-styled : goal.returns-in_ok-write_str-in-Pattern-clause-styled
 returns-in_ok-write_str-in-Pattern-clause-styled g c = λ flush ok.
     let head = c.in_ok-write_str-in-Pattern.ensures.styled flush (refl {a = true}) in
-    let text = c.fmt.ensures.styled head.flush ok in
+    let text = c.fmt-in-Pattern.ensures.styled head.flush ok in
     has_written_styled_of_eq _ _ _ _ _ (sym (ap text_of c.in-Pattern.is)) (has_written_styled_append _ _ _ _ _ _ head text)
