@@ -26,7 +26,7 @@ module _ {Test Heap : Type 0} (step : Test → Heap → Plan → Result (Unit {0
   one_turn none (suc more) last ran =
       let two : suc more + 1 ≡ suc (suc more) = omega arith in
       let runs = subst (λ turns. RanUnder step first (each_request turns) last) two ran in
-      step_of Ran (Nth 1) (map Nth (range_with_len 2 (suc more))) first last runs (λ middle one rest. step_of Ran (Nth 2) (map Nth (range_with_len 3 more)) middle last rest (λ after second behind. absurd (none middle after second.0 second.1)))
+      step_of Ran (Nth 1) (map Nth (range_with_len 2 (suc more))) first last runs (λ middle one rest. step_of Ran (Nth 2) (map Nth (range_with_len 3 more)) middle last rest (λ after second left. absurd (none middle after second.0 second.1)))
 
   pub one_run : ((before after : Test) → (heap : Heap) → ¬ (step before heap (Nth 2) (Ok tt) after)) → (r : Result ℕ AllocError)
       → IfOk r (λ refused. (last : Test) × RanUnder step first (each_request (refused + 1)) last) → IfOk r (λ refused. refused ≡ 0)
