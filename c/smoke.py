@@ -322,7 +322,7 @@ def compare_random(osb: CDLL, rows: int) -> None:
             assert status == OK, string
         except UnicodeDecodeError as error:
             assert status == FAULTY and fault.place == error.start, (string, fault.place, error)
-            # A front of a character at the end is one part, which Python counts so too.
+            # A prefix of a character at the end is one part, which Python counts so too.
             assert fault.count == error.end - error.start, (string, fault.count, error)
         if is_wtf8_by_python(string):
             assert to_wide(osb, string) == units_of(string), string

@@ -73,7 +73,7 @@ static void checks(void) {
                   "invalid utf-8 sequence of 2 bytes from index 1"));
     EXPECT(faulty(OSB_WASM, TEXT("a\xE2\x82"), OSB_FAULT_UTF8_END, 0, 1, 2,
                   "incomplete utf-8 byte sequence from index 1"));
-    /* a long one, so that vectors are asked, with the fault at each place */
+    /* a long one, so that vectors are asked, with the fault at each index */
     for (size_t at = 0; at < 300; at++) {
         char *bytes = malloc(300);
         memset(bytes, 'a', 300);

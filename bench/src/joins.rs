@@ -1,4 +1,4 @@
-//! Joins of short parts and fronts of short strings, on Windows.
+//! Joins of short parts and prefixes of short strings, on Windows.
 use crate::inputs;
 use crate::table::Bench;
 use crate::{ours, theirs};
@@ -17,8 +17,8 @@ const PARTS: [(&str, &[u8]); 4] = [
     ("DC00 41 D800", b"\xED\xB0\x80A\xED\xA0\x80"),
 ];
 
-/// Fronts of the paths: of ASCII, and with half of a pair at the end.
-const FRONTS: [(&str, &[u8]); 3] = [("`/`", b"/"), ("`/usr/lib`", b"/usr/lib"), ("`/usr` D800", b"/usr\xED\xA0\x80")];
+/// Prefixes of the paths: of ASCII, and with half of a pair at the end.
+const PREFIXES: [(&str, &[u8]); 3] = [("`/`", b"/"), ("`/usr/lib`", b"/usr/lib"), ("`/usr` D800", b"/usr\xED\xA0\x80")];
 
 pub fn time(bench: &mut Bench) {
     bench.table("Joins of short parts on Windows", "a part");
@@ -53,10 +53,10 @@ pub fn time(bench: &mut Bench) {
 
     let paths = inputs::paths();
     bench.table("Prefixes of short strings on Windows", "a call");
-    for (name, front) in FRONTS {
+    for (name, prefix) in PREFIXES {
         let all = |starts: fn(&[u8], &[u8]) -> bool| {
             let starts = black_box(starts);
-            paths.strings().filter(|path| starts(path, front)).count() as u64
+            paths.strings().filter(|path| starts(path, prefix)).count() as u64
         };
         bench.line(
             "starts_with_os",
@@ -64,7 +64,7 @@ pub fn time(bench: &mut Bench) {
             paths.count(),
             [
                 Some(&mut || all(ours::starts_with_os)),
-                Some(&mut || all(|path, front| theirs::windows(path).starts_with_os(theirs::windows(front)))),
+                Some(&mut || all(|path, prefix| theirs::windows(path).starts_with_os(theirs::windows(prefix)))),
                 None,
             ],
         );

@@ -31,7 +31,7 @@ mod exports {
         pub fn port_starts_with(bytes: *const u8, len: usize, pattern: *const u8, pattern_len: usize) -> bool;
         pub fn port_push(part: *const u8, len: usize, count: usize) -> usize;
         pub fn port_repeat(bytes: *const u8, len: usize, count: usize) -> usize;
-        pub fn port_starts_with_os(bytes: *const u8, len: usize, front: *const u8, front_len: usize) -> bool;
+        pub fn port_starts_with_os(bytes: *const u8, len: usize, prefix: *const u8, prefix_len: usize) -> bool;
         pub fn port_matches(
             pattern: *const u8,
             pattern_len: usize,
@@ -148,8 +148,8 @@ pub fn repeat(bytes: &[u8], count: usize) -> usize {
     unsafe { exports::port_repeat(bytes.as_ptr(), bytes.len(), count) }
 }
 
-pub fn starts_with_os(bytes: &[u8], front: &[u8]) -> bool {
-    unsafe { exports::port_starts_with_os(bytes.as_ptr(), bytes.len(), front.as_ptr(), front.len()) }
+pub fn starts_with_os(bytes: &[u8], prefix: &[u8]) -> bool {
+    unsafe { exports::port_starts_with_os(bytes.as_ptr(), bytes.len(), prefix.as_ptr(), prefix.len()) }
 }
 
 pub fn chunks(bytes: &[u8]) -> usize {

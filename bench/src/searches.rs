@@ -6,7 +6,7 @@ use crate::{ours, theirs};
 use crate_unix::OsStrBytesExt;
 use std::hint::black_box;
 
-/// A call on a string and a pattern: a place or a length, `usize::MAX` where there is none.
+/// A call on a string and a pattern: an index or a length, `usize::MAX` where there is none.
 type Search = fn(&[u8], &str) -> usize;
 
 pub fn time(bench: &mut Bench) {
@@ -80,10 +80,10 @@ const ENDS_WITH: [Search; 3] = [
 const SPLIT_ONCE: [Search; 3] = [
     ours::split_once,
     through_c!(their_split_once, |bytes, pattern| or_max(
-        theirs::unix(bytes).split_once(pattern).map(|(front, _)| front.len())
+        theirs::unix(bytes).split_once(pattern).map(|(prefix, _)| prefix.len())
     )),
     through_c!(std_split_once, |bytes, pattern| or_max(
-        theirs::text(bytes).split_once(pattern).map(|(front, _)| front.len())
+        theirs::text(bytes).split_once(pattern).map(|(prefix, _)| prefix.len())
     )),
 ];
 

@@ -184,7 +184,7 @@ fn cuts(bench: &mut Bench, strings: &Short) {
         "split_once, `.`",
         strings,
         |bytes| ours::split_once(bytes, "."),
-        Some(|bytes| theirs::unix(bytes).split_once(".").map_or(usize::MAX, |(front, _)| front.len())),
+        Some(|bytes| theirs::unix(bytes).split_once(".").map_or(usize::MAX, |(prefix, _)| prefix.len())),
         None,
     );
 }

@@ -1,4 +1,4 @@
-//! Calls behind the signature in C that the exports of this repository have: a slice is a pointer,
+//! Calls through the signature in C that the exports of this repository have: a slice is a pointer,
 //! which may be null where nothing is, and a length. So all contestants pay for it.
 use std::slice;
 

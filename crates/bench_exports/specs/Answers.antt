@@ -18,8 +18,8 @@ IsFaulty bytes = (fault : EncodingError) × HasFirstFault bytes fault
 pub record IsFilled (Wanted : List ℕ → Type 0) (old new : List ℕ) (count : ℕ) : Type 0 where
   pub same_length : length new ≡ length old
   pub within : count ≤ length new
-  pub front : Wanted (take count new)
-  pub behind : drop count new ≡ drop count old
+  pub prefix : Wanted (take count new)
+  pub after : drop count new ≡ drop count old
 
 -- a call answers an index or a length, for which `Is` holds; or `none`, where there is none
 abbrev pub AnswersOr : ℕ → Type 0 → (ℕ → Type 0) → ℕ → Type 0

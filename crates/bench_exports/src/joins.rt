@@ -1,6 +1,6 @@
-//! Joins and fronts of Windows strings, whose bytes are WTF-8.
+//! Joins and prefixes of Windows strings, whose bytes are WTF-8.
 ghost use Rattle.std.specs.Prelude.{◌≢◌, ◌↔◌, IsTrue};
-ghost use Rattle.wtf8_core.specs.Standing.{IsPrefix, IsSuffix};
+ghost use Rattle.wtf8_core.specs.Occurrence.{IsPrefix, IsSuffix};
 ghost use Rattle.wtf8_core.specs.UnitsOf.{units_of};
 ghost use Rattle.wtf8_core.specs.Wtf8.{IsWtf8};
 ghost use Rattle.platform_str.specs.Strings.{bytes};
@@ -55,22 +55,22 @@ pub extern "C" fn port_repeat(alloc: Global, raw: &[u8], count: usize) -> usize
 
 /// Whether the units of the second string are a prefix of those of the first.
 #[unsafe(no_mangle)]
-pub extern "C" fn port_starts_with_os(raw: &[u8], front: &[u8]) -> bool
+pub extern "C" fn port_starts_with_os(raw: &[u8], prefix: &[u8]) -> bool
     requires string { IsWtf8 raw.now }
-    requires front { IsWtf8 front.now }
-    ensures { IsTrue result ↔ IsPrefix (units_of front.now) (units_of raw.now) }
+    requires prefix { IsWtf8 prefix.now }
+    ensures { IsTrue result ↔ IsPrefix (units_of prefix.now) (units_of raw.now) }
 {
-    let front = OsStr::<Windows>::from_encoded_bytes_unchecked(front);
-    OsStr::<Windows>::from_encoded_bytes_unchecked(raw).starts_with_os(front)
+    let prefix = OsStr::<Windows>::from_encoded_bytes_unchecked(prefix);
+    OsStr::<Windows>::from_encoded_bytes_unchecked(raw).starts_with_os(prefix)
 }
 
 /// Whether the units of the second string are a suffix of those of the first.
 #[unsafe(no_mangle)]
-pub extern "C" fn port_ends_with_os(raw: &[u8], end: &[u8]) -> bool
+pub extern "C" fn port_ends_with_os(raw: &[u8], suffix: &[u8]) -> bool
     requires string { IsWtf8 raw.now }
-    requires end { IsWtf8 end.now }
-    ensures { IsTrue result ↔ IsSuffix (units_of end.now) (units_of raw.now) }
+    requires suffix { IsWtf8 suffix.now }
+    ensures { IsTrue result ↔ IsSuffix (units_of suffix.now) (units_of raw.now) }
 {
-    let end = OsStr::<Windows>::from_encoded_bytes_unchecked(end);
-    OsStr::<Windows>::from_encoded_bytes_unchecked(raw).ends_with_os(end)
+    let suffix = OsStr::<Windows>::from_encoded_bytes_unchecked(suffix);
+    OsStr::<Windows>::from_encoded_bytes_unchecked(raw).ends_with_os(suffix)
 }

@@ -1,8 +1,8 @@
 //! Searches, strips, a trim and prefix tests on Unix. Each pattern is UTF-8.
 ghost use Rattle.std.specs.Prelude.{◌≡◌, ◌<◌, ◌↔◌, ◌++◌, ℕ, List, IsTrue, length};
 ghost use Rattle.std.specs.Str.{IsUtf8};
-ghost use Rattle.wtf8_core.specs.Standing.{StandsNowhere, IsFirstPlace, IsLastPlace, IsPrefix, IsSuffix};
-ghost use Rattle.wtf8_core.specs.Pieces.{IsTrim, StandsSomewhere};
+ghost use Rattle.wtf8_core.specs.Occurrence.{OccursNowhere, IsFirstIndex, IsLastIndex, IsPrefix, IsSuffix};
+ghost use Rattle.wtf8_core.specs.Pieces.{IsTrim, OccursSomewhere};
 ghost use Rattle.bench_exports.specs.Answers.{AnswersOr};
 
 use crate::strings::{text, unix};
@@ -12,11 +12,11 @@ use os_str_ext::OsStrBytesExt;
 #[unsafe(no_mangle)]
 pub extern "C" fn port_find(raw: &[u8], pattern: &[u8]) -> usize
     requires { IsUtf8 pattern.now }
-    ensures { AnswersOr usize.MAX (StandsNowhere pattern.now raw.now)
-        (IsFirstPlace pattern.now raw.now) result }
+    ensures { AnswersOr usize.MAX (OccursNowhere pattern.now raw.now)
+        (IsFirstIndex pattern.now raw.now) result }
 {
     match unix(raw).find(text(pattern)) {
-        Some(place) => place,
+        Some(index) => index,
         None => usize::MAX,
     }
 }
@@ -25,11 +25,11 @@ pub extern "C" fn port_find(raw: &[u8], pattern: &[u8]) -> usize
 #[unsafe(no_mangle)]
 pub extern "C" fn port_rfind(raw: &[u8], pattern: &[u8]) -> usize
     requires { IsUtf8 pattern.now }
-    ensures { AnswersOr usize.MAX (StandsNowhere pattern.now raw.now)
-        (IsLastPlace pattern.now raw.now) result }
+    ensures { AnswersOr usize.MAX (OccursNowhere pattern.now raw.now)
+        (IsLastIndex pattern.now raw.now) result }
 {
     match unix(raw).rfind(text(pattern)) {
-        Some(place) => place,
+        Some(index) => index,
         None => usize::MAX,
     }
 }
@@ -38,7 +38,7 @@ pub extern "C" fn port_rfind(raw: &[u8], pattern: &[u8]) -> usize
 #[unsafe(no_mangle)]
 pub extern "C" fn port_contains(raw: &[u8], pattern: &[u8]) -> bool
     requires { IsUtf8 pattern.now }
-    ensures { IsTrue result ↔ StandsSomewhere pattern.now raw.now }
+    ensures { IsTrue result ↔ OccursSomewhere pattern.now raw.now }
 {
     unix(raw).contains(text(pattern))
 }
@@ -48,11 +48,11 @@ pub extern "C" fn port_contains(raw: &[u8], pattern: &[u8]) -> bool
 #[unsafe(no_mangle)]
 pub extern "C" fn port_split_once(raw: &[u8], pattern: &[u8]) -> usize
     requires { IsUtf8 pattern.now }
-    ensures { AnswersOr usize.MAX (StandsNowhere pattern.now raw.now)
-        (IsFirstPlace pattern.now raw.now) result }
+    ensures { AnswersOr usize.MAX (OccursNowhere pattern.now raw.now)
+        (IsFirstIndex pattern.now raw.now) result }
 {
     match unix(raw).split_once(text(pattern)) {
-        Some((front, _)) => front.len(),
+        Some((prefix, _)) => prefix.len(),
         None => usize::MAX,
     }
 }

@@ -13,7 +13,7 @@ joining last max = record { task = Join last; max = max }
 
 -- the last name has its end: there is none, or the last byte is NUL
 abbrev pub EndsWithNul : List ℕ → Type 0
-EndsWithNul names = (names ≡ []) ⊎ ((front : List ℕ) × (names ≡ front ++ 0 ∷ []))
+EndsWithNul names = (names ≡ []) ⊎ ((prefix : List ℕ) × (names ≡ prefix ++ 0 ∷ []))
 
 -- the names, with the NUL that the last may lack
 abbrev pub IsCompleted : List ℕ → List ℕ → Type 0

@@ -6,15 +6,15 @@ use Rattle.names_commands.specs.declared.fault.Fault.{Fault}
 use Rattle.names_commands.specs.declared.fault.Fault.TheVariants.{At, TooLong, HasNul, Unended, TooMuch, Usage, Pattern, Run}
 
 -- what comes before the reason why an item is refused
-abbrev pub place_text : ℕ → List ℕ
-place_text number = codes "name " ++ (decimal number ++ codes ": ")
+abbrev pub index_text : ℕ → List ℕ
+index_text number = codes "name " ++ (decimal number ++ codes ": ")
 
 -- what the program prints of the fault
 abbrev pub text_of : Fault → List ℕ
-text_of (At number why) = place_text number ++ reason.text_of why
-text_of (TooLong number most) = place_text number ++ (codes "longer than " ++ (decimal most ++ codes " bytes"))
-text_of (HasNul number) = place_text number ++ codes "the name has a NUL"
-text_of (Unended number) = place_text number ++ codes "no newline ends the line"
+text_of (At number why) = index_text number ++ reason.text_of why
+text_of (TooLong number most) = index_text number ++ (codes "longer than " ++ (decimal most ++ codes " bytes"))
+text_of (HasNul number) = index_text number ++ codes "the name has a NUL"
+text_of (Unended number) = index_text number ++ codes "no newline ends the line"
 text_of TooMuch = codes "2^64 bytes of input or more"
 text_of Usage = codes "usage: names [--max N] list|filter|join|check unix|windows|wasm [GLOB]; names --help tells more"
 text_of (Pattern why) = codes "pattern: " ++ error_text why

@@ -7,9 +7,9 @@ abbrev pub Lacks : ℕ → List ℕ → Type 0
 Lacks end bytes = AllByRecursion (λ b. b ≢ end) bytes
 
 -- the bytes are cut at the first that ends an item
-pub record IsCutAt (end : ℕ) (bytes front behind : List ℕ) : Type 0 where
-  pub whole : Lacks end front
-  pub joined : bytes ≡ front ++ end ∷ behind
+pub record IsCutAt (end : ℕ) (bytes prefix after : List ℕ) : Type 0 where
+  pub whole : Lacks end prefix
+  pub joined : bytes ≡ prefix ++ end ∷ after
 
 -- an item, and what is written for it
 abbrev pub Entry : Type 0

@@ -2,7 +2,7 @@
 use Rattle.std.specs.Prelude.{◌≡◌, ◌≢◌, ◌⊎◌, ℕ, List, codes, Option, OnOk, IfErr, Result, Err, ⊤}
 use Rattle.std.specs.Io.KnownBytes.{Appends, IsAtEnd}
 use Rattle.os_str_bytes.specs.Platform.{Ghosts}
-use Rattle.os_glob.specs.Items.{IsFirstFault}
+use Rattle.os_glob.specs.Items.{IsPatternFault}
 use Rattle.os_glob.specs.declared.error.GlobError.{GlobError}
 use Rattle.os_glob.specs.declared.options.GlobOptions.{GlobOptions}
 use Rattle.osbytes_commands.specs.Strings.{strings}
@@ -45,7 +45,7 @@ Filters options pattern (task.Join last) = ⊥
 -- the answer to a pattern that is refused is its first fault; else that of the run of such a task
 abbrev pub RunsPattern : (GlobOptions → List ℕ → Task → Type 0) → Os → List ℕ → ℕ → Option (List ℕ) → Option (List ℕ) → Option (List ℕ) → Option (List ℕ) → Result ⊤ Fault → Type 0
 RunsPattern Is os pattern max input left old new answer =
-    ((error : GlobError) × (IsFirstFault pattern error × (answer ≡ Err (Pattern error))))
+    ((error : GlobError) × (IsPatternFault pattern error × (answer ≡ Err (Pattern error))))
     ⊎ ((t : Task) × (Is (options_of os) pattern t × IsRun (strings os) (record { task = t; max = max }) input left old new answer))
 
 -- what `names --help` writes

@@ -1,7 +1,7 @@
 //! What keeps the program from its output.
 ghost use Rattle.std.specs.Fmt.{WritesStyledOnOk};
 ghost use Rattle.std.specs.Prelude.{◌≡◌};
-ghost use Rattle.names_commands.specs.Fault.{place_text};
+ghost use Rattle.names_commands.specs.Fault.{index_text};
 
 use os_glob::GlobError;
 use osbytes_commands::ended::ProgramFault;
@@ -45,21 +45,21 @@ impl fmt::Display for Fault {
     fn fmt<W: fmt::Write>(&self, f: &mut fmt::Formatter<W>) -> fmt::Result {
         match *self {
             Fault::At(number, why) => {
-                write_place(number, f)?;
+                write_index(number, f)?;
                 why.fmt(f)
             }
             Fault::TooLong(number, most) => {
-                write_place(number, f)?;
+                write_index(number, f)?;
                 f.write_str("longer than ")?;
                 write_number(most, f)?;
                 f.write_str(" bytes")
             }
             Fault::HasNul(number) => {
-                write_place(number, f)?;
+                write_index(number, f)?;
                 f.write_str("the name has a NUL")
             }
             Fault::Unended(number) => {
-                write_place(number, f)?;
+                write_index(number, f)?;
                 f.write_str("no newline ends the line")
             }
             Fault::TooMuch => f.write_str("2^64 bytes of input or more"),
@@ -116,8 +116,8 @@ impl ProgramFault for Fault {
 }
 
 /// Writes which item is refused.
-fn write_place<W: fmt::Write>(number: u64, f: &mut fmt::Formatter<W>) -> fmt::Result
-    ensures { WritesStyledOnOk W.write_str_gives f.old result (place_text number) f.new }
+fn write_index<W: fmt::Write>(number: u64, f: &mut fmt::Formatter<W>) -> fmt::Result
+    ensures { WritesStyledOnOk W.write_str_gives f.old result (index_text number) f.new }
 {
     f.write_str("name ")?;
     write_number(number as usize, f)?;

@@ -127,8 +127,8 @@ fn write_name<E: Platform, A: Allocator>(
     let text = unsafe { str::from_utf8_unchecked(line) };
     let name = match unescape_line::<E, A>(alloc, text) {
         Ok(string) => string.into_encoded_bytes(),
-        Err(QuoteError::BadEscape(place)) => {
-            return Err(Fault::At(number, Reason::BadQuote(QuoteError::BadEscape(place))));
+        Err(QuoteError::BadEscape(index)) => {
+            return Err(Fault::At(number, Reason::BadQuote(QuoteError::BadEscape(index))));
         }
         Err(QuoteError::NotCanonical) => {
             return Err(Fault::At(number, Reason::BadQuote(QuoteError::NotCanonical)));

@@ -13,13 +13,13 @@ use os_str_bytes::Platform;
 /// refuses them, unless it is told that the last line may lack its newline.
 pub fn names_come_back<E: Platform>()
     ensures some { (last : LastLine) → (max : ℕ) → (names : List ℕ) → (lines : List ℕ)
-        → IsOutput ⟦<E as Platform>⟧ (listing max) names lines → (back : List ℕ)
-        × (IsOutput ⟦<E as Platform>⟧ (joining last max) lines back × IsCompleted names back) }
+        → IsOutput ⟦<E as Platform>⟧ (listing max) names lines → (suffix : List ℕ)
+        × (IsOutput ⟦<E as Platform>⟧ (joining last max) lines suffix × IsCompleted names suffix) }
     ensures same { (last : LastLine) → (max : ℕ) → (other : ℕ) → (names : List ℕ) → (lines : List ℕ)
-        → (back : List ℕ) → IsOutput ⟦<E as Platform>⟧ (listing max) names lines
-        → IsOutput ⟦<E as Platform>⟧ (joining last other) lines back → IsCompleted names back }
+        → (suffix : List ℕ) → IsOutput ⟦<E as Platform>⟧ (listing max) names lines
+        → IsOutput ⟦<E as Platform>⟧ (joining last other) lines suffix → IsCompleted names suffix }
     ensures cut { (max : ℕ) → (other : ℕ) → (names : List ℕ) → (lines : List ℕ)
-        → (front : List ℕ) → (rest : List ℕ) → (back : List ℕ)
-        → IsOutput ⟦<E as Platform>⟧ (listing max) names lines → lines ≡ front ++ rest
-        → IsOutput ⟦<E as Platform>⟧ (joining MustEnd other) front back → AreFirst names back }
+        → (prefix : List ℕ) → (rest : List ℕ) → (suffix : List ℕ)
+        → IsOutput ⟦<E as Platform>⟧ (listing max) names lines → lines ≡ prefix ++ rest
+        → IsOutput ⟦<E as Platform>⟧ (joining MustEnd other) prefix suffix → AreFirst names suffix }
 {}

@@ -4,7 +4,7 @@ ghost use Rattle.std.specs.Io.KnownBytes.{Appends};
 ghost use Rattle.std.specs.IoError.{error_kind};
 ghost use Rattle.osbytes_commands.specs.Ended.{message, outcome_of, was_told};
 ghost use Rattle.osbytes_commands.specs.Marked.{marked_inner, has_failed, is_closed};
-ghost use Rattle.osbytes_commands.specs.Program.{words_behind_name};
+ghost use Rattle.osbytes_commands.specs.Program.{words_after_name};
 ghost use Rattle.osbytes_commands.specs.Strings.{strings};
 ghost use Rattle.osbytes_commands.specs.Written.{AppendsBeginning};
 ghost use Rattle.osbytes_commands.specs.declared.fault.Fault.{Fault as Reason};
@@ -67,7 +67,7 @@ pub fn execute<A: Allocator, R: Read, W: Output, E: Messages>(
 
     // The run.
     ensures run { IfOk args (λ args. (outcome_of result ≡ Err (Fault.Run Reason.Memory))
-        ⊎ RunsTo (words_behind_name args) (R.remaining (marked_inner reader.old))
+        ⊎ RunsTo (words_after_name args) (R.remaining (marked_inner reader.old))
         (R.remaining (marked_inner reader.new)) (W.contents (marked_inner writer.old))
         (W.contents (marked_inner writer.new)) (outcome_of result)) }
     ensures read { (outcome_of result ≡ Err (Fault.Run Reason.Read))

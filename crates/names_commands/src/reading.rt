@@ -33,13 +33,13 @@ pub fn read_block<E: Platform, A: Allocator + Copy>(
 {
     let mut ended = count;
     let mut rest = block;
-    while let Some((last, behind)) = split_at_end(settings.task.end(), rest) {
+    while let Some((last, after)) = split_at_end(settings.task.end(), rest) {
         match end_item::<E, A>(alloc, settings, ended + 1, last, begun, output) {
             Ok(()) => {}
             Err(fault) => return Err(fault),
         }
         ended += 1;
-        rest = behind;
+        rest = after;
     }
     match keep(settings, ended + 1, rest, begun) {
         Ok(()) => Ok(ended),

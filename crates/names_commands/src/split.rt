@@ -12,7 +12,7 @@ pub fn split_at_end(end: u8, bytes: &[u8]) -> Option<(&[u8], &[u8])>
     let Some(at) = memchr(end, bytes) else {
         return None;
     };
-    let (front, rest) = bytes.split_at(at);
-    let (_, behind) = rest.split_at(1);
-    Some((front, behind))
+    let (prefix, rest) = bytes.split_at(at);
+    let (_, after) = rest.split_at(1);
+    Some((prefix, after))
 }

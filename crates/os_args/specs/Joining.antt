@@ -5,15 +5,15 @@ use Rattle.std.specs.List.{flat_map}
 use Rattle.os_args.specs.Word.{Kind, Long, LongBytes, Short, ShortBytes, Value, dash, dashes, equals}
 use Rattle.os_args.specs.Reading.{Fault, UnexpectedValue, MissingValue, UnexpectedArgument, Reading, words_left, TakesWord, TakesValue, TakesOptionalValue, TakesRest}
 
--- what stands before a text in its word: nothing, `-`, `--` or `=`
+-- what comes before a text in its word: nothing, `-`, `--` or `=`
 pub data Mark : Type 0 where
-  Bare : Mark
+  Unmarked : Mark
   Dash : Mark
   Dashes : Mark
   Equals : Mark
 
 abbrev pub mark_bytes : Mark → List ℕ
-mark_bytes Bare = []
+mark_bytes Unmarked = []
 mark_bytes Dash = dash
 mark_bytes Dashes = dashes
 mark_bytes Equals = equals

@@ -1,6 +1,6 @@
 -- The words of a command line, taken step by step.
 use Rattle.std.specs.Prelude.{◌≡◌, ◌≢◌, ℕ, ◌+◌, ◌⊎◌, Bool, true, false, List, [], ◌∷◌, ◌++◌, drop, length, Option, Some, None, Result, Ok, Err}
-use Rattle.wtf8_core.specs.Standing.{IsPrefix}
+use Rattle.wtf8_core.specs.Occurrence.{IsPrefix}
 use Rattle.os_args.specs.Word.{Kind, Long, LongBytes, Short, ShortBytes, Value, dashes, equals, IsFlag, IsReadAs, IsValueOf}
 
 -- why a step gives nothing: a value that nothing took after the last option, or none where one is wanted
@@ -12,7 +12,7 @@ pub data Fault : Type 0 where
 -- the words as they were given, how many of them were taken, what is left of the last one that was taken, whether `--` was taken, whether negative numbers are values, and the last option that was read
 pub record Reading : Type 0 where
   pub given : List (List ℕ)
-  pub place : ℕ
+  pub index : ℕ
   pub pending : List ℕ
   pub ended : Bool
   pub numbers : Bool
@@ -20,27 +20,27 @@ pub record Reading : Type 0 where
 
 -- the words that are left
 abbrev pub words_left : Reading → List (List ℕ)
-words_left r = drop r.place r.given
+words_left r = drop r.index r.given
 
 -- the same, where negative numbers are values
 abbrev pub with_numbers : Reading → Reading
-with_numbers r = record { given = r.given; place = r.place; pending = r.pending; ended = r.ended; numbers = true; last = r.last }
+with_numbers r = record { given = r.given; index = r.index; pending = r.pending; ended = r.ended; numbers = true; last = r.last }
 
 -- the same, where what was left of a word is taken
 abbrev pub without_pending : Reading → Reading
-without_pending r = record { given = r.given; place = r.place; pending = []; ended = r.ended; numbers = r.numbers; last = r.last }
+without_pending r = record { given = r.given; index = r.index; pending = []; ended = r.ended; numbers = r.numbers; last = r.last }
 
 -- the same, where the next word is taken as it is
 abbrev pub without_word : Reading → Reading
-without_word r = record { given = r.given; place = r.place + 1; pending = r.pending; ended = r.ended; numbers = r.numbers; last = r.last }
+without_word r = record { given = r.given; index = r.index + 1; pending = r.pending; ended = r.ended; numbers = r.numbers; last = r.last }
 
 -- the same, where all words are taken
 abbrev pub without_words : Reading → Reading
-without_words r = record { given = r.given; place = length r.given; pending = r.pending; ended = r.ended; numbers = r.numbers; last = r.last }
+without_words r = record { given = r.given; index = length r.given; pending = r.pending; ended = r.ended; numbers = r.numbers; last = r.last }
 
 -- the same, where `--` is taken
-abbrev pub behind_dashes : Reading → Reading
-behind_dashes r = record { given = r.given; place = r.place + 1; pending = r.pending; ended = true; numbers = r.numbers; last = r.last }
+abbrev pub after_dashes : Reading → Reading
+after_dashes r = record { given = r.given; index = r.index + 1; pending = r.pending; ended = true; numbers = r.numbers; last = r.last }
 
 -- the last option once this is read: it, or the one before where it is a value
 abbrev pub last_option : Option Kind → Kind → Option Kind
@@ -52,7 +52,7 @@ last_option before (Value value) = before
 
 -- the same, where so many words are taken, this is read and a rest is left of its word
 abbrev pub having_read : Reading → ℕ → Kind → List ℕ → Reading
-having_read r place kind rest = record { given = r.given; place = place; pending = rest; ended = r.ended; numbers = r.numbers; last = last_option r.last kind }
+having_read r index kind rest = record { given = r.given; index = index; pending = rest; ended = r.ended; numbers = r.numbers; last = last_option r.last kind }
 
 -- the words that are left begin with `--`, which ends the options
 pub record StartsWithDashes (r : Reading) : Type 0 where
@@ -62,7 +62,7 @@ pub record StartsWithDashes (r : Reading) : Type 0 where
 
 -- `--` is skipped where it is the next word and ends the options
 abbrev pub SkipsDashes : Reading → Reading → Type 0
-SkipsDashes before after = (StartsWithDashes before × (after ≡ behind_dashes before)) ⊎ (¬ (StartsWithDashes before) × (after ≡ before))
+SkipsDashes before after = (StartsWithDashes before × (after ≡ after_dashes before)) ⊎ (¬ (StartsWithDashes before) × (after ≡ before))
 
 -- how a word is read: after `--` as a value
 abbrev pub IsReadIn : Bool → Bool → List ℕ → Kind → List ℕ → Type 0
@@ -74,7 +74,7 @@ pub record TakesFlag (before : Reading) (kind : Kind) (after : Reading) : Type 0
   pub some : before.pending ≢ []
   pub no_equals : ¬ (IsPrefix equals before.pending)
   pub flag : IsFlag before.pending kind after.pending
-  pub same : after ≡ having_read before before.place kind after.pending
+  pub same : after ≡ having_read before before.index kind after.pending
 
 -- the next word is read, after `--` where that comes first
 pub record TakesNext (before : Reading) (kind : Kind) (after : Reading) : Type 0 where
@@ -85,7 +85,7 @@ pub record TakesNext (before : Reading) (kind : Kind) (after : Reading) : Type 0
   pub more : List (List ℕ)
   pub next : words_left between ≡ word ∷ more
   pub read : IsReadIn between.ended between.numbers word kind after.pending
-  pub same : after ≡ having_read between (between.place + 1) kind after.pending
+  pub same : after ≡ having_read between (between.index + 1) kind after.pending
 
 -- the next word is taken as it is
 pub record TakesWhole (before : Reading) (word : List ℕ) (after : Reading) : Type 0 where

@@ -26,4 +26,4 @@ module _ {E : Type 0} {P : Ghosts E} where
 
   -- how far the words are taken
   abbrev pub reading : Arguments E P → Reading
-  reading a = record { given = map bytes a.words.now; place = a.place; pending = bytes a.pending; ended = a.ended; numbers = a.numbers; last = option_map kind_of a.last }
+  reading a = record { given = map bytes a.words.now; index = a.index; pending = bytes a.pending; ended = a.ended; numbers = a.numbers; last = option_map kind_of a.last }

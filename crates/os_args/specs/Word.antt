@@ -3,7 +3,7 @@ use Rattle.std.specs.Prelude.{◌≡◌, ◌≢◌, ◌⊎◌, ℕ, ◌≤◌, B
 use Rattle.std.specs.Char.{encode_utf8, IsScalar}
 use Rattle.std.specs.Str.{IsUtf8}
 use Rattle.wtf8_core.specs.Covered.{StartsWithNoCharacter}
-use Rattle.wtf8_core.specs.Standing.{IsPrefix, StandsNowhere}
+use Rattle.wtf8_core.specs.Occurrence.{IsPrefix, OccursNowhere}
 
 -- `-`, `--`, `=` and `.`
 abbrev pub dash : List ℕ
@@ -49,7 +49,7 @@ pub record StartsAsNegative (s : List ℕ) : Type 0 where
 -- s is a name and a rest; the first `=` ends the name
 pub record IsName (s name rest : List ℕ) : Type 0 where
   pub joined : s ≡ name ++ rest
-  pub no_equals : StandsNowhere equals name
+  pub no_equals : OccursNowhere equals name
   pub end : (rest ≡ []) ⊎ IsPrefix equals rest
 
 -- of s, what follows `--`, this name is read, and a rest is left

@@ -39,7 +39,7 @@ use os_str_ext::{OsStr, OsStrBytesExt, Platform};
 #[derive(Drop)]
 pub struct Arguments<'s, 'a, E: Platform + 'a> {
     words: &'s [OsStr<'a, E>],
-    place: usize,
+    index: usize,
     // what is left of the last word that was taken
     pending: OsStr<'a, E>,
     ended: bool,
@@ -65,7 +65,7 @@ impl<'s, 'a, E: Platform> Arguments<'s, 'a, E> {
     pub fn new(words: &'s [OsStr<'a, E>]) -> Self
         ensures { reading result ≡ record {
           given = map bytes words.now;
-          place = 0;
+          index = 0;
           pending = [];
           ended = false;
           numbers = false;
@@ -74,7 +74,7 @@ impl<'s, 'a, E: Platform> Arguments<'s, 'a, E> {
     {
         Arguments {
             words,
-            place: 0,
+            index: 0,
             pending: OsStr::new(""),
             ended: false,
             numbers: false,
@@ -146,11 +146,11 @@ impl<'s, 'a, E: Platform> Arguments<'s, 'a, E> {
             return Ok(Some(flag));
         }
         self.skip_dashes();
-        let Some(word) = first_after(self.words, self.place) else {
+        let Some(word) = first_after(self.words, self.index) else {
             return Ok(None);
         };
         let (read, rest) = read_in(self.ended, self.numbers, word);
-        self.place += 1;
+        self.index += 1;
         self.pending = rest;
         self.last = last_option(self.last, read);
         Ok(Some(read))
@@ -163,11 +163,11 @@ impl<'s, 'a, E: Platform> Arguments<'s, 'a, E> {
         if self.ended {
             return;
         }
-        let Some(word) = first_after(self.words, self.place) else {
+        let Some(word) = first_after(self.words, self.index) else {
             return;
         };
         if is_dashes(word) {
-            self.place += 1;
+            self.index += 1;
             self.ended = true;
         }
     }
@@ -201,10 +201,10 @@ impl<'s, 'a, E: Platform> Arguments<'s, 'a, E> {
         if let Some(value) = self.optional_value() {
             return Ok(value);
         }
-        let Some(word) = first_after(self.words, self.place) else {
+        let Some(word) = first_after(self.words, self.index) else {
             return Err(ArgumentError::MissingValue(self.last));
         };
-        self.place += 1;
+        self.index += 1;
         Ok(word)
     }
 
@@ -262,8 +262,8 @@ impl<'s, 'a, E: Platform> Arguments<'s, 'a, E> {
         if let Some(value) = self.optional_value() {
             return Err(ArgumentError::UnexpectedValue(self.last, value));
         }
-        let left = all_after(self.words, self.place);
-        self.place = self.words.len();
+        let left = all_after(self.words, self.index);
+        self.index = self.words.len();
         Ok(left)
     }
 }

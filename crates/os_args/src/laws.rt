@@ -37,7 +37,7 @@ pub fn one_outcome()
         → (one ≡ other) × (after ≡ left) }
 {}
 
-/// The words that were given are what the steps handed over, in order, each text with what stands
+/// The words that were given are what the steps handed over, in order, each text with what comes
 /// before it in its word (`-`, `--`, `=` or nothing), and what is left. So nothing is lost, and
 /// nothing is handed over twice.
 pub fn nothing_lost()

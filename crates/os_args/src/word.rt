@@ -73,7 +73,7 @@ fn read_long<'a, E: Platform>(long: OsStr<'a, E>) -> (Word<'a, OsStr<'a, E>>, Os
 fn split_name<'a, E: Platform>(long: OsStr<'a, E>) -> (OsStr<'a, E>, OsStr<'a, E>)
     ensures { IsName (bytes long.entry) (bytes result.0) (bytes result.1) }
 {
-    search_laws::around_place();
+    search_laws::around_index();
     match long.find("=") {
         Some(end) => long.split_at(end),
         None => (long, OsStr::new("")),

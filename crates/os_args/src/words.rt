@@ -8,15 +8,15 @@ use os_str_ext::{OsStr, Platform};
 /// The first word after so many others.
 pub(crate) fn first_after<'a, E: Platform>(
     words: &[OsStr<'a, E>],
-    place: usize,
+    index: usize,
 ) -> Option<OsStr<'a, E>>
-    ensures first { MatchOption result (drop place (map bytes words.now) ≡ [])
-        (λ word. drop place (map bytes words.now)
-        ≡ bytes word ∷ drop (place + 1) (map bytes words.now)) }
-    ensures within { IfSome result (λ _. place < length words.now) }
+    ensures first { MatchOption result (drop index (map bytes words.now) ≡ [])
+        (λ word. drop index (map bytes words.now)
+        ≡ bytes word ∷ drop (index + 1) (map bytes words.now)) }
+    ensures within { IfSome result (λ _. index < length words.now) }
 {
-    if place < words.len() {
-        Some(words[place])
+    if index < words.len() {
+        Some(words[index])
     } else {
         None
     }
@@ -25,11 +25,11 @@ pub(crate) fn first_after<'a, E: Platform>(
 /// All words after so many others.
 pub(crate) fn all_after<'s, 'a, E: Platform>(
     words: &'s [OsStr<'a, E>],
-    place: usize,
+    index: usize,
 ) -> &'s [OsStr<'a, E>]
-    ensures { map bytes result.now ≡ drop place (map bytes words.now) }
+    ensures { map bytes result.now ≡ drop index (map bytes words.now) }
 {
-    let (_, left) = words.split_at(place.min(words.len()));
+    let (_, left) = words.split_at(index.min(words.len()));
     left
 }
 

@@ -1,25 +1,25 @@
 -- The steps of a reader of command lines. Only views and private contracts name these; `Reads`, `ReadsName` and `AreArguments` say how a line is read.
 use Rattle.std.specs.Prelude.{ℕ, ◌+◌, ◌/◌, ◌%◌, Bool, true, false, not, nat_eq, ◌&&◌, ◌||◌, if◌then◌else◌, option_to_list, List, [], ◌∷◌, ◌++◌}
-use Rattle.os_command_line.specs.declared.windows.place.Place.{Place}
-use Rattle.os_command_line.specs.declared.windows.place.Known.{Known}
+use Rattle.os_command_line.specs.declared.windows.index.Index.{Index}
+use Rattle.os_command_line.specs.declared.windows.index.Known.{Known}
 use Rattle.os_command_line.specs.Windows.{backslash, quote, backslashes}
 
 abbrev pub is_blank : ℕ → Bool
 is_blank u = nat_eq u 0x20 || nat_eq u 0x09
 
-abbrev pub place : Bool → Bool → Bool → ℕ → Place
-place name closing inside run = record { in_name = name; closing = closing; inside = inside; run = run }
+abbrev pub index : Bool → Bool → Bool → ℕ → Index
+index name closing inside run = record { in_name = name; closing = closing; inside = inside; run = run }
 
 -- a blank here is after the word
-abbrev pub is_end : Place → ℕ → Bool
+abbrev pub is_end : Index → ℕ → Bool
 is_end p u = not p.inside && is_blank u
 
 -- a backslash that may escape
-abbrev pub is_slash : Place → ℕ → Bool
+abbrev pub is_slash : Index → ℕ → Bool
 is_slash p u = not p.in_name && nat_eq u backslash
 
 -- what is known to be meant after one more unit
-abbrev pub output : Place → ℕ → List ℕ
+abbrev pub output : Index → ℕ → List ℕ
 output p u =
     if p.closing && nat_eq u quote then quote ∷ []
     else (if is_slash p u then []
@@ -27,24 +27,24 @@ output p u =
     else backslashes p.run ++ u ∷ []))
 
 -- where the reader is then
-abbrev pub step : Place → ℕ → Place
+abbrev pub step : Index → ℕ → Index
 step p u =
-    if p.closing && nat_eq u quote then place false false true 0
-    else (if is_slash p u then place p.in_name false p.inside (p.run + 1)
-    else (if nat_eq u quote then (if nat_eq (p.run % 2) 1 then place p.in_name false p.inside 0 else place p.in_name (not p.in_name && p.inside) (not p.inside) 0)
-    else place p.in_name false p.inside 0))
+    if p.closing && nat_eq u quote then index false false true 0
+    else (if is_slash p u then index p.in_name false p.inside (p.run + 1)
+    else (if nat_eq u quote then (if nat_eq (p.run % 2) 1 then index p.in_name false p.inside 0 else index p.in_name (not p.in_name && p.inside) (not p.inside) 0)
+    else index p.in_name false p.inside 0))
 
--- the same with these units in front
+-- the same with these units in prefix
 abbrev pub prepend : List ℕ → List ℕ × List ℕ → List ℕ × List ℕ
-prepend front read = (front ++ read.0, read.1)
+prepend prefix read = (prefix ++ read.0, read.1)
 
 -- what is still to come of a word, and what comes after it
-unfoldable pub word_from : Place → List ℕ → List ℕ × List ℕ
+unfoldable pub word_from : Index → List ℕ → List ℕ × List ℕ
 word_from p [] = (backslashes p.run, [])
 word_from p (u ∷ us) = if is_end p u then (backslashes p.run, u ∷ us) else prepend (output p u) (word_from (step p u) us)
 
 -- what is still to come of a text that is one word, whatever blanks are in it
-unfoldable pub meant : Place → List ℕ → List ℕ
+unfoldable pub meant : Index → List ℕ → List ℕ
 meant p [] = backslashes p.run
 meant p (u ∷ us) = output p u ++ meant (step p u) us
 
@@ -55,19 +55,19 @@ known_units k = backslashes k.backslashes ++ option_to_list k.unit
 -- between arguments, or in one of which this much was read
 pub data Mode : Type 0 where
   Between : Mode
-  Within : Place → List ℕ → Mode
+  Within : Index → List ℕ → Mode
 
-abbrev pub first_place : Place
-first_place = place false false false 0
+abbrev pub first_index : Index
+first_index = index false false false 0
 
-abbrev pub name_place : Place
-name_place = place true false false 0
+abbrev pub name_index : Index
+name_index = index true false false 0
 
 -- the arguments from here on
 unfoldable pub arguments_from : Mode → List ℕ → List (List ℕ)
 arguments_from Between [] = []
 arguments_from (Within p word) [] = (word ++ backslashes p.run) ∷ []
-arguments_from Between (u ∷ us) = if is_blank u then arguments_from Between us else arguments_from (Within (step first_place u) (output first_place u)) us
+arguments_from Between (u ∷ us) = if is_blank u then arguments_from Between us else arguments_from (Within (step first_index u) (output first_index u)) us
 arguments_from (Within p word) (u ∷ us) = if is_end p u then (word ++ backslashes p.run) ∷ arguments_from Between us else arguments_from (Within (step p u) (word ++ output p u)) us
 
 -- the arguments of a line

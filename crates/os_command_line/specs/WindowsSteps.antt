@@ -3,7 +3,7 @@ use Rattle.std.specs.Prelude.{◌≡◌, ℕ, ◌+◌, ◌<◌, ◌≤◌, Bool,
 use Rattle.wtf8_core.specs.Wtf8.{IsWtf8}
 use Rattle.wtf8_core.specs.UnitsOf.{units_of}
 use Rattle.os_command_line.specs.Windows.{backslashes, Reads, IsNext, ReadsName}
-use Rattle.os_command_line.specs.WindowsReader.{meant, first_place, name_place}
+use Rattle.os_command_line.specs.WindowsReader.{meant, first_index, name_index}
 
 -- from here, after `run` backslashes, the text goes on as from there, where these units of the argument come first
 abbrev pub Leads : Bool → ℕ → List ℕ → List ℕ → Bool → ℕ → List ℕ → Type 0
@@ -31,10 +31,10 @@ pub record IsNameStep (inside : Bool) (text : List ℕ) (inside' : Bool) (text' 
 pub record IsArgumentCut (line raw rest : List ℕ) : Type 0 where
   pub raw_formed : IsWtf8 raw
   pub rest_formed : IsWtf8 rest
-  pub next : IsNext (units_of line) (meant first_place (units_of raw)) (units_of rest)
+  pub next : IsNext (units_of line) (meant first_index (units_of raw)) (units_of rest)
 
 -- and of a program's name
 pub record IsNameCut (line raw rest : List ℕ) : Type 0 where
   pub raw_formed : IsWtf8 raw
   pub rest_formed : IsWtf8 rest
-  pub reads : ReadsName (units_of rest) false (units_of line) (meant name_place (units_of raw))
+  pub reads : ReadsName (units_of rest) false (units_of line) (meant name_index (units_of raw))

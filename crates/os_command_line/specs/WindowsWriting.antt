@@ -46,14 +46,14 @@ IsCommandLineFault name arguments fault = IsNameFault name fault ⊎ ((HasNo 0 n
 abbrev pub IsWritableName : List ℕ → Type 0
 IsWritableName name = HasNo 0 name × HasNo quote name
 
--- `front`, whose last `run` units are backslashes, is the start of an argument that begins with `taken`, and what comes after it is inside quotation marks or not
+-- `prefix`, whose last `run` units are backslashes, is the start of an argument that begins with `taken`, and what comes after it is inside quotation marks or not
 abbrev pub Writes : Bool → List ℕ → ℕ → List ℕ → Type 0
-Writes inside front run taken =
-    (tail more after : List ℕ) → Reads after inside (backslashes run ++ tail) (backslashes run ++ more) → Reads after false (front ++ tail) (taken ++ more)
+Writes inside prefix run taken =
+    (tail more after : List ℕ) → Reads after inside (backslashes run ++ tail) (backslashes run ++ more) → Reads after false (prefix ++ tail) (taken ++ more)
 
 -- with these units the unit is taken too
 abbrev pub Extends : Bool → ℕ → ℕ → List ℕ → ℕ → Type 0
-Extends inside run unit added next = (front taken : List ℕ) → Writes inside front run taken → Writes inside (front ++ added) next (taken ++ unit ∷ [])
+Extends inside run unit added next = (prefix taken : List ℕ) → Writes inside prefix run taken → Writes inside (prefix ++ added) next (taken ++ unit ∷ [])
 
 -- what is added for a unit
 pub record IsAddedFor (inside : Bool) (run unit : ℕ) (added : List ℕ) (next : ℕ) : Type 0 where
@@ -63,12 +63,12 @@ pub record IsAddedFor (inside : Bool) (run unit : ℕ) (added : List ℕ) (next 
 
 -- these units mean those, whatever was written before them
 abbrev pub IsPart : Bool → List ℕ → ℕ → List ℕ → Type 0
-IsPart inside front run taken = (start meant : List ℕ) → Writes inside start 0 meant → Writes inside (start ++ front) run (meant ++ taken)
+IsPart inside prefix run taken = (start meant : List ℕ) → Writes inside start 0 meant → Writes inside (start ++ prefix) run (meant ++ taken)
 
 -- units were written that mean those
 pub record IsWritten (inside : Bool) (old new : List ℕ) (run : ℕ) (taken : List ℕ) : Type 0 where
-  pub front : List ℕ
-  pub new_is : new ≡ old ++ front
-  pub part : IsPart inside front run taken
-  pub begins : inside ≡ false → taken ≢ [] → Begins front
-  pub plain : HasNo quote taken → front ≡ taken
+  pub prefix : List ℕ
+  pub new_is : new ≡ old ++ prefix
+  pub part : IsPart inside prefix run taken
+  pub begins : inside ≡ false → taken ≢ [] → Begins prefix
+  pub plain : HasNo quote taken → prefix ≡ taken

@@ -9,20 +9,20 @@ use Rattle.os_glob.specs.declared.item.Wildcard.TheVariants.{Star, DoubleStar}
 use Rattle.os_glob.specs.Members.{Member, members, after_class, first_reversed}
 
 -- a wildcard, a `?`, a character that matches itself, a class with its members, which may be negated, or a fault with the characters from its index on
-pub data Item : Type 0 where
-  Run : Wildcard → Item
-  AnyOne : Item
-  Literal : ℕ → Item
-  OneOf : Bool → List Member → Item
-  Refused : GlobErrorKind → List ℕ → Item
+pub data PatternItem : Type 0 where
+  Run : Wildcard → PatternItem
+  AnyOne : PatternItem
+  Literal : ℕ → PatternItem
+  OneOf : Bool → List Member → PatternItem
+  Refused : GlobErrorKind → List ℕ → PatternItem
 
 -- what begins with `*`, and what comes after it
-abbrev pub read_star : List ℕ → Item × List ℕ
+abbrev pub read_star : List ℕ → PatternItem × List ℕ
 read_star [] = (Run Star, [])
 read_star (c ∷ cs) = if nat_eq c 0x2A then (Run DoubleStar, cs) else (Run Star, c ∷ cs)
 
 -- the characters ps, which begin with `\`
-abbrev pub read_quoted : List ℕ → List ℕ → Item × List ℕ
+abbrev pub read_quoted : List ℕ → List ℕ → PatternItem × List ℕ
 read_quoted ps [] = (Refused DanglingEscape ps, [])
 read_quoted ps (c ∷ cs) = (Literal c, cs)
 
@@ -32,33 +32,33 @@ class_start [] = (false, [])
 class_start (c ∷ cs) = if nat_eq c 0x21 then (true, cs) else (false, c ∷ cs)
 
 -- a class, by what comes after it and its first reversed range; nothing after a fault is read
-abbrev pub class_item : List ℕ → Bool → List Member → Option (List ℕ) → Option (List ℕ) → Item × List ℕ
+abbrev pub class_item : List ℕ → Bool → List Member → Option (List ℕ) → Option (List ℕ) → PatternItem × List ℕ
 class_item ps negated ms None reversed = (Refused UnclosedClass ps, [])
 class_item ps negated ms (Some rest) (Some from) = (Refused ReversedRange from, [])
 class_item ps negated ms (Some rest) None = (OneOf negated ms, rest)
 
 -- the characters ps, which begin with `[`
-abbrev pub read_class : List ℕ → List ℕ → Item × List ℕ
+abbrev pub read_class : List ℕ → List ℕ → PatternItem × List ℕ
 read_class ps cs =
     class_item ps (class_start cs).0 (members true (class_start cs).1) (after_class true (class_start cs).1) (first_reversed (members true (class_start cs).1))
 
 -- what begins with a character
-abbrev pub read : ℕ → List ℕ → Item × List ℕ
+abbrev pub read : ℕ → List ℕ → PatternItem × List ℕ
 read c cs =
     if nat_eq c 0x2A then read_star cs else (if nat_eq c 0x3F then (AnyOne, cs) else (if nat_eq c 0x5C then read_quoted (c ∷ cs) cs else (if nat_eq c 0x5B then read_class (c ∷ cs) cs else (Literal c, cs))))
 
 -- the items after the first n characters
-abbrev pub items_behind : ℕ → List ℕ → List Item
-items_behind n [] = []
-items_behind (suc n) (c ∷ cs) = items_behind n cs
-items_behind zero (c ∷ cs) = (read c cs).0 ∷ items_behind (length cs - length (read c cs).1) cs
+abbrev pub items_past : ℕ → List ℕ → List PatternItem
+items_past n [] = []
+items_past (suc n) (c ∷ cs) = items_past n cs
+items_past zero (c ∷ cs) = (read c cs).0 ∷ items_past (length cs - length (read c cs).1) cs
 
 -- the items of a pattern's characters
-abbrev pub items : List ℕ → List Item
-items cs = items_behind 0 cs
+abbrev pub items : List ℕ → List PatternItem
+items cs = items_past 0 cs
 
 -- the first fault, and the characters from its index on
-abbrev pub first_fault : List Item → Option (GlobErrorKind × List ℕ)
+abbrev pub first_fault : List PatternItem → Option (GlobErrorKind × List ℕ)
 first_fault [] = None
 first_fault (Refused kind from ∷ xs) = Some (kind, from)
 first_fault (Run w ∷ xs) = first_fault xs
@@ -71,7 +71,7 @@ abbrev pub IsWellFormed : List ℕ → Type 0
 IsWellFormed pattern = first_fault (items (chars pattern)) ≡ None
 
 -- this is the pattern's first fault; its byte index is where the characters before it end
-pub record IsFirstFault (pattern : List ℕ) (error : GlobError) : Type 0 where
+pub record IsPatternFault (pattern : List ℕ) (error : GlobError) : Type 0 where
   pub before : List ℕ
   pub from : List ℕ
   pub joined : chars pattern ≡ before ++ from

@@ -1,4 +1,4 @@
-pub mod Places
+pub mod PathSymbols
 pub mod Members
 pub mod Items
 pub mod Pattern

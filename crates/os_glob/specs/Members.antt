@@ -21,15 +21,15 @@ abbrev pub ends_class : Bool → ℕ → Bool
 ends_class begins c = not begins && nat_eq c 0x5D
 
 -- the members after the first n characters, up to the end of the class, or of the characters
-abbrev pub members_behind : Bool → ℕ → List ℕ → List Member
-members_behind begins n [] = []
-members_behind begins (suc n) (c ∷ cs) = members_behind begins n cs
-members_behind begins zero (c ∷ cs) =
-    if ends_class begins c then [] else (((range_at c cs).0, c ∷ cs) ∷ members_behind false (range_at c cs).1 cs)
+abbrev pub members_past : Bool → ℕ → List ℕ → List Member
+members_past begins n [] = []
+members_past begins (suc n) (c ∷ cs) = members_past begins n cs
+members_past begins zero (c ∷ cs) =
+    if ends_class begins c then [] else (((range_at c cs).0, c ∷ cs) ∷ members_past false (range_at c cs).1 cs)
 
 -- the members of a class, or those after its first
 abbrev pub members : Bool → List ℕ → List Member
-members begins cs = members_behind begins 0 cs
+members begins cs = members_past begins 0 cs
 
 -- what comes after the class; None if it has no end
 abbrev pub after_class : Bool → List ℕ → Option (List ℕ)

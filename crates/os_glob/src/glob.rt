@@ -4,16 +4,16 @@ ghost use Rattle.std.specs.Str.{IsUtf8, chars};
 ghost use Rattle.platform_str.specs.Strings.{bytes};
 ghost use Rattle.os_str_ext.specs.Symbols.{AreSymbols, symbols_of};
 ghost use Rattle.os_str_ext.specs.declared.symbols.Symbol.{Symbol};
-ghost use Rattle.os_glob.specs.Items.{Run, IsWellFormed, IsFirstFault, items};
+ghost use Rattle.os_glob.specs.Items.{Run, IsWellFormed, IsPatternFault, items};
 ghost use Rattle.os_glob.specs.Match.{IsMatch};
-ghost use Rattle.os_glob.specs.Ends.{EndsWith, DiffersAtStart, DiffersAtEnd};
+ghost use Rattle.os_glob.specs.Ends.{EndsWithLiterals, DiffersAtStart, DiffersAtEnd};
 
 use crate::error::GlobError;
-use crate::item::{Item, Wildcard, first_item, is_plain, literal_prefix};
+use crate::item::{PatternItem, Wildcard, first_item, is_plain, literal_prefix};
 use crate::matching::matches;
 use crate::observer::{Nobody, Observer};
 use crate::options::{GlobOptions, Separators};
-use crate::place::Places;
+use crate::path_symbol::PathSymbols;
 use crate::text::first_char;
 use crate::token::Tokens;
 use os_str_ext::{OsStr, OsStrBytesExt, Platform, Symbols, symbol_laws};
@@ -80,11 +80,11 @@ impl<'p> Glob<'p> {
     /// ```
     pub fn new(pattern: &'p str) -> Result<Self, GlobError>
         ensures { MatchResult result (λ glob. (glob ≡ pattern.now) × IsWellFormed pattern.now)
-            (λ error. IsFirstFault pattern.now error) }
+            (λ error. IsPatternFault pattern.now error) }
     {
         let mut rest = pattern;
         while let Some((item, after)) = first_item(rest) {
-            if let Item::Refused(kind, from) = item {
+            if let PatternItem::Refused(kind, from) = item {
                 return Err(GlobError {
                     kind,
                     index: pattern.len() - from.len(),
@@ -187,12 +187,12 @@ impl<'p> Glob<'p> {
         }
         matches(
             Tokens::new(options, self.pattern),
-            Places::new(options, symbols),
+            PathSymbols::new(options, symbols),
             observer,
         )
     }
 
-    /// Whether the pattern is one wildcard that takes each place.
+    /// Whether the pattern is one wildcard that takes each path symbol.
     #[inline(always)]
     fn matches_all(&self, options: GlobOptions) -> bool
         ensures { IsTrue result → (symbols : List Symbol) → IsMatch options self.now symbols }
@@ -212,7 +212,7 @@ impl<'p> Glob<'p> {
 
 /// The characters at a pattern's end that match themselves.
 fn literal_suffix(pattern: &str) -> &str
-    ensures ends { EndsWith (items (chars pattern.now)) (chars result.now) }
+    ensures ends { EndsWithLiterals (items (chars pattern.now)) (chars result.now) }
     ensures text { IsUtf8 result.now }
 {
     let mut suffix = pattern;
@@ -235,7 +235,7 @@ fn literal_suffix(pattern: &str) -> &str
 fn only_wildcard(pattern: &str) -> Option<Wildcard>
     ensures { IfSome result (λ wildcard. items (chars pattern.now) ≡ Run wildcard ∷ []) }
 {
-    let Some((Item::Run(wildcard), after)) = first_item(pattern) else {
+    let Some((PatternItem::Run(wildcard), after)) = first_item(pattern) else {
         return None;
     };
     if !after.is_empty() {
@@ -249,7 +249,7 @@ fn only_wildcard(pattern: &str) -> Option<Wildcard>
 fn begins_alike<E: Platform>(options: GlobOptions, prefix: &str, symbols: &Symbols<'_, E>) -> bool
     ensures { result ≡ false → DiffersAtStart options (chars prefix.now) symbols.now }
 {
-    if !options.separators.stand_apart_from(prefix) {
+    if !options.separators.are_apart_from(prefix) {
         return true;
     }
     symbol_laws::symbols::<E>();
@@ -261,7 +261,7 @@ fn begins_alike<E: Platform>(options: GlobOptions, prefix: &str, symbols: &Symbo
 fn ends_alike<E: Platform>(options: GlobOptions, suffix: &str, symbols: &Symbols<'_, E>) -> bool
     ensures { result ≡ false → DiffersAtEnd options (chars suffix.now) symbols.now }
 {
-    if !options.separators.stand_apart_from(suffix) {
+    if !options.separators.are_apart_from(suffix) {
         return true;
     }
     symbol_laws::symbols::<E>();

@@ -14,7 +14,7 @@ mod matching;
 mod member;
 mod observer;
 mod options;
-mod place;
+mod path_symbol;
 mod text;
 mod token;
 

@@ -1,4 +1,4 @@
-//! Whether the tokens of a pattern match the places of a string.
+//! Whether the tokens of a pattern match the path symbols of a string.
 ghost use Rattle.std.specs.Prelude.{◌≡◌, ◌∷◌, ◌↔◌, IsTrue};
 ghost use Rattle.os_glob.specs.declared.item.Wildcard.TheVariants.{Star, DoubleStar};
 ghost use Rattle.os_glob.specs.Pattern.{Run};
@@ -8,50 +8,50 @@ ghost use Rattle.os_glob.specs.Parts.{PieceSays, PartSays, SkipsComponent};
 
 use crate::item::Wildcard;
 use crate::observer::Observer;
-use crate::place::{Place, Places};
+use crate::path_symbol::{PathSymbol, PathSymbols};
 use crate::token::{Start, Token, Tokens};
 use os_str_ext::Platform;
 
 /// How far a pattern matches, up to its first wildcard.
 #[derive(Drop)]
 enum Piece<'p, 'a, E: Platform + 'a> {
-    /// To its end, which is also the end of the places.
+    /// To its end, which is also the end of the path symbols.
     All,
-    /// Not far enough: a place differs, or places are left at the pattern's end.
+    /// Not far enough: a path symbol differs, or path symbols are left at the pattern's end.
     Differs,
-    /// The places end too early, and so would any fewer.
+    /// The path symbols end too early, and so would any fewer.
     Ends,
-    /// To a wildcard; these are the tokens after it, and the places that are left.
-    Run(Wildcard, Tokens<'p>, Places<'a, E>),
+    /// To a wildcard; these are the tokens after it, and the path symbols that are left.
+    Run(Wildcard, Tokens<'p>, PathSymbols<'a, E>),
 }
 
 /// How far a pattern matches, up to its first `**`.
 #[derive(Drop)]
 enum Part<'p, 'a, E: Platform + 'a> {
-    /// To its end, which is also the end of the places.
+    /// To its end, which is also the end of the path symbols.
     All,
     /// Not far enough.
     Differs,
     /// Not far enough, wherever in this component it starts.
     Blocked,
-    /// The places end too early, and so would any fewer.
+    /// The path symbols end too early, and so would any fewer.
     Ends,
-    /// To `**`; these are the tokens after it, and the places that are left.
-    Anywhere(Tokens<'p>, Places<'a, E>),
+    /// To `**`; these are the tokens after it, and the path symbols that are left.
+    Anywhere(Tokens<'p>, PathSymbols<'a, E>),
 }
 
-/// Whether the tokens match the places.
+/// Whether the tokens match the path symbols.
 ///
 /// It doesn't allocate. It goes back only to the last `**` and to the last `*` after that one: an
 /// earlier one could only skip what the later one skips, too.
 pub(crate) fn matches<E: Platform, O: Observer>(
     tokens: Tokens<'_>,
-    places: Places<'_, E>,
+    path_symbols: PathSymbols<'_, E>,
     observer: &mut O,
 ) -> bool
-    ensures { IsTrue result ↔ Matches tokens.entry places.entry }
+    ensures { IsTrue result ↔ Matches tokens.entry path_symbols.entry }
 {
-    match first_part(tokens, places, observer) {
+    match first_part(tokens, path_symbols, observer) {
         Part::All => true,
         Part::Differs => false,
         Part::Blocked => false,
@@ -63,15 +63,15 @@ pub(crate) fn matches<E: Platform, O: Observer>(
 /// Whether the tokens match after a run of `**`.
 fn is_after_double_star<E: Platform, O: Observer>(
     tokens: Tokens<'_>,
-    places: Places<'_, E>,
+    path_symbols: PathSymbols<'_, E>,
     observer: &mut O,
 ) -> bool
-    ensures { IsTrue result ↔ Matches (Run DoubleStar ∷ tokens.entry) places.entry }
+    ensures { IsTrue result ↔ Matches (Run DoubleStar ∷ tokens.entry) path_symbols.entry }
 {
     let mut left = tokens;
-    let mut from = places;
+    let mut from = path_symbols;
     loop {
-        skip_places(Wildcard::DoubleStar, &left, &mut from, observer);
+        skip_symbols(Wildcard::DoubleStar, &left, &mut from, observer);
         match first_part(left.again(), from.again(), observer) {
             Part::All => return true,
             Part::Ends => return false,
@@ -80,10 +80,10 @@ fn is_after_double_star<E: Platform, O: Observer>(
                 from = rest;
             }
             Part::Differs => {
-                let Some(place) = from.next(observer) else {
+                let Some(path_symbol) = from.next(observer) else {
                     return false;
                 };
-                if !Wildcard::DoubleStar.takes(place) {
+                if !Wildcard::DoubleStar.takes(path_symbol) {
                     return false;
                 }
             }
@@ -96,55 +96,58 @@ fn is_after_double_star<E: Platform, O: Observer>(
     }
 }
 
-/// Takes off places that a wildcard takes and at which the tokens don't match, as far as a search for
-/// the literal that they start with tells: where the wildcard takes each place for all of it, and else
-/// for its first byte, with the separators.
+/// Takes off path symbols that a wildcard takes and at which the tokens don't match, as far as a
+/// search for the literal that they start with tells: where the wildcard takes each path symbol for
+/// all of it, and else for its first byte, with the separators.
 #[inline(always)]
-fn skip_places<E: Platform, O: Observer>(
+fn skip_symbols<E: Platform, O: Observer>(
     wildcard: Wildcard,
     tokens: &Tokens<'_>,
-    places: &mut Places<'_, E>,
+    path_symbols: &mut PathSymbols<'_, E>,
     observer: &mut O,
 )
-    ensures { Skips wildcard tokens.now places.old places.new }
+    ensures { Skips wildcard tokens.now path_symbols.old path_symbols.new }
 {
     if let Some(literal) = tokens.literal() {
-        if places.are_all_taken(wildcard) {
-            places.skip_before(literal, observer);
+        if path_symbols.are_all_taken(wildcard) {
+            path_symbols.skip_before(literal, observer);
             return;
         }
     }
     match tokens.start() {
-        Start::End => places.skip(wildcard, None, observer),
-        Start::Byte(byte) => places.skip(wildcard, Some(byte), observer),
+        Start::End => path_symbols.skip(wildcard, None, observer),
+        Start::Byte(byte) => path_symbols.skip(wildcard, Some(byte), observer),
         Start::Other => {}
     }
 }
 
-/// Removes the places up to the first separator, and that separator. Returns whether there was one,
-/// before any leading dot.
-fn skip_component<E: Platform, O: Observer>(places: &mut Places<'_, E>, observer: &mut O) -> bool
-    ensures { SkipsComponent places.old places.new result }
+/// Removes the path symbols up to the first separator, and that separator. Returns whether there
+/// was one, before any leading dot.
+fn skip_component<E: Platform, O: Observer>(
+    path_symbols: &mut PathSymbols<'_, E>,
+    observer: &mut O,
+) -> bool
+    ensures { SkipsComponent path_symbols.old path_symbols.new result }
 {
-    while let Some(place) = places.next(observer) {
-        match place {
-            Place::Separator => return true,
-            Place::LeadingDot => return false,
-            Place::Ordinary(_) => {}
+    while let Some(path_symbol) = path_symbols.next(observer) {
+        match path_symbol {
+            PathSymbol::Separator => return true,
+            PathSymbol::LeadingDot => return false,
+            PathSymbol::Ordinary(_) => {}
         }
     }
     false
 }
 
-/// Matches the tokens up to the first `**` against the first places.
+/// Matches the tokens up to the first `**` against the first path symbols.
 fn first_part<'p, 'a, E: Platform, O: Observer>(
     tokens: Tokens<'p>,
-    places: Places<'a, E>,
+    path_symbols: PathSymbols<'a, E>,
     observer: &mut O,
 ) -> Part<'p, 'a, E>
-    ensures { PartSays tokens.entry places.entry result }
+    ensures { PartSays tokens.entry path_symbols.entry result }
 {
-    match first_piece(tokens, places, observer) {
+    match first_piece(tokens, path_symbols, observer) {
         Piece::All => Part::All,
         Piece::Differs => Part::Differs,
         Piece::Ends => Part::Ends,
@@ -153,18 +156,18 @@ fn first_part<'p, 'a, E: Platform, O: Observer>(
     }
 }
 
-/// Matches the tokens after a `*` up to the first `**` against the first places.
+/// Matches the tokens after a `*` up to the first `**` against the first path symbols.
 fn part_after_star<'p, 'a, E: Platform, O: Observer>(
     tokens: Tokens<'p>,
-    places: Places<'a, E>,
+    path_symbols: PathSymbols<'a, E>,
     observer: &mut O,
 ) -> Part<'p, 'a, E>
-    ensures { PartSays (Run Star ∷ tokens.entry) places.entry result }
+    ensures { PartSays (Run Star ∷ tokens.entry) path_symbols.entry result }
 {
     let mut left = tokens;
-    let mut from = places;
+    let mut from = path_symbols;
     loop {
-        skip_places(Wildcard::Star, &left, &mut from, observer);
+        skip_symbols(Wildcard::Star, &left, &mut from, observer);
         match first_piece(left.again(), from.again(), observer) {
             Piece::All => return Part::All,
             Piece::Ends => return Part::Ends,
@@ -174,10 +177,10 @@ fn part_after_star<'p, 'a, E: Platform, O: Observer>(
                 from = rest;
             }
             Piece::Differs => {
-                let Some(place) = from.next(observer) else {
+                let Some(path_symbol) = from.next(observer) else {
                     return Part::Blocked;
                 };
-                if !Wildcard::Star.takes(place) {
+                if !Wildcard::Star.takes(path_symbol) {
                     return Part::Blocked;
                 }
             }
@@ -185,28 +188,28 @@ fn part_after_star<'p, 'a, E: Platform, O: Observer>(
     }
 }
 
-/// Matches the tokens up to the first wildcard against the first places.
+/// Matches the tokens up to the first wildcard against the first path symbols.
 fn first_piece<'p, 'a, E: Platform, O: Observer>(
     mut tokens: Tokens<'p>,
-    mut places: Places<'a, E>,
+    mut path_symbols: PathSymbols<'a, E>,
     observer: &mut O,
 ) -> Piece<'p, 'a, E>
-    ensures { PieceSays tokens.entry places.entry result }
+    ensures { PieceSays tokens.entry path_symbols.entry result }
 {
     while let Some(token) = tokens.next() {
         match token {
-            Token::Run(wildcard) => return Piece::Run(wildcard, tokens, places),
+            Token::Run(wildcard) => return Piece::Run(wildcard, tokens, path_symbols),
             Token::One(class) => {
-                let Some(place) = places.next(observer) else {
+                let Some(path_symbol) = path_symbols.next(observer) else {
                     return Piece::Ends;
                 };
-                if !class.fits(place) {
+                if !class.fits(path_symbol) {
                     return Piece::Differs;
                 }
             }
         }
     }
-    match places.next(observer) {
+    match path_symbols.next(observer) {
         None => Piece::All,
         Some(_) => Piece::Differs,
     }

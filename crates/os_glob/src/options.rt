@@ -3,7 +3,7 @@ ghost use Rattle.std.specs.Prelude.{IsTrue};
 ghost use Rattle.std.specs.List.{AllByRecursion};
 ghost use Rattle.std.specs.Str.{chars};
 ghost use Rattle.os_glob.specs.declared.options.Separators.TheVariants as separators;
-ghost use Rattle.os_glob.specs.Ends.{StandsAlone};
+ghost use Rattle.os_glob.specs.Ends.{IsMatchedAlone};
 
 use crate::text::split_before;
 
@@ -33,7 +33,7 @@ pub struct GlobOptions {
 
 impl Separators {
     ghost use Rattle.std.specs.Prelude.{◌≡◌};
-    ghost use Rattle.os_glob.specs.Places.{separates};
+    ghost use Rattle.os_glob.specs.PathSymbols.{separates};
 
     /// Whether a character is one of them. For [`Separators::Slash`] `/` is one, and `\` isn't.
     ///
@@ -56,8 +56,8 @@ impl Separators {
     /// Whether each character of a text matches what no other character does: where `/` and `\` are
     /// separators, a text has neither.
     #[inline(always)]
-    pub(crate) fn stand_apart_from(self, text: &str) -> bool
-        ensures { IsTrue result → AllByRecursion (StandsAlone self) (chars text.now) }
+    pub(crate) fn are_apart_from(self, text: &str) -> bool
+        ensures { IsTrue result → AllByRecursion (IsMatchedAlone self) (chars text.now) }
     {
         match self {
             Separators::SlashAndBackslash => has_no_separator(text),
@@ -69,7 +69,7 @@ impl Separators {
 /// Whether a text has neither `/` nor `\`.
 fn has_no_separator(text: &str) -> bool
     ensures { IsTrue result
-        → AllByRecursion (StandsAlone separators.SlashAndBackslash) (chars text.now) }
+        → AllByRecursion (IsMatchedAlone separators.SlashAndBackslash) (chars text.now) }
 {
     let (_, rest) = split_before(text, b'/', b'/', b'\\');
     rest.is_empty()

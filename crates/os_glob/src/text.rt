@@ -2,7 +2,7 @@
 ghost use Rattle.std.specs.Prelude.{◌≡◌, ◌∷◌, ◌++◌, ◌<◌, [], MatchOption, IfSome, length};
 ghost use Rattle.std.specs.List.{AllByRecursion};
 ghost use Rattle.std.specs.Str.{IsUtf8, chars};
-ghost use Rattle.wtf8_core.specs.Standing.{StandsNowhere, IsFirstPlace};
+ghost use Rattle.wtf8_core.specs.Occurrence.{OccursNowhere, IsFirstIndex};
 ghost use Rattle.os_glob.specs.Skips.{IsNone, IsNoStop};
 
 use crate::options::Separators;
@@ -70,8 +70,8 @@ pub(crate) fn split_before_literal<'t, E: Platform>(
     requires { 0 < length literal.now }
     ensures joined { IfSome result (λ parts. chars text.now
         ≡ chars parts.0.now ++ chars parts.1.now) }
-    ensures first { MatchOption result (StandsNowhere (chars literal.now) (chars text.now))
-        (λ parts. IsFirstPlace (chars literal.now) (chars text.now) (length (chars parts.0.now))) }
+    ensures first { MatchOption result (OccursNowhere (chars literal.now) (chars text.now))
+        (λ parts. IsFirstIndex (chars literal.now) (chars text.now) (length (chars parts.0.now))) }
     ensures text { IfSome result (λ parts. IsUtf8 parts.1.now) }
 {
     let Some(at) = OsStr::<E>::new(text).find(literal) else {

@@ -7,26 +7,26 @@ ghost use Rattle.os_glob.specs.Match.{Fits, Takes, permits};
 ghost use Rattle.os_glob.specs.Pattern.{Token as PatternToken, One, Same};
 ghost use Rattle.os_glob.specs.Skips.{IsStart, StartsWith, left_out};
 
-use crate::item::{Item, Wildcard, first_item, is_plain, literal_prefix};
+use crate::item::{PatternItem, Wildcard, first_item, is_plain, literal_prefix};
 use crate::member::has_member;
 use crate::options::{GlobOptions, Separators};
-use crate::place::{Place, place_of};
+use crate::path_symbol::{PathSymbol, path_symbol_of};
 use crate::text::split_at_stop;
 use os_str_ext::Symbol;
 use std::marker::Model;
 
-/// A token that matches one place.
+/// A token that matches one path symbol.
 #[derive(Clone, Copy)]
 pub(crate) enum Class<'p> {
     /// `?`.
     Any,
     /// A character that matches itself.
-    Same(Place),
+    Same(PathSymbol),
     /// A class: whether it is negated, and the pattern from its first member on.
     OneOf(bool, &'p str),
 }
 
-/// What a pattern is made of, by which places it matches.
+/// What a pattern is made of, by which path symbols it matches.
 #[derive(Clone, Copy)]
 pub(crate) enum Token<'p> {
     Run(Wildcard),
@@ -38,7 +38,7 @@ pub(crate) enum Token<'p> {
 pub(crate) enum Start {
     /// There are none.
     End,
-    /// With a character of ASCII that stands for itself alone.
+    /// With a character of ASCII that matches itself alone.
     Byte(u8),
     /// In another way.
     Other,
@@ -56,18 +56,18 @@ impl Wildcard {
         }
     }
 
-    /// Whether its run may include this place.
+    /// Whether its run may include this path symbol.
     #[inline(always)]
-    pub(crate) fn takes(self, place: Place) -> bool
-        ensures { IsTrue result ↔ Takes self place }
+    pub(crate) fn takes(self, path_symbol: PathSymbol) -> bool
+        ensures { IsTrue result ↔ Takes self path_symbol }
     {
-        match place {
-            Place::Ordinary(_) => true,
-            Place::Separator => match self {
+        match path_symbol {
+            PathSymbol::Ordinary(_) => true,
+            PathSymbol::Separator => match self {
                 Wildcard::Star => false,
                 Wildcard::DoubleStar => true,
             },
-            Place::LeadingDot => false,
+            PathSymbol::LeadingDot => false,
         }
     }
 }
@@ -79,25 +79,25 @@ impl<'p> Class<'p> {
         ensures { (ts : List PatternToken) → IsStart (One (class_of self.entry) ∷ ts) result }
     {
         match self {
-            Class::Same(place) => place.start(),
+            Class::Same(path_symbol) => path_symbol.start(),
             Class::Any => Start::Other,
             Class::OneOf(_, _) => Start::Other,
         }
     }
 
-    /// Whether it matches this place.
+    /// Whether it matches this path symbol.
     #[inline(always)]
-    pub(crate) fn fits(self, place: Place) -> bool
-        ensures { IsTrue result ↔ Fits (class_of self.entry) place }
+    pub(crate) fn fits(self, path_symbol: PathSymbol) -> bool
+        ensures { IsTrue result ↔ Fits (class_of self.entry) path_symbol }
     {
         match self {
-            Class::Any => match place {
-                Place::Ordinary(_) => true,
+            Class::Any => match path_symbol {
+                PathSymbol::Ordinary(_) => true,
                 _ => false,
             },
-            Class::Same(same) => same == place,
-            Class::OneOf(negated, text) => match place {
-                Place::Ordinary(symbol) => permits_symbol(negated, text, symbol),
+            Class::Same(same) => same == path_symbol,
+            Class::OneOf(negated, text) => match path_symbol {
+                PathSymbol::Ordinary(symbol) => permits_symbol(negated, text, symbol),
                 _ => false,
             },
         }
@@ -161,7 +161,7 @@ impl<'p> Tokens<'p> {
         }
     }
 
-    /// The characters that they start with and that stand for themselves alone, if these are a
+    /// The characters that they start with and that match themselves alone, if these are a
     /// literal of at least two bytes.
     #[inline(always)]
     pub(crate) fn literal(&self) -> Option<&'p str>
@@ -233,7 +233,7 @@ impl<'p> Token<'p> {
         ensures { result ≡ begins_component_after (token_of self.entry) }
     {
         match self {
-            Token::One(Class::Same(place)) => place.ends_component(),
+            Token::One(Class::Same(path_symbol)) => path_symbol.ends_component(),
             _ => false,
         }
     }
@@ -241,28 +241,28 @@ impl<'p> Token<'p> {
 
 /// The token of an item, which may begin a component; `None` for a fault.
 #[inline(always)]
-fn first_token(options: GlobOptions, begins: bool, item: Item<'_>) -> Option<Token<'_>>
+fn first_token(options: GlobOptions, begins: bool, item: PatternItem<'_>) -> Option<Token<'_>>
     ensures { IsTokenOf options begins (item_of item.entry) result }
 {
     match item {
-        Item::Run(wildcard) => Some(Token::Run(wildcard)),
-        Item::AnyOne => Some(Token::One(Class::Any)),
-        Item::Literal(character) => {
-            let place = place_of(options, begins, Symbol::Character(character));
-            Some(Token::One(Class::Same(place)))
+        PatternItem::Run(wildcard) => Some(Token::Run(wildcard)),
+        PatternItem::AnyOne => Some(Token::One(Class::Any)),
+        PatternItem::Literal(character) => {
+            let path_symbol = path_symbol_of(options, begins, Symbol::Character(character));
+            Some(Token::One(Class::Same(path_symbol)))
         }
-        Item::OneOf(negated, members) => Some(Token::One(Class::OneOf(negated, members))),
-        Item::Refused(_, _) => None,
+        PatternItem::OneOf(negated, members) => Some(Token::One(Class::OneOf(negated, members))),
+        PatternItem::Refused(_, _) => None,
     }
 }
 
-impl Place {
-    /// How tokens start that start with a character that stands for this place.
+impl PathSymbol {
+    /// How tokens start that start with a character that matches this path symbol.
     #[inline(always)]
     fn start(self) -> Start
         ensures { (ts : List PatternToken) → IsStart (One (Same self) ∷ ts) result }
     {
-        let Place::Ordinary(Symbol::Character(character)) = self else {
+        let PathSymbol::Ordinary(Symbol::Character(character)) = self else {
             return Start::Other;
         };
         if character < '\u{80}' {

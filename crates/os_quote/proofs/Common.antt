@@ -5,10 +5,10 @@ pub use Rattle.os_quote.specs.Escape.{BeginsNoToken, IsBadEscapeBy, IsEscape, Is
 pub use Rattle.os_quote.specs.Escaped.{escape_of, escaped_text}
 pub use Rattle.os_quote.specs.Item.{Backslash, ByteUnit, Character, HasLongTokens, IsItem, IsLong, Item, LongCharacter, WideUnit, backslash, byte_digits, character_item, hidden_item, high_digits, item_text, item_texts, long_digits, unit_item, wide_digits}
 pub use Rattle.os_quote.specs.Plain.{IsAfterPlain, IsPlain, IsPlainUpTo, IsPlainWritten}
-pub use Rattle.os_quote.specs.Reading.{HasNoBackslash, HasNoClosed, HasNoFive, HasNoLong, HasNoNumber, HasNoSix, HasNoWide, AreBytesRead, IsClosed, IsCutAtBackslash, IsCutAtFirst, IsFive, IsRead, IsSix, item_bytes, token_item}
+pub use Rattle.os_quote.specs.Reading.{HasNoBackslash, HasNoFour, HasNoFive, HasNoLong, HasNoNumber, HasNoSix, HasNoWide, AreBytesRead, IsFour, IsCutAtBackslash, IsCutAtFirst, IsFive, IsRead, IsSix, item_bytes, token_item}
 pub use Rattle.os_quote.specs.Shown.{is_any, shown_by, stays_on_line}
 pub use Rattle.os_quote.specs.HiddenCharacters.{hidden_ranges, is_in_ranges}
-pub use Rattle.os_quote.specs.Standing.{AllClear, AllStand, IsCutAtHidden, IsNextSuspect, Stands, byte_bits, is_suspect, lead_bits, pair_bits, second_bits, suspect_bits, third_bits}
+pub use Rattle.os_quote.specs.Hidden.{AllClear, AreUnchanged, IsCutAtHidden, IsNextSuspect, IsUnchanged, byte_bits, is_suspect, kind_bits, kind_bits_of_two, second_bits, suspect_bits, third_bits}
 pub use Rattle.os_quote.specs.declared.suspect_bits.TheConstants.{FIRST_HIGH, FIRST_LOW, SECOND_HIGH, SECOND_LOW, THIRD_HIGH, THIRD_LOW, OTHER_HIGH, OTHER_LOW}
 pub use Rattle.os_str_ext.proofs.lemmas.EachChunk.{are_chunks_of}
 pub use Rattle.os_str_ext.specs.Chunks.{IsChunkOf, chunks_of}
@@ -31,7 +31,7 @@ pub use Rattle.std.specs.Int.Bits.{and_zero_l, xor_self}
 pub use Rattle.std.specs.List.{All, AllByRecursion, flat_map, slice_index}
 pub use Rattle.std.specs.Str.{IsAscii, IsCharBoundary, IsUtf8, all_scalars, chars, encode_utf8_all}
 pub use Rattle.std.specs.declared.fmt.Formatter.{Formatter}
-pub use Rattle.wtf8_core.proofs.lemmas.characters.Seams.{Covered, covered_behind, covered_within, over_none, seam_at_start, text_covered}
+pub use Rattle.wtf8_core.proofs.lemmas.characters.Seams.{Covered, covered_after, covered_within, over_none, seam_at_start, text_covered}
 pub use Rattle.wtf8_core.proofs.lemmas.chunks.OneList.{AreChunksFrom, are_chunks, chunks_from_start, chunks_once, one_more_chunk, some_chunks}
 pub use Rattle.wtf8_core.proofs.lemmas.forms.ByStd.{form_encode}
 pub use Rattle.wtf8_core.proofs.lemmas.forms.Shapes.{form_ascii, form_bounds, form_two, form_three, form_past}

@@ -18,6 +18,6 @@ pub mod SuspectTables
 pub mod Suspects
 pub mod Hidden
 pub use Rattle.os_str_ext.proofs.lemmas.EachChunk
-pub mod Fronts
+pub mod Prefixes
 pub mod PlainBytes
 pub mod PlainLanes

@@ -11,9 +11,9 @@ Pushes more old count new len = ((text buffer : List ℕ) → IsTruncated text b
 
 -- plain bytes at the start are written, after which the rest comes
 pub record IsPlainPushed (bytes old new : List ℕ) (count : ℕ) (rest : List ℕ) : Type 0 where
-  pub front : List ℕ
-  pub after : IsAfterPlain bytes front rest
-  pub pushes : Pushes front old 0 new count
+  pub prefix : List ℕ
+  pub after : IsAfterPlain bytes prefix rest
+  pub pushes : Pushes prefix old 0 new count
 
 -- the token of a character that isn't shown, or is the backslash
 abbrev pub token_of : ℕ → Item
@@ -24,7 +24,7 @@ abbrev pub text_escape : (ℕ → Bool) → List ℕ → List ℕ
 text_escape shows text = item_texts (map (character_item shows) (chars text))
 
 -- the text is cut around the first character that is written as a token
-pub record IsCutAtToken (shows : ℕ → Bool) (text front : List ℕ) (character : ℕ) (behind : List ℕ) : Type 0 where
-  pub escape : text_escape shows text ≡ (front ++ item_text (token_of character)) ++ text_escape shows behind
-  pub shorter : length behind < length text
-  pub behind_text : IsUtf8 behind
+pub record IsCutAtToken (shows : ℕ → Bool) (text prefix : List ℕ) (character : ℕ) (following : List ℕ) : Type 0 where
+  pub escape : text_escape shows text ≡ (prefix ++ item_text (token_of character)) ++ text_escape shows following
+  pub shorter : length following < length text
+  pub after_text : IsUtf8 following

@@ -32,8 +32,8 @@ IsLineEscape = IsEscapeBy stays_on_line
 
 -- rest begins with a backslash that begins no token of the form
 pub record BeginsNoToken (shows : ℕ → Bool) (rest : List ℕ) : Type 0 where
-  pub behind : List ℕ
-  pub first : rest ≡ backslash ∷ behind
+  pub following : List ℕ
+  pub first : rest ≡ backslash ∷ following
   pub none : (item : Item) → IsItem shows item → (after : List ℕ) → rest ≢ item_text item ++ after
 
 -- the text begins with items of n bytes, and after them comes a backslash that begins no token of the form
@@ -42,7 +42,7 @@ pub record IsBadEscapeBy (shows : ℕ → Bool) (text : List ℕ) (n : ℕ) : Ty
   pub are : AllByRecursion (IsItem shows) items
   pub rest : List ℕ
   pub joined : text ≡ item_texts items ++ rest
-  pub place : n ≡ length (item_texts items)
+  pub index : n ≡ length (item_texts items)
   pub bad : BeginsNoToken shows rest
 
 -- the same in each form

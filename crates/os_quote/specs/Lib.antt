@@ -1,7 +1,7 @@
 pub mod Item
 pub mod HiddenCharacters
 pub mod Shown
-pub mod Standing
+pub mod Hidden
 pub mod Plain
 pub mod Escape
 pub mod Escaped

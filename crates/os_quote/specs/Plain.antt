@@ -16,17 +16,17 @@ pub record IsPlainUpTo (bytes : List ℕ) (n : ℕ) : Type 0 where
   pub plain : (i : ℕ) → i < n → IsPlain (slice_index bytes i)
 
 -- the bytes are plain ones, and then the rest
-pub record IsAfterPlain (bytes front rest : List ℕ) : Type 0 where
-  pub plain : AllByRecursion IsPlain front
-  pub joined : bytes ≡ front ++ rest
+pub record IsAfterPlain (bytes prefix rest : List ℕ) : Type 0 where
+  pub plain : AllByRecursion IsPlain prefix
+  pub joined : bytes ≡ prefix ++ rest
 
 -- the same, where some are plain
-pub record IsCutAfterPlain (bytes front rest : List ℕ) : Type 0 where
-  pub after : IsAfterPlain bytes front rest
-  pub some : 0 < length front
+pub record IsCutAfterPlain (bytes prefix rest : List ℕ) : Type 0 where
+  pub after : IsAfterPlain bytes prefix rest
+  pub some : 0 < length prefix
 
 -- from f to g plain bytes were written, after which the rest comes
 pub record IsPlainWritten {W : Type 0} (took : W → List ℕ → W → Type 0) (f g : Formatter W) (bytes rest : List ℕ) : Type 0 where
-  pub front : List ℕ
-  pub after : IsAfterPlain bytes front rest
-  pub wrote : IsFlush f → HasWrittenStyled took f front g
+  pub prefix : List ℕ
+  pub after : IsAfterPlain bytes prefix rest
+  pub wrote : IsFlush f → HasWrittenStyled took f prefix g

@@ -29,16 +29,16 @@ abbrev pub HasNoBackslash : List ℕ → Type 0
 HasNoBackslash bs = AllByRecursion (λ b. b ≢ backslash) bs
 
 -- the bytes are cut at their first backslash
-pub record IsCutAtFirst (bytes front behind : List ℕ) : Type 0 where
-  pub none_before : HasNoBackslash front
-  pub joined : bytes ≡ front ++ backslash ∷ behind
+pub record IsCutAtFirst (bytes prefix following : List ℕ) : Type 0 where
+  pub none_before : HasNoBackslash prefix
+  pub joined : bytes ≡ prefix ++ backslash ∷ following
 
 -- the text is cut at its first backslash, and both sides are text
-pub record IsCutAtBackslash (text front behind : List ℕ) : Type 0 where
-  pub none_before : HasNoBackslash front
-  pub joined : text ≡ front ++ backslash ∷ behind
-  pub front_text : IsUtf8 front
-  pub behind_text : IsUtf8 behind
+pub record IsCutAtBackslash (text prefix following : List ℕ) : Type 0 where
+  pub none_before : HasNoBackslash prefix
+  pub joined : text ≡ prefix ++ backslash ∷ following
+  pub prefix_text : IsUtf8 prefix
+  pub after_text : IsUtf8 following
 
 -- the text begins with items of the form that mean these bytes, and the rest, which is text too, is left
 pub record IsRead (shows : ℕ → Bool) (text bytes rest : List ℕ) : Type 0 where
@@ -49,9 +49,9 @@ pub record IsRead (shows : ℕ → Bool) (text bytes rest : List ℕ) : Type 0 w
   pub text_left : IsUtf8 rest
 
 -- the same of bytes that may not be a text: if they are one, they are read
-pub record AreBytesRead (shows : ℕ → Bool) (bytes meant rest : List ℕ) : Type 0 where
-  pub short : length meant + length rest ≤ length bytes
-  pub read : IsUtf8 bytes → IsRead shows bytes meant rest
+pub record AreBytesRead (shows : ℕ → Bool) (bytes decoded rest : List ℕ) : Type 0 where
+  pub short : length decoded + length rest ≤ length bytes
+  pub read : IsUtf8 bytes → IsRead shows bytes decoded rest
 
 -- the bytes don't begin with the four digits of a number of 16 bits
 abbrev pub HasNoWide : List ℕ → Type 0
@@ -66,12 +66,12 @@ abbrev pub HasNoNumber : (ℕ → Bool) → List ℕ → Type 0
 HasNoNumber shows bytes = HasNoWide bytes × (HasLongTokens shows → HasNoLong bytes)
 
 -- the bytes don't begin with four digits and a closing brace
-abbrev pub HasNoClosed : List ℕ → Type 0
-HasNoClosed bytes = (u : ℕ) → u < 0x1_0000 → (after : List ℕ) → bytes ≢ wide_digits u ++ 0x7D ∷ after
+abbrev pub HasNoFour : List ℕ → Type 0
+HasNoFour bytes = (u : ℕ) → u < 0x1_0000 → (after : List ℕ) → bytes ≢ wide_digits u ++ 0x7D ∷ after
 
 -- the bytes are the last four digits of c, a closing brace and the rest, and `high` is the value of the other digits of c
-abbrev pub IsClosed : ℕ → List ℕ → ℕ → List ℕ → Type 0
-IsClosed high bytes c rest = (c / 0x1_0000 ≡ high) × (bytes ≡ wide_digits (c % 0x1_0000) ++ 0x7D ∷ rest)
+abbrev pub IsFour : ℕ → List ℕ → ℕ → List ℕ → Type 0
+IsFour high bytes c rest = (c / 0x1_0000 ≡ high) × (bytes ≡ wide_digits (c % 0x1_0000) ++ 0x7D ∷ rest)
 
 -- the bytes don't begin with `10`, four digits and a closing brace
 abbrev pub HasNoSix : List ℕ → Type 0

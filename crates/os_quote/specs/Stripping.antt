@@ -1,6 +1,6 @@
 -- How a text begins, part by part. Only private contracts name this; `IsEscapeBy` says what an escape is.
 use Rattle.std.specs.Prelude.{◌≢◌, ℕ, List, ◌++◌}
 
--- the text doesn't begin with the front
+-- the text doesn't begin with the prefix
 abbrev pub StartsNot : List ℕ → List ℕ → Type 0
-StartsNot front text = (behind : List ℕ) → text ≢ front ++ behind
+StartsNot prefix text = (following : List ℕ) → text ≢ prefix ++ following

@@ -1,6 +1,6 @@
 //! A string that prints as its escape.
 use crate::form::Form;
-use crate::write::{write_part, write_plain, write_text};
+use crate::write_formatted::{write_part, write_plain, write_text};
 use os_str_bytes::{OsStr, OsStrBytesExt, Platform, Writeable, write_filled};
 use std::alloc::AllocError;
 use std::fmt;

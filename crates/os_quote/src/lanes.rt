@@ -1,7 +1,7 @@
 //! 64 bytes at once: how many of them begin no character that is written as a token on one line.
 ghost use Rattle.std.specs.Prelude.{◌≡◌, ℕ, ◌+◌, ◌*◌, ◌/◌, ◌≤◌, ◌<◌, false, length, IsTrue};
 ghost use Rattle.std.specs.Prelude.{slice_index, bit_and, bit_or};
-ghost use Rattle.os_quote.specs.Standing.{is_suspect, byte_bits, lead_bits, second_bits, third_bits};
+ghost use Rattle.os_quote.specs.Hidden.{is_suspect, byte_bits, kind_bits, second_bits, third_bits};
 
 use crate::suspect_bits::{
     FIRST_HIGH, FIRST_LOW, OTHER_HIGH, OTHER_LOW, SECOND_HIGH, SECOND_LOW, THIRD_HIGH, THIRD_LOW,
@@ -20,7 +20,7 @@ pub(crate) fn clear_len(bytes: &[u8]) -> usize
         → is_suspect (slice_index bytes.now (0 + i)) (slice_index bytes.now (1 + i))
         (slice_index bytes.now (2 + i)) ≡ false }
 {
-    let leads = lead_bits(load(bytes, 0));
+    let leads = kind_bits(load(bytes, 0));
     if are_zero(leads) {
         return BLOCK;
     }
@@ -46,8 +46,8 @@ fn load(bytes: &[u8], from: usize) -> u8x64
 
 /// The kinds of characters that each byte may begin.
 #[inline(always)]
-fn lead_bits(lanes: u8x64) -> u8x64
-    ensures { (i : ℕ) → i < 64 → slice_index result i ≡ lead_bits (slice_index lanes i) }
+fn kind_bits(lanes: u8x64) -> u8x64
+    ensures { (i : ℕ) → i < 64 → slice_index result i ≡ kind_bits (slice_index lanes i) }
 {
     bits(FIRST_HIGH, FIRST_LOW, lanes)
 }

@@ -23,7 +23,7 @@ pub fn escapes<E: Platform>()
 pub fn bad_escapes<E: Platform>()
     ensures never { (s : List ℕ) → (text : List ℕ) → (n : ℕ) → E.well_formed s
         → IsEscape E.units s text → ¬ (IsBadEscape text n) }
-    ensures one_place { (text : List ℕ) → (n : ℕ) → (m : ℕ) → IsBadEscape text n
+    ensures one_index { (text : List ℕ) → (n : ℕ) → (m : ℕ) → IsBadEscape text n
         → IsBadEscape text m → n ≡ m }
 {}
 
@@ -41,6 +41,6 @@ pub fn line_escapes<E: Platform>()
         → IsLineEscape E.units s text → All (λ c. IsTrue (stays_on_line c)) (chars text) }
     ensures never_bad { (s : List ℕ) → (text : List ℕ) → (n : ℕ) → E.well_formed s
         → IsLineEscape E.units s text → ¬ (IsBadLineEscape text n) }
-    ensures one_place { (text : List ℕ) → (n : ℕ) → (m : ℕ) → IsBadLineEscape text n
+    ensures one_index { (text : List ℕ) → (n : ℕ) → (m : ℕ) → IsBadLineEscape text n
         → IsBadLineEscape text m → n ≡ m }
 {}

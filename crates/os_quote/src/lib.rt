@@ -11,32 +11,32 @@
 //! display are written as tokens, too.
 #![tactic(auto)]
 
-mod buffer;
-mod buffer_token;
+mod compare;
+mod decode;
 mod display;
 mod error;
 mod form;
+mod hidden;
 mod lanes;
 pub mod laws;
 mod long_token;
-mod matching;
-mod meaning;
 mod plain;
 mod quoting;
 mod reading;
-mod standing;
 mod suspect_bits;
 mod suspects;
 mod token;
 mod unescaped;
 mod unescaped_bytes;
-mod write;
-mod write_token;
+mod write_buffer;
+mod write_buffer_token;
+mod write_formatted;
+mod write_formatted_token;
 
-pub use buffer::{write_escape, write_escape_line};
 pub use display::Escaped;
 pub use error::QuoteError;
 pub use quoting::{escape, escape_line, escaped, escaped_line};
 pub use reading::{unescape, unescape_line};
 pub use unescaped::{write_unescaped, write_unescaped_line};
 pub use unescaped_bytes::{write_unescaped_bytes, write_unescaped_line_bytes};
+pub use write_buffer::{write_escape, write_escape_line};

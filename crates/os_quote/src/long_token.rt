@@ -1,7 +1,7 @@
 //! Tokens of characters past U+FFFF: `\u{`, five or six digits, and `}`.
 ghost use Rattle.std.specs.Prelude.{◌≡◌, ◌≢◌, ℕ, ◌+◌, ◌*◌, ◌/◌, ◌%◌, ◌<◌, ◌≤◌, ◌∷◌, ◌++◌, List, MatchOption};
 ghost use Rattle.os_quote.specs.Item.{wide_digits, long_digits, IsLong};
-ghost use Rattle.os_quote.specs.Reading.{HasNoLong, HasNoFive, HasNoSix, HasNoClosed, IsClosed, IsFive, IsSix};
+ghost use Rattle.os_quote.specs.Reading.{HasNoLong, HasNoFive, HasNoSix, HasNoFour, IsFour, IsFive, IsSix};
 
 use crate::token::{digit, four_digits};
 
@@ -11,7 +11,7 @@ pub(crate) fn long_character(bytes: &[u8]) -> Option<(char, &[u8])>
     ensures { MatchOption result (HasNoLong bytes.now)
         (λ read. IsLong read.0 × (bytes.now ≡ 0x7B ∷ (long_digits read.0 ++ 0x7D ∷ read.1.now))) }
 {
-    let Some(digits) = behind_byte(bytes, b'{') else {
+    let Some(digits) = after_byte(bytes, b'{') else {
         return None;
     };
     if let Some((character, rest)) = six_digits(digits) {
@@ -28,10 +28,10 @@ fn six_digits(digits: &[u8]) -> Option<(char, &[u8])>
     ensures { MatchOption result (HasNoSix digits.now)
         (λ read. IsSix digits.now read.0 read.1.now) }
 {
-    let Some(lower) = behind_byte(digits, b'1') else {
+    let Some(lower) = after_byte(digits, b'1') else {
         return None;
     };
-    let Some(low) = behind_byte(lower, b'0') else {
+    let Some(low) = after_byte(lower, b'0') else {
         return None;
     };
     let Some((character, rest)) = closed_character(0x10, low) else {
@@ -65,13 +65,13 @@ fn five_digits(digits: &[u8]) -> Option<(char, &[u8])>
 fn closed_character(high: u8, low: &[u8]) -> Option<(char, &[u8])>
     requires some { 0 < high }
     requires within { high ≤ 0x10 }
-    ensures { MatchOption result (HasNoClosed low.now)
-        (λ read. IsClosed high low.now read.0 read.1.now) }
+    ensures { MatchOption result (HasNoFour low.now)
+        (λ read. IsFour high low.now read.0 read.1.now) }
 {
     let Some((number, closed)) = four_digits(low) else {
         return None;
     };
-    let Some(rest) = behind_byte(closed, b'}') else {
+    let Some(rest) = after_byte(closed, b'}') else {
         return None;
     };
     let Some(character) = char::from_u32(u32::from(high) * 0x1_0000 + u32::from(number)) else {
@@ -81,12 +81,16 @@ fn closed_character(high: u8, low: &[u8]) -> Option<(char, &[u8])>
 }
 
 /// What comes after a byte at the start.
-fn behind_byte(bytes: &[u8], byte: u8) -> Option<&[u8]>
+fn after_byte(bytes: &[u8], byte: u8) -> Option<&[u8]>
     ensures { MatchOption result ((after : List ℕ) → bytes.now ≢ byte ∷ after)
-        (λ behind. bytes.now ≡ byte ∷ behind.now) }
+        (λ following. bytes.now ≡ byte ∷ following.now) }
 {
-    let Some((first, behind)) = bytes.split_first() else {
+    let Some((first, following)) = bytes.split_first() else {
         return None;
     };
-    if *first == byte { Some(behind) } else { None }
+    if *first == byte {
+        Some(following)
+    } else {
+        None
+    }
 }

@@ -38,8 +38,8 @@ pub(crate) fn split_plain(bytes: &[u8]) -> Option<(&str, &[u8])>
     if len == 0 {
         return None;
     }
-    let (front, rest) = bytes.split_at(len);
-    Some((unsafe { str::from_utf8_unchecked(front) }, rest))
+    let (prefix, rest) = bytes.split_at(len);
+    Some((unsafe { str::from_utf8_unchecked(prefix) }, rest))
 }
 
 /// How many bytes at the start are plain, or a piece.

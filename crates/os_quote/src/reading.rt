@@ -4,11 +4,11 @@ ghost use Rattle.platform_str.specs.Strings.{string_vec_of};
 ghost use Rattle.os_quote.specs.Shown.{shown_by};
 ghost use Rattle.os_quote.specs.Escape.{IsEscape, IsLineEscape, IsEscapeBy, IsQuoteFault, IsLineFault, IsQuoteFaultBy};
 
+use crate::compare::has_escape;
+use crate::decode::read;
 use crate::error::QuoteError;
 use crate::form::Form;
-use crate::matching::has_escape;
-use crate::meaning::read;
-use crate::standing::split_hidden;
+use crate::hidden::split_hidden;
 use crate::token::split_backslash;
 use os_str_bytes::{OsStr, OsString, Platform, laws};
 use std::alloc::Allocator;

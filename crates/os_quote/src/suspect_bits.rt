@@ -1,8 +1,8 @@
 //! Tables of which bytes may begin a character that is written as a token on one line: suspects.
 ghost use Rattle.std.specs.Prelude.{◌≡◌};
-ghost use Rattle.os_quote.specs.Standing.{byte_bits, third_bits, is_suspect};
+ghost use Rattle.os_quote.specs.Hidden.{byte_bits, third_bits, is_suspect};
 
-// Each bit stands for some kinds of characters. Three bytes may begin one of these if each of them has
+// Each bit means some kinds of characters. Three bytes may begin one of these if each of them has
 // the bit; a byte has the bits that both tables of its halves have, and the third byte those of either
 // pair. The bits are dealt so that few other characters pass for suspects: none of Greek, Hebrew,
 // Devanagari, Thai, hiragana, full-width katakana, the syllables of Hangul, the first block of CJK

@@ -1,6 +1,6 @@
 //! Bytes that may begin a character that is written as a token on one line: suspects.
 ghost use Rattle.std.specs.Prelude.{◌≡◌, ◌+◌, ◌≤◌, ◌<◌, length, slice_index, MatchOption};
-ghost use Rattle.os_quote.specs.Standing.{AllClear, IsNextSuspect};
+ghost use Rattle.os_quote.specs.Hidden.{AllClear, IsNextSuspect};
 
 use crate::lanes::{BLOCK, clear_len};
 use crate::suspect_bits::is_suspect;

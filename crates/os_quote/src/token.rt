@@ -28,13 +28,13 @@ pub(crate) fn split_backslash(text: &str) -> Option<(&str, &str)>
     ensures { MatchOption result (HasNoBackslash text.now)
         (λ parts. IsCutAtBackslash text.now parts.0.now parts.1.now) }
 {
-    let Some((front, behind)) = cut_backslash(text.as_bytes()) else {
+    let Some((prefix, following)) = cut_backslash(text.as_bytes()) else {
         return None;
     };
     Some(unsafe {
         (
-            str::from_utf8_unchecked(front),
-            str::from_utf8_unchecked(behind),
+            str::from_utf8_unchecked(prefix),
+            str::from_utf8_unchecked(following),
         )
     })
 }
@@ -44,9 +44,9 @@ pub(crate) fn cut_backslash(bytes: &[u8]) -> Option<(&[u8], &[u8])>
     ensures { MatchOption result (HasNoBackslash bytes.now)
         (λ parts. IsCutAtFirst bytes.now parts.0.now parts.1.now) }
 {
-    if let Some((first, behind)) = bytes.split_first() {
+    if let Some((first, following)) = bytes.split_first() {
         if *first == b'\\' {
-            return Some((&bytes[..0], behind));
+            return Some((&bytes[..0], following));
         }
     }
     let Some(at) = memchr(b'\\', bytes) else {
@@ -55,15 +55,15 @@ pub(crate) fn cut_backslash(bytes: &[u8]) -> Option<(&[u8], &[u8])>
     Some((&bytes[..at], &bytes[at + 1..]))
 }
 
-/// The token of a form that a backslash begins, and what comes after the token; `behind` is what
+/// The token of a form that a backslash begins, and what comes after the token; `following` is what
 /// comes after the backslash.
 #[tactic(auto, using(crate::proofs::lemmas::Tokens::tokens))]
-pub(crate) fn first_token(form: Form, behind: &[u8]) -> Option<(Token, &[u8])>
-    ensures { MatchOption result (BeginsNoToken (shown_by form) (backslash ∷ behind.now))
+pub(crate) fn first_token(form: Form, following: &[u8]) -> Option<(Token, &[u8])>
+    ensures { MatchOption result (BeginsNoToken (shown_by form) (backslash ∷ following.now))
         (λ read. IsItem (shown_by form) (token_item read.0)
-        × (backslash ∷ behind.now ≡ item_text (token_item read.0) ++ read.1.now)) }
+        × (backslash ∷ following.now ≡ item_text (token_item read.0) ++ read.1.now)) }
 {
-    let Some((kind, digits)) = behind.split_first() else {
+    let Some((kind, digits)) = following.split_first() else {
         return None;
     };
     if *kind == b'\\' {
@@ -126,8 +126,8 @@ fn two_digits(bytes: &[u8]) -> Option<(u8, &[u8])>
         ((b : ℕ) → b < 0x100 → (after : List ℕ) → bytes.now ≢ byte_digits b ++ after)
         (λ read. bytes.now ≡ byte_digits read.0 ++ read.1.now) }
 {
-    let (first, behind) = bytes.split_first()?;
-    let (second, rest) = behind.split_first()?;
+    let (first, following) = bytes.split_first()?;
+    let (second, rest) = following.split_first()?;
     let high = digit(*first)?;
     let low = digit(*second)?;
     Some((high * 16 + low, rest))

@@ -6,11 +6,11 @@ ghost use Rattle.os_quote.specs.Escape.{IsQuoteFault, IsLineFault, IsQuoteFaultB
 ghost use Rattle.os_quote.specs.Unescaped.{IsUnescaped, IsLineUnescaped, IsUnescapedBy};
 ghost use Rattle.os_quote.specs.declared.error.QuoteError.TheVariants.{Memory};
 
+use crate::decode::read;
 use crate::error::QuoteError;
 use crate::form::Form;
-use crate::meaning::read;
+use crate::hidden::split_hidden;
 use crate::reading::is_unescaped;
-use crate::standing::split_hidden;
 use crate::token::split_backslash;
 use os_str_bytes::Platform;
 use wtf8_core::push_truncated;

@@ -6,11 +6,11 @@ use Rattle.os_str_bytes.specs.declared.raw_str.RawOsStr.{RawOsStr}
 use Rattle.os_str_bytes.specs.Raw.{raw_bytes, raw_units}
 
 module _ {E : Type 0} {P : Ghosts E} where
-  -- front and back are the bytes of s before index `at` and from it on, and the units of both, joined, are those of s
-  pub record AreBothParts (s : RawOsStr E P) (at : ℕ) (front back : List ℕ) : Type 0 where
-    pub before : front ≡ take at (raw_bytes s)
-    pub after : back ≡ drop at (raw_bytes s)
-    pub units : raw_units s ≡ P.units front ++ P.units back
+  -- prefix and suffix are the bytes of s before index `at` and from it on, and the units of both, joined, are those of s
+  pub record AreBothParts (s : RawOsStr E P) (at : ℕ) (prefix suffix : List ℕ) : Type 0 where
+    pub before : prefix ≡ take at (raw_bytes s)
+    pub after : suffix ≡ drop at (raw_bytes s)
+    pub units : raw_units s ≡ P.units prefix ++ P.units suffix
 
   -- part is the bytes of s from index i to index j; the units before it, its own and those after it, joined, are those of s
   pub record IsPart (s : RawOsStr E P) (i j : ℕ) (part : List ℕ) : Type 0 where

@@ -51,7 +51,7 @@ module _ {E A : Type 0} {P : Ghosts E} where
     pub index : IsPart s 0 at (raw_bytes cuts.index.0) × IsPart s at (length (raw_bytes s)) (raw_bytes cuts.index.1)
     pub get_unchecked : IsPart s 0 at (raw_bytes cuts.get_unchecked.0) × IsPart s at (length (raw_bytes s)) (raw_bytes cuts.get_unchecked.1)
     pub split_off : IfOk cuts.split_off (λ parts. AreBothParts s at (raw_vec_of parts.0).items (raw_vec_of parts.1).items)
-    pub truncate : IfOk cuts.truncate (λ front. AreBothParts s at (raw_vec_of front).items (drop at (raw_bytes s)))
+    pub truncate : IfOk cuts.truncate (λ prefix. AreBothParts s at (raw_vec_of prefix).items (drop at (raw_bytes s)))
 
   -- the cuts of s at index `at`; None if s may not be cut there
   abbrev pub CutsAt : RawOsStr E P → ℕ → Option (Cuts E A P) → Type 0

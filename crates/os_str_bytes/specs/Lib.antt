@@ -18,11 +18,11 @@ pub use Rattle.wtf8_core.specs.LossyReading
 pub use Rattle.wtf8_core.specs.PartUnits
 pub use Rattle.wtf8_core.specs.Pieces
 pub use Rattle.wtf8_core.specs.Runs
-pub use Rattle.wtf8_core.specs.Standing
-pub use Rattle.wtf8_core.specs.StandingLaws
+pub use Rattle.wtf8_core.specs.Occurrence
+pub use Rattle.wtf8_core.specs.OccurrenceLaws
 pub use Rattle.wtf8_core.specs.Surrogate
 pub use Rattle.wtf8_core.specs.Truncated
-pub use Rattle.wtf8_core.specs.UnitPlace
+pub use Rattle.wtf8_core.specs.UnitIndex
 pub use Rattle.wtf8_core.specs.UnitsOf
 pub use Rattle.wtf8_core.specs.Utf8
 pub use Rattle.wtf8_core.specs.Wtf8

@@ -40,8 +40,8 @@ pub(crate) fn indexed<'a, E: Platform>(
     at: usize,
 ) -> (RawOsStr<'a, E>, RawOsStr<'a, E>)
     requires { IsBoundary (raw_bytes string) at }
-    ensures front { IsPart string.entry 0 at (raw_bytes result.0) }
-    ensures back { IsPart string.entry at (length (raw_bytes string.entry)) (raw_bytes result.1) }
+    ensures prefix { IsPart string.entry 0 at (raw_bytes result.0) }
+    ensures suffix { IsPart string.entry at (length (raw_bytes string.entry)) (raw_bytes result.1) }
 {
     (string.index(..at), string.index(at..))
 }
@@ -52,8 +52,8 @@ pub(crate) fn indexed_unchecked<'a, E: Platform>(
     at: usize,
 ) -> (RawOsStr<'a, E>, RawOsStr<'a, E>)
     requires { IsBoundary (raw_bytes string) at }
-    ensures front { IsPart string.entry 0 at (raw_bytes result.0) }
-    ensures back { IsPart string.entry at (length (raw_bytes string.entry)) (raw_bytes result.1) }
+    ensures prefix { IsPart string.entry 0 at (raw_bytes result.0) }
+    ensures suffix { IsPart string.entry at (length (raw_bytes string.entry)) (raw_bytes result.1) }
 {
     (string.get_unchecked(..at), string.get_unchecked(at..))
 }
@@ -68,9 +68,9 @@ pub(crate) fn split_copy<'a, E: Platform, A: Allocator>(
     ensures { IfOk result (λ parts. AreBothParts string.entry at (raw_vec_of parts.0).items
         (raw_vec_of parts.1).items) }
 {
-    let mut front = string.to_owned(alloc)?;
-    let back = front.split_off(at)?;
-    Ok((front, back))
+    let mut prefix = string.to_owned(alloc)?;
+    let suffix = prefix.split_off(at)?;
+    Ok((prefix, suffix))
 }
 
 /// Calls `truncate` on a copy: what is left of the copy.
@@ -80,10 +80,10 @@ pub(crate) fn truncated_copy<'a, E: Platform, A: Allocator>(
     at: usize,
 ) -> Result<RawOsString<E, &'a A>, AllocError>
     requires { IsBoundary (raw_bytes string) at }
-    ensures { IfOk result (λ front. AreBothParts string.entry at (raw_vec_of front).items
+    ensures { IfOk result (λ prefix. AreBothParts string.entry at (raw_vec_of prefix).items
         (drop at (raw_bytes string.entry))) }
 {
-    let mut front = string.to_owned(alloc)?;
-    front.truncate(at);
-    Ok(front)
+    let mut prefix = string.to_owned(alloc)?;
+    prefix.truncate(at);
+    Ok(prefix)
 }

@@ -5,12 +5,12 @@ ghost use Rattle.std.specs.Cmp.Lexicographic.{slice_cmp};
 ghost use Rattle.std.specs.Ordering.{nat_cmp};
 ghost use Rattle.std.specs.Str.{IsUtf8};
 ghost use Rattle.wtf8_core.specs.Wtf8.{Encodes, HasUnits};
-ghost use Rattle.wtf8_core.specs.Standing.{IsFirstPlace, IsLastPlace, IsPrefix, IsSuffix};
-ghost use Rattle.wtf8_core.specs.UnitPlace.{FindsInUnits};
+ghost use Rattle.wtf8_core.specs.Occurrence.{IsFirstIndex, IsLastIndex, IsPrefix, IsSuffix};
+ghost use Rattle.wtf8_core.specs.UnitIndex.{FindsInUnits};
 ghost use Rattle.wtf8_core.specs.Boundary.{IsBoundary};
 ghost use Rattle.wtf8_core.specs.Chunks.{Chunk, AreChunks};
 ghost use Rattle.wtf8_core.specs.Runs.{AreRuns, form_chunk};
-ghost use Rattle.wtf8_core.specs.Pieces.{StandsSomewhere, MayBeCutAround, StripsFront, StripsEnd};
+ghost use Rattle.wtf8_core.specs.Pieces.{OccursSomewhere, MayBeCutAround, StripsPrefix, StripsSuffix};
 ghost use Rattle.wtf8_core.specs.Pieces.{IsStartTrim, IsEndTrim, IsTrim, IsSplit, IsRSplit};
 ghost use Rattle.wtf8_core.specs.Pieces.{SplitsOnce, Trims};
 ghost use Rattle.platform_str.specs.Strings.{string_vec_of};
@@ -106,12 +106,12 @@ pub fn ask<'a, E: Platform + 'a, P: Pattern + Copy, A: Allocator>(
         ↔ IsSuffix (raw_units other.entry) (raw_units string.entry) }
     // So does each search: the index is that of the first or the last unit at which the pattern's
     // units occur,
-    ensures find { FindsInUnits IsFirstPlace E.well_formed E.units (P.text pattern)
+    ensures find { FindsInUnits IsFirstIndex E.well_formed E.units (P.text pattern)
         (raw_bytes string.entry) result.find }
-    ensures rfind { FindsInUnits IsLastPlace E.well_formed E.units (P.text pattern)
+    ensures rfind { FindsInUnits IsLastIndex E.well_formed E.units (P.text pattern)
         (raw_bytes string.entry) result.rfind }
     ensures contains { IsTrue result.contains
-        ↔ StandsSomewhere (E.units (P.text pattern)) (raw_units string.entry) }
+        ↔ OccursSomewhere (E.units (P.text pattern)) (raw_units string.entry) }
     ensures starts_with { IsTrue result.starts_with
         ↔ IsPrefix (E.units (P.text pattern)) (raw_units string.entry) }
     ensures ends_with { IsTrue result.ends_with
@@ -122,9 +122,9 @@ pub fn ask<'a, E: Platform + 'a, P: Pattern + Copy, A: Allocator>(
     ensures rfind_cuts { MayBeCutAround (raw_bytes string.entry) (length (P.text pattern))
         result.rfind }
     // Each strip and trim takes units off the start or the end.
-    ensures strip_prefix { StripsFront raw_units (E.units (P.text pattern))
+    ensures strip_prefix { StripsPrefix raw_units (E.units (P.text pattern))
         (raw_units string.entry) result.strip_prefix }
-    ensures strip_suffix { StripsEnd raw_units (E.units (P.text pattern))
+    ensures strip_suffix { StripsSuffix raw_units (E.units (P.text pattern))
         (raw_units string.entry) result.strip_suffix }
     ensures trim_start { Trims E.units IsStartTrim (P.text pattern) (raw_bytes string.entry)
         (raw_bytes result.trim_start_matches) }
@@ -133,9 +133,9 @@ pub fn ask<'a, E: Platform + 'a, P: Pattern + Copy, A: Allocator>(
     ensures trim { Trims E.units IsTrim (P.text pattern) (raw_bytes string.entry)
         (raw_bytes result.trim_matches) }
     // Each split cuts the units where those of the pattern occur.
-    ensures split_once { SplitsOnce IsFirstPlace raw_units (E.units (P.text pattern))
+    ensures split_once { SplitsOnce IsFirstIndex raw_units (E.units (P.text pattern))
         (raw_units string.entry) result.split_once }
-    ensures rsplit_once { SplitsOnce IsLastPlace raw_units (E.units (P.text pattern))
+    ensures rsplit_once { SplitsOnce IsLastIndex raw_units (E.units (P.text pattern))
         (raw_units string.entry) result.rsplit_once }
     ensures split { SplitsUnlessEmpty E.units IsSplit (P.text pattern) (raw_bytes string.entry)
         result.split }
@@ -223,7 +223,7 @@ pub fn ask_windows<'a>(
 
 /// The strings that calls make from lists of units. Each field has the name of the platform.
 #[derive(Drop)]
-pub struct Spelled<'a, A: Allocator> {
+pub struct FromUnits<'a, A: Allocator> {
     pub unix: Result<CowRawOsStr<'a, Unix>, EncodingError>,
     pub windows: Result<OsString<Windows, &'a A>, AllocError>,
     pub wasm: Result<CowRawOsStr<'a, Wasm>, EncodingError>,
@@ -235,10 +235,10 @@ pub struct Spelled<'a, A: Allocator> {
 /// ```
 /// use os_str_bytes::headline::ask_units;
 ///
-/// let spelled = ask_units(&alloc, b"a\x80", &[0xD800]);
-/// assert!(rt; spelled.unix.is_ok() && spelled.windows.is_ok() && spelled.wasm.is_err());
+/// let encoded = ask_units(&alloc, b"a\x80", &[0xD800]);
+/// assert!(rt; encoded.unix.is_ok() && encoded.windows.is_ok() && encoded.wasm.is_err());
 /// ```
-pub fn ask_units<'a, A: Allocator>(alloc: &'a A, bytes: &'a [u8], wide: &[u16]) -> Spelled<'a, A>
+pub fn ask_units<'a, A: Allocator>(alloc: &'a A, bytes: &'a [u8], wide: &[u16]) -> FromUnits<'a, A>
     // Any bytes are the units of a Unix string,
     ensures unix { IsOk result.unix }
     ensures unix_units { IfOk result.unix (λ cow. ⟦<Unix as Platform>⟧.units (raw_cow_bytes cow)
@@ -251,7 +251,7 @@ pub fn ask_units<'a, A: Allocator>(alloc: &'a A, bytes: &'a [u8], wide: &[u16]) 
     ensures wasm_units { IfOk result.wasm (λ cow. ⟦<Wasm as Platform>⟧.units (raw_cow_bytes cow)
         ≡ bytes.now) }
 {
-    Spelled {
+    FromUnits {
         unix: accepted(bytes),
         windows: OsString::from_wide(alloc, wide),
         wasm: accepted(bytes),

@@ -23,8 +23,8 @@ ghost use Rattle.os_str_bytes.specs.Headline.{IsPlatform, AreItself};
 use crate::wtf8_laws::{functions, lossy_text};
 use crate::{Platform, RawOsStr, RawOsString, Unix, Wasm, Windows};
 pub use os_str_ext::laws::{
-    comparisons, cuts, faults, joins, lossy_texts, owned_comparisons, parts, readings, spelling,
-    standing, texts,
+    comparisons, cuts, encoding, faults, joins, lossy_texts, occurrence, owned_comparisons, parts,
+    readings, texts,
 };
 use std::alloc::Allocator;
 use std::hash::Hash;

@@ -3,11 +3,11 @@
 ghost use Rattle.std.specs.Prelude.{◌≡◌, ◌<◌, ◌↔◌, ◌++◌, ◌+◌, ◌*◌, ◌^◌, IsTrue, IsOk, IsErr, IfOk, IfSome, length, take, drop};
 ghost use Rattle.std.specs.Char.{encode_utf8};
 ghost use Rattle.std.specs.List.{repeat};
-ghost use Rattle.wtf8_core.specs.Standing.{Finds, IsFirstPlace, IsLastPlace, IsPrefix, IsSuffix};
-ghost use Rattle.wtf8_core.specs.UnitPlace.{FindsInUnits};
+ghost use Rattle.wtf8_core.specs.Occurrence.{Finds, IsFirstIndex, IsLastIndex, IsPrefix, IsSuffix};
+ghost use Rattle.wtf8_core.specs.UnitIndex.{FindsInUnits};
 ghost use Rattle.wtf8_core.specs.Boundary.{IsBoundary};
 ghost use Rattle.wtf8_core.specs.Chunks.{AreChunks};
-ghost use Rattle.wtf8_core.specs.Pieces.{StandsSomewhere, MayBeCutAround, StripsFront, StripsEnd};
+ghost use Rattle.wtf8_core.specs.Pieces.{OccursSomewhere, MayBeCutAround, StripsPrefix, StripsSuffix};
 ghost use Rattle.wtf8_core.specs.Pieces.{IsStartTrim, IsEndTrim, IsTrim, IsSplit, IsRSplit};
 ghost use Rattle.wtf8_core.specs.Pieces.{SplitsOnce, Splits, Trims};
 ghost use Rattle.os_str_ext.specs.Characters.{SplitsFirstChar, SplitsLastChar};
@@ -49,8 +49,8 @@ impl<'a, E: Platform> RawOsStr<'a, E> {
     /// ```
     /// use os_str_bytes::{RawOsStr, Unix};
     ///
-    /// let (front, back) = RawOsStr::<Unix>::from_str("foobar").split_at(2);
-    /// assert!(rt; front.eq_str("fo") && back.eq_str("obar"));
+    /// let (prefix, suffix) = RawOsStr::<Unix>::from_str("foobar").split_at(2);
+    /// assert!(rt; prefix.eq_str("fo") && suffix.eq_str("obar"));
     /// ```
     pub fn split_at(self, at: usize) -> (Self, Self)
         requires { IsBoundary (raw_bytes self) at }
@@ -58,8 +58,8 @@ impl<'a, E: Platform> RawOsStr<'a, E> {
         ensures back { raw_bytes result.1 ≡ drop at (raw_bytes self.entry) }
         ensures units { raw_units self.entry ≡ raw_units result.0 ++ raw_units result.1 }
     {
-        let (front, back) = self.string.split_at(at);
-        (RawOsStr::new(front), RawOsStr::new(back))
+        let (prefix, suffix) = self.string.split_at(at);
+        (RawOsStr::new(prefix), RawOsStr::new(suffix))
     }
 
     /// Whether a range fits: its start is at most its end, both are boundaries, and the end is at
@@ -72,8 +72,8 @@ impl<'a, E: Platform> RawOsStr<'a, E> {
     /// assert!(rt; string.fits(&(3..=2)) && !string.fits(&(..7)));
     /// ```
     pub fn fits<I: SliceIndex>(self, range: &I) -> bool
-        ensures { IsTrue result ↔ FitsIn (raw_bytes self.entry) (I.first_place range.now)
-            (I.end_place range.now (length (raw_bytes self.entry))) }
+        ensures { IsTrue result ↔ FitsIn (raw_bytes self.entry) (I.first_index range.now)
+            (I.end_index range.now (length (raw_bytes self.entry))) }
     {
         range.fits(self.string)
     }
@@ -89,12 +89,12 @@ impl<'a, E: Platform> RawOsStr<'a, E> {
     /// assert!(rt; string.index(0..=5) == string && string.index(3..=2).is_empty());
     /// ```
     pub fn index<I: SliceIndex>(self, range: I) -> Self
-        requires { FitsIn (raw_bytes self) (I.first_place range)
-            (I.end_place range (length (raw_bytes self))) }
-        ensures bytes { raw_bytes result ≡ drop (I.first_place range)
-            (take (I.end_place range (length (raw_bytes self.entry))) (raw_bytes self.entry)) }
-        ensures units { IsPartInUnits E.units (raw_bytes self.entry) (I.first_place range)
-            (I.end_place range (length (raw_bytes self.entry))) (raw_bytes result) }
+        requires { FitsIn (raw_bytes self) (I.first_index range)
+            (I.end_index range (length (raw_bytes self))) }
+        ensures bytes { raw_bytes result ≡ drop (I.first_index range)
+            (take (I.end_index range (length (raw_bytes self.entry))) (raw_bytes self.entry)) }
+        ensures units { IsPartInUnits E.units (raw_bytes self.entry) (I.first_index range)
+            (I.end_index range (length (raw_bytes self.entry))) (raw_bytes result) }
     {
         RawOsStr::new(range.index(self.string))
     }
@@ -107,12 +107,12 @@ impl<'a, E: Platform> RawOsStr<'a, E> {
     /// assert!(rt; RawOsStr::<Unix>::from_str("foobar").get_unchecked(3..).eq_str("bar"));
     /// ```
     pub fn get_unchecked<I: SliceIndex>(self, range: I) -> Self
-        requires { FitsIn (raw_bytes self) (I.first_place range)
-            (I.end_place range (length (raw_bytes self))) }
-        ensures bytes { raw_bytes result ≡ drop (I.first_place range)
-            (take (I.end_place range (length (raw_bytes self.entry))) (raw_bytes self.entry)) }
-        ensures units { IsPartInUnits E.units (raw_bytes self.entry) (I.first_place range)
-            (I.end_place range (length (raw_bytes self.entry))) (raw_bytes result) }
+        requires { FitsIn (raw_bytes self) (I.first_index range)
+            (I.end_index range (length (raw_bytes self))) }
+        ensures bytes { raw_bytes result ≡ drop (I.first_index range)
+            (take (I.end_index range (length (raw_bytes self.entry))) (raw_bytes self.entry)) }
+        ensures units { IsPartInUnits E.units (raw_bytes self.entry) (I.first_index range)
+            (I.end_index range (length (raw_bytes self.entry))) (raw_bytes result) }
     {
         self.index(range)
     }
@@ -131,11 +131,11 @@ impl<'a, E: Platform> RawOsStr<'a, E> {
     /// assert_eq!(rt; string.find(""), Some(0));
     /// ```
     pub fn find<P: Pattern>(self, pattern: P) -> Option<usize>
-        ensures bytes { Finds IsFirstPlace (P.text pattern) (raw_bytes self.entry) result }
-        ensures units { FindsInUnits IsFirstPlace E.well_formed E.units (P.text pattern)
+        ensures bytes { Finds IsFirstIndex (P.text pattern) (raw_bytes self.entry) result }
+        ensures units { FindsInUnits IsFirstIndex E.well_formed E.units (P.text pattern)
             (raw_bytes self.entry) result }
         ensures edges { MayBeCutAround (raw_bytes self.entry) (length (P.text pattern)) result }
-        ensures behind { IfSome result (λ at. at + length (P.text pattern) < 2 ^ 64) }
+        ensures after { IfSome result (λ at. at + length (P.text pattern) < 2 ^ 64) }
     {
         self.string.find(pattern)
     }
@@ -151,11 +151,11 @@ impl<'a, E: Platform> RawOsStr<'a, E> {
     /// assert_eq!(rt; string.rfind(""), Some(6));
     /// ```
     pub fn rfind<P: Pattern>(self, pattern: P) -> Option<usize>
-        ensures bytes { Finds IsLastPlace (P.text pattern) (raw_bytes self.entry) result }
-        ensures units { FindsInUnits IsLastPlace E.well_formed E.units (P.text pattern)
+        ensures bytes { Finds IsLastIndex (P.text pattern) (raw_bytes self.entry) result }
+        ensures units { FindsInUnits IsLastIndex E.well_formed E.units (P.text pattern)
             (raw_bytes self.entry) result }
         ensures edges { MayBeCutAround (raw_bytes self.entry) (length (P.text pattern)) result }
-        ensures behind { IfSome result (λ at. at + length (P.text pattern) < 2 ^ 64) }
+        ensures after { IfSome result (λ at. at + length (P.text pattern) < 2 ^ 64) }
     {
         self.string.rfind(pattern)
     }
@@ -169,8 +169,8 @@ impl<'a, E: Platform> RawOsStr<'a, E> {
     /// assert!(rt; string.contains("oba") && string.contains('r') && !string.contains("of"));
     /// ```
     pub fn contains<P: Pattern>(self, pattern: P) -> bool
-        ensures bytes { IsTrue result ↔ StandsSomewhere (P.text pattern) (raw_bytes self.entry) }
-        ensures units { IsTrue result ↔ StandsSomewhere (E.units (P.text pattern))
+        ensures bytes { IsTrue result ↔ OccursSomewhere (P.text pattern) (raw_bytes self.entry) }
+        ensures units { IsTrue result ↔ OccursSomewhere (E.units (P.text pattern))
             (raw_units self.entry) }
     {
         self.string.contains(pattern)
@@ -208,7 +208,7 @@ impl<'a, E: Platform> RawOsStr<'a, E> {
         self.string.ends_with(pattern)
     }
 
-    /// Whether the units of the string start with the units of `front`; half of a surrogate pair
+    /// Whether the units of the string start with the units of `prefix`; half of a surrogate pair
     /// counts.
     ///
     /// ```
@@ -217,13 +217,13 @@ impl<'a, E: Platform> RawOsStr<'a, E> {
     /// let high = RawOsString::new(OsString::<Windows>::from_wide(alloc, &[0xD83D])?);
     /// assert!(rt; RawOsStr::from_str("\u{1F600}").starts_with_os(high.as_raw()));
     /// ```
-    pub fn starts_with_os(self, front: Self) -> bool
-        ensures { IsTrue result ↔ IsPrefix (raw_units front.entry) (raw_units self.entry) }
+    pub fn starts_with_os(self, prefix: Self) -> bool
+        ensures { IsTrue result ↔ IsPrefix (raw_units prefix.entry) (raw_units self.entry) }
     {
-        self.string.starts_with_os(front.string)
+        self.string.starts_with_os(prefix.string)
     }
 
-    /// Whether the units of the string end with the units of `end`; half of a surrogate pair
+    /// Whether the units of the string end with the units of `suffix`; half of a surrogate pair
     /// counts.
     ///
     /// ```
@@ -232,10 +232,10 @@ impl<'a, E: Platform> RawOsStr<'a, E> {
     /// let low = RawOsString::new(OsString::<Windows>::from_wide(alloc, &[0xDE00])?);
     /// assert!(rt; RawOsStr::from_str("\u{1F600}").ends_with_os(low.as_raw()));
     /// ```
-    pub fn ends_with_os(self, end: Self) -> bool
-        ensures { IsTrue result ↔ IsSuffix (raw_units end.entry) (raw_units self.entry) }
+    pub fn ends_with_os(self, suffix: Self) -> bool
+        ensures { IsTrue result ↔ IsSuffix (raw_units suffix.entry) (raw_units self.entry) }
     {
-        self.string.ends_with_os(end.string)
+        self.string.ends_with_os(suffix.string)
     }
 
     // Strips and trims.
@@ -250,8 +250,8 @@ impl<'a, E: Platform> RawOsStr<'a, E> {
     /// assert!(rt; string.strip_prefix("o") == None);
     /// ```
     pub fn strip_prefix<P: Pattern>(self, pattern: P) -> Option<Self>
-        ensures bytes { StripsFront raw_bytes (P.text pattern) (raw_bytes self.entry) result }
-        ensures units { StripsFront raw_units (E.units (P.text pattern)) (raw_units self.entry)
+        ensures bytes { StripsPrefix raw_bytes (P.text pattern) (raw_bytes self.entry) result }
+        ensures units { StripsPrefix raw_units (E.units (P.text pattern)) (raw_units self.entry)
             result }
     {
         match self.string.strip_prefix(pattern) {
@@ -269,8 +269,8 @@ impl<'a, E: Platform> RawOsStr<'a, E> {
     /// assert!(rt; string.strip_suffix("1") == Some(RawOsStr::from_str("bar11")));
     /// ```
     pub fn strip_suffix<P: Pattern>(self, pattern: P) -> Option<Self>
-        ensures bytes { StripsEnd raw_bytes (P.text pattern) (raw_bytes self.entry) result }
-        ensures units { StripsEnd raw_units (E.units (P.text pattern)) (raw_units self.entry)
+        ensures bytes { StripsSuffix raw_bytes (P.text pattern) (raw_bytes self.entry) result }
+        ensures units { StripsSuffix raw_units (E.units (P.text pattern)) (raw_units self.entry)
             result }
     {
         match self.string.strip_suffix(pattern) {
@@ -334,18 +334,18 @@ impl<'a, E: Platform> RawOsStr<'a, E> {
     /// use os_str_bytes::{RawOsStr, Unix};
     ///
     /// let string = RawOsStr::<Unix>::from_str("foobar");
-    /// let (front, back) = (RawOsStr::from_str("f"), RawOsStr::from_str("obar"));
-    /// assert!(rt; string.split_once("o") == Some((front, back)));
+    /// let (prefix, suffix) = (RawOsStr::from_str("f"), RawOsStr::from_str("obar"));
+    /// assert!(rt; string.split_once("o") == Some((prefix, suffix)));
     /// assert!(rt; string.split_once("of") == None);
     /// ```
     pub fn split_once<P: Pattern>(self, pattern: P) -> Option<(Self, Self)>
-        ensures bytes { SplitsOnce IsFirstPlace raw_bytes (P.text pattern) (raw_bytes self.entry)
+        ensures bytes { SplitsOnce IsFirstIndex raw_bytes (P.text pattern) (raw_bytes self.entry)
             result }
-        ensures units { SplitsOnce IsFirstPlace raw_units (E.units (P.text pattern))
+        ensures units { SplitsOnce IsFirstIndex raw_units (E.units (P.text pattern))
             (raw_units self.entry) result }
     {
         match self.string.split_once(pattern) {
-            Some((front, back)) => Some((RawOsStr::new(front), RawOsStr::new(back))),
+            Some((prefix, suffix)) => Some((RawOsStr::new(prefix), RawOsStr::new(suffix))),
             None => None,
         }
     }
@@ -357,17 +357,17 @@ impl<'a, E: Platform> RawOsStr<'a, E> {
     /// use os_str_bytes::{RawOsStr, Unix};
     ///
     /// let string = RawOsStr::<Unix>::from_str("foobar");
-    /// let (front, back) = (RawOsStr::from_str("fo"), RawOsStr::from_str("bar"));
-    /// assert!(rt; string.rsplit_once("o") == Some((front, back)));
+    /// let (prefix, suffix) = (RawOsStr::from_str("fo"), RawOsStr::from_str("bar"));
+    /// assert!(rt; string.rsplit_once("o") == Some((prefix, suffix)));
     /// ```
     pub fn rsplit_once<P: Pattern>(self, pattern: P) -> Option<(Self, Self)>
-        ensures bytes { SplitsOnce IsLastPlace raw_bytes (P.text pattern) (raw_bytes self.entry)
+        ensures bytes { SplitsOnce IsLastIndex raw_bytes (P.text pattern) (raw_bytes self.entry)
             result }
-        ensures units { SplitsOnce IsLastPlace raw_units (E.units (P.text pattern))
+        ensures units { SplitsOnce IsLastIndex raw_units (E.units (P.text pattern))
             (raw_units self.entry) result }
     {
         match self.string.rsplit_once(pattern) {
-            Some((front, back)) => Some((RawOsStr::new(front), RawOsStr::new(back))),
+            Some((prefix, suffix)) => Some((RawOsStr::new(prefix), RawOsStr::new(suffix))),
             None => None,
         }
     }

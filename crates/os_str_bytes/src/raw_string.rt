@@ -193,13 +193,13 @@ impl<E: Platform, A: Allocator> RawOsString<E, A> {
     /// assert!(rt; string.index(3..).eq_str("bar"));
     /// ```
     pub fn index<I: SliceIndex>(&self, range: I) -> RawOsStr<'_, E>
-        requires { FitsIn (raw_vec_of self.now).items (I.first_place range)
-            (I.end_place range (length (raw_vec_of self.now).items)) }
-        ensures bytes { raw_bytes result ≡ drop (I.first_place range)
-            (take (I.end_place range (length (raw_vec_of self.now).items))
+        requires { FitsIn (raw_vec_of self.now).items (I.first_index range)
+            (I.end_index range (length (raw_vec_of self.now).items)) }
+        ensures bytes { raw_bytes result ≡ drop (I.first_index range)
+            (take (I.end_index range (length (raw_vec_of self.now).items))
             (raw_vec_of self.now).items) }
-        ensures units { IsPartInUnits E.units (raw_vec_of self.now).items (I.first_place range)
-            (I.end_place range (length (raw_vec_of self.now).items)) (raw_bytes result) }
+        ensures units { IsPartInUnits E.units (raw_vec_of self.now).items (I.first_index range)
+            (I.end_index range (length (raw_vec_of self.now).items)) (raw_bytes result) }
     {
         self.as_raw().index(range)
     }
@@ -262,19 +262,19 @@ impl<E: Platform, A: Allocator> RawOsString<E, A> {
     where
         A: Clone,
         requires { IsBoundary (raw_vec_of self.old).items at }
-        ensures front { OnOk result ((raw_vec_of self.new).items ≡ take at
+        ensures prefix { OnOk result ((raw_vec_of self.new).items ≡ take at
             (raw_vec_of self.old).items) }
-        ensures back { IfOk result (λ back. (raw_vec_of back).items ≡ drop at
+        ensures suffix { IfOk result (λ suffix. (raw_vec_of suffix).items ≡ drop at
             (raw_vec_of self.old).items) }
-        ensures units { IfOk result (λ back. E.units (raw_vec_of self.old).items ≡ E.units
-            (raw_vec_of self.new).items ++ E.units (raw_vec_of back).items) }
+        ensures units { IfOk result (λ suffix. E.units (raw_vec_of self.old).items ≡ E.units
+            (raw_vec_of self.new).items ++ E.units (raw_vec_of suffix).items) }
         ensures unchanged { OnErr result
             ((raw_vec_of self.new).items ≡ (raw_vec_of self.old).items) }
     {
         let alloc = self.vec.allocator().clone()?;
-        let back = self.copy_from(alloc, at)?;
+        let suffix = self.copy_from(alloc, at)?;
         self.truncate(at);
-        Ok(back)
+        Ok(suffix)
     }
 
     /// A copy of the bytes from a boundary on.

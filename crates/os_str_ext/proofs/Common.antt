@@ -2,7 +2,7 @@
 pub use Rattle.memchr.proofs.lemmas.MatchLemmas.{OccursAt-from_part, OccursAt-part}
 pub use Rattle.memchr.specs.Find.{FindsLastNeedle, FindsNeedle, IsFirstByte, Nowhere, OccursAt as NeedleOccursAt, Passes, is_byte}
 pub use Rattle.os_str_ext.specs.Characters.{IsFirstChar, IsOneCharacter}
-pub use Rattle.os_str_ext.specs.Chunks.{IsBareUpTo, IsChunkOf, IsFirstChunk, chunks_of}
+pub use Rattle.os_str_ext.specs.Chunks.{IsUncoveredUpTo, IsChunkOf, IsFirstChunk, chunks_of}
 pub use Rattle.os_str_ext.specs.Cuts.{AreOfRest, ArePieces, pieces_left}
 pub use Rattle.os_str_ext.specs.Symbols.{IsKnownPart, chunks_symbols, symbols_of, unit_symbol}
 pub use Rattle.os_str_ext.specs.declared.symbols.Symbol.TheVariants.{Character}
@@ -21,13 +21,13 @@ pub use Rattle.std.specs.List.{All, AllByRecursion, flat_map, repeat}
 pub use Rattle.std.specs.Option.{is_some, option_map}
 pub use Rattle.std.specs.Prelude.{slice_index}
 pub use Rattle.std.specs.Str.{IsUtf8, chars, encode_utf8_all}
-pub use Rattle.wtf8_core.proofs.lemmas.characters.AtPlaces.{begins_at, character_fits, none_at_fault, whole_at}
+pub use Rattle.wtf8_core.proofs.lemmas.characters.AtIndices.{begins_at, character_fits, none_at_fault, whole_at}
 pub use Rattle.wtf8_core.proofs.lemmas.characters.Overlaps.{in_rest}
 pub use Rattle.wtf8_core.proofs.lemmas.characters.Seams.{whole_within}
 pub use Rattle.wtf8_core.proofs.lemmas.chunks.OneList.{chunks_once, some_chunks}
 pub use Rattle.wtf8_core.proofs.lemmas.forms.ByStd.{form_encode}
 pub use Rattle.wtf8_core.proofs.lemmas.forms.Shapes.{form_ascii, form_bounds}
-pub use Rattle.wtf8_core.proofs.lemmas.standing.Places.{no_units}
+pub use Rattle.wtf8_core.proofs.lemmas.occurrence.Indices.{no_units}
 pub use Rattle.wtf8_core.specs.Boundary.{IsBoundary}
 pub use Rattle.wtf8_core.specs.Byte.{needed_continuations}
 pub use Rattle.wtf8_core.specs.Character.{WholeCharacter}
@@ -36,6 +36,6 @@ pub use Rattle.wtf8_core.specs.CodePoint.{encode}
 pub use Rattle.wtf8_core.specs.Covered.{HasNoCharacter, IsCovered, StartsWithNoCharacter}
 pub use Rattle.wtf8_core.specs.Items.{AreItems}
 pub use Rattle.wtf8_core.specs.Pieces.{SplitsAt}
-pub use Rattle.wtf8_core.specs.Standing.{IsFirstPlace, IsLastPlace, IsPrefix, IsSuffix, StandsAt, StandsNowhere}
-pub use Rattle.wtf8_core.specs.StandingLaws.{StandingLaws}
+pub use Rattle.wtf8_core.specs.Occurrence.{IsFirstIndex, IsLastIndex, IsPrefix, IsSuffix, OccursAt, OccursNowhere}
+pub use Rattle.wtf8_core.specs.OccurrenceLaws.{OccurrenceLaws}
 pub use Rattle.wtf8_core.specs.declared.fault.EncodingError.{EncodingError}

@@ -1,14 +1,14 @@
 pub mod Comparing
 pub mod Needles
-pub mod BareStart
+pub mod UncoveredStart
 pub mod OneByte
-pub mod Places
+pub mod Indices
 pub mod Searches
 pub mod Splits
 pub mod FirstChunk
 pub mod EachChunk
 pub mod ChunkUnits
-pub mod AroundPlaces
+pub mod AroundIndices
 pub mod PartUnits
 pub mod Repeats
 pub mod Runs

@@ -6,8 +6,8 @@ use Rattle.wtf8_core.specs.CodePoint.{encode}
 use Rattle.wtf8_core.specs.Covered.{StartsWithNoCharacter}
 
 -- no whole character ends where s ends
-abbrev pub EndsBare : List ℕ → Type 0
-EndsBare s = (i : ℕ) → ¬ (WholeCharacter s i (length s))
+abbrev pub EndsUncovered : List ℕ → Type 0
+EndsUncovered s = (i : ℕ) → ¬ (WholeCharacter s i (length s))
 
 -- r is the first character of s and the rest, or None if s doesn't start with a whole character; `of` gives the bytes of the rest
 abbrev pub SplitsFirstChar : {T : Type 0} → (T → List ℕ) → List ℕ → Option (ℕ × T) → Type 0
@@ -15,7 +15,7 @@ SplitsFirstChar of s r = MatchOption r (StartsWithNoCharacter s) (λ parts. s �
 
 -- r is the last character of s and the rest, or None if s doesn't end with a whole character
 abbrev pub SplitsLastChar : {T : Type 0} → (T → List ℕ) → List ℕ → Option (ℕ × T) → Type 0
-SplitsLastChar of s r = MatchOption r (EndsBare s) (λ parts. s ≡ of parts.1 ++ encode_utf8 parts.0)
+SplitsLastChar of s r = MatchOption r (EndsUncovered s) (λ parts. s ≡ of parts.1 ++ encode_utf8 parts.0)
 
 -- r is the length of the whole character that ends in s at i, or None if none ends there
 abbrev pub IsCharacterBefore : List ℕ → ℕ → Option ℕ → Type 0

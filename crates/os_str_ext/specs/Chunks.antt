@@ -14,7 +14,7 @@ chunks_of bytes = (some_chunks bytes).0
 -- the chunk is a string without whole characters and a text, not both empty; well_formed says which bytes are a string
 pub record IsChunkOf (well_formed : List ℕ → Type 0) (c : Chunk) : Type 0 where
   pub formed : well_formed c.0
-  pub bare : HasNoCharacter c.0
+  pub uncovered : HasNoCharacter c.0
   pub text : IsUtf8 c.1
   pub some : 0 < length (c.0 ++ c.1)
 
@@ -23,15 +23,15 @@ abbrev pub BeginsNoCharacter : ℕ → Type 0
 BeginsNoCharacter b = (0x80 ≤ b) × ¬ (IsInRange 0xC2 0xF4 b)
 
 -- no whole character starts at any of the first n bytes
-pub record IsBareUpTo (s : List ℕ) (n : ℕ) : Type 0 where
+pub record IsUncoveredUpTo (s : List ℕ) (n : ℕ) : Type 0 where
   pub within : n ≤ length s
-  pub bare : (k j : ℕ) → k < n → ¬ (WholeCharacter s k j)
+  pub uncovered : (k j : ℕ) → k < n → ¬ (WholeCharacter s k j)
 
 -- the first chunk is the part up to m and then the text up to e: the part ends where a text begins, and the text ends where a part begins
 pub record IsFirstChunk (s : List ℕ) (m e : ℕ) : Type 0 where
   pub ordered : m ≤ e
   pub within : e ≤ length s
-  pub bare : (k : ℕ) → k < m → ¬ (IsCovered s k)
+  pub uncovered : (k : ℕ) → k < m → ¬ (IsCovered s k)
   pub text : IsUtf8 (drop m (take e s))
   pub some : m < length s → m < e
   pub ended : e < length s → ¬ (IsCovered s e)

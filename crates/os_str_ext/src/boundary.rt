@@ -76,10 +76,10 @@ pub(crate) fn split_at<'a, E: Platform>(
     ensures units { E.units (bytes string.entry) ≡ E.units (bytes result.0)
         ++ E.units (bytes result.1) }
 {
-    let (front, back) = string.as_encoded_bytes().split_at(at);
+    let (prefix, suffix) = string.as_encoded_bytes().split_at(at);
     (
-        OsStr::from_encoded_bytes_unchecked(front),
-        OsStr::from_encoded_bytes_unchecked(back),
+        OsStr::from_encoded_bytes_unchecked(prefix),
+        OsStr::from_encoded_bytes_unchecked(suffix),
     )
 }
 
@@ -90,7 +90,7 @@ pub(crate) fn part<'a, E: Platform>(string: OsStr<'a, E>, start: usize, end: usi
     ensures units { IsPartInUnits E.units (bytes string.entry) start end (bytes result) }
 {
     laws::boundaries();
-    let (front, _) = split_at(string, end);
-    let (_, part) = split_at(front, start);
+    let (prefix, _) = split_at(string, end);
+    let (_, part) = split_at(prefix, start);
     part
 }

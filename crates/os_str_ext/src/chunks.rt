@@ -4,7 +4,7 @@ ghost use Rattle.std.specs.Iterator.{YieldsFirstBy, item_count};
 ghost use Rattle.wtf8_core.specs.Chunks.{AreChunks};
 ghost use Rattle.wtf8_core.specs.Utf8.{IsUtf8Fault, part_end};
 ghost use Rattle.platform_str.specs.Strings.{bytes};
-ghost use Rattle.os_str_ext.specs.Chunks.{chunks_of, BeginsNoCharacter, IsBareUpTo, IsFirstChunk};
+ghost use Rattle.os_str_ext.specs.Chunks.{chunks_of, BeginsNoCharacter, IsUncoveredUpTo, IsFirstChunk};
 ghost use Rattle.os_str_ext.specs.Parts.{part_bytes};
 
 use crate::os_units::NonUnicodeOsStr;
@@ -19,22 +19,22 @@ use std::marker::Model;
 #[derive(Drop)]
 pub struct Utf8Chunks<'a, E: Platform + 'a> {
     rest: OsStr<'a, E>,
-    // No whole character starts at any of the first `bare` bytes; this is known from the fault at
-    // which the text before them ended.
-    bare: usize,
+    // No whole character starts at any of the first `uncovered` bytes; this is known from the fault
+    // at which the text before them ended.
+    uncovered: usize,
 }
 
 impl<'a, E: Platform> Model for Utf8Chunks<'a, E> {
     ghost use Rattle.std.specs.Prelude.{List};
     ghost use Rattle.wtf8_core.specs.Chunks.{Chunk};
     ghost use Rattle.platform_str.specs.Strings.{bytes};
-    ghost use Rattle.os_str_ext.specs.Chunks.{chunks_of, IsBareUpTo};
+    ghost use Rattle.os_str_ext.specs.Chunks.{chunks_of, IsUncoveredUpTo};
 
     ghost Value = { List Chunk };
 
     ghost view = { λ it. chunks_of (bytes it.rest) };
 
-    ghost invariant = { λ it. IsBareUpTo (bytes it.rest) it.bare };
+    ghost invariant = { λ it. IsUncoveredUpTo (bytes it.rest) it.uncovered };
 }
 
 impl<'a, E: Platform> Clone for Utf8Chunks<'a, E> {
@@ -45,7 +45,7 @@ impl<'a, E: Platform> Clone for Utf8Chunks<'a, E> {
     fn clone(&self) -> Result<Self, AllocError> {
         Ok(Utf8Chunks {
             rest: self.rest,
-            bare: self.bare,
+            uncovered: self.uncovered,
         })
     }
 }
@@ -58,7 +58,7 @@ impl<'a, E: Platform> Utf8Chunks<'a, E> {
     {
         Utf8Chunks {
             rest: string,
-            bare: 0,
+            uncovered: 0,
         }
     }
 
@@ -95,36 +95,36 @@ impl<'a, E: Platform> Iterator for Utf8Chunks<'a, E> {
         if self.rest.is_empty() {
             return None;
         }
-        let (part, text, rest) = first_chunk(self.rest, self.bare);
+        let (part, text, rest) = first_chunk(self.rest, self.uncovered);
         *self = rest;
         Some((part, text))
     }
 }
 
 /// The first chunk of a string that isn't empty, and the chunks after it. No whole character starts
-/// at any of the string's first `bare` bytes.
+/// at any of the string's first `uncovered` bytes.
 fn first_chunk<'a, E: Platform>(
     string: OsStr<'a, E>,
-    bare: usize,
+    uncovered: usize,
 ) -> (NonUnicodeOsStr<'a, E>, &'a str, Utf8Chunks<'a, E>)
     requires some { 0 < length (bytes string) }
-    requires bare { IsBareUpTo (bytes string) bare }
+    requires uncovered { IsUncoveredUpTo (bytes string) uncovered }
     ensures { chunks_of (bytes string.entry) ≡ (part_bytes result.0, result.1.now) ∷ result.2 }
 {
     let bytes = string.as_encoded_bytes();
     let ChunkEnds {
         part_end,
         text_end,
-        bare_after,
-    } = chunk_ends::<E>(bytes, bare);
-    let (front, rest) = bytes.split_at(text_end);
-    let (part, text) = front.split_at(part_end);
+        uncovered_after,
+    } = chunk_ends::<E>(bytes, uncovered);
+    let (prefix, rest) = bytes.split_at(text_end);
+    let (part, text) = prefix.split_at(part_end);
     (
         NonUnicodeOsStr::new(OsStr::from_encoded_bytes_unchecked(part)),
         unsafe { str::from_utf8_unchecked(text) },
         Utf8Chunks {
             rest: OsStr::from_encoded_bytes_unchecked(rest),
-            bare: bare_after,
+            uncovered: uncovered_after,
         },
     )
 }
@@ -134,20 +134,20 @@ fn first_chunk<'a, E: Platform>(
 pub(crate) struct ChunkEnds {
     pub(crate) part_end: usize,
     pub(crate) text_end: usize,
-    pub(crate) bare_after: usize,
+    pub(crate) uncovered_after: usize,
 }
 
-/// The ends of the first chunk, if no whole character starts at any of the first `bare` bytes.
+/// The ends of the first chunk, if no whole character starts at any of the first `uncovered` bytes.
 ///
 /// The part is skipped fault by fault, by the length of each. A byte with which no character begins
 /// is skipped by itself, without a search.
-pub(crate) fn chunk_ends<E: Platform>(bytes: &[u8], bare: usize) -> ChunkEnds
+pub(crate) fn chunk_ends<E: Platform>(bytes: &[u8], uncovered: usize) -> ChunkEnds
     requires formed { E.well_formed bytes.now }
-    requires bare { IsBareUpTo bytes.now bare }
+    requires uncovered { IsUncoveredUpTo bytes.now uncovered }
     ensures ends { IsFirstChunk bytes.now result.part_end result.text_end }
-    ensures bare { IsBareUpTo (drop result.text_end bytes.now) result.bare_after }
+    ensures uncovered { IsUncoveredUpTo (drop result.text_end bytes.now) result.uncovered_after }
 {
-    let mut at = bare;
+    let mut at = uncovered;
     while at < bytes.len() {
         if begins_no_character(bytes[at]) {
             at += 1;
@@ -158,7 +158,7 @@ pub(crate) fn chunk_ends<E: Platform>(bytes: &[u8], bare: usize) -> ChunkEnds
             return ChunkEnds {
                 part_end: at,
                 text_end: bytes.len(),
-                bare_after: 0,
+                uncovered_after: 0,
             };
         };
         let len = part_len(rest, valid_up_to, error_len);
@@ -166,7 +166,7 @@ pub(crate) fn chunk_ends<E: Platform>(bytes: &[u8], bare: usize) -> ChunkEnds
             return ChunkEnds {
                 part_end: at,
                 text_end: at + valid_up_to,
-                bare_after: len,
+                uncovered_after: len,
             };
         }
         at += len;
@@ -174,7 +174,7 @@ pub(crate) fn chunk_ends<E: Platform>(bytes: &[u8], bare: usize) -> ChunkEnds
     ChunkEnds {
         part_end: bytes.len(),
         text_end: bytes.len(),
-        bare_after: 0,
+        uncovered_after: 0,
     }
 }
 

@@ -45,11 +45,11 @@ fn are_same_by_two(a: &[u8], b: &[u8]) -> bool
     requires at_most { length a.now ≤ 4 }
     ensures { IsTrue result ↔ (a.now ≡ b.now) }
 {
-    let (_, a_back) = a.split_at(a.len() - 2);
-    let (_, b_back) = b.split_at(b.len() - 2);
-    let is_front = first_two(a) == first_two(b);
-    let is_back = first_two(a_back) == first_two(b_back);
-    is_front && is_back
+    let (_, a_suffix) = a.split_at(a.len() - 2);
+    let (_, b_suffix) = b.split_at(b.len() - 2);
+    let has_same_prefix = first_two(a) == first_two(b);
+    let has_same_suffix = first_two(a_suffix) == first_two(b_suffix);
+    has_same_prefix && has_same_suffix
 }
 
 /// The same for four to eight bytes.
@@ -60,11 +60,11 @@ fn are_same_by_four(a: &[u8], b: &[u8]) -> bool
     requires at_most { length a.now ≤ 8 }
     ensures { IsTrue result ↔ (a.now ≡ b.now) }
 {
-    let (_, a_back) = a.split_at(a.len() - 4);
-    let (_, b_back) = b.split_at(b.len() - 4);
-    let is_front = first_four(a) == first_four(b);
-    let is_back = first_four(a_back) == first_four(b_back);
-    is_front && is_back
+    let (_, a_suffix) = a.split_at(a.len() - 4);
+    let (_, b_suffix) = b.split_at(b.len() - 4);
+    let has_same_prefix = first_four(a) == first_four(b);
+    let has_same_suffix = first_four(a_suffix) == first_four(b_suffix);
+    has_same_prefix && has_same_suffix
 }
 
 /// The same for eight to sixteen bytes.
@@ -75,11 +75,11 @@ fn are_same_by_eight(a: &[u8], b: &[u8]) -> bool
     requires at_most { length a.now ≤ 16 }
     ensures { IsTrue result ↔ (a.now ≡ b.now) }
 {
-    let (_, a_back) = a.split_at(a.len() - 8);
-    let (_, b_back) = b.split_at(b.len() - 8);
-    let is_front = first_eight(a) == first_eight(b);
-    let is_back = first_eight(a_back) == first_eight(b_back);
-    is_front && is_back
+    let (_, a_suffix) = a.split_at(a.len() - 8);
+    let (_, b_suffix) = b.split_at(b.len() - 8);
+    let has_same_prefix = first_eight(a) == first_eight(b);
+    let has_same_suffix = first_eight(a_suffix) == first_eight(b_suffix);
+    has_same_prefix && has_same_suffix
 }
 
 /// The same for sixteen to 32 bytes.
@@ -90,11 +90,11 @@ fn are_same_by_sixteen(a: &[u8], b: &[u8]) -> bool
     requires at_most { length a.now ≤ 32 }
     ensures { IsTrue result ↔ (a.now ≡ b.now) }
 {
-    let (a_front, _) = a.split_at(16);
-    let (b_front, _) = b.split_at(16);
-    let (_, a_back) = a.split_at(a.len() - 16);
-    let (_, b_back) = b.split_at(b.len() - 16);
-    are_same_by_eight(a_front, b_front) && are_same_by_eight(a_back, b_back)
+    let (a_prefix, _) = a.split_at(16);
+    let (b_prefix, _) = b.split_at(16);
+    let (_, a_suffix) = a.split_at(a.len() - 16);
+    let (_, b_suffix) = b.split_at(b.len() - 16);
+    are_same_by_eight(a_prefix, b_prefix) && are_same_by_eight(a_suffix, b_suffix)
 }
 
 /// The first two bytes as a number, which determines them.

@@ -1,10 +1,10 @@
 //! The calls that every string of a platform has in addition to its conversions.
 ghost use Rattle.std.specs.Prelude.{ℕ, List, ◌≡◌, ◌<◌, ◌↔◌, ◌++◌, ◌+◌, ◌*◌, ◌^◌, IsTrue, IsOk, IsErr, IfOk, IfSome, length, take, drop};
-ghost use Rattle.wtf8_core.specs.Standing.{Finds, IsFirstPlace, IsLastPlace, IsPrefix, IsSuffix};
-ghost use Rattle.wtf8_core.specs.UnitPlace.{FindsInUnits};
+ghost use Rattle.wtf8_core.specs.Occurrence.{Finds, IsFirstIndex, IsLastIndex, IsPrefix, IsSuffix};
+ghost use Rattle.wtf8_core.specs.UnitIndex.{FindsInUnits};
 ghost use Rattle.wtf8_core.specs.Boundary.{IsBoundary};
 ghost use Rattle.wtf8_core.specs.Chunks.{AreChunks};
-ghost use Rattle.wtf8_core.specs.Pieces.{StandsSomewhere, MayBeCutAround, StripsFront, StripsEnd};
+ghost use Rattle.wtf8_core.specs.Pieces.{OccursSomewhere, MayBeCutAround, StripsPrefix, StripsSuffix};
 ghost use Rattle.wtf8_core.specs.Pieces.{IsStartTrim, IsEndTrim, IsTrim, IsSplit, IsRSplit};
 ghost use Rattle.wtf8_core.specs.Pieces.{SplitsOnce, Splits, Trims};
 ghost use Rattle.std.specs.Char.{encode_utf8};
@@ -55,8 +55,8 @@ pub trait OsStrBytesExt<'a>: OsStrBytes<'a> {
     /// ```
     /// use os_str_bytes::{OsStr, OsStrBytesExt, Unix};
     ///
-    /// let (front, back) = OsStr::<Unix>::new("foobar").split_at(2);
-    /// assert!(rt; front == OsStr::new("fo") && back == OsStr::new("obar"));
+    /// let (prefix, suffix) = OsStr::<Unix>::new("foobar").split_at(2);
+    /// assert!(rt; prefix == OsStr::new("fo") && suffix == OsStr::new("obar"));
     /// ```
     fn split_at(self, at: usize) -> (Self, Self)
         requires { IsBoundary (Self.bytes_of self) at }
@@ -76,13 +76,13 @@ pub trait OsStrBytesExt<'a>: OsStrBytes<'a> {
     /// assert!(rt; string.index(3..=2).is_empty());
     /// ```
     fn index<I: SliceIndex>(self, range: I) -> Self
-        requires { FitsIn (Self.bytes_of self) (I.first_place range)
-            (I.end_place range (length (Self.bytes_of self))) }
+        requires { FitsIn (Self.bytes_of self) (I.first_index range)
+            (I.end_index range (length (Self.bytes_of self))) }
         ensures bytes { Self.bytes_of result
-            ≡ drop (I.first_place range)
-            (take (I.end_place range (length (Self.bytes_of self))) (Self.bytes_of self)) }
-        ensures units { IsPartInUnits Self.Platform.units (Self.bytes_of self) (I.first_place range)
-            (I.end_place range (length (Self.bytes_of self))) (Self.bytes_of result) };
+            ≡ drop (I.first_index range)
+            (take (I.end_index range (length (Self.bytes_of self))) (Self.bytes_of self)) }
+        ensures units { IsPartInUnits Self.Platform.units (Self.bytes_of self) (I.first_index range)
+            (I.end_index range (length (Self.bytes_of self))) (Self.bytes_of result) };
 
     /// The same as [`OsStrBytesExt::index`], as std's `str::get_unchecked`, but safe.
     ///
@@ -92,13 +92,13 @@ pub trait OsStrBytesExt<'a>: OsStrBytes<'a> {
     /// assert!(rt; OsStr::<Unix>::new("foobar").get_unchecked(3..) == OsStr::new("bar"));
     /// ```
     fn get_unchecked<I: SliceIndex>(self, range: I) -> Self
-        requires { FitsIn (Self.bytes_of self) (I.first_place range)
-            (I.end_place range (length (Self.bytes_of self))) }
+        requires { FitsIn (Self.bytes_of self) (I.first_index range)
+            (I.end_index range (length (Self.bytes_of self))) }
         ensures bytes { Self.bytes_of result
-            ≡ drop (I.first_place range)
-            (take (I.end_place range (length (Self.bytes_of self))) (Self.bytes_of self)) }
-        ensures units { IsPartInUnits Self.Platform.units (Self.bytes_of self) (I.first_place range)
-            (I.end_place range (length (Self.bytes_of self))) (Self.bytes_of result) };
+            ≡ drop (I.first_index range)
+            (take (I.end_index range (length (Self.bytes_of self))) (Self.bytes_of self)) }
+        ensures units { IsPartInUnits Self.Platform.units (Self.bytes_of self) (I.first_index range)
+            (I.end_index range (length (Self.bytes_of self))) (Self.bytes_of result) };
 
     // Searches.
 
@@ -114,11 +114,11 @@ pub trait OsStrBytesExt<'a>: OsStrBytes<'a> {
     /// assert_eq!(rt; string.find(""), Some(0));
     /// ```
     fn find<P: Pattern>(self, pattern: P) -> Option<usize>
-        ensures bytes { Finds IsFirstPlace (P.text pattern) (Self.bytes_of self) result }
-        ensures units { FindsInUnits IsFirstPlace Self.Platform.well_formed Self.Platform.units
+        ensures bytes { Finds IsFirstIndex (P.text pattern) (Self.bytes_of self) result }
+        ensures units { FindsInUnits IsFirstIndex Self.Platform.well_formed Self.Platform.units
             (P.text pattern) (Self.bytes_of self) result }
         ensures edges { MayBeCutAround (Self.bytes_of self) (length (P.text pattern)) result }
-        ensures behind { IfSome result (λ at. at + length (P.text pattern) < 2 ^ 64) };
+        ensures after { IfSome result (λ at. at + length (P.text pattern) < 2 ^ 64) };
 
     /// The last index at which the pattern occurs, or `None` if it doesn't occur. The string may be
     /// cut at that index and after the match, at `index + text.len()`.
@@ -131,11 +131,11 @@ pub trait OsStrBytesExt<'a>: OsStrBytes<'a> {
     /// assert_eq!(rt; string.rfind(""), Some(6));
     /// ```
     fn rfind<P: Pattern>(self, pattern: P) -> Option<usize>
-        ensures bytes { Finds IsLastPlace (P.text pattern) (Self.bytes_of self) result }
-        ensures units { FindsInUnits IsLastPlace Self.Platform.well_formed Self.Platform.units
+        ensures bytes { Finds IsLastIndex (P.text pattern) (Self.bytes_of self) result }
+        ensures units { FindsInUnits IsLastIndex Self.Platform.well_formed Self.Platform.units
             (P.text pattern) (Self.bytes_of self) result }
         ensures edges { MayBeCutAround (Self.bytes_of self) (length (P.text pattern)) result }
-        ensures behind { IfSome result (λ at. at + length (P.text pattern) < 2 ^ 64) };
+        ensures after { IfSome result (λ at. at + length (P.text pattern) < 2 ^ 64) };
 
     /// Whether the pattern occurs in the string.
     ///
@@ -146,8 +146,8 @@ pub trait OsStrBytesExt<'a>: OsStrBytes<'a> {
     /// assert!(rt; string.contains("oba") && string.contains('r') && !string.contains("of"));
     /// ```
     fn contains<P: Pattern>(self, pattern: P) -> bool
-        ensures bytes { IsTrue result ↔ StandsSomewhere (P.text pattern) (Self.bytes_of self) }
-        ensures units { IsTrue result ↔ StandsSomewhere (Self.Platform.units (P.text pattern))
+        ensures bytes { IsTrue result ↔ OccursSomewhere (P.text pattern) (Self.bytes_of self) }
+        ensures units { IsTrue result ↔ OccursSomewhere (Self.Platform.units (P.text pattern))
             (units_of self) };
 
     /// Whether the string starts with the pattern.
@@ -178,7 +178,7 @@ pub trait OsStrBytesExt<'a>: OsStrBytes<'a> {
         ensures units { IsTrue result ↔ IsSuffix (Self.Platform.units (P.text pattern))
             (units_of self) };
 
-    /// Whether the units of the string start with the units of `front`; half of a surrogate pair
+    /// Whether the units of the string start with the units of `prefix`; half of a surrogate pair
     /// counts.
     ///
     /// ```
@@ -188,10 +188,10 @@ pub trait OsStrBytesExt<'a>: OsStrBytes<'a> {
     /// let high = OsString::<Windows>::from_wide(alloc, &[0xD83D])?;
     /// assert!(rt; string.as_os_str().starts_with_os(high.as_os_str()));
     /// ```
-    fn starts_with_os(self, front: Self) -> bool
-        ensures { IsTrue result ↔ IsPrefix (units_of front) (units_of self) };
+    fn starts_with_os(self, prefix: Self) -> bool
+        ensures { IsTrue result ↔ IsPrefix (units_of prefix) (units_of self) };
 
-    /// Whether the units of the string end with the units of `end`; half of a surrogate pair
+    /// Whether the units of the string end with the units of `suffix`; half of a surrogate pair
     /// counts.
     ///
     /// ```
@@ -201,8 +201,8 @@ pub trait OsStrBytesExt<'a>: OsStrBytes<'a> {
     /// let low = OsString::<Windows>::from_wide(alloc, &[0xDE00])?;
     /// assert!(rt; string.as_os_str().ends_with_os(low.as_os_str()));
     /// ```
-    fn ends_with_os(self, end: Self) -> bool
-        ensures { IsTrue result ↔ IsSuffix (units_of end) (units_of self) };
+    fn ends_with_os(self, suffix: Self) -> bool
+        ensures { IsTrue result ↔ IsSuffix (units_of suffix) (units_of self) };
 
     // Strips and trims.
 
@@ -216,8 +216,8 @@ pub trait OsStrBytesExt<'a>: OsStrBytes<'a> {
     /// assert!(rt; string.strip_prefix("o") == None);
     /// ```
     fn strip_prefix<P: Pattern>(self, pattern: P) -> Option<Self>
-        ensures bytes { StripsFront Self.bytes_of (P.text pattern) (Self.bytes_of self) result }
-        ensures units { StripsFront units_of (Self.Platform.units (P.text pattern)) (units_of self)
+        ensures bytes { StripsPrefix Self.bytes_of (P.text pattern) (Self.bytes_of self) result }
+        ensures units { StripsPrefix units_of (Self.Platform.units (P.text pattern)) (units_of self)
             result };
 
     /// The string without the pattern at its end, or `None` if it doesn't end with the pattern.
@@ -229,8 +229,8 @@ pub trait OsStrBytesExt<'a>: OsStrBytes<'a> {
     /// assert!(rt; string.strip_suffix("1") == Some(OsStr::new("bar11")));
     /// ```
     fn strip_suffix<P: Pattern>(self, pattern: P) -> Option<Self>
-        ensures bytes { StripsEnd Self.bytes_of (P.text pattern) (Self.bytes_of self) result }
-        ensures units { StripsEnd units_of (Self.Platform.units (P.text pattern)) (units_of self)
+        ensures bytes { StripsSuffix Self.bytes_of (P.text pattern) (Self.bytes_of self) result }
+        ensures units { StripsSuffix units_of (Self.Platform.units (P.text pattern)) (units_of self)
             result };
 
     /// The string with all prefixes that match the pattern repeatedly removed; the whole string if
@@ -286,9 +286,9 @@ pub trait OsStrBytesExt<'a>: OsStrBytes<'a> {
     /// assert!(rt; string.split_once("") == Some((OsStr::new(""), string)));
     /// ```
     fn split_once<P: Pattern>(self, pattern: P) -> Option<(Self, Self)>
-        ensures bytes { SplitsOnce IsFirstPlace Self.bytes_of (P.text pattern) (Self.bytes_of self)
+        ensures bytes { SplitsOnce IsFirstIndex Self.bytes_of (P.text pattern) (Self.bytes_of self)
             result }
-        ensures units { SplitsOnce IsFirstPlace units_of (Self.Platform.units (P.text pattern))
+        ensures units { SplitsOnce IsFirstIndex units_of (Self.Platform.units (P.text pattern))
             (units_of self) result };
 
     /// The parts before and after the last occurrence of the pattern, or `None` if it doesn't
@@ -302,9 +302,9 @@ pub trait OsStrBytesExt<'a>: OsStrBytes<'a> {
     /// assert!(rt; string.rsplit_once("") == Some((string, OsStr::new(""))));
     /// ```
     fn rsplit_once<P: Pattern>(self, pattern: P) -> Option<(Self, Self)>
-        ensures bytes { SplitsOnce IsLastPlace Self.bytes_of (P.text pattern)
+        ensures bytes { SplitsOnce IsLastIndex Self.bytes_of (P.text pattern)
             (Self.bytes_of self) result }
-        ensures units { SplitsOnce IsLastPlace units_of (Self.Platform.units (P.text pattern))
+        ensures units { SplitsOnce IsLastIndex units_of (Self.Platform.units (P.text pattern))
             (units_of self) result };
 
     /// The pieces between occurrences of the pattern, each cut at the first one in what is left.
@@ -540,13 +540,13 @@ impl<'a, E: Platform + 'a> OsStrBytesExt<'a> for OsStr<'a, E> {
     }
 
     #[inline(always)]
-    fn starts_with_os(self, front: Self) -> bool {
-        E::starts_with_os(self.as_encoded_bytes(), front.as_encoded_bytes())
+    fn starts_with_os(self, prefix: Self) -> bool {
+        E::starts_with_os(self.as_encoded_bytes(), prefix.as_encoded_bytes())
     }
 
     #[inline(always)]
-    fn ends_with_os(self, end: Self) -> bool {
-        E::ends_with_os(self.as_encoded_bytes(), end.as_encoded_bytes())
+    fn ends_with_os(self, suffix: Self) -> bool {
+        E::ends_with_os(self.as_encoded_bytes(), suffix.as_encoded_bytes())
     }
 
     #[inline(always)]

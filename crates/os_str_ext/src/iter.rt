@@ -3,7 +3,7 @@ ghost use Rattle.std.specs.Prelude.{◌≡◌, ◌<◌, ℕ, List, MatchOption, 
 ghost use Rattle.std.specs.Iterator.{YieldsFirstBy, item_count};
 ghost use Rattle.std.specs.Option.{option_map};
 ghost use Rattle.std.specs.Str.{IsUtf8};
-ghost use Rattle.wtf8_core.specs.Standing.{StandsNowhere};
+ghost use Rattle.wtf8_core.specs.Occurrence.{OccursNowhere};
 ghost use Rattle.wtf8_core.specs.Pieces.{IsSplit, IsRSplit, Splits};
 ghost use Rattle.platform_str.specs.Strings.{bytes};
 ghost use Rattle.os_str_ext.specs.Cuts.{FirstCut, LastCut, ArePieces, AreOfRest};
@@ -38,7 +38,7 @@ pub trait Direction {
         string: OsStr<'a, E>,
         text: &str,
     ) -> Option<(OsStr<'a, E>, OsStr<'a, E>)>
-        ensures { MatchOption result (StandsNowhere text.now (bytes string.entry))
+        ensures { MatchOption result (OccursNowhere text.now (bytes string.entry))
             (λ cut. cuts text.now (bytes string.entry) (bytes cut.0) (bytes cut.1)) };
 
     ghost laws: { CutLaws cuts };

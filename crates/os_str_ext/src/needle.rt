@@ -38,7 +38,7 @@ pub(crate) fn last_of(bytes: &[u8], needle: &[u8]) -> Option<usize>
 
 /// Whether the needle occurs at index `at`.
 #[inline(always)]
-pub(crate) fn stands_at(bytes: &[u8], needle: &[u8], at: usize) -> bool
+pub(crate) fn occurs_at(bytes: &[u8], needle: &[u8], at: usize) -> bool
     requires { at ≤ length bytes.now }
     ensures { IsTrue result ↔ NeedleOccursAt bytes.now needle.now at }
 {
@@ -46,8 +46,8 @@ pub(crate) fn stands_at(bytes: &[u8], needle: &[u8], at: usize) -> bool
     if rest.len() < needle.len() {
         return false;
     }
-    let (front, _) = rest.split_at(needle.len());
-    are_same(front, needle)
+    let (prefix, _) = rest.split_at(needle.len());
+    are_same(prefix, needle)
 }
 
 /// Whether an occurrence of the needle ends at index `at`.
@@ -58,7 +58,7 @@ pub(crate) fn ends_at(bytes: &[u8], needle: &[u8], at: usize) -> bool
         ↔ ((length needle.now ≤ at)
         × NeedleOccursAt bytes.now needle.now (at - length needle.now)) }
 {
-    needle.len() <= at && stands_at(bytes, needle, at - needle.len())
+    needle.len() <= at && occurs_at(bytes, needle, at - needle.len())
 }
 
 /// The index of the first occurrence of a byte. The iterator is faster if that index is small.
@@ -66,8 +66,8 @@ pub(crate) fn ends_at(bytes: &[u8], needle: &[u8], at: usize) -> bool
 fn first_byte(byte: u8, bytes: &[u8]) -> Option<usize>
     ensures { IsFirstByte (is_byte byte) bytes.now result }
 {
-    let mut places = memchr_iter(byte, bytes);
-    places.next()
+    let mut indices = memchr_iter(byte, bytes);
+    indices.next()
 }
 
 /// The index of the first occurrence of a needle, which often is the start. `memmem` searches for long
@@ -82,7 +82,7 @@ fn first_by_pair(bytes: &[u8], needle: &[u8]) -> Option<usize>
     if bytes.len() < needle.len() {
         return None;
     }
-    if stands_at(bytes, needle, 0) {
+    if occurs_at(bytes, needle, 0) {
         return Some(0);
     }
     first_in_short(bytes, needle)
@@ -93,7 +93,7 @@ fn first_by_pair(bytes: &[u8], needle: &[u8]) -> Option<usize>
 fn first_by_memmem(bytes: &[u8], needle: &[u8]) -> Option<usize>
     ensures { FindsNeedle bytes.now needle.now 0 result }
 {
-    if stands_at(bytes, needle, 0) {
+    if occurs_at(bytes, needle, 0) {
         return Some(0);
     }
     memmem::find(bytes, needle)
@@ -144,7 +144,7 @@ fn first_in_copy(finder: &Finder, bytes: &[u8], copy: &[u8], needle: &[u8]) -> O
         if bytes.len() <= at {
             return None;
         }
-        if stands_at(bytes, needle, at) {
+        if occurs_at(bytes, needle, at) {
             return Some(at);
         }
         from = at + 1;
@@ -192,8 +192,8 @@ fn last_by_end(bytes: &[u8], needle: &[u8]) -> Option<usize>
     let last = needle[needle.len() - 1];
     let mut end = bytes.len();
     for _ in 0..4 {
-        let (front, _) = bytes.split_at(end);
-        let Some(at) = memrchr(last, front) else {
+        let (prefix, _) = bytes.split_at(end);
+        let Some(at) = memrchr(last, prefix) else {
             return None;
         };
         if ends_at(bytes, needle, at + 1) {
@@ -201,6 +201,6 @@ fn last_by_end(bytes: &[u8], needle: &[u8]) -> Option<usize>
         }
         end = at;
     }
-    let (front, _) = bytes.split_at(end);
-    memmem::rfind(front, needle)
+    let (prefix, _) = bytes.split_at(end);
+    memmem::rfind(prefix, needle)
 }

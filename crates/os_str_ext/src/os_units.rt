@@ -14,7 +14,7 @@ use std::marker::Model;
 #[derive_where(PartialEq, Eq, PartialOrd, Ord, Hash)]
 pub struct NonUnicodeOsStr<'a, E: Platform + 'a> {
     string: OsStr<'a, E>,
-    pub ghost bare: { HasNoCharacter (bytes string) },
+    pub ghost uncovered: { HasNoCharacter (bytes string) },
 }
 
 impl<'a, E: Platform> Clone for NonUnicodeOsStr<'a, E> {
@@ -53,7 +53,7 @@ impl<'a, E: Platform> NonUnicodeOsStr<'a, E> {
     /// ```
     pub fn as_os_str(self) -> OsStr<'a, E>
         ensures value { bytes result ≡ part_bytes self.entry }
-        ensures bare { HasNoCharacter (bytes result) }
+        ensures uncovered { HasNoCharacter (bytes result) }
     {
         self.string
     }
@@ -78,7 +78,7 @@ impl<'a, E: Platform> NonUnicodeOsStr<'a, E> {
     /// ```
     pub fn os_units(self) -> OsUnits<'a, E>
         ensures units { result ≡ E.units (part_bytes self.entry) }
-        ensures spelled { part_bytes self.entry ≡ flat_map unit_bytes result }
+        ensures encoded { part_bytes self.entry ≡ flat_map unit_bytes result }
         ensures kind { E.part_units result }
     {
         OsUnits { rest: self }
@@ -209,7 +209,7 @@ impl<'a, E: Platform> OsUnits<'a, E> {
     /// ```
     pub fn as_os_str(&self) -> OsStr<'a, E>
         ensures units { self.now ≡ E.units (bytes result) }
-        ensures bare { HasNoCharacter (bytes result) }
+        ensures uncovered { HasNoCharacter (bytes result) }
     {
         self.rest.as_os_str()
     }

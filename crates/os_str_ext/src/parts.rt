@@ -1,12 +1,12 @@
 //! Parts of strings before, after and between texts.
 ghost use Rattle.std.specs.Prelude.{◌≡◌, ◌<◌, ◌↔◌, IsTrue, length, take, drop};
-ghost use Rattle.wtf8_core.specs.Standing.{IsFirstPlace, IsLastPlace, IsPrefix};
+ghost use Rattle.wtf8_core.specs.Occurrence.{IsFirstIndex, IsLastIndex, IsPrefix};
 ghost use Rattle.wtf8_core.specs.Boundary.{IsBoundary};
-ghost use Rattle.wtf8_core.specs.Pieces.{StripsFront, StripsEnd, SplitsOnce, IsStartTrim, IsEndTrim};
+ghost use Rattle.wtf8_core.specs.Pieces.{StripsPrefix, StripsSuffix, SplitsOnce, IsStartTrim, IsEndTrim};
 ghost use Rattle.platform_str.specs.Strings.{bytes};
 
 use crate::boundary::split_at;
-use crate::runs::{end_run, front_run};
+use crate::runs::{end_run, start_run};
 use crate::search::{ends_with, find, rfind, starts_with};
 use platform_str::{OsStr, Platform};
 use wtf8_core::laws;
@@ -17,7 +17,7 @@ pub(crate) fn strip_prefix<'a, E: Platform>(
     string: OsStr<'a, E>,
     text: &str,
 ) -> Option<OsStr<'a, E>>
-    ensures { StripsFront bytes text.now (bytes string.entry) result }
+    ensures { StripsPrefix bytes text.now (bytes string.entry) result }
 {
     if !has_prefix(string.as_encoded_bytes(), text) {
         return None;
@@ -30,7 +30,7 @@ pub(crate) fn strip_prefix<'a, E: Platform>(
 /// length of the text.
 #[inline(never)]
 fn has_prefix(bytes: &[u8], text: &str) -> bool
-    ensures front { IsTrue result ↔ IsPrefix text.now bytes.now }
+    ensures prefix { IsTrue result ↔ IsPrefix text.now bytes.now }
     ensures edge { IsTrue result → IsBoundary bytes.now (length text.now) }
 {
     starts_with(bytes, text)
@@ -42,7 +42,7 @@ pub(crate) fn strip_suffix<'a, E: Platform>(
     string: OsStr<'a, E>,
     text: &str,
 ) -> Option<OsStr<'a, E>>
-    ensures { StripsEnd bytes text.now (bytes string.entry) result }
+    ensures { StripsSuffix bytes text.now (bytes string.entry) result }
 {
     if !ends_with(string.as_encoded_bytes(), text) {
         return None;
@@ -61,7 +61,7 @@ pub(crate) fn trim_start<'a, E: Platform>(string: OsStr<'a, E>, text: &str) -> O
         return string;
     }
     laws::boundaries();
-    let at = front_run(string.as_encoded_bytes(), text.as_bytes());
+    let at = start_run(string.as_encoded_bytes(), text.as_bytes());
     let (_, rest) = split_at(string, at);
     rest
 }
@@ -87,7 +87,7 @@ pub(crate) fn split_once<'a, E: Platform>(
     string: OsStr<'a, E>,
     text: &str,
 ) -> Option<(OsStr<'a, E>, OsStr<'a, E>)>
-    ensures { SplitsOnce IsFirstPlace bytes text.now (bytes string.entry) result }
+    ensures { SplitsOnce IsFirstIndex bytes text.now (bytes string.entry) result }
 {
     let Some(at) = find(string.as_encoded_bytes(), text) else {
         return None;
@@ -101,7 +101,7 @@ pub(crate) fn rsplit_once<'a, E: Platform>(
     string: OsStr<'a, E>,
     text: &str,
 ) -> Option<(OsStr<'a, E>, OsStr<'a, E>)>
-    ensures { SplitsOnce IsLastPlace bytes text.now (bytes string.entry) result }
+    ensures { SplitsOnce IsLastIndex bytes text.now (bytes string.entry) result }
 {
     let Some(at) = rfind(string.as_encoded_bytes(), text) else {
         return None;
@@ -117,11 +117,11 @@ fn around<'a, E: Platform>(
     end: usize,
 ) -> (OsStr<'a, E>, OsStr<'a, E>)
     requires before { IsBoundary (bytes string) start }
-    requires behind { IsBoundary (bytes string) end }
-    ensures front { bytes result.0 ≡ take start (bytes string.entry) }
-    ensures back { bytes result.1 ≡ drop end (bytes string.entry) }
+    requires after { IsBoundary (bytes string) end }
+    ensures prefix { bytes result.0 ≡ take start (bytes string.entry) }
+    ensures suffix { bytes result.1 ≡ drop end (bytes string.entry) }
 {
-    let (front, _) = split_at(string, start);
-    let (_, back) = split_at(string, end);
-    (front, back)
+    let (prefix, _) = split_at(string, start);
+    let (_, suffix) = split_at(string, end);
+    (prefix, suffix)
 }

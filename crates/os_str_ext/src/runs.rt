@@ -4,13 +4,13 @@ ghost use Rattle.std.specs.List.{repeat};
 ghost use Rattle.memchr.specs.Find.{OccursAt as NeedleOccursAt};
 ghost use Rattle.wtf8_core.specs.Pieces.{IsStartTrim, IsEndTrim};
 
-use crate::needle::{ends_at, stands_at};
+use crate::needle::{ends_at, occurs_at};
 
 /// Once a run has this length, the run itself is searched for after it instead of the text.
 const BLOCK: usize = 256;
 
 /// The index at which the run of the text at the start ends.
-pub(crate) fn front_run(bytes: &[u8], text: &[u8]) -> usize
+pub(crate) fn start_run(bytes: &[u8], text: &[u8]) -> usize
     requires { 0 < length text.now }
     ensures trim { IsStartTrim text.now bytes.now (drop result bytes.now) }
     ensures within { result ≤ length bytes.now }
@@ -49,7 +49,7 @@ fn skip(bytes: &[u8], piece: &[u8], from: usize, to: usize) -> usize
     ensures done { result < to → ¬ (NeedleOccursAt bytes.now piece.now result) }
 {
     let mut at = from;
-    while at < to && stands_at(bytes, piece, at) {
+    while at < to && occurs_at(bytes, piece, at) {
         at += piece.len();
     }
     at

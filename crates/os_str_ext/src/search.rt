@@ -1,6 +1,6 @@
 //! Where a text occurs in bytes.
 ghost use Rattle.std.specs.Prelude.{◌+◌, ◌-◌, ◌^◌, ◌↔◌, ◌<◌, ◌≤◌, IsTrue, IfSome, length};
-ghost use Rattle.wtf8_core.specs.Standing.{Finds, IsFirstPlace, IsLastPlace, IsPrefix, IsSuffix};
+ghost use Rattle.wtf8_core.specs.Occurrence.{Finds, IsFirstIndex, IsLastIndex, IsPrefix, IsSuffix};
 ghost use Rattle.wtf8_core.specs.Boundary.{IsBoundary};
 ghost use Rattle.wtf8_core.specs.Pieces.{MayBeCutAround};
 
@@ -11,9 +11,9 @@ use wtf8_core::laws;
 /// The first index at which the text occurs.
 #[inline(always)]
 pub(crate) fn find(bytes: &[u8], text: &str) -> Option<usize>
-    ensures place { Finds IsFirstPlace text.now bytes.now result }
+    ensures index { Finds IsFirstIndex text.now bytes.now result }
     ensures edges { MayBeCutAround bytes.now (length text.now) result }
-    ensures behind { IfSome result (λ at. at + length text.now < 2 ^ 64) }
+    ensures after { IfSome result (λ at. at + length text.now < 2 ^ 64) }
 {
     laws::boundaries();
     first_of(bytes, text.as_bytes())
@@ -22,9 +22,9 @@ pub(crate) fn find(bytes: &[u8], text: &str) -> Option<usize>
 /// The last index at which the text occurs.
 #[inline(always)]
 pub(crate) fn rfind(bytes: &[u8], text: &str) -> Option<usize>
-    ensures place { Finds IsLastPlace text.now bytes.now result }
+    ensures index { Finds IsLastIndex text.now bytes.now result }
     ensures edges { MayBeCutAround bytes.now (length text.now) result }
-    ensures behind { IfSome result (λ at. at + length text.now < 2 ^ 64) }
+    ensures after { IfSome result (λ at. at + length text.now < 2 ^ 64) }
 {
     laws::boundaries();
     last_of(bytes, text.as_bytes())
@@ -33,21 +33,21 @@ pub(crate) fn rfind(bytes: &[u8], text: &str) -> Option<usize>
 /// Whether the bytes start with the text.
 #[inline(always)]
 pub(crate) fn starts_with(bytes: &[u8], text: &str) -> bool
-    ensures front { IsTrue result ↔ IsPrefix text.now bytes.now }
+    ensures prefix { IsTrue result ↔ IsPrefix text.now bytes.now }
     ensures edge { IsTrue result → IsBoundary bytes.now (length text.now) }
 {
     laws::boundaries();
     if bytes.len() < text.len() {
         return false;
     }
-    let (front, _) = bytes.split_at(text.len());
-    are_same(front, text.as_bytes())
+    let (prefix, _) = bytes.split_at(text.len());
+    are_same(prefix, text.as_bytes())
 }
 
 /// Whether the bytes end with the text.
 #[inline(always)]
 pub(crate) fn ends_with(bytes: &[u8], text: &str) -> bool
-    ensures end { IsTrue result ↔ IsSuffix text.now bytes.now }
+    ensures suffix { IsTrue result ↔ IsSuffix text.now bytes.now }
     ensures edge { IsTrue result → IsBoundary bytes.now (length bytes.now - length text.now) }
     ensures fits { IsTrue result → length text.now ≤ length bytes.now }
 {
@@ -55,6 +55,6 @@ pub(crate) fn ends_with(bytes: &[u8], text: &str) -> bool
     if bytes.len() < text.len() {
         return false;
     }
-    let (_, end) = bytes.split_at(bytes.len() - text.len());
-    are_same(end, text.as_bytes())
+    let (_, suffix) = bytes.split_at(bytes.len() - text.len());
+    are_same(suffix, text.as_bytes())
 }

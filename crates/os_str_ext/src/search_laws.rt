@@ -7,20 +7,20 @@ ghost use Rattle.std.specs.Char.{encode_utf8};
 ghost use Rattle.std.specs.String.{string_bytes};
 ghost use Rattle.wtf8_core.specs.CodePoint.{encode};
 ghost use Rattle.wtf8_core.specs.Pieces.{SplitsAt};
-ghost use Rattle.wtf8_core.specs.Standing.{StandsNowhere, IsFirstPlace, IsLastPlace};
+ghost use Rattle.wtf8_core.specs.Occurrence.{OccursNowhere, IsFirstIndex, IsLastIndex};
 
 use crate::pattern::Pattern;
 
 /// A pattern that isn't empty doesn't occur in the part before its first occurrence, nor in the
 /// part after its last one. So it doesn't occur in the first part that `split_once` gives, nor in
 /// the last part that `rsplit_once` gives.
-pub fn around_place()
-    ensures before_least { (p : List ℕ) → (s : List ℕ) → (front : List ℕ) → (back : List ℕ)
+pub fn around_index()
+    ensures before_first { (p : List ℕ) → (s : List ℕ) → (prefix : List ℕ) → (suffix : List ℕ)
         → 0 < length p
-        → SplitsAt IsFirstPlace p s front back → StandsNowhere p front }
-    ensures after_greatest { (p : List ℕ) → (s : List ℕ) → (front : List ℕ) → (back : List ℕ)
+        → SplitsAt IsFirstIndex p s prefix suffix → OccursNowhere p prefix }
+    ensures after_last { (p : List ℕ) → (s : List ℕ) → (prefix : List ℕ) → (suffix : List ℕ)
         → 0 < length p
-        → SplitsAt IsLastPlace p s front back → StandsNowhere p back }
+        → SplitsAt IsLastIndex p s prefix suffix → OccursNowhere p suffix }
 {}
 
 /// What a search looks for: the form of a `char` (RFC 3629, section 3), the bytes of a `&str`, the

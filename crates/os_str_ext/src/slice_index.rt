@@ -14,9 +14,9 @@ use std::ops::{Range, RangeFrom, RangeFull, RangeInclusive, RangeTo, RangeToIncl
 /// end counts as one more, without overflow, so `..=usize::MAX` never fits, and `3..=2` is the
 /// empty range at 3.
 pub trait SliceIndex: Sized {
-    ghost first_place: { Self → ℕ };
+    ghost first_index: { Self → ℕ };
 
-    ghost end_place: { Self → ℕ → ℕ };
+    ghost end_index: { Self → ℕ → ℕ };
 
     /// Whether the range fits: its start is at most its end, both are boundaries, and the end is at
     /// most the string's length.
@@ -29,8 +29,8 @@ pub trait SliceIndex: Sized {
     /// assert!(rt; !(..7).fits(string) && !(..=usize::MAX).fits(string));
     /// ```
     fn fits<E: Platform>(&self, string: OsStr<'_, E>) -> bool
-        ensures { IsTrue result ↔ FitsIn (bytes string.entry) (first_place self.now)
-            (end_place self.now (length (bytes string.entry))) };
+        ensures { IsTrue result ↔ FitsIn (bytes string.entry) (first_index self.now)
+            (end_index self.now (length (bytes string.entry))) };
 
     /// The part of the string in the range, which must fit (test: [`SliceIndex::fits`]). Its units
     /// are those of the string without the units before the range and those after it.
@@ -43,12 +43,12 @@ pub trait SliceIndex: Sized {
     /// assert!(rt; (..).index(string) == string);
     /// ```
     fn index<'a, E: Platform>(self, string: OsStr<'a, E>) -> OsStr<'a, E>
-        requires { FitsIn (bytes string) (first_place self)
-            (end_place self (length (bytes string))) }
-        ensures bytes { bytes result ≡ drop (first_place self)
-            (take (end_place self (length (bytes string.entry))) (bytes string.entry)) }
-        ensures units { IsPartInUnits E.units (bytes string.entry) (first_place self)
-            (end_place self (length (bytes string.entry))) (bytes result) };
+        requires { FitsIn (bytes string) (first_index self)
+            (end_index self (length (bytes string))) }
+        ensures bytes { bytes result ≡ drop (first_index self)
+            (take (end_index self (length (bytes string.entry))) (bytes string.entry)) }
+        ensures units { IsPartInUnits E.units (bytes string.entry) (first_index self)
+            (end_index self (length (bytes string.entry))) (bytes result) };
 
     /// The same part as [`SliceIndex::index`], as std's `str::get_unchecked`, but safe.
     ///
@@ -58,21 +58,21 @@ pub trait SliceIndex: Sized {
     /// assert!(rt; (..=1).get_unchecked(OsStr::<Unix>::new("foobar")) == OsStr::new("fo"));
     /// ```
     fn get_unchecked<'a, E: Platform>(self, string: OsStr<'a, E>) -> OsStr<'a, E>
-        requires { FitsIn (bytes string) (first_place self)
-            (end_place self (length (bytes string))) }
-        ensures bytes { bytes result ≡ drop (first_place self)
-            (take (end_place self (length (bytes string.entry))) (bytes string.entry)) }
-        ensures units { IsPartInUnits E.units (bytes string.entry) (first_place self)
-            (end_place self (length (bytes string.entry))) (bytes result) }
+        requires { FitsIn (bytes string) (first_index self)
+            (end_index self (length (bytes string))) }
+        ensures bytes { bytes result ≡ drop (first_index self)
+            (take (end_index self (length (bytes string.entry))) (bytes string.entry)) }
+        ensures units { IsPartInUnits E.units (bytes string.entry) (first_index self)
+            (end_index self (length (bytes string.entry))) (bytes result) }
     {
         self.index(string)
     }
 }
 
 impl SliceIndex for Range<usize> {
-    ghost first_place = { λ range. range.start };
+    ghost first_index = { λ range. range.start };
 
-    ghost end_place = { λ range _. range.end };
+    ghost end_index = { λ range _. range.end };
 
     fn fits<E: Platform>(&self, string: OsStr<'_, E>) -> bool {
         fits(string, self.start, self.end)
@@ -84,9 +84,9 @@ impl SliceIndex for Range<usize> {
 }
 
 impl SliceIndex for RangeFrom<usize> {
-    ghost first_place = { λ range. range.start };
+    ghost first_index = { λ range. range.start };
 
-    ghost end_place = { λ _ len. len };
+    ghost end_index = { λ _ len. len };
 
     fn fits<E: Platform>(&self, string: OsStr<'_, E>) -> bool {
         fits(string, self.start, string.len())
@@ -98,9 +98,9 @@ impl SliceIndex for RangeFrom<usize> {
 }
 
 impl SliceIndex for RangeFull {
-    ghost first_place = { λ _. 0 };
+    ghost first_index = { λ _. 0 };
 
-    ghost end_place = { λ _ len. len };
+    ghost end_index = { λ _ len. len };
 
     fn fits<E: Platform>(&self, _string: OsStr<'_, E>) -> bool {
         true
@@ -112,9 +112,9 @@ impl SliceIndex for RangeFull {
 }
 
 impl SliceIndex for RangeInclusive<usize> {
-    ghost first_place = { range_inclusive_start };
+    ghost first_index = { range_inclusive_start };
 
-    ghost end_place = { λ range _. range_inclusive_end range + 1 };
+    ghost end_index = { λ range _. range_inclusive_end range + 1 };
 
     fn fits<E: Platform>(&self, string: OsStr<'_, E>) -> bool {
         fits_inclusive(string, *self.start(), *self.end())
@@ -127,9 +127,9 @@ impl SliceIndex for RangeInclusive<usize> {
 }
 
 impl SliceIndex for RangeTo<usize> {
-    ghost first_place = { λ _. 0 };
+    ghost first_index = { λ _. 0 };
 
-    ghost end_place = { λ range _. range.end };
+    ghost end_index = { λ range _. range.end };
 
     fn fits<E: Platform>(&self, string: OsStr<'_, E>) -> bool {
         fits(string, 0, self.end)
@@ -141,9 +141,9 @@ impl SliceIndex for RangeTo<usize> {
 }
 
 impl SliceIndex for RangeToInclusive<usize> {
-    ghost first_place = { λ _. 0 };
+    ghost first_index = { λ _. 0 };
 
-    ghost end_place = { λ range _. range.end + 1 };
+    ghost end_index = { λ range _. range.end + 1 };
 
     fn fits<E: Platform>(&self, string: OsStr<'_, E>) -> bool {
         fits_inclusive(string, 0, self.end)

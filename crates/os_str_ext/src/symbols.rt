@@ -135,7 +135,7 @@ fn first_symbol<'a, E: Platform>(
 #[inline(always)]
 fn first_of_part<'a, E: Platform>(string: OsStr<'a, E>, known: usize) -> (Symbol, Symbols<'a, E>)
     requires some { 0 < length (bytes string) }
-    requires bare { StartsWithNoCharacter (bytes string) }
+    requires uncovered { StartsWithNoCharacter (bytes string) }
     requires known { IsKnownPart (bytes string) known }
     ensures { symbols_of E.units (bytes string.entry) ≡ result.0 ∷ result.1 }
 {
@@ -156,7 +156,7 @@ fn first_of_part<'a, E: Platform>(string: OsStr<'a, E>, known: usize) -> (Symbol
 #[inline(never)]
 fn part_len(bytes: &[u8], known: usize) -> usize
     requires some { 0 < length bytes.now }
-    requires bare { StartsWithNoCharacter bytes.now }
+    requires uncovered { StartsWithNoCharacter bytes.now }
     requires known { IsKnownPart bytes.now known }
     ensures some { 0 < result }
     ensures part { (e : ℕ) × IsFirstChunk bytes.now result e }

@@ -8,7 +8,7 @@ use Rattle.wtf8_core.specs.Truncated.{IsTruncated}
 abbrev pub Writes : (List ℕ → Type 0) → List ℕ → List ℕ → ℕ → Type 0
 Writes Wanted old new count = (list : List ℕ) × (Wanted list × IsTruncated list old new count)
 
--- the number that stands for an order
+-- the number of an order
 abbrev pub order_number : Ordering → ℕ
 order_number Less = 1
 order_number Equal = 0

@@ -87,8 +87,8 @@ abbrev pub saved_open : Open → SavedChecker
 saved_open opened = record { state = opened.state; bits = opened.bits; fault = None }
 
 -- what is open after these bytes
-abbrev pub StandsFor : Open → List ℕ → Type 0
-StandsFor opened bytes = checker.StandsFor (saved_progress (saved_open opened)) bytes
+abbrev pub OpenDescribes : Open → List ℕ → Type 0
+OpenDescribes opened bytes = checker.Describes (saved_progress (saved_open opened)) bytes
 
 -- the report's kind and value are those of the fault
 abbrev pub ReportsKind : EncodingError → Fault → Type 0

@@ -1,7 +1,7 @@
 -- One step of an iterator, which knows only an index.
 use Rattle.std.specs.Prelude.{◌≡◌, ◌⊎◌, ℕ, zero, suc, ◌≤◌, ◌<◌, true, false, List, [], ◌∷◌, length, take, drop}
 use Rattle.std.specs.Str.{IsUtf8}
-use Rattle.wtf8_core.specs.Standing.{StandsNowhere, IsFirstPlace, IsLastPlace}
+use Rattle.wtf8_core.specs.Occurrence.{OccursNowhere, IsFirstIndex, IsLastIndex}
 use Rattle.wtf8_core.specs.Pieces.{SplitsAt}
 use Rattle.wtf8_core.specs.Chunks.{Chunk, AreChunks}
 use Rattle.osbytes_c.specs.declared.split.Piece.{Piece}
@@ -29,28 +29,28 @@ IsNoPattern p = (¬ (IsUtf8 p)) ⊎ (p ≡ [])
 abbrev pub IsFirstPiece : List ℕ → List ℕ → ℕ → Piece → Type 0
 IsFirstPiece p s at piece =
     elim piece.last [
-      | true ↦ StandsNowhere p (drop at s) × (piece.edge ≡ length s)
-      | false ↦ SplitsAt IsFirstPlace p (drop at s) (part s at piece.edge) (drop piece.rest s)
+      | true ↦ OccursNowhere p (drop at s) × (piece.edge ≡ length s)
+      | false ↦ SplitsAt IsFirstIndex p (drop at s) (part s at piece.edge) (drop piece.rest s)
     ]
 
 -- before index `at` s has this last piece: all of it, if p doesn't occur there; or what comes after the last occurrence of p, before which the rest ends
 abbrev pub IsLastPiece : List ℕ → List ℕ → ℕ → Piece → Type 0
 IsLastPiece p s at piece =
     elim piece.last [
-      | true ↦ StandsNowhere p (take at s) × (piece.edge ≡ 0)
-      | false ↦ SplitsAt IsLastPlace p (take at s) (take piece.rest s) (part s piece.edge at)
+      | true ↦ OccursNowhere p (take at s) × (piece.edge ≡ 0)
+      | false ↦ SplitsAt IsLastIndex p (take at s) (take piece.rest s) (part s piece.edge at)
     ]
 
 -- after index `at` s has this first chunk, and after it those of the rest
 pub record IsChunkAt (s : List ℕ) (at : ℕ) (ends : Ends) : Type 0 where
-  pub behind : List Chunk
-  pub all : AreChunks (drop at s) ((part s at ends.part, part s ends.part ends.text) ∷ behind)
-  pub rest : AreChunks (drop ends.text s) behind
+  pub after : List Chunk
+  pub all : AreChunks (drop at s) ((part s at ends.part, part s ends.part ends.text) ∷ after)
+  pub rest : AreChunks (drop ends.text s) after
   pub ordered : at ≤ ends.part
   pub text_ordered : ends.part ≤ ends.text
   pub within : ends.text ≤ length s
 
--- the kind and the value that stand for a symbol: 1 and the character, or 2 and the unit's number
+-- the kind and the value of a symbol: 1 and the character, or 2 and the unit's number
 abbrev pub Reports : Symbol → ℕ → ℕ → Type 0
 Reports (symbol.Character c) kind value = (kind ≡ 1) × (value ≡ c)
 Reports (symbol.Unit u) kind value = (kind ≡ 2) × (value ≡ unit_number u)
@@ -58,10 +58,10 @@ Reports (symbol.Unit u) kind value = (kind ≡ 2) × (value ≡ unit_number u)
 -- after index `at` the string s of the platform has this first symbol, and after it those of the rest, which is a string too
 pub record IsSymbolAt (platform : ℕ) (s : List ℕ) (at : ℕ) (step : Step) : Type 0 where
   pub first : Symbol
-  pub behind : List Symbol
+  pub after : List Symbol
   pub is : Reports first step.kind step.value
-  pub all : AreSymbols (units_on platform) (drop at s) (first ∷ behind)
-  pub rest : AreSymbols (units_on platform) (drop step.end s) behind
+  pub all : AreSymbols (units_on platform) (drop at s) (first ∷ after)
+  pub rest : AreSymbols (units_on platform) (drop step.end s) after
   pub formed : IsString platform (drop step.end s)
   pub ordered : at < step.end
   pub within : step.end ≤ length s
@@ -71,7 +71,7 @@ abbrev pub IsFirstOf : ℕ → List ℕ → Step → Type 0
 IsFirstOf platform s step = IsSymbolAt platform s 0 step
 
 -- three bytes, which are WTF-8, are the form of this surrogate
-pub record IsSurrogateFront (s : List ℕ) (unit : ℕ) : Type 0 where
+pub record IsSurrogatePrefix (s : List ℕ) (unit : ℕ) : Type 0 where
   pub within : 3 ≤ length s
   pub formed : IsWtf8 (take 3 s)
   pub units_are : units_of (take 3 s) ≡ unit ∷ []
@@ -79,6 +79,6 @@ pub record IsSurrogateFront (s : List ℕ) (unit : ℕ) : Type 0 where
 -- bytes that aren't empty begin with no symbol of the platform: on Windows with no whole character and no form of a surrogate, on wasm with no whole character
 abbrev pub StartsWithNoSymbol : ℕ → List ℕ → Type 0
 StartsWithNoSymbol zero s = ⊥
-StartsWithNoSymbol (suc zero) s = StartsWithNoCharacter s × ((unit : ℕ) → ¬ (IsSurrogateFront s unit))
+StartsWithNoSymbol (suc zero) s = StartsWithNoCharacter s × ((unit : ℕ) → ¬ (IsSurrogatePrefix s unit))
 StartsWithNoSymbol (suc (suc zero)) s = StartsWithNoCharacter s
 StartsWithNoSymbol (suc (suc (suc n))) s = ⊥

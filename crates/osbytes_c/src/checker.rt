@@ -3,7 +3,7 @@ ghost use Rattle.std.specs.Prelude.{◌≡◌, ◌≢◌, ◌<◌, ◌≤◌, �
 ghost use Rattle.wtf8_core.specs.Wtf8.{IsWtf8};
 ghost use Rattle.wtf8_core.specs.Checker.{saved_progress};
 ghost use Rattle.wtf8_core.specs.declared.checker.SavedChecker.{SavedChecker};
-ghost use Rattle.osbytes_c.specs.Faults.{StandsFor, saved_open, ReportsFaulty, ReportsFirst, kind_of, value_of};
+ghost use Rattle.osbytes_c.specs.Faults.{OpenDescribes, saved_open, ReportsFaulty, ReportsFirst, kind_of, value_of};
 
 use crate::fault::{Fault, kind_of, value_of};
 use crate::status::{DONE, FAULTY, NO_STATE};
@@ -22,7 +22,7 @@ pub struct Open {
 /// Starts a check: no bytes are read yet.
 #[unsafe(no_mangle)]
 pub extern "C" fn osb_core_start(opened: &mut Open)
-    ensures { StandsFor opened.new [] }
+    ensures { OpenDescribes opened.new [] }
 {
     *opened = Open { state: 0, bits: 0 };
 }
@@ -31,9 +31,9 @@ pub extern "C" fn osb_core_start(opened: &mut Open)
 /// answer, and nothing else is written; a check that found one isn't to be fed again.
 #[unsafe(no_mangle)]
 pub extern "C" fn osb_core_feed(opened: &mut Open, piece: &[u8], fault: &mut Fault) -> u32
-    ensures stands { result ≡ 0 → (fed : List ℕ) → StandsFor opened.old fed
-        → StandsFor opened.new (fed ++ piece.now) }
-    ensures fault { result ≡ 1 → (fed : List ℕ) → StandsFor opened.old fed
+    ensures describes { result ≡ 0 → (fed : List ℕ) → OpenDescribes opened.old fed
+        → OpenDescribes opened.new (fed ++ piece.now) }
+    ensures fault { result ≡ 1 → (fed : List ℕ) → OpenDescribes opened.old fed
         → ReportsFaulty (fed ++ piece.now) fault.new }
     ensures kept { result ≢ 0 → opened.new ≡ opened.old }
     ensures state { (result ≡ 20) ↔ (16 ≤ opened.old.state) }
@@ -62,8 +62,8 @@ pub extern "C" fn osb_core_feed(opened: &mut Open, piece: &[u8], fault: &mut Fau
 /// Whether all the bytes that were fed are WTF-8.
 #[unsafe(no_mangle)]
 pub extern "C" fn osb_core_finish(opened: &Open, fault: &mut Fault) -> u32
-    ensures string { result ≡ 0 → (fed : List ℕ) → StandsFor opened.now fed → IsWtf8 fed }
-    ensures fault { result ≡ 1 → (fed : List ℕ) → StandsFor opened.now fed
+    ensures string { result ≡ 0 → (fed : List ℕ) → OpenDescribes opened.now fed → IsWtf8 fed }
+    ensures fault { result ≡ 1 → (fed : List ℕ) → OpenDescribes opened.now fed
         → ReportsFirst fed fault.new }
     ensures state { (result ≡ 20) ↔ (16 ≤ opened.now.state) }
     ensures answers { (result ≡ 0) ⊎ ((result ≡ 1) ⊎ (result ≡ 20)) }

@@ -1,6 +1,6 @@
 //! Prefixes and suffixes that are strings, by units.
 ghost use Rattle.std.specs.Prelude.{◌≡◌, ◌<◌, ◌↔◌, ◌⊎◌};
-ghost use Rattle.wtf8_core.specs.Standing.{IsPrefix, IsSuffix};
+ghost use Rattle.wtf8_core.specs.Occurrence.{IsPrefix, IsSuffix};
 ghost use Rattle.osbytes_c.specs.Faults.{IsString, IsUnstring};
 ghost use Rattle.osbytes_c.specs.Platforms.{units_on};
 

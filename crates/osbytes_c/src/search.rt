@@ -1,8 +1,8 @@
 //! Where a pattern occurs. Each pattern is UTF-8.
 ghost use Rattle.std.specs.Prelude.{◌≡◌, ◌↔◌, ◌⊎◌};
 ghost use Rattle.std.specs.Str.{IsUtf8};
-ghost use Rattle.wtf8_core.specs.Standing.{StandsNowhere, IsFirstPlace, IsLastPlace, IsPrefix, IsSuffix};
-ghost use Rattle.wtf8_core.specs.Pieces.{StandsSomewhere};
+ghost use Rattle.wtf8_core.specs.Occurrence.{OccursNowhere, IsFirstIndex, IsLastIndex, IsPrefix, IsSuffix};
+ghost use Rattle.wtf8_core.specs.Pieces.{OccursSomewhere};
 
 use crate::status::{DONE, NO_PATTERN, NONE};
 use crate::strings::{text, unix};
@@ -12,8 +12,8 @@ use os_str_ext::OsStrBytesExt;
 /// was.
 #[unsafe(no_mangle)]
 pub extern "C" fn osb_core_find(bytes: &[u8], pattern: &[u8], index: &mut usize) -> u32
-    ensures found { result ≡ 0 → IsFirstPlace pattern.now bytes.now index.new }
-    ensures none { result ≡ 3 → StandsNowhere pattern.now bytes.now × (index.new ≡ index.old) }
+    ensures found { result ≡ 0 → IsFirstIndex pattern.now bytes.now index.new }
+    ensures none { result ≡ 3 → OccursNowhere pattern.now bytes.now × (index.new ≡ index.old) }
     ensures pattern { (result ≡ 17) ↔ (¬ (IsUtf8 pattern.now)) }
     ensures answers { (result ≡ 0) ⊎ ((result ≡ 3) ⊎ (result ≡ 17)) }
 {
@@ -32,8 +32,8 @@ pub extern "C" fn osb_core_find(bytes: &[u8], pattern: &[u8], index: &mut usize)
 /// The last index of the pattern.
 #[unsafe(no_mangle)]
 pub extern "C" fn osb_core_rfind(bytes: &[u8], pattern: &[u8], index: &mut usize) -> u32
-    ensures found { result ≡ 0 → IsLastPlace pattern.now bytes.now index.new }
-    ensures none { result ≡ 3 → StandsNowhere pattern.now bytes.now × (index.new ≡ index.old) }
+    ensures found { result ≡ 0 → IsLastIndex pattern.now bytes.now index.new }
+    ensures none { result ≡ 3 → OccursNowhere pattern.now bytes.now × (index.new ≡ index.old) }
     ensures pattern { (result ≡ 17) ↔ (¬ (IsUtf8 pattern.now)) }
     ensures answers { (result ≡ 0) ⊎ ((result ≡ 3) ⊎ (result ≡ 17)) }
 {
@@ -52,8 +52,8 @@ pub extern "C" fn osb_core_rfind(bytes: &[u8], pattern: &[u8], index: &mut usize
 /// Whether the pattern occurs.
 #[unsafe(no_mangle)]
 pub extern "C" fn osb_core_contains(bytes: &[u8], pattern: &[u8]) -> u32
-    ensures found { result ≡ 0 → StandsSomewhere pattern.now bytes.now }
-    ensures none { result ≡ 3 → ¬ (StandsSomewhere pattern.now bytes.now) }
+    ensures found { result ≡ 0 → OccursSomewhere pattern.now bytes.now }
+    ensures none { result ≡ 3 → ¬ (OccursSomewhere pattern.now bytes.now) }
     ensures pattern { (result ≡ 17) ↔ (¬ (IsUtf8 pattern.now)) }
     ensures answers { (result ≡ 0) ⊎ ((result ≡ 3) ⊎ (result ≡ 17)) }
 {

@@ -4,7 +4,7 @@ ghost use Rattle.std.specs.Char.{encode_utf8};
 ghost use Rattle.wtf8_core.specs.Covered.{StartsWithNoCharacter};
 ghost use Rattle.wtf8_core.specs.Wtf8.{IsWtf8};
 ghost use Rattle.osbytes_c.specs.Faults.{IsString, IsUnstring};
-ghost use Rattle.osbytes_c.specs.Steps.{IsSymbolAt, IsFirstOf, IsSurrogateFront, StartsWithNoSymbol};
+ghost use Rattle.osbytes_c.specs.Steps.{IsSymbolAt, IsFirstOf, IsSurrogatePrefix, StartsWithNoSymbol};
 
 use crate::status::{DONE, ENDED, FAULTY, NO_INDEX, NO_PLATFORM};
 use crate::strings::unix;
@@ -112,19 +112,19 @@ fn character_step(bytes: &[u8], character: char, rest: &[u8]) -> Step
 /// aren't WTF-8.
 fn first_surrogate(bytes: &[u8]) -> Option<u32>
     requires some { 0 < length bytes.now }
-    requires bare { StartsWithNoCharacter bytes.now }
+    requires uncovered { StartsWithNoCharacter bytes.now }
     ensures unit { MatchOption result (¬ (IsWtf8 bytes.now))
-        (λ unit. IsSurrogateFront bytes.now unit) }
-    ensures none { IfNone result ((unit : ℕ) → ¬ (IsSurrogateFront bytes.now unit)) }
+        (λ unit. IsSurrogatePrefix bytes.now unit) }
+    ensures none { IfNone result ((unit : ℕ) → ¬ (IsSurrogatePrefix bytes.now unit)) }
 {
     if bytes.len() < 3 {
         return None;
     }
-    let (front, _) = bytes.split_at(3);
-    let Ok(()) = Windows::check(front) else {
+    let (prefix, _) = bytes.split_at(3);
+    let Ok(()) = Windows::check(prefix) else {
         return None;
     };
-    match encode_wide(front).next() {
+    match encode_wide(prefix).next() {
         Some(Ok(unit)) => Some(u32::from(unit)),
         Some(Err(_)) => None,
         None => None,

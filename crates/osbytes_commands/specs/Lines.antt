@@ -16,18 +16,18 @@ abbrev pub hex_digit : ℕ → ℕ
 hex_digit d = if nat_lt d 10 then 48 + d else 87 + d
 
 -- the two digits of a byte
-abbrev pub byte_digits : ℕ → List ℕ
-byte_digits b = hex_digit (b / 0x10) ∷ hex_digit (b % 0x10) ∷ []
+abbrev pub lower_byte_digits : ℕ → List ℕ
+lower_byte_digits b = hex_digit (b / 0x10) ∷ hex_digit (b % 0x10) ∷ []
 
 -- the four digits of a number of 16 bits
-abbrev pub wide_digits : ℕ → List ℕ
-wide_digits u = byte_digits (u / 0x100) ++ byte_digits (u % 0x100)
+abbrev pub lower_wide_digits : ℕ → List ℕ
+lower_wide_digits u = lower_byte_digits (u / 0x100) ++ lower_byte_digits (u % 0x100)
 
 -- the digits of a unit and a newline
 abbrev pub unit_line : Os → ℕ → List ℕ
-unit_line Unix u = byte_digits u ++ codes "\n"
-unit_line Windows u = wide_digits u ++ codes "\n"
-unit_line Wasm u = byte_digits u ++ codes "\n"
+unit_line Unix u = lower_byte_digits u ++ codes "\n"
+unit_line Windows u = lower_wide_digits u ++ codes "\n"
+unit_line Wasm u = lower_byte_digits u ++ codes "\n"
 
 -- a line for each unit, in their order
 abbrev pub unit_lines : Os → List ℕ → List ℕ
@@ -53,14 +53,14 @@ pub record IsFirstBadLine (os : Os) (bytes : List ℕ) (number : ℕ) : Type 0 w
   pub number_is : number ≡ length before + 1
 
 -- the index of a pattern in decimal digits, or `none`, and a newline
-abbrev pub place_line : Option ℕ → List ℕ
-place_line None = codes "none\n"
-place_line (Some place) = decimal place ++ codes "\n"
+abbrev pub index_line : Option ℕ → List ℕ
+index_line None = codes "none\n"
+index_line (Some index) = decimal index ++ codes "\n"
 
 -- two digits for each byte of a piece, or `-` where it has none
 abbrev pub piece_digits : List ℕ → List ℕ
 piece_digits [] = codes "-"
-piece_digits (byte ∷ behind) = flat_map byte_digits (byte ∷ behind)
+piece_digits (byte ∷ after) = flat_map lower_byte_digits (byte ∷ after)
 
 -- a line for each piece, in their order
 abbrev pub piece_lines : List (List ℕ) → List ℕ

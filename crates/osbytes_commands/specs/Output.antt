@@ -3,8 +3,8 @@ use Rattle.std.specs.Prelude.{◌≡◌, ◌≢◌, ◌⊎◌, ℕ, ◌<◌, Lis
 use Rattle.std.specs.Str.{IsUtf8}
 use Rattle.os_str_bytes.specs.Chunks.{Chunk, AreChunks}
 use Rattle.os_str_bytes.specs.Pieces.{IsSplit}
-use Rattle.os_str_bytes.specs.Standing.{Finds, IsFirstPlace}
-use Rattle.os_str_bytes.specs.UnitPlace.{FindsInUnits}
+use Rattle.os_str_bytes.specs.Occurrence.{Finds, IsFirstIndex}
+use Rattle.os_str_bytes.specs.UnitIndex.{FindsInUnits}
 use Rattle.os_str_bytes.specs.EncodingError.{EncodingError}
 use Rattle.os_str_bytes.specs.Platform.{Ghosts}
 use Rattle.os_str_bytes.specs.WasmLaws.{IsTextFault}
@@ -16,7 +16,7 @@ use Rattle.osbytes_commands.specs.declared.command.Command.TheVariants.{Units, R
 use Rattle.osbytes_commands.specs.declared.fault.Fault.{Fault}
 use Rattle.osbytes_commands.specs.declared.fault.Fault.TheVariants.{Refused, BadLine, BadQuote, Usage, Memory, Read, Write}
 use Rattle.osbytes_commands.specs.Command.{os_of}
-use Rattle.osbytes_commands.specs.Lines.{unit_lines, place_line, piece_lines, chunk_lines, AreUnitLines, IsFirstBadLine}
+use Rattle.osbytes_commands.specs.Lines.{unit_lines, index_line, piece_lines, chunk_lines, AreUnitLines, IsFirstBadLine}
 use Rattle.osbytes_commands.specs.Strings.{strings}
 
 -- the first line that the command can't read: for `raw` the first that is no unit's
@@ -32,8 +32,8 @@ HasBadLine (Unquote os) input number = ⊥
 -- on a platform that says this of its strings:
 module _ {E : Type 0} (p : Ghosts E) where
   -- the first index of the pattern in the input, None where it doesn't occur: in their bytes, and in their units
-  abbrev pub FindsLeast : List ℕ → List ℕ → Option ℕ → Type 0
-  FindsLeast pattern input place = Finds IsFirstPlace pattern input place × FindsInUnits IsFirstPlace p.well_formed p.units pattern input place
+  abbrev pub FindsFirst : List ℕ → List ℕ → Option ℕ → Type 0
+  FindsFirst pattern input index = Finds IsFirstIndex pattern input index × FindsInUnits IsFirstIndex p.well_formed p.units pattern input index
 
   -- the pieces of the input between the matches of the pattern: of their bytes, and of their units
   abbrev pub AreSplit : List ℕ → List ℕ → List (List ℕ) → Type 0
@@ -43,7 +43,7 @@ module _ {E : Type 0} (p : Ghosts E) where
   abbrev pub IsOutputOn : Command → List ℕ → List ℕ → Type 0
   IsOutputOn (Units os) input output = p.well_formed input × (output ≡ unit_lines os (p.units input))
   IsOutputOn (Raw os) input output = p.well_formed output × AreUnitLines os input (p.units output)
-  IsOutputOn (Find os pattern) input output = p.well_formed input × ((place : Option ℕ) × FindsLeast pattern.now input place × (output ≡ place_line place))
+  IsOutputOn (Find os pattern) input output = p.well_formed input × ((index : Option ℕ) × FindsFirst pattern.now input index × (output ≡ index_line index))
   IsOutputOn (Split os pattern) input output = p.well_formed input × ((pieces : List (List ℕ)) × AreSplit pattern.now input pieces × (output ≡ piece_lines pieces))
   IsOutputOn (Chunks os) input output = p.well_formed input × ((chunks : List Chunk) × AreChunks input chunks × (output ≡ chunk_lines chunks))
   IsOutputOn (Quote os) input output = p.well_formed input × IsEscape p.units input output

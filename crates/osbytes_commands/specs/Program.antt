@@ -10,8 +10,8 @@ use Rattle.osbytes_commands.specs.Output.{IsOfInput}
 use Rattle.osbytes_commands.specs.Run.{WritesOutput, WritesBeginning, RefusesInput, AnswersRefusal}
 
 -- the words after the first of the arguments, which is the program's name
-abbrev pub words_behind_name : {A : Type 0} → IntoIter (String A) A → List (List ℕ)
-words_behind_name args = map string_bytes (drop 1 (into_iter_items args))
+abbrev pub words_after_name : {A : Type 0} → IntoIter (String A) A → List (List ℕ)
+words_after_name args = map string_bytes (drop 1 (into_iter_items args))
 
 -- no command that can run has these words
 abbrev pub AreNoCommand : List (List ℕ) → Type 0

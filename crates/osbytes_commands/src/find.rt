@@ -1,6 +1,6 @@
 //! The command `find`: where a pattern first occurs in a string.
 ghost use Rattle.std.specs.Prelude.{◌≡◌, IfOk, IfErr};
-ghost use Rattle.osbytes_commands.specs.Lines.{place_line};
+ghost use Rattle.osbytes_commands.specs.Lines.{index_line};
 ghost use Rattle.osbytes_commands.specs.Output.{IsOutputOn, IsFaultOn, RefusesNoString};
 ghost use Rattle.osbytes_commands.specs.declared.command.Command.TheVariants.{Find};
 
@@ -25,16 +25,16 @@ pub fn find<E: Target, A: Allocator>(
         input.now fault) }
     ensures refused { RefusesNoString ⟦<E as Platform>⟧ input.now result }
 {
-    let place = string::<E>(input)?.find(pattern);
-    Ok(place_line(alloc, place)?)
+    let index = string::<E>(input)?.find(pattern);
+    Ok(index_line(alloc, index)?)
 }
 
 /// The line of an index, or of none.
-fn place_line<A: Allocator>(alloc: A, place: Option<usize>) -> Result<Vec<u8, A>, AllocError>
-    ensures { IfOk result (λ line. line.items ≡ place_line place) }
+fn index_line<A: Allocator>(alloc: A, index: Option<usize>) -> Result<Vec<u8, A>, AllocError>
+    ensures { IfOk result (λ line. line.items ≡ index_line index) }
 {
-    match place {
-        Some(place) => Ok(format!(in alloc; "{place}\n")?.into_bytes()),
+    match index {
+        Some(index) => Ok(format!(in alloc; "{index}\n")?.into_bytes()),
         None => Ok(Vec::from_slice(alloc, b"none\n")?),
     }
 }

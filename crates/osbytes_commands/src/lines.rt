@@ -2,7 +2,7 @@
 ghost use Rattle.std.specs.Prelude.{◌≡◌, ◌≢◌, ℕ, ◌<◌, ◌++◌, IfSome, IfNone, IfOk, OnOk};
 ghost use Rattle.os_str_bytes.specs.Strings.{bytes};
 ghost use Rattle.osbytes_commands.specs.declared.command.Os.{Os};
-ghost use Rattle.osbytes_commands.specs.Lines.{hex_digit, byte_digits, piece_digits, unit_line, unit_lines, BeginsWithUnitLine};
+ghost use Rattle.osbytes_commands.specs.Lines.{hex_digit, lower_byte_digits, piece_digits, unit_line, unit_lines, BeginsWithUnitLine};
 
 use os_str_bytes::{OsStr, Platform, Windows};
 use std::alloc::{AllocError, Allocator};
@@ -37,7 +37,7 @@ pub fn wide_lines<A: Allocator>(
 fn byte_line(byte: u8) -> [u8; 3]
     ensures { result ≡ unit_line Os.Unix byte }
 {
-    let [first, second] = byte_digits(byte);
+    let [first, second] = lower_byte_digits(byte);
     [first, second, b'\n']
 }
 
@@ -45,14 +45,14 @@ fn byte_line(byte: u8) -> [u8; 3]
 fn wide_line(unit: u16) -> [u8; 5]
     ensures { result ≡ unit_line Os.Windows unit }
 {
-    let [first, second] = byte_digits((unit / 0x100) as u8);
-    let [third, fourth] = byte_digits((unit % 0x100) as u8);
+    let [first, second] = lower_byte_digits((unit / 0x100) as u8);
+    let [third, fourth] = lower_byte_digits((unit % 0x100) as u8);
     [first, second, third, fourth, b'\n']
 }
 
 /// The two digits of a byte.
-pub fn byte_digits(byte: u8) -> [u8; 2]
-    ensures { result ≡ byte_digits byte }
+pub fn lower_byte_digits(byte: u8) -> [u8; 2]
+    ensures { result ≡ lower_byte_digits byte }
 {
     [hex_digit(byte / 0x10), hex_digit(byte % 0x10)]
 }
@@ -76,14 +76,15 @@ pub fn push_piece<A: Allocator>(line: &mut Vec<u8, A>, piece: &[u8]) -> Result<(
         line.push(b'-')?;
     }
     for byte in piece {
-        line.extend_from_slice(&byte_digits(*byte))?;
+        line.extend_from_slice(&lower_byte_digits(*byte))?;
     }
     Ok(())
 }
 
 /// The unit that is a byte whose line comes first, and the bytes after that line.
-pub fn front_byte(bytes: &[u8]) -> Option<(u8, &[u8])>
-    ensures some { IfSome result (λ front. bytes.now ≡ unit_line Os.Unix front.0 ++ front.1.now) }
+pub fn leading_byte(bytes: &[u8]) -> Option<(u8, &[u8])>
+    ensures some { IfSome result (λ prefix. bytes.now
+        ≡ unit_line Os.Unix prefix.0 ++ prefix.1.now) }
     ensures none { IfNone result (¬ (BeginsWithUnitLine Os.Unix bytes.now)) }
 {
     let [first, second, b'\n', rest @ ..] = bytes else {
@@ -93,9 +94,9 @@ pub fn front_byte(bytes: &[u8]) -> Option<(u8, &[u8])>
 }
 
 /// The unit of 16 bits whose line comes first, and the bytes after that line.
-pub fn front_wide(bytes: &[u8]) -> Option<(u16, &[u8])>
-    ensures some { IfSome result (λ front. bytes.now ≡ unit_line Os.Windows front.0
-        ++ front.1.now) }
+pub fn leading_wide(bytes: &[u8]) -> Option<(u16, &[u8])>
+    ensures some { IfSome result (λ prefix. bytes.now ≡ unit_line Os.Windows prefix.0
+        ++ prefix.1.now) }
     ensures none { IfNone result (¬ (BeginsWithUnitLine Os.Windows bytes.now)) }
 {
     let [first, second, third, fourth, b'\n', rest @ ..] = bytes else {

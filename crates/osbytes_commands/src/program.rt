@@ -6,7 +6,7 @@ ghost use Rattle.std.specs.Vec.Iter.{into_iter_items};
 ghost use Rattle.osbytes_commands.specs.Ended.{message, outcome_of, was_told};
 ghost use Rattle.osbytes_commands.specs.Fault.{text_of};
 ghost use Rattle.osbytes_commands.specs.Marked.{marked_inner, has_failed, is_closed};
-ghost use Rattle.osbytes_commands.specs.Program.{words_behind_name, AreNoCommand, RunsTo};
+ghost use Rattle.osbytes_commands.specs.Program.{words_after_name, AreNoCommand, RunsTo};
 ghost use Rattle.osbytes_commands.specs.Written.{AppendsBeginning};
 
 use crate::command::Command;
@@ -74,12 +74,12 @@ pub fn execute<A: Allocator, R: Read, W: Output, E: Messages>(
     ensures no_memory { IfErr args
         (λ error. error_kind error ≡ ErrorKind.OutOfMemory → outcome_of result ≡ Err Fault.Memory) }
     ensures usage { IfOk args (λ args. outcome_of result ≡ Err Fault.Usage → AreNoCommand
-        (words_behind_name args)) }
-    ensures no_command { IfOk args (λ args. AreNoCommand (words_behind_name args)
+        (words_after_name args)) }
+    ensures no_command { IfOk args (λ args. AreNoCommand (words_after_name args)
         → (outcome_of result ≡ Err Fault.Usage) ⊎ (outcome_of result ≡ Err Fault.Memory)) }
 
     // The run.
-    ensures run { IfOk args (λ args. RunsTo (words_behind_name args)
+    ensures run { IfOk args (λ args. RunsTo (words_after_name args)
         (R.remaining (marked_inner reader.old)) (W.contents (marked_inner writer.old))
         (W.contents (marked_inner writer.new)) (outcome_of result)) }
     ensures all_read { OnOk (outcome_of result) (IsAtEnd (R.remaining (marked_inner reader.new))) }
@@ -123,7 +123,7 @@ pub fn execute<A: Allocator, R: Read, W: Output, E: Messages>(
 pub fn words<A: Allocator>(alloc: A, args: io::Result<Args>) -> Result<Vec<String, A>, Fault>
     ensures ok { OnOk result (IsOk args) }
     ensures words { IfOk result (λ words. IfOk args
-        (λ args. map string_bytes words.items ≡ words_behind_name args)) }
+        (λ args. map string_bytes words.items ≡ words_after_name args)) }
     ensures memory { IfOk args (λ _. IfErr result (λ fault. fault ≡ Fault.Memory)) }
     ensures no_words { IfErr args
         (λ error. error_kind error ≢ ErrorKind.OutOfMemory → result ≡ Err Fault.Usage) }
@@ -131,14 +131,14 @@ pub fn words<A: Allocator>(alloc: A, args: io::Result<Args>) -> Result<Vec<Strin
         (λ error. error_kind error ≡ ErrorKind.OutOfMemory → result ≡ Err Fault.Memory) }
 {
     match args {
-        Ok(args) => Ok(behind_name(alloc, args)?),
+        Ok(args) => Ok(after_name(alloc, args)?),
         Err(error) if error.kind() == ErrorKind::OutOfMemory => Err(Fault::Memory),
         Err(_) => Err(Fault::Usage),
     }
 }
 
 /// The arguments but the first.
-fn behind_name<A: Allocator>(alloc: A, args: Args) -> Result<Vec<String, A>, AllocError>
+fn after_name<A: Allocator>(alloc: A, args: Args) -> Result<Vec<String, A>, AllocError>
     ensures { IfOk result (λ words. words.items ≡ drop 1 (into_iter_items args)) }
 {
     args.skip(1).collect(alloc)

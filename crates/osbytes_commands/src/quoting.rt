@@ -40,7 +40,7 @@ pub fn unquote<E: Target, A: Allocator>(alloc: A, input: &[u8]) -> Result<Vec<u8
     let text = unsafe { str::from_utf8_unchecked(input) };
     match unescape::<E, A>(alloc, text) {
         Ok(string) => Ok(string.into_encoded_bytes()),
-        Err(QuoteError::BadEscape(place)) => Err(Fault::BadQuote(QuoteError::BadEscape(place))),
+        Err(QuoteError::BadEscape(index)) => Err(Fault::BadQuote(QuoteError::BadEscape(index))),
         Err(QuoteError::NotCanonical) => Err(Fault::BadQuote(QuoteError::NotCanonical)),
         Err(QuoteError::Memory) => Err(Fault::Memory),
     }

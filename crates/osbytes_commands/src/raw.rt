@@ -20,7 +20,7 @@ pub fn raw<E: Target, A: Allocator + Copy>(alloc: A, input: &[u8]) -> Result<Vec
     ensures fault { IfErr result (λ fault. IsFaultOn ⟦<E as Platform>⟧ (Raw E.os) input.now fault) }
 {
     let units = read_units::<E, A>(alloc, input)?;
-    spell::<E, A>(alloc, &units)
+    encode::<E, A>(alloc, &units)
 }
 
 /// The units on the lines, or the first bad line.
@@ -32,18 +32,18 @@ fn read_units<E: Target, A: Allocator>(alloc: A, input: &[u8]) -> Result<Vec<E::
     let mut units = Vec::new(alloc);
     let mut rest = input;
     while !rest.is_empty() {
-        let Some((unit, behind)) = E::front_unit(rest) else {
+        let Some((unit, after)) = E::leading_unit(rest) else {
             return Err(Fault::BadLine(units.len() + 1));
         };
         units.push(unit)?;
-        rest = behind;
+        rest = after;
     }
     Ok(units)
 }
 
 /// The bytes of the string that has these units, or, found before any memory is asked for, the
 /// first fault of units that no string has.
-fn spell<E: Target, A: Allocator>(alloc: A, units: &[E::Unit]) -> Result<Vec<u8, A>, Fault>
+fn encode<E: Target, A: Allocator>(alloc: A, units: &[E::Unit]) -> Result<Vec<u8, A>, Fault>
     requires { All (IsUnit E.os) (map E.number units.now) }
     ensures bytes { IfOk result (λ bytes. E.well_formed bytes.items
         × (E.units bytes.items ≡ map E.number units.now)) }
@@ -57,5 +57,5 @@ fn spell<E: Target, A: Allocator>(alloc: A, units: &[E::Unit]) -> Result<Vec<u8,
 {
     laws::faults::<E>();
     E::check_units(units)?;
-    Ok(E::spell(alloc, units)?)
+    Ok(E::encode(alloc, units)?)
 }

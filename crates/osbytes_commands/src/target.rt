@@ -3,7 +3,7 @@ ghost use Rattle.std.specs.Prelude.{◌≡◌, ◌++◌, ℕ, All, map, IfSome, 
 ghost use Rattle.osbytes_commands.specs.declared.command.Os.{Os};
 ghost use Rattle.osbytes_commands.specs.Lines.{IsUnit, unit_line, unit_lines, BeginsWithUnitLine};
 
-use crate::lines::{byte_lines, front_byte, front_wide, wide_lines};
+use crate::lines::{byte_lines, leading_byte, leading_wide, wide_lines};
 use os_str_bytes::{EncodingError, OsStr, OsString, Platform, Unix, Wasm, Windows, laws};
 use std::alloc::{AllocError, Allocator};
 
@@ -25,10 +25,10 @@ pub trait Target: Platform {
 
     /// The unit whose line comes first, and the bytes after that line. It takes no
     /// memory.
-    fn front_unit(bytes: &[u8]) -> Option<(Self::Unit, &[u8])>
-        ensures some { IfSome result (λ front. bytes.now ≡ unit_line os (number front.0)
-            ++ front.1.now) }
-        ensures unit { IfSome result (λ front. IsUnit os (number front.0)) }
+    fn leading_unit(bytes: &[u8]) -> Option<(Self::Unit, &[u8])>
+        ensures some { IfSome result (λ prefix. bytes.now ≡ unit_line os (number prefix.0)
+            ++ prefix.1.now) }
+        ensures unit { IfSome result (λ prefix. IsUnit os (number prefix.0)) }
         ensures none { IfNone result (¬ (BeginsWithUnitLine os bytes.now)) };
 
     /// `Ok` exactly for the units of a string, else the first fault of the bytes that they would
@@ -40,7 +40,7 @@ pub trait Target: Platform {
             × Self.first_fault (map number units.now) error) };
 
     /// The bytes of the string that has these units (test: [`Target::check_units`]).
-    fn spell<A: Allocator>(alloc: A, units: &[Self::Unit]) -> Result<Vec<u8, A>, AllocError>
+    fn encode<A: Allocator>(alloc: A, units: &[Self::Unit]) -> Result<Vec<u8, A>, AllocError>
         requires { Self.is_unit_list (map number units.now) }
         ensures { IfOk result (λ bytes. Self.well_formed bytes.items
             × (Self.units bytes.items ≡ map number units.now)) };
@@ -57,15 +57,15 @@ impl Target for Unix {
         byte_lines(alloc, string)
     }
 
-    fn front_unit(bytes: &[u8]) -> Option<(u8, &[u8])> {
-        front_byte(bytes)
+    fn leading_unit(bytes: &[u8]) -> Option<(u8, &[u8])> {
+        leading_byte(bytes)
     }
 
     fn check_units(units: &[u8]) -> Result<(), EncodingError> {
         check_bytes::<Unix>(units)
     }
 
-    fn spell<A: Allocator>(alloc: A, units: &[u8]) -> Result<Vec<u8, A>, AllocError> {
+    fn encode<A: Allocator>(alloc: A, units: &[u8]) -> Result<Vec<u8, A>, AllocError> {
         units.to_vec(alloc)
     }
 }
@@ -84,15 +84,15 @@ impl Target for Windows {
         )
     }
 
-    fn front_unit(bytes: &[u8]) -> Option<(u16, &[u8])> {
-        front_wide(bytes)
+    fn leading_unit(bytes: &[u8]) -> Option<(u16, &[u8])> {
+        leading_wide(bytes)
     }
 
     fn check_units(_units: &[u16]) -> Result<(), EncodingError> {
         Ok(())
     }
 
-    fn spell<A: Allocator>(alloc: A, units: &[u16]) -> Result<Vec<u8, A>, AllocError> {
+    fn encode<A: Allocator>(alloc: A, units: &[u16]) -> Result<Vec<u8, A>, AllocError> {
         Ok(OsString::from_wide(alloc, units)?.into_encoded_bytes())
     }
 }
@@ -108,15 +108,15 @@ impl Target for Wasm {
         byte_lines(alloc, string)
     }
 
-    fn front_unit(bytes: &[u8]) -> Option<(u8, &[u8])> {
-        front_byte(bytes)
+    fn leading_unit(bytes: &[u8]) -> Option<(u8, &[u8])> {
+        leading_byte(bytes)
     }
 
     fn check_units(units: &[u8]) -> Result<(), EncodingError> {
         check_bytes::<Wasm>(units)
     }
 
-    fn spell<A: Allocator>(alloc: A, units: &[u8]) -> Result<Vec<u8, A>, AllocError> {
+    fn encode<A: Allocator>(alloc: A, units: &[u8]) -> Result<Vec<u8, A>, AllocError> {
         units.to_vec(alloc)
     }
 }

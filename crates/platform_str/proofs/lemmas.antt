@@ -5,11 +5,11 @@ pub mod FirstUnits
 pub mod FourBytes
 pub mod WideLemmas
 pub mod ByteOrder
-pub mod Lanes
-pub mod UnitBytes
-pub mod UnitLanes
+pub mod LaneTests
+pub mod FromWide
+pub mod FromWideLanes
 pub mod Displays
-pub mod UnitCounts
+pub mod FromWideCounts
 pub mod SixteenLanes
-pub mod ByteUnits
+pub mod ToWide
 pub mod Filled

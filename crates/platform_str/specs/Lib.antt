@@ -1,6 +1,6 @@
 pub mod Bulk
-pub mod ByteUnits
-pub mod UnitBytes
+pub mod ToWide
+pub mod FromWide
 pub mod Laws
 pub mod PlatformWords
 pub mod platforms

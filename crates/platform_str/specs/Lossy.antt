@@ -1,13 +1,13 @@
 -- IO-lossy bytes, and what the loops over lossy texts and readings have done so far.
 use Rattle.std.specs.Prelude.{◌≡◌, ℕ, ◌+◌, ◌<◌, ◌≤◌, List, ◌++◌, length, take, drop, Option}
 use Rattle.std.specs.Option.{MatchOption}
-use Rattle.wtf8_core.specs.Utf8.{IsProperFront, IsIllFormed}
+use Rattle.wtf8_core.specs.Utf8.{IsProperPrefix, IsIllFormed}
 use Rattle.wtf8_core.specs.Lossy.{replacement}
 use Rattle.wtf8_core.specs.LossyReading.{IsLossyReading}
 
 -- the part of a fault at the start: the bytes end within a character, or an ill-formed part of some length begins there
 abbrev pub IsFaultPart : List ℕ → Option ℕ → Type 0
-IsFaultPart bytes error_len = MatchOption error_len (IsProperFront bytes) (IsIllFormed bytes)
+IsFaultPart bytes error_len = MatchOption error_len (IsProperPrefix bytes) (IsIllFormed bytes)
 
 -- the bytes themselves if they are IO-safe, else those of the lossy text
 pub record IsIoLossy (io_safe : List ℕ → Type 0) (lossy : List ℕ → List ℕ) (bytes result : List ℕ) : Type 0 where

@@ -64,10 +64,10 @@ fn write_text<E: Platform, W: fmt::Write>(encoded: &[u8], f: &mut fmt::Formatter
     ensures { WritesStyledOnOk W.write_str_gives f.old result (E.lossy encoded.now) f.new }
 {
     let mut rest = encoded;
-    while let Some((front, behind)) = first_text::<E>(rest) {
-        f.write_str(front)?;
+    while let Some((prefix, after)) = first_text::<E>(rest) {
+        f.write_str(prefix)?;
         f.write_char('\u{FFFD}')?;
-        rest = behind;
+        rest = after;
     }
     f.write_str(unsafe { str::from_utf8_unchecked(rest) })
 }

@@ -28,8 +28,8 @@ pub(crate) fn push_wtf8<A: Allocator>(
         return append(string, more);
     };
     let at = bytes.len() - 3;
-    let (_, behind) = more.split_at(2);
-    append(string, behind)?;
+    let (_, after) = more.split_at(2);
+    append(string, after)?;
     write_form_at(string, at, pair);
     Ok(())
 }

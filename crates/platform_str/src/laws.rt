@@ -10,8 +10,8 @@ ghost use Rattle.wtf8_core.specs.Character.{WholeCharacter};
 ghost use Rattle.wtf8_core.specs.Boundary.{IsBoundary};
 ghost use Rattle.wtf8_core.specs.Covered.{StartsWithNoCharacter, HasNoCharacter};
 ghost use Rattle.wtf8_core.specs.PartUnits.{unit_bytes};
-ghost use Rattle.wtf8_core.specs.Standing.{StandsAt, IsPrefix};
-ghost use Rattle.wtf8_core.specs.UnitPlace.{IsBytePlace};
+ghost use Rattle.wtf8_core.specs.Occurrence.{OccursAt, IsPrefix};
+ghost use Rattle.wtf8_core.specs.UnitIndex.{IsByteIndex};
 ghost use Rattle.wtf8_core.specs.Join.{IsJoin};
 ghost use Rattle.wtf8_core.specs.declared.fault.EncodingError.{EncodingError};
 ghost use Rattle.platform_str.specs.Laws.{IsReplaced};
@@ -33,10 +33,10 @@ pub fn faults<E: Platform>()
 
 /// Strings with equal units are equal. Each list of units is that of some string, and the units of
 /// a string are such a list.
-pub fn spelling<E: Platform>()
-    ensures one_spelling { (b : List ℕ) → (c : List ℕ) → E.well_formed b → E.well_formed c
+pub fn encoding<E: Platform>()
+    ensures one_encoding { (b : List ℕ) → (c : List ℕ) → E.well_formed b → E.well_formed c
         → E.units b ≡ E.units c → b ≡ c }
-    ensures some_spelling { (us : List ℕ) → E.is_unit_list us
+    ensures some_encoding { (us : List ℕ) → E.is_unit_list us
         → (b : List ℕ) × (E.well_formed b × (E.units b ≡ us)) }
     ensures unit_list { (b : List ℕ) → E.well_formed b → E.is_unit_list (E.units b) }
 {}
@@ -48,7 +48,7 @@ pub fn texts<E: Platform>()
     ensures text { (b : List ℕ) → IsUtf8 b → E.well_formed b }
     ensures text_io_safe { (b : List ℕ) → IsUtf8 b → E.io_safe b }
     ensures io_safe_string { (b : List ℕ) → E.io_safe b → E.well_formed b }
-    ensures behind_text { (b : List ℕ) → (j : ℕ) → E.well_formed b → WholeCharacter b 0 j
+    ensures after_text { (b : List ℕ) → (j : ℕ) → E.well_formed b → WholeCharacter b 0 j
         → E.well_formed (drop j b) }
     ensures three { (b : List ℕ) → (c : List ℕ) → (n : ℕ) → E.well_formed b → ¬ (E.io_safe b)
         → E.replaces c n → n ≡ 3 }
@@ -60,7 +60,7 @@ pub fn texts<E: Platform>()
 pub fn lossy_texts<E: Platform>()
     ensures lossy_utf8 { (b : List ℕ) → E.well_formed b → IsUtf8 (E.lossy b) }
     ensures lossy_text { (b : List ℕ) → IsUtf8 b → E.lossy b ≡ b }
-    ensures lossy_front { (b : List ℕ) → (n : ℕ) → E.well_formed b → IsValidUpTo b n
+    ensures lossy_prefix { (b : List ℕ) → (n : ℕ) → E.well_formed b → IsValidUpTo b n
         → E.lossy b ≡ take n b ++ E.lossy (drop n b) }
     ensures lossy_step { (b : List ℕ) → (n : ℕ) → E.well_formed b → 0 < length b
         → StartsWithNoCharacter b
@@ -81,9 +81,9 @@ pub fn readings<E: Platform>()
 /// At a boundary both parts of a string are strings, and their units, joined, are the string's.
 /// What follows is a string, too, at the index of a byte that is no continuation byte.
 pub fn cuts<E: Platform>()
-    ensures cut_front { (b : List ℕ) → (i : ℕ) → E.well_formed b → IsBoundary b i
+    ensures cut_prefix { (b : List ℕ) → (i : ℕ) → E.well_formed b → IsBoundary b i
         → E.well_formed (take i b) }
-    ensures cut_back { (b : List ℕ) → (i : ℕ) → E.well_formed b → IsBoundary b i
+    ensures cut_suffix { (b : List ℕ) → (i : ℕ) → E.well_formed b → IsBoundary b i
         → E.well_formed (drop i b) }
     ensures cut_units { (b : List ℕ) → (i : ℕ) → E.well_formed b → IsBoundary b i
         → E.units b ≡ E.units (take i b) ++ E.units (drop i b) }
@@ -97,7 +97,7 @@ pub fn cuts<E: Platform>()
 /// surrogates, and no high one comes directly before a low one. On wasm there are none. A unit has
 /// at most 16 bits.
 pub fn parts<E: Platform>()
-    ensures spelled { (b : List ℕ) → E.well_formed b → HasNoCharacter b
+    ensures encoded { (b : List ℕ) → E.well_formed b → HasNoCharacter b
         → b ≡ flat_map unit_bytes (E.units b) }
     ensures units { (b : List ℕ) → E.well_formed b → HasNoCharacter b → E.part_units (E.units b) }
     ensures wide { (b : List ℕ) → E.well_formed b → HasNoCharacter b → AreWideUnits (E.units b) }
@@ -106,17 +106,17 @@ pub fn parts<E: Platform>()
 /// A text that isn't empty occurs in a string at a byte index exactly if its units occur in the
 /// string's units at a unit index that corresponds to that byte index. Each unit index at which
 /// they occur corresponds to a byte index, and no unit index to two.
-pub fn standing<E: Platform>()
+pub fn occurrence<E: Platform>()
     ensures alike { (p : List ℕ) → (s : List ℕ) → (j : ℕ) → IsUtf8 p → 0 < length p
         → E.well_formed s
-        → (StandsAt p s j
+        → (OccursAt p s j
         ↔ ((i : ℕ)
-        × (IsBytePlace E.well_formed E.units s i j × StandsAt (E.units p) (E.units s) i))) }
+        × (IsByteIndex E.well_formed E.units s i j × OccursAt (E.units p) (E.units s) i))) }
     ensures placed { (p : List ℕ) → (s : List ℕ) → (i : ℕ) → IsUtf8 p → 0 < length p
-        → E.well_formed s → StandsAt (E.units p) (E.units s) i
-        → (j : ℕ) × (IsBytePlace E.well_formed E.units s i j × StandsAt p s j) }
-    ensures one_place { (s : List ℕ) → (i : ℕ) → (j : ℕ) → (k : ℕ)
-        → IsBytePlace E.well_formed E.units s i j → IsBytePlace E.well_formed E.units s i k
+        → E.well_formed s → OccursAt (E.units p) (E.units s) i
+        → (j : ℕ) × (IsByteIndex E.well_formed E.units s i j × OccursAt p s j) }
+    ensures one_index { (s : List ℕ) → (i : ℕ) → (j : ℕ) → (k : ℕ)
+        → IsByteIndex E.well_formed E.units s i j → IsByteIndex E.well_formed E.units s i k
         → j ≡ k }
 {}
 
@@ -132,7 +132,7 @@ pub fn joins<E: Platform>()
         → (v : List ℕ) → (w : List ℕ)
         → IsJoin E.well_formed E.units a b ab → IsJoin E.well_formed E.units ab c v
         → IsJoin E.well_formed E.units b c bc → IsJoin E.well_formed E.units a bc w → v ≡ w }
-    ensures fronts { (p : List ℕ) → (s : List ℕ) → E.well_formed p → E.well_formed s
+    ensures prefixes { (p : List ℕ) → (s : List ℕ) → E.well_formed p → E.well_formed s
         → (IsPrefix (E.units p) (E.units s)
         ↔ ((q : List ℕ) × (E.well_formed q × IsJoin E.well_formed E.units p q s))) }
 {}

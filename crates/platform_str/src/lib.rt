@@ -25,11 +25,10 @@
 //! [`OsStr::len`]). Every other call can be made anywhere.
 #![tactic(auto)]
 
-mod blocks;
-mod byte_units;
 mod convert;
 mod cow;
 mod display;
+mod from_wide;
 mod join;
 pub mod laws;
 mod lossy;
@@ -39,6 +38,7 @@ mod path;
 mod platform;
 mod reading;
 mod text;
+mod to_wide;
 pub mod unix;
 pub mod wasm;
 mod wide;

@@ -26,18 +26,18 @@ fn first_replaced<E: Platform>(bytes: &[u8]) -> Option<(usize, &[u8])>
         first.1.now) }
 {
     let (valid, error_len) = E::utf8_fault(bytes)?;
-    Some((valid, behind_fault::<E>(bytes, valid, error_len)))
+    Some((valid, after_fault::<E>(bytes, valid, error_len)))
 }
 
 /// The bytes after the part that one U+FFFD replaces at a string's first fault.
 #[inline(always)]
-fn behind_fault<E: Platform>(bytes: &[u8], valid: usize, error_len: Option<u8>) -> &[u8]
+fn after_fault<E: Platform>(bytes: &[u8], valid: usize, error_len: Option<u8>) -> &[u8]
     requires formed { E.well_formed bytes.now }
     requires fault { IsUtf8Fault bytes.now valid error_len }
     ensures { IsFirstText E.well_formed E.lossy bytes.now (take valid bytes.now) result.now }
 {
-    let (_, behind) = bytes.split_at(valid);
-    let (_, rest) = behind.split_at(E::replaced_len(behind, error_len));
+    let (_, after) = bytes.split_at(valid);
+    let (_, rest) = after.split_at(E::replaced_len(after, error_len));
     rest
 }
 
@@ -49,8 +49,8 @@ pub(crate) fn first_text<E: Platform>(bytes: &[u8]) -> Option<(&str, &[u8])>
         (λ first. IsFirstText E.well_formed E.lossy bytes.now first.0.now first.1.now) }
 {
     let (len, rest) = first_replaced::<E>(bytes)?;
-    let (front, _) = bytes.split_at(len);
-    Some((unsafe { str::from_utf8_unchecked(front) }, rest))
+    let (prefix, _) = bytes.split_at(len);
+    Some((unsafe { str::from_utf8_unchecked(prefix) }, rest))
 }
 
 /// The number of bytes of a block.
@@ -59,7 +59,7 @@ const BLOCK: usize = 16;
 /// Appends the first `len` bytes. If they fit in a block they are written as a whole block, whose
 /// length is fixed, and the excess is truncated.
 #[inline(always)]
-fn push_front<A: Allocator>(
+fn push_prefix<A: Allocator>(
     text: &mut Vec<u8, A>,
     bytes: &[u8],
     len: usize,
@@ -68,8 +68,8 @@ fn push_front<A: Allocator>(
     ensures { OnOk result (text.new.items ≡ text.old.items ++ take len bytes.now) }
 {
     if len > BLOCK || bytes.len() < BLOCK {
-        let (front, _) = bytes.split_at(len);
-        return text.extend_from_slice(front);
+        let (prefix, _) = bytes.split_at(len);
+        return text.extend_from_slice(prefix);
     }
     let (block, _) = bytes.split_at(BLOCK);
     text.extend_from_slice(block)?;
@@ -87,7 +87,7 @@ pub(crate) fn push_replaced<A: Allocator>(
     requires { len ≤ length bytes.now }
     ensures { OnOk result (text.new.items ≡ (text.old.items ++ take len bytes.now) ++ replacement) }
 {
-    push_front(text, bytes, len)?;
+    push_prefix(text, bytes, len)?;
     text.extend_from_slice(&REPLACEMENT)
 }
 
@@ -108,9 +108,9 @@ fn push_text<E: Platform, A: Allocator>(
     ensures { OnOk result (text.new.items ≡ text.old.items ++ E.lossy bytes.now) }
 {
     let mut rest = bytes;
-    while let Some((len, behind)) = first_replaced::<E>(rest) {
+    while let Some((len, after)) = first_replaced::<E>(rest) {
         push_replaced(text, rest, len)?;
-        rest = behind;
+        rest = after;
     }
     text.extend_from_slice(rest)
 }
@@ -141,7 +141,7 @@ fn text_bytes_from_fault<E: Platform, A: Allocator>(
 {
     let mut text = Vec::with_capacity(alloc, text_room(bytes))?;
     push_replaced(&mut text, bytes, valid)?;
-    push_text::<E, A>(&mut text, behind_fault::<E>(bytes, valid, error_len))?;
+    push_text::<E, A>(&mut text, after_fault::<E>(bytes, valid, error_len))?;
     Ok(text)
 }
 
@@ -169,10 +169,10 @@ pub(crate) fn write_text<E: Platform>(bytes: &[u8], buffer: &mut [u8]) -> usize
 {
     let mut count = 0;
     let mut rest = bytes;
-    while let Some((text, behind)) = first_text::<E>(rest) {
+    while let Some((text, after)) = first_text::<E>(rest) {
         count = push_truncated(buffer, count, text.as_bytes());
         count = push_truncated(buffer, count, &REPLACEMENT);
-        rest = behind;
+        rest = after;
     }
     push_truncated(buffer, count, rest)
 }
@@ -196,8 +196,8 @@ pub(crate) fn replace_in_place<E: Platform>(bytes: &mut [u8])
 /// Writes U+FFFD over the three bytes from an index on.
 fn write_replacement(bytes: &mut [u8], start: usize)
     requires { start + 3 ≤ length bytes.old }
-    ensures front { take (start + 3) bytes.new ≡ take start bytes.old ++ replacement }
-    ensures behind { drop (start + 3) bytes.new ≡ drop (start + 3) bytes.old }
+    ensures prefix { take (start + 3) bytes.new ≡ take start bytes.old ++ replacement }
+    ensures after { drop (start + 3) bytes.new ≡ drop (start + 3) bytes.old }
     ensures same_length { length bytes.new ≡ length bytes.old }
 {
     bytes[start..start + 3].copy_from_slice(&REPLACEMENT);

@@ -4,8 +4,8 @@ ghost use Rattle.std.specs.Str.{IsUtf8};
 ghost use Rattle.wtf8_core.specs.Covered.{StartsWithNoCharacter};
 ghost use Rattle.wtf8_core.specs.Utf8.{IsUtf8Fault};
 ghost use Rattle.platform_str.specs.Lossy.{IsFaultPart};
-ghost use Rattle.wtf8_core.specs.Standing.{IsPrefix, IsSuffix};
-ghost use Rattle.wtf8_core.specs.StandingLaws.{StandingLaws};
+ghost use Rattle.wtf8_core.specs.Occurrence.{IsPrefix, IsSuffix};
+ghost use Rattle.wtf8_core.specs.OccurrenceLaws.{OccurrenceLaws};
 ghost use Rattle.wtf8_core.specs.declared.fault.EncodingError.{EncodingError};
 ghost use Rattle.platform_str.specs.Laws.{PlatformLaws, PartLaws, ReadingLaws, IsFirstUnit};
 
@@ -15,7 +15,7 @@ use wtf8_core::{EncodingError, utf8_fault};
 /// The strings of a platform, as lists of bytes.
 ///
 /// An implementation proves the laws of the trait, which are all that generic code knows of a
-/// platform: each list of units has one spelling; texts are strings, and what follows a text at the
+/// platform: each list of units has one encoding; texts are strings, and what follows a text at the
 /// start of a string is well formed; at a boundary both parts are well formed, and their units,
 /// joined, are the string's; before a byte that is no continuation what follows is well formed; a
 /// text occurs in a string's bytes where its units occur in the string's; for any two strings some
@@ -121,7 +121,7 @@ pub trait Platform {
     fn lossy_len(bytes: &[u8]) -> usize
         requires formed { well_formed bytes.now }
         requires some { 0 < length bytes.now }
-        requires bare { StartsWithNoCharacter bytes.now }
+        requires uncovered { StartsWithNoCharacter bytes.now }
         ensures { replaces bytes.now result };
 
     /// The same number as [`Platform::lossy_len`], for a caller that knows the fault at the start
@@ -137,7 +137,7 @@ pub trait Platform {
     fn replaced_len(bytes: &[u8], error_len: Option<u8>) -> usize
         requires formed { well_formed bytes.now }
         requires some { 0 < length bytes.now }
-        requires bare { StartsWithNoCharacter bytes.now }
+        requires uncovered { StartsWithNoCharacter bytes.now }
         requires part { IsFaultPart bytes.now error_len }
         ensures { replaces bytes.now result }
     {
@@ -160,10 +160,10 @@ pub trait Platform {
     fn first_unit(bytes: &[u8]) -> (u16, usize)
         requires formed { well_formed bytes.now }
         requires some { 0 < length bytes.now }
-        requires bare { StartsWithNoCharacter bytes.now }
+        requires uncovered { StartsWithNoCharacter bytes.now }
         ensures { IsFirstUnit well_formed units bytes.now result.0 result.1 };
 
-    /// Whether the units of `string` start with the units of `front` (on Windows
+    /// Whether the units of `string` start with the units of `prefix` (on Windows
     /// `wtf8_core::starts_with`, else std's `starts_with` of slices). Both are well formed (test:
     /// [`Platform::check`]). It doesn't allocate.
     ///
@@ -175,12 +175,12 @@ pub trait Platform {
     /// // The units D83D and DE00, and D83D alone.
     /// assert!(rt; Windows::starts_with_os(b"\xF0\x9F\x98\x80", b"\xED\xA0\xBD"));
     /// ```
-    fn starts_with_os(string: &[u8], front: &[u8]) -> bool
+    fn starts_with_os(string: &[u8], prefix: &[u8]) -> bool
         requires string { well_formed string.now }
-        requires front { well_formed front.now }
-        ensures { IsTrue result ↔ IsPrefix (units front.now) (units string.now) };
+        requires prefix { well_formed prefix.now }
+        ensures { IsTrue result ↔ IsPrefix (units prefix.now) (units string.now) };
 
-    /// Whether the units of `string` end with the units of `end` (on Windows
+    /// Whether the units of `string` end with the units of `suffix` (on Windows
     /// `wtf8_core::ends_with`, else std's `ends_with` of slices). Both are well formed (test:
     /// [`Platform::check`]). It doesn't allocate.
     ///
@@ -192,10 +192,10 @@ pub trait Platform {
     /// // The units D83D and DE00, and DE00 alone.
     /// assert!(rt; Windows::ends_with_os(b"\xF0\x9F\x98\x80", b"\xED\xB8\x80"));
     /// ```
-    fn ends_with_os(string: &[u8], end: &[u8]) -> bool
+    fn ends_with_os(string: &[u8], suffix: &[u8]) -> bool
         requires string { well_formed string.now }
-        requires end { well_formed end.now }
-        ensures { IsTrue result ↔ IsSuffix (units end.now) (units string.now) };
+        requires suffix { well_formed suffix.now }
+        ensures { IsTrue result ↔ IsSuffix (units suffix.now) (units string.now) };
 
     /// Appends a string to another: the units are those of both, one after the other (std's
     /// `OsString::push`). On Windows a high surrogate at the end of the one and a low one at the
@@ -247,7 +247,7 @@ pub trait Platform {
         ensures reading { IfOk result (λ reading. reads_as bytes.now reading.items) }
         ensures formed { IfOk result (λ reading. well_formed reading.items) };
 
-    ghost standing: { StandingLaws well_formed units };
+    ghost occurrence: { OccurrenceLaws well_formed units };
 
     ghost laws: { PlatformLaws first_fault well_formed units is_unit_list io_safe lossy replaces };
 

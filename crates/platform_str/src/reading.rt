@@ -16,9 +16,9 @@ pub(crate) fn read_wtf8<A: Allocator>(alloc: A, bytes: &[u8]) -> Result<Vec<u8, 
     let mut rest = bytes;
     while let Some((valid_up_to, refused_len)) = wtf8_fault(rest) {
         let (_, faulty) = rest.split_at(valid_up_to);
-        let (_, behind) = faulty.split_at(refused_len);
+        let (_, after) = faulty.split_at(refused_len);
         push_replaced(&mut reading, rest, valid_up_to)?;
-        rest = behind;
+        rest = after;
     }
     reading.extend_from_slice(rest)?;
     Ok(reading)

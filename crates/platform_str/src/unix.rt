@@ -5,7 +5,7 @@ ghost use Rattle.wtf8_core.specs.Byte.{IsByte};
 ghost use Rattle.wtf8_core.specs.Utf8.{IsIllFormedPart};
 ghost use Rattle.platform_str.specs.PlatformWords.{itself};
 ghost use Rattle.platform_str.specs.platforms.Unix.{IsNoFault, AreAboveAscii, IsSame, bytes_prop};
-ghost use Rattle.platform_str.specs.platforms.Unix.{unix_laws, unix_parts, unix_readings, unix_standing};
+ghost use Rattle.platform_str.specs.platforms.Unix.{unix_laws, unix_parts, unix_readings, unix_occurrence};
 
 use crate::join::append;
 use crate::platform::{Platform, Unix};
@@ -47,7 +47,7 @@ impl Platform for Unix {
 
     ghost replaces = { IsIllFormedPart };
 
-    ghost standing = { unix_standing };
+    ghost occurrence = { unix_occurrence };
 
     ghost laws = { unix_laws };
 
@@ -85,12 +85,12 @@ impl Platform for Unix {
         (u16::from(bytes[0]), 1)
     }
 
-    fn starts_with_os(string: &[u8], front: &[u8]) -> bool {
-        string.starts_with(front)
+    fn starts_with_os(string: &[u8], prefix: &[u8]) -> bool {
+        string.starts_with(prefix)
     }
 
-    fn ends_with_os(string: &[u8], end: &[u8]) -> bool {
-        string.ends_with(end)
+    fn ends_with_os(string: &[u8], suffix: &[u8]) -> bool {
+        string.ends_with(suffix)
     }
 
     fn push_bytes<A: Allocator>(string: &mut Vec<u8, A>, more: &[u8]) -> Result<(), AllocError> {

@@ -3,7 +3,7 @@ ghost use Rattle.std.specs.Str.{IsUtf8};
 ghost use Rattle.wtf8_core.proofs.lemmas.forms.Propositions.{utf8_prop};
 ghost use Rattle.platform_str.specs.PlatformWords.{itself, IsThree};
 ghost use Rattle.platform_str.specs.platforms.Wasm.{IsTextFault, AreNone};
-ghost use Rattle.platform_str.specs.platforms.Wasm.{wasm_laws, wasm_parts, wasm_readings, wasm_standing};
+ghost use Rattle.platform_str.specs.platforms.Wasm.{wasm_laws, wasm_parts, wasm_readings, wasm_occurrence};
 ghost use Rattle.wtf8_core.specs.Lossy.{IsLossyText};
 
 use crate::join::append;
@@ -48,7 +48,7 @@ impl Platform for Wasm {
 
     ghost replaces = { IsThree };
 
-    ghost standing = { wasm_standing };
+    ghost occurrence = { wasm_occurrence };
 
     ghost laws = { wasm_laws };
 
@@ -84,12 +84,12 @@ impl Platform for Wasm {
         unreachable!()
     }
 
-    fn starts_with_os(string: &[u8], front: &[u8]) -> bool {
-        string.starts_with(front)
+    fn starts_with_os(string: &[u8], prefix: &[u8]) -> bool {
+        string.starts_with(prefix)
     }
 
-    fn ends_with_os(string: &[u8], end: &[u8]) -> bool {
-        string.ends_with(end)
+    fn ends_with_os(string: &[u8], suffix: &[u8]) -> bool {
+        string.ends_with(suffix)
     }
 
     fn push_bytes<A: Allocator>(string: &mut Vec<u8, A>, more: &[u8]) -> Result<(), AllocError> {

@@ -4,11 +4,11 @@ ghost use Rattle.std.specs.Iterator.{YieldsFirst, item_count};
 ghost use Rattle.wtf8_core.specs.Wtf8.{HasUnits};
 ghost use Rattle.platform_str.specs.Strings.{bytes, string_vec_of};
 
-use crate::blocks::{write_wtf8, wtf8_len};
-use crate::byte_units::push_units;
+use crate::from_wide::{write_wtf8, wtf8_len};
 use crate::os_str::OsStr;
 use crate::os_string::OsString;
 use crate::platform::{Platform, Windows};
+use crate::to_wide::push_units;
 use std::alloc::{AllocError, Allocator};
 use std::marker::Model;
 use wtf8_core::EncodeWide;

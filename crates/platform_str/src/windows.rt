@@ -3,7 +3,7 @@ ghost use Rattle.std.specs.Str.{IsUtf8};
 ghost use Rattle.wtf8_core.specs.Wtf8.{IsWtf8};
 ghost use Rattle.wtf8_core.specs.UnitsOf.{units_of, wtf8_lossy};
 ghost use Rattle.wtf8_core.proofs.lemmas.forms.Propositions.{wtf8_prop};
-ghost use Rattle.wtf8_core.proofs.lemmas.standing.Wtf8.{wtf8_standing};
+ghost use Rattle.wtf8_core.proofs.lemmas.occurrence.Wtf8.{wtf8_occurrence};
 ghost use Rattle.platform_str.specs.PlatformWords.{AreWideUnits, IsThree};
 ghost use Rattle.platform_str.specs.platforms.Windows.{windows_laws, windows_parts, windows_readings};
 ghost use Rattle.wtf8_core.specs.Checker.{HasFirstFault};
@@ -55,7 +55,7 @@ impl Platform for Windows {
 
     ghost replaces = { IsThree };
 
-    ghost standing = { wtf8_standing };
+    ghost occurrence = { wtf8_occurrence };
 
     ghost laws = { windows_laws };
 
@@ -94,12 +94,12 @@ impl Platform for Windows {
         }
     }
 
-    fn starts_with_os(string: &[u8], front: &[u8]) -> bool {
-        wtf8_core::starts_with(string, front)
+    fn starts_with_os(string: &[u8], prefix: &[u8]) -> bool {
+        wtf8_core::starts_with(string, prefix)
     }
 
-    fn ends_with_os(string: &[u8], end: &[u8]) -> bool {
-        wtf8_core::ends_with(string, end)
+    fn ends_with_os(string: &[u8], suffix: &[u8]) -> bool {
+        wtf8_core::ends_with(string, suffix)
     }
 
     fn push_bytes<A: Allocator>(string: &mut Vec<u8, A>, more: &[u8]) -> Result<(), AllocError> {

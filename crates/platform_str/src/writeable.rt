@@ -140,11 +140,11 @@ fn chars(text: &[u8]) -> usize
 {
     let mut count = 0;
     let mut rest = text;
-    while let Some((first, behind)) = rest.split_first() {
+    while let Some((first, after)) = rest.split_first() {
         if is_char_start(*first) {
             count += 1;
         }
-        rest = behind;
+        rest = after;
     }
     count
 }

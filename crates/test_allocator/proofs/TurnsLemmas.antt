@@ -25,6 +25,6 @@ module _ {Test Heap : Type 0} (step : Test → Heap → Plan → Result (Unit {0
   ended_by_a_run turns ran stepped = inl (turns, _, _, _, ran, stepped)
 
   -- no plan was left
-  pub ended_behind_all : (turns : ℕ) (error : AllocError) (last : Test) → turns ≡ 2 ^ 64 - 1 → RanUnder step first (each_request turns) last → EndedIn step first error
+  pub ended_after_all : (turns : ℕ) (error : AllocError) (last : Test) → turns ≡ 2 ^ 64 - 1 → RanUnder step first (each_request turns) last → EndedIn step first error
   unfolding EndedIn
-  ended_behind_all turns error last all ran = inr (last, subst (λ turns. RanUnder step first (each_request turns) last) all ran)
+  ended_after_all turns error last all ran = inr (last, subst (λ turns. RanUnder step first (each_request turns) last) all ran)

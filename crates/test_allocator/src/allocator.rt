@@ -6,7 +6,7 @@ use crate::Plan;
 use crate::requests::Requests;
 use std::alloc::{AllocError, Allocator};
 
-/// Stands before another allocator, refuses the requests of a [`Plan`] with `AllocError`,
+/// Is asked before another allocator, refuses the requests of a [`Plan`] with `AllocError`,
 /// and passes each other one on. It also counts what was asked.
 ///
 /// A collection takes it as `&heap`, and the test keeps `heap` to ask what was refused:
@@ -32,7 +32,7 @@ pub struct Refusing<A: Allocator> {
 }
 
 impl<A: Allocator> Refusing<A> {
-    /// Stands before `alloc`, with no request made yet.
+    /// Is asked before `alloc`, with no request made yet.
     pub fn new(alloc: A, plan: Plan) -> Refusing<A>
         ensures { allocator_of result ≡ alloc }
     {

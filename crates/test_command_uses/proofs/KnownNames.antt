@@ -20,9 +20,9 @@ use Rattle.names_commands.specs.Task.{end_of, AreIn, IsEntry}
 use Rattle.names_commands.specs.Reading.{Stops}
 use Rattle.names_commands.specs.Run.{IsOutput, start}
 
-has_end : (end : ℕ) (front behind : List ℕ) → ¬ (Lacks end (front ++ end ∷ behind))
-has_end end [] behind l = l.0 refl
-has_end end (x ∷ front) behind l = has_end end front behind l.1
+has_end : (end : ℕ) (prefix after : List ℕ) → ¬ (Lacks end (prefix ++ end ∷ after))
+has_end end [] after l = l.0 refl
+has_end end (x ∷ prefix) after l = has_end end prefix after l.1
 
 -- bytes are cut in one way at the first that ends an item
 same_first : (end : ℕ) (a b xs ys : List ℕ) → Lacks end a → Lacks end b → a ++ end ∷ xs ≡ b ++ end ∷ ys → a ≡ b
@@ -32,8 +32,8 @@ same_first end (x ∷ a) [] xs ys l k e = absurd (l.0 (ap (λ l. get_or l 0 0) e
 same_first end (x ∷ a) (y ∷ b) xs ys l k e = ap (λ c. c ∷ a) (ap (λ l. get_or l 0 0) e) ∙ ap (λ l. y ∷ l) (same_first end a b xs ys l.1 k.1 (ap (drop 1) e))
 
 -- an item, its end and more
-in_front : (end : ℕ) (item more behind : List ℕ) → ((item ++ end ∷ []) ++ more) ++ behind ≡ item ++ end ∷ (more ++ behind)
-in_front end item more behind = ap (λ x. x ++ behind) (append_assoc item (end ∷ []) more) ∙ append_assoc item (end ∷ more) behind
+in_prefix : (end : ℕ) (item more after : List ℕ) → ((item ++ end ∷ []) ++ more) ++ after ≡ item ++ end ∷ (more ++ after)
+in_prefix end item more after = ap (λ x. x ++ after) (append_assoc item (end ∷ []) more) ∙ append_assoc item (end ∷ more) after
 
 -- bytes without an end are no items that have their ends
 not_ended : (end : ℕ) (es : List Entry) (input : List ℕ) → Lacks end input → input ≢ [] → ¬ (input ≡ items_of end es)
@@ -47,7 +47,7 @@ one_item task es input l some (inr taken) = by taken.1.before taken.1.last taken
   where
     by : (before : List Entry) (last : Entry) → es ≡ before ++ last ∷ [] → input ≡ items_of (end_of task) before ++ last.0 → (text : List ℕ) × (es ≡ (input, text) ∷ [])
     by [] last e j = (last.1, e ∙ ap (λ x. (x, last.1) ∷ []) (sym j))
-    by (b ∷ before) last e j = absurd (has_end (end_of task) b.0 (items_of (end_of task) before ++ last.0) (subst (Lacks (end_of task)) (j ∙ in_front (end_of task) b.0 (items_of (end_of task) before) last.0) l))
+    by (b ∷ before) last e j = absurd (has_end (end_of task) b.0 (items_of (end_of task) before ++ last.0) (subst (Lacks (end_of task)) (j ∙ in_prefix (end_of task) b.0 (items_of (end_of task) before) last.0) l))
 
 module _ {E : Type 0} (p : Ghosts E) where
   pub known_line : (max : ℕ) (name output : List ℕ) → Lacks 0 name → name ≢ [] → IsOutput p (listing max) name output → ((line : List ℕ) × (IsLineEscape p.units name line × (output ≡ line ++ 0x0A ∷ []))) × (length name ≤ max)
@@ -64,7 +64,7 @@ module _ {E : Type 0} (p : Ghosts E) where
       by : (es : List Entry) (item rest : List ℕ) → name ≡ items_of 0 es ++ (item ++ rest) → ((rest ≡ []) × Unit {0}) ⊎ ((more : List ℕ) × (rest ≡ 0 ∷ more)) → (number ≡ 0 + length es + 1) × ((length item ≤ max) × p.first_fault item error) → (number ≡ 1) × p.first_fault name error
       by [] item rest j (inl none) f = (f.0, subst (λ x. p.first_fault x error) (sym (j ∙ ap (λ x. item ++ x) none.0 ∙ append-nil item)) f.1.1)
       by [] item rest j (inr more) f = absurd (has_end 0 item more.0 (subst (Lacks 0) (j ∙ ap (λ x. item ++ x) more.1) l))
-      by (e ∷ es) item rest j ended f = absurd (has_end 0 e.0 (items_of 0 es ++ (item ++ rest)) (subst (Lacks 0) (j ∙ in_front 0 e.0 (items_of 0 es) (item ++ rest)) l))
+      by (e ∷ es) item rest j ended f = absurd (has_end 0 e.0 (items_of 0 es ++ (item ++ rest)) (subst (Lacks 0) (j ∙ in_prefix 0 e.0 (items_of 0 es) (item ++ rest)) l))
 
   -- what is written for one name that is filtered
   pub known_filtered : (options : GlobOptions) (glob : _) (max : ℕ) (name output : List ℕ) → Lacks 0 name → name ≢ [] → IsOutput p (record { task = Filter options glob; max = max }) name output
@@ -92,7 +92,7 @@ module _ {E : Type 0} (p : Ghosts E) where
           let no : 2 ≢ 1 = omega arith in
           absurd (no n)
       by (e ∷ []) a j w n =
-          let same = same_first 0 e.0 name (s.item ++ s.rest) rest a.0.whole l (sym (in_front 0 e.0 [] (s.item ++ s.rest)) ∙ sym j ∙ cut) in
+          let same = same_first 0 e.0 name (s.item ++ s.rest) rest a.0.whole l (sym (in_prefix 0 e.0 [] (s.item ++ s.rest)) ∙ sym j ∙ cut) in
           let line = a.0.text.1 in
           (line.0, (subst (λ x. IsLineEscape p.units x line.0) same line.1, w ∙ append-nil e.1 ∙ line.2))
       by (e ∷ d ∷ es) a j w n =

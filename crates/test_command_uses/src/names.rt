@@ -96,17 +96,17 @@ pub fn first_names_again<E: Platform, A: Allocator, W: Write>(
     requires listed { IsOutput ⟦<E as Platform>⟧ (listing max) names.now lines.now }
     requires within { cut ≤ length lines.now }
     requires unmarked { has_failed writer.old ≡ false }
-    ensures { OnOk result ((back : List ℕ) × (AreFirst names.now back
+    ensures { OnOk result ((suffix : List ℕ) × (AreFirst names.now suffix
         × Appends (W.contents (marked_inner writer.old)) (W.contents (marked_inner writer.new))
-        back)) }
+        suffix)) }
 {
     names_come_back::<E>();
     let settings = Settings {
         task: Task::Join(LastLine::MustEnd),
         max,
     };
-    let (front, _rest) = lines.split_at(cut);
-    run_over::<E, A, W>(alloc, settings, front, writer)
+    let (prefix, _rest) = lines.split_at(cut);
+    run_over::<E, A, W>(alloc, settings, prefix, writer)
 }
 
 /// Joins a line without its newline, which is refused.

@@ -4,7 +4,7 @@ ghost use Rattle.std.specs.Io.KnownBytes.{Appends};
 ghost use Rattle.std.specs.Process.{exit_status};
 ghost use Rattle.osbytes_commands.specs.Ended.{message};
 ghost use Rattle.osbytes_commands.specs.Marked.{has_failed};
-ghost use Rattle.osbytes_commands.specs.Program.{AreNoCommand, words_behind_name};
+ghost use Rattle.osbytes_commands.specs.Program.{AreNoCommand, words_after_name};
 
 use names_commands::fault::Fault as NamesFault;
 use names_commands::program::execute as execute_names;
@@ -65,7 +65,7 @@ pub fn with_arguments<A: Allocator, R: Read, W: Output, E: Messages>(
 ) -> Result<(), Fault>
     requires reader_unmarked { has_failed reader.old ≡ false }
     requires writer_unmarked { has_failed writer.old ≡ false }
-    ensures { result ≡ Err Fault.Usage → AreNoCommand (words_behind_name arguments) }
+    ensures { result ≡ Err Fault.Usage → AreNoCommand (words_after_name arguments) }
 {
     execute(alloc, Ok(arguments), reader, writer, errors).outcome()
 }

@@ -2,12 +2,12 @@
 use Rattle.std.proofs.Common.{◌≡◌, ℕ, ◌+◌, List, ◌++◌, length, take, drop, sym, ap, ◌∙◌}
 use Rattle.std.proofs.Math.Seq.{take-append_seam, drop-append-add, drop-append_seam}
 use Rattle.wtf8_core.specs.Pieces.{SplitsAt}
-use Rattle.wtf8_core.specs.Standing.{StandsAt}
+use Rattle.wtf8_core.specs.Occurrence.{OccursAt}
 
-module _ (Is : List ℕ → List ℕ → ℕ → Type 0) (p s front back : List ℕ) (i : ℕ) where
-  pub parts_around : Is p s i → StandsAt p s i → front ≡ take i s → back ≡ drop (i + length p) s → SplitsAt Is p s front back
-  parts_around found at cut_front cut_back =
-      let is_front : front ≡ at.before = cut_front ∙ ap (λ n. take n s) (sym at.place) ∙ ap (take (length at.before)) at.joined ∙ take-append_seam at.before (p ++ at.behind) in
-      let is_back : back ≡ at.behind =
-      cut_back ∙ ap (λ n. drop (n + length p) s) (sym at.place) ∙ ap (drop (length at.before + length p)) at.joined ∙ drop-append-add at.before (p ++ at.behind) (length p) ∙ drop-append_seam p at.behind in
-      record { joined = at.joined ∙ ap (λ f. f ++ (p ++ at.behind)) (sym is_front) ∙ ap (λ b. front ++ (p ++ b)) (sym is_back); found = rw (ap length is_front ∙ at.place) found }
+module _ (Is : List ℕ → List ℕ → ℕ → Type 0) (p s prefix suffix : List ℕ) (i : ℕ) where
+  pub parts_around : Is p s i → OccursAt p s i → prefix ≡ take i s → suffix ≡ drop (i + length p) s → SplitsAt Is p s prefix suffix
+  parts_around found at cut_prefix cut_suffix =
+      let has_same_prefix : prefix ≡ at.before = cut_prefix ∙ ap (λ n. take n s) (sym at.index) ∙ ap (take (length at.before)) at.joined ∙ take-append_seam at.before (p ++ at.after) in
+      let has_same_suffix : suffix ≡ at.after =
+      cut_suffix ∙ ap (λ n. drop (n + length p) s) (sym at.index) ∙ ap (drop (length at.before + length p)) at.joined ∙ drop-append-add at.before (p ++ at.after) (length p) ∙ drop-append_seam p at.after in
+      record { joined = at.joined ∙ ap (λ f. f ++ (p ++ at.after)) (sym has_same_prefix) ∙ ap (λ b. prefix ++ (p ++ b)) (sym has_same_suffix); found = rw (ap length has_same_prefix ∙ at.index) found }

@@ -4,9 +4,9 @@ use Rattle.std.proofs.lemmas.List.{drop-drop}
 use Rattle.std.specs.Char.{encode_utf8, IsScalar}
 use Rattle.std.specs.Str.{IsUtf8}
 use Rattle.wtf8_core.specs.Covered.{StartsWithNoCharacter}
-use Rattle.wtf8_core.specs.Standing.{IsPrefix, StandsNowhere}
+use Rattle.wtf8_core.specs.Occurrence.{IsPrefix, OccursNowhere}
 use Rattle.os_args.specs.Word.{Kind, Long, LongBytes, Short, ShortBytes, Value, dash, dashes, equals, StartsWithDigit, StartsWithFraction, StartsAsNegative, IsReadAs, IsNamed}
-use Rattle.os_args.specs.Reading.{Fault, UnexpectedValue, MissingValue, Reading, words_left, without_pending, without_word, behind_dashes, having_read, IsReadIn, TakesWord, TakesValue, TakesOptionalValue}
+use Rattle.os_args.specs.Reading.{Fault, UnexpectedValue, MissingValue, Reading, words_left, without_pending, without_word, after_dashes, having_read, IsReadIn, TakesWord, TakesValue, TakesOptionalValue}
 
 -- what the laws of one outcome say
 abbrev OneWord : Type 0
@@ -20,7 +20,7 @@ OneOptionalValue = (before : Reading) (one other : Option (List ℕ)) (after lef
 
 -- nothing is read of these words, and negative numbers are values or not
 abbrev unread : Bool → List (List ℕ) → Reading
-unread numbers given = record { given = given; place = 0; pending = []; ended = false; numbers = numbers; last = None }
+unread numbers given = record { given = given; index = 0; pending = []; ended = false; numbers = numbers; last = None }
 
 heads : {A : Type 0} {a b : A} {x y : List A} → a ∷ x ≡ b ∷ y → a ≡ b
 heads e = cc
@@ -74,18 +74,18 @@ module _ (once : OneWord) (again : OneValue) (given : List (List ℕ)) (before :
       (first false given (dashes ++ (name ++ (equals ++ value))) more kind (equals ++ value) e (no_dashes (name ++ (equals ++ value)) (some_value name value)) (long_read name value kind h))
       (inl (record { some = λ x. let never = x in cc; is_value = inl refl; same = refl }))
 
-  pub long_text : (name value : List ℕ) (more : List (List ℕ)) → IsUtf8 name → StandsNowhere equals name → given ≡ (dashes ++ (name ++ (equals ++ value))) ∷ more → (one ≡ Ok (Some (Long name))) × (other ≡ Ok value)
+  pub long_text : (name value : List ℕ) (more : List (List ℕ)) → IsUtf8 name → OccursNowhere equals name → given ≡ (dashes ++ (name ++ (equals ++ value))) ∷ more → (one ≡ Ok (Some (Long name))) × (other ≡ Ok value)
   long_text name value more u n e = long name value more (Long name) (u, record { joined = refl; no_equals = n; end = inr (record { rest = value; joined = refl }) }) e
 
-  pub long_no_text : (name value : List ℕ) (more : List (List ℕ)) → ¬ (IsUtf8 name) → StandsNowhere equals name → given ≡ (dashes ++ (name ++ (equals ++ value))) ∷ more → (one ≡ Ok (Some (LongBytes name))) × (other ≡ Ok value)
+  pub long_no_text : (name value : List ℕ) (more : List (List ℕ)) → ¬ (IsUtf8 name) → OccursNowhere equals name → given ≡ (dashes ++ (name ++ (equals ++ value))) ∷ more → (one ≡ Ok (Some (LongBytes name))) × (other ≡ Ok value)
   long_no_text name value more u n e = long name value more (LongBytes name) (u, record { joined = refl; no_equals = n; end = inr (record { rest = value; joined = refl }) }) e
 
   pub no_text : (rest word : List ℕ) (more : List (List ℕ)) → rest ≢ [] → StartsWithNoCharacter rest → ¬ (IsPrefix dash rest) → given ≡ (dash ++ rest) ∷ (word ∷ more) → (one ≡ Ok (Some (ShortBytes rest))) × (other ≡ Ok word)
-  no_text rest word more some bare n e =
+  no_text rest word more some uncovered n e =
       let now = having_read (unread false given) 1 (ShortBytes rest) [] in
       word_and_value once again (unread false given) before one between other after new step then (Ok (Some (ShortBytes rest))) now (Ok word) (without_word now)
       (first false given (dash ++ rest) (word ∷ more) (ShortBytes rest) [] e (λ x. n (record { rest = []; joined = tails x }))
-      (inr (inl (record { flags = rest; joined = refl; some = some; one_dash = n; no_number = λ x. let never = x in cc; flag = (refl, (some, (bare, refl))) }))))
+      (inr (inl (record { flags = rest; joined = refl; some = some; one_dash = n; no_number = λ x. let never = x in cc; flag = (refl, (some, (uncovered, refl))) }))))
       (inr (refl, record { more = more; next = ap (drop 1) e; same = refl }))
 
   pub none : given ≡ [] → (one ≡ Ok None) × (other ≡ Err (MissingValue None))
@@ -111,7 +111,7 @@ short once again given before one between other after new step then flag value m
 pub dashes_first : OneWord → (given : List (List ℕ)) (before : Reading) (one : Result (Option Kind) Fault) (after : Reading) → before ≡ unread false given → TakesWord before one after
     → (word : List ℕ) (more : List (List ℕ)) → given ≡ dashes ∷ (word ∷ more) → one ≡ Ok (Some (Value word))
 dashes_first once given before one after new step word more e =
-    let between = behind_dashes (unread false given) in
+    let between = after_dashes (unread false given) in
     (once (unread false given) one (Ok (Some (Value word))) after (having_read between 2 (Value word) []) (subst (λ x. TakesWord x one after) new step)
     (inr (record {
       none_pending = refl;
@@ -143,7 +143,7 @@ dropped once before one after step value e =
 pub missing : OneWord → OneValue → (r : Reading) (one : Result (Option Kind) Fault) (between : Reading) (other : Result (List ℕ) Fault) (after : Reading) → TakesWord r one between → TakesValue between other after
     → (word : List ℕ) → r.pending ≡ [] → r.ended ≡ false → words_left r ≡ word ∷ [] → ¬ (IsPrefix dash word) → (one ≡ Ok (Some (Value word))) × (other ≡ Err (MissingValue r.last))
 missing once again r one between other after step then word none ended next n =
-    let now = having_read r (r.place + 1) (Value word) [] in
+    let now = having_read r (r.index + 1) (Value word) [] in
     let read : IsReadIn r.ended r.numbers word (Value word) [] = subst (λ x. IsReadIn x r.numbers word (Value word) []) (sym ended) (inr (inr (record { value = refl; whole = refl; operand = inr (inl n) }))) in
     word_and_value once again r r one between other after refl step then (Ok (Some (Value word))) now (Err (MissingValue r.last)) now
     (inr (record {
@@ -156,4 +156,4 @@ missing once again r one between other after step then word none ended next n =
       read = read;
       same = refl;
     }))
-    (record { none_pending = refl; none_left = sym (drop-drop 1 r.place r.given) ∙ ap (drop 1) next; is_fault = refl; same = refl })
+    (record { none_pending = refl; none_left = sym (drop-drop 1 r.index r.given) ∙ ap (drop 1) next; is_fault = refl; same = refl })

@@ -11,9 +11,9 @@ pub mod Outcomes
 pub mod PieceCount
 pub mod PiecesFromBothEnds
 pub mod PiecesJoined
-pub mod Places
+pub mod Indices
 pub mod QuoteFaults
 pub mod Repeats
 pub mod ReplacedParts
-pub mod SomePlace
+pub mod SomeIndex
 pub mod TrimsAgain

@@ -15,7 +15,7 @@ use Rattle.wtf8_core.specs.Chunks.{Chunk, joined, AreChunks}
 use Rattle.wtf8_core.specs.CodePoint.{encode}
 use Rattle.wtf8_core.specs.Covered.{StartsWithNoCharacter}
 use Rattle.wtf8_core.specs.Lossy.{replacement}
-use Rattle.wtf8_core.specs.Standing.{StandsAt}
+use Rattle.wtf8_core.specs.Occurrence.{OccursAt}
 use Rattle.os_str_ext.specs.Chunks.{IsChunkOf}
 use Rattle.test_uses.specs.TextsBetween.{IsCountOf, AreTextsBetween, none, chunk, ReplacesNoCharacter}
 
@@ -26,20 +26,20 @@ StartsWhole s = (j : ℕ) × WholeCharacter s 0 j
 -- a whole character of what follows a prefix is one of the whole list
 later : (before s : List ℕ) (i j : ℕ) → WholeCharacter s i j → WholeCharacter (before ++ s) (length before + i) (length before + j)
 later before s i j w =
-    let st = w.stands in
+    let st = w.occurs in
     let end = w.end in
     record {
       char = w.char;
       scalar = w.scalar;
-      stands = record { before = before ++ st.before; behind = st.behind; joined = ap (λ x. before ++ x) st.joined ∙ sym (append_assoc before st.before (encode w.char ++ st.behind)); place = length-append before st.before ∙ ap (λ n. length before + n) st.place };
+      occurs = record { before = before ++ st.before; after = st.after; joined = ap (λ x. before ++ x) st.joined ∙ sym (append_assoc before st.before (encode w.char ++ st.after)); index = length-append before st.before ∙ ap (λ n. length before + n) st.index };
       end = omega (arith, end);
     }
 
 -- the bytes of the chunks before and those of the others
-joined-append : (before behind : List Chunk) → joined (before ++ behind) ≡ joined before ++ joined behind
-joined-append [] behind = refl
-joined-append (c ∷ before) behind =
-    ap (λ x. c.0 ++ (c.1 ++ x)) (joined-append before behind) ∙ ap (λ x. c.0 ++ x) (sym (append_assoc c.1 (joined before) (joined behind))) ∙ sym (append_assoc c.0 (c.1 ++ joined before) (joined behind))
+joined-append : (before after : List Chunk) → joined (before ++ after) ≡ joined before ++ joined after
+joined-append [] after = refl
+joined-append (c ∷ before) after =
+    ap (λ x. c.0 ++ (c.1 ++ x)) (joined-append before after) ∙ ap (λ x. c.0 ++ x) (sym (append_assoc c.1 (joined before) (joined after))) ∙ sym (append_assoc c.0 (c.1 ++ joined before) (joined after))
 
 -- one more U+FFFD before so many others
 one_more : (all rest tail : List ℕ) (count : ℕ) → all ≡ replacement ++ rest → rest ≡ repeat count replacement ++ tail → all ≡ repeat (suc count) replacement ++ tail
@@ -65,7 +65,7 @@ module _ (forms : (c : ℕ) → encode c ≡ encode_utf8 c) where
         record {
           char = c;
           scalar = (and_parts (scalar c) _ s).0;
-          stands = record { before = []; behind = encode_utf8_all cs ++ rest; joined = ap (λ x. x ++ rest) (sym e) ∙ append_assoc (encode_utf8 c) (encode_utf8_all cs) rest ∙ ap (λ x. x ++ (encode_utf8_all cs ++ rest)) (sym (forms c)); place = refl };
+          occurs = record { before = []; after = encode_utf8_all cs ++ rest; joined = ap (λ x. x ++ rest) (sym e) ∙ append_assoc (encode_utf8 c) (encode_utf8_all cs) rest ∙ ap (λ x. x ++ (encode_utf8_all cs ++ rest)) (sym (forms c)); index = refl };
           end = omega arith;
         },
       )
@@ -73,16 +73,16 @@ module _ (forms : (c : ℕ) → encode c ≡ encode_utf8 c) where
 -- and of characters and boundaries
 module _ (forms : (c : ℕ) → encode c ≡ encode_utf8 c)
     (fits : (s : List ℕ) (i j : ℕ) → WholeCharacter s i j → (i + 1 ≤ j) × (j ≤ i + 4) × (j ≤ length s))
-    (edges : (p s : List ℕ) (i : ℕ) → IsUtf8 p → 0 < length p → StandsAt p s i → IsBoundary s i × IsBoundary s (i + length p))
+    (edges : (p s : List ℕ) (i : ℕ) → IsUtf8 p → 0 < length p → OccursAt p s i → IsBoundary s i × IsBoundary s (i + length p))
     (cut : (b : List ℕ) (i : ℕ) → IsUtf8 b → IsBoundary b i → IsUtf8 (take i b) × IsUtf8 (drop i b)) where
   -- a text at the start ends at a boundary
   edge : (t rest : List ℕ) → IsUtf8 t → IsBoundary (t ++ rest) (length t)
   edge [] rest u = record { is = inl refl }
-  edge (x ∷ t) rest u = subst (IsBoundary ((x ∷ t) ++ rest)) (omega arith) (edges (x ∷ t) ((x ∷ t) ++ rest) 0 u (omega arith) (record { before = []; behind = rest; joined = refl; place = refl })).1
+  edge (x ∷ t) rest u = subst (IsBoundary ((x ∷ t) ++ rest)) (omega arith) (edges (x ∷ t) ((x ∷ t) ++ rest) 0 u (omega arith) (record { before = []; after = rest; joined = refl; index = refl })).1
 
   -- it is the longest text at the start where none begins after it
   longest_text : (t rest : List ℕ) → IsUtf8 t → 0 < length rest → StartsWithNoCharacter rest → IsValidUpTo (t ++ rest) (length t)
-  longest_text t rest u some bare = record {
+  longest_text t rest u some uncovered = record {
     short = omega (arith, some, length-append t rest);
     front = subst IsUtf8 (sym (take-append_seam t rest)) u;
     longest = λ m l v.
@@ -90,7 +90,7 @@ module _ (forms : (c : ℕ) → encode c ≡ encode_utf8 c)
         let e : take m (t ++ rest) ≡ t ++ take k rest = ap (λ n. take n (t ++ rest)) (omega (arith, l)) ∙ take-append-add t rest k in
         let more = (cut (t ++ take k rest) (length t) (subst IsUtf8 e v) (edge t (take k rest) u)).1 in
         let first = begins forms (take k rest) (drop k rest) (subst IsUtf8 (drop-append_seam t (take k rest)) more) (simp length-take (omega (arith, l, some))) in
-        bare first.0 (subst (λ x. WholeCharacter x 0 first.0) (take-append-drop k rest) first.1);
+        uncovered first.0 (subst (λ x. WholeCharacter x 0 first.0) (take-append-drop k rest) first.1);
   }
 
   -- what follows a part is nothing or begins with a whole character
@@ -100,25 +100,25 @@ module _ (forms : (c : ℕ) → encode c ≡ encode_utf8 c)
 
   module _ (well_formed : List ℕ → Type 0) (lossy : List ℕ → List ℕ)
       (text : (b : List ℕ) → IsUtf8 b → lossy b ≡ b)
-      (front : (b : List ℕ) (n : ℕ) → well_formed b → IsValidUpTo b n → lossy b ≡ take n b ++ lossy (drop n b))
-      (back : (b : List ℕ) (i : ℕ) → well_formed b → IsBoundary b i → well_formed (drop i b))
+      (prefix : (b : List ℕ) (n : ℕ) → well_formed b → IsValidUpTo b n → lossy b ≡ take n b ++ lossy (drop n b))
+      (suffix : (b : List ℕ) (i : ℕ) → well_formed b → IsBoundary b i → well_formed (drop i b))
       (one : ReplacesNoCharacter well_formed lossy) where
     -- a text stays
     kept : (t rest : List ℕ) → IsUtf8 t → (rest ≡ []) ⊎ StartsWithNoCharacter rest → well_formed (t ++ rest) → lossy (t ++ rest) ≡ t ++ lossy rest
     kept t [] u after w = ap lossy (append-nil t) ∙ text t u ∙ sym (append-nil t) ∙ ap (λ x. t ++ x) (sym (text [] IsUtf8-nil))
     kept t (x ∷ rest) u (inl e) w = absurd (let l = ap length e in omega (arith, l))
-    kept t (x ∷ rest) u (inr bare) w =
-        front (t ++ x ∷ rest) (length t) w (longest_text t (x ∷ rest) u (omega arith) bare)
+    kept t (x ∷ rest) u (inr uncovered) w =
+        prefix (t ++ x ∷ rest) (length t) w (longest_text t (x ∷ rest) u (omega arith) uncovered)
         ∙ ap (λ y. y ++ lossy (drop (length t) (t ++ x ∷ rest))) (take-append_seam t (x ∷ rest))
         ∙ ap (λ y. t ++ lossy y) (drop-append_seam t (x ∷ rest))
 
     -- a part is replaced step by step
     replaced : (k : ℕ) (p tail : List ℕ) → length p ≤ k → well_formed (p ++ tail) → ((i j : ℕ) → i < length p → WholeCharacter (p ++ tail) i j → ⊥) → (tail ≡ []) ⊎ StartsWhole tail → Part well_formed lossy p tail
-    replaced k [] tail long w bare next = record { count = 0; is = record { some = λ l. l; most = omega arith }; lossy_is = refl; formed = w }
-    replaced zero (x ∷ p) tail long w bare next = absurd (omega (arith, long))
-    replaced (suc k) (x ∷ p) tail long w bare next =
+    replaced k [] tail long w uncovered next = record { count = 0; is = record { some = λ l. l; most = omega arith }; lossy_is = refl; formed = w }
+    replaced zero (x ∷ p) tail long w uncovered next = absurd (omega (arith, long))
+    replaced (suc k) (x ∷ p) tail long w uncovered next =
         let all = x ∷ p in
-        let r = one (all ++ tail) w (omega arith) (λ j c. bare 0 j (omega arith) c) in
+        let r = one (all ++ tail) w (omega arith) (λ j c. uncovered 0 j (omega arith) c) in
         let n = r.0 in
         let is = r.1.0 in
         let some = is.some in
@@ -128,8 +128,8 @@ module _ (forms : (c : ℕ) → encode c ≡ encode_utf8 c)
         let cut_at : take n all ++ (drop n all ++ tail) ≡ all ++ tail = sym (append_assoc (take n all) (drop n all) tail) ∙ ap (λ y. y ++ tail) (take-append-drop n all) in
         let size = length-drop n all in
         let taken : length (take n all) ≡ n = length-take-le n all within in
-        let others = replaced k (drop n all) tail (omega (arith, size, some, long)) (subst well_formed rest is.behind)
-        (λ i j l c. bare (length (take n all) + i) (length (take n all) + j) (omega (arith, l, size, taken)) (subst (λ y. WholeCharacter y (length (take n all) + i) (length (take n all) + j)) cut_at (later (take n all) (drop n all ++ tail) i j c))) next in
+        let others = replaced k (drop n all) tail (omega (arith, size, some, long)) (subst well_formed rest is.after)
+        (λ i j l c. uncovered (length (take n all) + i) (length (take n all) + j) (omega (arith, l, size, taken)) (subst (λ y. WholeCharacter y (length (take n all) + i) (length (take n all) + j)) cut_at (later (take n all) (drop n all ++ tail) i j c))) next in
         let most = others.is.most in
         record {
           count = suc others.count;
@@ -139,37 +139,37 @@ module _ (forms : (c : ℕ) → encode c ≡ encode_utf8 c)
         }
 
     module _ (s : List ℕ) (chunks : List Chunk) (are : AreChunks s chunks) where
-      whole : (before behind : List Chunk) → chunks ≡ before ++ behind → s ≡ joined before ++ joined behind
-      whole before behind e = sym are.joins ∙ ap joined e ∙ joined-append before behind
+      whole : (before after : List Chunk) → chunks ≡ before ++ after → s ≡ joined before ++ joined after
+      whole before after e = sym are.joins ∙ ap joined e ∙ joined-append before after
 
       -- no whole character starts in a part
-      part_bare : (before behind : List Chunk) (c : Chunk) → chunks ≡ before ++ c ∷ behind → (i j : ℕ) → i < length c.0 → WholeCharacter (joined (c ∷ behind)) i j → ⊥
-      part_bare before behind c e i j l w =
+      part_uncovered : (before after : List Chunk) (c : Chunk) → chunks ≡ before ++ c ∷ after → (i j : ℕ) → i < length c.0 → WholeCharacter (joined (c ∷ after)) i j → ⊥
+      part_uncovered before after c e i j l w =
           let here = length (joined before) in
-          let moved : WholeCharacter s (here + i) (here + j) = subst (λ x. WholeCharacter x (here + i) (here + j)) (sym (whole before (c ∷ behind) e)) (later (joined before) (joined (c ∷ behind)) i j w) in
-          let fit = (fits (joined (c ∷ behind)) i j w).0 in
-          (are.each before behind c e).bare (here + i) (omega arith) (omega (arith, l)) (record { start = here + i; end = here + j; whole = moved; from = omega arith; below = omega (arith, fit) })
+          let moved : WholeCharacter s (here + i) (here + j) = subst (λ x. WholeCharacter x (here + i) (here + j)) (sym (whole before (c ∷ after) e)) (later (joined before) (joined (c ∷ after)) i j w) in
+          let fit = (fits (joined (c ∷ after)) i j w).0 in
+          (are.each before after c e).uncovered (here + i) (omega arith) (omega (arith, l)) (record { start = here + i; end = here + j; whole = moved; from = omega arith; below = omega (arith, fit) })
 
       -- nothing follows a chunk, or a part that isn't empty
-      part_next : (before behind : List Chunk) (c : Chunk) → chunks ≡ before ++ c ∷ behind → (joined behind ≡ []) ⊎ StartsWithNoCharacter (joined behind)
+      part_next : (before after : List Chunk) (c : Chunk) → chunks ≡ before ++ c ∷ after → (joined after ≡ []) ⊎ StartsWithNoCharacter (joined after)
       part_next before [] c e = inl refl
-      part_next before (d ∷ behind) c e = inr (λ j w.
-          let e' : chunks ≡ (before ++ c ∷ []) ++ d ∷ behind = e ∙ sym (append_assoc before (c ∷ []) (d ∷ behind)) in
-          let some : 0 < length d.0 = ⊎_elim (λ z. absurd (let l = ap length ((are.each (before ++ c ∷ []) behind d e').part_first (nil_from_length d.0 z)) in omega (arith, l, length-append before (c ∷ [])))) (λ nz. omega (arith, nz)) (cases_eq (length d.0) 0) in
-          part_bare (before ++ c ∷ []) behind d e' 0 j some w)
+      part_next before (d ∷ after) c e = inr (λ j w.
+          let e' : chunks ≡ (before ++ c ∷ []) ++ d ∷ after = e ∙ sym (append_assoc before (c ∷ []) (d ∷ after)) in
+          let some : 0 < length d.0 = ⊎_elim (λ z. absurd (let l = ap length ((are.each (before ++ c ∷ []) after d e').part_first (nil_from_length d.0 z)) in omega (arith, l, length-append before (c ∷ [])))) (λ nz. omega (arith, nz)) (cases_eq (length d.0) 0) in
+          part_uncovered (before ++ c ∷ []) after d e' 0 j some w)
 
-      from : (before behind : List Chunk) → chunks ≡ before ++ behind → All (IsChunkOf well_formed) behind → well_formed (joined behind) → AreTextsBetween behind (lossy (joined behind))
+      from : (before after : List Chunk) → chunks ≡ before ++ after → All (IsChunkOf well_formed) after → well_formed (joined after) → AreTextsBetween after (lossy (joined after))
       from before [] e all w = subst (AreTextsBetween []) (sym (text [] IsUtf8-nil)) none
-      from before (c ∷ behind) e all w =
-          let is = All-head (IsChunkOf well_formed) c behind all in
-          let pair = are.each before behind c e in
-          let rest = joined behind in
+      from before (c ∷ after) e all w =
+          let is = All-head (IsChunkOf well_formed) c after all in
+          let pair = are.each before after c e in
+          let rest = joined after in
           let next = text_next c.1 rest is.text (λ z. ap joined (pair.text_last z)) in
-          let part = replaced (length c.0) c.0 (c.1 ++ rest) (omega arith) w (part_bare before behind c e) next in
-          let stays = kept c.1 rest is.text (part_next before behind c e) part.formed in
-          let formed = subst well_formed (drop-append_seam c.1 rest) (back (c.1 ++ rest) (length c.1) part.formed (edge c.1 rest is.text)) in
-          let others = from (before ++ c ∷ []) behind (e ∙ sym (append_assoc before (c ∷ []) behind)) (All-tail (IsChunkOf well_formed) c behind all) formed in
-          subst (AreTextsBetween (c ∷ behind)) (sym (part.lossy_is ∙ ap (λ x. repeat part.count replacement ++ x) stays)) (chunk part.count part.is others)
+          let part = replaced (length c.0) c.0 (c.1 ++ rest) (omega arith) w (part_uncovered before after c e) next in
+          let stays = kept c.1 rest is.text (part_next before after c e) part.formed in
+          let formed = subst well_formed (drop-append_seam c.1 rest) (suffix (c.1 ++ rest) (length c.1) part.formed (edge c.1 rest is.text)) in
+          let others = from (before ++ c ∷ []) after (e ∙ sym (append_assoc before (c ∷ []) after)) (All-tail (IsChunkOf well_formed) c after all) formed in
+          subst (AreTextsBetween (c ∷ after)) (sym (part.lossy_is ∙ ap (λ x. repeat part.count replacement ++ x) stays)) (chunk part.count part.is others)
 
       pub texts_between : All (IsChunkOf well_formed) chunks → well_formed s → AreTextsBetween chunks (lossy s)
       texts_between all w = subst (λ x. AreTextsBetween chunks (lossy x)) are.joins (from [] chunks refl all (subst well_formed (sym are.joins) w))

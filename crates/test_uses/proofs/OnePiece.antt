@@ -1,21 +1,21 @@
 -- What falls into pieces.
 use Rattle.std.proofs.Common.{◌≡◌, ◌∙◌, ◌↔◌, ◌<◌, ℕ, List, [], ◌∷◌, length, Option, None, Some, IsSome, IsSomeAnd, refl, sym, ap, arith}
 use Rattle.std.proofs.lemmas.Bool.{false≢true}
-use Rattle.wtf8_core.specs.Pieces.{FallsInto, whole, cut}
+use Rattle.wtf8_core.specs.Pieces.{SplitsInto, whole, cut}
 use Rattle.os_str_ext.specs.Cuts.{AreOfRest}
 
 -- where there is no cut, the whole is the one piece
-pub one_piece : {Cuts : List ℕ → List ℕ → List ℕ → Type 0} {Whole : List ℕ → Type 0} (s : List ℕ) (pieces : List (List ℕ)) → ((piece rest : List ℕ) → ¬ (Cuts s piece rest)) → FallsInto Cuts Whole s pieces → pieces ≡ s ∷ []
+pub one_piece : {Cuts : List ℕ → List ℕ → List ℕ → Type 0} {Whole : List ℕ → Type 0} (s : List ℕ) (pieces : List (List ℕ)) → ((piece rest : List ℕ) → ¬ (Cuts s piece rest)) → SplitsInto Cuts Whole s pieces → pieces ≡ s ∷ []
 one_piece s pieces none (whole w) = refl
 one_piece s pieces none (cut {piece = piece} {rest = rest} c falls) = absurd (none piece rest c)
 
 -- what has pieces has one at least
-pub no_empty_list : {Cuts : List ℕ → List ℕ → List ℕ → Type 0} {Whole : List ℕ → Type 0} (s : List ℕ) (pieces : List (List ℕ)) → FallsInto Cuts Whole s pieces → 0 < length pieces
+pub no_empty_list : {Cuts : List ℕ → List ℕ → List ℕ → Type 0} {Whole : List ℕ → Type 0} (s : List ℕ) (pieces : List (List ℕ)) → SplitsInto Cuts Whole s pieces → 0 < length pieces
 no_empty_list s pieces (whole w) = omega arith
 no_empty_list s pieces (cut {pieces = others} c falls) = omega arith
 
 -- what has one piece is that piece
-whole_of_one : {Cuts : List ℕ → List ℕ → List ℕ → Type 0} {Whole : List ℕ → Type 0} (s piece : List ℕ) (pieces : List (List ℕ)) → FallsInto Cuts Whole s pieces → pieces ≡ piece ∷ [] → s ≡ piece
+whole_of_one : {Cuts : List ℕ → List ℕ → List ℕ → Type 0} {Whole : List ℕ → Type 0} (s piece : List ℕ) (pieces : List (List ℕ)) → SplitsInto Cuts Whole s pieces → pieces ≡ piece ∷ [] → s ≡ piece
 whole_of_one s piece pieces (whole w) e = cc
 whole_of_one s piece pieces (cut {rest = rest} {pieces = others} c falls) e =
     let more = no_empty_list rest others falls in

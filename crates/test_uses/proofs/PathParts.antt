@@ -66,5 +66,5 @@ module _ {X : Type 0} (view : X → List ℕ) (w : Style) (s : List ℕ) (units 
   begins_with_units None h = tt
   begins_with_units (Some x) h =
       let n = length (view x) in
-      let front : take n s ≡ view x = ap (take n) h.joined ∙ take_at (view x) h.after n refl in
-      (units (drop n s), cut (view x) h.after h.joined h.cut ∙ ap (λ y. units y ++ units (drop n s)) front)
+      let prefix : take n s ≡ view x = ap (take n) h.joined ∙ take_at (view x) h.after n refl in
+      (units (drop n s), cut (view x) h.after h.joined h.cut ∙ ap (λ y. units y ++ units (drop n s)) prefix)

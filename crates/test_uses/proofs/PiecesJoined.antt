@@ -3,7 +3,7 @@ use Rattle.std.proofs.Common.{◌≡◌, ℕ, ◌<◌, List, [], ◌∷◌, ◌+
 use Rattle.std.specs.List.{flat_map, join_by}
 use Rattle.std.proofs.lemmas.Grind.{flat_map-append}
 use Rattle.std.proofs.lemmas.List.{append-nil, length-reverse, reverse-append}
-use Rattle.wtf8_core.specs.Pieces.{FallsInto, whole, cut}
+use Rattle.wtf8_core.specs.Pieces.{SplitsInto, whole, cut}
 
 module _ (p : List ℕ) where
   -- the pieces with p between them
@@ -12,11 +12,11 @@ module _ (p : List ℕ) where
 
   -- where each cut takes its piece off the start
   module _ {Cuts : List ℕ → List ℕ → List ℕ → Type 0} {Whole : List ℕ → Type 0} (cuts : (s piece rest : List ℕ) → Cuts s piece rest → s ≡ piece ++ (p ++ rest)) where
-    after_p : (s : List ℕ) (pieces : List (List ℕ)) → FallsInto Cuts Whole s pieces → flat_map (λ piece. p ++ piece) pieces ≡ p ++ joined pieces
+    after_p : (s : List ℕ) (pieces : List (List ℕ)) → SplitsInto Cuts Whole s pieces → flat_map (λ piece. p ++ piece) pieces ≡ p ++ joined pieces
     after_p s pieces (whole w) = append_assoc p s []
     after_p s pieces (cut {piece = piece} {pieces = others} c falls) = append_assoc p piece (flat_map (λ y. p ++ y) others)
 
-    pub pieces_joined : (s : List ℕ) (pieces : List (List ℕ)) → FallsInto Cuts Whole s pieces → joined pieces ≡ s
+    pub pieces_joined : (s : List ℕ) (pieces : List (List ℕ)) → SplitsInto Cuts Whole s pieces → joined pieces ≡ s
     pieces_joined s pieces (whole w) = append-nil s
     pieces_joined s pieces (cut {piece = piece} {rest = rest} {pieces = others} c falls) =
         ap (λ x. piece ++ x) (after_p rest others falls) ∙ ap (λ x. piece ++ (p ++ x)) (pieces_joined rest others falls) ∙ sym (cuts s piece rest c)
@@ -29,11 +29,11 @@ module _ (p : List ℕ) where
 
   -- where each takes it off the end
   module _ {Cuts : List ℕ → List ℕ → List ℕ → Type 0} {Whole : List ℕ → Type 0} (cuts : (s piece rest : List ℕ) → Cuts s piece rest → s ≡ rest ++ (p ++ piece)) where
-    some_piece : (s : List ℕ) (pieces : List (List ℕ)) → FallsInto Cuts Whole s pieces → 0 < length (reverse pieces)
+    some_piece : (s : List ℕ) (pieces : List (List ℕ)) → SplitsInto Cuts Whole s pieces → 0 < length (reverse pieces)
     some_piece s pieces (whole w) = omega arith
     some_piece s pieces (cut {piece = piece} {pieces = others} c falls) = omega (arith, length-reverse (piece ∷ others))
 
-    pub pieces_joined_from_the_end : (s : List ℕ) (pieces : List (List ℕ)) → FallsInto Cuts Whole s pieces → joined (reverse pieces) ≡ s
+    pub pieces_joined_from_the_end : (s : List ℕ) (pieces : List (List ℕ)) → SplitsInto Cuts Whole s pieces → joined (reverse pieces) ≡ s
     pieces_joined_from_the_end s pieces (whole w) = append-nil s
     pieces_joined_from_the_end s pieces (cut {piece = piece} {rest = rest} {pieces = others} c falls) =
         ap joined (reverse-append (piece ∷ []) others) ∙ with_last (reverse others) piece (some_piece rest others falls)

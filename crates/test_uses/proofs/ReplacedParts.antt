@@ -30,30 +30,30 @@ module _ (fits : (s : List ℕ) (i j : ℕ) → WholeCharacter s i j → (i + 1 
     ends_before b m valid (inr p) i j w = let fit = (fits b i j w).0 in ⊎_elim (λ l. omega (arith, l, fit)) (λ l. omega (arith, l)) (parts b 0 (Some m) (record { valid = valid; part = p }) i j w)
 
     pub part_alone : (b lossy : List ℕ) → IsLossyText b lossy → 0 < length b → StartsWithNoCharacter b → (n : ℕ) × (IsIllFormedPart b n × ((i j : ℕ) → WholeCharacter b i j → n ≤ i))
-    part_alone b _ (text u) some bare = let w = begins forms b [] u some in absurd (bare w.0 (subst (λ x. WholeCharacter x 0 w.0) (append-nil b) w.1))
-    part_alone b _ (replaced n m valid part rest) some bare =
+    part_alone b _ (text u) some uncovered = let w = begins forms b [] u some in absurd (uncovered w.0 (subst (λ x. WholeCharacter x 0 w.0) (append-nil b) w.1))
+    part_alone b _ (replaced n m valid part rest) some uncovered =
         let short = valid.short in
-        let none : n ≡ 0 = ⊎_elim (λ z. z) (λ nz. let w = begins forms (take n b) (drop n b) valid.front (simp length-take (omega (arith, nz, short))) in absurd (bare w.0 (subst (λ x. WholeCharacter x 0 w.0) (take-append-drop n b) w.1))) (cases_eq n 0) in
+        let none : n ≡ 0 = ⊎_elim (λ z. z) (λ nz. let w = begins forms (take n b) (drop n b) valid.front (simp length-take (omega (arith, nz, short))) in absurd (uncovered w.0 (subst (λ x. WholeCharacter x 0 w.0) (take-append-drop n b) w.1))) (cases_eq n 0) in
         let here : IsIllFormedPart b m = subst (λ k. IsIllFormedPart (drop k b) m) none part in
         (m, (here, ends_before b m (subst (IsValidUpTo b) none valid) here))
 
   -- the three bytes of a surrogate come before each whole character
   pub surrogate_alone : ((b : List ℕ) (i : ℕ) → IsWtf8 b → IsBoundary b i → IsWtf8 (take i b)) → (b : List ℕ) → IsWtf8 b → StartsWithNoCharacter b → (i j : ℕ) → WholeCharacter b i j → 3 ≤ i
-  surrogate_alone cut b formed bare i j w =
-      ⊎_elim (λ short. absurd (let front = cut b i formed (record { is = inr (inr (inl (j, w))) }) in by short front.0 front.1.joined)) (λ far. far) (cases_lt i 3)
+  surrogate_alone cut b formed uncovered i j w =
+      ⊎_elim (λ short. absurd (let prefix = cut b i formed (record { is = inr (inr (inl (j, w))) }) in by short prefix.0 prefix.1.joined)) (λ far. far) (cases_lt i 3)
     where
       by : i < 3 → (cs : List ℕ) → take i b ≡ flat_map encode cs → ⊥
       by short [] e =
           let fit = fits b i j w in
           let first : i ≡ 0 = let l = ap length e in omega (arith, l, length-take-le i b (omega (arith, fit))) in
-          bare j (subst (λ k. WholeCharacter b k j) first w)
+          uncovered j (subst (λ k. WholeCharacter b k j) first w)
       by short (c ∷ cs) e =
           let fit = fits b i j w in
           let l = ap length e in
           let scalar = small c (omega (arith, l, short, length-take-le i b (omega (arith, fit)), length-append (encode c) (flat_map encode cs))) in
-          bare (length (encode c)) (record {
+          uncovered (length (encode c)) (record {
             char = c;
             scalar = scalar;
-            stands = record { before = []; behind = flat_map encode cs ++ drop i b; joined = sym (take-append-drop i b) ∙ ap (λ x. x ++ drop i b) e ∙ append_assoc (encode c) (flat_map encode cs) (drop i b); place = refl };
+            occurs = record { before = []; after = flat_map encode cs ++ drop i b; joined = sym (take-append-drop i b) ∙ ap (λ x. x ++ drop i b) e ∙ append_assoc (encode c) (flat_map encode cs) (drop i b); index = refl };
             end = omega arith;
           })

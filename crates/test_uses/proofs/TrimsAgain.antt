@@ -3,7 +3,7 @@ use Rattle.std.proofs.Common.{◌≡◌, ℕ, zero, suc, List, ◌++◌, sym, ap
 use Rattle.std.proofs.lemmas.List.{append-nil}
 use Rattle.std.specs.List.{repeat}
 use Rattle.wtf8_core.specs.Pieces.{IsStartTrim, IsEndTrim, IsTrim}
-use Rattle.wtf8_core.specs.Standing.{IsPrefix, IsSuffix}
+use Rattle.wtf8_core.specs.Occurrence.{IsPrefix, IsSuffix}
 
 module _ (p : List ℕ) where
   nothing_first : (s r : List ℕ) (n : ℕ) → ¬ (IsPrefix p s) → s ≡ repeat n p ++ r → r ≡ s
@@ -31,6 +31,6 @@ module _ (p : List ℕ) where
   pub trim_again : (s r t : List ℕ) → IsTrim p s r → IsTrim p r t → t ≡ r
   trim_again s r t first second =
       let cut = first.1.1 in
-      let no_front : ¬ (IsPrefix p r) = λ front. first.1.0.done (record { rest = front.rest ++ repeat cut.count p; joined = cut.trimmed ∙ ap (λ x. x ++ repeat cut.count p) front.joined ∙ append_assoc p front.rest (repeat cut.count p) }) in
-      let same = start_again r second.0 no_front second.1.0 in
+      let no_prefix : ¬ (IsPrefix p r) = λ prefix. first.1.0.done (record { rest = prefix.rest ++ repeat cut.count p; joined = cut.trimmed ∙ ap (λ x. x ++ repeat cut.count p) prefix.joined ∙ append_assoc p prefix.rest (repeat cut.count p) }) in
+      let same = start_again r second.0 no_prefix second.1.0 in
       end_again second.0 t (λ end. cut.done (subst (IsSuffix p) same end)) second.1.1 ∙ same

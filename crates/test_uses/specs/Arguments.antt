@@ -1,6 +1,6 @@
 -- What a word of a command line is read as, of strings of any type.
 use Rattle.std.specs.Prelude.{◌≡◌, ℕ, List, [], ◌∷◌, ◌++◌}
-use Rattle.wtf8_core.specs.Standing.{IsPrefix}
+use Rattle.wtf8_core.specs.Occurrence.{IsPrefix}
 use Rattle.test_uses.specs.declared.arguments.Argument.{Argument}
 use Rattle.test_uses.specs.declared.arguments.Argument.TheVariants.{Long, Operand}
 

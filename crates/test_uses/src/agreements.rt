@@ -80,17 +80,17 @@ pub fn trimmed_twice<'a, S: OsStrBytesExt<'a> + Copy>(string: S, pattern: &str) 
 pub fn put_back<'a, E: Platform + 'a>(
     string: OsStr<'a, E>,
     text: &str,
-    front: &mut OsString<E>,
+    prefix: &mut OsString<E>,
 ) -> Result<bool, AllocError>
-    requires { (string_vec_of front.old).items ≡ text.now }
+    requires { (string_vec_of prefix.old).items ≡ text.now }
     ensures { IfOk result (λ starts. IsTrue starts
-        → (string_vec_of front.new).items ≡ bytes string.entry) }
+        → (string_vec_of prefix.new).items ≡ bytes string.entry) }
 {
-    laws::spelling::<E>();
+    laws::encoding::<E>();
     let Some(rest) = string.strip_prefix(text) else {
         return Ok(false);
     };
-    front.push(rest)?;
+    prefix.push(rest)?;
     Ok(true)
 }
 
@@ -109,7 +109,7 @@ pub fn once_more<'a, E: Platform + 'a>(
     ensures { IfOk result (λ repeated. (string_vec_of repeated).items
         ≡ (string_vec_of pushed.new).items) }
 {
-    laws::spelling::<E>();
+    laws::encoding::<E>();
     pushed.push(string)?;
     string.repeat(alloc, count + 1)
 }
@@ -121,6 +121,6 @@ pub fn once<'a, E: Platform + 'a>(
 ) -> Result<OsString<E>, AllocError>
     ensures { IfOk result (λ same. (string_vec_of same).items ≡ bytes string.entry) }
 {
-    laws::spelling::<E>();
+    laws::encoding::<E>();
     string.repeat(alloc, 1)
 }

@@ -5,7 +5,7 @@ ghost use Rattle.wtf8_core.specs.Wtf8.{Encodes, IsWtf8, HasUnits};
 ghost use Rattle.wtf8_core.specs.Fault.{IsFirstFault};
 ghost use Rattle.wtf8_core.specs.Boundary.{IsBoundary};
 ghost use Rattle.wtf8_core.specs.Character.{WholeCharacter};
-ghost use Rattle.wtf8_core.specs.Standing.{StandsAt};
+ghost use Rattle.wtf8_core.specs.Occurrence.{OccursAt};
 ghost use Rattle.wtf8_core.specs.UnitsOf.{units_of};
 ghost use Rattle.wtf8_core.specs.Utf8.{IsUtf8Fault, part_end};
 
@@ -18,7 +18,7 @@ use wtf8_core::{
 pub fn is_wtf8(raw: &[u8]) -> bool
     ensures { IsTrue result ↔ IsWtf8 raw.now }
 {
-    laws::spelled_or_faulty();
+    laws::encoded_or_faulty();
     match Windows::check(raw) {
         Ok(()) => true,
         Err(_) => false,
@@ -34,18 +34,18 @@ pub fn check_says(
     requires { IsFirstFault raw.now code_points.now fault }
     ensures { result ≡ Err fault }
 {
-    laws::spelled_or_faulty();
+    laws::encoded_or_faulty();
     laws::one_first_fault();
     Windows::check(raw)
 }
 
 /// Two lists of code points of the same bytes, which are equal.
-pub fn spelled_once(raw: &[u8], code_points: &[u32], others: &[u32])
+pub fn encoded_once(raw: &[u8], code_points: &[u32], others: &[u32])
     requires first { Encodes raw.now code_points.now }
     requires second { Encodes raw.now others.now }
     ensures { code_points.now ≡ others.now }
 {
-    laws::spelled_once();
+    laws::encoded_once();
 }
 
 /// Two lists of code points before the first fault of the same bytes, which are equal.
@@ -147,15 +147,15 @@ pub fn around_boundary(raw: &[u8], at: usize) -> bool
     ensures { IsTrue result }
 {
     laws::cuts();
-    let (front, back) = raw.split_at(at);
-    starts_with(raw, front) && ends_with(raw, back)
+    let (prefix, suffix) = raw.split_at(at);
+    starts_with(raw, prefix) && ends_with(raw, suffix)
 }
 
 /// Any 16-bit units, which some bytes have.
 pub fn wide_units(units: &[u16])
     ensures { (raw : List ℕ) × HasUnits raw units.now }
 {
-    laws::spelling();
+    laws::encoding();
 }
 
 /// Two lists of units of the same bytes, which are equal.
@@ -164,15 +164,15 @@ pub fn units_once(raw: &[u8], units: &[u16], others: &[u16])
     requires second { HasUnits raw.now others.now }
     ensures { units.now ≡ others.now }
 {
-    laws::spelling();
+    laws::encoding();
 }
 
 /// A text whose units occur among those of WTF-8 bytes, and which occurs in the bytes too.
-pub fn stands_in_bytes(raw: &[u8], text: &str, before: &[u16], behind: &[u16])
+pub fn occurs_in_bytes(raw: &[u8], text: &str, before: &[u16], after: &[u16])
     requires wtf8 { IsWtf8 raw.now }
     requires some { 0 < length text.now }
-    requires stands { units_of raw.now ≡ before.now ++ (units_of text.now ++ behind.now) }
-    ensures { (i : ℕ) × StandsAt text.now raw.now i }
+    requires occurs { units_of raw.now ≡ before.now ++ (units_of text.now ++ after.now) }
+    ensures { (i : ℕ) × OccursAt text.now raw.now i }
 {
-    laws::standing();
+    laws::occurrence();
 }

@@ -110,9 +110,9 @@ pub fn text_without_parts<'a, E: Platform + 'a>(string: OsStr<'a, E>) -> (Utf8Ch
 }
 
 /// A string without whole characters, whose bytes are those of its units.
-pub fn bare_units<'a, E: Platform + 'a>(string: OsStr<'a, E>) -> OsStr<'a, E>
+pub fn uncovered_units<'a, E: Platform + 'a>(string: OsStr<'a, E>) -> OsStr<'a, E>
     requires { HasNoCharacter (bytes string) }
-    ensures spelled { bytes result ≡ flat_map unit_bytes (E.units (bytes result)) }
+    ensures encoded { bytes result ≡ flat_map unit_bytes (E.units (bytes result)) }
     ensures kind { E.part_units (E.units (bytes result)) }
     ensures wide { AreWideUnits (E.units (bytes result)) }
 {

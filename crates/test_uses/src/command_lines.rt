@@ -4,7 +4,7 @@ ghost use Rattle.std.specs.Char.{encode_utf8, IsScalar};
 ghost use Rattle.std.specs.Option.{option_map};
 ghost use Rattle.std.specs.Str.{IsUtf8};
 ghost use Rattle.wtf8_core.specs.Covered.{StartsWithNoCharacter};
-ghost use Rattle.wtf8_core.specs.Standing.{IsPrefix, StandsNowhere};
+ghost use Rattle.wtf8_core.specs.Occurrence.{IsPrefix, OccursNowhere};
 ghost use Rattle.platform_str.specs.Strings.{bytes};
 ghost use Rattle.os_args.specs.Kinds.{kind_of};
 ghost use Rattle.os_args.specs.Word.{Kind, Long, LongBytes, Short, ShortBytes, Value, dash, dashes, equals, StartsAsNegative};
@@ -78,12 +78,12 @@ pub fn long_option<'a, E: Platform + 'a>(
     Result<OsStr<'a, E>, ErrorOf<'a, E>>,
 )
     ensures text { (name : List ℕ) → (value : List ℕ) → (more : List (List ℕ)) → IsUtf8 name
-        → StandsNowhere equals name
+        → OccursNowhere equals name
         → map bytes words.now ≡ (dashes ++ (name ++ (equals ++ value))) ∷ more
         → (outcome_of (λ read. option_map kind_of read) result.0 ≡ Ok (Some (Long name)))
         × (outcome_of bytes result.1 ≡ Ok value) }
     ensures no_text { (name : List ℕ) → (value : List ℕ) → (more : List (List ℕ)) → ¬ (IsUtf8 name)
-        → StandsNowhere equals name
+        → OccursNowhere equals name
         → map bytes words.now ≡ (dashes ++ (name ++ (equals ++ value))) ∷ more
         → (outcome_of (λ read. option_map kind_of read) result.0 ≡ Ok (Some (LongBytes name)))
         × (outcome_of bytes result.1 ≡ Ok value) }

@@ -113,10 +113,10 @@ pub fn cut_and_joined<E: Platform, A: Allocator + Clone>(
     ensures bytes { IfOk result (λ joined. (string_vec_of joined).items
         ≡ (raw_vec_of string).items) }
 {
-    laws::spelling::<E>();
-    let mut front = string;
-    let back = front.split_off(at)?;
-    let mut joined = front.into_os_string();
-    joined.push(back.as_os_str())?;
+    laws::encoding::<E>();
+    let mut prefix = string;
+    let suffix = prefix.split_off(at)?;
+    let mut joined = prefix.into_os_string();
+    joined.push(suffix.as_os_str())?;
     Ok(joined)
 }

@@ -48,7 +48,7 @@ pub fn escape_says<E: Platform, A: Allocator>(
 }
 
 /// What comes of a text with a known index at which no token begins: that index, or want of memory.
-pub fn bad_place_says<E: Platform, A: Allocator>(
+pub fn bad_index_says<E: Platform, A: Allocator>(
     alloc: A,
     text: &str,
     at: usize,
@@ -86,7 +86,7 @@ pub fn unescape_in<E: Platform>(
 }
 
 /// What comes of a text with a known index at which no token begins, in a buffer: that index.
-pub fn bad_place_in<E: Platform>(
+pub fn bad_index_in<E: Platform>(
     text: &str,
     at: usize,
     buffer: &mut [u8],

@@ -4,7 +4,7 @@ ghost use Rattle.std.specs.Str.{chars};
 ghost use Rattle.platform_str.specs.Strings.{bytes};
 ghost use Rattle.os_str_ext.specs.Symbols.{AreSymbols};
 ghost use Rattle.os_glob.specs.declared.error.GlobErrorKind.TheVariants.{UnclosedClass};
-ghost use Rattle.os_glob.specs.Items.{IsWellFormed, IsFirstFault};
+ghost use Rattle.os_glob.specs.Items.{IsWellFormed, IsPatternFault};
 ghost use Rattle.os_glob.specs.Match.{IsMatch};
 
 use os_glob::{Glob, GlobError, GlobOptions};
@@ -41,7 +41,7 @@ pub fn match_by_text<'a, E: Platform + 'a>(
     symbols: &Symbols<'a, E>,
 ) -> Result<bool, GlobError>
     ensures { MatchResult result (λ matched. IsTrue matched
-        ↔ IsMatch options pattern.now symbols.now) (λ error. IsFirstFault pattern.now error) }
+        ↔ IsMatch options pattern.now symbols.now) (λ error. IsPatternFault pattern.now error) }
 {
     let glob = Glob::new(pattern)?;
     Ok(match_left(&glob, options, symbols))
@@ -59,7 +59,7 @@ pub fn known_pattern(pattern: &str) -> Result<Glob<'_>, GlobError>
 /// Why a text is no pattern, where that is known.
 #[tactic(auto, using(crate::proofs::GlobFaults::not_both))]
 pub fn known_fault(pattern: &str, known: GlobError) -> Option<GlobError>
-    requires { IsFirstFault pattern.now known }
+    requires { IsPatternFault pattern.now known }
     ensures { result ≡ Some known }
 {
     match Glob::new(pattern) {

@@ -2,7 +2,7 @@
 ghost use Rattle.std.specs.Prelude.{◌≡◌, IfOk};
 ghost use Rattle.wtf8_core.specs.Chunks.{AreChunks};
 ghost use Rattle.wtf8_core.specs.Pieces.{IsRSplit, SplitsOnce};
-ghost use Rattle.wtf8_core.specs.Standing.{IsLastPlace};
+ghost use Rattle.wtf8_core.specs.Occurrence.{IsLastIndex};
 ghost use Rattle.os_str_bytes.specs.Headline.{SplitsUnlessEmpty};
 ghost use Rattle.os_str_bytes.specs.Raw.{raw_bytes, raw_units};
 ghost use Rattle.os_str_bytes.specs.RawCow.{raw_cow_bytes};
@@ -22,7 +22,7 @@ pub fn ask<'a, E: Platform + 'a, P: Pattern + Copy, A: Allocator>(
     count: usize,
 ) -> Answers<'a, E, P, A>
     ensures accepted { IfOk result.cow_from_raw_bytes (λ cow. raw_cow_bytes cow ≡ raw.now) }
-    ensures rsplit_once { SplitsOnce IsLastPlace raw_units (E.units (P.text pattern))
+    ensures rsplit_once { SplitsOnce IsLastIndex raw_units (E.units (P.text pattern))
         (raw_units string.entry) result.rsplit_once }
     ensures rsplit { SplitsUnlessEmpty E.units IsRSplit (P.text pattern) (raw_bytes string.entry)
         result.rsplit }

@@ -47,13 +47,13 @@ pub fn joined_either_way<'a, E: Platform + 'a>(
 {
     laws::joins::<E>();
     Ok((
-        joined_from_the_front(alloc, a, b, c)?,
-        joined_from_the_back(alloc, a, b, c)?,
+        joined_from_the_start(alloc, a, b, c)?,
+        joined_from_the_end(alloc, a, b, c)?,
     ))
 }
 
 /// Three strings joined, the first two first.
-fn joined_from_the_front<'a, E: Platform + 'a>(
+fn joined_from_the_start<'a, E: Platform + 'a>(
     alloc: Global,
     a: OsStr<'a, E>,
     b: OsStr<'a, E>,
@@ -69,7 +69,7 @@ fn joined_from_the_front<'a, E: Platform + 'a>(
 }
 
 /// Three strings joined, the last two first.
-fn joined_from_the_back<'a, E: Platform + 'a>(
+fn joined_from_the_end<'a, E: Platform + 'a>(
     alloc: Global,
     a: OsStr<'a, E>,
     b: OsStr<'a, E>,
@@ -87,13 +87,13 @@ fn joined_from_the_back<'a, E: Platform + 'a>(
 
 /// Whether a string starts with another: exactly where it is the join of that one and some
 /// string.
-pub fn starts_as_joined<'a, E: Platform + 'a>(string: OsStr<'a, E>, front: OsStr<'a, E>) -> bool
+pub fn starts_as_joined<'a, E: Platform + 'a>(string: OsStr<'a, E>, prefix: OsStr<'a, E>) -> bool
     ensures { IsTrue result ↔ ((rest : List ℕ)
-        × (E.well_formed rest × IsJoin E.well_formed E.units (bytes front.entry) rest
+        × (E.well_formed rest × IsJoin E.well_formed E.units (bytes prefix.entry) rest
         (bytes string.entry))) }
 {
     laws::joins::<E>();
-    string.starts_with_os(front)
+    string.starts_with_os(prefix)
 }
 
 /// Whether a string onto which one was pushed starts with what it was: it always does.

@@ -28,12 +28,12 @@ pub fn fault_again(
 }
 
 /// The index of the fault of bytes of which one is known, which is that one.
-pub fn fault_place_says(raw: &[u8], at: usize, len: usize) -> Option<(usize, usize)>
+pub fn fault_index_says(raw: &[u8], at: usize, len: usize) -> Option<(usize, usize)>
     requires { IsFaultAt raw.now at len }
     ensures { result ≡ Some (at, len) }
 {
-    wtf8_laws::one_fault_place();
-    wtf8_laws::spelled_or_faulty();
+    wtf8_laws::one_fault_index();
+    wtf8_laws::encoded_or_faulty();
     wtf8_fault(raw)
 }
 

@@ -69,7 +69,7 @@ pub fn line_without_unseen<E: Platform, A: Allocator>(
 }
 
 /// What comes of a text with a known index at which no token begins: that index, or want of memory.
-pub fn bad_line_place_says<E: Platform, A: Allocator>(
+pub fn bad_line_index_says<E: Platform, A: Allocator>(
     alloc: A,
     text: &str,
     at: usize,
@@ -109,7 +109,7 @@ pub fn line_unescape_in<E: Platform>(
 
 /// What comes of a text with a known index at which no token of this form begins, in a buffer: that
 /// index.
-pub fn bad_line_place_in<E: Platform>(
+pub fn bad_line_index_in<E: Platform>(
     text: &str,
     at: usize,
     buffer: &mut [u8],

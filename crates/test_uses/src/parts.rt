@@ -39,9 +39,9 @@ pub fn three_parts<'a, E: Platform + 'a>(
         ++ E.units (bytes result.2)) ≡ E.units (bytes string.entry) }
 {
     wtf8_core::laws::boundaries();
-    let (front, rest) = string.split_at(start);
-    let (middle, back) = rest.split_at(end - start);
-    (front, middle, back)
+    let (prefix, rest) = string.split_at(start);
+    let (middle, suffix) = rest.split_at(end - start);
+    (prefix, middle, suffix)
 }
 
 /// The same parts, cut at the second index first.
@@ -58,9 +58,9 @@ pub fn three_parts_from_the_end<'a, E: Platform + 'a>(
         ≡ E.units (bytes string.entry) }
 {
     wtf8_core::laws::boundaries();
-    let (rest, back) = string.split_at(end);
-    let (front, middle) = rest.split_at(start);
-    (front, middle, back)
+    let (rest, suffix) = string.split_at(end);
+    let (prefix, middle) = rest.split_at(start);
+    (prefix, middle, suffix)
 }
 
 /// Whether a part of a string is accepted as raw bytes: it always is.
@@ -72,8 +72,8 @@ pub fn part_is_accepted<'a, E: Platform + 'a>(
     ensures { IsOk result }
 {
     laws::faults::<E>();
-    let (front, _) = string.split_at(at);
-    E::check(front.as_encoded_bytes())
+    let (prefix, _) = string.split_at(at);
+    E::check(prefix.as_encoded_bytes())
 }
 
 /// Whether what follows in a string is accepted as raw bytes, from the index of a byte on that is no
@@ -101,10 +101,10 @@ pub fn halves_of_bytes<'a, E: Platform + 'a>(
     ensures { E.units (bytes result.0) ++ E.units (bytes result.1) ≡ E.units raw.now }
 {
     laws::cuts::<E>();
-    let (front, back) = raw.split_at(at);
+    let (prefix, suffix) = raw.split_at(at);
     (
-        OsStr::from_encoded_bytes_unchecked(front),
-        OsStr::from_encoded_bytes_unchecked(back),
+        OsStr::from_encoded_bytes_unchecked(prefix),
+        OsStr::from_encoded_bytes_unchecked(suffix),
     )
 }
 
@@ -115,8 +115,8 @@ pub fn halves_of_text<'a, E: Platform + 'a>(string: OsStr<'a, E>, at: usize) -> 
     ensures { IsTrue result }
 {
     wtf8_core::laws::cuts();
-    let (front, back) = string.split_at(at);
-    front.to_str().is_some() && back.to_str().is_some()
+    let (prefix, suffix) = string.split_at(at);
+    prefix.to_str().is_some() && suffix.to_str().is_some()
 }
 
 /// Whether a text may be cut at an index as a `str` and as a string: never one alone.

@@ -3,7 +3,7 @@ ghost use Rattle.std.specs.Prelude.{◌≡◌, IfSome};
 ghost use Rattle.std.specs.String.{string_bytes};
 ghost use Rattle.wtf8_core.specs.Boundary.{IsBoundary};
 ghost use Rattle.wtf8_core.specs.CodePoint.{encode};
-ghost use Rattle.wtf8_core.specs.Standing.{Finds, IsFirstPlace};
+ghost use Rattle.wtf8_core.specs.Occurrence.{Finds, IsFirstIndex};
 ghost use Rattle.platform_str.specs.Strings.{bytes};
 ghost use Rattle.os_str_bytes.specs.Raw.{raw_bytes};
 
@@ -17,9 +17,9 @@ pub fn found_by_each<'a, E: Platform + 'a>(
     text: &'a str,
     owned: &'a String,
 ) -> (Option<usize>, Option<usize>, Option<usize>)
-    ensures of_char { Finds IsFirstPlace (encode character) (bytes string.entry) result.0 }
-    ensures of_str { Finds IsFirstPlace text.now (bytes string.entry) result.1 }
-    ensures of_string { Finds IsFirstPlace (string_bytes owned.now) (bytes string.entry) result.2 }
+    ensures of_char { Finds IsFirstIndex (encode character) (bytes string.entry) result.0 }
+    ensures of_str { Finds IsFirstIndex text.now (bytes string.entry) result.1 }
+    ensures of_string { Finds IsFirstIndex (string_bytes owned.now) (bytes string.entry) result.2 }
 {
     search_laws::patterns(character, text, owned);
     (
@@ -30,7 +30,7 @@ pub fn found_by_each<'a, E: Platform + 'a>(
 }
 
 /// Where the first match of a text in a raw string ends; it may be cut there.
-pub fn raw_behind_first<'a, E: Platform + 'a>(string: RawOsStr<'a, E>, text: &str) -> Option<usize>
+pub fn raw_after_first<'a, E: Platform + 'a>(string: RawOsStr<'a, E>, text: &str) -> Option<usize>
     ensures { IfSome result (λ end. IsBoundary (raw_bytes string.entry) end) }
 {
     let at = string.find(text)?;
@@ -38,7 +38,7 @@ pub fn raw_behind_first<'a, E: Platform + 'a>(string: RawOsStr<'a, E>, text: &st
 }
 
 /// The same of the last match.
-pub fn raw_behind_last<'a, E: Platform + 'a>(string: RawOsStr<'a, E>, text: &str) -> Option<usize>
+pub fn raw_after_last<'a, E: Platform + 'a>(string: RawOsStr<'a, E>, text: &str) -> Option<usize>
     ensures { IfSome result (λ end. IsBoundary (raw_bytes string.entry) end) }
 {
     let at = string.rfind(text)?;

@@ -4,7 +4,7 @@ ghost use Rattle.std.specs.Prelude.{IsSomeAnd, IsTrue, Some};
 ghost use Rattle.std.specs.List.{All, join_by};
 ghost use Rattle.std.specs.Option.{option_map};
 ghost use Rattle.wtf8_core.specs.Pieces.{IsRSplit, IsSplit, Splits};
-ghost use Rattle.wtf8_core.specs.Standing.{StandsNowhere};
+ghost use Rattle.wtf8_core.specs.Occurrence.{OccursNowhere};
 ghost use Rattle.platform_str.specs.Strings.{bytes};
 ghost use Rattle.test_uses.specs.Matches.{AreMatches};
 
@@ -31,7 +31,7 @@ fn rsplit<'a, E: Platform + 'a>(string: OsStr<'a, E>, text: &'a str) -> RSplit<'
 /// The pieces of a string in which a pattern doesn't occur: the string alone.
 pub fn uncut<'a, E: Platform + 'a>(string: OsStr<'a, E>, text: &'a str) -> Split<'a, E, &'a str>
     requires some { 0 < length text.now }
-    requires nowhere { StandsNowhere text.now (bytes string) }
+    requires nowhere { OccursNowhere text.now (bytes string) }
     ensures { result ≡ bytes string.entry ∷ [] }
 {
     split(string, text)
@@ -43,7 +43,7 @@ pub fn uncut_from_the_end<'a, E: Platform + 'a>(
     text: &'a str,
 ) -> RSplit<'a, E, &'a str>
     requires some { 0 < length text.now }
-    requires nowhere { StandsNowhere text.now (bytes string) }
+    requires nowhere { OccursNowhere text.now (bytes string) }
     ensures { result ≡ bytes string.entry ∷ [] }
 {
     rsplit(string, text)
@@ -52,7 +52,7 @@ pub fn uncut_from_the_end<'a, E: Platform + 'a>(
 /// The rest of a string in which a pattern doesn't occur, before its one piece was given: the string.
 pub fn uncut_rest<'a, E: Platform + 'a>(string: OsStr<'a, E>, text: &'a str) -> Option<OsStr<'a, E>>
     requires some { 0 < length text.now }
-    requires nowhere { StandsNowhere text.now (bytes string) }
+    requires nowhere { OccursNowhere text.now (bytes string) }
     ensures { IsSomeAnd result (λ rest. bytes rest ≡ bytes string.entry) }
 {
     uncut(string, text).rest()
@@ -64,7 +64,7 @@ pub fn uncut_rest_from_the_end<'a, E: Platform + 'a>(
     text: &'a str,
 ) -> Option<OsStr<'a, E>>
     requires some { 0 < length text.now }
-    requires nowhere { StandsNowhere text.now (bytes string) }
+    requires nowhere { OccursNowhere text.now (bytes string) }
     ensures { IsSomeAnd result (λ rest. bytes rest ≡ bytes string.entry) }
 {
     uncut_from_the_end(string, text).rest()
@@ -110,7 +110,7 @@ pub fn pieces_without_match<'a, E: Platform + 'a>(
     text: &'a str,
 ) -> Split<'a, E, &'a str>
     requires { 0 < length text.now }
-    ensures { All (StandsNowhere text.now) result }
+    ensures { All (OccursNowhere text.now) result }
 {
     split(string, text)
 }
@@ -121,7 +121,7 @@ pub fn pieces_without_match_from_the_end<'a, E: Platform + 'a>(
     text: &'a str,
 ) -> RSplit<'a, E, &'a str>
     requires { 0 < length text.now }
-    ensures { All (StandsNowhere text.now) result }
+    ensures { All (OccursNowhere text.now) result }
 {
     rsplit(string, text)
 }

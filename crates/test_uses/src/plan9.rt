@@ -7,7 +7,7 @@ ghost use Rattle.wtf8_core.specs.Utf8.{IsIllFormedPart};
 ghost use Rattle.platform_str.specs.PlatformWords.{itself};
 ghost use Rattle.platform_str.specs.Strings.{bytes};
 ghost use Rattle.platform_str.specs.platforms.Unix.{IsNoFault, AreAboveAscii, IsSame, bytes_prop};
-ghost use Rattle.platform_str.specs.platforms.Unix.{unix_laws, unix_parts, unix_readings, unix_standing};
+ghost use Rattle.platform_str.specs.platforms.Unix.{unix_laws, unix_parts, unix_readings, unix_occurrence};
 
 use platform_str::{EncodingError, OsStr, Platform, Unix};
 use std::alloc::{AllocError, Allocator};
@@ -36,7 +36,7 @@ impl Platform for Plan9 {
 
     ghost part_units = { AreAboveAscii };
 
-    ghost standing = { unix_standing };
+    ghost occurrence = { unix_occurrence };
 
     ghost laws = { unix_laws };
 
@@ -60,12 +60,12 @@ impl Platform for Plan9 {
         Unix::first_unit(bytes)
     }
 
-    fn starts_with_os(string: &[u8], front: &[u8]) -> bool {
-        Unix::starts_with_os(string, front)
+    fn starts_with_os(string: &[u8], prefix: &[u8]) -> bool {
+        Unix::starts_with_os(string, prefix)
     }
 
-    fn ends_with_os(string: &[u8], end: &[u8]) -> bool {
-        Unix::ends_with_os(string, end)
+    fn ends_with_os(string: &[u8], suffix: &[u8]) -> bool {
+        Unix::ends_with_os(string, suffix)
     }
 
     fn push_bytes<A: Allocator>(string: &mut Vec<u8, A>, more: &[u8]) -> Result<(), AllocError> {

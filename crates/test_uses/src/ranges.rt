@@ -12,10 +12,10 @@ fn part<'a, E: Platform + 'a, I: SliceIndex + Drop>(
     range: I,
 ) -> Option<OsStr<'a, E>>
     ensures { MatchOption result
-        (¬ (FitsIn (bytes string.entry) (I.first_place range)
-        (I.end_place range (length (bytes string.entry)))))
-        (λ part. bytes part ≡ drop (I.first_place range)
-        (take (I.end_place range (length (bytes string.entry))) (bytes string.entry))) }
+        (¬ (FitsIn (bytes string.entry) (I.first_index range)
+        (I.end_index range (length (bytes string.entry)))))
+        (λ part. bytes part ≡ drop (I.first_index range)
+        (take (I.end_index range (length (bytes string.entry))) (bytes string.entry))) }
 {
     if range.fits(string) {
         return Some(string.index(range));

@@ -84,7 +84,7 @@ pub fn taken_off<E: Platform, A: Allocator + Clone>(
     ensures joined { IfOk result (λ end. IfSome end
         (λ end. (raw_vec_of string.new).items ++ (raw_vec_of end).items
         ≡ (raw_vec_of string.old).items)) }
-    ensures place { IfOk result (λ end. IfSome end
+    ensures index { IfOk result (λ end. IfSome end
         (λ _. (raw_vec_of string.new).items ≡ take at (raw_vec_of string.old).items)) }
     ensures unchanged { OnErr result ((raw_vec_of string.new).items
         ≡ (raw_vec_of string.old).items) }

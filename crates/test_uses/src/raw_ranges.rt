@@ -12,10 +12,10 @@ pub fn raw_part<'a, E: Platform + 'a, I: SliceIndex + Drop>(
     range: I,
 ) -> Option<RawOsStr<'a, E>>
     ensures { MatchOption result
-        (¬ (FitsIn (raw_bytes string.entry) (I.first_place range)
-        (I.end_place range (length (raw_bytes string.entry)))))
-        (λ part. raw_bytes part ≡ drop (I.first_place range)
-        (take (I.end_place range (length (raw_bytes string.entry))) (raw_bytes string.entry))) }
+        (¬ (FitsIn (raw_bytes string.entry) (I.first_index range)
+        (I.end_index range (length (raw_bytes string.entry)))))
+        (λ part. raw_bytes part ≡ drop (I.first_index range)
+        (take (I.end_index range (length (raw_bytes string.entry))) (raw_bytes string.entry))) }
 {
     if string.fits(&range) {
         return Some(string.index(range));

@@ -1,7 +1,7 @@
 //! Searches: a string may be cut at what they find, and after it.
 ghost use Rattle.std.specs.Prelude.{◌≡◌, ◌<◌, ◌∷◌, IfSome, length};
 ghost use Rattle.wtf8_core.specs.Pieces.{SplitsOnce};
-ghost use Rattle.wtf8_core.specs.Standing.{IsFirstPlace, IsLastPlace, StandsNowhere};
+ghost use Rattle.wtf8_core.specs.Occurrence.{IsFirstIndex, IsLastIndex, OccursNowhere};
 ghost use Rattle.platform_str.specs.Strings.{bytes};
 ghost use Rattle.os_str_bytes.specs.Raw.{raw_bytes};
 
@@ -9,26 +9,26 @@ use os_str_bytes::{OsStr, OsStrBytesExt, Platform, RawOsStr, search_laws};
 
 /// The parts before the first match of a pattern and after it, by two cuts.
 pub fn around_first<'a, S: OsStrBytesExt<'a> + Copy>(string: S, pattern: &str) -> Option<(S, S)>
-    ensures { SplitsOnce IsFirstPlace S.bytes_of pattern.now (S.bytes_of string) result }
+    ensures { SplitsOnce IsFirstIndex S.bytes_of pattern.now (S.bytes_of string) result }
 {
     let Some(at) = string.find(pattern) else {
         return None;
     };
-    let (front, _) = string.split_at(at);
-    let (_, back) = string.split_at(at + pattern.len());
-    Some((front, back))
+    let (prefix, _) = string.split_at(at);
+    let (_, suffix) = string.split_at(at + pattern.len());
+    Some((prefix, suffix))
 }
 
 /// The parts before the last match of a pattern and after it, by two cuts.
 pub fn around_last<'a, S: OsStrBytesExt<'a> + Copy>(string: S, pattern: &str) -> Option<(S, S)>
-    ensures { SplitsOnce IsLastPlace S.bytes_of pattern.now (S.bytes_of string) result }
+    ensures { SplitsOnce IsLastIndex S.bytes_of pattern.now (S.bytes_of string) result }
 {
     let Some(at) = string.rfind(pattern) else {
         return None;
     };
-    let (front, _) = string.split_at(at);
-    let (_, back) = string.split_at(at + pattern.len());
-    Some((front, back))
+    let (prefix, _) = string.split_at(at);
+    let (_, suffix) = string.split_at(at + pattern.len());
+    Some((prefix, suffix))
 }
 
 /// The parts of a raw string before the first match of a pattern and after it, by two cuts.
@@ -36,14 +36,14 @@ pub fn raw_around_first<'a, E: Platform + 'a>(
     string: RawOsStr<'a, E>,
     pattern: &str,
 ) -> Option<(RawOsStr<'a, E>, RawOsStr<'a, E>)>
-    ensures { SplitsOnce IsFirstPlace raw_bytes pattern.now (raw_bytes string.entry) result }
+    ensures { SplitsOnce IsFirstIndex raw_bytes pattern.now (raw_bytes string.entry) result }
 {
     let Some(at) = string.find(pattern) else {
         return None;
     };
-    let (front, _) = string.split_at(at);
-    let (_, back) = string.split_at(at + pattern.len());
-    Some((front, back))
+    let (prefix, _) = string.split_at(at);
+    let (_, suffix) = string.split_at(at + pattern.len());
+    Some((prefix, suffix))
 }
 
 /// The parts of a raw string before the last match of a pattern and after it, by two cuts.
@@ -51,14 +51,14 @@ pub fn raw_around_last<'a, E: Platform + 'a>(
     string: RawOsStr<'a, E>,
     pattern: &str,
 ) -> Option<(RawOsStr<'a, E>, RawOsStr<'a, E>)>
-    ensures { SplitsOnce IsLastPlace raw_bytes pattern.now (raw_bytes string.entry) result }
+    ensures { SplitsOnce IsLastIndex raw_bytes pattern.now (raw_bytes string.entry) result }
 {
     let Some(at) = string.rfind(pattern) else {
         return None;
     };
-    let (front, _) = string.split_at(at);
-    let (_, back) = string.split_at(at + pattern.len());
-    Some((front, back))
+    let (prefix, _) = string.split_at(at);
+    let (_, suffix) = string.split_at(at + pattern.len());
+    Some((prefix, suffix))
 }
 
 /// The part before the first match of a pattern, in which the pattern doesn't occur.
@@ -67,9 +67,9 @@ pub fn before_first<'a, E: Platform + 'a>(
     pattern: &str,
 ) -> Option<OsStr<'a, E>>
     requires { 0 < length pattern.now }
-    ensures { IfSome result (λ before. StandsNowhere pattern.now (bytes before)) }
+    ensures { IfSome result (λ before. OccursNowhere pattern.now (bytes before)) }
 {
-    search_laws::around_place();
+    search_laws::around_index();
     let (before, _) = string.split_once(pattern)?;
     Some(before)
 }

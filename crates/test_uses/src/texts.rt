@@ -4,7 +4,7 @@ ghost use Rattle.std.specs.Str.{IsUtf8, IsValidUpTo};
 ghost use Rattle.std.specs.Str.Lossy.{utf8_lossy};
 ghost use Rattle.wtf8_core.specs.Covered.{StartsWithNoCharacter};
 ghost use Rattle.wtf8_core.specs.Lossy.{replacement, IsLossyText, IsWtf8LossyText};
-ghost use Rattle.wtf8_core.specs.Standing.{StandsAt};
+ghost use Rattle.wtf8_core.specs.Occurrence.{OccursAt};
 ghost use Rattle.wtf8_core.specs.UnitsOf.{wtf8_lossy};
 ghost use Rattle.wtf8_core.specs.Wtf8.{IsWtf8};
 ghost use Rattle.platform_str.specs.Strings.{bytes};
@@ -77,7 +77,7 @@ pub fn io_lossy_is_safe<'a, E: Platform + 'a>(
 }
 
 /// The string after its first character.
-pub fn behind_first<'a, E: Platform + 'a>(string: OsStr<'a, E>) -> Option<OsStr<'a, E>>
+pub fn after_first<'a, E: Platform + 'a>(string: OsStr<'a, E>) -> Option<OsStr<'a, E>>
     ensures { IfSome result (λ rest. length (bytes rest) < length (bytes string.entry)) }
 {
     wtf8_core::laws::characters();
@@ -91,7 +91,7 @@ pub fn behind_first<'a, E: Platform + 'a>(string: OsStr<'a, E>) -> Option<OsStr<
 /// How many bytes U+FFFD replaces at the start of a string's lossy text.
 pub fn replaced<'a, E: Platform + 'a>(string: OsStr<'a, E>) -> usize
     requires some { 0 < length (bytes string) }
-    requires bare { StartsWithNoCharacter (bytes string) }
+    requires uncovered { StartsWithNoCharacter (bytes string) }
     ensures { E.lossy (bytes string.entry)
         ≡ replacement ++ E.lossy (drop result (bytes string.entry)) }
 {
@@ -105,7 +105,7 @@ pub fn replaced_by_as_many<'a, E: Platform + 'a>(
     not_safe: OsStr<'a, E>,
 ) -> usize
     requires some { 0 < length (bytes string) }
-    requires bare { StartsWithNoCharacter (bytes string) }
+    requires uncovered { StartsWithNoCharacter (bytes string) }
     requires not_safe { ¬ (E.io_safe (bytes not_safe)) }
     ensures { result ≡ length replacement }
 {
@@ -115,7 +115,7 @@ pub fn replaced_by_as_many<'a, E: Platform + 'a>(
 }
 
 /// The lossy text of a string that begins with a text.
-pub fn lossy_behind<'a, E: Platform + 'a>(
+pub fn lossy_after<'a, E: Platform + 'a>(
     alloc: Global,
     string: OsStr<'a, E>,
     len: usize,
@@ -178,7 +178,7 @@ pub fn wtf8_lossy_is_text(raw: &[u8])
 /// A text that occurs in a string, cut out of it.
 pub fn cut_out<'a, E: Platform + 'a>(string: OsStr<'a, E>, text: &str, at: usize) -> OsStr<'a, E>
     requires some { 0 < length text.now }
-    requires stands { StandsAt text.now (bytes string) at }
+    requires occurs { OccursAt text.now (bytes string) at }
     ensures { bytes result ≡ text.now }
 {
     wtf8_core::laws::boundaries();

@@ -14,7 +14,7 @@ pub fn same_string<'a, E: Platform + 'a>(a: OsStr<'a, E>, b: OsStr<'a, E>) -> bo
     ensures { IsTrue result ↔ (E.units (bytes a.entry) ≡ E.units (bytes b.entry)) }
 {
     laws::comparisons(&a, &b);
-    laws::spelling::<E>();
+    laws::encoding::<E>();
     a == b
 }
 
@@ -71,7 +71,7 @@ pub fn through_units(
 ) -> Result<OsString<Windows>, AllocError>
     ensures { IfOk result (λ again. (string_vec_of again).items ≡ bytes string.entry) }
 {
-    laws::spelling::<Windows>();
+    laws::encoding::<Windows>();
     let units: Vec<u16> = string.encode_wide().collect(alloc)?;
     OsString::from_wide(alloc, &units)
 }
@@ -99,7 +99,7 @@ pub fn equal_by_units<'a>(a: OsStr<'a, Windows>, b: OsStr<'a, Windows>, units: &
     requires second { HasUnits (bytes b) units.now }
     ensures { IsTrue result }
 {
-    wtf8_core::laws::spelling();
+    wtf8_core::laws::encoding();
     laws::comparisons(&a, &b);
     a == b
 }
@@ -108,14 +108,14 @@ pub fn equal_by_units<'a>(a: OsStr<'a, Windows>, b: OsStr<'a, Windows>, units: &
 pub fn listed<'a, E: Platform + 'a>(string: OsStr<'a, E>) -> OsStr<'a, E>
     ensures { E.is_unit_list (E.units (bytes result)) }
 {
-    laws::spelling::<E>();
+    laws::encoding::<E>();
     string
 }
 
 /// Units of the platform's list, of which there is a string.
-pub fn spelled<E: Platform>(units: &[u16])
+pub fn encoded<E: Platform>(units: &[u16])
     requires { E.is_unit_list units.now }
     ensures { (b : List ℕ) × (E.well_formed b × (E.units b ≡ units.now)) }
 {
-    laws::spelling::<E>();
+    laws::encoding::<E>();
 }

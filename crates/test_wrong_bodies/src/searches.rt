@@ -1,8 +1,8 @@
 //! Searches.
 ghost use Rattle.std.specs.Prelude.{◌↔◌, IsTrue};
 ghost use Rattle.wtf8_core.specs.Pieces.{SplitsOnce};
-ghost use Rattle.wtf8_core.specs.Standing.{Finds, IsLastPlace, IsFirstPlace, IsPrefix};
-ghost use Rattle.wtf8_core.specs.UnitPlace.{FindsInUnits};
+ghost use Rattle.wtf8_core.specs.Occurrence.{Finds, IsLastIndex, IsFirstIndex, IsPrefix};
+ghost use Rattle.wtf8_core.specs.UnitIndex.{FindsInUnits};
 ghost use Rattle.platform_str.specs.Strings.{bytes};
 
 use os_str_ext::OsStrBytesExt;
@@ -10,8 +10,8 @@ use platform_str::{OsStr, Platform};
 
 /// The first index of a text.
 pub fn find<'a, E: Platform + 'a>(string: OsStr<'a, E>, text: &str) -> Option<usize>
-    ensures bytes { Finds IsFirstPlace text.now (bytes string.entry) result }
-    ensures units { FindsInUnits IsFirstPlace E.well_formed E.units text.now (bytes string.entry)
+    ensures bytes { Finds IsFirstIndex text.now (bytes string.entry) result }
+    ensures units { FindsInUnits IsFirstIndex E.well_formed E.units text.now (bytes string.entry)
         result }
 {
     string.find(text)
@@ -22,15 +22,15 @@ pub fn rsplit_once<'a, E: Platform + 'a>(
     string: OsStr<'a, E>,
     text: &str,
 ) -> Option<(OsStr<'a, E>, OsStr<'a, E>)>
-    ensures { SplitsOnce IsLastPlace bytes text.now (bytes string.entry) result }
+    ensures { SplitsOnce IsLastIndex bytes text.now (bytes string.entry) result }
 {
     string.rsplit_once(text)
 }
 
 /// Whether the units of one string are a prefix of another's.
-pub fn starts_with_os<'a, E: Platform + 'a>(string: OsStr<'a, E>, front: OsStr<'a, E>) -> bool
+pub fn starts_with_os<'a, E: Platform + 'a>(string: OsStr<'a, E>, prefix: OsStr<'a, E>) -> bool
     ensures { IsTrue result
-        ↔ IsPrefix (E.units (bytes front.entry)) (E.units (bytes string.entry)) }
+        ↔ IsPrefix (E.units (bytes prefix.entry)) (E.units (bytes string.entry)) }
 {
-    string.starts_with_os(front)
+    string.starts_with_os(prefix)
 }

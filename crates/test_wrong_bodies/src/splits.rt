@@ -2,7 +2,7 @@
 ghost use Rattle.std.specs.Prelude.{◌≡◌, ◌+◌, ◌∷◌, ◌<◌, ℕ, List, IfSome, MatchOption, Some, drop, length};
 ghost use Rattle.std.specs.Option.{option_map};
 ghost use Rattle.wtf8_core.specs.Pieces.{IsSplit};
-ghost use Rattle.wtf8_core.specs.Standing.{IsLastPlace};
+ghost use Rattle.wtf8_core.specs.Occurrence.{IsLastIndex};
 ghost use Rattle.platform_str.specs.Strings.{bytes};
 
 use os_str_ext::{OsStrBytesExt, Split};
@@ -35,10 +35,10 @@ pub fn two_pieces<'a, E: Platform + 'a>(
 }
 
 /// The first piece from the end, which is after the last match of the pattern.
-#[tactic(auto, using(crate::proofs::LastPiece::behind_greatest))]
+#[tactic(auto, using(crate::proofs::LastPiece::after_last))]
 pub fn last_piece<'a, E: Platform + 'a>(string: OsStr<'a, E>, text: &'a str) -> Option<OsStr<'a, E>>
     requires { 0 < length text.now }
-    ensures { (at : ℕ) → IsLastPlace text.now (bytes string.entry) at
+    ensures { (at : ℕ) → IsLastIndex text.now (bytes string.entry) at
         → IfSome result (λ piece. bytes piece ≡ drop (at + length text.now) (bytes string.entry)) }
 {
     let mut pieces = string.rsplit(text);

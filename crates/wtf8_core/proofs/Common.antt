@@ -23,34 +23,34 @@ pub use mathlib.Core.Bool.{Bool-set, beq}
 pub use Rattle.wtf8_core.specs.Boundary.{IsBoundary}
 pub use Rattle.wtf8_core.specs.Byte.{IsByte, IsContinuation, is_continuation, needed_continuations, lead_bits}
 pub use Rattle.wtf8_core.specs.Character.{WholeCharacter, IsCharacterAt}
-pub use Rattle.wtf8_core.specs.Checker.{Stands, IsFaulty, Gives, Row, needed, rows, SomeRow, IsOpen, kept_bits, joined_bits, fault_at, is_between, is_plain, OnlyEnds, HasFirstFault, Progress, progress, StandsFor}
+pub use Rattle.wtf8_core.specs.Checker.{IsInState, IsFaulty, Gives, Row, needed, rows, SomeRow, IsOpen, kept_bits, joined_bits, fault_at, is_between, is_plain, OnlyEnds, HasFirstFault, Progress, progress, Describes}
 pub use Rattle.wtf8_core.specs.Chunks.{Chunk, joined, AreChunks}
 pub use Rattle.wtf8_core.specs.CodePoint.{IsCodePoint}
 unfoldable pub use Rattle.wtf8_core.specs.CodePoint.{encode, encode_utf16}
 pub use Rattle.wtf8_core.specs.Covered.{IsCovered, CrossesNoCharacter, StartsWithNoCharacter, HasNoCharacter}
 pub use Rattle.wtf8_core.specs.Decoder.{decoder_bytes}
 unfoldable pub use Rattle.wtf8_core.specs.Decoder.{code_points_of}
-pub use Rattle.wtf8_core.specs.Fault.{IsFirstFault, BeginsFault, IsFaultAt, IsWholeSequence, shape_value, IsIncomplete, IsBadSequence, IsRefused, IsSequenceStart}
+pub use Rattle.wtf8_core.specs.Fault.{IsFirstFault, BeginsFault, IsFaultAt, IsWholeSequence, sequence_value, IsIncomplete, IsBadSequence, IsRefused, IsSequenceStart}
 pub use Rattle.wtf8_core.specs.FaultText.{upper_hex_digit, not_representable, fault_text}
 unfoldable pub use Rattle.wtf8_core.specs.FaultText.{upper_hex}
 pub use Rattle.wtf8_core.specs.Items.{AreItems, AreUnitItems, unit_items}
 pub use Rattle.wtf8_core.specs.Lossy.{replacement, IsWtf8LossyText, without_surrogate, IsLossyText}
-pub use Rattle.wtf8_core.specs.Neighbours.{AllMayStand, Steps, IsBetweenCodePoints, MayStand, MayFollow}
+pub use Rattle.wtf8_core.specs.Neighbours.{EachMayFollow, Steps, IsBetweenCodePoints, MayFollowAll, MayFollow}
 pub use Rattle.wtf8_core.specs.Reader.{is_high_item, IsFirstItem, least_value, items_after, then_items, first_split, items_from}
-unfoldable pub use Rattle.wtf8_core.specs.Reader.{first_item, behind_item, items_behind, with_continuations, checked_value, and_then_checked, continuations, split_within}
-pub use Rattle.wtf8_core.specs.EncodedPrefix.{IsEncodedPrefix, IsReadUpTo, behind_zeros, KeepsPattern}
-pub use Rattle.wtf8_core.specs.Standing.{StandsAt, IsPrefix, IsSuffix, StandsNowhere, IsFirstPlace, IsLastPlace, Finds}
-pub use Rattle.wtf8_core.specs.StandingLaws.{StandingLaws, IsCutAround}
+unfoldable pub use Rattle.wtf8_core.specs.Reader.{first_item, after_item, items_skipping, with_continuations, checked_value, and_then_checked, continuations, split_within}
+pub use Rattle.wtf8_core.specs.EncodedPrefix.{IsEncodedPrefix, IsReadUpTo, with_zeros_before, KeepsPattern}
+pub use Rattle.wtf8_core.specs.Occurrence.{OccursAt, IsPrefix, IsSuffix, OccursNowhere, IsFirstIndex, IsLastIndex, Finds}
+pub use Rattle.wtf8_core.specs.OccurrenceLaws.{OccurrenceLaws, IsCutAround}
 pub use Rattle.wtf8_core.specs.Surrogate.{is_high, IsSurrogate, is_surrogate, IsHigh, IsLow, high_unit, low_unit, paired, is_pair}
 pub use Rattle.wtf8_core.specs.Table.{state_index}
 unfoldable pub use Rattle.wtf8_core.specs.Table.{class_at, next_at}
-pub use Rattle.wtf8_core.specs.UnitPlace.{IsBytePlace, IsUnitPlaceOf, FindsInUnits}
+pub use Rattle.wtf8_core.specs.UnitIndex.{IsByteIndex, IsUnitIndexOf, FindsInUnits}
 pub use Rattle.wtf8_core.specs.UnitsOf.{units_of, ok_values, wtf8_lossy}
 unfoldable pub use Rattle.wtf8_core.specs.UnitsOf.{code_points_in}
-pub use Rattle.wtf8_core.specs.Utf8.{IsUtf8Fault, IsFrontOfCharacter, IsProperFront, IsIllFormed, part_end, IsIllFormedPart, IsAtFront}
+pub use Rattle.wtf8_core.specs.Utf8.{IsUtf8Fault, IsPrefixOfCharacter, IsProperPrefix, IsIllFormed, part_end, IsIllFormedPart, BeginsWith}
 pub use Rattle.wtf8_core.specs.Wtf8.{HasNoSurrogatePair, MayPrecede, Encodes, IsWtf8, last_or, units, HasUnits}
 pub use Rattle.wtf8_core.specs.declared.fault.EncodingError.{EncodingError}
 pub use Rattle.wtf8_core.specs.declared.fault.EncodingError.TheVariants.{Utf8, Byte, CodePoint, End}
 pub use Rattle.wtf8_core.specs.declared.table.Class.{Class}
 pub use Rattle.wtf8_core.specs.declared.table.State.{State}
-pub use Rattle.wtf8_core.specs.declared.table.State.TheVariants.{Between, BehindHigh, BadFourth, Refused, BadThird}
+pub use Rattle.wtf8_core.specs.declared.table.State.TheVariants.{Between, AfterHigh, BadFourth, Refused, BadThird}

@@ -4,7 +4,7 @@ pub mod chunks
 pub mod forms
 pub mod reader
 pub mod scan
-pub mod standing
+pub mod occurrence
 pub mod table
 pub mod texts
 pub mod units

@@ -2,13 +2,13 @@
 use Rattle.std.specs.Prelude.{◌≡◌, ℕ, ◌+◌, List, length, Option, MatchOption}
 use Rattle.std.specs.Char.{IsScalar}
 use Rattle.wtf8_core.specs.CodePoint.{encode}
-use Rattle.wtf8_core.specs.Standing.{StandsAt}
+use Rattle.wtf8_core.specs.Occurrence.{OccursAt}
 
 -- the bytes of s from index i up to index j are a whole character: the form of a scalar value (a code point that is no surrogate)
 pub record WholeCharacter (s : List ℕ) (i j : ℕ) : Type 0 where
   pub char : ℕ
   pub scalar : IsScalar char
-  pub stands : StandsAt (encode char) s i
+  pub occurs : OccursAt (encode char) s i
   pub end : j ≡ i + length (encode char)
 
 -- r is the length of the whole character that starts in s at i, None if none starts there

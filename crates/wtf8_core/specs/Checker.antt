@@ -9,7 +9,7 @@ use Rattle.wtf8_core.specs.declared.checker.SavedChecker.{SavedChecker}
 use Rattle.wtf8_core.specs.declared.fault.EncodingError.{EncodingError}
 use Rattle.wtf8_core.specs.declared.fault.EncodingError.TheVariants.{Byte, CodePoint, End}
 use Rattle.wtf8_core.specs.declared.table.State.{State}
-use Rattle.wtf8_core.specs.declared.table.State.TheVariants.{Between, BehindHigh, OneMore, TwoMore, BehindE0, BehindEd, HighThenEd, LastOfHigh, BehindF0, BehindF1, BehindF4, BehindF5, BadLastTwo, BadFourth, Refused, BadThird}
+use Rattle.wtf8_core.specs.declared.table.State.TheVariants.{Between, AfterHigh, OneMore, TwoMore, AfterE0, AfterEd, HighThenEd, LastOfHigh, AfterF0, AfterF1, AfterF4, AfterF5, BadLastTwo, BadFourth, Refused, BadThird}
 
 -- the bytes have this first fault
 abbrev pub HasFirstFault : List ℕ → EncodingError → Type 0
@@ -27,7 +27,7 @@ OnlyEnds bytes = (fault : EncodingError) → HasFirstFault bytes fault → fault
 -- whether no sequence is open
 abbrev pub is_between : State → Bool
 is_between Between = true
-is_between BehindHigh = true
+is_between AfterHigh = true
 is_between s = false
 
 -- whether no sequence is open and no high surrogate comes directly before
@@ -57,17 +57,17 @@ both read later least most rs = row false read later least most ∷ row true rea
 -- the open sequences that each state means
 abbrev pub rows : State → List Row
 rows Between = []
-rows BehindHigh = []
+rows AfterHigh = []
 rows OneMore = both 0 0 2 0x1F (both 1 0 0x20 0x35F (row false 1 0 0x370 0x3FF ∷ row true 1 0 0x380 0x3FF ∷ both 2 0 0x400 0x43FF []))
 rows TwoMore = both 0 1 1 0xC (both 0 1 0xE 0xF (both 1 1 0x10 0x10F []))
-rows BehindE0 = both 0 1 0 0 []
-rows BehindEd = row false 0 1 0xD 0xD ∷ []
+rows AfterE0 = both 0 1 0 0 []
+rows AfterEd = row false 0 1 0xD 0xD ∷ []
 rows HighThenEd = row true 0 1 0xD 0xD ∷ []
 rows LastOfHigh = both 1 0 0x360 0x36F []
-rows BehindF0 = both 0 2 0 0 []
-rows BehindF1 = both 0 2 1 3 []
-rows BehindF4 = both 0 2 4 4 []
-rows BehindF5 = both 0 2 5 0xF []
+rows AfterF0 = both 0 2 0 0 []
+rows AfterF1 = both 0 2 1 3 []
+rows AfterF4 = both 0 2 4 4 []
+rows AfterF5 = both 0 2 5 0xF []
 rows BadLastTwo = both 1 1 0 0xF (both 1 1 0x110 0x3FF [])
 rows BadFourth = both 2 0 0 0x3FF (both 2 0 0x4400 0xFFFF [])
 rows Refused = []
@@ -90,10 +90,10 @@ abbrev pub joined_bits : ℕ → ℕ → ℕ
 joined_bits bits byte = bits % 0x400_0000 * 0x40 + byte % 0x40
 
 -- whatever comes after the bytes, the reader gives code points for them, and then these items for what comes
-pub record Gives (bytes : List ℕ) (behind : List ℕ → List (Result ℕ EncodingError)) : Type 0 where
+pub record Gives (bytes : List ℕ) (after : List ℕ → List (Result ℕ EncodingError)) : Type 0 where
   pub are_bytes : All IsByte bytes
   pub code_points : List ℕ
-  pub items : (more : List ℕ) → items_after false (bytes ++ more) ≡ map Ok code_points ++ behind more
+  pub items : (more : List ℕ) → items_after false (bytes ++ more) ≡ map Ok code_points ++ after more
 
 -- the bytes end within a sequence of this row, of which the reader has this value so far
 pub record IsOpen (bits : ℕ) (bytes : List ℕ) (r : Row) : Type 0 where
@@ -104,10 +104,10 @@ pub record IsOpen (bits : ℕ) (bytes : List ℕ) (r : Row) : Type 0 where
   pub bits_are : 2 ≤ needed r → kept_bits r.read bits ≡ value
 
 -- after the bytes the reader is where this state says, with these bits
-abbrev pub Stands : State → ℕ → List ℕ → Type 0
-Stands Between bits bytes = Gives bytes (items_after false)
-Stands BehindHigh bits bytes = Gives bytes (items_after true)
-Stands s bits bytes = SomeRow (IsOpen bits bytes) (rows s)
+abbrev pub IsInState : State → ℕ → List ℕ → Type 0
+IsInState Between bits bytes = Gives bytes (items_after false)
+IsInState AfterHigh bits bytes = Gives bytes (items_after true)
+IsInState s bits bytes = SomeRow (IsOpen bits bytes) (rows s)
 
 -- the fault of a continuation that is refused in this state
 abbrev pub value_fault : State → ℕ → ℕ → EncodingError
@@ -129,9 +129,9 @@ progress state bits None = Reading state bits
 progress state bits (Some fault) = Faulted fault
 
 -- the checker's fields describe these bytes, which are all that were fed
-abbrev pub StandsFor : Progress → List ℕ → Type 0
-StandsFor (Reading state bits) bytes = Stands state bits bytes
-StandsFor (Faulted fault) bytes = IsFaulty bytes fault
+abbrev pub Describes : Progress → List ℕ → Type 0
+Describes (Reading state bits) bytes = IsInState state bits bytes
+Describes (Faulted fault) bytes = IsFaulty bytes fault
 
 -- the fields of the checker that was saved as these numbers
 abbrev pub saved_progress : SavedChecker → Progress

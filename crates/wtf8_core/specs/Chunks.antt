@@ -9,17 +9,17 @@ Chunk = List ℕ × List ℕ
 -- the bytes of the chunks, one after the other
 abbrev pub joined : List Chunk → List ℕ
 joined [] = []
-joined (c ∷ behind) = c.0 ++ (c.1 ++ joined behind)
+joined (c ∷ after) = c.0 ++ (c.1 ++ joined after)
 
 -- c is the chunk of s from index i on, between these other chunks
-pub record IsChunkBetween (s : List ℕ) (i : ℕ) (before : List Chunk) (c : Chunk) (behind : List Chunk) : Type 0 where
+pub record IsChunkBetween (s : List ℕ) (i : ℕ) (before : List Chunk) (c : Chunk) (after : List Chunk) : Type 0 where
   pub some : 0 < length (c.0 ++ c.1)
-  pub bare : (k : ℕ) → i ≤ k → k < i + length c.0 → ¬ (IsCovered s k)
+  pub uncovered : (k : ℕ) → i ≤ k → k < i + length c.0 → ¬ (IsCovered s k)
   pub covered : (k : ℕ) → i + length c.0 ≤ k → k < i + length (c.0 ++ c.1) → IsCovered s k
   pub part_first : c.0 ≡ [] → before ≡ []
-  pub text_last : c.1 ≡ [] → behind ≡ []
+  pub text_last : c.1 ≡ [] → after ≡ []
 
 -- the chunks of s: joined they are s, and each is a part in which no byte is in a whole character and a text; only the first may have no part, only the last no text
 pub record AreChunks (s : List ℕ) (cs : List Chunk) : Type 0 where
   pub joins : joined cs ≡ s
-  pub each : (before behind : List Chunk) (c : Chunk) → cs ≡ before ++ c ∷ behind → IsChunkBetween s (length (joined before)) before c behind
+  pub each : (before after : List Chunk) (c : Chunk) → cs ≡ before ++ c ∷ after → IsChunkBetween s (length (joined before)) before c after

@@ -10,18 +10,18 @@ use Rattle.wtf8_core.specs.declared.fault.EncodingError.{EncodingError}
 use Rattle.wtf8_core.specs.declared.fault.EncodingError.TheVariants.{Byte, CodePoint, End, Utf8}
 
 -- a lead and continuations after it
-pub record IsSequenceStart (lead : ℕ) (behind : List ℕ) : Type 0 where
+pub record IsSequenceStart (lead : ℕ) (after : List ℕ) : Type 0 where
   pub lead_is : IsLead lead
-  pub continued : AllByRecursion IsContinuation behind
+  pub continued : AllByRecursion IsContinuation after
 
 -- a lead and exactly as many continuations after it as it needs
-pub record IsWholeSequence (lead : ℕ) (behind : List ℕ) : Type 0 where
-  pub begun : IsSequenceStart lead behind
-  pub whole : length behind ≡ needed_continuations lead
+pub record IsWholeSequence (lead : ℕ) (after : List ℕ) : Type 0 where
+  pub begun : IsSequenceStart lead after
+  pub whole : length after ≡ needed_continuations lead
 
 -- the low bits of the lead, and then six bits of each continuation
-abbrev pub shape_value : ℕ → List ℕ → ℕ
-shape_value lead behind = fold (λ value x. value * 0x40 + x % 0x40) (lead_bits lead) behind
+abbrev pub sequence_value : ℕ → List ℕ → ℕ
+sequence_value lead after = fold (λ value x. value * 0x40 + x % 0x40) (lead_bits lead) after
 
 -- a byte that begins nothing
 pub record IsStray (refused : List ℕ) (x : ℕ) : Type 0 where
@@ -31,10 +31,10 @@ pub record IsStray (refused : List ℕ) (x : ℕ) : Type 0 where
 -- a lead with fewer continuations than it needs
 pub record IsIncomplete (refused : List ℕ) : Type 0 where
   pub lead : ℕ
-  pub behind : List ℕ
-  pub is : refused ≡ lead ∷ behind
-  pub begun : IsSequenceStart lead behind
-  pub short : length behind < needed_continuations lead
+  pub after : List ℕ
+  pub is : refused ≡ lead ∷ after
+  pub begun : IsSequenceStart lead after
+  pub short : length after < needed_continuations lead
 
 -- a lead with fewer continuations than it needs, and then a byte that is no continuation
 pub record IsInterrupted (refused rest : List ℕ) (x : ℕ) : Type 0 where
@@ -46,10 +46,10 @@ pub record IsInterrupted (refused rest : List ℕ) (x : ℕ) : Type 0 where
 -- a whole sequence with this value that encodes no code point, or encodes a low surrogate after a high one
 pub record IsBadSequence (last : ℕ) (refused : List ℕ) (value : ℕ) : Type 0 where
   pub lead : ℕ
-  pub behind : List ℕ
-  pub is : refused ≡ lead ∷ behind
-  pub shape : IsWholeSequence lead behind
-  pub value_is : shape_value lead behind ≡ value
+  pub after : List ℕ
+  pub is : refused ≡ lead ∷ after
+  pub shape : IsWholeSequence lead after
+  pub value_is : sequence_value lead after ≡ value
   pub bad : ((c : ℕ) → IsCodePoint c → encode c ≢ refused) ⊎ ((encode value ≡ refused) × IsLow value × IsHigh last)
 
 -- these bytes, before this rest and after the code point `last`, are refused with this fault
@@ -66,12 +66,12 @@ pub record BeginsFault (last : ℕ) (bytes : List ℕ) (fault : EncodingError) :
   pub is : bytes ≡ refused ++ rest
   pub refusal : IsRefused last refused rest fault
 
--- the bytes spell these code points up to their first fault; if there are none, 0, which is no high surrogate, counts as the last of them
+-- the bytes encode these code points up to their first fault; if there are none, 0, which is no high surrogate, counts as the last of them
 pub record IsFirstFault (bytes cs : List ℕ) (fault : EncodingError) : Type 0 where
   pub before : List ℕ
   pub from : List ℕ
   pub joined : bytes ≡ before ++ from
-  pub spelled : Encodes before cs
+  pub encoded : Encodes before cs
   pub begins : BeginsFault (last_or 0 cs) from fault
 
 -- the first fault begins at index `valid_up_to`, and `refused_len` bytes are refused with it

@@ -9,12 +9,12 @@ IsJoin well_formed units a b w = well_formed w × (units w ≡ units a ++ units 
 
 -- a ends with a high surrogate, b begins with a low one, and c is the code point of this pair (RFC 2781, section 2.2)
 pub record IsPairBetween (a b : List ℕ) (c : ℕ) : Type 0 where
-  pub front : List ℕ
+  pub prefix : List ℕ
   pub high : ℕ
   pub low : ℕ
   pub rest : List ℕ
   pub is_high : IsHigh high
   pub is_low : IsLow low
-  pub ends : a ≡ front ++ encode high
+  pub ends : a ≡ prefix ++ encode high
   pub begins : b ≡ encode low ++ rest
   pub pair : c ≡ paired high low

@@ -8,10 +8,10 @@ pub mod FaultText
 pub mod Reader
 pub mod Encoder
 pub mod Decoder
-pub mod Standing
-pub mod StandingLaws
+pub mod Occurrence
+pub mod OccurrenceLaws
 pub mod Join
-pub mod UnitPlace
+pub mod UnitIndex
 pub mod Character
 pub mod Covered
 pub mod Chunks

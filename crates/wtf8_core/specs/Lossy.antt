@@ -23,5 +23,5 @@ without_surrogate c = if is_surrogate c then 0xFFFD else c
 -- the lossy text of WTF-8 bytes: one U+FFFD replaces each surrogate
 pub record IsWtf8LossyText (bytes lossy : List ℕ) : Type 0 where
   pub code_points : List ℕ
-  pub spelled : Encodes bytes code_points
+  pub encoded : Encodes bytes code_points
   pub are : lossy ≡ flat_map encode (map without_surrogate code_points)

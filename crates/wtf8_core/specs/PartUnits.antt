@@ -12,4 +12,4 @@ unit_bytes u = if nat_lt u 0x100 then u ∷ [] else encode u
 -- surrogates, with no high one directly before a low one
 pub record AreLoneSurrogates (us : List ℕ) : Type 0 where
   pub surrogates : All IsSurrogate us
-  pub paired_free : HasNoSurrogatePair us
+  pub no_pair : HasNoSurrogatePair us

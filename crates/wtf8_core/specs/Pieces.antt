@@ -1,30 +1,30 @@
 -- Pieces, strips and trims of lists, of bytes as well as of units (std's `str` has the calls).
 use Rattle.std.specs.Prelude.{◌≡◌, ℕ, ◌+◌, ◌<◌, List, [], ◌∷◌, ◌++◌, length, map, Option, IfSome, MatchOption}
 use Rattle.std.specs.List.{repeat}
-use Rattle.wtf8_core.specs.Standing.{StandsAt, StandsNowhere, IsFirstPlace, IsLastPlace, IsPrefix, IsSuffix}
+use Rattle.wtf8_core.specs.Occurrence.{OccursAt, OccursNowhere, IsFirstIndex, IsLastIndex, IsPrefix, IsSuffix}
 use Rattle.wtf8_core.specs.Boundary.{IsBoundary}
 
 -- p occurs somewhere in s
-abbrev pub StandsSomewhere : List ℕ → List ℕ → Type 0
-StandsSomewhere p s = (i : ℕ) × StandsAt p s i
+abbrev pub OccursSomewhere : List ℕ → List ℕ → Type 0
+OccursSomewhere p s = (i : ℕ) × OccursAt p s i
 
--- front and back are the parts of s before and after the occurrence of p that Is names
-pub record SplitsAt (Is : List ℕ → List ℕ → ℕ → Type 0) (p s front back : List ℕ) : Type 0 where
-  pub joined : s ≡ front ++ (p ++ back)
-  pub found : Is p s (length front)
+-- prefix and suffix are the parts of s before and after the occurrence of p that Is names
+pub record SplitsAt (Is : List ℕ → List ℕ → ℕ → Type 0) (p s prefix suffix : List ℕ) : Type 0 where
+  pub joined : s ≡ prefix ++ (p ++ suffix)
+  pub found : Is p s (length prefix)
 
--- s falls into pieces: each cut takes one piece off and leaves a rest, until the rest can't be cut
-pub data FallsInto (Cuts : List ℕ → List ℕ → List ℕ → Type 0) (Whole : List ℕ → Type 0) : List ℕ → List (List ℕ) → Type 0 where
-  whole : {s : List ℕ} → Whole s → FallsInto Cuts Whole s (s ∷ [])
-  cut : {s piece rest : List ℕ} {pieces : List (List ℕ)} → Cuts s piece rest → FallsInto Cuts Whole rest pieces → FallsInto Cuts Whole s (piece ∷ pieces)
+-- s splits into pieces: each cut takes one piece off and leaves a rest, until the rest can't be cut
+pub data SplitsInto (Cuts : List ℕ → List ℕ → List ℕ → Type 0) (Whole : List ℕ → Type 0) : List ℕ → List (List ℕ) → Type 0 where
+  whole : {s : List ℕ} → Whole s → SplitsInto Cuts Whole s (s ∷ [])
+  cut : {s piece rest : List ℕ} {pieces : List (List ℕ)} → Cuts s piece rest → SplitsInto Cuts Whole rest pieces → SplitsInto Cuts Whole s (piece ∷ pieces)
 
 -- the pieces of s between the occurrences of p, each cut at the first one in what is left
 abbrev pub IsSplit : List ℕ → List ℕ → List (List ℕ) → Type 0
-IsSplit p = FallsInto (λ s piece rest. SplitsAt IsFirstPlace p s piece rest) (StandsNowhere p)
+IsSplit p = SplitsInto (λ s piece rest. SplitsAt IsFirstIndex p s piece rest) (OccursNowhere p)
 
 -- the same from the end, each cut at the last occurrence in what is left
 abbrev pub IsRSplit : List ℕ → List ℕ → List (List ℕ) → Type 0
-IsRSplit p = FallsInto (λ s piece rest. SplitsAt IsLastPlace p s rest piece) (StandsNowhere p)
+IsRSplit p = SplitsInto (λ s piece rest. SplitsAt IsLastIndex p s rest piece) (OccursNowhere p)
 
 -- r is s without each p at its start, if p isn't empty
 pub record IsStartTrim (p s r : List ℕ) : Type 0 where
@@ -58,13 +58,13 @@ abbrev pub MayBeCutAround : List ℕ → ℕ → Option ℕ → Type 0
 MayBeCutAround s n r = IfSome r (λ i. IsBoundary s i × IsBoundary s (i + n))
 
 -- r is what follows the prefix p of s, None if p is no prefix of s; `of` maps the result to its list of bytes or units
-abbrev pub StripsFront : {T : Type 0} → (T → List ℕ) → List ℕ → List ℕ → Option T → Type 0
-StripsFront of p s r = MatchOption r (¬ (IsPrefix p s)) (λ rest. s ≡ p ++ of rest)
+abbrev pub StripsPrefix : {T : Type 0} → (T → List ℕ) → List ℕ → List ℕ → Option T → Type 0
+StripsPrefix of p s r = MatchOption r (¬ (IsPrefix p s)) (λ rest. s ≡ p ++ of rest)
 
 -- r is what comes before the suffix p of s, None if p is no suffix of s
-abbrev pub StripsEnd : {T : Type 0} → (T → List ℕ) → List ℕ → List ℕ → Option T → Type 0
-StripsEnd of p s r = MatchOption r (¬ (IsSuffix p s)) (λ rest. s ≡ of rest ++ p)
+abbrev pub StripsSuffix : {T : Type 0} → (T → List ℕ) → List ℕ → List ℕ → Option T → Type 0
+StripsSuffix of p s r = MatchOption r (¬ (IsSuffix p s)) (λ rest. s ≡ of rest ++ p)
 
 -- r is both parts of s around the occurrence of p that Is names, None if p doesn't occur
 abbrev pub SplitsOnce : {T : Type 0} → (List ℕ → List ℕ → ℕ → Type 0) → (T → List ℕ) → List ℕ → List ℕ → Option (T × T) → Type 0
-SplitsOnce Is of p s r = MatchOption r (StandsNowhere p s) (λ parts. SplitsAt Is p s (of parts.0) (of parts.1))
+SplitsOnce Is of p s r = MatchOption r (OccursNowhere p s) (λ parts. SplitsAt Is p s (of parts.0) (of parts.1))

@@ -34,8 +34,8 @@ continuations (suc n) [] = 0
 continuations (suc n) (x ∷ bytes) = if is_continuation x then suc (continuations n bytes) else 0
 
 -- how many bytes after the first byte b belong to its item
-unfoldable pub behind_item : ℕ → List ℕ → ℕ
-behind_item b bytes = if nat_lt b 0xC2 then 0 else continuations (needed_continuations b) bytes
+unfoldable pub after_item : ℕ → List ℕ → ℕ
+after_item b bytes = if nat_lt b 0xC2 then 0 else continuations (needed_continuations b) bytes
 
 -- the code point or the fault with which the bytes begin
 unfoldable pub first_item : Bool → ℕ → List ℕ → Result ℕ EncodingError
@@ -47,7 +47,7 @@ first_item after_high b bytes =
 -- the item with which the bytes begin, and the bytes after it
 abbrev pub first_split : Bool → List ℕ → Result ℕ EncodingError × List ℕ
 first_split after_high [] = (Err End, [])
-first_split after_high (b ∷ bytes) = (first_item after_high b bytes, drop (behind_item b bytes) bytes)
+first_split after_high (b ∷ bytes) = (first_item after_high b bytes, drop (after_item b bytes) bytes)
 
 -- the same within a sequence that needs n continuations, of which m are missing, with the value so far
 unfoldable pub split_within : Bool → ℕ → ℕ → ℕ → List ℕ → Result ℕ EncodingError × List ℕ
@@ -55,18 +55,18 @@ split_within after_high n m value bytes = (and_then_checked after_high n (with_c
 
 -- an item and the items after it; those after a fault are read as if no high surrogate came before them
 abbrev pub then_items : Result ℕ EncodingError → (Bool → List (Result ℕ EncodingError)) → List (Result ℕ EncodingError)
-then_items (Ok c) behind = Ok c ∷ behind (is_high c)
-then_items (Err fault) behind = Err fault ∷ behind false
+then_items (Ok c) after = Ok c ∷ after (is_high c)
+then_items (Err fault) after = Err fault ∷ after false
 
 -- the items of the bytes after the first n
-unfoldable pub items_behind : ℕ → Bool → List ℕ → List (Result ℕ EncodingError)
-items_behind n after_high [] = []
-items_behind (suc n) after_high (b ∷ bytes) = items_behind n after_high bytes
-items_behind zero after_high (b ∷ bytes) = then_items (first_item after_high b bytes) (λ h. items_behind (behind_item b bytes) h bytes)
+unfoldable pub items_skipping : ℕ → Bool → List ℕ → List (Result ℕ EncodingError)
+items_skipping n after_high [] = []
+items_skipping (suc n) after_high (b ∷ bytes) = items_skipping n after_high bytes
+items_skipping zero after_high (b ∷ bytes) = then_items (first_item after_high b bytes) (λ h. items_skipping (after_item b bytes) h bytes)
 
 -- an item and the items of the bytes after it
 abbrev pub items_from : Result ℕ EncodingError × List ℕ → List (Result ℕ EncodingError)
-items_from split = then_items split.0 (λ h. items_behind 0 h split.1)
+items_from split = then_items split.0 (λ h. items_skipping 0 h split.1)
 
 -- whether an item is a high surrogate
 abbrev pub is_high_item : Result ℕ EncodingError → Bool
@@ -76,11 +76,11 @@ is_high_item (Err fault) = false
 -- the item with which the bytes begin, and the bytes after it
 pub record IsFirstItem (after_high : Bool) (bytes : List ℕ) (item : Result ℕ EncodingError) (rest : List ℕ) : Type 0 where
   pub first : ℕ
-  pub behind : List ℕ
-  pub is : bytes ≡ first ∷ behind
-  pub item_is : first_item after_high first behind ≡ item
-  pub rest_is : rest ≡ drop (behind_item first behind) behind
+  pub after : List ℕ
+  pub is : bytes ≡ first ∷ after
+  pub item_is : first_item after_high first after ≡ item
+  pub rest_is : rest ≡ drop (after_item first after) after
 
 -- the items of the bytes, after a high surrogate or not
 abbrev pub items_after : Bool → List ℕ → List (Result ℕ EncodingError)
-items_after after_high bytes = items_behind 0 after_high bytes
+items_after after_high bytes = items_skipping 0 after_high bytes

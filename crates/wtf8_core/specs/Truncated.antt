@@ -5,5 +5,5 @@ use Rattle.std.specs.Prelude.{◌≡◌, ℕ, List, length, take, drop}
 pub record IsTruncated (list old new : List ℕ) (count : ℕ) : Type 0 where
   pub same_length : length new ≡ length old
   pub count_is : count ≡ length list
-  pub front : take (length old) list ≡ take count new
-  pub behind : drop count new ≡ drop count old
+  pub prefix : take (length old) list ≡ take count new
+  pub after : drop count new ≡ drop count old

@@ -13,7 +13,7 @@ ok_values [] = []
 ok_values (Ok c ∷ items) = c ∷ ok_values items
 ok_values (Err fault ∷ items) = ok_values items
 
--- the code points that bytes spell
+-- the code points that bytes encode
 unfoldable pub code_points_in : List ℕ → List ℕ
 code_points_in bytes = ok_values (items_after false bytes)
 

@@ -3,7 +3,7 @@ ghost use Rattle.std.specs.Prelude.{◌≡◌, IfSome};
 ghost use Rattle.std.specs.Int.{is_in_range};
 ghost use Rattle.std.specs.Str.Lossy.{second_byte_min, second_byte_max};
 ghost use Rattle.wtf8_core.specs.Character.{IsCharacterAt};
-ghost use Rattle.wtf8_core.specs.Utf8.{IsAtFront};
+ghost use Rattle.wtf8_core.specs.Utf8.{BeginsWith};
 
 use crate::byte::{is_continuation, needed_continuations};
 use crate::code_points::first_item;
@@ -43,7 +43,7 @@ pub fn char_at(bytes: &[u8], at: usize) -> Option<usize>
 fn first_char(bytes: &[u8]) -> Option<usize>
     ensures { IsCharacterAt bytes.now 0 result }
 {
-    match char_or_fault_at_front(bytes) {
+    match char_or_fault_at_start(bytes) {
         Some(Ok(len)) => Some(len),
         Some(Err(_)) => None,
         None => char_in_short(bytes),
@@ -54,13 +54,13 @@ fn first_char(bytes: &[u8]) -> Option<usize>
 fn char_in_short(bytes: &[u8]) -> Option<usize>
     ensures { IsCharacterAt bytes.now 0 result }
 {
-    let Some((first, behind)) = bytes.split_first() else {
+    let Some((first, after)) = bytes.split_first() else {
         return None;
     };
     if *first < 0x80 {
         return Some(1);
     }
-    match first_item(false, *first, behind) {
+    match first_item(false, *first, after) {
         Ok(c) => {
             if is_surrogate(c) {
                 None
@@ -75,8 +75,8 @@ fn char_in_short(bytes: &[u8]) -> Option<usize>
 /// The length of the character at the start (`Ok`), or else of the maximal ill-formed part there
 /// (`Err`), by the first four bytes; `None` if there are fewer.
 #[inline(always)]
-pub(crate) fn char_or_fault_at_front(bytes: &[u8]) -> Option<Result<usize, u8>>
-    ensures { IfSome result (IsAtFront bytes.now) }
+pub(crate) fn char_or_fault_at_start(bytes: &[u8]) -> Option<Result<usize, u8>>
+    ensures { IfSome result (BeginsWith bytes.now) }
 {
     let [first, second, third, fourth, ..] = bytes else {
         return None;

@@ -1,6 +1,6 @@
 //! Checking bytes that arrive in pieces.
 ghost use Rattle.std.specs.Prelude.{◌≡◌, ℕ, ◌<◌, ◌≤◌, ◌∷◌, ◌++◌, List, [], length, MatchOption, MatchResult};
-ghost use Rattle.wtf8_core.specs.Checker.{Stands, StandsFor, IsFaulty, OnlyEnds, HasFirstFault, joined_bits, fault_at, is_between, is_plain, saved_progress};
+ghost use Rattle.wtf8_core.specs.Checker.{IsInState, Describes, IsFaulty, OnlyEnds, HasFirstFault, joined_bits, fault_at, is_between, is_plain, saved_progress};
 ghost use Rattle.wtf8_core.specs.Wtf8.{IsWtf8};
 ghost use Rattle.wtf8_core.specs.EncodedPrefix.{IsEncodedPrefix};
 ghost use Rattle.wtf8_core.specs.declared.scan.Encoding.TheVariants.{Wtf8};
@@ -9,7 +9,7 @@ ghost use Rattle.wtf8_core.specs.declared.table.State.TheVariants.{Between};
 use crate::byte::is_continuation;
 use crate::fault::EncodingError;
 use crate::scan::Encoding;
-use crate::scan::fronts::{front_of, is_behind_high};
+use crate::scan::prefixes::{ends_with_high_surrogate, scan};
 use crate::table::{State, class_at, next_at, state_at, state_index};
 use crate::utf8::is_short_utf8;
 use std::marker::Model;
@@ -61,7 +61,7 @@ impl Checker {
     /// assert_eq!(rt; Checker::new().finish(), Ok(()));
     /// ```
     pub fn new() -> Checker
-        ensures { StandsFor result [] }
+        ensures { Describes result [] }
     {
         Checker {
             state: State::Between,
@@ -90,9 +90,9 @@ impl Checker {
     /// assert_eq!(rt; halves.feed(b"\xED\xB0\x80"), Err(EncodingError::CodePoint(0xDC00)));
     /// ```
     pub fn feed(&mut self, piece: &[u8]) -> Result<(), EncodingError>
-        ensures stands { (fed : List ℕ) → StandsFor self.old fed
-            → StandsFor self.new (fed ++ piece.now) }
-        ensures answer { (fed : List ℕ) → StandsFor self.old fed
+        ensures describes { (fed : List ℕ) → Describes self.old fed
+            → Describes self.new (fed ++ piece.now) }
+        ensures answer { (fed : List ℕ) → Describes self.old fed
             → MatchResult result (λ _. OnlyEnds (fed ++ piece.now))
             (λ fault. IsFaulty (fed ++ piece.now) fault) }
     {
@@ -124,7 +124,7 @@ impl Checker {
     /// assert_eq!(rt; checker.finish(), Err(EncodingError::End));
     /// ```
     pub fn finish(self) -> Result<(), EncodingError>
-        ensures { (fed : List ℕ) → StandsFor self fed
+        ensures { (fed : List ℕ) → Describes self fed
             → MatchResult result (λ _. IsWtf8 fed) (λ fault. HasFirstFault fed fault) }
     {
         if let Some(fault) = self.fault {
@@ -211,7 +211,7 @@ fn fault_at(state: State, bits: u32, byte: u8) -> EncodingError
 fn is_between(state: State) -> bool
     ensures { result ≡ is_between state }
 {
-    matches!(state, State::Between | State::BehindHigh)
+    matches!(state, State::Between | State::AfterHigh)
 }
 
 /// Whether no sequence is open and no high surrogate comes directly before.
@@ -225,8 +225,8 @@ fn is_plain(state: State) -> bool
 /// The state and the bits after one more byte, or its fault.
 #[inline(always)]
 fn read_byte(state: State, bits: u32, byte: u8) -> Result<(State, u32), EncodingError>
-    ensures { (fed : List ℕ) → Stands state bits fed
-        → MatchResult result (λ r. Stands r.0 r.1 (fed ++ byte ∷ []))
+    ensures { (fed : List ℕ) → IsInState state bits fed
+        → MatchResult result (λ r. IsInState r.0 r.1 (fed ++ byte ∷ []))
         (λ fault. IsFaulty (fed ++ byte ∷ []) fault) }
 {
     let next = next_at(state, class_at(byte));
@@ -240,8 +240,8 @@ fn read_byte(state: State, bits: u32, byte: u8) -> Result<(State, u32), Encoding
 /// The same after more bytes, read one by one.
 #[inline(always)]
 fn read_bytes(state: State, bits: u32, bytes: &[u8]) -> Result<(State, u32), EncodingError>
-    ensures { (fed : List ℕ) → Stands state bits fed
-        → MatchResult result (λ r. Stands r.0 r.1 (fed ++ bytes.now))
+    ensures { (fed : List ℕ) → IsInState state bits fed
+        → MatchResult result (λ r. IsInState r.0 r.1 (fed ++ bytes.now))
         (λ fault. IsFaulty (fed ++ bytes.now) fault) }
 {
     let mut state = state;
@@ -262,14 +262,14 @@ fn read_bytes(state: State, bits: u32, bytes: &[u8]) -> Result<(State, u32), Enc
 /// WTF-8 is read with vectors.
 #[inline(always)]
 fn read_between(bits: u32, bytes: &[u8]) -> Result<(State, u32), EncodingError>
-    ensures { (fed : List ℕ) → Stands Between bits fed
-        → MatchResult result (λ r. Stands r.0 r.1 (fed ++ bytes.now))
+    ensures { (fed : List ℕ) → IsInState Between bits fed
+        → MatchResult result (λ r. IsInState r.0 r.1 (fed ++ bytes.now))
         (λ fault. IsFaulty (fed ++ bytes.now) fault) }
 {
-    let at = front_of_piece(bytes);
+    let at = prefix_of_piece(bytes);
     let (_, rest) = bytes.split_at(at);
-    if is_behind_high(bytes, at) {
-        read_bytes(State::BehindHigh, bits, rest)
+    if ends_with_high_surrogate(bytes, at) {
+        read_bytes(State::AfterHigh, bits, rest)
     } else {
         read_bytes(State::Between, bits, rest)
     }
@@ -277,28 +277,28 @@ fn read_between(bits: u32, bytes: &[u8]) -> Result<(State, u32), EncodingError>
 
 /// The length of a prefix that is WTF-8: all of a short text, or what blocks find.
 #[inline(always)]
-fn front_of_piece(bytes: &[u8]) -> usize
+fn prefix_of_piece(bytes: &[u8]) -> usize
     ensures within { result ≤ length bytes.now }
-    ensures front { IsEncodedPrefix Wtf8 bytes.now result }
+    ensures prefix { IsEncodedPrefix Wtf8 bytes.now result }
 {
     if is_short_utf8(bytes) {
         bytes.len()
     } else {
-        front_of(bytes, Encoding::Wtf8)
+        scan(bytes, Encoding::Wtf8)
     }
 }
 
 /// The same from any state.
 fn read_piece(state: State, bits: u32, piece: &[u8]) -> Result<(State, u32), EncodingError>
-    ensures { (fed : List ℕ) → Stands state bits fed
-        → MatchResult result (λ r. Stands r.0 r.1 (fed ++ piece.now))
+    ensures { (fed : List ℕ) → IsInState state bits fed
+        → MatchResult result (λ r. IsInState r.0 r.1 (fed ++ piece.now))
         (λ fault. IsFaulty (fed ++ piece.now) fault) }
 {
     let mut state = state;
     let mut bits = bits;
     let mut rest = piece;
     while !is_plain(state) {
-        let Some((first, behind)) = rest.split_first() else {
+        let Some((first, after)) = rest.split_first() else {
             return Ok((state, bits));
         };
         match read_byte(state, bits, *first) {
@@ -308,7 +308,7 @@ fn read_piece(state: State, bits: u32, piece: &[u8]) -> Result<(State, u32), Enc
             }
             Err(fault) => return Err(fault),
         }
-        rest = behind;
+        rest = after;
     }
     read_between(bits, rest)
 }

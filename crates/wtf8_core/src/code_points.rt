@@ -4,7 +4,7 @@ ghost use Rattle.wtf8_core.specs.Byte.{needed_continuations};
 ghost use Rattle.std.specs.Iterator.{YieldsFirst, item_count};
 ghost use Rattle.wtf8_core.specs.Items.{AreItems};
 ghost use Rattle.wtf8_core.specs.Surrogate.{is_high};
-ghost use Rattle.wtf8_core.specs.Reader.{with_continuations, continuations, behind_item, first_item, is_high_item, IsFirstItem};
+ghost use Rattle.wtf8_core.specs.Reader.{with_continuations, continuations, after_item, first_item, is_high_item, IsFirstItem};
 
 use crate::byte::{is_continuation, needed_continuations};
 use crate::fault::EncodingError;
@@ -97,33 +97,33 @@ pub(crate) fn next_item(
         (λ step. IsFirstItem after_high bytes.now step.0 step.2.now) }
     ensures high { IfSome result (λ step. step.1 ≡ is_high_item step.0) }
 {
-    let (first, behind) = bytes.split_first()?;
+    let (first, after) = bytes.split_first()?;
     if *first < 0x80 {
-        return Some((Ok(u32::from(*first)), false, behind));
+        return Some((Ok(u32::from(*first)), false, after));
     }
-    match split_item(after_high, *first, behind) {
+    match split_item(after_high, *first, after) {
         Ok((code_point, is_high, rest)) => Some((Ok(code_point), is_high, rest)),
-        Err(fault) => Some((Err(fault), false, behind_refused(*first, behind))),
+        Err(fault) => Some((Err(fault), false, after_refused(*first, after))),
     }
 }
 
 /// The bytes after the part that is refused if `first` and the bytes after it begin no code point.
 /// That part is `first` and, if it is a lead, the continuations that follow it, at most as many as
 /// it needs.
-#[tactic(auto, unfolding(crate::specs::Reader::behind_item))]
+#[tactic(auto, unfolding(crate::specs::Reader::after_item))]
 #[inline(always)]
-fn behind_refused(first: u8, behind: &[u8]) -> &[u8]
-    ensures { result.now ≡ drop (behind_item first behind.now) behind.now }
+fn after_refused(first: u8, after: &[u8]) -> &[u8]
+    ensures { result.now ≡ drop (after_item first after.now) after.now }
 {
     if first < 0xC2 {
-        return behind;
+        return after;
     }
-    behind_continuations(needed_continuations(first), behind)
+    after_continuations(needed_continuations(first), after)
 }
 
 /// The bytes after the continuations at the start, at most `limit` of them.
 #[tactic(auto, using(crate::proofs::lemmas::reader::Reading::counting))]
-fn behind_continuations(limit: u8, bytes: &[u8]) -> &[u8]
+fn after_continuations(limit: u8, bytes: &[u8]) -> &[u8]
     ensures { result.now ≡ drop (continuations limit bytes.now) bytes.now }
 {
     if limit == 0 {
@@ -135,7 +135,7 @@ fn behind_continuations(limit: u8, bytes: &[u8]) -> &[u8]
     if !is_continuation(*first) {
         return bytes;
     }
-    behind_continuations(limit - 1, rest)
+    after_continuations(limit - 1, rest)
 }
 
 /// The code point with which `first` and the bytes after it begin, whether it is a high surrogate,
@@ -145,28 +145,28 @@ fn behind_continuations(limit: u8, bytes: &[u8]) -> &[u8]
 fn split_item(
     after_high: bool,
     first: u8,
-    behind: &[u8],
+    after: &[u8],
 ) -> Result<(u32, bool, &[u8]), EncodingError>
     requires not_ascii { 0x80 ≤ first }
     ensures { MatchResult result
-        (λ step. (first_item after_high first behind.now ≡ Ok step.0) × (step.1 ≡ is_high step.0)
-        × (step.2.now ≡ drop (needed_continuations first) behind.now))
-        (λ fault. first_item after_high first behind.now ≡ Err fault) }
+        (λ step. (first_item after_high first after.now ≡ Ok step.0) × (step.1 ≡ is_high step.0)
+        × (step.2.now ≡ drop (needed_continuations first) after.now))
+        (λ fault. first_item after_high first after.now ≡ Err fault) }
 {
     if first < 0xC2 {
         return Err(EncodingError::Byte(first));
     }
     if first < 0xE0 {
-        let (value, rest) = with_one(u32::from(first % 0x20), behind)?;
+        let (value, rest) = with_one(u32::from(first % 0x20), after)?;
         Ok((value, false, rest))
     } else if first < 0xF0 {
-        let (value, rest) = with_two(u32::from(first % 0x10), behind)?;
+        let (value, rest) = with_two(u32::from(first % 0x10), after)?;
         if value < 0x800 || after_high && is_low(value) {
             return Err(EncodingError::CodePoint(value));
         }
         Ok((value, is_high(value), rest))
     } else {
-        let (value, rest) = with_three(u32::from(first % 0x10), behind)?;
+        let (value, rest) = with_three(u32::from(first % 0x10), after)?;
         if value < 0x1_0000 || value > 0x10_FFFF {
             return Err(EncodingError::CodePoint(value));
         }
@@ -177,13 +177,13 @@ fn split_item(
 /// The code point or the fault with which `first` and the bytes after it begin.
 #[tactic(auto, unfolding(crate::specs::Reader::first_item))]
 #[inline(always)]
-pub(crate) fn first_item(after_high: bool, first: u8, behind: &[u8]) -> Result<u32, EncodingError>
-    ensures { result ≡ first_item after_high first behind.now }
+pub(crate) fn first_item(after_high: bool, first: u8, after: &[u8]) -> Result<u32, EncodingError>
+    ensures { result ≡ first_item after_high first after.now }
 {
     if first < 0x80 {
         return Ok(u32::from(first));
     }
-    let (code_point, _, _) = split_item(after_high, first, behind)?;
+    let (code_point, _, _) = split_item(after_high, first, after)?;
     Ok(code_point)
 }
 
@@ -195,7 +195,7 @@ fn first_continuation(bytes: &[u8]) -> Result<(u32, &[u8]), EncodingError>
         (λ first. with_continuations value (suc n) bytes.now
         ≡ with_continuations (value * 0x40 + first.0) n first.1.now)
         (λ fault. with_continuations value (suc n) bytes.now ≡ Err fault) }
-    ensures behind { IfOk result (λ first. first.1.now ≡ drop 1 bytes.now) }
+    ensures after { IfOk result (λ first. first.1.now ≡ drop 1 bytes.now) }
     ensures few { IfOk result (λ first. first.0 < 0x40) }
 {
     let Some((first, rest)) = bytes.split_first() else {

@@ -21,7 +21,7 @@ pub fn write_form(bytes: &mut [u8], at: usize, code_point: u32) -> usize
     requires code_point { IsCodePoint code_point }
     requires room { at + length (encode code_point) ≤ length bytes.old }
     ensures written { take result bytes.new ≡ take at bytes.old ++ encode code_point }
-    ensures behind { drop result bytes.new ≡ drop result bytes.old }
+    ensures after { drop result bytes.new ≡ drop result bytes.old }
     ensures end { result ≡ at + length (encode code_point) }
     ensures len { length bytes.new ≡ length bytes.old }
 {

@@ -4,14 +4,14 @@ ghost use Rattle.wtf8_core.specs.Surrogate.{IsHigh, IsLow, IsSurrogate};
 ghost use Rattle.wtf8_core.specs.CodePoint.{encode};
 ghost use Rattle.wtf8_core.specs.Wtf8.{IsWtf8};
 ghost use Rattle.wtf8_core.specs.UnitsOf.{units_of};
-ghost use Rattle.wtf8_core.specs.Standing.{IsPrefix, IsSuffix};
+ghost use Rattle.wtf8_core.specs.Occurrence.{IsPrefix, IsSuffix};
 ghost use Rattle.wtf8_core.specs.Join.{IsPairBetween};
 
 use crate::byte::is_continuation;
 use crate::encoder::encode_wide;
 use crate::surrogate::{is_high, is_low, paired};
 
-/// Whether the units of `string` start with those of `front`. Both have to be WTF-8 (test:
+/// Whether the units of `string` start with those of `prefix`. Both have to be WTF-8 (test:
 /// [`CodePoints`](crate::CodePoints) gives no fault). It doesn't allocate.
 ///
 /// Half of a pair counts: the string of the units D83D, DE00 (hexadecimal; the bytes F0 9F 98 80)
@@ -24,13 +24,13 @@ use crate::surrogate::{is_high, is_low, paired};
 /// // The units D83D and DE00, and D83D alone.
 /// assert!(rt; starts_with(b"\xF0\x9F\x98\x80", b"\xED\xA0\xBD"));
 /// ```
-pub fn starts_with(string: &[u8], front: &[u8]) -> bool
+pub fn starts_with(string: &[u8], prefix: &[u8]) -> bool
     requires string { IsWtf8 string.now }
-    requires front { IsWtf8 front.now }
-    ensures { IsTrue result ↔ IsPrefix (units_of front.now) (units_of string.now) }
+    requires prefix { IsWtf8 prefix.now }
+    ensures { IsTrue result ↔ IsPrefix (units_of prefix.now) (units_of string.now) }
 {
-    let Some((before, high)) = split_last_high(front) else {
-        return string.starts_with(front);
+    let Some((before, high)) = split_last_high(prefix) else {
+        return string.starts_with(prefix);
     };
     let Some(rest) = string.strip_prefix(before) else {
         return false;
@@ -38,7 +38,7 @@ pub fn starts_with(string: &[u8], front: &[u8]) -> bool
     begins_with_unit(rest, high)
 }
 
-/// Whether the units of `string` end with those of `end`. Both have to be WTF-8 (test:
+/// Whether the units of `string` end with those of `suffix`. Both have to be WTF-8 (test:
 /// [`CodePoints`](crate::CodePoints) gives no fault). It doesn't allocate.
 ///
 /// Half of a pair counts: the string of the units D83D, DE00 (hexadecimal; the bytes F0 9F 98 80)
@@ -51,15 +51,15 @@ pub fn starts_with(string: &[u8], front: &[u8]) -> bool
 /// // The units D83D and DE00, and DE00 alone.
 /// assert!(rt; ends_with(b"\xF0\x9F\x98\x80", b"\xED\xB8\x80"));
 /// ```
-pub fn ends_with(string: &[u8], end: &[u8]) -> bool
+pub fn ends_with(string: &[u8], suffix: &[u8]) -> bool
     requires string { IsWtf8 string.now }
-    requires end { IsWtf8 end.now }
-    ensures { IsTrue result ↔ IsSuffix (units_of end.now) (units_of string.now) }
+    requires suffix { IsWtf8 suffix.now }
+    ensures { IsTrue result ↔ IsSuffix (units_of suffix.now) (units_of string.now) }
 {
-    let Some((low, behind)) = split_first_low(end) else {
-        return string.ends_with(end);
+    let Some((low, after)) = split_first_low(suffix) else {
+        return string.ends_with(suffix);
     };
-    let Some(rest) = string.strip_suffix(behind) else {
+    let Some(rest) = string.strip_suffix(after) else {
         return false;
     };
     ends_with_low(rest, low)
@@ -105,30 +105,30 @@ fn surrogate(bytes: &[u8; 3]) -> Option<u16>
 /// Splits off the surrogate with which the bytes end: the bytes before it, and the surrogate.
 fn split_last_surrogate(string: &[u8]) -> Option<(&[u8], u16)>
     ensures { MatchOption result
-        ((front : List ℕ) → (c : ℕ) → IsSurrogate c → string.now ≡ front ++ encode c → ⊥)
+        ((prefix : List ℕ) → (c : ℕ) → IsSurrogate c → string.now ≡ prefix ++ encode c → ⊥)
         (λ r. IsSurrogate r.1 × (string.now ≡ r.0.now ++ encode r.1)) }
 {
-    let Some((front, last)) = string.split_last_chunk::<3>() else {
+    let Some((prefix, last)) = string.split_last_chunk::<3>() else {
         return None;
     };
     let Some(c) = surrogate(last) else {
         return None;
     };
-    Some((front, c))
+    Some((prefix, c))
 }
 
 /// Splits off the high surrogate with which the bytes end: the bytes before it, and the surrogate.
 #[tactic(auto, using(std::proofs::lemmas::Bool::Decides::nat_tests))]
 fn split_last_high(string: &[u8]) -> Option<(&[u8], u16)>
     ensures { MatchOption result
-        ((front : List ℕ) → (c : ℕ) → IsHigh c → string.now ≡ front ++ encode c → ⊥)
+        ((prefix : List ℕ) → (c : ℕ) → IsHigh c → string.now ≡ prefix ++ encode c → ⊥)
         (λ r. IsHigh r.1 × (string.now ≡ r.0.now ++ encode r.1)) }
 {
-    let Some((front, c)) = split_last_surrogate(string) else {
+    let Some((prefix, c)) = split_last_surrogate(string) else {
         return None;
     };
     if is_high(u32::from(c)) {
-        Some((front, c))
+        Some((prefix, c))
     } else {
         None
     }
@@ -170,7 +170,7 @@ fn begins_with_unit(string: &[u8], unit: u16) -> bool
 fn last_half(string: &[u8]) -> Option<u16>
     requires { IsWtf8 string.now }
     ensures { MatchOption result
-        ((front : List ℕ) → (c : ℕ) → 0x1_0000 ≤ c → string.now ≡ front ++ encode c → ⊥)
+        ((prefix : List ℕ) → (c : ℕ) → 0x1_0000 ≤ c → string.now ≡ prefix ++ encode c → ⊥)
         (λ low. (us : List ℕ) × (units_of string.now ≡ us ++ low ∷ [])) }
 {
     let Some((_, last)) = string.split_last_chunk::<4>() else {

@@ -1,6 +1,6 @@
 //! Facts about the definitions. Each law is the contract of a function that does nothing.
 //!
-//! A caller that needs a law calls its function, for example `laws::spelling()`, which makes the
+//! A caller that needs a law calls its function, for example `laws::encoding()`, which makes the
 //! law known there. The laws are about lists of numbers: bytes, code points (`cs`, `ds`) and units
 //! (`us`, `vs`). Indices count bytes.
 ghost use Rattle.std.specs.Prelude.{◌≡◌, ◌↔◌, ◌⊎◌, ◌+◌, ◌-◌, ◌<◌, ◌≤◌, ◌^◌, ◌++◌, length, take, drop, map, ℕ, List, Option, Result, IsTrue};
@@ -16,8 +16,8 @@ ghost use Rattle.wtf8_core.specs.Wtf8.{Encodes, IsWtf8, HasUnits};
 ghost use Rattle.wtf8_core.specs.Fault.{IsFirstFault, IsFaultAt};
 ghost use Rattle.wtf8_core.specs.Checker.{IsFaulty};
 ghost use Rattle.wtf8_core.specs.Items.{AreItems};
-ghost use Rattle.wtf8_core.specs.Standing.{StandsAt};
-ghost use Rattle.wtf8_core.specs.StandingLaws.{StandingLaws};
+ghost use Rattle.wtf8_core.specs.Occurrence.{OccursAt};
+ghost use Rattle.wtf8_core.specs.OccurrenceLaws.{OccurrenceLaws};
 ghost use Rattle.wtf8_core.specs.Character.{WholeCharacter};
 ghost use Rattle.wtf8_core.specs.Boundary.{IsBoundary};
 ghost use Rattle.wtf8_core.specs.Chunks.{Chunk, AreChunks};
@@ -32,7 +32,7 @@ use crate::checker::Checker;
 use crate::fault::EncodingError;
 
 /// Bytes encode at most one list of code points (WTF-8).
-pub fn spelled_once()
+pub fn encoded_once()
     ensures { (bytes : List ℕ) → (cs : List ℕ) → (ds : List ℕ) → Encodes bytes cs → Encodes bytes ds
         → cs ≡ ds }
 {}
@@ -46,7 +46,7 @@ pub fn one_first_fault()
 
 /// The index of the first fault of bytes and the number of bytes refused there are unique.
 /// [`wtf8_fault`](crate::wtf8_fault) returns them.
-pub fn one_fault_place()
+pub fn one_fault_index()
     ensures { (bytes : List ℕ) → (n : ℕ) → (m : ℕ) → (k : ℕ) → (l : ℕ) → IsFaultAt bytes n k
         → IsFaultAt bytes m l → (n ≡ m) × (k ≡ l) }
 {}
@@ -65,7 +65,7 @@ pub fn fault_comparisons(a: &EncodingError, b: &EncodingError)
 {}
 
 /// Bytes are WTF-8 or have a first fault, and never both.
-pub fn spelled_or_faulty()
+pub fn encoded_or_faulty()
     ensures either { (bytes : List ℕ) → All IsByte bytes
         → IsWtf8 bytes ⊎ ((cs : List ℕ) × (f : EncodingError) × IsFirstFault bytes cs f) }
     ensures never_both { (bytes : List ℕ) → (cs : List ℕ) → (f : EncodingError) → IsWtf8 bytes
@@ -79,12 +79,12 @@ pub fn one_list_of_items()
         → (ys : List (Result ℕ EncodingError)) → AreItems bytes xs → AreItems bytes ys → xs ≡ ys }
 {}
 
-/// The law of spelling: WTF-8 bytes with equal units are equal, each list of 16-bit units is the
+/// The law of encoding: WTF-8 bytes with equal units are equal, each list of 16-bit units is the
 /// units of some bytes, and bytes have at most one list of units.
-pub fn spelling()
+pub fn encoding()
     ensures units_once { (bytes : List ℕ) → (others : List ℕ) → (us : List ℕ) → HasUnits bytes us
         → HasUnits others us → bytes ≡ others }
-    ensures units_spelled { (us : List ℕ) → All (λ u. u < 2 ^ 16) us
+    ensures units_encoded { (us : List ℕ) → All (λ u. u < 2 ^ 16) us
         → (bytes : List ℕ) × HasUnits bytes us }
     ensures one_list_of_units { (bytes : List ℕ) → (us : List ℕ) → (vs : List ℕ) → HasUnits bytes us
         → HasUnits bytes vs → us ≡ vs }
@@ -92,7 +92,7 @@ pub fn spelling()
 
 /// The order of bytes, as lists, is the order of the code points that they encode, and so not that
 /// of their units.
-#[tactic(auto, using(crate::proofs::lemmas::forms::Order::order_of_spelled))]
+#[tactic(auto, using(crate::proofs::lemmas::forms::Order::order_of_encoded))]
 pub fn order()
     ensures { (bytes : List ℕ) → (others : List ℕ) → (cs : List ℕ) → (ds : List ℕ)
         → Encodes bytes cs → Encodes others ds
@@ -158,9 +158,9 @@ pub fn characters()
 /// is also a boundary of the prefix that ends at the second, and the second is one of the rest that
 /// starts at the first. The boundaries of a text are those of a `str` (std's `is_char_boundary`).
 pub fn boundaries()
-    ensures edges { (p : List ℕ) → (s : List ℕ) → (i : ℕ) → IsUtf8 p → 0 < length p → StandsAt p s i
+    ensures edges { (p : List ℕ) → (s : List ℕ) → (i : ℕ) → IsUtf8 p → 0 < length p → OccursAt p s i
         → IsBoundary s i × IsBoundary s (i + length p) }
-    ensures in_front { (s : List ℕ) → (i : ℕ) → (j : ℕ) → i ≤ j → IsBoundary s i → IsBoundary s j
+    ensures in_prefix { (s : List ℕ) → (i : ℕ) → (j : ℕ) → i ≤ j → IsBoundary s i → IsBoundary s j
         → IsBoundary (take j s) i }
     ensures in_rest { (s : List ℕ) → (i : ℕ) → (j : ℕ) → i ≤ j → IsBoundary s i → IsBoundary s j
         → IsBoundary (drop i s) (j - i) }
@@ -190,8 +190,8 @@ pub fn ill_formed_parts()
 /// The laws of occurrences and of joins: a nonempty text occurs in WTF-8 bytes exactly where its
 /// units occur in their units, and what comes before it and after it is WTF-8 again. For any two
 /// strings there are WTF-8 bytes whose units are those of both, joined.
-pub fn standing()
-    ensures { StandingLaws IsWtf8 units_of }
+pub fn occurrence()
+    ensures { OccurrenceLaws IsWtf8 units_of }
 {}
 
 /// A string has exactly one list of chunks. If it is WTF-8, its chunks are the bytes of the maximal

@@ -11,8 +11,7 @@
 //! *scalar value* is a code point that isn't a surrogate, and a *whole character* is the form of
 //! one. A *text* is bytes that are UTF-8. A *high* and a *low* surrogate are WTF-8's lead and trail
 //! surrogate. A *maximal ill-formed part* is a maximal subpart of an ill-formed subsequence
-//! (Unicode, section 3.9). In names, *front* and *end* mean a prefix and a suffix, *behind* means
-//! after, *stands* means occurs, and a *place* is an index.
+//! (Unicode, section 3.9).
 //!
 //! Sources: RFC 3629 for the forms of code points, RFC 2781 for their units, and the WTF-8 encoding
 //! for surrogates. All lengths and indices count bytes.

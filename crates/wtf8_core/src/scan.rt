@@ -8,26 +8,27 @@
 //! 2. If all are, it looks at the first [`BLOCK`] bytes, and continues with 5 if these are, too.
 //! 3. From the first byte that isn't ASCII it reads up to five characters one by one, or up to three of
 //!    fewer bytes than a block.
-//! 4. Then it reads up to eight steps ([`fronts::scan_steps`]), and then blocks.
-//! 5. [`fronts::scan_from`] tests blocks in place, each with the [`BEFORE`] bytes before it
+//! 4. Then it reads up to eight steps ([`prefixes::scan_steps`]), and then blocks.
+//! 5. [`prefixes::scan_from`] tests blocks in place, each with the [`BEFORE`] bytes before it
 //!    ([`error_bits`]), and skips blocks of ASCII without that test. The last bytes, fewer than a
 //!    block, are tested in a copy with zeros before and after them, unless they are ASCII.
 //! 6. At the first byte that isn't allowed after those before it, the prefix ends before the last
-//!    byte that isn't a continuation ([`fronts`]). After the prefix characters are read one by one
+//!    byte that isn't a continuation ([`prefixes`]). After the prefix characters are read one by one
 //!    again, and finally std's reader continues.
 //!
-//! [`Checker`](crate::Checker) and [`wtf8_fault`](crate::wtf8_fault) use 5 and 6 for WTF-8, and then
-//! their table or the reader of code points. [`is_utf8`](crate::is_utf8) reads 20 bytes to two blocks
-//! by steps from the first byte on: the first by lanes after zeros ([`fronts::starts_by_step`]), then
-//! 4, and one more step that ends with the last byte ([`fronts::ends_by_step`]). It reads 4 to 19
-//! bytes in a copy with zeros before and after them ([`short::is_short_by_steps`]), and more than two
-//! blocks by 5 and 6. What these don't vouch for std's reader reads. A `Checker` asks the same of a piece
-//! of at most two blocks before anything else, since most pieces are short texts.
-//! [`surrogate_fault`](crate::surrogate_fault) looks for surrogates alone ([`surrogates`]).
+//! [`Checker`](crate::Checker) and [`wtf8_fault`](crate::wtf8_fault) use 5 and 6 for WTF-8, and
+//! then their table or the reader of code points. [`is_utf8`](crate::is_utf8) reads 20 bytes to two
+//! blocks by steps from the first byte on: the first by lanes after zeros
+//! ([`prefixes::starts_by_step`]), then 4, and one more step that ends with the last byte
+//! ([`prefixes::ends_by_step`]). It reads 4 to 19 bytes in a copy with zeros before and after them
+//! ([`short::is_short_by_steps`]), and more than two blocks by 5 and 6. What these don't vouch for
+//! std's reader reads. A `Checker` asks the same of a piece of at most two blocks before anything
+//! else, since most pieces are short texts. [`surrogate_fault`](crate::surrogate_fault) looks for
+//! surrogates alone ([`surrogates`]).
 
 pub(crate) mod error_bits;
-pub(crate) mod fronts;
 pub(crate) mod lanes;
+pub(crate) mod prefixes;
 pub(crate) mod short;
 pub(crate) mod surrogates;
 

@@ -12,27 +12,27 @@ pub(crate) enum State {
     /// Nothing, and no high surrogate directly before.
     Between,
     /// Nothing, directly after a high surrogate.
-    BehindHigh,
+    AfterHigh,
     /// A sequence that any one continuation completes to a form, not that of a high surrogate.
     OneMore,
     /// A sequence that any two continuations complete to such a form.
     TwoMore,
     /// E0, which is overlong if a continuation up to 9F comes next.
-    BehindE0,
+    AfterE0,
     /// ED, which becomes a surrogate if a continuation from A0 on comes next.
-    BehindEd,
+    AfterEd,
     /// ED directly after a high surrogate, where low ones are refused.
     HighThenEd,
     /// A sequence that any one continuation completes to the form of a high surrogate.
     LastOfHigh,
     /// F0, which is overlong if a continuation up to 8F comes next.
-    BehindF0,
+    AfterF0,
     /// F1 to F3.
-    BehindF1,
+    AfterF1,
     /// F4, which is past the last code point if a continuation from 90 on comes next.
-    BehindF4,
+    AfterF4,
     /// F5 to FF, which begin no form.
-    BehindF5,
+    AfterF5,
     /// A sequence that is refused after two more continuations.
     BadLastTwo,
     /// A sequence of four bytes that is refused after its last continuation.
@@ -112,8 +112,8 @@ pub(crate) fn next_at(state: State, class: Class) -> State
 
 /// The states in the order of their indices.
 static STATES: [State; 16] = [
-    Between, BehindHigh, OneMore, TwoMore, BehindE0, BehindEd, HighThenEd, LastOfHigh, BehindF0,
-    BehindF1, BehindF4, BehindF5, BadLastTwo, BadFourth, Refused, BadThird,
+    Between, AfterHigh, OneMore, TwoMore, AfterE0, AfterEd, HighThenEd, LastOfHigh, AfterF0,
+    AfterF1, AfterF4, AfterF5, BadLastTwo, BadFourth, Refused, BadThird,
 ];
 
 /// The class of each byte.
@@ -147,13 +147,13 @@ static CLASSES: [Class; 256] = [
 static NEXT: [[State; 16]; 16] = [
     // Between
     [
-        Between, Refused, Refused, Refused, Refused, Refused, OneMore, BehindE0, TwoMore, BehindEd,
-        TwoMore, BehindF0, BehindF1, BehindF4, BehindF5, Refused,
+        Between, Refused, Refused, Refused, Refused, Refused, OneMore, AfterE0, TwoMore, AfterEd,
+        TwoMore, AfterF0, AfterF1, AfterF4, AfterF5, Refused,
     ],
-    // BehindHigh
+    // AfterHigh
     [
-        Between, Refused, Refused, Refused, Refused, Refused, OneMore, BehindE0, TwoMore,
-        HighThenEd, TwoMore, BehindF0, BehindF1, BehindF4, BehindF5, Refused,
+        Between, Refused, Refused, Refused, Refused, Refused, OneMore, AfterE0, TwoMore,
+        HighThenEd, TwoMore, AfterF0, AfterF1, AfterF4, AfterF5, Refused,
     ],
     // OneMore
     [
@@ -165,12 +165,12 @@ static NEXT: [[State; 16]; 16] = [
         Refused, OneMore, OneMore, OneMore, OneMore, Refused, Refused, Refused, Refused, Refused,
         Refused, Refused, Refused, Refused, Refused, Refused,
     ],
-    // BehindE0
+    // AfterE0
     [
         Refused, BadThird, BadThird, OneMore, OneMore, Refused, Refused, Refused, Refused, Refused,
         Refused, Refused, Refused, Refused, Refused, Refused,
     ],
-    // BehindEd
+    // AfterEd
     [
         Refused, OneMore, OneMore, LastOfHigh, OneMore, Refused, Refused, Refused, Refused,
         Refused, Refused, Refused, Refused, Refused, Refused, Refused,
@@ -182,25 +182,25 @@ static NEXT: [[State; 16]; 16] = [
     ],
     // LastOfHigh
     [
-        Refused, BehindHigh, BehindHigh, BehindHigh, BehindHigh, Refused, Refused, Refused,
-        Refused, Refused, Refused, Refused, Refused, Refused, Refused, Refused,
+        Refused, AfterHigh, AfterHigh, AfterHigh, AfterHigh, Refused, Refused, Refused, Refused,
+        Refused, Refused, Refused, Refused, Refused, Refused, Refused,
     ],
-    // BehindF0
+    // AfterF0
     [
         Refused, BadLastTwo, TwoMore, TwoMore, TwoMore, Refused, Refused, Refused, Refused,
         Refused, Refused, Refused, Refused, Refused, Refused, Refused,
     ],
-    // BehindF1
+    // AfterF1
     [
         Refused, TwoMore, TwoMore, TwoMore, TwoMore, Refused, Refused, Refused, Refused, Refused,
         Refused, Refused, Refused, Refused, Refused, Refused,
     ],
-    // BehindF4
+    // AfterF4
     [
         Refused, TwoMore, BadLastTwo, BadLastTwo, BadLastTwo, Refused, Refused, Refused, Refused,
         Refused, Refused, Refused, Refused, Refused, Refused, Refused,
     ],
-    // BehindF5
+    // AfterF5
     [
         Refused, BadLastTwo, BadLastTwo, BadLastTwo, BadLastTwo, Refused, Refused, Refused,
         Refused, Refused, Refused, Refused, Refused, Refused, Refused, Refused,

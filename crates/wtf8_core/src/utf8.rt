@@ -6,11 +6,11 @@ ghost use Rattle.wtf8_core.specs.declared.scan.Encoding.TheVariants.{Utf8};
 ghost use Rattle.wtf8_core.specs.Utf8.{IsUtf8Fault};
 ghost use Rattle.wtf8_core.specs.Wtf8.{IsWtf8};
 
-use crate::character::char_or_fault_at_front;
-use crate::scan::fronts::{
-    ends_by_step, ends_with_ascii, front_of, scan_from, scan_steps, starts_by_step,
-};
+use crate::character::char_or_fault_at_start;
 use crate::scan::lanes::ascii_of;
+use crate::scan::prefixes::{
+    ends_by_step, is_ascii_to_end, scan, scan_from, scan_steps, starts_by_step,
+};
 use crate::scan::short::is_short_by_steps;
 use crate::scan::surrogates::text_from;
 use crate::scan::{BEFORE, BLOCK, Encoding, STEP};
@@ -155,11 +155,11 @@ pub(crate) fn is_short_utf8(bytes: &[u8]) -> bool
 fn is_long_utf8(bytes: &[u8]) -> bool
     ensures { IsTrue result ↔ IsUtf8 bytes.now }
 {
-    let front = front_of(bytes, Encoding::Utf8);
-    if front == bytes.len() {
+    let prefix = scan(bytes, Encoding::Utf8);
+    if prefix == bytes.len() {
         return true;
     }
-    match fault_in_rest(bytes, front) {
+    match fault_in_rest(bytes, prefix) {
         None => true,
         Some(_) => false,
     }
@@ -198,7 +198,7 @@ fn is_one_ascii(bytes: &[u8]) -> bool
 fn is_short_ascii(bytes: &[u8]) -> bool
     ensures { IsTrue result → IsUtf8 bytes.now }
 {
-    bytes.len() < BLOCK && ends_with_ascii(bytes)
+    bytes.len() < BLOCK && is_ascii_to_end(bytes)
 }
 
 /// How many of 16 to 63 bytes are ASCII before the first that isn't; it isn't found of fewer or more.
@@ -259,10 +259,10 @@ fn after_characters(bytes: &[u8], from: usize, most: usize) -> Result<usize, (us
 {
     let (_, mut rest) = bytes.split_at(from);
     for _ in 0..most {
-        match char_or_fault_at_front(rest) {
+        match char_or_fault_at_start(rest) {
             Some(Ok(len)) => {
-                let (_, behind) = rest.split_at(len);
-                rest = behind;
+                let (_, after) = rest.split_at(len);
+                rest = after;
             }
             Some(Err(error_len)) => return Err((bytes.len() - rest.len(), Some(error_len))),
             None => return Ok(bytes.len() - rest.len()),
@@ -284,7 +284,7 @@ fn fault_by_steps(bytes: &[u8], at: usize) -> Option<(usize, Option<u8>)>
     }
     match scan_steps(bytes, at) {
         Ok(end) => fault_by_blocks(bytes, end),
-        Err(front) => fault_by_characters(bytes, front),
+        Err(prefix) => fault_by_characters(bytes, prefix),
     }
 }
 

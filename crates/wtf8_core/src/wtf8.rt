@@ -6,7 +6,7 @@ ghost use Rattle.wtf8_core.specs.EncodedPrefix.{IsReadUpTo};
 
 use crate::code_points::next_item;
 use crate::scan::Encoding;
-use crate::scan::fronts::{front_of, is_behind_high};
+use crate::scan::prefixes::{ends_with_high_surrogate, scan};
 
 /// The index of the first fault of bytes that aren't WTF-8, and how many bytes are refused there;
 /// `None` for WTF-8 (this project's own call).
@@ -33,18 +33,18 @@ pub fn wtf8_fault(bytes: &[u8]) -> Option<(usize, usize)>
     let mut after_high = false;
     let mut rest = bytes;
     for _ in 0..NEAR {
-        let (item, is_high, behind) = next_item(after_high, rest)?;
+        let (item, is_high, after) = next_item(after_high, rest)?;
         match item {
             Ok(_) => {
                 after_high = is_high;
-                rest = behind;
+                rest = after;
             }
-            Err(_) => return Some((bytes.len() - rest.len(), rest.len() - behind.len())),
+            Err(_) => return Some((bytes.len() - rest.len(), rest.len() - after.len())),
         }
     }
-    let front = front_of(bytes, Encoding::Wtf8);
-    let (_, rest) = bytes.split_at(front);
-    fault_in_rest(bytes, is_behind_high(bytes, front), rest)
+    let prefix = scan(bytes, Encoding::Wtf8);
+    let (_, rest) = bytes.split_at(prefix);
+    fault_in_rest(bytes, ends_with_high_surrogate(bytes, prefix), rest)
 }
 
 /// How many code points are read before vectors are tried, so that a loop over faults that are
@@ -59,13 +59,13 @@ fn fault_in_rest(bytes: &[u8], after_high: bool, rest: &[u8]) -> Option<(usize, 
 {
     let mut high = after_high;
     let mut left = rest;
-    while let Some((item, is_high, behind)) = next_item(high, left) {
+    while let Some((item, is_high, after)) = next_item(high, left) {
         match item {
             Ok(_) => {
                 high = is_high;
-                left = behind;
+                left = after;
             }
-            Err(_) => return Some((bytes.len() - left.len(), left.len() - behind.len())),
+            Err(_) => return Some((bytes.len() - left.len(), left.len() - after.len())),
         }
     }
     None

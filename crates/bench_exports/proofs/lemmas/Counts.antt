@@ -25,21 +25,21 @@ module _ (Is : List ℕ → Type 0) (all : List (List ℕ)) (most : ℕ) (lens r
     at_one : IsCounted Is all most (n ∷ more) rest count
     at_one = subst (λ ns. IsCounted Is all most ns rest count) e h
 
-    module _ (string after : List ℕ) (front : string ≡ take n rest) (back : after ≡ drop n rest) where
+    module _ (string after : List ℕ) (prefix : string ≡ take n rest) (suffix : after ≡ drop n rest) where
       pub one_more : Is string → IsCounted Is all most more after (count + 1)
       one_more is = record {
-        fit = subst (Fit more) (sym back) at_one.fit.1;
+        fit = subst (Fit more) (sym suffix) at_one.fit.1;
         few = let few : count + length (n ∷ more) ≤ most = at_one.few in omega arith;
         so_far = λ k counted.
             let same : count + suc k ≡ count + 1 + k = omega arith in
-            subst (IsCount Is all) same (at_one.so_far (suc k) (inl (subst Is front is, (k, refl, subst (λ r. IsCount Is (pieces_of more r) k) back counted))));
+            subst (IsCount Is all) same (at_one.so_far (suc k) (inl (subst Is prefix is, (k, refl, subst (λ r. IsCount Is (pieces_of more r) k) suffix counted))));
       }
 
       pub none_more : (Is string → ⊥) → IsCounted Is all most more after count
       none_more is_not = record {
-        fit = subst (Fit more) (sym back) at_one.fit.1;
+        fit = subst (Fit more) (sym suffix) at_one.fit.1;
         few = let few : count + length (n ∷ more) ≤ most = at_one.few in omega arith;
-        so_far = λ k counted. at_one.so_far k (inr (λ is. is_not (subst Is (sym front) is), subst (λ r. IsCount Is (pieces_of more r) k) back counted));
+        so_far = λ k counted. at_one.so_far k (inr (λ is. is_not (subst Is (sym prefix) is), subst (λ r. IsCount Is (pieces_of more r) k) suffix counted));
       }
 
 -- strings that are otherwise

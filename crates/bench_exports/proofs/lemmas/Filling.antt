@@ -10,10 +10,10 @@ pub one_more : (Wanted Then : List ℕ → Type 0) (old new : List ℕ) (count x
 one_more Wanted Then old new count x step room filled = record {
   same_length = length-set new count x ∙ filled.same_length;
   within = let same : length (set new count x) ≡ length new = length-set new count x in omega arith;
-  front = subst Then (sym (take_more_set new count x room)) (step (take count new) filled.front);
-  behind =
+  prefix = subst Then (sym (take_more_set new count x room)) (step (take count new) filled.prefix);
+  after =
       drop-set-lt (count + 1) new count x (omega arith)
-      ∙ sym (drop-drop 1 count new) ∙ ap (drop 1) filled.behind ∙ drop-drop 1 count old;
+      ∙ sym (drop-drop 1 count new) ∙ ap (drop 1) filled.after ∙ drop-drop 1 count old;
 }
 
 pub same_filled : (Wanted Then : List ℕ → Type 0) (old new : List ℕ) (count : ℕ) → ((done : List ℕ) → Wanted done → Then done)
@@ -21,6 +21,6 @@ pub same_filled : (Wanted Then : List ℕ → Type 0) (old new : List ℕ) (coun
 same_filled Wanted Then old new count step filled = record {
   same_length = filled.same_length;
   within = filled.within;
-  front = step (take count new) filled.front;
-  behind = filled.behind;
+  prefix = step (take count new) filled.prefix;
+  after = filled.after;
 }

@@ -32,23 +32,23 @@ cut_once end (x ∷ a) (y ∷ b) xs ys l k e =
     (ap (λ c. c ∷ a) first ∙ ap (λ l. y ∷ l) rest.0, rest.1)
 
 -- bytes without the end of an item don't end with one
-not_ended : (end : ℕ) (xs last front : List ℕ) → last ≢ [] → Lacks end last → ¬ (xs ++ last ≡ front ++ end ∷ [])
-not_ended end [] last front some l e = end_in end front [] (subst (Lacks end) e l)
+not_ended : (end : ℕ) (xs last prefix : List ℕ) → last ≢ [] → Lacks end last → ¬ (xs ++ last ≡ prefix ++ end ∷ [])
+not_ended end [] last prefix some l e = end_in end prefix [] (subst (Lacks end) e l)
 not_ended end (x ∷ xs) [] [] some l e = some refl
 not_ended end (x ∷ xs) (y ∷ last) [] some l e = omega (arith, ap length e, length-append xs (y ∷ last))
-not_ended end (x ∷ xs) last (y ∷ front) some l e = not_ended end xs last front some l (tail x y (xs ++ last) (front ++ end ∷ []) e)
+not_ended end (x ∷ xs) last (y ∷ prefix) some l e = not_ended end xs last prefix some l (tail x y (xs ++ last) (prefix ++ end ∷ []) e)
 
 none_left : (xs last : List ℕ) → last ≢ [] → ¬ (xs ++ last ≡ [])
 none_left xs [] some e = some refl
 none_left xs (y ∷ last) some e = omega (arith, ap length e, length-append xs (y ∷ last))
 
-all_behind : (P : Entry → Type 0) (es ds : List Entry) → AllByRecursion P (es ++ ds) → AllByRecursion P ds
-all_behind P [] ds a = a
-all_behind P (e ∷ es) ds a = all_behind P es ds a.1
+all_after : (P : Entry → Type 0) (es ds : List Entry) → AllByRecursion P (es ++ ds) → AllByRecursion P ds
+all_after P [] ds a = a
+all_after P (e ∷ es) ds a = all_after P es ds a.1
 
-all_front : (P : Entry → Type 0) (es ds : List Entry) → AllByRecursion P (es ++ ds) → AllByRecursion P es
-all_front P [] ds a = tt
-all_front P (e ∷ es) ds a = (a.0, all_front P es ds a.1)
+all_prefix : (P : Entry → Type 0) (es ds : List Entry) → AllByRecursion P (es ++ ds) → AllByRecursion P es
+all_prefix P [] ds a = tt
+all_prefix P (e ∷ es) ds a = (a.0, all_prefix P es ds a.1)
 
 -- items that have their ends end with one
 ends : (es : List Entry) → EndsWithNul (items_of 0 es)
@@ -63,7 +63,7 @@ completed : (es : List Entry) (names : List ℕ) → AllByRecursion (λ e. Lacks
 completed es names l (inl same) = inl (subst EndsWithNul (sym same) (ends es), sym same)
 completed es names l (inr last) =
     let u = last.1 in
-    let lacks : Lacks 0 u.last.0 = (all_behind (λ e. Lacks 0 e.0) u.before (u.last ∷ []) (subst (AllByRecursion (λ e. Lacks 0 e.0)) u.entries_are l)).0 in
+    let lacks : Lacks 0 u.last.0 = (all_after (λ e. Lacks 0 e.0) u.before (u.last ∷ []) (subst (AllByRecursion (λ e. Lacks 0 e.0)) u.entries_are l)).0 in
     inr (
       ⊎_elim
           (λ none. none_left (items_of 0 u.before) u.last.0 u.some (sym u.joined ∙ none))
@@ -175,7 +175,7 @@ module _ {E : Type 0} (p : Ghosts E) (law : AreLines p) where
   back_of : (last : LastLine) (max other : ℕ) (es fs : List Entry) → AllByRecursion (IsEntry p (listing max)) es → AllByRecursion (IsEntry p (joining last other)) fs → texts_of es ≡ items_of 0x0A fs → texts_of fs ≡ items_of 0 es
   back_of last max other es fs a b q =
       let j = first_back last max other es fs [] a b (q ∙ sym (append-nil (items_of 0x0A fs))) in
-      let none = none_of max j.others (all_behind (IsEntry p (listing max)) j.some j.others (subst (AllByRecursion (IsEntry p (listing max))) j.cut a)) j.left in
+      let none = none_of max j.others (all_after (IsEntry p (listing max)) j.some j.others (subst (AllByRecursion (IsEntry p (listing max))) j.cut a)) j.left in
       j.names ∙ ap (items_of 0) (sym (j.cut ∙ ap (λ x. j.some ++ x) none ∙ append-nil j.some))
 
   pub same_back : (last : LastLine) (max other : ℕ) (names lines back : List ℕ) → IsOutput p (listing max) names lines → IsOutput p (joining last other) lines back → IsCompleted names back
@@ -187,15 +187,15 @@ module _ {E : Type 0} (p : Ghosts E) (law : AreLines p) where
       (λ (taken : TakesUnended (Join last) × IsLastUnended 0x0A fs lines).
       let u = taken.1 in
       let whole = subst (AllByRecursion (λ e. Lacks 0x0A e.0)) u.entries_are (whole_lines last other fs q.are) in
-      absurd (no_last max o.entries u.before u.last.0 o.are (all_front (λ e. Lacks 0x0A e.0) u.before (u.last ∷ []) whole) u.some (all_behind (λ e. Lacks 0x0A e.0) u.before (u.last ∷ []) whole).0 (sym o.written ∙ u.joined))) in
+      absurd (no_last max o.entries u.before u.last.0 o.are (all_prefix (λ e. Lacks 0x0A e.0) u.before (u.last ∷ []) whole) u.some (all_after (λ e. Lacks 0x0A e.0) u.before (u.last ∷ []) whole).0 (sym o.written ∙ u.joined))) in
       subst (IsCompleted names) (sym (by q.items)) all
 
   -- of lines that were cut off, some of the first names
-  pub cut_back : (max other : ℕ) (names lines front rest back : List ℕ) → IsOutput p (listing max) names lines → lines ≡ front ++ rest → IsOutput p (joining MustEnd other) front back → AreFirst names back
-  cut_back max other names lines front rest back o cut q = ⊎_elim
+  pub cut_suffix : (max other : ℕ) (names lines prefix rest suffix : List ℕ) → IsOutput p (listing max) names lines → lines ≡ prefix ++ rest → IsOutput p (joining MustEnd other) prefix suffix → AreFirst names suffix
+  cut_suffix max other names lines prefix rest suffix o cut q = ⊎_elim
       (λ same.
       let j = first_back MustEnd max other o.entries q.entries rest o.are q.are (sym o.written ∙ cut ∙ ap (λ x. x ++ rest) same) in
-      let is : back ≡ items_of 0 j.some = q.written ∙ j.names in (
+      let is : suffix ≡ items_of 0 j.some = q.written ∙ j.names in (
         subst EndsWithNul (sym is) (ends j.some),
         (
           items_of 0 j.others,

@@ -22,7 +22,7 @@ use Rattle.os_quote.specs.declared.form.Form.TheVariants.{Line}
 use Rattle.os_quote.proofs.lemmas.Escapes.{own_escape, one_escape, one_string}
 use Rattle.os_quote.proofs.lemmas.ItemLengths.{escape_is_short}
 use Rattle.os_quote.proofs.lemmas.Lines.{escape_is_on_line}
-use Rattle.os_quote.proofs.lemmas.PlainBytes.{plain_front, plain_is_text, plain_is_own}
+use Rattle.os_quote.proofs.lemmas.PlainBytes.{plain_prefix, plain_is_text, plain_is_own}
 use Rattle.os_quote.proofs.lemmas.Readings.{escape_is_text}
 use Rattle.os_str_bytes.specs.Platform.{Ghosts}
 use Rattle.names_commands.specs.Items.{Lacks}
@@ -83,7 +83,7 @@ are_lines p parts each = record {
 
 -- plain bytes
 all_plain : (bytes : List ℕ) → IsPlainUpTo bytes (length bytes) → AllByRecursion IsPlain bytes
-all_plain bytes h = subst (AllByRecursion IsPlain) (take-length bytes) (plain_front bytes (length bytes) h.plain)
+all_plain bytes h = subst (AllByRecursion IsPlain) (take-length bytes) (plain_prefix bytes (length bytes) h.plain)
 
 pub own_line : (well_formed : List ℕ → Type 0) (units : List ℕ → List ℕ) (part_units : List ℕ → Type 0) → PartLaws well_formed units part_units → well_formed [] → (bytes : List ℕ) → IsPlainUpTo bytes (length bytes) → IsLineEscape units bytes bytes
 own_line well_formed units part_units parts none bytes h =

@@ -28,8 +28,8 @@ pub more_texts : (entries : List Entry) (e : Entry) → texts_of (entries ++ e �
 more_texts entries e = flat_map-append text_of entries (e ∷ []) ∙ ap (λ x. texts_of entries ++ x) (append-nil e.1)
 
 -- bytes after others
-pub with_more_after : (begun done front mid more : List ℕ) → begun ++ done ≡ front ++ mid → begun ++ (done ++ more) ≡ front ++ (mid ++ more)
-with_more_after begun done front mid more e = sym (append_assoc begun done more) ∙ ap (λ x. x ++ more) e ∙ append_assoc front mid more
+pub with_more_after : (begun done prefix mid more : List ℕ) → begun ++ done ≡ prefix ++ mid → begun ++ (done ++ more) ≡ prefix ++ (mid ++ more)
+with_more_after begun done prefix mid more e = sym (append_assoc begun done more) ∙ ap (λ x. x ++ more) e ∙ append_assoc prefix mid more
 
 -- an item in two parts and its end
 in_parts : (xs ys more : List ℕ) → xs ++ (ys ++ more) ≡ (xs ++ ys) ++ more

@@ -7,7 +7,7 @@ use Rattle.std.specs.List.{flat_map}
 use Rattle.os_str_ext.specs.Patterns.{char_has_bytes}
 use Rattle.os_args.specs.Word.{Kind, Long, LongBytes, Short, ShortBytes, Value, dashes, equals, IsNamed, IsFlag, IsValueOf}
 use Rattle.os_args.specs.Reading.{Fault, UnexpectedValue, Reading, words_left, SkipsDashes, IsReadIn, TakesFlag, TakesNext, TakesNone, TakesWhole, TakesWord, TakesPending, TakesRest}
-use Rattle.os_args.specs.Joining.{Mark, Bare, Dash, Dashes, Equals, mark_bytes, Piece, Inner, Last, Separator, joined_to, before_words, pieces_joined, piece_texts, with_pending, all_left, weight, Step, Next, TookValue, TookOptionalValue, TookRest, IsStep, AreSteps, kind_text, fault_texts, step_texts, IsJoinedAgain}
+use Rattle.os_args.specs.Joining.{Mark, Unmarked, Dash, Dashes, Equals, mark_bytes, Piece, Inner, Last, Separator, joined_to, before_words, pieces_joined, piece_texts, with_pending, all_left, weight, Step, Next, TookValue, TookOptionalValue, TookRest, IsStep, AreSteps, kind_text, fault_texts, step_texts, IsJoinedAgain}
 
 -- these texts were taken, and what is left is `left`, of what was there
 record Joins (all left ts : List (List ℕ)) : Type 0 where
@@ -82,7 +82,7 @@ named s text (ShortBytes all) rest words e h = absurd h
 named s text (Value v) rest words e h = absurd h
 
 whole : (s : List ℕ) (kind : Kind) (rest : List ℕ) (words : List (List ℕ)) → kind ≡ Value s → rest ≡ [] → Joins (s ∷ words) (with_pending rest words) (kind_text kind ∷ [])
-whole s kind rest words k e = subst (λ x. Joins (s ∷ words) (with_pending rest words) (kind_text x ∷ [])) (sym k) (taken Bare s s rest words (sym (append-nil s) ∙ ap (λ x. s ++ x) (sym e)))
+whole s kind rest words k e = subst (λ x. Joins (s ∷ words) (with_pending rest words) (kind_text x ∷ [])) (sym k) (taken Unmarked s s rest words (sym (append-nil s) ∙ ap (λ x. s ++ x) (sym e)))
 
 word_read : (ended numbers : Bool) (s : List ℕ) (kind : Kind) (rest : List ℕ) (words : List (List ℕ)) → IsReadIn ended numbers s kind rest → Joins (s ∷ words) (with_pending rest words) (kind_text kind ∷ [])
 word_read true numbers s kind rest words h = whole s kind rest words h.0 h.1
@@ -98,7 +98,7 @@ one_more n word words more e = sym (drop-drop 1 n words) ∙ ap (drop 1) e
 skipped : (before between : Reading) → SkipsDashes before between → Joins (words_left before) (words_left between) []
 skipped before between (inl h) = record {
   pieces = Separator ∷ [];
-  joined = ap (λ x. dashes ∷ x) (ap words_left h.1 ∙ one_more before.place dashes before.given h.0.more h.0.first) ∙ sym h.0.first;
+  joined = ap (λ x. dashes ∷ x) (ap words_left h.1 ∙ one_more before.index dashes before.given h.0.more h.0.first) ∙ sym h.0.first;
   texts = refl;
 }
 skipped before between (inr h) = joins_none (words_left before) (words_left between) (ap words_left h.1)
@@ -112,7 +112,7 @@ value_left before after value some (inl e) left none =
 value_left before after value some (inr h) left none =
     of_pending before (all_left after) (value ∷ []) some
     (subst (λ ws. Joins (before.pending ∷ words_left before) (with_pending after.pending ws) (value ∷ [])) (sym left)
-    (taken Bare before.pending value after.pending (words_left before) (sym h.1 ∙ sym (append-nil value) ∙ ap (λ x. value ++ x) (sym none))))
+    (taken Unmarked before.pending value after.pending (words_left before) (sym h.1 ∙ sym (append-nil value) ∙ ap (λ x. value ++ x) (sym none))))
 
 pending_taken : (before : Reading) (value : List ℕ) (after : Reading) → TakesPending before value after → Joins (all_left before) (all_left after) (value ∷ [])
 pending_taken before value after h = value_left before after value h.some h.is_value (ap words_left h.same) (ap (λ (x : Reading). x.pending) h.same)
@@ -121,8 +121,8 @@ word_taken : (before : Reading) (value : List ℕ) (after : Reading) → before.
 word_taken before value after none h =
     of_words before (all_left after) (value ∷ []) none
     (record {
-      pieces = Last Bare value ∷ [];
-      joined = ap (λ x. value ∷ x) (none_pending after.pending (words_left after) (ap (λ (x : Reading). x.pending) h.same ∙ none) ∙ ap words_left h.same ∙ one_more before.place value before.given h.more h.next) ∙ sym h.next;
+      pieces = Last Unmarked value ∷ [];
+      joined = ap (λ x. value ∷ x) (none_pending after.pending (words_left after) (ap (λ (x : Reading). x.pending) h.same ∙ none) ∙ ap words_left h.same ∙ one_more before.index value before.given h.more h.next) ∙ sym h.next;
       texts = refl;
     })
 
@@ -133,11 +133,11 @@ flag_taken : (before : Reading) (kind : Kind) (after : Reading) → TakesFlag be
 flag_taken before kind after h =
     of_pending before (all_left after) (kind_text kind ∷ []) h.some
     (subst (λ ws. Joins (before.pending ∷ words_left before) (with_pending after.pending ws) (kind_text kind ∷ [])) (sym (ap words_left h.same))
-    (flag Bare before.pending before.pending kind after.pending (words_left before) refl h.flag))
+    (flag Unmarked before.pending before.pending kind after.pending (words_left before) refl h.flag))
 
 next_taken : (before : Reading) (kind : Kind) (after : Reading) → TakesNext before kind after → Joins (all_left before) (all_left after) (kind_text kind ∷ [])
 next_taken before kind after h =
-    let left : words_left after ≡ h.more = ap words_left h.same ∙ one_more h.between.place h.word h.between.given h.more h.next in
+    let left : words_left after ≡ h.more = ap words_left h.same ∙ one_more h.between.index h.word h.between.given h.more h.next in
     let read : Joins (h.word ∷ h.more) (all_left after) (kind_text kind ∷ []) =
     subst (λ ws. Joins (h.word ∷ h.more) (with_pending after.pending ws) (kind_text kind ∷ [])) (sym left) (word_read h.between.ended h.between.numbers h.word kind after.pending h.more h.read) in
     of_words before (all_left after) (kind_text kind ∷ []) h.none_pending
@@ -155,25 +155,25 @@ none_taken before after h =
     (subst (λ x. Joins (words_left before) x []) (sym (none_pending after.pending (words_left after) (same_pending before after h.skips ∙ h.none_pending))) (skipped before after h.skips))
 
 -- words as they are
-abbrev bare_words : List (List ℕ) → List Piece
-bare_words [] = []
-bare_words (word ∷ words) = Last Bare word ∷ bare_words words
+abbrev unmarked_words : List (List ℕ) → List Piece
+unmarked_words [] = []
+unmarked_words (word ∷ words) = Last Unmarked word ∷ unmarked_words words
 
-bare_joined : (words : List (List ℕ)) → pieces_joined (bare_words words) [] ≡ words
-bare_joined [] = refl
-bare_joined (word ∷ words) = ap (λ x. word ∷ x) (bare_joined words)
+unmarked_joined : (words : List (List ℕ)) → pieces_joined (unmarked_words words) [] ≡ words
+unmarked_joined [] = refl
+unmarked_joined (word ∷ words) = ap (λ x. word ∷ x) (unmarked_joined words)
 
-bare_texts : (words : List (List ℕ)) → piece_texts (bare_words words) ≡ words
-bare_texts [] = refl
-bare_texts (word ∷ words) = ap (λ x. word ∷ x) (bare_texts words)
+unmarked_texts : (words : List (List ℕ)) → piece_texts (unmarked_words words) ≡ words
+unmarked_texts [] = refl
+unmarked_texts (word ∷ words) = ap (λ x. word ∷ x) (unmarked_texts words)
 
 words_taken : (before : Reading) (words : List (List ℕ)) (after : Reading) → TakesRest before (Ok words) after → Joins (all_left before) (all_left after) words
 words_taken before words after h =
     of_words before (all_left after) words h.0
     (record {
-      pieces = bare_words words;
-      joined = ap (pieces_joined (bare_words words)) (none_pending after.pending (words_left after) (ap (λ (x : Reading). x.pending) h.1.1 ∙ h.0) ∙ ap words_left h.1.1 ∙ drop-length before.given) ∙ bare_joined words ∙ h.1.0;
-      texts = bare_texts words;
+      pieces = unmarked_words words;
+      joined = ap (pieces_joined (unmarked_words words)) (none_pending after.pending (words_left after) (ap (λ (x : Reading). x.pending) h.1.1 ∙ h.0) ∙ ap words_left h.1.1 ∙ drop-length before.given) ∙ unmarked_joined words ∙ h.1.0;
+      texts = unmarked_texts words;
     })
 
 fault_left : (before after : Reading) (fault : Fault) (last : Option Kind) (value : List ℕ) → fault ≡ UnexpectedValue last value → Joins (all_left before) (all_left after) (value ∷ []) → Joins (all_left before) (all_left after) (fault_texts fault)
@@ -233,10 +233,10 @@ pub never_more : (before : Reading) (step : Step) (after : Reading) → IsStep b
 never_more before step after h = joins_weight (all_left before) (all_left after) (step_texts step) (one_step before step after h)
 
 -- what is read leaves less
-shorter : (s front rest : List ℕ) (words : List (List ℕ)) → s ≡ front ++ rest → ((rest ≡ []) ⊎ (0 < length front)) → weight (with_pending rest words) < weight (s ∷ words)
-shorter s front [] words e h = omega arith
-shorter s front (b ∷ rest) words e (inl h) = let never = h in cc
-shorter s front (b ∷ rest) words e (inr h) = omega (arith, h, ap length e, length-append front (b ∷ rest))
+shorter : (s prefix rest : List ℕ) (words : List (List ℕ)) → s ≡ prefix ++ rest → ((rest ≡ []) ⊎ (0 < length prefix)) → weight (with_pending rest words) < weight (s ∷ words)
+shorter s prefix [] words e h = omega arith
+shorter s prefix (b ∷ rest) words e (inl h) = let never = h in cc
+shorter s prefix (b ∷ rest) words e (inr h) = omega (arith, h, ap length e, length-append prefix (b ∷ rest))
 
 flag_shorter : (m : Mark) (s flags : List ℕ) (kind : Kind) (rest : List ℕ) (words : List (List ℕ)) → s ≡ mark_bytes m ++ flags → IsFlag flags kind rest → weight (with_pending rest words) < weight (s ∷ words)
 flag_shorter m s flags (Long n) rest words e h = absurd h
@@ -268,7 +268,7 @@ pub less_left : (before : Reading) (kind : Kind) (after : Reading) → TakesWord
 less_left before kind after (inl h) =
     omega (
       arith,
-      flag_shorter Bare before.pending before.pending kind after.pending (words_left before) refl h.flag,
+      flag_shorter Unmarked before.pending before.pending kind after.pending (words_left before) refl h.flag,
       ap (λ ws. weight (with_pending after.pending ws)) (ap words_left h.same),
       ap weight (some_pending before.pending (words_left before) h.some),
     )
@@ -276,7 +276,7 @@ less_left before kind after (inr h) =
     omega (
       arith,
       read_shorter h.between.ended h.between.numbers h.word kind after.pending h.more h.read,
-      ap (λ ws. weight (with_pending after.pending ws)) (ap words_left h.same ∙ one_more h.between.place h.word h.between.given h.more h.next),
+      ap (λ ws. weight (with_pending after.pending ws)) (ap words_left h.same ∙ one_more h.between.index h.word h.between.given h.more h.next),
       ap weight h.next,
       joins_weight (words_left before) (words_left h.between) [] (skipped before h.between h.skips),
       ap weight (none_pending before.pending (words_left before) h.none_pending),

@@ -1,6 +1,6 @@
 -- Which words start as numbers.
 use Rattle.std.proofs.Common.{◌≡◌, ◌⊎◌, ℕ, List, [], ◌∷◌, ◌++◌, sym, ◌∙◌, arith, subst}
-use Rattle.wtf8_core.specs.Standing.{IsPrefix}
+use Rattle.wtf8_core.specs.Occurrence.{IsPrefix}
 use Rattle.os_args.specs.Word.{dash, point, StartsWithDigit, StartsWithFraction, StartsAsNegative}
 
 tails : {a b : ℕ} {x y : List ℕ} → a ∷ x ≡ b ∷ y → x ≡ y

@@ -23,7 +23,7 @@ one_read false numbers s kind other rest left h k = one_reading numbers s kind o
 flags : (r : Reading) (kind other : Kind) (a b : Reading) → TakesFlag r kind a → TakesFlag r other b → (kind ≡ other) × (a ≡ b)
 flags r kind other a b h k =
     let both = one_flag r.pending kind other a.pending b.pending h.flag k.flag in
-    (both.0, h.same ∙ ap (λ x. having_read r r.place x a.pending) both.0 ∙ ap (having_read r r.place other) both.1 ∙ sym k.same)
+    (both.0, h.same ∙ ap (λ x. having_read r r.index x a.pending) both.0 ∙ ap (having_read r r.index other) both.1 ∙ sym k.same)
 
 nexts : (r : Reading) (kind other : Kind) (a b : Reading) → TakesNext r kind a → TakesNext r other b → (kind ≡ other) × (a ≡ b)
 nexts r kind other a b h k =
@@ -35,9 +35,9 @@ nexts r kind other a b h k =
     let both = one_read k.between.ended k.between.numbers k.word kind other a.pending b.pending read k.read in (
       both.0,
       h.same
-          ∙ ap (λ (x : Reading). having_read x (x.place + 1) kind a.pending) between
-          ∙ ap (λ x. having_read k.between (k.between.place + 1) x a.pending) both.0
-          ∙ ap (having_read k.between (k.between.place + 1) other) both.1
+          ∙ ap (λ (x : Reading). having_read x (x.index + 1) kind a.pending) between
+          ∙ ap (λ x. having_read k.between (k.between.index + 1) x a.pending) both.0
+          ∙ ap (having_read k.between (k.between.index + 1) other) both.1
           ∙ sym k.same,
     )
 

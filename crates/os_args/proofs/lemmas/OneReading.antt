@@ -5,7 +5,7 @@ use Rattle.std.specs.Char.{encode_utf8, IsScalar}
 use Rattle.std.specs.Str.{IsUtf8}
 use Rattle.wtf8_core.specs.CodePoint.{encode}
 use Rattle.wtf8_core.specs.Covered.{StartsWithNoCharacter}
-use Rattle.wtf8_core.specs.Standing.{IsPrefix, StandsNowhere}
+use Rattle.wtf8_core.specs.Occurrence.{IsPrefix, OccursNowhere}
 use Rattle.wtf8_core.proofs.lemmas.forms.ByStd.{form_encode}
 use Rattle.os_args.specs.Word.{Kind, Long, LongBytes, Short, ShortBytes, Value, dash, equals, StartsWithDigit, StartsWithFraction, StartsAsNegative, IsName, IsNamed, IsFlag, IsLongOption, IsShortOption, IsReadAs}
 
@@ -16,16 +16,16 @@ heads : {a b : ℕ} {x y : List ℕ} → a ∷ x ≡ b ∷ y → a ≡ b
 heads e = cc
 
 -- where one name ends, the other has no `=` there
-clash : (m rest left : List ℕ) (y : ℕ) → StandsNowhere equals (y ∷ m) → ((rest ≡ []) ⊎ IsPrefix equals rest) → rest ≡ y ∷ (m ++ left) → ⊥
+clash : (m rest left : List ℕ) (y : ℕ) → OccursNowhere equals (y ∷ m) → ((rest ≡ []) ⊎ IsPrefix equals rest) → rest ≡ y ∷ (m ++ left) → ⊥
 clash m rest left y none (inl e) j = let never = sym e ∙ j in cc
 clash m rest left y none (inr f) j =
-    none 0 (record { before = []; behind = m; joined = ap (λ x. x ∷ m) (heads (sym j ∙ f.joined)); place = refl })
+    none 0 (record { before = []; after = m; joined = ap (λ x. x ∷ m) (heads (sym j ∙ f.joined)); index = refl })
 
-later : (x : ℕ) (n : List ℕ) → StandsNowhere equals (x ∷ n) → StandsNowhere equals n
-later x n h i s = h (1 + i) (record { before = x ∷ s.before; behind = s.behind; joined = ap (λ l. x ∷ l) s.joined; place = let p = s.place in omega arith })
+later : (x : ℕ) (n : List ℕ) → OccursNowhere equals (x ∷ n) → OccursNowhere equals n
+later x n h i s = h (1 + i) (record { before = x ∷ s.before; after = s.after; joined = ap (λ l. x ∷ l) s.joined; index = let p = s.index in omega arith })
 
 -- the first `=` is where the name ends
-one_end : (n m rest left : List ℕ) → StandsNowhere equals n → StandsNowhere equals m → ((rest ≡ []) ⊎ IsPrefix equals rest) → ((left ≡ []) ⊎ IsPrefix equals left) → n ++ rest ≡ m ++ left → (n ≡ m) × (rest ≡ left)
+one_end : (n m rest left : List ℕ) → OccursNowhere equals n → OccursNowhere equals m → ((rest ≡ []) ⊎ IsPrefix equals rest) → ((left ≡ []) ⊎ IsPrefix equals left) → n ++ rest ≡ m ++ left → (n ≡ m) × (rest ≡ left)
 one_end [] [] rest left a b h k e = (refl, e)
 one_end [] (y ∷ m) rest left a b h k e = absurd (clash m rest left y b h e)
 one_end (x ∷ n) [] rest left a b h k e = absurd (clash n left rest x a k (sym e))
@@ -52,11 +52,11 @@ one_named s (ShortBytes all) other rest left a b = absurd a
 one_named s (Value v) other rest left a b = absurd a
 
 -- a character is first, or none is
-not_bare : (s rest : List ℕ) (c : ℕ) → IsScalar c → s ≡ encode_utf8 c ++ rest → ¬ (StartsWithNoCharacter s)
-not_bare s rest c scalar e bare = bare (length (encode c)) (record {
+not_uncovered : (s rest : List ℕ) (c : ℕ) → IsScalar c → s ≡ encode_utf8 c ++ rest → ¬ (StartsWithNoCharacter s)
+not_uncovered s rest c scalar e uncovered = uncovered (length (encode c)) (record {
   char = c;
   scalar = scalar;
-  stands = record { before = []; behind = rest; joined = e ∙ ap (λ x. x ++ rest) (sym (form_encode c)); place = refl };
+  occurs = record { before = []; after = rest; joined = e ∙ ap (λ x. x ++ rest) (sym (form_encode c)); index = refl };
   end = omega arith;
 })
 
@@ -66,11 +66,11 @@ one_flag s (LongBytes n) other rest left a b = absurd a
 one_flag s (Short c) (Long n) rest left a b = absurd b
 one_flag s (Short c) (LongBytes n) rest left a b = absurd b
 one_flag s (Short c) (Short d) rest left a b = let r = encode_same c d rest left (sym a.1 ∙ b.1) in (ap Short r.0, r.1)
-one_flag s (Short c) (ShortBytes all) rest left a b = absurd (not_bare s rest c a.0 a.1 b.1.1.0)
+one_flag s (Short c) (ShortBytes all) rest left a b = absurd (not_uncovered s rest c a.0 a.1 b.1.1.0)
 one_flag s (Short c) (Value v) rest left a b = absurd b
 one_flag s (ShortBytes all) (Long n) rest left a b = absurd b
 one_flag s (ShortBytes all) (LongBytes n) rest left a b = absurd b
-one_flag s (ShortBytes all) (Short c) rest left a b = absurd (not_bare s left c b.0 b.1 a.1.1.0)
+one_flag s (ShortBytes all) (Short c) rest left a b = absurd (not_uncovered s left c b.0 b.1 a.1.1.0)
 one_flag s (ShortBytes all) (ShortBytes every) rest left a b = (ap ShortBytes (a.0 ∙ sym b.0), a.1.1.1 ∙ sym b.1.1.1)
 one_flag s (ShortBytes all) (Value v) rest left a b = absurd b
 one_flag s (Value v) other rest left a b = absurd a

@@ -1,6 +1,6 @@
 -- How a word is read.
 use Rattle.std.proofs.Common.{◌≡◌, ◌≢◌, inl, inr, ℕ, Bool, IsTrue, List, [], ◌++◌, refl, ap, ◌∙◌}
-use Rattle.wtf8_core.specs.Standing.{IsPrefix}
+use Rattle.wtf8_core.specs.Occurrence.{IsPrefix}
 use Rattle.os_args.specs.Word.{Kind, Value, dash, dashes, StartsAsNegative, IsNamed, IsFlag, IsReadAs}
 
 pub is_long : (numbers : Bool) (s text : List ℕ) (kind : Kind) (rest : List ℕ) → s ≢ dashes → s ≡ dashes ++ text → IsNamed text kind rest → IsReadAs numbers s kind rest

@@ -13,7 +13,7 @@ no_dashes before after word more (inr h) e f d = h.0 (record {
 })
 
 pub takes_next : (before between : Reading) (word : List ℕ) (more : List (List ℕ)) (kind : Kind) (rest : List ℕ) (last : Option Kind) → before.pending ≡ [] → SkipsDashes before between → words_left between ≡ word ∷ more → IsReadIn between.ended between.numbers word kind rest → last ≡ last_option between.last kind
-    → TakesNext before kind (record { given = between.given; place = between.place + 1; pending = rest; ended = between.ended; numbers = between.numbers; last = last })
+    → TakesNext before kind (record { given = between.given; index = between.index + 1; pending = rest; ended = between.ended; numbers = between.numbers; last = last })
 takes_next before between word more kind rest last none skips next read e = record {
   none_pending = none;
   between = between;
@@ -22,7 +22,7 @@ takes_next before between word more kind rest last none skips next read e = reco
   more = more;
   next = next;
   read = read;
-  same = ap (λ l. record { given = between.given; place = between.place + 1; pending = rest; ended = between.ended; numbers = between.numbers; last = l }) e;
+  same = ap (λ l. record { given = between.given; index = between.index + 1; pending = rest; ended = between.ended; numbers = between.numbers; last = l }) e;
 }
 
 pub takes_whole : (before now : Reading) (word : List ℕ) (more : List (List ℕ)) → now ≡ before → words_left now ≡ word ∷ more → TakesWhole before word (without_word now)

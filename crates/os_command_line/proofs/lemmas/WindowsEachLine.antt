@@ -5,7 +5,7 @@ use Rattle.std.proofs.lemmas.List.{replicate_more}
 use Rattle.os_command_line.specs.Windows.{backslash, quote, IsBlank, backslashes, IsLiteral, Ends, Begins, Reads, AreArguments, ReadsName}
 use Rattle.os_command_line.specs.Windows.Reads.{ends, literal, escaped, opens, closes, doubled}
 use Rattle.os_command_line.specs.Windows.ReadsName.{name_ends, name_quote, name_unit}
-use Rattle.os_command_line.specs.WindowsReader.{place, word_from, first_place, arguments_in}
+use Rattle.os_command_line.specs.WindowsReader.{index, word_from, first_index, arguments_in}
 use Rattle.os_command_line.proofs.lemmas.WindowsOneReading.{at, in_name, slash_at, ends_at, literal_at, escaped_at, opens_at, closes_at, closed_at, doubled_at, quote_at, unit_at, complete_list}
 
 -- a reading of equal texts and arguments
@@ -29,9 +29,9 @@ IsRead inside n text r = Reads r.1 inside (backslashes n ++ text) r.0
 abbrev IsReadClosing : List ℕ → List ℕ × List ℕ → Type 0
 IsReadClosing text r = (k : ℕ) → Reads r.1 true (backslashes (2 * k) ++ quote ∷ text) (backslashes k ++ r.0)
 
--- from a place on a text
+-- from an index on a text
 abbrev IsSound : List ℕ → Type 0
-IsSound text = ((inside : Bool) (n : ℕ) → IsRead inside n text (word_from (at inside n) text)) × IsReadClosing text (word_from (place false true false 0) text)
+IsSound text = ((inside : Bool) (n : ℕ) → IsRead inside n text (word_from (at inside n) text)) × IsReadClosing text (word_from (index false true false 0) text)
 
 at_slash : (inside : Bool) (n : ℕ) (us : List ℕ) → IsSound us → IsRead inside n (backslash ∷ us) (word_from (at inside n) (backslash ∷ us))
 at_slash inside n us h = subst (IsRead inside n (backslash ∷ us)) (sym (slash_at inside n us)) (same (more_backslashes n us) refl (h.0 inside (n + 1)))
@@ -78,14 +78,14 @@ at_any inside n u us h = elim (cases_eq u backslash) [
   ]
 ]
 
-closing_at : (u : ℕ) (us : List ℕ) → IsSound us → IsReadClosing (u ∷ us) (word_from (place false true false 0) (u ∷ us))
+closing_at : (u : ℕ) (us : List ℕ) → IsSound us → IsReadClosing (u ∷ us) (word_from (index false true false 0) (u ∷ us))
 closing_at u us h k = elim (cases_eq u quote) [
-  | inl e ↦ subst (λ v. Reads (word_from (place false true false 0) (v ∷ us)).1 true (backslashes (2 * k) ++ quote ∷ v ∷ us) (backslashes k ++ (word_from (place false true false 0) (v ∷ us)).0)) (sym e) marks
+  | inl e ↦ subst (λ v. Reads (word_from (index false true false 0) (v ∷ us)).1 true (backslashes (2 * k) ++ quote ∷ v ∷ us) (backslashes k ++ (word_from (index false true false 0) (v ∷ us)).0)) (sym e) marks
   | inr q ↦ let r = word_from (at false 0) (u ∷ us) in
       subst (λ (r : List ℕ × List ℕ). Reads r.1 true (backslashes (2 * k) ++ quote ∷ u ∷ us) (backslashes k ++ r.0)) (sym (closed_at (u ∷ us) q)) (closes k (u ∷ us) r.0 q (at_any false 0 u us h))
 ]
   where
-    marks : Reads (word_from (place false true false 0) (quote ∷ us)).1 true (backslashes (2 * k) ++ quote ∷ quote ∷ us) (backslashes k ++ (word_from (place false true false 0) (quote ∷ us)).0)
+    marks : Reads (word_from (index false true false 0) (quote ∷ us)).1 true (backslashes (2 * k) ++ quote ∷ quote ∷ us) (backslashes k ++ (word_from (index false true false 0) (quote ∷ us)).0)
     marks = subst (λ (r : List ℕ × List ℕ). Reads r.1 true (backslashes (2 * k) ++ quote ∷ quote ∷ us) (backslashes k ++ r.0)) (sym (doubled_at us)) (doubled k us (word_from (at true 0) us).0 (h.0 true 0))
 
 sound : (text : List ℕ) → IsSound text
@@ -93,7 +93,7 @@ sound [] = (λ inside n. at_end inside n [] tt, λ k. subst (λ (r : List ℕ ×
 sound (u ∷ us) = let h = sound us in (λ inside n. at_any inside n u us h, closing_at u us h)
 
 -- each text is read as an argument
-pub some_reading : (text : List ℕ) → Reads (word_from first_place text).1 false text (word_from first_place text).0
+pub some_reading : (text : List ℕ) → Reads (word_from first_index text).1 false text (word_from first_index text).0
 some_reading text = (sound text).0 false 0
 
 -- and as a program's name
@@ -157,7 +157,7 @@ each_line fuel [] h = ([], tt)
 each_line zero (u ∷ us) h = absurd (omega (arith, h))
 each_line (suc fuel) (u ∷ us) h = elim (blank_cases u) [
   | inl b ↦ let r = each_line fuel us (omega (arith, h)) in (r.0, blank_first u us r.0 b r.1)
-  | inr b ↦ let read = word_from first_place (u ∷ us) in
+  | inr b ↦ let read = word_from first_index (u ∷ us) in
       let reads = some_reading (u ∷ us) in
       let r = each_line fuel read.1 (omega (arith, h, shorter read.1 false (u ∷ us) read.0 reads b)) in
       (read.0 ∷ r.0, (read.1, record { blanks = []; text = u ∷ us; joined = refl; are_blanks = tt; begins = b; reads = reads }, r.1))

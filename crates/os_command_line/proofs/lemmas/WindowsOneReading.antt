@@ -5,13 +5,13 @@ use Rattle.std.proofs.lemmas.Bool.{ne_eqb, eq-eqb}
 use Rattle.os_command_line.specs.Windows.{backslash, quote, IsBlank, backslashes, IsLiteral, Ends, StartsWithNoQuote, Begins, Reads, IsNext, AreArguments, ReadsName, IsCommandLine}
 use Rattle.os_command_line.specs.Windows.Reads.{ends, literal, escaped, opens, closes, doubled}
 use Rattle.os_command_line.specs.Windows.ReadsName.{name_ends, name_quote, name_unit}
-use Rattle.os_command_line.specs.declared.windows.place.Place.{Place}
-use Rattle.os_command_line.specs.WindowsReader.{is_blank, place, is_end, output, step, prepend, word_from, meant, first_place, name_place, arguments_from, arguments_in}
+use Rattle.os_command_line.specs.declared.windows.index.Index.{Index}
+use Rattle.os_command_line.specs.WindowsReader.{is_blank, index, is_end, output, step, prepend, word_from, meant, first_index, name_index, arguments_from, arguments_in}
 use Rattle.os_command_line.specs.WindowsReader.Mode.{Within}
 
 -- in an argument
-abbrev pub at : Bool → ℕ → Place
-at inside run = place false false inside run
+abbrev pub at : Bool → ℕ → Index
+at inside run = index false false inside run
 
 pub not_blank : (u : ℕ) → ¬ (IsBlank u) → is_blank u ≡ false
 not_blank u h = rw (ne_eqb u 0x20 (λ e. h (inl e)), ne_eqb u 0x09 (λ e. h (inr e))) refl
@@ -32,7 +32,7 @@ first_run inside (suc n) run text = slash_at inside run (backslashes n ++ text) 
 run_is : (inside : Bool) (n : ℕ) (text : List ℕ) → word_from (at inside 0) (backslashes n ++ text) ≡ word_from (at inside n) text
 run_is inside n text = first_run inside n 0 text ∙ ap (λ r. word_from (at inside r) text) (omega arith)
 
-pub ends_at : (name closing inside : Bool) (n : ℕ) (after : List ℕ) → Ends inside after → word_from (place name closing inside n) after ≡ (backslashes n, after)
+pub ends_at : (name closing inside : Bool) (n : ℕ) (after : List ℕ) → Ends inside after → word_from (index name closing inside n) after ≡ (backslashes n, after)
 unfolding word_from
 ends_at name closing inside n [] h = refl
 ends_at name closing true n (u ∷ us) h = absurd h
@@ -64,16 +64,16 @@ pub opens_at : (n : ℕ) (text : List ℕ) → word_from (at false (2 * n)) (quo
 unfolding word_from
 opens_at n text = rw (even n, half_even n) refl
 
-pub closes_at : (n : ℕ) (text : List ℕ) → word_from (at true (2 * n)) (quote ∷ text) ≡ prepend (backslashes n) (word_from (place false true false 0) text)
+pub closes_at : (n : ℕ) (text : List ℕ) → word_from (at true (2 * n)) (quote ∷ text) ≡ prepend (backslashes n) (word_from (index false true false 0) text)
 unfolding word_from
 closes_at n text = rw (even n, half_even n) refl
 
-pub closed_at : (text : List ℕ) → StartsWithNoQuote text → word_from (place false true false 0) text ≡ word_from (at false 0) text
+pub closed_at : (text : List ℕ) → StartsWithNoQuote text → word_from (index false true false 0) text ≡ word_from (at false 0) text
 unfolding word_from
 closed_at [] h = refl
 closed_at (u ∷ us) h = rw (ne_eqb u 0x22 h) refl
 
-pub doubled_at : (text : List ℕ) → word_from (place false true false 0) (quote ∷ text) ≡ prepend (quote ∷ []) (word_from (at true 0) text)
+pub doubled_at : (text : List ℕ) → word_from (index false true false 0) (quote ∷ text) ≡ prepend (quote ∷ []) (word_from (at true 0) text)
 unfolding word_from
 doubled_at text = refl
 
@@ -96,8 +96,8 @@ one_reading a b text x y p q =
     (ap (λ (z : List ℕ × List ℕ). z.0) e, ap (λ (z : List ℕ × List ℕ). z.1) e)
 
 -- the same of the program's name
-abbrev pub in_name : Bool → Place
-in_name inside = place true false inside 0
+abbrev pub in_name : Bool → Index
+in_name inside = index true false inside 0
 
 pub quote_at : (inside : Bool) (text : List ℕ) → word_from (in_name inside) (quote ∷ text) ≡ word_from (in_name (not inside)) text
 unfolding word_from
@@ -121,26 +121,26 @@ one_name a b text x y p q =
 
 -- ---- lists of arguments
 
-end_is_blank : (p : Place) (u : ℕ) → is_end p u ≡ true → is_blank u ≡ true
+end_is_blank : (p : Index) (u : ℕ) → is_end p u ≡ true → is_blank u ≡ true
 end_is_blank p u e = both (not p.inside) (is_blank u) e
   where
     both : (a b : Bool) → a && b ≡ true → b ≡ true
     both true b e = e
     both false b e = let f : false ≡ true = e in cc
 
-word_end : (p : Place) (u : ℕ) (us : List ℕ) → is_end p u ≡ true → word_from p (u ∷ us) ≡ (backslashes p.run, u ∷ us)
+word_end : (p : Index) (u : ℕ) (us : List ℕ) → is_end p u ≡ true → word_from p (u ∷ us) ≡ (backslashes p.run, u ∷ us)
 unfolding word_from
 word_end p u us e = rw e refl
 
-word_more : (p : Place) (u : ℕ) (us : List ℕ) → is_end p u ≡ false → word_from p (u ∷ us) ≡ prepend (output p u) (word_from (step p u) us)
+word_more : (p : Index) (u : ℕ) (us : List ℕ) → is_end p u ≡ false → word_from p (u ∷ us) ≡ prepend (output p u) (word_from (step p u) us)
 unfolding word_from
 word_more p u us e = rw e refl
 
-within_end : (p : Place) (word : List ℕ) (u : ℕ) (us : List ℕ) → is_end p u ≡ true → arguments_from (Within p word) (u ∷ us) ≡ (word ++ backslashes p.run) ∷ arguments_in us
+within_end : (p : Index) (word : List ℕ) (u : ℕ) (us : List ℕ) → is_end p u ≡ true → arguments_from (Within p word) (u ∷ us) ≡ (word ++ backslashes p.run) ∷ arguments_in us
 unfolding arguments_from
 within_end p word u us e = rw e refl
 
-within_more : (p : Place) (word : List ℕ) (u : ℕ) (us : List ℕ) → is_end p u ≡ false → arguments_from (Within p word) (u ∷ us) ≡ arguments_from (Within (step p u) (word ++ output p u)) us
+within_more : (p : Index) (word : List ℕ) (u : ℕ) (us : List ℕ) → is_end p u ≡ false → arguments_from (Within p word) (u ∷ us) ≡ arguments_from (Within (step p u) (word ++ output p u)) us
 unfolding arguments_from
 within_more p word u us e = rw e refl
 
@@ -148,65 +148,65 @@ between_blank : (u : ℕ) (us : List ℕ) → is_blank u ≡ true → arguments_
 unfolding arguments_from
 between_blank u us e = rw e refl
 
-between_more : (u : ℕ) (us : List ℕ) → is_blank u ≡ false → arguments_in (u ∷ us) ≡ arguments_from (Within (step first_place u) (output first_place u)) us
+between_more : (u : ℕ) (us : List ℕ) → is_blank u ≡ false → arguments_in (u ∷ us) ≡ arguments_from (Within (step first_index u) (output first_index u)) us
 unfolding arguments_from
 between_more u us e = rw e refl
 
 -- a text that is one word
-pub meant_step : (p : Place) (u : ℕ) (us : List ℕ) → meant p (u ∷ us) ≡ output p u ++ meant (step p u) us
+pub meant_step : (p : Index) (u : ℕ) (us : List ℕ) → meant p (u ∷ us) ≡ output p u ++ meant (step p u) us
 unfolding meant
 meant_step p u us = refl
 
-pub meant_end : (p : Place) → meant p [] ≡ backslashes p.run
+pub meant_end : (p : Index) → meant p [] ≡ backslashes p.run
 unfolding meant
 meant_end p = refl
 
-no_more : (p : Place) → (word_from p []).0 ≡ meant p []
+no_more : (p : Index) → (word_from p []).0 ≡ meant p []
 unfolding word_from meant
 no_more p = refl
 
-one_word_step : (p : Place) (u : ℕ) (us : List ℕ) → ((word_from (step p u) us).1 ≡ [] → (word_from (step p u) us).0 ≡ meant (step p u) us) → (b : Bool) → is_end p u ≡ b → (word_from p (u ∷ us)).1 ≡ [] → (word_from p (u ∷ us)).0 ≡ meant p (u ∷ us)
+one_word_step : (p : Index) (u : ℕ) (us : List ℕ) → ((word_from (step p u) us).1 ≡ [] → (word_from (step p u) us).0 ≡ meant (step p u) us) → (b : Bool) → is_end p u ≡ b → (word_from p (u ∷ us)).1 ≡ [] → (word_from p (u ∷ us)).0 ≡ meant p (u ∷ us)
 one_word_step p u us h true e w = let f : u ∷ us ≡ [] = ap (λ (x : List ℕ × List ℕ). x.1) (sym (word_end p u us e)) ∙ w in absurd cc
 one_word_step p u us h false e w =
     let more = word_more p u us e in
     ap (λ (x : List ℕ × List ℕ). x.0) more ∙ ap (λ z. output p u ++ z) (h (ap (λ (x : List ℕ × List ℕ). x.1) (sym more) ∙ w)) ∙ sym (meant_step p u us)
 
-pub one_word : (p : Place) (text : List ℕ) → (word_from p text).1 ≡ [] → (word_from p text).0 ≡ meant p text
+pub one_word : (p : Index) (text : List ℕ) → (word_from p text).1 ≡ [] → (word_from p text).0 ≡ meant p text
 one_word p [] w = no_more p
 one_word p (u ∷ us) w = one_word_step p u us (one_word (step p u) us) (is_end p u) refl w
 
-pub complete_alone : (text argument : List ℕ) → Reads [] false text argument → meant first_place text ≡ argument
+pub complete_alone : (text argument : List ℕ) → Reads [] false text argument → meant first_index text ≡ argument
 complete_alone text argument r =
     let c = complete [] false text argument r in
-    sym (one_word first_place text (ap (λ (x : List ℕ × List ℕ). x.1) c)) ∙ ap (λ (x : List ℕ × List ℕ). x.0) c
+    sym (one_word first_index text (ap (λ (x : List ℕ × List ℕ). x.1) c)) ∙ ap (λ (x : List ℕ × List ℕ). x.0) c
 
-pub complete_name_alone : (text name : List ℕ) → ReadsName [] false text name → meant name_place text ≡ name
+pub complete_name_alone : (text name : List ℕ) → ReadsName [] false text name → meant name_index text ≡ name
 complete_name_alone text name r =
     let c = complete_name [] false text name r in
-    sym (one_word name_place text (ap (λ (x : List ℕ × List ℕ). x.1) c)) ∙ ap (λ (x : List ℕ × List ℕ). x.0) c
+    sym (one_word name_index text (ap (λ (x : List ℕ × List ℕ). x.1) c)) ∙ ap (λ (x : List ℕ × List ℕ). x.0) c
 
--- the arguments from a place on are the word that is found there and those after it
-abbrev AreFound : Place → List ℕ → List ℕ → Type 0
+-- the arguments from an index on are the word that is found there and those after it
+abbrev AreFound : Index → List ℕ → List ℕ → Type 0
 AreFound p word text = arguments_from (Within p word) text ≡ (word ++ (word_from p text).0) ∷ arguments_in (word_from p text).1
 
-found_step : (p : Place) (word : List ℕ) (u : ℕ) (us : List ℕ) → AreFound (step p u) (word ++ output p u) us → (b : Bool) → is_end p u ≡ b → AreFound p word (u ∷ us)
+found_step : (p : Index) (word : List ℕ) (u : ℕ) (us : List ℕ) → AreFound (step p u) (word ++ output p u) us → (b : Bool) → is_end p u ≡ b → AreFound p word (u ∷ us)
 found_step p word u us h true e =
     within_end p word u us e ∙ ap (λ x. (word ++ backslashes p.run) ∷ x) (sym (between_blank u us (end_is_blank p u e))) ∙ sym (ap (λ (x : List ℕ × List ℕ). (word ++ x.0) ∷ arguments_in x.1) (word_end p u us e))
 found_step p word u us h false e =
     let r = word_from (step p u) us in
     within_more p word u us e ∙ h ∙ ap (λ x. x ∷ arguments_in r.1) (append_assoc word (output p u) r.0) ∙ sym (ap (λ (x : List ℕ × List ℕ). (word ++ x.0) ∷ arguments_in x.1) (word_more p u us e))
 
-no_text : (p : Place) (word : List ℕ) → AreFound p word []
+no_text : (p : Index) (word : List ℕ) → AreFound p word []
 unfolding word_from arguments_from
 no_text p word = refl
 
-within_is : (p : Place) (word text : List ℕ) → AreFound p word text
+within_is : (p : Index) (word text : List ℕ) → AreFound p word text
 within_is p word [] = no_text p word
 within_is p word (u ∷ us) = found_step p word u us (within_is (step p u) (word ++ output p u) us) (is_end p u) refl
 
-pub between_is : (u : ℕ) (us : List ℕ) → is_blank u ≡ false → arguments_in (u ∷ us) ≡ (word_from first_place (u ∷ us)).0 ∷ arguments_in (word_from first_place (u ∷ us)).1
+pub between_is : (u : ℕ) (us : List ℕ) → is_blank u ≡ false → arguments_in (u ∷ us) ≡ (word_from first_index (u ∷ us)).0 ∷ arguments_in (word_from first_index (u ∷ us)).1
 between_is u us e =
-    between_more u us e ∙ within_is (step first_place u) (output first_place u) us ∙ sym (ap (λ (x : List ℕ × List ℕ). x.0 ∷ arguments_in x.1) (word_more first_place u us e))
+    between_more u us e ∙ within_is (step first_index u) (output first_index u) us ∙ sym (ap (λ (x : List ℕ × List ℕ). x.0 ∷ arguments_in x.1) (word_more first_index u us e))
 
 pub blanks_are : (blanks text : List ℕ) → AllByRecursion IsBlank blanks → arguments_in (blanks ++ text) ≡ arguments_in text
 blanks_are [] text h = refl

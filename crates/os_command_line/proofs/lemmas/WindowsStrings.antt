@@ -8,14 +8,14 @@ use Rattle.wtf8_core.specs.CodePoint.{IsCodePoint, encode, encode_utf16}
 use Rattle.wtf8_core.specs.Wtf8.{IsWtf8, HasNoSurrogatePair, units}
 use Rattle.wtf8_core.specs.UnitsOf.{units_of}
 use Rattle.wtf8_core.proofs.lemmas.forms.Appending.{append_same}
-use Rattle.wtf8_core.proofs.lemmas.forms.ByStd.{forms_front}
+use Rattle.wtf8_core.proofs.lemmas.forms.ByStd.{forms_prefix}
 use Rattle.wtf8_core.proofs.lemmas.forms.LastForms.{no_points}
 use Rattle.wtf8_core.proofs.lemmas.forms.Shapes.{form_ascii, form_two, form_three, form_past, form_bounds}
 use Rattle.wtf8_core.proofs.lemmas.units.OneToOne.{wide_single, wide_pair}
-use Rattle.wtf8_core.proofs.lemmas.units.Cuts.{spells_front, spells_back}
-use Rattle.wtf8_core.proofs.lemmas.units.AsFunction.{code_points_in-spelled}
+use Rattle.wtf8_core.proofs.lemmas.units.Cuts.{encodes_prefix, encodes_suffix}
+use Rattle.wtf8_core.proofs.lemmas.units.AsFunction.{code_points_in-encoded}
 use Rattle.os_command_line.specs.Windows.{IsBlank, Begins, Reads, ReadsName}
-use Rattle.os_command_line.specs.WindowsReader.{word_from, meant, first_place, name_place}
+use Rattle.os_command_line.specs.WindowsReader.{word_from, meant, first_index, name_index}
 use Rattle.os_command_line.specs.WindowsSteps.{IsArgumentCut, IsNameCut}
 use Rattle.os_command_line.proofs.lemmas.WindowsOneReading.{complete_alone, complete_name_alone, one_reading, one_name}
 use Rattle.os_command_line.proofs.lemmas.WindowsEachLine.{some_reading, some_name}
@@ -55,7 +55,7 @@ few_units (c ∷ cs) = omega (arith, length-append (encode_utf16 c) (units cs), 
     ]
 
 pub units_fit : (b : List ℕ) → IsWtf8 b → length (units_of b) ≤ length b
-units_fit b w = omega (arith, ap length w.1.joined, ap (λ cs. length (units cs)) (code_points_in-spelled b w.0 w.1), few_units w.0)
+units_fit b w = omega (arith, ap length w.1.joined, ap (λ cs. length (units cs)) (code_points_in-encoded b w.0 w.1), few_units w.0)
 
 -- the text before the same end is the same
 same_before : (a b after : List ℕ) → a ++ after ≡ b ++ after → a ≡ b
@@ -70,26 +70,26 @@ record AreParts (before own after : List ℕ) : Type 0 where
 
 are_parts : (before own after : List ℕ) → AllByRecursion IsCodePoint (before ++ (own ++ after)) → HasNoSurrogatePair (before ++ (own ++ after)) → AreParts before own after
 are_parts before own after a f =
-    let both = spells_back before (own ++ after) a f in
-    let front = spells_front own after both.code_points both.paired_free in
-    let back = spells_back own after both.code_points both.paired_free in
-    record { own_formed = (own, front); after_formed = (after, back); own_units = ap units (code_points_in-spelled _ own front); after_units = ap units (code_points_in-spelled _ after back) }
+    let both = encodes_suffix before (own ++ after) a f in
+    let prefix = encodes_prefix own after both.code_points both.no_pair in
+    let suffix = encodes_suffix own after both.code_points both.no_pair in
+    record { own_formed = (own, prefix); after_formed = (after, suffix); own_units = ap units (code_points_in-encoded _ own prefix); after_units = ap units (code_points_in-encoded _ after suffix) }
 
 pub cut_argument : (line blanks raw rest argument : List ℕ) → IsWtf8 line → AllByRecursion IsBlank blanks → line ≡ blanks ++ (raw ++ rest) → Begins (raw ++ rest) → Reads rest false (raw ++ rest) argument → IsArgumentCut line raw rest
 cut_argument line blanks raw rest argument w are e begins reads =
-    let front = forms_front blanks w.0 (raw ++ rest) (sym w.1.joined ∙ e ∙ ap (λ z. z ++ (raw ++ rest)) (sym own_blanks)) in
-    let es = front.0 in
-    let read = word_from first_place es in
+    let prefix = forms_prefix blanks w.0 (raw ++ rest) (sym w.1.joined ∙ e ∙ ap (λ z. z ++ (raw ++ rest)) (sym own_blanks)) in
+    let es = prefix.0 in
+    let read = word_from first_index es in
     let points = some_reading es in
     let a = alone read.1 false es read.0 points in
-    let lifted = subst (λ z. Reads (flat_map encode read.1) false z (flat_map encode read.0)) front.2 (lift encode bytes_form read.1 false es read.0 points) in
+    let lifted = subst (λ z. Reads (flat_map encode read.1) false z (flat_map encode read.0)) prefix.2 (lift encode bytes_form read.1 false es read.0 points) in
     let rest_is : rest ≡ flat_map encode read.1 = (one_reading rest (flat_map encode read.1) (raw ++ rest) argument (flat_map encode read.0) reads lifted).1 in
-    let text : raw ++ flat_map encode read.1 ≡ flat_map encode a.own ++ flat_map encode read.1 = ap (λ z. raw ++ z) (sym rest_is) ∙ sym front.2 ∙ ap (flat_map encode) a.joined ∙ flat_map-append encode a.own read.1 in
+    let text : raw ++ flat_map encode read.1 ≡ flat_map encode a.own ++ flat_map encode read.1 = ap (λ z. raw ++ z) (sym rest_is) ∙ sym prefix.2 ∙ ap (flat_map encode) a.joined ∙ flat_map-append encode a.own read.1 in
     let raw_is : raw ≡ flat_map encode a.own = same_before raw (flat_map encode a.own) (flat_map encode read.1) text in
-    let whole : w.0 ≡ blanks ++ (a.own ++ read.1) = front.1 ∙ ap (λ z. blanks ++ z) a.joined in
-    let parts = are_parts blanks a.own read.1 (subst (AllByRecursion IsCodePoint) whole w.1.code_points) (subst HasNoSurrogatePair whole w.1.paired_free) in
-    let begun : Begins es = form_begins encode bytes_form es (subst Begins (sym front.2) begins) in
-    let line_units : units_of line ≡ blanks ++ units es = ap units (code_points_in-spelled line w.0 w.1 ∙ front.1) ∙ blanks_form encode_utf16 units_form blanks es are in
+    let whole : w.0 ≡ blanks ++ (a.own ++ read.1) = prefix.1 ∙ ap (λ z. blanks ++ z) a.joined in
+    let parts = are_parts blanks a.own read.1 (subst (AllByRecursion IsCodePoint) whole w.1.code_points) (subst HasNoSurrogatePair whole w.1.no_pair) in
+    let begun : Begins es = form_begins encode bytes_form es (subst Begins (sym prefix.2) begins) in
+    let line_units : units_of line ≡ blanks ++ units es = ap units (code_points_in-encoded line w.0 w.1 ∙ prefix.1) ∙ blanks_form encode_utf16 units_form blanks es are in
     let rest_units : units_of rest ≡ units read.1 = ap units_of rest_is ∙ parts.after_units in
     let raw_units : units_of raw ≡ units a.own = ap units_of raw_is ∙ parts.own_units in
     record {
@@ -101,47 +101,47 @@ cut_argument line blanks raw rest argument w are e begins reads =
         joined = line_units;
         are_blanks = are;
         begins = begins_form encode_utf16 units_form es begun;
-        reads = subst (λ z. Reads z false (units es) (meant first_place (units_of raw))) (sym rest_units) (subst (Reads (units read.1) false (units es)) (sym (own_meaning a.own read.0 raw_units a.reads)) (lift encode_utf16 units_form read.1 false es read.0 points));
+        reads = subst (λ z. Reads z false (units es) (meant first_index (units_of raw))) (sym rest_units) (subst (Reads (units read.1) false (units es)) (sym (own_meaning a.own read.0 raw_units a.reads)) (lift encode_utf16 units_form read.1 false es read.0 points));
       };
     }
   where
     own_blanks : flat_map encode blanks ≡ blanks
     own_blanks = ap (flat_map encode) (sym (append-nil blanks)) ∙ blanks_form encode bytes_form blanks [] are ∙ append-nil blanks
 
-    own_meaning : (own points : List ℕ) → units_of raw ≡ units own → Reads [] false own points → (meant first_place (units_of raw)) ≡ units points
-    own_meaning own points e r = ap (meant first_place) e ∙ complete_alone (units own) (units points) (lift encode_utf16 units_form [] false own points r)
+    own_meaning : (own points : List ℕ) → units_of raw ≡ units own → Reads [] false own points → (meant first_index (units_of raw)) ≡ units points
+    own_meaning own points e r = ap (meant first_index) e ∙ complete_alone (units own) (units points) (lift encode_utf16 units_form [] false own points r)
 
 pub cut_name : (line raw rest name : List ℕ) → IsWtf8 line → line ≡ raw ++ rest → ReadsName rest false (raw ++ rest) name → IsNameCut line raw rest
 cut_name line raw rest name w e reads =
     let es = w.0 in
     let text_is : flat_map encode es ≡ raw ++ rest = sym w.1.joined ∙ e in
-    let read = word_from name_place es in
+    let read = word_from name_index es in
     let points = some_name es false in
     let a = name_alone read.1 false es read.0 points in
     let lifted = subst (λ z. ReadsName (flat_map encode read.1) false z (flat_map encode read.0)) text_is (lift_name encode bytes_form read.1 false es read.0 points) in
     let rest_is : rest ≡ flat_map encode read.1 = (one_name rest (flat_map encode read.1) (raw ++ rest) name (flat_map encode read.0) reads lifted).1 in
     let text : raw ++ flat_map encode read.1 ≡ flat_map encode a.own ++ flat_map encode read.1 = ap (λ z. raw ++ z) (sym rest_is) ∙ sym text_is ∙ ap (flat_map encode) a.joined ∙ flat_map-append encode a.own read.1 in
     let raw_is : raw ≡ flat_map encode a.own = same_before raw (flat_map encode a.own) (flat_map encode read.1) text in
-    let parts = are_parts [] a.own read.1 (subst (AllByRecursion IsCodePoint) a.joined w.1.code_points) (subst HasNoSurrogatePair a.joined w.1.paired_free) in
+    let parts = are_parts [] a.own read.1 (subst (AllByRecursion IsCodePoint) a.joined w.1.code_points) (subst HasNoSurrogatePair a.joined w.1.no_pair) in
     let rest_units : units_of rest ≡ units read.1 = ap units_of rest_is ∙ parts.after_units in
     let raw_units : units_of raw ≡ units a.own = ap units_of raw_is ∙ parts.own_units in
     record {
       raw_formed = subst IsWtf8 (sym raw_is) parts.own_formed;
       rest_formed = subst IsWtf8 (sym rest_is) parts.after_formed;
-      reads = subst (λ z. ReadsName z false (units_of line) (meant name_place (units_of raw))) (sym rest_units)
-          (subst (λ z. ReadsName (units read.1) false z (meant name_place (units_of raw))) (sym (ap units (code_points_in-spelled line w.0 w.1)))
+      reads = subst (λ z. ReadsName z false (units_of line) (meant name_index (units_of raw))) (sym rest_units)
+          (subst (λ z. ReadsName (units read.1) false z (meant name_index (units_of raw))) (sym (ap units (code_points_in-encoded line w.0 w.1)))
           (subst (ReadsName (units read.1) false (units es)) (sym (own_meaning a.own read.0 raw_units a.reads)) (lift_name encode_utf16 units_form read.1 false es read.0 points)));
     }
   where
-    own_meaning : (own points : List ℕ) → units_of raw ≡ units own → ReadsName [] false own points → (meant name_place (units_of raw)) ≡ units points
-    own_meaning own points e r = ap (meant name_place) e ∙ complete_name_alone (units own) (units points) (lift_name encode_utf16 units_form [] false own points r)
+    own_meaning : (own points : List ℕ) → units_of raw ≡ units own → ReadsName [] false own points → (meant name_index (units_of raw)) ≡ units points
+    own_meaning own points e r = ap (meant name_index) e ∙ complete_name_alone (units own) (units points) (lift_name encode_utf16 units_form [] false own points r)
 
 -- blanks have blanks as units
 pub blank_units : (line blanks : List ℕ) → IsWtf8 line → AllByRecursion IsBlank blanks → line ≡ blanks → AllByRecursion IsBlank (units_of line)
 blank_units line blanks w are e =
-    let front = forms_front blanks w.0 [] (sym w.1.joined ∙ e ∙ sym (append-nil blanks) ∙ ap (λ z. z ++ []) (sym own_blanks)) in
-    let points : w.0 ≡ blanks = front.1 ∙ ap (λ z. blanks ++ z) (no_points front.0 front.2) ∙ append-nil blanks in
-    let us : units_of line ≡ blanks = ap units (code_points_in-spelled line w.0 w.1 ∙ points ∙ sym (append-nil blanks)) ∙ blanks_form encode_utf16 units_form blanks [] are ∙ append-nil blanks in
+    let prefix = forms_prefix blanks w.0 [] (sym w.1.joined ∙ e ∙ sym (append-nil blanks) ∙ ap (λ z. z ++ []) (sym own_blanks)) in
+    let points : w.0 ≡ blanks = prefix.1 ∙ ap (λ z. blanks ++ z) (no_points prefix.0 prefix.2) ∙ append-nil blanks in
+    let us : units_of line ≡ blanks = ap units (code_points_in-encoded line w.0 w.1 ∙ points ∙ sym (append-nil blanks)) ∙ blanks_form encode_utf16 units_form blanks [] are ∙ append-nil blanks in
     subst (AllByRecursion IsBlank) (sym us) are
   where
     own_blanks : flat_map encode blanks ≡ blanks
@@ -152,7 +152,7 @@ pub no_units : (b : List ℕ) → IsWtf8 b → b ≡ [] → units_of b ≡ []
 no_units b w e = nil_from_length (units_of b) (omega (arith, units_fit b w, ap length e))
 
 pub no_bytes : (b : List ℕ) → IsWtf8 b → units_of b ≡ [] → b ≡ []
-no_bytes b w e = w.1.joined ∙ ap (flat_map encode) (none w.0 (sym (ap units (code_points_in-spelled b w.0 w.1)) ∙ e))
+no_bytes b w e = w.1.joined ∙ ap (flat_map encode) (none w.0 (sym (ap units (code_points_in-encoded b w.0 w.1)) ∙ e))
   where
     some : (c : ℕ) (us : List ℕ) → encode_utf16 c ++ us ≡ [] → ⊥
     some c us e = elim (cases_lt c 0x1_0000) [

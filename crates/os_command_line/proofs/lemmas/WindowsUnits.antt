@@ -4,30 +4,30 @@ use Rattle.std.proofs.Math.Seq.{take-append_seam, drop-append_seam}
 use Rattle.std.specs.Prelude.{IsTrue}
 use Rattle.wtf8_core.proofs.lemmas.forms.Appending.{append_same}
 use Rattle.wtf8_core.proofs.lemmas.units.PrefixTests.{never}
-use Rattle.os_command_line.specs.declared.windows.place.Place.{Place}
-use Rattle.os_command_line.specs.declared.windows.place.Known.{Known}
+use Rattle.os_command_line.specs.declared.windows.index.Index.{Index}
+use Rattle.os_command_line.specs.declared.windows.index.Known.{Known}
 use Rattle.os_command_line.specs.Windows.{quote, backslashes}
 use Rattle.os_command_line.specs.WindowsReader.{output, step, is_slash, meant, known_units}
 use Rattle.os_command_line.proofs.lemmas.WindowsOneReading.{meant_step, meant_end}
 
-pub nothing_meant : (q : Place) (rest : List ℕ) → rest ≡ [] → q.run ≡ 0 → meant q rest ≡ []
+pub nothing_meant : (q : Index) (rest : List ℕ) → rest ≡ [] → q.run ≡ 0 → meant q rest ≡ []
 nothing_meant q rest f z = ap (meant q) f ∙ meant_end q ∙ ap backslashes z
 
-module _ (all : List ℕ) (p : Place) (us : List ℕ) (so_far : all ≡ meant p us) where
-  pub read_known : (u : ℕ) (rest : List ℕ) (k : Known) (q : Place) → us ≡ u ∷ rest → known_units k ≡ output p u → q ≡ step p u → all ≡ known_units k ++ meant q rest
+module _ (all : List ℕ) (p : Index) (us : List ℕ) (so_far : all ≡ meant p us) where
+  pub read_known : (u : ℕ) (rest : List ℕ) (k : Known) (q : Index) → us ≡ u ∷ rest → known_units k ≡ output p u → q ≡ step p u → all ≡ known_units k ++ meant q rest
   read_known u rest k q e o s = so_far ∙ ap (meant p) e ∙ meant_step p u rest ∙ ap (λ z. z ++ meant (step p u) rest) (sym o) ∙ ap (λ z. known_units k ++ meant z rest) (sym s)
 
-  pub read_on : (u : ℕ) (rest : List ℕ) (k : Known) (q : Place) → us ≡ u ∷ rest → known_units k ≡ output p u → q ≡ step p u → known_units k ≡ [] → all ≡ meant q rest
+  pub read_on : (u : ℕ) (rest : List ℕ) (k : Known) (q : Index) → us ≡ u ∷ rest → known_units k ≡ output p u → q ≡ step p u → known_units k ≡ [] → all ≡ meant q rest
   read_on u rest k q e o s none = read_known u rest k q e o s ∙ ap (λ z. z ++ meant q rest) none
 
-  pub read_end : (q : Place) (rest : List ℕ) → us ≡ [] → rest ≡ [] → q.run ≡ 0 → all ≡ (backslashes p.run ++ []) ++ meant q rest
+  pub read_end : (q : Index) (rest : List ℕ) → us ≡ [] → rest ≡ [] → q.run ≡ 0 → all ≡ (backslashes p.run ++ []) ++ meant q rest
   read_end q rest e f z =
       so_far ∙ ap (meant p) e ∙ meant_end p ∙ sym (append-nil (backslashes p.run)) ∙ sym (append-nil (backslashes p.run ++ [])) ∙ ap (λ x. (backslashes p.run ++ []) ++ x) (sym (nothing_meant q rest f z))
 
-pub short_step : (p : Place) (u : ℕ) → (step p u).run ≤ p.run + 1
+pub short_step : (p : Index) (u : ℕ) → (step p u).run ≤ p.run + 1
 short_step p u = if_each (p.closing && eqb u quote) _ _ (omega arith) (if_each (is_slash p u) _ _ (omega arith) (if_each (eqb u quote) _ _ (if_each (eqb (p.run % 2) 1) _ _ (omega arith) (omega arith)) (omega arith)))
   where
-    if_each : (b : Bool) (x y : Place) → x.run ≤ p.run + 1 → y.run ≤ p.run + 1 → (cond b x y).run ≤ p.run + 1
+    if_each : (b : Bool) (x y : Index) → x.run ≤ p.run + 1 → y.run ≤ p.run + 1 → (cond b x y).run ≤ p.run + 1
     if_each true x y h k = h
     if_each false x y h k = k
 
@@ -49,12 +49,12 @@ cut_before_end text raw rest n e k =
     (ap (λ m. take m text) at ∙ ap (take (length raw)) e ∙ take-append_seam raw rest, ap (λ m. drop m text) at ∙ ap (drop (length raw)) e ∙ drop-append_seam raw rest)
 
 -- lists that differ, or end together, after the same units
-module _ (mine other front m w : List ℕ) (a : mine ≡ front ++ m) (b : other ≡ front ++ w) where
+module _ (mine other prefix m w : List ℕ) (a : mine ≡ prefix ++ m) (b : other ≡ prefix ++ w) where
   pub never_equal : (m ≡ w → ⊥) → (IsTrue false → mine ≡ other) × (mine ≡ other → IsTrue false)
-  never_equal n = never (mine ≡ other) (λ e. n (append_same front m front w (sym a ∙ e ∙ b) refl).1)
+  never_equal n = never (mine ≡ other) (λ e. n (append_same prefix m prefix w (sym a ∙ e ∙ b) refl).1)
 
   pub are_equal : m ≡ [] → w ≡ [] → (IsTrue true → mine ≡ other) × (mine ≡ other → IsTrue true)
-  are_equal e f = (λ _. a ∙ ap (λ z. front ++ z) (e ∙ sym f) ∙ sym b, λ _. refl)
+  are_equal e f = (λ _. a ∙ ap (λ z. prefix ++ z) (e ∙ sym f) ∙ sym b, λ _. refl)
 
 pub not_nil : (xs ys : List ℕ) (y : ℕ) (zs : List ℕ) → xs ≡ [] → ys ≡ y ∷ zs → xs ≡ ys → ⊥
 not_nil xs ys y zs e f g = let h : [] ≡ y ∷ zs = sym e ∙ g ∙ f in cc
@@ -62,5 +62,5 @@ not_nil xs ys y zs e f g = let h : [] ≡ y ∷ zs = sym e ∙ g ∙ f in cc
 pub not_first : (xs ys : List ℕ) (x y : ℕ) (us zs : List ℕ) → xs ≡ x ∷ us → ys ≡ y ∷ zs → x ≢ y → xs ≡ ys → ⊥
 not_first xs ys x y us zs e f n g = let h : x ∷ us ≡ y ∷ zs = sym e ∙ g ∙ f in let k : x ≡ y = cc in n k
 
-pub both_more : (mine front m : List ℕ) (u : ℕ) (us : List ℕ) → mine ≡ front ++ m → m ≡ u ∷ us → mine ≡ (front ++ u ∷ []) ++ us
-both_more mine front m u us a e = a ∙ ap (λ z. front ++ z) e ∙ sym (append_assoc front (u ∷ []) us)
+pub both_more : (mine prefix m : List ℕ) (u : ℕ) (us : List ℕ) → mine ≡ prefix ++ m → m ≡ u ∷ us → mine ≡ (prefix ++ u ∷ []) ++ us
+both_more mine prefix m u us a e = a ∙ ap (λ z. prefix ++ z) e ∙ sym (append_assoc prefix (u ∷ []) us)

@@ -17,20 +17,20 @@ none_written : Writes false [] 0 []
 none_written tail more after r = r
 
 extend_slash : (inside : Bool) (n : ℕ) → Extends inside n backslash (backslash ∷ []) (n + 1)
-extend_slash inside n front taken w tail more after r =
+extend_slash inside n prefix taken w tail more after r =
     let inner = w (backslash ∷ tail) (backslash ∷ more) after (same (more_backslashes n tail) (more_backslashes n more) r) in
-    same (sym (append_assoc front (backslash ∷ []) tail)) (sym (append_assoc taken (backslash ∷ []) more)) inner
+    same (sym (append_assoc prefix (backslash ∷ []) tail)) (sym (append_assoc taken (backslash ∷ []) more)) inner
 
 extend_literal : (inside : Bool) (n u : ℕ) → IsLiteral inside u → Extends inside n u (u ∷ []) 0
-extend_literal inside n u h front taken w tail more after r =
+extend_literal inside n u h prefix taken w tail more after r =
     let inner = w (u ∷ tail) (u ∷ more) after (literal inside n u tail more h r) in
-    same (sym (append_assoc front (u ∷ []) tail)) (sym (append_assoc taken (u ∷ []) more)) inner
+    same (sym (append_assoc prefix (u ∷ []) tail)) (sym (append_assoc taken (u ∷ []) more)) inner
 
 extend_quote : (inside : Bool) (n : ℕ) → Extends inside n quote (backslashes (n + 1) ++ quote ∷ []) 0
-extend_quote inside n front taken w tail more after r =
+extend_quote inside n prefix taken w tail more after r =
     let read = same (sym (twice n (n + 1) (2 * n + 1) (quote ∷ tail) (omega arith))) refl (escaped inside n tail more r) in
     let inner = w (backslashes (n + 1) ++ quote ∷ tail) (quote ∷ more) after read in
-    same (ap (λ z. front ++ z) (sym (append_assoc (backslashes (n + 1)) (quote ∷ []) tail)) ∙ sym (append_assoc front (backslashes (n + 1) ++ quote ∷ []) tail))
+    same (ap (λ z. prefix ++ z) (sym (append_assoc (backslashes (n + 1)) (quote ∷ []) tail)) ∙ sym (append_assoc prefix (backslashes (n + 1) ++ quote ∷ []) tail))
     (sym (append_assoc taken (quote ∷ []) more)) inner
 
 slash_no_blank : IsBlank backslash → ⊥
@@ -58,16 +58,16 @@ module _ (inside : Bool) (run : ℕ) (unit : ℕ) where
 
 pub begun : (inside : Bool) (old : List ℕ) → IsWritten inside old old 0 []
 begun inside old = record {
-  front = [];
+  prefix = [];
   new_is = sym (append-nil old);
   part = λ start meant w. subst (λ z. Writes inside z 0 (meant ++ [])) (sym (append-nil start)) (subst (Writes inside start 0) (sym (append-nil meant)) w);
   begins = λ _ n. absurd (n refl);
   plain = λ _. refl;
 }
 
-begins_more : (front more : List ℕ) → Begins front → Begins (front ++ more)
+begins_more : (prefix more : List ℕ) → Begins prefix → Begins (prefix ++ more)
 begins_more [] more h = absurd h
-begins_more (u ∷ front) more h = h
+begins_more (u ∷ prefix) more h = h
 
 no_last : (c : ℕ) (us : List ℕ) (u : ℕ) → HasNo c (us ++ u ∷ []) → HasNo c us × (u ≢ c)
 no_last c [] u h = (tt, h.0)
@@ -75,9 +75,9 @@ no_last c (x ∷ us) u h = let more = no_last c us u h.1 in ((h.0, more.0), more
 
 pub written_on : (inside : Bool) (old mid new : List ℕ) (run : ℕ) (taken : List ℕ) (unit : ℕ) (added : List ℕ) (next : ℕ) → IsWritten inside old mid run taken → new ≡ mid ++ added → IsAddedFor inside run unit added next → IsWritten inside old new next (taken ++ unit ∷ [])
 written_on inside old mid new run taken unit added next w e x = record {
-  front = w.front ++ added;
-  new_is = e ∙ ap (λ z. z ++ added) w.new_is ∙ append_assoc old w.front added;
-  part = λ start meant h. subst (λ z. Writes inside z next (meant ++ (taken ++ unit ∷ []))) (append_assoc start w.front added) (subst (Writes inside ((start ++ w.front) ++ added) next) (append_assoc meant taken (unit ∷ [])) (x.extends (start ++ w.front) (meant ++ taken) (w.part start meant h)));
+  prefix = w.prefix ++ added;
+  new_is = e ∙ ap (λ z. z ++ added) w.new_is ∙ append_assoc old w.prefix added;
+  part = λ start meant h. subst (λ z. Writes inside z next (meant ++ (taken ++ unit ∷ []))) (append_assoc start w.prefix added) (subst (Writes inside ((start ++ w.prefix) ++ added) next) (append_assoc meant taken (unit ∷ [])) (x.extends (start ++ w.prefix) (meant ++ taken) (w.part start meant h)));
   begins = λ i n. begins_by taken refl i;
   plain = λ h. let parts = no_last quote taken unit h in ap (λ z. z ++ added) (w.plain parts.0) ∙ ap (λ z. taken ++ z) (x.plain parts.1);
 }
@@ -85,9 +85,9 @@ written_on inside old mid new run taken unit added next w e x = record {
     some : (y : ℕ) (t : List ℕ) → y ∷ t ≡ [] → ⊥
     some y t e = cc
 
-    begins_by : (t : List ℕ) → taken ≡ t → inside ≡ false → Begins (w.front ++ added)
+    begins_by : (t : List ℕ) → taken ≡ t → inside ≡ false → Begins (w.prefix ++ added)
     begins_by [] e i = subst (λ z. Begins (z ++ added)) (sym (w.plain (subst (HasNo quote) (sym e) tt) ∙ e)) (x.begins i)
-    begins_by (y ∷ t) e i = begins_more w.front added (w.begins i (λ f. some y t (sym e ∙ f)))
+    begins_by (y ∷ t) e i = begins_more w.prefix added (w.begins i (λ f. some y t (sym e ∙ f)))
 
 no_quote_after : (after : List ℕ) → Ends false after → StartsWithNoQuote after
 no_quote_after [] h = tt
@@ -99,28 +99,28 @@ quote_no_blank (inl h) = omega (arith, h)
 quote_no_blank (inr h) = omega (arith, h)
 
 -- in quotation marks
-quoted_text : (front : List ℕ) (run : ℕ) (argument : List ℕ) → IsPart true front run argument → IsTextOf (quote ∷ (front ++ (backslashes run ++ quote ∷ []))) argument
-quoted_text front run argument part after h = (quote_no_blank, reads)
+quoted_text : (prefix : List ℕ) (run : ℕ) (argument : List ℕ) → IsPart true prefix run argument → IsTextOf (quote ∷ (prefix ++ (backslashes run ++ quote ∷ []))) argument
+quoted_text prefix run argument part after h = (quote_no_blank, reads)
   where
-    reads : Reads after false (quote ∷ (front ++ (backslashes run ++ quote ∷ [])) ++ after) argument
+    reads : Reads after false (quote ∷ (prefix ++ (backslashes run ++ quote ∷ [])) ++ after) argument
     reads =
         let closing = closes run after [] (no_quote_after after h) (ends false 0 h) in
         let read = part (quote ∷ []) [] quote_written (backslashes run ++ quote ∷ after) [] after (same (sym (twice run run (2 * run) (quote ∷ after) (omega arith))) refl closing) in
-        same (ap (λ z. quote ∷ z) (ap (λ z. front ++ z) (sym (append_assoc (backslashes run) (quote ∷ []) after)) ∙ sym (append_assoc front (backslashes run ++ quote ∷ []) after))) (append-nil argument) read
+        same (ap (λ z. quote ∷ z) (ap (λ z. prefix ++ z) (sym (append_assoc (backslashes run) (quote ∷ []) after)) ∙ sym (append_assoc prefix (backslashes run ++ quote ∷ []) after))) (append-nil argument) read
 
 pub written_quoted : (old one two three new : List ℕ) (run : ℕ) (argument : List ℕ) → one ≡ old ++ quote ∷ [] → IsWritten true one two run argument → three ≡ two ++ backslashes run → new ≡ three ++ quote ∷ [] → (text : List ℕ) × (new ≡ old ++ text) × IsTextOf text argument
 written_quoted old one two three new run argument e w f g = (
-  quote ∷ (w.front ++ (backslashes run ++ quote ∷ [])),
-  g ∙ ap (λ z. z ++ quote ∷ []) f ∙ append_assoc two (backslashes run) (quote ∷ []) ∙ ap (λ z. z ++ (backslashes run ++ quote ∷ [])) (w.new_is ∙ ap (λ z. z ++ w.front) e) ∙ append_assoc (old ++ quote ∷ []) w.front (backslashes run ++ quote ∷ [])
-      ∙ append_assoc old (quote ∷ []) (w.front ++ (backslashes run ++ quote ∷ [])),
-  quoted_text w.front run argument w.part,
+  quote ∷ (w.prefix ++ (backslashes run ++ quote ∷ [])),
+  g ∙ ap (λ z. z ++ quote ∷ []) f ∙ append_assoc two (backslashes run) (quote ∷ []) ∙ ap (λ z. z ++ (backslashes run ++ quote ∷ [])) (w.new_is ∙ ap (λ z. z ++ w.prefix) e) ∙ append_assoc (old ++ quote ∷ []) w.prefix (backslashes run ++ quote ∷ [])
+      ∙ append_assoc old (quote ∷ []) (w.prefix ++ (backslashes run ++ quote ∷ [])),
+  quoted_text w.prefix run argument w.part,
 )
 
 -- and without them
 pub written_bare : (old new : List ℕ) (run : ℕ) (argument : List ℕ) → IsWritten false old new run argument → argument ≢ [] → (text : List ℕ) × (new ≡ old ++ text) × IsTextOf text argument
-written_bare old new run argument w some = (w.front, w.new_is, λ after h. (begins_more w.front after (w.begins refl some), reads after h))
+written_bare old new run argument w some = (w.prefix, w.new_is, λ after h. (begins_more w.prefix after (w.begins refl some), reads after h))
   where
-    reads : (after : List ℕ) → Ends false after → Reads after false (w.front ++ after) argument
+    reads : (after : List ℕ) → Ends false after → Reads after false (w.prefix ++ after) argument
     reads after h = same refl (append-nil argument) (w.part [] [] none_written after [] after (same refl (sym (append-nil (backslashes run))) (ends false run h)))
 
 pub plain_written : (old new : List ℕ) (run : ℕ) (argument : List ℕ) → IsWritten false old new run argument → IsPlain argument → new ≡ old ++ argument
@@ -137,8 +137,8 @@ grown_by old new added e = (added, e)
 pub not_grown : (old new : List ℕ) → new ≡ old → (more : List ℕ) × (new ≡ old ++ more)
 not_grown old new e = ([], e ∙ sym (append-nil old))
 
-pub cut_back : (old new : List ℕ) → (more : List ℕ) × (new ≡ old ++ more) → take (length old) new ≡ old
-cut_back old new a = ap (take (length old)) a.1 ∙ take-append_seam old a.0
+pub cut_suffix : (old new : List ℕ) → (more : List ℕ) × (new ≡ old ++ more) → take (length old) new ≡ old
+cut_suffix old new a = ap (take (length old)) a.1 ∙ take-append_seam old a.0
 
 -- ---- a first index
 

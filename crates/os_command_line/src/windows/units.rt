@@ -4,7 +4,7 @@ ghost use Rattle.std.specs.Iterator.{YieldsFirst, item_count};
 ghost use Rattle.os_command_line.specs.WindowsReader.{output, step, meant, known_units};
 
 use crate::windows::argument::Argument;
-use crate::windows::place::{Known, Place};
+use crate::windows::index::{Index, Known};
 use platform_str::WideUnits;
 use std::marker::Model;
 
@@ -46,7 +46,7 @@ impl Known {
     }
 }
 
-impl Place {
+impl Index {
     /// The units that are known to be meant after one more unit.
     #[inline(always)]
     fn output(self, unit: u16) -> Known
@@ -84,12 +84,12 @@ impl Place {
 
     /// Where the reader is then.
     #[inline(always)]
-    fn step(self, unit: u16) -> Place
+    fn step(self, unit: u16) -> Index
         requires { self.run + 1 < 2 ^ 64 }
         ensures { result ≡ step self unit }
     {
         if self.closing && unit == QUOTE {
-            return Place {
+            return Index {
                 in_name: false,
                 closing: false,
                 inside: true,
@@ -97,7 +97,7 @@ impl Place {
             };
         }
         if !self.in_name && unit == BACKSLASH {
-            return Place {
+            return Index {
                 in_name: self.in_name,
                 closing: false,
                 inside: self.inside,
@@ -105,14 +105,14 @@ impl Place {
             };
         }
         if unit != QUOTE || self.run % 2 == 1 {
-            return Place {
+            return Index {
                 in_name: self.in_name,
                 closing: false,
                 inside: self.inside,
                 run: 0,
             };
         }
-        Place {
+        Index {
             in_name: self.in_name,
             closing: !self.in_name && self.inside,
             inside: !self.inside,
@@ -123,46 +123,46 @@ impl Place {
 
 /// Reads units until some are known to be meant.
 #[inline(always)]
-fn read(units: &mut WideUnits<'_>, place: Place) -> (Known, Place)
-    requires { place.run + length units.old < 2 ^ 64 }
-    ensures meant { meant place units.old ≡ known_units result.0 ++ meant result.1 units.new }
+fn read(units: &mut WideUnits<'_>, index: Index) -> (Known, Index)
+    requires { index.run + length units.old < 2 ^ 64 }
+    ensures meant { meant index units.old ≡ known_units result.0 ++ meant result.1 units.new }
     ensures none { known_units result.0 ≡ [] → meant result.1 units.new ≡ [] }
     ensures room { result.1.run + length units.new < 2 ^ 64 }
 {
-    let mut place = place;
+    let mut index = index;
     while let Some(unit) = units.next() {
-        let known = place.output(unit);
-        place = place.step(unit);
+        let known = index.output(unit);
+        index = index.step(unit);
         if !known.is_empty() {
-            return (known, place);
+            return (known, index);
         }
     }
     let known = Known {
-        backslashes: place.run,
+        backslashes: index.run,
         unit: None,
     };
-    place.run = 0;
-    (known, place)
+    index.run = 0;
+    (known, index)
 }
 
 /// The next unit that is meant, and those that are known after it.
 #[inline(always)]
-fn next_unit(known: Known, place: Place, units: &mut WideUnits<'_>) -> (Option<u16>, Known, Place)
-    requires { place.run + length units.old < 2 ^ 64 }
+fn next_unit(known: Known, index: Index, units: &mut WideUnits<'_>) -> (Option<u16>, Known, Index)
+    requires { index.run + length units.old < 2 ^ 64 }
     ensures next { MatchOption result.0
-        ((known_units known ++ meant place units.old ≡ [])
+        ((known_units known ++ meant index units.old ≡ [])
         × (known_units result.1 ++ meant result.2 units.new ≡ []))
-        (λ unit. known_units known ++ meant place units.old
+        (λ unit. known_units known ++ meant index units.old
         ≡ unit ∷ (known_units result.1 ++ meant result.2 units.new)) }
     ensures room { result.2.run + length units.new < 2 ^ 64 }
 {
     if !known.is_empty() {
         let (unit, known) = known.split_first();
-        return (unit, known, place);
+        return (unit, known, index);
     }
-    let (known, place) = read(units, place);
+    let (known, index) = read(units, index);
     let (unit, known) = known.split_first();
-    (unit, known, place)
+    (unit, known, index)
 }
 
 /// An iterator over the 16-bit units of an argument, from the first on. After `None` it gives only
@@ -170,7 +170,7 @@ fn next_unit(known: Known, place: Place, units: &mut WideUnits<'_>) -> (Option<u
 #[derive(Drop)]
 pub struct ArgumentUnits<'a> {
     known: Known,
-    place: Place,
+    index: Index,
     units: WideUnits<'a>,
 }
 
@@ -181,9 +181,9 @@ impl<'a> Model for ArgumentUnits<'a> {
 
     ghost use Rattle.os_command_line.specs.WindowsReader.{meant, known_units};
 
-    ghost view = { λ it. known_units it.known ++ meant it.place it.units };
+    ghost view = { λ it. known_units it.known ++ meant it.index it.units };
 
-    ghost invariant = { λ it. it.place.run + length it.units < 2 ^ 64 };
+    ghost invariant = { λ it. it.index.run + length it.units < 2 ^ 64 };
 }
 
 impl<'a> Iterator for ArgumentUnits<'a> {
@@ -195,9 +195,9 @@ impl<'a> Iterator for ArgumentUnits<'a> {
 
     #[inline(always)]
     fn next(&mut self) -> Option<u16> {
-        let (unit, known, place) = next_unit(self.known, self.place, &mut self.units);
+        let (unit, known, index) = next_unit(self.known, self.index, &mut self.units);
         self.known = known;
-        self.place = place;
+        self.index = index;
         unit
     }
 }
@@ -228,7 +228,7 @@ impl<'a> Argument<'a> {
                 backslashes: 0,
                 unit: None,
             },
-            place: Place {
+            index: Index {
                 in_name: self.is_program,
                 closing: false,
                 inside: false,

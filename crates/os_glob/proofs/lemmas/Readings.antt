@@ -5,8 +5,8 @@ use Rattle.std.proofs.lemmas.List.{drop_at}
 use Rattle.std.proofs.lemmas.Str.{encodes-append, encodes-chars}
 use Rattle.os_glob.specs.declared.error.GlobErrorKind.{GlobErrorKind}
 use Rattle.os_glob.specs.declared.item.Wildcard.TheVariants.{Star, DoubleStar}
-use Rattle.os_glob.specs.Members.{Member, range_at, ends_class, is_reversed, members_behind, members, after_class, first_reversed}
-use Rattle.os_glob.specs.Items.{Item, Run, AnyOne, Literal, OneOf, Refused, read, read_star, read_quoted, class_start, class_item, read_class, items_behind, items, first_fault, IsFirstFault}
+use Rattle.os_glob.specs.Members.{Member, range_at, ends_class, is_reversed, members_past, members, after_class, first_reversed}
+use Rattle.os_glob.specs.Items.{PatternItem, Run, AnyOne, Literal, OneOf, Refused, read, read_star, read_quoted, class_start, class_item, read_class, items_past, items, first_fault, IsPatternFault}
 
 -- what holds of both branches
 if_either : {X : Type 0} (P : X → Type 0) (b : Bool) (x y : X) → P x → P y → P (if b then x else y)
@@ -37,7 +37,7 @@ drop_to_end cs rest h =
     ap (drop (length cs - length rest)) h.joined ∙ drop_at h.before rest (length cs - length rest) (omega arith)
 
 -- skipped characters
-items_skip : (n : ℕ) (cs : List ℕ) → items_behind n cs ≡ items (drop n cs)
+items_skip : (n : ℕ) (cs : List ℕ) → items_past n cs ≡ items (drop n cs)
 items_skip zero cs = refl
 items_skip (suc n) [] = refl
 items_skip (suc n) (c ∷ cs) = items_skip n cs
@@ -51,13 +51,13 @@ after_ends begins (c ∷ cs) rest e =
     (λ f. one_more c cs rest (after_ends false cs rest f))
     e
 
-reversed_ends : (begins : Bool) (n : ℕ) (cs from : List ℕ) → first_reversed (members_behind begins n cs) ≡ Some from → EndsIn cs from
+reversed_ends : (begins : Bool) (n : ℕ) (cs from : List ℕ) → first_reversed (members_past begins n cs) ≡ Some from → EndsIn cs from
 reversed_ends begins n [] from e = absurd (let k : ◌≡◌ {A = Option (List ℕ)} None (Some from) = e in cc)
 reversed_ends begins (suc n) (c ∷ cs) from e = one_more c cs from (reversed_ends begins n cs from e)
 reversed_ends begins zero (c ∷ cs) from e =
-    if_either (λ ms. first_reversed ms ≡ Some from → EndsIn (c ∷ cs) from) (ends_class begins c) [] (((range_at c cs).0, c ∷ cs) ∷ members_behind false (range_at c cs).1 cs)
+    if_either (λ ms. first_reversed ms ≡ Some from → EndsIn (c ∷ cs) from) (ends_class begins c) [] (((range_at c cs).0, c ∷ cs) ∷ members_past false (range_at c cs).1 cs)
     (λ f. absurd (let k : ◌≡◌ {A = Option (List ℕ)} None (Some from) = f in cc))
-    (if_either (λ x. x ≡ Some from → EndsIn (c ∷ cs) from) (is_reversed (range_at c cs).0) (Some (c ∷ cs)) (first_reversed (members_behind false (range_at c cs).1 cs))
+    (if_either (λ x. x ≡ Some from → EndsIn (c ∷ cs) from) (is_reversed (range_at c cs).0) (Some (c ∷ cs)) (first_reversed (members_past false (range_at c cs).1 cs))
     (λ f. let same : c ∷ cs ≡ from = cc in subst (EndsIn (c ∷ cs)) same (whole (c ∷ cs)))
     (λ f. one_more c cs from (reversed_ends false (range_at c cs).1 cs from f)))
     e
@@ -92,7 +92,7 @@ module _ (ps cs start : List ℕ) (starts : start ≡ (class_start cs).1) where
 star_ends : (cs : List ℕ) → EndsIn cs (read_star cs).1
 star_ends [] = whole []
 star_ends (c ∷ cs) =
-    if_either (λ (r : Item × List ℕ). EndsIn (c ∷ cs) r.1) (nat_eq c 0x2A) (Run DoubleStar, cs) (Run Star, c ∷ cs) (one_more c cs cs (whole cs)) (whole (c ∷ cs))
+    if_either (λ (r : PatternItem × List ℕ). EndsIn (c ∷ cs) r.1) (nat_eq c 0x2A) (Run DoubleStar, cs) (Run Star, c ∷ cs) (one_more c cs cs (whole cs)) (whole (c ∷ cs))
 
 quoted_ends : (ps cs : List ℕ) → EndsIn cs (read_quoted ps cs).1
 quoted_ends ps [] = whole []
@@ -106,7 +106,7 @@ read_class_ends ps cs =
 
 read_ends : (c : ℕ) (cs : List ℕ) → EndsIn cs (read c cs).1
 read_ends c cs =
-    let P : Item × List ℕ → Type 0 = λ r. EndsIn cs r.1 in
+    let P : PatternItem × List ℕ → Type 0 = λ r. EndsIn cs r.1 in
     if_either P (nat_eq c 0x2A) _ _ (star_ends cs)
     (if_either P (nat_eq c 0x3F) _ _ (whole cs)
     (if_either P (nat_eq c 0x5C) _ _ (quoted_ends (c ∷ cs) cs)
@@ -117,12 +117,12 @@ pub items_after : (c : ℕ) (cs : List ℕ) → items (c ∷ cs) ≡ (read c cs)
 items_after c cs =
     ap (λ xs. (read c cs).0 ∷ xs) (items_skip (length cs - length (read c cs).1) cs ∙ ap items (drop_to_end cs (read c cs).1 (read_ends c cs)))
 
-pub item_then : (ps cs rest : List ℕ) (c : ℕ) (x : Item) → ps ≡ c ∷ cs → x ≡ (read c cs).0 → rest ≡ (read c cs).1 → items ps ≡ x ∷ items rest
+pub item_then : (ps cs rest : List ℕ) (c : ℕ) (x : PatternItem) → ps ≡ c ∷ cs → x ≡ (read c cs).0 → rest ≡ (read c cs).1 → items ps ≡ x ∷ items rest
 item_then ps cs rest c x first same left =
     let k = items_after c cs in let at = ap items first in let on = ap items left in cc
 
 -- where a fault is
-abbrev FaultEnds : List ℕ → Item → Type 0
+abbrev FaultEnds : List ℕ → PatternItem → Type 0
 FaultEnds cs (Refused kind from) = EndsIn cs from
 FaultEnds cs (Run w) = Unit {0}
 FaultEnds cs AnyOne = Unit {0}
@@ -131,7 +131,7 @@ FaultEnds cs (OneOf negated ms) = Unit {0}
 
 star_fault : (ps cs : List ℕ) → FaultEnds ps (read_star cs).0
 star_fault ps [] = tt
-star_fault ps (c ∷ cs) = if_either (λ (r : Item × List ℕ). FaultEnds ps r.0) (nat_eq c 0x2A) (Run DoubleStar, cs) (Run Star, c ∷ cs) tt tt
+star_fault ps (c ∷ cs) = if_either (λ (r : PatternItem × List ℕ). FaultEnds ps r.0) (nat_eq c 0x2A) (Run DoubleStar, cs) (Run Star, c ∷ cs) tt tt
 
 quoted_fault : (ps cs : List ℕ) → FaultEnds ps (read_quoted ps cs).0
 quoted_fault ps [] = whole ps
@@ -152,13 +152,13 @@ read_class_fault c cs =
 
 read_fault : (c : ℕ) (cs : List ℕ) → FaultEnds (c ∷ cs) (read c cs).0
 read_fault c cs =
-    let P : Item × List ℕ → Type 0 = λ r. FaultEnds (c ∷ cs) r.0 in
+    let P : PatternItem × List ℕ → Type 0 = λ r. FaultEnds (c ∷ cs) r.0 in
     if_either P (nat_eq c 0x2A) _ _ (star_fault (c ∷ cs) cs)
     (if_either P (nat_eq c 0x3F) _ _ tt
     (if_either P (nat_eq c 0x5C) _ _ (quoted_fault (c ∷ cs) cs)
     (if_either P (nat_eq c 0x5B) _ _ (read_class_fault c cs) tt)))
 
-fault_of : (cs : List ℕ) (x : Item) (xs : List Item) (kind : GlobErrorKind) (from : List ℕ)
+fault_of : (cs : List ℕ) (x : PatternItem) (xs : List PatternItem) (kind : GlobErrorKind) (from : List ℕ)
     → FaultEnds cs x
     → (first_fault xs ≡ Some (kind, from) → EndsIn cs from)
     → first_fault (x ∷ xs) ≡ Some (kind, from)
@@ -170,11 +170,11 @@ fault_of cs AnyOne xs kind from h later e = later e
 fault_of cs (Literal c) xs kind from h later e = later e
 fault_of cs (OneOf negated ms) xs kind from h later e = later e
 
-fault_ends : (n : ℕ) (cs : List ℕ) (kind : GlobErrorKind) (from : List ℕ) → first_fault (items_behind n cs) ≡ Some (kind, from) → EndsIn cs from
+fault_ends : (n : ℕ) (cs : List ℕ) (kind : GlobErrorKind) (from : List ℕ) → first_fault (items_past n cs) ≡ Some (kind, from) → EndsIn cs from
 fault_ends n [] kind from e = absurd (let k : ◌≡◌ {A = Option (GlobErrorKind × List ℕ)} None (Some (kind, from)) = e in cc)
 fault_ends (suc n) (c ∷ cs) kind from e = one_more c cs from (fault_ends n cs kind from e)
 fault_ends zero (c ∷ cs) kind from e =
-    fault_of (c ∷ cs) (read c cs).0 (items_behind (length cs - length (read c cs).1) cs) kind from (read_fault c cs)
+    fault_of (c ∷ cs) (read c cs).0 (items_past (length cs - length (read c cs).1) cs) kind from (read_fault c cs)
     (λ f. one_more c cs from (fault_ends (length cs - length (read c cs).1) cs kind from f))
     e
 
@@ -190,7 +190,7 @@ module _ (pattern at : List ℕ) (kind : GlobErrorKind) (u : IsUtf8 pattern) (v 
   pub fault_within : length at ≤ length pattern
   fault_within = let n = lengths in omega arith
 
-  pub is_first_fault : IsFirstFault pattern (record { kind = kind; index = length pattern - length at })
+  pub is_first_fault : IsPatternFault pattern (record { kind = kind; index = length pattern - length at })
   is_first_fault = record {
     before = ends.before;
     from = chars at;

@@ -1,4 +1,4 @@
--- Places that are passed over, found as bytes.
+-- Path symbols that are passed over, found as bytes.
 use Rattle.std.proofs.Common.{◌≡◌, ◌↔◌, ◌<◌, ℕ, zero, suc, nat_eq, ◌||◌, ◌&&◌, Bool, true, false, if◌then◌else◌, List, [], ◌∷◌, ◌++◌, map, length, take, drop, get_or, Option, Some, None, refl, sym, ap, ◌∙◌, subst, arith, take-append-drop, append-nil, ⊎_elim}
 use Rattle.std.proofs.lemmas.Bool.{or_cases, ne_eqb, eq-eqb, eqb-true}
 use Rattle.std.proofs.lemmas.Str.{IsCharBoundary-before_ascii, IsUtf8-take, chars-append, chars-nil, encode_ascii, encodes-chars}
@@ -15,13 +15,13 @@ use Rattle.os_glob.specs.declared.options.Separators.{Separators}
 use Rattle.os_glob.specs.declared.options.Separators.TheVariants as separators
 use Rattle.os_glob.specs.declared.item.Wildcard.{Wildcard}
 use Rattle.os_glob.specs.declared.item.Wildcard.TheVariants.{Star, DoubleStar}
-use Rattle.os_glob.specs.declared.place.Place.{Place}
-use Rattle.os_glob.specs.declared.place.Place.TheVariants.{Separator, LeadingDot, Ordinary}
-use Rattle.os_glob.specs.Places.{separates, place, places, begins_component}
+use Rattle.os_glob.specs.declared.path_symbol.PathSymbol.{PathSymbol}
+use Rattle.os_glob.specs.declared.path_symbol.PathSymbol.TheVariants.{Separator, LeadingDot, Ordinary}
+use Rattle.os_glob.specs.PathSymbols.{separates, path_symbol, path_symbols, begins_component}
 use Rattle.os_glob.specs.Pattern.{Token, Run}
 use Rattle.os_glob.specs.Match.{Takes, Matches}
 use Rattle.os_glob.specs.Skips.{IsNone, Differs, IsNoStop, left_out, DiffersAt, IsSkipped, PassesOver, Skips}
-use Rattle.os_glob.proofs.lemmas.Steps.{AfterStar, next_place, later}
+use Rattle.os_glob.proofs.lemmas.Steps.{AfterStar, next_symbol, later}
 
 -- bytes at which a search doesn't stop
 module _ (a b c : ℕ) where
@@ -80,14 +80,14 @@ module _ (a b c : ℕ) where
       pub cut : IsCharBoundary t i
       cut = IsCharBoundary-before_ascii t i h.0.high (stop_is_ascii _ h.1)
 
-      pub front_text : IsUtf8 (take i t)
-      front_text = IsUtf8-take t i u cut
+      pub prefix_text : IsUtf8 (take i t)
+      prefix_text = IsUtf8-take t i u cut
 
       pub none_before : AllByRecursion (IsNone a b c) (chars (take i t))
-      none_before = no_characters (take i t) front_text (none_up_to t i (λ k lt. h.0.before k (omega arith) lt))
+      none_before = no_characters (take i t) prefix_text (none_up_to t i (λ k lt. h.0.before k (omega arith) lt))
 
       pub cut_joined : chars t ≡ chars (take i t) ++ chars (drop i t)
-      cut_joined = ap chars (sym (take-append-drop i t)) ∙ chars-append (take i t) (drop i t) front_text
+      cut_joined = ap chars (sym (take-append-drop i t)) ∙ chars-append (take i t) (drop i t) prefix_text
 
 pub nothing_after : (t : List ℕ) → chars t ≡ chars t ++ chars []
 nothing_after t = sym (ap (λ x. chars t ++ x) chars-nil ∙ append-nil (chars t))
@@ -125,16 +125,16 @@ module _ (o : GlobOptions) (dots : o.literal_leading_dot ≡ false) where
   no_dot true c = ap (λ d. d && nat_eq c 0x2E) dots
   no_dot false c = refl
 
-  pub plain : (begins : Bool) (c : ℕ) → place o begins (Character c) ≡ (if separates o.separators c then Separator else Ordinary (Character c))
+  pub plain : (begins : Bool) (c : ℕ) → path_symbol o begins (Character c) ≡ (if separates o.separators c then Separator else Ordinary (Character c))
   plain begins c = ap (λ b. if separates o.separators c then Separator else (if b then LeadingDot else Ordinary (Character c))) (no_dot begins c)
 
-  alike_at : (begins : Bool) (s : Symbol) → place o begins s ≡ place o false s
+  alike_at : (begins : Bool) (s : Symbol) → path_symbol o begins s ≡ path_symbol o false s
   alike_at begins (Character c) = plain begins c ∙ sym (plain false c)
   alike_at begins (LoneUnit u) = refl
 
-  pub alike : (begins : Bool) (ss : List Symbol) → places o begins ss ≡ places o false ss
+  pub alike : (begins : Bool) (ss : List Symbol) → path_symbols o begins ss ≡ path_symbols o false ss
   alike begins [] = refl
-  alike begins (s ∷ ss) = ap (λ p. p ∷ places o (begins_component p) ss) (alike_at begins s)
+  alike begins (s ∷ ss) = ap (λ p. p ∷ path_symbols o (begins_component p) ss) (alike_at begins s)
 
   if_either : {X : Type 0} (P : X → Type 0) (b : Bool) (x y : X) → P x → P y → P (if b then x else y)
   if_either P true x y p q = p
@@ -146,33 +146,33 @@ module _ (o : GlobOptions) (dots : o.literal_leading_dot ≡ false) where
 
   separator_differs : (literal : Option ℕ) → DiffersAt literal Separator
   separator_differs None = tt
-  separator_differs (Some b) = λ e. let k : ◌≡◌ {A = Place} (Ordinary (Character b)) Separator = e in cc
+  separator_differs (Some b) = λ e. let k : ◌≡◌ {A = PathSymbol} (Ordinary (Character b)) Separator = e in cc
 
-  abbrev IsPassed : Wildcard → Option ℕ → Place → Type 0
+  abbrev IsPassed : Wildcard → Option ℕ → PathSymbol → Type 0
   IsPassed w literal p = Takes w p × DiffersAt literal p
 
-  pub passed_at : (w : Wildcard) (literal : Option ℕ) (begins : Bool) (c : ℕ) → IsNoStop (left_out w o.separators) literal c → IsPassed w literal (place o begins (Character c))
+  pub passed_at : (w : Wildcard) (literal : Option ℕ) (begins : Bool) (c : ℕ) → IsNoStop (left_out w o.separators) literal c → IsPassed w literal (path_symbol o begins (Character c))
   passed_at Star literal begins c h =
       subst (IsPassed Star literal) (sym (plain begins c ∙ ap (λ b. if b then Separator else Ordinary (Character c)) h.0)) (tt, ordinary_differs literal c h.1)
   passed_at DoubleStar literal begins c h =
       subst (IsPassed DoubleStar literal) (sym (plain begins c))
       (if_either (IsPassed DoubleStar literal) (separates o.separators c) Separator (Ordinary (Character c)) (tt, separator_differs literal) (tt, ordinary_differs literal c h.1))
 
-  pub characters_skipped : (w : Wildcard) (literal : Option ℕ) (begins : Bool) (front rest : List ℕ) (ss : List Symbol)
-      → AllByRecursion (IsNoStop (left_out w o.separators) literal) front
-      → IsSkipped w literal (places o begins (map Character (front ++ rest) ++ ss)) (places o false (map Character rest ++ ss))
+  pub characters_skipped : (w : Wildcard) (literal : Option ℕ) (begins : Bool) (prefix rest : List ℕ) (ss : List Symbol)
+      → AllByRecursion (IsNoStop (left_out w o.separators) literal) prefix
+      → IsSkipped w literal (path_symbols o begins (map Character (prefix ++ rest) ++ ss)) (path_symbols o false (map Character rest ++ ss))
   characters_skipped w literal begins [] rest ss h = record { run = []; joined = alike begins (map Character rest ++ ss); passed = tt }
-  characters_skipped w literal begins (c ∷ front) rest ss h =
-      let p = place o begins (Character c) in
-      let on = characters_skipped w literal (begins_component p) front rest ss h.1 in
+  characters_skipped w literal begins (c ∷ prefix) rest ss h =
+      let p = path_symbol o begins (Character c) in
+      let on = characters_skipped w literal (begins_component p) prefix rest ss h.1 in
       record { run = p ∷ on.run; joined = ap (λ x. p ∷ x) on.joined; passed = (passed_at w literal begins c h.0, on.passed) }
 
-pub text_skipped : (o : GlobOptions) → o.literal_leading_dot ≡ false → (w : Wildcard) (literal : Option ℕ) (begins : Bool) (cs front rest : List ℕ) (ss : List Symbol)
-    → cs ≡ front ++ rest
-    → AllByRecursion (IsNoStop (left_out w o.separators) literal) front
-    → IsSkipped w literal (places o begins (map Character cs ++ ss)) (places o false (map Character rest ++ ss))
-text_skipped o dots w literal begins cs front rest ss e h =
-    subst (λ x. IsSkipped w literal (places o begins (map Character x ++ ss)) (places o false (map Character rest ++ ss))) (sym e) (characters_skipped o dots w literal begins front rest ss h)
+pub text_skipped : (o : GlobOptions) → o.literal_leading_dot ≡ false → (w : Wildcard) (literal : Option ℕ) (begins : Bool) (cs prefix rest : List ℕ) (ss : List Symbol)
+    → cs ≡ prefix ++ rest
+    → AllByRecursion (IsNoStop (left_out w o.separators) literal) prefix
+    → IsSkipped w literal (path_symbols o begins (map Character cs ++ ss)) (path_symbols o false (map Character rest ++ ss))
+text_skipped o dots w literal begins cs prefix rest ss e h =
+    subst (λ x. IsSkipped w literal (path_symbols o begins (map Character x ++ ss)) (path_symbols o false (map Character rest ++ ss))) (sym e) (characters_skipped o dots w literal begins prefix rest ss h)
 
 -- a text before the first unit
 pub text_first : (units : List ℕ → List ℕ) (s part text rest : List ℕ) → chunks_of s ≡ (part, text) ∷ chunks_of rest → units part ≡ [] → map Character (chars text) ++ symbols_of units rest ≡ symbols_of units s
@@ -183,25 +183,25 @@ pub no_text : (ss : List Symbol) → map Character (chars []) ++ ss ≡ ss
 no_text ss = ap (λ cs. map Character cs ++ ss) chars-nil
 
 -- matching goes on after them
-module _ (ts : List Token) (ps : List Place) (qs : List Token) where
-  past_run : (run rest : List Place) → PassesOver Star qs run rest → AfterStar ts ps qs (run ++ rest) → AfterStar ts ps qs rest
+module _ (ts : List Token) (ps : List PathSymbol) (qs : List Token) where
+  past_run : (run rest : List PathSymbol) → PassesOver Star qs run rest → AfterStar ts ps qs (run ++ rest) → AfterStar ts ps qs rest
   past_run [] rest h so_far = so_far
   past_run (p ∷ run) rest h so_far =
-      past_run run rest h.1 (next_place ts ps qs (p ∷ run ++ rest) so_far (p ∷ run ++ rest) refl h.0.1 p (run ++ rest) refl h.0.0)
+      past_run run rest h.1 (next_symbol ts ps qs (p ∷ run ++ rest) so_far (p ∷ run ++ rest) refl h.0.1 p (run ++ rest) refl h.0.0)
 
-  pub past_skipped : (from rest : List Place) → AfterStar ts ps qs from → Skips Star qs from rest → AfterStar ts ps qs rest
+  pub past_skipped : (from rest : List PathSymbol) → AfterStar ts ps qs from → Skips Star qs from rest → AfterStar ts ps qs rest
   past_skipped from rest so_far h = past_run h.run rest h.passed (subst (AfterStar ts ps qs) h.joined so_far)
 
 module _ (qs : List Token) where
-  anywhere_past : (run rest : List Place) → PassesOver DoubleStar qs run rest → Matches (Run DoubleStar ∷ qs) (run ++ rest) ↔ Matches (Run DoubleStar ∷ qs) rest
+  anywhere_past : (run rest : List PathSymbol) → PassesOver DoubleStar qs run rest → Matches (Run DoubleStar ∷ qs) (run ++ rest) ↔ Matches (Run DoubleStar ∷ qs) rest
   anywhere_past [] rest h = (λ m. m, λ m. m)
   anywhere_past (p ∷ run) rest h =
       let one = later DoubleStar qs (p ∷ run ++ rest) (p ∷ run ++ rest) h.0.1 refl p (run ++ rest) refl h.0.0 in
       let on = anywhere_past run rest h.1 in
       (λ m. on.0 (one.0 m), λ m. one.1 (on.1 m))
 
-  pub anywhere_skipped : (from rest : List Place) → Skips DoubleStar qs from rest → Matches (Run DoubleStar ∷ qs) from ↔ Matches (Run DoubleStar ∷ qs) rest
+  pub anywhere_skipped : (from rest : List PathSymbol) → Skips DoubleStar qs from rest → Matches (Run DoubleStar ∷ qs) from ↔ Matches (Run DoubleStar ∷ qs) rest
   anywhere_skipped from rest h = subst (λ x. Matches (Run DoubleStar ∷ qs) x ↔ Matches (Run DoubleStar ∷ qs) rest) (sym h.joined) (anywhere_past h.run rest h.passed)
 
-  pub anywhere_on : (A : Type 0) (from rest : List Place) → A ↔ Matches (Run DoubleStar ∷ qs) from → Skips DoubleStar qs from rest → A ↔ Matches (Run DoubleStar ∷ qs) rest
+  pub anywhere_on : (A : Type 0) (from rest : List PathSymbol) → A ↔ Matches (Run DoubleStar ∷ qs) from → Skips DoubleStar qs from rest → A ↔ Matches (Run DoubleStar ∷ qs) rest
   anywhere_on A from rest so_far h = let on = anywhere_skipped from rest h in (λ m. on.0 (so_far.0 m), λ m. so_far.1 (on.1 m))

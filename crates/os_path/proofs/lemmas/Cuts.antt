@@ -3,7 +3,7 @@ use Rattle.std.proofs.Common.{◌≡◌, inl, inr, ◌<◌, ◌+◌, ℕ, List, 
 use Rattle.std.proofs.lemmas.List.{take_at, drop_at, get_or_at}
 use Rattle.wtf8_core.specs.Boundary.{IsBoundary}
 use Rattle.wtf8_core.specs.Character.{WholeCharacter}
-use Rattle.os_str_ext.proofs.lemmas.Places.{ascii_at}
+use Rattle.os_str_ext.proofs.lemmas.Indices.{ascii_at}
 use Rattle.path_rules.specs.Cut.{IsAsciiCut, at_start, at_end, before_ascii, after_ascii}
 use Rattle.path_rules.specs.declared.rules.Style.{Style}
 use Rattle.path_rules.specs.Trailing.{TrimsTrailing}
@@ -33,7 +33,7 @@ pub cut_boundary : (s before after : List ℕ) → s ≡ before ++ after → IsA
 cut_boundary s before after e c = subst (λ x. IsBoundary x (length before)) (sym e) (boundary_at before after c)
 
 -- a platform's strings are cut around an ASCII byte
-module _ (formed : List ℕ → Type 0) (cut_front : (b : List ℕ) (i : ℕ) → formed b → IsBoundary b i → formed (take i b)) (cut_back : (b : List ℕ) (i : ℕ) → formed b → IsBoundary b i → formed (drop i b)) where
+module _ (formed : List ℕ → Type 0) (cut_prefix : (b : List ℕ) (i : ℕ) → formed b → IsBoundary b i → formed (take i b)) (cut_suffix : (b : List ℕ) (i : ℕ) → formed b → IsBoundary b i → formed (drop i b)) where
   pub cuts : IsCutAtAscii formed
   cuts before after b low f =
       let s : List ℕ = before ++ b ∷ after in
@@ -46,19 +46,19 @@ module _ (formed : List ℕ → Type 0) (cut_front : (b : List ℕ) (i : ℕ) �
       let split : s ≡ (before ++ b ∷ []) ++ after = sym (append_assoc before (b ∷ []) after) in
       let long : length (before ++ b ∷ []) ≡ i + 1 = omega (arith, length-append before (b ∷ [])) in
       record {
-        before = subst formed (take_at before (b ∷ after) i refl) (cut_front s i f at);
-        after = subst formed (ap (drop (i + 1)) split ∙ drop_at (before ++ b ∷ []) after (i + 1) long) (cut_back s (i + 1) f next);
-        up_to = subst formed (ap (take (i + 1)) split ∙ take_at (before ++ b ∷ []) after (i + 1) long) (cut_front s (i + 1) f next);
-        from = subst formed (drop_at before (b ∷ after) i refl) (cut_back s i f at);
+        before = subst formed (take_at before (b ∷ after) i refl) (cut_prefix s i f at);
+        after = subst formed (ap (drop (i + 1)) split ∙ drop_at (before ++ b ∷ []) after (i + 1) long) (cut_suffix s (i + 1) f next);
+        up_to = subst formed (ap (take (i + 1)) split ∙ take_at (before ++ b ∷ []) after (i + 1) long) (cut_prefix s (i + 1) f next);
+        from = subst formed (drop_at before (b ∷ after) i refl) (cut_suffix s i f at);
       }
 
   pub before_formed : (s before after : List ℕ) → s ≡ before ++ after → IsAsciiCut before after → formed s → formed before
   before_formed s before after e c f =
-      subst formed (ap (take (length before)) e ∙ take_at before after (length before) refl) (cut_front s (length before) f (cut_boundary s before after e c))
+      subst formed (ap (take (length before)) e ∙ take_at before after (length before) refl) (cut_prefix s (length before) f (cut_boundary s before after e c))
 
   pub after_formed : (s before after : List ℕ) → s ≡ before ++ after → IsAsciiCut before after → formed s → formed after
   after_formed s before after e c f =
-      subst formed (ap (drop (length before)) e ∙ drop_at before after (length before) refl) (cut_back s (length before) f (cut_boundary s before after e c))
+      subst formed (ap (drop (length before)) e ∙ drop_at before after (length before) refl) (cut_suffix s (length before) f (cut_boundary s before after e c))
 
   pub trimmed_formed : (w : Style) (s t : List ℕ) → TrimsTrailing w s t → formed s → formed t
   trimmed_formed w s t (inl h) f = subst formed (sym h.1) f

@@ -72,21 +72,21 @@ verbatim_led (a ∷ b ∷ c ∷ []) (d ∷ more) s h =
     (λ e. record { before = a ∷ b ∷ c ∷ d ∷ []; joined = h.joined; cut = after_ascii (a ∷ b ∷ c ∷ []) d refl (ascii_separators rules.Either d h.edge) }) tt
 verbatim_led (a ∷ b ∷ c ∷ d ∷ part) after s h = tt
 
-module _ (formed : List ℕ → Type 0) (cut_front : (b : List ℕ) (i : ℕ) → formed b → IsBoundary b i → formed (take i b)) (cut_back : (b : List ℕ) (i : ℕ) → formed b → IsBoundary b i → formed (drop i b)) where
+module _ (formed : List ℕ → Type 0) (cut_prefix : (b : List ℕ) (i : ℕ) → formed b → IsBoundary b i → formed (take i b)) (cut_suffix : (b : List ℕ) (i : ℕ) → formed b → IsBoundary b i → formed (drop i b)) where
   field_formed : (r : Rules) (s field rest : List ℕ) → IsField r s field rest → formed s → formed field × formed rest
   field_formed r s field rest h f =
       let c = edge_cut r field rest h.edge in
-      (before_formed formed cut_front cut_back s field rest h.joined c f, after_formed formed cut_front cut_back s field rest h.joined c f)
+      (before_formed formed cut_prefix cut_suffix s field rest h.joined c f, after_formed formed cut_prefix cut_suffix s field rest h.joined c f)
 
   end_formed : (s t : List ℕ) → AsciiEnd s t → formed s → formed t
-  end_formed s t e f = after_formed formed cut_front cut_back s e.before t e.joined e.cut f
+  end_formed s t e f = after_formed formed cut_prefix cut_suffix s e.before t e.joined e.cut f
 
   nothing_formed : (s : List ℕ) → formed s → formed []
-  nothing_formed s f = before_formed formed cut_front cut_back s [] s refl (at_start refl) f
+  nothing_formed s f = before_formed formed cut_prefix cut_suffix s [] s refl (at_start refl) f
 
   -- after a separator
   after_separator : (r : Rules) (c : ℕ) (s : List ℕ) → separates r c ≡ true → formed (c ∷ s) → formed s
-  after_separator r c s e f = after_formed formed cut_front cut_back (c ∷ s) (c ∷ []) s refl (after_ascii [] c refl (ascii_separators r c e)) f
+  after_separator r c s e f = after_formed formed cut_prefix cut_suffix (c ∷ s) (c ∷ []) s refl (after_ascii [] c refl (ascii_separators r c e)) f
 
   named_formed : (r : Rules) (Named : List ℕ → Kind) (s : List ℕ) (kind : Kind) (rest : List ℕ) → ((name : List ℕ) → formed name → IsFormedKind formed (Named name)) → IsNamed r Named s kind rest → formed s → IsFormedKind formed kind
   named_formed r Named s kind rest give h f = subst (IsFormedKind formed) (sym h.is) (give h.name ((field_formed r s h.name rest h.field f).0))

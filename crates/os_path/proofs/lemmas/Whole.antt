@@ -49,21 +49,21 @@ module _ (formed : List ℕ → Type 0) (cut : IsCutAtAscii formed) where
     no_start b (c ∷ u) high =
         nothing (separates r b) (nat_eq b 0x2E) (separates r c) (is_false (separates r b) (λ e. let low = ascii_separators r b e in omega arith)) (is_false (nat_eq b 0x2E) (λ e. let s : b ≡ 0x2E = eqb-true b 0x2E e in omega arith))
 
-    behind_any : (st : Start) (b : ℕ) (u : List ℕ) → formed (b ∷ u) → formed u → formed (after_start st (b ∷ u))
-    behind_any Nothing b u f g = f
-    behind_any Root b u f g = g
-    behind_any Dot b u f g = g
+    after_any : (st : Start) (b : ℕ) (u : List ℕ) → formed (b ∷ u) → formed u → formed (after_start st (b ∷ u))
+    after_any Nothing b u f g = f
+    after_any Root b u f g = g
+    after_any Dot b u f g = g
 
-    behind_formed : (s : List ℕ) → formed s → AreFormed formed (components_in r (after_start (start_of r s) s))
-    behind_formed [] f = tt
-    behind_formed (b ∷ u) f = body_formed formed cut r (ascii_separators r) (after_start (start_of r (b ∷ u)) (b ∷ u)) (cases (cases_lt b 0x80))
+    after_formed : (s : List ℕ) → formed s → AreFormed formed (components_in r (after_start (start_of r s) s))
+    after_formed [] f = tt
+    after_formed (b ∷ u) f = body_formed formed cut r (ascii_separators r) (after_start (start_of r (b ∷ u)) (b ∷ u)) (cases (cases_lt b 0x80))
       where
         cases : ((b < 0x80) ⊎ (0x80 ≤ b)) → formed (after_start (start_of r (b ∷ u)) (b ∷ u))
-        cases (inl low) = behind_any (start_of r (b ∷ u)) b u f (cut [] u b low f).after
+        cases (inl low) = after_any (start_of r (b ∷ u)) b u f (cut [] u b low f).after
         cases (inr high) = subst (λ st. formed (after_start st (b ∷ u))) (sym (no_start b u high)) f
 
     pub plain_formed : (s : List ℕ) → formed s → AreFormed formed (plain_components r s)
-    plain_formed s f = joined_formed (start_items (start_of r s)) (components_in r (after_start (start_of r s) s)) (start_formed (start_of r s)) (behind_formed s f)
+    plain_formed s f = joined_formed (start_items (start_of r s)) (components_in r (after_start (start_of r s) s)) (start_formed (start_of r s)) (after_formed s f)
 
   -- both sides of a prefix's end
   record Sides (raw rest : List ℕ) : Type 0 where

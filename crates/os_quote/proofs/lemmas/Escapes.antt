@@ -1,7 +1,7 @@
 -- Escapes, and their strings.
 use Rattle.os_quote.proofs.Common.{◌≡◌, ⊎_elim, inl, inr, ℕ, ◌<◌, ◌^◌, Bool, List, [], ◌∷◌, ◌++◌, map, length, refl, sym, ap, ◌∙◌, arith, append_assoc, append-nil, length-append, AllByRecursion, flat_map, IsUtf8, lt-ltb, le-ltb, cases_lt, recursion_from_All, Chunk, joined, AreChunks, HasNoCharacter, some_chunks, chunks_once, form_bounds, PartLaws, chunks_of, Item, backslash, item_texts, IsItem, unit_item, chunk_items, items_of, IsEscapeBy, IsBadEscapeBy, item_bytes, IsChunkOf, flat_map-append, item_text, escape_of}
 use Rattle.wtf8_core.specs.PartUnits.{unit_bytes}
-use Rattle.wtf8_core.proofs.lemmas.characters.AtPlaces.{character_fits}
+use Rattle.wtf8_core.proofs.lemmas.characters.AtIndices.{character_fits}
 use Rattle.os_quote.proofs.lemmas.Items.{same_items}
 use Rattle.os_quote.proofs.lemmas.Texts.{text_items, text_escape, text_is_items}
 use Rattle.os_quote.proofs.lemmas.Chunks.{own_chunks, text_chunks}
@@ -44,10 +44,10 @@ module _ (shows : ℕ → Bool) (well_formed : List ℕ → Type 0) (units : Lis
   -- the items of chunks mean the chunks' bytes
   chunk_is_items : (c : Chunk) → IsChunkOf well_formed c → AllByRecursion (IsItem shows) (chunk_items shows units c) × (flat_map item_bytes (chunk_items shows units c) ≡ c.0 ++ c.1)
   chunk_is_items c h =
-      let u = units_are_items shows (units c.0) (recursion_from_All (λ v. v < 2 ^ 16) (units c.0) (parts.are_wide c.0 h.formed h.bare)) in
+      let u = units_are_items shows (units c.0) (recursion_from_All (λ v. v < 2 ^ 16) (units c.0) (parts.are_wide c.0 h.formed h.uncovered)) in
       let t = text_is_items shows c.1 h.text in (
         all-append (IsItem shows) (map unit_item (units c.0)) (text_items shows c.1) u.0 t.0,
-        flat_map-append item_bytes (map unit_item (units c.0)) (text_items shows c.1) ∙ ap (λ x. x ++ flat_map item_bytes (text_items shows c.1)) (u.1 ∙ sym (parts.spelled c.0 h.formed h.bare)) ∙ ap (λ x. c.0 ++ x) t.1,
+        flat_map-append item_bytes (map unit_item (units c.0)) (text_items shows c.1) ∙ ap (λ x. x ++ flat_map item_bytes (text_items shows c.1)) (u.1 ∙ sym (parts.encoded c.0 h.formed h.uncovered)) ∙ ap (λ x. c.0 ++ x) t.1,
       )
 
   chunks_are_items : (cs : List Chunk) → AllByRecursion (IsChunkOf well_formed) cs → AllByRecursion (IsItem shows) (items_of shows units cs) × (flat_map item_bytes (items_of shows units cs) ≡ joined cs)
@@ -80,15 +80,15 @@ module _ (shows : ℕ → Bool) (well_formed : List ℕ → Type 0) (units : Lis
     never_bad s text n w e b =
         let k = escape_is_items s text w e in
         let q = same_items shows (items_of shows units e.chunks) b.items [] b.rest k.0 b.are (inl refl) (inr b.bad) (append-nil (item_texts (items_of shows units e.chunks)) ∙ sym e.text_is ∙ b.joined) in
-        let c : ◌≡◌ {A = List ℕ} [] (backslash ∷ b.bad.behind) = q.1 ∙ b.bad.first in
+        let c : ◌≡◌ {A = List ℕ} [] (backslash ∷ b.bad.following) = q.1 ∙ b.bad.first in
         cc
 
 -- no bytes have no units
 pub no_units_of_none : (well_formed : List ℕ → Type 0) (units : List ℕ → List ℕ) (part_units : List ℕ → Type 0) → PartLaws well_formed units part_units → well_formed [] → units [] ≡ []
-no_units_of_none well_formed units part_units parts w = no_units (units []) (parts.spelled [] w bare)
+no_units_of_none well_formed units part_units parts w = no_units (units []) (parts.encoded [] w uncovered)
   where
-    bare : HasNoCharacter []
-    bare i j q = let f = character_fits [] i j q in omega arith
+    uncovered : HasNoCharacter []
+    uncovered i j q = let f = character_fits [] i j q in omega arith
 
 module _ (shows : ℕ → Bool) (well_formed : List ℕ → Type 0) (units : List ℕ → List ℕ) (part_units : List ℕ → Type 0) (parts : PartLaws well_formed units part_units) where
   -- a text of which each character is unchanged is its own escape
@@ -113,7 +113,7 @@ pub some_escape : (shows : ℕ → Bool) (units : List ℕ → List ℕ) (s : Li
 some_escape shows units s = (escape_of shows units s, escape_of_is shows units s)
 
 -- a text has one index at most at which no token begins
-pub one_bad_place : (shows : ℕ → Bool) (text : List ℕ) (n m : ℕ) → IsBadEscapeBy shows text n → IsBadEscapeBy shows text m → n ≡ m
-one_bad_place shows text n m a b =
+pub one_bad_index : (shows : ℕ → Bool) (text : List ℕ) (n m : ℕ) → IsBadEscapeBy shows text n → IsBadEscapeBy shows text m → n ≡ m
+one_bad_index shows text n m a b =
     let q = same_items shows a.items b.items a.rest b.rest a.are b.are (inr a.bad) (inr b.bad) (sym a.joined ∙ b.joined) in
-    a.place ∙ ap (λ x. length (item_texts x)) q.0 ∙ sym b.place
+    a.index ∙ ap (λ x. length (item_texts x)) q.0 ∙ sym b.index

@@ -1,8 +1,8 @@
--- Characters that stand as they are, between suspects.
-use Rattle.os_quote.proofs.Common.{◌≡◌, ⊎_elim, ℕ, suc, ◌+◌, ◌-◌, ◌<◌, ◌≤◌, true, false, List, [], ◌∷◌, ◌++◌, length, take, drop, get_or, sym, ap, ◌∙◌, subst, arith, append_assoc, take-append-drop, length-append, length-drop, get_or-drop, IsScalar, encode_utf8, AllByRecursion, IsUtf8, IsCharBoundary, chars, all_scalars, encode_utf8_all, and_parts, cases_lt, append_cancel_right, length-take-le, drop_at, take_all, IsCharBoundary-at_seam, IsCharBoundary-end, IsUtf8-between, IsUtf8-take, IsUtf8-drop, IsUtf8-past_char, chars-append, chars_past_char, encodes-chars, scalars-chars, length-encode, len_utf8_bounds, scalar, encode, form_ascii, form_two, form_three, form_past, form_encode, is_suspect, Stands, AllStand, AllClear, IsNextSuspect}
+-- Characters that are unchanged, between suspects.
+use Rattle.os_quote.proofs.Common.{◌≡◌, ⊎_elim, ℕ, suc, ◌+◌, ◌-◌, ◌<◌, ◌≤◌, true, false, List, [], ◌∷◌, ◌++◌, length, take, drop, get_or, sym, ap, ◌∙◌, subst, arith, append_assoc, take-append-drop, length-append, length-drop, get_or-drop, IsScalar, encode_utf8, AllByRecursion, IsUtf8, IsCharBoundary, chars, all_scalars, encode_utf8_all, and_parts, cases_lt, append_cancel_right, length-take-le, drop_at, take_all, IsCharBoundary-at_seam, IsCharBoundary-end, IsUtf8-between, IsUtf8-take, IsUtf8-drop, IsUtf8-past_char, chars-append, chars_past_char, encodes-chars, scalars-chars, length-encode, len_utf8_bounds, scalar, encode, form_ascii, form_two, form_three, form_past, form_encode, is_suspect, IsUnchanged, AreUnchanged, AllClear, IsNextSuspect}
 use Rattle.std.proofs.Math.Seq.{take-add}
 use Rattle.os_quote.proofs.lemmas.Escapes.{all-append}
-use Rattle.os_quote.proofs.lemmas.SuspectTables.{one_stands, two_stands, three_stands, four_stands, lead_from}
+use Rattle.os_quote.proofs.lemmas.SuspectTables.{one_occurs, two_occurs, three_occurs, four_occurs, lead_from}
 
 -- no byte is a suspect, where others follow
 abbrev ClearIn : List ℕ → List ℕ → Type 0
@@ -17,17 +17,17 @@ clear_after : (xs ys rest : List ℕ) → ClearIn (xs ++ ys) rest → ClearIn ys
 clear_after [] ys rest h = h
 clear_after (x ∷ xs) ys rest h = clear_after xs ys rest h.1.1
 
-character_stands : (c : ℕ) (more rest : List ℕ) → IsScalar c → ClearIn (encode_utf8 c ++ more) rest → Stands c
-character_stands c more rest s h =
+character_unchanged : (c : ℕ) (more rest : List ℕ) → IsScalar c → ClearIn (encode_utf8 c ++ more) rest → IsUnchanged c
+character_unchanged c more rest s h =
     ⊎_elim
-    (λ (a : c < 0x80). let f = by (form_ascii c a) in one_stands c (get_or (more ++ rest) 0 0) (get_or (more ++ rest) 1 0) a f.1.0.0 f.1.0.1 f.0)
+    (λ (a : c < 0x80). let f = by (form_ascii c a) in one_occurs c (get_or (more ++ rest) 0 0) (get_or (more ++ rest) 1 0) a f.1.0.0 f.1.0.1 f.0)
     (λ (l : 0x80 ≤ c).
     ⊎_elim
-    (λ (a : c < 0x800). let f = by (form_two c l a) in two_stands c (get_or (more ++ rest) 0 0) l a f.1.0.1 f.0)
+    (λ (a : c < 0x800). let f = by (form_two c l a) in two_occurs c (get_or (more ++ rest) 0 0) l a f.1.0.1 f.0)
     (λ (m : 0x800 ≤ c).
     ⊎_elim
-    (λ (a : c < 0x1_0000). three_stands c m a (by (form_three c m a)).0)
-    (λ (n : 0x1_0000 ≤ c). four_stands c n (by (form_past c n)).0)
+    (λ (a : c < 0x1_0000). three_occurs c m a (by (form_three c m a)).0)
+    (λ (n : 0x1_0000 ≤ c). four_occurs c n (by (form_past c n)).0)
     (cases_lt c 0x1_0000))
     (cases_lt c 0x800))
     (cases_lt c 0x80)
@@ -35,21 +35,21 @@ character_stands c more rest s h =
     by : {bs : List ℕ} → encode c ≡ bs → ClearIn (bs ++ more) rest
     by e = subst (λ x. ClearIn (x ++ more) rest) (sym (form_encode c) ∙ e) h
 
-characters_stand : (cs rest : List ℕ) → all_scalars cs ≡ true → ClearIn (encode_utf8_all cs) rest → AllByRecursion Stands cs
-characters_stand [] rest s h = tt
-characters_stand (c ∷ cs) rest s h =
+characters_unchanged : (cs rest : List ℕ) → all_scalars cs ≡ true → ClearIn (encode_utf8_all cs) rest → AllByRecursion IsUnchanged cs
+characters_unchanged [] rest s h = tt
+characters_unchanged (c ∷ cs) rest s h =
     let both = and_parts (scalar c) _ s in
-    (character_stands c (encode_utf8_all cs) rest both.0 h, characters_stand cs rest both.1 (clear_after (encode_utf8 c) (encode_utf8_all cs) rest h))
+    (character_unchanged c (encode_utf8_all cs) rest both.0 h, characters_unchanged cs rest both.1 (clear_after (encode_utf8 c) (encode_utf8_all cs) rest h))
 
--- each stands up to an index, and none is a suspect up to another
-pub stand_to : (t : List ℕ) (at i : ℕ) → ((k : ℕ) → get_or t k 0 < 256) → IsUtf8 t → IsCharBoundary t at → IsCharBoundary t i → at ≤ i → AllStand (take at t) → AllClear t at i → AllStand (take i t)
-stand_to t at i bytes u b d low stand clear =
+-- each is unchanged up to an index, and none is a suspect up to another
+pub unchanged_to : (t : List ℕ) (at i : ℕ) → ((k : ℕ) → get_or t k 0 < 256) → IsUtf8 t → IsCharBoundary t at → IsCharBoundary t i → at ≤ i → AreUnchanged (take at t) → AllClear t at i → AreUnchanged (take i t)
+unchanged_to t at i bytes u b d low unchanged clear =
     let whole = sym (take-append-drop (i - at) (drop at t)) in
     let same : at + (i - at) ≡ i = omega (arith, low) in
-    subst AllStand (ap (λ n. take n t) same)
-    (subst AllStand (sym (take-add at (i - at) t))
-    (subst (AllByRecursion Stands) (sym (chars-append (take at t) mid (IsUtf8-take t at u b))) (all-append Stands (chars (take at t)) (chars mid) stand
-    (characters_stand (chars mid) rest (scalars-chars mid text) (subst (λ x. ClearIn x rest) (sym (encodes-chars mid text)) (clear_in mid rest (λ k. subst (λ x. get_or x k 0 < 256) whole (rw (get_or-drop at t k 0) (bytes (at + k)))) (λ k l. subst (λ x. is_suspect (get_or x k 0) (get_or x (suc k) 0) (get_or x (suc (suc k)) 0) ≡ false) whole (from_at k l))))))))
+    subst AreUnchanged (ap (λ n. take n t) same)
+    (subst AreUnchanged (sym (take-add at (i - at) t))
+    (subst (AllByRecursion IsUnchanged) (sym (chars-append (take at t) mid (IsUtf8-take t at u b))) (all-append IsUnchanged (chars (take at t)) (chars mid) unchanged
+    (characters_unchanged (chars mid) rest (scalars-chars mid text) (subst (λ x. ClearIn x rest) (sym (encodes-chars mid text)) (clear_in mid rest (λ k. subst (λ x. get_or x k 0 < 256) whole (rw (get_or-drop at t k 0) (bytes (at + k)))) (λ k l. subst (λ x. is_suspect (get_or x k 0) (get_or x (suc k) 0) (get_or x (suc (suc k)) 0) ≡ false) whole (from_at k l))))))))
   where
     mid : List ℕ
     mid = take (i - at) (drop at t)
@@ -72,20 +72,20 @@ stand_to t at i bytes u b d low stand clear =
         (subst (λ n. is_suspect (get_or t (at + k) 0) (get_or t (1 + (at + k)) 0) (get_or t n 0) ≡ false) third
         (clear (at + k) (omega arith) (omega (arith, l, many, low)))))
 
-pub all_stand : (t : List ℕ) (at : ℕ) → ((k : ℕ) → get_or t k 0 < 256) → IsUtf8 t → IsCharBoundary t at → AllStand (take at t) → AllClear t at (length t) → AllStand t
-all_stand t at bytes u b stand clear = subst AllStand (take_all (length t) t (omega arith)) (stand_to t at (length t) bytes u b (IsCharBoundary-end t) b.0 stand clear)
+pub all_unchanged : (t : List ℕ) (at : ℕ) → ((k : ℕ) → get_or t k 0 < 256) → IsUtf8 t → IsCharBoundary t at → AreUnchanged (take at t) → AllClear t at (length t) → AreUnchanged t
+all_unchanged t at bytes u b unchanged clear = subst AreUnchanged (take_all (length t) t (omega arith)) (unchanged_to t at (length t) bytes u b (IsCharBoundary-end t) b.0 unchanged clear)
 
 -- a suspect begins a character
 pub suspect_begins : (t : List ℕ) (from at : ℕ) → IsNextSuspect t from at → IsCharBoundary t at
 suspect_begins t from at s = (omega (arith, s.within), λ _ high. lead_from (get_or t at 0) (get_or t (1 + at) 0) (get_or t (2 + at) 0) s.suspect high)
 
--- each stands up to a character that does, and so up to what follows it
-pub record StandUpTo (t : List ℕ) (at : ℕ) : Type 0 where
+-- each is unchanged up to a character that is, and so up to what follows it
+pub record AreUnchangedUpTo (t : List ℕ) (at : ℕ) : Type 0 where
   pub boundary : IsCharBoundary t at
-  pub stand : AllStand (take at t)
+  pub unchanged : AreUnchanged (take at t)
 
-pub stand_after : (t rest : List ℕ) (i c at : ℕ) → IsUtf8 t → IsCharBoundary t i → drop i t ≡ encode_utf8 c ++ rest → AllStand (take i t) → Stands c → at ≡ length t - length rest → StandUpTo t at × (i < at)
-stand_after t rest i c at u b e stand s is = (record { boundary = bound; stand = subst (AllByRecursion Stands) (sym same) (all-append Stands (chars (take i t)) (c ∷ []) stand (s, tt)) }, omega (arith, is, some, size, lengths, length-drop i t, b.0))
+pub unchanged_after : (t rest : List ℕ) (i c at : ℕ) → IsUtf8 t → IsCharBoundary t i → drop i t ≡ encode_utf8 c ++ rest → AreUnchanged (take i t) → IsUnchanged c → at ≡ length t - length rest → AreUnchangedUpTo t at × (i < at)
+unchanged_after t rest i c at u b e unchanged s is = (record { boundary = bound; unchanged = subst (AllByRecursion IsUnchanged) (sym same) (all-append IsUnchanged (chars (take i t)) (c ∷ []) unchanged (s, tt)) }, omega (arith, is, some, size, lengths, length-drop i t, b.0))
   where
     text : IsUtf8 (drop i t)
     text = IsUtf8-drop t i u b

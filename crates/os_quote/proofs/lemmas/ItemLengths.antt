@@ -4,10 +4,10 @@ use Rattle.os_quote.proofs.lemmas.Escapes.{escape_is_items}
 use Rattle.os_quote.proofs.lemmas.Items.{five_digits, six_digits}
 
 -- a text of at most ten bytes, six for each that it means, and none for no byte
-pub record IsShort (text meant : List ℕ) : Type 0 where
+pub record IsShort (text decoded : List ℕ) : Type 0 where
   pub ten : length text ≤ 10
-  pub six : length text ≤ 6 * length meant
-  pub some : length meant ≤ length text
+  pub six : length text ≤ 6 * length decoded
+  pub some : length decoded ≤ length text
 
 encoded_length : (c : ℕ) → (0 < length (encode_utf8 c)) × (length (encode_utf8 c) ≤ 4)
 encoded_length c = let n = length-encode c in let b = len_utf8_bounds c in (omega (arith, n, b.0), omega (arith, n, b.1))

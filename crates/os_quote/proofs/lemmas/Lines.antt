@@ -1,8 +1,8 @@
 -- That an escape on one line stays there.
-use Rattle.os_quote.proofs.Common.{◌≡◌, ⊎_elim, ℕ, ◌/◌, ◌%◌, ◌<◌, true, List, [], ◌∷◌, ◌++◌, map, length, IsTrue, refl, sym, ap, ◌∙◌, subst, arith, append_assoc, append-nil, length-append, encode_utf8, All, AllByRecursion, IsUtf8, chars, encode_utf8_all, cases_lt, cases_eq, cases_Bool, ne_eqb, lt-ltb, le-ltb, All-from_recursion, chars-append, chars-nil, chars_past_char, chars-IsAscii, IsUtf8-encode, encodes-chars, length-encode, len_utf8_bounds, Chunk, AreChunks, upper_hex_digit, PartLaws, Item, Character, Backslash, ByteUnit, WideUnit, LongCharacter, backslash, wide_digits, long_digits, item_text, item_texts, IsLong, IsItem, unit_item, hidden_item, character_item, stays_on_line, Stands, AllStand, IsCutAtHidden, chunk_items, items_of, IsLineEscape, IsChunkOf, flat_map-append, map-append}
+use Rattle.os_quote.proofs.Common.{◌≡◌, ⊎_elim, ℕ, ◌/◌, ◌%◌, ◌<◌, true, List, [], ◌∷◌, ◌++◌, map, length, IsTrue, refl, sym, ap, ◌∙◌, subst, arith, append_assoc, append-nil, length-append, encode_utf8, All, AllByRecursion, IsUtf8, chars, encode_utf8_all, cases_lt, cases_eq, cases_Bool, ne_eqb, lt-ltb, le-ltb, All-from_recursion, chars-append, chars-nil, chars_past_char, chars-IsAscii, IsUtf8-encode, encodes-chars, length-encode, len_utf8_bounds, Chunk, AreChunks, upper_hex_digit, PartLaws, Item, Character, Backslash, ByteUnit, WideUnit, LongCharacter, backslash, wide_digits, long_digits, item_text, item_texts, IsLong, IsItem, unit_item, hidden_item, character_item, stays_on_line, IsUnchanged, AreUnchanged, IsCutAtHidden, chunk_items, items_of, IsLineEscape, IsChunkOf, flat_map-append, map-append}
 use Rattle.os_quote.proofs.lemmas.Items.{digit_low, digit_high, five_digits, six_digits}
 use Rattle.os_quote.proofs.lemmas.Shown.{ascii_stays}
-use Rattle.os_quote.proofs.lemmas.Texts.{text_items, text_escape, text_behind}
+use Rattle.os_quote.proofs.lemmas.Texts.{text_items, text_escape, text_after}
 use Rattle.os_quote.proofs.lemmas.Escapes.{all-append, escape_is_items}
 use Rattle.os_quote.proofs.lemmas.Readings.{ascii_all, ascii_byte_unit, ascii_wide_unit, ascii_long_character, item_is_text}
 
@@ -89,29 +89,29 @@ escape_is_on_line well_formed units part_units parts each s text w e =
     All-from_recursion (λ c. stays_on_line c ≡ true) (chars text) (subst (λ x. AllStay (chars x)) (sym e.text_is) (texts_stay items k.0 (chunks_stay units e.chunks)))
 
 -- a text of which each character is unchanged
-stand_texts : (cs : List ℕ) → AllByRecursion Stands cs → item_texts (map (character_item stays_on_line) cs) ≡ encode_utf8_all cs
-stand_texts [] a = refl
-stand_texts (c ∷ cs) a =
+unchanged_texts : (cs : List ℕ) → AllByRecursion IsUnchanged cs → item_texts (map (character_item stays_on_line) cs) ≡ encode_utf8_all cs
+unchanged_texts [] a = refl
+unchanged_texts (c ∷ cs) a =
     let s = a.0.1 in
     let item : character_item stays_on_line c ≡ Character c = rw (ne_eqb c backslash a.0.0) (rw s refl) in
-    ap (λ i. item_text i ++ item_texts (map (character_item stays_on_line) cs)) item ∙ ap (λ x. encode_utf8 c ++ x) (stand_texts cs a.1)
+    ap (λ i. item_text i ++ item_texts (map (character_item stays_on_line) cs)) item ∙ ap (λ x. encode_utf8 c ++ x) (unchanged_texts cs a.1)
 
-pub standing_text : (t : List ℕ) → IsUtf8 t → AllStand t → text_escape stays_on_line t ≡ t
-standing_text t u a = stand_texts (chars t) a ∙ encodes-chars t u
+pub unchanged_text : (t : List ℕ) → IsUtf8 t → AreUnchanged t → text_escape stays_on_line t ≡ t
+unchanged_text t u a = unchanged_texts (chars t) a ∙ encodes-chars t u
 
 -- up to a character before which each is unchanged
-pub up_to_hidden : (t front : List ℕ) (c : ℕ) (behind : List ℕ) → IsUtf8 t → IsCutAtHidden t front c behind
-    → text_escape stays_on_line t ≡ (front ++ item_text (character_item stays_on_line c)) ++ text_escape stays_on_line behind
-up_to_hidden t front c behind u k =
-    let rest = encode_utf8 c ++ behind in
-    let text = text_behind front rest k.front_text (subst IsUtf8 k.joined u) in
+pub up_to_hidden : (t prefix : List ℕ) (c : ℕ) (following : List ℕ) → IsUtf8 t → IsCutAtHidden t prefix c following
+    → text_escape stays_on_line t ≡ (prefix ++ item_text (character_item stays_on_line c)) ++ text_escape stays_on_line following
+up_to_hidden t prefix c following u k =
+    let rest = encode_utf8 c ++ following in
+    let text = text_after prefix rest k.prefix_text (subst IsUtf8 k.joined u) in
     ap (text_escape stays_on_line) k.joined
-    ∙ ap (λ x. item_texts (map (character_item stays_on_line) x)) (chars-append front rest k.front_text ∙ ap (λ x. chars front ++ x) (chars_past_char rest behind c text refl))
-    ∙ ap item_texts (map-append (character_item stays_on_line) (chars front) (c ∷ chars behind))
-    ∙ flat_map-append item_text (text_items stays_on_line front) (map (character_item stays_on_line) (c ∷ chars behind))
-    ∙ ap (λ x. x ++ (item_text (character_item stays_on_line c) ++ text_escape stays_on_line behind)) (standing_text front k.front_text k.stand)
-    ∙ sym (append_assoc front (item_text (character_item stays_on_line c)) (text_escape stays_on_line behind))
+    ∙ ap (λ x. item_texts (map (character_item stays_on_line) x)) (chars-append prefix rest k.prefix_text ∙ ap (λ x. chars prefix ++ x) (chars_past_char rest following c text refl))
+    ∙ ap item_texts (map-append (character_item stays_on_line) (chars prefix) (c ∷ chars following))
+    ∙ flat_map-append item_text (text_items stays_on_line prefix) (map (character_item stays_on_line) (c ∷ chars following))
+    ∙ ap (λ x. x ++ (item_text (character_item stays_on_line c) ++ text_escape stays_on_line following)) (unchanged_text prefix k.prefix_text k.unchanged)
+    ∙ sym (append_assoc prefix (item_text (character_item stays_on_line c)) (text_escape stays_on_line following))
 
-pub cut_is_shorter : (t front : List ℕ) (c : ℕ) (behind : List ℕ) → IsCutAtHidden t front c behind → length behind < length t
-cut_is_shorter t front c behind k =
-    omega (arith, ap length k.joined, length-append front (encode_utf8 c ++ behind), length-append (encode_utf8 c) behind, length-encode c, (len_utf8_bounds c).0)
+pub cut_is_shorter : (t prefix : List ℕ) (c : ℕ) (following : List ℕ) → IsCutAtHidden t prefix c following → length following < length t
+cut_is_shorter t prefix c following k =
+    omega (arith, ap length k.joined, length-append prefix (encode_utf8 c ++ following), length-append (encode_utf8 c) following, length-encode c, (len_utf8_bounds c).0)

@@ -1,5 +1,5 @@
 -- Digits between braces.
-use Rattle.os_quote.proofs.Common.{◌≡◌, ◌≢◌, ⊎_elim, ℕ, ◌+◌, ◌*◌, ◌/◌, ◌%◌, ◌<◌, ◌≤◌, List, [], ◌∷◌, ◌++◌, sym, ap, ◌∙◌, arith, OutOfScalarRange, IsInRange, cases_lt, upper_hex_digit, byte_digits, wide_digits, long_digits, IsLong, HasNoWide, HasNoLong, HasNoClosed, HasNoFive, HasNoSix, IsClosed, IsFive, IsSix}
+use Rattle.os_quote.proofs.Common.{◌≡◌, ◌≢◌, ⊎_elim, ℕ, ◌+◌, ◌*◌, ◌/◌, ◌%◌, ◌<◌, ◌≤◌, List, [], ◌∷◌, ◌++◌, sym, ap, ◌∙◌, arith, OutOfScalarRange, IsInRange, cases_lt, upper_hex_digit, byte_digits, wide_digits, long_digits, IsLong, HasNoWide, HasNoLong, HasNoFour, HasNoFive, HasNoSix, IsFour, IsFive, IsSix}
 use Rattle.os_quote.proofs.lemmas.Items.{tails, digit_same, wide_same, five_digits, six_digits}
 
 -- a code point past FFFF has five digits or six
@@ -33,7 +33,7 @@ long_of_five bytes digits c rest is k =
     )
 
 -- no five digits and a brace are there, since the last four or the brace are missing, or the first is no digit or is 0
-pub not_closed : (digits low : List ℕ) (first : ℕ) → digits ≡ first ∷ low → HasNoClosed low → HasNoFive digits
+pub not_closed : (digits low : List ℕ) (first : ℕ) → digits ≡ first ∷ low → HasNoFour low → HasNoFive digits
 not_closed digits low first is none h some within u fits after e = none u fits after (tails (sym is ∙ e)).1
 
 pub zero_first : (digits low : List ℕ) (first d : ℕ) → digits ≡ first ∷ low → upper_hex_digit d ≡ first → d ≡ 0 → HasNoFive digits
@@ -48,21 +48,21 @@ pub no_bytes : (digits : List ℕ) → digits ≡ [] → HasNoFive digits
 no_bytes digits n h some within u fits after e = let f = sym n ∙ e in cc
 
 -- these five digits and a brace are there
-pub five_closed : (digits low : List ℕ) (first high c : ℕ) (rest : List ℕ) → digits ≡ first ∷ low → upper_hex_digit high ≡ first → high < 16 → 0 < high → IsClosed high low c rest → IsFive digits c rest
+pub five_closed : (digits low : List ℕ) (first high c : ℕ) (rest : List ℕ) → digits ≡ first ∷ low → upper_hex_digit high ≡ first → high < 16 → 0 < high → IsFour high low c rest → IsFive digits c rest
 five_closed digits low first high c rest is same within some k =
     let h : c / 0x1_0000 ≡ high = k.0 in
     (omega arith, (omega arith, is ∙ ap (λ x. x ∷ low) (sym same) ∙ ap (λ n. upper_hex_digit n ∷ low) (sym h) ∙ ap (λ x. upper_hex_digit (c / 0x1_0000) ∷ x) k.1))
 
 -- no four digits, or no brace after them
-pub no_closed_digits : (bytes : List ℕ) → HasNoWide bytes → HasNoClosed bytes
+pub no_closed_digits : (bytes : List ℕ) → HasNoWide bytes → HasNoFour bytes
 no_closed_digits bytes none u h after e = none u h (0x7D ∷ after) e
 
-pub no_closing : (bytes behind : List ℕ) (number : ℕ) → bytes ≡ wide_digits number ++ behind → ((after : List ℕ) → behind ≢ 0x7D ∷ after) → HasNoClosed bytes
-no_closing bytes behind number is none u h after e = none after (wide_same number u behind (0x7D ∷ after) (sym is ∙ e)).1
+pub no_closing : (bytes following : List ℕ) (number : ℕ) → bytes ≡ wide_digits number ++ following → ((after : List ℕ) → following ≢ 0x7D ∷ after) → HasNoFour bytes
+no_closing bytes following number is none u h after e = none after (wide_same number u following (0x7D ∷ after) (sym is ∙ e)).1
 
 -- the number that these digits say
-pub closed : (bytes behind rest : List ℕ) (high number code : ℕ) → number < 0x1_0000 → bytes ≡ wide_digits number ++ behind → behind ≡ 0x7D ∷ rest → code ≡ high * 0x1_0000 + number → IsClosed high bytes code rest
-closed bytes behind rest high number code fits is brace e =
+pub closed : (bytes following rest : List ℕ) (high number code : ℕ) → number < 0x1_0000 → bytes ≡ wide_digits number ++ following → following ≡ 0x7D ∷ rest → code ≡ high * 0x1_0000 + number → IsFour high bytes code rest
+closed bytes following rest high number code fits is brace e =
     let low : code % 0x1_0000 ≡ number = omega arith in
     (omega arith, is ∙ ap (λ x. wide_digits number ++ x) brace ∙ ap (λ n. wide_digits n ++ 0x7D ∷ rest) (sym low))
 

@@ -1,5 +1,5 @@
 -- Plain bytes: texts that both forms show unchanged.
-use Rattle.os_quote.proofs.Common.{◌≡◌, ⊎_elim, ℕ, zero, suc, ◌+◌, ◌-◌, ◌<◌, ◌≤◌, true, List, [], ◌∷◌, ◌++◌, map, length, take, get_or, refl, sym, ap, ◌∙◌, subst, arith, append_assoc, rules, AllByRecursion, IsUtf8, HasWrittenStyled, IsFlush, Formatter, cases_lt, ne_eqb, chars-IsAscii, encode_ascii, IsUtf8-from_ascii, Character, backslash, item_text, item_texts, character_item, shown_by, IsPlain, IsPlainUpTo, IsAfterPlain, AllStand, Stands}
+use Rattle.os_quote.proofs.Common.{◌≡◌, ⊎_elim, ℕ, zero, suc, ◌+◌, ◌-◌, ◌<◌, ◌≤◌, true, List, [], ◌∷◌, ◌++◌, map, length, take, get_or, refl, sym, ap, ◌∙◌, subst, arith, append_assoc, rules, AllByRecursion, IsUtf8, HasWrittenStyled, IsFlush, Formatter, cases_lt, ne_eqb, chars-IsAscii, encode_ascii, IsUtf8-from_ascii, Character, backslash, item_text, item_texts, character_item, shown_by, IsPlain, IsPlainUpTo, IsAfterPlain, AreUnchanged, IsUnchanged}
 use Rattle.os_quote.specs.declared.form.Form.{Form}
 use Rattle.os_quote.specs.declared.form.Form.TheVariants.{Text, Line}
 use Rattle.os_quote.proofs.lemmas.Readings.{ascii_all}
@@ -31,18 +31,18 @@ pub plain_is_own : (form : Form) (bs : List ℕ) → AllByRecursion IsPlain bs �
 plain_is_own form bs a = ap (λ cs. item_texts (map (character_item (shown_by form)) cs)) (chars-IsAscii bs (ascii_all bs (plain_ascii bs a))) ∙ own_bytes form bs a
 
 -- each of their characters stays on a line
-each_stands : (bs : List ℕ) → AllByRecursion IsPlain bs → AllByRecursion Stands bs
-each_stands [] a = tt
-each_stands (b ∷ bs) a = ((a.0.1, plain_is_shown Line b a.0), each_stands bs a.1)
+each_unchanged : (bs : List ℕ) → AllByRecursion IsPlain bs → AllByRecursion IsUnchanged bs
+each_unchanged [] a = tt
+each_unchanged (b ∷ bs) a = ((a.0.1, plain_is_shown Line b a.0), each_unchanged bs a.1)
 
-pub plain_stands : (bs : List ℕ) → AllByRecursion IsPlain bs → AllStand bs
-plain_stands bs a = subst (AllByRecursion Stands) (sym (chars-IsAscii bs (ascii_all bs (plain_ascii bs a)))) (each_stands bs a)
+pub plain_unchanged : (bs : List ℕ) → AllByRecursion IsPlain bs → AreUnchanged bs
+plain_unchanged bs a = subst (AllByRecursion IsUnchanged) (sym (chars-IsAscii bs (ascii_all bs (plain_ascii bs a)))) (each_unchanged bs a)
 
 -- by index
-pub plain_front : (bs : List ℕ) (n : ℕ) → ((i : ℕ) → i < n → IsPlain (get_or bs i 0)) → AllByRecursion IsPlain (take n bs)
-plain_front [] zero h = tt
-plain_front (b ∷ bs) (suc n) h = (h 0 (omega arith), plain_front bs n (λ k lt. h (suc k) (omega (arith, lt))))
-plain_front bs n h = tt
+pub plain_prefix : (bs : List ℕ) (n : ℕ) → ((i : ℕ) → i < n → IsPlain (get_or bs i 0)) → AllByRecursion IsPlain (take n bs)
+plain_prefix [] zero h = tt
+plain_prefix (b ∷ bs) (suc n) h = (h 0 (omega arith), plain_prefix bs n (λ k lt. h (suc k) (omega (arith, lt))))
+plain_prefix bs n h = tt
 
 pub none_plain : (bs : List ℕ) → IsPlainUpTo bs 0
 none_plain bs = record { within = omega arith; plain = λ i lt. absurd (omega (arith, lt)) }
@@ -72,10 +72,10 @@ pub all_plain : (xs ys : List ℕ) → AllByRecursion IsPlain xs → AllByRecurs
 all_plain [] ys a b = b
 all_plain (x ∷ xs) ys a b = (a.0, all_plain xs ys a.1 b)
 
-pub after_more : (bs front rest more behind : List ℕ) → IsAfterPlain bs front rest → IsAfterPlain rest more behind → IsAfterPlain bs (front ++ more) behind
-after_more bs front rest more behind a b = record {
-  plain = all_plain front more a.plain b.plain;
-  joined = a.joined ∙ ap (λ x. front ++ x) b.joined ∙ sym (append_assoc front more behind);
+pub after_more : (bs prefix rest more following : List ℕ) → IsAfterPlain bs prefix rest → IsAfterPlain rest more following → IsAfterPlain bs (prefix ++ more) following
+after_more bs prefix rest more following a b = record {
+  plain = all_plain prefix more a.plain b.plain;
+  joined = a.joined ∙ ap (λ x. prefix ++ x) b.joined ∙ sym (append_assoc prefix more following);
 }
 
 pub none_written : {W : Type 0} (took : W → List ℕ → W → Type 0) (f : Formatter W) → IsFlush f → HasWrittenStyled took f [] f

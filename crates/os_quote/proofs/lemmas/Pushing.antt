@@ -1,5 +1,5 @@
 -- How far a text has been written into a buffer.
-use Rattle.os_quote.proofs.Common.{◌≡◌, ⊎_elim, true, false, ℕ, ◌+◌, ◌<◌, ◌^◌, List, [], ◌++◌, length, refl, sym, ap, ◌∙◌, subst, arith, append_assoc, append-nil, length-append, cases_Bool, cases_eq, ne_eqb, Pushes, token_of, backslash, character_item, stays_on_line, Stands, Bool, item_text, text_escape}
+use Rattle.os_quote.proofs.Common.{◌≡◌, ⊎_elim, true, false, ℕ, ◌+◌, ◌<◌, ◌^◌, List, [], ◌++◌, length, refl, sym, ap, ◌∙◌, subst, arith, append_assoc, append-nil, length-append, cases_Bool, cases_eq, ne_eqb, Pushes, token_of, backslash, character_item, stays_on_line, IsUnchanged, Bool, item_text, text_escape}
 use Rattle.os_quote.specs.Buffers.{IsCutAtToken}
 use Rattle.wtf8_core.specs.Truncated.{IsTruncated}
 use Rattle.wtf8_core.proofs.lemmas.buffers.Truncated.{none_yet}
@@ -45,11 +45,11 @@ module _ {old now : List ℕ} {n m : ℕ} {left all : List ℕ} (so_far : Pushes
       omega (arith, room, so_far.1.1, ap length so_far.2, length-append so_far.0 left, ap length e, length-append more rest)
 
 -- the escape of a text that is cut around a token
-pub cut_escape : {shows : ℕ → Bool} {text front : List ℕ} {c : ℕ} {behind : List ℕ} → IsCutAtToken shows text front c behind → text_escape shows text ≡ front ++ (item_text (token_of c) ++ text_escape shows behind)
-cut_escape {shows} {text} {front} {c} {behind} k = k.escape ∙ append_assoc front (item_text (token_of c)) (text_escape shows behind)
+pub cut_escape : {shows : ℕ → Bool} {text prefix : List ℕ} {c : ℕ} {following : List ℕ} → IsCutAtToken shows text prefix c following → text_escape shows text ≡ prefix ++ (item_text (token_of c) ++ text_escape shows following)
+cut_escape {shows} {text} {prefix} {c} {following} k = k.escape ∙ append_assoc prefix (item_text (token_of c)) (text_escape shows following)
 
 -- a character that isn't shown on one line is its token
-pub hidden_token : (c : ℕ) → ¬ (Stands c) → character_item stays_on_line c ≡ token_of c
+pub hidden_token : (c : ℕ) → ¬ (IsUnchanged c) → character_item stays_on_line c ≡ token_of c
 hidden_token c h =
     ⊎_elim
     (λ (e : c ≡ backslash). subst (λ x. character_item stays_on_line x ≡ token_of x) (sym e) refl)

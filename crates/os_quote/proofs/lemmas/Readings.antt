@@ -2,24 +2,24 @@
 use Rattle.os_quote.proofs.Common.{get_or, take_at, encode_ascii, IsUtf8-take, IsCharBoundary-before_ascii, IsCutAtFirst, ◌≡◌, ⊎_elim, inl, inr, ℕ, zero, suc, Bool, ◌-◌, ◌<◌, ◌/◌, ◌%◌, List, [], ◌∷◌, ◌++◌, length, refl, sym, ap, ◌∙◌, subst, arith, append_assoc, append-nil, length-append, AllByRecursion, flat_map, IsUtf8, IsAscii, cases_lt, IsUtf8-nil, IsUtf8-append, IsUtf8-encode, IsUtf8-from_ascii, Chunk, AreChunks, PartLaws, upper_hex_digit, Item, Character, Backslash, ByteUnit, WideUnit, LongCharacter, backslash, wide_digits, long_digits, item_text, item_texts, IsLong, IsItem, is_any, BeginsNoToken, IsBadEscapeBy, IsEscapeBy, items_of, HasNoBackslash, IsCutAtBackslash, IsRead, item_bytes, IsChunkOf, flat_map-append}
 use Rattle.std.proofs.Math.Seq.{get_or-append_seam}
 use Rattle.os_quote.proofs.lemmas.Items.{digit_low, digit_high, five_digits, six_digits, some_bytes, same_items}
-use Rattle.os_quote.proofs.lemmas.Texts.{text_items, text_is_items, own_text, slash_behind, text_behind}
+use Rattle.os_quote.proofs.lemmas.Texts.{text_items, text_is_items, own_text, slash_after, text_after}
 use Rattle.os_quote.proofs.lemmas.Escapes.{all-append, one_reading, escape_is_items}
 
 -- the first backslash of a text is between two texts
-pub cut_of_text : (t front behind : List ℕ) → IsUtf8 t → IsCutAtFirst t front behind → IsCutAtBackslash t front behind
-cut_of_text t front behind u k =
-    let n = length front in
-    let whole = front ++ backslash ∷ behind in
+pub cut_of_text : (t prefix following : List ℕ) → IsUtf8 t → IsCutAtFirst t prefix following → IsCutAtBackslash t prefix following
+cut_of_text t prefix following u k =
+    let n = length prefix in
+    let whole = prefix ++ backslash ∷ following in
     let v : IsUtf8 whole = subst IsUtf8 k.joined u in
-    let low : n < length whole = omega (arith, length-append front (backslash ∷ behind)) in
-    let ascii : get_or whole n 0 < 128 = omega (arith, get_or-append_seam front backslash behind 0) in
-    let f : IsUtf8 front = subst IsUtf8 (take_at front (backslash ∷ behind) n refl) (IsUtf8-take whole n v (IsCharBoundary-before_ascii whole n low ascii)) in
+    let low : n < length whole = omega (arith, length-append prefix (backslash ∷ following)) in
+    let ascii : get_or whole n 0 < 128 = omega (arith, get_or-append_seam prefix backslash following 0) in
+    let f : IsUtf8 prefix = subst IsUtf8 (take_at prefix (backslash ∷ following) n refl) (IsUtf8-take whole n v (IsCharBoundary-before_ascii whole n low ascii)) in
     let slash : IsUtf8 (backslash ∷ []) = subst IsUtf8 (encode_ascii backslash (omega arith)) (IsUtf8-encode backslash refl) in
     record {
       none_before = k.none_before;
       joined = k.joined;
-      front_text = f;
-      behind_text = text_behind (backslash ∷ []) behind slash (slash_behind front behind f v);
+      prefix_text = f;
+      after_text = text_after (backslash ∷ []) following slash (slash_after prefix following f v);
     }
 
 -- tokens are ASCII
@@ -101,35 +101,35 @@ module _ (shows : ℕ → Bool) where
   shown_items (i ∷ items) a = (shown_item i a.0, shown_items items a.1)
 
   -- a text up to a backslash has been read
-  read_front : (text out rest front behind : List ℕ) → IsRead shows text out rest → IsUtf8 front → HasNoBackslash front → rest ≡ front ++ behind → IsRead shows text (out ++ front) behind
-  read_front text out rest front behind r u h e =
-      let i = text_is_items is_any front u in
-      subst (λ x. IsRead shows text (out ++ x) behind) i.1 (read_items text out rest (text_items is_any front) behind r (shown_items (text_items is_any front) i.0) (e ∙ ap (λ x. x ++ behind) (sym (own_text front u h))) (text_behind front behind u (subst IsUtf8 e r.text_left)))
+  read_prefix : (text out rest prefix following : List ℕ) → IsRead shows text out rest → IsUtf8 prefix → HasNoBackslash prefix → rest ≡ prefix ++ following → IsRead shows text (out ++ prefix) following
+  read_prefix text out rest prefix following r u h e =
+      let i = text_is_items is_any prefix u in
+      subst (λ x. IsRead shows text (out ++ x) following) i.1 (read_items text out rest (text_items is_any prefix) following r (shown_items (text_items is_any prefix) i.0) (e ∙ ap (λ x. x ++ following) (sym (own_text prefix u h))) (text_after prefix following u (subst IsUtf8 e r.text_left)))
 
   -- and a token after it
-  pub read_more : (text out rest front behind : List ℕ) (item : Item) (after more now : List ℕ) → IsRead shows text out rest → IsCutAtBackslash rest front behind
-      → IsItem shows item → backslash ∷ behind ≡ item_text item ++ after → more ≡ out ++ front → now ≡ more ++ item_bytes item → IsRead shows text now after
-  read_more text out rest front behind item after more now r k i t m n =
-      let f = read_front text out rest front (backslash ∷ behind) r k.front_text k.none_before k.joined in
-      let all : backslash ∷ behind ≡ item_texts (item ∷ []) ++ after = t ∙ ap (λ x. x ++ after) (sym (append-nil (item_text item))) in
-      let g = read_items text (out ++ front) (backslash ∷ behind) (item ∷ []) after f (i, tt) all (text_behind (item_text item) after (item_is_text item i) (subst IsUtf8 t f.text_left)) in
-      subst (λ x. IsRead shows text x after) (ap (λ x. (out ++ front) ++ x) (append-nil (item_bytes item)) ∙ ap (λ x. x ++ item_bytes item) (sym m) ∙ sym n) g
+  pub read_more : (text out rest prefix following : List ℕ) (item : Item) (after more now : List ℕ) → IsRead shows text out rest → IsCutAtBackslash rest prefix following
+      → IsItem shows item → backslash ∷ following ≡ item_text item ++ after → more ≡ out ++ prefix → now ≡ more ++ item_bytes item → IsRead shows text now after
+  read_more text out rest prefix following item after more now r k i t m n =
+      let f = read_prefix text out rest prefix (backslash ∷ following) r k.prefix_text k.none_before k.joined in
+      let all : backslash ∷ following ≡ item_texts (item ∷ []) ++ after = t ∙ ap (λ x. x ++ after) (sym (append-nil (item_text item))) in
+      let g = read_items text (out ++ prefix) (backslash ∷ following) (item ∷ []) after f (i, tt) all (text_after (item_text item) after (item_is_text item i) (subst IsUtf8 t f.text_left)) in
+      subst (λ x. IsRead shows text x after) (ap (λ x. (out ++ prefix) ++ x) (append-nil (item_bytes item)) ∙ ap (λ x. x ++ item_bytes item) (sym m) ∙ sym n) g
 
   -- all has been read
   pub read_all : (text out rest now : List ℕ) → IsRead shows text out rest → HasNoBackslash rest → now ≡ out ++ rest → IsRead shows text now []
-  read_all text out rest now r h n = subst (λ x. IsRead shows text x []) (sym n) (read_front text out rest rest [] r r.text_left h (sym (append-nil rest)))
+  read_all text out rest now r h n = subst (λ x. IsRead shows text x []) (sym n) (read_prefix text out rest rest [] r r.text_left h (sym (append-nil rest)))
 
   -- no token begins there
-  pub read_bad : (text out rest front behind : List ℕ) → IsRead shows text out rest → IsCutAtBackslash rest front behind → BeginsNoToken shows (backslash ∷ behind) → IsBadEscapeBy shows text (length text - length behind - 1)
-  read_bad text out rest front behind r k b =
-      let f = read_front text out rest front (backslash ∷ behind) r k.front_text k.none_before k.joined in
-      record { items = f.items; are = f.are; rest = backslash ∷ behind; joined = f.joined; place = omega (arith, ap length f.joined, length-append (item_texts f.items) (backslash ∷ behind)); bad = b }
+  pub read_bad : (text out rest prefix following : List ℕ) → IsRead shows text out rest → IsCutAtBackslash rest prefix following → BeginsNoToken shows (backslash ∷ following) → IsBadEscapeBy shows text (length text - length following - 1)
+  read_bad text out rest prefix following r k b =
+      let f = read_prefix text out rest prefix (backslash ∷ following) r k.prefix_text k.none_before k.joined in
+      record { items = f.items; are = f.are; rest = backslash ∷ following; joined = f.joined; index = omega (arith, ap length f.joined, length-append (item_texts f.items) (backslash ∷ following)); bad = b }
 
   -- what has been read whole isn't bad
   pub read_no_bad : (text out : List ℕ) (n : ℕ) → IsRead shows text out [] → ¬ (IsBadEscapeBy shows text n)
   read_no_bad text out n r b =
       let q = same_items shows r.items b.items [] b.rest r.are b.are (inl refl) (inr b.bad) (sym r.joined ∙ b.joined) in
-      let c : ◌≡◌ {A = List ℕ} [] (backslash ∷ b.bad.behind) = q.1 ∙ b.bad.first in
+      let c : ◌≡◌ {A = List ℕ} [] (backslash ∷ b.bad.following) = q.1 ∙ b.bad.first in
       cc
 
   -- if the bytes that a text means aren't a string with this escape, the text, which has been read whole, is the escape of no string
@@ -144,9 +144,9 @@ module _ (shows : ℕ → Bool) where
     λ n. read_no_bad text out n r,
   )
 
-pub read_shorter : (rest front behind : List ℕ) (item : Item) (after : List ℕ) → IsCutAtFirst rest front behind → backslash ∷ behind ≡ item_text item ++ after → length after < length rest
-read_shorter rest front behind item after k t =
+pub read_shorter : (rest prefix following : List ℕ) (item : Item) (after : List ℕ) → IsCutAtFirst rest prefix following → backslash ∷ following ≡ item_text item ++ after → length after < length rest
+read_shorter rest prefix following item after k t =
     let s = some_bytes item in
-    omega (arith, ap length k.joined, length-append front (backslash ∷ behind), ap length t, length-append (item_text item) after)
+    omega (arith, ap length k.joined, length-append prefix (backslash ∷ following), ap length t, length-append (item_text item) after)
 
 pub ruleset readings = (read_none, read_more, read_shorter, read_all, read_bad)

@@ -13,31 +13,31 @@ use Rattle.os_quote.proofs.lemmas.Pushing.{pushed_all}
 abbrev pub StripsRest : List ℕ → List ℕ → List ℕ → List ℕ → Type 0
 StripsRest text rest left all = (done : List ℕ) × (text ≡ done ++ rest) × (done ++ left ≡ all)
 
-module _ {text rest left all : List ℕ} (so_far : StripsRest text rest left all) (front : List ℕ) where
-  pub one_stripped : (behind after : List ℕ) → rest ≡ front ++ behind → left ≡ front ++ after → StripsRest text behind after all
-  one_stripped behind after r l = (
-    so_far.0 ++ front,
-    so_far.1 ∙ ap (λ x. so_far.0 ++ x) r ∙ sym (append_assoc so_far.0 front behind),
-    append_assoc so_far.0 front after ∙ ap (λ x. so_far.0 ++ x) (sym l) ∙ so_far.2,
+module _ {text rest left all : List ℕ} (so_far : StripsRest text rest left all) (prefix : List ℕ) where
+  pub one_stripped : (following after : List ℕ) → rest ≡ prefix ++ following → left ≡ prefix ++ after → StripsRest text following after all
+  one_stripped following after r l = (
+    so_far.0 ++ prefix,
+    so_far.1 ∙ ap (λ x. so_far.0 ++ x) r ∙ sym (append_assoc so_far.0 prefix following),
+    append_assoc so_far.0 prefix after ∙ ap (λ x. so_far.0 ++ x) (sym l) ∙ so_far.2,
   )
 
-  pub not_stripped : (after : List ℕ) → StartsNot front rest → left ≡ front ++ after → StartsNot all text
-  not_stripped after never l behind e =
-      never (after ++ behind) (append_cancel_left so_far.0 rest (front ++ (after ++ behind)) (
+  pub not_stripped : (after : List ℕ) → StartsNot prefix rest → left ≡ prefix ++ after → StartsNot all text
+  not_stripped after never l following e =
+      never (after ++ following) (append_cancel_left so_far.0 rest (prefix ++ (after ++ following)) (
       sym so_far.1
       ∙ e
-      ∙ ap (λ x. x ++ behind) (sym so_far.2 ∙ ap (λ x. so_far.0 ++ x) l)
-      ∙ append_assoc so_far.0 (front ++ after) behind
-      ∙ ap (λ x. so_far.0 ++ x) (append_assoc front after behind)
+      ∙ ap (λ x. x ++ following) (sym so_far.2 ∙ ap (λ x. so_far.0 ++ x) l)
+      ∙ append_assoc so_far.0 (prefix ++ after) following
+      ∙ ap (λ x. so_far.0 ++ x) (append_assoc prefix after following)
       ))
 
 pub all_stripped : (text rest left all : List ℕ) → StripsRest text rest left all → left ≡ [] → text ≡ all ++ rest
 all_stripped text rest left all so_far n = so_far.1 ∙ ap (λ x. x ++ rest) (sym (append-nil so_far.0) ∙ ap (λ x. so_far.0 ++ x) (sym n) ∙ so_far.2)
 
 -- what is left is stripped at once
-pub last_stripped : (text rest left all front : List ℕ) → StripsRest text rest left all → left ≡ front → (r : Option (Bor (List ℕ))) → MatchOption r (StartsNot front rest) (λ x. rest ≡ front ++ x.now) → MatchOption r (StartsNot all text) (λ x. text ≡ all ++ x.now)
-last_stripped text rest left all front so_far e None never = not_stripped so_far front [] never (e ∙ sym (append-nil front))
-last_stripped text rest left all front so_far e (Some x) is = all_stripped text x.now [] all (one_stripped so_far front x.now [] is (e ∙ sym (append-nil front))) refl
+pub last_stripped : (text rest left all prefix : List ℕ) → StripsRest text rest left all → left ≡ prefix → (r : Option (Bor (List ℕ))) → MatchOption r (StartsNot prefix rest) (λ x. rest ≡ prefix ++ x.now) → MatchOption r (StartsNot all text) (λ x. text ≡ all ++ x.now)
+last_stripped text rest left all prefix so_far e None never = not_stripped so_far prefix [] never (e ∙ sym (append-nil prefix))
+last_stripped text rest left all prefix so_far e (Some x) is = all_stripped text x.now [] all (one_stripped so_far prefix x.now [] is (e ∙ sym (append-nil prefix))) refl
 
 -- a token in a buffer of its own
 pub token_text : (text old new : List ℕ) (count : ℕ) → Pushes text old 0 new count → length text ≤ length old → take count new ≡ text

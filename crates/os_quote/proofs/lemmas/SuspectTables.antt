@@ -1,11 +1,11 @@
 -- The tables have each character that is hidden, and the backslash.
-use Rattle.os_quote.proofs.Common.{◌≡◌, ⊎_elim, ℕ, suc, ◌+◌, ◌-◌, ◌/◌, ◌%◌, ◌<◌, ◌≤◌, Bool, true, false, ◌&&◌, List, [], ◌∷◌, not, eqb, ltb, bit_and, refl, sym, ap, ◌∙◌, subst, arith, true≢false, is_in_range, cases_lt, lt-ltb, le-ltb, all_below, each_below, hidden_ranges, is_in_ranges, Stands, lead_bits, second_bits, third_bits, pair_bits, suspect_bits}
+use Rattle.os_quote.proofs.Common.{◌≡◌, ⊎_elim, ℕ, suc, ◌+◌, ◌-◌, ◌/◌, ◌%◌, ◌<◌, ◌≤◌, Bool, true, false, ◌&&◌, List, [], ◌∷◌, not, eqb, ltb, bit_and, refl, sym, ap, ◌∙◌, subst, arith, true≢false, is_in_range, cases_lt, lt-ltb, le-ltb, all_below, each_below, hidden_ranges, is_in_ranges, IsUnchanged, kind_bits, second_bits, third_bits, kind_bits_of_two, suspect_bits}
 use Rattle.std.specs.Bool.{if◌then◌else◌}
 use Rattle.std.proofs.lemmas.Bool.{and_parts, cases_Bool, or_cases, eqb-true, not-false}
 use Rattle.std.proofs.lemmas.Nat.{and_assoc}
 use Rattle.std.specs.Int.Bits.{and_zero_l}
 use Rattle.wtf8_core.proofs.lemmas.forms.Ranges.{in_range-true}
-use Rattle.os_quote.specs.Standing.{is_suspect}
+use Rattle.os_quote.specs.Hidden.{is_suspect}
 
 abbrev is_some : ℕ → Bool
 is_some bits = not (eqb bits 0)
@@ -19,10 +19,10 @@ short = 0x37
 
 -- whether the tables have a character of one to four bytes, whatever follows it
 abbrev has_one : ℕ → Bool
-has_one c = is_some (bit_and (lead_bits c) ascii)
+has_one c = is_some (bit_and (kind_bits c) ascii)
 
 abbrev has_two : ℕ → Bool
-has_two c = is_some (bit_and (pair_bits (0xC0 + c / 0x40) (0x80 + c % 0x40)) short)
+has_two c = is_some (bit_and (kind_bits_of_two (0xC0 + c / 0x40) (0x80 + c % 0x40)) short)
 
 abbrev has_three : ℕ → Bool
 has_three c = is_some (suspect_bits (0xE0 + c / 0x1000) (0x80 + (c / 0x40) % 0x40) (0x80 + c % 0x40))
@@ -57,9 +57,9 @@ in_ranges_has (r ∷ rs) c e t =
 has_hidden : has_ranges hidden_ranges ≡ true
 has_hidden = refl
 
--- a character that the tables don't have stands
-stands : (c : ℕ) → has c ≡ false → Stands c
-stands c none = (λ e. true≢false (sym (ap has e) ∙ none), ap not (⊎_elim (λ t. absurd (true≢false (sym (in_ranges_has hidden_ranges c has_hidden t) ∙ none))) (λ f. f) (cases_Bool (is_in_ranges hidden_ranges c))))
+-- a character that the tables don't have is unchanged
+is_unchanged : (c : ℕ) → has c ≡ false → IsUnchanged c
+is_unchanged c none = (λ e. true≢false (sym (ap has e) ∙ none), ap not (⊎_elim (λ t. absurd (true≢false (sym (in_ranges_has hidden_ranges c has_hidden t) ∙ none))) (λ f. f) (cases_Bool (is_in_ranges hidden_ranges c))))
 
 -- whether a table has all of these bits for every byte
 abbrev has_all : (ℕ → ℕ) → ℕ → ℕ → Bool
@@ -79,27 +79,27 @@ no_bits x y z e = eqb-true _ _ (not-false _ e)
 none : (bits : ℕ) → bits ≡ 0 → is_some bits ≡ false
 none bits e = ap is_some e
 
--- a character stands where its first byte is no suspect
-pub one_stands : (c y z : ℕ) → c < 0x80 → y < 256 → z < 256 → is_suspect c y z ≡ false → Stands c
-one_stands c y z a v w s =
-    let pair = none_of_all (pair_bits c y) (third_bits z) ascii (all_of third_bits ascii z refl w) (no_bits c y z s) in
-    let lead : bit_and (lead_bits c) ascii ≡ 0 = ap (bit_and (lead_bits c)) (sym (all_of second_bits ascii y refl v)) ∙ sym (and_assoc ascii (lead_bits c) (second_bits y)) ∙ pair in
-    stands c (rw (lt-ltb c 0x80 a) (none _ lead))
+-- a character is unchanged where its first byte is no suspect
+pub one_occurs : (c y z : ℕ) → c < 0x80 → y < 256 → z < 256 → is_suspect c y z ≡ false → IsUnchanged c
+one_occurs c y z a v w s =
+    let pair = none_of_all (kind_bits_of_two c y) (third_bits z) ascii (all_of third_bits ascii z refl w) (no_bits c y z s) in
+    let lead : bit_and (kind_bits c) ascii ≡ 0 = ap (bit_and (kind_bits c)) (sym (all_of second_bits ascii y refl v)) ∙ sym (and_assoc ascii (kind_bits c) (second_bits y)) ∙ pair in
+    is_unchanged c (rw (lt-ltb c 0x80 a) (none _ lead))
 
-pub two_stands : (c z : ℕ) → 0x80 ≤ c → c < 0x800 → z < 256 → is_suspect (0xC0 + c / 0x40) (0x80 + c % 0x40) z ≡ false → Stands c
-two_stands c z l a w s =
-    let pair = none_of_all (pair_bits (0xC0 + c / 0x40) (0x80 + c % 0x40)) (third_bits z) short (all_of third_bits short z refl w) (no_bits (0xC0 + c / 0x40) (0x80 + c % 0x40) z s) in
-    stands c (rw (le-ltb c 0x80 l, lt-ltb c 0x800 a) (none _ pair))
+pub two_occurs : (c z : ℕ) → 0x80 ≤ c → c < 0x800 → z < 256 → is_suspect (0xC0 + c / 0x40) (0x80 + c % 0x40) z ≡ false → IsUnchanged c
+two_occurs c z l a w s =
+    let pair = none_of_all (kind_bits_of_two (0xC0 + c / 0x40) (0x80 + c % 0x40)) (third_bits z) short (all_of third_bits short z refl w) (no_bits (0xC0 + c / 0x40) (0x80 + c % 0x40) z s) in
+    is_unchanged c (rw (le-ltb c 0x80 l, lt-ltb c 0x800 a) (none _ pair))
 
-pub three_stands : (c : ℕ) → 0x800 ≤ c → c < 0x1_0000 → is_suspect (0xE0 + c / 0x1000) (0x80 + (c / 0x40) % 0x40) (0x80 + c % 0x40) ≡ false → Stands c
+pub three_occurs : (c : ℕ) → 0x800 ≤ c → c < 0x1_0000 → is_suspect (0xE0 + c / 0x1000) (0x80 + (c / 0x40) % 0x40) (0x80 + c % 0x40) ≡ false → IsUnchanged c
 unfolding is_suspect
-three_stands c l a s =
-    stands c (rw (le-ltb c 0x80 (omega (arith, l)), le-ltb c 0x800 l, lt-ltb c 0x1_0000 a) s)
+three_occurs c l a s =
+    is_unchanged c (rw (le-ltb c 0x80 (omega (arith, l)), le-ltb c 0x800 l, lt-ltb c 0x1_0000 a) s)
 
-pub four_stands : (c : ℕ) → 0x1_0000 ≤ c → is_suspect (0xF0 + c / 0x4_0000) (0x80 + (c / 0x1000) % 0x40) (0x80 + (c / 0x40) % 0x40) ≡ false → Stands c
+pub four_occurs : (c : ℕ) → 0x1_0000 ≤ c → is_suspect (0xF0 + c / 0x4_0000) (0x80 + (c / 0x1000) % 0x40) (0x80 + (c / 0x40) % 0x40) ≡ false → IsUnchanged c
 unfolding is_suspect
-four_stands c l s =
-    stands c (rw (le-ltb c 0x80 (omega (arith, l)), le-ltb c 0x800 (omega (arith, l)), le-ltb c 0x1_0000 l) s)
+four_occurs c l s =
+    is_unchanged c (rw (le-ltb c 0x80 (omega (arith, l)), le-ltb c 0x800 (omega (arith, l)), le-ltb c 0x1_0000 l) s)
 
 -- no byte that goes on in a character is one
 pub lead_from : (x y z : ℕ) → is_suspect x y z ≡ true → 128 ≤ x → 192 ≤ x
@@ -108,7 +108,7 @@ lead_from x y z e h =
     ⊎_elim
     (λ l.
     let same : 128 + (x - 128) ≡ x = omega (arith, h) in
-    let lead = subst (λ b. lead_bits b ≡ 0) same (eqb-true _ _ (each_below (λ k. eqb (lead_bits (128 + k)) 0) 64 (x - 128) refl (omega (arith, h, l)))) in
+    let lead = subst (λ b. kind_bits b ≡ 0) same (eqb-true _ _ (each_below (λ k. eqb (kind_bits (128 + k)) 0) 64 (x - 128) refl (omega (arith, h, l)))) in
     absurd (true≢false (sym e ∙ ap (λ b. is_some (bit_and (bit_and b (second_bits y)) (third_bits z))) lead ∙ none _ (ap (λ b. bit_and b (third_bits z)) (and_zero_l (second_bits y)) ∙ and_zero_l (third_bits z)))))
     (λ g. g)
     (cases_lt x 192)

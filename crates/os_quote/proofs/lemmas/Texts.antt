@@ -3,19 +3,19 @@ use Rattle.os_quote.proofs.Common.{◌≡◌, ◌≢◌, ⊎_elim, ℕ, zero, su
 use Rattle.std.proofs.lemmas.Bool.{and_parts, cases_eq, cases_lt, cases_Bool, lt-ltb, le-ltb, ne_eqb, eq-eqb, eqb-true}
 
 -- the test of the search for a backslash
-abbrev pub IsPlace : List ℕ → ℕ → Type 0
-IsPlace t = Passes (is_byte backslash) t
+abbrev pub IsBackslashAt : List ℕ → ℕ → Type 0
+IsBackslashAt t = Passes (is_byte backslash) t
 
-no_place : (x : ℕ) → ¬ (is_byte backslash x ≡ true) → x ≢ backslash
-no_place x n e = n (eq-eqb x backslash e)
+no_backslash : (x : ℕ) → ¬ (is_byte backslash x ≡ true) → x ≢ backslash
+no_backslash x n e = n (eq-eqb x backslash e)
 
 none_from : (t : List ℕ) (n : ℕ) → ((k : ℕ) → k < n → ¬ (is_byte backslash (get_or t k 0) ≡ true)) → HasNoBackslash (take n t)
 none_from [] zero h = tt
-none_from (x ∷ t) (suc n) h = (no_place x (h 0 (omega arith)), none_from t n (λ k lt. h (suc k) (omega arith)))
+none_from (x ∷ t) (suc n) h = (no_backslash x (h 0 (omega arith)), none_from t n (λ k lt. h (suc k) (omega arith)))
 none_from t n h = tt
 
 -- if it finds one, that is the first
-pub first_backslash : (t : List ℕ) (i : ℕ) → NoneBefore (IsPlace t) 0 (length t) i × IsPlace t i → IsCutAtFirst t (take i t) (drop (i + 1) t)
+pub first_backslash : (t : List ℕ) (i : ℕ) → NoneBefore (IsBackslashAt t) 0 (length t) i × IsBackslashAt t i → IsCutAtFirst t (take i t) (drop (i + 1) t)
 first_backslash t i h =
     let e : get_or t i 0 ≡ backslash = eqb-true _ _ h.1 in record {
       none_before = none_from t i (λ k lt. h.0.before k (omega arith) lt);
@@ -23,16 +23,16 @@ first_backslash t i h =
     }
 
 -- an ASCII character at the start
-slash_in_front : (behind : List ℕ) → backslash ∷ behind ≡ encode_utf8 backslash ++ behind
-slash_in_front behind = ap (λ x. x ++ behind) (sym (encode_ascii backslash (omega arith)))
+slash_before : (following : List ℕ) → backslash ∷ following ≡ encode_utf8 backslash ++ following
+slash_before following = ap (λ x. x ++ following) (sym (encode_ascii backslash (omega arith)))
 
 -- what follows a text within a text is one
-pub text_behind : (x y : List ℕ) → IsUtf8 x → IsUtf8 (x ++ y) → IsUtf8 y
-text_behind x y u v =
+pub text_after : (x y : List ℕ) → IsUtf8 x → IsUtf8 (x ++ y) → IsUtf8 y
+text_after x y u v =
     subst IsUtf8 (drop_at x y (length x) refl) (IsUtf8-drop (x ++ y) (length x) v (IsCharBoundary-from_take (x ++ y) (length x) v (omega (arith, length-append x y)) (subst IsUtf8 (sym (take_at x y (length x) refl)) u)))
 
-pub slash_behind : (front behind : List ℕ) → IsUtf8 front → IsUtf8 (front ++ backslash ∷ behind) → IsUtf8 (backslash ∷ behind)
-slash_behind front behind u v = text_behind front (backslash ∷ behind) u v
+pub slash_after : (prefix following : List ℕ) → IsUtf8 prefix → IsUtf8 (prefix ++ backslash ∷ following) → IsUtf8 (backslash ∷ following)
+slash_after prefix following u v = text_after prefix (backslash ∷ following) u v
 
 -- the items of a text's characters, and their texts
 abbrev pub text_items : (ℕ → Bool) → List ℕ → List Item
@@ -74,14 +74,14 @@ module _ (shows : ℕ → Bool) where
   text_is_items t u = let r = characters_are_items (chars t) (scalars-chars t u) in (r.0, r.1 ∙ encodes-chars t u)
 
 -- a text without a backslash is its own escape
-front_of : (xs ys : List ℕ) → HasNoBackslash (xs ++ ys) → HasNoBackslash xs × HasNoBackslash ys
-front_of [] ys h = (tt, h)
-front_of (x ∷ xs) ys h = let more = front_of xs ys h.1 in ((h.0, more.0), more.1)
+prefix_of : (xs ys : List ℕ) → HasNoBackslash (xs ++ ys) → HasNoBackslash xs × HasNoBackslash ys
+prefix_of [] ys h = (tt, h)
+prefix_of (x ∷ xs) ys h = let more = prefix_of xs ys h.1 in ((h.0, more.0), more.1)
 
 own_characters : (cs : List ℕ) → HasNoBackslash (encode_utf8_all cs) → item_texts (map (character_item is_any) cs) ≡ encode_utf8_all cs
 own_characters [] h = refl
 own_characters (c ∷ cs) h =
-    let both = front_of (encode_utf8 c) (encode_utf8_all cs) h in
+    let both = prefix_of (encode_utf8 c) (encode_utf8_all cs) h in
     let n : c ≢ backslash = λ e. (subst HasNoBackslash (ap encode_utf8 e ∙ encode_ascii backslash (omega arith)) both.0).0 refl in
     rw (ne_eqb c backslash n) (ap (λ x. encode_utf8 c ++ x) (own_characters cs both.1))
 
@@ -89,10 +89,10 @@ pub own_text : (t : List ℕ) → IsUtf8 t → HasNoBackslash t → text_escape 
 own_text t u h = own_characters (chars t) (subst HasNoBackslash (sym (encodes-chars t u)) h) ∙ encodes-chars t u
 
 -- the escape of a text up to its first backslash, and after that
-pub one_backslash : (t front behind : List ℕ) → t ≡ front ++ backslash ∷ behind → IsUtf8 front → IsUtf8 (backslash ∷ behind) → HasNoBackslash front → text_escape is_any t ≡ front ++ (backslash ∷ backslash ∷ text_escape is_any behind)
-one_backslash t front behind e u v h =
+pub one_backslash : (t prefix following : List ℕ) → t ≡ prefix ++ backslash ∷ following → IsUtf8 prefix → IsUtf8 (backslash ∷ following) → HasNoBackslash prefix → text_escape is_any t ≡ prefix ++ (backslash ∷ backslash ∷ text_escape is_any following)
+one_backslash t prefix following e u v h =
     ap (text_escape is_any) e
-    ∙ ap (λ x. item_texts (map (character_item is_any) x)) (chars-append front (backslash ∷ behind) u ∙ ap (λ x. chars front ++ x) (chars_past_char (backslash ∷ behind) behind backslash v (slash_in_front behind)))
-    ∙ ap item_texts (map-append (character_item is_any) (chars front) (backslash ∷ chars behind))
-    ∙ flat_map-append item_text (text_items is_any front) (map (character_item is_any) (backslash ∷ chars behind))
-    ∙ ap (λ x. x ++ (backslash ∷ backslash ∷ text_escape is_any behind)) (own_text front u h)
+    ∙ ap (λ x. item_texts (map (character_item is_any) x)) (chars-append prefix (backslash ∷ following) u ∙ ap (λ x. chars prefix ++ x) (chars_past_char (backslash ∷ following) following backslash v (slash_before following)))
+    ∙ ap item_texts (map-append (character_item is_any) (chars prefix) (backslash ∷ chars following))
+    ∙ flat_map-append item_text (text_items is_any prefix) (map (character_item is_any) (backslash ∷ chars following))
+    ∙ ap (λ x. x ++ (backslash ∷ backslash ∷ text_escape is_any following)) (own_text prefix u h)

@@ -8,41 +8,41 @@ HasNoByte bs = (b : ℕ) → b < 0x100 → (after : List ℕ) → bs ≢ byte_di
 
 module _ (shows : ℕ → Bool) where
   -- nothing that follows the backslash of a token follows this one
-  no_token : (behind : List ℕ)
-      → ((after : List ℕ) → behind ≢ backslash ∷ after)
-      → ((u : ℕ) → u < 0x100 → (after : List ℕ) → behind ≢ 0x78 ∷ (byte_digits u ++ after))
-      → ((u : ℕ) → u < 0x1_0000 → (after : List ℕ) → behind ≢ 0x75 ∷ (wide_digits u ++ after))
-      → (HasLongTokens shows → (c : ℕ) → IsLong c → (after : List ℕ) → behind ≢ 0x75 ∷ 0x7B ∷ (long_digits c ++ 0x7D ∷ after))
-      → BeginsNoToken shows (backslash ∷ behind)
-  no_token behind b x u l = record { behind = behind; first = refl; none = by }
+  no_token : (following : List ℕ)
+      → ((after : List ℕ) → following ≢ backslash ∷ after)
+      → ((u : ℕ) → u < 0x100 → (after : List ℕ) → following ≢ 0x78 ∷ (byte_digits u ++ after))
+      → ((u : ℕ) → u < 0x1_0000 → (after : List ℕ) → following ≢ 0x75 ∷ (wide_digits u ++ after))
+      → (HasLongTokens shows → (c : ℕ) → IsLong c → (after : List ℕ) → following ≢ 0x75 ∷ 0x7B ∷ (long_digits c ++ 0x7D ∷ after))
+      → BeginsNoToken shows (backslash ∷ following)
+  no_token following b x u l = record { following = following; first = refl; none = by }
     where
-      by : (item : Item) → IsItem shows item → (after : List ℕ) → backslash ∷ behind ≢ item_text item ++ after
-      by (Character c) h after e = h.1 (encode_same c backslash after behind (sym e ∙ ap (λ l. l ++ behind) (sym (encode_ascii backslash (omega arith))))).0
+      by : (item : Item) → IsItem shows item → (after : List ℕ) → backslash ∷ following ≢ item_text item ++ after
+      by (Character c) h after e = h.1 (encode_same c backslash after following (sym e ∙ ap (λ l. l ++ following) (sym (encode_ascii backslash (omega arith))))).0
       by Backslash h after e = b after (tails e).1
       by (ByteUnit v) h after e = x v h after (tails e).1
       by (WideUnit v) h after e = u v h after (tails e).1
       by (LongCharacter c) h after e = l h.0 c h.1 after ((tails e).1 ∙ ap (λ z. 0x75 ∷ 0x7B ∷ z) (append_assoc (long_digits c) (0x7D ∷ []) after))
 
   -- nothing follows it
-  pub nothing_behind : (behind : List ℕ) → behind ≡ [] → BeginsNoToken shows (backslash ∷ behind)
-  nothing_behind behind n =
-      no_token behind (λ after e. let f = sym n ∙ e in cc) (λ u h after e. let f = sym n ∙ e in cc) (λ u h after e. let f = sym n ∙ e in cc) (λ t c h after e. let f = sym n ∙ e in cc)
+  pub nothing_after : (following : List ℕ) → following ≡ [] → BeginsNoToken shows (backslash ∷ following)
+  nothing_after following n =
+      no_token following (λ after e. let f = sym n ∙ e in cc) (λ u h after e. let f = sym n ∙ e in cc) (λ u h after e. let f = sym n ∙ e in cc) (λ t c h after e. let f = sym n ∙ e in cc)
 
   -- another kind of byte
-  pub other_kind : (behind digits : List ℕ) (kind : ℕ) → behind ≡ kind ∷ digits → kind ≢ 0x5C → kind ≢ 0x78 → kind ≢ 0x75 → BeginsNoToken shows (backslash ∷ behind)
-  other_kind behind digits kind is b x u =
-      no_token behind (λ after e. b (tails (sym is ∙ e)).0) (λ v h after e. x (tails (sym is ∙ e)).0) (λ v h after e. u (tails (sym is ∙ e)).0) (λ t c h after e. u (tails (sym is ∙ e)).0)
+  pub other_kind : (following digits : List ℕ) (kind : ℕ) → following ≡ kind ∷ digits → kind ≢ 0x5C → kind ≢ 0x78 → kind ≢ 0x75 → BeginsNoToken shows (backslash ∷ following)
+  other_kind following digits kind is b x u =
+      no_token following (λ after e. b (tails (sym is ∙ e)).0) (λ v h after e. x (tails (sym is ∙ e)).0) (λ v h after e. u (tails (sym is ∙ e)).0) (λ t c h after e. u (tails (sym is ∙ e)).0)
 
   -- `\x` and no two digits
-  pub no_digits : (behind digits : List ℕ) (kind : ℕ) → behind ≡ kind ∷ digits → kind ≡ 0x78 → HasNoByte digits → BeginsNoToken shows (backslash ∷ behind)
-  no_digits behind digits kind is k never =
-      no_token behind (λ after e. let t = tails (sym is ∙ e) in omega (arith, k, t.0)) (λ v h after e. never v h after (tails (sym is ∙ e)).1)
+  pub no_digits : (following digits : List ℕ) (kind : ℕ) → following ≡ kind ∷ digits → kind ≡ 0x78 → HasNoByte digits → BeginsNoToken shows (backslash ∷ following)
+  no_digits following digits kind is k never =
+      no_token following (λ after e. let t = tails (sym is ∙ e) in omega (arith, k, t.0)) (λ v h after e. never v h after (tails (sym is ∙ e)).1)
       (λ v h after e. let t = tails (sym is ∙ e) in omega (arith, k, t.0)) (λ l c h after e. let t = tails (sym is ∙ e) in omega (arith, k, t.0))
 
   -- `\u` and no four digits, nor, if the form has long tokens, digits between braces
-  pub no_number : (behind digits : List ℕ) (kind : ℕ) → behind ≡ kind ∷ digits → kind ≡ 0x75 → HasNoNumber shows digits → BeginsNoToken shows (backslash ∷ behind)
-  no_number behind digits kind is k never =
-      no_token behind (λ after e. let t = tails (sym is ∙ e) in omega (arith, k, t.0)) (λ v h after e. let t = tails (sym is ∙ e) in omega (arith, k, t.0))
+  pub no_number : (following digits : List ℕ) (kind : ℕ) → following ≡ kind ∷ digits → kind ≡ 0x75 → HasNoNumber shows digits → BeginsNoToken shows (backslash ∷ following)
+  no_number following digits kind is k never =
+      no_token following (λ after e. let t = tails (sym is ∙ e) in omega (arith, k, t.0)) (λ v h after e. let t = tails (sym is ∙ e) in omega (arith, k, t.0))
       (λ v h after e. never.0 v h after (tails (sym is ∙ e)).1) (λ l c h after e. never.1 l c h after (tails (sym is ∙ e)).1)
 
 -- the form that shows every character has no long tokens
@@ -66,7 +66,7 @@ no_low_digits digits lower high two never u h after e =
     never (u % 0x100) (omega arith) after s.1
 
 -- `\u` and what number_token reads after it
-pub number_found : (behind digits whole : List ℕ) (kind : ℕ) → behind ≡ kind ∷ digits → kind ≡ 0x75 → backslash ∷ 0x75 ∷ digits ≡ whole → backslash ∷ behind ≡ whole
-number_found behind digits whole kind is k e = ap (λ x. backslash ∷ x) (is ∙ ap (λ x. x ∷ digits) k) ∙ e
+pub number_found : (following digits whole : List ℕ) (kind : ℕ) → following ≡ kind ∷ digits → kind ≡ 0x75 → backslash ∷ 0x75 ∷ digits ≡ whole → backslash ∷ following ≡ whole
+number_found following digits whole kind is k e = ap (λ x. backslash ∷ x) (is ∙ ap (λ x. x ∷ digits) k) ∙ e
 
-pub ruleset tokens = (nothing_behind, other_kind, no_digits, no_number, number_found)
+pub ruleset tokens = (nothing_after, other_kind, no_digits, no_number, number_found)

@@ -15,52 +15,52 @@ with_both P Q S (Err e) ok err also = (err, also)
 
 module _ (shows : ℕ → Bool) where
   -- what is read and what is left have no more bytes than the text
-  pub read_is_short : (text meant rest : List ℕ) → IsRead shows text meant rest → length meant + length rest ≤ length text
-  read_is_short text meant rest r = omega (arith, (items_are_short shows r.items r.are).1, ap length r.bytes_are, ap length r.joined, length-append (item_texts r.items) rest)
+  pub read_is_short : (text decoded rest : List ℕ) → IsRead shows text decoded rest → length decoded + length rest ≤ length text
+  read_is_short text decoded rest r = omega (arith, (items_are_short shows r.items r.are).1, ap length r.bytes_are, ap length r.joined, length-append (item_texts r.items) rest)
 
   -- there is a number for those that are read with the next ones
-  pub room_for_front : (bytes meant rest front behind : List ℕ) (count : ℕ) → AreBytesRead shows bytes meant rest → IsCutAtFirst rest front behind → count ≡ length meant → count + length front ≤ length bytes
-  room_for_front bytes meant rest front behind count r cut n = omega (arith, r.short, n, ap length cut.joined, length-append front (backslash ∷ behind))
+  pub room_for_prefix : (bytes decoded rest prefix following : List ℕ) (count : ℕ) → AreBytesRead shows bytes decoded rest → IsCutAtFirst rest prefix following → count ≡ length decoded → count + length prefix ≤ length bytes
+  room_for_prefix bytes decoded rest prefix following count r cut n = omega (arith, r.short, n, ap length cut.joined, length-append prefix (backslash ∷ following))
 
   -- and with the token after them
-  pub room_for_token : (bytes meant rest front behind : List ℕ) (item : Item) (after : List ℕ) (count : ℕ) → AreBytesRead shows bytes meant rest → IsCutAtFirst rest front behind → IsItem shows item → backslash ∷ behind ≡ item_text item ++ after → count ≡ length meant
-      → count + length front + length (item_bytes item) ≤ length bytes
-  room_for_token bytes meant rest front behind item after count r cut i t n =
+  pub room_for_token : (bytes decoded rest prefix following : List ℕ) (item : Item) (after : List ℕ) (count : ℕ) → AreBytesRead shows bytes decoded rest → IsCutAtFirst rest prefix following → IsItem shows item → backslash ∷ following ≡ item_text item ++ after → count ≡ length decoded
+      → count + length prefix + length (item_bytes item) ≤ length bytes
+  room_for_token bytes decoded rest prefix following item after count r cut i t n =
       let short = item_is_short shows item i in
-      omega (arith, r.short, n, ap length cut.joined, length-append front (backslash ∷ behind), ap length t, length-append (item_text item) after, short.some)
+      omega (arith, r.short, n, ap length cut.joined, length-append prefix (backslash ∷ following), ap length t, length-append (item_text item) after, short.some)
 
   -- those up to the token have been read, or all, or no token begins there
-  pub more_bytes_read : (bytes meant rest front behind : List ℕ) (item : Item) (after : List ℕ) → AreBytesRead shows bytes meant rest → IsCutAtFirst rest front behind → IsItem shows item → backslash ∷ behind ≡ item_text item ++ after
-      → AreBytesRead shows bytes ((meant ++ front) ++ item_bytes item) after
-  more_bytes_read bytes meant rest front behind item after r cut i t = record {
-    short = omega (arith, room_for_token bytes meant rest front behind item after (length meant) r cut i t refl, r.short, ap length cut.joined, length-append front (backslash ∷ behind), ap length t, length-append (item_text item) after, (item_is_short shows item i).some, length-append meant front, length-append (meant ++ front) (item_bytes item));
-    read = λ u. let q = r.read u in read_more shows bytes meant rest front behind item after (meant ++ front) ((meant ++ front) ++ item_bytes item) q (cut_of_text rest front behind q.text_left cut) i t refl refl;
+  pub more_bytes_read : (bytes decoded rest prefix following : List ℕ) (item : Item) (after : List ℕ) → AreBytesRead shows bytes decoded rest → IsCutAtFirst rest prefix following → IsItem shows item → backslash ∷ following ≡ item_text item ++ after
+      → AreBytesRead shows bytes ((decoded ++ prefix) ++ item_bytes item) after
+  more_bytes_read bytes decoded rest prefix following item after r cut i t = record {
+    short = omega (arith, room_for_token bytes decoded rest prefix following item after (length decoded) r cut i t refl, r.short, ap length cut.joined, length-append prefix (backslash ∷ following), ap length t, length-append (item_text item) after, (item_is_short shows item i).some, length-append decoded prefix, length-append (decoded ++ prefix) (item_bytes item));
+    read = λ u. let q = r.read u in read_more shows bytes decoded rest prefix following item after (decoded ++ prefix) ((decoded ++ prefix) ++ item_bytes item) q (cut_of_text rest prefix following q.text_left cut) i t refl refl;
   }
 
-  pub all_bytes_read : (bytes meant rest : List ℕ) → AreBytesRead shows bytes meant rest → HasNoBackslash rest → AreBytesRead shows bytes (meant ++ rest) []
-  all_bytes_read bytes meant rest r none = record {
-    short = omega (arith, r.short, length-append meant rest);
-    read = λ u. read_all shows bytes meant rest (meant ++ rest) (r.read u) none refl;
+  pub all_bytes_read : (bytes decoded rest : List ℕ) → AreBytesRead shows bytes decoded rest → HasNoBackslash rest → AreBytesRead shows bytes (decoded ++ rest) []
+  all_bytes_read bytes decoded rest r none = record {
+    short = omega (arith, r.short, length-append decoded rest);
+    read = λ u. read_all shows bytes decoded rest (decoded ++ rest) (r.read u) none refl;
   }
 
-  pub bad_bytes_read : (bytes meant rest front behind : List ℕ) → AreBytesRead shows bytes meant rest → IsCutAtFirst rest front behind → BeginsNoToken shows (backslash ∷ behind) → IsUtf8 bytes → IsBadEscapeBy shows bytes (length bytes - length behind - 1)
-  bad_bytes_read bytes meant rest front behind r cut none u = let q = r.read u in read_bad shows bytes meant rest front behind q (cut_of_text rest front behind q.text_left cut) none
+  pub bad_bytes_read : (bytes decoded rest prefix following : List ℕ) → AreBytesRead shows bytes decoded rest → IsCutAtFirst rest prefix following → BeginsNoToken shows (backslash ∷ following) → IsUtf8 bytes → IsBadEscapeBy shows bytes (length bytes - length following - 1)
+  bad_bytes_read bytes decoded rest prefix following r cut none u = let q = r.read u in read_bad shows bytes decoded rest prefix following q (cut_of_text rest prefix following q.text_left cut) none
 
   -- all that was read is in the buffer where there is room
-  pub read_fits : (meant old new : List ℕ) (count : ℕ) → IsTruncated meant old new count → count ≤ length new → take count new ≡ meant
-  read_fits meant old new count t fits = whole meant old new count t fits
+  pub read_fits : (decoded old new : List ℕ) (count : ℕ) → IsTruncated decoded old new count → count ≤ length new → take count new ≡ decoded
+  read_fits decoded old new count t fits = whole decoded old new count t fits
 
   module _ (well_formed : List ℕ → Type 0) (units : List ℕ → List ℕ) (part_units : List ℕ → Type 0) (parts : PartLaws well_formed units part_units)
       (each : (s : List ℕ) (cs : List Chunk) → well_formed s → AreChunks s cs → AllByRecursion (IsChunkOf well_formed) cs) (text old new : List ℕ) (count : ℕ) where
     -- what was read
-    pub unescaped : (meant : List ℕ) → IsRead shows text meant [] → IsTruncated meant old new count → (count ≤ length old → well_formed meant × IsEscapeBy shows units meant text) → IsUnescapedBy shows well_formed units text old new count
-    unescaped meant r t escape = record {
-      string = meant;
+    pub unescaped : (decoded : List ℕ) → IsRead shows text decoded [] → IsTruncated decoded old new count → (count ≤ length old → well_formed decoded × IsEscapeBy shows units decoded text) → IsUnescapedBy shows well_formed units text old new count
+    unescaped decoded r t escape = record {
+      string = decoded;
       written = t;
-      short = omega (arith, read_is_short text meant [] r, t.count_is);
+      short = omega (arith, read_is_short text decoded [] r, t.count_is);
       escape = escape;
       only = λ s w e. one_reading shows well_formed units part_units parts each text r.items s r.are (r.joined ∙ append-nil (item_texts r.items)) w e ∙ sym r.bytes_are;
-      tokens = λ n. read_no_bad shows text meant n r;
+      tokens = λ n. read_no_bad shows text decoded n r;
     }
 
     -- a text that is its own escape

@@ -4,8 +4,8 @@ use Rattle.wtf8_core.specs.Boundary.{IsBoundary}
 use Rattle.wtf8_core.proofs.lemmas.characters.Overlaps.{boundary_within}
 use Rattle.os_str_ext.specs.Range.{FitsIn}
 
-pub front_fits : (s : List ℕ) (i : ℕ) → IsBoundary s i → FitsIn s 0 i
-front_fits s i b = record { ordered = omega arith; within = boundary_within s i b; start = record { is = inl refl }; end = b }
+pub prefix_fits : (s : List ℕ) (i : ℕ) → IsBoundary s i → FitsIn s 0 i
+prefix_fits s i b = record { ordered = omega arith; within = boundary_within s i b; start = record { is = inl refl }; end = b }
 
-pub back_fits : (s : List ℕ) (i : ℕ) → IsBoundary s i → FitsIn s i (length s)
-back_fits s i b = record { ordered = boundary_within s i b; within = omega arith; start = b; end = record { is = inr (inl refl) } }
+pub suffix_fits : (s : List ℕ) (i : ℕ) → IsBoundary s i → FitsIn s i (length s)
+suffix_fits s i b = record { ordered = boundary_within s i b; within = omega arith; start = b; end = record { is = inr (inl refl) } }

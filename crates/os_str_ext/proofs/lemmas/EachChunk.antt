@@ -5,7 +5,7 @@ use Rattle.std.specs.Str.Lossy.{utf8_valid_len}
 use Rattle.std.proofs.lemmas.List.{take_all}
 use Rattle.std.proofs.lemmas.Str.{IsUtf8-from_is_utf8, is_utf8-from_IsUtf8}
 use Rattle.wtf8_core.proofs.lemmas.texts.AreWtf8.{valid_up_to}
-use Rattle.os_str_ext.proofs.lemmas.FirstChunk.{first_of_parts, edges, part_is_bare, first_and_rest, no_character_behind, text_from}
+use Rattle.os_str_ext.proofs.lemmas.FirstChunk.{first_of_parts, edges, part_is_uncovered, first_and_rest, no_character_after, text_from}
 
 text_or_not : (r : List ℕ) → IsUtf8 r ⊎ (IsUtf8 r → ⊥)
 text_or_not r = ⊎_elim (λ t. inl (IsUtf8-from_is_utf8 r t)) (λ f. inr (λ u. false≢true (sym f ∙ is_utf8-from_IsUtf8 r u))) (cases_Bool (is_utf8 r))
@@ -36,7 +36,7 @@ text_end s m within =
         ordered = omega arith;
         within = omega (arith, length-drop m s);
         text = text_from s (drop m s) m (utf8_valid_len (drop m s)) refl v;
-        ended = no_character_behind s (drop m s) m (utf8_valid_len (drop m s)) refl v;
+        ended = no_character_after s (drop m s) m (utf8_valid_len (drop m s)) refl v;
       },
     ))
     (text_or_not (drop m s))
@@ -49,17 +49,17 @@ first_ends s c cs h =
     let long : length (c.0 ++ (c.1 ++ joined cs)) ≡ length s = ap length h.joins in
     let size = length-append c.0 (c.1 ++ joined cs) in
     let t = text_end s m (omega arith) in
-    let bare : (k j : ℕ) → k < m → WholeCharacter s k j → ⊥ = λ k j lt w. let f = character_fits s k j w in p.bare k (omega arith) (omega arith) (record { start = k; end = j; whole = w; from = omega arith; below = omega arith }) in
+    let uncovered : (k j : ℕ) → k < m → WholeCharacter s k j → ⊥ = λ k j lt w. let f = character_fits s k j w in p.uncovered k (omega arith) (omega arith) (record { start = k; end = j; whole = w; from = omega arith; below = omega arith }) in
     let started : m < length s → (j : ℕ) × WholeCharacter s m j = λ lt.
     ⊎_elim
     (λ none. absurd (let last = p.text_last (nil_from_length c.1 none) in omega (arith, length-append c.1 (joined cs), ap (λ x. length (joined x)) last)))
     (λ some. let q = p.covered m (omega arith) (omega (arith, length-append c.0 c.1)) in
     let from = q.from in
-    ⊎_elim (λ e. (q.end, subst (λ x. WholeCharacter s x q.end) e q.whole)) (λ ne. absurd (bare q.start q.end (omega arith) q.whole)) (cases_eq q.start m))
+    ⊎_elim (λ e. (q.end, subst (λ x. WholeCharacter s x q.end) e q.whole)) (λ ne. absurd (uncovered q.start q.end (omega arith) q.whole)) (cases_eq q.start m))
     (cases_eq (length c.1) 0) in
     let some : m < length s → m < t.0 = λ lt.
     ⊎_elim (λ q. absurd (let w = started lt in t.1.ended w.0 (subst (λ x. WholeCharacter s x w.0) q w.1))) (λ ne. omega (arith, t.1.ordered)) (cases_eq m t.0) in
-    (t.0, first_of_parts s m t.0 bare some t.1.ordered t.1.within t.1.text t.1.ended)
+    (t.0, first_of_parts s m t.0 uncovered some t.1.ordered t.1.within t.1.text t.1.ended)
 
 same_head : {c d : Chunk} {cs ds : List Chunk} → c ∷ cs ≡ d ∷ ds → (c ≡ d) × (cs ≡ ds)
 same_head {c} {d} {cs} {ds} e = (cc, cc)
@@ -80,8 +80,8 @@ first_of s c cs h =
     record { end = f.0; ends = f.1; is = same.0; others = subst (AreChunks (drop f.0 s)) (sym same.1) (some_chunks (drop f.0 s)).1 }
 
 module _ (well_formed : List ℕ → Type 0)
-    (cut_front : (b : List ℕ) (i : ℕ) → well_formed b → IsBoundary b i → well_formed (take i b))
-    (cut_back : (b : List ℕ) (i : ℕ) → well_formed b → IsBoundary b i → well_formed (drop i b)) where
+    (cut_prefix : (b : List ℕ) (i : ℕ) → well_formed b → IsBoundary b i → well_formed (take i b))
+    (cut_suffix : (b : List ℕ) (i : ℕ) → well_formed b → IsBoundary b i → well_formed (drop i b)) where
   pub are_chunks_of : (s : List ℕ) (cs : List Chunk) → well_formed s → AreChunks s cs → AllByRecursion (IsChunkOf well_formed) cs
   are_chunks_of s [] w h = tt
   are_chunks_of s (c ∷ cs) w h =
@@ -89,8 +89,8 @@ module _ (well_formed : List ℕ → Type 0)
       let m = length c.0 in
       let p = h.each [] cs c refl in
       let ends = edges s m f.end f.ends in
-      let first : IsChunkOf well_formed (take m s, drop m (take f.end s)) = record { formed = cut_front s m w ends.0; bare = part_is_bare s m f.end f.ends; text = f.ends.text; some = subst (λ d. 0 < length (d.0 ++ d.1)) f.is p.some } in
-      (subst (IsChunkOf well_formed) (sym f.is) first, are_chunks_of (drop f.end s) cs (cut_back s f.end w ends.1) f.others)
+      let first : IsChunkOf well_formed (take m s, drop m (take f.end s)) = record { formed = cut_prefix s m w ends.0; uncovered = part_is_uncovered s m f.end f.ends; text = f.ends.text; some = subst (λ d. 0 < length (d.0 ++ d.1)) f.is p.some } in
+      (subst (IsChunkOf well_formed) (sym f.is) first, are_chunks_of (drop f.end s) cs (cut_suffix s f.end w ends.1) f.others)
 
   pub each_chunk : (s : List ℕ) → well_formed s → (cs : List Chunk) → AreChunks s cs → All (IsChunkOf well_formed) cs
   each_chunk s w cs h = All-from_recursion (IsChunkOf well_formed) cs (are_chunks_of s cs w h)

@@ -31,6 +31,6 @@ module _ (s : List ℕ) (i : ℕ) (w : WholeCharacter s i (length s)) where
   last_one =
       let f = encode w.char in
       let begins = begins_at s i (length s) w in
-      let size : length (drop i s) ≡ length f + length w.stands.behind = ap length begins ∙ length-append f w.stands.behind in
-      let none = nil_from_length w.stands.behind (omega (arith, size, length-drop i s, w.end, character_fits s i (length s) w)) in
+      let size : length (drop i s) ≡ length f + length w.occurs.after = ap length begins ∙ length-append f w.occurs.after in
+      let none = nil_from_length w.occurs.after (omega (arith, size, length-drop i s, w.end, character_fits s i (length s) w)) in
       record { char = w.char; scalar = w.scalar; is = begins ∙ ap (λ r. f ++ r) none ∙ append-nil f }

@@ -7,7 +7,7 @@ use Rattle.std.specs.Option.{SomeIff}
 use Rattle.wtf8_core.specs.Byte.{IsContinuation, lead_bits}
 use Rattle.wtf8_core.specs.Reader.{and_then_checked, checked_value, first_item, least_value, with_continuations}
 use Rattle.wtf8_core.specs.declared.fault.EncodingError.TheVariants.{Byte, CodePoint}
-use Rattle.wtf8_core.proofs.lemmas.characters.AtPlaces.{none_at}
+use Rattle.wtf8_core.proofs.lemmas.characters.AtIndices.{none_at}
 use Rattle.wtf8_core.proofs.lemmas.characters.FourBytes.{at_first}
 use Rattle.wtf8_core.proofs.lemmas.forms.Ranges.{in_range, not_in_range, range_cases}
 use Rattle.wtf8_core.proofs.lemmas.texts.StdFaults.{no_char}

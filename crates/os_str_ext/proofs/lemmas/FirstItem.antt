@@ -2,9 +2,9 @@
 use Rattle.os_str_ext.proofs.Common.{◌≡◌, ℕ, ◌+◌, ◌<◌, ◌≤◌, List, [], ◌∷◌, ◌++◌, take, true, false, Ok, Err, refl, sym, ap, ◌∙◌, arith, nat_tests, take_at, IsScalar, OutOfScalarRange, needed_continuations, WholeCharacter, encode, StartsWithNoCharacter, AreItems, EncodingError, begins_at, none_at_fault, form_encode, form_ascii, IsFirstChar}
 use Rattle.std.proofs.Common.{Result}
 use Rattle.wtf8_core.specs.CodePoint.{IsCodePoint}
-use Rattle.wtf8_core.specs.Reader.{first_item, behind_item, items_behind, items_after}
+use Rattle.wtf8_core.specs.Reader.{first_item, after_item, items_skipping, items_after}
 use Rattle.wtf8_core.specs.Surrogate.{is_high, is_surrogate}
-use Rattle.wtf8_core.proofs.lemmas.characters.AtPlaces.{ascii_found, character_found, none_at_surrogate}
+use Rattle.wtf8_core.proofs.lemmas.characters.AtIndices.{ascii_found, character_found, none_at_surrogate}
 use Rattle.wtf8_core.proofs.lemmas.forms.ByStd.{form_same}
 use Rattle.wtf8_core.proofs.lemmas.reader.Complete.{items_if}
 use Rattle.wtf8_core.proofs.lemmas.reader.Reading.{items-err, items-ok}
@@ -13,8 +13,8 @@ use Rattle.wtf8_core.proofs.lemmas.reader.Sound.{split_code_point}
 -- a whole character at the start is the one whose form the bytes begin with
 is_first : (s : List ℕ) (n c : ℕ) (rest : List ℕ) → WholeCharacter s 0 (0 + n) → s ≡ encode c ++ rest → IsFirstChar s c n
 is_first s n c rest w e =
-    let same = form_same w.char c w.stands.behind rest (sym (begins_at s 0 (0 + n) w) ∙ e) in
-    (w, ap (take n) (begins_at s 0 (0 + n) w) ∙ take_at (encode w.char) w.stands.behind n (omega (arith, w.end)) ∙ ap encode same.0 ∙ form_encode c)
+    let same = form_same w.char c w.occurs.after rest (sym (begins_at s 0 (0 + n) w) ∙ e) in
+    (w, ap (take n) (begins_at s 0 (0 + n) w) ∙ take_at (encode w.char) w.occurs.after n (omega (arith, w.end)) ∙ ap encode same.0 ∙ form_encode c)
 
 -- scalars are no surrogates, and code points that are no scalars are
 no_surrogate : (c : ℕ) → IsScalar c → is_surrogate c ≡ false
@@ -34,11 +34,11 @@ module _ (s : List ℕ) (b : ℕ) (bs : List ℕ) (is : s ≡ b ∷ bs) where
     where
       by : (q : Result ℕ EncodingError) → first_item false b bs ≡ q → first_item false b bs ≡ r
       by (Ok a) k =
-          let items : Ok a ∷ items_behind (behind_item b bs) (is_high a) bs ≡ r ∷ later = sym (items-ok false b a bs k) ∙ ap (items_after false) (sym is) ∙ items_if s (r ∷ later) h in
+          let items : Ok a ∷ items_skipping (after_item b bs) (is_high a) bs ≡ r ∷ later = sym (items-ok false b a bs k) ∙ ap (items_after false) (sym is) ∙ items_if s (r ∷ later) h in
           let same : Ok a ≡ r = cc in
           k ∙ same
       by (Err f) k =
-          let items : Err f ∷ items_behind (behind_item b bs) false bs ≡ r ∷ later = sym (items-err false b f bs k) ∙ ap (items_after false) (sym is) ∙ items_if s (r ∷ later) h in
+          let items : Err f ∷ items_skipping (after_item b bs) false bs ≡ r ∷ later = sym (items-err false b f bs k) ∙ ap (items_after false) (sym is) ∙ items_if s (r ∷ later) h in
           let same : Err f ≡ r = cc in
           k ∙ same
 
@@ -47,12 +47,12 @@ module _ (s : List ℕ) (b : ℕ) (bs : List ℕ) (is : s ≡ b ∷ bs) where
   some_item h = by (first_item false b bs) refl
     where
       by : (q : Result ℕ EncodingError) → first_item false b bs ≡ q → ⊥
-      by (Ok a) k = let items : Ok a ∷ items_behind (behind_item b bs) (is_high a) bs ≡ [] = sym (items-ok false b a bs k) ∙ ap (items_after false) (sym is) ∙ items_if s [] h in cc
-      by (Err f) k = let items : Err f ∷ items_behind (behind_item b bs) false bs ≡ [] = sym (items-err false b f bs k) ∙ ap (items_after false) (sym is) ∙ items_if s [] h in cc
+      by (Ok a) k = let items : Ok a ∷ items_skipping (after_item b bs) (is_high a) bs ≡ [] = sym (items-ok false b a bs k) ∙ ap (items_after false) (sym is) ∙ items_if s [] h in cc
+      by (Err f) k = let items : Err f ∷ items_skipping (after_item b bs) false bs ≡ [] = sym (items-err false b f bs k) ∙ ap (items_after false) (sym is) ∙ items_if s [] h in cc
 
   -- at a fault no character begins
-  pub bare_at_fault : (later : List (Result ℕ EncodingError)) (f : EncodingError) → AreItems s (Err f ∷ later) → StartsWithNoCharacter s
-  bare_at_fault later f h = none_at_fault s b f bs is (read_first (Err f) later h)
+  pub uncovered_at_fault : (later : List (Result ℕ EncodingError)) (f : EncodingError) → AreItems s (Err f ∷ later) → StartsWithNoCharacter s
+  uncovered_at_fault later f h = none_at_fault s b f bs is (read_first (Err f) later h)
 
   module _ (small : b < 256) where
     -- a scalar that the reader reads is a character

@@ -18,8 +18,8 @@ module _ (s p : List ℕ) where
       record {
         fits = omega arith;
         reads = λ j below.
-            let place : i + (k - i + j) ≡ k + j = omega arith in
-            get_or-drop i s (k - i + j) 0 ∙ ap (slice_index s) place ∙ o.reads j below;
+            let index : i + (k - i + j) ≡ k + j = omega arith in
+            get_or-drop i s (k - i + j) 0 ∙ ap (slice_index s) index ∙ o.reads j below;
       }
 
   from_rest : (i k : ℕ) → i ≤ length s → NeedleOccursAt (drop i s) p k → NeedleOccursAt s p (i + k)
@@ -29,16 +29,16 @@ module _ (s p : List ℕ) where
       record {
         fits = omega arith;
         reads = λ j below.
-            let place : i + k + j ≡ i + (k + j) = omega arith in
-            ap (slice_index s) place ∙ sym (get_or-drop i s (k + j) 0) ∙ o.reads j below;
+            let index : i + k + j ≡ i + (k + j) = omega arith in
+            ap (slice_index s) index ∙ sym (get_or-drop i s (k + j) 0) ∙ o.reads j below;
       }
 
   -- so what is found in it is found
-  pub first_behind : (i : ℕ) → i ≤ length s → (r : Option ℕ) → FindsNeedle (drop i s) p 0 r → FindsNeedle s p i (option_map (λ k. i + k) r)
-  first_behind i le None f = λ k low high o.
+  pub first_after : (i : ℕ) → i ≤ length s → (r : Option ℕ) → FindsNeedle (drop i s) p 0 r → FindsNeedle s p i (option_map (λ k. i + k) r)
+  first_after i le None f = λ k low high o.
       let size = length-drop i s in
       f (k - i) (omega arith) (omega arith) (in_rest i k low o)
-  first_behind i le (Some at) f =
+  first_after i le (Some at) f =
       let size = length-drop i s in
       let high = f.0.high in (
         record {
@@ -50,16 +50,16 @@ module _ (s p : List ℕ) where
       )
 
   -- what ends at an index or before it occurs in the bytes before that index
-  in_front : (e k : ℕ) → e ≤ length s → k + length p ≤ e → NeedleOccursAt s p k → NeedleOccursAt (take e s) p k
-  in_front e k le ends o =
+  in_prefix : (e k : ℕ) → e ≤ length s → k + length p ≤ e → NeedleOccursAt s p k → NeedleOccursAt (take e s) p k
+  in_prefix e k le ends o =
       let size = length-take-le e s le in
       record {
         fits = omega arith;
         reads = λ j below. get_or-take e s (k + j) 0 (omega arith) ∙ o.reads j below;
       }
 
-  from_front : (e k : ℕ) → e ≤ length s → NeedleOccursAt (take e s) p k → NeedleOccursAt s p k
-  from_front e k le o =
+  from_prefix : (e k : ℕ) → e ≤ length s → NeedleOccursAt (take e s) p k → NeedleOccursAt s p k
+  from_prefix e k le o =
       let fits = o.fits in
       let size = length-take-le e s le in
       record {
@@ -72,7 +72,7 @@ module _ (s p : List ℕ) where
   last_before e le by None f = λ k low high o.
       let ends = by k o in
       let size = length-take-le e s le in
-      f k (omega arith) (omega arith) (in_front e k le ends o)
+      f k (omega arith) (omega arith) (in_prefix e k le ends o)
   last_before e le by (Some at) f =
       let size = length-take-le e s le in
       let high = f.0.high in (
@@ -81,9 +81,9 @@ module _ (s p : List ℕ) where
           high = omega arith;
           after = λ k low high o.
               let ends = by k o in
-              f.0.after k low (omega arith) (in_front e k le ends o);
+              f.0.after k low (omega arith) (in_prefix e k le ends o);
         },
-        from_front e at le f.1,
+        from_prefix e at le f.1,
       )
 
   -- a needle that isn't empty ends at its last byte
@@ -102,7 +102,7 @@ module _ (s p : List ℕ) where
       let ends = by k o in
       let size = length-take-le e s le in
       ⊎_elim
-      (λ behind. absurd (f.after (k + (length p - 1)) (omega arith) (omega arith) (last_byte_within e k some ends o)))
+      (λ after. absurd (f.after (k + (length p - 1)) (omega arith) (omega arith) (last_byte_within e k some ends o)))
       (λ by_then. by_then)
       (cases_lt (at + 1) (k + length p))
 
@@ -114,13 +114,13 @@ module _ (s p : List ℕ) where
   ends_before at some by not_there k o =
       let ends = by k o in
       ⊎_elim
-      (λ there. let place : k ≡ at + 1 - length p = omega arith in absurd (not_there (omega arith, subst (NeedleOccursAt s p) place o)))
+      (λ there. let index : k ≡ at + 1 - length p = omega arith in absurd (not_there (omega arith, subst (NeedleOccursAt s p) index o)))
       (λ other. omega arith)
       (cases_eq (k + length p) (at + 1))
 
   -- where a needle occurs, its pair of bytes occurs
-  pair_stands : (f : Finder) → IsPairFinderOf f p → (k : ℕ) → NeedleOccursAt s p k → HasPair f s k
-  pair_stands f is k o = record {
+  pair_occurs : (f : Finder) → IsPairFinderOf f p → (k : ℕ) → NeedleOccursAt s p k → HasPair f s k
+  pair_occurs f is k o = record {
     first = o.reads f.pair.index1 is.pair.first ∙ sym is.byte1;
     second = o.reads f.pair.index2 is.pair.second ∙ sym is.byte2;
   }
@@ -135,7 +135,7 @@ module _ (s p : List ℕ) (f : Finder) (is : IsPairFinderOf f p) (i : ℕ) (le :
       let here = in_rest s p i k low o in
       let fits = here.fits in
       let reach = reach_within s p f is in
-      none (k - i) (omega arith) (omega arith) (pair_stands (drop i s) p f is (k - i) here)
+      none (k - i) (omega arith) (omega arith) (pair_occurs (drop i s) p f is (k - i) here)
 
   pub candidate : (at : ℕ) → NoneBefore (HasPair f (drop i s)) 0 (length (drop i s) - reach_of f) at → NoneBefore (NeedleOccursAt s p) i (length s) (i + at)
   candidate at none =
@@ -144,7 +144,7 @@ module _ (s p : List ℕ) (f : Finder) (is : IsPairFinderOf f p) (i : ℕ) (le :
       record {
         low = omega arith;
         high = omega arith;
-        before = λ k low lt o. none.before (k - i) (omega arith) (omega arith) (pair_stands (drop i s) p f is (k - i) (in_rest s p i k low o));
+        before = λ k low lt o. none.before (k - i) (omega arith) (omega arith) (pair_occurs (drop i s) p f is (k - i) (in_rest s p i k low o));
       }
 
 -- what occurs in bytes occurs in what begins with a copy of them
@@ -155,8 +155,8 @@ in_copy s copy p begins k o =
     record {
       fits = omega arith;
       reads = λ j below.
-          let place : 0 + (k + j) ≡ k + j = omega arith in
-          ap (slice_index copy) (sym place) ∙ begins.reads (k + j) (omega arith) ∙ o.reads j below;
+          let index : 0 + (k + j) ≡ k + j = omega arith in
+          ap (slice_index copy) (sym index) ∙ begins.reads (k + j) (omega arith) ∙ o.reads j below;
     }
 
 -- the first one in the list of the indices that pass a test is the first index that passes it

@@ -1,7 +1,7 @@
--- Repeated strings, by the laws of standing.
-use Rattle.os_str_ext.proofs.Common.{◌≡◌, ℕ, zero, suc, ◌+◌, List, [], ◌∷◌, ◌++◌, length, refl, sym, ap, ◌∙◌, subst, arith, repeat, StandingLaws, no_units}
-use Rattle.wtf8_core.proofs.lemmas.standing.Places.{nil_formed}
-use Rattle.os_str_ext.proofs.lemmas.Runs.{repeat-behind}
+-- Repeated strings, by the laws of occurrences.
+use Rattle.os_str_ext.proofs.Common.{◌≡◌, ℕ, zero, suc, ◌+◌, List, [], ◌∷◌, ◌++◌, length, refl, sym, ap, ◌∙◌, subst, arith, repeat, OccurrenceLaws, no_units}
+use Rattle.wtf8_core.proofs.lemmas.occurrence.Indices.{nil_formed}
+use Rattle.os_str_ext.proofs.lemmas.Runs.{repeat-after}
 
 -- no list
 abbrev empty : List ℕ
@@ -12,7 +12,7 @@ repeat-nil : (n : ℕ) → repeat n empty ≡ []
 repeat-nil zero = refl
 repeat-nil (suc n) = repeat-nil n
 
-module _ (wf : List ℕ → Type 0) (units : List ℕ → List ℕ) (laws : StandingLaws wf units) where
+module _ (wf : List ℕ → Type 0) (units : List ℕ → List ℕ) (laws : OccurrenceLaws wf units) where
   -- v has the units of s repeated so many times
   abbrev pub IsRepeated : List ℕ → ℕ → List ℕ → Type 0
   IsRepeated s n v = wf v × (units v ≡ repeat n (units s))
@@ -25,4 +25,4 @@ module _ (wf : List ℕ → Type 0) (units : List ℕ → List ℕ) (laws : Stan
   of_nothing (x ∷ s) v n e h = absurd (omega arith)
 
   pub once_more : (s v w : List ℕ) (n : ℕ) → IsRepeated s n v → wf w → units w ≡ units v ++ units s → IsRepeated s (n + 1) w
-  once_more s v w n r f e = let more : suc n ≡ n + 1 = omega arith in (f, e ∙ ap (λ z. z ++ units s) r.1 ∙ repeat-behind (units s) n ∙ ap (λ k. repeat k (units s)) more)
+  once_more s v w n r f e = let more : suc n ≡ n + 1 = omega arith in (f, e ∙ ap (λ z. z ++ units s) r.1 ∙ repeat-after (units s) n ∙ ap (λ k. repeat k (units s)) more)

@@ -1,14 +1,14 @@
 -- A string has one list of pieces, and a cut takes the first of them off.
-use Rattle.os_str_ext.proofs.Common.{◌≡◌, ℕ, ◌<◌, List, [], ◌∷◌, length, Option, None, Some, refl, sym, ap, subst, ◌∙◌, arith, option_map, StandsNowhere, ArePieces, AreOfRest, pieces_left}
+use Rattle.os_str_ext.proofs.Common.{◌≡◌, ℕ, ◌<◌, List, [], ◌∷◌, length, Option, None, Some, refl, sym, ap, subst, ◌∙◌, arith, option_map, OccursNowhere, ArePieces, AreOfRest, pieces_left}
 use Rattle.std.specs.Iterator.{MakesProgress, item_count}
-use Rattle.wtf8_core.specs.Pieces.FallsInto.{whole, cut}
+use Rattle.wtf8_core.specs.Pieces.SplitsInto.{whole, cut}
 use Rattle.os_str_ext.specs.Cuts.{PiecesOf, CutLaws}
 
 module _ (Cuts : List ℕ → List ℕ → List ℕ → List ℕ → Type 0) (laws : CutLaws Cuts) (p : List ℕ) where
   one_list : (s : List ℕ) (qs rs : List (List ℕ)) → ArePieces Cuts p s qs → ArePieces Cuts p s rs → qs ≡ rs
   one_list s qs rs (whole w) (whole v) = refl
-  one_list s qs rs (whole w) (cut c h) = absurd (laws.stands p _ _ _ c w)
-  one_list s qs rs (cut c h) (whole w) = absurd (laws.stands p _ _ _ c w)
+  one_list s qs rs (whole w) (cut c h) = absurd (laws.occurs p _ _ _ c w)
+  one_list s qs rs (cut c h) (whole w) = absurd (laws.occurs p _ _ _ c w)
   one_list s qs rs (cut {piece = a} {rest = b} {pieces = left} c h) (cut {piece = d} {rest = e} {pieces = others} k l) =
       let same = laws.one p s a b d e c k in
       let tails : left ≡ others = one_list b left others h (subst (λ x. ArePieces Cuts p x others) (sym same.1) l) in
@@ -18,7 +18,7 @@ module _ (Cuts : List ℕ → List ℕ → List ℕ → List ℕ → Type 0) (la
     pub pieces_cut : (s piece rest : List ℕ) → Cuts p s piece rest → (pieces_of p s).0 ≡ piece ∷ (pieces_of p rest).0
     pieces_cut s piece rest c = one_list s _ _ ((pieces_of p s).1 some) (cut c ((pieces_of p rest).1 some))
 
-    pub pieces_whole : (s : List ℕ) → StandsNowhere p s → (pieces_of p s).0 ≡ s ∷ []
+    pub pieces_whole : (s : List ℕ) → OccursNowhere p s → (pieces_of p s).0 ≡ s ∷ []
     pieces_whole s n = one_list s _ _ ((pieces_of p s).1 some) (whole n)
 
 -- the pieces left are those of the rest

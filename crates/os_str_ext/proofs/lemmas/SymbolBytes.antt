@@ -25,11 +25,11 @@ module _ (units : List ℕ → List ℕ) where
   pub symbols_once : (s : List ℕ) (xs ys : List Symbol) → AreSymbols units s xs → AreSymbols units s ys → xs ≡ ys
   symbols_once s xs ys h k = h.are ∙ ap (chunks_symbols units) (chunks_once s h.chunks k.chunks h.are_chunks k.are_chunks) ∙ sym k.are
 
-  module _ (well_formed : List ℕ → Type 0) (spelled : (b : List ℕ) → well_formed b → HasNoCharacter b → b ≡ flat_map unit_bytes (units b)) where
+  module _ (well_formed : List ℕ → Type 0) (encoded : (b : List ℕ) → well_formed b → HasNoCharacter b → b ≡ flat_map unit_bytes (units b)) where
     chunk_bytes : (c : Chunk) → IsChunkOf well_formed c → flat_map symbol_bytes (chunk_symbols units c) ≡ c.0 ++ c.1
     chunk_bytes c h =
         flat_map-append symbol_bytes (map unit_symbol (units c.0)) (map Character (chars c.1))
-        ∙ ap (λ x. x ++ flat_map symbol_bytes (map Character (chars c.1))) (unit_symbols_bytes (units c.0) ∙ sym (spelled c.0 h.formed h.bare))
+        ∙ ap (λ x. x ++ flat_map symbol_bytes (map Character (chars c.1))) (unit_symbols_bytes (units c.0) ∙ sym (encoded c.0 h.formed h.uncovered))
         ∙ ap (λ x. c.0 ++ x) (characters_bytes (chars c.1) ∙ text_bytes c.1 h.text)
 
     chunks_bytes : (cs : List Chunk) → AllByRecursion (IsChunkOf well_formed) cs → flat_map symbol_bytes (chunks_symbols units cs) ≡ joined cs
@@ -42,5 +42,5 @@ module _ (units : List ℕ → List ℕ) where
 
     pub symbols_joined : ((b : List ℕ) (i : ℕ) → well_formed b → IsBoundary b i → well_formed (take i b)) → ((b : List ℕ) (i : ℕ) → well_formed b → IsBoundary b i → well_formed (drop i b))
         → (s : List ℕ) → well_formed s → (xs : List Symbol) → AreSymbols units s xs → flat_map symbol_bytes xs ≡ s
-    symbols_joined cut_front cut_back s w xs h =
-        ap (flat_map symbol_bytes) h.are ∙ chunks_bytes h.chunks (are_chunks_of well_formed cut_front cut_back s h.chunks w h.are_chunks) ∙ h.are_chunks.joins
+    symbols_joined cut_prefix cut_suffix s w xs h =
+        ap (flat_map symbol_bytes) h.are ∙ chunks_bytes h.chunks (are_chunks_of well_formed cut_prefix cut_suffix s h.chunks w h.are_chunks) ∙ h.are_chunks.joins

@@ -1,5 +1,5 @@
 -- The symbols of a string, taken off one by one.
-use Rattle.os_str_ext.proofs.Common.{◌≡◌, ⊎_elim, ℕ, ◌+◌, ◌-◌, ◌<◌, ◌≤◌, List, [], ◌∷◌, ◌++◌, map, length, take, drop, refl, sym, ap, ◌∙◌, subst, arith, append_assoc, append-nil, length-append, length-drop, take-append-drop, drop-drop, cases_lt, cases_eq, length-take-le, take-take, drop-take, drop_at, take_at, encode_same, IsScalar, encode_utf8, IsUtf8, chars, encode_utf8_all, WholeCharacter, encode, IsCovered, StartsWithNoCharacter, StandingLaws, character_fits, whole_at, whole_within, form_encode, IsFirstUnit, IsBareUpTo, IsFirstChunk, IsKnownPart, chunks_symbols, symbols_of, unit_symbol, Character}
+use Rattle.os_str_ext.proofs.Common.{◌≡◌, ⊎_elim, ℕ, ◌+◌, ◌-◌, ◌<◌, ◌≤◌, List, [], ◌∷◌, ◌++◌, map, length, take, drop, refl, sym, ap, ◌∙◌, subst, arith, append_assoc, append-nil, length-append, length-drop, take-append-drop, drop-drop, cases_lt, cases_eq, length-take-le, take-take, drop-take, drop_at, take_at, encode_same, IsScalar, encode_utf8, IsUtf8, chars, encode_utf8_all, WholeCharacter, encode, IsCovered, StartsWithNoCharacter, OccurrenceLaws, character_fits, whole_at, whole_within, form_encode, IsFirstUnit, IsUncoveredUpTo, IsFirstChunk, IsKnownPart, chunks_symbols, symbols_of, unit_symbol, Character}
 use Rattle.std.proofs.lemmas.Str.{IsUtf8-past_char, chars-nil, chars_past_char}
 use Rattle.wtf8_core.proofs.lemmas.characters.Seams.{covered_within}
 use Rattle.os_str_ext.proofs.lemmas.EachChunk.{text_end}
@@ -10,8 +10,8 @@ pub no_symbols : (units : List ℕ → List ℕ) (s : List ℕ) → s ≡ [] →
 no_symbols units s e = ap (chunks_symbols units) (no_chunks s e)
 
 -- what is left of a list from an index on, and of that up to another index
-left_behind : (s : List ℕ) (n e : ℕ) → n ≤ e → drop (e - n) (drop n s) ≡ drop e s
-left_behind s n e le = drop-drop (e - n) n s ∙ ap (λ k. drop k s) (omega (arith, le))
+left_after : (s : List ℕ) (n e : ℕ) → n ≤ e → drop (e - n) (drop n s) ≡ drop e s
+left_after s n e le = drop-drop (e - n) n s ∙ ap (λ k. drop k s) (omega (arith, le))
 
 left_between : (s : List ℕ) (n e : ℕ) → n ≤ e → take (e - n) (drop n s) ≡ drop n (take e s)
 left_between s n e le = sym (drop-take n (e - n) s) ∙ ap (λ k. drop n (take k s)) (omega (arith, le))
@@ -48,22 +48,22 @@ module _ (s : List ℕ) (m e n : ℕ) (h : IsFirstChunk s m e) (within : n ≤ e
       record {
         ordered = omega arith;
         within = omega arith;
-        bare = λ k low c. h.bare (n + k) (omega (arith, low)) (covered k c);
+        uncovered = λ k low c. h.uncovered (n + k) (omega (arith, low)) (covered k c);
         text = text;
         some = λ l. ⊎_elim (λ below. omega (arith, h.some below)) (λ past. absurd (omega (arith, l, past))) (cases_lt m (length s));
         ended = λ l c. h.ended (omega (arith, l)) (subst (IsCovered s) z (covered (e - n) c));
       }
 
 -- a part ends where a character begins
-pub part_before_character : (s : List ℕ) (i j : ℕ) → IsBareUpTo s i → WholeCharacter s i j → (e : ℕ) × IsFirstChunk s i e
-part_before_character s i j bare w =
-    let t = text_end s i bare.within in
+pub part_before_character : (s : List ℕ) (i j : ℕ) → IsUncoveredUpTo s i → WholeCharacter s i j → (e : ℕ) × IsFirstChunk s i e
+part_before_character s i j uncovered w =
+    let t = text_end s i uncovered.within in
     let some : i < t.0 = ⊎_elim (λ same. absurd (t.1.ended j (subst (λ k. WholeCharacter s k j) same w))) (λ ne. omega (arith, ne, t.1.ordered)) (cases_eq i t.0) in
-    (t.0, first_of_parts s i t.0 bare.bare (λ _. some) t.1.ordered t.1.within t.1.text t.1.ended)
+    (t.0, first_of_parts s i t.0 uncovered.uncovered (λ _. some) t.1.ordered t.1.within t.1.text t.1.ended)
 
 -- the first byte is in a part
-pub bare_first : (s : List ℕ) → 0 < length s → StartsWithNoCharacter s → IsBareUpTo s 1
-bare_first s some bare = record { within = omega (arith, some); bare = λ k j low w. let z : k ≡ 0 = omega (arith, low) in bare j (subst (λ x. WholeCharacter s x j) z w) }
+pub uncovered_first : (s : List ℕ) → 0 < length s → StartsWithNoCharacter s → IsUncoveredUpTo s 1
+uncovered_first s some uncovered = record { within = omega (arith, some); uncovered = λ k j low w. let z : k ≡ 0 = omega (arith, low) in uncovered j (subst (λ x. WholeCharacter s x j) z w) }
 
 -- after the first unit of the part
 module _ (well_formed : List ℕ → Type 0) (units : List ℕ → List ℕ) (s : List ℕ) (m e u n : ℕ) (h : IsFirstChunk s m e) (first : IsFirstUnit well_formed units (take m s) u n) where
@@ -74,32 +74,32 @@ module _ (well_formed : List ℕ → Type 0) (units : List ℕ → List ℕ) (s 
   in_chunk = omega (arith, in_part, h.ordered)
 
   same_text : drop (m - n) (take (e - n) (drop n s)) ≡ drop m (take e s)
-  same_text = ap (drop (m - n)) (left_between s n e in_chunk) ∙ left_behind (take e s) n m in_part
+  same_text = ap (drop (m - n)) (left_between s n e in_chunk) ∙ left_after (take e s) n m in_part
 
   chunk_left : n < e → IsFirstChunk (drop n s) (m - n) (e - n)
   chunk_left lt = first_left s m e n h in_chunk lt (subst IsUtf8 (sym same_text) h.text)
 
-  pub part_behind_unit : IsKnownPart (drop n s) (m - n)
-  part_behind_unit lt = (e - n, chunk_left (omega (arith, lt, h.ordered)))
+  pub part_after_unit : IsKnownPart (drop n s) (m - n)
+  part_after_unit lt = (e - n, chunk_left (omega (arith, lt, h.ordered)))
 
   pub symbols_by_unit : 0 < length s → units [] ≡ [] → symbols_of units s ≡ unit_symbol u ∷ symbols_of units (drop n s)
   symbols_by_unit some none =
-      let behind = map Character (chars (drop m (take e s))) ++ symbols_of units (drop e s) in
+      let after = map Character (chars (drop m (take e s))) ++ symbols_of units (drop e s) in
       by_first_chunk units s m e h some
-      ∙ ap (λ us. map unit_symbol us ++ behind) first.units_are
+      ∙ ap (λ us. map unit_symbol us ++ after) first.units_are
       ∙ ap (λ x. unit_symbol u ∷ x)
-      (ap (λ b. map unit_symbol (units b) ++ behind) (sym (left_between s n m in_part))
+      (ap (λ b. map unit_symbol (units b) ++ after) (sym (left_between s n m in_part))
       ∙ ap (λ t. map unit_symbol (units (take (m - n) (drop n s))) ++ (map Character (chars t) ++ symbols_of units (drop e s))) (sym same_text)
-      ∙ ap (λ r. map unit_symbol (units (take (m - n) (drop n s))) ++ (map Character (chars (drop (m - n) (take (e - n) (drop n s)))) ++ symbols_of units r)) (sym (left_behind s n e in_chunk))
+      ∙ ap (λ r. map unit_symbol (units (take (m - n) (drop n s))) ++ (map Character (chars (drop (m - n) (take (e - n) (drop n s)))) ++ symbols_of units r)) (sym (left_after s n e in_chunk))
       ∙ sym (laid_out units (drop n s) (m - n) (e - n) none (omega (arith, h.ordered)) (λ pos. chunk_left (omega (arith, pos)))))
 
   -- what is left is a string
-  pub formed_behind_unit : StandingLaws well_formed units → well_formed s → well_formed (take m s) → well_formed (drop n s)
-  formed_behind_unit laws formed part_formed =
+  pub formed_after_unit : OccurrenceLaws well_formed units → well_formed s → well_formed (take m s) → well_formed (drop n s)
+  formed_after_unit laws formed part_formed =
       let part = take m s in
-      let front : well_formed (take n s) =
-      subst well_formed (take-take n m s in_part) (laws.ends (take n part) (drop n part) first.behind (subst well_formed (sym (take-append-drop n part)) part_formed)) in
-      (laws.fronts (take n s) (drop n s) front (subst well_formed (sym (take-append-drop n s)) formed)).0
+      let prefix : well_formed (take n s) =
+      subst well_formed (take-take n m s in_part) (laws.ends (take n part) (drop n part) first.after (subst well_formed (sym (take-append-drop n part)) part_formed)) in
+      (laws.prefixes (take n s) (drop n s) prefix (subst well_formed (sym (take-append-drop n s)) formed)).0
 
 -- the first k bytes of s are a text that begins with c
 record BeginsText (s rest : List ℕ) (c k : ℕ) : Type 0 where
@@ -132,33 +132,33 @@ module _ (s rest : List ℕ) (c : ℕ) (scalar : IsScalar c) (is : s ≡ encode_
           }
 
   -- so it doesn't begin with a part
-  pub known_behind_character : (part : ℕ) → IsKnownPart s part → IsKnownPart rest part
-  known_behind_character part known lt =
+  pub known_after_character : (part : ℕ) → IsKnownPart s part → IsKnownPart rest part
+  known_after_character part known lt =
       let f = character_fits s 0 (0 + length (encode c)) starts in
-      absurd ((known lt).1.bare 0 lt (record { start = 0; end = 0 + length (encode c); whole = starts; from = omega arith; below = omega (arith, f) }))
+      absurd ((known lt).1.uncovered 0 lt (record { start = 0; end = 0 + length (encode c); whole = starts; from = omega arith; below = omega (arith, f) }))
 
   pub symbols_by_character : (units : List ℕ → List ℕ) → units [] ≡ [] → symbols_of units s ≡ Character c ∷ symbols_of units rest
   symbols_by_character units none =
-      let chunk = part_before_character s 0 (0 + length (encode c)) (record { within = omega arith; bare = λ k j lt w. absurd (omega (arith, lt)) }) starts in
+      let chunk = part_before_character s 0 (0 + length (encode c)) (record { within = omega arith; uncovered = λ k j lt w. absurd (omega (arith, lt)) }) starts in
       let e = chunk.0 in
       let h = chunk.1 in
       let b = begins_text e (h.some some) h.within h.text in
       let l = length b.left in
-      let behind = symbols_of units (drop e s) in
+      let after = symbols_of units (drop e s) in
       let end : length (encode_utf8 c) + l ≡ e = sym (ap length b.text ∙ length-append (encode_utf8 c) b.left) ∙ length-take-le e s h.within in
-      let front : take l rest ≡ b.left = ap (take l) b.rest_is ∙ take_at b.left (drop e s) l refl in
-      let back : drop l rest ≡ drop e s = ap (drop l) b.rest_is ∙ drop_at b.left (drop e s) l refl in
+      let prefix : take l rest ≡ b.left = ap (take l) b.rest_is ∙ take_at b.left (drop e s) l refl in
+      let suffix : drop l rest ≡ drop e s = ap (drop l) b.rest_is ∙ drop_at b.left (drop e s) l refl in
       let last : (j : ℕ) → WholeCharacter rest l j → ⊥ = λ j w.
       let whole = subst (λ i. WholeCharacter s i (length (encode_utf8 c) + j)) end (whole_within s (encode_utf8 c) rest [] l j (is ∙ ap (λ r. encode_utf8 c ++ r) (sym (append-nil rest))) w) in
       let f = character_fits s e (length (encode_utf8 c) + j) whole in
       h.ended (omega (arith, f)) (record { start = e; end = length (encode_utf8 c) + j; whole = whole; from = omega arith; below = omega (arith, f) }) in
       let within : l ≤ length rest = omega (arith, ap length b.rest_is, length-append b.left (drop e s)) in
-      let left : 0 < l → IsFirstChunk rest 0 l = λ pos. first_of_parts rest 0 l (λ k j lt w. absurd (omega (arith, lt))) (λ _. pos) (omega arith) within (subst IsUtf8 (sym front) b.utf8) last in
+      let left : 0 < l → IsFirstChunk rest 0 l = λ pos. first_of_parts rest 0 l (λ k j lt w. absurd (omega (arith, lt))) (λ _. pos) (omega arith) within (subst IsUtf8 (sym prefix) b.utf8) last in
       by_first_chunk units s 0 e h some
-      ∙ ap (λ us. map unit_symbol us ++ (map Character (chars (take e s)) ++ behind)) none
-      ∙ ap (λ cs. map Character cs ++ behind) (chars_past_char (take e s) b.left c h.text b.text)
+      ∙ ap (λ us. map unit_symbol us ++ (map Character (chars (take e s)) ++ after)) none
+      ∙ ap (λ cs. map Character cs ++ after) (chars_past_char (take e s) b.left c h.text b.text)
       ∙ ap (λ x. Character c ∷ x)
-      (ap (λ x. map Character (chars x) ++ behind) (sym front)
-      ∙ ap (λ x. map Character (chars (take l rest)) ++ symbols_of units x) (sym back)
+      (ap (λ x. map Character (chars x) ++ after) (sym prefix)
+      ∙ ap (λ x. map Character (chars (take l rest)) ++ symbols_of units x) (sym suffix)
       ∙ ap (λ us. map unit_symbol us ++ (map Character (chars (take l rest)) ++ symbols_of units (drop l rest))) (sym none)
       ∙ sym (laid_out units rest 0 l none (omega arith) left))

@@ -42,14 +42,14 @@ units_of_oks (c ∷ cs) rest =
 items_fit : (bytes : List ℕ) (items : List (Result ℕ EncodingError)) → AreItems bytes items → length (flat_map unit_items items) ≤ length bytes
 items_fit bytes items (Whole r) =
     let all = ap (λ x. length (flat_map unit_items x)) (r.are ∙ sym (append-nil (oks r.code_points))) ∙ units_of_oks r.code_points [] in
-    let joined = ap length r.spelled.joined in
+    let joined = ap length r.encoded.joined in
     let fit = units_fit r.code_points in
     omega arith
 items_fit bytes items (Faulty {rest = rest} {later = later} r l) =
     let all = ap (λ x. length (flat_map unit_items x)) r.are ∙ units_of_oks r.code_points (Err r.fault ∷ later) in
-    let behind = items_fit rest later l in
-    let rest_is = ap length r.behind in
-    let before = ap length r.first.spelled.joined in
+    let after = items_fit rest later l in
+    let rest_is = ap length r.after in
+    let before = ap length r.first.encoded.joined in
     let parts = ap length r.first.joined ∙ length-append r.first.before r.first.from in
     let last = ap length r.first.begins.is ∙ length-append r.first.begins.refused r.first.begins.rest in
     let some = refused_some _ _ _ _ r.first.begins.refusal in
@@ -82,7 +82,7 @@ forms_fit (c ∷ cs) =
 -- units have at most three bytes each
 pub bytes_fit : (bytes us : List ℕ) → HasUnits bytes us → length bytes ≤ 3 * length us
 bytes_fit bytes us h =
-    let joined = ap length h.spelled.joined in
+    let joined = ap length h.encoded.joined in
     let are = ap length h.are in
     let fit = forms_fit h.code_points in
     omega arith

@@ -4,25 +4,25 @@ use Rattle.std.proofs.lemmas.List.{drop-take, drop-drop, length-drop, length-app
 use Rattle.std.proofs.Math.Seq.{take-append_seam}
 use Rattle.wtf8_core.specs.Chunks.{Chunk, AreChunks}
 use Rattle.wtf8_core.specs.Pieces.{SplitsAt}
-use Rattle.wtf8_core.specs.Standing.{IsFirstPlace, IsLastPlace}
+use Rattle.wtf8_core.specs.Occurrence.{IsFirstIndex, IsLastIndex}
 use Rattle.os_str_ext.proofs.lemmas.Searches.{parts_around}
 use Rattle.osbytes_c.specs.Steps.{part, IsChunkAt}
 
 -- the piece before the pattern's first index, and the rest after it
-pub piece_at : (p s : List ℕ) (at i : ℕ) → IsFirstPlace p (drop at s) i → SplitsAt IsFirstPlace p (drop at s) (part s at (at + i)) (drop (at + i + length p) s)
+pub piece_at : (p s : List ℕ) (at i : ℕ) → IsFirstIndex p (drop at s) i → SplitsAt IsFirstIndex p (drop at s) (part s at (at + i)) (drop (at + i + length p) s)
 piece_at p s at i least =
     let sum : at + i + length p ≡ at + (i + length p) = omega arith in
-    parts_around IsFirstPlace p (drop at s) _ _ i least least.stands (drop-take at i s) (ap (λ k. drop k s) sum ∙ sym (drop-drop (i + length p) at s))
+    parts_around IsFirstIndex p (drop at s) _ _ i least least.occurs (drop-take at i s) (ap (λ k. drop k s) sum ∙ sym (drop-drop (i + length p) at s))
 
 -- the piece after the pattern's last index, and the rest before it
-pub last_piece_at : (p s : List ℕ) (at i : ℕ) → at ≤ length s → IsLastPlace p (take at s) i → SplitsAt IsLastPlace p (take at s) (take i s) (part s (i + length p) at)
+pub last_piece_at : (p s : List ℕ) (at i : ℕ) → at ≤ length s → IsLastIndex p (take at s) i → SplitsAt IsLastIndex p (take at s) (take i s) (part s (i + length p) at)
 last_piece_at p s at i within greatest =
-    let h = greatest.stands in
+    let h = greatest.occurs in
     let size = ap length h.joined in
-    let all = length-append h.before (p ++ h.behind) in
+    let all = length-append h.before (p ++ h.after) in
     let most = length-take-le at s within in
-    let place = h.place in
-    parts_around IsLastPlace p (take at s) (take i s) (part s (i + length p) at) i greatest h (sym (take-take i at s (omega arith))) refl
+    let index = h.index in
+    parts_around IsLastIndex p (take at s) (take i s) (part s (i + length p) at) i greatest h (sym (take-take i at s (omega arith))) refl
 
 drop_seam : (xs ys : List ℕ) → drop (length xs) (xs ++ ys) ≡ ys
 drop_seam xs ys = drop-append-le (length xs) xs ys (omega arith) ∙ ap (λ x. x ++ ys) (drop_all (length xs) xs (omega arith))
@@ -42,7 +42,7 @@ chunk_at s at p t r later within chunks rest =
     let others = length-append t r in
     let end : m + length t ≡ length s - length r = omega arith in
     let found : IsChunkAt s at (record { part = m; text = m + length t }) = record {
-      behind = later;
+      after = later;
       all = subst (λ x. AreChunks (drop at s) ((x, part s m (m + length t)) ∷ later)) (sym first) (subst (λ x. AreChunks (drop at s) ((p, x) ∷ later)) (sym second) chunks);
       rest = subst (λ x. AreChunks x later) (sym third) rest;
       ordered = omega arith;

@@ -3,8 +3,8 @@ use Rattle.std.proofs.Common.{◌≡◌, ℕ, Bool, true, false, List, [], ◌�
 use Rattle.std.proofs.lemmas.List.{take_all, drop_all}
 use Rattle.wtf8_core.specs.Chunks.{Chunk, AreChunks}
 use Rattle.wtf8_core.specs.Pieces.{SplitsAt, IsSplit, IsRSplit}
-use Rattle.wtf8_core.specs.Pieces.FallsInto.{whole, cut}
-use Rattle.wtf8_core.specs.Standing.{IsFirstPlace, IsLastPlace}
+use Rattle.wtf8_core.specs.Pieces.SplitsInto.{whole, cut}
+use Rattle.wtf8_core.specs.Occurrence.{IsFirstIndex, IsLastIndex}
 use Rattle.wtf8_core.proofs.lemmas.chunks.OneList.{some_chunks, chunks_once}
 use Rattle.os_str_ext.specs.Symbols.{AreSymbols}
 use Rattle.os_str_ext.specs.declared.symbols.Symbol.{Symbol}
@@ -29,7 +29,7 @@ split_step p s at edge rest true piece pieces h e more =
     let all : piece ≡ drop at s = e ∙ ap (λ k. drop at (take k s)) h.1 ∙ ap (drop at) (take_all (length s) s (omega arith)) in
     subst (λ ps. IsSplit p (drop at s) (piece ∷ ps)) (sym more) (subst (λ x. IsSplit p (drop at s) (x ∷ [])) (sym all) (whole h.0))
 split_step p s at edge rest false piece pieces h e more =
-    cut (subst (λ x. SplitsAt IsFirstPlace p (drop at s) x (drop rest s)) (sym e) h) more
+    cut (subst (λ x. SplitsAt IsFirstIndex p (drop at s) x (drop rest s)) (sym e) h) more
 
 pub split_walk : (p s : List ℕ) (at : ℕ) (pieces : List (List ℕ)) → SplitWalk p s at pieces → IsSplit p (drop at s) pieces
 split_walk p s at [] w = absurd w
@@ -42,7 +42,7 @@ rsplit_step p s at edge rest true piece pieces h e more =
     let all : piece ≡ take at s = e ∙ ap (λ k. drop k (take at s)) h.1 in
     subst (λ ps. IsRSplit p (take at s) (piece ∷ ps)) (sym more) (subst (λ x. IsRSplit p (take at s) (x ∷ [])) (sym all) (whole h.0))
 rsplit_step p s at edge rest false piece pieces h e more =
-    cut (subst (λ x. SplitsAt IsLastPlace p (take at s) (take rest s) x) (sym e) h) more
+    cut (subst (λ x. SplitsAt IsLastIndex p (take at s) (take rest s) x) (sym e) h) more
 
 pub rsplit_walk : (p s : List ℕ) (at : ℕ) (pieces : List (List ℕ)) → RSplitWalk p s at pieces → IsRSplit p (take at s) pieces
 rsplit_walk p s at [] w = absurd w
@@ -56,10 +56,10 @@ chunk_walk s at [] w = subst (AreChunks (drop at s)) (no_chunks (drop at s) (not
 chunk_walk s at (chunk ∷ chunks) w =
     let step = w.1.0 in
     let later = chunk_walk s w.0.text chunks w.1.1.1 in
-    let same = chunks_once (drop w.0.text s) step.behind chunks step.rest later in
+    let same = chunks_once (drop w.0.text s) step.after chunks step.rest later in
     subst (λ c. AreChunks (drop at s) (c ∷ chunks)) (sym w.1.1.0) (subst (λ cs. AreChunks (drop at s) ((part s at w.0.part, part s w.0.part w.0.text) ∷ cs)) same step.all)
 
--- a kind and a value stand for one symbol
+-- a kind and a value mean one symbol
 one_symbol : (kind value : ℕ) (x y : Symbol) → Reports x kind value → Reports y kind value → x ≡ y
 one_symbol kind value (symbol.Character c) (symbol.Character d) h k = ap symbol.Character (sym h.1 ∙ k.1)
 one_symbol kind value (symbol.Character c) (symbol.Unit u) h k = absurd (omega (arith, h.0, k.0))
@@ -71,7 +71,7 @@ symbol_walk platform s at [] w = symbols_are (units_on platform) (drop at s) [] 
 symbol_walk platform s at (x ∷ symbols) w =
     let step = w.1.0 in
     let later = symbol_walk platform s w.0.end symbols w.1.1.1 in
-    let same = symbols_once (units_on platform) (drop w.0.end s) step.behind symbols step.rest later in
+    let same = symbols_once (units_on platform) (drop w.0.end s) step.after symbols step.rest later in
     let first = one_symbol w.0.kind w.0.value step.first x step.is w.1.1.0 in
     subst (λ y. AreSymbols (units_on platform) (drop at s) (y ∷ symbols)) first (subst (λ xs. AreSymbols (units_on platform) (drop at s) (step.first ∷ xs)) same step.all)
 

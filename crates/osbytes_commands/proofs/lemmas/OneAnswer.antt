@@ -14,7 +14,7 @@ use Rattle.os_quote.specs.Shown.{is_any}
 use Rattle.os_quote.specs.declared.error.QuoteError.{QuoteError}
 use Rattle.os_quote.specs.declared.error.QuoteError.TheVariants as quote
 use Rattle.os_quote.proofs.lemmas.EachChunk.{are_chunks_of}
-use Rattle.os_quote.proofs.lemmas.Escapes.{never_bad, one_bad_place}
+use Rattle.os_quote.proofs.lemmas.Escapes.{never_bad, one_bad_index}
 use Rattle.os_quote.proofs.lemmas.Readings.{escape_is_text}
 use Rattle.osbytes_commands.specs.declared.command.Os.{Os}
 use Rattle.osbytes_commands.specs.declared.command.Os.TheVariants.{Unix, Windows, Wasm}
@@ -54,7 +54,7 @@ output_or_fault (Find os pattern) input output error h k = (laws os).faulty inpu
 output_or_fault (Split os pattern) input output error h k = (laws os).faulty input error k.1 h.0
 output_or_fault (Chunks os) input output error h k = (laws os).faulty input error k h.0
 output_or_fault (Quote os) input output error h k = (laws os).faulty input error k h.0
-output_or_fault (Unquote os) input output error h k = no_text_fault input error (escape_is_text is_any (strings os).well_formed (strings os).units (parts os).0 (parts os).1 (are_chunks_of (strings os).well_formed (laws os).cut_front (laws os).cut_back) output input h.0 h.1) k
+output_or_fault (Unquote os) input output error h k = no_text_fault input error (escape_is_text is_any (strings os).well_formed (strings os).units (parts os).0 (parts os).1 (are_chunks_of (strings os).well_formed (laws os).cut_prefix (laws os).cut_suffix) output input h.0 h.1) k
 output_or_fault (Raw os) input output error h k =
     k.2 (subst (strings os).is_unit_list (one_list_of_lines os input ((strings os).units output) k.0 h.1 k.1) ((laws os).unit_list output h.0))
 
@@ -72,7 +72,7 @@ abbrev HasBadQuote : Command → List ℕ → QuoteError → Type 0
 HasBadQuote command = HasBadQuoteOn (strings (os_of command)) command
 
 not_escaped : (os : Os) (input output : List ℕ) (error : QuoteError) → (strings os).well_formed output → IsEscape (strings os).units output input → ¬ (error ≡ quote.Memory) → IsQuoteFault (strings os).well_formed (strings os).units input error → ⊥
-not_escaped os input output (quote.BadEscape place) w e n k = never_bad is_any (strings os).well_formed (strings os).units (parts os).0 (parts os).1 (are_chunks_of (strings os).well_formed (laws os).cut_front (laws os).cut_back) output input place w e k
+not_escaped os input output (quote.BadEscape index) w e n k = never_bad is_any (strings os).well_formed (strings os).units (parts os).0 (parts os).1 (are_chunks_of (strings os).well_formed (laws os).cut_prefix (laws os).cut_suffix) output input index w e k
 not_escaped os input output quote.NotCanonical w e n k = k.0 output w e
 not_escaped os input output quote.Memory w e n k = n refl
 
@@ -123,7 +123,7 @@ fault_or_bad_line (Unquote os) input error number h k = k
 fault_or_bad_line (Raw os) input error number h k = no_bad_line os input h.0 number h.1 k
 
 one_quote_fault : (well_formed : List ℕ → Type 0) (units : List ℕ → List ℕ) (input : List ℕ) (d e : QuoteError) → ¬ (d ≡ quote.Memory) → ¬ (e ≡ quote.Memory) → IsQuoteFault well_formed units input d → IsQuoteFault well_formed units input e → d ≡ e
-one_quote_fault well_formed units input (quote.BadEscape m) (quote.BadEscape n) x y h k = ap quote.BadEscape (one_bad_place is_any input m n h k)
+one_quote_fault well_formed units input (quote.BadEscape m) (quote.BadEscape n) x y h k = ap quote.BadEscape (one_bad_index is_any input m n h k)
 one_quote_fault well_formed units input (quote.BadEscape m) quote.NotCanonical x y h k = absurd (k.1 m h)
 one_quote_fault well_formed units input quote.NotCanonical (quote.BadEscape n) x y h k = absurd (h.1 n k)
 one_quote_fault well_formed units input quote.NotCanonical quote.NotCanonical x y h k = refl

@@ -9,8 +9,8 @@ use Rattle.osbytes_commands.specs.declared.command.Command.TheVariants.{Units, R
 use Rattle.osbytes_commands.specs.declared.fault.Fault.{Fault}
 use Rattle.osbytes_commands.specs.declared.fault.Fault.TheVariants.{Refused, BadLine, BadQuote, Usage, Memory, Read, Write}
 use Rattle.osbytes_commands.specs.Command.{os_word, words_of, IsUnusable}
-use Rattle.osbytes_commands.specs.Lines.{place_line, piece_lines}
-use Rattle.osbytes_commands.specs.Output.{IsOutput, IsRefusal, IsOfInput, FindsLeast, AreSplit}
+use Rattle.osbytes_commands.specs.Lines.{index_line, piece_lines}
+use Rattle.osbytes_commands.specs.Output.{IsOutput, IsRefusal, IsOfInput, FindsFirst, AreSplit}
 use Rattle.osbytes_commands.specs.Program.{IsOutcome}
 use Rattle.osbytes_commands.specs.Strings.{strings}
 use Rattle.osbytes_commands.specs.Written.{AppendsBeginning}
@@ -69,7 +69,7 @@ same_meaning M (Unquote a) (Unquote b) e m = subst (λ os. M (IsOutput (Unquote 
 same_meaning M (Find a p) (Find b q) e m =
     let on_platform = subst (λ os. M (IsOutput (Find os p)) (IsRefusal (Find os p)) ⊥) (same_os a b (ap (λ words. get_or words 1 []) e)) m in
     let same : p.now ≡ q.now = ap (λ words. get_or words 2 []) e in
-    subst (λ text. M (λ input output. (strings b).well_formed input × ((place : Option ℕ) × FindsLeast (strings b) text input place × (output ≡ place_line place))) (IsRefusal (Find b q)) ⊥) same on_platform
+    subst (λ text. M (λ input output. (strings b).well_formed input × ((index : Option ℕ) × FindsFirst (strings b) text input index × (output ≡ index_line index))) (IsRefusal (Find b q)) ⊥) same on_platform
 same_meaning M (Split a p) (Split b q) e m =
     let on_platform = subst (λ os. M (IsOutput (Split os p)) (IsRefusal (Split os p)) (length p.now ≡ 0)) (same_os a b (ap (λ words. get_or words 1 []) e)) m in
     let same : p.now ≡ q.now = ap (λ words. get_or words 2 []) e in

@@ -29,17 +29,17 @@ same_digit c d e = ⊎_elim
 same_byte : (u v : ℕ) → hex_digit (u / 16) ≡ hex_digit (v / 16) → hex_digit (u % 16) ≡ hex_digit (v % 16) → u ≡ v
 same_byte u v e f = let p = same_digit (u / 16) (v / 16) e in let q = same_digit (u % 16) (v % 16) f in omega arith
 
-front_byte : (u v : ℕ) (xs ys : List ℕ) → unit_line Unix u ++ xs ≡ unit_line Unix v ++ ys → (u ≡ v) × (xs ≡ ys)
-front_byte u v xs ys e =
+leading_byte : (u v : ℕ) (xs ys : List ℕ) → unit_line Unix u ++ xs ≡ unit_line Unix v ++ ys → (u ≡ v) × (xs ≡ ys)
+leading_byte u v xs ys e =
     let first : hex_digit (u / 16) ≡ hex_digit (v / 16) = cc in
     let second : hex_digit (u % 16) ≡ hex_digit (v % 16) = cc in
     (same_byte u v first second, cc)
 
 -- a line that comes first decides its unit and what follows it
-front_line : (os : Os) (u v : ℕ) (xs ys : List ℕ) → unit_line os u ++ xs ≡ unit_line os v ++ ys → (u ≡ v) × (xs ≡ ys)
-front_line Unix u v xs ys e = front_byte u v xs ys e
-front_line Wasm u v xs ys e = front_byte u v xs ys e
-front_line Windows u v xs ys e =
+leading_line : (os : Os) (u v : ℕ) (xs ys : List ℕ) → unit_line os u ++ xs ≡ unit_line os v ++ ys → (u ≡ v) × (xs ≡ ys)
+leading_line Unix u v xs ys e = leading_byte u v xs ys e
+leading_line Wasm u v xs ys e = leading_byte u v xs ys e
+leading_line Windows u v xs ys e =
     let first : hex_digit (u / 0x100 / 16) ≡ hex_digit (v / 0x100 / 16) = cc in
     let second : hex_digit (u / 0x100 % 16) ≡ hex_digit (v / 0x100 % 16) = cc in
     let third : hex_digit (u % 0x100 / 16) ≡ hex_digit (v % 0x100 / 16) = cc in
@@ -58,7 +58,7 @@ same_units os [] [] xs ys hu hv bad bad' e = (refl, e)
 same_units os [] (v ∷ vs) xs ys hu hv bad bad' e = absurd (bad (v, first_is_unit os v vs hv, (unit_lines os vs ++ ys, e ∙ lines_after os v vs ys)))
 same_units os (u ∷ us) [] xs ys hu hv bad bad' e = absurd (bad' (u, first_is_unit os u us hu, (unit_lines os us ++ xs, sym e ∙ lines_after os u us xs)))
 same_units os (u ∷ us) (v ∷ vs) xs ys hu hv bad bad' e =
-    let f = front_line os u v (unit_lines os us ++ xs) (unit_lines os vs ++ ys) (sym (lines_after os u us xs) ∙ e ∙ lines_after os v vs ys) in
+    let f = leading_line os u v (unit_lines os us ++ xs) (unit_lines os vs ++ ys) (sym (lines_after os u us xs) ∙ e ∙ lines_after os v vs ys) in
     let g = same_units os us vs xs ys (rest_are_units os u us hu) (rest_are_units os v vs hv) bad bad' f.1 in
     (ap (λ n. n ∷ us) f.0 ∙ ap (λ l. v ∷ l) g.0, g.1)
 
@@ -83,15 +83,15 @@ no_bad_line os bytes us n h k =
     k.some (sym same.1)
 
 -- the lines of the units that were read, and then one more
-pub one_more_line : {U : Type 0} (os : Os) (number : U → ℕ) (bytes : List ℕ) (units : List U) (unit : U) (rest behind : List ℕ)
-    → bytes ≡ unit_lines os (map number units) ++ rest → rest ≡ unit_line os (number unit) ++ behind
-    → bytes ≡ unit_lines os (map number (units ++ unit ∷ [])) ++ behind
-one_more_line os number bytes units unit rest behind joined front =
+pub one_more_line : {U : Type 0} (os : Os) (number : U → ℕ) (bytes : List ℕ) (units : List U) (unit : U) (rest after : List ℕ)
+    → bytes ≡ unit_lines os (map number units) ++ rest → rest ≡ unit_line os (number unit) ++ after
+    → bytes ≡ unit_lines os (map number (units ++ unit ∷ [])) ++ after
+one_more_line os number bytes units unit rest after joined prefix =
     let lines = flat_map-append (unit_line os) (map number units) (number unit ∷ []) in
     let more : unit_lines os (map number (units ++ unit ∷ [])) ≡ unit_lines os (map number units) ++ (unit_line os (number unit) ++ []) =
     ap (unit_lines os) (map-append number units (unit ∷ [])) ∙ lines in
-    joined ∙ ap (λ left. unit_lines os (map number units) ++ left) (front ∙ ap (λ line. line ++ behind) (sym (append-nil (unit_line os (number unit)))))
-    ∙ sym (append_assoc (unit_lines os (map number units)) (unit_line os (number unit) ++ []) behind) ∙ ap (λ left. left ++ behind) (sym more)
+    joined ∙ ap (λ left. unit_lines os (map number units) ++ left) (prefix ∙ ap (λ line. line ++ after) (sym (append-nil (unit_line os (number unit)))))
+    ∙ sym (append_assoc (unit_lines os (map number units)) (unit_line os (number unit) ++ []) after) ∙ ap (λ left. left ++ after) (sym more)
 
 -- the numbers of the units that were read, and then of one more
 pub one_more_unit : {U : Type 0} (os : Os) (number : U → ℕ) (units : List U) (unit : U)
@@ -105,5 +105,5 @@ some_line Unix u = omega arith
 some_line Windows u = omega arith
 some_line Wasm u = omega arith
 
-pub shorter_behind : (os : Os) (u : ℕ) (rest behind : List ℕ) → rest ≡ unit_line os u ++ behind → length behind < length rest
-shorter_behind os u rest behind e = omega (arith, ap length e, length-append (unit_line os u) behind, some_line os u)
+pub shorter_after : (os : Os) (u : ℕ) (rest after : List ℕ) → rest ≡ unit_line os u ++ after → length after < length rest
+shorter_after os u rest after e = omega (arith, ap length e, length-append (unit_line os u) after, some_line os u)

@@ -1,4 +1,4 @@
--- With what a path starts, and with what its fronts start.
+-- With what a path starts, and with what its prefixes start.
 use Rattle.std.proofs.Common.{◌≡◌, ◌≢◌, ◌⊎◌, inl, inr, ◌+◌, ◌≤◌, ◌<◌, ℕ, Bool, true, false, ◌&&◌, nat_eq, if◌then◌else◌, List, [], ◌∷◌, ◌++◌, length, refl, sym, ap, ◌∙◌, subst, arith, append_assoc, eqb-true}
 use Rattle.path_rules.specs.declared.rules.Rules.{Rules}
 use Rattle.path_rules.specs.declared.head.Start.{Start}

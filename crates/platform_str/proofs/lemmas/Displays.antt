@@ -20,10 +20,10 @@ unfolding char_count
 count_more x text = refl
 
 -- one more byte is counted, or isn't
-pub counted : (count n : ℕ) (all rest behind : List ℕ) (x : ℕ) → rest ≡ x ∷ behind → n ≡ count + cond (is_char_start x) 1 0 → n ≤ count + 1
-    → (count + char_count rest ≡ char_count all) × (count + length rest ≤ length all) → (n + char_count behind ≡ char_count all) × (n + length behind ≤ length all)
-counted count n all rest behind x e k m i =
-    let c = ap char_count e ∙ count_more x behind in
+pub counted : (count n : ℕ) (all rest after : List ℕ) (x : ℕ) → rest ≡ x ∷ after → n ≡ count + cond (is_char_start x) 1 0 → n ≤ count + 1
+    → (count + char_count rest ≡ char_count all) × (count + length rest ≤ length all) → (n + char_count after ≡ char_count all) × (n + length after ≤ length all)
+counted count n all rest after x e k m i =
+    let c = ap char_count e ∙ count_more x after in
     let l = ap length e in
     let total = i.0 in
     let room = i.1 in
@@ -58,12 +58,12 @@ filled_by fill later align width asked padding before text l w p b =
     ∙ ap (λ n. repeat n (encode_utf8 fill) ++ (text ++ repeat (padding - n) (encode_utf8 fill))) b
     ∙ ap (by_padding fill align text) same
 
-module _ {well_formed : List ℕ → Type 0} {lossy : List ℕ → List ℕ} {bytes front rest : List ℕ} (f : IsFirstText well_formed lossy bytes front rest) where
+module _ {well_formed : List ℕ → Type 0} {lossy : List ℕ → List ℕ} {bytes prefix rest : List ℕ} (f : IsFirstText well_formed lossy bytes prefix rest) where
   -- what is written so far, and then the text and U+FFFD
-  pub write_first : (done all : List ℕ) → done ++ lossy bytes ≡ all → ((done ++ front) ++ encode_utf8 0xFFFD) ++ lossy rest ≡ all
+  pub write_first : (done all : List ℕ) → done ++ lossy bytes ≡ all → ((done ++ prefix) ++ encode_utf8 0xFFFD) ++ lossy rest ≡ all
   write_first done all e =
-      append_assoc (done ++ front) (encode_utf8 0xFFFD) (lossy rest)
-      ∙ append_assoc done front (encode_utf8 0xFFFD ++ lossy rest)
-      ∙ ap (λ x. done ++ (front ++ (x ++ lossy rest))) encode_fffd
+      append_assoc (done ++ prefix) (encode_utf8 0xFFFD) (lossy rest)
+      ∙ append_assoc done prefix (encode_utf8 0xFFFD ++ lossy rest)
+      ∙ ap (λ x. done ++ (prefix ++ (x ++ lossy rest))) encode_fffd
       ∙ ap (λ x. done ++ x) (sym f.lossy_is)
       ∙ e

@@ -4,12 +4,12 @@ use Rattle.platform_str.proofs.Common.{take-append-add, length-take-le, IsValidU
 use Rattle.wtf8_core.proofs.lemmas.texts.StdFaults.{no_char}
 
 -- no whole character starts at a fault
-pub bare_at : {b behind : List ℕ} {n : ℕ} → behind ≡ drop n b → IsValidUpTo b n → StartsWithNoCharacter behind
-bare_at {b} {behind} {n} e v = subst StartsWithNoCharacter (sym e) (none_at (drop n b) 0 (no_char b n v))
+pub uncovered_at : {b after : List ℕ} {n : ℕ} → after ≡ drop n b → IsValidUpTo b n → StartsWithNoCharacter after
+uncovered_at {b} {after} {n} e v = subst StartsWithNoCharacter (sym e) (none_at (drop n b) 0 (no_char b n v))
 
 -- there is some byte
-pub some_at : {b behind : List ℕ} {n : ℕ} → behind ≡ drop n b → IsValidUpTo b n → 0 < length behind
-some_at {b} {behind} {n} e v = let s = v.short in omega (arith, length-drop n b, ap length e)
+pub some_at : {b after : List ℕ} {n : ℕ} → after ≡ drop n b → IsValidUpTo b n → 0 < length after
+some_at {b} {after} {n} e v = let s = v.short in omega (arith, length-drop n b, ap length e)
 
 -- as std encodes it
 pub encode_fffd : encode_utf8 0xFFFD ≡ replacement
@@ -18,39 +18,39 @@ encode_fffd = refl
 
 module _ {first_fault : List ℕ → EncodingError → Type 0} {well_formed : List ℕ → Type 0} {units : List ℕ → List ℕ} {is_unit_list io_safe : List ℕ → Type 0} {lossy : List ℕ → List ℕ} {replaces : List ℕ → ℕ → Type 0} (laws : PlatformLaws first_fault well_formed units is_unit_list io_safe lossy replaces) where
   -- what follows the text at the start is well formed
-  pub formed_at : {bytes behind : List ℕ} {n : ℕ} → behind ≡ drop n bytes → IsValidUpTo bytes n → well_formed bytes → well_formed behind
-  formed_at {bytes} {behind} {n} e v w = subst well_formed (sym e) (laws.behind_text bytes n w v.front)
+  pub formed_at : {bytes after : List ℕ} {n : ℕ} → after ≡ drop n bytes → IsValidUpTo bytes n → well_formed bytes → well_formed after
+  formed_at {bytes} {after} {n} e v w = subst well_formed (sym e) (laws.after_text bytes n w v.front)
 
   -- after the text at the start, one U+FFFD replaces the first m bytes
-  pub first_part : {bytes behind : List ℕ} {n m : ℕ} → behind ≡ drop n bytes → IsValidUpTo bytes n → well_formed bytes → replaces behind m → IsReplaced well_formed lossy behind m
-  first_part {bytes} {behind} {n} {m} e v w r =
-      laws.lossy_step behind m (formed_at e v w) (some_at e v) (bare_at e v) r
+  pub first_part : {bytes after : List ℕ} {n m : ℕ} → after ≡ drop n bytes → IsValidUpTo bytes n → well_formed bytes → replaces after m → IsReplaced well_formed lossy after m
+  first_part {bytes} {after} {n} {m} e v w r =
+      laws.lossy_step after m (formed_at e v w) (some_at e v) (uncovered_at e v) r
 
-  pub first_text : {bytes front behind rest : List ℕ} {n m : ℕ} → front ≡ take n bytes → behind ≡ drop n bytes → rest ≡ drop m behind → IsValidUpTo bytes n → well_formed bytes → replaces behind m → IsFirstText well_formed lossy bytes front rest
-  first_text {bytes} {front} {behind} {rest} {n} {m} t e d v w r =
+  pub first_text : {bytes prefix after rest : List ℕ} {n m : ℕ} → prefix ≡ take n bytes → after ≡ drop n bytes → rest ≡ drop m after → IsValidUpTo bytes n → well_formed bytes → replaces after m → IsFirstText well_formed lossy bytes prefix rest
+  first_text {bytes} {prefix} {after} {rest} {n} {m} t e d v w r =
       let p = first_part e v w r in
       let s = v.short in
       record {
-        rest_is = subst well_formed (sym d) p.behind;
-        lossy_is = laws.lossy_front bytes n w v
+        rest_is = subst well_formed (sym d) p.after;
+        lossy_is = laws.lossy_prefix bytes n w v
             ∙ ap (λ x. take n bytes ++ lossy x) (sym e)
             ∙ ap (λ x. take n bytes ++ x) (p.lossy_is ∙ ap (λ x. replacement ++ lossy x) (sym d))
             ∙ ap (λ x. x ++ (replacement ++ lossy rest)) (sym t);
-        shorter = omega (arith, s, p.some, p.within, ap length t, length-take-le n bytes (omega (arith, s)), ap length e, length-drop n bytes, ap length d, length-drop m behind);
+        shorter = omega (arith, s, p.some, p.within, ap length t, length-take-le n bytes (omega (arith, s)), ap length e, length-drop n bytes, ap length d, length-drop m after);
       }
 
 -- one more text and one more U+FFFD are made
-pub one_more : {well_formed : List ℕ → Type 0} {lossy : List ℕ → List ℕ} {front rest behind : List ℕ} (made : List ℕ) → IsFirstText well_formed lossy rest front behind
-    → made ++ lossy rest ≡ ((made ++ front) ++ replacement) ++ lossy behind
-one_more {lossy = lossy} {front = front} {behind = behind} made f =
-    ap (λ x. made ++ x) f.lossy_is ∙ sym (append_assoc made front (replacement ++ lossy behind)) ∙ sym (append_assoc (made ++ front) replacement (lossy behind))
+pub one_more : {well_formed : List ℕ → Type 0} {lossy : List ℕ → List ℕ} {prefix rest after : List ℕ} (made : List ℕ) → IsFirstText well_formed lossy rest prefix after
+    → made ++ lossy rest ≡ ((made ++ prefix) ++ replacement) ++ lossy after
+one_more {lossy = lossy} {prefix = prefix} {after = after} made f =
+    ap (λ x. made ++ x) f.lossy_is ∙ sym (append_assoc made prefix (replacement ++ lossy after)) ∙ sym (append_assoc (made ++ prefix) replacement (lossy after))
 
-pub made_more : {well_formed : List ℕ → Type 0} {lossy : List ℕ → List ℕ} {all made front rest behind : List ℕ} → IsLeft well_formed lossy all made rest → IsFirstText well_formed lossy rest front behind
-    → IsLeft well_formed lossy all ((made ++ front) ++ replacement) behind
+pub made_more : {well_formed : List ℕ → Type 0} {lossy : List ℕ → List ℕ} {all made prefix rest after : List ℕ} → IsLeft well_formed lossy all made rest → IsFirstText well_formed lossy rest prefix after
+    → IsLeft well_formed lossy all ((made ++ prefix) ++ replacement) after
 made_more {made = made} i f = record { rest_is = f.rest_is; lossy_is = i.lossy_is ∙ one_more made f }
 
 -- a prefix that was written as a block of n bytes, of which the first k are kept
-pub front_of_block : (before bytes block text : List ℕ) (n k : ℕ) → k ≤ n → n ≤ length bytes → block ≡ take n bytes → text ≡ before ++ block → take (length text - (n - k)) text ≡ before ++ take k bytes
-front_of_block before bytes block text n k few room b t =
+pub prefix_of_block : (before bytes block text : List ℕ) (n k : ℕ) → k ≤ n → n ≤ length bytes → block ≡ take n bytes → text ≡ before ++ block → take (length text - (n - k)) text ≡ before ++ take k bytes
+prefix_of_block before bytes block text n k few room b t =
     let size : length text - (n - k) ≡ length before + k = omega (arith, few, ap length t, length-append before block, ap length b, length-take-le n bytes room) in
     ap (λ m. take m text) size ∙ ap (take (length before + k)) (t ∙ ap (λ x. before ++ x) b) ∙ take-append-add before (take n bytes) k ∙ ap (λ x. before ++ x) (take-take k n bytes few)

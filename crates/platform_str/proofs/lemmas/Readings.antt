@@ -6,26 +6,26 @@ use Rattle.wtf8_core.specs.LossyReading.IsLossyReading.{formed, replaced}
 use Rattle.wtf8_core.proofs.lemmas.reader.LossyReadings.{reading_wtf8}
 
 module _ {rest : List ℕ} {v n : ℕ} (f : IsFaultAt rest v n) where
-  front_is : take v rest ≡ f.first.before
-  front_is = ap (take v) f.first.joined ∙ take_at f.first.before f.first.from v (sym f.valid_is)
+  prefix_is : take v rest ≡ f.first.before
+  prefix_is = ap (take v) f.first.joined ∙ take_at f.first.before f.first.from v (sym f.valid_is)
 
   faulty_is : drop v rest ≡ f.first.from
   faulty_is = ap (drop v) f.first.joined ∙ drop_at f.first.before f.first.from v (sym f.valid_is)
 
-  behind_is : drop n (drop v rest) ≡ f.first.begins.rest
-  behind_is = ap (drop n) (faulty_is ∙ f.first.begins.is) ∙ drop_at f.first.begins.refused f.first.begins.rest n (sym f.refused_is)
+  after_is : drop n (drop v rest) ≡ f.first.begins.rest
+  after_is = ap (drop n) (faulty_is ∙ f.first.begins.is) ∙ drop_at f.first.begins.refused f.first.begins.rest n (sym f.refused_is)
 
   -- the text before the fault and one U+FFFD are made, and what follows the part is left
-  pub read_part : (all made : List ℕ) {front faulty behind once twice : List ℕ} → IsLeftToRead all made rest → front ≡ take v rest → faulty ≡ drop v rest → behind ≡ drop n faulty
-      → once ≡ made ++ front → twice ≡ once ++ replacement → IsLeftToRead all twice behind
-  read_part all made {front} {faulty} {behind} {once} {twice} left a b d o t later r =
-      let front_first : IsLossyReading rest (f.first.before ++ (replacement ++ later)) =
-      replaced f.first (subst (λ x. IsLossyReading x later) (d ∙ ap (drop n) b ∙ behind_is) r) in
+  pub read_part : (all made : List ℕ) {prefix faulty after once twice : List ℕ} → IsLeftToRead all made rest → prefix ≡ take v rest → faulty ≡ drop v rest → after ≡ drop n faulty
+      → once ≡ made ++ prefix → twice ≡ once ++ replacement → IsLeftToRead all twice after
+  read_part all made {prefix} {faulty} {after} {once} {twice} left a b d o t later r =
+      let prefix_first : IsLossyReading rest (f.first.before ++ (replacement ++ later)) =
+      replaced f.first (subst (λ x. IsLossyReading x later) (d ∙ ap (drop n) b ∙ after_is) r) in
       let made_is : twice ++ later ≡ made ++ (f.first.before ++ (replacement ++ later)) =
-      ap (λ x. x ++ later) (t ∙ ap (λ x. x ++ replacement) (o ∙ ap (λ x. made ++ x) (a ∙ front_is)))
+      ap (λ x. x ++ later) (t ∙ ap (λ x. x ++ replacement) (o ∙ ap (λ x. made ++ x) (a ∙ prefix_is)))
       ∙ append_assoc (made ++ f.first.before) replacement later
       ∙ append_assoc made f.first.before (replacement ++ later) in
-      subst (IsLossyReading all) (sym made_is) (left (f.first.before ++ (replacement ++ later)) front_first)
+      subst (IsLossyReading all) (sym made_is) (left (f.first.before ++ (replacement ++ later)) prefix_first)
 
 -- if the rest is WTF-8, everything is read
 pub read_end : (all made : List ℕ) {rest once : List ℕ} → IsLeftToRead all made rest → IsWtf8 rest → once ≡ made ++ rest → IsLossyReading all once

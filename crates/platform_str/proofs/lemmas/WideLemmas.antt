@@ -19,7 +19,7 @@ ok_units {b} {items} w a = by a.items a.are_items a.are
     by code_points (Whole r) e =
         let all : items ≡ map Ok (units r.code_points) = e ∙ units_whole r.code_points code_points r.are in
         let values : ok_values items ≡ units r.code_points = ap ok_values all ∙ ok_values_of_oks (units r.code_points) in
-        record { all_ok = all ∙ ap (λ l. map Ok l) (sym values); has = record { code_points = r.code_points; spelled = r.spelled; are = values } }
+        record { all_ok = all ∙ ap (λ l. map Ok l) (sym values); has = record { code_points = r.code_points; encoded = r.encoded; are = values } }
     by code_points (Faulty r l) e = absurd (never_both b w.0 r.code_points r.fault w.1 r.first)
 
 -- a list that has no fault doesn't begin with one

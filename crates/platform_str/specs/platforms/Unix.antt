@@ -7,12 +7,12 @@ use Rattle.std.proofs.lemmas.List.{take_at, drop_at}
 use Rattle.std.proofs.lemmas.List.Elements.{All-append, All-take, All-drop, All-from_recursion, recursion_from_All}
 use Rattle.std.proofs.lemmas.Str.{utf8_lossy-IsUtf8}
 use Rattle.wtf8_core.specs.Byte.{IsByte}
-use Rattle.wtf8_core.specs.StandingLaws.{StandingLaws}
+use Rattle.wtf8_core.specs.OccurrenceLaws.{OccurrenceLaws}
 use Rattle.wtf8_core.specs.Utf8.{IsIllFormedPart}
 use Rattle.wtf8_core.specs.declared.fault.EncodingError.{EncodingError}
-use Rattle.wtf8_core.proofs.lemmas.characters.AtPlaces.{none_begins}
-use Rattle.wtf8_core.proofs.lemmas.chunks.PartUnits.{bare_bytes}
-use Rattle.wtf8_core.proofs.lemmas.texts.AreWtf8.{text_bytes, lossy_front, lossy_text, lossy_is_utf8, part_first}
+use Rattle.wtf8_core.proofs.lemmas.characters.AtIndices.{none_begins}
+use Rattle.wtf8_core.proofs.lemmas.chunks.PartUnits.{uncovered_bytes}
+use Rattle.wtf8_core.proofs.lemmas.texts.AreWtf8.{text_bytes, lossy_prefix, lossy_text, lossy_is_utf8, part_first}
 use Rattle.platform_str.specs.Laws.{PlatformLaws, PartLaws, ReadingLaws}
 use Rattle.platform_str.specs.PlatformWords.{itself, wide_bytes}
 
@@ -36,30 +36,30 @@ pub unix_laws : PlatformLaws IsNoFault (All IsByte) itself (All IsByte) (All IsB
 unix_laws = record {
   faulty = λ b f k h. k;
   one_fault = λ b f g k l. absurd k;
-  one_spelling = λ b c h k e. e;
-  some_spelling = λ us h. (us, (h, refl));
+  one_encoding = λ b c h k e. e;
+  some_encoding = λ us h. (us, (h, refl));
   unit_list = λ b h. h;
   text = text_bytes;
   text_io_safe = text_bytes;
   io_safe_string = λ b h. h;
-  behind_text = λ b n h u. All-drop (λ x. x < 256) n b h;
+  after_text = λ b n h u. All-drop (λ x. x < 256) n b h;
   three = λ b c n h k r. absurd (k h);
-  cut_front = λ b i h k. All-take (λ x. x < 256) i b h;
-  cut_back = λ b i h k. All-drop (λ x. x < 256) i b h;
+  cut_prefix = λ b i h k. All-take (λ x. x < 256) i b h;
+  cut_suffix = λ b i h k. All-drop (λ x. x < 256) i b h;
   cut_lead = λ b i lt h n. All-drop (λ x. x < 256) i b h;
   cut_units = λ b i h k. sym (take-append-drop i b);
   lossy_utf8 = λ b h. lossy_is_utf8 b _ (lossy_text b);
   lossy_text = utf8_lossy-IsUtf8;
-  lossy_front = λ b n h v. lossy_front b n v;
+  lossy_prefix = λ b n h v. lossy_prefix b n v;
   lossy_step = λ b n h s k r.
       let p = part_first b n s (none_begins b k) r in
-      record { some = p.some; within = p.within; behind = All-drop (λ x. x < 256) n b h; lossy_is = p.lossy };
+      record { some = p.some; within = p.within; after = All-drop (λ x. x < 256) n b h; lossy_is = p.lossy };
 }
 
 pub unix_parts : PartLaws (All IsByte) itself AreAboveAscii
 unix_parts = record {
-  spelled = λ b h k. (bare_bytes b (recursion_from_All IsByte b h) k).0;
-  are_units = λ b h k. All-from_recursion (λ u. 0x80 ≤ u) b (bare_bytes b (recursion_from_All IsByte b h) k).1;
+  encoded = λ b h k. (uncovered_bytes b (recursion_from_All IsByte b h) k).0;
+  are_units = λ b h k. All-from_recursion (λ u. 0x80 ≤ u) b (uncovered_bytes b (recursion_from_All IsByte b h) k).1;
   are_wide = λ b h k. wide_bytes b h;
 }
 
@@ -72,20 +72,20 @@ unix_readings = record {
 }
 
 -- the parts of a list of bytes are lists of bytes
-bytes_front : (x y : List ℕ) → All IsByte (x ++ y) → All IsByte x
-bytes_front x y h = subst (All IsByte) (take_at x y (length x) refl) (All-take (λ b. b < 256) (length x) (x ++ y) h)
+bytes_prefix : (x y : List ℕ) → All IsByte (x ++ y) → All IsByte x
+bytes_prefix x y h = subst (All IsByte) (take_at x y (length x) refl) (All-take (λ b. b < 256) (length x) (x ++ y) h)
 
-bytes_back : (x y : List ℕ) → All IsByte (x ++ y) → All IsByte y
-bytes_back x y h = subst (All IsByte) (drop_at x y (length x) refl) (All-drop (λ b. b < 256) (length x) (x ++ y) h)
+bytes_suffix : (x y : List ℕ) → All IsByte (x ++ y) → All IsByte y
+bytes_suffix x y h = subst (All IsByte) (drop_at x y (length x) refl) (All-drop (λ b. b < 256) (length x) (x ++ y) h)
 
-pub unix_standing : StandingLaws (All IsByte) itself
-unix_standing = record {
+pub unix_occurrence : OccurrenceLaws (All IsByte) itself
+unix_occurrence = record {
   texts = text_bytes;
   once = λ v w a b e. e;
-  fronts = λ x y a b. (bytes_back x y b, refl);
-  ends = λ x y a b. bytes_front x y b;
-  before_text = λ p x y t h w. bytes_front x (p ++ y) w;
-  units_stand = λ p s us vs t h w e. record { front = us; back = vs; joined = e; formed = bytes_front us _ (subst (All IsByte) e w); units_are = refl };
+  prefixes = λ x y a b. (bytes_suffix x y b, refl);
+  ends = λ x y a b. bytes_prefix x y b;
+  before_text = λ p x y t h w. bytes_prefix x (p ++ y) w;
+  units_occur = λ p s us vs t h w e. record { prefix = us; suffix = vs; joined = e; formed = bytes_prefix us _ (subst (All IsByte) e w); units_are = refl };
   some_join = λ x y a b. (x ++ y, (All-append (λ b. b < 256) x y a b, refl));
-  some_rest = λ x s us a b e. (us, (bytes_back x us (subst (All IsByte) e b), refl));
+  some_rest = λ x s us a b e. (us, (bytes_suffix x us (subst (All IsByte) e b), refl));
 }

@@ -11,13 +11,13 @@ use Rattle.wtf8_core.specs.Covered.{StartsWithNoCharacter, HasNoCharacter}
 use Rattle.wtf8_core.specs.Lossy.{IsLossyText}
 use Rattle.wtf8_core.specs.Lossy.IsLossyText.{text as kept_text}
 use Rattle.wtf8_core.specs.PartUnits.{unit_bytes}
-use Rattle.wtf8_core.specs.StandingLaws.{StandingLaws}
+use Rattle.wtf8_core.specs.OccurrenceLaws.{OccurrenceLaws}
 use Rattle.wtf8_core.specs.Utf8.{IsUtf8Fault}
 use Rattle.wtf8_core.specs.declared.fault.EncodingError.{EncodingError}
 use Rattle.wtf8_core.specs.declared.fault.EncodingError.TheVariants.{Byte, CodePoint, End, Utf8}
-use Rattle.wtf8_core.proofs.lemmas.characters.AtPlaces.{none_begins}
-use Rattle.wtf8_core.proofs.lemmas.forms.Cuts.{utf8_cut, utf8_behind}
-use Rattle.wtf8_core.proofs.lemmas.standing.Boundaries.{edges_of_text}
+use Rattle.wtf8_core.proofs.lemmas.characters.AtIndices.{none_begins}
+use Rattle.wtf8_core.proofs.lemmas.forms.Cuts.{utf8_cut, utf8_after}
+use Rattle.wtf8_core.proofs.lemmas.occurrence.Boundaries.{edges_of_text}
 use Rattle.wtf8_core.proofs.lemmas.texts.AreWtf8.{text_bytes, lossy_is_utf8, lossy_text, no_text_begins}
 use Rattle.wtf8_core.proofs.lemmas.texts.LossyTexts.{no_text, one_utf8_fault, lossy_text_is}
 use Rattle.platform_str.specs.Laws.{PlatformLaws, PartLaws, ReadingLaws}
@@ -46,8 +46,8 @@ faulty b (Utf8 n l) p u = no_text b n p.valid u
 faulty b f p u = p
 
 -- a text that isn't empty starts with a whole character
-pub never_bare : (b : List ℕ) → IsUtf8 b → 0 < length b → StartsWithNoCharacter b → ⊥
-never_bare b u s k =
+pub never_uncovered : (b : List ℕ) → IsUtf8 b → 0 < length b → StartsWithNoCharacter b → ⊥
+never_uncovered b u s k =
     let e = take-length b in
     no_text_begins b (length b) (none_begins b k) (subst IsUtf8 (sym e) u) (subst (λ x. 0 < length x) (sym e) s)
 
@@ -55,31 +55,31 @@ pub wasm_laws : PlatformLaws IsTextFault IsUtf8 itself IsUtf8 IsUtf8 itself IsTh
 wasm_laws = record {
   faulty = faulty;
   one_fault = one_fault;
-  one_spelling = λ b c h k e. e;
-  some_spelling = λ us h. (us, (h, refl));
+  one_encoding = λ b c h k e. e;
+  some_encoding = λ us h. (us, (h, refl));
   unit_list = λ b h. h;
   text = λ b h. h;
   text_io_safe = λ b h. h;
   io_safe_string = λ b h. h;
-  behind_text = utf8_behind;
+  after_text = utf8_after;
   three = λ b c n h k r. r;
-  cut_front = λ b i h k. (utf8_cut b i h k).0;
-  cut_back = λ b i h k. (utf8_cut b i h k).1;
+  cut_prefix = λ b i h k. (utf8_cut b i h k).0;
+  cut_suffix = λ b i h k. (utf8_cut b i h k).1;
   cut_lead = λ b i lt h n. IsUtf8-drop b i h (omega (arith, lt), λ l high. ⊎_elim (λ low. absurd (n (high, omega (arith, low)))) (λ ge. ge) (cases_lt (get_or b i 0) 0xC0));
   cut_units = λ b i h k. sym (take-append-drop i b);
   lossy_utf8 = λ b h. h;
   lossy_text = λ b h. refl;
-  lossy_front = λ b n h v. sym (take-append-drop n b);
-  lossy_step = λ b n h s k r. absurd (never_bare b h s k);
+  lossy_prefix = λ b n h v. sym (take-append-drop n b);
+  lossy_step = λ b n h s k r. absurd (never_uncovered b h s k);
 }
 
 -- a text that contains no whole character is empty
 none_in_text : (b : List ℕ) → IsUtf8 b → HasNoCharacter b → b ≡ []
 none_in_text [] u k = refl
-none_in_text (x ∷ b) u k = absurd (never_bare (x ∷ b) u (omega arith) (k 0))
+none_in_text (x ∷ b) u k = absurd (never_uncovered (x ∷ b) u (omega arith) (k 0))
 
 pub wasm_parts : PartLaws IsUtf8 itself AreNone
-wasm_parts = record { spelled = λ b h k. let e = none_in_text b h k in subst (λ x. x ≡ flat_map unit_bytes x) (sym e) refl; are_units = none_in_text; are_wide = λ b h k. wide_bytes b (text_bytes b h) }
+wasm_parts = record { encoded = λ b h k. let e = none_in_text b h k in subst (λ x. x ≡ flat_map unit_bytes x) (sym e) refl; are_units = none_in_text; are_wide = λ b h k. wide_bytes b (text_bytes b h) }
 
 -- the lossy text is the reading
 pub wasm_readings : ReadingLaws IsUtf8 IsLossyText
@@ -91,28 +91,28 @@ wasm_readings = record {
 }
 
 -- what follows a text at the start of a text is a text
-text_back : (x y : List ℕ) → IsUtf8 x → IsUtf8 (x ++ y) → IsUtf8 y
-text_back x y t u = subst IsUtf8 (drop_at x y (length x) refl) (utf8_behind (x ++ y) (length x) u (subst IsUtf8 (sym (take_at x y (length x) refl)) t))
+text_suffix : (x y : List ℕ) → IsUtf8 x → IsUtf8 (x ++ y) → IsUtf8 y
+text_suffix x y t u = subst IsUtf8 (drop_at x y (length x) refl) (utf8_after (x ++ y) (length x) u (subst IsUtf8 (sym (take_at x y (length x) refl)) t))
 
 -- and so is what comes before a text at the end, and before any text that isn't empty
-text_front : (x y : List ℕ) → IsUtf8 y → IsUtf8 (x ++ y) → IsUtf8 x
-text_front x y t u =
+text_prefix : (x y : List ℕ) → IsUtf8 y → IsUtf8 (x ++ y) → IsUtf8 x
+text_prefix x y t u =
     let d : IsUtf8 (drop (length x) (x ++ y)) = subst IsUtf8 (sym (drop_at x y (length x) refl)) t in
     subst IsUtf8 (take_at x y (length x) refl) (IsUtf8-take (x ++ y) (length x) u (IsCharBoundary-from_drop (x ++ y) (length x) (omega (arith, length-append x y)) d))
 
 text_before : (p x y : List ℕ) → IsUtf8 p → 0 < length p → IsUtf8 (x ++ (p ++ y)) → IsUtf8 x
 text_before p x y t h u =
-    let b = (edges_of_text p (x ++ (p ++ y)) (length x) t h (record { before = x; behind = y; joined = refl; place = refl })).0 in
+    let b = (edges_of_text p (x ++ (p ++ y)) (length x) t h (record { before = x; after = y; joined = refl; index = refl })).0 in
     subst IsUtf8 (take_at x (p ++ y) (length x) refl) (utf8_cut (x ++ (p ++ y)) (length x) u b).0
 
-pub wasm_standing : StandingLaws IsUtf8 itself
-wasm_standing = record {
+pub wasm_occurrence : OccurrenceLaws IsUtf8 itself
+wasm_occurrence = record {
   texts = λ p t. t;
   once = λ v w a b e. e;
-  fronts = λ x y a b. (text_back x y a b, refl);
-  ends = text_front;
+  prefixes = λ x y a b. (text_suffix x y a b, refl);
+  ends = text_prefix;
   before_text = text_before;
-  units_stand = λ p s us vs t h w e. record { front = us; back = vs; joined = e; formed = text_before p us vs t h (subst IsUtf8 e w); units_are = refl };
+  units_occur = λ p s us vs t h w e. record { prefix = us; suffix = vs; joined = e; formed = text_before p us vs t h (subst IsUtf8 e w); units_are = refl };
   some_join = λ x y a b. (x ++ y, (IsUtf8-append x y a b, refl));
-  some_rest = λ x s us a b e. (us, (text_back x us a (subst IsUtf8 e b), refl));
+  some_rest = λ x s us a b e. (us, (text_suffix x us a (subst IsUtf8 e b), refl));
 }

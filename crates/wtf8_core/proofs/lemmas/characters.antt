@@ -1,4 +1,4 @@
-pub mod AtPlaces
+pub mod AtIndices
 pub mod FourBytes
 pub mod IllFormedParts
 pub mod Overlaps

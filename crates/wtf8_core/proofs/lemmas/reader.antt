@@ -1,6 +1,6 @@
 pub mod Complete
 pub mod Continuations
-pub mod FaultPlaces
+pub mod FaultIndices
 pub mod FirstErr
 pub mod Instances
 pub mod LossyReadings

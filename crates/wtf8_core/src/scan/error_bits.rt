@@ -1,9 +1,9 @@
 //! How many bytes of a window are allowed after those before them. A window is a block or a step
 //! with the [`BEFORE`](crate::scan::BEFORE) bytes before it.
 ghost use Rattle.std.specs.Prelude.{◌≡◌, ◌≢◌, ℕ, ◌+◌, ◌≤◌, ◌<◌, length, slice_index, bit_and, bit_or, bit_xor};
-ghost use Rattle.wtf8_core.specs.EncodedPrefix.{behind_zeros};
+ghost use Rattle.wtf8_core.specs.EncodedPrefix.{with_zeros_before};
 ghost use Rattle.wtf8_core.specs.PairBits.{error_bits, surrogate_pair_difference};
-ghost use Rattle.wtf8_core.specs.Neighbours.{AllMayStand};
+ghost use Rattle.wtf8_core.specs.Neighbours.{EachMayFollow};
 ghost use Rattle.wtf8_core.specs.declared.scan.Encoding.TheVariants.{Utf8, Wtf8};
 
 use crate::scan::lanes::{
@@ -43,10 +43,10 @@ fn error_bits_of_16(window: &[u8]) -> u8x16
 fn error_bits_of_first_16(bytes: &[u8]) -> u8x16
     requires { 16 ≤ length bytes.now }
     ensures { (i : ℕ) → i < 16 → slice_index result i
-        ≡ error_bits (slice_index (behind_zeros bytes.now) (1 + i))
-        (slice_index (behind_zeros bytes.now) (2 + i))
-        (slice_index (behind_zeros bytes.now) (3 + i))
-        (slice_index (behind_zeros bytes.now) (4 + i)) }
+        ≡ error_bits (slice_index (with_zeros_before bytes.now) (1 + i))
+        (slice_index (with_zeros_before bytes.now) (2 + i))
+        (slice_index (with_zeros_before bytes.now) (3 + i))
+        (slice_index (with_zeros_before bytes.now) (4 + i)) }
 {
     let zeros = u8x16::splat(0);
     let first = u8x16::from_slice(bytes);
@@ -94,10 +94,10 @@ fn surrogate_pair_difference(window: &[u8]) -> u8x64
 /// How many of the 64 bytes after the first four are allowed after those before them, up to the
 /// first that isn't; in UTF-8, up to the first that begins a surrogate, too.
 #[inline(always)]
-pub(crate) fn kept_len(window: &[u8], encoding: Encoding) -> usize
+pub(crate) fn allowed_in_block(window: &[u8], encoding: Encoding) -> usize
     requires { 68 ≤ length window.now }
     ensures within { result ≤ 64 }
-    ensures pattern { AllMayStand encoding result window.now }
+    ensures pattern { EachMayFollow encoding result window.now }
 {
     let wrong = error_bits(window);
     if are_zero(wrong) {
@@ -118,7 +118,7 @@ fn kept_with_surrogates(wrong: u8x64, window: &[u8]) -> usize
         ≡ error_bits (slice_index window.now (1 + i)) (slice_index window.now (2 + i))
         (slice_index window.now (3 + i)) (slice_index window.now (4 + i)) }
     ensures within { result ≤ 64 }
-    ensures pattern { AllMayStand Wtf8 result window.now }
+    ensures pattern { EachMayFollow Wtf8 result window.now }
 {
     leading_zero(masked(wrong, 0xBF)).min(leading_nonzero(surrogate_pair_difference(window)))
 }
@@ -126,10 +126,10 @@ fn kept_with_surrogates(wrong: u8x64, window: &[u8]) -> usize
 /// How many of the 16 bytes after the first four are allowed in UTF-8 after those before them, up
 /// to the first that isn't.
 #[inline(always)]
-pub(crate) fn kept_of_16(window: &[u8]) -> usize
+pub(crate) fn allowed_in_step(window: &[u8]) -> usize
     requires { 20 ≤ length window.now }
     ensures within { result ≤ 16 }
-    ensures pattern { AllMayStand Utf8 result window.now }
+    ensures pattern { EachMayFollow Utf8 result window.now }
 {
     leading_zero(error_bits_of_16(window)).min(STEP)
 }
@@ -137,10 +137,10 @@ pub(crate) fn kept_of_16(window: &[u8]) -> usize
 /// How many of the first 16 bytes are allowed in UTF-8 after those before them, up to the first that
 /// isn't.
 #[inline(always)]
-pub(crate) fn kept_of_first_16(bytes: &[u8]) -> usize
+pub(crate) fn allowed_in_first_step(bytes: &[u8]) -> usize
     requires { 16 ≤ length bytes.now }
     ensures within { result ≤ 16 }
-    ensures pattern { AllMayStand Utf8 result (behind_zeros bytes.now) }
+    ensures pattern { EachMayFollow Utf8 result (with_zeros_before bytes.now) }
 {
     leading_zero(error_bits_of_first_16(bytes)).min(STEP)
 }

@@ -103,22 +103,22 @@ pub(crate) fn above<const N: usize>(bytes: Simd<u8, N>, value: u8) -> Simd<u8, N
 
 /// The entries of a table, four copies of 16, at these indices.
 #[inline(always)]
-fn entries(table: [u8; 64], places: u8x64) -> u8x64
+fn entries(table: [u8; 64], indices: u8x64) -> u8x64
     requires copies { (i : ℕ) → i < 64 → (k : ℕ) → k < 16
         → slice_index table (i / 16 * 16 + k) ≡ slice_index table k }
-    requires places { (i : ℕ) → i < 64 → slice_index places i < 16 }
-    ensures { (i : ℕ) → i < 64 → slice_index result i ≡ slice_index table (slice_index places i) }
+    requires indices { (i : ℕ) → i < 64 → slice_index indices i < 16 }
+    ensures { (i : ℕ) → i < 64 → slice_index result i ≡ slice_index table (slice_index indices i) }
 {
-    u8x64::from_array(table).swizzle_dyn_within::<16>(places)
+    u8x64::from_array(table).swizzle_dyn_within::<16>(indices)
 }
 
 /// The same for 16 lanes, by one copy.
 #[inline(always)]
-fn entries_of_16(table: [u8; 64], places: u8x16) -> u8x16
-    requires places { (i : ℕ) → i < 16 → slice_index places i < 16 }
-    ensures { (i : ℕ) → i < 16 → slice_index result i ≡ slice_index table (slice_index places i) }
+fn entries_of_16(table: [u8; 64], indices: u8x16) -> u8x16
+    requires indices { (i : ℕ) → i < 16 → slice_index indices i < 16 }
+    ensures { (i : ℕ) → i < 16 → slice_index result i ≡ slice_index table (slice_index indices i) }
 {
-    u8x16::from_slice(&table).swizzle_dyn_within::<16>(places)
+    u8x16::from_slice(&table).swizzle_dyn_within::<16>(indices)
 }
 
 /// What is wrong with each second byte after its first.

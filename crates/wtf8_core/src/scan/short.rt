@@ -1,9 +1,9 @@
 //! Whether a few bytes are UTF-8: fewer than a step has with the bytes before it, by a copy of them.
 ghost use Rattle.std.specs.Prelude.{◌≡◌, ◌+◌, ◌≤◌, ◌<◌, ℕ, length, IsTrue, slice_index};
 ghost use Rattle.wtf8_core.specs.declared.scan.Encoding.TheVariants.{Utf8};
-ghost use Rattle.wtf8_core.specs.EncodedPrefix.{IsEncodedPrefix, behind_zeros};
+ghost use Rattle.wtf8_core.specs.EncodedPrefix.{IsEncodedPrefix, with_zeros_before};
 
-use crate::scan::error_bits::kept_of_16;
+use crate::scan::error_bits::allowed_in_step;
 use crate::scan::{BEFORE, HALF, STEP};
 
 /// Whether 4 to 31 bytes are found to be UTF-8, by a step, or two, of a copy with zeros before and
@@ -43,10 +43,10 @@ fn is_short_by_ends<const N: usize>(bytes: &[u8]) -> bool
 fn is_copy_kept(bytes: &[u8], window: &[u8]) -> bool
     requires long { length window.now ≡ 36 }
     requires copy { (i : ℕ) → i < 36
-        → slice_index window.now i ≡ slice_index (behind_zeros bytes.now) i }
+        → slice_index window.now i ≡ slice_index (with_zeros_before bytes.now) i }
     ensures { IsTrue result → IsEncodedPrefix Utf8 bytes.now (length bytes.now) }
 {
-    let kept = kept_of_16(window);
+    let kept = allowed_in_step(window);
     if kept > bytes.len() {
         return true;
     }
@@ -54,5 +54,5 @@ fn is_copy_kept(bytes: &[u8], window: &[u8]) -> bool
         return false;
     }
     let (_, second) = window.split_at(STEP);
-    STEP + kept_of_16(second) > bytes.len()
+    STEP + allowed_in_step(second) > bytes.len()
 }

@@ -1,7 +1,7 @@
 use Rattle.std.proofs.Common.{◌≡◌, Option, Some, None, sym, ◌∙◌, subst}
 use Rattle.platform_str.specs.PlatformWords.{itself}
 use Rattle.os_str_ext.specs.Symbols.{symbols_of}
-use Rattle.os_glob.specs.Items.{IsWellFormed, IsFirstFault}
+use Rattle.os_glob.specs.Items.{IsWellFormed, IsPatternFault}
 use Rattle.os_glob.specs.Match.{IsMatch}
 use Rattle.bench_exports.specs.Answers.{no_separators}
 use Rattle.bench_exports.proofs.lemmas.Counts.{alike, none}
@@ -18,5 +18,5 @@ returns-in-Ok c =
 
 pub returns-in-Err : goal.returns-in-Err
 returns-in-Err c =
-    let fault = subst (λ p. IsFirstFault p c.in-Err.field-0) c.text.ensures c.in-Err.ensures in
+    let fault = subst (λ p. IsPatternFault p c.in-Err.field-0) c.text.ensures c.in-Err.ensures in
     none _ (λ s m. let k : ◌≡◌ {A = Option _} (Some _) None = sym fault.first ∙ m.0 in cc) _

@@ -22,7 +22,7 @@ byte_written units left rest byte next done =
 pub bounds-out-written : goal.bounds-out-written
 bounds-out-written c =
     let filled = c.loop-byte.invariant in
-    let fits = byte_fits c.args.units.now c.loop-byte.out _ _ c.loop-byte.written _ (length c.args.out.now) c.requires.room c.in-Some.ensures.steps filled.within filled.front in
+    let fits = byte_fits c.args.units.now c.loop-byte.out _ _ c.loop-byte.written _ (length c.args.out.now) c.requires.room c.in-Some.ensures.steps filled.within filled.prefix in
     omega (arith, filled.same_length)
 
 pub loop-byte-preserved : goal.loop-byte-preserved

@@ -40,7 +40,7 @@ whole bytes left end done all =
 pub bounds-out-written : goal.bounds-out-written
 bounds-out-written c =
     let filled = c.loop-item.invariant in
-    let fits = unit_has_room c.args.bytes.now c.loop-item.out _ _ _ c.loop-item.written c.in-Some.ensures.steps filled.within filled.front in
+    let fits = unit_has_room c.args.bytes.now c.loop-item.out _ _ _ c.loop-item.written c.in-Some.ensures.steps filled.within filled.prefix in
     omega (arith, filled.same_length, c.requires.room)
 
 pub loop-item-preserved : goal.loop-item-preserved
@@ -50,7 +50,7 @@ loop-item-preserved c =
 
 pub returns-in-Err-clause-fault : goal.returns-in-Err-clause-fault
 returns-in-Err-clause-fault c most =
-    faulty c.args.bytes.now _ _ _ _ c.in-Err.field-0 c.in-Some.ensures.steps c.in-Err.is c.loop-item.invariant.front
+    faulty c.args.bytes.now _ _ _ _ c.in-Err.field-0 c.in-Some.ensures.steps c.in-Err.is c.loop-item.invariant.prefix
 
 pub returns-clause-units : goal.returns-clause-units
 returns-clause-units c less =

@@ -9,12 +9,12 @@ loop-last-init g c = at_start g.E.Platform _ _ _ _ _ c.requires.begun c.requires
 pub loop-last-preserved : goal.loop-last-preserved
 loop-last-preserved g c =
     let text = c.in-Ok.ensures.ok in
-    let cut = subst (λ x. IsCutAt x c.loop-last.rest.now c.in-Some.last.now c.in-Some.behind.now) c.end.ensures c.in-Some.ensures in
+    let cut = subst (λ x. IsCutAt x c.loop-last.rest.now c.in-Some.last.now c.in-Some.after.now) c.end.ensures c.in-Some.ensures in
     after_item g.E.Platform _ _ _ _ _ _ _ _ _ _ c.loop-last.invariant cut text.1 text.2 refl _ c.in-Ok.ensures.none
 
 pub returns-in-Err-clause-fault : goal.returns-in-Err-clause-fault
 returns-in-Err-clause-fault g c =
-    let cut = subst (λ x. IsCutAt x c.loop-last.rest.now c.in-Some.last.now c.in-Some.behind.now) c.end.ensures c.in-Some.ensures in
+    let cut = subst (λ x. IsCutAt x c.loop-last.rest.now c.in-Some.last.now c.in-Some.after.now) c.end.ensures c.in-Some.ensures in
     at_item g.E.Platform _ _ _ _ _ _ _ _ _ c.loop-last.invariant cut c.in-Err.ensures.fault c.in-Err.ensures.unchanged
 
 pub returns-in-Err-keep-clause-fault : goal.returns-in-Err-keep-clause-fault

@@ -5,7 +5,7 @@ use Rattle.os_glob.proofs.glob.ends_alike.Goals as goal
 
 pub returns : goal.returns
 returns g c = λ e. (
-  c.stand_apart_from.ensures c.if-not-stand_apart_from.false,
+  c.are_apart_from.ensures c.if-not-are_apart_from.false,
   λ more f.
       let t : IsTrue c.ends_with.result = c.ends_with.ensures.bytes.1 (end_bytes _ _ _ (c.symbols.ensures.joined _ c.rest.result.ok _ c.rest.ensures.symbols) (chars c.args.suffix.now) (encodes-chars c.args.suffix.now c.utf8.suffix) more f) in
       let k : true ≡ false = sym t ∙ e in cc,

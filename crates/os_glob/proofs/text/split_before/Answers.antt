@@ -19,15 +19,15 @@ returns-clause-joined c =
     let i = c.in-Some.at in
     let t = c.args.text.now in
     let h = subst (λ x. NoneBefore (IsStop c.args.one c.args.two c.args.three x) 0 (length x) i × IsStop c.args.one c.args.two c.args.three x i) c.as_bytes.ensures.value c.in-Some.ensures in
-    let front : c.range.result.now ≡ take i t = c.range.ensures.value ∙ ap (λ n. take n t) (sub-zero i) in
+    let prefix : c.range.result.now ≡ take i t = c.range.ensures.value ∙ ap (λ n. take n t) (sub-zero i) in
     cut_joined c.args.one c.args.two c.args.three c.requires.one c.requires.two c.requires.three t i c.utf8.text h
-    ∙ ap (λ x. chars x ++ chars (drop i t)) (sym front) ∙ ap (λ x. chars c.range.result.now ++ chars x) (sym c.range_from.ensures.value)
+    ∙ ap (λ x. chars x ++ chars (drop i t)) (sym prefix) ∙ ap (λ x. chars c.range.result.now ++ chars x) (sym c.range_from.ensures.value)
 
 pub returns-clause-none : goal.returns-clause-none
 returns-clause-none c =
     let i = c.in-Some.at in
     let t = c.args.text.now in
     let h = subst (λ x. NoneBefore (IsStop c.args.one c.args.two c.args.three x) 0 (length x) i × IsStop c.args.one c.args.two c.args.three x i) c.as_bytes.ensures.value c.in-Some.ensures in
-    let front : c.range.result.now ≡ take i t = c.range.ensures.value ∙ ap (λ n. take n t) (sub-zero i) in
-    subst (λ x. AllByRecursion (IsNone c.args.one c.args.two c.args.three) (chars x)) (sym front)
+    let prefix : c.range.result.now ≡ take i t = c.range.ensures.value ∙ ap (λ n. take n t) (sub-zero i) in
+    subst (λ x. AllByRecursion (IsNone c.args.one c.args.two c.args.three) (chars x)) (sym prefix)
     (none_before c.args.one c.args.two c.args.three c.requires.one c.requires.two c.requires.three t i c.utf8.text h)

@@ -6,4 +6,4 @@ pub from_encoded_bytes_unchecked-requires : goal.from_encoded_bytes_unchecked-re
 from_encoded_bytes_unchecked-requires g c =
     let laws = g.met.E.Platform.laws in
     let formed = g.E.Platform.well_formed in
-    extension_formed formed (cuts formed laws.cut_front laws.cut_back) c.as_encoded_bytes.result.now c.in-Some.ensures.0 c.in-Some.extension.now c.in-Some.ensures.1 c.as_encoded_bytes.ensures.formed
+    extension_formed formed (cuts formed laws.cut_prefix laws.cut_suffix) c.as_encoded_bytes.result.now c.in-Some.ensures.0 c.in-Some.extension.now c.in-Some.ensures.1 c.as_encoded_bytes.ensures.formed

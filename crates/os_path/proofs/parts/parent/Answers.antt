@@ -5,4 +5,4 @@ pub from_encoded_bytes_unchecked-requires : goal.from_encoded_bytes_unchecked-re
 from_encoded_bytes_unchecked-requires g c =
     let laws = g.met.E.Platform.laws in
     let parent = c.in-Some.ensures in
-    before_formed g.E.Platform.well_formed laws.cut_front laws.cut_back c.as_encoded_bytes.result.now c.in-Some.parent.now parent.after parent.joined parent.cut c.as_encoded_bytes.ensures.formed
+    before_formed g.E.Platform.well_formed laws.cut_prefix laws.cut_suffix c.as_encoded_bytes.result.now c.in-Some.parent.now parent.after parent.joined parent.cut c.as_encoded_bytes.ensures.formed

@@ -6,4 +6,4 @@ pub from_encoded_bytes_unchecked-requires : goal.from_encoded_bytes_unchecked-re
 from_encoded_bytes_unchecked-requires g c =
     let laws = g.met.E.Platform.laws in
     let formed = g.E.Platform.well_formed in
-    stem_formed formed (cuts formed laws.cut_front laws.cut_back) c.as_encoded_bytes.result.now c.stem.result.now c.stem.ensures c.as_encoded_bytes.ensures.formed
+    stem_formed formed (cuts formed laws.cut_prefix laws.cut_suffix) c.as_encoded_bytes.result.now c.stem.result.now c.stem.ensures c.as_encoded_bytes.ensures.formed

@@ -12,9 +12,9 @@ returns-clause-one_escape g c = one_escape is_any g.E.Platform.units
 pub returns-clause-utf8 : goal.returns-clause-utf8
 returns-clause-utf8 g c =
     let laws = g.met.E.Platform.laws in
-    escape_is_text is_any g.E.Platform.well_formed g.E.Platform.units g.E.Platform.part_units g.met.E.Platform.parts (are_chunks_of g.E.Platform.well_formed laws.cut_front laws.cut_back)
+    escape_is_text is_any g.E.Platform.well_formed g.E.Platform.units g.E.Platform.part_units g.met.E.Platform.parts (are_chunks_of g.E.Platform.well_formed laws.cut_prefix laws.cut_suffix)
 
 pub returns-clause-one_string : goal.returns-clause-one_string
 returns-clause-one_string g c =
     let laws = g.met.E.Platform.laws in
-    one_string is_any g.E.Platform.well_formed g.E.Platform.units g.E.Platform.part_units g.met.E.Platform.parts (are_chunks_of g.E.Platform.well_formed laws.cut_front laws.cut_back)
+    one_string is_any g.E.Platform.well_formed g.E.Platform.units g.E.Platform.part_units g.met.E.Platform.parts (are_chunks_of g.E.Platform.well_formed laws.cut_prefix laws.cut_suffix)

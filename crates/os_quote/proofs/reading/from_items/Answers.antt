@@ -21,5 +21,5 @@ returns-else-is_unescaped-clause-fault g c =
     let all : length new ≡ vec.len = omega (arith, read.2.same_length, c.as_mut_slice.ensures.len) in
     let same : c.deref.result.now ≡ read.0 = c.deref.ensures.value ∙ c.truncate.ensures.items ∙ ap (take count) (take_at new (drop (length new) vec.items) vec.len all) ∙ read_fits shows read.0 c.as_mut_slice.result.now c.read.new.buffer count read.2 fits in
     let no : ¬ (false ≡ true) = λ e. cc in
-    no_escape shows P.well_formed P.units P.part_units g.met.E.Platform.parts (are_chunks_of P.well_formed laws.cut_front laws.cut_back) text read.0 items
+    no_escape shows P.well_formed P.units P.part_units g.met.E.Platform.parts (are_chunks_of P.well_formed laws.cut_prefix laws.cut_suffix) text read.0 items
     (λ w e. no (sym c.if-is_unescaped.false ∙ c.is_unescaped.ensures.1 (subst (λ x. P.well_formed c.deref.result.now × IsEscapeBy shows P.units c.deref.result.now x) (sym c.as_bytes-2.ensures.value) (subst (λ x. P.well_formed x × IsEscapeBy shows P.units x text) (sym same) (w, e)))))

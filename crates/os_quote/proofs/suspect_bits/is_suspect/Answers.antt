@@ -1,5 +1,5 @@
 use Rattle.os_quote.proofs.Common.{not, eqb, sym, ap, ◌∙◌}
-use Rattle.os_quote.specs.Standing.{is_suspect}
+use Rattle.os_quote.specs.Hidden.{is_suspect}
 use Rattle.os_quote.proofs.lemmas.SuspectLanes.{none_by_lead, pair_of, suspect_of}
 use Rattle.os_quote.proofs.suspect_bits.is_suspect.Goals as goal
 

@@ -6,6 +6,6 @@ pub returns : goal.returns
 returns c =
     let bytes = c.args.bytes.now in
     let i = c.in-Some-memchr.at in
-    let behind = drop (i + 1) bytes in
-    let whole : take (length bytes - (i + 1)) behind ≡ behind = take_all (length bytes - (i + 1)) behind (omega (arith, length-drop (i + 1) bytes)) in
+    let following = drop (i + 1) bytes in
+    let whole : take (length bytes - (i + 1)) following ≡ following = take_all (length bytes - (i + 1)) following (omega (arith, length-drop (i + 1) bytes)) in
     subst (IsCutAtFirst bytes (take i bytes)) (sym whole) (first_backslash bytes i c.in-Some-memchr.ensures)

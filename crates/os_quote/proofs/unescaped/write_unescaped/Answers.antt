@@ -16,7 +16,7 @@ returns-in-None-clause-string g c =
     let text = c.args.text.now in
     let own = own_escape is_any P.well_formed P.units P.part_units g.met.E.Platform.parts text (laws.text [] IsUtf8-nil) c.utf8.text (own_text c.args.text.now c.utf8.text c.in-None.ensures) in
     let written = c.push_truncated.ensures.written [] c.args.buffer.now (none_yet c.args.buffer.now) in
-    own_unescaped is_any P.well_formed P.units P.part_units g.met.E.Platform.parts (are_chunks_of P.well_formed laws.cut_front laws.cut_back) text c.args.buffer.now c.push_truncated.new.buffer c.push_truncated.result (laws.text text c.utf8.text) own
+    own_unescaped is_any P.well_formed P.units P.part_units g.met.E.Platform.parts (are_chunks_of P.well_formed laws.cut_prefix laws.cut_suffix) text c.args.buffer.now c.push_truncated.new.buffer c.push_truncated.result (laws.text text c.utf8.text) own
     (subst (λ x. IsTruncated x c.args.buffer.now c.push_truncated.new.buffer c.push_truncated.result) c.as_bytes.ensures.value written)
 
 pub returns-in-Some-clause-string : goal.returns-in-Some-clause-string

@@ -14,7 +14,7 @@ returns-then-are_plain-clause-read g c =
     let plain = c.are_plain.ensures c.if-are_plain.true in
     let is_text = plain_is_text escape plain in
     let own = own_escape shows P.well_formed P.units P.part_units g.met.E.Platform.parts escape (laws.text [] IsUtf8-nil) is_text (plain_is_own c.args.form escape plain) in
-    own_unescaped shows P.well_formed P.units P.part_units g.met.E.Platform.parts (are_chunks_of P.well_formed laws.cut_front laws.cut_back) escape c.args.buffer.now c.push_truncated.new.buffer c.push_truncated.result (laws.text escape is_text) own
+    own_unescaped shows P.well_formed P.units P.part_units g.met.E.Platform.parts (are_chunks_of P.well_formed laws.cut_prefix laws.cut_suffix) escape c.args.buffer.now c.push_truncated.new.buffer c.push_truncated.result (laws.text escape is_text) own
     (c.push_truncated.ensures.written [] c.args.buffer.now (none_yet c.args.buffer.now))
 
 pub returns-then-are_plain-clause-utf8 : goal.returns-then-are_plain-clause-utf8

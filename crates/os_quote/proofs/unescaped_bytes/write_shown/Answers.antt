@@ -18,7 +18,7 @@ returns-in-Text-clause-read g c =
     let is_text = subst IsUtf8 c.in-Some.ensures (subst IsUtf8 c.as_bytes.ensures.value c.as_bytes.ensures.utf8) in
     let own = own_escape is_any P.well_formed P.units P.part_units g.met.E.Platform.parts escape (laws.text [] IsUtf8-nil) is_text (own_text escape is_text c.requires) in
     let written = c.push_truncated.ensures.written [] c.args.buffer.now (none_yet c.args.buffer.now) in
-    rw c.in-Text.is (own_unescaped is_any P.well_formed P.units P.part_units g.met.E.Platform.parts (are_chunks_of P.well_formed laws.cut_front laws.cut_back) escape c.args.buffer.now c.push_truncated.new.buffer c.push_truncated.result (laws.text escape is_text) own
+    rw c.in-Text.is (own_unescaped is_any P.well_formed P.units P.part_units g.met.E.Platform.parts (are_chunks_of P.well_formed laws.cut_prefix laws.cut_suffix) escape c.args.buffer.now c.push_truncated.new.buffer c.push_truncated.result (laws.text escape is_text) own
     (subst (λ x. IsTruncated x c.args.buffer.now c.push_truncated.new.buffer c.push_truncated.result) c.in-Some.ensures (subst (λ x. IsTruncated x c.args.buffer.now c.push_truncated.new.buffer c.push_truncated.result) c.as_bytes.ensures.value written)))
 
 pub returns-in-Line-clause-read : goal.returns-in-Line-clause-read

@@ -2,7 +2,7 @@ use Rattle.os_str_bytes.proofs.lemmas.Refusals.{only_fault}
 use Rattle.os_str_bytes.proofs.headline.ask.Goals as goal
 
 pub returns-clause-one_to_one : goal.returns-clause-one_to_one
-returns-clause-one_to_one g c = let laws = g.met.E.Platform.laws in record { listed = laws.unit_list; some = laws.some_spelling; once = laws.one_spelling }
+returns-clause-one_to_one g c = let laws = g.met.E.Platform.laws in record { listed = laws.unit_list; some = laws.some_encoding; once = laws.one_encoding }
 
 pub returns-clause-refused : goal.returns-clause-refused
 returns-clause-refused g c = let laws = g.met.E.Platform.laws in only_fault g.E.Platform.well_formed g.E.Platform.first_fault laws.faulty laws.one_fault _ _ c.cow_from_raw_bytes.ensures.cases

@@ -3,8 +3,8 @@ use Rattle.os_str_bytes.proofs.headline.cuts.Goals as goal
 pub returns : goal.returns
 returns g c = record {
   split_at = c.both_parts.ensures;
-  index = (c.indexed.ensures.front, c.indexed.ensures.back);
-  get_unchecked = (c.indexed_unchecked.ensures.front, c.indexed_unchecked.ensures.back);
+  index = (c.indexed.ensures.prefix, c.indexed.ensures.suffix);
+  get_unchecked = (c.indexed_unchecked.ensures.prefix, c.indexed_unchecked.ensures.suffix);
   split_off = c.split_copy.ensures;
   truncate = c.truncated_copy.ensures;
 }

@@ -1,5 +1,5 @@
 use Rattle.std.proofs.lemmas.Bool.{ltb-true}
-use Rattle.os_str_ext.proofs.lemmas.Places.{ascii_at}
+use Rattle.os_str_ext.proofs.lemmas.Indices.{ascii_at}
 use Rattle.os_str_ext.proofs.boundary.is_ascii_at.Goals as goal
 
 pub returns : goal.returns

@@ -1,5 +1,5 @@
 use Rattle.os_str_ext.proofs.Common.{arith, sym, ◌∙◌}
-use Rattle.os_str_ext.proofs.lemmas.Places.{boundary_by_end, end_by_boundary, none_from_test}
+use Rattle.os_str_ext.proofs.lemmas.Indices.{boundary_by_end, end_by_boundary, none_from_test}
 use Rattle.os_str_ext.proofs.boundary.is_boundary.Goals as goal
 
 pub returns : goal.returns

@@ -1,5 +1,5 @@
 use Rattle.os_str_ext.proofs.Common.{subst, sym, IsFirstChar}
-use Rattle.wtf8_core.proofs.lemmas.characters.AtPlaces.{none_in_none}
+use Rattle.wtf8_core.proofs.lemmas.characters.AtIndices.{none_in_none}
 use Rattle.os_str_ext.proofs.lemmas.FirstItem.{ascii_first}
 use Rattle.os_str_ext.proofs.characters.first_char_of_few.Goals as goal
 

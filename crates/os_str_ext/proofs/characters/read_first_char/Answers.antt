@@ -1,7 +1,7 @@
 use Rattle.os_str_ext.proofs.Common.{◌≡◌, ◌<◌, ◌∷◌, arith, drop, false, get_or, Ok, subst, AreItems}
 use Rattle.wtf8_core.specs.Reader.{first_item}
 use Rattle.os_str_ext.proofs.lemmas.FewBytes.{has_first}
-use Rattle.os_str_ext.proofs.lemmas.FirstItem.{bare_at_fault, char_read, read_first, some_item, surrogate_read}
+use Rattle.os_str_ext.proofs.lemmas.FirstItem.{uncovered_at_fault, char_read, read_first, some_item, surrogate_read}
 use Rattle.os_str_ext.proofs.characters.read_first_char.Goals as goal
 
 pub returns-in_err-character-in-Some-Ok : goal.returns-in_err-character-in-Some-Ok
@@ -26,7 +26,7 @@ returns-in_ok-character-in-Some-Ok c =
 pub returns-in-Some-Err : goal.returns-in-Some-Err
 returns-in-Some-Err c =
     let s = c.args.bytes.now in
-    bare_at_fault s _ _ (has_first s c.requires) _ _ (subst (λ x. AreItems s (x ∷ c.next.new.self)) c.in-Some-Err.field-0-is (subst (AreItems s) c.in-Some-Err.ensures.steps c.new.ensures))
+    uncovered_at_fault s _ _ (has_first s c.requires) _ _ (subst (λ x. AreItems s (x ∷ c.next.new.self)) c.in-Some-Err.field-0-is (subst (AreItems s) c.in-Some-Err.ensures.steps c.new.ensures))
 
 pub returns-in-None : goal.returns-in-None
 returns-in-None c = absurd (some_item c.args.bytes.now _ _ (has_first c.args.bytes.now c.requires) (subst (AreItems c.args.bytes.now) c.in-None.ensures.steps.0 c.new.ensures))

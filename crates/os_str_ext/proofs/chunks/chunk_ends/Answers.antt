@@ -1,5 +1,5 @@
 use Rattle.os_str_ext.proofs.Common.{arith}
-use Rattle.os_str_ext.proofs.lemmas.BareStart.{one_more, part_more, text_found, bare_after_text, text_to_end, all_bare}
+use Rattle.os_str_ext.proofs.lemmas.UncoveredStart.{one_more, part_more, text_found, uncovered_after_text, text_to_end, all_uncovered}
 use Rattle.os_str_ext.proofs.chunks.chunk_ends.Goals as goal
 
 pub loop-at-preserved-then-begins_no_character : goal.loop-at-preserved-then-begins_no_character
@@ -13,10 +13,10 @@ returns-then-valid_up_to-gt0-clause-ends g c =
     let e = c.part_len-len.ensures in
     text_found c.args.bytes.now c.loop-at.at c.loop-at.invariant _ c.split_at.ensures.back _ _ _ c.in-Some.ensures e.end e.within c.if-valid_up_to-gt0.true
 
-pub returns-then-valid_up_to-gt0-clause-bare : goal.returns-then-valid_up_to-gt0-clause-bare
-returns-then-valid_up_to-gt0-clause-bare g c =
+pub returns-then-valid_up_to-gt0-clause-uncovered : goal.returns-then-valid_up_to-gt0-clause-uncovered
+returns-then-valid_up_to-gt0-clause-uncovered g c =
     let e = c.part_len-len.ensures in
-    bare_after_text c.args.bytes.now c.loop-at.at c.loop-at.invariant _ c.split_at.ensures.back _ _ _ c.in-Some.ensures e.end e.within
+    uncovered_after_text c.args.bytes.now c.loop-at.at c.loop-at.invariant _ c.split_at.ensures.back _ _ _ c.in-Some.ensures e.end e.within
 
 pub loop-at-preserved : goal.loop-at-preserved
 loop-at-preserved g c =
@@ -24,4 +24,4 @@ loop-at-preserved g c =
     part_more c.args.bytes.now c.loop-at.at c.loop-at.invariant _ c.split_at.ensures.back _ _ _ c.in-Some.ensures e.end e.within (omega (arith, c.if-valid_up_to-gt0.false))
 
 pub returns-clause-ends : goal.returns-clause-ends
-returns-clause-ends g c = all_bare c.args.bytes.now c.loop-at.at c.loop-at.invariant c.loop-at-test.false
+returns-clause-ends g c = all_uncovered c.args.bytes.now c.loop-at.at c.loop-at.invariant c.loop-at-test.false

@@ -20,11 +20,11 @@ returns-then-bytes-at c =
     (λ far. let fits = o.fits in here.before k far (omega arith) (in_copy c.args.bytes.now c.args.copy.now c.args.needle.now c.requires.copy k o))
     (cases_lt k c.loop.from)
 
-pub returns-then-stands_at : goal.returns-then-stands_at
-returns-then-stands_at c =
+pub returns-then-occurs_at : goal.returns-then-occurs_at
+returns-then-occurs_at c =
     let here = c.in-Some.ensures c.args.needle.now c.requires.finder in
     let within = c.if-bytes-at.false in
-    (record { low = omega arith; high = omega arith; before = λ k low lt o. ⊎_elim (λ near. c.loop.invariant.1 k low near o) (λ far. here.before k far lt (in_copy c.args.bytes.now c.args.copy.now c.args.needle.now c.requires.copy k o)) (cases_lt k c.loop.from) }, c.if-stands_at.ensures.0 refl)
+    (record { low = omega arith; high = omega arith; before = λ k low lt o. ⊎_elim (λ near. c.loop.invariant.1 k low near o) (λ far. here.before k far lt (in_copy c.args.bytes.now c.args.copy.now c.args.needle.now c.requires.copy k o)) (cases_lt k c.loop.from) }, c.if-occurs_at.ensures.0 refl)
 
 pub loop-preserved : goal.loop-preserved
 loop-preserved c =
@@ -32,7 +32,7 @@ loop-preserved c =
     let within = c.if-bytes-at.false in (
       omega arith,
       λ k low lt o. ⊎_elim
-          (λ same. false≢true (c.if-stands_at.ensures.1 (subst (NeedleOccursAt c.args.bytes.now c.args.needle.now) same o)))
+          (λ same. false≢true (c.if-occurs_at.ensures.1 (subst (NeedleOccursAt c.args.bytes.now c.args.needle.now) same o)))
           (λ other. ⊎_elim (λ near. c.loop.invariant.1 k low near o) (λ far. here.before k far (omega arith) (in_copy c.args.bytes.now c.args.copy.now c.args.needle.now c.requires.copy k o)) (cases_lt k c.loop.from))
           (cases_eq k c.in-Some.at),
     )

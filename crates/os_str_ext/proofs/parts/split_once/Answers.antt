@@ -1,11 +1,11 @@
-use Rattle.os_str_ext.proofs.Common.{IsFirstPlace, bytes}
+use Rattle.os_str_ext.proofs.Common.{IsFirstIndex, bytes}
 use Rattle.os_str_ext.proofs.lemmas.Searches.{parts_around}
 use Rattle.os_str_ext.proofs.parts.split_once.Goals as goal
 
 pub returns-in_default : goal.returns-in_default
-returns-in_default g c = rw c.as_encoded_bytes.ensures.value at c.in_default.ensures.place
+returns-in_default g c = rw c.as_encoded_bytes.ensures.value at c.in_default.ensures.index
 
 pub returns : goal.returns
 returns g c =
-    let found = rw c.as_encoded_bytes.ensures.value at c.in-Some.ensures.place in
-    parts_around IsFirstPlace c.args.text.now (bytes c.args.string) _ _ c.in-Some.at found found.stands c.around.ensures.front c.around.ensures.back
+    let found = rw c.as_encoded_bytes.ensures.value at c.in-Some.ensures.index in
+    parts_around IsFirstIndex c.args.text.now (bytes c.args.string) _ _ c.in-Some.at found found.occurs c.around.ensures.prefix c.around.ensures.suffix

@@ -1,10 +1,10 @@
 use Rattle.os_str_ext.proofs.Common.{◌<◌, ◌≢◌, length, false-eqb, arith, bytes}
-use Rattle.os_str_ext.proofs.lemmas.Runs.{cut_behind_run}
+use Rattle.os_str_ext.proofs.lemmas.Runs.{cut_after_run}
 use Rattle.os_str_ext.proofs.parts.trim_start.Goals as goal
 
 pub split_at-requires : goal.split_at-requires
 split_at-requires g c =
     let other : length c.args.text.now ≢ 0 = false-eqb _ 0 c.if-is_empty.ensures in
     let some : 0 < length c.args.text.now = omega arith in
-    let trim = rw (c.as_encoded_bytes.ensures.value, c.as_bytes.ensures.value) at c.front_run-at.ensures.trim in
-    cut_behind_run (bytes c.args.string) c.args.text.now c.front_run-at.result (rw c.as_encoded_bytes.ensures.value at c.front_run-at.ensures.within) c.boundaries.ensures.edges c.utf8.text some trim.count trim.trimmed
+    let trim = rw (c.as_encoded_bytes.ensures.value, c.as_bytes.ensures.value) at c.start_run-at.ensures.trim in
+    cut_after_run (bytes c.args.string) c.args.text.now c.start_run-at.result (rw c.as_encoded_bytes.ensures.value at c.start_run-at.ensures.within) c.boundaries.ensures.edges c.utf8.text some trim.count trim.trimmed

@@ -1,12 +1,12 @@
-use Rattle.os_str_ext.proofs.lemmas.Searches.{least_place_of_needle, cut_around_least, below_least}
+use Rattle.os_str_ext.proofs.lemmas.Searches.{first_index_of_needle, cut_around_first, below_first}
 use Rattle.os_str_ext.proofs.Common.{◌^◌, arith}
 use Rattle.os_str_ext.proofs.search.find.Goals as goal
 
-pub returns-clause-place : goal.returns-clause-place
-returns-clause-place c = least_place_of_needle _ _ _ (rw c.as_bytes.ensures.value at c.first_of.ensures)
+pub returns-clause-index : goal.returns-clause-index
+returns-clause-index c = first_index_of_needle _ _ _ (rw c.as_bytes.ensures.value at c.first_of.ensures)
 
 pub returns-clause-edges : goal.returns-clause-edges
-returns-clause-edges c = cut_around_least _ _ c.boundaries.ensures.edges c.utf8.text _ (returns-clause-place c)
+returns-clause-edges c = cut_around_first _ _ c.boundaries.ensures.edges c.utf8.text _ (returns-clause-index c)
 
-pub returns-clause-behind : goal.returns-clause-behind
-returns-clause-behind c = below_least (2 ^ 64) _ _ _ (omega arith) (returns-clause-place c)
+pub returns-clause-after : goal.returns-clause-after
+returns-clause-after c = below_first (2 ^ 64) _ _ _ (omega arith) (returns-clause-index c)

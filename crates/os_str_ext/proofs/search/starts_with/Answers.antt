@@ -1,7 +1,7 @@
 use Rattle.os_str_ext.proofs.Common.{sym, ◌∙◌}
-use Rattle.os_str_ext.proofs.lemmas.Comparing.{front_from_take}
-use Rattle.os_str_ext.proofs.lemmas.Searches.{cut_behind_front}
+use Rattle.os_str_ext.proofs.lemmas.Comparing.{prefix_from_take}
+use Rattle.os_str_ext.proofs.lemmas.Searches.{cut_after_prefix}
 use Rattle.os_str_ext.proofs.search.starts_with.Goals as goal
 
 pub returns-clause-edge : goal.returns-clause-edge
-returns-clause-edge c = λ e. cut_behind_front c.boundaries.ensures.edges _ _ c.utf8.text (front_from_take _ _ (sym c.split_at.ensures.front ∙ c.are_same.ensures.0 e ∙ c.as_bytes.ensures.value))
+returns-clause-edge c = λ e. cut_after_prefix c.boundaries.ensures.edges _ _ c.utf8.text (prefix_from_take _ _ (sym c.split_at.ensures.front ∙ c.are_same.ensures.0 e ∙ c.as_bytes.ensures.value))

@@ -10,4 +10,4 @@ returns-clause-once g c = symbols_once g.E.Platform.units
 pub returns-clause-joined : goal.returns-clause-joined
 returns-clause-joined g c =
     let laws = g.met.E.Platform.laws in
-    symbols_joined g.E.Platform.units g.E.Platform.well_formed g.met.E.Platform.parts.spelled laws.cut_front laws.cut_back
+    symbols_joined g.E.Platform.units g.E.Platform.well_formed g.met.E.Platform.parts.encoded laws.cut_prefix laws.cut_suffix

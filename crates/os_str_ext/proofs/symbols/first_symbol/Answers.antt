@@ -1,15 +1,15 @@
 use Rattle.os_str_ext.proofs.Common.{no_units, bytes}
 use Rattle.std.proofs.Common.{rules}
-use Rattle.os_str_ext.proofs.lemmas.SymbolSteps.{known_behind_character, no_symbols, symbols_by_character}
+use Rattle.os_str_ext.proofs.lemmas.SymbolSteps.{known_after_character, no_symbols, symbols_by_character}
 use Rattle.os_str_ext.proofs.symbols.first_symbol.Goals as goal
 
 pub invariant_of-result : goal.invariant_of-result
-invariant_of-result g c = known_behind_character (bytes c.args.string) (bytes c.in-Some.rest) c.in-Some.character (search rules) c.in-Some.ensures.bytes c.args.part c.requires
+invariant_of-result g c = known_after_character (bytes c.args.string) (bytes c.in-Some.rest) c.in-Some.character (search rules) c.in-Some.ensures.bytes c.args.part c.requires
 
 pub returns-in-Some : goal.returns-in-Some
 returns-in-Some g c =
     let units = g.E.Platform.units in
-    symbols_by_character (bytes c.args.string) (bytes c.in-Some.rest) c.in-Some.character (search rules) c.in-Some.ensures.bytes units (no_units g.E.Platform.well_formed units g.met.E.Platform.standing)
+    symbols_by_character (bytes c.args.string) (bytes c.in-Some.rest) c.in-Some.character (search rules) c.in-Some.ensures.bytes units (no_units g.E.Platform.well_formed units g.met.E.Platform.occurrence)
 
 pub returns-then-is_empty : goal.returns-then-is_empty
 returns-then-is_empty g c = no_symbols g.E.Platform.units _ (c.is_empty.ensures.0 c.if-is_empty.true)

@@ -10,8 +10,8 @@ returns-then-digits-eq0-clause-written t c done old h =
 
 pub returns-clause-written : goal.returns-clause-written
 returns-clause-written t c done old h =
-    let front = c.push_hex-at.ensures.written done old h in
-    let all = c.push_truncated.ensures.written _ old front in
+    let prefix = c.push_hex-at.ensures.written done old h in
+    let all = c.push_truncated.ensures.written _ old prefix in
     let digit = c.upper_hex_digit.ensures.value in
     let more = upper_hex_more c.args.digits c.args.value (omega (arith, c.if-digits-eq0.false)) in
     let first = upper_hex (c.args.digits - 1) (c.args.value / 16) in

@@ -5,21 +5,21 @@ use Rattle.osbytes_c.specs.Steps.{IsFirstOf, StartsWithNoSymbol}
 use Rattle.osbytes_c.proofs.lemmas.Symbols.{byte_first, surrogate_first, unstring_of_wasm, no_symbol_of_wasm}
 use Rattle.osbytes_c.proofs.symbols.first_symbol.Goals as goal
 
-pub first_surrogate-requires-clause-bare : goal.first_surrogate-requires-clause-bare
-first_surrogate-requires-clause-bare c = subst StartsWithNoCharacter c.unix.ensures c.in_default.ensures.bytes
+pub first_surrogate-requires-clause-uncovered : goal.first_surrogate-requires-clause-uncovered
+first_surrogate-requires-clause-uncovered c = subst StartsWithNoCharacter c.unix.ensures c.in_default.ensures.bytes
 
 pub returns-then-platform-eq0-clause-first : goal.returns-then-platform-eq0-clause-first
 returns-then-platform-eq0-clause-first c = λ w.
     let s = c.args.bytes.now in
-    let bare = subst StartsWithNoCharacter c.unix.ensures c.in_default.ensures.bytes in
-    subst (λ p. IsFirstOf p s (record { kind = 2; value = c.from.result; end = 1 })) (sym c.if-platform-eq0.true) (byte_first s _ c.requires.some bare (refl, c.from.ensures) refl)
+    let uncovered = subst StartsWithNoCharacter c.unix.ensures c.in_default.ensures.bytes in
+    subst (λ p. IsFirstOf p s (record { kind = 2; value = c.from.result; end = 1 })) (sym c.if-platform-eq0.true) (byte_first s _ c.requires.some uncovered (refl, c.from.ensures) refl)
 
 pub returns-then-platform-eq1-clause-first : goal.returns-then-platform-eq1-clause-first
 returns-then-platform-eq1-clause-first c = λ w.
     let s = c.args.bytes.now in
-    let bare = subst StartsWithNoCharacter c.unix.ensures c.in_default.ensures.bytes in
+    let uncovered = subst StartsWithNoCharacter c.unix.ensures c.in_default.ensures.bytes in
     let e = c.if-platform-eq1.true in
-    subst (λ p. IsFirstOf p s (record { kind = 2; value = c.in-Some-first_surrogate.unit; end = 3 })) (sym e) (surrogate_first s c.in-Some-first_surrogate.unit _ c.requires.some bare c.in-Some-first_surrogate.ensures.unit (refl, refl) refl (subst (λ p. IsString p s) e w))
+    subst (λ p. IsFirstOf p s (record { kind = 2; value = c.in-Some-first_surrogate.unit; end = 3 })) (sym e) (surrogate_first s c.in-Some-first_surrogate.unit _ c.requires.some uncovered c.in-Some-first_surrogate.ensures.unit (refl, refl) refl (subst (λ p. IsString p s) e w))
 
 pub returns-clause-first : goal.returns-clause-first
 returns-clause-first c =
@@ -29,8 +29,8 @@ returns-clause-first c =
 pub returns-in_default-first_surrogate-clause-none : goal.returns-in_default-first_surrogate-clause-none
 returns-in_default-first_surrogate-clause-none c =
     let s = c.args.bytes.now in
-    let bare = subst StartsWithNoCharacter c.unix.ensures c.in_default.ensures.bytes in
-    subst (λ p. StartsWithNoSymbol p s) (sym c.if-platform-eq1.true) (bare, c.in_default-first_surrogate.ensures.none)
+    let uncovered = subst StartsWithNoCharacter c.unix.ensures c.in_default.ensures.bytes in
+    subst (λ p. StartsWithNoSymbol p s) (sym c.if-platform-eq1.true) (uncovered, c.in_default-first_surrogate.ensures.none)
 
 pub returns-clause-none : goal.returns-clause-none
 returns-clause-none c =

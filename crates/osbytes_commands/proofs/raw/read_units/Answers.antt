@@ -1,6 +1,6 @@
 use Rattle.std.proofs.Common.{◌≡◌, ◌++◌, ◌∷◌, [], rules, All, map, ap, sym, subst, arith}
 use Rattle.osbytes_commands.specs.Lines.{IsUnit, unit_lines}
-use Rattle.osbytes_commands.proofs.lemmas.UnitLines.{one_more_line, one_more_unit, shorter_behind}
+use Rattle.osbytes_commands.proofs.lemmas.UnitLines.{one_more_line, one_more_unit, shorter_after}
 use Rattle.osbytes_commands.proofs.raw.read_units.Goals as goal
 
 pub loop-rest-init : goal.loop-rest-init
@@ -12,7 +12,7 @@ loop-rest-init g c =
     }
 
 pub loop-rest-smaller : goal.loop-rest-smaller
-loop-rest-smaller g c = shorter_behind g.E.Target.os (g.E.Target.number c.in-Some.unit) _ _ (search rules)
+loop-rest-smaller g c = shorter_after g.E.Target.os (g.E.Target.number c.in-Some.unit) _ _ (search rules)
 
 pub loop-rest-preserved : goal.loop-rest-preserved
 loop-rest-preserved g c =

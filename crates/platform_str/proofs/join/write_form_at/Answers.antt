@@ -9,5 +9,5 @@ pub returns : goal.returns
 returns g c =
     let new = c.write_form.new.bytes in
     let size : length new ≡ c.args.bytes.now.len = search rules in
-    let w = pair_written new c.as_mut_slice.result.now c.args.at c.write_form.result c.args.c c.write_form.ensures.written c.write_form.ensures.behind c.write_form.ensures.end c.requires.past in
+    let w = pair_written new c.as_mut_slice.result.now c.args.at c.write_form.result c.args.c c.write_form.ensures.written c.write_form.ensures.after c.write_form.ensures.end c.requires.past in
     with_items_is c.args.bytes.now new size ∙ subst (λ o. new ≡ take c.args.at o ++ (encode c.args.c ++ drop (c.args.at + 4) o)) c.as_mut_slice.ensures.value w

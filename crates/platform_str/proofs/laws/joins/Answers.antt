@@ -1,9 +1,9 @@
 use Rattle.platform_str.proofs.Common.{◌≡◌, List, ℕ, ◌++◌, sym, ap, ◌∙◌, append_assoc, IsJoin}
-use Rattle.wtf8_core.specs.Standing.{IsPrefix}
-use Rattle.wtf8_core.specs.StandingLaws.{StandingLaws}
+use Rattle.wtf8_core.specs.Occurrence.{IsPrefix}
+use Rattle.wtf8_core.specs.OccurrenceLaws.{OccurrenceLaws}
 use Rattle.platform_str.proofs.laws.joins.Goals as goal
 
-module _ (wf : List ℕ → Type 0) (units : List ℕ → List ℕ) (laws : StandingLaws wf units) where
+module _ (wf : List ℕ → Type 0) (units : List ℕ → List ℕ) (laws : OccurrenceLaws wf units) where
   one : (a b v w : List ℕ) → IsJoin wf units a b v → IsJoin wf units a b w → v ≡ w
   one a b v w j k = laws.once v w j.0 k.0 (j.1 ∙ sym k.1)
 
@@ -15,20 +15,20 @@ module _ (wf : List ℕ → Type 0) (units : List ℕ → List ℕ) (laws : Stan
   abbrev IsSomeJoin : List ℕ → List ℕ → Type 0
   IsSomeJoin p s = (q : List ℕ) × (wf q × IsJoin wf units p q s)
 
-  fronts : (p s : List ℕ) → wf p → wf s → (IsPrefix (units p) (units s) → IsSomeJoin p s) × (IsSomeJoin p s → IsPrefix (units p) (units s))
-  fronts p s v w = (
+  prefixes : (p s : List ℕ) → wf p → wf s → (IsPrefix (units p) (units s) → IsSomeJoin p s) × (IsSomeJoin p s → IsPrefix (units p) (units s))
+  prefixes p s v w = (
     λ f. let r = laws.some_rest p s f.rest v w f.joined in (r.0, (r.1.0, (w, f.joined ∙ ap (λ z. units p ++ z) (sym r.1.1)))),
     λ j. record { rest = units j.0; joined = j.1.1.1 },
   )
 
 pub returns-clause-some : goal.returns-clause-some
-returns-clause-some g c = g.met.E.Platform.standing.some_join
+returns-clause-some g c = g.met.E.Platform.occurrence.some_join
 
 pub returns-clause-one : goal.returns-clause-one
-returns-clause-one g c = one g.E.Platform.well_formed g.E.Platform.units g.met.E.Platform.standing
+returns-clause-one g c = one g.E.Platform.well_formed g.E.Platform.units g.met.E.Platform.occurrence
 
 pub returns-clause-associative : goal.returns-clause-associative
-returns-clause-associative g c = associative g.E.Platform.well_formed g.E.Platform.units g.met.E.Platform.standing
+returns-clause-associative g c = associative g.E.Platform.well_formed g.E.Platform.units g.met.E.Platform.occurrence
 
-pub returns-clause-fronts : goal.returns-clause-fronts
-returns-clause-fronts g c = fronts g.E.Platform.well_formed g.E.Platform.units g.met.E.Platform.standing
+pub returns-clause-prefixes : goal.returns-clause-prefixes
+returns-clause-prefixes g c = prefixes g.E.Platform.well_formed g.E.Platform.units g.met.E.Platform.occurrence

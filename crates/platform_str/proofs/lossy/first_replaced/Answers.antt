@@ -2,7 +2,7 @@ use Rattle.platform_str.proofs.Common.{arith}
 use Rattle.platform_str.proofs.lossy.first_replaced.Goals as goal
 
 pub returns-clause-cases : goal.returns-clause-cases
-returns-clause-cases g c = c.behind_fault.ensures
+returns-clause-cases g c = c.after_fault.ensures
 
 pub returns-clause-within : goal.returns-clause-within
 returns-clause-within g c = omega (arith, c.in_ok-valid.ensures.valid.short)

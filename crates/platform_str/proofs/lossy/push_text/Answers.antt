@@ -5,7 +5,7 @@ use Rattle.platform_str.proofs.lossy.push_text.Goals as goal
 pub loop-len-preserved : goal.loop-len-preserved
 loop-len-preserved g c =
     let first = c.in-Some.ensures.cases in
-    (first.rest_is, c.loop-len.invariant.1 ∙ one_more c.loop-len.text.items first ∙ ap (λ x. x ++ g.E.Platform.lossy c.in-Some.behind.now) (sym c.in_ok-push_replaced.ensures))
+    (first.rest_is, c.loop-len.invariant.1 ∙ one_more c.loop-len.text.items first ∙ ap (λ x. x ++ g.E.Platform.lossy c.in-Some.after.now) (sym c.in_ok-push_replaced.ensures))
 
 pub loop-len-init : goal.loop-len-init
 loop-len-init g c = (c.requires, refl)

@@ -1,5 +1,5 @@
 use Rattle.std.proofs.Common.{◌≡◌, ◌-◌, ◌^◌, of_calls, rules}
-use Rattle.test_allocator.proofs.TurnsLemmas.{no_turn, one_more_turn, ended_by_a_run, ended_behind_all}
+use Rattle.test_allocator.proofs.TurnsLemmas.{no_turn, one_more_turn, ended_by_a_run, ended_after_all}
 use Rattle.test_allocator.proofs.turns.for_each_refusal.Goals as goal
 
 pub loop-refused-init : goal.loop-refused-init
@@ -19,4 +19,4 @@ returns-in_err-test-clause-ended g c =
 pub returns-clause-ended : goal.returns-clause-ended
 returns-clause-ended g c =
     let all : c.loop-refused.refused ≡ 2 ^ 64 - 1 = search rules in
-    ended_behind_all _ _ c.loop-refused.refused _ _ all c.loop-refused.invariant.1
+    ended_after_all _ _ c.loop-refused.refused _ _ all c.loop-refused.invariant.1

@@ -16,4 +16,4 @@ returns c =
     let stays = c.fault_stays.ensures in
     let one = c.one_first_fault.ensures in
     again c.args.piece.now (c.args.piece.now ++ c.args.more.now) c.feed-first.result c.feed-second.result (λ f h. stays _ _ _ h) (λ f g x y. (one _ _ _ _ _ x.1 y.1).1)
-    (c.feed-first.ensures.answer [] c.new-checker.ensures) (c.feed-second.ensures.answer c.args.piece.now (c.feed-first.ensures.stands [] c.new-checker.ensures))
+    (c.feed-first.ensures.answer [] c.new-checker.ensures) (c.feed-second.ensures.answer c.args.piece.now (c.feed-first.ensures.describes [] c.new-checker.ensures))

@@ -11,5 +11,5 @@ returns-then-is_some g c =
 pub returns-else-is_some : goal.returns-else-is_some
 returns-else-is_some g c =
     let texts = c.cuts.ensures.texts _ _ c.requires.text c.requires.cut in
-    let front = subst IsUtf8 (sym c.split_at.ensures.front) texts.0 in
-    search (rules, front)
+    let prefix = subst IsUtf8 (sym c.split_at.ensures.front) texts.0 in
+    search (rules, prefix)

@@ -2,4 +2,4 @@ use Rattle.test_uses.proofs.OnePiece.{one_piece}
 use Rattle.test_uses.proofs.pieces.uncut.Goals as goal
 
 pub returns : goal.returns
-returns g c = one_piece _ _ (λ piece rest cut. c.requires.nowhere _ cut.found.stands) c.split.ensures.bytes
+returns g c = one_piece _ _ (λ piece rest cut. c.requires.nowhere _ cut.found.occurs) c.split.ensures.bytes

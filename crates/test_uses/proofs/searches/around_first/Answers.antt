@@ -1,6 +1,6 @@
-use Rattle.wtf8_core.specs.Standing.{IsFirstPlace}
+use Rattle.wtf8_core.specs.Occurrence.{IsFirstIndex}
 use Rattle.test_uses.proofs.Around.{parts_around}
 use Rattle.test_uses.proofs.searches.around_first.Goals as goal
 
 pub returns : goal.returns
-returns g c = parts_around IsFirstPlace _ _ _ _ c.in-Some.at c.in-Some.ensures.bytes c.in-Some.ensures.bytes.stands c.split_at-front.ensures.front c.split_at-back.ensures.back
+returns g c = parts_around IsFirstIndex _ _ _ _ c.in-Some.at c.in-Some.ensures.bytes c.in-Some.ensures.bytes.occurs c.split_at-prefix.ensures.front c.split_at-suffix.ensures.back

@@ -3,5 +3,5 @@ use Rattle.test_uses.proofs.units.equal_by_units.Goals as goal
 
 pub returns : goal.returns
 returns c =
-    let same = c.spelling.ensures.units_once _ _ _ c.requires.first c.requires.second in
+    let same = c.encoding.ensures.units_once _ _ _ c.requires.first c.requires.second in
     search (rules, same)

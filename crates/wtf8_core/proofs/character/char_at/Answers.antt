@@ -1,4 +1,4 @@
-use Rattle.wtf8_core.proofs.lemmas.characters.AtPlaces.{character_in_rest, none_past}
+use Rattle.wtf8_core.proofs.lemmas.characters.AtIndices.{character_in_rest, none_past}
 use Rattle.wtf8_core.proofs.character.char_at.Goals as goal
 
 pub returns-then-at-bytes : goal.returns-then-at-bytes

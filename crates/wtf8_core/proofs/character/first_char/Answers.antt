@@ -1,14 +1,14 @@
-use Rattle.wtf8_core.proofs.Common.{◌≡◌, ◌+◌, Some, subst, arith, WholeCharacter, IsUtf8Fault, IsAtFront}
-use Rattle.wtf8_core.proofs.lemmas.characters.AtPlaces.{none_at}
+use Rattle.wtf8_core.proofs.Common.{◌≡◌, ◌+◌, Some, subst, arith, WholeCharacter, IsUtf8Fault, BeginsWith}
+use Rattle.wtf8_core.proofs.lemmas.characters.AtIndices.{none_at}
 use Rattle.wtf8_core.proofs.lemmas.texts.StdFaults.{no_char}
 use Rattle.wtf8_core.proofs.character.first_char.Goals as goal
 
 pub returns-in-Some-Ok : goal.returns-in-Some-Ok
 returns-in-Some-Ok c =
     let e : c.in-Some-Ok.len ≡ 0 + c.in-Some-Ok.len = omega arith in
-    subst (WholeCharacter c.args.bytes.now 0) e (subst (IsAtFront c.args.bytes.now) c.in-Some-Ok.field-0-is c.in-Some-Ok.ensures)
+    subst (WholeCharacter c.args.bytes.now 0) e (subst (BeginsWith c.args.bytes.now) c.in-Some-Ok.field-0-is c.in-Some-Ok.ensures)
 
 pub returns-in-Some-Err : goal.returns-in-Some-Err
 returns-in-Some-Err c =
-    let w : IsUtf8Fault c.args.bytes.now 0 (Some c.in-Some-Err.field-0-0) = subst (IsAtFront c.args.bytes.now) c.in-Some-Err.field-0-is c.in-Some-Err.ensures in
+    let w : IsUtf8Fault c.args.bytes.now 0 (Some c.in-Some-Err.field-0-0) = subst (BeginsWith c.args.bytes.now) c.in-Some-Err.field-0-is c.in-Some-Err.ensures in
     none_at c.args.bytes.now 0 (no_char c.args.bytes.now 0 w.valid)

@@ -1,24 +1,24 @@
-use Rattle.wtf8_core.proofs.lemmas.units.PrefixTests.{never, stripped_end, not_stripped_end, end_tested}
-use Rattle.wtf8_core.proofs.lemmas.units.PrefixesAndSuffixes.{plain_end, end_plain, low_end, low_before}
+use Rattle.wtf8_core.proofs.lemmas.units.PrefixTests.{never, stripped_suffix, not_stripped_suffix, end_tested}
+use Rattle.wtf8_core.proofs.lemmas.units.PrefixesAndSuffixes.{plain_end, end_plain, low_suffix, low_before}
 use Rattle.wtf8_core.proofs.halves.ends_with.Goals as goal
 
 pub returns-in_default : goal.returns-in_default
 returns-in_default c =
-    let t = end_tested c.args.string.now c.args.end.now c.ends_with.result c.ends_with.ensures.value in
-    (λ h. end_plain c.args.string.now c.args.end.now c.requires.string c.requires.end (t.0 h), λ f. t.1 (plain_end c.args.string.now c.args.end.now c.requires.string c.requires.end c.in_default.ensures f))
+    let t = end_tested c.args.string.now c.args.suffix.now c.ends_with.result c.ends_with.ensures.value in
+    (λ h. end_plain c.args.string.now c.args.suffix.now c.requires.string c.requires.suffix (t.0 h), λ f. t.1 (plain_end c.args.string.now c.args.suffix.now c.requires.string c.requires.suffix c.in_default.ensures f))
 
 pub returns-in_default-strip_suffix : goal.returns-in_default-strip_suffix
 returns-in_default-strip_suffix c =
-    never _ (λ f. not_stripped_end c.args.string.now c.in-Some.behind.now c.in_default-strip_suffix.ensures.cases
-    (low_end c.args.string.now c.args.end.now c.in-Some.behind.now c.in-Some.low c.requires.string c.requires.end c.in-Some.ensures.0 c.in-Some.ensures.1 f))
+    never _ (λ f. not_stripped_suffix c.args.string.now c.in-Some.after.now c.in_default-strip_suffix.ensures.cases
+    (low_suffix c.args.string.now c.args.suffix.now c.in-Some.after.now c.in-Some.low c.requires.string c.requires.suffix c.in-Some.ensures.0 c.in-Some.ensures.1 f))
 
 pub ends_with_low-requires-clause-string : goal.ends_with_low-requires-clause-string
 ends_with_low-requires-clause-string c =
-    let e = stripped_end c.args.string.now c.in-Some.behind.now c.in-Some-strip_suffix.rest c.in-Some-strip_suffix.ensures.cases in
-    (low_before c.args.string.now c.args.end.now c.in-Some.behind.now c.in-Some-strip_suffix.rest.now c.in-Some.low c.requires.string c.requires.end c.in-Some.ensures.0 c.in-Some.ensures.1 e).formed
+    let e = stripped_suffix c.args.string.now c.in-Some.after.now c.in-Some-strip_suffix.rest c.in-Some-strip_suffix.ensures.cases in
+    (low_before c.args.string.now c.args.suffix.now c.in-Some.after.now c.in-Some-strip_suffix.rest.now c.in-Some.low c.requires.string c.requires.suffix c.in-Some.ensures.0 c.in-Some.ensures.1 e).formed
 
 pub returns : goal.returns
 returns c =
-    let e = stripped_end c.args.string.now c.in-Some.behind.now c.in-Some-strip_suffix.rest c.in-Some-strip_suffix.ensures.cases in
-    let w = low_before c.args.string.now c.args.end.now c.in-Some.behind.now c.in-Some-strip_suffix.rest.now c.in-Some.low c.requires.string c.requires.end c.in-Some.ensures.0 c.in-Some.ensures.1 e in
+    let e = stripped_suffix c.args.string.now c.in-Some.after.now c.in-Some-strip_suffix.rest c.in-Some-strip_suffix.ensures.cases in
+    let w = low_before c.args.string.now c.args.suffix.now c.in-Some.after.now c.in-Some-strip_suffix.rest.now c.in-Some.low c.requires.string c.requires.suffix c.in-Some.ensures.0 c.in-Some.ensures.1 e in
     (λ t. w.from (c.ends_with_low.ensures.0 t), λ f. c.ends_with_low.ensures.1 (w.to f))

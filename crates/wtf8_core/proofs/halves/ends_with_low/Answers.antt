@@ -1,6 +1,6 @@
 use Rattle.wtf8_core.proofs.Common.{eqb-true, eq-eqb}
 use Rattle.wtf8_core.proofs.lemmas.units.PrefixTests.{never}
-use Rattle.wtf8_core.proofs.lemmas.units.FirstAndLast.{one_last, surrogate_last, no_low_end}
+use Rattle.wtf8_core.proofs.lemmas.units.FirstAndLast.{one_last, surrogate_last, no_low_suffix}
 use Rattle.wtf8_core.proofs.halves.ends_with_low.Goals as goal
 
 pub returns-in-Some : goal.returns-in-Some
@@ -10,4 +10,4 @@ returns-in-Some c =
     (λ t. w.0 (eqb-true c.in-Some.c c.args.low t), λ f. eq-eqb c.in-Some.c c.args.low (w.1 f))
 
 pub returns-in-None : goal.returns-in-None
-returns-in-None c = never _ (no_low_end c.args.string.now c.args.low c.requires.string c.requires.low c.in_default.ensures c.in-None.ensures)
+returns-in-None c = never _ (no_low_suffix c.args.string.now c.args.low c.requires.string c.requires.low c.in_default.ensures c.in-None.ensures)

@@ -5,10 +5,10 @@ use Rattle.wtf8_core.proofs.lemmas.forms.Shapes.{form_past}
 use Rattle.wtf8_core.proofs.halves.last_half.Goals as goal
 
 pub returns-in_default : goal.returns-in_default
-returns-in_default c = λ front d h e. too_short c.args.string.now front _ 4 c.in_default.ensures.cases (inr (ap length (form_past d h))) e
+returns-in_default c = λ prefix d h e. too_short c.args.string.now prefix _ 4 c.in_default.ensures.cases (inr (ap length (form_past d h))) e
 
 pub returns-then-lead-lt240 : goal.returns-then-lead-lt240
-returns-then-lead-lt240 c = λ front d h e. no_past_form c.args.string.now c.in-Some.last.now front d c.in-Some.ensures.cases.1 h e c.if-lead-lt240.true
+returns-then-lead-lt240 c = λ prefix d h e. no_past_form c.args.string.now c.in-Some.last.now prefix d c.in-Some.ensures.cases.1 h e c.if-lead-lt240.true
 
 pub returns : goal.returns
 returns c =

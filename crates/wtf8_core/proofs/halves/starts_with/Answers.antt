@@ -1,24 +1,24 @@
-use Rattle.wtf8_core.proofs.lemmas.units.PrefixTests.{never, stripped_front, not_stripped_front, front_tested}
-use Rattle.wtf8_core.proofs.lemmas.units.PrefixesAndSuffixes.{plain_front, front_plain, high_front, high_next}
+use Rattle.wtf8_core.proofs.lemmas.units.PrefixTests.{never, stripped_prefix, not_stripped_prefix, prefix_tested}
+use Rattle.wtf8_core.proofs.lemmas.units.PrefixesAndSuffixes.{plain_prefix, prefix_plain, high_prefix, high_next}
 use Rattle.wtf8_core.proofs.halves.starts_with.Goals as goal
 
 pub returns-in_default : goal.returns-in_default
 returns-in_default c =
-    let t = front_tested c.args.string.now c.args.front.now c.starts_with.result c.starts_with.ensures.value in
-    (λ h. front_plain c.args.string.now c.args.front.now c.requires.string c.requires.front (t.0 h), λ f. t.1 (plain_front c.args.string.now c.args.front.now c.requires.string c.requires.front c.in_default.ensures f))
+    let t = prefix_tested c.args.string.now c.args.prefix.now c.starts_with.result c.starts_with.ensures.value in
+    (λ h. prefix_plain c.args.string.now c.args.prefix.now c.requires.string c.requires.prefix (t.0 h), λ f. t.1 (plain_prefix c.args.string.now c.args.prefix.now c.requires.string c.requires.prefix c.in_default.ensures f))
 
 pub returns-in_default-strip_prefix : goal.returns-in_default-strip_prefix
 returns-in_default-strip_prefix c =
-    never _ (λ f. not_stripped_front c.args.string.now c.in-Some.before.now c.in_default-strip_prefix.ensures.cases
-    (high_front c.args.string.now c.args.front.now c.in-Some.before.now c.in-Some.high c.requires.string c.requires.front c.in-Some.ensures.0 c.in-Some.ensures.1 f))
+    never _ (λ f. not_stripped_prefix c.args.string.now c.in-Some.before.now c.in_default-strip_prefix.ensures.cases
+    (high_prefix c.args.string.now c.args.prefix.now c.in-Some.before.now c.in-Some.high c.requires.string c.requires.prefix c.in-Some.ensures.0 c.in-Some.ensures.1 f))
 
 pub begins_with_unit-requires : goal.begins_with_unit-requires
 begins_with_unit-requires c =
-    let e = stripped_front c.args.string.now c.in-Some.before.now c.in-Some-strip_prefix.rest c.in-Some-strip_prefix.ensures.cases in
-    (high_next c.args.string.now c.args.front.now c.in-Some.before.now c.in-Some-strip_prefix.rest.now c.in-Some.high c.requires.string c.requires.front c.in-Some.ensures.0 c.in-Some.ensures.1 e).formed
+    let e = stripped_prefix c.args.string.now c.in-Some.before.now c.in-Some-strip_prefix.rest c.in-Some-strip_prefix.ensures.cases in
+    (high_next c.args.string.now c.args.prefix.now c.in-Some.before.now c.in-Some-strip_prefix.rest.now c.in-Some.high c.requires.string c.requires.prefix c.in-Some.ensures.0 c.in-Some.ensures.1 e).formed
 
 pub returns : goal.returns
 returns c =
-    let e = stripped_front c.args.string.now c.in-Some.before.now c.in-Some-strip_prefix.rest c.in-Some-strip_prefix.ensures.cases in
-    let w = high_next c.args.string.now c.args.front.now c.in-Some.before.now c.in-Some-strip_prefix.rest.now c.in-Some.high c.requires.string c.requires.front c.in-Some.ensures.0 c.in-Some.ensures.1 e in
+    let e = stripped_prefix c.args.string.now c.in-Some.before.now c.in-Some-strip_prefix.rest c.in-Some-strip_prefix.ensures.cases in
+    let w = high_next c.args.string.now c.args.prefix.now c.in-Some.before.now c.in-Some-strip_prefix.rest.now c.in-Some.high c.requires.string c.requires.prefix c.in-Some.ensures.0 c.in-Some.ensures.1 e in
     (λ t. w.from (c.begins_with_unit.ensures.0 t), λ f. c.begins_with_unit.ensures.1 (w.to f))

@@ -1,13 +1,13 @@
 use Rattle.wtf8_core.proofs.lemmas.forms.Cuts.{char_boundary, boundary_of_str}
-use Rattle.wtf8_core.proofs.lemmas.standing.Boundaries.{edges_of_text}
-use Rattle.wtf8_core.proofs.lemmas.characters.Overlaps.{boundary_in_front, boundary_in_rest}
+use Rattle.wtf8_core.proofs.lemmas.occurrence.Boundaries.{edges_of_text}
+use Rattle.wtf8_core.proofs.lemmas.characters.Overlaps.{boundary_in_prefix, boundary_in_rest}
 use Rattle.wtf8_core.proofs.laws.boundaries.Goals as goal
 
 pub returns-clause-edges : goal.returns-clause-edges
 returns-clause-edges c = edges_of_text
 
-pub returns-clause-in_front : goal.returns-clause-in_front
-returns-clause-in_front c = boundary_in_front
+pub returns-clause-in_prefix : goal.returns-clause-in_prefix
+returns-clause-in_prefix c = boundary_in_prefix
 
 pub returns-clause-in_rest : goal.returns-clause-in_rest
 returns-clause-in_rest c = boundary_in_rest

@@ -1,7 +1,7 @@
 -- The first four bytes, and the character or the ill-formed part with which they begin.
 use Rattle.wtf8_core.proofs.Common.{◌≡◌, ℕ, ◌+◌, ◌<◌, ◌≤◌, List, ◌∷◌, ◌++◌, length, get_or, Some, true, false, sym, ap, ◌∙◌, subst, arith, refl, drop, [], if◌then◌else◌, cond-true, cond-false, nat_tests, get_or_append_left, IsScalar, is_in_range, utf8_error_len, second_byte_min, second_byte_max, IsContinuation, encode, WholeCharacter, IsUtf8Fault}
-use Rattle.wtf8_core.proofs.lemmas.characters.AtPlaces.{whole_at}
-use Rattle.wtf8_core.proofs.lemmas.characters.Overlaps.{form_behind}
+use Rattle.wtf8_core.proofs.lemmas.characters.AtIndices.{whole_at}
+use Rattle.wtf8_core.proofs.lemmas.characters.Overlaps.{form_after}
 use Rattle.wtf8_core.proofs.lemmas.forms.Shapes.{form_bounds}
 use Rattle.wtf8_core.proofs.lemmas.forms.Ranges.{in_range, in_range-true, in_range-false, not_in_range}
 use Rattle.wtf8_core.proofs.lemmas.texts.AreWtf8.{valid_none}
@@ -62,8 +62,8 @@ module _ (r : List ℕ) (long : 4 ≤ length r) (high : 0x80 ≤ get_or r 0 0) w
       record {
         first = subst First (sym b_is) (lead_of c s past);
         second = subst (λ n. Second n (get_or r 1 0)) (sym b_is) (subst (Second (get_or (encode c) 0 0)) (sym (at 1 (two_or_more c past))) (second_of c s past));
-        third = λ h. let l = three_or_more c s (subst (λ n. 0xE0 ≤ n) b_is h) in subst IsContinuation (sym (at 2 l)) (form_behind c 2 (omega arith) l);
-        fourth = λ h. let l = four_or_more c s (subst (λ n. 0xF0 ≤ n) b_is h) in subst IsContinuation (sym (at 3 l)) (form_behind c 3 (omega arith) l);
+        third = λ h. let l = three_or_more c s (subst (λ n. 0xE0 ≤ n) b_is h) in subst IsContinuation (sym (at 2 l)) (form_after c 2 (omega arith) l);
+        fourth = λ h. let l = four_or_more c s (subst (λ n. 0xF0 ≤ n) b_is h) in subst IsContinuation (sym (at 3 l)) (form_after c 3 (omega arith) l);
       }
 
   -- what std says of them
@@ -84,10 +84,10 @@ module _ (r : List ℕ) (long : 4 ≤ length r) (high : 0x80 ≤ get_or r 0 0) w
 
     module _ (g : is_in_range (second_byte_min (get_or r 0 0)) (second_byte_max (get_or r 0 0)) (get_or r 1 0) ≡ true) where
       -- with as many continuations as the first one needs they are a character
-      with_continuations : (y z : ℕ) → IsContinuation y → IsContinuation z → (front rest : List ℕ) → front ≡ Filled (get_or r 0 0) (get_or r 1 0) y z → r ≡ front ++ rest → WholeCharacter r 0 (0 + length front)
-      with_continuations y z h k front rest e is =
+      with_continuations : (y z : ℕ) → IsContinuation y → IsContinuation z → (prefix rest : List ℕ) → prefix ≡ Filled (get_or r 0 0) (get_or r 1 0) y z → r ≡ prefix ++ rest → WholeCharacter r 0 (0 + length prefix)
+      with_continuations y z h k prefix rest e is =
           let w = filled (get_or r 0 0) (get_or r 1 0) y z (in_range-true 0xC2 0xF4 _ f) (in_range-true _ _ (get_or r 1 0) g) h k in
-          let form_is : encode w.0 ≡ front = w.2 ∙ sym e in
+          let form_is : encode w.0 ≡ prefix = w.2 ∙ sym e in
           subst (λ l. WholeCharacter r 0 (0 + length l)) form_is (whole_at r 0 w.0 rest (omega arith) w.1 (is ∙ ap (λ l. l ++ rest) (sym form_is)))
 
       pub two_long : get_or r 0 0 < 0xE0 → WholeCharacter r 0 2

@@ -1,20 +1,20 @@
 -- Whole characters don't overlap, so a boundary stays one in a part that ends or starts at a boundary.
 use Rattle.wtf8_core.proofs.Common.{◌≡◌, ◌⊎◌, inl, inr, ⊎_elim, ℕ, zero, suc, ◌+◌, ◌-◌, ◌<◌, ◌≤◌, List, ◌++◌, length, take, drop, get_or, sym, ap, ◌∙◌, subst, arith, length-drop, take-append-add, cases_lt, cases_eq, drop-drop, drop-take, length-take-le, get_or-drop, get_or_append_left, IsContinuation, encode, WholeCharacter, IsBoundary, All-from_recursion, All-get_or}
 use Rattle.wtf8_core.proofs.lemmas.forms.Shapes.{form_bounds, form_parts}
-use Rattle.wtf8_core.proofs.lemmas.characters.AtPlaces.{begins_at, whole_at, character_fits, same_end}
+use Rattle.wtf8_core.proofs.lemmas.characters.AtIndices.{begins_at, whole_at, character_fits, same_end}
 
 -- the bytes of a form after the first are continuations, and the first is none
-pub form_behind : (c m : ℕ) → 0 < m → m < length (encode c) → IsContinuation (get_or (encode c) m 0)
-form_behind c zero l h = absurd (omega arith)
-form_behind c (suc m) l h =
+pub form_after : (c m : ℕ) → 0 < m → m < length (encode c) → IsContinuation (get_or (encode c) m 0)
+form_after c zero l h = absurd (omega arith)
+form_after c (suc m) l h =
     let p = form_parts c in
-    let n : length (encode c) ≡ suc (length p.behind) = ap length p.is in
-    subst IsContinuation (sym (ap (λ x. get_or x (suc m) 0) p.is)) (All-get_or IsContinuation p.behind m 0 (omega arith) (All-from_recursion IsContinuation p.behind p.continued))
+    let n : length (encode c) ≡ suc (length p.after) = ap length p.is in
+    subst IsContinuation (sym (ap (λ x. get_or x (suc m) 0) p.is)) (All-get_or IsContinuation p.after m 0 (omega arith) (All-from_recursion IsContinuation p.after p.continued))
 
 -- the bytes of a whole character
 byte_of : (s : List ℕ) (i j m : ℕ) → (w : WholeCharacter s i j) → m < length (encode w.char) → get_or s (i + m) 0 ≡ get_or (encode w.char) m 0
 byte_of s i j m w h =
-    sym (get_or-drop i s m 0) ∙ ap (λ x. get_or x m 0) (begins_at s i j w) ∙ get_or_append_left (encode w.char) w.stands.behind 0 m h
+    sym (get_or-drop i s m 0) ∙ ap (λ x. get_or x m 0) (begins_at s i j w) ∙ get_or_append_left (encode w.char) w.occurs.after 0 m h
 
 -- those after the first are continuations
 pub continued : (s : List ℕ) (i j k : ℕ) → WholeCharacter s i j → i < k → k < j → IsContinuation (get_or s k 0)
@@ -23,7 +23,7 @@ continued s i j k w low high =
     let e = w.end in
     let b : get_or s (i + m) 0 ≡ get_or (encode w.char) m 0 = byte_of s i j m w (omega arith) in
     let z : i + m ≡ k = omega arith in
-    subst (λ n. IsContinuation (get_or s n 0)) z (subst IsContinuation (sym b) (form_behind w.char m (omega arith) (omega arith)))
+    subst (λ n. IsContinuation (get_or s n 0)) z (subst IsContinuation (sym b) (form_after w.char m (omega arith) (omega arith)))
 
 -- so none starts at a continuation
 pub no_start : (s : List ℕ) (i j : ℕ) → IsContinuation (get_or s i 0) → WholeCharacter s i j → ⊥
@@ -64,35 +64,35 @@ no_boundary_inside s i j k w b low high =
     b.is
 
 -- a whole character of a prefix that ends after it
-in_front : (s : List ℕ) (a b j : ℕ) → WholeCharacter s a b → b ≤ j → j ≤ length s → WholeCharacter (take j s) a b
-in_front s a b j w le fits =
+in_prefix : (s : List ℕ) (a b j : ℕ) → WholeCharacter s a b → b ≤ j → j ≤ length s → WholeCharacter (take j s) a b
+in_prefix s a b j w le fits =
     let e = w.end in
     let n = length (encode w.char) + (j - b) in
-    let d : drop a (take j s) ≡ encode w.char ++ take (j - b) w.stands.behind =
-    ap (λ m. drop a (take m s)) (let z : j ≡ a + n = omega arith in z) ∙ drop-take a n s ∙ ap (take n) (begins_at s a b w) ∙ take-append-add (encode w.char) w.stands.behind (j - b) in
-    subst (WholeCharacter (take j s) a) (sym e) (whole_at (take j s) a w.char (take (j - b) w.stands.behind) (omega (arith, length-take-le j s fits)) w.scalar d)
+    let d : drop a (take j s) ≡ encode w.char ++ take (j - b) w.occurs.after =
+    ap (λ m. drop a (take m s)) (let z : j ≡ a + n = omega arith in z) ∙ drop-take a n s ∙ ap (take n) (begins_at s a b w) ∙ take-append-add (encode w.char) w.occurs.after (j - b) in
+    subst (WholeCharacter (take j s) a) (sym e) (whole_at (take j s) a w.char (take (j - b) w.occurs.after) (omega (arith, length-take-le j s fits)) w.scalar d)
 
 -- the same for what follows an index
 pub in_rest : (s : List ℕ) (a b j : ℕ) → WholeCharacter s a b → j ≤ a → WholeCharacter (drop j s) (a - j) (b - j)
 in_rest s a b j w le =
     let e = w.end in
     let f = character_fits s a b w in
-    let d : drop (a - j) (drop j s) ≡ encode w.char ++ w.stands.behind = drop-drop (a - j) j s ∙ ap (λ n. drop n s) (let z : j + (a - j) ≡ a = omega arith in z) ∙ begins_at s a b w in
+    let d : drop (a - j) (drop j s) ≡ encode w.char ++ w.occurs.after = drop-drop (a - j) j s ∙ ap (λ n. drop n s) (let z : j + (a - j) ≡ a = omega arith in z) ∙ begins_at s a b w in
     let z : a - j + length (encode w.char) ≡ b - j = omega arith in
-    subst (WholeCharacter (drop j s) (a - j)) z (whole_at (drop j s) (a - j) w.char w.stands.behind (omega (arith, length-drop j s)) w.scalar d)
+    subst (WholeCharacter (drop j s) (a - j)) z (whole_at (drop j s) (a - j) w.char w.occurs.after (omega (arith, length-drop j s)) w.scalar d)
 
 -- a boundary is also one of a prefix that ends at a boundary
-pub boundary_in_front : (s : List ℕ) (i j : ℕ) → i ≤ j → IsBoundary s i → IsBoundary s j → IsBoundary (take j s) i
-boundary_in_front s i j le b c =
+pub boundary_in_prefix : (s : List ℕ) (i j : ℕ) → i ≤ j → IsBoundary s i → IsBoundary s j → IsBoundary (take j s) i
+boundary_in_prefix s i j le b c =
     let fits = boundary_within s j c in
     let size : length (take j s) ≡ j = length-take-le j s fits in
     record {
       is = ⊎_elim (λ e. inl e) (⊎_elim (λ e. inr (inl (omega arith))) (⊎_elim
           (λ h. ⊎_elim
           (λ e. inr (inl (omega arith)))
-          (λ ne. ⊎_elim (λ lt. absurd (no_boundary_inside s i h.0 j h.1 c (omega arith) lt)) (λ ge. inr (inr (inl (h.0, in_front s i h.0 j h.1 ge fits)))) (cases_lt j h.0))
+          (λ ne. ⊎_elim (λ lt. absurd (no_boundary_inside s i h.0 j h.1 c (omega arith) lt)) (λ ge. inr (inr (inl (h.0, in_prefix s i h.0 j h.1 ge fits)))) (cases_lt j h.0))
           (cases_eq i j))
-          (λ h. inr (inr (inr (h.0, in_front s h.0 i j h.1 le fits))))))
+          (λ h. inr (inr (inr (h.0, in_prefix s h.0 i j h.1 le fits))))))
           b.is;
     }
 

@@ -2,7 +2,7 @@
 use Rattle.wtf8_core.proofs.Common.{◌≡◌, ◌⊎◌, inl, inr, ⊎_elim, ℕ, zero, suc, ◌+◌, ◌-◌, ◌<◌, ◌≤◌, true, false, List, [], ◌∷◌, ◌++◌, length, drop, Result, Ok, Err, refl, sym, ap, ◌∙◌, subst, arith, length-append, append_assoc, and_parts, cases_lt, cases_eq, cases_Bool, drop-append_seam, scalar, IsScalar, AllByRecursion, flat_map, IsUtf8, all_scalars, IsByte, is_surrogate, encode, WholeCharacter, IsCovered, CrossesNoCharacter, first_item, EncodingError}
 use Rattle.wtf8_core.proofs.lemmas.forms.Shapes.{form_bounds, form_bytes}
 use Rattle.wtf8_core.proofs.lemmas.forms.ByStd.{forms_encode}
-use Rattle.wtf8_core.proofs.lemmas.characters.AtPlaces.{character_fits, same_end, whole_at, begins_at, none_at, none_begins, none_past, none_in_none, none_at_surrogate, none_at_fault, scalar_point, is_scalar}
+use Rattle.wtf8_core.proofs.lemmas.characters.AtIndices.{character_fits, same_end, whole_at, begins_at, none_at, none_begins, none_past, none_in_none, none_at_surrogate, none_at_fault, scalar_point, is_scalar}
 use Rattle.wtf8_core.proofs.lemmas.characters.Overlaps.{no_start_inside, in_rest}
 use Rattle.wtf8_core.proofs.lemmas.reader.Sound.{split_code_point}
 
@@ -11,8 +11,8 @@ abbrev pub Over : (ℕ → Type 0) → ℕ → List ℕ → Type 0
 Over P i xs = (k : ℕ) → i ≤ k → k < i + length xs → P k
 
 -- no byte of xs, or each, is in a whole character of s
-abbrev pub Bare : List ℕ → ℕ → List ℕ → Type 0
-Bare s i xs = Over (λ k. ¬ (IsCovered s k)) i xs
+abbrev pub Uncovered : List ℕ → ℕ → List ℕ → Type 0
+Uncovered s i xs = Over (λ k. ¬ (IsCovered s k)) i xs
 
 abbrev pub Covered : List ℕ → ℕ → List ℕ → Type 0
 Covered s i xs = Over (IsCovered s) i xs
@@ -40,9 +40,9 @@ seam_past s i j h w a b v low high =
     (λ ne. ⊎_elim (λ lt. h a b v lt (omega arith)) (λ ge. no_start_inside s i j a b w v (omega arith) low) (cases_lt a i))
     (cases_eq a i)
 
--- bytes from a seam on, at which no whole character starts, are bare, and end at a seam
-pub bare_run : (s : List ℕ) (i : ℕ) (xs : List ℕ) → CrossesNoCharacter s i → ((a b : ℕ) → i ≤ a → a < i + length xs → WholeCharacter s a b → ⊥) → Bare s i xs × CrossesNoCharacter s (i + length xs)
-bare_run s i xs h none = (
+-- bytes from a seam on, at which no whole character starts, are uncovered, and end at a seam
+pub uncovered_run : (s : List ℕ) (i : ℕ) (xs : List ℕ) → CrossesNoCharacter s i → ((a b : ℕ) → i ≤ a → a < i + length xs → WholeCharacter s a b → ⊥) → Uncovered s i xs × CrossesNoCharacter s (i + length xs)
+uncovered_run s i xs h none = (
   λ k low high c. let from = c.from in let below = c.below in ⊎_elim (λ lt. h c.start c.end c.whole lt (omega arith)) (λ ge. none c.start c.end ge (omega arith) c.whole) (cases_lt c.start i),
   λ a b w low high. ⊎_elim (λ lt. h a b w lt (omega arith)) (λ ge. none a b ge low w) (cases_lt a i),
 )
@@ -50,12 +50,12 @@ bare_run s i xs h none = (
 -- a whole character of a part of s is one of s
 pub whole_within : (s x m y : List ℕ) (a b : ℕ) → s ≡ x ++ (m ++ y) → WholeCharacter m a b → WholeCharacter s (length x + a) (length x + b)
 whole_within s x m y a b e w =
-    let p = w.stands.place in
+    let p = w.occurs.index in
     let q = w.end in
     record {
       char = w.char;
       scalar = w.scalar;
-      stands = record { before = x ++ w.stands.before; behind = w.stands.behind ++ y; joined = e ∙ ap (λ z. x ++ (z ++ y)) w.stands.joined ∙ simp append_assoc; place = omega (arith, length-append x w.stands.before) };
+      occurs = record { before = x ++ w.occurs.before; after = w.occurs.after ++ y; joined = e ∙ ap (λ z. x ++ (z ++ y)) w.occurs.joined ∙ simp append_assoc; index = omega (arith, length-append x w.occurs.before) };
       end = omega arith;
     }
 
@@ -66,8 +66,8 @@ covered_within s x m y k e c =
     record { start = length x + c.start; end = length x + c.end; whole = whole_within s x m y c.start c.end e c.whole; from = omega arith; below = omega arith }
 
 -- and after a seam the bytes of s that are in whole characters are so in the rest, too
-pub covered_behind : (s x r : List ℕ) (k : ℕ) → s ≡ x ++ r → CrossesNoCharacter s (length x) → length x ≤ k → IsCovered s k → IsCovered r (k - length x)
-covered_behind s x r k e h low c =
+pub covered_after : (s x r : List ℕ) (k : ℕ) → s ≡ x ++ r → CrossesNoCharacter s (length x) → length x ≤ k → IsCovered s k → IsCovered r (k - length x)
+covered_after s x r k e h low c =
     let from = c.from in
     let below = c.below in
     ⊎_elim
@@ -81,11 +81,11 @@ first_byte b bs [] rest h some e = absurd (omega arith)
 first_byte b bs (x ∷ xs) rest h some e = let q : x ≡ b = cc in subst IsByte q h.0
 
 -- a whole character starts at the start, or none does
-front_or_none : (s : List ℕ) → ((j : ℕ) × WholeCharacter s 0 j) ⊎ ((j : ℕ) → WholeCharacter s 0 j → ⊥)
-front_or_none [] = inr (none_in_none [] refl)
-front_or_none (b ∷ bs) =
+prefix_or_none : (s : List ℕ) → ((j : ℕ) × WholeCharacter s 0 j) ⊎ ((j : ℕ) → WholeCharacter s 0 j → ⊥)
+prefix_or_none [] = inr (none_in_none [] refl)
+prefix_or_none (b ∷ bs) =
     ⊎_elim (λ lt. by lt (first_item false b bs) refl)
-    (λ ge. inr (λ j w. let f = first_byte b bs (encode w.char) w.stands.behind (form_bytes w.char (scalar_point w.char w.scalar)) (form_bounds w.char).0 (begins_at (b ∷ bs) 0 j w) in omega arith))
+    (λ ge. inr (λ j w. let f = first_byte b bs (encode w.char) w.occurs.after (form_bytes w.char (scalar_point w.char w.scalar)) (form_bounds w.char).0 (begins_at (b ∷ bs) 0 j w) in omega arith))
     (cases_lt b 256)
   where
     by : b < 256 → (r : Result ℕ EncodingError) → first_item false b bs ≡ r → ((j : ℕ) × WholeCharacter (b ∷ bs) 0 j) ⊎ ((j : ℕ) → WholeCharacter (b ∷ bs) 0 j → ⊥)
@@ -100,12 +100,12 @@ start_or_none : (s : List ℕ) (i : ℕ) → ((j : ℕ) × WholeCharacter s i j)
 start_or_none s i =
     ⊎_elim
     (λ past. inr (none_past s i (omega arith)))
-    (λ le. ⊎_elim (λ h. let w = h.1 in inl (i + length (encode w.char), whole_at s i w.char w.stands.behind le w.scalar (begins_at (drop i s) 0 h.0 w))) (λ h. inr (none_at s i (none_begins (drop i s) h))) (front_or_none (drop i s)))
+    (λ le. ⊎_elim (λ h. let w = h.1 in inl (i + length (encode w.char), whole_at s i w.char w.occurs.after le w.scalar (begins_at (drop i s) 0 h.0 w))) (λ h. inr (none_at s i (none_begins (drop i s) h))) (prefix_or_none (drop i s)))
     (cases_lt (length s) i)
 
 -- a byte is in no whole character, or in one
-pub bare_or_covered : (s : List ℕ) (k : ℕ) → ¬ (IsCovered s k) ⊎ IsCovered s k
-bare_or_covered s k = ⊎_elim inr (λ h. inl (λ c. let f = character_fits s c.start c.end c.whole in let below = c.below in h c.start c.end c.whole c.from (omega arith) c.below)) (from_below 4)
+pub uncovered_or_covered : (s : List ℕ) (k : ℕ) → ¬ (IsCovered s k) ⊎ IsCovered s k
+uncovered_or_covered s k = ⊎_elim inr (λ h. inl (λ c. let f = character_fits s c.start c.end c.whole in let below = c.below in h c.start c.end c.whole c.from (omega arith) c.below)) (from_below 4)
   where
     -- one that starts less than n bytes before k covers it, or none does
     from_below : (n : ℕ) → IsCovered s k ⊎ ((a b : ℕ) → WholeCharacter s a b → a ≤ k → k < a + n → k < b → ⊥)
@@ -143,7 +143,7 @@ module _ (s : List ℕ) (P Q : ℕ → Type 0)
 -- the bytes of a scalar are in a whole character
 pub scalar_covered : (s x r : List ℕ) (i c : ℕ) → s ≡ x ++ (encode c ++ r) → length x ≡ i → IsScalar c → CrossesNoCharacter s i → Covered s i (encode c) × CrossesNoCharacter s (i + length (encode c))
 scalar_covered s x r i c e l h k =
-    let w : WholeCharacter s i (i + length (encode c)) = record { char = c; scalar = h; stands = record { before = x; behind = r; joined = e; place = l }; end = refl } in
+    let w : WholeCharacter s i (i + length (encode c)) = record { char = c; scalar = h; occurs = record { before = x; after = r; joined = e; index = l }; end = refl } in
     (λ j low high. record { start = i; end = i + length (encode c); whole = w; from = low; below = high }, seam_past s i (i + length (encode c)) k w)
 
 -- those of a text are in whole characters, and a text after a seam ends at one
@@ -156,8 +156,8 @@ text_covered s x t r e u k =
     let f : Forms u.0 ≡ t = forms_encode u.0 ∙ u.1.1 in
     subst (λ y. Covered s (length x) y × CrossesNoCharacter s (length x + length y)) f (forms_over s (IsCovered s) IsScalar (scalar_covered s) x r (length x) u.0 (e ∙ ap (λ y. x ++ (y ++ r)) (sym f)) refl (scalars_are u.0 u.1.0) k)
 
--- and bare bytes at the start end at a seam
-pub seam_behind_bare : (s p : List ℕ) → Bare s 0 p → CrossesNoCharacter s (length p)
-seam_behind_bare s p h a b w low high =
+-- and uncovered bytes at the start end at a seam
+pub seam_after_uncovered : (s p : List ℕ) → Uncovered s 0 p → CrossesNoCharacter s (length p)
+seam_after_uncovered s p h a b w low high =
     let f = character_fits s a b w in
     h a (omega arith) (omega arith) (record { start = a; end = b; whole = w; from = omega arith; below = omega arith })

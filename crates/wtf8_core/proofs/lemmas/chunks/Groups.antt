@@ -15,7 +15,7 @@ with_first f g = record { some = g.some; part = g.part; text = g.text; part_firs
 -- pairs that come one after the other from index i on
 abbrev pub AreGroups : (IsPart IsText : ℕ → List ℕ → Type 0) → ℕ → Type 0 → List Chunk → Type 0
 AreGroups IsPart IsText i First [] = Unit {0}
-AreGroups IsPart IsText i First (c ∷ behind) = IsGroup IsPart IsText i First c (behind ≡ []) × AreGroups IsPart IsText (i + length (c.0 ++ c.1)) ⊥ behind
+AreGroups IsPart IsText i First (c ∷ after) = IsGroup IsPart IsText i First c (after ≡ []) × AreGroups IsPart IsText (i + length (c.0 ++ c.1)) ⊥ after
 
 -- one more pair at the end
 joined-end : (before : List Chunk) (c : Chunk) → length (joined (before ++ c ∷ [])) ≡ length (joined before) + length (c.0 ++ c.1)
@@ -37,24 +37,24 @@ module _ (IsPart IsText : ℕ → List ℕ → Type 0) where
       never (b ∷ before) n = cc
 
   -- the pair after these
-  each_of : (i : ℕ) (First : Type 0) (cs before behind : List Chunk) (c : Chunk) → AreGroups IsPart IsText i First cs → cs ≡ before ++ c ∷ behind
-      → IsGroup IsPart IsText (i + length (joined before)) (First × (before ≡ [])) c (behind ≡ [])
-  each_of i First [] [] behind c g e = cc
-  each_of i First [] (b ∷ before) behind c g e = cc
-  each_of i First (x ∷ cs) [] behind c g e =
+  each_of : (i : ℕ) (First : Type 0) (cs before after : List Chunk) (c : Chunk) → AreGroups IsPart IsText i First cs → cs ≡ before ++ c ∷ after
+      → IsGroup IsPart IsText (i + length (joined before)) (First × (before ≡ [])) c (after ≡ [])
+  each_of i First [] [] after c g e = cc
+  each_of i First [] (b ∷ before) after c g e = cc
+  each_of i First (x ∷ cs) [] after c g e =
       let p : x ≡ c = cc in
-      let q : cs ≡ behind = cc in
+      let q : cs ≡ after = cc in
       let z : i ≡ i + 0 = omega arith in
-      with_first (λ _ f. (f, refl)) (subst (λ n. IsGroup IsPart IsText n First c (behind ≡ [])) z (subst (λ l. IsGroup IsPart IsText i First c (l ≡ [])) q (subst (λ y. IsGroup IsPart IsText i First y (cs ≡ [])) p g.0)))
-  each_of i First (x ∷ cs) (b ∷ before) behind c g e =
+      with_first (λ _ f. (f, refl)) (subst (λ n. IsGroup IsPart IsText n First c (after ≡ [])) z (subst (λ l. IsGroup IsPart IsText i First c (l ≡ [])) q (subst (λ y. IsGroup IsPart IsText i First y (cs ≡ [])) p g.0)))
+  each_of i First (x ∷ cs) (b ∷ before) after c g e =
       let p : x ≡ b = cc in
-      let q : cs ≡ before ++ c ∷ behind = cc in
+      let q : cs ≡ before ++ c ∷ after = cc in
       let z : i + length (x.0 ++ x.1) + length (joined before) ≡ i + length (joined (b ∷ before)) =
       ap (λ y. i + length (y.0 ++ y.1) + length (joined before)) p ∙ simp length-append (omega arith) in
-      with_first (λ _ f. absurd f.0) (subst (λ n. IsGroup IsPart IsText n (⊥ × (before ≡ [])) c (behind ≡ [])) z (each_of (i + length (x.0 ++ x.1)) ⊥ cs before behind c g.1 q))
+      with_first (λ _ f. absurd f.0) (subst (λ n. IsGroup IsPart IsText n (⊥ × (before ≡ [])) c (after ≡ [])) z (each_of (i + length (x.0 ++ x.1)) ⊥ cs before after c g.1 q))
 
-  pub each_from_groups : (cs before behind : List Chunk) (c : Chunk) → AreGroups IsPart IsText 0 (Unit {0}) cs → cs ≡ before ++ c ∷ behind → IsGroup IsPart IsText (length (joined before)) (before ≡ []) c (behind ≡ [])
-  each_from_groups cs before behind c g e = let z : 0 + length (joined before) ≡ length (joined before) = omega arith in subst (λ n. IsGroup IsPart IsText n (before ≡ []) c (behind ≡ [])) z (with_first (λ _ f. f.1) (each_of 0 (Unit {0}) cs before behind c g e))
+  pub each_from_groups : (cs before after : List Chunk) (c : Chunk) → AreGroups IsPart IsText 0 (Unit {0}) cs → cs ≡ before ++ c ∷ after → IsGroup IsPart IsText (length (joined before)) (before ≡ []) c (after ≡ [])
+  each_from_groups cs before after c g e = let z : 0 + length (joined before) ≡ length (joined before) = omega arith in subst (λ n. IsGroup IsPart IsText n (before ≡ []) c (after ≡ [])) z (with_first (λ _ f. f.1) (each_of 0 (Unit {0}) cs before after c g e))
 
   -- pairs of which the first has a part may come after others
   pub not_first : (i : ℕ) (First : Type 0) (c : Chunk) (cs : List Chunk) → (c.0 ≡ [] → ⊥) → AreGroups IsPart IsText i (Unit {0}) (c ∷ cs) → AreGroups IsPart IsText i First (c ∷ cs)
@@ -93,13 +93,13 @@ module _ (IsPart IsText : ℕ → List ℕ → Type 0) (OfPart OfText : ℕ → 
   with_text : (i x : ℕ) (xs : List ℕ) → OfText i x → Grouped (i + 1) xs → Grouped i (x ∷ xs)
   with_text i x xs h g = by g.0 g.1 g.2
     where
-      front : (t : List ℕ) → IsText (i + 1) t → IsText (i + 0) (x ∷ t)
-      front t k = let z : i ≡ i + 0 = omega arith in subst (λ n. IsText n (x ∷ t)) z (text_more i x t h k)
+      prefix : (t : List ℕ) → IsText (i + 1) t → IsText (i + 0) (x ∷ t)
+      prefix t k = let z : i ≡ i + 0 = omega arith in subst (λ n. IsText n (x ∷ t)) z (text_more i x t h k)
 
       by : (cs : List Chunk) → AreGroups IsPart IsText (i + 1) (Unit {0}) cs → joined cs ≡ xs → Grouped i (x ∷ xs)
       by [] k e = (
         ([], x ∷ []) ∷ [],
-        (record { some = omega arith; part = part_none i; text = front [] (text_none (i + 1)); part_first = λ _. tt; text_last = λ none. cc }, tt),
+        (record { some = omega arith; part = part_none i; text = prefix [] (text_none (i + 1)); part_first = λ _. tt; text_last = λ none. cc }, tt),
         ap (λ l. x ∷ l) e,
       )
       by (([], t) ∷ cs) k e =
@@ -107,7 +107,7 @@ module _ (IsPart IsText : ℕ → List ℕ → Type 0) (OfPart OfText : ℕ → 
           let y : i + 1 + length t ≡ i + length (x ∷ t) = omega arith in (
             ([], x ∷ t) ∷ cs,
             (
-              record { some = omega arith; part = part_none i; text = front t (subst (λ n. IsText n t) z k.0.text); part_first = λ _. tt; text_last = λ none. cc },
+              record { some = omega arith; part = part_none i; text = prefix t (subst (λ n. IsText n t) z k.0.text); part_first = λ _. tt; text_last = λ none. cc },
               subst (λ n. AreGroups IsPart IsText n ⊥ cs) y k.1,
             ),
             ap (λ l. x ∷ l) e,
@@ -115,7 +115,7 @@ module _ (IsPart IsText : ℕ → List ℕ → Type 0) (OfPart OfText : ℕ → 
       by ((p ∷ ps, t) ∷ cs) k e = (
         ([], x ∷ []) ∷ (p ∷ ps, t) ∷ cs,
         (
-          record { some = omega arith; part = part_none i; text = front [] (text_none (i + 1)); part_first = λ _. tt; text_last = λ none. cc },
+          record { some = omega arith; part = part_none i; text = prefix [] (text_none (i + 1)); part_first = λ _. tt; text_last = λ none. cc },
           not_first IsPart IsText (i + 1) ⊥ (p ∷ ps, t) cs (λ none. cc) k,
         ),
         ap (λ l. x ∷ l) e,

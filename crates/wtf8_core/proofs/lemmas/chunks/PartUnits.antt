@@ -1,27 +1,27 @@
 -- The units of strings in which there is no whole character, and of strings that begin with none.
 use Rattle.wtf8_core.proofs.Common.{◌≡◌, ⊎_elim, ℕ, ◌+◌, ◌<◌, ◌≤◌, true, List, [], ◌∷◌, ◌++◌, length, take, drop, refl, sym, ap, ◌∙◌, subst, arith, length-append, take-append-drop, cases_lt, cases_Bool, lt-ltb, le-ltb, append-nil, drop_at, All-from_recursion, AllByRecursion, flat_map, IsByte, IsSurrogate, is_surrogate, encode, StartsWithNoCharacter, HasNoCharacter, units_of, Encodes, IsWtf8, units}
 use Rattle.wtf8_core.specs.PartUnits.{unit_bytes, AreLoneSurrogates}
-use Rattle.wtf8_core.proofs.lemmas.characters.AtPlaces.{ascii_found, whole_at, is_scalar}
+use Rattle.wtf8_core.proofs.lemmas.characters.AtIndices.{ascii_found, whole_at, is_scalar}
 use Rattle.wtf8_core.proofs.lemmas.forms.Shapes.{length-form_surrogate}
 use Rattle.wtf8_core.proofs.lemmas.forms.Ranges.{in_range-true}
 use Rattle.wtf8_core.proofs.lemmas.characters.Seams.{whole_within}
 use Rattle.wtf8_core.proofs.lemmas.units.OneToOne.{wide_single}
-use Rattle.wtf8_core.proofs.lemmas.units.AsFunction.{code_points_in-spelled}
+use Rattle.wtf8_core.proofs.lemmas.units.AsFunction.{code_points_in-encoded}
 
--- rests of bare bytes are bare
-pub bare_rest : (b : List ℕ) (n : ℕ) → HasNoCharacter b → HasNoCharacter (drop n b)
-bare_rest b n h i j w = h (length (take n b) + i) (length (take n b) + j) (whole_within b (take n b) (drop n b) [] i j (sym (take-append-drop n b) ∙ ap (λ x. take n b ++ x) (sym (append-nil (drop n b)))) w)
+-- rests of uncovered bytes are uncovered
+pub uncovered_rest : (b : List ℕ) (n : ℕ) → HasNoCharacter b → HasNoCharacter (drop n b)
+uncovered_rest b n h i j w = h (length (take n b) + i) (length (take n b) + j) (whole_within b (take n b) (drop n b) [] i j (sym (take-append-drop n b) ∙ ap (λ x. take n b ++ x) (sym (append-nil (drop n b)))) w)
 
--- bare bytes aren't ASCII, and `unit_bytes` of each of them is that byte alone
-pub bare_bytes : (b : List ℕ) → AllByRecursion IsByte b → HasNoCharacter b → (b ≡ flat_map unit_bytes b) × AllByRecursion (λ u. 0x80 ≤ u) b
-bare_bytes [] a h = (refl, tt)
-bare_bytes (x ∷ b) a h =
-    let more = bare_bytes b a.1 (bare_rest (x ∷ b) 1 h) in
+-- uncovered bytes aren't ASCII, and `unit_bytes` of each of them is that byte alone
+pub uncovered_bytes : (b : List ℕ) → AllByRecursion IsByte b → HasNoCharacter b → (b ≡ flat_map unit_bytes b) × AllByRecursion (λ u. 0x80 ≤ u) b
+uncovered_bytes [] a h = (refl, tt)
+uncovered_bytes (x ∷ b) a h =
+    let more = uncovered_bytes b a.1 (uncovered_rest (x ∷ b) 1 h) in
     let high : 0x80 ≤ x = ⊎_elim (λ lt. absurd (h 0 (0 + 1) (ascii_found (x ∷ b) x b refl lt))) (λ ge. ge) (cases_lt x 0x80) in
     let one : unit_bytes x ≡ x ∷ [] = rw (lt-ltb x 0x100 a.0) refl in
     (ap (λ l. x ∷ l) more.0 ∙ ap (λ l. l ++ flat_map unit_bytes b) (sym one), (high, more.1))
 
--- the code point that begins bare bytes is a surrogate, of three bytes
+-- the code point that begins uncovered bytes is a surrogate, of three bytes
 pub record BeginsSurrogate (b : List ℕ) (c : ℕ) (cs : List ℕ) : Type 0 where
   pub surrogate : IsSurrogate c
   pub within : 3 ≤ length b
@@ -35,7 +35,7 @@ begins_surrogate b c cs s h =
     record {
       surrogate = surrogate;
       within = omega (arith, three, ap length s.joined, length-append (encode c) (flat_map encode cs));
-      rest = record { code_points = s.code_points.1; paired_free = s.paired_free.1; joined = ap (drop 3) s.joined ∙ drop_at (encode c) (flat_map encode cs) 3 three };
+      rest = record { code_points = s.code_points.1; no_pair = s.no_pair.1; joined = ap (drop 3) s.joined ∙ drop_at (encode c) (flat_map encode cs) 3 three };
     }
 
 -- a surrogate is its unit
@@ -55,12 +55,12 @@ first_unit b w some h = by w.0 w.1
     by [] s = let e = ap length s.joined in absurd (omega arith)
     by (c ∷ cs) s =
         let k = begins_surrogate b c cs s h in
-        (c, record { first = ap units (code_points_in-spelled b (c ∷ cs) s) ∙ unit_of_surrogate c cs k.surrogate ∙ ap (λ l. c ∷ units l) (sym (code_points_in-spelled (drop 3 b) cs k.rest)); within = k.within; rest = (cs, k.rest) })
+        (c, record { first = ap units (code_points_in-encoded b (c ∷ cs) s) ∙ unit_of_surrogate c cs k.surrogate ∙ ap (λ l. c ∷ units l) (sym (code_points_in-encoded (drop 3 b) cs k.rest)); within = k.within; rest = (cs, k.rest) })
 
--- the code points of bare WTF-8 are surrogates
+-- the code points of uncovered WTF-8 are surrogates
 all_surrogates : (b cs : List ℕ) → Encodes b cs → HasNoCharacter b → AllByRecursion IsSurrogate cs
 all_surrogates b [] s h = tt
-all_surrogates b (c ∷ cs) s h = let k = begins_surrogate b c cs s (h 0) in (k.surrogate, all_surrogates (drop 3 b) cs k.rest (bare_rest b 3 h))
+all_surrogates b (c ∷ cs) s h = let k = begins_surrogate b c cs s (h 0) in (k.surrogate, all_surrogates (drop 3 b) cs k.rest (uncovered_rest b 3 h))
 
 units_of_surrogates : (cs : List ℕ) → AllByRecursion IsSurrogate cs → units cs ≡ cs
 units_of_surrogates [] h = refl
@@ -72,11 +72,11 @@ bytes_of_surrogates (c ∷ cs) h =
     let one : encode c ≡ unit_bytes c = rw (le-ltb c 0x100 (omega (arith, h.0.0))) refl in
     ap (λ x. x ++ flat_map encode cs) one ∙ ap (λ x. unit_bytes c ++ x) (bytes_of_surrogates cs h.1)
 
--- the units of bare WTF-8 are lone surrogates, with their forms
-pub bare_wtf8 : (b : List ℕ) → IsWtf8 b → HasNoCharacter b → (b ≡ flat_map unit_bytes (units_of b)) × AreLoneSurrogates (units_of b)
-bare_wtf8 b w h =
+-- the units of uncovered WTF-8 are lone surrogates, with their forms
+pub uncovered_wtf8 : (b : List ℕ) → IsWtf8 b → HasNoCharacter b → (b ≡ flat_map unit_bytes (units_of b)) × AreLoneSurrogates (units_of b)
+uncovered_wtf8 b w h =
     let cs = w.0 in
     let all = all_surrogates b cs w.1 h in
-    let same : units_of b ≡ cs = ap units (code_points_in-spelled b cs w.1) ∙ units_of_surrogates cs all in
-    let lone : AreLoneSurrogates cs = record { surrogates = All-from_recursion IsSurrogate cs all; paired_free = w.1.paired_free } in
+    let same : units_of b ≡ cs = ap units (code_points_in-encoded b cs w.1) ∙ units_of_surrogates cs all in
+    let lone : AreLoneSurrogates cs = record { surrogates = All-from_recursion IsSurrogate cs all; no_pair = w.1.no_pair } in
     (w.1.joined ∙ bytes_of_surrogates cs all ∙ ap (flat_map unit_bytes) (sym same), subst AreLoneSurrogates (sym same) lone)

@@ -4,20 +4,20 @@ use Rattle.wtf8_core.specs.Runs.{AreRuns, form_chunk}
 use Rattle.wtf8_core.proofs.lemmas.forms.Ranges.{in_range-true, in_range}
 use Rattle.wtf8_core.proofs.lemmas.forms.Shapes.{form_bounds}
 use Rattle.wtf8_core.proofs.lemmas.forms.ByStd.{form_same}
-use Rattle.wtf8_core.proofs.lemmas.characters.AtPlaces.{begins_at, is_scalar, scalar_no_surrogate}
-use Rattle.wtf8_core.proofs.lemmas.characters.Overlaps.{form_behind, no_start}
-use Rattle.wtf8_core.proofs.lemmas.characters.Seams.{Bare, bare_run, seam_at_start, Forms, forms_over, scalar_covered}
+use Rattle.wtf8_core.proofs.lemmas.characters.AtIndices.{begins_at, is_scalar, scalar_no_surrogate}
+use Rattle.wtf8_core.proofs.lemmas.characters.Overlaps.{form_after, no_start}
+use Rattle.wtf8_core.proofs.lemmas.characters.Seams.{Uncovered, uncovered_run, seam_at_start, Forms, forms_over, scalar_covered}
 use Rattle.wtf8_core.proofs.lemmas.chunks.Groups.{AreGroups, each_from_groups, EachIsOfOne, grouped}
 use Rattle.wtf8_core.proofs.lemmas.chunks.OneList.{AreChunksFrom, are_chunks, chunks_once}
 
 -- the bytes of a surrogate aren't in any whole character
-surrogate_bare : (s x r : List ℕ) (i c : ℕ) → s ≡ x ++ (encode c ++ r) → length x ≡ i → IsSurrogate c → CrossesNoCharacter s i → Bare s i (encode c) × CrossesNoCharacter s (i + length (encode c))
-surrogate_bare s x r i c e l h k = bare_run s i (encode c) k (λ a b low high w. ⊎_elim
-    (λ q. let same = form_same w.char c w.stands.behind r (sym (begins_at s a b w) ∙ ap (λ n. drop n s) q ∙ rest) in scalar_no_surrogate w.char w.scalar (ap is_surrogate same.0 ∙ in_range _ _ c h))
+surrogate_uncovered : (s x r : List ℕ) (i c : ℕ) → s ≡ x ++ (encode c ++ r) → length x ≡ i → IsSurrogate c → CrossesNoCharacter s i → Uncovered s i (encode c) × CrossesNoCharacter s (i + length (encode c))
+surrogate_uncovered s x r i c e l h k = uncovered_run s i (encode c) k (λ a b low high w. ⊎_elim
+    (λ q. let same = form_same w.char c w.occurs.after r (sym (begins_at s a b w) ∙ ap (λ n. drop n s) q ∙ rest) in scalar_no_surrogate w.char w.scalar (ap is_surrogate same.0 ∙ in_range _ _ c h))
     (λ ne. let m = a - i in
     let z : i + m ≡ a = omega arith in
     let byte : get_or s (i + m) 0 ≡ get_or (encode c) m 0 = sym (get_or-drop i s m 0) ∙ ap (λ y. get_or y m 0) rest ∙ get_or_append_left (encode c) r 0 m (omega arith) in
-    no_start s a b (subst (λ n. IsContinuation (get_or s n 0)) z (subst IsContinuation (sym byte) (form_behind c m (omega arith) (omega arith)))) w)
+    no_start s a b (subst (λ n. IsContinuation (get_or s n 0)) z (subst IsContinuation (sym byte) (form_after c m (omega arith) (omega arith)))) w)
     (cases_eq a i))
   where
     rest : drop i s ≡ encode c ++ r
@@ -46,7 +46,7 @@ chunks_of_runs s x i j First (c ∷ cs) e l g k =
     let t = Forms c.1 in
     let r = Forms (joined cs) in
     let f : s ≡ x ++ (p ++ (t ++ r)) = e ∙ ap (λ y. x ++ y) (flat_map-append encode c.0 (c.1 ++ joined cs) ∙ ap (λ y. p ++ y) (flat_map-append encode c.1 (joined cs))) in
-    let part = forms_over s (λ k. ¬ (IsCovered s k)) IsSurrogate (surrogate_bare s) x (t ++ r) i c.0 f l g.0.part k in
+    let part = forms_over s (λ k. ¬ (IsCovered s k)) IsSurrogate (surrogate_uncovered s) x (t ++ r) i c.0 f l g.0.part k in
     let h : s ≡ (x ++ p) ++ (t ++ r) = f ∙ sym (append_assoc x p (t ++ r)) in
     let m : length (x ++ p) ≡ i + length p = length-append x p ∙ ap (λ n. n + length p) l in
     let text = forms_over s (IsCovered s) IsScalar (scalar_covered s) (x ++ p) r (i + length p) c.1 h m g.0.text part.1 in
@@ -74,7 +74,7 @@ chunks_by_runs s cs chunks h k =
     let e : s ≡ Forms (joined g.0) = h.joined ∙ ap Forms (sym g.2) in (
       g.0,
       (
-        record { joins = g.2; each = λ before behind c e. let p = each_from_groups Surrogates Scalars g.0 before behind c g.1 e in record { some = p.some; surrogates = p.part; scalars = p.text; run_first = p.part_first; scalars_last = p.text_last } },
+        record { joins = g.2; each = λ before after c e. let p = each_from_groups Surrogates Scalars g.0 before after c g.1 e in record { some = p.some; surrogates = p.part; scalars = p.text; run_first = p.part_first; scalars_last = p.text_last } },
         chunks_once s chunks (map form_chunk g.0) k (are_chunks s (map form_chunk g.0) (joined_forms g.0 ∙ sym e) (chunks_of_runs s [] 0 0 (Unit {0}) g.0 e refl g.1 (seam_at_start s))),
       ),
     )

@@ -1,4 +1,4 @@
--- Lists joined, and one more at the end: of code points, of the forms that bytes spell, and of a sequence that has begun.
+-- Lists joined, and one more at the end: of code points, of the forms that bytes encode, and of a sequence that has begun.
 use Rattle.wtf8_core.proofs.Common.{◌≡◌, ℕ, List, [], ◌∷◌, ◌++◌, refl, sym, ap, ◌∙◌, append-nil, length, take, drop, take_at, drop_at, AllByRecursion, flat_map, flat_map-append, IsHigh, IsLow, IsCodePoint, encode, Encodes, HasNoSurrogatePair, MayPrecede, last_or, All, All-append, All-nil}
 
 -- if two joined lists are equal and their first parts have one length, their parts are equal
@@ -24,19 +24,19 @@ pub last_append : (p : ℕ) (cs ds : List ℕ) → last_or p (cs ++ ds) ≡ last
 last_append p [] ds = refl
 last_append p (c ∷ cs) ds = last_append c cs ds
 
--- what two lists of bytes spell, joined
-pub spells_joined : (v w cs ds : List ℕ) → Encodes v cs → Encodes w ds → MayPrecede (last_or 0 cs) ds → Encodes (v ++ w) (cs ++ ds)
-spells_joined v w cs ds s t m = record {
+-- what two lists of bytes encode, joined
+pub encodes_joined : (v w cs ds : List ℕ) → Encodes v cs → Encodes w ds → MayPrecede (last_or 0 cs) ds → Encodes (v ++ w) (cs ++ ds)
+encodes_joined v w cs ds s t m = record {
   code_points = all_joined IsCodePoint cs ds s.code_points t.code_points;
-  paired_free = paired_joined cs ds s.paired_free t.paired_free m;
+  no_pair = paired_joined cs ds s.no_pair t.no_pair m;
   joined = ap (λ z. z ++ w) s.joined ∙ ap (λ z. flat_map encode cs ++ z) t.joined ∙ sym (flat_map-append encode cs ds);
 }
 
-pub spells_one : (c : ℕ) → IsCodePoint c → Encodes (encode c) (c ∷ [])
-spells_one c k = record { code_points = (k, tt); paired_free = (tt, tt); joined = sym (append-nil (encode c)) }
+pub encodes_one : (c : ℕ) → IsCodePoint c → Encodes (encode c) (c ∷ [])
+encodes_one c k = record { code_points = (k, tt); no_pair = (tt, tt); joined = sym (append-nil (encode c)) }
 
-pub spells_more : (w cs : List ℕ) (c : ℕ) → Encodes w cs → IsCodePoint c → (IsHigh (last_or 0 cs) → IsLow c → ⊥) → Encodes (w ++ encode c) (cs ++ c ∷ [])
-spells_more w cs c s k g = spells_joined w (encode c) cs (c ∷ []) s (spells_one c k) g
+pub encodes_more : (w cs : List ℕ) (c : ℕ) → Encodes w cs → IsCodePoint c → (IsHigh (last_or 0 cs) → IsLow c → ⊥) → Encodes (w ++ encode c) (cs ++ c ∷ [])
+encodes_more w cs c s k g = encodes_joined w (encode c) cs (c ∷ []) s (encodes_one c k) g
 
 -- what holds of each element of each piece holds of each element of the pieces joined
 pub all_flat_map : (P Q : ℕ → Type 0) (f : ℕ → List ℕ) → ((x : ℕ) → P x → All Q (f x)) → (xs : List ℕ) → AllByRecursion P xs → All Q (flat_map f xs)

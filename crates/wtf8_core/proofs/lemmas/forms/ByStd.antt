@@ -15,9 +15,9 @@ pub form_same : (c d : ℕ) (r t : List ℕ) → encode c ++ r ≡ encode d ++ t
 form_same c d r t e = encode_same c d r t (ap (λ x. x ++ r) (sym (form_encode c)) ∙ e ∙ ap (λ x. x ++ t) (form_encode d))
 
 -- if the forms of some code points are a prefix of others' forms, the code points are a prefix of theirs, too
-pub forms_front : (ds cs r : List ℕ) → flat_map encode cs ≡ flat_map encode ds ++ r → (es : List ℕ) × (cs ≡ ds ++ es) × (flat_map encode es ≡ r)
-forms_front [] cs r e = (cs, refl, e)
-forms_front (d ∷ ds) cs r e =
+pub forms_prefix : (ds cs r : List ℕ) → flat_map encode cs ≡ flat_map encode ds ++ r → (es : List ℕ) × (cs ≡ ds ++ es) × (flat_map encode es ≡ r)
+forms_prefix [] cs r e = (cs, refl, e)
+forms_prefix (d ∷ ds) cs r e =
     let w = cons_from_encodes cs (flat_map encode ds ++ r) d (sym (forms_encode cs) ∙ e ∙ append_assoc (encode d) (flat_map encode ds) r ∙ ap (λ x. x ++ (flat_map encode ds ++ r)) (form_encode d)) in
-    let v = forms_front ds w.0 r (forms_encode w.0 ∙ w.2) in
+    let v = forms_prefix ds w.0 r (forms_encode w.0 ∙ w.2) in
     (v.0, w.1 ∙ ap (λ x. d ∷ x) v.1, v.2)

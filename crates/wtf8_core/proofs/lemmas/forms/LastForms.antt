@@ -11,12 +11,12 @@ at_end s x y e =
     ap (λ k. drop k s) h ∙ ap (drop (length x)) e ∙ drop-append_seam x y
 
 -- what three or four last bytes are, where bytes end with a form
-pub form_at_end : (s last front : List ℕ) (n c : ℕ) → last ≡ drop (length s - n) s → length (encode c) ≡ n → s ≡ front ++ encode c → last ≡ encode c
-form_at_end s last front n c e l f = e ∙ ap (λ k. drop (length s - k) s) (sym l) ∙ at_end s front (encode c) f
+pub form_at_end : (s last prefix : List ℕ) (n c : ℕ) → last ≡ drop (length s - n) s → length (encode c) ≡ n → s ≡ prefix ++ encode c → last ≡ encode c
+form_at_end s last prefix n c e l f = e ∙ ap (λ k. drop (length s - k) s) (sym l) ∙ at_end s prefix (encode c) f
 
 -- and what the three first bytes are, where bytes begin with a form
-pub form_at_front : (s first rest : List ℕ) (c : ℕ) → first ≡ take 3 s → length (encode c) ≡ 3 → s ≡ encode c ++ rest → first ≡ encode c
-form_at_front s first rest c e l f = e ∙ ap (λ k. take k s) (sym l) ∙ ap (take (length (encode c))) f ∙ take-append_seam (encode c) rest
+pub form_at_start : (s first rest : List ℕ) (c : ℕ) → first ≡ take 3 s → length (encode c) ≡ 3 → s ≡ encode c ++ rest → first ≡ encode c
+form_at_start s first rest c e l f = e ∙ ap (λ k. take k s) (sym l) ∙ ap (take (length (encode c))) f ∙ take-append_seam (encode c) rest
 
 -- both parts of a list joined
 pub split_off : (s first rest x : List ℕ) → first ≡ take 3 s → rest ≡ drop 3 s → first ≡ x → s ≡ x ++ rest
@@ -34,8 +34,8 @@ same_form c d e = (form_same c d [] [] (ap (λ z. z ++ []) e)).0
 pub same_first : (s rest other : List ℕ) (c d : ℕ) → s ≡ encode c ++ rest → s ≡ encode d ++ other → c ≡ d
 same_first s rest other c d e f = (form_same c d rest other (sym e ∙ f)).0
 
-pub same_last : (s front other : List ℕ) (c d : ℕ) → s ≡ front ++ encode c → s ≡ other ++ encode d → length (encode c) ≡ length (encode d) → c ≡ d
-same_last s front other c d e f l = same_form c d (sym (at_end s front (encode c) e) ∙ ap (λ k. drop (length s - k) s) l ∙ at_end s other (encode d) f)
+pub same_last : (s prefix other : List ℕ) (c d : ℕ) → s ≡ prefix ++ encode c → s ≡ other ++ encode d → length (encode c) ≡ length (encode d) → c ≡ d
+same_last s prefix other c d e f l = same_form c d (sym (at_end s prefix (encode c) e) ∙ ap (λ k. drop (length s - k) s) l ∙ at_end s other (encode d) f)
 
 -- no code points have no bytes
 pub no_points : (ds : List ℕ) → flat_map encode ds ≡ [] → ds ≡ []
@@ -46,7 +46,7 @@ no_points (d ∷ ds) e = let b = form_bounds d in absurd (omega (arith, ap lengt
 pub last_point : (cs x : List ℕ) (c : ℕ) → flat_map encode cs ≡ x ++ encode c → (ds : List ℕ) × (cs ≡ ds ++ c ∷ []) × (flat_map encode ds ≡ x)
 last_point cs x c e =
     let f = bytes_found cs x [] (c ∷ []) (omega arith) (e ∙ ap (λ z. x ++ z) (sym (append-nil (encode c)) ∙ sym (append-nil (encode c ++ [])))) in
-    (f.front, f.cut ∙ ap (λ z. f.front ++ (c ∷ z)) (no_points f.back f.back_is), f.front_is)
+    (f.prefix, f.cut ∙ ap (λ z. f.prefix ++ (c ∷ z)) (no_points f.suffix f.suffix_is), f.prefix_is)
 
 -- the last code point, and where it is a high surrogate
 pub at_last : (u c : ℕ) (cs : List ℕ) → (ds : List ℕ) × (c ∷ cs ≡ ds ++ last_or u (c ∷ cs) ∷ [])

@@ -1,4 +1,4 @@
--- The order of bytes is that of the code points that they spell.
+-- The order of bytes is that of the code points that they encode.
 use Rattle.wtf8_core.proofs.Common.{◌≡◌, ⊎_elim, ℕ, ◌<◌, List, [], ◌∷◌, ◌++◌, refl, sym, ap, ◌∙◌, arith, slice_cmp, nat_list_cmp_total, flat_map, cases_order, nat_tests, encode, Encodes}
 use Rattle.std.specs.Ordering.{nat_cmp, ordering_then, ordering_reverse}
 use Rattle.std.specs.Cmp.{nat_cmp_is}
@@ -27,9 +27,9 @@ unfolding encode
 empty_less d ys = grind (arith, nat_tests)
 
 -- after equal prefixes the rest decides
-same_front : (zs xs ys : List ℕ) → Cmp (zs ++ xs) (zs ++ ys) ≡ Cmp xs ys
-same_front [] xs ys = refl
-same_front (z ∷ zs) xs ys = ap (λ o. ordering_then o (Cmp (zs ++ xs) (zs ++ ys))) (cmp_equal z z refl) ∙ same_front zs xs ys
+same_prefix : (zs xs ys : List ℕ) → Cmp (zs ++ xs) (zs ++ ys) ≡ Cmp xs ys
+same_prefix [] xs ys = refl
+same_prefix (z ∷ zs) xs ys = ap (λ o. ordering_then o (Cmp (zs ++ xs) (zs ++ ys))) (cmp_equal z z refl) ∙ same_prefix zs xs ys
 
 reversed : (xs ys : List ℕ) → Cmp ys xs ≡ Less → Cmp xs ys ≡ Greater
 reversed xs ys e = nat_list_cmp_total.antisymm xs ys ∙ ap ordering_reverse e
@@ -44,10 +44,10 @@ order_of_forms (c ∷ cs) (d ∷ ds) =
     let y = flat_map encode ds in
     let first = λ (o : Ordering). ordering_then o (Cmp cs ds) in
     ⊎_elim
-    (λ e. ap (λ n. Cmp (encode c ++ x) (encode n ++ y)) (sym e) ∙ same_front (encode c) x y ∙ order_of_forms cs ds ∙ sym (ap first (cmp_equal c d e)))
+    (λ e. ap (λ n. Cmp (encode c ++ x) (encode n ++ y)) (sym e) ∙ same_prefix (encode c) x y ∙ order_of_forms cs ds ∙ sym (ap first (cmp_equal c d e)))
     (⊎_elim (λ h. form_less c d x y h ∙ sym (ap first (cmp_less c d h))) (λ h. reversed (encode c ++ x) (encode d ++ y) (form_less d c y x h) ∙ ap first (nat_cmp_is c d Greater h)))
     (cases_order c d)
 
--- and so are the bytes that spell them
-pub order_of_spelled : (b a cs ds : List ℕ) → Encodes b cs → Encodes a ds → Cmp b a ≡ Cmp cs ds
-order_of_spelled b a cs ds s t = ap (λ x. Cmp x a) s.joined ∙ ap (Cmp (flat_map encode cs)) t.joined ∙ order_of_forms cs ds
+-- and so are the bytes that encode them
+pub order_of_encoded : (b a cs ds : List ℕ) → Encodes b cs → Encodes a ds → Cmp b a ≡ Cmp cs ds
+order_of_encoded b a cs ds s t = ap (λ x. Cmp x a) s.joined ∙ ap (Cmp (flat_map encode cs)) t.joined ∙ order_of_forms cs ds

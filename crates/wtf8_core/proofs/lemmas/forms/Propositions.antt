@@ -4,7 +4,7 @@ use Rattle.std.proofs.Math.Bridge.{le_prop}
 use mathlib.Core.HLevel.{Σ_prop, Σ_prop_path, hedberg}
 use mathlib.Core.List.{is_set}
 use native.Mathlib.Decide.{ℕ_discrete}
-use Rattle.wtf8_core.proofs.lemmas.reader.Complete.{spelled_once}
+use Rattle.wtf8_core.proofs.lemmas.reader.Complete.{encoded_once}
 
 -- paired-free lists
 may_precede_prop : (c : ℕ) (cs : List ℕ) → IsProp (MayPrecede c cs)
@@ -19,13 +19,13 @@ paired_prop (c ∷ cs) = hlevel (may_precede_prop, paired_prop cs)
 points_prop : (cs : List ℕ) → IsProp (AllByRecursion IsCodePoint cs)
 points_prop cs = AllByRecursion-prop IsCodePoint (λ c. le_prop) cs
 
--- what bytes spell
-pub spells_prop : (b cs : List ℕ) → IsProp (Encodes b cs)
-spells_prop b cs = hlevel (points_prop, paired_prop, is_set (hedberg ℕ_discrete))
+-- what bytes encode
+pub encodes_prop : (b cs : List ℕ) → IsProp (Encodes b cs)
+encodes_prop b cs = hlevel (points_prop, paired_prop, is_set (hedberg ℕ_discrete))
 
 -- WTF-8
 pub wtf8_prop : (b : List ℕ) → IsProp (IsWtf8 b)
-wtf8_prop b p q = Σ_prop_path (λ cs. spells_prop b cs) (spelled_once b p.0 q.0 p.1 q.1)
+wtf8_prop b p q = Σ_prop_path (λ cs. encodes_prop b cs) (encoded_once b p.0 q.0 p.1 q.1)
 
 -- UTF-8
 pub utf8_prop : (b : List ℕ) → IsProp (IsUtf8 b)

@@ -1,5 +1,5 @@
 -- Forms and shapes: the arithmetic.
-use Rattle.wtf8_core.proofs.Common.{◌≡◌, ◌≢◌, ◌⊎◌, ℕ, ◌+◌, ◌/◌, ◌%◌, ◌<◌, ◌≤◌, List, [], ◌∷◌, length, drop, get_or, ap, arith, nat_tests, AllByRecursion, IsByte, IsContinuation, needed_continuations, IsCodePoint, encode, IsSurrogate, IsWholeSequence, shape_value, least_value}
+use Rattle.wtf8_core.proofs.Common.{◌≡◌, ◌≢◌, ◌⊎◌, ℕ, ◌+◌, ◌/◌, ◌%◌, ◌<◌, ◌≤◌, List, [], ◌∷◌, length, drop, get_or, ap, arith, nat_tests, AllByRecursion, IsByte, IsContinuation, needed_continuations, IsCodePoint, encode, IsSurrogate, IsWholeSequence, sequence_value, least_value}
 
 -- the form of an ASCII code point is one byte
 pub form_ascii : (c : ℕ) → c < 0x80 → encode c ≡ c ∷ []
@@ -39,34 +39,34 @@ form_bytes c h = grind (arith, nat_tests)
 -- a byte that is no continuation, and then continuations
 pub record FormParts (c : ℕ) : Type 0 where
   pub lead : ℕ
-  pub behind : List ℕ
-  pub is : encode c ≡ lead ∷ behind
+  pub after : List ℕ
+  pub is : encode c ≡ lead ∷ after
   pub begins : IsContinuation lead → ⊥
-  pub continued : AllByRecursion IsContinuation behind
+  pub continued : AllByRecursion IsContinuation after
 
 -- each form is one
 pub form_parts : (c : ℕ) → FormParts c
 unfolding encode
-form_parts c = record { lead = get_or (encode c) 0 0; behind = drop 1 (encode c); is = grind (arith, nat_tests); begins = λ h. grind (arith, nat_tests, h); continued = grind (arith, nat_tests) }
+form_parts c = record { lead = get_or (encode c) 0 0; after = drop 1 (encode c); is = grind (arith, nat_tests); begins = λ h. grind (arith, nat_tests, h); continued = grind (arith, nat_tests) }
 
 -- a form of two bytes or more is a shape, of its code point
-pub long_shape : (c lead : ℕ) (behind : List ℕ) → encode c ≡ lead ∷ behind → 0x80 ≤ c → IsCodePoint c → IsWholeSequence lead behind
+pub long_shape : (c lead : ℕ) (after : List ℕ) → encode c ≡ lead ∷ after → 0x80 ≤ c → IsCodePoint c → IsWholeSequence lead after
 unfolding encode
-long_shape c lead behind e l h = record { begun = record { lead_is = grind (arith, nat_tests, e); continued = grind (arith, nat_tests, e) }; whole = grind (arith, nat_tests, e) }
+long_shape c lead after e l h = record { begun = record { lead_is = grind (arith, nat_tests, e); continued = grind (arith, nat_tests, e) }; whole = grind (arith, nat_tests, e) }
 
-pub long_value : (c lead : ℕ) (behind : List ℕ) → encode c ≡ lead ∷ behind → 0x80 ≤ c → IsCodePoint c → (shape_value lead behind ≡ c) × (least_value (needed_continuations lead) ≤ c)
+pub long_value : (c lead : ℕ) (after : List ℕ) → encode c ≡ lead ∷ after → 0x80 ≤ c → IsCodePoint c → (sequence_value lead after ≡ c) × (least_value (needed_continuations lead) ≤ c)
 unfolding encode
-long_value c lead behind e l h = (grind (arith, nat_tests, e), grind (arith, nat_tests, e))
+long_value c lead after e l h = (grind (arith, nat_tests, e), grind (arith, nat_tests, e))
 
 -- a shape of at least the least value is the form of its value
-pub shape_is_form : (b : ℕ) (ks : List ℕ) → IsWholeSequence b ks → least_value (needed_continuations b) ≤ shape_value b ks → encode (shape_value b ks) ≡ b ∷ ks
+pub shape_is_form : (b : ℕ) (ks : List ℕ) → IsWholeSequence b ks → least_value (needed_continuations b) ≤ sequence_value b ks → encode (sequence_value b ks) ≡ b ∷ ks
 unfolding encode
 shape_is_form b [] s m = grind (arith, nat_tests, s.whole)
 shape_is_form b (x ∷ y ∷ z ∷ w ∷ ks) s m = grind (arith, nat_tests, s.whole)
 shape_is_form b ks s m = grind (arith, nat_tests, s.whole, s.begun.lead_is, s.begun.continued)
 
 -- no form is a shape of less than the least value, or past the last code point
-pub no_form : (b : ℕ) (ks : List ℕ) → IsWholeSequence b ks → (shape_value b ks < least_value (needed_continuations b)) ⊎ (0x10_FFFF < shape_value b ks)
+pub no_form : (b : ℕ) (ks : List ℕ) → IsWholeSequence b ks → (sequence_value b ks < least_value (needed_continuations b)) ⊎ (0x10_FFFF < sequence_value b ks)
     → (c : ℕ) → IsCodePoint c → encode c ≢ b ∷ ks
 unfolding encode
 no_form b [] s w c p e = grind (arith, nat_tests, s.whole)

@@ -8,8 +8,8 @@ use Rattle.std.proofs.lemmas.Grind.{take-set_at}
 pub one_put : (s : List ℕ) (i a : ℕ) → i + 1 ≤ length s → take (i + 1) (set s i a) ≡ take i s ++ a ∷ []
 one_put s i a h = take-set_at s i (i + 1) a refl (omega arith)
 
-more_put : (s t : List ℕ) (i n m a : ℕ) (front : List ℕ) → length t ≡ length s → n ≡ i + m → n < length s → take n t ≡ take i s ++ front → take (i + (m + 1)) (set t n a) ≡ take i s ++ (front ++ a ∷ [])
-more_put s t i n m a front l e h w = take-set_at t n (i + (m + 1)) a (omega arith) (omega arith) ∙ ap (λ x. x ++ a ∷ []) w ∙ append_assoc (take i s) front (a ∷ [])
+more_put : (s t : List ℕ) (i n m a : ℕ) (prefix : List ℕ) → length t ≡ length s → n ≡ i + m → n < length s → take n t ≡ take i s ++ prefix → take (i + (m + 1)) (set t n a) ≡ take i s ++ (prefix ++ a ∷ [])
+more_put s t i n m a prefix l e h w = take-set_at t n (i + (m + 1)) a (omega arith) (omega arith) ∙ ap (λ x. x ++ a ∷ []) w ∙ append_assoc (take i s) prefix (a ∷ [])
 
 pub two_put : (s : List ℕ) (i a b : ℕ) → i + 2 ≤ length s → take (i + 2) (set (set s i a) (i + 1) b) ≡ take i s ++ a ∷ b ∷ []
 two_put s i a b h = more_put s (set s i a) i (i + 1) 1 b (a ∷ []) (length-set s i a) refl (omega arith) (one_put s i a (omega arith))

@@ -11,11 +11,11 @@ pub data Stops (n : ℕ) : List ℕ → List ℕ → Type 0 where
 
 -- the continuations at the start, at most n
 pub record Split (n : ℕ) (bs : List ℕ) : Type 0 where
-  pub behind : List ℕ
+  pub after : List ℕ
   pub rest : List ℕ
-  pub is : bs ≡ behind ++ rest
-  pub continued : AllByRecursion IsContinuation behind
-  pub stops : Stops n behind rest
+  pub is : bs ≡ after ++ rest
+  pub continued : AllByRecursion IsContinuation after
+  pub stops : Stops n after rest
 
 one_more : (n x : ℕ) (ks rest : List ℕ) → Stops n ks rest → Stops (suc n) (x ∷ ks) rest
 one_more n x ks rest (whole e) = whole (ap suc e)
@@ -23,12 +23,12 @@ one_more n x ks rest (ends h) = ends (omega arith)
 one_more n x ks rest (breaks y t h k) = breaks y t (omega arith) k
 
 pub split : (n : ℕ) (bs : List ℕ) → Split n bs
-split zero bs = record { behind = []; rest = bs; is = refl; continued = tt; stops = whole refl }
-split (suc n) [] = record { behind = []; rest = []; is = refl; continued = tt; stops = ends (omega arith) }
+split zero bs = record { after = []; rest = bs; is = refl; continued = tt; stops = whole refl }
+split (suc n) [] = record { after = []; rest = []; is = refl; continued = tt; stops = ends (omega arith) }
 split (suc n) (x ∷ bs) =
     let s = split n bs in
-    ⊎_elim (λ c. record { behind = x ∷ s.behind; rest = s.rest; is = ap (λ l. x ∷ l) s.is; continued = (c, s.continued); stops = one_more n x s.behind s.rest s.stops })
-    (λ k. record { behind = []; rest = x ∷ bs; is = refl; continued = tt; stops = breaks x bs (omega arith) k })
+    ⊎_elim (λ c. record { after = x ∷ s.after; rest = s.rest; is = ap (λ l. x ∷ l) s.is; continued = (c, s.continued); stops = one_more n x s.after s.rest s.stops })
+    (λ k. record { after = []; rest = x ∷ bs; is = refl; continued = tt; stops = breaks x bs (omega arith) k })
     (range_cases 0x80 0xBF x)
 
 -- six more bits

@@ -38,7 +38,7 @@ one_more_ok (x ∷ cs) c rest = ap (λ l. Ok x ∷ l) (one_more_ok cs c rest)
 
 -- items that are all Ok are the code points of bytes
 pub items_all_ok : (bytes cs : List ℕ) → AreItems bytes (oks cs) → Encodes bytes cs
-items_all_ok bytes cs (Whole r) = subst (Encodes bytes) (same_oks r.code_points cs (sym r.are)) r.spelled
+items_all_ok bytes cs (Whole r) = subst (Encodes bytes) (same_oks r.code_points cs (sym r.are)) r.encoded
 items_all_ok bytes cs (Faulty {later = later} r l) = absurd (no_err cs r.code_points r.fault later r.are)
 
 -- the first Err is the first fault
@@ -61,7 +61,7 @@ pub units_whole : (cs : List ℕ) (items : List Item) → items ≡ oks cs → f
 units_whole cs items e = ap (flat_map unit_items) (e ∙ sym (append-nil (oks cs))) ∙ units_of_oks cs [] ∙ append-nil (oks (units cs))
 
 units_all : (bytes us : List ℕ) (items : List Item) → AreItems bytes items → oks us ≡ flat_map unit_items items → HasUnits bytes us
-units_all bytes us items (Whole r) e = record { code_points = r.code_points; spelled = r.spelled; are = same_oks us (units r.code_points) (e ∙ units_whole r.code_points items r.are) }
+units_all bytes us items (Whole r) e = record { code_points = r.code_points; encoded = r.encoded; are = same_oks us (units r.code_points) (e ∙ units_whole r.code_points items r.are) }
 units_all bytes us items (Faulty {later = later} r l) e =
     absurd (no_err us (units r.code_points) r.fault (flat_map unit_items later) (e ∙ ap (flat_map unit_items) r.are ∙ units_of_oks r.code_points (Err r.fault ∷ later)))
 
@@ -92,6 +92,6 @@ oks_are_code_points (c ∷ cs) rest a h = (a.0, oks_are_code_points cs rest a.1 
 
 pub items_are_code_points : (bytes : List ℕ) (items : List Item) → AreItems bytes items → AllByRecursion IsCodePointItem items
 items_are_code_points bytes items (Whole r) =
-    subst (AllByRecursion IsCodePointItem) (sym (r.are ∙ sym (append-nil (oks r.code_points)))) (oks_are_code_points r.code_points [] r.spelled.code_points tt)
+    subst (AllByRecursion IsCodePointItem) (sym (r.are ∙ sym (append-nil (oks r.code_points)))) (oks_are_code_points r.code_points [] r.encoded.code_points tt)
 items_are_code_points bytes items (Faulty {rest = rest} {later = later} r l) =
-    subst (AllByRecursion IsCodePointItem) (sym r.are) (oks_are_code_points r.code_points (Err r.fault ∷ later) r.first.spelled.code_points (tt, items_are_code_points rest later l))
+    subst (AllByRecursion IsCodePointItem) (sym r.are) (oks_are_code_points r.code_points (Err r.fault ∷ later) r.first.encoded.code_points (tt, items_are_code_points rest later l))

@@ -6,7 +6,7 @@ use Rattle.wtf8_core.specs.LossyReading.IsLossyReading.{formed, replaced}
 use Rattle.wtf8_core.proofs.lemmas.reader.Complete.{one_list_of_items}
 use Rattle.wtf8_core.proofs.lemmas.reader.FirstErr.{oks}
 use Rattle.wtf8_core.proofs.lemmas.reader.Sound.{some_items}
-use Rattle.wtf8_core.proofs.lemmas.forms.Appending.{spells_one, spells_joined}
+use Rattle.wtf8_core.proofs.lemmas.forms.Appending.{encodes_one, encodes_joined}
 use Rattle.wtf8_core.proofs.lemmas.units.OneToOne.{may_precede}
 
 abbrev Items : Type 0
@@ -33,15 +33,15 @@ faulty_forms : (b cs : List ℕ) (fault : EncodingError) (later : Items) → (f 
 faulty_forms b cs fault later f =
     ap (flat_map encode) (points_of_oks cs (Err fault ∷ later))
     ∙ flat_map-append encode cs (0xFFFD ∷ map lossy_code_point later)
-    ∙ ap (λ x. x ++ (encode 0xFFFD ++ lossy_forms later)) (sym f.spelled.joined)
+    ∙ ap (λ x. x ++ (encode 0xFFFD ++ lossy_forms later)) (sym f.encoded.joined)
     ∙ ap (λ x. f.before ++ (x ++ lossy_forms later)) replacement_is
 
 -- the forms of the items are the reading
 pub reading_of_items : (b : List ℕ) (items : List (Result ℕ EncodingError)) → AreItems b items → IsLossyReading b (lossy_forms items)
-reading_of_items b items (Whole r) = subst (IsLossyReading b) (sym (ap lossy_forms r.are ∙ whole_forms b r.code_points r.spelled)) (formed (r.code_points, r.spelled))
+reading_of_items b items (Whole r) = subst (IsLossyReading b) (sym (ap lossy_forms r.are ∙ whole_forms b r.code_points r.encoded)) (formed (r.code_points, r.encoded))
 reading_of_items b items (Faulty {rest = rest} {later = later} r l) =
     subst (IsLossyReading b) (sym (ap lossy_forms r.are ∙ faulty_forms b r.code_points r.fault later r.first))
-    (replaced r.first (subst (λ x. IsLossyReading x (lossy_forms later)) (sym r.behind) (reading_of_items rest later l)))
+    (replaced r.first (subst (λ x. IsLossyReading x (lossy_forms later)) (sym r.after) (reading_of_items rest later l)))
 
 -- and each reading is that of the items
 record OfItems (b reading : List ℕ) : Type 0 where
@@ -50,12 +50,12 @@ record OfItems (b reading : List ℕ) : Type 0 where
   is : reading ≡ lossy_forms items
 
 items_of_reading : (b reading : List ℕ) → IsLossyReading b reading → OfItems b reading
-items_of_reading b reading (formed w) = record { items = oks w.0; are = Whole (record { code_points = w.0; spelled = w.1; are = refl }); is = sym (whole_forms b w.0 w.1) }
-items_of_reading b reading (replaced {cs = cs} {reading = behind} {fault = fault} f l) =
-    let w = items_of_reading f.begins.rest behind l in
+items_of_reading b reading (formed w) = record { items = oks w.0; are = Whole (record { code_points = w.0; encoded = w.1; are = refl }); is = sym (whole_forms b w.0 w.1) }
+items_of_reading b reading (replaced {cs = cs} {reading = after} {fault = fault} f l) =
+    let w = items_of_reading f.begins.rest after l in
     record {
       items = oks cs ++ Err fault ∷ w.items;
-      are = Faulty {rest = f.begins.rest} {later = w.items} (record { code_points = cs; fault = fault; first = f; behind = refl; are = refl }) w.are;
+      are = Faulty {rest = f.begins.rest} {later = w.items} (record { code_points = cs; fault = fault; first = f; after = refl; are = refl }) w.are;
       is = ap (λ x. f.before ++ (replacement ++ x)) w.is ∙ sym (faulty_forms b cs fault w.items f);
     }
 
@@ -74,8 +74,8 @@ some_reading b a =
 -- FFFD makes no pair, so the reading is WTF-8
 pub reading_wtf8 : (b reading : List ℕ) → IsLossyReading b reading → IsWtf8 reading
 reading_wtf8 b reading (formed w) = w
-reading_wtf8 b reading (replaced {cs = cs} {reading = behind} f l) =
-    let w = reading_wtf8 f.begins.rest behind l in
-    let one : Encodes replacement (0xFFFD ∷ []) = subst (λ x. Encodes x (0xFFFD ∷ [])) replacement_is (spells_one 0xFFFD (omega arith)) in
-    let more = spells_joined replacement behind (0xFFFD ∷ []) w.0 one w.1 (may_precede 0xFFFD w.0 (λ h. omega (arith, h.1))) in
-    (cs ++ 0xFFFD ∷ w.0, spells_joined f.before (replacement ++ behind) cs (0xFFFD ∷ w.0) f.spelled more (λ h l. omega (arith, l.1)))
+reading_wtf8 b reading (replaced {cs = cs} {reading = after} f l) =
+    let w = reading_wtf8 f.begins.rest after l in
+    let one : Encodes replacement (0xFFFD ∷ []) = subst (λ x. Encodes x (0xFFFD ∷ [])) replacement_is (encodes_one 0xFFFD (omega arith)) in
+    let more = encodes_joined replacement after (0xFFFD ∷ []) w.0 one w.1 (may_precede 0xFFFD w.0 (λ h. omega (arith, h.1))) in
+    (cs ++ 0xFFFD ∷ w.0, encodes_joined f.before (replacement ++ after) cs (0xFFFD ∷ w.0) f.encoded more (λ h l. omega (arith, l.1)))

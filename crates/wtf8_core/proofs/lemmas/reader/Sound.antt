@@ -1,5 +1,5 @@
 -- Any bytes are forms up to their end or a fault, so the reader's items are those of the definitions.
-use Rattle.wtf8_core.proofs.Common.{◌≡◌, ◌⊎◌, inl, inr, ⊎_elim, ℕ, zero, suc, ◌+◌, ◌<◌, ◌≤◌, false, List, [], ◌∷◌, ◌++◌, length, drop, map, Result, Ok, Err, refl, sym, ap, ◌∙◌, subst, arith, append_assoc, length-append, Fits, w8, get_or, drop-append_seam, cases_lt, append-nil, All-drop, All-from_get_or, All, AllByRecursion, flat_map, IsByte, needed_continuations, IsHigh, IsLow, is_high, IsCodePoint, encode, HasNoSurrogatePair, last_or, IsWtf8, IsSequenceStart, IsWholeSequence, shape_value, BeginsFault, IsFirstFault, AreItems, least_value, behind_item, first_item, first_split, IsFirstItem, items_after, EncodingError, Byte, CodePoint, End}
+use Rattle.wtf8_core.proofs.Common.{◌≡◌, ◌⊎◌, inl, inr, ⊎_elim, ℕ, zero, suc, ◌+◌, ◌<◌, ◌≤◌, false, List, [], ◌∷◌, ◌++◌, length, drop, map, Result, Ok, Err, refl, sym, ap, ◌∙◌, subst, arith, append_assoc, length-append, Fits, w8, get_or, drop-append_seam, cases_lt, append-nil, All-drop, All-from_get_or, All, AllByRecursion, flat_map, IsByte, needed_continuations, IsHigh, IsLow, is_high, IsCodePoint, encode, HasNoSurrogatePair, last_or, IsWtf8, IsSequenceStart, IsWholeSequence, sequence_value, BeginsFault, IsFirstFault, AreItems, least_value, after_item, first_item, first_split, IsFirstItem, items_after, EncodingError, Byte, CodePoint, End}
 use Rattle.wtf8_core.specs.Items.AreItems.{Whole, Faulty}
 use Rattle.wtf8_core.proofs.lemmas.forms.Ranges.{range_cases}
 use Rattle.wtf8_core.proofs.lemmas.forms.Shapes.{form_ascii, form_bounds, shape_is_form, no_form}
@@ -35,17 +35,17 @@ of_shape p b ks rest s =
     (cases_lt v (least_value (needed_continuations b)))
   where
     v : ℕ
-    v = shape_value b ks
+    v = sequence_value b ks
 
     bad : ((c : ℕ) → IsCodePoint c → ¬ (encode c ≡ b ∷ ks)) ⊎ ((encode v ≡ b ∷ ks) × IsLow v × IsHigh p) → BeginsForm p (b ∷ ks ++ rest) ⊎ SomeFault p (b ∷ ks ++ rest)
-    bad w = inr (CodePoint v, record { refused = b ∷ ks; rest = rest; is = refl; refusal = record { lead = b; behind = ks; is = refl; shape = s; value_is = refl; bad = w } })
+    bad w = inr (CodePoint v, record { refused = b ∷ ks; rest = rest; is = refl; refusal = record { lead = b; after = ks; is = refl; shape = s; value_is = refl; bad = w } })
 
 -- what comes after a lead
 of_lead : (p b : ℕ) (ks rest : List ℕ) → IsSequenceStart b ks → Stops (needed_continuations b) ks rest → BeginsForm p (b ∷ ks ++ rest) ⊎ SomeFault p (b ∷ ks ++ rest)
 of_lead p b ks rest g (whole e) = of_shape p b ks rest (record { begun = g; whole = e })
-of_lead p b ks rest g (ends h) = inr (End, record { refused = b ∷ ks; rest = []; is = refl; refusal = (record { lead = b; behind = ks; is = refl; begun = g; short = h }, refl) })
+of_lead p b ks rest g (ends h) = inr (End, record { refused = b ∷ ks; rest = []; is = refl; refusal = (record { lead = b; after = ks; is = refl; begun = g; short = h }, refl) })
 of_lead p b ks rest g (breaks x t h k) =
-    inr (Byte x, record { refused = b ∷ ks; rest = x ∷ t; is = refl; refusal = inr (record { begun = record { lead = b; behind = ks; is = refl; begun = g; short = h }; after = t; next = refl; breaks = k }) })
+    inr (Byte x, record { refused = b ∷ ks; rest = x ∷ t; is = refl; refusal = inr (record { begun = record { lead = b; after = ks; is = refl; begun = g; short = h }; after = t; next = refl; breaks = k }) })
 
 -- any byte begins a form or a fault
 pub begins : (p b : ℕ) (bs : List ℕ) → IsByte b → BeginsForm p (b ∷ bs) ⊎ SomeFault p (b ∷ bs)
@@ -53,7 +53,7 @@ begins p b bs u =
     ⊎_elim (λ h. inl (record { c = b; rest = bs; code_point = omega arith; free = λ i j. omega (arith, j.0); is = ap (λ l. l ++ bs) (sym (form_ascii b h)) }))
     (λ l. ⊎_elim (λ h. inr (Byte b, record { refused = b ∷ []; rest = bs; is = refl; refusal = inl (record { is = refl; stray = (l, omega arith) }) }))
     (λ m. let s = split (needed_continuations b) bs in
-    subst (λ x. BeginsForm p (b ∷ x) ⊎ SomeFault p (b ∷ x)) (sym s.is) (of_lead p b s.behind s.rest (record { lead_is = (m, omega arith); continued = s.continued }) s.stops))
+    subst (λ x. BeginsForm p (b ∷ x) ⊎ SomeFault p (b ∷ x)) (sym s.is) (of_lead p b s.after s.rest (record { lead_is = (m, omega arith); continued = s.continued }) s.stops))
     (cases_lt b 0xC2))
     (cases_lt b 0x80)
 
@@ -93,28 +93,28 @@ run (suc n) p (b ∷ bs) h a = ⊎_elim (more (λ q r. run n q r)) (λ f. record
 pub either : (bs : List ℕ) → All IsByte bs → IsWtf8 bs ⊎ ((cs : List ℕ) × (f : EncodingError) × IsFirstFault bs cs f)
 either bs a =
     let r = run (length bs) 0 bs (omega arith) a in
-    ⊎_elim (λ e. inl (r.cs, record { code_points = r.points; paired_free = r.free.1; joined = r.joined ∙ ap (λ x. flat_map encode r.cs ++ x) e ∙ append-nil (flat_map encode r.cs) }))
-    (λ w. inr (r.cs, w.0, record { before = flat_map encode r.cs; from = r.from; joined = r.joined; spelled = record { code_points = r.points; paired_free = r.free.1; joined = refl }; begins = w.1 }))
+    ⊎_elim (λ e. inl (r.cs, record { code_points = r.points; no_pair = r.free.1; joined = r.joined ∙ ap (λ x. flat_map encode r.cs ++ x) e ∙ append-nil (flat_map encode r.cs) }))
+    (λ w. inr (r.cs, w.0, record { before = flat_map encode r.cs; from = r.from; joined = r.joined; encoded = record { code_points = r.points; no_pair = r.free.1; joined = refl }; begins = w.1 }))
     r.stop
 
 -- what follows a fault is shorter than the bytes, and is bytes, too
-pub behind_fault : (bs cs : List ℕ) (f : EncodingError) → (s : IsFirstFault bs cs f) → (length s.begins.rest < length bs) × (All IsByte bs → All IsByte s.begins.rest)
-behind_fault bs cs f s =
-    let front = s.before ++ s.begins.refused in
-    let e : bs ≡ front ++ s.begins.rest = s.joined ∙ ap (λ x. s.before ++ x) s.begins.is ∙ sym (append_assoc s.before s.begins.refused s.begins.rest) in
-    let l = ap length e ∙ length-append front s.begins.rest in
+pub after_fault : (bs cs : List ℕ) (f : EncodingError) → (s : IsFirstFault bs cs f) → (length s.begins.rest < length bs) × (All IsByte bs → All IsByte s.begins.rest)
+after_fault bs cs f s =
+    let prefix = s.before ++ s.begins.refused in
+    let e : bs ≡ prefix ++ s.begins.rest = s.joined ∙ ap (λ x. s.before ++ x) s.begins.is ∙ sym (append_assoc s.before s.begins.refused s.begins.rest) in
+    let l = ap length e ∙ length-append prefix s.begins.rest in
     let m = length-append s.before s.begins.refused in
     let n = refused_some _ _ _ f s.begins.refusal in
-    (omega arith, λ a. subst (All IsByte) (ap (drop (length front)) e ∙ drop-append_seam front s.begins.rest) (All-drop IsByte (length front) bs a))
+    (omega arith, λ a. subst (All IsByte) (ap (drop (length prefix)) e ∙ drop-append_seam prefix s.begins.rest) (All-drop IsByte (length prefix) bs a))
 
 -- some list of items is that of the bytes, which are fewer than n
 pub some_items : (n : ℕ) (bs : List ℕ) → length bs < n → All IsByte bs → (items : List (Result ℕ EncodingError)) × AreItems bs items
 some_items zero bs h a = absurd (omega (arith, h))
 some_items (suc n) bs h a =
-    ⊎_elim (λ w. (map Ok w.0, Whole (record { code_points = w.0; spelled = w.1; are = refl })))
-    (λ w. let q = behind_fault bs w.0 w.1 w.2 in
+    ⊎_elim (λ w. (map Ok w.0, Whole (record { code_points = w.0; encoded = w.1; are = refl })))
+    (λ w. let q = after_fault bs w.0 w.1 w.2 in
     let later = some_items n w.2.begins.rest (omega (arith, h, q.0)) (q.1 a) in
-    (map Ok w.0 ++ Err w.1 ∷ later.0, Faulty {rest = w.2.begins.rest} {later = later.0} (record { code_points = w.0; fault = w.1; first = w.2; behind = refl; are = refl }) later.1))
+    (map Ok w.0 ++ Err w.1 ∷ later.0, Faulty {rest = w.2.begins.rest} {later = later.0} (record { code_points = w.0; fault = w.1; first = w.2; after = refl; are = refl }) later.1))
     (either bs a)
 
 -- the reader's items are those of the definitions
@@ -140,10 +140,10 @@ begins_split p b bs u = ⊎_elim
 pub begins_item : (p : ℕ) (bs rest : List ℕ) (item : Result ℕ EncodingError) → All IsByte bs → IsFirstItem (is_high p) bs item rest → Begins p bs (item, rest)
 begins_item p bs rest item a i =
     let e = split_of_first (is_high p) bs rest item i in
-    subst (Begins p bs) e (subst (λ z. Begins p z (first_split (is_high p) z)) (sym i.is) (begins_split p i.first i.behind (subst (All IsByte) i.is a 0 0 (omega arith))))
+    subst (Begins p bs) e (subst (λ z. Begins p z (first_split (is_high p) z)) (sym i.is) (begins_split p i.first i.after (subst (All IsByte) i.is a 0 0 (omega arith))))
 
--- so at the front
+-- so at the start
 pub split_code_point : (b c : ℕ) (bs : List ℕ) → IsByte b → first_item false b bs ≡ Ok c → (rest : List ℕ) × IsCodePoint c × (b ∷ bs ≡ encode c ++ rest)
 split_code_point b c bs u e =
-    let w : Begins 0 (b ∷ bs) (Ok c, drop (behind_item b bs) bs) = subst (λ r. Begins 0 (b ∷ bs) (r, drop (behind_item b bs) bs)) e (begins_split 0 b bs u) in
-    (drop (behind_item b bs) bs, w.0, w.2)
+    let w : Begins 0 (b ∷ bs) (Ok c, drop (after_item b bs) bs) = subst (λ r. Begins 0 (b ∷ bs) (r, drop (after_item b bs) bs)) e (begins_split 0 b bs u) in
+    (drop (after_item b bs) bs, w.0, w.2)

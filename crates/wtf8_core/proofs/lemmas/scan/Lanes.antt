@@ -1,5 +1,5 @@
 -- The operations on vectors, lane by lane.
-use Rattle.wtf8_core.proofs.Common.{◌≡◌, inl, inr, ◌⊎◌, ⊎_elim, ℕ, zero, suc, ◌+◌, ◌-◌, ◌%◌, ◌^◌, ◌<◌, ◌≤◌, Bool, true, false, cond, ltb, List, [], ◌∷◌, ◌++◌, map, length, length-append, get_or, get_or-drop, get_or-take, take, length-take-le, behind_zeros, bit_or, replicate, not, refl, sym, ap, ◌∙◌, subst, arith, w8, Fits, eqb, eqb-true, length-map, length-replicate, get_or-map, get_or_append_left, range_with_len, not-true, not-false, cases_lt, nat_tests}
+use Rattle.wtf8_core.proofs.Common.{◌≡◌, inl, inr, ◌⊎◌, ⊎_elim, ℕ, zero, suc, ◌+◌, ◌-◌, ◌%◌, ◌^◌, ◌<◌, ◌≤◌, Bool, true, false, cond, ltb, List, [], ◌∷◌, ◌++◌, map, length, length-append, get_or, get_or-drop, get_or-take, take, length-take-le, with_zeros_before, bit_or, replicate, not, refl, sym, ap, ◌∙◌, subst, arith, w8, Fits, eqb, eqb-true, length-map, length-replicate, get_or-map, get_or_append_left, range_with_len, not-true, not-false, cases_lt, nat_tests}
 use Rattle.std.proofs.lemmas.Simd.{Each1-get_or, get_or-chunk, get_or-zip2, pick_l-range_with_len, get_or-replicate, tops_compared, zip2_splat, zip2_splat_left, length-sel_l, get_or-sel_l, mask_l-mod, bitmask_splat, trailing_mask_l}
 use Rattle.std.proofs.lemmas.List.Sums.{prefix_len_passes}
 use Rattle.std.proofs.lemmas.Nat.{trailing_le, le_or_l, le_or_r}
@@ -11,12 +11,12 @@ pub lane_with : (f : ℕ → ℕ → ℕ) (xs : List ℕ) (n y : ℕ) → length
 lane_with f xs n y p i h = get_or-zip2 f xs (replicate n y) i 0 0 0 (omega (arith, p, h)) (omega (arith, h, length-replicate n y)) ∙ ap (f (get_or xs i 0)) (get_or-replicate n i y 0 h)
 
 -- the first 16 bytes after k zeros, by a shuffle of 16 zeros and these
-pub after_zeros : (bytes : List ℕ) (k n i : ℕ) → 16 ≤ length bytes → k ≤ 3 → n ≡ 4 - k + i → i < 16 → get_or (pick_l 0 (replicate 16 0 ++ take 16 bytes) (range_with_len (16 - k) 16)) i 0 ≡ get_or (behind_zeros bytes) n 0
+pub after_zeros : (bytes : List ℕ) (k n i : ℕ) → 16 ≤ length bytes → k ≤ 3 → n ≡ 4 - k + i → i < 16 → get_or (pick_l 0 (replicate 16 0 ++ take 16 bytes) (range_with_len (16 - k) 16)) i 0 ≡ get_or (with_zeros_before bytes) n 0
 after_zeros bytes k n i long few is h =
     let zs : List ℕ = replicate 16 0 ++ take 16 bytes in
-    let place : 16 - k + i ≡ 12 + n = omega (arith, is, few) in
+    let index : 16 - k + i ≡ 12 + n = omega (arith, is, few) in
     ap (λ x. get_or x i 0) (pick_l-range_with_len 0 zs (16 - k) 16 (omega (arith, length-take-le 16 bytes long, few)))
-    ∙ get_or-chunk (16 - k) 16 zs i 0 h ∙ ap (λ m. get_or zs m 0) place ∙ sym (get_or-drop 12 zs n 0) ∙ get_or-take 20 (behind_zeros bytes) n 0 (omega (arith, is, h))
+    ∙ get_or-chunk (16 - k) 16 zs i 0 h ∙ ap (λ m. get_or zs m 0) index ∙ sym (get_or-drop 12 zs n 0) ∙ get_or-take 20 (with_zeros_before bytes) n 0 (omega (arith, is, h))
 
 -- the greater of two, less the second, is how far the first is above it
 lifted : (a b : ℕ) → a < 256 → b < 256 → (cond (ltb a b) b a + (2 ^ 8 - b)) % 2 ^ 8 ≡ a - b

@@ -1,5 +1,5 @@
 -- Bytes whose bits say that nothing is wrong may follow those before them.
-use Rattle.wtf8_core.proofs.Common.{List, get_or, ◌≡◌, ◌≢◌, ◌⊎◌, inl, inr, ⊎_elim, ℕ, ◌+◌, ◌-◌, ◌*◌, ◌/◌, ◌^◌, max, ◌<◌, ◌≤◌, Bool, true, eqb, bit_and, bit_or, bit_xor, refl, sym, ap, ◌∙◌, subst, arith, eq-eqb, cases_lt, bit_at, IsContinuation, MayFollow, MayStand, AllMayStand, zero, suc, behind_zeros}
+use Rattle.wtf8_core.proofs.Common.{List, get_or, ◌≡◌, ◌≢◌, ◌⊎◌, inl, inr, ⊎_elim, ℕ, ◌+◌, ◌-◌, ◌*◌, ◌/◌, ◌^◌, max, ◌<◌, ◌≤◌, Bool, true, eqb, bit_and, bit_or, bit_xor, refl, sym, ap, ◌∙◌, subst, arith, eq-eqb, cases_lt, bit_at, IsContinuation, MayFollow, MayFollowAll, EachMayFollow, zero, suc, with_zeros_before}
 use Rattle.std.proofs.lemmas.Nat.Bits.{and_pow, and_high_mask, bit_at_or}
 use Rattle.wtf8_core.specs.PairBits.{pair_bits, continuation_due, error_bits, surrogate_pair_difference}
 use Rattle.wtf8_core.proofs.lemmas.scan.ComputedTests.{fails}
@@ -89,7 +89,7 @@ pair_is w x z b u v p q r s l m =
     rw (p, s, high, low) refl
 
 module _ (s : Encoding) (w x y z b : ℕ) (ux : x < 256) (uy : y < 256) (uz : z < 256) (ub : b < 256) (right : bit_and (error_bits x y z b) 0xBF ≡ 0) (unpaired : (error_bits x y z b ≡ 0) ⊎ (surrogate_pair_difference w x z b ≢ 0)) (plain : s ≡ Utf8 → error_bits x y z b ≡ 0) where
-  when_early : x < 0xF0 → y < 0xE0 → continuation_due x y ≡ 0 → MayStand s w x y z b
+  when_early : x < 0xF0 → y < 0xE0 → continuation_due x y ≡ 0 → MayFollowAll s w x y z b
   when_early p q e =
       let early : is_early z (b / 16) ≡ true = eq-eqb _ _ (ap (λ n. bit_and (bit_xor n 0) 0xBF) (same_half z b) ∙ ap (λ n. bit_and (bit_xor (pair_bits z b) n) 0xBF) (sym e) ∙ right) in
       let continues = early_continues z b uz ub early in
@@ -109,7 +109,7 @@ module _ (s : Encoding) (w x y z b : ℕ) (ux : x < 256) (uy : y < 256) (uz : z 
           let c = early_continues z b uz ub (eq-eqb _ _ (ap (λ n. bit_and (bit_xor n 0) 0xBF) (same_half z b) ∙ ap (λ n. bit_and (bit_xor (pair_bits z b) n) 0xBF) (sym e) ∙ right)) (omega (arith, l)) in
           no_surrogate b (omega (arith, c.1)) (ap (λ v. bit_xor (pair_bits v b) 0) (sym l) ∙ ap (λ m. bit_xor (pair_bits z b) m) (sym e) ∙ n)
 
-  when_late : (0xF0 ≤ x) ⊎ (0xE0 ≤ y) → continuation_due x y ≡ 0x80 → MayStand s w x y z b
+  when_late : (0xF0 ≤ x) ⊎ (0xE0 ≤ y) → continuation_due x y ≡ 0x80 → MayFollowAll s w x y z b
   when_late p e =
       let late : is_late z (b / 16) ≡ true = eq-eqb _ _ (ap (λ n. bit_and (bit_xor n 0x80) 0xBF) (same_half z b) ∙ ap (λ n. bit_and (bit_xor (pair_bits z b) n) 0xBF) (sym e) ∙ right) in
       let first = late_first z b uz ub late in
@@ -121,9 +121,9 @@ module _ (s : Encoding) (w x y z b : ℕ) (ux : x < 256) (uy : y < 256) (uz : z 
         plain = λ f l. absurd (omega (arith, l, first.1));
       }
 
-  may_stand : MayStand s w x y z b
-  may_stand =
-      let late : (0xF0 ≤ x) ⊎ (0xE0 ≤ y) → MayStand s w x y z b = λ p. when_late p (is_later x y ux uy p) in
+  may_follow_all : MayFollowAll s w x y z b
+  may_follow_all =
+      let late : (0xF0 ≤ x) ⊎ (0xE0 ≤ y) → MayFollowAll s w x y z b = λ p. when_late p (is_later x y ux uy p) in
       ⊎_elim (λ p. ⊎_elim (λ q. when_early p q (not_later x y p q)) (λ q. late (inr q)) (cases_lt y 0xE0)) (λ p. late (inl p)) (cases_lt x 0xF0)
 
 -- what holds of five numbers holds of equal ones
@@ -135,17 +135,17 @@ same_five P {v} {w} {x} {y} {z} {a} {b} {c} {d} {e} p q r s t h =
 module _ (s : Encoding) (n : ℕ) (ws wrong : List ℕ) (fits : (k : ℕ) → get_or ws k 0 < 256)
     (bits : (i : ℕ) → i < n → get_or wrong i 0 ≡ error_bits (get_or ws (1 + i) 0) (get_or ws (2 + i) 0) (get_or ws (3 + i) 0) (get_or ws (4 + i) 0)) where
   pub kept : ((i : ℕ) → i < n → bit_and (get_or wrong i 0) 0xBF ≡ 0)
-      → ((i : ℕ) → i < n → (get_or wrong i 0 ≡ 0) ⊎ (surrogate_pair_difference (get_or ws (0 + i) 0) (get_or ws (1 + i) 0) (get_or ws (3 + i) 0) (get_or ws (4 + i) 0) ≢ 0)) → (s ≡ Utf8 → (i : ℕ) → i < n → get_or wrong i 0 ≡ 0) → AllMayStand s n ws
+      → ((i : ℕ) → i < n → (get_or wrong i 0 ≡ 0) ⊎ (surrogate_pair_difference (get_or ws (0 + i) 0) (get_or ws (1 + i) 0) (get_or ws (3 + i) 0) (get_or ws (4 + i) 0) ≢ 0)) → (s ≡ Utf8 → (i : ℕ) → i < n → get_or wrong i 0 ≡ 0) → EachMayFollow s n ws
   kept right unpaired plain i h =
-      same_five (λ a b c d e. MayStand s (get_or ws a 0) (get_or ws b 0) (get_or ws c 0) (get_or ws d 0) (get_or ws e 0)) (omega arith) (omega arith) (omega arith) (omega arith) (omega arith)
-      (may_stand s (get_or ws (0 + i) 0) _ _ _ _ (fits (1 + i)) (fits (2 + i)) (fits (3 + i)) (fits (4 + i)) (ap (λ n. bit_and n 0xBF) (sym (bits i h)) ∙ right i h)
+      same_five (λ a b c d e. MayFollowAll s (get_or ws a 0) (get_or ws b 0) (get_or ws c 0) (get_or ws d 0) (get_or ws e 0)) (omega arith) (omega arith) (omega arith) (omega arith) (omega arith)
+      (may_follow_all s (get_or ws (0 + i) 0) _ _ _ _ (fits (1 + i)) (fits (2 + i)) (fits (3 + i)) (fits (4 + i)) (ap (λ n. bit_and n 0xBF) (sym (bits i h)) ∙ right i h)
       (⊎_elim (λ z. inl (sym (bits i h) ∙ z)) inr (unpaired i h)) (λ e. sym (bits i h) ∙ plain e i h))
 
-  pub kept_by_zeros : ((i : ℕ) → i < n → get_or wrong i 0 ≡ 0) → AllMayStand s n ws
+  pub kept_by_zeros : ((i : ℕ) → i < n → get_or wrong i 0 ≡ 0) → EachMayFollow s n ws
   kept_by_zeros zeros = kept (λ i h. ap (λ n. bit_and n 0xBF) (zeros i h)) (λ i h. inl (zeros i h)) (λ _. zeros)
 
 -- bytes stay bytes after zeros
-pub zeros_fit : (bytes : List ℕ) → ((k : ℕ) → get_or bytes k 0 < 256) → (k : ℕ) → get_or (behind_zeros bytes) k 0 < 256
+pub zeros_fit : (bytes : List ℕ) → ((k : ℕ) → get_or bytes k 0 < 256) → (k : ℕ) → get_or (with_zeros_before bytes) k 0 < 256
 zeros_fit bytes fits zero = omega arith
 zeros_fit bytes fits (suc zero) = omega arith
 zeros_fit bytes fits (suc (suc zero)) = omega arith

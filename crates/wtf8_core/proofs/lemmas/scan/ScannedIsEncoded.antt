@@ -1,5 +1,5 @@
 -- Bytes that keep to the pattern are forms of code points.
-use Rattle.wtf8_core.proofs.Common.{◌≡◌, inl, inr, ⊎_elim, ℕ, zero, suc, ◌<◌, ◌≤◌, List, [], ◌∷◌, ◌++◌, length, get_or, refl, sym, ap, ◌∙◌, subst, arith, cases_lt, AllByRecursion, flat_map, IsScalar, low_scalar, IsContinuation, IsHigh, IsLow, encode, Encodes, MayPrecede, last_or, shape_value, AllMayStand, Steps, IsBetweenCodePoints}
+use Rattle.wtf8_core.proofs.Common.{◌≡◌, inl, inr, ⊎_elim, ℕ, zero, suc, ◌<◌, ◌≤◌, List, [], ◌∷◌, ◌++◌, length, get_or, refl, sym, ap, ◌∙◌, subst, arith, cases_lt, AllByRecursion, flat_map, IsScalar, low_scalar, IsContinuation, IsHigh, IsLow, encode, Encodes, MayPrecede, last_or, sequence_value, EachMayFollow, Steps, IsBetweenCodePoints}
 use Rattle.wtf8_core.proofs.lemmas.forms.Shapes.{form_ascii, form_two, form_three, form_past}
 use Rattle.wtf8_core.proofs.lemmas.scan.LedForms.{IsFormOf, two_small, two_form, two_scalar, three_form, three_high, three_low, only_three_high, three_scalar, four_past, four_form, four_scalar}
 use Rattle.wtf8_core.specs.declared.scan.Encoding.{Encoding}
@@ -62,27 +62,27 @@ edge_of_forms p w x y z (c ∷ cs) r edge = by (encode c) (shaped c) (λ w x y z
     by f (three a b d u j k high only) more = more z a b d (edge_three c a b d u j k high only)
     by f (four a b d g past i j k) more = more a b d g (edge_four c b d g past i j k)
 
--- bytes spell code points that p may precede
+-- bytes encode code points that p may precede
 pub record IsWhole (encoding : Encoding) (p : ℕ) (bytes : List ℕ) : Type 0 where
   pub code_points : List ℕ
-  pub spelled : Encodes bytes code_points
+  pub encoded : Encodes bytes code_points
   pub free : MayPrecede p code_points
   pub plain : encoding ≡ Utf8 → AllByRecursion IsScalar code_points
 
-one_more : (encoding : Encoding) (p c : ℕ) (front bytes : List ℕ) → IsFormOf c front → (IsHigh p → IsLow c → ⊥) → (encoding ≡ Utf8 → IsScalar c) → IsWhole encoding c bytes → IsWhole encoding p (front ++ bytes)
-one_more encoding p c front bytes i free scalar r = record {
+one_more : (encoding : Encoding) (p c : ℕ) (prefix bytes : List ℕ) → IsFormOf c prefix → (IsHigh p → IsLow c → ⊥) → (encoding ≡ Utf8 → IsScalar c) → IsWhole encoding c bytes → IsWhole encoding p (prefix ++ bytes)
+one_more encoding p c prefix bytes i free scalar r = record {
   code_points = c ∷ r.code_points;
-  spelled = record {
-    code_points = (i.code_point, r.spelled.code_points);
-    paired_free = (r.free, r.spelled.paired_free);
-    joined = ap (λ x. x ++ bytes) (sym i.is) ∙ ap (λ x. encode c ++ x) r.spelled.joined;
+  encoded = record {
+    code_points = (i.code_point, r.encoded.code_points);
+    no_pair = (r.free, r.encoded.no_pair);
+    joined = ap (λ x. x ++ bytes) (sym i.is) ∙ ap (λ x. encode c ++ x) r.encoded.joined;
   };
   free = free;
   plain = λ e. (scalar e, r.plain e);
 }
 
 -- the pattern by recursion, for some of the bytes and the one after them
-pub steps : (s : Encoding) (w x y z : ℕ) (bs rest : List ℕ) → AllMayStand s (suc (length bs)) (w ∷ x ∷ y ∷ z ∷ (bs ++ rest)) → Steps s w x y z (bs ++ get_or rest 0 0 ∷ [])
+pub steps : (s : Encoding) (w x y z : ℕ) (bs rest : List ℕ) → EachMayFollow s (suc (length bs)) (w ∷ x ∷ y ∷ z ∷ (bs ++ rest)) → Steps s w x y z (bs ++ get_or rest 0 0 ∷ [])
 steps s w x y z [] rest h = (h 0 (omega arith), tt)
 steps s w x y z (b ∷ bs) rest h = (h 0 (omega arith), steps s x y z b bs rest (λ i l. h (suc i) (omega (arith, l))))
 
@@ -103,7 +103,7 @@ module _ (s : Encoding) (next : ℕ) (ends : IsContinuation next → ⊥) where
         let k = h.0.continues (inr (inr l)) in
         let lead = h.0.follows.lead l in
         let small = two_small a b lead.0 u k in
-        let c = shape_value a (b ∷ []) in
+        let c = sequence_value a (b ∷ []) in
         one_more s p c (a ∷ b ∷ []) bs (two_form a b lead.0 u k) (λ g f. omega (arith, f.0, small)) (λ _. two_scalar a b lead.0 u k) (shown c y z a b bs (omega arith) (edge_two p x y z edge c a b small u k) h.1)
 
     three_bytes : (bs : List ℕ) → length bs ≤ n → 0xE0 ≤ a → a < 0xF0 → Steps s x y z a (bs ++ next ∷ []) → IsWhole s p (a ∷ bs)
@@ -113,7 +113,7 @@ module _ (s : Encoding) (next : ℕ) (ends : IsContinuation next → ⊥) where
         let q = h.0 in
         let j = q.continues (inr (inr (omega (arith, l)))) in
         let k = h.1.0.continues (inr (inl l)) in
-        let c = shape_value a (b ∷ d ∷ []) in
+        let c = sequence_value a (b ∷ d ∷ []) in
         one_more s p c (a ∷ b ∷ d ∷ []) bs (three_form a b d l u j k q.follows.three_long)
         (λ g f. let e = edge.high g in let o = three_low a b d l u j k f in omega (arith, q.unpaired e.0 e.1 e.2 o.0, o.1)) (λ e. three_scalar a b d l u j k (q.plain e))
         (shown c z a b d bs (omega arith) (edge_three c a b d u j k (three_high a b d l u j k) (only_three_high a b d l u j k)) h.1.1)
@@ -128,13 +128,13 @@ module _ (s : Encoding) (next : ℕ) (ends : IsContinuation next → ⊥) where
         let i = q.continues (inr (inr (omega (arith, l)))) in
         let j = h.1.0.continues (inr (inl (omega (arith, l)))) in
         let k = h.1.1.0.continues (inl l) in
-        let c = shape_value a (b ∷ d ∷ g ∷ []) in
+        let c = sequence_value a (b ∷ d ∷ g ∷ []) in
         let past : 0x1_0000 ≤ c = four_past a b d g l lead.1 q.follows.four_long q.follows.within i j k in
         one_more s p c (a ∷ b ∷ d ∷ g ∷ []) bs (four_form a b d g l lead.1 q.follows.four_long q.follows.within i j k) (λ _ f. omega (arith, f.1, past)) (λ _. four_scalar a b d g l lead.1 q.follows.four_long q.follows.within i j k)
         (shown c a b d g bs (omega arith) (edge_four c b d g past i j k) h.1.1.1)
 
   by_length : (n : ℕ) → Shown n
-  by_length n p w x y z [] m edge h = record { code_points = []; spelled = record { code_points = tt; paired_free = tt; joined = refl }; free = tt; plain = λ _. tt }
+  by_length n p w x y z [] m edge h = record { code_points = []; encoded = record { code_points = tt; no_pair = tt; joined = refl }; free = tt; plain = λ _. tt }
   by_length zero p w x y z (a ∷ bs) m edge h = absurd (omega (arith, m))
   by_length (suc n) p w x y z (a ∷ bs) m edge h =
       let few : length bs ≤ n = omega (arith, m) in

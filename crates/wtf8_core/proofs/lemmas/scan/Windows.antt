@@ -1,14 +1,14 @@
 -- From windows to the bytes: which prefix they give.
-use Rattle.wtf8_core.proofs.Common.{Bool, true, false, ◌≡◌, inl, inr, ◌⊎◌, ⊎_elim, ℕ, zero, suc, ◌+◌, ◌-◌, ◌<◌, ◌≤◌, List, [], ◌∷◌, ◌++◌, length, take, drop, get_or, refl, sym, ap, ◌∙◌, subst, arith, min, replicate, get_or-take, get_or-drop, get_or_append_left, get_or-append_right, get_or_past, length-append, length-take, length-take-le, length-drop, take-add, take-take, drop-drop, take-append-drop, cases_lt, and_from, AllByRecursion, IsScalar, low_scalar, scalars, IsUtf8, is_in_range, IsContinuation, is_high, Encodes, last_or, MayStand, AllMayStand, IsBetweenCodePoints, behind_zeros, KeepsPattern, IsEncodedPrefix}
+use Rattle.wtf8_core.proofs.Common.{Bool, true, false, ◌≡◌, inl, inr, ◌⊎◌, ⊎_elim, ℕ, zero, suc, ◌+◌, ◌-◌, ◌<◌, ◌≤◌, List, [], ◌∷◌, ◌++◌, length, take, drop, get_or, refl, sym, ap, ◌∙◌, subst, arith, min, replicate, get_or-take, get_or-drop, get_or_append_left, get_or-append_right, get_or_past, length-append, length-take, length-take-le, length-drop, take-add, take-take, drop-drop, take-append-drop, cases_lt, and_from, AllByRecursion, IsScalar, low_scalar, scalars, IsUtf8, is_in_range, IsContinuation, is_high, Encodes, last_or, MayFollowAll, EachMayFollow, IsBetweenCodePoints, with_zeros_before, KeepsPattern, IsEncodedPrefix}
 use Rattle.std.proofs.lemmas.List.{take_more}
 use borrow.Rule.Slice.PartMut.{put_mid}
 use Rattle.wtf8_core.proofs.lemmas.forms.Ranges.{in_range, in_range-true, in_range-false, not_in_range}
 use Rattle.wtf8_core.proofs.lemmas.forms.Shapes.{form_ascii}
 use Rattle.wtf8_core.proofs.lemmas.forms.ByStd.{forms_encode}
-use Rattle.wtf8_core.proofs.lemmas.forms.Appending.{all_joined, spells_joined, spells_more}
-use Rattle.wtf8_core.proofs.lemmas.forms.Cuts.{all_parts, cut_before, spells_parts}
+use Rattle.wtf8_core.proofs.lemmas.forms.Appending.{all_joined, encodes_joined, encodes_more}
+use Rattle.wtf8_core.proofs.lemmas.forms.Cuts.{all_parts, cut_before, encodes_parts}
 use Rattle.wtf8_core.proofs.lemmas.characters.Seams.{scalars_are}
-use Rattle.wtf8_core.proofs.lemmas.texts.AreWtf8.{text_spells}
+use Rattle.wtf8_core.proofs.lemmas.texts.AreWtf8.{text_encodes}
 use Rattle.wtf8_core.proofs.lemmas.buffers.Truncated.{put_length}
 use Rattle.wtf8_core.proofs.lemmas.scan.PairBits.{same_five}
 use Rattle.wtf8_core.proofs.lemmas.scan.ScannedIsEncoded.{IsBetweenCodePointsAt, edge_of_forms, steps, whole}
@@ -16,39 +16,39 @@ use Rattle.wtf8_core.specs.Neighbours.{IsClosed}
 use Rattle.wtf8_core.specs.declared.scan.Encoding.{Encoding}
 use Rattle.wtf8_core.specs.declared.scan.Encoding.TheVariants.{Utf8, Wtf8}
 
--- where a prefix that spells code points ends, the next code point begins
-edge_at : (bytes cs : List ℕ) (n : ℕ) → n ≤ length bytes → Encodes (take n bytes) cs → IsBetweenCodePointsAt (last_or 0 cs) n (behind_zeros bytes)
+-- where a prefix that encodes code points ends, the next code point begins
+edge_at : (bytes cs : List ℕ) (n : ℕ) → n ≤ length bytes → Encodes (take n bytes) cs → IsBetweenCodePointsAt (last_or 0 cs) n (with_zeros_before bytes)
 edge_at bytes cs n h s =
     let start : IsBetweenCodePoints 0 0 0 0 = record { closed = record { fourth = omega arith; third = omega arith; second = omega arith }; high = λ h. omega (arith, h.0); only_high = λ e. absurd (omega (arith, e)) } in
     let edge = edge_of_forms 0 0 0 0 0 cs (drop n bytes) start in
-    subst (λ m. IsBetweenCodePointsAt (last_or 0 cs) m (behind_zeros bytes)) (length-take-le n bytes h)
-    (subst (λ l. IsBetweenCodePointsAt (last_or 0 cs) (length (take n bytes)) (behind_zeros l)) (take-append-drop n bytes)
-    (subst (λ f. IsBetweenCodePointsAt (last_or 0 cs) (length f) (behind_zeros (f ++ drop n bytes))) (sym s.joined) edge))
+    subst (λ m. IsBetweenCodePointsAt (last_or 0 cs) m (with_zeros_before bytes)) (length-take-le n bytes h)
+    (subst (λ l. IsBetweenCodePointsAt (last_or 0 cs) (length (take n bytes)) (with_zeros_before l)) (take-append-drop n bytes)
+    (subst (λ f. IsBetweenCodePointsAt (last_or 0 cs) (length f) (with_zeros_before (f ++ drop n bytes))) (sym s.joined) edge))
 
 -- the empty prefix, and one that is a text
-pub no_front : (encoding : Encoding) (bytes : List ℕ) → IsEncodedPrefix encoding bytes 0
-no_front encoding bytes = record { within = omega arith; code_points = []; spelled = record { code_points = tt; paired_free = tt; joined = refl }; plain = λ _. tt }
+pub no_prefix : (encoding : Encoding) (bytes : List ℕ) → IsEncodedPrefix encoding bytes 0
+no_prefix encoding bytes = record { within = omega arith; code_points = []; encoded = record { code_points = tt; no_pair = tt; joined = refl }; plain = λ _. tt }
 
-pub text_front : (encoding : Encoding) (bytes : List ℕ) (n : ℕ) → n ≤ length bytes → IsUtf8 (take n bytes) → IsEncodedPrefix encoding bytes n
-text_front encoding bytes n h u = record { within = h; code_points = u.0; spelled = text_spells (take n bytes) u; plain = λ _. scalars_are u.0 u.1.0 }
+pub text_prefix : (encoding : Encoding) (bytes : List ℕ) (n : ℕ) → n ≤ length bytes → IsUtf8 (take n bytes) → IsEncodedPrefix encoding bytes n
+text_prefix encoding bytes n h u = record { within = h; code_points = u.0; encoded = text_encodes (take n bytes) u; plain = λ _. scalars_are u.0 u.1.0 }
 
 -- such a prefix keeps to the pattern
-pub front_keeps : (encoding : Encoding) (bytes : List ℕ) (n : ℕ) → IsEncodedPrefix encoding bytes n → KeepsPattern encoding bytes n
-front_keeps encoding bytes n f = record { from = n; front = f; order = omega arith; pattern = λ i h. absurd (omega (arith, h)) }
+pub prefix_keeps : (encoding : Encoding) (bytes : List ℕ) (n : ℕ) → IsEncodedPrefix encoding bytes n → KeepsPattern encoding bytes n
+prefix_keeps encoding bytes n f = record { from = n; prefix = f; order = omega arith; pattern = λ i h. absurd (omega (arith, h)) }
 
 pub no_pattern : (encoding : Encoding) (bytes : List ℕ) → KeepsPattern encoding bytes 0
-no_pattern encoding bytes = front_keeps encoding bytes 0 (no_front encoding bytes)
+no_pattern encoding bytes = prefix_keeps encoding bytes 0 (no_prefix encoding bytes)
 
 pub text_keeps : (bytes : List ℕ) (n : ℕ) → n ≤ length bytes → IsUtf8 (take n bytes) → KeepsPattern Utf8 bytes n
-text_keeps bytes n h u = front_keeps Utf8 bytes n (text_front Utf8 bytes n h u)
+text_keeps bytes n h u = prefix_keeps Utf8 bytes n (text_prefix Utf8 bytes n h u)
 
 -- and in UTF-8 it is a text
 all_scalars : (cs : List ℕ) → AllByRecursion IsScalar cs → scalars cs ≡ true
 all_scalars [] p = refl
 all_scalars (c ∷ cs) p = and_from _ _ p.0 (all_scalars cs p.1)
 
-pub front_is_utf8 : (encoding : Encoding) (bytes : List ℕ) (n : ℕ) → encoding ≡ Utf8 → IsEncodedPrefix encoding bytes n → IsUtf8 (take n bytes)
-front_is_utf8 encoding bytes n e f = (f.code_points, (all_scalars f.code_points (f.plain e), sym (f.spelled.joined ∙ forms_encode f.code_points)))
+pub prefix_is_utf8 : (encoding : Encoding) (bytes : List ℕ) (n : ℕ) → encoding ≡ Utf8 → IsEncodedPrefix encoding bytes n → IsUtf8 (take n bytes)
+prefix_is_utf8 encoding bytes n e f = (f.code_points, (all_scalars f.code_points (f.plain e), sym (f.encoded.joined ∙ forms_encode f.code_points)))
 
 -- bytes from index m on, with the four before them
 four_before : (a b c d : ℕ) (l : List ℕ) (m : ℕ) → m ≤ length l
@@ -58,7 +58,7 @@ four_before a b c d [] (suc m) h = absurd (omega (arith, h))
 four_before a b c d (x ∷ l) (suc m) h = four_before b c d x l m (omega (arith, h))
 
 -- a zero may follow where no form continues
-zero_follows : (encoding : Encoding) (w x y z b : ℕ) → IsClosed x y z → b ≡ 0 → MayStand encoding w x y z b
+zero_follows : (encoding : Encoding) (w x y z b : ℕ) → IsClosed x y z → b ≡ 0 → MayFollowAll encoding w x y z b
 zero_follows encoding w x y z b closed is = record {
   begins = λ _. inl (omega (arith, is));
   continues = λ goes. absurd (⊎_elim (λ h. omega (arith, h, closed.fourth)) (λ r. ⊎_elim (λ h. omega (arith, h, closed.third)) (λ h. omega (arith, h, closed.second)) r) goes);
@@ -74,51 +74,51 @@ zero_follows encoding w x y z b closed is = record {
 
 module _ (encoding : Encoding) (bytes : List ℕ) where
   -- a prefix may be cut before a byte that begins a code point
-  cut_front : (n m : ℕ) → n < m → IsEncodedPrefix encoding bytes m → (IsContinuation (get_or bytes n 0) → ⊥) → IsEncodedPrefix encoding bytes n
-  cut_front n m l f ends = by (drop n t) (sym (take-append-drop n t)) (sym (get_or-drop n t 0 0))
+  cut_prefix : (n m : ℕ) → n < m → IsEncodedPrefix encoding bytes m → (IsContinuation (get_or bytes n 0) → ⊥) → IsEncodedPrefix encoding bytes n
+  cut_prefix n m l f ends = by (drop n t) (sym (take-append-drop n t)) (sym (get_or-drop n t 0 0))
     where
       t : List ℕ
       t = take m bytes
 
-      front : take n t ≡ take n bytes
-      front = take-take n m bytes (omega (arith, l))
+      prefix : take n t ≡ take n bytes
+      prefix = take-take n m bytes (omega (arith, l))
 
       by : (r : List ℕ) → t ≡ take n t ++ r → get_or t (n + 0) 0 ≡ get_or r 0 0 → IsEncodedPrefix encoding bytes n
       by [] e d = absurd (omega (arith, l, f.within, length-take m bytes, ap length e, length-append (take n t) [], length-take n t))
       by (b ∷ y) e d =
           let z : n + 0 ≡ n = omega arith in
           let same : get_or bytes n 0 ≡ b = sym (get_or-take m bytes n 0 l) ∙ ap (λ i. get_or t i 0) (sym z) ∙ d in
-          let w = cut_before f.code_points (take n t) b y (λ k. ends (subst IsContinuation (sym same) k)) (sym f.spelled.joined ∙ e) in
+          let w = cut_before f.code_points (take n t) b y (λ k. ends (subst IsContinuation (sym same) k)) (sym f.encoded.joined ∙ e) in
           record {
             within = omega (arith, l, f.within);
-            code_points = w.front;
-            spelled = subst (λ x. Encodes x w.front) front (spells_parts t f.code_points (take n t) (b ∷ y) f.spelled w).0;
-            plain = λ e. (all_parts IsScalar w.front w.back (subst (AllByRecursion IsScalar) w.cut (f.plain e))).0;
+            code_points = w.prefix;
+            encoded = subst (λ x. Encodes x w.prefix) prefix (encodes_parts t f.code_points (take n t) (b ∷ y) f.encoded w).0;
+            plain = λ e. (all_parts IsScalar w.prefix w.suffix (subst (AllByRecursion IsScalar) w.cut (f.plain e))).0;
           }
 
   -- if bytes keep to the pattern past a byte that begins a code point, a prefix ends before it
   pub by_pattern : (n m : ℕ) → n ≤ length bytes → n < m → KeepsPattern encoding bytes m → (IsContinuation (get_or bytes n 0) → ⊥) → IsEncodedPrefix encoding bytes n
-  by_pattern n m h l k ends = ⊎_elim (λ past. cut_front n k.from past k.front ends) from_front (cases_lt n k.from)
+  by_pattern n m h l k ends = ⊎_elim (λ past. cut_prefix n k.from past k.prefix ends) from_prefix (cases_lt n k.from)
     where
-      from_front : k.from ≤ n → IsEncodedPrefix encoding bytes n
-      from_front le =
-          let f = k.front in
+      from_prefix : k.from ≤ n → IsEncodedPrefix encoding bytes n
+      from_prefix le =
+          let f = k.prefix in
           let bs = take (n - k.from) (drop k.from bytes) in
           let size : length bs ≡ n - k.from = length-take-le (n - k.from) (drop k.from bytes) (omega (arith, length-drop k.from bytes, h)) in
-          let place : k.from + (n - k.from) ≡ n = omega (arith, le) in
-          let rest : drop (n - k.from) (drop k.from bytes) ≡ drop n bytes = drop-drop (n - k.from) k.from bytes ∙ ap (λ i. drop i bytes) place in
-          let around = four_before 0 0 0 0 bytes k.from f.within ∙ ap (λ x. get_or (behind_zeros bytes) k.from 0 ∷ get_or (behind_zeros bytes) (suc k.from) 0 ∷ get_or (behind_zeros bytes) (suc (suc k.from)) 0 ∷ get_or (behind_zeros bytes) (suc (suc (suc k.from))) 0 ∷ x) (sym (take-append-drop (n - k.from) (drop k.from bytes)) ∙ ap (λ x. bs ++ x) rest) in
+          let index : k.from + (n - k.from) ≡ n = omega (arith, le) in
+          let rest : drop (n - k.from) (drop k.from bytes) ≡ drop n bytes = drop-drop (n - k.from) k.from bytes ∙ ap (λ i. drop i bytes) index in
+          let around = four_before 0 0 0 0 bytes k.from f.within ∙ ap (λ x. get_or (with_zeros_before bytes) k.from 0 ∷ get_or (with_zeros_before bytes) (suc k.from) 0 ∷ get_or (with_zeros_before bytes) (suc (suc k.from)) 0 ∷ get_or (with_zeros_before bytes) (suc (suc (suc k.from))) 0 ∷ x) (sym (take-append-drop (n - k.from) (drop k.from bytes)) ∙ ap (λ x. bs ++ x) rest) in
           let first : get_or (drop n bytes) 0 0 ≡ get_or bytes n 0 = get_or-drop n bytes 0 0 ∙ (let z : n + 0 ≡ n = omega arith in ap (λ i. get_or bytes i 0) z) in
-          let r = whole encoding _ (λ c. ends (subst IsContinuation first c)) (last_or 0 f.code_points) _ _ _ _ bs (edge_at bytes f.code_points k.from f.within f.spelled)
-          (steps encoding _ _ _ _ bs (drop n bytes) (subst (AllMayStand encoding (suc (length bs))) around (λ i j. k.pattern i (omega (arith, j, size, l, le))))) in
+          let r = whole encoding _ (λ c. ends (subst IsContinuation first c)) (last_or 0 f.code_points) _ _ _ _ bs (edge_at bytes f.code_points k.from f.within f.encoded)
+          (steps encoding _ _ _ _ bs (drop n bytes) (subst (EachMayFollow encoding (suc (length bs))) around (λ i j. k.pattern i (omega (arith, j, size, l, le))))) in
           record {
             within = h;
             code_points = f.code_points ++ r.code_points;
-            spelled = subst (λ x. Encodes x (f.code_points ++ r.code_points)) (sym (take-add k.from (n - k.from) bytes) ∙ ap (λ i. take i bytes) place) (spells_joined (take k.from bytes) bs f.code_points r.code_points f.spelled r.spelled r.free);
+            encoded = subst (λ x. Encodes x (f.code_points ++ r.code_points)) (sym (take-add k.from (n - k.from) bytes) ∙ ap (λ i. take i bytes) index) (encodes_joined (take k.from bytes) bs f.code_points r.code_points f.encoded r.encoded r.free);
             plain = λ e. all_joined IsScalar f.code_points r.code_points (f.plain e) (r.plain e);
           }
 
-  -- all bytes spell code points, if a zero after them keeps to it, too
+  -- all bytes encode code points, if a zero after them keeps to it, too
   pub past_end : (end : ℕ) → length bytes < end → KeepsPattern encoding bytes end → IsEncodedPrefix encoding bytes (length bytes)
   past_end end h k = by_pattern (length bytes) end (omega arith) h k (λ z. omega (arith, z.0, get_or_past bytes (length bytes) 0 (omega arith)))
 
@@ -133,39 +133,39 @@ module _ (encoding : Encoding) (bytes : List ℕ) where
       record {
         within = h;
         code_points = g.code_points ++ a ∷ [];
-        spelled = subst (λ x. Encodes x (g.code_points ++ a ∷ [])) (ap (λ x. take (n + k) bytes ++ x) (form_ascii a u) ∙ sym (take_more bytes (n + k) 0 (omega (arith, h))) ∙ ap (λ i. take i bytes) z) (spells_more (take (n + k) bytes) g.code_points a g.spelled (omega (arith, u)) (λ _ l. omega (arith, l.0, u)));
+        encoded = subst (λ x. Encodes x (g.code_points ++ a ∷ [])) (ap (λ x. take (n + k) bytes ++ x) (form_ascii a u) ∙ sym (take_more bytes (n + k) 0 (omega (arith, h))) ∙ ap (λ i. take i bytes) z) (encodes_more (take (n + k) bytes) g.code_points a g.encoded (omega (arith, u)) (λ _ l. omega (arith, l.0, u)));
         plain = λ e. all_joined IsScalar g.code_points (a ∷ []) (g.plain e) (low_scalar a (omega (arith, u)), tt);
       }
 
   -- if the byte before an index is ASCII, a prefix ends at that index
-  pub front_behind_ascii : (n : ℕ) → 0 < n → n ≤ length bytes → get_or bytes (n - 1) 0 < 0x80 → KeepsPattern encoding bytes n → IsEncodedPrefix encoding bytes n
-  front_behind_ascii n some h u k =
+  pub prefix_after_ascii : (n : ℕ) → 0 < n → n ≤ length bytes → get_or bytes (n - 1) 0 < 0x80 → KeepsPattern encoding bytes n → IsEncodedPrefix encoding bytes n
+  prefix_after_ascii n some h u k =
       let z : n - 1 + 1 ≡ n = omega (arith, some) in
       subst (IsEncodedPrefix encoding bytes) z (more_ascii (n - 1) 1 (omega (arith, some, h)) (λ i l. let y : n - 1 ≡ n - 1 + i = omega (arith, l) in subst (λ m. get_or bytes m 0 < 0x80) y u) (by_pattern (n - 1) n (omega (arith, h)) (omega (arith, some)) k (λ c. omega (arith, c.0, u))))
 
-  -- bytes spell code points up to their end, if they are ASCII from the last index on at which they keep to the pattern, or from the byte before it
+  -- bytes encode code points up to their end, if they are ASCII from the last index on at which they keep to the pattern, or from the byte before it
   pub ascii_to_end : (at : ℕ) → at ≤ length bytes → length bytes - at < 64 → ((i : ℕ) → length bytes - 64 ≤ i → i < length bytes → get_or bytes i 0 < 0x80) → KeepsPattern encoding bytes at → IsEncodedPrefix encoding bytes (length bytes)
   ascii_to_end zero h short low k =
       let z : 0 + length bytes ≡ length bytes = omega arith in
-      subst (IsEncodedPrefix encoding bytes) z (more_ascii 0 (length bytes) (omega arith) (λ i l. let y : i ≡ 0 + i = omega arith in subst (λ m. get_or bytes m 0 < 0x80) y (low i (omega (arith, short)) l)) (no_front encoding bytes))
+      subst (IsEncodedPrefix encoding bytes) z (more_ascii 0 (length bytes) (omega arith) (λ i l. let y : i ≡ 0 + i = omega arith in subst (λ m. get_or bytes m 0 < 0x80) y (low i (omega (arith, short)) l)) (no_prefix encoding bytes))
   ascii_to_end (suc n) h short low k =
       let z : suc n + (length bytes - suc n) ≡ length bytes = omega (arith, h) in
       let before : suc n - 1 ≡ n = omega arith in
-      let f = front_behind_ascii (suc n) (omega arith) h (subst (λ m. get_or bytes m 0 < 0x80) (sym before) (low n (omega (arith, short, h)) (omega (arith, h)))) k in
+      let f = prefix_after_ascii (suc n) (omega arith) h (subst (λ m. get_or bytes m 0 < 0x80) (sym before) (low n (omega (arith, short, h)) (omega (arith, h)))) k in
       subst (IsEncodedPrefix encoding bytes) z (more_ascii (suc n) (length bytes - suc n) (omega (arith, h)) (λ i l. low (suc n + i) (omega (arith, short, h)) (omega (arith, l, h))) f)
 
   -- as many more as a window keeps, where the bytes are known to keep to the pattern up to an index within it
-  module _ (at : ℕ) (window : List ℕ) (n : ℕ) (same : (i : ℕ) → i < 4 + n → get_or window i 0 ≡ get_or (behind_zeros bytes) (at + i) 0) where
-    in_window : (from i j : ℕ) → at + j ≡ from + i → j < 4 + n → get_or window j 0 ≡ get_or (drop from (behind_zeros bytes)) i 0
-    in_window from i j e h = same j h ∙ ap (λ m. get_or (behind_zeros bytes) m 0) e ∙ sym (get_or-drop from (behind_zeros bytes) i 0)
+  module _ (at : ℕ) (window : List ℕ) (n : ℕ) (same : (i : ℕ) → i < 4 + n → get_or window i 0 ≡ get_or (with_zeros_before bytes) (at + i) 0) where
+    in_window : (from i j : ℕ) → at + j ≡ from + i → j < 4 + n → get_or window j 0 ≡ get_or (drop from (with_zeros_before bytes)) i 0
+    in_window from i j e h = same j h ∙ ap (λ m. get_or (with_zeros_before bytes) m 0) e ∙ sym (get_or-drop from (with_zeros_before bytes) i 0)
 
-    pub more : (to : ℕ) → at ≤ to → to ≤ at + n → AllMayStand encoding n window → KeepsPattern encoding bytes to → KeepsPattern encoding bytes (at + n)
+    pub more : (to : ℕ) → at ≤ to → to ≤ at + n → EachMayFollow encoding n window → KeepsPattern encoding bytes to → KeepsPattern encoding bytes (at + n)
     more to low high pattern k = record {
       from = k.from;
-      front = k.front;
+      prefix = k.prefix;
       order = omega (arith, k.order, high);
       pattern = λ i h. ⊎_elim (k.pattern i) (λ l. let j = k.from + i - at in
-          same_five (MayStand encoding)
+          same_five (MayFollowAll encoding)
           (in_window k.from i j (omega (arith, l, k.order, low)) (omega (arith, h, l, k.order, low)))
           (in_window k.from (suc i) (suc j) (omega (arith, l, k.order, low)) (omega (arith, h, l, k.order, low)))
           (in_window k.from (suc (suc i)) (suc (suc j)) (omega (arith, l, k.order, low)) (omega (arith, h, l, k.order, low)))
@@ -175,38 +175,38 @@ module _ (encoding : Encoding) (bytes : List ℕ) where
     }
 
   -- a window that starts with them, after zeros
-  pub more_from_start : (window : List ℕ) (n : ℕ) → ((i : ℕ) → i < 4 + n → get_or window i 0 ≡ get_or (behind_zeros bytes) i 0) → AllMayStand encoding n window → KeepsPattern encoding bytes n
+  pub more_from_start : (window : List ℕ) (n : ℕ) → ((i : ℕ) → i < 4 + n → get_or window i 0 ≡ get_or (with_zeros_before bytes) i 0) → EachMayFollow encoding n window → KeepsPattern encoding bytes n
   more_from_start window n same pattern =
       let z : 0 + n ≡ n = omega arith in
-      subst (KeepsPattern encoding bytes) z (more 0 window n (λ i h. let y : i ≡ 0 + i = omega arith in same i h ∙ ap (λ m. get_or (behind_zeros bytes) m 0) y) 0 (omega arith) (omega arith) pattern (no_pattern encoding bytes))
+      subst (KeepsPattern encoding bytes) z (more 0 window n (λ i h. let y : i ≡ 0 + i = omega arith in same i h ∙ ap (λ m. get_or (with_zeros_before bytes) m 0) y) 0 (omega arith) (omega arith) pattern (no_pattern encoding bytes))
 
   -- a window that is part of the bytes
-  pub more_inside : (at : ℕ) (window : List ℕ) (n : ℕ) → 4 ≤ at → window ≡ drop (at - 4) bytes → AllMayStand encoding n window → KeepsPattern encoding bytes at → KeepsPattern encoding bytes (at + n)
-  more_inside at window n l is = more at window n (λ i _. let place : suc (suc (suc (suc ((at - 4) + i)))) ≡ at + i = omega (arith, l) in
-      ap (λ x. get_or x i 0) is ∙ get_or-drop (at - 4) bytes i 0 ∙ ap (λ m. get_or (behind_zeros bytes) m 0) place) at (omega arith) (omega arith)
+  pub more_inside : (at : ℕ) (window : List ℕ) (n : ℕ) → 4 ≤ at → window ≡ drop (at - 4) bytes → EachMayFollow encoding n window → KeepsPattern encoding bytes at → KeepsPattern encoding bytes (at + n)
+  more_inside at window n l is = more at window n (λ i _. let index : suc (suc (suc (suc ((at - 4) + i)))) ≡ at + i = omega (arith, l) in
+      ap (λ x. get_or x i 0) is ∙ get_or-drop (at - 4) bytes i 0 ∙ ap (λ m. get_or (with_zeros_before bytes) m 0) index) at (omega arith) (omega arith)
 
   -- a window that is their end
-  pub more_at_end : (to : ℕ) (window : List ℕ) (n : ℕ) → n + 4 ≤ length bytes → window ≡ drop (length bytes - n - 4) bytes → to ≤ length bytes → length bytes - n ≤ to → AllMayStand encoding n window → KeepsPattern encoding bytes to → KeepsPattern encoding bytes (length bytes)
+  pub more_at_end : (to : ℕ) (window : List ℕ) (n : ℕ) → n + 4 ≤ length bytes → window ≡ drop (length bytes - n - 4) bytes → to ≤ length bytes → length bytes - n ≤ to → EachMayFollow encoding n window → KeepsPattern encoding bytes to → KeepsPattern encoding bytes (length bytes)
   more_at_end to window n long is high low pattern k =
       let at = length bytes - n in
       let end : at + n ≡ length bytes = omega (arith, long) in
-      subst (KeepsPattern encoding bytes) end (more at window n (λ i _. let place : suc (suc (suc (suc ((length bytes - n - 4) + i)))) ≡ at + i = omega (arith, long) in
-      ap (λ x. get_or x i 0) is ∙ get_or-drop (length bytes - n - 4) bytes i 0 ∙ ap (λ m. get_or (behind_zeros bytes) m 0) place) to low (omega (arith, end, high)) pattern k)
+      subst (KeepsPattern encoding bytes) end (more at window n (λ i _. let index : suc (suc (suc (suc ((length bytes - n - 4) + i)))) ≡ at + i = omega (arith, long) in
+      ap (λ x. get_or x i 0) is ∙ get_or-drop (length bytes - n - 4) bytes i 0 ∙ ap (λ m. get_or (with_zeros_before bytes) m 0) index) to low (omega (arith, end, high)) pattern k)
 
-  -- bytes spell code points up to their end, if they keep to the pattern and no form continues there
+  -- bytes encode code points up to their end, if they keep to the pattern and no form continues there
   pub closed_end : 3 ≤ length bytes → IsClosed (get_or bytes (length bytes - 3) 0) (get_or bytes (length bytes - 2) 0) (get_or bytes (length bytes - 1) 0) → KeepsPattern encoding bytes (length bytes) → IsEncodedPrefix encoding bytes (length bytes)
   closed_end long closed k = past_end (suc (length bytes)) (omega arith) kept
     where
       past : get_or bytes (length bytes) 0 ≡ 0
       past = get_or_past bytes (length bytes) 0 (omega arith)
 
-      at_end : (i j : ℕ) → k.from + i ≡ suc (suc (suc (suc j))) → get_or (drop k.from (behind_zeros bytes)) i 0 ≡ get_or bytes j 0
-      at_end i j e = get_or-drop k.from (behind_zeros bytes) i 0 ∙ ap (λ m. get_or (behind_zeros bytes) m 0) e
+      at_end : (i j : ℕ) → k.from + i ≡ suc (suc (suc (suc j))) → get_or (drop k.from (with_zeros_before bytes)) i 0 ≡ get_or bytes j 0
+      at_end i j e = get_or-drop k.from (with_zeros_before bytes) i 0 ∙ ap (λ m. get_or (with_zeros_before bytes) m 0) e
 
       kept : KeepsPattern encoding bytes (suc (length bytes))
       kept = record {
         from = k.from;
-        front = k.front;
+        prefix = k.prefix;
         order = omega (arith, k.order);
         pattern = λ i h. ⊎_elim (k.pattern i) (λ l.
             let x = at_end (suc i) (length bytes - 3) (omega (arith, h, l, k.order, long)) in
@@ -220,19 +220,19 @@ module _ (encoding : Encoding) (bytes : List ℕ) where
 pub ascii_is_utf8 : (bytes : List ℕ) (n : ℕ) → ((i : ℕ) → i < n → get_or bytes i 0 < 0x80) → n ≤ length bytes → IsUtf8 (take n bytes)
 ascii_is_utf8 bytes n low h =
     let z : 0 + n ≡ n = omega arith in
-    subst (λ m. IsUtf8 (take m bytes)) z (front_is_utf8 Utf8 bytes (0 + n) refl (more_ascii Utf8 bytes 0 n (omega (arith, h)) (λ i l. let y : i ≡ 0 + i = omega arith in subst (λ m. get_or bytes m 0 < 0x80) y (low i l)) (no_front Utf8 bytes)))
+    subst (λ m. IsUtf8 (take m bytes)) z (prefix_is_utf8 Utf8 bytes (0 + n) refl (more_ascii Utf8 bytes 0 n (omega (arith, h)) (λ i l. let y : i ≡ 0 + i = omega arith in subst (λ m. get_or bytes m 0 < 0x80) y (low i l)) (no_prefix Utf8 bytes)))
 
 -- what holds of so many bytes from an index on, at an index among them
 pub ascii_at : (bytes : List ℕ) (at n i : ℕ) → ((j : ℕ) → j < n → get_or bytes (at + j) 0 < 0x80) → at ≤ i → i < at + n → get_or bytes i 0 < 0x80
 ascii_at bytes at n i low h l = let z : at + (i - at) ≡ i = omega (arith, h) in subst (λ m. get_or bytes m 0 < 0x80) z (low (i - at) (omega (arith, h, l)))
 
 -- a window that was copied, with zeros around it
-pub before_bytes : (bytes : List ℕ) (m : ℕ) → m < 4 → get_or (behind_zeros bytes) m 0 ≡ 0
+pub before_bytes : (bytes : List ℕ) (m : ℕ) → m < 4 → get_or (with_zeros_before bytes) m 0 ≡ 0
 before_bytes bytes (suc (suc (suc (suc m)))) h = absurd (omega (arith, h))
 before_bytes bytes m h = refl
 
-past_bytes : (bytes : List ℕ) (m : ℕ) → 4 + length bytes ≤ m → get_or (behind_zeros bytes) m 0 ≡ 0
-past_bytes bytes m h = get_or_past (behind_zeros bytes) m 0 (omega (arith, h))
+past_bytes : (bytes : List ℕ) (m : ℕ) → 4 + length bytes ≤ m → get_or (with_zeros_before bytes) m 0 ≡ 0
+past_bytes bytes m h = get_or_past (with_zeros_before bytes) m 0 (omega (arith, h))
 
 -- zeros, and zeros after a list, which change nothing, since 0 is what an index past its end gives
 pub zeros : (n i : ℕ) → ◌≡◌ {A = ℕ} (get_or (replicate n 0) i 0) 0
@@ -248,18 +248,18 @@ zeros_after (x ∷ xs) zs z (suc i) = zeros_after xs zs z i
 put_items : (f : ℕ → ℕ) (a n : ℕ) (xs part : List ℕ) → a + n ≤ length xs → length part ≡ n → ((i : ℕ) → i < n → get_or part i 0 ≡ f (a + i))
     → (i : ℕ) → ((i < a) ⊎ (a + n ≤ i) → get_or xs i 0 ≡ f i) → get_or (put_mid a n xs part) i 0 ≡ f i
 put_items f a n xs part room many written i kept =
-    let front : List ℕ = take a xs in
+    let prefix : List ℕ = take a xs in
     let post : List ℕ = drop n (drop a xs) in
-    let size : length front ≡ a = length-take-le a xs (omega (arith, room)) in
+    let size : length prefix ≡ a = length-take-le a xs (omega (arith, room)) in
     ⊎_elim
-    (λ l. get_or_append_left front (part ++ post) 0 i (omega (arith, size, l)) ∙ get_or-take a xs i 0 l ∙ kept (inl l))
-    (λ l. get_or-append_right front (part ++ post) a i 0 size l ∙ ⊎_elim
-    (λ m. let place : a + (i - a) ≡ i = omega (arith, l) in get_or_append_left part post 0 (i - a) (omega (arith, many, m)) ∙ written (i - a) m ∙ ap f place)
-    (λ m. let place : a + (n + (i - a - n)) ≡ i = omega (arith, l, m) in
+    (λ l. get_or_append_left prefix (part ++ post) 0 i (omega (arith, size, l)) ∙ get_or-take a xs i 0 l ∙ kept (inl l))
+    (λ l. get_or-append_right prefix (part ++ post) a i 0 size l ∙ ⊎_elim
+    (λ m. let index : a + (i - a) ≡ i = omega (arith, l) in get_or_append_left part post 0 (i - a) (omega (arith, many, m)) ∙ written (i - a) m ∙ ap f index)
+    (λ m. let index : a + (n + (i - a - n)) ≡ i = omega (arith, l, m) in
     get_or-append_right part post n (i - a) 0 many m
     ∙ get_or-drop n (drop a xs) (i - a - n) 0
     ∙ get_or-drop a xs (n + (i - a - n)) 0
-    ∙ ap (λ k. get_or xs k 0) place
+    ∙ ap (λ k. get_or xs k 0) index
     ∙ kept (inr (omega (arith, l, m))))
     (cases_lt (i - a) n))
     (cases_lt i a)
@@ -267,36 +267,36 @@ put_items f a n xs part room many written i kept =
 -- the window that is copied into 68 zeros
 copied_into : (zs : List ℕ) → length zs ≡ 68 → ((k : ℕ) → get_or zs k 0 ≡ 0) → (bytes : List ℕ) (at b n : ℕ) (part : List ℕ) → at ≤ length bytes → b ≡ min at 4 → n ≡ min (length bytes - at) 64
     → part ≡ take (at + n - (at - b)) (drop (at - b) bytes) → (i : ℕ) → i < 68
-    → get_or (put_mid (4 - b) (4 + n - (4 - b)) zs part) i 0 ≡ get_or (behind_zeros bytes) (at + i) 0
+    → get_or (put_mid (4 - b) (4 + n - (4 - b)) zs part) i 0 ≡ get_or (with_zeros_before bytes) (at + i) 0
 copied_into zs wide zero_at bytes at b n part within few most is i h =
-    put_items (λ k. get_or (behind_zeros bytes) (at + k) 0) (4 - b) (4 + n - (4 - b)) zs part (omega (arith, wide, few, most))
+    put_items (λ k. get_or (with_zeros_before bytes) (at + k) 0) (4 - b) (4 + n - (4 - b)) zs part (omega (arith, wide, few, most))
     (ap length is ∙ length-take (at + n - (at - b)) (drop (at - b) bytes) ∙ omega (arith, length-drop (at - b) bytes, few, most, within))
-    (λ k l. let place : suc (suc (suc (suc ((at - b) + k)))) ≡ at + (4 - b + k) = omega (arith, few) in
+    (λ k l. let index : suc (suc (suc (suc ((at - b) + k)))) ≡ at + (4 - b + k) = omega (arith, few) in
     ap (λ x. get_or x k 0) is
     ∙ get_or-take (at + n - (at - b)) (drop (at - b) bytes) k 0 (omega (arith, few, l))
     ∙ get_or-drop (at - b) bytes k 0
-    ∙ ap (λ x. get_or (behind_zeros bytes) x 0) place)
+    ∙ ap (λ x. get_or (with_zeros_before bytes) x 0) index)
     i (λ o. zero_at i ∙ sym (⊎_elim (λ l. before_bytes bytes (at + i) (omega (arith, few, l))) (λ l. past_bytes bytes (at + i) (omega (arith, few, most, l, h, within))) o))
 
 pub copied : (bytes : List ℕ) (at b n : ℕ) (part : List ℕ) → at ≤ length bytes → b ≡ min at 4 → n ≡ min (length bytes - at) 64
     → part ≡ take (at + n - (at - b)) (drop (at - b) bytes) → (i : ℕ) → i < 68
-    → get_or (put_mid (4 - b) (4 + n - (4 - b)) (replicate 68 0) part) i 0 ≡ get_or (behind_zeros bytes) (at + i) 0
+    → get_or (put_mid (4 - b) (4 + n - (4 - b)) (replicate 68 0) part) i 0 ≡ get_or (with_zeros_before bytes) (at + i) 0
 copied = copied_into (replicate 68 0) refl (zeros 68)
 
 -- the window that the first n bytes and the last n, which are all of them, are copied into
 module _ (bytes : List ℕ) (n last m k : ℕ) (first part : List ℕ) (few : n ≤ 16) (all : last + n ≡ length bytes) (over : last ≤ n) (m_is : m ≡ n) (k_is : k ≡ n) (is_first : first ≡ take n bytes) (is_last : part ≡ drop last bytes) where
-  ends_copied_into : (zs : List ℕ) → length zs ≡ 36 → ((k : ℕ) → get_or zs k 0 ≡ 0) → (i : ℕ) → get_or (put_mid (4 + last) k (put_mid 4 m zs first) part) i 0 ≡ get_or (behind_zeros bytes) i 0
+  ends_copied_into : (zs : List ℕ) → length zs ≡ 36 → ((k : ℕ) → get_or zs k 0 ≡ 0) → (i : ℕ) → get_or (put_mid (4 + last) k (put_mid 4 m zs first) part) i 0 ≡ get_or (with_zeros_before bytes) i 0
   ends_copied_into zs wide zero_at i =
-      let f : ℕ → ℕ = λ j. get_or (behind_zeros bytes) j 0 in
+      let f : ℕ → ℕ = λ j. get_or (with_zeros_before bytes) j 0 in
       let size : length first ≡ m = ap length is_first ∙ length-take-le n bytes (omega (arith, all)) ∙ sym m_is in
       put_items f (4 + last) k (put_mid 4 m zs first) part (omega (arith, put_length 4 m zs first (omega (arith, wide, few, m_is)) size, wide, few, over, k_is))
       (ap length is_last ∙ length-drop last bytes ∙ omega (arith, all, k_is))
-      (λ j l. let place : suc (suc (suc (suc (last + j)))) ≡ 4 + last + j = omega arith in ap (λ x. get_or x j 0) is_last ∙ get_or-drop last bytes j 0 ∙ ap f place)
+      (λ j l. let index : suc (suc (suc (suc (last + j)))) ≡ 4 + last + j = omega arith in ap (λ x. get_or x j 0) is_last ∙ get_or-drop last bytes j 0 ∙ ap f index)
       i (λ o. put_items f 4 m zs first (omega (arith, wide, few, m_is)) size
-      (λ j l. let place : suc (suc (suc (suc j))) ≡ 4 + j = omega arith in ap (λ x. get_or x j 0) is_first ∙ get_or-take n bytes j 0 (omega (arith, l, m_is)) ∙ ap f place)
+      (λ j l. let index : suc (suc (suc (suc j))) ≡ 4 + j = omega arith in ap (λ x. get_or x j 0) is_first ∙ get_or-take n bytes j 0 (omega (arith, l, m_is)) ∙ ap f index)
       i (λ q. zero_at i ∙ sym (⊎_elim (λ l. before_bytes bytes i l) (λ l. past_bytes bytes i (⊎_elim (λ b. absurd (omega (arith, l, b, over, m_is))) (λ b. omega (arith, b, all, k_is)) o)) q)))
 
-  pub ends_copied : (i : ℕ) → get_or (put_mid (4 + last) k (put_mid 4 m (replicate 36 0) first) part) i 0 ≡ get_or (behind_zeros bytes) i 0
+  pub ends_copied : (i : ℕ) → get_or (put_mid (4 + last) k (put_mid 4 m (replicate 36 0) first) part) i 0 ≡ get_or (with_zeros_before bytes) i 0
   ends_copied = ends_copied_into (replicate 36 0) refl (zeros 36)
 
 -- whether the code point at an edge is a high surrogate, by the bytes before it
@@ -311,17 +311,17 @@ edge_not_high : (p x y z : ℕ) → IsBetweenCodePoints p x y z → (x ≡ 0xED 
 edge_not_high p x y z edge n = sym (not_in_range 0xD800 0xDBFF p (λ h. n (edge.high h).0))
 
 module _ (bytes : List ℕ) (at : ℕ) (f : IsEncodedPrefix Wtf8 bytes at) where
-  edge : IsBetweenCodePointsAt (last_or 0 f.code_points) at (behind_zeros bytes)
-  edge = edge_at bytes f.code_points at f.within f.spelled
+  edge : IsBetweenCodePointsAt (last_or 0 f.code_points) at (with_zeros_before bytes)
+  edge = edge_at bytes f.code_points at f.within f.encoded
 
   pub near_start : at < 3 → false ≡ is_high (last_or 0 f.code_points)
   near_start l = edge_not_high _ _ _ _ edge (λ e. let z = before_bytes bytes (suc at) (omega (arith, l)) in omega (arith, e, z))
 
-  third_before : 3 ≤ at → get_or (behind_zeros bytes) (suc at) 0 ≡ get_or bytes (at - 3) 0
-  third_before l = let place : suc at ≡ suc (suc (suc (suc (at - 3)))) = omega (arith, l) in ap (λ n. get_or (behind_zeros bytes) n 0) place
+  third_before : 3 ≤ at → get_or (with_zeros_before bytes) (suc at) 0 ≡ get_or bytes (at - 3) 0
+  third_before l = let index : suc at ≡ suc (suc (suc (suc (at - 3)))) = omega (arith, l) in ap (λ n. get_or (with_zeros_before bytes) n 0) index
 
-  second_before : 3 ≤ at → get_or (behind_zeros bytes) (suc (suc at)) 0 ≡ get_or bytes (at - 2) 0
-  second_before l = let place : suc (suc at) ≡ suc (suc (suc (suc (at - 2)))) = omega (arith, l) in ap (λ n. get_or (behind_zeros bytes) n 0) place
+  second_before : 3 ≤ at → get_or (with_zeros_before bytes) (suc (suc at)) 0 ≡ get_or bytes (at - 2) 0
+  second_before l = let index : suc (suc at) ≡ suc (suc (suc (suc (at - 2)))) = omega (arith, l) in ap (λ n. get_or (with_zeros_before bytes) n 0) index
 
   pub other_lead : 3 ≤ at → (get_or bytes (at - 3) 0 ≡ 0xED → ⊥) → false ≡ is_high (last_or 0 f.code_points)
   other_lead l n = edge_not_high _ _ _ _ edge (λ e. n (sym (third_before l) ∙ e))

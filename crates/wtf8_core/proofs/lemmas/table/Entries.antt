@@ -1,5 +1,5 @@
 -- What the tables say, by a test of each of their entries.
-use Rattle.wtf8_core.proofs.Common.{◌≡◌, ◌⊎◌, inl, inr, ⊎_elim, ℕ, suc, ◌+◌, ◌-◌, ◌*◌, ◌≤◌, Bool, true, false, leb, eqb, ◌&&◌, ◌||◌, List, [], ◌∷◌, map, ◌<◌, get_or, refl, sym, ap, ◌∙◌, and_parts, or_cases, leb-true, eqb-true, beq, needed_continuations, lead_bits, least_value, class_at, next_at, Row, needed, rows, SomeRow, is_plain, State, Between, BehindHigh, BadFourth, Refused, BadThird, Class, state_index}
+use Rattle.wtf8_core.proofs.Common.{◌≡◌, ◌⊎◌, inl, inr, ⊎_elim, ℕ, suc, ◌+◌, ◌-◌, ◌*◌, ◌≤◌, Bool, true, false, leb, eqb, ◌&&◌, ◌||◌, List, [], ◌∷◌, map, ◌<◌, get_or, refl, sym, ap, ◌∙◌, and_parts, or_cases, leb-true, eqb-true, beq, needed_continuations, lead_bits, least_value, class_at, next_at, Row, needed, rows, SomeRow, is_plain, State, Between, AfterHigh, BadFourth, Refused, BadThird, Class, state_index}
 use Rattle.wtf8_core.specs.Table.{state_at, class_index}
 use Rattle.wtf8_core.specs.declared.table.Class.TheVariants.{Ascii}
 use Rattle.wtf8_core.proofs.lemmas.scan.ComputedTests.{each_below}
@@ -100,30 +100,30 @@ between_entry h k t =
     either (both (at_most (last_of k) 0x7F) (is t Between))
     (either (both (both (at_most 0x80 (first_of k)) (at_most (last_of k) 0xC1)) (is t Refused)) (some (map (begins h k) (rows t))))
 
-abbrev pub least_behind : Class → Row → ℕ
-least_behind k r = r.least * 0x40 + (first_of k - 0x80)
+abbrev pub least_after : Class → Row → ℕ
+least_after k r = r.least * 0x40 + (first_of k - 0x80)
 
-abbrev pub most_behind : Class → Row → ℕ
-most_behind k r = r.most * 0x40 + (last_of k - 0x80)
+abbrev pub most_after : Class → Row → ℕ
+most_after k r = r.most * 0x40 + (last_of k - 0x80)
 
 -- one more continuation of the class, and one or more are still missing
 abbrev pub goes_on : Class → Row → Row → Test
-goes_on k r s = every (alike s.high r.high ∷ equal s.read (suc r.read) ∷ equal r.later (suc s.later) ∷ at_most s.least (least_behind k r) ∷ at_most (most_behind k r) s.most ∷ [])
+goes_on k r s = every (alike s.high r.high ∷ equal s.read (suc r.read) ∷ equal r.later (suc s.later) ∷ at_most s.least (least_after k r) ∷ at_most (most_after k r) s.most ∷ [])
 
 -- the last continuation, with which every value is refused
 abbrev pub all_refused : State → Class → Row → Test
 all_refused s k r =
     both (either (both (is s BadFourth) (equal r.read 2)) (both (is s BadThird) (equal r.read 1)))
-    (either (at_most (most_behind k r + 1) (least_value (needed r)))
-    (either (at_most 0x11_0000 (least_behind k r)) (both (alike r.high true) (both (at_most 0xDC00 (least_behind k r)) (at_most (most_behind k r) 0xDFFF)))))
+    (either (at_most (most_after k r + 1) (least_value (needed r)))
+    (either (at_most 0x11_0000 (least_after k r)) (both (alike r.high true) (both (at_most 0xDC00 (least_after k r)) (at_most (most_after k r) 0xDFFF)))))
 
 -- the same, and every value is a code point that may come here
 abbrev pub all_accepted : State → Class → Row → Test
 all_accepted t k r =
-    every (at_most (least_value (needed r)) (least_behind k r) ∷ at_most (most_behind k r) 0x10_FFFF
-    ∷ either (alike r.high false) (either (at_most (most_behind k r) 0xDBFF) (at_most 0xE000 (least_behind k r)))
-    ∷ either (both (is t Between) (either (at_most (most_behind k r) 0xD7FF) (at_most 0xDC00 (least_behind k r))))
-    (both (is t BehindHigh) (both (at_most 0xD800 (least_behind k r)) (at_most (most_behind k r) 0xDBFF))) ∷ [])
+    every (at_most (least_value (needed r)) (least_after k r) ∷ at_most (most_after k r) 0x10_FFFF
+    ∷ either (alike r.high false) (either (at_most (most_after k r) 0xDBFF) (at_most 0xE000 (least_after k r)))
+    ∷ either (both (is t Between) (either (at_most (most_after k r) 0xD7FF) (at_most 0xDC00 (least_after k r))))
+    (both (is t AfterHigh) (both (at_most 0xD800 (least_after k r)) (at_most (most_after k r) 0xDBFF))) ∷ [])
 
 abbrev pub open_entry : State → Class → State → Row → Test
 open_entry s k t r =
@@ -133,7 +133,7 @@ open_entry s k t r =
 
 abbrev pub entry : State → Class → Test
 entry Between k = between_entry false k (next_at Between k)
-entry BehindHigh k = between_entry true k (next_at BehindHigh k)
+entry AfterHigh k = between_entry true k (next_at AfterHigh k)
 entry s k = every (map (open_entry s k (next_at s k)) (rows s))
 
 all_pass : (s : State) (k : Class) → passes (entry s k) ≡ true

@@ -1,12 +1,12 @@
 -- One more byte in the table is one more byte of the reader.
-use Rattle.wtf8_core.proofs.Common.{◌≡◌, ◌≢◌, ◌⊎◌, refl, HasFirstFault, inl, inr, ⊎_elim, ℕ, suc, ◌+◌, ◌*◌, ◌-◌, ◌%◌, ◌<◌, ◌≤◌, Bool, true, false, List, [], ◌∷◌, ◌++◌, map, Result, Ok, Err, sym, ap, ◌∙◌, subst, arith, nat_tests, append_assoc, append-nil, map-append, cond_both, cond-true, cond-false, All, All-append, All-from_recursion, IsByte, IsContinuation, needed_continuations, is_high, lead_bits, checked_value, first_split, split_within, items_from, items_after, AreItems, class_at, next_at, Gives, Row, needed, rows, SomeRow, IsOpen, Stands, IsFaulty, kept_bits, joined_bits, fault_at, is_continuation, cond, EncodingError, Byte, CodePoint, End, State, Between, BehindHigh, BadFourth, Refused, BadThird}
+use Rattle.wtf8_core.proofs.Common.{◌≡◌, ◌≢◌, ◌⊎◌, refl, HasFirstFault, inl, inr, ⊎_elim, ℕ, suc, ◌+◌, ◌*◌, ◌-◌, ◌%◌, ◌<◌, ◌≤◌, Bool, true, false, List, [], ◌∷◌, ◌++◌, map, Result, Ok, Err, sym, ap, ◌∙◌, subst, arith, nat_tests, append_assoc, append-nil, map-append, cond_both, cond-true, cond-false, All, All-append, All-from_recursion, IsByte, IsContinuation, needed_continuations, is_high, lead_bits, checked_value, first_split, split_within, items_from, items_after, AreItems, class_at, next_at, Gives, Row, needed, rows, SomeRow, IsOpen, IsInState, IsFaulty, kept_bits, joined_bits, fault_at, is_continuation, cond, EncodingError, Byte, CodePoint, End, State, Between, AfterHigh, BadFourth, Refused, BadThird}
 use Rattle.wtf8_core.specs.Checker.{value_fault}
 use Rattle.wtf8_core.proofs.lemmas.forms.Ranges.{in_range, not_in_range}
 use Rattle.wtf8_core.proofs.lemmas.reader.Complete.{when_good, when_bad}
 use Rattle.wtf8_core.proofs.lemmas.reader.FirstErr.{items_first_err}
 use Rattle.wtf8_core.proofs.lemmas.reader.Reading.{items-split, split-ascii, split-stray, split-lead, within-more, within-broken, within-whole}
 use Rattle.wtf8_core.proofs.lemmas.reader.Sound.{items_of_bytes}
-use Rattle.wtf8_core.proofs.lemmas.table.Entries.{Holds, some_from, some_with, in_class, classed, begins, between_entry, least_behind, most_behind, goes_on, open_entry, entered}
+use Rattle.wtf8_core.proofs.lemmas.table.Entries.{Holds, some_from, some_with, in_class, classed, begins, between_entry, least_after, most_after, goes_on, open_entry, entered}
 
 -- the bits of a lead that needs two continuations or more, and of one more continuation
 lead_kept : (bits x : ℕ) → 2 ≤ needed_continuations x → kept_bits 0 (joined_bits bits x) ≡ lead_bits x
@@ -17,12 +17,12 @@ bits_more (suc (suc (suc n))) bits x v h e = absurd (omega arith)
 bits_more n bits x v h e = omega arith
 
 -- the items of the bytes if none come after them
-pub items_now : {behind : List ℕ → List (Result ℕ EncodingError)} (b : List ℕ) → (g : Gives b behind) → items_after false b ≡ map Ok g.code_points ++ behind []
+pub items_now : {after : List ℕ → List (Result ℕ EncodingError)} (b : List ℕ) → (g : Gives b after) → items_after false b ≡ map Ok g.code_points ++ after []
 items_now b g = ap (items_after false) (sym (append-nil b)) ∙ g.items []
 
 -- more bytes are read
-pub gives_more : {behind then : List ℕ → List (Result ℕ EncodingError)} (b bs ds : List ℕ) → Gives b behind → All IsByte bs → ((more : List ℕ) → behind (bs ++ more) ≡ map Ok ds ++ then more) → Gives (b ++ bs) then
-gives_more {behind} {then} b bs ds g a e = record {
+pub gives_more : {after then : List ℕ → List (Result ℕ EncodingError)} (b bs ds : List ℕ) → Gives b after → All IsByte bs → ((more : List ℕ) → after (bs ++ more) ≡ map Ok ds ++ then more) → Gives (b ++ bs) then
+gives_more {after} {then} b bs ds g a e = record {
   are_bytes = All-append IsByte b bs g.are_bytes a;
   code_points = g.code_points ++ ds;
   items = λ more. ap (items_after false) (append_assoc b bs more)
@@ -33,12 +33,12 @@ gives_more {behind} {then} b bs ds g a e = record {
 }
 
 -- what it refuses is the first fault
-pub first_fault : {behind : List ℕ → List (Result ℕ EncodingError)} (b : List ℕ) (f : EncodingError) (later : List (Result ℕ EncodingError)) → Gives b behind → behind [] ≡ Err f ∷ later → HasFirstFault b f
+pub first_fault : {after : List ℕ → List (Result ℕ EncodingError)} (b : List ℕ) (f : EncodingError) (later : List (Result ℕ EncodingError)) → Gives b after → after [] ≡ Err f ∷ later → HasFirstFault b f
 first_fault b f later g e = (g.code_points, items_first_err b g.code_points f later (subst (AreItems b) (items_now b g ∙ ap (λ l. map Ok g.code_points ++ l) e) (items_of_bytes b g.are_bytes)))
 
-opened_of_rows : (t : State) (bits : ℕ) (b : List ℕ) → SomeRow (IsOpen bits b) (rows t) → Stands t bits b
+opened_of_rows : (t : State) (bits : ℕ) (b : List ℕ) → SomeRow (IsOpen bits b) (rows t) → IsInState t bits b
 opened_of_rows Between bits b r = absurd r
-opened_of_rows BehindHigh bits b r = absurd r
+opened_of_rows AfterHigh bits b r = absurd r
 opened_of_rows t bits b r = r
 
 -- the fault of a last continuation that is refused
@@ -50,8 +50,8 @@ no_value : (x : ℕ) → cond (is_continuation x) (Byte x) (Byte x) ≡ Byte x
 no_value x = cond_both (is_continuation x) _ _ (λ f. f ≡ Byte x) (λ _. refl) (λ _. refl)
 
 -- what a byte does in a state
-pub record Goes (state : State) (bits : ℕ) (b : List ℕ) (x : ℕ) (t : State) : Type 0 where
-  pub on : t ≢ Refused → Stands t (joined_bits bits x) (b ++ x ∷ [])
+pub record StepsTo (state : State) (bits : ℕ) (b : List ℕ) (x : ℕ) (t : State) : Type 0 where
+  pub on : t ≢ Refused → IsInState t (joined_bits bits x) (b ++ x ∷ [])
   pub off : t ≡ Refused → IsFaulty (b ++ x ∷ []) (fault_at state (joined_bits bits x) x)
 
 module _ (s t : State) (bits : ℕ) (b : List ℕ) (x : ℕ) (u : x < 256) where
@@ -61,24 +61,24 @@ module _ (s t : State) (bits : ℕ) (b : List ℕ) (x : ℕ) (u : x < 256) where
   k : Holds (in_class (class_at x) x)
   k = classed x u
 
-  rows_go : SomeRow (IsOpen (joined_bits bits x) (b ++ x ∷ [])) (rows t) → Goes s bits b x t
-  rows_go r = record {
+  rows_step : SomeRow (IsOpen (joined_bits bits x) (b ++ x ∷ [])) (rows t) → StepsTo s bits b x t
+  rows_step r = record {
     on = λ _. opened_of_rows t (joined_bits bits x) (b ++ x ∷ []) r;
     off = λ e. absurd (subst (λ z. SomeRow (IsOpen (joined_bits bits x) (b ++ x ∷ [])) (rows z)) e r);
   }
 
-  module _ {behind : List ℕ → List (Result ℕ EncodingError)} (g : Gives b behind) where
+  module _ {after : List ℕ → List (Result ℕ EncodingError)} (g : Gives b after) where
     -- the byte ends a code point
-    accepted : (c : ℕ) → ((more : List ℕ) → behind (x ∷ more) ≡ Ok c ∷ items_after (is_high c) more) → ((t ≡ Between) × (is_high c ≡ false)) ⊎ ((t ≡ BehindHigh) × (is_high c ≡ true)) → Goes s bits b x t
+    accepted : (c : ℕ) → ((more : List ℕ) → after (x ∷ more) ≡ Ok c ∷ items_after (is_high c) more) → ((t ≡ Between) × (is_high c ≡ false)) ⊎ ((t ≡ AfterHigh) × (is_high c ≡ true)) → StepsTo s bits b x t
     accepted c e h =
         let more : (after : Bool) → is_high c ≡ after → Gives (b ++ x ∷ []) (items_after after) = λ after k. gives_more b (x ∷ []) (c ∷ []) g one (λ more. e more ∙ ap (λ z. Ok c ∷ items_after z more) k) in
         record {
-          on = λ _. ⊎_elim (λ a. subst (λ z. Stands z (joined_bits bits x) (b ++ x ∷ [])) (sym a.0) (more false a.1)) (λ a. subst (λ z. Stands z (joined_bits bits x) (b ++ x ∷ [])) (sym a.0) (more true a.1)) h;
+          on = λ _. ⊎_elim (λ a. subst (λ z. IsInState z (joined_bits bits x) (b ++ x ∷ [])) (sym a.0) (more false a.1)) (λ a. subst (λ z. IsInState z (joined_bits bits x) (b ++ x ∷ [])) (sym a.0) (more true a.1)) h;
           off = λ z. ⊎_elim (λ a. let y = a.0 in cc) (λ a. let y = a.0 in cc) h;
         }
 
     -- the byte is refused
-    refused : {later : List ℕ → List (Result ℕ EncodingError)} (f : EncodingError) → f ≢ End → ((more : List ℕ) → behind (x ∷ more) ≡ Err f ∷ later more) → t ≡ Refused → fault_at s (joined_bits bits x) x ≡ f → Goes s bits b x t
+    refused : {later : List ℕ → List (Result ℕ EncodingError)} (f : EncodingError) → f ≢ End → ((more : List ℕ) → after (x ∷ more) ≡ Err f ∷ later more) → t ≡ Refused → fault_at s (joined_bits bits x) x ≡ f → StepsTo s bits b x t
     refused f n e i same = record {
       on = λ z. absurd (z i);
       off = λ _. subst (IsFaulty (b ++ x ∷ [])) (sym same) (record { first = first_fault (b ++ x ∷ []) f _ (gives_more b (x ∷ []) [] g one e) refl; stays = n });
@@ -95,12 +95,12 @@ module _ (s t : State) (bits : ℕ) (b : List ℕ) (x : ℕ) (u : x < 256) where
     whole : IsContinuation x → r.later ≡ 0 → (item : Result ℕ EncodingError) → checked_value r.high (needed r) v ≡ item → (more : List ℕ) → items_from (split_within r.high (needed r) (suc r.later) q.value (x ∷ more)) ≡ items_from (item, more)
     whole c z item e more = continued c more ∙ ap items_from (ap (λ m. split_within r.high (needed r) m v more) z ∙ within-whole r.high (needed r) v more ∙ ap (λ i. (i, more)) e)
 
-    open_goes : Holds (open_entry s (class_at x) t r) → Goes s bits b x t
-    open_goes e = ⊎_elim
+    open_steps : Holds (open_entry s (class_at x) t r) → StepsTo s bits b x t
+    open_steps e = ⊎_elim
         (λ a. let c : IsContinuation x = (omega (arith, a.0.0, k.0), omega (arith, a.0.1, k.1.0)) in
         let low : x % 0x40 ≡ x - 0x80 = omega (arith, c.0, c.1) in
-        let above : least_behind (class_at x) r ≤ v = omega (arith, low, q.least_is, k.0, a.0.0) in
-        let below : v ≤ most_behind (class_at x) r = omega (arith, low, q.most_is, k.1.0) in
+        let above : least_after (class_at x) r ≤ v = omega (arith, low, q.least_is, k.0, a.0.0) in
+        let below : v ≤ most_after (class_at x) r = omega (arith, low, q.most_is, k.1.0) in
         let kept : 2 ≤ needed r → kept_bits (suc r.read) (joined_bits bits x) ≡ v = λ two. bits_more r.read bits x q.value e.0 (q.bits_are two) in
         ⊎_elim
         (λ y. ⊎_elim
@@ -119,7 +119,7 @@ module _ (s t : State) (bits : ℕ) (b : List ℕ) (x : ℕ) (u : x < 256) where
         (λ w. inr (w.0, in_range 0xD800 0xDBFF v (omega (arith, w.1.0, above), omega (arith, w.1.1, below))))
         z.1.1.1.0))
         y.1)
-        (λ y. rows_go (some_from (goes_on (class_at x) r) (IsOpen (joined_bits bits x) (b ++ x ∷ [])) (rows t) y (λ n g. record {
+        (λ y. rows_step (some_from (goes_on (class_at x) r) (IsOpen (joined_bits bits x) (b ++ x ∷ [])) (rows t) y (λ n g. record {
           value = v;
           given = gives_more b (x ∷ []) [] q.given one (λ more. continued c more ∙ on n g more);
           least_is = omega (arith, g.1.1.1.0, above);
@@ -139,13 +139,13 @@ module _ (s t : State) (bits : ℕ) (b : List ℕ) (x : ℕ) (u : x < 256) where
             ∙ ap (λ m. items_from (split_within n.high (needed n) m v more)) g.1.1.0
 
   -- after a whole form
-  between_goes : (h : Bool) → fault_at s (joined_bits bits x) x ≡ Byte x → Gives b (items_after h) → Holds (between_entry h (class_at x) t) → Goes s bits b x t
+  between_goes : (h : Bool) → fault_at s (joined_bits bits x) x ≡ Byte x → Gives b (items_after h) → Holds (between_entry h (class_at x) t) → StepsTo s bits b x t
   between_goes h fault g e = ⊎_elim
       (λ a. let small : x < 0x80 = omega (arith, a.0, k.1.0) in
       accepted g x (first (Ok x) (λ more. more) (λ more. split-ascii h x more small)) (inl (a.1, not_in_range 0xD800 0xDBFF x (λ q. omega (arith, q.0, small)))))
       (λ a. ⊎_elim
       (λ y. refused g (Byte x) (λ i. cc) (first (Err (Byte x)) (λ more. more) (λ more. split-stray h x more (omega (arith, y.0.0, k.0), omega (arith, y.0.1, k.1.0)))) y.1 fault)
-      (λ y. rows_go (some_from (begins h (class_at x)) (IsOpen (joined_bits bits x) (b ++ x ∷ [])) (rows t) y opens))
+      (λ y. rows_step (some_from (begins h (class_at x)) (IsOpen (joined_bits bits x) (b ++ x ∷ [])) (rows t) y opens))
       a)
       e
     where
@@ -167,9 +167,9 @@ module _ (s t : State) (bits : ℕ) (b : List ℕ) (x : ℕ) (u : x < 256) where
             bits_are = λ two. subst (λ n. kept_bits n (joined_bits bits x) ≡ lead_bits x) (sym t.1.0) (lead_kept bits x (omega (arith, two, same)));
           }) k.1.1.0
 
-pub goes : (s : State) (bits : ℕ) (b : List ℕ) (x : ℕ) → x < 256 → Stands s bits b → Goes s bits b x (next_at s (class_at x))
+pub goes : (s : State) (bits : ℕ) (b : List ℕ) (x : ℕ) → x < 256 → IsInState s bits b → StepsTo s bits b x (next_at s (class_at x))
 goes Between bits b x u m = between_goes Between (next_at Between (class_at x)) bits b x u false (no_value x) m (entered Between (class_at x))
-goes BehindHigh bits b x u m = between_goes BehindHigh (next_at BehindHigh (class_at x)) bits b x u true (no_value x) m (entered BehindHigh (class_at x))
+goes AfterHigh bits b x u m = between_goes AfterHigh (next_at AfterHigh (class_at x)) bits b x u true (no_value x) m (entered AfterHigh (class_at x))
 goes s bits b x u m =
     let t = next_at s (class_at x) in
-    some_with (open_entry s (class_at x) t) (IsOpen bits b) (Goes s bits b x t) (rows s) m (entered s (class_at x)) (λ r q. open_goes s t bits b x u r q)
+    some_with (open_entry s (class_at x) t) (IsOpen bits b) (StepsTo s bits b x t) (rows s) m (entered s (class_at x)) (λ r q. open_steps s t bits b x u r q)

@@ -1,14 +1,14 @@
 -- std's answer on bytes that aren't UTF-8, by the definitions.
-use Rattle.wtf8_core.proofs.Common.{◌≡◌, ⊎_elim, ℕ, suc, ◌+◌, ◌<◌, ◌≤◌, List, [], ◌∷◌, ◌++◌, length, take, drop, get_or, length-append, length-drop, append_assoc, take-append-drop, Option, Some, sym, ap, ◌∙◌, subst, arith, if◌then◌else◌, IsScalar, is_in_range, IsInRange, MatchOption, IsUtf8, IsValidUpTo, utf8_error_len, second_byte_min, second_byte_max, cond_both, cases_lt, nat_tests, take-take, get_or_append_left, IsUtf8-append, IsUtf8-encode, take-add, take-append_seam, IsContinuation, needed_continuations, encode, shape_value, IsFrontOfCharacter, IsProperFront, IsIllFormed, IsUtf8Fault}
-use Rattle.wtf8_core.proofs.lemmas.characters.AtPlaces.{NoChar}
+use Rattle.wtf8_core.proofs.Common.{◌≡◌, ⊎_elim, ℕ, suc, ◌+◌, ◌<◌, ◌≤◌, List, [], ◌∷◌, ◌++◌, length, take, drop, get_or, length-append, length-drop, append_assoc, take-append-drop, Option, Some, sym, ap, ◌∙◌, subst, arith, if◌then◌else◌, IsScalar, is_in_range, IsInRange, MatchOption, IsUtf8, IsValidUpTo, utf8_error_len, second_byte_min, second_byte_max, cond_both, cases_lt, nat_tests, take-take, get_or_append_left, IsUtf8-append, IsUtf8-encode, take-add, take-append_seam, IsContinuation, needed_continuations, encode, sequence_value, IsPrefixOfCharacter, IsProperPrefix, IsIllFormed, IsUtf8Fault}
+use Rattle.wtf8_core.proofs.lemmas.characters.AtIndices.{NoChar}
 use Rattle.wtf8_core.proofs.lemmas.forms.Shapes.{form_ascii, form_bounds}
 use Rattle.wtf8_core.proofs.lemmas.forms.ByStd.{form_encode}
-use Rattle.wtf8_core.proofs.lemmas.characters.Overlaps.{form_behind}
+use Rattle.wtf8_core.proofs.lemmas.characters.Overlaps.{form_after}
 use Rattle.wtf8_core.proofs.lemmas.forms.Ranges.{in_range-true, in_range-false}
 
 -- what std answers of the rest r
 abbrev Part : List ℕ → Option ℕ → Type 0
-Part r len = MatchOption len (IsProperFront r) (IsIllFormed r)
+Part r len = MatchOption len (IsProperPrefix r) (IsIllFormed r)
 
 -- b begins a form of two bytes or more, and x may follow it (the table of RFC 3629, section 4)
 abbrev pub First : ℕ → Type 0
@@ -34,7 +34,7 @@ IsForm xs = (c : ℕ) × IsScalar c × (encode c ≡ xs)
 
 pub filled : (b x y z : ℕ) → First b → Second b x → IsContinuation y → IsContinuation z → IsForm (Filled b x y z)
 unfolding encode
-filled b x y z l s j k = (shape_value b (take (needed_continuations b) (x ∷ y ∷ z ∷ [])), grind (arith, nat_tests, s), grind (arith, nat_tests, s))
+filled b x y z l s j k = (sequence_value b (take (needed_continuations b) (x ∷ y ∷ z ∷ [])), grind (arith, nat_tests, s), grind (arith, nat_tests, s))
 
 -- so bytes that begin with no character don't begin with it
 not_filled : (b x y z : ℕ) (r rest : List ℕ) → First b → Second b x → IsContinuation y → IsContinuation z → NoChar r → r ≡ Filled b x y z ++ rest → ⊥
@@ -56,39 +56,39 @@ needs_third b x y t l s k n =
     ⊎_elim (λ h. absurd (not_filled b x y 0x80 _ t l s k least_continuation n (grind (arith, nat_tests)))) (λ h. h) (cases_lt b 0xF0)
 
 -- a prefix of a form, with more after it
-front_of : (xs : List ℕ) (k : ℕ) → IsForm xs → k < length xs → IsProperFront (take k xs)
-front_of xs k w h = record { front = record { char = w.0; scalar = w.1; rest = drop k xs; is = w.2 ∙ sym (take-append-drop k xs) }; proper = omega (arith, length-drop k xs) }
+prefix_of : (xs : List ℕ) (k : ℕ) → IsForm xs → k < length xs → IsProperPrefix (take k xs)
+prefix_of xs k w h = record { prefix = record { char = w.0; scalar = w.1; rest = drop k xs; is = w.2 ∙ sym (take-append-drop k xs) }; proper = omega (arith, length-drop k xs) }
 
-one_open : (b : ℕ) → First b → IsProperFront (b ∷ [])
-one_open b l = front_of (Filled b (second_byte_min b) 0x80 0x80) 1 (filled b (second_byte_min b) 0x80 0x80 l (grind (arith, nat_tests)) least_continuation least_continuation) (grind (arith, nat_tests))
+one_open : (b : ℕ) → First b → IsProperPrefix (b ∷ [])
+one_open b l = prefix_of (Filled b (second_byte_min b) 0x80 0x80) 1 (filled b (second_byte_min b) 0x80 0x80 l (grind (arith, nat_tests)) least_continuation least_continuation) (grind (arith, nat_tests))
 
-two_open : (b x : ℕ) → First b → Second b x → 0xE0 ≤ b → IsProperFront (b ∷ x ∷ [])
+two_open : (b x : ℕ) → First b → Second b x → 0xE0 ≤ b → IsProperPrefix (b ∷ x ∷ [])
 two_open b x l s h =
     let e : take 2 (Filled b x 0x80 0x80) ≡ b ∷ x ∷ [] = grind (arith, nat_tests) in
-    subst IsProperFront e (front_of (Filled b x 0x80 0x80) 2 (filled b x 0x80 0x80 l s least_continuation least_continuation) (grind (arith, nat_tests)))
+    subst IsProperPrefix e (prefix_of (Filled b x 0x80 0x80) 2 (filled b x 0x80 0x80 l s least_continuation least_continuation) (grind (arith, nat_tests)))
 
-three_open : (b x y : ℕ) → First b → Second b x → IsContinuation y → 0xF0 ≤ b → IsProperFront (b ∷ x ∷ y ∷ [])
+three_open : (b x y : ℕ) → First b → Second b x → IsContinuation y → 0xF0 ≤ b → IsProperPrefix (b ∷ x ∷ y ∷ [])
 three_open b x y l s k h =
     let e : take 3 (Filled b x y 0x80) ≡ b ∷ x ∷ y ∷ [] = grind (arith, nat_tests) in
-    subst IsProperFront e (front_of (Filled b x y 0x80) 3 (filled b x y 0x80 l s k least_continuation) (grind (arith, nat_tests)))
+    subst IsProperPrefix e (prefix_of (Filled b x y 0x80) 3 (filled b x y 0x80 l s k least_continuation) (grind (arith, nat_tests)))
 
 -- a prefix of a prefix is a prefix
-cut_front : (k : ℕ) (r : List ℕ) → IsFrontOfCharacter r → IsFrontOfCharacter (take k r)
-cut_front k r w = record { char = w.char; scalar = w.scalar; rest = drop k r ++ w.rest; is = w.is ∙ ap (λ x. x ++ w.rest) (sym (take-append-drop k r)) ∙ append_assoc (take k r) (drop k r) w.rest }
+cut_prefix : (k : ℕ) (r : List ℕ) → IsPrefixOfCharacter r → IsPrefixOfCharacter (take k r)
+cut_prefix k r w = record { char = w.char; scalar = w.scalar; rest = drop k r ++ w.rest; is = w.is ∙ ap (λ x. x ++ w.rest) (sym (take-append-drop k r)) ∙ append_assoc (take k r) (drop k r) w.rest }
 
 -- k bytes are at fault: they are a prefix of a form, and one byte more is none
-ill : (r : List ℕ) (k : ℕ) → 0 < k → k ≤ length r → (1 < k → IsFrontOfCharacter (take k r)) → (IsFrontOfCharacter (take (suc k) r) → ⊥) → IsIllFormed r k
-ill r k some within front none = record {
-  closed = λ w. none (cut_front (suc k) r w.front);
+ill : (r : List ℕ) (k : ℕ) → 0 < k → k ≤ length r → (1 < k → IsPrefixOfCharacter (take k r)) → (IsPrefixOfCharacter (take (suc k) r) → ⊥) → IsIllFormed r k
+ill r k some within prefix none = record {
+  closed = λ w. none (cut_prefix (suc k) r w.prefix);
   some = some;
   within = within;
-  front = front;
-  longest = λ m h l w. none (subst IsFrontOfCharacter (take-take (suc k) m r (omega arith)) (cut_front (suc k) (take m r) w));
+  prefix = prefix;
+  longest = λ m h l w. none (subst IsPrefixOfCharacter (take-take (suc k) m r (omega arith)) (cut_prefix (suc k) (take m r) w));
 }
 
 -- where no character begins, a prefix is one of a form of two bytes or more
-long_front : (b : ℕ) (t u : List ℕ) → NoChar (b ∷ t) → (w : IsFrontOfCharacter (b ∷ u)) → 0x80 ≤ w.char
-long_front b t u n w = ⊎_elim
+long_prefix : (b : ℕ) (t u : List ℕ) → NoChar (b ∷ t) → (w : IsPrefixOfCharacter (b ∷ u)) → 0x80 ≤ w.char
+long_prefix b t u n w = ⊎_elim
     (λ h. let f = form_ascii w.char h in
     let e : b ∷ u ++ w.rest ≡ w.char ∷ [] = sym w.is ∙ f in
     let q : b ≡ w.char = cc in
@@ -97,25 +97,25 @@ long_front b t u n w = ⊎_elim
     (cases_lt w.char 0x80)
 
 -- the bytes after the first one in a prefix of a character are continuations
-pub front_behind : (xs : List ℕ) → IsFrontOfCharacter xs → (m : ℕ) → 0 < m → m < length xs → IsContinuation (get_or xs m 0)
-front_behind xs w m low high =
+pub after_prefix : (xs : List ℕ) → IsPrefixOfCharacter xs → (m : ℕ) → 0 < m → m < length xs → IsContinuation (get_or xs m 0)
+after_prefix xs w m low high =
     let l : length (encode w.char) ≡ length xs + length w.rest = ap length w.is ∙ length-append xs w.rest in
-    subst IsContinuation (ap (λ x. get_or x m 0) w.is ∙ get_or_append_left xs w.rest 0 m high) (form_behind w.char m low (omega arith))
+    subst IsContinuation (ap (λ x. get_or x m 0) w.is ∙ get_or_append_left xs w.rest 0 m high) (form_after w.char m low (omega arith))
 
 -- the part, by the first byte, by the second, and by the third
 by_first : (b : ℕ) (t : List ℕ) (o : Option ℕ) → NoChar (b ∷ t) → (First b → Part (b ∷ t) o) → Part (b ∷ t) (if is_in_range 0xC2 0xF4 b then o else Some 1)
 by_first b t o n h = cond_both (is_in_range 0xC2 0xF4 b) _ _ (Part (b ∷ t)) (λ e. h (in_range-true 0xC2 0xF4 b e))
     (λ e. ill (b ∷ t) 1 (omega arith) (omega arith) (λ k. absurd (omega arith))
-    (λ w. in_range-false 0xC2 0xF4 b e (subst (λ l. First (get_or l 0 0)) w.is (lead_of w.char w.scalar (long_front b t (take 1 t) n w)))))
+    (λ w. in_range-false 0xC2 0xF4 b e (subst (λ l. First (get_or l 0 0)) w.is (lead_of w.char w.scalar (long_prefix b t (take 1 t) n w)))))
 
 by_second : (b x : ℕ) (t : List ℕ) (o : Option ℕ) → NoChar (b ∷ x ∷ t) → (Second b x → Part (b ∷ x ∷ t) o) → Part (b ∷ x ∷ t) (if is_in_range (second_byte_min b) (second_byte_max b) x then o else Some 1)
 by_second b x t o n h = cond_both (is_in_range (second_byte_min b) (second_byte_max b) x) _ _ (Part (b ∷ x ∷ t)) (λ e. h (in_range-true _ _ x e))
     (λ e. ill (b ∷ x ∷ t) 1 (omega arith) (omega arith) (λ k. absurd (omega arith))
-    (λ w. in_range-false _ _ x e (subst (λ l. Second (get_or l 0 0) (get_or l 1 0)) w.is (second_of w.char w.scalar (long_front b (x ∷ t) (x ∷ []) n w)))))
+    (λ w. in_range-false _ _ x e (subst (λ l. Second (get_or l 0 0) (get_or l 1 0)) w.is (second_of w.char w.scalar (long_prefix b (x ∷ t) (x ∷ []) n w)))))
 
-by_third : (b x y : ℕ) (t : List ℕ) (o : Option ℕ) → IsProperFront (b ∷ x ∷ []) → (IsContinuation y → Part (b ∷ x ∷ y ∷ t) o) → Part (b ∷ x ∷ y ∷ t) (if is_in_range 0x80 0xBF y then o else Some 2)
+by_third : (b x y : ℕ) (t : List ℕ) (o : Option ℕ) → IsProperPrefix (b ∷ x ∷ []) → (IsContinuation y → Part (b ∷ x ∷ y ∷ t) o) → Part (b ∷ x ∷ y ∷ t) (if is_in_range 0x80 0xBF y then o else Some 2)
 by_third b x y t o f h = cond_both (is_in_range 0x80 0xBF y) _ _ (Part (b ∷ x ∷ y ∷ t)) (λ e. h (in_range-true 0x80 0xBF y e))
-    (λ e. ill (b ∷ x ∷ y ∷ t) 2 (omega arith) (omega arith) (λ _. f.front) (λ w. in_range-false 0x80 0xBF y e (front_behind (b ∷ x ∷ y ∷ []) w 2 (omega arith) (omega arith))))
+    (λ e. ill (b ∷ x ∷ y ∷ t) 2 (omega arith) (omega arith) (λ _. f.prefix) (λ w. in_range-false 0x80 0xBF y e (after_prefix (b ∷ x ∷ y ∷ []) w 2 (omega arith) (omega arith))))
 
 -- std's answer of four bytes or more
 pub len_of_four : (b x y z : ℕ) (t : List ℕ) → utf8_error_len (b ∷ x ∷ y ∷ z ∷ t)
@@ -133,8 +133,8 @@ part (b ∷ x ∷ y ∷ []) h n = by_first b _ _ n (λ l. by_second b x _ _ n (�
 part (b ∷ x ∷ y ∷ z ∷ t) h n = subst (Part (b ∷ x ∷ y ∷ z ∷ t)) (sym (len_of_four b x y z t))
     (by_first b _ _ n (λ l. by_second b x _ _ n (λ s. by_third b x y _ _ (two_open b x l s (needs_second b x _ l s n)) (λ k.
     let low = needs_third b x y (z ∷ t) l s k n in
-    ill (b ∷ x ∷ y ∷ z ∷ t) 3 (omega arith) (omega arith) (λ _. (three_open b x y l s k low).front)
-    (λ w. not_filled b x y z _ t l s k (front_behind (b ∷ x ∷ y ∷ z ∷ []) w 3 (omega arith) (omega arith)) n (grind (arith, nat_tests)))))))
+    ill (b ∷ x ∷ y ∷ z ∷ t) 3 (omega arith) (omega arith) (λ _. (three_open b x y l s k low).prefix)
+    (λ w. not_filled b x y z _ t l s k (after_prefix (b ∷ x ∷ y ∷ z ∷ []) w 3 (omega arith) (omega arith)) n (grind (arith, nat_tests)))))))
 
 -- no character begins what follows the longest prefix
 pub no_char : (bytes : List ℕ) (n : ℕ) → IsValidUpTo bytes n → NoChar (drop n bytes)

@@ -2,19 +2,19 @@
 use Rattle.wtf8_core.proofs.Common.{◌≡◌, ⊎_elim, ℕ, zero, suc, ◌+◌, ◌<◌, ◌≤◌, true, List, [], ◌∷◌, ◌++◌, length, take, drop, get_or, refl, sym, ap, ◌∙◌, subst, arith, take-append-drop, get_or-take, get_or_past, length-take-le, cases_lt, cases_Bool, scalar, all_scalars, AllByRecursion, flat_map, IsUtf8, IsUtf8-nil, IsContinuation, IsCodePoint, IsSurrogate, is_surrogate, encode, IsWtf8}
 use Rattle.std.proofs.lemmas.List.{drop_more, get_or-append-add}
 use Rattle.wtf8_core.specs.Surrogate.{IsSurrogateAt}
-use Rattle.wtf8_core.proofs.lemmas.characters.AtPlaces.{is_scalar}
+use Rattle.wtf8_core.proofs.lemmas.characters.AtIndices.{is_scalar}
 use Rattle.wtf8_core.proofs.lemmas.forms.ByStd.{forms_encode}
-use Rattle.wtf8_core.proofs.lemmas.forms.Cuts.{cut_before, spells_parts}
+use Rattle.wtf8_core.proofs.lemmas.forms.Cuts.{cut_before, encodes_parts}
 use Rattle.wtf8_core.proofs.lemmas.forms.Ranges.{in_range-true}
 use Rattle.wtf8_core.proofs.lemmas.forms.Shapes.{form_surrogate}
 
 -- before a byte that is no continuation both parts of WTF-8 are WTF-8
 pub cut_at_lead : (b : List ℕ) (i : ℕ) → i < length b → IsWtf8 b → (IsContinuation (get_or b i 0) → ⊥) → IsWtf8 (take i b) × IsWtf8 (drop i b)
 cut_at_lead b i lt w n =
-    let back : drop i b ≡ get_or b i 0 ∷ drop (i + 1) b = drop_more b i 0 lt in
-    let cut = cut_before w.0 (take i b) (get_or b i 0) (drop (i + 1) b) n (sym w.1.joined ∙ sym (take-append-drop i b) ∙ ap (λ x. take i b ++ x) back) in
-    let parts = spells_parts b w.0 _ _ w.1 cut in
-    ((cut.front, parts.0), subst IsWtf8 (sym back) (cut.back, parts.1))
+    let suffix : drop i b ≡ get_or b i 0 ∷ drop (i + 1) b = drop_more b i 0 lt in
+    let cut = cut_before w.0 (take i b) (get_or b i 0) (drop (i + 1) b) n (sym w.1.joined ∙ sym (take-append-drop i b) ∙ ap (λ x. take i b ++ x) suffix) in
+    let parts = encodes_parts b w.0 _ _ w.1 cut in
+    ((cut.prefix, parts.0), subst IsWtf8 (sym suffix) (cut.suffix, parts.1))
 
 -- a surrogate in the second of two lists
 later : (x y : List ℕ) (i : ℕ) → IsSurrogateAt y i → IsSurrogateAt (x ++ y) (length x + i)
@@ -40,9 +40,9 @@ text_without b w n =
     (w.0, (all_text w.0 w.1.code_points (λ i h. n i (subst (λ x. IsSurrogateAt x i) (sym joined) h)), sym (forms_encode w.0) ∙ sym joined))
 
 -- the same of a prefix before a byte that is no continuation
-pub front_without : (b : List ℕ) (n : ℕ) → n < length b → IsWtf8 b → (0 < n → IsContinuation (get_or b n 0) → ⊥) → ((i : ℕ) → i < n → IsSurrogateAt b i → ⊥) → IsUtf8 (take n b)
-front_without b zero lt w begun clear = IsUtf8-nil
-front_without b (suc m) lt w begun clear =
+pub prefix_without : (b : List ℕ) (n : ℕ) → n < length b → IsWtf8 b → (0 < n → IsContinuation (get_or b n 0) → ⊥) → ((i : ℕ) → i < n → IsSurrogateAt b i → ⊥) → IsUtf8 (take n b)
+prefix_without b zero lt w begun clear = IsUtf8-nil
+prefix_without b (suc m) lt w begun clear =
     let n = suc m in
     let size = length-take-le n b (omega (arith, lt)) in
     let inside : (i : ℕ) → 0 < get_or (take n b) i 0 → i < n = λ i some. ⊎_elim (λ l. l) (λ ge. let none = get_or_past (take n b) i 0 (omega (arith, ge, size)) in absurd (omega (arith, none, some))) (cases_lt i n) in

@@ -1,15 +1,15 @@
 -- Where the units of code points may be cut, and lists of code points joined.
 use Rattle.wtf8_core.proofs.Common.{◌≡◌, ⊎_elim, ℕ, Bool, true, false, cond, List, [], ◌∷◌, ◌++◌, refl, sym, ap, ◌∙◌, subst, arith, cases_lt, AllByRecursion, flat_map, IsCodePoint, encode, encode_utf16, HasNoSurrogatePair, MayPrecede, last_or, units, Encodes, IsHigh, low_unit, paired, is_pair, code_points_of}
-use Rattle.wtf8_core.proofs.lemmas.forms.Cuts.{all_parts, paired_front, paired_back}
+use Rattle.wtf8_core.proofs.lemmas.forms.Cuts.{all_parts, paired_prefix, paired_suffix}
 use Rattle.wtf8_core.proofs.lemmas.forms.Appending.{all_joined}
 use Rattle.wtf8_core.proofs.lemmas.units.OneToOne.{wide_single, wide_pair, wide_units, read_single, reads_units, may_precede, IsUnit, reading}
 
--- the parts of a spelled list are spelled
-pub spells_front : (cs ds : List ℕ) → AllByRecursion IsCodePoint (cs ++ ds) → HasNoSurrogatePair (cs ++ ds) → Encodes (flat_map encode cs) cs
-spells_front cs ds a f = record { code_points = (all_parts IsCodePoint cs ds a).0; paired_free = paired_front cs ds f; joined = refl }
+-- the parts of an encoded list are encoded
+pub encodes_prefix : (cs ds : List ℕ) → AllByRecursion IsCodePoint (cs ++ ds) → HasNoSurrogatePair (cs ++ ds) → Encodes (flat_map encode cs) cs
+encodes_prefix cs ds a f = record { code_points = (all_parts IsCodePoint cs ds a).0; no_pair = paired_prefix cs ds f; joined = refl }
 
-pub spells_back : (cs ds : List ℕ) → AllByRecursion IsCodePoint (cs ++ ds) → HasNoSurrogatePair (cs ++ ds) → Encodes (flat_map encode ds) ds
-spells_back cs ds a f = record { code_points = (all_parts IsCodePoint cs ds a).1; paired_free = paired_back cs ds f; joined = refl }
+pub encodes_suffix : (cs ds : List ℕ) → AllByRecursion IsCodePoint (cs ++ ds) → HasNoSurrogatePair (cs ++ ds) → Encodes (flat_map encode ds) ds
+encodes_suffix cs ds a f = record { code_points = (all_parts IsCodePoint cs ds a).1; no_pair = paired_suffix cs ds f; joined = refl }
 
 -- the last of a list, whatever came before it
 other_before : (u v : ℕ) (xs ys : List ℕ) → (IsHigh v → ⊥) → MayPrecede (last_or u xs) ys → MayPrecede (last_or v xs) ys
@@ -37,26 +37,26 @@ units_fit (c ∷ cs) a = all_joined IsUnit (encode_utf16 c) (units cs) (wide_uni
 
 -- code points whose units are us and then vs: those that us and vs are read as
 pub record AreUnitsCut (cs us vs : List ℕ) : Type 0 where
-  pub front : List ℕ
-  pub back : List ℕ
-  pub cut : cs ≡ front ++ back
-  pub front_is : units front ≡ us
-  pub back_is : units back ≡ vs
-  pub front_reads : code_points_of us ≡ front
-  pub back_reads : code_points_of vs ≡ back
+  pub prefix : List ℕ
+  pub suffix : List ℕ
+  pub cut : cs ≡ prefix ++ suffix
+  pub prefix_is : units prefix ≡ us
+  pub suffix_is : units suffix ≡ vs
+  pub prefix_reads : code_points_of us ≡ prefix
+  pub suffix_reads : code_points_of vs ≡ suffix
 
 -- units may be cut where they don't begin within a pair
 pub cut_at_units : (cs us vs : List ℕ) → AllByRecursion IsCodePoint cs → HasNoSurrogatePair cs → units cs ≡ us ++ vs → MayPrecede (last_or 0 us) vs → AreUnitsCut cs us vs
 cut_at_units cs us vs a f e m =
     let fit = all_parts IsUnit us vs (subst (AllByRecursion IsUnit) e (units_fit cs a)) in
     record {
-      front = code_points_of us;
-      back = code_points_of vs;
+      prefix = code_points_of us;
+      suffix = code_points_of vs;
       cut = sym (reads_units cs a f) ∙ ap code_points_of e ∙ cut_units us vs m;
-      front_is = sym (reading us fit.0).are;
-      back_is = sym (reading vs fit.1).are;
-      front_reads = refl;
-      back_reads = refl;
+      prefix_is = sym (reading us fit.0).are;
+      suffix_is = sym (reading vs fit.1).are;
+      prefix_reads = refl;
+      suffix_reads = refl;
     }
 
 -- if the last code point is no high surrogate, the last unit is none
@@ -73,15 +73,15 @@ last_unit u (c ∷ cs) n h =
     other u v (x ∷ xs) n m h = m h
 
 -- a prefix of the units that may precede the units after it is a prefix of the code points
-pub units_front : (cs ps vs : List ℕ) → AllByRecursion IsCodePoint cs → HasNoSurrogatePair cs → AllByRecursion IsCodePoint ps → HasNoSurrogatePair ps → MayPrecede (last_or 0 (units ps)) vs
+pub units_prefix : (cs ps vs : List ℕ) → AllByRecursion IsCodePoint cs → HasNoSurrogatePair cs → AllByRecursion IsCodePoint ps → HasNoSurrogatePair ps → MayPrecede (last_or 0 (units ps)) vs
     → units cs ≡ units ps ++ vs → (es : List ℕ) × (cs ≡ ps ++ es) × (units es ≡ vs)
-units_front cs ps vs a f b g n e =
+units_prefix cs ps vs a f b g n e =
     let c = cut_at_units cs (units ps) vs a f e n in
-    (c.back, c.cut ∙ ap (λ z. z ++ c.back) (sym c.front_reads ∙ reads_units ps b g), c.back_is)
+    (c.suffix, c.cut ∙ ap (λ z. z ++ c.suffix) (sym c.prefix_reads ∙ reads_units ps b g), c.suffix_is)
 
 -- the same at the end
-pub units_end : (cs us ps : List ℕ) → AllByRecursion IsCodePoint cs → HasNoSurrogatePair cs → AllByRecursion IsCodePoint ps → HasNoSurrogatePair ps → MayPrecede (last_or 0 us) (units ps)
+pub units_suffix : (cs us ps : List ℕ) → AllByRecursion IsCodePoint cs → HasNoSurrogatePair cs → AllByRecursion IsCodePoint ps → HasNoSurrogatePair ps → MayPrecede (last_or 0 us) (units ps)
     → units cs ≡ us ++ units ps → (ds : List ℕ) × (cs ≡ ds ++ ps) × (units ds ≡ us)
-units_end cs us ps a f b g n e =
+units_suffix cs us ps a f b g n e =
     let c = cut_at_units cs us (units ps) a f e n in
-    (c.front, c.cut ∙ ap (λ z. c.front ++ z) (sym c.back_reads ∙ reads_units ps b g), c.front_is)
+    (c.prefix, c.cut ∙ ap (λ z. c.prefix ++ z) (sym c.suffix_reads ∙ reads_units ps b g), c.prefix_is)

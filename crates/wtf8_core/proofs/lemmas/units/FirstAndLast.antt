@@ -8,7 +8,7 @@ use Rattle.wtf8_core.proofs.lemmas.reader.FirstErr.{units_whole}
 use Rattle.wtf8_core.proofs.lemmas.units.OneToOne.{wide_single, wide_pair}
 use Rattle.wtf8_core.proofs.lemmas.characters.FourBytes.{four_first}
 use Rattle.wtf8_core.proofs.lemmas.forms.Cuts.{cut_before}
-use Rattle.wtf8_core.proofs.lemmas.standing.Wtf8.{units_of_spelled}
+use Rattle.wtf8_core.proofs.lemmas.occurrence.Wtf8.{units_of_encoded}
 use Rattle.wtf8_core.proofs.lemmas.forms.LastForms.{at_end, at_last, form_at_end, no_points, last_point, forms_last, units_last}
 
 -- the last unit, by the last code point
@@ -22,7 +22,7 @@ one_last us vs u l v = (λ q. record { rest = us; joined = v ∙ ap (λ z. us ++
 pub surrogate_last : (s x : List ℕ) (c : ℕ) → IsWtf8 s → IsSurrogate c → s ≡ x ++ encode c → (us : List ℕ) × (units_of s ≡ us ++ c ∷ [])
 surrogate_last s x c (cs, w) i e =
     let r = last_point cs x c (sym w.joined ∙ e) in
-    (units r.0, units_of_spelled s cs w ∙ ap units r.1 ∙ units_last r.0 c ∙ ap (λ z. units r.0 ++ z) (wide_single c (omega (arith, i.1))))
+    (units r.0, units_of_encoded s cs w ∙ ap units r.1 ∙ units_last r.0 c ∙ ap (λ z. units r.0 ++ z) (wide_single c (omega (arith, i.1))))
 
 -- the code point past FFFF of which four bytes are the form
 record IsPastForm (back : List ℕ) (d e c : ℕ) : Type 0 where
@@ -49,12 +49,12 @@ four_bytes (c ∷ cs) a b d e h k =
 pub half_last : (s x : List ℕ) (a b d e : ℕ) → IsWtf8 s → 0xF0 ≤ a → s ≡ x ++ (a ∷ b ∷ d ∷ e ∷ []) → (us : List ℕ) × (units_of s ≡ us ++ (0xDC00 + (d % 0x10) * 0x40 + e % 0x40) ∷ [])
 half_last s x a b d e (cs, w) h k =
     let r = cut_before cs x a (b ∷ d ∷ e ∷ []) (λ i. omega (arith, i.1)) (sym w.joined ∙ k) in
-    let p = four_bytes r.back a b d e h r.back_is in
+    let p = four_bytes r.suffix a b d e h r.suffix_is in
     let c = p.0 in
     let high = high_unit c in
     let low : low_unit c ≡ 0xDC00 + (d % 0x10) * 0x40 + e % 0x40 = omega (arith, p.1.past, p.1.third, p.1.fourth) in (
-      units r.front ++ high ∷ [],
-      units_of_spelled s cs w ∙ ap units (r.cut ∙ ap (λ z. r.front ++ z) p.1.only) ∙ units_last r.front c ∙ ap (λ z. units r.front ++ z) (wide_pair c p.1.past) ∙ sym (append_assoc (units r.front) (high ∷ []) (low_unit c ∷ [])) ∙ ap (λ z. (units r.front ++ high ∷ []) ++ z ∷ []) low,
+      units r.prefix ++ high ∷ [],
+      units_of_encoded s cs w ∙ ap units (r.cut ∙ ap (λ z. r.prefix ++ z) p.1.only) ∙ units_last r.prefix c ∙ ap (λ z. units r.prefix ++ z) (wide_pair c p.1.past) ∙ sym (append_assoc (units r.prefix) (high ∷ []) (low_unit c ∷ [])) ∙ ap (λ z. (units r.prefix ++ high ∷ []) ++ z ∷ []) low,
     )
 
 -- four last bytes
@@ -68,17 +68,17 @@ half_of s last w l e h =
     (sym (take-append-drop (length s - 4) s) ∙ ap (λ z. take (length s - 4) s ++ z) (sym e ∙ four_items last m))
 
 -- bytes whose fourth last is below F0 end with no form past FFFF
-pub no_past_form : (s last front : List ℕ) (c : ℕ) → last ≡ drop (length s - 4) s → 0x1_0000 ≤ c → s ≡ front ++ encode c → get_or last 0 0 < 0xF0 → ⊥
-no_past_form s last front c e h f i =
-    let q : get_or last 0 0 ≡ 0xF0 + c / 0x4_0000 = ap (λ z. get_or z 0 0) (form_at_end s last front 4 c e (ap length (form_past c h)) f ∙ form_past c h) in
+pub no_past_form : (s last prefix : List ℕ) (c : ℕ) → last ≡ drop (length s - 4) s → 0x1_0000 ≤ c → s ≡ prefix ++ encode c → get_or last 0 0 < 0xF0 → ⊥
+no_past_form s last prefix c e h f i =
+    let q : get_or last 0 0 ≡ 0xF0 + c / 0x4_0000 = ap (λ z. get_or z 0 0) (form_at_end s last prefix 4 c e (ap length (form_past c h)) f ∙ form_past c h) in
     omega arith
 
 -- a string that ends with neither has no low surrogate as its last unit
-pub no_low_end : (s : List ℕ) (l : ℕ) → IsWtf8 s → IsLow l
+pub no_low_suffix : (s : List ℕ) (l : ℕ) → IsWtf8 s → IsLow l
     → ((x : List ℕ) (c : ℕ) → IsSurrogate c → s ≡ x ++ encode c → ⊥)
     → ((x : List ℕ) (c : ℕ) → 0x1_0000 ≤ c → s ≡ x ++ encode c → ⊥)
     → IsSuffix (l ∷ []) (units_of s) → ⊥
-no_low_end s l (cs, w) i n m f = at cs w.joined (sym (units_of_spelled s cs w) ∙ f.joined)
+no_low_suffix s l (cs, w) i n m f = at cs w.joined (sym (units_of_encoded s cs w) ∙ f.joined)
   where
     last_case : (ds : List ℕ) (d : ℕ) → s ≡ flat_map encode ds ++ encode d → units ds ++ encode_utf16 d ≡ f.rest ++ l ∷ [] → ⊥
     last_case ds d e u =
@@ -101,7 +101,7 @@ items_of_units : (b : List ℕ) (items : List Item) → IsWtf8 b → AreUnitItem
 items_of_units b items w a = by a.items a.are_items a.are
   where
     by : (points : List Item) → AreItems b points → items ≡ flat_map unit_items points → items ≡ map Ok (units_of b)
-    by points (Whole r) e = e ∙ units_whole r.code_points points r.are ∙ ap (map Ok) (sym (units_of_spelled b r.code_points r.spelled))
+    by points (Whole r) e = e ∙ units_whole r.code_points points r.are ∙ ap (map Ok) (sym (units_of_encoded b r.code_points r.encoded))
     by points (Faulty r l) e = absurd (never_both b w.0 r.code_points r.fault w.1 r.first)
 
 -- so the first item tells the first unit

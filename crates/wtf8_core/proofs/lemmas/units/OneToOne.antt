@@ -2,7 +2,7 @@
 use Rattle.wtf8_core.proofs.Common.{◌≡◌, ℕ, ◌<◌, ◌≤◌, List, [], ◌∷◌, ◌++◌, length, get_or, Fits, w16, refl, sym, ap, ◌∙◌, arith, cond_both, nat_tests, All-from_get_or, recursion_from_All, AllByRecursion, flat_map, IsHigh, IsLow, high_unit, low_unit, is_pair, paired, IsCodePoint, encode, encode_utf16, HasNoSurrogatePair, MayPrecede, units, HasUnits, code_points_of, decoder_bytes, drop, drop_all, subst, true, false, ◌+◌}
 use Rattle.std.specs.Prelude.{slice_index}
 use Rattle.std.proofs.lemmas.List.{drop_more}
-use Rattle.wtf8_core.proofs.lemmas.reader.Complete.{spelled_once}
+use Rattle.wtf8_core.proofs.lemmas.reader.Complete.{encoded_once}
 
 -- the units of a code point, one or two
 pub wide_single : (c : ℕ) → c < 0x1_0000 → encode_utf16 c ≡ c ∷ []
@@ -56,7 +56,7 @@ wide_units c h = grind (arith, nat_tests)
 -- the code points of units: a paired-free list with these units
 pub record IsReading (us cs : List ℕ) : Type 0 where
   pub code_points : AllByRecursion IsCodePoint cs
-  pub paired_free : HasNoSurrogatePair cs
+  pub no_pair : HasNoSurrogatePair cs
   pub are : us ≡ units cs
 
 -- a unit before units that are read
@@ -74,7 +74,7 @@ paired_units u v h l = grind (arith, nat_tests, h, l)
 reading_single : (u : ℕ) (us cs : List ℕ) → IsUnit u → MayPrecede u cs → IsReading us cs → IsReading (u ∷ us) (u ∷ cs)
 reading_single u us cs h m r = record {
   code_points = (omega arith, r.code_points);
-  paired_free = (m, r.paired_free);
+  no_pair = (m, r.no_pair);
   are = ap (λ x. u ∷ x) r.are ∙ ap (λ x. x ++ units cs) (sym (wide_single u h));
 }
 
@@ -82,15 +82,15 @@ reading_single u us cs h m r = record {
 reading_pair : (u v : ℕ) (us cs : List ℕ) → IsHigh u → IsLow v → IsReading us cs → IsReading (u ∷ v ∷ us) (paired u v ∷ cs)
 reading_pair u v us cs h l r = record {
   code_points = (omega (arith, h.1, l.1), r.code_points);
-  paired_free = (may_precede (paired u v) cs (λ i. omega (arith, i.1)), r.paired_free);
+  no_pair = (may_precede (paired u v) cs (λ i. omega (arith, i.1)), r.no_pair);
   are = ap (λ x. u ∷ v ∷ x) r.are ∙ ap (λ x. x ++ units cs) (sym (paired_units u v h l));
 }
 
 -- units are read so
 pub reading : (us : List ℕ) → AllByRecursion IsUnit us → IsReading us (code_points_of us)
 unfolding code_points_of
-reading [] a = record { code_points = tt; paired_free = tt; are = refl }
-reading (u ∷ []) a = reading_single u [] [] a.0 tt (record { code_points = tt; paired_free = tt; are = refl })
+reading [] a = record { code_points = tt; no_pair = tt; are = refl }
+reading (u ∷ []) a = reading_single u [] [] a.0 tt (record { code_points = tt; no_pair = tt; are = refl })
 reading (u ∷ v ∷ us) a =
     cond_both (is_pair u v) _ _ (IsReading (u ∷ v ∷ us))
     (λ e. reading_pair u v us _ (grind (arith, nat_tests)) (grind (arith, nat_tests)) (reading us a.1.1))
@@ -99,23 +99,23 @@ reading (u ∷ v ∷ us) a =
 -- bytes with the same units are the same
 pub units_once : (bytes others us : List ℕ) → HasUnits bytes us → HasUnits others us → bytes ≡ others
 units_once bytes others us h k =
-    let c : code_points_of us ≡ h.code_points = ap code_points_of h.are ∙ reads_units h.code_points h.spelled.code_points h.spelled.paired_free in
-    let d : code_points_of us ≡ k.code_points = ap code_points_of k.are ∙ reads_units k.code_points k.spelled.code_points k.spelled.paired_free in
-    h.spelled.joined ∙ ap (flat_map encode) (sym c ∙ d) ∙ sym k.spelled.joined
+    let c : code_points_of us ≡ h.code_points = ap code_points_of h.are ∙ reads_units h.code_points h.encoded.code_points h.encoded.no_pair in
+    let d : code_points_of us ≡ k.code_points = ap code_points_of k.are ∙ reads_units k.code_points k.encoded.code_points k.encoded.no_pair in
+    h.encoded.joined ∙ ap (flat_map encode) (sym c ∙ d) ∙ sym k.encoded.joined
 
--- the forms of the code points of units spell these units
-pub spelled_units : (us : List ℕ) → AllByRecursion IsUnit us → HasUnits (flat_map encode (code_points_of us)) us
-spelled_units us a =
+-- the forms of the code points of units encode these units
+pub encoded_units : (us : List ℕ) → AllByRecursion IsUnit us → HasUnits (flat_map encode (code_points_of us)) us
+encoded_units us a =
     let r = reading us a in
-    record { code_points = code_points_of us; spelled = record { code_points = r.code_points; paired_free = r.paired_free; joined = refl }; are = r.are }
+    record { code_points = code_points_of us; encoded = record { code_points = r.code_points; no_pair = r.no_pair; joined = refl }; are = r.are }
 
 -- each list of units is that of some bytes
-pub units_spelled : (us : List ℕ) → AllByRecursion IsUnit us → (bytes : List ℕ) × HasUnits bytes us
-units_spelled us a = (flat_map encode (code_points_of us), spelled_units us a)
+pub units_encoded : (us : List ℕ) → AllByRecursion IsUnit us → (bytes : List ℕ) × HasUnits bytes us
+units_encoded us a = (flat_map encode (code_points_of us), encoded_units us a)
 
 -- bytes have one list of units
 pub one_list_of_units : (bytes us vs : List ℕ) → HasUnits bytes us → HasUnits bytes vs → us ≡ vs
-one_list_of_units bytes us vs h k = h.are ∙ ap units (spelled_once bytes h.code_points k.code_points h.spelled k.spelled) ∙ sym k.are
+one_list_of_units bytes us vs h k = h.are ∙ ap units (encoded_once bytes h.code_points k.code_points h.encoded k.encoded) ∙ sym k.are
 
 -- past the units no bytes come
 pub bytes_none : (us : List ℕ) (i : ℕ) → length us ≤ i → decoder_bytes 0 (drop i us) ≡ []
@@ -151,4 +151,4 @@ bytes_pair us i h e =
 pub ruleset decoding = (bytes_none, bytes_below, bytes_last, bytes_unpaired, bytes_pair)
 
 pub decoded : (us : List ℕ) → ((i : ℕ) → Fits w16 (get_or us i 0)) → HasUnits (decoder_bytes 0 us) us
-decoded us h = spelled_units us (recursion_from_All IsUnit us (All-from_get_or IsUnit us 0 (λ i _. omega (arith, h i))))
+decoded us h = encoded_units us (recursion_from_All IsUnit us (All-from_get_or IsUnit us 0 (λ i _. omega (arith, h i))))

@@ -1,7 +1,7 @@
 use Rattle.wtf8_core.proofs.Common.{refl}
-use Rattle.wtf8_core.proofs.lemmas.scan.Windows.{front_is_utf8}
+use Rattle.wtf8_core.proofs.lemmas.scan.Windows.{prefix_is_utf8}
 use Rattle.wtf8_core.specs.declared.scan.Encoding.TheVariants.{Utf8}
 use Rattle.wtf8_core.proofs.utf8.fault_by_blocks.Goals as goal
 
 pub fault_by_characters-requires-clause-text : goal.fault_by_characters-requires-clause-text
-fault_by_characters-requires-clause-text c = front_is_utf8 Utf8 c.args.bytes.now _ refl c.scan_from.ensures.front
+fault_by_characters-requires-clause-text c = prefix_is_utf8 Utf8 c.args.bytes.now _ refl c.scan_from.ensures.prefix

@@ -1,5 +1,5 @@
 use Rattle.wtf8_core.proofs.Common.{refl}
-use Rattle.wtf8_core.proofs.lemmas.scan.Windows.{front_is_utf8, text_keeps}
+use Rattle.wtf8_core.proofs.lemmas.scan.Windows.{prefix_is_utf8, text_keeps}
 use Rattle.wtf8_core.specs.declared.scan.Encoding.TheVariants.{Utf8}
 use Rattle.wtf8_core.proofs.utf8.fault_by_steps.Goals as goal
 
@@ -7,4 +7,4 @@ pub scan_steps-requires-clause-kept : goal.scan_steps-requires-clause-kept
 scan_steps-requires-clause-kept c = text_keeps c.args.bytes.now c.args.at c.requires.within c.requires.text
 
 pub fault_by_characters-requires-clause-text : goal.fault_by_characters-requires-clause-text
-fault_by_characters-requires-clause-text c = front_is_utf8 Utf8 c.args.bytes.now _ refl c.in-Err.ensures.front
+fault_by_characters-requires-clause-text c = prefix_is_utf8 Utf8 c.args.bytes.now _ refl c.in-Err.ensures.prefix

@@ -1,4 +1,4 @@
-use Rattle.wtf8_core.proofs.lemmas.reader.FaultPlaces.{read_more, fault_read}
+use Rattle.wtf8_core.proofs.lemmas.reader.FaultIndices.{read_more, fault_read}
 use Rattle.wtf8_core.proofs.wtf8.fault_in_rest.Goals as goal
 
 pub returns-in-Err : goal.returns-in-Err

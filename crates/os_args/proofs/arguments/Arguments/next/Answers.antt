@@ -9,10 +9,10 @@ use Rattle.os_args.proofs.arguments.Arguments.next.Goals as goal
 pub read_in-requires : goal.read_in-requires
 read_in-requires g c =
     let now = c.skip_dashes.new.self in
-    no_dashes (reading c.args.self.now) (reading now) (bytes c.in-Some-first_after.word) (drop (now.place + 1) (map bytes now.words.now)) c.skip_dashes.ensures c.in-Some-first_after.ensures.first
+    no_dashes (reading c.args.self.now) (reading now) (bytes c.in-Some-first_after.word) (drop (now.index + 1) (map bytes now.words.now)) c.skip_dashes.ensures c.in-Some-first_after.ensures.first
 
 pub returns : goal.returns
 returns g c =
     let now = c.skip_dashes.new.self in
-    inr (takes_next (reading c.args.self.now) (reading now) (bytes c.in-Some-first_after.word) (drop (now.place + 1) (map bytes now.words.now)) (kind_of c.read_in.result.0) (bytes c.read_in.result.1) (option_map kind_of c.last_option-self-2.result)
+    inr (takes_next (reading c.args.self.now) (reading now) (bytes c.in-Some-first_after.word) (drop (now.index + 1) (map bytes now.words.now)) (kind_of c.read_in.result.0) (bytes c.read_in.result.1) (option_map kind_of c.last_option-self-2.result)
     (c.is_empty.ensures.0 c.if-not-is_empty.false) c.skip_dashes.ensures c.in-Some-first_after.ensures.first c.read_in.ensures c.last_option-self-2.ensures)

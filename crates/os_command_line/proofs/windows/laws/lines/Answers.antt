@@ -1,11 +1,11 @@
-use Rattle.os_command_line.specs.WindowsReader.{word_from, name_place, arguments_in}
+use Rattle.os_command_line.specs.WindowsReader.{word_from, name_index, arguments_in}
 use Rattle.os_command_line.proofs.lemmas.WindowsOneReading as reading
 use Rattle.os_command_line.proofs.lemmas.WindowsEachLine as each
 use Rattle.os_command_line.proofs.windows.laws.lines.Goals as goal
 
 pub returns-clause-some : goal.returns-clause-some
 returns-clause-some c line =
-    let read = word_from name_place line in
+    let read = word_from name_index line in
     (read.0, (arguments_in read.1, record { rest = read.1; reads = each.some_name line Rattle.std.proofs.Common.false; are = each.are_found read.1 }))
 
 pub returns-clause-one_name : goal.returns-clause-one_name

@@ -20,7 +20,7 @@ pub push_unit-requires-clause-no_blank : goal.push_unit-requires-clause-no_blank
 push_unit-requires-clause-no_blank g c = λ i. (subst (AllByRecursion (λ u. ¬ (IsBlank u))) c.in-Some.ensures.steps (c.loop-unit.invariant.3 i)).0
 
 pub returns-in_err-run-clause-grows : goal.returns-in_err-run-clause-grows
-returns-in_err-run-clause-grows g c = let w = c.loop-unit.invariant.2 in grown_on c.args.line.now.items c.loop-unit.line.items c.push_unit.new.line.items (w.front, w.new_is) c.push_unit.ensures.grows
+returns-in_err-run-clause-grows g c = let w = c.loop-unit.invariant.2 in grown_on c.args.line.now.items c.loop-unit.line.items c.push_unit.new.line.items (w.prefix, w.new_is) c.push_unit.ensures.grows
 
 pub loop-unit-preserved : goal.loop-unit-preserved
 loop-unit-preserved g c =
@@ -41,4 +41,4 @@ returns-clause-written g c =
     subst (IsWritten c.args.inside c.args.line.now.items c.loop-unit.line.items c.loop-unit.run) all so_far.2
 
 pub returns-clause-grows : goal.returns-clause-grows
-returns-clause-grows g c = let w = c.loop-unit.invariant.2 in (w.front, w.new_is)
+returns-clause-grows g c = let w = c.loop-unit.invariant.2 in (w.prefix, w.new_is)

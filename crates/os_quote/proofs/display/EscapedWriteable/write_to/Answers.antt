@@ -1,11 +1,11 @@
 use Rattle.os_quote.proofs.Common.{[], ◌∙◌, refl, true, IsUtf8-nil, shown_by}
 use Rattle.os_quote.proofs.lemmas.Escapes.{next_text, no_units_of_none}
-use Rattle.os_quote.proofs.lemmas.Fronts.{rest_formed, plain_first}
+use Rattle.os_quote.proofs.lemmas.Prefixes.{rest_formed, plain_first}
 use Rattle.os_quote.proofs.lemmas.Writing.{one_more}
 use Rattle.os_quote.proofs.display.EscapedWriteable.write_to.Goals as goal
 
 pub from_encoded_bytes_unchecked-rest-requires : goal.from_encoded_bytes_unchecked-rest-requires
-from_encoded_bytes_unchecked-rest-requires g c = rest_formed g.E.Platform.well_formed g.met.E.Platform.laws.behind_text c.as_encoded_bytes.ensures.formed c.in_ok-rest.ensures.after
+from_encoded_bytes_unchecked-rest-requires g c = rest_formed g.E.Platform.well_formed g.met.E.Platform.laws.after_text c.as_encoded_bytes.ensures.formed c.in_ok-rest.ensures.after
 
 pub loop-part-init : goal.loop-part-init
 loop-part-init g c = λ flush.
@@ -13,7 +13,7 @@ loop-part-init g c = λ flush.
     let written = c.in_ok-rest.ensures in
     let none = no_units_of_none P.well_formed P.units P.part_units g.met.E.Platform.parts (g.met.E.Platform.laws.text [] IsUtf8-nil) in
     let chunks = c.into_iter-part-iterator.ensures.into_iter_gives ∙ c.utf8_chunks-part-items.ensures.value in
-    (written.front, written.wrote flush, plain_first c.args.self.now.form P.units none written.after c.as_encoded_bytes.ensures.value c.from_encoded_bytes_unchecked-rest.ensures chunks)
+    (written.prefix, written.wrote flush, plain_first c.args.self.now.form P.units none written.after c.as_encoded_bytes.ensures.value c.from_encoded_bytes_unchecked-rest.ensures chunks)
 
 pub loop-part-preserved : goal.loop-part-preserved
 loop-part-preserved g c =

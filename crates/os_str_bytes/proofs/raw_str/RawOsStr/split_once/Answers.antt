@@ -1,6 +1,6 @@
 use Rattle.std.proofs.Common.{sym, subst}
 use Rattle.wtf8_core.specs.Pieces.{SplitsAt}
-use Rattle.wtf8_core.specs.Standing.{IsFirstPlace}
+use Rattle.wtf8_core.specs.Occurrence.{IsFirstIndex}
 use Rattle.platform_str.specs.Strings.{bytes}
 use Rattle.os_str_bytes.specs.Raw.{raw_bytes}
 use Rattle.os_str_bytes.proofs.raw_str.RawOsStr.split_once.Goals as goal
@@ -13,5 +13,5 @@ returns-in-Some-clause-units g c =
     let units = g.E.Platform.units in
     let pattern = units (g.P.Pattern.text c.args.pattern) in
     let whole = units (raw_bytes c.args.self) in
-    subst (λ x. SplitsAt IsFirstPlace pattern whole (units x) (units (raw_bytes c.new-in-Some.result))) (sym c.new.ensures)
-    (subst (λ x. SplitsAt IsFirstPlace pattern whole (units (bytes c.in-Some.front)) (units x)) (sym c.new-in-Some.ensures) c.in-Some.ensures.units)
+    subst (λ x. SplitsAt IsFirstIndex pattern whole (units x) (units (raw_bytes c.new-in-Some.result))) (sym c.new.ensures)
+    (subst (λ x. SplitsAt IsFirstIndex pattern whole (units (bytes c.in-Some.prefix)) (units x)) (sym c.new-in-Some.ensures) c.in-Some.ensures.units)

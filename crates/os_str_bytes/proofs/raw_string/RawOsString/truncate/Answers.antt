@@ -28,7 +28,7 @@ invariant_of-self g c =
       ok = subst g.E.Platform.well_formed (sym c.truncate.ensures.items)
           (⊎_elim
           (λ past. subst g.E.Platform.well_formed (sym (take_all at s (omega (arith, past)))) formed)
-          (λ le. g.met.E.Platform.laws.cut_front s at formed (c.requires le)) (cases_lt (length s) at));
+          (λ le. g.met.E.Platform.laws.cut_prefix s at formed (c.requires le)) (cases_lt (length s) at));
     }
 
 pub returns-clause-items : goal.returns-clause-items

@@ -1,9 +1,9 @@
 use Rattle.os_str_ext.proofs.Common.{subst, IsUtf8, bytes}
-use Rattle.wtf8_core.proofs.lemmas.standing.Pieces.{once_in_units}
+use Rattle.wtf8_core.proofs.lemmas.occurrence.Pieces.{once_in_units}
 use Rattle.os_str_ext.proofs.ext.OsStrOsStrBytesExt.split_once.Goals as goal
 
 pub returns-clause-bytes : goal.returns-clause-bytes
 returns-clause-bytes g c = rw (c.as_str.ensures, c.encode-encoded.ensures.value) at c.split_once.ensures
 
 pub returns-clause-units : goal.returns-clause-units
-returns-clause-units g c = once_in_units g.E.Platform.well_formed g.E.Platform.units g.met.E.Platform.standing bytes (g.P.Pattern.text c.args.pattern) (bytes c.args.self) _ (subst IsUtf8 c.encode-encoded.ensures.value c.encode-encoded.ensures.utf8) c.args.self.ok (returns-clause-bytes g c)
+returns-clause-units g c = once_in_units g.E.Platform.well_formed g.E.Platform.units g.met.E.Platform.occurrence bytes (g.P.Pattern.text c.args.pattern) (bytes c.args.self) _ (subst IsUtf8 c.encode-encoded.ensures.value c.encode-encoded.ensures.utf8) c.args.self.ok (returns-clause-bytes g c)

@@ -1,8 +1,8 @@
 use Rattle.os_str_ext.proofs.Common.{subst, IsUtf8, bytes}
-use Rattle.wtf8_core.proofs.lemmas.standing.Pieces.{strip_end_in_units}
+use Rattle.wtf8_core.proofs.lemmas.occurrence.Pieces.{strip_suffix_in_units}
 use Rattle.os_str_ext.proofs.ext.OsStrOsStrBytesExt.strip_suffix.Goals as goal
 
 pub returns-clause-units : goal.returns-clause-units
 returns-clause-units g c =
     let b = rw (c.as_str.ensures, c.encode-encoded.ensures.value) at c.strip_suffix.ensures in
-    strip_end_in_units g.E.Platform.well_formed g.E.Platform.units g.met.E.Platform.standing bytes (g.P.Pattern.text c.args.pattern) (bytes c.args.self) _ (subst IsUtf8 c.encode-encoded.ensures.value c.encode-encoded.ensures.utf8) c.args.self.ok b
+    strip_suffix_in_units g.E.Platform.well_formed g.E.Platform.units g.met.E.Platform.occurrence bytes (g.P.Pattern.text c.args.pattern) (bytes c.args.self) _ (subst IsUtf8 c.encode-encoded.ensures.value c.encode-encoded.ensures.utf8) c.args.self.ok b

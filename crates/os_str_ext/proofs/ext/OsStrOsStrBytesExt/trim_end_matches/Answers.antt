@@ -1,5 +1,5 @@
 use Rattle.os_str_ext.proofs.Common.{subst, IsUtf8, bytes}
-use Rattle.wtf8_core.proofs.lemmas.standing.Pieces.{end_trim_in_units}
+use Rattle.wtf8_core.proofs.lemmas.occurrence.Pieces.{end_trim_in_units}
 use Rattle.os_str_ext.proofs.ext.OsStrOsStrBytesExt.trim_end_matches.Goals as goal
 
 pub returns : goal.returns
@@ -8,6 +8,6 @@ returns g c =
     let whole = rw (c.as_str.ensures, c.encode-encoded.ensures.value) at c.trim_end.ensures.whole in
     record {
       bytes = b;
-      units = λ h. end_trim_in_units g.E.Platform.well_formed g.E.Platform.units g.met.E.Platform.standing (g.P.Pattern.text c.args.pattern) (bytes c.args.self) _ (subst IsUtf8 c.encode-encoded.ensures.value c.encode-encoded.ensures.utf8) h c.args.self.ok (b h);
+      units = λ h. end_trim_in_units g.E.Platform.well_formed g.E.Platform.units g.met.E.Platform.occurrence (g.P.Pattern.text c.args.pattern) (bytes c.args.self) _ (subst IsUtf8 c.encode-encoded.ensures.value c.encode-encoded.ensures.utf8) h c.args.self.ok (b h);
       whole = whole;
     }

@@ -2,4 +2,4 @@ use Rattle.platform_str.proofs.Common.{end_tested}
 use Rattle.platform_str.proofs.wasm.WasmPlatform.ends_with_os.Goals as goal
 
 pub returns : goal.returns
-returns c = end_tested c.args.string.now c.args.end.now c.ends_with.result c.ends_with.ensures.value
+returns c = end_tested c.args.string.now c.args.suffix.now c.ends_with.result c.ends_with.ensures.value

@@ -1,5 +1,5 @@
-use Rattle.platform_str.proofs.Common.{front_tested}
+use Rattle.platform_str.proofs.Common.{prefix_tested}
 use Rattle.platform_str.proofs.wasm.WasmPlatform.starts_with_os.Goals as goal
 
 pub returns : goal.returns
-returns c = front_tested c.args.string.now c.args.front.now c.starts_with.result c.starts_with.ensures.value
+returns c = prefix_tested c.args.string.now c.args.prefix.now c.starts_with.result c.starts_with.ensures.value

@@ -1,4 +1,4 @@
-use Rattle.platform_str.proofs.lemmas.ByteUnits.{has_written}
+use Rattle.platform_str.proofs.lemmas.ToWide.{has_written}
 use Rattle.platform_str.proofs.wide.OsStr+Windows.to_wide.Goals as goal
 
 pub returns-clause-has_units : goal.returns-clause-has_units

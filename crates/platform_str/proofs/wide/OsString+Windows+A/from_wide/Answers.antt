@@ -1,5 +1,5 @@
 use Rattle.platform_str.proofs.Common.{◌≡◌, [], length, sym, subst, false≢true, with_items_is, HasUnits, units_of-is, ◌∙◌}
-use Rattle.platform_str.proofs.lemmas.UnitBytes.{has_none}
+use Rattle.platform_str.proofs.lemmas.FromWide.{has_none}
 use Rattle.platform_str.proofs.wide.OsString+Windows+A.from_wide.Goals as goal
 
 pub returns-in_err-vec-clause-without_memory : goal.returns-in_err-vec-clause-without_memory
@@ -12,7 +12,7 @@ pub from_encoded_bytes_unchecked-requires : goal.from_encoded_bytes_unchecked-re
 from_encoded_bytes_unchecked-requires g c =
     let len : length c.write_wtf8.new.bytes ≡ c.resize.new.self.len = c.write_wtf8.auto.bytes ∙ c.as_mut_slice.ensures.len in
     let has = subst (λ b. HasUnits b c.args.units.now) (sym (with_items_is c.resize.new.self c.write_wtf8.new.bytes len)) c.write_wtf8.ensures in
-    (has.code_points, has.spelled)
+    (has.code_points, has.encoded)
 
 pub returns-clause-has_units : goal.returns-clause-has_units
 returns-clause-has_units g c =

@@ -7,8 +7,8 @@ use Rattle.wtf8_core.proofs.scan.short.is_copy_kept.Goals as goal
 pub returns-then-kept-bytes : goal.returns-then-kept-bytes
 returns-then-kept-bytes c _ =
     let bytes = c.args.bytes.now in
-    let n = c.kept_of_16-kept.result in
-    let e = c.kept_of_16-kept.ensures in
+    let n = c.allowed_in_step-kept.result in
+    let e = c.allowed_in_step-kept.ensures in
     past_end Utf8 bytes n (omega (arith, c.if-kept-bytes.true)) (more_from_start Utf8 bytes _ n (λ i h. c.requires.copy i (omega (arith, h, e.within))) e.pattern)
 
 pub returns : goal.returns
@@ -16,7 +16,7 @@ returns c t =
     let bytes = c.args.bytes.now in
     let window = c.args.window.now in
     let same = c.requires.copy in
-    let e = c.kept_of_16.ensures in
-    let first = more_from_start Utf8 bytes window 16 (λ i h. same i (omega (arith, h))) (λ i h. c.kept_of_16-kept.ensures.pattern i (omega (arith, h, c.if-kept-lt-STEP.false))) in
-    past_end Utf8 bytes (16 + c.kept_of_16.result) (ltb-true _ _ t)
-    (more Utf8 bytes 16 _ c.kept_of_16.result (λ i h. ap (λ x. get_or x i 0) c.split_at.ensures.back ∙ get_or-drop 16 window i 0 ∙ same (16 + i) (omega (arith, h, e.within))) 16 (omega arith) (omega arith) e.pattern first)
+    let e = c.allowed_in_step.ensures in
+    let first = more_from_start Utf8 bytes window 16 (λ i h. same i (omega (arith, h))) (λ i h. c.allowed_in_step-kept.ensures.pattern i (omega (arith, h, c.if-kept-lt-STEP.false))) in
+    past_end Utf8 bytes (16 + c.allowed_in_step.result) (ltb-true _ _ t)
+    (more Utf8 bytes 16 _ c.allowed_in_step.result (λ i h. ap (λ x. get_or x i 0) c.split_at.ensures.back ∙ get_or-drop 16 window i 0 ∙ same (16 + i) (omega (arith, h, e.within))) 16 (omega arith) (omega arith) e.pattern first)

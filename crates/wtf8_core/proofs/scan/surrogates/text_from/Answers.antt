@@ -1,6 +1,6 @@
 use Rattle.wtf8_core.proofs.Common.{◌≡◌, ⊎_elim, ◌+◌, ◌-◌, subst, sym, arith, cases_lt}
 use Rattle.wtf8_core.specs.Surrogate.{IsSurrogateAt}
-use Rattle.wtf8_core.proofs.lemmas.texts.WithoutSurrogates.{front_without}
+use Rattle.wtf8_core.proofs.lemmas.texts.WithoutSurrogates.{prefix_without}
 use Rattle.wtf8_core.proofs.scan.surrogates.text_from.Goals as goal
 
 pub loop-at-preserved : goal.loop-at-preserved
@@ -15,4 +15,4 @@ loop-at-preserved c =
 pub returns-else-is_continuation-clause-text : goal.returns-else-is_continuation-clause-text
 returns-else-is_continuation-clause-text c =
     let before = c.loop-at-2.invariant in
-    front_without c.args.bytes.now _ before.0 c.requires.formed (λ some k. let b = c.if-is_continuation.ensures.1 k in cc) before.1
+    prefix_without c.args.bytes.now _ before.0 c.requires.formed (λ some k. let b = c.if-is_continuation.ensures.1 k in cc) before.1

@@ -5,4 +5,4 @@ use Rattle.os_command_line.specs.WindowsViews.{argument_units}
 use Rattle.os_command_line.proofs.windows.argument.Argument.equals.Given as goal
 
 abbrev pub invariant-loop-wanted : goal.invariant-loop-wanted
-invariant-loop-wanted l = (front : List ℕ) × (argument_units l.fn.self ≡ front ++ l.units) × (units_of (bytes l.string) ≡ front ++ l.wanted-iterator)
+invariant-loop-wanted l = (prefix : List ℕ) × (argument_units l.fn.self ≡ prefix ++ l.units) × (units_of (bytes l.string) ≡ prefix ++ l.wanted-iterator)

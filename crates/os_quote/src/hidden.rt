@@ -1,0 +1,33 @@
+//! How far the escape of a text on one line shows it as it is.
+ghost use Rattle.std.specs.Prelude.{◌≡◌, ◌↔◌, IsTrue, MatchOption};
+ghost use Rattle.os_quote.specs.Hidden.{IsUnchanged, AreUnchanged, IsCutAtHidden};
+
+use crate::form::stays_on_line;
+use crate::plain::plain_len;
+use crate::suspects::first_suspect;
+
+/// What comes before the first character that is written as a token, that character, and what comes
+/// after it.
+pub(crate) fn split_hidden(text: &str) -> Option<(&str, char, &str)>
+    ensures { MatchOption result (AreUnchanged text.now)
+        (λ parts. IsCutAtHidden text.now parts.0.now parts.1 parts.2.now) }
+{
+    let mut at = plain_len(text.as_bytes());
+    while let Some(suspect) = first_suspect(text.as_bytes(), at) {
+        let mut characters = text[suspect..].chars();
+        let character = characters.next()?;
+        let rest = characters.as_str();
+        if !is_unchanged(character) {
+            return Some((&text[..suspect], character, rest));
+        }
+        at = text.len() - rest.len();
+    }
+    None
+}
+
+/// Whether a character is shown as it is.
+fn is_unchanged(character: char) -> bool
+    ensures { IsTrue result ↔ IsUnchanged character }
+{
+    character != '\\' && stays_on_line(character)
+}

@@ -1,6 +1,0 @@
-use Rattle.platform_str.proofs.Common.{w16, take, arith, length-take-le}
-use Rattle.platform_str.proofs.lemmas.Lanes.{count_from_splat}
-use Rattle.platform_str.proofs.blocks.count_from.Goals as goal
-
-pub returns : goal.returns
-returns c = count_from_splat w16 c.args.least 16 (take 16 c.args.units.now) (length-take-le 16 c.args.units.now c.requires) (omega arith)

@@ -1,6 +1,0 @@
-use Rattle.platform_str.proofs.Common.{w8, arith}
-use Rattle.platform_str.proofs.lemmas.Lanes.{all_below_splat}
-use Rattle.platform_str.proofs.byte_units.is_ascii_block.Goals as goal
-
-pub returns : goal.returns
-returns c = all_below_splat w8 0x80 16 c.args.block (search) (omega arith)

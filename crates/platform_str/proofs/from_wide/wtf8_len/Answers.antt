@@ -1,0 +1,50 @@
+use Rattle.platform_str.proofs.Common.{rules, ◌≤◌, ◌<◌, ◌*◌, ◌^◌, length, ap, sym, subst, arith, AllByRecursion, IsUnit, pairs}
+use Rattle.platform_str.proofs.lemmas.FromWideCounts.{counted, counted_prefix, counted_few, count_few, counted_none, pairs_few, all_counted, string_counted}
+use Rattle.platform_str.proofs.lemmas.FromWide.{are_units, units_after}
+use Rattle.platform_str.proofs.from_wide.wtf8_len.Goals as goal
+
+pub overflow_add-len : goal.overflow_add-len
+overflow_add-len c = omega (arith, c.count_from.ensures, count_few 16 0x80 c.loop-rest.rest.now)
+
+pub overflow_add-len-then-rest-gt16 : goal.overflow_add-len-then-rest-gt16
+overflow_add-len-then-rest-gt16 c = omega (arith, c.count_from.ensures, c.count_from-then-rest-gt16.ensures, count_few 16 0x80 c.loop-rest.rest.now, count_few 16 0x800 c.loop-rest.rest.now)
+
+pub overflow_add-len-then-rest-gt16-2 : goal.overflow_add-len-then-rest-gt16-2
+overflow_add-len-then-rest-gt16-2 c =
+    let short : 3 * length c.args.units.now < 2 ^ 64 = search rules in
+    omega (arith, short, c.loop-rest.invariant.0, c.count_from.ensures, c.count_from-then-rest-gt16.ensures, counted_prefix 16 c.loop-rest.rest.now (omega (arith, c.if-rest-gt16.true)), counted_few c.args.units.now)
+
+pub overflow_add-pairs : goal.overflow_add-pairs
+overflow_add-pairs c =
+    let short : 3 * length c.args.units.now < 2 ^ 64 = search rules in
+    omega (arith, short, c.loop-rest.invariant.1, c.count_pairs-pairs.ensures, pairs_few c.args.units.now)
+
+pub overflow_add-pairs-else-rest-gt16 : goal.overflow_add-pairs-else-rest-gt16
+overflow_add-pairs-else-rest-gt16 c =
+    let short : 3 * length c.args.units.now < 2 ^ 64 = search rules in
+    let one : c.from-pairs.result ≤ 1 = search rules in
+    omega (arith, short, c.loop-rest.invariant.1, pairs_few c.args.units.now, one)
+
+pub loop-rest-preserved-then-rest-gt16 : goal.loop-rest-preserved-then-rest-gt16
+loop-rest-preserved-then-rest-gt16 c =
+    let rest = c.loop-rest.rest.now in
+    let after = c.split_at.ensures.back in (
+      omega (arith, c.loop-rest.invariant.0, c.count_from.ensures, c.count_from-then-rest-gt16.ensures, counted_prefix 16 rest (omega (arith, c.if-rest-gt16.true)), ap counted after),
+      omega (arith, c.loop-rest.invariant.1, c.count_pairs-pairs.ensures, ap pairs after),
+      subst (AllByRecursion IsUnit) (sym after) (units_after 16 rest c.loop-rest.invariant.2),
+    )
+
+pub overflow_sub-result : goal.overflow_sub-result
+overflow_sub-result c =
+    let none = counted_none c.loop-rest.rest.now c.in_default.len_below in
+    omega (arith, c.loop-rest.invariant.0, c.loop-rest.invariant.1, none.0, none.1, all_counted c.args.units.now (are_units c.args.units.now c.type_inv.units))
+
+pub overflow_sub-result-2 : goal.overflow_sub-result-2
+overflow_sub-result-2 c =
+    let none = counted_none c.loop-rest.rest.now c.in_default.len_below in
+    omega (arith, c.loop-rest.invariant.0, c.loop-rest.invariant.1, none.0, none.1, all_counted c.args.units.now (are_units c.args.units.now c.type_inv.units))
+
+pub returns : goal.returns
+returns c = λ string h.
+    let none = counted_none c.loop-rest.rest.now c.in_default.len_below in
+    omega (arith, c.loop-rest.invariant.0, c.loop-rest.invariant.1, none.0, none.1, string_counted string c.args.units.now (are_units c.args.units.now c.type_inv.units) h)

@@ -1,0 +1,207 @@
+-- The units of a string, byte by byte.
+use Rattle.std.proofs.Common.{◌≡◌, ⊎_elim, ℕ, zero, suc, Bool, true, false, ◌+◌, ◌*◌, ◌/◌, ◌%◌, ◌^◌, ◌<◌, ◌≤◌, cond, ltb, leb, eqb, not, refl, sym, ap, ◌∙◌, subst, arith, List, [], ◌∷◌, ◌++◌, get_or, length, drop, take}
+use Rattle.wtf8_core.proofs.Common.{cases_lt}
+use Rattle.wtf8_core.proofs.lemmas.units.OneToOne.{wide_pair}
+use Rattle.platform_str.proofs.Common.{nat_tests, take_all, length-take-le, get_or-take, wide_single, form_ascii, form_two, form_three, form_past, encode, encode_utf16, IsCodePoint, units, flat_map, IsWtf8, HasUnits, units_of, has_units_of, code_points_in-encoded, AllByRecursion, append_assoc}
+use Rattle.wtf8_core.specs.Surrogate.{high_unit, low_unit}
+use Rattle.platform_str.specs.ToWide.{adds_unit, bits_of_two, bits_of_three, unit_at, units_by_neighbours, units_after_first, chosen}
+
+-- what vectors compute is the unit
+abbrev two_lanes : ℕ → ℕ → ℕ
+two_lanes f s = (f * 0x40 % 2 ^ 16 + s % 0x40) % 2 ^ 16
+
+abbrev three_lanes : ℕ → ℕ → ℕ → ℕ
+three_lanes f s t = (two_lanes f s * 0x40 % 2 ^ 16 + t % 0x40) % 2 ^ 16
+
+two_exact : (f s : ℕ) → f < 2 ^ 8 → two_lanes f s ≡ bits_of_two f s
+two_exact f s h = omega arith
+
+three_exact : (f s t : ℕ) → f < 2 ^ 8 → three_lanes f s t ≡ bits_of_three f s t
+three_exact f s t h = omega arith
+
+high_exact : (x : ℕ) → x < 2 ^ 16 → (x / 0x10 + 0xD7C0) % 2 ^ 16 ≡ 0xD7C0 + x / 0x10
+high_exact x h = omega arith
+
+low_exact : (x : ℕ) → (x % 0x400 + 0xDC00) % 2 ^ 16 ≡ 0xDC00 + x % 0x400
+low_exact x = omega arith
+
+pub lane_is_unit : (b f s t : ℕ) → f < 2 ^ 8
+    → cond (ltb f 0x80) f
+    (cond (leb 0xF0 b) ((three_lanes f s t % 0x400 + 0xDC00) % 2 ^ 16)
+    (cond (leb 0xF0 f) ((three_lanes f s t / 0x10 + 0xD7C0) % 2 ^ 16)
+    (cond (leb 0xE0 f) (three_lanes f s t)
+    (two_lanes f s % 0x800)))) ≡ unit_at b f s t
+lane_is_unit b f s t h =
+    rw (low_exact (three_lanes f s t), high_exact (three_lanes f s t) (omega arith), three_exact f s t h, two_exact f s h) refl
+
+-- and what they compute is 1 where a unit is added
+pub lane_is_mark : (b f : ℕ) → ◌≡◌ {A = ℕ} (cond (leb 0xF0 b) 1 (cond (not (eqb (f / 0x40) 2)) 1 0)) (cond (adds_unit b f) 1 0)
+lane_is_mark b f = grind (arith, nat_tests)
+
+-- what is appended, and what is left
+pub appended : (new old more rest all : List ℕ) → new ≡ old ++ more → all ≡ more ++ rest → new ++ rest ≡ old ++ all
+appended new old more rest all n a = ap (λ x. x ++ rest) n ∙ append_assoc old more rest ∙ ap (λ x. old ++ x) (sym a)
+
+-- the marks of a block choose what its bytes add
+mark_chooses : (t : Bool) (x m : ℕ) → m ≡ cond t 1 0 → ◌≡◌ {A = List ℕ} (cond (eqb m 0) [] (x ∷ [])) (cond t (x ∷ []) [])
+mark_chooses true x m e = rw e refl
+mark_chooses false x m e = rw e refl
+
+pub block_marked : (n : ℕ) (w lanes marks : List ℕ) → length lanes ≡ n → length marks ≡ n → n < length w
+    → ((i : ℕ) → i < n → get_or lanes i 0 ≡ unit_at (get_or w i 0) (get_or w (suc i) 0) (get_or w (suc (suc i)) 0) (get_or w (suc (suc (suc i))) 0))
+    → ((i : ℕ) → i < n → get_or marks i 0 ≡ cond (adds_unit (get_or w i 0) (get_or w (suc i) 0)) 1 0)
+    → units_after_first w ≡ chosen lanes marks ++ units_after_first (drop n w)
+block_marked zero w [] [] p q h u m = refl
+block_marked (suc n) (a ∷ b ∷ bs) (x ∷ xs) (y ∷ ms) p q h u m =
+    let z : 0 < suc n = omega arith in
+    let i = block_marked n (b ∷ bs) xs ms (omega (arith, p)) (omega (arith, q)) (omega (arith, h)) (λ i l. u (suc i) (omega (arith, l))) (λ i l. m (suc i) (omega (arith, l))) in
+    ap (λ r. units_by_neighbours a b (get_or bs 0 0) (get_or bs 1 0) ++ r) i
+    ∙ sym (append_assoc (units_by_neighbours a b (get_or bs 0 0) (get_or bs 1 0)) (chosen xs ms) (units_after_first (drop n (b ∷ bs))))
+    ∙ ap (λ r. (r ++ chosen xs ms) ++ units_after_first (drop n (b ∷ bs)))
+    (ap (λ v. cond (adds_unit a b) (v ∷ []) []) (sym (u 0 z)) ∙ sym (mark_chooses (adds_unit a b) x y (m 0 z)))
+block_marked n w lanes marks p q h u m = absurd (omega (arith, p, q, h))
+
+-- ASCII adds itself
+ascii_adds : (a b s t : ℕ) → b < 0x80 → units_by_neighbours a b s t ≡ b ∷ []
+ascii_adds a b s t h = grind (arith, nat_tests, h)
+
+pub block_ascii : (n : ℕ) (w : List ℕ) → n < length w → AllByRecursion (λ b. b < 0x80) (take n (drop 1 w)) → units_after_first w ≡ take n (drop 1 w) ++ units_after_first (drop n w)
+block_ascii zero w h a = refl
+block_ascii (suc n) (p ∷ b ∷ bs) h a =
+    ap (λ r. r ++ units_after_first (b ∷ bs)) (ascii_adds p b (get_or bs 0 0) (get_or bs 1 0) a.0)
+    ∙ ap (λ r. b ∷ r) (block_ascii n (b ∷ bs) (omega (arith, h)) a.1)
+block_ascii n w h a = absurd (omega (arith, h))
+
+-- the same by what the lanes and the marks of a block are said to be
+pub some_chosen : (n : ℕ) (w lanes marks : List ℕ) → length lanes ≡ 16 → length marks ≡ 16 → n ≤ 16 → n < length w
+    → ((i : ℕ) → i < 16 → get_or lanes i 0 ≡ unit_at (get_or w i 0) (get_or w (1 + i) 0) (get_or w (2 + i) 0) (get_or w (3 + i) 0))
+    → ((i : ℕ) → i < 16 → get_or marks i 0 ≡ cond (adds_unit (get_or w i 0) (get_or w (1 + i) 0)) 1 0)
+    → units_after_first w ≡ chosen (take n lanes) (take n marks) ++ units_after_first (drop n w)
+some_chosen n w lanes marks p q few h u m =
+    block_marked n w (take n lanes) (take n marks) (length-take-le n lanes (omega (arith, p, few))) (length-take-le n marks (omega (arith, q, few))) h
+    (λ i l. let one : 1 + i ≡ suc i = omega arith in
+    let two : 2 + i ≡ suc (suc i) = omega arith in
+    let three : 3 + i ≡ suc (suc (suc i)) = omega arith in
+    get_or-take n lanes i 0 l ∙ u i (omega (arith, l, few))
+    ∙ ap (λ k. unit_at (get_or w i 0) (get_or w k 0) (get_or w (2 + i) 0) (get_or w (3 + i) 0)) one
+    ∙ ap (λ k. unit_at (get_or w i 0) (get_or w (suc i) 0) (get_or w k 0) (get_or w (3 + i) 0)) two
+    ∙ ap (λ k. unit_at (get_or w i 0) (get_or w (suc i) 0) (get_or w (suc (suc i)) 0) (get_or w k 0)) three)
+    (λ i l. let one : 1 + i ≡ suc i = omega arith in get_or-take n marks i 0 l ∙ m i (omega (arith, l, few)) ∙ ap (λ k. cond (adds_unit (get_or w i 0) (get_or w k 0)) 1 0) one)
+
+-- and of a whole one
+pub block_chosen : (w lanes marks : List ℕ) → length lanes ≡ 16 → length marks ≡ 16 → 16 < length w
+    → ((i : ℕ) → i < 16 → get_or lanes i 0 ≡ unit_at (get_or w i 0) (get_or w (1 + i) 0) (get_or w (2 + i) 0) (get_or w (3 + i) 0))
+    → ((i : ℕ) → i < 16 → get_or marks i 0 ≡ cond (adds_unit (get_or w i 0) (get_or w (1 + i) 0)) 1 0)
+    → units_after_first w ≡ chosen lanes marks ++ units_after_first (drop 16 w)
+block_chosen w lanes marks p q h u m =
+    some_chosen 16 w lanes marks p q (omega arith) h u m
+    ∙ ap (λ l. chosen l (take 16 marks) ++ units_after_first (drop 16 w)) (take_all 16 lanes (omega (arith, p)))
+    ∙ ap (λ l. chosen lanes l ++ units_after_first (drop 16 w)) (take_all 16 marks (omega (arith, q)))
+
+-- one byte adds nothing
+pub none_after : (w : List ℕ) → length w ≤ 1 → units_after_first w ≡ []
+none_after (a ∷ b ∷ bs) h = absurd (omega (arith, h))
+none_after w h = refl
+
+-- a continuation adds nothing, but for the one after a lead of four
+adds_nothing : (a k s t : ℕ) → a < 0xF0 → 0x80 ≤ k → k < 0xC0 → units_by_neighbours a k s t ≡ []
+adds_nothing a k s t h l m = grind (arith, nat_tests, h, l, m)
+
+-- the bytes of a code point, one by one
+two_adds : (a c t : ℕ) → a < 0xF0 → 0x80 ≤ c → c < 0x800 → units_by_neighbours a (0xC0 + c / 0x40) (0x80 + c % 0x40) t ≡ c ∷ []
+two_adds a c t h l m = grind (arith, nat_tests, h, l, m)
+
+three_adds : (a c : ℕ) → a < 0xF0 → 0x800 ≤ c → c < 0x1_0000 → units_by_neighbours a (0xE0 + c / 0x1000) (0x80 + (c / 0x40) % 0x40) (0x80 + c % 0x40) ≡ c ∷ []
+three_adds a c h l m = grind (arith, nat_tests, h, l, m)
+
+high_adds : (a c : ℕ) → a < 0xF0 → 0x1_0000 ≤ c → IsCodePoint c → units_by_neighbours a (0xF0 + c / 0x4_0000) (0x80 + (c / 0x1000) % 0x40) (0x80 + (c / 0x40) % 0x40) ≡ high_unit c ∷ []
+high_adds a c h l m = grind (arith, nat_tests, h, l, m)
+
+low_adds : (c : ℕ) → 0x1_0000 ≤ c → IsCodePoint c → units_by_neighbours (0xF0 + c / 0x4_0000) (0x80 + (c / 0x1000) % 0x40) (0x80 + (c / 0x40) % 0x40) (0x80 + c % 0x40) ≡ low_unit c ∷ []
+low_adds c l m = grind (arith, nat_tests, l, m)
+
+skip : (f k : ℕ) (rest : List ℕ) → f < 0xF0 → 0x80 ≤ k → k < 0xC0 → units_after_first (f ∷ k ∷ rest) ≡ units_after_first (k ∷ rest)
+skip f k rest h l m = ap (λ x. x ++ units_after_first (k ∷ rest)) (adds_nothing f k (get_or rest 0 0) (get_or rest 1 0) h l m)
+
+-- a form adds the units of its code point, and its last byte is no lead of four
+record FormAdds (before : ℕ) (form units rest : List ℕ) : Type 0 where
+  last : ℕ
+  small : last < 0xF0
+  are : units_after_first (before ∷ (form ++ rest)) ≡ units ++ units_after_first (last ∷ rest)
+
+form_adds : (a c : ℕ) (rest : List ℕ) → a < 0xF0 → IsCodePoint c → FormAdds a (encode c) (encode_utf16 c) rest
+form_adds a c rest h i = ⊎_elim one (λ g. ⊎_elim (two g) (λ n. ⊎_elim (three n) four (cases_lt c 0x1_0000)) (cases_lt c 0x800)) (cases_lt c 0x80)
+  where
+    all : List ℕ → List ℕ
+    all form = units_after_first (a ∷ (form ++ rest))
+
+    j : ℕ
+    j = 0x80 + (c / 0x40) % 0x40
+
+    k : ℕ
+    k = 0x80 + c % 0x40
+
+    one : c < 0x80 → FormAdds a (encode c) (encode_utf16 c) rest
+    one l = record {
+      last = c;
+      small = omega (arith, l);
+      are = ap all (form_ascii c l) ∙ ap (λ x. x ++ units_after_first (c ∷ rest)) (ascii_adds a c (get_or rest 0 0) (get_or rest 1 0) l ∙ sym (wide_single c (omega (arith, l))));
+    }
+
+    two : 0x80 ≤ c → c < 0x800 → FormAdds a (encode c) (encode_utf16 c) rest
+    two g l =
+        let f = 0xC0 + c / 0x40 in
+        record {
+          last = k;
+          small = omega arith;
+          are = ap all (form_two c g l)
+              ∙ ap (λ x. x ++ units_after_first (f ∷ k ∷ rest)) (two_adds a c (get_or rest 0 0) h g l ∙ sym (wide_single c (omega (arith, l))))
+              ∙ ap (λ x. encode_utf16 c ++ x) (skip f k rest (omega (arith, l)) (omega arith) (omega arith));
+        }
+
+    three : 0x800 ≤ c → c < 0x1_0000 → FormAdds a (encode c) (encode_utf16 c) rest
+    three g l =
+        let f = 0xE0 + c / 0x1000 in
+        record {
+          last = k;
+          small = omega arith;
+          are = ap all (form_three c g l)
+              ∙ ap (λ x. x ++ units_after_first (f ∷ j ∷ k ∷ rest)) (three_adds a c h g l ∙ sym (wide_single c l))
+              ∙ ap (λ x. encode_utf16 c ++ x) (skip f j (k ∷ rest) (omega (arith, l)) (omega arith) (omega arith) ∙ skip j k rest (omega arith) (omega arith) (omega arith));
+        }
+
+    four : 0x1_0000 ≤ c → FormAdds a (encode c) (encode_utf16 c) rest
+    four g =
+        let f = 0xF0 + c / 0x4_0000 in
+        let b = 0x80 + (c / 0x1000) % 0x40 in
+        record {
+          last = k;
+          small = omega arith;
+          are = ap all (form_past c g)
+              ∙ ap (λ x. x ++ units_after_first (f ∷ b ∷ j ∷ k ∷ rest)) (high_adds a c h g i)
+              ∙ ap (λ x. (high_unit c ∷ []) ++ (x ++ units_after_first (b ∷ j ∷ k ∷ rest))) (low_adds c g i)
+              ∙ ap (λ x. x ++ units_after_first (b ∷ j ∷ k ∷ rest)) (sym (wide_pair c g))
+              ∙ ap (λ x. encode_utf16 c ++ x) (skip b j (k ∷ rest) (omega arith) (omega arith) (omega arith) ∙ skip j k rest (omega arith) (omega arith) (omega arith));
+        }
+
+forms_add : (a : ℕ) (cs : List ℕ) → a < 0xF0 → AllByRecursion IsCodePoint cs → units_after_first (a ∷ flat_map encode cs) ≡ units cs
+forms_add a [] h i = refl
+forms_add a (c ∷ cs) h i =
+    let f = form_adds a c (flat_map encode cs) h i.0 in
+    f.are ∙ ap (λ x. encode_utf16 c ++ x) (forms_add f.last cs f.small i.1)
+
+-- the bytes of a string add its units
+pub string_adds : (s : List ℕ) → IsWtf8 s → units_after_first (0 ∷ s) ≡ units_of s
+string_adds s w = ap (λ x. units_after_first (0 ∷ x)) w.1.joined ∙ forms_add 0 w.0 (omega arith) w.1.code_points ∙ ap units (sym (code_points_in-encoded s w.0 w.1))
+
+-- what a string begins with, and what is left
+pub begins_once : (s : List ℕ) → IsWtf8 s → 0 < length s → units_of s ≡ units_by_neighbours 0 (get_or s 0 0) (get_or s 1 0) (get_or s 2 0) ++ units_after_first s
+begins_once [] w h = absurd (omega (arith, h))
+begins_once (b ∷ bs) w h = sym (string_adds (b ∷ bs) w)
+
+pub no_units : (s : List ℕ) → IsWtf8 s → length s ≡ 0 → units_of s ≡ []
+no_units s w h = sym (string_adds s w) ∙ none_after (0 ∷ s) (omega (arith, h))
+
+-- units written into an empty vector
+pub has_written : {b e none new : List ℕ} → IsWtf8 e → e ≡ b → none ≡ [] → new ≡ none ++ units_of e → HasUnits b new
+has_written {b} {e} {none} {new} w s n is = subst (λ x. HasUnits x new) s (subst (HasUnits e) (sym (is ∙ ap (λ x. x ++ units_of e) n)) (has_units_of e w))

@@ -1,0 +1,290 @@
+//! The units of a Windows string, 16 bytes at once: ASCII is widened, and of other bytes each adds
+//! what the bytes beside it say, without a branch.
+ghost use Rattle.std.specs.Prelude.{◌≡◌, ◌++◌, ◌+◌, ◌≤◌, ◌<◌, ℕ, true, if◌then◌else◌, take, drop, length, slice_index, IsOk, OnOk, vec_len, vec_capacity};
+ghost use Rattle.std.specs.List.{All};
+ghost use Rattle.wtf8_core.specs.Wtf8.{IsWtf8};
+ghost use Rattle.wtf8_core.specs.UnitsOf.{units_of};
+ghost use Rattle.platform_str.specs.ToWide.{adds_unit, unit_at, units_by_neighbours, units_after_first, chosen};
+
+use std::alloc::{AllocError, Allocator};
+use std::simd::prelude::*;
+
+/// Whether all 16 bytes are ASCII.
+#[inline(always)]
+fn is_ascii_block(block: [u8; 16]) -> bool
+    ensures { result ≡ true → All (λ b. b < 0x80) block }
+{
+    u8x16::from_array(block)
+        .simd_ge(u8x16::splat(0x80))
+        .to_bitmask()
+        == 0
+}
+
+/// The units of 16 ASCII bytes.
+#[inline(always)]
+fn widened(block: [u8; 16]) -> [u16; 16]
+    ensures { result ≡ block }
+{
+    u8x16::from_array(block).cast::<u16>().to_array()
+}
+
+/// The 16 bytes from index `from` on, each in a lane of 16 bits.
+#[inline(always)]
+fn lanes(bytes: &[u8], from: usize) -> u16x16
+    requires { from + 16 ≤ length bytes.now }
+    ensures lanes { length result ≡ 16 }
+    ensures bytes { (i : ℕ) → i < 16 → slice_index result i ≡ slice_index bytes.now (from + i) }
+{
+    u8x16::from_slice(&bytes[from..]).cast::<u16>()
+}
+
+/// The unit that each of 16 bytes after the first adds, if it adds one.
+#[inline(always)]
+fn unit_lanes(bytes: &[u8]) -> [u16; 16]
+    requires { 19 ≤ length bytes.now }
+    ensures { (i : ℕ) → i < 16 → slice_index result i
+        ≡ unit_at (slice_index bytes.now i) (slice_index bytes.now (1 + i))
+        (slice_index bytes.now (2 + i)) (slice_index bytes.now (3 + i)) }
+{
+    let before = lanes(bytes, 0);
+    let first = lanes(bytes, 1);
+    let two = first * u16x16::splat(0x40) + lanes(bytes, 2) % u16x16::splat(0x40);
+    let three = two * u16x16::splat(0x40) + lanes(bytes, 3) % u16x16::splat(0x40);
+    let high = three / u16x16::splat(0x10) + u16x16::splat(0xD7C0);
+    let low = three % u16x16::splat(0x400) + u16x16::splat(0xDC00);
+    let unit = two % u16x16::splat(0x800);
+    let unit = first.simd_ge(u16x16::splat(0xE0)).select(three, unit);
+    let unit = first.simd_ge(u16x16::splat(0xF0)).select(high, unit);
+    let unit = before.simd_ge(u16x16::splat(0xF0)).select(low, unit);
+    first
+        .simd_lt(u16x16::splat(0x80))
+        .select(first, unit)
+        .to_array()
+}
+
+/// For each of 16 bytes after the first, 1 if it adds a unit, and else 0.
+#[inline(always)]
+fn unit_marks(bytes: &[u8]) -> [u16; 16]
+    requires { 17 ≤ length bytes.now }
+    ensures { (i : ℕ) → i < 16 → slice_index result i
+        ≡ (if adds_unit (slice_index bytes.now i) (slice_index bytes.now (1 + i)) then 1 else 0) }
+{
+    let one = u16x16::splat(1);
+    let halves = lanes(bytes, 1) / u16x16::splat(0x40);
+    let marks = halves
+        .simd_ne(u16x16::splat(2))
+        .select(one, u16x16::splat(0));
+    lanes(bytes, 0)
+        .simd_ge(u16x16::splat(0xF0))
+        .select(one, marks)
+        .to_array()
+}
+
+/// The bytes, of which there are at most 19, and zeros after them.
+#[inline(always)]
+fn padded(bytes: &[u8]) -> [u8; 19]
+    requires { length bytes.now ≤ 19 }
+    ensures { (i : ℕ) → slice_index result i ≡ slice_index bytes.now i }
+{
+    let mut window = [0; 19];
+    window[..bytes.len()].copy_from_slice(bytes);
+    window
+}
+
+/// Appends those of the units that have a mark.
+#[inline(always)]
+fn push_chosen<A: Allocator>(
+    units: &mut Vec<u16, A>,
+    lanes: &[u16],
+    marks: &[u16],
+) -> Result<(), AllocError>
+    requires marks { length marks.now ≡ length lanes.now }
+    requires least { (i : ℕ) → slice_index marks.now i ≤ 1 }
+    ensures ok { OnOk result (units.new.items ≡ units.old.items ++ chosen lanes.now marks.now) }
+    ensures room { vec_len units.old + length lanes.now ≤ vec_capacity units.old → IsOk result }
+    ensures capacity { vec_capacity units.old ≤ vec_capacity units.new }
+    ensures len { vec_len units.new ≤ vec_len units.old + length lanes.now }
+{
+    let mut len = units.len();
+    units.extend_from_slice(lanes)?;
+    for i in 0..lanes.len() {
+        units[len] = lanes[i];
+        len += usize::from(marks[i]);
+    }
+    units.truncate(len);
+    Ok(())
+}
+
+/// Appends what 16 bytes after the first add.
+#[inline(always)]
+fn push_block<A: Allocator>(units: &mut Vec<u16, A>, bytes: &[u8]) -> Result<(), AllocError>
+    requires { 19 ≤ length bytes.now }
+    ensures ok { OnOk result (units.new.items ++ units_after_first (drop 16 bytes.now)
+        ≡ units.old.items ++ units_after_first bytes.now) }
+    ensures room { vec_len units.old + 16 ≤ vec_capacity units.old → IsOk result }
+    ensures capacity { vec_capacity units.old ≤ vec_capacity units.new }
+    ensures len { vec_len units.new ≤ vec_len units.old + 16 }
+{
+    push_chosen(units, &unit_lanes(bytes), &unit_marks(bytes))?;
+    Ok(())
+}
+
+/// Appends what up to 16 bytes after the first add, where fewer than 19 are left.
+#[inline(always)]
+fn push_end<A: Allocator>(
+    units: &mut Vec<u16, A>,
+    bytes: &[u8],
+    count: usize,
+) -> Result<(), AllocError>
+    requires few { length bytes.now ≤ 19 }
+    requires count { count ≤ 16 }
+    requires within { count < length bytes.now }
+    ensures ok { OnOk result (units.new.items ++ units_after_first (drop count bytes.now)
+        ≡ units.old.items ++ units_after_first bytes.now) }
+    ensures room { vec_len units.old + count ≤ vec_capacity units.old → IsOk result }
+    ensures capacity { vec_capacity units.old ≤ vec_capacity units.new }
+    ensures len { vec_len units.new ≤ vec_len units.old + count }
+{
+    let window = padded(bytes);
+    let lanes = unit_lanes(&window);
+    let marks = unit_marks(&window);
+    push_chosen(units, &lanes[..count], &marks[..count])?;
+    Ok(())
+}
+
+/// Appends what the next bytes after the first add: 16, or up to 16 where fewer than 19 are left. It
+/// is kept out of the loop over ASCII, which is faster without it.
+#[inline(never)]
+fn push_next<A: Allocator>(
+    units: &mut Vec<u16, A>,
+    bytes: &[u8],
+    count: usize,
+) -> Result<(), AllocError>
+    requires block { 19 ≤ length bytes.now → count ≡ 16 }
+    requires count { count ≤ 16 }
+    requires within { count < length bytes.now }
+    ensures ok { OnOk result (units.new.items ++ units_after_first (drop count bytes.now)
+        ≡ units.old.items ++ units_after_first bytes.now) }
+    ensures room { vec_len units.old + count ≤ vec_capacity units.old → IsOk result }
+    ensures capacity { vec_capacity units.old ≤ vec_capacity units.new }
+    ensures len { vec_len units.new ≤ vec_len units.old + count }
+{
+    if bytes.len() >= 19 {
+        push_block(units, bytes)?;
+    } else {
+        push_end(units, bytes, count)?;
+    }
+    Ok(())
+}
+
+/// The unit that a byte adds, if it adds one.
+#[inline(always)]
+fn unit(before: u8, first: u8, second: u8, third: u8) -> u16
+    ensures { result ≡ unit_at before first second third }
+{
+    if first < 0x80 {
+        return u16::from(first);
+    }
+    let two = u16::from(first) * 0x40 + u16::from(second % 0x40);
+    if before < 0xF0 && first < 0xE0 {
+        return two % 0x800;
+    }
+    let three = two % 0x400 * 0x40 + u16::from(third % 0x40);
+    if before >= 0xF0 {
+        return 0xDC00 + three % 0x400;
+    }
+    if first < 0xF0 {
+        return three;
+    }
+    0xD7C0 + three / 0x10
+}
+
+/// Appends what a byte adds, by the byte before it and the two after it.
+#[inline(always)]
+fn push_unit<A: Allocator>(
+    units: &mut Vec<u16, A>,
+    before: u8,
+    first: u8,
+    second: u8,
+    third: u8,
+) -> Result<(), AllocError>
+    ensures ok { OnOk result (units.new.items ≡ units.old.items
+        ++ units_by_neighbours before first second third) }
+    ensures room { vec_len units.old < vec_capacity units.old → IsOk result }
+    ensures capacity { vec_capacity units.old ≤ vec_capacity units.new }
+    ensures len { vec_len units.new ≤ vec_len units.old + 1 }
+{
+    if before >= 0xF0 || first / 0x40 != 2 {
+        units.push(unit(before, first, second, third))?;
+    }
+    Ok(())
+}
+
+/// The byte at an index, or 0 if there is none.
+#[inline(always)]
+fn byte_or_zero(bytes: &[u8], at: usize) -> u8
+    ensures { result ≡ slice_index bytes.now at }
+{
+    if at < bytes.len() { bytes[at] } else { 0 }
+}
+
+/// Whether there are at least 16 bytes after the first and the next 16 are ASCII.
+#[inline(always)]
+fn goes_on_in_ascii(bytes: &[u8]) -> bool
+    ensures room { result ≡ true → 16 < length bytes.now }
+    ensures ascii { result ≡ true → All (λ b. b < 0x80) (take 16 (drop 1 bytes.now)) }
+{
+    bytes.len() > 16 && is_ascii_block(u8x16::from_slice(&bytes[1..]).to_array())
+}
+
+/// Appends what the bytes after the first add.
+fn push_after_first<A: Allocator>(units: &mut Vec<u16, A>, bytes: &[u8]) -> Result<(), AllocError>
+    requires { 0 < length bytes.now }
+    ensures ok { OnOk result (units.new.items
+        ≡ units.old.items ++ units_after_first bytes.now) }
+    ensures room { vec_len units.old + length bytes.now ≤ vec_capacity units.old + 1
+        → IsOk result }
+{
+    let mut rest = bytes;
+    while rest.len() > 1 {
+        if goes_on_in_ascii(rest) {
+            let block = u8x16::from_slice(&rest[1..]).to_array();
+            units.extend_from_slice(&widened(block))?;
+            let (_, after) = rest.split_at(16);
+            rest = after;
+        } else if rest.len() <= 16 && rest[1] < 0x80 {
+            units.push(u16::from(rest[1]))?;
+            let (_, after) = rest.split_at(1);
+            rest = after;
+        } else {
+            let count = (rest.len() - 1).min(16);
+            push_next(units, rest, count)?;
+            let (_, after) = rest.split_at(count);
+            rest = after;
+        }
+    }
+    Ok(())
+}
+
+/// Appends the units of a string. If the vector has room for as many units as the string has bytes,
+/// this doesn't allocate.
+pub(crate) fn push_units<A: Allocator>(
+    units: &mut Vec<u16, A>,
+    string: &[u8],
+) -> Result<(), AllocError>
+    requires { IsWtf8 string.now }
+    ensures ok { OnOk result (units.new.items ≡ units.old.items ++ units_of string.now) }
+    ensures room { vec_len units.old + length string.now ≤ vec_capacity units.old → IsOk result }
+{
+    if string.is_empty() {
+        return Ok(());
+    }
+    push_unit(
+        units,
+        0,
+        string[0],
+        byte_or_zero(string, 1),
+        byte_or_zero(string, 2),
+    )?;
+    push_after_first(units, string)
+}

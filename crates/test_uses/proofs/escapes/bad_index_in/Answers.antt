@@ -1,0 +1,13 @@
+use Rattle.os_quote.specs.Shown.{is_any}
+use Rattle.test_uses.proofs.Outcomes.{err_is}
+use Rattle.test_uses.proofs.QuoteFaults.{only_bad_index}
+use Rattle.test_uses.proofs.escapes.bad_index_in.Goals as goal
+
+pub returns : goal.returns
+returns g c =
+    let P = g.E.Platform in
+    let text = c.args.text.now in
+    let at = c.args.at in
+    err_is c.write_unescaped.result c.write_unescaped.ensures.string c.write_unescaped.ensures.fault c.write_unescaped.ensures.never_memory
+    (λ count is. is.tokens at c.requires)
+    (only_bad_index is_any P.well_formed P.units text at (λ m is. c.bad_escapes.ensures.one_index text m at is c.requires) c.requires)

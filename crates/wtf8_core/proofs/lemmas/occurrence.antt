@@ -1,0 +1,4 @@
+pub mod Boundaries
+pub mod Pieces
+pub mod Indices
+pub mod Wtf8

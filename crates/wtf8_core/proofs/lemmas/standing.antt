@@ -1,4 +1,0 @@
-pub mod Boundaries
-pub mod Pieces
-pub mod Places
-pub mod Wtf8
