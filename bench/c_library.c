@@ -38,7 +38,7 @@ size_t port_rfind(const char *at, size_t len, const char *pattern, size_t patter
 bool port_contains(const char *at, size_t len, const char *pattern, size_t pattern_len);
 bool port_starts_with(const char *at, size_t len, const char *pattern, size_t pattern_len);
 bool port_ends_with(const char *at, size_t len, const char *pattern, size_t pattern_len);
-bool port_starts_with_os(const char *at, size_t len, const char *front, size_t front_len);
+bool port_starts_with_os(const char *at, size_t len, const char *prefix, size_t prefix_len);
 bool port_ends_with_os(const char *at, size_t len, const char *end, size_t end_len);
 bool port_is_boundary(const char *at, size_t len, size_t index);
 bool port_is_less(const char *a, size_t a_len, const char *b, size_t b_len);
@@ -76,16 +76,16 @@ enum { KIND_COUNT = sizeof KINDS / sizeof *KINDS };
 struct input {
     char string[128], escape[3][ROOM], line[3][ROOM];
     uint16_t units[128];
-    size_t len, front, back, escape_len[3], line_len[3], unit_count;
+    size_t len, prefix, suffix, escape_len[3], line_len[3], unit_count;
 };
 static struct input inputs[KIND_COUNT][LEN_COUNT];
 
 /* The pattern that a search is asked: a slash, or a half of the string. */
 static bool is_half;
-static const char *front_of(const struct input *it) { return is_half ? it->string : "/"; }
-static size_t front_len(const struct input *it) { return is_half ? it->front : 1; }
-static const char *back_of(const struct input *it) { return is_half ? it->string + it->back : "/"; }
-static size_t back_len(const struct input *it) { return is_half ? it->len - it->back : 1; }
+static const char *prefix_of(const struct input *it) { return is_half ? it->string : "/"; }
+static size_t prefix_len(const struct input *it) { return is_half ? it->prefix : 1; }
+static const char *suffix_of(const struct input *it) { return is_half ? it->string + it->suffix : "/"; }
+static size_t suffix_len(const struct input *it) { return is_half ? it->len - it->suffix : 1; }
 
 static char out[ROOM];
 static uint16_t wide[ROOM];
@@ -96,20 +96,20 @@ typedef size_t timed(const struct input *it);
 #define TIMED(name, answer)                                                                        \
     static size_t name(const struct input *it) { return answer; }
 #define STRING it->string, it->len
-#define FRONT front_of(it), front_len(it)
-#define BACK back_of(it), back_len(it)
+#define PREFIX prefix_of(it), prefix_len(it)
+#define SUFFIX suffix_of(it), suffix_len(it)
 #define OR_NONE(status, answer) ((status) == OSB_OK ? (answer) : SIZE_MAX)
 
 /* What was counted, or the index of the first fault of bytes that are no string of Windows. */
-static size_t or_fault(osb_status status) { return status == OSB_OK ? count : fault.place; }
+static size_t or_fault(osb_status status) { return status == OSB_OK ? count : fault.index; }
 static size_t or_fault_of(const struct input *it, size_t answer) {
     return answer == SIZE_MAX ? port_wtf8_fault(STRING) : answer;
 }
 
 /* Checks answer the index of the first fault. */
-TIMED(c_check_windows, osb_check(OSB_WINDOWS, STRING, &fault) == OSB_OK ? SIZE_MAX : fault.place)
+TIMED(c_check_windows, osb_check(OSB_WINDOWS, STRING, &fault) == OSB_OK ? SIZE_MAX : fault.index)
 TIMED(r_check_windows, port_check(STRING) == 0 ? SIZE_MAX : port_wtf8_fault(STRING))
-TIMED(c_check_wasm, osb_check(OSB_WASM, STRING, &fault) == OSB_OK ? SIZE_MAX : fault.place)
+TIMED(c_check_wasm, osb_check(OSB_WASM, STRING, &fault) == OSB_OK ? SIZE_MAX : fault.index)
 TIMED(r_check_wasm, port_utf8_fault(STRING))
 static size_t c_feed(const struct input *it) {
     osb_checker checker;
@@ -175,29 +175,29 @@ TIMED(c_unescape_line_wasm, READ_LINE(OSB_WASM))
 TIMED(r_unescape_line_wasm, port_wasm_write_unescaped_line(LINE(OSB_WASM), out, ROOM))
 
 /* Searches. */
-TIMED(c_find, OR_NONE(osb_find(STRING, BACK, &count), count))
-TIMED(r_find, port_find(STRING, BACK))
-TIMED(r_checked_find, port_is_utf8(BACK) ? port_find(STRING, BACK) : SIZE_MAX)
-TIMED(c_rfind, OR_NONE(osb_rfind(STRING, FRONT, &count), count))
-TIMED(r_rfind, port_rfind(STRING, FRONT))
-TIMED(r_checked_rfind, port_is_utf8(FRONT) ? port_rfind(STRING, FRONT) : SIZE_MAX)
-TIMED(c_contains, osb_contains(STRING, BACK) == OSB_OK)
-TIMED(r_contains, port_contains(STRING, BACK))
-TIMED(r_checked_contains, port_is_utf8(BACK) && port_contains(STRING, BACK))
-TIMED(c_starts_with, osb_starts_with(STRING, FRONT) == OSB_OK)
-TIMED(r_starts_with, port_starts_with(STRING, FRONT))
-TIMED(r_checked_starts_with, port_is_utf8(FRONT) && port_starts_with(STRING, FRONT))
-TIMED(c_ends_with, osb_ends_with(STRING, BACK) == OSB_OK)
-TIMED(r_ends_with, port_ends_with(STRING, BACK))
-TIMED(r_checked_ends_with, port_is_utf8(BACK) && port_ends_with(STRING, BACK))
-TIMED(c_starts_units, osb_starts_with_units(OSB_WINDOWS, STRING, FRONT) == OSB_OK)
+TIMED(c_find, OR_NONE(osb_find(STRING, SUFFIX, &count), count))
+TIMED(r_find, port_find(STRING, SUFFIX))
+TIMED(r_checked_find, port_is_utf8(SUFFIX) ? port_find(STRING, SUFFIX) : SIZE_MAX)
+TIMED(c_rfind, OR_NONE(osb_rfind(STRING, PREFIX, &count), count))
+TIMED(r_rfind, port_rfind(STRING, PREFIX))
+TIMED(r_checked_rfind, port_is_utf8(PREFIX) ? port_rfind(STRING, PREFIX) : SIZE_MAX)
+TIMED(c_contains, osb_contains(STRING, SUFFIX) == OSB_OK)
+TIMED(r_contains, port_contains(STRING, SUFFIX))
+TIMED(r_checked_contains, port_is_utf8(SUFFIX) && port_contains(STRING, SUFFIX))
+TIMED(c_starts_with, osb_starts_with(STRING, PREFIX) == OSB_OK)
+TIMED(r_starts_with, port_starts_with(STRING, PREFIX))
+TIMED(r_checked_starts_with, port_is_utf8(PREFIX) && port_starts_with(STRING, PREFIX))
+TIMED(c_ends_with, osb_ends_with(STRING, SUFFIX) == OSB_OK)
+TIMED(r_ends_with, port_ends_with(STRING, SUFFIX))
+TIMED(r_checked_ends_with, port_is_utf8(SUFFIX) && port_ends_with(STRING, SUFFIX))
+TIMED(c_starts_units, osb_starts_with_units(OSB_WINDOWS, STRING, PREFIX) == OSB_OK)
 TIMED(r_starts_units,
-      port_check(STRING) == 0 && port_check(FRONT) == 0 && port_starts_with_os(STRING, FRONT))
-TIMED(c_ends_units, osb_ends_with_units(OSB_WINDOWS, STRING, BACK) == OSB_OK)
+      port_check(STRING) == 0 && port_check(PREFIX) == 0 && port_starts_with_os(STRING, PREFIX))
+TIMED(c_ends_units, osb_ends_with_units(OSB_WINDOWS, STRING, SUFFIX) == OSB_OK)
 TIMED(r_ends_units,
-      port_check(STRING) == 0 && port_check(BACK) == 0 && port_ends_with_os(STRING, BACK))
-TIMED(c_is_boundary, osb_is_boundary(STRING, it->back) == OSB_OK)
-TIMED(r_is_boundary, port_is_boundary(STRING, it->back))
+      port_check(STRING) == 0 && port_check(SUFFIX) == 0 && port_ends_with_os(STRING, SUFFIX))
+TIMED(c_is_boundary, osb_is_boundary(STRING, it->suffix) == OSB_OK)
+TIMED(r_is_boundary, port_is_boundary(STRING, it->suffix))
 static size_t c_compare(const struct input *it) {
     int32_t order = 0;
     osb_compare(STRING, it->escape[0], it->escape_len[0], &order);
@@ -362,10 +362,10 @@ static void append(struct input *it, const char *text, size_t to) {
 static void make(struct input *it, size_t kind, size_t len) {
     const char *middle = KINDS[kind].middle;
     append(it, KINDS[kind].text, (len - strlen(middle)) / 2);
-    it->front = it->len;
+    it->prefix = it->len;
     memcpy(it->string + it->len, middle, strlen(middle));
     it->len += strlen(middle);
-    it->back = it->len;
+    it->suffix = it->len;
     append(it, KINDS[kind].text, len);
     osb_to_wide(STRING, it->units, 128, &it->unit_count, NULL);
     for (osb_platform platform = 0; platform < 3; platform++) {

@@ -72,7 +72,7 @@ def utf8_fault(osb: CDLL, string: bytes) -> str:
     fault = check(osb, WASM, string)
     if not fault:
         return "ok"
-    return f"utf8 {fault.place} {fault.count if fault.kind == 4 else 'none'}"
+    return f"utf8 {fault.index} {fault.count if fault.kind == 4 else 'none'}"
 
 
 def units(osb: CDLL, string: bytes, digits: int = 4) -> str | None:
@@ -85,10 +85,10 @@ def units(osb: CDLL, string: bytes, digits: int = 4) -> str | None:
 
 
 def index(call: Call, string: bytes, pattern: bytes) -> str:
-    place = c_size_t()
-    status = call(string, len(string), pattern, len(pattern), byref(place))
+    at = c_size_t()
+    status = call(string, len(string), pattern, len(pattern), byref(at))
     assert status in (OK, NONE), status
-    return str(place.value) if status == OK else "!"
+    return str(at.value) if status == OK else "!"
 
 
 def told(status: int) -> str:
@@ -100,8 +100,8 @@ def decode(osb: CDLL, string: str, before: str, fault: str) -> Answers:
     string = raw(string)
     yield windows_fault(osb, string), fault
     well = check(osb, WINDOWS, string)
-    front = string[: well.place] if well else string
-    yield units(osb, front), before
+    prefix = string[: well.index] if well else string
+    yield units(osb, prefix), before
 
 
 def encode(osb: CDLL, wide: str, string: str) -> Answers:

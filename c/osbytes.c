@@ -5,7 +5,7 @@
 /* The exports of the crate osbytes_c, and what they take by a pointer. */
 struct core_fault {
     uint32_t kind, value;
-    size_t place, count;
+    size_t index, count;
 };
 struct core_open {
     uint32_t state, bits;
@@ -26,7 +26,7 @@ _Static_assert(sizeof(size_t) == 8 && sizeof(bool) == 1, "a 64-bit machine");
 _Static_assert(sizeof(osb_view) == 16 && offsetof(osb_view, len) == 8, "osb_view");
 _Static_assert(sizeof(osb_fault) == 24 && sizeof(struct core_fault) == 24, "osb_fault");
 _Static_assert(offsetof(osb_fault, kind) == 0 && offsetof(osb_fault, value) == 4, "osb_fault");
-_Static_assert(offsetof(osb_fault, place) == 8 && offsetof(osb_fault, count) == 16, "osb_fault");
+_Static_assert(offsetof(osb_fault, index) == 8 && offsetof(osb_fault, count) == 16, "osb_fault");
 _Static_assert(sizeof(osb_checker) == 16 && offsetof(osb_checker, bits) == 4, "osb_checker");
 _Static_assert(sizeof(osb_split) == 48 && offsetof(osb_split, pattern) == 16, "osb_split");
 _Static_assert(offsetof(osb_split, next) == 32 && offsetof(osb_split, ended) == 40, "osb_split");

@@ -93,7 +93,7 @@ enum {
 typedef struct osb_fault {
     uint32_t kind;  /* OSB_FAULT_.. */
     uint32_t value; /* the byte, the code point, or 0 */
-    size_t place;   /* how many bytes before it are well formed */
+    size_t index;   /* how many bytes before it are well formed */
     size_t count;   /* how many bytes are refused with it */
 } osb_fault;
 
@@ -114,7 +114,7 @@ typedef struct osb_checker {
 osb_status osb_checker_start(osb_checker *checker);
 /* Reads one more piece: OSB_OK, or OSB_FAULTY if the bytes joined have a fault that no later byte
  * changes, from then on in every call; OSB_BAD_STATE. The fault has kind and value, and 0 for
- * place and count, since a checker keeps no bytes. */
+ * index and count, since a checker keeps no bytes. */
 osb_status osb_checker_feed(osb_checker *checker, const char *at, size_t len, osb_fault *fault);
 /* Whether all the bytes that were fed, joined, are WTF-8: OSB_OK, OSB_FAULTY, OSB_BAD_STATE. */
 osb_status osb_checker_finish(const osb_checker *checker, osb_fault *fault);

@@ -25,7 +25,7 @@ class View(Structure):
 
 
 class Fault(Structure):
-    _fields_ = [("kind", c_uint32), ("value", c_uint32), ("place", c_size_t), ("count", c_size_t)]
+    _fields_ = [("kind", c_uint32), ("value", c_uint32), ("index", c_size_t), ("count", c_size_t)]
 
 
 class Checker(Structure):
@@ -321,7 +321,7 @@ def compare_random(osb: CDLL, rows: int) -> None:
             string.decode("utf-8")
             assert status == OK, string
         except UnicodeDecodeError as error:
-            assert status == FAULTY and fault.place == error.start, (string, fault.place, error)
+            assert status == FAULTY and fault.index == error.start, (string, fault.index, error)
             # A prefix of a character at the end is one part, which Python counts so too.
             assert fault.count == error.end - error.start, (string, fault.count, error)
         if is_wtf8_by_python(string):
@@ -329,9 +329,9 @@ def compare_random(osb: CDLL, rows: int) -> None:
         else:
             assert osb.osb_check(WINDOWS, string, len(string), None) == FAULTY, string
         pattern = numbers.choice([b",", b"a", b"ab", b"\xc3\xa9", b"\xf0\x9f\x98\x80"])
-        place = c_size_t()
-        found = osb.osb_find(string, len(string), pattern, len(pattern), byref(place))
-        assert (place.value if found == OK else -1) == string.find(pattern), (string, pattern)
+        index = c_size_t()
+        found = osb.osb_find(string, len(string), pattern, len(pattern), byref(index))
+        assert (index.value if found == OK else -1) == string.find(pattern), (string, pattern)
         assert split(osb, string, pattern) == string.split(pattern), (string, pattern)
         assert b"".join(part + text for part, text in chunks(osb, string)) == string
         for part, text in chunks(osb, string):
@@ -350,9 +350,9 @@ def main(name: str) -> None:
         string = text.encode("utf-8", "surrogatepass")
         assert osb.osb_check(WINDOWS, string, len(string), None) == OK
         assert to_wide(osb, string) == text.encode("utf-16-le", "surrogatepass"), text
-    place = c_size_t()
-    assert osb.osb_find(b"foobar", 6, b"bar", 3, byref(place)) == OK and place.value == 3
-    assert osb.osb_find(b"foobar", 6, b"x", 1, byref(place)) == NONE
+    index = c_size_t()
+    assert osb.osb_find(b"foobar", 6, b"bar", 3, byref(index)) == OK and index.value == 3
+    assert osb.osb_find(b"foobar", 6, b"x", 1, byref(index)) == NONE
     assert split(osb, b"a,\xff,,b", b",") == b"a,\xff,,b".split(b",")
     assert chunks(osb, b"ab\xff\xc3\xa9") == [(b"", b"ab"), (b"\xff", "\u00e9".encode())]
     compare_random(osb, 20000)

@@ -25,13 +25,13 @@ static bool is(osb_view view, const char *at, size_t len) {
 }
 
 static bool faulty(osb_platform platform, const char *at, size_t len, uint32_t kind, uint32_t value,
-                   size_t place, size_t count, const char *text) {
+                   size_t index, size_t count, const char *text) {
     osb_fault fault = {9, 9, 9, 9};
     char out[OSB_FAULT_TEXT_ROOM];
     size_t text_len = 0;
     if (osb_check(platform, at, len, &fault) != OSB_FAULTY) return false;
     if (fault.kind != kind || fault.value != value) return false;
-    if (fault.place != place || fault.count != count) return false;
+    if (fault.index != index || fault.count != count) return false;
     if (osb_check(platform, at, len, NULL) != OSB_FAULTY) return false;
     if (osb_fault_text(&fault, out, sizeof out, &text_len) != OSB_OK) return false;
     if (strcmp(out, text) != 0 || text_len != strlen(text)) {
@@ -60,7 +60,7 @@ static void checks(void) {
     EXPECT(osb_check(OSB_WINDOWS, "", 0, &fault) == OSB_OK);
     EXPECT(osb_check(3, TEXT("a"), &fault) == OSB_BAD_PLATFORM);
     EXPECT(osb_check(0xFFFFFFFF, TEXT("a"), &fault) == OSB_BAD_PLATFORM);
-    EXPECT(fault.kind == 9 && fault.value == 9 && fault.place == 9 && fault.count == 9);
+    EXPECT(fault.kind == 9 && fault.value == 9 && fault.index == 9 && fault.count == 9);
     EXPECT(faulty(OSB_WINDOWS, TEXT("a\xE2\x82" "A"), OSB_FAULT_BYTE, 0x41, 1, 2,
                   NOT_REPRESENTABLE "byte b'\\x41'"));
     EXPECT(faulty(OSB_WINDOWS, TEXT("\xED\xA0\x80\xED\xB0\x80"), OSB_FAULT_CODE_POINT, 0xDC00, 3, 3,
@@ -79,7 +79,7 @@ static void checks(void) {
         memset(bytes, 'a', 300);
         bytes[at] = '\xC0';
         fault = (osb_fault){0, 0, 0, 0};
-        EXPECT(osb_check(OSB_WINDOWS, bytes, 300, &fault) == OSB_FAULTY && fault.place == at &&
+        EXPECT(osb_check(OSB_WINDOWS, bytes, 300, &fault) == OSB_FAULTY && fault.index == at &&
                fault.value == 0xC0 && fault.count == 1);
         free(bytes);
     }
@@ -132,7 +132,7 @@ static void wide(void) {
     uint16_t out[8];
     count = 7;
     EXPECT(osb_to_wide(TEXT("ab\xED\xA0\x80\xED\xB0\x80"), out, 8, &count, &fault) == OSB_FAULTY);
-    EXPECT(fault.kind == OSB_FAULT_CODE_POINT && fault.value == 0xDC00 && fault.place == 5);
+    EXPECT(fault.kind == OSB_FAULT_CODE_POINT && fault.value == 0xDC00 && fault.index == 5);
     EXPECT(osb_to_wide(TEXT("\xC0"), out, 8, &count, NULL) == OSB_FAULTY && count == 7);
     EXPECT(osb_to_wide(TEXT("\xC0"), NULL, 0, &count, NULL) == OSB_FAULTY && count == 7);
     EXPECT(osb_to_wide(NULL, 0, out, 8, &count, NULL) == OSB_OK && count == 0);
@@ -283,7 +283,7 @@ static void checkers(void) {
     EXPECT(osb_checker_feed(&checker, TEXT("a\xE2"), &fault) == OSB_OK);
     osb_checker copy = checker;
     EXPECT(osb_checker_finish(&checker, &fault) == OSB_FAULTY && fault.kind == OSB_FAULT_END);
-    EXPECT(fault.value == 0 && fault.place == 0 && fault.count == 0);
+    EXPECT(fault.value == 0 && fault.index == 0 && fault.count == 0);
     EXPECT(osb_checker_feed(&checker, TEXT("\x82\xAC"), NULL) == OSB_OK);
     EXPECT(osb_checker_feed(&checker, NULL, 0, NULL) == OSB_OK);
     EXPECT(osb_checker_finish(&checker, NULL) == OSB_OK);
@@ -293,7 +293,7 @@ static void checkers(void) {
     EXPECT(fault.kind == OSB_FAULT_CODE_POINT && fault.value == 0xDC00);
     fault = (osb_fault){9, 9, 9, 9};
     EXPECT(osb_checker_feed(&checker, TEXT("a"), &fault) == OSB_FAULTY);
-    EXPECT(fault.kind == OSB_FAULT_CODE_POINT && fault.value == 0xDC00 && fault.place == 0);
+    EXPECT(fault.kind == OSB_FAULT_CODE_POINT && fault.value == 0xDC00 && fault.index == 0);
     fault = (osb_fault){9, 9, 9, 9};
     EXPECT(osb_checker_finish(&checker, &fault) == OSB_FAULTY);
     EXPECT(fault.kind == OSB_FAULT_CODE_POINT && fault.value == 0xDC00 && fault.count == 0);
@@ -379,7 +379,7 @@ static bool same_fault(to_text *call, osb_platform platform, const char *at, siz
     osb_fault fault = {9, 9, 9, 9};
     size_t count = 5;
     return call(platform, "a", 1, out, 8, &count, &fault) == OSB_OK && fault.kind == 9 &&
-           fault.value == 9 && fault.place == 9 && fault.count == 9;
+           fault.value == 9 && fault.index == 9 && fault.count == 9;
 }
 
 static void faults(void) {
@@ -414,7 +414,7 @@ static void too_long(to_text *call, size_t len) {
     size_t count = 7;
     EXPECT(call(OSB_UNIX, "a", len, NULL, 0, &count, &fault) == OSB_TOO_LONG);
     EXPECT(call(OSB_UNIX, "a", PTRDIFF_MAX, NULL, 0, &count, &fault) == OSB_TOO_LONG);
-    EXPECT(count == 7 && fault.kind == 9 && fault.value == 9 && fault.place == 9 && fault.count == 9);
+    EXPECT(count == 7 && fault.kind == 9 && fault.value == 9 && fault.index == 9 && fault.count == 9);
 }
 
 static void lossies(void) {
@@ -426,9 +426,9 @@ static void lossies(void) {
     EXPECT(lossy(OSB_WASM, TEXT("a\xC3\xA9"), TEXT("a\xC3\xA9")));
     EXPECT(lossy(OSB_UNIX, NULL, 0, TEXT("")));
     EXPECT(osb_lossy(OSB_WINDOWS, TEXT("ab\xC0"), out, 8, &count, &fault) == OSB_FAULTY);
-    EXPECT(fault.kind == OSB_FAULT_BYTE && fault.value == 0xC0 && fault.place == 2 && count == 7);
+    EXPECT(fault.kind == OSB_FAULT_BYTE && fault.value == 0xC0 && fault.index == 2 && count == 7);
     EXPECT(osb_lossy(OSB_WASM, TEXT("a\xC0"), out, 8, &count, &fault) == OSB_FAULTY);
-    EXPECT(fault.kind == OSB_FAULT_UTF8 && fault.place == 1 && fault.count == 1);
+    EXPECT(fault.kind == OSB_FAULT_UTF8 && fault.index == 1 && fault.count == 1);
     EXPECT(osb_lossy(3, TEXT("a"), out, 8, &count, NULL) == OSB_BAD_PLATFORM && count == 7);
     EXPECT(osb_lossy(OSB_UNIX, NULL, 1, out, 8, &count, NULL) == OSB_BAD_POINTER);
     EXPECT(osb_lossy(OSB_UNIX, TEXT("a"), NULL, 8, &count, NULL) == OSB_BAD_POINTER);
@@ -569,7 +569,7 @@ static void symbols(void) {
     EXPECT(osb_symbols_next(&symbols, &symbol) == OSB_ENDED);
     /* bad arguments, and fields that no call left so */
     EXPECT(osb_symbols_start(&symbols, OSB_WINDOWS, TEXT("a\xC0"), &fault) == OSB_FAULTY);
-    EXPECT(fault.kind == OSB_FAULT_BYTE && fault.value == 0xC0 && fault.place == 1);
+    EXPECT(fault.kind == OSB_FAULT_BYTE && fault.value == 0xC0 && fault.index == 1);
     EXPECT(osb_symbols_next(&symbols, &symbol) == OSB_ENDED);
     EXPECT(osb_symbols_start(&symbols, 3, TEXT("a"), NULL) == OSB_BAD_PLATFORM);
     EXPECT(osb_symbols_start(&symbols, OSB_UNIX, NULL, 1, NULL) == OSB_BAD_POINTER);
@@ -653,7 +653,7 @@ static void bad_escapes(to_text *escape) {
     size_t count = 7;
     osb_fault fault = {9, 9, 9, 9};
     EXPECT(escape(OSB_WINDOWS, TEXT("ab\xC0"), out, 8, &count, &fault) == OSB_FAULTY && count == 7);
-    EXPECT(fault.kind == OSB_FAULT_BYTE && fault.value == 0xC0 && fault.place == 2);
+    EXPECT(fault.kind == OSB_FAULT_BYTE && fault.value == 0xC0 && fault.index == 2);
     EXPECT(escape(3, TEXT("a"), out, 8, &count, NULL) == OSB_BAD_PLATFORM && count == 7);
     EXPECT(escape(OSB_UNIX, NULL, 1, out, 8, &count, NULL) == OSB_BAD_POINTER);
     EXPECT(escape(OSB_UNIX, TEXT("a"), NULL, 8, &count, NULL) == OSB_BAD_POINTER);
@@ -721,11 +721,11 @@ static bool unescaped(to_string *unescape, osb_platform platform, const char *es
 
 /* An escape that isn't read: the index of the backslash, or 7 where each is in a token. */
 static bool unread(to_string *unescape, osb_platform platform, const char *escape, size_t len,
-                   osb_status wanted, size_t place) {
+                   osb_status wanted, size_t wanted_index) {
     char out[64];
     size_t count = 9, index = 7;
     osb_status status = unescape(platform, escape, len, out, sizeof out, &count, &index);
-    if (status != wanted || count != 9 || index != place) return false;
+    if (status != wanted || count != 9 || index != wanted_index) return false;
     return unescape(platform, escape, len, out, sizeof out, &count, NULL) == wanted && count == 9;
 }
 

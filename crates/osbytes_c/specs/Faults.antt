@@ -48,15 +48,15 @@ pub record IsWtf8Report (bytes : List ℕ) (report : Fault) : Type 0 where
   pub first : HasFirstFault bytes fault
   pub kind : report.kind ≡ kind_of fault
   pub value : report.value ≡ value_of fault
-  pub place : IsFaultAt bytes report.place report.count
+  pub index : IsFaultAt bytes report.index report.count
 
 -- the report is the first fault of bytes that aren't UTF-8, with how many bytes are refused: all that are left if the fault has no length
 pub record IsUtf8Report (bytes : List ℕ) (report : Fault) : Type 0 where
   pub len : Option ℕ
-  pub first : IsUtf8Fault bytes report.place len
-  pub kind : report.kind ≡ kind_of (Utf8 report.place len)
+  pub first : IsUtf8Fault bytes report.index len
+  pub kind : report.kind ≡ kind_of (Utf8 report.index len)
   pub value : report.value ≡ 0
-  pub count : report.count ≡ elim len [ Some n ↦ n | None ↦ length bytes - report.place ]
+  pub count : report.count ≡ elim len [ Some n ↦ n | None ↦ length bytes - report.index ]
 
 -- the report is the first fault of bytes that aren't a string of the platform with this number
 abbrev pub IsReport : ℕ → List ℕ → Fault → Type 0
@@ -70,8 +70,8 @@ abbrev pub SameNumbers : EncodingError → Fault → Type 0
 SameNumbers (Byte b) report = (report.value ≡ b) × (b < 2 ^ 8)
 SameNumbers (CodePoint c) report = report.value ≡ c
 SameNumbers End report = Unit {0}
-SameNumbers (Utf8 i (Some n)) report = (report.place ≡ i) × ((report.count ≡ n) × (n < 2 ^ 8))
-SameNumbers (Utf8 i None) report = report.place ≡ i
+SameNumbers (Utf8 i (Some n)) report = (report.index ≡ i) × ((report.count ≡ n) × (n < 2 ^ 8))
+SameNumbers (Utf8 i None) report = report.index ≡ i
 
 -- the report names the fault, as far as its text shows
 pub record Names (report : Fault) (fault : EncodingError) : Type 0 where

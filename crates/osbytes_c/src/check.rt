@@ -50,11 +50,11 @@ pub(crate) fn report_wtf8(bytes: &[u8], error: EncodingError, fault: &mut Fault)
     ensures { IsWtf8Report bytes.now fault.new }
 {
     match wtf8_fault(bytes) {
-        Some((place, count)) => {
+        Some((index, count)) => {
             *fault = Fault {
                 kind: kind_of(error),
                 value: value_of(error),
-                place,
+                index,
                 count,
             };
         }
@@ -69,21 +69,21 @@ pub(crate) fn check_utf8(bytes: &[u8], fault: &mut Fault) -> u32
     ensures kept { result ≢ 1 → fault.new ≡ fault.old }
     ensures answers { (result ≡ 0) ⊎ (result ≡ 1) }
 {
-    let Some((place, len)) = utf8_fault(bytes) else {
+    let Some((index, len)) = utf8_fault(bytes) else {
         return DONE;
     };
     *fault = match len {
         Some(len) => Fault {
             kind: 4,
             value: 0,
-            place,
+            index,
             count: usize::from(len),
         },
         None => Fault {
             kind: 5,
             value: 0,
-            place,
-            count: bytes.len() - place,
+            index,
+            count: bytes.len() - index,
         },
     };
     FAULTY

@@ -107,7 +107,7 @@ fn reported(error: EncodingError) -> Fault
     Fault {
         kind: kind_of(error),
         value: value_of(error),
-        place: 0,
+        index: 0,
         count: 0,
     }
 }

@@ -14,7 +14,7 @@ pub struct Fault {
     /// The byte, the code point, or 0.
     pub value: u32,
     /// How many bytes are well formed before it.
-    pub place: usize,
+    pub index: usize,
     /// How many bytes are refused with it.
     pub count: usize,
 }

@@ -43,13 +43,13 @@ fn error_of(fault: Fault) -> Option<EncodingError>
         3 => Some(EncodingError::End),
         4 => match u8::try_from(fault.count) {
             Ok(len) => Some(EncodingError::Utf8 {
-                valid_up_to: fault.place,
+                valid_up_to: fault.index,
                 error_len: Some(len),
             }),
             Err(_) => None,
         },
         5 => Some(EncodingError::Utf8 {
-            valid_up_to: fault.place,
+            valid_up_to: fault.index,
             error_len: None,
         }),
         _ => None,
