@@ -7,7 +7,7 @@ within a trait or an `impl`.
 from __future__ import annotations
 
 import re
-from functools import cached_property
+from functools import cache
 from pathlib import Path
 from typing import Iterator, NamedTuple
 
@@ -18,12 +18,19 @@ LIST = ROOT / "crates.txt"
 TRYING = "# To try it."
 FENCE = "```"
 CRATE = re.compile(r"^(\w+)( staticlib)?:(.*)$", re.M)
-EXPORTED = re.compile(r"^pub (?:use ([\w:]+)::(\{.*?\}|\w+)|mod (\w+));", re.M | re.S)
+DEFINED = re.compile(r"^pub (?:const |unsafe |extern \"C\" )*(?:fn|struct|enum|trait|type|const|static) (\w+)", re.M)
+MODULE = re.compile(r"^(?:pub )?mod (\w+);", re.M)
+PUBLIC_MODULE = re.compile(r"^pub mod (\w+);", re.M)
+USE = re.compile(r"^pub use ([\w:]+?)(?:::\{([^}]*)\}| as (\w+))?;", re.M)
 DOC = re.compile(r" *(?:///|//!) ?(.*)")
 MODIFIERS = r"(?:(?:pub(?:\(crate\))?|final|unsafe|const|extern \"C\") )*"
 CALL = re.compile(rf"( {{4}})?({MODIFIERS})fn (\w+)")
 OWNER = re.compile(r"(pub )?(?:unsafe )?(trait|impl)\b(.*)")
 CLAUSE = re.compile(r"(?:requires|ensures)\b")
+TYPE = re.compile(r"(?:pub )?(?:trait|struct|enum) (\w+)")
+ALIAS = re.compile(r"pub type (\w+)<.*> = (\w+)<")
+IMPL = re.compile(r"impl\b(.*?)(?: \{.*)?$")
+DERIVE = re.compile(r"#\[derive(?:_where)?\(([\w, ]+)")
 
 
 class Listed(NamedTuple):
@@ -59,25 +66,66 @@ def files_of(crate: str) -> list[Path]:
     return sorted((CRATES / crate / "src").rglob("*.rt"))
 
 
-class Exports(NamedTuple):
-    """The public modules of a crate, and the names that its root and these re-export."""
-
-    modules: set[str]
-    names: set[str]
+# An item, by the crate and the path that it is defined at: os_str_ext, chunks, Utf8Chunks.
+Path_ = tuple[str, ...]
 
 
-def exports_of(crate: str) -> Exports:
-    modules, names = set(), set()
-    left = [root_of(crate)]
-    while left:
-        source = left.pop()
-        folder = source.parent if source == root_of(crate) else source.with_suffix("")
-        for _, group, module in EXPORTED.findall(source.read_text(encoding="utf-8")):
-            names.update(re.findall(r"\w+", group))
-            if module:
-                modules.add(module)
-                left += [path for path in [folder / f"{module}.rt"] if path.exists()]
-    return Exports(modules, names)
+def source(at: Path_) -> str:
+    """Returns the source of a module; of what is none, nothing."""
+    crate, *inner = at
+    path = CRATES.joinpath(crate, "src", *(inner or ["lib"])).with_suffix(".rt")
+    return path.read_text(encoding="utf-8") if path.exists() else ""
+
+
+def uses(text: str) -> list[tuple[list[str], str]]:
+    """Returns the paths that a module re-exports, each with the name that it has there."""
+    found = []
+    for path, names, renamed in USE.findall(text):
+        for name in [it.strip() for it in names.split(",") if it.strip()] or [f"as {renamed}" if renamed else ""]:
+            inner, _, other = name.partition("as ")
+            whole = [*path.split("::"), *inner.split()]
+            found.append((whole, other or whole[-1]))
+    return found
+
+
+@cache
+def exports(at: Path_) -> dict[str, Path_]:
+    """Returns the names that a module exports, and the items and modules that these are."""
+    text = source(at)
+    found = {name: (*at, name) for name in DEFINED.findall(text) + PUBLIC_MODULE.findall(text)}
+    for path, name in uses(text):
+        if item := resolved(at, path):
+            found[name] = item
+    return found
+
+
+def resolved(at: Path_, path: list[str]) -> Path_ | None:
+    """Returns what a path in a module stands for; of the kit's crates, nothing."""
+    first, *rest = path
+    if first == "crate":
+        here: Path_ = at[:1]
+    elif first in MODULE.findall(source(at)):
+        here = (*at, first)
+    elif (CRATES / first / "src" / "lib.rt").exists():
+        here = (first,)
+    else:
+        return None
+    for name in rest:
+        found = exports(here).get(name)
+        if found is None and name in MODULE.findall(source(here)):
+            found = (*here, name)
+        if found is None:
+            return None
+        here = found
+    return here
+
+
+def reached(at: Path_) -> set[Path_]:
+    """Returns the items that a module exports, itself or by its modules."""
+    items = set()
+    for item in exports(at).values():
+        items |= reached(item) if source(item) else {item}
+    return items
 
 
 class Call(NamedTuple):
@@ -97,11 +145,6 @@ class Call(NamedTuple):
     def is_open(self) -> bool:
         """Whether it can be called where its owner can be named: a clause of an `impl` stands in its trait."""
         return self.is_pub or self.is_declared
-
-    def is_public(self, path: Path, exports: Exports) -> bool:
-        """Returns whether its crate's users can call it."""
-        is_named = (self.owner or self.name) in exports.names
-        return self.is_open and (path.stem in exports.modules or is_named)
 
     @property
     def doc(self) -> list[str]:
@@ -177,8 +220,37 @@ def calls_of(path: Path) -> Iterator[Call]:
                 yield Call(lines, at, call[3], "", "", False, "pub" in words)
 
 
+class Head(NamedTuple):
+    """A type, a trait, an alias or an `impl`: its name, the type of an alias, and the traits that it has."""
+
+    name: str
+    of: str
+    traits: list[str]
+
+
+def heads_of(path: Path) -> Iterator[Head]:
+    """Yields the types, traits and `impl`s of a file; traits with their types, as they are written."""
+    derived: list[str] = []
+    for line in path.read_text(encoding="utf-8").splitlines():
+        if found := DERIVE.match(line):
+            derived += re.findall(r"\w+", found[1])
+        elif found := ALIAS.match(line):
+            yield Head(found[1], found[2], [])
+        elif found := TYPE.match(line):
+            yield Head(found[1], "", derived)
+            derived = []
+        elif found := IMPL.match(line):
+            of_trait, _, of_type = without_parameters(found[1]).rpartition(" for ")
+            yield Head(name_in(of_type), "", [of_trait] if of_trait else [])
+
+
 def public_calls(crate: str) -> Iterator[tuple[Path, Call]]:
-    """Yields the public calls of a library, each with its file."""
-    exports = exports_of(crate)
+    """Yields the calls of a library that its users can make, each with its file."""
+    items = reached((crate,))
+    owners = {item[-1] for item in items}
     for path in files_of(crate):
-        yield from ((path, call) for call in calls_of(path) if call.is_public(path, exports))
+        module = (crate, *path.relative_to(root_of(crate).parent).with_suffix("").parts)
+        for call in calls_of(path):
+            is_named = call.owner in owners if call.owner else (*module, call.name) in items
+            if call.is_open and is_named:
+                yield path, call
