@@ -10,7 +10,7 @@ from pathlib import Path
 from typing import Iterable
 
 from laid_in import kit as toolchain
-from sources import CRATES, LIST, crates
+from sources import CRATES, LIST, ROOT, crates
 
 PARTS = ("src", "specs", "proofs")
 
