@@ -8,7 +8,7 @@ use std::hint::black_box;
 const SIZES: [(usize, &str); 2] = [(1 << 10, "1 KiB"), (128 << 10, "128 KiB")];
 
 pub fn time(bench: &mut Bench) {
-    bench.table_beside("Flags of one word", "a flag", &["lexopt"]);
+    bench.table("Flags of one word beside lexopt", "a flag");
     for (size, name) in SIZES {
         for (flag, kind) in [('v', "`-vvv..`"), ('ж', "Cyrillic flags")] {
             let count = (size - 1) / flag.len_utf8();
@@ -19,9 +19,8 @@ pub fn time(bench: &mut Bench) {
                 count,
                 [
                     Some(&mut || ours::flags(black_box(word.as_bytes()))),
-                    None,
-                    None,
                     Some(&mut || lexopt(black_box(&word))),
+                    None,
                 ],
             );
         }
