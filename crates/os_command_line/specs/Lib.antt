@@ -1,4 +1,5 @@
 pub mod Windows
+pub mod WindowsBatch
 pub mod WindowsReader
 pub mod WindowsSteps
 pub mod WindowsViews

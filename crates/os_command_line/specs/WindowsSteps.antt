@@ -1,5 +1,5 @@
 -- Parts of command lines, read or written. Only private contracts name these.
-use Rattle.std.specs.Prelude.{◌≡◌, ℕ, ◌+◌, ◌<◌, ◌≤◌, Bool, false, List, ◌++◌, length}
+use Rattle.std.specs.Prelude.{◌≡◌, ◌⊎◌, ℕ, ◌+◌, ◌<◌, ◌≤◌, Bool, false, List, [], ◌∷◌, ◌++◌, length}
 use Rattle.wtf8_core.specs.Wtf8.{IsWtf8}
 use Rattle.wtf8_core.specs.UnitsOf.{units_of}
 use Rattle.os_command_line.specs.Windows.{backslashes, Reads, IsNext, ReadsName}
@@ -38,3 +38,11 @@ pub record IsNameCut (line raw rest : List ℕ) : Type 0 where
   pub raw_formed : IsWtf8 raw
   pub rest_formed : IsWtf8 rest
   pub reads : ReadsName (units_of rest) false (units_of line) (meant name_index (units_of raw))
+
+-- the next unit is taken, or 0 where there is none
+abbrev pub TakesUnit : List ℕ → ℕ → List ℕ → Type 0
+TakesUnit us u rest = (us ≡ u ∷ rest) ⊎ ((us ≡ []) × (u ≡ 0) × (rest ≡ []))
+
+-- a path with these four units first is verbatim
+abbrev pub BeginsVerbatim : ℕ → ℕ → ℕ → ℕ → Type 0
+BeginsVerbatim first second third fourth = (first ≡ 0x5C) × (((second ≡ 0x5C) ⊎ (second ≡ 0x3F)) × ((third ≡ 0x3F) × (fourth ≡ 0x5C)))

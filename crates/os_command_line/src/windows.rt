@@ -6,6 +6,7 @@
 
 mod argument;
 mod arguments;
+mod batch;
 mod checks;
 mod cuts;
 mod error;
@@ -18,6 +19,7 @@ mod writing;
 
 pub use argument::Argument;
 pub use arguments::Arguments;
+pub use batch::needs_cmd;
 pub use error::CommandLineError;
 pub use units::ArgumentUnits;
 pub use writing::{command_line, push_argument};

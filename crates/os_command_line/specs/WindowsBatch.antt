@@ -1,0 +1,30 @@
+-- Which programs Windows starts cmd.exe for, by their names (std's `Command` on Windows). Lists are of 16-bit units.
+use Rattle.std.specs.Prelude.{◌≡◌, ◌⊎◌, ℕ, ◌+◌, List, ◌∷◌}
+use Rattle.std.specs.List.{AllByRecursion}
+
+-- this letter, in lower case or in upper case
+abbrev pub IsLetter : ℕ → ℕ → Type 0
+IsLetter lower u = (u ≡ lower) ⊎ (u + 0x20 ≡ lower)
+
+-- `bat` or `cmd`, in either case
+abbrev pub IsBatchExtension : ℕ → ℕ → ℕ → Type 0
+IsBatchExtension x y z = (IsLetter 0x62 x × IsLetter 0x61 y × IsLetter 0x74 z) ⊎ (IsLetter 0x63 x × IsLetter 0x6D y × IsLetter 0x64 z)
+
+-- the path is verbatim: it begins with `\\?\` or `\??\`
+abbrev pub IsVerbatim : List ℕ → Type 0
+IsVerbatim path = (second : ℕ) × (rest : List ℕ) × ((second ≡ 0x5C) ⊎ (second ≡ 0x3F)) × (path ≡ 0x5C ∷ second ∷ 0x3F ∷ 0x5C ∷ rest)
+
+-- what Windows drops at the end of a path that isn't verbatim: full stops and spaces
+abbrev pub IsDropped : List ℕ → ℕ → Type 0
+IsDropped path u = (¬ (IsVerbatim path)) × ((u ≡ 0x2E) ⊎ (u ≡ 0x20))
+
+-- The units end with `.` and one of these extensions, and after it there are only units that are dropped:
+-- they end so from here on;
+-- or after some more units.
+pub data EndsAsBatch (dropped : ℕ → Type 0) : List ℕ → Type 0 where
+  here : (x y z : ℕ) (after : List ℕ) → IsBatchExtension x y z → AllByRecursion dropped after → EndsAsBatch dropped (0x2E ∷ x ∷ y ∷ z ∷ after)
+  later : (u : ℕ) (us : List ℕ) → EndsAsBatch dropped us → EndsAsBatch dropped (u ∷ us)
+
+-- the program of this path is a batch file
+abbrev pub NeedsCmd : List ℕ → Type 0
+NeedsCmd path = EndsAsBatch (IsDropped path) path
