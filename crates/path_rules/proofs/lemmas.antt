@@ -17,3 +17,5 @@ pub mod Roots
 pub mod Alike
 pub mod ReservedNames
 pub mod Trims
+pub mod Follows
+pub mod Joins

@@ -15,3 +15,5 @@ pub mod Reserved
 pub mod Compare
 pub mod Root
 pub mod Trailing
+pub mod Resolved
+pub mod Join

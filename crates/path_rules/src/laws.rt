@@ -9,6 +9,7 @@ ghost use Rattle.path_rules.specs.declared.rules.Rules.TheVariants as rules;
 ghost use Rattle.path_rules.specs.Separators.{Edge};
 ghost use Rattle.path_rules.specs.Components.{IsRelative};
 ghost use Rattle.path_rules.specs.Normal.{AreNormalOf};
+ghost use Rattle.path_rules.specs.Join.{IsVerbatimPath, IsRelativeTo, HaveTheSamePrefix, IsJoin, without_dot};
 ghost use Rattle.path_rules.specs.Name.{IsExtension};
 ghost use Rattle.path_rules.specs.Parent.{IsParent, HasFileName};
 
@@ -75,4 +76,17 @@ pub fn one_file_name()
 pub fn parent_is_shorter()
     ensures { (style : whose.Style) → (s : List ℕ) → (parent : List ℕ) → IsParent style s parent
         → length parent < length s }
+{}
+
+/// A base that isn't verbatim and a relative path have the components of both, where the joined
+/// path has the base's prefix (on Unix always): first the base's, then the path's without a `.` at
+/// their start. An empty base is replaced.
+pub fn join_components()
+    ensures both { (style : whose.Style) → (base : List ℕ) → (path : List ℕ) → (joined : List ℕ)
+        → base ≢ [] → ¬ (IsVerbatimPath style base) → IsRelativeTo style path
+        → IsJoin style base path joined → HaveTheSamePrefix style base joined
+        → (items : List Item) → (more : List Item) → AreComponents style base items
+        → AreComponents style path more → AreComponents style joined (items ++ without_dot more) }
+    ensures empty { (style : whose.Style) → (path : List ℕ) → (joined : List ℕ)
+        → IsJoin style [] path joined → joined ≡ path }
 {}

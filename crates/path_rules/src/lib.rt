@@ -13,7 +13,9 @@
 //! neither does `.`, but for a `.` at the start of a path without a root or a prefix, and after
 //! `\\?\`, where it is a component. `..` is a component and never resolved.
 //!
-//! No call allocates, and none has a condition.
+//! [`join`] and [`push`] write a path after another. They allocate, with an allocator that they are
+//! given or that the vector has, and answer a `Result`. No other call allocates, and no call has a
+//! condition.
 #![tactic(auto)]
 
 mod body;
@@ -21,11 +23,13 @@ mod compare;
 mod component;
 mod components;
 mod head;
+mod joining;
 pub mod laws;
 mod name_parts;
 mod parents;
 mod prefix;
 mod reserved;
+mod resolving;
 mod root;
 mod rules;
 mod trailing;
@@ -33,6 +37,7 @@ mod trailing;
 pub use compare::{ends_with, starts_with};
 pub use component::Component;
 pub use components::Components;
+pub use joining::{join, push};
 pub use name_parts::{extension, name_prefix, split_extension, stem};
 pub use parents::{file_name, parent};
 pub use prefix::{Prefix, windows_prefix};

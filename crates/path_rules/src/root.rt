@@ -48,7 +48,7 @@ pub fn is_absolute(style: Style, path: &[u8]) -> bool
 }
 
 #[inline(always)]
-fn begins_with_separator(rules: Rules, path: &[u8]) -> bool
+pub(crate) fn begins_with_separator(rules: Rules, path: &[u8]) -> bool
     ensures { IsTrue result ↔ BeginsWithSeparator rules path.now }
 {
     match path {

@@ -126,7 +126,7 @@ after_prefix s kind rest h = prefix_after (lead_of s) s kind rest (leads s) h
 pub shorter : (s t : List ℕ) → IsProperEnd s t → length t ≤ length s
 shorter s t b = omega (arith, length-append b.before t, ap length b.joined)
 
-before_is : (s t : List ℕ) (b : IsProperEnd s t) → take (length s - length t) s ≡ b.before
+pub before_is : (s t : List ℕ) (b : IsProperEnd s t) → take (length s - length t) s ≡ b.before
 before_is s t b = ap (take (length s - length t)) b.joined ∙ take_at b.before t (length s - length t) (omega (arith, length-append b.before t, ap length b.joined))
 
 some_prefix : (raw : List ℕ) → 0 < length raw → prefix_items raw ≡ Prefix raw ∷ []

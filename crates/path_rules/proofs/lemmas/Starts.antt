@@ -40,12 +40,12 @@ module _ (r : Rules) where
   one_byte b = refl
 
   -- a path that isn't empty starts as it does up to an edge
-  same_start : (b : ℕ) (t more : List ℕ) → Edge r more → start_of r (b ∷ (t ++ more)) ≡ start_of r (b ∷ t)
+  pub same_start : (b : ℕ) (t more : List ℕ) → Edge r more → start_of r (b ∷ (t ++ more)) ≡ start_of r (b ∷ t)
   same_start b [] [] h = refl
   same_start b [] (c ∷ more) h = two_bytes b c more ∙ same_choice (separates r b) (nat_eq b 0x2E) (separates r c) h ∙ sym (one_byte b)
   same_start b (c ∷ t) more h = refl
 
-  with_root : (b : ℕ) (t : List ℕ) → separates r b ≡ true → start_of r (b ∷ t) ≡ Root
+  pub with_root : (b : ℕ) (t : List ℕ) → separates r b ≡ true → start_of r (b ∷ t) ≡ Root
   with_root b [] e = ap (λ x. if x then Root else (if nat_eq b 0x2E then Dot else Nothing)) e
   with_root b (c ∷ t) e = ap (λ x. if x then Root else (if nat_eq b 0x2E && separates r c then Dot else Nothing)) e
 
@@ -54,7 +54,7 @@ module _ (r : Rules) where
   no_start false true e h = cc
   no_start false false e h = cc
 
-  is_root : (b : ℕ) (s : List ℕ) → start_of r (b ∷ s) ≡ Root → separates r b ≡ false → ⊥
+  pub is_root : (b : ℕ) (s : List ℕ) → start_of r (b ∷ s) ≡ Root → separates r b ≡ false → ⊥
   is_root b [] h e = no_start (separates r b) (nat_eq b 0x2E) e h
   is_root b (c ∷ s) h e = no_start (separates r b) (nat_eq b 0x2E && separates r c) e h
 
@@ -104,7 +104,7 @@ module _ (r : Rules) where
     pub long : length before + length body ≡ length s + length t
     pub items : plain_components r before ≡ start_items (start_of r s) ++ components_in r t
 
-  items_at : (before : List ℕ) (st : Start) → start_of r before ≡ st → plain_components r before ≡ start_items st ++ components_in r (after_start st before)
+  pub items_at : (before : List ℕ) (st : Start) → start_of r before ≡ st → plain_components r before ≡ start_items st ++ components_in r (after_start st before)
   items_at before st e = ap (λ x. start_items x ++ components_in r (after_start x before)) e
 
   abbrev pub Ends : List ℕ → List ℕ → Type 0
