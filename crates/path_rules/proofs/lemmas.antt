@@ -19,3 +19,9 @@ pub mod ReservedNames
 pub mod Trims
 pub mod Follows
 pub mod Joins
+pub mod Moves
+pub mod Spelling
+pub mod Resolving
+pub mod Written
+pub mod Forms
+pub mod Again

@@ -1,5 +1,5 @@
 -- The parts that a path is taken apart into. Step words: no public contract names them.
-use Rattle.std.specs.Prelude.{◌≡◌, ℕ, List, []}
+use Rattle.std.specs.Prelude.{◌≡◌, ◌++◌, ℕ, List, []}
 use Rattle.path_rules.specs.declared.rules.Rules.TheVariants as rule
 use Rattle.path_rules.specs.declared.rules.Style.{Style}
 use Rattle.path_rules.specs.declared.rules.Style.TheVariants as style
@@ -25,6 +25,7 @@ pub record IsPrefixedHead (path : List ℕ) (head : Head) : Type 0 where
   pub kind : Kind
   pub rest : List ℕ
   pub is : IsPrefixOf path kind rest
+  pub joined : path ≡ head.prefix.now ++ rest
   pub rules : head.rules ≡ rules_of kind
   pub start : head.start ≡ root_of kind rest
   pub body : head.body.now ≡ after_root rest

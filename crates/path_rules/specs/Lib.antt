@@ -17,3 +17,6 @@ pub mod Root
 pub mod Trailing
 pub mod Resolved
 pub mod Join
+pub mod Spelled
+pub mod Normalized
+pub mod Cleaned

@@ -10,6 +10,8 @@ ghost use Rattle.path_rules.specs.Separators.{Edge};
 ghost use Rattle.path_rules.specs.Components.{IsRelative};
 ghost use Rattle.path_rules.specs.Normal.{AreNormalOf};
 ghost use Rattle.path_rules.specs.Join.{IsVerbatimPath, IsRelativeTo, HaveTheSamePrefix, IsJoin, without_dot};
+ghost use Rattle.path_rules.specs.Normalized.{IsNormalized};
+ghost use Rattle.path_rules.specs.Cleaned.{CleansTo, IsCleaned};
 ghost use Rattle.path_rules.specs.Name.{IsExtension};
 ghost use Rattle.path_rules.specs.Parent.{IsParent, HasFileName};
 
@@ -35,6 +37,26 @@ pub fn normal_forms()
         → AreNormalOf normal normal }
     ensures one { (items : List Item) → (one : List Item) → (other : List Item)
         → AreNormalOf items one → AreNormalOf items other → one ≡ other }
+{}
+
+/// The normal form of a path is its own normal form.
+pub fn normalized_again()
+    ensures { (style : whose.Style) → (path : List ℕ) → (answer : List ℕ)
+        → IsNormalized style path answer → IsNormalized style answer answer }
+{}
+
+/// What components are cleaned to is cleaned to itself, and components are cleaned to one list.
+pub fn clean_forms()
+    ensures again { (items : List Item) → (clean : List Item) → CleansTo items clean
+        → CleansTo clean clean }
+    ensures one { (items : List Item) → (one : List Item) → (other : List Item)
+        → CleansTo items one → CleansTo items other → one ≡ other }
+{}
+
+/// The clean form of a path is its own clean form.
+pub fn cleaned_again()
+    ensures { (style : whose.Style) → (path : List ℕ) → (answer : List ℕ)
+        → IsCleaned style path answer → IsCleaned style answer answer }
 {}
 
 /// What follows a prefix is empty or begins with a separator, unless the prefix is a drive.

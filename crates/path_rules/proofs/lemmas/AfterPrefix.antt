@@ -129,7 +129,10 @@ shorter s t b = omega (arith, length-append b.before t, ap length b.joined)
 pub before_is : (s t : List ℕ) (b : IsProperEnd s t) → take (length s - length t) s ≡ b.before
 before_is s t b = ap (take (length s - length t)) b.joined ∙ take_at b.before t (length s - length t) (omega (arith, length-append b.before t, ap length b.joined))
 
-some_prefix : (raw : List ℕ) → 0 < length raw → prefix_items raw ≡ Prefix raw ∷ []
+pub prefix_joined : (s t : List ℕ) (b : IsProperEnd s t) → s ≡ take (length s - length t) s ++ t
+prefix_joined s t b = b.joined ∙ ap (λ x. x ++ t) (sym (before_is s t b))
+
+pub some_prefix : (raw : List ℕ) → 0 < length raw → prefix_items raw ≡ Prefix raw ∷ []
 some_prefix [] h = absurd (omega arith)
 some_prefix (b ∷ s) h = refl
 

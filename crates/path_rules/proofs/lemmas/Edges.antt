@@ -2,16 +2,16 @@
 use Rattle.std.proofs.Common.{◌≡◌, ◌⊎◌, inl, inr, ℕ, Bool, true, false, ◌&&◌, ◌||◌, nat_eq, if◌then◌else◌, List, [], ◌∷◌, refl, sym, ap, ◌∙◌, subst, eqb-true}
 use Rattle.path_rules.specs.declared.rules.Rules.TheVariants as rules
 use Rattle.path_rules.specs.Separators.{separates, Edge}
-use Rattle.path_rules.specs.Prefix.{Kind, Lead, VerbatimLead, DeviceLead, DoubleLead, DriveLead, NoLead, VerbatimLeads, UncLead, DiskLead, NameLead, is_letter, double_lead, lead_of, verbatim_lead, IsShare, IsVerbatimBy, IsPrefixBy, IsPrefixOf}
+use Rattle.path_rules.specs.Prefix.{Kind, Disk, upper, Lead, VerbatimLead, DeviceLead, DoubleLead, DriveLead, NoLead, VerbatimLeads, UncLead, DiskLead, NameLead, is_letter, double_lead, lead_of, verbatim_lead, IsShare, IsVerbatimBy, IsPrefixBy, IsPrefixOf}
 
 -- both parts of a test
-and_true : (p q : Bool) → (p && q) ≡ true → (p ≡ true) × (q ≡ true)
+pub and_true : (p q : Bool) → (p && q) ≡ true → (p ≡ true) × (q ≡ true)
 and_true true true e = (refl, refl)
 and_true true false e = let never : false ≡ true = e in cc
 and_true false q e = let never : false ≡ true = e in cc
 
 -- of a choice of two both are so, each where it is chosen
-chosen : {X : Type 0} (P : X → Type 0) (b : Bool) (x y : X) → (b ≡ true → P x) → P y → P (if b then x else y)
+pub chosen : {X : Type 0} (P : X → Type 0) (b : Bool) (x y : X) → (b ≡ true → P x) → P y → P (if b then x else y)
 chosen P true x y p q = p refl
 chosen P false x y p q = q
 
@@ -86,3 +86,14 @@ edge_by NoLead s kind rest d h = absurd h
 
 pub edge_after : (s : List ℕ) (kind : Kind) (rest : List ℕ) → IsPrefixOf s kind rest → Edge rules.Either rest ⊎ ((letter : ℕ) × (s ≡ letter ∷ 0x3A ∷ rest))
 edge_after s kind rest h = edge_by (lead_of s) s kind rest (drives s) h
+
+-- the same, where a drive has no edge
+disk_by : (l : Lead) (s : List ℕ) (kind : Kind) (rest : List ℕ) → IsPrefixBy l kind rest → Edge rules.Either rest ⊎ ((letter : ℕ) × (kind ≡ Disk letter))
+disk_by (VerbatimLead t) s kind rest h = inl (verbatim_edge (verbatim_lead h.part h.after) t kind rest (verbatim_disks h.part h.after h.first.edge) h.is)
+disk_by (DeviceLead t) s kind rest h = inl h.field.edge
+disk_by (DoubleLead t) s kind rest h = inl h.second.edge
+disk_by (DriveLead letter t) s kind rest h = inr (upper letter, h.0)
+disk_by NoLead s kind rest h = absurd h
+
+pub edge_or_disk : (s : List ℕ) (kind : Kind) (rest : List ℕ) → IsPrefixOf s kind rest → Edge rules.Either rest ⊎ ((letter : ℕ) × (kind ≡ Disk letter))
+edge_or_disk s kind rest h = disk_by (lead_of s) s kind rest h

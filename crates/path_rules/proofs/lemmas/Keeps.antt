@@ -44,11 +44,11 @@ keep_unc u k rest t more e h = record {
   };
 }
 
-record KeptShare (after share rest t : List ℕ) : Type 0 where
-  before : List ℕ
-  joined : after ≡ before ++ rest
-  kept : IsShare (before ++ t) share t
-  edge : Edge rules.Verbatim (before ++ t)
+pub record KeptShare (after share rest t : List ℕ) : Type 0 where
+  pub before : List ℕ
+  pub joined : after ≡ before ++ rest
+  pub kept : IsShare (before ++ t) share t
+  pub edge : Edge rules.Verbatim (before ++ t)
 
 keep_share : (after share rest t more : List ℕ) → rest ≡ t ++ more → Edge rules.Verbatim after → IsShare after share rest → KeptShare after share rest t
 keep_share [] share rest [] more e edge h = record { before = []; joined = sym h.1; kept = (h.0, refl); edge = tt }
@@ -89,10 +89,10 @@ keep_verbatim_unc u k rest t more e h =
     }
 
 -- a verbatim name goes at least up to the first separator of either kind
-record Longer (part after name rest : List ℕ) : Type 0 where
-  between : List ℕ
-  longer : name ≡ part ++ between
-  remains : after ≡ between ++ rest
+pub record Longer (part after name rest : List ℕ) : Type 0 where
+  pub between : List ℕ
+  pub longer : name ≡ part ++ between
+  pub remains : after ≡ between ++ rest
 
 either_plain : (b : ℕ) → separates rules.Either b ≡ false → separates rules.Verbatim b ≡ false
 either_plain b e = or_false (nat_eq b 0x2F) (nat_eq b 0x5C) e
@@ -101,7 +101,7 @@ either_plain b e = or_false (nat_eq b 0x2F) (nat_eq b 0x5C) e
     or_false true q f = let never : true ≡ false = f in cc
     or_false false q f = f
 
-longer : (part after name rest : List ℕ) → part ++ after ≡ name ++ rest → IsPlain rules.Either part → Edge rules.Verbatim rest → Longer part after name rest
+pub longer : (part after name rest : List ℕ) → part ++ after ≡ name ++ rest → IsPlain rules.Either part → Edge rules.Verbatim rest → Longer part after name rest
 longer [] after name rest e p h = record { between = name; longer = refl; remains = e }
 longer (a ∷ part) after [] rest e p h =
     let yes : separates rules.Verbatim a ≡ true = subst (Edge rules.Verbatim) (sym e) h in
@@ -119,7 +119,7 @@ not_chosen : {X : Type 0} (b : Bool) (x y : X) → (if b then x else y) ≡ y �
 not_chosen true x y e n = absurd (n e)
 not_chosen false x y e n = refl
 
-name_stays : (part after other : List ℕ) → (after ≡ [] → other ≡ []) → verbatim_lead part after ≡ NameLead → verbatim_lead part other ≡ NameLead
+pub name_stays : (part after other : List ℕ) → (after ≡ [] → other ≡ []) → verbatim_lead part after ≡ NameLead → verbatim_lead part other ≡ NameLead
 name_stays [] after other f e = refl
 name_stays (a ∷ []) after other f e = refl
 name_stays (a ∷ b ∷ []) after other f e =
@@ -133,7 +133,7 @@ name_stays (a ∷ b ∷ c ∷ []) (d ∷ more) (g ∷ other) f e =
 name_stays (a ∷ b ∷ c ∷ d ∷ part) after other f e = refl
 
 -- where the first part is followed by something, its lead is the same before anything else
-unc_stays : (part after m other : List ℕ) → verbatim_lead part after ≡ UncLead m → (d : ℕ) × ((after ≡ d ∷ m) × ((w : List ℕ) → verbatim_lead part (d ∷ w) ≡ UncLead w))
+pub unc_stays : (part after m other : List ℕ) → verbatim_lead part after ≡ UncLead m → (d : ℕ) × ((after ≡ d ∷ m) × ((w : List ℕ) → verbatim_lead part (d ∷ w) ≡ UncLead w))
 unc_stays [] after m other e = let never : NameLead ≡ UncLead m = e in cc
 unc_stays (a ∷ []) after m other e = let never : NameLead ≡ UncLead m = e in cc
 unc_stays (a ∷ b ∷ []) after m other e = absurd (no (is_letter a && nat_eq b 0x3A) e)
@@ -149,7 +149,7 @@ unc_stays (a ∷ b ∷ c ∷ []) (d ∷ more) m other e = (d, both (nat_eq a 0x5
     both false f = let never : NameLead ≡ UncLead m = f in cc
 unc_stays (a ∷ b ∷ c ∷ d ∷ part) after m other e = let never : NameLead ≡ UncLead m = e in cc
 
-disk_stays : (part after m : List ℕ) (l : ℕ) → verbatim_lead part after ≡ DiskLead l m → (after ≡ m) × ((w : List ℕ) → verbatim_lead part w ≡ DiskLead l w)
+pub disk_stays : (part after m : List ℕ) (l : ℕ) → verbatim_lead part after ≡ DiskLead l m → (after ≡ m) × ((w : List ℕ) → verbatim_lead part w ≡ DiskLead l w)
 disk_stays [] after m l e = let never : NameLead ≡ DiskLead l m = e in cc
 disk_stays (a ∷ []) after m l e = let never : NameLead ≡ DiskLead l m = e in cc
 disk_stays (a ∷ b ∷ []) after m l e = both (is_letter a && nat_eq b 0x3A) e

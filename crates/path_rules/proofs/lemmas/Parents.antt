@@ -235,7 +235,7 @@ module _ (path : List ℕ) (head : Head) (rest : List ℕ) (x : Item) (ends : En
       }
 
 -- a path that is `.` alone
-no_dot : (k : Kind) (rest : List ℕ) → root_of k rest ≡ Dot → ⊥
+pub no_dot : (k : Kind) (rest : List ℕ) → root_of k rest ≡ Dot → ⊥
 no_dot k [] e = implied k e
   where
     implied : (k : Kind) → implied_root k ≡ Dot → ⊥

@@ -1,5 +1,5 @@
 use Rattle.path_rules.specs.PrefixViews.{kind_of}
-use Rattle.path_rules.proofs.lemmas.AfterPrefix.{after_prefix, shorter, prefixed_items, same_rules}
+use Rattle.path_rules.proofs.lemmas.AfterPrefix.{after_prefix, prefix_joined, shorter, prefixed_items, same_rules}
 use Rattle.std.proofs.Common.{◌∙◌}
 use Rattle.path_rules.specs.HeadParts.{prefixed_head}
 use Rattle.path_rules.proofs.head.windows_head.Goals as goal
@@ -17,6 +17,7 @@ returns-clause-parts c =
       kind = kind_of c.in-Some.prefix;
       rest = c.in-Some.rest.now;
       is = c.in-Some.ensures;
+      joined = prefix_joined c.args.path.now c.in-Some.rest.now (after_prefix c.args.path.now (kind_of c.in-Some.prefix) c.in-Some.rest.now c.in-Some.ensures);
       rules = c.rules.ensures ∙ same_rules c.in-Some.prefix;
       start = c.root_of-start.ensures.0;
       body = c.root_of-start.ensures.1;
