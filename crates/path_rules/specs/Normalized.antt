@@ -2,6 +2,8 @@
 use Rattle.std.specs.Prelude.{◌≡◌, ◌⊎◌, ℕ, Bool, true, false, nat_eq, ◌&&◌, List, [], ◌∷◌}
 use Rattle.path_rules.specs.declared.rules.Style.{Style}
 use Rattle.path_rules.specs.declared.rules.Style.TheVariants as style
+use Rattle.path_rules.specs.declared.normal.NormalizeError.{NormalizeError}
+use Rattle.path_rules.specs.declared.normal.NormalizeError.TheVariants as error
 use Rattle.path_rules.specs.Component.{Item, Prefix, RootDir, CurDir, ParentDir, Normal}
 use Rattle.path_rules.specs.Components.{AreComponents}
 use Rattle.path_rules.specs.Prefix.{Kind, IsPrefixOf}
@@ -59,3 +61,8 @@ pub record IsNormalized (w : Style) (path answer : List ℕ) : Type 0 where
 -- a `..` has no name before it to take
 abbrev pub HasNoNormalForm : Style → List ℕ → Type 0
 HasNoNormalForm w path = (items normal : List Item) → AreComponents w path items → ¬ (IsNormalForm items normal)
+
+-- why a path has no normal form
+abbrev pub IsNormalizeFault : Style → List ℕ → NormalizeError → Type 0
+IsNormalizeFault w path error.NoName = HasNoNormalForm w path
+IsNormalizeFault w path error.Memory = Unit {0}

@@ -11,7 +11,8 @@
 //! answers is cut at an end of the path or beside an ASCII byte. A component of a path is what
 //! POSIX (4.13) and "Naming Files, Paths, and Namespaces" say; an empty part names nothing, and
 //! neither does `.`, but for a `.` at the start of a path without a root or a prefix, and after
-//! `\\?\`, where it is a component. `..` is a component and never resolved.
+//! `\\?\`, where it is a component. `..` is a component, and only [`normalize`] and [`clean`] resolve
+//! it.
 //!
 //! [`join`] and [`push`] write a path after another. They allocate, with an allocator that they are
 //! given or that the vector has, and answer a `Result`. No other call allocates, and no call has a
@@ -26,7 +27,7 @@ mod head;
 mod joining;
 pub mod laws;
 mod name_parts;
-pub mod normal;
+mod normal;
 mod parents;
 mod prefix;
 mod reserved;

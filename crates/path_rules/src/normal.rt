@@ -1,15 +1,15 @@
 //! Normal forms of paths.
-ghost use Rattle.std.specs.Prelude.{◌≡◌, ◌≢◌, ◌++◌, ◌⊎◌, [], ◌↔◌, IsTrue, reverse, map, OnOk, IfOk, IfErr};
+ghost use Rattle.std.specs.Prelude.{◌≡◌, ◌≢◌, ◌++◌, [], ◌↔◌, IsTrue, reverse, map, OnOk, IfOk, IfErr};
 ghost use Rattle.std.specs.Option.{option_map};
 ghost use Rattle.path_rules.specs.declared.head.Start.TheVariants.{Root, Dot, Nothing};
-ghost use Rattle.path_rules.specs.declared.normal.NormalizeError.TheVariants.{NoName, Memory};
+ghost use Rattle.path_rules.specs.declared.rules.Rules.TheVariants.{Verbatim};
 ghost use Rattle.path_rules.specs.Component.{components_in};
 ghost use Rattle.path_rules.specs.Components.{AreComponents};
 ghost use Rattle.path_rules.specs.HeadParts.{IsHead};
 ghost use Rattle.path_rules.specs.Heads.{prefix_items, start_items};
 ghost use Rattle.path_rules.specs.Views.{item_of};
 ghost use Rattle.path_rules.specs.Spelled.{resolve, cleaned, go_up, cleaned_start, AreSpelled, DoublesRoot, MayStart};
-ghost use Rattle.path_rules.specs.Normalized.{begins_verbatim, IsReadAsPrefix, BeginsAsPrefix, IsShielded, IsNormalized, HasNoNormalForm};
+ghost use Rattle.path_rules.specs.Normalized.{begins_verbatim, IsReadAsPrefix, BeginsAsPrefix, IsShielded, IsNormalized, IsNormalizeFault};
 ghost use Rattle.path_rules.specs.Cleaned.{or_dot, IsCleaned};
 
 use crate::body::next_in;
@@ -69,8 +69,7 @@ pub fn normalize<A: Allocator + Clone>(
     path: &[u8],
 ) -> Result<Vec<u8, A>, NormalizeError>
     ensures ok { IfOk result (λ normal. IsNormalized style path.now normal.items) }
-    ensures err { IfErr result
-        (λ error. (error ≡ NoName × HasNoNormalForm style path.now) ⊎ (error ≡ Memory)) }
+    ensures err { IfErr result (λ error. IsNormalizeFault style path.now error) }
 {
     let head = head_of(style, path);
     if is_verbatim(head.prefix) {
@@ -126,7 +125,7 @@ pub fn clean<A: Allocator + Clone>(
 }
 
 /// The path with this start and these names after its prefix.
-fn written_as<A: Allocator>(
+pub(crate) fn written_as<A: Allocator>(
     alloc: A,
     style: Style,
     path: &[u8],
@@ -136,7 +135,7 @@ fn written_as<A: Allocator>(
 ) -> Result<Vec<u8, A>, AllocError>
     requires parts { IsHead style path.now head }
     requires spelled { AreSpelled head.rules (map item_of names.now) }
-    requires none { components_in head.rules head.body.now ≡ [] → map item_of names.now ≡ [] }
+    requires none { head.rules ≡ Verbatim → head.start ≡ Nothing → map item_of names.now ≡ [] }
     requires may_start { MayStart style head start (map item_of names.now) }
     ensures { IfOk result (λ written. AreComponents style written.items
         (prefix_items head.entry.prefix.now ++ (start_items start ++ map item_of names.now))) }
@@ -153,7 +152,7 @@ fn written_as<A: Allocator>(
 }
 
 /// All components of a body.
-fn all_names<'a, A: Allocator>(
+pub(crate) fn all_names<'a, A: Allocator>(
     alloc: A,
     rules: Rules,
     body: &'a [u8],
@@ -240,7 +239,7 @@ fn go_up<A: Allocator>(names: &mut Vec<Component<&[u8]>, A>, rooted: bool) -> Re
 }
 
 /// Whether the prefix begins with `\\?\`.
-fn is_verbatim(prefix: &[u8]) -> bool
+pub(crate) fn is_verbatim(prefix: &[u8]) -> bool
     ensures { result ≡ begins_verbatim prefix.now }
 {
     match prefix {
@@ -312,7 +311,7 @@ fn shielded_start(style: Style, head: Head<'_>, names: &[Component<&[u8]>]) -> S
 }
 
 /// Whether a path starts with a root.
-fn is_root(start: Start) -> bool
+pub(crate) fn is_root(start: Start) -> bool
     ensures { IsTrue result ↔ (start ≡ Root) }
 {
     match start {

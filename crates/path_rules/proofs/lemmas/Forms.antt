@@ -1,16 +1,20 @@
 -- The components of a path, of its normal form and of its clean form.
-use Rattle.std.proofs.Common.{◌≡◌, ◌≢◌, ◌⊎◌, inl, inr, ◌<◌, ◌==◌, ℕ, Bool, true, false, List, [], ◌∷◌, ◌++◌, Option, Some, None, length, map, reverse, Result, Ok, Err, refl, sym, ap, ◌∙◌, subst, arith, append_assoc, append-nil}
+use Rattle.std.proofs.Common.{◌≡◌, ◌≢◌, ◌⊎◌, inl, inr, ◌<◌, ◌==◌, ℕ, Bool, true, false, if◌then◌else◌, List, [], ◌∷◌, ◌++◌, Option, Some, None, length, map, reverse, Result, Ok, Err, refl, sym, ap, ◌∙◌, subst, arith, append_assoc, append-nil}
 use Rattle.std.specs.Prelude.{IfOk}
 use Rattle.std.proofs.lemmas.Bool.Decides.{nat_tests}
 use Rattle.std.proofs.lemmas.List.{reverse-append, reverse-reverse, append_cancel_right}
 use Rattle.path_rules.specs.declared.rules.Rules.{Rules}
+use Rattle.path_rules.specs.declared.rules.Rules.TheVariants as rules
 use Rattle.path_rules.specs.declared.rules.Style as whose
 use Rattle.path_rules.specs.declared.rules.Style.TheVariants as style
 use Rattle.path_rules.specs.declared.head.Start.{Start}
 use Rattle.path_rules.specs.declared.head.Start.TheVariants.{Root, Dot, Nothing}
 use Rattle.path_rules.specs.declared.head.Head.{Head}
 use Rattle.path_rules.specs.Component.{Item, Prefix, RootDir, CurDir, ParentDir, Normal, dot, components_in}
-use Rattle.path_rules.specs.Components.{AreComponents}
+use Rattle.path_rules.specs.Separators.{separates, Edge}
+use Rattle.path_rules.specs.Prefix.{Kind, Disk, rules_of}
+use Rattle.path_rules.specs.Components.{implied_root, root_of, after_root, AreComponents}
+use Rattle.path_rules.proofs.lemmas.Edges.{edge_or_disk}
 use Rattle.path_rules.specs.Heads.{prefix_items, start_items, items_of}
 use Rattle.path_rules.specs.HeadParts.{IsHead, IsPrefixedHead, bare_head, prefixed_head}
 use Rattle.path_rules.specs.Normal.{LeadsTo, nowhere, prefix, bare_root, root, start, AreNormalOf}
@@ -154,6 +158,19 @@ map_none f (x ∷ xs) b e g = let n : length (x ∷ xs) ≡ 0 = grind (arith, na
 pub some_bytes : (xs : List ℕ) (b : Bool) → b ≡ (length xs == 0) → b ≡ false → xs ≢ []
 some_bytes [] b e g h = let never : true ≡ false = sym e ∙ g in cc
 some_bytes (x ∷ xs) b e g h = cc
+
+-- nothing follows a prefix that begins with `\\?\` and has no root
+empty_rest : (kind : Kind) (rest : List ℕ) → rules_of kind ≡ rules.Verbatim → Edge rules.Either rest ⊎ ((letter : ℕ) × (kind ≡ Disk letter)) → root_of kind rest ≡ Nothing → rest ≡ []
+empty_rest kind [] v e n = refl
+empty_rest kind (c ∷ rest) v (inl e) n = let never : Root ≡ Nothing = sym (ap (λ z. if z then Root else implied_root kind) e) ∙ n in cc
+empty_rest kind (c ∷ rest) v (inr d) n = let never : rules.Either ≡ rules.Verbatim = sym (ap rules_of d.1) ∙ v in cc
+
+pub nothing_after : (w : whose.Style) (path : List ℕ) (head : Head) → IsHead w path head → head.rules ≡ rules.Verbatim → head.start ≡ Nothing → components_in head.rules head.body.now ≡ []
+nothing_after style.Unix path head h v n = let never : rules.Slash ≡ rules.Verbatim = sym h.rules ∙ v in cc
+nothing_after style.Windows path head (bare_head h) v n = let never : rules.Either ≡ rules.Verbatim = sym h.rules ∙ v in cc
+nothing_after style.Windows path head (prefixed_head h) v n =
+    let none : h.rest ≡ [] = empty_rest h.kind h.rest (sym h.rules ∙ v) (edge_or_disk path h.kind h.rest h.is) (sym h.start ∙ n) in
+    ap (components_in head.rules) (h.body ∙ ap after_root none)
 
 module _ (w : whose.Style) (path : List ℕ) (head : Head) (are : AreComponents w path (items_of head)) (h : IsHead w path head) where
   -- a path that is kept

@@ -149,7 +149,7 @@ drive_tail l rest x xs h =
           ∙ ap (components_in rules.Either) same ∙ spelled_again rules.Either 0x5C refl (x ∷ xs) h;
     })
 
-tail_of : (kind : Kind) (rest : List ℕ) (doubled : Bool) → Edge rules.Either rest ⊎ ((letter : ℕ) × (kind ≡ Disk letter)) → (LacksShare kind → doubled ≡ true) → (st : Start) → root_of kind rest ≡ st → (names : List Item) → AreSpelled (rules_of kind) names → (rest ≡ [] → names ≡ []) → Tail kind rest st (after_bytes 0x5C st doubled names) names
+tail_of : (kind : Kind) (rest : List ℕ) (doubled : Bool) → Edge rules.Either rest ⊎ ((letter : ℕ) × (kind ≡ Disk letter)) → (LacksShare kind → doubled ≡ true) → (st : Start) → root_of kind rest ≡ st → (names : List Item) → AreSpelled (rules_of kind) names → (rules_of kind ≡ rules.Verbatim → root_of kind rest ≡ Nothing → names ≡ []) → Tail kind rest st (after_bytes 0x5C st doubled names) names
 tail_of kind rest doubled k share Root e [] h none = record { fits = fits_root kind rest [] e (λ l. tt); root = refl; body = refl }
 tail_of kind rest false k share Root e (x ∷ xs) h none = record {
   fits = fits_root kind rest (joined_names 0x5C (x ∷ xs)) e (λ l. let never : false ≡ true = share l in cc);
@@ -163,13 +163,16 @@ tail_of kind rest true k share Root e (x ∷ xs) h none = record {
 }
 tail_of kind rest doubled k share Dot e names h none = absurd (no_dot kind rest e)
 tail_of kind rest doubled k share Nothing e [] h none = record { fits = fits_nothing kind rest; root = no_root kind rest e; body = refl }
-tail_of kind [] doubled (inl edge) share Nothing e (x ∷ xs) h none = let never : x ∷ xs ≡ [] = none refl in cc
-tail_of kind (b ∷ rest) doubled (inl edge) share Nothing e (x ∷ xs) h none =
-    let never : Root ≡ Nothing = sym (ap (λ v. if v then Root else implied_root kind) edge) ∙ e in cc
+tail_of (Verbatim n) rest doubled (inl edge) share Nothing e (x ∷ xs) h none = let never : x ∷ xs ≡ [] = none refl e in cc
+tail_of (VerbatimUnc n m) rest doubled (inl edge) share Nothing e (x ∷ xs) h none = let never : x ∷ xs ≡ [] = none refl e in cc
+tail_of (VerbatimDisk l) rest doubled (inl edge) share Nothing e (x ∷ xs) h none = let never : x ∷ xs ≡ [] = none refl e in cc
+tail_of (Device n) rest doubled (inl edge) share Nothing e (x ∷ xs) h none = let never : Root ≡ Nothing = no_root (Device n) rest e in cc
+tail_of (Unc n m) rest doubled (inl edge) share Nothing e (x ∷ xs) h none = let never : Root ≡ Nothing = no_root (Unc n m) rest e in cc
+tail_of (Disk l) rest doubled (inl edge) share Nothing e (x ∷ xs) h none = drive_tail l rest x xs h
 tail_of kind rest doubled (inr (l, is)) share Nothing e (x ∷ xs) h none =
     subst (λ z. Tail z rest Nothing (joined_names 0x5C (x ∷ xs)) (x ∷ xs)) (sym is) (drive_tail l rest x xs (subst (λ z. AreSpelled (rules_of z) (x ∷ xs)) is h))
 
-prefixed_written : (s raw : List ℕ) (kind : Kind) (rest : List ℕ) (doubled : Bool) (names : List Item) → s ≡ raw ++ rest → IsPrefixOf s kind rest → (LacksShare kind → doubled ≡ true) → AreSpelled (rules_of kind) names → (rest ≡ [] → names ≡ []) → ArePrefixed (raw ++ after_bytes 0x5C (root_of kind rest) doubled names) (Prefix raw ∷ (start_items (root_of kind rest) ++ names))
+prefixed_written : (s raw : List ℕ) (kind : Kind) (rest : List ℕ) (doubled : Bool) (names : List Item) → s ≡ raw ++ rest → IsPrefixOf s kind rest → (LacksShare kind → doubled ≡ true) → AreSpelled (rules_of kind) names → (rules_of kind ≡ rules.Verbatim → root_of kind rest ≡ Nothing → names ≡ []) → ArePrefixed (raw ++ after_bytes 0x5C (root_of kind rest) doubled names) (Prefix raw ∷ (start_items (root_of kind rest) ++ names))
 prefixed_written s raw kind rest doubled names j h share sp none =
     let st = root_of kind rest in
     let t = after_bytes 0x5C st doubled names in
@@ -189,7 +192,7 @@ not_doubled : (v : Bool) → (v ≡ true → ⊥) → v ≡ false
 not_doubled true h = absurd (h refl)
 not_doubled false h = refl
 
-module _ (path : List ℕ) (head : Head) (st : Start) (doubled : Bool) (names : List Item) (sp : AreSpelled head.rules names) (none : components_in head.rules head.body.now ≡ [] → names ≡ []) where
+module _ (path : List ℕ) (head : Head) (st : Start) (doubled : Bool) (names : List Item) (sp : AreSpelled head.rules names) (none : head.rules ≡ rules.Verbatim → head.start ≡ Nothing → names ≡ []) where
   prefix_some : (s raw : List ℕ) (k : Kind) (rest : List ℕ) → s ≡ raw ++ rest → IsPrefixOf s k rest → 0 < length raw
   prefix_some s raw k rest j h =
       let b = after_prefix s k rest h in
@@ -202,7 +205,7 @@ module _ (path : List ℕ) (head : Head) (st : Start) (doubled : Bool) (names : 
       let some = prefix_some path raw h.kind h.rest h.joined h.is in
       let not_none : raw ≢ [] = λ z. let n : length raw ≡ 0 = ap length z in omega (arith, n, some) in
       let starts : st ≡ root_of h.kind h.rest = may.1 not_none ∙ h.start in
-      let left : h.rest ≡ [] → names ≡ [] = λ z. none (ap (components_in head.rules) (h.body ∙ ap after_root z)) in
+      let left : rules_of h.kind ≡ rules.Verbatim → root_of h.kind h.rest ≡ Nothing → names ≡ [] = λ v z. none (h.rules ∙ v) (h.start ∙ z) in
       let q = prefixed_written path raw h.kind h.rest doubled names h.joined h.is (λ l. dbl.1 (h.kind, (h.rest, (h.is, l)))) (subst (λ z. AreSpelled z names) h.rules sp) left in
       subst (λ z. AreWindowsComponents (raw ++ after_bytes 0x5C st doubled names) (z ++ (start_items st ++ names))) (sym (some_prefix raw some))
       (subst (λ z. AreWindowsComponents (raw ++ after_bytes 0x5C z doubled names) (Prefix raw ∷ (start_items z ++ names))) (sym starts) (prefixed q))

@@ -5,7 +5,7 @@ use Rattle.path_rules.specs.Heads.{prefix_items, start_items}
 use Rattle.path_rules.specs.Components.{AreComponents}
 use Rattle.path_rules.specs.Spelled.{AreSpelled}
 use Rattle.path_rules.specs.Cleaned.{IsCleaned}
-use Rattle.path_rules.proofs.lemmas.Forms.{if_ok, kept_clean, no_dot_after, cleaned_clean, cleaned_names_spelled, cleaned_none}
+use Rattle.path_rules.proofs.lemmas.Forms.{if_ok, nothing_after, kept_clean, no_dot_after, cleaned_clean, cleaned_names_spelled, cleaned_none}
 use Rattle.path_rules.proofs.lemmas.Spelling.{body_spelled}
 use Rattle.path_rules.proofs.normal.clean.Goals as goal
 
@@ -13,6 +13,11 @@ pub written_as-requires-clause-spelled : goal.written_as-requires-clause-spelled
 written_as-requires-clause-spelled g c =
     let head = c.head_of-head.result in
     subst (AreSpelled head.rules) (sym (ap (map item_of) c.deref.ensures.value ∙ c.in_ok-names.ensures)) (body_spelled head.rules head.body.now)
+
+pub written_as-requires-clause-none : goal.written_as-requires-clause-none
+written_as-requires-clause-none g c = λ v n.
+    let head = c.head_of-head.result in
+    ap (map item_of) c.deref.ensures.value ∙ c.in_ok-names.ensures ∙ nothing_after c.args.style c.args.path.now head c.head_of-head.ensures.parts v n
 
 pub returns-then-is_verbatim : goal.returns-then-is_verbatim
 returns-then-is_verbatim g c =
@@ -30,9 +35,10 @@ written_as-requires-2-clause-spelled g c =
     subst (AreSpelled head.rules) (sym (ap (map item_of) c.as_slice-kept.ensures.value)) (cleaned_names_spelled c.args.style c.args.path.now head c.head_of-head.ensures.items c.head_of-head.ensures.parts c.is_root.result c.is_root.ensures.0 c.is_root.ensures.1 (map item_of c.in_ok-names-2.names.items) c.in_ok-names-2.ensures)
 
 pub written_as-requires-2-clause-none : goal.written_as-requires-2-clause-none
-written_as-requires-2-clause-none g c = λ n.
+written_as-requires-2-clause-none g c = λ v n.
     let head = c.head_of-head.result in
-    ap (map item_of) c.as_slice-kept.ensures.value ∙ cleaned_none c.args.style c.args.path.now head c.head_of-head.ensures.items c.head_of-head.ensures.parts c.is_root.result c.is_root.ensures.0 c.is_root.ensures.1 (map item_of c.in_ok-names-2.names.items) c.in_ok-names-2.ensures n
+    let none = nothing_after c.args.style c.args.path.now head c.head_of-head.ensures.parts v n in
+    ap (map item_of) c.as_slice-kept.ensures.value ∙ cleaned_none c.args.style c.args.path.now head c.head_of-head.ensures.items c.head_of-head.ensures.parts c.is_root.result c.is_root.ensures.0 c.is_root.ensures.1 (map item_of c.in_ok-names-2.names.items) c.in_ok-names-2.ensures none
 
 pub returns : goal.returns
 returns g c =

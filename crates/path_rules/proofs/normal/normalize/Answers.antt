@@ -4,7 +4,7 @@ use Rattle.path_rules.specs.Component.{components_in}
 use Rattle.std.specs.Option.{option_map}
 use Rattle.path_rules.specs.Heads.{prefix_items, start_items}
 use Rattle.path_rules.specs.Spelled.{AreSpelled}
-use Rattle.path_rules.proofs.lemmas.Forms.{kept_normal, resolved_normal, resolved_none, names_spelled, names_none}
+use Rattle.path_rules.proofs.lemmas.Forms.{nothing_after, kept_normal, resolved_normal, resolved_none, names_spelled, names_none}
 use Rattle.path_rules.proofs.lemmas.Spelling.{body_spelled}
 use Rattle.path_rules.proofs.normal.normalize.Goals as goal
 
@@ -19,10 +19,15 @@ returns-then-is_verbatim-clause-ok g c =
     let names = map item_of c.deref.result.now in
     kept_normal c.args.style c.args.path.now head c.head_of-head.ensures.items c.head_of-head.ensures.parts names c.in_ok-written_as.field-0.items (sym c.is_verbatim.ensures ∙ c.if-is_verbatim.true) (ap (map item_of) c.deref.ensures.value ∙ c.in_ok-names.ensures) c.in_ok-written_as.ensures
 
+pub written_as-requires-clause-none : goal.written_as-requires-clause-none
+written_as-requires-clause-none g c = λ v n.
+    let head = c.head_of-head.result in
+    ap (map item_of) c.deref.ensures.value ∙ c.in_ok-names.ensures ∙ nothing_after c.args.style c.args.path.now head c.head_of-head.ensures.parts v n
+
 pub returns-in_default-clause-err : goal.returns-in_default-clause-err
 returns-in_default-clause-err g c =
     let head = c.head_of-head.result in
-    inl (refl, resolved_none c.args.style c.args.path.now head c.head_of-head.ensures.items c.head_of-head.ensures.parts (sym c.is_verbatim.ensures ∙ c.if-is_verbatim.false) (sym c.in_ok-names-2.ensures ∙ ap (option_map (λ v. reverse (map item_of v.items))) c.in_default.is))
+    resolved_none c.args.style c.args.path.now head c.head_of-head.ensures.items c.head_of-head.ensures.parts (sym c.is_verbatim.ensures ∙ c.if-is_verbatim.false) (sym c.in_ok-names-2.ensures ∙ ap (option_map (λ v. reverse (map item_of v.items))) c.in_default.is)
 
 pub written_as-requires-2-clause-spelled : goal.written_as-requires-2-clause-spelled
 written_as-requires-2-clause-spelled g c =
@@ -30,9 +35,10 @@ written_as-requires-2-clause-spelled g c =
     subst (AreSpelled head.rules) (sym (ap (map item_of) c.as_slice-kept.ensures.value)) (names_spelled c.args.style c.args.path.now head c.head_of-head.ensures.items c.head_of-head.ensures.parts (map item_of c.in-Some.names.items) (sym c.in_ok-names-2.ensures ∙ ap (option_map (λ v. reverse (map item_of v.items))) c.in-Some.is))
 
 pub written_as-requires-2-clause-none : goal.written_as-requires-2-clause-none
-written_as-requires-2-clause-none g c = λ n.
+written_as-requires-2-clause-none g c = λ v n.
     let head = c.head_of-head.result in
-    ap (map item_of) c.as_slice-kept.ensures.value ∙ names_none c.args.style c.args.path.now head c.head_of-head.ensures.items c.head_of-head.ensures.parts (map item_of c.in-Some.names.items) (sym c.in_ok-names-2.ensures ∙ ap (option_map (λ v. reverse (map item_of v.items))) c.in-Some.is) n
+    let none = nothing_after c.args.style c.args.path.now head c.head_of-head.ensures.parts v n in
+    ap (map item_of) c.as_slice-kept.ensures.value ∙ names_none c.args.style c.args.path.now head c.head_of-head.ensures.items c.head_of-head.ensures.parts (map item_of c.in-Some.names.items) (sym c.in_ok-names-2.ensures ∙ ap (option_map (λ v. reverse (map item_of v.items))) c.in-Some.is) none
 
 pub returns-clause-ok : goal.returns-clause-ok
 returns-clause-ok g c =
