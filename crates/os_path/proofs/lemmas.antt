@@ -4,3 +4,5 @@ pub mod Whole
 pub mod Names
 pub mod Parents
 pub mod PrefixParts
+pub mod FromParts
+pub mod NormalParts

@@ -1,21 +1,24 @@
 //! The calls that every path of a platform has.
-ghost use Rattle.std.specs.Prelude.{List, ℕ, ◌≡◌, ◌↔◌, IsTrue, MatchOption, Some};
-ghost use Rattle.platform_str.specs.Strings.{bytes, path_bytes};
+ghost use Rattle.std.specs.Prelude.{List, ℕ, ◌≡◌, ◌↔◌, IsTrue, MatchOption, Some, IfOk, IfErr};
+ghost use Rattle.platform_str.specs.Strings.{bytes, path_bytes, path_vec_of};
 ghost use Rattle.path_rules.specs.Components.{AreComponents};
 ghost use Rattle.path_rules.specs.Parent.{IsParent, HasNoParent, HasFileName, HasNoFileName};
 ghost use Rattle.path_rules.specs.Root.{HasRoot, IsAbsolute};
 ghost use Rattle.path_rules.specs.Compare.{StartsWith, EndsWith};
 ghost use Rattle.path_rules.specs.StyleRules.{rules_of_style};
 ghost use Rattle.path_rules.specs.Trailing.{EndsWithSeparator, TrimsTrailing};
+ghost use Rattle.path_rules.specs.Normalized.{IsNormalized, IsNormalizeFault};
+ghost use Rattle.path_rules.specs.Cleaned.{IsCleaned};
 ghost use Rattle.os_path.specs.Prefixes.{os_kind_of, HasPrefix, HasNoPrefix};
 ghost use Rattle.os_path.specs.Names.{HasFileStem, HasFilePrefix, HasExtension, LacksExtension};
 
 use crate::ancestors::Ancestors;
 use crate::components::Components;
 use crate::style::PathStyle;
-use crate::{parts, prefixes};
-use path_rules::Prefix;
-use platform_str::{OsStr, Path};
+use crate::{normal, parts, prefixes};
+use path_rules::{NormalizeError, Prefix};
+use platform_str::{OsStr, Path, PathBuf};
+use std::alloc::{AllocError, Allocator};
 
 /// The calls of std's `Path` that look at the path alone, for a path of any platform.
 ///
@@ -307,6 +310,80 @@ pub trait PathExt<'a>: Sized + Copy {
         ensures { TrimsTrailing Self.Platform.follows (bytes_of self) (path_bytes result) }
     {
         Path::new(parts::trim_trailing_sep(OsStr::from_encoded_bytes_unchecked(self.path_bytes())))
+    }
+
+    // Normal forms.
+
+    /// The normal form of the path: the path without `.`, and without each `..` and the name
+    /// before it (std's `Path::normalize_lexically`), in new memory. It names the same file where
+    /// no name is a symbolic link.
+    ///
+    /// A `.` at the start of a path without a root is kept, a path whose prefix begins with `\\?\`
+    /// isn't resolved, and a first name that by itself would be read as a prefix gets `.\` before
+    /// it. A normal form is its own (`path_rules::laws::normalized_again`).
+    ///
+    /// # Errors
+    ///
+    /// `NoName` if a `..` has no name before it to take away; `Memory` if an allocation fails.
+    ///
+    /// ```
+    /// use os_path::{NormalizeError, PathExt};
+    /// use platform_str::{OsStr, Path, Unix, Windows};
+    ///
+    /// let path = Path::<Unix>::new(OsStr::new("/usr//./lib/../bin/"));
+    /// assert!(rt; path.normalize(alloc)?.as_os_str() == OsStr::new("/usr/bin"));
+    /// let path = Path::<Windows>::new(OsStr::new("a\\..\\C:"));
+    /// assert!(rt; path.normalize(alloc)?.as_os_str() == OsStr::new(".\\C:"));
+    /// let error = Path::<Unix>::new(OsStr::new("a/../..")).normalize(alloc).err();
+    /// assert!(rt; error == Some(NormalizeError::NoName));
+    /// ```
+    final fn normalize<A: Allocator + Clone>(
+        self,
+        alloc: A,
+    ) -> Result<PathBuf<Self::Platform, A>, NormalizeError>
+        ensures ok { IfOk result
+            (λ normal. IsNormalized Self.Platform.follows (bytes_of self) (path_vec_of normal).items) }
+        ensures err { IfErr result
+            (λ error. IsNormalizeFault Self.Platform.follows (bytes_of self) error) }
+    {
+        normal::normalize(
+            alloc,
+            OsStr::from_encoded_bytes_unchecked(self.path_bytes()),
+        )
+    }
+
+    /// The path cleaned: without `.`, without each `..` and the name before it, and without a `..`
+    /// at a root (Go's `filepath.Clean`, CPython's `normpath`), in new memory.
+    ///
+    /// A `..` that has neither a name nor a root before it is kept, and the empty path is `.`. A
+    /// path whose prefix begins with `\\?\` and a first name that would be read as a prefix are
+    /// treated as by [`PathExt::normalize`]. A clean path is its own clean form
+    /// (`path_rules::laws::cleaned_again`).
+    ///
+    /// # Errors
+    ///
+    /// `AllocError` if the memory is refused.
+    ///
+    /// ```
+    /// use os_path::PathExt;
+    /// use platform_str::{OsStr, Path, Unix};
+    ///
+    /// let path = Path::<Unix>::new(OsStr::new("./../a//b/.."));
+    /// assert!(rt; path.clean(alloc)?.as_os_str() == OsStr::new("../a"));
+    /// let path = Path::<Unix>::new(OsStr::new(""));
+    /// assert!(rt; path.clean(alloc)?.as_os_str() == OsStr::new("."));
+    /// ```
+    final fn clean<A: Allocator + Clone>(
+        self,
+        alloc: A,
+    ) -> Result<PathBuf<Self::Platform, A>, AllocError>
+        ensures { IfOk result
+            (λ clean. IsCleaned Self.Platform.follows (bytes_of self) (path_vec_of clean).items) }
+    {
+        normal::clean(
+            alloc,
+            OsStr::from_encoded_bytes_unchecked(self.path_bytes()),
+        )
     }
 }
 

@@ -6,13 +6,15 @@
 //! [`platform_str::Wasm`] those of Unix. What the rules are is in `path_rules`.
 //!
 //! Each part of a path that a call answers is a string of the path's platform, so no half of a
-//! surrogate pair is ever joined to another. No call allocates, and none has a condition.
+//! surrogate pair is ever joined to another. No call has a condition. What builds a path takes an
+//! allocator and answers a `Result`; no other call allocates.
 #![tactic(auto)]
 
 mod ancestors;
 mod components;
 mod ext;
 pub mod laws;
+mod normal;
 mod parts;
 mod prefixes;
 mod style;
@@ -20,5 +22,5 @@ mod style;
 pub use ancestors::Ancestors;
 pub use components::Components;
 pub use ext::PathExt;
-pub use path_rules::{Component, Prefix, Style};
+pub use path_rules::{Component, NormalizeError, Prefix, Style};
 pub use style::PathStyle;

@@ -14,9 +14,9 @@
 //! `\\?\`, where it is a component. `..` is a component, and only [`normalize`] and [`clean`] resolve
 //! it.
 //!
-//! [`join`] and [`push`] write a path after another. They allocate, with an allocator that they are
-//! given or that the vector has, and answer a `Result`. No other call allocates, and no call has a
-//! condition.
+//! [`join`] and [`push`] write a path after another, [`normalize`] and [`clean`] its normal form and
+//! its clean form. They allocate, with an allocator that they are given or that the vector has, and
+//! answer a `Result`. No other call allocates, and no call has a condition.
 #![tactic(auto)]
 
 mod body;
