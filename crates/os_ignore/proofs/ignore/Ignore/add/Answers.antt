@@ -1,0 +1,20 @@
+use Rattle.std.proofs.Common.{length, sym, ap, ◌∙◌}
+use Rattle.os_ignore.proofs.lemmas.Rests.{inserted}
+use Rattle.os_ignore.proofs.ignore.Ignore.add.Goals as goal
+
+pub returns-clause-added : goal.returns-clause-added
+returns-clause-added g c =
+    let place = c.files_before-index.ensures in
+    let files = c.deref.ensures.value in
+    let old = sym files ∙ place.joined in
+    record {
+      before = c.files_before-index.result.now;
+      file = record { number = c.len.result; directory = c.in_ok-from_slice.field-0; lines = c.in_ok-lines.lines };
+      place = record { after = place.after; joined = old; no_longer = place.no_longer; longer = place.longer };
+      joined = c.in_ok-insert.ensures.items ∙ inserted c.args.self.now.files.items c.files_before-index.result.now place.after (record { number = c.len.result; directory = c.in_ok-from_slice.field-0; lines = c.in_ok-lines.lines }) old;
+      file_is = record {
+        number_is = c.len.ensures ∙ sym (sym (ap length files) ∙ c.deref.ensures.len);
+        directory_is = c.in_ok-from_slice.ensures.items;
+        lines = c.in_ok-lines.ensures;
+      };
+    }

@@ -1,0 +1,10 @@
+pub mod Added
+pub mod Bodies
+pub mod Cuts
+pub mod Groups
+pub mod LineReadings
+pub mod Parts
+pub mod Readings
+pub mod Rests
+pub mod Verdicts
+pub mod Wilds

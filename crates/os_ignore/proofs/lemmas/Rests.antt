@@ -1,0 +1,75 @@
+-- What is left of a text after what it begins with.
+use Rattle.std.proofs.Common.{◌≡◌, ◌↔◌, ℕ, Bool, true, false, arith, Option, Some, None, take, drop, nat_eq, length, List, [], ◌∷◌, ◌++◌, refl, sym, ap, ◌∙◌, subst}
+use Rattle.std.specs.Prelude.{MatchOption}
+use Rattle.std.specs.List.{insert}
+use denote.Ref.{Bor}
+use Rattle.std.proofs.lemmas.Bool.Decides.{nat_tests}
+use Rattle.std.proofs.lemmas.List.{same_from_push}
+use Rattle.os_ignore.specs.declared.item.Piece.{Piece}
+use Rattle.os_ignore.specs.declared.path.Part.{Part}
+use Rattle.os_ignore.specs.Components.{IsLastComponent}
+use Rattle.os_ignore.specs.Match.{Matches}
+use Rattle.os_ignore.specs.declared.file.File.{File}
+use Rattle.os_ignore.specs.declared.line.Line.{Line}
+use Rattle.os_ignore.specs.Verdicts.{IsBelow, MatchesText, NoneMatches, IsLastMatch, FileIsSilent, FileDecides}
+
+pub same_after : (xs ys zs : List ℕ) → xs ++ ys ≡ xs ++ zs → ys ≡ zs
+same_after [] ys zs e = e
+same_after (x ∷ xs) ys zs e = let f : xs ++ ys ≡ xs ++ zs = cc in same_after xs ys zs f
+
+module _ {A : Type 0} where
+  pub text_matches : (literal : List ℕ) (pattern : List (Piece (Part A))) (text rest : List ℕ) → text ≡ literal ++ rest → Matches pattern rest ↔ MatchesText literal pattern text
+  text_matches literal pattern text rest e = (
+    λ m. record { rest = rest; joined = e; matches = m },
+    λ m. subst (Matches pattern) (same_after literal m.rest rest (sym m.joined ∙ e)) m.matches,
+  )
+
+pub not_below : (d p : List ℕ) → (d ≡ [] → ⊥) → ((rest : List ℕ) → p ≡ d ++ 0x2F ∷ rest → ⊥) → (rest : List ℕ) → IsBelow d p rest → ⊥
+not_below [] p n h rest b = absurd (n refl)
+not_below (x ∷ d) p n h rest b = h rest b
+
+pub is_below : (d p : List ℕ) → (d ≡ [] → ⊥) → (rest : List ℕ) → p ≡ d ++ 0x2F ∷ rest → IsBelow d p rest
+is_below [] p n rest e = absurd (n refl)
+is_below (x ∷ d) p n rest e = e
+
+pub one_rest : (d p r s : List ℕ) → IsBelow d p r → IsBelow d p s → r ≡ s
+one_rest [] p r s b c = sym b ∙ c
+one_rest (x ∷ d) p r s b c = let e : 0x2F ∷ r ≡ 0x2F ∷ s = same_after (x ∷ d) (0x2F ∷ r) (0x2F ∷ s) (sym b ∙ c) in cc
+
+pub one_last : (path a b : List ℕ) → IsLastComponent path a → IsLastComponent path b → a ≡ b
+one_last path a b k l = (same_from_push k.0 l.0 a b (sym k.1 ∙ l.1)).1
+
+pub not_empty : {X : Type 0} (xs : List X) → nat_eq (length xs) 0 ≡ false → xs ≡ [] → ⊥
+not_empty [] e f = let never : true ≡ false = e in cc
+not_empty (x ∷ xs) e f = cc
+
+pub empty : {X : Type 0} (xs : List X) → nat_eq (length xs) 0 ≡ true → xs ≡ []
+empty [] e = refl
+empty (x ∷ xs) e = let never : length (x ∷ xs) ≡ 0 = grind (arith, nat_tests) in absurd (omega arith)
+
+pub take_front : {X : Type 0} (front back : List X) → take (length front) (front ++ back) ≡ front
+take_front [] back = refl
+take_front (x ∷ front) back = ap (λ z. x ∷ z) (take_front front back)
+
+pub drop_front : {X : Type 0} (front back : List X) → drop (length front) (front ++ back) ≡ back
+drop_front [] back = refl
+drop_front (x ∷ front) back = drop_front front back
+
+pub silent : {A : Type 0} (path : List ℕ) (is_dir : Bool) (file : File A) (rest : List ℕ) → IsBelow file.directory.items path rest → NoneMatches rest is_dir file.lines.items → FileIsSilent path is_dir file
+silent path is_dir file rest b n = λ other c. subst (λ z. NoneMatches z is_dir file.lines.items) (one_rest file.directory.items path rest other b c) n
+
+module _ {A : Type 0} (path : List ℕ) (is_dir : Bool) (file : File A) (rest : List ℕ) (below : IsBelow file.directory.items path rest) where
+  pub decided : (lines : List (Line A)) → lines ≡ file.lines.items → (o : Option (Bor (Line A))) → MatchOption o (NoneMatches rest is_dir lines) (λ line. IsLastMatch rest is_dir lines line.now) → MatchOption o (FileIsSilent path is_dir file) (λ line. FileDecides path is_dir file line.now)
+  decided lines e None h = silent path is_dir file rest below (subst (NoneMatches rest is_dir) e h)
+  decided lines e (Some line) h = record { rest = rest; below = below; last = subst (λ z. IsLastMatch rest is_dir z line.now) e h }
+
+pub nil_parts : {X : Type 0} (xs ys : List X) (x : X) → [] ≡ xs ++ ys → xs ++ x ∷ ys ≡ x ∷ []
+nil_parts [] [] x e = refl
+nil_parts [] (y ∷ ys) x e = let never : [] ≡ y ∷ ys = e in absurd cc
+nil_parts (z ∷ xs) ys x e = let never : [] ≡ z ∷ (xs ++ ys) = e in absurd cc
+
+pub inserted : {X : Type 0} (all front back : List X) (x : X) → all ≡ front ++ back → insert all (length front) x ≡ front ++ x ∷ back
+inserted all front back x e =
+    ap (λ z. take (length front) z ++ x ∷ drop (length front) z) e
+    ∙ ap (λ z. z ++ x ∷ drop (length front) (front ++ back)) (take_front front back)
+    ∙ ap (λ z. front ++ x ∷ z) (drop_front front back)

@@ -1,0 +1,44 @@
+-- Which bytes a class permits (git's wildmatch.c).
+use Rattle.std.specs.Prelude.{ℕ, Bool, true, false, not, nat_eq, nat_le, ◌&&◌, ◌||◌, List, [], ◌∷◌}
+use Rattle.std.specs.Char.{is_ascii_alphanumeric, is_ascii_alphabetic, is_ascii_control, is_ascii_digit, is_ascii_graphic, is_ascii_lowercase, is_ascii_punctuation, is_ascii_uppercase, is_ascii_hexdigit}
+use Rattle.os_ignore.specs.declared.class.Name.{Name}
+use Rattle.os_ignore.specs.declared.class.Name.TheVariants.{Alnum, Alpha, Blank, Cntrl, Digit, Graph, Lower, Print, Punct, Space, Upper, Xdigit}
+use Rattle.os_ignore.specs.declared.class.Member.{Member}
+use Rattle.os_ignore.specs.declared.class.Member.TheVariants.{Single, Range, Named}
+use Rattle.os_ignore.specs.declared.class.Class.{Class}
+
+-- the named class, over ASCII, has the byte: git's `space` is blank, tab, line feed and carriage return
+abbrev pub is_named : Name → ℕ → Bool
+is_named Alnum b = is_ascii_alphanumeric b
+is_named Alpha b = is_ascii_alphabetic b
+is_named Blank b = nat_eq b 0x20 || nat_eq b 0x9
+is_named Cntrl b = is_ascii_control b
+is_named Digit b = is_ascii_digit b
+is_named Graph b = is_ascii_graphic b
+is_named Lower b = is_ascii_lowercase b
+is_named Print b = nat_eq b 0x20 || is_ascii_graphic b
+is_named Punct b = is_ascii_punctuation b
+is_named Space b = ((nat_eq b 0x20 || nat_eq b 0x9) || nat_eq b 0xA) || nat_eq b 0xD
+is_named Upper b = is_ascii_uppercase b
+is_named Xdigit b = is_ascii_hexdigit b
+
+-- the byte is the member, or in it
+abbrev pub is_member : Member → ℕ → Bool
+is_member (Single c) b = nat_eq c b
+is_member (Range from to) b = nat_le from b && nat_le b to
+is_member (Named name) b = is_named name b
+
+-- the byte is in one of the members
+abbrev pub is_in : List Member → ℕ → Bool
+is_in [] b = false
+is_in (m ∷ ms) b = is_member m b || is_in ms b
+
+-- a class permits its members or, if it is negated, each other byte
+abbrev pub permitted : Bool → List Member → ℕ → Bool
+permitted false ms b = is_in ms b
+permitted true ms b = not (is_in ms b)
+
+module _ {A : Type 0} where
+  -- the class permits the byte
+  abbrev pub permits : Class A → ℕ → Bool
+  permits class b = permitted class.negated class.members.items b

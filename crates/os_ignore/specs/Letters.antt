@@ -1,0 +1,46 @@
+-- The letters of a line: its bytes, of which a backslash quotes the next (gitignore, "PATTERN FORMAT").
+use Rattle.std.specs.Prelude.{◌≡◌, ℕ, Bool, true, false, not, nat_eq, ◌&&◌, cond, List, [], ◌∷◌}
+use Rattle.os_ignore.specs.declared.letter.Letter.{Letter}
+use Rattle.os_ignore.specs.declared.letter.Kind.{Kind}
+use Rattle.os_ignore.specs.declared.letter.Kind.TheVariants.{Slash, Star, Question, Bracket, Literal}
+use Rattle.os_ignore.specs.Reading.{Reads}
+
+-- the letter is the byte, and no backslash quotes it
+abbrev pub is_plain : Letter → ℕ → Bool
+is_plain l b = not l.quoted && nat_eq l.byte b
+
+-- what a letter is in a pattern: a slash separates, quoted or not
+abbrev pub kind_of : Letter → Kind
+kind_of l =
+    cond (nat_eq l.byte 0x2F) Slash
+    (cond l.quoted Literal
+    (cond (nat_eq l.byte 0x2A) Star (cond (nat_eq l.byte 0x3F) Question (cond (nat_eq l.byte 0x5B) Bracket Literal))))
+
+-- a letter of this kind, not quoted, matches itself alone
+abbrev pub matches_itself : Kind → Bool
+matches_itself Slash = true
+matches_itself Star = false
+matches_itself Question = false
+matches_itself Bracket = false
+matches_itself Literal = true
+
+-- the letter isn't quoted, and matches itself alone
+abbrev pub is_simple : Letter → Bool
+is_simple l = not l.quoted && matches_itself (kind_of l)
+
+-- the text begins with a byte: after a backslash if it is quoted, and else one that is no backslash
+abbrev pub BeginsWith : Bool → List ℕ → ℕ → List ℕ → Type 0
+BeginsWith true text b rest = text ≡ 0x5C ∷ b ∷ rest
+BeginsWith false text b rest = (text ≡ b ∷ rest) × (nat_eq b 0x5C ≡ false)
+
+-- the text begins with the letter
+abbrev pub IsLetter : List ℕ → Letter → List ℕ → Type 0
+IsLetter text l rest = BeginsWith l.quoted text l.byte rest
+
+-- the letters of the text
+abbrev pub AreLetters : List ℕ → List Letter → Type 0
+AreLetters text letters = Reads IsLetter text letters []
+
+-- a backslash at the end of the text quotes nothing
+abbrev pub IsDangling : List ℕ → Type 0
+IsDangling text = (letters : List Letter) × Reads IsLetter text letters (0x5C ∷ [])

@@ -1,0 +1,15 @@
+pub mod Reading
+pub mod Letters
+pub mod Class
+pub mod ClassText
+pub mod ClassSteps
+pub mod Wild
+pub mod Components
+pub mod Match
+pub mod Steps
+pub mod PatternText
+pub mod Lines
+pub mod Files
+pub mod Directories
+pub mod Verdicts
+pub mod Ignores

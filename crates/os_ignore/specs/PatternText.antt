@@ -1,0 +1,121 @@
+-- How a pattern is written: parts between slashes, of `*`, `?`, classes and literal bytes (gitignore, "PATTERN FORMAT").
+use Rattle.std.specs.Prelude.{◌≡◌, Bool, true, false, not, nat_le, ◌&&◌, List, [], ◌∷◌, ◌++◌, length, Option, Some, None}
+use denote.Ref.{Bor}
+use Rattle.os_ignore.specs.declared.letter.Letter.{Letter}
+use Rattle.os_ignore.specs.declared.letter.Kind.{Kind}
+use Rattle.os_ignore.specs.declared.letter.Kind.TheVariants.{Slash, Star, Question, Bracket, Literal}
+use Rattle.os_ignore.specs.declared.class.Class.{Class}
+use Rattle.os_ignore.specs.declared.item.Item.{Item}
+use Rattle.os_ignore.specs.declared.item.Item.TheVariants.{Any, Byte, OneOf}
+use Rattle.os_ignore.specs.declared.item.Piece.{Piece}
+use Rattle.os_ignore.specs.declared.item.Piece.TheVariants.{Many, One}
+use Rattle.os_ignore.specs.declared.path.Part.{Part}
+use Rattle.os_ignore.specs.declared.pattern.After.{After}
+use Rattle.os_ignore.specs.declared.pattern.After.TheVariants as after
+use Rattle.os_ignore.specs.ClassText.{IsClass, IsBrokenClass}
+use Rattle.os_ignore.specs.Letters.{kind_of}
+use Rattle.os_ignore.specs.Reading.{Reads}
+
+-- the letter and what comes after it begin a class, but not one that is written right
+abbrev pub IsBrokenPiece : Letter → List Letter → Type 0
+IsBrokenPiece l ls = (kind_of l ≡ Bracket) × IsBrokenClass ls
+
+-- a class begins here, but not one that is written right
+abbrev pub IsBrokenHere : List Letter → Type 0
+IsBrokenHere [] = ⊥
+IsBrokenHere (l ∷ ls) = IsBrokenPiece l ls
+
+-- what comes after a slash
+abbrev pub left_after : After → Option (Bor (List Letter))
+left_after after.End = None
+left_after (after.Slash quoted rest) = Some rest
+
+-- a slash follows that isn't quoted
+abbrev pub is_joined : After → Bool
+is_joined after.End = false
+is_joined (after.Slash quoted rest) = not quoted
+
+-- the part ends here: at the end, or before a slash
+abbrev pub EndsPart : List Letter → After → Type 0
+EndsPart text after.End = text ≡ []
+EndsPart text (after.Slash quoted rest) = text ≡ record { byte = 0x2F; quoted = quoted } ∷ rest.now
+
+-- what is left, without its address
+abbrev pub text_of : Option (Bor (List Letter)) → Option (List Letter)
+text_of None = None
+text_of (Some rest) = Some rest.now
+
+-- the lists one after the other
+abbrev pub concat_of : {X : Type 0} → List (List X) → List X
+concat_of [] = []
+concat_of (x ∷ xs) = x ++ concat_of xs
+
+module _ {A : Type 0} where
+  -- a letter, by its kind, and what comes after it are a piece, and what comes after that
+  abbrev pub PieceAt : Kind → Letter → List Letter → Piece (Item A) → List Letter → Type 0
+  PieceAt Slash l ls piece rest = (piece ≡ One (Byte l.byte)) × (rest ≡ ls)
+  PieceAt Star l ls piece rest = (piece ≡ Many) × (rest ≡ ls)
+  PieceAt Question l ls piece rest = (piece ≡ One Any) × (rest ≡ ls)
+  PieceAt Literal l ls piece rest = (piece ≡ One (Byte l.byte)) × (rest ≡ ls)
+  PieceAt Bracket l ls piece rest = (class : Class A) × (piece ≡ One (OneOf class)) × IsClass ls class rest
+
+  -- the text begins with the piece, and not with a slash
+  abbrev pub IsPiece : List Letter → Piece (Item A) → List Letter → Type 0
+  IsPiece [] piece rest = ⊥
+  IsPiece (l ∷ ls) piece rest = (l.byte ≡ 0x2F → ⊥) × PieceAt (kind_of l) l ls piece rest
+
+  -- the text begins with a part of these pieces, and what comes after it
+  pub record IsPart (text : List Letter) (pieces : List (Piece (Item A))) (after : After) : Type 0 where
+    pub left : List Letter
+    pub read : Reads IsPiece text pieces left
+    pub ends : EndsPart left after
+
+  -- each piece is a star
+  abbrev pub all_stars : List (Piece (Item A)) → Bool
+  all_stars [] = true
+  all_stars (Many ∷ pieces) = all_stars pieces
+  all_stars (One x ∷ pieces) = false
+
+  -- a part of two stars or more, and nothing else
+  abbrev pub is_deep : List (Piece (Item A)) → Bool
+  is_deep pieces = nat_le 2 (length pieces) && all_stars pieces
+
+  -- what a part is in a pattern: `**` any number of components before a slash that isn't quoted, and else one or more
+  abbrev pub group : Bool → Bool → Part A → List (Piece (Part A))
+  group false joined part = One part ∷ []
+  group true true part = Many ∷ []
+  group true false part = Many ∷ One part ∷ []
+
+  -- a part is read, and what it is in the pattern
+  pub record IsGroup (text : List Letter) (pieces : List (Piece (Part A))) (left : Option (List Letter)) : Type 0 where
+    pub part : Part A
+    pub after : After
+    pub read : IsPart text part.pieces.items after
+    pub pieces_are : pieces ≡ group (is_deep part.pieces.items) (is_joined after) part
+    pub left_is : left ≡ text_of (left_after after)
+
+  -- the parts of the text, one after the other
+  abbrev pub NextGroup : Option (List Letter) → List (Piece (Part A)) → Option (List Letter) → Type 0
+  NextGroup None pieces left = ⊥
+  NextGroup (Some text) pieces left = IsGroup text pieces left
+
+  -- the pattern that the text is
+  pub record IsPattern (text : List Letter) (pattern : List (Piece (Part A))) : Type 0 where
+    pub groups : List (List (Piece (Part A)))
+    pub read : Reads NextGroup (Some text) groups None
+    pub joined : pattern ≡ concat_of groups
+
+module _ (A : Type 0) where
+  -- a class in the first part isn't written right
+  pub record IsBrokenPart (text : List Letter) : Type 0 where
+    pub pieces : List (Piece (Item A))
+    pub left : List Letter
+    pub read : Reads IsPiece text pieces left
+    pub broken : IsBrokenHere left
+
+  -- a class in a part isn't written right
+  pub record IsBrokenPattern (text : List Letter) : Type 0 where
+    pub groups : List (List (Piece (Part A)))
+    pub left : List Letter
+    pub read : Reads NextGroup (Some text) groups (Some left)
+    pub broken : IsBrokenPart left

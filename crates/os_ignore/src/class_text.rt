@@ -1,0 +1,225 @@
+//! Classes as they are written in a line.
+ghost use Rattle.std.specs.Prelude.{◌≡◌, ◌<◌, ◌≤◌, false, length, None, Some, MatchOption, IfOk, IfSome};
+ghost use Rattle.os_ignore.specs.ClassText.{all_names, name_text, after_text, known_name, ends_name, named_text, closes, range_at, member_at, negation, IsClass, IsBrokenClass};
+ghost use Rattle.os_ignore.specs.ClassSteps.{reading_of, LeavesLess};
+
+use crate::class::{Class, Member, Name};
+use crate::letter::Letter;
+use std::alloc::{AllocError, Allocator};
+
+/// What comes before a letter of a class.
+#[derive(Clone, Copy)]
+pub enum Before {
+    /// Nothing: the letter is the first.
+    First,
+    /// A byte, which a range may begin with.
+    Byte(u8),
+    /// Something else.
+    Nothing,
+}
+
+/// What comes next in a class.
+#[derive(Clone, Copy)]
+enum Next<'a> {
+    /// Nothing that a class may have.
+    Broken,
+    /// What closes it; this comes after it.
+    Closed(&'a [Letter]),
+    /// A member, what it is for the next, and what comes after it.
+    Member(Member, Before, &'a [Letter]),
+}
+
+impl Name {
+    /// The name, with what closes it.
+    fn text(self) -> &'static [u8]
+        ensures { result.now ≡ name_text self }
+    {
+        match self {
+            Name::Alnum => b"alnum:]",
+            Name::Alpha => b"alpha:]",
+            Name::Blank => b"blank:]",
+            Name::Cntrl => b"cntrl:]",
+            Name::Digit => b"digit:]",
+            Name::Graph => b"graph:]",
+            Name::Lower => b"lower:]",
+            Name::Print => b"print:]",
+            Name::Punct => b"punct:]",
+            Name::Space => b"space:]",
+            Name::Upper => b"upper:]",
+            Name::Xdigit => b"xdigit:]",
+        }
+    }
+}
+
+impl Before {
+    /// Whether the letter closes the class.
+    fn is_closed_by(self, letter: Letter) -> bool
+        ensures { result ≡ closes self letter }
+    {
+        match self {
+            Before::First => false,
+            Before::Byte(_) => letter.is_plain(b']'),
+            Before::Nothing => letter.is_plain(b']'),
+        }
+    }
+}
+
+/// What comes after a text that letters begin with.
+fn after_text<'a>(text: &[u8], letters: &'a [Letter]) -> Option<&'a [Letter]>
+    ensures rest { MatchOption result (after_text text.entry.now letters.entry.now ≡ None)
+        (λ rest. after_text text.entry.now letters.entry.now ≡ Some rest.now) }
+    ensures shorter { IfSome result (λ rest. length rest.now ≤ length letters.entry.now) }
+{
+    let mut wanted = text;
+    let mut left = letters;
+    while let Some((byte, more)) = wanted.split_first() {
+        let (letter, rest) = left.split_first()?;
+        if !letter.is_plain(*byte) {
+            return None;
+        }
+        wanted = more;
+        left = rest;
+    }
+    Some(left)
+}
+
+/// The first of the names that letters begin with, and what comes after it.
+fn known_name<'a>(names: &[Name], letters: &'a [Letter]) -> Option<(Name, &'a [Letter])>
+    ensures name { MatchOption result (known_name names.entry.now letters.now ≡ None)
+        (λ p. known_name names.entry.now letters.now ≡ Some (p.0, p.1.now)) }
+    ensures shorter { IfSome result (λ p. length p.1.now ≤ length letters.now) }
+{
+    let mut left = names;
+    while let Some((name, more)) = left.split_first() {
+        if let Some(rest) = after_text(name.text(), letters) {
+            return Some((*name, rest));
+        }
+        left = more;
+    }
+    None
+}
+
+/// Whether the first `]` isn't quoted, and comes after a `:`.
+fn ends_name(letters: &[Letter]) -> bool
+    ensures { result ≡ ends_name false letters.entry.now }
+{
+    let mut left = letters;
+    let mut after_colon = false;
+    while let Some((letter, rest)) = left.split_first() {
+        if letter.byte == b']' {
+            return after_colon && !letter.quoted;
+        }
+        after_colon = letter.byte == b':';
+        left = rest;
+    }
+    false
+}
+
+/// What comes after `[:`, where a name is closed there.
+fn named_text(first: Letter, rest: &[Letter]) -> Option<&[Letter]>
+    ensures text { MatchOption result (named_text first rest.now ≡ None)
+        (λ text. named_text first rest.now ≡ Some text.now) }
+    ensures shorter { IfSome result (λ text. length text.now < length rest.now) }
+{
+    let (second, text) = rest.split_first()?;
+    if first.is_plain(b'[') && second.is_plain(b':') && ends_name(text) {
+        Some(text)
+    } else {
+        None
+    }
+}
+
+/// The ends of a range, of which `first` is the `-`, and what comes after it.
+fn range_at<'a>(before: Before, first: Letter, rest: &'a [Letter]) -> Option<(u8, u8, &'a [Letter])>
+    ensures range { MatchOption result (range_at before first rest.now ≡ None)
+        (λ p. range_at before first rest.now ≡ Some (p.0, p.1, p.2.now)) }
+    ensures shorter { IfSome result (λ p. length p.2.now < length rest.now) }
+{
+    let Before::Byte(from) = before else {
+        return None;
+    };
+    let (to, more) = rest.split_first()?;
+    if first.is_plain(b'-') && !to.is_plain(b']') {
+        Some((from, to.byte, more))
+    } else {
+        None
+    }
+}
+
+/// What comes next in a class.
+fn next_member<'a>(before: Before, text: &'a [Letter]) -> Next<'a>
+    ensures reading { reading_of result ≡ member_at before text.now }
+    ensures shorter { LeavesLess text.now result }
+{
+    let Some((first, rest)) = text.split_first() else {
+        return Next::Broken;
+    };
+    if before.is_closed_by(*first) {
+        return Next::Closed(rest);
+    }
+    if let Some((from, to, more)) = range_at(before, *first, rest) {
+        return Next::Member(Member::Range(from, to), Before::Nothing, more);
+    }
+    let Some(name) = named_text(*first, rest) else {
+        return Next::Member(Member::Single(first.byte), Before::Byte(first.byte), rest);
+    };
+    let names = [
+        Name::Alnum,
+        Name::Alpha,
+        Name::Blank,
+        Name::Cntrl,
+        Name::Digit,
+        Name::Graph,
+        Name::Lower,
+        Name::Print,
+        Name::Punct,
+        Name::Space,
+        Name::Upper,
+        Name::Xdigit,
+    ];
+    match known_name(&names, name) {
+        Some((name, more)) => Next::Member(Member::Named(name), Before::Nothing, more),
+        None => Next::Broken,
+    }
+}
+
+/// Whether a class is negated, and what comes after that.
+fn negation(text: &[Letter]) -> (bool, &[Letter])
+    ensures value { (result.0, result.1.now) ≡ negation text.now }
+    ensures shorter { length result.1.now ≤ length text.now }
+{
+    let Some((first, rest)) = text.split_first() else {
+        return (false, text);
+    };
+    if first.is_plain(b'!') || first.is_plain(b'^') {
+        (true, rest)
+    } else {
+        (false, text)
+    }
+}
+
+/// Reads the class that comes after a `[`, and what comes after it; `None` where it is none.
+pub fn read_class<'a, A: Allocator>(
+    alloc: A,
+    text: &'a [Letter],
+) -> Result<Option<(Class<A>, &'a [Letter])>, AllocError>
+    ensures class { IfOk result (λ read. MatchOption read (IsBrokenClass text.now)
+        (λ p. IsClass text.now p.0 p.1.now)) }
+    ensures shorter { IfOk result (λ read. IfSome read (λ p. length p.1.now < length text.now)) }
+{
+    let (negated, body) = negation(text);
+    let mut members = Vec::new(alloc);
+    let mut before = Before::First;
+    let mut left = body;
+    loop {
+        match next_member(before, left) {
+            Next::Broken => return Ok(None),
+            Next::Closed(rest) => return Ok(Some((Class { negated, members }, rest))),
+            Next::Member(member, after, rest) => {
+                members.push(member)?;
+                before = after;
+                left = rest;
+            }
+        }
+    }
+}

@@ -1,0 +1,94 @@
+//! An ignore file: its lines, and the directory that it is in.
+ghost use Rattle.std.specs.Prelude.{◌≡◌, ◌++◌, IfOk};
+ghost use Rattle.os_ignore.specs.Files.{without_mark, IsWithoutReturn, IsLineText, AreLines, list_of};
+ghost use Rattle.os_ignore.specs.Directories.{IsPlace};
+
+use crate::component::split_piece;
+use crate::line::{Line, read_line};
+use std::alloc::{AllocError, Allocator, Global};
+
+/// The lines of an ignore file, and the directory that it is in.
+#[derive(Drop)]
+pub struct File<A: Allocator = Global> {
+    /// How many files were added before it.
+    pub number: usize,
+    /// Its directory, from the top of the tree, with no slash at the end.
+    pub directory: Vec<u8, A>,
+    /// The lines that are patterns.
+    pub lines: Vec<Line<A>, A>,
+}
+
+/// Without the byte order mark that a file may begin with.
+fn without_mark(file: &[u8]) -> &[u8]
+    ensures { result.now ≡ without_mark file.now }
+{
+    match file {
+        [0xef, 0xbb, 0xbf, rest @ ..] => rest,
+        _ => file,
+    }
+}
+
+/// Without the carriage return at the end.
+fn without_return(line: &[u8]) -> &[u8]
+    ensures { IsWithoutReturn line.now result.now }
+{
+    match line.split_last() {
+        Some((last, front)) => { if *last == b'\r' { front } else { line } }
+        None => line,
+    }
+}
+
+/// What a line says: without a carriage return at the end, and up to the first NUL.
+fn line_text(line: &[u8]) -> &[u8]
+    ensures { IsLineText line.now result.now }
+{
+    let (text, _) = split_piece(0, without_return(line));
+    text
+}
+
+/// Appends a line, if there is one.
+fn push_line<A: Allocator>(
+    lines: &mut Vec<Line<A>, A>,
+    read: Option<Line<A>>,
+) -> Result<(), AllocError>
+    ensures { IfOk result (λ _. lines.new.items ≡ lines.old.items ++ list_of read) }
+{
+    match read {
+        Some(line) => {
+            lines.push(line)?;
+            Ok(())
+        }
+        None => Ok(()),
+    }
+}
+
+/// Reads the lines of a file that are patterns.
+pub fn read_lines<A: Allocator + Copy>(alloc: A, file: &[u8]) -> Result<Vec<Line<A>, A>, AllocError>
+    ensures { IfOk result (λ lines. AreLines file.now lines.items) }
+{
+    let mut lines = Vec::new(alloc);
+    let mut number = 1;
+    let mut left = Some(without_mark(file));
+    while let Some(text) = left {
+        let (line, rest) = split_piece(b'\n', text);
+        let read = read_line(alloc, number, line_text(line))?;
+        push_line(&mut lines, read)?;
+        number += 1;
+        left = rest;
+    }
+    Ok(lines)
+}
+
+/// The files before one in this directory: those up to the last in a directory that isn't longer.
+pub fn files_before<'a, A: Allocator>(files: &'a [File<A>], directory: &[u8]) -> &'a [File<A>]
+    ensures { IsPlace directory.now files.entry.now result.now }
+{
+    let mut left = files;
+    while let Some((last, front)) = left.split_last() {
+        if last.directory.len() <= directory.len() {
+            return left;
+        }
+        left = front;
+    }
+    left
+}

@@ -1,0 +1,167 @@
+//! A line of an ignore file, as it is written.
+ghost use Rattle.std.specs.Prelude.{◌≡◌, IfOk, MatchOption, ◌++◌, ◌∷◌};
+ghost use Rattle.os_ignore.specs.Lines.{IsTrimmed, strip_first, StripsSlash, has_slash, is_comment, literal_prefix, after_literal, IsLineOf, LettersSayNothing, IsLine, SaysNothing};
+
+use crate::item::Piece;
+use crate::letter::{Kind, Letter, letters};
+use crate::path::Part;
+use crate::pattern::read_pattern;
+use std::alloc::{AllocError, Allocator, Global};
+
+/// A line that is a pattern.
+#[derive(Drop)]
+pub struct Line<A: Allocator = Global> {
+    /// Which line of its file it is, from 1.
+    pub number: usize,
+    /// It takes in again what it matches (`!`).
+    pub takes_in: bool,
+    /// It matches directories alone (a `/` at its end).
+    pub directories: bool,
+    /// It matches paths from its file's directory (a `/` elsewhere), and else names at any depth.
+    pub anchored: bool,
+    /// What the path or the name begins with.
+    pub literal: Vec<u8, A>,
+    /// What matches the rest.
+    pub pattern: Vec<Piece<Part<A>>, A>,
+}
+
+/// Without the blanks at the end that aren't quoted.
+fn trim(letters: &[Letter]) -> &[Letter]
+    ensures { IsTrimmed letters.entry.now result.now }
+{
+    let mut left = letters;
+    while let Some((last, front)) = left.split_last() {
+        if !last.is_plain(b' ') {
+            return left;
+        }
+        left = front;
+    }
+    left
+}
+
+/// Whether letters begin with this byte, not quoted, and what comes after it.
+fn strip_first(byte: u8, letters: &[Letter]) -> (bool, &[Letter])
+    ensures { (result.0, result.1.now) ≡ strip_first byte letters.now }
+{
+    match letters.split_first() {
+        Some((first, rest)) => {
+            if first.is_plain(byte) {
+                (true, rest)
+            } else {
+                (false, letters)
+            }
+        }
+        None => (false, letters),
+    }
+}
+
+/// Whether letters end with a slash, and what comes before it; `None` where that slash is quoted.
+fn strip_slash(letters: &[Letter]) -> Option<(bool, &[Letter])>
+    ensures { StripsSlash letters.now result }
+{
+    match letters.split_last() {
+        Some((last, front)) => {
+            if last.byte != b'/' {
+                Some((false, letters))
+            } else if last.quoted {
+                None
+            } else {
+                Some((true, front))
+            }
+        }
+        None => Some((false, letters)),
+    }
+}
+
+/// Whether one of the letters is a slash.
+fn has_slash(letters: &[Letter]) -> bool
+    ensures { result ≡ has_slash letters.entry.now }
+{
+    let mut left = letters;
+    while let Some((first, rest)) = left.split_first() {
+        if first.byte == b'/' {
+            return true;
+        }
+        left = rest;
+    }
+    false
+}
+
+/// The bytes before the first letter that is quoted or a wildcard, and what comes after them.
+fn read_literal<A: Allocator>(
+    alloc: A,
+    letters: &[Letter],
+) -> Result<(Vec<u8, A>, &[Letter]), AllocError>
+    ensures { IfOk result (λ p. (p.0.items ≡ literal_prefix letters.entry.now) × (p.1.now ≡ after_literal letters.entry.now)) }
+{
+    let mut literal = Vec::new(alloc);
+    let mut left = letters;
+    while let Some((first, rest)) = left.split_first() {
+        if !first.is_simple() {
+            return Ok((literal, left));
+        }
+        literal.push(first.byte)?;
+        left = rest;
+    }
+    Ok((literal, left))
+}
+
+/// Whether letters begin with a `#`.
+fn is_comment(letters: &[Letter]) -> bool
+    ensures { result ≡ is_comment letters.now }
+{
+    match letters.split_first() {
+        Some((first, _)) => first.is_plain(b'#'),
+        None => false,
+    }
+}
+
+/// Reads the letters of a line; `None` where they say nothing.
+fn read_letters<A: Allocator + Copy>(
+    alloc: A,
+    number: usize,
+    letters: &[Letter],
+) -> Result<Option<Line<A>>, AllocError>
+    ensures { IfOk result (λ read. MatchOption read (LettersSayNothing A letters.now)
+        (λ line. (line.number ≡ number) × IsLineOf letters.now line)) }
+{
+    if is_comment(letters) {
+        return Ok(None);
+    }
+    let (takes_in, named) = strip_first(b'!', trim(letters));
+    let Some((directories, whole)) = strip_slash(named) else {
+        return Ok(None);
+    };
+    let anchored = has_slash(whole);
+    let (_, body) = strip_first(b'/', whole);
+    if body.is_empty() {
+        return Ok(None);
+    }
+    let (literal, rest) = read_literal(alloc, body)?;
+    let Some(pattern) = read_pattern(alloc, rest)? else {
+        return Ok(None);
+    };
+    Ok(Some(Line {
+        number,
+        takes_in,
+        directories,
+        anchored,
+        literal,
+        pattern,
+    }))
+}
+
+/// Reads the text of a line; `None` where it says nothing.
+pub fn read_line<A: Allocator + Copy>(
+    alloc: A,
+    number: usize,
+    text: &[u8],
+) -> Result<Option<Line<A>>, AllocError>
+    ensures { IfOk result (λ read. MatchOption read (SaysNothing A text.now)
+        (λ line. (line.number ≡ number) × IsLine text.now line)) }
+{
+    let Some(letters) = letters(alloc, text)? else {
+        return Ok(None);
+    };
+    read_letters(alloc, number, &letters)
+}

@@ -1,0 +1,151 @@
+//! Patterns as they are written in a line, part by part.
+ghost use Rattle.std.specs.Prelude.{◌≡◌, ◌++◌, ◌<◌, ◌≤◌, ◌+◌, length, Some, MatchOption, IfOk, IfSome};
+ghost use Rattle.os_ignore.specs.Components.{left_size};
+ghost use Rattle.os_ignore.specs.Letters.{kind_of};
+ghost use Rattle.os_ignore.specs.PatternText.{PieceAt, IsBrokenPiece, IsPart, IsBrokenPart, is_deep, all_stars, group, is_joined, IsPattern, IsBrokenPattern, left_after};
+
+use crate::class_text::read_class;
+use crate::item::{Item, Piece};
+use crate::letter::{Kind, Letter};
+use crate::path::Part;
+use std::alloc::{AllocError, Allocator};
+
+/// What comes after a part.
+#[derive(Clone, Copy)]
+pub enum After<'a> {
+    /// Nothing.
+    End,
+    /// A slash, which may be quoted, and more.
+    Slash(bool, &'a [Letter]),
+}
+
+impl<'a> After<'a> {
+    /// The text of the further parts.
+    fn left(self) -> Option<&'a [Letter]>
+        ensures { result ≡ left_after self.entry }
+    {
+        match self {
+            After::End => None,
+            After::Slash(_, rest) => Some(rest),
+        }
+    }
+
+    /// Whether a slash follows that isn't quoted.
+    fn is_joined(self) -> bool
+        ensures { result ≡ is_joined self.entry }
+    {
+        match self {
+            After::End => false,
+            After::Slash(quoted, _) => !quoted,
+        }
+    }
+}
+
+/// Reads the piece that begins with `first`, which is no slash; `None` where it is a class that isn't one.
+fn read_piece<'a, A: Allocator>(
+    alloc: A,
+    first: Letter,
+    rest: &'a [Letter],
+) -> Result<Option<(Piece<Item<A>>, &'a [Letter])>, AllocError>
+    ensures piece { IfOk result (λ read. MatchOption read (IsBrokenPiece first rest.now)
+        (λ p. PieceAt (kind_of first) first rest.now p.0 p.1.now)) }
+    ensures shorter { IfOk result (λ read. IfSome read (λ p. length p.1.now ≤ length rest.now)) }
+{
+    match first.kind() {
+        Kind::Star => Ok(Some((Piece::Many, rest))),
+        Kind::Question => Ok(Some((Piece::One(Item::Any), rest))),
+        Kind::Bracket => {
+            let Some((class, after)) = read_class(alloc, rest)? else {
+                return Ok(None);
+            };
+            Ok(Some((Piece::One(Item::OneOf(class)), after)))
+        }
+        Kind::Literal | Kind::Slash => Ok(Some((Piece::One(Item::Byte(first.byte)), rest))),
+    }
+}
+
+/// Reads a part, and what comes after it; `None` where a class in it isn't one.
+fn read_part<A: Allocator + Copy>(
+    alloc: A,
+    text: &[Letter],
+) -> Result<Option<(Part<A>, After<'_>)>, AllocError>
+    ensures part { IfOk result (λ read. MatchOption read (IsBrokenPart A text.entry.now)
+        (λ p. IsPart text.entry.now p.0.pieces.items p.1)) }
+    ensures shorter { IfOk result (λ read. IfSome read
+        (λ p. left_size (left_after p.1) < length text.entry.now + 1)) }
+{
+    let mut pieces = Vec::new(alloc);
+    let mut left = text;
+    while let Some((first, rest)) = left.split_first() {
+        if first.byte == b'/' {
+            return Ok(Some((Part { pieces }, After::Slash(first.quoted, rest))));
+        }
+        let Some((piece, after)) = read_piece(alloc, *first, rest)? else {
+            return Ok(None);
+        };
+        pieces.push(piece)?;
+        left = after;
+    }
+    Ok(Some((Part { pieces }, After::End)))
+}
+
+/// Whether each piece is a star.
+fn all_stars<A: Allocator>(pieces: &[Piece<Item<A>>]) -> bool
+    ensures { result ≡ all_stars pieces.entry.now }
+{
+    let mut left = pieces;
+    while let Some((first, rest)) = left.split_first() {
+        match first {
+            Piece::Many => left = rest,
+            Piece::One(_) => return false,
+        }
+    }
+    true
+}
+
+/// Whether a part is `**`: two stars or more, and nothing else.
+fn is_deep<A: Allocator>(pieces: &[Piece<Item<A>>]) -> bool
+    ensures { result ≡ is_deep pieces.now }
+{
+    pieces.len() >= 2 && all_stars(pieces)
+}
+
+/// Appends a part to a pattern: `**` before a slash that isn't quoted takes any number of components, else one or more.
+fn push_group<A: Allocator>(
+    pattern: &mut Vec<Piece<Part<A>>, A>,
+    part: Part<A>,
+    joined: bool,
+) -> Result<(), AllocError>
+    ensures { IfOk result (λ _. pattern.new.items ≡ pattern.old.items ++ group (is_deep part.pieces.items) joined part) }
+{
+    if !is_deep(&part.pieces) {
+        pattern.push(Piece::One(part))?;
+        return Ok(());
+    }
+    pattern.push(Piece::Many)?;
+    if joined {
+        return Ok(());
+    }
+    pattern.push(Piece::One(part))?;
+    Ok(())
+}
+
+/// Reads a pattern; `None` where a class in it isn't one.
+pub fn read_pattern<A: Allocator + Copy>(
+    alloc: A,
+    text: &[Letter],
+) -> Result<Option<Vec<Piece<Part<A>>, A>>, AllocError>
+    ensures { IfOk result (λ read. MatchOption read (IsBrokenPattern A text.now)
+        (λ pattern. IsPattern text.now pattern.items)) }
+{
+    let mut pattern = Vec::new(alloc);
+    let mut left = Some(text);
+    while let Some(text) = left {
+        let Some((part, after)) = read_part(alloc, text)? else {
+            return Ok(None);
+        };
+        push_group(&mut pattern, part, after.is_joined())?;
+        left = after.left();
+    }
+    Ok(Some(pattern))
+}

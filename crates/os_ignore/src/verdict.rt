@@ -1,0 +1,175 @@
+//! Which line decides a path.
+ghost use Rattle.std.specs.Prelude.{◌≡◌, ◌↔◌, ◌++◌, ◌∷◌, List, ℕ, true, IsTrue, MatchOption};
+ghost use Rattle.os_ignore.specs.Components.{IsLastComponent};
+ghost use Rattle.os_ignore.specs.Verdicts.{LineMatches, MatchesText, IsBelow, IsLastMatch, NoneMatches, FileDecides, FileIsSilent, IsOwn, IsVerdict, is_ignored};
+
+use crate::component::last_component;
+use crate::file::File;
+use crate::item::Piece;
+use crate::line::Line;
+use crate::path::{Part, matches};
+use std::alloc::Allocator;
+
+/// What ignore files say of a path, and which line of which file.
+#[derive(Clone, Copy, PartialEq, Eq, Debug)]
+pub enum Verdict {
+    /// No line decides it.
+    Neither,
+    /// It is ignored.
+    Ignored {
+        /// The file: how many were added before it.
+        file: usize,
+        /// The line of the file, from 1.
+        line: usize,
+    },
+    /// It is taken in again (`!`).
+    TakenIn {
+        /// The file: how many were added before it.
+        file: usize,
+        /// The line of the file, from 1.
+        line: usize,
+    },
+}
+
+/// What comes after bytes that a text begins with.
+fn after_bytes<'a>(bytes: &[u8], text: &'a [u8]) -> Option<&'a [u8]>
+    ensures { MatchOption result ((rest : List ℕ) → text.entry.now ≡ bytes.entry.now ++ rest → ⊥)
+        (λ rest. text.entry.now ≡ bytes.entry.now ++ rest.now) }
+{
+    let mut wanted = bytes;
+    let mut left = text;
+    while let Some((byte, more)) = wanted.split_first() {
+        let (first, rest) = left.split_first()?;
+        if *first != *byte {
+            return None;
+        }
+        wanted = more;
+        left = rest;
+    }
+    Some(left)
+}
+
+/// Whether a text is a literal start, and a rest that a pattern matches.
+fn matches_text<A: Allocator>(literal: &[u8], pattern: &[Piece<Part<A>>], text: &[u8]) -> bool
+    ensures { IsTrue result ↔ MatchesText literal.now pattern.now text.now }
+{
+    match after_bytes(literal, text) {
+        Some(rest) => matches(pattern, rest),
+        None => false,
+    }
+}
+
+/// The path from a directory; `None` where it isn't in that.
+fn below<'a>(directory: &[u8], path: &'a [u8]) -> Option<&'a [u8]>
+    ensures { MatchOption result ((rest : List ℕ) → IsBelow directory.now path.now rest → ⊥)
+        (λ rest. IsBelow directory.now path.now rest.now) }
+{
+    if directory.is_empty() {
+        return Some(path);
+    }
+    let Some(after) = after_bytes(directory, path) else {
+        return None;
+    };
+    let Some((first, rest)) = after.split_first() else {
+        return None;
+    };
+    if *first == b'/' { Some(rest) } else { None }
+}
+
+impl<A: Allocator> Line<A> {
+    /// Whether it matches the path, whose last component this is.
+    fn matches(&self, path: &[u8], name: &[u8], is_dir: bool) -> bool
+        requires { IsLastComponent path.now name.now }
+        ensures { IsTrue result ↔ LineMatches self.now path.now is_dir }
+    {
+        if self.directories && !is_dir {
+            return false;
+        }
+        matches_text(
+            &self.literal,
+            &self.pattern,
+            if self.anchored { path } else { name },
+        )
+    }
+}
+
+/// The last line that matches.
+fn last_match<'a, A: Allocator>(
+    lines: &'a [Line<A>],
+    path: &[u8],
+    is_dir: bool,
+) -> Option<&'a Line<A>>
+    ensures { MatchOption result (NoneMatches path.now is_dir lines.entry.now)
+        (λ line. IsLastMatch path.now is_dir lines.entry.now line.now) }
+{
+    let name = last_component(path);
+    let mut left = lines;
+    while let Some((line, before)) = left.split_last() {
+        if line.matches(path, name, is_dir) {
+            return Some(line);
+        }
+        left = before;
+    }
+    None
+}
+
+impl<A: Allocator> File<A> {
+    /// The last line that matches a path.
+    fn deciding_line(&self, path: &[u8], is_dir: bool) -> Option<&Line<A>>
+        ensures { MatchOption result (FileIsSilent path.now is_dir self.now)
+            (λ line. FileDecides path.now is_dir self.now line.now) }
+    {
+        let Some(rest) = below(&self.directory, path) else {
+            return None;
+        };
+        last_match(&self.lines, rest, is_dir)
+    }
+}
+
+impl Verdict {
+    /// Whether the path is ignored.
+    pub fn is_ignored(self) -> bool
+        ensures { result ≡ is_ignored self }
+    {
+        match self {
+            Verdict::Neither => false,
+            Verdict::Ignored { .. } => true,
+            Verdict::TakenIn { .. } => false,
+        }
+    }
+}
+
+/// What the lines of files say of a path by itself.
+fn own<A: Allocator>(files: &[File<A>], path: &[u8], is_dir: bool) -> Verdict
+    ensures { IsOwn files.entry.now path.now is_dir result }
+{
+    let mut left = files;
+    while let Some((file, before)) = left.split_last() {
+        if let Some(line) = file.deciding_line(path, is_dir) {
+            let (file, line, takes_in) = (file.number, line.number, line.takes_in);
+            return if takes_in {
+                Verdict::TakenIn { file, line }
+            } else {
+                Verdict::Ignored { file, line }
+            };
+        }
+        left = before;
+    }
+    Verdict::Neither
+}
+
+/// What files say of a path: the first directory above it, from the top, that is ignored hides it,
+/// and else the last line that matches decides.
+pub fn decide<A: Allocator>(files: &[File<A>], path: &[u8], is_dir: bool) -> Verdict
+    ensures { IsVerdict files.now path.now is_dir result }
+{
+    for (at, byte) in path.iter().enumerate() {
+        if *byte == b'/' {
+            let above = own(files, &path[..at], true);
+            if above.is_ignored() {
+                return above;
+            }
+        }
+    }
+    own(files, path, is_dir)
+}
