@@ -3,6 +3,7 @@ pub mod Bodies
 pub mod Cuts
 pub mod Groups
 pub mod LineReadings
+pub mod OneVerdict
 pub mod Parts
 pub mod Readings
 pub mod Rests

@@ -15,7 +15,13 @@ pub struct Ignore<A: Allocator = Global> {
 impl<A: Allocator + Copy> Ignore<A> {
     ghost use Rattle.os_ignore.specs.Ignores.{files_of, IsAdded, IsOnly};
 
-    /// No files: each path is [`Verdict::Neither`].
+    /// No files: what they say of each path is [`Verdict::Neither`]. It doesn't allocate.
+    ///
+    /// ```
+    /// use os_ignore::{Ignore, Verdict};
+    ///
+    /// assert_eq!(rt; Ignore::empty(alloc).matched(b"a", false), Verdict::Neither);
+    /// ```
     pub fn empty(alloc: A) -> Ignore<A>
         ensures { files_of result ≡ [] }
     {
@@ -24,7 +30,22 @@ impl<A: Allocator + Copy> Ignore<A> {
         }
     }
 
-    /// The lines of a file at the top of the tree.
+    /// The lines of a file at the top of the tree: [`Ignore::empty`], then [`Ignore::add`] with the
+    /// empty directory. The source is gitignore's "PATTERN FORMAT" and git 2.39.
+    ///
+    /// # Errors
+    ///
+    /// [`AllocError`], where a request for memory was refused. No line is a fault.
+    ///
+    /// ```
+    /// use os_ignore::{Ignore, Verdict};
+    ///
+    /// let ignore = Ignore::new(alloc, b"*.log\ntarget/\n!keep.log\n")?;
+    /// assert_eq!(rt; ignore.matched(b"a/b.log", false), Verdict::Ignored { file: 0, line: 1 });
+    /// assert_eq!(rt; ignore.matched(b"target", false), Verdict::Neither);
+    /// assert_eq!(rt; ignore.matched(b"target/keep.log", false), Verdict::Ignored { file: 0, line: 2 });
+    /// assert_eq!(rt; ignore.matched(b"keep.log", false), Verdict::TakenIn { file: 0, line: 3 });
+    /// ```
     pub fn new(alloc: A, file: &[u8]) -> Result<Ignore<A>, AllocError>
         ensures { IfOk result (λ ignore. IsOnly file.now (files_of ignore)) }
     {
@@ -33,7 +54,24 @@ impl<A: Allocator + Copy> Ignore<A> {
         Ok(ignore)
     }
 
-    /// Adds the lines of a file in a directory.
+    /// Adds the lines of a file in a directory of the tree, which is relative to its top, without a
+    /// `/` at the end, and empty at the top. Its lines match paths below that directory, from there,
+    /// and come after those of the files in the directories above it. A file that was added later
+    /// comes after one in the same directory.
+    ///
+    /// # Errors
+    ///
+    /// [`AllocError`], where a request for memory was refused; the files are then as they were.
+    ///
+    /// ```
+    /// use os_ignore::{Ignore, Verdict};
+    ///
+    /// let mut ignore = Ignore::empty(alloc);
+    /// ignore.add(alloc, b"doc", b"!/a.txt\n")?;
+    /// ignore.add(alloc, b"", b"*.txt\n")?;
+    /// assert_eq!(rt; ignore.matched(b"doc/a.txt", false), Verdict::TakenIn { file: 0, line: 1 });
+    /// assert_eq!(rt; ignore.matched(b"doc/b.txt", false), Verdict::Ignored { file: 1, line: 1 });
+    /// ```
     pub fn add(&mut self, alloc: A, directory: &[u8], file: &[u8]) -> Result<(), AllocError>
         ensures added { OnOk result (IsAdded directory.now file.now (files_of self.old) (files_of self.new)) }
         ensures unchanged { OnErr result (files_of self.new ≡ files_of self.old) }
@@ -49,7 +87,23 @@ impl<A: Allocator + Copy> Ignore<A> {
         Ok(())
     }
 
-    /// What the files say of a path, and which line.
+    /// What the files say of a path, and which line says it, as `git check-ignore -v --no-index`
+    /// prints it. It doesn't allocate.
+    ///
+    /// `is_dir` says whether the path is a directory; what is above it is one. The first directory
+    /// above the path, from the top, that is ignored hides all that is in it, whatever later lines
+    /// say, and the line that ignores the directory is the answer. Else the last line that matches
+    /// the path decides. A directory that is taken in doesn't take in what is in it.
+    ///
+    /// ```
+    /// use os_ignore::{Ignore, Verdict};
+    ///
+    /// let ignore = Ignore::new(alloc, b"/build\n!build/out\ndoc/**\n!doc/*/\n")?;
+    /// assert_eq!(rt; ignore.matched(b"build/out", false), Verdict::Ignored { file: 0, line: 1 });
+    /// assert_eq!(rt; ignore.matched(b"doc/a", true), Verdict::TakenIn { file: 0, line: 4 });
+    /// assert_eq!(rt; ignore.matched(b"doc/a/b", false), Verdict::Ignored { file: 0, line: 3 });
+    /// assert_eq!(rt; ignore.matched(b"doc", true), Verdict::Neither);
+    /// ```
     pub fn matched(&self, path: &[u8], is_dir: bool) -> Verdict
         ensures { IsVerdict (files_of self.now) path.now is_dir result }
     {

@@ -1,7 +1,26 @@
-//! Ignore files in git's own language (gitignore), over bytes.
+//! Ignore files in git's own language, over bytes: which line of a `.gitignore` decides a path.
 //!
-//! [`Ignore`] holds the lines of ignore files, compiled once; [`Ignore::matched`] says which line decides a
-//! path, without taking memory.
+//! [`Ignore`] holds the lines of the ignore files of one tree, compiled once. [`Ignore::matched`]
+//! answers what they say of a path, and which line says it: that of gitignore, and where its
+//! document is silent or git 2.39 differs from it, what git does.
+//!
+//! Paths and lines are bytes, in no encoding: a `?` or a class matches one byte, so two of the
+//! bytes of `é`. A path is relative to the top of the tree, `/` separates its components, and it has
+//! none at its start or its end.
+//!
+//! A line is read as follows. It ends at a line feed; a carriage return before that goes, and so do
+//! blanks at the end that no backslash quotes. A line that begins with `#` is a comment. A `!` at the
+//! start takes in again what the line matches. A `/` at the end matches directories alone. With a
+//! `/` elsewhere the line matches paths from the directory of its file, and else names at any depth.
+//! `*` matches any bytes of a component and `?` one byte; a component `**` matches any number of
+//! components, and at the end one or more; a backslash quotes the next byte. In a class, `!` or `^`
+//! negates, `a-z` is a range, `[:alpha:]` a class of POSIX over ASCII, and a `]` is a member if it
+//! comes first. A line whose class isn't closed or has a name that isn't known, or that ends with
+//! the backslash that quotes nothing, says nothing; no line is a fault.
+//!
+//! The literal bytes at the start of a line with a `/` are compared by themselves, as git does, and
+//! what comes after them is matched with what comes after them in the path: so `ab**/c` matches
+//! `abx/y/c`.
 #![tactic(auto)]
 
 mod class;
@@ -10,6 +29,7 @@ mod component;
 mod file;
 mod ignore;
 mod item;
+pub mod laws;
 mod letter;
 mod line;
 mod part;

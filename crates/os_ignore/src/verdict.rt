@@ -128,6 +128,14 @@ impl<A: Allocator> File<A> {
 
 impl Verdict {
     /// Whether the path is ignored.
+    ///
+    /// ```
+    /// use os_ignore::Ignore;
+    ///
+    /// let ignore = Ignore::new(alloc, b"*.o\n")?;
+    /// assert!(rt; ignore.matched(b"a.o", false).is_ignored());
+    /// assert!(rt; !ignore.matched(b"a.c", false).is_ignored());
+    /// ```
     pub fn is_ignored(self) -> bool
         ensures { result ≡ is_ignored self }
     {

@@ -1,0 +1,13 @@
+//! Laws of ignore files. Each is the contract of a function that does nothing.
+ghost use Rattle.std.specs.Prelude.{◌≡◌, Bool, ℕ, List};
+ghost use Rattle.os_ignore.specs.declared.file.File.{File};
+ghost use Rattle.os_ignore.specs.declared.verdict.Verdict.{Verdict};
+ghost use Rattle.os_ignore.specs.Verdicts.{IsVerdict};
+
+use std::alloc::Allocator;
+
+/// Files say one thing of a path.
+pub fn one_verdict<A: Allocator>()
+    ensures { (files : List (File A)) → (path : List ℕ) → (is_dir : Bool) → (v : Verdict)
+        → (w : Verdict) → IsVerdict files path is_dir v → IsVerdict files path is_dir w → v ≡ w }
+{}
