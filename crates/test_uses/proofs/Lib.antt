@@ -4,6 +4,7 @@ pub mod CommandLines
 pub mod EqualOrder
 pub mod FirstAndLast
 pub mod GlobFaults
+pub mod HiddenBelow
 pub mod LossyOfChunks
 pub mod NoMatch
 pub mod OnePiece

@@ -1,24 +1,27 @@
 //! Ignore files: what is below a directory that is ignored, and which file decides.
-ghost use Rattle.std.specs.Prelude.{◌≡◌, ◌<◌, length, slice_index, IsTrue, IfOk};
+ghost use Rattle.std.specs.Prelude.{◌≡◌, ◌<◌, length, slice_index, true, IsTrue, IfOk, IfSome};
+ghost use Rattle.os_ignore.specs.Verdicts.{is_ignored};
 
 use os_ignore::{Ignore, Verdict, laws};
 use std::alloc::{AllocError, Allocator};
 
-/// Whether files say of a path what they say of the directory above it that ends at this slash, if
-/// that is ignored: always.
-pub fn is_hidden_by<A: Allocator + Copy>(
+/// What files say of the directory above a path that ends at this slash, and of the path: the same,
+/// if the directory is ignored.
+pub fn above_and_below<A: Allocator + Copy>(
     ignore: &Ignore<A>,
     path: &[u8],
     slash: usize,
     is_dir: bool,
-) -> bool
+) -> (Verdict, Verdict)
     requires within { slash < length path.now }
     requires is_slash { slice_index path.now slash ≡ 47 }
-    ensures { IsTrue result }
+    ensures { is_ignored result.0 ≡ true → result.0 ≡ result.1 }
 {
     laws::one_verdict::<A>();
-    let above = ignore.matched(&path[..slash], true);
-    !above.is_ignored() || ignore.matched(path, is_dir) == above
+    (
+        ignore.matched(&path[..slash], true),
+        ignore.matched(path, is_dir),
+    )
 }
 
 /// Whether it is the one file of a tree that decides a path, if a line does: always.
@@ -38,21 +41,21 @@ pub fn is_decided_by_first<A: Allocator + Copy>(
     })
 }
 
-/// Whether files say of each path what they said before a file that couldn't be added: always.
-pub fn is_as_before<A: Allocator + Copy>(
+/// What files say of a path before and after a file that couldn't be added: the same.
+pub fn before_and_after<A: Allocator + Copy>(
     alloc: A,
     ignore: &mut Ignore<A>,
     content: &[u8],
     path: &[u8],
     is_dir: bool,
-) -> bool
-    ensures { IsTrue result }
+) -> Option<(Verdict, Verdict)>
+    ensures { IfSome result (λ said. said.0 ≡ said.1) }
 {
     laws::one_verdict::<A>();
     let before = ignore.matched(path, is_dir);
     match ignore.add(alloc, b"a", content) {
-        Ok(()) => true,
-        Err(AllocError) => ignore.matched(path, is_dir) == before,
+        Ok(()) => None,
+        Err(AllocError) => Some((before, ignore.matched(path, is_dir))),
     }
 }
 

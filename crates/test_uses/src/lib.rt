@@ -23,6 +23,7 @@ pub mod files;
 pub mod globs;
 pub mod hashes;
 pub mod headline;
+pub mod ignored;
 pub mod joins;
 pub mod laws;
 pub mod line_escapes;
