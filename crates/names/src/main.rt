@@ -5,8 +5,8 @@
 
 use names_commands::fault::Fault;
 use names_commands::program::execute;
-use osbytes_commands::ended::Ended;
-use osbytes_commands::marked::Marked;
+use program_frame::ended::Ended;
+use program_frame::marked::Marked;
 use std::env;
 
 fn main(rt: HostRuntime) -> Ended<Fault> {

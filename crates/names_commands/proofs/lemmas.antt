@@ -1,5 +1,2 @@
-pub mod Back
-pub mod Items
 pub mod Lines
-pub mod Reading
-pub mod Runs
+pub mod Back

@@ -1,5 +1,5 @@
--- What is written for an item, and with which fault it is refused.
-use Rattle.std.specs.Prelude.{◌≡◌, ◌≢◌, ◌⊎◌, ℕ, ◌*◌, ◌≤◌, ◌<◌, List, [], ◌∷◌, ◌++◌, length}
+-- What is written for an item, and why it is refused.
+use Rattle.std.specs.Prelude.{◌≡◌, ◌⊎◌, ℕ, ◌*◌, ◌≤◌, ◌<◌, List, [], ◌∷◌, ◌++◌, length}
 use Rattle.std.specs.Str.{IsUtf8}
 use Rattle.os_str_bytes.specs.EncodingError.{EncodingError}
 use Rattle.os_str_bytes.specs.Platform.{Ghosts}
@@ -9,15 +9,14 @@ use Rattle.os_quote.specs.Escape.{IsLineEscape, IsLineFault}
 use Rattle.os_quote.specs.declared.error.QuoteError.{QuoteError}
 use Rattle.os_quote.specs.declared.error.QuoteError.TheVariants as quote
 use Rattle.os_glob.specs.Match.{IsMatch}
-use Rattle.osbytes_commands.specs.declared.fault.Fault.{Fault as Reason}
-use Rattle.osbytes_commands.specs.declared.fault.Fault.TheVariants as reason
-use Rattle.names_commands.specs.declared.fault.Fault.{Fault}
-use Rattle.names_commands.specs.declared.fault.Fault.TheVariants.{At, TooLong, HasNul, Unended, TooMuch, Usage, Pattern, Run}
+use Rattle.program_frame.specs.Items.{Lacks}
+use Rattle.program_frame.specs.Rules.{ListRules}
+use Rattle.names_commands.specs.declared.fault.Refusal.{Refusal}
+use Rattle.names_commands.specs.declared.fault.Refusal.TheVariants as refusal
 use Rattle.names_commands.specs.declared.task.Task.{Task}
 use Rattle.names_commands.specs.declared.task.LastLine.TheVariants.{MustEnd, MayLackEnd}
 use Rattle.names_commands.specs.declared.task.Task.TheVariants.{ListAll, ListMatching, Filter, Check, Join}
 use Rattle.names_commands.specs.declared.task.Settings.{Settings}
-use Rattle.names_commands.specs.Items.{Entry, Lacks, IsLastUnended, items_of}
 
 -- the byte that ends an item
 abbrev pub end_of : Task → ℕ
@@ -35,10 +34,6 @@ TakesUnended (Filter options glob) = Unit {0}
 TakesUnended Check = Unit {0}
 TakesUnended (Join MustEnd) = ⊥
 TakesUnended (Join MayLackEnd) = Unit {0}
-
--- the items of the entries are those of the input
-abbrev pub AreIn : Task → List Entry → List ℕ → Type 0
-AreIn task entries input = (input ≡ items_of (end_of task) entries) ⊎ (TakesUnended task × IsLastUnended (end_of task) entries input)
 
 -- how long an item may be where a name may have `max` bytes: for each of them an escape has at most six
 abbrev pub longest : Task → ℕ → ℕ
@@ -91,7 +86,7 @@ module _ {E : Type 0} (p : Ghosts E) where
   HasBadQuote (ListMatching options glob) name error = ⊥
   HasBadQuote (Filter options glob) name error = ⊥
   HasBadQuote Check name error = ⊥
-  HasBadQuote (Join last) line error = IsUtf8 line × ((error ≢ quote.Memory) × IsLineFault p.well_formed p.units line error)
+  HasBadQuote (Join last) line error = IsUtf8 line × IsLineFault p.well_formed p.units line error
 
   -- a line is the escape of a name with a NUL
   abbrev pub IsOfNul : Task → ℕ → List ℕ → Type 0
@@ -109,40 +104,21 @@ module _ {E : Type 0} (p : Ghosts E) where
   IsOfLong Check max name = ⊥
   IsOfLong (Join last) max line = (name : List ℕ) × p.well_formed name × (IsLineEscape p.units name line × (max < length name))
 
-  -- why an item is refused, whatever its length
-  abbrev pub IsReason : Task → List ℕ → Reason → Type 0
-  IsReason task item (reason.Refused error) = HasFault task item error
-  IsReason task item (reason.BadLine number) = ⊥
-  IsReason task item (reason.BadQuote error) = HasBadQuote task item error
-  IsReason task item reason.Usage = ⊥
-  IsReason task item reason.Memory = ⊥
-  IsReason task item reason.Read = ⊥
-  IsReason task item reason.Write = ⊥
+  -- why an item is refused
+  abbrev pub IsRefusal : Task → ℕ → List ℕ → Refusal → Type 0
+  IsRefusal task max item (refusal.NoString error) = HasFault task item error
+  IsRefusal task max item (refusal.BadEscape index) = HasBadQuote task item (quote.BadEscape index)
+  IsRefusal task max item refusal.NotCanonical = HasBadQuote task item quote.NotCanonical
+  IsRefusal task max item refusal.HasNul = IsOfNul task max item
 
-  -- with which fault the item with this number ends the run; memory may be refused at any item
-  abbrev pub IsItemFault : Settings → ℕ → List ℕ → Fault → Type 0
-  IsItemFault s number item (At n why) = (n ≡ number) × ((length item ≤ longest_item s) × IsReason s.task item why)
-  IsItemFault s number item (TooLong n most) = (n ≡ number) × ((most ≡ s.max) × ((longest_item s < length item) ⊎ IsOfLong s.task s.max item))
-  IsItemFault s number item (HasNul n) = (n ≡ number) × ((length item ≤ longest_item s) × IsOfNul s.task s.max item)
-  IsItemFault s number item (Unended n) = ⊥
-  IsItemFault s number item TooMuch = ⊥
-  IsItemFault s number item Usage = ⊥
-  IsItemFault s number item (Pattern error) = ⊥
-  IsItemFault s number item (Run why) = why ≡ reason.Memory
-
-  -- with which fault the run ends at an item: its own, or that it is the last, isn't empty and has to have its end
-  abbrev pub IsRefused : Settings → ℕ → List ℕ → Fault → Type 0
-  IsRefused s number item (At n why) = IsItemFault s number item (At n why)
-  IsRefused s number item (TooLong n most) = IsItemFault s number item (TooLong n most)
-  IsRefused s number item (HasNul n) = IsItemFault s number item (HasNul n)
-  IsRefused s number item (Unended n) = (n ≡ number) × ((item ≢ []) × (¬ (TakesUnended s.task)))
-  IsRefused s number item TooMuch = ⊥
-  IsRefused s number item Usage = ⊥
-  IsRefused s number item (Pattern error) = ⊥
-  IsRefused s number item (Run why) = IsItemFault s number item (Run why)
-
-  -- an item that isn't refused, and what is written for it
-  pub record IsEntry (s : Settings) (e : Entry) : Type 0 where
-    pub whole : Lacks (end_of s.task) e.0
-    pub short : length e.0 ≤ longest_item s
-    pub text : IsText s.task s.max e.0 e.1
+  -- what is done with each item
+  abbrev pub rules_of : Settings → ListRules Refusal
+  rules_of s = record {
+    end = end_of s.task;
+    takes_unended = TakesUnended s.task;
+    max = s.max;
+    longest = longest_item s;
+    is_text = IsText s.task s.max;
+    refuses = IsRefusal s.task s.max;
+    is_of_long = IsOfLong s.task s.max;
+  }

@@ -7,7 +7,7 @@ ghost use Rattle.names_commands.specs.Command.{words_of, AsksFor, IsLimit, optio
 use crate::fault::Fault;
 use crate::task::LastLine;
 use os_glob::{GlobOptions, Separators};
-use osbytes_commands::command::Os;
+use program_frame::os::Os;
 
 /// How many bytes a name may have where the words don't say.
 const LONGEST_NAME: usize = 0x10_0000;
@@ -31,8 +31,8 @@ impl<'a> Request<'a> {
     /// [`Fault::Usage`] for all other words.
     ///
     /// ```
-    /// use osbytes_commands::command::Os;
     /// use names_commands::command::{Command, Request};
+    /// use program_frame::os::Os;
     ///
     /// let mut words = Vec::new(alloc);
     /// for word in ["--max", "255", "check", "wasm"] {
@@ -121,8 +121,8 @@ impl<'a> Command<'a> {
     /// [`Fault::Usage`] for all other words.
     ///
     /// ```
-    /// use osbytes_commands::command::Os;
     /// use names_commands::command::Command;
+    /// use program_frame::os::Os;
     ///
     /// let mut words = Vec::new(alloc);
     /// for word in ["list", "unix", "*.rs"] {

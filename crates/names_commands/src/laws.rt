@@ -1,7 +1,8 @@
 //! Laws of lists of names. Each is the contract of a function that does nothing.
 ghost use Rattle.std.specs.Prelude.{◌≡◌, ◌++◌, ℕ, List};
 ghost use Rattle.names_commands.specs.Back.{listing, joining, AreFirst, IsCompleted};
-ghost use Rattle.names_commands.specs.Run.{IsOutput};
+ghost use Rattle.program_frame.specs.ListRun.{IsOutput};
+ghost use Rattle.names_commands.specs.Task.{rules_of};
 ghost use Rattle.names_commands.specs.declared.task.LastLine.{LastLine};
 ghost use Rattle.names_commands.specs.declared.task.LastLine.TheVariants.{MustEnd};
 
@@ -13,13 +14,13 @@ use os_str_bytes::Platform;
 /// refuses them, unless it is told that the last line may lack its newline.
 pub fn names_come_back<E: Platform>()
     ensures some { (last : LastLine) → (max : ℕ) → (names : List ℕ) → (lines : List ℕ)
-        → IsOutput ⟦<E as Platform>⟧ (listing max) names lines → (suffix : List ℕ)
-        × (IsOutput ⟦<E as Platform>⟧ (joining last max) lines suffix × IsCompleted names suffix) }
+        → IsOutput (rules_of ⟦<E as Platform>⟧ (listing max)) names lines → (suffix : List ℕ)
+        × (IsOutput (rules_of ⟦<E as Platform>⟧ (joining last max)) lines suffix × IsCompleted names suffix) }
     ensures same { (last : LastLine) → (max : ℕ) → (other : ℕ) → (names : List ℕ) → (lines : List ℕ)
-        → (suffix : List ℕ) → IsOutput ⟦<E as Platform>⟧ (listing max) names lines
-        → IsOutput ⟦<E as Platform>⟧ (joining last other) lines suffix → IsCompleted names suffix }
+        → (suffix : List ℕ) → IsOutput (rules_of ⟦<E as Platform>⟧ (listing max)) names lines
+        → IsOutput (rules_of ⟦<E as Platform>⟧ (joining last other)) lines suffix → IsCompleted names suffix }
     ensures cut { (max : ℕ) → (other : ℕ) → (names : List ℕ) → (lines : List ℕ)
         → (prefix : List ℕ) → (rest : List ℕ) → (suffix : List ℕ)
-        → IsOutput ⟦<E as Platform>⟧ (listing max) names lines → lines ≡ prefix ++ rest
-        → IsOutput ⟦<E as Platform>⟧ (joining MustEnd other) prefix suffix → AreFirst names suffix }
+        → IsOutput (rules_of ⟦<E as Platform>⟧ (listing max)) names lines → lines ≡ prefix ++ rest
+        → IsOutput (rules_of ⟦<E as Platform>⟧ (joining MustEnd other)) prefix suffix → AreFirst names suffix }
 {}

@@ -5,21 +5,17 @@
 //! ([`os_quote::escape_line`]); one may be empty. The last name may lack its end, and a last line where
 //! that was asked for ([`task::LastLine`]). Words are a
 //! command ([`Command::parse`](command::Command::parse)). A run reads a block at a time, and writes
-//! what the items that end in it become ([`run::run`]), so it keeps one item and what a block
+//! what the items that end in it become ([`program_frame::lists::run::run`]), so it keeps one item and what a block
 //! becomes. Where it ends early, the text of a [`Fault`](fault::Fault) says why, and with the number
 //! of which item ([`program::execute`]).
 //!
-//! Two of its calls have a `requires`: [`run::run`] and [`program::execute`] take a reader and a
-//! writer whose marks are unset, as `Marked::new` makes them.
+//! One of its calls has a `requires`: [`program::execute`] takes a reader and a writer whose marks are
+//! unset, as `Marked::new` makes them.
 #![tactic(auto)]
 
 pub mod command;
 pub mod fault;
 mod item;
 pub mod laws;
-mod plain;
 pub mod program;
-mod reading;
-pub mod run;
-mod split;
 pub mod task;

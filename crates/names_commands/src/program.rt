@@ -2,26 +2,33 @@
 ghost use Rattle.std.specs.Prelude.{◌≡◌, ◌≢◌, ◌↔◌, true, false, codes, map, string_bytes, IfOk, IfErr, OnOk, IsOk, Ok, Err, ◌⊎◌};
 ghost use Rattle.std.specs.Io.KnownBytes.{Appends};
 ghost use Rattle.std.specs.IoError.{error_kind};
-ghost use Rattle.osbytes_commands.specs.Ended.{message, outcome_of, was_told};
-ghost use Rattle.osbytes_commands.specs.Marked.{marked_inner, has_failed, is_closed};
-ghost use Rattle.osbytes_commands.specs.Program.{words_after_name};
-ghost use Rattle.osbytes_commands.specs.Strings.{strings};
-ghost use Rattle.osbytes_commands.specs.Written.{AppendsBeginning};
-ghost use Rattle.osbytes_commands.specs.declared.fault.Fault.{Fault as Reason};
+ghost use Rattle.program_frame.specs.Ended.{message, outcome_of, was_told};
+ghost use Rattle.program_frame.specs.Marked.{marked_inner, has_failed, is_closed};
+ghost use Rattle.program_frame.specs.Words.{words_after_name};
+ghost use Rattle.program_frame.specs.Strings.{strings};
+ghost use Rattle.program_frame.specs.Written.{AppendsBeginning, WritesText};
+ghost use Rattle.program_frame.specs.declared.fault.Failure.{Failure};
+ghost use Rattle.program_frame.specs.declared.lists.fault.ListFault.{ListFault};
 ghost use Rattle.names_commands.specs.Fault.{text_of};
-ghost use Rattle.names_commands.specs.Program.{IsRun, WritesHelp, Does, RunsTo};
+ghost use Rattle.program_frame.specs.ListRun.{Runs};
+ghost use Rattle.names_commands.specs.Program.{help_text, Does, RunsTo};
+ghost use Rattle.names_commands.specs.Task.{rules_of};
+ghost use Rattle.names_commands.specs.declared.fault.Fault.TheVariants.{List as OfList};
 
 use crate::command::{Command, Request, options_of};
 use crate::fault::Fault;
-use crate::run::{run, write_output};
-use crate::task::{Settings, Task};
+use crate::task::{OnPlatform, Settings, Task};
 use os_glob::Glob;
-use os_str_bytes::{Unix, Wasm, Windows};
-use osbytes_commands::command::Os;
-use osbytes_commands::ended::Ended;
-use osbytes_commands::fault::Fault as Reason;
-use osbytes_commands::marked::Marked;
-use osbytes_commands::program::{Messages, Output, words};
+use os_str_bytes::{Platform, Unix, Wasm, Windows};
+use program_frame::ended::Ended;
+use program_frame::ends::{Messages, Output};
+use program_frame::fault::Failure;
+use program_frame::lists::fault::ListFault;
+use program_frame::lists::run::run;
+use program_frame::marked::Marked;
+use program_frame::os::Os;
+use program_frame::words::{NoWords, words};
+use program_frame::writing::write_out;
 use std::alloc::Allocator;
 use std::env::Args;
 use std::io;
@@ -37,8 +44,8 @@ use std::io::{ErrorKind, Read, Write};
 /// ([`Marked::failed`] tells).
 ///
 /// ```
-/// use osbytes_commands::marked::Marked;
 /// use names_commands::program::execute;
+/// use program_frame::marked::Marked;
 /// use std::process::{ExitCode, Termination};
 ///
 /// let mut words = Vec::new(alloc);
@@ -66,13 +73,13 @@ pub fn execute<A: Allocator, R: Read, W: Output, E: Messages>(
         → outcome_of result ≡ Err Fault.Usage) }
 
     // The run.
-    ensures run { IfOk args (λ args. (outcome_of result ≡ Err (Fault.Run Reason.Memory))
+    ensures run { IfOk args (λ args. (outcome_of result ≡ Err (Fault.List (ListFault.Run Failure.Memory)))
         ⊎ RunsTo (words_after_name args) (R.remaining (marked_inner reader.old))
         (R.remaining (marked_inner reader.new)) (W.contents (marked_inner writer.old))
         (W.contents (marked_inner writer.new)) (outcome_of result)) }
-    ensures read { (outcome_of result ≡ Err (Fault.Run Reason.Read))
+    ensures read { (outcome_of result ≡ Err (Fault.List (ListFault.Run Failure.Read)))
         ↔ (has_failed reader.new ≡ true) }
-    ensures write { (outcome_of result ≡ Err (Fault.Run Reason.Write))
+    ensures write { (outcome_of result ≡ Err (Fault.List (ListFault.Run Failure.Write)))
         ↔ (has_failed writer.new ≡ true) }
 
     // The message.
@@ -88,10 +95,14 @@ pub fn execute<A: Allocator, R: Read, W: Output, E: Messages>(
     match words(&alloc, args) {
         Ok(words) => {
             let outcome = run_words(&alloc, &words, reader, writer);
-            Ended::telling_unless(writer.closed(), outcome, errors)
+            Ended::telling_unless("names", writer.closed(), outcome, errors)
         }
-        Err(Reason::Memory) => Ended::telling(Err(Fault::Run(Reason::Memory)), errors),
-        Err(_) => Ended::telling(Err(Fault::Usage), errors),
+        Err(NoWords::Memory) => Ended::telling(
+            "names",
+            Err(Fault::List(ListFault::Run(Failure::Memory))),
+            errors,
+        ),
+        Err(NoWords::Unreadable) => Ended::telling("names", Err(Fault::Usage), errors),
     }
 }
 
@@ -107,8 +118,8 @@ fn run_words<A: Allocator, R: Read, W: Write>(
     ensures run { RunsTo (map string_bytes words.now) (R.remaining (marked_inner reader.old))
         (R.remaining (marked_inner reader.new)) (W.contents (marked_inner writer.old))
         (W.contents (marked_inner writer.new)) result }
-    ensures read { (result ≡ Err (Fault.Run Reason.Read)) ↔ (has_failed reader.new ≡ true) }
-    ensures write { (result ≡ Err (Fault.Run Reason.Write)) ↔ (has_failed writer.new ≡ true) }
+    ensures read { (result ≡ Err (Fault.List (ListFault.Run Failure.Read))) ↔ (has_failed reader.new ≡ true) }
+    ensures write { (result ≡ Err (Fault.List (ListFault.Run Failure.Write))) ↔ (has_failed writer.new ≡ true) }
 {
     match Request::parse(words) {
         Ok(request) => run_command(alloc, request.command, request.max, reader, writer),
@@ -129,8 +140,8 @@ fn run_command<A: Allocator, R: Read, W: Write>(
     ensures run { Does command.entry max (R.remaining (marked_inner reader.old))
         (R.remaining (marked_inner reader.new)) (W.contents (marked_inner writer.old))
         (W.contents (marked_inner writer.new)) result }
-    ensures read { (result ≡ Err (Fault.Run Reason.Read)) ↔ (has_failed reader.new ≡ true) }
-    ensures write { (result ≡ Err (Fault.Run Reason.Write)) ↔ (has_failed writer.new ≡ true) }
+    ensures read { (result ≡ Err (Fault.List (ListFault.Run Failure.Read))) ↔ (has_failed reader.new ≡ true) }
+    ensures write { (result ≡ Err (Fault.List (ListFault.Run Failure.Write))) ↔ (has_failed writer.new ≡ true) }
 {
     match command {
         Command::ListAll(os) => {
@@ -197,29 +208,56 @@ fn run_on<A: Allocator, R: Read, W: Write>(
 ) -> Result<(), Fault>
     requires reader_unmarked { has_failed reader.old ≡ false }
     requires writer_unmarked { has_failed writer.old ≡ false }
-    ensures run { IsRun (strings os) settings.entry (R.remaining (marked_inner reader.old))
+    ensures run { Runs (rules_of (strings os) settings.entry) OfList (R.remaining (marked_inner reader.old))
         (R.remaining (marked_inner reader.new)) (W.contents (marked_inner writer.old))
         (W.contents (marked_inner writer.new)) result }
-    ensures read { (result ≡ Err (Fault.Run Reason.Read)) ↔ (has_failed reader.new ≡ true) }
-    ensures write { (result ≡ Err (Fault.Run Reason.Write)) ↔ (has_failed writer.new ≡ true) }
+    ensures read { (result ≡ Err (Fault.List (ListFault.Run Failure.Read))) ↔ (has_failed reader.new ≡ true) }
+    ensures write { (result ≡ Err (Fault.List (ListFault.Run Failure.Write))) ↔ (has_failed writer.new ≡ true) }
 {
     match os {
-        Os::Unix => run::<Unix, A, R, W>(alloc, settings, reader, writer),
-        Os::Windows => run::<Windows, A, R, W>(alloc, settings, reader, writer),
-        Os::Wasm => run::<Wasm, A, R, W>(alloc, settings, reader, writer),
+        Os::Unix => run_list::<Unix, A, R, W>(alloc, settings, reader, writer),
+        Os::Windows => run_list::<Windows, A, R, W>(alloc, settings, reader, writer),
+        Os::Wasm => run_list::<Wasm, A, R, W>(alloc, settings, reader, writer),
+    }
+}
+
+/// The answer of the run over a list of names of the platform.
+fn run_list<E: Platform, A: Allocator, R: Read, W: Write>(
+    alloc: A,
+    settings: Settings<'_, '_>,
+    reader: &mut Marked<R>,
+    writer: &mut Marked<W>,
+) -> Result<(), Fault>
+    requires reader_unmarked { has_failed reader.old ≡ false }
+    requires writer_unmarked { has_failed writer.old ≡ false }
+    ensures run { Runs (rules_of ⟦<E as Platform>⟧ settings.entry) OfList (R.remaining (marked_inner reader.old))
+        (R.remaining (marked_inner reader.new)) (W.contents (marked_inner writer.old))
+        (W.contents (marked_inner writer.new)) result }
+    ensures read { (result ≡ Err (Fault.List (ListFault.Run Failure.Read)))
+        ↔ (has_failed reader.new ≡ true) }
+    ensures write { (result ≡ Err (Fault.List (ListFault.Run Failure.Write)))
+        ↔ (has_failed writer.new ≡ true) }
+{
+    match run(alloc, &OnPlatform::<E>::new(settings), reader, writer) {
+        Ok(()) => Ok(()),
+        Err(fault) => Err(Fault::List(fault)),
     }
 }
 
 /// Writes the help.
 fn write_help<W: Write>(writer: &mut Marked<W>) -> Result<(), Fault>
     requires { has_failed writer.old ≡ false }
-    ensures help { WritesHelp (W.contents (marked_inner writer.old))
+    ensures help { WritesText help_text (OfList (ListFault.Run Failure.Write)) (W.contents (marked_inner writer.old))
         (W.contents (marked_inner writer.new)) result }
-    ensures no_read { result ≢ Err (Fault.Run Reason.Read) }
-    ensures write { (result ≡ Err (Fault.Run Reason.Write)) ↔ (has_failed writer.new ≡ true) }
+    ensures no_read { result ≢ Err (Fault.List (ListFault.Run Failure.Read)) }
+    ensures write { (result ≡ Err (Fault.List (ListFault.Run Failure.Write))) ↔ (has_failed writer.new ≡ true) }
 {
-    write_output(
+    let answer = write_out(
         writer,
         "names: lists of file names, escaped one a line, and back\n\nnames list   unix|windows|wasm [GLOB]  names ended by NUL in, the escape of each out, one a line;\n                                       with GLOB of those that it matches\nnames filter unix|windows|wasm GLOB    names ended by NUL in, those that GLOB matches out, ended by NUL\nnames join   unix|windows|wasm         such lines in, names ended by NUL out\nnames join   .. --unterminated         the same, where the last line may lack its newline\nnames check  unix|windows|wasm         names ended by NUL in, nothing out: the status tells\nnames --help                           this text\nnames --max N ..                       one of these, for names of at most N bytes, not 1048576\n\nThe last name may lack its NUL. A last line without its newline is refused, since a list that was\ncut off ends with one. A line has at most six times as many bytes as a name.\n\nGLOB matches a whole name, ./ and folders too. * is any run of symbols without a separator, ** any run,\n? one symbol that is no separator, [a-z] one of these and [!a-z] one of the others, also no separator;\n\\ quotes the character after it, other characters are themselves. The separator is /. On windows \\ is\none as well: / in GLOB matches both, and \\ in GLOB still quotes. So **.rs matches ./src/a.rs, *.rs doesn't.\n\nStatus: 0, or 1 where a name or line is refused, 2 for other words or a GLOB that is refused, 3 where\nmemory is refused, 4 where a read or write fails. The first refused name is told with its number,\nfrom 1.\n".as_bytes(),
-    )
+    );
+    match answer {
+        Ok(()) => Ok(()),
+        Err(_) => Err(Fault::List(ListFault::Run(Failure::Write))),
+    }
 }

@@ -1,8 +1,15 @@
 //! What is done with the items of the input.
 ghost use Rattle.std.specs.Prelude.{◌≡◌, ◌↔◌, ◌-◌, ◌^◌, IsTrue, min};
-ghost use Rattle.names_commands.specs.Task.{TakesUnended, end_of, longest_item};
+ghost use Rattle.names_commands.specs.Task.{TakesUnended, end_of, longest_item, rules_of};
 
+use crate::fault::Refusal;
+use crate::item::write_item;
 use os_glob::{Glob, GlobOptions};
+use os_str_bytes::Platform;
+use program_frame::lists::fault::ItemFault;
+use program_frame::lists::task::ListTask;
+use std::alloc::Allocator;
+use std::marker::PhantomData;
 
 /// Whether the last line of the input may lack its newline.
 #[derive(Clone, Copy, PartialEq, Eq)]
@@ -91,5 +98,64 @@ impl<'g, 'p> Task<'g, 'p> {
             Task::Join(LastLine::MustEnd) => false,
             Task::Join(LastLine::MayLackEnd) => true,
         }
+    }
+}
+
+/// What is done with each name of a list of a platform.
+#[derive(Clone, Copy)]
+pub struct OnPlatform<'g, 'p, E> {
+    /// What is done with each item, and how long a name may be.
+    pub settings: Settings<'g, 'p>,
+    platform: PhantomData<E>,
+}
+
+impl<'g, 'p, E> OnPlatform<'g, 'p, E> {
+    /// These settings on the platform.
+    ///
+    /// ```
+    /// use names_commands::task::{OnPlatform, Settings, Task};
+    /// use os_str_bytes::Unix;
+    ///
+    /// let settings = Settings { task: Task::ListAll, max: 255 };
+    /// assert_eq!(rt; OnPlatform::<Unix>::new(settings).settings.max, 255);
+    /// ```
+    pub fn new(settings: Settings<'g, 'p>) -> OnPlatform<'g, 'p, E>
+        ensures { result.settings ≡ settings.entry }
+    {
+        OnPlatform {
+            settings,
+            platform: PhantomData,
+        }
+    }
+}
+
+impl<'g, 'p, E: Platform> ListTask for OnPlatform<'g, 'p, E> {
+    type Refusal = Refusal;
+
+    ghost rules = { λ on. rules_of ⟦<E as Platform>⟧ on.settings };
+
+    fn end(&self) -> u8 {
+        self.settings.task.end()
+    }
+
+    fn takes_unended(&self) -> bool {
+        self.settings.task.takes_unended()
+    }
+
+    fn max(&self) -> usize {
+        self.settings.max
+    }
+
+    fn longest_item(&self) -> usize {
+        self.settings.longest_item()
+    }
+
+    fn write_item<A: Allocator + Copy>(
+        &self,
+        alloc: A,
+        item: &[u8],
+        output: &mut Vec<u8, A>,
+    ) -> Result<(), ItemFault<Refusal>> {
+        write_item::<E, A>(alloc, self.settings, item, output)
     }
 }

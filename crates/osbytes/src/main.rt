@@ -3,9 +3,9 @@
 //! It hands its words and its ends to [`execute`], whose contract says what then is done.
 #![tactic(auto)]
 
-use osbytes_commands::ended::Ended;
+use program_frame::ended::Ended;
 use osbytes_commands::fault::Fault;
-use osbytes_commands::marked::Marked;
+use program_frame::marked::Marked;
 use osbytes_commands::program::execute;
 use std::env;
 

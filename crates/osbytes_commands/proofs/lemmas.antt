@@ -1,4 +1,3 @@
-pub mod Pieces
 pub mod UnitLines
 pub mod OneAnswer
 pub mod SameWords

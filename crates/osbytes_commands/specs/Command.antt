@@ -1,15 +1,9 @@
 -- The words that ask for each command.
 use Rattle.std.specs.Prelude.{◌≡◌, ℕ, List, [], ◌∷◌, length, codes}
-use Rattle.osbytes_commands.specs.declared.command.Os.{Os}
-use Rattle.osbytes_commands.specs.declared.command.Os.TheVariants.{Unix, Windows, Wasm}
+use Rattle.program_frame.specs.Os.{os_word}
+use Rattle.program_frame.specs.declared.os.Os.{Os}
 use Rattle.osbytes_commands.specs.declared.command.Command.{Command}
 use Rattle.osbytes_commands.specs.declared.command.Command.TheVariants.{Units, Raw, Find, Split, Chunks, Quote, Unquote}
-
--- the word for the platform
-abbrev pub os_word : Os → List ℕ
-os_word Unix = codes "unix"
-os_word Windows = codes "windows"
-os_word Wasm = codes "wasm"
 
 -- the words after the program's name that ask for the command
 abbrev pub words_of : Command → List (List ℕ)

@@ -1,10 +1,6 @@
 pub mod Command
 pub mod Fault
-pub mod Marked
-pub mod Written
 pub mod Lines
-pub mod Strings
 pub mod Output
 pub mod Run
-pub mod Ended
 pub mod Program

@@ -2,8 +2,8 @@
 use Rattle.std.specs.Prelude.{◌≡◌, ◌≢◌, ℕ, ◌+◌, ◌/◌, ◌%◌, ◌^◌, ◌<◌, nat_lt, if◌then◌else◌, List, [], ◌∷◌, ◌++◌, length, All, codes, decimal, Option, None, Some}
 use Rattle.std.specs.List.{flat_map}
 use Rattle.os_str_bytes.specs.Chunks.{Chunk}
-use Rattle.osbytes_commands.specs.declared.command.Os.{Os}
-use Rattle.osbytes_commands.specs.declared.command.Os.TheVariants.{Unix, Windows, Wasm}
+use Rattle.program_frame.specs.declared.os.Os.{Os}
+use Rattle.program_frame.specs.declared.os.Os.TheVariants.{Unix, Windows, Wasm}
 
 -- a unit of the platform: a byte, on Windows a number of 16 bits
 abbrev pub IsUnit : Os → ℕ → Type 0

@@ -17,7 +17,7 @@ use Rattle.osbytes_commands.specs.declared.fault.Fault.{Fault}
 use Rattle.osbytes_commands.specs.declared.fault.Fault.TheVariants.{Refused, BadLine, BadQuote, Usage, Memory, Read, Write}
 use Rattle.osbytes_commands.specs.Command.{os_of}
 use Rattle.osbytes_commands.specs.Lines.{unit_lines, index_line, piece_lines, chunk_lines, AreUnitLines, IsFirstBadLine}
-use Rattle.osbytes_commands.specs.Strings.{strings}
+use Rattle.program_frame.specs.Strings.{strings}
 
 -- the first line that the command can't read: for `raw` the first that is no unit's
 abbrev pub HasBadLine : Command → List ℕ → ℕ → Type 0

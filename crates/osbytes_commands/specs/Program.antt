@@ -1,17 +1,11 @@
 -- The whole program, from the words after its name to its exit status.
-use Rattle.std.specs.Prelude.{◌≡◌, ℕ, List, drop, map, Option, IfErr, OnOk, Result, Err, String, string_bytes}
-use Rattle.std.specs.Vec.Iter.{into_iter_items}
-use Rattle.std.specs.declared.vec.IntoIter.{IntoIter}
+use Rattle.std.specs.Prelude.{◌≡◌, ℕ, List, Option, IfErr, OnOk, Result, Err}
 use Rattle.osbytes_commands.specs.declared.command.Command.{Command}
 use Rattle.osbytes_commands.specs.declared.fault.Fault.{Fault}
 use Rattle.osbytes_commands.specs.declared.fault.Fault.TheVariants.{Write}
 use Rattle.osbytes_commands.specs.Command.{words_of, IsUnusable}
 use Rattle.osbytes_commands.specs.Output.{IsOfInput}
 use Rattle.osbytes_commands.specs.Run.{WritesOutput, WritesBeginning, RefusesInput, AnswersRefusal}
-
--- the words after the first of the arguments, which is the program's name
-abbrev pub words_after_name : {A : Type 0} → IntoIter (String A) A → List (List ℕ)
-words_after_name args = map string_bytes (drop 1 (into_iter_items args))
 
 -- no command that can run has these words
 abbrev pub AreNoCommand : List (List ℕ) → Type 0

@@ -5,7 +5,7 @@ use Rattle.osbytes_commands.specs.declared.command.Command.{Command}
 use Rattle.osbytes_commands.specs.declared.fault.Fault.{Fault}
 use Rattle.osbytes_commands.specs.declared.fault.Fault.TheVariants.{Read, Memory}
 use Rattle.osbytes_commands.specs.Output.{IsOutput, IsRefusal}
-use Rattle.osbytes_commands.specs.Written.{AppendsBeginning}
+use Rattle.program_frame.specs.Written.{AppendsBeginning}
 
 -- the contents grew by the output for the input
 abbrev pub WritesOutput : Command → Option (List ℕ) → Option (List ℕ) → Option (List ℕ) → Type 0

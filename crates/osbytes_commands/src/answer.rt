@@ -4,7 +4,7 @@ ghost use Rattle.osbytes_commands.specs.Command.{os_of, IsUnusable};
 ghost use Rattle.osbytes_commands.specs.Output.{IsOutput, IsFault, IsOutputOn, IsFaultOn};
 
 use crate::chunks::chunks;
-use crate::command::{Command, Os};
+use crate::command::Command;
 use crate::fault::Fault;
 use crate::find::find;
 use crate::quoting::{quote, unquote};
@@ -13,6 +13,7 @@ use crate::split::split;
 use crate::target::Target;
 use crate::units::units;
 use os_str_bytes::{Platform, Unix, Wasm, Windows};
+use program_frame::os::Os;
 use std::alloc::Allocator;
 
 /// The output of the command for the whole of its input, or the fault that the input has.

@@ -1,21 +1,10 @@
 //! Commands, and the words that ask for them.
-ghost use Rattle.std.specs.Prelude.{◌≡◌, ◌≢◌, ◌↔◌, IsTrue, IfSome, IfNone, IfOk, IfErr, OnErr, map, string_bytes};
-ghost use Rattle.osbytes_commands.specs.Command.{os_word, os_of, words_of, IsUnusable};
-ghost use Rattle.osbytes_commands.specs.declared.command.Os.{Os};
+ghost use Rattle.std.specs.Prelude.{◌≡◌, ◌≢◌, ◌↔◌, IsTrue, IfOk, IfErr, OnErr, map, string_bytes};
+ghost use Rattle.osbytes_commands.specs.Command.{os_of, words_of, IsUnusable};
 ghost use Rattle.osbytes_commands.specs.declared.command.Command.{Command};
 
 use crate::fault::Fault;
-
-/// The platform whose strings a command is about.
-#[derive(Clone, Copy, PartialEq, Eq)]
-pub enum Os {
-    /// Strings of bytes.
-    Unix,
-    /// Strings of 16-bit units; their bytes are WTF-8.
-    Windows,
-    /// Strings of bytes that are UTF-8.
-    Wasm,
-}
+use program_frame::os::Os;
 
 /// What the program is asked to do with its input.
 #[derive(Clone, Copy, PartialEq, Eq)]
@@ -37,32 +26,12 @@ pub enum Command<'a> {
     Unquote(Os),
 }
 
-impl Os {
-    /// The platform that this word names: `unix`, `windows` or `wasm`.
-    ///
-    /// ```
-    /// use osbytes_commands::command::Os;
-    ///
-    /// assert!(rt; Os::named("wasm") == Some(Os::Wasm) && Os::named("linux").is_none());
-    /// ```
-    pub fn named(word: &str) -> Option<Os>
-        ensures some { IfSome result (λ os. word.now ≡ os_word os) }
-        ensures none { IfNone result ((os : Os) → word.now ≢ os_word os) }
-    {
-        match word {
-            "unix" => Some(Os::Unix),
-            "windows" => Some(Os::Windows),
-            "wasm" => Some(Os::Wasm),
-            _ => None,
-        }
-    }
-}
-
 impl<'a> Command<'a> {
     /// The platform whose strings the command is about.
     ///
     /// ```
-    /// use osbytes_commands::command::{Command, Os};
+    /// use osbytes_commands::command::Command;
+    /// use program_frame::os::Os;
     ///
     /// assert!(rt; Command::Find(Os::Windows, "a").os() == Os::Windows);
     /// ```
@@ -83,7 +52,8 @@ impl<'a> Command<'a> {
     /// Whether the command can't run, as `split` at the empty pattern can't.
     ///
     /// ```
-    /// use osbytes_commands::command::{Command, Os};
+    /// use osbytes_commands::command::Command;
+    /// use program_frame::os::Os;
     ///
     /// assert!(rt; Command::Split(Os::Unix, "").is_unusable());
     /// assert!(rt; !Command::Find(Os::Unix, "").is_unusable());
@@ -110,7 +80,8 @@ impl<'a> Command<'a> {
     /// [`Fault::Usage`] for all other words.
     ///
     /// ```
-    /// use osbytes_commands::command::{Command, Os};
+    /// use osbytes_commands::command::Command;
+    /// use program_frame::os::Os;
     /// use osbytes_commands::fault::Fault;
     ///
     /// let mut words = Vec::new(alloc);

@@ -1,14 +1,14 @@
 //! What keeps the program from its output.
-ghost use Rattle.std.specs.Prelude.{◌≡◌, Some, decimal};
-ghost use Rattle.std.specs.Fmt.{WritesStyledOnOk};
+ghost use Rattle.std.specs.Prelude.{◌≡◌, Some};
 ghost use Rattle.osbytes_commands.specs.declared.fault.Fault.TheVariants.{Refused, Memory};
 
-use crate::ended::ProgramFault;
 use os_quote::QuoteError;
 use os_str_bytes::EncodingError;
+use program_frame::ended::ProgramFault;
+use program_frame::fault::write_number;
 use std::alloc::{AllocError, AllocFailed};
 use std::fmt;
-use std::fmt::{Display as _, InlineText, Write as _};
+use std::fmt::Display as _;
 
 /// The reason why a run of the program wrote no output, or not all of it.
 ///
@@ -60,10 +60,8 @@ impl fmt::Display for Fault {
 }
 
 impl ProgramFault for Fault {
-    ghost use Rattle.std.specs.Prelude.{codes, refl};
+    ghost use Rattle.std.specs.Prelude.{refl};
     ghost use Rattle.osbytes_commands.specs.Fault.{text_of, status_of};
-
-    ghost name = { codes "osbytes" };
 
     ghost text_of = { text_of };
 
@@ -71,15 +69,11 @@ impl ProgramFault for Fault {
 
     ghost printed = { λ _. refl };
 
-    fn program_name() -> &'static str {
-        "osbytes"
-    }
-
     /// The status that the program ends with: 1 for input that it refuses, 2 for its
     /// words, 3 for want of memory, and 4 for a failed read or write. That of `BadLine(2)` is 1.
     ///
     /// ```
-    /// use osbytes_commands::ended::ProgramFault;
+    /// use program_frame::ended::ProgramFault;
     /// use osbytes_commands::fault::Fault;
     ///
     /// assert_eq!(rt; Fault::BadLine(2).status(), 1);
@@ -93,30 +87,6 @@ impl ProgramFault for Fault {
             Fault::Read | Fault::Write => 4,
         }
     }
-}
-
-/// Writes the decimal digits of a number, whatever width is asked for: a fault's text has no width.
-///
-/// ```
-/// use osbytes_commands::fault::write_number;
-/// use std::fmt;
-///
-/// struct Number(usize);
-///
-/// impl fmt::Display for Number {
-///     fn fmt<W: fmt::Write>(&self, f: &mut fmt::Formatter<W>) -> fmt::Result {
-///         write_number(self.0, f)
-///     }
-/// }
-///
-/// assert_eq!(rt; Number(17).to_string(alloc)?.as_str(), "17");
-/// ```
-pub fn write_number<W: fmt::Write>(number: usize, f: &mut fmt::Formatter<W>) -> fmt::Result
-    ensures { WritesStyledOnOk W.write_str_gives f.old result (decimal number) f.new }
-{
-    let mut digits = InlineText::<20>::new();
-    write!(digits, "{number}")?;
-    f.write_str(digits.as_str())
 }
 
 impl From<EncodingError> for Fault {

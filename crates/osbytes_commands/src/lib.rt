@@ -5,23 +5,20 @@
 //! a [`Fault`](fault::Fault) says why ([`program::execute`]).
 //!
 //! Two of its calls have a `requires`: [`run::run`] and [`program::execute`] take a reader and a
-//! writer whose marks are unset, as [`marked::Marked::new`] makes them.
+//! writer whose marks are unset, as `Marked::new` makes them.
 #![tactic(auto)]
 
 mod answer;
 mod chunks;
 pub mod command;
-pub mod ended;
 pub mod fault;
 mod find;
 mod lines;
-pub mod marked;
 pub mod program;
 mod quoting;
 mod raw;
 pub mod run;
 mod split;
-pub mod string;
+mod string;
 mod target;
-pub mod telling;
 mod units;

@@ -1,7 +1,7 @@
 //! Units as lines of hexadecimal digits.
 ghost use Rattle.std.specs.Prelude.{◌≡◌, ◌≢◌, ℕ, ◌<◌, ◌++◌, IfSome, IfNone, IfOk, OnOk};
 ghost use Rattle.os_str_bytes.specs.Strings.{bytes};
-ghost use Rattle.osbytes_commands.specs.declared.command.Os.{Os};
+ghost use Rattle.program_frame.specs.declared.os.Os.{Os};
 ghost use Rattle.osbytes_commands.specs.Lines.{hex_digit, lower_byte_digits, piece_digits, unit_line, unit_lines, BeginsWithUnitLine};
 
 use os_str_bytes::{OsStr, Platform, Windows};

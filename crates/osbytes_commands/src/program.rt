@@ -1,33 +1,25 @@
 //! The whole program, over ends of any kind.
-ghost use Rattle.std.specs.Prelude.{◌≡◌, ◌≢◌, ◌⊎◌, ◌↔◌, true, false, codes, drop, map, string_bytes, IfOk, IfErr, OnOk, IsOk};
+ghost use Rattle.std.specs.Prelude.{◌≡◌, ◌≢◌, ◌⊎◌, ◌↔◌, true, false, codes, map, string_bytes, IfOk, IfErr, OnOk, IsOk};
 ghost use Rattle.std.specs.Io.KnownBytes.{Appends, IsAtEnd};
 ghost use Rattle.std.specs.IoError.{error_kind};
-ghost use Rattle.std.specs.Vec.Iter.{into_iter_items};
-ghost use Rattle.osbytes_commands.specs.Ended.{message, outcome_of, was_told};
+ghost use Rattle.program_frame.specs.Ended.{message, outcome_of, was_told};
 ghost use Rattle.osbytes_commands.specs.Fault.{text_of};
-ghost use Rattle.osbytes_commands.specs.Marked.{marked_inner, has_failed, is_closed};
-ghost use Rattle.osbytes_commands.specs.Program.{words_after_name, AreNoCommand, RunsTo};
-ghost use Rattle.osbytes_commands.specs.Written.{AppendsBeginning};
+ghost use Rattle.program_frame.specs.Marked.{marked_inner, has_failed, is_closed};
+ghost use Rattle.program_frame.specs.Words.{words_after_name};
+ghost use Rattle.osbytes_commands.specs.Program.{AreNoCommand, RunsTo};
+ghost use Rattle.program_frame.specs.Written.{AppendsBeginning};
 
 use crate::command::Command;
-use crate::ended::Ended;
 use crate::fault::Fault;
-use crate::marked::Marked;
 use crate::run::run;
-use std::alloc::{AllocError, Allocator};
+use program_frame::ended::Ended;
+use program_frame::ends::{Messages, Output};
+use program_frame::marked::Marked;
+use program_frame::words::{NoWords, words};
+use std::alloc::Allocator;
 use std::env::Args;
 use std::io;
-use std::io::{ErrorKind, Read, Stderr, Stdout, Write};
-
-/// A writer that output goes to: standard output is one, standard error isn't.
-pub trait Output: Write {}
-
-impl Output for Stdout {}
-
-/// A writer that messages go to: standard error is one, standard output isn't.
-pub trait Messages: Write {}
-
-impl Messages for Stderr {}
+use std::io::{ErrorKind, Read, Write};
 
 /// The program with these arguments over these ends.
 ///
@@ -44,7 +36,7 @@ impl Messages for Stderr {}
 /// `errors`, and its status is 2.
 ///
 /// ```
-/// use osbytes_commands::marked::Marked;
+/// use program_frame::marked::Marked;
 /// use osbytes_commands::program::execute;
 /// use std::process::{ExitCode, Termination};
 ///
@@ -101,47 +93,11 @@ pub fn execute<A: Allocator, R: Read, W: Output, E: Messages>(
     match words(&alloc, args) {
         Ok(words) => {
             let outcome = run_words(&alloc, &words, reader, writer);
-            Ended::telling_unless(writer.closed(), outcome, errors)
+            Ended::telling_unless("osbytes", writer.closed(), outcome, errors)
         }
-        Err(fault) => Ended::telling(Err(fault), errors),
+        Err(NoWords::Memory) => Ended::telling("osbytes", Err(Fault::Memory), errors),
+        Err(NoWords::Unreadable) => Ended::telling("osbytes", Err(Fault::Usage), errors),
     }
-}
-
-/// The words after the program's name, which is the first argument.
-///
-/// # Errors
-///
-/// [`Fault::Memory`] where memory was refused, and [`Fault::Usage`] where the arguments couldn't be
-/// had for another reason.
-///
-/// ```
-/// use osbytes_commands::program::words;
-///
-/// let no_words = Ok(Vec::new(alloc).into_iter());
-/// assert!(rt; words(alloc, no_words).is_ok_and(|words| words.is_empty()));
-/// ```
-pub fn words<A: Allocator>(alloc: A, args: io::Result<Args>) -> Result<Vec<String, A>, Fault>
-    ensures ok { OnOk result (IsOk args) }
-    ensures words { IfOk result (λ words. IfOk args
-        (λ args. map string_bytes words.items ≡ words_after_name args)) }
-    ensures memory { IfOk args (λ _. IfErr result (λ fault. fault ≡ Fault.Memory)) }
-    ensures no_words { IfErr args
-        (λ error. error_kind error ≢ ErrorKind.OutOfMemory → result ≡ Err Fault.Usage) }
-    ensures no_memory { IfErr args
-        (λ error. error_kind error ≡ ErrorKind.OutOfMemory → result ≡ Err Fault.Memory) }
-{
-    match args {
-        Ok(args) => Ok(after_name(alloc, args)?),
-        Err(error) if error.kind() == ErrorKind::OutOfMemory => Err(Fault::Memory),
-        Err(_) => Err(Fault::Usage),
-    }
-}
-
-/// The arguments but the first.
-fn after_name<A: Allocator>(alloc: A, args: Args) -> Result<Vec<String, A>, AllocError>
-    ensures { IfOk result (λ words. words.items ≡ drop 1 (into_iter_items args)) }
-{
-    args.skip(1).collect(alloc)
 }
 
 /// The answer of the run of the command that has these words.

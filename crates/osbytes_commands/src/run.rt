@@ -2,15 +2,16 @@
 ghost use Rattle.std.specs.Prelude.{◌≡◌, ◌≢◌, ◌⊎◌, ◌↔◌, true, false, IfOk, IfErr, OnOk, OnErr};
 ghost use Rattle.std.specs.Io.KnownBytes.{Appends, Consumes, IsAtEnd};
 ghost use Rattle.osbytes_commands.specs.Command.{IsUnusable};
-ghost use Rattle.osbytes_commands.specs.Marked.{marked_inner, has_failed};
+ghost use Rattle.program_frame.specs.Marked.{marked_inner, has_failed};
 ghost use Rattle.osbytes_commands.specs.Output.{IsOfInput};
-ghost use Rattle.osbytes_commands.specs.Written.{AppendsBeginning};
+ghost use Rattle.program_frame.specs.Written.{AppendsBeginning};
 ghost use Rattle.osbytes_commands.specs.Run.{WritesOutput, WritesBeginning, RefusesInput, AnswersRefusal};
 
 use crate::answer::answer;
 use crate::command::Command;
 use crate::fault::Fault;
-use crate::marked::Marked;
+use program_frame::marked::Marked;
+use program_frame::writing::write_out;
 use std::alloc::Allocator;
 use std::io::{Read, Write};
 
@@ -26,8 +27,9 @@ use std::io::{Read, Write};
 /// the output.
 ///
 /// ```
-/// use osbytes_commands::command::{Command, Os};
-/// use osbytes_commands::marked::Marked;
+/// use osbytes_commands::command::Command;
+/// use program_frame::os::Os;
+/// use program_frame::marked::Marked;
 /// use osbytes_commands::run::run;
 ///
 /// let input: &[u8] = b"\xF0\x90\x80\x80";
@@ -75,7 +77,10 @@ pub fn run<A: Allocator, R: Read, W: Write>(
     }
     let input = read_all(&alloc, reader)?;
     let output = answer(&alloc, command, &input)?;
-    write_out(writer, &output)
+    match write_out(writer, &output) {
+        Ok(()) => Ok(()),
+        Err(_) => Err(Fault::Write),
+    }
 }
 
 /// All that the reader has left.
@@ -96,45 +101,5 @@ fn read_all<A: Allocator, R: Read>(alloc: A, reader: &mut Marked<R>) -> Result<V
             Ok(count) => input.extend_from_slice(&piece[..count])?,
             Err(_) => return Err(Fault::Read),
         }
-    }
-}
-
-/// Writes all of the output, and flushes. The mark must be unset ([`Marked::failed`] tells).
-///
-/// # Errors
-///
-/// [`Fault::Write`] where a write failed or took nothing, or the flush failed. A beginning of the
-/// output was written then.
-///
-/// ```
-/// use osbytes_commands::marked::Marked;
-/// use osbytes_commands::run::write_out;
-///
-/// let mut taken = Vec::new(alloc);
-/// let mut writer = Marked::new(&mut taken);
-/// assert!(rt; write_out(&mut writer, b"ab") == Ok(()));
-/// assert_eq!(rt; taken.as_slice(), b"ab".as_slice());
-/// ```
-#[tactic(auto, using(crate::proofs::lemmas::Pieces::pieces))]
-pub fn write_out<W: Write>(writer: &mut Marked<W>, output: &[u8]) -> Result<(), Fault>
-    requires { has_failed writer.old ≡ false }
-    ensures written { OnOk result (Appends (W.contents (marked_inner writer.old))
-        (W.contents (marked_inner writer.new)) output.now) }
-    ensures unmarked { OnOk result (has_failed writer.new ≡ false) }
-    ensures fault { IfErr result (λ fault. fault ≡ Fault.Write) }
-    ensures marked { OnErr result (has_failed writer.new ≡ true) }
-    ensures beginning { OnErr result (AppendsBeginning (W.contents (marked_inner writer.old))
-        (W.contents (marked_inner writer.new)) output.now) }
-{
-    let mut written = 0;
-    while written < output.len() {
-        match writer.write(&output[written..]) {
-            Ok(0) | Err(_) => return Err(Fault::Write),
-            Ok(count) => written += count,
-        }
-    }
-    match writer.flush() {
-        Ok(()) => Ok(()),
-        Err(_) => Err(Fault::Write),
     }
 }

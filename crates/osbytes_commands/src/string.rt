@@ -12,14 +12,6 @@ use os_str_bytes::{OsStr, Platform, laws};
 /// # Errors
 ///
 /// [`Fault::Refused`] with the first fault of bytes that aren't a string.
-///
-/// ```
-/// use osbytes_commands::string::string;
-/// use os_str_bytes::{Wasm, Windows};
-///
-/// let half = b"\xED\xA0\x80";
-/// assert!(rt; string::<Windows>(half).is_ok() && string::<Wasm>(half).is_err());
-/// ```
 pub fn string<'a, E: Platform>(input: &'a [u8]) -> Result<OsStr<'a, E>, Fault>
     ensures bytes { IfOk result (λ string. bytes string ≡ input.now) }
     ensures formed { IfOk result (λ _. E.well_formed input.now) }
@@ -28,6 +20,5 @@ pub fn string<'a, E: Platform>(input: &'a [u8]) -> Result<OsStr<'a, E>, Fault>
     ensures refused { RefusesNoString ⟦<E as Platform>⟧ input.now result }
 {
     laws::faults::<E>();
-    E::check(input)?;
-    Ok(OsStr::from_encoded_bytes_unchecked(input))
+    Ok(OsStr::checked(input)?)
 }

@@ -1,6 +1,6 @@
 //! The platforms that commands name.
 ghost use Rattle.std.specs.Prelude.{◌≡◌, ◌++◌, ℕ, All, map, IfSome, IfNone, IfOk, MatchResult};
-ghost use Rattle.osbytes_commands.specs.declared.command.Os.{Os};
+ghost use Rattle.program_frame.specs.declared.os.Os.{Os};
 ghost use Rattle.osbytes_commands.specs.Lines.{IsUnit, unit_line, unit_lines, BeginsWithUnitLine};
 
 use crate::lines::{byte_lines, leading_byte, leading_wide, wide_lines};

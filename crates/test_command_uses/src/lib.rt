@@ -20,8 +20,7 @@ pub use names::{
 pub use plans::{kept, refuses_first, turns};
 pub use programs::{
     after_a_fault, after_success, names_silent_where_closed, names_without_arguments,
-    program_names, silent_where_closed, statuses, untold, with_arguments, with_words,
-    without_arguments,
+    silent_where_closed, statuses, untold, with_arguments, with_words, without_arguments,
 };
 pub use runs::{faults_match_marks, run_once, split_at_nothing};
 pub use words::{known_words, splits_at_nothing, too_many_words};

@@ -1,7 +1,7 @@
 //! Marks of readers and writers.
 ghost use Rattle.std.specs.Prelude.{◌≡◌, ◌↔◌, false, IsTrue};
 
-use osbytes_commands::marked::Marked;
+use program_frame::marked::Marked;
 use std::io::{ErrorKind, Write};
 
 /// Whether a write of no bytes that answers `Ok` sets a writer's mark.

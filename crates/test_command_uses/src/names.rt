@@ -5,24 +5,27 @@ ghost use Rattle.os_quote.specs.Escape.{IsLineEscape};
 ghost use Rattle.os_glob.specs.Match.{IsMatch};
 ghost use Rattle.os_str_bytes.specs.EncodingError.{EncodingError};
 ghost use Rattle.os_str_bytes.specs.Symbols.{symbols_of};
-ghost use Rattle.osbytes_commands.specs.Marked.{marked_inner, has_failed};
-ghost use Rattle.osbytes_commands.specs.declared.fault.Fault.{Fault as Reason};
-ghost use Rattle.osbytes_commands.specs.declared.fault.Fault.TheVariants.{Refused, Write as WriteFault};
+ghost use Rattle.program_frame.specs.Items.{Lacks};
+ghost use Rattle.program_frame.specs.ListRun.{IsOutput, StopsOn};
+ghost use Rattle.program_frame.specs.Marked.{marked_inner, has_failed};
+ghost use Rattle.program_frame.specs.declared.fault.Failure.TheVariants.{Write as WriteFailure};
+ghost use Rattle.program_frame.specs.declared.lists.fault.ListFault.TheVariants.{Refused, Run};
 ghost use Rattle.names_commands.specs.Back.{listing, AreFirst, IsCompleted};
 ghost use Rattle.names_commands.specs.Command.{AsksFor};
-ghost use Rattle.names_commands.specs.Items.{Lacks};
-ghost use Rattle.names_commands.specs.Run.{IsOutput, StopsOn};
+ghost use Rattle.names_commands.specs.Task.{rules_of};
 ghost use Rattle.names_commands.specs.declared.command.Request.{Request};
-ghost use Rattle.names_commands.specs.declared.fault.Fault.TheVariants.{At, Run};
+ghost use Rattle.names_commands.specs.declared.fault.Refusal.{Refusal};
+ghost use Rattle.names_commands.specs.declared.fault.Refusal.TheVariants.{NoString};
 
 use names_commands::command::Request;
-use names_commands::fault::Fault;
+use names_commands::fault::{Fault, Refusal};
 use names_commands::laws::names_come_back;
-use names_commands::run::run;
-use names_commands::task::{LastLine, Settings, Task};
+use names_commands::task::{LastLine, OnPlatform, Settings, Task};
 use os_glob::{Glob, GlobOptions};
 use os_str_bytes::Platform;
-use osbytes_commands::marked::Marked;
+use program_frame::lists::fault::ListFault;
+use program_frame::lists::run::run;
+use program_frame::marked::Marked;
 use std::alloc::Allocator;
 use std::io::Write;
 
@@ -46,19 +49,19 @@ fn run_over<E: Platform, A: Allocator, W: Write>(
     settings: Settings<'_, '_>,
     input: &[u8],
     writer: &mut Marked<W>,
-) -> Result<(), Fault>
+) -> Result<(), ListFault<Refusal>>
     requires { has_failed writer.old ≡ false }
     ensures written { OnOk result ((output : List ℕ)
-        × (IsOutput ⟦<E as Platform>⟧ settings.entry input.now output
+        × (IsOutput (rules_of ⟦<E as Platform>⟧ settings.entry) input.now output
         × Appends (W.contents (marked_inner writer.old)) (W.contents (marked_inner writer.new))
         output)) }
-    ensures stopped { IfErr result (λ fault. fault ≢ Run WriteFault → (output : List ℕ)
-        × (StopsOn ⟦<E as Platform>⟧ settings.entry input.now output fault
+    ensures stopped { IfErr result (λ fault. fault ≢ Run WriteFailure → (output : List ℕ)
+        × (StopsOn (rules_of ⟦<E as Platform>⟧ settings.entry) input.now output fault
         × Appends (W.contents (marked_inner writer.old)) (W.contents (marked_inner writer.new))
         output)) }
 {
     let mut reader = Marked::new(input);
-    run::<E, A, _, _>(alloc, settings, &mut reader, writer)
+    run(alloc, &OnPlatform::<E>::new(settings), &mut reader, writer)
 }
 
 /// Joins the lines that were written of names, which gives back the names.
@@ -68,8 +71,8 @@ pub fn names_again<E: Platform, A: Allocator, W: Write>(
     names: &[u8],
     lines: &[u8],
     writer: &mut Marked<W>,
-) -> Result<(), Fault>
-    requires listed { IsOutput ⟦<E as Platform>⟧ (listing max) names.now lines.now }
+) -> Result<(), ListFault<Refusal>>
+    requires listed { IsOutput (rules_of ⟦<E as Platform>⟧ (listing max)) names.now lines.now }
     requires unmarked { has_failed writer.old ≡ false }
     ensures { OnOk result ((back : List ℕ) × (IsCompleted names.now back
         × Appends (W.contents (marked_inner writer.old)) (W.contents (marked_inner writer.new))
@@ -92,8 +95,8 @@ pub fn first_names_again<E: Platform, A: Allocator, W: Write>(
     lines: &[u8],
     cut: usize,
     writer: &mut Marked<W>,
-) -> Result<(), Fault>
-    requires listed { IsOutput ⟦<E as Platform>⟧ (listing max) names.now lines.now }
+) -> Result<(), ListFault<Refusal>>
+    requires listed { IsOutput (rules_of ⟦<E as Platform>⟧ (listing max)) names.now lines.now }
     requires within { cut ≤ length lines.now }
     requires unmarked { has_failed writer.old ≡ false }
     ensures { OnOk result ((suffix : List ℕ) × (AreFirst names.now suffix
@@ -115,7 +118,7 @@ pub fn unended_line<E: Platform, A: Allocator, W: Write>(
     max: usize,
     line: &[u8],
     writer: &mut Marked<W>,
-) -> Result<(), Fault>
+) -> Result<(), ListFault<Refusal>>
     requires whole { Lacks 0x0A line.now }
     requires some { line.now ≢ [] }
     requires unmarked { has_failed writer.old ≡ false }
@@ -136,7 +139,7 @@ pub fn filtered<E: Platform, A: Allocator, W: Write>(
     glob: &Glob<'_>,
     name: &[u8],
     writer: &mut Marked<W>,
-) -> Result<(), Fault>
+) -> Result<(), ListFault<Refusal>>
     requires whole { Lacks 0 name.now }
     requires some { name.now ≢ [] }
     requires unmarked { has_failed writer.old ≡ false }
@@ -159,7 +162,7 @@ pub fn line_of<E: Platform, A: Allocator, W: Write>(
     max: usize,
     name: &[u8],
     writer: &mut Marked<W>,
-) -> Result<(), Fault>
+) -> Result<(), ListFault<Refusal>>
     requires whole { Lacks 0 name.now }
     requires some { name.now ≢ [] }
     requires unmarked { has_failed writer.old ≡ false }
@@ -181,10 +184,10 @@ pub fn line_before<E: Platform, A: Allocator, W: Write>(
     max: usize,
     names: &[u8],
     writer: &mut Marked<W>,
-) -> Result<(), Fault>
+) -> Result<(), ListFault<Refusal>>
     requires { has_failed writer.old ≡ false }
-    ensures { IfErr result (λ fault. (name : List ℕ) → (rest : List ℕ) → (why : Reason)
-        → names.now ≡ name ++ 0 ∷ rest → Lacks 0 name → fault ≡ At 2 why → (line : List ℕ)
+    ensures { IfErr result (λ fault. (name : List ℕ) → (rest : List ℕ) → (why : Refusal)
+        → names.now ≡ name ++ 0 ∷ rest → Lacks 0 name → fault ≡ Refused 2 why → (line : List ℕ)
         × (IsLineEscape E.units name line
         × Appends (W.contents (marked_inner writer.old)) (W.contents (marked_inner writer.new))
         (line ++ 0x0A ∷ []))) }
@@ -202,11 +205,11 @@ pub fn check_one<E: Platform, A: Allocator, W: Write>(
     max: usize,
     name: &[u8],
     writer: &mut Marked<W>,
-) -> Result<(), Fault>
+) -> Result<(), ListFault<Refusal>>
     requires whole { Lacks 0 name.now }
     requires unmarked { has_failed writer.old ≡ false }
     ensures { IfErr result (λ fault. (number : ℕ) → (error : EncodingError)
-        → fault ≡ At number (Refused error) → (number ≡ 1) × E.first_fault name.now error) }
+        → fault ≡ Refused number (NoString error) → (number ≡ 1) × E.first_fault name.now error) }
 {
     let settings = Settings {
         task: Task::Check,

@@ -2,16 +2,19 @@
 ghost use Rattle.std.specs.Prelude.{◌≡◌, ◌<◌, true, false, OnOk, IsOk, codes, length};
 ghost use Rattle.std.specs.Io.KnownBytes.{Appends};
 ghost use Rattle.std.specs.Process.{exit_status};
-ghost use Rattle.osbytes_commands.specs.Ended.{message};
-ghost use Rattle.osbytes_commands.specs.Marked.{has_failed};
-ghost use Rattle.osbytes_commands.specs.Program.{AreNoCommand, words_after_name};
+ghost use Rattle.osbytes_commands.specs.Program.{AreNoCommand};
+ghost use Rattle.program_frame.specs.Ended.{message};
+ghost use Rattle.program_frame.specs.Marked.{has_failed};
+ghost use Rattle.program_frame.specs.Words.{words_after_name};
 
 use names_commands::fault::Fault as NamesFault;
 use names_commands::program::execute as execute_names;
-use osbytes_commands::ended::{Ended, ProgramFault};
 use osbytes_commands::fault::Fault;
-use osbytes_commands::marked::Marked;
-use osbytes_commands::program::{Messages, Output, execute};
+use osbytes_commands::program::execute;
+use program_frame::ended::{Ended, ProgramFault};
+use program_frame::ends::{Messages, Output};
+use program_frame::lists::fault::ListFault;
+use program_frame::marked::Marked;
 use std::alloc::{Allocator, Global};
 use std::env::Args;
 use std::io;
@@ -107,7 +110,7 @@ pub fn untold<F: ProgramFault, E: Write>(outcome: Result<(), F>, errors: &mut E)
     ensures outcome { result ≡ outcome }
     ensures quiet { errors.new ≡ errors.old }
 {
-    Ended::telling_unless(true, outcome, errors).outcome()
+    Ended::telling_unless("osbytes", true, outcome, errors).outcome()
 }
 
 /// The program for names where its arguments can't be had: whether it told why, and its status.
@@ -133,14 +136,15 @@ pub fn names_without_arguments<P: Eprint, A: Allocator, R: Read, W: Output, E: M
 /// The end of a program after a fault: whether it told it, and its status.
 pub fn after_a_fault<F: ProgramFault, P: Eprint, E: Write>(
     rt: &P,
+    program: &str,
     fault: F,
     errors: &mut E,
 ) -> (bool, ExitCode)
     ensures told { result.0 ≡ true → Appends (E.contents errors.old) (E.contents errors.new)
-        (message F.name (F.text_of fault)) }
+        (message program.now (F.text_of fault)) }
     ensures status { exit_status result.1 ≡ F.status_of fault }
 {
-    let ended = Ended::telling(Err(fault), errors);
+    let ended = Ended::telling(program, Err(fault), errors);
     let told = ended.told();
     (told, ended.report(rt))
 }
@@ -151,17 +155,9 @@ pub fn after_success<P: Eprint, E: Write>(rt: &P, errors: &mut E) -> (Result<(),
     ensures status { exit_status result.1 ≡ 0 }
     ensures quiet { errors.new ≡ errors.old }
 {
-    let ended = Ended::telling(Ok(()), errors);
+    let ended = Ended::telling("osbytes", Ok(()), errors);
     let outcome = ended.outcome();
     (outcome, ended.report(rt))
-}
-
-/// The names that the messages of the two programs begin with.
-pub fn program_names() -> (&'static str, &'static str)
-    ensures osbytes { result.0.now ≡ codes "osbytes" }
-    ensures names { result.1.now ≡ codes "names" }
-{
-    (Fault::program_name(), NamesFault::program_name())
 }
 
 /// The statuses after a bad line, after a name that is too long, and after a line without its end.
@@ -172,7 +168,7 @@ pub fn statuses() -> (u8, u8, u8)
 {
     (
         Fault::BadLine(2).status(),
-        NamesFault::TooLong(3, 255).status(),
-        NamesFault::Unended(3).status(),
+        NamesFault::List(ListFault::TooLong(3, 255)).status(),
+        NamesFault::List(ListFault::Unended(3)).status(),
     )
 }

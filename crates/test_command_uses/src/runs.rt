@@ -1,12 +1,13 @@
 //! Runs of commands.
 ghost use Rattle.std.specs.Prelude.{◌≡◌, ◌≢◌, IfErr, OnOk, false, true};
-ghost use Rattle.osbytes_commands.specs.Marked.{marked_inner, has_failed};
+ghost use Rattle.program_frame.specs.Marked.{marked_inner, has_failed};
 ghost use Rattle.osbytes_commands.specs.Run.{WritesOutput};
 
-use osbytes_commands::command::{Command, Os};
+use osbytes_commands::command::Command;
 use osbytes_commands::fault::Fault;
-use osbytes_commands::marked::Marked;
 use osbytes_commands::run::run;
+use program_frame::marked::Marked;
+use program_frame::os::Os;
 use std::alloc::Allocator;
 use std::io::{Read, Write};
 

@@ -3,8 +3,9 @@ ghost use Rattle.std.specs.Prelude.{◌≡◌, ◌<◌, IsOk, false, length, map
 ghost use Rattle.osbytes_commands.specs.Command.{words_of};
 ghost use Rattle.osbytes_commands.specs.declared.command.Command.{Command};
 
-use osbytes_commands::command::{Command, Os};
+use osbytes_commands::command::Command;
 use osbytes_commands::fault::Fault;
+use program_frame::os::Os;
 
 /// Whether a string can be split at the empty pattern.
 pub fn splits_at_nothing(os: Os) -> bool

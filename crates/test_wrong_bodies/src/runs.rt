@@ -1,12 +1,12 @@
 //! Runs of commands.
 ghost use Rattle.std.specs.Prelude.{◌≡◌, ◌↔◌, false, true, OnOk, Some};
-ghost use Rattle.osbytes_commands.specs.Marked.{marked_inner, has_failed};
+ghost use Rattle.program_frame.specs.Marked.{marked_inner, has_failed};
 ghost use Rattle.osbytes_commands.specs.Run.{WritesOutput};
 
 use osbytes_commands::command::Command;
 use osbytes_commands::fault::Fault;
-use osbytes_commands::marked::Marked;
 use osbytes_commands::run::run;
+use program_frame::marked::Marked;
 use std::alloc::Allocator;
 use std::io::{Read, Write};
 

@@ -1,19 +1,20 @@
 -- What `join` makes of the lines that `list` makes of names.
-use Rattle.std.proofs.Common.{◌≡◌, ◌≢◌, ⊎_elim, inl, inr, ℕ, ◌*◌, ◌≤◌, List, [], ◌∷◌, ◌++◌, length, drop, get_or, refl, sym, ap, ◌∙◌, subst, arith, append_assoc, append-nil, length-append}
+use Rattle.std.proofs.Common.{◌≡◌, ◌≢◌, ◌⊎◌, ⊎_elim, inl, inr, ℕ, ◌*◌, ◌≤◌, List, [], ◌∷◌, ◌++◌, length, drop, get_or, refl, sym, ap, ◌∙◌, subst, arith, append_assoc, append-nil, length-append}
 use Rattle.std.proofs.lemmas.Grind.{flat_map-append}
 use Rattle.std.specs.List.{AllByRecursion}
 use Rattle.os_str_bytes.specs.Platform.{Ghosts}
 use Rattle.os_quote.specs.Escape.{IsLineEscape}
-use Rattle.names_commands.specs.Items.{Entry, Lacks, IsLastUnended, ended, items_of, texts_of}
+use Rattle.program_frame.specs.Items.{Entry, Lacks, IsLastUnended, ended, items_of, texts_of}
 use Rattle.names_commands.specs.declared.task.LastLine.{LastLine}
 use Rattle.names_commands.specs.declared.task.LastLine.TheVariants.{MustEnd}
-use Rattle.names_commands.specs.declared.task.Task.TheVariants.{ListAll, Join}
-use Rattle.names_commands.specs.Task.{TakesUnended, AreIn, IsEntry}
-use Rattle.names_commands.specs.Run.{IsOutput}
+use Rattle.names_commands.specs.declared.task.Task.TheVariants.{Join}
+use Rattle.program_frame.specs.Rules.{AreIn, IsEntry}
+use Rattle.names_commands.specs.Task.{TakesUnended, rules_of}
+use Rattle.program_frame.specs.ListRun.{IsOutput}
 use Rattle.names_commands.specs.Back.{listing, joining, AreFirst, EndsWithNul, IsCompleted}
-use Rattle.names_commands.proofs.lemmas.Items.{end_in}
+use Rattle.program_frame.proofs.lemmas.lists.Items.{end_in}
 use Rattle.names_commands.proofs.lemmas.Lines.{AreLines}
-use Rattle.names_commands.proofs.lemmas.Reading.{more_items}
+use Rattle.program_frame.proofs.lemmas.lists.Reading.{more_items}
 
 head : (x y : ℕ) (xs ys : List ℕ) → x ∷ xs ≡ y ∷ ys → x ≡ y
 head x y xs ys e = ap (λ l. get_or l 0 0) e
@@ -59,7 +60,7 @@ ends (e ∷ es) = ⊎_elim
     (ends es)
 
 -- the names with their ends are the input with the end that the last may lack
-completed : (es : List Entry) (names : List ℕ) → AllByRecursion (λ e. Lacks 0 e.0) es → AreIn ListAll es names → IsCompleted names (items_of 0 es)
+completed : (es : List Entry) (names : List ℕ) → AllByRecursion (λ e. Lacks 0 e.0) es → (names ≡ items_of 0 es) ⊎ (Unit {0} × IsLastUnended 0 es names) → IsCompleted names (items_of 0 es)
 completed es names l (inl same) = inl (subst EndsWithNul (sym same) (ends es), sym same)
 completed es names l (inr last) =
     let u = last.1 in
@@ -77,13 +78,13 @@ completed es names l (inr last) =
 -- all names, each with the line that was joined and what it gave back
 pub record GivesBack {E : Type 0} (p : Ghosts E) (last : LastLine) (max : ℕ) (es : List Entry) : Type 0 where
   pub entries : List Entry
-  pub are : AllByRecursion (IsEntry p (joining last max)) entries
+  pub are : AllByRecursion (IsEntry (rules_of p (joining last max))) entries
   pub lines : texts_of es ≡ items_of 0x0A entries
   pub names : texts_of entries ≡ items_of 0 es
 
 module _ {E : Type 0} (p : Ghosts E) (law : AreLines p) where
   -- one name
-  joined : (last : LastLine) (max : ℕ) (e : Entry) (l : IsEntry p (listing max) e) → IsEntry p (joining last max) (l.text.1.0, e.0 ++ 0 ∷ [])
+  joined : (last : LastLine) (max : ℕ) (e : Entry) (l : IsEntry (rules_of p (listing max)) e) → IsEntry (rules_of p (joining last max)) (l.text.1.0, e.0 ++ 0 ∷ [])
   joined last max e l =
       let formed = l.text.0 in
       let line = l.text.1 in
@@ -95,7 +96,7 @@ module _ {E : Type 0} (p : Ghosts E) (law : AreLines p) where
         text = (e.0, record { formed = formed; escape = line.1; short = l.short }, (l.whole, refl));
       }
 
-  all_joined : (last : LastLine) (max : ℕ) (es : List Entry) → AllByRecursion (IsEntry p (listing max)) es → GivesBack p last max es
+  all_joined : (last : LastLine) (max : ℕ) (es : List Entry) → AllByRecursion (IsEntry (rules_of p (listing max))) es → GivesBack p last max es
   all_joined last max [] a = record { entries = []; are = tt; lines = refl; names = refl }
   all_joined last max (e ∷ es) a =
       let line = a.0.text.1 in
@@ -106,11 +107,11 @@ module _ {E : Type 0} (p : Ghosts E) (law : AreLines p) where
         names = ap (λ x. (e.0 ++ 0 ∷ []) ++ x) rest.names;
       }
 
-  whole_names : (max : ℕ) (es : List Entry) → AllByRecursion (IsEntry p (listing max)) es → AllByRecursion (λ e. Lacks 0 e.0) es
+  whole_names : (max : ℕ) (es : List Entry) → AllByRecursion (IsEntry (rules_of p (listing max))) es → AllByRecursion (λ e. Lacks 0 e.0) es
   whole_names max [] a = tt
   whole_names max (e ∷ es) a = (a.0.whole, whole_names max es a.1)
 
-  pub some_back : (last : LastLine) (max : ℕ) (names lines : List ℕ) → IsOutput p (listing max) names lines → (back : List ℕ) × (IsOutput p (joining last max) lines back × IsCompleted names back)
+  pub some_back : (last : LastLine) (max : ℕ) (names lines : List ℕ) → IsOutput (rules_of p (listing max)) names lines → (back : List ℕ) × (IsOutput (rules_of p (joining last max)) lines back × IsCompleted names back)
   some_back last max names lines o =
       let r = all_joined last max o.entries o.are in (
         items_of 0 o.entries,
@@ -121,26 +122,26 @@ module _ {E : Type 0} (p : Ghosts E) (law : AreLines p) where
       )
 
   -- the first line, and what comes after it
-  first_line : (max : ℕ) (e : Entry) (more : List ℕ) (l : IsEntry p (listing max) e) → e.1 ++ more ≡ l.text.1.0 ++ 0x0A ∷ more
+  first_line : (max : ℕ) (e : Entry) (more : List ℕ) (l : IsEntry (rules_of p (listing max)) e) → e.1 ++ more ≡ l.text.1.0 ++ 0x0A ∷ more
   first_line max e more l = ap (λ x. x ++ more) l.text.1.2 ∙ append_assoc l.text.1.0 (0x0A ∷ []) more
 
-  line_lacks : (max : ℕ) (e : Entry) (l : IsEntry p (listing max) e) → Lacks 0x0A l.text.1.0
+  line_lacks : (max : ℕ) (e : Entry) (l : IsEntry (rules_of p (listing max)) e) → Lacks 0x0A l.text.1.0
   line_lacks max e l = law.whole e.0 l.text.1.0 l.text.0 l.text.1.1
 
-  cut_line : (max : ℕ) (e : Entry) (more item rest : List ℕ) (l : IsEntry p (listing max) e) → Lacks 0x0A item → e.1 ++ more ≡ (item ++ 0x0A ∷ []) ++ rest → (l.text.1.0 ≡ item) × (more ≡ rest)
+  cut_line : (max : ℕ) (e : Entry) (more item rest : List ℕ) (l : IsEntry (rules_of p (listing max)) e) → Lacks 0x0A item → e.1 ++ more ≡ (item ++ 0x0A ∷ []) ++ rest → (l.text.1.0 ≡ item) × (more ≡ rest)
   cut_line max e more item rest l k q =
       cut_once 0x0A l.text.1.0 item more rest (line_lacks max e l) k
       (sym (first_line max e more l) ∙ q ∙ append_assoc item (0x0A ∷ []) rest)
 
   -- lines have their ends
-  no_last : (max : ℕ) (es before : List Entry) (last : List ℕ) → AllByRecursion (IsEntry p (listing max)) es → AllByRecursion (λ e. Lacks 0x0A e.0) before → last ≢ [] → Lacks 0x0A last → ¬ (texts_of es ≡ items_of 0x0A before ++ last)
+  no_last : (max : ℕ) (es before : List Entry) (last : List ℕ) → AllByRecursion (IsEntry (rules_of p (listing max))) es → AllByRecursion (λ e. Lacks 0x0A e.0) before → last ≢ [] → Lacks 0x0A last → ¬ (texts_of es ≡ items_of 0x0A before ++ last)
   no_last max [] before last a b some l q = none_left (items_of 0x0A before) last some (sym q)
   no_last max (e ∷ es) [] last a b some l q = end_in 0x0A a.0.text.1.0 (texts_of es) (subst (Lacks 0x0A) (sym q ∙ first_line max e (texts_of es) a.0) l)
   no_last max (e ∷ es) (d ∷ before) last a b some l q =
       let cut = cut_line max e (texts_of es) d.0 (items_of 0x0A before ++ last) a.0 b.0 (q ∙ append_assoc (d.0 ++ 0x0A ∷ []) (items_of 0x0A before) last) in
       no_last max es before last a.1 b.1 some l cut.1
 
-  whole_lines : (last : LastLine) (max : ℕ) (es : List Entry) → AllByRecursion (IsEntry p (joining last max)) es → AllByRecursion (λ e. Lacks 0x0A e.0) es
+  whole_lines : (last : LastLine) (max : ℕ) (es : List Entry) → AllByRecursion (IsEntry (rules_of p (joining last max))) es → AllByRecursion (λ e. Lacks 0x0A e.0) es
   whole_lines last max [] a = tt
   whole_lines last max (e ∷ es) a = (a.0.whole, whole_lines last max es a.1)
 
@@ -152,7 +153,7 @@ module _ {E : Type 0} (p : Ghosts E) (law : AreLines p) where
     names : texts ≡ items_of 0 some
     left : texts_of others ≡ rest
 
-  first_back : (last : LastLine) (max other : ℕ) (es fs : List Entry) (rest : List ℕ) → AllByRecursion (IsEntry p (listing max)) es → AllByRecursion (IsEntry p (joining last other)) fs → texts_of es ≡ items_of 0x0A fs ++ rest → AreJoined es rest (texts_of fs)
+  first_back : (last : LastLine) (max other : ℕ) (es fs : List Entry) (rest : List ℕ) → AllByRecursion (IsEntry (rules_of p (listing max))) es → AllByRecursion (IsEntry (rules_of p (joining last other))) fs → texts_of es ≡ items_of 0x0A fs ++ rest → AreJoined es rest (texts_of fs)
   first_back last max other es [] rest a b q = record { some = []; others = es; cut = refl; names = refl; left = q }
   first_back last max other [] (f ∷ fs) rest a b q = absurd (omega (arith, ap length q, length-append ((f.0 ++ 0x0A ∷ []) ++ items_of 0x0A fs) rest, length-append (f.0 ++ 0x0A ∷ []) (items_of 0x0A fs), length-append f.0 (0x0A ∷ [])))
   first_back last max other (e ∷ es) (f ∷ fs) rest a b q =
@@ -168,21 +169,21 @@ module _ {E : Type 0} (p : Ghosts E) (law : AreLines p) where
       }
 
   -- no lines, no names
-  none_of : (max : ℕ) (es : List Entry) → AllByRecursion (IsEntry p (listing max)) es → texts_of es ≡ [] → es ≡ []
+  none_of : (max : ℕ) (es : List Entry) → AllByRecursion (IsEntry (rules_of p (listing max))) es → texts_of es ≡ [] → es ≡ []
   none_of max [] a q = refl
   none_of max (e ∷ es) a q = absurd (omega (arith, ap length (sym (first_line max e (texts_of es) a.0) ∙ q), length-append a.0.text.1.0 (0x0A ∷ texts_of es)))
 
-  back_of : (last : LastLine) (max other : ℕ) (es fs : List Entry) → AllByRecursion (IsEntry p (listing max)) es → AllByRecursion (IsEntry p (joining last other)) fs → texts_of es ≡ items_of 0x0A fs → texts_of fs ≡ items_of 0 es
+  back_of : (last : LastLine) (max other : ℕ) (es fs : List Entry) → AllByRecursion (IsEntry (rules_of p (listing max))) es → AllByRecursion (IsEntry (rules_of p (joining last other))) fs → texts_of es ≡ items_of 0x0A fs → texts_of fs ≡ items_of 0 es
   back_of last max other es fs a b q =
       let j = first_back last max other es fs [] a b (q ∙ sym (append-nil (items_of 0x0A fs))) in
-      let none = none_of max j.others (all_after (IsEntry p (listing max)) j.some j.others (subst (AllByRecursion (IsEntry p (listing max))) j.cut a)) j.left in
+      let none = none_of max j.others (all_after (IsEntry (rules_of p (listing max))) j.some j.others (subst (AllByRecursion (IsEntry (rules_of p (listing max)))) j.cut a)) j.left in
       j.names ∙ ap (items_of 0) (sym (j.cut ∙ ap (λ x. j.some ++ x) none ∙ append-nil j.some))
 
-  pub same_back : (last : LastLine) (max other : ℕ) (names lines back : List ℕ) → IsOutput p (listing max) names lines → IsOutput p (joining last other) lines back → IsCompleted names back
+  pub same_back : (last : LastLine) (max other : ℕ) (names lines back : List ℕ) → IsOutput (rules_of p (listing max)) names lines → IsOutput (rules_of p (joining last other)) lines back → IsCompleted names back
   same_back last max other names lines back o q =
       let fs = q.entries in
       let all = completed o.entries names (whole_names max o.entries o.are) o.items in
-      let by : AreIn (Join last) fs lines → back ≡ items_of 0 o.entries = ⊎_elim
+      let by : AreIn (rules_of p (joining last other)) fs lines → back ≡ items_of 0 o.entries = ⊎_elim
       (λ same. q.written ∙ back_of last max other o.entries fs o.are q.are (sym o.written ∙ same))
       (λ (taken : TakesUnended (Join last) × IsLastUnended 0x0A fs lines).
       let u = taken.1 in
@@ -191,7 +192,7 @@ module _ {E : Type 0} (p : Ghosts E) (law : AreLines p) where
       subst (IsCompleted names) (sym (by q.items)) all
 
   -- of lines that were cut off, some of the first names
-  pub cut_suffix : (max other : ℕ) (names lines prefix rest suffix : List ℕ) → IsOutput p (listing max) names lines → lines ≡ prefix ++ rest → IsOutput p (joining MustEnd other) prefix suffix → AreFirst names suffix
+  pub cut_suffix : (max other : ℕ) (names lines prefix rest suffix : List ℕ) → IsOutput (rules_of p (listing max)) names lines → lines ≡ prefix ++ rest → IsOutput (rules_of p (joining MustEnd other)) prefix suffix → AreFirst names suffix
   cut_suffix max other names lines prefix rest suffix o cut q = ⊎_elim
       (λ same.
       let j = first_back MustEnd max other o.entries q.entries rest o.are q.are (sym o.written ∙ cut ∙ ap (λ x. x ++ rest) same) in

@@ -15,18 +15,14 @@ use Rattle.wtf8_core.proofs.lemmas.chunks.OneList.{some_chunks}
 use Rattle.os_str_ext.specs.Chunks.{chunks_of, IsChunkOf}
 use Rattle.wtf8_core.specs.Chunks.{AreChunks, Chunk}
 use Rattle.os_quote.specs.Escape.{IsLineEscape}
-use Rattle.os_quote.specs.Plain.{IsPlain, IsPlainUpTo}
 use Rattle.std.proofs.lemmas.List.Elements.{recursion_from_All}
-use Rattle.std.proofs.Math.Seq.{take-length}
-use Rattle.os_quote.specs.declared.form.Form.TheVariants.{Line}
-use Rattle.os_quote.proofs.lemmas.Escapes.{own_escape, one_escape, one_string}
+use Rattle.os_quote.proofs.lemmas.Escapes.{one_escape, one_string}
 use Rattle.os_quote.proofs.lemmas.ItemLengths.{escape_is_short}
 use Rattle.os_quote.proofs.lemmas.Lines.{escape_is_on_line}
-use Rattle.os_quote.proofs.lemmas.PlainBytes.{plain_prefix, plain_is_text, plain_is_own}
 use Rattle.os_quote.proofs.lemmas.Readings.{escape_is_text}
 use Rattle.os_str_bytes.specs.Platform.{Ghosts}
-use Rattle.names_commands.specs.Items.{Lacks}
-use Rattle.names_commands.proofs.lemmas.Reading.{lacks-append}
+use Rattle.program_frame.specs.Items.{Lacks}
+use Rattle.program_frame.proofs.lemmas.lists.Reading.{lacks-append}
 
 -- a newline is in a text where it is one of its characters
 low_form : (c : ℕ) → c < 0x80 → encode c ≡ c ∷ []
@@ -80,22 +76,3 @@ are_lines p parts each = record {
       let few : length all ≤ 6 * length s = escape_is_short stays_on_line p.well_formed p.units p.part_units parts each s w in
       omega (arith, few, ap length (one_escape stays_on_line p.units s text all e own));
 }
-
--- plain bytes
-all_plain : (bytes : List ℕ) → IsPlainUpTo bytes (length bytes) → AllByRecursion IsPlain bytes
-all_plain bytes h = subst (AllByRecursion IsPlain) (take-length bytes) (plain_prefix bytes (length bytes) h.plain)
-
-pub own_line : (well_formed : List ℕ → Type 0) (units : List ℕ → List ℕ) (part_units : List ℕ → Type 0) → PartLaws well_formed units part_units → well_formed [] → (bytes : List ℕ) → IsPlainUpTo bytes (length bytes) → IsLineEscape units bytes bytes
-own_line well_formed units part_units parts none bytes h =
-    let all = all_plain bytes h in
-    own_escape stays_on_line well_formed units part_units parts bytes none (plain_is_text bytes all) (plain_is_own Line bytes all)
-
-pub plain_is_utf8 : (bytes : List ℕ) → IsPlainUpTo bytes (length bytes) → IsUtf8 bytes
-plain_is_utf8 bytes h = plain_is_text bytes (all_plain bytes h)
-
-pub plain_lacks : (bytes : List ℕ) → IsPlainUpTo bytes (length bytes) → Lacks 0 bytes
-plain_lacks bytes h = by bytes (all_plain bytes h)
-  where
-    by : (bs : List ℕ) → AllByRecursion IsPlain bs → Lacks 0 bs
-    by [] a = tt
-    by (b ∷ bs) a = let low = a.0.0.0 in (λ e. omega (arith, low, e), by bs a.1)

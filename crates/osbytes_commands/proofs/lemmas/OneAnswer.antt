@@ -16,14 +16,14 @@ use Rattle.os_quote.specs.declared.error.QuoteError.TheVariants as quote
 use Rattle.os_quote.proofs.lemmas.EachChunk.{are_chunks_of}
 use Rattle.os_quote.proofs.lemmas.Escapes.{never_bad, one_bad_index}
 use Rattle.os_quote.proofs.lemmas.Readings.{escape_is_text}
-use Rattle.osbytes_commands.specs.declared.command.Os.{Os}
-use Rattle.osbytes_commands.specs.declared.command.Os.TheVariants.{Unix, Windows, Wasm}
+use Rattle.program_frame.specs.declared.os.Os.{Os}
+use Rattle.program_frame.specs.declared.os.Os.TheVariants.{Unix, Windows, Wasm}
 use Rattle.osbytes_commands.specs.declared.command.Command.{Command}
 use Rattle.osbytes_commands.specs.declared.command.Command.TheVariants.{Units, Raw, Find, Split, Chunks, Quote, Unquote}
 use Rattle.osbytes_commands.specs.declared.fault.Fault.{Fault}
 use Rattle.osbytes_commands.specs.declared.fault.Fault.TheVariants.{Refused, BadLine, BadQuote, Usage, Memory, Read, Write}
 use Rattle.osbytes_commands.specs.Command.{os_of}
-use Rattle.osbytes_commands.specs.Strings.{strings}
+use Rattle.program_frame.specs.Strings.{strings}
 use Rattle.osbytes_commands.specs.Output.{IsOutput, IsRefusal, HasFaultOn, HasBadLine, HasBadQuoteOn}
 use Rattle.osbytes_commands.specs.Run.{AnswersRefusal}
 use Rattle.osbytes_commands.proofs.lemmas.UnitLines.{one_list_of_lines, one_bad_line, no_bad_line}

@@ -2,18 +2,19 @@
 use Rattle.std.proofs.Common.{◌≡◌, ℕ, List, [], Option, Result, length, get_or, refl, sym, ap, subst, ◌∙◌, arith}
 use Rattle.std.specs.Prelude.{◌<◌, IfSome, IfErr, OnOk, Err, ◌⊎◌}
 use Rattle.std.specs.Io.KnownBytes.{Appends}
-use Rattle.osbytes_commands.specs.declared.command.Os.{Os}
-use Rattle.osbytes_commands.specs.declared.command.Os.TheVariants.{Unix, Windows, Wasm}
+use Rattle.program_frame.specs.declared.os.Os.{Os}
+use Rattle.program_frame.specs.declared.os.Os.TheVariants.{Unix, Windows, Wasm}
 use Rattle.osbytes_commands.specs.declared.command.Command.{Command}
 use Rattle.osbytes_commands.specs.declared.command.Command.TheVariants.{Units, Raw, Find, Split, Chunks, Quote, Unquote}
 use Rattle.osbytes_commands.specs.declared.fault.Fault.{Fault}
 use Rattle.osbytes_commands.specs.declared.fault.Fault.TheVariants.{Refused, BadLine, BadQuote, Usage, Memory, Read, Write}
-use Rattle.osbytes_commands.specs.Command.{os_word, words_of, IsUnusable}
+use Rattle.program_frame.specs.Os.{os_word}
+use Rattle.osbytes_commands.specs.Command.{words_of, IsUnusable}
 use Rattle.osbytes_commands.specs.Lines.{index_line, piece_lines}
 use Rattle.osbytes_commands.specs.Output.{IsOutput, IsRefusal, IsOfInput, FindsFirst, AreSplit}
 use Rattle.osbytes_commands.specs.Program.{IsOutcome}
-use Rattle.osbytes_commands.specs.Strings.{strings}
-use Rattle.osbytes_commands.specs.Written.{AppendsBeginning}
+use Rattle.program_frame.specs.Strings.{strings}
+use Rattle.program_frame.specs.Written.{AppendsBeginning}
 
 -- the refusals of `split` at a text
 abbrev SplitRefusal : Os → List ℕ → List ℕ → Fault → Type 0

@@ -4,8 +4,8 @@ use Rattle.std.proofs.lemmas.Bool.{cases_lt, lt-ltb, le-ltb}
 use Rattle.std.proofs.lemmas.Grind.{flat_map-append}
 use Rattle.std.proofs.lemmas.List.{append-nil, map-append}
 use Rattle.std.proofs.lemmas.List.Elements.{All-push}
-use Rattle.osbytes_commands.specs.declared.command.Os.{Os}
-use Rattle.osbytes_commands.specs.declared.command.Os.TheVariants.{Unix, Windows, Wasm}
+use Rattle.program_frame.specs.declared.os.Os.{Os}
+use Rattle.program_frame.specs.declared.os.Os.TheVariants.{Unix, Windows, Wasm}
 use Rattle.osbytes_commands.specs.Lines.{IsUnit, hex_digit, unit_line, unit_lines, AreUnitLines, BeginsWithUnitLine, IsFirstBadLine}
 
 first_is_unit : (os : Os) (u : ℕ) (us : List ℕ) → All (IsUnit os) (u ∷ us) → IsUnit os u

@@ -3,7 +3,8 @@ use Rattle.std.specs.Prelude.{false, IsTrue}
 use Rattle.os_str_bytes.specs.Symbols.{symbols_of}
 use Rattle.os_glob.specs.Match.{IsMatch}
 use Rattle.std.proofs.lemmas.Result.{on_ok_weaker, IfErr-weaker}
-use Rattle.names_commands.specs.Task.{IsItemFault, IsText}
+use Rattle.program_frame.specs.Rules.{IsItemFault}
+use Rattle.names_commands.specs.Task.{IsText, rules_of}
 use Rattle.names_commands.proofs.item.write_item.Goals as goal
 
 not_true : ¬ (IsTrue false)
@@ -45,5 +46,5 @@ returns-in-Join-clause-ok g c =
 pub returns-in-Join-clause-fault : goal.returns-in-Join-clause-fault
 returns-in-Join-clause-fault g c =
     IfErr-weaker c.write_name.result _ _
-    (λ fault is. subst (λ t. IsItemFault g.E.Platform (record { task = t; max = c.args.settings.max }) c.args.number c.args.item.now fault) (sym c.in-Join.is) (is c.in-Join.field-0))
+    (λ fault is. subst (λ t. IsItemFault (rules_of g.E.Platform (record { task = t; max = c.args.settings.max })) c.args.item.now fault) (sym c.in-Join.is) (is c.in-Join.field-0))
     c.write_name.ensures.fault

@@ -1,15 +1,12 @@
-use Rattle.std.proofs.Common.{◌≡◌, ◌++◌, ◌∷◌, [], rules, refl, subst, arith}
+use Rattle.std.proofs.Common.{◌++◌, ◌∷◌, [], rules, refl, subst, arith}
 use Rattle.std.proofs.lemmas.Str.{IsUtf8-nil}
 use Rattle.std.specs.Str.{IsUtf8}
 use Rattle.std.proofs.lemmas.Result.{on_ok_weaker}
 use Rattle.os_quote.specs.Escape.{IsLineFault}
-use Rattle.os_quote.specs.declared.error.QuoteError.TheVariants.{NotCanonical, Memory}
+use Rattle.os_quote.specs.declared.error.QuoteError.TheVariants.{NotCanonical}
 use Rattle.names_commands.specs.Task.{IsNameOf}
-use Rattle.names_commands.proofs.lemmas.Lines.{own_line, plain_is_utf8, plain_lacks}
+use Rattle.program_frame.proofs.lemmas.lists.Lines.{own_line, plain_is_utf8, plain_lacks}
 use Rattle.names_commands.proofs.item.write_name.Goals as goal
-
-other_error : NotCanonical ≡ Memory → ⊥
-other_error e = cc
 
 pub returns-in-Err-NotCanonical-clause-fault : goal.returns-in-Err-NotCanonical-clause-fault
 returns-in-Err-NotCanonical-clause-fault g c =
@@ -17,7 +14,7 @@ returns-in-Err-NotCanonical-clause-fault g c =
     let text = c.from_utf8_unchecked-text.result.now in
     let fault = subst (IsLineFault P.well_formed P.units text) c.in-Err-NotCanonical.field-0-is c.in-Err-NotCanonical.ensures.fault in
     let utf8 : IsUtf8 c.args.line.now = search rules in
-    λ last. (refl, (c.requires, (utf8, (other_error, subst (λ t. IsLineFault P.well_formed P.units t NotCanonical) c.from_utf8_unchecked-text.ensures fault))))
+    λ last. (utf8, subst (λ t. IsLineFault P.well_formed P.units t NotCanonical) c.from_utf8_unchecked-text.ensures fault)
 
 pub returns-then-is_plain-clause-ok : goal.returns-then-is_plain-clause-ok
 returns-then-is_plain-clause-ok g c =
@@ -30,6 +27,6 @@ returns-then-is_plain-clause-ok g c =
       escape = own_line P.well_formed P.units P.part_units g.met.E.Platform.parts (laws.text [] IsUtf8-nil) line plain;
       short = omega (arith, c.if-line-max.true);
     } in
-    on_ok_weaker c.push_ended.result
+    on_ok_weaker c.push_name.result
     (λ e. (line ++ 0 ∷ [], ((λ last. (line, name, (plain_lacks line plain, refl))), e)))
-    c.push_ended.ensures.ok
+    c.push_name.ensures.ok

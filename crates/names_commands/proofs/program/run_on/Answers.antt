@@ -1,23 +1,25 @@
 use Rattle.std.proofs.Common.{sym, subst}
-use Rattle.osbytes_commands.specs.Marked.{marked_inner}
-use Rattle.osbytes_commands.specs.Strings.{strings}
-use Rattle.names_commands.specs.Program.{IsRun}
+use Rattle.program_frame.specs.Marked.{marked_inner}
+use Rattle.program_frame.specs.Strings.{strings}
+use Rattle.program_frame.specs.ListRun.{Runs}
+use Rattle.names_commands.specs.Task.{rules_of}
+use Rattle.names_commands.specs.declared.fault.Fault.TheVariants.{List as OfList}
 use Rattle.names_commands.proofs.program.run_on.Goals as goal
 
 pub returns-in-Unix-clause-run : goal.returns-in-Unix-clause-run
 returns-in-Unix-clause-run g c =
-    subst (λ os. IsRun (strings os) c.args.settings (g.R.Read.remaining (marked_inner c.args.reader.now)) (g.R.Read.remaining (marked_inner c.run.new.reader)) (g.W.Write.contents (marked_inner c.args.writer.now)) (g.W.Write.contents (marked_inner c.run.new.writer)) c.run.result)
+    subst (λ os. Runs (rules_of (strings os) c.args.settings) OfList (g.R.Read.remaining (marked_inner c.args.reader.now)) (g.R.Read.remaining (marked_inner c.run_list.new.reader)) (g.W.Write.contents (marked_inner c.args.writer.now)) (g.W.Write.contents (marked_inner c.run_list.new.writer)) c.run_list.result)
     (sym c.in-Unix.is)
-    (record { all_read = c.run.ensures.all_read; written = c.run.ensures.written; stopped = c.run.ensures.stopped; beginning = c.run.ensures.beginning })
+    c.run_list.ensures.run
 
 pub returns-in-Windows-clause-run : goal.returns-in-Windows-clause-run
 returns-in-Windows-clause-run g c =
-    subst (λ os. IsRun (strings os) c.args.settings (g.R.Read.remaining (marked_inner c.args.reader.now)) (g.R.Read.remaining (marked_inner c.run-in-Windows.new.reader)) (g.W.Write.contents (marked_inner c.args.writer.now)) (g.W.Write.contents (marked_inner c.run-in-Windows.new.writer)) c.run-in-Windows.result)
+    subst (λ os. Runs (rules_of (strings os) c.args.settings) OfList (g.R.Read.remaining (marked_inner c.args.reader.now)) (g.R.Read.remaining (marked_inner c.run_list-in-Windows.new.reader)) (g.W.Write.contents (marked_inner c.args.writer.now)) (g.W.Write.contents (marked_inner c.run_list-in-Windows.new.writer)) c.run_list-in-Windows.result)
     (sym c.in-Windows.is)
-    (record { all_read = c.run-in-Windows.ensures.all_read; written = c.run-in-Windows.ensures.written; stopped = c.run-in-Windows.ensures.stopped; beginning = c.run-in-Windows.ensures.beginning })
+    c.run_list-in-Windows.ensures.run
 
 pub returns-in-Wasm-clause-run : goal.returns-in-Wasm-clause-run
 returns-in-Wasm-clause-run g c =
-    subst (λ os. IsRun (strings os) c.args.settings (g.R.Read.remaining (marked_inner c.args.reader.now)) (g.R.Read.remaining (marked_inner c.run-in-Wasm.new.reader)) (g.W.Write.contents (marked_inner c.args.writer.now)) (g.W.Write.contents (marked_inner c.run-in-Wasm.new.writer)) c.run-in-Wasm.result)
+    subst (λ os. Runs (rules_of (strings os) c.args.settings) OfList (g.R.Read.remaining (marked_inner c.args.reader.now)) (g.R.Read.remaining (marked_inner c.run_list-in-Wasm.new.reader)) (g.W.Write.contents (marked_inner c.args.writer.now)) (g.W.Write.contents (marked_inner c.run_list-in-Wasm.new.writer)) c.run_list-in-Wasm.result)
     (sym c.in-Wasm.is)
-    (record { all_read = c.run-in-Wasm.ensures.all_read; written = c.run-in-Wasm.ensures.written; stopped = c.run-in-Wasm.ensures.stopped; beginning = c.run-in-Wasm.ensures.beginning })
+    c.run_list-in-Wasm.ensures.run

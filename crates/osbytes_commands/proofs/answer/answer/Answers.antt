@@ -1,6 +1,6 @@
 use Rattle.std.proofs.Common.{◌≡◌, ◌⊎◌, ◌∙◌, sym, subst, IfOk, IfErr}
 use Rattle.osbytes_commands.specs.declared.fault.Fault.TheVariants.{Memory}
-use Rattle.osbytes_commands.specs.Strings.{strings}
+use Rattle.program_frame.specs.Strings.{strings}
 use Rattle.osbytes_commands.specs.Output.{IsOutputOn, IsRefusalOn}
 use Rattle.osbytes_commands.proofs.answer.answer.Goals as goal
 

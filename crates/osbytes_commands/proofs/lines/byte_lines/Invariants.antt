@@ -1,5 +1,5 @@
 use Rattle.std.proofs.Common.{◌≡◌, take}
-use Rattle.osbytes_commands.specs.declared.command.Os.TheVariants.{Unix}
+use Rattle.program_frame.specs.declared.os.Os.TheVariants.{Unix}
 use Rattle.osbytes_commands.specs.Lines.{unit_lines}
 use Rattle.osbytes_commands.proofs.lines.byte_lines.Given as goal
 

@@ -1,7 +1,7 @@
 use Rattle.std.proofs.Common.{◌≡◌, ◌++◌}
 use Rattle.os_str_bytes.specs.UnitsOf.{units_of}
 use Rattle.os_str_bytes.specs.Strings.{bytes}
-use Rattle.osbytes_commands.specs.declared.command.Os.TheVariants.{Windows}
+use Rattle.program_frame.specs.declared.os.Os.TheVariants.{Windows}
 use Rattle.osbytes_commands.specs.Lines.{unit_lines}
 use Rattle.osbytes_commands.proofs.lines.wide_lines.Given as goal
 

@@ -62,36 +62,3 @@ returns-in-Ok-clause-told g c = rw c.telling_unless.ensures.outcome c.telling_un
 
 pub returns-in-Ok-clause-beginning : goal.returns-in-Ok-clause-beginning
 returns-in-Ok-clause-beginning g c = rw c.telling_unless.ensures.outcome c.telling_unless.ensures.beginning
-
-pub returns-clause-ok : goal.returns-clause-ok
-returns-clause-ok g c = rw c.telling.ensures.outcome tt
-
-pub returns-clause-no_words : goal.returns-clause-no_words
-returns-clause-no_words g c =
-    IfErr-weaker c.args.args _ _
-    (λ error is kind. IfErr-at_err (λ fault. c.telling.result.outcome ≡ Err fault) (is kind) c.telling.ensures.outcome)
-    c.in-Err.ensures.no_words
-
-pub returns-clause-no_memory : goal.returns-clause-no_memory
-returns-clause-no_memory g c =
-    IfErr-weaker c.args.args _ _
-    (λ error is kind. IfErr-at_err (λ fault. c.telling.result.outcome ≡ Err fault) (is kind) c.telling.ensures.outcome)
-    c.in-Err.ensures.no_memory
-
-pub returns-clause-no_command : goal.returns-clause-no_command
-returns-clause-no_command g c =
-    IfOk-weaker c.args.args _ _
-    (λ args is_memory none. inr (c.telling.ensures.outcome ∙ ap Err is_memory))
-    c.in-Err.ensures.memory
-
-pub returns-clause-all_read : goal.returns-clause-all_read
-returns-clause-all_read g c = rw c.telling.ensures.outcome tt
-
-pub returns-clause-quiet : goal.returns-clause-quiet
-returns-clause-quiet g c = rw c.telling.ensures.outcome tt
-
-pub returns-clause-told : goal.returns-clause-told
-returns-clause-told g c = rw c.telling.ensures.outcome c.telling.ensures.told
-
-pub returns-clause-beginning : goal.returns-clause-beginning
-returns-clause-beginning g c = rw c.telling.ensures.outcome c.telling.ensures.beginning

@@ -1,6 +1,6 @@
 use Rattle.std.proofs.Common.{◌≡◌, ◌-◌, ◌^◌, false, vec_len}
 use Rattle.std.specs.Io.KnownBytes.{Consumes}
-use Rattle.osbytes_commands.specs.Marked.{marked_inner, has_failed}
+use Rattle.program_frame.specs.Marked.{marked_inner, has_failed}
 use Rattle.osbytes_commands.proofs.run.read_all.Given as goal
 
 abbrev pub invariant-loop-input : goal.invariant-loop-input

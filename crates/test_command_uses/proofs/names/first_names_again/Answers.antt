@@ -2,7 +2,8 @@ use Rattle.std.proofs.Common.{drop, sym, subst}
 use Rattle.std.proofs.lemmas.List.{take-append-drop}
 use Rattle.std.proofs.lemmas.Result.{on_ok_weaker}
 use Rattle.names_commands.specs.Back.{joining}
-use Rattle.names_commands.specs.Run.{IsOutput}
+use Rattle.program_frame.specs.ListRun.{IsOutput}
+use Rattle.names_commands.specs.Task.{rules_of}
 use Rattle.names_commands.specs.declared.task.LastLine.TheVariants.{MustEnd}
 use Rattle.test_command_uses.proofs.names.first_names_again.Goals as goal
 
@@ -15,7 +16,7 @@ returns g c =
       written.0,
       (
         first _ (drop c.args.cut lines) written.0 c.requires.listed (sym (take-append-drop c.args.cut lines))
-            (subst (λ x. IsOutput g.E.Platform (joining MustEnd c.args.max) x written.0) c.split_at.ensures.front written.1.0),
+            (subst (λ x. IsOutput (rules_of g.E.Platform (joining MustEnd c.args.max)) x written.0) c.split_at.ensures.front written.1.0),
         written.1.1,
       ),
     ))

@@ -1,7 +1,7 @@
 use Rattle.std.proofs.Common.{subst}
 use Rattle.std.proofs.lemmas.Result.{on_ok_weaker}
 use Rattle.std.specs.Io.KnownBytes.{Appends}
-use Rattle.osbytes_commands.specs.Marked.{marked_inner}
+use Rattle.program_frame.specs.Marked.{marked_inner}
 use Rattle.test_command_uses.proofs.KnownNames.{known_line}
 use Rattle.test_command_uses.proofs.names.line_of.Goals as goal
 

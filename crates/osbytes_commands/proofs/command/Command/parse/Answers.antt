@@ -1,6 +1,6 @@
 use Rattle.std.proofs.Common.{◌≡◌, refl, sym, ◌∙◌, subst}
 use Rattle.std.specs.Prelude.{IfSome, string_bytes}
-use Rattle.osbytes_commands.specs.Command.{os_word}
+use Rattle.program_frame.specs.Os.{os_word}
 use Rattle.osbytes_commands.proofs.lemmas.CommandWords.{two_words, three_words, unnamed_two, unnamed_three}
 use Rattle.osbytes_commands.proofs.command.Command.parse.Goals as goal
 

@@ -1,0 +1,4 @@
+pub mod Items
+pub mod Lines
+pub mod Reading
+pub mod Runs

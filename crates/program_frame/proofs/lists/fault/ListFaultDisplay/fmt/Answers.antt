@@ -1,0 +1,24 @@
+use Rattle.std.proofs.Common.{true, refl, sym, ap}
+use Rattle.std.proofs.Output.{has_written_styled_append, has_written_styled_of_eq}
+use Rattle.program_frame.specs.ListFault.{text_of}
+use Rattle.program_frame.proofs.lists.fault.ListFaultDisplay.fmt.Goals as goal
+
+pub returns-in_ok-write_index-in-Refused-clause-styled : goal.returns-in_ok-write_index-in-Refused-clause-styled
+returns-in_ok-write_index-in-Refused-clause-styled g c = λ flush ok.
+    let head = c.in_ok-write_index-in-Refused.ensures flush (refl {a = true}) in
+    let text = c.write.ensures head.flush ok in
+    has_written_styled_of_eq _ _ _ _ _ (sym (ap (text_of g.F.ItemRefusal.item g.F.ItemRefusal.text_of) c.in-Refused.is)) (has_written_styled_append _ _ _ _ _ _ head text)
+
+pub returns-in_ok-write_number-in-TooLong-clause-styled : goal.returns-in_ok-write_number-in-TooLong-clause-styled
+returns-in_ok-write_number-in-TooLong-clause-styled g c = λ flush ok.
+    let head = c.in_ok-write_index-in-TooLong.ensures flush (refl {a = true}) in
+    let longer = c.in_ok-write_str-in-TooLong.ensures.styled head.flush (refl {a = true}) in
+    let number = c.in_ok-write_number-in-TooLong.ensures longer.flush (refl {a = true}) in
+    let end = c.write_str-in-TooLong.ensures.styled number.flush ok in
+    has_written_styled_of_eq _ _ _ _ _ (sym (ap (text_of g.F.ItemRefusal.item g.F.ItemRefusal.text_of) c.in-TooLong.is)) (has_written_styled_append _ _ _ _ _ _ head (has_written_styled_append _ _ _ _ _ _ longer (has_written_styled_append _ _ _ _ _ _ number end)))
+
+pub returns-in_ok-write_index-in-Unended-clause-styled : goal.returns-in_ok-write_index-in-Unended-clause-styled
+returns-in_ok-write_index-in-Unended-clause-styled g c = λ flush ok.
+    let head = c.in_ok-write_index-in-Unended.ensures flush (refl {a = true}) in
+    let end = c.write_str-in-Unended.ensures.styled head.flush ok in
+    has_written_styled_of_eq _ _ _ _ _ (sym (ap (text_of g.F.ItemRefusal.item g.F.ItemRefusal.text_of) c.in-Unended.is)) (has_written_styled_append _ _ _ _ _ _ head end)

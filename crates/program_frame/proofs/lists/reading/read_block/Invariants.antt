@@ -1,0 +1,11 @@
+use Rattle.std.proofs.Common.{length}
+use Rattle.program_frame.specs.Reading.{IsUpTo}
+use Rattle.program_frame.proofs.lists.reading.read_block.Given as goal
+
+abbrev pub invariant-loop-last : goal.invariant-loop-last
+invariant-loop-last g l =
+    IsUpTo (g.T.ListTask.rules l.task) (record { begun = l.fn.begun.items; count = l.count; output = l.fn.output.items }) l.block l.rest
+    (record { begun = l.begun.items; count = l.ended; output = l.output.items })
+
+abbrev pub decreases-loop-last : goal.decreases-loop-last
+decreases-loop-last g l = length l.rest

@@ -1,0 +1,12 @@
+pub mod Fault
+pub mod Marked
+pub mod Written
+pub mod Os
+pub mod Strings
+pub mod Words
+pub mod Ended
+pub mod Items
+pub mod Rules
+pub mod Reading
+pub mod ListRun
+pub mod ListFault

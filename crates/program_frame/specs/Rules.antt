@@ -1,0 +1,51 @@
+-- What is done with the items of a list, and with which faults they are refused.
+use Rattle.std.specs.Prelude.{◌≡◌, ◌≢◌, ◌⊎◌, ℕ, ◌<◌, ◌≤◌, List, [], length}
+use Rattle.program_frame.specs.declared.fault.Failure.TheVariants.{Memory}
+use Rattle.program_frame.specs.declared.lists.fault.ItemFault.{ItemFault}
+use Rattle.program_frame.specs.declared.lists.fault.ItemFault.TheVariants as item_fault
+use Rattle.program_frame.specs.declared.lists.fault.ListFault.{ListFault}
+use Rattle.program_frame.specs.declared.lists.fault.ListFault.TheVariants.{Refused, TooLong, Unended, TooMuch, Run}
+use Rattle.program_frame.specs.Items.{Entry, Lacks, IsLastUnended, items_of}
+
+-- what is done with each item of a list: the byte that ends one, whether the last may lack it, how many bytes a name may have, how many an item, what is written for an item, why one is refused, and which items are of a name that is too long
+pub record ListRules (F : Type 0) : Type 1 where
+  pub end : ℕ
+  pub takes_unended : Type 0
+  pub max : ℕ
+  pub longest : ℕ
+  pub is_text : List ℕ → List ℕ → Type 0
+  pub refuses : List ℕ → F → Type 0
+  pub is_of_long : List ℕ → Type 0
+
+module _ {F : Type 0} (list : ListRules F) where
+  -- the items of the entries are those of the input
+  abbrev pub AreIn : List Entry → List ℕ → Type 0
+  AreIn entries input = (input ≡ items_of list.end entries) ⊎ (list.takes_unended × IsLastUnended list.end entries input)
+
+  -- why nothing is written for an item; memory may be refused at any
+  abbrev pub IsItemFault : List ℕ → ItemFault F → Type 0
+  IsItemFault item (item_fault.Refused why) = list.refuses item why
+  IsItemFault item item_fault.TooLong = list.is_of_long item
+  IsItemFault item item_fault.Memory = Unit {0}
+
+  -- with which fault the item with this number ends the run; memory may be refused at any item
+  abbrev pub IsFaultAt : ℕ → List ℕ → ListFault F → Type 0
+  IsFaultAt number item (Refused n why) = (n ≡ number) × ((length item ≤ list.longest) × list.refuses item why)
+  IsFaultAt number item (TooLong n most) = (n ≡ number) × ((most ≡ list.max) × ((list.longest < length item) ⊎ list.is_of_long item))
+  IsFaultAt number item (Unended n) = ⊥
+  IsFaultAt number item TooMuch = ⊥
+  IsFaultAt number item (Run why) = why ≡ Memory
+
+  -- with which fault the run ends at an item: its own, or that it is the last, isn't empty and has to have its end
+  abbrev pub IsRefused : ℕ → List ℕ → ListFault F → Type 0
+  IsRefused number item (Refused n why) = IsFaultAt number item (Refused n why)
+  IsRefused number item (TooLong n most) = IsFaultAt number item (TooLong n most)
+  IsRefused number item (Unended n) = (n ≡ number) × ((item ≢ []) × (¬ list.takes_unended))
+  IsRefused number item TooMuch = ⊥
+  IsRefused number item (Run why) = IsFaultAt number item (Run why)
+
+  -- an item that isn't refused, and what is written for it
+  pub record IsEntry (e : Entry) : Type 0 where
+    pub whole : Lacks list.end e.0
+    pub short : length e.0 ≤ list.longest
+    pub text : list.is_text e.0 e.1

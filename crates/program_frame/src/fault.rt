@@ -1,0 +1,104 @@
+//! What keeps a run from going on, whatever its input says.
+ghost use Rattle.std.specs.Prelude.{◌≡◌, decimal};
+ghost use Rattle.std.specs.Fmt.{WritesStyledOnOk};
+ghost use Rattle.program_frame.specs.declared.fault.Failure.TheVariants.{Memory};
+
+use crate::ended::ProgramFault;
+use std::alloc::{AllocError, AllocFailed};
+use std::fmt;
+use std::fmt::{InlineText, Write as _};
+
+/// What keeps a run from going on, whatever its input says. Its text has no width: `{:>99}` writes
+/// what `{}` does.
+#[derive(Clone, Copy, PartialEq, Eq)]
+pub enum Failure {
+    /// A request for memory was refused.
+    Memory,
+    /// A read of the input failed.
+    Read,
+    /// A write of the output failed or took nothing, or the flush failed.
+    Write,
+}
+
+impl fmt::Display for Failure {
+    ghost use Rattle.std.specs.Prelude.{Some};
+    ghost use Rattle.program_frame.specs.Fault.{text_of};
+
+    ghost output = { λ failure. Some (text_of failure) };
+
+    ghost styled_output = { λ failure _. Some (text_of failure) };
+
+    fn fmt<W: fmt::Write>(&self, f: &mut fmt::Formatter<W>) -> fmt::Result {
+        match *self {
+            Failure::Memory => f.write_str("out of memory"),
+            Failure::Read => f.write_str("read failed"),
+            Failure::Write => f.write_str("write failed"),
+        }
+    }
+}
+
+impl ProgramFault for Failure {
+    ghost use Rattle.std.specs.Prelude.{refl};
+    ghost use Rattle.program_frame.specs.Fault.{text_of, status_of};
+
+    ghost text_of = { text_of };
+
+    ghost status_of = { status_of };
+
+    ghost printed = { λ _. refl };
+
+    /// The status that the program ends with: 3 for want of memory, and 4 for a failed read or write.
+    ///
+    /// ```
+    /// use program_frame::ended::ProgramFault;
+    /// use program_frame::fault::Failure;
+    ///
+    /// assert!(rt; Failure::Memory.status() == 3 && Failure::Read.status() == 4);
+    /// ```
+    fn status(&self) -> u8 {
+        match self {
+            Failure::Memory => 3,
+            Failure::Read | Failure::Write => 4,
+        }
+    }
+}
+
+impl From<AllocError> for Failure {
+    ghost from_gives = { λ _ failure. failure ≡ Memory };
+
+    fn from(_error: AllocError) -> Failure {
+        Failure::Memory
+    }
+}
+
+impl<T: Drop> From<AllocFailed<T>> for Failure {
+    ghost from_gives = { λ _ failure. failure ≡ Memory };
+
+    fn from(_error: AllocFailed<T>) -> Failure {
+        Failure::Memory
+    }
+}
+
+/// Writes the decimal digits of a number, whatever width is asked for: a fault's text has no width.
+///
+/// ```
+/// use program_frame::fault::write_number;
+/// use std::fmt;
+///
+/// struct Number(usize);
+///
+/// impl fmt::Display for Number {
+///     fn fmt<W: fmt::Write>(&self, f: &mut fmt::Formatter<W>) -> fmt::Result {
+///         write_number(self.0, f)
+///     }
+/// }
+///
+/// assert_eq!(rt; Number(17).to_string(alloc)?.as_str(), "17");
+/// ```
+pub fn write_number<W: fmt::Write>(number: usize, f: &mut fmt::Formatter<W>) -> fmt::Result
+    ensures { WritesStyledOnOk W.write_str_gives f.old result (decimal number) f.new }
+{
+    let mut digits = InlineText::<20>::new();
+    write!(digits, "{number}")?;
+    f.write_str(digits.as_str())
+}

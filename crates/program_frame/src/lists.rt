@@ -1,0 +1,11 @@
+//! Lists: items that are each ended by a byte, read and written block by block.
+//!
+//! What is done with each item is a [`task::ListTask`]; [`run::run`] reads the list and writes what its
+//! items become. Where it ends early, a [`fault::ListFault`] says why, and with the number of which item.
+
+pub mod fault;
+pub mod items;
+pub mod lines;
+mod reading;
+pub mod run;
+pub mod task;

@@ -1,0 +1,140 @@
+//! Why a run over a list ends before the list does.
+ghost use Rattle.std.specs.Prelude.{◌≡◌, ℕ, List};
+ghost use Rattle.std.specs.Fmt.{WritesStyledOnOk};
+ghost use Rattle.program_frame.specs.ListFault.{index_text};
+
+use crate::ended::ProgramFault;
+use crate::fault::{Failure, write_number};
+use std::fmt;
+use std::fmt::Display as _;
+
+/// Why an item is refused, whatever its number.
+pub trait ItemRefusal: Copy {
+    // what an item is called
+    ghost item: { List ℕ };
+
+    // what the program prints of the reason
+    ghost text_of: { Self → List ℕ };
+
+    /// What an item is called.
+    ///
+    /// ```
+    /// use names_commands::fault::Refusal;
+    /// use program_frame::lists::fault::ItemRefusal;
+    ///
+    /// assert_eq!(rt; Refusal::item(), "name");
+    /// ```
+    fn item() -> &'static str
+        ensures { result.now ≡ item };
+
+    /// Writes the reason.
+    ///
+    /// ```
+    /// use names_commands::fault::Refusal;
+    /// use program_frame::lists::fault::ListFault;
+    ///
+    /// let fault = ListFault::Refused(2, Refusal::HasNul);
+    /// assert_eq!(rt; fault.to_string(alloc)?.as_str(), "name 2: the name has a NUL");
+    /// ```
+    fn write<W: fmt::Write>(&self, f: &mut fmt::Formatter<W>) -> fmt::Result
+        ensures { WritesStyledOnOk W.write_str_gives f.old result (text_of self.now) f.new };
+}
+
+/// Why nothing is written for an item.
+#[derive(Clone, Copy, PartialEq, Eq)]
+pub enum ItemFault<F> {
+    /// It is refused.
+    Refused(F),
+    /// It isn't too long, but what it stands for is.
+    TooLong,
+    /// Memory was refused.
+    Memory,
+}
+
+/// Why a run over a list ended before the list did. Items are counted from 1.
+#[derive(Clone, Copy, PartialEq, Eq)]
+pub enum ListFault<F> {
+    /// The item with this number is refused.
+    Refused(u64, F),
+    /// The item with this number, or what it stands for, has more than this many bytes.
+    TooLong(u64, usize),
+    /// The item with this number is the last, and lacks the byte that has to end it.
+    Unended(u64),
+    /// The input has 2^64 - 1 bytes or more.
+    TooMuch,
+    /// What keeps the run from going on, whatever the items are.
+    Run(Failure),
+}
+
+impl<F: ItemRefusal> fmt::Display for ListFault<F> {
+    ghost use Rattle.std.specs.Prelude.{Some};
+    ghost use Rattle.program_frame.specs.ListFault.{text_of};
+
+    ghost output = { λ fault. Some (text_of F.item F.text_of fault) };
+
+    ghost styled_output = { λ fault _. Some (text_of F.item F.text_of fault) };
+
+    fn fmt<W: fmt::Write>(&self, f: &mut fmt::Formatter<W>) -> fmt::Result {
+        match *self {
+            ListFault::Refused(number, why) => {
+                write_index::<F, W>(number, f)?;
+                why.write(f)
+            }
+            ListFault::TooLong(number, most) => {
+                write_index::<F, W>(number, f)?;
+                f.write_str("longer than ")?;
+                write_number(most, f)?;
+                f.write_str(" bytes")
+            }
+            ListFault::Unended(number) => {
+                write_index::<F, W>(number, f)?;
+                f.write_str("no newline ends the line")
+            }
+            ListFault::TooMuch => f.write_str("2^64 bytes of input or more"),
+            ListFault::Run(why) => why.fmt(f),
+        }
+    }
+}
+
+impl<F: ItemRefusal> ProgramFault for ListFault<F> {
+    ghost use Rattle.std.specs.Prelude.{refl};
+    ghost use Rattle.program_frame.specs.ListFault.{text_of, status_of};
+
+    ghost text_of = { text_of F.item F.text_of };
+
+    ghost status_of = { status_of };
+
+    ghost printed = { λ _. refl };
+
+    /// The status that the program ends with: 1 for an input that it refuses, 3 for want of memory, and
+    /// 4 for a failed read or write.
+    ///
+    /// ```
+    /// use names_commands::fault::Refusal;
+    /// use program_frame::ended::ProgramFault;
+    /// use program_frame::fault::Failure;
+    /// use program_frame::lists::fault::ListFault;
+    ///
+    /// assert_eq!(rt; ListFault::Refused(2, Refusal::HasNul).status(), 1);
+    /// assert_eq!(rt; ListFault::<Refusal>::Run(Failure::Write).status(), 4);
+    /// ```
+    fn status(&self) -> u8 {
+        match self {
+            ListFault::Refused(_, _)
+            | ListFault::TooLong(_, _)
+            | ListFault::Unended(_)
+            | ListFault::TooMuch => 1,
+            ListFault::Run(why) => why.status(),
+        }
+    }
+}
+
+/// Writes which item is refused.
+fn write_index<F: ItemRefusal, W: fmt::Write>(number: u64, f: &mut fmt::Formatter<W>) -> fmt::Result
+    ensures { WritesStyledOnOk W.write_str_gives f.old result (index_text F.item number) f.new }
+{
+    f.write_str(F::item())?;
+    f.write_str(" ")?;
+    write_number(number as usize, f)?;
+    f.write_str(": ")
+}

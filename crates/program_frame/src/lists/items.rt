@@ -1,0 +1,54 @@
+//! Items and the byte that ends each.
+ghost use Rattle.std.specs.Prelude.{◌≡◌, ◌∷◌, ◌++◌, [], MatchOption, OnOk, OnErr};
+ghost use Rattle.program_frame.specs.Items.{Lacks, IsCutAt};
+
+use memchr::memchr;
+use std::alloc::{AllocError, Allocator};
+
+/// What comes before the first byte `end`, and what comes after it.
+///
+/// ```
+/// use program_frame::lists::items::split_at_end;
+///
+/// let (first, after) = split_at_end(0, b"a\0b").unwrap_or((b"", b""));
+/// assert!(rt; first == b"a" && after == b"b");
+/// assert!(rt; split_at_end(0, b"ab").is_none());
+/// ```
+pub fn split_at_end(end: u8, bytes: &[u8]) -> Option<(&[u8], &[u8])>
+    ensures { MatchOption result (Lacks end bytes.now)
+        (λ parts. IsCutAt end bytes.now parts.0.now parts.1.now) }
+{
+    let Some(at) = memchr(end, bytes) else {
+        return None;
+    };
+    let (prefix, rest) = bytes.split_at(at);
+    let (_, after) = rest.split_at(1);
+    Some((prefix, after))
+}
+
+/// Appends bytes and the byte that ends them.
+///
+/// # Errors
+///
+/// `AllocError` where memory was refused; then the output is as it was.
+///
+/// ```
+/// use program_frame::lists::items::push_ended;
+///
+/// let mut output = Vec::new(alloc);
+/// push_ended(b"ab", 0, &mut output)?;
+/// assert_eq!(rt; output.as_slice(), b"ab\0".as_slice());
+/// ```
+pub fn push_ended<A: Allocator>(
+    bytes: &[u8],
+    end: u8,
+    output: &mut Vec<u8, A>,
+) -> Result<(), AllocError>
+    ensures ok { OnOk result (output.new.items ≡ output.old.items ++ (bytes.now ++ end ∷ [])) }
+    ensures unchanged { OnErr result (output.new.items ≡ output.old.items) }
+{
+    output.reserve(bytes.len() + 1)?;
+    output.extend_from_slice(bytes)?;
+    output.push_reserved(end);
+    Ok(())
+}

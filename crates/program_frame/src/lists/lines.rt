@@ -1,0 +1,67 @@
+//! Escapes of strings, one a line. A plain string is its own escape.
+ghost use Rattle.std.specs.Prelude.{◌≡◌, ◌∷◌, ◌++◌, [], length, ℕ, List, IsTrue, OnOk, OnErr};
+ghost use Rattle.os_quote.specs.Escape.{IsLineEscape};
+ghost use Rattle.os_quote.specs.Plain.{IsPlain, IsPlainUpTo};
+ghost use Rattle.os_str_bytes.specs.Strings.{bytes};
+
+use crate::lists::items::push_ended;
+use os_quote::escape_line;
+use os_str_bytes::{OsStr, Platform};
+use std::alloc::{AllocError, Allocator};
+
+/// Appends the escape of a string and a newline.
+///
+/// # Errors
+///
+/// `AllocError` where memory was refused; then the output is as it was.
+///
+/// ```
+/// use os_str_bytes::{OsStr, Unix};
+/// use program_frame::lists::lines::push_line;
+///
+/// let mut output = Vec::new(alloc);
+/// push_line(alloc, OsStr::<Unix>::new("a\nb"), &mut output)?;
+/// assert_eq!(rt; output.as_slice(), b"a\\u000Ab\n".as_slice());
+/// ```
+pub fn push_line<E: Platform, A: Allocator>(
+    alloc: A,
+    string: OsStr<'_, E>,
+    output: &mut Vec<u8, A>,
+) -> Result<(), AllocError>
+    ensures line { OnOk result ((line : List ℕ) × (IsLineEscape E.units (bytes string.entry) line
+        × (output.new.items ≡ output.old.items ++ (line ++ 0x0A ∷ [])))) }
+    ensures unchanged { OnErr result (output.new.items ≡ output.old.items) }
+{
+    if is_plain(string.as_encoded_bytes()) {
+        return push_ended(string.as_encoded_bytes(), b'\n', output);
+    }
+    let escape = escape_line(alloc, string)?;
+    push_ended(escape.as_bytes(), b'\n', output)
+}
+
+/// Whether each byte is plain: printable ASCII other than the backslash. All are looked at, also after
+/// one that isn't: so vectors can do it.
+///
+/// ```
+/// use program_frame::lists::lines::is_plain;
+///
+/// assert!(rt; is_plain(b"a b") && !is_plain(b"a\nb"));
+/// ```
+#[tactic(auto, using(os_quote::proofs::lemmas::PlainBytes::plain_bytes))]
+pub fn is_plain(bytes: &[u8]) -> bool
+    ensures { IsTrue result → IsPlainUpTo bytes.now (length bytes.now) }
+{
+    let mut plain = true;
+    for byte in bytes {
+        plain &= is_plain_byte(*byte);
+    }
+    plain
+}
+
+/// Whether a byte is plain.
+#[inline(always)]
+fn is_plain_byte(byte: u8) -> bool
+    ensures { IsTrue result → IsPlain byte }
+{
+    (b' ' <= byte) & (byte <= b'~') & (byte != b'\\')
+}

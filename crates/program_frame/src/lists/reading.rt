@@ -1,0 +1,124 @@
+//! Items of an input that comes in blocks.
+ghost use Rattle.std.specs.Prelude.{◌≡◌, ◌+◌, ◌<◌, ◌^◌, ◌≤◌, ◌++◌, [], length, ℕ, List, OnOk, OnErr, IfOk, IfErr};
+ghost use Rattle.program_frame.specs.Items.{Lacks};
+ghost use Rattle.program_frame.specs.Rules.{IsFaultAt, IsEntry};
+ghost use Rattle.program_frame.specs.Reading.{HasBegun, IsKeepFault, Reads, Stops};
+
+use crate::fault::Failure;
+use crate::lists::fault::{ItemFault, ListFault};
+use crate::lists::items::split_at_end;
+use crate::lists::task::ListTask;
+use std::alloc::Allocator;
+
+/// Reads a block: what is to be written for the items that end in it is appended to the output,
+/// and the item that begins last is kept. It answers how many items have ended.
+pub fn read_block<T: ListTask, A: Allocator + Copy>(
+    alloc: A,
+    task: &T,
+    count: u64,
+    block: &[u8],
+    begun: &mut Vec<u8, A>,
+    output: &mut Vec<u8, A>,
+) -> Result<u64, ListFault<T::Refusal>>
+    requires counted { count + length begun.old.items + length block.now + 1 < 2 ^ 64 }
+    requires begun { HasBegun (T.rules task.now) begun.old.items }
+    ensures ok { IfOk result (λ ended. Reads (T.rules task.now)
+        (record { begun = begun.old.items; count = count; output = output.old.items }) block.now
+        (record { begun = begun.new.items; count = ended; output = output.new.items })) }
+    ensures fault { IfErr result (λ fault. (more : List ℕ) → Stops (T.rules task.now)
+        (record { begun = begun.old.items; count = count; output = output.old.items })
+        (block.now ++ more) output.new.items fault) }
+{
+    let mut ended = count;
+    let mut rest = block;
+    while let Some((last, after)) = split_at_end(task.end(), rest) {
+        match end_item::<T, A>(alloc, task, ended + 1, last, begun, output) {
+            Ok(()) => {}
+            Err(fault) => return Err(fault),
+        }
+        ended += 1;
+        rest = after;
+    }
+    match keep(task, ended + 1, rest, begun) {
+        Ok(()) => Ok(ended),
+        Err(fault) => Err(fault),
+    }
+}
+
+/// Appends what is to be written for the item that has begun, of which these are the last bytes.
+fn end_item<T: ListTask, A: Allocator + Copy>(
+    alloc: A,
+    task: &T,
+    number: u64,
+    last: &[u8],
+    begun: &mut Vec<u8, A>,
+    output: &mut Vec<u8, A>,
+) -> Result<(), ListFault<T::Refusal>>
+    requires begun { HasBegun (T.rules task.now) begun.old.items }
+    requires whole { Lacks (T.rules task.now).end last.now }
+    ensures ok { OnOk result ((text : List ℕ)
+        × IsEntry (T.rules task.now) (begun.old.items ++ last.now, text)
+        × (output.new.items ≡ output.old.items ++ text)) }
+    ensures none { OnOk result (begun.new.items ≡ []) }
+    ensures fault { IfErr result (λ fault.
+        IsFaultAt (T.rules task.now) number (begun.old.items ++ last.now) fault) }
+    ensures unchanged { OnErr result (output.new.items ≡ output.old.items) }
+{
+    if begun.is_empty() && last.len() <= task.longest_item() {
+        return write_at::<T, A>(alloc, task, number, last, output);
+    }
+    match keep(task, number, last, begun) {
+        Ok(()) => {}
+        Err(fault) => return Err(fault),
+    }
+    match write_at::<T, A>(alloc, task, number, begun, output) {
+        Ok(()) => {}
+        Err(fault) => return Err(fault),
+    }
+    begun.clear();
+    Ok(())
+}
+
+/// Appends what is written for the item with this number.
+pub fn write_at<T: ListTask, A: Allocator + Copy>(
+    alloc: A,
+    task: &T,
+    number: u64,
+    item: &[u8],
+    output: &mut Vec<u8, A>,
+) -> Result<(), ListFault<T::Refusal>>
+    requires { length item.now ≤ (T.rules task.now).longest }
+    ensures ok { OnOk result ((text : List ℕ) × ((T.rules task.now).is_text item.now text
+        × (output.new.items ≡ output.old.items ++ text))) }
+    ensures fault { IfErr result (λ fault. IsFaultAt (T.rules task.now) number item.now fault) }
+    ensures unchanged { OnErr result (output.new.items ≡ output.old.items) }
+{
+    match task.write_item(alloc, item, output) {
+        Ok(()) => Ok(()),
+        Err(ItemFault::Refused(why)) => Err(ListFault::Refused(number, why)),
+        Err(ItemFault::TooLong) => Err(ListFault::TooLong(number, task.max())),
+        Err(ItemFault::Memory) => Err(ListFault::Run(Failure::Memory)),
+    }
+}
+
+/// Keeps more bytes of the item that has begun.
+fn keep<T: ListTask, A: Allocator>(
+    task: &T,
+    number: u64,
+    more: &[u8],
+    begun: &mut Vec<u8, A>,
+) -> Result<(), ListFault<T::Refusal>>
+    requires { length begun.old.items ≤ (T.rules task.now).longest }
+    ensures kept { OnOk result (begun.new.items ≡ begun.old.items ++ more.now) }
+    ensures short { OnOk result (length begun.new.items ≤ (T.rules task.now).longest) }
+    ensures fault { IfErr result (λ fault.
+        IsKeepFault (T.rules task.now) number (begun.old.items ++ more.now) fault) }
+{
+    if more.len() > task.longest_item() - begun.len() {
+        return Err(ListFault::TooLong(number, task.max()));
+    }
+    match begun.extend_from_slice(more) {
+        Ok(()) => Ok(()),
+        Err(_) => Err(ListFault::Run(Failure::Memory)),
+    }
+}

@@ -1,0 +1,206 @@
+//! One run over a list: items read, what is to be written for them made, and written, block by block.
+ghost use Rattle.std.specs.Prelude.{◌≡◌, ◌≢◌, ◌↔◌, ◌+◌, ◌<◌, ◌^◌, ◌++◌, [], length, ℕ, List, true, false, OnOk, OnErr, IfOk, IfErr};
+ghost use Rattle.std.specs.Io.KnownBytes.{Appends, IsAtEnd};
+ghost use Rattle.program_frame.specs.declared.fault.Failure.{Failure};
+ghost use Rattle.program_frame.specs.declared.lists.fault.ListFault.{ListFault};
+ghost use Rattle.program_frame.specs.Marked.{marked_inner, has_failed};
+ghost use Rattle.program_frame.specs.Written.{AppendsBeginning};
+ghost use Rattle.program_frame.specs.Rules.{IsRefused};
+ghost use Rattle.program_frame.specs.Reading.{HasBegun, IsEnded, Reads, Stops, Begins};
+ghost use Rattle.program_frame.specs.ListRun.{WritesOutput, WritesUpTo, WritesBeginning, Finishes, IsLast};
+
+use crate::fault::Failure;
+use crate::lists::fault::ListFault;
+use crate::lists::reading::{read_block, write_at};
+use crate::lists::task::ListTask;
+use crate::marked::Marked;
+use crate::writing::write_out;
+use std::alloc::Allocator;
+use std::io::{Read, Write};
+
+/// How many bytes are read at a time.
+const BLOCK: usize = 16384;
+
+/// Reads all items that the reader has, and writes what each becomes, block by block. Both marks must
+/// be unset ([`Marked::failed`] tells).
+///
+/// The last item may lack the byte that ends it where [`ListTask::takes_unended`] says so. After each
+/// block all of its output is written and flushed. What is kept is the item that has begun, and the
+/// output of a block.
+///
+/// # Errors
+///
+/// [`ListFault::Refused`] and [`ListFault::TooLong`] for the first item that is refused, and
+/// [`ListFault::Unended`] for a last item that must have its end and lacks it, with exactly the output
+/// for the items before it written. [`ListFault::Run`] with `Read` exactly where a
+/// read failed, with `Write` exactly where a write or a flush did, and with `Memory` where memory
+/// was refused; [`ListFault::TooMuch`] for an input of 2^64 - 1 bytes or more. Then the output for some
+/// of the first items is written, each of which has its end, or before `Write` a beginning of that or
+/// of all the output.
+///
+/// ```
+/// use names_commands::task::{OnPlatform, Settings, Task};
+/// use os_str_bytes::Unix;
+/// use program_frame::lists::run::run;
+/// use program_frame::marked::Marked;
+///
+/// let names: &[u8] = b"a\nb\0\xFF\0c";
+/// let mut taken = Vec::new(alloc);
+/// let (mut reader, mut writer) = (Marked::new(names), Marked::new(&mut taken));
+/// let settings = Settings { task: Task::ListAll, max: 255 };
+/// let listing = OnPlatform::<Unix>::new(settings);
+/// assert!(rt; run(alloc, &listing, &mut reader, &mut writer) == Ok(()));
+/// assert_eq!(rt; taken.as_slice(), b"a\\u000Ab\n\\xFF\nc\n".as_slice());
+/// ```
+pub fn run<T: ListTask, A: Allocator, R: Read, W: Write>(
+    alloc: A,
+    task: &T,
+    reader: &mut Marked<R>,
+    writer: &mut Marked<W>,
+) -> Result<(), ListFault<T::Refusal>>
+    requires reader_unmarked { has_failed reader.old ≡ false }
+    requires writer_unmarked { has_failed writer.old ≡ false }
+
+    // The output.
+    ensures all_read { OnOk result (IsAtEnd (R.remaining (marked_inner reader.new))) }
+    ensures written { OnOk result (WritesOutput (T.rules task.now)
+        (R.remaining (marked_inner reader.old)) (W.contents (marked_inner writer.old))
+        (W.contents (marked_inner writer.new))) }
+
+    // What was written before a fault.
+    ensures stopped { IfErr result (λ fault. fault ≢ ListFault.Run Failure.Write
+        → WritesUpTo (T.rules task.now) fault
+        (R.remaining (marked_inner reader.old)) (W.contents (marked_inner writer.old))
+        (W.contents (marked_inner writer.new))) }
+    ensures beginning { result ≡ Err (ListFault.Run Failure.Write)
+        → WritesBeginning (T.rules task.now)
+        (R.remaining (marked_inner reader.old)) (W.contents (marked_inner writer.old))
+        (W.contents (marked_inner writer.new)) }
+
+    // When a read or a write is to blame.
+    ensures read { (result ≡ Err (ListFault.Run Failure.Read)) ↔ (has_failed reader.new ≡ true) }
+    ensures write { (result ≡ Err (ListFault.Run Failure.Write)) ↔ (has_failed writer.new ≡ true) }
+{
+    let mut begun = Vec::new(&alloc);
+    let mut count = 0;
+    let mut total = 0;
+    let mut piece = [0u8; BLOCK];
+    loop {
+        let size = match reader.read(&mut piece) {
+            Ok(0) => return finish::<T, &A, W>(&alloc, task, count, &begun, writer),
+            Ok(size) => size,
+            Err(_) => return Err(ListFault::Run(Failure::Read)),
+        };
+        if size as u64 >= u64::MAX - total {
+            return Err(ListFault::TooMuch);
+        }
+        total += size as u64;
+        let block = &piece[..size];
+        match write_block::<T, &A, W>(&alloc, task, count, block, &mut begun, writer) {
+            Ok(ended) => count = ended,
+            Err(fault) => return Err(fault),
+        }
+    }
+}
+
+/// Reads a block, and writes what is to be written for the items that end in it. It answers how
+/// many items have ended.
+fn write_block<T: ListTask, A: Allocator + Copy, W: Write>(
+    alloc: A,
+    task: &T,
+    count: u64,
+    block: &[u8],
+    begun: &mut Vec<u8, A>,
+    writer: &mut Marked<W>,
+) -> Result<u64, ListFault<T::Refusal>>
+    requires counted { count + length begun.old.items + length block.now + 1 < 2 ^ 64 }
+    requires begun { HasBegun (T.rules task.now) begun.old.items }
+    requires unmarked { has_failed writer.old ≡ false }
+    ensures ok { IfOk result (λ ended. (text : List ℕ)
+        × (Reads (T.rules task.now)
+        (record { begun = begun.old.items; count = count; output = [] }) block.now
+        (record { begun = begun.new.items; count = ended; output = text })
+        × Appends (W.contents (marked_inner writer.old)) (W.contents (marked_inner writer.new))
+        text)) }
+    ensures stopped { IfErr result (λ fault. fault ≢ ListFault.Run Failure.Write → (text : List ℕ)
+        × (((more : List ℕ) → Stops (T.rules task.now)
+        (record { begun = begun.old.items; count = count; output = [] }) (block.now ++ more) text
+        fault)
+        × Appends (W.contents (marked_inner writer.old)) (W.contents (marked_inner writer.new))
+        text)) }
+    ensures beginning { result ≡ Err (ListFault.Run Failure.Write) → (text : List ℕ)
+        × (((more : List ℕ) → Begins (T.rules task.now)
+        (record { begun = begun.old.items; count = count; output = [] }) (block.now ++ more) text)
+        × AppendsBeginning (W.contents (marked_inner writer.old))
+        (W.contents (marked_inner writer.new)) text) }
+    ensures no_read { result ≢ Err (ListFault.Run Failure.Read) }
+    ensures marked { (result ≡ Err (ListFault.Run Failure.Write)) ↔ (has_failed writer.new ≡ true) }
+{
+    let mut output = Vec::new(alloc);
+    let ended = read_block::<T, A>(alloc, task, count, block, begun, &mut output);
+    match write_output(writer, &output) {
+        Ok(()) => ended,
+        Err(fault) => Err(fault),
+    }
+}
+
+/// Writes what is to be written for the item that has begun where the input ends.
+fn finish<T: ListTask, A: Allocator + Copy, W: Write>(
+    alloc: A,
+    task: &T,
+    count: u64,
+    begun: &[u8],
+    writer: &mut Marked<W>,
+) -> Result<(), ListFault<T::Refusal>>
+    requires counted { count + 1 < 2 ^ 64 }
+    requires begun { HasBegun (T.rules task.now) begun.now }
+    requires unmarked { has_failed writer.old ≡ false }
+    ensures ok { OnOk result ((text : List ℕ)
+        × (Finishes (T.rules task.now) begun.now text
+        × Appends (W.contents (marked_inner writer.old)) (W.contents (marked_inner writer.new))
+        text)) }
+    ensures stopped { IfErr result (λ fault. fault ≢ ListFault.Run Failure.Write
+        → IsRefused (T.rules task.now) (count + 1) begun.now fault) }
+    ensures ended { IfErr result (λ fault. IsEnded (T.rules task.now) fault []) }
+    ensures unchanged { IfErr result (λ fault. fault ≢ ListFault.Run Failure.Write
+        → writer.new ≡ writer.old) }
+    ensures beginning { result ≡ Err (ListFault.Run Failure.Write) → (text : List ℕ)
+        × (IsLast (T.rules task.now) begun.now text
+        × AppendsBeginning (W.contents (marked_inner writer.old))
+        (W.contents (marked_inner writer.new)) text) }
+    ensures no_read { result ≢ Err (ListFault.Run Failure.Read) }
+    ensures marked { (result ≡ Err (ListFault.Run Failure.Write)) ↔ (has_failed writer.new ≡ true) }
+{
+    if begun.is_empty() {
+        return Ok(());
+    }
+    if !task.takes_unended() {
+        return Err(ListFault::Unended(count + 1));
+    }
+    let mut output = Vec::new(alloc);
+    match write_at::<T, A>(alloc, task, count + 1, begun, &mut output) {
+        Ok(()) => write_output(writer, &output),
+        Err(fault) => Err(fault),
+    }
+}
+
+/// Writes all of the output, and flushes.
+fn write_output<F: Copy, W: Write>(
+    writer: &mut Marked<W>,
+    output: &[u8],
+) -> Result<(), ListFault<F>>
+    requires { has_failed writer.old ≡ false }
+    ensures written { OnOk result (Appends (W.contents (marked_inner writer.old))
+        (W.contents (marked_inner writer.new)) output.now) }
+    ensures fault { IfErr result (λ fault. fault ≡ ListFault.Run Failure.Write) }
+    ensures beginning { result ≡ Err (ListFault.Run Failure.Write)
+        → AppendsBeginning (W.contents (marked_inner writer.old))
+        (W.contents (marked_inner writer.new)) output.now }
+    ensures no_read { result ≢ Err (ListFault.Run Failure.Read) }
+    ensures marked { (result ≡ Err (ListFault.Run Failure.Write)) ↔ (has_failed writer.new ≡ true) }
+{
+    match write_out(writer, output) {
+        Ok(()) => Ok(()),
+        Err(_) => Err(ListFault::Run(Failure::Write)),
+    }
+}
