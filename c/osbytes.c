@@ -77,6 +77,10 @@ uint32_t osb_core_symbol(uint32_t platform, const char *at, size_t len, size_t f
                          struct core_step *step);
 #pragma GCC visibility pop
 
+#ifdef __x86_64__
+#include "levels.h"
+#endif
+
 /* A function that is inlined: so the export that it is given is called directly, and a step of an
  * iterator makes one call. */
 #define INLINED static inline __attribute__((always_inline))

@@ -4,8 +4,9 @@
  * too, as generalized UTF-8), one of wasm is UTF-8. Lengths and indices count bytes, if nothing
  * else is said. A 0 byte is a byte like any other: no string is ended by one.
  *
- * The library is for Linux on x86-64 processors of level x86-64-v2 or later; an older one stops the
- * program with SIGILL.
+ * The library is for Linux, on x86-64 and on aarch64. On x86-64 it uses the vector instructions that
+ * the processor has (those of x86-64-v2 and x86-64-v3), which it asks once, before main or while it is
+ * loaded.
  *
  * No call keeps state, allocates memory or writes anything but what its arguments say. So every
  * call may run in any thread, and in a signal handler too, if no other thread writes to what it

@@ -1,0 +1,91 @@
+/* Which of the proved exports are called: on x86-64 they are there three times, built for its levels
+ * x86-64, x86-64-v2 and x86-64-v3 (osb_core_NAME_v1, _v2, _v3), and those of the highest level that the
+ * processor has are chosen, once. The choice is only tested; each of what it chooses from is proved.
+ *
+ * The table has those of the lowest level from the start, so that a call is right at any time. A constructor
+ * changes it, before main and before dlopen returns. A call in another thread meanwhile, which only another
+ * constructor can have begun, uses the one or the other, and both answer the same.
+ *
+ * It is included by osbytes.c after the declarations of the exports. OSB_HIGHEST is the highest level that is
+ * chosen, for tests. CPUID is asked by hand, since __builtin_cpu_supports needs a part of libgcc. */
+#include <cpuid.h>
+
+#ifndef OSB_HIGHEST
+#define OSB_HIGHEST 3
+#endif
+
+#define EXPORTS(each)                                                                              \
+    each(check) each(start) each(feed) each(finish) each(fault_text) each(to_wide) each(from_wide) \
+    each(lossy) each(escape) each(escape_line) each(unescape) each(unescape_line) each(find)       \
+    each(rfind) each(contains) each(starts_with) each(ends_with) each(starts_with_units)           \
+    each(ends_with_units) each(is_boundary) each(compare) each(cut) each(rcut) each(chunk)         \
+    each(symbol)
+
+#define DECLARED(name)                                                                             \
+    __attribute__((visibility("hidden"))) __typeof__(osb_core_##name) osb_core_##name##_v1,        \
+        osb_core_##name##_v2, osb_core_##name##_v3;
+EXPORTS(DECLARED)
+
+#define POINTER(name) __typeof__(osb_core_##name) *name;
+#define LOWEST(name) osb_core_##name##_v1,
+static struct {
+    EXPORTS(POINTER)
+} chosen = {EXPORTS(LOWEST)};
+
+/* Whether the processor has all of x86-64-v2, as the ABI for x86-64 lists it. */
+static bool is_v2(void) {
+    unsigned a, b, c, d;
+    const unsigned in_c =
+        bit_SSE3 | bit_SSSE3 | bit_CMPXCHG16B | bit_SSE4_1 | bit_SSE4_2 | bit_POPCNT;
+    if (!__get_cpuid(1, &a, &b, &c, &d) || (c & in_c) != in_c) return false;
+    return __get_cpuid(0x80000001, &a, &b, &c, &d) && (c & bit_LAHF_LM) != 0;
+}
+
+/* Whether the processor and the system have all of x86-64-v3. */
+static bool is_v3(void) {
+    unsigned a, b, c, d, low, high;
+    const unsigned in_c = bit_FMA | bit_MOVBE | bit_OSXSAVE | bit_AVX | bit_F16C;
+    const unsigned in_b = bit_AVX2 | bit_BMI | bit_BMI2;
+    if (!__get_cpuid(1, &a, &b, &c, &d) || (c & in_c) != in_c) return false;
+    __asm__("xgetbv" : "=a"(low), "=d"(high) : "c"(0));
+    if ((low & 6) != 6) return false; /* the system keeps the wide registers */
+    if (!__get_cpuid_count(7, 0, &a, &b, &c, &d) || (b & in_b) != in_b) return false;
+    return __get_cpuid(0x80000001, &a, &b, &c, &d) && (c & bit_LZCNT) != 0;
+}
+
+#define TAKE_V2(name) __atomic_store_n(&chosen.name, osb_core_##name##_v2, __ATOMIC_RELAXED);
+#define TAKE_V3(name) __atomic_store_n(&chosen.name, osb_core_##name##_v3, __ATOMIC_RELAXED);
+__attribute__((constructor(101))) static void choose(void) {
+    if (OSB_HIGHEST < 2 || !is_v2()) return;
+    EXPORTS(TAKE_V2)
+    if (OSB_HIGHEST < 3 || !is_v3()) return;
+    EXPORTS(TAKE_V3)
+}
+
+/* From here on the name of an export is the one that is chosen. */
+#define CHOSEN(name) __atomic_load_n(&chosen.name, __ATOMIC_RELAXED)
+#define osb_core_check CHOSEN(check)
+#define osb_core_start CHOSEN(start)
+#define osb_core_feed CHOSEN(feed)
+#define osb_core_finish CHOSEN(finish)
+#define osb_core_fault_text CHOSEN(fault_text)
+#define osb_core_to_wide CHOSEN(to_wide)
+#define osb_core_from_wide CHOSEN(from_wide)
+#define osb_core_lossy CHOSEN(lossy)
+#define osb_core_escape CHOSEN(escape)
+#define osb_core_escape_line CHOSEN(escape_line)
+#define osb_core_unescape CHOSEN(unescape)
+#define osb_core_unescape_line CHOSEN(unescape_line)
+#define osb_core_find CHOSEN(find)
+#define osb_core_rfind CHOSEN(rfind)
+#define osb_core_contains CHOSEN(contains)
+#define osb_core_starts_with CHOSEN(starts_with)
+#define osb_core_ends_with CHOSEN(ends_with)
+#define osb_core_starts_with_units CHOSEN(starts_with_units)
+#define osb_core_ends_with_units CHOSEN(ends_with_units)
+#define osb_core_is_boundary CHOSEN(is_boundary)
+#define osb_core_compare CHOSEN(compare)
+#define osb_core_cut CHOSEN(cut)
+#define osb_core_rcut CHOSEN(rcut)
+#define osb_core_chunk CHOSEN(chunk)
+#define osb_core_symbol CHOSEN(symbol)
