@@ -1,0 +1,92 @@
+"""Strings of operating systems, of any platform on any platform.
+
+A name on Unix is any bytes, one on Windows is 16-bit units of which some may be lone surrogates, one in
+wasm is UTF-8. These calls take and give such strings as `bytes` (of Windows as WTF-8, which is UTF-8 in which
+lone surrogates may occur) or as the `str` that Python makes of them: of Unix and wasm by `surrogateescape`, as
+`os.fsdecode` does, of Windows by `surrogatepass`.
+
+>>> import osbytes
+>>> osbytes.escape_line(b"caf\\xe9\\n")
+'caf\\\\xE9\\\\u000A'
+>>> osbytes.unescape_line('caf\\\\xE9\\\\u000A')
+b'caf\\xe9\\n'
+>>> osbytes.check(b"ab\\xff", osbytes.WASM)
+Traceback (most recent call last):
+...
+osbytes.FaultError: invalid utf-8 sequence of 1 bytes from index 2
+
+The work is done by libosbytes, whose answers are proved. Each error is an `OsBytesError`, and a `ValueError`.
+"""
+
+from __future__ import annotations
+
+from ._calls import (
+    UNIX,
+    WASM,
+    WINDOWS,
+    Character,
+    Checker,
+    Platform,
+    Unit,
+    check,
+    chunks,
+    compare,
+    contains,
+    decode,
+    display,
+    encode,
+    ends_with,
+    escape,
+    escape_line,
+    find,
+    from_units,
+    is_boundary,
+    is_string,
+    rfind,
+    rsplit,
+    split,
+    starts_with,
+    symbols,
+    to_units,
+    unescape,
+    unescape_line,
+)
+from ._errors import BadEscapeError, FaultError, NoStringError, OsBytesError
+from ._library import version
+
+__all__ = [
+    "UNIX",
+    "WASM",
+    "WINDOWS",
+    "BadEscapeError",
+    "Character",
+    "Checker",
+    "FaultError",
+    "NoStringError",
+    "OsBytesError",
+    "Platform",
+    "Unit",
+    "check",
+    "chunks",
+    "compare",
+    "contains",
+    "decode",
+    "display",
+    "encode",
+    "ends_with",
+    "escape",
+    "escape_line",
+    "find",
+    "from_units",
+    "is_boundary",
+    "is_string",
+    "rfind",
+    "rsplit",
+    "split",
+    "starts_with",
+    "symbols",
+    "to_units",
+    "unescape",
+    "unescape_line",
+    "version",
+]

@@ -1,0 +1,129 @@
+"""The shared library that is beside this file, or that OSBYTES_LIBRARY names, with the types of its calls."""
+
+from __future__ import annotations
+
+import ctypes
+import os
+from ctypes import CDLL, POINTER, Structure, c_char_p, c_int32, c_size_t, c_uint16, c_uint32, c_void_p
+from pathlib import Path
+
+
+class View(Structure):
+    """Bytes of a string that was given."""
+
+    _fields_ = [("at", c_void_p), ("len", c_size_t)]
+
+    def __bytes__(self) -> bytes:
+        return ctypes.string_at(self.at, self.len)
+
+
+class Fault(Structure):
+    """The first fault of bytes."""
+
+    _fields_ = [("kind", c_uint32), ("value", c_uint32), ("index", c_size_t), ("count", c_size_t)]
+
+
+class CheckerState(Structure):
+    """How far a check has come of bytes that come in pieces."""
+
+    _fields_ = [("state", c_uint32), ("bits", c_uint32), ("kind", c_uint32), ("value", c_uint32)]
+
+
+class Split(Structure):
+    """An iterator over pieces."""
+
+    _fields_ = [("string", View), ("pattern", View), ("next", c_size_t), ("ended", c_uint32)]
+
+
+class Chunks(Structure):
+    """An iterator over chunks."""
+
+    _fields_ = [("string", View), ("next", c_size_t)]
+
+
+class Chunk(Structure):
+    """A part without whole characters, and the text after it."""
+
+    _fields_ = [("part", View), ("text", View)]
+
+
+class Symbols(Structure):
+    """An iterator over symbols."""
+
+    _fields_ = [("string", View), ("next", c_size_t), ("platform", c_uint32)]
+
+
+class Symbol(Structure):
+    """A character, or a unit that is no part of a text."""
+
+    _fields_ = [("kind", c_uint32), ("value", c_uint32), ("bytes", View)]
+
+
+OK, FAULTY, NO_ROOM, NONE, ENDED, BAD_ESCAPE, NO_STRING = range(7)
+CHARACTER = 1
+FAULT_TEXT_ROOM = 129
+
+STRING = [c_char_p, c_size_t]
+COUNTED = [c_char_p, c_size_t, POINTER(c_size_t)]
+ESCAPES = [c_uint32, *STRING, *COUNTED, POINTER(Fault)]
+UNESCAPES = [c_uint32, *STRING, *COUNTED, POINTER(c_size_t)]
+
+# The types of what each call takes, beside a status that it answers.
+CALLS: dict[str, list[type]] = {
+    "osb_check": [c_uint32, *STRING, POINTER(Fault)],
+    "osb_checker_start": [POINTER(CheckerState)],
+    "osb_checker_feed": [POINTER(CheckerState), *STRING, POINTER(Fault)],
+    "osb_checker_finish": [POINTER(CheckerState), POINTER(Fault)],
+    "osb_fault_text": [POINTER(Fault), *COUNTED],
+    "osb_to_wide": [*STRING, POINTER(c_uint16), c_size_t, POINTER(c_size_t), POINTER(Fault)],
+    "osb_from_wide": [POINTER(c_uint16), c_size_t, *COUNTED],
+    "osb_lossy": ESCAPES,
+    "osb_escape": ESCAPES,
+    "osb_escape_line": ESCAPES,
+    "osb_unescape": UNESCAPES,
+    "osb_unescape_line": UNESCAPES,
+    "osb_find": [*STRING, *STRING, POINTER(c_size_t)],
+    "osb_rfind": [*STRING, *STRING, POINTER(c_size_t)],
+    "osb_contains": [*STRING, *STRING],
+    "osb_starts_with_units": [c_uint32, *STRING, *STRING],
+    "osb_ends_with_units": [c_uint32, *STRING, *STRING],
+    "osb_is_boundary": [*STRING, c_size_t],
+    "osb_compare": [*STRING, *STRING, POINTER(c_int32)],
+    "osb_split_start": [POINTER(Split), *STRING, *STRING],
+    "osb_rsplit_start": [POINTER(Split), *STRING, *STRING],
+    "osb_split_next": [POINTER(Split), POINTER(View)],
+    "osb_rsplit_next": [POINTER(Split), POINTER(View)],
+    "osb_chunks_start": [POINTER(Chunks), *STRING],
+    "osb_chunks_next": [POINTER(Chunks), POINTER(Chunk)],
+    "osb_symbols_start": [POINTER(Symbols), c_uint32, *STRING, POINTER(Fault)],
+    "osb_symbols_next": [POINTER(Symbols), POINTER(Symbol)],
+}
+# What takes and answers lengths.
+BOUNDS = ["osb_wide_bound", "osb_bytes_bound", "osb_lossy_bound", "osb_escape_bound", "osb_unescape_bound"]
+
+
+def load(name: str) -> CDLL:
+    """Loads the library, and gives each call its types."""
+    found = CDLL(name)
+    for call, types in CALLS.items():
+        getattr(found, call).argtypes = types
+        getattr(found, call).restype = c_uint32
+    for call in BOUNDS:
+        getattr(found, call).argtypes = [c_size_t]
+        getattr(found, call).restype = c_size_t
+    found.osb_version.argtypes = []
+    found.osb_version.restype = c_uint32
+    return found
+
+
+library = load(os.environ.get("OSBYTES_LIBRARY") or str(Path(__file__).with_name("libosbytes.so")))
+
+
+def version() -> str:
+    """Returns the version of libosbytes, as `0.1.0`.
+
+    >>> version().count(".")
+    2
+    """
+    number = library.osb_version()
+    return f"{number // 10000}.{number // 100 % 100}.{number % 100}"

@@ -1,0 +1,147 @@
+"""Asks the package what answer files say of its calls: answers.py FILE ..
+
+The columns of each kind of file are named in its second line. The status is 1 where a row differs.
+"""
+
+from __future__ import annotations
+
+import sys
+from pathlib import Path
+from typing import Iterable, Iterator
+
+import osbytes
+from osbytes import UNIX, WASM, WINDOWS, BadEscapeError, Checker, FaultError, NoStringError
+
+# What was answered, and what a row wants.
+Answers = Iterator[tuple[object, str]]
+
+PLATFORMS = {"unix": UNIX, "windows": WINDOWS, "wasm": WASM}
+
+
+def raw(column: str) -> bytes:
+    return b"" if column == "-" else bytes.fromhex(column)
+
+
+def shown(answer: bytes) -> str:
+    return answer.hex() or "-"
+
+
+def joined(answers: Iterable[bytes]) -> str:
+    return ",".join(map(shown, answers))
+
+
+def wide(string: bytes) -> str:
+    return "".join(f"{unit:04x}" for unit in osbytes.to_units(string)) or "-"
+
+
+def index(at: int) -> str:
+    return "!" if at == -1 else str(at)
+
+
+def told(answer: bool) -> str:
+    return "1" if answer else "0"
+
+
+def decode(string: str, before: str, _fault: str) -> Answers:
+    prefix = raw(string)
+    try:
+        osbytes.check(prefix, WINDOWS)
+    except FaultError as error:
+        prefix = prefix[: error.index]
+    yield wide(prefix), before
+
+
+def encode(units: str, string: str) -> Answers:
+    given = raw(units)
+    yield shown(osbytes.from_units([given[at] << 8 | given[at + 1] for at in range(0, len(given), 2)])), string
+
+
+def search(_platform: str, string: str, pattern: str, *wanted: str) -> Answers:
+    given, text = raw(string), raw(pattern).decode()
+    yield index(osbytes.find(given, text)), wanted[0]
+    yield index(osbytes.rfind(given, text)), wanted[1]
+    yield told(osbytes.contains(given, text)), wanted[2]
+    yield joined(osbytes.split(given, text)) if text else "!", wanted[10]
+    yield joined(osbytes.rsplit(given, text)) if text else "!", wanted[11]
+
+
+def strings(platform: str, string: str, boundaries: str, pairs: str, _units: str, _text: str, lossy: str, *_: str) -> Answers:
+    given = raw(string)
+    yield "".join(told(osbytes.is_boundary(given, at)) for at in range(len(given) + 2)), boundaries
+    found = osbytes.chunks(given)
+    yield ",".join(f"{shown(part)}:{shown(text.encode())}" for part, text in found) or "!", pairs
+    yield shown(osbytes.display(given, PLATFORMS[platform]).encode()), lossy
+
+
+def lossies(string: str, utf8: str, text: str, _checked: str, _reading: str) -> Answers:
+    given = raw(string)
+    yield told(osbytes.is_string(given, WASM)), told(utf8 == "ok")
+    yield shown(osbytes.display(given).encode()), text
+
+
+def pieces(parts: str, wanted: str) -> Answers:
+    checker, answers = Checker(), []
+    for call in [*(lambda part=part: checker.feed(part) for part in map(raw, parts.split(","))), checker.finish]:
+        try:
+            call()
+            answers.append("ok")
+        except FaultError:
+            answers.append("faulty")
+    yield answers, ["ok" if answer == "ok" else "faulty" for answer in wanted.split(";")]
+
+
+def prefix(string: str, pattern: str, starts: str, ends: str) -> Answers:
+    yield told(osbytes.starts_with(raw(string), raw(pattern), WINDOWS)), starts
+    yield told(osbytes.ends_with(raw(string), raw(pattern), WINDOWS)), ends
+
+
+def join(a: str, b: str, _pushed: str, _repeated: str, wanted: str) -> Answers:
+    yield "<=>"[osbytes.compare(raw(a), raw(b)) + 1], wanted
+
+
+def quote(platform: str, string: str, wanted: str) -> Answers:
+    yield shown(osbytes.escape(raw(string), PLATFORMS[platform]).encode()), wanted
+
+
+def unquote(platform: str, text: str, wanted: str) -> Answers:
+    given = raw(text).decode()
+    try:
+        yield f"ok {shown(osbytes.unescape(given, PLATFORMS[platform]))}", wanted
+    except BadEscapeError as error:
+        yield f"bad {len(given[: error.index].encode())}", wanted
+    except NoStringError:
+        yield "notcanonical", wanted
+
+
+FILES = {
+    "windows_decode": decode,
+    "windows_encode": encode,
+    "search": search,
+    "strings": strings,
+    "lossy": lossies,
+    "checker": pieces,
+    "windows_prefix": prefix,
+    "windows_join": join,
+    "quote": quote,
+    "unquote": unquote,
+}
+
+
+def main(*files: str) -> int:
+    asked = differ = 0
+    for name in files:
+        for row in Path(name).read_text(encoding="utf-8").splitlines():
+            if row.startswith("#"):
+                continue
+            asked += 1
+            answers = list(FILES[Path(name).stem](*row.split("\t")))
+            if any(answer != wanted for answer, wanted in answers):
+                differ += 1
+                if differ < 20:
+                    print(f"{name}: {row}\n    {answers}")
+    print(f"the Python package: {asked} rows asked, {differ} differ")
+    return 1 if differ else 0
+
+
+if __name__ == "__main__":
+    sys.exit(main(*sys.argv[1:]))

@@ -1,0 +1,167 @@
+"""Tests of the package, which is installed, beside Python's own codecs and searches: python test_package.py"""
+
+from __future__ import annotations
+
+import codecs
+import doctest
+import os
+import random
+import subprocess
+import sys
+import unittest
+
+import osbytes
+from osbytes import UNIX, WASM, WINDOWS, BadEscapeError, Character, Checker, FaultError, NoStringError, Unit
+
+FORMS = [text.encode("utf-8", "surrogatepass") for text in "a,b\\\n\u00e9\u20ac\u2028\U000e0041\ud800\udc00\U0001f600"]
+FORMS += [b"\xc0", b"\xe2\x82", b"\xed", b"\xf4\x90", b"\x80", b"\0"]
+
+
+def made_up(numbers: random.Random) -> bytes:
+    several = numbers.sample(FORMS, numbers.randint(1, 4))
+    return b"".join(numbers.choice(several) for _ in range(numbers.randint(0, 40)))
+
+
+def units_by_python(string: bytes) -> bytes:
+    return string.decode("utf-8", "surrogatepass").encode("utf-16-le", "surrogatepass")
+
+
+def is_wtf8_by_python(string: bytes) -> bool:
+    """Python takes the halves of a pair too, which WTF-8 leaves to the four bytes."""
+    try:
+        wide = units_by_python(string)
+    except UnicodeDecodeError:
+        return False
+    return wide.decode("utf-16-le", "surrogatepass").encode("utf-8", "surrogatepass") == string
+
+
+class Examples(unittest.TestCase):
+    def test_examples_of_the_docs(self) -> None:
+        for module in (osbytes, osbytes._calls, osbytes._library):
+            failed, tried = doctest.testmod(module, optionflags=doctest.IGNORE_EXCEPTION_DETAIL)
+            self.assertEqual(failed, 0, module)
+            self.assertGreater(tried, 0, module)
+
+
+class BesidePython(unittest.TestCase):
+    def test_texts(self) -> None:
+        numbers = random.Random(1)
+        for _ in range(20000):
+            string = made_up(numbers)
+            self.assertEqual(osbytes.decode(string), codecs.decode(string, "utf-8", "surrogateescape"))
+            self.assertEqual(osbytes.encode(osbytes.decode(string)), string)
+            self.assertEqual(osbytes.display(string), string.decode("utf-8", "replace"))
+            self.assertEqual(osbytes.unescape(osbytes.escape(string)), string)
+            line = osbytes.escape_line(string)
+            self.assertEqual(osbytes.unescape_line(line), string)
+            self.assertEqual(len(line.splitlines()), 1 if string else 0)
+            self.assertEqual(b"".join(part + text.encode() for part, text in osbytes.chunks(string)), string)
+
+    def test_file_system_names(self) -> None:
+        numbers = random.Random(2)
+        for _ in range(2000):
+            string = made_up(numbers)
+            if sys.getfilesystemencoding() == "utf-8":
+                self.assertEqual(osbytes.decode(string), os.fsdecode(string))
+                self.assertEqual(osbytes.encode(os.fsdecode(string)), os.fsencode(os.fsdecode(string)))
+
+    def test_windows(self) -> None:
+        numbers = random.Random(3)
+        for _ in range(20000):
+            string = made_up(numbers)
+            self.assertEqual(osbytes.is_string(string, WINDOWS), is_wtf8_by_python(string))
+            if is_wtf8_by_python(string):
+                units = units_by_python(string)
+                wide = [int.from_bytes(units[at : at + 2], "little") for at in range(0, len(units), 2)]
+                self.assertEqual(osbytes.to_units(string), wide)
+                self.assertEqual(osbytes.from_units(wide), string)
+                self.assertEqual(osbytes.encode(osbytes.decode(string, WINDOWS), WINDOWS), string)
+
+    def test_searches(self) -> None:
+        numbers = random.Random(4)
+        for _ in range(20000):
+            string, pattern = made_up(numbers), numbers.choice([",", "a", "ab", "\u00e9", "\U0001f600"])
+            raw = pattern.encode()
+            self.assertEqual(osbytes.find(string, pattern), string.find(raw))
+            self.assertEqual(osbytes.rfind(string, pattern), string.rfind(raw))
+            self.assertEqual(osbytes.contains(string, pattern), raw in string)
+            self.assertEqual(osbytes.split(string, pattern), string.split(raw))
+            self.assertEqual(osbytes.starts_with(string, raw), string.startswith(raw))
+            self.assertEqual(osbytes.ends_with(string, raw), string.endswith(raw))
+            other = made_up(numbers)
+            self.assertEqual(osbytes.compare(string, other), (string > other) - (string < other))
+
+    def test_symbols(self) -> None:
+        self.assertEqual(list(osbytes.symbols(b"a\xff\xc3\xa9")), [Character("a"), Unit(0xFF), Character("\u00e9")])
+        self.assertEqual(list(osbytes.symbols("\ud83d\U0001f600", WINDOWS)), [Unit(0xD83D), Character("\U0001f600")])
+
+
+class Refusals(unittest.TestCase):
+    def test_faults(self) -> None:
+        numbers = random.Random(5)
+        for _ in range(5000):
+            string = made_up(numbers)
+            try:
+                string.decode("utf-8")
+                osbytes.check(string, WASM)
+            except UnicodeDecodeError as error:
+                with self.assertRaises(FaultError) as refused:
+                    osbytes.check(string, WASM)
+                self.assertEqual((refused.exception.index, refused.exception.count), (error.start, error.end - error.start))
+
+    def test_escapes(self) -> None:
+        with self.assertRaises(BadEscapeError) as refused:
+            osbytes.unescape("\u00e9\\q")
+        self.assertEqual(refused.exception.index, 1)
+        for text in ("\\x61", "\\uD800"):
+            with self.assertRaises(NoStringError):
+                osbytes.unescape(text)
+        self.assertEqual(osbytes.unescape("\\uD800", WINDOWS), b"\xed\xa0\x80")
+
+    def test_checkers(self) -> None:
+        checker = Checker()
+        checker.feed(b"a\xed\xa0")
+        with self.assertRaises(FaultError):
+            checker.feed(b"\x80\xed\xb0\x80")
+        with self.assertRaises(FaultError):
+            checker.finish()
+
+    def test_values(self) -> None:
+        with self.assertRaises(OverflowError):
+            osbytes.from_units([0x10000])
+        with self.assertRaises(ValueError):
+            osbytes.split(b"a", "")
+        self.assertFalse(osbytes.is_boundary(b"a", -1))
+        self.assertFalse(osbytes.is_boundary(b"a", 2))
+
+    def test_empty(self) -> None:
+        for platform in (UNIX, WINDOWS, WASM):
+            self.assertEqual(osbytes.escape(b"", platform), "")
+            self.assertEqual(osbytes.unescape("", platform), b"")
+            self.assertEqual(osbytes.display(b"", platform), "")
+        self.assertEqual(osbytes.to_units(b""), [])
+        self.assertEqual(osbytes.from_units([]), b"")
+        self.assertEqual(list(osbytes.chunks(b"")), [])
+        self.assertEqual(osbytes.split(b"", ","), [b""])
+
+    def test_long(self) -> None:
+        string = b"\xff\n" * (1 << 20)
+        self.assertEqual(osbytes.unescape_line(osbytes.escape_line(string)), string)
+
+
+class Command(unittest.TestCase):
+    def run_it(self, *words: bytes, given: bytes = b"") -> bytes:
+        ran = subprocess.run([sys.executable, "-m", "osbytes", *words], input=given, stdout=subprocess.PIPE, check=True)
+        return ran.stdout
+
+    def test_names(self) -> None:
+        self.assertEqual(self.run_it(b"a\xff", b"\n"), b"a\\xFF\n\\u000A\n")
+        self.assertEqual(self.run_it(given=b"a\xff\0b\0"), b"a\\xFF\nb\n")
+        self.assertEqual(self.run_it(given=b"a\0b"), b"a\nb\n")
+        self.assertEqual(self.run_it(given=b""), b"")
+        many = [b"%d\xff" % number for number in range(50000)]
+        self.assertEqual(self.run_it(given=b"".join(name + b"\0" for name in many)).count(b"\\xFF\n"), 50000)
+
+
+if __name__ == "__main__":
+    unittest.main()
