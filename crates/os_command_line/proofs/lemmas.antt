@@ -1,3 +1,4 @@
+pub mod PowerShell
 pub mod WindowsBatch
 pub mod WindowsOneReading
 pub mod WindowsEachLine

@@ -1,3 +1,4 @@
+pub mod PowerShell
 pub mod Windows
 pub mod WindowsBatch
 pub mod WindowsReader

@@ -1,0 +1,103 @@
+-- Names in single quotation marks are read by PowerShell as these names.
+use Rattle.std.proofs.Common.{◌≡◌, ◌≢◌, ℕ, zero, suc, ◌+◌, ◌*◌, ◌<◌, ◌≤◌, Bool, true, false, if◌then◌else◌, List, [], ◌∷◌, ◌++◌, length, take, drop, get_or, refl, sym, ap, ◌∙◌, subst, arith, append_assoc, length-append}
+use Rattle.std.specs.List.{AllByRecursion, flat_map}
+use Rattle.std.specs.Char.{encode_utf8}
+use Rattle.std.specs.Str.{IsUtf8, chars}
+use Rattle.std.proofs.lemmas.Bool.{eq-eqb, eqb-true}
+use Rattle.std.proofs.lemmas.List.{drop_more, length-take-le, take-append-drop, take_all}
+use Rattle.wtf8_core.specs.Truncated.{IsTruncated}
+use Rattle.memchr.specs.Find.{NoneBefore, Nowhere, Passes, is_byte}
+use Rattle.std.proofs.lemmas.Grind.{flat_map-append}
+use Rattle.std.proofs.lemmas.Str.{chars_past_char, chars-nil, encode_ascii, length-encode, len_utf8_bounds}
+use Rattle.os_command_line.specs.PowerShell.{HasNulAt, is_single_quote, StartsWithNoQuote, ReadsString, IsStringOf, IsPowerShellText, powershell_character, powershell_string}
+use Rattle.os_command_line.specs.PowerShell.ReadsString.{closes, doubled, itself}
+
+-- the characters that are written for one
+abbrev twice : ℕ → List ℕ
+twice c = if is_single_quote c then c ∷ c ∷ [] else c ∷ []
+
+abbrev written : List ℕ → List ℕ
+written cs = 0x27 ∷ (flat_map twice cs ++ 0x27 ∷ [])
+
+one_read : (b : Bool) (c : ℕ) (cs rest after : List ℕ) → is_single_quote c ≡ b → ReadsString after (rest ++ after) cs → ReadsString after (((if b then c ∷ c ∷ [] else c ∷ []) ++ rest) ++ after) (c ∷ cs)
+one_read true c cs rest after e r = doubled c c (rest ++ after) cs e e r
+one_read false c cs rest after e r = itself c (rest ++ after) cs e r
+
+reads : (cs after : List ℕ) → StartsWithNoQuote after → ReadsString after ((flat_map twice cs ++ 0x27 ∷ []) ++ after) cs
+reads [] after h = closes 0x27 refl h
+reads (c ∷ cs) after h = subst (λ z. ReadsString after (z ++ after) (c ∷ cs)) (sym (append_assoc (twice c) (flat_map twice cs) (0x27 ∷ []))) (one_read (is_single_quote c) c cs (flat_map twice cs ++ 0x27 ∷ []) after refl (reads cs after h))
+
+is_string : (cs : List ℕ) → IsStringOf (written cs) cs
+is_string cs = record { mark = 0x27; inner = flat_map twice cs ++ 0x27 ∷ []; begins = refl; is_mark = refl; reads = reads cs }
+
+one_encoded : (b : Bool) (c : ℕ) (xs ys : List ℕ) → xs ≡ flat_map encode_utf8 ys → (if b then encode_utf8 c ++ encode_utf8 c else encode_utf8 c) ++ xs ≡ flat_map encode_utf8 ((if b then c ∷ c ∷ [] else c ∷ []) ++ ys)
+one_encoded true c xs ys e = append_assoc (encode_utf8 c) (encode_utf8 c) xs ∙ ap (λ z. encode_utf8 c ++ (encode_utf8 c ++ z)) e
+one_encoded false c xs ys e = ap (λ z. encode_utf8 c ++ z) e
+
+encoded : (cs : List ℕ) → flat_map powershell_character cs ≡ flat_map encode_utf8 (flat_map twice cs)
+encoded [] = refl
+encoded (c ∷ cs) = one_encoded (is_single_quote c) c (flat_map powershell_character cs) (flat_map twice cs) (encoded cs)
+
+marked : (xs ys : List ℕ) → xs ≡ flat_map encode_utf8 ys → 0x27 ∷ (xs ++ 0x27 ∷ []) ≡ flat_map encode_utf8 (0x27 ∷ (ys ++ 0x27 ∷ []))
+marked xs ys e =
+    let mark : encode_utf8 0x27 ≡ 0x27 ∷ [] = encode_ascii 0x27 (omega arith) in
+    let all = flat_map-append encode_utf8 ys (0x27 ∷ []) ∙ ap (λ z. flat_map encode_utf8 ys ++ (z ++ [])) mark in
+    ap (λ z. 0x27 ∷ (z ++ 0x27 ∷ [])) e ∙ ap (λ z. 0x27 ∷ z) (sym all) ∙ ap (λ z. z ++ flat_map encode_utf8 (ys ++ 0x27 ∷ [])) (sym mark)
+
+pub is_powershell_text : (cs : List ℕ) → IsPowerShellText (powershell_string cs) cs
+is_powershell_text cs = record {
+  characters = written cs;
+  encoded = marked (flat_map powershell_character cs) (flat_map twice cs) (encoded cs);
+  is = is_string cs;
+}
+
+-- ---- the first NUL
+
+no_nul : (x : ℕ) → ¬ (is_byte 0 x ≡ true) → x ≢ 0
+no_nul x n e = n (eq-eqb x 0 e)
+
+none_from : (t : List ℕ) (n : ℕ) → ((k : ℕ) → k < n → ¬ (is_byte 0 (get_or t k 0) ≡ true)) → AllByRecursion (λ b. b ≢ 0) (take n t)
+none_from [] zero h = tt
+none_from (x ∷ t) (suc n) h = (no_nul x (h 0 (omega arith)), none_from t n (λ k lt. h (suc k) (omega arith)))
+none_from t n h = tt
+
+pub nul_at : (t : List ℕ) (i : ℕ) → NoneBefore (Passes (is_byte 0) t) 0 (length t) i × Passes (is_byte 0) t i → HasNulAt t i
+nul_at t i h =
+    let e : get_or t i 0 ≡ 0 = eqb-true _ _ h.1 in record {
+      before = take i t;
+      after = drop (i + 1) t;
+      joined = sym (take-append-drop i t) ∙ ap (λ x. take i t ++ x) (drop_more t i 0 h.0.high ∙ ap (λ x. x ∷ drop (i + 1) t) e);
+      none_before = none_from t i (λ k lt. h.0.before k (omega arith) lt);
+      index_is = sym (length-take-le i t (omega (arith, h.0.high)));
+    }
+
+pub has_no_nul : (t : List ℕ) → Nowhere (Passes (is_byte 0) t) 0 (length t) → AllByRecursion (λ b. b ≢ 0) t
+has_no_nul t h = subst (AllByRecursion (λ b. b ≢ 0)) (take_all (length t) t (omega arith)) (none_from t (length t) (λ k lt. h k (omega arith) lt))
+
+-- ---- character by character
+
+-- what the text after a quotation mark says of these bytes
+abbrev pub inner_text : List ℕ → List ℕ
+inner_text text = flat_map powershell_character (chars text) ++ 0x27 ∷ []
+
+pub one_more : (text following : List ℕ) (c : ℕ) → IsUtf8 text → text ≡ encode_utf8 c ++ following → inner_text text ≡ powershell_character c ++ inner_text following
+one_more text following c u e = ap (λ cs. flat_map powershell_character cs ++ 0x27 ∷ []) (chars_past_char text following c u e) ∙ append_assoc (powershell_character c) (flat_map powershell_character (chars following)) (0x27 ∷ [])
+
+pub no_more : (text : List ℕ) → text ≡ [] → inner_text text ≡ 0x27 ∷ []
+no_more text e = ap inner_text e ∙ ap (λ cs. flat_map powershell_character cs ++ 0x27 ∷ []) chars-nil
+
+short_character : (b : Bool) (c : ℕ) → length (if b then encode_utf8 c ++ encode_utf8 c else encode_utf8 c) ≤ 2 * length (encode_utf8 c)
+short_character true c = omega (arith, length-append (encode_utf8 c) (encode_utf8 c))
+short_character false c = omega arith
+
+pub character_fits : (c : ℕ) → length (powershell_character c) ≤ 2 * length (encode_utf8 c)
+character_fits c = short_character (is_single_quote c) c
+
+-- a prefix of the text is in the buffer, and the rest is left
+pub record IsPushed (old new : List ℕ) (count : ℕ) (left all : List ℕ) : Type 0 where
+  pub done : List ℕ
+  pub joined : done ++ left ≡ all
+  pub in_buffer : IsTruncated done old new count
+
+pub shorter : (text following : List ℕ) (c : ℕ) → text ≡ encode_utf8 c ++ following → length following < length text
+shorter text following c e = omega (arith, ap length e, length-append (encode_utf8 c) following, length-encode c, (len_utf8_bounds c).0)
