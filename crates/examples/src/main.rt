@@ -1,6 +1,7 @@
 //! The examples of README.md and docs/CALLING.md, and a reader of options, as one program.
 #![tactic(auto)]
 
+mod command_lines;
 mod cuts;
 mod names;
 mod options;
@@ -21,5 +22,6 @@ fn main(rt: HostRuntime) -> io::Result<()> {
     println!(rt; "{}", escaped_line(stem(name.as_os_str())))?;
     patterns::show(&rt, name.as_os_str())?;
     options::show(&rt)?;
+    command_lines::show(&rt)?;
     Ok(())
 }
