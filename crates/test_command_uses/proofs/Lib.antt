@@ -1,2 +1,3 @@
 pub mod KnownNames
+pub mod KnownPaths
 pub mod TurnsEnded

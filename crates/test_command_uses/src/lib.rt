@@ -7,6 +7,7 @@
 
 mod marks;
 mod names;
+mod paths;
 mod plans;
 mod programs;
 mod runs;
@@ -17,10 +18,12 @@ pub use names::{
     check_one, filtered, first_names_again, known_request, line_before, line_of, names_again,
     request_of_two, unended_line,
 };
+pub use paths::{answered, asked_one, components_of, known_question, parent_of};
 pub use plans::{kept, refuses_first, turns};
 pub use programs::{
     after_a_fault, after_success, names_silent_where_closed, names_without_arguments,
-    silent_where_closed, statuses, untold, with_arguments, with_words, without_arguments,
+    paths_without_arguments, silent_where_closed, statuses, untold, with_arguments, with_words,
+    without_arguments,
 };
 pub use runs::{faults_match_marks, run_once, split_at_nothing};
 pub use words::{known_words, splits_at_nothing, too_many_words};

@@ -11,6 +11,7 @@ use names_commands::fault::Fault as NamesFault;
 use names_commands::program::execute as execute_names;
 use osbytes_commands::fault::Fault;
 use osbytes_commands::program::execute;
+use paths_commands::program::execute as execute_paths;
 use program_frame::ended::{Ended, ProgramFault};
 use program_frame::ends::{Messages, Output};
 use program_frame::lists::fault::ListFault;
@@ -129,6 +130,26 @@ pub fn names_without_arguments<P: Eprint, A: Allocator, R: Read, W: Output, E: M
 {
     let arguments = Err(io::Error::from(ErrorKind::InvalidInput));
     let ended = execute_names(alloc, arguments, reader, writer, errors);
+    let told = ended.told();
+    (told, ended.report(rt))
+}
+
+/// The program for paths where its arguments can't be had: whether it told why, and its status.
+pub fn paths_without_arguments<P: Eprint, A: Allocator, R: Read, W: Output, E: Messages>(
+    rt: &P,
+    alloc: A,
+    reader: &mut Marked<R>,
+    writer: &mut Marked<W>,
+    errors: &mut E,
+) -> (bool, ExitCode)
+    requires reader_unmarked { has_failed reader.old ≡ false }
+    requires writer_unmarked { has_failed writer.old ≡ false }
+    ensures told { result.0 ≡ true → Appends (E.contents errors.old) (E.contents errors.new)
+        (codes "paths: usage: paths components|parent|name|stem|extension|normalize|clean unix|windows|wasm; paths --help tells more\n") }
+    ensures status { exit_status result.1 ≡ 2 }
+{
+    let arguments = Err(io::Error::from(ErrorKind::InvalidInput));
+    let ended = execute_paths(alloc, arguments, reader, writer, errors);
     let told = ended.told();
     (told, ended.report(rt))
 }

@@ -1,0 +1,20 @@
+//! The program `paths`: lists of paths, taken apart path by path.
+//!
+//! It hands its words and its ends to [`execute`], whose contract says what then is done.
+#![tactic(auto)]
+
+use paths_commands::fault::Fault;
+use paths_commands::program::execute;
+use program_frame::ended::Ended;
+use program_frame::marked::Marked;
+use std::env;
+
+fn main(rt: HostRuntime) -> Ended<Fault> {
+    execute(
+        rt.alloc(),
+        env::args(&rt),
+        &mut Marked::new(rt.reader()),
+        &mut Marked::new(rt.stdout()),
+        &mut rt.stderr(),
+    )
+}

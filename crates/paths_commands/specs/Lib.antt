@@ -1,0 +1,4 @@
+pub mod Task
+pub mod Fault
+pub mod Command
+pub mod Program

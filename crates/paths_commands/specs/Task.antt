@@ -1,0 +1,89 @@
+-- What each question asks of a path, and with which faults a path is refused.
+use Rattle.std.specs.Prelude.{◌≡◌, ◌⊎◌, ℕ, List, [], ◌∷◌, ◌++◌, codes}
+use Rattle.os_str_bytes.specs.Platform.{Ghosts}
+use Rattle.os_quote.specs.Escape.{IsLineEscape}
+use Rattle.path_rules.specs.declared.rules.Style.{Style}
+use Rattle.path_rules.specs.Component.{Item, Prefix, RootDir, CurDir, ParentDir, Normal}
+use Rattle.path_rules.specs.Components.{AreComponents}
+use Rattle.path_rules.specs.Parent.{IsParent, HasNoParent, HasFileName, HasNoFileName}
+use Rattle.path_rules.specs.Cleaned.{IsCleaned}
+use Rattle.path_rules.specs.Normalized.{IsNormalized, HasNoNormalForm}
+use Rattle.path_rules.specs.StyleRules.{main_separator}
+use Rattle.os_path.specs.Names.{HasFileStem, HasExtension, LacksExtension}
+use Rattle.program_frame.specs.Rules.{ListRules}
+use Rattle.paths_commands.specs.declared.fault.Refusal.{Refusal}
+use Rattle.paths_commands.specs.declared.fault.Refusal.TheVariants as refusal
+use Rattle.paths_commands.specs.declared.task.Task.{Task}
+use Rattle.paths_commands.specs.declared.task.Task.TheVariants.{Components, Parent, Name, Stem, Extension, Normalize, Clean}
+
+-- the word that asks this of each path
+abbrev pub task_word : Task → List ℕ
+task_word Components = codes "components"
+task_word Parent = codes "parent"
+task_word Name = codes "name"
+task_word Stem = codes "stem"
+task_word Extension = codes "extension"
+task_word Normalize = codes "normalize"
+task_word Clean = codes "clean"
+
+-- a component as it is written (std's `Component::as_os_str`)
+abbrev pub component_text : Style → Item → List ℕ
+component_text style (Prefix s) = s
+component_text style RootDir = main_separator style ∷ []
+component_text style CurDir = codes "."
+component_text style ParentDir = codes ".."
+component_text style (Normal s) = s
+
+-- what answers the question: the part that is asked for, and nothing where the path has none
+abbrev pub IsAnswer : Style → Task → List ℕ → List ℕ → Type 0
+IsAnswer style Components path answer = ⊥
+IsAnswer style Parent path answer = IsParent style path answer ⊎ (HasNoParent style path × (answer ≡ []))
+IsAnswer style Name path answer = HasFileName style path answer ⊎ (HasNoFileName style path × (answer ≡ []))
+IsAnswer style Stem path answer = HasFileStem style path answer ⊎ (HasNoFileName style path × (answer ≡ []))
+IsAnswer style Extension path answer = HasExtension style path answer ⊎ (LacksExtension style path × (answer ≡ []))
+IsAnswer style Normalize path answer = IsNormalized style path answer
+IsAnswer style Clean path answer = IsCleaned style path answer
+
+-- on a platform that says this of its strings, whose paths follow these rules:
+module _ {E : Type 0} (p : Ghosts E) (style : Style) where
+  -- the escape of each component on a line
+  abbrev pub AreLines : List Item → List ℕ → Type 0
+  AreLines [] text = text ≡ []
+  AreLines (item ∷ items) text = (line : List ℕ) × (IsLineEscape p.units (component_text style item) line × ((rest : List ℕ) × ((text ≡ (line ++ 0x0A ∷ []) ++ rest) × AreLines items rest)))
+
+  -- the lines of the path's components, and an empty line
+  pub record IsComponentsText (path text : List ℕ) : Type 0 where
+    pub items : List Item
+    pub are : AreComponents style path items
+    pub lines : List ℕ
+    pub each : AreLines items lines
+    pub text_is : text ≡ lines ++ 0x0A ∷ []
+
+  -- an answer with NUL
+  abbrev pub IsAnswered : Task → List ℕ → List ℕ → Type 0
+  IsAnswered task path text = (answer : List ℕ) × (IsAnswer style task path answer × (text ≡ answer ++ 0 ∷ []))
+
+  -- what is written for a path: its components on lines, or an answer with NUL
+  abbrev pub IsPathText : Task → List ℕ → List ℕ → Type 0
+  IsPathText task path text = ((task ≡ Components) × IsComponentsText path text) ⊎ IsAnswered task path text
+
+  -- the same, of a path that is a string of the platform
+  abbrev pub IsText : Task → List ℕ → List ℕ → Type 0
+  IsText task path text = p.well_formed path × IsPathText task path text
+
+  -- why a path is refused: the first fault of bytes that are no string; or that it has no normal form, where that is asked for
+  abbrev pub IsRefusal : Task → List ℕ → Refusal → Type 0
+  IsRefusal task path (refusal.NoString error) = p.first_fault path error
+  IsRefusal task path refusal.NoNormalForm = (task ≡ Normalize) × HasNoNormalForm style path
+
+  -- what is done with each path of at most `max` bytes
+  abbrev pub rules_of : Task → ℕ → ListRules Refusal
+  rules_of task max = record {
+    end = 0;
+    takes_unended = Unit {0};
+    max = max;
+    longest = max;
+    is_text = IsText task;
+    refuses = IsRefusal task;
+    is_of_long = λ path. ⊥;
+  }

@@ -1,0 +1,54 @@
+-- Lists of which there is one path.
+use Rattle.std.proofs.Common.{◌≡◌, ◌≢◌, ◌⊎◌, ⊎_elim, inl, inr, ℕ, ◌+◌, ◌≤◌, List, [], ◌∷◌, ◌++◌, length, sym, ap, ◌∙◌, subst, append-nil}
+use Rattle.std.specs.List.{AllByRecursion}
+use Rattle.os_str_bytes.specs.EncodingError.{EncodingError}
+use Rattle.os_str_bytes.specs.Platform.{Ghosts}
+use Rattle.path_rules.specs.declared.rules.Style.{Style}
+use Rattle.program_frame.specs.Items.{Entry, Lacks, items_of, texts_of}
+use Rattle.program_frame.specs.ListRun.{IsOutput, start}
+use Rattle.program_frame.specs.Reading.{Stops}
+use Rattle.program_frame.specs.Rules.{IsEntry}
+use Rattle.program_frame.specs.declared.fault.Failure.TheVariants.{Write}
+use Rattle.program_frame.specs.declared.lists.fault.ListFault.TheVariants.{Refused, Run}
+use Rattle.paths_commands.specs.Task.{rules_of, IsAnswer, IsComponentsText, IsPathText}
+use Rattle.paths_commands.specs.declared.fault.Refusal.{Refusal}
+use Rattle.paths_commands.specs.declared.fault.Refusal.TheVariants.{NoString}
+use Rattle.paths_commands.specs.declared.task.Task.{Task}
+use Rattle.paths_commands.specs.declared.task.Task.TheVariants.{Components}
+use Rattle.test_command_uses.proofs.KnownNames.{one_item, has_end, in_prefix}
+
+module _ {E : Type 0} (p : Ghosts E) (style : Style) (task : Task) (max : ℕ) where
+  -- what is written for one path
+  known_text : (path output : List ℕ) → Lacks 0 path → path ≢ [] → IsOutput (rules_of p style task max) path output → IsPathText p style task path output
+  known_text path output l some o =
+      let one = one_item (rules_of p style task max) o.entries path l some o.items in
+      let entry = (subst (λ es. AllByRecursion (IsEntry (rules_of p style task max)) es) one.1 o.are).0 in
+      let is : output ≡ one.0 = o.written ∙ ap texts_of one.1 ∙ append-nil one.0 in
+      subst (IsPathText p style task path) (sym is) entry.text.1
+
+  pub known_answer : (path output : List ℕ) → task ≢ Components → Lacks 0 path → path ≢ [] → IsOutput (rules_of p style task max) path output → (answer : List ℕ) × (IsAnswer style task path answer × (output ≡ answer ++ 0 ∷ []))
+  known_answer path output other l some o =
+      ⊎_elim
+      (λ components. absurd (other components.0))
+      (λ answer. answer)
+      (known_text path output l some o)
+
+  pub known_refusal : (path output : List ℕ) (number : ℕ) (error : EncodingError) → Lacks 0 path → Stops (rules_of p style task max) start path output (Refused number (NoString error)) → (number ≡ 1) × p.first_fault path error
+  known_refusal path output number error l s = by s.entries s.item s.rest s.joined s.ended s.because
+    where
+      by : (es : List Entry) (item rest : List ℕ) → path ≡ items_of 0 es ++ (item ++ rest) → ((rest ≡ []) × Unit {0}) ⊎ ((more : List ℕ) × (rest ≡ 0 ∷ more)) → (number ≡ 0 + length es + 1) × ((length item ≤ max) × p.first_fault item error) → (number ≡ 1) × p.first_fault path error
+      by [] item rest j (inl none) f = (f.0, subst (λ x. p.first_fault x error) (sym (j ∙ ap (λ x. item ++ x) none.0 ∙ append-nil item)) f.1.1)
+      by [] item rest j (inr more) f = absurd (has_end 0 item more.0 (subst (Lacks 0) (j ∙ ap (λ x. item ++ x) more.1) l))
+      by (e ∷ es) item rest j ended f = absurd (has_end 0 e.0 (items_of 0 es ++ (item ++ rest)) (subst (Lacks 0) (j ∙ in_prefix 0 e.0 (items_of 0 es) (item ++ rest)) l))
+
+module _ {E : Type 0} (p : Ghosts E) (style : Style) (max : ℕ) where
+  pub known_components : (path output : List ℕ) → Lacks 0 path → path ≢ [] → IsOutput (rules_of p style Components max) path output → IsComponentsText p style path output
+  known_components path output l some o =
+      ⊎_elim
+      (λ components. components.1)
+      (λ answer. absurd answer.1.0)
+      (known_text p style Components max path output l some o)
+
+-- a path that is refused is no failed write
+pub no_write : (number : ℕ) (why : Refusal) → ¬ (Refused number why ≡ Run Write)
+no_write number why e = cc

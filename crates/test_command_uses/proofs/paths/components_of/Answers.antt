@@ -1,0 +1,9 @@
+use Rattle.std.proofs.lemmas.Result.{on_ok_weaker}
+use Rattle.test_command_uses.proofs.KnownPaths.{known_components}
+use Rattle.test_command_uses.proofs.paths.components_of.Goals as goal
+
+pub returns : goal.returns
+returns g c =
+    on_ok_weaker c.ask.result
+    (λ written. (written.0, (known_components g.E.Platform g.E.PathStyle.follows 4096 c.args.path.now written.0 c.requires.whole c.requires.some written.1.0, written.1.1)))
+    c.ask.ensures.written

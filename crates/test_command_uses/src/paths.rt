@@ -1,0 +1,122 @@
+//! Lists of paths: the words of commands, what one path is answered with, and one that is refused.
+ghost use Rattle.std.specs.Prelude.{◌≡◌, ◌≢◌, ◌∷◌, ◌++◌, ◌⊎◌, [], ℕ, List, false, IsOk, IfErr, OnOk, map, string_bytes};
+ghost use Rattle.std.specs.Io.KnownBytes.{Appends};
+ghost use Rattle.os_str_bytes.specs.EncodingError.{EncodingError};
+ghost use Rattle.path_rules.specs.Parent.{IsParent, HasNoParent};
+ghost use Rattle.program_frame.specs.Items.{Lacks};
+ghost use Rattle.program_frame.specs.ListRun.{IsOutput, StopsOn};
+ghost use Rattle.program_frame.specs.Marked.{marked_inner, has_failed};
+ghost use Rattle.program_frame.specs.declared.fault.Failure.TheVariants.{Write as WriteFailure};
+ghost use Rattle.program_frame.specs.declared.lists.fault.ListFault.TheVariants.{Refused, Run};
+ghost use Rattle.paths_commands.specs.Command.{words_of};
+ghost use Rattle.paths_commands.specs.Task.{rules_of, IsAnswer, IsComponentsText};
+ghost use Rattle.paths_commands.specs.declared.command.Command.{Command};
+ghost use Rattle.paths_commands.specs.declared.fault.Refusal.TheVariants.{NoString};
+ghost use Rattle.paths_commands.specs.declared.task.Task.TheVariants.{Components};
+
+use os_path::PathStyle;
+use os_str_bytes::Platform;
+use paths_commands::command::Command;
+use paths_commands::fault::{Fault, Refusal};
+use paths_commands::task::{OnPlatform, Task};
+use program_frame::lists::fault::ListFault;
+use program_frame::lists::run::run;
+use program_frame::marked::Marked;
+use std::alloc::Allocator;
+use std::io::Write;
+
+/// The command of known words.
+pub fn known_question(words: &[String]) -> Result<Command, Fault>
+    ensures { (command : Command) → map string_bytes words.now ≡ words_of command → IsOk result }
+{
+    Command::parse(words)
+}
+
+/// A run over bytes.
+fn ask<E: PathStyle, A: Allocator, W: Write>(
+    alloc: A,
+    task: Task,
+    max: usize,
+    input: &[u8],
+    writer: &mut Marked<W>,
+) -> Result<(), ListFault<Refusal>>
+    requires { has_failed writer.old ≡ false }
+    ensures written { OnOk result ((output : List ℕ)
+        × (IsOutput (rules_of ⟦<E as Platform>⟧ E.follows task max) input.now output
+        × Appends (W.contents (marked_inner writer.old)) (W.contents (marked_inner writer.new))
+        output)) }
+    ensures stopped { IfErr result (λ fault. fault ≢ Run WriteFailure → (output : List ℕ)
+        × (StopsOn (rules_of ⟦<E as Platform>⟧ E.follows task max) input.now output fault
+        × Appends (W.contents (marked_inner writer.old)) (W.contents (marked_inner writer.new))
+        output)) }
+{
+    let mut reader = Marked::new(input);
+    run(alloc, &OnPlatform::<E>::new(task, max), &mut reader, writer)
+}
+
+/// Asks one path a question that isn't for its components: the answer is written with NUL.
+pub fn answered<E: PathStyle, A: Allocator, W: Write>(
+    alloc: A,
+    task: Task,
+    path: &[u8],
+    writer: &mut Marked<W>,
+) -> Result<(), ListFault<Refusal>>
+    requires question { task ≢ Components }
+    requires whole { Lacks 0 path.now }
+    requires some { path.now ≢ [] }
+    requires unmarked { has_failed writer.old ≡ false }
+    ensures { OnOk result ((answer : List ℕ) × (IsAnswer E.follows task path.now answer
+        × Appends (W.contents (marked_inner writer.old)) (W.contents (marked_inner writer.new))
+        (answer ++ 0 ∷ []))) }
+{
+    ask::<E, A, W>(alloc, task, 4096, path, writer)
+}
+
+/// Asks one path for its parent, which is written with NUL, or NUL alone where it has none.
+pub fn parent_of<E: PathStyle, A: Allocator, W: Write>(
+    alloc: A,
+    path: &[u8],
+    writer: &mut Marked<W>,
+) -> Result<(), ListFault<Refusal>>
+    requires whole { Lacks 0 path.now }
+    requires some { path.now ≢ [] }
+    requires unmarked { has_failed writer.old ≡ false }
+    ensures { OnOk result ((parent : List ℕ) × ((IsParent E.follows path.now parent
+        ⊎ (HasNoParent E.follows path.now × (parent ≡ [])))
+        × Appends (W.contents (marked_inner writer.old)) (W.contents (marked_inner writer.new))
+        (parent ++ 0 ∷ []))) }
+{
+    answered::<E, A, W>(alloc, Task::Parent, path, writer)
+}
+
+/// Asks one path for its components, which are written one a line, and an empty line after them.
+pub fn components_of<E: PathStyle, A: Allocator, W: Write>(
+    alloc: A,
+    path: &[u8],
+    writer: &mut Marked<W>,
+) -> Result<(), ListFault<Refusal>>
+    requires whole { Lacks 0 path.now }
+    requires some { path.now ≢ [] }
+    requires unmarked { has_failed writer.old ≡ false }
+    ensures { OnOk result ((text : List ℕ)
+        × (IsComponentsText ⟦<E as Platform>⟧ E.follows path.now text
+        × Appends (W.contents (marked_inner writer.old)) (W.contents (marked_inner writer.new))
+        text)) }
+{
+    ask::<E, A, W>(alloc, Task::Components, 4096, path, writer)
+}
+
+/// Asks one path: where it is refused, it is the first, with the first fault of its bytes.
+pub fn asked_one<E: PathStyle, A: Allocator, W: Write>(
+    alloc: A,
+    task: Task,
+    path: &[u8],
+    writer: &mut Marked<W>,
+) -> Result<(), ListFault<Refusal>>
+    requires whole { Lacks 0 path.now }
+    requires unmarked { has_failed writer.old ≡ false }
+    ensures { IfErr result (λ fault. (number : ℕ) → (error : EncodingError)
+        → fault ≡ Refused number (NoString error) → (number ≡ 1) × E.first_fault path.now error) }
+{
+    ask::<E, A, W>(alloc, task, 4096, path, writer)
+}
