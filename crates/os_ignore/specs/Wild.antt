@@ -5,19 +5,19 @@ use Rattle.os_ignore.specs.declared.item.Piece.TheVariants.{Many, One}
 
 module _ {A : Type 0} where
   -- any number of letters, and a rest
-  pub record AfterMany (Behind : List A → Type 0) (letters : List A) : Type 0 where
+  pub record AfterMany (Rest : List A → Type 0) (letters : List A) : Type 0 where
     pub skipped : List A
     pub rest : List A
     pub joined : letters ≡ skipped ++ rest
-    pub behind : Behind rest
+    pub after : Rest rest
 
   -- a letter that fits, and a rest
-  pub record AfterOne (FitsHere : A → Type 0) (Behind : List A → Type 0) (letters : List A) : Type 0 where
+  pub record AfterOne (FitsHere : A → Type 0) (Rest : List A → Type 0) (letters : List A) : Type 0 where
     pub letter : A
     pub rest : List A
     pub joined : letters ≡ letter ∷ rest
     pub fits : FitsHere letter
-    pub behind : Behind rest
+    pub after : Rest rest
 
 module _ {X A : Type 0} where
   -- the pieces match the letters, one after the other: a wildcard any number of letters, each other piece one that fits it

@@ -199,7 +199,7 @@ fn negation(text: &[Letter]) -> (bool, &[Letter])
 }
 
 /// Reads the class that comes after a `[`, and what comes after it; `None` where it is none.
-pub fn read_class<'a, A: Allocator>(
+pub(crate) fn read_class<'a, A: Allocator>(
     alloc: A,
     text: &'a [Letter],
 ) -> Result<Option<(Class<A>, &'a [Letter])>, AllocError>

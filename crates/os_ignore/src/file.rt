@@ -63,7 +63,10 @@ fn push_line<A: Allocator>(
 }
 
 /// Reads the lines of a file that are patterns.
-pub fn read_lines<A: Allocator + Copy>(alloc: A, file: &[u8]) -> Result<Vec<Line<A>, A>, AllocError>
+pub(crate) fn read_lines<A: Allocator + Copy>(
+    alloc: A,
+    file: &[u8],
+) -> Result<Vec<Line<A>, A>, AllocError>
     ensures { IfOk result (λ lines. AreLines file.now lines.items) }
 {
     let mut lines = Vec::new(alloc);

@@ -89,7 +89,10 @@ fn first_letter(first: u8, rest: &[u8]) -> Option<(Letter, &[u8])>
 }
 
 /// The letters of a text; `None` where a backslash at its end quotes nothing.
-pub fn letters<A: Allocator>(alloc: A, text: &[u8]) -> Result<Option<Vec<Letter, A>>, AllocError>
+pub(crate) fn letters<A: Allocator>(
+    alloc: A,
+    text: &[u8],
+) -> Result<Option<Vec<Letter, A>>, AllocError>
     ensures { IfOk result (λ read. MatchOption read (IsDangling text.entry.now)
         (λ letters. AreLetters text.entry.now letters.items)) }
 {

@@ -152,7 +152,7 @@ fn read_letters<A: Allocator + Copy>(
 }
 
 /// Reads the text of a line; `None` where it says nothing.
-pub fn read_line<A: Allocator + Copy>(
+pub(crate) fn read_line<A: Allocator + Copy>(
     alloc: A,
     number: usize,
     text: &[u8],

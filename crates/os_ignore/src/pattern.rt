@@ -131,7 +131,7 @@ fn push_group<A: Allocator>(
 }
 
 /// Reads a pattern; `None` where a class in it isn't one.
-pub fn read_pattern<A: Allocator + Copy>(
+pub(crate) fn read_pattern<A: Allocator + Copy>(
     alloc: A,
     text: &[Letter],
 ) -> Result<Option<Vec<Piece<Part<A>>, A>>, AllocError>

@@ -10,14 +10,14 @@ use Rattle.os_ignore.specs.Steps.{GoesOn}
 
 module _ {X A : Type 0} (F : X → A → Type 0) where
   pub empty_run : (qs : List (Piece X)) (rest : List A) → Wild F qs rest → Wild F (Many ∷ qs) rest
-  empty_run qs rest m = record { skipped = []; rest = rest; joined = refl; behind = m }
+  empty_run qs rest m = record { skipped = []; rest = rest; joined = refl; after = m }
 
   pub one_place : (x : X) (ps : List (Piece X)) (a : A) (left : List A) → Wild F (One x ∷ ps) (a ∷ left) → F x a × Wild F ps left
   one_place x ps a left m =
       let j : a ∷ left ≡ m.letter ∷ m.rest = m.joined in
       let e : m.letter ≡ a = cc in
       let f : m.rest ≡ left = cc in
-      (subst (F x) e m.fits, subst (Wild F ps) f m.behind)
+      (subst (F x) e m.fits, subst (Wild F ps) f m.after)
 
   pub no_place : (x : X) (ps : List (Piece X)) → Wild F (One x ∷ ps) [] → ⊥
   no_place x ps m = let j : [] ≡ m.letter ∷ m.rest = m.joined in cc
@@ -27,50 +27,50 @@ module _ {X A : Type 0} (F : X → A → Type 0) where
     skipped = front ++ m.skipped;
     rest = m.rest;
     joined = ap (λ z. front ++ z) m.joined ∙ sym (append_assoc front m.skipped m.rest);
-    behind = m.behind;
+    after = m.after;
   }
 
   pub run_many : (ps : List (Piece X)) (letters : List A) → Wild F (Many ∷ Many ∷ ps) letters → Wild F (Many ∷ ps) letters
-  run_many ps letters m = subst (Wild F (Many ∷ ps)) (sym m.joined) (longer_run ps m.skipped m.rest m.behind)
+  run_many ps letters m = subst (Wild F (Many ∷ ps)) (sym m.joined) (longer_run ps m.skipped m.rest m.after)
 
   pub run_one : (x : X) (ps : List (Piece X)) (a : A) (left : List A) → Wild F (Many ∷ One x ∷ ps) (a ∷ left) → Wild F (Many ∷ ps) left
-  run_one x ps a left m = go m.skipped (m.joined ∙ ap (λ z. m.skipped ++ z) m.behind.joined)
+  run_one x ps a left m = go m.skipped (m.joined ∙ ap (λ z. m.skipped ++ z) m.after.joined)
     where
-      go : (s : List A) → a ∷ left ≡ s ++ m.behind.letter ∷ m.behind.rest → Wild F (Many ∷ ps) left
-      go [] e = let f : m.behind.rest ≡ left = cc in empty_run ps left (subst (Wild F ps) f m.behind.behind)
+      go : (s : List A) → a ∷ left ≡ s ++ m.after.letter ∷ m.after.rest → Wild F (Many ∷ ps) left
+      go [] e = let f : m.after.rest ≡ left = cc in empty_run ps left (subst (Wild F ps) f m.after.after)
       go (b ∷ s) e =
-          let f : left ≡ s ++ m.behind.letter ∷ m.behind.rest = cc in
+          let f : left ≡ s ++ m.after.letter ∷ m.after.rest = cc in
           record {
-            skipped = s ++ m.behind.letter ∷ [];
-            rest = m.behind.rest;
-            joined = f ∙ sym (append_assoc s (m.behind.letter ∷ []) m.behind.rest);
-            behind = m.behind.behind;
+            skipped = s ++ m.after.letter ∷ [];
+            rest = m.after.rest;
+            joined = f ∙ sym (append_assoc s (m.after.letter ∷ []) m.after.rest);
+            after = m.after.after;
           }
 
   run_cases : (qs : List (Piece X)) (a : A) (left : List A) → Wild F (Many ∷ qs) (a ∷ left) → Wild F qs (a ∷ left) ⊎ Wild F (Many ∷ qs) left
   run_cases qs a left m = go m.skipped m.joined
     where
       go : (s : List A) → a ∷ left ≡ s ++ m.rest → Wild F qs (a ∷ left) ⊎ Wild F (Many ∷ qs) left
-      go [] e = inl (subst (Wild F qs) (sym e) m.behind)
+      go [] e = inl (subst (Wild F qs) (sym e) m.after)
       go (b ∷ s) e =
           let f : left ≡ s ++ m.rest = cc in
-          inr (record { skipped = s; rest = m.rest; joined = f; behind = m.behind })
+          inr (record { skipped = s; rest = m.rest; joined = f; after = m.after })
 
   run_at_end : (qs : List (Piece X)) → Wild F (Many ∷ qs) [] → Wild F qs []
   run_at_end qs m = go m.skipped m.joined
     where
       go : (s : List A) → [] ≡ s ++ m.rest → Wild F qs []
-      go [] e = subst (Wild F qs) (sym e) m.behind
+      go [] e = subst (Wild F qs) (sym e) m.after
       go (b ∷ s) e = let never : [] ≡ b ∷ (s ++ m.rest) = e in absurd cc
 
   -- matching has come from ps and bs to qs and rest, with no wildcard between
   pub record SoFar (ps : List (Piece X)) (bs : List A) (qs : List (Piece X)) (rest : List A) : Type 0 where
     pub alike : Wild F ps bs ↔ Wild F qs rest
-    pub behind : Wild F (Many ∷ ps) bs → Wild F (Many ∷ qs) rest
+    pub after : Wild F (Many ∷ ps) bs → Wild F (Many ∷ qs) rest
     pub no_more : length qs ≤ length ps
 
   pub at_first : (ps : List (Piece X)) (bs : List A) → SoFar ps bs ps bs
-  at_first ps bs = record { alike = (λ m. m, λ m. m); behind = λ m. m; no_more = omega arith }
+  at_first ps bs = record { alike = (λ m. m, λ m. m); after = λ m. m; no_more = omega arith }
 
   module _ (ps : List (Piece X)) (bs : List A) (qs : List (Piece X)) (rest : List A) (so_far : SoFar ps bs qs rest) where
     pub all : qs ≡ [] → rest ≡ [] → Wild F ps bs
@@ -82,7 +82,7 @@ module _ {X A : Type 0} (F : X → A → Type 0) where
     pub to_many : (more : List (Piece X)) → qs ≡ Many ∷ more → GoesOn F ps bs more rest
     to_many more e = record {
       enough = λ m. so_far.alike.1 (subst (λ t. Wild F t rest) (sym e) m);
-      needed = λ m. run_many more rest (subst (λ t. Wild F (Many ∷ t) rest) e (so_far.behind m));
+      needed = λ m. run_many more rest (subst (λ t. Wild F (Many ∷ t) rest) e (so_far.after m));
       fewer = let k : length (Many ∷ more) ≤ length ps = subst (λ t. length t ≤ length ps) e so_far.no_more in omega arith;
     }
 
@@ -99,8 +99,8 @@ module _ {X A : Type 0} (F : X → A → Type 0) where
 
         pub one_more : F x a → SoFar ps bs more left
         one_more y = record {
-          alike = (λ m. (one_place x more a left (at_one.alike.0 m)).1, λ m. at_one.alike.1 (record { letter = a; rest = left; joined = refl; fits = y; behind = m }));
-          behind = λ m. run_one x more a left (at_one.behind m);
+          alike = (λ m. (one_place x more a left (at_one.alike.0 m)).1, λ m. at_one.alike.1 (record { letter = a; rest = left; joined = refl; fits = y; after = m }));
+          after = λ m. run_one x more a left (at_one.after m);
           no_more = let h = at_one.no_more in omega arith;
         }
 
@@ -142,16 +142,16 @@ module _ {X A : Type 0} (F : X → A → Type 0) where
   -- what comes after a wildcard, and is one piece, fits the last letter
   pub tail : (x : X) (letters front : List A) (last : A) → letters ≡ front ++ last ∷ [] → Wild F (Many ∷ One x ∷ []) letters ↔ F x last
   tail x letters front last e = (
-    λ m. let whole : m.skipped ++ m.behind.letter ∷ [] ≡ front ++ last ∷ [] = sym (m.joined ∙ ap (λ z. m.skipped ++ z) (m.behind.joined ∙ ap (λ z. m.behind.letter ∷ z) m.behind.behind)) ∙ e in subst (F x) (same_from_push m.skipped front m.behind.letter last whole).1 m.behind.fits,
-    λ f. record { skipped = front; rest = last ∷ []; joined = e; behind = record { letter = last; rest = []; joined = refl; fits = f; behind = refl } },
+    λ m. let whole : m.skipped ++ m.after.letter ∷ [] ≡ front ++ last ∷ [] = sym (m.joined ∙ ap (λ z. m.skipped ++ z) (m.after.joined ∙ ap (λ z. m.after.letter ∷ z) m.after.after)) ∙ e in subst (F x) (same_from_push m.skipped front m.after.letter last whole).1 m.after.fits,
+    λ f. record { skipped = front; rest = last ∷ []; joined = e; after = record { letter = last; rest = []; joined = refl; fits = f; after = refl } },
   )
 
   pub no_tail : (x : X) → Wild F (Many ∷ One x ∷ []) [] → ⊥
-  no_tail x m = go m.skipped (m.joined ∙ ap (λ z. m.skipped ++ z) m.behind.joined)
+  no_tail x m = go m.skipped (m.joined ∙ ap (λ z. m.skipped ++ z) m.after.joined)
     where
-      go : (s : List A) → [] ≡ s ++ m.behind.letter ∷ m.behind.rest → ⊥
+      go : (s : List A) → [] ≡ s ++ m.after.letter ∷ m.after.rest → ⊥
       go [] e = cc
-      go (b ∷ s) e = let never : [] ≡ b ∷ (s ++ m.behind.letter ∷ m.behind.rest) = e in cc
+      go (b ∷ s) e = let never : [] ≡ b ∷ (s ++ m.after.letter ∷ m.after.rest) = e in cc
 
 same_ends : (xs ys us vs : List ℕ) → xs ++ us ≡ ys ++ vs → length us ≡ length vs → us ≡ vs
 same_ends [] [] us vs e l = e
@@ -164,16 +164,16 @@ module _ {A : Type 0} where
   fixed_length : (ps : List (Piece (Item A))) (bs : List ℕ) → IsFixed ps → Wild Fits ps bs → length bs ≡ length ps
   fixed_length [] bs h m = ap length m
   fixed_length (Many ∷ ps) bs h m = absurd h
-  fixed_length (One x ∷ ps) bs h m = let k = fixed_length ps m.rest h m.behind in let e = ap length m.joined in omega arith
+  fixed_length (One x ∷ ps) bs h m = let k = fixed_length ps m.rest h m.after in let e = ap length m.joined in omega arith
 
   module _ (ps : List (Piece (Item A))) (fixed : IsFixed ps) (bs : List ℕ) where
     pub too_short : length bs < length ps → Wild Fits (Many ∷ ps) bs → ⊥
-    too_short l m = let k = fixed_length ps m.rest fixed m.behind in let e = ap length m.joined in absurd (omega (arith, length-append m.skipped m.rest))
+    too_short l m = let k = fixed_length ps m.rest fixed m.after in let e = ap length m.joined in absurd (omega (arith, length-append m.skipped m.rest))
 
     pub by_end : (front last : List ℕ) → bs ≡ front ++ last → length last ≡ length ps → Wild Fits (Many ∷ ps) bs ↔ Wild Fits ps last
     by_end front last e l = (
-      λ m. let k : length m.rest ≡ length last = fixed_length ps m.rest fixed m.behind ∙ sym l in subst (Wild Fits ps) (same_ends m.skipped front m.rest last (sym m.joined ∙ e) k) m.behind,
-      λ m. record { skipped = front; rest = last; joined = e; behind = m },
+      λ m. let k : length m.rest ≡ length last = fixed_length ps m.rest fixed m.after ∙ sym l in subst (Wild Fits ps) (same_ends m.skipped front m.rest last (sym m.joined ∙ e) k) m.after,
+      λ m. record { skipped = front; rest = last; joined = e; after = m },
     )
 
   -- what is left of pieces without a wildcard
