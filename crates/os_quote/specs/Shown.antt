@@ -1,5 +1,7 @@
 -- Which characters an escape shows unchanged: its two forms differ only in this.
-use Rattle.std.specs.Prelude.{ℕ, not, Bool, true}
+use Rattle.std.specs.Prelude.{◌≡◌, ℕ, not, Bool, true, List}
+use Rattle.std.specs.List.{AllByRecursion}
+use Rattle.std.specs.Str.{chars}
 use Rattle.os_quote.specs.HiddenCharacters.{hidden_ranges, is_in_ranges}
 use Rattle.os_quote.specs.declared.form.Form.{Form}
 use Rattle.os_quote.specs.declared.form.Form.TheVariants.{Text, Line}
@@ -11,6 +13,10 @@ is_any c = true
 -- a character that is shown, and can't end a line, move the cursor or reorder text by itself
 abbrev pub stays_on_line : ℕ → Bool
 stays_on_line c = not (is_in_ranges hidden_ranges c)
+
+-- each character of the text is one that stays on the line
+abbrev pub IsOnOneLine : List ℕ → Type 0
+IsOnOneLine text = AllByRecursion (λ c. stays_on_line c ≡ true) (chars text)
 
 -- the characters that a form shows unchanged
 abbrev pub shown_by : Form → ℕ → Bool

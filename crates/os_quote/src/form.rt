@@ -47,8 +47,17 @@ const HIDDEN: [(u32, u32); 30] = [
     (0xE_0000, 0xE_0FFF),
 ];
 
-/// Whether a character stays on a line.
-pub(crate) fn stays_on_line(character: char) -> bool
+/// Whether a character stays on a line: whether it is shown, and can't end the line, move the cursor
+/// or set the direction of text by itself. These are the characters that
+/// [`escape_line`](crate::escape_line) shows as they are, and the backslash.
+///
+/// ```
+/// use os_quote::stays_on_line;
+///
+/// assert!(rt; stays_on_line('a') && stays_on_line(' ') && stays_on_line('\\'));
+/// assert!(rt; !stays_on_line('\n') && !stays_on_line('\u{202E}'));
+/// ```
+pub fn stays_on_line(character: char) -> bool
     ensures { result ≡ stays_on_line character }
 {
     !is_in_ranges(&HIDDEN, character as u32)

@@ -1,6 +1,7 @@
 //! How far the escape of a text on one line shows it as it is.
 ghost use Rattle.std.specs.Prelude.{◌≡◌, ◌↔◌, IsTrue, MatchOption};
 ghost use Rattle.os_quote.specs.Hidden.{IsUnchanged, AreUnchanged, IsCutAtHidden};
+ghost use Rattle.os_quote.specs.Shown.{IsOnOneLine};
 
 use crate::form::stays_on_line;
 use crate::plain::plain_len;
@@ -30,4 +31,27 @@ fn is_unchanged(character: char) -> bool
     ensures { IsTrue result ↔ IsUnchanged character }
 {
     character != '\\' && stays_on_line(character)
+}
+
+/// Whether each character of a text stays on a line ([`stays_on_line`]): whether
+/// [`escape_line`](crate::escape_line) shows the text as it is, but for backslashes. It doesn't
+/// allocate.
+///
+/// ```
+/// use os_quote::is_on_one_line;
+///
+/// assert!(rt; is_on_one_line("a\\b \u{E9}"));
+/// assert!(rt; !is_on_one_line("a\nb"));
+/// ```
+pub fn is_on_one_line(text: &str) -> bool
+    ensures { IsTrue result ↔ IsOnOneLine text.now }
+{
+    let mut rest = text;
+    while let Some((_, character, following)) = split_hidden(rest) {
+        if character != '\\' {
+            return false;
+        }
+        rest = following;
+    }
+    true
 }

@@ -35,6 +35,8 @@ mod write_formatted_token;
 
 pub use display::Escaped;
 pub use error::QuoteError;
+pub use form::stays_on_line;
+pub use hidden::is_on_one_line;
 pub use quoting::{escape, escape_line, escaped, escaped_line};
 pub use reading::{unescape, unescape_line};
 pub use unescaped::{write_unescaped, write_unescaped_line};

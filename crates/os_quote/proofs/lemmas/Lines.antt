@@ -1,5 +1,5 @@
 -- That an escape on one line stays there.
-use Rattle.os_quote.proofs.Common.{◌≡◌, ⊎_elim, ℕ, ◌/◌, ◌%◌, ◌<◌, true, List, [], ◌∷◌, ◌++◌, map, length, IsTrue, refl, sym, ap, ◌∙◌, subst, arith, append_assoc, append-nil, length-append, encode_utf8, All, AllByRecursion, IsUtf8, chars, encode_utf8_all, cases_lt, cases_eq, cases_Bool, ne_eqb, lt-ltb, le-ltb, All-from_recursion, chars-append, chars-nil, chars_past_char, chars-IsAscii, IsUtf8-encode, encodes-chars, length-encode, len_utf8_bounds, Chunk, AreChunks, upper_hex_digit, PartLaws, Item, Character, Backslash, ByteUnit, WideUnit, LongCharacter, backslash, wide_digits, long_digits, item_text, item_texts, IsLong, IsItem, unit_item, hidden_item, character_item, stays_on_line, IsUnchanged, AreUnchanged, IsCutAtHidden, chunk_items, items_of, IsLineEscape, IsChunkOf, flat_map-append, map-append}
+use Rattle.os_quote.proofs.Common.{◌≡◌, ◌≢◌, ⊎_elim, ℕ, ◌/◌, ◌%◌, ◌<◌, true, List, [], ◌∷◌, ◌++◌, map, length, IsTrue, refl, sym, ap, ◌∙◌, subst, arith, append_assoc, append-nil, length-append, encode_utf8, All, AllByRecursion, IsUtf8, chars, encode_utf8_all, cases_lt, cases_eq, cases_Bool, ne_eqb, lt-ltb, le-ltb, All-from_recursion, chars-append, chars-nil, chars_past_char, chars-IsAscii, IsUtf8-encode, encodes-chars, length-encode, len_utf8_bounds, Chunk, AreChunks, upper_hex_digit, PartLaws, Item, Character, Backslash, ByteUnit, WideUnit, LongCharacter, backslash, wide_digits, long_digits, item_text, item_texts, IsLong, IsItem, unit_item, hidden_item, character_item, stays_on_line, IsUnchanged, AreUnchanged, IsCutAtHidden, chunk_items, items_of, IsLineEscape, IsChunkOf, flat_map-append, map-append}
 use Rattle.os_quote.proofs.lemmas.Items.{digit_low, digit_high, five_digits, six_digits}
 use Rattle.os_quote.proofs.lemmas.Shown.{ascii_stays}
 use Rattle.os_quote.proofs.lemmas.Texts.{text_items, text_escape, text_after}
@@ -115,3 +115,34 @@ up_to_hidden t prefix c following u k =
 pub cut_is_shorter : (t prefix : List ℕ) (c : ℕ) (following : List ℕ) → IsCutAtHidden t prefix c following → length following < length t
 cut_is_shorter t prefix c following k =
     omega (arith, ap length k.joined, length-append prefix (encode_utf8 c ++ following), length-append (encode_utf8 c) following, length-encode c, (len_utf8_bounds c).0)
+
+-- ---- whether a text stays on the line
+
+all_shown : (cs : List ℕ) → AllByRecursion IsUnchanged cs → AllStay cs
+all_shown [] a = tt
+all_shown (c ∷ cs) a = (a.0.1, all_shown cs a.1)
+
+all_after : (xs : List ℕ) (c : ℕ) (ys : List ℕ) → AllStay (xs ++ c ∷ ys) → (stays_on_line c ≡ true) × AllStay ys
+all_after [] c ys a = a
+all_after (x ∷ xs) c ys a = all_after xs c ys a.1
+
+pub unchanged_stays : (t : List ℕ) → AreUnchanged t → AllStay (chars t)
+unchanged_stays t a = all_shown (chars t) a
+
+module _ (t prefix : List ℕ) (c : ℕ) (following : List ℕ) (u : IsUtf8 t) (k : IsCutAtHidden t prefix c following) where
+  characters : chars t ≡ chars prefix ++ c ∷ chars following
+  characters =
+      let rest = encode_utf8 c ++ following in
+      let text = text_after prefix rest k.prefix_text (subst IsUtf8 k.joined u) in
+      ap chars k.joined ∙ chars-append prefix rest k.prefix_text ∙ ap (λ x. chars prefix ++ x) (chars_past_char rest following c text refl)
+
+  -- up to a character that doesn't
+  pub hidden_leaves : c ≢ backslash → AllStay (chars t) → ⊥
+  hidden_leaves n a = k.hidden (n, (all_after (chars prefix) c (chars following) (subst AllStay characters a)).0)
+
+  -- and past a backslash
+  pub past_backslash : AllStay (chars t) → AllStay (chars following)
+  past_backslash a = (all_after (chars prefix) c (chars following) (subst AllStay characters a)).1
+
+  pub with_backslash : c ≡ backslash → AllStay (chars following) → AllStay (chars t)
+  with_backslash e a = subst AllStay (sym characters) (all-append (λ x. stays_on_line x ≡ true) (chars prefix) (c ∷ chars following) (all_shown (chars prefix) k.unchanged) (subst (λ x. stays_on_line x ≡ true) (sym e) refl, a))
