@@ -1,4 +1,11 @@
 pub mod PowerShell
+pub mod ShellEachLine
+pub mod ShellForms
+pub mod ShellItems
+pub mod ShellOneReading
+pub mod ShellRoundTrip
+pub mod ShellScan
+pub mod ShellWritten
 pub mod WindowsBatch
 pub mod WindowsOneReading
 pub mod WindowsEachLine

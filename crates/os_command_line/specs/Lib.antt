@@ -1,4 +1,9 @@
 pub mod PowerShell
+pub mod Shell
+pub mod ShellReader
+pub mod ShellSteps
+pub mod ShellViews
+pub mod ShellWriting
 pub mod Windows
 pub mod WindowsBatch
 pub mod WindowsReader

@@ -1,7 +1,36 @@
-//! Words of a shell.
+//! Words of a shell, read and written.
+//!
+//! [`Words`] reads a line as `sh` does, where nothing is expanded. What [`quoted`] and its kin
+//! write is read back as the same name by every POSIX shell, as an argument, and nothing else.
 
+mod display;
+mod error;
+mod fault;
+mod form;
+mod language;
+pub mod laws;
+mod octal;
+mod owned;
 mod powershell;
+mod quoting;
+mod scan;
+mod step;
+mod word;
+mod word_bytes;
+mod words;
+mod write_buffer;
+mod write_formatted;
 
+pub use display::Quoted;
+pub use error::{NulError, ShellError};
+pub use fault::{FaultKind, WordsFault};
+pub use language::Specials;
+pub use owned::{push_word, push_word_line, quote, quote_line};
 pub use powershell::{
     PowerShellError, PowerShellQuoted, quoted_powershell, write_quoted_powershell,
 };
+pub use quoting::{quoted, quoted_line};
+pub use word::Word;
+pub use word_bytes::WordBytes;
+pub use words::Words;
+pub use write_buffer::{write_quoted, write_quoted_line};

@@ -1,0 +1,71 @@
+-- Bytes that are looked for, and names that need no quotes.
+use Rattle.std.proofs.Common.{◌≡◌, ◌≢◌, ℕ, zero, suc, ◌+◌, ◌-◌, ◌<◌, ◌≤◌, Bool, true, false, ◌&&◌, eqb, List, [], ◌∷◌, ◌++◌, length, take, drop, get_or, length-drop, length-append, take-append-drop, refl, sym, ap, ◌∙◌, subst, arith, Option, None, Some, MatchOption}
+use Rattle.std.specs.List.{AllByRecursion}
+use Rattle.std.specs.Str.{IsUtf8}
+use Rattle.std.proofs.lemmas.Bool.{eq-eqb, eqb-true, ne_eqb}
+use Rattle.std.proofs.Math.Seq.{get_or-append_seam}
+use Rattle.std.proofs.lemmas.List.{take_all, take_at, drop_more, length-take-le}
+use Rattle.std.proofs.lemmas.Str.{IsCharBoundary-before_ascii, IsUtf8-take, IsUtf8-drop, IsCharBoundary-from_take, IsUtf8-encode, encode_ascii}
+use Rattle.memchr.specs.Find.{NoneBefore, Nowhere, Passes, is_byte}
+use Rattle.os_quote.proofs.lemmas.Texts.{text_after}
+use Rattle.os_command_line.specs.Shell.{single_quote, HasNoQuote}
+use Rattle.os_command_line.specs.ShellSteps.{IsCutAtQuote}
+use Rattle.os_command_line.specs.ShellWriting.{is_plain, are_plain, HasNoNul, IsFirstNul}
+
+-- where a byte isn't before an index
+module _ (wanted : ℕ) (P : ℕ → Type 0) (other : (x : ℕ) → ¬ (is_byte wanted x ≡ true) → P x) where
+  none_from : (t : List ℕ) (n : ℕ) → ((k : ℕ) → k < n → ¬ (is_byte wanted (get_or t k 0) ≡ true)) → AllByRecursion P (take n t)
+  none_from [] zero h = tt
+  none_from (x ∷ t) (suc n) h = (other x (h 0 (omega arith)), none_from t n (λ k lt. h (suc k) (omega arith)))
+  none_from t n h = tt
+
+  pub nowhere : (t : List ℕ) → Nowhere (Passes (is_byte wanted) t) 0 (length t) → AllByRecursion P t
+  nowhere t h = subst (AllByRecursion P) (take_all (length t) t (omega arith)) (none_from t (length t) (λ k lt. h k (omega arith) lt))
+
+  pub before_first : (t : List ℕ) (i : ℕ) → NoneBefore (Passes (is_byte wanted) t) 0 (length t) i → AllByRecursion P (take i t)
+  before_first t i h = none_from t i (λ k lt. h.before k (omega arith) lt)
+
+pub cut_at : (wanted : ℕ) (t : List ℕ) (i : ℕ) → i < length t → is_byte wanted (get_or t i 0) ≡ true → t ≡ take i t ++ wanted ∷ drop (i + 1) t
+cut_at wanted t i lt h = sym (take-append-drop i t) ∙ ap (λ x. take i t ++ x) (drop_more t i 0 lt ∙ ap (λ x. x ∷ drop (i + 1) t) (eqb-true _ _ h))
+
+not_zero : (x : ℕ) → ¬ (is_byte 0 x ≡ true) → x ≢ 0
+not_zero x n e = n (eq-eqb x 0 e)
+
+not_quote : (x : ℕ) → ¬ (is_byte single_quote x ≡ true) → eqb x single_quote ≡ false
+not_quote x n = ne_eqb x single_quote (λ e. n (eq-eqb x single_quote e))
+
+pub nul_found : (name : List ℕ) (found : Option ℕ) → MatchOption found (Nowhere (Passes (is_byte 0) name) 0 (length name)) (λ k. NoneBefore (Passes (is_byte 0) name) 0 (length name) k × Passes (is_byte 0) name k)
+    → MatchOption found (HasNoNul name) (λ index. IsFirstNul name index)
+nul_found name None h = nowhere 0 (λ x. x ≢ 0) not_zero name h
+nul_found name (Some i) h = record { before = take i name; after = drop (i + 1) name; joined = cut_at 0 name i h.0.high h.1; none_before = before_first 0 (λ x. x ≢ 0) not_zero name i h.0; index_is = sym (length-take-le i name (omega (arith, h.0.high))) }
+
+pub no_quote_found : (bytes : List ℕ) → Nowhere (Passes (is_byte single_quote) bytes) 0 (length bytes) → HasNoQuote bytes
+no_quote_found bytes h = nowhere single_quote (λ x. eqb x single_quote ≡ false) not_quote bytes h
+
+pub quote_found : (bytes : List ℕ) (i : ℕ) → NoneBefore (Passes (is_byte single_quote) bytes) 0 (length bytes) i × Passes (is_byte single_quote) bytes i → IsCutAtQuote bytes (take i bytes) (drop (i + 1) bytes)
+quote_found bytes i h = record { none_before = before_first single_quote (λ x. eqb x single_quote ≡ false) not_quote bytes i h.0; joined = cut_at single_quote bytes i h.0.high h.1 }
+
+-- a text is cut there between two texts
+pub cut_texts : (t prefix after : List ℕ) → IsUtf8 t → IsCutAtQuote t prefix after → IsUtf8 prefix × IsUtf8 after
+cut_texts t prefix after u k =
+    let n = length prefix in
+    let whole = prefix ++ single_quote ∷ after in
+    let v : IsUtf8 whole = subst IsUtf8 k.joined u in
+    let low : n < length whole = omega (arith, length-append prefix (single_quote ∷ after)) in
+    let at : get_or whole n 0 ≡ single_quote = get_or-append_seam prefix single_quote after 0 in
+    let f : IsUtf8 prefix = subst IsUtf8 (take_at prefix (single_quote ∷ after) n refl) (IsUtf8-take whole n v (IsCharBoundary-before_ascii whole n low (omega (arith, at)))) in
+    let quote : IsUtf8 (single_quote ∷ []) = subst IsUtf8 (encode_ascii single_quote (omega arith)) (IsUtf8-encode single_quote refl) in
+    (f, text_after (single_quote ∷ []) after quote (text_after prefix (single_quote ∷ after) f v))
+
+-- one more byte that needs no quotes
+pub plain_more : (xs : List ℕ) (b : ℕ) → are_plain (xs ++ b ∷ []) ≡ are_plain xs && is_plain b
+plain_more [] b = and_true (is_plain b)
+  where
+    and_true : (x : Bool) → x && true ≡ x
+    and_true true = refl
+    and_true false = refl
+plain_more (x ∷ xs) b = ap (λ z. is_plain x && z) (plain_more xs b) ∙ and_assoc (is_plain x) (are_plain xs) (is_plain b)
+  where
+    and_assoc : (x y z : Bool) → x && (y && z) ≡ (x && y) && z
+    and_assoc true y z = refl
+    and_assoc false y z = refl

@@ -1,0 +1,38 @@
+-- What contracts say of words and of names that are printed as words.
+use Rattle.std.specs.Prelude.{◌≡◌, ℕ, zero, Bool, true, false, Result, Ok, Err, List, [], ◌∷◌}
+use Rattle.os_str_ext.specs.Symbols.{symbols_of}
+use Rattle.platform_str.specs.PlatformWords.{itself}
+use Rattle.platform_str.specs.Strings.{bytes}
+use Rattle.os_command_line.specs.declared.shell.fault.WordsFault.{WordsFault}
+use Rattle.os_command_line.specs.declared.shell.language.Specials.{Specials}
+use Rattle.os_command_line.specs.declared.shell.language.Specials.TheVariants.{Refused, Kept}
+use Rattle.os_command_line.specs.declared.shell.display.Quoted.{Quoted}
+use Rattle.os_command_line.specs.declared.shell.display.Shown.{Shown}
+use Rattle.os_command_line.specs.declared.shell.display.Shown.TheVariants.{Bare, Single, Dollar}
+use Rattle.os_command_line.specs.declared.shell.step.State.TheVariants.{Start}
+use Rattle.os_command_line.specs.declared.shell.word.Word.{Word}
+use Rattle.os_command_line.specs.ShellReader.{meant}
+use Rattle.os_command_line.specs.ShellWriting.{single_quoted, dollar_quoted}
+
+-- whether special characters are refused
+abbrev pub is_refused : Specials → Bool
+is_refused Refused = true
+is_refused Kept = false
+
+-- the bytes of a word
+abbrev pub word_bytes : Word → List ℕ
+word_bytes w = meant w.language Start zero w.raw.now
+
+-- what an item of a line is: the bytes of a word, or a fault
+abbrev pub item_bytes : Result Word WordsFault → Result (List ℕ) WordsFault
+item_bytes (Ok word) = Ok (word_bytes word)
+item_bytes (Err fault) = Err fault
+
+-- the text that is printed
+abbrev pub shown_text : Shown → List ℕ
+shown_text (Bare text) = text.now
+shown_text (Single text) = single_quoted text.now
+shown_text (Dollar name) = dollar_quoted (symbols_of itself (bytes name))
+
+abbrev pub quoted_text : Quoted → List ℕ
+quoted_text q = shown_text q.shown

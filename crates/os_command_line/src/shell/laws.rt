@@ -1,0 +1,29 @@
+//! Laws of words. Each is the contract of a function that does nothing.
+ghost use Rattle.std.specs.Prelude.{◌≡◌, Result, List, ℕ, map};
+ghost use Rattle.std.specs.List.{AllByRecursion};
+ghost use Rattle.os_command_line.specs.Shell.{AreWords, IsRead, IsTextOf};
+ghost use Rattle.os_command_line.specs.ShellWriting.{AreBytes, quoted_word, join_words};
+ghost use Rattle.os_command_line.specs.declared.shell.fault.WordsFault.{WordsFault};
+ghost use Rattle.os_command_line.specs.declared.shell.language.Language.{Language};
+
+/// Each line is read in one way, in each language: as words, and then at most one fault.
+pub fn lines()
+    ensures some { (l : Language) → (line : List ℕ) → (items : List (Result (List ℕ) WordsFault))
+        × IsRead l line items }
+    ensures one { (l : Language) → (line : List ℕ) → (xs : List (Result (List ℕ) WordsFault))
+        → (ys : List (Result (List ℕ) WordsFault)) → IsRead l line xs → IsRead l line ys → xs ≡ ys }
+{}
+
+/// The word of a name is read as the name in each language, whatever blank or end comes after it, and a
+/// text that is read so is read as no other; names with equal words are equal; a line of the words of
+/// names is read as these names and has no fault.
+pub fn words()
+    ensures read { (l : Language) → (name : List ℕ) → AreBytes name
+        → IsTextOf l (quoted_word name) name }
+    ensures one { (l : Language) → (text : List ℕ) → (a : List ℕ) → (b : List ℕ)
+        → IsTextOf l text a → IsTextOf l text b → a ≡ b }
+    ensures one_name { (a : List ℕ) → (b : List ℕ) → AreBytes a → AreBytes b
+        → quoted_word a ≡ quoted_word b → a ≡ b }
+    ensures joined { (l : Language) → (names : List (List ℕ)) → AllByRecursion AreBytes names
+        → AreWords l (join_words (map quoted_word names)) names }
+{}

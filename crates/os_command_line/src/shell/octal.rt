@@ -1,0 +1,39 @@
+//! What means a character or a byte in dollar-single-quotes.
+ghost use Rattle.std.specs.Prelude.{◌≡◌, ◌+◌, ◌<◌, IfSome};
+ghost use Rattle.os_command_line.specs.ShellWriting.{letter_for};
+
+/// The letter that means a character after a backslash.
+pub(crate) fn letter_for(character: char) -> Option<u8>
+    ensures value { result ≡ letter_for character }
+    ensures ascii { IfSome result (λ letter. letter < 128) }
+{
+    if character == '\'' {
+        Some(b'\'')
+    } else if character == '\\' {
+        Some(b'\\')
+    } else if character == '\n' {
+        Some(b'n')
+    } else if character == '\t' {
+        Some(b't')
+    } else if character == '\r' {
+        Some(b'r')
+    } else {
+        None
+    }
+}
+
+/// An octal digit.
+pub(crate) fn octal_digit(value: u16) -> u8
+    requires { value < 8 }
+    ensures { result ≡ 0x30 + value }
+{
+    b'0' + value as u8
+}
+
+/// The character of an ASCII byte.
+pub(crate) fn ascii_char(byte: u8) -> char
+    requires { byte < 128 }
+    ensures { result ≡ byte }
+{
+    char::from(byte)
+}

@@ -1,0 +1,100 @@
+//! From names to what prints as words.
+ghost use Rattle.std.specs.Prelude.{◌≡◌, MatchResult};
+ghost use Rattle.platform_str.specs.Strings.{bytes};
+ghost use Rattle.os_command_line.specs.ShellSteps.{form_text};
+ghost use Rattle.os_command_line.specs.ShellViews.{shown_text, quoted_text};
+ghost use Rattle.os_command_line.specs.ShellWriting.{HasNoNul, IsFirstNul, IsLineWord, IsTextWord};
+
+use crate::shell::display::{Quoted, Shown};
+use crate::shell::error::NulError;
+use crate::shell::form::{Form, form_of, line_form_of};
+use platform_str::{OsStr, Unix};
+
+/// Returns a value that prints as a word that every POSIX shell reads as this name, for `{}` in a
+/// message. Printing it allocates nothing.
+///
+/// A name that isn't empty and has only `A-Z a-z 0-9 _ @ + : , . / -` prints as it is, any other in
+/// single quotes, a single quote as `'\''`. Nothing in it is expanded, also not by an interactive
+/// shell. A name can still be read as an option by a program, as `-x` is.
+///
+/// What is printed is text, so a name that isn't UTF-8 is printed as by [`quoted_line`];
+/// [`write_quoted`](crate::shell::write_quoted) and [`quote`](crate::shell::quote) write its bytes.
+/// A newline or an escape character in the name is one in the word, too: for a message or a log line
+/// use [`quoted_line`].
+///
+/// # Errors
+///
+/// [`NulError`] with the index of the first NUL. No argument of a program has one.
+///
+/// ```
+/// use os_command_line::shell::{NulError, quoted};
+/// use os_str_bytes::{OsStr, Unix};
+///
+/// let word = quoted(OsStr::<Unix>::new("it's"))?;
+/// assert_eq!(rt; word.to_string(alloc)?.as_str(), "'it'\\''s'");
+/// let word = quoted(OsStr::<Unix>::new("src/lib.rs"))?;
+/// assert_eq!(rt; word.to_string(alloc)?.as_str(), "src/lib.rs");
+/// let fault = quoted(OsStr::<Unix>::new("a\0"));
+/// assert!(rt; fault.is_err_and(|error| error == NulError { index: 1 }));
+/// ```
+pub fn quoted<'a>(name: OsStr<'a, Unix>) -> Result<Quoted<'a>, NulError>
+    ensures word { MatchResult result
+        (λ word. IsTextWord (bytes name.entry) (quoted_text word))
+        (λ fault. IsFirstNul (bytes name.entry) fault.index) }
+    ensures no_nul { MatchResult result (λ _. HasNoNul (bytes name.entry)) (λ _. Unit {0}) }
+{
+    let form = form_of(name)?;
+    let shown = match name.to_str() {
+        Some(text) => shown_in(form, text),
+        None => Shown::Dollar(name),
+    };
+    Ok(Quoted { shown })
+}
+
+/// Returns a value that prints as a word on one line that bash, zsh, ksh93, mksh and busybox read as
+/// this name. Printing it allocates nothing.
+///
+/// If the name is UTF-8 and each of its characters stays on the line (`os_quote::stays_on_line`), it
+/// is the word that [`quoted`] prints. Else it is `$'..'` (POSIX.1-2024, 2.2.4): `\\`, `\'`, `\n`, `\t`
+/// and `\r` for these characters, a backslash and three octal digits for each other byte that isn't
+/// text or is of a character that doesn't stay on the line, and all other characters as they are. dash,
+/// posh and yash don't read `$'..'`.
+///
+/// # Errors
+///
+/// [`NulError`] with the index of the first NUL. No argument of a program has one.
+///
+/// ```
+/// use os_command_line::shell::quoted_line;
+/// use os_str_bytes::{OsStr, Unix};
+///
+/// let name = OsStr::<Unix>::from_encoded_bytes_unchecked(b"a\n\x1B\xFF");
+/// let word = quoted_line(name)?;
+/// assert_eq!(rt; word.to_string(alloc)?.as_str(), "$'a\\n\\033\\377'");
+/// let word = quoted_line(OsStr::<Unix>::new("a b"))?;
+/// assert_eq!(rt; word.to_string(alloc)?.as_str(), "'a b'");
+/// ```
+pub fn quoted_line<'a>(name: OsStr<'a, Unix>) -> Result<Quoted<'a>, NulError>
+    ensures word { MatchResult result
+        (λ word. IsLineWord (bytes name.entry) (quoted_text word))
+        (λ fault. IsFirstNul (bytes name.entry) fault.index) }
+    ensures no_nul { MatchResult result (λ _. HasNoNul (bytes name.entry)) (λ _. Unit {0}) }
+{
+    let form = line_form_of(name)?;
+    let shown = match name.to_str() {
+        Some(text) => shown_in(form, text),
+        None => Shown::Dollar(name),
+    };
+    Ok(Quoted { shown })
+}
+
+/// How a text is printed in a form.
+fn shown_in<'a>(form: Form, text: &'a str) -> Shown<'a>
+    ensures { shown_text result ≡ form_text form text.now }
+{
+    match form {
+        Form::Bare => Shown::Bare(text),
+        Form::Single => Shown::Single(text),
+        Form::Dollar => Shown::Dollar(OsStr::new(text)),
+    }
+}

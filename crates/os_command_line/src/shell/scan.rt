@@ -1,0 +1,79 @@
+//! How far a word reaches.
+ghost use Rattle.std.specs.Prelude.{◌≡◌, ◌≢◌, ◌∷◌, ℕ, List, MatchOption, MatchResult};
+ghost use Rattle.os_command_line.specs.Shell.{backslash, newline};
+ghost use Rattle.os_command_line.specs.Shell.Outcome.{Word, Fault};
+ghost use Rattle.os_command_line.specs.ShellReader.{after_gap, outcome};
+
+use crate::shell::fault::FaultKind;
+use crate::shell::language::Language;
+use crate::shell::step::{State, Step, is_blank, step_at};
+
+/// What comes after the gap at the start.
+pub(crate) fn skip_gap(line: &[u8]) -> &[u8]
+    ensures { result.now ≡ after_gap line.now }
+{
+    let mut rest = line;
+    while let Some((first, after)) = rest.split_first() {
+        if is_blank(*first) {
+            rest = after;
+            continue;
+        }
+        let Some(after) = after_joined(rest) else {
+            return rest;
+        };
+        rest = after;
+    }
+    rest
+}
+
+/// What comes after a backslash and a newline at the start.
+fn after_joined(line: &[u8]) -> Option<&[u8]>
+    ensures { MatchOption result ((rest : List ℕ) → line.now ≢ backslash ∷ newline ∷ rest)
+        (λ rest. line.now ≡ backslash ∷ newline ∷ rest.now) }
+{
+    let Some((first, after)) = line.split_first() else {
+        return None;
+    };
+    if *first != b'\\' {
+        return None;
+    }
+    let Some((second, rest)) = after.split_first() else {
+        return None;
+    };
+    if *second != b'\n' {
+        return None;
+    }
+    Some(rest)
+}
+
+/// What comes after the word at the start, or the fault and the text from it on.
+pub(crate) fn after_word(language: Language, text: &[u8]) -> Result<&[u8], (FaultKind, &[u8])>
+    ensures { MatchResult result
+        (λ rest. (word : List ℕ) × (outcome language text.now ≡ Word word rest.now))
+        (λ fault. outcome language text.now ≡ Fault fault.0 fault.1.now) }
+{
+    let mut state = State::Start;
+    let mut from = text;
+    let mut rest = text;
+    while let Some((byte, after)) = rest.split_first() {
+        match step_at(language, state, *byte, after) {
+            Step::End => return Ok(rest),
+            Step::Refuse(kind) => return Err((kind, rest)),
+            Step::Go(_, next, skipped) => {
+                let (_, left) = after.split_at(skipped);
+                if state.is_outside() {
+                    from = rest;
+                }
+                state = next;
+                rest = left;
+            }
+        }
+    }
+    match state {
+        State::Start => Ok(rest),
+        State::Bare => Ok(rest),
+        State::Single => Err((FaultKind::UnclosedSingle, from)),
+        State::Double => Err((FaultKind::UnclosedDouble, from)),
+        State::Dollar => Err((FaultKind::UnclosedDollar, from)),
+    }
+}
