@@ -3,6 +3,7 @@
 mod arguments;
 mod chunks;
 mod clock;
+mod command_lines;
 mod conversions;
 mod escapes;
 mod globs;
@@ -30,5 +31,6 @@ fn main() {
         escapes::time(&mut bench);
         globs::time(&mut bench);
         arguments::time(&mut bench);
+        command_lines::time(&mut bench);
     }
 }

@@ -41,6 +41,8 @@ mod exports {
             count: usize,
         ) -> usize;
         pub fn port_flags(bytes: *const u8, len: usize) -> u64;
+        pub fn port_arguments(line: *const u8, len: usize) -> u64;
+        pub fn port_push_argument(argument: *const u8, len: usize) -> usize;
         pub fn port_escape(bytes: *const u8, len: usize) -> usize;
         pub fn port_win_escape(bytes: *const u8, len: usize) -> usize;
         pub fn port_wasm_escape(bytes: *const u8, len: usize) -> usize;
@@ -174,6 +176,14 @@ pub fn matches(pattern: &str, texts: &str, lens: &[usize]) -> usize {
 /// The sum of the flags of a word.
 pub fn flags(word: &[u8]) -> u64 {
     unsafe { exports::port_flags(word.as_ptr(), word.len()) }
+}
+
+pub fn arguments(line: &[u8]) -> u64 {
+    unsafe { exports::port_arguments(line.as_ptr(), line.len()) }
+}
+
+pub fn push_argument(argument: &[u8]) -> usize {
+    unsafe { exports::port_push_argument(argument.as_ptr(), argument.len()) }
 }
 
 pub fn escape(bytes: &[u8]) -> usize {

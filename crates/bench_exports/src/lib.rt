@@ -2,7 +2,8 @@
 //! [`wide`] bytes to units and back, [`lossy`] lossy texts and readings, [`search`] searches,
 //! [`boundary`] boundaries, [`compare`] the order, [`pieces`] splits, [`chunks`] chunks, [`symbols`]
 //! symbols and first characters, [`joins`] joins and prefixes by units, [`escapes`] escapes,
-//! [`buffers`] what is written into a buffer, [`globs`] path patterns, [`arguments`] options.
+//! [`buffers`] what is written into a buffer, [`globs`] path patterns, [`arguments`] options,
+//! [`command_lines`] command lines of Windows.
 //!
 //! Each export is a call of the libraries below it, and nothing else. A slice crosses as a
 //! pointer and a length, and an allocator as nothing: what it takes is the program's own
@@ -14,6 +15,7 @@ pub mod boundary;
 pub mod buffers;
 pub mod check;
 pub mod chunks;
+pub mod command_lines;
 pub mod compare;
 pub mod escapes;
 pub mod globs;

@@ -1,0 +1,39 @@
+//! Command lines of Windows, read and written.
+ghost use Rattle.wtf8_core.specs.Wtf8.{IsWtf8};
+
+use os_command_line::windows::{Arguments, push_argument};
+use platform_str::windows::OsStr;
+use std::alloc::Global;
+
+/// Reads a command line, and returns the sum of the units of its name and its arguments, modulo 2^64,
+/// which is turned by 31 before each argument.
+#[unsafe(no_mangle)]
+pub extern "C" fn port_arguments(line: &[u8]) -> u64
+    requires { IsWtf8 line.now }
+{
+    let arguments = Arguments::new(OsStr::from_encoded_bytes_unchecked(line));
+    let mut sum: u64 = 0;
+    for unit in arguments.program().units() {
+        sum = sum.wrapping_add(u64::from(unit));
+    }
+    for argument in arguments {
+        sum = sum.wrapping_mul(31);
+        for unit in argument.units() {
+            sum = sum.wrapping_add(u64::from(unit));
+        }
+    }
+    sum
+}
+
+/// How many units the text of an argument has, once it is in a vector; `usize::MAX` where it is
+/// refused.
+#[unsafe(no_mangle)]
+pub extern "C" fn port_push_argument(alloc: Global, argument: &[u8]) -> usize
+    requires { IsWtf8 argument.now }
+{
+    let mut line = Vec::new(alloc);
+    match push_argument(&mut line, OsStr::from_encoded_bytes_unchecked(argument)) {
+        Ok(()) => line.len(),
+        Err(_) => usize::MAX,
+    }
+}
