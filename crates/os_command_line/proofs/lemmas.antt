@@ -1,7 +1,9 @@
 pub mod PowerShell
+pub mod ShellDollar
 pub mod ShellEachLine
 pub mod ShellForms
 pub mod ShellItems
+pub mod ShellJoining
 pub mod ShellOneReading
 pub mod ShellRoundTrip
 pub mod ShellScan

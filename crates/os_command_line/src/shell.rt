@@ -7,6 +7,7 @@ mod display;
 mod error;
 mod fault;
 mod form;
+mod joining;
 mod language;
 pub mod laws;
 mod octal;
@@ -24,6 +25,7 @@ mod write_formatted;
 pub use display::Quoted;
 pub use error::{NulError, ShellError};
 pub use fault::{FaultKind, WordsFault};
+pub use joining::join;
 pub use language::Specials;
 pub use owned::{push_word, push_word_line, quote, quote_line};
 pub use powershell::{

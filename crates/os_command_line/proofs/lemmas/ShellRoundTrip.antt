@@ -63,7 +63,7 @@ no_cons : {x : ℕ} {xs : List ℕ} → x ∷ xs ≡ [] → ⊥
 no_cons e = cc
 
 -- a word begins with a byte that is no blank and no backslash
-begins_with : (b : ℕ) (text : List ℕ) → is_blank b ≡ false → b ≢ backslash → Begins (b ∷ text)
+pub begins_with : (b : ℕ) (text : List ℕ) → is_blank b ≡ false → b ≢ backslash → Begins (b ∷ text)
 begins_with b text n s = record {
   some = no_cons;
   no_blank = λ c rest e. let f : b ≡ c = cc in subst (λ z. is_blank z ≡ false) f n;

@@ -1,8 +1,8 @@
 //! Laws of words. Each is the contract of a function that does nothing.
-ghost use Rattle.std.specs.Prelude.{◌≡◌, Result, List, ℕ, map};
+ghost use Rattle.std.specs.Prelude.{◌≡◌, true, Result, List, ℕ, map};
 ghost use Rattle.std.specs.List.{AllByRecursion};
 ghost use Rattle.os_command_line.specs.Shell.{AreWords, IsRead, IsTextOf};
-ghost use Rattle.os_command_line.specs.ShellWriting.{AreBytes, quoted_word, join_words};
+ghost use Rattle.os_command_line.specs.ShellWriting.{AreBytes, HasNoNul, IsLineText, IsLineWord, quoted_word, join_words};
 ghost use Rattle.os_command_line.specs.declared.shell.fault.WordsFault.{WordsFault};
 ghost use Rattle.os_command_line.specs.declared.shell.language.Language.{Language};
 
@@ -26,4 +26,14 @@ pub fn words()
         → quoted_word a ≡ quoted_word b → a ≡ b }
     ensures joined { (l : Language) → (names : List (List ℕ)) → AllByRecursion AreBytes names
         → AreWords l (join_words (map quoted_word names)) names }
+{}
+
+/// The word of a name on one line is read as the name, whatever blank or end comes after it: in each
+/// language where each character of the name stays on the line, and else where `$'..'` is read.
+pub fn line_words()
+    ensures shown { (l : Language) → (name : List ℕ) → (text : List ℕ) → AreBytes name
+        → IsLineText name → IsLineWord name text → IsTextOf l text name }
+    ensures hidden { (l : Language) → (name : List ℕ) → (text : List ℕ) → l.dollar_quotes ≡ true
+        → AreBytes name → HasNoNul name → ¬ (IsLineText name) → IsLineWord name text
+        → IsTextOf l text name }
 {}

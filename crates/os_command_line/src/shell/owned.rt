@@ -2,7 +2,7 @@
 ghost use Rattle.std.specs.Prelude.{◌≡◌, ◌++◌, ℕ, List, IfOk, IfErr, OnOk, OnErr};
 ghost use Rattle.platform_str.specs.Strings.{bytes, string_vec_of};
 ghost use Rattle.os_command_line.specs.ShellSteps.{form_text};
-ghost use Rattle.os_command_line.specs.ShellWriting.{IsNameFault, IsLineWord, quoted_word};
+ghost use Rattle.os_command_line.specs.ShellWriting.{HasNoNul, IsNameFault, IsLineWord, quoted_word};
 
 use crate::shell::error::ShellError;
 use crate::shell::form::{Form, form_of, line_form_of};
@@ -82,6 +82,7 @@ pub fn push_word<A: Allocator>(
 ) -> Result<(), ShellError>
     ensures word { OnOk result
         (line.new.items ≡ line.old.items ++ quoted_word (bytes name.entry)) }
+    ensures no_nul { OnOk result (HasNoNul (bytes name.entry)) }
     ensures fault { IfErr result (λ fault. IsNameFault (bytes name.entry) fault) }
     ensures unchanged { OnErr result (line.new.items ≡ line.old.items) }
 {

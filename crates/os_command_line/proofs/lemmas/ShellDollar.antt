@@ -1,0 +1,193 @@
+-- What is written in dollar-single-quotes is read back.
+use Rattle.std.proofs.Common.{◌≡◌, ◌≢◌, ℕ, ◌+◌, ◌*◌, ◌/◌, ◌%◌, ◌<◌, ◌≤◌, Bool, true, false, ◌||◌, ◌&&◌, eqb, List, [], ◌∷◌, ◌++◌, map, length, refl, sym, ap, ◌∙◌, subst, arith, append_assoc, append-nil, Option, None, Some, inl, inr}
+use Rattle.std.specs.Char.{encode_utf8}
+use Rattle.std.specs.List.{All, AllByRecursion, flat_map}
+use Rattle.std.specs.Str.{chars}
+use Rattle.std.proofs.lemmas.Bool.{cases_Bool, cases_lt, eqb-true, ne_eqb, and_parts, lt-ltb}
+use Rattle.std.proofs.lemmas.Grind.{flat_map-append}
+use Rattle.std.proofs.lemmas.List.Elements.{recursion_from_All}
+use Rattle.std.proofs.lemmas.Str.{encode_ascii}
+use Rattle.wtf8_core.specs.Byte.{IsByte}
+use Rattle.wtf8_core.specs.Chunks.{Chunk, joined}
+use Rattle.wtf8_core.proofs.lemmas.forms.ByStd.{form_encode}
+use Rattle.wtf8_core.proofs.lemmas.scan.ComputedTests.{all_below, each_below}
+use Rattle.platform_str.specs.PlatformWords.{itself}
+use Rattle.platform_str.specs.platforms.Unix.{unix_laws, unix_parts}
+use Rattle.os_str_ext.specs.Parts.{unit_number}
+use Rattle.os_str_ext.specs.Symbols.{symbol_bytes, unit_symbol, chunk_symbols, chunks_symbols}
+use Rattle.os_str_ext.specs.declared.symbols.Symbol.{Symbol}
+use Rattle.os_str_ext.specs.declared.symbols.Symbol.TheVariants as symbol
+use Rattle.os_str_ext.proofs.lemmas.SymbolBytes.{symbols_joined}
+use Rattle.os_quote.specs.Shown.{stays_on_line}
+use Rattle.os_command_line.specs.declared.shell.language.Language.{Language}
+use Rattle.os_command_line.specs.Shell.{single_quote, backslash, dollar, is_octal, is_some_byte, octal_value, octal_meaning, escape_meaning, Dollared, Ends, IsTextOf, Begins}
+use Rattle.os_command_line.specs.Shell.Outcome.{Word}
+use Rattle.os_command_line.specs.Shell.Dollared.{nothing, itself as plain, escape_of}
+use Rattle.os_command_line.specs.Shell.Reads.{ends, dollared}
+use Rattle.os_command_line.specs.ShellWriting.{HasNoNul, letter_for, octal_text, shown_or_octal, character_text, symbol_text, dollar_quoted, IsDollarWord}
+use Rattle.os_command_line.proofs.lemmas.ShellOneReading.{or_true}
+use Rattle.os_command_line.proofs.lemmas.ShellEachLine.{same}
+use Rattle.os_command_line.proofs.lemmas.ShellRoundTrip.{begins_with}
+use Rattle.os_command_line.proofs.lemmas.WindowsLifted.{AreWide}
+use Rattle.os_command_line.proofs.lemmas.WindowsStrings.{bytes_form}
+
+-- a byte of a name: no NUL
+abbrev IsNameByte : ℕ → Type 0
+IsNameByte b = (b < 0x100) × (b ≢ 0)
+
+-- what comes before a text in quotes means this before what the text means
+abbrev Leads : List ℕ → List ℕ → Type 0
+Leads prefix meant = (text word : List ℕ) → Dollared text word → Dollared (prefix ++ text) (meant ++ word)
+
+-- ---- octal digits
+
+abbrev is_right : ℕ → Bool
+is_right b =
+    eqb b 0
+    || (is_octal (0x30 + b / 64 % 8)
+    && (is_octal (0x30 + b / 8 % 8) && (is_octal (0x30 + b % 8) && (is_some_byte (octal_value (0x30 + b / 64 % 8) (0x30 + b / 8 % 8) (0x30 + b % 8)) && eqb (octal_value (0x30 + b / 64 % 8) (0x30 + b / 8 % 8) (0x30 + b % 8)) b))))
+
+all_right : all_below is_right 0x100 ≡ true
+all_right = refl
+
+three_mean : (c d e : ℕ) → is_octal c ≡ true → is_octal d ≡ true → is_octal e ≡ true → is_some_byte (octal_value c d e) ≡ true → octal_meaning c d e ≡ Some (octal_value c d e)
+three_mean c d e p q r s = rw (p, q, r, s) refl
+
+digits_mean : (b c d e : ℕ) → is_octal c && (is_octal d && (is_octal e && (is_some_byte (octal_value c d e) && eqb (octal_value c d e) b))) ≡ true → octal_meaning c d e ≡ Some b
+digits_mean b c d e h =
+    let p = and_parts (is_octal c) _ h in
+    let q = and_parts (is_octal d) _ p.1 in
+    let r = and_parts (is_octal e) _ q.1 in
+    let s = and_parts (is_some_byte (octal_value c d e)) (eqb (octal_value c d e) b) r.1 in
+    three_mean c d e p.0 q.0 r.0 s.0 ∙ ap Some (eqb-true (octal_value c d e) b s.1)
+
+octal_means : (b : ℕ) → IsNameByte b → escape_meaning ((0x30 + b / 64 % 8) ∷ (0x30 + b / 8 % 8) ∷ (0x30 + b % 8) ∷ []) ≡ Some b
+octal_means b h = elim (or_true (eqb b 0) _ (each_below is_right 0x100 b all_right h.0)) [ inl e ↦ absurd (h.1 (eqb-true b 0 e)) | inr r ↦ digits_mean b (0x30 + b / 64 % 8) (0x30 + b / 8 % 8) (0x30 + b % 8) r ]
+
+octals_lead : (bytes : List ℕ) → AllByRecursion IsNameByte bytes → Leads (flat_map octal_text bytes) bytes
+octals_lead [] h text word r = r
+octals_lead (b ∷ bytes) h text word r =
+    escape_of ((0x30 + b / 64 % 8) ∷ (0x30 + b / 8 % 8) ∷ (0x30 + b % 8) ∷ []) b (flat_map octal_text bytes ++ text) (bytes ++ word) (octal_means b h.0) (octals_lead bytes h.1 text word r)
+
+-- ---- characters
+
+abbrev IsItself : ℕ → Type 0
+IsItself b = (eqb b 0x27 ≡ false) × (eqb b 0x5C ≡ false)
+
+itself_leads : (bytes : List ℕ) → AllByRecursion IsItself bytes → Leads bytes bytes
+itself_leads [] h text word r = r
+itself_leads (b ∷ bytes) h text word r = plain b (bytes ++ text) (bytes ++ word) h.0.0 h.0.1 (itself_leads bytes h.1 text word r)
+
+past_itself : (b : ℕ) → 0x80 ≤ b → IsItself b
+past_itself b h = (ne_eqb b 0x27 (λ e. omega (arith, e, h)), ne_eqb b 0x5C (λ e. omega (arith, e, h)))
+
+all_past : (bytes : List ℕ) → AllByRecursion (λ y. 0x80 ≤ y) bytes → AllByRecursion IsItself bytes
+all_past [] h = tt
+all_past (b ∷ bytes) h = (past_itself b h.0, all_past bytes h.1)
+
+wide_itself : (bytes : List ℕ) → AreWide bytes → AllByRecursion IsItself bytes
+wide_itself [] h = absurd h
+wide_itself (b ∷ bytes) h = (past_itself b h.0, all_past bytes h.1)
+
+own_bytes : (c : ℕ) → IsItself c → AllByRecursion IsItself (encode_utf8 c)
+own_bytes c h = elim (cases_lt c 0x80) [
+  | inl lt ↦ subst (AllByRecursion IsItself) (sym (encode_ascii c lt)) (h, tt)
+  | inr ge ↦ wide_itself (encode_utf8 c) (subst AreWide (form_encode c) (bytes_form.wide c ge))
+]
+
+letter_leads : (letter c : ℕ) → c < 0x80 → escape_meaning (letter ∷ []) ≡ Some c → Leads (backslash ∷ letter ∷ []) (encode_utf8 c)
+letter_leads letter c lt m text word r = subst (λ z. Dollared (backslash ∷ letter ∷ text) (z ++ word)) (sym (encode_ascii c lt)) (escape_of (letter ∷ []) c text word m r)
+
+shown_leads : (c : ℕ) → IsItself c → AllByRecursion IsNameByte (encode_utf8 c) → Leads (shown_or_octal c) (encode_utf8 c)
+shown_leads c i h = elim (cases_Bool (stays_on_line c)) [
+  | inl e ↦ subst (λ z. Leads z (encode_utf8 c)) (sym (as_it_is e)) (itself_leads (encode_utf8 c) (own_bytes c i))
+  | inr e ↦ subst (λ z. Leads z (encode_utf8 c)) (sym (by_bytes e)) (octals_lead (encode_utf8 c) h)
+]
+  where
+    as_it_is : stays_on_line c ≡ true → shown_or_octal c ≡ encode_utf8 c
+    as_it_is e = rw e refl
+
+    by_bytes : stays_on_line c ≡ false → shown_or_octal c ≡ flat_map octal_text (encode_utf8 c)
+    by_bytes e = rw e refl
+
+abbrev CharacterLeads : ℕ → Type 0
+CharacterLeads c = Leads (character_text c (letter_for c)) (encode_utf8 c)
+
+character_leads : (c : ℕ) → AllByRecursion IsNameByte (encode_utf8 c) → CharacterLeads c
+character_leads c h = elim (cases_Bool (eqb c 0x27)) [
+  | inl e ↦ subst CharacterLeads (sym (eqb-true c 0x27 e)) (letter_leads 0x27 0x27 (omega arith) refl)
+  | inr e ↦ elim (cases_Bool (eqb c 0x5C)) [
+    | inl f ↦ subst CharacterLeads (sym (eqb-true c 0x5C f)) (letter_leads 0x5C 0x5C (omega arith) refl)
+    | inr f ↦ elim (cases_Bool (eqb c 0x0A)) [
+      | inl g ↦ subst CharacterLeads (sym (eqb-true c 0x0A g)) (letter_leads 0x6E 0x0A (omega arith) refl)
+      | inr g ↦ elim (cases_Bool (eqb c 0x09)) [
+        | inl i ↦ subst CharacterLeads (sym (eqb-true c 0x09 i)) (letter_leads 0x74 0x09 (omega arith) refl)
+        | inr i ↦ elim (cases_Bool (eqb c 0x0D)) [
+          | inl j ↦ subst CharacterLeads (sym (eqb-true c 0x0D j)) (letter_leads 0x72 0x0D (omega arith) refl)
+          | inr j ↦ subst (λ z. Leads z (encode_utf8 c)) (sym (no_letter e f g i j)) (shown_leads c (e, f) h)
+        ]
+      ]
+    ]
+  ]
+]
+  where
+    no_letter : eqb c 0x27 ≡ false → eqb c 0x5C ≡ false → eqb c 0x0A ≡ false → eqb c 0x09 ≡ false → eqb c 0x0D ≡ false → character_text c (letter_for c) ≡ shown_or_octal c
+    no_letter e f g i j = rw (e, f, g, i, j) refl
+
+-- ---- symbols
+
+abbrev IsUnixSymbol : Symbol → Type 0
+IsUnixSymbol (symbol.Character c) = Unit {0}
+IsUnixSymbol (symbol.Unit u) = unit_number u < 0x100
+
+symbol_leads : (s : Symbol) → IsUnixSymbol s → AllByRecursion IsNameByte (symbol_bytes s) → Leads (symbol_text s) (symbol_bytes s)
+symbol_leads (symbol.Character c) u h = character_leads c h
+symbol_leads (symbol.Unit u) lt h =
+    let n = unit_number u in
+    let one : symbol_bytes (symbol.Unit u) ≡ n ∷ [] = rw (lt-ltb n 0x100 lt) refl in
+    let byte : IsNameByte n = (subst (AllByRecursion IsNameByte) one h).0 in
+    λ text word r. subst (λ z. Dollared (octal_text n ++ text) (z ++ word)) (sym one) (escape_of ((0x30 + n / 64 % 8) ∷ (0x30 + n / 8 % 8) ∷ (0x30 + n % 8) ∷ []) n text word (octal_means n byte) r)
+
+both_parts : (P : ℕ → Type 0) (xs ys : List ℕ) → AllByRecursion P (xs ++ ys) → AllByRecursion P xs × AllByRecursion P ys
+both_parts P [] ys h = (tt, h)
+both_parts P (x ∷ xs) ys h = let m = both_parts P xs ys h.1 in ((h.0, m.0), m.1)
+
+symbols_mean : (symbols : List Symbol) → AllByRecursion IsUnixSymbol symbols → AllByRecursion IsNameByte (flat_map symbol_bytes symbols) → Dollared (flat_map symbol_text symbols) (flat_map symbol_bytes symbols)
+symbols_mean [] u h = nothing
+symbols_mean (s ∷ symbols) u h =
+    let m = both_parts IsNameByte (symbol_bytes s) (flat_map symbol_bytes symbols) h in
+    symbol_leads s u.0 m.0 (flat_map symbol_text symbols) (flat_map symbol_bytes symbols) (symbols_mean symbols u.1 m.1)
+
+units_unix : (bytes : List ℕ) (more : List Symbol) → AllByRecursion (λ b. b < 0x100) bytes → AllByRecursion IsUnixSymbol more → AllByRecursion IsUnixSymbol (map unit_symbol bytes ++ more)
+units_unix [] more h m = m
+units_unix (b ∷ bytes) more h m = (h.0, units_unix bytes more h.1 m)
+
+characters_unix : (cs : List ℕ) (more : List Symbol) → AllByRecursion IsUnixSymbol more → AllByRecursion IsUnixSymbol (map symbol.Character cs ++ more)
+characters_unix [] more m = m
+characters_unix (c ∷ cs) more m = (tt, characters_unix cs more m)
+
+chunks_unix : (chunks : List Chunk) → AllByRecursion (λ b. b < 0x100) (joined chunks) → AllByRecursion IsUnixSymbol (chunks_symbols itself chunks)
+chunks_unix [] h = tt
+chunks_unix (c ∷ chunks) h =
+    let p = both_parts (λ b. b < 0x100) c.0 (c.1 ++ joined chunks) h in
+    let q = both_parts (λ b. b < 0x100) c.1 (joined chunks) p.1 in
+    subst (AllByRecursion IsUnixSymbol) (sym (append_assoc (map unit_symbol (itself c.0)) (map symbol.Character (chars c.1)) (chunks_symbols itself chunks)))
+    (units_unix c.0 _ p.0 (characters_unix (chars c.1) _ (chunks_unix chunks q.1)))
+
+name_bytes : (name : List ℕ) → AllByRecursion (λ b. b < 0x100) name → HasNoNul name → AllByRecursion IsNameByte name
+name_bytes [] a n = tt
+name_bytes (b ∷ name) a n = ((a.0, n.0), name_bytes name a.1 n.1)
+
+-- a name in dollar-single-quotes is read as the name, where they are read
+pub dollar_is : (l : Language) (name text : List ℕ) → l.dollar_quotes ≡ true → All IsByte name → HasNoNul name → IsDollarWord name text → IsTextOf l text name
+dollar_is l name text d w n is after e =
+    let body = flat_map symbol_text is.symbols in
+    let bytes = recursion_from_All IsByte name w in
+    let chunks = is.are_symbols.chunks in
+    let unix = subst (AllByRecursion IsUnixSymbol) (sym is.are_symbols.are) (chunks_unix chunks (subst (AllByRecursion (λ b. b < 0x100)) (sym is.are_symbols.are_chunks.joins) bytes)) in
+    let whole = symbols_joined itself (All IsByte) unix_parts.encoded unix_laws.cut_prefix unix_laws.cut_suffix name w is.symbols is.are_symbols in
+    let means = subst (Dollared body) whole (symbols_mean is.symbols unix (subst (AllByRecursion IsNameByte) (sym whole) (name_bytes name bytes n))) in
+    let start : text ++ after ≡ dollar ∷ single_quote ∷ (body ++ single_quote ∷ after) = ap (λ z. z ++ after) is.text_is ∙ ap (λ z. dollar ∷ single_quote ∷ z) (append_assoc body (single_quote ∷ []) after) in (
+      subst Begins (sym start) (begins_with dollar (single_quote ∷ (body ++ single_quote ∷ after)) refl (λ f. omega (arith, f))),
+      same (sym start) (ap (λ z. Word z after) (append-nil name)) (dollared true body name after (Word [] after) d means (ends false after e)),
+    )

@@ -1,0 +1,87 @@
+//! Words joined into a line.
+ghost use Rattle.std.specs.Prelude.{◌≡◌, ◌++◌, ◌∷◌, ◌+◌, ◌<◌, [], map, drop, length, IfOk, IfErr, IfSome, OnOk, MatchOption};
+ghost use Rattle.platform_str.specs.Strings.{bytes, string_vec_of};
+ghost use Rattle.os_command_line.specs.ShellWriting.{IsFirstNameFault, after_first, join_words, quoted_word};
+
+use crate::shell::error::ShellError;
+use crate::shell::owned::{push_word, unix_string};
+use platform_str::{OsStr, OsString, Unix};
+use std::alloc::{AllocError, Allocator};
+
+/// Returns a line of the words of these names ([`quote`](crate::shell::quote)), a space between them:
+/// what a shell reads from it is these names. The line of no name is empty.
+///
+/// # Errors
+///
+/// `Nul` with the index of the first NUL of the first name that has one, `Memory` if an allocation
+/// fails.
+///
+/// ```
+/// use os_command_line::shell::join;
+/// use os_str_bytes::{OsStr, Unix};
+///
+/// let names = [OsStr::<Unix>::new("cp"), OsStr::new("a b"), OsStr::new("")];
+/// let line = join(alloc, &names)?;
+/// assert!(rt; line.as_os_str() == OsStr::new("cp 'a b' ''"));
+/// ```
+pub fn join<A: Allocator>(
+    alloc: A,
+    names: &[OsStr<'_, Unix>],
+) -> Result<OsString<Unix, A>, ShellError>
+    ensures line { IfOk result (λ line. (string_vec_of line).items
+        ≡ join_words (map quoted_word (map bytes names.now))) }
+    ensures fault { IfErr result (λ fault. IsFirstNameFault (map bytes names.now) fault) }
+{
+    let mut line = Vec::new(alloc);
+    let Some((first, others)) = names.split_first() else {
+        return Ok(unix_string(line));
+    };
+    match push_word(&mut line, *first) {
+        Ok(()) => {}
+        Err(fault) => return Err(fault),
+    }
+    match push_after(&mut line, others) {
+        Ok(()) => Ok(unix_string(line)),
+        Err(fault) => Err(fault),
+    }
+}
+
+/// Appends the words of names, a space before each.
+fn push_after<A: Allocator>(
+    line: &mut Vec<u8, A>,
+    names: &[OsStr<'_, Unix>],
+) -> Result<(), ShellError>
+    ensures line { OnOk result (line.new.items
+        ≡ line.old.items ++ after_first (map quoted_word (map bytes names.now))) }
+    ensures fault { IfErr result (λ fault. IsFirstNameFault (map bytes names.now) fault) }
+{
+    let mut index = 0;
+    while let Some(name) = name_after(names, index) {
+        push_space(line)?;
+        push_word(line, name)?;
+        index += 1;
+    }
+    Ok(())
+}
+
+/// The first name after so many others.
+fn name_after<'a>(names: &[OsStr<'a, Unix>], index: usize) -> Option<OsStr<'a, Unix>>
+    ensures first { MatchOption result (drop index (map bytes names.now) ≡ [])
+        (λ name. drop index (map bytes names.now)
+        ≡ bytes name ∷ drop (index + 1) (map bytes names.now)) }
+    ensures within { IfSome result (λ _. index < length names.now) }
+{
+    if index < names.len() {
+        Some(names[index])
+    } else {
+        None
+    }
+}
+
+/// Appends a space.
+fn push_space<A: Allocator>(line: &mut Vec<u8, A>) -> Result<(), AllocError>
+    ensures { OnOk result (line.new.items ≡ line.old.items ++ 0x20 ∷ []) }
+{
+    line.push(b' ')?;
+    Ok(())
+}
