@@ -10,8 +10,8 @@ use std::alloc::{AllocError, Allocator};
 /// ```
 /// use program_frame::lists::items::split_at_end;
 ///
-/// let (first, after) = split_at_end(0, b"a\0b").unwrap_or((b"", b""));
-/// assert!(rt; first == b"a" && after == b"b");
+/// let parts = split_at_end(0, b"a\0b");
+/// assert!(rt; parts == Some((b"a".as_slice(), b"b".as_slice())));
 /// assert!(rt; split_at_end(0, b"ab").is_none());
 /// ```
 pub fn split_at_end(end: u8, bytes: &[u8]) -> Option<(&[u8], &[u8])>

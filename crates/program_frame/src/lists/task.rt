@@ -78,7 +78,8 @@ pub trait ListTask {
     /// let settings = Settings { task: Task::ListAll, max: 255 };
     /// let mut output = Vec::new(alloc);
     /// let answer = OnPlatform::<Unix>::new(settings).write_item(alloc, b"a\nb", &mut output);
-    /// assert!(rt; answer.is_ok() && output.as_slice() == b"a\\u000Ab\n");
+    /// assert!(rt; answer.is_ok());
+    /// assert_eq!(rt; output.as_slice(), b"a\\u000Ab\n".as_slice());
     /// ```
     fn write_item<A: Allocator + Copy>(
         &self,
