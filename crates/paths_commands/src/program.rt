@@ -53,10 +53,10 @@ const LONGEST_PATH: usize = 0x10_0000;
 /// use std::process::{ExitCode, Termination};
 ///
 /// let mut words = Vec::new(alloc);
-/// for word in ["paths", "check", "windows"] {
+/// for word in ["paths", "parent", "windows"] {
 ///     words.push(String::from_str(alloc, word)?)?;
 /// }
-/// let (mut input, mut output) = (Marked::new(b"a\0".as_slice()), Marked::new(rt.stdout()));
+/// let (mut input, mut output) = (Marked::new(b"".as_slice()), Marked::new(rt.stdout()));
 /// let words = Ok(words.into_iter());
 /// let ended = execute(alloc, words, &mut input, &mut output, &mut rt.stderr());
 /// assert!(rt; ended.report(&rt) == ExitCode::from(0));
