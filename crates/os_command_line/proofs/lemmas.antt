@@ -1,3 +1,4 @@
+pub mod Fish
 pub mod PowerShell
 pub mod ShellDollar
 pub mod ShellEachLine

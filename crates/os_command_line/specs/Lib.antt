@@ -1,3 +1,4 @@
+pub mod Fish
 pub mod PowerShell
 pub mod Shell
 pub mod ShellReader

@@ -6,6 +6,7 @@
 mod display;
 mod error;
 mod fault;
+mod fish;
 mod form;
 mod joining;
 mod language;
@@ -25,6 +26,7 @@ mod write_formatted;
 pub use display::Quoted;
 pub use error::{NulError, ShellError};
 pub use fault::{FaultKind, WordsFault};
+pub use fish::{FishError, FishQuoted, quoted_fish, write_quoted_fish};
 pub use joining::join;
 pub use language::Specials;
 pub use owned::{push_word, push_word_line, quote, quote_line};

@@ -62,7 +62,7 @@ pub(crate) fn is_line_text(name: OsStr<'_, Unix>) -> bool
 }
 
 /// The index of the first NUL.
-fn first_nul(name: &[u8]) -> Option<usize>
+pub(crate) fn first_nul(name: &[u8]) -> Option<usize>
     ensures { MatchOption result (HasNoNul name.now) (λ index. IsFirstNul name.now index) }
 {
     memchr(0, name)

@@ -149,7 +149,7 @@ fn push_character(buffer: &mut [u8], count: usize, character: char) -> usize
 }
 
 /// The first character of a text, and what comes after it.
-fn first_char(text: &str) -> Option<(char, &str)>
+pub(crate) fn first_char(text: &str) -> Option<(char, &str)>
     ensures { MatchOption result (text.now ≡ []) (λ first. (text.now
         ≡ encode_utf8 first.0 ++ first.1.now) × IsUtf8 first.1.now) }
 {

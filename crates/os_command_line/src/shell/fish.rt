@@ -1,0 +1,219 @@
+//! Names as words of fish.
+ghost use Rattle.std.specs.Prelude.{◌≡◌, ◌+◌, ◌*◌, ◌<◌, ◌^◌, ◌++◌, ℕ, List, length, IfOk, IfErr, OnOk};
+ghost use Rattle.std.specs.Char.{encode_utf8};
+ghost use Rattle.std.specs.Fmt.{WritesStyledOnOk};
+ghost use Rattle.std.specs.List.{flat_map};
+ghost use Rattle.wtf8_core.specs.Truncated.{IsTruncated};
+ghost use Rattle.platform_str.specs.Strings.{bytes};
+ghost use Rattle.os_command_line.specs.Fish.{fish_byte, fish_quoted, fish_text, fish_word, is_escaped, IsFishFault, IsFishText};
+ghost use Rattle.os_command_line.specs.ShellWriting.{HasNoNul, IsFirstNul};
+
+use crate::shell::error::NulError;
+use crate::shell::form::{first_nul, is_plain_name};
+use crate::shell::powershell::first_char;
+use platform_str::{OsStr, Platform, Unix, Writeable, write_filled};
+use std::fmt;
+use wtf8_core::push_truncated;
+
+/// Why a name isn't printed as a word of fish.
+#[derive(Clone, Copy, Debug, PartialEq, Eq)]
+pub enum FishError {
+    /// The byte index of the first NUL. No argument has one.
+    Nul(usize),
+    /// The byte index from which on a name without NUL is no text, so that `{}` can't print it.
+    /// [`write_quoted_fish`] writes such a name.
+    NotText(usize),
+}
+
+/// A name that prints as a word of fish. Printing it allocates nothing.
+///
+/// Returned by [`quoted_fish`]. A width counts characters, and fills after the word if no alignment
+/// is given. A precision doesn't truncate.
+#[derive(Clone, Copy)]
+pub struct FishQuoted<'a> {
+    text: &'a str,
+}
+
+/// A value that prints a name as a word of fish: a name that isn't empty and has only letters and digits
+/// of ASCII and `_ @ + : , . / -` as it is, any other in single quotes, in which a backslash is
+/// written before each single quote and each backslash (fish's documentation, "Quotes").
+///
+/// # Errors
+///
+/// `Nul` with the byte index of the first NUL, else `NotText` with that from which on the name is no
+/// text.
+///
+/// ```
+/// use os_command_line::shell::{FishError, quoted_fish};
+/// use os_str_bytes::{OsStr, Unix};
+///
+/// let quoted = quoted_fish(OsStr::<Unix>::new("it's\\"))?;
+/// assert_eq!(rt; format!(in alloc; "{quoted}")?.as_str(), "'it\\'s\\\\'");
+/// let refused = quoted_fish(OsStr::<Unix>::from_encoded_bytes_unchecked(b"a\xFF"));
+/// assert_eq!(rt; refused.err(), Some(FishError::NotText(1)));
+/// ```
+pub fn quoted_fish(name: OsStr<'_, Unix>) -> Result<FishQuoted<'_>, FishError>
+    ensures text { IfOk result (λ quoted. IsFishText (fish_text quoted) (bytes name.entry)) }
+    ensures word { IfOk result (λ quoted. fish_text quoted ≡ fish_word (bytes name.entry)) }
+    ensures no_nul { OnOk result (HasNoNul (bytes name.entry)) }
+    ensures fault { IfErr result (λ fault. IsFishFault (bytes name.entry) fault) }
+{
+    let name = name.as_encoded_bytes();
+    if let Some(index) = first_nul(name) {
+        return Err(FishError::Nul(index));
+    }
+    if let Some((index, _)) = Unix::utf8_fault(name) {
+        return Err(FishError::NotText(index));
+    }
+    Ok(FishQuoted {
+        text: unsafe { str::from_utf8_unchecked(name) },
+    })
+}
+
+/// Writes a name as a word of fish ([`quoted_fish`]) into a buffer, truncated if the buffer is too short
+/// for it, and returns the length of the whole word. The name may be no text: its bytes are written.
+/// What the word doesn't reach stays as it is. It doesn't allocate, and with an empty buffer only
+/// counts.
+///
+/// Twice the name's length and two is below 2^64 (test: `name.len() <= usize::MAX / 2 - 1`). The word
+/// is never longer than that.
+///
+/// # Errors
+///
+/// `NulError` with the byte index of the first NUL; the buffer is then as it was.
+///
+/// ```
+/// use os_command_line::shell::write_quoted_fish;
+/// use os_str_bytes::{OsStr, Unix};
+///
+/// let mut buffer = [b'-'; 8];
+/// let name = OsStr::<Unix>::from_encoded_bytes_unchecked(b"a'\xFF");
+/// assert_eq!(rt; write_quoted_fish(name, &mut buffer), Ok(6));
+/// assert_eq!(rt; buffer.as_slice(), b"'a\\'\xFF'--".as_slice());
+/// ```
+pub fn write_quoted_fish(name: OsStr<'_, Unix>, buffer: &mut [u8]) -> Result<usize, NulError>
+    requires { 2 * length (bytes name) + 2 < 2 ^ 64 }
+    ensures text { OnOk result (IsFishText (fish_word (bytes name.entry)) (bytes name.entry)) }
+    ensures written { IfOk result (λ len. IsTruncated (fish_word (bytes name.entry)) buffer.old
+        buffer.new len) }
+    ensures no_nul { OnOk result (HasNoNul (bytes name.entry)) }
+    ensures fault { IfErr result (λ fault. IsFirstNul (bytes name.entry) fault.index
+        × (buffer.new ≡ buffer.old)) }
+{
+    let name = name.as_encoded_bytes();
+    if let Some(index) = first_nul(name) {
+        return Err(NulError { index });
+    }
+    Ok(push_word(buffer, name))
+}
+
+/// Writes bytes as a word into a buffer.
+fn push_word(buffer: &mut [u8], name: &[u8]) -> usize
+    requires { 2 * length name.now + 2 < 2 ^ 64 }
+    ensures { IsTruncated (fish_word name.now) buffer.old buffer.new result }
+{
+    if is_plain_name(name) {
+        push_truncated(buffer, 0, name)
+    } else {
+        push_quoted(buffer, name)
+    }
+}
+
+/// Writes bytes in single quotes into a buffer.
+fn push_quoted(buffer: &mut [u8], name: &[u8]) -> usize
+    requires { 2 * length name.now + 2 < 2 ^ 64 }
+    ensures { IsTruncated (fish_quoted name.now) buffer.old buffer.new result }
+{
+    let mut count = push_truncated(buffer, 0, b"'");
+    let mut rest = name;
+    while let Some((first, after)) = rest.split_first() {
+        count = push_byte(buffer, count, *first);
+        rest = after;
+    }
+    push_truncated(buffer, count, b"'")
+}
+
+/// Appends a byte in single quotes.
+fn push_byte(buffer: &mut [u8], count: usize, byte: u8) -> usize
+    requires { count + 2 < 2 ^ 64 }
+    ensures written { (text : List ℕ) → (old : List ℕ) → IsTruncated text old buffer.old count
+        → IsTruncated (text ++ fish_byte byte) old buffer.new result }
+    ensures len { result ≡ count + length (fish_byte byte) }
+{
+    if is_escaped(byte) {
+        return push_truncated(buffer, count, &[b'\\', byte]);
+    }
+    push_truncated(buffer, count, &[byte])
+}
+
+/// Whether a backslash escapes a byte in single quotes.
+fn is_escaped(byte: u8) -> bool
+    ensures { result ≡ is_escaped byte }
+{
+    byte == b'\'' || byte == b'\\'
+}
+
+impl<'a> fmt::Display for FishQuoted<'a> {
+    ghost use Rattle.std.specs.Prelude.{Some};
+    ghost use Rattle.std.specs.Fmt.{spec_fill, spec_align, spec_width};
+    ghost use Rattle.platform_str.specs.Display.{filled};
+    ghost use Rattle.os_command_line.specs.Fish.{fish_byte, fish_quoted, fish_text, fish_word, is_escaped, IsFishFault, IsFishText};
+    ghost use Rattle.os_command_line.specs.ShellWriting.{HasNoNul, IsFirstNul};
+
+    ghost output = { λ q. Some (fish_text q) };
+
+    ghost styled_output = { λ q spec. Some (filled (spec_fill spec) (spec_align spec)
+        (spec_width spec) (fish_text q)) };
+
+    fn fmt<W: fmt::Write>(&self, f: &mut fmt::Formatter<W>) -> fmt::Result {
+        write_filled(self, f)
+    }
+}
+
+impl<'a> Writeable for FishQuoted<'a> {
+    ghost use Rattle.os_command_line.specs.Fish.{fish_byte, fish_quoted, fish_text, fish_word, is_escaped, IsFishFault, IsFishText};
+    ghost use Rattle.os_command_line.specs.ShellWriting.{HasNoNul, IsFirstNul};
+
+    ghost text = { λ q. fish_text q };
+
+    fn write_to<W: fmt::Write>(&self, f: &mut fmt::Formatter<W>) -> fmt::Result {
+        write_word(self.text, f)
+    }
+}
+
+/// Writes a text as a word.
+fn write_word<W: fmt::Write>(text: &str, f: &mut fmt::Formatter<W>) -> fmt::Result
+    ensures { WritesStyledOnOk W.write_str_gives f.old result (fish_word text.now) f.new }
+{
+    if is_plain_name(text.as_bytes()) {
+        return f.write_str(text);
+    }
+    write_quoted(text, f)
+}
+
+/// Writes a text in single quotes.
+fn write_quoted<W: fmt::Write>(text: &str, f: &mut fmt::Formatter<W>) -> fmt::Result
+    ensures { WritesStyledOnOk W.write_str_gives f.old result (fish_quoted text.now) f.new }
+{
+    f.write_str("'")?;
+    let mut rest = text;
+    while let Some((character, following)) = first_char(rest) {
+        write_character(character, f)?;
+        rest = following;
+    }
+    f.write_str("'")
+}
+
+/// Writes a character in single quotes.
+fn write_character<W: fmt::Write>(character: char, f: &mut fmt::Formatter<W>) -> fmt::Result
+    ensures { WritesStyledOnOk W.write_str_gives f.old result
+        (flat_map fish_byte (encode_utf8 character)) f.new }
+{
+    if character == '\'' {
+        return f.write_str("\\'");
+    }
+    if character == '\\' {
+        return f.write_str("\\\\");
+    }
+    f.write_char(character)
+}
