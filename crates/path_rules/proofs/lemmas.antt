@@ -25,3 +25,4 @@ pub mod Resolving
 pub mod Written
 pub mod Forms
 pub mod Again
+pub mod FileNames

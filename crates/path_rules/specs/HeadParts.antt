@@ -1,9 +1,12 @@
 -- The parts that a path is taken apart into. Step words: no public contract names them.
-use Rattle.std.specs.Prelude.{◌≡◌, ◌++◌, ℕ, List, []}
+use Rattle.std.specs.Prelude.{◌≡◌, ℕ, List, [], ◌∷◌, ◌++◌, Some}
+use Rattle.path_rules.specs.declared.rules.Rules.{Rules}
 use Rattle.path_rules.specs.declared.rules.Rules.TheVariants as rule
 use Rattle.path_rules.specs.declared.rules.Style.{Style}
 use Rattle.path_rules.specs.declared.rules.Style.TheVariants as style
 use Rattle.path_rules.specs.declared.head.Head.{Head}
+use Rattle.path_rules.specs.Separators.{IsUpTo}
+use Rattle.path_rules.specs.Component.{Item, named, components_in}
 use Rattle.path_rules.specs.Components.{IsStartOf, root_of, after_root}
 use Rattle.path_rules.specs.Prefix.{Kind, IsPrefixOf, rules_of}
 
@@ -38,3 +41,14 @@ pub data IsWindowsHead (path : List ℕ) (head : Head) : Type 0 where
 abbrev pub IsHead : Style → List ℕ → Head → Type 0
 IsHead style.Unix path head = IsUnixHead path head
 IsHead style.Windows path head = IsWindowsHead path head
+
+-- a part at the start of the body that has its components, and in which the last part names the last of them
+pub record IsLastPart (r : Rules) (body left part : List ℕ) : Type 0 where
+  pub up_to : IsUpTo r body left
+  pub same : components_in r body ≡ components_in r left
+  pub front : List ℕ
+  pub joined : left ≡ front ++ part
+  pub first : List Item
+  pub item : Item
+  pub names : named r part ≡ Some item
+  pub items : components_in r left ≡ first ++ item ∷ []

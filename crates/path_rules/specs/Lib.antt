@@ -20,3 +20,4 @@ pub mod Join
 pub mod Spelled
 pub mod Normalized
 pub mod Cleaned
+pub mod FileName

@@ -4,6 +4,7 @@ ghost use Rattle.path_rules.specs.Separators.{IsUpTo};
 ghost use Rattle.path_rules.specs.Component.{components_in, EndsNamed};
 ghost use Rattle.path_rules.specs.Views.{item_of};
 ghost use Rattle.path_rules.specs.Parent.{IsBelow};
+ghost use Rattle.path_rules.specs.HeadParts.{IsLastPart};
 
 use crate::component::{Component, component_of};
 use crate::rules::Rules;
@@ -66,6 +67,26 @@ pub fn trimmed(rules: Rules, body: &[u8]) -> &[u8]
         };
         if let Some(_) = component_of(rules, part) {
             return left;
+        }
+        left = rest;
+    }
+}
+
+/// The body up to the end of its last component, and the part that names it.
+pub fn last_in(rules: Rules, body: &[u8]) -> Option<(&[u8], &[u8])>
+    ensures { MatchOption result (components_in rules body.now ≡ [])
+        (λ last. IsLastPart rules body.now last.0.now last.1.now) }
+{
+    let mut left = body;
+    loop {
+        let Some((rest, part)) = rules.split_last(left) else {
+            return match component_of(rules, left) {
+                Some(_) => Some((left, left)),
+                None => None,
+            };
+        };
+        if let Some(_) = component_of(rules, part) {
+            return Some((left, part));
         }
         left = rest;
     }

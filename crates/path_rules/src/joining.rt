@@ -82,21 +82,36 @@ pub fn push<A: Allocator + Clone>(
     ensures ok { OnOk result (IsJoin style base.old.items path.now base.new.items) }
     ensures err { OnErr result (base.new.items ≡ base.old.items) }
 {
-    match kept_part(style, base.as_slice(), path) {
+    let len = base.len();
+    join_after(style, base, len, path)
+}
+
+/// Joins a path to the first bytes of a vector, in place.
+pub(crate) fn join_after<A: Allocator + Clone>(
+    style: Style,
+    vec: &mut Vec<u8, A>,
+    len: usize,
+    path: &[u8],
+) -> Result<(), AllocError>
+    requires { len ≤ vec_len vec.old }
+    ensures ok { OnOk result (IsJoin style (take len vec.old.items) path.now vec.new.items) }
+    ensures err { OnErr result (vec.new.items ≡ vec.old.items) }
+{
+    let (base, _) = vec.as_slice().split_at(len);
+    match kept_part(style, base, path) {
         Some(kept) => {
-            set_end(base, kept.len, kept.separator, path)?;
+            set_end(vec, kept.len, kept.separator, path)?;
             Ok(())
         }
         None => {
-            let alloc = base.allocator().clone()?;
-            *base = resolve(alloc, base.as_slice(), path)?;
+            *vec = resolve(vec.allocator().clone()?, base, path)?;
             Ok(())
         }
     }
 }
 
 /// Keeps the first bytes of a vector, and appends two parts to them.
-fn set_end<A: Allocator>(
+pub(crate) fn set_end<A: Allocator>(
     vec: &mut Vec<u8, A>,
     keep: usize,
     part: &[u8],

@@ -23,6 +23,7 @@ mod body;
 mod compare;
 mod component;
 mod components;
+mod file_names;
 mod head;
 mod joining;
 pub mod laws;
@@ -40,6 +41,10 @@ mod writing;
 pub use compare::{ends_with, starts_with};
 pub use component::Component;
 pub use components::Components;
+pub use file_names::{
+    add_extension, is_extension_text, set_extension, set_file_name, with_added_extension,
+    with_extension, with_file_name,
+};
 pub use joining::{join, push};
 pub use name_parts::{extension, name_prefix, split_extension, stem};
 pub use normal::{NormalizeError, clean, normalize};

@@ -2,7 +2,7 @@
 use Rattle.std.proofs.Common.{◌≡◌, ◌⊎◌, inl, inr, ℕ, Bool, true, false, ◌&&◌, ◌||◌, nat_eq, if◌then◌else◌, List, [], ◌∷◌, refl, sym, ap, ◌∙◌, subst, eqb-true}
 use Rattle.path_rules.specs.declared.rules.Rules.TheVariants as rules
 use Rattle.path_rules.specs.Separators.{separates, Edge}
-use Rattle.path_rules.specs.Prefix.{Kind, Disk, upper, Lead, VerbatimLead, DeviceLead, DoubleLead, DriveLead, NoLead, VerbatimLeads, UncLead, DiskLead, NameLead, is_letter, double_lead, lead_of, verbatim_lead, IsShare, IsVerbatimBy, IsPrefixBy, IsPrefixOf}
+use Rattle.path_rules.specs.Prefix.{Kind, Verbatim, VerbatimUnc, VerbatimDisk, Device, Unc, Disk, upper, Lead, VerbatimLead, DeviceLead, DoubleLead, DriveLead, NoLead, VerbatimLeads, UncLead, DiskLead, NameLead, is_letter, double_lead, lead_of, verbatim_lead, IsShare, IsVerbatimBy, IsPrefixBy, IsPrefixOf}
 
 -- both parts of a test
 pub and_true : (p q : Bool) → (p && q) ≡ true → (p ≡ true) × (q ≡ true)
@@ -97,3 +97,20 @@ disk_by NoLead s kind rest h = absurd h
 
 pub edge_or_disk : (s : List ℕ) (kind : Kind) (rest : List ℕ) → IsPrefixOf s kind rest → Edge rules.Either rest ⊎ ((letter : ℕ) × (kind ≡ Disk letter))
 edge_or_disk s kind rest h = disk_by (lead_of s) s kind rest h
+
+-- a drive is a letter and a colon
+disk_verbatim : (l : VerbatimLeads) (s : List ℕ) (letter : ℕ) (rest : List ℕ) → IsVerbatimBy l s (Disk letter) rest → ⊥
+disk_verbatim (UncLead more) s letter rest h = let never : Disk letter ≡ VerbatimUnc h.server h.share = h.is in cc
+disk_verbatim (DiskLead d more) s letter rest h = let never : Disk letter ≡ VerbatimDisk (upper d) = h.0 in cc
+disk_verbatim NameLead s letter rest h = let never : Disk letter ≡ Verbatim h.name = h.is in cc
+
+drive_by : (l : Lead) (s : List ℕ) (letter : ℕ) (rest : List ℕ) → Drives s l → IsPrefixBy l (Disk letter) rest → (d : ℕ) × (s ≡ d ∷ 0x3A ∷ rest)
+unfolding Drives
+drive_by (VerbatimLead t) s letter rest d h = absurd (disk_verbatim (verbatim_lead h.part h.after) t letter rest h.is)
+drive_by (DeviceLead t) s letter rest d h = let never : Disk letter ≡ Device h.name = h.is in cc
+drive_by (DoubleLead t) s letter rest d h = let never : Disk letter ≡ Unc h.server h.share = h.is in cc
+drive_by (DriveLead a t) s letter rest d h = (a, d ∙ ap (λ x. a ∷ 0x3A ∷ x) (sym h.1))
+drive_by NoLead s letter rest d h = absurd h
+
+pub drive_bytes : (s : List ℕ) (letter : ℕ) (rest : List ℕ) → IsPrefixOf s (Disk letter) rest → (d : ℕ) × (s ≡ d ∷ 0x3A ∷ rest)
+drive_bytes s letter rest h = drive_by (lead_of s) s letter rest (drives s) h

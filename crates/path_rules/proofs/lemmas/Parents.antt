@@ -31,12 +31,14 @@ record Cut (kind : Kind) (rest t : List ℕ) : Type 0 where
   joined : rest ≡ before ++ more
   root : root_of kind before ≡ root_of kind rest
   body : after_root before ≡ t
+  front : List ℕ
+  tail : before ≡ front ++ t
   long : length before + length (after_root rest) ≡ length rest + length t
   beside : (raw : List ℕ) → Edge rules.Either rest ⊎ ((d : ℕ) × (raw ≡ d ∷ 0x3A ∷ [])) → IsAsciiCut (raw ++ before) more
 
 cut_root : (r : Rules) (kind : Kind) (rest t : List ℕ) → Ends r (after_root rest) t → Cut kind rest t
-cut_root r kind [] t (inl n) = record { before = []; more = []; joined = refl; root = refl; body = sym n; long = let l : length t ≡ 0 = ap length n in omega arith; beside = λ raw k. at_end refl }
-cut_root r kind [] [] (inr f) = record { before = []; more = []; joined = refl; root = refl; body = refl; long = omega arith; beside = λ raw k. at_end refl }
+cut_root r kind [] t (inl n) = record { before = []; more = []; joined = refl; root = refl; body = sym n; front = []; tail = sym n; long = let l : length t ≡ 0 = ap length n in omega arith; beside = λ raw k. at_end refl }
+cut_root r kind [] [] (inr f) = record { before = []; more = []; joined = refl; root = refl; body = refl; front = []; tail = refl; long = omega arith; beside = λ raw k. at_end refl }
 cut_root r kind [] (c ∷ t) (inr f) = let never : [] ≡ c ∷ (t ++ f.more) = f.joined in cc
 cut_root r kind (c ∷ u) t h = cases (separates rules.Either c) refl h
   where
@@ -47,7 +49,7 @@ cut_root r kind (c ∷ u) t h = cases (separates rules.Either c) refl h
         at w = ap (λ x. if x then w else c ∷ w) e
 
         make : (more : List ℕ) → u ≡ t ++ more → ((raw : List ℕ) → IsAsciiCut (raw ++ c ∷ t) more) → Cut kind (c ∷ u) t
-        make more j b = record { before = c ∷ t; more = more; joined = ap (λ x. c ∷ x) j; root = refl; body = at t; long = omega (arith, ap length (at u)); beside = λ raw k. b raw }
+        make more j b = record { before = c ∷ t; more = more; joined = ap (λ x. c ∷ x) j; root = refl; body = at t; front = c ∷ []; tail = refl; long = omega (arith, ap length (at u)); beside = λ raw k. b raw }
 
         rooted : Ends r u t → Cut kind (c ∷ u) t
         rooted (inl n) = make u (sym (ap (λ x. x ++ u) n)) (λ raw. after_ascii raw c (ap (λ x. raw ++ c ∷ x) n) (ascii_separators rules.Either c e))
@@ -65,8 +67,8 @@ cut_root r kind (c ∷ u) t h = cases (separates rules.Either c) refl h
         after_drive raw (inr k) = after_ascii (k.0 ∷ []) 0x3A (append-nil raw ∙ k.1) (lit< tt)
 
         plain : (t : List ℕ) → Ends r (c ∷ u) t → Cut kind (c ∷ u) t
-        plain t (inl n) = record { before = []; more = c ∷ u; joined = refl; root = sym none; body = sym n; long = let l : length t ≡ 0 = ap length n in omega (arith, ap length here); beside = after_drive }
-        plain [] (inr f) = record { before = []; more = c ∷ u; joined = refl; root = sym none; body = refl; long = omega (arith, ap length here); beside = after_drive }
+        plain t (inl n) = record { before = []; more = c ∷ u; joined = refl; root = sym none; body = sym n; front = []; tail = sym n; long = let l : length t ≡ 0 = ap length n in omega (arith, ap length here); beside = after_drive }
+        plain [] (inr f) = record { before = []; more = c ∷ u; joined = refl; root = sym none; body = refl; front = []; tail = refl; long = omega (arith, ap length here); beside = after_drive }
         plain (d ∷ t) (inr f) =
             let first : c ≡ d = let j = f.joined in cc in
             let no : separates rules.Either d ≡ false = ap (separates rules.Either) (sym first) ∙ e in
@@ -76,6 +78,8 @@ cut_root r kind (c ∷ u) t h = cases (separates rules.Either c) refl h
               joined = f.joined;
               root = ap (λ x. if x then Root else implied_root kind) no ∙ sym none;
               body = ap (λ x. if x then t else d ∷ t) no;
+              front = [];
+              tail = refl;
               long = omega (arith, ap length here);
               beside = λ raw k. edge_cut r (raw ++ d ∷ t) f.more f.edge;
             }
@@ -85,20 +89,24 @@ raw_drive : (s raw rest : List ℕ) → s ≡ raw ++ rest → Edge rules.Either 
 raw_drive s raw rest j (inl e) = inl e
 raw_drive s raw rest j (inr k) = inr (k.0, append_cancel_right raw (k.0 ∷ 0x3A ∷ []) rest (sym j ∙ k.1))
 
--- a part at the start of the path with its components but the last, and so many bytes
-record Shorter (w : whose.Style) (path : List ℕ) (head : Head) (rest : List ℕ) (x : Item) : Type 0 where
-  before : List ℕ
-  more : List ℕ
-  joined : path ≡ before ++ more
-  beside : IsAsciiCut before more
-  long : length before + length head.body.now ≡ length path + length rest
-  short : length head.body.now ≤ length path
-  items : List Item
-  are : AreComponents w before items
-  whole : AreComponents w path (items ++ x ∷ [])
+-- a part at the start of the path with its components but these last ones, and so many bytes
+pub record Shorter (w : whose.Style) (path : List ℕ) (head : Head) (rest : List ℕ) (xs : List Item) : Type 0 where
+  pub before : List ℕ
+  pub more : List ℕ
+  pub joined : path ≡ before ++ more
+  pub beside : IsAsciiCut before more
+  pub long : length before + length head.body.now ≡ length path + length rest
+  pub short : length head.body.now ≤ length path
+  pub front : List ℕ
+  pub tail : before ≡ front ++ rest
+  pub items : List Item
+  pub first : List Item
+  pub listed : items ≡ first ++ components_in head.rules rest
+  pub are : AreComponents w before items
+  pub whole : AreComponents w path (items ++ xs)
 
 -- its parts, where the path has no prefix
-record Plain (r : Rules) (path : List ℕ) (head : Head) (rest : List ℕ) (x : Item) : Type 0 where
+record Plain (r : Rules) (path : List ℕ) (head : Head) (rest : List ℕ) (xs : List Item) : Type 0 where
   before : List ℕ
   more : List ℕ
   cut : Tiny before ⊎ Edge r more
@@ -106,19 +114,23 @@ record Plain (r : Rules) (path : List ℕ) (head : Head) (rest : List ℕ) (x : 
   beside : IsAsciiCut before more
   long : length before + length head.body.now ≡ length path + length rest
   short : length head.body.now ≤ length path
+  front : List ℕ
+  tail : before ≡ front ++ rest
   items : List Item
+  first : List Item
+  listed : items ≡ first ++ components_in head.rules rest
   are : items ≡ plain_components r before
-  whole : items ++ x ∷ [] ≡ plain_components r path
+  whole : items ++ xs ≡ plain_components r path
 
-module _ (path : List ℕ) (head : Head) (rest : List ℕ) (x : Item) (ends : Ends head.rules head.body.now rest) (named : components_in head.rules head.body.now ≡ components_in head.rules rest ++ x ∷ []) where
-  plain_shorter : (r : Rules) → head.rules ≡ r → IsStartOf r path head.start head.body.now → Plain r path head rest x
+module _ (path : List ℕ) (head : Head) (rest : List ℕ) (xs : List Item) (ends : Ends head.rules head.body.now rest) (named : components_in head.rules head.body.now ≡ components_in head.rules rest ++ xs) where
+  plain_shorter : (r : Rules) → head.rules ≡ r → IsStartOf r path head.start head.body.now → Plain r path head rest xs
   plain_shorter r k start =
       let st = head.start in
       let e = start.0 in
       let b = start.1 in
       let at : Ends r (after_start st path) rest = subst (λ y. Ends r y rest) b (subst (λ y. Ends y head.body.now rest) k ends) in
       let q = bodies r st path e rest at in
-      let now : components_in r head.body.now ≡ components_in r rest ++ x ∷ [] = subst (λ y. components_in y head.body.now ≡ components_in y rest ++ x ∷ []) k named in
+      let now : components_in r head.body.now ≡ components_in r rest ++ xs = subst (λ y. components_in y head.body.now ≡ components_in y rest ++ xs) k named in
       let s = start_of r path in
       record {
         before = q.before;
@@ -128,19 +140,23 @@ module _ (path : List ℕ) (head : Head) (rest : List ℕ) (x : Item) (ends : En
         beside = q.beside;
         long = let l = q.long in omega (arith, ap length b);
         short = body_short path head.body.now st b;
+        front = q.front;
+        tail = q.tail;
+        first = start_items s;
+        listed = ap (λ y. start_items s ++ components_in y rest) (sym k);
         items = start_items s ++ components_in r rest;
         are = sym q.items;
         whole =
-            append_assoc (start_items s) (components_in r rest) (x ∷ []) ∙ ap (λ y. start_items s ++ y) (sym now)
+            append_assoc (start_items s) (components_in r rest) xs ∙ ap (λ y. start_items s ++ y) (sym now)
             ∙ ap (λ y. start_items s ++ components_in r y) b ∙ ap (λ y. start_items s ++ components_in r (after_start y path)) e;
       }
 
-  of_unix : IsUnixHead path head → Shorter style.Unix path head rest x
+  of_unix : IsUnixHead path head → Shorter style.Unix path head rest xs
   of_unix h =
       let q = plain_shorter rules.Slash h.rules h.start in
-      record { before = q.before; more = q.more; joined = q.joined; beside = q.beside; long = q.long; short = q.short; items = q.items; are = q.are; whole = q.whole }
+      record { before = q.before; more = q.more; joined = q.joined; beside = q.beside; long = q.long; short = q.short; front = q.front; tail = q.tail; items = q.items; first = q.first; listed = q.listed; are = q.are; whole = q.whole }
 
-  of_bare : IsBareHead path head → Shorter style.Windows path head rest x
+  of_bare : IsBareHead path head → Shorter style.Windows path head rest xs
   of_bare h =
       let q = plain_shorter rules.Either h.rules h.start in
       record {
@@ -150,19 +166,23 @@ module _ (path : List ℕ) (head : Head) (rest : List ℕ) (x : Item) (ends : En
         beside = q.beside;
         long = q.long;
         short = q.short;
+        front = q.front;
+        tail = q.tail;
         items = q.items;
+        first = q.first;
+        listed = q.listed;
         are = bare (record { none = none_by_cut path q.before q.more q.joined q.cut h.none; are = q.are });
         whole = bare (record { none = h.none; are = q.whole });
       }
 
-  of_prefixed : IsPrefixedHead path head → Shorter style.Windows path head rest x
+  of_prefixed : IsPrefixedHead path head → Shorter style.Windows path head rest xs
   of_prefixed h =
       let r = h.rules in
       let k = h.kind in
       let at : Ends (rules_of k) (after_root h.rest) rest = subst (λ y. Ends (rules_of k) y rest) h.body (subst (λ y. Ends y head.body.now rest) r ends) in
       let c = cut_root (rules_of k) k h.rest rest at in
       let p = prefix_stays path k h.rest c.before c.more c.joined h.is in
-      let now : components_in (rules_of k) head.body.now ≡ components_in (rules_of k) rest ++ x ∷ [] = subst (λ y. components_in y head.body.now ≡ components_in y rest ++ x ∷ []) r named in
+      let now : components_in (rules_of k) head.body.now ≡ components_in (rules_of k) rest ++ xs = subst (λ y. components_in y head.body.now ≡ components_in y rest ++ xs) r named in
       let roots = start_items (root_of k h.rest) in
       let sizes : length path ≡ length p.before + length h.rest = ap length p.joined ∙ length-append p.before h.rest in
       record {
@@ -172,7 +192,11 @@ module _ (path : List ℕ) (head : Head) (rest : List ℕ) (x : Item) (ends : En
         beside = c.beside p.before (raw_drive path p.before h.rest p.joined (edge_after path k h.rest h.is));
         long = let l = c.long in omega (arith, ap length h.body, length-append p.before c.before);
         short = let l = c.long in let j = ap length c.joined in omega (arith, ap length h.body, length-append c.before c.more, after_root_short h.rest);
+        front = p.before ++ c.front;
+        tail = ap (λ y. p.before ++ y) c.tail ∙ sym (append_assoc p.before c.front rest);
         items = Prefix p.before ∷ (roots ++ components_in (rules_of k) rest);
+        first = Prefix p.before ∷ roots;
+        listed = ap (λ y. Prefix p.before ∷ (roots ++ components_in y rest)) (sym r);
         are = prefixed (record {
           kind = k;
           raw = p.before;
@@ -190,7 +214,7 @@ module _ (path : List ℕ) (head : Head) (rest : List ℕ) (x : Item) (ends : En
           joined = p.joined;
           prefix = h.is;
           are =
-              ap (λ y. Prefix p.before ∷ y) (append_assoc roots (components_in (rules_of k) rest) (x ∷ [])) ∙ ap (λ y. Prefix p.before ∷ (roots ++ y)) (sym now)
+              ap (λ y. Prefix p.before ∷ y) (append_assoc roots (components_in (rules_of k) rest) xs) ∙ ap (λ y. Prefix p.before ∷ (roots ++ y)) (sym now)
               ∙ ap (λ y. Prefix p.before ∷ (roots ++ components_in (rules_of k) y)) h.body;
         });
       }
@@ -203,11 +227,11 @@ module _ (path : List ℕ) (head : Head) (rest : List ℕ) (x : Item) (ends : En
       after_root_short [] = omega arith
       after_root_short (c ∷ u) = chosen (separates rules.Either c) c u
 
-  of_windows : IsWindowsHead path head → Shorter style.Windows path head rest x
+  of_windows : IsWindowsHead path head → Shorter style.Windows path head rest xs
   of_windows (bare_head h) = of_bare h
   of_windows (prefixed_head h) = of_prefixed h
 
-  shorter_of : (w : whose.Style) → IsHead w path head → Shorter w path head rest x
+  pub shorter_of : (w : whose.Style) → IsHead w path head → Shorter w path head rest xs
   shorter_of style.Unix h = of_unix h
   shorter_of style.Windows h = of_windows h
 
@@ -217,22 +241,22 @@ module _ (path : List ℕ) (head : Head) (rest : List ℕ) (x : Item) (ends : En
   pub body_inside : (w : whose.Style) → IsHead w path head → length head.body.now ≤ length path
   body_inside w h = (shorter_of w h).short
 
-  pub is_parent : (w : whose.Style) → IsHead w path head → IsBelow x → IsParent w path (take (length path - length head.body.now + length rest) path)
-  is_parent w h low =
-      let f = shorter_of w h in
-      let n = length path - length head.body.now + length rest in
-      let long : length f.before ≡ n = let l = f.long in let s = f.short in omega arith in
-      let before : take n path ≡ f.before = ap (take n) f.joined ∙ take_at f.before f.more n long in
-      record {
-        after = f.more;
-        joined = f.joined ∙ ap (λ y. y ++ f.more) (sym before);
-        cut = subst (λ y. IsAsciiCut y f.more) (sym before) f.beside;
-        items = f.items;
-        last = x;
-        are = subst (λ y. AreComponents w y f.items) (sym before) f.are;
-        whole = f.whole;
-        below = low;
-      }
+pub is_parent : (path : List ℕ) (head : Head) (rest : List ℕ) (x : Item) (ends : Ends head.rules head.body.now rest) (named : components_in head.rules head.body.now ≡ components_in head.rules rest ++ x ∷ []) (w : whose.Style) → IsHead w path head → IsBelow x → IsParent w path (take (length path - length head.body.now + length rest) path)
+is_parent path head rest x ends named w h low =
+    let f = shorter_of path head rest (x ∷ []) ends named w h in
+    let n = length path - length head.body.now + length rest in
+    let long : length f.before ≡ n = let l = f.long in let s = f.short in omega arith in
+    let before : take n path ≡ f.before = ap (take n) f.joined ∙ take_at f.before f.more n long in
+    record {
+      after = f.more;
+      joined = f.joined ∙ ap (λ y. y ++ f.more) (sym before);
+      cut = subst (λ y. IsAsciiCut y f.more) (sym before) f.beside;
+      items = f.items;
+      last = x;
+      are = subst (λ y. AreComponents w y f.items) (sym before) f.are;
+      whole = f.whole;
+      below = low;
+    }
 
 -- a path that is `.` alone
 pub no_dot : (k : Kind) (rest : List ℕ) → root_of k rest ≡ Dot → ⊥

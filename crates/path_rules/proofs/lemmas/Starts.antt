@@ -102,6 +102,8 @@ module _ (r : Rules) where
     pub beside : IsAsciiCut before more
     pub joined : s ≡ before ++ more
     pub long : length before + length body ≡ length s + length t
+    pub front : List ℕ
+    pub tail : before ≡ front ++ t
     pub items : plain_components r before ≡ start_items (start_of r s) ++ components_in r t
 
   pub items_at : (before : List ℕ) (st : Start) → start_of r before ≡ st → plain_components r before ≡ start_items st ++ components_in r (after_start st before)
@@ -115,6 +117,8 @@ module _ (r : Rules) where
   with_first b u t more st j k e f g beside = record {
     before = b ∷ t;
     more = more;
+    front = b ∷ [];
+    tail = refl;
     cut = g;
     beside = beside;
     joined = ap (λ x. b ∷ x) j;
@@ -126,6 +130,8 @@ module _ (r : Rules) where
   bodies Nothing s e t (inl n) = record {
     before = t;
     more = s;
+    front = [];
+    tail = refl;
     cut = inl (subst Tiny (sym n) tt);
     beside = at_start n;
     joined = sym (ap (λ x. x ++ s) n);
@@ -135,6 +141,8 @@ module _ (r : Rules) where
   bodies Nothing s e [] (inr f) = record {
     before = [];
     more = s;
+    front = [];
+    tail = refl;
     cut = inl tt;
     beside = at_start refl;
     joined = refl;
@@ -144,6 +152,8 @@ module _ (r : Rules) where
   bodies Nothing s e (b ∷ t) (inr f) = record {
     before = b ∷ t;
     more = f.more;
+    front = [];
+    tail = refl;
     cut = inr f.edge;
     beside = edge_cut r (b ∷ t) f.more f.edge;
     joined = f.joined;

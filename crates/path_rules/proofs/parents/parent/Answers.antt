@@ -10,14 +10,14 @@ split_at-requires c =
     let h = c.head_of-head.result in
     let rest = c.trimmed-rest.result.now in
     let x = item_of c.in-Some.field-0-1 in
-    inside c.args.path.now h rest x (up_to_again h.rules h.body.now c.in-Some.before.now rest c.in-Some.ensures.before c.trimmed-rest.ensures.before) (c.in-Some.ensures.items ∙ ap (λ y. y ++ x ∷ []) c.trimmed-rest.ensures.items) c.args.style c.head_of-head.ensures.parts
+    inside c.args.path.now h rest (x ∷ []) (up_to_again h.rules h.body.now c.in-Some.before.now rest c.in-Some.ensures.before c.trimmed-rest.ensures.before) (c.in-Some.ensures.items ∙ ap (λ y. y ++ x ∷ []) c.trimmed-rest.ensures.items) c.args.style c.head_of-head.ensures.parts
 
 pub overflow_sub-path : goal.overflow_sub-path
 overflow_sub-path c =
     let h = c.head_of-head.result in
     let rest = c.trimmed-rest.result.now in
     let x = item_of c.in-Some.field-0-1 in
-    body_inside c.args.path.now h rest x (up_to_again h.rules h.body.now c.in-Some.before.now rest c.in-Some.ensures.before c.trimmed-rest.ensures.before) (c.in-Some.ensures.items ∙ ap (λ y. y ++ x ∷ []) c.trimmed-rest.ensures.items) c.args.style c.head_of-head.ensures.parts
+    body_inside c.args.path.now h rest (x ∷ []) (up_to_again h.rules h.body.now c.in-Some.before.now rest c.in-Some.ensures.before c.trimmed-rest.ensures.before) (c.in-Some.ensures.items ∙ ap (λ y. y ++ x ∷ []) c.trimmed-rest.ensures.items) c.args.style c.head_of-head.ensures.parts
 
 pub returns-in-Some : goal.returns-in-Some
 returns-in-Some c =
