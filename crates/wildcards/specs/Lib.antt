@@ -1,0 +1,12 @@
+pub mod Ranges
+pub mod Classes
+pub mod Components
+pub mod Wild
+pub mod Literals
+pub mod Reading
+pub mod ByteLetters
+pub mod Match
+pub mod Cuts
+pub mod Steps
+pub mod PathSteps
+pub mod Sets

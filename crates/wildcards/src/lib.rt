@@ -1,0 +1,35 @@
+//! Patterns of wildcards over paths, by components.
+//!
+//! A pattern is compiled: it is a list of parts and of `**`, and a part is a list of items and of
+//! `*`. A path is a list of letters, which its separators split into components: `**` takes any
+//! number of components, and each part matches one. What the letters of a path's bytes are, its
+//! reader says ([`Letters`]): bytes themselves ([`Bytes`]), or characters.
+//!
+//! How the text of a pattern is read is told by the crates above.
+#![tactic(auto)]
+
+mod class;
+mod component;
+mod hidden;
+mod letters;
+mod literal;
+mod options;
+mod part;
+mod path;
+mod pattern;
+mod piece;
+mod range;
+mod run;
+mod separators;
+mod set;
+
+pub use class::Class;
+pub use letters::{Bytes, Letters};
+pub use options::Options;
+pub use part::Part;
+pub use path::matches;
+pub use pattern::{Choice, matches_choice};
+pub use piece::{Item, Piece};
+pub use range::Range;
+pub use separators::Separators;
+pub use set::{Pattern, matches_any, matching};

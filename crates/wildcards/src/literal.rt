@@ -1,0 +1,33 @@
+//! Pieces that are a text of ASCII.
+ghost use Rattle.std.specs.Prelude.{◌≡◌, true, IfOk};
+ghost use Rattle.wildcards.specs.Literals.{spells_some};
+
+use crate::piece::{Item, Piece};
+use std::alloc::{AllocError, Allocator};
+
+/// The text that pieces match alone, if each of them is a literal of ASCII.
+pub(crate) fn literal_text<A: Allocator + Copy>(
+    alloc: A,
+    pieces: &[Piece<Item<A>>],
+) -> Result<Option<Vec<u8, A>>, AllocError>
+    ensures { IfOk result (λ text. spells_some pieces.entry.now text ≡ true) }
+{
+    let mut text = Vec::new(alloc);
+    let mut left = pieces;
+    while let Some((first, rest)) = left.split_first() {
+        match first {
+            Piece::Many => return Ok(None),
+            Piece::One(item) => match item {
+                Item::Literal(letter) => {
+                    if *letter >= 0x80 {
+                        return Ok(None);
+                    }
+                    text.push(*letter as u8)?;
+                    left = rest;
+                }
+                _ => return Ok(None),
+            },
+        }
+    }
+    Ok(Some(text))
+}

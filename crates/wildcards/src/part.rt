@@ -1,0 +1,61 @@
+//! What matches one component of a path.
+ghost use Rattle.std.specs.Prelude.{◌≡◌, ◌↔◌, true, IsTrue, IfOk};
+ghost use Rattle.wildcards.specs.Literals.{spells_some};
+
+use crate::hidden::{begins_with_dot, is_hidden};
+use crate::letters::Letters;
+use crate::literal::literal_text;
+use crate::piece::{Item, Piece};
+use crate::run::fits_pieces;
+use std::alloc::{AllocError, Allocator, Global};
+
+/// What matches one component of a path: pieces, whose wildcards are `*`.
+#[derive(Drop)]
+pub struct Part<A: Allocator = Global> {
+    pieces: Vec<Piece<Item<A>>, A>,
+    // The text that it matches alone, if it is one of ASCII.
+    literal: Option<Vec<u8, A>>,
+    ghost text: { spells_some pieces.items literal ≡ true },
+}
+
+impl<A: Allocator> Part<A> {
+    ghost use Rattle.wildcards.specs.Match.{FitsComponent};
+
+    /// The part of these pieces.
+    ///
+    /// # Errors
+    ///
+    /// `AllocError` if memory is refused.
+    ///
+    /// ```
+    /// use wildcards::{Item, Part, Piece};
+    ///
+    /// let mut pieces = Vec::new(alloc);
+    /// pieces.push(Piece::Many)?;
+    /// pieces.push(Piece::One(Item::Any))?;
+    /// assert!(rt; Part::new(alloc, pieces).is_ok());
+    /// ```
+    pub fn new(alloc: A, pieces: Vec<Piece<Item<A>>, A>) -> Result<Self, AllocError>
+    where
+        A: Copy,
+        ensures { IfOk result (λ part. part.pieces ≡ pieces) }
+    {
+        let literal = literal_text(alloc, &pieces)?;
+        Ok(Part { pieces, literal })
+    }
+
+    /// Whether it matches a whole component.
+    #[inline(always)]
+    pub(crate) fn fits<L: Letters>(&self, dot: bool, component: &[u8]) -> bool
+        requires { L.formed component.now }
+        ensures { IsTrue result ↔ FitsComponent dot self.now (L.letters component.now) }
+    {
+        if let Some(text) = &self.literal {
+            return component == text.as_slice();
+        }
+        if is_hidden::<L>(dot, component) && !begins_with_dot(&self.pieces) {
+            return false;
+        }
+        fits_pieces::<L, A>(&self.pieces, component)
+    }
+}

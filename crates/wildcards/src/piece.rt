@@ -1,0 +1,40 @@
+//! What a pattern is made of.
+ghost use Rattle.std.specs.Prelude.{◌↔◌, IsTrue};
+ghost use Rattle.wildcards.specs.Match.{Fits};
+
+use crate::class::Class;
+use std::alloc::{Allocator, Global};
+
+/// A wildcard, or what matches one letter or one component.
+#[derive(Clone, Copy, Drop)]
+pub enum Piece<X> {
+    /// Any number: `*` of letters, `**` of components.
+    Many,
+    /// One.
+    One(X),
+}
+
+/// What matches one letter.
+#[derive(Drop)]
+pub enum Item<A: Allocator = Global> {
+    /// `?`: any letter.
+    Any,
+    /// A letter that matches itself.
+    Literal(u32),
+    /// A class, as `[a-z]`.
+    OneOf(Class<A>),
+}
+
+impl<A: Allocator> Item<A> {
+    /// Whether it matches this letter.
+    #[inline(always)]
+    pub(crate) fn fits(&self, letter: u32) -> bool
+        ensures { IsTrue result ↔ Fits self.now letter }
+    {
+        match self {
+            Item::Any => true,
+            Item::Literal(own) => *own == letter,
+            Item::OneOf(class) => class.permits(letter),
+        }
+    }
+}
