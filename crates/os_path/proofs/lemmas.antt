@@ -6,3 +6,4 @@ pub mod Parents
 pub mod PrefixParts
 pub mod FromParts
 pub mod NormalParts
+pub mod Joined

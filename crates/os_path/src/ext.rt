@@ -1,6 +1,8 @@
 //! The calls that every path of a platform has.
-ghost use Rattle.std.specs.Prelude.{List, ℕ, ◌≡◌, ◌↔◌, IsTrue, MatchOption, Some, IfOk, IfErr};
+ghost use Rattle.std.specs.Prelude.{List, ℕ, ◌≡◌, ◌↔◌, IsTrue, MatchOption, Bool, Some, IfOk, IfErr};
 ghost use Rattle.platform_str.specs.Strings.{bytes, path_bytes, path_vec_of};
+ghost use Rattle.path_rules.specs.Join.{IsJoin};
+ghost use Rattle.path_rules.specs.FileName.{IsNamed, IsExtensionText, IsExtensionSet, IsExtensionAdded};
 ghost use Rattle.path_rules.specs.Components.{AreComponents};
 ghost use Rattle.path_rules.specs.Parent.{IsParent, HasNoParent, HasFileName, HasNoFileName};
 ghost use Rattle.path_rules.specs.Root.{HasRoot, IsAbsolute};
@@ -15,7 +17,7 @@ ghost use Rattle.os_path.specs.Names.{HasFileStem, HasFilePrefix, HasExtension, 
 use crate::ancestors::Ancestors;
 use crate::components::Components;
 use crate::style::PathStyle;
-use crate::{normal, parts, prefixes};
+use crate::{built, normal, parts, prefixes};
 use path_rules::{NormalizeError, Prefix};
 use platform_str::{OsStr, Path, PathBuf};
 use std::alloc::{AllocError, Allocator};
@@ -384,6 +386,128 @@ pub trait PathExt<'a>: Sized + Copy {
             alloc,
             OsStr::from_encoded_bytes_unchecked(self.path_bytes()),
         )
+    }
+
+    // What is built.
+
+    /// A path after this one, in new memory (std's `Path::join`).
+    ///
+    /// A path with a prefix is answered itself. One with a root alone keeps this path's prefix. Any
+    /// other follows this path, after a separator unless this path is empty, ends with one, or is a
+    /// drive alone as `C:`. After a path that begins with `\\?\` it is resolved: `.` is left out,
+    /// `..` takes the name before it away, and it is written with `\` between its components.
+    ///
+    /// # Errors
+    ///
+    /// `AllocError` if the memory is refused.
+    ///
+    /// ```
+    /// use os_path::PathExt;
+    /// use platform_str::{OsStr, Path, Unix, Windows};
+    ///
+    /// let joined = Path::<Unix>::new(OsStr::new("/usr")).join(alloc, Path::new(OsStr::new("lib")))?;
+    /// assert!(rt; joined.as_os_str() == OsStr::new("/usr/lib"));
+    /// let drive = Path::<Windows>::new(OsStr::new("C:"));
+    /// assert!(rt; drive.join(alloc, Path::new(OsStr::new("a")))?.as_os_str() == OsStr::new("C:a"));
+    /// ```
+    final fn join<A: Allocator + Clone>(
+        self,
+        alloc: A,
+        path: Path<'_, Self::Platform>,
+    ) -> Result<PathBuf<Self::Platform, A>, AllocError>
+        ensures { IfOk result (λ joined. IsJoin Self.Platform.follows (bytes_of self) (path_bytes path.entry) (path_vec_of joined).items) }
+    {
+        let base = OsStr::from_encoded_bytes_unchecked(self.path_bytes());
+        built::join(alloc, base, path.as_os_str())
+    }
+
+    /// The path with another last name, in new memory (std's `Path::with_file_name`): the name is
+    /// joined to the path's parent; if the path doesn't end in a name, to the path itself.
+    ///
+    /// # Errors
+    ///
+    /// `AllocError` if the memory is refused.
+    ///
+    /// ```
+    /// use os_path::PathExt;
+    /// use platform_str::{OsStr, Path, Unix};
+    ///
+    /// let path = Path::<Unix>::new(OsStr::new("/tmp/a.txt"));
+    /// let named = path.with_file_name(alloc, OsStr::new("b"))?;
+    /// assert!(rt; named.as_os_str() == OsStr::new("/tmp/b"));
+    /// ```
+    final fn with_file_name<A: Allocator + Clone>(
+        self,
+        alloc: A,
+        name: OsStr<'_, Self::Platform>,
+    ) -> Result<PathBuf<Self::Platform, A>, AllocError>
+        ensures { IfOk result (λ named. IsNamed Self.Platform.follows (bytes_of self) (bytes name.entry) (path_vec_of named).items) }
+    {
+        let path = OsStr::from_encoded_bytes_unchecked(self.path_bytes());
+        built::with_file_name(alloc, path, name)
+    }
+
+    /// The path with another extension of its last name, in new memory (std's
+    /// `Path::with_extension`): what comes after the name's stem is replaced by a dot and the
+    /// extension, and by nothing if the extension is empty. A path that doesn't end in a name is
+    /// answered as it is.
+    ///
+    /// No byte of the extension separates (test: [`path_rules::is_extension_text`]); std panics.
+    ///
+    /// # Errors
+    ///
+    /// `AllocError` if the memory is refused.
+    ///
+    /// ```
+    /// use os_path::PathExt;
+    /// use platform_str::{OsStr, Path, Unix};
+    ///
+    /// let path = Path::<Unix>::new(OsStr::new("a/b.txt"));
+    /// let changed = path.with_extension(alloc, OsStr::new("rs"))?;
+    /// assert!(rt; changed.as_os_str() == OsStr::new("a/b.rs"));
+    /// ```
+    final fn with_extension<A: Allocator>(
+        self,
+        alloc: A,
+        extension: OsStr<'_, Self::Platform>,
+    ) -> Result<PathBuf<Self::Platform, A>, AllocError>
+        requires { IsExtensionText Self.Platform.follows (bytes extension) }
+        ensures { IfOk result (λ made. (is_set : Bool)
+            × IsExtensionSet Self.Platform.follows (bytes_of self) (bytes extension.entry) (path_vec_of made).items is_set) }
+    {
+        let path = OsStr::from_encoded_bytes_unchecked(self.path_bytes());
+        built::with_extension(alloc, path, extension)
+    }
+
+    /// The path with an extension after its last name, in new memory (std's
+    /// `Path::with_added_extension`). An empty extension changes nothing, and a path that doesn't
+    /// end in a name is answered as it is.
+    ///
+    /// No byte of the extension separates (test: [`path_rules::is_extension_text`]); std panics.
+    ///
+    /// # Errors
+    ///
+    /// `AllocError` if the memory is refused.
+    ///
+    /// ```
+    /// use os_path::PathExt;
+    /// use platform_str::{OsStr, Path, Unix};
+    ///
+    /// let path = Path::<Unix>::new(OsStr::new("a/b.tar"));
+    /// let changed = path.with_added_extension(alloc, OsStr::new("gz"))?;
+    /// assert!(rt; changed.as_os_str() == OsStr::new("a/b.tar.gz"));
+    /// ```
+    final fn with_added_extension<A: Allocator>(
+        self,
+        alloc: A,
+        extension: OsStr<'_, Self::Platform>,
+    ) -> Result<PathBuf<Self::Platform, A>, AllocError>
+        requires { IsExtensionText Self.Platform.follows (bytes extension) }
+        ensures { IfOk result (λ made. (is_added : Bool)
+            × IsExtensionAdded Self.Platform.follows (bytes_of self) (bytes extension.entry) (path_vec_of made).items is_added) }
+    {
+        let path = OsStr::from_encoded_bytes_unchecked(self.path_bytes());
+        built::with_added_extension(alloc, path, extension)
     }
 }
 

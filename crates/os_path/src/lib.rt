@@ -6,11 +6,16 @@
 //! [`platform_str::Wasm`] those of Unix. What the rules are is in `path_rules`.
 //!
 //! Each part of a path that a call answers is a string of the path's platform, so no half of a
-//! surrogate pair is ever joined to another. No call has a condition. What builds a path takes an
-//! allocator and answers a `Result`; no other call allocates.
+//! surrogate pair is ever joined to another. What builds a path takes an allocator and answers a
+//! `Result`; [`push`], [`pop`], [`set_file_name`], [`set_extension`] and [`add_extension`] change an
+//! owned path in place. No other call allocates. An extension that is set has no separator
+//! (`path_rules::is_extension_text` tests it); no other call has a condition.
 #![tactic(auto)]
 
 mod ancestors;
+mod buf;
+mod built;
+mod changed;
 mod components;
 mod ext;
 pub mod laws;
@@ -20,6 +25,7 @@ mod prefixes;
 mod style;
 
 pub use ancestors::Ancestors;
+pub use buf::{add_extension, pop, push, set_extension, set_file_name};
 pub use components::Components;
 pub use ext::PathExt;
 pub use path_rules::{Component, NormalizeError, Prefix, Style};

@@ -19,7 +19,7 @@ use Rattle.os_path.proofs.lemmas.Parts.{IsCutAtAscii, body_formed}
 use Rattle.path_rules.proofs.lemmas.Ascii.{ascii_separators}
 
 module _ (formed : List ℕ → Type 0) (cut : IsCutAtAscii formed) where
-  joined_formed : (xs ys : List Item) → AreFormed formed xs → AreFormed formed ys → AreFormed formed (xs ++ ys)
+  pub joined_formed : (xs ys : List Item) → AreFormed formed xs → AreFormed formed ys → AreFormed formed (xs ++ ys)
   joined_formed [] ys f g = g
   joined_formed (x ∷ xs) ys f g = (f.0, joined_formed xs ys f.1 g)
 

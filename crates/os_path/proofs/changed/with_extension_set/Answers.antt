@@ -1,0 +1,17 @@
+use Rattle.std.proofs.Common.{Bool}
+use Rattle.path_rules.specs.FileName.{IsExtensionSet}
+use Rattle.os_path.proofs.lemmas.Cuts.{cuts}
+use Rattle.os_path.proofs.lemmas.Joined.{set_formed, on_either}
+use Rattle.os_path.proofs.changed.with_extension_set.Goals as goal
+
+pub from_encoded_bytes_unchecked-requires : goal.from_encoded_bytes_unchecked-requires
+from_encoded_bytes_unchecked-requires g c =
+    let laws = g.met.E.Platform.laws in
+    let formed = g.E.Platform.well_formed in
+    let cut = cuts formed laws.cut_prefix laws.cut_suffix in
+    let w = c.style.result in
+    let old = c.into_encoded_bytes-vec.result.items in
+    let extension = c.as_encoded_bytes.result.now in
+    let new = c.set_extension-outcome.new.path.items in
+    on_either formed (λ (b : Bool). IsExtensionSet w old extension new b) old new c.set_extension-outcome.result
+    (λ b h. set_formed formed g.E.Platform.units g.met.E.Platform.occurrence cut laws.cut_prefix laws.cut_suffix w old extension new b h c.into_encoded_bytes-vec.ensures.formed c.as_encoded_bytes.ensures.formed) c.set_extension-outcome.ensures.ok c.set_extension-outcome.ensures.err c.into_encoded_bytes-vec.ensures.formed

@@ -1,0 +1,236 @@
+-- Strings of a platform joined beside an ASCII byte, and paths joined, are strings of the platform.
+use Rattle.std.proofs.Common.{◌≡◌, ◌≢◌, ◌⊎◌, Result, Ok, Err, IfOk, OnOk, OnErr, take, drop, inl, inr, ◌<◌, ◌≤◌, ℕ, suc, zero, get_or, Bool, true, false, List, [], ◌∷◌, ◌++◌, length, refl, sym, ap, ◌∙◌, subst, arith, append_assoc, append-nil, lit<}
+use Rattle.std.proofs.lemmas.List.{append_cancel_left, take_at}
+use Rattle.std.specs.Str.{IsUtf8}
+use Rattle.std.proofs.lemmas.Str.{IsUtf8-from_ascii}
+use Rattle.wtf8_core.specs.OccurrenceLaws.{OccurrenceLaws}
+use Rattle.path_rules.specs.declared.rules.Rules.{Rules}
+use Rattle.path_rules.specs.declared.rules.Rules.TheVariants as rules
+use Rattle.path_rules.specs.declared.rules.Style as whose
+use Rattle.path_rules.specs.declared.rules.Style.TheVariants as style
+use Rattle.path_rules.specs.Separators.{separates}
+use Rattle.path_rules.specs.StyleRules.{rules_of_style, main_separator}
+use Rattle.path_rules.specs.Component.{Item, Prefix, RootDir, CurDir, ParentDir, Normal}
+use Rattle.path_rules.specs.Components.{AreComponents, prefixed}
+use Rattle.path_rules.specs.Root.{BeginsWithSeparator}
+use Rattle.path_rules.specs.Trailing.{EndsWithSeparator}
+use Rattle.path_rules.specs.Join.{IsRawPrefix, NeedsNoSeparator, IsDriveAlone, IsJoin, replacing, resolving, at_root, after}
+use Rattle.path_rules.specs.Resolved.{unless_name, without_name, first_and_root, with_item, with_items, written, written_between, written_next, written_all}
+use Rattle.path_rules.specs.Parent.{IsParent}
+use Rattle.path_rules.specs.Name.{IsStem}
+use Rattle.path_rules.specs.FileName.{IsNamed, IsFileNameAt, IsExtensionSet, IsExtensionAdded, dotted}
+use Rattle.wtf8_core.specs.Boundary.{IsBoundary}
+use Rattle.path_rules.proofs.lemmas.Ascii.{ascii_separators}
+use Rattle.path_rules.proofs.lemmas.Edges.{drive_bytes}
+use Rattle.os_path.specs.Formed.{IsFormed, AreFormed}
+use Rattle.os_path.proofs.lemmas.Parts.{IsCutAtAscii}
+use Rattle.os_path.proofs.lemmas.Cuts.{before_formed}
+use Rattle.os_path.proofs.lemmas.Whole.{all_formed, joined_formed}
+
+-- an ASCII byte is a text, and so is none
+pub one_text : (c : ℕ) → c < 0x80 → IsUtf8 (c ∷ [])
+one_text c low = IsUtf8-from_ascii (c ∷ []) each
+  where
+    each : (i : ℕ) → get_or (c ∷ []) i 0 < 128
+    each zero = low
+    each (suc i) = lit< tt
+
+no_text : IsUtf8 []
+no_text = IsUtf8-from_ascii [] (λ i. lit< tt)
+
+dots_text : IsUtf8 (0x2E ∷ 0x2E ∷ [])
+dots_text = IsUtf8-from_ascii (0x2E ∷ 0x2E ∷ []) each
+  where
+    each : (i : ℕ) → get_or (0x2E ∷ 0x2E ∷ []) i 0 < 128
+    each zero = lit< tt
+    each (suc zero) = lit< tt
+    each (suc (suc i)) = lit< tt
+
+module _ (formed : List ℕ → Type 0) (units : List ℕ → List ℕ) (laws : OccurrenceLaws formed units) where
+  -- a string with the units of two and of an ASCII byte between them is the bytes of these
+  joined_is : (a b w : List ℕ) (c : ℕ) → IsUtf8 (c ∷ []) → formed a → formed b → formed w → units w ≡ (units a ++ units (c ∷ [])) ++ units b → w ≡ a ++ c ∷ b
+  joined_is a b w c text fa fb fw e =
+      let p : List ℕ = c ∷ [] in
+      let cut = laws.units_occur p w (units a) (units b) text (omega arith) fw (e ∙ append_assoc (units a) (units p) (units b)) in
+      let first : cut.prefix ≡ a = laws.once cut.prefix a cut.formed fa cut.units_are in
+      let whole : formed (cut.prefix ++ (p ++ cut.suffix)) = subst formed cut.joined fw in
+      let later = laws.prefixes cut.prefix (p ++ cut.suffix) cut.formed whole in
+      let behind = laws.prefixes p cut.suffix (laws.texts p text) later.0 in
+      let us : units a ++ (units p ++ units b) ≡ units a ++ (units p ++ units cut.suffix) =
+      sym (append_assoc (units a) (units p) (units b)) ∙ sym e ∙ ap units cut.joined ∙ later.1 ∙ ap (λ x. x ++ units (p ++ cut.suffix)) cut.units_are ∙ ap (λ x. units a ++ x) behind.1 in
+      let same : units b ≡ units cut.suffix = append_cancel_left (units p) (units b) (units cut.suffix) (append_cancel_left (units a) (units p ++ units b) (units p ++ units cut.suffix) us) in
+      let last : cut.suffix ≡ b = laws.once cut.suffix b behind.0 fb (sym same) in
+      cut.joined ∙ ap (λ x. x ++ (p ++ cut.suffix)) first ∙ ap (λ x. a ++ c ∷ x) last
+
+  pub around : (a b : List ℕ) (c : ℕ) → c < 0x80 → formed a → formed b → formed (a ++ c ∷ b)
+  around a b c low fa fb =
+      let text = one_text c low in
+      let one = laws.some_join a (c ∷ []) fa (laws.texts (c ∷ []) text) in
+      let two = laws.some_join one.0 b one.1.0 fb in
+      subst formed (joined_is a b two.0 c text fa fb two.1.0 (two.1.1 ∙ ap (λ x. x ++ units b) one.1.1)) two.1.0
+
+  pub nothing_formed : formed []
+  nothing_formed = laws.texts [] no_text
+
+  -- after a string that ends in an ASCII byte, and before one that begins with one
+  pub after_last : (base x path : List ℕ) (c : ℕ) → c < 0x80 → base ≡ x ++ c ∷ [] → formed base → formed path → formed (base ++ path)
+  after_last base x path c low e fb fp =
+      let start : formed x = laws.before_text (c ∷ []) x [] (one_text c low) (omega arith) (subst formed e fb) in
+      subst formed (sym (ap (λ y. y ++ path) e ∙ append_assoc x (c ∷ []) path)) (around x path c low start fp)
+
+  pub before_first : (kept path u : List ℕ) (c : ℕ) → c < 0x80 → path ≡ c ∷ u → formed kept → formed path → formed (kept ++ path)
+  before_first kept path u c low e fk fp =
+      let rest : formed u = (laws.prefixes (c ∷ []) u (laws.texts (c ∷ []) (one_text c low)) (subst formed e fp)).0 in
+      subst (λ y. formed (kept ++ y)) (sym e) (around kept u c low fk rest)
+
+  -- components written one after the other
+  item_formed : (x : Item) → IsFormed formed x → formed (written x)
+  item_formed (Prefix s) f = f
+  item_formed RootDir f = laws.texts (0x5C ∷ []) (one_text 0x5C (lit< tt))
+  item_formed CurDir f = laws.texts (0x2E ∷ []) (one_text 0x2E (lit< tt))
+  item_formed ParentDir f = laws.texts (0x2E ∷ 0x2E ∷ []) dots_text
+  item_formed (Normal s) f = f
+
+  at_last_root : (x : Item) (ys : List Item) → formed (written x) → formed (written_all (RootDir ∷ ys)) → formed (written x ++ ([] ++ written_all (RootDir ∷ ys)))
+  at_last_root x ys fx f = before_first (written x) (written_all (RootDir ∷ ys)) (written_next RootDir ys ++ written_all ys) 0x5C (lit< tt) refl fx f
+
+  next_formed : (x : Item) (ys : List Item) → formed (written x) → formed (written_all ys) → formed (written x ++ (written_next x ys ++ written_all ys))
+  next_formed x [] fx f = subst formed (sym (append-nil (written x))) fx
+  next_formed RootDir (y ∷ ys) fx f = around [] (written_all (y ∷ ys)) 0x5C (lit< tt) nothing_formed f
+  next_formed (Prefix s) (RootDir ∷ ys) fx f = at_last_root (Prefix s) ys fx f
+  next_formed CurDir (RootDir ∷ ys) fx f = at_last_root CurDir ys fx f
+  next_formed ParentDir (RootDir ∷ ys) fx f = at_last_root ParentDir ys fx f
+  next_formed (Normal s) (RootDir ∷ ys) fx f = at_last_root (Normal s) ys fx f
+  next_formed (Prefix s) (Prefix t ∷ ys) fx f = around s (written_all (Prefix t ∷ ys)) 0x5C (lit< tt) fx f
+  next_formed (Prefix s) (CurDir ∷ ys) fx f = around s (written_all (CurDir ∷ ys)) 0x5C (lit< tt) fx f
+  next_formed (Prefix s) (ParentDir ∷ ys) fx f = around s (written_all (ParentDir ∷ ys)) 0x5C (lit< tt) fx f
+  next_formed (Prefix s) (Normal t ∷ ys) fx f = around s (written_all (Normal t ∷ ys)) 0x5C (lit< tt) fx f
+  next_formed CurDir (Prefix t ∷ ys) fx f = around (written CurDir) (written_all (Prefix t ∷ ys)) 0x5C (lit< tt) fx f
+  next_formed CurDir (CurDir ∷ ys) fx f = around (written CurDir) (written_all (CurDir ∷ ys)) 0x5C (lit< tt) fx f
+  next_formed CurDir (ParentDir ∷ ys) fx f = around (written CurDir) (written_all (ParentDir ∷ ys)) 0x5C (lit< tt) fx f
+  next_formed CurDir (Normal t ∷ ys) fx f = around (written CurDir) (written_all (Normal t ∷ ys)) 0x5C (lit< tt) fx f
+  next_formed ParentDir (Prefix t ∷ ys) fx f = around (written ParentDir) (written_all (Prefix t ∷ ys)) 0x5C (lit< tt) fx f
+  next_formed ParentDir (CurDir ∷ ys) fx f = around (written ParentDir) (written_all (CurDir ∷ ys)) 0x5C (lit< tt) fx f
+  next_formed ParentDir (ParentDir ∷ ys) fx f = around (written ParentDir) (written_all (ParentDir ∷ ys)) 0x5C (lit< tt) fx f
+  next_formed ParentDir (Normal t ∷ ys) fx f = around (written ParentDir) (written_all (Normal t ∷ ys)) 0x5C (lit< tt) fx f
+  next_formed (Normal s) (Prefix t ∷ ys) fx f = around s (written_all (Prefix t ∷ ys)) 0x5C (lit< tt) fx f
+  next_formed (Normal s) (CurDir ∷ ys) fx f = around s (written_all (CurDir ∷ ys)) 0x5C (lit< tt) fx f
+  next_formed (Normal s) (ParentDir ∷ ys) fx f = around s (written_all (ParentDir ∷ ys)) 0x5C (lit< tt) fx f
+  next_formed (Normal s) (Normal t ∷ ys) fx f = around s (written_all (Normal t ∷ ys)) 0x5C (lit< tt) fx f
+
+  all_written : (xs : List Item) → AreFormed formed xs → formed (written_all xs)
+  all_written [] f = nothing_formed
+  all_written (x ∷ xs) f = next_formed x xs (item_formed x f.0) (all_written xs f.1)
+
+  -- components resolved
+  no_name_formed : (xs : List Item) → AreFormed formed xs → AreFormed formed (without_name xs)
+  no_name_formed [] f = tt
+  no_name_formed (Prefix s ∷ []) f = f
+  no_name_formed (RootDir ∷ []) f = f
+  no_name_formed (CurDir ∷ []) f = f
+  no_name_formed (ParentDir ∷ []) f = f
+  no_name_formed (Normal s ∷ []) f = tt
+  no_name_formed (x ∷ y ∷ xs) f = (f.0, no_name_formed (y ∷ xs) f.1)
+
+  root_formed : (xs : List Item) → AreFormed formed xs → AreFormed formed (first_and_root xs)
+  root_formed [] f = (tt, tt)
+  root_formed (x ∷ xs) f = (f.0, (tt, tt))
+
+  module _ (cut : IsCutAtAscii formed) where
+    one_formed : (xs : List Item) (y : Item) → AreFormed formed xs → IsFormed formed y → AreFormed formed (with_item xs y)
+    one_formed xs (Prefix s) f g = joined_formed formed cut xs (Prefix s ∷ []) f (g, tt)
+    one_formed xs RootDir f g = root_formed xs f
+    one_formed xs CurDir f g = f
+    one_formed xs ParentDir f g = no_name_formed xs f
+    one_formed xs (Normal s) f g = joined_formed formed cut xs (Normal s ∷ []) f (g, tt)
+
+    more_formed : (xs ys : List Item) → AreFormed formed xs → AreFormed formed ys → AreFormed formed (with_items xs ys)
+    more_formed xs [] f g = f
+    more_formed xs (y ∷ ys) f g = more_formed (with_item xs y) ys (one_formed xs y f g.0) g.1
+
+    -- what a path keeps of its prefix
+    raw_formed : (w : whose.Style) (base raw : List ℕ) → IsRawPrefix w base raw → formed base → formed raw
+    raw_formed style.Unix base raw e f = subst formed (sym e) nothing_formed
+    raw_formed style.Windows base raw (inr h) f = subst formed (sym h.1) nothing_formed
+    raw_formed style.Windows base raw (inl h) f =
+        (all_formed formed cut style.Windows base _ (prefixed (record { kind = h.0; raw = raw; rest = h.1.0; joined = h.1.1.1; prefix = h.1.1.0; are = refl })) f).0
+
+    root_joined : (r : Rules) (kept path : List ℕ) → BeginsWithSeparator r path → formed kept → formed path → formed (kept ++ path)
+    root_joined r kept [] h fk fp = absurd h
+    root_joined r kept (c ∷ u) h fk fp = before_first kept (c ∷ u) u c (ascii_separators r c h) refl fk fp
+
+    beside_formed : (w : whose.Style) (base path : List ℕ) → NeedsNoSeparator w base → formed base → formed path → formed (base ++ path)
+    beside_formed w base path (inl e) fb fp = subst (λ x. formed (x ++ path)) (sym e) fp
+    beside_formed w base path (inr (inl h)) fb fp = after_last base h.before path h.last (ascii_separators (rules_of_style w) h.last h.is) h.joined fb fp
+    beside_formed style.Unix base path (inr (inr h)) fb fp = absurd h
+    beside_formed style.Windows base path (inr (inr h)) fb fp = let d = drive_bytes base h.0 [] h.1 in after_last base (d.0 ∷ []) path 0x3A (lit< tt) d.1 fb fp
+
+    ascii_main : (w : whose.Style) → main_separator w < 0x80
+    ascii_main style.Unix = lit< tt
+    ascii_main style.Windows = lit< tt
+
+    -- a path after another
+    pub join_formed : (w : whose.Style) (base path joined : List ℕ) → IsJoin w base path joined → formed base → formed path → formed joined
+    join_formed w base path joined (replacing p e) fb fp = subst formed (sym e) fp
+    join_formed w base path joined (resolving p v s r) fb fp =
+        subst formed (sym r.is) (all_written (with_items r.base_items r.items) (more_formed r.base_items r.items (all_formed formed cut style.Windows base r.base_items r.base_are fb) (all_formed formed cut style.Windows path r.items r.are fp)))
+    join_formed w base path joined (at_root p v i) fb fp = subst formed (sym i.is) (root_joined (rules_of_style w) i.raw path i.root (raw_formed w base i.raw i.prefix fb) fp)
+    join_formed w base path joined (after p v i) fb fp = subst formed (sym i.is) (cases i.written)
+      where
+        cases : (NeedsNoSeparator w base × (i.between ≡ [])) ⊎ ((¬ (NeedsNoSeparator w base)) × (i.between ≡ main_separator w ∷ [])) → formed (base ++ (i.between ++ path))
+        cases (inl (n, e)) = subst (λ x. formed (base ++ (x ++ path))) (sym e) (beside_formed w base path n fb fp)
+        cases (inr (n, e)) = subst (λ x. formed (base ++ (x ++ path))) (sym e) (around base path (main_separator w) (ascii_main w) fb fp)
+
+    module _ (cut_prefix : (b : List ℕ) (i : ℕ) → formed b → IsBoundary b i → formed (take i b)) (cut_suffix : (b : List ℕ) (i : ℕ) → formed b → IsBoundary b i → formed (drop i b)) where
+      pub named_formed : (w : whose.Style) (path name named : List ℕ) → IsNamed w path name named → formed path → formed name → formed named
+      named_formed w path name named (base, (inl b, i)) fp fn = join_formed w base name named i (before_formed formed cut_prefix cut_suffix path base b.1.after b.1.joined b.1.cut fp) fn
+      named_formed w path name named (base, (inr b, i)) fp fn = join_formed w base name named i (subst formed (sym b.1) fp) fn
+
+      pub parent_formed : (w : whose.Style) (path parent : List ℕ) → IsParent w path parent → formed path → formed (take (length parent) path)
+      parent_formed w path parent h fp =
+          subst formed (sym (ap (take (length parent)) h.joined ∙ take_at parent h.after (length parent) refl)) (before_formed formed cut_prefix cut_suffix path parent h.after h.joined h.cut fp)
+
+      -- a dot and an extension after a string
+      dotted_formed : (s extension : List ℕ) → formed s → formed extension → formed (s ++ dotted extension)
+      dotted_formed s [] fs fe = subst formed (sym (append-nil s)) fs
+      dotted_formed s (b ∷ e) fs fe = around s (b ∷ e) 0x2E (lit< tt) fs fe
+
+      name_formed : (w : whose.Style) (path before name rest : List ℕ) → IsFileNameAt w path before name rest → formed path → formed (before ++ name)
+      name_formed w path before name rest h fp =
+          before_formed formed cut_prefix cut_suffix path (before ++ name) rest (h.joined ∙ sym (append_assoc before name rest)) h.cut fp
+
+      stem_formed : (before name stem : List ℕ) → IsStem name stem → formed (before ++ name) → formed (before ++ stem)
+      stem_formed before name stem (inr h) f = subst (λ x. formed (before ++ x)) (sym h.1) f
+      stem_formed before name stem (inl h) f =
+          (cut (before ++ stem) h.0 0x2E (lit< tt) (subst formed (ap (λ x. before ++ x) h.1.joined ∙ sym (append_assoc before stem (0x2E ∷ h.0))) f)).before
+
+      pub set_formed : (w : whose.Style) (path extension made : List ℕ) (is_set : Bool) → IsExtensionSet w path extension made is_set → formed path → formed extension → formed made
+      set_formed w path extension made is_set (inr h) fp fe = subst formed (sym h.1.1) fp
+      set_formed w path extension made is_set (inl (t, h)) fp fe =
+          subst formed (sym (h.is ∙ sym (append_assoc h.before h.stem (dotted extension))))
+          (dotted_formed (h.before ++ h.stem) extension (stem_formed h.before h.name h.stem h.stem_is (name_formed w path h.before h.name h.after h.at fp)) fe)
+
+      pub added_formed : (w : whose.Style) (path extension made : List ℕ) (is_added : Bool) → IsExtensionAdded w path extension made is_added → formed path → formed extension → formed made
+      added_formed w path extension made is_added (inr h) fp fe = subst formed (sym h.1.1) fp
+      added_formed w path extension made is_added (inl (t, h)) fp fe = cases h.is
+        where
+          cases : ((extension ≡ []) × (made ≡ path)) ⊎ ((extension ≢ []) × (made ≡ h.before ++ (h.name ++ dotted extension))) → formed made
+          cases (inl e) = subst formed (sym e.1) fp
+          cases (inr e) =
+              subst formed (sym (e.1 ∙ sym (append_assoc h.before h.name (dotted extension))))
+              (dotted_formed (h.before ++ h.name) extension (name_formed w path h.before h.name h.after h.at fp) fe)
+
+-- what a call leaves is formed in both outcomes
+module _ (formed : List ℕ → Type 0) {X E : Type 0} (P : X → Type 0) (old new : List ℕ) where
+  pub on_either : (r : Result X E) → ((x : X) → P x → formed new) → IfOk r P → OnErr r (new ≡ old) → formed old → formed new
+  on_either (Ok x) give h k f = give x h
+  on_either (Err e) give h k f = subst formed (sym k) f
+
+-- a path with another last name, by equal parts
+pub named_same : (v w : whose.Style) (p q a b r s : List ℕ) → v ≡ w → p ≡ q → a ≡ b → r ≡ s → IsNamed v p a r → IsNamed w q b s
+named_same v w p q a b r s e f g h n = subst (λ x. IsNamed x q b s) e (subst (λ x. IsNamed v x b s) f (subst (λ x. IsNamed v p x s) g (subst (IsNamed v p a) h n)))
+
+module _ {X E : Type 0} (P Q : Type 0) (give : P → Q) where
+  pub on_ok : (r : Result X E) → OnOk r P → OnOk r Q
+  on_ok (Ok x) h = give h
+  on_ok (Err e) h = h
