@@ -2,29 +2,29 @@
 //!
 //! No contract of another crate names anything in this module. The readers, in their order:
 //!
-//! 1. [`utf8_fault`](crate::utf8_fault) finds how many of the first [`STEP`] bytes are ASCII. Of fewer
-//!    bytes than a block it asks before whether all are, and reads them by 5 after 3 if one of these
-//!    isn't.
-//! 2. If all are, it looks at the first [`BLOCK`] bytes, and continues with 5 if these are, too.
-//! 3. From the first byte that isn't ASCII it reads up to five characters one by one, or up to three of
-//!    fewer bytes than a block.
-//! 4. Then it reads up to eight steps ([`prefixes::scan_steps`]), and then blocks.
-//! 5. [`prefixes::scan_from`] tests blocks in place, each with the [`BEFORE`] bytes before it
+//! 1. At most two blocks are asked first whether all of them are ASCII. If one isn't,
+//!    [`utf8_fault`](crate::utf8_fault) reads the first character that isn't ASCII, since a fault is
+//!    mostly there, and continues with 2; [`is_utf8`](crate::is_utf8) begins with 2.
+//! 2. At most two blocks are read by steps: the first by lanes after zeros
+//!    ([`prefixes::first_step_len`]), then up to eight ([`prefixes::scan_steps`]), and one more that
+//!    ends with the last byte ([`prefixes::ends_by_step`]). 4 to 19 bytes are read in a copy with zeros
+//!    before and after them ([`short::short_len`]).
+//! 3. Of more bytes [`utf8_fault`](crate::utf8_fault) finds how many of the first [`STEP`], or of the
+//!    first [`BLOCK`], are ASCII. If that whole block is, it continues with 4; else it reads up to five
+//!    characters one by one, up to eight steps, and then blocks. [`is_utf8`](crate::is_utf8) begins
+//!    with 4.
+//! 4. [`prefixes::scan_from`] tests blocks in place, each with the [`BEFORE`] bytes before it
 //!    ([`error_bits`]), and skips blocks of ASCII without that test. The last bytes, fewer than a
 //!    block, are tested in a copy with zeros before and after them, unless they are ASCII.
-//! 6. At the first byte that isn't allowed after those before it, the prefix ends before the last
+//! 5. At the first byte that isn't allowed after those before it, the prefix ends before the last
 //!    byte that isn't a continuation ([`prefixes`]). After the prefix characters are read one by one
 //!    again, and finally std's reader continues.
 //!
-//! [`Checker`](crate::Checker) and [`wtf8_fault`](crate::wtf8_fault) use 5 and 6 for WTF-8, and
-//! then their table or the reader of code points. [`is_utf8`](crate::is_utf8) reads 20 bytes to two
-//! blocks by steps from the first byte on: the first by lanes after zeros
-//! ([`prefixes::starts_by_step`]), then 4, and one more step that ends with the last byte
-//! ([`prefixes::ends_by_step`]). It reads 4 to 19 bytes in a copy with zeros before and after them
-//! ([`short::is_short_by_steps`]), and more than two blocks by 5 and 6. What these don't vouch for
-//! std's reader reads. A `Checker` asks the same of a piece of at most two blocks before anything
-//! else, since most pieces are short texts. [`surrogate_fault`](crate::surrogate_fault) looks for
-//! surrogates alone ([`surrogates`]).
+//! [`Checker`](crate::Checker) and [`wtf8_fault`](crate::wtf8_fault) use 4 and 5 for WTF-8, and
+//! then their table or the reader of code points. A `Checker` asks 1 and 2, as
+//! [`is_utf8`](crate::is_utf8), of a piece of at most two blocks before anything else, since most
+//! pieces are short texts. [`surrogate_fault`](crate::surrogate_fault) looks for surrogates alone
+//! ([`surrogates`]).
 
 pub(crate) mod error_bits;
 pub(crate) mod lanes;

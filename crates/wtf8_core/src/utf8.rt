@@ -9,9 +9,9 @@ ghost use Rattle.wtf8_core.specs.Wtf8.{IsWtf8};
 use crate::character::char_or_fault_at_start;
 use crate::scan::lanes::ascii_of;
 use crate::scan::prefixes::{
-    ends_by_step, is_ascii_to_end, scan, scan_from, scan_steps, starts_by_step,
+    ends_by_step, first_step_len, is_ascii_to_end, scan, scan_from, scan_short, scan_steps,
 };
-use crate::scan::short::is_short_by_steps;
+use crate::scan::short::short_len;
 use crate::scan::surrogates::text_from;
 use crate::scan::{BEFORE, BLOCK, Encoding, STEP};
 use memchr::memchr;
@@ -48,7 +48,7 @@ pub fn utf8_fault(bytes: &[u8]) -> Option<(usize, Option<u8>)>
     ensures { MatchOption result (IsUtf8 bytes.now)
         (λ fault. IsUtf8Fault bytes.now fault.0 fault.1) }
 {
-    if bytes.len() < BLOCK {
+    if bytes.len() <= 2 * BLOCK {
         return fault_in_short(bytes);
     }
     let ascii = ascii_len(bytes);
@@ -117,8 +117,8 @@ pub fn surrogate_fault(bytes: &[u8]) -> Option<(usize, Option<u8>)>
     }
 }
 
-/// The first fault of fewer than 64 bytes. If all are ASCII they are read at once; if one of the
-/// first 16 isn't, the bytes after three characters are.
+/// The first fault of at most 128 bytes: that of the first character that isn't ASCII, or one that
+/// steps find.
 ///
 /// It isn't inlined: in a loop over the faults of a long string, it is needed only near the end.
 #[inline(never)]
@@ -129,17 +129,28 @@ fn fault_in_short(bytes: &[u8]) -> Option<(usize, Option<u8>)>
     if is_short_ascii(bytes) {
         return None;
     }
-    if bytes.len() < STEP {
-        return fault_by_characters(bytes, 0);
+    match after_characters(bytes, short_ascii_len(bytes), 1) {
+        Ok(at) => fault_by_short_steps(bytes, at),
+        Err(fault) => Some(fault),
     }
-    let near = ascii_of::<STEP>(bytes);
-    if near < STEP {
-        return match after_characters(bytes, near, FEW) {
-            Ok(at) => fault_by_blocks(bytes, at),
-            Err(fault) => Some(fault),
-        };
+}
+
+/// The first fault of few bytes whose first `at` bytes are UTF-8, by steps.
+#[inline(always)]
+fn fault_by_short_steps(bytes: &[u8], at: usize) -> Option<(usize, Option<u8>)>
+    requires within { at ≤ length bytes.now }
+    requires text { IsUtf8 (take at bytes.now) }
+    ensures { MatchOption result (IsUtf8 bytes.now)
+        (λ fault. IsUtf8Fault bytes.now fault.0 fault.1) }
+{
+    if bytes.len() < BEFORE {
+        return fault_by_characters(bytes, at);
     }
-    fault_in_rest(bytes, STEP)
+    let prefix = scan_short(bytes, at);
+    if prefix == bytes.len() {
+        return None;
+    }
+    fault_by_characters(bytes, prefix)
 }
 
 /// Whether the bytes are found to be UTF-8 at once, or by steps. That isn't found of more than two blocks.
@@ -174,9 +185,9 @@ fn is_utf8_by_steps(bytes: &[u8]) -> bool
         return false;
     }
     if bytes.len() < BEFORE + STEP {
-        return is_short_by_steps(bytes);
+        return short_len(bytes) > bytes.len();
     }
-    if !starts_by_step(bytes) {
+    if first_step_len(bytes) < STEP {
         return false;
     }
     match scan_steps(bytes, STEP) {
@@ -193,21 +204,30 @@ fn is_one_ascii(bytes: &[u8]) -> bool
     bytes.len() == 1 && bytes[0] < 0x80
 }
 
-/// Whether the bytes are fewer than 64 and ASCII. It isn't found of fewer than 8.
+/// Whether the bytes are at most 128 and ASCII. It isn't found of fewer than 8.
 #[inline(always)]
 fn is_short_ascii(bytes: &[u8]) -> bool
     ensures { IsTrue result → IsUtf8 bytes.now }
 {
-    bytes.len() < BLOCK && is_ascii_to_end(bytes)
+    if bytes.len() > 2 * BLOCK {
+        return false;
+    }
+    if !is_ascii_to_end(bytes) {
+        return false;
+    }
+    if bytes.len() <= BLOCK {
+        return true;
+    }
+    ascii_of::<BLOCK>(bytes) >= BLOCK
 }
 
-/// How many of 16 to 63 bytes are ASCII before the first that isn't; it isn't found of fewer or more.
+/// How many of 16 to 128 bytes are ASCII before the first that isn't; it isn't found of fewer or more.
 #[inline(always)]
 fn short_ascii_len(bytes: &[u8]) -> usize
     ensures within { result ≤ length bytes.now }
     ensures text { IsUtf8 (take result bytes.now) }
 {
-    if bytes.len() < STEP || bytes.len() >= BLOCK {
+    if bytes.len() < STEP || bytes.len() > 2 * BLOCK {
         return 0;
     }
     let last = bytes.len() - STEP;

@@ -14,6 +14,7 @@ ghost use Rattle.wtf8_core.specs.Neighbours.{IsClosed};
 use crate::byte::is_continuation;
 use crate::scan::error_bits::{allowed_in_block, allowed_in_first_step, allowed_in_step};
 use crate::scan::lanes::{are_ascii, ascii_of, load};
+use crate::scan::short::short_len;
 use crate::scan::{BEFORE, BLOCK, Encoding, HALF, STEP};
 
 /// The length of a prefix that is of this encoding: all the bytes, or some that end where the next
@@ -139,13 +140,64 @@ pub(crate) fn ends_by_step(bytes: &[u8], at: usize) -> bool
     allowed_in_step(&bytes[len - STEP - BEFORE..]) >= STEP
 }
 
-/// Whether the first 16 bytes are found to keep to the pattern of UTF-8.
+/// The same as [`scan_steps`] from the first byte on.
 #[inline(always)]
-pub(crate) fn starts_by_step(bytes: &[u8]) -> bool
+pub(crate) fn scan_first_steps(bytes: &[u8]) -> Result<usize, usize>
     requires { 16 ≤ length bytes.now }
-    ensures { IsTrue result → KeepsPattern Utf8 bytes.now 16 }
+    ensures within { MatchResult result (λ end. end ≤ length bytes.now)
+        (λ prefix. prefix ≤ length bytes.now) }
+    ensures prefix { MatchResult result (λ end. KeepsPattern Utf8 bytes.now end)
+        (λ prefix. IsEncodedPrefix Utf8 bytes.now prefix) }
 {
-    allowed_in_first_step(bytes) >= STEP
+    let kept = first_step_len(bytes);
+    if kept < STEP {
+        return Err(start_before(bytes, kept));
+    }
+    scan_steps(bytes, STEP)
+}
+
+/// How many of the first 16 bytes keep to the pattern of UTF-8, up to the first that doesn't.
+#[inline(always)]
+pub(crate) fn first_step_len(bytes: &[u8]) -> usize
+    requires { 16 ≤ length bytes.now }
+    ensures within { result ≤ 16 }
+    ensures kept { KeepsPattern Utf8 bytes.now result }
+{
+    allowed_in_first_step(bytes)
+}
+
+/// The length of a prefix of few bytes, which keep to the pattern of UTF-8 up to index `at`, that is
+/// UTF-8: all the bytes, or some that end where the next character begins.
+#[inline(always)]
+pub(crate) fn scan_short(bytes: &[u8], at: usize) -> usize
+    requires from { 4 ≤ length bytes.now }
+    requires within { at ≤ length bytes.now }
+    requires kept { KeepsPattern Utf8 bytes.now at }
+    ensures within { result ≤ length bytes.now }
+    ensures prefix { IsEncodedPrefix Utf8 bytes.now result }
+{
+    if bytes.len() < BEFORE + STEP {
+        let kept = short_len(bytes);
+        if kept > bytes.len() {
+            return bytes.len();
+        }
+        return start_before(bytes, kept);
+    }
+    let read = if at < BEFORE {
+        scan_first_steps(bytes)
+    } else {
+        scan_steps(bytes, at)
+    };
+    match read {
+        Ok(end) => {
+            if ends_by_step(bytes, end) {
+                bytes.len()
+            } else {
+                start_before(bytes, end)
+            }
+        }
+        Err(prefix) => prefix,
+    }
 }
 
 /// Whether none of the last three bytes is the lead of a form that continues after the last byte.

@@ -1,9 +1,9 @@
 use Rattle.wtf8_core.proofs.Common.{◌+◌, ◌-◌, ◌∙◌, length, arith, take_rest}
 use Rattle.wtf8_core.proofs.lemmas.scan.Windows.{ends_copied}
-use Rattle.wtf8_core.proofs.scan.short.is_short_by_ends.Goals as goal
+use Rattle.wtf8_core.proofs.scan.short.short_len_by_ends.Goals as goal
 
-pub is_copy_kept-requires-clause-copy : goal.is_copy_kept-requires-clause-copy
-is_copy_kept-requires-clause-copy g c i _ =
+pub copy_len-requires-clause-copy : goal.copy_len-requires-clause-copy
+copy_len-requires-clause-copy g c i _ =
     let bytes = c.args.bytes.now in
     let n = g.row.N in
     let last = length bytes - n in
