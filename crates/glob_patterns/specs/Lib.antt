@@ -1,0 +1,4 @@
+pub mod Letters
+pub mod LetterCuts
+pub mod LetterReadings
+pub mod Readings
