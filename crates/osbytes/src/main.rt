@@ -3,10 +3,10 @@
 //! It hands its words and its ends to [`execute`], whose contract says what then is done.
 #![tactic(auto)]
 
-use program_frame::ended::Ended;
 use osbytes_commands::fault::Fault;
-use program_frame::marked::Marked;
 use osbytes_commands::program::execute;
+use program_frame::ended::Ended;
+use program_frame::marked::Marked;
 use std::env;
 
 fn main(rt: HostRuntime) -> Ended<Fault> {
