@@ -10,6 +10,7 @@ pub mod Chunks
 pub mod Escapes
 pub mod ItemLengths
 pub mod Readings
+pub mod TokenTexts
 pub mod Unescaping
 pub mod Shown
 pub mod Lines

@@ -9,8 +9,8 @@ ghost use Rattle.os_quote.specs.Shown.{shown_by};
 ghost use Rattle.os_quote.specs.Stripping.{StartsNot};
 
 use crate::form::Form;
-use crate::write_buffer::split_token;
-use crate::write_buffer_token::{push_token, push_unit};
+use crate::split_token::split_token;
+use crate::token_text::TokenText;
 use os_str_bytes::{NonUnicodeOsStr, OsStr, OsStrBytesExt, Platform, Unix};
 
 /// Whether the bytes are the escape of the string in a form.
@@ -72,9 +72,7 @@ fn strip_unit(text: &[u8], unit: u16) -> Option<&[u8]>
     ensures { MatchOption result (StartsNot (item_text (unit_item unit)) text.now)
         (λ rest. text.now ≡ item_text (unit_item unit) ++ rest.now) }
 {
-    let mut token = [0; 10];
-    let len = push_unit(&mut token, 0, unit);
-    strip(text, &token[..len])
+    strip(text, TokenText::of_unit(unit).as_str().as_bytes())
 }
 
 /// What comes after the token of a character that isn't shown, or is the backslash.
@@ -88,9 +86,7 @@ fn strip_token(text: &[u8], character: char) -> Option<&[u8]>
             _ => None,
         };
     }
-    let mut token = [0; 10];
-    let len = push_token(&mut token, 0, character);
-    strip(text, &token[..len])
+    strip(text, TokenText::of_character(character).as_str().as_bytes())
 }
 
 /// What comes after a text.

@@ -1,5 +1,5 @@
 //! How far the escape of a text on one line shows it as it is.
-ghost use Rattle.std.specs.Prelude.{◌≡◌, ◌↔◌, IsTrue, MatchOption};
+ghost use Rattle.std.specs.Prelude.{◌≡◌, ◌↔◌, [], IsTrue, IfSome, MatchOption};
 ghost use Rattle.os_quote.specs.Hidden.{IsUnchanged, AreUnchanged, IsCutAtHidden};
 ghost use Rattle.os_quote.specs.Shown.{IsOnOneLine};
 
@@ -10,6 +10,31 @@ use crate::suspects::first_suspect;
 /// What comes before the first character that is written as a token, that character, and what comes
 /// after it.
 pub(crate) fn split_hidden(text: &str) -> Option<(&str, char, &str)>
+    ensures { MatchOption result (AreUnchanged text.now)
+        (λ parts. IsCutAtHidden text.now parts.0.now parts.1 parts.2.now) }
+{
+    if let Some((character, following)) = hidden_start(text) {
+        return Some(("", character, following));
+    }
+    split_at_suspect(text)
+}
+
+/// The character of ASCII at the start that is written as a token, and what comes after it: where one
+/// token follows another, no search is begun.
+#[inline(always)]
+fn hidden_start(text: &str) -> Option<(char, &str)>
+    ensures { IfSome result (λ start. IsCutAtHidden text.now [] start.0 start.1.now) }
+{
+    let mut characters = text.chars();
+    let character = characters.next()?;
+    if matches!(character, '\0'..='\x1F' | '\\' | '\x7F') && !is_unchanged(character) {
+        return Some((character, characters.as_str()));
+    }
+    None
+}
+
+/// The same as [`split_hidden`], by a search.
+fn split_at_suspect(text: &str) -> Option<(&str, char, &str)>
     ensures { MatchOption result (AreUnchanged text.now)
         (λ parts. IsCutAtHidden text.now parts.0.now parts.1 parts.2.now) }
 {

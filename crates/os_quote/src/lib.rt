@@ -23,15 +23,15 @@ mod long_token;
 mod plain;
 mod quoting;
 mod reading;
+mod split_token;
 mod suspect_bits;
 mod suspects;
 mod token;
+mod token_text;
 mod unescaped;
 mod unescaped_bytes;
 mod write_buffer;
-mod write_buffer_token;
 mod write_formatted;
-mod write_formatted_token;
 
 pub use display::Escaped;
 pub use error::QuoteError;

@@ -14,19 +14,11 @@ const PIECE: usize = 4096;
 /// The bytes of one vector.
 const LANES: usize = 16;
 
-/// Whether all bytes are plain, and no more than a piece. Of a vector or more, it ends at the first
-/// vector in which one isn't.
+/// Whether all bytes are plain, and no more than a piece.
 pub(crate) fn are_plain(bytes: &[u8]) -> bool
     ensures { IsTrue result → AllByRecursion IsPlain bytes.now }
 {
-    if bytes.len() > PIECE {
-        return false;
-    }
-    let at = after_lanes(bytes, 0);
-    if bytes.len() - at >= LANES {
-        return false;
-    }
-    plain_end(bytes, at) == bytes.len()
+    bytes.len() <= PIECE && plain_end(bytes, 0) == bytes.len()
 }
 
 /// Plain bytes at the start, at most a piece, as a text, and the bytes after them.
@@ -42,11 +34,18 @@ pub(crate) fn split_plain(bytes: &[u8]) -> Option<(&str, &[u8])>
     Some((unsafe { str::from_utf8_unchecked(prefix) }, rest))
 }
 
-/// How many bytes at the start are plain, or a piece.
+/// How many bytes at the start are plain, or a piece. The first vector is asked by itself, since what
+/// isn't plain is often near.
 #[tactic(auto, using(crate::proofs::lemmas::PlainBytes::plain_bytes))]
 pub(crate) fn plain_len(bytes: &[u8]) -> usize
     ensures { IsPlainUpTo bytes.now result }
 {
+    if bytes.len() >= LANES {
+        let near = lanes_len(bytes, 0);
+        if near < LANES {
+            return near;
+        }
+    }
     let mut at = 0;
     while at < PIECE && bytes.len() - at >= BLOCK && is_plain_block(bytes, at) {
         at += BLOCK;
@@ -54,35 +53,46 @@ pub(crate) fn plain_len(bytes: &[u8]) -> usize
     if at == PIECE {
         return at;
     }
-    plain_end(bytes, after_lanes(bytes, at))
-}
-
-/// The index after whole vectors of plain bytes, from an index on up to which all are plain.
-#[tactic(auto, using(crate::proofs::lemmas::PlainBytes::plain_bytes))]
-fn after_lanes(bytes: &[u8], from: usize) -> usize
-    requires { IsPlainUpTo bytes.now from }
-    ensures { IsPlainUpTo bytes.now result }
-{
-    let mut at = from;
-    while bytes.len() - at >= LANES && are_lanes_plain(bytes, at) {
-        at += LANES;
-    }
-    at
+    plain_end(bytes, at)
 }
 
 /// The index of the first byte that isn't plain, or the length, from an index on up to which all are.
-/// If fewer bytes than a vector has are left, the last vector of all is asked first.
 #[tactic(auto, using(crate::proofs::lemmas::PlainBytes::plain_bytes))]
 fn plain_end(bytes: &[u8], from: usize) -> usize
     requires { IsPlainUpTo bytes.now from }
     ensures { IsPlainUpTo bytes.now result }
 {
-    if bytes.len() >= LANES
-        && bytes.len() - from < LANES
-        && are_lanes_plain(bytes, bytes.len() - LANES)
-    {
-        return bytes.len();
+    let mut at = from;
+    while bytes.len() - at >= LANES {
+        let len = lanes_len(bytes, at);
+        at += len;
+        if len < LANES {
+            return at;
+        }
     }
+    end_of_few(bytes, at)
+}
+
+/// The same where fewer bytes than a vector has are left: by the last vector of all, if there is one.
+fn end_of_few(bytes: &[u8], from: usize) -> usize
+    requires up_to { IsPlainUpTo bytes.now from }
+    requires few { length bytes.now < from + 16 }
+    ensures { IsPlainUpTo bytes.now result }
+{
+    if bytes.len() < LANES {
+        return end_by_bytes(bytes, from);
+    }
+    let last = bytes.len() - LANES;
+    let len = lanes_len(bytes, last);
+    from.max(last + len)
+}
+
+/// The same, byte by byte.
+#[tactic(auto, using(crate::proofs::lemmas::PlainBytes::plain_bytes))]
+fn end_by_bytes(bytes: &[u8], from: usize) -> usize
+    requires { IsPlainUpTo bytes.now from }
+    ensures { IsPlainUpTo bytes.now result }
+{
     let mut at = from;
     while at < bytes.len() && is_plain(bytes[at]) {
         at += 1;
@@ -90,14 +100,21 @@ fn plain_end(bytes: &[u8], from: usize) -> usize
     at
 }
 
-/// Whether the next 16 bytes are plain.
+/// How many of the next 16 bytes are plain before the first that isn't.
 #[inline(always)]
-fn are_lanes_plain(bytes: &[u8], at: usize) -> bool
+fn lanes_len(bytes: &[u8], at: usize) -> usize
     requires { at + 16 ≤ length bytes.now }
-    ensures { IsTrue result → (i : ℕ) → i < 16 → IsPlain (slice_index bytes.now (at + i)) }
+    ensures within { result ≤ 16 }
+    ensures plain { (i : ℕ) → i < result → IsPlain (slice_index bytes.now (at + i)) }
 {
     let lanes = load(bytes, at);
-    are_at_least(lanes, b' ') & are_at_most(lanes, b'~') & are_at_least(difference(lanes), 1)
+    let different = difference(lanes);
+    let printable = lanes_from(lanes, b' ');
+    let ascii = lanes_up_to(lanes, b'~');
+    let other = lanes_from(different, 1);
+    let both = printable.min(ascii);
+    let all = both.min(other);
+    all.min(LANES)
 }
 
 /// Whether a byte is plain.
@@ -179,4 +196,26 @@ fn are_at_most(lanes: u8x16, value: u8) -> bool
     ensures { IsTrue result → (i : ℕ) → i < 16 → slice_index lanes i ≤ value }
 {
     lanes.simd_gt(u8x16::splat(value)).to_bitmask() == 0
+}
+
+/// How many lanes aren't below a value before the first that is.
+#[inline(always)]
+fn lanes_from(lanes: u8x16, value: u8) -> usize
+    ensures { (i : ℕ) → i < result → i < 16 → value ≤ slice_index lanes i }
+{
+    lanes
+        .simd_lt(u8x16::splat(value))
+        .to_bitmask()
+        .trailing_zeros() as usize
+}
+
+/// How many lanes aren't above a value before the first that is.
+#[inline(always)]
+fn lanes_up_to(lanes: u8x16, value: u8) -> usize
+    ensures { (i : ℕ) → i < result → i < 16 → slice_index lanes i ≤ value }
+{
+    lanes
+        .simd_gt(u8x16::splat(value))
+        .to_bitmask()
+        .trailing_zeros() as usize
 }

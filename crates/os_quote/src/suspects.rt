@@ -1,6 +1,6 @@
 //! Bytes that may begin a character that is written as a token on one line: suspects.
 ghost use Rattle.std.specs.Prelude.{◌≡◌, ◌+◌, ◌≤◌, ◌<◌, length, slice_index, MatchOption};
-ghost use Rattle.os_quote.specs.Hidden.{AllClear, IsNextSuspect};
+ghost use Rattle.os_quote.specs.Hidden.{AllClear, IsNextSuspect, is_suspect};
 
 use crate::lanes::{BLOCK, clear_len};
 use crate::suspect_bits::is_suspect;
@@ -8,9 +8,31 @@ use crate::suspect_bits::is_suspect;
 /// The fewest bytes of which a copy is looked at.
 const LEAST: usize = 16;
 
-/// The index of the first suspect from an index on.
-#[tactic(auto, using(crate::proofs::lemmas::Suspects::suspects))]
+/// The index of the first suspect from an index on, at which one often is.
 pub(crate) fn first_suspect(bytes: &[u8], from: usize) -> Option<usize>
+    requires { from ≤ length bytes.now }
+    ensures { MatchOption result (AllClear bytes.now from (length bytes.now))
+        (λ at. IsNextSuspect bytes.now from at) }
+{
+    if from < bytes.len() && is_suspect_at(bytes, from) {
+        return Some(from);
+    }
+    later_suspect(bytes, from)
+}
+
+/// Whether the byte at an index is a suspect.
+#[inline(always)]
+fn is_suspect_at(bytes: &[u8], at: usize) -> bool
+    requires { at < length bytes.now }
+    ensures { result ≡ is_suspect (slice_index bytes.now at) (slice_index bytes.now (1 + at))
+        (slice_index bytes.now (2 + at)) }
+{
+    is_suspect(bytes[at], byte_at(bytes, at + 1), byte_at(bytes, at + 2))
+}
+
+/// The same as [`first_suspect`], by vectors.
+#[tactic(auto, using(crate::proofs::lemmas::Suspects::suspects))]
+fn later_suspect(bytes: &[u8], from: usize) -> Option<usize>
     requires { from ≤ length bytes.now }
     ensures { MatchOption result (AllClear bytes.now from (length bytes.now))
         (λ at. IsNextSuspect bytes.now from at) }
@@ -22,7 +44,7 @@ pub(crate) fn first_suspect(bytes: &[u8], from: usize) -> Option<usize>
         if clear == BLOCK {
             continue;
         }
-        if is_suspect(bytes[at], byte_at(bytes, at + 1), byte_at(bytes, at + 2)) {
+        if is_suspect_at(bytes, at) {
             return Some(at);
         }
         at += 1;

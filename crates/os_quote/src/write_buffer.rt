@@ -1,19 +1,18 @@
 //! Escapes written into a buffer that may be too short for them.
-ghost use Rattle.std.specs.Prelude.{◌≡◌, ◌+◌, ◌*◌, ◌<◌, ◌^◌, ℕ, List, map, length, MatchOption};
+ghost use Rattle.std.specs.Prelude.{◌+◌, ◌*◌, ◌<◌, ◌^◌, ℕ, List, map, length};
 ghost use Rattle.wtf8_core.specs.Truncated.{IsTruncated};
 ghost use Rattle.platform_str.specs.Strings.{bytes};
 ghost use Rattle.os_str_ext.specs.Parts.{part_bytes};
-ghost use Rattle.os_quote.specs.Buffers.{Pushes, IsPlainPushed, IsCutAtToken, text_escape};
+ghost use Rattle.os_quote.specs.Buffers.{Pushes, IsPlainPushed, text_escape, token_of};
 ghost use Rattle.os_quote.specs.Escape.{IsEscape, IsLineEscape};
 ghost use Rattle.os_quote.specs.Escaped.{escape_of};
-ghost use Rattle.os_quote.specs.Item.{item_texts, unit_item};
-ghost use Rattle.os_quote.specs.Shown.{is_any, stays_on_line, shown_by};
+ghost use Rattle.os_quote.specs.Item.{Backslash, item_text, item_texts, unit_item};
+ghost use Rattle.os_quote.specs.Shown.{shown_by};
 
 use crate::form::Form;
-use crate::hidden::split_hidden;
 use crate::plain::split_plain;
-use crate::token::split_backslash;
-use crate::write_buffer_token::{push_token, push_unit};
+use crate::split_token::split_token;
+use crate::token_text::TokenText;
 use os_str_bytes::{NonUnicodeOsStr, OsStr, OsStrBytesExt, Platform};
 use wtf8_core::push_truncated;
 
@@ -104,7 +103,8 @@ fn push_part<'a, E: Platform>(
 {
     let mut len = count;
     for unit in part.os_units() {
-        len = push_unit(buffer, len, unit.to_u64() as u16);
+        let token = TokenText::of_unit(unit.to_u64() as u16);
+        len = push_truncated(buffer, len, token.as_str().as_bytes());
     }
     len
 }
@@ -124,36 +124,24 @@ fn push_text(form: Form, buffer: &mut [u8], count: usize, text: &str) -> usize
     push_truncated(buffer, len, rest.as_bytes())
 }
 
-/// What comes before the first character of a text that is written as a token, that character, and
-/// what comes after it.
-pub(crate) fn split_token(form: Form, text: &str) -> Option<(&str, char, &str)>
-    ensures { MatchOption result (text_escape (shown_by form) text.now ≡ text.now)
-        (λ parts. IsCutAtToken (shown_by form) text.now parts.0.now parts.1 parts.2.now) }
+/// Appends the token of a character that isn't shown, or is the backslash.
+#[inline(always)]
+fn push_token(buffer: &mut [u8], count: usize, character: char) -> usize
+    requires { count + length (item_text (token_of character)) < 2 ^ 64 }
+    ensures { Pushes (item_text (token_of character)) buffer.old count buffer.new result }
 {
-    match form {
-        Form::Text => split_at_backslash(text),
-        Form::Line => split_at_hidden(text),
+    if character == '\\' {
+        return push_backslash(buffer, count);
     }
+    let token = TokenText::of_character(character);
+    push_truncated(buffer, count, token.as_str().as_bytes())
 }
 
-/// The same in the form that shows every character.
-fn split_at_backslash(text: &str) -> Option<(&str, char, &str)>
-    ensures { MatchOption result (text_escape is_any text.now ≡ text.now)
-        (λ parts. IsCutAtToken is_any text.now parts.0.now parts.1 parts.2.now) }
+/// Appends the token of a backslash, the most frequent one.
+#[inline(always)]
+fn push_backslash(buffer: &mut [u8], count: usize) -> usize
+    requires { count + 2 < 2 ^ 64 }
+    ensures { Pushes (item_text Backslash) buffer.old count buffer.new result }
 {
-    let Some((prefix, following)) = split_backslash(text) else {
-        return None;
-    };
-    Some((prefix, '\\', following))
-}
-
-/// The same in the form for one line.
-fn split_at_hidden(text: &str) -> Option<(&str, char, &str)>
-    ensures { MatchOption result (text_escape stays_on_line text.now ≡ text.now)
-        (λ parts. IsCutAtToken stays_on_line text.now parts.0.now parts.1 parts.2.now) }
-{
-    let Some((prefix, character, following)) = split_hidden(text) else {
-        return None;
-    };
-    Some((prefix, character, following))
+    push_truncated(buffer, count, b"\\\\")
 }

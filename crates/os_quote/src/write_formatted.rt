@@ -3,15 +3,15 @@ ghost use Rattle.std.specs.Prelude.{◌≡◌, ◌<◌, map, IfOk};
 ghost use Rattle.std.specs.Fmt.{WritesStyledOnOk};
 ghost use Rattle.std.specs.Str.{chars};
 ghost use Rattle.os_str_ext.specs.Parts.{part_bytes};
-ghost use Rattle.os_quote.specs.Item.{item_text, item_texts, unit_item, character_item};
+ghost use Rattle.os_quote.specs.Buffers.{token_of};
+ghost use Rattle.os_quote.specs.Item.{Backslash, item_text, item_texts, unit_item, character_item};
 ghost use Rattle.os_quote.specs.Plain.{IsPlainWritten};
-ghost use Rattle.os_quote.specs.Shown.{is_any, stays_on_line, shown_by};
+ghost use Rattle.os_quote.specs.Shown.{shown_by};
 
-use crate::form::{Form, stays_on_line};
-use crate::hidden::split_hidden;
+use crate::form::Form;
 use crate::plain::split_plain;
-use crate::token::split_backslash;
-use crate::write_formatted_token::{write_hidden, write_unit};
+use crate::split_token::split_token;
+use crate::token_text::TokenText;
 use os_str_bytes::{NonUnicodeOsStr, Platform};
 use std::fmt;
 
@@ -41,7 +41,7 @@ pub(crate) fn write_part<'a, E: Platform, W: fmt::Write>(
         (item_texts (map unit_item (E.units (part_bytes part.entry)))) f.new }
 {
     for unit in part.os_units() {
-        write_unit(unit.to_u64() as u16, f)?;
+        f.write_str(TokenText::of_unit(unit.to_u64() as u16).as_str())?;
     }
     Ok(())
 }
@@ -55,51 +55,29 @@ pub(crate) fn write_text<W: fmt::Write>(
     ensures { WritesStyledOnOk W.write_str_gives f.old result
         (item_texts (map (character_item (shown_by form)) (chars text.now))) f.new }
 {
-    match form {
-        Form::Text => write_shown(text, f),
-        Form::Line => write_line(text, f),
-    }
-}
-
-/// Writes a text with each backslash doubled.
-fn write_shown<W: fmt::Write>(text: &str, f: &mut fmt::Formatter<W>) -> fmt::Result
-    ensures { WritesStyledOnOk W.write_str_gives f.old result
-        (item_texts (map (character_item is_any) (chars text.now))) f.new }
-{
     let mut rest = text;
-    while let Some((prefix, following)) = split_backslash(rest) {
+    while let Some((prefix, character, following)) = split_token(form, rest) {
         f.write_str(prefix)?;
-        f.write_str("\\\\")?;
+        write_token(character, f)?;
         rest = following;
     }
     f.write_str(rest)
 }
 
-/// Writes a text with each backslash doubled and each character that doesn't stay on a line as a
-/// token.
-fn write_line<W: fmt::Write>(text: &str, f: &mut fmt::Formatter<W>) -> fmt::Result
-    ensures { WritesStyledOnOk W.write_str_gives f.old result
-        (item_texts (map (character_item stays_on_line) (chars text.now))) f.new }
-{
-    let mut rest = text;
-    while let Some((prefix, character, following)) = split_hidden(rest) {
-        f.write_str(prefix)?;
-        write_character(character, f)?;
-        rest = following;
-    }
-    f.write_str(rest)
-}
-
-/// Writes a character as the escape on one line has it.
-fn write_character<W: fmt::Write>(character: char, f: &mut fmt::Formatter<W>) -> fmt::Result
-    ensures { WritesStyledOnOk W.write_str_gives f.old result
-        (item_text (character_item stays_on_line character)) f.new }
+/// Writes the token of a character that isn't shown, or is the backslash.
+fn write_token<W: fmt::Write>(character: char, f: &mut fmt::Formatter<W>) -> fmt::Result
+    ensures { WritesStyledOnOk W.write_str_gives f.old result (item_text (token_of character))
+        f.new }
 {
     if character == '\\' {
-        f.write_str("\\\\")
-    } else if stays_on_line(character) {
-        f.write_char(character)
-    } else {
-        write_hidden(character as u32, f)
+        return write_backslash(f);
     }
+    f.write_str(TokenText::of_character(character).as_str())
+}
+
+/// Writes the token of a backslash, the most frequent one.
+fn write_backslash<W: fmt::Write>(f: &mut fmt::Formatter<W>) -> fmt::Result
+    ensures { WritesStyledOnOk W.write_str_gives f.old result (item_text Backslash) f.new }
+{
+    f.write_str("\\\\")
 }

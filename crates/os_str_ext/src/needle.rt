@@ -11,8 +11,11 @@ use memchr::{memchr_iter, memmem, memrchr};
 /// The longest needle that is searched for by two of its bytes, or by its last byte alone.
 const LONGEST: usize = 32;
 
-/// In longer strings the time that `memmem` takes to prepare for the needle pays off.
-const SHORT: usize = 128;
+/// In longer strings the time that `memmem` takes to prepare for a needle pays off.
+const SHORT: usize = 160;
+
+/// The same for a needle of two bytes, which occurs wherever they do.
+const SHORT_FOR_TWO: usize = 1024;
 
 /// The index of the first occurrence of a needle; a needle of one byte is searched for as a byte.
 #[inline(always)]
@@ -76,7 +79,12 @@ fn first_byte(byte: u8, bytes: &[u8]) -> Option<usize>
 fn first_by_pair(bytes: &[u8], needle: &[u8]) -> Option<usize>
     ensures { FindsNeedle bytes.now needle.now 0 result }
 {
-    if needle.len() < 2 || LONGEST < needle.len() || SHORT < bytes.len() {
+    let short = if needle.len() == 2 {
+        SHORT_FOR_TWO
+    } else {
+        SHORT
+    };
+    if needle.len() < 2 || LONGEST < needle.len() || short < bytes.len() {
         return first_by_memmem(bytes, needle);
     }
     if bytes.len() < needle.len() {

@@ -1,5 +1,5 @@
 -- That an escape on one line stays there.
-use Rattle.os_quote.proofs.Common.{◌≡◌, ◌≢◌, ⊎_elim, ℕ, ◌/◌, ◌%◌, ◌<◌, true, List, [], ◌∷◌, ◌++◌, map, length, IsTrue, refl, sym, ap, ◌∙◌, subst, arith, append_assoc, append-nil, length-append, encode_utf8, All, AllByRecursion, IsUtf8, chars, encode_utf8_all, cases_lt, cases_eq, cases_Bool, ne_eqb, lt-ltb, le-ltb, All-from_recursion, chars-append, chars-nil, chars_past_char, chars-IsAscii, IsUtf8-encode, encodes-chars, length-encode, len_utf8_bounds, Chunk, AreChunks, upper_hex_digit, PartLaws, Item, Character, Backslash, ByteUnit, WideUnit, LongCharacter, backslash, wide_digits, long_digits, item_text, item_texts, IsLong, IsItem, unit_item, hidden_item, character_item, stays_on_line, IsUnchanged, AreUnchanged, IsCutAtHidden, chunk_items, items_of, IsLineEscape, IsChunkOf, flat_map-append, map-append}
+use Rattle.os_quote.proofs.Common.{◌≡◌, ◌≢◌, ⊎_elim, ℕ, ◌/◌, ◌%◌, ◌<◌, true, List, [], ◌∷◌, ◌++◌, map, length, IsTrue, refl, sym, ap, ◌∙◌, subst, arith, append_assoc, append-nil, length-append, encode_utf8, All, AllByRecursion, IsUtf8, chars, encode_utf8_all, cases_lt, cases_eq, cases_Bool, ne_eqb, lt-ltb, le-ltb, All-from_recursion, chars-append, chars-nil, chars_past_char, chars-IsAscii, IsUtf8-encode, IsUtf8-nil, encodes-chars, length-encode, len_utf8_bounds, Chunk, AreChunks, upper_hex_digit, PartLaws, Item, Character, Backslash, ByteUnit, WideUnit, LongCharacter, backslash, wide_digits, long_digits, item_text, item_texts, IsLong, IsItem, unit_item, hidden_item, character_item, stays_on_line, IsUnchanged, AreUnchanged, IsCutAtHidden, chunk_items, items_of, IsLineEscape, IsChunkOf, flat_map-append, map-append}
 use Rattle.os_quote.proofs.lemmas.Items.{digit_low, digit_high, five_digits, six_digits}
 use Rattle.os_quote.proofs.lemmas.Shown.{ascii_stays}
 use Rattle.os_quote.proofs.lemmas.Texts.{text_items, text_escape, text_after}
@@ -111,6 +111,10 @@ up_to_hidden t prefix c following u k =
     ∙ flat_map-append item_text (text_items stays_on_line prefix) (map (character_item stays_on_line) (c ∷ chars following))
     ∙ ap (λ x. x ++ (item_text (character_item stays_on_line c) ++ text_escape stays_on_line following)) (unchanged_text prefix k.prefix_text k.unchanged)
     ∙ sym (append_assoc prefix (item_text (character_item stays_on_line c)) (text_escape stays_on_line following))
+
+-- the first character is written as a token
+pub hidden_first : (t following : List ℕ) (c : ℕ) → ¬ (IsUnchanged c) → t ≡ encode_utf8 c ++ following → IsUtf8 following → IsCutAtHidden t [] c following
+hidden_first t following c h e u = record { unchanged = subst (AllByRecursion IsUnchanged) (sym chars-nil) tt; hidden = h; joined = e; prefix_text = IsUtf8-nil; after_text = u }
 
 pub cut_is_shorter : (t prefix : List ℕ) (c : ℕ) (following : List ℕ) → IsCutAtHidden t prefix c following → length following < length t
 cut_is_shorter t prefix c following k =

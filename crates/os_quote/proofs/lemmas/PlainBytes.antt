@@ -1,5 +1,5 @@
 -- Plain bytes: texts that both forms show unchanged.
-use Rattle.os_quote.proofs.Common.{◌≡◌, ⊎_elim, ℕ, zero, suc, ◌+◌, ◌-◌, ◌<◌, ◌≤◌, true, List, [], ◌∷◌, ◌++◌, map, length, take, get_or, refl, sym, ap, ◌∙◌, subst, arith, append_assoc, rules, AllByRecursion, IsUtf8, HasWrittenStyled, IsFlush, Formatter, cases_lt, ne_eqb, chars-IsAscii, encode_ascii, IsUtf8-from_ascii, Character, backslash, item_text, item_texts, character_item, shown_by, IsPlain, IsPlainUpTo, IsAfterPlain, AreUnchanged, IsUnchanged}
+use Rattle.os_quote.proofs.Common.{◌≡◌, ◌⊎◌, ⊎_elim, ℕ, zero, suc, ◌+◌, ◌-◌, ◌<◌, ◌≤◌, true, List, [], ◌∷◌, ◌++◌, map, length, take, get_or, refl, sym, ap, ◌∙◌, subst, arith, append_assoc, rules, AllByRecursion, IsUtf8, HasWrittenStyled, IsFlush, Formatter, cases_lt, ne_eqb, chars-IsAscii, encode_ascii, IsUtf8-from_ascii, Character, backslash, item_text, item_texts, character_item, shown_by, IsPlain, IsPlainUpTo, IsAfterPlain, AreUnchanged, IsUnchanged}
 use Rattle.os_quote.specs.declared.form.Form.{Form}
 use Rattle.os_quote.specs.declared.form.Form.TheVariants.{Text, Line}
 use Rattle.os_quote.proofs.lemmas.Readings.{ascii_all}
@@ -60,12 +60,15 @@ pub one_plain : (bs : List ℕ) (at : ℕ) → IsPlainUpTo bs at → at < length
 one_plain bs at before room one =
     more_plain bs at 1 before (omega (arith, room)) (λ i lt. let e : at ≡ at + i = omega (arith, lt) in subst (λ k. IsPlain (get_or bs k 0)) e one)
 
--- all, where fewer than n follow and the last n are
-pub last_plain : (bs : List ℕ) (at n : ℕ) → IsPlainUpTo bs at → n ≤ length bs → length bs - at < n → ((i : ℕ) → i < n → IsPlain (get_or bs (length bs - n + i) 0)) → IsPlainUpTo bs (length bs)
-last_plain bs at n before room near last =
-    let up_to : IsPlainUpTo bs (length bs - n) = record { within = omega arith; plain = λ i lt. before.plain i (omega (arith, lt, room, near, before.within)) } in
-    let all : length bs - n + n ≡ length bs = omega (arith, room) in
-    subst (IsPlainUpTo bs) all (more_plain bs (length bs - n) n up_to (omega (arith, room)) last)
+-- up to the later of two indices, where n bytes from an earlier index on are plain
+pub up_to_later : (bs : List ℕ) (at last n m : ℕ) → IsPlainUpTo bs at → last ≤ at → last + n ≤ length bs → ((i : ℕ) → i < n → IsPlain (get_or bs (last + i) 0)) → (m ≡ at) ⊎ (m ≡ last + n) → IsPlainUpTo bs m
+up_to_later bs at last n m before low room more which = record {
+  within = ⊎_elim (λ e. omega (arith, e, before.within)) (λ e. omega (arith, e, room)) which;
+  plain = λ i lt.
+      ⊎_elim (λ l. before.plain i l)
+      (λ ge. let e : last + (i - last) ≡ i = omega (arith, ge, low) in subst (λ k. IsPlain (get_or bs k 0)) e (more (i - last) (⊎_elim (λ k. omega (arith, k, lt, ge)) (λ k. omega (arith, k, lt, ge, low)) which)))
+      (cases_lt i at);
+}
 
 -- some more after others
 pub all_plain : (xs ys : List ℕ) → AllByRecursion IsPlain xs → AllByRecursion IsPlain ys → AllByRecursion IsPlain (xs ++ ys)

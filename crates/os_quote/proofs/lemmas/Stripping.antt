@@ -1,13 +1,9 @@
 -- How far a text begins with an escape.
-use Rattle.os_quote.proofs.Common.{◌≡◌, ℕ, ◌<◌, ◌≤◌, Bool, List, [], ◌∷◌, ◌++◌, length, take, ⊎_elim, refl, sym, ap, ◌∙◌, subst, arith, append_assoc, append-nil, length-append, cases_lt, cases_eq, ne_eqb, lt-ltb, le-ltb, Pushes, backslash, token_of, item_text, long_digits, IsEscapeBy, some_chunks, chunks_of, escape_of}
+use Rattle.os_quote.proofs.Common.{◌≡◌, ℕ, Bool, List, [], ◌++◌, refl, sym, ap, ◌∙◌, subst, append_assoc, append-nil, IsEscapeBy, some_chunks, chunks_of, escape_of}
 use Rattle.std.proofs.Common.{Option, None, Some, Bor, MatchOption}
-use Rattle.std.proofs.lemmas.Bool.{eq-eqb}
 use Rattle.std.proofs.lemmas.List.{append_cancel_left}
-use Rattle.wtf8_core.proofs.lemmas.buffers.Truncated.{whole}
 use Rattle.os_quote.specs.Stripping.{StartsNot}
 use Rattle.os_quote.proofs.lemmas.Escapes.{one_escape}
-use Rattle.os_quote.proofs.lemmas.ItemLengths.{digits_length}
-use Rattle.os_quote.proofs.lemmas.Pushing.{pushed_all}
 
 -- a prefix of `all` is the start of the text, after which the rest comes, and `left` is still to be found
 abbrev pub StripsRest : List ℕ → List ℕ → List ℕ → List ℕ → Type 0
@@ -38,20 +34,6 @@ all_stripped text rest left all so_far n = so_far.1 ∙ ap (λ x. x ++ rest) (sy
 pub last_stripped : (text rest left all prefix : List ℕ) → StripsRest text rest left all → left ≡ prefix → (r : Option (Bor (List ℕ))) → MatchOption r (StartsNot prefix rest) (λ x. rest ≡ prefix ++ x.now) → MatchOption r (StartsNot all text) (λ x. text ≡ all ++ x.now)
 last_stripped text rest left all prefix so_far e None never = not_stripped so_far prefix [] never (e ∙ sym (append-nil prefix))
 last_stripped text rest left all prefix so_far e (Some x) is = all_stripped text x.now [] all (one_stripped so_far prefix x.now [] is (e ∙ sym (append-nil prefix))) refl
-
--- a token in a buffer of its own
-pub token_text : (text old new : List ℕ) (count : ℕ) → Pushes text old 0 new count → length text ≤ length old → take count new ≡ text
-token_text text old new count p fits = let t = pushed_all p in whole text old new count t (omega (arith, t.count_is, t.same_length, fits))
-
-pub token_is_short : (c : ℕ) → length (item_text (token_of c)) ≤ 10
-token_is_short c =
-    ⊎_elim
-    (λ (e : c ≡ backslash). rw (eq-eqb c backslash e) (omega arith))
-    (λ (n : ¬ (c ≡ backslash)). rw (ne_eqb c backslash n) (⊎_elim
-    (λ (l : c < 0x1_0000). rw (lt-ltb c 0x1_0000 l) (omega arith))
-    (λ (l : 0x1_0000 ≤ c). rw (le-ltb c 0x1_0000 l) (omega (arith, (digits_length c).1, length-append (long_digits c) (0x7D ∷ []))))
-    (cases_lt c 0x1_0000)))
-    (cases_eq c backslash)
 
 -- a text that is stripped of an escape is that escape where nothing is left
 module _ (shows : ℕ → Bool) (units : List ℕ → List ℕ) (s text : List ℕ) where

@@ -1,5 +1,9 @@
-use Rattle.os_quote.proofs.lemmas.PlainBytes.{last_plain}
+use Rattle.os_quote.proofs.Common.{arith}
+use Rattle.os_quote.proofs.lemmas.PlainBytes.{more_plain}
 use Rattle.os_quote.proofs.plain.plain_end.Goals as goal
 
-pub returns-then-are_lanes_plain : goal.returns-then-are_lanes_plain
-returns-then-are_lanes_plain c = last_plain c.args.bytes.now c.args.from 16 c.requires c.if-bytes-ge-LANES.true c.if-bytes-from-lt-LANES.true (c.are_lanes_plain.ensures c.if-are_lanes_plain.true)
+pub returns-then-len-lt-LANES : goal.returns-then-len-lt-LANES
+returns-then-len-lt-LANES c = more_plain c.args.bytes.now c.loop-at.at c.lanes_len-len.result c.loop-at.invariant (omega (arith, c.lanes_len-len.ensures.within, c.loop-at-test.true, c.loop-at.invariant.within)) c.lanes_len-len.ensures.plain
+
+pub loop-at-preserved : goal.loop-at-preserved
+loop-at-preserved c = more_plain c.args.bytes.now c.loop-at.at c.lanes_len-len.result c.loop-at.invariant (omega (arith, c.lanes_len-len.ensures.within, c.loop-at-test.true, c.loop-at.invariant.within)) c.lanes_len-len.ensures.plain

@@ -1,4 +1,4 @@
-use Rattle.os_quote.proofs.Common.{map, ap, ◌∙◌, sym, subst, refl, true, HasWrittenStyled, IsFlush, part_bytes, unit_number, item_text, item_texts, unit_item}
+use Rattle.os_quote.proofs.Common.{◌≡◌, map, ap, ◌∙◌, sym, subst, refl, true, HasWrittenStyled, IsFlush, part_bytes, unit_number, item_text, item_texts, unit_item}
 use Rattle.os_quote.proofs.lemmas.Writing.{WritesRest, nothing_yet, one_more, all_written}
 use Rattle.os_quote.proofs.write_formatted.write_part.Goals as goal
 
@@ -13,7 +13,8 @@ pub loop-unit-preserved : goal.loop-unit-preserved
 loop-unit-preserved g c =
     let took = g.W.Write.write_str_gives in
     let unit = unit_number c.in-Some.unit in
-    let wrote : IsFlush c.loop-unit.f → HasWrittenStyled took c.loop-unit.f (item_text (unit_item unit)) c.write_unit.new.f = λ flush. subst (λ x. HasWrittenStyled took c.loop-unit.f (item_text (unit_item x)) c.write_unit.new.f) c.to_u64.ensures.value (c.in_ok-write_unit.ensures flush (refl {a = true})) in
+    let token : c.as_str.result.now ≡ item_text (unit_item unit) = c.as_str.ensures ∙ c.of_unit.ensures ∙ ap (λ u. item_text (unit_item u)) c.to_u64.ensures.value in
+    let wrote : IsFlush c.loop-unit.f → HasWrittenStyled took c.loop-unit.f (item_text (unit_item unit)) c.write_str.new.self = λ flush. subst (λ x. HasWrittenStyled took c.loop-unit.f x c.write_str.new.self) token (c.in_ok-write_str.ensures.styled flush (refl {a = true})) in
     one_more took _ c.loop-unit.f _ _ (item_text (unit_item unit)) (item_texts (map unit_item c.next.new.self)) _ c.loop-unit.invariant wrote (ap (λ us. item_texts (map unit_item us)) c.in-Some.ensures.steps)
 
 pub returns : goal.returns

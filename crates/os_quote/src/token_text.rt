@@ -1,0 +1,166 @@
+//! The texts of tokens.
+ghost use Rattle.std.specs.Prelude.{◌≡◌, ◌/◌, ◌%◌, ◌<◌, ◌≤◌};
+ghost use Rattle.wtf8_core.specs.FaultText.{upper_hex_digit};
+ghost use Rattle.os_quote.specs.Buffers.{token_of};
+ghost use Rattle.os_quote.specs.Item.{Backslash, ByteUnit, WideUnit, LongCharacter, item_text, unit_item, hidden_item};
+
+use std::marker::Model;
+use wtf8_core::upper_hex_digit;
+
+/// The text of a token, which has at most ten bytes.
+#[derive(Drop)]
+pub(crate) struct TokenText {
+    bytes: [u8; 10],
+    len: usize,
+}
+
+impl Model for TokenText {
+    ghost use Rattle.std.specs.Prelude.{◌≤◌, List, ℕ, take};
+    ghost use Rattle.std.specs.Str.{IsUtf8};
+
+    ghost Value = { List ℕ };
+
+    ghost view = { λ token. take token.len token.bytes };
+
+    ghost invariant = { λ token. (token.len ≤ 10) × IsUtf8 (take token.len token.bytes) };
+}
+
+impl TokenText {
+    /// The token of a unit: `\xHH` if it is below 100 (hexadecimal), else `\uHHHH`.
+    #[inline(always)]
+    pub(crate) fn of_unit(unit: u16) -> TokenText
+        ensures { result ≡ item_text (unit_item unit) }
+    {
+        if unit < 0x100 {
+            TokenText::of_byte(unit as u8)
+        } else {
+            TokenText::of_wide(unit)
+        }
+    }
+
+    /// The token of a character that isn't shown, or is the backslash: `\\`, `\uHHHH` where it has 16
+    /// bits, else `\u{H..}`.
+    #[inline(always)]
+    pub(crate) fn of_character(character: char) -> TokenText
+        ensures { result ≡ item_text (token_of character) }
+    {
+        if character == '\\' {
+            TokenText::of_backslash()
+        } else {
+            TokenText::of_hidden(character as u32)
+        }
+    }
+
+    /// The text.
+    #[inline(always)]
+    pub(crate) fn as_str(&self) -> &str
+        ensures { result.now ≡ self.now }
+    {
+        unsafe { str::from_utf8_unchecked(&self.bytes[..self.len]) }
+    }
+
+    /// `\\`.
+    #[inline(always)]
+    fn of_backslash() -> TokenText
+        ensures { result ≡ item_text Backslash }
+    {
+        TokenText {
+            bytes: [b'\\', b'\\', 0, 0, 0, 0, 0, 0, 0, 0],
+            len: 2,
+        }
+    }
+
+    /// `\xHH`.
+    #[inline(always)]
+    fn of_byte(byte: u8) -> TokenText
+        ensures { result ≡ item_text (ByteUnit byte) }
+    {
+        let (a, b) = digits(byte);
+        TokenText {
+            bytes: [b'\\', b'x', a, b, 0, 0, 0, 0, 0, 0],
+            len: 4,
+        }
+    }
+
+    /// `\uHHHH` of a number of 16 bits, `\u{H..}` of a greater one.
+    #[inline(always)]
+    fn of_hidden(character: u32) -> TokenText
+        requires { character < 0x11_0000 }
+        ensures { result ≡ item_text (hidden_item character) }
+    {
+        if character < 0x1_0000 {
+            TokenText::of_wide(character as u16)
+        } else {
+            TokenText::of_long(character)
+        }
+    }
+
+    /// `\uHHHH`.
+    #[inline(always)]
+    fn of_wide(number: u16) -> TokenText
+        ensures { result ≡ item_text (WideUnit number) }
+    {
+        let (a, b) = digits((number / 0x100) as u8);
+        let (c, d) = digits((number % 0x100) as u8);
+        TokenText {
+            bytes: [b'\\', b'u', a, b, c, d, 0, 0, 0, 0],
+            len: 6,
+        }
+    }
+
+    /// `\u{H..}` of five or six digits.
+    fn of_long(number: u32) -> TokenText
+        requires past { 0x1_0000 ≤ number }
+        requires below { number < 0x11_0000 }
+        ensures { result ≡ item_text (LongCharacter number) }
+    {
+        if number < 0x10_0000 {
+            TokenText::of_five_digits(number)
+        } else {
+            TokenText::of_six_digits(number)
+        }
+    }
+
+    /// `\u{HHHHH}`.
+    fn of_five_digits(number: u32) -> TokenText
+        requires past { 0x1_0000 ≤ number }
+        requires below { number < 0x10_0000 }
+        ensures { result ≡ item_text (LongCharacter number) }
+    {
+        let low = number % 0x1_0000;
+        let (zero, first) = digits((number / 0x1_0000) as u8);
+        let (a, b) = digits((low / 0x100) as u8);
+        let (c, d) = digits((low % 0x100) as u8);
+        TokenText {
+            bytes: [b'\\', b'u', b'{', first, a, b, c, d, b'}', zero],
+            len: 9,
+        }
+    }
+
+    /// `\u{HHHHHH}`.
+    fn of_six_digits(number: u32) -> TokenText
+        requires past { 0x10_0000 ≤ number }
+        requires below { number < 0x11_0000 }
+        ensures { result ≡ item_text (LongCharacter number) }
+    {
+        let low = number % 0x1_0000;
+        let (a, b) = digits((low / 0x100) as u8);
+        let (c, d) = digits((low % 0x100) as u8);
+        TokenText {
+            bytes: [b'\\', b'u', b'{', b'1', b'0', a, b, c, d, b'}'],
+            len: 10,
+        }
+    }
+}
+
+/// The two digits of a byte, from `0` to `9` or from `A` to `F`.
+#[inline(always)]
+fn digits(byte: u8) -> (u8, u8)
+    ensures first { result.0 ≡ upper_hex_digit (byte / 16) }
+    ensures second { result.1 ≡ upper_hex_digit (byte % 16) }
+{
+    (
+        upper_hex_digit(byte / 16) as u8,
+        upper_hex_digit(byte % 16) as u8,
+    )
+}
