@@ -4,13 +4,14 @@
 #![tactic(auto)]
 
 use names_commands::fault::Fault;
-use names_commands::program::execute;
+use names_commands::program::Names;
 use program_frame::ended::Ended;
+use program_frame::lists::program::execute;
 use program_frame::marked::Marked;
 use std::env;
 
 fn main(rt: HostRuntime) -> Ended<Fault> {
-    execute(
+    execute::<Names, _, _, _, _>(
         rt.alloc(),
         env::args(&rt),
         &mut Marked::new(rt.reader()),

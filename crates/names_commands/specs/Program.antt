@@ -11,14 +11,21 @@ use Rattle.program_frame.specs.declared.fault.Failure.TheVariants.{Write}
 use Rattle.program_frame.specs.declared.lists.fault.ListFault.TheVariants.{Run}
 use Rattle.names_commands.specs.declared.command.Command.{Command}
 use Rattle.names_commands.specs.declared.command.Command.TheVariants.{ListAll, ListMatching, Filter, Join, Check, Help}
-use Rattle.names_commands.specs.declared.fault.Fault.{Fault}
-use Rattle.names_commands.specs.declared.fault.Fault.TheVariants.{List as OfList, Usage, Pattern}
+use Rattle.program_frame.specs.declared.lists.program_fault.Fault as program_fault
+use Rattle.program_frame.specs.declared.lists.program_fault.Fault.TheVariants.{List as OfList, Words}
+use Rattle.names_commands.specs.declared.fault.Refusal.{Refusal}
+use Rattle.names_commands.specs.declared.fault.CommandFault.{CommandFault}
+use Rattle.names_commands.specs.declared.fault.CommandFault.TheVariants.{Usage, Pattern}
 use Rattle.names_commands.specs.declared.task.Task.{Task}
 use Rattle.names_commands.specs.declared.task.Task.TheVariants as task
 use Rattle.names_commands.specs.declared.task.Settings.{Settings}
 use Rattle.names_commands.specs.declared.command.Request.{Request}
 use Rattle.names_commands.specs.Command.{AsksFor, options_of}
 use Rattle.names_commands.specs.Task.{rules_of}
+
+-- what keeps the program from its output
+abbrev pub Fault : Type 0
+Fault = program_fault.Fault Refusal CommandFault
 
 -- the task is to list the names that this pattern matches; to write them with NUL
 abbrev pub ListsMatching : GlobOptions → List ℕ → Task → Type 0
@@ -38,7 +45,7 @@ Filters options pattern (task.Join last) = ⊥
 -- the answer to a pattern that is refused is its first fault; else that of the run of such a task
 abbrev pub RunsPattern : (GlobOptions → List ℕ → Task → Type 0) → Os → List ℕ → ℕ → Option (List ℕ) → Option (List ℕ) → Option (List ℕ) → Option (List ℕ) → Result ⊤ Fault → Type 0
 RunsPattern Is os pattern max input left old new answer =
-    ((error : GlobError) × (IsPatternFault pattern error × (answer ≡ Err (Pattern error))))
+    ((error : GlobError) × (IsPatternFault pattern error × (answer ≡ Err (Words (Pattern error)))))
     ⊎ ((t : Task) × (Is (options_of os) pattern t × Runs (rules_of (strings os) (record { task = t; max = max })) OfList input left old new answer))
 
 -- what `names --help` writes
@@ -57,5 +64,5 @@ Does Help max input left old new answer = WritesText help_text (OfList (Run Writ
 -- the request that these words make is answered by this; words that make none are refused
 abbrev pub RunsTo : List (List ℕ) → Option (List ℕ) → Option (List ℕ) → Option (List ℕ) → Option (List ℕ) → Result ⊤ Fault → Type 0
 RunsTo words input left old new answer =
-    (((request : Request) → ¬ (AsksFor words request)) × (answer ≡ Err Usage))
+    (((request : Request) → ¬ (AsksFor words request)) × (answer ≡ Err (Words Usage)))
     ⊎ ((request : Request) × (AsksFor words request × Does request.command request.max input left old new answer))

@@ -4,7 +4,7 @@ ghost use Rattle.names_commands.specs.declared.command.Command.{Command};
 ghost use Rattle.names_commands.specs.declared.command.Request.{Request};
 ghost use Rattle.names_commands.specs.Command.{words_of, AsksFor, IsLimit, options_of};
 
-use crate::fault::Fault;
+use crate::fault::CommandFault;
 use crate::task::LastLine;
 use os_glob::{GlobOptions, Separators};
 use program_frame::os::Os;
@@ -28,7 +28,7 @@ impl<'a> Request<'a> {
     ///
     /// # Errors
     ///
-    /// [`Fault::Usage`] for all other words.
+    /// [`CommandFault::Usage`] for all other words.
     ///
     /// ```
     /// use names_commands::command::{Command, Request};
@@ -45,9 +45,9 @@ impl<'a> Request<'a> {
     /// assert!(rt; Request::parse(&words) == Ok(request));
     /// assert!(rt; Request::parse(&words[1..]).is_err());
     /// ```
-    pub fn parse(words: &'a [String]) -> Result<Request<'a>, Fault>
+    pub fn parse(words: &'a [String]) -> Result<Request<'a>, CommandFault>
         ensures request { IfOk result (λ request. AsksFor (map string_bytes words.now) request) }
-        ensures usage { IfErr result (λ fault. fault ≡ Fault.Usage) }
+        ensures usage { IfErr result (λ fault. fault ≡ CommandFault.Usage) }
         ensures no_request { OnErr result ((request : Request)
             → ¬ (AsksFor (map string_bytes words.now) request)) }
     {
@@ -65,11 +65,11 @@ impl<'a> Request<'a> {
     }
 
     /// The request of the words of a command alone.
-    fn with_default(words: &'a [String]) -> Result<Request<'a>, Fault>
+    fn with_default(words: &'a [String]) -> Result<Request<'a>, CommandFault>
         ensures command { IfOk result
             (λ request. map string_bytes words.now ≡ words_of request.command) }
         ensures max { IfOk result (λ request. request.max ≡ 1048576) }
-        ensures usage { IfErr result (λ fault. fault ≡ Fault.Usage) }
+        ensures usage { IfErr result (λ fault. fault ≡ CommandFault.Usage) }
         ensures no_command { OnErr result ((command : Command)
             → map string_bytes words.now ≢ words_of command) }
     {
@@ -82,14 +82,14 @@ impl<'a> Request<'a> {
 }
 
 /// The limit that a text says.
-fn limit(number: &str) -> Result<usize, Fault>
+fn limit(number: &str) -> Result<usize, CommandFault>
     ensures limit { IfOk result (λ max. IsLimit number.now max) }
-    ensures usage { IfErr result (λ fault. fault ≡ Fault.Usage) }
+    ensures usage { IfErr result (λ fault. fault ≡ CommandFault.Usage) }
     ensures no_limit { OnErr result ((max : ℕ) → ¬ (IsLimit number.now max)) }
 {
     match number.parse::<usize>() {
         Ok(max) => Ok(max),
-        Err(_) => Err(Fault::Usage),
+        Err(_) => Err(CommandFault::Usage),
     }
 }
 
@@ -118,7 +118,7 @@ impl<'a> Command<'a> {
     ///
     /// # Errors
     ///
-    /// [`Fault::Usage`] for all other words.
+    /// [`CommandFault::Usage`] for all other words.
     ///
     /// ```
     /// use names_commands::command::Command;
@@ -131,39 +131,39 @@ impl<'a> Command<'a> {
     /// assert!(rt; Command::parse(&words) == Ok(Command::ListMatching(Os::Unix, "*.rs")));
     /// assert!(rt; Command::parse(&words[..1]).is_err());
     /// ```
-    pub fn parse(words: &'a [String]) -> Result<Command<'a>, Fault>
+    pub fn parse(words: &'a [String]) -> Result<Command<'a>, CommandFault>
         ensures command { IfOk result (λ command. map string_bytes words.now ≡ words_of command) }
-        ensures usage { IfErr result (λ fault. fault ≡ Fault.Usage) }
+        ensures usage { IfErr result (λ fault. fault ≡ CommandFault.Usage) }
         ensures no_command { OnErr result ((command : Command)
             → map string_bytes words.now ≢ words_of command) }
     {
         match words {
             [name] => match name.as_str() {
                 "--help" => Ok(Command::Help),
-                _ => Err(Fault::Usage),
+                _ => Err(CommandFault::Usage),
             },
             [name, os] => {
-                let os = Os::named(os.as_str()).ok_or(Fault::Usage)?;
+                let os = Os::named(os.as_str()).ok_or(CommandFault::Usage)?;
                 match name.as_str() {
                     "list" => Ok(Command::ListAll(os)),
                     "join" => Ok(Command::Join(os, LastLine::MustEnd)),
                     "check" => Ok(Command::Check(os)),
-                    _ => Err(Fault::Usage),
+                    _ => Err(CommandFault::Usage),
                 }
             }
             [name, os, word] => {
-                let os = Os::named(os.as_str()).ok_or(Fault::Usage)?;
+                let os = Os::named(os.as_str()).ok_or(CommandFault::Usage)?;
                 match name.as_str() {
                     "list" => Ok(Command::ListMatching(os, word.as_str())),
                     "filter" => Ok(Command::Filter(os, word.as_str())),
                     "join" => match word.as_str() {
                         "--unterminated" => Ok(Command::Join(os, LastLine::MayLackEnd)),
-                        _ => Err(Fault::Usage),
+                        _ => Err(CommandFault::Usage),
                     },
-                    _ => Err(Fault::Usage),
+                    _ => Err(CommandFault::Usage),
                 }
             }
-            _ => Err(Fault::Usage),
+            _ => Err(CommandFault::Usage),
         }
     }
 }

@@ -1,11 +1,11 @@
 //! What keeps the program from its output.
-ghost use Rattle.std.specs.Prelude.{◌≡◌, Err};
 
 use os_glob::GlobError;
 use os_quote::QuoteError;
 use os_str_bytes::EncodingError;
-use program_frame::ended::ProgramFault;
-use program_frame::lists::fault::{ItemRefusal, ListFault};
+use program_frame::lists::fault::ItemRefusal;
+use program_frame::lists::program_fault;
+use program_frame::lists::program_fault::WordsRefusal;
 use std::fmt;
 use std::fmt::Display as _;
 
@@ -22,16 +22,17 @@ pub enum Refusal {
     HasNul,
 }
 
-/// The reason why a run of the program ended before its input did.
+/// Why the words are refused.
 #[derive(Clone, Copy, PartialEq, Eq)]
-pub enum Fault {
-    /// An item is refused, or something keeps the run from going on.
-    List(ListFault<Refusal>),
-    /// The words ask for no command.
+pub enum CommandFault {
+    /// They ask for no command.
     Usage,
     /// The pattern is refused: its first fault.
     Pattern(GlobError),
 }
+
+/// The reason why a run of the program ended before its input did.
+pub type Fault = program_fault::Fault<Refusal, CommandFault>;
 
 impl ItemRefusal for Refusal {
     ghost use Rattle.std.specs.Prelude.{codes};
@@ -55,53 +56,27 @@ impl ItemRefusal for Refusal {
     }
 }
 
-impl fmt::Display for Fault {
-    ghost use Rattle.std.specs.Prelude.{Some};
-    ghost use Rattle.names_commands.specs.Fault.{text_of};
+impl WordsRefusal for CommandFault {
+    ghost use Rattle.names_commands.specs.Fault.{words_text};
+    ghost use Rattle.names_commands.specs.declared.fault.CommandFault.{CommandFault};
 
-    ghost output = { λ fault. Some (text_of fault) };
+    ghost usage = { CommandFault.Usage };
 
-    ghost styled_output = { λ fault _. Some (text_of fault) };
+    ghost text_of = { words_text };
 
-    fn fmt<W: fmt::Write>(&self, f: &mut fmt::Formatter<W>) -> fmt::Result {
+    fn usage() -> CommandFault {
+        CommandFault::Usage
+    }
+
+    fn write<W: fmt::Write>(&self, f: &mut fmt::Formatter<W>) -> fmt::Result {
         match *self {
-            Fault::List(fault) => fault.fmt(f),
-            Fault::Usage => f.write_str(
+            CommandFault::Usage => f.write_str(
                 "usage: names [--max N] list|filter|join|check unix|windows|wasm [GLOB]; names --help tells more",
             ),
-            Fault::Pattern(why) => {
+            CommandFault::Pattern(why) => {
                 f.write_str("pattern: ")?;
                 why.fmt(f)
             }
-        }
-    }
-}
-
-impl ProgramFault for Fault {
-    ghost use Rattle.std.specs.Prelude.{refl};
-    ghost use Rattle.names_commands.specs.Fault.{text_of, status_of};
-
-    ghost text_of = { text_of };
-
-    ghost status_of = { status_of };
-
-    ghost printed = { λ _. refl };
-
-    /// The status that the program ends with: 1 for an input that it refuses, 2 for its words, 3
-    /// for want of memory, and 4 for a failed read or write.
-    ///
-    /// ```
-    /// use names_commands::fault::Fault;
-    /// use program_frame::ended::ProgramFault;
-    /// use program_frame::lists::fault::ListFault;
-    ///
-    /// assert_eq!(rt; Fault::List(ListFault::TooLong(3, 255)).status(), 1);
-    /// assert_eq!(rt; Fault::Usage.status(), 2);
-    /// ```
-    fn status(&self) -> u8 {
-        match self {
-            Fault::List(fault) => fault.status(),
-            Fault::Usage | Fault::Pattern(_) => 2,
         }
     }
 }

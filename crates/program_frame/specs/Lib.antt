@@ -10,3 +10,4 @@ pub mod Rules
 pub mod Reading
 pub mod ListRun
 pub mod ListFault
+pub mod ProgramFault

@@ -2,10 +2,13 @@
 //!
 //! What is done with each item is a [`task::ListTask`]; [`run::run`] reads the list and writes what its
 //! items become. Where it ends early, a [`fault::ListFault`] says why, and with the number of which item.
+//! A program for lists is a [`program::ListProgram`], which [`program::execute`] runs.
 
 pub mod fault;
 pub mod items;
 pub mod lines;
+pub mod program;
+pub mod program_fault;
 mod reading;
 pub mod run;
 pub mod task;

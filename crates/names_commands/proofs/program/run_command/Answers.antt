@@ -6,11 +6,10 @@ use Rattle.program_frame.specs.Marked.{marked_inner}
 use Rattle.program_frame.specs.Strings.{strings}
 use Rattle.program_frame.specs.declared.os.Os.{Os}
 use Rattle.names_commands.specs.Command.{options_of}
-use Rattle.names_commands.specs.Program.{Does}
+use Rattle.names_commands.specs.Program.{Does, Fault}
 use Rattle.names_commands.specs.Task.{rules_of}
 use Rattle.names_commands.specs.declared.command.Command.TheVariants.{ListMatching, Filter}
-use Rattle.names_commands.specs.declared.fault.Fault.{Fault}
-use Rattle.names_commands.specs.declared.fault.Fault.TheVariants.{List as OfList}
+use Rattle.program_frame.specs.declared.lists.program_fault.Fault.TheVariants.{List as OfList}
 use Rattle.names_commands.specs.declared.task.Task.TheVariants as task
 use Rattle.names_commands.proofs.program.run_command.Goals as goal
 

@@ -1,0 +1,15 @@
+-- The text and the exit status of what keeps a program for lists from its output.
+use Rattle.std.specs.Prelude.{ℕ, List}
+use Rattle.program_frame.specs.ListFault as list_fault
+use Rattle.program_frame.specs.declared.lists.program_fault.Fault.{Fault}
+use Rattle.program_frame.specs.declared.lists.program_fault.Fault.TheVariants.{List as OfList, Words}
+
+-- what the program prints of the fault, where items are called this and reasons have these texts
+abbrev pub text_of : {F U : Type 0} → List ℕ → (F → List ℕ) → (U → List ℕ) → Fault F U → List ℕ
+text_of item reason words (OfList fault) = list_fault.text_of item reason fault
+text_of item reason words (Words why) = words why
+
+-- the status that the program ends with
+abbrev pub status_of : {F U : Type 0} → Fault F U → ℕ
+status_of (OfList fault) = list_fault.status_of fault
+status_of (Words why) = 2

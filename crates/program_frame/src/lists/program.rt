@@ -1,0 +1,238 @@
+//! Programs for lists: their words, their run, how it ends, and their help.
+ghost use Rattle.std.specs.Prelude.{◌≡◌, ◌≢◌, ◌↔◌, ◌⊎◌, ℕ, List, Option, Result, ⊤, true, false, map, string_bytes, IfOk, IfErr, OnOk, IsOk};
+ghost use Rattle.std.specs.Io.KnownBytes.{Appends};
+ghost use Rattle.std.specs.IoError.{error_kind};
+ghost use Rattle.program_frame.specs.Ended.{message, outcome_of, was_told};
+ghost use Rattle.program_frame.specs.ListRun.{Runs};
+ghost use Rattle.program_frame.specs.Marked.{marked_inner, has_failed, is_closed};
+ghost use Rattle.program_frame.specs.ProgramFault.{text_of};
+ghost use Rattle.program_frame.specs.Words.{words_after_name};
+ghost use Rattle.program_frame.specs.Written.{AppendsBeginning, WritesText};
+ghost use Rattle.program_frame.specs.declared.fault.Failure.{Failure};
+ghost use Rattle.program_frame.specs.declared.lists.fault.ListFault.{ListFault};
+ghost use Rattle.program_frame.specs.declared.lists.program_fault.Fault.{Fault};
+ghost use Rattle.program_frame.specs.declared.lists.program_fault.Fault.TheVariants.{List as OfList};
+
+use crate::ended::Ended;
+use crate::ends::{Messages, Output};
+use crate::fault::Failure;
+use crate::lists::fault::{ItemRefusal, ListFault};
+use crate::lists::program_fault::{Fault, WordsRefusal};
+use crate::lists::run::run;
+use crate::lists::task::ListTask;
+use crate::marked::Marked;
+use crate::words::{NoWords, words};
+use crate::writing::write_out;
+use std::alloc::Allocator;
+use std::env::Args;
+use std::io;
+use std::io::{ErrorKind, Read, Write};
+
+/// A program for lists.
+pub trait ListProgram {
+    /// Why an item is refused.
+    type Refusal: ItemRefusal;
+
+    /// Why the words are refused.
+    type Words: WordsRefusal;
+
+    // the program's name
+    ghost name: { List ℕ };
+
+    // what is done where the program has these words, its reader these bytes at first and at last, and its writer these contents, and what it answers
+    ghost runs_to: { List (List ℕ) → Option (List ℕ) → Option (List ℕ) → Option (List ℕ)
+        → Option (List ℕ) → Result ⊤ (Fault Self.Refusal Self.Words) → Type 0 };
+
+    /// The program's name.
+    ///
+    /// ```
+    /// use names_commands::program::Names;
+    /// use program_frame::lists::program::ListProgram;
+    ///
+    /// assert_eq!(rt; Names::name(), "names");
+    /// ```
+    fn name() -> &'static str
+        ensures { result.now ≡ name };
+
+    /// The answer of the run of the command that has these words. Both marks must be unset
+    /// ([`Marked::failed`] tells).
+    ///
+    /// # Errors
+    ///
+    /// What keeps the program from its output.
+    ///
+    /// ```
+    /// use paths_commands::fault::{Fault, Usage};
+    /// use paths_commands::program::Paths;
+    /// use program_frame::lists::program::ListProgram;
+    /// use program_frame::marked::Marked;
+    ///
+    /// let mut taken = Vec::new(alloc);
+    /// let (mut reader, mut writer) = (Marked::new(b"a".as_slice()), Marked::new(&mut taken));
+    /// let ended = Paths::run_words(alloc, &[], &mut reader, &mut writer);
+    /// assert!(rt; ended == Err(Fault::Words(Usage)));
+    /// ```
+    fn run_words<A: Allocator, R: Read, W: Write>(
+        alloc: A,
+        words: &[String],
+        reader: &mut Marked<R>,
+        writer: &mut Marked<W>,
+    ) -> Result<(), Fault<Self::Refusal, Self::Words>>
+        requires reader_unmarked { has_failed reader.old ≡ false }
+        requires writer_unmarked { has_failed writer.old ≡ false }
+        ensures run { runs_to (map string_bytes words.now) (R.remaining (marked_inner reader.old))
+            (R.remaining (marked_inner reader.new)) (W.contents (marked_inner writer.old))
+            (W.contents (marked_inner writer.new)) result }
+        ensures read { (result ≡ Err (Fault.List (ListFault.Run Failure.Read)))
+            ↔ (has_failed reader.new ≡ true) }
+        ensures write { (result ≡ Err (Fault.List (ListFault.Run Failure.Write)))
+            ↔ (has_failed writer.new ≡ true) };
+}
+
+/// The program with these arguments over these ends.
+///
+/// The arguments begin with the program's name. Those after it are the words of a command, which is run
+/// as [`ListProgram::run_words`] says. Where the words are refused, where the arguments couldn't be had,
+/// or where the run fails, the fault's message goes to `errors`, or where not all of it is taken a
+/// beginning of it, and nothing else does. Nothing goes there where nobody reads the output any more
+/// ([`Marked::closed`]). Both marks must be unset ([`Marked::failed`] tells).
+///
+/// ```
+/// use names_commands::program::Names;
+/// use program_frame::lists::program::execute;
+/// use program_frame::marked::Marked;
+/// use std::process::{ExitCode, Termination};
+///
+/// let mut words = Vec::new(alloc);
+/// for word in ["names", "check", "windows"] {
+///     words.push(String::from_str(alloc, word)?)?;
+/// }
+/// let (mut input, mut output) = (Marked::new(b"a\0".as_slice()), Marked::new(rt.stdout()));
+/// let words = Ok(words.into_iter());
+/// let ended = execute::<Names, _, _, _, _>(alloc, words, &mut input, &mut output, &mut rt.stderr());
+/// assert!(rt; ended.report(&rt) == ExitCode::from(0));
+/// ```
+pub fn execute<P: ListProgram, A: Allocator, R: Read, W: Output, E: Messages>(
+    alloc: A,
+    args: io::Result<Args>,
+    reader: &mut Marked<R>,
+    writer: &mut Marked<W>,
+    errors: &mut E,
+) -> Ended<Fault<P::Refusal, P::Words>>
+    requires reader_unmarked { has_failed reader.old ≡ false }
+    requires writer_unmarked { has_failed writer.old ≡ false }
+
+    // The words.
+    ensures ok { OnOk (outcome_of result) (IsOk args) }
+    ensures no_words { IfErr args (λ error. error_kind error ≢ ErrorKind.OutOfMemory
+        → outcome_of result ≡ Err (Fault.Words P.Words.usage)) }
+
+    // The run.
+    ensures run { IfOk args (λ args. (outcome_of result ≡ Err (Fault.List (ListFault.Run Failure.Memory)))
+        ⊎ P.runs_to (words_after_name args) (R.remaining (marked_inner reader.old))
+        (R.remaining (marked_inner reader.new)) (W.contents (marked_inner writer.old))
+        (W.contents (marked_inner writer.new)) (outcome_of result)) }
+    ensures read { (outcome_of result ≡ Err (Fault.List (ListFault.Run Failure.Read)))
+        ↔ (has_failed reader.new ≡ true) }
+    ensures write { (outcome_of result ≡ Err (Fault.List (ListFault.Run Failure.Write)))
+        ↔ (has_failed writer.new ≡ true) }
+
+    // The message.
+    ensures closed { is_closed writer.new ≡ true → errors.new ≡ errors.old }
+    ensures quiet { OnOk (outcome_of result) (errors.new ≡ errors.old) }
+    ensures told { was_told result ≡ true → IfErr (outcome_of result) (λ fault.
+        Appends (E.contents errors.old) (E.contents errors.new)
+        (message P.name (text_of P.Refusal.item P.Refusal.text_of P.Words.text_of fault))) }
+    ensures beginning { IfErr (outcome_of result) (λ fault.
+        AppendsBeginning (E.contents errors.old) (E.contents errors.new)
+        (message P.name (text_of P.Refusal.item P.Refusal.text_of P.Words.text_of fault))) }
+{
+    match words(&alloc, args) {
+        Ok(words) => {
+            let outcome = P::run_words(&alloc, &words, reader, writer);
+            Ended::telling_unless(P::name(), writer.closed(), outcome, errors)
+        }
+        Err(NoWords::Memory) => Ended::telling(
+            P::name(),
+            Err(Fault::List(ListFault::Run(Failure::Memory))),
+            errors,
+        ),
+        Err(NoWords::Unreadable) => {
+            Ended::telling(P::name(), Err(Fault::Words(P::Words::usage())), errors)
+        }
+    }
+}
+
+/// The answer of the run over a list, as a program gives it. Both marks must be unset
+/// ([`Marked::failed`] tells).
+///
+/// # Errors
+///
+/// [`Fault::List`] with what [`run`] answers.
+///
+/// ```
+/// use names_commands::fault::Fault;
+/// use names_commands::task::{OnPlatform, Settings, Task};
+/// use os_str_bytes::Unix;
+/// use program_frame::lists::program::run_list;
+/// use program_frame::marked::Marked;
+///
+/// let mut taken = Vec::new(alloc);
+/// let (mut reader, mut writer) = (Marked::new(b"a\0".as_slice()), Marked::new(&mut taken));
+/// let listing = OnPlatform::<Unix>::new(Settings { task: Task::ListAll, max: 255 });
+/// let ended: Result<(), Fault> = run_list(alloc, &listing, &mut reader, &mut writer);
+/// assert!(rt; ended == Ok(()));
+/// assert_eq!(rt; taken.as_slice(), b"a\n".as_slice());
+/// ```
+pub fn run_list<T: ListTask, U, A: Allocator, R: Read, W: Write>(
+    alloc: A,
+    task: &T,
+    reader: &mut Marked<R>,
+    writer: &mut Marked<W>,
+) -> Result<(), Fault<T::Refusal, U>>
+    requires reader_unmarked { has_failed reader.old ≡ false }
+    requires writer_unmarked { has_failed writer.old ≡ false }
+    ensures run { Runs (T.rules task.now) OfList (R.remaining (marked_inner reader.old))
+        (R.remaining (marked_inner reader.new)) (W.contents (marked_inner writer.old))
+        (W.contents (marked_inner writer.new)) result }
+    ensures read { (result ≡ Err (Fault.List (ListFault.Run Failure.Read)))
+        ↔ (has_failed reader.new ≡ true) }
+    ensures write { (result ≡ Err (Fault.List (ListFault.Run Failure.Write)))
+        ↔ (has_failed writer.new ≡ true) }
+{
+    match run(alloc, task, reader, writer) {
+        Ok(()) => Ok(()),
+        Err(fault) => Err(Fault::List(fault)),
+    }
+}
+
+/// Writes a text, such as a program's help. The mark must be unset ([`Marked::failed`] tells).
+///
+/// # Errors
+///
+/// [`Fault::List`] with `Run(Write)` where a write or the flush failed. A beginning of the text was
+/// written then.
+///
+/// ```
+/// use paths_commands::fault::Fault;
+/// use program_frame::lists::program::write_help;
+/// use program_frame::marked::Marked;
+///
+/// let mut taken = Vec::new(alloc);
+/// let answer: Result<(), Fault> = write_help("help\n", &mut Marked::new(&mut taken));
+/// assert!(rt; answer == Ok(()));
+/// assert_eq!(rt; taken.as_slice(), b"help\n".as_slice());
+/// ```
+pub fn write_help<F, U, W: Write>(text: &str, writer: &mut Marked<W>) -> Result<(), Fault<F, U>>
+    requires { has_failed writer.old ≡ false }
+    ensures help { WritesText text.now (OfList (ListFault.Run Failure.Write))
+        (W.contents (marked_inner writer.old)) (W.contents (marked_inner writer.new)) result }
+    ensures no_read { result ≢ Err (Fault.List (ListFault.Run Failure.Read)) }
+    ensures write { (result ≡ Err (Fault.List (ListFault.Run Failure.Write)))
+        ↔ (has_failed writer.new ≡ true) }
+{
+    match write_out(writer, text.as_bytes()) {
+        Ok(()) => Ok(()),
+        Err(_) => Err(Fault::List(ListFault::Run(Failure::Write))),
+    }
+}

@@ -1,0 +1,97 @@
+//! What keeps a program for lists from its output.
+ghost use Rattle.std.specs.Prelude.{◌≡◌, ℕ, List};
+ghost use Rattle.std.specs.Fmt.{WritesStyledOnOk};
+
+use crate::ended::ProgramFault;
+use crate::lists::fault::{ItemRefusal, ListFault};
+use std::fmt;
+use std::fmt::Display as _;
+
+/// Why a program's words are refused.
+pub trait WordsRefusal: Copy {
+    // they ask for no command
+    ghost usage: { Self };
+
+    // what the program prints of the reason
+    ghost text_of: { Self → List ℕ };
+
+    /// That the words ask for no command.
+    ///
+    /// ```
+    /// use paths_commands::fault::Usage;
+    /// use program_frame::lists::program_fault::WordsRefusal;
+    ///
+    /// assert!(rt; Usage::usage() == Usage);
+    /// ```
+    fn usage() -> Self
+        ensures { result ≡ usage };
+
+    /// Writes the reason.
+    ///
+    /// ```
+    /// use names_commands::fault::{Fault, Refusal, CommandFault};
+    /// use os_glob::{GlobError, GlobErrorKind};
+    ///
+    /// let kind = GlobErrorKind::UnclosedClass;
+    /// let fault: Fault = Fault::Words(CommandFault::Pattern(GlobError { kind, index: 7 }));
+    /// assert_eq!(rt; fault.to_string(alloc)?.as_str(), "pattern: unclosed class at byte 7");
+    /// ```
+    fn write<W: fmt::Write>(&self, f: &mut fmt::Formatter<W>) -> fmt::Result
+        ensures { WritesStyledOnOk W.write_str_gives f.old result (text_of self.now) f.new };
+}
+
+/// Why a run of a program for lists ended before its input did.
+#[derive(Clone, Copy, PartialEq, Eq)]
+pub enum Fault<F, U> {
+    /// An item is refused, or something keeps the run from going on.
+    List(ListFault<F>),
+    /// The words are refused.
+    Words(U),
+}
+
+impl<F: ItemRefusal, U: WordsRefusal> fmt::Display for Fault<F, U> {
+    ghost use Rattle.std.specs.Prelude.{Some};
+    ghost use Rattle.program_frame.specs.ProgramFault.{text_of};
+
+    ghost output = { λ fault. Some (text_of F.item F.text_of U.text_of fault) };
+
+    ghost styled_output = { λ fault _. Some (text_of F.item F.text_of U.text_of fault) };
+
+    fn fmt<W: fmt::Write>(&self, f: &mut fmt::Formatter<W>) -> fmt::Result {
+        match *self {
+            Fault::List(fault) => fault.fmt(f),
+            Fault::Words(why) => why.write(f),
+        }
+    }
+}
+
+impl<F: ItemRefusal, U: WordsRefusal> ProgramFault for Fault<F, U> {
+    ghost use Rattle.std.specs.Prelude.{refl};
+    ghost use Rattle.program_frame.specs.ProgramFault.{text_of, status_of};
+
+    ghost text_of = { text_of F.item F.text_of U.text_of };
+
+    ghost status_of = { status_of };
+
+    ghost printed = { λ _. refl };
+
+    /// The status that the program ends with: 1 for an input that it refuses, 2 for its words, 3
+    /// for want of memory, and 4 for a failed read or write.
+    ///
+    /// ```
+    /// use paths_commands::fault::{Fault, Usage};
+    /// use program_frame::ended::ProgramFault;
+    /// use program_frame::lists::fault::ListFault;
+    ///
+    /// let fault: Fault = Fault::List(ListFault::TooLong(3, 255));
+    /// assert_eq!(rt; fault.status(), 1);
+    /// let fault: Fault = Fault::Words(Usage);
+    /// assert_eq!(rt; fault.status(), 2);
+    /// ```
+    fn status(&self) -> u8 {
+        match self {
+            Fault::List(fault) => fault.status(),
+            Fault::Words(_) => 2,
+        }
+    }
+}
