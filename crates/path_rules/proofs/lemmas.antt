@@ -26,3 +26,16 @@ pub mod Written
 pub mod Forms
 pub mod Again
 pub mod FileNames
+pub mod Lanes
+pub mod Checks
+pub mod Below
+pub mod Tails
+pub mod Strips
+pub mod Begins
+pub mod StripJoins
+pub mod KeyLists
+pub mod KeyAlike
+pub mod Places
+pub mod Restyles
+pub mod Simple
+pub mod NameJoins

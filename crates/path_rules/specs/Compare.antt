@@ -46,3 +46,26 @@ pub record EndsWith (style : Style) (path child : List ℕ) : Type 0 where
   pub are : AreComponents style path items
   pub child_are : AreComponents style child child_items
   pub alike : EndsAlike items child_items
+
+-- as many components, alike one by one
+abbrev pub AreAllAlike : List Item → List Item → Type 0
+AreAllAlike [] [] = Unit {0}
+AreAllAlike [] (y ∷ ys) = ⊥
+AreAllAlike (x ∷ xs) [] = ⊥
+AreAllAlike (x ∷ xs) (y ∷ ys) = AreAlike x y × AreAllAlike xs ys
+
+-- the paths have as many components, alike one by one
+pub record HaveAlikeComponents (style : Style) (path other : List ℕ) : Type 0 where
+  pub items : List Item
+  pub other_items : List Item
+  pub are : AreComponents style path items
+  pub other_are : AreComponents style other other_items
+  pub alike : AreAllAlike items other_items
+
+-- the component is no prefix
+abbrev pub IsNoPrefix : Item → Type 0
+IsNoPrefix (Prefix s) = ⊥
+IsNoPrefix RootDir = Unit {0}
+IsNoPrefix CurDir = Unit {0}
+IsNoPrefix ParentDir = Unit {0}
+IsNoPrefix (Normal s) = Unit {0}

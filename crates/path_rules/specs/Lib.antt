@@ -21,3 +21,12 @@ pub mod Spelled
 pub mod Normalized
 pub mod Cleaned
 pub mod FileName
+pub mod Checked
+pub mod Body
+pub mod Strip
+pub mod Taken
+pub mod Keys
+pub mod KeyLaws
+pub mod Relative
+pub mod Restyled
+pub mod Simplified

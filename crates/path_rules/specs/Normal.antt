@@ -2,6 +2,15 @@
 use Rattle.std.specs.Prelude.{ℕ, List, [], ◌∷◌, reverse}
 use Rattle.path_rules.specs.Component.{Item, Prefix, RootDir, CurDir, ParentDir, Normal}
 
+-- names alone
+abbrev pub AreNames : List Item → Type 0
+AreNames [] = Unit {0}
+AreNames (Prefix s ∷ xs) = ⊥
+AreNames (RootDir ∷ xs) = ⊥
+AreNames (CurDir ∷ xs) = ⊥
+AreNames (ParentDir ∷ xs) = ⊥
+AreNames (Normal s ∷ xs) = AreNames xs
+
 -- the components, from the last to the first, lead to these: a name adds itself, `..` takes the name before it away, and `.` changes nothing but at the start; where `..` has no name before it, they lead nowhere
 pub data LeadsTo : List Item → List Item → Type 0 where
   nowhere : LeadsTo [] []

@@ -4,6 +4,7 @@ use Rattle.path_rules.specs.declared.rules.Style.{Style}
 use Rattle.path_rules.specs.Component.{Item, Prefix, RootDir, CurDir, ParentDir, Normal}
 use Rattle.path_rules.specs.Components.{AreComponents}
 use Rattle.path_rules.specs.Cut.{IsAsciiCut}
+use Rattle.path_rules.specs.Body.{EndsTight}
 
 -- a prefix or a root
 abbrev pub IsTop : Item → Type 0
@@ -21,7 +22,7 @@ IsBelow CurDir = Unit {0}
 IsBelow ParentDir = Unit {0}
 IsBelow (Normal s) = Unit {0}
 
--- the path goes on where the parent ends, and has one component more, which is neither a prefix nor a root
+-- the path goes on where the parent ends, with its own last component, and has one component more, which is neither a prefix nor a root
 pub record IsParent (style : Style) (path parent : List ℕ) : Type 0 where
   pub after : List ℕ
   pub joined : path ≡ parent ++ after
@@ -31,6 +32,7 @@ pub record IsParent (style : Style) (path parent : List ℕ) : Type 0 where
   pub are : AreComponents style parent items
   pub whole : AreComponents style path (items ++ last ∷ [])
   pub below : IsBelow last
+  pub tight : EndsTight style parent
 
 -- the path has no component, or its last one is a prefix or a root
 abbrev pub HasNoParent : Style → List ℕ → Type 0

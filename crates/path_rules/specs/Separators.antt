@@ -1,5 +1,5 @@
 -- Which bytes separate the parts of a path (POSIX 4.13; "Naming Files, Paths, and Namespaces").
-use Rattle.std.specs.Prelude.{◌≡◌, ℕ, Bool, true, false, nat_eq, ◌||◌, List, [], ◌∷◌, ◌++◌}
+use Rattle.std.specs.Prelude.{◌≡◌, ◌<◌, ℕ, Bool, true, false, nat_eq, ◌||◌, List, [], ◌∷◌, ◌++◌, slice_index}
 use Rattle.std.specs.List.{All}
 use Rattle.path_rules.specs.declared.rules.Rules.{Rules}
 use Rattle.path_rules.specs.declared.rules.Rules.TheVariants.{Slash, Either, Verbatim}
@@ -23,6 +23,10 @@ pub record IsFieldBy (test : ℕ → Bool) (s field rest : List ℕ) : Type 0 wh
 -- no byte of s separates
 abbrev pub IsPlain : Rules → List ℕ → Type 0
 IsPlain r s = All (λ b. separates r b ≡ false) s
+
+-- no byte of s before index n separates
+abbrev pub IsPlainBelow : Rules → List ℕ → ℕ → Type 0
+IsPlainBelow r s n = (i : ℕ) → i < n → separates r (slice_index s i) ≡ false
 
 -- s is what comes before a separator, the separator, and what comes after it
 pub record IsCut (r : Rules) (s before after : List ℕ) : Type 0 where

@@ -77,7 +77,7 @@ fn ends_alike(mut left: Components<'_>, mut wanted: Components<'_>) -> bool
 }
 
 /// Whether two components are alike.
-fn are_alike(a: Component<&[u8]>, b: Component<&[u8]>) -> bool
+pub fn are_alike(a: Component<&[u8]>, b: Component<&[u8]>) -> bool
     ensures { IsTrue result ↔ AreAlike (item_of a.entry) (item_of b.entry) }
 {
     match a {

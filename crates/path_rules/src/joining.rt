@@ -186,7 +186,7 @@ fn needs_no_separator(style: Style, base: &[u8]) -> bool
 }
 
 /// Whether a path begins with a prefix.
-fn is_prefixed(style: Style, path: &[u8]) -> bool
+pub(crate) fn is_prefixed(style: Style, path: &[u8]) -> bool
     ensures { IsTrue result ↔ IsPrefixed style path.now }
 {
     match style {
@@ -214,7 +214,7 @@ fn is_windows_verbatim(path: &[u8]) -> bool
     }
 }
 
-fn is_verbatim_rule(rules: Rules) -> bool
+pub(crate) fn is_verbatim_rule(rules: Rules) -> bool
     ensures { IsTrue result ↔ (rules ≡ rule.Verbatim) }
 {
     match rules {

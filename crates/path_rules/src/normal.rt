@@ -143,6 +143,7 @@ pub(crate) fn written_as<A: Allocator>(
     let doubled = has_doubled_root(style, path);
     written(
         alloc,
+        path.len(),
         style.main_separator(),
         head.prefix,
         start,
@@ -170,7 +171,7 @@ pub(crate) fn all_names<'a, A: Allocator>(
 
 /// The names that are left of the components of a body, where `..` takes the name before it away;
 /// `None` if it has none.
-fn resolved<'a, A: Allocator>(
+pub(crate) fn resolved<'a, A: Allocator>(
     alloc: A,
     rules: Rules,
     body: &'a [u8],
@@ -197,7 +198,7 @@ fn resolved<'a, A: Allocator>(
 
 /// The names that are left of the components of a body, where `..` takes the name before it away,
 /// and else is left out at a root and stays elsewhere.
-fn cleaned<'a, A: Allocator>(
+pub(crate) fn cleaned<'a, A: Allocator>(
     alloc: A,
     rules: Rules,
     rooted: bool,
@@ -249,7 +250,7 @@ pub(crate) fn is_verbatim(prefix: &[u8]) -> bool
 }
 
 /// Whether the first name by itself begins with a prefix.
-fn begins_as_prefix(style: Style, names: &[Component<&[u8]>]) -> bool
+pub(crate) fn begins_as_prefix(style: Style, names: &[Component<&[u8]>]) -> bool
     ensures { IsTrue result ↔ BeginsAsPrefix style (map item_of names.now) }
 {
     match names {
@@ -259,7 +260,7 @@ fn begins_as_prefix(style: Style, names: &[Component<&[u8]>]) -> bool
 }
 
 /// Whether a name by itself begins with a prefix.
-fn is_read_as_prefix(style: Style, name: &[u8]) -> bool
+pub(crate) fn is_read_as_prefix(style: Style, name: &[u8]) -> bool
     ensures { IsTrue result ↔ IsReadAsPrefix style name.now }
 {
     match style {

@@ -23,7 +23,7 @@ pub(crate) fn resolve<A: Allocator + Clone>(
 }
 
 /// Appends components as they are.
-fn add_all<'a, A: Allocator>(
+pub(crate) fn add_all<'a, A: Allocator>(
     items: &mut Vec<Component<&'a [u8]>, A>,
     left: Components<'a>,
 ) -> Result<(), AllocError>

@@ -1,8 +1,9 @@
 //! Which bytes separate, and whose rules a path follows.
-ghost use Rattle.std.specs.Prelude.{◌≡◌, ◌++◌, ◌∷◌, ◌<◌, length, MatchOption, IfSome};
-ghost use Rattle.std.specs.List.{All, AllPass};
-ghost use Rattle.path_rules.specs.Separators.{separates, IsPlain, IsCut, IsField};
+ghost use Rattle.std.specs.Prelude.{◌≡◌, ℕ, ◌+◌, ◌≤◌, ◌<◌, true, false, length, slice_index, MatchOption};
+ghost use Rattle.path_rules.specs.Separators.{separates, IsPlain, IsPlainBelow, IsCut, IsField};
 ghost use Rattle.path_rules.specs.StyleRules.{rules_of_style, main_separator};
+
+use crate::lanes::{LANES, len_before};
 
 /// Which bytes separate the components of a path.
 #[derive(Clone, Copy, Debug, PartialEq, Eq)]
@@ -39,24 +40,81 @@ impl Rules {
         ensures { MatchOption result (IsPlain self path.now)
             (λ cut. IsCut self path.now cut.0.now cut.1.now × IsPlain self cut.0.now) }
     {
-        for (i, b) in path.iter().enumerate() {
-            if self.is_separator(*b) {
-                return Some((&path[..i], &path[i + 1..]));
-            }
+        let at = self.first_separator(path);
+        if at == path.len() {
+            return None;
         }
-        None
+        Some((&path[..at], &path[at + 1..]))
     }
 
     /// What comes before the first separator, and what follows from there on.
     pub(crate) fn split_field(self, path: &[u8]) -> (&[u8], &[u8])
         ensures { IsField self path.now result.0.now result.1.now }
     {
-        for (i, b) in path.iter().enumerate() {
-            if self.is_separator(*b) {
-                return (&path[..i], &path[i..]);
+        path.split_at(self.first_separator(path))
+    }
+
+    /// The index of the first separator, or the length where there is none.
+    fn first_separator(self, path: &[u8]) -> usize
+        ensures within { result ≤ length path.now }
+        ensures plain { IsPlainBelow self path.now result }
+        ensures separator { result < length path.now
+            → separates self (slice_index path.now result) ≡ true }
+    {
+        // one loop for each, so that none asks at each byte which rules they are
+        match self {
+            Rules::Slash => Rules::Slash.seek_separator(path),
+            Rules::Either => Rules::Either.seek_separator(path),
+            Rules::Verbatim => Rules::Verbatim.seek_separator(path),
+        }
+    }
+
+    /// The same.
+    #[inline(always)]
+    fn seek_separator(self, path: &[u8]) -> usize
+        ensures within { result ≤ length path.now }
+        ensures plain { IsPlainBelow self path.now result }
+        ensures separator { result < length path.now
+            → separates self (slice_index path.now result) ≡ true }
+    {
+        let mut at = self.skip_lanes(path);
+        while at < path.len() && !self.is_separator(path[at]) {
+            at += 1;
+        }
+        at
+    }
+
+    /// An index up to which no byte separates: of the first separator, or one after which fewer bytes
+    /// than a vector has are left.
+    #[inline(always)]
+    fn skip_lanes(self, path: &[u8]) -> usize
+        ensures within { result ≤ length path.now }
+        ensures plain { IsPlainBelow self path.now result }
+    {
+        let mut at = 0;
+        while path.len() - at >= LANES {
+            let len = self.lanes_before(path, at);
+            at += len;
+            if len < LANES {
+                return at;
             }
         }
-        (path, b"".as_slice())
+        at
+    }
+
+    /// How many of the 16 bytes from an index on come before the first separator.
+    #[inline(always)]
+    fn lanes_before(self, path: &[u8], from: usize) -> usize
+        requires { from + 16 ≤ length path.now }
+        ensures within { result ≤ 16 }
+        ensures plain { (i : ℕ) → i < result
+            → separates self (slice_index path.now (from + i)) ≡ false }
+    {
+        match self {
+            Rules::Slash => len_before(b'/', path, from),
+            Rules::Either => lesser(len_before(b'/', path, from), len_before(b'\\', path, from)),
+            Rules::Verbatim => len_before(b'\\', path, from),
+        }
     }
 
     /// What comes before the last separator, and what comes after it; `None` where there is none.
@@ -73,6 +131,15 @@ impl Rules {
         }
         None
     }
+}
+
+/// The lesser of two lengths.
+#[inline(always)]
+fn lesser(a: usize, b: usize) -> usize
+    ensures first { result ≤ a }
+    ensures second { result ≤ b }
+{
+    if a < b { a } else { b }
 }
 
 /// Whose rules a path follows.

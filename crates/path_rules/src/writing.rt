@@ -9,9 +9,10 @@ use crate::head::Start;
 use crate::prefix::{Prefix, windows_prefix};
 use std::alloc::{AllocError, Allocator};
 
-/// A path of a prefix, a start and names.
+/// A path of a prefix, a start and names, in memory for so many bytes, or for more if it has more.
 pub(crate) fn written<A: Allocator>(
     alloc: A,
+    capacity: usize,
     separator: u8,
     prefix: &[u8],
     start: Start,
@@ -21,7 +22,8 @@ pub(crate) fn written<A: Allocator>(
     ensures { IfOk result (λ path. path.items
         ≡ prefix.now ++ after_bytes separator start doubled (map item_of names.now)) }
 {
-    let mut path = Vec::from_slice(alloc, prefix)?;
+    let mut path = Vec::with_capacity(alloc, capacity)?;
+    path.extend_from_slice(prefix)?;
     push_start(&mut path, separator, start, doubled, names)?;
     push_names(&mut path, separator, names)?;
     Ok(path)

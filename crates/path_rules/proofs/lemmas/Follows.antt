@@ -103,7 +103,7 @@ module _ (r : Rules) where
     not_dot (a ∷ b ∷ []) e = neither (nat_eq a 0x2E && nat_eq b 0x2E) (Some ParentDir) (Some (Normal (a ∷ b ∷ []))) (λ h. cc) (λ h. cc) e
     not_dot (a ∷ b ∷ c ∷ s) e = cc
 
-    still : (ps : List (List ℕ)) → without_dot (filter_map (named r) ps) ≡ filter_map (named r) ps
+    pub still : (ps : List (List ℕ)) → without_dot (filter_map (named r) ps) ≡ filter_map (named r) ps
     still [] = refl
     still (p ∷ ps) = starts_so (named r p) (filter_map (named r) ps) (not_dot p) (still ps)
 

@@ -56,7 +56,7 @@ top_grounded r (b ∷ p) Dot g = tt
 top_grounded r (b ∷ p) Nothing g = tt
 
 -- a prefix isn't empty
-some_of : (path : List ℕ) (head : Head) → IsPrefixedHead path head → head.prefix.now ≢ []
+pub some_of : (path : List ℕ) (head : Head) → IsPrefixedHead path head → head.prefix.now ≢ []
 some_of path head h e =
     let b = after_prefix path h.kind h.rest h.is in
     let same : b.before ≡ head.prefix.now = append_cancel_right b.before head.prefix.now h.rest (sym b.joined ∙ h.joined) in
@@ -68,13 +68,13 @@ no_dot_after style.Unix path head h n = absurd (n h.prefix)
 no_dot_after style.Windows path head (bare_head h) n = absurd (n h.prefix)
 no_dot_after style.Windows path head (prefixed_head h) n = λ e. no_dot h.kind h.rest (sym h.start ∙ e)
 
-dots_left : (w : whose.Style) (path : List ℕ) (head : Head) → IsHead w path head → head.prefix.now ≡ [] → dot head.rules ≡ None
+pub dots_left : (w : whose.Style) (path : List ℕ) (head : Head) → IsHead w path head → head.prefix.now ≡ [] → dot head.rules ≡ None
 dots_left style.Unix path head h e = ap dot h.rules
 dots_left style.Windows path head (bare_head h) e = ap dot h.rules
 dots_left style.Windows path head (prefixed_head h) e = absurd (some_of path head h e)
 
 -- a path whose prefix begins with `\\?\`
-verbatim_yes : (p : List ℕ) (xs : List Item) → begins_verbatim p ≡ true → AreVerbatim (prefix_items p ++ xs)
+pub verbatim_yes : (p : List ℕ) (xs : List Item) → begins_verbatim p ≡ true → AreVerbatim (prefix_items p ++ xs)
 verbatim_yes [] xs e = cc
 verbatim_yes (b ∷ p) xs e = e
 
@@ -160,7 +160,7 @@ some_bytes [] b e g h = let never : true ≡ false = sym e ∙ g in cc
 some_bytes (x ∷ xs) b e g h = cc
 
 -- nothing follows a prefix that begins with `\\?\` and has no root
-empty_rest : (kind : Kind) (rest : List ℕ) → rules_of kind ≡ rules.Verbatim → Edge rules.Either rest ⊎ ((letter : ℕ) × (kind ≡ Disk letter)) → root_of kind rest ≡ Nothing → rest ≡ []
+pub empty_rest : (kind : Kind) (rest : List ℕ) → rules_of kind ≡ rules.Verbatim → Edge rules.Either rest ⊎ ((letter : ℕ) × (kind ≡ Disk letter)) → root_of kind rest ≡ Nothing → rest ≡ []
 empty_rest kind [] v e n = refl
 empty_rest kind (c ∷ rest) v (inl e) n = let never : Root ≡ Nothing = sym (ap (λ z. if z then Root else implied_root kind) e) ∙ n in cc
 empty_rest kind (c ∷ rest) v (inr d) n = let never : rules.Either ≡ rules.Verbatim = sym (ap rules_of d.1) ∙ v in cc
@@ -199,11 +199,11 @@ module _ (w : whose.Style) (path : List ℕ) (head : Head) (are : AreComponents 
     answers = subst (λ z. AreComponents w answer (prefix_items head.prefix.now ++ (start_items head.start ++ z))) same answers;
   }
 
-  other_verbatim : begins_verbatim head.prefix.now ≡ false → ¬ (AreVerbatim (items_of head))
+  pub other_verbatim : begins_verbatim head.prefix.now ≡ false → ¬ (AreVerbatim (items_of head))
   other_verbatim e = verbatim_no head.rules head.prefix.now head.start (components_in head.rules head.body.now) e (body_spelled head.rules head.body.now)
 
   -- a path that is resolved
-  resolved_form : (names : List Item) → resolve [] (components_in head.rules head.body.now) ≡ Some (reverse names) → AreNormalOf (items_of head) (prefix_items head.prefix.now ++ (start_items head.start ++ names))
+  pub resolved_form : (names : List Item) → resolve [] (components_in head.rules head.body.now) ≡ Some (reverse names) → AreNormalOf (items_of head) (prefix_items head.prefix.now ++ (start_items head.start ++ names))
   resolved_form names e =
       let r = head.rules in
       let p = head.prefix.now in
@@ -224,19 +224,21 @@ module _ (w : whose.Style) (path : List ℕ) (head : Head) (are : AreComponents 
     answers = answers;
   }
 
-  pub resolved_none : begins_verbatim head.prefix.now ≡ false → resolve [] (components_in head.rules head.body.now) ≡ None → HasNoNormalForm w path
-  resolved_none v e items normal a f =
+  pub leads_nowhere : resolve [] (components_in head.rules head.body.now) ≡ None → (items normal : List Item) → AreComponents w path items → ¬ (AreNormalOf items normal)
+  leads_nowhere e items normal a k =
       let r = head.rules in
       let p = head.prefix.now in
       let st = head.start in
       let xs = components_in r head.body.now in
       let rb = reverse (prefix_items p ++ start_items st) in
       let same : items ≡ items_of head = one_components w path items (items_of head) a are in
-      elim (subst (λ z. IsNormalForm z normal) same f) [
-        | inl k ↦ other_verbatim v k.0
-        | inr k ↦ resolve_none r rb (top_grounded r p st (dots_left w path head h)) (top_form p st) [] xs rb (reverse normal) (body_spelled r head.body.now) tt (top_leads p st (no_dot_after w path head h)) e
-            (subst (λ z. LeadsTo z (reverse normal)) (reverse_items p st xs ∙ sym (onto_is xs rb)) k.1)
-      ]
+      resolve_none r rb (top_grounded r p st (dots_left w path head h)) (top_form p st) [] xs rb (reverse normal) (body_spelled r head.body.now) tt (top_leads p st (no_dot_after w path head h)) e
+      (subst (λ z. LeadsTo z (reverse normal)) (reverse_items p st xs ∙ sym (onto_is xs rb)) (subst (λ z. AreNormalOf z normal) same k))
+
+  pub resolved_none : begins_verbatim head.prefix.now ≡ false → resolve [] (components_in head.rules head.body.now) ≡ None → HasNoNormalForm w path
+  resolved_none v e items normal a f =
+      let same : items ≡ items_of head = one_components w path items (items_of head) a are in
+      elim f [ inl k ↦ other_verbatim v (subst AreVerbatim same k.0) | inr k ↦ leads_nowhere e items normal a k.1 ]
 
   pub names_spelled : (names : List Item) → resolve [] (components_in head.rules head.body.now) ≡ Some (reverse names) → AreSpelled head.rules names
   names_spelled names e =
@@ -251,25 +253,27 @@ module _ (w : whose.Style) (path : List ℕ) (head : Head) (are : AreComponents 
 
   -- a path that is cleaned
   module _ (rooted : Bool) (down : rooted ≡ true → head.start ≡ Root) (back : head.start ≡ Root → rooted ≡ true) (names : List Item) (e : reverse names ≡ cleaned rooted [] (components_in head.rules head.body.now)) where
-    pub cleaned_clean : (shown : List Item) (answer : List ℕ) → begins_verbatim head.prefix.now ≡ false → IsShielded w (or_dot (prefix_items head.prefix.now ++ (cleaned_start head.start ++ names))) shown → AreComponents w answer shown → IsCleaned w path answer
-    cleaned_clean shown answer v shield answers =
+    pub cleaned_leads : CleansTo (reverse (items_of head)) (reverse (prefix_items head.prefix.now ++ (cleaned_start head.start ++ names)))
+    cleaned_leads =
         let r = head.rules in
         let p = head.prefix.now in
         let st = head.start in
         let xs = components_in r head.body.now in
         let done = reverse (prefix_items p ++ start_items st) in
         let rb = reverse (prefix_items p ++ cleaned_start st) in
-        let ground = top_grounded r p st (dots_left w path head h) in
         let q = cleaned_cleans r rb rooted (clean_stays rooted p st down back) [] xs done (body_spelled r head.body.now) tt (clean_top p st (no_dot_after w path head h)) in
-        record {
-          items = items_of head;
-          clean = or_dot (prefix_items p ++ (cleaned_start st ++ names));
-          shown = shown;
-          are = are;
-          form = inr (other_verbatim v, (prefix_items p ++ (cleaned_start st ++ names), (subst (λ z. CleansTo z (reverse (prefix_items p ++ (cleaned_start st ++ names)))) (onto_is xs done ∙ sym (reverse_items p st xs)) (subst (CleansTo (onto xs done)) (sym (ap (λ z. z ++ rb) e) ∙ sym (reverse_clean p st names)) q), refl)));
-          shielded = shield;
-          answers = answers;
-        }
+        subst (λ z. CleansTo z (reverse (prefix_items p ++ (cleaned_start st ++ names)))) (onto_is xs done ∙ sym (reverse_items p st xs)) (subst (CleansTo (onto xs done)) (sym (ap (λ z. z ++ rb) e) ∙ sym (reverse_clean p st names)) q)
+
+    pub cleaned_clean : (shown : List Item) (answer : List ℕ) → begins_verbatim head.prefix.now ≡ false → IsShielded w (or_dot (prefix_items head.prefix.now ++ (cleaned_start head.start ++ names))) shown → AreComponents w answer shown → IsCleaned w path answer
+    cleaned_clean shown answer v shield answers = record {
+      items = items_of head;
+      clean = or_dot (prefix_items head.prefix.now ++ (cleaned_start head.start ++ names));
+      shown = shown;
+      are = are;
+      form = inr (other_verbatim v, (prefix_items head.prefix.now ++ (cleaned_start head.start ++ names), (cleaned_leads, refl)));
+      shielded = shield;
+      answers = answers;
+    }
 
     pub cleaned_names_spelled : AreSpelled head.rules names
     cleaned_names_spelled = from_reverse head.rules names (subst (AreSpelled head.rules) (sym e) (cleaned_spelled head.rules [] rooted [] (components_in head.rules head.body.now) (body_spelled head.rules head.body.now) tt))

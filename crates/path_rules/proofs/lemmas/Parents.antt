@@ -7,7 +7,8 @@ use Rattle.path_rules.specs.declared.head.Start.{Start}
 use Rattle.path_rules.specs.declared.head.Start.TheVariants.{Root, Dot, Nothing}
 use Rattle.path_rules.specs.declared.head.Head.{Head}
 use Rattle.path_rules.specs.Separators.{separates, Edge}
-use Rattle.path_rules.specs.Component.{Item, Prefix, RootDir, CurDir, components_in}
+use Rattle.path_rules.specs.Component.{Item, Prefix, RootDir, CurDir, components_in, EndsNamed}
+use Rattle.path_rules.specs.Body.{HasBareBody, HasPrefixedBody, HasBody, EndsTight}
 use Rattle.path_rules.specs.Heads.{prefix_items, start_items, items_of}
 use Rattle.path_rules.specs.Prefix.{Kind, Verbatim, VerbatimUnc, VerbatimDisk, Device, Unc, Disk, rules_of}
 use Rattle.path_rules.specs.Components.{start_of, after_start, implied_root, root_of, after_root, plain_components, IsStartOf, prefixed, bare}
@@ -85,7 +86,7 @@ cut_root r kind (c ∷ u) t h = cases (separates rules.Either c) refl h
             }
 
 -- what is left of a prefix
-raw_drive : (s raw rest : List ℕ) → s ≡ raw ++ rest → Edge rules.Either rest ⊎ ((letter : ℕ) × (s ≡ letter ∷ 0x3A ∷ rest)) → Edge rules.Either rest ⊎ ((d : ℕ) × (raw ≡ d ∷ 0x3A ∷ []))
+pub raw_drive : (s raw rest : List ℕ) → s ≡ raw ++ rest → Edge rules.Either rest ⊎ ((letter : ℕ) × (s ≡ letter ∷ 0x3A ∷ rest)) → Edge rules.Either rest ⊎ ((d : ℕ) × (raw ≡ d ∷ 0x3A ∷ []))
 raw_drive s raw rest j (inl e) = inl e
 raw_drive s raw rest j (inr k) = inr (k.0, append_cancel_right raw (k.0 ∷ 0x3A ∷ []) rest (sym j ∙ k.1))
 
@@ -104,6 +105,7 @@ pub record Shorter (w : whose.Style) (path : List ℕ) (head : Head) (rest : Lis
   pub listed : items ≡ first ++ components_in head.rules rest
   pub are : AreComponents w before items
   pub whole : AreComponents w path (items ++ xs)
+  pub has : HasBody w before head.rules rest
 
 -- its parts, where the path has no prefix
 record Plain (r : Rules) (path : List ℕ) (head : Head) (rest : List ℕ) (xs : List Item) : Type 0 where
@@ -121,6 +123,7 @@ record Plain (r : Rules) (path : List ℕ) (head : Head) (rest : List ℕ) (xs :
   listed : items ≡ first ++ components_in head.rules rest
   are : items ≡ plain_components r before
   whole : items ++ xs ≡ plain_components r path
+  kept : after_start (start_of r before) before ≡ rest
 
 module _ (path : List ℕ) (head : Head) (rest : List ℕ) (xs : List Item) (ends : Ends head.rules head.body.now rest) (named : components_in head.rules head.body.now ≡ components_in head.rules rest ++ xs) where
   plain_shorter : (r : Rules) → head.rules ≡ r → IsStartOf r path head.start head.body.now → Plain r path head rest xs
@@ -146,6 +149,7 @@ module _ (path : List ℕ) (head : Head) (rest : List ℕ) (xs : List Item) (end
         listed = ap (λ y. start_items s ++ components_in y rest) (sym k);
         items = start_items s ++ components_in r rest;
         are = sym q.items;
+        kept = q.kept;
         whole =
             append_assoc (start_items s) (components_in r rest) xs ∙ ap (λ y. start_items s ++ y) (sym now)
             ∙ ap (λ y. start_items s ++ components_in r y) b ∙ ap (λ y. start_items s ++ components_in r (after_start y path)) e;
@@ -154,7 +158,7 @@ module _ (path : List ℕ) (head : Head) (rest : List ℕ) (xs : List Item) (end
   of_unix : IsUnixHead path head → Shorter style.Unix path head rest xs
   of_unix h =
       let q = plain_shorter rules.Slash h.rules h.start in
-      record { before = q.before; more = q.more; joined = q.joined; beside = q.beside; long = q.long; short = q.short; front = q.front; tail = q.tail; items = q.items; first = q.first; listed = q.listed; are = q.are; whole = q.whole }
+      record { before = q.before; more = q.more; joined = q.joined; beside = q.beside; long = q.long; short = q.short; front = q.front; tail = q.tail; items = q.items; first = q.first; listed = q.listed; are = q.are; whole = q.whole; has = record { rules = h.rules; is = sym q.kept } }
 
   of_bare : IsBareHead path head → Shorter style.Windows path head rest xs
   of_bare h =
@@ -172,6 +176,7 @@ module _ (path : List ℕ) (head : Head) (rest : List ℕ) (xs : List Item) (end
         first = q.first;
         listed = q.listed;
         are = bare (record { none = none_by_cut path q.before q.more q.joined q.cut h.none; are = q.are });
+        has = inr (none_by_cut path q.before q.more q.joined q.cut h.none, record { rules = h.rules; is = sym q.kept });
         whole = bare (record { none = h.none; are = q.whole });
       }
 
@@ -197,6 +202,7 @@ module _ (path : List ℕ) (head : Head) (rest : List ℕ) (xs : List Item) (end
         items = Prefix p.before ∷ (roots ++ components_in (rules_of k) rest);
         first = Prefix p.before ∷ roots;
         listed = ap (λ y. Prefix p.before ∷ (roots ++ components_in y rest)) (sym r);
+        has = inl (record { kind = k; rest = c.before; prefix = p.kept; rules = h.rules; is = sym c.body });
         are = prefixed (record {
           kind = k;
           raw = p.before;
@@ -241,8 +247,8 @@ module _ (path : List ℕ) (head : Head) (rest : List ℕ) (xs : List Item) (end
   pub body_inside : (w : whose.Style) → IsHead w path head → length head.body.now ≤ length path
   body_inside w h = (shorter_of w h).short
 
-pub is_parent : (path : List ℕ) (head : Head) (rest : List ℕ) (x : Item) (ends : Ends head.rules head.body.now rest) (named : components_in head.rules head.body.now ≡ components_in head.rules rest ++ x ∷ []) (w : whose.Style) → IsHead w path head → IsBelow x → IsParent w path (take (length path - length head.body.now + length rest) path)
-is_parent path head rest x ends named w h low =
+pub is_parent : (path : List ℕ) (head : Head) (rest : List ℕ) (x : Item) (ends : Ends head.rules head.body.now rest) (named : components_in head.rules head.body.now ≡ components_in head.rules rest ++ x ∷ []) (w : whose.Style) → IsHead w path head → IsBelow x → EndsNamed head.rules rest → IsParent w path (take (length path - length head.body.now + length rest) path)
+is_parent path head rest x ends named w h low tight =
     let f = shorter_of path head rest (x ∷ []) ends named w h in
     let n = length path - length head.body.now + length rest in
     let long : length f.before ≡ n = let l = f.long in let s = f.short in omega arith in
@@ -256,6 +262,7 @@ is_parent path head rest x ends named w h low =
       are = subst (λ y. AreComponents w y f.items) (sym before) f.are;
       whole = f.whole;
       below = low;
+      tight = subst (EndsTight w) (sym before) (record { rules = head.rules; body = rest; has = f.has; named = tight });
     }
 
 -- a path that is `.` alone
@@ -293,6 +300,13 @@ nothing_of : (w : whose.Style) → AreComponents w [] []
 nothing_of style.Unix = refl
 nothing_of style.Windows = bare (record { none = λ k rest f. f; are = refl })
 
+pub empty_tight : (w : whose.Style) (none : List ℕ) → none ≡ [] → EndsTight w none
+empty_tight w none n = subst (EndsTight w) (sym n) (at w)
+  where
+    at : (w : whose.Style) → EndsTight w []
+    at style.Unix = record { rules = rules.Slash; body = []; has = record { rules = refl; is = refl }; named = λ parts part some f. absurd (some refl) }
+    at style.Windows = record { rules = rules.Either; body = []; has = inr (λ k rest f. f, record { rules = refl; is = refl }); named = λ parts part some f. absurd (some refl) }
+
 dot_whole : (w : whose.Style) (path : List ℕ) (head : Head) → head.start ≡ Dot → components_in head.rules head.body.now ≡ [] → IsHead w path head → AreComponents w path (CurDir ∷ [])
 dot_whole style.Unix path head d empty h = no_body rules.Slash path head.body.now head.start d h.start (subst (λ y. components_in y head.body.now ≡ []) h.rules empty)
 dot_whole style.Windows path head d empty (prefixed_head h) = absurd (no_dot h.kind h.rest (sym h.start ∙ d))
@@ -309,6 +323,7 @@ parent_of_dot w path none head n d empty h = record {
   are = subst (λ y. AreComponents w y []) (sym n) (nothing_of w);
   whole = dot_whole w path head d empty h;
   below = tt;
+  tight = empty_tight w none n;
 }
 
 -- a path of a prefix and a root alone, or of nothing

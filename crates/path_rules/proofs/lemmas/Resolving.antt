@@ -4,7 +4,7 @@ use Rattle.std.proofs.lemmas.List.{reverse-append, reverse-reverse}
 use Rattle.std.specs.List.{AllByRecursion}
 use Rattle.path_rules.specs.declared.rules.Rules.{Rules}
 use Rattle.path_rules.specs.Component.{Item, Prefix, RootDir, CurDir, ParentDir, Normal, dot}
-use Rattle.path_rules.specs.Normal.{LeadsTo, nowhere, prefix, bare_root, root, start, here, name, up}
+use Rattle.path_rules.specs.Normal.{AreNames, LeadsTo, nowhere, prefix, bare_root, root, start, here, name, up}
 use Rattle.path_rules.specs.Cleaned as clean
 use Rattle.path_rules.specs.Cleaned.{CleansTo, StaysAfter}
 use Rattle.path_rules.specs.Spelled.{resolve, go_up, cleaned, IsSpelled, AreSpelled}
@@ -18,15 +18,6 @@ onto (x ∷ xs) d = onto xs (x ∷ d)
 pub onto_is : (xs d : List Item) → onto xs d ≡ reverse xs ++ d
 onto_is [] d = refl
 onto_is (x ∷ xs) d = onto_is xs (x ∷ d) ∙ sym (append_assoc (reverse xs) (x ∷ []) d) ∙ ap (λ z. z ++ d) (sym (onto_is xs (x ∷ [])))
-
--- names alone
-abbrev pub AreNames : List Item → Type 0
-AreNames [] = Unit {0}
-AreNames (Prefix s ∷ xs) = ⊥
-AreNames (RootDir ∷ xs) = ⊥
-AreNames (CurDir ∷ xs) = ⊥
-AreNames (ParentDir ∷ xs) = ⊥
-AreNames (Normal s ∷ xs) = AreNames xs
 
 -- the first is no name
 abbrev pub IsTopForm : List Item → Type 0
@@ -79,13 +70,13 @@ Stays true xs = (ys : List Item) × (xs ≡ RootDir ∷ ys)
 Stays false xs = StaysAfter xs
 
 module _ (r : Rules) where
-  no_prefix : (s : List ℕ) → IsSpelled r (Prefix s) → ⊥
+  pub no_prefix : (s : List ℕ) → IsSpelled r (Prefix s) → ⊥
   no_prefix s h = let never : None ≡ Some (Prefix s) = h.names in cc
 
-  no_root : IsSpelled r RootDir → ⊥
+  pub no_root : IsSpelled r RootDir → ⊥
   no_root h = let never : None ≡ Some RootDir = h.names in cc
 
-  no_dot : dot r ≡ None → IsSpelled r CurDir → ⊥
+  pub no_dot : dot r ≡ None → IsSpelled r CurDir → ⊥
   no_dot d h = let never : None ≡ Some CurDir = sym d ∙ h.names in cc
 
 module _ (r : Rules) (rb : List Item) (ground : Grounded r rb) where

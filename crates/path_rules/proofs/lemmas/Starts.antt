@@ -105,6 +105,7 @@ module _ (r : Rules) where
     pub front : List ℕ
     pub tail : before ≡ front ++ t
     pub items : plain_components r before ≡ start_items (start_of r s) ++ components_in r t
+    pub kept : after_start (start_of r before) before ≡ t
 
   pub items_at : (before : List ℕ) (st : Start) → start_of r before ≡ st → plain_components r before ≡ start_items st ++ components_in r (after_start st before)
   items_at before st e = ap (λ x. start_items x ++ components_in r (after_start x before)) e
@@ -124,6 +125,7 @@ module _ (r : Rules) where
     joined = ap (λ x. b ∷ x) j;
     long = omega arith;
     items = items_at (b ∷ t) st f ∙ ap (λ x. start_items st ++ components_in r x) k ∙ ap (λ x. start_items x ++ components_in r t) (sym e);
+    kept = ap (λ x. after_start x (b ∷ t)) f ∙ k;
   }
 
   pub bodies : (st : Start) (s : List ℕ) → st ≡ start_of r s → (t : List ℕ) → Ends (after_start st s) t → HasBody s (after_start st s) t
@@ -137,6 +139,7 @@ module _ (r : Rules) where
     joined = sym (ap (λ x. x ++ s) n);
     long = omega arith;
     items = ap (plain_components r) n ∙ sym (ap (λ x. start_items x ++ components_in r t) (sym e) ∙ ap (components_in r) n);
+    kept = ap (λ x. after_start (start_of r x) x) n ∙ sym n;
   }
   bodies Nothing s e [] (inr f) = record {
     before = [];
@@ -148,6 +151,7 @@ module _ (r : Rules) where
     joined = refl;
     long = omega arith;
     items = ap (λ x. start_items x ++ components_in r []) e;
+    kept = refl;
   }
   bodies Nothing s e (b ∷ t) (inr f) = record {
     before = b ∷ t;
@@ -161,6 +165,9 @@ module _ (r : Rules) where
     items =
         let same : start_of r (b ∷ t) ≡ Nothing = sym (same_start b t f.more f.edge) ∙ ap (start_of r) (sym f.joined) ∙ sym e in
         items_at (b ∷ t) Nothing same ∙ ap (λ x. start_items x ++ components_in r (b ∷ t)) e;
+    kept =
+        let same : start_of r (b ∷ t) ≡ Nothing = sym (same_start b t f.more f.edge) ∙ ap (start_of r) (sym f.joined) ∙ sym e in
+        ap (λ x. after_start x (b ∷ t)) same;
   }
   bodies Root [] e t h = let never : Root ≡ Nothing = e in cc
   bodies Root (b ∷ u) e t (inl n) = with_first b u t u Root (sym (ap (λ x. x ++ u) n)) refl (sym e) (root_stays b u t (sym e)) (inl (subst (λ x. Tiny (b ∷ x)) (sym n) tt)) (after_ascii [] b (ap (λ x. b ∷ x) n) (root_ascii b u (sym e)))

@@ -12,7 +12,7 @@ use Rattle.path_rules.proofs.lemmas.Keeps.{Shape, shape, two_bytes}
 Some2 : (Kind → List ℕ → Type 0) → Type 0
 Some2 P = (k : Kind) × ((rest : List ℕ) × P k rest)
 
-some_field : (r : Rules) (s : List ℕ) → (f : List ℕ) × ((t : List ℕ) × IsField r s f t)
+pub some_field : (r : Rules) (s : List ℕ) → (f : List ℕ) × ((t : List ℕ) × IsField r s f t)
 some_field r [] = ([], ([], record { joined = refl; plain = λ k d l. absurd (omega arith); edge = tt }))
 some_field r (b ∷ s) = cases (separates r b) refl (some_field r s)
   where

@@ -37,21 +37,21 @@ module _ (r : Rules) (c : ℕ) (sep : separates r c ≡ true) (d : dot r ≡ Non
   plain_written Nothing names h =
       let s = joined_names c names in items_at r s Nothing (names_start r c sep d names h) ∙ spelled_again r c sep names h
 
-slash_written : (st : Start) (names : List Item) → AreSpelled rules.Slash names → start_items st ++ names ≡ plain_components rules.Slash (after_bytes 0x2F st false names)
+pub slash_written : (st : Start) (names : List Item) → AreSpelled rules.Slash names → start_items st ++ names ≡ plain_components rules.Slash (after_bytes 0x2F st false names)
 slash_written st names h = sym (plain_written rules.Slash 0x2F refl refl refl (λ s. refl) st names h)
 
 either_written : (st : Start) (names : List Item) → AreSpelled rules.Either names → start_items st ++ names ≡ plain_components rules.Either (after_bytes 0x5C st false names)
 either_written st names h = sym (plain_written rules.Either 0x5C refl refl refl (λ s. refl) st names h)
 
 -- what is written has no prefix
-no_lead : (s : List ℕ) → lead_of s ≡ NoLead → (k : Kind) (rest : List ℕ) → ¬ (IsPrefixOf s k rest)
+pub no_lead : (s : List ℕ) → lead_of s ≡ NoLead → (k : Kind) (rest : List ℕ) → ¬ (IsPrefixOf s k rest)
 no_lead s e k rest h = subst (λ l. IsPrefixBy l k rest) e h
 
 and_false : (p : Bool) → (p && false) ≡ false
 and_false true = refl
 and_false false = refl
 
-second_lead : (a b : ℕ) (s : List ℕ) → separates rules.Either a ≡ false → lead_of (a ∷ b ∷ s) ≡ (if is_letter a && nat_eq b 0x3A then DriveLead a s else NoLead)
+pub second_lead : (a b : ℕ) (s : List ℕ) → separates rules.Either a ≡ false → lead_of (a ∷ b ∷ s) ≡ (if is_letter a && nat_eq b 0x3A then DriveLead a s else NoLead)
 second_lead a b s e = ap (λ p. if p && separates rules.Either b then double_lead a b s else (if is_letter a && nat_eq b 0x3A then DriveLead a s else NoLead)) e
 
 root_lead : (b : ℕ) (s : List ℕ) → separates rules.Either b ≡ false → lead_of (0x5C ∷ b ∷ s) ≡ NoLead
@@ -94,7 +94,7 @@ bare_lead Nothing (x ∷ xs) h n =
     let f = has_first rules.Either x h.0 in
     ap (λ z. lead_of (z ++ more_names 0x5C xs)) f.spells ∙ name_lead x xs f.first f.later f.spells f.plain (n refl)
 
-bare_written : (st : Start) (names : List Item) → AreSpelled rules.Either names → (st ≡ Nothing → ¬ (BeginsAsPrefix style.Windows names)) → AreWindowsComponents (after_bytes 0x5C st false names) (start_items st ++ names)
+pub bare_written : (st : Start) (names : List Item) → AreSpelled rules.Either names → (st ≡ Nothing → ¬ (BeginsAsPrefix style.Windows names)) → AreWindowsComponents (after_bytes 0x5C st false names) (start_items st ++ names)
 bare_written st names h n = bare (record { none = no_lead (after_bytes 0x5C st false names) (bare_lead st names h n); are = either_written st names h })
 
 -- after a prefix

@@ -25,7 +25,7 @@ returns-in-Some c =
     let rest = c.trimmed-rest.result.now in
     let x = item_of c.in-Some.field-0-1 in
     subst (IsParent c.args.style c.args.path.now) (sym c.split_at.ensures.front)
-    (is_parent c.args.path.now h rest x (up_to_again h.rules h.body.now c.in-Some.before.now rest c.in-Some.ensures.before c.trimmed-rest.ensures.before) (c.in-Some.ensures.items ∙ ap (λ y. y ++ x ∷ []) c.trimmed-rest.ensures.items) c.args.style c.head_of-head.ensures.parts c.in-Some.ensures.below)
+    (is_parent c.args.path.now h rest x (up_to_again h.rules h.body.now c.in-Some.before.now rest c.in-Some.ensures.before c.trimmed-rest.ensures.before) (c.in-Some.ensures.items ∙ ap (λ y. y ++ x ∷ []) c.trimmed-rest.ensures.items) c.args.style c.head_of-head.ensures.parts c.in-Some.ensures.below c.trimmed-rest.ensures.named)
 
 pub returns-in-Dot : goal.returns-in-Dot
 returns-in-Dot c = parent_of_dot c.args.style c.args.path.now c.as_slice.result.now c.head_of-head.result c.as_slice.ensures c.in-Dot.is c.in_default.ensures.items c.head_of-head.ensures.parts

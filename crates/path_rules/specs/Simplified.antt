@@ -1,0 +1,44 @@
+-- A path without `\\?\`, where that names the same path (the crate dunce's `simplified`).
+use Rattle.std.specs.Prelude.{◌≡◌, ◌⊎◌, ℕ, ◌+◌, ◌≤◌, nat_lt, if◌then◌else◌, List, [], ◌∷◌}
+use Rattle.std.specs.List.{AllByRecursion}
+use Rattle.path_rules.specs.declared.rules.Style.{Style}
+use Rattle.path_rules.specs.declared.rules.Style.TheVariants as style
+use Rattle.path_rules.specs.Component.{Item, Prefix, RootDir, CurDir, ParentDir, Normal}
+use Rattle.path_rules.specs.Components.{AreWindowsComponents}
+use Rattle.path_rules.specs.Prefix.{VerbatimDisk, IsPrefixOf}
+use Rattle.path_rules.specs.Reserved.{IsReserved}
+
+-- how many UTF-16 code units a byte of UTF-8 or WTF-8 begins
+abbrev pub wide_units_of : ℕ → ℕ
+wide_units_of b = if nat_lt b 0x80 then 1 else (if nat_lt b 0xC0 then 0 else (if nat_lt b 0xF0 then 1 else 2))
+
+-- how many UTF-16 code units such bytes have
+abbrev pub wide_len : List ℕ → ℕ
+wide_len [] = 0
+wide_len (b ∷ s) = wide_units_of b + wide_len s
+
+-- a name of at most 255 code units that Windows doesn't keep for itself; neither `.` nor `..`
+abbrev pub IsPlainItem : Item → Type 0
+IsPlainItem (Prefix s) = Unit {0}
+IsPlainItem RootDir = Unit {0}
+IsPlainItem CurDir = ⊥
+IsPlainItem ParentDir = ⊥
+IsPlainItem (Normal s) = ¬ (IsReserved s) × (wide_len s ≤ 255)
+
+-- the path is `\\?\` and t, a drive and plain names, and has at most 260 code units
+pub record IsSimplifiable (path t : List ℕ) : Type 0 where
+  pub joined : path ≡ 0x5C ∷ 0x5C ∷ 0x3F ∷ 0x5C ∷ t
+  pub letter : ℕ
+  pub rest : List ℕ
+  pub prefix : IsPrefixOf path (VerbatimDisk letter) rest
+  pub items : List Item
+  pub are : AreWindowsComponents path items
+  pub plain : AllByRecursion IsPlainItem items
+  pub short : wide_len path ≤ 260
+
+abbrev pub IsWindowsSimplified : List ℕ → List ℕ → Type 0
+IsWindowsSimplified path t = IsSimplifiable path t ⊎ (((u : List ℕ) → ¬ (IsSimplifiable path u)) × (t ≡ path))
+
+abbrev pub IsSimplified : Style → List ℕ → List ℕ → Type 0
+IsSimplified style.Unix path t = t ≡ path
+IsSimplified style.Windows path t = IsWindowsSimplified path t

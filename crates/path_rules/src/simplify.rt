@@ -1,0 +1,144 @@
+//! Paths without `\\?\`.
+ghost use Rattle.std.specs.Prelude.{◌↔◌, ◌≡◌, ◌≤◌, ◌⊎◌, ℕ, List, IsTrue};
+ghost use Rattle.std.specs.List.{AllByRecursion};
+ghost use Rattle.path_rules.specs.Component.{Normal};
+ghost use Rattle.path_rules.specs.Views.{item_of};
+ghost use Rattle.path_rules.specs.Prefix.{VerbatimDisk, IsPrefixOf};
+ghost use Rattle.path_rules.specs.Simplified.{IsSimplified, IsWindowsSimplified, IsSimplifiable, IsPlainItem, wide_len, wide_units_of};
+
+use crate::component::Component;
+use crate::components::Components;
+use crate::normal::is_verbatim;
+use crate::prefix::{Prefix, windows_prefix};
+use crate::reserved::is_reserved;
+use crate::rules::Style;
+
+/// The path without `\\?\`, if that names the same path (the crate dunce's `simplified`); any other
+/// path is answered as it is, and so is each path of Unix.
+///
+/// It is taken off before a drive, if no component is `.` or `..`, none is reserved
+/// ([`crate::is_reserved`]) or longer than 255 UTF-16 code units, and the path isn't longer than
+/// 260. A name with a lone surrogate may be among them.
+///
+/// ```
+/// use path_rules::{Style, simplified};
+///
+/// assert_eq!(rt; simplified(Style::Windows, br"\\?\C:\a\b"), br"C:\a\b".as_slice());
+/// assert_eq!(rt; simplified(Style::Windows, br"\\?\C:\a\.."), br"\\?\C:\a\..".as_slice());
+/// assert_eq!(rt; simplified(Style::Windows, br"\\?\C:\con"), br"\\?\C:\con".as_slice());
+/// ```
+pub fn simplified(style: Style, path: &[u8]) -> &[u8]
+    ensures { IsSimplified style path.now result.now }
+{
+    match style {
+        Style::Unix => path,
+        Style::Windows => windows_simplified(path),
+    }
+}
+
+/// The Windows path without `\\?\`, if that names the same path.
+fn windows_simplified(path: &[u8]) -> &[u8]
+    ensures { IsWindowsSimplified path.now result.now }
+{
+    if !is_verbatim(path) {
+        return path;
+    }
+    if !has_verbatim_drive(path) {
+        return path;
+    }
+    if !fits(path, 260) {
+        return path;
+    }
+    if !are_plain(Components::new(Style::Windows, path)) {
+        return path;
+    }
+    let (_, rest) = path.split_at(4);
+    rest
+}
+
+/// Whether the path begins with a drive after `\\?\`.
+fn has_verbatim_drive(path: &[u8]) -> bool
+    ensures { IsTrue result
+        ↔ ((letter : ℕ) × ((rest : List ℕ) × IsPrefixOf path.now (VerbatimDisk letter) rest)) }
+{
+    match windows_prefix(path) {
+        Some((prefix, _)) => match prefix {
+            Prefix::VerbatimDisk(_) => true,
+            _ => false,
+        },
+        None => false,
+    }
+}
+
+/// Whether each component that is left is plain.
+fn are_plain(items: Components<'_>) -> bool
+    ensures { IsTrue result ↔ AllByRecursion IsPlainItem items.entry }
+{
+    let mut left = items;
+    loop {
+        let Some(item) = left.next() else {
+            return true;
+        };
+        if !is_plain(item) {
+            return false;
+        }
+    }
+}
+
+/// Whether a component is the same without `\\?\`.
+fn is_plain(item: Component<&[u8]>) -> bool
+    ensures { IsTrue result ↔ IsPlainItem (item_of item.entry) }
+{
+    match item {
+        Component::Prefix(_) => true,
+        Component::RootDir => true,
+        Component::CurDir => false,
+        Component::ParentDir => false,
+        Component::Normal(name) => is_plain_name(name),
+    }
+}
+
+/// Whether a name isn't reserved, and not too long.
+fn is_plain_name(name: &[u8]) -> bool
+    ensures { IsTrue result ↔ IsPlainItem (Normal name.now) }
+{
+    if is_reserved(name) {
+        return false;
+    }
+    fits(name, 255)
+}
+
+/// Whether bytes have at most so many UTF-16 code units.
+fn fits(bytes: &[u8], most: usize) -> bool
+    ensures { IsTrue result ↔ (wide_len bytes.now ≤ most) }
+{
+    let mut left = most;
+    let mut rest = bytes;
+    loop {
+        let Some((byte, more)) = rest.split_first() else {
+            return true;
+        };
+        let units = wide_units(*byte);
+        if units > left {
+            return false;
+        }
+        left -= units;
+        rest = more;
+    }
+}
+
+/// How many UTF-16 code units a byte begins.
+#[inline(always)]
+fn wide_units(byte: u8) -> usize
+    ensures { result ≡ wide_units_of byte }
+{
+    if byte < 0x80 {
+        1
+    } else if byte < 0xC0 {
+        0
+    } else if byte < 0xF0 {
+        1
+    } else {
+        2
+    }
+}
