@@ -6,4 +6,7 @@ pub mod Parents
 pub mod PrefixParts
 pub mod FromParts
 pub mod NormalParts
+pub mod CheckedParts
 pub mod Joined
+pub mod RelativeParts
+pub mod Simple

@@ -3,3 +3,5 @@ pub mod Views
 pub mod Names
 pub mod Prefixes
 pub mod Ancestors
+pub mod Converted
+pub mod Keys

@@ -6,19 +6,28 @@ ghost use Rattle.path_rules.specs.FileName.{IsNamed, IsExtensionText, IsExtensio
 ghost use Rattle.path_rules.specs.Components.{AreComponents};
 ghost use Rattle.path_rules.specs.Parent.{IsParent, HasNoParent, HasFileName, HasNoFileName};
 ghost use Rattle.path_rules.specs.Root.{HasRoot, IsAbsolute};
+ghost use Rattle.path_rules.specs.Component.{Item};
 ghost use Rattle.path_rules.specs.Compare.{StartsWith, EndsWith};
+ghost use Rattle.path_rules.specs.Strip.{IsStripped};
+ghost use Rattle.path_rules.specs.Simplified.{IsSimplified};
 ghost use Rattle.path_rules.specs.StyleRules.{rules_of_style};
 ghost use Rattle.path_rules.specs.Trailing.{EndsWithSeparator, TrimsTrailing};
 ghost use Rattle.path_rules.specs.Normalized.{IsNormalized, IsNormalizeFault};
 ghost use Rattle.path_rules.specs.Cleaned.{IsCleaned};
+ghost use Rattle.path_rules.specs.Checked.{IsCheckedJoin, IsJoinFault};
+ghost use Rattle.path_rules.specs.Relative.{IsRelativeFrom};
+ghost use Rattle.path_rules.specs.Restyled.{IsRestyled};
+ghost use Rattle.os_path.specs.Converted.{IsConvertFault};
+ghost use Rattle.std.specs.Option.{option_map};
 ghost use Rattle.os_path.specs.Prefixes.{os_kind_of, HasPrefix, HasNoPrefix};
 ghost use Rattle.os_path.specs.Names.{HasFileStem, HasFilePrefix, HasExtension, LacksExtension};
 
 use crate::ancestors::Ancestors;
 use crate::components::Components;
 use crate::style::PathStyle;
-use crate::{built, normal, parts, prefixes};
-use path_rules::{NormalizeError, Prefix};
+use crate::styles::ConvertError;
+use crate::{built, checked, normal, parts, prefixes, relative, simplify, stripped, styles};
+use path_rules::{JoinError, NormalizeError, Prefix};
 use platform_str::{OsStr, Path, PathBuf};
 use std::alloc::{AllocError, Allocator};
 
@@ -282,6 +291,35 @@ pub trait PathExt<'a>: Sized + Copy {
         )
     }
 
+    /// The rest of the path after the components of the base (std's `Path::strip_prefix`); `None` if
+    /// the path doesn't start with the base ([`PathExt::starts_with`]).
+    ///
+    /// The rest is a part of the path's bytes, from its next component to the end of its last. It
+    /// begins with the root if the base is a prefix alone, as `C:`. The base joined with the rest
+    /// has the path's components, under the conditions of `path_rules::laws::strip_joined`.
+    ///
+    /// ```
+    /// use os_path::PathExt;
+    /// use platform_str::{OsStr, Path, Unix};
+    ///
+    /// let path = Path::<Unix>::new(OsStr::new("/usr//lib/a/"));
+    /// let rest = path.strip_prefix(Path::new(OsStr::new("/usr/")));
+    /// assert!(rt; rest.is_some_and(|rest| rest.as_os_str() == OsStr::new("lib/a")));
+    /// assert!(rt; path.strip_prefix(Path::new(OsStr::new("/us"))).is_none());
+    /// ```
+    final fn strip_prefix(self, base: Path<'_, Self::Platform>) -> Option<Path<'a, Self::Platform>>
+        ensures { MatchOption result
+            (¬ (StartsWith Self.Platform.follows (bytes_of self) (path_bytes base.entry)))
+            (λ rest. (more : List Item) × IsStripped Self.Platform.follows (bytes_of self)
+            (path_bytes base.entry) (path_bytes rest) more) }
+    {
+        let path = OsStr::from_encoded_bytes_unchecked(self.path_bytes());
+        match stripped::strip_prefix(path, base.as_os_str()) {
+            Some(rest) => Some(Path::new(rest)),
+            None => None,
+        }
+    }
+
     // Separators at the end.
 
     /// Whether the last byte is a separator (std's `Path::has_trailing_sep`).
@@ -315,6 +353,28 @@ pub trait PathExt<'a>: Sized + Copy {
     }
 
     // Normal forms.
+
+    /// The path without `\\?\`, if that names the same path (the crate dunce's `simplified`); any
+    /// other path is answered as it is, and so is each path of another platform than Windows.
+    ///
+    /// It is taken off before a drive, if no component is `.` or `..`, none is reserved
+    /// (`path_rules::is_reserved`) or longer than 255 UTF-16 code units, and the path isn't longer
+    /// than 260. A name with a lone surrogate may be among them.
+    ///
+    /// ```
+    /// use os_path::PathExt;
+    /// use platform_str::{OsStr, Path, Windows};
+    ///
+    /// let path = Path::<Windows>::new(OsStr::new("\\\\?\\C:\\a\\b"));
+    /// assert!(rt; path.simplified().as_os_str() == OsStr::new("C:\\a\\b"));
+    /// let path = Path::<Windows>::new(OsStr::new("\\\\?\\C:\\con"));
+    /// assert!(rt; path.simplified().as_os_str() == path.as_os_str());
+    /// ```
+    final fn simplified(self) -> Path<'a, Self::Platform>
+        ensures { IsSimplified Self.Platform.follows (bytes_of self) (path_bytes result) }
+    {
+        Path::new(simplify::simplified(OsStr::from_encoded_bytes_unchecked(self.path_bytes())))
+    }
 
     /// The normal form of the path: the path without `.`, and without each `..` and the name
     /// before it (std's `Path::normalize_lexically`), in new memory. It names the same file where
@@ -419,6 +479,122 @@ pub trait PathExt<'a>: Sized + Copy {
     {
         let base = OsStr::from_encoded_bytes_unchecked(self.path_bytes());
         built::join(alloc, base, path.as_os_str())
+    }
+
+    /// A path below this one, in new memory, for names that come out of an archive or a request
+    /// (typed-path's `join_checked`): the components of this path, and after them the names of the
+    /// other, in which `.` and `..` are resolved, written with the main separator.
+    ///
+    /// The other path is refused if it has a prefix or a root, or if a `..` would leave this one; on
+    /// Windows also if one of its names has a colon or is reserved. So no path leaves this one
+    /// (`path_rules::laws::joined_below`), unless a name is a symbolic link.
+    ///
+    /// # Errors
+    ///
+    /// The first of these that holds: `Prefix` if the other path has a prefix; `Root` if it has a
+    /// root; `Leaves` if a `..` has no name of it before it to take away; `Stream` if a name of a
+    /// Windows path has a colon; `Reserved` if one is reserved; `Base` if this path is a prefix
+    /// alone that begins with `\\?\`, to which a name would belong; `Memory` if an allocation fails.
+    ///
+    /// ```
+    /// use os_path::{JoinError, PathExt};
+    /// use platform_str::{OsStr, Path, Unix, Windows};
+    ///
+    /// let base = Path::<Unix>::new(OsStr::new("/srv/files"));
+    /// let path = base.join_checked(alloc, Path::new(OsStr::new("./a/../b//c")))?;
+    /// assert!(rt; path.as_os_str() == OsStr::new("/srv/files/b/c"));
+    /// let error = base.join_checked(alloc, Path::new(OsStr::new("../etc"))).err();
+    /// assert!(rt; error == Some(JoinError::Leaves));
+    /// let base = Path::<Windows>::new(OsStr::new("C:\\files"));
+    /// let error = base.join_checked(alloc, Path::new(OsStr::new("a/nul.txt"))).err();
+    /// assert!(rt; error == Some(JoinError::Reserved));
+    /// ```
+    final fn join_checked<A: Allocator + Clone>(
+        self,
+        alloc: A,
+        path: Path<'_, Self::Platform>,
+    ) -> Result<PathBuf<Self::Platform, A>, JoinError>
+        ensures ok { IfOk result (λ joined. IsCheckedJoin Self.Platform.follows
+            (bytes_of self) (path_bytes path.entry) (path_vec_of joined).items) }
+        ensures err { IfErr result
+            (λ error. IsJoinFault Self.Platform.follows (bytes_of self) (path_bytes path.entry) error) }
+    {
+        let base = OsStr::from_encoded_bytes_unchecked(self.path_bytes());
+        checked::join_checked(alloc, base, path.as_os_str())
+    }
+
+    /// The path as it is reached from a base, in new memory (the crate pathdiff's `diff_paths`):
+    /// joined to the base, the answer leads to the path's place.
+    ///
+    /// The components at the start that both have are left out; then each component of the base is
+    /// a `..`, but for a `.` at its start, and what is left of the path follows. A path with another
+    /// prefix or another root than the base's is answered whole.
+    ///
+    /// `None` if the base is absolute and the path isn't, if the base goes up by a `..` where the
+    /// path doesn't, or if the answer joined to the base would lead to another place. Two paths lead
+    /// to one place if what they are cleaned to is alike, without symbolic links.
+    ///
+    /// # Errors
+    ///
+    /// `AllocError` if the memory is refused.
+    ///
+    /// ```
+    /// use os_path::PathExt;
+    /// use platform_str::{OsStr, Path, Unix};
+    ///
+    /// let path = Path::<Unix>::new(OsStr::new("/usr/lib/a"));
+    /// let way = path.relative_from(alloc, Path::new(OsStr::new("/usr/bin")))?;
+    /// assert!(rt; way.is_some_and(|way| way.as_os_str() == OsStr::new("../lib/a")));
+    /// let name = Path::<Unix>::new(OsStr::new("a"));
+    /// assert!(rt; name.relative_from(alloc, path)?.is_none());
+    /// ```
+    final fn relative_from<A: Allocator + Clone>(
+        self,
+        alloc: A,
+        base: Path<'_, Self::Platform>,
+    ) -> Result<Option<PathBuf<Self::Platform, A>>, AllocError>
+        ensures { IfOk result (λ way. IsRelativeFrom Self.Platform.follows (bytes_of self)
+            (path_bytes base.entry) (option_map (λ p. (path_vec_of p).items) way)) }
+    {
+        let path = OsStr::from_encoded_bytes_unchecked(self.path_bytes());
+        relative::relative_from(alloc, path, base.as_os_str())
+    }
+
+    /// The path of another platform with the same components, in new memory (typed-path's
+    /// `with_encoding`): the root, `.`, `..` and the names, written with the main separator. If both
+    /// platforms have one style, the bytes are the path's.
+    ///
+    /// A name may still be one that Windows keeps for itself (`path_rules::is_reserved`).
+    ///
+    /// # Errors
+    ///
+    /// `Component` with the index of the first component that the platform's style can't have: a
+    /// prefix, a name that has one of its separators, or a first name that it would read as a
+    /// prefix; `Encoding` if the bytes aren't a string of the platform; `Memory` if an allocation
+    /// fails.
+    ///
+    /// ```
+    /// use os_path::{ConvertError, PathExt};
+    /// use platform_str::{OsStr, Path, Unix, Windows};
+    ///
+    /// let path = Path::<Unix>::new(OsStr::new("/usr//lib/.."));
+    /// let path = path.with_style::<Windows, _>(alloc)?;
+    /// assert!(rt; path.as_os_str() == OsStr::new("\\usr\\lib\\.."));
+    /// let path = Path::<Windows>::new(OsStr::new("C:\\a"));
+    /// let error = path.with_style::<Unix, _>(alloc).err();
+    /// assert!(rt; error == Some(ConvertError::Component(0)));
+    /// ```
+    final fn with_style<F: PathStyle, A: Allocator + Clone>(
+        self,
+        alloc: A,
+    ) -> Result<PathBuf<F, A>, ConvertError>
+        ensures ok { IfOk result (λ made. IsRestyled Self.Platform.follows F.follows
+            (bytes_of self) (path_vec_of made).items) }
+        ensures err { IfErr result (λ error. IsConvertFault Self.Platform.follows F.follows
+            F.first_fault (bytes_of self) error) }
+    {
+        let path = OsStr::<Self::Platform>::from_encoded_bytes_unchecked(self.path_bytes());
+        styles::with_style(alloc, path)
     }
 
     /// The path with another last name, in new memory (std's `Path::with_file_name`): the name is

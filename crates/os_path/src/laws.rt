@@ -1,11 +1,31 @@
 //! What holds of the parts of paths that are answered. Each law is the contract of a function that
 //! does nothing.
-ghost use Rattle.std.specs.Prelude.{◌≡◌, ◌++◌, List, ℕ, length};
+ghost use Rattle.std.specs.Prelude.{◌≡◌, ◌↔◌, ◌++◌, List, ℕ, length, IsTrue, Some};
 ghost use Rattle.wtf8_core.specs.Boundary.{IsBoundary};
 ghost use Rattle.path_rules.specs.Cut.{IsAsciiCut};
+ghost use Rattle.path_rules.specs.Keys.{keys_cmp, keys_writes};
+ghost use Rattle.os_path.specs.Keys.{path_keys};
+
+use crate::by_components::ByComponents;
+use platform_str::Platform;
+use std::hash::Hash;
 
 /// Where a path is cut at an end or beside an ASCII byte, it has a boundary.
 pub fn cut_boundaries()
     ensures { (s : List ℕ) → (before : List ℕ) → (after : List ℕ) → s ≡ before ++ after
         → IsAsciiCut before after → IsBoundary s (length before) }
+{}
+
+/// Paths that are compared by their components are equal exactly if their keys are equal, and
+/// ordered as lists of these are. A hasher receives the keys, so equal paths have equal hashes.
+/// Paths have the same keys exactly if their components are alike
+/// (`path_rules::laws::alike_keys`).
+pub fn comparisons<'a, E: Platform>(a: &ByComponents<'a, E>, b: &ByComponents<'a, E>)
+    ensures equal { IsTrue (⟦<ByComponents<'a, E> as PartialEq>⟧.eq a.now b.now)
+        ↔ (path_keys a.now ≡ path_keys b.now) }
+    ensures order { ⟦<ByComponents<'a, E> as Ord>⟧.cmp a.now b.now
+        ≡ keys_cmp (path_keys a.now) (path_keys b.now) }
+    ensures partial_order { ⟦<ByComponents<'a, E> as PartialOrd>⟧.partial_cmp a.now b.now
+        ≡ Some (keys_cmp (path_keys a.now) (path_keys b.now)) }
+    ensures hash { ⟦<ByComponents<'a, E> as Hash>⟧.hash_input a.now ≡ keys_writes (path_keys a.now) }
 {}

@@ -15,18 +15,26 @@
 mod ancestors;
 mod buf;
 mod built;
+mod by_components;
 mod changed;
+mod checked;
 mod components;
 mod ext;
 pub mod laws;
 mod normal;
 mod parts;
 mod prefixes;
+mod relative;
+mod simplify;
+mod stripped;
 mod style;
+mod styles;
 
 pub use ancestors::Ancestors;
 pub use buf::{add_extension, pop, push, set_extension, set_file_name};
+pub use by_components::ByComponents;
 pub use components::Components;
 pub use ext::PathExt;
-pub use path_rules::{Component, NormalizeError, Prefix, Style};
+pub use path_rules::{Component, JoinError, NormalizeError, Prefix, Style};
 pub use style::PathStyle;
+pub use styles::ConvertError;

@@ -38,7 +38,7 @@ one_text c low = IsUtf8-from_ascii (c ∷ []) each
 no_text : IsUtf8 []
 no_text = IsUtf8-from_ascii [] (λ i. lit< tt)
 
-dots_text : IsUtf8 (0x2E ∷ 0x2E ∷ [])
+pub dots_text : IsUtf8 (0x2E ∷ 0x2E ∷ [])
 dots_text = IsUtf8-from_ascii (0x2E ∷ 0x2E ∷ []) each
   where
     each : (i : ℕ) → get_or (0x2E ∷ 0x2E ∷ []) i 0 < 128

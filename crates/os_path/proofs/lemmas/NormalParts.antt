@@ -18,7 +18,7 @@ use Rattle.os_path.proofs.lemmas.FromParts.{joins, from_items}
 use Rattle.os_path.proofs.lemmas.Whole.{all_formed}
 
 module _ (formed : List ℕ → Type 0) where
-  left_formed : {xs ys : List Item} → LeadsTo xs ys → AreFormed formed xs → AreFormed formed ys
+  pub left_formed : {xs ys : List Item} → LeadsTo xs ys → AreFormed formed xs → AreFormed formed ys
   left_formed nowhere f = f
   left_formed prefix f = f
   left_formed bare_root f = f
@@ -28,7 +28,7 @@ module _ (formed : List ℕ → Type 0) where
   left_formed (name h) f = (f.0, left_formed h f.1)
   left_formed (up h) f = (left_formed h f.1).1
 
-  clean_left : {xs ys : List Item} → CleansTo xs ys → AreFormed formed xs → AreFormed formed ys
+  pub clean_left : {xs ys : List Item} → CleansTo xs ys → AreFormed formed xs → AreFormed formed ys
   clean_left clean.nothing f = f
   clean_left clean.prefix f = f
   clean_left clean.bare_root f = f
@@ -43,10 +43,10 @@ module _ (formed : List ℕ → Type 0) where
   onto_formed [] d f g = g
   onto_formed (x ∷ xs) d f g = onto_formed xs (x ∷ d) f.1 (f.0, g)
 
-  reversed : (xs : List Item) → AreFormed formed xs → AreFormed formed (reverse xs)
+  pub reversed : (xs : List Item) → AreFormed formed xs → AreFormed formed (reverse xs)
   reversed xs f = subst (AreFormed formed) (onto_is xs [] ∙ append-nil (reverse xs)) (onto_formed xs [] f tt)
 
-  from_reversed : (xs : List Item) → AreFormed formed (reverse xs) → AreFormed formed xs
+  pub from_reversed : (xs : List Item) → AreFormed formed (reverse xs) → AreFormed formed xs
   from_reversed xs f = subst (AreFormed formed) (reverse-reverse xs) (reversed (reverse xs) f)
 
   normal_formed : (items normal : List Item) → IsNormalForm items normal → AreFormed formed items → AreFormed formed normal
@@ -66,10 +66,10 @@ module _ (formed : List ℕ → Type 0) where
   shielded_formed w xs shown (inr h) f = subst (AreFormed formed) (sym h.1) f
 
 module _ (formed : List ℕ → Type 0) (units : List ℕ → List ℕ) (laws : OccurrenceLaws formed units) (cut_prefix : (b : List ℕ) (i : ℕ) → formed b → IsBoundary b i → formed (take i b)) (cut_suffix : (b : List ℕ) (i : ℕ) → formed b → IsBoundary b i → formed (drop i b)) where
-  of_items : (w : Style) (s : List ℕ) (items : List Item) → AreComponents w s items → formed s → AreFormed formed items
+  pub of_items : (w : Style) (s : List ℕ) (items : List Item) → AreComponents w s items → formed s → AreFormed formed items
   of_items w s items h f = all_formed formed (cuts formed cut_prefix cut_suffix) w s items h f
 
-  of_path : (w : Style) (s : List ℕ) (items : List Item) → AreComponents w s items → AreFormed formed items → formed s
+  pub of_path : (w : Style) (s : List ℕ) (items : List Item) → AreComponents w s items → AreFormed formed items → formed s
   of_path w s items h f = from_items formed (joins formed units laws) laws.texts (cuts formed cut_prefix cut_suffix) w s items h f
 
   pub normalized_formed : (w : Style) (path answer : List ℕ) → IsNormalized w path answer → formed path → formed answer

@@ -1,0 +1,69 @@
+-- A path as it is reached from a base is well formed.
+use Rattle.std.proofs.Common.{inl, inr, ◌<◌, ℕ, List, [], ◌∷◌, ◌++◌, take, drop, sym, subst, append-nil, lit<}
+use Rattle.wtf8_core.specs.Boundary.{IsBoundary}
+use Rattle.wtf8_core.specs.OccurrenceLaws.{OccurrenceLaws}
+use Rattle.path_rules.specs.declared.rules.Style.{Style}
+use Rattle.path_rules.specs.declared.rules.Style.TheVariants as style
+use Rattle.path_rules.specs.StyleRules.{main_separator}
+use Rattle.path_rules.specs.Component.{Item, Prefix, RootDir, CurDir, ParentDir, Normal}
+use Rattle.path_rules.specs.Spelled.{spelling, more_names, joined_names}
+use Rattle.path_rules.specs.Relative.{AreApart, up_from, AreWritten, IsWhole, IsCandidate}
+use Rattle.os_path.specs.Formed.{IsFormed, AreFormed}
+use Rattle.os_path.proofs.lemmas.Cuts.{cuts}
+use Rattle.os_path.proofs.lemmas.Whole.{joined_formed}
+use Rattle.os_path.proofs.lemmas.Joined.{one_text, dots_text, around, nothing_formed}
+use Rattle.os_path.proofs.lemmas.NormalParts.{clean_left, reversed, from_reversed, of_items, of_path}
+
+ascii : (w : Style) → main_separator w < 0x80
+ascii style.Unix = lit< tt
+ascii style.Windows = lit< tt
+
+module _ (formed : List ℕ → Type 0) where
+  apart_formed : (xs ys us vs : List Item) → AreApart xs ys us vs → AreFormed formed xs → AreFormed formed us
+  apart_formed [] ys us vs a f = subst (AreFormed formed) (sym a.0) f
+  apart_formed (x ∷ xs) [] us vs a f = subst (AreFormed formed) (sym a.0) f
+  apart_formed (x ∷ xs) (y ∷ ys) us vs (inl a) f = apart_formed xs ys us vs a.1 f.1
+  apart_formed (x ∷ xs) (y ∷ ys) us vs (inr a) f = subst (AreFormed formed) (sym a.1.0) f
+
+  ups_formed : (xs : List Item) → AreFormed formed (up_from xs)
+  ups_formed [] = tt
+  ups_formed (x ∷ xs) = (tt, ups_formed xs)
+
+module _ (formed : List ℕ → Type 0) (units : List ℕ → List ℕ) (laws : OccurrenceLaws formed units) where
+  spelled_formed : (x : Item) → IsFormed formed x → formed (spelling x)
+  spelled_formed (Prefix s) f = nothing_formed formed units laws
+  spelled_formed RootDir f = nothing_formed formed units laws
+  spelled_formed CurDir f = laws.texts (0x2E ∷ []) (one_text 0x2E (lit< tt))
+  spelled_formed ParentDir f = laws.texts (0x2E ∷ 0x2E ∷ []) dots_text
+  spelled_formed (Normal s) f = f
+
+  more_formed : (c : ℕ) → c < 0x80 → (s : List ℕ) (xs : List Item) → formed s → AreFormed formed xs → formed (s ++ more_names c xs)
+  more_formed c low s [] fs f = subst formed (sym (append-nil s)) fs
+  more_formed c low s (x ∷ xs) fs f = around formed units laws s (spelling x ++ more_names c xs) c low fs (more_formed c low (spelling x) xs (spelled_formed x f.0) f.1)
+
+  pub names_formed : (c : ℕ) → c < 0x80 → (xs : List Item) → AreFormed formed xs → formed (joined_names c xs)
+  names_formed c low [] f = nothing_formed formed units laws
+  names_formed c low (x ∷ xs) f = more_formed c low (spelling x) xs (spelled_formed x f.0) f.1
+
+  written_formed : (w : Style) (names : List Item) (r : List ℕ) → AreWritten w names r → AreFormed formed names → formed r
+  written_formed w names r (inl h) f = subst formed (sym h.1) (around formed units laws (0x2E ∷ []) (joined_names (main_separator w) names) (main_separator w) (ascii w) (laws.texts (0x2E ∷ []) (one_text 0x2E (lit< tt))) (names_formed (main_separator w) (ascii w) names f))
+  written_formed w names r (inr h) f = subst formed (sym h.1) (names_formed (main_separator w) (ascii w) names f)
+
+  module _ (cut_prefix : (b : List ℕ) (i : ℕ) → formed b → IsBoundary b i → formed (take i b)) (cut_suffix : (b : List ℕ) (i : ℕ) → formed b → IsBoundary b i → formed (drop i b)) where
+    whole_formed : (w : Style) (path r : List ℕ) → IsWhole w path r → formed path → formed r
+    whole_formed w path r h fp =
+        let items = of_items formed units laws cut_prefix cut_suffix w path h.items h.are fp in
+        of_path formed units laws cut_prefix cut_suffix w r h.shown h.answers (elim h.form as (λ z. AreFormed formed h.shown) [
+          | inl v ↦ from_reversed formed h.shown (clean_left formed v.1 (reversed formed h.items items))
+          | inr n ↦ subst (AreFormed formed) (sym n.1) items
+        ])
+
+    pub relative_formed : (w : Style) (path base r : List ℕ) → IsCandidate w path base r → formed path → formed r
+    relative_formed w path base r (inl h) fp = subst formed (sym h.1.1) fp
+    relative_formed w path base r (inr h) fp = elim h.way as (λ z. formed r) [
+      | inl v ↦ whole_formed w path r v.1 fp
+      | inr n ↦
+          let items = of_items formed units laws cut_prefix cut_suffix w path h.left.items h.left.are fp in
+          let left = apart_formed formed h.left.items h.left.base_items h.us h.left.left h.left.apart items in
+          written_formed w (up_from h.vs ++ h.us) r n.1 (joined_formed formed (cuts formed cut_prefix cut_suffix) (up_from h.vs) h.us (ups_formed formed h.vs) left)
+    ]

@@ -1,0 +1,29 @@
+//! Paths below a base: each is a string of the base's platform.
+ghost use Rattle.std.specs.Prelude.{IfOk, IfErr};
+ghost use Rattle.platform_str.specs.Strings.{bytes, path_vec_of};
+ghost use Rattle.path_rules.specs.Checked.{IsCheckedJoin, IsJoinFault};
+
+use crate::style::PathStyle;
+use path_rules::JoinError;
+use platform_str::{OsStr, OsString, PathBuf};
+use std::alloc::Allocator;
+
+/// A path below a base, or what is wrong with it.
+pub(crate) fn join_checked<E: PathStyle, A: Allocator + Clone>(
+    alloc: A,
+    base: OsStr<'_, E>,
+    path: OsStr<'_, E>,
+) -> Result<PathBuf<E, A>, JoinError>
+    ensures ok { IfOk result (λ joined. IsCheckedJoin E.follows
+        (bytes base.entry) (bytes path.entry) (path_vec_of joined).items) }
+    ensures err { IfErr result
+        (λ error. IsJoinFault E.follows (bytes base.entry) (bytes path.entry) error) }
+{
+    let joined = path_rules::join_checked(
+        alloc,
+        E::style(),
+        base.as_encoded_bytes(),
+        path.as_encoded_bytes(),
+    )?;
+    Ok(PathBuf::from(OsString::from_encoded_bytes_unchecked(joined)))
+}

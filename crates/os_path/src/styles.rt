@@ -1,0 +1,53 @@
+//! A path of one platform as a path of another.
+ghost use Rattle.std.specs.Prelude.{◌≡◌, IfOk, IfErr};
+ghost use Rattle.platform_str.specs.Strings.{bytes, path_vec_of};
+ghost use Rattle.path_rules.specs.Restyled.{IsRestyled};
+ghost use Rattle.wtf8_core.specs.declared.fault.EncodingError as of_bytes;
+ghost use Rattle.os_path.specs.declared.styles.ConvertError.TheVariants as why;
+ghost use Rattle.os_path.specs.Converted.{IsConvertFault};
+
+use crate::style::PathStyle;
+use path_rules::StyleError;
+use platform_str::{OsStr, OsString, PathBuf};
+use std::alloc::Allocator;
+use wtf8_core::EncodingError;
+
+/// Why a path of another platform can't have a path's components.
+#[derive(Clone, Copy, Debug, PartialEq, Eq)]
+pub enum ConvertError {
+    /// The component at this index is the first that the platform's style can't have.
+    Component(usize),
+    /// The bytes that the path would have aren't a string of the platform.
+    Encoding(EncodingError),
+    /// An allocation failed.
+    Memory,
+}
+
+/// The path of another platform with the same components.
+pub(crate) fn with_style<E: PathStyle, F: PathStyle, A: Allocator + Clone>(
+    alloc: A,
+    path: OsStr<'_, E>,
+) -> Result<PathBuf<F, A>, ConvertError>
+    ensures ok { IfOk result (λ made. IsRestyled E.follows F.follows
+        (bytes path.entry) (path_vec_of made).items) }
+    ensures err { IfErr result
+        (λ error. IsConvertFault E.follows F.follows F.first_fault (bytes path.entry) error) }
+{
+    match path_rules::with_style(alloc, E::style(), F::style(), path.as_encoded_bytes()) {
+        Ok(made) => checked(made),
+        Err(StyleError::Component(index)) => Err(ConvertError::Component(index)),
+        Err(StyleError::Memory) => Err(ConvertError::Memory),
+    }
+}
+
+/// Bytes as a path, if they are a string of the platform.
+fn checked<F: PathStyle, A: Allocator>(made: Vec<u8, A>) -> Result<PathBuf<F, A>, ConvertError>
+    ensures ok { IfOk result (λ path. (path_vec_of path).items ≡ made.items) }
+    ensures err { IfErr result (λ error. (fault : of_bytes.EncodingError)
+        × ((error ≡ why.Encoding fault) × F.first_fault made.items fault)) }
+{
+    match F::check(&made) {
+        Ok(()) => Ok(PathBuf::from(OsString::from_encoded_bytes_unchecked(made))),
+        Err(fault) => Err(ConvertError::Encoding(fault)),
+    }
+}
