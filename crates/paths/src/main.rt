@@ -4,13 +4,14 @@
 #![tactic(auto)]
 
 use paths_commands::fault::Fault;
-use paths_commands::program::execute;
+use paths_commands::program::Paths;
 use program_frame::ended::Ended;
+use program_frame::lists::program::execute;
 use program_frame::marked::Marked;
 use std::env;
 
 fn main(rt: HostRuntime) -> Ended<Fault> {
-    execute(
+    execute::<Paths, _, _, _, _>(
         rt.alloc(),
         env::args(&rt),
         &mut Marked::new(rt.reader()),

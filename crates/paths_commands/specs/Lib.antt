@@ -1,3 +1,4 @@
+pub mod Styles
 pub mod Task
 pub mod Fault
 pub mod Command

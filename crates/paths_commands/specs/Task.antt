@@ -1,20 +1,31 @@
 -- What each question asks of a path, and with which faults a path is refused.
-use Rattle.std.specs.Prelude.{◌≡◌, ◌⊎◌, ℕ, List, [], ◌∷◌, ◌++◌, codes}
+use Rattle.std.specs.Prelude.{◌≡◌, ◌⊎◌, ℕ, List, [], ◌∷◌, ◌++◌, codes, Some, None}
+use Rattle.std.specs.Borrow.{Bor}
 use Rattle.os_str_bytes.specs.Platform.{Ghosts}
+use Rattle.os_str_bytes.specs.EncodingError.{EncodingError}
 use Rattle.os_quote.specs.Escape.{IsLineEscape}
 use Rattle.path_rules.specs.declared.rules.Style.{Style}
 use Rattle.path_rules.specs.Component.{Item, Prefix, RootDir, CurDir, ParentDir, Normal}
 use Rattle.path_rules.specs.Components.{AreComponents}
 use Rattle.path_rules.specs.Parent.{IsParent, HasNoParent, HasFileName, HasNoFileName}
 use Rattle.path_rules.specs.Cleaned.{IsCleaned}
+use Rattle.path_rules.specs.Join.{IsJoin}
 use Rattle.path_rules.specs.Normalized.{IsNormalized, HasNoNormalForm}
+use Rattle.path_rules.specs.Relative.{IsRelativeFrom}
+use Rattle.path_rules.specs.Restyled.{IsRestyled}
 use Rattle.path_rules.specs.StyleRules.{main_separator}
 use Rattle.os_path.specs.Names.{HasFileStem, HasExtension, LacksExtension}
+use Rattle.os_path.specs.Converted.{IsConvertFault}
+use Rattle.os_path.specs.declared.styles.ConvertError.TheVariants as convert
+use Rattle.program_frame.specs.Os.{os_word}
+use Rattle.program_frame.specs.Strings.{strings}
+use Rattle.program_frame.specs.declared.os.Os.{Os}
 use Rattle.program_frame.specs.Rules.{ListRules}
+use Rattle.paths_commands.specs.Styles.{style_of}
 use Rattle.paths_commands.specs.declared.fault.Refusal.{Refusal}
 use Rattle.paths_commands.specs.declared.fault.Refusal.TheVariants as refusal
 use Rattle.paths_commands.specs.declared.task.Task.{Task}
-use Rattle.paths_commands.specs.declared.task.Task.TheVariants.{Components, Parent, Name, Stem, Extension, Normalize, Clean}
+use Rattle.paths_commands.specs.declared.task.Task.TheVariants.{Components, Parent, Name, Stem, Extension, Normalize, Clean, Join, Relative, Convert}
 
 -- the word that asks this of each path
 abbrev pub task_word : Task → List ℕ
@@ -25,6 +36,22 @@ task_word Stem = codes "stem"
 task_word Extension = codes "extension"
 task_word Normalize = codes "normalize"
 task_word Clean = codes "clean"
+task_word (Join base) = codes "join"
+task_word (Relative base) = codes "relative"
+task_word (Convert to) = codes "convert"
+
+-- the words that come after the platform's
+abbrev pub operands_of : Task → List (List ℕ)
+operands_of Components = []
+operands_of Parent = []
+operands_of Name = []
+operands_of Stem = []
+operands_of Extension = []
+operands_of Normalize = []
+operands_of Clean = []
+operands_of (Join base) = base.now ∷ []
+operands_of (Relative base) = base.now ∷ []
+operands_of (Convert to) = os_word to ∷ []
 
 -- a component as it is written (std's `Component::as_os_str`)
 abbrev pub component_text : Style → Item → List ℕ
@@ -34,7 +61,7 @@ component_text style CurDir = codes "."
 component_text style ParentDir = codes ".."
 component_text style (Normal s) = s
 
--- what answers the question: the part that is asked for, and nothing where the path has none
+-- what answers the question: the part that is asked for, and nothing where the path has none; a form of the path, the path after a base or as it is reached from one, or a path of another platform with its components
 abbrev pub IsAnswer : Style → Task → List ℕ → List ℕ → Type 0
 IsAnswer style Components path answer = ⊥
 IsAnswer style Parent path answer = IsParent style path answer ⊎ (HasNoParent style path × (answer ≡ []))
@@ -43,6 +70,25 @@ IsAnswer style Stem path answer = HasFileStem style path answer ⊎ (HasNoFileNa
 IsAnswer style Extension path answer = HasExtension style path answer ⊎ (LacksExtension style path × (answer ≡ []))
 IsAnswer style Normalize path answer = IsNormalized style path answer
 IsAnswer style Clean path answer = IsCleaned style path answer
+IsAnswer style (Join base) path answer = IsJoin style base.now path answer
+IsAnswer style (Relative base) path answer = IsRelativeFrom style path base.now (Some answer)
+IsAnswer style (Convert to) path answer = (strings to).well_formed answer × IsRestyled style (style_of to) path answer
+
+-- why there is no path of another platform with the path's components: it can't have one of them, or the bytes are no string of it
+abbrev pub IsUnconverted : Style → Style → (List ℕ → EncodingError → Type 0) → List ℕ → Refusal → Type 0
+IsUnconverted from to is_fault path (refusal.NoString error) = ⊥
+IsUnconverted from to is_fault path refusal.NoNormalForm = ⊥
+IsUnconverted from to is_fault path refusal.NoRelativePath = ⊥
+IsUnconverted from to is_fault path (refusal.NoComponent index) = IsConvertFault from to is_fault path (convert.Component index)
+IsUnconverted from to is_fault path (refusal.NoStringThere error) = IsConvertFault from to is_fault path (convert.Encoding error)
+
+-- why there is no answer for a string of the platform
+abbrev pub IsUnanswered : Style → Task → List ℕ → Refusal → Type 0
+IsUnanswered style task path (refusal.NoString error) = ⊥
+IsUnanswered style task path refusal.NoNormalForm = (task ≡ Normalize) × HasNoNormalForm style path
+IsUnanswered style task path refusal.NoRelativePath = (base : Bor (List ℕ)) × ((task ≡ Relative base) × IsRelativeFrom style path base.now None)
+IsUnanswered style task path (refusal.NoComponent index) = (to : Os) × ((task ≡ Convert to) × IsUnconverted style (style_of to) (strings to).first_fault path (refusal.NoComponent index))
+IsUnanswered style task path (refusal.NoStringThere error) = (to : Os) × ((task ≡ Convert to) × IsUnconverted style (style_of to) (strings to).first_fault path (refusal.NoStringThere error))
 
 -- on a platform that says this of its strings, whose paths follow these rules:
 module _ {E : Type 0} (p : Ghosts E) (style : Style) where
@@ -71,10 +117,13 @@ module _ {E : Type 0} (p : Ghosts E) (style : Style) where
   abbrev pub IsText : Task → List ℕ → List ℕ → Type 0
   IsText task path text = p.well_formed path × IsPathText task path text
 
-  -- why a path is refused: the first fault of bytes that are no string; or that it has no normal form, where that is asked for
+  -- why a path is refused: the first fault of bytes that are no string; or that there is no answer
   abbrev pub IsRefusal : Task → List ℕ → Refusal → Type 0
   IsRefusal task path (refusal.NoString error) = p.first_fault path error
-  IsRefusal task path refusal.NoNormalForm = (task ≡ Normalize) × HasNoNormalForm style path
+  IsRefusal task path refusal.NoNormalForm = IsUnanswered style task path refusal.NoNormalForm
+  IsRefusal task path refusal.NoRelativePath = IsUnanswered style task path refusal.NoRelativePath
+  IsRefusal task path (refusal.NoComponent index) = IsUnanswered style task path (refusal.NoComponent index)
+  IsRefusal task path (refusal.NoStringThere error) = IsUnanswered style task path (refusal.NoStringThere error)
 
   -- what is done with each path of at most `max` bytes
   abbrev pub rules_of : Task → ℕ → ListRules Refusal

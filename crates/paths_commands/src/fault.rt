@@ -1,8 +1,10 @@
 //! What keeps the program from its output.
 
 use os_str_bytes::EncodingError;
-use program_frame::ended::ProgramFault;
-use program_frame::lists::fault::{ItemRefusal, ListFault};
+use program_frame::fault::write_number;
+use program_frame::lists::fault::ItemRefusal;
+use program_frame::lists::program_fault;
+use program_frame::lists::program_fault::WordsRefusal;
 use std::fmt;
 use std::fmt::Display as _;
 
@@ -13,16 +15,20 @@ pub enum Refusal {
     NoString(EncodingError),
     /// It has no normal form: a `..` has no name before it to take away.
     NoNormalForm,
+    /// No path leads to it from the base.
+    NoRelativePath,
+    /// The other platform's paths can't have the component at this index, the first such.
+    NoComponent(usize),
+    /// The bytes with its components are no string of the other platform: their first fault.
+    NoStringThere(EncodingError),
 }
 
-/// The reason why a run of the program ended before its input did.
+/// The words ask for no command.
 #[derive(Clone, Copy, PartialEq, Eq)]
-pub enum Fault {
-    /// A path is refused, or something keeps the run from going on.
-    List(ListFault<Refusal>),
-    /// The words ask for no command.
-    Usage,
-}
+pub struct Usage;
+
+/// The reason why a run of the program ended before its input did.
+pub type Fault = program_fault::Fault<Refusal, Usage>;
 
 impl ItemRefusal for Refusal {
     ghost use Rattle.std.specs.Prelude.{codes};
@@ -40,53 +46,33 @@ impl ItemRefusal for Refusal {
         match *self {
             Refusal::NoString(error) => error.fmt(f),
             Refusal::NoNormalForm => f.write_str("no name before a .."),
+            Refusal::NoRelativePath => f.write_str("no path from the base leads there"),
+            Refusal::NoComponent(index) => {
+                f.write_str("no path there can have the component at index ")?;
+                write_number(index, f)
+            }
+            Refusal::NoStringThere(error) => {
+                f.write_str("no path there: ")?;
+                error.fmt(f)
+            }
         }
     }
 }
 
-impl fmt::Display for Fault {
-    ghost use Rattle.std.specs.Prelude.{Some};
-    ghost use Rattle.paths_commands.specs.Fault.{text_of};
+impl WordsRefusal for Usage {
+    ghost use Rattle.paths_commands.specs.Fault.{usage, usage_text};
 
-    ghost output = { λ fault. Some (text_of fault) };
+    ghost usage = { usage };
 
-    ghost styled_output = { λ fault _. Some (text_of fault) };
+    ghost text_of = { λ _. usage_text };
 
-    fn fmt<W: fmt::Write>(&self, f: &mut fmt::Formatter<W>) -> fmt::Result {
-        match *self {
-            Fault::List(fault) => fault.fmt(f),
-            Fault::Usage => f.write_str(
-                "usage: paths components|parent|name|stem|extension|normalize|clean unix|windows|wasm; paths --help tells more",
-            ),
-        }
+    fn usage() -> Usage {
+        Usage
     }
-}
 
-impl ProgramFault for Fault {
-    ghost use Rattle.std.specs.Prelude.{refl};
-    ghost use Rattle.paths_commands.specs.Fault.{text_of, status_of};
-
-    ghost text_of = { text_of };
-
-    ghost status_of = { status_of };
-
-    ghost printed = { λ _. refl };
-
-    /// The status that the program ends with: 1 for an input that it refuses, 2 for its words, 3
-    /// for want of memory, and 4 for a failed read or write.
-    ///
-    /// ```
-    /// use paths_commands::fault::Fault;
-    /// use program_frame::ended::ProgramFault;
-    /// use program_frame::lists::fault::ListFault;
-    ///
-    /// assert_eq!(rt; Fault::List(ListFault::TooLong(3, 255)).status(), 1);
-    /// assert_eq!(rt; Fault::Usage.status(), 2);
-    /// ```
-    fn status(&self) -> u8 {
-        match self {
-            Fault::List(fault) => fault.status(),
-            Fault::Usage => 2,
-        }
+    fn write<W: fmt::Write>(&self, f: &mut fmt::Formatter<W>) -> fmt::Result {
+        f.write_str(
+            "usage: paths components|parent|name|stem|extension|normalize|clean|join|relative|convert unix|windows|wasm [BASE|PLATFORM]; paths --help tells more",
+        )
     }
 }

@@ -1,36 +1,42 @@
 //! What is written for one path.
-ghost use Rattle.std.specs.Prelude.{◌≡◌, ◌⊎◌, ◌∷◌, ◌++◌, [], ℕ, List, OnOk, OnErr, IfErr};
+ghost use Rattle.std.specs.Prelude.{◌≡◌, ◌⊎◌, ◌∷◌, ◌++◌, [], ℕ, List, Some, None, OnOk, OnErr, IfErr};
 ghost use Rattle.program_frame.specs.declared.lists.fault.ItemFault.TheVariants.{Refused, Memory};
 ghost use Rattle.path_rules.specs.Cleaned.{IsCleaned};
+ghost use Rattle.path_rules.specs.Join.{IsJoin};
 ghost use Rattle.path_rules.specs.Normalized.{IsNormalized, HasNoNormalForm};
-ghost use Rattle.paths_commands.specs.declared.fault.Refusal.TheVariants.{NoNormalForm};
-ghost use Rattle.paths_commands.specs.declared.task.Task.TheVariants.{Normalize};
+ghost use Rattle.path_rules.specs.Relative.{IsRelativeFrom};
+ghost use Rattle.path_rules.specs.Restyled.{IsRestyled};
+ghost use Rattle.paths_commands.specs.declared.fault.Refusal as why;
+ghost use Rattle.paths_commands.specs.declared.fault.Refusal.TheVariants.{NoNormalForm, NoRelativePath};
 ghost use Rattle.program_frame.specs.Rules.{IsItemFault};
-ghost use Rattle.paths_commands.specs.Task.{rules_of, IsText, IsPathText, IsComponentsText};
+ghost use Rattle.program_frame.specs.Strings.{strings};
+ghost use Rattle.paths_commands.specs.Styles.{style_of};
+ghost use Rattle.paths_commands.specs.Task.{rules_of, IsText, IsPathText, IsComponentsText, IsUnanswered, IsUnconverted};
 ghost use Rattle.platform_str.specs.Strings.{path_bytes};
 
 use crate::answers::{parent, part};
 use crate::components::push_components;
 use crate::fault::Refusal;
 use crate::task::Task;
-use os_path::{NormalizeError, PathExt, PathStyle};
-use os_str_bytes::{OsStr, Path, Platform};
+use os_path::{ConvertError, NormalizeError, PathExt, PathStyle};
+use os_str_bytes::{OsStr, Path, Platform, Unix, Wasm, Windows};
 use program_frame::lists::fault::ItemFault;
 use program_frame::lists::items::push_ended;
+use program_frame::os::Os;
 use std::alloc::Allocator;
 
 /// Appends what is written for a path.
 pub fn write_item<E: PathStyle, A: Allocator + Copy>(
     alloc: A,
-    task: Task,
+    task: Task<'_>,
     item: &[u8],
     output: &mut Vec<u8, A>,
 ) -> Result<(), ItemFault<Refusal>>
     ensures ok { OnOk result ((text : List ℕ)
-        × (IsText ⟦<E as Platform>⟧ E.follows task item.now text
+        × (IsText ⟦<E as Platform>⟧ E.follows task.entry item.now text
         × (output.new.items ≡ output.old.items ++ text))) }
     ensures fault { IfErr result (λ fault. (max : ℕ)
-        → IsItemFault (rules_of ⟦<E as Platform>⟧ E.follows task max) item.now fault) }
+        → IsItemFault (rules_of ⟦<E as Platform>⟧ E.follows task.entry max) item.now fault) }
     ensures unchanged { OnErr result (output.new.items ≡ output.old.items) }
 {
     match OsStr::<E>::checked(item) {
@@ -42,15 +48,15 @@ pub fn write_item<E: PathStyle, A: Allocator + Copy>(
 /// The same for a string of the platform.
 fn write_path<E: PathStyle, A: Allocator + Copy>(
     alloc: A,
-    task: Task,
+    task: Task<'_>,
     path: Path<'_, E>,
     output: &mut Vec<u8, A>,
 ) -> Result<(), ItemFault<Refusal>>
     ensures ok { OnOk result ((text : List ℕ)
-        × (IsPathText ⟦<E as Platform>⟧ E.follows task (path_bytes path.entry) text
+        × (IsPathText ⟦<E as Platform>⟧ E.follows task.entry (path_bytes path.entry) text
         × (output.new.items ≡ output.old.items ++ text))) }
-    ensures fault { IfErr result (λ fault. (fault ≡ Memory) ⊎ ((fault ≡ Refused NoNormalForm)
-        × ((task ≡ Normalize) × HasNoNormalForm E.follows (path_bytes path.entry)))) }
+    ensures fault { IfErr result (λ fault. (fault ≡ Memory) ⊎ ((why : why.Refusal)
+        × ((fault ≡ Refused why) × IsUnanswered E.follows task.entry (path_bytes path.entry) why))) }
     ensures unchanged { OnErr result (output.new.items ≡ output.old.items) }
 {
     match task {
@@ -61,6 +67,9 @@ fn write_path<E: PathStyle, A: Allocator + Copy>(
         Task::Extension => write_answer(part(path.extension()), output),
         Task::Normalize => write_normal::<E, A>(alloc, path, output),
         Task::Clean => write_clean::<E, A>(alloc, path, output),
+        Task::Join(base) => write_joined::<E, A>(alloc, base, path, output),
+        Task::Relative(base) => write_relative::<E, A>(alloc, base, path, output),
+        Task::Convert(to) => write_on::<E, A>(alloc, to, path, output),
     }
 }
 
@@ -117,6 +126,94 @@ fn write_clean<E: PathStyle, A: Allocator + Copy>(
     match path.clean(alloc) {
         Ok(clean) => write_answer(clean.as_os_str().as_encoded_bytes(), output),
         Err(_) => Err(ItemFault::Memory),
+    }
+}
+
+/// Appends a path after a base, and NUL.
+fn write_joined<E: PathStyle, A: Allocator + Copy>(
+    alloc: A,
+    base: &str,
+    path: Path<'_, E>,
+    output: &mut Vec<u8, A>,
+) -> Result<(), ItemFault<Refusal>>
+    ensures ok { OnOk result ((joined : List ℕ)
+        × (IsJoin E.follows base.now (path_bytes path.entry) joined
+        × (output.new.items ≡ output.old.items ++ (joined ++ 0 ∷ [])))) }
+    ensures fault { IfErr result (λ fault. fault ≡ Memory) }
+    ensures unchanged { OnErr result (output.new.items ≡ output.old.items) }
+{
+    match Path::new(OsStr::new(base)).join(alloc, path) {
+        Ok(joined) => write_answer(joined.as_os_str().as_encoded_bytes(), output),
+        Err(_) => Err(ItemFault::Memory),
+    }
+}
+
+/// Appends a path as it is reached from a base, and NUL.
+fn write_relative<E: PathStyle, A: Allocator + Copy>(
+    alloc: A,
+    base: &str,
+    path: Path<'_, E>,
+    output: &mut Vec<u8, A>,
+) -> Result<(), ItemFault<Refusal>>
+    ensures ok { OnOk result ((way : List ℕ)
+        × (IsRelativeFrom E.follows (path_bytes path.entry) base.now (Some way)
+        × (output.new.items ≡ output.old.items ++ (way ++ 0 ∷ [])))) }
+    ensures fault { IfErr result (λ fault. (fault ≡ Memory) ⊎ ((fault ≡ Refused NoRelativePath)
+        × IsRelativeFrom E.follows (path_bytes path.entry) base.now None)) }
+    ensures unchanged { OnErr result (output.new.items ≡ output.old.items) }
+{
+    match path.relative_from(alloc, Path::new(OsStr::new(base))) {
+        Ok(Some(way)) => write_answer(way.as_os_str().as_encoded_bytes(), output),
+        Ok(None) => Err(ItemFault::Refused(Refusal::NoRelativePath)),
+        Err(_) => Err(ItemFault::Memory),
+    }
+}
+
+/// Appends the path of another platform with a path's components, and NUL.
+fn write_on<E: PathStyle, A: Allocator + Copy>(
+    alloc: A,
+    to: Os,
+    path: Path<'_, E>,
+    output: &mut Vec<u8, A>,
+) -> Result<(), ItemFault<Refusal>>
+    ensures ok { OnOk result ((made : List ℕ) × (((strings to).well_formed made
+        × IsRestyled E.follows (style_of to) (path_bytes path.entry) made)
+        × (output.new.items ≡ output.old.items ++ (made ++ 0 ∷ [])))) }
+    ensures fault { IfErr result (λ fault. (fault ≡ Memory) ⊎ ((why : why.Refusal)
+        × ((fault ≡ Refused why) × IsUnconverted E.follows (style_of to)
+        (strings to).first_fault (path_bytes path.entry) why))) }
+    ensures unchanged { OnErr result (output.new.items ≡ output.old.items) }
+{
+    match to {
+        Os::Unix => write_converted::<E, Unix, A>(alloc, path, output),
+        Os::Windows => write_converted::<E, Windows, A>(alloc, path, output),
+        Os::Wasm => write_converted::<E, Wasm, A>(alloc, path, output),
+    }
+}
+
+/// The same for a platform that is a type.
+fn write_converted<E: PathStyle, F: PathStyle, A: Allocator + Copy>(
+    alloc: A,
+    path: Path<'_, E>,
+    output: &mut Vec<u8, A>,
+) -> Result<(), ItemFault<Refusal>>
+    ensures ok { OnOk result ((made : List ℕ) × ((F.well_formed made
+        × IsRestyled E.follows F.follows (path_bytes path.entry) made)
+        × (output.new.items ≡ output.old.items ++ (made ++ 0 ∷ [])))) }
+    ensures fault { IfErr result (λ fault. (fault ≡ Memory) ⊎ ((why : why.Refusal)
+        × ((fault ≡ Refused why)
+        × IsUnconverted E.follows F.follows F.first_fault (path_bytes path.entry) why))) }
+    ensures unchanged { OnErr result (output.new.items ≡ output.old.items) }
+{
+    match path.with_style::<F, A>(alloc) {
+        Ok(made) => write_answer(made.as_os_str().as_encoded_bytes(), output),
+        Err(ConvertError::Component(index)) => {
+            Err(ItemFault::Refused(Refusal::NoComponent(index)))
+        }
+        Err(ConvertError::Encoding(fault)) => {
+            Err(ItemFault::Refused(Refusal::NoStringThere(fault)))
+        }
+        Err(ConvertError::Memory) => Err(ItemFault::Memory),
     }
 }
 

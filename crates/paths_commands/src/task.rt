@@ -1,6 +1,6 @@
 //! What is asked of each path of the input.
-ghost use Rattle.std.specs.Prelude.{◌≡◌, ◌≢◌, IfSome, IfNone};
-ghost use Rattle.paths_commands.specs.Task.{rules_of, task_word};
+ghost use Rattle.std.specs.Prelude.{◌≡◌, ◌≢◌, ◌∷◌, [], IfSome, IfNone};
+ghost use Rattle.paths_commands.specs.Task.{rules_of, task_word, operands_of};
 ghost use Rattle.paths_commands.specs.declared.task.Task.{Task};
 
 use crate::fault::Refusal;
@@ -9,12 +9,13 @@ use os_path::PathStyle;
 use os_str_bytes::Platform;
 use program_frame::lists::fault::ItemFault;
 use program_frame::lists::task::ListTask;
+use program_frame::os::Os;
 use std::alloc::Allocator;
 use std::marker::PhantomData;
 
 /// What is asked of each path of the input.
 #[derive(Clone, Copy, PartialEq, Eq)]
-pub enum Task {
+pub enum Task<'a> {
     /// Its components: the escape of each on a line, and an empty line after the last.
     Components,
     /// Its parent, ended by NUL, as all answers below: without the last component.
@@ -29,19 +30,30 @@ pub enum Task {
     Normalize,
     /// Its clean form, as Go's `filepath.Clean`.
     Clean,
+    /// The path after this base, as std's `Path::join`.
+    Join(&'a str),
+    /// The path as it is reached from this base, as the crate pathdiff's `diff_paths`; one that no
+    /// path leads to is refused.
+    Relative(&'a str),
+    /// The path of this platform with the same components; one with a component that the platform's
+    /// paths can't have is refused.
+    Convert(Os),
 }
 
-impl Task {
-    /// The question that this word names.
+impl<'a> Task<'a> {
+    /// The question that this word names, without an operand.
     ///
     /// ```
     /// use paths_commands::task::Task;
     ///
     /// assert!(rt; Task::named("stem") == Some(Task::Stem) && Task::named("prefix").is_none());
+    /// assert!(rt; Task::named("join").is_none());
     /// ```
-    pub fn named(word: &str) -> Option<Task>
-        ensures some { IfSome result (λ task. word.now ≡ task_word task) }
-        ensures none { IfNone result ((task : Task) → word.now ≢ task_word task) }
+    pub fn named(word: &str) -> Option<Task<'a>>
+        ensures some { IfSome result (λ task.
+            (word.now ≡ task_word task) × (operands_of task ≡ [])) }
+        ensures none { IfNone result ((task : Task)
+            → operands_of task ≡ [] → word.now ≢ task_word task) }
     {
         match word {
             "components" => Some(Task::Components),
@@ -54,19 +66,47 @@ impl Task {
             _ => None,
         }
     }
+
+    /// The question that this word names, with this operand.
+    ///
+    /// ```
+    /// use paths_commands::task::Task;
+    /// use program_frame::os::Os;
+    ///
+    /// assert!(rt; Task::with_operand("join", "/usr") == Some(Task::Join("/usr")));
+    /// assert!(rt; Task::with_operand("convert", "windows") == Some(Task::Convert(Os::Windows)));
+    /// assert!(rt; Task::with_operand("convert", "/usr").is_none());
+    /// assert!(rt; Task::with_operand("stem", "/usr").is_none());
+    /// ```
+    pub fn with_operand(word: &str, operand: &'a str) -> Option<Task<'a>>
+        ensures some { IfSome result (λ task.
+            (word.now ≡ task_word task) × (operands_of task ≡ operand.now ∷ [])) }
+        ensures none { IfNone result ((task : Task)
+            → operands_of task ≡ operand.now ∷ [] → word.now ≢ task_word task) }
+    {
+        match word {
+            "join" => Some(Task::Join(operand)),
+            "relative" => Some(Task::Relative(operand)),
+            "convert" => match Os::named(operand) {
+                Some(os) => Some(Task::Convert(os)),
+                None => None,
+            },
+            _ => None,
+        }
+    }
 }
 
 /// What is asked of each path of a list of a platform, and how long a path may be.
 #[derive(Clone, Copy)]
-pub struct OnPlatform<E> {
+pub struct OnPlatform<'a, E> {
     /// What is asked of each path.
-    pub task: Task,
+    pub task: Task<'a>,
     /// How many bytes a path may have.
     pub max: usize,
     platform: PhantomData<E>,
 }
 
-impl<E> OnPlatform<E> {
+impl<'a, E> OnPlatform<'a, E> {
     /// The question, asked of paths of the platform of at most this many bytes.
     ///
     /// ```
@@ -75,8 +115,8 @@ impl<E> OnPlatform<E> {
     ///
     /// assert_eq!(rt; OnPlatform::<Unix>::new(Task::Parent, 255).max, 255);
     /// ```
-    pub fn new(task: Task, max: usize) -> OnPlatform<E>
-        ensures task { result.task ≡ task }
+    pub fn new(task: Task<'a>, max: usize) -> OnPlatform<'a, E>
+        ensures task { result.task ≡ task.entry }
         ensures max { result.max ≡ max }
     {
         OnPlatform {
@@ -87,7 +127,7 @@ impl<E> OnPlatform<E> {
     }
 }
 
-impl<E: PathStyle> ListTask for OnPlatform<E> {
+impl<'a, E: PathStyle> ListTask for OnPlatform<'a, E> {
     type Refusal = Refusal;
 
     ghost rules = { λ on. rules_of ⟦<E as Platform>⟧ E.follows on.task on.max };

@@ -18,7 +18,7 @@ ghost use Rattle.names_commands.specs.declared.fault.Refusal.{Refusal};
 ghost use Rattle.names_commands.specs.declared.fault.Refusal.TheVariants.{NoString};
 
 use names_commands::command::Request;
-use names_commands::fault::{Fault, Refusal};
+use names_commands::fault::{CommandFault, Refusal};
 use names_commands::laws::names_come_back;
 use names_commands::task::{LastLine, OnPlatform, Settings, Task};
 use os_glob::{Glob, GlobOptions};
@@ -30,14 +30,14 @@ use std::alloc::Allocator;
 use std::io::Write;
 
 /// The request of two words, whose limit is the one that holds where no word says another.
-pub fn request_of_two(words: &[String]) -> Result<Request<'_>, Fault>
+pub fn request_of_two(words: &[String]) -> Result<Request<'_>, CommandFault>
     ensures { IfOk result (λ request. length words.now ≡ 2 → request.max ≡ 0x10_0000) }
 {
     Request::parse(words)
 }
 
 /// The request that words make.
-pub fn known_request(words: &[String]) -> Result<Request<'_>, Fault>
+pub fn known_request(words: &[String]) -> Result<Request<'_>, CommandFault>
     ensures { (request : Request) → AsksFor (map string_bytes words.now) request → IsOk result }
 {
     Request::parse(words)

@@ -1,14 +1,19 @@
 //! Lists of paths: the words of commands, what one path is answered with, and one that is refused.
-ghost use Rattle.std.specs.Prelude.{◌≡◌, ◌≢◌, ◌∷◌, ◌++◌, ◌⊎◌, [], ℕ, List, false, IsOk, IfErr, OnOk, map, string_bytes};
+ghost use Rattle.std.specs.Prelude.{◌≡◌, ◌≢◌, ◌∷◌, ◌++◌, ◌⊎◌, [], ℕ, List, false, Some, IsOk, IfErr, OnOk, map, string_bytes};
 ghost use Rattle.std.specs.Io.KnownBytes.{Appends};
 ghost use Rattle.os_str_bytes.specs.EncodingError.{EncodingError};
+ghost use Rattle.path_rules.specs.Join.{IsJoin};
 ghost use Rattle.path_rules.specs.Parent.{IsParent, HasNoParent};
+ghost use Rattle.path_rules.specs.Relative.{IsRelativeFrom};
+ghost use Rattle.path_rules.specs.Restyled.{IsRestyled};
 ghost use Rattle.program_frame.specs.Items.{Lacks};
 ghost use Rattle.program_frame.specs.ListRun.{IsOutput, StopsOn};
 ghost use Rattle.program_frame.specs.Marked.{marked_inner, has_failed};
+ghost use Rattle.program_frame.specs.Strings.{strings};
 ghost use Rattle.program_frame.specs.declared.fault.Failure.TheVariants.{Write as WriteFailure};
 ghost use Rattle.program_frame.specs.declared.lists.fault.ListFault.TheVariants.{Refused, Run};
 ghost use Rattle.paths_commands.specs.Command.{words_of};
+ghost use Rattle.paths_commands.specs.Styles.{style_of};
 ghost use Rattle.paths_commands.specs.Task.{rules_of, IsAnswer, IsComponentsText};
 ghost use Rattle.paths_commands.specs.declared.command.Command.{Command};
 ghost use Rattle.paths_commands.specs.declared.fault.Refusal.TheVariants.{NoString};
@@ -17,16 +22,17 @@ ghost use Rattle.paths_commands.specs.declared.task.Task.TheVariants.{Components
 use os_path::PathStyle;
 use os_str_bytes::Platform;
 use paths_commands::command::Command;
-use paths_commands::fault::{Fault, Refusal};
+use paths_commands::fault::{Refusal, Usage};
 use paths_commands::task::{OnPlatform, Task};
 use program_frame::lists::fault::ListFault;
 use program_frame::lists::run::run;
 use program_frame::marked::Marked;
+use program_frame::os::Os;
 use std::alloc::Allocator;
 use std::io::Write;
 
 /// The command of known words.
-pub fn known_question(words: &[String]) -> Result<Command, Fault>
+pub fn known_question(words: &[String]) -> Result<Command<'_>, Usage>
     ensures { (command : Command) → map string_bytes words.now ≡ words_of command → IsOk result }
 {
     Command::parse(words)
@@ -35,18 +41,18 @@ pub fn known_question(words: &[String]) -> Result<Command, Fault>
 /// A run over bytes.
 fn ask<E: PathStyle, A: Allocator, W: Write>(
     alloc: A,
-    task: Task,
+    task: Task<'_>,
     max: usize,
     input: &[u8],
     writer: &mut Marked<W>,
 ) -> Result<(), ListFault<Refusal>>
     requires { has_failed writer.old ≡ false }
     ensures written { OnOk result ((output : List ℕ)
-        × (IsOutput (rules_of ⟦<E as Platform>⟧ E.follows task max) input.now output
+        × (IsOutput (rules_of ⟦<E as Platform>⟧ E.follows task.entry max) input.now output
         × Appends (W.contents (marked_inner writer.old)) (W.contents (marked_inner writer.new))
         output)) }
     ensures stopped { IfErr result (λ fault. fault ≢ Run WriteFailure → (output : List ℕ)
-        × (StopsOn (rules_of ⟦<E as Platform>⟧ E.follows task max) input.now output fault
+        × (StopsOn (rules_of ⟦<E as Platform>⟧ E.follows task.entry max) input.now output fault
         × Appends (W.contents (marked_inner writer.old)) (W.contents (marked_inner writer.new))
         output)) }
 {
@@ -57,7 +63,7 @@ fn ask<E: PathStyle, A: Allocator, W: Write>(
 /// Asks one path a question that isn't for its components: the answer is written with NUL.
 pub fn answered<E: PathStyle, A: Allocator, W: Write>(
     alloc: A,
-    task: Task,
+    task: Task<'_>,
     path: &[u8],
     writer: &mut Marked<W>,
 ) -> Result<(), ListFault<Refusal>>
@@ -65,7 +71,7 @@ pub fn answered<E: PathStyle, A: Allocator, W: Write>(
     requires whole { Lacks 0 path.now }
     requires some { path.now ≢ [] }
     requires unmarked { has_failed writer.old ≡ false }
-    ensures { OnOk result ((answer : List ℕ) × (IsAnswer E.follows task path.now answer
+    ensures { OnOk result ((answer : List ℕ) × (IsAnswer E.follows task.entry path.now answer
         × Appends (W.contents (marked_inner writer.old)) (W.contents (marked_inner writer.new))
         (answer ++ 0 ∷ []))) }
 {
@@ -89,6 +95,58 @@ pub fn parent_of<E: PathStyle, A: Allocator, W: Write>(
     answered::<E, A, W>(alloc, Task::Parent, path, writer)
 }
 
+/// Puts one path after a base, which is written with NUL.
+pub fn after_base<E: PathStyle, A: Allocator, W: Write>(
+    alloc: A,
+    base: &str,
+    path: &[u8],
+    writer: &mut Marked<W>,
+) -> Result<(), ListFault<Refusal>>
+    requires whole { Lacks 0 path.now }
+    requires some { path.now ≢ [] }
+    requires unmarked { has_failed writer.old ≡ false }
+    ensures { OnOk result ((joined : List ℕ) × (IsJoin E.follows base.now path.now joined
+        × Appends (W.contents (marked_inner writer.old)) (W.contents (marked_inner writer.new))
+        (joined ++ 0 ∷ []))) }
+{
+    answered::<E, A, W>(alloc, Task::Join(base), path, writer)
+}
+
+/// Asks how one path is reached from a base, which is written with NUL.
+pub fn from_base<E: PathStyle, A: Allocator, W: Write>(
+    alloc: A,
+    base: &str,
+    path: &[u8],
+    writer: &mut Marked<W>,
+) -> Result<(), ListFault<Refusal>>
+    requires whole { Lacks 0 path.now }
+    requires some { path.now ≢ [] }
+    requires unmarked { has_failed writer.old ≡ false }
+    ensures { OnOk result ((way : List ℕ) × (IsRelativeFrom E.follows path.now base.now (Some way)
+        × Appends (W.contents (marked_inner writer.old)) (W.contents (marked_inner writer.new))
+        (way ++ 0 ∷ []))) }
+{
+    answered::<E, A, W>(alloc, Task::Relative(base), path, writer)
+}
+
+/// Asks for the path of another platform with one path's components, which is written with NUL.
+pub fn on_platform<E: PathStyle, A: Allocator, W: Write>(
+    alloc: A,
+    to: Os,
+    path: &[u8],
+    writer: &mut Marked<W>,
+) -> Result<(), ListFault<Refusal>>
+    requires whole { Lacks 0 path.now }
+    requires some { path.now ≢ [] }
+    requires unmarked { has_failed writer.old ≡ false }
+    ensures { OnOk result ((made : List ℕ) × (((strings to).well_formed made
+        × IsRestyled E.follows (style_of to) path.now made)
+        × Appends (W.contents (marked_inner writer.old)) (W.contents (marked_inner writer.new))
+        (made ++ 0 ∷ []))) }
+{
+    answered::<E, A, W>(alloc, Task::Convert(to), path, writer)
+}
+
 /// Asks one path for its components, which are written one a line, and an empty line after them.
 pub fn components_of<E: PathStyle, A: Allocator, W: Write>(
     alloc: A,
@@ -109,7 +167,7 @@ pub fn components_of<E: PathStyle, A: Allocator, W: Write>(
 /// Asks one path: where it is refused, it is the first, with the first fault of its bytes.
 pub fn asked_one<E: PathStyle, A: Allocator, W: Write>(
     alloc: A,
-    task: Task,
+    task: Task<'_>,
     path: &[u8],
     writer: &mut Marked<W>,
 ) -> Result<(), ListFault<Refusal>>

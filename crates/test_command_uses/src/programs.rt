@@ -8,13 +8,14 @@ ghost use Rattle.program_frame.specs.Marked.{has_failed};
 ghost use Rattle.program_frame.specs.Words.{words_after_name};
 
 use names_commands::fault::Fault as NamesFault;
-use names_commands::program::execute as execute_names;
+use names_commands::program::Names;
 use osbytes_commands::fault::Fault;
 use osbytes_commands::program::execute;
-use paths_commands::program::execute as execute_paths;
+use paths_commands::program::Paths;
 use program_frame::ended::{Ended, ProgramFault};
 use program_frame::ends::{Messages, Output};
 use program_frame::lists::fault::ListFault;
+use program_frame::lists::program::execute as execute_list;
 use program_frame::marked::Marked;
 use std::alloc::{Allocator, Global};
 use std::env::Args;
@@ -102,7 +103,7 @@ pub fn names_silent_where_closed<A: Allocator, R: Read, W: Output, E: Messages>(
     requires writer_unmarked { has_failed writer.old ≡ false }
     ensures { result ≡ true → errors.new ≡ errors.old }
 {
-    let _ = execute_names(alloc, Ok(arguments), reader, writer, errors);
+    let _ = execute_list::<Names, A, R, W, E>(alloc, Ok(arguments), reader, writer, errors);
     writer.closed()
 }
 
@@ -129,7 +130,7 @@ pub fn names_without_arguments<P: Eprint, A: Allocator, R: Read, W: Output, E: M
     ensures status { exit_status result.1 ≡ 2 }
 {
     let arguments = Err(io::Error::from(ErrorKind::InvalidInput));
-    let ended = execute_names(alloc, arguments, reader, writer, errors);
+    let ended = execute_list::<Names, A, R, W, E>(alloc, arguments, reader, writer, errors);
     let told = ended.told();
     (told, ended.report(rt))
 }
@@ -145,11 +146,11 @@ pub fn paths_without_arguments<P: Eprint, A: Allocator, R: Read, W: Output, E: M
     requires reader_unmarked { has_failed reader.old ≡ false }
     requires writer_unmarked { has_failed writer.old ≡ false }
     ensures told { result.0 ≡ true → Appends (E.contents errors.old) (E.contents errors.new)
-        (codes "paths: usage: paths components|parent|name|stem|extension|normalize|clean unix|windows|wasm; paths --help tells more\n") }
+        (codes "paths: usage: paths components|parent|name|stem|extension|normalize|clean|join|relative|convert unix|windows|wasm [BASE|PLATFORM]; paths --help tells more\n") }
     ensures status { exit_status result.1 ≡ 2 }
 {
     let arguments = Err(io::Error::from(ErrorKind::InvalidInput));
-    let ended = execute_paths(alloc, arguments, reader, writer, errors);
+    let ended = execute_list::<Paths, A, R, W, E>(alloc, arguments, reader, writer, errors);
     let told = ended.told();
     (told, ended.report(rt))
 }

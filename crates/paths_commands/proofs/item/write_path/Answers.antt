@@ -4,7 +4,9 @@ use Rattle.path_rules.specs.Parent.{HasFileName, HasNoFileName}
 use Rattle.os_path.specs.Names.{HasFileStem, HasExtension, LacksExtension}
 use Rattle.platform_str.specs.Strings.{bytes, path_bytes}
 use Rattle.paths_commands.specs.Task.{IsAnswer}
+use Rattle.paths_commands.specs.declared.fault.Refusal.TheVariants.{NoNormalForm, NoRelativePath}
 use Rattle.paths_commands.proofs.lemmas.Answers.{part_or_nothing}
+use Rattle.paths_commands.proofs.lemmas.Refusals.{unconverted_unanswered}
 use Rattle.paths_commands.proofs.item.write_path.Goals as goal
 
 pub returns-in-Components-clause-ok : goal.returns-in-Components-clause-ok
@@ -63,7 +65,7 @@ returns-in-Normalize-clause-ok g c =
 pub returns-in-Normalize-clause-fault : goal.returns-in-Normalize-clause-fault
 returns-in-Normalize-clause-fault g c =
     IfErr-weaker c.write_normal.result _ _
-    (λ fault. ⊎_elim (λ memory. inl memory) (λ none. inr (none.0, (c.in-Normalize.is, none.1))))
+    (λ fault. ⊎_elim (λ memory. inl memory) (λ none. inr (NoNormalForm, (none.0, (c.in-Normalize.is, none.1)))))
     c.write_normal.ensures.fault
 
 pub returns-in-Clean-clause-ok : goal.returns-in-Clean-clause-ok
@@ -73,3 +75,41 @@ returns-in-Clean-clause-ok g c =
     on_ok_weaker c.write_clean.result
     (λ clean. (clean.0 ++ 0 ∷ [], (inr (clean.0, (subst (λ t. IsAnswer S t path clean.0) (sym c.in-Clean.is) clean.1.0, refl)), clean.1.1)))
     c.write_clean.ensures.ok
+
+pub returns-in-Join-clause-ok : goal.returns-in-Join-clause-ok
+returns-in-Join-clause-ok g c =
+    let S = g.E.PathStyle.follows in
+    let path = path_bytes c.args.path in
+    on_ok_weaker c.write_joined.result
+    (λ joined. (joined.0 ++ 0 ∷ [], (inr (joined.0, (subst (λ t. IsAnswer S t path joined.0) (sym c.in-Join.is) joined.1.0, refl)), joined.1.1)))
+    c.write_joined.ensures.ok
+
+pub returns-in-Relative-clause-ok : goal.returns-in-Relative-clause-ok
+returns-in-Relative-clause-ok g c =
+    let S = g.E.PathStyle.follows in
+    let path = path_bytes c.args.path in
+    on_ok_weaker c.write_relative.result
+    (λ way. (way.0 ++ 0 ∷ [], (inr (way.0, (subst (λ t. IsAnswer S t path way.0) (sym c.in-Relative.is) way.1.0, refl)), way.1.1)))
+    c.write_relative.ensures.ok
+
+pub returns-in-Relative-clause-fault : goal.returns-in-Relative-clause-fault
+returns-in-Relative-clause-fault g c =
+    IfErr-weaker c.write_relative.result _ _
+    (λ fault. ⊎_elim (λ memory. inl memory) (λ none. inr (NoRelativePath, (none.0, (_, (c.in-Relative.is, none.1))))))
+    c.write_relative.ensures.fault
+
+pub returns-in-Convert-clause-ok : goal.returns-in-Convert-clause-ok
+returns-in-Convert-clause-ok g c =
+    let S = g.E.PathStyle.follows in
+    let path = path_bytes c.args.path in
+    on_ok_weaker c.write_on.result
+    (λ made. (made.0 ++ 0 ∷ [], (inr (made.0, (subst (λ t. IsAnswer S t path made.0) (sym c.in-Convert.is) made.1.0, refl)), made.1.1)))
+    c.write_on.ensures.ok
+
+pub returns-in-Convert-clause-fault : goal.returns-in-Convert-clause-fault
+returns-in-Convert-clause-fault g c =
+    let S = g.E.PathStyle.follows in
+    let path = path_bytes c.args.path in
+    IfErr-weaker c.write_on.result _ _
+    (λ fault. ⊎_elim (λ memory. inl memory) (λ none. inr (none.0, (none.1.0, unconverted_unanswered S c.args.task _ path none.0 c.in-Convert.is none.1.1))))
+    c.write_on.ensures.fault
