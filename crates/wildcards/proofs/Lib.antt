@@ -5,3 +5,8 @@ pub mod Parts
 pub mod Readings
 pub mod Literals
 pub mod Hits
+pub mod Keys
+pub mod Ascending
+pub mod Covers
+pub mod Queries
+pub mod Adding

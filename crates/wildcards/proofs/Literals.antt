@@ -55,6 +55,13 @@ module _ (A : Type 0) where
       let h = spelled pieces bytes second.1 in
       record { are = ap (λ z. One (Literal z) ∷ pieces) (eqb-true letter b first.0) ∙ ap (λ z. literal_piece b ∷ z) h.are; ascii = (ltb-true b 0x80 second.0, h.ascii) }
 
+  -- what pieces match that are a text
+  pub only_text : (pieces : List (Piece (Item A))) (bytes letters : List ℕ) → spells pieces bytes ≡ true → Wild TakesLetter Fits pieces letters → letters ≡ bytes
+  only_text pieces bytes letters e m = text_only bytes letters (subst (λ z. Wild TakesLetter Fits z letters) (spelled pieces bytes e).are m)
+
+  pub spelled_ascii : (pieces : List (Piece (Item A))) (bytes : List ℕ) → spells pieces bytes ≡ true → AllByRecursion (λ b. b < 0x80) bytes
+  spelled_ascii pieces bytes e = (spelled pieces bytes e).ascii
+
   pub spells_text : (bytes : List ℕ) → AllByRecursion (λ b. b < 0x80) bytes → spells (text_pieces bytes) bytes ≡ true
   spells_text [] h = refl
   spells_text (b ∷ bytes) h = ap (λ v. v && (nat_lt b 0x80 && spells (text_pieces bytes) bytes)) (eq-eqb b b refl) ∙ ap (λ v. v && spells (text_pieces bytes) bytes) (lt-ltb b 0x80 h.0) ∙ spells_text bytes h.1

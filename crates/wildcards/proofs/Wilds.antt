@@ -219,3 +219,20 @@ module _ {X A : Type 0} (T : A → Type 0) (F : X → A → Type 0) (any : (a : 
 
   pub takes_rest : (ps : List (Piece X)) (letters : List A) → ps ≡ [] → Wild T F (Many ∷ ps) letters
   takes_rest ps letters e = record { skipped = letters; rest = []; joined = sym (append-nil letters); taken = all_taken letters; after = subst (λ z. Wild T F z []) (sym e) refl }
+
+-- after the first pieces the others match the rest
+module _ {X A : Type 0} (T : A → Type 0) (F : X → A → Type 0) where
+  pub record RestMatches (qs : List (Piece X)) (letters : List A) : Type 0 where
+    pub before : List A
+    pub after : List A
+    pub joined : letters ≡ before ++ after
+    pub matched : Wild T F qs after
+
+  pub rest_matches : (ps qs : List (Piece X)) (letters : List A) → Wild T F (ps ++ qs) letters → RestMatches qs letters
+  rest_matches [] qs letters m = record { before = []; after = letters; joined = refl; matched = m }
+  rest_matches (Many ∷ ps) qs letters m =
+      let h = rest_matches ps qs m.rest m.after in
+      record { before = m.skipped ++ h.before; after = h.after; joined = m.joined ∙ ap (λ z. m.skipped ++ z) h.joined ∙ sym (append_assoc m.skipped h.before h.after); matched = h.matched }
+  rest_matches (One x ∷ ps) qs letters m =
+      let h = rest_matches ps qs m.rest m.after in
+      record { before = m.letter ∷ h.before; after = h.after; joined = m.joined ∙ ap (λ z. m.letter ∷ z) h.joined; matched = h.matched }

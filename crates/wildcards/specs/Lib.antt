@@ -10,3 +10,8 @@ pub mod Cuts
 pub mod Steps
 pub mod PathSteps
 pub mod Sets
+pub mod Ascending
+pub mod Tables
+pub mod Keys
+pub mod Filters
+pub mod Candidates

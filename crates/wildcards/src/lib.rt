@@ -8,15 +8,21 @@
 //! How the text of a pattern is read is told by the crates above.
 #![tactic(auto)]
 
+mod candidates;
 mod class;
 mod component;
+mod digest;
+mod filter;
 mod hidden;
+mod indices;
+mod key;
 mod letters;
 mod literal;
 mod options;
 mod part;
 mod path;
 mod pattern;
+mod pattern_set;
 mod piece;
 mod range;
 mod run;
@@ -29,6 +35,7 @@ pub use options::Options;
 pub use part::Part;
 pub use path::matches;
 pub use pattern::{Choice, matches_choice};
+pub use pattern_set::PatternSet;
 pub use piece::{Item, Piece};
 pub use range::Range;
 pub use separators::Separators;

@@ -1,6 +1,6 @@
 //! What matches one component of a path.
-ghost use Rattle.std.specs.Prelude.{◌≡◌, ◌↔◌, true, IsTrue, IfOk};
-ghost use Rattle.wildcards.specs.Literals.{spells_some};
+ghost use Rattle.std.specs.Prelude.{◌≡◌, ◌↔◌, true, IsTrue, IfOk, IfSome};
+ghost use Rattle.wildcards.specs.Literals.{spells, spells_some};
 
 use crate::hidden::{begins_with_dot, is_hidden};
 use crate::letters::Letters;
@@ -42,6 +42,25 @@ impl<A: Allocator> Part<A> {
     {
         let literal = literal_text(alloc, &pieces)?;
         Ok(Part { pieces, literal })
+    }
+
+    /// Its pieces.
+    #[inline(always)]
+    pub(crate) fn pieces(&self) -> &[Piece<Item<A>>]
+        ensures { result.now ≡ self.now.pieces.items }
+    {
+        &self.pieces
+    }
+
+    /// The text that it matches alone, if it is one of ASCII.
+    #[inline(always)]
+    pub(crate) fn text(&self) -> Option<&[u8]>
+        ensures { IfSome result (λ text. spells self.now.pieces.items text.now ≡ true) }
+    {
+        match &self.literal {
+            Some(text) => Some(text.as_slice()),
+            None => None,
+        }
     }
 
     /// Whether it matches a whole component.

@@ -15,7 +15,7 @@ pub struct Pattern<A: Allocator = Global> {
 
 /// Whether the pattern of an index matches a path.
 #[inline(always)]
-fn is_hit<L: Letters, A: Allocator>(
+pub(crate) fn is_hit<L: Letters, A: Allocator>(
     options: Options,
     patterns: &[Pattern<A>],
     path: &[u8],

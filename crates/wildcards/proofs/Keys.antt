@@ -1,0 +1,146 @@
+-- What a pattern matches has its keys.
+use Rattle.std.proofs.Common.{◌≡◌, ◌<◌, Bool, true, false, ℕ, List, [], ◌∷◌, ◌++◌, refl, sym, ap, ◌∙◌, subst, arith, append_assoc, append-nil}
+use Rattle.std.specs.List.{AllByRecursion, join_with_byte}
+use Rattle.std.proofs.lemmas.List.Splits.{join_with_byte-slice_split}
+use Rattle.std.proofs.lemmas.List.Elements.{All-from_get_or}
+use Rattle.wildcards.specs.declared.options.Options.{Options}
+use Rattle.wildcards.specs.declared.separators.Separators.{Separators}
+use Rattle.wildcards.specs.declared.separators.Separators.TheVariants as separators
+use Rattle.wildcards.specs.declared.key.Kind.TheVariants as kind
+use Rattle.wildcards.specs.declared.part.Part.{Part}
+use Rattle.wildcards.specs.declared.piece.Item.{Item}
+use Rattle.wildcards.specs.declared.piece.Piece.{Piece}
+use Rattle.wildcards.specs.declared.piece.Piece.TheVariants.{Many, One}
+use Rattle.wildcards.specs.Components.{components, separates}
+use Rattle.wildcards.specs.Keys.{IsNeeded, AreTexts, AreJoinedTexts, joins_by_slash, slash_before}
+use Rattle.wildcards.specs.Literals.{spells}
+use Rattle.wildcards.specs.Match.{Fits, TakesLetter, TakesComponent, FitsComponent, MatchesParts, Matches}
+use Rattle.wildcards.specs.Wild.{Wild}
+use Rattle.wildcards.proofs.Literals.{only_text, spelled_ascii}
+use Rattle.wildcards.proofs.Parts.{one_component}
+use Rattle.wildcards.proofs.Wilds.{rest_matches}
+
+-- the texts that are left, each after a separator unless it is the first
+abbrev pub joined_left : Bool → List (List ℕ) → List ℕ
+joined_left first [] = []
+joined_left true (t ∷ ts) = t ++ joined_left false ts
+joined_left false (t ∷ ts) = 0x2F ∷ (t ++ joined_left false ts)
+
+joined_is : (t : List ℕ) (ts : List (List ℕ)) → t ++ joined_left false ts ≡ join_with_byte 0x2F (t ∷ ts)
+joined_is t [] = append-nil t
+joined_is t (u ∷ ts) = ap (λ z. t ++ (0x2F ∷ z)) (joined_is u ts)
+
+pub all_joined : (ts : List (List ℕ)) → joined_left true ts ≡ join_with_byte 0x2F ts
+all_joined [] = refl
+all_joined (t ∷ ts) = joined_is t ts
+
+joined_components : (s : Separators) → joins_by_slash s ≡ true → (path : List ℕ) → join_with_byte 0x2F (components s path) ≡ path
+joined_components separators.None e path = ap (join_with_byte 0x2F) (one_component separators.None path (All-from_get_or (λ b. separates separators.None b ≡ false) path 0 (λ k l. refl)))
+joined_components separators.Slash e path = join_with_byte-slice_split 0x2F path
+joined_components separators.SlashAndBackslash e path = let never : false ≡ true = e in cc
+
+module _ {A : Type 0} where
+  -- with texts for what is left there are texts for all
+  pub record AreAll (pieces : List (Piece (Part A))) (text : List ℕ) (first : Bool) (ts : List (List ℕ)) : Type 0 where
+    pub all : List (List ℕ)
+    pub are : AreTexts pieces all
+    pub joined : joined_left true all ≡ text ++ joined_left first ts
+
+  abbrev pub TextsSoFar : List (Piece (Part A)) → List ℕ → Bool → List (Piece (Part A)) → Type 0
+  TextsSoFar pieces text first left = (ts : List (List ℕ)) → AreTexts left ts → AreAll pieces text first ts
+
+  pub no_texts : (pieces : List (Piece (Part A))) (text : List ℕ) → text ≡ [] → TextsSoFar pieces text true pieces
+  no_texts pieces text e ts h = record { all = ts; are = h; joined = ap (λ z. z ++ joined_left true ts) (sym e) }
+
+  module _ (pieces left rest : List (Piece (Part A))) (part : Part A) (e : left ≡ One part ∷ rest) (own text : List ℕ) (is : spells part.pieces.items own ≡ true) where
+    pub next_text : (first : Bool) (with_slash more : List ℕ) → with_slash ≡ text ++ slash_before first → more ≡ with_slash ++ own → TextsSoFar pieces text first left → TextsSoFar pieces more false rest
+    next_text first with_slash more f g so_far ts h =
+        let k = so_far (own ∷ ts) (subst (λ z. AreTexts z (own ∷ ts)) (sym e) (is, h)) in
+        record { all = k.all; are = k.are; joined = k.joined ∙ by_first first ∙ ap (λ z. (z ++ own) ++ joined_left false ts) (sym f) ∙ ap (λ z. z ++ joined_left false ts) (sym g) }
+      where
+        by_first : (v : Bool) → text ++ joined_left v (own ∷ ts) ≡ ((text ++ slash_before v) ++ own) ++ joined_left false ts
+        by_first true = ap (λ z. z ++ (own ++ joined_left false ts)) (sym (append-nil text)) ∙ sym (append_assoc (text ++ []) own (joined_left false ts))
+        by_first false = sym (append_assoc (text ++ 0x2F ∷ []) own (joined_left false ts) ∙ append_assoc text (0x2F ∷ []) (own ++ joined_left false ts))
+
+  pub all_texts : (pieces left : List (Piece (Part A))) (text : List ℕ) (first : Bool) → left ≡ [] → TextsSoFar pieces text first left → AreJoinedTexts pieces text
+  all_texts pieces left text first e so_far =
+      let h = so_far [] (subst (λ z. AreTexts z []) (sym e) tt) in
+      (h.all, (h.are, sym (append-nil text) ∙ sym (h.joined ∙ nothing first) ∙ all_joined h.all))
+    where
+      nothing : (v : Bool) → text ++ joined_left v [] ≡ text ++ []
+      nothing v = refl
+
+  module _ (o : Options) where
+    -- a part that is a text fits it alone
+    fits_text : (part : Part A) (text component : List ℕ) → spells part.pieces.items text ≡ true → FitsComponent o.literal_leading_dot part component → component ≡ text
+    fits_text part text component is f = only_text _ part.pieces.items text component is f.0
+
+    each_text : (ps : List (Piece (Part A))) (ts parts : List (List ℕ)) → AreTexts ps ts → MatchesParts o.literal_leading_dot ps parts → parts ≡ ts
+    each_text [] [] parts h m = m
+    each_text [] (t ∷ ts) parts h m = absurd h
+    each_text (Many ∷ ps) ts parts h m = absurd h
+    each_text (One part ∷ ps) [] parts h m = absurd h
+    each_text (One part ∷ ps) (t ∷ ts) parts h m =
+        m.joined ∙ ap (λ z. z ∷ m.rest) (fits_text part t m.letter h.0 m.fits) ∙ ap (λ z. t ∷ z) (each_text ps ts m.rest h.1 m.after)
+
+    each_ascii : (ps : List (Piece (Part A))) (ts : List (List ℕ)) → AreTexts ps ts → AllByRecursion (λ b. b < 0x80) (joined_left true ts) × AllByRecursion (λ b. b < 0x80) (joined_left false ts)
+    each_ascii [] [] h = (tt, tt)
+    each_ascii [] (t ∷ ts) h = absurd h
+    each_ascii (Many ∷ ps) ts h = absurd h
+    each_ascii (One part ∷ ps) [] h = absurd h
+    each_ascii (One part ∷ ps) (t ∷ ts) h =
+        let own = spelled_ascii _ part.pieces.items t h.0 in
+        let rest = (each_ascii ps ts h.1).1 in
+        let both = all_append t (joined_left false ts) own rest in
+        (both, (let low : 0x2F < 0x80 = omega arith in low, both))
+      where
+        all_append : (xs ys : List ℕ) → AllByRecursion (λ b. b < 0x80) xs → AllByRecursion (λ b. b < 0x80) ys → AllByRecursion (λ b. b < 0x80) (xs ++ ys)
+        all_append [] ys h k = k
+        all_append (x ∷ xs) ys h k = (h.0, all_append xs ys h.1 k)
+
+    pub path_needed : (pieces : List (Piece (Part A))) (text : List ℕ) → joins_by_slash o.separators ≡ true → AreJoinedTexts pieces text → IsNeeded o pieces kind.Path text
+    path_needed pieces text e h = record {
+      ascii = subst (AllByRecursion (λ b. b < 0x80)) (sym (h.1.1 ∙ sym (all_joined h.0))) (each_ascii pieces h.0 h.1.0).0;
+      needed = λ path m. sym (joined_components o.separators e path) ∙ ap (join_with_byte 0x2F) (each_text pieces h.0 (components o.separators path) h.1.0 m) ∙ sym h.1.1;
+    }
+
+    module _ (pieces before after : List (Piece (Part A))) (part : Part A) (e : pieces ≡ before ++ One part ∷ after) where
+      -- the component that the part matches
+      pub record AtPart (path : List ℕ) : Type 0 where
+        pub parts_before : List (List ℕ)
+        pub component : List ℕ
+        pub parts_after : List (List ℕ)
+        pub joined : components o.separators path ≡ parts_before ++ component ∷ parts_after
+        pub fits : FitsComponent o.literal_leading_dot part component
+        pub rest : MatchesParts o.literal_leading_dot after parts_after
+
+      at_part : (path : List ℕ) → Matches o pieces path → AtPart path
+      at_part path m =
+          let parts = components o.separators path in
+          let h = rest_matches (TakesComponent o.literal_leading_dot) (FitsComponent o.literal_leading_dot) before (One part ∷ after) parts (subst (λ z. MatchesParts o.literal_leading_dot z parts) e m) in
+          let one = h.matched in
+          record { parts_before = h.before; component = one.letter; parts_after = one.rest; joined = h.joined ∙ ap (λ z. h.before ++ z) one.joined; fits = one.fits; rest = one.after }
+
+      pub component_needed : (text : List ℕ) → spells part.pieces.items text ≡ true → IsNeeded o pieces kind.Component text
+      component_needed text is = record {
+        ascii = spelled_ascii _ part.pieces.items text is;
+        needed = λ path m. let h = at_part path m in (h.parts_before, (h.parts_after, h.joined ∙ ap (λ z. h.parts_before ++ z ∷ h.parts_after) (fits_text part text h.component is h.fits)));
+      }
+
+      pub name_needed : (text : List ℕ) → spells part.pieces.items text ≡ true → after ≡ [] → IsNeeded o pieces kind.Name text
+      name_needed text is none = record {
+        ascii = spelled_ascii _ part.pieces.items text is;
+        needed = λ path m. let h = at_part path m in
+            let nothing : h.parts_after ≡ [] = subst (λ z. MatchesParts o.literal_leading_dot z h.parts_after) none h.rest in
+            (h.parts_before, h.joined ∙ ap (λ z. h.parts_before ++ z ∷ h.parts_after) (fits_text part text h.component is h.fits) ∙ ap (λ z. h.parts_before ++ text ∷ z) nothing);
+      }
+
+      pub suffix_needed : (start own : List (Piece (Item A))) (text : List ℕ) → part.pieces.items ≡ start ++ own → spells own text ≡ true → after ≡ [] → IsNeeded o pieces kind.Suffix text
+      suffix_needed start own text split is none = record {
+        ascii = spelled_ascii _ own text is;
+        needed = λ path m. let h = at_part path m in
+            let nothing : h.parts_after ≡ [] = subst (λ z. MatchesParts o.literal_leading_dot z h.parts_after) none h.rest in
+            let ends = rest_matches TakesLetter Fits start own h.component (subst (λ z. Wild TakesLetter Fits z h.component) split h.fits.0) in
+            let same : ends.after ≡ text = only_text _ own text ends.after is ends.matched in
+            (ends.before, (h.parts_before, h.joined ∙ ap (λ z. h.parts_before ++ z ∷ h.parts_after) (ends.joined ∙ ap (λ z. ends.before ++ z) same) ∙ ap (λ z. h.parts_before ++ (ends.before ++ text) ∷ z) nothing));
+      }

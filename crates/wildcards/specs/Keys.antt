@@ -1,0 +1,58 @@
+-- What a path needs to be matched by a pattern: only private contracts name this.
+use Rattle.std.specs.Prelude.{◌≡◌, ◌<◌, Bool, true, false, ℕ, List, [], ◌∷◌, ◌++◌}
+use Rattle.std.specs.List.{AllByRecursion, join_with_byte}
+use Rattle.wildcards.specs.declared.options.Options.{Options}
+use Rattle.wildcards.specs.declared.separators.Separators.{Separators}
+use Rattle.wildcards.specs.declared.separators.Separators.TheVariants as separators
+use Rattle.wildcards.specs.declared.key.Kind.{Kind}
+use Rattle.wildcards.specs.declared.key.Kind.TheVariants as kind
+use Rattle.wildcards.specs.declared.part.Part.{Part}
+use Rattle.wildcards.specs.declared.piece.Piece.{Piece}
+use Rattle.wildcards.specs.declared.piece.Piece.TheVariants.{Many, One}
+use Rattle.wildcards.specs.Components.{components}
+use Rattle.wildcards.specs.Literals.{spells}
+use Rattle.wildcards.specs.Match.{Matches}
+
+-- a path is its components joined by `/`
+abbrev pub joins_by_slash : Separators → Bool
+joins_by_slash separators.None = true
+joins_by_slash separators.Slash = true
+joins_by_slash separators.SlashAndBackslash = false
+
+-- what comes before a text, unless it is the first
+abbrev pub slash_before : Bool → List ℕ
+slash_before true = []
+slash_before false = 0x2F ∷ []
+
+-- the last of the components
+abbrev pub EndsIn : List (List ℕ) → List ℕ → Type 0
+EndsIn parts last = (before : List (List ℕ)) × (parts ≡ before ++ last ∷ [])
+
+-- one of the components
+abbrev pub HasPart : List (List ℕ) → List ℕ → Type 0
+HasPart parts part = (before : List (List ℕ)) × ((after : List (List ℕ)) × (parts ≡ before ++ part ∷ after))
+
+-- the path has the key
+abbrev pub HasKey : Options → Kind → List ℕ → List ℕ → Type 0
+HasKey o kind.Path path key = path ≡ key
+HasKey o kind.Name path key = EndsIn (components o.separators path) key
+HasKey o kind.Component path key = HasPart (components o.separators path) key
+HasKey o kind.Suffix path key = (start : List ℕ) × EndsIn (components o.separators path) (start ++ key)
+
+module _ {A : Type 0} where
+  -- each path that the pieces match has the key, which is ASCII
+  pub record IsNeeded (o : Options) (pieces : List (Piece (Part A))) (k : Kind) (key : List ℕ) : Type 0 where
+    pub ascii : AllByRecursion (λ b. b < 0x80) key
+    pub needed : (path : List ℕ) → Matches o pieces path → HasKey o k path key
+
+  -- the parts are these texts
+  abbrev pub AreTexts : List (Piece (Part A)) → List (List ℕ) → Type 0
+  AreTexts [] [] = Unit {0}
+  AreTexts [] (t ∷ ts) = ⊥
+  AreTexts (Many ∷ ps) ts = ⊥
+  AreTexts (One part ∷ ps) [] = ⊥
+  AreTexts (One part ∷ ps) (t ∷ ts) = (spells part.pieces.items t ≡ true) × AreTexts ps ts
+
+  -- the parts are texts, which are joined by `/`
+  abbrev pub AreJoinedTexts : List (Piece (Part A)) → List ℕ → Type 0
+  AreJoinedTexts ps text = (ts : List (List ℕ)) × (AreTexts ps ts × (text ≡ join_with_byte 0x2F ts))

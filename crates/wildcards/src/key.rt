@@ -1,0 +1,204 @@
+//! What a path needs to be matched by a pattern.
+ghost use Rattle.std.specs.Prelude.{◌≡◌, ◌≤◌, ◌++◌, length, IfOk, IfSome, OnOk};
+ghost use Rattle.wildcards.specs.Keys.{IsNeeded, AreJoinedTexts, joins_by_slash, slash_before};
+
+use crate::literal::literal_text;
+use crate::options::Options;
+use crate::part::Part;
+use crate::piece::{Item, Piece};
+use crate::separators::Separators;
+use std::alloc::{AllocError, Allocator};
+
+/// What a key is of a path.
+#[derive(Clone, Copy, PartialEq, Eq)]
+pub(crate) enum Kind {
+    /// The whole path.
+    Path,
+    /// The last component.
+    Name,
+    /// A component.
+    Component,
+    /// A suffix of the last component.
+    Suffix,
+}
+
+/// A text that each path has which a pattern matches.
+#[derive(Drop)]
+pub(crate) struct Key<A: Allocator> {
+    pub kind: Kind,
+    pub text: Vec<u8, A>,
+}
+
+/// Whether a path is its components joined by `/`.
+fn joins_by_slash(separators: Separators) -> bool
+    ensures { result ≡ joins_by_slash separators }
+{
+    match separators {
+        Separators::None => true,
+        Separators::Slash => true,
+        Separators::SlashAndBackslash => false,
+    }
+}
+
+/// Adds `/` to a text, unless the next text is the first.
+fn push_slash<A: Allocator>(text: &mut Vec<u8, A>, first: bool) -> Result<(), AllocError>
+    ensures { OnOk result (text.new.items ≡ text.old.items ++ slash_before first) }
+{
+    if first {
+        return Ok(());
+    }
+    text.push(b'/')?;
+    Ok(())
+}
+
+/// The texts of all parts, joined by `/`, if each part has one.
+fn joined_texts<A: Allocator>(
+    alloc: A,
+    pieces: &[Piece<Part<A>>],
+) -> Result<Option<Vec<u8, A>>, AllocError>
+    ensures { IfOk result (λ text. IfSome text (λ text. AreJoinedTexts pieces.entry.now
+        text.items)) }
+{
+    let mut text = Vec::new(alloc);
+    let mut first = true;
+    let mut left = pieces;
+    while let Some((piece, rest)) = left.split_first() {
+        let Piece::One(part) = piece else {
+            return Ok(None);
+        };
+        let Some(own) = part.text() else {
+            return Ok(None);
+        };
+        push_slash(&mut text, first)?;
+        text.extend_from_slice(own)?;
+        first = false;
+        left = rest;
+    }
+    Ok(Some(text))
+}
+
+/// The index of the longest part that is a text; that of the last one, of several.
+fn longest_text<A: Allocator>(pieces: &[Piece<Part<A>>]) -> usize
+    ensures { result ≤ length pieces.now }
+{
+    let mut longest = 0;
+    let mut size = 0;
+    let mut at = 0;
+    while at < pieces.len() {
+        if let Piece::One(part) = &pieces[at] {
+            if let Some(text) = part.text() {
+                if text.len() >= size {
+                    longest = at;
+                    size = text.len();
+                }
+            }
+        }
+        at += 1;
+    }
+    longest
+}
+
+/// The index of the literals of ASCII at the end of pieces, at most four: so there are suffixes of
+/// three lengths, each of which is asked for.
+fn literal_suffix<A: Allocator>(pieces: &[Piece<Item<A>>]) -> usize
+    ensures { result ≤ length pieces.now }
+{
+    let mut at = pieces.len();
+    while at > 0 && pieces.len() - at < 4 {
+        match &pieces[at - 1] {
+            Piece::One(Item::Literal(letter)) => {
+                if *letter >= 0x80 {
+                    return at;
+                }
+            }
+            _ => return at,
+        }
+        at -= 1;
+    }
+    at
+}
+
+/// The suffix of each last component that the last part matches, if it has one of two letters.
+fn suffix_key<A: Allocator + Copy>(
+    alloc: A,
+    options: Options,
+    pieces: &[Piece<Part<A>>],
+) -> Result<Option<Key<A>>, AllocError>
+    ensures { IfOk result (λ key. IfSome key (λ key. IsNeeded options pieces.entry.now key.kind
+        key.text.items)) }
+{
+    let Some((last, _)) = pieces.split_last() else {
+        return Ok(None);
+    };
+    let Piece::One(part) = last else {
+        return Ok(None);
+    };
+    let own = part.pieces();
+    let (_, suffix) = own.split_at(literal_suffix(own));
+    if suffix.len() < 2 || suffix.len() == own.len() {
+        return Ok(None);
+    }
+    let Some(text) = literal_text(alloc, suffix)? else {
+        return Ok(None);
+    };
+    Ok(Some(Key {
+        kind: Kind::Suffix,
+        text,
+    }))
+}
+
+/// The longest component that a path needs.
+fn component_key<A: Allocator>(
+    alloc: A,
+    options: Options,
+    pieces: &[Piece<Part<A>>],
+) -> Result<Option<Key<A>>, AllocError>
+    ensures { IfOk result (λ key. IfSome key (λ key. IsNeeded options pieces.entry.now key.kind
+        key.text.items)) }
+{
+    let (_, rest) = pieces.split_at(longest_text(pieces));
+    let Some((piece, after)) = rest.split_first() else {
+        return Ok(None);
+    };
+    let Piece::One(part) = piece else {
+        return Ok(None);
+    };
+    let Some(own) = part.text() else {
+        return Ok(None);
+    };
+    let mut text = Vec::new(alloc);
+    text.extend_from_slice(own)?;
+    if after.is_empty() {
+        return Ok(Some(Key {
+            kind: Kind::Name,
+            text,
+        }));
+    }
+    Ok(Some(Key {
+        kind: Kind::Component,
+        text,
+    }))
+}
+
+/// The key of a pattern, if it has one.
+pub(crate) fn key_of<A: Allocator + Copy>(
+    alloc: A,
+    options: Options,
+    pieces: &[Piece<Part<A>>],
+) -> Result<Option<Key<A>>, AllocError>
+    ensures { IfOk result (λ key. IfSome key (λ key. IsNeeded options pieces.entry.now key.kind
+        key.text.items)) }
+{
+    if joins_by_slash(options.separators) {
+        if let Some(text) = joined_texts(alloc, pieces)? {
+            return Ok(Some(Key {
+                kind: Kind::Path,
+                text,
+            }));
+        }
+    }
+    if let Some(key) = suffix_key(alloc, options, pieces)? {
+        return Ok(Some(key));
+    }
+    component_key(alloc, options, pieces)
+}
