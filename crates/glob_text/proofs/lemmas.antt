@@ -1,0 +1,7 @@
+pub mod Advancing
+pub mod Braces
+pub mod Choices
+pub mod Compiled
+pub mod Mapped
+pub mod Meanings
+pub mod Readings

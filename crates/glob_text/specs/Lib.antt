@@ -1,0 +1,15 @@
+pub mod Reading
+pub mod Symbols
+pub mod Names
+pub mod ClassText
+pub mod ClassSteps
+pub mod Marks
+pub mod Braces
+pub mod BraceSteps
+pub mod Alternatives
+pub mod Chosen
+pub mod ChoiceSteps
+pub mod Parts
+pub mod Meaning
+pub mod PartSteps
+pub mod Texts

@@ -1,0 +1,57 @@
+-- What the text of a pattern means.
+use Rattle.std.specs.Prelude.{◌≡◌, ◌⊎◌, ℕ, List}
+use Rattle.wildcards.specs.declared.pattern.Choice.{Choice}
+use Rattle.glob_text.specs.declared.fault.PatternFault.{PatternFault}
+use Rattle.glob_text.specs.declared.fault.FaultKind.TheVariants.{TooManyChoices}
+use Rattle.glob_text.specs.declared.symbol.Symbol.{Symbol}
+use Rattle.glob_text.specs.declared.syntax.Syntax.{Syntax}
+use Rattle.glob_text.specs.Alternatives.{AreChoices, AreTooMany}
+use Rattle.glob_text.specs.Braces.{IsBraceFault}
+use Rattle.glob_text.specs.Marks.{Mark, AreMarks, IsMarkFault}
+use Rattle.glob_text.specs.Parts.{AreCompiled}
+use Rattle.glob_text.specs.Symbols.{AreSymbols}
+
+-- marks stand for more patterns than they may
+pub record IsTooManyFault (marks : List Mark) (fault : PatternFault) : Type 0 where
+  pub are : AreTooMany marks
+  pub fault_is : fault ≡ record { kind = TooManyChoices; index = 0 }
+
+-- the fault of marks: a brace, or too many choices
+abbrev pub IsChoiceFault : List Mark → PatternFault → Type 0
+IsChoiceFault marks fault = IsBraceFault marks fault ⊎ IsTooManyFault marks fault
+
+-- the marks of symbols are at fault
+pub record IsMarksFault (o : Syntax) (symbols : List Symbol) (fault : PatternFault) : Type 0 where
+  pub marks : List Mark
+  pub read : AreMarks o symbols marks
+  pub fault_is : IsChoiceFault marks fault
+
+-- the fault of symbols: of a mark, or of all marks
+abbrev pub IsSymbolsFault : Syntax → List Symbol → PatternFault → Type 0
+IsSymbolsFault o symbols fault = IsMarkFault o symbols fault ⊎ IsMarksFault o symbols fault
+
+module _ {A : Type 0} where
+  -- the compiled form of marks
+  pub record AreChoicesOf (o : Syntax) (marks : List Mark) (choices : List (Choice A)) : Type 0 where
+    pub written_out : List (List Mark)
+    pub are : AreChoices marks written_out
+    pub compiled : AreCompiled o.separators written_out choices
+
+  -- that of symbols
+  pub record AreOfSymbols (o : Syntax) (symbols : List Symbol) (choices : List (Choice A)) : Type 0 where
+    pub marks : List Mark
+    pub read : AreMarks o symbols marks
+    pub are : AreChoicesOf o marks choices
+
+module _ (formed : List ℕ → Type 0) (letters : List ℕ → List ℕ) (o : Syntax) (text : List ℕ) where
+  -- the compiled form of the text
+  pub record IsMeaning {A : Type 0} (choices : List (Choice A)) : Type 0 where
+    pub symbols : List Symbol
+    pub read : AreSymbols formed letters text symbols
+    pub are : AreOfSymbols o symbols choices
+
+  -- the first fault of the text
+  pub record IsFault (fault : PatternFault) : Type 0 where
+    pub symbols : List Symbol
+    pub read : AreSymbols formed letters text symbols
+    pub is : IsSymbolsFault o symbols fault

@@ -1,0 +1,18 @@
+//! The text of a path pattern, read into the compiled form of `wildcards`.
+#![tactic(auto)]
+
+mod braces;
+mod choices;
+mod class_text;
+mod fault;
+pub mod laws;
+mod mark;
+mod name;
+mod part;
+mod symbol;
+mod syntax;
+mod text;
+
+pub use fault::{FaultKind, PatternFault};
+pub use syntax::Syntax;
+pub use text::compile;

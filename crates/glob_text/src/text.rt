@@ -1,0 +1,90 @@
+//! The text of a pattern, compiled.
+ghost use Rattle.std.specs.Prelude.{map, IfOk, MatchResult};
+ghost use Rattle.glob_text.specs.Marks.{mark_of};
+ghost use Rattle.glob_text.specs.Texts.{IsChoiceFault, IsSymbolsFault, IsFault, AreChoicesOf, AreOfSymbols, IsMeaning};
+
+use crate::braces::brace_fault;
+use crate::choices::choices;
+use crate::fault::{FaultKind, PatternFault};
+use crate::mark::{Mark, marks};
+use crate::part::compile_each;
+use crate::symbol::{Symbol, symbols};
+use crate::syntax::Syntax;
+use std::alloc::{AllocError, Allocator};
+use wildcards::{Choice, Letters};
+
+/// Compiles marks, or tells their fault.
+fn compile_marks<A: Allocator + Copy>(
+    alloc: A,
+    syntax: Syntax,
+    marks: &[Mark<A>],
+) -> Result<Result<Vec<Choice<A>, A>, PatternFault>, AllocError>
+    ensures { IfOk result (λ read. MatchResult read
+        (λ compiled. AreChoicesOf syntax (map mark_of marks.now) compiled.items)
+        (λ fault. IsChoiceFault (map mark_of marks.now) fault)) }
+{
+    if let Some(fault) = brace_fault(marks) {
+        return Ok(Err(fault));
+    }
+    let Some(chosen) = choices(alloc, marks)? else {
+        return Ok(Err(PatternFault {
+            kind: FaultKind::TooManyChoices,
+            index: 0,
+        }));
+    };
+    let compiled = compile_each(alloc, syntax.separators, marks, &chosen)?;
+    Ok(Ok(compiled))
+}
+
+/// Compiles symbols, or tells their first fault.
+fn compile_symbols<A: Allocator + Copy>(
+    alloc: A,
+    syntax: Syntax,
+    text: &[Symbol],
+) -> Result<Result<Vec<Choice<A>, A>, PatternFault>, AllocError>
+    ensures { IfOk result (λ read. MatchResult read
+        (λ compiled. AreOfSymbols syntax text.now compiled.items)
+        (λ fault. IsSymbolsFault syntax text.now fault)) }
+{
+    match marks(alloc, syntax, text)? {
+        Ok(marks) => compile_marks(alloc, syntax, &marks),
+        Err(fault) => Ok(Err(fault)),
+    }
+}
+
+/// Compiles the text of a pattern, whose bytes are read by `L`, or tells its first fault: of a
+/// backslash or a class, else of a brace, else that it stands for too many patterns.
+///
+/// # Errors
+///
+/// `AllocError` if memory is refused.
+///
+/// ```
+/// use glob_text::{FaultKind, Syntax, compile};
+/// use wildcards::{Bytes, Options, Separators, matches_choice};
+///
+/// let separators = Separators::Slash;
+/// let syntax = Syntax { separators, escapes: true, class_escapes: false };
+/// let options = Options { separators, literal_leading_dot: false };
+/// match compile::<Bytes, _>(alloc, syntax, b"**/*.{c,h}")? {
+///     Ok(choices) => assert!(rt; matches_choice::<Bytes, _>(options, &choices, b"a/b.h")),
+///     Err(_) => assert!(rt; false),
+/// }
+/// match compile::<Bytes, _>(alloc, syntax, b"a[z-a]")? {
+///     Ok(_) => assert!(rt; false),
+///     Err(fault) => assert!(rt; fault.kind == FaultKind::ReversedRange && fault.index == 2),
+/// }
+/// ```
+pub fn compile<L: Letters, A: Allocator + Copy>(
+    alloc: A,
+    syntax: Syntax,
+    text: &[u8],
+) -> Result<Result<Vec<Choice<A>, A>, PatternFault>, AllocError>
+    requires { L.formed text.now }
+    ensures { IfOk result (λ read. MatchResult read
+        (λ compiled. IsMeaning L.formed L.letters syntax text.now compiled.items)
+        (λ fault. IsFault L.formed L.letters syntax text.now fault)) }
+{
+    let symbols = symbols::<L, A>(alloc, text)?;
+    compile_symbols(alloc, syntax, &symbols)
+}
