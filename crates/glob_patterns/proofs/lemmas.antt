@@ -1,1 +1,2 @@
+pub mod InlineTexts
 pub mod UnitLetters

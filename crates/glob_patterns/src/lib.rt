@@ -1,26 +1,20 @@
-//! Strings of any platform under compiled patterns.
+//! Path patterns over strings of any platform.
 //!
-//! [`StringLetters`] reads a string as letters, so that `wildcards` matches it: a letter is a
-//! whole character, or one unit of what isn't text. No pattern matches part of a letter.
+//! [`Glob`] is a pattern that is compiled once, from a text or from any string of the platform, and
+//! matches paths without memory.
 //!
-//! ```
-//! use glob_patterns::StringLetters;
-//! use os_str_ext::{OsStr, Unix};
-//! use wildcards::{Item, Options, Part, Piece, Separators, matches};
-//!
-//! // `?/?`
-//! let mut pattern = Vec::new(alloc);
-//! for _ in 0..2 {
-//!     let mut pieces = Vec::new(alloc);
-//!     pieces.push(Piece::One(Item::Any))?;
-//!     pattern.push(Piece::One(Part::new(alloc, pieces)?))?;
-//! }
-//! let options = Options { separators: Separators::Slash, literal_leading_dot: false };
-//! let path: OsStr<'_, Unix> = OsStr::new("é/ü");
-//! assert!(rt; matches::<StringLetters<Unix>, _>(options, &pattern, path.as_encoded_bytes()));
-//! ```
+//! A string is read as letters ([`StringLetters`]): a letter is a whole character, or one unit of
+//! what isn't text. No pattern matches part of a letter.
 #![tactic(auto)]
 
+mod error;
+mod glob;
 mod letters;
+mod options;
 
+pub use error::GlobError;
+pub use glob::Glob;
+pub use glob_text::{FaultKind, PatternFault};
 pub use letters::StringLetters;
+pub use options::GlobOptions;
+pub use wildcards::Separators;
