@@ -1,11 +1,15 @@
 pub mod Fish
+pub mod FishOneReading
 pub mod PowerShell
+pub mod ShellBare
 pub mod ShellDollar
 pub mod ShellEachLine
 pub mod ShellForms
 pub mod ShellItems
 pub mod ShellJoining
 pub mod ShellOneReading
+pub mod ShellOnLine
+pub mod ShellParts
 pub mod ShellRoundTrip
 pub mod ShellScan
 pub mod ShellWritten
@@ -16,6 +20,8 @@ pub mod WindowsLifted
 pub mod WindowsStrings
 pub mod WindowsScan
 pub mod WindowsUnits
+pub mod WindowsChecks
 pub mod WindowsCuts
 pub mod WindowsWriting
 pub mod WindowsLines
+pub mod WindowsParts

@@ -1,12 +1,15 @@
+pub mod ErrorText
 pub mod Fish
 pub mod PowerShell
 pub mod Shell
+pub mod ShellParts
 pub mod ShellReader
 pub mod ShellSteps
 pub mod ShellViews
 pub mod ShellWriting
 pub mod Windows
 pub mod WindowsBatch
+pub mod WindowsParts
 pub mod WindowsReader
 pub mod WindowsSteps
 pub mod WindowsViews

@@ -1,5 +1,5 @@
 -- How `sh` reads words and removes their quotes (POSIX.1-2024, Shell Command Language, 2.2 and 2.3), where nothing is expanded. Lists are of bytes.
-use Rattle.std.specs.Prelude.{◌≡◌, ◌≢◌, ℕ, ◌+◌, ◌*◌, ◌-◌, nat_eq, nat_lt, Bool, true, false, not, ◌||◌, ◌&&◌, if◌then◌else◌, Option, None, Some, Result, Ok, Err, List, [], ◌∷◌, ◌++◌, length, map}
+use Rattle.std.specs.Prelude.{◌≡◌, ◌≢◌, ◌⊎◌, ℕ, ◌+◌, ◌*◌, ◌-◌, nat_eq, nat_lt, Bool, true, false, ◌||◌, ◌&&◌, if◌then◌else◌, Option, None, Some, Result, Ok, Err, List, [], ◌∷◌, ◌++◌, length, map}
 use Rattle.std.specs.Int.{is_in_range}
 use Rattle.std.specs.List.{AllByRecursion}
 use Rattle.os_command_line.specs.declared.shell.language.Language.{Language}
@@ -191,6 +191,10 @@ AreItems l len line (Err fault ∷ items) = (left : List ℕ) × IsNext l line (
 -- the line is read as these words and at most one fault
 abbrev pub IsRead : Language → List ℕ → List (Result (List ℕ) WordsFault) → Type 0
 IsRead l line items = AreItems l (length line) line items
+
+-- these are words, or words and then one fault
+abbrev pub HasOneFault : List (Result (List ℕ) WordsFault) → Type 0
+HasOneFault items = (words : List (List ℕ)) × ((items ≡ map Ok words) ⊎ ((fault : WordsFault) × (items ≡ map Ok words ++ Err fault ∷ [])))
 
 -- the line is these words
 abbrev pub AreWords : Language → List ℕ → List (List ℕ) → Type 0

@@ -1,14 +1,13 @@
 -- The steps of a reader of words. Only views and private contracts name these; `Reads` and `IsRead` say how a line is read.
-use Rattle.std.specs.Prelude.{◌≡◌, ℕ, zero, suc, ◌-◌, nat_eq, Bool, true, false, not, ◌||◌, ◌&&◌, if◌then◌else◌, Option, None, Some, Result, Ok, Err, option_to_list, List, [], ◌∷◌, ◌++◌, length}
+use Rattle.std.specs.Prelude.{ℕ, zero, suc, ◌-◌, nat_eq, Bool, true, false, not, ◌||◌, ◌&&◌, if◌then◌else◌, Option, None, Some, Result, Ok, Err, option_to_list, List, [], ◌∷◌, ◌++◌, length}
 use Rattle.os_command_line.specs.declared.shell.language.Language.{Language}
 use Rattle.os_command_line.specs.declared.shell.step.State.{State}
 use Rattle.os_command_line.specs.declared.shell.step.State.TheVariants.{Start, Bare, Single, Double, Dollar}
 use Rattle.os_command_line.specs.declared.shell.step.Step.{Step}
 use Rattle.os_command_line.specs.declared.shell.step.Step.TheVariants.{End, Go, Refuse}
-use Rattle.os_command_line.specs.declared.shell.fault.FaultKind.{FaultKind}
 use Rattle.os_command_line.specs.declared.shell.fault.FaultKind.TheVariants.{UnclosedSingle, UnclosedDouble, UnclosedDollar, TrailingBackslash, Special, UnknownEscape}
 use Rattle.os_command_line.specs.declared.shell.fault.WordsFault.{WordsFault}
-use Rattle.os_command_line.specs.Shell.{single_quote, double_quote, backslash, newline, is_blank, is_special, is_expansion, is_escapable, opens_dollar, letter_meaning, octal_meaning, Outcome, prepend}
+use Rattle.os_command_line.specs.Shell.{single_quote, double_quote, backslash, newline, is_mark, is_blank, is_special, is_expansion, is_escapable, opens_dollar, letter_meaning, octal_meaning, Outcome, prepend}
 use Rattle.os_command_line.specs.Shell.Outcome.{Word, Fault}
 
 abbrev pub is_start : State → Bool
@@ -126,6 +125,10 @@ run l s from (suc k) (b ∷ text) = run l s from k text
 run l s from zero (b ∷ text) =
     after_step (b ∷ text) (step l s b text) (run l (next_state s (step l s b text)) (opened s from (b ∷ text)) (passed (step l s b text)) text)
 
+-- a byte that means itself outside quotes in each language, first in a word or not
+abbrev pub is_itself : Bool → ℕ → Bool
+is_itself first b = not (is_mark b || (is_blank b || is_special first b))
+
 -- what is meant where a step is made, and these bytes after it
 abbrev pub with_step : Step → List ℕ → List ℕ
 with_step End more = []
@@ -137,6 +140,14 @@ unfoldable pub meant : Language → State → ℕ → List ℕ → List ℕ
 meant l s k [] = []
 meant l s (suc k) (b ∷ text) = meant l s k text
 meant l s zero (b ∷ text) = with_step (step l s b text) (meant l (next_state s (step l s b text)) (passed (step l s b text)) text)
+
+-- what is meant by the text of a word, each byte of which means itself or not
+abbrev pub raw_bytes : Language → Bool → List ℕ → List ℕ
+raw_bytes l bare raw = if bare then raw else meant l Start zero raw
+
+-- what is still to come of it
+abbrev pub bytes_left : Language → Bool → State → List ℕ → List ℕ
+bytes_left l bare s text = if bare then text else meant l s zero text
 
 -- the outcome for a text that begins a word
 abbrev pub outcome : Language → List ℕ → Outcome

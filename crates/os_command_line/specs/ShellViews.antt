@@ -1,5 +1,5 @@
 -- What contracts say of words and of names that are printed as words.
-use Rattle.std.specs.Prelude.{◌≡◌, ℕ, zero, Bool, true, false, Result, Ok, Err, List, [], ◌∷◌}
+use Rattle.std.specs.Prelude.{ℕ, Bool, true, false, Result, Ok, Err, List}
 use Rattle.os_str_ext.specs.Symbols.{symbols_of}
 use Rattle.platform_str.specs.PlatformWords.{itself}
 use Rattle.platform_str.specs.Strings.{bytes}
@@ -9,9 +9,8 @@ use Rattle.os_command_line.specs.declared.shell.language.Specials.TheVariants.{R
 use Rattle.os_command_line.specs.declared.shell.display.Quoted.{Quoted}
 use Rattle.os_command_line.specs.declared.shell.display.Shown.{Shown}
 use Rattle.os_command_line.specs.declared.shell.display.Shown.TheVariants.{Bare, Single, Dollar}
-use Rattle.os_command_line.specs.declared.shell.step.State.TheVariants.{Start}
 use Rattle.os_command_line.specs.declared.shell.word.Word.{Word}
-use Rattle.os_command_line.specs.ShellReader.{meant}
+use Rattle.os_command_line.specs.ShellReader.{raw_bytes}
 use Rattle.os_command_line.specs.ShellWriting.{single_quoted, dollar_quoted}
 
 -- whether special characters are refused
@@ -21,7 +20,7 @@ is_refused Kept = false
 
 -- the bytes of a word
 abbrev pub word_bytes : Word → List ℕ
-word_bytes w = meant w.language Start zero w.raw.now
+word_bytes w = raw_bytes w.language w.is_bare w.raw.now
 
 -- what an item of a line is: the bytes of a word, or a fault
 abbrev pub item_bytes : Result Word WordsFault → Result (List ℕ) WordsFault

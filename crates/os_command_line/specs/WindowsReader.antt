@@ -1,5 +1,7 @@
 -- The steps of a reader of command lines. Only views and private contracts name these; `Reads`, `ReadsName` and `AreArguments` say how a line is read.
 use Rattle.std.specs.Prelude.{ℕ, ◌+◌, ◌/◌, ◌%◌, Bool, true, false, not, nat_eq, ◌&&◌, ◌||◌, if◌then◌else◌, option_to_list, List, [], ◌∷◌, ◌++◌}
+use Rattle.os_command_line.specs.declared.windows.argument.Kind.{Kind}
+use Rattle.os_command_line.specs.declared.windows.argument.Kind.TheVariants.{Name, Marked, Bare}
 use Rattle.os_command_line.specs.declared.windows.index.Index.{Index}
 use Rattle.os_command_line.specs.declared.windows.index.Known.{Known}
 use Rattle.os_command_line.specs.Windows.{backslash, quote, backslashes}
@@ -52,6 +54,10 @@ meant p (u ∷ us) = output p u ++ meant (step p u) us
 abbrev pub known_units : Known → List ℕ
 known_units k = backslashes k.backslashes ++ option_to_list k.unit
 
+-- what is still to come of an argument, which means itself or not
+abbrev pub units_left : Bool → Known → Index → List ℕ → List ℕ
+units_left bare known p us = if bare then us else known_units known ++ meant p us
+
 -- between arguments, or in one of which this much was read
 pub data Mode : Type 0 where
   Between : Mode
@@ -62,6 +68,21 @@ first_index = index false false false 0
 
 abbrev pub name_index : Index
 name_index = index true false false 0
+
+-- the kind of an argument that is bare or not
+abbrev pub argument_kind : Bool → Kind
+argument_kind bare = if bare then Bare else Marked
+
+-- whether a text of this kind means itself, and where its reader begins
+abbrev pub is_bare : Kind → Bool
+is_bare Name = false
+is_bare Marked = false
+is_bare Bare = true
+
+abbrev pub start_of : Kind → Index
+start_of Name = name_index
+start_of Marked = first_index
+start_of Bare = first_index
 
 -- the arguments from here on
 unfoldable pub arguments_from : Mode → List ℕ → List (List ℕ)

@@ -11,5 +11,6 @@
 //! (`windows::laws`).
 #![tactic(auto)]
 
+mod error_text;
 pub mod shell;
 pub mod windows;

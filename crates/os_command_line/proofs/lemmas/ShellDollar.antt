@@ -1,10 +1,9 @@
 -- What is written in dollar-single-quotes is read back.
-use Rattle.std.proofs.Common.{◌≡◌, ◌≢◌, ℕ, ◌+◌, ◌*◌, ◌/◌, ◌%◌, ◌<◌, ◌≤◌, Bool, true, false, ◌||◌, ◌&&◌, eqb, List, [], ◌∷◌, ◌++◌, map, length, refl, sym, ap, ◌∙◌, subst, arith, append_assoc, append-nil, Option, None, Some, inl, inr}
+use Rattle.std.proofs.Common.{◌≡◌, ◌≢◌, ℕ, ◌+◌, ◌/◌, ◌%◌, ◌<◌, ◌≤◌, Bool, true, false, ◌||◌, ◌&&◌, eqb, List, [], ◌∷◌, ◌++◌, map, refl, sym, ap, ◌∙◌, subst, arith, append_assoc, append-nil, Some, inl, inr}
 use Rattle.std.specs.Char.{encode_utf8}
 use Rattle.std.specs.List.{All, AllByRecursion, flat_map}
 use Rattle.std.specs.Str.{chars}
 use Rattle.std.proofs.lemmas.Bool.{cases_Bool, cases_lt, eqb-true, ne_eqb, and_parts, lt-ltb}
-use Rattle.std.proofs.lemmas.Grind.{flat_map-append}
 use Rattle.std.proofs.lemmas.List.Elements.{recursion_from_All}
 use Rattle.std.proofs.lemmas.Str.{encode_ascii}
 use Rattle.wtf8_core.specs.Byte.{IsByte}
@@ -14,17 +13,17 @@ use Rattle.wtf8_core.proofs.lemmas.scan.ComputedTests.{all_below, each_below}
 use Rattle.platform_str.specs.PlatformWords.{itself}
 use Rattle.platform_str.specs.platforms.Unix.{unix_laws, unix_parts}
 use Rattle.os_str_ext.specs.Parts.{unit_number}
-use Rattle.os_str_ext.specs.Symbols.{symbol_bytes, unit_symbol, chunk_symbols, chunks_symbols}
+use Rattle.os_str_ext.specs.Symbols.{symbol_bytes, unit_symbol, chunks_symbols}
 use Rattle.os_str_ext.specs.declared.symbols.Symbol.{Symbol}
 use Rattle.os_str_ext.specs.declared.symbols.Symbol.TheVariants as symbol
 use Rattle.os_str_ext.proofs.lemmas.SymbolBytes.{symbols_joined}
 use Rattle.os_quote.specs.Shown.{stays_on_line}
 use Rattle.os_command_line.specs.declared.shell.language.Language.{Language}
-use Rattle.os_command_line.specs.Shell.{single_quote, backslash, dollar, is_octal, is_some_byte, octal_value, octal_meaning, escape_meaning, Dollared, Ends, IsTextOf, Begins}
+use Rattle.os_command_line.specs.Shell.{single_quote, backslash, dollar, is_octal, is_some_byte, octal_value, octal_meaning, escape_meaning, Dollared, IsTextOf, Begins}
 use Rattle.os_command_line.specs.Shell.Outcome.{Word}
 use Rattle.os_command_line.specs.Shell.Dollared.{nothing, itself as plain, escape_of}
 use Rattle.os_command_line.specs.Shell.Reads.{ends, dollared}
-use Rattle.os_command_line.specs.ShellWriting.{HasNoNul, letter_for, octal_text, shown_or_octal, character_text, symbol_text, dollar_quoted, IsDollarWord}
+use Rattle.os_command_line.specs.ShellWriting.{HasNoNul, letter_for, octal_text, shown_or_octal, character_text, symbol_text, IsDollarWord}
 use Rattle.os_command_line.proofs.lemmas.ShellOneReading.{or_true}
 use Rattle.os_command_line.proofs.lemmas.ShellEachLine.{same}
 use Rattle.os_command_line.proofs.lemmas.ShellRoundTrip.{begins_with}

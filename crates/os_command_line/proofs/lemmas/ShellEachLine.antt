@@ -1,18 +1,18 @@
 -- Each text is read as a word or has a fault: the steps of the reader give what the rules say.
-use Rattle.std.proofs.Common.{◌≡◌, ◌≢◌, ℕ, zero, suc, ◌+◌, ◌-◌, ◌<◌, ◌≤◌, Bool, true, false, ◌||◌, ◌&&◌, eqb, List, [], ◌∷◌, ◌++◌, length, refl, sym, ap, ◌∙◌, subst, arith, append_assoc, append-nil, length-append, Option, None, Some, inl, inr, ◌⊎◌}
+use Rattle.std.proofs.Common.{◌≡◌, ℕ, zero, suc, ◌<◌, Bool, true, false, ◌&&◌, eqb, List, [], ◌∷◌, ◌++◌, length, refl, sym, ap, ◌∙◌, subst, arith, append_assoc, append-nil, length-append, Option, None, Some, inl, inr, ◌⊎◌}
 use Rattle.std.proofs.lemmas.Bool.{eqb-true, cases_Bool, true≢false, and_parts}
 use Rattle.os_command_line.specs.declared.shell.language.Language.{Language}
 use Rattle.os_command_line.specs.declared.shell.step.State.{State}
 use Rattle.os_command_line.specs.declared.shell.step.State.TheVariants.{Start, Bare, Single, Double, Dollar}
-use Rattle.os_command_line.specs.declared.shell.step.Step.TheVariants.{End, Go, Refuse}
+use Rattle.os_command_line.specs.declared.shell.step.Step.TheVariants.{End}
 use Rattle.os_command_line.specs.declared.shell.fault.FaultKind.TheVariants.{UnclosedSingle, UnclosedDouble, UnclosedDollar, TrailingBackslash, Special, UnknownEscape}
-use Rattle.os_command_line.specs.Shell.{single_quote, double_quote, backslash, dollar, newline, is_mark, is_blank, is_expansion, is_special, is_escapable, opens_dollar, IsBare, HasNoQuote, IsItselfDoubled, Doubled, is_octal, letter_meaning, octal_meaning, escape_meaning, BeginsNoEscape, Dollared, Outcome, prepend, Ends, Reads}
-use Rattle.os_command_line.specs.Shell.Outcome.{Word, Fault}
+use Rattle.os_command_line.specs.Shell.{single_quote, double_quote, backslash, dollar, newline, is_mark, is_blank, is_expansion, is_special, is_escapable, opens_dollar, IsBare, HasNoQuote, IsItselfDoubled, Doubled, letter_meaning, octal_meaning, escape_meaning, BeginsNoEscape, Dollared, Outcome, prepend, Reads}
+use Rattle.os_command_line.specs.Shell.Outcome.{Fault}
 use Rattle.os_command_line.specs.Shell.Doubled.{none, plain, escape, joined, kept}
 use Rattle.os_command_line.specs.Shell.Dollared.{nothing, itself, escape_of}
 use Rattle.os_command_line.specs.Shell.Reads.{ends, bare, escaped, continued, single, double, dollared, trailing, unclosed, undoubled, unescaped, undollared, unfinished, unknown, special, expands}
-use Rattle.os_command_line.specs.ShellReader.{outside_step, dollar_escape_step, run, outcome}
-use Rattle.os_command_line.proofs.lemmas.ShellOneReading.{outside, prepend_nothing, prepend_twice, of_blank, of_mark, of_expansion, no_text, go, refuse, pass, pass_all, ended, go_outside, refuse_outside, stop_outside, bare_go, special_refuse, itself_doubled, doubled_go, kept_go, escape_go, escape_meant, no_escape, single_closed, double_closed, dollar_closed, single_opened, double_opened, dollar_opened, escaped_at, joined_at}
+use Rattle.os_command_line.specs.ShellReader.{outside_step, run, outcome}
+use Rattle.os_command_line.proofs.lemmas.ShellOneReading.{outside, prepend_nothing, prepend_twice, of_blank, of_mark, no_text, go, refuse, pass, pass_all, ended, go_outside, refuse_outside, stop_outside, bare_go, special_refuse, itself_doubled, doubled_go, kept_go, escape_go, escape_meant, no_escape, single_closed, double_closed, dollar_closed, single_opened, double_opened, dollar_opened, escaped_at, joined_at}
 
 -- a reading of equal texts, with equal outcomes
 pub same : {l : Language} {first : Bool} {a b : List ℕ} {o p : Outcome} → a ≡ b → o ≡ p → Reads l first a o → Reads l first b p

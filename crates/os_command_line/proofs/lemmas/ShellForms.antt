@@ -1,28 +1,28 @@
 -- Bytes that are looked for, and names that need no quotes.
-use Rattle.std.proofs.Common.{◌≡◌, ◌≢◌, ℕ, zero, suc, ◌+◌, ◌-◌, ◌<◌, ◌≤◌, Bool, true, false, ◌&&◌, eqb, List, [], ◌∷◌, ◌++◌, length, take, drop, get_or, length-drop, length-append, take-append-drop, refl, sym, ap, ◌∙◌, subst, arith, Option, None, Some, MatchOption}
+use Rattle.std.proofs.Common.{◌≡◌, ◌≢◌, ℕ, zero, suc, ◌+◌, ◌<◌, Bool, true, false, ◌&&◌, eqb, List, [], ◌∷◌, ◌++◌, length, take, drop, get_or, length-append, take-append-drop, refl, sym, ap, ◌∙◌, subst, arith, Option, None, Some, MatchOption}
 use Rattle.std.specs.List.{AllByRecursion}
 use Rattle.std.specs.Str.{IsUtf8}
 use Rattle.std.proofs.lemmas.Bool.{eq-eqb, eqb-true, ne_eqb}
 use Rattle.std.proofs.Math.Seq.{get_or-append_seam}
 use Rattle.std.proofs.lemmas.List.{take_all, take_at, drop_more, length-take-le}
-use Rattle.std.proofs.lemmas.Str.{IsCharBoundary-before_ascii, IsUtf8-take, IsUtf8-drop, IsCharBoundary-from_take, IsUtf8-encode, encode_ascii}
+use Rattle.std.proofs.lemmas.Str.{IsCharBoundary-before_ascii, IsUtf8-take, IsUtf8-encode, encode_ascii}
 use Rattle.memchr.specs.Find.{NoneBefore, Nowhere, Passes, is_byte}
 use Rattle.os_quote.proofs.lemmas.Texts.{text_after}
 use Rattle.os_command_line.specs.Shell.{single_quote, HasNoQuote}
 use Rattle.os_command_line.specs.ShellSteps.{IsCutAtQuote}
 use Rattle.os_command_line.specs.ShellWriting.{is_plain, are_plain, HasNoNul, IsFirstNul}
 
--- where a byte isn't before an index
-module _ (wanted : ℕ) (P : ℕ → Type 0) (other : (x : ℕ) → ¬ (is_byte wanted x ≡ true) → P x) where
-  none_from : (t : List ℕ) (n : ℕ) → ((k : ℕ) → k < n → ¬ (is_byte wanted (get_or t k 0) ≡ true)) → AllByRecursion P (take n t)
+-- where no byte before an index passes a test
+module _ (test : ℕ → Bool) (P : ℕ → Type 0) (other : (x : ℕ) → ¬ (test x ≡ true) → P x) where
+  none_from : (t : List ℕ) (n : ℕ) → ((k : ℕ) → k < n → ¬ (test (get_or t k 0) ≡ true)) → AllByRecursion P (take n t)
   none_from [] zero h = tt
   none_from (x ∷ t) (suc n) h = (other x (h 0 (omega arith)), none_from t n (λ k lt. h (suc k) (omega arith)))
   none_from t n h = tt
 
-  pub nowhere : (t : List ℕ) → Nowhere (Passes (is_byte wanted) t) 0 (length t) → AllByRecursion P t
+  pub nowhere : (t : List ℕ) → Nowhere (Passes test t) 0 (length t) → AllByRecursion P t
   nowhere t h = subst (AllByRecursion P) (take_all (length t) t (omega arith)) (none_from t (length t) (λ k lt. h k (omega arith) lt))
 
-  pub before_first : (t : List ℕ) (i : ℕ) → NoneBefore (Passes (is_byte wanted) t) 0 (length t) i → AllByRecursion P (take i t)
+  pub before_first : (t : List ℕ) (i : ℕ) → NoneBefore (Passes test t) 0 (length t) i → AllByRecursion P (take i t)
   before_first t i h = none_from t i (λ k lt. h.before k (omega arith) lt)
 
 pub cut_at : (wanted : ℕ) (t : List ℕ) (i : ℕ) → i < length t → is_byte wanted (get_or t i 0) ≡ true → t ≡ take i t ++ wanted ∷ drop (i + 1) t
@@ -36,14 +36,14 @@ not_quote x n = ne_eqb x single_quote (λ e. n (eq-eqb x single_quote e))
 
 pub nul_found : (name : List ℕ) (found : Option ℕ) → MatchOption found (Nowhere (Passes (is_byte 0) name) 0 (length name)) (λ k. NoneBefore (Passes (is_byte 0) name) 0 (length name) k × Passes (is_byte 0) name k)
     → MatchOption found (HasNoNul name) (λ index. IsFirstNul name index)
-nul_found name None h = nowhere 0 (λ x. x ≢ 0) not_zero name h
-nul_found name (Some i) h = record { before = take i name; after = drop (i + 1) name; joined = cut_at 0 name i h.0.high h.1; none_before = before_first 0 (λ x. x ≢ 0) not_zero name i h.0; index_is = sym (length-take-le i name (omega (arith, h.0.high))) }
+nul_found name None h = nowhere (is_byte 0) (λ x. x ≢ 0) not_zero name h
+nul_found name (Some i) h = record { before = take i name; after = drop (i + 1) name; joined = cut_at 0 name i h.0.high h.1; none_before = before_first (is_byte 0) (λ x. x ≢ 0) not_zero name i h.0; index_is = sym (length-take-le i name (omega (arith, h.0.high))) }
 
 pub no_quote_found : (bytes : List ℕ) → Nowhere (Passes (is_byte single_quote) bytes) 0 (length bytes) → HasNoQuote bytes
-no_quote_found bytes h = nowhere single_quote (λ x. eqb x single_quote ≡ false) not_quote bytes h
+no_quote_found bytes h = nowhere (is_byte single_quote) (λ x. eqb x single_quote ≡ false) not_quote bytes h
 
 pub quote_found : (bytes : List ℕ) (i : ℕ) → NoneBefore (Passes (is_byte single_quote) bytes) 0 (length bytes) i × Passes (is_byte single_quote) bytes i → IsCutAtQuote bytes (take i bytes) (drop (i + 1) bytes)
-quote_found bytes i h = record { none_before = before_first single_quote (λ x. eqb x single_quote ≡ false) not_quote bytes i h.0; joined = cut_at single_quote bytes i h.0.high h.1 }
+quote_found bytes i h = record { none_before = before_first (is_byte single_quote) (λ x. eqb x single_quote ≡ false) not_quote bytes i h.0; joined = cut_at single_quote bytes i h.0.high h.1 }
 
 -- a text is cut there between two texts
 pub cut_texts : (t prefix after : List ℕ) → IsUtf8 t → IsCutAtQuote t prefix after → IsUtf8 prefix × IsUtf8 after

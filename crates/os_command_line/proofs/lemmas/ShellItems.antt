@@ -1,5 +1,5 @@
 -- Lines, word by word: their one list of items.
-use Rattle.std.proofs.Common.{◌≡◌, ◌≢◌, ℕ, zero, suc, ◌+◌, ◌-◌, ◌<◌, ◌≤◌, Bool, true, false, ◌&&◌, eqb, List, [], ◌∷◌, ◌++◌, drop, length, refl, sym, ap, ◌∙◌, subst, arith, append_assoc, append-nil, length-append, Option, None, Some, Result, Ok, Err, inl, inr, ◌⊎◌}
+use Rattle.std.proofs.Common.{◌≡◌, ◌≢◌, ℕ, zero, suc, ◌-◌, ◌<◌, ◌≤◌, Bool, true, false, ◌&&◌, eqb, List, [], ◌∷◌, ◌++◌, drop, length, refl, sym, ap, ◌∙◌, subst, arith, append_assoc, append-nil, length-append, Option, None, Some, Result, Ok, Err, inl, inr}
 use Rattle.std.specs.Prelude.{option_to_list}
 use Rattle.std.proofs.lemmas.Bool.{eqb-true, cases_Bool, true≢false, and_parts}
 use Rattle.os_command_line.specs.declared.shell.language.Language.{Language}
@@ -9,7 +9,7 @@ use Rattle.os_command_line.specs.declared.shell.step.Step.{Step}
 use Rattle.os_command_line.specs.declared.shell.step.Step.TheVariants.{End, Go, Refuse}
 use Rattle.os_command_line.specs.declared.shell.fault.FaultKind.{FaultKind}
 use Rattle.os_command_line.specs.declared.shell.fault.WordsFault.{WordsFault}
-use Rattle.os_command_line.specs.Shell.{single_quote, double_quote, backslash, dollar, newline, is_blank, opens_dollar, IsBare, Outcome, prepend, Ends, Reads, IsGap, Begins, IsNext, AreItems, IsRead}
+use Rattle.os_command_line.specs.Shell.{single_quote, double_quote, backslash, dollar, newline, is_blank, opens_dollar, IsBare, Outcome, prepend, Ends, Reads, IsGap, Begins, IsNext, AreItems, IsRead, HasOneFault}
 use Rattle.os_command_line.specs.Shell.Outcome.{Word, Fault}
 use Rattle.os_command_line.specs.Shell.IsGap.{no_gap, blank, line_joined}
 use Rattle.os_command_line.specs.Shell.Reads.{ends, bare, escaped, continued, single, double, dollared, trailing, unclosed, undoubled, unescaped, undollared, unfinished, unknown, special, expands}
@@ -431,3 +431,9 @@ first_fault l len line text kind left k t some o =
 
 pub no_item : (l : Language) (len : ℕ) (line text : List ℕ) → text ≡ after_gap line → text ≡ [] → items_of l len line ≡ []
 no_item l len line text t e = no_more l len (length line) line (sym t ∙ e)
+
+-- the items are words, and then at most one fault
+pub words_or_fault : (l : Language) (len : ℕ) (line : List ℕ) (items : List (Result (List ℕ) WordsFault)) → AreItems l len line items → HasOneFault items
+words_or_fault l len line [] h = ([], inl refl)
+words_or_fault l len line (Ok word ∷ items) h = let more = words_or_fault l len h.0 items h.2 in (word ∷ more.0, elim more.1 [ inl e ↦ inl (ap (λ z. Ok word ∷ z) e) | inr f ↦ inr (f.0, ap (λ z. Ok word ∷ z) f.1) ])
+words_or_fault l len line (Err fault ∷ items) h = ([], inr (fault, ap (λ z. Err fault ∷ z) h.3))

@@ -1,22 +1,19 @@
 -- A text is read in one way: what the rules say is what the steps of the reader give.
-use Rattle.std.proofs.Common.{◌≡◌, ◌≢◌, ℕ, zero, suc, ◌+◌, ◌-◌, ◌<◌, ◌≤◌, Bool, true, false, not, ◌||◌, ◌&&◌, eqb, leb, List, [], ◌∷◌, ◌++◌, length, refl, sym, ap, ◌∙◌, subst, arith, append_assoc, append-nil, length-append, Option, None, Some, inl, inr, ◌⊎◌}
-use Rattle.std.specs.List.{AllByRecursion}
-use Rattle.std.specs.Int.{is_in_range}
+use Rattle.std.proofs.Common.{◌≡◌, ℕ, zero, suc, Bool, true, false, ◌||◌, ◌&&◌, eqb, leb, List, [], ◌∷◌, ◌++◌, length, refl, sym, ap, ◌∙◌, subst, arith, append_assoc, append-nil, Option, None, Some, inl, inr, ◌⊎◌}
 use Rattle.std.specs.Prelude.{option_to_list}
-use Rattle.std.proofs.lemmas.Bool.{ne_eqb, eq-eqb, eqb-true, cases_Bool, true≢false, and_parts, leb-true}
+use Rattle.std.proofs.lemmas.Bool.{ne_eqb, eqb-true, cases_Bool, true≢false, and_parts, leb-true}
 use Rattle.os_command_line.specs.declared.shell.language.Language.{Language}
 use Rattle.os_command_line.specs.declared.shell.step.State.{State}
 use Rattle.os_command_line.specs.declared.shell.step.State.TheVariants.{Start, Bare, Single, Double, Dollar}
-use Rattle.os_command_line.specs.declared.shell.step.Step.{Step}
 use Rattle.os_command_line.specs.declared.shell.step.Step.TheVariants.{End, Go, Refuse}
 use Rattle.os_command_line.specs.declared.shell.fault.FaultKind.{FaultKind}
-use Rattle.os_command_line.specs.declared.shell.fault.FaultKind.TheVariants.{UnclosedSingle, UnclosedDouble, UnclosedDollar, TrailingBackslash, Special, UnknownEscape}
-use Rattle.os_command_line.specs.Shell.{single_quote, double_quote, backslash, dollar, newline, is_mark, is_blank, is_operator, is_expansion, is_pattern, is_special, is_escapable, opens_dollar, IsBare, HasNoQuote, IsItselfDoubled, Doubled, is_octal, is_some_byte, octal_value, letter_meaning, octal_meaning, escape_meaning, BeginsNoEscape, Dollared, Outcome, prepend, Ends, Reads}
+use Rattle.os_command_line.specs.declared.shell.fault.FaultKind.TheVariants.{TrailingBackslash, Special, UnknownEscape}
+use Rattle.os_command_line.specs.Shell.{single_quote, double_quote, backslash, dollar, newline, is_mark, is_blank, is_expansion, is_special, is_escapable, opens_dollar, IsBare, HasNoQuote, IsItselfDoubled, Doubled, is_octal, letter_meaning, octal_meaning, escape_meaning, BeginsNoEscape, Dollared, Outcome, prepend, Ends, Reads}
 use Rattle.os_command_line.specs.Shell.Outcome.{Word, Fault}
 use Rattle.os_command_line.specs.Shell.Doubled.{none, plain, escape, joined, kept}
 use Rattle.os_command_line.specs.Shell.Dollared.{nothing, itself, escape_of}
 use Rattle.os_command_line.specs.Shell.Reads.{ends, bare, escaped, continued, single, double, dollared, trailing, unclosed, undoubled, unescaped, undollared, unfinished, unknown, special, expands}
-use Rattle.os_command_line.specs.ShellReader.{is_start, is_outside, escape_step, bare_step, outside_step, single_step, double_escape_step, double_step, meaning_step, octal_step, letter_step, dollar_escape_step, dollar_step, step, at_end, opened, next_state, passed, after_step, run, outcome}
+use Rattle.os_command_line.specs.ShellReader.{is_start, bare_step, outside_step, double_step, meaning_step, letter_step, dollar_escape_step, step, at_end, opened, next_state, passed, after_step, run}
 
 -- the reader outside quotes, first in a word or not
 abbrev pub outside : Bool → State

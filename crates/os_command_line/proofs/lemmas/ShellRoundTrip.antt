@@ -1,11 +1,10 @@
 -- What is written is read back.
-use Rattle.std.proofs.Common.{◌≡◌, ◌≢◌, ℕ, zero, suc, ◌+◌, ◌<◌, Bool, true, false, not, ◌||◌, ◌&&◌, eqb, List, [], ◌∷◌, ◌++◌, map, length, refl, sym, ap, ◌∙◌, subst, arith, append_assoc, append-nil, Result, Ok, Err, inl, inr}
+use Rattle.std.proofs.Common.{◌≡◌, ◌≢◌, ℕ, ◌<◌, Bool, true, false, not, ◌||◌, ◌&&◌, eqb, List, [], ◌∷◌, ◌++◌, map, length, refl, sym, ap, ◌∙◌, subst, arith, append_assoc, append-nil, Ok, inl, inr}
 use Rattle.std.specs.List.{AllByRecursion, flat_map}
 use Rattle.std.proofs.lemmas.Bool.{cases_Bool, true≢false, and_parts, not-true, eqb-true}
 use Rattle.wtf8_core.proofs.lemmas.scan.ComputedTests.{all_below, each_below}
 use Rattle.os_command_line.specs.declared.shell.language.Language.{Language}
-use Rattle.os_command_line.specs.declared.shell.fault.WordsFault.{WordsFault}
-use Rattle.os_command_line.specs.Shell.{single_quote, backslash, dollar, newline, is_mark, is_blank, is_operator, is_pattern, is_special, opens_dollar, IsBare, HasNoQuote, Outcome, prepend, Ends, Reads, Begins, IsGap, IsNext, AreItems, IsRead, AreWords, IsTextOf}
+use Rattle.os_command_line.specs.Shell.{single_quote, backslash, dollar, is_mark, is_blank, is_operator, is_pattern, is_special, opens_dollar, IsBare, HasNoQuote, Outcome, Ends, Reads, Begins, AreItems, IsRead, AreWords, IsTextOf}
 use Rattle.os_command_line.specs.Shell.Outcome.{Word, Fault}
 use Rattle.os_command_line.specs.Shell.IsGap.{no_gap, blank}
 use Rattle.os_command_line.specs.Shell.Reads.{ends, bare, escaped, single}
@@ -40,11 +39,11 @@ not_special false b h =
     let y = or_false (is_pattern b) (true && (eqb b 0x23 || eqb b 0x3D)) x.1 in
     rw (x.0, y.0) refl
 
-none_of : (a b : Bool) → b ≡ false → a && b ≡ false
+pub none_of : (a b : Bool) → b ≡ false → a && b ≡ false
 none_of true b e = e
 none_of false b e = refl
 
-no_dollar : (l : Language) (b : ℕ) (text : List ℕ) → eqb b dollar ≡ false → opens_dollar l b text ≡ false
+pub no_dollar : (l : Language) (b : ℕ) (text : List ℕ) → eqb b dollar ≡ false → opens_dollar l b text ≡ false
 no_dollar l b [] e = refl
 no_dollar l b (c ∷ text) e = none_of l.dollar_quotes (eqb b dollar && eqb c single_quote) (rw e refl)
 
@@ -163,3 +162,15 @@ joined_read l (text ∷ texts) (word ∷ words) h =
 pub quoted_texts : (l : Language) (names : List (List ℕ)) → AllByRecursion AreBytes names → AreTextsOf l (map quoted_word names) names
 quoted_texts l [] w = tt
 quoted_texts l (name ∷ names) w = (word_is_text l name w.0, quoted_texts l names w.1)
+
+-- a text that is read as a word is a line of it
+pub alone_read : (l : Language) (text word : List ℕ) → IsTextOf l text word → IsRead l text (Ok word ∷ [])
+alone_read l text word h =
+    let one = h [] tt in (
+      [],
+      record { gap = []; text = text; parts = refl; is_gap = no_gap; begins = subst Begins (append-nil text) one.0; reads = subst (λ z. Reads l true z (Word word [])) (append-nil text) one.1 },
+      no_gap,
+    )
+
+pub joined_names : (l : Language) (names : List (List ℕ)) (line : List ℕ) → AllByRecursion AreBytes names → line ≡ join_words (map quoted_word names) → AreWords l line names
+joined_names l names line w e = subst (λ z. AreWords l z names) (sym e) (joined_read l (map quoted_word names) names (quoted_texts l names w))

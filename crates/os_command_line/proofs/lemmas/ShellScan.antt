@@ -1,5 +1,5 @@
 -- Steps of the reader by bytes.
-use Rattle.std.proofs.Common.{◌≡◌, ◌≢◌, ℕ, zero, suc, ◌+◌, ◌-◌, ◌<◌, ◌≤◌, Bool, true, false, cond, ◌&&◌, eqb, List, [], ◌∷◌, ◌++◌, take, drop, length, length-append, refl, sym, ap, ◌∙◌, subst, arith, append_assoc, append-nil, Option, None, Some}
+use Rattle.std.proofs.Common.{◌≡◌, ℕ, zero, suc, ◌-◌, ◌≤◌, Bool, true, false, cond, ◌&&◌, eqb, List, [], ◌∷◌, ◌++◌, take, drop, length, length-append, refl, sym, ap, ◌∙◌, subst, arith, Option, None, Some}
 use Rattle.std.specs.Prelude.{option_to_list}
 use Rattle.os_command_line.specs.declared.shell.language.Language.{Language}
 use Rattle.os_command_line.specs.declared.shell.step.State.{State}
@@ -7,9 +7,9 @@ use Rattle.os_command_line.specs.declared.shell.step.State.TheVariants.{Start, B
 use Rattle.os_command_line.specs.declared.shell.step.Step.{Step}
 use Rattle.os_command_line.specs.declared.shell.step.Step.TheVariants.{End, Go, Refuse}
 use Rattle.os_command_line.specs.declared.shell.fault.FaultKind.{FaultKind}
-use Rattle.os_command_line.specs.Shell.{single_quote, double_quote, backslash, newline, is_blank, is_special, is_expansion, is_escapable, opens_dollar, letter_meaning, octal_meaning, Outcome, prepend}
+use Rattle.os_command_line.specs.Shell.{single_quote, double_quote, backslash, newline, is_blank, is_special, is_expansion, is_escapable, opens_dollar, letter_meaning, octal_meaning, prepend}
 use Rattle.os_command_line.specs.Shell.Outcome.{Word, Fault}
-use Rattle.os_command_line.specs.ShellReader.{is_start, escape_step, bare_step, outside_step, single_step, double_escape_step, double_step, meaning_step, octal_step, letter_step, dollar_escape_step, dollar_step, step, is_outside, at_end, opened, with_step, run, meant, outcome, after_step, next_state, passed}
+use Rattle.os_command_line.specs.ShellReader.{is_start, escape_step, bare_step, outside_step, double_escape_step, meaning_step, octal_step, letter_step, dollar_escape_step, step, is_outside, at_end, opened, run, meant, outcome, passed}
 use Rattle.os_command_line.proofs.lemmas.ShellOneReading.{prepend_nothing, prepend_twice, no_text, go, refuse, stop}
 use Rattle.os_command_line.proofs.lemmas.ShellItems.{cut_word}
 use Rattle.os_command_line.proofs.lemmas.WindowsUnits.{cut_before_end}

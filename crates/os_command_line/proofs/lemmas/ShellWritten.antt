@@ -1,9 +1,9 @@
 -- Words as they are written, and how long they are.
-use Rattle.std.proofs.Common.{◌≡◌, ◌≢◌, ℕ, zero, suc, ◌+◌, ◌*◌, ◌/◌, ◌%◌, ◌<◌, ◌≤◌, Bool, true, false, eqb, List, [], ◌∷◌, ◌++◌, length, refl, sym, ap, ◌∙◌, subst, arith, append_assoc, append-nil, length-append, Option, None, Some, inl, inr, ltb}
+use Rattle.std.proofs.Common.{◌≡◌, ℕ, ◌+◌, ◌*◌, ◌<◌, ◌≤◌, eqb, List, [], ◌∷◌, ◌++◌, length, refl, ap, ◌∙◌, arith, length-append, Option, None, Some, inl, inr, ltb}
 use Rattle.std.specs.Char.{encode_utf8}
-use Rattle.std.specs.List.{All, AllByRecursion, flat_map}
+use Rattle.std.specs.List.{All, flat_map}
 use Rattle.std.specs.Str.{IsUtf8}
-use Rattle.std.proofs.lemmas.Bool.{cases_Bool, ne_eqb}
+use Rattle.std.proofs.lemmas.Bool.{cases_Bool}
 use Rattle.std.proofs.lemmas.Grind.{flat_map-append}
 use Rattle.std.proofs.lemmas.Str.{length-encode, len_utf8_bounds}
 use Rattle.wtf8_core.specs.Byte.{IsByte}
@@ -23,7 +23,7 @@ use Rattle.os_command_line.specs.declared.shell.form.Form.{Form}
 use Rattle.os_command_line.specs.declared.shell.form.Form.TheVariants.{Bare, Single, Dollar}
 use Rattle.os_command_line.specs.Shell.{single_quote, backslash, HasNoQuote}
 use Rattle.os_command_line.specs.ShellSteps.{IsCutAtQuote, form_text, IsFormOf, IsLineFormOf}
-use Rattle.os_command_line.specs.ShellWriting.{is_plain_name, single_byte, single_quoted, quoted_word, letter_for, octal_text, shown_or_octal, character_text, symbol_text, dollar_quoted, IsDollarWord, IsLineText, IsLineWord, IsTextWord}
+use Rattle.os_command_line.specs.ShellWriting.{single_byte, single_quoted, quoted_word, letter_for, octal_text, shown_or_octal, character_text, symbol_text, dollar_quoted, IsDollarWord, IsLineWord, IsTextWord}
 
 -- ---- single quotes
 

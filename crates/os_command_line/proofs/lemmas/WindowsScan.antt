@@ -1,11 +1,14 @@
 -- Steps of the reader by bytes.
-use Rattle.std.proofs.Common.{◌≡◌, ◌≢◌, ℕ, ◌+◌, ◌*◌, ◌/◌, ◌%◌, ◌≤◌, Bool, true, false, not, List, [], ◌∷◌, ◌++◌, length, refl, sym, ap, ◌∙◌, subst, arith, append_assoc}
+use Rattle.std.proofs.Common.{◌≡◌, ◌≢◌, ℕ, ◌+◌, ◌*◌, ◌/◌, ◌%◌, ◌≤◌, Bool, true, false, not, List, [], ◌∷◌, ◌++◌, length, refl, sym, ap, ◌∙◌, subst, arith, append_assoc, append-nil, inl, inr}
 use Rattle.std.specs.List.{AllByRecursion}
+use Rattle.std.proofs.lemmas.Bool.{cases_eq}
 use Rattle.os_command_line.specs.Windows.{backslash, quote, IsBlank, backslashes, IsLiteral, Ends, StartsWithNoQuote, Reads, ReadsName}
 use Rattle.os_command_line.specs.Windows.Reads.{ends, literal, escaped, opens, closes, doubled}
 use Rattle.os_command_line.specs.Windows.ReadsName.{name_ends, name_quote, name_unit}
-use Rattle.os_command_line.specs.WindowsSteps.{Leads, IsStep, IsNameStep}
-use Rattle.os_command_line.proofs.lemmas.WindowsEachLine.{same, more_backslashes}
+use Rattle.os_command_line.specs.WindowsReader.{meant, first_index}
+use Rattle.os_command_line.specs.WindowsSteps.{IsBare, BeginsArgument, Leads, IsStep, IsNameStep}
+use Rattle.os_command_line.proofs.lemmas.WindowsEachLine.{same, more_backslashes, blank_cases}
+use Rattle.os_command_line.proofs.lemmas.WindowsOneReading.{complete_alone}
 
 -- a step by one byte, which adds these
 step_by : (inside : Bool) (run u : ℕ) (text added : List ℕ) (inside' : Bool) (run' : ℕ) → run' ≤ run + 1 → Leads inside run (u ∷ text) added inside' run' text → IsStep inside run (u ∷ text) inside' run' text
@@ -73,6 +76,44 @@ one_more line i n text j m rest p s = record {
 
 pub to_end : (line : List ℕ) (i : Bool) (n : ℕ) (text : List ℕ) → IsSoFar line i n text → Ends i text → (argument : List ℕ) × (raw : List ℕ) × Reads text false line argument × (line ≡ raw ++ text)
 to_end line i n text p e = (p.added ++ backslashes n, p.taken, p.leads (backslashes n) text (ends i n e), p.parts)
+
+-- ---- no blank and no quotation mark
+
+bare_literal : (u : ℕ) → IsBare u → u ≢ backslash → IsLiteral false u
+bare_literal u b other = record { no_backslash = other; no_quote = b.no_quote; no_blank = λ _. b.no_blank }
+
+bare_from : (after us : List ℕ) (n : ℕ) → Ends false after → AllByRecursion IsBare us → Reads after false (backslashes n ++ (us ++ after)) (backslashes n ++ us)
+bare_from after [] n e h = same refl (sym (append-nil (backslashes n))) (ends false n e)
+bare_from after (u ∷ us) n e h = elim (cases_eq u backslash) [
+  | inl is ↦ same (more_backslashes n (us ++ after) ∙ ap (λ x. backslashes n ++ x ∷ (us ++ after)) (sym is)) (more_backslashes n us ∙ ap (λ x. backslashes n ++ x ∷ us) (sym is)) (bare_from after us (n + 1) e h.1)
+  | inr other ↦ literal false n u (us ++ after) us (bare_literal u h.0 other) (bare_from after us 0 e h.1)
+]
+
+pub bare_means_itself : (us : List ℕ) → AllByRecursion IsBare us → meant first_index us ≡ us
+bare_means_itself us h = complete_alone us us (same (append-nil us) refl (bare_from [] us 0 tt h))
+
+pub one_bare : (line rest : List ℕ) (unit : ℕ) (after : List ℕ) → (raw : List ℕ) × AllByRecursion IsBare raw × (line ≡ raw ++ rest) → rest ≡ unit ∷ after → IsBare unit → (raw : List ℕ) × AllByRecursion IsBare raw × (line ≡ raw ++ after)
+one_bare line rest unit after so_far e b = (so_far.0 ++ unit ∷ [], are_bare so_far.0 so_far.1, so_far.2 ∙ ap (λ z. so_far.0 ++ z) e ∙ sym (append_assoc so_far.0 (unit ∷ []) after))
+  where
+    are_bare : (us : List ℕ) → AllByRecursion IsBare us → AllByRecursion IsBare (us ++ unit ∷ [])
+    are_bare [] h = (b, tt)
+    are_bare (x ∷ us) h = (h.0, are_bare us h.1)
+
+pub bare_argument : (text rest : List ℕ) → (raw : List ℕ) × AllByRecursion IsBare raw × (text ≡ raw ++ rest) → Ends false rest → BeginsArgument text rest true
+bare_argument text rest b e = record { argument = b.0; raw = b.0; reads = subst (λ z. Reads rest false z b.0) (sym b.2) (bare_from rest b.0 0 e b.1); joined = b.2; is_bare = λ _. b.1 }
+
+pub marked_argument : (text rest : List ℕ) → (argument : List ℕ) × (raw : List ℕ) × Reads rest false text argument × (text ≡ raw ++ rest) → BeginsArgument text rest false
+marked_argument text rest m = record { argument = m.0; raw = m.1; reads = m.2; joined = m.3; is_bare = λ e. absurd (never e) }
+  where
+    never : false ≡ true → ⊥
+    never e = cc
+
+-- what stops there ends an argument, unless it is a quotation mark
+pub stops_here : (rest : List ℕ) (unit : ℕ) (after : List ℕ) → rest ≡ unit ∷ after → (IsBare unit → ⊥) → StartsWithNoQuote rest → Ends false rest
+stops_here rest unit after e other n = elim (blank_cases unit) [
+  | inl b ↦ subst (Ends false) (sym e) b
+  | inr b ↦ absurd (other (record { no_blank = b; no_quote = subst StartsWithNoQuote e n }))
+]
 
 -- ---- the program's name
 

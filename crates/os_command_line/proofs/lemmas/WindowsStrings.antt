@@ -43,6 +43,38 @@ wide_units c h = elim (cases_lt c 0x1_0000) [
 pub units_form : IsForm encode_utf16
 units_form = record { ascii = λ c h. wide_single c (omega (arith, h)); wide = wide_units }
 
+-- what holds of each number past ASCII holds of each number of one form where it does of each of the other
+module _ (P : ℕ → Type 0) (past : (x : ℕ) → 0x80 ≤ x → P x) where
+  all_past : (xs : List ℕ) → AllByRecursion (λ y. 0x80 ≤ y) xs → AllByRecursion P xs
+  all_past [] h = tt
+  all_past (x ∷ xs) h = (past x h.0, all_past xs h.1)
+
+  all_wide : (xs : List ℕ) → AreWide xs → AllByRecursion P xs
+  all_wide [] h = absurd h
+  all_wide (x ∷ xs) h = all_past (x ∷ xs) h
+
+  all_joined : (xs ys : List ℕ) → AllByRecursion P xs → AllByRecursion P ys → AllByRecursion P (xs ++ ys)
+  all_joined [] ys h k = k
+  all_joined (x ∷ xs) ys h k = (h.0, all_joined xs ys h.1 k)
+
+  all_after : (xs ys : List ℕ) → AllByRecursion P (xs ++ ys) → AllByRecursion P ys
+  all_after [] ys h = h
+  all_after (x ∷ xs) ys h = all_after xs ys h.1
+
+  module _ (f g : ℕ → List ℕ) (of_f : IsForm f) (of_g : IsForm g) where
+    alike : (cs : List ℕ) → AllByRecursion P (flat_map f cs) → AllByRecursion P (flat_map g cs)
+    alike [] h = tt
+    alike (c ∷ cs) h = elim (cases_lt c 0x80) [
+      | inl lt ↦ let ascii = subst (AllByRecursion P) (ap (λ z. z ++ flat_map f cs) (of_f.ascii c lt)) h in subst (AllByRecursion P) (sym (ap (λ z. z ++ flat_map g cs) (of_g.ascii c lt))) (ascii.0, alike cs ascii.1)
+      | inr ge ↦ all_joined (g c) (flat_map g cs) (all_wide (g c) (of_g.wide c ge)) (alike cs (all_after (f c) (flat_map f cs) h))
+    ]
+
+  pub each_unit : (b : List ℕ) → IsWtf8 b → AllByRecursion P b → AllByRecursion P (units_of b)
+  each_unit b w h = subst (AllByRecursion P) (sym (ap units (code_points_in-encoded b w.0 w.1))) (alike encode encode_utf16 bytes_form units_form w.0 (subst (AllByRecursion P) w.1.joined h))
+
+  pub each_byte : (b : List ℕ) → IsWtf8 b → AllByRecursion P (units_of b) → AllByRecursion P b
+  each_byte b w h = subst (AllByRecursion P) (sym w.1.joined) (alike encode_utf16 encode units_form bytes_form w.0 (subst (AllByRecursion P) (ap units (code_points_in-encoded b w.0 w.1)) h))
+
 -- a string has no more units than bytes
 few_units : (cs : List ℕ) → length (units cs) ≤ length (flat_map encode cs)
 few_units [] = omega arith

@@ -4,10 +4,13 @@ use Rattle.std.proofs.Math.Seq.{take-append_seam, drop-append_seam}
 use Rattle.std.specs.Prelude.{IsTrue}
 use Rattle.wtf8_core.proofs.lemmas.forms.Appending.{append_same}
 use Rattle.wtf8_core.proofs.lemmas.units.PrefixTests.{never}
+use Rattle.os_command_line.specs.declared.windows.argument.Kind.{Kind}
+use Rattle.os_command_line.specs.declared.windows.argument.Kind.TheVariants.{Name, Marked, Bare}
 use Rattle.os_command_line.specs.declared.windows.index.Index.{Index}
 use Rattle.os_command_line.specs.declared.windows.index.Known.{Known}
 use Rattle.os_command_line.specs.Windows.{quote, backslashes}
-use Rattle.os_command_line.specs.WindowsReader.{output, step, is_slash, meant, known_units}
+use Rattle.os_command_line.specs.WindowsReader.{output, step, is_slash, meant, known_units, units_left, is_bare, start_of}
+use Rattle.os_command_line.specs.WindowsViews.{kind_units}
 use Rattle.os_command_line.proofs.lemmas.WindowsOneReading.{meant_step, meant_end}
 
 pub nothing_meant : (q : Index) (rest : List ℕ) → rest ≡ [] → q.run ≡ 0 → meant q rest ≡ []
@@ -41,6 +44,26 @@ pub first_read : (old all known rest more : List ℕ) (unit : Option ℕ) → ol
     → MatchOption unit ((old ++ all ≡ []) × (rest ++ more ≡ [])) (λ u. old ++ all ≡ u ∷ (rest ++ more))
 first_read old all known rest more None o e n h = (ap (λ z. z ++ all) o ∙ e ∙ ap (λ z. z ++ more) h.0 ∙ n h.0, ap (λ z. z ++ more) h.1 ∙ n h.0)
 first_read old all known rest more (Some u) o e n h = ap (λ z. z ++ all) o ∙ e ∙ ap (λ z. z ++ more) h
+
+-- what is left of an argument that means itself or not
+module _ (bare : Bool) (known more : Known) (p q : Index) (us rest : List ℕ) (unit : Option ℕ) where
+  pub left_bare : bare ≡ true → MatchOption unit ((us ≡ []) × (rest ≡ [])) (λ u. us ≡ u ∷ rest) → MatchOption unit ((units_left bare known p us ≡ []) × (units_left bare more q rest ≡ [])) (λ u. units_left bare known p us ≡ u ∷ units_left bare more q rest)
+  left_bare e h = rw e h
+
+  pub left_marked : bare ≡ false → MatchOption unit ((known_units known ++ meant p us ≡ []) × (known_units more ++ meant q rest ≡ [])) (λ u. known_units known ++ meant p us ≡ u ∷ (known_units more ++ meant q rest))
+      → MatchOption unit ((units_left bare known p us ≡ []) × (units_left bare more q rest ≡ [])) (λ u. units_left bare known p us ≡ u ∷ units_left bare more q rest)
+  left_marked e h = rw e h
+
+-- where a text of a kind begins
+pub start_units : (k : Kind) (us : List ℕ) → units_left (is_bare k) (record { backslashes = 0; unit = None }) (start_of k) us ≡ kind_units k us
+start_units Name us = refl
+start_units Marked us = refl
+start_units Bare us = refl
+
+pub start_run : (k : Kind) → (start_of k).run ≡ 0
+start_run Name = refl
+start_run Marked = refl
+start_run Bare = refl
 
 -- a text cut before its end
 pub cut_before_end : (text raw rest : List ℕ) (n : ℕ) → text ≡ raw ++ rest → n ≡ length text - length rest → (take n text ≡ raw) × (drop n text ≡ rest)

@@ -7,7 +7,7 @@ use Rattle.os_command_line.specs.Windows.Reads.{ends, literal, escaped, opens, c
 use Rattle.os_command_line.specs.WindowsWriting.{HasNo, IsFirstAt, Writes, Extends, IsAddedFor, IsPart, IsWritten}
 use Rattle.os_command_line.proofs.lemmas.WindowsEachLine.{same, more_backslashes}
 
-twice : (n m k : ℕ) (text : List ℕ) → n + m ≡ k → backslashes n ++ (backslashes m ++ text) ≡ backslashes k ++ text
+pub twice : (n m k : ℕ) (text : List ℕ) → n + m ≡ k → backslashes n ++ (backslashes m ++ text) ≡ backslashes k ++ text
 twice n m k text e = sym (append_assoc (backslashes n) (backslashes m) text) ∙ ap (λ s. s ++ text) (replicate-append-replicate n m backslash ∙ ap backslashes e)
 
 quote_written : Writes true (quote ∷ []) 0 []

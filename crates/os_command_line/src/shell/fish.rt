@@ -8,14 +8,25 @@ ghost use Rattle.platform_str.specs.Strings.{bytes};
 ghost use Rattle.os_command_line.specs.Fish.{fish_byte, fish_quoted, fish_text, fish_word, is_escaped, IsFishFault, IsFishText};
 ghost use Rattle.os_command_line.specs.ShellWriting.{HasNoNul, IsFirstNul};
 
+use crate::error_text::write_at_byte;
 use crate::shell::error::NulError;
 use crate::shell::form::{first_nul, is_plain_name};
 use crate::shell::powershell::first_char;
 use platform_str::{OsStr, Platform, Unix, Writeable, write_filled};
+use std::error::Error;
 use std::fmt;
 use wtf8_core::push_truncated;
 
 /// Why a name isn't printed as a word of fish.
+///
+/// Its text is `NUL at byte 3` or `invalid UTF-8 at byte 3`, at any width.
+///
+/// ```
+/// use os_command_line::shell::FishError;
+///
+/// let error = FishError::NotText(1);
+/// assert_eq!(rt; format!(in alloc; "{error}")?.as_str(), "invalid UTF-8 at byte 1");
+/// ```
 #[derive(Clone, Copy, Debug, PartialEq, Eq)]
 pub enum FishError {
     /// The byte index of the first NUL. No argument has one.
@@ -24,6 +35,24 @@ pub enum FishError {
     /// [`write_quoted_fish`] writes such a name.
     NotText(usize),
 }
+
+impl fmt::Display for FishError {
+    ghost use Rattle.std.specs.Prelude.{Some};
+    ghost use Rattle.os_command_line.specs.ErrorText.{fish_error_text};
+
+    ghost output = { λ error. Some (fish_error_text error) };
+
+    ghost styled_output = { λ error _. Some (fish_error_text error) };
+
+    fn fmt<W: fmt::Write>(&self, f: &mut fmt::Formatter<W>) -> fmt::Result {
+        match *self {
+            FishError::Nul(index) => write_at_byte("NUL", index, f),
+            FishError::NotText(index) => write_at_byte("invalid UTF-8", index, f),
+        }
+    }
+}
+
+impl Error for FishError {}
 
 /// A name that prints as a word of fish. Printing it allocates nothing.
 ///

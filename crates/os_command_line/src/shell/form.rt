@@ -3,7 +3,7 @@ ghost use Rattle.std.specs.Prelude.{◌≡◌, ◌↔◌, MatchOption, MatchResu
 ghost use Rattle.platform_str.specs.Strings.{bytes};
 ghost use Rattle.os_command_line.specs.ShellWriting.{is_plain, are_plain, is_plain_name, HasNoNul, IsFirstNul, IsLineText};
 ghost use Rattle.os_command_line.specs.Shell.{HasNoQuote};
-ghost use Rattle.os_command_line.specs.ShellSteps.{IsFormOf, IsLineFormOf, IsCutAtQuote};
+ghost use Rattle.os_command_line.specs.ShellSteps.{is_bare_form, IsFormOf, IsLineFormOf, IsCutAtQuote};
 
 use crate::shell::error::NulError;
 use memchr::memchr;
@@ -21,19 +21,31 @@ pub(crate) enum Form {
     Dollar,
 }
 
+impl Form {
+    /// Whether a name is written as it is.
+    pub(crate) fn is_bare(self) -> bool
+        ensures { result ≡ is_bare_form self }
+    {
+        match self {
+            Form::Bare => true,
+            Form::Single => false,
+            Form::Dollar => false,
+        }
+    }
+}
+
 /// The form of a name in every POSIX shell.
 pub(crate) fn form_of(name: OsStr<'_, Unix>) -> Result<Form, NulError>
     ensures form { MatchResult result (λ form. IsFormOf (bytes name.entry) form)
         (λ fault. IsFirstNul (bytes name.entry) fault.index) }
     ensures no_nul { MatchResult result (λ _. HasNoNul (bytes name.entry)) (λ _. Unit {0}) }
 {
-    if let Some(index) = first_nul(name.as_encoded_bytes()) {
-        return Err(NulError { index });
-    }
     if is_plain_name(name.as_encoded_bytes()) {
-        Ok(Form::Bare)
-    } else {
-        Ok(Form::Single)
+        return Ok(Form::Bare);
+    }
+    match first_nul(name.as_encoded_bytes()) {
+        Some(index) => Err(NulError { index }),
+        None => Ok(Form::Single),
     }
 }
 
@@ -44,6 +56,9 @@ pub(crate) fn line_form_of(name: OsStr<'_, Unix>) -> Result<Form, NulError>
     ensures no_nul { MatchResult result (λ _. HasNoNul (bytes name.entry)) (λ _. Unit {0}) }
 {
     let form = form_of(name)?;
+    if form.is_bare() {
+        return Ok(form);
+    }
     if is_line_text(name) {
         Ok(form)
     } else {

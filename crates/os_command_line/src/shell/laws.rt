@@ -1,7 +1,10 @@
 //! Laws of words. Each is the contract of a function that does nothing.
-ghost use Rattle.std.specs.Prelude.{◌≡◌, true, Result, List, ℕ, map};
+ghost use Rattle.std.specs.Prelude.{◌≡◌, ◌∷◌, true, [], Ok, Result, List, ℕ, map};
 ghost use Rattle.std.specs.List.{AllByRecursion};
-ghost use Rattle.os_command_line.specs.Shell.{AreWords, IsRead, IsTextOf};
+ghost use Rattle.os_command_line.specs.Fish.{IsFishText};
+ghost use Rattle.os_command_line.specs.PowerShell.{IsPowerShellText};
+ghost use Rattle.os_command_line.specs.Shell.{AreWords, HasOneFault, IsRead, IsTextOf};
+ghost use Rattle.os_command_line.specs.ShellParts.{AreLineParts};
 ghost use Rattle.os_command_line.specs.ShellWriting.{AreBytes, HasNoNul, IsLineText, IsLineWord, quoted_word, join_words};
 ghost use Rattle.os_command_line.specs.declared.shell.fault.WordsFault.{WordsFault};
 ghost use Rattle.os_command_line.specs.declared.shell.language.Language.{Language};
@@ -12,10 +15,19 @@ pub fn lines()
         × IsRead l line items }
     ensures one { (l : Language) → (line : List ℕ) → (xs : List (Result (List ℕ) WordsFault))
         → (ys : List (Result (List ℕ) WordsFault)) → IsRead l line xs → IsRead l line ys → xs ≡ ys }
+    ensures one_fault { (l : Language) → (line : List ℕ)
+        → (items : List (Result (List ℕ) WordsFault)) → IsRead l line items → HasOneFault items }
+{}
+
+/// Each byte of a line belongs to a gap, to a mark or to a word, up to the fault if the line has one.
+pub fn parts()
+    ensures { (l : Language) → (line : List ℕ) → (items : List (Result (List ℕ) WordsFault))
+        → IsRead l line items → AreLineParts line items }
 {}
 
 /// The word of a name is read as the name in each language, whatever blank or end comes after it, and a
-/// text that is read so is read as no other; names with equal words are equal; a line of the words of
+/// text that is read so is read as no other, and is a line of this word alone; names with equal words
+/// are equal; a line of the words of
 /// names is read as these names and has no fault.
 pub fn words()
     ensures read { (l : Language) → (name : List ℕ) → AreBytes name
@@ -24,16 +36,31 @@ pub fn words()
         → IsTextOf l text a → IsTextOf l text b → a ≡ b }
     ensures one_name { (a : List ℕ) → (b : List ℕ) → AreBytes a → AreBytes b
         → quoted_word a ≡ quoted_word b → a ≡ b }
+    ensures alone { (l : Language) → (text : List ℕ) → (word : List ℕ) → IsTextOf l text word
+        → IsRead l text (Ok word ∷ []) }
     ensures joined { (l : Language) → (names : List (List ℕ)) → AllByRecursion AreBytes names
         → AreWords l (join_words (map quoted_word names)) names }
 {}
 
-/// The word of a name on one line is read as the name, whatever blank or end comes after it: in each
-/// language where each character of the name stays on the line, and else where `$'..'` is read.
+/// The word of a name on one line is a text, each character of which stays on the line, and no other
+/// name has it. It is read as the name, whatever blank or end comes after it: in each language where each
+/// character of the name stays on the line, and else where `$'..'` is read.
 pub fn line_words()
+    ensures stays { (name : List ℕ) → (text : List ℕ) → AreBytes name → IsLineWord name text
+        → IsLineText text }
+    ensures one_name { (text : List ℕ) → (a : List ℕ) → (b : List ℕ) → AreBytes a → HasNoNul a
+        → AreBytes b → HasNoNul b → IsLineWord a text → IsLineWord b text → a ≡ b }
     ensures shown { (l : Language) → (name : List ℕ) → (text : List ℕ) → AreBytes name
         → IsLineText name → IsLineWord name text → IsTextOf l text name }
     ensures hidden { (l : Language) → (name : List ℕ) → (text : List ℕ) → l.dollar_quotes ≡ true
         → AreBytes name → HasNoNul name → ¬ (IsLineText name) → IsLineWord name text
         → IsTextOf l text name }
+{}
+
+/// A text is a word of fish of one name, and a string of PowerShell of one list of characters.
+pub fn other_shells()
+    ensures fish { (text : List ℕ) → (a : List ℕ) → (b : List ℕ) → IsFishText text a
+        → IsFishText text b → a ≡ b }
+    ensures powershell { (text : List ℕ) → (a : List ℕ) → (b : List ℕ) → IsPowerShellText text a
+        → IsPowerShellText text b → a ≡ b }
 {}

@@ -1,8 +1,10 @@
 //! Words in memory of their own.
-ghost use Rattle.std.specs.Prelude.{◌≡◌, ◌++◌, ℕ, List, IfOk, IfErr, OnOk, OnErr};
+ghost use Rattle.std.specs.Prelude.{◌≡◌, ◌++◌, true, ℕ, List, IfOk, IfErr, OnOk, OnErr};
 ghost use Rattle.platform_str.specs.Strings.{bytes, string_vec_of};
 ghost use Rattle.os_command_line.specs.ShellSteps.{form_text};
-ghost use Rattle.os_command_line.specs.ShellWriting.{HasNoNul, IsNameFault, IsLineWord, quoted_word};
+ghost use Rattle.os_command_line.specs.Shell.{IsTextOf};
+ghost use Rattle.os_command_line.specs.ShellWriting.{HasNoNul, IsNameFault, IsLineText, IsLineWord, quoted_word};
+ghost use Rattle.os_command_line.specs.declared.shell.language.Language.{Language};
 
 use crate::shell::error::ShellError;
 use crate::shell::form::{Form, form_of, line_form_of};
@@ -27,6 +29,8 @@ use std::alloc::{AllocError, Allocator};
 pub fn quote<A: Allocator>(alloc: A, name: OsStr<'_, Unix>) -> Result<OsString<Unix, A>, ShellError>
     ensures word { IfOk result
         (λ word. (string_vec_of word).items ≡ quoted_word (bytes name.entry)) }
+    ensures read { IfOk result (λ word. (l : Language)
+        → IsTextOf l (string_vec_of word).items (bytes name.entry)) }
     ensures fault { IfErr result (λ fault. IsNameFault (bytes name.entry) fault) }
 {
     let mut word = Vec::new(alloc);
@@ -54,6 +58,9 @@ pub fn quote_line<A: Allocator>(
 ) -> Result<OsString<Unix, A>, ShellError>
     ensures word { IfOk result
         (λ word. IsLineWord (bytes name.entry) (string_vec_of word).items) }
+    ensures read { IfOk result (λ word. (l : Language) → l.dollar_quotes ≡ true
+        → IsTextOf l (string_vec_of word).items (bytes name.entry)) }
+    ensures stays { IfOk result (λ word. IsLineText (string_vec_of word).items) }
     ensures fault { IfErr result (λ fault. IsNameFault (bytes name.entry) fault) }
 {
     let mut word = Vec::new(alloc);
@@ -112,6 +119,7 @@ pub fn push_word_line<A: Allocator>(
 ) -> Result<(), ShellError>
     ensures word { OnOk result ((word : List ℕ) × IsLineWord (bytes name.entry) word
         × (line.new.items ≡ line.old.items ++ word)) }
+    ensures no_nul { OnOk result (HasNoNul (bytes name.entry)) }
     ensures fault { IfErr result (λ fault. IsNameFault (bytes name.entry) fault) }
     ensures unchanged { OnErr result (line.new.items ≡ line.old.items) }
 {

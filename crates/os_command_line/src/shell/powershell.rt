@@ -8,12 +8,23 @@ ghost use Rattle.wtf8_core.specs.Truncated.{IsTruncated};
 ghost use Rattle.platform_str.specs.Strings.{bytes};
 ghost use Rattle.os_command_line.specs.PowerShell.{HasNulAt, is_single_quote, IsPowerShellFault, IsPowerShellName, IsPowerShellText, powershell_character, powershell_string, powershell_text};
 
+use crate::error_text::write_at_byte;
 use memchr::memchr;
 use platform_str::{OsStr, Platform, Windows, Writeable, write_filled};
+use std::error::Error;
 use std::fmt;
 use wtf8_core::push_truncated;
 
 /// Why a name can't be written as a string of PowerShell.
+///
+/// Its text is `lone surrogate at byte 3` or `NUL at byte 3`, at any width.
+///
+/// ```
+/// use os_command_line::shell::PowerShellError;
+///
+/// let error = PowerShellError::LoneSurrogate(1);
+/// assert_eq!(rt; format!(in alloc; "{error}")?.as_str(), "lone surrogate at byte 1");
+/// ```
 #[derive(Clone, Copy, Debug, PartialEq, Eq)]
 pub enum PowerShellError {
     /// The byte index of the first lone surrogate. A line of text can't have one.
@@ -21,6 +32,24 @@ pub enum PowerShellError {
     /// The byte index of the first NUL, of a name without lone surrogates. No argument has one.
     Nul(usize),
 }
+
+impl fmt::Display for PowerShellError {
+    ghost use Rattle.std.specs.Prelude.{Some};
+    ghost use Rattle.os_command_line.specs.ErrorText.{powershell_error_text};
+
+    ghost output = { λ error. Some (powershell_error_text error) };
+
+    ghost styled_output = { λ error _. Some (powershell_error_text error) };
+
+    fn fmt<W: fmt::Write>(&self, f: &mut fmt::Formatter<W>) -> fmt::Result {
+        match *self {
+            PowerShellError::LoneSurrogate(index) => write_at_byte("lone surrogate", index, f),
+            PowerShellError::Nul(index) => write_at_byte("NUL", index, f),
+        }
+    }
+}
+
+impl Error for PowerShellError {}
 
 /// A name that prints as a string of PowerShell. Printing it allocates nothing.
 ///

@@ -1,7 +1,8 @@
 //! From names to what prints as words.
-ghost use Rattle.std.specs.Prelude.{◌≡◌, MatchResult};
+ghost use Rattle.std.specs.Prelude.{◌≡◌, MatchOption, MatchResult};
+ghost use Rattle.std.specs.Str.{IsUtf8};
 ghost use Rattle.platform_str.specs.Strings.{bytes};
-ghost use Rattle.os_command_line.specs.ShellSteps.{form_text};
+ghost use Rattle.os_command_line.specs.ShellSteps.{form_text, IsPlainIfBare};
 ghost use Rattle.os_command_line.specs.ShellViews.{shown_text, quoted_text};
 ghost use Rattle.os_command_line.specs.ShellWriting.{HasNoNul, IsFirstNul, IsLineWord, IsTextWord};
 
@@ -44,7 +45,7 @@ pub fn quoted<'a>(name: OsStr<'a, Unix>) -> Result<Quoted<'a>, NulError>
     ensures no_nul { MatchResult result (λ _. HasNoNul (bytes name.entry)) (λ _. Unit {0}) }
 {
     let form = form_of(name)?;
-    let shown = match name.to_str() {
+    let shown = match text_of(form, name) {
         Some(text) => shown_in(form, text),
         None => Shown::Dollar(name),
     };
@@ -81,11 +82,23 @@ pub fn quoted_line<'a>(name: OsStr<'a, Unix>) -> Result<Quoted<'a>, NulError>
     ensures no_nul { MatchResult result (λ _. HasNoNul (bytes name.entry)) (λ _. Unit {0}) }
 {
     let form = line_form_of(name)?;
-    let shown = match name.to_str() {
+    let shown = match text_of(form, name) {
         Some(text) => shown_in(form, text),
         None => Shown::Dollar(name),
     };
     Ok(Quoted { shown })
+}
+
+/// A name as a text, if it is one: a name that is written as it is has only ASCII.
+fn text_of(form: Form, name: OsStr<'_, Unix>) -> Option<&str>
+    requires { IsPlainIfBare (bytes name) form }
+    ensures { MatchOption result (¬ (IsUtf8 (bytes name.entry)))
+        (λ text. text.now ≡ bytes name.entry) }
+{
+    if form.is_bare() {
+        return Some(unsafe { str::from_utf8_unchecked(name.as_encoded_bytes()) });
+    }
+    name.to_str()
 }
 
 /// How a text is printed in a form.

@@ -1,12 +1,13 @@
 //! How far a word reaches.
-ghost use Rattle.std.specs.Prelude.{◌≡◌, ◌≢◌, ◌∷◌, ℕ, List, MatchOption, MatchResult};
-ghost use Rattle.os_command_line.specs.Shell.{backslash, newline};
+ghost use Rattle.std.specs.Prelude.{◌≡◌, ◌≢◌, ◌∷◌, ◌++◌, false, ℕ, List, IfSome, IsTrue, MatchOption, MatchResult};
+ghost use Rattle.os_command_line.specs.Shell.{backslash, newline, Ends};
 ghost use Rattle.os_command_line.specs.Shell.Outcome.{Word, Fault};
 ghost use Rattle.os_command_line.specs.ShellReader.{after_gap, outcome};
+ghost use Rattle.os_command_line.specs.ShellSteps.{AreItself, BeginsBare};
 
 use crate::shell::fault::FaultKind;
 use crate::shell::language::Language;
-use crate::shell::step::{State, Step, is_blank, step_at};
+use crate::shell::step::{State, Step, is_blank, is_itself, step_at};
 
 /// What comes after the gap at the start.
 pub(crate) fn skip_gap(line: &[u8]) -> &[u8]
@@ -44,6 +45,44 @@ fn after_joined(line: &[u8]) -> Option<&[u8]>
         return None;
     }
     Some(rest)
+}
+
+/// What comes after the word at the start, if each of its bytes means itself in each language.
+pub(crate) fn after_bare(text: &[u8]) -> Option<&[u8]>
+    ensures { IfSome result (λ rest. BeginsBare text.now rest.now) }
+{
+    let Some((first, after)) = text.split_first() else {
+        return None;
+    };
+    if !is_itself(true, *first) {
+        return None;
+    }
+    let rest = after_itself(after);
+    if ends_word(rest) { Some(rest) } else { None }
+}
+
+/// What comes after the bytes at the start that mean themselves.
+fn after_itself(text: &[u8]) -> &[u8]
+    ensures { (raw : List ℕ) × AreItself false raw × (text.now ≡ raw ++ result.now) }
+{
+    let mut rest = text;
+    while let Some((byte, after)) = rest.split_first() {
+        if !is_itself(false, *byte) {
+            return rest;
+        }
+        rest = after;
+    }
+    rest
+}
+
+/// Whether a word ends before a text.
+fn ends_word(text: &[u8]) -> bool
+    ensures { IsTrue result → Ends text.now }
+{
+    match text.split_first() {
+        Some((byte, _)) => is_blank(*byte),
+        None => true,
+    }
 }
 
 /// What comes after the word at the start, or the fault and the text from it on.

@@ -1,7 +1,7 @@
 //! A reader's steps.
 ghost use Rattle.std.specs.Prelude.{◌≡◌, ◌≤◌, IfSome, length};
 ghost use Rattle.os_command_line.specs.Shell.{is_mark, is_blank, is_operator, is_expansion, is_pattern, is_special, is_escapable, opens_dollar, is_octal, letter_meaning, octal_meaning};
-ghost use Rattle.os_command_line.specs.ShellReader.{is_start, is_outside, escape_step, bare_step, outside_step, single_step, double_escape_step, double_step, octal_step, letter_step, dollar_escape_step, dollar_step, step};
+ghost use Rattle.os_command_line.specs.ShellReader.{is_start, is_outside, is_itself, escape_step, bare_step, outside_step, single_step, double_escape_step, double_step, octal_step, letter_step, dollar_escape_step, dollar_step, step};
 
 use crate::shell::fault::FaultKind;
 use crate::shell::language::Language;
@@ -260,6 +260,7 @@ fn is_octal(byte: u8) -> bool
 }
 
 /// Whether a byte is a quote or a backslash.
+#[inline(always)]
 fn is_mark(byte: u8) -> bool
     ensures { result ≡ is_mark byte }
 {
@@ -272,6 +273,14 @@ pub(crate) fn is_blank(byte: u8) -> bool
     ensures { result ≡ is_blank byte }
 {
     byte == b' ' || byte == b'\t' || byte == b'\n'
+}
+
+/// Whether a byte means itself outside quotes in each language, first in a word or not.
+#[inline(always)]
+pub(crate) fn is_itself(first: bool, byte: u8) -> bool
+    ensures { result ≡ is_itself first byte }
+{
+    !(is_mark(byte) || is_blank(byte) || is_special(first, byte))
 }
 
 /// Whether `$'` is there, in a language that has such quotes.

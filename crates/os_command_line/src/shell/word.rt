@@ -9,4 +9,6 @@ use crate::shell::language::Language;
 pub struct Word<'a> {
     pub(crate) language: Language,
     pub(crate) raw: &'a [u8],
+    /// Whether each byte of the text means itself.
+    pub(crate) is_bare: bool,
 }

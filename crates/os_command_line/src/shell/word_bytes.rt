@@ -3,7 +3,7 @@ ghost use Rattle.std.specs.Prelude.{◌≡◌, ◌↔◌, ◌∷◌, ◌+◌, �
 ghost use Rattle.std.specs.Iterator.{YieldsFirst, item_count};
 ghost use Rattle.platform_str.specs.Strings.{bytes, string_vec_of};
 ghost use Rattle.wtf8_core.specs.Truncated.{IsTruncated};
-ghost use Rattle.os_command_line.specs.ShellReader.{meant};
+ghost use Rattle.os_command_line.specs.ShellReader.{bytes_left, meant};
 
 use crate::shell::language::Language;
 use crate::shell::owned::unix_string;
@@ -18,19 +18,20 @@ use wtf8_core::push_truncated;
 /// [`Word::bytes`] makes it.
 #[derive(Drop)]
 pub struct WordBytes<'a> {
+    is_bare: bool,
     language: Language,
     state: State,
     rest: &'a [u8],
 }
 
 impl<'a> Model for WordBytes<'a> {
-    ghost use Rattle.std.specs.Prelude.{List, ℕ, zero};
+    ghost use Rattle.std.specs.Prelude.{List, ℕ};
 
     ghost Value = { List ℕ };
 
-    ghost use Rattle.os_command_line.specs.ShellReader.{meant};
+    ghost use Rattle.os_command_line.specs.ShellReader.{bytes_left};
 
-    ghost view = { λ it. meant it.language it.state zero it.rest.now };
+    ghost view = { λ it. bytes_left it.language it.is_bare it.state it.rest.now };
 }
 
 impl<'a> Iterator for WordBytes<'a> {
@@ -42,7 +43,7 @@ impl<'a> Iterator for WordBytes<'a> {
 
     #[inline(always)]
     fn next(&mut self) -> Option<u8> {
-        let (byte, state, rest) = next_byte(self.language, self.state, self.rest);
+        let (byte, state, rest) = next_byte(self.language, self.is_bare, self.state, self.rest);
         self.state = state;
         self.rest = rest;
         byte
@@ -51,7 +52,39 @@ impl<'a> Iterator for WordBytes<'a> {
 
 /// The next byte that is meant, where the reader is then, and what is left.
 #[inline(always)]
-fn next_byte(language: Language, state: State, text: &[u8]) -> (Option<u8>, State, &[u8])
+fn next_byte(
+    language: Language,
+    is_bare: bool,
+    state: State,
+    text: &[u8],
+) -> (Option<u8>, State, &[u8])
+    ensures { MatchOption result.0
+        ((bytes_left language is_bare state text.now ≡ [])
+        × (bytes_left language is_bare result.1 result.2.now ≡ []))
+        (λ byte. bytes_left language is_bare state text.now
+        ≡ byte ∷ bytes_left language is_bare result.1 result.2.now) }
+{
+    if is_bare {
+        return next_bare(state, text);
+    }
+    next_marked(language, state, text)
+}
+
+/// The same where each byte means itself.
+#[inline(always)]
+fn next_bare(state: State, text: &[u8]) -> (Option<u8>, State, &[u8])
+    ensures { MatchOption result.0 ((text.now ≡ []) × (result.2.now ≡ []))
+        (λ byte. text.now ≡ byte ∷ result.2.now) }
+{
+    match text.split_first() {
+        Some((byte, after)) => (Some(*byte), state, after),
+        None => (None, state, text),
+    }
+}
+
+/// The same of a word that may have quotes.
+#[inline(always)]
+fn next_marked(language: Language, state: State, text: &[u8]) -> (Option<u8>, State, &[u8])
     ensures { MatchOption result.0
         ((meant language state zero text.now ≡ [])
         × (meant language result.1 zero result.2.now ≡ []))
@@ -99,6 +132,7 @@ impl<'a> Word<'a> {
         ensures { result ≡ word_bytes self.entry }
     {
         WordBytes {
+            is_bare: self.is_bare,
             language: self.language,
             state: State::Start,
             rest: self.raw,
@@ -152,6 +186,9 @@ impl<'a> Word<'a> {
     pub fn write_to(self, buffer: &mut [u8]) -> usize
         ensures { IsTruncated (word_bytes self.entry) buffer.old buffer.new result }
     {
+        if self.is_bare {
+            return push_truncated(buffer, 0, self.raw);
+        }
         let mut count = 0;
         for byte in self.bytes() {
             count = push_truncated(buffer, count, &[byte]);
@@ -179,6 +216,9 @@ impl<'a> Word<'a> {
     pub fn to_owned<A: Allocator>(self, alloc: A) -> Result<OsString<Unix, A>, AllocError>
         ensures { IfOk result (λ owned. (string_vec_of owned).items ≡ word_bytes self.entry) }
     {
+        if self.is_bare {
+            return Ok(unix_string(Vec::from_slice(alloc, self.raw)?));
+        }
         let mut vec = Vec::with_capacity(alloc, self.raw.len())?;
         for byte in self.bytes() {
             vec.push(byte)?;

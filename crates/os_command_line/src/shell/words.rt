@@ -1,17 +1,16 @@
 //! The words of a line.
-ghost use Rattle.std.specs.Prelude.{◌≡◌, ◌≤◌, ℕ, List, length, zero, true, false, MatchOption, MatchResult};
+ghost use Rattle.std.specs.Prelude.{◌≡◌, ◌≤◌, ◌++◌, ℕ, List, length, true, false, MatchOption, MatchResult};
 ghost use Rattle.std.specs.Iterator.{YieldsFirstBy, item_count};
 ghost use Rattle.platform_str.specs.Strings.{bytes};
 ghost use Rattle.os_command_line.specs.Shell.{IsRead, language};
 ghost use Rattle.os_command_line.specs.Shell.Outcome.{Word as WordRead, Fault};
-ghost use Rattle.os_command_line.specs.ShellReader.{meant, outcome};
+ghost use Rattle.os_command_line.specs.ShellReader.{outcome, raw_bytes};
 ghost use Rattle.os_command_line.specs.ShellSteps.{IsNextItem, HasNoItem};
-ghost use Rattle.os_command_line.specs.ShellViews.{is_refused, item_bytes};
-ghost use Rattle.os_command_line.specs.declared.shell.step.State.TheVariants.{Start};
+ghost use Rattle.os_command_line.specs.ShellViews.{is_refused, item_bytes, word_bytes};
 
 use crate::shell::fault::{FaultKind, WordsFault};
 use crate::shell::language::{Language, Specials};
-use crate::shell::scan::{after_word, skip_gap};
+use crate::shell::scan::{after_bare, after_word, skip_gap};
 use crate::shell::word::Word;
 use platform_str::{OsStr, Unix};
 use std::marker::Model;
@@ -143,7 +142,7 @@ fn next_item(
         return None;
     }
     match cut_word(language, text) {
-        Ok((raw, rest)) => Some((Ok(Word { language, raw }), rest)),
+        Ok((word, rest)) => Some((Ok(word), rest)),
         Err((kind, left)) => {
             let index = len - left.len();
             Some((Err(WordsFault { kind, index }), &[]))
@@ -151,14 +150,37 @@ fn next_item(
     }
 }
 
-/// The text of the word at the start and what comes after it, or the fault and the text from it on.
-fn cut_word(language: Language, text: &[u8]) -> Result<(&[u8], &[u8]), (FaultKind, &[u8])>
+/// The word at the start and what comes after it, or the fault and the text from it on.
+fn cut_word(language: Language, text: &[u8]) -> Result<(Word<'_>, &[u8]), (FaultKind, &[u8])>
     ensures { MatchResult result
-        (λ cut. outcome language text.now ≡ WordRead (meant language Start zero cut.0.now) cut.1.now)
+        (λ cut. outcome language text.now ≡ WordRead (word_bytes cut.0) cut.1.now)
         (λ fault. outcome language text.now ≡ Fault fault.0 fault.1.now) }
 {
+    if let Some(rest) = after_bare(text) {
+        return Ok(cut(language, text, rest, true));
+    }
     match after_word(language, text) {
-        Ok(rest) => Ok(text.split_at(text.len() - rest.len())),
+        Ok(rest) => Ok(cut(language, text, rest, false)),
         Err(fault) => Err(fault),
     }
+}
+
+/// The word whose text is cut off before the rest of a text, and the rest.
+fn cut<'a>(
+    language: Language,
+    text: &'a [u8],
+    rest: &'a [u8],
+    is_bare: bool,
+) -> (Word<'a>, &'a [u8])
+    requires { length rest.now ≤ length text.now }
+    ensures { (raw : List ℕ) → text.now ≡ raw ++ rest.now → (result.1.now ≡ rest.now)
+        × (word_bytes result.0 ≡ raw_bytes language is_bare raw) }
+{
+    let (raw, rest) = text.split_at(text.len() - rest.len());
+    let word = Word {
+        language,
+        raw,
+        is_bare,
+    };
+    (word, rest)
 }

@@ -9,5 +9,16 @@ use platform_str::{OsStr, Windows};
 #[derive(Clone, Copy)]
 pub struct Argument<'a> {
     pub(crate) text: OsStr<'a, Windows>,
-    pub(crate) is_program: bool,
+    pub(crate) kind: Kind,
+}
+
+/// How the text of an argument is read.
+#[derive(Clone, Copy)]
+pub(crate) enum Kind {
+    /// As a program's name.
+    Name,
+    /// As an argument, which may have quotation marks.
+    Marked,
+    /// As itself: an argument without quotation marks.
+    Bare,
 }

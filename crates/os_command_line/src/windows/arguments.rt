@@ -5,7 +5,7 @@ ghost use Rattle.platform_str.specs.Strings.{bytes};
 ghost use Rattle.os_command_line.specs.Windows.{IsCommandLine};
 ghost use Rattle.os_command_line.specs.WindowsViews.{argument_units};
 
-use crate::windows::argument::Argument;
+use crate::windows::argument::{Argument, Kind};
 use crate::windows::cuts::{cut_argument, cut_name};
 use platform_str::{OsStr, Platform, Windows};
 use std::marker::Model;
@@ -64,13 +64,14 @@ impl<'a> Arguments<'a> {
     /// assert!(rt; arguments.next().is_none());
     /// ```
     pub fn new(line: OsStr<'a, Windows>) -> Self
-        ensures { IsCommandLine (⟦<Windows as Platform>⟧.units (bytes line.entry)) result.0 result.1 }
+        ensures { IsCommandLine (⟦<Windows as Platform>⟧.units (bytes line.entry)) result.0
+            result.1 }
     {
         let (name, rest) = cut_name(line);
         Arguments {
             program: Argument {
                 text: name,
-                is_program: true,
+                kind: Kind::Name,
             },
             rest,
         }
@@ -100,13 +101,10 @@ impl<'a> Iterator for Arguments<'a> {
     ghost remaining = { item_count (λ left. left.1) };
 
     fn next(&mut self) -> Option<Argument<'a>> {
-        let Some((text, rest)) = cut_argument(self.rest) else {
+        let Some((argument, rest)) = cut_argument(self.rest) else {
             return None;
         };
         self.rest = rest;
-        Some(Argument {
-            text,
-            is_program: false,
-        })
+        Some(argument)
     }
 }

@@ -1,6 +1,7 @@
 //! Laws of command lines. Each is the contract of a function that does nothing.
-ghost use Rattle.std.specs.Prelude.{◌≡◌, ◌++◌, false, ℕ, List};
-ghost use Rattle.os_command_line.specs.Windows.{AreArguments, IsCommandLine, IsTextOf, Ends};
+ghost use Rattle.std.specs.Prelude.{◌≡◌, ◌∷◌, [], ℕ, List};
+ghost use Rattle.os_command_line.specs.Windows.{AreArguments, IsCommandLine, IsTextOf};
+ghost use Rattle.os_command_line.specs.WindowsParts.{AreLineParts};
 
 /// Each line is one program's name and one list of arguments, and each text one list of arguments.
 pub fn lines()
@@ -10,13 +11,23 @@ pub fn lines()
         → (ys : List (List ℕ)) → IsCommandLine line a xs → IsCommandLine line b ys → a ≡ b }
     ensures one_list { (line : List ℕ) → (a : List ℕ) → (b : List ℕ) → (xs : List (List ℕ))
         → (ys : List (List ℕ)) → IsCommandLine line a xs → IsCommandLine line b ys → xs ≡ ys }
-    ensures arguments { (text : List ℕ) → (arguments : List (List ℕ)) × AreArguments text arguments }
+    ensures arguments { (text : List ℕ) → (arguments : List (List ℕ))
+        × AreArguments text arguments }
     ensures one { (text : List ℕ) → (xs : List (List ℕ)) → (ys : List (List ℕ))
         → AreArguments text xs → AreArguments text ys → xs ≡ ys }
 {}
 
-/// A text that is read as an argument, whatever ends it, is read as no other.
+/// Each unit of a line is a blank between arguments, a mark, or one of the name or of an argument.
+pub fn parts()
+    ensures { (line : List ℕ) → (name : List ℕ) → (arguments : List (List ℕ))
+        → IsCommandLine line name arguments → AreLineParts line name arguments }
+{}
+
+/// A text that is read as an argument, whatever ends it, is read as no other, and alone it is this
+/// argument.
 pub fn texts()
-    ensures { (text : List ℕ) → (a : List ℕ) → (b : List ℕ) → IsTextOf text a → IsTextOf text b
-        → a ≡ b }
+    ensures one { (text : List ℕ) → (a : List ℕ) → (b : List ℕ) → IsTextOf text a
+        → IsTextOf text b → a ≡ b }
+    ensures alone { (text : List ℕ) → (argument : List ℕ) → IsTextOf text argument
+        → AreArguments text (argument ∷ []) }
 {}

@@ -2,7 +2,7 @@
 ghost use Rattle.std.specs.Prelude.{◌≡◌, ◌≢◌, ◌↔◌, ◌+◌, ◌<◌, ◌^◌, ◌++◌, ◌∷◌, [], false, ℕ, List, length, IsTrue, MatchOption};
 ghost use Rattle.std.specs.List.{AllByRecursion};
 ghost use Rattle.os_command_line.specs.Windows.{IsBlank, Begins, Ends, StartsWithNoQuote, Reads, ReadsName};
-ghost use Rattle.os_command_line.specs.WindowsSteps.{IsStep, IsNameStep};
+ghost use Rattle.os_command_line.specs.WindowsSteps.{BeginsArgument, IsBare, IsStep, IsNameStep};
 
 /// Whether a byte is a space or a tab.
 #[inline(always)]
@@ -36,8 +36,43 @@ struct Cursor<'a> {
     text: &'a [u8],
 }
 
-/// What comes after the argument with which a text begins.
-pub(crate) fn after_argument(text: &[u8]) -> &[u8]
+/// What comes after the argument with which a text begins, and whether it is bare: whether it has no
+/// quotation mark.
+pub(crate) fn after_argument(text: &[u8]) -> (&[u8], bool)
+    ensures { BeginsArgument text.now result.0.now result.1 }
+{
+    let rest = after_bare(text);
+    match strip_quote(rest) {
+        Some(_) => (after_marked(text), false),
+        None => (rest, true),
+    }
+}
+
+/// What comes after the bytes at the start that are no blank and no quotation mark.
+fn after_bare(text: &[u8]) -> &[u8]
+    ensures raw { (raw : List ℕ) × AllByRecursion IsBare raw × (text.now ≡ raw ++ result.now) }
+    ensures end { StartsWithNoQuote result.now → Ends false result.now }
+{
+    let mut rest = text;
+    while let Some((byte, after)) = rest.split_first() {
+        if !is_bare(*byte) {
+            return rest;
+        }
+        rest = after;
+    }
+    rest
+}
+
+/// Whether a byte is no blank and no quotation mark.
+#[inline(always)]
+fn is_bare(byte: u8) -> bool
+    ensures { IsTrue result ↔ IsBare byte }
+{
+    !is_blank(byte) && byte != b'"'
+}
+
+/// What comes after the argument with which a text begins, which may have quotation marks.
+fn after_marked(text: &[u8]) -> &[u8]
     ensures { (argument : List ℕ) × (raw : List ℕ) × Reads result.now false text.now argument
         × (text.now ≡ raw ++ result.now) }
 {

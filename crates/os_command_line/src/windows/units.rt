@@ -1,9 +1,9 @@
 //! The units of an argument.
 ghost use Rattle.std.specs.Prelude.{◌≡◌, ◌+◌, ◌<◌, ◌^◌, ◌++◌, ◌∷◌, ◌↔◌, [], length, option_to_list, IsTrue, MatchOption};
 ghost use Rattle.std.specs.Iterator.{YieldsFirst, item_count};
-ghost use Rattle.os_command_line.specs.WindowsReader.{output, step, meant, known_units};
+ghost use Rattle.os_command_line.specs.WindowsReader.{output, step, meant, known_units, units_left, argument_kind, is_bare, start_of};
 
-use crate::windows::argument::Argument;
+use crate::windows::argument::{Argument, Kind};
 use crate::windows::index::{Index, Known};
 use platform_str::WideUnits;
 use std::marker::Model;
@@ -43,6 +43,45 @@ impl Known {
                 unit: None,
             },
         )
+    }
+}
+
+impl Kind {
+    /// The kind of an argument that is bare or not.
+    pub(crate) fn of_argument(is_bare: bool) -> Kind
+        ensures { result ≡ argument_kind is_bare }
+    {
+        if is_bare { Kind::Bare } else { Kind::Marked }
+    }
+
+    /// Whether a text of this kind means itself.
+    #[inline(always)]
+    fn is_bare(self) -> bool
+        ensures { result ≡ is_bare self }
+    {
+        match self {
+            Kind::Name => false,
+            Kind::Marked => false,
+            Kind::Bare => true,
+        }
+    }
+
+    /// Where a reader of a text of this kind begins.
+    #[inline(always)]
+    fn index(self) -> Index
+        ensures { result ≡ start_of self }
+    {
+        let in_name = match self {
+            Kind::Name => true,
+            Kind::Marked => false,
+            Kind::Bare => false,
+        };
+        Index {
+            in_name,
+            closing: false,
+            inside: false,
+            run: 0,
+        }
     }
 }
 
@@ -147,7 +186,29 @@ fn read(units: &mut WideUnits<'_>, index: Index) -> (Known, Index)
 
 /// The next unit that is meant, and those that are known after it.
 #[inline(always)]
-fn next_unit(known: Known, index: Index, units: &mut WideUnits<'_>) -> (Option<u16>, Known, Index)
+fn next_unit(
+    is_bare: bool,
+    known: Known,
+    index: Index,
+    units: &mut WideUnits<'_>,
+) -> (Option<u16>, Known, Index)
+    requires { index.run + length units.old < 2 ^ 64 }
+    ensures next { MatchOption result.0
+        ((units_left is_bare known index units.old ≡ [])
+        × (units_left is_bare result.1 result.2 units.new ≡ []))
+        (λ unit. units_left is_bare known index units.old
+        ≡ unit ∷ units_left is_bare result.1 result.2 units.new) }
+    ensures room { result.2.run + length units.new < 2 ^ 64 }
+{
+    if is_bare {
+        return (units.next(), known, index);
+    }
+    next_marked(known, index, units)
+}
+
+/// The same of an argument that may have quotation marks.
+#[inline(always)]
+fn next_marked(known: Known, index: Index, units: &mut WideUnits<'_>) -> (Option<u16>, Known, Index)
     requires { index.run + length units.old < 2 ^ 64 }
     ensures next { MatchOption result.0
         ((known_units known ++ meant index units.old ≡ [])
@@ -169,19 +230,20 @@ fn next_unit(known: Known, index: Index, units: &mut WideUnits<'_>) -> (Option<u
 /// `None`. [`Argument::units`] makes it.
 #[derive(Drop)]
 pub struct ArgumentUnits<'a> {
+    is_bare: bool,
     known: Known,
     index: Index,
     units: WideUnits<'a>,
 }
 
 impl<'a> Model for ArgumentUnits<'a> {
-    ghost use Rattle.std.specs.Prelude.{List, ℕ, ◌+◌, ◌<◌, ◌^◌, ◌++◌, length};
+    ghost use Rattle.std.specs.Prelude.{List, ℕ, ◌+◌, ◌<◌, ◌^◌, length};
 
     ghost Value = { List ℕ };
 
-    ghost use Rattle.os_command_line.specs.WindowsReader.{meant, known_units};
+    ghost use Rattle.os_command_line.specs.WindowsReader.{units_left};
 
-    ghost view = { λ it. known_units it.known ++ meant it.index it.units };
+    ghost view = { λ it. units_left it.is_bare it.known it.index it.units };
 
     ghost invariant = { λ it. it.index.run + length it.units < 2 ^ 64 };
 }
@@ -195,7 +257,7 @@ impl<'a> Iterator for ArgumentUnits<'a> {
 
     #[inline(always)]
     fn next(&mut self) -> Option<u16> {
-        let (unit, known, index) = next_unit(self.known, self.index, &mut self.units);
+        let (unit, known, index) = next_unit(self.is_bare, self.known, self.index, &mut self.units);
         self.known = known;
         self.index = index;
         unit
@@ -224,16 +286,12 @@ impl<'a> Argument<'a> {
         ensures { result ≡ argument_units self.entry }
     {
         ArgumentUnits {
+            is_bare: self.kind.is_bare(),
             known: Known {
                 backslashes: 0,
                 unit: None,
             },
-            index: Index {
-                in_name: self.is_program,
-                closing: false,
-                inside: false,
-                run: 0,
-            },
+            index: self.kind.index(),
             units: self.text.encode_wide(),
         }
     }

@@ -108,7 +108,7 @@ pub fn command_line<A: Allocator>(
     if let Some(index) = first_at(program, 0) {
         return Err(CommandLineError::Nul(index));
     }
-    if let Some(index) = first_at(program, QUOTE) {
+    if let Some(index) = first_at(program, b'"') {
         return Err(CommandLineError::Quote(index));
     }
     let mut line = Vec::new(alloc);
@@ -166,6 +166,7 @@ fn push_text<A: Allocator>(
         → line.new.items ≡ line.old.items ++ units_of (bytes argument.entry)) }
     ensures grows { (more : List ℕ) × (line.new.items ≡ line.old.items ++ more) }
 {
+    line.reserve(argument.len().saturating_add(2))?;
     if argument.is_empty() {
         push_quoted(line, argument)?;
         return Ok(());
@@ -231,6 +232,7 @@ fn push_units<A: Allocator>(
 }
 
 /// Appends a unit after so many backslashes, and returns how many are last now.
+#[inline(always)]
 fn push_unit<A: Allocator>(
     line: &mut Vec<u16, A>,
     inside: bool,
@@ -258,6 +260,7 @@ fn push_unit<A: Allocator>(
 }
 
 /// Appends a unit.
+#[inline(always)]
 fn push_one<A: Allocator>(line: &mut Vec<u16, A>, unit: u16) -> Result<(), AllocError>
     ensures pushed { OnOk result (line.new.items ≡ line.old.items ++ unit ∷ []) }
     ensures unchanged { OnErr result (line.new.items ≡ line.old.items) }

@@ -1,4 +1,4 @@
-use Rattle.std.proofs.Common.{◌≡◌, ◌&&◌, ◌+◌, ap, ◌∙◌, sym, take}
+use Rattle.std.proofs.Common.{◌&&◌, ap, ◌∙◌, sym, take}
 use Rattle.std.proofs.lemmas.List.{take_more}
 use Rattle.os_command_line.specs.ShellWriting.{are_plain}
 use Rattle.os_command_line.proofs.lemmas.ShellForms.{plain_more}

@@ -1,4 +1,4 @@
-use Rattle.std.proofs.Common.{sym, subst}
+use Rattle.std.proofs.Common.{subst}
 use Rattle.os_command_line.specs.ShellSteps.{IsCutAtQuote}
 use Rattle.os_command_line.proofs.lemmas.ShellForms.{cut_texts}
 use Rattle.os_command_line.proofs.shell.form.split_at_quote.Goals as goal

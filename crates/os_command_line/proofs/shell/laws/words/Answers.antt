@@ -1,7 +1,7 @@
 use Rattle.std.proofs.Common.{map, sym, subst, true}
 use Rattle.os_command_line.specs.Shell.{IsTextOf, language}
 use Rattle.os_command_line.specs.ShellWriting.{quoted_word}
-use Rattle.os_command_line.proofs.lemmas.ShellRoundTrip.{word_is_text, one_word, joined_read, quoted_texts}
+use Rattle.os_command_line.proofs.lemmas.ShellRoundTrip.{word_is_text, one_word, alone_read, joined_read, quoted_texts}
 use Rattle.os_command_line.proofs.shell.laws.words.Goals as goal
 
 pub returns-clause-read : goal.returns-clause-read
@@ -17,3 +17,6 @@ returns-clause-one_name c a b v w e =
 
 pub returns-clause-joined : goal.returns-clause-joined
 returns-clause-joined c l names w = joined_read l (map quoted_word names) names (quoted_texts l names w)
+
+pub returns-clause-alone : goal.returns-clause-alone
+returns-clause-alone c = alone_read

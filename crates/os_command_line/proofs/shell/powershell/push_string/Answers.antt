@@ -1,9 +1,8 @@
 use Rattle.std.proofs.Common.{[], ◌∷◌, ◌++◌, refl, sym, ap, ◌∙◌, arith, length, length-append, append_assoc, subst}
 use Rattle.std.specs.Char.{encode_utf8}
-use Rattle.std.specs.Str.{chars}
 use Rattle.wtf8_core.specs.Truncated.{IsTruncated}
 use Rattle.wtf8_core.proofs.lemmas.buffers.Truncated.{none_yet}
-use Rattle.os_command_line.specs.PowerShell.{powershell_character, powershell_string}
+use Rattle.os_command_line.specs.PowerShell.{powershell_character}
 use Rattle.os_command_line.proofs.lemmas.PowerShell.{inner_text, one_more, no_more, shorter, character_fits}
 use Rattle.os_command_line.proofs.shell.powershell.push_string.Goals as goal
 

@@ -1,4 +1,4 @@
-use Rattle.std.proofs.Common.{◌∙◌, ap, sym, subst, length}
+use Rattle.std.proofs.Common.{subst, length}
 use Rattle.std.specs.Str.{IsUtf8}
 use Rattle.memchr.specs.Find.{NoneBefore, Nowhere, Passes, is_byte}
 use Rattle.platform_str.specs.Strings.{bytes}

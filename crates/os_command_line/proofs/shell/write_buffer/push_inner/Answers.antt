@@ -1,5 +1,5 @@
 use Rattle.std.proofs.Common.{[], append-nil, ◌∙◌, sym, refl}
-use Rattle.os_quote.proofs.lemmas.Pushing.{push_bytes, push_both, one_pushed, all_pushed, room_left}
+use Rattle.os_quote.proofs.lemmas.Pushing.{push_bytes, one_pushed, all_pushed, room_left}
 use Rattle.os_command_line.proofs.lemmas.ShellWritten.{single_cut, single_plain, cut_shorter, quote_text}
 use Rattle.os_command_line.proofs.shell.write_buffer.push_inner.Goals as goal
 

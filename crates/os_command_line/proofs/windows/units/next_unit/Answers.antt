@@ -1,10 +1,8 @@
-use Rattle.std.proofs.Common.{◌∙◌, sym}
-use Rattle.std.proofs.lemmas.Bool.{true≢false}
-use Rattle.os_command_line.proofs.lemmas.WindowsUnits.{first_known, first_read}
+use Rattle.os_command_line.proofs.lemmas.WindowsUnits.{left_bare, left_marked}
 use Rattle.os_command_line.proofs.windows.units.next_unit.Goals as goal
 
-pub returns-then-not-is_empty-clause-next : goal.returns-then-not-is_empty-clause-next
-returns-then-not-is_empty-clause-next c = first_known _ _ _ _ (λ none. true≢false (sym (c.is_empty.ensures.1 none) ∙ c.if-not-is_empty.true)) c.split_first-unit.ensures
+pub returns-then-is_bare-clause-next : goal.returns-then-is_bare-clause-next
+returns-then-is_bare-clause-next c = left_bare c.args.is_bare c.args.known c.args.known c.args.index c.args.index c.args.units.now c.next.new.self c.next.result c.if-is_bare.true c.next.ensures.steps
 
 pub returns-clause-next : goal.returns-clause-next
-returns-clause-next c = first_read _ _ _ _ _ _ (c.is_empty.ensures.0 c.if-not-is_empty.false) c.read.ensures.meant c.read.ensures.none c.split_first-unit-2.ensures
+returns-clause-next c = left_marked c.args.is_bare c.args.known c.next_marked.result.1 c.args.index c.next_marked.result.2 c.args.units.now c.next_marked.new.units c.next_marked.result.0 c.if-is_bare.false c.next_marked.ensures.next

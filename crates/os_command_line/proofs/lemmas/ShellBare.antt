@@ -1,0 +1,151 @@
+-- Words each byte of which means itself, and names that need no quotes.
+use Rattle.std.proofs.Common.{◌≡◌, ◌≢◌, ℕ, zero, suc, ◌<◌, ◌≤◌, Bool, true, false, not, ◌||◌, ◌&&◌, eqb, leb, List, [], ◌∷◌, ◌++◌, length, refl, sym, ap, ◌∙◌, subst, arith, append_assoc, Option, MatchOption, inl, inr}
+use Rattle.std.specs.Int.{is_in_range}
+use Rattle.std.specs.List.{AllByRecursion}
+use Rattle.std.specs.Str.{IsAscii, IsUtf8}
+use Rattle.std.proofs.lemmas.Bool.{cases_Bool, true≢false, and_parts, eqb-true, leb-true}
+use Rattle.std.proofs.lemmas.Str.{IsUtf8-from_ascii, chars-IsAscii}
+use Rattle.wtf8_core.proofs.lemmas.scan.ComputedTests.{all_below, each_below}
+use Rattle.os_quote.specs.Shown.{stays_on_line}
+use Rattle.os_command_line.specs.declared.shell.form.Form.{Form}
+use Rattle.os_command_line.specs.declared.shell.form.Form.TheVariants as form
+use Rattle.os_command_line.specs.declared.shell.language.Language.{Language}
+use Rattle.os_command_line.specs.declared.shell.step.State.{State}
+use Rattle.os_command_line.specs.declared.shell.step.State.TheVariants.{Start}
+use Rattle.os_command_line.specs.Shell.{dollar, is_mark, is_blank, is_special, IsBare, Ends, Reads}
+use Rattle.os_command_line.specs.Shell.Outcome.{Word}
+use Rattle.os_command_line.specs.Shell.Reads.{ends, bare}
+use Rattle.os_command_line.specs.ShellReader.{is_itself, raw_bytes, bytes_left, meant, outcome}
+use Rattle.os_command_line.specs.ShellSteps.{AreItself, BeginsBare, is_bare_form, IsFormOf, IsLineFormOf, IsPlainIfBare}
+use Rattle.os_command_line.specs.ShellWriting.{is_plain, are_plain, is_plain_name, HasNoNul, IsLineText}
+use Rattle.os_command_line.proofs.lemmas.ShellItems.{meant_short}
+use Rattle.os_command_line.proofs.lemmas.ShellOneReading.{complete, or_false, or_true}
+use Rattle.os_command_line.proofs.lemmas.ShellRoundTrip.{no_dollar, none_of}
+
+-- ---- words
+
+special_dollar : (first : Bool) (b : ℕ) → is_special first b ≡ false → eqb b dollar ≡ false
+special_dollar first b h = elim (cases_Bool (eqb b dollar)) [
+  | inl e ↦ absurd (true≢false (sym (subst (λ x. is_special first x ≡ true) (sym (eqb-true b dollar e)) refl) ∙ h))
+  | inr e ↦ e
+]
+
+is_bare : (l : Language) (first : Bool) (b : ℕ) (text : List ℕ) → is_itself first b ≡ true → IsBare l first b text
+is_bare l first b text h =
+    let other = not-false _ h in
+    let x = or_false (is_mark b) (is_blank b || is_special first b) other in
+    let y = or_false (is_blank b) (is_special first b) x.1 in
+    record { no_mark = x.0; no_blank = y.0; no_dollar = no_dollar l b text (special_dollar first b y.1); no_special = none_of l.refuses_specials (is_special first b) y.1 }
+  where
+    not-false : (x : Bool) → not x ≡ true → x ≡ false
+    not-false true e = cc
+    not-false false e = refl
+
+bare_text : (l : Language) (first : Bool) (raw rest : List ℕ) → AreItself first raw → Ends rest → Reads l first (raw ++ rest) (Word raw rest)
+bare_text l first [] rest h e = ends first rest e
+bare_text l first (b ∷ raw) rest h e = bare first b (raw ++ rest) (Word raw rest) (is_bare l first b (raw ++ rest) h.0) (bare_text l false raw rest h.1 e)
+
+pub bare_outcome : (l : Language) (text rest : List ℕ) (b : BeginsBare text rest) → outcome l text ≡ Word b.raw rest
+bare_outcome l text rest b = ap (outcome l) b.joined ∙ complete l true (b.raw ++ rest) (Word b.raw rest) [] (bare_text l true b.raw rest b.are_itself b.ends)
+
+pub one_itself : (text rest : List ℕ) (b : ℕ) (after : List ℕ) → (raw : List ℕ) × AreItself false raw × (text ≡ raw ++ rest) → rest ≡ b ∷ after → is_itself false b ≡ true → (raw : List ℕ) × AreItself false raw × (text ≡ raw ++ after)
+one_itself text rest b after so_far e h = (so_far.0 ++ b ∷ [], more so_far.0 so_far.1, so_far.2 ∙ ap (λ z. so_far.0 ++ z) e ∙ sym (append_assoc so_far.0 (b ∷ []) after))
+  where
+    more : (raw : List ℕ) → AreItself false raw → AreItself false (raw ++ b ∷ [])
+    more [] k = (h, tt)
+    more (x ∷ raw) k = (k.0, more raw k.1)
+
+pub begins_bare : (text : List ℕ) (b : ℕ) (after rest : List ℕ) → text ≡ b ∷ after → is_itself true b ≡ true → (raw : List ℕ) × AreItself false raw × (after ≡ raw ++ rest) → Ends rest → BeginsBare text rest
+begins_bare text b after rest e h more ended = record { raw = b ∷ more.0; joined = e ∙ ap (λ z. b ∷ z) more.2; are_itself = (h, more.1); ends = ended }
+
+pub bare_raw : (l : Language) (is_bare : Bool) (raw : List ℕ) → is_bare ≡ true → raw_bytes l is_bare raw ≡ raw
+bare_raw l is_bare raw e = rw e refl
+
+pub raw_short : (l : Language) (is_bare : Bool) (raw : List ℕ) → length (raw_bytes l is_bare raw) ≤ length raw
+raw_short l true raw = omega arith
+raw_short l false raw = meant_short l Start zero raw
+
+module _ (l : Language) (bare : Bool) (s next : State) (text rest : List ℕ) (byte : Option ℕ) where
+  pub left_bare : bare ≡ true → MatchOption byte ((text ≡ []) × (rest ≡ [])) (λ b. text ≡ b ∷ rest) → MatchOption byte ((bytes_left l bare s text ≡ []) × (bytes_left l bare next rest ≡ [])) (λ b. bytes_left l bare s text ≡ b ∷ bytes_left l bare next rest)
+  left_bare e h = rw e h
+
+  pub left_marked : bare ≡ false → MatchOption byte ((meant l s zero text ≡ []) × (meant l next zero rest ≡ [])) (λ b. meant l s zero text ≡ b ∷ meant l next zero rest) → MatchOption byte ((bytes_left l bare s text ≡ []) × (bytes_left l bare next rest ≡ [])) (λ b. bytes_left l bare s text ≡ b ∷ bytes_left l bare next rest)
+  left_marked e h = rw e h
+
+-- ---- names
+
+plain_no_nul : (b : ℕ) → is_plain b ≡ true → b ≢ 0
+plain_no_nul b h e = true≢false (sym (subst (λ x. is_plain x ≡ true) e h))
+
+are_no_nul : (name : List ℕ) → are_plain name ≡ true → HasNoNul name
+are_no_nul [] h = tt
+are_no_nul (b ∷ name) h = let p = and_parts (is_plain b) (are_plain name) h in (plain_no_nul b p.0, are_no_nul name p.1)
+
+are_all : (name : List ℕ) → is_plain_name name ≡ true → are_plain name ≡ true
+are_all [] h = refl
+are_all (b ∷ name) h = h
+
+pub plain_has_no_nul : (name : List ℕ) → is_plain_name name ≡ true → HasNoNul name
+plain_has_no_nul name h = are_no_nul name (are_all name h)
+
+plain_low : (b : ℕ) → is_plain b ≡ true → b < 0x80
+plain_low b h = elim (or_true (is_in_range 0x2B 0x3A b) (is_in_range 0x40 0x5A b || (eqb b 0x5F || is_in_range 0x61 0x7A b)) h) [
+  | inl e ↦ at_most 0x2B 0x3A (omega arith) e
+  | inr r ↦ elim (or_true (is_in_range 0x40 0x5A b) (eqb b 0x5F || is_in_range 0x61 0x7A b) r) [
+    | inl e ↦ at_most 0x40 0x5A (omega arith) e
+    | inr q ↦ elim (or_true (eqb b 0x5F) (is_in_range 0x61 0x7A b) q) [
+      | inl e ↦ omega (arith, eqb-true b 0x5F e)
+      | inr e ↦ at_most 0x61 0x7A (omega arith) e
+    ]
+  ]
+]
+  where
+    at_most : (low high : ℕ) → high < 0x80 → is_in_range low high b ≡ true → b < 0x80
+    at_most low high lt e = omega (arith, lt, leb-true b high (and_parts (leb low b) (leb b high) e).1)
+
+are_low : (name : List ℕ) → are_plain name ≡ true → IsAscii name
+are_low [] h i = omega arith
+are_low (b ∷ name) h zero = plain_low b (and_parts (is_plain b) (are_plain name) h).0
+are_low (b ∷ name) h (suc i) = are_low name (and_parts (is_plain b) (are_plain name) h).1 i
+
+pub plain_is_utf8 : (name : List ℕ) → is_plain_name name ≡ true → IsUtf8 name
+plain_is_utf8 name h = IsUtf8-from_ascii name (are_low name (are_all name h))
+
+abbrev stays_if_plain : ℕ → Bool
+stays_if_plain b = not (is_plain b && not (stays_on_line b))
+
+all_stay : all_below stays_if_plain 0x80 ≡ true
+all_stay = refl
+
+plain_stays : (b : ℕ) → is_plain b ≡ true → stays_on_line b ≡ true
+plain_stays b h = elim (cases_Bool (stays_on_line b)) [
+  | inl e ↦ e
+  | inr e ↦ absurd (true≢false (sym (each_below stays_if_plain 0x80 b all_stay (plain_low b h)) ∙ rw (h, e) refl))
+]
+
+are_staying : (name : List ℕ) → are_plain name ≡ true → AllByRecursion (λ c. stays_on_line c ≡ true) name
+are_staying [] h = tt
+are_staying (b ∷ name) h = let p = and_parts (is_plain b) (are_plain name) h in (plain_stays b p.0, are_staying name p.1)
+
+pub plain_is_line_text : (name : List ℕ) → is_plain_name name ≡ true → IsLineText name
+plain_is_line_text name h = (plain_is_utf8 name h, subst (AllByRecursion (λ c. stays_on_line c ≡ true)) (sym (chars-IsAscii name (are_low name (are_all name h)))) (are_staying name (are_all name h)))
+
+pub plain_if_bare : (name : List ℕ) (f : Form) → IsPlainIfBare name f → is_bare_form f ≡ true → is_plain_name name ≡ true
+plain_if_bare name form.Bare h e = h
+plain_if_bare name form.Single h e = absurd (true≢false (sym e))
+plain_if_bare name form.Dollar h e = absurd (true≢false (sym e))
+
+pub bare_line_form : (name : List ℕ) (f : Form) → IsFormOf name f → is_bare_form f ≡ true → IsLineFormOf name f
+bare_line_form name form.Bare h e = (plain_is_line_text name h, h)
+bare_line_form name form.Single h e = absurd (true≢false (sym e))
+bare_line_form name form.Dollar h e = absurd h
+
+pub plain_of_form : (name : List ℕ) (f : Form) → IsFormOf name f → IsPlainIfBare name f
+plain_of_form name form.Bare h = h
+plain_of_form name form.Single h = tt
+plain_of_form name form.Dollar h = absurd h
+
+pub plain_of_line_form : (name : List ℕ) (f : Form) → IsLineFormOf name f → IsPlainIfBare name f
+plain_of_line_form name form.Bare h = h.1
+plain_of_line_form name form.Single h = tt
+plain_of_line_form name form.Dollar h = tt
