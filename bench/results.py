@@ -3,22 +3,49 @@
 from __future__ import annotations
 
 import re
+import statistics
 from typing import Iterator, NamedTuple
 
-TITLE = re.compile(r"### (\w+)")
+TITLE = re.compile(r"### ((?:Hard )?\w+)")
 TIME = re.compile(r"[\d.]+$")
 
 
 class Line(NamedTuple):
     """A line of a table: its family, what was timed, and our time over the crate's and over std's, where it has them.
 
-    A family is the tables whose titles begin with the same word.
+    A family is the tables whose titles begin with the same word, or with `Hard` and the same word. Where a title says
+    `beside` and a name, the crate of that name is meant.
     """
 
     family: str
     name: str
     of_crate: float | None
     of_std: float | None
+
+
+class Found(NamedTuple):
+    """A ratio, and what it is of."""
+
+    ratio: float
+    name: str
+
+
+class Ratios(NamedTuple):
+    """The ratios of a family over the crate, or over std."""
+
+    found: list[Found]
+
+    @property
+    def median(self) -> float:
+        return statistics.median(it.ratio for it in self.found)
+
+    @property
+    def above_one(self) -> int:
+        return sum(it.ratio > 1 for it in self.found)
+
+    @property
+    def worst(self) -> Found:
+        return max(self.found, key=lambda it: it.ratio)
 
 
 def ratio(ours: str, theirs: str) -> float | None:
@@ -37,9 +64,12 @@ def lines_of(text: str) -> Iterator[Line]:
             yield Line(family, f"{call}: {of}", ratio(ours, crate), ratio(ours, std))
 
 
-def families_of(text: str) -> dict[str, list[Line]]:
-    """Returns the lines of each family, in the order of the tables."""
-    families: dict[str, list[Line]] = {}
+def families_of(text: str) -> dict[str, tuple[Ratios, Ratios]]:
+    """Returns the ratios of each family, over the crate and over std, in the order of the tables."""
+    families: dict[str, tuple[Ratios, Ratios]] = {}
     for line in lines_of(text):
-        families.setdefault(line.family, []).append(line)
+        both = families.setdefault(line.family, (Ratios([]), Ratios([])))
+        for ratios, found in zip(both, (line.of_crate, line.of_std)):
+            if found is not None:
+                ratios.found.append(Found(found, line.name))
     return families

@@ -3,9 +3,9 @@ use crate::inputs::{self, Long};
 use crate::table::Bench;
 use crate::{ours, theirs};
 use crate_unix::RawOsStr as UnixStr;
+use crate_windows::windows_strings::OsString;
 use crate_windows::windows_strings::os::ffi::{OsStrExt, OsStringExt};
-use crate_windows::windows_strings::{OsStr, OsString};
-use crate_windows::{OsStrBytes, RawOsStr as WindowsStr, coders};
+use crate_windows::{OsStringBytes, RawOsStr as WindowsStr, coders};
 use std::hint::black_box;
 
 pub fn time(bench: &mut Bench) {
@@ -25,10 +25,26 @@ fn check(bench: &mut Bench, strings: &[Long]) {
             bytes.len(),
             [
                 Some(&mut || ours::check(black_box(bytes)) as u64),
-                Some(&mut || OsStr::from_raw_bytes(black_box(bytes)).is_ok() as u64),
+                None,
                 string.if_text(&mut || str::from_utf8(black_box(bytes)).is_ok() as u64),
                 string.if_text(&mut || theirs::is_utf8_sse42(black_box(bytes)) as u64),
                 theirs::if_avx2(string.if_text(&mut || theirs::is_utf8_avx2(black_box(bytes)) as u64)),
+            ],
+        );
+        bench.line(
+            "from_raw_vec",
+            name,
+            bytes.len(),
+            [
+                Some(&mut || ours::from_raw_vec(black_box(bytes)) as u64),
+                Some(&mut || {
+                    let string = OsString::from_raw_vec(black_box(bytes).to_vec());
+                    string.map_or(0, |string| string.len() as u64)
+                }),
+                string
+                    .if_text(&mut || String::from_utf8(black_box(bytes).to_vec()).map_or(0, |text| text.len() as u64)),
+                None,
+                None,
             ],
         );
         if str::from_utf8(bytes).is_ok() {

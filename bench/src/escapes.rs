@@ -2,10 +2,14 @@
 use crate::inputs::{self, Short};
 use crate::table::Bench;
 use crate::{ours, theirs};
+use std::fmt::Write;
 use std::hint::black_box;
 
 /// A call, and how long what it answers is.
 type Call = (&'static str, fn(&[u8]) -> usize);
+
+/// A call that writes into a buffer, and how long what it writes is.
+type Written = (&'static str, fn(&[u8], &mut [u8]) -> usize);
 
 const WINDOWS: Call = ("escape, Windows", ours::windows_escape);
 
@@ -13,6 +17,7 @@ const WASM: Call = ("escape, wasm", ours::wasm_escape);
 
 pub fn time(bench: &mut Bench) {
     long(bench);
+    hard(bench);
     short(bench);
 }
 
@@ -44,27 +49,54 @@ fn long(bench: &mut Bench) {
     }
 }
 
-/// Of short ones, beside std's escape, which has no way back, into one buffer.
+/// Of texts and bytes of which most is escaped, beside `{:?}` into a buffer that is there.
+fn hard(bench: &mut Bench) {
+    bench.table("Hard escapes, into a buffer", "a byte");
+    let calls: [Written; 2] = [("write_escape", ours::write_escape), ("write_escape_line", ours::write_escape_line)];
+    for inputs::Long { name, bytes } in inputs::mostly_escaped() {
+        let mut room = vec![0; 10 * bytes.len()];
+        let mut buffer = String::new();
+        for (call, run) in calls {
+            let run = black_box(run);
+            let escaped = run(&bytes, &mut room) as u64;
+            bench.line(
+                call,
+                &name,
+                bytes.len(),
+                [
+                    Some(&mut || run(black_box(&bytes), &mut room) as u64),
+                    None,
+                    Some(&mut || {
+                        buffer.clear();
+                        write!(buffer, "{:?}", theirs::unix(black_box(&bytes))).expect("a String takes all");
+                        black_box(&buffer);
+                        escaped
+                    }),
+                ],
+            );
+        }
+    }
+}
+
+/// Of short ones, beside what std's `{:?}` writes, which has no way back: as a new text, and into one
+/// buffer.
 fn short(bench: &mut Bench) {
     bench.table("Escapes of short strings", "a call");
     for strings in inputs::short_texts().iter() {
         short_line(bench, strings, [("escape", ours::escape), ("escape_line", ours::escape_line), WINDOWS, WASM]);
+        written_line(bench, strings);
     }
-    let unix: [Call; 2] = [("escape", ours::escape), ("escape_line", ours::escape_line)];
-    short_line(bench, &inputs::paths_with_a_fault(), unix);
+    let faulty = inputs::paths_with_a_fault();
+    short_line(bench, &faulty, [("escape", ours::escape), ("escape_line", ours::escape_line)]);
+    written_line(bench, &faulty);
     short_line(bench, &inputs::paths_with_a_surrogate(), [WINDOWS]);
 }
 
 fn short_line<const N: usize>(bench: &mut Bench, strings: &Short, calls: [Call; N]) {
-    let mut buffer = String::new();
-    let mut std_escape = |bytes: &[u8]| {
-        buffer.clear();
-        buffer.extend(theirs::text(bytes).escape_debug());
-        buffer.len()
-    };
-    let escape_debug: &mut dyn FnMut(&[u8]) -> usize = black_box(&mut std_escape);
     for (call, run) in calls {
         let run = black_box(run);
+        // without the quotation marks
+        let shown = |bytes: &[u8]| black_box(format!("{:?}", theirs::text(bytes))).len() - 2;
         bench.line(
             call,
             strings.name,
@@ -72,7 +104,31 @@ fn short_line<const N: usize>(bench: &mut Bench, strings: &Short, calls: [Call; 
             [
                 Some(&mut || strings.strings().map(run).sum::<usize>() as u64),
                 None,
-                strings.if_texts(&mut || strings.strings().map(&mut *escape_debug).sum::<usize>() as u64),
+                strings.if_texts(&mut || strings.strings().map(shown).sum::<usize>() as u64),
+            ],
+        );
+    }
+}
+
+fn written_line(bench: &mut Bench, strings: &Short) {
+    let calls: [Written; 2] = [("write_escape", ours::write_escape), ("write_escape_line", ours::write_escape_line)];
+    let mut room = [0; 800];
+    let mut buffer = String::new();
+    for (call, run) in calls {
+        let run = black_box(run);
+        let mut shown = |bytes: &[u8]| {
+            buffer.clear();
+            write!(buffer, "{:?}", theirs::unix(bytes)).expect("a String takes all");
+            black_box(&buffer).len() - 2
+        };
+        bench.line(
+            call,
+            strings.name,
+            strings.count(),
+            [
+                Some(&mut || strings.strings().map(|bytes| run(bytes, &mut room)).sum::<usize>() as u64),
+                None,
+                Some(&mut || strings.strings().map(&mut shown).sum::<usize>() as u64),
             ],
         );
     }

@@ -256,6 +256,20 @@ pub fn faulty() -> Vec<Long> {
     all
 }
 
+/// Texts and bytes of 1 KiB and of 1 MiB of which most is escaped.
+pub fn mostly_escaped() -> Vec<Long> {
+    let mut random = Random(13);
+    let mut all = Vec::new();
+    for (len, size) in [(1 << 10, "1 KiB"), (1 << 20, "1 MiB")] {
+        let mut push = |name: &str, bytes| all.push(Long { name: format!("{name}, {size}"), bytes });
+        push("a backslash in ten bytes", (0..len).map(|_| if random.once_in(10) { b'\\' } else { b'x' }).collect());
+        push("backslashes", vec![b'\\'; len]);
+        push("control characters", vec![1; len]);
+        push("random bytes", (0..len).map(|_| random.next() as u8).collect());
+    }
+    all
+}
+
 /// Strings that only Unix has, one piece again and again, so that a processor foresees every
 /// branch: a path with a lone surrogate, a name in Latin-1, and so many characters before an FF.
 pub fn periodic() -> Vec<Long> {
@@ -282,6 +296,11 @@ pub struct Short {
 impl Short {
     fn of(name: &'static str, string: impl FnMut(usize) -> Vec<u8>) -> Self {
         Self { name, strings: (0..10_000).map(string).collect() }
+    }
+
+    /// As many of these lengths as fill 1 MiB, at most 10,000.
+    fn filling(name: &'static str, len: usize, string: impl FnMut(usize) -> Vec<u8>) -> Self {
+        Self { name, strings: (0..(1 << 20) / len).take(10_000).map(string).collect() }
     }
 
     pub fn strings(&self) -> impl Iterator<Item = &[u8]> {
@@ -375,4 +394,26 @@ fn paths_with(name: &'static str, bytes: &[u8]) -> Short {
         path.splice(at..at, bytes.iter().copied());
         path
     })
+}
+
+/// ASCII strings of 129 to 4,096 bytes, which end with `needle`.
+pub fn middling(needle: &str) -> Vec<Short> {
+    let kinds = [
+        ("129 bytes", 129),
+        ("160 bytes", 160),
+        ("256 bytes", 256),
+        ("512 bytes", 512),
+        ("1,024 bytes", 1024),
+        ("4,096 bytes", 4096),
+    ];
+    let mut random = Random(16);
+    kinds
+        .map(|(name, len)| {
+            Short::filling(name, len, |_| {
+                let mut bytes = ascii(&mut random, len - needle.len());
+                bytes.extend_from_slice(needle.as_bytes());
+                bytes
+            })
+        })
+        .into()
 }

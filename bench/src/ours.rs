@@ -47,6 +47,8 @@ mod exports {
         pub fn port_win_escape(bytes: *const u8, len: usize) -> usize;
         pub fn port_wasm_escape(bytes: *const u8, len: usize) -> usize;
         pub fn port_escape_line(bytes: *const u8, len: usize) -> usize;
+        pub fn port_write_escape(bytes: *const u8, len: usize, out: *mut u8, room: usize) -> usize;
+        pub fn port_write_escape_line(bytes: *const u8, len: usize, out: *mut u8, room: usize) -> usize;
         pub fn port_unescape(text: *const u8, len: usize) -> usize;
         pub fn port_unescape_line(text: *const u8, len: usize) -> usize;
         pub fn port_ends_with(bytes: *const u8, len: usize, pattern: *const u8, pattern_len: usize) -> bool;
@@ -202,6 +204,14 @@ pub fn wasm_escape(bytes: &[u8]) -> usize {
 
 pub fn escape_line(bytes: &[u8]) -> usize {
     unsafe { exports::port_escape_line(bytes.as_ptr(), bytes.len()) }
+}
+
+pub fn write_escape(bytes: &[u8], out: &mut [u8]) -> usize {
+    unsafe { exports::port_write_escape(bytes.as_ptr(), bytes.len(), out.as_mut_ptr(), out.len()) }
+}
+
+pub fn write_escape_line(bytes: &[u8], out: &mut [u8]) -> usize {
+    unsafe { exports::port_write_escape_line(bytes.as_ptr(), bytes.len(), out.as_mut_ptr(), out.len()) }
 }
 
 /// The bytes are UTF-8.

@@ -37,13 +37,26 @@ pub fn time(bench: &mut Bench) {
         short(bench, call, contestants, &arguments, pattern);
     }
 
-    bench.table("Searches in long strings", "a byte");
-    for string in inputs::strings() {
-        absent(bench, &string, "zq/needle.xyz");
-        each(bench, &string, "/");
+    bench.table("Hard searches in strings of 129 to 4,096 bytes", "a call");
+    for (needle, said) in [("~", "`~`"), ("~~", "`~~`"), ("zq/needle.xyz", "13 bytes"), ("release.zip", "11 bytes")] {
+        for strings in inputs::middling("") {
+            middling(bench, &strings, &format!("{said}, absent"), needle);
+        }
+        for strings in inputs::middling(needle) {
+            middling(bench, &strings, &format!("{said}, at the end"), needle);
+        }
     }
+
+    bench.table("Searches in long strings", "a byte");
+    let strings = inputs::strings();
+    strings.iter().for_each(|string| each(bench, string, "/"));
     full(bench, 1);
     full(bench, 16);
+    bench.table("Hard searches in long strings", "a byte");
+    for string in &strings {
+        absent(bench, string, "zq/needle.xyz", "absent");
+        absent(bench, string, "~", "`~`, absent");
+    }
 }
 
 fn or_max(found: Option<usize>) -> usize {
@@ -87,8 +100,17 @@ const SPLIT_ONCE: [Search; 3] = [
     )),
 ];
 
+/// The search for a needle that isn't in the strings, or at their ends.
+fn middling(bench: &mut Bench, strings: &Short, said: &str, needle: &str) {
+    timed(bench, "find", FIND, strings, &format!("{}, {said}", strings.name), needle);
+}
+
 /// One call for each short string.
 fn short(bench: &mut Bench, call: &str, contestants: [Search; 3], strings: &Short, pattern: &str) {
+    timed(bench, call, contestants, strings, &format!("{}, `{pattern}`", strings.name), pattern);
+}
+
+fn timed(bench: &mut Bench, call: &str, contestants: [Search; 3], strings: &Short, input: &str, pattern: &str) {
     let all = |search: Search| {
         let search = black_box(search);
         strings.strings().fold(0, |sum: usize, string| sum.wrapping_add(search(string, pattern))) as u64
@@ -96,19 +118,19 @@ fn short(bench: &mut Bench, call: &str, contestants: [Search; 3], strings: &Shor
     let [ours, theirs, std] = contestants;
     bench.line(
         call,
-        &format!("{}, `{pattern}`", strings.name),
+        input,
         strings.count(),
         [Some(&mut || all(ours)), Some(&mut || all(theirs)), Some(&mut || all(std))],
     );
 }
 
 /// The search for a pattern that doesn't occur in the string, from both ends.
-fn absent(bench: &mut Bench, string: &Long, pattern: &str) {
+fn absent(bench: &mut Bench, string: &Long, pattern: &str, said: &str) {
     for (call, [ours, theirs, std]) in [("find", FIND), ("rfind", RFIND)] {
         let once = |search: Search| black_box(search)(black_box(&string.bytes), pattern) as u64;
         bench.line(
             call,
-            &format!("{}, absent", string.name),
+            &format!("{}, {said}", string.name),
             string.bytes.len(),
             [Some(&mut || once(ours)), Some(&mut || once(theirs)), string.if_text(&mut || once(std))],
         );

@@ -4,9 +4,9 @@ use crate::table::Bench;
 use crate::through_c::through_c;
 use crate::{ours, theirs};
 use crate_unix::{OsStrBytesExt, RawOsStr as UnixStr};
+use crate_windows::windows_strings::OsString;
 use crate_windows::windows_strings::os::ffi::{OsStrExt, OsStringExt};
-use crate_windows::windows_strings::{OsStr, OsString};
-use crate_windows::{OsStrBytes, OsStringBytes, RawOsStr as WindowsStr, coders};
+use crate_windows::{OsStringBytes, RawOsStr as WindowsStr, coders};
 use std::hint::black_box;
 
 /// A call on a string, with what can be compared.
@@ -69,7 +69,7 @@ fn check(bench: &mut Bench, strings: &Short) {
         strings.count(),
         [
             Some(&mut || all(strings, |bytes| ours::check(bytes).into())),
-            Some(&mut || all(strings, |bytes| OsStr::from_raw_bytes(bytes).is_ok().into())),
+            None,
             strings.if_texts(&mut || all(strings, |bytes| str::from_utf8(bytes).is_ok().into())),
             strings.if_texts(&mut || all(strings, |bytes| theirs::is_utf8_sse42(bytes).into())),
             theirs::if_avx2(strings.if_texts(&mut || all(strings, |bytes| theirs::is_utf8_avx2(bytes).into()))),
