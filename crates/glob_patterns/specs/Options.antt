@@ -7,11 +7,11 @@ use Rattle.glob_patterns.specs.declared.options.GlobOptions.{GlobOptions}
 
 -- the options with these separators and no others
 abbrev pub usual_options : Separators → GlobOptions
-usual_options separators = record { separators = separators; literal_leading_dot = false; escapes = true; class_escapes = false }
+usual_options separators = record { separators = separators; literal_leading_dot = false; escapes = true; class_escapes = false; case_insensitive = false }
 
 -- how the text of a pattern is read
 abbrev pub syntax_of : GlobOptions → Syntax
-syntax_of o = record { separators = o.separators; escapes = o.escapes; class_escapes = o.class_escapes }
+syntax_of o = record { separators = o.separators; escapes = o.escapes; class_escapes = o.class_escapes; case_insensitive = o.case_insensitive }
 
 -- how paths are matched
 abbrev pub options_of : GlobOptions → Options

@@ -38,7 +38,8 @@ use wildcards::{Choice, matches_choice};
 ///
 /// In a class, a `]` that comes first is a member, and so is a `-` that is first, last, or right
 /// after a range. Named classes are POSIX's, over ASCII. A separator in a class is a member that
-/// matches nothing.
+/// matches nothing. Where case doesn't tell ([`GlobOptions::case_insensitive`]), a character is the
+/// class of all with its simple case folding, and a class has those of its members.
 #[derive(Drop)]
 pub struct Glob<E: Platform, A: Allocator = Global> {
     options: GlobOptions,
@@ -129,6 +130,10 @@ impl<E: Platform, A: Allocator> Glob<E, A> {
     /// let glob: Glob<Unix> = Glob::new(alloc, options, "a/**/b")?;
     /// assert!(rt; glob.is_match(OsStr::new("a/b")) && glob.is_match(OsStr::new("a/x/b")));
     /// assert!(rt; !glob.is_match(OsStr::new("a/xb")));
+    ///
+    /// let options = GlobOptions { case_insensitive: true, ..options };
+    /// let glob: Glob<Unix> = Glob::new(alloc, options, "*.[é-ê]")?;
+    /// assert!(rt; glob.is_match(OsStr::new("a.É")) && !glob.is_match(OsStr::new("a.è")));
     /// ```
     pub fn is_match(&self, path: OsStr<'_, E>) -> bool
         ensures value { IsTrue result ↔ MatchesChoice (options_of self.now.options)

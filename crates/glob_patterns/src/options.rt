@@ -18,17 +18,21 @@ pub struct GlobOptions {
     pub escapes: bool,
     /// Whether a `\` in a class quotes the next character. Otherwise it is a member.
     pub class_escapes: bool,
+    /// Whether characters that differ in case alone are one: those with the same simple case
+    /// folding (The Unicode Standard, 3.13). A class has those of its members.
+    pub case_insensitive: bool,
 }
 
 impl GlobOptions {
-    /// The options with these separators: wildcards match leading dots, and a `\` quotes, where it
-    /// isn't a separator, but not in classes.
+    /// The options with these separators: wildcards match leading dots, a `\` quotes, where it isn't
+    /// a separator, but not in classes, and case tells.
     ///
     /// ```
     /// use glob_patterns::{GlobOptions, Separators};
     ///
     /// let options = GlobOptions::new(Separators::Slash);
-    /// assert!(rt; options.escapes && !options.literal_leading_dot && !options.class_escapes);
+    /// assert!(rt; options.escapes && !options.literal_leading_dot);
+    /// assert!(rt; !options.class_escapes && !options.case_insensitive);
     /// ```
     pub const fn new(separators: Separators) -> Self
         ensures { result ≡ usual_options separators }
@@ -38,6 +42,7 @@ impl GlobOptions {
             literal_leading_dot: false,
             escapes: true,
             class_escapes: false,
+            case_insensitive: false,
         }
     }
 
@@ -49,6 +54,7 @@ impl GlobOptions {
             separators: self.separators,
             escapes: self.escapes,
             class_escapes: self.class_escapes,
+            case_insensitive: self.case_insensitive,
         }
     }
 

@@ -11,5 +11,6 @@ pub mod Chosen
 pub mod ChoiceSteps
 pub mod Parts
 pub mod Meaning
+pub mod Folded
 pub mod PartSteps
 pub mod Texts

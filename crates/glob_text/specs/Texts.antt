@@ -7,6 +7,7 @@ use Rattle.glob_text.specs.declared.symbol.Symbol.{Symbol}
 use Rattle.glob_text.specs.declared.syntax.Syntax.{Syntax}
 use Rattle.glob_text.specs.Alternatives.{AreChoices, AreTooMany}
 use Rattle.glob_text.specs.Braces.{IsBraceFault}
+use Rattle.glob_text.specs.Folded.{AreCased}
 use Rattle.glob_text.specs.Marks.{Mark, AreMarks, IsMarkFault}
 use Rattle.glob_text.specs.Parts.{AreCompiled}
 use Rattle.glob_text.specs.Symbols.{AreSymbols}
@@ -24,7 +25,9 @@ IsChoiceFault marks fault = IsBraceFault marks fault ⊎ IsTooManyFault marks fa
 pub record IsMarksFault (o : Syntax) (symbols : List Symbol) (fault : PatternFault) : Type 0 where
   pub marks : List Mark
   pub read : AreMarks o symbols marks
-  pub fault_is : IsChoiceFault marks fault
+  pub cased : List Mark
+  pub are_cased : AreCased o.case_insensitive marks cased
+  pub fault_is : IsChoiceFault cased fault
 
 -- the fault of symbols: of a mark, or of all marks
 abbrev pub IsSymbolsFault : Syntax → List Symbol → PatternFault → Type 0
@@ -41,7 +44,9 @@ module _ {A : Type 0} where
   pub record AreOfSymbols (o : Syntax) (symbols : List Symbol) (choices : List (Choice A)) : Type 0 where
     pub marks : List Mark
     pub read : AreMarks o symbols marks
-    pub are : AreChoicesOf o marks choices
+    pub cased : List Mark
+    pub are_cased : AreCased o.case_insensitive marks cased
+    pub are : AreChoicesOf o cased choices
 
 module _ (formed : List ℕ → Type 0) (letters : List ℕ → List ℕ) (o : Syntax) (text : List ℕ) where
   -- the compiled form of the text

@@ -5,6 +5,7 @@ mod braces;
 mod choices;
 mod class_text;
 mod fault;
+mod fold;
 pub mod laws;
 mod mark;
 mod name;

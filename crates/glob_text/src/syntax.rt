@@ -13,6 +13,9 @@ pub struct Syntax {
     pub escapes: bool,
     /// Whether it does so in a class.
     pub class_escapes: bool,
+    /// Whether letters that differ in case alone are one: those with the same simple case folding
+    /// (The Unicode Standard, 3.13).
+    pub case_insensitive: bool,
 }
 
 impl Syntax {

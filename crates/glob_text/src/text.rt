@@ -6,6 +6,7 @@ ghost use Rattle.glob_text.specs.Texts.{IsChoiceFault, IsSymbolsFault, IsFault, 
 use crate::braces::brace_fault;
 use crate::choices::choices;
 use crate::fault::{FaultKind, PatternFault};
+use crate::fold::cased;
 use crate::mark::{Mark, marks};
 use crate::part::compile_each;
 use crate::symbol::{Symbol, symbols};
@@ -47,7 +48,11 @@ fn compile_symbols<A: Allocator + Copy>(
         (λ fault. IsSymbolsFault syntax text.now fault)) }
 {
     match marks(alloc, syntax, text)? {
-        Ok(marks) => compile_marks(alloc, syntax, &marks),
+        Ok(marks) => compile_marks(
+            alloc,
+            syntax,
+            &cased(alloc, syntax.case_insensitive, marks)?,
+        ),
         Err(fault) => Ok(Err(fault)),
     }
 }
@@ -64,7 +69,8 @@ fn compile_symbols<A: Allocator + Copy>(
 /// use wildcards::{Bytes, Options, Separators, matches_choice};
 ///
 /// let separators = Separators::Slash;
-/// let syntax = Syntax { separators, escapes: true, class_escapes: false };
+/// let syntax =
+///     Syntax { separators, escapes: true, class_escapes: false, case_insensitive: false };
 /// let options = Options { separators, literal_leading_dot: false };
 /// match compile::<Bytes, _>(alloc, syntax, b"**/*.{c,h}")? {
 ///     Ok(choices) => assert!(rt; matches_choice::<Bytes, _>(options, &choices, b"a/b.h")),
