@@ -1,10 +1,6 @@
 pub mod Around
-pub mod PathParts
-pub mod CommandLines
 pub mod EqualOrder
 pub mod FirstAndLast
-pub mod GlobFaults
-pub mod HiddenBelow
 pub mod LossyOfChunks
 pub mod NoMatch
 pub mod OnePiece

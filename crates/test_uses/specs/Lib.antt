@@ -1,3 +1,2 @@
-pub mod Arguments
 pub mod Matches
 pub mod TextsBetween

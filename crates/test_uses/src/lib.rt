@@ -6,13 +6,11 @@
 #![tactic(auto)]
 
 pub mod agreements;
-pub mod arguments;
 pub mod buffers;
 pub mod bytes;
 pub mod characters;
 pub mod chunks;
 pub mod clones;
-pub mod command_lines;
 pub mod cows;
 pub mod cuts_in_units;
 pub mod digits;
@@ -20,10 +18,8 @@ pub mod ends;
 pub mod equal;
 pub mod escapes;
 pub mod files;
-pub mod globs;
 pub mod hashes;
 pub mod headline;
-pub mod ignored;
 pub mod joins;
 pub mod laws;
 pub mod line_escapes;
@@ -32,7 +28,6 @@ pub mod lossy_chunks;
 pub mod occurrence;
 pub mod orders;
 pub mod parts;
-pub mod path_parts;
 pub mod paths;
 pub mod patterns;
 pub mod pieces;
@@ -52,4 +47,3 @@ pub mod texts;
 pub mod units;
 pub mod views;
 pub mod wide;
-pub mod windows_lines;

@@ -1,0 +1,2 @@
+pub mod HiddenBelow
+pub mod PathParts

@@ -1,4 +1,0 @@
-use Rattle.test_uses.proofs.command_lines.known_word.Goals as goal
-
-pub returns : goal.returns
-returns g c = λ known left h. c.one_outcome.ensures.next _ _ known _ left c.next.ensures h

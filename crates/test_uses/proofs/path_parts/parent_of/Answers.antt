@@ -1,6 +1,0 @@
-use Rattle.platform_str.specs.Strings.{path_bytes}
-use Rattle.test_uses.proofs.PathParts.{all_but_last}
-use Rattle.test_uses.proofs.path_parts.parent_of.Goals as goal
-
-pub returns : goal.returns
-returns g c = all_but_last path_bytes g.E.PathStyle.follows (path_bytes c.args.path) (c.one_list.ensures.items g.E.PathStyle.follows (path_bytes c.args.path)) c.parent.result c.parent.ensures
