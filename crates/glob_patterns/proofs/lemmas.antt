@@ -1,2 +1,3 @@
+pub mod Around
 pub mod InlineTexts
 pub mod UnitLetters

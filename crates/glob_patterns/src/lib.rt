@@ -1,18 +1,20 @@
 //! Path patterns over strings of any platform.
 //!
 //! [`Glob`] is a pattern that is compiled once, from a text or from any string of the platform, and
-//! matches paths without memory.
+//! matches paths without memory. [`escape_pattern`] is the pattern of one string.
 //!
 //! A string is read as letters ([`StringLetters`]): a letter is a whole character, or one unit of
 //! what isn't text. No pattern matches part of a letter.
 #![tactic(auto)]
 
 mod error;
+mod escaped;
 mod glob;
 mod letters;
 mod options;
 
 pub use error::GlobError;
+pub use escaped::escape_pattern;
 pub use glob::Glob;
 pub use glob_text::{FaultKind, PatternFault};
 pub use letters::StringLetters;

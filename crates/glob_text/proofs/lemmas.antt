@@ -2,6 +2,9 @@ pub mod Advancing
 pub mod Braces
 pub mod Choices
 pub mod Compiled
+pub mod EscapedLetters
+pub mod EscapedMarks
+pub mod EscapedMeaning
 pub mod Folding
 pub mod Mapped
 pub mod Meanings

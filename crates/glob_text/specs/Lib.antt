@@ -14,3 +14,4 @@ pub mod Meaning
 pub mod Folded
 pub mod PartSteps
 pub mod Texts
+pub mod Escape

@@ -60,3 +60,13 @@ module _ (formed : List ℕ → Type 0) (letters : List ℕ → List ℕ) (o : S
     pub symbols : List Symbol
     pub read : AreSymbols formed letters text symbols
     pub is : IsSymbolsFault o symbols fault
+
+  -- the patterns without alternatives that the text stands for
+  pub record AreWrittenOut (written : List (List Mark)) : Type 0 where
+    pub symbols : List Symbol
+    pub read : AreSymbols formed letters text symbols
+    pub marks : List Mark
+    pub marks_are : AreMarks o symbols marks
+    pub cased : List Mark
+    pub are_cased : AreCased o.case_insensitive marks cased
+    pub are : AreChoices cased written

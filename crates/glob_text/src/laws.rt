@@ -1,17 +1,30 @@
 //! Laws of the text of patterns. Each is the contract of a function that does nothing.
-ghost use Rattle.std.specs.Prelude.{◌↔◌, List, ℕ};
+ghost use Rattle.std.specs.Prelude.{◌↔◌, ◌<◌, ◌∷◌, ◌++◌, List, ℕ};
 ghost use Rattle.wildcards.specs.declared.options.Options.{Options};
 ghost use Rattle.wildcards.specs.declared.pattern.Choice.{Choice};
 ghost use Rattle.wildcards.specs.Sets.{MatchesChoice};
-ghost use Rattle.glob_text.specs.Marks.{Mark};
+ghost use Rattle.glob_text.specs.declared.syntax.Syntax.{Syntax};
+ghost use Rattle.glob_text.specs.Escape.{escaped, IsPatternOf};
+ghost use Rattle.glob_text.specs.Marks.{Mark, is_quoting};
 ghost use Rattle.glob_text.specs.Meaning.{MatchesWrittenOut};
 ghost use Rattle.glob_text.specs.Parts.{AreCompiled};
 
 use std::alloc::Allocator;
+use wildcards::Letters;
 
 /// Choices that are compiled match a path exactly where the marks of one of them do.
 pub fn written_out<A: Allocator>()
     ensures { (o : Options) → (choices : List (List Mark)) → (compiled : List (Choice A))
         → (path : List ℕ) → AreCompiled o.separators choices compiled
         → MatchesChoice o compiled path ↔ MatchesWrittenOut o choices path }
+{}
+
+/// Where a byte of ASCII between two strings makes a string: what a string is escaped to is a string,
+/// and a pattern without a fault, which, where case tells, matches the string that was escaped and
+/// nothing else.
+pub fn escaped_alone<L: Letters>()
+    ensures { ((s : List ℕ) → (t : List ℕ) → (b : ℕ) → b < 0x80 → L.formed s → L.formed t
+        → L.formed (s ++ b ∷ t)) → (o : Syntax) → (own : List ℕ) → L.formed own
+        → L.formed (escaped (is_quoting o) own)
+        × IsPatternOf L.formed L.letters o (escaped (is_quoting o) own) (L.letters own) }
 {}

@@ -4,6 +4,7 @@
 mod braces;
 mod choices;
 mod class_text;
+mod escaped;
 mod fault;
 mod fold;
 pub mod laws;
@@ -14,6 +15,7 @@ mod symbol;
 mod syntax;
 mod text;
 
+pub use escaped::escape;
 pub use fault::{FaultKind, PatternFault};
 pub use syntax::Syntax;
 pub use text::compile;

@@ -49,7 +49,7 @@ pub enum Mark<A: Allocator = Global> {
 }
 
 /// What a letter is that isn't quoted.
-fn kind_of(quoting: bool, letter: u32) -> Kind
+pub(crate) fn kind_of(quoting: bool, letter: u32) -> Kind
     ensures { result ≡ kind_of quoting letter }
 {
     if quoting && letter == 0x5C {
