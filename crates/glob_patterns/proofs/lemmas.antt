@@ -1,3 +1,4 @@
 pub mod Around
+pub mod Compiling
 pub mod InlineTexts
 pub mod UnitLetters

@@ -4,6 +4,8 @@ use Rattle.glob_text.specs.declared.fault.FaultKind.{FaultKind}
 use Rattle.glob_text.specs.declared.fault.FaultKind.TheVariants.{UnclosedClass, ReversedRange, UnknownClassName, DanglingEscape, UnclosedAlternatives, UnopenedAlternatives, TooManyChoices}
 use Rattle.glob_patterns.specs.declared.error.GlobError.{GlobError}
 use Rattle.glob_patterns.specs.declared.error.GlobError.TheVariants.{Pattern, Memory}
+use Rattle.glob_patterns.specs.declared.set_error.GlobSetError.{GlobSetError}
+use Rattle.glob_patterns.specs.declared.set_error.GlobSetError.TheVariants as set
 
 -- what is wrong
 abbrev pub kind_text : FaultKind → List ℕ
@@ -19,3 +21,8 @@ kind_text TooManyChoices = codes "too many choices"
 abbrev pub error_text : GlobError → List ℕ
 error_text (Pattern fault) = kind_text fault.kind ++ (codes " at byte " ++ decimal fault.index)
 error_text Memory = codes "out of memory"
+
+-- of the patterns of a set, also which
+abbrev pub set_error_text : GlobSetError → List ℕ
+set_error_text (set.Pattern index fault) = codes "pattern " ++ (decimal index ++ (codes ": " ++ (kind_text fault.kind ++ (codes " at byte " ++ decimal fault.index))))
+set_error_text set.Memory = codes "out of memory"

@@ -4,5 +4,6 @@ pub mod Letters
 pub mod Readings
 pub mod Options
 pub mod Errors
+pub mod GlobSets
 pub mod ErrorText
 pub mod TextMatch

@@ -49,7 +49,7 @@ impl fmt::Display for GlobError {
 impl Error for GlobError {}
 
 /// Writes what is wrong.
-fn write_kind<W: fmt::Write>(kind: FaultKind, f: &mut fmt::Formatter<W>) -> fmt::Result
+pub(crate) fn write_kind<W: fmt::Write>(kind: FaultKind, f: &mut fmt::Formatter<W>) -> fmt::Result
     ensures { WritesStyledOnOk W.write_str_gives f.old result (kind_text kind) f.new }
 {
     match kind {
@@ -64,7 +64,7 @@ fn write_kind<W: fmt::Write>(kind: FaultKind, f: &mut fmt::Formatter<W>) -> fmt:
 }
 
 /// Writes the decimal digits of a number, whatever width is asked for.
-fn write_number<W: fmt::Write>(number: usize, f: &mut fmt::Formatter<W>) -> fmt::Result
+pub(crate) fn write_number<W: fmt::Write>(number: usize, f: &mut fmt::Formatter<W>) -> fmt::Result
     ensures { WritesStyledOnOk W.write_str_gives f.old result (decimal number) f.new }
 {
     let mut digits = InlineText::<20>::new();

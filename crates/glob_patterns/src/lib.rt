@@ -1,7 +1,8 @@
 //! Path patterns over strings of any platform.
 //!
 //! [`Glob`] is a pattern that is compiled once, from a text or from any string of the platform, and
-//! matches paths without memory. [`escape_pattern`] is the pattern of one string.
+//! matches paths without memory; [`GlobSet`] is many, with which a path is matched at once.
+//! [`escape_pattern`] is the pattern of one string.
 //!
 //! A string is read as letters ([`StringLetters`]): a letter is a whole character, or one unit of
 //! what isn't text. No pattern matches part of a letter.
@@ -10,13 +11,17 @@
 mod error;
 mod escaped;
 mod glob;
+mod glob_set;
 mod letters;
 mod options;
+mod set_error;
 
 pub use error::GlobError;
 pub use escaped::escape_pattern;
 pub use glob::Glob;
+pub use glob_set::GlobSet;
 pub use glob_text::{FaultKind, PatternFault};
 pub use letters::StringLetters;
 pub use options::GlobOptions;
+pub use set_error::GlobSetError;
 pub use wildcards::Separators;
