@@ -2,8 +2,8 @@
 use Rattle.std.specs.Prelude.{ℕ, List}
 use Rattle.wtf8_core.specs.declared.fault.EncodingError.{EncodingError}
 use Rattle.path_rules.specs.declared.rules.Style.{Style}
-use Rattle.path_rules.specs.declared.styles.StyleError.TheVariants as style_error
-use Rattle.path_rules.specs.Restyled.{IsRestyled, IsStyleFault}
+use Rattle.path_building.specs.declared.styles.StyleError.TheVariants as style_error
+use Rattle.path_building.specs.Restyled.{IsRestyled, IsStyleFault}
 use Rattle.os_path.specs.declared.styles.ConvertError.{ConvertError}
 use Rattle.os_path.specs.declared.styles.ConvertError.TheVariants as error
 

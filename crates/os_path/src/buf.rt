@@ -2,8 +2,9 @@
 ghost use Rattle.std.specs.Prelude.{◌≡◌, false, IsTrue, IfOk, OnOk, OnErr};
 ghost use Rattle.platform_str.specs.Strings.{bytes, path_bytes, path_vec_of};
 ghost use Rattle.path_rules.specs.Parent.{IsParent, HasNoParent};
-ghost use Rattle.path_rules.specs.Join.{IsJoin};
-ghost use Rattle.path_rules.specs.FileName.{IsNamed, IsExtensionText, IsExtensionSet, IsExtensionAdded};
+ghost use Rattle.path_building.specs.Join.{IsJoin};
+ghost use Rattle.path_building.specs.FileName.{IsNamed, IsExtensionSet, IsExtensionAdded};
+ghost use Rattle.path_rules.specs.Name.{IsExtensionText};
 
 use crate::changed::{named, popped, pushed, with_extension_added, with_extension_set};
 use crate::style::PathStyle;

@@ -1,8 +1,9 @@
 //! Paths of a platform that are built: each is a string of it.
 ghost use Rattle.std.specs.Prelude.{◌≡◌, Bool, IfOk};
 ghost use Rattle.platform_str.specs.Strings.{bytes, path_bytes, path_vec_of};
-ghost use Rattle.path_rules.specs.Join.{IsJoin};
-ghost use Rattle.path_rules.specs.FileName.{IsNamed, IsExtensionText, IsExtensionSet, IsExtensionAdded};
+ghost use Rattle.path_building.specs.Join.{IsJoin};
+ghost use Rattle.path_building.specs.FileName.{IsNamed, IsExtensionSet, IsExtensionAdded};
+ghost use Rattle.path_rules.specs.Name.{IsExtensionText};
 
 use crate::style::PathStyle;
 use platform_str::{OsStr, OsString, PathBuf};
@@ -16,7 +17,7 @@ pub(crate) fn join<E: PathStyle, A: Allocator + Clone>(
 ) -> Result<PathBuf<E, A>, AllocError>
     ensures { IfOk result (λ joined. IsJoin E.follows (bytes base.entry) (bytes path.entry) (path_vec_of joined).items) }
 {
-    let joined = path_rules::join(
+    let joined = path_building::join(
         alloc,
         E::style(),
         base.as_encoded_bytes(),
@@ -33,7 +34,7 @@ pub(crate) fn with_file_name<E: PathStyle, A: Allocator + Clone>(
 ) -> Result<PathBuf<E, A>, AllocError>
     ensures { IfOk result (λ named. IsNamed E.follows (bytes path.entry) (bytes name.entry) (path_vec_of named).items) }
 {
-    let named = path_rules::with_file_name(
+    let named = path_building::with_file_name(
         alloc,
         E::style(),
         path.as_encoded_bytes(),
@@ -52,7 +53,7 @@ pub(crate) fn with_extension<E: PathStyle, A: Allocator>(
     ensures { IfOk result (λ made. (is_set : Bool)
         × IsExtensionSet E.follows (bytes path.entry) (bytes extension.entry) (path_vec_of made).items is_set) }
 {
-    let made = path_rules::with_extension(
+    let made = path_building::with_extension(
         alloc,
         E::style(),
         path.as_encoded_bytes(),
@@ -71,7 +72,7 @@ pub(crate) fn with_added_extension<E: PathStyle, A: Allocator>(
     ensures { IfOk result (λ made. (is_added : Bool)
         × IsExtensionAdded E.follows (bytes path.entry) (bytes extension.entry) (path_vec_of made).items is_added) }
 {
-    let made = path_rules::with_added_extension(
+    let made = path_building::with_added_extension(
         alloc,
         E::style(),
         path.as_encoded_bytes(),

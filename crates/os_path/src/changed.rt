@@ -2,8 +2,9 @@
 ghost use Rattle.std.specs.Prelude.{◌≡◌, false, IsTrue, IfOk, OnOk, OnErr};
 ghost use Rattle.platform_str.specs.Strings.{bytes, path_bytes, path_vec_of};
 ghost use Rattle.path_rules.specs.Parent.{IsParent, HasNoParent};
-ghost use Rattle.path_rules.specs.Join.{IsJoin};
-ghost use Rattle.path_rules.specs.FileName.{IsNamed, IsExtensionText, IsExtensionSet, IsExtensionAdded};
+ghost use Rattle.path_building.specs.Join.{IsJoin};
+ghost use Rattle.path_building.specs.FileName.{IsNamed, IsExtensionSet, IsExtensionAdded};
+ghost use Rattle.path_rules.specs.Name.{IsExtensionText};
 
 use crate::style::PathStyle;
 use platform_str::{OsStr, OsString, Path, PathBuf};
@@ -18,7 +19,7 @@ pub(crate) fn pushed<E: PathStyle, A: Allocator + Clone>(
     ensures err { OnErr result.1 ((path_vec_of result.0).items ≡ (path_vec_of path).items) }
 {
     let mut vec = path.into_os_string().into_encoded_bytes();
-    let outcome = path_rules::push(E::style(), &mut vec, more.as_os_str().as_encoded_bytes());
+    let outcome = path_building::push(E::style(), &mut vec, more.as_os_str().as_encoded_bytes());
     (
         PathBuf::from(OsString::from_encoded_bytes_unchecked(vec)),
         outcome,
@@ -57,7 +58,7 @@ pub(crate) fn named<E: PathStyle, A: Allocator + Clone>(
     ensures err { OnErr result.1 ((path_vec_of result.0).items ≡ (path_vec_of path).items) }
 {
     let mut vec = path.into_os_string().into_encoded_bytes();
-    let outcome = path_rules::set_file_name(E::style(), &mut vec, name.as_encoded_bytes());
+    let outcome = path_building::set_file_name(E::style(), &mut vec, name.as_encoded_bytes());
     (
         PathBuf::from(OsString::from_encoded_bytes_unchecked(vec)),
         outcome,
@@ -74,7 +75,7 @@ pub(crate) fn with_extension_set<E: PathStyle, A: Allocator>(
     ensures err { OnErr result.1 ((path_vec_of result.0).items ≡ (path_vec_of path).items) }
 {
     let mut vec = path.into_os_string().into_encoded_bytes();
-    let outcome = path_rules::set_extension(E::style(), &mut vec, extension.as_encoded_bytes());
+    let outcome = path_building::set_extension(E::style(), &mut vec, extension.as_encoded_bytes());
     (
         PathBuf::from(OsString::from_encoded_bytes_unchecked(vec)),
         outcome,
@@ -91,7 +92,7 @@ pub(crate) fn with_extension_added<E: PathStyle, A: Allocator>(
     ensures err { OnErr result.1 ((path_vec_of result.0).items ≡ (path_vec_of path).items) }
 {
     let mut vec = path.into_os_string().into_encoded_bytes();
-    let outcome = path_rules::add_extension(E::style(), &mut vec, extension.as_encoded_bytes());
+    let outcome = path_building::add_extension(E::style(), &mut vec, extension.as_encoded_bytes());
     (
         PathBuf::from(OsString::from_encoded_bytes_unchecked(vec)),
         outcome,

@@ -1,10 +1,10 @@
 //! Paths below a base: each is a string of the base's platform.
 ghost use Rattle.std.specs.Prelude.{IfOk, IfErr};
 ghost use Rattle.platform_str.specs.Strings.{bytes, path_vec_of};
-ghost use Rattle.path_rules.specs.Checked.{IsCheckedJoin, IsJoinFault};
+ghost use Rattle.path_building.specs.Checked.{IsCheckedJoin, IsJoinFault};
 
 use crate::style::PathStyle;
-use path_rules::JoinError;
+use path_building::JoinError;
 use platform_str::{OsStr, OsString, PathBuf};
 use std::alloc::Allocator;
 
@@ -19,7 +19,7 @@ pub(crate) fn join_checked<E: PathStyle, A: Allocator + Clone>(
     ensures err { IfErr result
         (λ error. IsJoinFault E.follows (bytes base.entry) (bytes path.entry) error) }
 {
-    let joined = path_rules::join_checked(
+    let joined = path_building::join_checked(
         alloc,
         E::style(),
         base.as_encoded_bytes(),

@@ -1,8 +1,9 @@
 //! The calls that every path of a platform has.
 ghost use Rattle.std.specs.Prelude.{List, ℕ, ◌≡◌, ◌↔◌, IsTrue, MatchOption, Bool, Some, IfOk, IfErr};
 ghost use Rattle.platform_str.specs.Strings.{bytes, path_bytes, path_vec_of};
-ghost use Rattle.path_rules.specs.Join.{IsJoin};
-ghost use Rattle.path_rules.specs.FileName.{IsNamed, IsExtensionText, IsExtensionSet, IsExtensionAdded};
+ghost use Rattle.path_building.specs.Join.{IsJoin};
+ghost use Rattle.path_building.specs.FileName.{IsNamed, IsExtensionSet, IsExtensionAdded};
+ghost use Rattle.path_rules.specs.Name.{IsExtensionText};
 ghost use Rattle.path_rules.specs.Components.{AreComponents};
 ghost use Rattle.path_rules.specs.Parent.{IsParent, HasNoParent, HasFileName, HasNoFileName};
 ghost use Rattle.path_rules.specs.Root.{HasRoot, IsAbsolute};
@@ -12,11 +13,11 @@ ghost use Rattle.path_rules.specs.Strip.{IsStripped};
 ghost use Rattle.path_rules.specs.Simplified.{IsSimplified};
 ghost use Rattle.path_rules.specs.StyleRules.{rules_of_style};
 ghost use Rattle.path_rules.specs.Trailing.{EndsWithSeparator, TrimsTrailing};
-ghost use Rattle.path_rules.specs.Normalized.{IsNormalized, IsNormalizeFault};
-ghost use Rattle.path_rules.specs.Cleaned.{IsCleaned};
-ghost use Rattle.path_rules.specs.Checked.{IsCheckedJoin, IsJoinFault};
-ghost use Rattle.path_rules.specs.Relative.{IsRelativeFrom};
-ghost use Rattle.path_rules.specs.Restyled.{IsRestyled};
+ghost use Rattle.path_building.specs.Normalized.{IsNormalized, IsNormalizeFault};
+ghost use Rattle.path_building.specs.Cleaned.{IsCleaned};
+ghost use Rattle.path_building.specs.Checked.{IsCheckedJoin, IsJoinFault};
+ghost use Rattle.path_building.specs.Relative.{IsRelativeFrom};
+ghost use Rattle.path_building.specs.Restyled.{IsRestyled};
 ghost use Rattle.os_path.specs.Converted.{IsConvertFault};
 ghost use Rattle.std.specs.Option.{option_map};
 ghost use Rattle.os_path.specs.Prefixes.{os_kind_of, HasPrefix, HasNoPrefix};
@@ -27,7 +28,8 @@ use crate::components::Components;
 use crate::style::PathStyle;
 use crate::styles::ConvertError;
 use crate::{built, checked, normal, parts, prefixes, relative, simplify, stripped, styles};
-use path_rules::{JoinError, NormalizeError, Prefix};
+use path_building::{JoinError, NormalizeError};
+use path_rules::Prefix;
 use platform_str::{OsStr, Path, PathBuf};
 use std::alloc::{AllocError, Allocator};
 
@@ -296,7 +298,7 @@ pub trait PathExt<'a>: Sized + Copy {
     ///
     /// The rest is a part of the path's bytes, from its next component to the end of its last. It
     /// begins with the root if the base is a prefix alone, as `C:`. The base joined with the rest
-    /// has the path's components, under the conditions of `path_rules::laws::strip_joined`.
+    /// has the path's components, under the conditions of `path_building::laws::strip_joined`.
     ///
     /// ```
     /// use os_path::PathExt;
@@ -382,7 +384,7 @@ pub trait PathExt<'a>: Sized + Copy {
     ///
     /// A `.` at the start of a path without a root is kept, a path whose prefix begins with `\\?\`
     /// isn't resolved, and a first name that by itself would be read as a prefix gets `.\` before
-    /// it. A normal form is its own (`path_rules::laws::normalized_again`).
+    /// it. A normal form is its own (`path_building::laws::normalized_again`).
     ///
     /// # Errors
     ///
@@ -420,7 +422,7 @@ pub trait PathExt<'a>: Sized + Copy {
     /// A `..` that has neither a name nor a root before it is kept, and the empty path is `.`. A
     /// path whose prefix begins with `\\?\` and a first name that would be read as a prefix are
     /// treated as by [`PathExt::normalize`]. A clean path is its own clean form
-    /// (`path_rules::laws::cleaned_again`).
+    /// (`path_building::laws::cleaned_again`).
     ///
     /// # Errors
     ///
@@ -487,7 +489,7 @@ pub trait PathExt<'a>: Sized + Copy {
     ///
     /// The other path is refused if it has a prefix or a root, or if a `..` would leave this one; on
     /// Windows also if one of its names has a colon or is reserved. So no path leaves this one
-    /// (`path_rules::laws::joined_below`), unless a name is a symbolic link.
+    /// (`path_building::laws::joined_below`), unless a name is a symbolic link.
     ///
     /// # Errors
     ///

@@ -3,7 +3,8 @@
 //! [`PathExt`] has the calls of std's `Path` that look at the path alone, for a
 //! [`platform_str::Path`] of any platform. [`PathStyle`] says whose rules the paths of a platform
 //! follow: [`platform_str::Windows`] has those of Windows, [`platform_str::Unix`] and
-//! [`platform_str::Wasm`] those of Unix. What the rules are is in `path_rules`.
+//! [`platform_str::Wasm`] those of Unix. What the rules are is in `path_rules`, and how paths are
+//! built in `path_building`.
 //!
 //! Each part of a path that a call answers is a string of the path's platform, so no half of a
 //! surrogate pair is ever joined to another. What builds a path takes an allocator and answers a
@@ -35,6 +36,7 @@ pub use buf::{add_extension, pop, push, set_extension, set_file_name};
 pub use by_components::ByComponents;
 pub use components::Components;
 pub use ext::PathExt;
-pub use path_rules::{Component, JoinError, NormalizeError, Prefix, Style};
+pub use path_building::{JoinError, NormalizeError};
+pub use path_rules::{Component, Prefix, Style};
 pub use style::PathStyle;
 pub use styles::ConvertError;

@@ -1,11 +1,11 @@
 //! Normal forms and clean forms of paths.
 ghost use Rattle.std.specs.Prelude.{IfOk, IfErr};
 ghost use Rattle.platform_str.specs.Strings.{bytes, path_vec_of};
-ghost use Rattle.path_rules.specs.Normalized.{IsNormalized, IsNormalizeFault};
-ghost use Rattle.path_rules.specs.Cleaned.{IsCleaned};
+ghost use Rattle.path_building.specs.Normalized.{IsNormalized, IsNormalizeFault};
+ghost use Rattle.path_building.specs.Cleaned.{IsCleaned};
 
 use crate::style::PathStyle;
-use path_rules::NormalizeError;
+use path_building::NormalizeError;
 use platform_str::{OsStr, OsString, PathBuf};
 use std::alloc::{AllocError, Allocator};
 
@@ -18,7 +18,7 @@ pub(crate) fn normalize<E: PathStyle, A: Allocator + Clone>(
         (λ normal. IsNormalized E.follows (bytes path.entry) (path_vec_of normal).items) }
     ensures err { IfErr result (λ error. IsNormalizeFault E.follows (bytes path.entry) error) }
 {
-    let normal = path_rules::normalize(alloc, E::style(), path.as_encoded_bytes())?;
+    let normal = path_building::normalize(alloc, E::style(), path.as_encoded_bytes())?;
     Ok(PathBuf::from(OsString::from_encoded_bytes_unchecked(normal)))
 }
 
@@ -30,6 +30,6 @@ pub(crate) fn clean<E: PathStyle, A: Allocator + Clone>(
     ensures { IfOk result
         (λ clean. IsCleaned E.follows (bytes path.entry) (path_vec_of clean).items) }
 {
-    let clean = path_rules::clean(alloc, E::style(), path.as_encoded_bytes())?;
+    let clean = path_building::clean(alloc, E::style(), path.as_encoded_bytes())?;
     Ok(PathBuf::from(OsString::from_encoded_bytes_unchecked(clean)))
 }

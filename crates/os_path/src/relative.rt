@@ -2,7 +2,7 @@
 ghost use Rattle.std.specs.Prelude.{IfOk};
 ghost use Rattle.std.specs.Option.{option_map};
 ghost use Rattle.platform_str.specs.Strings.{bytes, path_vec_of};
-ghost use Rattle.path_rules.specs.Relative.{IsRelativeFrom};
+ghost use Rattle.path_building.specs.Relative.{IsRelativeFrom};
 
 use crate::style::PathStyle;
 use platform_str::{OsStr, OsString, PathBuf};
@@ -17,7 +17,7 @@ pub(crate) fn relative_from<E: PathStyle, A: Allocator + Clone>(
     ensures { IfOk result (λ way. IsRelativeFrom E.follows (bytes path.entry) (bytes base.entry)
         (option_map (λ p. (path_vec_of p).items) way)) }
 {
-    let way = path_rules::relative_from(
+    let way = path_building::relative_from(
         alloc,
         E::style(),
         path.as_encoded_bytes(),

@@ -1,13 +1,13 @@
 //! A path of one platform as a path of another.
 ghost use Rattle.std.specs.Prelude.{◌≡◌, IfOk, IfErr};
 ghost use Rattle.platform_str.specs.Strings.{bytes, path_vec_of};
-ghost use Rattle.path_rules.specs.Restyled.{IsRestyled};
+ghost use Rattle.path_building.specs.Restyled.{IsRestyled};
 ghost use Rattle.wtf8_core.specs.declared.fault.EncodingError as of_bytes;
 ghost use Rattle.os_path.specs.declared.styles.ConvertError.TheVariants as why;
 ghost use Rattle.os_path.specs.Converted.{IsConvertFault};
 
 use crate::style::PathStyle;
-use path_rules::StyleError;
+use path_building::StyleError;
 use platform_str::{OsStr, OsString, PathBuf};
 use std::alloc::Allocator;
 use wtf8_core::EncodingError;
@@ -33,7 +33,7 @@ pub(crate) fn with_style<E: PathStyle, F: PathStyle, A: Allocator + Clone>(
     ensures err { IfErr result
         (λ error. IsConvertFault E.follows F.follows F.first_fault (bytes path.entry) error) }
 {
-    match path_rules::with_style(alloc, E::style(), F::style(), path.as_encoded_bytes()) {
+    match path_building::with_style(alloc, E::style(), F::style(), path.as_encoded_bytes()) {
         Ok(made) => checked(made),
         Err(StyleError::Component(index)) => Err(ConvertError::Component(index)),
         Err(StyleError::Memory) => Err(ConvertError::Memory),

@@ -1,6 +1,9 @@
 -- The parts of a name around its dots (std's `Path::file_stem`, `Path::extension` and `Path::file_prefix`).
 use Rattle.std.specs.Prelude.{◌≡◌, ◌≢◌, ◌⊎◌, ℕ, nat_eq, false, List, [], ◌∷◌, ◌++◌}
 use Rattle.std.specs.List.{All}
+use Rattle.path_rules.specs.declared.rules.Style.{Style}
+use Rattle.path_rules.specs.StyleRules.{rules_of_style}
+use Rattle.path_rules.specs.Separators.{IsPlain}
 
 -- no byte is a dot
 abbrev pub HasNoDot : List ℕ → Type 0
@@ -37,3 +40,7 @@ pub record IsCutAtDot (name prefix more : List ℕ) : Type 0 where
 
 abbrev pub IsNamePrefix : List ℕ → List ℕ → Type 0
 IsNamePrefix name prefix = ((more : List ℕ) × IsCutAtDot name prefix more) ⊎ ((prefix ≡ name) × ((HasNoLaterDot name) ⊎ (name ≡ dot_dot)))
+
+-- no byte of the extension separates
+abbrev pub IsExtensionText : Style → List ℕ → Type 0
+IsExtensionText w extension = IsPlain (rules_of_style w) extension

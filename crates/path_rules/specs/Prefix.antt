@@ -1,8 +1,10 @@
 -- The prefix of a Windows path ("Naming Files, Paths, and Namespaces"; std's `Prefix`).
-use Rattle.std.specs.Prelude.{◌≡◌, ◌≢◌, ℕ, ◌-◌, Bool, nat_eq, nat_le, ◌&&◌, ◌||◌, if◌then◌else◌, List, [], ◌∷◌}
+use Rattle.std.specs.Prelude.{◌≡◌, ◌≢◌, ℕ, ◌-◌, Bool, nat_eq, nat_le, ◌&&◌, ◌||◌, if◌then◌else◌, List, [], ◌∷◌, false, ◌++◌, ◌⊎◌}
 use Rattle.path_rules.specs.declared.rules.Rules.{Rules}
 use Rattle.path_rules.specs.declared.rules.Rules.TheVariants as rules
 use Rattle.path_rules.specs.Separators.{separates, IsField}
+use Rattle.path_rules.specs.declared.rules.Style as whose
+use Rattle.path_rules.specs.declared.rules.Style.TheVariants as style
 
 -- a kind of prefix, with its parts; a drive by its upper-case letter
 pub data Kind : Type 0 where
@@ -122,3 +124,22 @@ rules_of (VerbatimDisk letter) = rules.Verbatim
 rules_of (Device name) = rules.Either
 rules_of (Unc server share) = rules.Either
 rules_of (Disk letter) = rules.Either
+
+-- the bytes begin with `\\?\`
+abbrev pub begins_verbatim : List ℕ → Bool
+begins_verbatim [] = false
+begins_verbatim (a ∷ []) = false
+begins_verbatim (a ∷ b ∷ []) = false
+begins_verbatim (a ∷ b ∷ c ∷ []) = false
+begins_verbatim (a ∷ b ∷ c ∷ d ∷ s) = nat_eq a 0x5C && nat_eq b 0x5C && nat_eq c 0x3F && nat_eq d 0x5C
+
+-- the path begins with a prefix
+abbrev pub IsPrefixed : whose.Style → List ℕ → Type 0
+IsPrefixed style.Unix path = ⊥
+IsPrefixed style.Windows path = (kind : Kind) × ((rest : List ℕ) × IsPrefixOf path kind rest)
+
+-- the bytes of a path's prefix, none where it has none
+abbrev pub IsRawPrefix : whose.Style → List ℕ → List ℕ → Type 0
+IsRawPrefix style.Unix path raw = raw ≡ []
+IsRawPrefix style.Windows path raw =
+    ((kind : Kind) × ((rest : List ℕ) × (IsPrefixOf path kind rest × (path ≡ raw ++ rest)))) ⊎ (((kind : Kind) (rest : List ℕ) → ¬ (IsPrefixOf path kind rest)) × (raw ≡ []))

@@ -5,7 +5,7 @@ use Rattle.path_rules.specs.declared.rules.Style as whose
 use Rattle.path_rules.specs.Component.{Item, Prefix, RootDir, components_in}
 use Rattle.path_rules.specs.Components.{AreComponents}
 use Rattle.path_rules.specs.Compare.{AreAllAlike}
-use Rattle.path_rules.specs.Join.{IsPrefixed, IsRawPrefix}
+use Rattle.path_rules.specs.Prefix.{IsPrefixed, IsRawPrefix}
 use Rattle.path_rules.specs.Body.{HasBody, BeginsNamed, IsEndTrimmed}
 use Rattle.path_rules.specs.Cut.{IsAsciiCut}
 

@@ -10,6 +10,14 @@ use crate::component::{Component, component_of};
 use crate::rules::Rules;
 
 /// The first component, and what follows it.
+///
+/// ```
+/// use path_rules::parts::next_in;
+/// use path_rules::{Component, Rules};
+///
+/// let first = next_in(Rules::Slash, b"a/b");
+/// assert!(rt; first == Some((Component::Normal(b"a".as_slice()), b"b".as_slice())));
+/// ```
 pub fn next_in(rules: Rules, body: &[u8]) -> Option<(Component<&[u8]>, &[u8])>
     ensures { MatchOption result (components_in rules body.now ≡ [])
         (λ first. components_in rules body.now ≡ item_of first.0 ∷ components_in rules first.1.now) }
@@ -73,6 +81,14 @@ pub fn trimmed(rules: Rules, body: &[u8]) -> &[u8]
 }
 
 /// The body up to the end of its last component, and the part that names it.
+///
+/// ```
+/// use path_rules::Rules;
+/// use path_rules::parts::last_in;
+///
+/// let last = last_in(Rules::Slash, b"a/b/");
+/// assert!(rt; last == Some((b"a/b".as_slice(), b"b".as_slice())));
+/// ```
 pub fn last_in(rules: Rules, body: &[u8]) -> Option<(&[u8], &[u8])>
     ensures { MatchOption result (components_in rules body.now ≡ [])
         (λ last. IsLastPart rules body.now last.0.now last.1.now) }

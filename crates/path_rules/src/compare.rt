@@ -76,7 +76,16 @@ fn ends_alike(mut left: Components<'_>, mut wanted: Components<'_>) -> bool
     }
 }
 
-/// Whether two components are alike.
+/// Whether two components are alike: prefixes if they are of one kind with the same parts, others if
+/// they are the same.
+///
+/// ```
+/// use path_rules::Component;
+/// use path_rules::parts::are_alike;
+///
+/// let drive = Component::Prefix(b"C:".as_slice());
+/// assert!(rt; are_alike(drive, Component::Prefix(b"c:".as_slice())));
+/// ```
 pub fn are_alike(a: Component<&[u8]>, b: Component<&[u8]>) -> bool
     ensures { IsTrue result ↔ AreAlike (item_of a.entry) (item_of b.entry) }
 {

@@ -44,6 +44,14 @@ impl<'a> Component<&'a [u8]> {
 }
 
 /// The component that a part between separators is; `None` for a part that names nothing.
+///
+/// ```
+/// use path_rules::parts::component_of;
+/// use path_rules::{Component, Rules};
+///
+/// assert!(rt; component_of(Rules::Slash, b"..") == Some(Component::ParentDir));
+/// assert!(rt; component_of(Rules::Slash, b".").is_none());
+/// ```
 #[inline(always)]
 pub fn component_of(rules: Rules, part: &[u8]) -> Option<Component<&[u8]>>
     ensures names { option_map item_of result ≡ named rules part.now }

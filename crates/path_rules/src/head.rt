@@ -9,7 +9,7 @@ use crate::rules::{Rules, Style};
 
 /// With what a path starts after its prefix.
 #[derive(Clone, Copy)]
-pub(crate) enum Start {
+pub enum Start {
     /// A root.
     Root,
     /// `.`
@@ -20,7 +20,7 @@ pub(crate) enum Start {
 
 /// A path's parts.
 #[derive(Clone, Copy)]
-pub(crate) struct Head<'a> {
+pub struct Head<'a> {
     /// What separates in it.
     pub rules: Rules,
     /// The prefix, empty where there is none.
@@ -44,7 +44,15 @@ fn start_of(rules: Rules, path: &[u8]) -> (Start, &[u8])
 }
 
 /// The parts of a path.
-pub(crate) fn head_of(style: Style, path: &[u8]) -> Head<'_>
+///
+/// ```
+/// use path_rules::Style;
+/// use path_rules::parts::head_of;
+///
+/// let head = head_of(Style::Windows, br"C:\a\b");
+/// assert!(rt; head.prefix == b"C:".as_slice() && head.body == br"a\b".as_slice());
+/// ```
+pub fn head_of(style: Style, path: &[u8]) -> Head<'_>
     ensures items { AreComponents style path.entry.now (items_of result) }
     ensures parts { IsHead style path.entry.now result }
 {

@@ -1,6 +1,8 @@
 //! The parts of a name around its dots.
 ghost use Rattle.std.specs.Prelude.{◌≡◌, ◌↔◌, IsTrue, MatchOption, List, ℕ};
-ghost use Rattle.path_rules.specs.Name.{IsExtension, HasNoExtension, IsStem, IsNamePrefix, dot_dot};
+ghost use Rattle.path_rules.specs.Name.{IsExtension, HasNoExtension, IsStem, IsNamePrefix, IsExtensionText, dot_dot};
+
+use crate::rules::Style;
 
 /// The name without its extension, and the extension: what comes before the last dot, and what
 /// comes after it. `None` if the only dot is the first byte, if there is none, and for `..`.
@@ -102,5 +104,23 @@ fn is_dot_dot(name: &[u8]) -> bool
     match name {
         [b'.', b'.'] => true,
         _ => false,
+    }
+}
+
+/// Whether no byte separates, as in each extension that `set_extension` of `path_building` and its
+/// kin take (own call).
+///
+/// ```
+/// use path_rules::{Style, is_extension_text};
+///
+/// assert!(rt; is_extension_text(Style::Unix, br"tar.gz") && is_extension_text(Style::Unix, br"a\b"));
+/// assert!(rt; !is_extension_text(Style::Windows, br"a\b"));
+/// ```
+pub fn is_extension_text(style: Style, extension: &[u8]) -> bool
+    ensures { IsTrue result ↔ IsExtensionText style extension.now }
+{
+    match style.rules().split_first(extension) {
+        Some(_) => false,
+        None => true,
     }
 }

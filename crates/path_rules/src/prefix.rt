@@ -2,7 +2,7 @@
 ghost use Rattle.std.specs.Prelude.{◌≡◌, ◌≢◌, ◌++◌, ◌<◌, ◌≤◌, [], List, ℕ, length, MatchOption, IfSome};
 ghost use Rattle.std.specs.Option.{option_map};
 ghost use Rattle.path_rules.specs.Separators.{IsField};
-ghost use Rattle.path_rules.specs.Prefix.{Kind, is_letter, upper, lead_of, verbatim_lead, double_lead, IsPrefixOf, IsUnc, IsVerbatim, IsVerbatimUnc};
+ghost use Rattle.path_rules.specs.Prefix.{Kind, is_letter, upper, lead_of, verbatim_lead, double_lead, begins_verbatim, IsPrefixOf, IsUnc, IsVerbatim, IsVerbatimUnc};
 ghost use Rattle.path_rules.specs.PrefixViews.{kind_of, rules_after, lead_view, verbatim_lead_view};
 
 use crate::rules::Rules;
@@ -208,4 +208,20 @@ fn verbatim_unc(path: &[u8]) -> (Prefix<&[u8]>, &[u8])
         return (Prefix::VerbatimUnc(server, share), after);
     }
     (Prefix::VerbatimUnc(server, share), rest)
+}
+
+/// Whether the prefix begins with `\\?\`.
+///
+/// ```
+/// use path_rules::parts::is_verbatim;
+///
+/// assert!(rt; is_verbatim(br"\\?\C:") && !is_verbatim(b"C:"));
+/// ```
+pub fn is_verbatim(prefix: &[u8]) -> bool
+    ensures { result ≡ begins_verbatim prefix.now }
+{
+    match prefix {
+        [a, b, c, d, ..] => *a == b'\\' && *b == b'\\' && *c == b'?' && *d == b'\\',
+        _ => false,
+    }
 }

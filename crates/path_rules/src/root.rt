@@ -47,8 +47,17 @@ pub fn is_absolute(style: Style, path: &[u8]) -> bool
     }
 }
 
+/// Whether the path begins with a separator.
+///
+/// ```
+/// use path_rules::Rules;
+/// use path_rules::parts::begins_with_separator;
+///
+/// assert!(rt; begins_with_separator(Rules::Slash, b"/a"));
+/// assert!(rt; !begins_with_separator(Rules::Slash, b"a/"));
+/// ```
 #[inline(always)]
-pub(crate) fn begins_with_separator(rules: Rules, path: &[u8]) -> bool
+pub fn begins_with_separator(rules: Rules, path: &[u8]) -> bool
     ensures { IsTrue result ↔ BeginsWithSeparator rules path.now }
 {
     match path {

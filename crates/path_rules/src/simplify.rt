@@ -8,8 +8,7 @@ ghost use Rattle.path_rules.specs.Simplified.{IsSimplified, IsWindowsSimplified,
 
 use crate::component::Component;
 use crate::components::Components;
-use crate::normal::is_verbatim;
-use crate::prefix::{Prefix, windows_prefix};
+use crate::prefix::{Prefix, is_verbatim, windows_prefix};
 use crate::reserved::is_reserved;
 use crate::rules::Style;
 

@@ -21,7 +21,7 @@ use crate::rules::{Rules, Style};
 ///
 /// The rest is a part of the path's bytes, from its next component to the end of its last. It
 /// begins with the root if the base is a prefix alone, as `C:`. The base joined with the rest has
-/// the path's components, under the conditions of [`crate::laws::strip_joined`].
+/// the path's components, under the conditions of `path_building::laws::strip_joined`.
 ///
 /// ```
 /// use path_rules::{Style, strip_prefix};

@@ -8,11 +8,11 @@ use Rattle.path_rules.specs.declared.rules.Style.{Style}
 use Rattle.path_rules.specs.Component.{Item, Prefix, RootDir, CurDir, ParentDir, Normal}
 use Rattle.path_rules.specs.Components.{AreComponents}
 use Rattle.path_rules.specs.Parent.{IsParent, HasNoParent, HasFileName, HasNoFileName}
-use Rattle.path_rules.specs.Cleaned.{IsCleaned}
-use Rattle.path_rules.specs.Join.{IsJoin}
-use Rattle.path_rules.specs.Normalized.{IsNormalized, HasNoNormalForm}
-use Rattle.path_rules.specs.Relative.{IsRelativeFrom}
-use Rattle.path_rules.specs.Restyled.{IsRestyled}
+use Rattle.path_building.specs.Cleaned.{IsCleaned}
+use Rattle.path_building.specs.Join.{IsJoin}
+use Rattle.path_building.specs.Normalized.{IsNormalized, HasNoNormalForm}
+use Rattle.path_building.specs.Relative.{IsRelativeFrom}
+use Rattle.path_building.specs.Restyled.{IsRestyled}
 use Rattle.path_rules.specs.StyleRules.{main_separator}
 use Rattle.os_path.specs.Names.{HasFileStem, HasExtension, LacksExtension}
 use Rattle.os_path.specs.Converted.{IsConvertFault}

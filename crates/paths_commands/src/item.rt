@@ -1,11 +1,11 @@
 //! What is written for one path.
 ghost use Rattle.std.specs.Prelude.{◌≡◌, ◌⊎◌, ◌∷◌, ◌++◌, [], ℕ, List, Some, None, OnOk, OnErr, IfErr};
 ghost use Rattle.program_frame.specs.declared.lists.fault.ItemFault.TheVariants.{Refused, Memory};
-ghost use Rattle.path_rules.specs.Cleaned.{IsCleaned};
-ghost use Rattle.path_rules.specs.Join.{IsJoin};
-ghost use Rattle.path_rules.specs.Normalized.{IsNormalized, HasNoNormalForm};
-ghost use Rattle.path_rules.specs.Relative.{IsRelativeFrom};
-ghost use Rattle.path_rules.specs.Restyled.{IsRestyled};
+ghost use Rattle.path_building.specs.Cleaned.{IsCleaned};
+ghost use Rattle.path_building.specs.Join.{IsJoin};
+ghost use Rattle.path_building.specs.Normalized.{IsNormalized, HasNoNormalForm};
+ghost use Rattle.path_building.specs.Relative.{IsRelativeFrom};
+ghost use Rattle.path_building.specs.Restyled.{IsRestyled};
 ghost use Rattle.paths_commands.specs.declared.fault.Refusal as why;
 ghost use Rattle.paths_commands.specs.declared.fault.Refusal.TheVariants.{NoNormalForm, NoRelativePath};
 ghost use Rattle.program_frame.specs.Rules.{IsItemFault};

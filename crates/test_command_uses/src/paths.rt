@@ -2,10 +2,10 @@
 ghost use Rattle.std.specs.Prelude.{◌≡◌, ◌≢◌, ◌∷◌, ◌++◌, ◌⊎◌, [], ℕ, List, false, Some, IsOk, IfErr, OnOk, map, string_bytes};
 ghost use Rattle.std.specs.Io.KnownBytes.{Appends};
 ghost use Rattle.os_str_bytes.specs.EncodingError.{EncodingError};
-ghost use Rattle.path_rules.specs.Join.{IsJoin};
+ghost use Rattle.path_building.specs.Join.{IsJoin};
 ghost use Rattle.path_rules.specs.Parent.{IsParent, HasNoParent};
-ghost use Rattle.path_rules.specs.Relative.{IsRelativeFrom};
-ghost use Rattle.path_rules.specs.Restyled.{IsRestyled};
+ghost use Rattle.path_building.specs.Relative.{IsRelativeFrom};
+ghost use Rattle.path_building.specs.Restyled.{IsRestyled};
 ghost use Rattle.program_frame.specs.Items.{Lacks};
 ghost use Rattle.program_frame.specs.ListRun.{IsOutput, StopsOn};
 ghost use Rattle.program_frame.specs.Marked.{marked_inner, has_failed};

@@ -4,8 +4,8 @@ use Rattle.wtf8_core.specs.Boundary.{IsBoundary}
 use Rattle.wtf8_core.specs.OccurrenceLaws.{OccurrenceLaws}
 use Rattle.path_rules.specs.declared.rules.Style.{Style}
 use Rattle.path_rules.specs.Component.{Item, Prefix, RootDir, CurDir, ParentDir, Normal}
-use Rattle.path_rules.specs.Join.{without_dot}
-use Rattle.path_rules.specs.Checked.{IsCheckedJoin}
+use Rattle.path_building.specs.Join.{without_dot}
+use Rattle.path_building.specs.Checked.{IsCheckedJoin}
 use Rattle.os_path.specs.Formed.{AreFormed}
 use Rattle.os_path.proofs.lemmas.Cuts.{cuts}
 use Rattle.os_path.proofs.lemmas.Whole.{joined_formed}

@@ -14,11 +14,12 @@ use Rattle.path_rules.specs.Component.{Item, Prefix, RootDir, CurDir, ParentDir,
 use Rattle.path_rules.specs.Components.{AreComponents, prefixed}
 use Rattle.path_rules.specs.Root.{BeginsWithSeparator}
 use Rattle.path_rules.specs.Trailing.{EndsWithSeparator}
-use Rattle.path_rules.specs.Join.{IsRawPrefix, NeedsNoSeparator, IsDriveAlone, IsJoin, replacing, resolving, at_root, after}
-use Rattle.path_rules.specs.Resolved.{unless_name, without_name, first_and_root, with_item, with_items, written, written_between, written_next, written_all}
+use Rattle.path_rules.specs.Prefix.{IsRawPrefix}
+use Rattle.path_building.specs.Join.{NeedsNoSeparator, IsDriveAlone, IsJoin, replacing, resolving, at_root, after}
+use Rattle.path_building.specs.Resolved.{unless_name, without_name, first_and_root, with_item, with_items, written, written_between, written_next, written_all}
 use Rattle.path_rules.specs.Parent.{IsParent}
 use Rattle.path_rules.specs.Name.{IsStem}
-use Rattle.path_rules.specs.FileName.{IsNamed, IsFileNameAt, IsExtensionSet, IsExtensionAdded, dotted}
+use Rattle.path_building.specs.FileName.{IsNamed, IsFileNameAt, IsExtensionSet, IsExtensionAdded, dotted}
 use Rattle.wtf8_core.specs.Boundary.{IsBoundary}
 use Rattle.path_rules.proofs.lemmas.Ascii.{ascii_separators}
 use Rattle.path_rules.proofs.lemmas.Edges.{drive_bytes}

@@ -7,11 +7,11 @@ use Rattle.wtf8_core.specs.OccurrenceLaws.{OccurrenceLaws}
 use Rattle.path_rules.specs.declared.rules.Style.{Style}
 use Rattle.path_rules.specs.Components.{AreComponents}
 use Rattle.path_rules.specs.Component.{Item, Prefix, RootDir, CurDir, ParentDir, Normal}
-use Rattle.path_rules.specs.Normal.{LeadsTo, nowhere, prefix, bare_root, root, start, here, name, up}
-use Rattle.path_rules.specs.Normalized.{BeginsAsPrefix, IsShielded, IsNormalForm, IsNormalized}
-use Rattle.path_rules.specs.Cleaned as clean
-use Rattle.path_rules.specs.Cleaned.{CleansTo, or_dot, IsCleanForm, IsCleaned}
-use Rattle.path_rules.proofs.lemmas.Resolving.{onto, onto_is}
+use Rattle.path_building.specs.Normal.{LeadsTo, nowhere, prefix, bare_root, root, start, here, name, up}
+use Rattle.path_building.specs.Normalized.{BeginsAsPrefix, IsShielded, IsNormalForm, IsNormalized}
+use Rattle.path_building.specs.Cleaned as clean
+use Rattle.path_building.specs.Cleaned.{CleansTo, or_dot, IsCleanForm, IsCleaned}
+use Rattle.path_building.proofs.lemmas.Resolving.{onto, onto_is}
 use Rattle.os_path.specs.Formed.{IsFormed, AreFormed}
 use Rattle.os_path.proofs.lemmas.Cuts.{cuts}
 use Rattle.os_path.proofs.lemmas.FromParts.{joins, from_items}

@@ -6,8 +6,8 @@ use Rattle.path_rules.specs.declared.rules.Style.{Style}
 use Rattle.path_rules.specs.declared.rules.Style.TheVariants as style
 use Rattle.path_rules.specs.StyleRules.{main_separator}
 use Rattle.path_rules.specs.Component.{Item, Prefix, RootDir, CurDir, ParentDir, Normal}
-use Rattle.path_rules.specs.Spelled.{spelling, more_names, joined_names}
-use Rattle.path_rules.specs.Relative.{AreApart, up_from, AreWritten, IsWhole, IsCandidate}
+use Rattle.path_building.specs.Spelled.{spelling, more_names, joined_names}
+use Rattle.path_building.specs.Relative.{AreApart, up_from, AreWritten, IsWhole, IsCandidate}
 use Rattle.os_path.specs.Formed.{IsFormed, AreFormed}
 use Rattle.os_path.proofs.lemmas.Cuts.{cuts}
 use Rattle.os_path.proofs.lemmas.Whole.{joined_formed}

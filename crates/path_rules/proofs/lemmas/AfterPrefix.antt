@@ -1,6 +1,6 @@
 -- What follows a prefix is the end of the path.
-use Rattle.std.proofs.Common.{◌≡◌, ◌-◌, ◌<◌, ◌≤◌, ℕ, Bool, true, false, if◌then◌else◌, ◌&&◌, nat_eq, List, [], ◌∷◌, ◌++◌, length, take, refl, sym, ap, ◌∙◌, arith, append_assoc, length-append}
-use Rattle.std.proofs.lemmas.List.{take_at}
+use Rattle.std.proofs.Common.{◌≡◌, ◌-◌, ◌<◌, ◌≤◌, ℕ, Bool, true, false, if◌then◌else◌, ◌&&◌, nat_eq, List, [], ◌∷◌, ◌++◌, length, take, refl, sym, ap, ◌∙◌, arith, append_assoc, length-append, ◌≢◌}
+use Rattle.std.proofs.lemmas.List.{take_at, append_cancel_right}
 use denote.Ref.{Bor}
 use Rattle.path_rules.specs.declared.rules.Rules.{Rules}
 use Rattle.path_rules.specs.declared.rules.Rules.TheVariants as rules
@@ -13,6 +13,8 @@ use Rattle.path_rules.specs.Prefix.{Kind, Lead, VerbatimLead, DeviceLead, Double
 use Rattle.path_rules.specs.PrefixViews.{kind_of, rules_after}
 use Rattle.path_rules.specs.Heads.{prefix_items, start_items}
 use Rattle.path_rules.specs.Components.{root_of, after_root, AreWindowsComponents, prefixed}
+use Rattle.path_rules.specs.declared.head.Head.{Head}
+use Rattle.path_rules.specs.HeadParts.{IsPrefixedHead}
 
 -- t is the end of s
 pub record IsEnd (s t : List ℕ) : Type 0 where
@@ -163,3 +165,11 @@ prefixed_items s p rest start body r h e f g =
           ∙ ap (λ x. Prefix b.before ∷ (start_items (root_of (kind_of p) rest) ++ components_in r x)) f
           ∙ ap (λ x. Prefix b.before ∷ (start_items (root_of (kind_of p) rest) ++ components_in x (after_root rest))) (g ∙ same_rules p);
     })
+
+-- a prefix isn't empty
+pub some_of : (path : List ℕ) (head : Head) → IsPrefixedHead path head → head.prefix.now ≢ []
+some_of path head h e =
+    let b = after_prefix path h.kind h.rest h.is in
+    let same : b.before ≡ head.prefix.now = append_cancel_right b.before head.prefix.now h.rest (sym b.joined ∙ h.joined) in
+    let n : length b.before ≡ 0 = ap length (same ∙ e) in
+    let some : 0 < length b.before = b.some in omega arith

@@ -1,13 +1,16 @@
 -- Components compared one by one.
-use Rattle.std.proofs.Common.{◌≡◌, ◌↔◌, ℕ, List, [], ◌∷◌, ◌++◌, sym, ap, ◌∙◌, subst}
+use Rattle.std.proofs.Common.{◌≡◌, ◌↔◌, ℕ, List, [], ◌∷◌, ◌++◌, sym, ap, ◌∙◌, subst, refl}
 use Rattle.std.specs.Prelude.{reverse}
 use Rattle.std.proofs.lemmas.List.{reverse-append}
 use Rattle.path_rules.specs.declared.rules.Style.{Style}
-use Rattle.path_rules.specs.Component.{Item}
-use Rattle.path_rules.specs.Components.{AreComponents}
+use Rattle.path_rules.specs.Component.{Item, Prefix, RootDir, CurDir, ParentDir, Normal}
+use Rattle.path_rules.specs.Components.{AreComponents, AreUnixComponents}
 use Rattle.path_rules.specs.Prefix.{Kind, IsPrefixOf}
-use Rattle.path_rules.specs.Compare.{AreAlikePrefixes, AreAlike, StartsAlike, EndsAlike, StartsWith, EndsWith}
+use Rattle.path_rules.specs.Compare.{AreAlikePrefixes, AreAlike, StartsAlike, EndsAlike, StartsWith, EndsWith, AreAllAlike, IsNoPrefix}
 use Rattle.path_rules.proofs.lemmas.OneList.{one_prefix, one_components}
+use Rattle.std.specs.List.{AllByRecursion}
+use Rattle.path_rules.specs.declared.rules.Rules.TheVariants as rules
+use Rattle.path_rules.proofs.lemmas.Begins.{no_prefix_items}
 
 -- the first of each are alike, so the rests decide
 pub step : (xs ys us vs : List Item) (x y : Item) → xs ≡ x ∷ us → ys ≡ y ∷ vs → AreAlike x y → StartsAlike xs ys ↔ StartsAlike us vs
@@ -50,3 +53,61 @@ alike_kinds s t k l u v a b = (
 
 pub swapped : {P Q : Type 0} → P ↔ Q → Q ↔ P
 swapped a = (a.1, a.0)
+
+pub alike_itself : (x : Item) → IsNoPrefix x → AreAlike x x
+alike_itself (Prefix s) n = absurd n
+alike_itself RootDir n = tt
+alike_itself CurDir n = tt
+alike_itself ParentDir n = tt
+alike_itself (Normal s) n = refl
+
+pub all_itself : (xs : List Item) → AllByRecursion IsNoPrefix xs → AreAllAlike xs xs
+all_itself [] n = tt
+all_itself (x ∷ xs) n = (alike_itself x n.0, all_itself xs n.1)
+
+-- but for prefixes, what is alike is the same
+pub alike_same : (x y : Item) → IsNoPrefix x → AreAlike x y → x ≡ y
+alike_same (Prefix s) y n h = absurd n
+alike_same RootDir (Prefix s) n h = absurd h
+alike_same RootDir RootDir n h = refl
+alike_same RootDir CurDir n h = absurd h
+alike_same RootDir ParentDir n h = absurd h
+alike_same RootDir (Normal s) n h = absurd h
+alike_same CurDir (Prefix s) n h = absurd h
+alike_same CurDir RootDir n h = absurd h
+alike_same CurDir CurDir n h = refl
+alike_same CurDir ParentDir n h = absurd h
+alike_same CurDir (Normal s) n h = absurd h
+alike_same ParentDir (Prefix s) n h = absurd h
+alike_same ParentDir RootDir n h = absurd h
+alike_same ParentDir CurDir n h = absurd h
+alike_same ParentDir ParentDir n h = refl
+alike_same ParentDir (Normal s) n h = absurd h
+alike_same (Normal t) (Prefix s) n h = absurd h
+alike_same (Normal t) RootDir n h = absurd h
+alike_same (Normal t) CurDir n h = absurd h
+alike_same (Normal t) ParentDir n h = absurd h
+alike_same (Normal t) (Normal s) n h = ap Normal h
+
+pub all_same : (xs ys : List Item) → AllByRecursion IsNoPrefix xs → AreAllAlike xs ys → xs ≡ ys
+all_same [] [] n h = refl
+all_same [] (y ∷ ys) n h = absurd h
+all_same (x ∷ xs) [] n h = absurd h
+all_same (x ∷ xs) (y ∷ ys) n h = ap (λ z. z ∷ xs) (alike_same x y n.0 h.0) ∙ ap (λ z. y ∷ z) (all_same xs ys n.1 h.1)
+
+-- without prefixes the first components are the same
+starts_same : (xs ys : List Item) → AllByRecursion IsNoPrefix xs → StartsAlike xs ys → (more : List Item) × (xs ≡ ys ++ more)
+starts_same xs [] n h = (xs, refl)
+starts_same [] (y ∷ ys) n h = absurd h
+starts_same (x ∷ xs) (y ∷ ys) n h =
+    let rest = starts_same xs ys n.1 h.1 in
+    (rest.0, ap (λ z. z ∷ xs) (alike_same x y n.0 h.0) ∙ ap (λ z. y ∷ z) (rest.1))
+
+starts_itself : (ys more : List Item) → AllByRecursion IsNoPrefix (ys ++ more) → StartsAlike (ys ++ more) ys
+starts_itself [] more n = tt
+starts_itself (y ∷ ys) more n = (alike_itself y n.0, starts_itself ys more n.1)
+
+pub unix_starts : (path : List ℕ) (xs ys : List Item) → AreUnixComponents path xs → (StartsAlike xs ys → (more : List Item) × (xs ≡ ys ++ more)) × ((more : List Item) × (xs ≡ ys ++ more) → StartsAlike xs ys)
+unix_starts path xs ys a =
+    let n = subst (AllByRecursion IsNoPrefix) (sym a) (no_prefix_items rules.Slash path) in
+    (starts_same xs ys n, λ h. subst (λ z. StartsAlike z ys) (sym (h.1)) (starts_itself ys (h.0) (subst (AllByRecursion IsNoPrefix) (h.1) n)))

@@ -1,12 +1,13 @@
 -- The components of what follows the root, from both ends.
-use Rattle.std.proofs.Common.{◌≡◌, ℕ, Bool, true, false, List, [], ◌∷◌, ◌++◌, Some, None, refl, sym, ap, ◌∙◌, subst, append-nil}
+use Rattle.std.proofs.Common.{◌≡◌, ℕ, Bool, true, false, List, [], ◌∷◌, ◌++◌, Some, None, refl, sym, ap, ◌∙◌, subst, append-nil, append_assoc}
 use Rattle.std.proofs.lemmas.List.{same_from_push}
 use Rattle.std.proofs.lemmas.List.Elements.{filter_map-append}
 use Rattle.std.proofs.lemmas.List.Splits.{slice_split-cons_yes, slice_split-cons_no, slice_split_none}
 use Rattle.std.specs.List.{slice_split, onto_first, filter_map, cons_option}
 use Rattle.path_rules.specs.declared.rules.Rules.{Rules}
-use Rattle.path_rules.specs.Separators.{separates, IsPlain, IsCut}
+use Rattle.path_rules.specs.Separators.{separates, IsPlain, IsCut, IsUpTo}
 use Rattle.path_rules.specs.Component.{Item, named, components_in, EndsNamed}
+use Rattle.path_rules.specs.HeadParts.{IsLastPart}
 
 -- a list of parts isn't empty
 data IsSome {X : Type 0} : List X → Type 0 where
@@ -91,3 +92,18 @@ module _ (r : Rules) where
       ap (slice_split (separates r)) c.joined ∙ split_append (separates r) rest c.separator last c.parts ∙ ap (λ z. slice_split (separates r) rest ++ z) (slice_split_none (separates r) last h) in
       let same = (same_from_push (slice_split (separates r) rest) parts last part (sym whole ∙ f)).1 in
       let names : Some x ≡ named r part = e ∙ ap (named r) same in λ none. let never : Some x ≡ None = names ∙ none in cc
+
+pub last_of_one : (r : Rules) (body left : List ℕ) (x : Item) → IsUpTo r body left → components_in r body ≡ components_in r left → IsPlain r left → Some x ≡ named r left → IsLastPart r body left left
+last_of_one r body left x u e p n = record { up_to = u; same = e; front = []; joined = refl; first = []; item = x; names = sym n; items = one_item r left x p n }
+
+pub last_of_more : (r : Rules) (body left rest part : List ℕ) (x : Item) → IsUpTo r body left → components_in r body ≡ components_in r left → IsCut r left rest part × IsPlain r part → Some x ≡ named r part → IsLastPart r body left part
+last_of_more r body left rest part x u e (c, p) n = record {
+  up_to = u;
+  same = e;
+  front = rest ++ c.separator ∷ [];
+  joined = c.joined ∙ sym (append_assoc rest (c.separator ∷ []) part);
+  first = components_in r rest;
+  item = x;
+  names = sym n;
+  items = last_item r left rest part x (c, p) n;
+}

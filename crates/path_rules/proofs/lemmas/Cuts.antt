@@ -1,11 +1,11 @@
 -- Where a test first passes or last passes, a list of bytes is cut.
-use Rattle.std.proofs.Common.{◌≡◌, ◌<◌, ◌≤◌, ◌+◌, ◌-◌, ⊎_elim, ℕ, Bool, true, false, List, [], ◌++◌, length, take, drop, get_or, sym, ap, ◌∙◌, subst, arith, take-append-drop, length-drop, append-nil}
+use Rattle.std.proofs.Common.{◌≡◌, ◌<◌, ◌≤◌, ◌+◌, ◌-◌, ⊎_elim, ℕ, Bool, true, false, List, [], ◌++◌, length, take, drop, get_or, sym, ap, ◌∙◌, subst, arith, take-append-drop, length-drop, append-nil, ◌∷◌}
 use Rattle.std.proofs.lemmas.List.{drop_more, get_or-take, get_or-drop, length-take-le}
 use Rattle.std.proofs.lemmas.Bool.{cases_lt}
-use Rattle.std.proofs.lemmas.List.Elements.{All-from_get_or}
+use Rattle.std.proofs.lemmas.List.Elements.{All-from_get_or, All-head, All-tail}
 use Rattle.std.specs.List.{All}
 use Rattle.path_rules.specs.declared.rules.Rules.{Rules}
-use Rattle.path_rules.specs.Separators.{separates, IsCut, EdgeBy, IsFieldBy}
+use Rattle.path_rules.specs.Separators.{separates, IsCut, EdgeBy, IsFieldBy, IsPlain}
 
 module _ (test : ℕ → Bool) (s : List ℕ) where
   -- up to i, and from i on, no byte separates
@@ -64,3 +64,8 @@ cut_at r s i l e = record {
   joined = sym (take-append-drop i s) ∙ ap (λ x. take i s ++ x) (drop_more s i 0 l);
   parts = e;
 }
+
+-- a separator inside
+pub no_separator_inside : (r : Rules) (before after : List ℕ) (c : ℕ) → separates r c ≡ true → IsPlain r (before ++ c ∷ after) → ⊥
+no_separator_inside r [] after c e p = let no = All-head (λ b. separates r b ≡ false) c after p in let never : true ≡ false = sym e ∙ no in cc
+no_separator_inside r (b ∷ before) after c e p = no_separator_inside r before after c e (All-tail (λ x. separates r x ≡ false) b (before ++ c ∷ after) p)

@@ -2,7 +2,7 @@
 use Rattle.std.proofs.Common.{◌≡◌, ◌≢◌, ◌<◌, ◌≤◌, ◌+◌, inl, inr, ℕ, zero, suc, nat_eq, true, false, List, [], ◌∷◌, ◌++◌, length, take, drop, get_or, refl, sym, ap, ◌∙◌, subst, arith, take-append-drop, length-append}
 use Rattle.std.proofs.lemmas.List.{drop_more, get_or-take, get_or_at, length-take-le}
 use Rattle.std.proofs.lemmas.List.Elements.{All-from_get_or, All-head, All-tail}
-use Rattle.path_rules.specs.Name.{IsExtension, HasNoExtension, HasNoDot, HasNoLaterDot, IsNamePrefix, dot_dot}
+use Rattle.path_rules.specs.Name.{IsExtension, HasNoExtension, HasNoDot, HasNoLaterDot, IsNamePrefix, dot_dot, IsStem}
 use Rattle.path_rules.proofs.lemmas.Cuts.{NoneFrom, plain_after}
 
 abbrev pub NoDotFrom : List ℕ → ℕ → Type 0
@@ -95,3 +95,8 @@ last_dot (c ∷ s) (d ∷ t) e f h p q =
 
 pub one_extension : (name s e t f : List ℕ) → IsExtension name s e → IsExtension name t f → (s ≡ t) × (e ≡ f)
 one_extension name s e t f a b = last_dot s t e f (sym a.joined ∙ b.joined) a.no_dot b.no_dot
+
+-- the stem of a name with an extension, a dot, and the extension
+pub stem_joined : (name stem other extension : List ℕ) → IsStem name stem → IsExtension name other extension → name ≡ stem ++ 0x2E ∷ extension
+stem_joined name stem other extension (inl h) e = e.joined ∙ ap (λ x. x ++ 0x2E ∷ extension) ((one_extension name other extension stem (h.0) e (h.1)).0)
+stem_joined name stem other extension (inr h) e = absurd (h.0 other extension e)

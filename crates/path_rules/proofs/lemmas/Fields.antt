@@ -1,5 +1,5 @@
 -- A path has one field at its start.
-use Rattle.std.proofs.Common.{◌≡◌, ◌-◌, ◌<◌, ◌≤◌, ◌==◌, Bool, take, drop, get_or, ◌⊎◌, inl, inr, ℕ, true, false, List, [], ◌∷◌, ◌++◌, length, refl, sym, ap, ◌∙◌, subst, arith}
+use Rattle.std.proofs.Common.{◌≡◌, ◌-◌, ◌<◌, ◌≤◌, ◌==◌, Bool, take, drop, get_or, ◌⊎◌, inl, inr, ℕ, true, false, List, [], ◌∷◌, ◌++◌, length, refl, sym, ap, ◌∙◌, subst, arith, ◌≢◌}
 use Rattle.std.proofs.lemmas.List.{nil_from_length, take_rest}
 use Rattle.std.proofs.lemmas.Bool.Decides.{nat_tests}
 use Rattle.std.proofs.lemmas.List.Elements.{All-head, All-tail}
@@ -58,3 +58,6 @@ cons_of (x ∷ xs) l = ap (λ t. x ∷ t) (sym (take_rest (x ∷ xs) 1))
 
 pub nil_of : (xs : List ℕ) → length xs < 1 → xs ≡ []
 nil_of xs l = nil_from_length xs (omega arith)
+
+pub some_from : (xs : List ℕ) (b : Bool) → b ≡ false → b ≡ (length xs == 0) → xs ≢ []
+some_from xs b e f n = let yes : b ≡ true = f ∙ ap (λ x. length x == 0) n in let never : true ≡ false = sym yes ∙ e in cc

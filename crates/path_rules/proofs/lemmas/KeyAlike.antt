@@ -1,5 +1,5 @@
 -- Paths have the same keys exactly where their components are alike.
-use Rattle.std.proofs.Common.{◌≡◌, ◌⊎◌, inl, inr, ℕ, Bool, true, false, nat_eq, nat_le, if◌then◌else◌, List, [], ◌∷◌, ◌++◌, map, refl, sym, ap, ◌∙◌, subst}
+use Rattle.std.proofs.Common.{◌≡◌, ℕ, Bool, true, false, nat_eq, nat_le, if◌then◌else◌, List, [], ◌∷◌, ◌++◌, map, refl, sym, ap, ◌∙◌, subst}
 use Rattle.std.specs.List.{AllByRecursion}
 use Rattle.std.specs.Ordering.{is_eq}
 use Rattle.std.specs.Cmp.{eq_by_cmp_equiv}
@@ -16,7 +16,7 @@ use Rattle.path_rules.specs.Keys.{HasKeys, AreKeys, rank_of, letter_of, name_of,
 use Rattle.path_rules.proofs.lemmas.Begins.{no_prefix_items}
 use Rattle.path_rules.proofs.lemmas.KeyLists.{below_plain}
 use Rattle.path_rules.proofs.lemmas.OneList.{one_prefix, one_components}
-use Rattle.path_rules.proofs.lemmas.StripJoins.{all_itself, all_same}
+use Rattle.path_rules.proofs.lemmas.Alike.{all_itself, all_same}
 
 -- a key tells its component
 item_from : List ℕ → Item

@@ -1,5 +1,5 @@
 -- The keys of a path that was taken apart.
-use Rattle.std.proofs.Common.{◌≡◌, ◌≢◌, ℕ, List, [], ◌∷◌, ◌++◌, map, Option, Some, None, refl, sym, ap, ◌∙◌, subst, append-nil}
+use Rattle.std.proofs.Common.{◌≡◌, ◌≢◌, ℕ, List, [], ◌∷◌, ◌++◌, Option, Some, None, refl, sym, ◌∙◌, subst, append-nil}
 use Rattle.std.proofs.lemmas.List.{append_cancel_right}
 use Rattle.std.specs.List.{AllByRecursion, slice_split}
 use Rattle.std.specs.Option.{option_map}
@@ -21,7 +21,7 @@ use Rattle.path_rules.specs.PrefixViews.{kind_of}
 use Rattle.path_rules.specs.Compare.{IsNoPrefix}
 use Rattle.path_rules.specs.Keys.{HasKeys, AreKeys, IsPrefixOption, prefix_keys, kind_keys, item_keys}
 use Rattle.path_rules.proofs.lemmas.Begins.{no_prefix_parts}
-use Rattle.path_rules.proofs.lemmas.Forms.{some_of}
+use Rattle.path_rules.proofs.lemmas.AfterPrefix.{some_of}
 use Rattle.path_rules.proofs.lemmas.Keeps.{prefix_stays}
 use Rattle.path_rules.proofs.lemmas.OneList.{one_prefix}
 

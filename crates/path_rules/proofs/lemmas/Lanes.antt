@@ -1,5 +1,5 @@
 -- The lanes of a vector before the first that is a certain byte.
-use Rattle.std.proofs.Common.{◌≡◌, ◌<◌, ◌≤◌, ◌%◌, ◌^◌, ℕ, true, false, cond, List, length, get_or, map, replicate, not, eqb, sym, ap, ◌∙◌, subst, arith, w8}
+use Rattle.std.proofs.Common.{◌≡◌, ◌<◌, ◌≤◌, ◌%◌, ◌^◌, ℕ, false, cond, List, length, get_or, map, replicate, not, eqb, sym, ap, ◌∙◌, subst, arith, w8}
 use Rattle.std.proofs.lemmas.Bool.{not-true}
 use Rattle.std.proofs.lemmas.Simd.{bitmask_splat, trailing_mask_l, leading_from_mask_l}
 use Rattle.std.proofs.lemmas.List.Sums.{prefix_len_passes, prefix_len-le-length}

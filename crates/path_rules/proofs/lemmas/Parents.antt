@@ -8,11 +8,10 @@ use Rattle.path_rules.specs.declared.head.Start.TheVariants.{Root, Dot, Nothing}
 use Rattle.path_rules.specs.declared.head.Head.{Head}
 use Rattle.path_rules.specs.Separators.{separates, Edge}
 use Rattle.path_rules.specs.Component.{Item, Prefix, RootDir, CurDir, components_in, EndsNamed}
-use Rattle.path_rules.specs.Body.{HasBareBody, HasPrefixedBody, HasBody, EndsTight}
+use Rattle.path_rules.specs.Body.{HasBody, EndsTight}
 use Rattle.path_rules.specs.Heads.{prefix_items, start_items, items_of}
 use Rattle.path_rules.specs.Prefix.{Kind, Verbatim, VerbatimUnc, VerbatimDisk, Device, Unc, Disk, rules_of}
-use Rattle.path_rules.specs.Components.{start_of, after_start, implied_root, root_of, after_root, plain_components, IsStartOf, prefixed, bare}
-use Rattle.path_rules.specs.Components.{AreComponents}
+use Rattle.path_rules.specs.Components.{start_of, after_start, implied_root, root_of, after_root, plain_components, IsStartOf, prefixed, bare, AreComponents}
 use Rattle.path_rules.specs.HeadParts.{IsUnixHead, IsBareHead, IsPrefixedHead, IsWindowsHead, bare_head, prefixed_head, IsHead}
 use Rattle.path_rules.specs.Parent.{IsParent, IsTop, IsBelow}
 use Rattle.path_rules.specs.Cut.{IsAsciiCut, at_start, at_end, after_ascii}

@@ -1,5 +1,5 @@
 -- Paths without `\\?\`.
-use Rattle.std.proofs.Common.{◌≡◌, ◌⊎◌, inl, inr, ◌↔◌, ◌+◌, ◌-◌, ◌≤◌, ◌<◌, ℕ, Bool, true, false, ◌&&◌, nat_eq, List, [], ◌∷◌, ◌++◌, length, drop, refl, sym, ap, ◌∙◌, subst, arith, eqb-true}
+use Rattle.std.proofs.Common.{◌≡◌, inl, inr, ◌≤◌, ℕ, true, ◌&&◌, nat_eq, List, [], ◌∷◌, drop, refl, sym, ap, ◌∙◌, subst, eqb-true}
 use Rattle.std.specs.List.{AllByRecursion}
 use denote.Ref.{Bor}
 use Rattle.path_rules.specs.declared.prefix.Prefix as held
@@ -7,9 +7,8 @@ use Rattle.path_rules.specs.declared.prefix.Prefix.TheVariants as prefix
 use Rattle.path_rules.specs.PrefixViews.{kind_of}
 use Rattle.path_rules.specs.Component.{Item}
 use Rattle.path_rules.specs.Components.{AreWindowsComponents}
-use Rattle.path_rules.specs.Prefix.{Kind, Verbatim, VerbatimUnc, VerbatimDisk, Device, Unc, Disk, IsPrefixOf}
-use Rattle.path_rules.specs.Normalized.{begins_verbatim}
-use Rattle.path_rules.specs.Simplified.{IsSimplifiable, IsWindowsSimplified, IsPlainItem, wide_len, wide_units_of}
+use Rattle.path_rules.specs.Prefix.{Kind, VerbatimDisk, IsPrefixOf, begins_verbatim}
+use Rattle.path_rules.specs.Simplified.{IsWindowsSimplified, IsPlainItem, wide_len}
 use Rattle.path_rules.proofs.lemmas.Edges.{and_true}
 use Rattle.path_rules.proofs.lemmas.OneList.{one_prefix, one_items}
 

@@ -1,8 +1,7 @@
 -- The path after the components of a base.
-use Rattle.std.proofs.Common.{◌≡◌, ◌≢◌, ◌↔◌, ◌⊎◌, inl, inr, ◌-◌, ◌+◌, ◌≤◌, ℕ, Bool, true, false, if◌then◌else◌, List, [], ◌∷◌, ◌++◌, length, take, drop, refl, sym, ap, ◌∙◌, subst, arith, append-nil, append_assoc, length-append, lit<}
+use Rattle.std.proofs.Common.{◌≡◌, ◌≢◌, ◌⊎◌, inl, inr, ◌-◌, ◌+◌, ◌≤◌, ℕ, Bool, true, false, if◌then◌else◌, List, [], ◌∷◌, ◌++◌, length, take, drop, refl, sym, ap, ◌∙◌, subst, arith, append-nil, append_assoc, length-append, lit<}
 use Rattle.std.proofs.lemmas.List.{take_at, append_cancel_left}
 use Rattle.std.proofs.Math.Seq.{drop-append_seam}
-use Rattle.path_rules.specs.declared.rules.Rules.{Rules}
 use Rattle.path_rules.specs.declared.rules.Rules.TheVariants as rules
 use Rattle.path_rules.specs.declared.rules.Style as whose
 use Rattle.path_rules.specs.declared.rules.Style.TheVariants as style
@@ -10,23 +9,22 @@ use Rattle.path_rules.specs.declared.head.Start.{Start}
 use Rattle.path_rules.specs.declared.head.Start.TheVariants.{Root, Dot, Nothing}
 use Rattle.path_rules.specs.declared.head.Head.{Head}
 use Rattle.path_rules.specs.Separators.{separates, Edge}
-use Rattle.path_rules.specs.Component.{Item, Prefix, RootDir, CurDir, components_in, EndsNamed}
+use Rattle.path_rules.specs.Component.{Item, Prefix, RootDir, components_in, EndsNamed}
 use Rattle.path_rules.specs.Heads.{prefix_items, start_items, items_of}
-use Rattle.path_rules.specs.Components.{AreComponents, start_of, after_start, after_root}
-use Rattle.path_rules.specs.HeadParts.{IsHead, IsPrefixedHead, bare_head, prefixed_head}
-use Rattle.path_rules.specs.Prefix.{Kind, IsPrefixOf}
+use Rattle.path_rules.specs.Components.{AreComponents, after_start, after_root}
+use Rattle.path_rules.specs.HeadParts.{IsHead, bare_head, prefixed_head}
+use Rattle.path_rules.specs.Prefix.{IsPrefixed, IsRawPrefix}
 use Rattle.path_rules.specs.Compare.{AreAlike, StartsAlike, StartsWith, AreAllAlike}
 use Rattle.path_rules.specs.Body.{HasBody, EndsTight, BeginsNamed, IsEndTrimmed}
 use Rattle.path_rules.specs.Strip.{IsStripped, IsRestAfter, at_start, at_root, inside}
 use Rattle.path_rules.specs.Taken.{IsTail, Takes, takes_prefix, takes_later, HaveTaken, taken_none, taken_prefix, taken_more, AreTaken, AreTakenSoFar}
 use Rattle.path_rules.specs.Cut.{IsAsciiCut}
 use Rattle.path_rules.specs.Cut as cut
-use Rattle.path_rules.specs.Join.{IsPrefixed, IsRawPrefix}
 use Rattle.path_rules.proofs.lemmas.Ascii.{edge_cut}
 use Rattle.path_rules.proofs.lemmas.Alike.{step, starts_from, and_then}
 use Rattle.path_rules.proofs.lemmas.Edges.{edge_after}
 use Rattle.path_rules.proofs.lemmas.OneList.{one_components}
-use Rattle.path_rules.proofs.lemmas.Parents.{Shorter, shorter_of, no_dot, raw_drive}
+use Rattle.path_rules.proofs.lemmas.Parents.{shorter_of, no_dot, raw_drive}
 use Rattle.path_rules.proofs.lemmas.Starts.{Ends}
 use Rattle.path_rules.proofs.lemmas.Tails.{whole_tail, tail_again}
 

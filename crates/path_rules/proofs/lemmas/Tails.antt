@@ -1,7 +1,7 @@
 -- Ends of a path's body, and the first component in it.
 use Rattle.std.proofs.Common.{◌≡◌, ◌≢◌, ℕ, List, [], ◌∷◌, ◌++◌, Some, None, refl, sym, ap, ◌∙◌, subst, append-nil, append_assoc}
 use Rattle.path_rules.specs.declared.rules.Rules.{Rules}
-use Rattle.path_rules.specs.Separators.{separates, IsPlain, IsCut, IsField}
+use Rattle.path_rules.specs.Separators.{IsPlain, IsCut, IsField}
 use Rattle.path_rules.specs.Component.{Item, named, components_in}
 use Rattle.path_rules.specs.Body.{BeginsNamed}
 use Rattle.path_rules.specs.Taken.{IsTail}

@@ -1,6 +1,6 @@
 use Rattle.std.proofs.Common.{◌≡◌, sym, ap, ◌∙◌}
 use Rattle.platform_str.specs.Strings.{bytes, path_vec_of}
-use Rattle.path_rules.specs.FileName.{IsNamed}
+use Rattle.path_building.specs.FileName.{IsNamed}
 use Rattle.os_path.proofs.lemmas.Cuts.{cuts}
 use Rattle.os_path.proofs.lemmas.Joined.{named_formed, on_either, named_same, on_ok}
 use Rattle.os_path.proofs.changed.named.Goals as goal

@@ -1,4 +1,4 @@
-use Rattle.path_rules.specs.Join.{IsJoin}
+use Rattle.path_building.specs.Join.{IsJoin}
 use Rattle.os_path.proofs.lemmas.Cuts.{cuts}
 use Rattle.os_path.proofs.lemmas.Joined.{join_formed, on_either}
 use Rattle.os_path.proofs.changed.pushed.Goals as goal

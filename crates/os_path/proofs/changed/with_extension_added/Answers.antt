@@ -1,5 +1,5 @@
 use Rattle.std.proofs.Common.{Bool}
-use Rattle.path_rules.specs.FileName.{IsExtensionAdded}
+use Rattle.path_building.specs.FileName.{IsExtensionAdded}
 use Rattle.os_path.proofs.lemmas.Cuts.{cuts}
 use Rattle.os_path.proofs.lemmas.Joined.{added_formed, on_either}
 use Rattle.os_path.proofs.changed.with_extension_added.Goals as goal

@@ -1,5 +1,5 @@
 use Rattle.std.proofs.Common.{Bool}
-use Rattle.path_rules.specs.FileName.{IsExtensionSet}
+use Rattle.path_building.specs.FileName.{IsExtensionSet}
 use Rattle.os_path.proofs.lemmas.Cuts.{cuts}
 use Rattle.os_path.proofs.lemmas.Joined.{set_formed, on_either}
 use Rattle.os_path.proofs.changed.with_extension_set.Goals as goal

@@ -1,7 +1,7 @@
 use Rattle.std.proofs.Common.{subst, None}
 use Rattle.platform_str.specs.Strings.{bytes}
 use Rattle.std.specs.Option.{option_map}
-use Rattle.path_rules.specs.Relative.{IsRelativeFrom}
+use Rattle.path_building.specs.Relative.{IsRelativeFrom}
 use Rattle.os_path.proofs.lemmas.RelativeParts.{relative_formed}
 use Rattle.os_path.proofs.relative.relative_from.Goals as goal
 

@@ -1,7 +1,6 @@
-use Rattle.std.proofs.Common.{◌∙◌, refl, sym}
-use Rattle.path_rules.proofs.lemmas.Bodies.{only_last, last_item, no_last_item}
+use Rattle.std.proofs.Common.{◌∙◌, refl}
+use Rattle.path_rules.proofs.lemmas.Bodies.{no_last_item, last_of_one, last_of_more}
 use Rattle.path_rules.proofs.lemmas.UpTo.{whole, shorter_up_to}
-use Rattle.path_rules.proofs.lemmas.FileNames.{last_of_one, last_of_more}
 use Rattle.path_rules.specs.Views.{item_of}
 use Rattle.path_rules.proofs.body.last_in.Goals as goal
 

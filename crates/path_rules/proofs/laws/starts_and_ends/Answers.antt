@@ -1,5 +1,4 @@
-use Rattle.path_rules.proofs.lemmas.Alike.{starts_from, ends_from}
-use Rattle.path_rules.proofs.lemmas.NameJoins.{unix_starts}
+use Rattle.path_rules.proofs.lemmas.Alike.{starts_from, ends_from, unix_starts}
 use Rattle.path_rules.proofs.laws.starts_and_ends.Goals as goal
 
 pub returns-clause-starts : goal.returns-clause-starts

@@ -1,4 +1,4 @@
-use Rattle.path_rules.proofs.lemmas.NameJoins.{stem_joined}
+use Rattle.path_rules.proofs.lemmas.Dots.{stem_joined}
 use Rattle.path_rules.proofs.laws.stem_joined.Goals as goal
 
 pub returns : goal.returns

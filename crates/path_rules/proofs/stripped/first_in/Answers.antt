@@ -1,5 +1,5 @@
 use Rattle.std.proofs.Common.{◌∙◌}
-use Rattle.path_rules.proofs.lemmas.Tails.{field_items, field_tail, tail_again, nothing_in}
+use Rattle.path_rules.proofs.lemmas.Tails.{field_items, field_tail, tail_again}
 use Rattle.path_rules.specs.Views.{item_of}
 use Rattle.path_rules.proofs.stripped.first_in.Goals as goal
 

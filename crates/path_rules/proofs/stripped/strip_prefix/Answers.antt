@@ -1,5 +1,4 @@
-use Rattle.path_rules.proofs.lemmas.Fields.{empty_from}
-use Rattle.path_rules.proofs.lemmas.FileNames.{some_from}
+use Rattle.path_rules.proofs.lemmas.Fields.{empty_from, some_from}
 use Rattle.path_rules.proofs.lemmas.Strips.{not_stripped, stripped_whole, stripped_inside, stripped_root, prefix_inside}
 use Rattle.path_rules.proofs.stripped.strip_prefix.Goals as goal
 

@@ -1,6 +1,6 @@
 use Rattle.std.proofs.Common.{⊎_elim, inl, inr, sym, subst}
 use Rattle.std.proofs.lemmas.Result.{on_ok_weaker, IfErr-weaker}
-use Rattle.path_rules.specs.Restyled.{IsRestyled}
+use Rattle.path_building.specs.Restyled.{IsRestyled}
 use Rattle.platform_str.specs.Strings.{path_bytes}
 use Rattle.program_frame.specs.Strings.{strings}
 use Rattle.paths_commands.specs.Styles.{style_of}

@@ -1,7 +1,7 @@
 use Rattle.std.proofs.Common.{rules, ◌≡◌, Some, None, inr, refl, sym, subst}
 use Rattle.std.proofs.lemmas.Result.{on_ok_weaker}
 use Rattle.std.specs.Option.{option_map}
-use Rattle.path_rules.specs.Relative.{IsRelativeFrom}
+use Rattle.path_building.specs.Relative.{IsRelativeFrom}
 use Rattle.platform_str.specs.Strings.{path_bytes, path_vec_of}
 use Rattle.paths_commands.proofs.item.write_relative.Goals as goal
 

@@ -1,7 +1,7 @@
 use Rattle.std.proofs.Common.{refl, ◌∙◌}
 use Rattle.platform_str.specs.Strings.{bytes, path_vec_of}
-use Rattle.path_rules.specs.FileName.{IsNamed}
-use Rattle.path_rules.proofs.lemmas.Joins.{if_ok}
+use Rattle.path_building.specs.FileName.{IsNamed}
+use Rattle.path_building.proofs.lemmas.Joins.{if_ok}
 use Rattle.os_path.proofs.lemmas.Joined.{named_same}
 use Rattle.os_path.proofs.ext.PathExt.with_file_name.Goals as goal
 

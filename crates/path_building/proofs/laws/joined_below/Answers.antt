@@ -1,0 +1,8 @@
+use Rattle.path_building.proofs.lemmas.Below.{begins_below, stays_below}
+use Rattle.path_building.proofs.laws.joined_below.Goals as goal
+
+pub returns-clause-begins : goal.returns-clause-begins
+returns-clause-begins c = λ style base path joined h. begins_below style base path joined h
+
+pub returns-clause-stays : goal.returns-clause-stays
+returns-clause-stays c = λ style base path joined h. stays_below style base path joined h

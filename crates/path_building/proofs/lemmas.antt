@@ -1,0 +1,16 @@
+pub mod Normals
+pub mod Follows
+pub mod Joins
+pub mod Moves
+pub mod Spelling
+pub mod Resolving
+pub mod Written
+pub mod Forms
+pub mod Again
+pub mod FileNames
+pub mod Checks
+pub mod Below
+pub mod StripJoins
+pub mod Places
+pub mod Restyles
+pub mod NameJoins

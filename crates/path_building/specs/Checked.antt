@@ -1,0 +1,119 @@
+-- A path below a base (typed-path's `join_checked`): the base's components, and after them names alone.
+use Rattle.std.specs.Prelude.{◌≡◌, ◌≢◌, ℕ, nat_eq, Bool, false, List, [], ◌++◌}
+use Rattle.std.specs.List.{AllByRecursion, list_any}
+use Rattle.path_rules.specs.declared.rules.Rules.TheVariants as rules
+use Rattle.path_rules.specs.declared.rules.Style as whose
+use Rattle.path_rules.specs.declared.rules.Style.TheVariants as style
+use Rattle.path_building.specs.declared.checked.JoinError.{JoinError}
+use Rattle.path_building.specs.declared.checked.JoinError.TheVariants as error
+use Rattle.path_rules.specs.StyleRules.{rules_of_style}
+use Rattle.path_rules.specs.Component.{Item, Prefix, RootDir, CurDir, ParentDir, Normal}
+use Rattle.path_rules.specs.Components.{AreComponents}
+use Rattle.path_rules.specs.Prefix.{Kind, IsPrefixOf, rules_of, IsPrefixed}
+use Rattle.path_rules.specs.Root.{BeginsWithSeparator}
+use Rattle.path_rules.specs.Reserved.{IsReserved}
+use Rattle.path_building.specs.Normal.{AreNames, AreNormalOf}
+use Rattle.path_building.specs.Normalized.{IsNormalForm}
+use Rattle.path_building.specs.Join.{IsRelativeTo, without_dot}
+
+-- a colon comes before the name of a stream
+abbrev pub has_colon : List ℕ → Bool
+has_colon s = list_any (λ b. nat_eq b 0x3A) s
+
+abbrev pub NamesNoStream : Item → Type 0
+NamesNoStream (Prefix s) = Unit {0}
+NamesNoStream RootDir = Unit {0}
+NamesNoStream CurDir = Unit {0}
+NamesNoStream ParentDir = Unit {0}
+NamesNoStream (Normal s) = has_colon s ≡ false
+
+abbrev pub IsFree : Item → Type 0
+IsFree (Prefix s) = Unit {0}
+IsFree RootDir = Unit {0}
+IsFree CurDir = Unit {0}
+IsFree ParentDir = Unit {0}
+IsFree (Normal s) = ¬ (IsReserved s)
+
+-- no name of a Windows path has a colon
+abbrev pub NameNoStream : whose.Style → List Item → Type 0
+NameNoStream style.Unix items = Unit {0}
+NameNoStream style.Windows items = AllByRecursion NamesNoStream items
+
+-- no name of a Windows path is reserved
+abbrev pub AreFree : whose.Style → List Item → Type 0
+AreFree style.Unix items = Unit {0}
+AreFree style.Windows items = AllByRecursion IsFree items
+
+-- a path without a prefix and a root leads to these names: each `..` has a name of the path before it to take
+pub record LeadsInside (w : whose.Style) (path : List ℕ) (items names : List Item) : Type 0 where
+  pub relative : IsRelativeTo w path
+  pub are : AreComponents w path items
+  pub normal : List Item
+  pub form : AreNormalOf items normal
+  pub is : names ≡ without_dot normal
+  pub alone : AreNames names
+
+-- and on Windows no name of the path has a colon or is reserved
+pub record AreCheckedNames (w : whose.Style) (path : List ℕ) (names : List Item) : Type 0 where
+  pub items : List Item
+  pub inside : LeadsInside w path items names
+  pub streams : NameNoStream w items
+  pub free : AreFree w items
+
+-- the path is a prefix alone after which only `\` separates, as `\\?\C:`
+abbrev pub IsVerbatimAlone : whose.Style → List ℕ → Type 0
+IsVerbatimAlone style.Unix path = ⊥
+IsVerbatimAlone style.Windows path = (kind : Kind) × (IsPrefixOf path kind [] × (rules_of kind ≡ rules.Verbatim))
+
+-- the joined path has the base's components, and then the names
+pub record IsCheckedJoin (w : whose.Style) (base path joined : List ℕ) : Type 0 where
+  pub base_items : List Item
+  pub names : List Item
+  pub base_are : AreComponents w base base_items
+  pub checked : AreCheckedNames w path names
+  pub separable : IsVerbatimAlone w base → names ≡ []
+  pub answers : AreComponents w joined (base_items ++ names)
+
+-- the normal form begins with that of the base's components, and goes on with names
+pub record BeginsBelow (items normal : List Item) : Type 0 where
+  pub base : List Item
+  pub names : List Item
+  pub form : IsNormalForm items base
+  pub alone : AreNames names
+  pub is : normal ≡ base ++ names
+
+-- a `..` of the path has no name before it to take
+abbrev pub LeadsOut : whose.Style → List ℕ → Type 0
+LeadsOut w path = IsRelativeTo w path × ((items normal : List Item) → AreComponents w path items → ¬ (AreNormalOf items normal))
+
+-- a name of a path that leads inside has a colon
+abbrev pub NamesStream : whose.Style → List ℕ → Type 0
+NamesStream w path = (items : List Item) × ((names : List Item) × (LeadsInside w path items names × ¬ (NameNoStream w items)))
+
+-- or none has one, and a name is reserved
+abbrev pub NamesReserved : whose.Style → List ℕ → Type 0
+NamesReserved w path = (items : List Item) × ((names : List Item) × (LeadsInside w path items names × (NameNoStream w items × ¬ (AreFree w items))))
+
+-- why the path's names are refused
+abbrev pub IsNameFault : whose.Style → List ℕ → JoinError → Type 0
+IsNameFault w path error.Prefix = IsPrefixed w path
+IsNameFault w path error.Root = ¬ (IsPrefixed w path) × BeginsWithSeparator (rules_of_style w) path
+IsNameFault w path error.Leaves = LeadsOut w path
+IsNameFault w path error.Stream = NamesStream w path
+IsNameFault w path error.Reserved = NamesReserved w path
+IsNameFault w path error.Base = ⊥
+IsNameFault w path error.Memory = Unit {0}
+
+-- the names would belong to the base's prefix
+abbrev pub IsOpenBase : whose.Style → List ℕ → List ℕ → Type 0
+IsOpenBase w base path = IsVerbatimAlone w base × ((names : List Item) × (AreCheckedNames w path names × (names ≢ [])))
+
+-- why the path isn't joined to the base
+abbrev pub IsJoinFault : whose.Style → List ℕ → List ℕ → JoinError → Type 0
+IsJoinFault w base path error.Prefix = IsNameFault w path error.Prefix
+IsJoinFault w base path error.Root = IsNameFault w path error.Root
+IsJoinFault w base path error.Leaves = IsNameFault w path error.Leaves
+IsJoinFault w base path error.Stream = IsNameFault w path error.Stream
+IsJoinFault w base path error.Reserved = IsNameFault w path error.Reserved
+IsJoinFault w base path error.Base = IsOpenBase w base path
+IsJoinFault w base path error.Memory = Unit {0}

@@ -1,0 +1,10 @@
+pub mod Normal
+pub mod Resolved
+pub mod Join
+pub mod Spelled
+pub mod Normalized
+pub mod Cleaned
+pub mod FileName
+pub mod Checked
+pub mod Relative
+pub mod Restyled

@@ -1,0 +1,103 @@
+-- The bytes that a path of given components is written with. Step words: no public contract names them.
+use Rattle.std.specs.Prelude.{◌≡◌, ◌≢◌, ℕ, Bool, true, false, List, [], ◌∷◌, ◌++◌, Option, Some, None}
+use Rattle.std.specs.List.{AllByRecursion}
+use Rattle.path_rules.specs.declared.rules.Rules.{Rules}
+use Rattle.path_rules.specs.Separators.{IsPlain}
+use Rattle.path_rules.specs.declared.head.Start.{Start}
+use Rattle.path_rules.specs.declared.head.Start.TheVariants.{Root, Dot, Nothing}
+use Rattle.path_rules.specs.declared.head.Head.{Head}
+use Rattle.path_rules.specs.declared.rules.Style as whose
+use Rattle.path_rules.specs.declared.rules.Style.TheVariants as style
+use Rattle.path_building.specs.Normalized.{BeginsAsPrefix}
+use Rattle.path_rules.specs.Component.{Item, Prefix, RootDir, CurDir, ParentDir, Normal, named}
+use Rattle.path_rules.specs.Prefix.{Kind, Verbatim, VerbatimUnc, VerbatimDisk, Device, Unc, Disk, IsPrefixOf}
+
+-- the part that a component is written as
+abbrev pub spelling : Item → List ℕ
+spelling (Prefix s) = []
+spelling RootDir = []
+spelling CurDir = 0x2E ∷ []
+spelling ParentDir = 0x2E ∷ 0x2E ∷ []
+spelling (Normal s) = s
+
+-- the part that a component is written as names it
+pub record IsSpelled (r : Rules) (x : Item) : Type 0 where
+  pub plain : IsPlain r (spelling x)
+  pub names : named r (spelling x) ≡ Some x
+
+abbrev pub AreSpelled : Rules → List Item → Type 0
+AreSpelled r xs = AllByRecursion (IsSpelled r) xs
+
+-- names after others, each after a separator
+abbrev pub more_names : ℕ → List Item → List ℕ
+more_names c [] = []
+more_names c (x ∷ xs) = c ∷ (spelling x ++ more_names c xs)
+
+-- names with separators between them
+abbrev pub joined_names : ℕ → List Item → List ℕ
+joined_names c [] = []
+joined_names c (x ∷ xs) = spelling x ++ more_names c xs
+
+-- the root, twice after a prefix that would grow
+abbrev pub root_bytes : ℕ → Bool → List ℕ
+root_bytes c false = c ∷ []
+root_bytes c true = c ∷ c ∷ []
+
+-- what is written before the names
+abbrev pub start_bytes : ℕ → Start → Bool → List Item → List ℕ
+start_bytes c Root doubled [] = c ∷ []
+start_bytes c Root doubled (x ∷ xs) = root_bytes c doubled
+start_bytes c Dot doubled [] = 0x2E ∷ []
+start_bytes c Dot doubled (x ∷ xs) = 0x2E ∷ c ∷ []
+start_bytes c Nothing doubled names = []
+
+-- a path after its prefix
+abbrev pub after_bytes : ℕ → Start → Bool → List Item → List ℕ
+after_bytes c start doubled names = start_bytes c start doubled names ++ joined_names c names
+
+-- the prefix is `\\?\UNC\server`, which a name after one separator would belong to
+abbrev pub LacksShare : Kind → Type 0
+LacksShare (Verbatim name) = ⊥
+LacksShare (VerbatimUnc server share) = share ≡ []
+LacksShare (VerbatimDisk letter) = ⊥
+LacksShare (Device name) = ⊥
+LacksShare (Unc server share) = ⊥
+LacksShare (Disk letter) = ⊥
+
+abbrev pub HasEmptyShare : List ℕ → Type 0
+HasEmptyShare s = (kind : Kind) × ((rest : List ℕ) × (IsPrefixOf s kind rest × LacksShare kind))
+
+-- before names the root is written twice after such a prefix, and only there
+abbrev pub DoublesRoot : whose.Style → List ℕ → Bool → Type 0
+DoublesRoot style.Unix path doubled = doubled ≡ false
+DoublesRoot style.Windows path doubled = (doubled ≡ true → HasEmptyShare path) × (HasEmptyShare path → doubled ≡ true)
+
+-- how a path may start again: one without a prefix in any way that gives it none, one with a prefix as it did
+abbrev pub MayStart : whose.Style → Head → Start → List Item → Type 0
+MayStart w head start names = (head.prefix.now ≡ [] → start ≡ Nothing → ¬ (BeginsAsPrefix w names)) × (head.prefix.now ≢ [] → start ≡ head.start)
+
+-- names from the last to the first: what further components make of them; none where a `..` has no name to take
+abbrev pub resolve : List Item → List Item → Option (List Item)
+resolve stack [] = Some stack
+resolve stack (Normal s ∷ xs) = resolve (Normal s ∷ stack) xs
+resolve [] (ParentDir ∷ xs) = None
+resolve (y ∷ stack) (ParentDir ∷ xs) = resolve stack xs
+resolve stack (x ∷ xs) = resolve stack xs
+
+-- the same, where a `..` that has no name to take stays, but not at a root
+abbrev pub go_up : Bool → List Item → List Item
+go_up rooted (Normal s ∷ stack) = stack
+go_up true stack = stack
+go_up false stack = ParentDir ∷ stack
+
+abbrev pub cleaned : Bool → List Item → List Item → List Item
+cleaned rooted stack [] = stack
+cleaned rooted stack (Normal s ∷ xs) = cleaned rooted (Normal s ∷ stack) xs
+cleaned rooted stack (ParentDir ∷ xs) = cleaned rooted (go_up rooted stack) xs
+cleaned rooted stack (x ∷ xs) = cleaned rooted stack xs
+
+-- the start of a path without the `.`
+abbrev pub cleaned_start : Start → List Item
+cleaned_start Root = RootDir ∷ []
+cleaned_start Dot = []
+cleaned_start Nothing = []

@@ -1,0 +1,340 @@
+//! Normal forms of paths.
+ghost use Rattle.std.specs.Prelude.{◌≡◌, ◌≢◌, ◌++◌, [], ◌↔◌, IsTrue, reverse, map, OnOk, IfOk, IfErr};
+ghost use Rattle.std.specs.Option.{option_map};
+ghost use Rattle.path_rules.specs.declared.head.Start.TheVariants.{Root, Dot, Nothing};
+ghost use Rattle.path_rules.specs.declared.rules.Rules.TheVariants.{Verbatim};
+ghost use Rattle.path_rules.specs.Component.{components_in};
+ghost use Rattle.path_rules.specs.Components.{AreComponents};
+ghost use Rattle.path_rules.specs.HeadParts.{IsHead};
+ghost use Rattle.path_rules.specs.Heads.{prefix_items, start_items};
+ghost use Rattle.path_rules.specs.Views.{item_of};
+ghost use Rattle.path_building.specs.Spelled.{resolve, cleaned, go_up, cleaned_start, AreSpelled, DoublesRoot, MayStart};
+ghost use Rattle.path_rules.specs.Prefix.{begins_verbatim};
+ghost use Rattle.path_building.specs.Normalized.{IsReadAsPrefix, BeginsAsPrefix, IsShielded, IsNormalized, IsNormalizeFault};
+ghost use Rattle.path_building.specs.Cleaned.{or_dot, IsCleaned};
+
+use crate::writing::{has_empty_share, written};
+use path_rules::parts::{Head, Start, head_of, is_verbatim, next_in};
+use path_rules::{Component, Rules, Style, windows_prefix};
+use std::alloc::{AllocError, Allocator};
+
+/// Why [`normalize`] answers no path.
+#[derive(Clone, Copy, Debug, PartialEq, Eq)]
+pub enum NormalizeError {
+    /// A `..` has no name before it that it could take away.
+    NoName,
+    /// An allocation failed.
+    Memory,
+}
+
+impl From<AllocError> for NormalizeError {
+    ghost use Rattle.std.specs.Prelude.{◌≡◌};
+    ghost use Rattle.path_building.specs.declared.normal.NormalizeError.TheVariants.{Memory};
+
+    ghost from_gives = { λ _ error. error ≡ Memory };
+
+    fn from(_: AllocError) -> NormalizeError {
+        NormalizeError::Memory
+    }
+}
+
+/// The normal form of a path: the path without `.`, and without each `..` and the name before it
+/// (std's `Path::normalize_lexically`), written with the main separator. It names the same file
+/// where no name is a symbolic link.
+///
+/// A `.` at the start of a path without a root is kept. A path whose prefix begins with `\\?\` is
+/// not resolved: Windows takes its `.` and `..` as they are. A first name that by itself would be
+/// read as a prefix gets `.\` before it, as in `a\..\C:`, whose normal form is `.\C:`. A normal
+/// form is its own ([`crate::laws::normalized_again`]).
+///
+/// # Errors
+///
+/// `NoName` if a `..` has no name before it to take away, as in `..`, `a/../..` and `/..`;
+/// `Memory` if an allocation fails.
+///
+/// ```
+/// use path_building::{NormalizeError, normalize};
+/// use path_rules::Style;
+///
+/// let path = normalize(alloc, Style::Unix, b"/usr//./lib/../bin/")?;
+/// assert_eq!(rt; path.as_slice(), b"/usr/bin".as_slice());
+/// let path = normalize(alloc, Style::Windows, br"a\..\C:")?;
+/// assert_eq!(rt; path.as_slice(), br".\C:".as_slice());
+/// assert!(rt; normalize(alloc, Style::Unix, b"a/../..").is_err_and(|e| e == NormalizeError::NoName));
+/// ```
+pub fn normalize<A: Allocator + Clone>(
+    alloc: A,
+    style: Style,
+    path: &[u8],
+) -> Result<Vec<u8, A>, NormalizeError>
+    ensures ok { IfOk result (λ normal. IsNormalized style path.now normal.items) }
+    ensures err { IfErr result (λ error. IsNormalizeFault style path.now error) }
+{
+    let head = head_of(style, path);
+    if is_verbatim(head.prefix) {
+        let names = all_names(alloc.clone()?, head.rules, head.body)?;
+        return Ok(written_as(alloc, style, path, head, head.start, &names)?);
+    }
+    let Some(names) = resolved(alloc.clone()?, head.rules, head.body)? else {
+        return Err(NormalizeError::NoName);
+    };
+    let kept = names.as_slice();
+    let start = shielded_start(style, head, kept);
+    Ok(written_as(alloc, style, path, head, start, kept)?)
+}
+
+/// The path cleaned: without `.`, without each `..` and the name before it, and without a `..` at a
+/// root (Go's `filepath.Clean`, CPython's `normpath`), written with the main separator. It names the
+/// same file where no name is a symbolic link.
+///
+/// A `..` that has neither a name nor a root before it is kept, and the empty path is `.`. It
+/// differs from [`normalize`] in these and in that a `.` at the start is left out; a path whose
+/// prefix begins with `\\?\` and a first name that would be read as a prefix are treated as there. A
+/// clean path is its own clean form ([`crate::laws::cleaned_again`]).
+///
+/// # Errors
+///
+/// `AllocError` if the memory is refused.
+///
+/// ```
+/// use path_building::clean;
+/// use path_rules::Style;
+///
+/// let path = clean(alloc, Style::Unix, b"./../a//b/..")?;
+/// assert_eq!(rt; path.as_slice(), b"../a".as_slice());
+/// assert_eq!(rt; clean(alloc, Style::Unix, b"/..")?.as_slice(), b"/".as_slice());
+/// assert_eq!(rt; clean(alloc, Style::Unix, b"")?.as_slice(), b".".as_slice());
+/// assert_eq!(rt; clean(alloc, Style::Windows, b"C:/..")?.as_slice(), br"C:\".as_slice());
+/// ```
+pub fn clean<A: Allocator + Clone>(
+    alloc: A,
+    style: Style,
+    path: &[u8],
+) -> Result<Vec<u8, A>, AllocError>
+    ensures { IfOk result (λ clean. IsCleaned style path.now clean.items) }
+{
+    let head = head_of(style, path);
+    if is_verbatim(head.prefix) {
+        let names = all_names(alloc.clone()?, head.rules, head.body)?;
+        return written_as(alloc, style, path, head, head.start, &names);
+    }
+    let names = cleaned(alloc.clone()?, head.rules, is_root(head.start), head.body)?;
+    let kept = names.as_slice();
+    let start = clean_start(style, head, kept);
+    written_as(alloc, style, path, head, start, kept)
+}
+
+/// The path with this start and these names after its prefix.
+pub(crate) fn written_as<A: Allocator>(
+    alloc: A,
+    style: Style,
+    path: &[u8],
+    head: Head<'_>,
+    start: Start,
+    names: &[Component<&[u8]>],
+) -> Result<Vec<u8, A>, AllocError>
+    requires parts { IsHead style path.now head }
+    requires spelled { AreSpelled head.rules (map item_of names.now) }
+    requires none { head.rules ≡ Verbatim → head.start ≡ Nothing → map item_of names.now ≡ [] }
+    requires may_start { MayStart style head start (map item_of names.now) }
+    ensures { IfOk result (λ written. AreComponents style written.items
+        (prefix_items head.entry.prefix.now ++ (start_items start ++ map item_of names.now))) }
+{
+    let doubled = has_doubled_root(style, path);
+    written(
+        alloc,
+        path.len(),
+        style.main_separator(),
+        head.prefix,
+        start,
+        doubled,
+        names,
+    )
+}
+
+/// All components of a body.
+pub(crate) fn all_names<'a, A: Allocator>(
+    alloc: A,
+    rules: Rules,
+    body: &'a [u8],
+) -> Result<Vec<Component<&'a [u8]>, A>, AllocError>
+    ensures { IfOk result (λ names. map item_of names.items ≡ components_in rules body.entry.now) }
+{
+    let mut names = Vec::new(alloc);
+    let mut left = body;
+    while let Some((item, rest)) = next_in(rules, left) {
+        names.push(item)?;
+        left = rest;
+    }
+    Ok(names)
+}
+
+/// The names that are left of the components of a body, where `..` takes the name before it away;
+/// `None` if it has none.
+pub(crate) fn resolved<'a, A: Allocator>(
+    alloc: A,
+    rules: Rules,
+    body: &'a [u8],
+) -> Result<Option<Vec<Component<&'a [u8]>, A>>, AllocError>
+    ensures { IfOk result (λ names. option_map (λ v. reverse (map item_of v.items)) names
+        ≡ resolve [] (components_in rules body.entry.now)) }
+{
+    let mut names = Vec::new(alloc);
+    let mut left = body;
+    while let Some((item, rest)) = next_in(rules, left) {
+        match item {
+            Component::Normal(_) => names.push(item)?,
+            Component::ParentDir => {
+                if names.pop().is_none() {
+                    return Ok(None);
+                }
+            }
+            _ => {}
+        }
+        left = rest;
+    }
+    Ok(Some(names))
+}
+
+/// The names that are left of the components of a body, where `..` takes the name before it away,
+/// and else is left out at a root and stays elsewhere.
+pub(crate) fn cleaned<'a, A: Allocator>(
+    alloc: A,
+    rules: Rules,
+    rooted: bool,
+    body: &'a [u8],
+) -> Result<Vec<Component<&'a [u8]>, A>, AllocError>
+    ensures { IfOk result (λ names. reverse (map item_of names.items)
+        ≡ cleaned rooted [] (components_in rules body.entry.now)) }
+{
+    let mut names = Vec::new(alloc);
+    let mut left = body;
+    while let Some((item, rest)) = next_in(rules, left) {
+        match item {
+            Component::Normal(_) => names.push(item)?,
+            Component::ParentDir => go_up(&mut names, rooted)?,
+            _ => {}
+        }
+        left = rest;
+    }
+    Ok(names)
+}
+
+/// Takes the last name away, or adds `..` where there is none and no root.
+fn go_up<A: Allocator>(names: &mut Vec<Component<&[u8]>, A>, rooted: bool) -> Result<(), AllocError>
+    ensures { OnOk result (reverse (map item_of names.new.items)
+        ≡ go_up rooted (reverse (map item_of names.old.items))) }
+{
+    match names.pop() {
+        Some(Component::Normal(_)) => Ok(()),
+        last => {
+            if let Some(other) = last {
+                names.push(other)?;
+            }
+            if !rooted {
+                names.push(Component::ParentDir)?;
+            }
+            Ok(())
+        }
+    }
+}
+
+/// Whether the first name by itself begins with a prefix.
+pub(crate) fn begins_as_prefix(style: Style, names: &[Component<&[u8]>]) -> bool
+    ensures { IsTrue result ↔ BeginsAsPrefix style (map item_of names.now) }
+{
+    match names {
+        [Component::Normal(name), ..] => is_read_as_prefix(style, name),
+        _ => false,
+    }
+}
+
+/// Whether a name by itself begins with a prefix.
+pub(crate) fn is_read_as_prefix(style: Style, name: &[u8]) -> bool
+    ensures { IsTrue result ↔ IsReadAsPrefix style name.now }
+{
+    match style {
+        Style::Unix => false,
+        Style::Windows => windows_prefix(name).is_some(),
+    }
+}
+
+/// Whether a second separator has to come after the root, so that the prefix doesn't grow.
+fn has_doubled_root(style: Style, path: &[u8]) -> bool
+    ensures { DoublesRoot style path.now result }
+{
+    match style {
+        Style::Unix => false,
+        Style::Windows => has_empty_share(path),
+    }
+}
+
+/// With what a path without a prefix starts, so that no prefix begins it: with `.` before a name
+/// that by itself begins with one.
+fn shielded(style: Style, start: Start, names: &[Component<&[u8]>]) -> Start
+    ensures shield { IsShielded style (start_items start ++ map item_of names.now)
+        (start_items result ++ map item_of names.now) }
+    ensures free { result ≡ Nothing → ¬ (BeginsAsPrefix style (map item_of names.now)) }
+{
+    match start {
+        Start::Nothing => {
+            if begins_as_prefix(style, names) {
+                Start::Dot
+            } else {
+                Start::Nothing
+            }
+        }
+        _ => start,
+    }
+}
+
+/// With what a path starts again.
+fn shielded_start(style: Style, head: Head<'_>, names: &[Component<&[u8]>]) -> Start
+    ensures shield { IsShielded style
+        (prefix_items head.entry.prefix.now ++ (start_items head.entry.start ++ map item_of names.now))
+        (prefix_items head.entry.prefix.now ++ (start_items result ++ map item_of names.now)) }
+    ensures may { MayStart style head.entry result (map item_of names.now) }
+{
+    if head.prefix.is_empty() {
+        return shielded(style, head.start, names);
+    }
+    head.start
+}
+
+/// Whether a path starts with a root.
+pub(crate) fn is_root(start: Start) -> bool
+    ensures { IsTrue result ↔ (start ≡ Root) }
+{
+    match start {
+        Start::Root => true,
+        _ => false,
+    }
+}
+
+/// With what a clean path starts: with `.` where it would be empty, and as [`shielded`] says.
+fn clean_start(style: Style, head: Head<'_>, names: &[Component<&[u8]>]) -> Start
+    requires { head.prefix.now ≢ [] → ¬ (head.start ≡ Dot) }
+    ensures shield { IsShielded style
+        (or_dot (prefix_items head.entry.prefix.now ++ (cleaned_start head.entry.start ++ map item_of names.now)))
+        (prefix_items head.entry.prefix.now ++ (start_items result ++ map item_of names.now)) }
+    ensures may { MayStart style head.entry result (map item_of names.now) }
+{
+    if !head.prefix.is_empty() {
+        return head.start;
+    }
+    match head.start {
+        Start::Root => Start::Root,
+        _ => bare_start(style, names),
+    }
+}
+
+/// With what a clean path without a prefix and a root starts.
+fn bare_start(style: Style, names: &[Component<&[u8]>]) -> Start
+    ensures shield { IsShielded style (or_dot (map item_of names.now)) (start_items result ++ map item_of names.now) }
+    ensures free { result ≡ Nothing → ¬ (BeginsAsPrefix style (map item_of names.now)) }
+{
+    if names.is_empty() {
+        return Start::Dot;
+    }
+    shielded(style, Start::Nothing, names)
+}

@@ -1,0 +1,128 @@
+//! A path of one style as a path of the other.
+ghost use Rattle.std.specs.Prelude.{◌↔◌, true, map, IsTrue, MatchOption, IfOk, IfErr};
+ghost use Rattle.path_rules.specs.Views.{item_of};
+ghost use Rattle.path_rules.specs.Component.{Normal};
+ghost use Rattle.path_building.specs.Restyled.{IsHad, AreHad, IsFirstUnlike, IsRestyled, IsStyleFault};
+
+use crate::normal::{all_names, is_read_as_prefix};
+use crate::resolving::add_all;
+use crate::writing::written;
+use path_rules::parts::head_of;
+use path_rules::{Component, Components, Style, is_extension_text};
+use std::alloc::{AllocError, Allocator};
+
+/// Why [`with_style`] answers no path.
+#[derive(Clone, Copy, Debug, PartialEq, Eq)]
+pub enum StyleError {
+    /// The component at this index is the first that the style can't have.
+    Component(usize),
+    /// An allocation failed.
+    Memory,
+}
+
+impl From<AllocError> for StyleError {
+    ghost use Rattle.std.specs.Prelude.{◌≡◌};
+    ghost use Rattle.path_building.specs.declared.styles.StyleError.TheVariants.{Memory};
+
+    ghost from_gives = { λ _ error. error ≡ Memory };
+
+    fn from(_: AllocError) -> StyleError {
+        StyleError::Memory
+    }
+}
+
+/// The path of another style with the same components, in new memory (typed-path's
+/// `with_encoding`): the root, `.`, `..` and the names, written with the main separator. A path of
+/// the same style is answered as it is.
+///
+/// A name may still be one that Windows keeps for itself ([`path_rules::is_reserved`]).
+///
+/// # Errors
+///
+/// `Component` with the index of the first component that the style can't have: a prefix, a name
+/// that has one of its separators, as `a\b`, or a first name that it would read as a prefix, as
+/// `C:`; `Memory` if an allocation fails.
+///
+/// ```
+/// use path_building::{StyleError, with_style};
+/// use path_rules::Style;
+///
+/// let path = with_style(alloc, Style::Unix, Style::Windows, b"/usr//lib/..")?;
+/// assert_eq!(rt; path.as_slice(), br"\usr\lib\..".as_slice());
+/// let path = with_style(alloc, Style::Windows, Style::Unix, br".\a\b")?;
+/// assert_eq!(rt; path.as_slice(), b"./a/b".as_slice());
+/// let refused = with_style(alloc, Style::Windows, Style::Unix, br"C:\a");
+/// assert!(rt; refused.is_err_and(|e| e == StyleError::Component(0)));
+/// ```
+pub fn with_style<A: Allocator + Clone>(
+    alloc: A,
+    from: Style,
+    to: Style,
+    path: &[u8],
+) -> Result<Vec<u8, A>, StyleError>
+    ensures ok { IfOk result (λ made. IsRestyled from to path.now made.items) }
+    ensures err { IfErr result (λ error. IsStyleFault from to path.now error) }
+{
+    if from == to {
+        return Ok(Vec::from_slice(alloc, path)?);
+    }
+    let mut items = Vec::new(alloc.clone()?);
+    add_all(&mut items, Components::new(from, path))?;
+    if let Some(index) = first_unlike(to, &items) {
+        return Err(StyleError::Component(index));
+    }
+    let head = head_of(from, path);
+    let names = all_names(alloc.clone()?, head.rules, head.body)?;
+    let none = b"".as_slice();
+    Ok(written(
+        alloc,
+        path.len(),
+        to.main_separator(),
+        none,
+        head.start,
+        false,
+        &names,
+    )?)
+}
+
+/// The index of the first component that a style can't have.
+fn first_unlike(to: Style, items: &[Component<&[u8]>]) -> Option<usize>
+    ensures { MatchOption result (AreHad to true (map item_of items.now))
+        (λ index. IsFirstUnlike to true (map item_of items.now) index) }
+{
+    let mut index = 0;
+    let mut first = true;
+    let mut left = items;
+    while let [item, more @ ..] = left {
+        if !is_had(to, first, *item) {
+            return Some(index);
+        }
+        index += 1;
+        first = false;
+        left = more;
+    }
+    None
+}
+
+/// Whether a style has a component, first or after others.
+fn is_had(to: Style, first: bool, item: Component<&[u8]>) -> bool
+    ensures { IsTrue result ↔ IsHad to first (item_of item.entry) }
+{
+    match item {
+        Component::Prefix(_) => false,
+        Component::Normal(name) => is_name(to, first, name),
+        _ => true,
+    }
+}
+
+fn is_name(to: Style, first: bool, name: &[u8]) -> bool
+    ensures { IsTrue result ↔ IsHad to first (Normal name.now) }
+{
+    if !is_extension_text(to, name) {
+        return false;
+    }
+    if first {
+        return !is_read_as_prefix(to, name);
+    }
+    true
+}

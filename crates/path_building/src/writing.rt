@@ -1,0 +1,143 @@
+//! Paths written from their parts.
+ghost use Rattle.std.specs.Prelude.{◌≡◌, ◌++◌, ◌∷◌, [], ◌↔◌, IsTrue, IfOk, OnOk, map};
+ghost use Rattle.path_rules.specs.PrefixViews.{kind_of};
+ghost use Rattle.path_rules.specs.Views.{item_of};
+ghost use Rattle.path_building.specs.Spelled.{spelling, more_names, joined_names, root_bytes, start_bytes, after_bytes, LacksShare, HasEmptyShare};
+
+use path_rules::parts::Start;
+use path_rules::{Component, Prefix, windows_prefix};
+use std::alloc::{AllocError, Allocator};
+
+/// A path of a prefix, a start and names, in memory for so many bytes, or for more if it has more.
+pub(crate) fn written<A: Allocator>(
+    alloc: A,
+    capacity: usize,
+    separator: u8,
+    prefix: &[u8],
+    start: Start,
+    doubled: bool,
+    names: &[Component<&[u8]>],
+) -> Result<Vec<u8, A>, AllocError>
+    ensures { IfOk result (λ path. path.items
+        ≡ prefix.now ++ after_bytes separator start doubled (map item_of names.now)) }
+{
+    let mut path = Vec::with_capacity(alloc, capacity)?;
+    path.extend_from_slice(prefix)?;
+    push_start(&mut path, separator, start, doubled, names)?;
+    push_names(&mut path, separator, names)?;
+    Ok(path)
+}
+
+/// Appends a byte.
+#[inline(always)]
+fn push_one<A: Allocator>(path: &mut Vec<u8, A>, byte: u8) -> Result<(), AllocError>
+    ensures { OnOk result (path.new.items ≡ path.old.items ++ byte ∷ []) }
+{
+    path.push(byte)?;
+    Ok(())
+}
+
+/// The part that a component is written as.
+#[inline(always)]
+fn spelling(item: Component<&[u8]>) -> &[u8]
+    ensures { result.now ≡ spelling (item_of item.entry) }
+{
+    match item {
+        Component::CurDir => b".".as_slice(),
+        Component::ParentDir => b"..".as_slice(),
+        Component::Normal(name) => name,
+        _ => b"".as_slice(),
+    }
+}
+
+/// Appends what is written before the names.
+fn push_start<A: Allocator>(
+    path: &mut Vec<u8, A>,
+    separator: u8,
+    start: Start,
+    doubled: bool,
+    names: &[Component<&[u8]>],
+) -> Result<(), AllocError>
+    ensures { OnOk result (path.new.items
+        ≡ path.old.items ++ start_bytes separator start doubled (map item_of names.now)) }
+{
+    match start {
+        Start::Root => match names {
+            [] => push_one(path, separator)?,
+            _ => push_root(path, separator, doubled)?,
+        },
+        Start::Dot => match names {
+            [] => push_one(path, b'.')?,
+            _ => path.extend_from_slice(&[b'.', separator])?,
+        },
+        Start::Nothing => {}
+    }
+    Ok(())
+}
+
+/// Appends the root before names.
+fn push_root<A: Allocator>(
+    path: &mut Vec<u8, A>,
+    separator: u8,
+    doubled: bool,
+) -> Result<(), AllocError>
+    ensures { OnOk result (path.new.items ≡ path.old.items ++ root_bytes separator doubled) }
+{
+    if doubled {
+        path.extend_from_slice(&[separator, separator])?;
+        return Ok(());
+    }
+    push_one(path, separator)
+}
+
+/// Appends names with separators between them.
+pub(crate) fn push_names<A: Allocator>(
+    path: &mut Vec<u8, A>,
+    separator: u8,
+    names: &[Component<&[u8]>],
+) -> Result<(), AllocError>
+    ensures { OnOk result (path.new.items
+        ≡ path.old.items ++ joined_names separator (map item_of names.now)) }
+{
+    let [first, more @ ..] = names else {
+        return Ok(());
+    };
+    path.extend_from_slice(spelling(*first))?;
+    push_more(path, separator, more)
+}
+
+/// Appends names, each after a separator.
+fn push_more<A: Allocator>(
+    path: &mut Vec<u8, A>,
+    separator: u8,
+    names: &[Component<&[u8]>],
+) -> Result<(), AllocError>
+    ensures { OnOk result (path.new.items
+        ≡ path.old.items ++ more_names separator (map item_of names.now)) }
+{
+    for name in names {
+        push_one(path, separator)?;
+        path.extend_from_slice(spelling(*name))?;
+    }
+    Ok(())
+}
+
+/// Whether a path begins with a prefix `\\?\UNC\server` without a share: a name that follows it
+/// after one separator would be its share.
+pub(crate) fn has_empty_share(path: &[u8]) -> bool
+    ensures { IsTrue result ↔ HasEmptyShare path.now }
+{
+    match windows_prefix(path) {
+        Some((prefix, _)) => is_without_share(prefix),
+        None => false,
+    }
+}
+
+fn is_without_share(prefix: Prefix<&[u8]>) -> bool
+    ensures { IsTrue result ↔ LacksShare (kind_of prefix.entry) }
+{
+    match prefix {
+        Prefix::VerbatimUnc(_, share) => share.is_empty(),
+        _ => false,
+    }
+}

@@ -1,8 +1,0 @@
-use Rattle.path_rules.proofs.lemmas.Below.{begins_below, stays_below}
-use Rattle.path_rules.proofs.laws.joined_below.Goals as goal
-
-pub returns-clause-begins : goal.returns-clause-begins
-returns-clause-begins c = λ style base path joined h. begins_below style base path joined h
-
-pub returns-clause-stays : goal.returns-clause-stays
-returns-clause-stays c = λ style base path joined h. stays_below style base path joined h

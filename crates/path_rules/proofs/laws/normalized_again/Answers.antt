@@ -1,5 +1,0 @@
-use Rattle.path_rules.proofs.lemmas.Again.{normalized_again}
-use Rattle.path_rules.proofs.laws.normalized_again.Goals as goal
-
-pub returns : goal.returns
-returns c = λ style path answer h. normalized_again style path answer h
