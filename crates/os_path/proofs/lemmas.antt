@@ -10,3 +10,4 @@ pub mod CheckedParts
 pub mod Joined
 pub mod RelativeParts
 pub mod Simple
+pub mod Divided

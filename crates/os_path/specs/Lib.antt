@@ -5,3 +5,4 @@ pub mod Prefixes
 pub mod Ancestors
 pub mod Converted
 pub mod Keys
+pub mod Divided

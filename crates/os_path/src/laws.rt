@@ -2,11 +2,15 @@
 //! does nothing.
 ghost use Rattle.std.specs.Prelude.{◌≡◌, ◌↔◌, ◌++◌, List, ℕ, length, IsTrue, Some};
 ghost use Rattle.wtf8_core.specs.Boundary.{IsBoundary};
+ghost use Rattle.path_rules.specs.Component.{Item};
+ghost use Rattle.path_rules.specs.Components.{AreComponents};
 ghost use Rattle.path_rules.specs.Cut.{IsAsciiCut};
 ghost use Rattle.path_rules.specs.Keys.{keys_cmp, keys_writes};
+ghost use Rattle.os_path.specs.Divided.{AreParts};
 ghost use Rattle.os_path.specs.Keys.{path_keys};
 
 use crate::by_components::ByComponents;
+use crate::style::PathStyle;
 use platform_str::Platform;
 use std::hash::Hash;
 
@@ -14,6 +18,15 @@ use std::hash::Hash;
 pub fn cut_boundaries()
     ensures { (s : List ℕ) → (before : List ℕ) → (after : List ℕ) → s ≡ before ++ after
         → IsAsciiCut before after → IsBoundary s (length before) }
+{}
+
+/// A path's bytes are the strings of its components and, by turns with these, separators and dots
+/// that name nothing. Its units are the units of all these, and each is cut at boundaries, so no half
+/// of a surrogate pair is cut off or joined to another.
+pub fn component_units<E: PathStyle>()
+    ensures { (path : List ℕ) → (items : List Item) → E.well_formed path
+        → AreComponents E.follows path items
+        → (parts : List (List ℕ)) × AreParts E.units path items parts }
 {}
 
 /// Paths that are compared by their components are equal exactly if their keys are equal, and

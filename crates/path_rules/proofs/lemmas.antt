@@ -23,3 +23,4 @@ pub mod Begins
 pub mod KeyLists
 pub mod KeyAlike
 pub mod Simple
+pub mod Divides

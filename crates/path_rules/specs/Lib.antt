@@ -20,3 +20,4 @@ pub mod Taken
 pub mod Keys
 pub mod KeyLaws
 pub mod Simplified
+pub mod Divided

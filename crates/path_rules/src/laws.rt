@@ -1,12 +1,13 @@
 //! What holds of paths whatever a call answers. Each law is the contract of a function that does
 //! nothing.
-ghost use Rattle.std.specs.Prelude.{◌≡◌, ◌<◌, ◌⊎◌, ◌++◌, ◌∷◌, ◌↔◌, List, ℕ, length, IsTrue, Some};
+ghost use Rattle.std.specs.Prelude.{◌≡◌, ◌<◌, ◌⊎◌, ◌++◌, ◌∷◌, ◌↔◌, [], List, ℕ, length, IsTrue, Some};
 ghost use Rattle.path_rules.specs.declared.rules.Style as whose;
 ghost use Rattle.path_rules.specs.Component.{Item};
 ghost use Rattle.path_rules.specs.Prefix.{Kind, IsPrefixOf};
 ghost use Rattle.path_rules.specs.Components.{AreComponents, AreUnixComponents};
 ghost use Rattle.path_rules.specs.declared.rules.Rules.TheVariants as rules;
 ghost use Rattle.path_rules.specs.Separators.{Edge};
+ghost use Rattle.path_rules.specs.Divided.{IsDivided};
 ghost use Rattle.path_rules.specs.Name.{IsExtension, IsStem};
 ghost use Rattle.path_rules.specs.Parent.{IsParent, HasFileName};
 ghost use Rattle.path_rules.specs.declared.rules.Style.TheVariants.{Unix};
@@ -23,6 +24,13 @@ pub fn one_list()
         → (one ≡ other) × (rest ≡ left) }
     ensures items { (style : whose.Style) → (s : List ℕ) → (one : List Item) → (other : List Item)
         → AreComponents style s one → AreComponents style s other → one ≡ other }
+{}
+
+/// The bytes of a path are its components and, by turns with these, what is between them: separators,
+/// and dots that name nothing. Each cut is at an end of the path or beside an ASCII byte.
+pub fn divided()
+    ensures { (style : whose.Style) → (path : List ℕ) → (items : List Item)
+        → AreComponents style path items → IsDivided [] items path }
 {}
 
 /// What follows a prefix is empty or begins with a separator, unless the prefix is a drive.
