@@ -2,6 +2,7 @@
 ghost use Rattle.std.specs.Prelude.{◌≡◌, Bool, IfOk};
 ghost use Rattle.platform_str.specs.Strings.{bytes, path_bytes, path_vec_of};
 ghost use Rattle.path_building.specs.Join.{IsJoin};
+ghost use Rattle.path_building.specs.Trailing.{IsWithTrailingSep};
 ghost use Rattle.path_building.specs.FileName.{IsNamed, IsExtensionSet, IsExtensionAdded};
 ghost use Rattle.path_rules.specs.Name.{IsExtensionText};
 
@@ -24,6 +25,17 @@ pub(crate) fn join<E: PathStyle, A: Allocator + Clone>(
         path.as_encoded_bytes(),
     )?;
     Ok(PathBuf::from(OsString::from_encoded_bytes_unchecked(joined)))
+}
+
+/// A path with a separator at its end.
+pub(crate) fn with_trailing_sep<E: PathStyle, A: Allocator + Clone>(
+    alloc: A,
+    path: OsStr<'_, E>,
+) -> Result<PathBuf<E, A>, AllocError>
+    ensures { IfOk result (λ ended. IsWithTrailingSep E.follows (bytes path.entry) (path_vec_of ended).items) }
+{
+    let ended = path_building::with_trailing_sep(alloc, E::style(), path.as_encoded_bytes())?;
+    Ok(PathBuf::from(OsString::from_encoded_bytes_unchecked(ended)))
 }
 
 /// A path with another last name.

@@ -3,6 +3,7 @@ ghost use Rattle.std.specs.Prelude.{List, ℕ, ◌≡◌, ◌↔◌, IsTrue, Mat
 ghost use Rattle.platform_str.specs.Strings.{bytes, path_bytes, path_vec_of};
 ghost use Rattle.path_building.specs.Join.{IsJoin};
 ghost use Rattle.path_building.specs.FileName.{IsNamed, IsExtensionSet, IsExtensionAdded};
+ghost use Rattle.path_building.specs.Trailing.{IsWithTrailingSep};
 ghost use Rattle.path_rules.specs.Name.{IsExtensionText};
 ghost use Rattle.path_rules.specs.Components.{AreComponents};
 ghost use Rattle.path_rules.specs.Parent.{IsParent, HasNoParent, HasFileName, HasNoFileName};
@@ -451,6 +452,36 @@ pub trait PathExt<'a>: Sized + Copy {
     }
 
     // What is built.
+
+    /// The path with a separator at its end, in new memory (std's `Path::with_trailing_sep`).
+    ///
+    /// A path that ends with a separator is answered as it is, and so are an empty one and a drive
+    /// alone as `C:` (`path_building::laws::trailing_separators`).
+    ///
+    /// # Errors
+    ///
+    /// `AllocError` if the memory is refused.
+    ///
+    /// ```
+    /// use os_path::PathExt;
+    /// use platform_str::{OsStr, Path, Unix};
+    ///
+    /// let path = Path::<Unix>::new(OsStr::new("a/b")).with_trailing_sep(alloc)?;
+    /// assert!(rt; path.as_os_str() == OsStr::new("a/b/"));
+    /// assert!(rt; path.as_path().with_trailing_sep(alloc)?.as_os_str() == OsStr::new("a/b/"));
+    /// ```
+    final fn with_trailing_sep<A: Allocator + Clone>(
+        self,
+        alloc: A,
+    ) -> Result<PathBuf<Self::Platform, A>, AllocError>
+        ensures { IfOk result (λ ended. IsWithTrailingSep Self.Platform.follows (bytes_of self)
+            (path_vec_of ended).items) }
+    {
+        built::with_trailing_sep(
+            alloc,
+            OsStr::from_encoded_bytes_unchecked(self.path_bytes()),
+        )
+    }
 
     /// A path after this one, in new memory (std's `Path::join`).
     ///

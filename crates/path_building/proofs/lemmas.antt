@@ -14,3 +14,4 @@ pub mod StripJoins
 pub mod Places
 pub mod Restyles
 pub mod NameJoins
+pub mod Trailing

@@ -8,3 +8,4 @@ pub mod FileName
 pub mod Checked
 pub mod Relative
 pub mod Restyled
+pub mod Trailing

@@ -5,14 +5,17 @@ ghost use Rattle.path_rules.specs.declared.rules.Style as whose;
 ghost use Rattle.path_rules.specs.Component.{Item, Normal};
 ghost use Rattle.path_rules.specs.Components.{AreComponents, AreUnixComponents, IsRelative};
 ghost use Rattle.path_building.specs.Normal.{AreNormalOf};
-ghost use Rattle.path_building.specs.Join.{IsVerbatimPath, IsRelativeTo, HaveTheSamePrefix, IsJoin, without_dot};
+ghost use Rattle.path_building.specs.Join.{IsVerbatimPath, IsDriveAlone, IsRelativeTo, HaveTheSamePrefix, IsJoin, without_dot};
 ghost use Rattle.path_building.specs.Normalized.{IsNormalForm, IsNormalized};
-ghost use Rattle.path_building.specs.Checked.{IsCheckedJoin, BeginsBelow};
+ghost use Rattle.path_building.specs.Checked.{IsCheckedJoin, IsVerbatimAlone, BeginsBelow};
 ghost use Rattle.path_building.specs.Cleaned.{CleansTo, IsCleaned};
 ghost use Rattle.path_rules.specs.Parent.{IsParent, HasFileName};
 ghost use Rattle.path_rules.specs.declared.rules.Style.TheVariants.{Unix};
 ghost use Rattle.path_rules.specs.Compare.{HaveAlikeComponents};
 ghost use Rattle.path_rules.specs.Strip.{IsStripped};
+ghost use Rattle.path_rules.specs.StyleRules.{rules_of_style};
+ghost use Rattle.path_rules.specs.Trailing.{EndsWithSeparator};
+ghost use Rattle.path_building.specs.Trailing.{IsWithTrailingSep};
 
 /// A Unix path and a relative one, joined by a separator, have the components of both.
 pub fn unix_join()
@@ -74,6 +77,23 @@ pub fn join_components()
         → AreComponents style path more → AreComponents style joined (items ++ without_dot more) }
     ensures empty { (style : whose.Style) → (path : List ℕ) → (joined : List ℕ)
         → IsJoin style [] path joined → joined ≡ path }
+{}
+
+/// A path with a separator at its end is the path itself if that ends with one, and ends with one
+/// unless it is empty or a drive alone. It has the path's components: on Unix always, and on Windows
+/// where it has the path's prefix and the path isn't a prefix alone that begins with `\\?\`, to
+/// which a separator gives a root.
+pub fn trailing_separators()
+    ensures kept { (style : whose.Style) → (path : List ℕ) → (ended : List ℕ)
+        → IsWithTrailingSep style path ended → EndsWithSeparator (rules_of_style style) path
+        → ended ≡ path }
+    ensures ends { (style : whose.Style) → (path : List ℕ) → (ended : List ℕ)
+        → IsWithTrailingSep style path ended → path ≢ [] → ¬ (IsDriveAlone style path)
+        → EndsWithSeparator (rules_of_style style) ended }
+    ensures items { (style : whose.Style) → (path : List ℕ) → (ended : List ℕ)
+        → IsWithTrailingSep style path ended → HaveTheSamePrefix style path ended
+        → ¬ (IsVerbatimAlone style path) → (items : List Item) → AreComponents style path items
+        → AreComponents style ended items }
 {}
 
 /// A base joined with what [`path_rules::strip_prefix`] gives has the path's components: on Unix always,

@@ -2,8 +2,8 @@
 //!
 //! [`join`] and [`push`] write a path after another, [`join_checked`] one below a base, or it says
 //! what is wrong; [`with_file_name`] and [`with_extension`] change a last name, and
-//! [`set_file_name`] and [`set_extension`] do so in place; [`relative_from`] writes how a path is
-//! reached from a base, [`with_style`] a path in the other style, [`normalize`] and [`clean`] its
+//! [`set_file_name`] and [`set_extension`] do so in place; [`with_trailing_sep`] writes a separator
+//! at the end of a path, [`relative_from`] how a path is reached from a base, [`with_style`] a path in the other style, [`normalize`] and [`clean`] its
 //! normal form and its clean form. What a path says is in `path_rules`.
 //!
 //! Paths are bytes here too, in no encoding. `..` is resolved by [`normalize`], [`clean`] and
@@ -21,6 +21,7 @@ mod normal;
 mod relative;
 mod resolving;
 mod styles;
+mod trailing;
 mod writing;
 
 pub use checked::{JoinError, join_checked};
@@ -32,3 +33,4 @@ pub use joining::{join, push};
 pub use normal::{NormalizeError, clean, normalize};
 pub use relative::relative_from;
 pub use styles::{StyleError, with_style};
+pub use trailing::with_trailing_sep;

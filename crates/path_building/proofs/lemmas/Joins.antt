@@ -31,7 +31,7 @@ follows_base w base path joined v h (at_root p b i) = absurd (h.1 i.root)
 follows_base w base path joined v h (after p b i) = i
 
 -- what is written separates
-main_separates : (w : whose.Style) → separates (rules_of_style w) (main_separator w) ≡ true
+pub main_separates : (w : whose.Style) → separates (rules_of_style w) (main_separator w) ≡ true
 main_separates style.Unix = refl
 main_separates style.Windows = refl
 

@@ -1,0 +1,10 @@
+-- A path with a separator at its end (std's `Path::with_trailing_sep`).
+use Rattle.std.specs.Prelude.{◌≡◌, ℕ, List, ◌++◌}
+use Rattle.path_rules.specs.declared.rules.Style.{Style}
+use Rattle.path_building.specs.Join.{IsBetween}
+
+-- the path, and after it a separator, unless it is empty, a drive alone, or ends with one
+pub record IsWithTrailingSep (w : Style) (path ended : List ℕ) : Type 0 where
+  pub between : List ℕ
+  pub written : IsBetween w path between
+  pub is : ended ≡ path ++ between
