@@ -1,2 +1,9 @@
+pub mod Both
+pub mod Checks
+pub mod Forms
 pub mod HiddenBelow
+pub mod Joins
+pub mod Names
 pub mod PathParts
+pub mod KnownPrefix
+pub mod OtherStyle

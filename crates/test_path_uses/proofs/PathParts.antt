@@ -1,12 +1,12 @@
 -- What the contracts of paths say together.
-use Rattle.std.proofs.Common.{◌≡◌, ◌<◌, inl, inr, ℕ, List, [], ◌∷◌, ◌++◌, length, Option, Some, None, MatchOption, refl, sym, ap, ◌∙◌, subst, take, drop}
-use Rattle.std.specs.Prelude.{IfSome}
+use Rattle.std.proofs.Common.{◌≡◌, ◌<◌, inl, inr, true, ℕ, List, [], ◌∷◌, ◌++◌, length, Option, Some, None, MatchOption, refl, sym, ap, ◌∙◌, subst, take, drop}
+use Rattle.std.specs.Prelude.{IfSome, is_some}
 use Rattle.std.proofs.lemmas.List.{same_from_push, take_at}
 use Rattle.path_rules.specs.Cut.{IsAsciiCut}
 use Rattle.path_rules.specs.declared.rules.Style.{Style}
-use Rattle.path_rules.specs.Component.{Item}
+use Rattle.path_rules.specs.Component.{Item, Prefix, RootDir, CurDir, ParentDir, Normal}
 use Rattle.path_rules.specs.Components.{AreComponents}
-use Rattle.path_rules.specs.Parent.{IsParent, HasNoParent, HasFileName}
+use Rattle.path_rules.specs.Parent.{IsTop, IsBelow, IsParent, HasNoParent, HasFileName}
 use Rattle.path_rules.specs.Name.{IsExtension, IsStem}
 use Rattle.os_path.specs.Names.{HasFileStem, HasExtension}
 
@@ -68,3 +68,16 @@ module _ {X : Type 0} (view : X → List ℕ) (w : Style) (s : List ℕ) (units 
       let n = length (view x) in
       let prefix : take n s ≡ view x = ap (take n) h.joined ∙ take_at (view x) h.after n refl in
       (units (drop n s), cut (view x) h.after h.joined h.cut ∙ ap (λ y. units y ++ units (drop n s)) prefix)
+
+not_both : (x : Item) → IsTop x → IsBelow x → ⊥
+not_both (Prefix s) t b = b
+not_both RootDir t b = b
+not_both CurDir t b = t
+not_both ParentDir t b = t
+not_both (Normal s) t b = t
+
+-- a path that has a parent
+pub has_parent : {X : Type 0} (view : X → List ℕ) (w : Style) (s : List ℕ) (r : Option X) → MatchOption r (HasNoParent w s) (λ p. IsParent w s (view p)) → (items : List Item) (last : Item)
+    → AreComponents w s (items ++ last ∷ []) → IsBelow last → is_some r ≡ true
+has_parent view w s None h items last are below = absurd (not_both last (h items last are) below)
+has_parent view w s (Some x) h items last are below = refl

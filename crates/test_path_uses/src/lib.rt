@@ -5,5 +5,13 @@
 //! breaks a caller.
 #![tactic(auto)]
 
+pub mod checked;
+pub mod comparisons;
 pub mod ignored;
+pub mod joined;
+pub mod normal_forms;
 pub mod path_parts;
+pub mod prefixes;
+pub mod relatives;
+pub mod reserved;
+pub mod styles;

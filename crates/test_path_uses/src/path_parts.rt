@@ -1,9 +1,9 @@
 //! Paths taken apart: what their components, parents and names have to do with each other.
-ghost use Rattle.std.specs.Prelude.{◌≡◌, ◌++◌, ◌∷◌, ◌<◌, [], ℕ, List, IfSome, length};
+ghost use Rattle.std.specs.Prelude.{◌≡◌, ◌++◌, ◌∷◌, ◌<◌, [], ℕ, List, IsTrue, IfSome, length};
 ghost use Rattle.platform_str.specs.Strings.{bytes, path_bytes};
 ghost use Rattle.path_rules.specs.Component.{Item};
 ghost use Rattle.path_rules.specs.Components.{AreComponents};
-ghost use Rattle.path_rules.specs.Parent.{HasFileName};
+ghost use Rattle.path_rules.specs.Parent.{IsBelow, HasFileName};
 
 use os_path::{Components, PathExt, PathStyle};
 use path_rules::laws;
@@ -30,6 +30,15 @@ pub fn parent_of<'a, E: PathStyle + 'a>(path: Path<'a, E>) -> Option<Path<'a, E>
 {
     laws::one_list();
     path.parent()
+}
+
+/// Whether a path whose last component is neither a prefix nor a root has a parent: always.
+pub fn has_parent<'a, E: PathStyle + 'a>(path: Path<'a, E>) -> bool
+    ensures { (items : List Item) → (last : Item)
+        → AreComponents E.follows (path_bytes path.entry) (items ++ last ∷ []) → IsBelow last
+        → IsTrue result }
+{
+    path.parent().is_some()
 }
 
 /// The parent, which the path's bytes begin with, and which is shorter.

@@ -1,4 +1,4 @@
-use Rattle.std.proofs.Common.{◌≡◌, subst}
+use Rattle.std.proofs.Common.{subst}
 use Rattle.os_ignore.specs.Ignores.{files_of}
 use Rattle.os_ignore.specs.Verdicts.{IsVerdict}
 use Rattle.test_path_uses.proofs.ignored.before_and_after.Goals as goal

@@ -1,0 +1,44 @@
+-- A form of a path that was made twice is one form.
+use Rattle.std.proofs.Common.{◌≡◌, inl, inr, ℕ, List, sym, ap, ◌∙◌, subst, reverse}
+use Rattle.std.proofs.lemmas.List.{reverse-reverse}
+use Rattle.path_rules.specs.declared.rules.Style as whose
+use Rattle.path_rules.specs.Component.{Item}
+use Rattle.path_rules.specs.Components.{AreComponents}
+use Rattle.path_rules.specs.Normal.{AreNormalOf}
+use Rattle.path_rules.specs.Normalized.{IsNormalForm, IsNormalized, IsShielded}
+use Rattle.path_rules.specs.Cleaned.{CleansTo, IsCleanForm, IsCleaned, or_dot}
+use Rattle.test_path_uses.proofs.Joins.{OneList}
+
+shown_same : (w : whose.Style) (form one other : List Item) → IsShielded w form one → IsShielded w form other → one ≡ other
+shown_same w form one other (inl h) (inl k) = h.1 ∙ sym k.1
+shown_same w form one other (inl h) (inr k) = absurd (k.0 h.0)
+shown_same w form one other (inr h) (inl k) = absurd (h.0 k.0)
+shown_same w form one other (inr h) (inr k) = h.1 ∙ sym k.1
+
+module _ (list : OneList) (normal : (items one other : List Item) → AreNormalOf items one → AreNormalOf items other → one ≡ other) where
+  normal_same : (items one other : List Item) → IsNormalForm items one → IsNormalForm items other → one ≡ other
+  normal_same items one other (inl h) (inl k) = h.1 ∙ sym k.1
+  normal_same items one other (inl h) (inr k) = absurd (k.0 h.0)
+  normal_same items one other (inr h) (inl k) = absurd (h.0 k.0)
+  normal_same items one other (inr h) (inr k) = normal items one other h.1 k.1
+
+  pub normalized : (w : whose.Style) (path one other : List ℕ) → IsNormalized w path one → IsNormalized w path other → (items : List Item) → AreComponents w one items → AreComponents w other items
+  normalized w path one other h k items are =
+      let forms = normal_same h.items h.normal k.normal h.form (subst (λ x. IsNormalForm x k.normal) (list w path k.items h.items k.are h.are) k.form) in
+      let shown = shown_same w k.normal h.shown k.shown (subst (λ x. IsShielded w x h.shown) forms h.shielded) k.shielded in
+      subst (AreComponents w other) (sym shown ∙ list w one h.shown items h.answers are) k.answers
+
+module _ (list : OneList) (clean : (items one other : List Item) → CleansTo items one → CleansTo items other → one ≡ other) where
+  clean_same : (items one other : List Item) → IsCleanForm items one → IsCleanForm items other → one ≡ other
+  clean_same items one other (inl h) (inl k) = h.1 ∙ sym k.1
+  clean_same items one other (inl h) (inr k) = absurd (k.0 h.0)
+  clean_same items one other (inr h) (inl k) = absurd (h.0 k.0)
+  clean_same items one other (inr h) (inr k) =
+      let left : h.1.0 ≡ k.1.0 = sym (reverse-reverse h.1.0) ∙ ap reverse (clean (reverse items) (reverse h.1.0) (reverse k.1.0) h.1.1.0 k.1.1.0) ∙ reverse-reverse k.1.0 in
+      h.1.1.1 ∙ ap or_dot left ∙ sym k.1.1.1
+
+  pub cleaned : (w : whose.Style) (path one other : List ℕ) → IsCleaned w path one → IsCleaned w path other → (items : List Item) → AreComponents w one items → AreComponents w other items
+  cleaned w path one other h k items are =
+      let forms = clean_same h.items h.clean k.clean h.form (subst (λ x. IsCleanForm x k.clean) (list w path k.items h.items k.are h.are) k.form) in
+      let shown = shown_same w k.clean h.shown k.shown (subst (λ x. IsShielded w x h.shown) forms h.shielded) k.shielded in
+      subst (AreComponents w other) (sym shown ∙ list w one h.shown items h.answers are) k.answers
