@@ -2,7 +2,7 @@
 use Rattle.std.proofs.Common.{ℕ, List, Result, Ok, Err, subst}
 use Rattle.std.specs.Prelude.{IfOk, IsErr}
 use Rattle.path_rules.specs.declared.rules.Style as whose
-use Rattle.path_rules.specs.Checked.{IsCheckedJoin, LeadsOut, NamesReserved, AreFree}
+use Rattle.path_building.specs.Checked.{IsCheckedJoin, LeadsOut, NamesReserved, AreFree}
 use Rattle.test_path_uses.proofs.Joins.{OneList}
 
 module _ {X Y : Type 0} (view : X → List ℕ) (w : whose.Style) (base path : List ℕ) where

@@ -4,9 +4,9 @@ use Rattle.std.proofs.lemmas.List.{reverse-reverse}
 use Rattle.path_rules.specs.declared.rules.Style as whose
 use Rattle.path_rules.specs.Component.{Item}
 use Rattle.path_rules.specs.Components.{AreComponents}
-use Rattle.path_rules.specs.Normal.{AreNormalOf}
-use Rattle.path_rules.specs.Normalized.{IsNormalForm, IsNormalized, IsShielded}
-use Rattle.path_rules.specs.Cleaned.{CleansTo, IsCleanForm, IsCleaned, or_dot}
+use Rattle.path_building.specs.Normal.{AreNormalOf}
+use Rattle.path_building.specs.Normalized.{IsNormalForm, IsNormalized, IsShielded}
+use Rattle.path_building.specs.Cleaned.{CleansTo, IsCleanForm, IsCleaned, or_dot}
 use Rattle.test_path_uses.proofs.Joins.{OneList}
 
 shown_same : (w : whose.Style) (form one other : List Item) → IsShielded w form one → IsShielded w form other → one ≡ other

@@ -8,8 +8,9 @@ use Rattle.path_rules.specs.Component.{Item}
 use Rattle.path_rules.specs.Components.{AreComponents}
 use Rattle.path_rules.specs.Prefix.{Kind, IsPrefixOf}
 use Rattle.path_rules.specs.Root.{BeginsWithSeparator}
-use Rattle.path_rules.specs.Resolved.{IsResolved, with_items, written_all}
-use Rattle.path_rules.specs.Join.{IsJoin, IsPrefixed, IsVerbatimPath, IsRawPrefix, IsBetween, replacing, resolving, at_root, after}
+use Rattle.path_building.specs.Resolved.{IsResolved, with_items, written_all}
+use Rattle.path_rules.specs.Prefix.{IsPrefixed, IsRawPrefix}
+use Rattle.path_building.specs.Join.{IsJoin, IsVerbatimPath, IsBetween, replacing, resolving, at_root, after}
 
 -- a path has one prefix, and one list of components
 abbrev pub OnePrefix : Type 0

@@ -3,7 +3,7 @@ use Rattle.std.proofs.Common.{◌≡◌, inl, inr, ℕ, ◌+◌, Bool, true, fal
 use Rattle.path_rules.specs.declared.rules.Style as whose
 use Rattle.path_rules.specs.Component.{Item}
 use Rattle.path_rules.specs.Components.{AreComponents}
-use Rattle.path_rules.specs.Restyled.{IsFirstUnlike}
+use Rattle.path_building.specs.Restyled.{IsFirstUnlike}
 use Rattle.test_path_uses.proofs.Joins.{OneList}
 
 same_index : (w : whose.Style) (first : Bool) (items : List Item) (one other : ℕ) → IsFirstUnlike w first items one → IsFirstUnlike w first items other → one ≡ other

@@ -3,10 +3,11 @@ ghost use Rattle.std.specs.Prelude.{◌++◌, List, IfOk, IsErr};
 ghost use Rattle.platform_str.specs.Strings.{path_bytes, path_vec_of};
 ghost use Rattle.path_rules.specs.Component.{Item};
 ghost use Rattle.path_rules.specs.Components.{AreComponents};
-ghost use Rattle.path_rules.specs.Normalized.{IsNormalForm};
-ghost use Rattle.path_rules.specs.Checked.{BeginsBelow, LeadsOut, NamesReserved};
+ghost use Rattle.path_building.specs.Normalized.{IsNormalForm};
+ghost use Rattle.path_building.specs.Checked.{BeginsBelow, LeadsOut, NamesReserved};
 
 use os_path::{JoinError, PathExt, PathStyle};
+use path_building::laws as building;
 use path_rules::laws;
 use platform_str::{Path, PathBuf};
 use std::alloc::Allocator;
@@ -27,7 +28,7 @@ pub fn below<'a, E: PathStyle + 'a, A: Allocator + Copy>(
         → AreComponents E.follows (path_vec_of joined).items more → IsNormalForm items left
         → (names : List Item) × IsNormalForm more (left ++ names)) }
 {
-    laws::joined_below();
+    building::joined_below();
     base.join_checked(alloc, path)
 }
 

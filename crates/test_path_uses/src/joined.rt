@@ -7,9 +7,11 @@ ghost use Rattle.path_rules.specs.Root.{BeginsWithSeparator};
 ghost use Rattle.path_rules.specs.Component.{Item, Normal};
 ghost use Rattle.path_rules.specs.Components.{AreComponents, AreUnixComponents};
 ghost use Rattle.path_rules.specs.Compare.{HaveAlikeComponents};
-ghost use Rattle.path_rules.specs.Join.{IsPrefixed, IsVerbatimPath, IsRawPrefix, IsRelativeTo, HaveTheSamePrefix, without_dot};
+ghost use Rattle.path_rules.specs.Prefix.{IsPrefixed, IsRawPrefix};
+ghost use Rattle.path_building.specs.Join.{IsVerbatimPath, IsRelativeTo, HaveTheSamePrefix, without_dot};
 
 use os_path::{PathExt, PathStyle};
+use path_building::laws as building;
 use path_rules::laws;
 use platform_str::{OsStr, Path, PathBuf, Unix};
 use std::alloc::{AllocError, Allocator};
@@ -39,7 +41,7 @@ pub fn joined<'a, E: PathStyle + 'a, A: Allocator + Copy>(
         → (path_vec_of joined).items ≡ raw ++ path_bytes path.entry) }
 {
     laws::one_list();
-    laws::join_components();
+    building::join_components();
     base.join(alloc, path)
 }
 
@@ -56,7 +58,7 @@ pub fn joined_on_unix<A: Allocator + Copy>(
         → AreUnixComponents (path_bytes path.entry) more
         → AreUnixComponents (path_vec_of joined).items (items ++ without_dot more)) }
 {
-    laws::join_components();
+    building::join_components();
     base.join(alloc, path)
 }
 
@@ -69,7 +71,7 @@ pub fn parent_and_name<A: Allocator + Copy>(
         → AreUnixComponents (path_bytes path.entry) items
         → AreUnixComponents (path_vec_of joined).items items)) }
 {
-    laws::parent_joined();
+    building::parent_joined();
     let Some(parent) = path.parent() else {
         return Ok(None);
     };
@@ -92,7 +94,7 @@ pub fn base_and_rest<A: Allocator + Copy>(
         → AreUnixComponents (path_bytes path.entry) items
         → AreUnixComponents (path_vec_of joined).items items)) }
 {
-    laws::strip_joined();
+    building::strip_joined();
     let Some(rest) = path.strip_prefix(base) else {
         return Ok(None);
     };
@@ -117,7 +119,7 @@ pub fn parent_and_name_alone<'a, E: PathStyle + 'a, A: Allocator + Copy>(
         → (items : List Item) → AreComponents E.follows (path_bytes path.entry) items
         → AreComponents E.follows (path_vec_of parts.2).items items) }
 {
-    laws::parent_joined();
+    building::parent_joined();
     let Some(parent) = path.parent() else {
         return None;
     };
@@ -145,7 +147,7 @@ pub fn base_and_rest_alike<'a, E: PathStyle + 'a, A: Allocator + Copy>(
         → HaveTheSamePrefix E.follows (path_bytes base.entry) (path_vec_of parts.1).items
         → HaveAlikeComponents E.follows (path_bytes path.entry) (path_vec_of parts.1).items)) }
 {
-    laws::strip_joined();
+    building::strip_joined();
     let Some(rest) = path.strip_prefix(base) else {
         return None;
     };

@@ -3,9 +3,10 @@ ghost use Rattle.std.specs.Prelude.{◌↔◌, List, IsTrue, IfOk, IfSome};
 ghost use Rattle.platform_str.specs.Strings.{path_bytes, path_vec_of};
 ghost use Rattle.path_rules.specs.Component.{Item};
 ghost use Rattle.path_rules.specs.Components.{AreComponents};
-ghost use Rattle.path_rules.specs.Normalized.{IsNormalForm};
+ghost use Rattle.path_building.specs.Normalized.{IsNormalForm};
 
 use os_path::{NormalizeError, PathExt, PathStyle};
+use path_building::laws as building;
 use path_rules::laws;
 use platform_str::{Path, PathBuf};
 use std::alloc::{AllocError, Allocator};
@@ -20,8 +21,8 @@ pub fn normalized_twice<'a, E: PathStyle + 'a, A: Allocator + Copy>(
         → AreComponents E.follows (path_vec_of both.1).items items) }
 {
     laws::one_list();
-    laws::normal_forms();
-    laws::normalized_again();
+    building::normal_forms();
+    building::normalized_again();
     let once = path.normalize(alloc)?;
     let twice = once.as_path().normalize(alloc)?;
     Ok((once, twice))
@@ -37,8 +38,8 @@ pub fn cleaned_twice<'a, E: PathStyle + 'a, A: Allocator + Copy>(
         → AreComponents E.follows (path_vec_of both.1).items items) }
 {
     laws::one_list();
-    laws::clean_forms();
-    laws::cleaned_again();
+    building::clean_forms();
+    building::cleaned_again();
     let once = path.clean(alloc)?;
     let twice = once.as_path().clean(alloc)?;
     Ok((once, twice))

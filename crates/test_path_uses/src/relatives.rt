@@ -1,7 +1,7 @@
 //! How a path is reached from a base.
 ghost use Rattle.std.specs.Prelude.{IfOk, IfSome};
 ghost use Rattle.platform_str.specs.Strings.{path_bytes, path_vec_of};
-ghost use Rattle.path_rules.specs.Relative.{AreOnePlace};
+ghost use Rattle.path_building.specs.Relative.{AreOnePlace};
 
 use os_path::{PathExt, PathStyle};
 use path_rules::laws;

@@ -3,7 +3,7 @@ ghost use Rattle.std.specs.Prelude.{◌≡◌, ℕ, List, true, IfOk, IfErr};
 ghost use Rattle.platform_str.specs.Strings.{path_bytes, path_vec_of};
 ghost use Rattle.path_rules.specs.Component.{Item};
 ghost use Rattle.path_rules.specs.Components.{AreComponents};
-ghost use Rattle.path_rules.specs.Restyled.{IsFirstUnlike};
+ghost use Rattle.path_building.specs.Restyled.{IsFirstUnlike};
 
 use os_path::{ConvertError, PathExt, PathStyle};
 use path_rules::laws;

@@ -1,6 +1,6 @@
 use Rattle.std.proofs.Common.{subst}
 use Rattle.path_rules.specs.declared.rules.Style.TheVariants.{Unix}
-use Rattle.path_rules.specs.Join.{IsJoin}
+use Rattle.path_building.specs.Join.{IsJoin}
 use Rattle.platform_str.specs.Strings.{path_bytes, path_vec_of}
 use Rattle.test_path_uses.proofs.joined.parent_and_name.Goals as goal
 

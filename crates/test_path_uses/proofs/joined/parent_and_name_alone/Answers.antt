@@ -1,5 +1,5 @@
 use Rattle.std.proofs.Common.{subst}
-use Rattle.path_rules.specs.Join.{IsJoin}
+use Rattle.path_building.specs.Join.{IsJoin}
 use Rattle.platform_str.specs.Strings.{path_bytes, path_vec_of}
 use Rattle.test_path_uses.proofs.joined.parent_and_name_alone.Goals as goal
 

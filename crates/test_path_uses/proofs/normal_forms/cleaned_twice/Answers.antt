@@ -1,6 +1,6 @@
 use Rattle.std.proofs.Common.{subst}
 use Rattle.platform_str.specs.Strings.{path_bytes, path_vec_of}
-use Rattle.path_rules.specs.Cleaned.{IsCleaned}
+use Rattle.path_building.specs.Cleaned.{IsCleaned}
 use Rattle.test_path_uses.proofs.Forms.{cleaned}
 use Rattle.test_path_uses.proofs.normal_forms.cleaned_twice.Goals as goal
 

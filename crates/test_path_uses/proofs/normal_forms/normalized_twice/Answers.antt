@@ -1,6 +1,6 @@
 use Rattle.std.proofs.Common.{subst}
 use Rattle.platform_str.specs.Strings.{path_bytes, path_vec_of}
-use Rattle.path_rules.specs.Normalized.{IsNormalized}
+use Rattle.path_building.specs.Normalized.{IsNormalized}
 use Rattle.test_path_uses.proofs.Forms.{normalized}
 use Rattle.test_path_uses.proofs.normal_forms.normalized_twice.Goals as goal
 

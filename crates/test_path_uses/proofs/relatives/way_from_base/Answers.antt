@@ -1,7 +1,7 @@
 use Rattle.std.proofs.Common.{subst}
 use Rattle.platform_str.specs.Strings.{path_bytes, path_vec_of}
-use Rattle.path_rules.specs.Join.{IsJoin}
-use Rattle.path_rules.specs.Relative.{AreOnePlace}
+use Rattle.path_building.specs.Join.{IsJoin}
+use Rattle.path_building.specs.Relative.{AreOnePlace}
 use Rattle.test_path_uses.proofs.Joins.{one_join}
 use Rattle.test_path_uses.proofs.relatives.way_from_base.Goals as goal
 
