@@ -21,6 +21,7 @@ pub mod Tails
 pub mod Strips
 pub mod Begins
 pub mod KeyLists
+pub mod Shared
 pub mod KeyAlike
 pub mod Simple
 pub mod Divides

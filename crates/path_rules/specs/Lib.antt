@@ -19,5 +19,6 @@ pub mod Strip
 pub mod Taken
 pub mod Keys
 pub mod KeyLaws
+pub mod Shared
 pub mod Simplified
 pub mod Divided

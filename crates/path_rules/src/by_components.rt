@@ -1,5 +1,5 @@
 //! Paths that are compared by their components.
-ghost use Rattle.std.specs.Prelude.{◌≡◌, ◌∷◌, [], Some, refl};
+ghost use Rattle.std.specs.Prelude.{◌≡◌, ◌∷◌, [], true, Some, refl};
 ghost use Rattle.std.specs.Ordering.{is_eq};
 ghost use Rattle.std.specs.Cmp.{eq_by_cmp_equiv, partial_order_from_total, partial_equiv_from_equiv};
 ghost use Rattle.std.specs.Prelude.{fold};
@@ -7,12 +7,16 @@ ghost use Rattle.path_rules.specs.Views.{item_of};
 ghost use Rattle.path_rules.specs.Heads.{items_of};
 ghost use Rattle.path_rules.specs.PrefixViews.{kind_of};
 ghost use Rattle.path_rules.specs.Keys.{HasKeys, keys_of, keys_cmp, key_cmp, item_key, item_keys, rank_of, letter_of, name_of, share_of, keys_writes, kind_keys, IsPrefixOption};
+ghost use Rattle.path_rules.specs.Component.{components_in};
+ghost use Rattle.path_rules.specs.Shared.{StartAlike};
 ghost use Rattle.path_rules.specs.KeyLaws.{by_keys_total, hashes_alike};
 
+use crate::body::next_in;
 use crate::component::Component;
 use crate::head::{Head, Start, head_of};
 use crate::prefix::{Prefix, windows_prefix};
 use crate::rules::{Rules, Style};
+use crate::shared::after_shared;
 use crate::stripped::first_of;
 use std::cmp::Ordering;
 use std::hash::{Hash, Hasher};
@@ -95,8 +99,70 @@ fn prefix_of(style: Style, path: &[u8]) -> Option<Prefix<&[u8]>>
     }
 }
 
-/// The order of two lists of components.
+/// The order of two lists of components. Where both start alike, those are left out that the same
+/// bytes spell.
 fn compare_items(a: Head<'_>, b: Head<'_>) -> Ordering
+    ensures { result ≡ keys_cmp (item_keys (items_of a.entry)) (item_keys (items_of b.entry)) }
+{
+    if !start_alike(a, b) {
+        return walk_items(a, b);
+    }
+    match after_shared(a.rules, a.body, b.body) {
+        Some((left, right)) => walk_bodies(a.rules, left, right),
+        None => Ordering::Equal,
+    }
+}
+
+/// Whether neither has a prefix, and both have the same rules and start.
+#[inline(always)]
+fn start_alike(a: Head<'_>, b: Head<'_>) -> bool
+    ensures { result ≡ true → StartAlike a.entry b.entry }
+{
+    a.prefix.is_empty()
+        && b.prefix.is_empty()
+        && a.rules == b.rules
+        && is_same_start(a.start, b.start)
+}
+
+#[inline(always)]
+fn is_same_start(a: Start, b: Start) -> bool
+    ensures { result ≡ true → b ≡ a }
+{
+    match a {
+        Start::Root => matches!(b, Start::Root),
+        Start::Dot => matches!(b, Start::Dot),
+        Start::Nothing => matches!(b, Start::Nothing),
+    }
+}
+
+/// The order of the components of two bodies.
+fn walk_bodies(rules: Rules, a: &[u8], b: &[u8]) -> Ordering
+    ensures { result ≡ keys_cmp (item_keys (components_in rules a.entry.now)) (item_keys (components_in rules b.entry.now)) }
+{
+    let mut left = a;
+    let mut right = b;
+    loop {
+        let Some((x, left_more)) = next_in(rules, left) else {
+            return match next_in(rules, right) {
+                Some(_) => Ordering::Less,
+                None => Ordering::Equal,
+            };
+        };
+        let Some((y, right_more)) = next_in(rules, right) else {
+            return Ordering::Greater;
+        };
+        match compare_components(x, y) {
+            Ordering::Equal => {}
+            Ordering::Less => return Ordering::Less,
+            Ordering::Greater => return Ordering::Greater,
+        }
+        left = left_more;
+        right = right_more;
+    }
+}
+
+/// The order of two lists of components, one by one.
+fn walk_items(a: Head<'_>, b: Head<'_>) -> Ordering
     ensures { result ≡ keys_cmp (item_keys (items_of a.entry)) (item_keys (items_of b.entry)) }
 {
     let mut left = a;

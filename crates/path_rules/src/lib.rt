@@ -32,6 +32,7 @@ mod prefix;
 mod reserved;
 mod root;
 mod rules;
+mod shared;
 mod simplify;
 mod stripped;
 mod trailing;

@@ -1,6 +1,5 @@
 -- The bytes of a path are its components and gaps by turns.
 use Rattle.std.proofs.Common.{◌≡◌, ◌⊎◌, inl, inr, ◌<◌, ℕ, Bool, true, false, ◌&&◌, ◌||◌, nat_eq, if◌then◌else◌, List, [], ◌∷◌, ◌++◌, Option, Some, None, refl, sym, ap, ◌∙◌, subst, arith, append_assoc, append-nil, eqb-true, lit<}
-use Rattle.std.specs.List.{AllByRecursion}
 use Rattle.std.proofs.lemmas.List.{append_cancel_right}
 use Rattle.std.proofs.lemmas.List.Elements.{All-append, All-cons}
 use Rattle.path_rules.specs.declared.rules.Rules.{Rules}
@@ -10,10 +9,10 @@ use Rattle.path_rules.specs.declared.rules.Style.TheVariants as style
 use Rattle.path_rules.specs.declared.head.Start.{Start}
 use Rattle.path_rules.specs.declared.head.Start.TheVariants.{Root, Dot, Nothing}
 use Rattle.path_rules.specs.Separators.{separates, IsPlain, Edge}
-use Rattle.path_rules.specs.Component.{Item, Prefix, RootDir, CurDir, ParentDir, Normal, dot, named, components_in}
+use Rattle.path_rules.specs.Component.{Item, RootDir, CurDir, ParentDir, Normal, dot, named, components_in}
 use Rattle.path_rules.specs.Cut.{IsAsciiCut, at_start, at_end, before_ascii, after_ascii}
 use Rattle.path_rules.specs.Heads.{start_items}
-use Rattle.path_rules.specs.Prefix.{Kind, Verbatim, VerbatimUnc, VerbatimDisk, Device, Unc, Disk, IsPrefixOf, rules_of}
+use Rattle.path_rules.specs.Prefix.{Kind, Verbatim, VerbatimUnc, VerbatimDisk, Device, Unc, Disk, rules_of}
 use Rattle.path_rules.specs.Components.{start_of, after_start, plain_components, implied_root, root_of, after_root, AreComponents, prefixed, bare}
 use Rattle.path_rules.specs.Divided.{part_of, is_between, IsGap, IsDivided}
 use Rattle.path_rules.proofs.lemmas.Ascii.{ascii_separators}
