@@ -4,6 +4,7 @@ pub mod Forms
 pub mod HiddenBelow
 pub mod Joins
 pub mod Names
+pub mod PathEnds
 pub mod PathParts
 pub mod KnownPrefix
 pub mod OtherStyle

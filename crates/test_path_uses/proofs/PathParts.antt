@@ -1,14 +1,16 @@
 -- What the contracts of paths say together.
-use Rattle.std.proofs.Common.{◌≡◌, ◌<◌, inl, inr, true, ℕ, List, [], ◌∷◌, ◌++◌, length, Option, Some, None, MatchOption, refl, sym, ap, ◌∙◌, subst, take, drop}
+use Rattle.std.proofs.Common.{◌≡◌, ◌<◌, inl, inr, true, ℕ, List, [], ◌∷◌, ◌++◌, length, Option, Some, None, MatchOption, refl, sym, ap, ◌∙◌, subst, take, drop, append-nil}
 use Rattle.std.specs.Prelude.{IfSome, is_some}
 use Rattle.std.proofs.lemmas.List.{same_from_push, take_at}
 use Rattle.path_rules.specs.Cut.{IsAsciiCut}
 use Rattle.path_rules.specs.declared.rules.Style.{Style}
+use Rattle.std.specs.List.{flat_map}
 use Rattle.path_rules.specs.Component.{Item, Prefix, RootDir, CurDir, ParentDir, Normal}
 use Rattle.path_rules.specs.Components.{AreComponents}
 use Rattle.path_rules.specs.Parent.{IsTop, IsBelow, IsParent, HasNoParent, HasFileName}
 use Rattle.path_rules.specs.Name.{IsExtension, IsStem}
 use Rattle.os_path.specs.Names.{HasFileStem, HasExtension}
+use Rattle.os_path.specs.Divided.{AreParts}
 
 push_some : (xs : List Item) (x : Item) → xs ++ x ∷ [] ≡ [] → ⊥
 push_some [] x e = cc
@@ -81,3 +83,14 @@ pub has_parent : {X : Type 0} (view : X → List ℕ) (w : Style) (s : List ℕ)
     → AreComponents w s (items ++ last ∷ []) → IsBelow last → is_some r ≡ true
 has_parent view w s None h items last are below = absurd (not_both last (h items last are) below)
 has_parent view w s (Some x) h items last are below = refl
+
+-- the units around the name of a path that is a name alone
+pub around_name : (units : List ℕ → List ℕ) (path name : List ℕ) → (parts : List (List ℕ)) × AreParts units path (Normal name ∷ []) parts
+    → (before : List ℕ) × ((after : List ℕ) × (units path ≡ units before ++ (units name ++ units after)))
+around_name units path name (parts, h) =
+    let turns = h.turns in
+    let gap = turns.0 in
+    let more = turns.1.0 in
+    let last = turns.1.1.1.1.0 in
+    let are : parts ≡ gap ∷ name ∷ last ∷ [] = turns.1.1.1.0 ∙ ap (λ x. gap ∷ name ∷ x) turns.1.1.1.1.1.1 in
+    (gap, (last, h.in_units ∙ ap (flat_map units) are ∙ ap (λ x. units gap ++ (units name ++ x)) (append-nil (units last))))

@@ -10,6 +10,7 @@ pub mod comparisons;
 pub mod ignored;
 pub mod joined;
 pub mod normal_forms;
+pub mod path_ends;
 pub mod path_parts;
 pub mod prefixes;
 pub mod relatives;

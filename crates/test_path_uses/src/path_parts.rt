@@ -1,7 +1,7 @@
 //! Paths taken apart: what their components, parents and names have to do with each other.
 ghost use Rattle.std.specs.Prelude.{◌≡◌, ◌++◌, ◌∷◌, ◌<◌, [], ℕ, List, IsTrue, IfSome, length};
 ghost use Rattle.platform_str.specs.Strings.{bytes, path_bytes};
-ghost use Rattle.path_rules.specs.Component.{Item};
+ghost use Rattle.path_rules.specs.Component.{Item, Normal};
 ghost use Rattle.path_rules.specs.Components.{AreComponents};
 ghost use Rattle.path_rules.specs.Parent.{IsBelow, HasFileName};
 
@@ -80,4 +80,14 @@ pub fn prefix_of_units<'a, E: PathStyle + 'a>(path: Path<'a, E>) -> Option<Path<
     platform_str::laws::cuts::<E>();
     let _raw = path.path_bytes();
     path.parent()
+}
+
+/// The bytes of a path, whose units, if it has a name alone, are the name's with others around.
+pub fn around_name<'a, E: PathStyle + 'a>(path: Path<'a, E>) -> &'a [u8]
+    ensures { (name : List ℕ) → AreComponents E.follows result.now (Normal name ∷ [])
+        → (before : List ℕ) × ((after : List ℕ)
+        × (E.units result.now ≡ E.units before ++ (E.units name ++ E.units after))) }
+{
+    os_path::laws::component_units::<E>();
+    path.path_bytes()
 }

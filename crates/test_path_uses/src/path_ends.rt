@@ -1,0 +1,36 @@
+//! Paths with a separator at their end.
+ghost use Rattle.std.specs.Prelude.{◌≡◌, ◌≢◌, [], List, IfOk};
+ghost use Rattle.platform_str.specs.Strings.{path_bytes, path_vec_of};
+ghost use Rattle.path_rules.specs.Component.{Item};
+ghost use Rattle.path_rules.specs.Components.{AreComponents};
+ghost use Rattle.path_rules.specs.StyleRules.{rules_of_style};
+ghost use Rattle.path_rules.specs.Trailing.{EndsWithSeparator};
+ghost use Rattle.path_building.specs.Checked.{IsVerbatimAlone};
+ghost use Rattle.path_building.specs.Join.{IsDriveAlone, HaveTheSamePrefix};
+
+use os_path::{PathExt, PathStyle};
+use path_building::laws;
+use platform_str::{Path, PathBuf};
+use std::alloc::{AllocError, Allocator};
+
+/// The path with a separator at its end, which it has unless the path is empty or a drive alone,
+/// which changes nothing where the path has one, and which names nothing.
+pub fn ended<'a, E: PathStyle + 'a, A: Allocator + Clone>(
+    alloc: A,
+    path: Path<'a, E>,
+) -> Result<PathBuf<E, A>, AllocError>
+    ensures ends { IfOk result (λ ended. path_bytes path.entry ≢ []
+        → ¬ (IsDriveAlone E.follows (path_bytes path.entry))
+        → EndsWithSeparator (rules_of_style E.follows) (path_vec_of ended).items) }
+    ensures kept { IfOk result (λ ended.
+        EndsWithSeparator (rules_of_style E.follows) (path_bytes path.entry)
+        → (path_vec_of ended).items ≡ path_bytes path.entry) }
+    ensures items { IfOk result (λ ended.
+        HaveTheSamePrefix E.follows (path_bytes path.entry) (path_vec_of ended).items
+        → ¬ (IsVerbatimAlone E.follows (path_bytes path.entry)) → (items : List Item)
+        → AreComponents E.follows (path_bytes path.entry) items
+        → AreComponents E.follows (path_vec_of ended).items items) }
+{
+    laws::trailing_separators();
+    path.with_trailing_sep(alloc)
+}
