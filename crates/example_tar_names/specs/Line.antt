@@ -1,0 +1,48 @@
+-- What the program prints for the name of an entry, and for all.
+use Rattle.std.specs.Prelude.{◌≡◌, ◌⊎◌, ℕ, Bool, true, false, ◌||◌, List, [], ◌∷◌, ◌++◌, codes, Option, None}
+use Rattle.os_quote.specs.Escape.{IsLineEscape}
+use Rattle.path_rules.specs.declared.rules.Style.TheVariants.{Unix}
+use Rattle.path_building.specs.declared.checked.JoinError.{JoinError}
+use Rattle.path_building.specs.declared.checked.JoinError.TheVariants.{Prefix, Root, Leaves, Stream, Reserved, Base, Memory}
+use Rattle.path_building.specs.Checked.{IsCheckedJoin, IsJoinFault}
+use Rattle.tar_names.specs.declared.fault.TarFault.{TarFault}
+use Rattle.tar_names.specs.Names.{AreNames}
+
+-- the folder in which the archive is unpacked
+abbrev pub folder : List ℕ
+folder = codes "."
+
+-- what follows a name that is refused; on Unix it is for its root, or since it leaves the folder
+abbrev pub reason_of : JoinError → List ℕ
+reason_of Prefix = codes ": refused, it has a prefix\n"
+reason_of Root = codes ": refused, it has a root\n"
+reason_of Leaves = codes ": refused, it leaves the folder\n"
+reason_of Stream = codes ": refused, it has a stream\n"
+reason_of Reserved = codes ": refused, it is reserved\n"
+reason_of Base = codes ": refused, it would be a part of a prefix\n"
+reason_of Memory = codes ": refused\n"
+
+-- what follows the name on its line, and whether it is refused: nothing where it stays below the folder
+abbrev pub IsVerdict : List ℕ → List ℕ → Bool → Type 0
+IsVerdict name after refused =
+    ((refused ≡ false) × ((after ≡ codes "\n") × ((joined : List ℕ) × IsCheckedJoin Unix folder name joined)))
+    ⊎ ((refused ≡ true) × ((error : JoinError) × ((after ≡ reason_of error) × IsJoinFault Unix folder name error)))
+
+-- the line of a name: its escape on one line, and the verdict
+pub record IsLine (name line : List ℕ) (refused : Bool) : Type 0 where
+  pub text : List ℕ
+  pub after : List ℕ
+  pub joined : line ≡ text ++ after
+  pub escape : IsLineEscape (λ b. b) name text
+  pub verdict : IsVerdict name after refused
+
+-- the lines of names, and whether one is refused
+pub data AreLines : List (List ℕ) → List ℕ → Bool → Type 0 where
+  none : AreLines [] [] false
+  more : {name line lines : List ℕ} {names : List (List ℕ)} {refused others : Bool} → IsLine name line refused → AreLines names lines others → AreLines (name ∷ names) (line ++ lines) (refused || others)
+
+-- what is printed of an archive up to its end or its first fault, and whether a name is refused
+pub record IsReport (archive output : List ℕ) (refused : Bool) (end : Option TarFault) : Type 0 where
+  pub names : List (List ℕ)
+  pub are : AreNames None None archive names end
+  pub lines : AreLines names output refused

@@ -1,0 +1,68 @@
+//! What keeps the program from status 0.
+ghost use Rattle.std.specs.Prelude.{◌≡◌};
+ghost use Rattle.example_tar_names.specs.declared.fault.Fault.TheVariants.{Stopped};
+
+use program_frame::ended::ProgramFault;
+use program_frame::fault::Failure;
+use std::fmt;
+use std::fmt::Display as _;
+use tar_names::TarFault;
+
+/// What keeps the program from status 0.
+#[derive(Clone, Copy, PartialEq, Eq)]
+pub enum Fault {
+    /// A name would leave the folder.
+    Refused,
+    /// The archive has a fault.
+    Archive(TarFault),
+    /// The run couldn't go on.
+    Stopped(Failure),
+}
+
+impl fmt::Display for Fault {
+    ghost use Rattle.std.specs.Prelude.{Some};
+    ghost use Rattle.example_tar_names.specs.Fault.{text_of};
+
+    ghost output = { λ fault. Some (text_of fault) };
+
+    ghost styled_output = { λ fault _. Some (text_of fault) };
+
+    fn fmt<W: fmt::Write>(&self, f: &mut fmt::Formatter<W>) -> fmt::Result {
+        match *self {
+            Fault::Refused => f.write_str("a name is refused"),
+            Fault::Archive(TarFault::CutOff) => f.write_str("the archive is cut off"),
+            Fault::Archive(TarFault::Sum) => f.write_str("the sum in a header is wrong"),
+            Fault::Archive(TarFault::Size) => f.write_str("the size in a header is no number"),
+            Fault::Archive(TarFault::Record) => f.write_str("a record of pax is none"),
+            Fault::Archive(TarFault::TooLong) => f.write_str("a name is too long"),
+            Fault::Stopped(failure) => failure.fmt(f),
+        }
+    }
+}
+
+impl ProgramFault for Fault {
+    ghost use Rattle.std.specs.Prelude.{refl};
+    ghost use Rattle.example_tar_names.specs.Fault.{text_of, status_of};
+
+    ghost text_of = { text_of };
+
+    ghost status_of = { status_of };
+
+    ghost printed = { λ _. refl };
+
+    fn status(&self) -> u8 {
+        match self {
+            Fault::Refused => 1,
+            Fault::Archive(_) => 2,
+            Fault::Stopped(failure) => failure.status(),
+        }
+    }
+}
+
+impl From<Failure> for Fault {
+    ghost from_gives = { λ failure fault. fault ≡ Stopped failure };
+
+    fn from(failure: Failure) -> Fault {
+        Fault::Stopped(failure)
+    }
+}
