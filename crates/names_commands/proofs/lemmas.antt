@@ -1,2 +1,3 @@
 pub mod Lines
 pub mod Back
+pub mod Picked

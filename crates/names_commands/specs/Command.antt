@@ -1,8 +1,9 @@
 -- The words that ask for each command, and what it does with each item.
-use Rattle.std.specs.Prelude.{◌≡◌, ◌⊎◌, ℕ, ◌<◌, ◌^◌, false, List, [], ◌∷◌, codes}
+use Rattle.std.specs.Prelude.{◌≡◌, ◌⊎◌, ℕ, ◌<◌, ◌^◌, List, [], ◌∷◌, codes}
 use Rattle.std.specs.Str.Parse.{IsNumeral, digits_value, without_leading_plus}
-use Rattle.os_glob.specs.declared.options.GlobOptions.{GlobOptions}
-use Rattle.os_glob.specs.declared.options.Separators.TheVariants.{Slash, SlashAndBackslash}
+use Rattle.glob_patterns.specs.declared.options.GlobOptions.{GlobOptions}
+use Rattle.glob_patterns.specs.Options.{usual_options}
+use Rattle.wildcards.specs.declared.separators.Separators.TheVariants.{Slash, SlashAndBackslash}
 use Rattle.program_frame.specs.Os.{os_word}
 use Rattle.program_frame.specs.declared.os.Os.{Os}
 use Rattle.program_frame.specs.declared.os.Os.TheVariants.{Unix, Windows, Wasm}
@@ -35,6 +36,6 @@ AsksFor words r =
 
 -- how a pattern is matched on the platform: `\` is a separator on Windows alone
 abbrev pub options_of : Os → GlobOptions
-options_of Unix = record { separators = Slash; literal_leading_dot = false }
-options_of Windows = record { separators = SlashAndBackslash; literal_leading_dot = false }
-options_of Wasm = record { separators = Slash; literal_leading_dot = false }
+options_of Unix = usual_options Slash
+options_of Windows = usual_options SlashAndBackslash
+options_of Wasm = usual_options Slash

@@ -1,6 +1,7 @@
 -- The text of each reason why an item or the words are refused.
 use Rattle.std.specs.Prelude.{ℕ, List, ◌++◌, codes}
-use Rattle.os_glob.specs.ErrorText as glob
+use Rattle.glob_patterns.specs.ErrorText as glob
+use Rattle.glob_patterns.specs.declared.error.GlobError.TheVariants as glob_error
 use Rattle.os_quote.specs.ErrorText.{error_text}
 use Rattle.os_quote.specs.declared.error.QuoteError.TheVariants as quote
 use Rattle.os_str_bytes.specs.FaultText.{fault_text}
@@ -19,4 +20,4 @@ refusal_text HasNul = codes "the name has a NUL"
 -- what the program prints of the reason why its words are refused
 abbrev pub words_text : CommandFault → List ℕ
 words_text Usage = codes "usage: names [--max N] list|filter|join|check unix|windows|wasm [GLOB]; names --help tells more"
-words_text (Pattern why) = codes "pattern: " ++ glob.error_text why
+words_text (Pattern why) = codes "pattern: " ++ glob.error_text (glob_error.Pattern why)

@@ -1,4 +1,5 @@
 pub mod Task
+pub mod Matching
 pub mod Fault
 pub mod Command
 pub mod Program

@@ -1,36 +1,30 @@
 -- What is written for an item, and why it is refused.
-use Rattle.std.specs.Prelude.{◌≡◌, ◌⊎◌, ℕ, ◌*◌, ◌≤◌, ◌<◌, List, [], ◌∷◌, ◌++◌, length}
+use Rattle.std.specs.Prelude.{◌≡◌, ℕ, ◌*◌, ◌≤◌, ◌<◌, List, [], ◌∷◌, ◌++◌, length}
 use Rattle.std.specs.Str.{IsUtf8}
 use Rattle.os_str_bytes.specs.EncodingError.{EncodingError}
 use Rattle.os_str_bytes.specs.Platform.{Ghosts}
 use Rattle.os_str_bytes.specs.WasmLaws.{IsTextFault}
-use Rattle.os_str_bytes.specs.Symbols.{symbols_of}
 use Rattle.os_quote.specs.Escape.{IsLineEscape, IsLineFault}
 use Rattle.os_quote.specs.declared.error.QuoteError.{QuoteError}
 use Rattle.os_quote.specs.declared.error.QuoteError.TheVariants as quote
-use Rattle.os_glob.specs.Match.{IsMatch}
 use Rattle.program_frame.specs.Items.{Lacks}
 use Rattle.program_frame.specs.Rules.{ListRules}
 use Rattle.names_commands.specs.declared.fault.Refusal.{Refusal}
 use Rattle.names_commands.specs.declared.fault.Refusal.TheVariants as refusal
 use Rattle.names_commands.specs.declared.task.Task.{Task}
 use Rattle.names_commands.specs.declared.task.LastLine.TheVariants.{MustEnd, MayLackEnd}
-use Rattle.names_commands.specs.declared.task.Task.TheVariants.{ListAll, ListMatching, Filter, Check, Join}
+use Rattle.names_commands.specs.declared.task.Task.TheVariants.{ListAll, Check, Join}
 use Rattle.names_commands.specs.declared.task.Settings.{Settings}
 
 -- the byte that ends an item
 abbrev pub end_of : Task → ℕ
 end_of ListAll = 0
-end_of (ListMatching options glob) = 0
-end_of (Filter options glob) = 0
 end_of Check = 0
 end_of (Join last) = 0x0A
 
 -- the last item may lack the byte that ends it: a name may, and a line where that was asked for
 abbrev pub TakesUnended : Task → Type 0
 TakesUnended ListAll = Unit {0}
-TakesUnended (ListMatching options glob) = Unit {0}
-TakesUnended (Filter options glob) = Unit {0}
 TakesUnended Check = Unit {0}
 TakesUnended (Join MustEnd) = ⊥
 TakesUnended (Join MayLackEnd) = Unit {0}
@@ -38,8 +32,6 @@ TakesUnended (Join MayLackEnd) = Unit {0}
 -- how long an item may be where a name may have `max` bytes: for each of them an escape has at most six
 abbrev pub longest : Task → ℕ → ℕ
 longest ListAll max = max
-longest (ListMatching options glob) max = max
-longest (Filter options glob) max = max
 longest Check max = max
 longest (Join last) max = 6 * max
 
@@ -61,46 +53,30 @@ module _ {E : Type 0} (p : Ghosts E) where
   -- this is written for an item that isn't refused
   abbrev pub IsText : Task → ℕ → List ℕ → List ℕ → Type 0
   IsText ListAll max name text = p.well_formed name × IsLine name text
-  IsText (ListMatching options glob) max name text =
-      p.well_formed name
-      × ((IsMatch options glob.now (symbols_of p.units name) × IsLine name text)
-      ⊎ ((¬ (IsMatch options glob.now (symbols_of p.units name))) × (text ≡ [])))
-  IsText (Filter options glob) max name text =
-      p.well_formed name
-      × ((IsMatch options glob.now (symbols_of p.units name) × (text ≡ name ++ 0 ∷ []))
-      ⊎ ((¬ (IsMatch options glob.now (symbols_of p.units name))) × (text ≡ [])))
   IsText Check max name text = p.well_formed name × (text ≡ [])
   IsText (Join last) max line text = (name : List ℕ) × IsNameOf max line name × (Lacks 0 name × (text ≡ name ++ 0 ∷ []))
 
   -- the first fault of a name that is no string; of a line that isn't UTF-8
   abbrev pub HasFault : Task → List ℕ → EncodingError → Type 0
   HasFault ListAll name error = p.first_fault name error
-  HasFault (ListMatching options glob) name error = p.first_fault name error
-  HasFault (Filter options glob) name error = p.first_fault name error
   HasFault Check name error = p.first_fault name error
   HasFault (Join last) line error = IsTextFault line error
 
   -- why a line is the escape of no string
   abbrev pub HasBadQuote : Task → List ℕ → QuoteError → Type 0
   HasBadQuote ListAll name error = ⊥
-  HasBadQuote (ListMatching options glob) name error = ⊥
-  HasBadQuote (Filter options glob) name error = ⊥
   HasBadQuote Check name error = ⊥
   HasBadQuote (Join last) line error = IsUtf8 line × IsLineFault p.well_formed p.units line error
 
   -- a line is the escape of a name with a NUL
   abbrev pub IsOfNul : Task → ℕ → List ℕ → Type 0
   IsOfNul ListAll max name = ⊥
-  IsOfNul (ListMatching options glob) max name = ⊥
-  IsOfNul (Filter options glob) max name = ⊥
   IsOfNul Check max name = ⊥
   IsOfNul (Join last) max line = (name : List ℕ) × IsNameOf max line name × (¬ (Lacks 0 name))
 
   -- a line is the escape of a name of more than `max` bytes
   abbrev pub IsOfLong : Task → ℕ → List ℕ → Type 0
   IsOfLong ListAll max name = ⊥
-  IsOfLong (ListMatching options glob) max name = ⊥
-  IsOfLong (Filter options glob) max name = ⊥
   IsOfLong Check max name = ⊥
   IsOfLong (Join last) max line = (name : List ℕ) × p.well_formed name × (IsLineEscape p.units name line × (max < length name))
 

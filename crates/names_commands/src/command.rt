@@ -6,7 +6,7 @@ ghost use Rattle.names_commands.specs.Command.{words_of, AsksFor, IsLimit, optio
 
 use crate::fault::CommandFault;
 use crate::task::LastLine;
-use os_glob::{GlobOptions, Separators};
+use glob_patterns::{GlobOptions, Separators};
 use program_frame::os::Os;
 
 /// How many bytes a name may have where the words don't say.
@@ -172,11 +172,8 @@ impl<'a> Command<'a> {
 pub(crate) fn options_of(os: Os) -> GlobOptions
     ensures { result ≡ options_of os }
 {
-    GlobOptions {
-        separators: match os {
-            Os::Unix | Os::Wasm => Separators::Slash,
-            Os::Windows => Separators::SlashAndBackslash,
-        },
-        literal_leading_dot: false,
-    }
+    GlobOptions::new(match os {
+        Os::Unix | Os::Wasm => Separators::Slash,
+        Os::Windows => Separators::SlashAndBackslash,
+    })
 }

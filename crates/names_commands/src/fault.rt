@@ -1,6 +1,6 @@
 //! What keeps the program from its output.
 
-use os_glob::GlobError;
+use glob_patterns::{GlobError, PatternFault};
 use os_quote::QuoteError;
 use os_str_bytes::EncodingError;
 use program_frame::lists::fault::ItemRefusal;
@@ -28,7 +28,7 @@ pub enum CommandFault {
     /// They ask for no command.
     Usage,
     /// The pattern is refused: its first fault.
-    Pattern(GlobError),
+    Pattern(PatternFault),
 }
 
 /// The reason why a run of the program ended before its input did.
@@ -75,7 +75,7 @@ impl WordsRefusal for CommandFault {
             ),
             CommandFault::Pattern(why) => {
                 f.write_str("pattern: ")?;
-                why.fmt(f)
+                GlobError::Pattern(why).fmt(f)
             }
         }
     }

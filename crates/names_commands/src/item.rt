@@ -9,9 +9,12 @@ ghost use Rattle.names_commands.specs.declared.fault.Refusal.TheVariants.{NoStri
 ghost use Rattle.names_commands.specs.declared.task.Task.TheVariants.{Join};
 ghost use Rattle.names_commands.specs.declared.task.LastLine.{LastLine};
 ghost use Rattle.names_commands.specs.Task.{longest_item, rules_of, IsText};
+ghost use Rattle.names_commands.specs.Matching.{picking, IsTextOfPicked, IsMatchedBy};
 
 use crate::fault::Refusal;
+use crate::matching::Form;
 use crate::task::{Settings, Task};
+use glob_patterns::Glob;
 use os_quote::{QuoteError, unescape_line};
 use os_str_bytes::{OsStr, Platform, Wasm};
 use program_frame::lists::fault::ItemFault;
@@ -22,16 +25,16 @@ use std::alloc::Allocator;
 /// Appends what is written for an item.
 pub fn write_item<E: Platform, A: Allocator + Copy>(
     alloc: A,
-    settings: Settings<'_, '_>,
+    settings: Settings,
     item: &[u8],
     output: &mut Vec<u8, A>,
 ) -> Result<(), ItemFault<Refusal>>
     requires { length item.now ≤ longest_item settings }
     ensures ok { OnOk result ((text : List ℕ)
-        × (IsText ⟦<E as Platform>⟧ settings.entry.task settings.entry.max item.now text
+        × (IsText ⟦<E as Platform>⟧ settings.task settings.max item.now text
         × (output.new.items ≡ output.old.items ++ text))) }
     ensures fault { IfErr result (λ fault.
-        IsItemFault (rules_of ⟦<E as Platform>⟧ settings.entry) item.now fault) }
+        IsItemFault (rules_of ⟦<E as Platform>⟧ settings) item.now fault) }
     ensures unchanged { OnErr result (output.new.items ≡ output.old.items) }
 {
     match settings.task {
@@ -39,31 +42,40 @@ pub fn write_item<E: Platform, A: Allocator + Copy>(
             Ok(name) => write_line::<E, A>(alloc, name, output),
             Err(fault) => Err(fault),
         },
-        Task::ListMatching(options, glob) => match named::<E>(item) {
-            Ok(name) => {
-                if glob.is_match(options, name) {
-                    write_line::<E, A>(alloc, name, output)
-                } else {
-                    Ok(())
-                }
-            }
-            Err(fault) => Err(fault),
-        },
-        Task::Filter(options, glob) => match named::<E>(item) {
-            Ok(name) => {
-                if glob.is_match(options, name) {
-                    push_name(item, output)
-                } else {
-                    Ok(())
-                }
-            }
-            Err(fault) => Err(fault),
-        },
         Task::Check => match named::<E>(item) {
             Ok(_) => Ok(()),
             Err(fault) => Err(fault),
         },
         Task::Join(_) => write_name::<E, A>(alloc, settings.max, item, output),
+    }
+}
+
+/// Appends what is written for a name, where a pattern picks names.
+pub fn write_matching<E: Platform, A: Allocator, B: Allocator>(
+    alloc: A,
+    glob: &Glob<E, B>,
+    form: Form,
+    item: &[u8],
+    output: &mut Vec<u8, A>,
+) -> Result<(), ItemFault<Refusal>>
+    ensures ok { OnOk result ((text : List ℕ)
+        × (IsTextOfPicked ⟦<E as Platform>⟧ form (IsMatchedBy ⟦<E as Platform>⟧ glob.now) item.now text
+        × (output.new.items ≡ output.old.items ++ text))) }
+    ensures fault { (max : ℕ) → IfErr result (λ fault. IsItemFault (picking ⟦<E as Platform>⟧ form
+        max (IsMatchedBy ⟦<E as Platform>⟧ glob.now)) item.now fault) }
+    ensures unchanged { OnErr result (output.new.items ≡ output.old.items) }
+{
+    match named::<E>(item) {
+        Ok(name) => {
+            if !glob.is_match(name) {
+                return Ok(());
+            }
+            match form {
+                Form::Line => write_line::<E, A>(alloc, name, output),
+                Form::Name => push_name(item, output),
+            }
+        }
+        Err(fault) => Err(fault),
     }
 }
 

@@ -17,5 +17,6 @@ pub mod command;
 pub mod fault;
 mod item;
 pub mod laws;
+pub mod matching;
 pub mod program;
 pub mod task;

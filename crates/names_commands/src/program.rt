@@ -7,14 +7,17 @@ ghost use Rattle.program_frame.specs.declared.lists.fault.ListFault.{ListFault};
 ghost use Rattle.program_frame.specs.declared.lists.program_fault.Fault.{Fault};
 ghost use Rattle.program_frame.specs.declared.lists.program_fault.Fault.TheVariants.{List as OfList};
 ghost use Rattle.program_frame.specs.ListRun.{Runs};
-ghost use Rattle.names_commands.specs.Program.{Does};
+ghost use Rattle.names_commands.specs.Program.{Does, RunsMatching, RunsPattern};
 ghost use Rattle.names_commands.specs.Task.{rules_of};
 
 use crate::command::{Command, Request, options_of};
 use crate::fault::{CommandFault, Fault, Refusal};
+use crate::matching::{Form, Matching};
 use crate::task::{OnPlatform, Settings, Task};
-use os_glob::Glob;
-use os_str_bytes::{Unix, Wasm, Windows};
+use glob_patterns::{Glob, GlobError, GlobOptions};
+use os_str_bytes::{Platform, Unix, Wasm, Windows};
+use program_frame::fault::Failure;
+use program_frame::lists::fault::ListFault;
 use program_frame::lists::program::{ListProgram, run_list, write_help};
 use program_frame::marked::Marked;
 use program_frame::os::Os;
@@ -83,20 +86,12 @@ fn run_command<A: Allocator, R: Read, W: Write>(
                 writer,
             )
         }
-        Command::ListMatching(os, pattern) => match Glob::new(pattern) {
-            Ok(glob) => {
-                let task = Task::ListMatching(options_of(os), &glob);
-                run_on(alloc, os, Settings { task, max }, reader, writer)
-            }
-            Err(error) => Err(Fault::Words(CommandFault::Pattern(error))),
-        },
-        Command::Filter(os, pattern) => match Glob::new(pattern) {
-            Ok(glob) => {
-                let task = Task::Filter(options_of(os), &glob);
-                run_on(alloc, os, Settings { task, max }, reader, writer)
-            }
-            Err(error) => Err(Fault::Words(CommandFault::Pattern(error))),
-        },
+        Command::ListMatching(os, pattern) => {
+            run_pattern(alloc, os, Form::Line, pattern, max, reader, writer)
+        }
+        Command::Filter(os, pattern) => {
+            run_pattern(alloc, os, Form::Name, pattern, max, reader, writer)
+        }
         Command::Join(os, last) => {
             run_on(
                 alloc,
@@ -122,9 +117,66 @@ fn run_command<A: Allocator, R: Read, W: Write>(
             )
         }
         Command::Help => write_help(
-            "names: lists of file names, escaped one a line, and back\n\nnames list   unix|windows|wasm [GLOB]  names ended by NUL in, the escape of each out, one a line;\n                                       with GLOB of those that it matches\nnames filter unix|windows|wasm GLOB    names ended by NUL in, those that GLOB matches out, ended by NUL\nnames join   unix|windows|wasm         such lines in, names ended by NUL out\nnames join   .. --unterminated         the same, where the last line may lack its newline\nnames check  unix|windows|wasm         names ended by NUL in, nothing out: the status tells\nnames --help                           this text\nnames --max N ..                       one of these, for names of at most N bytes, not 1048576\n\nThe last name may lack its NUL. A last line without its newline is refused, since a list that was\ncut off ends with one. A line has at most six times as many bytes as a name.\n\nGLOB matches a whole name, ./ and folders too. * is any run of symbols without a separator, ** any run,\n? one symbol that is no separator, [a-z] one of these and [!a-z] one of the others, also no separator;\n\\ quotes the character after it, other characters are themselves. The separator is /. On windows \\ is\none as well: / in GLOB matches both, and \\ in GLOB still quotes. So **.rs matches ./src/a.rs, *.rs doesn't.\n\nStatus: 0, or 1 where a name or line is refused, 2 for other words or a GLOB that is refused, 3 where\nmemory is refused, 4 where a read or write fails. The first refused name is told with its number,\nfrom 1.\n",
+            "names: lists of file names, escaped one a line, and back\n\nnames list   unix|windows|wasm [GLOB]  names ended by NUL in, the escape of each out, one a line;\n                                       with GLOB of those that it matches\nnames filter unix|windows|wasm GLOB    names ended by NUL in, those that GLOB matches out, ended by NUL\nnames join   unix|windows|wasm         such lines in, names ended by NUL out\nnames join   .. --unterminated         the same, where the last line may lack its newline\nnames check  unix|windows|wasm         names ended by NUL in, nothing out: the status tells\nnames --help                           this text\nnames --max N ..                       one of these, for names of at most N bytes, not 1048576\n\nThe last name may lack its NUL. A last line without its newline is refused, since a list that was\ncut off ends with one. A line has at most six times as many bytes as a name.\n\nGLOB matches a whole name, ./ and folders too, component by component: * is any run of symbols, ? one\nsymbol, [a-z] one of these and [!a-z] one of the others, none of them a separator; ** as a whole component\nis any number of components; {a,b} is a or b; \\ quotes the character after it. The separator is /. On\nwindows \\ is one as well, in GLOB too, where it quotes nothing. So **/*.rs matches ./src/a.rs, *.rs doesn't.\n\nStatus: 0, or 1 where a name or line is refused, 2 for other words or a GLOB that is refused, 3 where\nmemory is refused, 4 where a read or write fails. The first refused name is told with its number,\nfrom 1.\n",
             writer,
         ),
+    }
+}
+
+/// The answer to a pattern on a platform.
+fn run_pattern<A: Allocator, R: Read, W: Write>(
+    alloc: A,
+    os: Os,
+    form: Form,
+    pattern: &str,
+    max: usize,
+    reader: &mut Marked<R>,
+    writer: &mut Marked<W>,
+) -> Result<(), Fault>
+    requires reader_unmarked { has_failed reader.old ≡ false }
+    requires writer_unmarked { has_failed writer.old ≡ false }
+    ensures run { RunsPattern os form pattern.now max (R.remaining (marked_inner reader.old))
+        (R.remaining (marked_inner reader.new)) (W.contents (marked_inner writer.old))
+        (W.contents (marked_inner writer.new)) result }
+    ensures read { (result ≡ Err (Fault.List (ListFault.Run Failure.Read))) ↔ (has_failed reader.new ≡ true) }
+    ensures write { (result ≡ Err (Fault.List (ListFault.Run Failure.Write))) ↔ (has_failed writer.new ≡ true) }
+{
+    let options = options_of(os);
+    match os {
+        Os::Unix => {
+            run_matching::<Unix, A, R, W>(alloc, options, form, pattern, max, reader, writer)
+        }
+        Os::Windows => {
+            run_matching::<Windows, A, R, W>(alloc, options, form, pattern, max, reader, writer)
+        }
+        Os::Wasm => {
+            run_matching::<Wasm, A, R, W>(alloc, options, form, pattern, max, reader, writer)
+        }
+    }
+}
+
+/// The answer to a pattern, which is compiled once.
+fn run_matching<E: Platform, A: Allocator, R: Read, W: Write>(
+    alloc: A,
+    options: GlobOptions,
+    form: Form,
+    pattern: &str,
+    max: usize,
+    reader: &mut Marked<R>,
+    writer: &mut Marked<W>,
+) -> Result<(), Fault>
+    requires reader_unmarked { has_failed reader.old ≡ false }
+    requires writer_unmarked { has_failed writer.old ≡ false }
+    ensures run { RunsMatching ⟦<E as Platform>⟧ options form pattern.now max
+        (R.remaining (marked_inner reader.old)) (R.remaining (marked_inner reader.new))
+        (W.contents (marked_inner writer.old)) (W.contents (marked_inner writer.new)) result }
+    ensures read { (result ≡ Err (Fault.List (ListFault.Run Failure.Read))) ↔ (has_failed reader.new ≡ true) }
+    ensures write { (result ≡ Err (Fault.List (ListFault.Run Failure.Write))) ↔ (has_failed writer.new ≡ true) }
+{
+    match Glob::<E, &A>::new(&alloc, options, pattern) {
+        Ok(glob) => run_list(&alloc, &Matching::new(&glob, form, max), reader, writer),
+        Err(GlobError::Pattern(fault)) => Err(Fault::Words(CommandFault::Pattern(fault))),
+        Err(GlobError::Memory) => Err(Fault::List(ListFault::Run(Failure::Memory))),
     }
 }
 
@@ -132,13 +184,13 @@ fn run_command<A: Allocator, R: Read, W: Write>(
 fn run_on<A: Allocator, R: Read, W: Write>(
     alloc: A,
     os: Os,
-    settings: Settings<'_, '_>,
+    settings: Settings,
     reader: &mut Marked<R>,
     writer: &mut Marked<W>,
 ) -> Result<(), Fault>
     requires reader_unmarked { has_failed reader.old ≡ false }
     requires writer_unmarked { has_failed writer.old ≡ false }
-    ensures run { Runs (rules_of (strings os) settings.entry) OfList (R.remaining (marked_inner reader.old))
+    ensures run { Runs (rules_of (strings os) settings) OfList (R.remaining (marked_inner reader.old))
         (R.remaining (marked_inner reader.new)) (W.contents (marked_inner writer.old))
         (W.contents (marked_inner writer.new)) result }
     ensures read { (result ≡ Err (Fault.List (ListFault.Run Failure.Read))) ↔ (has_failed reader.new ≡ true) }

@@ -4,7 +4,6 @@ ghost use Rattle.names_commands.specs.Task.{TakesUnended, end_of, longest_item, 
 
 use crate::fault::Refusal;
 use crate::item::write_item;
-use os_glob::{Glob, GlobOptions};
 use os_str_bytes::Platform;
 use program_frame::lists::fault::ItemFault;
 use program_frame::lists::task::ListTask;
@@ -22,13 +21,9 @@ pub enum LastLine {
 
 /// What is done with each item of the input.
 #[derive(Clone, Copy)]
-pub enum Task<'g, 'p> {
+pub enum Task {
     /// Each name is written as its escape on a line.
     ListAll,
-    /// The same for each name that the pattern matches, and nothing for the others.
-    ListMatching(GlobOptions, &'g Glob<'p>),
-    /// Each name that the pattern matches is written with NUL, and nothing for the others.
-    Filter(GlobOptions, &'g Glob<'p>),
     /// Nothing is written.
     Check,
     /// Each line, the escape of a name, is written as that name and NUL.
@@ -37,14 +32,14 @@ pub enum Task<'g, 'p> {
 
 /// What is done with each item, and how long a name may be.
 #[derive(Clone, Copy)]
-pub struct Settings<'g, 'p> {
+pub struct Settings {
     /// What is done with each item.
-    pub task: Task<'g, 'p>,
+    pub task: Task,
     /// How many bytes a name may have.
     pub max: usize,
 }
 
-impl<'g, 'p> Settings<'g, 'p> {
+impl Settings {
     /// How many bytes an item may have, or `usize::MAX` where that is less: a name as many as it may,
     /// a line six times as many, since an escape has at most six for each byte of a name.
     ///
@@ -56,16 +51,16 @@ impl<'g, 'p> Settings<'g, 'p> {
     /// assert!(rt; names.longest_item() == 255 && lines.longest_item() == 1530);
     /// ```
     pub fn longest_item(self) -> usize
-        ensures { result ≡ min (longest_item self.entry) (2 ^ 64 - 1) }
+        ensures { result ≡ min (longest_item self) (2 ^ 64 - 1) }
     {
         match self.task {
-            Task::ListAll | Task::ListMatching(_, _) | Task::Filter(_, _) | Task::Check => self.max,
+            Task::ListAll | Task::Check => self.max,
             Task::Join(_) => self.max.saturating_mul(6),
         }
     }
 }
 
-impl<'g, 'p> Task<'g, 'p> {
+impl Task {
     /// The byte that ends an item: NUL after a name, a newline after a line.
     ///
     /// ```
@@ -74,10 +69,10 @@ impl<'g, 'p> Task<'g, 'p> {
     /// assert!(rt; Task::Check.end() == 0 && Task::Join(LastLine::MustEnd).end() == b'\n');
     /// ```
     pub fn end(self) -> u8
-        ensures { result ≡ end_of self.entry }
+        ensures { result ≡ end_of self }
     {
         match self {
-            Task::ListAll | Task::ListMatching(_, _) | Task::Filter(_, _) | Task::Check => 0,
+            Task::ListAll | Task::Check => 0,
             Task::Join(_) => b'\n',
         }
     }
@@ -91,10 +86,10 @@ impl<'g, 'p> Task<'g, 'p> {
     /// assert!(rt; Task::ListAll.takes_unended() && !Task::Join(LastLine::MustEnd).takes_unended());
     /// ```
     pub fn takes_unended(self) -> bool
-        ensures { IsTrue result ↔ TakesUnended self.entry }
+        ensures { IsTrue result ↔ TakesUnended self }
     {
         match self {
-            Task::ListAll | Task::ListMatching(_, _) | Task::Filter(_, _) | Task::Check => true,
+            Task::ListAll | Task::Check => true,
             Task::Join(LastLine::MustEnd) => false,
             Task::Join(LastLine::MayLackEnd) => true,
         }
@@ -103,13 +98,13 @@ impl<'g, 'p> Task<'g, 'p> {
 
 /// What is done with each name of a list of a platform.
 #[derive(Clone, Copy)]
-pub struct OnPlatform<'g, 'p, E> {
+pub struct OnPlatform<E> {
     /// What is done with each item, and how long a name may be.
-    pub settings: Settings<'g, 'p>,
+    pub settings: Settings,
     platform: PhantomData<E>,
 }
 
-impl<'g, 'p, E> OnPlatform<'g, 'p, E> {
+impl<E> OnPlatform<E> {
     /// These settings on the platform.
     ///
     /// ```
@@ -119,8 +114,8 @@ impl<'g, 'p, E> OnPlatform<'g, 'p, E> {
     /// let settings = Settings { task: Task::ListAll, max: 255 };
     /// assert_eq!(rt; OnPlatform::<Unix>::new(settings).settings.max, 255);
     /// ```
-    pub fn new(settings: Settings<'g, 'p>) -> OnPlatform<'g, 'p, E>
-        ensures { result.settings ≡ settings.entry }
+    pub fn new(settings: Settings) -> OnPlatform<E>
+        ensures { result.settings ≡ settings }
     {
         OnPlatform {
             settings,
@@ -129,7 +124,7 @@ impl<'g, 'p, E> OnPlatform<'g, 'p, E> {
     }
 }
 
-impl<'g, 'p, E: Platform> ListTask for OnPlatform<'g, 'p, E> {
+impl<E: Platform> ListTask for OnPlatform<E> {
     type Refusal = Refusal;
 
     ghost rules = { λ on. rules_of ⟦<E as Platform>⟧ on.settings };

@@ -9,11 +9,9 @@ use Rattle.program_frame.specs.declared.lists.fault.ListFault.TheVariants.{Refus
 use Rattle.names_commands.specs.declared.fault.Refusal.{Refusal}
 use Rattle.names_commands.specs.declared.fault.Refusal.TheVariants.{NoString}
 use Rattle.names_commands.specs.declared.task.LastLine.TheVariants.{MustEnd}
-use Rattle.names_commands.specs.declared.task.Settings.{Settings}
-use Rattle.names_commands.specs.declared.task.Task.TheVariants.{Check, Filter}
-use Rattle.os_glob.specs.Match.{IsMatch}
-use Rattle.os_str_bytes.specs.Symbols.{symbols_of}
-use Rattle.os_glob.specs.declared.options.GlobOptions.{GlobOptions}
+use Rattle.names_commands.specs.declared.task.Task.TheVariants.{Check}
+use Rattle.names_commands.specs.declared.matching.Form.TheVariants.{Name}
+use Rattle.names_commands.specs.Matching.{picking}
 use Rattle.names_commands.specs.Back.{listing, joining}
 use Rattle.program_frame.specs.Items.{Entry, Lacks, items_of, texts_of}
 use Rattle.program_frame.specs.Rules.{ListRules, AreIn, IsEntry}
@@ -68,12 +66,12 @@ module _ {E : Type 0} (p : Ghosts E) where
       by (e ∷ es) item rest j ended f = absurd (has_end 0 e.0 (items_of 0 es ++ (item ++ rest)) (subst (Lacks 0) (j ∙ in_prefix 0 e.0 (items_of 0 es) (item ++ rest)) l))
 
   -- what is written for one name that is filtered
-  pub known_filtered : (options : GlobOptions) (glob : _) (max : ℕ) (name output : List ℕ) → Lacks 0 name → name ≢ [] → IsOutput (rules_of p (record { task = Filter options glob; max = max })) name output
-      → (IsMatch options glob.now (symbols_of p.units name) × (output ≡ name ++ 0 ∷ [])) ⊎ ((¬ (IsMatch options glob.now (symbols_of p.units name))) × (output ≡ []))
-  known_filtered options glob max name output l some o =
-      let s : Settings = record { task = Filter options glob; max = max } in
-      let one = one_item (rules_of p s) o.entries name l some o.items in
-      let entry = (subst (λ es. AllByRecursion (IsEntry (rules_of p s)) es) one.1 o.are).0 in
+  pub known_filtered : (Picked : List ℕ → Type 0) (max : ℕ) (name output : List ℕ) → Lacks 0 name → name ≢ [] → IsOutput (picking p Name max Picked) name output
+      → (Picked name × (output ≡ name ++ 0 ∷ [])) ⊎ ((¬ (Picked name)) × (output ≡ []))
+  known_filtered Picked max name output l some o =
+      let rules = picking p Name max Picked in
+      let one = one_item rules o.entries name l some o.items in
+      let entry = (subst (λ es. AllByRecursion (IsEntry rules) es) one.1 o.are).0 in
       let is : output ≡ one.0 = o.written ∙ ap texts_of one.1 ∙ append-nil one.0 in
       ⊎_elim
       (λ yes. inl (yes.0, is ∙ yes.1))

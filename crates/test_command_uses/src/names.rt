@@ -2,9 +2,7 @@
 ghost use Rattle.std.specs.Prelude.{◌≡◌, ◌≢◌, ◌≤◌, ◌∷◌, ◌++◌, ◌⊎◌, [], ℕ, List, false, IsOk, IfOk, IfErr, OnOk, length, map, string_bytes};
 ghost use Rattle.std.specs.Io.KnownBytes.{Appends};
 ghost use Rattle.os_quote.specs.Escape.{IsLineEscape};
-ghost use Rattle.os_glob.specs.Match.{IsMatch};
 ghost use Rattle.os_str_bytes.specs.EncodingError.{EncodingError};
-ghost use Rattle.os_str_bytes.specs.Symbols.{symbols_of};
 ghost use Rattle.program_frame.specs.Items.{Lacks};
 ghost use Rattle.program_frame.specs.ListRun.{IsOutput, StopsOn};
 ghost use Rattle.program_frame.specs.Marked.{marked_inner, has_failed};
@@ -12,16 +10,18 @@ ghost use Rattle.program_frame.specs.declared.fault.Failure.TheVariants.{Write a
 ghost use Rattle.program_frame.specs.declared.lists.fault.ListFault.TheVariants.{Refused, Run};
 ghost use Rattle.names_commands.specs.Back.{listing, AreFirst, IsCompleted};
 ghost use Rattle.names_commands.specs.Command.{AsksFor};
+ghost use Rattle.names_commands.specs.Matching.{IsMatchedBy};
 ghost use Rattle.names_commands.specs.Task.{rules_of};
 ghost use Rattle.names_commands.specs.declared.command.Request.{Request};
 ghost use Rattle.names_commands.specs.declared.fault.Refusal.{Refusal};
 ghost use Rattle.names_commands.specs.declared.fault.Refusal.TheVariants.{NoString};
 
+use glob_patterns::Glob;
 use names_commands::command::Request;
 use names_commands::fault::{CommandFault, Refusal};
 use names_commands::laws::names_come_back;
+use names_commands::matching::{Form, Matching};
 use names_commands::task::{LastLine, OnPlatform, Settings, Task};
-use os_glob::{Glob, GlobOptions};
 use os_str_bytes::Platform;
 use program_frame::lists::fault::ListFault;
 use program_frame::lists::run::run;
@@ -46,17 +46,17 @@ pub fn known_request(words: &[String]) -> Result<Request<'_>, CommandFault>
 /// A run over bytes.
 fn run_over<E: Platform, A: Allocator, W: Write>(
     alloc: A,
-    settings: Settings<'_, '_>,
+    settings: Settings,
     input: &[u8],
     writer: &mut Marked<W>,
 ) -> Result<(), ListFault<Refusal>>
     requires { has_failed writer.old ≡ false }
     ensures written { OnOk result ((output : List ℕ)
-        × (IsOutput (rules_of ⟦<E as Platform>⟧ settings.entry) input.now output
+        × (IsOutput (rules_of ⟦<E as Platform>⟧ settings) input.now output
         × Appends (W.contents (marked_inner writer.old)) (W.contents (marked_inner writer.new))
         output)) }
     ensures stopped { IfErr result (λ fault. fault ≢ Run WriteFailure → (output : List ℕ)
-        × (StopsOn (rules_of ⟦<E as Platform>⟧ settings.entry) input.now output fault
+        × (StopsOn (rules_of ⟦<E as Platform>⟧ settings) input.now output fault
         × Appends (W.contents (marked_inner writer.old)) (W.contents (marked_inner writer.new))
         output)) }
 {
@@ -132,11 +132,10 @@ pub fn unended_line<E: Platform, A: Allocator, W: Write>(
 }
 
 /// Filters one name, which is written with NUL, or not at all.
-pub fn filtered<E: Platform, A: Allocator, W: Write>(
+pub fn filtered<E: Platform, A: Allocator, B: Allocator, W: Write>(
     alloc: A,
     max: usize,
-    options: GlobOptions,
-    glob: &Glob<'_>,
+    glob: &Glob<E, B>,
     name: &[u8],
     writer: &mut Marked<W>,
 ) -> Result<(), ListFault<Refusal>>
@@ -144,16 +143,18 @@ pub fn filtered<E: Platform, A: Allocator, W: Write>(
     requires some { name.now ≢ [] }
     requires unmarked { has_failed writer.old ≡ false }
     ensures { OnOk result ((text : List ℕ)
-        × (((IsMatch options glob.now (symbols_of E.units name.now) × (text ≡ name.now ++ 0 ∷ []))
-        ⊎ ((¬ (IsMatch options glob.now (symbols_of E.units name.now))) × (text ≡ [])))
+        × (((IsMatchedBy ⟦<E as Platform>⟧ glob.now name.now × (text ≡ name.now ++ 0 ∷ []))
+        ⊎ ((¬ (IsMatchedBy ⟦<E as Platform>⟧ glob.now name.now)) × (text ≡ [])))
         × Appends (W.contents (marked_inner writer.old)) (W.contents (marked_inner writer.new))
         text)) }
 {
-    let settings = Settings {
-        task: Task::Filter(options, glob),
-        max,
-    };
-    run_over::<E, A, W>(alloc, settings, name, writer)
+    let mut reader = Marked::new(name);
+    run(
+        alloc,
+        &Matching::new(glob, Form::Name, max),
+        &mut reader,
+        writer,
+    )
 }
 
 /// Lists one name, which is written as its escape on a line, and not past the limit.

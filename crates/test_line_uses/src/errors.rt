@@ -1,11 +1,10 @@
-//! Errors of arguments and patterns: what a text holds once they were printed to it.
-ghost use Rattle.std.specs.Prelude.{◌≡◌, ◌++◌, ℕ, List, OnOk, codes, decimal, string_bytes};
+//! Errors of arguments: what a text holds once they were printed to it.
+ghost use Rattle.std.specs.Prelude.{◌≡◌, ◌++◌, ℕ, List, OnOk, codes, string_bytes};
 ghost use Rattle.std.specs.Char.{encode_utf8};
 ghost use Rattle.os_quote.specs.Escape.{IsLineEscape};
 ghost use Rattle.platform_str.specs.Strings.{bytes};
 
 use os_args::{Word, laws};
-use os_glob::{GlobError, GlobErrorKind};
 use platform_str::{OsStr, Unix};
 use std::alloc::AllocError;
 use std::fmt::Write as _;
@@ -29,16 +28,4 @@ pub fn log_unexpected_operand(log: &mut String, string: OsStr<'_, Unix>) -> Resu
 {
     laws::errors::<Unix>();
     write!(log, "{}", Word::Value(string).unexpected())
-}
-
-/// Writes why a text is no pattern at the end of a log.
-pub fn log_bad_pattern(log: &mut String, index: usize) -> Result<(), AllocError>
-    ensures { OnOk result (string_bytes log.new ≡ string_bytes log.old
-        ++ (codes "unclosed class" ++ (codes " at byte " ++ decimal index))) }
-{
-    let error = GlobError {
-        kind: GlobErrorKind::UnclosedClass,
-        index,
-    };
-    write!(log, "{error}")
 }

@@ -1,5 +1,4 @@
-//! For trying: what a user of patterns, arguments and command lines concludes from the public
-//! contracts alone.
+//! For trying: what a user of arguments and command lines concludes from the public contracts alone.
 //!
 //! Each function is a caller whose contract is such a conclusion. Nothing here cites a lemma
 //! or a private word of the crates below, so that a contract or a law that says too little
@@ -9,5 +8,4 @@
 pub mod arguments;
 pub mod command_lines;
 pub mod errors;
-pub mod globs;
 pub mod windows_lines;

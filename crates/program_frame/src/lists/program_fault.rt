@@ -29,11 +29,11 @@ pub trait WordsRefusal: Copy {
     /// Writes the reason.
     ///
     /// ```
-    /// use names_commands::fault::{Fault, Refusal, CommandFault};
-    /// use os_glob::{GlobError, GlobErrorKind};
+    /// use glob_patterns::{FaultKind, PatternFault};
+    /// use names_commands::fault::{CommandFault, Fault};
     ///
-    /// let kind = GlobErrorKind::UnclosedClass;
-    /// let fault: Fault = Fault::Words(CommandFault::Pattern(GlobError { kind, index: 7 }));
+    /// let kind = FaultKind::UnclosedClass;
+    /// let fault: Fault = Fault::Words(CommandFault::Pattern(PatternFault { kind, index: 7 }));
     /// assert_eq!(rt; fault.to_string(alloc)?.as_str(), "pattern: unclosed class at byte 7");
     /// ```
     fn write<W: fmt::Write>(&self, f: &mut fmt::Formatter<W>) -> fmt::Result

@@ -1,9 +1,22 @@
+use Rattle.std.proofs.Common.{Some, subst}
+use Rattle.std.specs.Prelude.{OnOk}
 use Rattle.std.proofs.lemmas.Result.{on_ok_weaker}
+use Rattle.program_frame.specs.ListRun.{IsOutput, WritesOutput}
+use Rattle.program_frame.specs.Marked.{marked_inner}
+use Rattle.names_commands.specs.declared.matching.Form.TheVariants.{Name}
+use Rattle.names_commands.specs.Matching.{picking, IsMatchedBy}
 use Rattle.test_command_uses.proofs.KnownNames.{known_filtered}
 use Rattle.test_command_uses.proofs.names.filtered.Goals as goal
 
 pub returns : goal.returns
 returns g c =
-    on_ok_weaker c.run_over.result
-    (λ written. (written.0, (known_filtered g.E.Platform c.args.options c.args.glob c.args.max c.args.name.now written.0 c.requires.whole c.requires.some written.1.0, written.1.1)))
-    c.run_over.ensures.written
+    let P = g.E.Platform in
+    let its = c.new.result in
+    let name = c.args.name.now in
+    let written = subst (λ b. OnOk c.run.result (WritesOutput (picking P its.form its.max (IsMatchedBy P its.glob.now)) (Some b.now) (g.W.Write.contents (marked_inner c.args.writer.now)) (g.W.Write.contents (marked_inner c.run.new.writer)))) c.new-reader.ensures.inner c.run.ensures.written in
+    on_ok_weaker c.run.result
+    (λ w.
+    let filtered = subst (λ b. IsOutput (picking P Name its.max (IsMatchedBy P b)) name w.0) c.new.ensures.glob
+    (subst (λ f. IsOutput (picking P f its.max (IsMatchedBy P its.glob.now)) name w.0) c.new.ensures.form w.1.0) in
+    (w.0, (known_filtered P (IsMatchedBy P c.args.glob.now) its.max name w.0 c.requires.whole c.requires.some filtered, w.1.1)))
+    written
