@@ -1,4 +1,5 @@
-//! For trying: what a user of arguments and command lines concludes from the public contracts alone.
+//! For trying: what a user of patterns, arguments and command lines concludes from the public
+//! contracts alone.
 //!
 //! Each function is a caller whose contract is such a conclusion. Nothing here cites a lemma
 //! or a private word of the crates below, so that a contract or a law that says too little
@@ -8,4 +9,5 @@
 pub mod arguments;
 pub mod command_lines;
 pub mod errors;
+pub mod patterns;
 pub mod windows_lines;

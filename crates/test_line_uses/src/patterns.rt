@@ -1,0 +1,60 @@
+//! Path patterns: what a text stands for, the pattern of one name, what an error prints.
+ghost use Rattle.std.specs.Prelude.{◌≡◌, ◌↔◌, ◌++◌, List, IsTrue, IfErr, IfOk, MatchResult, OnOk, codes, decimal, string_bytes};
+ghost use Rattle.platform_str.specs.Strings.{bytes};
+ghost use Rattle.glob_text.specs.Marks.{Mark};
+ghost use Rattle.glob_text.specs.Meaning.{MatchesWrittenOut};
+ghost use Rattle.glob_text.specs.Texts.{AreWrittenOut};
+ghost use Rattle.glob_patterns.specs.Errors.{IsGlobError};
+ghost use Rattle.glob_patterns.specs.Letters.{letters_of};
+ghost use Rattle.glob_patterns.specs.Options.{options_of, syntax_of};
+ghost use Rattle.glob_patterns.specs.declared.error.GlobError.TheVariants.{Memory};
+
+use glob_patterns::{
+    FaultKind, Glob, GlobError, GlobOptions, PatternFault, Separators, escape_pattern,
+};
+use os_str_ext::{OsStr, Platform};
+use std::alloc::{AllocError, Allocator};
+use std::fmt::Write as _;
+
+/// Whether a path has the pattern that a text is, by what the text stands for; else why it is none.
+pub fn match_by_text<E: Platform, A: Allocator + Copy>(
+    alloc: A,
+    options: GlobOptions,
+    pattern: &str,
+    path: OsStr<'_, E>,
+) -> Result<bool, GlobError>
+    ensures { MatchResult result (λ matched. (written : List (List Mark))
+        × (AreWrittenOut E.well_formed (letters_of E.units) (syntax_of options) pattern.now written
+        × (IsTrue matched ↔ MatchesWrittenOut (options_of options) written
+        (letters_of E.units (bytes path.entry)))))
+        (λ error. IsGlobError E.well_formed E.units options pattern.now error) }
+{
+    let glob = Glob::new(alloc, options, pattern)?;
+    Ok(glob.is_match(path))
+}
+
+/// Whether a path is a name, asked by the pattern of that name, which is refused for want of memory
+/// alone.
+pub fn is_named<E: Platform, A: Allocator + Copy>(
+    alloc: A,
+    name: OsStr<'_, E>,
+    path: OsStr<'_, E>,
+) -> Result<bool, GlobError>
+    ensures named { IfOk result (λ named. IsTrue named ↔ (bytes path.entry ≡ bytes name.entry)) }
+    ensures memory { IfErr result (λ error. error ≡ Memory) }
+{
+    let options = GlobOptions::new(Separators::Slash);
+    let pattern = escape_pattern(alloc, options, name)?;
+    let glob = Glob::from_os_str(alloc, options, pattern.as_os_str())?;
+    Ok(glob.is_match(path))
+}
+
+/// Writes why a text is no pattern at the end of a log.
+pub fn log_bad_pattern(log: &mut String, index: usize) -> Result<(), AllocError>
+    ensures { OnOk result (string_bytes log.new ≡ string_bytes log.old
+        ++ (codes "unclosed class" ++ (codes " at byte " ++ decimal index))) }
+{
+    let kind = FaultKind::UnclosedClass;
+    let error = GlobError::Pattern(PatternFault { kind, index });
+    write!(log, "{error}")
+}
