@@ -1,6 +1,8 @@
-//! Path patterns: what a text stands for, the pattern of one name, what an error prints.
-ghost use Rattle.std.specs.Prelude.{◌≡◌, ◌↔◌, ◌++◌, List, IsTrue, IfErr, IfOk, MatchResult, OnOk, codes, decimal, string_bytes};
+//! Path patterns: what a text stands for, the pattern of one name, the first of a set that matches,
+//! what an error prints.
+ghost use Rattle.std.specs.Prelude.{◌≡◌, ◌↔◌, ◌++◌, ◌<◌, ℕ, List, IsTrue, IfErr, IfOk, MatchOption, MatchResult, OnOk, codes, decimal, string_bytes};
 ghost use Rattle.platform_str.specs.Strings.{bytes};
+ghost use Rattle.wildcards.specs.Sets.{IsHit};
 ghost use Rattle.glob_text.specs.Marks.{Mark};
 ghost use Rattle.glob_text.specs.Meaning.{MatchesWrittenOut};
 ghost use Rattle.glob_text.specs.Texts.{AreWrittenOut};
@@ -10,7 +12,7 @@ ghost use Rattle.glob_patterns.specs.Options.{options_of, syntax_of};
 ghost use Rattle.glob_patterns.specs.declared.error.GlobError.TheVariants.{Memory};
 
 use glob_patterns::{
-    FaultKind, Glob, GlobError, GlobOptions, PatternFault, Separators, escape_pattern,
+    FaultKind, Glob, GlobError, GlobOptions, GlobSet, PatternFault, Separators, escape_pattern,
 };
 use os_str_ext::{OsStr, Platform};
 use std::alloc::{AllocError, Allocator};
@@ -47,6 +49,28 @@ pub fn is_named<E: Platform, A: Allocator + Copy>(
     let pattern = escape_pattern(alloc, options, name)?;
     let glob = Glob::from_os_str(alloc, options, pattern.as_os_str())?;
     Ok(glob.is_match(path))
+}
+
+/// The first pattern of a set that matches a path.
+pub fn first_match<E: Platform, A: Allocator, B: Allocator>(
+    alloc: B,
+    globs: &GlobSet<E, A>,
+    path: OsStr<'_, E>,
+) -> Result<Option<usize>, AllocError>
+    ensures { IfOk result (λ first. MatchOption first
+        ((i : ℕ) → ¬ (IsHit globs.now.set.options globs.now.set.patterns.items
+        (letters_of E.units (bytes path.entry)) i))
+        (λ i. IsHit globs.now.set.options globs.now.set.patterns.items
+        (letters_of E.units (bytes path.entry)) i
+        × ((j : ℕ) → j < i → ¬ (IsHit globs.now.set.options globs.now.set.patterns.items
+        (letters_of E.units (bytes path.entry)) j)))) }
+{
+    let mut found = Vec::new(alloc);
+    globs.matches(path, &mut found)?;
+    match found.split_first() {
+        Some((first, _)) => Ok(Some(*first)),
+        None => Ok(None),
+    }
 }
 
 /// Writes why a text is no pattern at the end of a log.
