@@ -311,6 +311,15 @@ impl Short {
         self.strings.len()
     }
 
+    /// The strings, each changed.
+    pub fn changed(&self, change: impl Fn(&[u8]) -> Vec<u8>) -> Self {
+        Self { name: self.name, strings: self.strings().map(change).collect() }
+    }
+
+    pub fn named(self, name: &'static str) -> Self {
+        Self { name, ..self }
+    }
+
     /// What asks each string as a `str`, where all of them are UTF-8.
     pub fn if_texts<'a>(&self, run: &'a mut dyn FnMut() -> u64) -> Contestant<'a> {
         self.are_texts().then_some(run)
@@ -416,4 +425,26 @@ pub fn middling(needle: &str) -> Vec<Short> {
             })
         })
         .into()
+}
+
+/// ASCII paths of 16 bytes to 4 KiB, whose last names mostly have an extension.
+pub fn paths_of_lengths() -> Vec<Short> {
+    let kinds = [("16 bytes", 16), ("80 bytes", 80), ("1 KiB", 1 << 10), ("4 KiB", 4 << 10)];
+    let mut random = Random(17);
+    kinds
+        .map(|(name, len)| {
+            Short::filling(name, len, |_| {
+                let last = format!("/{}{}", random.pick(&["a", "lib", "main", "index"]), random.pick(&ENDINGS));
+                let mut bytes = ascii(&mut random, len - last.len());
+                bytes.extend_from_slice(last.as_bytes());
+                bytes
+            })
+        })
+        .into()
+}
+
+/// ASCII strings of 1 KiB and of 64 KiB.
+pub fn long_names() -> [Short; 2] {
+    let mut random = Random(18);
+    [("1 KiB", 1 << 10), ("64 KiB", 64 << 10)].map(|(name, len)| Short::filling(name, len, |_| ascii(&mut random, len)))
 }

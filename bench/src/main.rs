@@ -1,16 +1,20 @@
 //! Times the calls of this repository beside the Rust crate and the standard library, and prints a
 //! table for each family of calls. README.md says what is timed.
+#![feature(normalize_lexically)]
 mod arguments;
 mod chunks;
 mod clock;
 mod command_lines;
 mod conversions;
 mod escapes;
+mod glob_sets;
 mod globs;
 mod inputs;
 mod joins;
 mod ours;
+mod paths;
 mod searches;
+mod shell_words;
 mod short;
 mod splits;
 mod symbols;
@@ -30,7 +34,10 @@ fn main() {
         joins::time(&mut bench);
         escapes::time(&mut bench);
         globs::time(&mut bench);
+        glob_sets::time(&mut bench);
+        paths::time(&mut bench);
         arguments::time(&mut bench);
+        shell_words::time(&mut bench);
         command_lines::time(&mut bench);
     }
 }

@@ -35,11 +35,33 @@ mod exports {
         pub fn port_matches(
             pattern: *const u8,
             pattern_len: usize,
+            slash: bool,
             bytes: *const u8,
             len: usize,
             lens: *const usize,
             count: usize,
         ) -> usize;
+        pub fn port_set_matches(
+            patterns: *const u8,
+            patterns_len: usize,
+            pattern_lens: *const usize,
+            pattern_count: usize,
+            bytes: *const u8,
+            len: usize,
+            lens: *const usize,
+            count: usize,
+        ) -> usize;
+        pub fn port_set_is_match(
+            patterns: *const u8,
+            patterns_len: usize,
+            pattern_lens: *const usize,
+            pattern_count: usize,
+            bytes: *const u8,
+            len: usize,
+            lens: *const usize,
+            count: usize,
+        ) -> usize;
+        pub fn port_options(words: *const u8, len: usize, lens: *const usize, count: usize) -> u64;
         pub fn port_flags(bytes: *const u8, len: usize) -> u64;
         pub fn port_arguments(line: *const u8, len: usize) -> u64;
         pub fn port_push_argument(argument: *const u8, len: usize) -> usize;
@@ -51,6 +73,33 @@ mod exports {
         pub fn port_write_escape_line(bytes: *const u8, len: usize, out: *mut u8, room: usize) -> usize;
         pub fn port_unescape(text: *const u8, len: usize) -> usize;
         pub fn port_unescape_line(text: *const u8, len: usize) -> usize;
+        pub fn port_wasm_check(bytes: *const u8, len: usize) -> u64;
+        pub fn port_to_str(bytes: *const u8, len: usize) -> usize;
+        pub fn port_components(path: *const u8, len: usize) -> usize;
+        pub fn port_components_back(path: *const u8, len: usize) -> usize;
+        pub fn port_parent(path: *const u8, len: usize) -> usize;
+        pub fn port_file_name(path: *const u8, len: usize) -> usize;
+        pub fn port_extension(path: *const u8, len: usize) -> usize;
+        pub fn port_path_starts_with(path: *const u8, len: usize, base: *const u8, base_len: usize) -> bool;
+        pub fn port_join(base: *const u8, len: usize, more: *const u8, more_len: usize) -> usize;
+        pub fn port_push_path(base: *const u8, len: usize, more: *const u8, more_len: usize) -> usize;
+        pub fn port_normalize(path: *const u8, len: usize) -> usize;
+        pub fn port_path_eq(a: *const u8, len: usize, b: *const u8, b_len: usize) -> bool;
+        pub fn port_path_is_less(a: *const u8, len: usize, b: *const u8, b_len: usize) -> bool;
+        pub fn port_words(line: *const u8, len: usize) -> u64;
+        pub fn port_quoted(name: *const u8, len: usize) -> usize;
+        pub fn port_quote(name: *const u8, len: usize) -> usize;
+        pub fn port_write_quoted(name: *const u8, len: usize, out: *mut u8, room: usize) -> usize;
+        pub fn port_command_line(
+            program: *const u8,
+            len: usize,
+            first: *const u8,
+            first_len: usize,
+            second: *const u8,
+            second_len: usize,
+            third: *const u8,
+            third_len: usize,
+        ) -> usize;
         pub fn port_ends_with(bytes: *const u8, len: usize, pattern: *const u8, pattern_len: usize) -> bool;
     }
 }
@@ -168,11 +217,56 @@ pub fn split_first_char(bytes: &[u8]) -> u32 {
     unsafe { exports::port_split_first_char(bytes.as_ptr(), bytes.len()) }
 }
 
-/// The texts of these lengths make up `texts`.
-pub fn matches(pattern: &str, texts: &str, lens: &[usize]) -> usize {
+/// The texts of these lengths make up `texts`; `/` separates, or nothing does.
+pub fn matches(pattern: &str, slash: bool, texts: &str, lens: &[usize]) -> usize {
     unsafe {
-        exports::port_matches(pattern.as_ptr(), pattern.len(), texts.as_ptr(), texts.len(), lens.as_ptr(), lens.len())
+        exports::port_matches(
+            pattern.as_ptr(),
+            pattern.len(),
+            slash,
+            texts.as_ptr(),
+            texts.len(),
+            lens.as_ptr(),
+            lens.len(),
+        )
     }
+}
+
+/// The patterns of these lengths make up `patterns`, as the texts do.
+pub fn set_matches(patterns: &str, pattern_lens: &[usize], texts: &str, lens: &[usize]) -> usize {
+    unsafe {
+        exports::port_set_matches(
+            patterns.as_ptr(),
+            patterns.len(),
+            pattern_lens.as_ptr(),
+            pattern_lens.len(),
+            texts.as_ptr(),
+            texts.len(),
+            lens.as_ptr(),
+            lens.len(),
+        )
+    }
+}
+
+/// The same.
+pub fn set_is_match(patterns: &str, pattern_lens: &[usize], texts: &str, lens: &[usize]) -> usize {
+    unsafe {
+        exports::port_set_is_match(
+            patterns.as_ptr(),
+            patterns.len(),
+            pattern_lens.as_ptr(),
+            pattern_lens.len(),
+            texts.as_ptr(),
+            texts.len(),
+            lens.as_ptr(),
+            lens.len(),
+        )
+    }
+}
+
+/// The words of these lengths make up `words`.
+pub fn options(words: &str, lens: &[usize]) -> u64 {
+    unsafe { exports::port_options(words.as_ptr(), words.len(), lens.as_ptr(), lens.len()) }
 }
 
 /// The sum of the flags of a word.
@@ -222,4 +316,90 @@ pub fn unescape(bytes: &[u8]) -> usize {
 /// The bytes are UTF-8.
 pub fn unescape_line(bytes: &[u8]) -> usize {
     unsafe { exports::port_unescape_line(bytes.as_ptr(), bytes.len()) }
+}
+
+pub fn wasm_check(bytes: &[u8]) -> bool {
+    unsafe { exports::port_wasm_check(bytes.as_ptr(), bytes.len()) == 0 }
+}
+
+/// The length of the text that the bytes are.
+pub fn to_str(bytes: &[u8]) -> usize {
+    unsafe { exports::port_to_str(bytes.as_ptr(), bytes.len()) }
+}
+
+pub fn components(path: &[u8]) -> usize {
+    unsafe { exports::port_components(path.as_ptr(), path.len()) }
+}
+
+pub fn components_back(path: &[u8]) -> usize {
+    unsafe { exports::port_components_back(path.as_ptr(), path.len()) }
+}
+
+pub fn parent(path: &[u8]) -> usize {
+    unsafe { exports::port_parent(path.as_ptr(), path.len()) }
+}
+
+pub fn file_name(path: &[u8]) -> usize {
+    unsafe { exports::port_file_name(path.as_ptr(), path.len()) }
+}
+
+pub fn extension(path: &[u8]) -> usize {
+    unsafe { exports::port_extension(path.as_ptr(), path.len()) }
+}
+
+pub fn path_starts_with(path: &[u8], base: &str) -> bool {
+    unsafe { exports::port_path_starts_with(path.as_ptr(), path.len(), base.as_ptr(), base.len()) }
+}
+
+pub fn join(base: &[u8], more: &str) -> usize {
+    unsafe { exports::port_join(base.as_ptr(), base.len(), more.as_ptr(), more.len()) }
+}
+
+pub fn push_path(base: &[u8], more: &str) -> usize {
+    unsafe { exports::port_push_path(base.as_ptr(), base.len(), more.as_ptr(), more.len()) }
+}
+
+pub fn normalize(path: &[u8]) -> usize {
+    unsafe { exports::port_normalize(path.as_ptr(), path.len()) }
+}
+
+pub fn path_eq(a: &[u8], b: &str) -> bool {
+    unsafe { exports::port_path_eq(a.as_ptr(), a.len(), b.as_ptr(), b.len()) }
+}
+
+pub fn path_is_less(a: &[u8], b: &str) -> bool {
+    unsafe { exports::port_path_is_less(a.as_ptr(), a.len(), b.as_ptr(), b.len()) }
+}
+
+/// The sum of the bytes of the words.
+pub fn words(line: &[u8]) -> u64 {
+    unsafe { exports::port_words(line.as_ptr(), line.len()) }
+}
+
+pub fn quoted(name: &[u8]) -> usize {
+    unsafe { exports::port_quoted(name.as_ptr(), name.len()) }
+}
+
+pub fn quote(name: &[u8]) -> usize {
+    unsafe { exports::port_quote(name.as_ptr(), name.len()) }
+}
+
+pub fn write_quoted(name: &[u8], out: &mut [u8]) -> usize {
+    unsafe { exports::port_write_quoted(name.as_ptr(), name.len(), out.as_mut_ptr(), out.len()) }
+}
+
+/// How many units the line of a program with three arguments has.
+pub fn command_line(program: &[u8], [first, second, third]: [&[u8]; 3]) -> usize {
+    unsafe {
+        exports::port_command_line(
+            program.as_ptr(),
+            program.len(),
+            first.as_ptr(),
+            first.len(),
+            second.as_ptr(),
+            second.len(),
+            third.as_ptr(),
+            third.len(),
+        )
+    }
 }

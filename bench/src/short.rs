@@ -19,6 +19,8 @@ pub fn time(bench: &mut Bench) {
 
     bench.table_beside("Check of short strings on Windows", "a call", &theirs::SIMDUTF8);
     of_windows.iter().for_each(|strings| check(bench, strings));
+    bench.table_beside("Check of short strings as texts", "a call", &theirs::SIMDUTF8);
+    of_unix.iter().for_each(|strings| texts(bench, strings));
     bench.table("Units of short strings on Windows", "a call");
     of_windows.iter().for_each(|strings| units(bench, strings));
     bench.table("Lossy texts of short strings", "a call");
@@ -100,6 +102,29 @@ fn check(bench: &mut Bench, strings: &Short) {
                 .if_texts(&mut || all(strings, |bytes| String::from_utf8(bytes.to_vec()).map_or(0, |text| text.len()))),
             None,
             None,
+        ],
+    );
+}
+
+/// Whether strings of Unix are texts, and whether bytes are strings of wasm.
+fn texts(bench: &mut Bench, strings: &Short) {
+    let to_str: Call = |bytes| theirs::unix(bytes).to_str().map_or(usize::MAX, str::len);
+    bench.line(
+        "Unix to_str",
+        strings.name,
+        strings.count(),
+        [Some(&mut || all(strings, ours::to_str)), None, Some(&mut || all(strings, to_str)), None, None],
+    );
+    bench.line(
+        "wasm check",
+        strings.name,
+        strings.count(),
+        [
+            Some(&mut || all(strings, |bytes| ours::wasm_check(bytes).into())),
+            None,
+            Some(&mut || all(strings, |bytes| str::from_utf8(bytes).is_ok().into())),
+            Some(&mut || all(strings, |bytes| theirs::is_utf8_sse42(bytes).into())),
+            theirs::if_avx2(Some(&mut || all(strings, |bytes| theirs::is_utf8_avx2(bytes).into()))),
         ],
     );
 }

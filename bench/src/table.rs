@@ -120,3 +120,14 @@ impl Bench {
         println!();
     }
 }
+
+/// Calls a call on so many bytes often enough that the clock, which takes some hundred nanoseconds,
+/// weighs little, and sums up what it answers.
+pub fn repeated(len: usize, mut call: impl FnMut() -> u64) -> u64 {
+    (0..times(len)).fold(0, |sum: u64, _| sum.wrapping_add(call()))
+}
+
+/// How often `repeated` calls it.
+pub fn times(len: usize) -> usize {
+    ((1 << 16) / len).max(1)
+}

@@ -1,5 +1,5 @@
 -- What the exports answer.
-use Rattle.std.specs.Prelude.{◌≡◌, ◌⊎◌, ℕ, suc, ◌+◌, ◌%◌, ◌^◌, ◌≤◌, false, List, [], ◌∷◌, length, take, drop}
+use Rattle.std.specs.Prelude.{◌≡◌, ◌⊎◌, ℕ, suc, ◌+◌, ◌%◌, ◌^◌, ◌≤◌, List, [], ◌∷◌, length, take, drop}
 use Rattle.std.specs.List.{repeat}
 use Rattle.wtf8_core.specs.declared.fault.EncodingError.{EncodingError}
 use Rattle.wtf8_core.specs.Checker.{HasFirstFault}
@@ -7,8 +7,6 @@ use Rattle.os_str_ext.specs.Parts.{unit_number}
 use Rattle.os_str_ext.specs.declared.symbols.Symbol.{Symbol}
 use Rattle.os_str_ext.specs.declared.symbols.Symbol.TheVariants.{Character}
 use Rattle.os_str_ext.specs.declared.symbols.Symbol.TheVariants as symbol
-use Rattle.os_glob.specs.declared.options.GlobOptions.{GlobOptions}
-use Rattle.os_glob.specs.declared.options.Separators.TheVariants as separators
 
 -- the bytes aren't WTF-8: they have a first fault
 abbrev pub IsFaulty : List ℕ → Type 0
@@ -37,10 +35,6 @@ symbol_number (symbol.Unit u) = unit_number u
 -- a sum with the number of one more symbol, modulo 2 ^ 64
 abbrev pub add_symbol : ℕ → Symbol → ℕ
 add_symbol sum s = (sum + symbol_number s) % 2 ^ 64
-
--- patterns without separators, which match a leading dot by wildcards too
-abbrev pub no_separators : GlobOptions
-no_separators = record { separators = separators.None; literal_leading_dot = false }
 
 -- the bytes, cut into pieces of these lengths
 abbrev pub pieces_of : List ℕ → List ℕ → List (List ℕ)

@@ -1,4 +1,5 @@
-//! The check of Windows, of bytes, of a vector and of a piece, first faults, and the text of a fault.
+//! The check of Windows, of bytes, of a vector and of a piece, that of wasm, texts of Unix, first faults,
+//! and the text of a fault.
 ghost use Rattle.std.specs.Prelude.{◌≡◌, ◌≢◌, ◌↔◌, ℕ, IsTrue, Option, length};
 ghost use Rattle.std.specs.Str.{IsUtf8};
 ghost use Rattle.wtf8_core.specs.Checker.{HasFirstFault};
@@ -10,7 +11,8 @@ ghost use Rattle.wtf8_core.specs.declared.fault.EncodingError.{EncodingError};
 ghost use Rattle.wtf8_core.specs.declared.fault.EncodingError.TheVariants.{Byte};
 ghost use Rattle.bench_exports.specs.Answers.{AnswersOr, IsFaulty};
 
-use platform_str::{OsString, OsStringBytes, Platform, Windows};
+use crate::strings::unix;
+use platform_str::{OsString, OsStringBytes, Platform, Wasm, Windows};
 use std::alloc::Global;
 use wtf8_core::{Checker, EncodingError, is_utf8, utf8_fault, wtf8_fault};
 
@@ -23,6 +25,28 @@ pub extern "C" fn port_check(bytes: &[u8]) -> u64
     match Windows::check(bytes) {
         Ok(()) => 0,
         Err(_) => 1,
+    }
+}
+
+/// 0 where the bytes are UTF-8, by the check of wasm, and else 1.
+#[unsafe(no_mangle)]
+pub extern "C" fn port_wasm_check(bytes: &[u8]) -> u64
+    ensures { result ≡ 0 → IsUtf8 bytes.now }
+{
+    match Wasm::check(bytes) {
+        Ok(()) => 0,
+        Err(_) => 1,
+    }
+}
+
+/// How many bytes the text has that the bytes are on Unix, or `usize::MAX` where they are none.
+#[unsafe(no_mangle)]
+pub extern "C" fn port_to_str(bytes: &[u8]) -> usize
+    ensures { result ≢ usize.MAX → IsUtf8 bytes.now × (result ≡ length bytes.now) }
+{
+    match unix(bytes).to_str() {
+        Some(text) => text.len(),
+        None => usize::MAX,
     }
 }
 

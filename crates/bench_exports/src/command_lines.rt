@@ -1,7 +1,7 @@
 //! Command lines of Windows, read and written.
 ghost use Rattle.wtf8_core.specs.Wtf8.{IsWtf8};
 
-use os_command_line::windows::{Arguments, push_argument};
+use os_command_line::windows::{Arguments, command_line, push_argument};
 use platform_str::windows::OsStr;
 use std::alloc::Global;
 
@@ -34,6 +34,33 @@ pub extern "C" fn port_push_argument(alloc: Global, argument: &[u8]) -> usize
     let mut line = Vec::new(alloc);
     match push_argument(&mut line, OsStr::from_encoded_bytes_unchecked(argument)) {
         Ok(()) => line.len(),
+        Err(_) => usize::MAX,
+    }
+}
+
+/// How many units the command line of a program with three arguments has; `usize::MAX` where it is
+/// refused.
+#[unsafe(no_mangle)]
+pub extern "C" fn port_command_line(
+    alloc: Global,
+    program: &[u8],
+    first: &[u8],
+    second: &[u8],
+    third: &[u8],
+) -> usize
+    requires program { IsWtf8 program.now }
+    requires first { IsWtf8 first.now }
+    requires second { IsWtf8 second.now }
+    requires third { IsWtf8 third.now }
+{
+    let arguments = [
+        OsStr::from_encoded_bytes_unchecked(first),
+        OsStr::from_encoded_bytes_unchecked(second),
+        OsStr::from_encoded_bytes_unchecked(third),
+    ];
+    let program = OsStr::from_encoded_bytes_unchecked(program);
+    match command_line(alloc, program, arguments.as_slice()) {
+        Ok(line) => line.len(),
         Err(_) => usize::MAX,
     }
 }

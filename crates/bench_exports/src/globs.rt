@@ -2,34 +2,126 @@
 ghost use Rattle.std.specs.Prelude.{◌↔◌, IsTrue};
 ghost use Rattle.std.specs.Str.{IsUtf8};
 ghost use Rattle.platform_str.specs.PlatformWords.{itself};
-ghost use Rattle.os_str_ext.specs.Symbols.{symbols_of};
-ghost use Rattle.os_glob.specs.Items.{IsWellFormed};
-ghost use Rattle.os_glob.specs.Match.{IsMatch};
-ghost use Rattle.bench_exports.specs.Answers.{no_separators, Fit, IsCount, pieces_of};
+ghost use Rattle.wildcards.specs.Sets.{MatchesChoice};
+ghost use Rattle.glob_patterns.specs.Letters.{letters_of};
+ghost use Rattle.glob_patterns.specs.Options.{options_of};
+ghost use Rattle.bench_exports.specs.Answers.{Fit, IsCount, pieces_of};
 
-use crate::strings::{text, unix};
-use os_glob::{Glob, GlobOptions, Separators};
+use crate::strings::{strings_of, text, unix};
+use glob_patterns::{Glob, GlobOptions, GlobSet, Separators};
+use platform_str::Unix;
+use std::alloc::Global;
 
-/// How many of the strings a pattern matches, without separators: none if it isn't well formed. The
-/// strings are the bytes, cut into pieces of these lengths.
+/// How many of the strings a pattern matches, which is compiled once; none if it isn't well formed,
+/// or memory was refused. The strings are the bytes, cut into pieces of these lengths, and `/`
+/// separates, or nothing does.
 #[unsafe(no_mangle)]
-pub extern "C" fn port_matches(pattern: &[u8], raw: &[u8], lens: &[usize]) -> usize
+pub extern "C" fn port_matches(
+    alloc: Global,
+    pattern: &[u8],
+    slash: bool,
+    raw: &[u8],
+    lens: &[usize],
+) -> usize
     requires text { IsUtf8 pattern.now }
     requires fit { Fit lens.now raw.now }
-    ensures { IsCount (λ string. IsWellFormed pattern.now
-        × IsMatch no_separators pattern.now (symbols_of itself string)) (pieces_of lens.now raw.now) result }
 {
-    match Glob::new(text(pattern)) {
+    match Glob::new(alloc, options(slash), text(pattern)) {
         Ok(glob) => matches(&glob, raw, lens),
         Err(_) => 0,
     }
 }
 
+/// How many pairs there are of a string and a pattern that matches it, where `/` separates, modulo
+/// 2^64; `usize::MAX` where a pattern isn't well formed, or memory was refused. The patterns are
+/// compiled once, and are the bytes, cut into pieces of these lengths, as the strings are.
+#[unsafe(no_mangle)]
+pub extern "C" fn port_set_matches(
+    alloc: Global,
+    patterns: &[u8],
+    pattern_lens: &[usize],
+    raw: &[u8],
+    lens: &[usize],
+) -> usize
+    requires patterns { Fit pattern_lens.now patterns.now }
+    requires strings { Fit lens.now raw.now }
+{
+    let Some(set) = set_of(alloc, patterns, pattern_lens) else {
+        return usize::MAX;
+    };
+    let mut found = Vec::new(alloc);
+    let mut count: usize = 0;
+    let mut rest = raw;
+    let mut left = lens;
+    while let Some((len, more)) = left.split_first() {
+        let (string, after) = rest.split_at(*len);
+        match set.matches(unix(string), &mut found) {
+            Ok(()) => {}
+            Err(_) => return usize::MAX,
+        }
+        count = count.wrapping_add(found.len());
+        rest = after;
+        left = more;
+    }
+    count
+}
+
+/// How many of the strings a pattern of the set matches; else the same.
+#[unsafe(no_mangle)]
+pub extern "C" fn port_set_is_match(
+    alloc: Global,
+    patterns: &[u8],
+    pattern_lens: &[usize],
+    raw: &[u8],
+    lens: &[usize],
+) -> usize
+    requires patterns { Fit pattern_lens.now patterns.now }
+    requires strings { Fit lens.now raw.now }
+{
+    let Some(set) = set_of(alloc, patterns, pattern_lens) else {
+        return usize::MAX;
+    };
+    let mut count: usize = 0;
+    let mut rest = raw;
+    let mut left = lens;
+    while let Some((len, more)) = left.split_first() {
+        let (string, after) = rest.split_at(*len);
+        if set.is_match(unix(string)) {
+            count = count.wrapping_add(1);
+        }
+        rest = after;
+        left = more;
+    }
+    count
+}
+
+/// The set of the patterns of these lengths.
+fn set_of(alloc: Global, patterns: &[u8], lens: &[usize]) -> Option<GlobSet<Unix>>
+    requires { Fit lens.now patterns.now }
+{
+    let Ok(strings) = strings_of(alloc, patterns, lens) else {
+        return None;
+    };
+    match GlobSet::new(alloc, options(true), &strings) {
+        Ok(set) => Some(set),
+        Err(_) => None,
+    }
+}
+
+/// The options where `/` separates, or nothing does.
+fn options(slash: bool) -> GlobOptions {
+    GlobOptions::new(if slash {
+        Separators::Slash
+    } else {
+        Separators::None
+    })
+}
+
 /// How many strings a pattern matches, of the pieces of these lengths.
-fn matches(glob: &Glob<'_>, raw: &[u8], lens: &[usize]) -> usize
+fn matches(glob: &Glob<Unix>, raw: &[u8], lens: &[usize]) -> usize
     requires fit { Fit lens.now raw.now }
-    ensures { IsCount (λ string. IsMatch no_separators glob.now (symbols_of itself string))
-        (pieces_of lens.now raw.now) result }
+    ensures { IsCount (λ string. MatchesChoice (options_of glob.now.options) glob.now.choices.items
+        (letters_of itself string)) (pieces_of lens.now raw.now) result }
 {
     let mut count = 0;
     let mut rest = raw;
@@ -47,12 +139,9 @@ fn matches(glob: &Glob<'_>, raw: &[u8], lens: &[usize]) -> usize
 
 /// Whether a pattern matches a string, which is one call.
 #[inline(never)]
-fn is_match(glob: &Glob<'_>, raw: &[u8]) -> bool
-    ensures { IsTrue result ↔ IsMatch no_separators glob.now (symbols_of itself raw.now) }
+fn is_match(glob: &Glob<Unix>, raw: &[u8]) -> bool
+    ensures { IsTrue result ↔ MatchesChoice (options_of glob.now.options) glob.now.choices.items
+        (letters_of itself raw.now) }
 {
-    let options = GlobOptions {
-        separators: Separators::None,
-        literal_leading_dot: false,
-    };
-    glob.is_match(options, unix(raw))
+    glob.is_match(unix(raw))
 }

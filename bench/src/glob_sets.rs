@@ -1,0 +1,158 @@
+//! Sets of path patterns over this machine's own paths, and how the cost of patterns grows, beside
+//! globset.
+use crate::globs::{MACHINE, PATHS, Paths, cut};
+use crate::ours;
+use crate::table::Bench;
+use globset::{GlobBuilder, GlobSet, GlobSetBuilder};
+use std::collections::HashSet;
+use std::hint::black_box;
+
+const COUNTS: [usize; 4] = [1, 10, 100, 1000];
+
+/// Makes so many patterns.
+type Patterns = fn(usize) -> Vec<String>;
+
+const KINDS: [(&str, Patterns); 3] = [("`**/*.ext`", extensions), ("literal paths", literals), ("a mix", mix)];
+
+pub fn time(bench: &mut Bench) {
+    bench.table("Patterns in sets beside globset", "a path");
+    for (kind, patterns) in KINDS {
+        for count in COUNTS {
+            let input = format!("{kind}, {count}");
+            if bench.wants("matches", &input) || bench.wants("is_match", &input) {
+                set(bench, &input, &patterns(count));
+            }
+        }
+    }
+    grown(bench);
+}
+
+/// The longest path of a line, and how many bytes all its paths have, which are the same.
+const LONGEST: usize = 1 << 16;
+const TOTAL: usize = 1 << 16;
+
+/// Patterns that grow, paths that grow, and both, at once, twice and four times the length.
+fn grown(bench: &mut Bench) {
+    bench.table("Hard patterns beside globset", "a byte");
+    for times in [1, 2, 4] {
+        let len = LONGEST / 4 * times;
+        let path = "a".repeat(len);
+        for pattern in ["*a*a*a*b", "*[!b][!b][!b]b*", "*a?a?b*"] {
+            one(bench, &format!("`{pattern}` on a^{len}"), pattern, &path);
+        }
+        let names = "a/".repeat(len / 2);
+        one(bench, &format!("`**/a/**/a/**/b` on (a/)^{}", len / 2), "**/a/**/a/**/b", &names);
+    }
+    let path = "a".repeat(LONGEST);
+    for count in [16, 32, 64] {
+        one(bench, &format!("`*a^{count}b*` on a^{LONGEST}"), &format!("*{}b*", "a".repeat(count)), &path);
+        one(bench, &format!("`(*a)^{count}*b*` on a^{LONGEST}"), &format!("{}*b*", "*a".repeat(count)), &path);
+    }
+    for count in [100, 200, 400] {
+        let ranges: String = (0..count).filter_map(|index| char::from_u32(0x4E00 + 2 * index)).collect();
+        one(bench, &format!("`*[..]b*` of {count} letters on a^{LONGEST}"), &format!("*[{ranges}]b*"), &path);
+    }
+}
+
+/// A pattern over a path, which is there as often as `TOTAL` asks.
+fn one(bench: &mut Bench, input: &str, pattern: &str, path: &str) {
+    if !bench.wants("is_match", input) {
+        return;
+    }
+    let lens = vec![path.len(); TOTAL / path.len()];
+    let all = path.repeat(lens.len());
+    let glob = GlobBuilder::new(pattern).literal_separator(true).build().expect("a pattern of globset");
+    let theirs = glob.compile_matcher();
+    let ours = black_box(ours::matches as fn(&str, bool, &str, &[usize]) -> usize);
+    bench.line(
+        "is_match",
+        input,
+        all.len(),
+        [
+            Some(&mut || ours(black_box(pattern), true, &all, &lens) as u64),
+            Some(&mut || lens.iter().filter(|_| theirs.is_match(black_box(path))).count() as u64),
+            None,
+        ],
+    );
+}
+
+fn set(bench: &mut Bench, input: &str, patterns: &[String]) {
+    let theirs = compiled(patterns);
+    let (all, lens) = (patterns.concat(), patterns.iter().map(String::len).collect::<Vec<_>>());
+    let Paths { all: paths, lens: path_lens, ended, .. } = &*PATHS;
+    let ours = black_box(ours::set_matches as fn(&str, &[usize], &str, &[usize]) -> usize);
+    let mut found = Vec::new();
+    bench.line(
+        "matches",
+        input,
+        path_lens.len(),
+        [
+            Some(&mut || ours(black_box(&all), &lens, paths, path_lens) as u64),
+            Some(&mut || {
+                cut(ended, path_lens).fold(0, |sum, path| {
+                    theirs.matches_into(path, &mut found);
+                    sum + found.len() as u64
+                })
+            }),
+            None,
+        ],
+    );
+    let ours = black_box(ours::set_is_match as fn(&str, &[usize], &str, &[usize]) -> usize);
+    bench.line(
+        "is_match",
+        input,
+        path_lens.len(),
+        [
+            Some(&mut || ours(black_box(&all), &lens, paths, path_lens) as u64),
+            Some(&mut || cut(ended, path_lens).filter(|path| theirs.is_match(path)).count() as u64),
+            None,
+        ],
+    );
+}
+
+fn compiled(patterns: &[String]) -> GlobSet {
+    let mut builder = GlobSetBuilder::new();
+    for pattern in patterns {
+        builder.add(GlobBuilder::new(pattern).literal_separator(true).build().expect("a pattern of globset"));
+    }
+    builder.build().expect("a set of globset")
+}
+
+/// Whether nothing in the text means anything in a pattern.
+fn is_plain(text: &str) -> bool {
+    text.bytes().all(|byte| byte.is_ascii_alphanumeric() || b"/._-+".contains(&byte))
+}
+
+/// Parts of this machine's paths, each once, evenly chosen.
+fn distinct<'a>(parts: impl Iterator<Item = &'a str>, count: usize) -> Vec<&'a str> {
+    let mut seen = HashSet::new();
+    let all: Vec<_> = parts.filter(|part| !part.is_empty() && is_plain(part) && seen.insert(*part)).collect();
+    (0..count).map(|index| all[index * all.len() / count]).collect()
+}
+
+fn extensions(count: usize) -> Vec<String> {
+    let extensions = MACHINE.iter().filter_map(|path| path.rsplit_once('/')?.1.rsplit_once('.').map(|(_, it)| it));
+    distinct(extensions, count).iter().map(|extension| format!("**/*.{extension}")).collect()
+}
+
+fn literals(count: usize) -> Vec<String> {
+    distinct(MACHINE.iter().map(String::as_str), count).iter().map(|path| (*path).to_owned()).collect()
+}
+
+/// As in files of patterns to be ignored: an extension, a folder anywhere, a folder within another, and
+/// an ending of names.
+fn mix(count: usize) -> Vec<String> {
+    let folders = distinct(MACHINE.iter().filter_map(|path| path.split('/').nth(3)), 2 * count);
+    let extensions = extensions(count);
+    (0..count)
+        .map(|index| {
+            let (folder, other) = (folders[2 * index], folders[2 * index + 1]);
+            match index % 4 {
+                0 => extensions[index].clone(),
+                1 => format!("**/{folder}/**"),
+                2 => format!("/usr/{folder}/**/{other}/*"),
+                _ => format!("**/*{}{}", &folder[..folder.len().min(2)], &extensions[index][4..]),
+            }
+        })
+        .collect()
+}
