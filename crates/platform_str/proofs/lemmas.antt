@@ -4,6 +4,7 @@ pub mod Readings
 pub mod FirstUnits
 pub mod FourBytes
 pub mod WideLemmas
+pub mod WideBuffer
 pub mod ByteOrder
 pub mod LaneTests
 pub mod FromWide

@@ -4,15 +4,16 @@ ghost use Rattle.std.specs.Prelude.{◌≡◌, ◌++◌, ◌+◌, ◌*◌, ◌/�
 ghost use Rattle.std.specs.List.{All, count_by, flat_map};
 ghost use Rattle.wtf8_core.specs.Wtf8.{HasUnits};
 ghost use Rattle.wtf8_core.specs.Surrogate.{is_pair};
+ghost use Rattle.wtf8_core.specs.Truncated.{IsTruncated};
 ghost use Rattle.platform_str.specs.Bulk.{pairs};
 ghost use Rattle.platform_str.specs.FromWide.{bytes_by_neighbours, bytes_after_first, word_bytes};
 
 use std::simd::prelude::*;
-use wtf8_core::{first_pair, write_form};
+use wtf8_core::{DecodeWide, first_pair, write_form};
 
 /// How many of the first 16 units are `least` or more.
 #[inline(always)]
-fn count_from(units: &[u16], least: u16) -> usize
+pub(crate) fn count_from(units: &[u16], least: u16) -> usize
     requires { 16 ≤ length units.now }
     ensures { result ≡ count_by (leb least) (take 16 units.now) }
 {
@@ -257,4 +258,36 @@ pub(crate) fn write_wtf8(units: &[u16], bytes: &mut [u8])
     }
     let at = put_unit(bytes, 0, 0, units[0], unit_or_zero(units, 1));
     write_after_first(bytes, at, units);
+}
+
+/// Writes the first bytes of units over others of the same number.
+fn fill(units: &[u16], bytes: &mut [u8])
+    requires { (string : List ℕ) → HasUnits string units.now → length bytes.old ≤ length string }
+    ensures { (string : List ℕ) × (HasUnits string units.now
+        × (bytes.new ≡ take (length bytes.old) string)) }
+{
+    let mut left = DecodeWide::new(units);
+    let mut end = 0;
+    while end < bytes.len() {
+        let Some(byte) = left.next() else {
+            return;
+        };
+        bytes[end] = byte;
+        end += 1;
+    }
+}
+
+/// Writes the bytes of units into a buffer, as far as there is room, and returns how many there
+/// are.
+pub(crate) fn write_bytes(units: &[u16], buffer: &mut [u8]) -> usize
+    ensures { (string : List ℕ) × (HasUnits string units.now
+        × IsTruncated string buffer.old buffer.new result) }
+{
+    let len = wtf8_len(units);
+    if len <= buffer.len() {
+        write_wtf8(units, &mut buffer[..len]);
+    } else {
+        fill(units, buffer);
+    }
+    len
 }

@@ -42,6 +42,7 @@ mod to_wide;
 pub mod unix;
 pub mod wasm;
 mod wide;
+mod wide_buffer;
 pub mod windows;
 mod writeable;
 

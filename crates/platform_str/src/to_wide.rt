@@ -22,7 +22,7 @@ fn is_ascii_block(block: [u8; 16]) -> bool
 
 /// The units of 16 ASCII bytes.
 #[inline(always)]
-fn widened(block: [u8; 16]) -> [u16; 16]
+pub(crate) fn widened(block: [u8; 16]) -> [u16; 16]
     ensures { result ≡ block }
 {
     u8x16::from_array(block).cast::<u16>().to_array()
@@ -40,7 +40,7 @@ fn lanes(bytes: &[u8], from: usize) -> u16x16
 
 /// The unit that each of 16 bytes after the first adds, if it adds one.
 #[inline(always)]
-fn unit_lanes(bytes: &[u8]) -> [u16; 16]
+pub(crate) fn unit_lanes(bytes: &[u8]) -> [u16; 16]
     requires { 19 ≤ length bytes.now }
     ensures { (i : ℕ) → i < 16 → slice_index result i
         ≡ unit_at (slice_index bytes.now i) (slice_index bytes.now (1 + i))
@@ -64,7 +64,7 @@ fn unit_lanes(bytes: &[u8]) -> [u16; 16]
 
 /// For each of 16 bytes after the first, 1 if it adds a unit, and else 0.
 #[inline(always)]
-fn unit_marks(bytes: &[u8]) -> [u16; 16]
+pub(crate) fn unit_marks(bytes: &[u8]) -> [u16; 16]
     requires { 17 ≤ length bytes.now }
     ensures { (i : ℕ) → i < 16 → slice_index result i
         ≡ (if adds_unit (slice_index bytes.now i) (slice_index bytes.now (1 + i)) then 1 else 0) }
@@ -179,7 +179,7 @@ fn push_next<A: Allocator>(
 
 /// The unit that a byte adds, if it adds one.
 #[inline(always)]
-fn unit(before: u8, first: u8, second: u8, third: u8) -> u16
+pub(crate) fn unit(before: u8, first: u8, second: u8, third: u8) -> u16
     ensures { result ≡ unit_at before first second third }
 {
     if first < 0x80 {
@@ -222,7 +222,7 @@ fn push_unit<A: Allocator>(
 
 /// The byte at an index, or 0 if there is none.
 #[inline(always)]
-fn byte_or_zero(bytes: &[u8], at: usize) -> u8
+pub(crate) fn byte_or_zero(bytes: &[u8], at: usize) -> u8
     ensures { result ≡ slice_index bytes.now at }
 {
     if at < bytes.len() { bytes[at] } else { 0 }
@@ -230,7 +230,7 @@ fn byte_or_zero(bytes: &[u8], at: usize) -> u8
 
 /// Whether there are at least 16 bytes after the first and the next 16 are ASCII.
 #[inline(always)]
-fn goes_on_in_ascii(bytes: &[u8]) -> bool
+pub(crate) fn goes_on_in_ascii(bytes: &[u8]) -> bool
     ensures room { result ≡ true → 16 < length bytes.now }
     ensures ascii { result ≡ true → All (λ b. b < 0x80) (take 16 (drop 1 bytes.now)) }
 {

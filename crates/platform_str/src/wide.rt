@@ -1,14 +1,16 @@
 //! The units of Windows strings.
-ghost use Rattle.std.specs.Prelude.{◌≡◌, [], IsOk, IfOk};
+ghost use Rattle.std.specs.Prelude.{◌≡◌, ℕ, List, [], IsOk, IfOk};
 ghost use Rattle.std.specs.Iterator.{YieldsFirst, item_count};
 ghost use Rattle.wtf8_core.specs.Wtf8.{HasUnits};
+ghost use Rattle.wtf8_core.specs.Truncated.{IsTruncated};
 ghost use Rattle.platform_str.specs.Strings.{bytes, string_vec_of};
 
-use crate::from_wide::{write_wtf8, wtf8_len};
+use crate::from_wide::{write_bytes, write_wtf8, wtf8_len};
 use crate::os_str::OsStr;
 use crate::os_string::OsString;
 use crate::platform::{Platform, Windows};
 use crate::to_wide::push_units;
+use crate::wide_buffer::write_units;
 use std::alloc::{AllocError, Allocator};
 use std::marker::Model;
 use wtf8_core::EncodeWide;
@@ -97,6 +99,54 @@ impl<'a> OsStr<'a, Windows> {
         let mut wide = Vec::with_capacity(alloc, encoded.len())?;
         push_units(&mut wide, encoded)?;
         Ok(wide)
+    }
+
+    /// Writes the string's 16-bit units into a buffer, truncated if the buffer is too short for
+    /// them, and returns how many the string has (own call; the units are those of
+    /// [`OsStr::encode_wide`]). What the units don't reach stays as it is. It doesn't allocate, and
+    /// with an empty buffer only counts.
+    ///
+    /// A string has no more units than bytes. A buffer may end between the two units of a pair.
+    ///
+    /// ```
+    /// use os_str_bytes::{OsStr, Windows};
+    ///
+    /// let string = OsStr::<Windows>::new("a\u{1F600}");
+    /// let mut buffer = [0; 4];
+    /// assert_eq!(rt; string.write_wide(&mut buffer), 3);
+    /// assert_eq!(rt; buffer.as_slice(), [0x61, 0xD83D, 0xDE00, 0].as_slice());
+    /// assert_eq!(rt; string.write_wide(&mut []), 3);
+    /// ```
+    pub fn write_wide(self, buffer: &mut [u16]) -> usize
+        ensures has_units { (units : List ℕ) × (HasUnits (bytes self.entry) units
+            × IsTruncated units buffer.old buffer.new result) }
+        ensures units { IsTruncated (⟦<Windows as Platform>⟧.units (bytes self.entry)) buffer.old
+            buffer.new result }
+    {
+        write_units(self.as_encoded_bytes(), buffer)
+    }
+
+    /// Writes the bytes of the one string with these 16-bit units into a buffer, truncated if the
+    /// buffer is too short for them, and returns how many there are (own call; the string is that
+    /// of [`OsString::from_wide`]). What the bytes don't reach stays as it is. It doesn't allocate,
+    /// and with an empty buffer only counts.
+    ///
+    /// A unit gives at most three bytes. If the buffer has room for all, they are a string's bytes,
+    /// and a prefix of them may end within a character.
+    ///
+    /// ```
+    /// use os_str_bytes::{OsStr, Windows};
+    ///
+    /// let mut buffer = [b'-'; 6];
+    /// let len = OsStr::<Windows>::write_from_wide(&[0x61, 0xD83D, 0xDE00], &mut buffer);
+    /// assert_eq!(rt; len, 5);
+    /// assert_eq!(rt; buffer.as_slice(), b"a\xF0\x9F\x98\x80-".as_slice());
+    /// ```
+    pub fn write_from_wide(units: &[u16], buffer: &mut [u8]) -> usize
+        ensures has_units { (string : List ℕ) × (HasUnits string units.now
+            × IsTruncated string buffer.old buffer.new result) }
+    {
+        write_bytes(units, buffer)
     }
 }
 

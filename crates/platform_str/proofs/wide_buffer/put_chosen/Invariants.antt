@@ -1,0 +1,8 @@
+use Rattle.platform_str.proofs.Common.{◌≡◌, ◌++◌, ◌+◌, ◌≤◌, length, take, drop}
+use Rattle.platform_str.specs.ToWide.{chosen}
+use Rattle.platform_str.proofs.wide_buffer.put_chosen.Given as goal
+
+abbrev pub invariant-loop-i : goal.invariant-loop-i
+invariant-loop-i l =
+    (length l.units ≡ length l.fn.units) × (l.end ≤ l.at + l.i)
+    × (take l.end l.units ++ chosen (drop l.i l.lanes) (drop l.i l.marks) ≡ take l.at l.fn.units ++ chosen l.lanes l.marks)
