@@ -155,6 +155,39 @@ static void wide(void) {
     EXPECT(out[0] == 'a' && out[3] == 'd');
 }
 
+/* The same of strings of any length, with each kind of character and a fault at their ends. */
+static void long_wide(void) {
+    static const char *const last[] = {"a", "\xC3\xA9", "\xE2\x82\xAC", "\xF0\x9F\x98\x80", "\xED\xA0\xBD"};
+    static const uint16_t ends[][2] = {{0x61}, {0xE9}, {0x20AC}, {0xD83D, 0xDE00}, {0xD83D}};
+    for (size_t len = 0; len < 90; len++)
+        for (size_t kind = 0; kind < 5; kind++)
+            for (size_t room = len < 2 ? 0 : len - 2; room < len + 6; room++) {
+                char string[100], back[300];
+                uint16_t units[100], *out = malloc(room * sizeof *out + 1);
+                size_t bytes = len + strlen(last[kind]), all = len + (kind == 3 ? 2 : 1), count = 0;
+                osb_fault fault = {0, 0, 0, 0};
+                memset(string, 'x', len);
+                strcpy(string + len, last[kind]);
+                for (size_t i = 0; i < len; i++) units[i] = 'x';
+                memcpy(units + len, ends[kind], sizeof ends[kind]);
+                memset(out, 0x55, room * sizeof *out);
+                osb_status status = osb_to_wide(string, bytes, out, room, &count, &fault);
+                EXPECT(count == all && status == (room < all ? OSB_NO_ROOM : OSB_OK));
+                EXPECT(memcmp(out, units, (room < all ? room : all) * sizeof *out) == 0);
+                for (size_t i = all; i < room; i++) EXPECT(out[i] == 0x5555);
+                free(out);
+                memset(back, 0x55, sizeof back);
+                status = osb_from_wide(units, all, back, room, &count);
+                EXPECT(count == bytes && status == (room < bytes ? OSB_NO_ROOM : OSB_OK));
+                EXPECT(memcmp(back, string, room < bytes ? room : bytes) == 0);
+                for (size_t i = room < bytes ? room : bytes; i < 300; i++) EXPECT(back[i] == 0x55);
+                string[len] = '\xFF';
+                count = 7;
+                EXPECT(osb_to_wide(string, len + 1, NULL, 0, &count, &fault) == OSB_FAULTY);
+                EXPECT(count == 7 && fault.index == len);
+            }
+}
+
 /* A text is a pattern where it's cut between characters, and no pattern where it's cut within one or
  * has a byte FF, at each index of each length about those that are read in different ways. */
 static void patterns(void) {
@@ -834,6 +867,7 @@ int main(void) {
     rsplits();
     texts();
     wide();
+    long_wide();
     searches();
     patterns();
     splits();

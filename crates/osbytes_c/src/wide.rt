@@ -8,7 +8,19 @@ ghost use Rattle.osbytes_c.specs.Faults.{IsWtf8Report};
 use crate::check::report_wtf8;
 use crate::fault::Fault;
 use crate::status::{DONE, FAULTY, NO_ROOM};
+use crate::strings::windows;
+use platform_str::{OsStr, Windows};
+use std::simd::prelude::*;
 use wtf8_core::{DecodeWide, EncodingError, encode_wide};
+
+/// From so many bytes on they are checked, counted and then written in blocks, and from so few on if
+/// the first 16 are ASCII, of which most then are.
+const LONG: usize = 128;
+
+const LONG_ASCII: usize = 32;
+
+/// From so many units on they are counted and then written in blocks.
+const LONG_WIDE: usize = 40;
 
 /// Writes the units of the bytes into `out`, as far as there is room, and counts them. The bytes
 /// have no more units than bytes. If they aren't WTF-8, the fault is their first one.
@@ -26,6 +38,9 @@ pub extern "C" fn osb_core_to_wide(
     ensures fault { result ≡ 1 → IsWtf8Report bytes.now fault.new }
     ensures answers { (result ≡ 0) ⊎ ((result ≡ 2) ⊎ (result ≡ 1)) }
 {
+    if is_long(bytes) {
+        return write_checked(bytes, out, count, fault);
+    }
     let read = if bytes.len() <= out.len() {
         write_units(bytes, out)
     } else {
@@ -41,6 +56,42 @@ pub extern "C" fn osb_core_to_wide(
             FAULTY
         }
     }
+}
+
+/// Whether blocks are worth a check and a count.
+#[inline(always)]
+fn is_long(bytes: &[u8]) -> bool {
+    bytes.len() >= LONG || bytes.len() >= LONG_ASCII && begins_in_ascii(bytes)
+}
+
+/// Whether the first 16 bytes are ASCII.
+#[inline(always)]
+fn begins_in_ascii(bytes: &[u8]) -> bool
+    requires { 16 ≤ length bytes.now }
+{
+    u8x16::from_slice(bytes)
+        .simd_ge(u8x16::splat(0x80))
+        .to_bitmask()
+        == 0
+}
+
+/// The same: checks the bytes, and then writes in blocks. It is kept apart, so that short strings pay
+/// for no more than the test of their length.
+#[inline(never)]
+fn write_checked(bytes: &[u8], out: &mut [u16], count: &mut usize, fault: &mut Fault) -> u32
+    ensures done { result ≡ 0 → Writes (HasUnits bytes.now) out.old out.new count.new
+        × (count.new ≤ length out.old) }
+    ensures room { result ≡ 2 → Writes (HasUnits bytes.now) out.old out.new count.new
+        × (length out.old < count.new) }
+    ensures fault { result ≡ 1 → IsWtf8Report bytes.now fault.new }
+    ensures answers { (result ≡ 0) ⊎ ((result ≡ 2) ⊎ (result ≡ 1)) }
+{
+    let Some(string) = windows(bytes, fault) else {
+        return FAULTY;
+    };
+    let written = string.write_wide(out);
+    *count = written;
+    if written <= out.len() { DONE } else { NO_ROOM }
 }
 
 /// Writes the units of the bytes, for which there is surely room, and counts them.
@@ -96,7 +147,9 @@ pub extern "C" fn osb_core_from_wide(units: &[u16], out: &mut [u8], count: &mut 
         count.new × (length out.old < count.new) }
     ensures answers { (result ≡ 0) ⊎ (result ≡ 2) }
 {
-    let written = if 3 * units.len() <= out.len() {
+    let written = if units.len() >= LONG_WIDE {
+        OsStr::<Windows>::write_from_wide(units, out)
+    } else if 3 * units.len() <= out.len() {
         write_bytes(units, out)
     } else {
         write_some_bytes(units, out)
