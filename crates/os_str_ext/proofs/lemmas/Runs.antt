@@ -1,6 +1,5 @@
 -- Runs of a text: lists that are the text repeated.
 use Rattle.os_str_ext.proofs.Common.{◌≡◌, ℕ, zero, suc, ◌+◌, ◌-◌, ◌<◌, ◌≤◌, List, ◌++◌, length, take, drop, refl, sym, ap, subst, ◌∙◌, arith, inl, inr, append_assoc, length-append, length-drop, take-append-drop, append-nil, length-take-le, drop-drop, take-add, repeat, IsUtf8, NeedleOccursAt, OccursAt-part, OccursAt-from_part, OccursAt, IsBoundary}
-use Rattle.std.proofs.Common.{drop_of_length-le}
 use Rattle.wtf8_core.specs.Pieces.{IsStartTrim, IsEndTrim}
 use Rattle.os_str_ext.proofs.lemmas.Comparing.{take_from_prefix, prefix_fits}
 use Rattle.os_str_ext.proofs.lemmas.Searches.{EdgesOfTexts, needle_from_occurs}
@@ -13,28 +12,6 @@ repeat-after p (suc n) = append_assoc p (repeat n p) p ∙ ap (λ r. p ++ r) (re
 -- x is p repeated some number of times
 abbrev pub IsRun : List ℕ → List ℕ → Type 0
 IsRun p x = (n : ℕ) × (x ≡ repeat n p)
-
-repeat-plus : (p : List ℕ) (m n : ℕ) → repeat m p ++ repeat n p ≡ repeat (m + n) p
-repeat-plus p zero n = ap (λ k. repeat k p) {x = n} {y = zero + n} (omega arith)
-repeat-plus p (suc m) n =
-    append_assoc p (repeat m p) (repeat n p) ∙ ap (λ r. p ++ r) (repeat-plus p m n) ∙ ap (λ k. repeat k p) {x = suc (m + n)} {y = suc m + n} (omega arith)
-
-module _ (p : List ℕ) where
-  runs_joined : (x y : List ℕ) → IsRun p x → IsRun p y → IsRun p (x ++ y)
-  runs_joined x y (m, e) (n, f) = (m + n, ap (λ r. r ++ y) e ∙ ap (λ r. repeat m p ++ r) f ∙ repeat-plus p m n)
-
-  run_of_runs : (x : List ℕ) → IsRun p x → (n : ℕ) → IsRun p (repeat n x)
-  run_of_runs x run zero = (0, refl)
-  run_of_runs x run (suc n) = runs_joined x (repeat n x) run (run_of_runs x run n)
-
-  -- a run, runs of it after it, and the text repeated after those are a run; the same from the end
-  pub run_after : (s : List ℕ) (i j k : ℕ) → IsRun p (take i s) → (m : ℕ) → take j s ≡ take i s ++ repeat m (take i s) → (n : ℕ) → take k s ≡ take j s ++ repeat n p → IsRun p (take k s)
-  run_after s i j k run m e n f =
-      subst (IsRun p) (sym f) (runs_joined (take j s) (repeat n p) (subst (IsRun p) (sym e) (runs_joined (take i s) (repeat m (take i s)) run (run_of_runs (take i s) run m))) (n, refl))
-
-  pub run_before : (s : List ℕ) (i j k : ℕ) → IsRun p (drop i s) → (m : ℕ) → drop j s ≡ repeat m (drop i s) ++ drop i s → (n : ℕ) → drop k s ≡ repeat n p ++ drop j s → IsRun p (drop k s)
-  run_before s i j k run m e n f =
-      subst (IsRun p) (sym f) (runs_joined (repeat n p) (drop j s) (n, refl) (subst (IsRun p) (sym e) (runs_joined (repeat m (drop i s)) (drop i s) (run_of_runs (drop i s) run m) run)))
 
 module _ (s p : List ℕ) (i : ℕ) (le : i ≤ length s) where
   -- if the text doesn't occur after a run at the start, what follows the run is the start trim
@@ -88,21 +65,15 @@ module _ (s p : List ℕ) (i : ℕ) (le : i ≤ length s) where
       record { is = inr (inl (omega arith)) }
   cut_before_run edges u some (suc n) e = (edges p s i u some (record { before = take i s; after = repeat n p; joined = e; index = length-take-le i s le })).0
 
--- what reaches up to the end of the string is the run alone
-pub run_at_end : (s p : List ℕ) (i n : ℕ) → drop i s ≡ repeat n p ++ drop (length s) s → IsRun p (drop i s)
-run_at_end s p i n e = (n, e ∙ ap (λ r. repeat n p ++ r) (drop_of_length-le s (omega arith)) ∙ append-nil (repeat n p))
-
 module _ (s p : List ℕ) (i : ℕ) where
-  -- one more repetition after those that were skipped, and one before them
-  pub passed_more : (start n : ℕ) → take i s ≡ take start s ++ repeat n p → NeedleOccursAt s p i → take (i + length p) s ≡ take start s ++ repeat (suc n) p
-  passed_more start n e o =
-      take-add i (length p) s ∙ ap (λ r. take i s ++ r) (OccursAt-part s p i o) ∙ ap (λ r. r ++ p) e
-      ∙ append_assoc (take start s) (repeat n p) p ∙ ap (λ r. take start s ++ r) (repeat-after p n)
+  -- one more repetition after a run at the start, and one before a run at the end
+  pub passed_more : (n : ℕ) → take i s ≡ repeat n p → NeedleOccursAt s p i → take (i + length p) s ≡ repeat (suc n) p
+  passed_more n e o =
+      take-add i (length p) s ∙ ap (λ r. take i s ++ r) (OccursAt-part s p i o) ∙ ap (λ r. r ++ p) e ∙ repeat-after p n
 
-  pub passed_back : (start n : ℕ) → drop i s ≡ repeat n p ++ drop start s → length p ≤ i → NeedleOccursAt s p (i - length p) → drop (i - length p) s ≡ repeat (suc n) p ++ drop start s
-  passed_back start n e le o =
+  pub passed_back : (n : ℕ) → drop i s ≡ repeat n p → length p ≤ i → NeedleOccursAt s p (i - length p) → drop (i - length p) s ≡ repeat (suc n) p
+  passed_back n e le o =
       let index : i - length p + length p ≡ i = omega arith in
       sym (take-append-drop (length p) (drop (i - length p) s))
       ∙ ap (λ r. r ++ drop (length p) (drop (i - length p) s)) (OccursAt-part s p (i - length p) o)
       ∙ ap (λ r. p ++ r) (drop-drop (length p) (i - length p) s ∙ ap (λ k. drop k s) index ∙ e)
-      ∙ sym (append_assoc p (repeat n p) (drop start s))
