@@ -51,6 +51,10 @@ fn wide_len(string: &[u8]) -> usize
             len += count_block(rest);
             let (_, after) = rest.split_at(16);
             rest = after;
+        } else if goes_on_in_eight(rest) {
+            len += 8;
+            let (_, after) = rest.split_at(8);
+            rest = after;
         } else {
             len += count_unit(rest[0], rest[1]);
             let (_, after) = rest.split_at(1);
@@ -58,6 +62,44 @@ fn wide_len(string: &[u8]) -> usize
         }
     }
     len
+}
+
+/// Whether there are at least 8 bytes after the first and the next 8 are ASCII.
+#[inline(always)]
+fn goes_on_in_eight(bytes: &[u8]) -> bool
+    ensures room { result ≡ true → 8 < length bytes.now }
+    ensures ascii { result ≡ true → All (λ b. b < 0x80) (take 8 (drop 1 bytes.now)) }
+{
+    bytes.len() > 8 && are_ascii(u8x8::from_slice(&bytes[1..]).to_array())
+}
+
+/// Whether 8 bytes are ASCII.
+#[inline(always)]
+fn are_ascii(block: [u8; 8]) -> bool
+    ensures { result ≡ true → All (λ b. b < 0x80) block }
+{
+    u8x8::from_array(block)
+        .simd_ge(u8x8::splat(0x80))
+        .to_bitmask()
+        == 0
+}
+
+/// The units of 8 ASCII bytes.
+#[inline(always)]
+fn widened_eight(block: [u8; 8]) -> [u16; 8]
+    ensures { result ≡ block }
+{
+    u8x8::from_array(block).cast::<u16>().to_array()
+}
+
+/// Writes 8 units from index `at` on.
+#[inline(always)]
+fn put_eight(units: &mut [u16], at: usize, block: [u16; 8])
+    requires room { at + 8 ≤ length units.old }
+    ensures written { take (at + 8) units.new ≡ take at units.old ++ block }
+    ensures len { length units.new ≡ length units.old }
+{
+    u16x8::from_array(block).copy_to_slice(&mut units[at..]);
 }
 
 /// Writes 16 units from index `at` on.
@@ -144,10 +186,24 @@ fn fill_after_first(units: &mut [u16], at: usize, bytes: &[u8])
             end = put_block(units, end, rest);
             let (_, after) = rest.split_at(16);
             rest = after;
-        } else {
+        } else if rest[1] >= 0x80 {
             let second = byte_or_zero(rest, 2);
             let third = byte_or_zero(rest, 3);
             end = put_unit(units, end, rest[0], rest[1], second, third);
+            let (_, after) = rest.split_at(1);
+            rest = after;
+        } else if units.len() - end >= 8 && goes_on_in_eight(rest) {
+            put_eight(
+                units,
+                end,
+                widened_eight(u8x8::from_slice(&rest[1..]).to_array()),
+            );
+            end += 8;
+            let (_, after) = rest.split_at(8);
+            rest = after;
+        } else {
+            units[end] = u16::from(rest[1]);
+            end += 1;
             let (_, after) = rest.split_at(1);
             rest = after;
         }

@@ -1,7 +1,9 @@
 //! Units of Windows strings in bulk, and the bytes and code points of any.
-ghost use Rattle.std.specs.Prelude.{◌≡◌, IsOk, IfOk};
+ghost use Rattle.std.specs.Prelude.{◌≡◌, length, take, IsOk, IfOk, IfSome};
 ghost use Rattle.wtf8_core.specs.Items.{AreItems, AreUnitItems};
 ghost use Rattle.wtf8_core.specs.Wtf8.{HasUnits};
+ghost use Rattle.wtf8_core.specs.UnitsOf.{units_of};
+ghost use Rattle.platform_str.specs.Strings.{bytes};
 ghost use Rattle.os_str_ext.specs.Parts.{unit_number};
 
 use os_str_ext::OsUnit;
@@ -30,6 +32,25 @@ pub fn of_no_units(alloc: Global) -> Result<OsString<Windows>, AllocError>
     ensures { IsOk result }
 {
     OsString::from_wide(alloc, &[])
+}
+
+/// The number of a string's units, which are at the start of a buffer, if they have room there.
+pub fn units_in(string: OsStr<'_, Windows>, buffer: &mut [u16]) -> Option<usize>
+    ensures has_units { IfSome result
+        (λ len. HasUnits (bytes string.entry) (take len buffer.new)) }
+    ensures units { IfSome result (λ len. take len buffer.new ≡ units_of (bytes string.entry)) }
+{
+    let len = string.write_wide(buffer);
+    if len <= buffer.len() { Some(len) } else { None }
+}
+
+/// The number of bytes of the string with these units, which are at the start of a buffer, if they
+/// have room there.
+pub fn bytes_in(units: &[u16], buffer: &mut [u8]) -> Option<usize>
+    ensures { IfSome result (λ len. HasUnits (take len buffer.new) units.now) }
+{
+    let len = OsStr::<Windows>::write_from_wide(units, buffer);
+    if len <= buffer.len() { Some(len) } else { None }
 }
 
 /// The number of a part's unit, converted: as `to_u64` says it.

@@ -19,6 +19,21 @@ loop-rest-preserved-then-goes_on_in_ascii c =
       c.put_units.ensures.len ∙ c.loop-rest.invariant.3,
     )
 
+pub loop-rest-preserved-then-goes_on_in_eight : goal.loop-rest-preserved-then-goes_on_in_eight
+loop-rest-preserved-then-goes_on_in_eight c =
+    let rest = c.loop-rest.rest.now in
+    let block = take 8 (drop 1 rest) in
+    let prefix = take c.loop-rest.end c.loop-rest.units in
+    let room = c.goes_on_in_eight.ensures.room c.if-goes_on_in_eight.true in
+    let ascii = recursion_from_All (λ b. b < 0x80) _ (c.goes_on_in_eight.ensures.ascii c.if-goes_on_in_eight.true) in
+    let adds = block_ascii 8 rest room ascii ∙ ap (λ r. block ++ units_after_first r) (sym c.split_at-then-goes_on_in_eight.ensures.back) in
+    let done = c.put_eight.ensures.written ∙ ap (λ x. prefix ++ x) c.widened_eight.ensures in (
+      omega (arith, room, c.split_at-then-goes_on_in_eight.ensures.back_len),
+      appended _ prefix block (units_after_first c.split_at-then-goes_on_in_eight.result.1.now) _ done adds ∙ c.loop-rest.invariant.1,
+      omega (arith, c.put_eight.ensures.len, c.loop-rest.invariant.2, c.if-units-end-ge8.true),
+      c.put_eight.ensures.len ∙ c.loop-rest.invariant.3,
+    )
+
 pub returns-after-loop-rest : goal.returns-after-loop-rest
 returns-after-loop-rest c =
     let before = take c.args.at c.args.units.now in

@@ -29,5 +29,18 @@ loop-rest-preserved-then-goes_on_in_ascii c =
       omega (arith, room, c.loop-rest.invariant.2, c.split_at.ensures.back_len),
     )
 
+pub loop-rest-preserved-then-goes_on_in_eight : goal.loop-rest-preserved-then-goes_on_in_eight
+loop-rest-preserved-then-goes_on_in_eight c =
+    let rest = c.loop-rest.rest.now in
+    let block = take 8 (drop 1 rest) in
+    let room = c.goes_on_in_eight.ensures.room c.if-goes_on_in_eight.true in
+    let ascii = recursion_from_All (λ b. b < 0x80) _ (c.goes_on_in_eight.ensures.ascii c.if-goes_on_in_eight.true) in
+    let adds = block_ascii 8 rest room ascii ∙ ap (λ r. block ++ units_after_first r) (sym c.split_at-then-goes_on_in_eight.ensures.back) in
+    let after = units_after_first c.split_at-then-goes_on_in_eight.result.1.now in (
+      omega (arith, room, c.split_at-then-goes_on_in_eight.ensures.back_len),
+      omega (arith, c.loop-rest.invariant.1, ap length adds, length-append block after, length-take-le 8 (drop 1 rest) (omega (arith, room, length-drop 1 rest))),
+      omega (arith, room, c.loop-rest.invariant.2, c.split_at-then-goes_on_in_eight.ensures.back_len),
+    )
+
 pub returns : goal.returns
 returns c = omega (arith, c.loop-rest.invariant.1, ap length (none_after c.loop-rest.rest.now (omega (arith, c.loop-rest-test.false))))
