@@ -6,6 +6,7 @@ mod cuts;
 mod names;
 mod options;
 mod patterns;
+mod shell_words;
 
 use names::stem;
 use os_quote::escaped_line;
@@ -23,5 +24,6 @@ fn main(rt: HostRuntime) -> io::Result<()> {
     patterns::show(&rt, name.as_os_str())?;
     options::show(&rt)?;
     command_lines::show(&rt)?;
+    shell_words::show(&rt)?;
     Ok(())
 }

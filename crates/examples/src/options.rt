@@ -114,7 +114,7 @@ impl<'a> Options<'a, Unix> {
 }
 
 /// What is asked for, or why nothing is, as a text.
-fn told(alloc: Global, words: &[OsStr<'_, Unix>]) -> Result<String, AllocError> {
+pub fn told(alloc: Global, words: &[OsStr<'_, Unix>]) -> Result<String, AllocError> {
     let mut text = String::new(alloc);
     match Options::parse(alloc, &mut Arguments::new(words)) {
         Ok(options) => options.tell(&mut text)?,

@@ -1,3 +1,7 @@
 pub mod Lines
 pub mod Back
+pub mod EscapesBack
+pub mod NoCommand
 pub mod Picked
+pub mod Words
+pub mod WordsBack

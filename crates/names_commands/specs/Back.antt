@@ -1,7 +1,8 @@
 -- What `join` gives back of the names that `list` was given.
 use Rattle.std.specs.Prelude.{◌≡◌, ◌⊎◌, ℕ, List, [], ◌∷◌, ◌++◌}
-use Rattle.names_commands.specs.declared.task.Task.TheVariants.{ListAll, Join}
+use Rattle.names_commands.specs.declared.task.Task.TheVariants.{ListAll, ListWords, Join, JoinWords}
 use Rattle.names_commands.specs.declared.task.LastLine.{LastLine}
+use Rattle.names_commands.specs.declared.task.WordForm.TheVariants.{OneLine}
 use Rattle.names_commands.specs.declared.task.Settings.{Settings}
 
 -- all names are listed, and lines are joined, the last of which must have its end or not, where a name may have `max` bytes
@@ -10,6 +11,13 @@ listing max = record { task = ListAll; max = max }
 
 abbrev pub joining : LastLine → ℕ → Settings
 joining last max = record { task = Join last; max = max }
+
+-- the same with words on one line
+abbrev pub listing_words : ℕ → Settings
+listing_words max = record { task = ListWords OneLine; max = max }
+
+abbrev pub joining_words : LastLine → ℕ → Settings
+joining_words last max = record { task = JoinWords last; max = max }
 
 -- the last name has its end: there is none, or the last byte is NUL
 abbrev pub EndsWithNul : List ℕ → Type 0

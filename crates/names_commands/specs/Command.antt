@@ -8,17 +8,28 @@ use Rattle.program_frame.specs.Os.{os_word}
 use Rattle.program_frame.specs.declared.os.Os.{Os}
 use Rattle.program_frame.specs.declared.os.Os.TheVariants.{Unix, Windows, Wasm}
 use Rattle.names_commands.specs.declared.command.Command.{Command}
-use Rattle.names_commands.specs.declared.command.Command.TheVariants.{ListAll, ListMatching, Filter, Join, Check, Help}
+use Rattle.names_commands.specs.declared.command.Command.TheVariants.{ListAll, ListMatching, ListWords, ListWordsMatching, Filter, Join, JoinWords, Check, Help}
 use Rattle.names_commands.specs.declared.command.Request.{Request}
 use Rattle.names_commands.specs.declared.task.LastLine.TheVariants.{MustEnd, MayLackEnd}
+use Rattle.names_commands.specs.declared.task.WordForm.{WordForm}
+use Rattle.names_commands.specs.declared.task.WordForm.TheVariants.{Posix, OneLine}
+
+-- the word that asks for this form
+abbrev pub form_word : WordForm → List ℕ
+form_word Posix = codes "--sh"
+form_word OneLine = codes "--sh-line"
 
 -- the words after the program's name that ask for the command
 abbrev pub words_of : Command → List (List ℕ)
 words_of (ListAll os) = codes "list" ∷ os_word os ∷ []
 words_of (ListMatching os pattern) = codes "list" ∷ os_word os ∷ pattern.now ∷ []
+words_of (ListWords form) = codes "list" ∷ form_word form ∷ codes "unix" ∷ []
+words_of (ListWordsMatching form pattern) = codes "list" ∷ form_word form ∷ codes "unix" ∷ pattern.now ∷ []
 words_of (Filter os pattern) = codes "filter" ∷ os_word os ∷ pattern.now ∷ []
 words_of (Join os MustEnd) = codes "join" ∷ os_word os ∷ []
 words_of (Join os MayLackEnd) = codes "join" ∷ os_word os ∷ codes "--unterminated" ∷ []
+words_of (JoinWords MustEnd) = codes "join" ∷ codes "--sh" ∷ codes "unix" ∷ []
+words_of (JoinWords MayLackEnd) = codes "join" ∷ codes "--sh" ∷ codes "unix" ∷ codes "--unterminated" ∷ []
 words_of (Check os) = codes "check" ∷ os_word os ∷ []
 words_of Help = codes "--help" ∷ []
 

@@ -2,11 +2,12 @@
 use Rattle.std.specs.Prelude.{ℕ, List, ◌++◌, codes}
 use Rattle.glob_patterns.specs.ErrorText as glob
 use Rattle.glob_patterns.specs.declared.error.GlobError.TheVariants as glob_error
+use Rattle.os_command_line.specs.ErrorText as words
 use Rattle.os_quote.specs.ErrorText.{error_text}
 use Rattle.os_quote.specs.declared.error.QuoteError.TheVariants as quote
 use Rattle.os_str_bytes.specs.FaultText.{fault_text}
 use Rattle.names_commands.specs.declared.fault.Refusal.{Refusal}
-use Rattle.names_commands.specs.declared.fault.Refusal.TheVariants.{NoString, BadEscape, NotCanonical, HasNul}
+use Rattle.names_commands.specs.declared.fault.Refusal.TheVariants.{NoString, BadEscape, NotCanonical, HasNul, BadWords}
 use Rattle.names_commands.specs.declared.fault.CommandFault.{CommandFault}
 use Rattle.names_commands.specs.declared.fault.CommandFault.TheVariants.{Usage, Pattern}
 
@@ -16,8 +17,9 @@ refusal_text (NoString error) = fault_text error
 refusal_text (BadEscape index) = error_text (quote.BadEscape index)
 refusal_text NotCanonical = error_text quote.NotCanonical
 refusal_text HasNul = codes "the name has a NUL"
+refusal_text (BadWords fault) = words.fault_text fault
 
 -- what the program prints of the reason why its words are refused
 abbrev pub words_text : CommandFault → List ℕ
-words_text Usage = codes "usage: names [--max N] list|filter|join|check unix|windows|wasm [GLOB]; names --help tells more"
+words_text Usage = codes "usage: names [--max N] list|filter|join|check unix|windows|wasm [GLOB], list|join --sh unix; names --help tells more"
 words_text (Pattern why) = codes "pattern: " ++ glob.error_text (glob_error.Pattern why)

@@ -4,3 +4,4 @@ pub mod Fault
 pub mod Command
 pub mod Program
 pub mod Back
+pub mod Words

@@ -9,12 +9,13 @@ use Rattle.glob_text.specs.Marks.{Mark}
 use Rattle.glob_text.specs.Texts.{IsFault, AreWrittenOut}
 use Rattle.program_frame.specs.Strings.{strings}
 use Rattle.program_frame.specs.declared.os.Os.{Os}
+use Rattle.program_frame.specs.declared.os.Os.TheVariants.{Unix}
 use Rattle.program_frame.specs.Written.{WritesText}
 use Rattle.program_frame.specs.ListRun.{Runs}
 use Rattle.program_frame.specs.declared.fault.Failure.TheVariants.{Memory, Write}
 use Rattle.program_frame.specs.declared.lists.fault.ListFault.TheVariants.{Run}
 use Rattle.names_commands.specs.declared.command.Command.{Command}
-use Rattle.names_commands.specs.declared.command.Command.TheVariants.{ListAll, ListMatching, Filter, Join, Check, Help}
+use Rattle.names_commands.specs.declared.command.Command.TheVariants.{ListAll, ListMatching, ListWords, ListWordsMatching, Filter, Join, JoinWords, Check, Help}
 use Rattle.program_frame.specs.declared.lists.program_fault.Fault as program_fault
 use Rattle.program_frame.specs.declared.lists.program_fault.Fault.TheVariants.{List as OfList, Words}
 use Rattle.names_commands.specs.declared.fault.Refusal.{Refusal}
@@ -22,7 +23,7 @@ use Rattle.names_commands.specs.declared.fault.CommandFault.{CommandFault}
 use Rattle.names_commands.specs.declared.fault.CommandFault.TheVariants.{Usage, Pattern}
 use Rattle.names_commands.specs.declared.task.Task.TheVariants as task
 use Rattle.names_commands.specs.declared.matching.Form.{Form}
-use Rattle.names_commands.specs.declared.matching.Form.TheVariants.{Line, Name}
+use Rattle.names_commands.specs.declared.matching.Form.TheVariants.{Line, Name, Word}
 use Rattle.names_commands.specs.Matching.{picking, IsMatched}
 use Rattle.names_commands.specs.declared.command.Request.{Request}
 use Rattle.names_commands.specs.Command.{AsksFor, options_of}
@@ -45,14 +46,17 @@ RunsPattern os form pattern max input left old new answer = RunsMatching (string
 
 -- what `names --help` writes
 abbrev pub help_text : List ℕ
-help_text = codes "names: lists of file names, escaped one a line, and back\n\nnames list   unix|windows|wasm [GLOB]  names ended by NUL in, the escape of each out, one a line;\n                                       with GLOB of those that it matches\nnames filter unix|windows|wasm GLOB    names ended by NUL in, those that GLOB matches out, ended by NUL\nnames join   unix|windows|wasm         such lines in, names ended by NUL out\nnames join   .. --unterminated         the same, where the last line may lack its newline\nnames check  unix|windows|wasm         names ended by NUL in, nothing out: the status tells\nnames --help                           this text\nnames --max N ..                       one of these, for names of at most N bytes, not 1048576\n\nThe last name may lack its NUL. A last line without its newline is refused, since a list that was\ncut off ends with one. A line has at most six times as many bytes as a name.\n\nGLOB matches a whole name, ./ and folders too, component by component: * is any run of symbols, ? one\nsymbol, [a-z] one of these and [!a-z] one of the others, none of them a separator; ** as a whole component\nis any number of components; {a,b} is a or b; \\ quotes the character after it. The separator is /. On\nwindows \\ is one as well, in GLOB too, where it quotes nothing. So **/*.rs matches ./src/a.rs, *.rs doesn't.\n\nStatus: 0, or 1 where a name or line is refused, 2 for other words or a GLOB that is refused, 3 where\nmemory is refused, 4 where a read or write fails. The first refused name is told with its number,\nfrom 1.\n"
+help_text = codes "names: lists of file names, escaped one a line, and back\n\nnames list   unix|windows|wasm [GLOB]  names ended by NUL in, the escape of each out, one a line;\n                                       with GLOB of those that it matches\nnames list   --sh unix [GLOB]          the same with words that every POSIX shell reads as the names\nnames list   --sh-line unix [GLOB]     the same, each on one line, for bash, zsh, ksh93, mksh and busybox\nnames filter unix|windows|wasm GLOB    names ended by NUL in, those that GLOB matches out, ended by NUL\nnames join   unix|windows|wasm         such lines in, names ended by NUL out\nnames join   --sh unix                 lines of words in, as such a shell reads them, names out\nnames join   .. --unterminated         the same, where the last line may lack its newline\nnames check  unix|windows|wasm         names ended by NUL in, nothing out: the status tells\nnames --help                           this text\nnames --max N ..                       one of these, for names of at most N bytes, not 1048576\n\nThe last name may lack its NUL. A last line without its newline is refused, since a list that was\ncut off ends with one. A line has at most six times as many bytes as a name,\na line of words four times and three more. With --sh a name with a newline has it in its word, and so\ntwo lines; join refuses what some shell would expand.\n\nGLOB matches a whole name, ./ and folders too, component by component: * is any run of symbols, ? one\nsymbol, [a-z] one of these and [!a-z] one of the others, none of them a separator; ** as a whole component\nis any number of components; {a,b} is a or b; \\ quotes the character after it. The separator is /. On\nwindows \\ is one as well, in GLOB too, where it quotes nothing. So **/*.rs matches ./src/a.rs, *.rs doesn't.\n\nStatus: 0, or 1 where a name or line is refused, 2 for other words or a GLOB that is refused, 3 where\nmemory is refused, 4 where a read or write fails. The first refused name is told with its number,\nfrom 1.\n"
 
 -- what the command does where a name may have `max` bytes
 abbrev pub Does : Command → ℕ → Option (List ℕ) → Option (List ℕ) → Option (List ℕ) → Option (List ℕ) → Result ⊤ Fault → Type 0
 Does (ListAll os) max input left old new answer = Runs (rules_of (strings os) (record { task = task.ListAll; max = max })) OfList input left old new answer
 Does (ListMatching os pattern) max input left old new answer = RunsPattern os Line pattern.now max input left old new answer
+Does (ListWords form) max input left old new answer = Runs (rules_of (strings Unix) (record { task = task.ListWords form; max = max })) OfList input left old new answer
+Does (ListWordsMatching form pattern) max input left old new answer = RunsPattern Unix (Word form) pattern.now max input left old new answer
 Does (Filter os pattern) max input left old new answer = RunsPattern os Name pattern.now max input left old new answer
 Does (Join os last) max input left old new answer = Runs (rules_of (strings os) (record { task = task.Join last; max = max })) OfList input left old new answer
+Does (JoinWords last) max input left old new answer = Runs (rules_of (strings Unix) (record { task = task.JoinWords last; max = max })) OfList input left old new answer
 Does (Check os) max input left old new answer = Runs (rules_of (strings os) (record { task = task.Check; max = max })) OfList input left old new answer
 Does Help max input left old new answer = WritesText help_text (OfList (Run Write)) old new answer
 

@@ -1,11 +1,13 @@
 //! Commands, and the words that ask for them.
-ghost use Rattle.std.specs.Prelude.{◌≡◌, ◌≢◌, ℕ, IfOk, IfErr, OnErr, map, string_bytes};
+ghost use Rattle.std.specs.Prelude.{◌≡◌, ◌≢◌, ◌∷◌, [], ℕ, IfOk, IfErr, OnErr, MatchOption, map, string_bytes};
+ghost use Rattle.program_frame.specs.Os.{os_word};
 ghost use Rattle.names_commands.specs.declared.command.Command.{Command};
 ghost use Rattle.names_commands.specs.declared.command.Request.{Request};
-ghost use Rattle.names_commands.specs.Command.{words_of, AsksFor, IsLimit, options_of};
+ghost use Rattle.names_commands.specs.Command.{words_of, form_word, AsksFor, IsLimit, options_of};
+ghost use Rattle.names_commands.specs.declared.task.WordForm.{WordForm as DeclaredForm};
 
 use crate::fault::CommandFault;
-use crate::task::LastLine;
+use crate::task::{LastLine, WordForm};
 use glob_patterns::{GlobOptions, Separators};
 use program_frame::os::Os;
 
@@ -100,12 +102,20 @@ pub enum Command<'a> {
     ListAll(Os),
     /// `list` with a pattern: the same for the names that the pattern matches.
     ListMatching(Os, &'a str),
+    /// `list --sh` or `list --sh-line`: reads names of Unix, each ended by NUL, and writes the word of
+    /// each on a line, as a shell reads it.
+    ListWords(WordForm),
+    /// The same with a pattern, for the names that it matches.
+    ListWordsMatching(WordForm, &'a str),
     /// `filter`: reads names, each ended by NUL, and writes those that the pattern matches, each
     /// ended by NUL.
     Filter(Os, &'a str),
     /// `join`: reads what `list` writes, and writes the names, each ended by NUL. With
     /// `--unterminated` the last line may lack its newline.
     Join(Os, LastLine),
+    /// `join --sh`: reads lines of words, as `list --sh-line` writes them, and writes the names of Unix
+    /// that they are, each ended by NUL.
+    JoinWords(LastLine),
     /// `check`: reads names, each ended by NUL, and writes nothing.
     Check(Os),
     /// `--help`: writes what the commands are.
@@ -151,19 +161,134 @@ impl<'a> Command<'a> {
                     _ => Err(CommandFault::Usage),
                 }
             }
-            [name, os, word] => {
-                let os = Os::named(os.as_str()).ok_or(CommandFault::Usage)?;
-                match name.as_str() {
-                    "list" => Ok(Command::ListMatching(os, word.as_str())),
-                    "filter" => Ok(Command::Filter(os, word.as_str())),
-                    "join" => match word.as_str() {
-                        "--unterminated" => Ok(Command::Join(os, LastLine::MayLackEnd)),
-                        _ => Err(CommandFault::Usage),
-                    },
-                    _ => Err(CommandFault::Usage),
-                }
+            [name, second, third] => {
+                Command::of_three(name.as_str(), second.as_str(), third.as_str())
+            }
+            [name, option, os, word] => {
+                Command::of_four(name.as_str(), option.as_str(), os.as_str(), word.as_str())
             }
             _ => Err(CommandFault::Usage),
+        }
+    }
+
+    /// The command that three words ask for.
+    #[tactic(auto, using(crate::proofs::lemmas::NoCommand::no_three))]
+    fn of_three(name: &str, second: &str, third: &'a str) -> Result<Command<'a>, CommandFault>
+        ensures command { IfOk result
+            (λ command. name.now ∷ second.now ∷ third.now ∷ [] ≡ words_of command) }
+        ensures usage { IfErr result (λ fault. fault ≡ CommandFault.Usage) }
+        ensures no_command { OnErr result ((command : Command)
+            → name.now ∷ second.now ∷ third.now ∷ [] ≢ words_of command) }
+    {
+        if let Some(form) = WordForm::named(second) {
+            return Command::of_words(name, form, third);
+        }
+        match Os::named(second) {
+            Some(os) => Command::with_word(name, os, third),
+            None => Err(CommandFault::Usage),
+        }
+    }
+
+    /// The command that four words ask for.
+    #[tactic(auto, using(crate::proofs::lemmas::NoCommand::no_four))]
+    fn of_four(
+        name: &str,
+        option: &str,
+        os: &str,
+        word: &'a str,
+    ) -> Result<Command<'a>, CommandFault>
+        ensures command { IfOk result
+            (λ command. name.now ∷ option.now ∷ os.now ∷ word.now ∷ [] ≡ words_of command) }
+        ensures usage { IfErr result (λ fault. fault ≡ CommandFault.Usage) }
+        ensures no_command { OnErr result ((command : Command)
+            → name.now ∷ option.now ∷ os.now ∷ word.now ∷ [] ≢ words_of command) }
+    {
+        match WordForm::named(option) {
+            Some(form) => Command::of_words_with(name, form, os, word),
+            None => Err(CommandFault::Usage),
+        }
+    }
+
+    /// The command that a name, a platform and one more word ask for.
+    fn with_word(name: &str, os: Os, word: &'a str) -> Result<Command<'a>, CommandFault>
+        ensures command { IfOk result
+            (λ command. name.now ∷ os_word os ∷ word.now ∷ [] ≡ words_of command) }
+        ensures usage { IfErr result (λ fault. fault ≡ CommandFault.Usage) }
+        ensures no_command { OnErr result ((command : Command)
+            → name.now ∷ os_word os ∷ word.now ∷ [] ≢ words_of command) }
+    {
+        match name {
+            "list" => Ok(Command::ListMatching(os, word)),
+            "filter" => Ok(Command::Filter(os, word)),
+            "join" => match word {
+                "--unterminated" => Ok(Command::Join(os, LastLine::MayLackEnd)),
+                _ => Err(CommandFault::Usage),
+            },
+            _ => Err(CommandFault::Usage),
+        }
+    }
+
+    /// The command about words of a shell that a name, a form and a platform ask for.
+    fn of_words(name: &str, form: WordForm, os: &str) -> Result<Command<'a>, CommandFault>
+        ensures command { IfOk result
+            (λ command. name.now ∷ form_word form ∷ os.now ∷ [] ≡ words_of command) }
+        ensures usage { IfErr result (λ fault. fault ≡ CommandFault.Usage) }
+        ensures no_command { OnErr result ((command : Command)
+            → name.now ∷ form_word form ∷ os.now ∷ [] ≢ words_of command) }
+    {
+        match os {
+            "unix" => match name {
+                "list" => Ok(Command::ListWords(form)),
+                "join" => match form {
+                    WordForm::Posix => Ok(Command::JoinWords(LastLine::MustEnd)),
+                    WordForm::OneLine => Err(CommandFault::Usage),
+                },
+                _ => Err(CommandFault::Usage),
+            },
+            _ => Err(CommandFault::Usage),
+        }
+    }
+
+    /// The same of one more word.
+    fn of_words_with(
+        name: &str,
+        form: WordForm,
+        os: &str,
+        word: &'a str,
+    ) -> Result<Command<'a>, CommandFault>
+        ensures command { IfOk result (λ command.
+            name.now ∷ form_word form ∷ os.now ∷ word.now ∷ [] ≡ words_of command) }
+        ensures usage { IfErr result (λ fault. fault ≡ CommandFault.Usage) }
+        ensures no_command { OnErr result ((command : Command)
+            → name.now ∷ form_word form ∷ os.now ∷ word.now ∷ [] ≢ words_of command) }
+    {
+        match os {
+            "unix" => match name {
+                "list" => Ok(Command::ListWordsMatching(form, word)),
+                "join" => match form {
+                    WordForm::Posix => match word {
+                        "--unterminated" => Ok(Command::JoinWords(LastLine::MayLackEnd)),
+                        _ => Err(CommandFault::Usage),
+                    },
+                    WordForm::OneLine => Err(CommandFault::Usage),
+                },
+                _ => Err(CommandFault::Usage),
+            },
+            _ => Err(CommandFault::Usage),
+        }
+    }
+}
+
+impl WordForm {
+    /// The form of this word.
+    fn named(word: &str) -> Option<WordForm>
+        ensures { MatchOption result ((form : DeclaredForm) → word.now ≢ form_word form)
+            (λ form. word.now ≡ form_word form) }
+    {
+        match word {
+            "--sh" => Some(WordForm::Posix),
+            "--sh-line" => Some(WordForm::OneLine),
+            _ => None,
         }
     }
 }

@@ -1,6 +1,7 @@
 //! What keeps the program from its output.
 
 use glob_patterns::{GlobError, PatternFault};
+use os_command_line::shell::WordsFault;
 use os_quote::QuoteError;
 use os_str_bytes::EncodingError;
 use program_frame::lists::fault::ItemRefusal;
@@ -18,8 +19,10 @@ pub enum Refusal {
     BadEscape(usize),
     /// The line is no escape: that of the string that it stands for is another.
     NotCanonical,
-    /// The line is the escape of a string with a NUL, which would end the name.
+    /// The line, or a word of it, stands for a string with a NUL, which would end the name.
     HasNul,
+    /// The line isn't words of a shell: its fault.
+    BadWords(WordsFault),
 }
 
 /// Why the words are refused.
@@ -52,6 +55,7 @@ impl ItemRefusal for Refusal {
             Refusal::BadEscape(index) => QuoteError::BadEscape(index).fmt(f),
             Refusal::NotCanonical => QuoteError::NotCanonical.fmt(f),
             Refusal::HasNul => f.write_str("the name has a NUL"),
+            Refusal::BadWords(fault) => fault.fmt(f),
         }
     }
 }
@@ -71,7 +75,7 @@ impl WordsRefusal for CommandFault {
     fn write<W: fmt::Write>(&self, f: &mut fmt::Formatter<W>) -> fmt::Result {
         match *self {
             CommandFault::Usage => f.write_str(
-                "usage: names [--max N] list|filter|join|check unix|windows|wasm [GLOB]; names --help tells more",
+                "usage: names [--max N] list|filter|join|check unix|windows|wasm [GLOB], list|join --sh unix; names --help tells more",
             ),
             CommandFault::Pattern(why) => {
                 f.write_str("pattern: ")?;

@@ -14,6 +14,7 @@ ghost use Rattle.names_commands.specs.Matching.{picking, IsTextOfPicked, IsMatch
 use crate::fault::Refusal;
 use crate::matching::Form;
 use crate::task::{Settings, Task};
+use crate::words::{write_names, write_word};
 use glob_patterns::Glob;
 use os_quote::{QuoteError, unescape_line};
 use os_str_bytes::{OsStr, Platform, Wasm};
@@ -47,6 +48,11 @@ pub fn write_item<E: Platform, A: Allocator + Copy>(
             Err(fault) => Err(fault),
         },
         Task::Join(_) => write_name::<E, A>(alloc, settings.max, item, output),
+        Task::ListWords(form) => match named::<E>(item) {
+            Ok(_) => write_word(alloc, form, item, output),
+            Err(fault) => Err(fault),
+        },
+        Task::JoinWords(_) => write_names(alloc, settings.max, item, output),
     }
 }
 
@@ -73,6 +79,7 @@ pub fn write_matching<E: Platform, A: Allocator, B: Allocator>(
             match form {
                 Form::Line => write_line::<E, A>(alloc, name, output),
                 Form::Name => push_name(item, output),
+                Form::Word(form) => write_word(alloc, form, item, output),
             }
         }
         Err(fault) => Err(fault),

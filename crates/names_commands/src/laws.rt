@@ -1,6 +1,8 @@
 //! Laws of lists of names. Each is the contract of a function that does nothing.
 ghost use Rattle.std.specs.Prelude.{◌≡◌, ◌++◌, ℕ, List};
-ghost use Rattle.names_commands.specs.Back.{listing, joining, AreFirst, IsCompleted};
+ghost use Rattle.names_commands.specs.Back.{listing, listing_words, joining, joining_words, AreFirst, IsCompleted};
+ghost use Rattle.program_frame.specs.Strings.{strings};
+ghost use Rattle.program_frame.specs.declared.os.Os.TheVariants.{Unix};
 ghost use Rattle.program_frame.specs.ListRun.{IsOutput};
 ghost use Rattle.names_commands.specs.Task.{rules_of};
 ghost use Rattle.names_commands.specs.declared.task.LastLine.{LastLine};
@@ -23,4 +25,18 @@ pub fn names_come_back<E: Platform>()
         → (prefix : List ℕ) → (rest : List ℕ) → (suffix : List ℕ)
         → IsOutput (rules_of ⟦<E as Platform>⟧ (listing max)) names lines → lines ≡ prefix ++ rest
         → IsOutput (rules_of ⟦<E as Platform>⟧ (joining MustEnd other)) prefix suffix → AreFirst names suffix }
+{}
+
+/// The same of names of Unix whose words are on one line each.
+pub fn names_come_back_from_words()
+    ensures some { (last : LastLine) → (max : ℕ) → (names : List ℕ) → (lines : List ℕ)
+        → IsOutput (rules_of (strings Unix) (listing_words max)) names lines → (suffix : List ℕ)
+        × (IsOutput (rules_of (strings Unix) (joining_words last max)) lines suffix × IsCompleted names suffix) }
+    ensures same { (last : LastLine) → (max : ℕ) → (other : ℕ) → (names : List ℕ) → (lines : List ℕ)
+        → (suffix : List ℕ) → IsOutput (rules_of (strings Unix) (listing_words max)) names lines
+        → IsOutput (rules_of (strings Unix) (joining_words last other)) lines suffix → IsCompleted names suffix }
+    ensures cut { (max : ℕ) → (other : ℕ) → (names : List ℕ) → (lines : List ℕ)
+        → (prefix : List ℕ) → (rest : List ℕ) → (suffix : List ℕ)
+        → IsOutput (rules_of (strings Unix) (listing_words max)) names lines → lines ≡ prefix ++ rest
+        → IsOutput (rules_of (strings Unix) (joining_words MustEnd other)) prefix suffix → AreFirst names suffix }
 {}

@@ -2,7 +2,8 @@
 //! item.
 //!
 //! An item is a name, ended by NUL, or a line that is the escape of a name
-//! ([`os_quote::escape_line`]); one may be empty. The last name may lack its end, and a last line where
+//! ([`os_quote::escape_line`]) or has words of a shell ([`os_command_line::shell::Words`]); one may be
+//! empty. The last name may lack its end, and a last line where
 //! that was asked for ([`task::LastLine`]). Words are a
 //! command ([`Command::parse`](command::Command::parse)). A run reads a block at a time, and writes
 //! what the items that end in it become ([`program_frame::lists::run::run`]), so it keeps one item and what a block
@@ -20,3 +21,4 @@ pub mod laws;
 pub mod matching;
 pub mod program;
 pub mod task;
+mod words;

@@ -3,6 +3,7 @@ ghost use Rattle.std.specs.Prelude.{◌≡◌};
 
 use crate::fault::Refusal;
 use crate::item::write_matching;
+use crate::task::WordForm;
 use glob_patterns::Glob;
 use os_str_bytes::Platform;
 use program_frame::lists::fault::ItemFault;
@@ -16,6 +17,8 @@ pub enum Form {
     Line,
     /// The name itself and NUL.
     Name,
+    /// Its word of a shell, and a newline.
+    Word(WordForm),
 }
 
 /// Each name that a pattern matches is written, and nothing for the others.

@@ -116,8 +116,43 @@ fn run_command<A: Allocator, R: Read, W: Write>(
                 writer,
             )
         }
+        Command::ListWords(form) => {
+            run_on(
+                alloc,
+                Os::Unix,
+                Settings {
+                    task: Task::ListWords(form),
+                    max,
+                },
+                reader,
+                writer,
+            )
+        }
+        Command::ListWordsMatching(form, pattern) => {
+            run_pattern(
+                alloc,
+                Os::Unix,
+                Form::Word(form),
+                pattern,
+                max,
+                reader,
+                writer,
+            )
+        }
+        Command::JoinWords(last) => {
+            run_on(
+                alloc,
+                Os::Unix,
+                Settings {
+                    task: Task::JoinWords(last),
+                    max,
+                },
+                reader,
+                writer,
+            )
+        }
         Command::Help => write_help(
-            "names: lists of file names, escaped one a line, and back\n\nnames list   unix|windows|wasm [GLOB]  names ended by NUL in, the escape of each out, one a line;\n                                       with GLOB of those that it matches\nnames filter unix|windows|wasm GLOB    names ended by NUL in, those that GLOB matches out, ended by NUL\nnames join   unix|windows|wasm         such lines in, names ended by NUL out\nnames join   .. --unterminated         the same, where the last line may lack its newline\nnames check  unix|windows|wasm         names ended by NUL in, nothing out: the status tells\nnames --help                           this text\nnames --max N ..                       one of these, for names of at most N bytes, not 1048576\n\nThe last name may lack its NUL. A last line without its newline is refused, since a list that was\ncut off ends with one. A line has at most six times as many bytes as a name.\n\nGLOB matches a whole name, ./ and folders too, component by component: * is any run of symbols, ? one\nsymbol, [a-z] one of these and [!a-z] one of the others, none of them a separator; ** as a whole component\nis any number of components; {a,b} is a or b; \\ quotes the character after it. The separator is /. On\nwindows \\ is one as well, in GLOB too, where it quotes nothing. So **/*.rs matches ./src/a.rs, *.rs doesn't.\n\nStatus: 0, or 1 where a name or line is refused, 2 for other words or a GLOB that is refused, 3 where\nmemory is refused, 4 where a read or write fails. The first refused name is told with its number,\nfrom 1.\n",
+            "names: lists of file names, escaped one a line, and back\n\nnames list   unix|windows|wasm [GLOB]  names ended by NUL in, the escape of each out, one a line;\n                                       with GLOB of those that it matches\nnames list   --sh unix [GLOB]          the same with words that every POSIX shell reads as the names\nnames list   --sh-line unix [GLOB]     the same, each on one line, for bash, zsh, ksh93, mksh and busybox\nnames filter unix|windows|wasm GLOB    names ended by NUL in, those that GLOB matches out, ended by NUL\nnames join   unix|windows|wasm         such lines in, names ended by NUL out\nnames join   --sh unix                 lines of words in, as such a shell reads them, names out\nnames join   .. --unterminated         the same, where the last line may lack its newline\nnames check  unix|windows|wasm         names ended by NUL in, nothing out: the status tells\nnames --help                           this text\nnames --max N ..                       one of these, for names of at most N bytes, not 1048576\n\nThe last name may lack its NUL. A last line without its newline is refused, since a list that was\ncut off ends with one. A line has at most six times as many bytes as a name,\na line of words four times and three more. With --sh a name with a newline has it in its word, and so\ntwo lines; join refuses what some shell would expand.\n\nGLOB matches a whole name, ./ and folders too, component by component: * is any run of symbols, ? one\nsymbol, [a-z] one of these and [!a-z] one of the others, none of them a separator; ** as a whole component\nis any number of components; {a,b} is a or b; \\ quotes the character after it. The separator is /. On\nwindows \\ is one as well, in GLOB too, where it quotes nothing. So **/*.rs matches ./src/a.rs, *.rs doesn't.\n\nStatus: 0, or 1 where a name or line is refused, 2 for other words or a GLOB that is refused, 3 where\nmemory is refused, 4 where a read or write fails. The first refused name is told with its number,\nfrom 1.\n",
             writer,
         ),
     }

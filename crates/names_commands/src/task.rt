@@ -1,6 +1,6 @@
 //! What is done with the items of the input.
 ghost use Rattle.std.specs.Prelude.{◌≡◌, ◌↔◌, ◌-◌, ◌^◌, IsTrue, min};
-ghost use Rattle.names_commands.specs.Task.{TakesUnended, end_of, longest_item, rules_of};
+ghost use Rattle.names_commands.specs.Task.{MayLack, TakesUnended, end_of, longest_item, rules_of};
 
 use crate::fault::Refusal;
 use crate::item::write_item;
@@ -19,15 +19,43 @@ pub enum LastLine {
     MayLackEnd,
 }
 
+impl LastLine {
+    /// Whether a last line without its newline is read.
+    fn may_lack_end(self) -> bool
+        ensures { IsTrue result ↔ MayLack self }
+    {
+        match self {
+            LastLine::MustEnd => false,
+            LastLine::MayLackEnd => true,
+        }
+    }
+}
+
+/// How a name is written as a word of a shell.
+#[derive(Clone, Copy, PartialEq, Eq)]
+pub enum WordForm {
+    /// As every POSIX shell reads it ([`os_command_line::shell::quote`]). A newline in the name is one
+    /// in the word, too.
+    Posix,
+    /// On one line, as bash, zsh, ksh93, mksh and busybox read it
+    /// ([`os_command_line::shell::quote_line`]).
+    OneLine,
+}
+
 /// What is done with each item of the input.
 #[derive(Clone, Copy)]
 pub enum Task {
     /// Each name is written as its escape on a line.
     ListAll,
+    /// Each name is written as a word of a shell, and a newline.
+    ListWords(WordForm),
     /// Nothing is written.
     Check,
     /// Each line, the escape of a name, is written as that name and NUL.
     Join(LastLine),
+    /// Each word of each line, as a shell reads it, is written with NUL. Words in `$'..'` are read, too,
+    /// and what some shell would expand is refused.
+    JoinWords(LastLine),
 }
 
 /// What is done with each item, and how long a name may be.
@@ -41,7 +69,8 @@ pub struct Settings {
 
 impl Settings {
     /// How many bytes an item may have, or `usize::MAX` where that is less: a name as many as it may,
-    /// a line six times as many, since an escape has at most six for each byte of a name.
+    /// a line six times as many, since an escape has at most six for each byte of a name, and a line of
+    /// words four times as many and three, since the word of a name has no more.
     ///
     /// ```
     /// use names_commands::task::{LastLine, Settings, Task};
@@ -54,8 +83,9 @@ impl Settings {
         ensures { result ≡ min (longest_item self) (2 ^ 64 - 1) }
     {
         match self.task {
-            Task::ListAll | Task::Check => self.max,
+            Task::ListAll | Task::ListWords(_) | Task::Check => self.max,
             Task::Join(_) => self.max.saturating_mul(6),
+            Task::JoinWords(_) => self.max.saturating_mul(4).saturating_add(3),
         }
     }
 }
@@ -72,8 +102,8 @@ impl Task {
         ensures { result ≡ end_of self }
     {
         match self {
-            Task::ListAll | Task::Check => 0,
-            Task::Join(_) => b'\n',
+            Task::ListAll | Task::ListWords(_) | Task::Check => 0,
+            Task::Join(_) | Task::JoinWords(_) => b'\n',
         }
     }
 
@@ -89,9 +119,8 @@ impl Task {
         ensures { IsTrue result ↔ TakesUnended self }
     {
         match self {
-            Task::ListAll | Task::Check => true,
-            Task::Join(LastLine::MustEnd) => false,
-            Task::Join(LastLine::MayLackEnd) => true,
+            Task::ListAll | Task::ListWords(_) | Task::Check => true,
+            Task::Join(last) | Task::JoinWords(last) => last.may_lack_end(),
         }
     }
 }

@@ -8,14 +8,18 @@ use Rattle.program_frame.specs.declared.fault.Failure.TheVariants.{Write}
 use Rattle.program_frame.specs.declared.lists.fault.ListFault.TheVariants.{Refused, Run}
 use Rattle.names_commands.specs.declared.fault.Refusal.{Refusal}
 use Rattle.names_commands.specs.declared.fault.Refusal.TheVariants.{NoString}
-use Rattle.names_commands.specs.declared.task.LastLine.TheVariants.{MustEnd}
-use Rattle.names_commands.specs.declared.task.Task.TheVariants.{Check}
+use Rattle.names_commands.specs.declared.task.LastLine.TheVariants.{MustEnd, MayLackEnd}
+use Rattle.names_commands.specs.declared.task.Task.TheVariants.{Check, JoinWords, ListWords}
+use Rattle.names_commands.specs.declared.task.WordForm.TheVariants.{Posix}
 use Rattle.names_commands.specs.declared.matching.Form.TheVariants.{Name}
 use Rattle.names_commands.specs.Matching.{picking}
+use Rattle.names_commands.specs.declared.task.Settings.{Settings}
 use Rattle.names_commands.specs.Back.{listing, joining}
 use Rattle.program_frame.specs.Items.{Entry, Lacks, items_of, texts_of}
 use Rattle.program_frame.specs.Rules.{ListRules, AreIn, IsEntry}
 use Rattle.names_commands.specs.Task.{rules_of}
+use Rattle.names_commands.specs.Words.{AreNamesOf}
+use Rattle.os_command_line.specs.ShellWriting.{quoted_word}
 use Rattle.program_frame.specs.Reading.{Stops}
 use Rattle.program_frame.specs.ListRun.{IsOutput, start}
 
@@ -55,6 +59,22 @@ module _ {E : Type 0} (p : Ghosts E) where
       let entry = (subst (λ es. AllByRecursion (IsEntry (rules_of p (listing max))) es) one.1 o.are).0 in
       let line = entry.text.1 in
       ((line.0, (line.1, o.written ∙ ap texts_of one.1 ∙ append-nil one.0 ∙ line.2)), entry.short)
+
+  -- the word of one name, and the names of one line of words
+  pub known_word : (max : ℕ) (name output : List ℕ) → Lacks 0 name → name ≢ [] → IsOutput (rules_of p (record { task = ListWords Posix; max = max })) name output → output ≡ quoted_word name ++ 0x0A ∷ []
+  known_word max name output l some o =
+      let s : Settings = record { task = ListWords Posix; max = max } in
+      let one = one_item (rules_of p s) o.entries name l some o.items in
+      let entry = (subst (λ es. AllByRecursion (IsEntry (rules_of p s)) es) one.1 o.are).0 in
+      let word = entry.text.1 in
+      o.written ∙ ap texts_of one.1 ∙ append-nil one.0 ∙ word.2 ∙ ap (λ w. w ++ 0x0A ∷ []) word.1
+
+  pub known_words : (max : ℕ) (line output : List ℕ) → Lacks 0x0A line → line ≢ [] → IsOutput (rules_of p (record { task = JoinWords MayLackEnd; max = max })) line output → AreNamesOf max line output
+  known_words max line output l some o =
+      let s : Settings = record { task = JoinWords MayLackEnd; max = max } in
+      let one = one_item (rules_of p s) o.entries line l some o.items in
+      let entry = (subst (λ es. AllByRecursion (IsEntry (rules_of p s)) es) one.1 o.are).0 in
+      subst (AreNamesOf max line) (sym (o.written ∙ ap texts_of one.1 ∙ append-nil one.0)) entry.text
 
   -- the name that `check` refuses
   pub known_fault : (max : ℕ) (name output : List ℕ) (number : ℕ) (error : EncodingError) → Lacks 0 name → Stops (rules_of p (record { task = Check; max = max })) start name output (Refused number (NoString error)) → (number ≡ 1) × p.first_fault name error

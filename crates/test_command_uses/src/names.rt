@@ -1,6 +1,7 @@
 //! Lists of names: the words of requests, what runs write and refuse, and the way back.
 ghost use Rattle.std.specs.Prelude.{◌≡◌, ◌≢◌, ◌≤◌, ◌∷◌, ◌++◌, ◌⊎◌, [], ℕ, List, false, IsOk, IfOk, IfErr, OnOk, length, map, string_bytes};
 ghost use Rattle.std.specs.Io.KnownBytes.{Appends};
+ghost use Rattle.os_command_line.specs.ShellWriting.{quoted_word};
 ghost use Rattle.os_quote.specs.Escape.{IsLineEscape};
 ghost use Rattle.os_str_bytes.specs.EncodingError.{EncodingError};
 ghost use Rattle.program_frame.specs.Items.{Lacks};
@@ -8,10 +9,11 @@ ghost use Rattle.program_frame.specs.ListRun.{IsOutput, StopsOn};
 ghost use Rattle.program_frame.specs.Marked.{marked_inner, has_failed};
 ghost use Rattle.program_frame.specs.declared.fault.Failure.TheVariants.{Write as WriteFailure};
 ghost use Rattle.program_frame.specs.declared.lists.fault.ListFault.TheVariants.{Refused, Run};
-ghost use Rattle.names_commands.specs.Back.{listing, AreFirst, IsCompleted};
+ghost use Rattle.names_commands.specs.Back.{listing, listing_words, AreFirst, IsCompleted};
 ghost use Rattle.names_commands.specs.Command.{AsksFor};
 ghost use Rattle.names_commands.specs.Matching.{IsMatchedBy};
 ghost use Rattle.names_commands.specs.Task.{rules_of};
+ghost use Rattle.names_commands.specs.Words.{AreNamesOf};
 ghost use Rattle.names_commands.specs.declared.command.Request.{Request};
 ghost use Rattle.names_commands.specs.declared.fault.Refusal.{Refusal};
 ghost use Rattle.names_commands.specs.declared.fault.Refusal.TheVariants.{NoString};
@@ -19,10 +21,10 @@ ghost use Rattle.names_commands.specs.declared.fault.Refusal.TheVariants.{NoStri
 use glob_patterns::Glob;
 use names_commands::command::Request;
 use names_commands::fault::{CommandFault, Refusal};
-use names_commands::laws::names_come_back;
+use names_commands::laws::{names_come_back, names_come_back_from_words};
 use names_commands::matching::{Form, Matching};
-use names_commands::task::{LastLine, OnPlatform, Settings, Task};
-use os_str_bytes::Platform;
+use names_commands::task::{LastLine, OnPlatform, Settings, Task, WordForm};
+use os_str_bytes::{Platform, Unix};
 use program_frame::lists::fault::ListFault;
 use program_frame::lists::run::run;
 use program_frame::marked::Marked;
@@ -84,6 +86,69 @@ pub fn names_again<E: Platform, A: Allocator, W: Write>(
         max,
     };
     run_over::<E, A, W>(alloc, settings, lines, writer)
+}
+
+/// Joins the words on one line each that were written of names of Unix, which gives back the names.
+pub fn names_again_of_words<A: Allocator, W: Write>(
+    alloc: A,
+    max: usize,
+    names: &[u8],
+    lines: &[u8],
+    writer: &mut Marked<W>,
+) -> Result<(), ListFault<Refusal>>
+    requires listed { IsOutput (rules_of ⟦<Unix as Platform>⟧ (listing_words max)) names.now lines.now }
+    requires unmarked { has_failed writer.old ≡ false }
+    ensures { OnOk result ((back : List ℕ) × (IsCompleted names.now back
+        × Appends (W.contents (marked_inner writer.old)) (W.contents (marked_inner writer.new))
+        back)) }
+{
+    names_come_back_from_words();
+    let settings = Settings {
+        task: Task::JoinWords(LastLine::MustEnd),
+        max,
+    };
+    run_over::<Unix, A, W>(alloc, settings, lines, writer)
+}
+
+/// Lists one name as a word of every POSIX shell, and a newline.
+pub fn word_of<A: Allocator, W: Write>(
+    alloc: A,
+    max: usize,
+    name: &[u8],
+    writer: &mut Marked<W>,
+) -> Result<(), ListFault<Refusal>>
+    requires whole { Lacks 0 name.now }
+    requires some { name.now ≢ [] }
+    requires unmarked { has_failed writer.old ≡ false }
+    ensures { OnOk result (Appends (W.contents (marked_inner writer.old))
+        (W.contents (marked_inner writer.new)) (quoted_word name.now ++ 0x0A ∷ [])) }
+{
+    let settings = Settings {
+        task: Task::ListWords(WordForm::Posix),
+        max,
+    };
+    run_over::<Unix, A, W>(alloc, settings, name, writer)
+}
+
+/// Joins one line of words, which are its names, each with NUL.
+pub fn words_of_line<A: Allocator, W: Write>(
+    alloc: A,
+    max: usize,
+    line: &[u8],
+    writer: &mut Marked<W>,
+) -> Result<(), ListFault<Refusal>>
+    requires whole { Lacks 0x0A line.now }
+    requires some { line.now ≢ [] }
+    requires unmarked { has_failed writer.old ≡ false }
+    ensures { OnOk result ((text : List ℕ) × (AreNamesOf max line.now text
+        × Appends (W.contents (marked_inner writer.old)) (W.contents (marked_inner writer.new))
+        text)) }
+{
+    let settings = Settings {
+        task: Task::JoinWords(LastLine::MayLackEnd),
+        max,
+    };
+    run_over::<Unix, A, W>(alloc, settings, line, writer)
 }
 
 /// Joins lines that were written of names and cut off anywhere, which gives back some of the first

@@ -10,4 +10,5 @@ pub mod arguments;
 pub mod command_lines;
 pub mod errors;
 pub mod patterns;
+pub mod shell_words;
 pub mod windows_lines;

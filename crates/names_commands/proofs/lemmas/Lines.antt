@@ -53,8 +53,11 @@ characters_lack (c ∷ cs) a =
     let other : c ≢ 0x0A = λ e. not_true (subst (λ x. IsTrue (stays_on_line x)) e a.0) in
     lacks-append 0x0A (encode_utf8 c) (encode_utf8_all cs) (subst (Lacks 0x0A) (form_encode c) (form_lacks c other)) (characters_lack cs a.1)
 
+pub stays_lacks : (text : List ℕ) → IsUtf8 text → AllByRecursion (λ c. IsTrue (stays_on_line c)) (chars text) → Lacks 0x0A text
+stays_lacks text u a = subst (Lacks 0x0A) (encodes-chars text u) (characters_lack (chars text) a)
+
 line_lacks : (text : List ℕ) → IsUtf8 text → All (λ c. IsTrue (stays_on_line c)) (chars text) → Lacks 0x0A text
-line_lacks text u a = subst (Lacks 0x0A) (encodes-chars text u) (characters_lack (chars text) (recursion_from_All (λ c. IsTrue (stays_on_line c)) (chars text) a))
+line_lacks text u a = stays_lacks text u (recursion_from_All (λ c. IsTrue (stays_on_line c)) (chars text) a)
 
 -- what is known of the escapes of a platform's strings
 pub record AreLines {E : Type 0} (p : Ghosts E) : Type 0 where

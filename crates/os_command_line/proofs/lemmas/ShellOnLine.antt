@@ -1,5 +1,5 @@
 -- Words on one line are texts that stay on it, and each is that of one name.
-use Rattle.std.proofs.Common.{◌≡◌, ℕ, zero, suc, ◌+◌, ◌/◌, ◌%◌, ◌<◌, ◌≤◌, true, false, eqb, List, [], ◌∷◌, ◌++◌, map, refl, sym, ap, ◌∙◌, subst, arith, append_assoc, append-nil, inl, inr, ◌⊎◌}
+use Rattle.std.proofs.Common.{◌≡◌, ℕ, zero, suc, ◌+◌, ◌*◌, ◌/◌, ◌%◌, ◌<◌, ◌≤◌, true, false, eqb, List, [], ◌∷◌, ◌++◌, length, map, refl, sym, ap, ◌∙◌, subst, arith, append_assoc, append-nil, inl, inr, ◌⊎◌}
 use Rattle.std.specs.Char.{IsScalar, encode_utf8}
 use Rattle.std.specs.List.{All, AllByRecursion, flat_map}
 use Rattle.std.specs.Str.{IsAscii, IsUtf8, is_utf8, all_scalars, chars, encode_utf8_all}
@@ -25,7 +25,7 @@ use Rattle.os_command_line.specs.Shell.{single_quote, backslash, dollar, HasNoQu
 use Rattle.os_command_line.specs.ShellWriting.{AreBytes, HasNoNul, is_plain_name, single_byte, single_quoted, quoted_word, letter_for, octal_text, shown_or_octal, character_text, symbol_text, IsDollarWord, IsLineText, IsLineWord, IsTextWord}
 use Rattle.os_command_line.proofs.lemmas.ShellDollar.{dollar_is}
 use Rattle.os_command_line.proofs.lemmas.ShellRoundTrip.{word_is_text, one_word}
-use Rattle.os_command_line.proofs.lemmas.ShellWritten.{single_plain}
+use Rattle.os_command_line.proofs.lemmas.ShellWritten.{single_plain, single_len, dollar_word_len}
 use Rattle.os_command_line.proofs.lemmas.WindowsLifted.{AreWide}
 use Rattle.os_command_line.proofs.lemmas.WindowsStrings.{bytes_form}
 
@@ -244,6 +244,16 @@ pub line_word_stays : (name text : List ℕ) → AreBytes name → IsLineWord na
 line_word_stays name text w is = elim (line_cases name) [
   | inl t ↦ subst IsLineText (sym (is.shown t)) (word_on_line name t)
   | inr n ↦ dollar_on_line name text (All-from_recursion (λ b. b < 0x100) name w) (is.hidden n)
+]
+
+-- how long it is
+word_len : (name : List ℕ) → length (quoted_word name) ≤ 4 * length name + 3
+word_len name = elim (cases_Bool (is_plain_name name)) [ inl p ↦ rw p (omega arith) | inr p ↦ rw p (single_len name) ]
+
+pub line_word_len : (name text : List ℕ) → All IsByte name → IsLineWord name text → length text ≤ 4 * length name + 3
+line_word_len name text w is = elim (line_cases name) [
+  | inl t ↦ omega (arith, ap length (is.shown t), word_len name)
+  | inr n ↦ dollar_word_len name text w (is.hidden n)
 ]
 
 line_word_is : (l : Language) (name text : List ℕ) → l.dollar_quotes ≡ true → AreBytes name → HasNoNul name → IsLineWord name text → IsTextOf l text name

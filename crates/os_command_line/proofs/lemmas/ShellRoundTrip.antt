@@ -1,6 +1,8 @@
 -- What is written is read back.
 use Rattle.std.proofs.Common.{◌≡◌, ◌≢◌, ℕ, ◌<◌, Bool, true, false, not, ◌||◌, ◌&&◌, eqb, List, [], ◌∷◌, ◌++◌, map, length, refl, sym, ap, ◌∙◌, subst, arith, append_assoc, append-nil, Ok, inl, inr}
-use Rattle.std.specs.List.{AllByRecursion, flat_map}
+use Rattle.std.specs.List.{All, AllByRecursion, flat_map}
+use Rattle.std.proofs.lemmas.List.Elements.{recursion_from_All}
+use Rattle.wtf8_core.specs.Byte.{IsByte}
 use Rattle.std.proofs.lemmas.Bool.{cases_Bool, true≢false, and_parts, not-true, eqb-true}
 use Rattle.wtf8_core.proofs.lemmas.scan.ComputedTests.{all_below, each_below}
 use Rattle.os_command_line.specs.declared.shell.language.Language.{Language}
@@ -174,3 +176,8 @@ alone_read l text word h =
 
 pub joined_names : (l : Language) (names : List (List ℕ)) (line : List ℕ) → AllByRecursion AreBytes names → line ≡ join_words (map quoted_word names) → AreWords l line names
 joined_names l names line w e = subst (λ z. AreWords l z names) (sym e) (joined_read l (map quoted_word names) names (quoted_texts l names w))
+
+-- strings of bytes are names
+pub are_names : {X : Type 0} (text : X → List ℕ) → ((x : X) → All IsByte (text x)) → (xs : List X) → AllByRecursion AreBytes (map text xs)
+are_names text of [] = tt
+are_names text of (x ∷ xs) = (recursion_from_All IsByte (text x) (of x), are_names text of xs)

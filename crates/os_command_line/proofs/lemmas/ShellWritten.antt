@@ -95,6 +95,12 @@ dollar_len name w =
     let symbols = symbols_of itself name in
     omega (arith, symbols_len symbols, ap length (own_bytes name w), length-append (flat_map symbol_text symbols) (single_quote ∷ []))
 
+-- the symbols of a name in one way or another
+pub dollar_word_len : (name text : List ℕ) → All IsByte name → IsDollarWord name text → length text ≤ 4 * length name + 3
+dollar_word_len name text w is =
+    let joined = symbols_joined itself (All IsByte) unix_parts.encoded unix_laws.cut_prefix unix_laws.cut_suffix name w is.symbols is.are_symbols in
+    omega (arith, symbols_len is.symbols, ap length joined, ap length is.text_is, length-append (flat_map symbol_text is.symbols) (single_quote ∷ []))
+
 pub dollar_word : (name : List ℕ) → IsDollarWord name (dollar_quoted (symbols_of itself name))
 dollar_word name = record { symbols = symbols_of itself name; are_symbols = own_symbols name; text_is = refl }
 

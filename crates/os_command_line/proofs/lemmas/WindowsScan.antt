@@ -1,13 +1,16 @@
 -- Steps of the reader by bytes.
-use Rattle.std.proofs.Common.{◌≡◌, ◌≢◌, ℕ, ◌+◌, ◌*◌, ◌/◌, ◌%◌, ◌≤◌, Bool, true, false, not, List, [], ◌∷◌, ◌++◌, length, refl, sym, ap, ◌∙◌, subst, arith, append_assoc, append-nil, inl, inr}
+use Rattle.std.proofs.Common.{◌≡◌, ◌≢◌, ◌⊎◌, ⊎_elim, ℕ, ◌+◌, ◌*◌, ◌/◌, ◌%◌, ◌<◌, ◌≤◌, Bool, true, false, not, List, [], ◌∷◌, ◌++◌, length, take, drop, get_or, refl, sym, ap, ◌∙◌, subst, arith, append_assoc, append-nil, inl, inr}
 use Rattle.std.specs.List.{AllByRecursion}
-use Rattle.std.proofs.lemmas.Bool.{cases_eq}
+use Rattle.std.proofs.lemmas.Bool.{cases_eq, ne_eqb, true≢false}
+use Rattle.std.proofs.lemmas.List.{drop_more}
+use Rattle.memchr.specs.Find.{NoneBefore, Nowhere, Passes, is_byte3}
 use Rattle.os_command_line.specs.Windows.{backslash, quote, IsBlank, backslashes, IsLiteral, Ends, StartsWithNoQuote, Reads, ReadsName}
 use Rattle.os_command_line.specs.Windows.Reads.{ends, literal, escaped, opens, closes, doubled}
 use Rattle.os_command_line.specs.Windows.ReadsName.{name_ends, name_quote, name_unit}
 use Rattle.os_command_line.specs.WindowsReader.{meant, first_index}
 use Rattle.os_command_line.specs.WindowsSteps.{IsBare, BeginsArgument, Leads, IsStep, IsNameStep}
 use Rattle.os_command_line.proofs.lemmas.WindowsEachLine.{same, more_backslashes, blank_cases}
+use Rattle.os_command_line.proofs.lemmas.ShellForms.{nowhere, before_first}
 use Rattle.os_command_line.proofs.lemmas.WindowsOneReading.{complete_alone}
 
 -- a step by one byte, which adds these
@@ -92,12 +95,40 @@ bare_from after (u ∷ us) n e h = elim (cases_eq u backslash) [
 pub bare_means_itself : (us : List ℕ) → AllByRecursion IsBare us → meant first_index us ≡ us
 bare_means_itself us h = complete_alone us us (same (append-nil us) refl (bare_from [] us 0 tt h))
 
-pub one_bare : (line rest : List ℕ) (unit : ℕ) (after : List ℕ) → (raw : List ℕ) × AllByRecursion IsBare raw × (line ≡ raw ++ rest) → rest ≡ unit ∷ after → IsBare unit → (raw : List ℕ) × AllByRecursion IsBare raw × (line ≡ raw ++ after)
-one_bare line rest unit after so_far e b = (so_far.0 ++ unit ∷ [], are_bare so_far.0 so_far.1, so_far.2 ∙ ap (λ z. so_far.0 ++ z) e ∙ sym (append_assoc so_far.0 (unit ∷ []) after))
+-- ---- the search for a blank or a quotation mark
+
+abbrev is_stop : ℕ → Bool
+is_stop u = is_byte3 0x20 0x09 0x22 u
+
+is_other : (u : ℕ) → ¬ (is_stop u ≡ true) → IsBare u
+is_other u n = record {
+  no_blank = ⊎_elim (λ e. n (subst (λ z. is_stop z ≡ true) (sym e) refl)) (λ e. n (subst (λ z. is_stop z ≡ true) (sym e) refl));
+  no_quote = λ e. n (subst (λ z. is_stop z ≡ true) (sym e) refl);
+}
+
+is_blank_stop : (u : ℕ) → is_stop u ≡ true → u ≢ quote → IsBlank u
+is_blank_stop u h n = elim (cases_eq u 0x20) [
+  | inl e ↦ inl e
+  | inr a ↦ elim (cases_eq u 0x09) [
+    | inl e ↦ inr e
+    | inr b ↦ absurd (true≢false (sym h ∙ none a b))
+  ]
+]
   where
-    are_bare : (us : List ℕ) → AllByRecursion IsBare us → AllByRecursion IsBare (us ++ unit ∷ [])
-    are_bare [] h = (b, tt)
-    are_bare (x ∷ us) h = (h.0, are_bare us h.1)
+    none : u ≢ 0x20 → u ≢ 0x09 → is_stop u ≡ false
+    none a b = rw (ne_eqb u 0x20 a, ne_eqb u 0x09 b, ne_eqb u 0x22 n) refl
+
+pub bare_before : (t : List ℕ) (i : ℕ) → NoneBefore (Passes is_stop t) 0 (length t) i → AllByRecursion IsBare (take i t)
+bare_before t i h = before_first is_stop IsBare is_other t i h
+
+pub bare_text : (t : List ℕ) → Nowhere (Passes is_stop t) 0 (length t) → AllByRecursion IsBare t
+bare_text t h = nowhere is_stop IsBare is_other t h
+
+-- what stops there ends an argument, unless it is a quotation mark
+pub stops_at : (t : List ℕ) (i : ℕ) → i < length t → Passes is_stop t i → StartsWithNoQuote (drop i t) → Ends false (drop i t)
+stops_at t i lt p n =
+    let e = drop_more t i 0 lt in
+    subst (Ends false) (sym e) (is_blank_stop (get_or t i 0) p (subst StartsWithNoQuote e n))
 
 pub bare_argument : (text rest : List ℕ) → (raw : List ℕ) × AllByRecursion IsBare raw × (text ≡ raw ++ rest) → Ends false rest → BeginsArgument text rest true
 bare_argument text rest b e = record { argument = b.0; raw = b.0; reads = subst (λ z. Reads rest false z b.0) (sym b.2) (bare_from rest b.0 0 e b.1); joined = b.2; is_bare = λ _. b.1 }
@@ -107,13 +138,6 @@ marked_argument text rest m = record { argument = m.0; raw = m.1; reads = m.2; j
   where
     never : false ≡ true → ⊥
     never e = cc
-
--- what stops there ends an argument, unless it is a quotation mark
-pub stops_here : (rest : List ℕ) (unit : ℕ) (after : List ℕ) → rest ≡ unit ∷ after → (IsBare unit → ⊥) → StartsWithNoQuote rest → Ends false rest
-stops_here rest unit after e other n = elim (blank_cases unit) [
-  | inl b ↦ subst (Ends false) (sym e) b
-  | inr b ↦ absurd (other (record { no_blank = b; no_quote = subst StartsWithNoQuote e n }))
-]
 
 -- ---- the program's name
 

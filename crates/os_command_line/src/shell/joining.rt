@@ -1,6 +1,8 @@
 //! Words joined into a line.
 ghost use Rattle.std.specs.Prelude.{◌≡◌, ◌++◌, ◌∷◌, ◌+◌, ◌<◌, [], map, drop, length, IfOk, IfErr, IfSome, OnOk, MatchOption};
 ghost use Rattle.platform_str.specs.Strings.{bytes, string_vec_of};
+ghost use Rattle.os_command_line.specs.Shell.{AreWords};
+ghost use Rattle.os_command_line.specs.declared.shell.language.Language.{Language};
 ghost use Rattle.os_command_line.specs.ShellWriting.{IsFirstNameFault, after_first, join_words, quoted_word};
 
 use crate::shell::error::ShellError;
@@ -30,6 +32,8 @@ pub fn join<A: Allocator>(
 ) -> Result<OsString<Unix, A>, ShellError>
     ensures line { IfOk result (λ line. (string_vec_of line).items
         ≡ join_words (map quoted_word (map bytes names.now))) }
+    ensures read { IfOk result (λ line. (l : Language)
+        → AreWords l (string_vec_of line).items (map bytes names.now)) }
     ensures fault { IfErr result (λ fault. IsFirstNameFault (map bytes names.now) fault) }
 {
     let mut line = Vec::new(alloc);

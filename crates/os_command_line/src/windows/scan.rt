@@ -4,6 +4,8 @@ ghost use Rattle.std.specs.List.{AllByRecursion};
 ghost use Rattle.os_command_line.specs.Windows.{IsBlank, Begins, Ends, StartsWithNoQuote, Reads, ReadsName};
 ghost use Rattle.os_command_line.specs.WindowsSteps.{BeginsArgument, IsBare, IsStep, IsNameStep};
 
+use memchr::memchr3;
+
 /// Whether a byte is a space or a tab.
 #[inline(always)]
 fn is_blank(byte: u8) -> bool
@@ -53,22 +55,11 @@ fn after_bare(text: &[u8]) -> &[u8]
     ensures raw { (raw : List ℕ) × AllByRecursion IsBare raw × (text.now ≡ raw ++ result.now) }
     ensures end { StartsWithNoQuote result.now → Ends false result.now }
 {
-    let mut rest = text;
-    while let Some((byte, after)) = rest.split_first() {
-        if !is_bare(*byte) {
-            return rest;
-        }
-        rest = after;
-    }
+    let Some(at) = memchr3(b' ', b'\t', b'"', text) else {
+        return &[];
+    };
+    let (_, rest) = text.split_at(at);
     rest
-}
-
-/// Whether a byte is no blank and no quotation mark.
-#[inline(always)]
-fn is_bare(byte: u8) -> bool
-    ensures { IsTrue result ↔ IsBare byte }
-{
-    !is_blank(byte) && byte != b'"'
 }
 
 /// What comes after the argument with which a text begins, which may have quotation marks.

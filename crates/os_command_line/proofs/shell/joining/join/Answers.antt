@@ -1,7 +1,9 @@
-use Rattle.std.proofs.Common.{[], map, ap, sym, subst}
-use Rattle.platform_str.specs.Strings.{bytes}
-use Rattle.os_command_line.specs.ShellWriting.{IsFirstNameFault}
+use Rattle.std.proofs.Common.{◌≡◌, [], map, ap, sym, ◌∙◌, subst, rules}
+use Rattle.std.proofs.lemmas.List.{nil_from_length}
+use Rattle.platform_str.specs.Strings.{bytes, string_vec_of}
+use Rattle.os_command_line.specs.ShellWriting.{IsFirstNameFault, join_words, quoted_word}
 use Rattle.os_command_line.proofs.lemmas.ShellJoining.{later_fault}
+use Rattle.os_command_line.proofs.lemmas.ShellRoundTrip.{are_names, joined_names}
 use Rattle.os_command_line.proofs.shell.joining.join.Goals as goal
 
 pub returns-in-Err-clause-fault : goal.returns-in-Err-clause-fault
@@ -18,3 +20,16 @@ pub returns-in-Err-push_after-clause-fault : goal.returns-in-Err-push_after-clau
 returns-in-Err-push_after-clause-fault g c =
     subst (λ z. IsFirstNameFault z c.in-Err-push_after.fault) (sym (ap (map bytes) c.in-Some.ensures.cases.0))
     (later_fault (bytes c.in-Some.first.now) (map bytes c.in-Some.others.now) c.in-Err-push_after.fault c.in-Ok.ensures.no_nul c.in-Err-push_after.ensures.fault)
+
+pub returns-in_default-clause-read : goal.returns-in_default-clause-read
+returns-in_default-clause-read g c l =
+    let names = map bytes c.args.names.now in
+    let none : names ≡ [] = ap (map bytes) (nil_from_length c.args.names.now c.in_default.ensures.cases) in
+    let empty : (string_vec_of c.unix_string.result).items ≡ [] = search rules in
+    joined_names l names (string_vec_of c.unix_string.result).items (are_names bytes (λ name. name.ok) c.args.names.now) (empty ∙ sym (ap (λ z. join_words (map quoted_word z)) none))
+
+pub returns-in-Ok-push_after-clause-read : goal.returns-in-Ok-push_after-clause-read
+returns-in-Ok-push_after-clause-read g c l =
+    let names = map bytes c.args.names.now in
+    let line : (string_vec_of c.unix_string-in-Ok-push_after.result).items ≡ join_words (map quoted_word names) = search rules in
+    joined_names l names (string_vec_of c.unix_string-in-Ok-push_after.result).items (are_names bytes (λ name. name.ok) c.args.names.now) line

@@ -1,15 +1,17 @@
-use Rattle.std.proofs.Common.{◌∙◌, sym, subst, false}
-use Rattle.std.proofs.lemmas.Bool.{true≢false}
-use Rattle.std.proofs.lemmas.List.{nil_from_length}
-use Rattle.os_command_line.specs.Windows.{Ends}
-use Rattle.os_command_line.proofs.lemmas.WindowsScan.{one_bare, stops_here}
+use Rattle.std.proofs.Common.{◌++◌, take, append-nil, false, take-append-drop, sym, ap, ◌∙◌, subst}
+use Rattle.os_command_line.specs.Windows.{Ends, StartsWithNoQuote}
+use Rattle.os_command_line.proofs.lemmas.WindowsScan.{bare_before, bare_text, stops_at}
 use Rattle.os_command_line.proofs.windows.scan.after_bare.Goals as goal
 
-pub loop-byte-preserved : goal.loop-byte-preserved
-loop-byte-preserved c = one_bare c.args.text.now c.loop-byte.rest.now c.in-Some.byte.now c.in-Some.after.now c.loop-byte.invariant c.in-Some.ensures.cases.0 (c.is_bare.ensures.0 c.if-not-is_bare.false)
+pub returns-in_default-clause-raw : goal.returns-in_default-clause-raw
+returns-in_default-clause-raw c = let text = c.args.text.now in (text, bare_text text c.in_default.ensures, sym (append-nil text))
 
-pub returns-then-not-is_bare-clause-end : goal.returns-then-not-is_bare-clause-end
-returns-then-not-is_bare-clause-end c = stops_here c.loop-byte.rest.now c.in-Some.byte.now c.in-Some.after.now c.in-Some.ensures.cases.0 (λ b. true≢false (sym (c.is_bare.ensures.1 b) ∙ c.if-not-is_bare.true))
+pub returns-clause-raw : goal.returns-clause-raw
+returns-clause-raw c =
+    let text = c.args.text.now in
+    let at = c.in-Some.at in
+    (take at text, bare_before text at c.in-Some.ensures.0, sym (take-append-drop at text) ∙ ap (λ x. take at text ++ x) (sym c.split_at.ensures.back))
 
 pub returns-clause-end : goal.returns-clause-end
-returns-clause-end c = λ _. subst (Ends false) (sym (nil_from_length c.loop-byte.rest.now c.in_default.ensures.cases)) tt
+returns-clause-end c =
+    subst (λ x. StartsWithNoQuote x → Ends false x) (sym c.split_at.ensures.back) (stops_at c.args.text.now c.in-Some.at c.in-Some.ensures.0.high c.in-Some.ensures.1)

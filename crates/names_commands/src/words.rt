@@ -1,0 +1,126 @@
+//! Words of a shell: what is written for one name, and for a line of them.
+ghost use Rattle.std.specs.Prelude.{◌≡◌, ◌++◌, ◌∷◌, [], ℕ, List, IfOk, OnOk, OnErr, IfErr};
+ghost use Rattle.os_command_line.specs.ShellViews.{word_bytes};
+ghost use Rattle.os_command_line.specs.ShellWriting.{IsNameFault};
+ghost use Rattle.os_str_bytes.specs.Strings.{bytes, string_vec_of};
+ghost use Rattle.names_commands.specs.Words.{IsWord, IsWordLine, IsName, AreNamesOf, IsNulFault, IsWordFault, IsLineFault};
+
+use crate::fault::Refusal;
+use crate::task::WordForm;
+use os_command_line::shell::{ShellError, Specials, Word, Words, quote, quote_line};
+use os_str_bytes::{OsStr, OsString, Unix};
+use program_frame::lists::fault::ItemFault;
+use program_frame::lists::items::{push_ended, split_at_end};
+use std::alloc::Allocator;
+
+/// Appends the word of a name, and a newline.
+#[tactic(auto, using(program_frame::proofs::lemmas::lists::Items::end_in))]
+pub(crate) fn write_word<A: Allocator>(
+    alloc: A,
+    form: WordForm,
+    name: &[u8],
+    output: &mut Vec<u8, A>,
+) -> Result<(), ItemFault<Refusal>>
+    ensures line { OnOk result ((text : List ℕ) × (IsWordLine form name.now text
+        × (output.new.items ≡ output.old.items ++ text))) }
+    ensures fault { IfErr result (λ fault. IsNulFault name.now fault) }
+    ensures unchanged { OnErr result (output.new.items ≡ output.old.items) }
+{
+    match word_of(alloc, form, OsStr::from_encoded_bytes_unchecked(name)) {
+        Ok(word) => match push_ended(word.as_os_str().as_encoded_bytes(), b'\n', output) {
+            Ok(()) => Ok(()),
+            Err(_) => Err(ItemFault::Memory),
+        },
+        Err(ShellError::Nul(_)) => Err(ItemFault::Refused(Refusal::HasNul)),
+        Err(ShellError::Memory) => Err(ItemFault::Memory),
+    }
+}
+
+/// The word of a name.
+fn word_of<A: Allocator>(
+    alloc: A,
+    form: WordForm,
+    name: OsStr<'_, Unix>,
+) -> Result<OsString<Unix, A>, ShellError>
+    ensures word { IfOk result
+        (λ word. IsWord form (bytes name.entry) (string_vec_of word).items) }
+    ensures fault { IfErr result (λ fault. IsNameFault (bytes name.entry) fault) }
+{
+    match form {
+        WordForm::Posix => quote(alloc, name),
+        WordForm::OneLine => quote_line(alloc, name),
+    }
+}
+
+/// Appends each word of a line, and NUL after it.
+pub(crate) fn write_names<A: Allocator + Copy>(
+    alloc: A,
+    max: usize,
+    line: &[u8],
+    output: &mut Vec<u8, A>,
+) -> Result<(), ItemFault<Refusal>>
+    ensures ok { OnOk result ((text : List ℕ) × (AreNamesOf max line.now text
+        × (output.new.items ≡ output.old.items ++ text))) }
+    ensures fault { IfErr result (λ fault. IsLineFault max line.now fault) }
+    ensures unchanged { OnErr result (output.new.items ≡ output.old.items) }
+{
+    let mut names = Vec::new(alloc);
+    push_names(alloc, max, line, &mut names)?;
+    match output.extend_from_slice(&names) {
+        Ok(()) => Ok(()),
+        Err(_) => Err(ItemFault::Memory),
+    }
+}
+
+/// The same to a list of names, which may have some of them afterwards where a word is refused.
+fn push_names<A: Allocator + Copy>(
+    alloc: A,
+    max: usize,
+    line: &[u8],
+    names: &mut Vec<u8, A>,
+) -> Result<(), ItemFault<Refusal>>
+    ensures ok { OnOk result ((text : List ℕ) × (AreNamesOf max line.now text
+        × (names.new.items ≡ names.old.items ++ text))) }
+    ensures fault { IfErr result (λ fault. IsLineFault max line.now fault) }
+{
+    let line = OsStr::from_encoded_bytes_unchecked(line);
+    for word in Words::with_dollar_quotes(line, Specials::Refused) {
+        match word {
+            Ok(word) => match push_name(alloc, max, word, names) {
+                Ok(()) => {}
+                Err(fault) => return Err(fault),
+            },
+            Err(fault) => return Err(ItemFault::Refused(Refusal::BadWords(fault))),
+        }
+    }
+    Ok(())
+}
+
+/// Appends a word and NUL.
+#[tactic(auto, using(program_frame::proofs::lemmas::lists::Items::has_end))]
+fn push_name<A: Allocator + Copy>(
+    alloc: A,
+    max: usize,
+    word: Word<'_>,
+    names: &mut Vec<u8, A>,
+) -> Result<(), ItemFault<Refusal>>
+    ensures name { OnOk result (IsName max (word_bytes word.entry)) }
+    ensures ok { OnOk result (names.new.items
+        ≡ names.old.items ++ (word_bytes word.entry ++ 0 ∷ [])) }
+    ensures fault { IfErr result (λ fault. IsWordFault max (word_bytes word.entry) fault) }
+{
+    let name = match word.to_owned(alloc) {
+        Ok(name) => name.into_encoded_bytes(),
+        Err(_) => return Err(ItemFault::Memory),
+    };
+    if name.len() > max {
+        return Err(ItemFault::TooLong);
+    }
+    if let Some(_) = split_at_end(0, &name) {
+        return Err(ItemFault::Refused(Refusal::HasNul));
+    }
+    match push_ended(&name, 0, names) {
+        Ok(()) => Ok(()),
+        Err(_) => Err(ItemFault::Memory),
+    }
+}
