@@ -12,8 +12,9 @@ use os_str_ext::{OsStr, OsString, Platform};
 use std::alloc::{AllocError, Allocator};
 
 /// The pattern that matches this string and, where case tells, nothing else:
-/// [`Glob::from_os_str`](crate::Glob::from_os_str) refuses it only for want of memory. What these options read as more than a letter is quoted by a
-/// `\` or, where that quotes nothing, is in a class of its own.
+/// [`Glob::from_os_str`](crate::Glob::from_os_str) refuses it only for want of memory. What these
+/// options read as more than a letter is quoted by a `\` or, where that quotes nothing, is in a class
+/// of its own.
 ///
 /// Where both `/` and `\` are separators, the pattern of a string that has one matches the strings
 /// that differ in nothing but which of both they have.
