@@ -1,15 +1,16 @@
 -- Units of an argument, one after the other.
-use Rattle.std.proofs.Common.{◌≡◌, ◌≢◌, ℕ, ◌+◌, ◌-◌, ◌≤◌, Bool, true, false, cond, eqb, ◌&&◌, ◌%◌, List, [], ◌∷◌, ◌++◌, take, drop, length, Option, None, Some, MatchOption, refl, sym, ap, ◌∙◌, arith, append_assoc, append-nil, length-append}
+use Rattle.std.proofs.Common.{◌≡◌, ◌≢◌, ◌⊎◌, inl, inr, ℕ, ◌+◌, ◌-◌, ◌≤◌, Bool, true, false, not, cond, eqb, ◌&&◌, ◌%◌, List, [], ◌∷◌, ◌++◌, take, drop, length, Option, None, Some, MatchOption, refl, sym, ap, ◌∙◌, subst, arith, append_assoc, append-nil, length-append}
 use Rattle.std.proofs.Math.Seq.{take-append_seam, drop-append_seam}
 use Rattle.std.specs.Prelude.{IsTrue}
+use Rattle.std.proofs.lemmas.Bool.{ne_eqb}
 use Rattle.wtf8_core.proofs.lemmas.forms.Appending.{append_same}
 use Rattle.wtf8_core.proofs.lemmas.units.PrefixTests.{never}
 use Rattle.os_command_line.specs.declared.windows.argument.Kind.{Kind}
 use Rattle.os_command_line.specs.declared.windows.argument.Kind.TheVariants.{Name, Marked, Bare}
 use Rattle.os_command_line.specs.declared.windows.index.Index.{Index}
 use Rattle.os_command_line.specs.declared.windows.index.Known.{Known}
-use Rattle.os_command_line.specs.Windows.{quote, backslashes}
-use Rattle.os_command_line.specs.WindowsReader.{output, step, is_slash, meant, known_units, units_left, is_bare, start_of}
+use Rattle.os_command_line.specs.Windows.{backslash, quote, backslashes}
+use Rattle.os_command_line.specs.WindowsReader.{index, output, step, is_slash, meant, known_units, units_left, is_bare, start_of}
 use Rattle.os_command_line.specs.WindowsViews.{kind_units}
 use Rattle.os_command_line.proofs.lemmas.WindowsOneReading.{meant_step, meant_end}
 
@@ -44,6 +45,41 @@ pub first_read : (old all known rest more : List ℕ) (unit : Option ℕ) → ol
     → MatchOption unit ((old ++ all ≡ []) × (rest ++ more ≡ [])) (λ u. old ++ all ≡ u ∷ (rest ++ more))
 first_read old all known rest more None o e n h = (ap (λ z. z ++ all) o ∙ e ∙ ap (λ z. z ++ more) h.0 ∙ n h.0, ap (λ z. z ++ more) h.1 ∙ n h.0)
 first_read old all known rest more (Some u) o e n h = ap (λ z. z ++ all) o ∙ e ∙ ap (λ z. z ++ more) h
+
+-- a unit that is no quotation mark and no backslash, where no backslash comes before
+module _ (p : Index) (u : ℕ) (none : p.run ≡ 0) (other : ¬ ((u ≡ quote) ⊎ (u ≡ backslash))) where
+  no_quote : eqb u quote ≡ false
+  no_quote = ne_eqb u quote (λ e. other (inl e))
+
+  no_slash : eqb u backslash ≡ false
+  no_slash = ne_eqb u backslash (λ e. other (inr e))
+
+  never_both : (a b : Bool) → b ≡ false → a && b ≡ false
+  never_both true b e = e
+  never_both false b e = refl
+
+  itself_known : output p u ≡ u ∷ []
+  itself_known = rw (never_both p.closing (eqb u quote) no_quote, never_both (not p.in_name) (eqb u backslash) no_slash, no_quote, none) refl
+
+  on_after : step p u ≡ index p.in_name false p.inside 0
+  on_after = rw (never_both p.closing (eqb u quote) no_quote, never_both (not p.in_name) (eqb u backslash) no_slash, no_quote) refl
+
+  pub itself_meant : (old us rest : List ℕ) (q : Index) → old ≡ [] → us ≡ u ∷ rest → q ≡ index p.in_name false p.inside 0 → old ++ meant p us ≡ u ∷ (old ++ meant q rest)
+  itself_meant old us rest q o e s =
+      ap (λ z. z ++ meant p us) o
+      ∙ ap (meant p) e
+      ∙ meant_step p u rest
+      ∙ ap (λ z. z ++ meant (step p u) rest) itself_known
+      ∙ ap (λ z. u ∷ meant z rest) (on_after ∙ sym s)
+      ∙ ap (λ z. u ∷ (z ++ meant q rest)) (sym o)
+
+-- what comes after a unit that was read
+pub read_after : (p q : Index) (u : ℕ) (us known more : List ℕ) (unit : Option ℕ) → known ≡ output p u → q ≡ step p u → MatchOption unit ((known ++ meant q us ≡ []) × (more ≡ [])) (λ n. known ++ meant q us ≡ n ∷ more)
+    → MatchOption unit ((meant p (u ∷ us) ≡ []) × (more ≡ [])) (λ n. meant p (u ∷ us) ≡ n ∷ more)
+read_after p q u us known more unit k s h =
+    subst (λ z. MatchOption unit ((z ≡ []) × (more ≡ [])) (λ n. z ≡ n ∷ more))
+    (sym (meant_step p u us ∙ ap (λ z. output p u ++ meant z us) (sym s) ∙ ap (λ z. z ++ meant q us) (sym k)))
+    h
 
 -- what is left of an argument that means itself or not
 module _ (bare : Bool) (known more : Known) (p q : Index) (us rest : List ℕ) (unit : Option ℕ) where

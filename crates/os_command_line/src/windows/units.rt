@@ -1,7 +1,8 @@
 //! The units of an argument.
-ghost use Rattle.std.specs.Prelude.{◌≡◌, ◌+◌, ◌<◌, ◌^◌, ◌++◌, ◌∷◌, ◌↔◌, [], length, option_to_list, IsTrue, MatchOption};
+ghost use Rattle.std.specs.Prelude.{◌≡◌, ◌⊎◌, ◌+◌, ◌<◌, ◌^◌, ◌++◌, ◌∷◌, ◌↔◌, [], false, length, option_to_list, IsTrue, MatchOption};
 ghost use Rattle.std.specs.Iterator.{YieldsFirst, item_count};
-ghost use Rattle.os_command_line.specs.WindowsReader.{output, step, meant, known_units, units_left, argument_kind, is_bare, start_of};
+ghost use Rattle.os_command_line.specs.WindowsReader.{index, output, step, meant, known_units, units_left, argument_kind, is_bare, start_of};
+ghost use Rattle.os_command_line.specs.Windows.{backslash, quote};
 
 use crate::windows::argument::{Argument, Kind};
 use crate::windows::index::{Index, Known};
@@ -158,6 +159,19 @@ impl Index {
             run: 0,
         }
     }
+
+    /// Where the reader is after a unit that is no quotation mark and no backslash.
+    #[inline(always)]
+    fn after_other(self) -> Index
+        ensures { result ≡ index self.in_name false self.inside 0 }
+    {
+        Index {
+            in_name: self.in_name,
+            closing: false,
+            inside: self.inside,
+            run: 0,
+        }
+    }
 }
 
 /// Reads units until some are known to be meant.
@@ -209,6 +223,85 @@ fn next_unit(
 /// The same of an argument that may have quotation marks.
 #[inline(always)]
 fn next_marked(known: Known, index: Index, units: &mut WideUnits<'_>) -> (Option<u16>, Known, Index)
+    requires { index.run + length units.old < 2 ^ 64 }
+    ensures next { MatchOption result.0
+        ((known_units known ++ meant index units.old ≡ [])
+        × (known_units result.1 ++ meant result.2 units.new ≡ []))
+        (λ unit. known_units known ++ meant index units.old
+        ≡ unit ∷ (known_units result.1 ++ meant result.2 units.new)) }
+    ensures room { result.2.run + length units.new < 2 ^ 64 }
+{
+    if !known.is_empty() {
+        let (unit, known) = known.split_first();
+        return (unit, known, index);
+    }
+    if index.run == 0 {
+        return next_alone(known, index, units);
+    }
+    next_anyhow(known, index, units)
+}
+
+/// The same where nothing is known and no backslash comes before: most units are known at once.
+#[inline(always)]
+fn next_alone(known: Known, index: Index, units: &mut WideUnits<'_>) -> (Option<u16>, Known, Index)
+    requires none { known_units known ≡ [] }
+    requires no_backslash { index.run ≡ 0 }
+    requires room { index.run + length units.old < 2 ^ 64 }
+    ensures next { MatchOption result.0
+        ((known_units known ++ meant index units.old ≡ [])
+        × (known_units result.1 ++ meant result.2 units.new ≡ []))
+        (λ unit. known_units known ++ meant index units.old
+        ≡ unit ∷ (known_units result.1 ++ meant result.2 units.new)) }
+    ensures room { result.2.run + length units.new < 2 ^ 64 }
+{
+    let Some(unit) = units.next() else {
+        return (None, known, index);
+    };
+    if is_mark(unit) {
+        return next_after(index, unit, units);
+    }
+    (Some(unit), known, index.after_other())
+}
+
+/// Whether a unit is a quotation mark or a backslash.
+#[inline(always)]
+fn is_mark(unit: u16) -> bool
+    ensures { IsTrue result ↔ ((unit ≡ quote) ⊎ (unit ≡ backslash)) }
+{
+    unit == QUOTE || unit == BACKSLASH
+}
+
+/// The next unit that is meant, and those that are known after it, where this unit was read.
+#[inline(never)]
+fn next_after(index: Index, unit: u16, units: &mut WideUnits<'_>) -> (Option<u16>, Known, Index)
+    requires { index.run + 1 + length units.old < 2 ^ 64 }
+    ensures next { MatchOption result.0
+        ((meant index (unit ∷ units.old) ≡ [])
+        × (known_units result.1 ++ meant result.2 units.new ≡ []))
+        (λ next. meant index (unit ∷ units.old)
+        ≡ next ∷ (known_units result.1 ++ meant result.2 units.new)) }
+    ensures room { result.2.run + length units.new < 2 ^ 64 }
+{
+    next_read(index.output(unit), index.step(unit), units)
+}
+
+/// The same whatever comes before.
+#[inline(never)]
+fn next_anyhow(known: Known, index: Index, units: &mut WideUnits<'_>) -> (Option<u16>, Known, Index)
+    requires { index.run + length units.old < 2 ^ 64 }
+    ensures next { MatchOption result.0
+        ((known_units known ++ meant index units.old ≡ [])
+        × (known_units result.1 ++ meant result.2 units.new ≡ []))
+        (λ unit. known_units known ++ meant index units.old
+        ≡ unit ∷ (known_units result.1 ++ meant result.2 units.new)) }
+    ensures room { result.2.run + length units.new < 2 ^ 64 }
+{
+    next_read(known, index, units)
+}
+
+/// The next unit that is meant, and those that are known after it, whatever comes before.
+#[inline(always)]
+fn next_read(known: Known, index: Index, units: &mut WideUnits<'_>) -> (Option<u16>, Known, Index)
     requires { index.run + length units.old < 2 ^ 64 }
     ensures next { MatchOption result.0
         ((known_units known ++ meant index units.old ≡ [])
