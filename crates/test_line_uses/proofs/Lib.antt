@@ -1,3 +1,4 @@
 pub mod CommandLines
 pub mod WrittenOut
 pub mod FirstHit
+pub mod LinesRead

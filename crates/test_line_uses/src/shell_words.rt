@@ -1,13 +1,19 @@
 //! Words of a shell: what was written of names is read as these names, and nothing else.
-ghost use Rattle.std.specs.Prelude.{◌≡◌, ◌∷◌, [], false, true, Ok, ℕ, List, IfOk, codes, map};
+ghost use Rattle.std.specs.Prelude.{◌≡◌, ◌≢◌, ◌∷◌, ◌++◌, [], false, true, Ok, Err, ℕ, List, IfOk, codes, map, string_bytes};
+ghost use Rattle.std.specs.Char.{encode_utf8};
+ghost use Rattle.std.specs.List.{flat_map};
+ghost use Rattle.std.specs.Str.{chars};
 ghost use Rattle.platform_str.specs.Strings.{bytes, string_vec_of};
 ghost use Rattle.os_command_line.specs.Shell.{AreWords, IsTextOf, language};
 ghost use Rattle.os_command_line.specs.ShellViews.{is_refused};
 ghost use Rattle.os_command_line.specs.ShellWriting.{IsLineText};
+ghost use Rattle.test_line_uses.specs.Faults.{unclosed_at};
 
-use os_command_line::shell::{ShellError, Specials, Words, laws, quote, quote_line};
-use platform_str::{OsStr, OsString, Unix};
-use std::alloc::Allocator;
+use os_command_line::shell::{
+    ShellError, Specials, Words, laws, quote, quote_line, quoted_powershell,
+};
+use platform_str::{OsStr, OsString, Unix, Windows};
+use std::alloc::{AllocError, Allocator, Global};
 
 /// The words of a line that is the text of a name, as [`quote`] writes it: this name alone.
 pub fn only_word<'l>(line: OsStr<'l, Unix>, specials: Specials) -> Words<'l>
@@ -71,4 +77,63 @@ pub fn word_of_text<A: Allocator>(alloc: A) -> Result<OsString<Unix, A>, ShellEr
     ensures { IfOk result (λ word. (string_vec_of word).items ≡ codes "'~a'\\''b'") }
 {
     quote(alloc, OsStr::new("~a'b"))
+}
+
+/// The word of an empty name, which isn't nothing.
+pub fn word_of_no_text<A: Allocator>(alloc: A) -> Result<OsString<Unix, A>, ShellError>
+    ensures { IfOk result (λ word. (string_vec_of word).items ≡ codes "''") }
+{
+    quote(alloc, OsStr::new(""))
+}
+
+/// The word of a name that begins with a tilde, which shells would expand.
+pub fn word_of_tilde<A: Allocator>(alloc: A) -> Result<OsString<Unix, A>, ShellError>
+    ensures { IfOk result (λ word. (string_vec_of word).items ≡ codes "'~a'") }
+{
+    quote(alloc, OsStr::new("~a"))
+}
+
+/// The word of a name whose only special byte is a single quote.
+pub fn word_of_quote<A: Allocator>(alloc: A) -> Result<OsString<Unix, A>, ShellError>
+    ensures { IfOk result (λ word. (string_vec_of word).items ≡ codes "'a'\\''s'") }
+{
+    quote(alloc, OsStr::new("a's"))
+}
+
+/// The word of a plain name, and of one with a line below.
+pub fn word_of_plain<A: Allocator>(alloc: A) -> Result<OsString<Unix, A>, ShellError>
+    ensures { IfOk result (λ word. (string_vec_of word).items ≡ codes "a_z") }
+{
+    quote(alloc, OsStr::new("a_z"))
+}
+
+/// The words of a line that ends within single quotes: the one before them, and a fault at their index.
+pub fn words_before_fault<'l>(line: OsStr<'l, Unix>) -> Words<'l>
+    ensures { bytes line.entry ≡ codes "a 'b"
+        → result ≡ Ok (codes "a") ∷ Err (unclosed_at 2) ∷ [] }
+{
+    laws::lines();
+    Words::new(line, Specials::Refused)
+}
+
+/// The words of a line of a backslash and a newline: none.
+pub fn words_of_joined_line<'l>(line: OsStr<'l, Unix>, specials: Specials) -> Words<'l>
+    ensures { bytes line.entry ≡ codes "\\\n" → result ≡ [] }
+{
+    laws::lines();
+    Words::new(line, specials)
+}
+
+/// A string of PowerShell of two typographic quotation marks: not these in quotation marks, where the
+/// first would escape the second.
+pub fn string_of_marks(alloc: Global, name: OsStr<'_, Windows>) -> Result<String, AllocError>
+    ensures { IfOk result (λ text. chars (bytes name.entry) ≡ 0x201B ∷ 0x201B ∷ []
+        → string_bytes text
+        ≢ flat_map encode_utf8 (0x27 ∷ 0x201B ∷ 0x201B ∷ 0x27 ∷ [])) }
+{
+    laws::other_shells();
+    match quoted_powershell(name) {
+        Ok(quoted) => quoted.to_string(alloc),
+        Err(_) => Err(AllocError),
+    }
 }

@@ -1,8 +1,11 @@
 //! Command lines of Windows: what was written is read back.
-ghost use Rattle.std.specs.Prelude.{◌≡◌, IsTrue, IfOk};
+ghost use Rattle.std.specs.Prelude.{◌≡◌, ◌⊎◌, ◌∷◌, [], false, IsTrue, IfOk, MatchResult, codes};
 ghost use Rattle.platform_str.specs.Strings.{bytes, string_vec_of};
+ghost use Rattle.os_command_line.specs.declared.windows.error.CommandLineError.TheVariants.{Nul, Memory};
 
-use os_command_line::windows::{Arguments, CommandLineError, command_line, laws};
+use os_command_line::windows::{
+    Arguments, CommandLineError, command_line, laws, needs_cmd, push_argument,
+};
 use platform_str::{OsStr, OsString, Platform, Windows};
 use std::alloc::Allocator;
 
@@ -39,4 +42,59 @@ pub fn argument_comes_back<A: Allocator + Copy>(
         Some(found) => Ok(found.equals(argument)),
         None => Ok(false),
     }
+}
+
+/// Whether two arguments are the ones that are read from their command line: always.
+pub fn both_come_back<A: Allocator + Copy>(
+    alloc: A,
+    program: OsStr<'_, Windows>,
+    first: OsStr<'_, Windows>,
+    second: OsStr<'_, Windows>,
+) -> Result<(bool, bool), CommandLineError>
+    ensures { IfOk result (λ same. IsTrue same.0 × IsTrue same.1) }
+{
+    laws::lines();
+    let line = command_line(alloc, program, &[first, second])?;
+    let line = OsString::<Windows, A>::from_wide(alloc, &line)?;
+    let mut read = Arguments::new(line.as_os_str());
+    let Some(one) = read.next() else {
+        return Ok((false, false));
+    };
+    let Some(other) = read.next() else {
+        return Ok((false, false));
+    };
+    Ok((one.equals(first), other.equals(second)))
+}
+
+/// The argument of a line with two quotation marks within a quoted part: one mark, and the part goes on.
+pub fn doubled_mark<'l>(line: OsStr<'l, Windows>) -> Arguments<'l>
+    ensures { ⟦<Windows as Platform>⟧.units (bytes line.entry) ≡ codes "E \"a\"\" b\""
+        → result.1 ≡ codes "a\" b" ∷ [] }
+{
+    laws::lines();
+    Arguments::new(line)
+}
+
+/// Appends an argument whose second unit is NUL: it is refused with that index.
+pub fn second_is_nul(
+    line: &mut Vec<u16>,
+    argument: OsStr<'_, Windows>,
+) -> Result<(), CommandLineError>
+    ensures { ⟦<Windows as Platform>⟧.units (bytes argument.entry) ≡ 0x61 ∷ 0 ∷ []
+        → MatchResult result (λ _. ⊥) (λ fault. (fault ≡ Nul 1) ⊎ (fault ≡ Memory)) }
+{
+    push_argument(line, argument)
+}
+
+/// Whether Windows starts cmd.exe for a program: for a batch file in capital letters, also before full
+/// stops, and not for a program.
+pub fn batch_files(program: OsStr<'_, Windows>) -> bool
+    ensures capitals { ⟦<Windows as Platform>⟧.units (bytes program.entry) ≡ codes "a.BAT"
+        → IsTrue result }
+    ensures full_stop { ⟦<Windows as Platform>⟧.units (bytes program.entry) ≡ codes "a.cmd."
+        → IsTrue result }
+    ensures program { ⟦<Windows as Platform>⟧.units (bytes program.entry) ≡ codes "a.exe"
+        → result ≡ false }
+{
+    needs_cmd(program)
 }

@@ -2,7 +2,6 @@ use Rattle.std.proofs.Common.{◌≡◌, ◌∙◌, ◌∷◌, [], ℕ, List, ap
 use Rattle.wtf8_core.specs.UnitsOf.{units_of}
 use Rattle.platform_str.specs.Strings.{bytes}
 use Rattle.os_command_line.specs.Windows.{IsCommandLine}
-use Rattle.os_command_line.specs.WindowsViews.{argument_units}
 use Rattle.test_line_uses.proofs.windows_lines.argument_comes_back.Goals as goal
 
 first : {x y : List ℕ} {xs ys : List (List ℕ)} → x ∷ xs ≡ y ∷ ys → x ≡ y

@@ -1,0 +1,175 @@
+-- How lines that are known are read.
+use Rattle.std.proofs.Common.{◌≡◌, ◌≢◌, ◌⊎◌, inl, inr, ℕ, ◌≤◌, Bool, true, false, List, [], ◌∷◌, ◌++◌, length, Result, Ok, Err, MatchResult, refl, sym, ap, subst, arith}
+use Rattle.std.specs.Prelude.{codes, IsTrue, OnOk, IfOk, IfErr}
+use Rattle.std.specs.List.{AllByRecursion, flat_map}
+use Rattle.std.specs.Char.{encode_utf8}
+use Rattle.os_command_line.specs.declared.windows.error.CommandLineError.{CommandLineError}
+use Rattle.os_command_line.specs.declared.windows.error.CommandLineError.TheVariants.{Nul, Quote, Memory}
+use Rattle.os_command_line.specs.PowerShell.{IsPowerShellText}
+use Rattle.os_command_line.specs.PowerShell.ReadsString.{doubled as string_doubled, closes as string_closes}
+use Rattle.os_command_line.specs.Shell.{language, is_blank, Begins, IsRead}
+use Rattle.os_command_line.specs.Shell.IsGap.{no_gap, blank, line_joined}
+use Rattle.os_command_line.specs.Shell.Outcome.{Word}
+use Rattle.os_command_line.specs.Shell.Reads.{bare as word_bare, ends as word_ends, unclosed}
+use Rattle.os_command_line.specs.Windows.{IsLiteral, IsCommandLine}
+use Rattle.os_command_line.specs.Windows.Reads.{ends, literal, opens, closes, doubled}
+use Rattle.os_command_line.specs.Windows.ReadsName.{name_ends, name_unit}
+use Rattle.os_command_line.specs.WindowsBatch.{IsBatchExtension, IsVerbatim, EndsAsBatch, NeedsCmd}
+use Rattle.os_command_line.specs.WindowsBatch.EndsAsBatch.{here, later}
+use Rattle.os_command_line.specs.WindowsWriting.{IsFirstAt, IsArgumentFault}
+use Rattle.test_line_uses.specs.Faults.{unclosed_at}
+
+heads : {x y : ℕ} {xs ys : List ℕ} → x ∷ xs ≡ y ∷ ys → x ≡ y
+heads e = cc
+
+tails : {x y : ℕ} {xs ys : List ℕ} → x ∷ xs ≡ y ∷ ys → xs ≡ ys
+tails e = cc
+
+-- ---- a word, and a quote that isn't closed
+
+begins_with : (b : ℕ) (text : List ℕ) → is_blank b ≡ false → b ≢ 0x5C → Begins (b ∷ text)
+begins_with b text h n = record { some = λ e. never e; no_blank = λ c rest e. subst (λ x. is_blank x ≡ false) (heads e) h; no_join = λ rest e. n (heads e) }
+  where
+    never : b ∷ text ≡ [] → ⊥
+    never e = cc
+
+pub before_fault : IsRead (language true false) (codes "a 'b") (Ok (codes "a") ∷ Err (unclosed_at 2) ∷ [])
+before_fault = (
+  codes " 'b",
+  record {
+    gap = [];
+    text = codes "a 'b";
+    parts = refl;
+    is_gap = no_gap;
+    begins = begins_with 0x61 (codes " 'b") refl (λ e. omega (arith, e));
+    reads = word_bare true 0x61 (codes " 'b") (Word [] (codes " 'b")) (record { no_mark = refl; no_blank = refl; no_dollar = refl; no_special = refl }) (word_ends false (codes " 'b") refl);
+  },
+  (
+    codes "'b",
+    record {
+      gap = 0x20 ∷ [];
+      text = codes "'b";
+      parts = refl;
+      is_gap = blank 0x20 [] refl no_gap;
+      begins = begins_with 0x27 (codes "b") refl (λ e. omega (arith, e));
+      reads = unclosed true (codes "b") (refl, tt);
+    },
+    refl,
+    refl,
+  ),
+)
+
+pub joined_line : (refuses : Bool) → IsRead (language refuses false) (codes "\\\n") []
+joined_line refuses = line_joined [] no_gap
+
+-- ---- two typographic marks, of which the first escapes the second
+
+pub one_mark : IsPowerShellText (flat_map encode_utf8 (0x27 ∷ 0x201B ∷ 0x201B ∷ 0x27 ∷ [])) (0x201B ∷ [])
+one_mark = record {
+  characters = 0x27 ∷ 0x201B ∷ 0x201B ∷ 0x27 ∷ [];
+  encoded = refl;
+  is = record { mark = 0x27; inner = 0x201B ∷ 0x201B ∷ 0x27 ∷ []; begins = refl; is_mark = refl; reads = λ after h. string_doubled 0x201B 0x201B (0x27 ∷ after) [] refl refl (string_closes 0x27 refl h) };
+}
+
+pub never_one : (xs : List ℕ) → xs ≡ 0x201B ∷ 0x201B ∷ [] → xs ≡ 0x201B ∷ [] → ⊥
+never_one xs e f = omega (arith, ap length e, ap length f)
+
+-- ---- two marks in a quoted part of a command line
+
+letter : (u : ℕ) → u ≢ 0x5C → u ≢ 0x22 → IsLiteral true u
+letter u s q = record { no_backslash = s; no_quote = q; no_blank = λ e. absurd (never e) }
+  where
+    never : true ≡ false → ⊥
+    never e = cc
+
+pub doubled_line : IsCommandLine (codes "E \"a\"\" b\"") (codes "E") (codes "a\" b" ∷ [])
+doubled_line = record {
+  rest = codes " \"a\"\" b\"";
+  reads = name_unit false 0x45 (codes " \"a\"\" b\"") [] (λ e. omega (arith, e)) (λ _ b. elim b [ inl e ↦ omega (arith, e) | inr e ↦ omega (arith, e) ]) (name_ends false (inl refl));
+  are = (
+    [],
+    record {
+      blanks = 0x20 ∷ [];
+      text = codes "\"a\"\" b\"";
+      joined = refl;
+      are_blanks = (inl refl, tt);
+      begins = λ b. elim b [ inl e ↦ omega (arith, e) | inr e ↦ omega (arith, e) ];
+      reads =
+          opens 0 (codes "a\"\" b\"") (codes "a\" b")
+          (literal true 0 0x61 (codes "\"\" b\"") (codes "\" b") (letter 0x61 (λ e. omega (arith, e)) (λ e. omega (arith, e)))
+          (doubled 0 (codes " b\"") (codes " b")
+          (literal true 0 0x20 (codes "b\"") (codes "b") (letter 0x20 (λ e. omega (arith, e)) (λ e. omega (arith, e)))
+          (literal true 0 0x62 (codes "\"") [] (letter 0x62 (λ e. omega (arith, e)) (λ e. omega (arith, e))) (closes 0 [] [] tt (ends false 0 tt))))));
+    },
+    tt,
+  );
+}
+
+-- ---- a NUL that is second
+
+second_index : (i : ℕ) → IsFirstAt 0 (0x61 ∷ 0 ∷ []) i → i ≡ 1
+second_index i f = by_prefix f.before f.joined f.none_before f.index
+  where
+    by_prefix : (before : List ℕ) → 0x61 ∷ 0 ∷ [] ≡ before ++ 0 ∷ f.after → AllByRecursion (λ u. u ≢ 0) before → i ≡ length before → i ≡ 1
+    by_prefix [] e h n = omega (arith, heads e)
+    by_prefix (x ∷ []) e h n = n
+    by_prefix (x ∷ y ∷ xs) e h n = absurd (h.1.0 (sym (heads (tails e))))
+
+pub second_fault : (us : List ℕ) (fault : CommandLineError) → us ≡ 0x61 ∷ 0 ∷ [] → IsArgumentFault us fault → (fault ≡ Nul 1) ⊎ (fault ≡ Memory)
+second_fault us (Nul i) e h = inl (ap Nul (second_index i (subst (λ z. IsFirstAt 0 z i) e h)))
+second_fault us (Quote i) e h = absurd h
+second_fault us Memory e h = inr refl
+
+pub second_refused : {A : Type 0} (us : List ℕ) (result : Result A CommandLineError) → us ≡ 0x61 ∷ 0 ∷ [] → OnOk result (AllByRecursion (λ u. u ≢ 0) us) → IfErr result (λ fault. IsArgumentFault us fault) → MatchResult result (λ _. ⊥) (λ fault. (fault ≡ Nul 1) ⊎ (fault ≡ Memory))
+second_refused us (Ok x) e none fault = let has : AllByRecursion (λ u. u ≢ 0) (0x61 ∷ 0 ∷ []) = subst (AllByRecursion (λ u. u ≢ 0)) e none in has.1.0 refl
+second_refused us (Err f) e none fault = second_fault us f e fault
+
+-- ---- batch files
+
+pub capitals : NeedsCmd (codes "a.BAT")
+capitals = later 0x61 (codes ".BAT") (here 0x42 0x41 0x54 [] (inl (inr refl, inr refl, inr refl)) tt)
+
+pub before_full_stop : NeedsCmd (codes "a.cmd.")
+before_full_stop = later 0x61 (codes ".cmd.") (here 0x63 0x6D 0x64 (codes ".") (inr (inl refl, inl refl, inl refl)) ((not_verbatim, inl refl), tt))
+  where
+    not_verbatim : ¬ (IsVerbatim (codes "a.cmd."))
+    not_verbatim v = omega (arith, heads v.3)
+
+some_units : (dropped : ℕ → Type 0) (us : List ℕ) → EndsAsBatch dropped us → 4 ≤ length us
+some_units dropped _ (here x y z after e d) = omega arith
+some_units dropped _ (later u us h) = omega (arith, some_units dropped us h)
+
+pub no_batch_file : (dropped : ℕ → Type 0) (us : List ℕ) → EndsAsBatch dropped us → us ≡ codes "a.exe" → ⊥
+no_batch_file dropped _ (here x y z after e d) is = omega (arith, heads is)
+no_batch_file dropped _ (later u us h) is = after_first us h (tails is)
+  where
+    after_first : (us : List ℕ) → EndsAsBatch dropped us → us ≡ codes ".exe" → ⊥
+    after_first _ (here x y z after e d) is = other x (heads (tails is)) e
+      where
+        other : (x : ℕ) → x ≡ 0x65 → IsBatchExtension x y z → ⊥
+        other x e b = elim b [
+          | inl l ↦ elim l.0 [ inl f ↦ omega (arith, e, f) | inr f ↦ omega (arith, e, f) ]
+          | inr l ↦ elim l.0 [ inl f ↦ omega (arith, e, f) | inr f ↦ omega (arith, e, f) ]
+        ]
+    after_first _ (later u us h) is = omega (arith, some_units dropped us h, ap length (tails is))
+
+pub is_false : (b : Bool) → (IsTrue b → ⊥) → b ≡ false
+is_false true n = absurd (n refl)
+is_false false n = refl
+
+-- ---- two arguments
+
+pub one_is : {x y : List ℕ} {xs ys : List (List ℕ)} → x ∷ xs ≡ y ∷ ys → x ≡ y
+one_is e = cc
+
+pub others_are : {x y : List ℕ} {xs ys : List (List ℕ)} → x ∷ xs ≡ y ∷ ys → xs ≡ ys
+others_are e = cc
+
+pub never_none : {x : List ℕ} {xs : List (List ℕ)} → [] ≡ x ∷ xs → ⊥
+never_none e = cc
+
+-- ---- what comes of a success
+
+pub of_ok : {A E : Type 0} (P Q : A → Type 0) (result : Result A E) → ((a : A) → P a → Q a) → IfOk result P → IfOk result Q
+of_ok P Q (Ok a) f h = f a h
+of_ok P Q (Err e) f h = tt
