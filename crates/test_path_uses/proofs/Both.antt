@@ -1,6 +1,6 @@
 -- Facts that are carried on.
 use Rattle.std.proofs.Common.{◌≡◌, ◌↔◌, Bool, Result, Ok, Err, Option, Some, None, subst, sym}
-use Rattle.std.specs.Prelude.{IsTrue, IfOk, IfErr, IfSome}
+use Rattle.std.specs.Prelude.{IsTrue, IfOk, IfErr, IfSome, OnOk}
 
 -- two facts that are equal to a third
 pub both : {A B C : Type 0} → A ↔ B → B ↔ C → A ↔ C
@@ -11,6 +11,11 @@ module _ {X Y : Type 0} where
   pub with_ok : {P Q : X → Type 0} (r : Result X Y) → IfOk r P → ((x : X) → P x → Q x) → IfOk r Q
   with_ok (Ok x) h f = f x h
   with_ok (Err y) h f = tt
+
+  -- and of an `Ok` whatever its value
+  pub with_on_ok : {P Q : Type 0} (r : Result X Y) → OnOk r P → (P → Q) → OnOk r Q
+  with_on_ok (Ok x) h f = f h
+  with_on_ok (Err y) h f = tt
 
   -- and of each of an `Err`
   pub with_err : {P Q : Y → Type 0} (r : Result X Y) → IfErr r P → ((y : Y) → P y → Q y) → IfErr r Q

@@ -1,8 +1,17 @@
 -- Which paths are never joined.
-use Rattle.std.proofs.Common.{ℕ, List, Result, Ok, Err, subst}
+use Rattle.std.proofs.Common.{◌≡◌, ◌++◌, ℕ, List, Result, Ok, Err, refl, sym, ap, ◌∙◌, subst}
 use Rattle.std.specs.Prelude.{IfOk, IsErr}
 use Rattle.path_rules.specs.declared.rules.Style as whose
-use Rattle.path_building.specs.Checked.{IsCheckedJoin, LeadsOut, NamesReserved, AreFree}
+use Rattle.path_rules.specs.StyleRules.{rules_of_style}
+use Rattle.path_rules.specs.Component.{Item}
+use Rattle.path_rules.specs.Components.{AreComponents}
+use Rattle.path_rules.specs.Prefix.{IsPrefixed}
+use Rattle.path_rules.specs.Root.{BeginsWithSeparator}
+use Rattle.path_building.specs.declared.checked.JoinError.{JoinError}
+use Rattle.path_building.specs.declared.checked.JoinError.TheVariants as error
+use Rattle.path_building.specs.Join.{without_dot}
+use Rattle.path_building.specs.Normal.{AreNormalOf}
+use Rattle.path_building.specs.Checked.{AreCheckedNames, AreFree, IsCheckedJoin, IsJoinFault, IsVerbatimAlone, LeadsOut, NameNoStream, NamesReserved, NamesStream}
 use Rattle.test_path_uses.proofs.Joins.{OneList}
 
 module _ {X Y : Type 0} (view : X → List ℕ) (w : whose.Style) (base path : List ℕ) where
@@ -13,3 +22,36 @@ module _ {X Y : Type 0} (view : X → List ℕ) (w : whose.Style) (base path : L
   pub none_reserved : OneList → (r : Result X Y) → IfOk r (λ x. IsCheckedJoin w base path (view x)) → NamesReserved w path → IsErr r
   none_reserved list (Ok x) h n = absurd (n.1.1.1.1 (subst (AreFree w) (list w path h.checked.items n.0 h.checked.inside.are n.1.1.0.are) h.checked.free))
   none_reserved list (Err e) h n = Prim.search Rattle.std.proofs.Common.rules
+
+  pub no_prefix : (r : Result X Y) → IfOk r (λ x. IsCheckedJoin w base path (view x)) → IsPrefixed w path → IsErr r
+  no_prefix (Ok x) h p = absurd (h.checked.inside.relative.0 p)
+  no_prefix (Err e) h p = Prim.search Rattle.std.proofs.Common.rules
+
+  pub no_root : (r : Result X Y) → IfOk r (λ x. IsCheckedJoin w base path (view x)) → BeginsWithSeparator (rules_of_style w) path → IsErr r
+  no_root (Ok x) h p = absurd (h.checked.inside.relative.1 p)
+  no_root (Err e) h p = Prim.search Rattle.std.proofs.Common.rules
+
+  pub no_stream : OneList → (r : Result X Y) → IfOk r (λ x. IsCheckedJoin w base path (view x)) → NamesStream w path → IsErr r
+  no_stream list (Ok x) h n = absurd (n.1.1.1 (subst (NameNoStream w) (list w path h.checked.items n.0 h.checked.inside.are n.1.1.0.are) h.checked.streams))
+  no_stream list (Err e) h n = Prim.search Rattle.std.proofs.Common.rules
+
+module _ (list : OneList) (normal : (items one other : List Item) → AreNormalOf items one → AreNormalOf items other → one ≡ other) (w : whose.Style) (base path : List ℕ) where
+  names_same : (one other : List Item) → AreCheckedNames w path one → AreCheckedNames w path other → one ≡ other
+  names_same one other h k =
+      let items = list w path h.items k.items h.inside.are k.inside.are in
+      let forms = normal k.items h.inside.normal k.inside.normal (subst (λ x. AreNormalOf x h.inside.normal) items h.inside.form) k.inside.form in
+      h.inside.is ∙ ap without_dot forms ∙ sym k.inside.is
+
+  pub names_follow : (joined : List ℕ) → IsCheckedJoin w base path joined → (items names : List Item) → AreComponents w base items → AreCheckedNames w path names → AreComponents w joined (items ++ names)
+  names_follow joined h items names are checked =
+      subst (λ xs. AreComponents w joined (items ++ xs)) (names_same h.names names h.checked checked)
+      (subst (λ xs. AreComponents w joined (xs ++ h.names)) (list w base h.base_items items h.base_are are) h.answers)
+
+  pub only_memory : (e : JoinError) → IsJoinFault w base path e → (names : List Item) → AreCheckedNames w path names → ¬ (IsVerbatimAlone w base) → e ≡ error.Memory
+  only_memory error.Prefix f names k alone = absurd (k.inside.relative.0 f)
+  only_memory error.Root f names k alone = absurd (k.inside.relative.1 f.1)
+  only_memory error.Leaves f names k alone = absurd (f.1 k.items k.inside.normal k.inside.are k.inside.form)
+  only_memory error.Stream f names k alone = absurd (f.1.1.1 (subst (NameNoStream w) (list w path k.items f.0 k.inside.are f.1.1.0.are) k.streams))
+  only_memory error.Reserved f names k alone = absurd (f.1.1.1.1 (subst (AreFree w) (list w path k.items f.0 k.inside.are f.1.1.0.are) k.free))
+  only_memory error.Base f names k alone = absurd (alone f.0)
+  only_memory error.Memory f names k alone = refl

@@ -1,4 +1,4 @@
--- A form of a path that was made twice is one form.
+-- A form of a path is one form, and its own.
 use Rattle.std.proofs.Common.{◌≡◌, inl, inr, ℕ, List, sym, ap, ◌∙◌, subst, reverse}
 use Rattle.std.proofs.lemmas.List.{reverse-reverse}
 use Rattle.path_rules.specs.declared.rules.Style as whose
@@ -7,6 +7,9 @@ use Rattle.path_rules.specs.Components.{AreComponents}
 use Rattle.path_building.specs.Normal.{AreNormalOf}
 use Rattle.path_building.specs.Normalized.{IsNormalForm, IsNormalized, IsShielded}
 use Rattle.path_building.specs.Cleaned.{CleansTo, IsCleanForm, IsCleaned, or_dot}
+use Rattle.test_path_uses.specs.declared.form.Form.{Form}
+use Rattle.test_path_uses.specs.declared.form.Form.TheVariants as which
+use Rattle.test_path_uses.specs.Forms.{IsForm}
 use Rattle.test_path_uses.proofs.Joins.{OneList}
 
 shown_same : (w : whose.Style) (form one other : List Item) → IsShielded w form one → IsShielded w form other → one ≡ other
@@ -42,3 +45,13 @@ module _ (list : OneList) (clean : (items one other : List Item) → CleansTo it
       let forms = clean_same h.items h.clean k.clean h.form (subst (λ x. IsCleanForm x k.clean) (list w path k.items h.items k.are h.are) k.form) in
       let shown = shown_same w k.clean h.shown k.shown (subst (λ x. IsShielded w x h.shown) forms h.shielded) k.shielded in
       subst (AreComponents w other) (sym shown ∙ list w one h.shown items h.answers are) k.answers
+
+module _ (list : OneList) (normal : (items one other : List Item) → AreNormalOf items one → AreNormalOf items other → one ≡ other) (clean : (items one other : List Item) → CleansTo items one → CleansTo items other → one ≡ other) where
+  pub one_form : (form : Form) (w : whose.Style) (path one other : List ℕ) → IsForm form w path one → IsForm form w path other → (items : List Item) → AreComponents w one items → AreComponents w other items
+  one_form which.Normal w path one other h k items are = normalized list normal w path one other h k items are
+  one_form which.Clean w path one other h k items are = cleaned list clean w path one other h k items are
+
+pub own_form : ((w : whose.Style) (path answer : List ℕ) → IsNormalized w path answer → IsNormalized w answer answer) → ((w : whose.Style) (path answer : List ℕ) → IsCleaned w path answer → IsCleaned w answer answer)
+    → (form : Form) (w : whose.Style) (path answer : List ℕ) → IsForm form w path answer → IsForm form w answer answer
+own_form normal clean which.Normal w path answer h = normal w path answer h
+own_form normal clean which.Clean w path answer h = clean w path answer h

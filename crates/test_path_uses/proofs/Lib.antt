@@ -6,5 +6,8 @@ pub mod Joins
 pub mod Names
 pub mod PathEnds
 pub mod PathParts
+pub mod LastNames
 pub mod KnownPrefix
 pub mod OtherStyle
+pub mod Stripped
+pub mod Ways

@@ -1,6 +1,18 @@
--- What is known of an answer, if there is one.
-use Rattle.std.proofs.Common.{Result, Ok, Err, IfOk}
+-- Separators at the end of a path.
+use Rattle.std.proofs.Common.{◌≡◌, inl, inr, ℕ, List, [], ◌++◌, sym, ◌∙◌, append-nil}
+use Rattle.path_rules.specs.declared.rules.Style.{Style}
+use Rattle.path_rules.specs.StyleRules.{rules_of_style}
+use Rattle.path_rules.specs.Trailing.{EndsWithSeparator, IsRootAlone, TrimsTrailing}
 
-pub if_ok : {X E : Type 0} (P Q : X → Type 0) → ((x : X) → P x → Q x) → (r : Result X E) → IfOk r P → IfOk r Q
-if_ok P Q give (Ok x) h = give x h
-if_ok P Q give (Err e) h = h
+module _ (w : Style) (path t : List ℕ) where
+  pub trimmed_begins : TrimsTrailing w path t → (after : List ℕ) × (path ≡ t ++ after)
+  trimmed_begins (inl h) = ([], sym h.1 ∙ sym (append-nil t))
+  trimmed_begins (inr h) = (h.1.separators, h.1.joined)
+
+  pub root_stays : TrimsTrailing w path t → IsRootAlone w path → t ≡ path
+  root_stays (inl h) root = h.1
+  root_stays (inr h) root = absurd (h.0 root)
+
+  pub only_root : TrimsTrailing w path t → EndsWithSeparator (rules_of_style w) t → IsRootAlone w path
+  only_root (inl h) ends = h.0
+  only_root (inr h) ends = absurd (h.1.tight ends)

@@ -44,6 +44,13 @@ pub fn starts_on_unix(path: Path<'_, Unix>, base: Path<'_, Unix>) -> bool
     path.starts_with(base)
 }
 
+/// Whether a path has a rest after a base exactly if it starts with it: always.
+pub fn strips_as_starts<'a, E: PathStyle + 'a>(path: Path<'a, E>, base: Path<'a, E>) -> bool
+    ensures { IsTrue result }
+{
+    path.strip_prefix(base).is_some() == path.starts_with(base)
+}
+
 /// Whether two paths are equal by their components: exactly if these are alike.
 pub fn are_equal<'a, E: PathStyle + 'a>(path: Path<'a, E>, other: Path<'a, E>) -> bool
     ensures { IsTrue result ↔ HaveAlikeComponents E.follows (path_bytes path.entry)

@@ -1,9 +1,35 @@
 //! Ignore files: what is below a directory that is ignored, and which file decides.
-ghost use Rattle.std.specs.Prelude.{◌≡◌, ◌<◌, length, slice_index, true, IsTrue, IfOk, IfSome};
-ghost use Rattle.os_ignore.specs.Verdicts.{is_ignored};
+ghost use Rattle.std.specs.Prelude.{◌≡◌, ◌<◌, ◌∷◌, [], length, slice_index, true, IsTrue, IfOk, IfSome};
+ghost use Rattle.os_ignore.specs.declared.file.File.{File};
+ghost use Rattle.os_ignore.specs.declared.verdict.Verdict.{Verdict};
+ghost use Rattle.os_ignore.specs.Ignores.{IsFileAt, files_of};
+ghost use Rattle.os_ignore.specs.Verdicts.{IsVerdict, is_ignored};
 
 use os_ignore::{Ignore, Verdict, laws};
 use std::alloc::{AllocError, Allocator};
+
+/// What one file of a tree says of a path: what its lines say, as they are written.
+pub fn matched_by_text<A: Allocator + Copy>(
+    alloc: A,
+    content: &[u8],
+    path: &[u8],
+    is_dir: bool,
+) -> Result<Verdict, AllocError>
+    ensures { IfOk result (λ said. (file : File A) × (IsFileAt 0 [] content.now file
+        × IsVerdict (file ∷ []) path.now is_dir said)) }
+{
+    let ignore = Ignore::new(alloc, content)?;
+    Ok(ignore.matched(path, is_dir))
+}
+
+/// What files say of a path: the one thing that they do.
+pub fn one_verdict<A: Allocator + Copy>(ignore: &Ignore<A>, path: &[u8], is_dir: bool) -> Verdict
+    ensures { (said : Verdict) → IsVerdict (files_of ignore.now) path.now is_dir said
+        → result ≡ said }
+{
+    laws::one_verdict::<A>();
+    ignore.matched(path, is_dir)
+}
 
 /// What files say of the directory above a path that ends at this slash, and of the path: the same,
 /// if the directory is ignored.

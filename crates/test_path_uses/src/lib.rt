@@ -5,8 +5,10 @@
 //! breaks a caller.
 #![tactic(auto)]
 
+pub mod changed;
 pub mod checked;
 pub mod comparisons;
+pub mod form;
 pub mod ignored;
 pub mod joined;
 pub mod normal_forms;
@@ -14,5 +16,7 @@ pub mod path_ends;
 pub mod path_parts;
 pub mod prefixes;
 pub mod relatives;
+pub mod renamed;
 pub mod reserved;
+pub mod roots;
 pub mod styles;

@@ -1,19 +1,54 @@
 //! Normal forms and clean forms of paths, which are their own.
-ghost use Rattle.std.specs.Prelude.{◌↔◌, List, IsTrue, IfOk, IfSome};
+ghost use Rattle.std.specs.Prelude.{◌↔◌, ℕ, List, IsTrue, IfOk, IfSome};
 ghost use Rattle.platform_str.specs.Strings.{path_bytes, path_vec_of};
 ghost use Rattle.path_rules.specs.Component.{Item};
 ghost use Rattle.path_rules.specs.Components.{AreComponents};
 ghost use Rattle.path_building.specs.Normalized.{IsNormalForm};
+ghost use Rattle.test_path_uses.specs.Forms.{IsForm};
 
+use crate::form::Form;
 use os_path::{NormalizeError, PathExt, PathStyle};
 use path_building::laws as building;
 use path_rules::laws;
 use platform_str::{Path, PathBuf};
-use std::alloc::{AllocError, Allocator};
+use std::alloc::Allocator;
 
-/// A path normalized once and twice: the same components.
-pub fn normalized_twice<'a, E: PathStyle + 'a, A: Allocator + Copy>(
+/// A path in a form.
+fn in_form<'a, E: PathStyle + 'a, A: Allocator + Copy>(
     alloc: A,
+    form: Form,
+    path: Path<'a, E>,
+) -> Result<PathBuf<E, A>, NormalizeError>
+    ensures { IfOk result (λ made. IsForm form E.follows (path_bytes path.entry)
+        (path_vec_of made).items) }
+{
+    match form {
+        Form::Normal => path.normalize(alloc),
+        Form::Clean => Ok(path.clean(alloc)?),
+    }
+}
+
+/// A path in a form: its components are those of each path that is this one in the form.
+pub fn formed<'a, E: PathStyle + 'a, A: Allocator + Copy>(
+    alloc: A,
+    form: Form,
+    path: Path<'a, E>,
+) -> Result<PathBuf<E, A>, NormalizeError>
+    ensures { IfOk result (λ made. (other : List ℕ) → (items : List Item)
+        → IsForm form E.follows (path_bytes path.entry) other
+        → AreComponents E.follows other items
+        → AreComponents E.follows (path_vec_of made).items items) }
+{
+    laws::one_list();
+    building::normal_forms();
+    building::clean_forms();
+    in_form(alloc, form, path)
+}
+
+/// A path put into a form once and twice: the same components.
+pub fn formed_twice<'a, E: PathStyle + 'a, A: Allocator + Copy>(
+    alloc: A,
+    form: Form,
     path: Path<'a, E>,
 ) -> Result<(PathBuf<E, A>, PathBuf<E, A>), NormalizeError>
     ensures { IfOk result (λ both. (items : List Item)
@@ -23,25 +58,10 @@ pub fn normalized_twice<'a, E: PathStyle + 'a, A: Allocator + Copy>(
     laws::one_list();
     building::normal_forms();
     building::normalized_again();
-    let once = path.normalize(alloc)?;
-    let twice = once.as_path().normalize(alloc)?;
-    Ok((once, twice))
-}
-
-/// A path cleaned once and twice: the same components.
-pub fn cleaned_twice<'a, E: PathStyle + 'a, A: Allocator + Copy>(
-    alloc: A,
-    path: Path<'a, E>,
-) -> Result<(PathBuf<E, A>, PathBuf<E, A>), AllocError>
-    ensures { IfOk result (λ both. (items : List Item)
-        → AreComponents E.follows (path_vec_of both.0).items items
-        → AreComponents E.follows (path_vec_of both.1).items items) }
-{
-    laws::one_list();
     building::clean_forms();
     building::cleaned_again();
-    let once = path.clean(alloc)?;
-    let twice = once.as_path().clean(alloc)?;
+    let once = in_form(alloc, form, path)?;
+    let twice = in_form(alloc, form, once.as_path())?;
     Ok((once, twice))
 }
 

@@ -1,10 +1,10 @@
-//! Paths with a separator at their end.
-ghost use Rattle.std.specs.Prelude.{◌≡◌, ◌≢◌, [], List, IfOk};
+//! Separators at the end of paths.
+ghost use Rattle.std.specs.Prelude.{◌≡◌, ◌≢◌, ◌++◌, [], ℕ, List, IsTrue, IfOk};
 ghost use Rattle.platform_str.specs.Strings.{path_bytes, path_vec_of};
 ghost use Rattle.path_rules.specs.Component.{Item};
 ghost use Rattle.path_rules.specs.Components.{AreComponents};
 ghost use Rattle.path_rules.specs.StyleRules.{rules_of_style};
-ghost use Rattle.path_rules.specs.Trailing.{EndsWithSeparator};
+ghost use Rattle.path_rules.specs.Trailing.{EndsWithSeparator, IsRootAlone};
 ghost use Rattle.path_building.specs.Checked.{IsVerbatimAlone};
 ghost use Rattle.path_building.specs.Join.{IsDriveAlone, HaveTheSamePrefix};
 
@@ -33,4 +33,20 @@ pub fn ended<'a, E: PathStyle + 'a, A: Allocator + Clone>(
 {
     laws::trailing_separators();
     path.with_trailing_sep(alloc)
+}
+
+/// The path without the separators at its end, which is its prefix; a root alone is kept.
+pub fn trimmed<'a, E: PathStyle + 'a>(path: Path<'a, E>) -> Path<'a, E>
+    ensures begins { (after : List ℕ) × (path_bytes path.entry ≡ path_bytes result ++ after) }
+    ensures root { IsRootAlone E.follows (path_bytes path.entry)
+        → path_bytes result ≡ path_bytes path.entry }
+{
+    path.trim_trailing_sep()
+}
+
+/// Whether a path without the separators at its end still ends with one: only a root alone does.
+pub fn is_root_alone<'a, E: PathStyle + 'a>(path: Path<'a, E>) -> bool
+    ensures { IsTrue result → IsRootAlone E.follows (path_bytes path.entry) }
+{
+    path.trim_trailing_sep().has_trailing_sep()
 }

@@ -1,9 +1,10 @@
 //! Paths taken apart: what their components, parents and names have to do with each other.
-ghost use Rattle.std.specs.Prelude.{◌≡◌, ◌++◌, ◌∷◌, ◌<◌, [], ℕ, List, IsTrue, IfSome, length};
+ghost use Rattle.std.specs.Prelude.{◌≡◌, ◌++◌, ◌∷◌, ◌<◌, [], ℕ, List, Some, IsTrue, IfSome, MatchOption, length};
+ghost use Rattle.std.specs.Option.{option_map};
 ghost use Rattle.platform_str.specs.Strings.{bytes, path_bytes};
 ghost use Rattle.path_rules.specs.Component.{Item, Normal};
 ghost use Rattle.path_rules.specs.Components.{AreComponents};
-ghost use Rattle.path_rules.specs.Parent.{IsBelow, HasFileName};
+ghost use Rattle.path_rules.specs.Parent.{IsBelow, IsParent, HasNoParent, HasFileName};
 
 use os_path::{Components, PathExt, PathStyle};
 use path_rules::laws;
@@ -22,14 +23,31 @@ pub fn without_ends<'a, E: PathStyle + 'a>(path: Path<'a, E>) -> Components<'a, 
     left
 }
 
-/// The parent, whose components are all but the last of the path's.
+/// The parent, whose components are all but the last of the path's, which is neither a prefix nor a
+/// root.
 pub fn parent_of<'a, E: PathStyle + 'a>(path: Path<'a, E>) -> Option<Path<'a, E>>
-    ensures { IfSome result (λ parent. (items : List Item) → (last : Item)
+    ensures items { IfSome result (λ parent. (items : List Item) → (last : Item)
         → AreComponents E.follows (path_bytes path.entry) (items ++ last ∷ [])
         → AreComponents E.follows (path_bytes parent) items) }
+    ensures below { IfSome result (λ _. (items : List Item) → (last : Item)
+        → AreComponents E.follows (path_bytes path.entry) (items ++ last ∷ []) → IsBelow last) }
 {
     laws::one_list();
     path.parent()
+}
+
+/// The first two of the ancestors: the path and its parent.
+pub fn first_ancestors<'a, E: PathStyle + 'a>(
+    path: Path<'a, E>,
+) -> (Option<Path<'a, E>>, Option<Path<'a, E>>)
+    ensures path { option_map path_bytes result.0 ≡ Some (path_bytes path.entry) }
+    ensures parent { MatchOption result.1 (HasNoParent E.follows (path_bytes path.entry))
+        (λ parent. IsParent E.follows (path_bytes path.entry) (path_bytes parent)) }
+{
+    let mut left = path.ancestors();
+    let first = left.next();
+    let second = left.next();
+    (first, second)
 }
 
 /// Whether a path whose last component is neither a prefix nor a root has a parent: always.
@@ -50,6 +68,15 @@ pub fn prefix_of_bytes<'a, E: PathStyle + 'a>(path: Path<'a, E>) -> Option<Path<
 {
     laws::parent_is_shorter();
     path.parent()
+}
+
+/// The last name of a path of which it is known that it ends in a name.
+pub fn last_name<'a, E: PathStyle + 'a>(path: Path<'a, E>) -> Option<OsStr<'a, E>>
+    ensures { (items : List Item) → (name : List ℕ)
+        → AreComponents E.follows (path_bytes path.entry) (items ++ Normal name ∷ [])
+        → option_map bytes result ≡ Some name }
+{
+    path.file_name()
 }
 
 /// The stem and the extension of the last name: with a dot between they are the name.

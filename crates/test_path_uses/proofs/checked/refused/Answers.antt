@@ -1,5 +1,5 @@
 use Rattle.platform_str.specs.Strings.{path_bytes, path_vec_of}
-use Rattle.test_path_uses.proofs.Checks.{no_way_out, none_reserved}
+use Rattle.test_path_uses.proofs.Checks.{no_prefix, no_root, no_stream, no_way_out, none_reserved}
 use Rattle.test_path_uses.proofs.checked.refused.Goals as goal
 
 pub returns-clause-out : goal.returns-clause-out
@@ -8,3 +8,13 @@ returns-clause-out g c = no_way_out (λ p. (path_vec_of p).items) g.E.PathStyle.
 pub returns-clause-reserved : goal.returns-clause-reserved
 returns-clause-reserved g c =
     none_reserved (λ p. (path_vec_of p).items) g.E.PathStyle.follows (path_bytes c.args.base) (path_bytes c.args.path) c.one_list.ensures.items c.join_checked.result c.join_checked.ensures.ok
+
+pub returns-clause-prefix : goal.returns-clause-prefix
+returns-clause-prefix g c = no_prefix (λ p. (path_vec_of p).items) g.E.PathStyle.follows (path_bytes c.args.base) (path_bytes c.args.path) c.join_checked.result c.join_checked.ensures.ok
+
+pub returns-clause-root : goal.returns-clause-root
+returns-clause-root g c = no_root (λ p. (path_vec_of p).items) g.E.PathStyle.follows (path_bytes c.args.base) (path_bytes c.args.path) c.join_checked.result c.join_checked.ensures.ok
+
+pub returns-clause-stream : goal.returns-clause-stream
+returns-clause-stream g c =
+    no_stream (λ p. (path_vec_of p).items) g.E.PathStyle.follows (path_bytes c.args.base) (path_bytes c.args.path) c.one_list.ensures.items c.join_checked.result c.join_checked.ensures.ok

@@ -1,0 +1,71 @@
+//! Paths with another last name or extension, in new memory.
+ghost use Rattle.std.specs.Prelude.{◌≡◌, ◌≢◌, ◌++◌, ◌∷◌, [], ℕ, List, IfOk};
+ghost use Rattle.platform_str.specs.Strings.{bytes, path_bytes, path_vec_of};
+ghost use Rattle.path_rules.specs.Component.{Item, Normal};
+ghost use Rattle.path_rules.specs.Components.{AreComponents, AreUnixComponents};
+ghost use Rattle.path_rules.specs.Name.{IsExtensionText};
+ghost use Rattle.path_rules.specs.Parent.{HasFileName, HasNoFileName};
+ghost use Rattle.os_path.specs.Names.{HasFileStem};
+ghost use Rattle.path_building.specs.FileName.{dotted};
+
+use os_path::{PathExt, PathStyle};
+use path_building::laws as building;
+use path_rules::laws;
+use platform_str::{OsStr, Path, PathBuf, Unix};
+use std::alloc::{AllocError, Allocator};
+
+/// A Unix path with another last name, which is a name by itself.
+pub fn with_name<A: Allocator + Copy>(
+    alloc: A,
+    path: Path<'_, Unix>,
+    name: OsStr<'_, Unix>,
+) -> Result<PathBuf<Unix, A>, AllocError>
+    ensures { IfOk result (λ named. (items : List Item) → (last : List ℕ)
+        → AreUnixComponents (path_bytes path.entry) (items ++ Normal last ∷ [])
+        → AreUnixComponents (bytes name.entry) (Normal (bytes name.entry) ∷ [])
+        → AreUnixComponents (path_vec_of named).items (items ++ Normal (bytes name.entry) ∷ [])) }
+{
+    laws::one_list();
+    building::join_components();
+    path.with_file_name(alloc, name)
+}
+
+/// A path with another extension of its last name, which follows the stem; a path without a last
+/// name is kept.
+pub fn with_extension<'a, E: PathStyle + 'a, A: Allocator + Copy>(
+    alloc: A,
+    path: Path<'a, E>,
+    extension: OsStr<'a, E>,
+) -> Result<PathBuf<E, A>, AllocError>
+    requires { IsExtensionText E.follows (bytes extension) }
+    ensures stem { IfOk result (λ made. (items : List Item) → (stem : List ℕ)
+        → AreComponents E.follows (path_bytes path.entry) items
+        → HasFileStem E.follows (path_bytes path.entry) stem
+        → (before : List ℕ) × ((after : List ℕ)
+        × ((path_bytes path.entry ≡ before ++ (stem ++ after))
+        × ((path_vec_of made).items ≡ before ++ (stem ++ dotted (bytes extension.entry)))))) }
+    ensures kept { IfOk result (λ made. HasNoFileName E.follows (path_bytes path.entry)
+        → (path_vec_of made).items ≡ path_bytes path.entry) }
+{
+    laws::one_extension();
+    path.with_extension(alloc, extension)
+}
+
+/// A path with an extension after its last name; a path without one is kept.
+pub fn with_another<'a, E: PathStyle + 'a, A: Allocator + Copy>(
+    alloc: A,
+    path: Path<'a, E>,
+    extension: OsStr<'a, E>,
+) -> Result<PathBuf<E, A>, AllocError>
+    requires { IsExtensionText E.follows (bytes extension) }
+    ensures name { IfOk result (λ made. (items : List Item) → (name : List ℕ)
+        → bytes extension.entry ≢ [] → AreComponents E.follows (path_bytes path.entry) items
+        → HasFileName E.follows (path_bytes path.entry) name
+        → (before : List ℕ) × ((after : List ℕ)
+        × ((path_bytes path.entry ≡ before ++ (name ++ after))
+        × ((path_vec_of made).items ≡ before ++ (name ++ dotted (bytes extension.entry)))))) }
+    ensures kept { IfOk result (λ made. HasNoFileName E.follows (path_bytes path.entry)
+        → (path_vec_of made).items ≡ path_bytes path.entry) }
+{
+    path.with_added_extension(alloc, extension)
+}
