@@ -5,26 +5,34 @@
 //! large crate is proved again for them.
 #![tactic(auto)]
 
+mod built_paths;
 mod checks;
 mod chunks;
 mod cuts;
 mod escapes;
+mod ignored;
 mod joins;
 mod orders;
+mod paths;
 mod readings;
 mod runs;
 mod searches;
 mod splits;
+mod wild;
 mod words;
 
+pub use built_paths::{clean, join_checked, normalize, relative_from};
 pub use checks::{check_in_two, check_windows, copied, from_raw_bytes, from_raw_vec};
 pub use chunks::first_chunk;
 pub use cuts::{boundary, cut_off, part_to, parts_at};
 pub use escapes::unescape_unix;
+pub use ignored::{matched, read_ignore};
 pub use joins::twice;
 pub use orders::order;
+pub use paths::{file_name, parent, windows_prefix};
 pub use readings::{into_lossy, read_windows_lossy};
 pub use runs::{run_once, run_over};
 pub use searches::{find, rsplit_once, starts_with_os};
 pub use splits::{last_piece, pieces, two_pieces};
+pub use wild::{compile, is_match, matches, matches_choice, matching};
 pub use words::parse;

@@ -1,0 +1,60 @@
+//! Paths that are built of others.
+ghost use Rattle.std.specs.Prelude.{IfErr, IfOk};
+ghost use Rattle.std.specs.Option.{option_map};
+ghost use Rattle.path_building.specs.Checked.{IsCheckedJoin, IsJoinFault};
+ghost use Rattle.path_building.specs.Cleaned.{IsCleaned};
+ghost use Rattle.path_building.specs.Normalized.{IsNormalized, IsNormalizeFault};
+ghost use Rattle.path_building.specs.Relative.{IsRelativeFrom};
+
+use path_building::{JoinError, NormalizeError};
+use path_rules::Style;
+use std::alloc::{AllocError, Allocator};
+
+/// A path below a base.
+pub fn join_checked<A: Allocator + Copy>(
+    alloc: A,
+    style: Style,
+    base: &[u8],
+    path: &[u8],
+) -> Result<Vec<u8, A>, JoinError>
+    ensures ok { IfOk result (λ joined. IsCheckedJoin style base.now path.now joined.items) }
+    ensures err { IfErr result (λ error. IsJoinFault style base.now path.now error) }
+{
+    path_building::join_checked(alloc, style, base, path)
+}
+
+/// The normal form of a path.
+pub fn normalize<A: Allocator + Copy>(
+    alloc: A,
+    style: Style,
+    path: &[u8],
+) -> Result<Vec<u8, A>, NormalizeError>
+    ensures ok { IfOk result (λ normal. IsNormalized style path.now normal.items) }
+    ensures err { IfErr result (λ error. IsNormalizeFault style path.now error) }
+{
+    path_building::normalize(alloc, style, path)
+}
+
+/// The clean form of a path.
+pub fn clean<A: Allocator + Copy>(
+    alloc: A,
+    style: Style,
+    path: &[u8],
+) -> Result<Vec<u8, A>, AllocError>
+    ensures { IfOk result (λ clean. IsCleaned style path.now clean.items) }
+{
+    path_building::clean(alloc, style, path)
+}
+
+/// The way from a base to a path.
+pub fn relative_from<A: Allocator + Copy>(
+    alloc: A,
+    style: Style,
+    path: &[u8],
+    base: &[u8],
+) -> Result<Option<Vec<u8, A>>, AllocError>
+    ensures { IfOk result (λ way. IsRelativeFrom style path.now base.now
+        (option_map (λ v. v.items) way)) }
+{
+    path_building::relative_from(alloc, style, path, base)
+}
