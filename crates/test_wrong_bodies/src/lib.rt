@@ -29,7 +29,7 @@ pub use escapes::unescape_unix;
 pub use ignored::{matched, read_ignore};
 pub use joins::twice;
 pub use orders::order;
-pub use paths::{file_name, parent, windows_prefix};
+pub use paths::{file_name, is_absolute, parent, windows_prefix};
 pub use readings::{into_lossy, read_windows_lossy};
 pub use runs::{run_once, run_over};
 pub use searches::{find, rsplit_once, starts_with_os};

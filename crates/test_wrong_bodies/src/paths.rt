@@ -1,8 +1,9 @@
-//! Prefixes, parents and last names of paths.
-ghost use Rattle.std.specs.Prelude.{ℕ, List, MatchOption};
+//! Prefixes, parents and last names of paths, and which are absolute.
+ghost use Rattle.std.specs.Prelude.{◌↔◌, ℕ, List, IsTrue, MatchOption};
 ghost use Rattle.path_rules.specs.Parent.{IsParent, HasNoParent, HasFileName, HasNoFileName};
 ghost use Rattle.path_rules.specs.Prefix.{Kind, IsPrefixOf};
 ghost use Rattle.path_rules.specs.PrefixViews.{kind_of};
+ghost use Rattle.path_rules.specs.Root.{IsAbsolute};
 
 use path_rules::{Prefix, Style};
 
@@ -29,4 +30,11 @@ pub fn file_name(style: Style, path: &[u8]) -> Option<&[u8]>
         (λ name. HasFileName style path.now name.now) }
 {
     path_rules::file_name(style, path)
+}
+
+/// Whether a path is absolute.
+pub fn is_absolute(style: Style, path: &[u8]) -> bool
+    ensures { IsTrue result ↔ IsAbsolute style path.now }
+{
+    path_rules::is_absolute(style, path)
 }
