@@ -1,8 +1,10 @@
 //! Separators at the end of paths.
-ghost use Rattle.std.specs.Prelude.{◌≡◌, ◌≢◌, ◌++◌, [], ℕ, List, IsTrue, IfOk};
+ghost use Rattle.std.specs.Prelude.{◌≡◌, ◌≢◌, ◌++◌, [], ℕ, List, true, IsTrue, IfOk};
+ghost use Rattle.std.specs.List.{All};
 ghost use Rattle.platform_str.specs.Strings.{path_bytes, path_vec_of};
 ghost use Rattle.path_rules.specs.Component.{Item};
 ghost use Rattle.path_rules.specs.Components.{AreComponents};
+ghost use Rattle.path_rules.specs.Separators.{separates};
 ghost use Rattle.path_rules.specs.StyleRules.{rules_of_style};
 ghost use Rattle.path_rules.specs.Trailing.{EndsWithSeparator, IsRootAlone};
 ghost use Rattle.path_building.specs.Checked.{IsVerbatimAlone};
@@ -37,7 +39,8 @@ pub fn ended<'a, E: PathStyle + 'a, A: Allocator + Clone>(
 
 /// The path without the separators at its end, which is its prefix; a root alone is kept.
 pub fn trimmed<'a, E: PathStyle + 'a>(path: Path<'a, E>) -> Path<'a, E>
-    ensures begins { (after : List ℕ) × (path_bytes path.entry ≡ path_bytes result ++ after) }
+    ensures begins { (after : List ℕ) × ((path_bytes path.entry ≡ path_bytes result ++ after)
+        × All (λ b. separates (rules_of_style E.follows) b ≡ true) after) }
     ensures root { IsRootAlone E.follows (path_bytes path.entry)
         → path_bytes result ≡ path_bytes path.entry }
 {
