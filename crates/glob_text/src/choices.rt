@@ -48,19 +48,18 @@ fn nothing<A: Allocator + Copy>(alloc: A) -> Result<Vec<Chosen<A>, A>, AllocErro
 }
 
 /// The choices, each with one more mark.
-fn each<A: Allocator + Copy>(
-    alloc: A,
+fn each<A: Allocator>(
     choices: Vec<Chosen<A>, A>,
     mark: usize,
 ) -> Result<Vec<Chosen<A>, A>, AllocError>
     ensures { IfOk result
         (λ longer. indices_of longer.items ≡ each (indices_of choices.items) mark) }
 {
-    let mut longer = Vec::new(alloc);
-    for choice in choices {
-        let mut marks = choice.marks;
-        marks.push(mark)?;
-        longer.push(Chosen { marks })?;
+    let mut longer = choices;
+    let mut at = 0;
+    while at < longer.len() {
+        longer[at].marks.push(mark)?;
+        at += 1;
     }
     Ok(longer)
 }
@@ -165,7 +164,7 @@ fn after_comma<A: Allocator + Copy>(
         current,
     } = found;
     let Some(group) = groups.pop() else {
-        let current = each(alloc, current, mark)?;
+        let current = each(current, mark)?;
         return Ok(Some(Found { groups, current }));
     };
     let Group { found, outer } = group;
@@ -201,15 +200,11 @@ fn after_close<A: Allocator + Copy>(
 }
 
 /// After a mark that is itself.
-fn after_itself<A: Allocator + Copy>(
-    alloc: A,
-    found: Found<A>,
-    mark: usize,
-) -> Result<Found<A>, AllocError>
+fn after_itself<A: Allocator>(found: Found<A>, mark: usize) -> Result<Found<A>, AllocError>
     ensures { IfOk result (λ next. state_of next ≡ after_itself (state_of found) mark) }
 {
     let Found { groups, current } = found;
-    let current = each(alloc, current, mark)?;
+    let current = each(current, mark)?;
     Ok(Found { groups, current })
 }
 
@@ -227,10 +222,10 @@ fn advance<A: Allocator + Copy>(
         Mark::Open(_) => Ok(Some(after_open(alloc, found)?)),
         Mark::Comma => after_comma(alloc, found, index),
         Mark::Close(_) => after_close(alloc, found),
-        Mark::Literal(_) => Ok(Some(after_itself(alloc, found, index)?)),
-        Mark::Any => Ok(Some(after_itself(alloc, found, index)?)),
-        Mark::Star(_) => Ok(Some(after_itself(alloc, found, index)?)),
-        Mark::OneOf(_) => Ok(Some(after_itself(alloc, found, index)?)),
+        Mark::Literal(_) => Ok(Some(after_itself(found, index)?)),
+        Mark::Any => Ok(Some(after_itself(found, index)?)),
+        Mark::Star(_) => Ok(Some(after_itself(found, index)?)),
+        Mark::OneOf(_) => Ok(Some(after_itself(found, index)?)),
     }
 }
 

@@ -29,7 +29,7 @@ fn folded<A: Allocator + Copy>(alloc: A, ranges: Vec<Range, A>) -> Result<Vec<Ra
 {
     let mut folded = Vec::new(alloc);
     folded.extend_from_slice(&ranges)?;
-    let class = Class::new(false, ranges);
+    let class = Class::new(alloc, false, ranges)?;
     let mut left = fold_pairs();
     while let Some(((letter, other), rest)) = left.split_first() {
         if class.permits(*letter) {

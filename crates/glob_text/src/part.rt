@@ -58,6 +58,8 @@ impl<A: Allocator> Mark<A> {
 
     /// What it is in the compiled pattern.
     fn piece(&self, alloc: A) -> Result<Piece<Item<A>>, AllocError>
+    where
+        A: Copy,
         ensures { IfOk result (λ piece. IsPieceOf (mark_of self.now) piece) }
     {
         match self {
@@ -66,7 +68,7 @@ impl<A: Allocator> Mark<A> {
             Mark::Star(_) => Ok(Piece::Many),
             Mark::OneOf(members) => {
                 let ranges = Vec::from_slice(alloc, &members.ranges)?;
-                let class = Class::new(members.negated, ranges);
+                let class = Class::new(alloc, members.negated, ranges)?;
                 Ok(Piece::One(Item::OneOf(class)))
             }
             Mark::Open(_) => Ok(Piece::One(Item::Literal(0x7B))),
@@ -107,7 +109,7 @@ fn is_doubled_at<A: Allocator>(marks: &[Mark<A>], index: usize) -> bool
 }
 
 /// What the mark of an index is in the compiled pattern.
-fn piece_at<A: Allocator>(
+fn piece_at<A: Allocator + Copy>(
     alloc: A,
     marks: &[Mark<A>],
     index: usize,

@@ -10,3 +10,5 @@ pub mod Ascending
 pub mod Covers
 pub mod Queries
 pub mod Adding
+pub mod Orders
+pub mod Beginnings

@@ -29,13 +29,13 @@ use Rattle.wildcards.proofs.Parts.{one_component, first_component}
 use Rattle.wildcards.proofs.Readings.{whole, first_of, cut_letters}
 
 -- a list is cut at its first separator, or has none
-record FirstCut (o : Separators) (s : List ℕ) : Type 0 where
-  part : List ℕ
-  rest : List ℕ
-  cut : IsCut o s part rest
-  plain : AllByRecursion (λ b. separates o b ≡ false) part
+pub record FirstCut (o : Separators) (s : List ℕ) : Type 0 where
+  pub part : List ℕ
+  pub rest : List ℕ
+  pub cut : IsCut o s part rest
+  pub plain : AllByRecursion (λ b. separates o b ≡ false) part
 
-first_cut : (o : Separators) (s : List ℕ) → AllByRecursion (λ b. separates o b ≡ false) s ⊎ FirstCut o s
+pub first_cut : (o : Separators) (s : List ℕ) → AllByRecursion (λ b. separates o b ≡ false) s ⊎ FirstCut o s
 first_cut o [] = inl tt
 first_cut o (b ∷ s) = by_first (separates o b) refl (first_cut o s)
   where

@@ -15,6 +15,16 @@ pub record IsCut (o : Separators) (s prefix suffix : List ℕ) : Type 0 where
   pub joined : s ≡ prefix ++ separator ∷ suffix
   pub parts : separates o separator ≡ true
 
+-- s begins with a component that is the text, and this is left after it
+abbrev pub BeginsWith : Separators → List ℕ → List ℕ → Option (Bor (List ℕ)) → Type 0
+BeginsWith o s text None = s ≡ text
+BeginsWith o s text (Some more) = IsCut o s text more.now
+
+-- s doesn't
+pub record BeginsOther (o : Separators) (s text : List ℕ) : Type 0 where
+  pub not_whole : ¬ (s ≡ text)
+  pub not_cut : (more : List ℕ) → ¬ (IsCut o s text more)
+
 module _ (letters : List ℕ → List ℕ) where
   -- the components of what is left of a path; none where nothing is
   abbrev pub left_components : Separators → Option (Bor (List ℕ)) → List (List ℕ)

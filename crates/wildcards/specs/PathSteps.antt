@@ -1,11 +1,12 @@
 -- How far matching has come in a path: only private contracts name this.
-use Rattle.std.specs.Prelude.{◌≤◌, ◌↔◌, ℕ, List, ◌++◌, Option}
+use Rattle.std.specs.Prelude.{◌≡◌, ◌≤◌, ◌<◌, ◌+◌, ◌↔◌, ℕ, List, ◌∷◌, ◌++◌, length, Option}
 use denote.Ref.{Bor}
 use Rattle.wildcards.specs.declared.piece.Piece.{Piece}
 use Rattle.wildcards.specs.declared.part.Part.{Part}
 use Rattle.wildcards.specs.declared.options.Options.{Options}
 use Rattle.wildcards.specs.declared.path.Step.{Step}
 use Rattle.wildcards.specs.declared.path.Step.TheVariants as step
+use Rattle.wildcards.specs.Components.{components}
 use Rattle.wildcards.specs.Cuts.{left_components, left_size, IsLeftFormed}
 use Rattle.wildcards.specs.Match.{FitsComponent, TakesComponent, MatchesParts}
 use Rattle.wildcards.specs.Steps.{GoesOn}
@@ -18,6 +19,21 @@ module _ (formed : List ℕ → Type 0) (letters : List ℕ → List ℕ) {A : T
   PathStepSays o ps path (step.Many qs rest) =
       GoesOn (TakesComponent o.literal_leading_dot) (FitsComponent o.literal_leading_dot) ps (left_components letters o.separators path) qs.now (left_components letters o.separators rest)
       × ((left_size rest ≤ left_size path) × IsLeftFormed formed rest)
+
+  -- the part matches the first component, and this is left after it
+  pub record FirstFits (o : Options) (part : Part A) (path : List ℕ) (more : Option (Bor (List ℕ))) : Type 0 where
+    pub component : List ℕ
+    pub parts : components o.separators (letters path) ≡ component ∷ left_components letters o.separators more
+    pub fits : FitsComponent o.literal_leading_dot part component
+    pub formed_left : IsLeftFormed formed more
+    pub shorter : left_size more < length path + 1
+
+  -- the part doesn't match the first component
+  pub record FirstDiffers (o : Options) (part : Part A) (path : List ℕ) : Type 0 where
+    pub component : List ℕ
+    pub rest : List (List ℕ)
+    pub parts : components o.separators (letters path) ≡ component ∷ rest
+    pub differs : ¬ (FitsComponent o.literal_leading_dot part component)
 
   -- the pieces match the components after no others
   abbrev pub NeverMatches : Options → List (Piece (Part A)) → Option (Bor (List ℕ)) → Type 0

@@ -1,47 +1,56 @@
 //! Classes of letters.
-ghost use Rattle.wildcards.specs.Ranges.{IsTable};
+ghost use Rattle.wildcards.specs.Ranges.{AreOrdered, IsTable};
 
-use crate::range::{Range, is_in};
-use std::alloc::{Allocator, Global};
+use crate::range::{Range, in_order, is_in};
+use std::alloc::{AllocError, Allocator, Global};
 
 /// A class: the letters of its ranges or, if it is negated, all other letters.
 #[derive(Drop)]
 pub struct Class<A: Allocator = Global> {
     negated: bool,
+    // Their first and last letters ascend.
     ranges: Vec<Range, A>,
     // Whether it permits each letter of ASCII.
-    ascii: [bool; 128],
-    ghost table: { IsTable negated ranges.items ascii },
+    ascii: Box<[bool; 128], A>,
+    ghost ordered: { AreOrdered ranges.items },
+    ghost table: { IsTable negated ranges.items ascii.value },
 }
 
 impl<A: Allocator> Class<A> {
-    ghost use Rattle.std.specs.Prelude.{◌≡◌, ℕ};
+    ghost use Rattle.std.specs.Prelude.{◌≡◌, ℕ, IfOk};
     ghost use Rattle.wildcards.specs.Ranges.{permits};
     ghost use Rattle.wildcards.specs.Classes.{permitted};
 
-    /// The class of these ranges. It doesn't allocate.
+    /// The class of these ranges.
+    ///
+    /// # Errors
+    ///
+    /// `AllocError` if memory is refused.
     ///
     /// ```
     /// use wildcards::{Class, Range};
     ///
     /// let mut ranges = Vec::new(alloc);
     /// ranges.push(Range { first: 0x61, last: 0x7A })?;
-    /// assert!(rt; Class::new(false, ranges).permits(0x62));
+    /// assert!(rt; Class::new(alloc, false, ranges)?.permits(0x62));
     /// ```
-    pub fn new(negated: bool, ranges: Vec<Range, A>) -> Self
-        ensures { (letter : ℕ) → permitted result letter ≡ permits negated ranges.items letter }
+    pub fn new(alloc: A, negated: bool, ranges: Vec<Range, A>) -> Result<Self, AllocError>
+        ensures { IfOk result (λ class. (letter : ℕ) → permitted class letter
+            ≡ permits negated ranges.items letter) }
     {
+        let ordered = in_order(ranges);
         let mut ascii = [false; 128];
         let mut at = 0;
         while at < 128 {
-            ascii[at] = is_in(&ranges, at as u32) != negated;
+            ascii[at] = is_in(&ordered, at as u32) != negated;
             at += 1;
         }
-        Class {
+        let ascii = Box::new(alloc, ascii)?;
+        Ok(Class {
             negated,
-            ranges,
+            ranges: ordered,
             ascii,
-        }
+        })
     }
 
     /// Whether it permits a letter.
@@ -51,7 +60,7 @@ impl<A: Allocator> Class<A> {
     ///
     /// let mut ranges = Vec::new(alloc);
     /// ranges.push(Range { first: 0x61, last: 0x7A })?;
-    /// let class = Class::new(true, ranges);
+    /// let class = Class::new(alloc, true, ranges)?;
     /// assert!(rt; class.permits(0xE9) && !class.permits(0x61));
     /// ```
     #[inline(always)]

@@ -1,12 +1,42 @@
 //! A path is cut at its separators.
-ghost use Rattle.std.specs.Prelude.{◌≡◌, ◌∷◌, ◌<◌, ◌++◌, [], Some, length, MatchOption, IfSome};
+ghost use Rattle.std.specs.Prelude.{◌≡◌, ◌∷◌, ◌<◌, ◌++◌, [], Some, length, IsTrue, MatchOption, IfSome};
 ghost use Rattle.memchr.specs.Find.{IsFirstByte, IsLastByte};
 ghost use Rattle.wildcards.specs.Components.{components, separates};
-ghost use Rattle.wildcards.specs.Cuts.{IsPlain, IsCut, left_components, left_size, IsLeftFormed};
+ghost use Rattle.wildcards.specs.declared.separators.Separators.{Separators};
+ghost use Rattle.wildcards.specs.Cuts.{IsPlain, IsCut, BeginsWith, BeginsOther, left_components, left_size, IsLeftFormed};
 
 use crate::letters::Letters;
 use crate::separators::Separators;
 use memchr::{memchr, memchr2, memrchr, memrchr2};
+
+/// Whether a text has neither `/` nor `\`.
+pub(crate) fn is_plain(text: &[u8]) -> bool
+    ensures { IsTrue result → (o : Separators) → IsPlain o text.now }
+{
+    first_separator(Separators::SlashAndBackslash, text).is_none()
+}
+
+/// What is left of a path after its first component, if that is this text, which has no separator.
+#[inline(always)]
+pub(crate) fn strip_text<'a>(
+    separators: Separators,
+    text: &[u8],
+    path: &'a [u8],
+) -> Option<Option<&'a [u8]>>
+    ensures begins { MatchOption result (BeginsOther separators path.entry.now text.now)
+        (λ more. BeginsWith separators path.entry.now text.now more) }
+    ensures shorter { IfSome result (λ more. left_size more < left_size (Some path.entry)) }
+{
+    let rest = path.strip_prefix(text)?;
+    let Some((byte, more)) = rest.split_first() else {
+        return Some(None);
+    };
+    if separators.contains(u32::from(*byte)) {
+        Some(Some(more))
+    } else {
+        None
+    }
+}
 
 /// The index of the first separator.
 #[inline(always)]

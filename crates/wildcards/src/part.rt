@@ -1,10 +1,15 @@
 //! What matches one component of a path.
-ghost use Rattle.std.specs.Prelude.{◌≡◌, ◌↔◌, true, IsTrue, IfOk, IfSome};
+ghost use Rattle.std.specs.Prelude.{◌≡◌, ◌↔◌, true, ℕ, Some, IsTrue, IfOk, IfSome, MatchOption};
+ghost use Rattle.std.specs.declared.vec.Vec.{Vec};
+ghost use Rattle.wildcards.specs.declared.separators.Separators.{Separators};
+ghost use Rattle.wildcards.specs.Cuts.{IsPlain};
 ghost use Rattle.wildcards.specs.Literals.{spells, spells_some};
 
+use crate::component::{is_plain, split_first, strip_text};
 use crate::hidden::{begins_with_dot, is_hidden};
 use crate::letters::Letters;
 use crate::literal::literal_text;
+use crate::options::Options;
 use crate::piece::{Item, Piece};
 use crate::run::fits_pieces;
 use std::alloc::{AllocError, Allocator, Global};
@@ -13,13 +18,15 @@ use std::alloc::{AllocError, Allocator, Global};
 #[derive(Drop)]
 pub struct Part<A: Allocator = Global> {
     pieces: Vec<Piece<Item<A>>, A>,
-    // The text that it matches alone, if it is one of ASCII.
+    // The text that it matches alone, if it is one of ASCII, without `/` and `\`.
     literal: Option<Vec<u8, A>>,
     ghost text: { spells_some pieces.items literal ≡ true },
+    ghost plain: { (text : Vec ℕ A) → literal ≡ Some text → (o : Separators) → IsPlain o text.items },
 }
 
 impl<A: Allocator> Part<A> {
     ghost use Rattle.wildcards.specs.Match.{FitsComponent};
+    ghost use Rattle.wildcards.specs.PathSteps.{FirstDiffers, FirstFits};
 
     /// The part of these pieces.
     ///
@@ -40,8 +47,16 @@ impl<A: Allocator> Part<A> {
         A: Copy,
         ensures { IfOk result (λ part. part.pieces ≡ pieces) }
     {
-        let literal = literal_text(alloc, &pieces)?;
-        Ok(Part { pieces, literal })
+        match literal_text(alloc, &pieces)? {
+            Some(text) if is_plain(&text) => Ok(Part {
+                pieces,
+                literal: Some(text),
+            }),
+            _ => Ok(Part {
+                pieces,
+                literal: None,
+            }),
+        }
     }
 
     /// Its pieces.
@@ -60,6 +75,29 @@ impl<A: Allocator> Part<A> {
         match &self.literal {
             Some(text) => Some(text.as_slice()),
             None => None,
+        }
+    }
+
+    /// What is left of a path after its first component, if it matches that.
+    #[inline(always)]
+    pub(crate) fn strip_first<'a, L: Letters>(
+        &self,
+        options: Options,
+        path: &'a [u8],
+    ) -> Option<Option<&'a [u8]>>
+        requires { L.formed path.now }
+        ensures { MatchOption result
+            (FirstDiffers L.formed L.letters options self.now path.entry.now)
+            (λ more. FirstFits L.formed L.letters options self.now path.entry.now more) }
+    {
+        if let Some(text) = &self.literal {
+            return strip_text(options.separators, text, path);
+        }
+        let (component, more) = split_first::<L>(options.separators, path);
+        if self.fits::<L>(options.literal_leading_dot, component) {
+            Some(more)
+        } else {
+            None
         }
     }
 

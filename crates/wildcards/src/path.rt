@@ -43,10 +43,9 @@ fn up_to_many<'p, 'a, L: Letters, A: Allocator>(
                 let Some(path) = from else {
                     return Step::Differs;
                 };
-                let (component, more) = split_first::<L>(options.separators, path);
-                if !part.fits::<L>(options.literal_leading_dot, component) {
+                let Some(more) = part.strip_first::<L>(options, path) else {
                     return Step::Differs;
-                }
+                };
                 left = rest;
                 from = more;
             }

@@ -1,7 +1,10 @@
-use Rattle.std.proofs.Common.{◌≡◌}
+use Rattle.std.proofs.Common.{◌≡◌, ◌-◌, ◌++◌, length, take, drop}
 use Rattle.glob_text.specs.Alternatives.{each}
 use Rattle.glob_text.specs.ChoiceSteps.{indices_of}
 use Rattle.glob_text.proofs.choices.each.Given as goal
 
-abbrev pub invariant-loop-choice : goal.invariant-loop-choice
-invariant-loop-choice g l = indices_of l.longer.items ≡ each (indices_of l.yielded) l.mark
+abbrev pub invariant-loop-at : goal.invariant-loop-at
+invariant-loop-at g l = each (indices_of l.fn.choices.items) l.mark ≡ indices_of (take l.at l.longer.items) ++ each (indices_of (drop l.at l.longer.items)) l.mark
+
+abbrev pub decreases-loop-at : goal.decreases-loop-at
+decreases-loop-at g l = length l.longer.items - l.at
