@@ -2,3 +2,4 @@ pub mod Around
 pub mod Compiling
 pub mod InlineTexts
 pub mod UnitLetters
+pub mod TextHits

@@ -5,6 +5,7 @@ ghost use Rattle.wildcards.specs.Sets.{IsHit, AreHits};
 ghost use Rattle.glob_patterns.specs.Letters.{letters_of};
 ghost use Rattle.glob_patterns.specs.Options.{syntax_of, options_of};
 ghost use Rattle.glob_patterns.specs.GlobSets.{AreMeanings, IsFirstFault, IsSetError};
+ghost use Rattle.glob_patterns.specs.TextMatch.{IsMatchOfTexts, AreMatchesOfTexts};
 
 use crate::letters::StringLetters;
 use crate::options::GlobOptions;
@@ -124,8 +125,10 @@ impl<E: Platform, A: Allocator> GlobSet<E, A> {
     /// assert!(rt; !set.is_match(OsStr::new("README")));
     /// ```
     pub fn is_match(&self, path: OsStr<'_, E>) -> bool
-        ensures { IsTrue result ↔ ((i : ℕ) × IsHit self.now.set.options
+        ensures value { IsTrue result ↔ ((i : ℕ) × IsHit self.now.set.options
             self.now.set.patterns.items (letters_of E.units (bytes path.entry)) i) }
+        ensures texts { IsMatchOfTexts E.well_formed (letters_of E.units) self.now.set.options
+            self.now.set.patterns.items (letters_of E.units (bytes path.entry)) result }
     {
         self.set
             .is_match::<StringLetters<E>>(path.as_encoded_bytes())
@@ -154,7 +157,10 @@ impl<E: Platform, A: Allocator> GlobSet<E, A> {
         path: OsStr<'_, E>,
         found: &mut Vec<usize, B>,
     ) -> Result<(), AllocError>
-        ensures { OnOk result (AreHits self.now.set.options self.now.set.patterns.items
+        ensures value { OnOk result (AreHits self.now.set.options self.now.set.patterns.items
+            (letters_of E.units (bytes path.entry)) found.new.items) }
+        ensures texts { OnOk result (AreMatchesOfTexts E.well_formed (letters_of E.units)
+            self.now.set.options self.now.set.patterns.items
             (letters_of E.units (bytes path.entry)) found.new.items) }
     {
         self.set

@@ -1,15 +1,18 @@
 //! Path patterns: what a text stands for, the pattern of one name, the first of a set that matches,
 //! what an error prints.
-ghost use Rattle.std.specs.Prelude.{◌≡◌, ◌↔◌, ◌++◌, ◌<◌, ℕ, List, IsTrue, IfErr, IfOk, MatchOption, MatchResult, OnOk, codes, decimal, string_bytes};
+ghost use Rattle.std.specs.Prelude.{◌≡◌, ◌↔◌, ◌++◌, ◌<◌, ℕ, List, IsTrue, IfErr, IfOk, IfSome, MatchOption, MatchResult, OnOk, codes, decimal, string_bytes};
 ghost use Rattle.platform_str.specs.Strings.{bytes};
 ghost use Rattle.wildcards.specs.Sets.{IsHit};
 ghost use Rattle.glob_text.specs.Marks.{Mark};
 ghost use Rattle.glob_text.specs.Meaning.{MatchesWrittenOut};
 ghost use Rattle.glob_text.specs.Texts.{AreWrittenOut};
 ghost use Rattle.glob_patterns.specs.Errors.{IsGlobError};
+ghost use Rattle.glob_patterns.specs.GlobSets.{AreMeanings};
 ghost use Rattle.glob_patterns.specs.Letters.{letters_of};
 ghost use Rattle.glob_patterns.specs.Options.{options_of, syntax_of};
+ghost use Rattle.glob_patterns.specs.TextMatch.{IsTextHit};
 ghost use Rattle.glob_patterns.specs.declared.error.GlobError.TheVariants.{Memory};
+ghost use Rattle.glob_patterns.specs.declared.options.GlobOptions.{GlobOptions};
 
 use glob_patterns::{
     FaultKind, Glob, GlobError, GlobOptions, GlobSet, PatternFault, Separators, escape_pattern,
@@ -51,13 +54,29 @@ pub fn is_named<E: Platform, A: Allocator + Copy>(
     Ok(glob.is_match(path))
 }
 
+/// Whether a path has one of the patterns of a set, by what their texts stand for.
+pub fn match_by_texts<E: Platform, A: Allocator>(globs: &GlobSet<E, A>, path: OsStr<'_, E>) -> bool
+    ensures { (o : GlobOptions) → (texts : List (List ℕ))
+        → (meanings : AreMeanings E.well_formed (letters_of E.units) (syntax_of o) A texts
+        globs.now.set.patterns.items) → globs.now.set.options ≡ options_of o
+        → IsTrue result ↔ ((i : ℕ) × IsTextHit E.well_formed (letters_of E.units) o texts
+        globs.now.set.patterns.items meanings (letters_of E.units (bytes path.entry)) i) }
+{
+    globs.is_match(path)
+}
+
 /// The first pattern of a set that matches a path.
 pub fn first_match<E: Platform, A: Allocator, B: Allocator>(
     alloc: B,
     globs: &GlobSet<E, A>,
     path: OsStr<'_, E>,
 ) -> Result<Option<usize>, AllocError>
-    ensures { IfOk result (λ first. MatchOption first
+    ensures texts { IfOk result (λ first. IfSome first (λ i. (o : GlobOptions)
+        → (texts : List (List ℕ)) → (meanings : AreMeanings E.well_formed (letters_of E.units)
+        (syntax_of o) A texts globs.now.set.patterns.items) → globs.now.set.options ≡ options_of o
+        → IsTextHit E.well_formed (letters_of E.units) o texts globs.now.set.patterns.items meanings
+        (letters_of E.units (bytes path.entry)) i)) }
+    ensures first { IfOk result (λ first. MatchOption first
         ((i : ℕ) → ¬ (IsHit globs.now.set.options globs.now.set.patterns.items
         (letters_of E.units (bytes path.entry)) i))
         (λ i. IsHit globs.now.set.options globs.now.set.patterns.items
