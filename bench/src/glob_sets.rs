@@ -12,15 +12,27 @@ const COUNTS: [usize; 4] = [1, 10, 100, 1000];
 /// Makes so many patterns.
 type Patterns = fn(usize) -> Vec<String>;
 
-const KINDS: [(&str, Patterns); 3] = [("`**/*.ext`", extensions), ("literal paths", literals), ("a mix", mix)];
+/// With how often all paths are asked in a run of 1,000 of them, and of fewer by their number, so that it
+/// weighs little that ours compiles them in each run.
+const KINDS: [(&str, Patterns, usize); 3] =
+    [("`**/*.ext`", extensions, 100), ("literal paths", literals, 100), ("a mix", mix, 4)];
 
 pub fn time(bench: &mut Bench) {
     bench.table("Patterns in sets beside globset", "a path");
-    for (kind, patterns) in KINDS {
+    for (kind, patterns, most) in KINDS {
         for count in COUNTS {
             let input = format!("{kind}, {count}");
             if bench.wants("matches", &input) || bench.wants("is_match", &input) {
-                set(bench, &input, &patterns(count));
+                set(bench, &input, &patterns(count), (most * count / 1000).max(1));
+            }
+        }
+    }
+    bench.table("Patterns into sets beside globset", "a pattern");
+    for (kind, patterns, _) in KINDS {
+        for count in COUNTS {
+            let input = format!("{kind}, {count}");
+            if bench.wants("new", &input) {
+                made(bench, &input, &patterns(count));
             }
         }
     }
@@ -76,20 +88,20 @@ fn one(bench: &mut Bench, input: &str, pattern: &str, path: &str) {
     );
 }
 
-fn set(bench: &mut Bench, input: &str, patterns: &[String]) {
+fn set(bench: &mut Bench, input: &str, patterns: &[String], times: usize) {
     let theirs = compiled(patterns);
     let (all, lens) = (patterns.concat(), patterns.iter().map(String::len).collect::<Vec<_>>());
     let Paths { all: paths, lens: path_lens, ended, .. } = &*PATHS;
-    let ours = black_box(ours::set_matches as fn(&str, &[usize], &str, &[usize]) -> usize);
+    let ours = black_box(ours::set_matches as fn(&str, &[usize], &str, &[usize], usize) -> usize);
     let mut found = Vec::new();
     bench.line(
         "matches",
         input,
-        path_lens.len(),
+        path_lens.len() * times,
         [
-            Some(&mut || ours(black_box(&all), &lens, paths, path_lens) as u64),
+            Some(&mut || ours(black_box(&all), &lens, paths, path_lens, times) as u64),
             Some(&mut || {
-                cut(ended, path_lens).fold(0, |sum, path| {
+                (0..times).flat_map(|_| cut(ended, path_lens)).fold(0, |sum, path| {
                     theirs.matches_into(path, &mut found);
                     sum + found.len() as u64
                 })
@@ -97,14 +109,32 @@ fn set(bench: &mut Bench, input: &str, patterns: &[String]) {
             None,
         ],
     );
-    let ours = black_box(ours::set_is_match as fn(&str, &[usize], &str, &[usize]) -> usize);
+    let ours = black_box(ours::set_is_match as fn(&str, &[usize], &str, &[usize], usize) -> usize);
     bench.line(
         "is_match",
         input,
-        path_lens.len(),
+        path_lens.len() * times,
         [
-            Some(&mut || ours(black_box(&all), &lens, paths, path_lens) as u64),
-            Some(&mut || cut(ended, path_lens).filter(|path| theirs.is_match(path)).count() as u64),
+            Some(&mut || ours(black_box(&all), &lens, paths, path_lens, times) as u64),
+            Some(&mut || {
+                (0..times).flat_map(|_| cut(ended, path_lens)).filter(|path| theirs.is_match(path)).count() as u64
+            }),
+            None,
+        ],
+    );
+}
+
+/// Sets that are compiled of texts, and dropped.
+fn made(bench: &mut Bench, input: &str, patterns: &[String]) {
+    let (all, lens) = (patterns.concat(), patterns.iter().map(String::len).collect::<Vec<_>>());
+    let ours = black_box(ours::set_new as fn(&str, &[usize]) -> bool);
+    bench.line(
+        "new",
+        input,
+        patterns.len(),
+        [
+            Some(&mut || u64::from(ours(black_box(&all), &lens))),
+            Some(&mut || u64::from(!black_box(compiled(black_box(patterns))).is_empty())),
             None,
         ],
     );

@@ -41,6 +41,12 @@ mod exports {
             lens: *const usize,
             count: usize,
         ) -> usize;
+        pub fn port_set_new(
+            patterns: *const u8,
+            patterns_len: usize,
+            pattern_lens: *const usize,
+            pattern_count: usize,
+        ) -> bool;
         pub fn port_set_matches(
             patterns: *const u8,
             patterns_len: usize,
@@ -50,6 +56,7 @@ mod exports {
             len: usize,
             lens: *const usize,
             count: usize,
+            times: usize,
         ) -> usize;
         pub fn port_set_is_match(
             patterns: *const u8,
@@ -60,6 +67,7 @@ mod exports {
             len: usize,
             lens: *const usize,
             count: usize,
+            times: usize,
         ) -> usize;
         pub fn port_options(words: *const u8, len: usize, lens: *const usize, count: usize) -> u64;
         pub fn port_flags(bytes: *const u8, len: usize) -> u64;
@@ -232,8 +240,15 @@ pub fn matches(pattern: &str, slash: bool, texts: &str, lens: &[usize]) -> usize
     }
 }
 
-/// The patterns of these lengths make up `patterns`, as the texts do.
-pub fn set_matches(patterns: &str, pattern_lens: &[usize], texts: &str, lens: &[usize]) -> usize {
+/// The patterns of these lengths make up `patterns`.
+pub fn set_new(patterns: &str, pattern_lens: &[usize]) -> bool {
+    unsafe {
+        exports::port_set_new(patterns.as_ptr(), patterns.len(), pattern_lens.as_ptr(), pattern_lens.len())
+    }
+}
+
+/// So do the patterns, and the texts of their lengths make up `texts`.
+pub fn set_matches(patterns: &str, pattern_lens: &[usize], texts: &str, lens: &[usize], times: usize) -> usize {
     unsafe {
         exports::port_set_matches(
             patterns.as_ptr(),
@@ -244,12 +259,13 @@ pub fn set_matches(patterns: &str, pattern_lens: &[usize], texts: &str, lens: &[
             texts.len(),
             lens.as_ptr(),
             lens.len(),
+            times,
         )
     }
 }
 
 /// The same.
-pub fn set_is_match(patterns: &str, pattern_lens: &[usize], texts: &str, lens: &[usize]) -> usize {
+pub fn set_is_match(patterns: &str, pattern_lens: &[usize], texts: &str, lens: &[usize], times: usize) -> usize {
     unsafe {
         exports::port_set_is_match(
             patterns.as_ptr(),
@@ -260,6 +276,7 @@ pub fn set_is_match(patterns: &str, pattern_lens: &[usize], texts: &str, lens: &
             texts.len(),
             lens.as_ptr(),
             lens.len(),
+            times,
         )
     }
 }

@@ -10,7 +10,7 @@ ghost use Rattle.bench_exports.specs.Answers.{Fit, IsCount, pieces_of};
 use crate::strings::{strings_of, text, unix};
 use glob_patterns::{Glob, GlobOptions, GlobSet, Separators};
 use platform_str::Unix;
-use std::alloc::Global;
+use std::alloc::{AllocError, Global};
 
 /// How many of the strings a pattern matches, which is compiled once; none if it isn't well formed,
 /// or memory was refused. The strings are the bytes, cut into pieces of these lengths, and `/`
@@ -32,9 +32,19 @@ pub extern "C" fn port_matches(
     }
 }
 
-/// How many pairs there are of a string and a pattern that matches it, where `/` separates, modulo
-/// 2^64; `usize::MAX` where a pattern isn't well formed, or memory was refused. The patterns are
-/// compiled once, and are the bytes, cut into pieces of these lengths, as the strings are.
+/// Whether a set is made of the patterns, which are the bytes, cut into pieces of these lengths,
+/// where `/` separates: each is well formed, and memory wasn't refused.
+#[unsafe(no_mangle)]
+pub extern "C" fn port_set_new(alloc: Global, patterns: &[u8], pattern_lens: &[usize]) -> bool
+    requires { Fit pattern_lens.now patterns.now }
+{
+    set_of(alloc, patterns, pattern_lens).is_some()
+}
+
+/// How many pairs there are of a string and a pattern that matches it, where `/` separates, for each
+/// of so many times that all strings are asked, modulo 2^64; `usize::MAX` where a pattern isn't well
+/// formed, or memory was refused. The patterns are compiled once, and are the bytes, cut into pieces
+/// of these lengths, as the strings are.
 #[unsafe(no_mangle)]
 pub extern "C" fn port_set_matches(
     alloc: Global,
@@ -42,6 +52,7 @@ pub extern "C" fn port_set_matches(
     pattern_lens: &[usize],
     raw: &[u8],
     lens: &[usize],
+    times: usize,
 ) -> usize
     requires patterns { Fit pattern_lens.now patterns.now }
     requires strings { Fit lens.now raw.now }
@@ -51,22 +62,18 @@ pub extern "C" fn port_set_matches(
     };
     let mut found = Vec::new(alloc);
     let mut count: usize = 0;
-    let mut rest = raw;
-    let mut left = lens;
-    while let Some((len, more)) = left.split_first() {
-        let (string, after) = rest.split_at(*len);
-        match set.matches(unix(string), &mut found) {
-            Ok(()) => {}
-            Err(_) => return usize::MAX,
-        }
-        count = count.wrapping_add(found.len());
-        rest = after;
-        left = more;
+    let mut left = times;
+    while left > 0 {
+        let Ok(pairs) = set_matches(&set, raw, lens, &mut found) else {
+            return usize::MAX;
+        };
+        count = count.wrapping_add(pairs);
+        left -= 1;
     }
     count
 }
 
-/// How many of the strings a pattern of the set matches; else the same.
+/// How many of the strings a pattern of the set matches, for each time; else the same.
 #[unsafe(no_mangle)]
 pub extern "C" fn port_set_is_match(
     alloc: Global,
@@ -74,6 +81,7 @@ pub extern "C" fn port_set_is_match(
     pattern_lens: &[usize],
     raw: &[u8],
     lens: &[usize],
+    times: usize,
 ) -> usize
     requires patterns { Fit pattern_lens.now patterns.now }
     requires strings { Fit lens.now raw.now }
@@ -81,6 +89,41 @@ pub extern "C" fn port_set_is_match(
     let Some(set) = set_of(alloc, patterns, pattern_lens) else {
         return usize::MAX;
     };
+    let mut count: usize = 0;
+    let mut left = times;
+    while left > 0 {
+        count = count.wrapping_add(set_is_match(&set, raw, lens));
+        left -= 1;
+    }
+    count
+}
+
+/// How many pairs there are of a string and a pattern of the set, modulo 2^64.
+fn set_matches(
+    set: &GlobSet<Unix>,
+    raw: &[u8],
+    lens: &[usize],
+    found: &mut Vec<usize>,
+) -> Result<usize, AllocError>
+    requires { Fit lens.now raw.now }
+{
+    let mut count: usize = 0;
+    let mut rest = raw;
+    let mut left = lens;
+    while let Some((len, more)) = left.split_first() {
+        let (string, after) = rest.split_at(*len);
+        set.matches(unix(string), found)?;
+        count = count.wrapping_add(found.len());
+        rest = after;
+        left = more;
+    }
+    Ok(count)
+}
+
+/// How many of the strings a pattern of the set matches, modulo 2^64.
+fn set_is_match(set: &GlobSet<Unix>, raw: &[u8], lens: &[usize]) -> usize
+    requires { Fit lens.now raw.now }
+{
     let mut count: usize = 0;
     let mut rest = raw;
     let mut left = lens;
