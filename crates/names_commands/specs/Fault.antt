@@ -2,6 +2,7 @@
 use Rattle.std.specs.Prelude.{ℕ, List, ◌++◌, codes}
 use Rattle.glob_patterns.specs.ErrorText as glob
 use Rattle.glob_patterns.specs.declared.error.GlobError.TheVariants as glob_error
+use Rattle.glob_patterns.specs.declared.set_error.GlobSetError.TheVariants as set_error
 use Rattle.os_command_line.specs.ErrorText as words
 use Rattle.os_quote.specs.ErrorText.{error_text}
 use Rattle.os_quote.specs.declared.error.QuoteError.TheVariants as quote
@@ -9,7 +10,7 @@ use Rattle.os_str_bytes.specs.FaultText.{fault_text}
 use Rattle.names_commands.specs.declared.fault.Refusal.{Refusal}
 use Rattle.names_commands.specs.declared.fault.Refusal.TheVariants.{NoString, BadEscape, NotCanonical, HasNul, BadWords}
 use Rattle.names_commands.specs.declared.fault.CommandFault.{CommandFault}
-use Rattle.names_commands.specs.declared.fault.CommandFault.TheVariants.{Usage, Pattern}
+use Rattle.names_commands.specs.declared.fault.CommandFault.TheVariants.{Usage, Pattern, Numbered}
 
 -- what the program prints of the reason why an item is refused
 abbrev pub refusal_text : Refusal → List ℕ
@@ -21,5 +22,6 @@ refusal_text (BadWords fault) = words.fault_text fault
 
 -- what the program prints of the reason why its words are refused
 abbrev pub words_text : CommandFault → List ℕ
-words_text Usage = codes "usage: names [--max N] list|filter|join|check unix|windows|wasm [GLOB], list|join --sh unix; names --help tells more"
+words_text Usage = codes "usage: names [--max N] list|filter|join|check unix|windows|wasm [GLOB|OPTIONS], list|join --sh unix; names --help tells more"
 words_text (Pattern why) = codes "pattern: " ++ glob.error_text (glob_error.Pattern why)
+words_text (Numbered number why) = glob.set_error_text (set_error.Pattern number why)

@@ -1,13 +1,17 @@
 -- What is written for the names that a pattern matches.
-use Rattle.std.specs.Prelude.{◌≡◌, ◌⊎◌, ℕ, List, [], ◌∷◌, ◌++◌}
+use Rattle.std.specs.Prelude.{◌≡◌, ◌⊎◌, ℕ, List, [], ◌∷◌, ◌++◌, length}
+use Rattle.std.specs.List.{AllByRecursion}
 use Rattle.os_str_bytes.specs.Platform.{Ghosts}
 use Rattle.glob_patterns.specs.Letters.{letters_of}
-use Rattle.glob_patterns.specs.Options.{options_of}
-use Rattle.glob_patterns.specs.declared.glob.Glob.{Glob}
+use Rattle.glob_patterns.specs.Options.{options_of, syntax_of}
+use Rattle.glob_patterns.specs.declared.glob_set.GlobSet.{GlobSet}
 use Rattle.glob_patterns.specs.declared.options.GlobOptions.{GlobOptions}
 use Rattle.glob_text.specs.Marks.{Mark}
 use Rattle.glob_text.specs.Meaning.{MatchesWrittenOut}
-use Rattle.wildcards.specs.Sets.{MatchesChoice}
+use Rattle.glob_text.specs.Texts as pattern
+use Rattle.glob_text.specs.Texts.{IsFault}
+use Rattle.glob_text.specs.declared.fault.PatternFault.{PatternFault}
+use Rattle.wildcards.specs.Sets.{IsHit}
 use Rattle.program_frame.specs.Items.{Lacks}
 use Rattle.program_frame.specs.Rules.{ListRules}
 use Rattle.names_commands.specs.declared.fault.Refusal.{Refusal}
@@ -55,10 +59,38 @@ module _ {E : Type 0} (p : Ghosts E) where
     is_of_long = λ name. ⊥;
   }
 
-  -- one of the patterns without alternatives matches the name
-  abbrev pub IsMatched : GlobOptions → List (List Mark) → List ℕ → Type 0
-  IsMatched o written name = MatchesWrittenOut (options_of o) written (letters_of p.units name)
+  -- of each text these are the patterns without alternatives that it stands for
+  abbrev pub AreWrittenOut : GlobOptions → List (List ℕ) → List (List (List Mark)) → Type 0
+  AreWrittenOut o [] written = written ≡ []
+  AreWrittenOut o (text ∷ texts) [] = ⊥
+  AreWrittenOut o (text ∷ texts) (w ∷ written) = pattern.AreWrittenOut p.well_formed (letters_of p.units) (syntax_of o) text w × AreWrittenOut o texts written
 
-  -- so does a compiled pattern
-  abbrev pub IsMatchedBy : {A : Type 0} → Glob E A → List ℕ → Type 0
-  IsMatchedBy glob name = MatchesChoice (options_of glob.options) glob.choices.items (letters_of p.units name)
+  -- one of them matches the name
+  abbrev pub IsMatched : GlobOptions → List (List (List Mark)) → List ℕ → Type 0
+  IsMatched o [] name = ⊥
+  IsMatched o (w ∷ written) name = MatchesWrittenOut (options_of o) w (letters_of p.units name) ⊎ IsMatched o written name
+
+  -- the text has no fault
+  abbrev pub IsPattern : GlobOptions → List ℕ → Type 0
+  IsPattern o text = (written : List (List Mark)) × pattern.AreWrittenOut p.well_formed (letters_of p.units) (syntax_of o) text written
+
+  -- the first of the texts with a fault, which comes after so many others, and its first fault
+  pub record IsFirstFault (o : GlobOptions) (texts : List (List ℕ)) (index : ℕ) (fault : PatternFault) : Type 0 where
+    pub before : List (List ℕ)
+    pub text : List ℕ
+    pub after : List (List ℕ)
+    pub joined : texts ≡ before ++ text ∷ after
+    pub index_is : index ≡ length before
+    pub fine : AllByRecursion (IsPattern o) before
+    pub is : IsFault p.well_formed (letters_of p.units) (syntax_of o) text fault
+
+  -- one of the patterns of a compiled set matches the name
+  abbrev pub IsMatchedBy : {A : Type 0} → GlobSet E A → List ℕ → Type 0
+  IsMatchedBy set name = (i : ℕ) × IsHit set.set.options set.set.patterns.items (letters_of p.units name) i
+
+  -- what is written then, and what is done with each name
+  abbrev pub IsTextOfMatched : {A : Type 0} → Form → GlobSet E A → List ℕ → List ℕ → Type 0
+  IsTextOfMatched form set = IsTextOfPicked form (IsMatchedBy set)
+
+  abbrev pub matching : {A : Type 0} → Form → ℕ → GlobSet E A → ListRules Refusal
+  matching form max set = picking form max (IsMatchedBy set)

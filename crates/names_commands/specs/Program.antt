@@ -1,12 +1,9 @@
 -- The whole program, from the words after its name to its exit status.
-use Rattle.std.specs.Prelude.{◌≡◌, ◌⊎◌, ℕ, List, codes, Option, Result, Err, ⊤}
+use Rattle.std.specs.Prelude.{◌≡◌, ◌⊎◌, ◌+◌, ℕ, List, codes, Option, None, Some, Result, Err, ⊤}
 use Rattle.os_str_bytes.specs.Platform.{Ghosts}
-use Rattle.glob_patterns.specs.Letters.{letters_of}
-use Rattle.glob_patterns.specs.Options.{syntax_of}
 use Rattle.glob_patterns.specs.declared.options.GlobOptions.{GlobOptions}
 use Rattle.glob_text.specs.declared.fault.PatternFault.{PatternFault}
 use Rattle.glob_text.specs.Marks.{Mark}
-use Rattle.glob_text.specs.Texts.{IsFault, AreWrittenOut}
 use Rattle.program_frame.specs.Strings.{strings}
 use Rattle.program_frame.specs.declared.os.Os.{Os}
 use Rattle.program_frame.specs.declared.os.Os.TheVariants.{Unix}
@@ -15,16 +12,20 @@ use Rattle.program_frame.specs.ListRun.{Runs}
 use Rattle.program_frame.specs.declared.fault.Failure.TheVariants.{Memory, Write}
 use Rattle.program_frame.specs.declared.lists.fault.ListFault.TheVariants.{Run}
 use Rattle.names_commands.specs.declared.command.Command.{Command}
-use Rattle.names_commands.specs.declared.command.Command.TheVariants.{ListAll, ListMatching, ListWords, ListWordsMatching, Filter, Join, JoinWords, Check, Help}
+use Rattle.names_commands.specs.declared.command.Command.TheVariants.{ListNames, ListWords, Filter, Join, JoinWords, Check, Help}
 use Rattle.program_frame.specs.declared.lists.program_fault.Fault as program_fault
 use Rattle.program_frame.specs.declared.lists.program_fault.Fault.TheVariants.{List as OfList, Words}
 use Rattle.names_commands.specs.declared.fault.Refusal.{Refusal}
 use Rattle.names_commands.specs.declared.fault.CommandFault.{CommandFault}
-use Rattle.names_commands.specs.declared.fault.CommandFault.TheVariants.{Usage, Pattern}
+use Rattle.names_commands.specs.declared.fault.CommandFault.TheVariants.{Usage, Pattern, Numbered}
+use Rattle.names_commands.specs.declared.task.Task.{Task}
 use Rattle.names_commands.specs.declared.task.Task.TheVariants as task
 use Rattle.names_commands.specs.declared.matching.Form.{Form}
 use Rattle.names_commands.specs.declared.matching.Form.TheVariants.{Line, Name, Word}
-use Rattle.names_commands.specs.Matching.{picking, IsMatched}
+use Rattle.names_commands.specs.declared.pick.Pick.{Pick}
+use Rattle.names_commands.specs.declared.pick.Pick.TheVariants.{Glob, Options}
+use Rattle.names_commands.specs.Matching.{picking, AreWrittenOut, IsFirstFault, IsMatched}
+use Rattle.names_commands.specs.Pick.{ArePatterns}
 use Rattle.names_commands.specs.declared.command.Request.{Request}
 use Rattle.names_commands.specs.Command.{AsksFor, options_of}
 use Rattle.names_commands.specs.Task.{rules_of}
@@ -33,31 +34,55 @@ use Rattle.names_commands.specs.Task.{rules_of}
 abbrev pub Fault : Type 0
 Fault = program_fault.Fault Refusal CommandFault
 
--- the answer to a pattern: its first fault, or that memory for it was refused, before anything was read or written; or else that of the run over the names that it matches
-abbrev pub RunsMatching : {E : Type 0} → Ghosts E → GlobOptions → Form → List ℕ → ℕ → Option (List ℕ) → Option (List ℕ) → Option (List ℕ) → Option (List ℕ) → Result ⊤ Fault → Type 0
-RunsMatching p o form pattern max input left old new answer =
-    ((fault : PatternFault) × IsFault p.well_formed (letters_of p.units) (syntax_of o) pattern fault × (answer ≡ Err (Words (Pattern fault))))
-    ⊎ (((answer ≡ Err (OfList (Run Memory))) × (left ≡ input) × (new ≡ old))
-    ⊎ ((written : List (List Mark)) × AreWrittenOut p.well_formed (letters_of p.units) (syntax_of o) pattern written × Runs (picking p form max (IsMatched p o written)) OfList input left old new answer))
+-- memory was refused before anything was read or written
+abbrev pub IsOutOfMemory : Result ⊤ Fault → Option (List ℕ) → Option (List ℕ) → Option (List ℕ) → Option (List ℕ) → Type 0
+IsOutOfMemory answer input left old new = (answer ≡ Err (OfList (Run Memory))) × ((left ≡ input) × (new ≡ old))
+
+-- the answer of a run over all items
+abbrev pub RunsTask : Os → Task → ℕ → Option (List ℕ) → Option (List ℕ) → Option (List ℕ) → Option (List ℕ) → Result ⊤ Fault → Type 0
+RunsTask os what max input left old new answer = Runs (rules_of (strings os) (record { task = what; max = max })) OfList input left old new answer
+
+-- the fault of the pattern that comes after so many others
+abbrev pub fault_of : Pick → ℕ → PatternFault → CommandFault
+fault_of (Glob pattern) index fault = Pattern fault
+fault_of (Options option value rest) index fault = Numbered (index + 1) fault
+
+-- on a platform that says this of its strings, where patterns are matched so and a name may have `max` bytes:
+module _ {E : Type 0} (p : Ghosts E) (o : GlobOptions) (form : Form) (pick : Pick) (max : ℕ) where
+  -- the first of the patterns that has a fault is told; or the names that one of them matches are written
+  abbrev pub RunsPatterns : List (List ℕ) → Option (List ℕ) → Option (List ℕ) → Option (List ℕ) → Option (List ℕ) → Result ⊤ Fault → Type 0
+  RunsPatterns globs input left old new answer =
+      ((index : ℕ) × (fault : PatternFault) × IsFirstFault p o globs index fault × (answer ≡ Err (Words (fault_of pick index fault))))
+      ⊎ ((written : List (List (List Mark))) × AreWrittenOut p o globs written × Runs (picking p form max (IsMatched p o written)) OfList input left old new answer)
+
+  -- the answer to what picks names: that it has no patterns, or that memory was refused before anything was read or written, or that to its patterns
+  abbrev pub RunsPick : Option (List ℕ) → Option (List ℕ) → Option (List ℕ) → Option (List ℕ) → Result ⊤ Fault → Type 0
+  RunsPick input left old new answer =
+      (((globs : List (List ℕ)) → ¬ (ArePatterns pick globs)) × (answer ≡ Err (Words Usage)))
+      ⊎ (IsOutOfMemory answer input left old new
+      ⊎ ((globs : List (List ℕ)) × ArePatterns pick globs × RunsPatterns globs input left old new answer))
 
 -- on the platform that a command names
-abbrev pub RunsPattern : Os → Form → List ℕ → ℕ → Option (List ℕ) → Option (List ℕ) → Option (List ℕ) → Option (List ℕ) → Result ⊤ Fault → Type 0
-RunsPattern os form pattern max input left old new answer = RunsMatching (strings os) (options_of os) form pattern max input left old new answer
+abbrev pub RunsPickOn : Os → Form → Pick → ℕ → Option (List ℕ) → Option (List ℕ) → Option (List ℕ) → Option (List ℕ) → Result ⊤ Fault → Type 0
+RunsPickOn os form pick max input left old new answer = RunsPick (strings os) (options_of os) form pick max input left old new answer
 
 -- what `names --help` writes
 abbrev pub help_text : List ℕ
-help_text = codes "names: lists of file names, escaped one a line, and back\n\nnames list   unix|windows|wasm [GLOB]  names ended by NUL in, the escape of each out, one a line;\n                                       with GLOB of those that it matches\nnames list   --sh unix [GLOB]          the same with words that every POSIX shell reads as the names\nnames list   --sh-line unix [GLOB]     the same, each on one line, for bash, zsh, ksh93, mksh and busybox\nnames filter unix|windows|wasm GLOB    names ended by NUL in, those that GLOB matches out, ended by NUL\nnames join   unix|windows|wasm         such lines in, names ended by NUL out\nnames join   --sh unix                 lines of words in, as such a shell reads them, names out\nnames join   .. --unterminated         the same, where the last line may lack its newline\nnames check  unix|windows|wasm         names ended by NUL in, nothing out: the status tells\nnames --help                           this text\nnames --max N ..                       one of these, for names of at most N bytes, not 1048576\n\nThe last name may lack its NUL. A last line without its newline is refused, since a list that was\ncut off ends with one. A line has at most six times as many bytes as a name,\na line of words four times and three more. With --sh a name with a newline has it in its word, and so\ntwo lines; join refuses what some shell would expand.\n\nGLOB matches a whole name, ./ and folders too, component by component: * is any run of symbols, ? one\nsymbol, [a-z] one of these and [!a-z] one of the others, none of them a separator; ** as a whole component\nis any number of components; {a,b} is a or b; \\ quotes the character after it. The separator is /. On\nwindows \\ is one as well, in GLOB too, where it quotes nothing. So **/*.rs matches ./src/a.rs, *.rs doesn't.\n\nStatus: 0, or 1 where a name or line is refused, 2 for other words or a GLOB that is refused, 3 where\nmemory is refused, 4 where a read or write fails. The first refused name is told with its number,\nfrom 1.\n"
+help_text = codes "names: lists of file names, escaped one a line, and back\n\nnames list   unix|windows|wasm [GLOB]  names ended by NUL in, the escape of each out, one a line;\n                                       with GLOB of those that it matches\nnames list   --sh unix [GLOB]          the same with words that every POSIX shell reads as the names\nnames list   --sh-line unix [GLOB]     the same, each on one line, for bash, zsh, ksh93, mksh and busybox\nnames filter unix|windows|wasm GLOB    names ended by NUL in, those that GLOB matches out, ended by NUL\nnames list|filter .. OPTIONS           the same for names that one of several patterns matches: OPTIONS are\n                                       --glob GLOB, once or more, in place of GLOB\nnames join   unix|windows|wasm         such lines in, names ended by NUL out\nnames join   --sh unix                 lines of words in, as such a shell reads them, names out\nnames join   .. --unterminated         the same, where the last line may lack its newline\nnames check  unix|windows|wasm         names ended by NUL in, nothing out: the status tells\nnames --help                           this text\nnames --max N ..                       one of these, for names of at most N bytes, not 1048576\n\nThe last name may lack its NUL. A last line without its newline is refused, since a list that was\ncut off ends with one. A line has at most six times as many bytes as a name,\na line of words four times and three more. With --sh a name with a newline has it in its word, and so\ntwo lines; join refuses what some shell would expand.\n\nGLOB matches a whole name, ./ and folders too, component by component: * is any run of symbols, ? one\nsymbol, [a-z] one of these and [!a-z] one of the others, none of them a separator; ** as a whole component\nis any number of components; {a,b} is a or b; \\ quotes the character after it. The separator is /. On\nwindows \\ is one as well, in GLOB too, where it quotes nothing. So **/*.rs matches ./src/a.rs, *.rs doesn't.\n\nStatus: 0, or 1 where a name or line is refused, 2 for other words or a GLOB that is refused, 3 where\nmemory is refused, 4 where a read or write fails. The first refused name is told with its number,\nfrom 1.\n"
+
+-- the answer of a run over all items, or over the names that are picked, in this form
+abbrev pub RunsNames : Os → Task → Form → Option Pick → ℕ → Option (List ℕ) → Option (List ℕ) → Option (List ℕ) → Option (List ℕ) → Result ⊤ Fault → Type 0
+RunsNames os what form None max input left old new answer = RunsTask os what max input left old new answer
+RunsNames os what form (Some pick) max input left old new answer = RunsPickOn os form pick max input left old new answer
 
 -- what the command does where a name may have `max` bytes
 abbrev pub Does : Command → ℕ → Option (List ℕ) → Option (List ℕ) → Option (List ℕ) → Option (List ℕ) → Result ⊤ Fault → Type 0
-Does (ListAll os) max input left old new answer = Runs (rules_of (strings os) (record { task = task.ListAll; max = max })) OfList input left old new answer
-Does (ListMatching os pattern) max input left old new answer = RunsPattern os Line pattern.now max input left old new answer
-Does (ListWords form) max input left old new answer = Runs (rules_of (strings Unix) (record { task = task.ListWords form; max = max })) OfList input left old new answer
-Does (ListWordsMatching form pattern) max input left old new answer = RunsPattern Unix (Word form) pattern.now max input left old new answer
-Does (Filter os pattern) max input left old new answer = RunsPattern os Name pattern.now max input left old new answer
-Does (Join os last) max input left old new answer = Runs (rules_of (strings os) (record { task = task.Join last; max = max })) OfList input left old new answer
-Does (JoinWords last) max input left old new answer = Runs (rules_of (strings Unix) (record { task = task.JoinWords last; max = max })) OfList input left old new answer
-Does (Check os) max input left old new answer = Runs (rules_of (strings os) (record { task = task.Check; max = max })) OfList input left old new answer
+Does (ListNames os pick) max input left old new answer = RunsNames os task.ListAll Line pick max input left old new answer
+Does (ListWords form pick) max input left old new answer = RunsNames Unix (task.ListWords form) (Word form) pick max input left old new answer
+Does (Filter os pick) max input left old new answer = RunsPickOn os Name pick max input left old new answer
+Does (Join os last) max input left old new answer = RunsTask os (task.Join last) max input left old new answer
+Does (JoinWords last) max input left old new answer = RunsTask Unix (task.JoinWords last) max input left old new answer
+Does (Check os) max input left old new answer = RunsTask os task.Check max input left old new answer
 Does Help max input left old new answer = WritesText help_text (OfList (Run Write)) old new answer
 
 -- the request that these words make is answered by this; words that make none are refused

@@ -1,12 +1,15 @@
 //! Commands, and the words that ask for them.
-ghost use Rattle.std.specs.Prelude.{◌≡◌, ◌≢◌, ◌∷◌, [], ℕ, IfOk, IfErr, OnErr, MatchOption, map, string_bytes};
+ghost use Rattle.std.specs.Prelude.{◌≡◌, ◌≢◌, ◌∷◌, [], ℕ, IfOk, OnErr, MatchOption, map, string_bytes};
 ghost use Rattle.program_frame.specs.Os.{os_word};
+ghost use Rattle.program_frame.specs.declared.os.Os.TheVariants.{Unix};
 ghost use Rattle.names_commands.specs.declared.command.Command.{Command};
 ghost use Rattle.names_commands.specs.declared.command.Request.{Request};
-ghost use Rattle.names_commands.specs.Command.{words_of, form_word, AsksFor, IsLimit, options_of};
+ghost use Rattle.names_commands.specs.declared.task.LastLine.{LastLine as DeclaredLast};
 ghost use Rattle.names_commands.specs.declared.task.WordForm.{WordForm as DeclaredForm};
+ghost use Rattle.names_commands.specs.Command.{words_of, form_word, last_words, AsksFor, IsLimit, options_of};
 
-use crate::fault::CommandFault;
+use crate::fault::Usage;
+use crate::pick::Pick;
 use crate::task::{LastLine, WordForm};
 use glob_patterns::{GlobOptions, Separators};
 use program_frame::os::Os;
@@ -30,7 +33,7 @@ impl<'a> Request<'a> {
     ///
     /// # Errors
     ///
-    /// [`CommandFault::Usage`] for all other words.
+    /// [`Usage`] for all other words.
     ///
     /// ```
     /// use names_commands::command::{Command, Request};
@@ -47,9 +50,8 @@ impl<'a> Request<'a> {
     /// assert!(rt; Request::parse(&words) == Ok(request));
     /// assert!(rt; Request::parse(&words[1..]).is_err());
     /// ```
-    pub fn parse(words: &'a [String]) -> Result<Request<'a>, CommandFault>
+    pub fn parse(words: &'a [String]) -> Result<Request<'a>, Usage>
         ensures request { IfOk result (λ request. AsksFor (map string_bytes words.now) request) }
-        ensures usage { IfErr result (λ fault. fault ≡ CommandFault.Usage) }
         ensures no_request { OnErr result ((request : Request)
             → ¬ (AsksFor (map string_bytes words.now) request)) }
     {
@@ -67,11 +69,10 @@ impl<'a> Request<'a> {
     }
 
     /// The request of the words of a command alone.
-    fn with_default(words: &'a [String]) -> Result<Request<'a>, CommandFault>
+    fn with_default(words: &'a [String]) -> Result<Request<'a>, Usage>
         ensures command { IfOk result
             (λ request. map string_bytes words.now ≡ words_of request.command) }
         ensures max { IfOk result (λ request. request.max ≡ 1048576) }
-        ensures usage { IfErr result (λ fault. fault ≡ CommandFault.Usage) }
         ensures no_command { OnErr result ((command : Command)
             → map string_bytes words.now ≢ words_of command) }
     {
@@ -84,32 +85,27 @@ impl<'a> Request<'a> {
 }
 
 /// The limit that a text says.
-fn limit(number: &str) -> Result<usize, CommandFault>
+fn limit(number: &str) -> Result<usize, Usage>
     ensures limit { IfOk result (λ max. IsLimit number.now max) }
-    ensures usage { IfErr result (λ fault. fault ≡ CommandFault.Usage) }
     ensures no_limit { OnErr result ((max : ℕ) → ¬ (IsLimit number.now max)) }
 {
     match number.parse::<usize>() {
         Ok(max) => Ok(max),
-        Err(_) => Err(CommandFault::Usage),
+        Err(_) => Err(Usage),
     }
 }
 
 /// What the program is asked to do.
 #[derive(Clone, Copy, PartialEq, Eq)]
 pub enum Command<'a> {
-    /// `list`: reads names, each ended by NUL, and writes the escape of each on a line.
-    ListAll(Os),
-    /// `list` with a pattern: the same for the names that the pattern matches.
-    ListMatching(Os, &'a str),
+    /// `list`: reads names, each ended by NUL, and writes the escape of each on a line, or of those
+    /// that are picked.
+    ListNames(Os, Option<Pick<'a>>),
     /// `list --sh` or `list --sh-line`: reads names of Unix, each ended by NUL, and writes the word of
-    /// each on a line, as a shell reads it.
-    ListWords(WordForm),
-    /// The same with a pattern, for the names that it matches.
-    ListWordsMatching(WordForm, &'a str),
-    /// `filter`: reads names, each ended by NUL, and writes those that the pattern matches, each
-    /// ended by NUL.
-    Filter(Os, &'a str),
+    /// each on a line, as a shell reads it, or of those that are picked.
+    ListWords(WordForm, Option<Pick<'a>>),
+    /// `filter`: reads names, each ended by NUL, and writes those that are picked, each ended by NUL.
+    Filter(Os, Pick<'a>),
     /// `join`: reads what `list` writes, and writes the names, each ended by NUL. With
     /// `--unterminated` the last line may lack its newline.
     Join(Os, LastLine),
@@ -128,153 +124,135 @@ impl<'a> Command<'a> {
     ///
     /// # Errors
     ///
-    /// [`CommandFault::Usage`] for all other words.
+    /// [`Usage`] for all other words.
     ///
     /// ```
     /// use names_commands::command::Command;
+    /// use names_commands::pick::Pick;
     /// use program_frame::os::Os;
     ///
     /// let mut words = Vec::new(alloc);
     /// for word in ["list", "unix", "*.rs"] {
     ///     words.push(String::from_str(alloc, word)?)?;
     /// }
-    /// assert!(rt; Command::parse(&words) == Ok(Command::ListMatching(Os::Unix, "*.rs")));
+    /// let command = Command::ListNames(Os::Unix, Some(Pick::Glob("*.rs")));
+    /// assert!(rt; Command::parse(&words) == Ok(command));
     /// assert!(rt; Command::parse(&words[..1]).is_err());
     /// ```
-    pub fn parse(words: &'a [String]) -> Result<Command<'a>, CommandFault>
+    pub fn parse(words: &'a [String]) -> Result<Command<'a>, Usage>
         ensures command { IfOk result (λ command. map string_bytes words.now ≡ words_of command) }
-        ensures usage { IfErr result (λ fault. fault ≡ CommandFault.Usage) }
         ensures no_command { OnErr result ((command : Command)
             → map string_bytes words.now ≢ words_of command) }
     {
         match words {
             [name] => match name.as_str() {
                 "--help" => Ok(Command::Help),
-                _ => Err(CommandFault::Usage),
+                _ => Err(Usage),
             },
-            [name, os] => {
-                let os = Os::named(os.as_str()).ok_or(CommandFault::Usage)?;
-                match name.as_str() {
-                    "list" => Ok(Command::ListAll(os)),
-                    "join" => Ok(Command::Join(os, LastLine::MustEnd)),
-                    "check" => Ok(Command::Check(os)),
-                    _ => Err(CommandFault::Usage),
-                }
-            }
-            [name, second, third] => {
-                Command::of_three(name.as_str(), second.as_str(), third.as_str())
-            }
-            [name, option, os, word] => {
-                Command::of_four(name.as_str(), option.as_str(), os.as_str(), word.as_str())
-            }
-            _ => Err(CommandFault::Usage),
+            [name, second, rest @ ..] => { Command::of_words(name.as_str(), second.as_str(), rest) }
+            [] => Err(Usage),
         }
     }
 
-    /// The command that three words ask for.
-    #[tactic(auto, using(crate::proofs::lemmas::NoCommand::no_three))]
-    fn of_three(name: &str, second: &str, third: &'a str) -> Result<Command<'a>, CommandFault>
-        ensures command { IfOk result
-            (λ command. name.now ∷ second.now ∷ third.now ∷ [] ≡ words_of command) }
-        ensures usage { IfErr result (λ fault. fault ≡ CommandFault.Usage) }
+    /// The command that a name, a second word and others ask for.
+    #[tactic(auto, using(crate::proofs::lemmas::NoCommand::no_second))]
+    fn of_words(name: &str, second: &str, rest: &'a [String]) -> Result<Command<'a>, Usage>
+        ensures command { IfOk result (λ command.
+            name.now ∷ second.now ∷ map string_bytes rest.now ≡ words_of command) }
         ensures no_command { OnErr result ((command : Command)
-            → name.now ∷ second.now ∷ third.now ∷ [] ≢ words_of command) }
+            → name.now ∷ second.now ∷ map string_bytes rest.now ≢ words_of command) }
     {
         if let Some(form) = WordForm::named(second) {
-            return Command::of_words(name, form, third);
+            return Command::about_words(name, form, rest);
         }
         match Os::named(second) {
-            Some(os) => Command::with_word(name, os, third),
-            None => Err(CommandFault::Usage),
+            Some(os) => Command::about_names(name, os, rest),
+            None => Err(Usage),
         }
     }
 
-    /// The command that four words ask for.
-    #[tactic(auto, using(crate::proofs::lemmas::NoCommand::no_four))]
-    fn of_four(
-        name: &str,
-        option: &str,
-        os: &str,
-        word: &'a str,
-    ) -> Result<Command<'a>, CommandFault>
-        ensures command { IfOk result
-            (λ command. name.now ∷ option.now ∷ os.now ∷ word.now ∷ [] ≡ words_of command) }
-        ensures usage { IfErr result (λ fault. fault ≡ CommandFault.Usage) }
+    /// The command that a name, a platform and other words ask for.
+    #[tactic(auto, using(crate::proofs::lemmas::NoCommand::some_pick))]
+    fn about_names(name: &str, os: Os, rest: &'a [String]) -> Result<Command<'a>, Usage>
+        ensures command { IfOk result (λ command.
+            name.now ∷ os_word os ∷ map string_bytes rest.now ≡ words_of command) }
         ensures no_command { OnErr result ((command : Command)
-            → name.now ∷ option.now ∷ os.now ∷ word.now ∷ [] ≢ words_of command) }
-    {
-        match WordForm::named(option) {
-            Some(form) => Command::of_words_with(name, form, os, word),
-            None => Err(CommandFault::Usage),
-        }
-    }
-
-    /// The command that a name, a platform and one more word ask for.
-    fn with_word(name: &str, os: Os, word: &'a str) -> Result<Command<'a>, CommandFault>
-        ensures command { IfOk result
-            (λ command. name.now ∷ os_word os ∷ word.now ∷ [] ≡ words_of command) }
-        ensures usage { IfErr result (λ fault. fault ≡ CommandFault.Usage) }
-        ensures no_command { OnErr result ((command : Command)
-            → name.now ∷ os_word os ∷ word.now ∷ [] ≢ words_of command) }
+            → name.now ∷ os_word os ∷ map string_bytes rest.now ≢ words_of command) }
     {
         match name {
-            "list" => Ok(Command::ListMatching(os, word)),
-            "filter" => Ok(Command::Filter(os, word)),
-            "join" => match word {
-                "--unterminated" => Ok(Command::Join(os, LastLine::MayLackEnd)),
-                _ => Err(CommandFault::Usage),
+            "list" => Ok(Command::ListNames(os, Pick::of(rest))),
+            "filter" => match Pick::of(rest) {
+                Some(pick) => Ok(Command::Filter(os, pick)),
+                None => Err(Usage),
             },
-            _ => Err(CommandFault::Usage),
+            "join" => match LastLine::of(rest) {
+                Some(last) => Ok(Command::Join(os, last)),
+                None => Err(Usage),
+            },
+            "check" => match rest {
+                [] => Ok(Command::Check(os)),
+                _ => Err(Usage),
+            },
+            _ => Err(Usage),
         }
     }
 
-    /// The command about words of a shell that a name, a form and a platform ask for.
-    fn of_words(name: &str, form: WordForm, os: &str) -> Result<Command<'a>, CommandFault>
-        ensures command { IfOk result
-            (λ command. name.now ∷ form_word form ∷ os.now ∷ [] ≡ words_of command) }
-        ensures usage { IfErr result (λ fault. fault ≡ CommandFault.Usage) }
+    /// The command about words of a shell that a name, a form and other words ask for.
+    fn about_words(name: &str, form: WordForm, rest: &'a [String]) -> Result<Command<'a>, Usage>
+        ensures command { IfOk result (λ command.
+            name.now ∷ form_word form ∷ map string_bytes rest.now ≡ words_of command) }
         ensures no_command { OnErr result ((command : Command)
-            → name.now ∷ form_word form ∷ os.now ∷ [] ≢ words_of command) }
+            → name.now ∷ form_word form ∷ map string_bytes rest.now ≢ words_of command) }
     {
-        match os {
-            "unix" => match name {
-                "list" => Ok(Command::ListWords(form)),
-                "join" => match form {
-                    WordForm::Posix => Ok(Command::JoinWords(LastLine::MustEnd)),
-                    WordForm::OneLine => Err(CommandFault::Usage),
-                },
-                _ => Err(CommandFault::Usage),
-            },
-            _ => Err(CommandFault::Usage),
+        let [os, rest @ ..] = rest else {
+            return Err(Usage);
+        };
+        match os.as_str() {
+            "unix" => Command::about_unix_words(name, form, rest),
+            _ => Err(Usage),
         }
     }
 
-    /// The same of one more word.
-    fn of_words_with(
+    /// The same of the words after the platform.
+    fn about_unix_words(
         name: &str,
         form: WordForm,
-        os: &str,
-        word: &'a str,
-    ) -> Result<Command<'a>, CommandFault>
+        rest: &'a [String],
+    ) -> Result<Command<'a>, Usage>
         ensures command { IfOk result (λ command.
-            name.now ∷ form_word form ∷ os.now ∷ word.now ∷ [] ≡ words_of command) }
-        ensures usage { IfErr result (λ fault. fault ≡ CommandFault.Usage) }
+            name.now ∷ form_word form ∷ os_word Unix ∷ map string_bytes rest.now ≡ words_of command) }
         ensures no_command { OnErr result ((command : Command)
-            → name.now ∷ form_word form ∷ os.now ∷ word.now ∷ [] ≢ words_of command) }
+            → name.now ∷ form_word form ∷ os_word Unix ∷ map string_bytes rest.now
+            ≢ words_of command) }
     {
-        match os {
-            "unix" => match name {
-                "list" => Ok(Command::ListWordsMatching(form, word)),
-                "join" => match form {
-                    WordForm::Posix => match word {
-                        "--unterminated" => Ok(Command::JoinWords(LastLine::MayLackEnd)),
-                        _ => Err(CommandFault::Usage),
-                    },
-                    WordForm::OneLine => Err(CommandFault::Usage),
+        match name {
+            "list" => Ok(Command::ListWords(form, Pick::of(rest))),
+            "join" => match form {
+                WordForm::Posix => match LastLine::of(rest) {
+                    Some(last) => Ok(Command::JoinWords(last)),
+                    None => Err(Usage),
                 },
-                _ => Err(CommandFault::Usage),
+                WordForm::OneLine => Err(Usage),
             },
-            _ => Err(CommandFault::Usage),
+            _ => Err(Usage),
+        }
+    }
+}
+
+impl LastLine {
+    /// Whether the last line may lack its newline, by the words after a platform.
+    fn of(words: &[String]) -> Option<LastLine>
+        ensures { MatchOption result
+            ((last : DeclaredLast) → map string_bytes words.now ≢ last_words last)
+            (λ last. map string_bytes words.now ≡ last_words last) }
+    {
+        match words {
+            [] => Some(LastLine::MustEnd),
+            [word] => match word.as_str() {
+                "--unterminated" => Some(LastLine::MayLackEnd),
+                _ => None,
+            },
+            _ => None,
         }
     }
 }

@@ -1,6 +1,6 @@
 //! What keeps the program from its output.
 
-use glob_patterns::{GlobError, PatternFault};
+use glob_patterns::{GlobError, GlobSetError, PatternFault};
 use os_command_line::shell::WordsFault;
 use os_quote::QuoteError;
 use os_str_bytes::EncodingError;
@@ -25,6 +25,10 @@ pub enum Refusal {
     BadWords(WordsFault),
 }
 
+/// The words ask for no command.
+#[derive(Clone, Copy, PartialEq, Eq)]
+pub struct Usage;
+
 /// Why the words are refused.
 #[derive(Clone, Copy, PartialEq, Eq)]
 pub enum CommandFault {
@@ -32,6 +36,9 @@ pub enum CommandFault {
     Usage,
     /// The pattern is refused: its first fault.
     Pattern(PatternFault),
+    /// Of the patterns of options the one with this number, counted from 1, is the first that is
+    /// refused: its first fault.
+    Numbered(usize, PatternFault),
 }
 
 /// The reason why a run of the program ended before its input did.
@@ -75,12 +82,13 @@ impl WordsRefusal for CommandFault {
     fn write<W: fmt::Write>(&self, f: &mut fmt::Formatter<W>) -> fmt::Result {
         match *self {
             CommandFault::Usage => f.write_str(
-                "usage: names [--max N] list|filter|join|check unix|windows|wasm [GLOB], list|join --sh unix; names --help tells more",
+                "usage: names [--max N] list|filter|join|check unix|windows|wasm [GLOB|OPTIONS], list|join --sh unix; names --help tells more",
             ),
             CommandFault::Pattern(why) => {
                 f.write_str("pattern: ")?;
                 GlobError::Pattern(why).fmt(f)
             }
+            CommandFault::Numbered(number, why) => GlobSetError::Pattern(number, why).fmt(f),
         }
     }
 }

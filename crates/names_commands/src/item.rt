@@ -9,13 +9,13 @@ ghost use Rattle.names_commands.specs.declared.fault.Refusal.TheVariants.{NoStri
 ghost use Rattle.names_commands.specs.declared.task.Task.TheVariants.{Join};
 ghost use Rattle.names_commands.specs.declared.task.LastLine.{LastLine};
 ghost use Rattle.names_commands.specs.Task.{longest_item, rules_of, IsText};
-ghost use Rattle.names_commands.specs.Matching.{picking, IsTextOfPicked, IsMatchedBy};
+ghost use Rattle.names_commands.specs.Matching.{matching, IsTextOfMatched};
 
 use crate::fault::Refusal;
 use crate::matching::Form;
 use crate::task::{Settings, Task};
 use crate::words::{write_names, write_word};
-use glob_patterns::Glob;
+use glob_patterns::GlobSet;
 use os_quote::{QuoteError, unescape_line};
 use os_str_bytes::{OsStr, Platform, Wasm};
 use program_frame::lists::fault::ItemFault;
@@ -56,24 +56,24 @@ pub fn write_item<E: Platform, A: Allocator + Copy>(
     }
 }
 
-/// Appends what is written for a name, where a pattern picks names.
+/// Appends what is written for a name, where patterns pick names.
 pub fn write_matching<E: Platform, A: Allocator, B: Allocator>(
     alloc: A,
-    glob: &Glob<E, B>,
+    globs: &GlobSet<E, B>,
     form: Form,
     item: &[u8],
     output: &mut Vec<u8, A>,
 ) -> Result<(), ItemFault<Refusal>>
     ensures ok { OnOk result ((text : List ℕ)
-        × (IsTextOfPicked ⟦<E as Platform>⟧ form (IsMatchedBy ⟦<E as Platform>⟧ glob.now) item.now text
+        × (IsTextOfMatched ⟦<E as Platform>⟧ form globs.now item.now text
         × (output.new.items ≡ output.old.items ++ text))) }
-    ensures fault { (max : ℕ) → IfErr result (λ fault. IsItemFault (picking ⟦<E as Platform>⟧ form
-        max (IsMatchedBy ⟦<E as Platform>⟧ glob.now)) item.now fault) }
+    ensures fault { (max : ℕ) → IfErr result (λ fault. IsItemFault
+        (matching ⟦<E as Platform>⟧ form max globs.now) item.now fault) }
     ensures unchanged { OnErr result (output.new.items ≡ output.old.items) }
 {
     match named::<E>(item) {
         Ok(name) => {
-            if !glob.is_match(name) {
+            if !globs.is_match(name) {
                 return Ok(());
             }
             match form {

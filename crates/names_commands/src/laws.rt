@@ -17,26 +17,32 @@ use os_str_bytes::Platform;
 pub fn names_come_back<E: Platform>()
     ensures some { (last : LastLine) → (max : ℕ) → (names : List ℕ) → (lines : List ℕ)
         → IsOutput (rules_of ⟦<E as Platform>⟧ (listing max)) names lines → (suffix : List ℕ)
-        × (IsOutput (rules_of ⟦<E as Platform>⟧ (joining last max)) lines suffix × IsCompleted names suffix) }
+        × (IsOutput (rules_of ⟦<E as Platform>⟧ (joining last max)) lines suffix
+        × IsCompleted names suffix) }
     ensures same { (last : LastLine) → (max : ℕ) → (other : ℕ) → (names : List ℕ) → (lines : List ℕ)
         → (suffix : List ℕ) → IsOutput (rules_of ⟦<E as Platform>⟧ (listing max)) names lines
-        → IsOutput (rules_of ⟦<E as Platform>⟧ (joining last other)) lines suffix → IsCompleted names suffix }
+        → IsOutput (rules_of ⟦<E as Platform>⟧ (joining last other)) lines suffix
+        → IsCompleted names suffix }
     ensures cut { (max : ℕ) → (other : ℕ) → (names : List ℕ) → (lines : List ℕ)
         → (prefix : List ℕ) → (rest : List ℕ) → (suffix : List ℕ)
         → IsOutput (rules_of ⟦<E as Platform>⟧ (listing max)) names lines → lines ≡ prefix ++ rest
-        → IsOutput (rules_of ⟦<E as Platform>⟧ (joining MustEnd other)) prefix suffix → AreFirst names suffix }
+        → IsOutput (rules_of ⟦<E as Platform>⟧ (joining MustEnd other)) prefix suffix
+        → AreFirst names suffix }
 {}
 
 /// The same of names of Unix whose words are on one line each.
 pub fn names_come_back_from_words()
     ensures some { (last : LastLine) → (max : ℕ) → (names : List ℕ) → (lines : List ℕ)
         → IsOutput (rules_of (strings Unix) (listing_words max)) names lines → (suffix : List ℕ)
-        × (IsOutput (rules_of (strings Unix) (joining_words last max)) lines suffix × IsCompleted names suffix) }
+        × (IsOutput (rules_of (strings Unix) (joining_words last max)) lines suffix
+        × IsCompleted names suffix) }
     ensures same { (last : LastLine) → (max : ℕ) → (other : ℕ) → (names : List ℕ) → (lines : List ℕ)
         → (suffix : List ℕ) → IsOutput (rules_of (strings Unix) (listing_words max)) names lines
-        → IsOutput (rules_of (strings Unix) (joining_words last other)) lines suffix → IsCompleted names suffix }
+        → IsOutput (rules_of (strings Unix) (joining_words last other)) lines suffix
+        → IsCompleted names suffix }
     ensures cut { (max : ℕ) → (other : ℕ) → (names : List ℕ) → (lines : List ℕ)
         → (prefix : List ℕ) → (rest : List ℕ) → (suffix : List ℕ)
         → IsOutput (rules_of (strings Unix) (listing_words max)) names lines → lines ≡ prefix ++ rest
-        → IsOutput (rules_of (strings Unix) (joining_words MustEnd other)) prefix suffix → AreFirst names suffix }
+        → IsOutput (rules_of (strings Unix) (joining_words MustEnd other)) prefix suffix
+        → AreFirst names suffix }
 {}

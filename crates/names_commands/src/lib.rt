@@ -19,6 +19,7 @@ pub mod fault;
 mod item;
 pub mod laws;
 pub mod matching;
+pub mod pick;
 pub mod program;
 pub mod task;
 mod words;

@@ -1,21 +1,19 @@
 //! The whole program, over ends of any kind.
-ghost use Rattle.std.specs.Prelude.{◌≡◌, ◌↔◌, true, false, Err};
+ghost use Rattle.std.specs.Prelude.{◌≡◌, ◌↔◌, ◌⊎◌, ◌<◌, ◌+◌, ◌^◌, map, true, false, Err};
+ghost use Rattle.os_str_bytes.specs.Strings.{bytes};
 ghost use Rattle.program_frame.specs.Marked.{marked_inner, has_failed};
-ghost use Rattle.program_frame.specs.Strings.{strings};
 ghost use Rattle.program_frame.specs.declared.fault.Failure.{Failure};
 ghost use Rattle.program_frame.specs.declared.lists.fault.ListFault.{ListFault};
 ghost use Rattle.program_frame.specs.declared.lists.program_fault.Fault.{Fault};
-ghost use Rattle.program_frame.specs.declared.lists.program_fault.Fault.TheVariants.{List as OfList};
-ghost use Rattle.program_frame.specs.ListRun.{Runs};
-ghost use Rattle.names_commands.specs.Program.{Does, RunsMatching, RunsPattern};
-ghost use Rattle.names_commands.specs.Task.{rules_of};
+ghost use Rattle.names_commands.specs.Program.{Does, IsOutOfMemory, RunsNames, RunsPatterns, RunsPick, RunsPickOn, RunsTask, fault_of};
 
 use crate::command::{Command, Request, options_of};
 use crate::fault::{CommandFault, Fault, Refusal};
 use crate::matching::{Form, Matching};
+use crate::pick::Pick;
 use crate::task::{OnPlatform, Settings, Task};
-use glob_patterns::{Glob, GlobError, GlobOptions};
-use os_str_bytes::{Platform, Unix, Wasm, Windows};
+use glob_patterns::{GlobOptions, GlobSet, GlobSetError, PatternFault};
+use os_str_bytes::{OsStr, Platform, Unix, Wasm, Windows};
 use program_frame::fault::Failure;
 use program_frame::lists::fault::ListFault;
 use program_frame::lists::program::{ListProgram, run_list, write_help};
@@ -70,148 +68,177 @@ fn run_command<A: Allocator, R: Read, W: Write>(
     ensures run { Does command.entry max (R.remaining (marked_inner reader.old))
         (R.remaining (marked_inner reader.new)) (W.contents (marked_inner writer.old))
         (W.contents (marked_inner writer.new)) result }
-    ensures read { (result ≡ Err (Fault.List (ListFault.Run Failure.Read))) ↔ (has_failed reader.new ≡ true) }
-    ensures write { (result ≡ Err (Fault.List (ListFault.Run Failure.Write))) ↔ (has_failed writer.new ≡ true) }
+    ensures read { (result ≡ Err (Fault.List (ListFault.Run Failure.Read)))
+        ↔ (has_failed reader.new ≡ true) }
+    ensures write { (result ≡ Err (Fault.List (ListFault.Run Failure.Write)))
+        ↔ (has_failed writer.new ≡ true) }
 {
     match command {
-        Command::ListAll(os) => {
-            run_on(
+        Command::ListNames(os, pick) => {
+            run_names(
                 alloc,
                 os,
-                Settings {
-                    task: Task::ListAll,
-                    max,
-                },
-                reader,
-                writer,
-            )
-        }
-        Command::ListMatching(os, pattern) => {
-            run_pattern(alloc, os, Form::Line, pattern, max, reader, writer)
-        }
-        Command::Filter(os, pattern) => {
-            run_pattern(alloc, os, Form::Name, pattern, max, reader, writer)
-        }
-        Command::Join(os, last) => {
-            run_on(
-                alloc,
-                os,
-                Settings {
-                    task: Task::Join(last),
-                    max,
-                },
-                reader,
-                writer,
-            )
-        }
-        Command::Check(os) => {
-            run_on(
-                alloc,
-                os,
-                Settings {
-                    task: Task::Check,
-                    max,
-                },
-                reader,
-                writer,
-            )
-        }
-        Command::ListWords(form) => {
-            run_on(
-                alloc,
-                Os::Unix,
-                Settings {
-                    task: Task::ListWords(form),
-                    max,
-                },
-                reader,
-                writer,
-            )
-        }
-        Command::ListWordsMatching(form, pattern) => {
-            run_pattern(
-                alloc,
-                Os::Unix,
-                Form::Word(form),
-                pattern,
+                Task::ListAll,
+                Form::Line,
+                pick,
                 max,
                 reader,
                 writer,
             )
         }
-        Command::JoinWords(last) => {
-            run_on(
+        Command::ListWords(form, pick) => {
+            let task = Task::ListWords(form);
+            run_names(
                 alloc,
                 Os::Unix,
-                Settings {
-                    task: Task::JoinWords(last),
-                    max,
-                },
+                task,
+                Form::Word(form),
+                pick,
+                max,
                 reader,
                 writer,
             )
         }
+        Command::Filter(os, pick) => { run_pick(alloc, os, Form::Name, pick, max, reader, writer) }
+        Command::Join(os, last) => run_on(alloc, os, Task::Join(last), max, reader, writer),
+        Command::JoinWords(last) => {
+            run_on(alloc, Os::Unix, Task::JoinWords(last), max, reader, writer)
+        }
+        Command::Check(os) => run_on(alloc, os, Task::Check, max, reader, writer),
         Command::Help => write_help(
-            "names: lists of file names, escaped one a line, and back\n\nnames list   unix|windows|wasm [GLOB]  names ended by NUL in, the escape of each out, one a line;\n                                       with GLOB of those that it matches\nnames list   --sh unix [GLOB]          the same with words that every POSIX shell reads as the names\nnames list   --sh-line unix [GLOB]     the same, each on one line, for bash, zsh, ksh93, mksh and busybox\nnames filter unix|windows|wasm GLOB    names ended by NUL in, those that GLOB matches out, ended by NUL\nnames join   unix|windows|wasm         such lines in, names ended by NUL out\nnames join   --sh unix                 lines of words in, as such a shell reads them, names out\nnames join   .. --unterminated         the same, where the last line may lack its newline\nnames check  unix|windows|wasm         names ended by NUL in, nothing out: the status tells\nnames --help                           this text\nnames --max N ..                       one of these, for names of at most N bytes, not 1048576\n\nThe last name may lack its NUL. A last line without its newline is refused, since a list that was\ncut off ends with one. A line has at most six times as many bytes as a name,\na line of words four times and three more. With --sh a name with a newline has it in its word, and so\ntwo lines; join refuses what some shell would expand.\n\nGLOB matches a whole name, ./ and folders too, component by component: * is any run of symbols, ? one\nsymbol, [a-z] one of these and [!a-z] one of the others, none of them a separator; ** as a whole component\nis any number of components; {a,b} is a or b; \\ quotes the character after it. The separator is /. On\nwindows \\ is one as well, in GLOB too, where it quotes nothing. So **/*.rs matches ./src/a.rs, *.rs doesn't.\n\nStatus: 0, or 1 where a name or line is refused, 2 for other words or a GLOB that is refused, 3 where\nmemory is refused, 4 where a read or write fails. The first refused name is told with its number,\nfrom 1.\n",
+            "names: lists of file names, escaped one a line, and back\n\nnames list   unix|windows|wasm [GLOB]  names ended by NUL in, the escape of each out, one a line;\n                                       with GLOB of those that it matches\nnames list   --sh unix [GLOB]          the same with words that every POSIX shell reads as the names\nnames list   --sh-line unix [GLOB]     the same, each on one line, for bash, zsh, ksh93, mksh and busybox\nnames filter unix|windows|wasm GLOB    names ended by NUL in, those that GLOB matches out, ended by NUL\nnames list|filter .. OPTIONS           the same for names that one of several patterns matches: OPTIONS are\n                                       --glob GLOB, once or more, in place of GLOB\nnames join   unix|windows|wasm         such lines in, names ended by NUL out\nnames join   --sh unix                 lines of words in, as such a shell reads them, names out\nnames join   .. --unterminated         the same, where the last line may lack its newline\nnames check  unix|windows|wasm         names ended by NUL in, nothing out: the status tells\nnames --help                           this text\nnames --max N ..                       one of these, for names of at most N bytes, not 1048576\n\nThe last name may lack its NUL. A last line without its newline is refused, since a list that was\ncut off ends with one. A line has at most six times as many bytes as a name,\na line of words four times and three more. With --sh a name with a newline has it in its word, and so\ntwo lines; join refuses what some shell would expand.\n\nGLOB matches a whole name, ./ and folders too, component by component: * is any run of symbols, ? one\nsymbol, [a-z] one of these and [!a-z] one of the others, none of them a separator; ** as a whole component\nis any number of components; {a,b} is a or b; \\ quotes the character after it. The separator is /. On\nwindows \\ is one as well, in GLOB too, where it quotes nothing. So **/*.rs matches ./src/a.rs, *.rs doesn't.\n\nStatus: 0, or 1 where a name or line is refused, 2 for other words or a GLOB that is refused, 3 where\nmemory is refused, 4 where a read or write fails. The first refused name is told with its number,\nfrom 1.\n",
             writer,
         ),
     }
 }
 
-/// The answer to a pattern on a platform.
-fn run_pattern<A: Allocator, R: Read, W: Write>(
+/// The answer of the run over all items, or over the names that are picked, in this form.
+fn run_names<A: Allocator, R: Read, W: Write>(
     alloc: A,
     os: Os,
+    task: Task,
     form: Form,
-    pattern: &str,
+    pick: Option<Pick<'_>>,
     max: usize,
     reader: &mut Marked<R>,
     writer: &mut Marked<W>,
 ) -> Result<(), Fault>
     requires reader_unmarked { has_failed reader.old ≡ false }
     requires writer_unmarked { has_failed writer.old ≡ false }
-    ensures run { RunsPattern os form pattern.now max (R.remaining (marked_inner reader.old))
+    ensures run { RunsNames os task form pick.entry max (R.remaining (marked_inner reader.old))
         (R.remaining (marked_inner reader.new)) (W.contents (marked_inner writer.old))
         (W.contents (marked_inner writer.new)) result }
-    ensures read { (result ≡ Err (Fault.List (ListFault.Run Failure.Read))) ↔ (has_failed reader.new ≡ true) }
-    ensures write { (result ≡ Err (Fault.List (ListFault.Run Failure.Write))) ↔ (has_failed writer.new ≡ true) }
+    ensures read { (result ≡ Err (Fault.List (ListFault.Run Failure.Read)))
+        ↔ (has_failed reader.new ≡ true) }
+    ensures write { (result ≡ Err (Fault.List (ListFault.Run Failure.Write)))
+        ↔ (has_failed writer.new ≡ true) }
 {
-    let options = options_of(os);
-    match os {
-        Os::Unix => {
-            run_matching::<Unix, A, R, W>(alloc, options, form, pattern, max, reader, writer)
-        }
-        Os::Windows => {
-            run_matching::<Windows, A, R, W>(alloc, options, form, pattern, max, reader, writer)
-        }
-        Os::Wasm => {
-            run_matching::<Wasm, A, R, W>(alloc, options, form, pattern, max, reader, writer)
-        }
+    match pick {
+        None => run_on(alloc, os, task, max, reader, writer),
+        Some(pick) => run_pick(alloc, os, form, pick, max, reader, writer),
     }
 }
 
-/// The answer to a pattern, which is compiled once.
-fn run_matching<E: Platform, A: Allocator, R: Read, W: Write>(
+/// The answer to what picks names on a platform.
+fn run_pick<A: Allocator, R: Read, W: Write>(
     alloc: A,
-    options: GlobOptions,
+    os: Os,
     form: Form,
-    pattern: &str,
+    pick: Pick<'_>,
     max: usize,
     reader: &mut Marked<R>,
     writer: &mut Marked<W>,
 ) -> Result<(), Fault>
     requires reader_unmarked { has_failed reader.old ≡ false }
     requires writer_unmarked { has_failed writer.old ≡ false }
-    ensures run { RunsMatching ⟦<E as Platform>⟧ options form pattern.now max
+    ensures run { RunsPickOn os form pick.entry max (R.remaining (marked_inner reader.old))
+        (R.remaining (marked_inner reader.new)) (W.contents (marked_inner writer.old))
+        (W.contents (marked_inner writer.new)) result }
+    ensures read { (result ≡ Err (Fault.List (ListFault.Run Failure.Read)))
+        ↔ (has_failed reader.new ≡ true) }
+    ensures write { (result ≡ Err (Fault.List (ListFault.Run Failure.Write)))
+        ↔ (has_failed writer.new ≡ true) }
+{
+    let options = options_of(os);
+    match os {
+        Os::Unix => { run_picked::<Unix, A, R, W>(alloc, options, form, pick, max, reader, writer) }
+        Os::Windows => {
+            run_picked::<Windows, A, R, W>(alloc, options, form, pick, max, reader, writer)
+        }
+        Os::Wasm => { run_picked::<Wasm, A, R, W>(alloc, options, form, pick, max, reader, writer) }
+    }
+}
+
+/// The same on a platform that is a type.
+fn run_picked<E: Platform, A: Allocator, R: Read, W: Write>(
+    alloc: A,
+    options: GlobOptions,
+    form: Form,
+    pick: Pick<'_>,
+    max: usize,
+    reader: &mut Marked<R>,
+    writer: &mut Marked<W>,
+) -> Result<(), Fault>
+    requires reader_unmarked { has_failed reader.old ≡ false }
+    requires writer_unmarked { has_failed writer.old ≡ false }
+    ensures run { RunsPick ⟦<E as Platform>⟧ options form pick.entry max
         (R.remaining (marked_inner reader.old)) (R.remaining (marked_inner reader.new))
         (W.contents (marked_inner writer.old)) (W.contents (marked_inner writer.new)) result }
-    ensures read { (result ≡ Err (Fault.List (ListFault.Run Failure.Read))) ↔ (has_failed reader.new ≡ true) }
-    ensures write { (result ≡ Err (Fault.List (ListFault.Run Failure.Write))) ↔ (has_failed writer.new ≡ true) }
+    ensures read { (result ≡ Err (Fault.List (ListFault.Run Failure.Read)))
+        ↔ (has_failed reader.new ≡ true) }
+    ensures write { (result ≡ Err (Fault.List (ListFault.Run Failure.Write)))
+        ↔ (has_failed writer.new ≡ true) }
 {
-    match Glob::<E, &A>::new(&alloc, options, pattern) {
-        Ok(glob) => run_list(&alloc, &Matching::new(&glob, form, max), reader, writer),
-        Err(GlobError::Pattern(fault)) => Err(Fault::Words(CommandFault::Pattern(fault))),
-        Err(GlobError::Memory) => Err(Fault::List(ListFault::Run(Failure::Memory))),
+    match pick.patterns::<E, &A>(&alloc) {
+        Ok(Some(globs)) => {
+            run_patterns::<E, &A, R, W>(&alloc, options, form, pick, &globs, max, reader, writer)
+        }
+        Ok(None) => Err(Fault::Words(CommandFault::Usage)),
+        Err(_) => Err(Fault::List(ListFault::Run(Failure::Memory))),
+    }
+}
+
+/// The answer to patterns, which are compiled once.
+fn run_patterns<E: Platform, A: Allocator + Copy, R: Read, W: Write>(
+    alloc: A,
+    options: GlobOptions,
+    form: Form,
+    pick: Pick<'_>,
+    globs: &[OsStr<'_, E>],
+    max: usize,
+    reader: &mut Marked<R>,
+    writer: &mut Marked<W>,
+) -> Result<(), Fault>
+    requires reader_unmarked { has_failed reader.old ≡ false }
+    requires writer_unmarked { has_failed writer.old ≡ false }
+    ensures run { IsOutOfMemory result (R.remaining (marked_inner reader.old))
+        (R.remaining (marked_inner reader.new)) (W.contents (marked_inner writer.old))
+        (W.contents (marked_inner writer.new))
+        ⊎ RunsPatterns ⟦<E as Platform>⟧ options form pick.entry max (map bytes globs.now)
+        (R.remaining (marked_inner reader.old)) (R.remaining (marked_inner reader.new))
+        (W.contents (marked_inner writer.old)) (W.contents (marked_inner writer.new)) result }
+    ensures read { (result ≡ Err (Fault.List (ListFault.Run Failure.Read)))
+        ↔ (has_failed reader.new ≡ true) }
+    ensures write { (result ≡ Err (Fault.List (ListFault.Run Failure.Write)))
+        ↔ (has_failed writer.new ≡ true) }
+{
+    match GlobSet::<E, A>::new(alloc, options, globs) {
+        Ok(set) => run_list(alloc, &Matching::new(&set, form, max), reader, writer),
+        Err(GlobSetError::Pattern(index, fault)) => {
+            Err(Fault::Words(fault_of(pick, index, fault)))
+        }
+        Err(GlobSetError::Memory) => Err(Fault::List(ListFault::Run(Failure::Memory))),
+    }
+}
+
+/// The fault of the pattern that comes after so many others.
+fn fault_of(pick: Pick<'_>, index: usize, fault: PatternFault) -> CommandFault
+    requires { index + 1 < 2 ^ 64 }
+    ensures { result ≡ fault_of pick.entry index fault }
+{
+    match pick {
+        Pick::Glob(_) => CommandFault::Pattern(fault),
+        Pick::Options(_, _, _) => CommandFault::Numbered(index + 1, fault),
     }
 }
 
@@ -219,18 +246,22 @@ fn run_matching<E: Platform, A: Allocator, R: Read, W: Write>(
 fn run_on<A: Allocator, R: Read, W: Write>(
     alloc: A,
     os: Os,
-    settings: Settings,
+    task: Task,
+    max: usize,
     reader: &mut Marked<R>,
     writer: &mut Marked<W>,
 ) -> Result<(), Fault>
     requires reader_unmarked { has_failed reader.old ≡ false }
     requires writer_unmarked { has_failed writer.old ≡ false }
-    ensures run { Runs (rules_of (strings os) settings) OfList (R.remaining (marked_inner reader.old))
+    ensures run { RunsTask os task max (R.remaining (marked_inner reader.old))
         (R.remaining (marked_inner reader.new)) (W.contents (marked_inner writer.old))
         (W.contents (marked_inner writer.new)) result }
-    ensures read { (result ≡ Err (Fault.List (ListFault.Run Failure.Read))) ↔ (has_failed reader.new ≡ true) }
-    ensures write { (result ≡ Err (Fault.List (ListFault.Run Failure.Write))) ↔ (has_failed writer.new ≡ true) }
+    ensures read { (result ≡ Err (Fault.List (ListFault.Run Failure.Read)))
+        ↔ (has_failed reader.new ≡ true) }
+    ensures write { (result ≡ Err (Fault.List (ListFault.Run Failure.Write)))
+        ↔ (has_failed writer.new ≡ true) }
 {
+    let settings = Settings { task, max };
     match os {
         Os::Unix => run_list(alloc, &OnPlatform::<Unix>::new(settings), reader, writer),
         Os::Windows => run_list(alloc, &OnPlatform::<Windows>::new(settings), reader, writer),

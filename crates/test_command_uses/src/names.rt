@@ -18,9 +18,9 @@ ghost use Rattle.names_commands.specs.declared.command.Request.{Request};
 ghost use Rattle.names_commands.specs.declared.fault.Refusal.{Refusal};
 ghost use Rattle.names_commands.specs.declared.fault.Refusal.TheVariants.{NoString};
 
-use glob_patterns::Glob;
+use glob_patterns::GlobSet;
 use names_commands::command::Request;
-use names_commands::fault::{CommandFault, Refusal};
+use names_commands::fault::{Refusal, Usage};
 use names_commands::laws::{names_come_back, names_come_back_from_words};
 use names_commands::matching::{Form, Matching};
 use names_commands::task::{LastLine, OnPlatform, Settings, Task, WordForm};
@@ -32,14 +32,14 @@ use std::alloc::Allocator;
 use std::io::Write;
 
 /// The request of two words, whose limit is the one that holds where no word says another.
-pub fn request_of_two(words: &[String]) -> Result<Request<'_>, CommandFault>
+pub fn request_of_two(words: &[String]) -> Result<Request<'_>, Usage>
     ensures { IfOk result (λ request. length words.now ≡ 2 → request.max ≡ 0x10_0000) }
 {
     Request::parse(words)
 }
 
 /// The request that words make.
-pub fn known_request(words: &[String]) -> Result<Request<'_>, CommandFault>
+pub fn known_request(words: &[String]) -> Result<Request<'_>, Usage>
     ensures { (request : Request) → AsksFor (map string_bytes words.now) request → IsOk result }
 {
     Request::parse(words)
@@ -200,7 +200,7 @@ pub fn unended_line<E: Platform, A: Allocator, W: Write>(
 pub fn filtered<E: Platform, A: Allocator, B: Allocator, W: Write>(
     alloc: A,
     max: usize,
-    glob: &Glob<E, B>,
+    globs: &GlobSet<E, B>,
     name: &[u8],
     writer: &mut Marked<W>,
 ) -> Result<(), ListFault<Refusal>>
@@ -208,15 +208,15 @@ pub fn filtered<E: Platform, A: Allocator, B: Allocator, W: Write>(
     requires some { name.now ≢ [] }
     requires unmarked { has_failed writer.old ≡ false }
     ensures { OnOk result ((text : List ℕ)
-        × (((IsMatchedBy ⟦<E as Platform>⟧ glob.now name.now × (text ≡ name.now ++ 0 ∷ []))
-        ⊎ ((¬ (IsMatchedBy ⟦<E as Platform>⟧ glob.now name.now)) × (text ≡ [])))
+        × (((IsMatchedBy ⟦<E as Platform>⟧ globs.now name.now × (text ≡ name.now ++ 0 ∷ []))
+        ⊎ ((¬ (IsMatchedBy ⟦<E as Platform>⟧ globs.now name.now)) × (text ≡ [])))
         × Appends (W.contents (marked_inner writer.old)) (W.contents (marked_inner writer.new))
         text)) }
 {
     let mut reader = Marked::new(name);
     run(
         alloc,
-        &Matching::new(glob, Form::Name, max),
+        &Matching::new(globs, Form::Name, max),
         &mut reader,
         writer,
     )

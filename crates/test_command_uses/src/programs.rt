@@ -126,7 +126,7 @@ pub fn names_without_arguments<P: Eprint, A: Allocator, R: Read, W: Output, E: M
     requires reader_unmarked { has_failed reader.old ≡ false }
     requires writer_unmarked { has_failed writer.old ≡ false }
     ensures told { result.0 ≡ true → Appends (E.contents errors.old) (E.contents errors.new)
-        (codes "names: usage: names [--max N] list|filter|join|check unix|windows|wasm [GLOB], list|join --sh unix; names --help tells more\n") }
+        (codes "names: usage: names [--max N] list|filter|join|check unix|windows|wasm [GLOB|OPTIONS], list|join --sh unix; names --help tells more\n") }
     ensures status { exit_status result.1 ≡ 2 }
 {
     let arguments = Err(io::Error::from(ErrorKind::InvalidInput));

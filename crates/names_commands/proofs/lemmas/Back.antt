@@ -1,19 +1,11 @@
 -- What `join` makes of the lines that `list` makes of names, escapes or words.
-use Rattle.std.proofs.Common.{◌≡◌, ◌≢◌, ◌⊎◌, ⊎_elim, inl, inr, ℕ, ◌*◌, ◌≤◌, List, [], ◌∷◌, ◌++◌, length, drop, get_or, refl, sym, ap, ◌∙◌, subst, arith, append_assoc, append-nil, length-append}
+use Rattle.std.proofs.Common.{◌≡◌, ◌≢◌, ◌⊎◌, ⊎_elim, inl, inr, ℕ, List, [], ◌∷◌, ◌++◌, length, drop, get_or, refl, sym, ap, ◌∙◌, subst, arith, append_assoc, append-nil, length-append}
 use Rattle.std.proofs.lemmas.Grind.{flat_map-append}
 use Rattle.std.specs.List.{AllByRecursion}
-use Rattle.os_str_bytes.specs.Platform.{Ghosts}
-use Rattle.os_quote.specs.Escape.{IsLineEscape}
 use Rattle.program_frame.specs.Items.{Entry, Lacks, IsLastUnended, ended, items_of, texts_of}
 use Rattle.names_commands.specs.declared.task.LastLine.{LastLine}
-use Rattle.names_commands.specs.declared.task.LastLine.TheVariants.{MustEnd}
-use Rattle.names_commands.specs.declared.task.Task.TheVariants.{Join}
-use Rattle.program_frame.specs.Rules.{AreIn, IsEntry}
-use Rattle.names_commands.specs.Task.{TakesUnended, rules_of}
-use Rattle.program_frame.specs.ListRun.{IsOutput}
-use Rattle.names_commands.specs.Back.{listing, joining, AreFirst, EndsWithNul, IsCompleted}
+use Rattle.names_commands.specs.Back.{AreFirst, EndsWithNul, IsCompleted}
 use Rattle.program_frame.proofs.lemmas.lists.Items.{end_in}
-use Rattle.names_commands.proofs.lemmas.Lines.{AreLines}
 use Rattle.program_frame.proofs.lemmas.lists.Reading.{more_items}
 
 head : (x y : ℕ) (xs ys : List ℕ) → x ∷ xs ≡ y ∷ ys → x ≡ y

@@ -1,5 +1,5 @@
 -- A run over the names that are picked, where two conditions pick the same names.
-use Rattle.std.proofs.Common.{◌≡◌, ◌↔◌, ⊎_elim, inl, inr, ℕ, List, [], ◌∷◌, Option, Some, None, sym, subst}
+use Rattle.std.proofs.Common.{◌≡◌, ◌↔◌, ⊎_elim, inl, inr, ℕ, zero, suc, List, [], ◌∷◌, Option, Some, None, refl, sym, subst, arith}
 use Rattle.std.specs.Prelude.{Result, Ok, Err, ⊤}
 use Rattle.std.specs.List.{AllByRecursion}
 use Rattle.os_str_bytes.specs.Platform.{Ghosts}
@@ -13,14 +13,22 @@ use Rattle.names_commands.specs.declared.fault.Refusal.{Refusal}
 use Rattle.names_commands.specs.declared.matching.Form.{Form}
 use Rattle.glob_patterns.specs.Letters.{letters_of}
 use Rattle.glob_patterns.specs.Options.{options_of, syntax_of}
-use Rattle.glob_patterns.specs.declared.glob.Glob.{Glob}
+use Rattle.glob_patterns.specs.GlobSets as sets
+use Rattle.glob_patterns.specs.GlobSets.{AreMeanings, HasMeaning}
+use Rattle.glob_patterns.specs.declared.glob_set.GlobSet.{GlobSet}
 use Rattle.glob_patterns.specs.declared.options.GlobOptions.{GlobOptions}
-use Rattle.glob_text.specs.Texts.{IsMeaning, AreWrittenOut}
+use Rattle.glob_text.specs.Marks.{Mark}
+use Rattle.glob_text.specs.Texts as pattern
+use Rattle.glob_text.specs.Texts.{IsMeaning}
+use Rattle.glob_text.specs.declared.fault.PatternFault.{PatternFault}
 use Rattle.glob_text.proofs.lemmas.Meanings.{choices_alike}
-use Rattle.wildcards.specs.Sets.{MatchesChoice}
+use Rattle.wildcards.specs.Sets.{IsHit}
+use Rattle.wildcards.specs.declared.pattern.Choice.{Choice}
+use Rattle.wildcards.specs.declared.set.Pattern.{Pattern}
 use Rattle.program_frame.specs.declared.lists.program_fault.Fault.TheVariants.{List as OfList}
-use Rattle.names_commands.specs.Matching.{picking, IsTextOfPicked, IsMatched, IsMatchedBy}
-use Rattle.names_commands.specs.Program.{Fault, RunsMatching}
+use Rattle.names_commands.specs.declared.pick.Pick.{Pick}
+use Rattle.names_commands.specs.Matching.{picking, matching, AreWrittenOut, IsFirstFault, IsMatched, IsMatchedBy, IsPattern, IsTextOfPicked}
+use Rattle.names_commands.specs.Program.{Fault, RunsPatterns}
 
 module _ {E : Type 0} (p : Ghosts E) (form : Form) (max : ℕ) (Picked Other : List ℕ → Type 0) (same : (name : List ℕ) → Picked name ↔ Other name) where
   abbrev ours : ListRules Refusal
@@ -74,22 +82,70 @@ module _ {E : Type 0} (p : Ghosts E) (form : Form) (max : ℕ) (Picked Other : L
   pub same_runs : {X : Type 0} (fault : ListFault Refusal → X) (input left old new : Option (List ℕ)) (answer : Result ⊤ X) → Runs ours fault input left old new answer → Runs theirs fault input left old new answer
   same_runs fault input left old new answer r = (r.0, (one_run input left old new r.0 r.1.0, r.1.1))
 
-module _ {E A : Type 0} (p : Ghosts E) (o : GlobOptions) (text : List ℕ) (glob : Glob E A) (same : glob.options ≡ o) (meaning : IsMeaning p.well_formed (letters_of p.units) (syntax_of o) text glob.choices.items) where
-  -- a compiled pattern matches what its text does
-  matched : (name : List ℕ) → IsMatchedBy p glob name ↔ IsMatched p o meaning.are.are.written_out name
-  matched name =
-      let path = letters_of p.units name in
-      let alike = choices_alike (options_of o) meaning.are.are.written_out glob.choices.items path meaning.are.are.compiled in (
-        λ m. alike.0 (subst (λ z. MatchesChoice (options_of z) glob.choices.items path) same m),
-        λ m. subst (λ z. MatchesChoice (options_of z) glob.choices.items path) (sym same) (alike.1 m),
-      )
+module _ {E A : Type 0} (p : Ghosts E) (o : GlobOptions) where
+  abbrev AreCompiled : List (List ℕ) → List (Pattern A) → Type 0
+  AreCompiled = AreMeanings p.well_formed (letters_of p.units) (syntax_of o) A
 
-  -- so a run over the names that it matches is one over those that its text does
-  pub matching_runs : (form its_form : Form) (max its_max : ℕ) (its_glob : Glob E A) (input left old new : Option (List ℕ)) (answer : Result ⊤ Fault) → its_form ≡ form → its_max ≡ max → its_glob ≡ glob
-      → Runs (picking p its_form its_max (IsMatchedBy p its_glob)) OfList input left old new answer → RunsMatching p o form text max input left old new answer
-  matching_runs form its_form max its_max its_glob input left old new answer f n g run =
-      let here = subst (λ z. Runs (picking p z max (IsMatchedBy p glob)) OfList input left old new answer) f
-      (subst (λ z. Runs (picking p its_form z (IsMatchedBy p glob)) OfList input left old new answer) n
-      (subst (λ z. Runs (picking p its_form its_max (IsMatchedBy p z)) OfList input left old new answer) g run)) in
-      let written : AreWrittenOut p.well_formed (letters_of p.units) (syntax_of o) text meaning.are.are.written_out = record { symbols = meaning.symbols; read = meaning.read; marks = meaning.are.marks; marks_are = meaning.are.read; cased = meaning.are.cased; are_cased = meaning.are.are_cased; are = meaning.are.are.are } in
-      inr (inr (meaning.are.are.written_out, written, same_runs p form max (IsMatchedBy p glob) (IsMatched p o meaning.are.are.written_out) matched OfList input left old new answer here))
+  one_written : (text : List ℕ) (choices : List (Choice A)) (m : IsMeaning p.well_formed (letters_of p.units) (syntax_of o) text choices) → pattern.AreWrittenOut p.well_formed (letters_of p.units) (syntax_of o) text m.are.are.written_out
+  one_written text choices m = record { symbols = m.symbols; read = m.read; marks = m.are.marks; marks_are = m.are.read; cased = m.are.cased; are_cased = m.are.are_cased; are = m.are.are.are }
+
+  -- the patterns without alternatives that texts stand for
+  abbrev written_of : (texts : List (List ℕ)) (ps : List (Pattern A)) → AreCompiled texts ps → List (List (List Mark))
+  written_of [] ps c = []
+  written_of (t ∷ texts) [] c = absurd c
+  written_of (t ∷ texts) (q ∷ ps) c = c.0.are.are.written_out ∷ written_of texts ps c.1
+
+  are_written : (texts : List (List ℕ)) (ps : List (Pattern A)) (c : AreCompiled texts ps) → AreWrittenOut p o texts (written_of texts ps c)
+  are_written [] ps c = refl
+  are_written (t ∷ texts) [] c = absurd c
+  are_written (t ∷ texts) (q ∷ ps) c = (one_written t q.choices.items c.0, are_written texts ps c.1)
+
+  -- a compiled pattern matches what its text does
+  module _ (name : List ℕ) where
+    abbrev Hits : List (Pattern A) → ℕ → Type 0
+    Hits ps i = IsHit (options_of o) ps (letters_of p.units name) i
+
+    hit_matches : (texts : List (List ℕ)) (ps : List (Pattern A)) (c : AreCompiled texts ps) (i : ℕ) → Hits ps i → IsMatched p o (written_of texts ps c) name
+    hit_matches [] [] c i h = absurd (omega (arith, h.0))
+    hit_matches [] (q ∷ ps) c i h = absurd c
+    hit_matches (t ∷ texts) [] c i h = absurd c
+    hit_matches (t ∷ texts) (q ∷ ps) c zero h = inl ((choices_alike (options_of o) c.0.are.are.written_out q.choices.items (letters_of p.units name) c.0.are.are.compiled).0 (h.1 q))
+    hit_matches (t ∷ texts) (q ∷ ps) c (suc i) h = inr (hit_matches texts ps c.1 i (omega (arith, h.0), h.1))
+
+    matches_hit : (texts : List (List ℕ)) (ps : List (Pattern A)) (c : AreCompiled texts ps) → IsMatched p o (written_of texts ps c) name → (i : ℕ) × Hits ps i
+    matches_hit [] ps c m = absurd m
+    matches_hit (t ∷ texts) [] c m = absurd c
+    matches_hit (t ∷ texts) (q ∷ ps) c (inl m) = (0, (omega arith, λ d. (choices_alike (options_of o) c.0.are.are.written_out q.choices.items (letters_of p.units name) c.0.are.are.compiled).1 m))
+    matches_hit (t ∷ texts) (q ∷ ps) c (inr m) =
+        let more = matches_hit texts ps c.1 m in
+        let below = more.1.0 in
+        (suc more.0, (omega (arith, below), more.1.1))
+
+  module _ (texts : List (List ℕ)) (set : GlobSet E A) (same : set.set.options ≡ options_of o) (c : AreCompiled texts set.set.patterns.items) where
+    -- a compiled set matches what one of its texts does
+    matched : (name : List ℕ) → IsMatchedBy p set name ↔ IsMatched p o (written_of texts set.set.patterns.items c) name
+    matched name = (
+      λ m. hit_matches name texts set.set.patterns.items c m.0 (subst (λ z. IsHit z set.set.patterns.items (letters_of p.units name) m.0) same m.1),
+      λ m.
+          let hit = matches_hit name texts set.set.patterns.items c m in
+          (hit.0, subst (λ z. IsHit z set.set.patterns.items (letters_of p.units name) hit.0) (sym same) hit.1),
+    )
+
+    -- so a run over the names that it matches is one over those that its texts do
+    pub matching_runs : (form its_form : Form) (pick : Pick) (max its_max : ℕ) (its_set : GlobSet E A) (input left old new : Option (List ℕ)) (answer : Result ⊤ Fault) → its_form ≡ form → its_max ≡ max → its_set ≡ set
+        → Runs (matching p its_form its_max its_set) OfList input left old new answer → RunsPatterns p o form pick max texts input left old new answer
+    matching_runs form its_form pick max its_max its_set input left old new answer f n g run =
+        let here = subst (λ z. Runs (matching p z max set) OfList input left old new answer) f
+        (subst (λ z. Runs (matching p its_form z set) OfList input left old new answer) n
+        (subst (λ z. Runs (matching p its_form its_max z) OfList input left old new answer) g run)) in
+        let written = written_of texts set.set.patterns.items c in
+        inr (written, are_written texts set.set.patterns.items c, same_runs p form max (IsMatchedBy p set) (IsMatched p o written) matched OfList input left old new answer here)
+
+-- the first text without a meaning is the first at fault
+module _ {E : Type 0} (A : Type 0) (p : Ghosts E) (o : GlobOptions) (texts : List (List ℕ)) where
+  all_patterns : (ts : List (List ℕ)) → AllByRecursion (HasMeaning p.well_formed (letters_of p.units) (syntax_of o) A) ts → AllByRecursion (IsPattern p o) ts
+  all_patterns [] a = tt
+  all_patterns (t ∷ ts) a = ((a.0.1.are.are.written_out, one_written p o t a.0.0 a.0.1), all_patterns ts a.1)
+
+  pub first_fault : (index : ℕ) (fault : PatternFault) → sets.IsFirstFault p.well_formed (letters_of p.units) (syntax_of o) A texts index fault → IsFirstFault p o texts index fault
+  first_fault index fault f = record { before = f.before; text = f.text; after = f.after; joined = f.joined; index_is = f.index_is; fine = all_patterns f.before f.fine; is = f.is }

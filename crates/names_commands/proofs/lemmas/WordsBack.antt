@@ -1,9 +1,7 @@
 -- Words on one line that `list` writes, and names that `join` reads of them.
 use Rattle.std.proofs.Common.{◌≡◌, ⊎_elim, inl, ℕ, ◌+◌, ◌*◌, ◌≤◌, true, List, [], ◌∷◌, ◌++◌, length, refl, sym, ap, ◌∙◌, subst, arith, append-nil}
 use Rattle.std.specs.Prelude.{Result, Ok}
-use Rattle.std.specs.List.{All, AllByRecursion}
-use Rattle.std.proofs.lemmas.List.Elements.{All-from_recursion, recursion_from_All}
-use Rattle.std.specs.Str.{chars}
+use Rattle.std.specs.List.{All}
 use Rattle.wtf8_core.specs.Byte.{IsByte}
 use Rattle.os_str_bytes.specs.Platform.{Ghosts}
 use Rattle.os_command_line.specs.Shell.{IsRead, language}

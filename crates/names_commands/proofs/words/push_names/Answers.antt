@@ -1,5 +1,4 @@
-use Rattle.std.proofs.Common.{ℕ, List, [], ◌∷◌, ap, ◌∙◌, subst}
-use Rattle.std.specs.Prelude.{Ok}
+use Rattle.std.proofs.Common.{◌∷◌, ap, ◌∙◌, subst}
 use Rattle.os_command_line.specs.ShellViews.{item_bytes, word_bytes}
 use Rattle.names_commands.proofs.lemmas.Words.{IsBegun, one_begun, all_begun, word_fault}
 use Rattle.names_commands.proofs.words.push_names.Goals as goal

@@ -13,10 +13,10 @@ returns g c =
     let P = g.E.Platform in
     let its = c.new.result in
     let name = c.args.name.now in
-    let written = subst (λ b. OnOk c.run.result (WritesOutput (picking P its.form its.max (IsMatchedBy P its.glob.now)) (Some b.now) (g.W.Write.contents (marked_inner c.args.writer.now)) (g.W.Write.contents (marked_inner c.run.new.writer)))) c.new-reader.ensures.inner c.run.ensures.written in
+    let written = subst (λ b. OnOk c.run.result (WritesOutput (picking P its.form its.max (IsMatchedBy P its.globs.now)) (Some b.now) (g.W.Write.contents (marked_inner c.args.writer.now)) (g.W.Write.contents (marked_inner c.run.new.writer)))) c.new-reader.ensures.inner c.run.ensures.written in
     on_ok_weaker c.run.result
     (λ w.
-    let filtered = subst (λ b. IsOutput (picking P Name its.max (IsMatchedBy P b)) name w.0) c.new.ensures.glob
-    (subst (λ f. IsOutput (picking P f its.max (IsMatchedBy P its.glob.now)) name w.0) c.new.ensures.form w.1.0) in
-    (w.0, (known_filtered P (IsMatchedBy P c.args.glob.now) its.max name w.0 c.requires.whole c.requires.some filtered, w.1.1)))
+    let filtered = subst (λ b. IsOutput (picking P Name its.max (IsMatchedBy P b)) name w.0) c.new.ensures.globs
+    (subst (λ f. IsOutput (picking P f its.max (IsMatchedBy P its.globs.now)) name w.0) c.new.ensures.form w.1.0) in
+    (w.0, (known_filtered P (IsMatchedBy P c.args.globs.now) its.max name w.0 c.requires.whole c.requires.some filtered, w.1.1)))
     written
