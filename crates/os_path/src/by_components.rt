@@ -44,6 +44,7 @@ impl<'a, E: PathStyle> ByComponents<'a, E> {
     /// let path = ByComponents::new(Path::<Windows>::new(OsStr::new("C:\\a\\b")));
     /// assert!(rt; path == ByComponents::new(Path::new(OsStr::new("c:/a/b/"))));
     /// ```
+    #[inline(always)]
     pub fn new(path: Path<'a, E>) -> Self
         ensures keys { HasKeys E.follows (path_bytes path.entry) (path_keys result) }
         ensures path { compared_bytes result ≡ path_bytes path.entry }
@@ -78,6 +79,7 @@ impl<'a, E: Platform> PartialEq for ByComponents<'a, E> {
 
     ghost laws = { partial_equiv_from_equiv (eq_by_cmp_equiv by_path_keys_total) };
 
+    #[inline(always)]
     fn eq(&self, other: &Self) -> bool {
         self.keys == other.keys
     }
@@ -96,6 +98,7 @@ impl<'a, E: Platform> PartialOrd for ByComponents<'a, E> {
 
     ghost laws = { partial_order_from_total by_path_keys_total };
 
+    #[inline(always)]
     fn partial_cmp(&self, other: &Self) -> Option<Ordering> {
         self.keys.partial_cmp(&other.keys)
     }
@@ -112,6 +115,7 @@ impl<'a, E: Platform> Ord for ByComponents<'a, E> {
 
     ghost matches_eq = { λ x y. refl };
 
+    #[inline(always)]
     fn cmp(&self, other: &Self) -> Ordering {
         self.keys.cmp(&other.keys)
     }

@@ -43,6 +43,7 @@ impl<'a> ByComponents<'a> {
     /// assert!(rt; path == ByComponents::new(Style::Windows, b"c:/a/b/"));
     /// assert!(rt; path < ByComponents::new(Style::Windows, br"C:\a\b\c"));
     /// ```
+    #[inline(always)]
     pub fn new(style: Style, path: &'a [u8]) -> Self
         ensures { HasKeys style path.entry.now (keys_of result) }
     {
@@ -64,6 +65,7 @@ impl<'a> ByComponents<'a> {
     }
 
     /// The order of two paths by their components.
+    #[inline(always)]
     fn compare(self, other: ByComponents<'_>) -> Ordering
         ensures { result ≡ keys_cmp (keys_of self.entry) (keys_of other.entry) }
     {
@@ -87,6 +89,7 @@ impl<'a> ByComponents<'a> {
 }
 
 /// The prefix of a path of a style.
+#[inline(always)]
 fn prefix_of(style: Style, path: &[u8]) -> Option<Prefix<&[u8]>>
     ensures { IsPrefixOption style path.now result }
 {
@@ -101,6 +104,7 @@ fn prefix_of(style: Style, path: &[u8]) -> Option<Prefix<&[u8]>>
 
 /// The order of two lists of components. Where both start alike, those are left out that the same
 /// bytes spell.
+#[inline(always)]
 fn compare_items(a: Head<'_>, b: Head<'_>) -> Ordering
     ensures { result ≡ keys_cmp (item_keys (items_of a.entry)) (item_keys (items_of b.entry)) }
 {
@@ -258,6 +262,7 @@ impl<'a> PartialEq for ByComponents<'a> {
 
     ghost laws = { partial_equiv_from_equiv (eq_by_cmp_equiv by_keys_total) };
 
+    #[inline(always)]
     fn eq(&self, other: &Self) -> bool {
         self.compare(*other).is_eq()
     }
@@ -272,6 +277,7 @@ impl<'a> PartialOrd for ByComponents<'a> {
 
     ghost laws = { partial_order_from_total by_keys_total };
 
+    #[inline(always)]
     fn partial_cmp(&self, other: &Self) -> Option<Ordering> {
         Some(self.compare(*other))
     }
@@ -286,6 +292,7 @@ impl<'a> Ord for ByComponents<'a> {
 
     ghost matches_eq = { λ x y. refl };
 
+    #[inline(always)]
     fn cmp(&self, other: &Self) -> Ordering {
         self.compare(*other)
     }

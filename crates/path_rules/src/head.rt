@@ -32,6 +32,7 @@ pub struct Head<'a> {
 }
 
 /// With what a path without a prefix starts, and what follows it.
+#[inline(always)]
 fn start_of(rules: Rules, path: &[u8]) -> (Start, &[u8])
     ensures { IsStartOf rules path.now result.0 result.1.now }
 {
@@ -52,6 +53,7 @@ fn start_of(rules: Rules, path: &[u8]) -> (Start, &[u8])
 /// let head = head_of(Style::Windows, br"C:\a\b");
 /// assert!(rt; head.prefix == b"C:".as_slice() && head.body == br"a\b".as_slice());
 /// ```
+#[inline(always)]
 pub fn head_of(style: Style, path: &[u8]) -> Head<'_>
     ensures items { AreComponents style path.entry.now (items_of result) }
     ensures parts { IsHead style path.entry.now result }
@@ -63,6 +65,7 @@ pub fn head_of(style: Style, path: &[u8]) -> Head<'_>
 }
 
 /// The parts of a Unix path.
+#[inline(always)]
 fn unix_head(path: &[u8]) -> Head<'_>
     ensures items { AreUnixComponents path.entry.now (items_of result) }
     ensures parts { IsUnixHead path.entry.now result }

@@ -1,4 +1,5 @@
-//! 16 bytes at once: how many of them come before the first that is a certain byte.
+//! Many bytes at once: how many come before the first that is a certain byte, and how many two slices
+//! have alike.
 ghost use Rattle.std.specs.Prelude.{◌≡◌, ℕ, ◌+◌, ◌≤◌, ◌<◌, false, length, slice_index, nat_eq};
 
 use std::simd::prelude::*;
@@ -17,13 +18,26 @@ pub(crate) fn len_before(value: u8, bytes: &[u8], from: usize) -> usize
     lanes_before(value, load(bytes, from))
 }
 
-/// The 16 bytes from an index on.
+/// How many of the N bytes from an index on are alike in both, before the first that isn't.
 #[inline(always)]
-fn load(bytes: &[u8], from: usize) -> u8x16
-    requires { from + 16 ≤ length bytes.now }
-    ensures { (i : ℕ) → i < 16 → slice_index result i ≡ slice_index bytes.now (from + i) }
+pub(crate) fn alike_len<const N: usize>(a: &[u8], b: &[u8], from: usize) -> usize
+    requires first { from + N ≤ length a.now }
+    requires second { from + N ≤ length b.now }
+    requires few { N ≤ 64 }
+    ensures within { result ≤ N }
+    ensures alike { (i : ℕ) → i < result
+        → slice_index a.now (from + i) ≡ slice_index b.now (from + i) }
 {
-    u8x16::from_slice(&bytes[from..])
+    lanes_alike(load::<N>(a, from), load::<N>(b, from))
+}
+
+/// The N bytes from an index on.
+#[inline(always)]
+fn load<const N: usize>(bytes: &[u8], from: usize) -> Simd<u8, N>
+    requires { from + N ≤ length bytes.now }
+    ensures { (i : ℕ) → i < N → slice_index result i ≡ slice_index bytes.now (from + i) }
+{
+    Simd::from_slice(&bytes[from..])
 }
 
 /// How many lanes come before the first that is `value`.
@@ -35,6 +49,20 @@ fn lanes_before(value: u8, lanes: u8x16) -> usize
     let mask = lanes.simd_eq(u8x16::splat(value)).to_bitmask();
     if mask == 0 {
         return LANES;
+    }
+    mask.trailing_zeros() as usize
+}
+
+/// How many lanes are alike in both before the first that isn't.
+#[inline(always)]
+fn lanes_alike<const N: usize>(a: Simd<u8, N>, b: Simd<u8, N>) -> usize
+    requires { N ≤ 64 }
+    ensures within { result ≤ N }
+    ensures alike { (i : ℕ) → i < result → slice_index a.entry i ≡ slice_index b.entry i }
+{
+    let mask = a.simd_ne(b).to_bitmask();
+    if mask == 0 {
+        return N;
     }
     mask.trailing_zeros() as usize
 }

@@ -1,11 +1,13 @@
 //! What two paths begin with alike.
-ghost use Rattle.std.specs.Prelude.{◌≡◌, ◌<◌, ◌≤◌, ℕ, length, take, MatchOption};
-ghost use Rattle.path_rules.specs.Shared.{SharesItems};
+ghost use Rattle.std.specs.Prelude.{◌≡◌, ◌<◌, ◌≤◌, length, MatchOption};
+ghost use Rattle.path_rules.specs.Shared.{SharesItems, AreAlikeBelow};
 
+use crate::lanes::alike_len;
 use crate::rules::Rules;
 
 /// What is left of two bodies after the last separator of what they begin with alike; `None` where
 /// they are the same.
+#[inline(always)]
 pub(crate) fn after_shared<'a, 'b>(
     rules: Rules,
     a: &'a [u8],
@@ -29,36 +31,59 @@ pub(crate) fn after_shared<'a, 'b>(
 }
 
 /// How many bytes two slices begin with alike.
+#[inline(always)]
 fn shared_len(a: &[u8], b: &[u8]) -> usize
     ensures first { result ≤ length a.now }
     ensures second { result ≤ length b.now }
-    ensures same { take result a.now ≡ take result b.now }
+    ensures same { AreAlikeBelow a.now b.now result }
 {
-    let len = skip_shared(32, a, b, 0);
-    let len = skip_shared(8, a, b, len);
-    skip_shared(1, a, b, len)
+    let end = a.len().min(b.len());
+    if end >= 64 {
+        shared_by::<64>(a, b, end)
+    } else if end >= 16 {
+        shared_by::<16>(a, b, end)
+    } else if end >= 8 {
+        shared_by::<8>(a, b, end)
+    } else {
+        shared_by_bytes(a, b, end)
+    }
 }
 
-/// The same, from a length on that they share, by so many bytes at once.
+/// The same of so many bytes, by N at once; the last N are looked at together, also where some were
+/// before.
 #[inline(always)]
-fn skip_shared(size: usize, a: &[u8], b: &[u8], from: usize) -> usize
-    requires some { 0 < size }
-    requires first { from ≤ length a.now }
-    requires second { from ≤ length b.now }
-    requires same { take from a.now ≡ take from b.now }
-    ensures first { result ≤ length a.now }
-    ensures second { result ≤ length b.now }
-    ensures same { take result a.now ≡ take result b.now }
+fn shared_by<const N: usize>(a: &[u8], b: &[u8], end: usize) -> usize
+    requires room { N ≤ end }
+    requires few { N ≤ 64 }
+    requires some { 0 < N }
+    requires first { end ≤ length a.now }
+    requires second { end ≤ length b.now }
+    ensures within { result ≤ end }
+    ensures same { AreAlikeBelow a.now b.now result }
 {
-    let mut at = from;
-    while a.len() - at >= size && b.len() - at >= size {
-        let (part, _) = a[at..].split_at(size);
-        let (other, _) = b[at..].split_at(size);
-        if part == other {
-            at += size;
-        } else {
+    let mut at = 0;
+    while end - at > N {
+        let len = alike_len::<N>(a, b, at);
+        at += len;
+        if len < N {
             return at;
         }
+    }
+    let last = end - N;
+    last + alike_len::<N>(a, b, last)
+}
+
+/// The same, byte by byte.
+#[inline(always)]
+fn shared_by_bytes(a: &[u8], b: &[u8], end: usize) -> usize
+    requires first { end ≤ length a.now }
+    requires second { end ≤ length b.now }
+    ensures within { result ≤ end }
+    ensures same { AreAlikeBelow a.now b.now result }
+{
+    let mut at = 0;
+    while at < end && a[at] == b[at] {
+        at += 1;
     }
     at
 }

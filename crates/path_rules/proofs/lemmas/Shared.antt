@@ -1,7 +1,9 @@
 -- Paths that begin alike are ordered as what is left of them is.
-use Rattle.std.proofs.Common.{◌≡◌, ◌+◌, ◌-◌, ℕ, List, [], ◌∷◌, ◌++◌, length, take, drop, refl, sym, ap, ◌∙◌, append_assoc}
-use Rattle.std.proofs.lemmas.List.{take-append-drop, map-append, take_rest}
-use Rattle.std.proofs.Math.Seq.{take-add, drop-append-add}
+use Rattle.std.proofs.Common.{◌≡◌, ◌<◌, ◌≤◌, ◌+◌, ◌-◌, ⊎_elim, ℕ, List, [], ◌∷◌, ◌++◌, length, take, drop, get_or, refl, sym, ap, subst, arith, ◌∙◌, append_assoc}
+use Rattle.std.proofs.lemmas.Bool.{cases_lt}
+use Rattle.std.proofs.lemmas.Grind.{same_number_lists}
+use Rattle.std.proofs.lemmas.List.{take-append-drop, map-append, get_or-take, length-take-le}
+use Rattle.std.proofs.Math.Seq.{drop-append-add}
 use Rattle.std.specs.Cmp.Lexicographic.{nat_list_cmp_total}
 use Rattle.std.specs.Ordering.{ordering_then, ordering_reverse}
 use Rattle.std.specs.declared.cmp.Ordering.{Ordering}
@@ -12,7 +14,7 @@ use Rattle.path_rules.specs.Component.{Item, components_in}
 use Rattle.path_rules.specs.Heads.{prefix_items, start_items, items_of}
 use Rattle.path_rules.specs.Keys.{key_cmp, keys_cmp, item_key, item_keys}
 use Rattle.path_rules.specs.Separators.{IsCut}
-use Rattle.path_rules.specs.Shared.{SharesItems, StartAlike}
+use Rattle.path_rules.specs.Shared.{SharesItems, StartAlike, AreAlikeBelow}
 use Rattle.path_rules.proofs.lemmas.Bodies.{cut_items}
 
 -- what is its own reverse
@@ -71,15 +73,23 @@ module _ (a b : Head) (alike : StartAlike a b) where
         ∙ ap (keys_cmp (item_keys front ++ item_keys (components_in a.rules x))) second_keys
         ∙ keys_after (item_keys front) (item_keys (components_in a.rules x)) (item_keys (components_in a.rules y))
 
--- two lists share a further part
-pub share_on : (xs ys part other : List ℕ) (at size : ℕ)
-    → part ≡ take size (take (length xs - at) (drop at xs)) → other ≡ take size (take (length ys - at) (drop at ys))
-    → take at xs ≡ take at ys → part ≡ other → take (at + size) xs ≡ take (at + size) ys
-share_on xs ys part other at size first second before same =
-    take-add at size xs
-    ∙ ap (λ z. z ++ take size (drop at xs)) before
-    ∙ ap (λ z. take at ys ++ z) (ap (take size) (sym (take_rest xs at)) ∙ sym first ∙ same ∙ second ∙ ap (take size) (take_rest ys at))
-    ∙ sym (take-add at size ys)
+-- two lists that are alike up to i, and further
+pub alike_further : (xs ys : List ℕ) (i n : ℕ) → AreAlikeBelow xs ys i → ((k : ℕ) → k < n → get_or xs (i + k) 0 ≡ get_or ys (i + k) 0) → AreAlikeBelow xs ys (i + n)
+alike_further xs ys i n h more k l =
+    ⊎_elim
+    (h k)
+    (λ above. (let e : i + (k - i) ≡ k = omega (arith, above) in subst (λ m. get_or xs m 0 ≡ get_or ys m 0) e (more (k - i) (omega (arith, l, above)))))
+    (cases_lt k i)
+
+pub alike_less : (xs ys : List ℕ) (i n : ℕ) → n ≤ i → AreAlikeBelow xs ys i → AreAlikeBelow xs ys n
+alike_less xs ys i n l h k g = h k (omega arith)
+
+pub alike_parts : (xs ys : List ℕ) (n : ℕ) → n ≤ length xs → n ≤ length ys → AreAlikeBelow xs ys n → take n xs ≡ take n ys
+alike_parts xs ys n l m h =
+    let first = length-take-le n xs l in
+    let second = length-take-le n ys m in
+    same_number_lists (take n xs) (take n ys) (first ∙ sym second)
+    (λ k g. let below : k < n = omega arith in get_or-take n xs k 0 below ∙ h k below ∙ sym (get_or-take n ys k 0 below))
 
 -- what comes from a separator on that two lists share
 module _ (r : Rules) (a b before part : List ℕ) (len : ℕ) (same : take len a ≡ take len b) (c : IsCut r (take len a) before part) where

@@ -2,7 +2,7 @@ use Rattle.std.proofs.Common.{◌≡◌, ◌+◌, ◌-◌, ◌∷◌, length, dr
 use Rattle.std.proofs.lemmas.List.{length-append}
 use Rattle.path_rules.specs.Separators.{IsCut}
 use Rattle.path_rules.specs.Shared.{SharesItems}
-use Rattle.path_rules.proofs.lemmas.Shared.{cut_shared}
+use Rattle.path_rules.proofs.lemmas.Shared.{cut_shared, alike_parts}
 use Rattle.path_rules.proofs.shared.after_shared.Goals as goal
 
 pub returns : goal.returns
@@ -19,4 +19,4 @@ returns c =
     let at : len - length part ≡ length before + 1 = omega arith in
     subst (λ x. SharesItems rules a b x c.split_at-3.result.1.now) (sym c.split_at-2.ensures.back)
     (subst (λ y. SharesItems rules a b (drop (len - length part) a) y) (sym c.split_at-3.ensures.back)
-    (cut_shared rules a b before part len c.shared_len-len.ensures.same (subst (λ s. IsCut rules s before part) c.split_at.ensures.front cut) (len - length part) at))
+    (cut_shared rules a b before part len (alike_parts a b len c.shared_len-len.ensures.first c.shared_len-len.ensures.second c.shared_len-len.ensures.same) (subst (λ s. IsCut rules s before part) c.split_at.ensures.front cut) (len - length part) at))
