@@ -74,7 +74,9 @@ pub trait PathExt<'a>: Sized + Copy {
     /// assert!(rt; left.next().is_none());
     /// ```
     final fn components(self) -> Components<'a, Self::Platform>
-        ensures { AreComponents Self.Platform.follows (bytes_of self) result }
+        ensures items { AreComponents Self.Platform.follows (bytes_of self) result.items }
+        ensures style { result.style ≡ Self.Platform.follows }
+        ensures path { result.path ≡ bytes_of self }
     {
         Components::new(OsStr::from_encoded_bytes_unchecked(self.path_bytes()))
     }

@@ -1,6 +1,7 @@
 pub mod Normals
 pub mod Follows
 pub mod Joins
+pub mod OneJoin
 pub mod Moves
 pub mod Spelling
 pub mod Resolving

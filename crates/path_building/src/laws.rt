@@ -24,6 +24,13 @@ pub fn unix_join()
         → AreUnixComponents (s ++ 0x2F ∷ t) (before ++ after) }
 {}
 
+/// A path joined to a base is one path.
+pub fn one_join()
+    ensures { (style : whose.Style) → (base : List ℕ) → (path : List ℕ) → (one : List ℕ)
+        → (other : List ℕ) → IsJoin style base path one → IsJoin style base path other
+        → one ≡ other }
+{}
+
 /// A normal form is its own normal form, and components have at most one.
 pub fn normal_forms()
     ensures again { (items : List Item) → (normal : List Item) → AreNormalOf items normal

@@ -25,7 +25,7 @@ pub(crate) fn add_all<'a, A: Allocator>(
     items: &mut Vec<Component<&'a [u8]>, A>,
     left: Components<'a>,
 ) -> Result<(), AllocError>
-    ensures { OnOk result (map item_of items.new.items ≡ map item_of items.old.items ++ left.entry) }
+    ensures { OnOk result (map item_of items.new.items ≡ map item_of items.old.items ++ left.entry.items) }
 {
     for item in left {
         items.push(item)?;
@@ -38,7 +38,7 @@ fn resolve_all<'a, A: Allocator>(
     items: &mut Vec<Component<&'a [u8]>, A>,
     left: Components<'a>,
 ) -> Result<(), AllocError>
-    ensures { OnOk result (map item_of items.new.items ≡ with_items (map item_of items.old.items) left.entry) }
+    ensures { OnOk result (map item_of items.new.items ≡ with_items (map item_of items.old.items) left.entry.items) }
 {
     for item in left {
         resolve_one(items, item)?;

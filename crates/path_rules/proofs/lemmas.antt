@@ -25,3 +25,5 @@ pub mod Shared
 pub mod KeyAlike
 pub mod Simple
 pub mod Divides
+pub mod Lefts
+pub mod AsPath

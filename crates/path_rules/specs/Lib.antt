@@ -22,3 +22,5 @@ pub mod KeyLaws
 pub mod Shared
 pub mod Simplified
 pub mod Divided
+pub mod Left
+pub mod LeftParts

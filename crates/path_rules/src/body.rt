@@ -5,6 +5,7 @@ ghost use Rattle.path_rules.specs.Component.{components_in, EndsNamed};
 ghost use Rattle.path_rules.specs.Views.{item_of};
 ghost use Rattle.path_rules.specs.Parent.{IsBelow};
 ghost use Rattle.path_rules.specs.HeadParts.{IsLastPart};
+ghost use Rattle.path_rules.specs.Taken.{IsTail};
 
 use crate::component::{Component, component_of};
 use crate::rules::Rules;
@@ -19,8 +20,9 @@ use crate::rules::Rules;
 /// assert!(rt; first == Some((Component::Normal(b"a".as_slice()), b"b".as_slice())));
 /// ```
 pub fn next_in(rules: Rules, body: &[u8]) -> Option<(Component<&[u8]>, &[u8])>
-    ensures { MatchOption result (components_in rules body.now ≡ [])
+    ensures items { MatchOption result (components_in rules body.now ≡ [])
         (λ first. components_in rules body.now ≡ item_of first.0 ∷ components_in rules first.1.now) }
+    ensures after { IfSome result (λ first. IsTail body.now first.1.now) }
 {
     let mut left = body;
     loop {

@@ -44,7 +44,7 @@ pub fn ends_with(style: Style, path: &[u8], child: &[u8]) -> bool
 
 /// Whether the first components left are alike the wanted ones.
 fn starts_alike(mut left: Components<'_>, mut wanted: Components<'_>) -> bool
-    ensures { IsTrue result ↔ StartsAlike left.entry wanted.entry }
+    ensures { IsTrue result ↔ StartsAlike left.entry.items wanted.entry.items }
 {
     loop {
         let Some(want) = wanted.next() else {
@@ -61,7 +61,7 @@ fn starts_alike(mut left: Components<'_>, mut wanted: Components<'_>) -> bool
 
 /// Whether the last components left are alike the wanted ones.
 fn ends_alike(mut left: Components<'_>, mut wanted: Components<'_>) -> bool
-    ensures { IsTrue result ↔ EndsAlike left.entry wanted.entry }
+    ensures { IsTrue result ↔ EndsAlike left.entry.items wanted.entry.items }
 {
     loop {
         let Some(want) = wanted.next_back() else {

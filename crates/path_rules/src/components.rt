@@ -1,13 +1,15 @@
 //! The components of a path, from both ends.
-ghost use Rattle.std.specs.Prelude.{◌≡◌};
-ghost use Rattle.std.specs.Iterator.{YieldsFirstBy, YieldsLastBy, item_count};
+ghost use Rattle.std.specs.Prelude.{◌≡◌, ◌↔◌, [], IsTrue};
+ghost use Rattle.std.specs.Iterator.{item_count};
 ghost use Rattle.path_rules.specs.Views.{item_of};
 ghost use Rattle.path_rules.specs.Components.{AreComponents};
+ghost use Rattle.path_rules.specs.Left.{GivesFirst, GivesLast, IsLeft};
 
-use crate::body::{next_back_in, next_in};
+use crate::body::{next_back_in, next_in, trimmed};
 use crate::component::Component;
 use crate::head::{Head, Start, head_of};
 use crate::rules::Style;
+use crate::stripped::start_trimmed;
 use std::marker::Model;
 
 /// The components of a path that are left, from both ends (std's `Components`).
@@ -16,17 +18,23 @@ use std::marker::Model;
 /// calls.
 #[derive(Drop)]
 pub struct Components<'a> {
+    style: Style,
+    path: &'a [u8],
+    /// Whether what comes before the body was taken from the front.
+    begun: bool,
     left: Head<'a>,
 }
 
 impl<'a> Model for Components<'a> {
-    ghost use Rattle.std.specs.Prelude.{List};
-    ghost use Rattle.path_rules.specs.Component.{Item};
     ghost use Rattle.path_rules.specs.Heads.{items_of};
+    ghost use Rattle.path_rules.specs.Left.{Left};
+    ghost use Rattle.path_rules.specs.LeftParts.{AreLeftOf};
 
-    ghost Value = { List Item };
+    ghost Value = { Left };
 
-    ghost view = { λ it. items_of it.left };
+    ghost view = { λ it. record { style = it.style; path = it.path.now; items = items_of it.left } };
+
+    ghost invariant = { λ it. AreLeftOf it.style it.path.now it.left it.begun };
 }
 
 impl<'a> Components<'a> {
@@ -43,34 +51,89 @@ impl<'a> Components<'a> {
     /// assert!(rt; left.next().is_none());
     /// ```
     pub fn new(style: Style, path: &'a [u8]) -> Self
-        ensures { AreComponents style path.entry.now result }
+        ensures items { AreComponents style path.entry.now result.items }
+        ensures style { result.style ≡ style }
+        ensures path { result.path ≡ path.entry.now }
     {
         Components {
+            style,
+            path,
+            begun: false,
             left: head_of(style, path),
         }
+    }
+
+    /// The part of the path that has the components that are left (std's `Components::as_path`).
+    ///
+    /// It begins where the first of them does and ends where the last does, without the separators
+    /// and dots at its ends that name nothing. On Unix it has these components by itself. So it has
+    /// on Windows unless it is a prefix without the root that is always there (`\\server\share`), or
+    /// what is left begins after the prefix: then it has them in the path.
+    ///
+    /// ```
+    /// use path_rules::{Components, Style};
+    ///
+    /// let mut left = Components::new(Style::Unix, b"/usr//lib/./a/");
+    /// assert_eq!(rt; left.as_path(), b"/usr//lib/./a".as_slice());
+    /// let _ = (left.next(), left.next(), left.next_back());
+    /// assert_eq!(rt; left.as_path(), b"lib".as_slice());
+    /// ```
+    pub fn as_path(&self) -> &'a [u8]
+        ensures { IsLeft self.now.style self.now.path self.now.items result.now }
+    {
+        let whole = head_of(self.style, self.path);
+        let left = self.left;
+        if self.begun {
+            return trimmed(left.rules, start_trimmed(left.rules, left.body));
+        }
+        let body = trimmed(left.rules, left.body);
+        if is_over(left.start, body) {
+            return left.prefix;
+        }
+        let (kept, _) = self
+            .path
+            .split_at(self.path.len() - whole.body.len() + body.len());
+        if !left.prefix.is_empty() {
+            return kept;
+        }
+        let (_, part) = kept.split_at(whole.prefix.len());
+        part
+    }
+}
+
+/// Whether neither a start nor a body is left.
+fn is_over(start: Start, body: &[u8]) -> bool
+    ensures { IsTrue result ↔ ((body.now ≡ []) × (start ≡ Start.Nothing)) }
+{
+    match start {
+        Start::Nothing => body.is_empty(),
+        _ => false,
     }
 }
 
 impl<'a> Iterator for Components<'a> {
     type Item = Component<&'a [u8]>;
 
-    ghost next_gives = { YieldsFirstBy item_of (λ left. left) };
+    ghost next_gives = { GivesFirst item_of };
 
-    ghost remaining = { item_count (λ left. left) };
+    ghost remaining = { item_count (λ left. left.items) };
 
     fn next(&mut self) -> Option<Component<&'a [u8]>> {
         if !self.left.prefix.is_empty() {
             let prefix = self.left.prefix;
             self.left.prefix = b"".as_slice();
+            self.begun = self.left.start.is_nothing();
             return Some(Component::Prefix(prefix));
         }
         match self.left.start {
             Start::Root => {
                 self.left.start = Start::Nothing;
+                self.begun = true;
                 Some(Component::RootDir)
             }
             Start::Dot => {
                 self.left.start = Start::Nothing;
+                self.begun = true;
                 Some(Component::CurDir)
             }
             Start::Nothing => {
@@ -78,6 +141,7 @@ impl<'a> Iterator for Components<'a> {
                     return None;
                 };
                 self.left.body = rest;
+                self.begun = true;
                 Some(item)
             }
         }
@@ -85,7 +149,7 @@ impl<'a> Iterator for Components<'a> {
 }
 
 impl<'a> DoubleEndedIterator for Components<'a> {
-    ghost next_back_gives = { YieldsLastBy item_of (λ left. left) };
+    ghost next_back_gives = { GivesLast item_of };
 
     fn next_back(&mut self) -> Option<Component<&'a [u8]>> {
         if let Some((rest, item)) = next_back_in(self.left.rules, self.left.body) {
@@ -95,10 +159,12 @@ impl<'a> DoubleEndedIterator for Components<'a> {
         match self.left.start {
             Start::Root => {
                 self.left.start = Start::Nothing;
+                self.left.body = b"".as_slice();
                 Some(Component::RootDir)
             }
             Start::Dot => {
                 self.left.start = Start::Nothing;
+                self.left.body = b"".as_slice();
                 Some(Component::CurDir)
             }
             Start::Nothing => {
@@ -107,6 +173,7 @@ impl<'a> DoubleEndedIterator for Components<'a> {
                 }
                 let prefix = self.left.prefix;
                 self.left.prefix = b"".as_slice();
+                self.left.body = b"".as_slice();
                 Some(Component::Prefix(prefix))
             }
         }

@@ -1,5 +1,5 @@
 //! A path's prefix, what it starts with, and what follows.
-ghost use Rattle.std.specs.Prelude.{◌≡◌};
+ghost use Rattle.std.specs.Prelude.{◌≡◌, ◌↔◌, IsTrue};
 ghost use Rattle.path_rules.specs.Heads.{items_of};
 ghost use Rattle.path_rules.specs.Components.{AreComponents, AreUnixComponents, AreWindowsComponents, IsStartOf, IsRootOf};
 ghost use Rattle.path_rules.specs.HeadParts.{IsHead, IsUnixHead, IsWindowsHead};
@@ -16,6 +16,16 @@ pub enum Start {
     Dot,
     /// Neither.
     Nothing,
+}
+
+impl Start {
+    /// Whether there is neither.
+    #[inline(always)]
+    pub(crate) fn is_nothing(self) -> bool
+        ensures { IsTrue result ↔ (self ≡ Start.Nothing) }
+    {
+        matches!(self, Start::Nothing)
+    }
 }
 
 /// A path's parts.

@@ -8,6 +8,7 @@ ghost use Rattle.path_rules.specs.Components.{AreComponents, AreUnixComponents};
 ghost use Rattle.path_rules.specs.declared.rules.Rules.TheVariants as rules;
 ghost use Rattle.path_rules.specs.Separators.{Edge};
 ghost use Rattle.path_rules.specs.Divided.{IsDivided};
+ghost use Rattle.path_rules.specs.Left.{IsLeft};
 ghost use Rattle.path_rules.specs.Name.{IsExtension, IsStem};
 ghost use Rattle.path_rules.specs.Parent.{IsParent, HasFileName};
 ghost use Rattle.path_rules.specs.declared.rules.Style.TheVariants.{Unix};
@@ -113,4 +114,11 @@ pub fn starts_and_ends()
     ensures unix { (path : List ℕ) → (items : List Item) → (first : List Item)
         → AreUnixComponents path items
         → StartsAlike items first ↔ ((more : List Item) × (items ≡ first ++ more)) }
+{}
+
+/// On Unix the part of a path that is left ([`crate::Components::as_path`]) has the components that
+/// are left by itself.
+pub fn left_on_unix()
+    ensures { (path : List ℕ) → (items : List Item) → (part : List ℕ)
+        → IsLeft Unix path items part → AreUnixComponents part items }
 {}

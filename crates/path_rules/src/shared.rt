@@ -64,10 +64,11 @@ fn shared_by<const N: usize>(a: &[u8], b: &[u8], end: usize) -> usize
     let mut at = 0;
     while end - at > N {
         let len = alike_len::<N>(a, b, at);
-        at += len;
         if len < N {
-            return at;
+            return at + len;
         }
+        // not `len`, so that the next vectors are loaded before it is known
+        at += N;
     }
     let last = end - N;
     last + alike_len::<N>(a, b, last)

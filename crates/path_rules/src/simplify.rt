@@ -71,7 +71,7 @@ fn has_verbatim_drive(path: &[u8]) -> bool
 
 /// Whether each component that is left is plain.
 fn are_plain(items: Components<'_>) -> bool
-    ensures { IsTrue result ↔ AllByRecursion IsPlainItem items.entry }
+    ensures { IsTrue result ↔ AllByRecursion IsPlainItem items.entry.items }
 {
     let mut left = items;
     loop {

@@ -74,8 +74,8 @@ pub fn end_trimmed(style: Style, path: &[u8]) -> &[u8]
 
 /// The parts that are left after components alike those of the base.
 fn after_base<'a>(head: Head<'a>, base: Components<'_>) -> Option<Head<'a>>
-    ensures { MatchOption result (¬ (StartsAlike (items_of head.entry) base.entry))
-        (λ left. AreTaken head.entry base.entry left) }
+    ensures { MatchOption result (¬ (StartsAlike (items_of head.entry) base.entry.items))
+        (λ left. AreTaken head.entry base.entry.items left) }
 {
     let mut left = head;
     let mut wanted = base;
@@ -150,7 +150,7 @@ fn first_in(rules: Rules, body: &[u8]) -> Option<(Component<&[u8]>, &[u8])>
 }
 
 /// Without the separators and parts at the start that name nothing.
-fn start_trimmed(rules: Rules, body: &[u8]) -> &[u8]
+pub(crate) fn start_trimmed(rules: Rules, body: &[u8]) -> &[u8]
     ensures items { components_in rules body.now ≡ components_in rules result.now }
     ensures after { IsTail body.now result.now }
     ensures named { BeginsNamed rules result.now }

@@ -38,7 +38,7 @@ fn push_lines<'a, E: PathStyle, A: Allocator + Copy>(
     text: &mut Vec<u8, A>,
 ) -> Result<(), AllocError>
     ensures { OnOk result ((lines : List ℕ)
-        × (AreLines ⟦<E as Platform>⟧ E.follows components.entry lines
+        × (AreLines ⟦<E as Platform>⟧ E.follows components.entry.items lines
         × (text.new.items ≡ text.old.items ++ lines))) }
 {
     for component in components {

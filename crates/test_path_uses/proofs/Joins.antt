@@ -1,68 +1,8 @@
--- What a path joined to a base is: one path.
-use Rattle.std.proofs.Common.{◌≡◌, ◌≢◌, ◌⊎◌, inl, inr, ℕ, List, [], ◌++◌, sym, ap, ◌∙◌}
-use Rattle.std.proofs.lemmas.List.{append_cancel_right}
+-- A path has one list of components.
+use Rattle.std.proofs.Common.{◌≡◌, ℕ, List}
 use Rattle.path_rules.specs.declared.rules.Style as whose
-use Rattle.path_rules.specs.declared.rules.Style.TheVariants as style
-use Rattle.path_rules.specs.StyleRules.{rules_of_style}
 use Rattle.path_rules.specs.Component.{Item}
 use Rattle.path_rules.specs.Components.{AreComponents}
-use Rattle.path_rules.specs.Prefix.{Kind, IsPrefixOf}
-use Rattle.path_rules.specs.Root.{BeginsWithSeparator}
-use Rattle.path_building.specs.Resolved.{IsResolved, with_items, written_all}
-use Rattle.path_rules.specs.Prefix.{IsPrefixed, IsRawPrefix}
-use Rattle.path_building.specs.Join.{IsJoin, IsVerbatimPath, IsBetween, replacing, resolving, at_root, after}
-
--- a path has one prefix, and one list of components
-abbrev pub OnePrefix : Type 0
-OnePrefix = (s : List ℕ) (a b : Kind) (x y : List ℕ) → IsPrefixOf s a x → IsPrefixOf s b y → (a ≡ b) × (x ≡ y)
 
 abbrev pub OneList : Type 0
 OneList = (w : whose.Style) (s : List ℕ) (a b : List Item) → AreComponents w s a → AreComponents w s b → a ≡ b
-
-pub prefixed : (w : whose.Style) (base path joined : List ℕ) → IsJoin w base path joined → IsPrefixed w path → joined ≡ path
-prefixed w base path joined (replacing p e) h = e
-prefixed w base path joined (resolving n v some r) h = absurd (n h)
-prefixed w base path joined (at_root n v j) h = absurd (n h)
-prefixed w base path joined (after n o j) h = absurd (n h)
-
-raw_same : (w : whose.Style) (path raw other : List ℕ) → OnePrefix → IsRawPrefix w path raw → IsRawPrefix w path other → raw ≡ other
-raw_same style.Unix path raw other one h k = h ∙ sym k
-raw_same style.Windows path raw other one (inl h) (inl k) =
-    append_cancel_right raw other h.1.0 (sym h.1.1.1 ∙ k.1.1.1 ∙ ap (λ x. other ++ x) (sym (one path h.0 k.0 h.1.0 k.1.0 h.1.1.0 k.1.1.0).1))
-raw_same style.Windows path raw other one (inl h) (inr k) = absurd (k.0 h.0 h.1.0 h.1.1.0)
-raw_same style.Windows path raw other one (inr h) (inl k) = absurd (h.0 k.0 k.1.0 k.1.1.0)
-raw_same style.Windows path raw other one (inr h) (inr k) = h.1 ∙ sym k.1
-
-pub joined_at_root : (w : whose.Style) (base path joined raw : List ℕ) → OnePrefix → IsJoin w base path joined → ¬ (IsPrefixed w path) → ¬ (IsVerbatimPath w base)
-    → BeginsWithSeparator (rules_of_style w) path → IsRawPrefix w base raw → joined ≡ raw ++ path
-joined_at_root w base path joined raw one (replacing p e) n v root h = absurd (n p)
-joined_at_root w base path joined raw one (resolving m u some r) n v root h = absurd (v u)
-joined_at_root w base path joined raw one (at_root m u j) n v root h = j.is ∙ ap (λ x. x ++ path) (raw_same w base j.raw raw one j.prefix h)
-joined_at_root w base path joined raw one (after m o j) n v root h = absurd (j.relative root)
-
-between_same : (w : whose.Style) (base one other : List ℕ) → IsBetween w base one → IsBetween w base other → one ≡ other
-between_same w base one other (inl h) (inl k) = h.1 ∙ sym k.1
-between_same w base one other (inl h) (inr k) = absurd (k.0 h.0)
-between_same w base one other (inr h) (inl k) = absurd (h.0 k.0)
-between_same w base one other (inr h) (inr k) = h.1 ∙ sym k.1
-
-resolved_same : (base path one other : List ℕ) → OneList → IsResolved base path one → IsResolved base path other → one ≡ other
-resolved_same base path one other list h k =
-    h.is ∙ ap (λ x. written_all (with_items x h.items)) (list style.Windows base h.base_items k.base_items h.base_are k.base_are)
-    ∙ ap (λ x. written_all (with_items k.base_items x)) (list style.Windows path h.items k.items h.are k.are) ∙ sym k.is
-
-neither : (path : List ℕ) {V : Type 0} → path ≢ [] → V → (path ≡ []) ⊎ (¬ V) → ⊥
-neither path some v (inl e) = some e
-neither path some v (inr n) = n v
-
-pub one_join : (w : whose.Style) (base path one other : List ℕ) → OnePrefix → OneList → IsJoin w base path one → IsJoin w base path other → one ≡ other
-one_join w base path one other prefix list (replacing p e) k = e ∙ sym (prefixed w base path other k p)
-one_join w base path one other prefix list (resolving n v some r) (replacing p e) = absurd (n p)
-one_join w base path one other prefix list (resolving n v some r) (resolving m u other_some s) = resolved_same base path one other list r s
-one_join w base path one other prefix list (resolving n v some r) (at_root m u k) = absurd (u v)
-one_join w base path one other prefix list (resolving n v some r) (after m o k) = absurd (neither path some v o)
-one_join w base path one other prefix list (at_root n v j) k = j.is ∙ sym (joined_at_root w base path other j.raw prefix k n v j.root j.prefix)
-one_join w base path one other prefix list (after n o j) (replacing p e) = absurd (n p)
-one_join w base path one other prefix list (after n o j) (resolving m v some r) = absurd (neither path some v o)
-one_join w base path one other prefix list (after n o j) (at_root m u k) = absurd (j.relative k.root)
-one_join w base path one other prefix list (after n o j) (after m p k) = j.is ∙ ap (λ x. base ++ (x ++ path)) (between_same w base j.between k.between j.written k.written) ∙ sym k.is

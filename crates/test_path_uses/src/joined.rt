@@ -11,8 +11,7 @@ ghost use Rattle.path_rules.specs.Prefix.{IsPrefixed, IsRawPrefix};
 ghost use Rattle.path_building.specs.Join.{IsVerbatimPath, IsRelativeTo, HaveTheSamePrefix, without_dot};
 
 use os_path::{PathExt, PathStyle};
-use path_building::laws as building;
-use path_rules::laws;
+use path_laws::laws;
 use platform_str::{OsStr, Path, PathBuf, Unix};
 use std::alloc::{AllocError, Allocator};
 
@@ -40,8 +39,8 @@ pub fn joined<'a, E: PathStyle + 'a, A: Allocator + Copy>(
         → IsRawPrefix E.follows (path_bytes base.entry) raw
         → (path_vec_of joined).items ≡ raw ++ path_bytes path.entry) }
 {
-    laws::one_list();
-    building::join_components();
+    laws::one_join();
+    laws::join_components();
     base.join(alloc, path)
 }
 
@@ -58,7 +57,7 @@ pub fn joined_on_unix<A: Allocator + Copy>(
         → AreUnixComponents (path_bytes path.entry) more
         → AreUnixComponents (path_vec_of joined).items (items ++ without_dot more)) }
 {
-    building::join_components();
+    laws::join_components();
     base.join(alloc, path)
 }
 
@@ -71,7 +70,7 @@ pub fn parent_and_name<A: Allocator + Copy>(
         → AreUnixComponents (path_bytes path.entry) items
         → AreUnixComponents (path_vec_of joined).items items)) }
 {
-    building::parent_joined();
+    laws::parent_joined();
     let Some(parent) = path.parent() else {
         return Ok(None);
     };
@@ -94,7 +93,7 @@ pub fn base_and_rest<A: Allocator + Copy>(
         → AreUnixComponents (path_bytes path.entry) items
         → AreUnixComponents (path_vec_of joined).items items)) }
 {
-    building::strip_joined();
+    laws::strip_joined();
     let Some(rest) = path.strip_prefix(base) else {
         return Ok(None);
     };
@@ -119,7 +118,7 @@ pub fn parent_and_name_alone<'a, E: PathStyle + 'a, A: Allocator + Copy>(
         → (items : List Item) → AreComponents E.follows (path_bytes path.entry) items
         → AreComponents E.follows (path_vec_of parts.2).items items) }
 {
-    building::parent_joined();
+    laws::parent_joined();
     let Some(parent) = path.parent() else {
         return None;
     };
@@ -147,7 +146,7 @@ pub fn base_and_rest_alike<'a, E: PathStyle + 'a, A: Allocator + Copy>(
         → HaveTheSamePrefix E.follows (path_bytes base.entry) (path_vec_of parts.1).items
         → HaveAlikeComponents E.follows (path_bytes path.entry) (path_vec_of parts.1).items)) }
 {
-    building::strip_joined();
+    laws::strip_joined();
     let Some(rest) = path.strip_prefix(base) else {
         return None;
     };

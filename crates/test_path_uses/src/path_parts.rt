@@ -14,7 +14,7 @@ use platform_str::{OsStr, Path};
 pub fn without_ends<'a, E: PathStyle + 'a>(path: Path<'a, E>) -> Components<'a, E>
     ensures { (first : Item) → (middle : List Item) → (last : Item)
         → AreComponents E.follows (path_bytes path.entry) (first ∷ (middle ++ last ∷ []))
-        → result ≡ middle }
+        → result.items ≡ middle }
 {
     laws::one_list();
     let mut left = path.components();

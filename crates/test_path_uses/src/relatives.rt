@@ -5,7 +5,7 @@ ghost use Rattle.path_rules.specs.Root.{IsAbsolute};
 ghost use Rattle.path_building.specs.Relative.{AreOnePlace};
 
 use os_path::{PathExt, PathStyle};
-use path_rules::laws;
+use path_building::laws;
 use platform_str::{Path, PathBuf};
 use std::alloc::{AllocError, Allocator};
 
@@ -18,7 +18,7 @@ pub fn way_from_base<'a, E: PathStyle + 'a, A: Allocator + Copy>(
     ensures { IfOk result (λ joined. IfSome joined (λ joined. AreOnePlace E.follows
         (path_vec_of joined).items (path_bytes path.entry))) }
 {
-    laws::one_list();
+    laws::one_join();
     match path.relative_from(alloc, base) {
         Ok(Some(way)) => match base.join(alloc, way.as_path()) {
             Ok(joined) => Ok(Some(joined)),

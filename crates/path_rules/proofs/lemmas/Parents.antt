@@ -295,7 +295,7 @@ no_body r path body st d start empty =
     let e : Dot ≡ start_of r path = sym d ∙ start.0 in
     ap (λ y. CurDir ∷ y) (sym empty) ∙ ap (λ y. CurDir ∷ components_in r y) b ∙ ap (λ y. start_items y ++ components_in r (after_start y path)) e
 
-nothing_of : (w : whose.Style) → AreComponents w [] []
+pub nothing_of : (w : whose.Style) → AreComponents w [] []
 nothing_of style.Unix = refl
 nothing_of style.Windows = bare (record { none = λ k rest f. f; are = refl })
 

@@ -89,7 +89,7 @@ after_tail Root (b ∷ s) = (b ∷ [], refl)
 after_tail Dot [] = ([], refl)
 after_tail Dot (b ∷ s) = (b ∷ [], refl)
 
-root_tail : (s : List ℕ) → (front : List ℕ) × (s ≡ front ++ after_root s)
+pub root_tail : (s : List ℕ) → (front : List ℕ) × (s ≡ front ++ after_root s)
 root_tail [] = ([], refl)
 root_tail (c ∷ u) = cases (separates rules.Either c)
   where
@@ -119,19 +119,19 @@ head_body style.Windows path head (bare_head h) = inr (h.none, record { rules = 
 head_body style.Windows path head (prefixed_head h) = inl (record { kind = h.kind; rest = h.rest; prefix = h.is; rules = h.rules; is = h.body })
 
 -- the parts of a path with a prefix
-record AtPrefix (w : whose.Style) (whole : List ℕ) (head : Head) : Type 0 where
-  rest : List ℕ
-  joined : whole ≡ head.prefix.now ++ rest
-  cut : IsAsciiCut head.prefix.now rest
-  prefixed : IsPrefixed w whole
-  raw : IsRawPrefix w whole head.prefix.now
-  no_dot : ¬ (head.start ≡ Dot)
+pub record AtPrefix (w : whose.Style) (whole : List ℕ) (head : Head) : Type 0 where
+  pub rest : List ℕ
+  pub joined : whole ≡ head.prefix.now ++ rest
+  pub cut : IsAsciiCut head.prefix.now rest
+  pub prefixed : IsPrefixed w whole
+  pub raw : IsRawPrefix w whole head.prefix.now
+  pub no_dot : ¬ (head.start ≡ Dot)
 
 drive_cut : (raw rest : List ℕ) → Edge rules.Either rest ⊎ ((d : ℕ) × (raw ≡ d ∷ 0x3A ∷ [])) → IsAsciiCut raw rest
 drive_cut raw rest (inl e) = edge_cut rules.Either raw rest e
 drive_cut raw rest (inr k) = cut.after_ascii (k.0 ∷ []) 0x3A k.1 (lit< tt)
 
-at_prefix : (w : whose.Style) (whole : List ℕ) (head : Head) → IsHead w whole head → head.prefix.now ≢ [] → AtPrefix w whole head
+pub at_prefix : (w : whose.Style) (whole : List ℕ) (head : Head) → IsHead w whole head → head.prefix.now ≢ [] → AtPrefix w whole head
 at_prefix style.Unix whole head h m = absurd (m h.prefix)
 at_prefix style.Windows whole head (bare_head h) m = absurd (m h.prefix)
 at_prefix style.Windows whole head (prefixed_head h) m = record {

@@ -16,7 +16,7 @@ whole_tail s = record { before = []; joined = refl; cut = at_start refl }
 pub empty_tail : (s none : List ℕ) → none ≡ [] → IsTail s none
 empty_tail s none n = record { before = s; joined = sym (ap (λ x. s ++ x) n ∙ append-nil s); cut = at_end n }
 
-cuts : (p q t u : List ℕ) → t ≡ q ++ u → IsAsciiCut p t → IsAsciiCut q u → IsAsciiCut (p ++ q) u
+pub cuts : (p q t u : List ℕ) → t ≡ q ++ u → IsAsciiCut p t → IsAsciiCut q u → IsAsciiCut (p ++ q) u
 cuts p q t u j a (at_start n) = subst (λ x. IsAsciiCut x u) (sym (ap (λ x. p ++ x) n ∙ append-nil p)) (subst (IsAsciiCut p) (j ∙ ap (λ x. x ++ u) n) a)
 cuts p q t u j a (at_end n) = at_end n
 cuts p q t u j a (before_ascii b rest e l) = before_ascii b rest e l

@@ -4,7 +4,7 @@ use Rattle.os_path.specs.Views.{os_item_of}
 use Rattle.os_path.proofs.parts.file_name.Goals as goal
 
 pub returns-in_default : goal.returns-in_default
-returns-in_default g c = none_last g.E.PathStyle.follows (bytes c.args.path) c.new.result c.new.ensures c.in_default.ensures.steps.0
+returns-in_default g c = none_last g.E.PathStyle.follows (bytes c.args.path) c.new.result.items c.new.ensures.items c.in_default.ensures.steps.0.0
 
 pub returns : goal.returns
-returns g c = last_is g.E.PathStyle.follows (bytes c.args.path) c.new.result c.new.ensures bytes c.next_back.new.self (os_item_of c.in-Some.last) c.name_of.result c.in-Some.ensures.steps c.name_of.ensures
+returns g c = last_is g.E.PathStyle.follows (bytes c.args.path) c.new.result.items c.new.ensures.items bytes c.next_back.new.self.items (os_item_of c.in-Some.last) c.name_of.result c.in-Some.ensures.steps.0 c.name_of.ensures

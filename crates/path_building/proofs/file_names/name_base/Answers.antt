@@ -6,9 +6,9 @@ use Rattle.path_building.proofs.file_names.name_base.Goals as goal
 
 pub returns-in_default-name-clause-base : goal.returns-in_default-name-clause-base
 returns-in_default-name-clause-base c =
-    inr (last_is c.args.style c.args.path.now c.new.result c.new.ensures (λ (x : Bor (List ℕ)). x.now) c.next_back.new.self (item_of c.in-Some.last) None c.in-Some.ensures.steps c.in_default-name.ensures, refl)
+    inr (last_is c.args.style c.args.path.now c.new.result.items c.new.ensures.items (λ (x : Bor (List ℕ)). x.now) c.next_back.new.self.items (item_of c.in-Some.last) None c.in-Some.ensures.steps.0 c.in_default-name.ensures, refl)
 
 pub returns-in-Some-parent-clause-base : goal.returns-in-Some-parent-clause-base
 returns-in-Some-parent-clause-base c =
     let name = c.in-Some-name.field-0 in
-    inl ((name.now, last_is c.args.style c.args.path.now c.new.result c.new.ensures (λ (x : Bor (List ℕ)). x.now) c.next_back.new.self (item_of c.in-Some.last) (Some name) c.in-Some.ensures.steps c.in-Some-name.ensures), c.in-Some-parent.ensures)
+    inl ((name.now, last_is c.args.style c.args.path.now c.new.result.items c.new.ensures.items (λ (x : Bor (List ℕ)). x.now) c.next_back.new.self.items (item_of c.in-Some.last) (Some name) c.in-Some.ensures.steps.0 c.in-Some-name.ensures), c.in-Some-parent.ensures)

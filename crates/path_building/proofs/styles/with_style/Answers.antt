@@ -12,7 +12,7 @@ returns-clause-ok g c =
     let to = c.args.to in
     let path = c.args.path.now in
     let head = c.head_of-head.result in
-    let first : map item_of c.deref.result.now ≡ c.new.result = ap (map item_of) c.deref.ensures.value ∙ c.in_ok-add_all.ensures ∙ ap (λ z. map item_of z ++ c.new.result) c.new-items.ensures.items in
-    let same : c.new.result ≡ items_of head = one_components from path c.new.result (items_of head) c.new.ensures c.head_of-head.ensures.items in
+    let first : map item_of c.deref.result.now ≡ c.new.result.items = ap (map item_of) c.deref.ensures.value ∙ c.in_ok-add_all.ensures ∙ ap (λ z. map item_of z ++ c.new.result.items) c.new-items.ensures.items in
+    let same : c.new.result.items ≡ items_of head = one_components from path c.new.result.items (items_of head) c.new.ensures.items c.head_of-head.ensures.items in
     let had = subst (AreHad to true) (first ∙ same) c.in_default.ensures in
     restyled from to path head c.head_of-head.ensures.items c.head_of-head.ensures.parts had (map item_of c.deref-2.result.now) c.as_slice-none.result.now c.in_ok-written.field-0.items c.main_separator.result (ap (map item_of) c.deref-2.ensures.value ∙ c.in_ok-names.ensures) c.as_slice-none.ensures c.main_separator.ensures c.in_ok-written.ensures

@@ -8,8 +8,8 @@ returns-then-len-clause-same g c =
 
 pub loop-at-preserved : goal.loop-at-preserved
 loop-at-preserved g c = (
-  omega (arith, c.loop-at-test.true, c.loop-at.invariant.0, c.alike_len-len.ensures.within),
-  alike_further c.args.a.now c.args.b.now c.loop-at.at c.alike_len-len.result c.loop-at.invariant.1 c.alike_len-len.ensures.alike,
+  omega (arith, c.loop-at-test.true),
+  alike_further c.args.a.now c.args.b.now c.loop-at.at g.row.N c.loop-at.invariant.1 (λ k l. c.alike_len-len.ensures.alike k (omega (arith, l, c.if-len.false))),
 )
 
 pub returns-clause-same : goal.returns-clause-same

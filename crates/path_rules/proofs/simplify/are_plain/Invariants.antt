@@ -4,7 +4,7 @@ use Rattle.path_rules.specs.Simplified.{IsPlainItem}
 use Rattle.path_rules.proofs.simplify.are_plain.Given as goal
 
 abbrev pub invariant-loop-item : goal.invariant-loop-item
-invariant-loop-item l = AllByRecursion IsPlainItem l.fn.items ↔ AllByRecursion IsPlainItem l.left
+invariant-loop-item l = AllByRecursion IsPlainItem l.fn.items.items ↔ AllByRecursion IsPlainItem l.left.items
 
 abbrev pub decreases-loop-item : goal.decreases-loop-item
-decreases-loop-item l = length l.left
+decreases-loop-item l = length l.left.items

@@ -1,0 +1,59 @@
+-- What a path joined to a base is: one path.
+use Rattle.std.proofs.Common.{◌≡◌, ◌≢◌, ◌⊎◌, inl, inr, ℕ, List, [], ◌++◌, sym, ap, ◌∙◌}
+use Rattle.std.proofs.lemmas.List.{append_cancel_right}
+use Rattle.path_rules.specs.declared.rules.Style as whose
+use Rattle.path_rules.specs.declared.rules.Style.TheVariants as style
+use Rattle.path_rules.specs.StyleRules.{rules_of_style}
+use Rattle.path_rules.specs.Prefix.{IsPrefixed, IsRawPrefix}
+use Rattle.path_rules.specs.Root.{BeginsWithSeparator}
+use Rattle.path_rules.proofs.lemmas.OneList.{one_prefix, one_components}
+use Rattle.path_building.specs.Resolved.{IsResolved, with_items, written_all}
+use Rattle.path_building.specs.Join.{IsJoin, IsVerbatimPath, IsBetween, replacing, resolving, at_root, after}
+
+prefixed : (w : whose.Style) (base path joined : List ℕ) → IsJoin w base path joined → IsPrefixed w path → joined ≡ path
+prefixed w base path joined (replacing p e) h = e
+prefixed w base path joined (resolving n v some r) h = absurd (n h)
+prefixed w base path joined (at_root n v j) h = absurd (n h)
+prefixed w base path joined (after n o j) h = absurd (n h)
+
+raw_same : (w : whose.Style) (path raw other : List ℕ) → IsRawPrefix w path raw → IsRawPrefix w path other → raw ≡ other
+raw_same style.Unix path raw other h k = h ∙ sym k
+raw_same style.Windows path raw other (inl h) (inl k) =
+    append_cancel_right raw other h.1.0 (sym h.1.1.1 ∙ k.1.1.1 ∙ ap (λ x. other ++ x) (sym (one_prefix path h.0 k.0 h.1.0 k.1.0 h.1.1.0 k.1.1.0).1))
+raw_same style.Windows path raw other (inl h) (inr k) = absurd (k.0 h.0 h.1.0 h.1.1.0)
+raw_same style.Windows path raw other (inr h) (inl k) = absurd (h.0 k.0 k.1.0 k.1.1.0)
+raw_same style.Windows path raw other (inr h) (inr k) = h.1 ∙ sym k.1
+
+joined_at_root : (w : whose.Style) (base path joined raw : List ℕ) → IsJoin w base path joined → ¬ (IsPrefixed w path) → ¬ (IsVerbatimPath w base)
+    → BeginsWithSeparator (rules_of_style w) path → IsRawPrefix w base raw → joined ≡ raw ++ path
+joined_at_root w base path joined raw (replacing p e) n v root h = absurd (n p)
+joined_at_root w base path joined raw (resolving m u some r) n v root h = absurd (v u)
+joined_at_root w base path joined raw (at_root m u j) n v root h = j.is ∙ ap (λ x. x ++ path) (raw_same w base j.raw raw j.prefix h)
+joined_at_root w base path joined raw (after m o j) n v root h = absurd (j.relative root)
+
+between_same : (w : whose.Style) (base one other : List ℕ) → IsBetween w base one → IsBetween w base other → one ≡ other
+between_same w base one other (inl h) (inl k) = h.1 ∙ sym k.1
+between_same w base one other (inl h) (inr k) = absurd (k.0 h.0)
+between_same w base one other (inr h) (inl k) = absurd (h.0 k.0)
+between_same w base one other (inr h) (inr k) = h.1 ∙ sym k.1
+
+resolved_same : (base path one other : List ℕ) → IsResolved base path one → IsResolved base path other → one ≡ other
+resolved_same base path one other h k =
+    h.is ∙ ap (λ x. written_all (with_items x h.items)) (one_components style.Windows base h.base_items k.base_items h.base_are k.base_are)
+    ∙ ap (λ x. written_all (with_items k.base_items x)) (one_components style.Windows path h.items k.items h.are k.are) ∙ sym k.is
+
+neither : (path : List ℕ) {V : Type 0} → path ≢ [] → V → (path ≡ []) ⊎ (¬ V) → ⊥
+neither path some v (inl e) = some e
+neither path some v (inr n) = n v
+
+pub one_join : (w : whose.Style) (base path one other : List ℕ) → IsJoin w base path one → IsJoin w base path other → one ≡ other
+one_join w base path one other (replacing p e) k = e ∙ sym (prefixed w base path other k p)
+one_join w base path one other (resolving n v some r) (replacing p e) = absurd (n p)
+one_join w base path one other (resolving n v some r) (resolving m u other_some s) = resolved_same base path one other r s
+one_join w base path one other (resolving n v some r) (at_root m u k) = absurd (u v)
+one_join w base path one other (resolving n v some r) (after m o k) = absurd (neither path some v o)
+one_join w base path one other (at_root n v j) k = j.is ∙ sym (joined_at_root w base path other j.raw k n v j.root j.prefix)
+one_join w base path one other (after n o j) (replacing p e) = absurd (n p)
+one_join w base path one other (after n o j) (resolving m v some r) = absurd (neither path some v o)
+one_join w base path one other (after n o j) (at_root m u k) = absurd (j.relative k.root)
+one_join w base path one other (after n o j) (after m p k) = j.is ∙ ap (λ x. base ++ (x ++ path)) (between_same w base j.between k.between j.written k.written) ∙ sym k.is
