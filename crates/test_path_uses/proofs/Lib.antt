@@ -8,6 +8,7 @@ pub mod PathEnds
 pub mod PathParts
 pub mod LastNames
 pub mod KnownPrefix
+pub mod LeftParts
 pub mod OtherStyle
 pub mod Stripped
 pub mod Ways

@@ -11,6 +11,7 @@ pub mod comparisons;
 pub mod form;
 pub mod ignored;
 pub mod joined;
+pub mod left_parts;
 pub mod normal_forms;
 pub mod path_ends;
 pub mod path_parts;

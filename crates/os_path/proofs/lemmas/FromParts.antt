@@ -1,5 +1,5 @@
 -- A path whose components are well-formed strings is one.
-use Rattle.std.proofs.Common.{◌≡◌, ◌⊎◌, inl, inr, ◌<◌, ◌≤◌, ℕ, zero, suc, get_or, Bool, true, false, ◌&&◌, nat_eq, if◌then◌else◌, List, [], ◌∷◌, ◌++◌, length, Option, Some, None, refl, sym, ap, ◌∙◌, subst, arith, append_assoc, append-nil, eqb-true, lit<}
+use Rattle.std.proofs.Common.{◌≡◌, inl, inr, ◌<◌, ℕ, zero, suc, get_or, Bool, true, false, ◌&&◌, nat_eq, if◌then◌else◌, List, [], ◌∷◌, ◌++◌, Option, Some, None, refl, sym, ap, ◌∙◌, subst, arith, append_assoc, append-nil, eqb-true, lit<}
 use Rattle.std.specs.List.{slice_split, filter_map, cons_option, AllByRecursion}
 use Rattle.std.specs.Str.{IsUtf8}
 use Rattle.std.proofs.lemmas.List.{append_cancel_left, append_cancel_right}
@@ -17,7 +17,7 @@ use Rattle.path_rules.specs.Separators.{separates, IsPlain, Edge}
 use Rattle.path_rules.specs.Component.{Item, Prefix, RootDir, CurDir, ParentDir, Normal, dot, named, components_in}
 use Rattle.path_rules.specs.Heads.{start_items}
 use Rattle.path_rules.specs.Prefix.{rules_of}
-use Rattle.path_rules.specs.Components.{start_of, after_start, plain_components, implied_root, root_of, after_root, AreWindowsComponents, prefixed, bare, AreComponents}
+use Rattle.path_rules.specs.Components.{start_of, after_start, plain_components, root_of, after_root, AreWindowsComponents, prefixed, bare, AreComponents}
 use Rattle.path_building.specs.Spelled.{spelling}
 use Rattle.path_rules.proofs.lemmas.Ascii.{ascii_separators}
 use Rattle.path_rules.proofs.lemmas.Edges.{edge_after}

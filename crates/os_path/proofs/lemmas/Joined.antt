@@ -1,22 +1,19 @@
 -- Strings of a platform joined beside an ASCII byte, and paths joined, are strings of the platform.
-use Rattle.std.proofs.Common.{◌≡◌, ◌≢◌, ◌⊎◌, Result, Ok, Err, IfOk, OnOk, OnErr, take, drop, inl, inr, ◌<◌, ◌≤◌, ℕ, suc, zero, get_or, Bool, true, false, List, [], ◌∷◌, ◌++◌, length, refl, sym, ap, ◌∙◌, subst, arith, append_assoc, append-nil, lit<}
+use Rattle.std.proofs.Common.{◌≡◌, ◌≢◌, ◌⊎◌, Result, Ok, Err, IfOk, OnOk, OnErr, take, drop, inl, inr, ◌<◌, ℕ, suc, zero, get_or, Bool, List, [], ◌∷◌, ◌++◌, length, refl, sym, ap, ◌∙◌, subst, arith, append_assoc, append-nil, lit<}
 use Rattle.std.proofs.lemmas.List.{append_cancel_left, take_at}
 use Rattle.std.specs.Str.{IsUtf8}
 use Rattle.std.proofs.lemmas.Str.{IsUtf8-from_ascii}
 use Rattle.wtf8_core.specs.OccurrenceLaws.{OccurrenceLaws}
 use Rattle.path_rules.specs.declared.rules.Rules.{Rules}
-use Rattle.path_rules.specs.declared.rules.Rules.TheVariants as rules
 use Rattle.path_rules.specs.declared.rules.Style as whose
 use Rattle.path_rules.specs.declared.rules.Style.TheVariants as style
-use Rattle.path_rules.specs.Separators.{separates}
 use Rattle.path_rules.specs.StyleRules.{rules_of_style, main_separator}
 use Rattle.path_rules.specs.Component.{Item, Prefix, RootDir, CurDir, ParentDir, Normal}
-use Rattle.path_rules.specs.Components.{AreComponents, prefixed}
+use Rattle.path_rules.specs.Components.{prefixed}
 use Rattle.path_rules.specs.Root.{BeginsWithSeparator}
-use Rattle.path_rules.specs.Trailing.{EndsWithSeparator}
 use Rattle.path_rules.specs.Prefix.{IsRawPrefix}
-use Rattle.path_building.specs.Join.{NeedsNoSeparator, IsDriveAlone, IsJoin, replacing, resolving, at_root, after}
-use Rattle.path_building.specs.Resolved.{unless_name, without_name, first_and_root, with_item, with_items, written, written_between, written_next, written_all}
+use Rattle.path_building.specs.Join.{NeedsNoSeparator, IsJoin, replacing, resolving, at_root, after}
+use Rattle.path_building.specs.Resolved.{without_name, first_and_root, with_item, with_items, written, written_next, written_all}
 use Rattle.path_rules.specs.Parent.{IsParent}
 use Rattle.path_rules.specs.Name.{IsStem}
 use Rattle.path_building.specs.FileName.{IsNamed, IsFileNameAt, IsExtensionSet, IsExtensionAdded, dotted}

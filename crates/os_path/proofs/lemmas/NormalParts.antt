@@ -1,18 +1,17 @@
 -- What is left of well-formed components is well formed.
-use Rattle.std.proofs.Common.{◌≡◌, ◌⊎◌, inl, inr, ℕ, List, [], ◌∷◌, ◌++◌, reverse, take, drop, sym, ap, ◌∙◌, subst, append-nil}
-use Rattle.std.specs.List.{AllByRecursion}
+use Rattle.std.proofs.Common.{inl, inr, ℕ, List, [], ◌∷◌, reverse, take, drop, sym, ◌∙◌, subst, append-nil}
 use Rattle.std.proofs.lemmas.List.{reverse-reverse}
 use Rattle.wtf8_core.specs.Boundary.{IsBoundary}
 use Rattle.wtf8_core.specs.OccurrenceLaws.{OccurrenceLaws}
 use Rattle.path_rules.specs.declared.rules.Style.{Style}
 use Rattle.path_rules.specs.Components.{AreComponents}
-use Rattle.path_rules.specs.Component.{Item, Prefix, RootDir, CurDir, ParentDir, Normal}
+use Rattle.path_rules.specs.Component.{Item}
 use Rattle.path_building.specs.Normal.{LeadsTo, nowhere, prefix, bare_root, root, start, here, name, up}
-use Rattle.path_building.specs.Normalized.{BeginsAsPrefix, IsShielded, IsNormalForm, IsNormalized}
+use Rattle.path_building.specs.Normalized.{IsShielded, IsNormalForm, IsNormalized}
 use Rattle.path_building.specs.Cleaned as clean
 use Rattle.path_building.specs.Cleaned.{CleansTo, or_dot, IsCleanForm, IsCleaned}
 use Rattle.path_building.proofs.lemmas.Resolving.{onto, onto_is}
-use Rattle.os_path.specs.Formed.{IsFormed, AreFormed}
+use Rattle.os_path.specs.Formed.{AreFormed}
 use Rattle.os_path.proofs.lemmas.Cuts.{cuts}
 use Rattle.os_path.proofs.lemmas.FromParts.{joins, from_items}
 use Rattle.os_path.proofs.lemmas.Whole.{all_formed}

@@ -1,5 +1,5 @@
 -- A path without `\\?\` is a string.
-use Rattle.std.proofs.Common.{◌≡◌, inl, inr, ℕ, List, [], ◌∷◌, length, take, drop, refl, sym, subst, lit<}
+use Rattle.std.proofs.Common.{inl, inr, ℕ, List, [], ◌∷◌, take, drop, refl, sym, subst, lit<}
 use Rattle.wtf8_core.specs.Boundary.{IsBoundary}
 use Rattle.path_rules.specs.Cut.{after_ascii}
 use Rattle.path_rules.specs.declared.rules.Style.{Style}

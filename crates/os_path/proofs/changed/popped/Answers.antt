@@ -1,4 +1,4 @@
-use Rattle.std.proofs.Common.{length, take, sym, subst}
+use Rattle.std.proofs.Common.{sym, subst}
 use Rattle.path_rules.specs.Parent.{IsParent}
 use Rattle.os_path.proofs.lemmas.Cuts.{cuts}
 use Rattle.os_path.proofs.lemmas.Joined.{parent_formed}

@@ -9,4 +9,4 @@ from_encoded_bytes_unchecked-requires g c =
     let at = c.as_path.ensures in
     let part = c.as_path.result.now in
     after_formed formed laws.cut_prefix laws.cut_suffix (at.before ++ part) at.before part refl at.begins
-    (before_formed formed laws.cut_prefix laws.cut_suffix c.args.self.now.left.path (at.before ++ part) at.after at.joined at.ends c.args.self.now.ok.path)
+    (before_formed formed laws.cut_prefix laws.cut_suffix c.self.inside.left.path (at.before ++ part) at.after at.joined at.ends c.self.invariant.path)
