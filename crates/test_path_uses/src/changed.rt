@@ -39,7 +39,7 @@ pub fn pushed<E: PathStyle, A: Allocator + Copy>(
         → (path_vec_of path.new).items ≡ joined) }
     ensures kept { OnErr result ((path_vec_of path.new).items ≡ (path_vec_of path.old).items) }
 {
-    laws::one_list();
+    building::one_join();
     push(path, more)
 }
 

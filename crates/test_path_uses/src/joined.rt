@@ -11,7 +11,7 @@ ghost use Rattle.path_rules.specs.Prefix.{IsPrefixed, IsRawPrefix};
 ghost use Rattle.path_building.specs.Join.{IsVerbatimPath, IsRelativeTo, HaveTheSamePrefix, without_dot};
 
 use os_path::{PathExt, PathStyle};
-use path_laws::laws;
+use path_building::laws;
 use platform_str::{OsStr, Path, PathBuf, Unix};
 use std::alloc::{AllocError, Allocator};
 

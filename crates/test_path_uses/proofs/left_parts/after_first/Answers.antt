@@ -7,12 +7,12 @@ use Rattle.test_path_uses.proofs.LeftParts.{first_taken}
 use Rattle.test_path_uses.proofs.left_parts.after_first.Goals as goal
 
 pub returns-clause-part : goal.returns-clause-part
-returns-clause-part g c =
+returns-clause-part c =
     let left = c.as_path.ensures in
     (left.before, (left.after, sym (c.next.ensures.steps.1.path ∙ c.components-left.ensures.path) ∙ left.joined))
 
 pub returns-clause-others : goal.returns-clause-others
-returns-clause-others g c = λ first others are.
+returns-clause-others c = λ first others are.
     let left = c.next.new.self in
     let part = path_bytes c.as_path.result in
     let rest = first_taken os_item_of c.next.result c.components-left.result.items left.items first others c.next.ensures.steps.0
