@@ -8,7 +8,7 @@ pub returns-then-not-is_match-clause-ok : goal.returns-then-not-is_match-clause-
 returns-then-not-is_match-clause-ok g c =
     let set = c.args.globs.now in
     let other : ¬ (IsMatchedBy g.E.Platform set c.args.item.now) = λ matches.
-    let matched = c.is_match.ensures.1 (subst (IsMatchedBy g.E.Platform set) (sym c.in-Ok.ensures.bytes) matches) in
+    let matched = c.is_match.ensures.value.1 (subst (IsMatchedBy g.E.Platform set) (sym c.in-Ok.ensures.bytes) matches) in
     let never = sym matched ∙ c.if-not-is_match.true in cc in
     ([], ((c.in-Ok.ensures.formed, inr (other, refl)), sym (append-nil c.args.output.now.items)))
 
@@ -16,7 +16,7 @@ pub returns-in-Line-clause-ok : goal.returns-in-Line-clause-ok
 returns-in-Line-clause-ok g c =
     let P = g.E.Platform in
     let name = c.args.item.now in
-    let matched = subst (IsMatchedBy P c.args.globs.now) c.in-Ok.ensures.bytes (c.is_match.ensures.0 c.if-not-is_match.false) in
+    let matched = subst (IsMatchedBy P c.args.globs.now) c.in-Ok.ensures.bytes (c.is_match.ensures.value.0 c.if-not-is_match.false) in
     on_ok_weaker c.write_line.result
     (λ w.
     let line = subst (λ n. IsLineEscape P.units n w.0) c.in-Ok.ensures.bytes w.1.0 in
@@ -27,7 +27,7 @@ pub returns-in-Name-clause-ok : goal.returns-in-Name-clause-ok
 returns-in-Name-clause-ok g c =
     let P = g.E.Platform in
     let name = c.args.item.now in
-    let matched = subst (IsMatchedBy P c.args.globs.now) c.in-Ok.ensures.bytes (c.is_match.ensures.0 c.if-not-is_match.false) in
+    let matched = subst (IsMatchedBy P c.args.globs.now) c.in-Ok.ensures.bytes (c.is_match.ensures.value.0 c.if-not-is_match.false) in
     on_ok_weaker c.push_name.result
     (λ e. (name ++ 0 ∷ [], ((c.in-Ok.ensures.formed, inl (matched, subst (λ f. IsInForm P f name (name ++ 0 ∷ [])) (sym c.in-Name.is) refl)), e)))
     c.push_name.ensures.ok
@@ -36,7 +36,7 @@ pub returns-in-Word-clause-ok : goal.returns-in-Word-clause-ok
 returns-in-Word-clause-ok g c =
     let P = g.E.Platform in
     let name = c.args.item.now in
-    let matched = subst (IsMatchedBy P c.args.globs.now) c.in-Ok.ensures.bytes (c.is_match.ensures.0 c.if-not-is_match.false) in
+    let matched = subst (IsMatchedBy P c.args.globs.now) c.in-Ok.ensures.bytes (c.is_match.ensures.value.0 c.if-not-is_match.false) in
     on_ok_weaker c.write_word.result
     (λ w. (w.0, ((c.in-Ok.ensures.formed, inl (matched, subst (λ f. IsInForm P f name w.0) (sym c.in-Word.is) w.1.0)), w.1.1)))
     c.write_word.ensures.line
