@@ -11,10 +11,7 @@ pub fn is_ascii_at<const N: usize>(bytes: &[u8], at: usize) -> bool
     requires few { N ≤ 64 }
     ensures { IsTrue result → (i : ℕ) → i < N → slice_index bytes.now (at + i) < 0x80 }
 {
-    Simd::<u8, N>::from_slice(&bytes[at..])
-        .simd_ge(Simd::splat(0x80))
-        .to_bitmask()
-        == 0
+    ascii_len_at::<N>(bytes, at) >= N
 }
 
 /// How many of the N bytes from index `at` on are ASCII before the first that isn't.

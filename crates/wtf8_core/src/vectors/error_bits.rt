@@ -1,7 +1,6 @@
 //! How many bytes of a window are allowed after those before them. A window is a block or a step
 //! with the [`BEFORE`](crate::vectors::BEFORE) bytes before it.
 ghost use Rattle.std.specs.Prelude.{◌≡◌, ◌≢◌, ℕ, ◌+◌, ◌-◌, ◌≤◌, ◌<◌, length, slice_index, bit_and, bit_or, bit_xor};
-ghost use Rattle.wtf8_core.specs.EncodedPrefix.{with_zeros_before};
 ghost use Rattle.wtf8_core.specs.PairBits.{continuation_due, error_bits, pair_bits, surrogate_pair_difference};
 ghost use Rattle.wtf8_core.specs.Neighbours.{EachMayFollow};
 ghost use Rattle.wtf8_core.specs.declared.vectors.Encoding.TheVariants.{Utf8, Wtf8};
@@ -104,39 +103,6 @@ fn error_bits_of_16(window: &[u8]) -> u8x16
     xor(pairs, continuation_due(load(window, 1), load(window, 2)))
 }
 
-/// The same for the first 16 bytes, with zeros before them.
-#[inline(always)]
-fn error_bits_of_first_16(bytes: &[u8]) -> u8x16
-    requires { 16 ≤ length bytes.now }
-    ensures { (i : ℕ) → i < 16 → slice_index result i
-        ≡ error_bits (slice_index (with_zeros_before bytes.now) (1 + i))
-        (slice_index (with_zeros_before bytes.now) (2 + i))
-        (slice_index (with_zeros_before bytes.now) (3 + i))
-        (slice_index (with_zeros_before bytes.now) (4 + i)) }
-{
-    let zeros = u8x16::splat(0);
-    let first = u8x16::from_slice(bytes);
-    let one = zeros.shuffle(
-        first,
-        [
-            15, 16, 17, 18, 19, 20, 21, 22, 23, 24, 25, 26, 27, 28, 29, 30,
-        ],
-    );
-    let two = zeros.shuffle(
-        first,
-        [
-            14, 15, 16, 17, 18, 19, 20, 21, 22, 23, 24, 25, 26, 27, 28, 29,
-        ],
-    );
-    let three = zeros.shuffle(
-        first,
-        [
-            13, 14, 15, 16, 17, 18, 19, 20, 21, 22, 23, 24, 25, 26, 27, 28,
-        ],
-    );
-    xor(pair_bits_of_16(one, first), continuation_due(three, two))
-}
-
 /// For each of the 64 bytes, 0 where a low surrogate begins directly after a high one.
 #[inline(always)]
 fn surrogate_pair_difference(window: &[u8]) -> u8x64
@@ -198,15 +164,4 @@ pub(crate) fn allowed_in_step(window: &[u8]) -> usize
     ensures pattern { EachMayFollow Utf8 result window.now }
 {
     leading_zero(error_bits_of_16(window)).min(STEP)
-}
-
-/// How many of the first 16 bytes are allowed in UTF-8 after those before them, up to the first that
-/// isn't.
-#[inline(always)]
-pub(crate) fn allowed_in_first_step(bytes: &[u8]) -> usize
-    requires { 16 ≤ length bytes.now }
-    ensures within { result ≤ 16 }
-    ensures pattern { EachMayFollow Utf8 result (with_zeros_before bytes.now) }
-{
-    leading_zero(error_bits_of_first_16(bytes)).min(STEP)
 }

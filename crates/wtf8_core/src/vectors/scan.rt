@@ -13,7 +13,7 @@ ghost use Rattle.wtf8_core.specs.Neighbours.{IsClosed};
 
 use crate::byte::is_continuation;
 use crate::vectors::ascii::{is_ascii_at, is_ascii_to_end};
-use crate::vectors::error_bits::{allowed_in_block, allowed_in_first_step, allowed_in_step};
+use crate::vectors::error_bits::{allowed_in_block, allowed_in_step};
 use crate::vectors::window::put_in_zeros;
 use crate::vectors::{BEFORE, BLOCK, Encoding, STEP};
 
@@ -202,7 +202,9 @@ fn scan_first_steps(bytes: &[u8]) -> Result<usize, usize>
     ensures prefix { MatchResult result (λ end. KeepsPattern Utf8 bytes.now end)
         (λ prefix. IsEncodedPrefix Utf8 bytes.now prefix) }
 {
-    let kept = allowed_in_first_step(bytes);
+    let mut window = [0; BEFORE + STEP];
+    put_in_zeros(&bytes[..STEP], &mut window, BEFORE);
+    let kept = allowed_in_step(&window);
     if kept < STEP {
         return Err(start_before(bytes, kept));
     }

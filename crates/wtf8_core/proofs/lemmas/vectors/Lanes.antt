@@ -1,5 +1,5 @@
 -- The operations on vectors, lane by lane.
-use Rattle.wtf8_core.proofs.Common.{◌≡◌, inl, inr, ◌⊎◌, ⊎_elim, ℕ, zero, suc, ◌+◌, ◌-◌, ◌%◌, ◌^◌, ◌<◌, ◌≤◌, Bool, true, false, cond, ltb, List, [], ◌∷◌, ◌++◌, map, length, length-append, get_or, get_or-drop, get_or-take, take, length-take-le, with_zeros_before, bit_or, replicate, not, refl, sym, ap, ◌∙◌, subst, arith, w8, Fits, eqb, eqb-true, length-map, length-replicate, get_or-map, get_or_append_left, range_with_len, not-true, not-false, cases_lt, nat_tests}
+use Rattle.wtf8_core.proofs.Common.{◌≡◌, inl, inr, ◌⊎◌, ⊎_elim, ℕ, zero, suc, ◌+◌, ◌-◌, ◌%◌, ◌^◌, ◌<◌, ◌≤◌, Bool, true, false, cond, ltb, List, [], ◌∷◌, ◌++◌, map, length, length-append, get_or, bit_or, replicate, not, refl, sym, ap, ◌∙◌, subst, arith, w8, Fits, eqb, eqb-true, length-map, length-replicate, get_or-map, get_or_append_left, range_with_len, not-true, not-false, cases_lt, nat_tests}
 use Rattle.std.proofs.lemmas.Simd.{Each1-get_or, get_or-chunk, get_or-zip2, pick_l-range_with_len, get_or-replicate, tops_compared, zip2_splat, zip2_splat_left, length-sel_l, get_or-sel_l, mask_l-mod, bitmask_splat, trailing_mask_l}
 use Rattle.std.proofs.lemmas.List.Sums.{prefix_len_passes}
 use Rattle.std.proofs.lemmas.Nat.{trailing_le, le_or_l, le_or_r}
@@ -9,14 +9,6 @@ use lib.Lanes.{zip2, pick_l, sel_l, mask_l, top, Each1}
 -- an operator between a vector of n lanes and one value
 pub lane_with : (f : ℕ → ℕ → ℕ) (xs : List ℕ) (n y : ℕ) → length xs ≡ n → (i : ℕ) → i < n → get_or (zip2 f xs (replicate n y)) i 0 ≡ f (get_or xs i 0) y
 lane_with f xs n y p i h = get_or-zip2 f xs (replicate n y) i 0 0 0 (omega (arith, p, h)) (omega (arith, h, length-replicate n y)) ∙ ap (f (get_or xs i 0)) (get_or-replicate n i y 0 h)
-
--- the first 16 bytes after k zeros, by a shuffle of 16 zeros and these
-pub after_zeros : (bytes : List ℕ) (k n i : ℕ) → 16 ≤ length bytes → k ≤ 3 → n ≡ 4 - k + i → i < 16 → get_or (pick_l 0 (replicate 16 0 ++ take 16 bytes) (range_with_len (16 - k) 16)) i 0 ≡ get_or (with_zeros_before bytes) n 0
-after_zeros bytes k n i long few is h =
-    let zs : List ℕ = replicate 16 0 ++ take 16 bytes in
-    let index : 16 - k + i ≡ 12 + n = omega (arith, is, few) in
-    ap (λ x. get_or x i 0) (pick_l-range_with_len 0 zs (16 - k) 16 (omega (arith, length-take-le 16 bytes long, few)))
-    ∙ get_or-chunk (16 - k) 16 zs i 0 h ∙ ap (λ m. get_or zs m 0) index ∙ sym (get_or-drop 12 zs n 0) ∙ get_or-take 20 (with_zeros_before bytes) n 0 (omega (arith, is, h))
 
 -- the greater of two, less the second, is how far the first is above it
 lifted : (a b : ℕ) → a < 256 → b < 256 → (cond (ltb a b) b a + (2 ^ 8 - b)) % 2 ^ 8 ≡ a - b
@@ -85,12 +77,6 @@ no_bit_of_both xs p e i h =
         ∙ ap (bit_or (get_or (pick_l 0 (xs ++ xs) (range_with_len 0 32)) j 0)) (sym (in_half 32 j (omega arith) l))
         ∙ sym (get_or-zip2 bit_or (pick_l 0 (xs ++ xs) (range_with_len 0 32)) (pick_l 0 (xs ++ xs) (range_with_len 32 32)) j 0 0 0 l l)
         ∙ eqb-true _ _ (not-false _ (none_passes (λ a b. not (eqb a b)) (both_halves xs) 32 0 (omega arith) refl e j l))
-
-pub none_passes_left : (t : ℕ → ℕ → Bool) (xs : List ℕ) (k y : ℕ) → k ≤ 64 → length xs ≡ k → eqb (mask_l (map (top 7) (zip2 (λ a b. cond (t a b) 255 0) (replicate k y) xs)) % 2 ^ 64) 0 ≡ true
-    → (i : ℕ) → i < k → t y (get_or xs i 0) ≡ false
-none_passes_left t xs k y few p e i h =
-    none_set (t y) xs (sym (mask_l-mod (map (t y) xs) 64 (omega (arith, length-map xs (t y), p, few)))
-    ∙ rw (tops_compared w8 t (replicate k y) xs, zip2_splat_left t y k xs p) at (eqb-true _ _ e)) i 0 (omega (arith, p, h))
 
 -- before the first bit that is set no lane passes
 none_before : (test : ℕ → Bool) (xs : List ℕ) → length xs ≤ 64 → (i : ℕ) → i < length xs → i < count_trailing_zeros 64 (mask_l (map test xs)) → test (get_or xs i 0) ≡ false

@@ -311,6 +311,11 @@ pub zeros_before : (w bytes : List ℕ) → ((i : ℕ) → i < 4 → get_or w i 
 zeros_before w bytes before copy (suc (suc (suc (suc i)))) = let index : 4 + i ≡ suc (suc (suc (suc i))) = omega arith in ap (λ x. get_or w x 0) (sym index) ∙ copy i
 zeros_before w bytes before copy i = before i (omega arith)
 
+-- and of the first 16 bytes
+pub window_from_start : (w bytes : List ℕ) → ((i : ℕ) → i < 4 → get_or w i 0 ≡ 0) → ((i : ℕ) → get_or w (4 + i) 0 ≡ get_or (take 16 bytes) i 0) → (i : ℕ) → i < 20 → get_or w i 0 ≡ get_or (with_zeros_before bytes) i 0
+window_from_start w bytes before copy (suc (suc (suc (suc i)))) h = zeros_before w (take 16 bytes) before copy (suc (suc (suc (suc i)))) ∙ get_or-take 16 bytes i 0 (omega (arith, h))
+window_from_start w bytes before copy i h = before i (omega arith)
+
 -- whether the code point at an edge is a high surrogate, by the bytes before it
 edge_high : (p x y z : ℕ) → IsBetweenCodePoints p x y z → x ≡ 0xED → is_in_range 0xA0 0xAF y ≡ is_high p
 edge_high p x y z edge e = go (is_in_range 0xA0 0xAF y) refl
