@@ -16,6 +16,8 @@ CRATES = ROOT / "crates"
 LIST = ROOT / "crates.txt"
 # The comment of crates.txt before the crates that are no part of the product.
 TRYING = "# To try it."
+# Modules that are open for the crates above alone: os_str_bytes doesn't export them, and no user calls them.
+INNER = {("wtf8_core", "vectors")}
 FENCE = "```"
 CRATE = re.compile(r"^(\w+)( staticlib)?:(.*)$", re.M)
 DEFINED = re.compile(r"^pub (?:const |unsafe |extern \"C\" )*(?:fn|struct|enum|trait|type|const|static) (\w+)", re.M)
@@ -246,7 +248,7 @@ def heads_of(path: Path) -> Iterator[Head]:
 
 def public_calls(crate: str) -> Iterator[tuple[Path, Call]]:
     """Yields the calls of a library that its users can make, each with its file."""
-    items = reached((crate,))
+    items = reached((crate,)).difference(*(reached(module) for module in INNER))
     owners = {item[-1] for item in items}
     for path in files_of(crate):
         module = (crate, *path.relative_to(root_of(crate).parent).with_suffix("").parts)

@@ -35,8 +35,8 @@ pub use Rattle.wtf8_core.proofs.lemmas.characters.Seams.{Covered, covered_after,
 pub use Rattle.wtf8_core.proofs.lemmas.chunks.OneList.{AreChunksFrom, are_chunks, chunks_from_start, chunks_once, one_more_chunk, some_chunks}
 pub use Rattle.wtf8_core.proofs.lemmas.forms.ByStd.{form_encode}
 pub use Rattle.wtf8_core.proofs.lemmas.forms.Shapes.{form_ascii, form_bounds, form_two, form_three, form_past}
-pub use Rattle.wtf8_core.proofs.lemmas.scan.ComputedTests.{all_below, copies, each_below, fails, fails_within}
-pub use Rattle.wtf8_core.proofs.lemmas.scan.Lanes.{lane_with, no_bit_of_both, none_of_64_passes_before, none_passes_before, none_passes_left_before, none_set}
+pub use Rattle.wtf8_core.proofs.lemmas.vectors.ComputedTests.{all_below, copies, each_below, fails, fails_within}
+pub use Rattle.wtf8_core.proofs.lemmas.vectors.Lanes.{none_passes_before, none_passes_left_before, none_set}
 pub use Rattle.wtf8_core.specs.Chunks.{AreChunks, Chunk, joined}
 unfoldable pub use Rattle.wtf8_core.specs.CodePoint.{encode}
 pub use Rattle.wtf8_core.specs.Covered.{HasNoCharacter, IsCovered, CrossesNoCharacter}

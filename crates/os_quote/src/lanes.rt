@@ -1,12 +1,14 @@
 //! 64 bytes at once: how many of them begin no character that is written as a token on one line.
-ghost use Rattle.std.specs.Prelude.{◌≡◌, ℕ, ◌+◌, ◌*◌, ◌/◌, ◌≤◌, ◌<◌, false, length, IsTrue};
-ghost use Rattle.std.specs.Prelude.{slice_index, bit_and, bit_or};
+ghost use Rattle.std.specs.Prelude.{◌≡◌, ℕ, ◌+◌, ◌*◌, ◌/◌, ◌≤◌, ◌<◌, false, length, slice_index};
 ghost use Rattle.os_quote.specs.Hidden.{is_suspect, byte_bits, kind_bits, second_bits, third_bits};
 
 use crate::suspect_bits::{
     FIRST_HIGH, FIRST_LOW, OTHER_HIGH, OTHER_LOW, SECOND_HIGH, SECOND_LOW, THIRD_HIGH, THIRD_LOW,
 };
 use std::simd::prelude::*;
+use wtf8_core::vectors::lanes::{
+    and, are_zero, entries, high_halves, leading_zero, load, masked, or,
+};
 
 /// The bytes of a block.
 pub(crate) const BLOCK: usize = 64;
@@ -33,15 +35,6 @@ pub(crate) fn clear_len(bytes: &[u8]) -> usize
         return BLOCK;
     }
     leading_zero(suspects)
-}
-
-/// The next 64 bytes from an index on.
-#[inline(always)]
-fn load(bytes: &[u8], from: usize) -> u8x64
-    requires { from + 64 ≤ length bytes.now }
-    ensures { (i : ℕ) → i < 64 → slice_index result i ≡ slice_index bytes.now (from + i) }
-{
-    u8x64::from_slice(&bytes[from..])
 }
 
 /// The kinds of characters that each byte may begin.
@@ -80,68 +73,5 @@ fn bits(high: [u8; 64], low: [u8; 64], lanes: u8x64) -> u8x64
         ≡ byte_bits high low (slice_index lanes i) }
 {
     let by_high = entries(high, high_halves(lanes));
-    and(by_high, entries(low, low_halves(lanes)))
-}
-
-/// The bits that both have.
-#[inline(always)]
-fn and<const N: usize>(a: Simd<u8, N>, b: Simd<u8, N>) -> Simd<u8, N>
-    ensures { (i : ℕ) → i < N
-        → slice_index result i ≡ bit_and (slice_index a.entry i) (slice_index b.entry i) }
-{
-    a & b
-}
-
-/// The bits that one of them has.
-#[inline(always)]
-fn or<const N: usize>(a: Simd<u8, N>, b: Simd<u8, N>) -> Simd<u8, N>
-    ensures { (i : ℕ) → i < N
-        → slice_index result i ≡ bit_or (slice_index a.entry i) (slice_index b.entry i) }
-{
-    a | b
-}
-
-/// Each lane's high half.
-#[inline(always)]
-fn high_halves(lanes: u8x64) -> u8x64
-    ensures { (i : ℕ) → i < 64 → slice_index result i ≡ slice_index lanes i / 16 }
-{
-    lanes >> u8x64::splat(4)
-}
-
-/// Each lane's low half.
-#[inline(always)]
-fn low_halves(lanes: u8x64) -> u8x64
-    ensures { (i : ℕ) → i < 64 → slice_index result i ≡ bit_and (slice_index lanes i) 15 }
-{
-    lanes & u8x64::splat(15)
-}
-
-/// The entries of a table, four copies of 16, at these indices.
-#[inline(always)]
-fn entries(table: [u8; 64], indices: u8x64) -> u8x64
-    requires copies { (i : ℕ) → i < 64 → (k : ℕ) → k < 16
-        → slice_index table (i / 16 * 16 + k) ≡ slice_index table k }
-    requires indices { (i : ℕ) → i < 64 → slice_index indices i < 16 }
-    ensures { (i : ℕ) → i < 64 → slice_index result i ≡ slice_index table (slice_index indices i) }
-{
-    u8x64::from_array(table).swizzle_dyn_within::<16>(indices)
-}
-
-/// How many lanes are 0 before the first that isn't.
-#[inline(always)]
-fn leading_zero(lanes: u8x64) -> usize
-    ensures within { result ≤ 64 }
-    ensures zero { (i : ℕ) → i < result → slice_index lanes i ≡ 0 }
-{
-    lanes.simd_ne(u8x64::splat(0)).to_bitmask().trailing_zeros() as usize
-}
-
-/// Whether all lanes are 0. It asks both halves at once, so that no mask of 64 bits is made.
-#[inline(always)]
-fn are_zero(lanes: u8x64) -> bool
-    ensures { IsTrue result → (i : ℕ) → i < 64 → slice_index lanes i ≡ 0 }
-{
-    let both = lanes.extract::<0, 32>() | lanes.extract::<32, 32>();
-    both.simd_ne(u8x32::splat(0)).to_bitmask() == 0
+    and(by_high, entries(low, masked(lanes, 15)))
 }

@@ -1,11 +1,12 @@
 //! Plain bytes: printable ASCII other than the backslash. Both forms of an escape show them as they
 //! are.
-ghost use Rattle.std.specs.Prelude.{◌≡◌, ◌≢◌, ℕ, ◌+◌, ◌≤◌, ◌<◌, length, IsTrue, MatchOption, slice_index, bit_xor};
+ghost use Rattle.std.specs.Prelude.{◌≡◌, ◌≢◌, ℕ, ◌+◌, ◌≤◌, ◌<◌, length, IsTrue, MatchOption, slice_index};
 ghost use Rattle.std.specs.List.{AllByRecursion};
 ghost use Rattle.os_quote.specs.Plain.{IsPlain, IsPlainUpTo, IsCutAfterPlain};
 
 use crate::lanes::BLOCK;
 use std::simd::prelude::*;
+use wtf8_core::vectors::lanes::{load, xor_with};
 
 /// How many bytes are looked at before they are written: a few blocks, which are still in the cache
 /// next to the processor when they are copied.
@@ -108,7 +109,7 @@ fn lanes_len(bytes: &[u8], at: usize) -> usize
     ensures plain { (i : ℕ) → i < result → IsPlain (slice_index bytes.now (at + i)) }
 {
     let lanes = load(bytes, at);
-    let different = difference(lanes);
+    let different = xor_with(lanes, b'\\');
     let printable = lanes_from(lanes, b' ');
     let ascii = lanes_up_to(lanes, b'~');
     let other = lanes_from(different, 1);
@@ -139,21 +140,12 @@ fn is_plain_block(bytes: &[u8], at: usize) -> bool
     let least_of_four = least(least(a, b), least(c, d));
     let greatest_of_four = greatest(greatest(a, b), greatest(c, d));
     let least_difference = least(
-        least(difference(a), difference(b)),
-        least(difference(c), difference(d)),
+        least(xor_with(a, b'\\'), xor_with(b, b'\\')),
+        least(xor_with(c, b'\\'), xor_with(d, b'\\')),
     );
     are_at_least(least_of_four, b' ')
         & are_at_most(greatest_of_four, b'~')
         & are_at_least(least_difference, 1)
-}
-
-/// The next 16 bytes from an index on.
-#[inline(always)]
-fn load(bytes: &[u8], from: usize) -> u8x16
-    requires { from + 16 ≤ length bytes.now }
-    ensures { (i : ℕ) → i < 16 → slice_index result i ≡ slice_index bytes.now (from + i) }
-{
-    u8x16::from_slice(&bytes[from..])
 }
 
 /// The lesser of each two lanes.
@@ -172,14 +164,6 @@ fn greatest(a: u8x16, b: u8x16) -> u8x16
     ensures second { (i : ℕ) → i < 16 → slice_index b i ≤ slice_index result i }
 {
     a.simd_max(b)
-}
-
-/// How each lane differs from a backslash, bit by bit.
-#[inline(always)]
-fn difference(lanes: u8x16) -> u8x16
-    ensures { (i : ℕ) → i < 16 → slice_index result i ≡ bit_xor (slice_index lanes i) 0x5C }
-{
-    lanes ^ u8x16::splat(b'\\')
 }
 
 /// Whether no lane is below a value.

@@ -4,6 +4,7 @@ ghost use Rattle.os_quote.specs.Hidden.{AllClear, IsNextSuspect, is_suspect};
 
 use crate::lanes::{BLOCK, clear_len};
 use crate::suspect_bits::is_suspect;
+use wtf8_core::vectors::window::put_in_zeros;
 
 /// The fewest bytes of which a copy is looked at.
 const LEAST: usize = 16;
@@ -80,7 +81,7 @@ fn clear_of_short(bytes: &[u8], from: usize) -> usize
         return 0;
     }
     let mut block = [0; BLOCK + 2];
-    block[..rest.len()].copy_from_slice(rest);
+    put_in_zeros(rest, &mut block, 0);
     clear_len(&block).min(rest.len())
 }
 

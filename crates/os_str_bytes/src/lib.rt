@@ -68,7 +68,7 @@ pub use raw_str::RawOsStr;
 pub use raw_string::RawOsString;
 pub use wtf8_core::{
     Checker, CodePoints, DecodeWide, EncodeWide, SavedChecker, char_at, code_point_digits,
-    encode_wide, ends_with, first_pair, is_continuation, is_utf8, laws as wtf8_laws, pair_between,
-    pair_units, push_truncated, starts_with, surrogate_fault, upper_hex_digit, utf8_fault,
-    write_form, wtf8_fault,
+    encode_wide, ends_with, first_pair, is_continuation, is_pair, is_utf8, laws as wtf8_laws,
+    pair_between, pair_units, push_truncated, starts_with, surrogate_fault, upper_hex_digit,
+    utf8_fault, write_form, wtf8_fault,
 };

@@ -3,13 +3,12 @@
 ghost use Rattle.std.specs.Prelude.{◌≡◌, ◌++◌, ◌+◌, ◌*◌, ◌/◌, ◌≤◌, ◌<◌, ℕ, List, true, leb, take, drop, length, slice_index};
 ghost use Rattle.std.specs.List.{All, count_by, flat_map};
 ghost use Rattle.wtf8_core.specs.Wtf8.{HasUnits};
-ghost use Rattle.wtf8_core.specs.Surrogate.{is_pair};
 ghost use Rattle.wtf8_core.specs.Truncated.{IsTruncated};
 ghost use Rattle.platform_str.specs.Bulk.{pairs};
 ghost use Rattle.platform_str.specs.FromWide.{bytes_by_neighbours, bytes_after_first, word_bytes};
 
 use std::simd::prelude::*;
-use wtf8_core::{DecodeWide, first_pair, write_form};
+use wtf8_core::{DecodeWide, first_pair, is_pair, write_form};
 
 /// How many of the first 16 units are `least` or more.
 #[inline(always)]
@@ -177,14 +176,6 @@ fn put_block(bytes: &mut [u8], at: usize, units: &[u16]) -> usize
     ensures len { length bytes.new ≡ length bytes.old }
 {
     put_words(bytes, at, &unit_words(units))
-}
-
-/// Whether two units are a pair.
-#[inline(always)]
-fn is_pair(high: u16, low: u16) -> bool
-    ensures { result ≡ is_pair high low }
-{
-    matches!(high, 0xD800..=0xDBFF) && matches!(low, 0xDC00..=0xDFFF)
 }
 
 /// Writes what a unit gives from index `at` on, and returns the index after it.

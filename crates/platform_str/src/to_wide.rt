@@ -8,6 +8,7 @@ ghost use Rattle.platform_str.specs.ToWide.{adds_unit, unit_at, units_by_neighbo
 
 use std::alloc::{AllocError, Allocator};
 use std::simd::prelude::*;
+use wtf8_core::vectors::window::put_in_zeros;
 
 /// Whether all 16 bytes are ASCII.
 #[inline(always)]
@@ -87,7 +88,7 @@ fn padded(bytes: &[u8]) -> [u8; 19]
     ensures { (i : ℕ) → slice_index result i ≡ slice_index bytes.now i }
 {
     let mut window = [0; 19];
-    window[..bytes.len()].copy_from_slice(bytes);
+    put_in_zeros(bytes, &mut window, 0);
     window
 }
 

@@ -3,8 +3,8 @@ pub mod characters
 pub mod chunks
 pub mod forms
 pub mod reader
-pub mod scan
 pub mod occurrence
 pub mod table
 pub mod texts
 pub mod units
+pub mod vectors

@@ -5,8 +5,8 @@ use Rattle.std.specs.Char.{IsScalar}
 use Rattle.wtf8_core.specs.Surrogate.{is_high}
 use Rattle.wtf8_core.specs.Wtf8.{Encodes, last_or}
 use Rattle.wtf8_core.specs.Neighbours.{EachMayFollow}
-use Rattle.wtf8_core.specs.declared.scan.Encoding.{Encoding}
-use Rattle.wtf8_core.specs.declared.scan.Encoding.TheVariants.{Utf8}
+use Rattle.wtf8_core.specs.declared.vectors.Encoding.{Encoding}
+use Rattle.wtf8_core.specs.declared.vectors.Encoding.TheVariants.{Utf8}
 
 -- the bytes before the rest encode code points, of which the last is a high surrogate or not, as `after_high` says
 pub record IsReadUpTo (bytes : List ℕ) (after_high : Bool) (rest : List ℕ) : Type 0 where

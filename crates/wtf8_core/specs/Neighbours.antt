@@ -3,8 +3,8 @@ use Rattle.std.specs.Prelude.{◌≡◌, ℕ, suc, ◌<◌, ◌≤◌, ◌⊎◌
 use Rattle.std.specs.Int.{IsInRange}
 use Rattle.wtf8_core.specs.Byte.{IsContinuation}
 use Rattle.wtf8_core.specs.Surrogate.{IsHigh}
-use Rattle.wtf8_core.specs.declared.scan.Encoding.{Encoding}
-use Rattle.wtf8_core.specs.declared.scan.Encoding.TheVariants.{Utf8}
+use Rattle.wtf8_core.specs.declared.vectors.Encoding.{Encoding}
+use Rattle.wtf8_core.specs.declared.vectors.Encoding.TheVariants.{Utf8}
 
 -- none of the last three bytes x, y and z is the lead of a form that continues after them
 pub record IsClosed (x y z : ℕ) : Type 0 where

@@ -1,6 +1,6 @@
 -- What three small tables say of neighbouring bytes, bit by bit (Keiser and Lemire, "Validating UTF-8 in less than one instruction per byte"). Only private contracts name these.
 use Rattle.std.specs.Prelude.{ℕ, ◌-◌, ◌/◌, slice_index, bit_and, bit_or, bit_xor}
-use Rattle.wtf8_core.specs.declared.scan.lanes.TheConstants.{FIRST_HIGH, FIRST_LOW, SECOND_HIGH}
+use Rattle.wtf8_core.specs.declared.vectors.error_bits.TheConstants.{FIRST_HIGH, FIRST_LOW, SECOND_HIGH}
 
 -- what is wrong with the byte b after z
 abbrev pub pair_bits : ℕ → ℕ → ℕ

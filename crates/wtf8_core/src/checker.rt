@@ -3,15 +3,15 @@ ghost use Rattle.std.specs.Prelude.{◌≡◌, ℕ, ◌<◌, ◌≤◌, ◌∷�
 ghost use Rattle.wtf8_core.specs.Checker.{IsInState, Describes, IsFaulty, OnlyEnds, HasFirstFault, joined_bits, fault_at, is_between, is_plain, saved_progress};
 ghost use Rattle.wtf8_core.specs.Wtf8.{IsWtf8};
 ghost use Rattle.wtf8_core.specs.EncodedPrefix.{IsEncodedPrefix};
-ghost use Rattle.wtf8_core.specs.declared.scan.Encoding.TheVariants.{Wtf8};
+ghost use Rattle.wtf8_core.specs.declared.vectors.Encoding.TheVariants.{Wtf8};
 ghost use Rattle.wtf8_core.specs.declared.table.State.TheVariants.{Between};
 
 use crate::byte::is_continuation;
 use crate::fault::EncodingError;
-use crate::scan::Encoding;
-use crate::scan::prefixes::{ends_with_high_surrogate, scan};
 use crate::table::{State, class_at, next_at, state_at, state_index};
 use crate::utf8::is_short_utf8;
+use crate::vectors::Encoding;
+use crate::vectors::scan::{ends_with_high_surrogate, scan};
 use std::marker::Model;
 
 /// Checks whether bytes that arrive in pieces are WTF-8, and finds their first fault if not.

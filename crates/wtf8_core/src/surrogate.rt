@@ -28,9 +28,14 @@ pub(crate) fn is_surrogate(code_point: u32) -> bool
     matches!(code_point, 0xD800..=0xDFFF)
 }
 
-/// Whether two units are a pair: a high surrogate and then a low one.
+/// Whether two units are a pair: a high surrogate and then a low one (RFC 2781, section 2.2; this
+/// project's own call).
+///
+/// ```
+/// assert!(rt; wtf8_core::is_pair(0xD83D, 0xDE00) && !wtf8_core::is_pair(0xDE00, 0xD83D));
+/// ```
 #[inline(always)]
-pub(crate) fn is_pair(high: u16, low: u16) -> bool
+pub fn is_pair(high: u16, low: u16) -> bool
     ensures { result ≡ is_pair high low }
 {
     is_high(u32::from(high)) && is_low(u32::from(low))

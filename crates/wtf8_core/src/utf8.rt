@@ -2,18 +2,15 @@
 ghost use Rattle.std.specs.Prelude.{◌≡◌, ◌+◌, ◌≤◌, ◌<◌, ◌↔◌, ℕ, MatchOption, MatchResult, IfOk, IsTrue, Some, length, slice_index, take};
 ghost use Rattle.std.specs.Str.{IsUtf8};
 ghost use Rattle.wtf8_core.specs.EncodedPrefix.{KeepsPattern};
-ghost use Rattle.wtf8_core.specs.declared.scan.Encoding.TheVariants.{Utf8};
+ghost use Rattle.wtf8_core.specs.declared.vectors.Encoding.TheVariants.{Utf8};
 ghost use Rattle.wtf8_core.specs.Utf8.{IsUtf8Fault};
 ghost use Rattle.wtf8_core.specs.Wtf8.{IsWtf8};
 
 use crate::character::char_or_fault_at_start;
-use crate::scan::lanes::ascii_of;
-use crate::scan::prefixes::{
-    ends_by_step, first_step_len, is_ascii_to_end, scan, scan_from, scan_short, scan_steps,
-};
-use crate::scan::short::short_len;
-use crate::scan::surrogates::text_from;
-use crate::scan::{BEFORE, BLOCK, Encoding, STEP};
+use crate::vectors::ascii::{ascii_len_at, is_ascii_at, is_ascii_to_end};
+use crate::vectors::scan::{scan, scan_from, scan_short, scan_steps};
+use crate::vectors::surrogates::text_from;
+use crate::vectors::{BEFORE, BLOCK, Encoding, SHORT, STEP};
 use memchr::memchr;
 
 /// How many characters are read one by one in long bytes before steps: if faults are a few letters
@@ -48,7 +45,7 @@ pub fn utf8_fault(bytes: &[u8]) -> Option<(usize, Option<u8>)>
     ensures { MatchOption result (IsUtf8 bytes.now)
         (λ fault. IsUtf8Fault bytes.now fault.0 fault.1) }
 {
-    if bytes.len() <= 2 * BLOCK {
+    if bytes.len() <= SHORT {
         return fault_in_short(bytes);
     }
     let ascii = ascii_len(bytes);
@@ -75,7 +72,7 @@ pub fn utf8_fault(bytes: &[u8]) -> Option<(usize, Option<u8>)>
 pub fn is_utf8(bytes: &[u8]) -> bool
     ensures { IsTrue result ↔ IsUtf8 bytes.now }
 {
-    if bytes.len() > 2 * BLOCK {
+    if bytes.len() > SHORT {
         return is_long_utf8(bytes);
     }
     if is_short_utf8(bytes) {
@@ -153,13 +150,13 @@ fn fault_by_short_steps(bytes: &[u8], at: usize) -> Option<(usize, Option<u8>)>
     fault_by_characters(bytes, prefix)
 }
 
-/// Whether the bytes are found to be UTF-8 at once, or by steps. That isn't found of more than two blocks.
+/// Whether the bytes are found to be UTF-8 at once, or by steps. That isn't found of more than 128.
 #[inline(always)]
 pub(crate) fn is_short_utf8(bytes: &[u8]) -> bool
     ensures { IsTrue result → IsUtf8 bytes.now }
 {
-    bytes.len() <= 2 * BLOCK
-        && (is_one_ascii(bytes) || is_short_ascii(bytes) || is_utf8_by_steps(bytes))
+    let len = bytes.len();
+    len <= SHORT && (is_short_ascii(bytes) || BEFORE <= len && scan_short(bytes, 0) == len)
 }
 
 /// The same as [`is_utf8`], by blocks.
@@ -176,40 +173,12 @@ fn is_long_utf8(bytes: &[u8]) -> bool
     }
 }
 
-/// Whether the bytes are found to be UTF-8 by steps. That isn't found of fewer than four bytes.
-#[inline(always)]
-fn is_utf8_by_steps(bytes: &[u8]) -> bool
-    ensures { IsTrue result → IsUtf8 bytes.now }
-{
-    if bytes.len() < BEFORE {
-        return false;
-    }
-    if bytes.len() < BEFORE + STEP {
-        return short_len(bytes) > bytes.len();
-    }
-    if first_step_len(bytes) < STEP {
-        return false;
-    }
-    match scan_steps(bytes, STEP) {
-        Ok(end) => ends_by_step(bytes, end),
-        Err(_) => false,
-    }
-}
-
-/// Whether there is one byte, and it is ASCII.
-#[inline(always)]
-fn is_one_ascii(bytes: &[u8]) -> bool
-    ensures { IsTrue result → IsUtf8 bytes.now }
-{
-    bytes.len() == 1 && bytes[0] < 0x80
-}
-
-/// Whether the bytes are at most 128 and ASCII. It isn't found of fewer than 8.
+/// Whether the bytes are at most 128 and ASCII. It isn't found of fewer than 4.
 #[inline(always)]
 fn is_short_ascii(bytes: &[u8]) -> bool
     ensures { IsTrue result → IsUtf8 bytes.now }
 {
-    if bytes.len() > 2 * BLOCK {
+    if bytes.len() > SHORT {
         return false;
     }
     if !is_ascii_to_end(bytes) {
@@ -218,7 +187,7 @@ fn is_short_ascii(bytes: &[u8]) -> bool
     if bytes.len() <= BLOCK {
         return true;
     }
-    ascii_of::<BLOCK>(bytes) >= BLOCK
+    is_ascii_at::<BLOCK>(bytes, 0)
 }
 
 /// How many of 16 to 128 bytes are ASCII before the first that isn't; it isn't found of fewer or more.
@@ -227,29 +196,19 @@ fn short_ascii_len(bytes: &[u8]) -> usize
     ensures within { result ≤ length bytes.now }
     ensures text { IsUtf8 (take result bytes.now) }
 {
-    if bytes.len() < STEP || bytes.len() > 2 * BLOCK {
+    if bytes.len() < STEP || bytes.len() > SHORT {
         return 0;
     }
     let last = bytes.len() - STEP;
     let mut at = 0;
     while at < last {
-        let count = ascii_of_step(bytes, at);
+        let count = ascii_len_at::<STEP>(bytes, at);
         if count < STEP {
             return at + count;
         }
         at += STEP;
     }
-    last + ascii_of_step(bytes, last)
-}
-
-/// How many of the 16 bytes from an index on are ASCII before the first that isn't.
-#[inline(always)]
-fn ascii_of_step(bytes: &[u8], at: usize) -> usize
-    requires { at + 16 ≤ length bytes.now }
-    ensures within { result ≤ 16 }
-    ensures ascii { (i : ℕ) → i < result → slice_index bytes.now (at + i) < 0x80 }
-{
-    ascii_of::<STEP>(&bytes[at..]).min(STEP)
+    last + ascii_len_at::<STEP>(bytes, last)
 }
 
 /// How many of the first 16 bytes, or of the first 64, are ASCII before the first that isn't. In a
@@ -260,11 +219,11 @@ fn ascii_len(bytes: &[u8]) -> usize
     ensures within { result ≤ length bytes.now }
     ensures text { IsUtf8 (take result bytes.now) }
 {
-    let near = ascii_of::<STEP>(bytes);
+    let near = ascii_len_at::<STEP>(bytes, 0);
     if near < STEP {
         near
     } else {
-        ascii_of::<BLOCK>(bytes)
+        ascii_len_at::<BLOCK>(bytes, 0)
     }
 }
 

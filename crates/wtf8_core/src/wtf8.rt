@@ -5,8 +5,8 @@ ghost use Rattle.wtf8_core.specs.Fault.{IsFaultAt};
 ghost use Rattle.wtf8_core.specs.EncodedPrefix.{IsReadUpTo};
 
 use crate::code_points::next_item;
-use crate::scan::Encoding;
-use crate::scan::prefixes::{ends_with_high_surrogate, scan};
+use crate::vectors::Encoding;
+use crate::vectors::scan::{ends_with_high_surrogate, scan};
 
 /// The index of the first fault of bytes that aren't WTF-8, and how many bytes are refused there;
 /// `None` for WTF-8 (this project's own call).

@@ -1,7 +1,5 @@
 -- Suspects: none from one index up to another.
-use Rattle.wtf8_core.proofs.lemmas.scan.Windows.{zeros, zeros_after}
-use Rattle.os_quote.proofs.Common.{◌≡◌, ⊎_elim, ℕ, ◌+◌, ◌-◌, ◌<◌, false, List, get_or, drop, replicate, ap, ◌∙◌, subst, arith, get_or-drop, cases_lt, is_suspect, AllClear}
-use borrow.Rule.Slice.PartMut.{put_mid}
+use Rattle.os_quote.proofs.Common.{◌≡◌, ⊎_elim, ℕ, ◌+◌, ◌-◌, ◌<◌, false, List, get_or, drop, ap, ◌∙◌, subst, arith, get_or-drop, cases_lt, is_suspect, AllClear}
 
 -- the byte at an index is none
 abbrev IsClear : List ℕ → ℕ → Type 0
@@ -29,15 +27,7 @@ in_block bytes at n clear k low lt =
     (subst (λ i. is_suspect (get_or bytes (at + (0 + (k - at))) 0) (get_or bytes (at + (1 + (k - at))) 0) (get_or bytes i 0) ≡ false) third
     (rw (get_or-drop at bytes (0 + (k - at)) 0, get_or-drop at bytes (1 + (k - at)) 0, get_or-drop at bytes (2 + (k - at)) 0) at (clear (k - at) (omega (arith, low, lt))))))
 
--- those of a copy of what follows an index, with zeros after it
-in_zeros : (zs : List ℕ) → ((k : ℕ) → get_or zs k 0 ≡ 0) → (list part : List ℕ) (n : ℕ) → part ≡ list → (i : ℕ) → get_or (put_mid 0 n zs part) i 0 ≡ get_or list i 0
-in_zeros zs zero_at list part n same i =
-    zeros_after part (drop n (drop 0 zs)) (λ k. get_or-drop n (drop 0 zs) k 0 ∙ get_or-drop 0 zs (n + k) 0 ∙ zero_at (0 + (n + k))) i
-    ∙ ap (λ x. get_or x i 0) same
-
-pub in_block_of_zeros : (list part : List ℕ) (n : ℕ) → part ≡ list → (i : ℕ) → get_or (put_mid 0 n (replicate 66 0) part) i 0 ≡ get_or list i 0
-in_block_of_zeros = in_zeros (replicate 66 0) (zeros 66)
-
+-- those of a copy of what follows an index
 pub in_copy : (bytes rest block : List ℕ) (at n : ℕ) → rest ≡ drop at bytes → ((i : ℕ) → get_or block i 0 ≡ get_or rest i 0)
     → ((i : ℕ) → i < n → is_suspect (get_or block (0 + i) 0) (get_or block (1 + i) 0) (get_or block (2 + i) 0) ≡ false) → AllClear bytes at (at + n)
 in_copy bytes rest block at n back reads clear =

@@ -23,4 +23,4 @@ returns-clause-clear c i l =
     let h : i < 64 = omega (arith, l, c.leading_zero.ensures.within) in
     let pair = c.and-pairs.ensures i h ∙ pair_of (get_or c.args.bytes.now (0 + i) 0) (get_or c.args.bytes.now (1 + i) 0) _ _ (c.kind_bits-leads.ensures i h ∙ ap kind_bits (c.load.ensures i h)) (c.second_bits.ensures i h ∙ ap second_bits (c.load-2.ensures i h)) in
     let bits = c.and-suspects.ensures i h ∙ suspect_of (get_or c.args.bytes.now (0 + i) 0) (get_or c.args.bytes.now (1 + i) 0) (get_or c.args.bytes.now (2 + i) 0) _ _ pair (c.third_bits.ensures i h ∙ ap third_bits (c.load-3.ensures i h)) in
-    none_by_bits (get_or c.args.bytes.now (0 + i) 0) (get_or c.args.bytes.now (1 + i) 0) (get_or c.args.bytes.now (2 + i) 0) (sym bits ∙ c.leading_zero.ensures.zero i l)
+    none_by_bits (get_or c.args.bytes.now (0 + i) 0) (get_or c.args.bytes.now (1 + i) 0) (get_or c.args.bytes.now (2 + i) 0) (sym bits ∙ c.leading_zero.ensures.zero i l h)

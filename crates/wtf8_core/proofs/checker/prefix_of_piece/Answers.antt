@@ -1,6 +1,6 @@
 use Rattle.wtf8_core.proofs.Common.{IsUtf8, arith, length, refl, subst, sym, take-length}
-use Rattle.wtf8_core.proofs.lemmas.scan.Windows.{text_prefix}
-use Rattle.wtf8_core.specs.declared.scan.Encoding.TheVariants.{Wtf8}
+use Rattle.wtf8_core.proofs.lemmas.vectors.Windows.{text_prefix}
+use Rattle.wtf8_core.specs.declared.vectors.Encoding.TheVariants.{Wtf8}
 use Rattle.wtf8_core.proofs.checker.prefix_of_piece.Goals as goal
 
 pub returns-then-is_short_utf8-clause-prefix : goal.returns-then-is_short_utf8-clause-prefix

@@ -8,7 +8,7 @@ use Rattle.wtf8_core.proofs.lemmas.reader.FirstErr.{items_all_ok}
 use Rattle.wtf8_core.proofs.lemmas.reader.Reading.{items-nil, within-end}
 use Rattle.wtf8_core.proofs.lemmas.reader.Sound.{items_of_bytes}
 use Rattle.wtf8_core.proofs.lemmas.table.Steps.{items_now, gives_more, first_fault, goes}
-use Rattle.wtf8_core.specs.declared.scan.Encoding.TheVariants.{Wtf8}
+use Rattle.wtf8_core.specs.declared.vectors.Encoding.TheVariants.{Wtf8}
 
 refused_extends : (last : ℕ) (refused rest p : List ℕ) (f : EncodingError) → f ≢ End → IsRefused last refused rest f → IsRefused last refused (rest ++ p) f
 refused_extends last refused rest p (Byte x) n (inl s) = inl s

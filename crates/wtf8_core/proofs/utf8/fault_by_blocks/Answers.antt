@@ -1,6 +1,6 @@
 use Rattle.wtf8_core.proofs.Common.{refl}
-use Rattle.wtf8_core.proofs.lemmas.scan.Windows.{prefix_is_utf8}
-use Rattle.wtf8_core.specs.declared.scan.Encoding.TheVariants.{Utf8}
+use Rattle.wtf8_core.proofs.lemmas.vectors.Windows.{prefix_is_utf8}
+use Rattle.wtf8_core.specs.declared.vectors.Encoding.TheVariants.{Utf8}
 use Rattle.wtf8_core.proofs.utf8.fault_by_blocks.Goals as goal
 
 pub fault_by_characters-requires-clause-text : goal.fault_by_characters-requires-clause-text

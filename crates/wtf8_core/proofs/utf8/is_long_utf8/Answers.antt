@@ -1,8 +1,8 @@
 use Rattle.wtf8_core.proofs.Common.{arith, refl, subst, IsUtf8, take_all}
-use Rattle.wtf8_core.proofs.lemmas.scan.Windows.{prefix_is_utf8}
+use Rattle.wtf8_core.proofs.lemmas.vectors.Windows.{prefix_is_utf8}
 use Rattle.wtf8_core.proofs.lemmas.texts.LossyTexts.{no_text}
 use Rattle.wtf8_core.proofs.lemmas.units.PrefixTests.{never}
-use Rattle.wtf8_core.specs.declared.scan.Encoding.TheVariants.{Utf8}
+use Rattle.wtf8_core.specs.declared.vectors.Encoding.TheVariants.{Utf8}
 use Rattle.wtf8_core.proofs.utf8.is_long_utf8.Goals as goal
 
 pub fault_in_rest-requires-clause-text : goal.fault_in_rest-requires-clause-text

@@ -1,4 +1,4 @@
-use Rattle.wtf8_core.proofs.lemmas.scan.Windows.{text_keeps}
+use Rattle.wtf8_core.proofs.lemmas.vectors.Windows.{text_keeps}
 use Rattle.wtf8_core.proofs.utf8.utf8_fault.Goals as goal
 
 pub fault_by_blocks-requires-clause-kept : goal.fault_by_blocks-requires-clause-kept

@@ -1,5 +1,0 @@
-use Rattle.std.proofs.lemmas.Simd.{get_or-chunk}
-use Rattle.os_quote.proofs.lanes.load.Goals as goal
-
-pub returns : goal.returns
-returns c i h = get_or-chunk c.args.from 64 c.args.bytes.now i 0 h

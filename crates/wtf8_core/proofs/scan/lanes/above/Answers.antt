@@ -1,6 +1,0 @@
-use Rattle.wtf8_core.proofs.Common.{arith}
-use Rattle.wtf8_core.proofs.lemmas.scan.Lanes.{lane_above}
-use Rattle.wtf8_core.proofs.scan.lanes.above.Goals as goal
-
-pub returns : goal.returns
-returns g c = lane_above c.args.bytes _ c.args.value c.fits-bytes.0 c.fits-bytes.1 (omega (arith, c.ranges.value))

@@ -1,6 +1,0 @@
-use Rattle.wtf8_core.proofs.Common.{refl, not, eqb, eqb-true, not-false}
-use Rattle.wtf8_core.proofs.lemmas.scan.Lanes.{none_passes_before}
-use Rattle.wtf8_core.proofs.scan.lanes.leading_zero.Goals as goal
-
-pub returns-clause-zero : goal.returns-clause-zero
-returns-clause-zero g c i h l = eqb-true _ _ (not-false _ (none_passes_before (λ a b. not (eqb a b)) c.args.lanes _ 0 _ c.requires c.fits-lanes.0 refl i h l))

@@ -1,8 +1,0 @@
-use Rattle.wtf8_core.proofs.Common.{◌≤◌}
-use Rattle.wtf8_core.proofs.scan.prefixes.start_before.Given as goal
-
-abbrev pub invariant-loop-at : goal.invariant-loop-at
-invariant-loop-at l = l.at ≤ l.end
-
-abbrev pub decreases-loop-at : goal.decreases-loop-at
-decreases-loop-at l = l.at

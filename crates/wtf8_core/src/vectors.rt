@@ -1,0 +1,60 @@
+//! Reading many bytes at once with vectors: how long a prefix of bytes is UTF-8 or WTF-8.
+//!
+//! No public contract names anything in this module. [`lanes`] has each operation on lanes once,
+//! [`ascii`] what is asked about ASCII, and [`window`] the copy of a few bytes with zeros around
+//! them: crates above use these three. The ways in, in the order that
+//! [`utf8_fault`](crate::utf8_fault), [`is_utf8`](crate::is_utf8) and a piece of a
+//! [`Checker`](crate::Checker) share:
+//!
+//! 1. At most [`SHORT`] bytes are asked first whether all of them are ASCII.
+//! 2. If not, they are read by steps ([`scan::scan_short`]): the first in a copy with zeros before it,
+//!    then up to eight in place, and one more that ends with the last byte. 4 to 19 bytes are read in
+//!    a copy with zeros before and after them.
+//! 3. More bytes are read by blocks ([`scan::scan_from`]), each in place with the [`BEFORE`] bytes
+//!    before it ([`error_bits`]). Blocks of ASCII are skipped without that test. The last bytes,
+//!    fewer than a block, are tested in a copy with zeros before and after them, unless they are
+//!    ASCII.
+//! 4. At the first byte that isn't allowed after those before it, the prefix ends before the last
+//!    byte that isn't a continuation. After the prefix a few characters are read one by one, and
+//!    finally std's reader continues, or the table or the reader of code points for WTF-8.
+//!
+//! [`utf8_fault`](crate::utf8_fault) expects a fault to be near. Between 1 and 2 it reads the first
+//! character that isn't ASCII. Before 3 it reads up to five characters after the ASCII of the first
+//! step or block, unless that whole block is ASCII, and up to eight steps. WTF-8 is only read by 3
+//! and 4. [`surrogate_fault`](crate::surrogate_fault) asks 1, and then looks for surrogates alone
+//! ([`surrogates`]).
+
+pub mod ascii;
+pub(crate) mod error_bits;
+pub mod lanes;
+pub(crate) mod scan;
+pub(crate) mod surrogates;
+pub mod window;
+
+/// The length of a block in bytes.
+pub(crate) const BLOCK: usize = 64;
+
+/// The length of a step in bytes. It is shorter than a block, for bytes where a fault may be near.
+pub(crate) const STEP: usize = 16;
+
+/// Half a step, for strings that are shorter than one.
+pub(crate) const HALF: usize = 8;
+
+/// A quarter of one, for strings that are shorter than that half.
+pub(crate) const QUARTER: usize = 4;
+
+/// The most bytes that are read by steps from the first on: in a loop over blocks a copy of the first
+/// and one of the last would take longer.
+pub(crate) const SHORT: usize = 2 * BLOCK;
+
+/// How many bytes before a block or a step its test looks at.
+pub(crate) const BEFORE: usize = 4;
+
+/// The encoding that is looked for.
+#[derive(Clone, Copy)]
+pub(crate) enum Encoding {
+    /// UTF-8 (RFC 3629).
+    Utf8,
+    /// WTF-8, in which lone surrogates may occur.
+    Wtf8,
+}

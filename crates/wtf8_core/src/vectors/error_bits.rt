@@ -1,0 +1,167 @@
+//! How many bytes of a window are allowed after those before them. A window is a block or a step
+//! with the [`BEFORE`](crate::vectors::BEFORE) bytes before it.
+ghost use Rattle.std.specs.Prelude.{◌≡◌, ◌≢◌, ℕ, ◌+◌, ◌-◌, ◌≤◌, ◌<◌, length, slice_index, bit_and, bit_or, bit_xor};
+ghost use Rattle.wtf8_core.specs.PairBits.{continuation_due, error_bits, pair_bits, surrogate_pair_difference};
+ghost use Rattle.wtf8_core.specs.Neighbours.{EachMayFollow};
+ghost use Rattle.wtf8_core.specs.declared.vectors.Encoding.TheVariants.{Utf8, Wtf8};
+
+use crate::vectors::lanes::{
+    above, and, are_zero, entries, entries_of_16, high_halves, leading_nonzero, leading_zero, load,
+    masked, or, xor, xor_with,
+};
+use crate::vectors::{BLOCK, Encoding, STEP};
+use std::simd::prelude::*;
+
+// What can be wrong with a byte after another, one bit for each fault, as Keiser and Lemire have it
+// ("Validating UTF-8 in less than one instruction per byte"). A fault is there if all three tables
+// have its bit. 01: a lead before no continuation; 02: a continuation after ASCII; 04, 08 and 10:
+// overlong of two, three and four bytes, or a lead past F4; 20: past the last code point; 40: a
+// surrogate; 80: a continuation after a continuation. Each table is repeated four times.
+
+/// By the high half of the first byte.
+const FIRST_HIGH: [u8; 64] = [
+    2, 2, 2, 2, 2, 2, 2, 2, 128, 128, 128, 128, 5, 1, 73, 49, 2, 2, 2, 2, 2, 2, 2, 2, 128, 128,
+    128, 128, 5, 1, 73, 49, 2, 2, 2, 2, 2, 2, 2, 2, 128, 128, 128, 128, 5, 1, 73, 49, 2, 2, 2, 2,
+    2, 2, 2, 2, 128, 128, 128, 128, 5, 1, 73, 49,
+];
+
+/// By its low half.
+const FIRST_LOW: [u8; 64] = [
+    159, 135, 131, 131, 163, 179, 179, 179, 179, 179, 179, 179, 179, 243, 179, 179, 159, 135, 131,
+    131, 163, 179, 179, 179, 179, 179, 179, 179, 179, 243, 179, 179, 159, 135, 131, 131, 163, 179,
+    179, 179, 179, 179, 179, 179, 179, 243, 179, 179, 159, 135, 131, 131, 163, 179, 179, 179, 179,
+    179, 179, 179, 179, 243, 179, 179,
+];
+
+/// By the high half of the second byte.
+const SECOND_HIGH: [u8; 64] = [
+    1, 1, 1, 1, 1, 1, 1, 1, 158, 174, 230, 230, 1, 1, 1, 1, 1, 1, 1, 1, 1, 1, 1, 1, 158, 174, 230,
+    230, 1, 1, 1, 1, 1, 1, 1, 1, 1, 1, 1, 1, 158, 174, 230, 230, 1, 1, 1, 1, 1, 1, 1, 1, 1, 1, 1,
+    1, 158, 174, 230, 230, 1, 1, 1, 1,
+];
+
+/// What is wrong with each second byte after its first.
+#[inline(always)]
+fn pair_bits(first: u8x64, second: u8x64) -> u8x64
+    ensures { (i : ℕ) → i < 64 → slice_index result i
+        ≡ pair_bits (slice_index first i) (slice_index second i) }
+{
+    let by_high = entries(FIRST_HIGH, high_halves(first));
+    let by_low = entries(FIRST_LOW, masked(first, 15));
+    and(
+        and(by_high, by_low),
+        entries(SECOND_HIGH, high_halves(second)),
+    )
+}
+
+/// The same for 16 lanes.
+#[inline(always)]
+fn pair_bits_of_16(first: u8x16, second: u8x16) -> u8x16
+    ensures { (i : ℕ) → i < 16 → slice_index result i
+        ≡ pair_bits (slice_index first i) (slice_index second i) }
+{
+    let by_high = entries_of_16(FIRST_HIGH, high_halves(first));
+    let by_low = entries_of_16(FIRST_LOW, masked(first, 15));
+    and(
+        and(by_high, by_low),
+        entries_of_16(SECOND_HIGH, high_halves(second)),
+    )
+}
+
+/// 128 where the byte three before is the lead of four bytes, or the byte two before is the lead of
+/// three or four; else 0.
+#[inline(always)]
+fn continuation_due<const N: usize>(three: Simd<u8, N>, two: Simd<u8, N>) -> Simd<u8, N>
+    ensures { (i : ℕ) → i < N → slice_index result i
+        ≡ continuation_due (slice_index three.entry i) (slice_index two.entry i) }
+{
+    masked(or(above(three, 0x70), above(two, 0x60)), 0x80)
+}
+
+/// What is wrong with each of the 64 bytes after the first four. Bit 40 (hexadecimal) is no fault
+/// by itself: it says that a surrogate begins.
+#[inline(always)]
+fn error_bits(window: &[u8]) -> u8x64
+    requires { 68 ≤ length window.now }
+    ensures { (i : ℕ) → i < 64 → slice_index result i
+        ≡ error_bits (slice_index window.now (1 + i)) (slice_index window.now (2 + i))
+        (slice_index window.now (3 + i)) (slice_index window.now (4 + i)) }
+{
+    let pairs = pair_bits(load(window, 3), load(window, 4));
+    xor(pairs, continuation_due(load(window, 1), load(window, 2)))
+}
+
+/// The same for the 16 bytes after the first four.
+#[inline(always)]
+fn error_bits_of_16(window: &[u8]) -> u8x16
+    requires { 20 ≤ length window.now }
+    ensures { (i : ℕ) → i < 16 → slice_index result i
+        ≡ error_bits (slice_index window.now (1 + i)) (slice_index window.now (2 + i))
+        (slice_index window.now (3 + i)) (slice_index window.now (4 + i)) }
+{
+    let pairs = pair_bits_of_16(load(window, 3), load(window, 4));
+    xor(pairs, continuation_due(load(window, 1), load(window, 2)))
+}
+
+/// For each of the 64 bytes, 0 where a low surrogate begins directly after a high one.
+#[inline(always)]
+fn surrogate_pair_difference(window: &[u8]) -> u8x64
+    requires { 68 ≤ length window.now }
+    ensures { (i : ℕ) → i < 64 → slice_index result i
+        ≡ surrogate_pair_difference (slice_index window.now (0 + i))
+        (slice_index window.now (1 + i)) (slice_index window.now (3 + i))
+        (slice_index window.now (4 + i)) }
+{
+    let leads = or(
+        xor_with(load(window, 0), 0xED),
+        xor_with(load(window, 3), 0xED),
+    );
+    let seconds = or(
+        xor_with(masked(load(window, 1), 0xF0), 0xA0),
+        xor_with(masked(load(window, 4), 0xF0), 0xB0),
+    );
+    or(leads, seconds)
+}
+
+/// How many of the 64 bytes after the first four are allowed after those before them, up to the
+/// first that isn't; in UTF-8, up to the first that begins a surrogate, too.
+#[inline(always)]
+pub(crate) fn allowed_in_block(window: &[u8], encoding: Encoding) -> usize
+    requires { 68 ≤ length window.now }
+    ensures within { result ≤ 64 }
+    ensures pattern { EachMayFollow encoding result window.now }
+{
+    let wrong = error_bits(window);
+    if are_zero(wrong) {
+        return BLOCK;
+    }
+    match encoding {
+        Encoding::Utf8 => leading_zero(wrong),
+        Encoding::Wtf8 => kept_with_surrogates(wrong, window),
+    }
+}
+
+/// The same by what is wrong with each byte, where surrogates are allowed, but no pair of them. It
+/// is kept out of the loop over blocks in which nothing is wrong, which is faster without it.
+#[inline(never)]
+fn kept_with_surrogates(wrong: u8x64, window: &[u8]) -> usize
+    requires window { 68 ≤ length window.now }
+    requires wrong { (i : ℕ) → i < 64 → slice_index wrong i
+        ≡ error_bits (slice_index window.now (1 + i)) (slice_index window.now (2 + i))
+        (slice_index window.now (3 + i)) (slice_index window.now (4 + i)) }
+    ensures within { result ≤ 64 }
+    ensures pattern { EachMayFollow Wtf8 result window.now }
+{
+    leading_zero(masked(wrong, 0xBF)).min(leading_nonzero(surrogate_pair_difference(window)))
+}
+
+/// How many of the 16 bytes after the first four are allowed in UTF-8 after those before them, up
+/// to the first that isn't.
+#[inline(always)]
+pub(crate) fn allowed_in_step(window: &[u8]) -> usize
+    requires { 20 ≤ length window.now }
+    ensures within { result ≤ 16 }
+    ensures pattern { EachMayFollow Utf8 result window.now }
+{
+    leading_zero(error_bits_of_16(window)).min(STEP)
+}

@@ -1,0 +1,348 @@
+//! How far bytes are well formed, 64 at a time, or 16 where a fault may be near.
+//!
+//! The prefix that is found is always well formed. It may be shorter than the longest one; callers
+//! must not rely on its length.
+ghost use Rattle.std.specs.Prelude.{◌≡◌, ◌∷◌, ℕ, suc, ◌+◌, ◌-◌, ◌≤◌, ◌<◌, length, IsTrue, MatchResult, slice_index};
+ghost use Rattle.std.specs.Int.{is_in_range};
+ghost use Rattle.wtf8_core.specs.Wtf8.{last_or};
+ghost use Rattle.wtf8_core.specs.Surrogate.{is_high};
+ghost use Rattle.wtf8_core.specs.declared.vectors.Encoding.{Encoding};
+ghost use Rattle.wtf8_core.specs.declared.vectors.Encoding.TheVariants.{Utf8, Wtf8};
+ghost use Rattle.wtf8_core.specs.EncodedPrefix.{IsEncodedPrefix, KeepsPattern};
+ghost use Rattle.wtf8_core.specs.Neighbours.{IsClosed};
+
+use crate::byte::is_continuation;
+use crate::vectors::ascii::{is_ascii_at, is_ascii_to_end};
+use crate::vectors::error_bits::{allowed_in_block, allowed_in_step};
+use crate::vectors::window::put_in_zeros;
+use crate::vectors::{BEFORE, BLOCK, Encoding, STEP};
+
+/// The length of a prefix that is of this encoding: all the bytes, or some that end where the next
+/// code point begins.
+#[inline(always)]
+pub(crate) fn scan(bytes: &[u8], encoding: Encoding) -> usize
+    ensures within { result ≤ length bytes.now }
+    ensures prefix { IsEncodedPrefix encoding bytes.now result }
+{
+    scan_from(bytes, 0, encoding)
+}
+
+/// The same for bytes that keep to the pattern up to index `at`.
+#[inline(always)]
+pub(crate) fn scan_from(bytes: &[u8], at: usize, encoding: Encoding) -> usize
+    requires within { at ≤ length bytes.now }
+    requires kept { KeepsPattern encoding bytes.now at }
+    ensures within { result ≤ length bytes.now }
+    ensures prefix { IsEncodedPrefix encoding bytes.now result }
+{
+    if bytes.len() - at < STEP {
+        return start_before(bytes, at);
+    }
+    if bytes.len() - at < BLOCK {
+        return scan_tail(bytes, at, encoding);
+    }
+    if at >= BEFORE {
+        return scan_blocks(bytes, at, encoding);
+    }
+    let kept = first_len(bytes, at, encoding);
+    if kept < BLOCK {
+        return start_before(bytes, at + kept);
+    }
+    scan_blocks(bytes, at + BLOCK, encoding)
+}
+
+/// How many of the 64 bytes from index `at` on keep to the pattern, up to the first that doesn't.
+#[inline(always)]
+fn first_len(bytes: &[u8], at: usize, encoding: Encoding) -> usize
+    requires { at + 64 ≤ length bytes.now }
+    ensures within { result ≤ 64 }
+    ensures kept { KeepsPattern encoding bytes.now at
+        → KeepsPattern encoding bytes.now (at + result) }
+{
+    if at == 0 && is_ascii_at::<BLOCK>(bytes, at) {
+        return BLOCK;
+    }
+    window_len(bytes, at, encoding)
+}
+
+/// The same as [`scan_from`] where four bytes or more come before `at`, so that each block is
+/// tested in place.
+#[inline(always)]
+fn scan_blocks(bytes: &[u8], at: usize, encoding: Encoding) -> usize
+    requires from { 4 ≤ at }
+    requires within { at ≤ length bytes.now }
+    requires kept { KeepsPattern encoding bytes.now at }
+    ensures within { result ≤ length bytes.now }
+    ensures prefix { IsEncodedPrefix encoding bytes.now result }
+{
+    let mut end = ascii_end(bytes, at);
+    while bytes.len() - end >= BLOCK {
+        let kept = block_len(bytes, end, encoding);
+        end += kept;
+        if kept < BLOCK {
+            return start_before(bytes, end);
+        }
+        end = ascii_end(bytes, end);
+    }
+    scan_tail(bytes, end, encoding)
+}
+
+/// Up to which index bytes keep to the pattern of UTF-8, which they do up to `at`: `Ok` with that
+/// index after at most eight steps of 16 bytes, or, if a byte of a step doesn't, `Err` with the
+/// length of a prefix that is UTF-8.
+#[inline(always)]
+pub(crate) fn scan_steps(bytes: &[u8], at: usize) -> Result<usize, usize>
+    requires within { at ≤ length bytes.now }
+    requires kept { KeepsPattern Utf8 bytes.now at }
+    ensures within { MatchResult result (λ end. end ≤ length bytes.now)
+        (λ prefix. prefix ≤ length bytes.now) }
+    ensures prefix { MatchResult result (λ end. KeepsPattern Utf8 bytes.now end)
+        (λ prefix. IsEncodedPrefix Utf8 bytes.now prefix) }
+{
+    let mut end = at;
+    for _ in 0..8 {
+        if end < BEFORE || bytes.len() - end < STEP {
+            return Ok(end);
+        }
+        let kept = step_len(bytes, end);
+        end += kept;
+        if kept < STEP {
+            return Err(start_before(bytes, end));
+        }
+    }
+    Ok(end)
+}
+
+/// How many of the next 16 bytes keep to the pattern of UTF-8, up to the first that doesn't.
+#[inline(always)]
+fn step_len(bytes: &[u8], at: usize) -> usize
+    requires from { 4 ≤ at }
+    requires room { at + 16 ≤ length bytes.now }
+    ensures within { result ≤ 16 }
+    ensures kept { KeepsPattern Utf8 bytes.now at → KeepsPattern Utf8 bytes.now (at + result) }
+{
+    allowed_in_step(&bytes[at - BEFORE..])
+}
+
+/// Whether bytes are found to be UTF-8 that keep to its pattern up to index `at`, by one more step:
+/// the last 16 bytes, of which those before `at` are read again. So no copy with zeros after them is
+/// made. That isn't found if more bytes are left, or if there are fewer than 20.
+#[inline(always)]
+pub(crate) fn ends_by_step(bytes: &[u8], at: usize) -> bool
+    requires within { at ≤ length bytes.now }
+    requires kept { KeepsPattern Utf8 bytes.now at }
+    ensures { IsTrue result → IsEncodedPrefix Utf8 bytes.now (length bytes.now) }
+{
+    let len = bytes.len();
+    if len < BEFORE + STEP || len - at > STEP || !ends_closed(bytes) {
+        return false;
+    }
+    allowed_in_step(&bytes[len - STEP - BEFORE..]) >= STEP
+}
+
+/// The length of a prefix of few bytes, which keep to the pattern of UTF-8 up to index `at`, that is
+/// UTF-8: all the bytes, or some that end where the next character begins.
+#[inline(always)]
+pub(crate) fn scan_short(bytes: &[u8], at: usize) -> usize
+    requires from { 4 ≤ length bytes.now }
+    requires within { at ≤ length bytes.now }
+    requires kept { KeepsPattern Utf8 bytes.now at }
+    ensures within { result ≤ length bytes.now }
+    ensures prefix { IsEncodedPrefix Utf8 bytes.now result }
+{
+    if bytes.len() < BEFORE + STEP {
+        let kept = len_of_few(bytes);
+        if kept > bytes.len() {
+            return bytes.len();
+        }
+        return start_before(bytes, kept);
+    }
+    let read = if at < BEFORE {
+        scan_first_steps(bytes)
+    } else {
+        scan_steps(bytes, at)
+    };
+    match read {
+        Ok(end) => {
+            if ends_by_step(bytes, end) {
+                bytes.len()
+            } else {
+                start_before(bytes, end)
+            }
+        }
+        Err(prefix) => prefix,
+    }
+}
+
+/// How many of fewer than 32 bytes, and of the zeros after them, keep to the pattern of UTF-8. If a
+/// zero does, no character is left open.
+#[inline(always)]
+fn len_of_few(bytes: &[u8]) -> usize
+    requires from { 4 ≤ length bytes.now }
+    requires short { length bytes.now < 32 }
+    ensures { KeepsPattern Utf8 bytes.now result }
+{
+    let mut window = [0; BEFORE + 2 * STEP];
+    put_in_zeros(bytes, &mut window, BEFORE);
+    let kept = allowed_in_step(&window);
+    if kept < STEP || kept > bytes.len() {
+        return kept;
+    }
+    let (_, second) = window.split_at(STEP);
+    STEP + allowed_in_step(second)
+}
+
+/// The same as [`scan_steps`] from the first byte on. The first step is one of a copy, with zeros
+/// before it.
+#[inline(always)]
+fn scan_first_steps(bytes: &[u8]) -> Result<usize, usize>
+    requires { 16 ≤ length bytes.now }
+    ensures within { MatchResult result (λ end. end ≤ length bytes.now)
+        (λ prefix. prefix ≤ length bytes.now) }
+    ensures prefix { MatchResult result (λ end. KeepsPattern Utf8 bytes.now end)
+        (λ prefix. IsEncodedPrefix Utf8 bytes.now prefix) }
+{
+    let mut window = [0; BEFORE + STEP];
+    put_in_zeros(&bytes[..STEP], &mut window, BEFORE);
+    let kept = allowed_in_step(&window);
+    if kept < STEP {
+        return Err(start_before(bytes, kept));
+    }
+    scan_steps(bytes, STEP)
+}
+
+/// Whether none of the last three bytes is the lead of a form that continues after the last byte.
+#[inline(always)]
+fn ends_closed(bytes: &[u8]) -> bool
+    requires { 3 ≤ length bytes.now }
+    ensures { IsTrue result → IsClosed (slice_index bytes.now (length bytes.now - 3))
+        (slice_index bytes.now (length bytes.now - 2))
+        (slice_index bytes.now (length bytes.now - 1)) }
+{
+    let len = bytes.len();
+    bytes[len - 3] < 0xF0 && bytes[len - 2] < 0xE0 && bytes[len - 1] < 0xC0
+}
+
+/// Whether the first `at` bytes, if they are such a prefix of WTF-8, end with a high surrogate.
+#[inline(always)]
+pub(crate) fn ends_with_high_surrogate(bytes: &[u8], at: usize) -> bool
+    requires { at ≤ length bytes.now }
+    ensures { (f : IsEncodedPrefix Wtf8 bytes.now at)
+        → result ≡ is_high (last_or 0 f.code_points) }
+{
+    if at < 3 {
+        return false;
+    }
+    if bytes[at - 3] != 0xED {
+        return false;
+    }
+    is_high_second(bytes[at - 2])
+}
+
+/// Whether a byte after ED begins the form of a high surrogate, if it is a continuation.
+#[inline(always)]
+fn is_high_second(byte: u8) -> bool
+    ensures { result ≡ is_in_range 0xA0 0xAF byte }
+{
+    matches!(byte, 0xA0..=0xAF)
+}
+
+/// The index at which the blocks of ASCII from `at` on end, if the byte before them is ASCII, too;
+/// else `at`.
+#[inline(always)]
+fn ascii_end(bytes: &[u8], at: usize) -> usize
+    requires some { 0 < at }
+    requires within { at ≤ length bytes.now }
+    ensures from { at ≤ result }
+    ensures within { result ≤ length bytes.now }
+    ensures kept { (e : Encoding) → KeepsPattern e bytes.now at → KeepsPattern e bytes.now result }
+{
+    if bytes.len() - at < BLOCK || !is_amid_ascii(bytes, at) || !is_ascii_at::<BLOCK>(bytes, at) {
+        return at;
+    }
+    let mut end = at + BLOCK;
+    while bytes.len() - end >= BLOCK && is_ascii_at::<BLOCK>(bytes, end) {
+        end += BLOCK;
+    }
+    end
+}
+
+/// Whether the byte before index `at` is ASCII, and one amid the next 64 is, too. In text whose every
+/// few letters are ASCII, a processor foresees that better than whether the one byte is.
+#[inline(always)]
+fn is_amid_ascii(bytes: &[u8], at: usize) -> bool
+    requires some { 0 < at }
+    requires within { at + 64 ≤ length bytes.now }
+    ensures { IsTrue result → slice_index bytes.now (at - 1) < 0x80 }
+{
+    (bytes[at - 1] < 0x80) & (bytes[at + BLOCK / 2] < 0x80)
+}
+
+/// How many of the next 64 bytes keep to the pattern, up to the first that doesn't.
+#[inline(always)]
+fn block_len(bytes: &[u8], at: usize, encoding: Encoding) -> usize
+    requires from { 4 ≤ at }
+    requires room { at + 64 ≤ length bytes.now }
+    ensures within { result ≤ 64 }
+    ensures kept { KeepsPattern encoding bytes.now at
+        → KeepsPattern encoding bytes.now (at + result) }
+{
+    allowed_in_block(&bytes[at - BEFORE..], encoding)
+}
+
+/// The same as [`scan_from`] where fewer than 64 bytes are left after `at`.
+fn scan_tail(bytes: &[u8], at: usize, encoding: Encoding) -> usize
+    requires from { at ≤ length bytes.now }
+    requires short { length bytes.now - at < 64 }
+    requires kept { KeepsPattern encoding bytes.now at }
+    ensures within { result ≤ length bytes.now }
+    ensures prefix { IsEncodedPrefix encoding bytes.now result }
+{
+    if is_ascii_to_end(bytes) {
+        return bytes.len();
+    }
+    let kept = window_len(bytes, at, encoding);
+    if kept > bytes.len() - at {
+        return bytes.len();
+    }
+    start_before(bytes, at + kept)
+}
+
+/// The last index before `end` at which a code point begins, if the bytes keep to the pattern up to
+/// `end`.
+#[inline(always)]
+fn start_before(bytes: &[u8], end: usize) -> usize
+    requires { end ≤ length bytes.now }
+    ensures within { result ≤ length bytes.now }
+    ensures prefix { (e : Encoding) → KeepsPattern e bytes.now end
+        → IsEncodedPrefix e bytes.now result }
+{
+    let mut at = end;
+    while at > 0 {
+        at -= 1;
+        if !is_continuation(bytes[at]) {
+            return at;
+        }
+    }
+    0
+}
+
+/// How many of the 64 bytes from index `at` on keep to the pattern, with zeros before and after the
+/// bytes.
+#[inline(always)]
+fn window_len(bytes: &[u8], at: usize, encoding: Encoding) -> usize
+    requires { at ≤ length bytes.now }
+    ensures within { result ≤ 64 }
+    ensures kept { KeepsPattern encoding bytes.now at
+        → KeepsPattern encoding bytes.now (at + result) }
+{
+    let before = at.min(BEFORE);
+    let after = (bytes.len() - at).min(BLOCK);
+    let mut window = [0; BEFORE + BLOCK];
+    put_in_zeros(
+        &bytes[at - before..at + after],
+        &mut window,
+        BEFORE - before,
+    );
+    allowed_in_block(&window, encoding)
+}
