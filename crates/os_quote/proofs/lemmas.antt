@@ -5,6 +5,7 @@ pub mod Texts
 pub mod Writing
 pub mod InlineTexts
 pub mod Pushing
+pub mod Taking
 pub mod Stripping
 pub mod Chunks
 pub mod Escapes

@@ -2,22 +2,19 @@
 use Rattle.std.specs.Prelude.{◌≡◌, ℕ, ◌+◌, ◌<◌, nat_eq, Bool, if◌then◌else◌, List, ◌++◌, map, length}
 use Rattle.std.specs.Str.{IsUtf8, chars}
 use Rattle.wtf8_core.specs.Truncated.{IsTruncated}
-use Rattle.os_quote.specs.Plain.{IsAfterPlain}
-use Rattle.os_quote.specs.Item.{Item, Backslash, backslash, item_text, item_texts, hidden_item, character_item}
+use Rattle.os_quote.specs.Item.{Item, Backslash, backslash, item_text, item_texts, unit_item, hidden_item, character_item}
 
 -- `more` is appended to a text of `count` bytes in a buffer, truncated to the buffer's length, and `len` is the length of both
 abbrev pub Pushes : List ℕ → List ℕ → ℕ → List ℕ → ℕ → Type 0
 Pushes more old count new len = ((text buffer : List ℕ) → IsTruncated text buffer old count → IsTruncated (text ++ more) buffer new len) × (len ≡ count + length more)
 
--- plain bytes at the start are written, after which the rest comes
-pub record IsPlainPushed (bytes old new : List ℕ) (count : ℕ) (rest : List ℕ) : Type 0 where
-  pub prefix : List ℕ
-  pub after : IsAfterPlain bytes prefix rest
-  pub pushes : Pushes prefix old 0 new count
-
 -- the token of a character that isn't shown, or is the backslash
 abbrev pub token_of : ℕ → Item
 token_of c = if nat_eq c backslash then Backslash else hidden_item c
+
+-- the escape of a part, whose units these are
+abbrev pub part_escape : (List ℕ → List ℕ) → List ℕ → List ℕ
+part_escape units part = item_texts (map unit_item (units part))
 
 -- the escape of a text in the form that shows these characters
 abbrev pub text_escape : (ℕ → Bool) → List ℕ → List ℕ

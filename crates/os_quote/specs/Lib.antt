@@ -7,6 +7,10 @@ pub mod Escape
 pub mod Escaped
 pub mod Reading
 pub mod Buffers
+pub mod Sinks
+pub mod FormatterSink
+pub mod BufferSink
+pub mod ComparisonSink
 pub mod Unescaped
 pub mod Stripping
 pub mod ErrorText

@@ -2,8 +2,6 @@
 use Rattle.std.specs.Prelude.{◌≡◌, ◌≢◌, ℕ, ◌≤◌, ◌<◌, List, ◌++◌, length, slice_index}
 use Rattle.std.specs.Int.{IsInRange}
 use Rattle.std.specs.List.{AllByRecursion}
-use Rattle.std.specs.Fmt.{HasWrittenStyled, IsFlush}
-use Rattle.std.specs.declared.fmt.Formatter.{Formatter}
 use Rattle.os_quote.specs.Item.{backslash}
 
 -- a printable character of ASCII other than the backslash
@@ -24,9 +22,3 @@ pub record IsAfterPlain (bytes prefix rest : List ℕ) : Type 0 where
 pub record IsCutAfterPlain (bytes prefix rest : List ℕ) : Type 0 where
   pub after : IsAfterPlain bytes prefix rest
   pub some : 0 < length prefix
-
--- from f to g plain bytes were written, after which the rest comes
-pub record IsPlainWritten {W : Type 0} (took : W → List ℕ → W → Type 0) (f g : Formatter W) (bytes rest : List ℕ) : Type 0 where
-  pub prefix : List ℕ
-  pub after : IsAfterPlain bytes prefix rest
-  pub wrote : IsFlush f → HasWrittenStyled took f prefix g

@@ -1,7 +1,7 @@
 //! A string that prints as its escape.
 use crate::form::Form;
-use crate::write_formatted::{write_part, write_plain, write_text};
-use os_str_bytes::{OsStr, OsStrBytesExt, Platform, Writeable, write_filled};
+use crate::walk::write_escape_to;
+use os_str_bytes::{OsStr, Platform, Writeable, write_filled};
 use std::alloc::AllocError;
 use std::fmt;
 
@@ -65,12 +65,6 @@ impl<'a, E: Platform> Writeable for Escaped<'a, E> {
     ghost text = { λ e. escaped_text e };
 
     fn write_to<W: fmt::Write>(&self, f: &mut fmt::Formatter<W>) -> fmt::Result {
-        let rest = write_plain(self.string.as_encoded_bytes(), f)?;
-        let rest = OsStr::<E>::from_encoded_bytes_unchecked(rest);
-        for (part, text) in rest.utf8_chunks() {
-            write_part(part, f)?;
-            write_text(self.form, text, f)?;
-        }
-        Ok(())
+        write_escape_to(self.form, self.string, f)
     }
 }

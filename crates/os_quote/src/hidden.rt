@@ -1,5 +1,6 @@
 //! How far the escape of a text on one line shows it as it is.
-ghost use Rattle.std.specs.Prelude.{◌≡◌, ◌↔◌, [], IsTrue, IfSome, MatchOption};
+ghost use Rattle.std.specs.Prelude.{◌≡◌, ◌↔◌, [], take, IsTrue, IfSome, MatchOption};
+ghost use Rattle.std.specs.Str.{IsCharBoundary};
 ghost use Rattle.os_quote.specs.Hidden.{IsUnchanged, AreUnchanged, IsCutAtHidden};
 ghost use Rattle.os_quote.specs.Shown.{IsOnOneLine};
 
@@ -9,6 +10,7 @@ use crate::suspects::first_suspect;
 
 /// What comes before the first character that is written as a token, that character, and what comes
 /// after it.
+#[inline(always)]
 pub(crate) fn split_hidden(text: &str) -> Option<(&str, char, &str)>
     ensures { MatchOption result (AreUnchanged text.now)
         (λ parts. IsCutAtHidden text.now parts.0.now parts.1 parts.2.now) }
@@ -16,7 +18,7 @@ pub(crate) fn split_hidden(text: &str) -> Option<(&str, char, &str)>
     if let Some((character, following)) = hidden_start(text) {
         return Some(("", character, following));
     }
-    split_at_suspect(text)
+    split_after_plain(text)
 }
 
 /// The character of ASCII at the start that is written as a token, and what comes after it: where one
@@ -33,12 +35,28 @@ fn hidden_start(text: &str) -> Option<(char, &str)>
     None
 }
 
-/// The same as [`split_hidden`], by a search.
-fn split_at_suspect(text: &str) -> Option<(&str, char, &str)>
+/// The same as [`split_hidden`], by a search. Most often the first character that isn't plain is the one
+/// that is searched for.
+fn split_after_plain(text: &str) -> Option<(&str, char, &str)>
     ensures { MatchOption result (AreUnchanged text.now)
         (λ parts. IsCutAtHidden text.now parts.0.now parts.1 parts.2.now) }
 {
-    let mut at = plain_len(text.as_bytes());
+    let at = plain_len(text.as_bytes());
+    let rest = &text[at..];
+    if let Some((character, following)) = hidden_start(rest) {
+        return Some((&text[..at], character, following));
+    }
+    split_at_suspect(text, at)
+}
+
+/// The same, from an index on up to which the characters are shown as they are.
+fn split_at_suspect(text: &str, from: usize) -> Option<(&str, char, &str)>
+    requires boundary { IsCharBoundary text.now from }
+    requires unchanged { AreUnchanged (take from text.now) }
+    ensures { MatchOption result (AreUnchanged text.now)
+        (λ parts. IsCutAtHidden text.now parts.0.now parts.1 parts.2.now) }
+{
+    let mut at = from;
     while let Some(suspect) = first_suspect(text.as_bytes(), at) {
         let mut characters = text[suspect..].chars();
         let character = characters.next()?;
@@ -52,6 +70,7 @@ fn split_at_suspect(text: &str) -> Option<(&str, char, &str)>
 }
 
 /// Whether a character is shown as it is.
+#[inline(always)]
 fn is_unchanged(character: char) -> bool
     ensures { IsTrue result ↔ IsUnchanged character }
 {

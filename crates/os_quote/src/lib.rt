@@ -23,6 +23,7 @@ mod long_token;
 mod plain;
 mod quoting;
 mod reading;
+mod sink;
 mod split_token;
 mod suspect_bits;
 mod suspects;
@@ -30,8 +31,8 @@ mod token;
 mod token_text;
 mod unescaped;
 mod unescaped_bytes;
+mod walk;
 mod write_buffer;
-mod write_formatted;
 
 pub use display::Escaped;
 pub use error::QuoteError;

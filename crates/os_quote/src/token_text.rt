@@ -1,8 +1,7 @@
 //! The texts of tokens.
 ghost use Rattle.std.specs.Prelude.{◌≡◌, ◌/◌, ◌%◌, ◌<◌, ◌≤◌};
 ghost use Rattle.wtf8_core.specs.FaultText.{upper_hex_digit};
-ghost use Rattle.os_quote.specs.Buffers.{token_of};
-ghost use Rattle.os_quote.specs.Item.{Backslash, ByteUnit, WideUnit, LongCharacter, item_text, unit_item, hidden_item};
+ghost use Rattle.os_quote.specs.Item.{Backslash, ByteUnit, WideUnit, LongCharacter, item_text};
 
 use std::marker::Model;
 use wtf8_core::upper_hex_digit;
@@ -26,31 +25,6 @@ impl Model for TokenText {
 }
 
 impl TokenText {
-    /// The token of a unit: `\xHH` if it is below 100 (hexadecimal), else `\uHHHH`.
-    #[inline(always)]
-    pub(crate) fn of_unit(unit: u16) -> TokenText
-        ensures { result ≡ item_text (unit_item unit) }
-    {
-        if unit < 0x100 {
-            TokenText::of_byte(unit as u8)
-        } else {
-            TokenText::of_wide(unit)
-        }
-    }
-
-    /// The token of a character that isn't shown, or is the backslash: `\\`, `\uHHHH` where it has 16
-    /// bits, else `\u{H..}`.
-    #[inline(always)]
-    pub(crate) fn of_character(character: char) -> TokenText
-        ensures { result ≡ item_text (token_of character) }
-    {
-        if character == '\\' {
-            TokenText::of_backslash()
-        } else {
-            TokenText::of_hidden(character as u32)
-        }
-    }
-
     /// The text.
     #[inline(always)]
     pub(crate) fn as_str(&self) -> &str
@@ -61,7 +35,7 @@ impl TokenText {
 
     /// `\\`.
     #[inline(always)]
-    fn of_backslash() -> TokenText
+    pub(crate) fn of_backslash() -> TokenText
         ensures { result ≡ item_text Backslash }
     {
         TokenText {
@@ -72,7 +46,7 @@ impl TokenText {
 
     /// `\xHH`.
     #[inline(always)]
-    fn of_byte(byte: u8) -> TokenText
+    pub(crate) fn of_byte(byte: u8) -> TokenText
         ensures { result ≡ item_text (ByteUnit byte) }
     {
         let (a, b) = digits(byte);
@@ -82,22 +56,9 @@ impl TokenText {
         }
     }
 
-    /// `\uHHHH` of a number of 16 bits, `\u{H..}` of a greater one.
-    #[inline(always)]
-    fn of_hidden(character: u32) -> TokenText
-        requires { character < 0x11_0000 }
-        ensures { result ≡ item_text (hidden_item character) }
-    {
-        if character < 0x1_0000 {
-            TokenText::of_wide(character as u16)
-        } else {
-            TokenText::of_long(character)
-        }
-    }
-
     /// `\uHHHH`.
     #[inline(always)]
-    fn of_wide(number: u16) -> TokenText
+    pub(crate) fn of_wide(number: u16) -> TokenText
         ensures { result ≡ item_text (WideUnit number) }
     {
         let (a, b) = digits((number / 0x100) as u8);
@@ -109,7 +70,7 @@ impl TokenText {
     }
 
     /// `\u{H..}` of five or six digits.
-    fn of_long(number: u32) -> TokenText
+    pub(crate) fn of_long(number: u32) -> TokenText
         requires past { 0x1_0000 ≤ number }
         requires below { number < 0x11_0000 }
         ensures { result ≡ item_text (LongCharacter number) }

@@ -1,19 +1,17 @@
 //! Escapes written into a buffer that may be too short for them.
-ghost use Rattle.std.specs.Prelude.{◌+◌, ◌*◌, ◌<◌, ◌^◌, ℕ, List, map, length};
+ghost use Rattle.std.specs.Prelude.{◌≡◌, ◌+◌, ◌*◌, ◌<◌, ◌^◌, ℕ, List, length};
 ghost use Rattle.wtf8_core.specs.Truncated.{IsTruncated};
 ghost use Rattle.platform_str.specs.Strings.{bytes};
-ghost use Rattle.os_str_ext.specs.Parts.{part_bytes};
-ghost use Rattle.os_quote.specs.Buffers.{Pushes, IsPlainPushed, text_escape, token_of};
+ghost use Rattle.os_quote.specs.Buffers.{Pushes};
 ghost use Rattle.os_quote.specs.Escape.{IsEscape, IsLineEscape};
 ghost use Rattle.os_quote.specs.Escaped.{escape_of};
-ghost use Rattle.os_quote.specs.Item.{Backslash, item_text, item_texts, unit_item};
 ghost use Rattle.os_quote.specs.Shown.{shown_by};
 
 use crate::form::Form;
-use crate::plain::split_plain;
-use crate::split_token::split_token;
-use crate::token_text::TokenText;
-use os_str_bytes::{NonUnicodeOsStr, OsStr, OsStrBytesExt, Platform};
+use crate::sink::Sink;
+use crate::walk::write_escape_to;
+use os_str_bytes::{OsStr, Platform};
+use std::fmt;
 use wtf8_core::push_truncated;
 
 /// Writes the escape of a string ([`escape`](crate::escape)) into a buffer, truncated if the buffer
@@ -68,80 +66,46 @@ fn push_escape<E: Platform>(form: Form, string: OsStr<'_, E>, buffer: &mut [u8])
     ensures { IsTruncated (escape_of (shown_by form) E.units (bytes string.entry)) buffer.old
         buffer.new result }
 {
-    let (plain, rest) = push_plain(buffer, string.as_encoded_bytes());
-    let rest = OsStr::<E>::from_encoded_bytes_unchecked(rest);
-    let mut count = plain;
-    for (part, text) in rest.utf8_chunks() {
-        count = push_part(buffer, count, part);
-        count = push_text(form, buffer, count, text);
-    }
-    count
+    let mut sink = Buffer::new(buffer);
+    sink.push_escape(form, string);
+    sink.count
 }
 
-/// Writes the plain bytes at the start, and returns how many they are and the bytes after them.
-fn push_plain<'a>(buffer: &mut [u8], bytes: &'a [u8]) -> (usize, &'a [u8])
-    ensures { IsPlainPushed bytes.now buffer.old buffer.new result.0 result.1.now }
-{
-    let mut count = 0;
-    let mut rest = bytes;
-    while let Some((plain, following)) = split_plain(rest) {
-        count = push_truncated(buffer, count, plain.as_bytes());
-        rest = following;
-    }
-    (count, rest)
-}
-
-/// Appends each unit of a part.
-fn push_part<'a, E: Platform>(
-    buffer: &mut [u8],
+/// A buffer, and how long what was written so far is.
+#[derive(Drop)]
+struct Buffer<'a> {
+    bytes: &'a mut [u8],
     count: usize,
-    part: NonUnicodeOsStr<'a, E>,
-) -> usize
-    requires { count + length (item_texts (map unit_item (E.units (part_bytes part)))) < 2 ^ 64 }
-    ensures { Pushes (item_texts (map unit_item (E.units (part_bytes part.entry)))) buffer.old count
-        buffer.new result }
-{
-    let mut len = count;
-    for unit in part.os_units() {
-        let token = TokenText::of_unit(unit.to_u64() as u16);
-        len = push_truncated(buffer, len, token.as_str().as_bytes());
-    }
-    len
 }
 
-/// Appends a text in a form.
-fn push_text(form: Form, buffer: &mut [u8], count: usize, text: &str) -> usize
-    requires { count + length (text_escape (shown_by form) text.now) < 2 ^ 64 }
-    ensures { Pushes (text_escape (shown_by form) text.now) buffer.old count buffer.new result }
-{
-    let mut len = count;
-    let mut rest = text;
-    while let Some((prefix, character, following)) = split_token(form, rest) {
-        len = push_truncated(buffer, len, prefix.as_bytes());
-        len = push_token(buffer, len, character);
-        rest = following;
+impl<'a> Buffer<'a> {
+    fn new(bytes: &'a mut [u8]) -> Buffer<'a>
+        ensures same_reference { result.bytes.ghost_name ≡ bytes.entry.ghost_name }
+        ensures bytes { result.bytes.now ≡ bytes.old }
+        ensures count { result.count ≡ 0 }
+    {
+        Buffer { bytes, count: 0 }
     }
-    push_truncated(buffer, len, rest.as_bytes())
+
+    /// Appends the escape of a string in a form. A buffer refuses nothing.
+    fn push_escape<E: Platform>(&mut self, form: Form, string: OsStr<'_, E>)
+        requires { self.old.count + 6 * length (bytes string) < 2 ^ 64 }
+        ensures same_reference { self.new.bytes.ghost_name ≡ self.old.bytes.ghost_name }
+        ensures pushes { Pushes (escape_of (shown_by form) E.units (bytes string.entry))
+            self.old.bytes.now self.old.count self.new.bytes.now self.new.count }
+    {
+        let _ = write_escape_to(form, string, self);
+    }
 }
 
-/// Appends the token of a character that isn't shown, or is the backslash.
-#[inline(always)]
-fn push_token(buffer: &mut [u8], count: usize, character: char) -> usize
-    requires { count + length (item_text (token_of character)) < 2 ^ 64 }
-    ensures { Pushes (item_text (token_of character)) buffer.old count buffer.new result }
-{
-    if character == '\\' {
-        return push_backslash(buffer, count);
-    }
-    let token = TokenText::of_character(character);
-    push_truncated(buffer, count, token.as_str().as_bytes())
-}
+impl<'a> Sink for Buffer<'a> {
+    ghost use Rattle.os_quote.specs.BufferSink.{buffer_rules};
 
-/// Appends the token of a backslash, the most frequent one.
-#[inline(always)]
-fn push_backslash(buffer: &mut [u8], count: usize) -> usize
-    requires { count + 2 < 2 ^ 64 }
-    ensures { Pushes (item_text Backslash) buffer.old count buffer.new result }
-{
-    push_truncated(buffer, count, b"\\\\")
+    ghost rules = { buffer_rules };
+
+    #[inline(always)]
+    fn take(&mut self, piece: &str) -> fmt::Result {
+        self.count = push_truncated(self.bytes, self.count, piece.as_bytes());
+        Ok(())
+    }
 }

@@ -1,5 +1,5 @@
 -- Plain bytes: texts that both forms show unchanged.
-use Rattle.os_quote.proofs.Common.{◌≡◌, ◌⊎◌, ⊎_elim, ℕ, zero, suc, ◌+◌, ◌-◌, ◌<◌, ◌≤◌, true, List, [], ◌∷◌, ◌++◌, map, length, take, get_or, refl, sym, ap, ◌∙◌, subst, arith, append_assoc, rules, AllByRecursion, IsUtf8, HasWrittenStyled, IsFlush, Formatter, cases_lt, ne_eqb, chars-IsAscii, encode_ascii, IsUtf8-from_ascii, Character, backslash, item_text, item_texts, character_item, shown_by, IsPlain, IsPlainUpTo, IsAfterPlain, AreUnchanged, IsUnchanged}
+use Rattle.os_quote.proofs.Common.{◌≡◌, ◌⊎◌, ⊎_elim, ℕ, zero, suc, ◌+◌, ◌-◌, ◌<◌, ◌≤◌, true, List, [], ◌∷◌, ◌++◌, map, length, take, get_or, refl, sym, ap, ◌∙◌, subst, arith, append_assoc, AllByRecursion, IsUtf8, cases_lt, ne_eqb, chars-IsAscii, encode_ascii, IsUtf8-from_ascii, Character, backslash, item_text, item_texts, character_item, shown_by, IsPlain, IsPlainUpTo, IsAfterPlain, AreUnchanged, IsUnchanged}
 use Rattle.os_quote.specs.declared.form.Form.{Form}
 use Rattle.os_quote.specs.declared.form.Form.TheVariants.{Text, Line}
 use Rattle.os_quote.proofs.lemmas.Readings.{ascii_all}
@@ -80,8 +80,5 @@ after_more bs prefix rest more following a b = record {
   plain = all_plain prefix more a.plain b.plain;
   joined = a.joined ∙ ap (λ x. prefix ++ x) b.joined ∙ sym (append_assoc prefix more following);
 }
-
-pub none_written : {W : Type 0} (took : W → List ℕ → W → Type 0) (f : Formatter W) → IsFlush f → HasWrittenStyled took f [] f
-none_written took f flush = search rules
 
 pub ruleset plain_bytes = (none_plain, more_plain, one_plain)

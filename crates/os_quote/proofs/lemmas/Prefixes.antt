@@ -99,11 +99,7 @@ rest_formed well_formed after_text {bytes} {prefix} {rest} w after =
     let first = ap (take n) after.joined ∙ take_at prefix rest n refl in
     subst well_formed (ap (drop n) after.joined ∙ drop_at prefix rest n refl) (after_text bytes n w (subst IsUtf8 (sym first) (plain_is_text prefix after.plain)))
 
-pub plain_first : (form : Form) (units : List ℕ → List ℕ) → units [] ≡ [] → {s bytes prefix rest following : List ℕ} {chunks : List Chunk} → IsAfterPlain bytes prefix rest → bytes ≡ s → following ≡ rest → chunks ≡ chunks_of following
-    → prefix ++ item_texts (items_of (shown_by form) units chunks) ≡ escape_of (shown_by form) units s
-plain_first form units none {prefix = prefix} {rest = rest} after same is chunks =
-    let escape = escape_of (shown_by form) units in
-    ap (λ cs. prefix ++ item_texts (items_of (shown_by form) units cs)) chunks
-    ∙ ap (λ r. prefix ++ escape r) is
-    ∙ sym (prefix_escape (shown_by form) units prefix rest none (plain_is_text prefix after.plain) (plain_is_own form prefix after.plain))
-    ∙ ap escape (sym after.joined ∙ same)
+pub plain_first : (form : Form) (units : List ℕ → List ℕ) → units [] ≡ [] → {bytes prefix rest : List ℕ} → IsAfterPlain bytes prefix rest
+    → escape_of (shown_by form) units bytes ≡ prefix ++ escape_of (shown_by form) units rest
+plain_first form units none {prefix = prefix} {rest = rest} after =
+    ap (escape_of (shown_by form) units) after.joined ∙ prefix_escape (shown_by form) units prefix rest none (plain_is_text prefix after.plain) (plain_is_own form prefix after.plain)

@@ -1,11 +1,14 @@
 -- How far a text has been written into a buffer.
 use Rattle.os_quote.proofs.Common.{◌≡◌, ⊎_elim, true, false, ℕ, ◌+◌, ◌<◌, ◌^◌, List, [], ◌++◌, length, refl, sym, ap, ◌∙◌, subst, arith, append_assoc, append-nil, length-append, cases_Bool, cases_eq, ne_eqb, Pushes, token_of, backslash, character_item, stays_on_line, IsUnchanged, Bool, item_text, text_escape}
 use Rattle.os_quote.specs.Buffers.{IsCutAtToken}
+use Rattle.std.proofs.Common.{Result, Ok, Err}
+use Rattle.std.specs.declared.fmt.Error.{Error}
+use Rattle.os_quote.specs.Sinks.{Takes}
+use Rattle.os_quote.specs.BufferSink.{BufferTook, buffer_rules}
+use Rattle.os_quote.specs.declared.write_buffer.Buffer.{Buffer}
+pub use Rattle.os_quote.specs.BufferSink.{push_nothing, push_both}
 use Rattle.wtf8_core.specs.Truncated.{IsTruncated}
 use Rattle.wtf8_core.proofs.lemmas.buffers.Truncated.{none_yet}
-
-pub push_nothing : (old : List ℕ) (count : ℕ) → Pushes [] old count old count
-push_nothing old count = (λ text buffer h. subst (λ t. IsTruncated t buffer old count) (sym (append-nil text)) h, omega arith)
 
 pub push_same : {a b : List ℕ} {old new : List ℕ} {n m : ℕ} → a ≡ b → Pushes a old n new m → Pushes b old n new m
 push_same {a} {b} {old} {new} {n} {m} e p = subst (λ x. Pushes x old n new m) e p
@@ -15,15 +18,17 @@ pub push_bytes : {old new bytes more : List ℕ} {n m : ℕ} → bytes ≡ more 
     → Pushes more old n new m
 push_bytes {old} {new} {n = n} {m = m} e written len = subst (λ x. Pushes x old n new m) e (written, len)
 
-pub push_both : {a b old now new : List ℕ} {n m k : ℕ} → Pushes a old n now m → Pushes b now m new k → Pushes (a ++ b) old n new k
-push_both {a} {b} {old} {now} {new} {n} {m} {k} p q = (
-  λ text buffer h. subst (λ t. IsTruncated t buffer new k) (append_assoc text a b) (q.0 (text ++ a) buffer (p.0 text buffer h)),
-  omega (arith, p.1, q.1, length-append a b),
-)
-
 -- what is pushed onto nothing is all that is there
 pub pushed_all : {a old new : List ℕ} {k : ℕ} → Pushes a old 0 new k → IsTruncated a old new k
 pushed_all {a} {old} {new} {k} p = p.0 [] old (none_yet old)
+
+-- a buffer refuses nothing
+pub all_pushed_to : (b c : Buffer) (text : List ℕ) (r : Result (Unit {0}) Error) → Takes buffer_rules b text r c → BufferTook b text c
+all_pushed_to b c text (Ok x) took = took
+all_pushed_to b c text (Err e) never = absurd never
+
+pub pushed_whole : {text now old new last : List ℕ} {n k : ℕ} → Pushes text now n new k → now ≡ old → n ≡ 0 → last ≡ new → IsTruncated text old last k
+pushed_whole {text} {now} {old} {new} {last} {n} {k} p e z l = subst (λ x. IsTruncated text old x k) (sym l) (pushed_all (subst (λ x. Pushes text x 0 new k) e (subst (λ m. Pushes text now m new k) z p)))
 
 -- a prefix of `all` is written, and `left` is still to be written
 abbrev pub PushesRest : List ℕ → ℕ → List ℕ → ℕ → List ℕ → List ℕ → Type 0

@@ -1,5 +1,10 @@
 -- How far a text has been written.
-use Rattle.os_quote.proofs.Common.{◌≡◌, ℕ, List, [], ◌++◌, append_assoc, append-nil, rules, refl, sym, ap, ◌∙◌, HasWrittenStyled, IsFlush, Formatter}
+use Rattle.os_quote.proofs.Common.{◌≡◌, ℕ, List, [], ◌++◌, append_assoc, append-nil, rules, refl, sym, ap, ◌∙◌, HasWrittenStyled, IsFlush, Formatter, true≢false}
+use Rattle.std.proofs.Common.{Result, Ok, Err}
+use Rattle.std.specs.Fmt.{WritesStyledOnOk}
+use Rattle.std.specs.declared.fmt.Error.{Error}
+use Rattle.os_quote.specs.FormatterSink.{formatter_rules}
+use Rattle.os_quote.specs.Sinks.{Takes}
 use Rattle.std.proofs.Output.{has_written_styled_append, has_written_styled_of_eq}
 
 -- from f to g a prefix of `all` was written, and `left` is still to be written
@@ -27,3 +32,8 @@ module _ {W : Type 0} (took : W → List ℕ → W → Type 0) where
   -- two writes, one after the other
   pub both : (f g h : Formatter W) (a b : List ℕ) → (IsFlush f → HasWrittenStyled took f a g) → (IsFlush g → HasWrittenStyled took g b h) → IsFlush f → HasWrittenStyled took f (a ++ b) h
   both f g h a b first next flush = let p = first flush in has_written_styled_append _ _ _ _ _ _ p (next p.flush)
+
+  -- what a formatter took is written
+  pub written : {f g : Formatter W} {text : List ℕ} (r : Result (Unit {0}) Error) → Takes (formatter_rules took) f text r g → WritesStyledOnOk took f r text g
+  written (Ok x) next flush ok = next flush
+  written (Err e) next flush ok = absurd (true≢false (sym ok))
