@@ -20,6 +20,7 @@ pub mod WindowsLifted
 pub mod WindowsStrings
 pub mod WindowsScan
 pub mod WindowsUnits
+pub mod WindowsPieces
 pub mod WindowsChecks
 pub mod WindowsCuts
 pub mod WindowsWriting

@@ -1,10 +1,16 @@
 -- The steps of a reader of command lines. Only views and private contracts name these; `Reads`, `ReadsName` and `AreArguments` say how a line is read.
-use Rattle.std.specs.Prelude.{ℕ, ◌+◌, ◌/◌, ◌%◌, Bool, true, false, not, nat_eq, ◌&&◌, ◌||◌, if◌then◌else◌, option_to_list, List, [], ◌∷◌, ◌++◌}
+use Rattle.std.specs.Prelude.{ℕ, ◌+◌, ◌/◌, ◌%◌, Bool, true, false, not, nat_eq, ◌&&◌, ◌||◌, if◌then◌else◌, List, [], ◌∷◌, ◌++◌}
 use Rattle.os_command_line.specs.declared.windows.argument.Kind.{Kind}
-use Rattle.os_command_line.specs.declared.windows.argument.Kind.TheVariants.{Name, Marked, Bare}
-use Rattle.os_command_line.specs.declared.windows.index.Index.{Index}
-use Rattle.os_command_line.specs.declared.windows.index.Known.{Known}
+use Rattle.os_command_line.specs.declared.windows.argument.Kind.TheVariants.{Marked, Bare}
+use Rattle.os_command_line.specs.declared.windows.place.Place.{Place}
 use Rattle.os_command_line.specs.Windows.{backslash, quote, backslashes}
+
+-- in a program's name or in an argument, right after a quotation mark that closes a part or not, inside quotation marks or not, and after how many backslashes
+pub record Index : Type 0 where
+  pub in_name : Bool
+  pub closing : Bool
+  pub inside : Bool
+  pub run : ℕ
 
 abbrev pub is_blank : ℕ → Bool
 is_blank u = nat_eq u 0x20 || nat_eq u 0x09
@@ -50,13 +56,21 @@ unfoldable pub meant : Index → List ℕ → List ℕ
 meant p [] = backslashes p.run
 meant p (u ∷ us) = output p u ++ meant (step p u) us
 
--- the units that are known
-abbrev pub known_units : Known → List ℕ
-known_units k = backslashes k.backslashes ++ option_to_list k.unit
+abbrev pub place : Bool → Bool → Bool → Place
+place name closing inside = record { in_name = name; closing = closing; inside = inside }
 
--- what is still to come of an argument, which means itself or not
-abbrev pub units_left : Bool → Known → Index → List ℕ → List ℕ
-units_left bare known p us = if bare then us else known_units known ++ meant p us
+-- the same where no backslash comes before
+abbrev pub index_at : Place → Index
+index_at p = index p.in_name p.closing p.inside 0
+
+-- a quotation mark that is meant, or none
+abbrev pub meant_mark : Bool → List ℕ
+meant_mark true = quote ∷ []
+meant_mark false = []
+
+-- what is still to come of an argument: these units, a mark if one is meant, and what the rest of its text means from there
+abbrev pub units_left : List ℕ → Bool → Place → List ℕ → List ℕ
+units_left us mark place rest = us ++ (meant_mark mark ++ meant (index_at place) rest)
 
 -- between arguments, or in one of which this much was read
 pub data Mode : Type 0 where
@@ -72,17 +86,6 @@ name_index = index true false false 0
 -- the kind of an argument that is bare or not
 abbrev pub argument_kind : Bool → Kind
 argument_kind bare = if bare then Bare else Marked
-
--- whether a text of this kind means itself, and where its reader begins
-abbrev pub is_bare : Kind → Bool
-is_bare Name = false
-is_bare Marked = false
-is_bare Bare = true
-
-abbrev pub start_of : Kind → Index
-start_of Name = name_index
-start_of Marked = first_index
-start_of Bare = first_index
 
 -- the arguments from here on
 unfoldable pub arguments_from : Mode → List ℕ → List (List ℕ)

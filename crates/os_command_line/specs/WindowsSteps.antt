@@ -1,10 +1,11 @@
 -- Parts of command lines, read or written. Only private contracts name these.
-use Rattle.std.specs.Prelude.{◌≡◌, ◌≢◌, ◌⊎◌, ℕ, ◌+◌, ◌<◌, ◌≤◌, Bool, true, false, List, [], ◌∷◌, ◌++◌, length}
+use Rattle.std.specs.Prelude.{◌≡◌, ◌≢◌, ◌⊎◌, ℕ, ◌+◌, ◌<◌, ◌≤◌, Bool, true, false, List, [], ◌∷◌, ◌++◌, length, nat_eq, if◌then◌else◌}
 use Rattle.std.specs.List.{AllByRecursion}
 use Rattle.wtf8_core.specs.Wtf8.{IsWtf8}
 use Rattle.wtf8_core.specs.UnitsOf.{units_of}
-use Rattle.os_command_line.specs.Windows.{quote, backslashes, IsBlank, Reads, IsNext, ReadsName}
-use Rattle.os_command_line.specs.WindowsReader.{meant, first_index, name_index}
+use Rattle.os_command_line.specs.declared.windows.place.Place.{Place}
+use Rattle.os_command_line.specs.Windows.{backslash, quote, backslashes, IsBlank, Reads, IsNext, ReadsName}
+use Rattle.os_command_line.specs.WindowsReader.{meant, first_index, name_index, index_at, meant_mark, units_left}
 
 -- from here, after `run` backslashes, the text goes on as from there, where these units of the argument come first
 abbrev pub Leads : Bool → ℕ → List ℕ → List ℕ → Bool → ℕ → List ℕ → Type 0
@@ -57,6 +58,37 @@ pub record IsNameCut (line raw rest : List ℕ) : Type 0 where
   pub raw_formed : IsWtf8 raw
   pub rest_formed : IsWtf8 rest
   pub reads : ReadsName (units_of rest) false (units_of line) (meant name_index (units_of raw))
+
+-- how many backslashes are last, after so many
+abbrev pub last_run : ℕ → List ℕ → ℕ
+last_run n [] = n
+last_run n (u ∷ us) = last_run (if nat_eq u backslash then n + 1 else 0) us
+
+-- the text ends with so many backslashes, and no more
+abbrev pub EndsWithRun : List ℕ → ℕ → Type 0
+EndsWithRun text run = (prefix : List ℕ) × (text ≡ prefix ++ backslashes run) × (last_run 0 prefix ≡ 0)
+
+-- a text is cut around its first quotation mark
+pub record IsCutAtQuote (text before after : List ℕ) : Type 0 where
+  pub none_before : AllByRecursion (λ u. u ≢ quote) before
+  pub joined : text ≡ before ++ quote ∷ after
+
+-- `before` a quotation mark the first `len` bytes mean themselves, and the mark too if it is meant, and from after it the text goes on as from there:
+-- so it is in units, which are those of bytes and then backslashes
+pub record IsAtQuote (from : Place) (before : List ℕ) (len : ℕ) (mark : Bool) (to : Place) : Type 0 where
+  pub prefix : List ℕ
+  pub run : ℕ
+  pub kept : ℕ
+  pub before_is : before ≡ prefix ++ backslashes run
+  pub kept_within : kept ≤ run
+  pub len_is : len ≡ length prefix + kept
+  pub means : (us rest : List ℕ) → AllByRecursion (λ u. u ≢ quote) us → last_run 0 us ≡ last_run 0 prefix → (us ≡ [] → prefix ≡ []) × (prefix ≡ [] → us ≡ [])
+      → meant (index_at from) (us ++ (backslashes run ++ quote ∷ rest)) ≡ us ++ (backslashes kept ++ (meant_mark mark ++ meant (index_at to) rest))
+
+-- a text that isn't empty is a piece that means itself, a quotation mark if one is meant, and the rest
+pub record IsPieceCut (from : Place) (text piece : List ℕ) (mark : Bool) (to : Place) (rest : List ℕ) : Type 0 where
+  pub means : meant (index_at from) (units_of text) ≡ units_left (units_of piece) mark to (units_of rest)
+  pub shorter : length rest < length text
 
 -- the next unit is taken, or 0 where there is none
 abbrev pub TakesUnit : List ℕ → ℕ → List ℕ → Type 0

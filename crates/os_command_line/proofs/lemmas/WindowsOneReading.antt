@@ -5,8 +5,7 @@ use Rattle.std.proofs.lemmas.Bool.{ne_eqb, eq-eqb}
 use Rattle.os_command_line.specs.Windows.{backslash, quote, IsBlank, backslashes, IsLiteral, Ends, StartsWithNoQuote, Begins, Reads, IsNext, AreArguments, ReadsName, IsCommandLine}
 use Rattle.os_command_line.specs.Windows.Reads.{ends, literal, escaped, opens, closes, doubled}
 use Rattle.os_command_line.specs.Windows.ReadsName.{name_ends, name_quote, name_unit}
-use Rattle.os_command_line.specs.declared.windows.index.Index.{Index}
-use Rattle.os_command_line.specs.WindowsReader.{is_blank, index, is_end, output, step, prepend, word_from, meant, first_index, name_index, arguments_from, arguments_in}
+use Rattle.os_command_line.specs.WindowsReader.{Index, is_blank, index, is_end, output, step, prepend, word_from, meant, first_index, name_index, arguments_from, arguments_in}
 use Rattle.os_command_line.specs.WindowsReader.Mode.{Within}
 
 -- in an argument

@@ -1,5 +1,5 @@
 -- Steps of the reader by bytes.
-use Rattle.std.proofs.Common.{◌≡◌, ◌≢◌, ◌⊎◌, ⊎_elim, ℕ, ◌+◌, ◌*◌, ◌/◌, ◌%◌, ◌<◌, ◌≤◌, Bool, true, false, not, List, [], ◌∷◌, ◌++◌, length, take, drop, get_or, refl, sym, ap, ◌∙◌, subst, arith, append_assoc, append-nil, inl, inr}
+use Rattle.std.proofs.Common.{◌≡◌, ◌≢◌, ⊎_elim, ℕ, ◌+◌, ◌*◌, ◌/◌, ◌%◌, ◌<◌, ◌≤◌, Bool, true, false, not, List, [], ◌∷◌, ◌++◌, length, take, drop, get_or, refl, sym, ap, ◌∙◌, subst, arith, append_assoc, append-nil, inl, inr}
 use Rattle.std.specs.List.{AllByRecursion}
 use Rattle.std.proofs.lemmas.Bool.{cases_eq, ne_eqb, true≢false}
 use Rattle.std.proofs.lemmas.List.{drop_more}
@@ -9,7 +9,7 @@ use Rattle.os_command_line.specs.Windows.Reads.{ends, literal, escaped, opens, c
 use Rattle.os_command_line.specs.Windows.ReadsName.{name_ends, name_quote, name_unit}
 use Rattle.os_command_line.specs.WindowsReader.{meant, first_index}
 use Rattle.os_command_line.specs.WindowsSteps.{IsBare, BeginsArgument, Leads, IsStep, IsNameStep}
-use Rattle.os_command_line.proofs.lemmas.WindowsEachLine.{same, more_backslashes, blank_cases}
+use Rattle.os_command_line.proofs.lemmas.WindowsEachLine.{same, more_backslashes}
 use Rattle.os_command_line.proofs.lemmas.ShellForms.{nowhere, before_first}
 use Rattle.os_command_line.proofs.lemmas.WindowsOneReading.{complete_alone}
 

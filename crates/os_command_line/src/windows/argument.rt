@@ -1,4 +1,7 @@
 //! An argument of a command line, as a view of its text.
+ghost use Rattle.std.specs.Prelude.{◌≡◌};
+ghost use Rattle.os_command_line.specs.WindowsReader.{argument_kind};
+
 use platform_str::{OsStr, Windows};
 
 /// An argument of a command line, or its program's name: a view of the text that is read as it.
@@ -21,4 +24,13 @@ pub(crate) enum Kind {
     Marked,
     /// As itself: an argument without quotation marks.
     Bare,
+}
+
+impl Kind {
+    /// The kind of an argument that is bare or not.
+    pub(crate) fn of_argument(is_bare: bool) -> Kind
+        ensures { result ≡ argument_kind is_bare }
+    {
+        if is_bare { Kind::Bare } else { Kind::Marked }
+    }
 }
