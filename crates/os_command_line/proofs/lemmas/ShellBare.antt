@@ -5,7 +5,7 @@ use Rattle.std.specs.List.{AllByRecursion}
 use Rattle.std.specs.Str.{IsAscii, IsUtf8}
 use Rattle.std.proofs.lemmas.Bool.{cases_Bool, true≢false, and_parts, eqb-true, leb-true}
 use Rattle.std.proofs.lemmas.Str.{IsUtf8-from_ascii, chars-IsAscii}
-use Rattle.wtf8_core.proofs.lemmas.scan.ComputedTests.{all_below, each_below}
+use Rattle.wtf8_core.proofs.lemmas.vectors.ComputedTests.{all_below, each_below}
 use Rattle.os_quote.specs.Shown.{stays_on_line}
 use Rattle.os_command_line.specs.declared.shell.form.Form.{Form}
 use Rattle.os_command_line.specs.declared.shell.form.Form.TheVariants as form

@@ -9,7 +9,7 @@ use Rattle.std.proofs.lemmas.Str.{encode_ascii}
 use Rattle.wtf8_core.specs.Byte.{IsByte}
 use Rattle.wtf8_core.specs.Chunks.{Chunk, joined}
 use Rattle.wtf8_core.proofs.lemmas.forms.ByStd.{form_encode}
-use Rattle.wtf8_core.proofs.lemmas.scan.ComputedTests.{all_below, each_below}
+use Rattle.wtf8_core.proofs.lemmas.vectors.ComputedTests.{all_below, each_below}
 use Rattle.platform_str.specs.PlatformWords.{itself}
 use Rattle.platform_str.specs.platforms.Unix.{unix_laws, unix_parts}
 use Rattle.os_str_ext.specs.Parts.{unit_number}

@@ -4,7 +4,7 @@ use Rattle.std.specs.List.{All, AllByRecursion, flat_map}
 use Rattle.std.proofs.lemmas.List.Elements.{recursion_from_All}
 use Rattle.wtf8_core.specs.Byte.{IsByte}
 use Rattle.std.proofs.lemmas.Bool.{cases_Bool, true≢false, and_parts, not-true, eqb-true}
-use Rattle.wtf8_core.proofs.lemmas.scan.ComputedTests.{all_below, each_below}
+use Rattle.wtf8_core.proofs.lemmas.vectors.ComputedTests.{all_below, each_below}
 use Rattle.os_command_line.specs.declared.shell.language.Language.{Language}
 use Rattle.os_command_line.specs.Shell.{single_quote, backslash, dollar, is_mark, is_blank, is_operator, is_pattern, is_special, opens_dollar, IsBare, HasNoQuote, Outcome, Ends, Reads, Begins, AreItems, IsRead, AreWords, IsTextOf}
 use Rattle.os_command_line.specs.Shell.Outcome.{Word, Fault}
