@@ -11,6 +11,7 @@ pub mod ShellOneReading
 pub mod ShellOnLine
 pub mod ShellParts
 pub mod ShellRoundTrip
+pub mod ShellQuoted
 pub mod ShellScan
 pub mod ShellWritten
 pub mod WindowsBatch

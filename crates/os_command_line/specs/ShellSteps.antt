@@ -65,3 +65,8 @@ pub record BeginsBare (text rest : List ℕ) : Type 0 where
   pub joined : text ≡ raw ++ rest
   pub are_itself : AreItself true raw
   pub ends : Ends rest
+
+-- the text begins with these bytes in single quotes, and `rest` comes after them
+pub record BeginsQuoted (text quoted rest : List ℕ) : Type 0 where
+  pub none : HasNoQuote quoted
+  pub joined : text ≡ single_quote ∷ (quoted ++ single_quote ∷ rest)

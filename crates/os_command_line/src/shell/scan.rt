@@ -3,9 +3,10 @@ ghost use Rattle.std.specs.Prelude.{◌≡◌, ◌≢◌, ◌∷◌, ◌++◌, f
 ghost use Rattle.os_command_line.specs.Shell.{backslash, newline, Ends};
 ghost use Rattle.os_command_line.specs.Shell.Outcome.{Word, Fault};
 ghost use Rattle.os_command_line.specs.ShellReader.{after_gap, outcome};
-ghost use Rattle.os_command_line.specs.ShellSteps.{AreItself, BeginsBare};
+ghost use Rattle.os_command_line.specs.ShellSteps.{AreItself, BeginsBare, BeginsQuoted};
 
 use crate::shell::fault::FaultKind;
+use crate::shell::form::cut_at_quote;
 use crate::shell::language::Language;
 use crate::shell::step::{State, Step, is_blank, is_itself, step_at};
 
@@ -85,8 +86,44 @@ fn ends_word(text: &[u8]) -> bool
     }
 }
 
+/// The text in single quotes at the start, and what comes after them.
+pub(crate) fn cut_quoted(text: &[u8]) -> Option<(&[u8], &[u8])>
+    ensures { IfSome result (λ cut. BeginsQuoted text.now cut.0.now cut.1.now) }
+{
+    let Some((first, after)) = text.split_first() else {
+        return None;
+    };
+    if *first != b'\'' {
+        return None;
+    }
+    cut_at_quote(after)
+}
+
+/// What comes after the word at the start, if that is one text in single quotes.
+fn after_quoted(text: &[u8]) -> Option<&[u8]>
+    ensures { IfSome result (λ rest. (quoted : List ℕ) × BeginsQuoted text.now quoted rest.now
+        × Ends rest.now) }
+{
+    let Some((_, rest)) = cut_quoted(text) else {
+        return None;
+    };
+    if ends_word(rest) { Some(rest) } else { None }
+}
+
 /// What comes after the word at the start, or the fault and the text from it on.
 pub(crate) fn after_word(language: Language, text: &[u8]) -> Result<&[u8], (FaultKind, &[u8])>
+    ensures { MatchResult result
+        (λ rest. (word : List ℕ) × (outcome language text.now ≡ Word word rest.now))
+        (λ fault. outcome language text.now ≡ Fault fault.0 fault.1.now) }
+{
+    match after_quoted(text) {
+        Some(rest) => Ok(rest),
+        None => after_steps(language, text),
+    }
+}
+
+/// The same, byte by byte.
+fn after_steps(language: Language, text: &[u8]) -> Result<&[u8], (FaultKind, &[u8])>
     ensures { MatchResult result
         (λ rest. (word : List ℕ) × (outcome language text.now ≡ Word word rest.now))
         (λ fault. outcome language text.now ≡ Fault fault.0 fault.1.now) }

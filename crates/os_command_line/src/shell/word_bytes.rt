@@ -3,10 +3,11 @@ ghost use Rattle.std.specs.Prelude.{◌≡◌, ◌↔◌, ◌∷◌, ◌+◌, �
 ghost use Rattle.std.specs.Iterator.{YieldsFirst, item_count};
 ghost use Rattle.platform_str.specs.Strings.{bytes, string_vec_of};
 ghost use Rattle.wtf8_core.specs.Truncated.{IsTruncated};
-ghost use Rattle.os_command_line.specs.ShellReader.{bytes_left, meant};
+ghost use Rattle.os_command_line.specs.ShellReader.{bytes_left, meant, raw_bytes};
 
 use crate::shell::language::Language;
 use crate::shell::owned::unix_string;
+use crate::shell::scan::cut_quoted;
 use crate::shell::step::{State, Step, step_at};
 use crate::shell::word::Word;
 use platform_str::{OsStr, OsString, Unix};
@@ -131,11 +132,26 @@ impl<'a> Word<'a> {
     pub fn bytes(self) -> WordBytes<'a>
         ensures { result ≡ word_bytes self.entry }
     {
+        let (is_bare, rest) = self.read_text();
         WordBytes {
-            is_bare: self.is_bare,
+            is_bare,
             language: self.language,
             state: State::Start,
-            rest: self.raw,
+            rest,
+        }
+    }
+
+    /// The text that the bytes are read from, and whether each byte of it means itself: that of a word
+    /// which is one text in single quotes is what is in them.
+    fn read_text(self) -> (bool, &'a [u8])
+        ensures { raw_bytes self.entry.language result.0 result.1.now ≡ word_bytes self.entry }
+    {
+        if self.is_bare {
+            return (true, self.raw);
+        }
+        match cut_quoted(self.raw) {
+            Some((quoted, [])) => (true, quoted),
+            _ => (false, self.raw),
         }
     }
 

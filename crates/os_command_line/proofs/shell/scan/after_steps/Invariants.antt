@@ -1,6 +1,6 @@
 use Rattle.std.proofs.Common.{length}
 use Rattle.os_command_line.proofs.lemmas.ShellScan.{LeadsOn}
-use Rattle.os_command_line.proofs.shell.scan.after_word.Given as goal
+use Rattle.os_command_line.proofs.shell.scan.after_steps.Given as goal
 
 abbrev pub invariant-loop-byte : goal.invariant-loop-byte
 invariant-loop-byte l = LeadsOn l.language l.text l.state l.from l.rest
