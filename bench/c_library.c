@@ -1,6 +1,7 @@
 /* Times each call of the C library beside the Rattle call that does the same work: an export of
  * crates/bench_exports, the two by turns. For each it prints by how many nanoseconds the call of C
- * takes longer, on strings of 10 to 80 bytes. README.md says how. */
+ * takes longer, on strings of 10 to 80 bytes, or how many times as long, on strings of 1 KiB and
+ * 1 MiB. README.md says how. */
 #include <osbytes.h>
 
 #include <stdio.h>
@@ -16,6 +17,8 @@ bool port_is_utf8(const char *at, size_t len);
 size_t port_fault_text(uint8_t byte);
 size_t port_encode_wide(const char *at, size_t len, uint16_t *out, size_t room);
 size_t port_decode_wide(const uint16_t *units, size_t len, char *out, size_t room);
+size_t port_write_wide(const char *at, size_t len, uint16_t *out, size_t room);
+size_t port_write_from_wide(const uint16_t *units, size_t len, char *out, size_t room);
 size_t port_lossy(const char *at, size_t len);
 size_t port_write_lossy(const char *at, size_t len, char *out, size_t room);
 size_t port_win_write_lossy(const char *at, size_t len, char *out, size_t room);
@@ -48,9 +51,18 @@ size_t port_chunks(const char *at, size_t len);
 uint64_t port_symbols(const char *at, size_t len);
 
 /* How long the strings are, in bytes, how many calls are timed together, and how many turns a line
- * has at once: then come all the others, so that what else runs on the machine weighs little. */
-static const size_t LENS[] = {10, 16, 24, 40, 64, 80};
-enum { LEN_COUNT = 6, COLUMNS = LEN_COUNT + 1, CALLS = 64, AT_ONCE = 100, ROOM = 1024, LIMIT = 20 };
+ * has at once: then come all the others, so that what else runs on the machine weighs little. The
+ * last column of short strings has all lengths in turn. What is past the limit is counted. */
+enum { MOST_LENS = 6, MOST_COLUMNS = MOST_LENS + 1, MOST_CALLS = 64 };
+struct plan {
+    size_t lens[MOST_LENS], len_count, columns, calls[MOST_COLUMNS], at_once;
+    bool is_ratio;
+    double limit;
+};
+static const struct plan SHORT = {
+    {10, 16, 24, 40, 64, 80}, 6, 7, {64, 64, 64, 64, 64, 64, 64}, 100, false, 20};
+static const struct plan LONG = {{1 << 10, 1 << 20}, 2, 2, {64, 1}, 2, true, 1.05};
+static const struct plan *plan = &SHORT;
 
 /* On which platforms a string is one. */
 enum { TEXT = 7, OF_WINDOWS = 3, OF_UNIX = 1 };
@@ -74,11 +86,11 @@ enum { KIND_COUNT = sizeof KINDS / sizeof *KINDS };
 
 /* A string, its first half and its second, which are texts, its escapes and its units. */
 struct input {
-    char string[128], escape[3][ROOM], line[3][ROOM];
-    uint16_t units[128];
+    char *string, *escape[3], *line[3];
+    uint16_t *units;
     size_t len, prefix, suffix, escape_len[3], line_len[3], unit_count;
 };
-static struct input inputs[KIND_COUNT][LEN_COUNT];
+static struct input inputs[KIND_COUNT][MOST_LENS];
 
 /* The pattern that a search is asked: a slash, or a half of the string. */
 static bool is_half;
@@ -87,8 +99,10 @@ static size_t prefix_len(const struct input *it) { return is_half ? it->prefix :
 static const char *suffix_of(const struct input *it) { return is_half ? it->string + it->suffix : "/"; }
 static size_t suffix_len(const struct input *it) { return is_half ? it->len - it->suffix : 1; }
 
-static char out[ROOM];
-static uint16_t wide[ROOM];
+/* Where calls write, with room for the escape of each string. */
+static char *out;
+static uint16_t *wide;
+static size_t room;
 static size_t count;
 static osb_fault fault;
 
@@ -120,59 +134,61 @@ static size_t c_feed(const struct input *it) {
 TIMED(r_feed, port_feed(STRING))
 static size_t c_fault_text(const struct input *it) {
     osb_fault named = {OSB_FAULT_BYTE, (uint8_t)it->len, 0, 1};
-    return OR_NONE(osb_fault_text(&named, out, ROOM, &count), count);
+    return OR_NONE(osb_fault_text(&named, out, room, &count), count);
 }
 TIMED(r_fault_text, port_fault_text((uint8_t)it->len))
 
 /* Conversions. */
-TIMED(c_to_wide, or_fault(osb_to_wide(STRING, wide, ROOM, &count, &fault)))
-TIMED(r_to_wide, or_fault_of(it, port_encode_wide(STRING, wide, ROOM)))
-TIMED(c_from_wide, OR_NONE(osb_from_wide(it->units, it->unit_count, out, ROOM, &count), count))
-TIMED(r_from_wide, port_decode_wide(it->units, it->unit_count, out, ROOM))
+TIMED(c_to_wide, or_fault(osb_to_wide(STRING, wide, room, &count, &fault)))
+TIMED(r_to_wide, or_fault_of(it, port_encode_wide(STRING, wide, room)))
+TIMED(c_from_wide, OR_NONE(osb_from_wide(it->units, it->unit_count, out, room, &count), count))
+TIMED(r_from_wide, port_decode_wide(it->units, it->unit_count, out, room))
+TIMED(r_write_wide, or_fault_of(it, port_write_wide(STRING, wide, room)))
+TIMED(r_write_from_wide, port_write_from_wide(it->units, it->unit_count, out, room))
 
 /* Texts. */
-#define WRITTEN(call, platform) or_fault(call(platform, STRING, out, ROOM, &count, &fault))
+#define WRITTEN(call, platform) or_fault(call(platform, STRING, out, room, &count, &fault))
 TIMED(c_lossy, WRITTEN(osb_lossy, OSB_UNIX))
 TIMED(r_lossy, port_lossy(STRING))
-TIMED(r_write_lossy, port_write_lossy(STRING, out, ROOM))
+TIMED(r_write_lossy, port_write_lossy(STRING, out, room))
 TIMED(c_lossy_windows, WRITTEN(osb_lossy, OSB_WINDOWS))
-TIMED(r_lossy_windows, or_fault_of(it, port_win_write_lossy(STRING, out, ROOM)))
+TIMED(r_lossy_windows, or_fault_of(it, port_win_write_lossy(STRING, out, room)))
 TIMED(c_escape, WRITTEN(osb_escape, OSB_UNIX))
 TIMED(r_escape, port_escape(STRING))
-TIMED(r_write_escape, port_write_escape(STRING, out, ROOM))
+TIMED(r_write_escape, port_write_escape(STRING, out, room))
 TIMED(c_escape_windows, WRITTEN(osb_escape, OSB_WINDOWS))
-TIMED(r_escape_windows, or_fault_of(it, port_win_write_escape(STRING, out, ROOM)))
+TIMED(r_escape_windows, or_fault_of(it, port_win_write_escape(STRING, out, room)))
 TIMED(c_escape_line, WRITTEN(osb_escape_line, OSB_UNIX))
 TIMED(r_escape_line, port_escape_line(STRING))
-TIMED(r_write_escape_line, port_write_escape_line(STRING, out, ROOM))
+TIMED(r_write_escape_line, port_write_escape_line(STRING, out, room))
 TIMED(c_escape_line_windows, WRITTEN(osb_escape_line, OSB_WINDOWS))
-TIMED(r_escape_line_windows, or_fault_of(it, port_win_write_escape_line(STRING, out, ROOM)))
+TIMED(r_escape_line_windows, or_fault_of(it, port_win_write_escape_line(STRING, out, room)))
 
 /* Strings from escapes. */
 #define ESCAPE(platform) it->escape[platform], it->escape_len[platform]
 #define LINE(platform) it->line[platform], it->line_len[platform]
 #define READ(platform)                                                                             \
-    OR_NONE(osb_unescape(platform, ESCAPE(platform), out, ROOM, &count, NULL), count)
+    OR_NONE(osb_unescape(platform, ESCAPE(platform), out, room, &count, NULL), count)
 TIMED(c_unescape, READ(OSB_UNIX))
 TIMED(r_unescape, port_unescape(ESCAPE(OSB_UNIX)))
 TIMED(r_checked_unescape,
       port_is_utf8(ESCAPE(OSB_UNIX)) ? port_unescape(ESCAPE(OSB_UNIX)) : SIZE_MAX)
-TIMED(r_write_unescaped, port_write_unescaped(ESCAPE(OSB_UNIX), out, ROOM))
+TIMED(r_write_unescaped, port_write_unescaped(ESCAPE(OSB_UNIX), out, room))
 TIMED(c_unescape_windows, READ(OSB_WINDOWS))
-TIMED(r_unescape_windows, port_win_write_unescaped(ESCAPE(OSB_WINDOWS), out, ROOM))
+TIMED(r_unescape_windows, port_win_write_unescaped(ESCAPE(OSB_WINDOWS), out, room))
 TIMED(c_unescape_wasm, READ(OSB_WASM))
-TIMED(r_unescape_wasm, port_wasm_write_unescaped(ESCAPE(OSB_WASM), out, ROOM))
+TIMED(r_unescape_wasm, port_wasm_write_unescaped(ESCAPE(OSB_WASM), out, room))
 #define READ_LINE(platform)                                                                        \
-    OR_NONE(osb_unescape_line(platform, LINE(platform), out, ROOM, &count, NULL), count)
+    OR_NONE(osb_unescape_line(platform, LINE(platform), out, room, &count, NULL), count)
 TIMED(c_unescape_line, READ_LINE(OSB_UNIX))
 TIMED(r_unescape_line, port_unescape_line(LINE(OSB_UNIX)))
 TIMED(r_checked_unescape_line,
       port_is_utf8(LINE(OSB_UNIX)) ? port_unescape_line(LINE(OSB_UNIX)) : SIZE_MAX)
-TIMED(r_write_unescaped_line, port_write_unescaped_line(LINE(OSB_UNIX), out, ROOM))
+TIMED(r_write_unescaped_line, port_write_unescaped_line(LINE(OSB_UNIX), out, room))
 TIMED(c_unescape_line_windows, READ_LINE(OSB_WINDOWS))
-TIMED(r_unescape_line_windows, port_win_write_unescaped_line(LINE(OSB_WINDOWS), out, ROOM))
+TIMED(r_unescape_line_windows, port_win_write_unescaped_line(LINE(OSB_WINDOWS), out, room))
 TIMED(c_unescape_line_wasm, READ_LINE(OSB_WASM))
-TIMED(r_unescape_line_wasm, port_wasm_write_unescaped_line(LINE(OSB_WASM), out, ROOM))
+TIMED(r_unescape_line_wasm, port_wasm_write_unescaped_line(LINE(OSB_WASM), out, room))
 
 /* Searches. */
 TIMED(c_find, OR_NONE(osb_find(STRING, SUFFIX, &count), count))
@@ -281,7 +297,9 @@ static const struct pair {
     {"`osb_checker_start`, `_feed`, `_finish`", "`Checker`", c_feed, r_feed, three, ANY, 0},
     {"`osb_fault_text`", "`to_string`", c_fault_text, r_fault_text, one, ANY, 0},
     {"`osb_to_wide`", "`encode_wide`", c_to_wide, r_to_wide, one, ANY, 0},
+    {"`osb_to_wide`", "`checked`, `write_wide`", c_to_wide, r_write_wide, one, ANY, 0},
     {"`osb_from_wide`", "`DecodeWide`", c_from_wide, r_from_wide, one, OF_WINDOWS, 0},
+    {"`osb_from_wide`", "`write_from_wide`", c_from_wide, r_write_from_wide, one, OF_WINDOWS, 0},
     {"`osb_lossy`", "`write_lossy`", c_lossy, r_write_lossy, one, ANY, 0},
     {"`osb_lossy`", "`to_string_lossy`", c_lossy, r_lossy, one, ANY, 0},
     {"`osb_lossy`, Windows", "`checked`, `write_lossy`", c_lossy_windows, r_lossy_windows, one, ANY,
@@ -359,18 +377,29 @@ static void append(struct input *it, const char *text, size_t to) {
     while (it->len < to) it->string[it->len++] = 'x';
 }
 
+static void *memory(size_t size) {
+    void *made = malloc(size);
+    if (made != NULL) return made;
+    fputs("no memory\n", stderr);
+    exit(1);
+}
+
 static void make(struct input *it, size_t kind, size_t len) {
     const char *middle = KINDS[kind].middle;
+    it->string = memory(len);
+    it->units = memory(len * sizeof *it->units);
     append(it, KINDS[kind].text, (len - strlen(middle)) / 2);
     it->prefix = it->len;
     memcpy(it->string + it->len, middle, strlen(middle));
     it->len += strlen(middle);
     it->suffix = it->len;
     append(it, KINDS[kind].text, len);
-    osb_to_wide(STRING, it->units, 128, &it->unit_count, NULL);
+    osb_to_wide(STRING, it->units, len, &it->unit_count, NULL);
     for (osb_platform platform = 0; platform < 3; platform++) {
-        osb_escape(platform, STRING, it->escape[platform], ROOM, &it->escape_len[platform], NULL);
-        osb_escape_line(platform, STRING, it->line[platform], ROOM, &it->line_len[platform], NULL);
+        it->escape[platform] = memory(room);
+        it->line[platform] = memory(room);
+        osb_escape(platform, STRING, it->escape[platform], room, &it->escape_len[platform], NULL);
+        osb_escape_line(platform, STRING, it->line[platform], room, &it->line_len[platform], NULL);
     }
 }
 
@@ -386,31 +415,32 @@ struct cell {
     uint64_t least[2];
     size_t number;
 };
-static struct cell cells[PAIR_COUNT][2][KIND_COUNT][COLUMNS];
+static struct cell cells[PAIR_COUNT][2][KIND_COUNT][MOST_COLUMNS];
 
 /* Gives both calls of a pair some turns. */
 static volatile size_t sink;
 static void time_cell(struct cell *cell, const struct pair *pair,
-                      const struct input *const *strings) {
+                      const struct input *const *strings, size_t number_of_calls) {
     timed *const calls[2] = {pair->call, pair->beside};
     size_t number = 0;
-    for (size_t i = 0; i < CALLS; i++) {
+    for (size_t i = 0; i < number_of_calls; i++) {
         if (pair->call(strings[i]) != pair->beside(strings[i])) fail(pair, strings[i]);
         number += pair->calls(strings[i]);
     }
     cell->number = number;
-    for (size_t turn = 0; turn < 2 * AT_ONCE; turn++) {
+    for (size_t turn = 0; turn < 2 * plan->at_once; turn++) {
         timed *call = calls[turn % 2];
         uint64_t *least = &cell->least[turn % 2];
         uint64_t start = nanoseconds();
-        for (size_t i = 0; i < CALLS; i++) sink = call(strings[i]);
+        for (size_t i = 0; i < number_of_calls; i++) sink = call(strings[i]);
         uint64_t time = nanoseconds() - start;
         if (*least == 0 || time < *least) *least = time;
     }
 }
 
-/* By how many nanoseconds a call of C takes longer. */
+/* By how many nanoseconds a call of C takes longer, or how many times as long it takes. */
 static double over(const struct cell *cell) {
+    if (plan->is_ratio) return (double)cell->least[0] / (double)cell->least[1];
     return ((double)cell->least[0] - (double)cell->least[1]) / (double)cell->number;
 }
 
@@ -436,9 +466,10 @@ static void summarize(const char *c, const char *rattle, struct figures *figures
     size_t number = figures->count, above = 0;
     if (number == 0) return;
     qsort(items, number, sizeof *items, by_size);
-    while (above < number && items[number - 1 - above] > LIMIT) above++;
-    printf("| %s | %s | %.0f | %.0f | %.0f | %zu of %zu |\n", c, rattle, items[0],
-           items[number / 2], items[number - 1], above, number);
+    while (above < number && items[number - 1 - above] > plan->limit) above++;
+    int digits = plan->is_ratio ? 2 : 0;
+    printf("| %s | %s | %.*f | %.*f | %.*f | %zu of %zu |\n", c, rattle, digits, items[0], digits,
+           items[number / 2], digits, items[number - 1], above, number);
 }
 
 /* Whether a pair is timed on strings of a kind. */
@@ -448,11 +479,12 @@ static bool is_timed_on(const struct pair *pair, size_t kind) {
 
 /* Times a pair on strings of a kind, by their lengths, and on all lengths in turn. */
 static void time_kind(size_t at, size_t kind) {
-    const struct input *strings[CALLS];
-    for (size_t column = 0; column < COLUMNS; column++) {
-        for (size_t i = 0, random = 1; i < CALLS; i++, random = random * 13 % 67)
-            strings[i] = &inputs[kind][column < LEN_COUNT ? column : random % LEN_COUNT];
-        time_cell(&cells[at][is_half][kind][column], &PAIRS[at], strings);
+    const struct input *strings[MOST_CALLS];
+    for (size_t column = 0; column < plan->columns; column++) {
+        size_t len_count = plan->len_count;
+        for (size_t i = 0, random = 1; i < plan->calls[column]; i++, random = random * 13 % 67)
+            strings[i] = &inputs[kind][column < len_count ? column : random % len_count];
+        time_cell(&cells[at][is_half][kind][column], &PAIRS[at], strings, plan->calls[column]);
     }
 }
 
@@ -467,9 +499,9 @@ static void time_pair(size_t at) {
 /* Prints a line of a table. */
 static void print_kind(size_t at, int half, size_t kind) {
     printf("| %s%s |", KINDS[kind].name, half != 0 ? ", a half" : "");
-    for (size_t column = 0; column < COLUMNS; column++) {
+    for (size_t column = 0; column < plan->columns; column++) {
         double figure = over(&cells[at][half][kind][column]);
-        printf(" %.1f |", figure);
+        printf(" %.*f |", plan->is_ratio ? 2 : 1, figure);
         add(&of_pairs[at], figure);
         add(is_of_str(&PAIRS[at]) ? &of_a_str : &of_the_same, figure);
         add(&of_all, figure);
@@ -479,26 +511,34 @@ static void print_kind(size_t at, int half, size_t kind) {
 
 static void print_pair(size_t at) {
     printf("\n### %s over %s\n\n| String |", PAIRS[at].c, PAIRS[at].rattle);
-    for (size_t i = 0; i < LEN_COUNT; i++) printf(" %zu bytes |", LENS[i]);
-    printf(" in turn |\n|---|---|---|---|---|---|---|---|\n");
+    for (size_t i = 0; i < plan->len_count; i++) printf(" %zu bytes |", plan->lens[i]);
+    if (plan->columns > plan->len_count) printf(" in turn |");
+    printf("\n|---|");
+    for (size_t i = 0; i < plan->columns; i++) printf("---|");
+    printf("\n");
     for (int half = 0; half <= searches(&PAIRS[at]); half++)
         for (size_t kind = 0; kind < KIND_COUNT; kind++)
             if (is_timed_on(&PAIRS[at], kind)) print_kind(at, half, kind);
 }
 
 int main(int words, char **word) {
-    size_t turns = words > 1 ? strtoul(word[1], NULL, 10) : 1000;
+    bool is_long = words > 1 && strcmp(word[1], "--long") == 0;
+    if (is_long) plan = &LONG, words--, word++;
+    size_t turns = words > 1 ? strtoul(word[1], NULL, 10) : 10 * plan->at_once;
     const char *part = words > 2 ? word[2] : "";
+    room = 6 * plan->lens[plan->len_count - 1];
+    out = memory(room);
+    wide = memory(room * sizeof *wide);
     for (size_t kind = 0; kind < KIND_COUNT; kind++)
-        for (size_t i = 0; i < LEN_COUNT; i++) make(&inputs[kind][i], kind, LENS[i]);
-    for (size_t done = 0; done < turns; done += AT_ONCE)
+        for (size_t i = 0; i < plan->len_count; i++) make(&inputs[kind][i], kind, plan->lens[i]);
+    for (size_t done = 0; done < turns; done += plan->at_once)
         for (size_t at = 0; at < PAIR_COUNT; at++)
             if (strstr(PAIRS[at].c, part) != NULL) time_pair(at);
     for (size_t at = 0; at < PAIR_COUNT; at++)
         if (strstr(PAIRS[at].c, part) != NULL) print_pair(at);
-    printf("\n### Summary\n\n| C | Rattle | Least | Median | Greatest | Past %d "
+    printf("\n### Summary\n\n| C | Rattle | Least | Median | Greatest | Past %g "
            "|\n|---|---|---|---|---|---|\n",
-           LIMIT);
+           plan->limit);
     for (size_t at = 0; at < PAIR_COUNT; at++)
         summarize(PAIRS[at].c, PAIRS[at].rattle, &of_pairs[at]);
     summarize("all", "the same work", &of_the_same);

@@ -90,6 +90,24 @@ fn units(bench: &mut Bench, strings: &[Long]) {
         );
 
         bench.line(
+            "write_wide",
+            name,
+            bytes.len(),
+            [
+                Some(&mut || ours::write_wide(black_box(bytes), &mut room) as u64),
+                Some(&mut || {
+                    pushed.clear();
+                    assert!(coders::encode_wide_into(black_box(bytes), &mut pushed));
+                    pushed.len() as u64
+                }),
+                Some(&mut || {
+                    collected.clear();
+                    collected.extend(theirs::windows(black_box(bytes)).encode_wide());
+                    collected.len() as u64
+                }),
+            ],
+        );
+        bench.line(
             "to_wide",
             name,
             bytes.len(),
@@ -125,6 +143,20 @@ fn units(bench: &mut Bench, strings: &[Long]) {
         );
         let written = ours::decode_wide(&units, &mut room);
         assert!(room[..written] == bytes[..], "DecodeWide of {name}");
+        bench.line(
+            "write_from_wide",
+            name,
+            bytes.len(),
+            [
+                Some(&mut || ours::write_from_wide(black_box(&units), &mut room) as u64),
+                Some(&mut || {
+                    extended.clear();
+                    coders::decode_wide_into(black_box(&units), &mut extended);
+                    extended.len() as u64
+                }),
+                None,
+            ],
+        );
         bench.line(
             "from_wide",
             name,

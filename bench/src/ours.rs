@@ -10,6 +10,8 @@ mod exports {
         pub fn port_from_raw_vec(bytes: *const u8, len: usize) -> usize;
         pub fn port_encode_wide(bytes: *const u8, len: usize, out: *mut u16, room: usize) -> usize;
         pub fn port_decode_wide(units: *const u16, len: usize, out: *mut u8, room: usize) -> usize;
+        pub fn port_write_wide(bytes: *const u8, len: usize, out: *mut u16, room: usize) -> usize;
+        pub fn port_write_from_wide(units: *const u16, len: usize, out: *mut u8, room: usize) -> usize;
         pub fn port_from_wide(units: *const u16, len: usize) -> usize;
         pub fn port_to_wide(bytes: *const u8, len: usize) -> usize;
         pub fn port_lossy(bytes: *const u8, len: usize) -> usize;
@@ -131,6 +133,14 @@ pub fn encode_wide(bytes: &[u8], out: &mut [u16]) -> usize {
 
 pub fn decode_wide(units: &[u16], out: &mut [u8]) -> usize {
     unsafe { exports::port_decode_wide(units.as_ptr(), units.len(), out.as_mut_ptr(), out.len()) }
+}
+
+pub fn write_wide(bytes: &[u8], out: &mut [u16]) -> usize {
+    unsafe { exports::port_write_wide(bytes.as_ptr(), bytes.len(), out.as_mut_ptr(), out.len()) }
+}
+
+pub fn write_from_wide(units: &[u16], out: &mut [u8]) -> usize {
+    unsafe { exports::port_write_from_wide(units.as_ptr(), units.len(), out.as_mut_ptr(), out.len()) }
 }
 
 pub fn from_wide(units: &[u16]) -> usize {

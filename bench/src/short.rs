@@ -155,6 +155,28 @@ fn units(bench: &mut Bench, strings: &Short) {
             }),
         ],
     );
+    bench.line(
+        "write_wide",
+        strings.name,
+        strings.count(),
+        [
+            Some(&mut || strings.strings().map(|bytes| ours::write_wide(bytes, &mut room) as u64).sum()),
+            Some(&mut || {
+                strings.strings().fold(0, |sum, bytes| {
+                    pushed.clear();
+                    assert!(coders::encode_wide_into(bytes, &mut pushed));
+                    sum + pushed.len() as u64
+                })
+            }),
+            Some(&mut || {
+                strings.strings().fold(0, |sum, bytes| {
+                    collected.clear();
+                    collected.extend(theirs::windows(bytes).encode_wide());
+                    sum + collected.len() as u64
+                })
+            }),
+        ],
+    );
     line(bench, "to_wide", strings, ours::to_wide, Some(crate_to_wide), Some(std_to_wide));
 
     let wide: Vec<Vec<u16>> = strings.strings().map(|bytes| theirs::windows(bytes).encode_wide().collect()).collect();
@@ -164,6 +186,22 @@ fn units(bench: &mut Bench, strings: &Short) {
         strings.count(),
         [
             Some(&mut || wide.iter().map(|units| ours::decode_wide(units, &mut bytes) as u64).sum()),
+            Some(&mut || {
+                wide.iter().fold(0, |sum, units| {
+                    extended.clear();
+                    coders::decode_wide_into(units, &mut extended);
+                    sum + extended.len() as u64
+                })
+            }),
+            None,
+        ],
+    );
+    bench.line(
+        "write_from_wide",
+        strings.name,
+        strings.count(),
+        [
+            Some(&mut || wide.iter().map(|units| ours::write_from_wide(units, &mut bytes) as u64).sum()),
             Some(&mut || {
                 wide.iter().fold(0, |sum, units| {
                     extended.clear();

@@ -1,5 +1,6 @@
 //! Bytes to units and back.
 ghost use Rattle.std.specs.Prelude.{◌≡◌, ◌≢◌, ◌≤◌, ℕ, List, length};
+ghost use Rattle.wtf8_core.specs.Truncated.{IsTruncated};
 ghost use Rattle.wtf8_core.specs.Wtf8.{HasUnits, IsWtf8};
 ghost use Rattle.bench_exports.specs.Answers.{IsFaulty, IsFilled};
 
@@ -41,6 +42,27 @@ pub extern "C" fn port_decode_wide(units: &[u16], out: &mut [u8]) -> usize
         written += 1;
     }
     written
+}
+
+/// Writes the units of the bytes into `out`, truncated, and answers how many they are; `usize::MAX`
+/// where the bytes aren't WTF-8.
+#[unsafe(no_mangle)]
+pub extern "C" fn port_write_wide(bytes: &[u8], out: &mut [u16]) -> usize
+    ensures { result ≢ usize.MAX → (units : List ℕ) × HasUnits bytes.now units
+        × IsTruncated units out.old out.new result }
+{
+    match OsStr::checked(bytes) {
+        Ok(string) => string.write_wide(out),
+        Err(_) => usize::MAX,
+    }
+}
+
+/// Writes the bytes of the units into `out`, truncated, and answers how many they are.
+#[unsafe(no_mangle)]
+pub extern "C" fn port_write_from_wide(units: &[u16], out: &mut [u8]) -> usize
+    ensures { (bytes : List ℕ) × HasUnits bytes units.now × IsTruncated bytes out.old out.new result }
+{
+    OsStr::write_from_wide(units, out)
 }
 
 /// How many bytes the string with the units has, or `usize::MAX` where memory was refused.
