@@ -17,8 +17,8 @@ style_on (suc zero) = Windows
 style_on platform = Unix
 
 -- the components are written into the array, truncated to the array's length, and there are so many
-abbrev pub WritesParts : ℕ → List ℕ → List Part → List Part → ℕ → Type 0
-WritesParts platform path old new count = (parts : List Part) × (AreParts (style_on platform) path parts × PartsTruncated parts old new count)
+abbrev pub WritesParts : Style → List ℕ → List Part → List Part → ℕ → Type 0
+WritesParts style path old new count = (parts : List Part) × (AreParts style path parts × PartsTruncated parts old new count)
 
 -- the span is in the path
 abbrev pub IsWithin : List ℕ → Span → Type 0

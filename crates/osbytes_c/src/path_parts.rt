@@ -2,8 +2,9 @@
 ghost use Rattle.std.specs.Prelude.{◌≡◌, ◌+◌, ◌≤◌, ◌<◌, ◌^◌, ◌++◌, ◌∷◌, [], ℕ, List, true, length, slice_index, IfSome, MatchOption};
 ghost use Rattle.std.specs.List.{cons_option};
 ghost use Rattle.path_rules.specs.Separators.{separates, IsPlainBelow, IsField};
-ghost use Rattle.osbytes_c.specs.PathParts.{AreParts, IsLastName, HasNoLastName, IsLastOf, part_named, parts_in, start_parts, prefix_parts, part_of};
-ghost use Rattle.osbytes_c.specs.PartBuffers.{PushesPart, PartsTruncated};
+ghost use Rattle.osbytes_c.specs.PathParts.{IsLastName, HasNoLastName, IsLastOf, part_named, parts_in, start_parts, prefix_parts, part_of};
+ghost use Rattle.osbytes_c.specs.PartBuffers.{PushesPart};
+ghost use Rattle.osbytes_c.specs.PathSpans.{WritesParts};
 
 use crate::part_list::{Part, kind_number, push};
 use path_rules::parts::{Head, Start, component_of, head_of};
@@ -110,8 +111,7 @@ fn push_from(kind: usize, start: usize, end: usize, out: &mut [Part], count: usi
 
 /// Writes the components of a path, as far as there is room, and counts them.
 pub(crate) fn write_parts(style: Style, path: &[u8], out: &mut [Part]) -> usize
-    ensures { (parts : List Part) × AreParts style path.now parts
-        × PartsTruncated parts out.old out.new result }
+    ensures { WritesParts style path.now out.old out.new result }
 {
     let head = head_of(style, path);
     let at = path.len() - head.body.len();

@@ -22,10 +22,10 @@ pub extern "C" fn osb_core_path_components(
     out: &mut [Part],
     count: &mut usize,
 ) -> u32
-    ensures done { result ≡ 0 → WritesParts platform path.now out.old out.new count.new
-        × (count.new ≤ length out.old) }
-    ensures room { result ≡ 2 → WritesParts platform path.now out.old out.new count.new
-        × (length out.old < count.new) }
+    ensures done { result ≡ 0 → WritesParts (style_on platform) path.now out.old out.new
+        count.new × (count.new ≤ length out.old) }
+    ensures room { result ≡ 2 → WritesParts (style_on platform) path.now out.old out.new
+        count.new × (length out.old < count.new) }
     ensures platform { (result ≡ 16) ↔ (2 < platform) }
     ensures answers { (result ≡ 0) ⊎ ((result ≡ 2) ⊎ (result ≡ 16)) }
 {
