@@ -1,6 +1,7 @@
 -- The components of what begins at an index, part by part.
 use Rattle.std.proofs.Common.{◌≡◌, ℕ, Bool, true, false, nat_eq, if◌then◌else◌, ◌+◌, ◌≤◌, List, [], ◌∷◌, ◌++◌, Option, Some, None, length, refl, sym, ap, ◌∙◌, append-nil, append_assoc, length-append, subst, arith}
 use Rattle.std.specs.List.{AllByRecursion, slice_split, cons_option}
+use Rattle.std.proofs.lemmas.List.{take_all}
 use Rattle.std.proofs.lemmas.List.Splits.{slice_split_at, slice_split_none}
 use Rattle.path_rules.specs.declared.rules.Rules.{Rules}
 use Rattle.path_rules.specs.Separators.{separates, EdgeBy, IsField}
@@ -42,7 +43,7 @@ pushes_both a m o b n c d e p q = λ parts buffer t.
     subst (λ x. PartsTruncated x buffer n e) (append_assoc parts a m) (q (parts ++ a) buffer (p parts buffer t))
 
 pub none_written : (old : List Part) → PartsTruncated [] old old 0
-none_written old = record { same_length = refl; count_is = refl; prefix = grind; after = refl }
+none_written old = record { same_length = refl; count_is = refl; prefix = take_all (length old) [] (omega arith); after = refl }
 
 -- the body is in the path
 pub body_within : (w : Style) (path : List ℕ) (head : Head) → IsHead w path head → length head.body.now ≤ length path
