@@ -40,7 +40,10 @@ loop-part-preserved c =
     let joined = ap length c.split_part.ensures.joined in
     let sizes = length-append part rest in
     let one = ap length is in
-    let within = inv.1.1.1.1 in
-    (inv.0 ++ now,
-     (c.later-last.ensures.last inv.0 inv.1.0,
-      (all, (c.later-last.ensures.within (c.args.at + length c.args.body.now) inv.1.1.1.0 (omega arith), omega arith))))
+    let within = inv.1.1.1.1 in (
+      inv.0 ++ now,
+      (
+        c.later-last.ensures.last inv.0 inv.1.0,
+        (all, (c.later-last.ensures.within (c.args.at + length c.args.body.now) inv.1.1.1.0 (omega arith), omega arith)),
+      ),
+    )

@@ -38,7 +38,10 @@ loop-part-preserved c =
     let one = ap length is in
     let few = inv.1.1.1.0 in
     let within = inv.1.1.1.1 in
-    let count = c.push_part-written.ensures.count in
-    (inv.0 ++ now,
-     (pushes_both inv.0 now c.args.out.now c.loop-part.out c.push_part-written.new.out c.args.count c.loop-part.written c.push_part-written.result inv.1.0 c.push_part-written.ensures.pushes,
-      (all, (omega arith, omega arith))))
+    let count = c.push_part-written.ensures.count in (
+      inv.0 ++ now,
+      (
+        pushes_both inv.0 now c.args.out.now c.loop-part.out c.push_part-written.new.out c.args.count c.loop-part.written c.push_part-written.result inv.1.0 c.push_part-written.ensures.pushes,
+        (all, (omega arith, omega arith)),
+      ),
+    )

@@ -16,10 +16,12 @@ returns-clause-prefix c is =
     let path = c.args.path.now in
     let rest = c.in-Some.rest.now in
     let kind = kind_of c.in-Some.field-0-0 in
-    let h = after_prefix path kind rest c.in-Some.ensures in
-    (record {
-      windows = omega (arith, c.if-platform-ne1.false);
-      start = refl;
-      kind = kind;
-      is = subst (IsPrefixOf path kind) (sym (dropped_end path h.before rest h.joined)) c.in-Some.ensures;
-    }, (omega arith, omega arith))
+    let h = after_prefix path kind rest c.in-Some.ensures in (
+      record {
+        windows = omega (arith, c.if-platform-ne1.false);
+        start = refl;
+        kind = kind;
+        is = subst (IsPrefixOf path kind) (sym (dropped_end path h.before rest h.joined)) c.in-Some.ensures;
+      },
+      (omega arith, omega arith),
+    )
