@@ -19,7 +19,9 @@
     each(lossy) each(escape) each(escape_line) each(unescape) each(unescape_line) each(find)       \
     each(rfind) each(contains) each(starts_with) each(ends_with) each(starts_with_units)           \
     each(ends_with_units) each(is_boundary) each(compare) each(cut) each(rcut) each(chunk)         \
-    each(symbol)
+    each(symbol) each(path_components) each(path_parent) each(path_prefix) each(path_file_name)    \
+    each(path_file_stem) each(path_extension) each(path_has_root) each(path_is_absolute)           \
+    each(path_starts_with) each(path_ends_with) each(shell_quote) each(shell_quote_line)
 
 #define DECLARED(name)                                                                             \
     __attribute__((visibility("hidden"))) __typeof__(osb_core_##name) osb_core_##name##_v1,        \
@@ -89,3 +91,15 @@ __attribute__((constructor(101))) static void choose(void) {
 #define osb_core_rcut CHOSEN(rcut)
 #define osb_core_chunk CHOSEN(chunk)
 #define osb_core_symbol CHOSEN(symbol)
+#define osb_core_path_components CHOSEN(path_components)
+#define osb_core_path_parent CHOSEN(path_parent)
+#define osb_core_path_prefix CHOSEN(path_prefix)
+#define osb_core_path_file_name CHOSEN(path_file_name)
+#define osb_core_path_file_stem CHOSEN(path_file_stem)
+#define osb_core_path_extension CHOSEN(path_extension)
+#define osb_core_path_has_root CHOSEN(path_has_root)
+#define osb_core_path_is_absolute CHOSEN(path_is_absolute)
+#define osb_core_path_starts_with CHOSEN(path_starts_with)
+#define osb_core_path_ends_with CHOSEN(path_ends_with)
+#define osb_core_shell_quote CHOSEN(shell_quote)
+#define osb_core_shell_quote_line CHOSEN(shell_quote_line)

@@ -21,6 +21,9 @@ struct core_step {
     uint32_t kind, value;
     size_t end;
 };
+struct core_span {
+    size_t start, end;
+};
 
 _Static_assert(sizeof(size_t) == 8 && sizeof(bool) == 1, "a 64-bit machine");
 _Static_assert(sizeof(osb_view) == 16 && offsetof(osb_view, len) == 8, "osb_view");
@@ -35,6 +38,9 @@ _Static_assert(sizeof(osb_chunk) == 32 && offsetof(osb_chunk, text) == 16, "osb_
 _Static_assert(sizeof(osb_symbols) == 32 && offsetof(osb_symbols, next) == 16, "osb_symbols");
 _Static_assert(offsetof(osb_symbols, platform) == 24, "osb_symbols");
 _Static_assert(sizeof(osb_symbol) == 24 && offsetof(osb_symbol, bytes) == 8, "osb_symbol");
+_Static_assert(sizeof(osb_component) == 24 && offsetof(osb_component, kind) == 0, "osb_component");
+_Static_assert(offsetof(osb_component, start) == 8 && offsetof(osb_component, end) == 16,
+               "osb_component");
 
 #pragma GCC visibility push(hidden)
 uint32_t osb_core_check(uint32_t platform, const char *at, size_t len, osb_fault *fault);
@@ -75,6 +81,28 @@ uint32_t osb_core_rcut(const char *at, size_t len, const char *pattern, size_t p
 uint32_t osb_core_chunk(const char *at, size_t len, size_t from, struct core_ends *ends);
 uint32_t osb_core_symbol(uint32_t platform, const char *at, size_t len, size_t from,
                          struct core_step *step);
+uint32_t osb_core_path_components(uint32_t platform, const char *at, size_t len, osb_component *out,
+                                  size_t room, size_t *count);
+uint32_t osb_core_path_parent(uint32_t platform, const char *at, size_t len,
+                              struct core_span *span);
+uint32_t osb_core_path_prefix(uint32_t platform, const char *at, size_t len,
+                              struct core_span *span);
+uint32_t osb_core_path_file_name(uint32_t platform, const char *at, size_t len,
+                                 struct core_span *span);
+uint32_t osb_core_path_file_stem(uint32_t platform, const char *at, size_t len,
+                                 struct core_span *span);
+uint32_t osb_core_path_extension(uint32_t platform, const char *at, size_t len,
+                                 struct core_span *span);
+uint32_t osb_core_path_has_root(uint32_t platform, const char *at, size_t len);
+uint32_t osb_core_path_is_absolute(uint32_t platform, const char *at, size_t len);
+uint32_t osb_core_path_starts_with(uint32_t platform, const char *at, size_t len, const char *base,
+                                   size_t base_len);
+uint32_t osb_core_path_ends_with(uint32_t platform, const char *at, size_t len, const char *child,
+                                 size_t child_len);
+uint32_t osb_core_shell_quote(const char *at, size_t len, char *out, size_t room, size_t *count,
+                              size_t *index);
+uint32_t osb_core_shell_quote_line(const char *at, size_t len, char *out, size_t room,
+                                   size_t *count, size_t *index);
 #pragma GCC visibility pop
 
 #ifdef __x86_64__
@@ -88,6 +116,7 @@ uint32_t osb_core_symbol(uint32_t platform, const char *at, size_t len, size_t f
 /* Where a string without a pointer is, and where the units of no string are. */
 static const uint16_t nothing[1];
 static uint16_t no_room[1];
+static osb_component no_components[1];
 
 static bool is_bad(const void *at, size_t len) {
     return len != 0 && (at == NULL || len > PTRDIFF_MAX || (uintptr_t)at > UINTPTR_MAX - len);
@@ -96,6 +125,11 @@ static bool is_bad(const void *at, size_t len) {
 static bool are_bad_units(const uint16_t *at, size_t len) {
     return len > PTRDIFF_MAX / sizeof *at || is_bad(at, len * sizeof *at) ||
            (len != 0 && (uintptr_t)at % _Alignof(uint16_t) != 0);
+}
+
+static bool are_bad_components(const osb_component *at, size_t len) {
+    return len > PTRDIFF_MAX / sizeof *at || is_bad(at, len * sizeof *at) ||
+           (len != 0 && (uintptr_t)at % _Alignof(osb_component) != 0);
 }
 
 static bool do_overlap(const void *a, size_t a_len, const void *b, size_t b_len) {
@@ -121,6 +155,7 @@ const char *osb_status_text(osb_status status) {
     case OSB_ENDED: return "there are no more items";
     case OSB_BAD_ESCAPE: return "a backslash of the escape begins no token";
     case OSB_NO_STRING: return "no string of the platform has this escape";
+    case OSB_HAS_NUL: return "the name has a NUL";
     case OSB_BAD_PLATFORM: return "there is no such platform";
     case OSB_BAD_PATTERN: return "the text isn't UTF-8, or the pattern is empty";
     case OSB_BAD_INDEX: return "the index is past the end";
@@ -448,4 +483,102 @@ osb_status osb_symbols_next(osb_symbols *symbols, osb_symbol *symbol) {
     *symbol = (osb_symbol){own.kind, own.value, own_bytes};
     symbols->next = own.end;
     return OSB_OK;
+}
+
+osb_status osb_path_components(osb_platform platform, const char *at, size_t len,
+                               osb_component *out, size_t room, size_t *count) {
+    size_t own = 0;
+    if (count == NULL || is_bad(at, len) || are_bad_components(out, room) ||
+        do_overlap(at, len, out, room * sizeof *out))
+        return OSB_BAD_POINTER;
+    osb_status status = osb_core_path_components(platform, bytes(at), len,
+                                                 room == 0 ? no_components : out, room, &own);
+    if (status == OSB_OK || status == OSB_NO_ROOM) *count = own;
+    return status;
+}
+
+/* An export that finds a part of a path. */
+typedef uint32_t core_part(uint32_t platform, const char *at, size_t len, struct core_span *span);
+
+INLINED osb_status find_part(core_part *call, osb_platform platform, const char *at, size_t len,
+                            osb_view *part) {
+    struct core_span own = {0, 0};
+    if (part == NULL || is_bad(at, len)) return OSB_BAD_POINTER;
+    at = bytes(at);
+    osb_status status = call(platform, at, len, &own);
+    if (status == OSB_OK) *part = (osb_view){at + own.start, own.end - own.start};
+    return status;
+}
+
+osb_status osb_path_parent(osb_platform platform, const char *at, size_t len, osb_view *parent) {
+    return find_part(osb_core_path_parent, platform, at, len, parent);
+}
+
+osb_status osb_path_prefix(osb_platform platform, const char *at, size_t len, osb_view *prefix) {
+    return find_part(osb_core_path_prefix, platform, at, len, prefix);
+}
+
+osb_status osb_path_file_name(osb_platform platform, const char *at, size_t len, osb_view *name) {
+    return find_part(osb_core_path_file_name, platform, at, len, name);
+}
+
+osb_status osb_path_file_stem(osb_platform platform, const char *at, size_t len, osb_view *stem) {
+    return find_part(osb_core_path_file_stem, platform, at, len, stem);
+}
+
+osb_status osb_path_extension(osb_platform platform, const char *at, size_t len,
+                              osb_view *extension) {
+    return find_part(osb_core_path_extension, platform, at, len, extension);
+}
+
+osb_status osb_path_has_root(osb_platform platform, const char *at, size_t len) {
+    if (is_bad(at, len)) return OSB_BAD_POINTER;
+    return osb_core_path_has_root(platform, bytes(at), len);
+}
+
+osb_status osb_path_is_absolute(osb_platform platform, const char *at, size_t len) {
+    if (is_bad(at, len)) return OSB_BAD_POINTER;
+    return osb_core_path_is_absolute(platform, bytes(at), len);
+}
+
+osb_status osb_path_starts_with(osb_platform platform, const char *at, size_t len,
+                                const char *base, size_t base_len) {
+    if (is_bad(at, len) || is_bad(base, base_len)) return OSB_BAD_POINTER;
+    return osb_core_path_starts_with(platform, bytes(at), len, bytes(base), base_len);
+}
+
+osb_status osb_path_ends_with(osb_platform platform, const char *at, size_t len, const char *child,
+                              size_t child_len) {
+    if (is_bad(at, len) || is_bad(child, child_len)) return OSB_BAD_POINTER;
+    return osb_core_path_ends_with(platform, bytes(at), len, bytes(child), child_len);
+}
+
+size_t osb_shell_bound(size_t len) {
+    return len > SIZE_MAX / 4 ? SIZE_MAX : 4 * len + 3;
+}
+
+/* An export that writes a name as a word of a shell. */
+typedef uint32_t core_word(const char *at, size_t len, char *out, size_t room, size_t *count,
+                           size_t *index);
+
+INLINED osb_status write_word(core_word *call, const char *at, size_t len, char *out, size_t room,
+                             size_t *count, size_t *index) {
+    size_t own = 0, own_index = 0;
+    if (count == NULL || is_bad(at, len) || is_bad(out, room) || do_overlap(at, len, out, room))
+        return OSB_BAD_POINTER;
+    osb_status status =
+        call(bytes(at), len, room == 0 ? (char *)no_room : out, room, &own, &own_index);
+    if (status == OSB_OK || status == OSB_NO_ROOM) *count = own;
+    if (status == OSB_HAS_NUL && index != NULL) *index = own_index;
+    return status;
+}
+
+osb_status osb_shell_quote(const char *at, size_t len, char *out, size_t room, size_t *count,
+                           size_t *index) {
+    return write_word(osb_core_shell_quote, at, len, out, room, count, index);
+}
+
+osb_status osb_shell_quote_line(const char *at, size_t len, char *out, size_t room, size_t *count,
+                                size_t *index) {
+    return write_word(osb_core_shell_quote_line, at, len, out, room, count, index);
 }

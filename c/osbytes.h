@@ -17,8 +17,8 @@
  *   - a struct or a number that a call is given by a pointer is there, is aligned as its type, and
  *     overlaps nothing else that the call is given;
  *   - an iterator or a checker was started by its own call, and its strings stay as they were.
- * What a call tests: a null pointer with a length, a length past PTRDIFF_MAX, units that aren't
- * aligned, a buffer that overlaps what is read (OSB_BAD_POINTER, which any call can answer and none
+ * What a call tests: a null pointer with a length, a length past PTRDIFF_MAX, units and components that
+ * aren't aligned, a buffer that overlaps what is read (OSB_BAD_POINTER, which any call can answer and none
  * lists), and every value but the bits, kind and value of a checker, which are taken as they are.
  * A null pointer with length 0 is the empty string, or no room.
  *
@@ -57,10 +57,11 @@ enum {
     OSB_OK = 0,
     OSB_FAULTY = 1,        /* bytes aren't a string of the platform */
     OSB_NO_ROOM = 2,       /* the buffer is too short: the count is what it needs */
-    OSB_NONE = 3,          /* the pattern doesn't occur; the index is no boundary */
+    OSB_NONE = 3,          /* the pattern doesn't occur; the index is no boundary; a path has no such part */
     OSB_ENDED = 4,         /* there are no more items */
     OSB_BAD_ESCAPE = 5,    /* a backslash of an escape begins no token */
     OSB_NO_STRING = 6,     /* no string of the platform has this escape */
+    OSB_HAS_NUL = 7,       /* the name has a NUL, which no word of a shell can have */
     /* from 16 on: an argument is refused, and nothing was written but maybe into a buffer */
     OSB_BAD_PLATFORM = 16, /* there is no such platform */
     OSB_BAD_PATTERN = 17,  /* the pattern or the escape isn't UTF-8, or the pattern is empty where
@@ -271,6 +272,67 @@ osb_status osb_symbols_start(osb_symbols *symbols, osb_platform platform, const 
 /* OSB_OK with the next symbol, OSB_ENDED after the last. Of an iterator that isn't as a call left
  * it, or whose string has changed, OSB_BAD_INDEX, OSB_BAD_PLATFORM or OSB_FAULTY. */
 osb_status osb_symbols_next(osb_symbols *symbols, osb_symbol *symbol);
+
+/* Paths are taken apart as Rust's std::path does it, without a file system: those of OSB_UNIX and
+ * OSB_WASM by the rules of POSIX, those of OSB_WINDOWS by the rules of Windows. Their bytes aren't
+ * checked. Each part begins and ends at an end of the path or beside an ASCII byte, so the parts of a
+ * string are strings. Empty parts name nothing, and neither does `.`, but at the start of a path
+ * without a root or a prefix, and after \\?\. `..` is a component like any other. */
+enum {
+    OSB_PREFIX = 1,  /* as C: or \\server\share, of Windows alone */
+    OSB_ROOT = 2,    /* its separator, or no byte if the prefix implies a root */
+    OSB_CURRENT = 3, /* . */
+    OSB_PARENT = 4,  /* .. */
+    OSB_NAME = 5     /* any other */
+};
+
+typedef struct osb_component {
+    size_t kind;  /* OSB_PREFIX, OSB_ROOT .. */
+    size_t start; /* the index of its first byte */
+    size_t end;   /* the index after its last byte */
+} osb_component;
+
+/* Writes the components of a path, in order: OSB_OK, OSB_NO_ROOM, OSB_BAD_PLATFORM. `room` and
+ * `*count` count components, of which there are at most as many as bytes, and one more. */
+osb_status osb_path_components(osb_platform platform, const char *at, size_t len,
+                               osb_component *out, size_t room, size_t *count);
+
+/* A part of a path: OSB_OK, OSB_NONE (it has no such part, and nothing is written), OSB_BAD_PLATFORM.
+ * The parent is the path without its last component, and there is none if that is a prefix or a
+ * root; the parent of `a` is empty. The prefix is that of Windows, as C: or \\server\share. The file
+ * name is the last component if it is a name, and has no trailing separator; its stem and its
+ * extension are what comes before and after its last dot, where that isn't its first byte: without
+ * such a dot there is no extension, and the stem is the name. */
+osb_status osb_path_parent(osb_platform platform, const char *at, size_t len, osb_view *parent);
+osb_status osb_path_prefix(osb_platform platform, const char *at, size_t len, osb_view *prefix);
+osb_status osb_path_file_name(osb_platform platform, const char *at, size_t len, osb_view *name);
+osb_status osb_path_file_stem(osb_platform platform, const char *at, size_t len, osb_view *stem);
+osb_status osb_path_extension(osb_platform platform, const char *at, size_t len,
+                              osb_view *extension);
+
+/* Whether a path has a root, and whether it is absolute, which a path of Windows is if it has a prefix,
+ * too: OSB_OK, OSB_NONE, OSB_BAD_PLATFORM. */
+osb_status osb_path_has_root(osb_platform platform, const char *at, size_t len);
+osb_status osb_path_is_absolute(osb_platform platform, const char *at, size_t len);
+
+/* Whether the first components of a path are those of a base, and the last ones those of a child:
+ * OSB_OK, OSB_NONE, OSB_BAD_PLATFORM. The drives C: and c: are the same. */
+osb_status osb_path_starts_with(osb_platform platform, const char *at, size_t len,
+                                const char *base, size_t base_len);
+osb_status osb_path_ends_with(osb_platform platform, const char *at, size_t len, const char *child,
+                              size_t child_len);
+
+/* How many bytes the word of a name of so many bytes has at most; SIZE_MAX past that. */
+size_t osb_shell_bound(size_t len);
+
+/* Writes a name of Unix as a word that every POSIX shell reads as this name, and as nothing else:
+ * OSB_OK, OSB_NO_ROOM, OSB_HAS_NUL, OSB_TOO_LONG. With OSB_HAS_NUL `*index` is the index of the first
+ * NUL; `index` may be null. */
+osb_status osb_shell_quote(const char *at, size_t len, char *out, size_t room, size_t *count,
+                           size_t *index);
+/* The same on one line, for a terminal, as a word of the shells that read $'..' (POSIX.1-2024). */
+osb_status osb_shell_quote_line(const char *at, size_t len, char *out, size_t room, size_t *count,
+                                size_t *index);
 
 #ifdef __cplusplus
 }

@@ -52,9 +52,13 @@ class Symbol(Structure):
     _fields_ = [("kind", c_uint32), ("value", c_uint32), ("bytes", View)]
 
 
+class Component(Structure):
+    _fields_ = [("kind", c_size_t), ("start", c_size_t), ("end", c_size_t)]
+
+
 UNIX, WINDOWS, WASM = range(3)
 CHARACTER, UNIT = 1, 2
-OK, FAULTY, NO_ROOM, NONE, ENDED, BAD_ESCAPE, NO_STRING = range(7)
+OK, FAULTY, NO_ROOM, NONE, ENDED, BAD_ESCAPE, NO_STRING, HAS_NUL = range(8)
 
 
 def load(name: str) -> CDLL:
@@ -88,6 +92,15 @@ def load(name: str) -> CDLL:
     osb.osb_checker_start.argtypes = [POINTER(Checker)]
     osb.osb_checker_feed.argtypes = [POINTER(Checker), c_char_p, c_size_t, POINTER(Fault)]
     osb.osb_checker_finish.argtypes = [POINTER(Checker), POINTER(Fault)]
+    osb.osb_path_components.argtypes = [c_uint32, c_char_p, c_size_t, POINTER(Component), c_size_t, POINTER(c_size_t)]
+    for part in ("parent", "prefix", "file_name", "file_stem", "extension"):
+        getattr(osb, f"osb_path_{part}").argtypes = [c_uint32, c_char_p, c_size_t, POINTER(View)]
+    osb.osb_path_has_root.argtypes = osb.osb_path_is_absolute.argtypes = [c_uint32, c_char_p, c_size_t]
+    osb.osb_path_starts_with.argtypes = osb.osb_path_ends_with.argtypes = osb.osb_starts_with_units.argtypes
+    osb.osb_shell_bound.argtypes = [c_size_t]
+    osb.osb_shell_bound.restype = c_size_t
+    osb.osb_shell_quote.argtypes = [c_char_p, c_size_t, c_char_p, c_size_t, POINTER(c_size_t), POINTER(c_size_t)]
+    osb.osb_shell_quote_line.argtypes = osb.osb_shell_quote.argtypes
     return osb
 
 

@@ -840,15 +840,240 @@ static void unescapes(void) {
 static void status_texts(void) {
     static const osb_status all[] = {
         OSB_OK, OSB_FAULTY, OSB_NO_ROOM, OSB_NONE, OSB_ENDED, OSB_BAD_ESCAPE, OSB_NO_STRING,
-        OSB_BAD_PLATFORM, OSB_BAD_PATTERN, OSB_BAD_INDEX, OSB_BAD_FAULT, OSB_BAD_STATE, OSB_TOO_LONG,
-        OSB_BAD_POINTER, 7,
+        OSB_HAS_NUL, OSB_BAD_PLATFORM, OSB_BAD_PATTERN, OSB_BAD_INDEX, OSB_BAD_FAULT, OSB_BAD_STATE, OSB_TOO_LONG,
+        OSB_BAD_POINTER, 8,
     };
     size_t count = sizeof all / sizeof *all;
     for (size_t i = 0; i < count; i++)
         for (size_t j = 0; j < count; j++)
             EXPECT((strcmp(osb_status_text(all[i]), osb_status_text(all[j])) == 0) == (i == j));
-    EXPECT(strcmp(osb_status_text(0xFFFFFFFF), osb_status_text(7)) == 0);
+    EXPECT(strcmp(osb_status_text(0xFFFFFFFF), osb_status_text(8)) == 0);
     EXPECT(strcmp(osb_status_text(OSB_TOO_LONG), "the string is too long") == 0);
+}
+
+/* The components of a path as text, such as "2/0:1 5/1:4 ", in every room. */
+static bool has_components(osb_platform platform, const char *at, size_t len, const char *wanted) {
+    osb_component *out = malloc(40 * sizeof *out);
+    char text[400] = "";
+    size_t count = 0, used = 0;
+    if (osb_path_components(platform, at, len, out, 40, &count) != OSB_OK || count > len + 1) return false;
+    for (size_t i = 0; i < count; i++)
+        used += (size_t)sprintf(text + used, "%zu/%zu:%zu ", out[i].kind, out[i].start, out[i].end);
+    bool right = strcmp(text, wanted) == 0;
+    if (!right) printf("  %s\n", text);
+    for (size_t room = 0; room < count + 2 && right; room++) {
+        osb_component *some = malloc(room * sizeof *some + 1);
+        size_t end = room < count ? room : count, own = 99;
+        memset(some, 0x55, room * sizeof *some);
+        osb_status status = osb_path_components(platform, at, len, room == 0 ? NULL : some, room, &own);
+        right = own == count && status == (room < count ? OSB_NO_ROOM : OSB_OK) &&
+                memcmp(some, out, end * sizeof *some) == 0;
+        for (size_t i = end; i < room; i++) right = right && some[i].kind == (size_t)0x5555555555555555;
+        free(some);
+    }
+    free(out);
+    return right;
+}
+
+static void components(void) {
+    EXPECT(has_components(OSB_UNIX, NULL, 0, ""));
+    EXPECT(has_components(OSB_UNIX, TEXT("/"), "2/0:1 "));
+    EXPECT(has_components(OSB_UNIX, TEXT("//usr/./lib/"), "2/0:1 5/2:5 5/8:11 "));
+    EXPECT(has_components(OSB_UNIX, TEXT("./a//../.b"), "3/0:1 5/2:3 4/5:7 5/8:10 "));
+    EXPECT(has_components(OSB_UNIX, TEXT("\xFF/a\0b"), "5/0:1 5/2:5 "));
+    EXPECT(has_components(OSB_UNIX, TEXT("C:\\a"), "5/0:4 "));
+    EXPECT(has_components(OSB_WASM, TEXT("C:\\a/b"), "5/0:4 5/5:6 "));
+    EXPECT(has_components(OSB_WINDOWS, TEXT("C:\\a/.\\.."), "1/0:2 2/2:3 5/3:4 4/7:9 "));
+    EXPECT(has_components(OSB_WINDOWS, TEXT("C:a"), "1/0:2 5/2:3 "));
+    EXPECT(has_components(OSB_WINDOWS, TEXT("C:"), "1/0:2 "));
+    EXPECT(has_components(OSB_WINDOWS, TEXT("\\\\server\\share"), "1/0:14 2/14:14 "));
+    EXPECT(has_components(OSB_WINDOWS, TEXT("\\\\server\\share\\a"), "1/0:14 2/14:15 5/15:16 "));
+    EXPECT(has_components(OSB_WINDOWS, TEXT("\\\\?\\C:\\.\\a/b"), "1/0:6 2/6:7 3/7:8 5/9:12 "));
+    EXPECT(has_components(OSB_WINDOWS, TEXT(".\\a"), "3/0:1 5/2:3 "));
+    osb_component out[4] = {{9, 9, 9}, {9, 9, 9}, {9, 9, 9}, {9, 9, 9}};
+    size_t count = 7;
+    EXPECT(osb_path_components(3, TEXT("a"), out, 4, &count) == OSB_BAD_PLATFORM);
+    EXPECT(osb_path_components(OSB_UNIX, NULL, 1, out, 4, &count) == OSB_BAD_POINTER);
+    EXPECT(osb_path_components(OSB_UNIX, "a", SIZE_MAX, out, 4, &count) == OSB_BAD_POINTER);
+    EXPECT(osb_path_components(OSB_UNIX, TEXT("a"), NULL, 1, &count) == OSB_BAD_POINTER);
+    EXPECT(osb_path_components(OSB_UNIX, TEXT("a"), out, 4, NULL) == OSB_BAD_POINTER);
+    EXPECT(osb_path_components(OSB_UNIX, TEXT("a"), out, SIZE_MAX, &count) == OSB_BAD_POINTER);
+    EXPECT(osb_path_components(OSB_UNIX, TEXT("a"), out, PTRDIFF_MAX / 24 + 1, &count) == OSB_BAD_POINTER);
+    /* a room whose bytes, counted, wrap to few */
+    EXPECT(osb_path_components(OSB_UNIX, TEXT("a"), out, SIZE_MAX / 24 + 2, &count) == OSB_BAD_POINTER);
+    void *odd = (char *)out + 4;
+    EXPECT(osb_path_components(OSB_UNIX, TEXT("a"), odd, 1, &count) == OSB_BAD_POINTER);
+    /* overlaps in the first component and in the last, and a path directly after the array */
+    EXPECT(osb_path_components(OSB_UNIX, (char *)out, 2, out, 4, &count) == OSB_BAD_POINTER);
+    EXPECT(osb_path_components(OSB_UNIX, (char *)(out + 4) - 1, 1, out, 4, &count) == OSB_BAD_POINTER);
+    EXPECT(count == 7 && out[0].kind == 9 && out[3].end == 9);
+    memcpy(out + 3, "a/b", 3);
+    EXPECT(osb_path_components(OSB_UNIX, (char *)(out + 3), 3, out, 3, &count) == OSB_OK && count == 2);
+    EXPECT(out[1].kind == OSB_NAME && out[1].start == 2 && out[1].end == 3 && out[2].kind == 9);
+}
+
+/* A call that finds a part of a path. */
+typedef osb_status to_part(osb_platform, const char *, size_t, osb_view *);
+
+/* The part is there, at this index of the path itself. */
+static bool part_is(to_part *call, osb_platform platform, const char *at, size_t len, size_t index,
+                    const char *wanted) {
+    osb_view part = {NULL, 99};
+    if (call(platform, at, len, &part) != OSB_OK) return false;
+    return is(part, wanted, strlen(wanted)) && (at == NULL || part.at == at + index);
+}
+
+static bool no_part(to_part *call, osb_platform platform, const char *at, size_t len) {
+    osb_view part = {NULL, 99};
+    return call(platform, at, len, &part) == OSB_NONE && part.at == NULL && part.len == 99;
+}
+
+static void bad_parts(to_part *call) {
+    osb_view part = {NULL, 99};
+    EXPECT(call(3, TEXT("C:\\a.b"), &part) == OSB_BAD_PLATFORM);
+    EXPECT(call(0xFFFFFFFF, TEXT("C:\\a.b"), &part) == OSB_BAD_PLATFORM);
+    EXPECT(call(OSB_WINDOWS, NULL, 1, &part) == OSB_BAD_POINTER);
+    EXPECT(call(OSB_WINDOWS, "C:\\a.b", SIZE_MAX, &part) == OSB_BAD_POINTER);
+    EXPECT(call(OSB_WINDOWS, TEXT("C:\\a.b"), NULL) == OSB_BAD_POINTER);
+    EXPECT(part.at == NULL && part.len == 99);
+    EXPECT(no_part(call, OSB_UNIX, NULL, 0));
+}
+
+static void path_parts(void) {
+    to_part *const calls[] = {osb_path_parent, osb_path_prefix, osb_path_file_name, osb_path_file_stem,
+                              osb_path_extension};
+    for (size_t i = 0; i < sizeof calls / sizeof *calls; i++) bad_parts(calls[i]);
+    EXPECT(part_is(osb_path_parent, OSB_UNIX, TEXT("/usr//lib/"), 0, "/usr"));
+    EXPECT(part_is(osb_path_parent, OSB_UNIX, TEXT("a"), 0, ""));
+    EXPECT(part_is(osb_path_parent, OSB_WINDOWS, TEXT("C:\\\\a/b"), 0, "C:\\\\a"));
+    EXPECT(part_is(osb_path_parent, OSB_WASM, TEXT("a\\b/c"), 0, "a\\b"));
+    EXPECT(no_part(osb_path_parent, OSB_UNIX, TEXT("/")));
+    EXPECT(no_part(osb_path_parent, OSB_WINDOWS, TEXT("\\\\server\\share\\")));
+    EXPECT(part_is(osb_path_prefix, OSB_WINDOWS, TEXT("c:a"), 0, "c:"));
+    EXPECT(part_is(osb_path_prefix, OSB_WINDOWS, TEXT("\\\\server\\share\\a"), 0, "\\\\server\\share"));
+    EXPECT(no_part(osb_path_prefix, OSB_WINDOWS, TEXT("\\\\server")));
+    EXPECT(no_part(osb_path_prefix, OSB_UNIX, TEXT("c:a")));
+    EXPECT(no_part(osb_path_prefix, OSB_WASM, TEXT("c:a")));
+    EXPECT(part_is(osb_path_file_name, OSB_UNIX, TEXT("/usr/lib/."), 5, "lib"));
+    EXPECT(part_is(osb_path_file_name, OSB_UNIX, TEXT("a/a//"), 2, "a"));
+    EXPECT(part_is(osb_path_file_name, OSB_UNIX, TEXT("a/b.c/."), 2, "b.c"));
+    EXPECT(part_is(osb_path_file_name, OSB_WINDOWS, TEXT("C:lib"), 2, "lib"));
+    EXPECT(part_is(osb_path_file_name, OSB_WASM, TEXT("b\\c"), 0, "b\\c"));
+    EXPECT(no_part(osb_path_file_name, OSB_UNIX, TEXT("/usr/..")));
+    EXPECT(no_part(osb_path_file_name, OSB_UNIX, TEXT(".")));
+    EXPECT(no_part(osb_path_file_name, OSB_WINDOWS, TEXT("C:\\")));
+    EXPECT(part_is(osb_path_file_stem, OSB_UNIX, TEXT("b.c/a.tar.gz/"), 4, "a.tar"));
+    EXPECT(part_is(osb_path_file_stem, OSB_UNIX, TEXT("/.profile"), 1, ".profile"));
+    EXPECT(part_is(osb_path_file_stem, OSB_WINDOWS, TEXT("b\\a"), 2, "a"));
+    EXPECT(no_part(osb_path_file_stem, OSB_UNIX, TEXT("a.b/..")));
+    EXPECT(part_is(osb_path_extension, OSB_UNIX, TEXT("b.c/a.tar.gz/"), 10, "gz"));
+    EXPECT(part_is(osb_path_extension, OSB_UNIX, TEXT("a."), 2, ""));
+    EXPECT(part_is(osb_path_extension, OSB_WINDOWS, TEXT("b\\a.c"), 4, "c"));
+    EXPECT(no_part(osb_path_extension, OSB_UNIX, TEXT("/.profile")));
+    EXPECT(no_part(osb_path_extension, OSB_UNIX, TEXT("a.b/c")));
+    EXPECT(no_part(osb_path_extension, OSB_UNIX, TEXT("a.b/..")));
+}
+
+static void path_tests(void) {
+    EXPECT(osb_path_has_root(OSB_UNIX, TEXT("/a")) == OSB_OK);
+    EXPECT(osb_path_has_root(OSB_UNIX, TEXT("\\a")) == OSB_NONE);
+    EXPECT(osb_path_has_root(OSB_WASM, TEXT("\\a")) == OSB_NONE);
+    EXPECT(osb_path_has_root(OSB_WINDOWS, TEXT("\\a")) == OSB_OK);
+    EXPECT(osb_path_has_root(OSB_WINDOWS, TEXT("C:a")) == OSB_NONE);
+    EXPECT(osb_path_has_root(OSB_UNIX, NULL, 0) == OSB_NONE);
+    EXPECT(osb_path_has_root(3, TEXT("/a")) == OSB_BAD_PLATFORM);
+    EXPECT(osb_path_has_root(OSB_UNIX, NULL, 1) == OSB_BAD_POINTER);
+    EXPECT(osb_path_has_root(OSB_UNIX, "/a", SIZE_MAX) == OSB_BAD_POINTER);
+    EXPECT(osb_path_is_absolute(OSB_UNIX, TEXT("/a")) == OSB_OK);
+    EXPECT(osb_path_is_absolute(OSB_WINDOWS, TEXT("\\a")) == OSB_NONE);
+    EXPECT(osb_path_is_absolute(OSB_WINDOWS, TEXT("C:\\a")) == OSB_OK);
+    EXPECT(osb_path_is_absolute(OSB_WASM, TEXT("C:\\a")) == OSB_NONE);
+    EXPECT(osb_path_is_absolute(OSB_UNIX, NULL, 0) == OSB_NONE);
+    EXPECT(osb_path_is_absolute(3, TEXT("/a")) == OSB_BAD_PLATFORM);
+    EXPECT(osb_path_is_absolute(OSB_UNIX, NULL, 1) == OSB_BAD_POINTER);
+    EXPECT(osb_path_is_absolute(OSB_UNIX, "/a", SIZE_MAX) == OSB_BAD_POINTER);
+    EXPECT(osb_path_starts_with(OSB_UNIX, TEXT("/usr//lib"), TEXT("/usr/")) == OSB_OK);
+    EXPECT(osb_path_starts_with(OSB_UNIX, TEXT("/usr/lib"), TEXT("/us")) == OSB_NONE);
+    EXPECT(osb_path_starts_with(OSB_UNIX, TEXT("/us"), TEXT("/us/lib")) == OSB_NONE);
+    EXPECT(osb_path_starts_with(OSB_WINDOWS, TEXT("C:\\a\\b"), TEXT("c:/a")) == OSB_OK);
+    EXPECT(osb_path_starts_with(OSB_WASM, TEXT("C:\\a\\b"), TEXT("c:/a")) == OSB_NONE);
+    EXPECT(osb_path_starts_with(OSB_UNIX, TEXT("a"), NULL, 0) == OSB_OK);
+    EXPECT(osb_path_starts_with(OSB_UNIX, NULL, 0, TEXT("a")) == OSB_NONE);
+    EXPECT(osb_path_starts_with(3, TEXT("a"), TEXT("a")) == OSB_BAD_PLATFORM);
+    EXPECT(osb_path_starts_with(OSB_UNIX, NULL, 1, TEXT("a")) == OSB_BAD_POINTER);
+    EXPECT(osb_path_starts_with(OSB_UNIX, TEXT("a"), NULL, 1) == OSB_BAD_POINTER);
+    EXPECT(osb_path_starts_with(OSB_UNIX, TEXT("a"), "a", SIZE_MAX) == OSB_BAD_POINTER);
+    EXPECT(osb_path_ends_with(OSB_UNIX, TEXT("/usr/lib/"), TEXT("lib")) == OSB_OK);
+    EXPECT(osb_path_ends_with(OSB_UNIX, TEXT("/usr/lib"), TEXT("ib")) == OSB_NONE);
+    EXPECT(osb_path_ends_with(OSB_UNIX, TEXT("lib"), TEXT("usr/lib")) == OSB_NONE);
+    EXPECT(osb_path_ends_with(OSB_WINDOWS, TEXT("a\\b/c"), TEXT("b\\c")) == OSB_OK);
+    EXPECT(osb_path_ends_with(OSB_WASM, TEXT("a\\b/c"), TEXT("b/c")) == OSB_NONE);
+    EXPECT(osb_path_ends_with(OSB_UNIX, TEXT("a"), NULL, 0) == OSB_OK);
+    EXPECT(osb_path_ends_with(OSB_UNIX, NULL, 0, TEXT("a")) == OSB_NONE);
+    EXPECT(osb_path_ends_with(3, TEXT("a"), TEXT("a")) == OSB_BAD_PLATFORM);
+    EXPECT(osb_path_ends_with(OSB_UNIX, NULL, 1, TEXT("a")) == OSB_BAD_POINTER);
+    EXPECT(osb_path_ends_with(OSB_UNIX, TEXT("a"), NULL, 1) == OSB_BAD_POINTER);
+    EXPECT(osb_path_ends_with(OSB_UNIX, TEXT("a"), "a", SIZE_MAX) == OSB_BAD_POINTER);
+}
+
+/* A call that writes a word of a shell. */
+typedef osb_status to_word(const char *, size_t, char *, size_t, size_t *, size_t *);
+
+/* The word of a name, in every room. */
+static bool has_word(to_word *quote, const char *at, size_t len, const char *wanted) {
+    size_t all = strlen(wanted), count = 0, index = 7;
+    if (osb_shell_bound(len) < all) return false;
+    for (size_t room = 0; room < all + 3; room++) {
+        char *out = malloc(room + 1);
+        size_t end = room < all ? room : all;
+        memset(out, 0x55, room + 1);
+        osb_status status = quote(at, len, room == 0 ? NULL : out, room, &count, &index);
+        bool right = count == all && status == (room < all ? OSB_NO_ROOM : OSB_OK) && index == 7 &&
+                     memcmp(out, wanted, end) == 0 && out[end] == 0x55;
+        free(out);
+        if (!right) return false;
+    }
+    return true;
+}
+
+static void bad_words(to_word *quote) {
+    char out[16] = "abcdefgh";
+    size_t count = 7, index = 7;
+    EXPECT(quote(TEXT("a\0\0"), out, 8, &count, NULL) == OSB_HAS_NUL && count == 7);
+    EXPECT(quote(TEXT("a\0\0"), out, 8, &count, &index) == OSB_HAS_NUL && count == 7 && index == 1);
+    EXPECT(quote(TEXT("ab\0"), NULL, 0, &count, &index) == OSB_HAS_NUL && count == 7 && index == 2);
+    index = 7;
+    EXPECT(quote("a", SIZE_MAX / 4 + 1, NULL, 0, &count, &index) == OSB_TOO_LONG);
+    EXPECT(quote(NULL, 1, out, 8, &count, &index) == OSB_BAD_POINTER);
+    EXPECT(quote("a", SIZE_MAX, out, 8, &count, &index) == OSB_BAD_POINTER);
+    EXPECT(quote(TEXT("a"), NULL, 8, &count, &index) == OSB_BAD_POINTER);
+    EXPECT(quote(TEXT("a"), out, SIZE_MAX, &count, &index) == OSB_BAD_POINTER);
+    EXPECT(quote(TEXT("a"), out, 8, NULL, &index) == OSB_BAD_POINTER);
+    EXPECT(quote(out, 3, out, 8, &count, &index) == OSB_BAD_POINTER);
+    EXPECT(quote(out + 7, 1, out, 8, &count, &index) == OSB_BAD_POINTER);
+    EXPECT(quote(out, 3, out + 2, 8, &count, &index) == OSB_BAD_POINTER);
+    EXPECT(count == 7 && index == 7 && memcmp(out, "abcdefgh", 8) == 0);
+    EXPECT(quote(out, 3, out + 3, 5, &count, &index) == OSB_OK && count == 3);
+    EXPECT(quote(out + 5, 3, out, 5, &count, &index) == OSB_OK && count == 3);
+    EXPECT(memcmp(out, "cghabcgh", 8) == 0 && index == 7);
+}
+
+static void words(void) {
+    to_word *const calls[] = {osb_shell_quote, osb_shell_quote_line};
+    for (size_t i = 0; i < 2; i++) {
+        EXPECT(has_word(calls[i], NULL, 0, "''"));
+        EXPECT(has_word(calls[i], TEXT("a/b-c.d"), "a/b-c.d"));
+        EXPECT(has_word(calls[i], TEXT("a b"), "'a b'"));
+        EXPECT(has_word(calls[i], TEXT("it's"), "'it'\\''s'"));
+        EXPECT(has_word(calls[i], TEXT("'''"), "''\\'''\\'''\\'''"));
+        bad_words(calls[i]);
+    }
+    EXPECT(has_word(osb_shell_quote, TEXT("a\n\xFF"), "'a\n\xFF'"));
+    EXPECT(has_word(osb_shell_quote_line, TEXT("a\n\xFF'"), "$'a\\n\\377\\''"));
+    EXPECT(has_word(osb_shell_quote_line, TEXT("\xE2\x80\xAE"), "$'\\342\\200\\256'"));
+    EXPECT(osb_shell_bound(0) == 3 && osb_shell_bound(5) == 23);
+    EXPECT(osb_shell_bound(SIZE_MAX / 4) == SIZE_MAX && osb_shell_bound(SIZE_MAX / 4 - 1) == SIZE_MAX - 4);
+    EXPECT(osb_shell_bound(SIZE_MAX / 4 + 1) == SIZE_MAX && osb_shell_bound(SIZE_MAX) == SIZE_MAX);
 }
 
 int main(void) {
@@ -872,6 +1097,10 @@ int main(void) {
     patterns();
     splits();
     chunks();
+    components();
+    path_parts();
+    path_tests();
+    words();
     printf("asked: %d, failed: %d\n", asked, failed);
     return failed != 0;
 }

@@ -51,8 +51,24 @@ from ._calls import (
     unescape,
     unescape_line,
 )
-from ._errors import BadEscapeError, FaultError, NoStringError, OsBytesError
+from ._errors import BadEscapeError, FaultError, NoStringError, NulError, OsBytesError
 from ._library import version
+from ._paths import (
+    Component,
+    Kind,
+    path_components,
+    path_ends_with,
+    path_extension,
+    path_file_name,
+    path_file_stem,
+    path_has_root,
+    path_is_absolute,
+    path_parent,
+    path_prefix,
+    path_starts_with,
+    shell_quote,
+    shell_quote_line,
+)
 
 __all__ = [
     "UNIX",
@@ -61,8 +77,11 @@ __all__ = [
     "BadEscapeError",
     "Character",
     "Checker",
+    "Component",
     "FaultError",
+    "Kind",
     "NoStringError",
+    "NulError",
     "OsBytesError",
     "Platform",
     "Unit",
@@ -80,8 +99,20 @@ __all__ = [
     "from_units",
     "is_boundary",
     "is_string",
+    "path_components",
+    "path_ends_with",
+    "path_extension",
+    "path_file_name",
+    "path_file_stem",
+    "path_has_root",
+    "path_is_absolute",
+    "path_parent",
+    "path_prefix",
+    "path_starts_with",
     "rfind",
     "rsplit",
+    "shell_quote",
+    "shell_quote_line",
     "split",
     "starts_with",
     "symbols",

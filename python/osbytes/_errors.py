@@ -33,3 +33,11 @@ class NoStringError(OsBytesError):
 
     def __init__(self) -> None:
         super().__init__("no string of the platform has this escape")
+
+
+class NulError(OsBytesError):
+    """A name with a NUL, which no word of a shell can have. `index` is that of its first NUL, in its bytes."""
+
+    def __init__(self, index: int) -> None:
+        super().__init__(f"NUL at byte {index}")
+        self.index = index

@@ -59,7 +59,13 @@ class Symbol(Structure):
     _fields_ = [("kind", c_uint32), ("value", c_uint32), ("bytes", View)]
 
 
-OK, FAULTY, NO_ROOM, NONE, ENDED, BAD_ESCAPE, NO_STRING = range(7)
+class Part(Structure):
+    """A component of a path: where it is."""
+
+    _fields_ = [("kind", c_size_t), ("start", c_size_t), ("end", c_size_t)]
+
+
+OK, FAULTY, NO_ROOM, NONE, ENDED, BAD_ESCAPE, NO_STRING, HAS_NUL = range(8)
 CHARACTER = 1
 FAULT_TEXT_ROOM = 129
 
@@ -67,6 +73,7 @@ STRING = [c_char_p, c_size_t]
 COUNTED = [c_char_p, c_size_t, POINTER(c_size_t)]
 ESCAPES = [c_uint32, *STRING, *COUNTED, POINTER(Fault)]
 UNESCAPES = [c_uint32, *STRING, *COUNTED, POINTER(c_size_t)]
+PARTS = [c_uint32, *STRING, POINTER(View)]
 
 # The types of what each call takes, beside a status that it answers.
 CALLS: dict[str, list[type]] = {
@@ -97,9 +104,21 @@ CALLS: dict[str, list[type]] = {
     "osb_chunks_next": [POINTER(Chunks), POINTER(Chunk)],
     "osb_symbols_start": [POINTER(Symbols), c_uint32, *STRING, POINTER(Fault)],
     "osb_symbols_next": [POINTER(Symbols), POINTER(Symbol)],
+    "osb_path_components": [c_uint32, *STRING, POINTER(Part), c_size_t, POINTER(c_size_t)],
+    "osb_path_parent": PARTS,
+    "osb_path_prefix": PARTS,
+    "osb_path_file_name": PARTS,
+    "osb_path_file_stem": PARTS,
+    "osb_path_extension": PARTS,
+    "osb_path_has_root": [c_uint32, *STRING],
+    "osb_path_is_absolute": [c_uint32, *STRING],
+    "osb_path_starts_with": [c_uint32, *STRING, *STRING],
+    "osb_path_ends_with": [c_uint32, *STRING, *STRING],
+    "osb_shell_quote": [*STRING, *COUNTED, POINTER(c_size_t)],
+    "osb_shell_quote_line": [*STRING, *COUNTED, POINTER(c_size_t)],
 }
 # What takes and answers lengths.
-BOUNDS = ["osb_wide_bound", "osb_bytes_bound", "osb_lossy_bound", "osb_escape_bound", "osb_unescape_bound"]
+BOUNDS = ["osb_wide_bound", "osb_bytes_bound", "osb_lossy_bound", "osb_escape_bound", "osb_unescape_bound", "osb_shell_bound"]
 
 
 def load(name: str) -> CDLL:

@@ -10,7 +10,7 @@ from pathlib import Path
 from typing import Iterable, Iterator
 
 import osbytes
-from osbytes import UNIX, WASM, WINDOWS, BadEscapeError, Checker, FaultError, NoStringError
+from osbytes import UNIX, WASM, WINDOWS, BadEscapeError, Checker, FaultError, Kind, NoStringError, NulError
 
 # What was answered, and what a row wants.
 Answers = Iterator[tuple[object, str]]
@@ -113,6 +113,50 @@ def unquote(platform: str, text: str, wanted: str) -> Answers:
         yield "notcanonical", wanted
 
 
+def part(answer: bytes | None) -> str:
+    return "!" if answer is None else shown(answer)
+
+
+def components(path: bytes, platform: osbytes.Platform) -> str:
+    letters = {Kind.PREFIX: "P", Kind.ROOT: "R", Kind.CURRENT: "C", Kind.PARENT: "U", Kind.NAME: "N"}
+    found = osbytes.path_components(path, platform)
+    told_parts = (letters[kind] + (bytes.hex() if kind in (Kind.PREFIX, Kind.NAME) else "") for kind, bytes in found)
+    return ",".join(told_parts) or "!"
+
+
+PARTS = {
+    "parent": osbytes.path_parent,
+    "file_name": osbytes.path_file_name,
+    "file_stem": osbytes.path_file_stem,
+    "extension": osbytes.path_extension,
+}
+TESTS = {"has_root": osbytes.path_has_root, "is_absolute": osbytes.path_is_absolute}
+COMPARISONS = {"starts_with": osbytes.path_starts_with, "ends_with": osbytes.path_ends_with}
+
+
+def paths(platform: str, call: str, path: str, *more: str) -> Answers:
+    """A row of another call isn't asked."""
+    given, whose = raw(path), PLATFORMS[platform]
+    if call == "components":
+        yield components(given, whose), more[0]
+    elif call == "prefix":
+        yield told(osbytes.path_prefix(given, whose) is None), told(more[0] == "!")
+    elif call in PARTS:
+        yield part(PARTS[call](given, whose)), more[0]
+    elif call in TESTS:
+        yield told(TESTS[call](given, whose)), more[0]
+    elif call in COMPARISONS:
+        yield told(COMPARISONS[call](given, raw(more[0]), whose)), more[1]
+
+
+def words(name: str, word: str, line: str, _fish: str) -> Answers:
+    for call, wanted in ((osbytes.shell_quote, word), (osbytes.shell_quote_line, line)):
+        try:
+            yield shown(call(raw(name))), wanted
+        except NulError as error:
+            yield f"nul {error.index}", wanted
+
+
 FILES = {
     "windows_decode": decode,
     "windows_encode": encode,
@@ -124,6 +168,9 @@ FILES = {
     "windows_join": join,
     "quote": quote,
     "unquote": unquote,
+    "paths": paths,
+    "paths_std_tests": paths,
+    "posix_quote": words,
 }
 
 
@@ -133,8 +180,8 @@ def main(*files: str) -> int:
         for row in Path(name).read_text(encoding="utf-8").splitlines():
             if row.startswith("#"):
                 continue
-            asked += 1
             answers = list(FILES[Path(name).stem](*row.split("\t")))
+            asked += len(answers) > 0
             if any(answer != wanted for answer, wanted in answers):
                 differ += 1
                 if differ < 20:

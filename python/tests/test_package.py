@@ -6,12 +6,14 @@ import codecs
 import doctest
 import os
 import random
+import shlex
 import subprocess
 import sys
 import unittest
+from pathlib import PurePosixPath
 
 import osbytes
-from osbytes import UNIX, WASM, WINDOWS, BadEscapeError, Character, Checker, FaultError, NoStringError, Unit
+from osbytes import UNIX, WASM, WINDOWS, BadEscapeError, Character, Checker, FaultError, Kind, NoStringError, NulError, Unit
 
 FORMS = [text.encode("utf-8", "surrogatepass") for text in "a,b\\\n\u00e9\u20ac\u2028\U000e0041\ud800\udc00\U0001f600"]
 FORMS += [b"\xc0", b"\xe2\x82", b"\xed", b"\xf4\x90", b"\x80", b"\0"]
@@ -37,7 +39,7 @@ def is_wtf8_by_python(string: bytes) -> bool:
 
 class Examples(unittest.TestCase):
     def test_examples_of_the_docs(self) -> None:
-        for module in (osbytes, osbytes._calls, osbytes._library):
+        for module in (osbytes, osbytes._calls, osbytes._library, osbytes._paths):
             failed, tried = doctest.testmod(module, optionflags=doctest.IGNORE_EXCEPTION_DETAIL)
             self.assertEqual(failed, 0, module)
             self.assertGreater(tried, 0, module)
@@ -90,6 +92,39 @@ class BesidePython(unittest.TestCase):
             self.assertEqual(osbytes.ends_with(string, raw), string.endswith(raw))
             other = made_up(numbers)
             self.assertEqual(osbytes.compare(string, other), (string > other) - (string < other))
+
+    def test_paths(self) -> None:
+        numbers = random.Random(6)
+        for _ in range(5000):
+            path = "".join(numbers.choice(["/", "/", "a", "b", ".x"]) for _ in range(numbers.randint(0, 12)))
+            if path.startswith("//"):
+                # a root of its own to pathlib
+                path = path.lstrip("/")
+            parts = osbytes.path_components(path)
+            python = PurePosixPath(path)
+            names = [part.bytes.decode() for part in parts if part.kind == Kind.NAME]
+            self.assertEqual(names, [part for part in python.parts if part != "/"])
+            self.assertEqual(osbytes.path_is_absolute(path), python.is_absolute())
+            self.assertEqual(osbytes.path_has_root(path), python.root != "")
+            self.assertEqual((osbytes.path_file_name(path) or b"").decode(), python.name)
+            self.assertIsNone(osbytes.path_prefix(path))
+            if parts and parts[-1].kind == Kind.NAME:
+                parent = osbytes.path_parent(path)
+                self.assertEqual(PurePosixPath((parent or b"").decode() or "."), python.parent)
+                self.assertTrue(osbytes.path_starts_with(path, parent or b""))
+                self.assertTrue(osbytes.path_ends_with(path, parts[-1].bytes))
+
+    def test_words(self) -> None:
+        numbers = random.Random(7)
+        for _ in range(2000):
+            name = made_up(numbers).replace(b"\0", b"'")
+            word = osbytes.shell_quote(name)
+            self.assertEqual(shlex.split(osbytes.decode(word)), [osbytes.decode(name)])
+            line = osbytes.shell_quote_line(name)
+            self.assertEqual(len(line.decode().splitlines()), 1)
+        with self.assertRaises(NulError) as refused:
+            osbytes.shell_quote(b"a\0b\0")
+        self.assertEqual(refused.exception.index, 1)
 
     def test_symbols(self) -> None:
         self.assertEqual(list(osbytes.symbols(b"a\xff\xc3\xa9")), [Character("a"), Unit(0xFF), Character("\u00e9")])

@@ -1,5 +1,8 @@
 pub mod Answers
 pub mod Faults
+pub mod PartBuffers
+pub mod PathParts
+pub mod PathSpans
 pub mod Platforms
 pub mod Steps
 pub mod Walks

@@ -2,7 +2,9 @@
 //! and in pieces, [`fault_text`] the text of a fault, [`wide`] bytes to 16-bit units and back,
 //! [`lossy`] lossy texts, [`escapes`] and [`unescapes`] escapes and back, [`search`] searches,
 //! [`prefix`] prefixes and suffixes by units, [`boundary`] where strings may be cut, [`compare`]
-//! their order, and one step of each iterator: [`split`], [`chunks`] and [`symbols`]. [`laws`] says
+//! their order, one step of each iterator: [`split`], [`chunks`] and [`symbols`], and [`paths`] and
+//! [`path_tests`] paths, whose components [`path_parts`] finds and [`part_list`] writes, and
+//! [`shell`] words of a shell. [`laws`] says
 //! what whole walks give, and [`uses`] concludes from it.
 //!
 //! A slice crosses as a pointer and a length. Each export takes any values: a platform, a pattern,
@@ -21,8 +23,14 @@ pub mod fault;
 pub mod fault_text;
 pub mod laws;
 pub mod lossy;
+pub mod part_list;
+mod path_parts;
+pub mod path_tests;
+pub mod paths;
 pub mod prefix;
 pub mod search;
+pub mod shell;
+pub mod span;
 pub mod split;
 pub mod status;
 mod strings;

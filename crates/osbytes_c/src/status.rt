@@ -14,6 +14,8 @@ pub const ENDED: u32 = 4;
 pub const BAD_ESCAPE: u32 = 5;
 /// No string of the platform has this escape.
 pub const NO_STRING: u32 = 6;
+/// The name has a NUL.
+pub const HAS_NUL: u32 = 7;
 /// There is no such platform.
 pub const NO_PLATFORM: u32 = 16;
 /// The pattern or the escape isn't UTF-8, or the pattern is empty where it may not be.

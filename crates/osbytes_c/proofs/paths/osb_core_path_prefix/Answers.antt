@@ -1,0 +1,27 @@
+use Rattle.std.proofs.Common.{◌≤◌, length, refl, subst, sym, ap, length-append, arith}
+use Rattle.path_rules.specs.Prefix.{IsPrefixOf}
+use Rattle.path_rules.specs.PrefixViews.{kind_of}
+use Rattle.path_rules.proofs.lemmas.AfterPrefix.{after_prefix}
+use Rattle.osbytes_c.proofs.lemmas.PathSpans.{dropped_end}
+use Rattle.osbytes_c.proofs.paths.osb_core_path_prefix.Goals as goal
+
+pub overflow_sub-span : goal.overflow_sub-span
+overflow_sub-span c =
+    let rest = c.in-Some.rest.now in
+    let h = after_prefix c.args.path.now (kind_of c.in-Some.field-0-0) rest c.in-Some.ensures in
+    omega (arith, ap length h.joined, length-append h.before rest)
+
+pub returns-clause-prefix : goal.returns-clause-prefix
+returns-clause-prefix c is =
+    let path = c.args.path.now in
+    let rest = c.in-Some.rest.now in
+    let kind = kind_of c.in-Some.field-0-0 in
+    let h = after_prefix path kind rest c.in-Some.ensures in (
+      record {
+        windows = omega (arith, c.if-platform-ne1.false);
+        start = refl;
+        kind = kind;
+        is = subst (IsPrefixOf path kind) (sym (dropped_end path h.before rest h.joined)) c.in-Some.ensures;
+      },
+      (omega arith, omega arith),
+    )

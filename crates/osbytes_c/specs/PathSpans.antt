@@ -1,0 +1,60 @@
+-- What the exports for paths answer: parts of a path, by their indices.
+use Rattle.std.specs.Prelude.{◌≡◌, ◌⊎◌, ◌≤◌, ℕ, zero, suc, List, length, drop}
+use Rattle.path_rules.specs.declared.rules.Style.{Style}
+use Rattle.path_rules.specs.declared.rules.Style.TheVariants.{Unix, Windows}
+use Rattle.path_rules.specs.Parent.{IsParent}
+use Rattle.path_rules.specs.Prefix.{Kind, IsPrefixOf}
+use Rattle.path_rules.specs.Name.{IsStem, IsExtension, HasNoExtension}
+use Rattle.osbytes_c.specs.declared.part_list.Part.{Part}
+use Rattle.osbytes_c.specs.declared.span.Span.{Span}
+use Rattle.osbytes_c.specs.PathParts.{AreParts, IsLastName, HasNoLastName}
+use Rattle.osbytes_c.specs.Steps.{part}
+use Rattle.osbytes_c.specs.PartBuffers.{PartsTruncated}
+
+-- whose paths those of the platform with this number are: 1 Windows, and the others Unix
+abbrev pub style_on : ℕ → Style
+style_on (suc zero) = Windows
+style_on platform = Unix
+
+-- the components are written into the array, truncated to the array's length, and there are so many
+abbrev pub WritesParts : Style → List ℕ → List Part → List Part → ℕ → Type 0
+WritesParts style path old new count = (parts : List Part) × (AreParts style path parts × PartsTruncated parts old new count)
+
+-- the span is in the path
+abbrev pub IsWithin : List ℕ → Span → Type 0
+IsWithin path span = (span.start ≤ span.end) × (span.end ≤ length path)
+
+-- the parent of the path, from its start on
+abbrev pub IsParentSpan : ℕ → List ℕ → Span → Type 0
+IsParentSpan platform path span = (span.start ≡ 0) × IsParent (style_on platform) path (part path span.start span.end)
+
+-- the prefix of the path, from its start on
+pub record IsPrefixSpan (platform : ℕ) (path : List ℕ) (span : Span) : Type 0 where
+  pub windows : platform ≡ 1
+  pub start : span.start ≡ 0
+  pub kind : Kind
+  pub is : IsPrefixOf path kind (drop span.end path)
+
+-- the last component, which is a name
+abbrev pub IsNameSpan : ℕ → List ℕ → Span → Type 0
+IsNameSpan platform path span = IsLastName (style_on platform) path (record { kind = 5; start = span.start; end = span.end })
+
+-- the stem of that name, from its start on
+pub record IsStemSpan (platform : ℕ) (path : List ℕ) (span : Span) : Type 0 where
+  pub name : Span
+  pub is_name : IsNameSpan platform path name
+  pub start : span.start ≡ name.start
+  pub stem : IsStem (part path name.start name.end) (part path span.start span.end)
+
+-- the extension of that name, up to its end
+pub record IsExtensionSpan (platform : ℕ) (path : List ℕ) (span : Span) : Type 0 where
+  pub name : Span
+  pub is_name : IsNameSpan platform path name
+  pub end : span.end ≡ name.end
+  pub stem : List ℕ
+  pub extension : IsExtension (part path name.start name.end) stem (part path span.start span.end)
+
+-- there is no such name, or it has no extension
+abbrev pub HasNoExtensionSpan : ℕ → List ℕ → Type 0
+HasNoExtensionSpan platform path =
+    HasNoLastName (style_on platform) path ⊎ ((name : Span) × (IsNameSpan platform path name × HasNoExtension (part path name.start name.end)))

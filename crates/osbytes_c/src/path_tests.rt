@@ -1,0 +1,94 @@
+//! What a path has, and how it starts and ends.
+ghost use Rattle.std.specs.Prelude.{◌≡◌, ◌≤◌, ◌<◌, ◌↔◌, ◌⊎◌, MatchOption};
+ghost use Rattle.path_rules.specs.Root.{HasRoot, IsAbsolute};
+ghost use Rattle.path_rules.specs.Compare.{StartsWith, EndsWith};
+ghost use Rattle.osbytes_c.specs.PathSpans.{style_on};
+
+use crate::status::{DONE, NO_PLATFORM, NONE};
+use path_rules::Style;
+
+/// Whose paths those of a platform are.
+#[inline(always)]
+pub(crate) fn style_of(platform: u32) -> Option<Style>
+    ensures { MatchOption result (2 < platform)
+        (λ style. (platform ≤ 2) × (style ≡ style_on platform)) }
+{
+    match platform {
+        0 => Some(Style::Unix),
+        1 => Some(Style::Windows),
+        2 => Some(Style::Unix),
+        _ => None,
+    }
+}
+
+/// Whether a path has a root.
+#[unsafe(no_mangle)]
+pub extern "C" fn osb_core_path_has_root(platform: u32, path: &[u8]) -> u32
+    ensures is { result ≡ 0 → HasRoot (style_on platform) path.now }
+    ensures none { result ≡ 3 → ¬ (HasRoot (style_on platform) path.now) }
+    ensures platform { (result ≡ 16) ↔ (2 < platform) }
+    ensures answers { (result ≡ 0) ⊎ ((result ≡ 3) ⊎ (result ≡ 16)) }
+{
+    let Some(style) = style_of(platform) else {
+        return NO_PLATFORM;
+    };
+    if path_rules::has_root(style, path) {
+        DONE
+    } else {
+        NONE
+    }
+}
+
+/// Whether a path is absolute.
+#[unsafe(no_mangle)]
+pub extern "C" fn osb_core_path_is_absolute(platform: u32, path: &[u8]) -> u32
+    ensures is { result ≡ 0 → IsAbsolute (style_on platform) path.now }
+    ensures none { result ≡ 3 → ¬ (IsAbsolute (style_on platform) path.now) }
+    ensures platform { (result ≡ 16) ↔ (2 < platform) }
+    ensures answers { (result ≡ 0) ⊎ ((result ≡ 3) ⊎ (result ≡ 16)) }
+{
+    let Some(style) = style_of(platform) else {
+        return NO_PLATFORM;
+    };
+    if path_rules::is_absolute(style, path) {
+        DONE
+    } else {
+        NONE
+    }
+}
+
+/// Whether the first components of a path are those of a base.
+#[unsafe(no_mangle)]
+pub extern "C" fn osb_core_path_starts_with(platform: u32, path: &[u8], base: &[u8]) -> u32
+    ensures is { result ≡ 0 → StartsWith (style_on platform) path.now base.now }
+    ensures none { result ≡ 3 → ¬ (StartsWith (style_on platform) path.now base.now) }
+    ensures platform { (result ≡ 16) ↔ (2 < platform) }
+    ensures answers { (result ≡ 0) ⊎ ((result ≡ 3) ⊎ (result ≡ 16)) }
+{
+    let Some(style) = style_of(platform) else {
+        return NO_PLATFORM;
+    };
+    if path_rules::starts_with(style, path, base) {
+        DONE
+    } else {
+        NONE
+    }
+}
+
+/// Whether the last components of a path are those of a child.
+#[unsafe(no_mangle)]
+pub extern "C" fn osb_core_path_ends_with(platform: u32, path: &[u8], child: &[u8]) -> u32
+    ensures is { result ≡ 0 → EndsWith (style_on platform) path.now child.now }
+    ensures none { result ≡ 3 → ¬ (EndsWith (style_on platform) path.now child.now) }
+    ensures platform { (result ≡ 16) ↔ (2 < platform) }
+    ensures answers { (result ≡ 0) ⊎ ((result ≡ 3) ⊎ (result ≡ 16)) }
+{
+    let Some(style) = style_of(platform) else {
+        return NO_PLATFORM;
+    };
+    if path_rules::ends_with(style, path, child) {
+        DONE
+    } else {
+        NONE
+    }
+}
