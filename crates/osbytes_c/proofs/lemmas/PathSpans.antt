@@ -1,8 +1,13 @@
 -- Parts of a path, by their indices.
-use Rattle.std.proofs.Common.{◌≡◌, ◌⊎◌, inl, inr, ℕ, ◌+◌, ◌-◌, ◌≤◌, List, [], ◌∷◌, ◌++◌, length, take, drop, sym, ap, ◌∙◌, append-nil, append_assoc, length-append, take-take, arith}
+use Rattle.std.proofs.Common.{◌≡◌, ◌⊎◌, inl, inr, ℕ, ◌+◌, ◌-◌, ◌≤◌, List, [], ◌∷◌, ◌++◌, length, take, drop, sym, ap, ◌∙◌, subst, append-nil, append_assoc, length-append, take-take, arith}
 use Rattle.std.proofs.lemmas.List.{drop-take, drop-drop, length-drop, length-take-le}
 use Rattle.std.proofs.Math.Seq.{take-append_seam, drop-append_seam}
+use Rattle.path_rules.specs.declared.rules.Style.{Style}
 use Rattle.path_rules.specs.Name.{IsStem, IsExtension}
+use Rattle.osbytes_c.specs.declared.part_list.Part.{Part}
+use Rattle.osbytes_c.specs.declared.span.Span.{Span}
+use Rattle.osbytes_c.specs.PathParts.{IsLastName}
+use Rattle.osbytes_c.specs.PathSpans.{IsNameSpan, style_on}
 use Rattle.osbytes_c.specs.Steps.{part}
 
 -- what is left at the end, from its index on
@@ -44,3 +49,12 @@ stem_front name stem (inr h) = ([], sym h.1 ∙ sym (append-nil stem))
 -- the extension is a back of it
 pub extension_back : (name stem extension : List ℕ) → IsExtension name stem extension → name ≡ (stem ++ 0x2E ∷ []) ++ extension
 extension_back name stem extension h = h.joined ∙ sym (append_assoc stem (0x2E ∷ []) extension)
+
+-- where the last name is
+abbrev pub span_of : Part → Span
+span_of p = record { start = p.start; end = p.end }
+
+pub name_span : (platform : ℕ) (path : List ℕ) (w : Style) (p : Part) → w ≡ style_on platform → IsLastName w path p → IsNameSpan platform path (span_of p)
+name_span platform path w p e last =
+    subst (λ v. IsLastName v path (record { kind = 5; start = p.start; end = p.end })) e
+    (subst (λ k. IsLastName w path (record { kind = k; start = p.start; end = p.end })) last.name last)
