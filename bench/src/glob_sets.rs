@@ -15,7 +15,7 @@ type Patterns = fn(usize) -> Vec<String>;
 /// With how often all paths are asked in a run of 1,000 of them, and of fewer by their number, so that it
 /// weighs little that ours compiles them in each run.
 const KINDS: [(&str, Patterns, usize); 3] =
-    [("`**/*.ext`", extensions, 100), ("literal paths", literals, 100), ("a mix", mix, 4)];
+    [("`**/*.ext`", extensions, 100), ("literal paths", literals, 100), ("a mix", mix, 1)];
 
 pub fn time(bench: &mut Bench) {
     bench.table("Patterns in sets beside globset", "a path");
