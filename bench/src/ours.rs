@@ -252,9 +252,7 @@ pub fn matches(pattern: &str, slash: bool, texts: &str, lens: &[usize]) -> usize
 
 /// The patterns of these lengths make up `patterns`.
 pub fn set_new(patterns: &str, pattern_lens: &[usize]) -> bool {
-    unsafe {
-        exports::port_set_new(patterns.as_ptr(), patterns.len(), pattern_lens.as_ptr(), pattern_lens.len())
-    }
+    unsafe { exports::port_set_new(patterns.as_ptr(), patterns.len(), pattern_lens.as_ptr(), pattern_lens.len()) }
 }
 
 /// So do the patterns, and the texts of their lengths make up `texts`.
