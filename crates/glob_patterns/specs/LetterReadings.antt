@@ -141,11 +141,14 @@ module _ (well_formed : List ℕ → Type 0) (units : List ℕ → List ℕ) (oc
   around : (s t : List ℕ) (b : ℕ) → b < 0x80 → symbols_of units (s ++ b ∷ t) ≡ symbols_of units s ++ Character b ∷ symbols_of units t
   around s t b low = around_ascii units (no_units well_formed units occurrence) (length s) s t b (omega arith) low
 
+  formed_before : (s t : List ℕ) (b : ℕ) → b < 0x80 → well_formed (s ++ b ∷ t) → well_formed s
+  formed_before s t b low f = occurrence.before_text (b ∷ []) s t (ascii_text (b ∷ []) (low, tt)) (omega arith) f
+
+  formed_from : (s t : List ℕ) (b : ℕ) → b < 0x80 → well_formed (s ++ b ∷ t) → well_formed (b ∷ t)
+  formed_from s t b low f = (occurrence.prefixes s (b ∷ t) (formed_before s t b low f) f).0
+
   formed_around : (s t : List ℕ) (b : ℕ) → b < 0x80 → well_formed (s ++ b ∷ t) → well_formed s × well_formed t
-  formed_around s t b low f =
-      let text : IsUtf8 (b ∷ []) = ascii_text (b ∷ []) (low, tt) in
-      let before = occurrence.before_text (b ∷ []) s t text (omega arith) f in
-      (before, (occurrence.prefixes (b ∷ []) t (occurrence.texts (b ∷ []) text) (occurrence.prefixes s (b ∷ t) before f).0).0)
+  formed_around s t b low f = (formed_before s t b low f, (occurrence.prefixes (b ∷ []) t (occurrence.texts (b ∷ []) (ascii_text (b ∷ []) (low, tt))) (formed_from s t b low f)).0)
 
   symbols_ascii : (s : List ℕ) → AllByRecursion (λ b. b < 0x80) s → symbols_of units s ≡ map Character s
   symbols_ascii [] h = let nothing : symbols_of units [] ≡ [] = no_symbols units [] refl in nothing
@@ -163,6 +166,7 @@ module _ (well_formed : List ℕ → Type 0) (units : List ℕ → List ℕ) (oc
     once = λ s t f g e. sym (spelled s f) ∙ ap (flat_map symbol_bytes) (same_symbols (symbols_of units s) (symbols_of units t) (proper s f) (proper t g) e) ∙ spelled t g;
     cut = λ s t b low f. let both = formed_around s t b low f in
         (both.0, (both.1, ap (map symbol_letter) (around s t b low) ∙ map-append symbol_letter (symbols_of units s) (Character b ∷ symbols_of units t)));
+    from = formed_from;
     found = found_at;
   }
     where

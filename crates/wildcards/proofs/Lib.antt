@@ -3,6 +3,8 @@ pub mod Fitting
 pub mod Cuts
 pub mod Parts
 pub mod Readings
+pub mod Skips
+pub mod Ends
 pub mod Literals
 pub mod Hits
 pub mod Keys

@@ -55,7 +55,7 @@ module _ {X A : Type 0} (T : A → Type 0) (F : X → A → Type 0) (same : (x :
             after = m.after.after;
           }
 
-  run_cases : (qs : List (Piece X)) (a : A) (left : List A) → Wild T F (Many ∷ qs) (a ∷ left) → Wild T F qs (a ∷ left) ⊎ (T a × Wild T F (Many ∷ qs) left)
+  pub run_cases : (qs : List (Piece X)) (a : A) (left : List A) → Wild T F (Many ∷ qs) (a ∷ left) → Wild T F qs (a ∷ left) ⊎ (T a × Wild T F (Many ∷ qs) left)
   run_cases qs a left m = go m.skipped m.taken m.joined
     where
       go : (s : List A) → AllByRecursion T s → a ∷ left ≡ s ++ m.rest → Wild T F qs (a ∷ left) ⊎ (T a × Wild T F (Many ∷ qs) left)
@@ -123,6 +123,9 @@ module _ {X A : Type 0} (T : A → Type 0) (F : X → A → Type 0) (same : (x :
   module _ (ps : List (Piece X)) (bs : List A) (qs : List (Piece X)) (rest : List A) (so_far : After ps bs qs rest) where
     pub all_after : Wild T F qs rest → Wild T F (Many ∷ ps) bs
     all_after m = so_far.alike.1 (empty_run qs rest m)
+
+    pub skipped_after : (left : List A) → Wild T F (Many ∷ qs) rest ↔ Wild T F (Many ∷ qs) left → After ps bs qs left
+    skipped_after left both = record { alike = (λ m. both.0 (so_far.alike.0 m), λ m. so_far.alike.1 (both.1 m)) }
 
     pub next_many : (more : List (Piece X)) (left : List A) → GoesOn T F qs rest more left → After ps bs more left
     next_many more left g = record { alike = (λ m. g.needed (so_far.alike.0 m), λ m. so_far.alike.1 (empty_run qs rest (g.enough m))) }
@@ -213,7 +216,7 @@ module _ {X A : Type 0} (T : A → Type 0) (F : X → A → Type 0) where
 
 -- a wildcard at the end takes all that it may take
 module _ {X A : Type 0} (T : A → Type 0) (F : X → A → Type 0) (any : (a : A) → T a) where
-  all_taken : (letters : List A) → AllByRecursion T letters
+  pub all_taken : (letters : List A) → AllByRecursion T letters
   all_taken [] = tt
   all_taken (a ∷ letters) = (any a, all_taken letters)
 

@@ -16,5 +16,6 @@ byte_laws = record {
   ascii = λ s h. (tt, refl);
   once = λ s t f g e. e;
   cut = λ s t b l f. (tt, (tt, refl));
+  from = λ s t b l f. tt;
   found = λ s us vs b l f e. record { prefix = us; suffix = vs; joined = e; letters_before = refl; letters_after = refl };
 }

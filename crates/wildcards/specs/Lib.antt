@@ -8,6 +8,7 @@ pub mod ByteLetters
 pub mod Match
 pub mod Cuts
 pub mod Steps
+pub mod Ends
 pub mod PathSteps
 pub mod Sets
 pub mod Ascending

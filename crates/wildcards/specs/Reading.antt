@@ -16,9 +16,10 @@ pub record IsFoundAt (letters : List ℕ → List ℕ) (bytes : List ℕ) (eleme
   pub letters_before : letters prefix ≡ before
   pub letters_after : letters suffix ≡ after
 
--- the laws of a reader: ASCII is its own letters; no two byte lists have the same letters; around a byte of ASCII the letters are those of both sides; where a letter is ASCII so is a byte
+-- the laws of a reader: ASCII is its own letters; no two byte lists have the same letters; around a byte of ASCII the letters are those of both sides, and from it on bytes are read; where a letter is ASCII so is a byte
 pub record LetterLaws (formed : List ℕ → Type 0) (letters : List ℕ → List ℕ) : Type 0 where
   pub ascii : (s : List ℕ) → AllByRecursion (λ b. b < 0x80) s → formed s × (letters s ≡ s)
   pub once : (s t : List ℕ) → formed s → formed t → letters s ≡ letters t → s ≡ t
   pub cut : (s t : List ℕ) (b : ℕ) → b < 0x80 → formed (s ++ b ∷ t) → formed s × (formed t × (letters (s ++ b ∷ t) ≡ letters s ++ b ∷ letters t))
+  pub from : (s t : List ℕ) (b : ℕ) → b < 0x80 → formed (s ++ b ∷ t) → formed (b ∷ t)
   pub found : (s us vs : List ℕ) (b : ℕ) → b < 0x80 → formed s → letters s ≡ us ++ b ∷ vs → IsFoundAt letters s b us vs

@@ -11,7 +11,7 @@ use crate::letters::Letters;
 use crate::literal::literal_text;
 use crate::options::Options;
 use crate::piece::{Item, Piece};
-use crate::run::fits_pieces;
+use crate::run::{begins_otherwise, fits_pieces};
 use std::alloc::{AllocError, Allocator, Global};
 
 /// What matches one component of a path: pieces, whose wildcards are `*`.
@@ -92,6 +92,9 @@ impl<A: Allocator> Part<A> {
     {
         if let Some(text) = &self.literal {
             return strip_text(options.separators, text, path);
+        }
+        if begins_otherwise::<L, A>(&self.pieces, path) {
+            return None;
         }
         let (component, more) = split_first::<L>(options.separators, path);
         if self.fits::<L>(options.literal_leading_dot, component) {

@@ -1,5 +1,6 @@
 //! A pattern against a path, from separator to separator.
 ghost use Rattle.std.specs.Prelude.{◌≡◌, ◌↔◌, ◌∷◌, Some, IsTrue, MatchOption};
+ghost use Rattle.wildcards.specs.declared.options.Options.{Options};
 ghost use Rattle.wildcards.specs.declared.piece.Piece.TheVariants.{Many};
 ghost use Rattle.wildcards.specs.Cuts.{left_components, IsLeftFormed};
 ghost use Rattle.wildcards.specs.Match.{MatchesParts, Matches};
@@ -11,6 +12,7 @@ use crate::letters::Letters;
 use crate::options::Options;
 use crate::part::Part;
 use crate::piece::Piece;
+use crate::run;
 use std::alloc::Allocator;
 
 /// How far pieces match, up to the first `**`.
@@ -127,6 +129,19 @@ fn match_last<'p, 'a, L: Letters, A: Allocator>(
     Some((left, from))
 }
 
+/// Whether the last piece is a part that matches no component which ends as a path does.
+#[inline(always)]
+fn ends_otherwise<L: Letters, A: Allocator>(pattern: &[Piece<Part<A>>], path: &[u8]) -> bool
+    requires { L.formed path.now }
+    ensures { IsTrue result → (options : Options) → ¬ (Matches options pattern.now
+        (L.letters path.now)) }
+{
+    let Some((Piece::One(part), _)) = pattern.split_last() else {
+        return false;
+    };
+    run::ends_otherwise::<L, A>(part.pieces(), path)
+}
+
 /// Whether a pattern matches a whole path: its parts the components, one after the other, and each
 /// `**` any number of them. The bytes are read by `L`. It doesn't allocate.
 ///
@@ -152,6 +167,9 @@ pub fn matches<L: Letters, A: Allocator>(
     requires { L.formed path.now }
     ensures { IsTrue result ↔ Matches options pattern.now (L.letters path.now) }
 {
+    if ends_otherwise::<L, A>(pattern, path) {
+        return false;
+    }
     match up_to_many::<L, A>(options, pattern, Some(path)) {
         Step::All => true,
         Step::Differs => false,

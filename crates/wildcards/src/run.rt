@@ -3,7 +3,8 @@ ghost use Rattle.std.specs.Prelude.{◌≡◌, ◌↔◌, ◌∷◌, IsTrue, Mat
 ghost use Rattle.wildcards.specs.declared.piece.Piece.TheVariants.{Many};
 ghost use Rattle.wildcards.specs.Match.{Fits, TakesLetter};
 ghost use Rattle.wildcards.specs.Wild.{Wild};
-ghost use Rattle.wildcards.specs.Steps.{PartStepSays, IsLetterStep, AreLastMatched};
+ghost use Rattle.wildcards.specs.Steps.{PartStepSays, IsLetterStep, IsFromByte, SkipsTo, AreLastMatched};
+ghost use Rattle.wildcards.specs.Ends.{BeginsOtherwise, EndsOtherwise};
 
 use crate::letters::Letters;
 use crate::piece::{Item, Piece};
@@ -68,6 +69,36 @@ fn up_to_many<'p, 'a, L: Letters, A: Allocator>(
     }
 }
 
+/// What is left of a text from the first of these bytes on.
+#[inline(always)]
+fn from_byte(byte: u8, text: &[u8]) -> &[u8]
+    ensures { IsFromByte byte text.entry.now result.now }
+{
+    let mut left = text;
+    while let Some((first, rest)) = left.split_first() {
+        if *first == byte {
+            return left;
+        }
+        left = rest;
+    }
+    left
+}
+
+/// What is left of a text where pieces may begin that come after a wildcard.
+#[inline(always)]
+fn from_first<'a, L: Letters, A: Allocator>(pieces: &[Piece<Item<A>>], text: &'a [u8]) -> &'a [u8]
+    requires { L.formed text.now }
+    ensures { SkipsTo L.formed L.letters pieces.now text.entry.now result.now }
+{
+    let Some((Piece::One(Item::Literal(letter)), _)) = pieces.split_first() else {
+        return text;
+    };
+    if *letter >= 0x80 {
+        return text;
+    }
+    from_byte(*letter as u8, text)
+}
+
 /// Whether pieces match after any number of letters.
 fn is_after_many<L: Letters, A: Allocator>(pieces: &[Piece<Item<A>>], text: &[u8]) -> bool
     requires { L.formed text.now }
@@ -80,6 +111,7 @@ fn is_after_many<L: Letters, A: Allocator>(pieces: &[Piece<Item<A>>], text: &[u8
         if left.is_empty() {
             return true;
         }
+        from = from_first::<L, A>(left, from);
         match up_to_many::<L, A>(left, from) {
             Step::All => return true,
             Step::Many(after, rest) => {
@@ -130,6 +162,42 @@ fn match_last<'p, 'a, L: Letters, A: Allocator>(
         }
     }
     Some((left, from))
+}
+
+/// Whether the first piece doesn't fit the first letter of a text, which is ASCII.
+#[inline(always)]
+pub(crate) fn begins_otherwise<L: Letters, A: Allocator>(
+    pieces: &[Piece<Item<A>>],
+    text: &[u8],
+) -> bool
+    requires { L.formed text.now }
+    ensures { IsTrue result → BeginsOtherwise pieces.now (L.letters text.now) }
+{
+    let Some((Piece::One(item), _)) = pieces.split_first() else {
+        return false;
+    };
+    let Some((byte, _)) = text.split_first() else {
+        return false;
+    };
+    *byte < 0x80 && !item.fits(u32::from(*byte))
+}
+
+/// Whether the last piece doesn't fit the last letter of a text, which is ASCII.
+#[inline(always)]
+pub(crate) fn ends_otherwise<L: Letters, A: Allocator>(
+    pieces: &[Piece<Item<A>>],
+    text: &[u8],
+) -> bool
+    requires { L.formed text.now }
+    ensures { IsTrue result → EndsOtherwise pieces.now (L.letters text.now) }
+{
+    let Some((Piece::One(item), _)) = pieces.split_last() else {
+        return false;
+    };
+    let Some((byte, _)) = text.split_last() else {
+        return false;
+    };
+    *byte < 0x80 && !item.fits(u32::from(*byte))
 }
 
 /// Whether pieces match a whole component.

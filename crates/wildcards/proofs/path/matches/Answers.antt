@@ -16,3 +16,8 @@ returns-in_default g c =
     let no : ¬ (false ≡ true) = λ e. cc in
     let both = from_many (TakesComponent c.args.options.literal_leading_dot) (FitsComponent c.args.options.literal_leading_dot) (by_components c.args.options.literal_leading_dot) _ _ _ _ c.in-Many.ensures.0 in
     (λ e. absurd (no e), λ m. absurd (c.in_default.ensures (Many ∷ []) (both.0 m)))
+
+pub returns-then-ends_otherwise : goal.returns-then-ends_otherwise
+returns-then-ends_otherwise g c =
+    let no : ¬ (false ≡ true) = λ e. cc in
+    (λ e. absurd (no e), λ m. absurd (c.ends_otherwise.ensures c.if-ends_otherwise.true c.args.options m))
