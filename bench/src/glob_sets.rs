@@ -30,7 +30,8 @@ pub fn time(bench: &mut Bench) {
     bench.table("Patterns into sets beside globset", "a pattern");
     for (kind, patterns, _) in KINDS {
         // globset takes some ten seconds to make one of 1,000 of a mix
-        for count in COUNTS.into_iter().filter(|count| kind != "a mix" || *count <= 10) {
+        let counts = if kind == "a mix" { [1, 10, 100, 300] } else { COUNTS };
+        for count in counts {
             let input = format!("{kind}, {count}");
             if bench.wants("new", &input) {
                 made(bench, &input, &patterns(count));
@@ -65,6 +66,20 @@ fn grown(bench: &mut Bench) {
         let ranges: String = (0..count).filter_map(|index| char::from_u32(0x4E00 + 2 * index)).collect();
         one(bench, &format!("`*[..]b*` of {count} letters on a^{LONGEST}"), &format!("*[{ranges}]b*"), &path);
     }
+    for count in [2, 40, 160] {
+        // each has half of a hundred letters, and the path's letter is in the last
+        let ranges: String =
+            (0..count).map(|index| format!("{}-{}", han(100 * index), han(100 * index + 50))).collect();
+        let letter = han(100 * (count - 1) + 10);
+        let path = letter.to_string().repeat(LONGEST / letter.len_utf8());
+        let input = format!("`*[..]b*` of {count} ranges on {letter}^{}", LONGEST / letter.len_utf8());
+        one(bench, &input, &format!("*[{ranges}]b*"), &path);
+    }
+}
+
+/// The letter of an index among those of CJK.
+fn han(index: u32) -> char {
+    char::from_u32(0x4E00 + index).expect("a letter of CJK")
 }
 
 /// A pattern over a path, which is there as often as `TOTAL` asks.
