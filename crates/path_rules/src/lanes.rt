@@ -1,11 +1,14 @@
 //! Many bytes at once: how many come before the first that is a certain byte, and how many two slices
 //! have alike.
-ghost use Rattle.std.specs.Prelude.{◌≡◌, ℕ, ◌+◌, ◌≤◌, ◌<◌, false, length, slice_index, nat_eq};
+ghost use Rattle.std.specs.Prelude.{◌≡◌, ℕ, ◌+◌, ◌≤◌, ◌<◌, false, length, slice_index, nat_eq, IsTrue};
 
 use std::simd::prelude::*;
 
 /// The bytes of a vector.
 pub(crate) const LANES: usize = 16;
+
+/// The bytes that one test of [`are_alike`] is of.
+pub(crate) const BLOCK: usize = 128;
 
 /// How many of the 16 bytes from an index on come before the first that is `value`.
 #[inline(always)]
@@ -29,6 +32,28 @@ pub(crate) fn alike_len<const N: usize>(a: &[u8], b: &[u8], from: usize) -> usiz
         → slice_index a.now (from + i) ≡ slice_index b.now (from + i) }
 {
     lanes_alike(load::<N>(a, from), load::<N>(b, from))
+}
+
+/// Whether the 128 bytes from an index on are alike in both.
+#[inline(always)]
+pub(crate) fn are_alike(a: &[u8], b: &[u8], from: usize) -> bool
+    requires first { from + 128 ≤ length a.now }
+    requires second { from + 128 ≤ length b.now }
+    ensures { IsTrue result → (i : ℕ) → i < 128
+        → slice_index a.now (from + i) ≡ slice_index b.now (from + i) }
+{
+    // one test of both masks, so that none of 64 bits is made
+    let first = differences(load(a, from), load(b, from));
+    let second = differences(load(a, from + 64), load(b, from + 64));
+    first | second == 0
+}
+
+/// A bit for each lane that isn't alike in both.
+#[inline(always)]
+fn differences(a: u8x64, b: u8x64) -> u64
+    ensures { result ≡ 0 → (i : ℕ) → i < 64 → slice_index a i ≡ slice_index b i }
+{
+    a.simd_ne(b).to_bitmask()
 }
 
 /// The N bytes from an index on.

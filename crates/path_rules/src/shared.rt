@@ -2,7 +2,7 @@
 ghost use Rattle.std.specs.Prelude.{◌≡◌, ◌<◌, ◌≤◌, length, MatchOption};
 ghost use Rattle.path_rules.specs.Shared.{SharesItems, AreAlikeBelow};
 
-use crate::lanes::alike_len;
+use crate::lanes::{BLOCK, alike_len, are_alike};
 use crate::rules::Rules;
 
 /// What is left of two bodies after the last separator of what they begin with alike; `None` where
@@ -39,29 +39,46 @@ fn shared_len(a: &[u8], b: &[u8]) -> usize
 {
     let end = a.len().min(b.len());
     if end >= 64 {
-        shared_by::<64>(a, b, end)
+        shared_by::<64>(a, b, alike_blocks(a, b, end), end)
     } else if end >= 16 {
-        shared_by::<16>(a, b, end)
+        shared_by::<16>(a, b, 0, end)
     } else if end >= 8 {
-        shared_by::<8>(a, b, end)
+        shared_by::<8>(a, b, 0, end)
     } else {
         shared_by_bytes(a, b, end)
     }
 }
 
-/// The same of so many bytes, by N at once; the last N are looked at together, also where some were
-/// before.
+/// The same of so many bytes, in whole blocks.
 #[inline(always)]
-fn shared_by<const N: usize>(a: &[u8], b: &[u8], end: usize) -> usize
-    requires room { N ≤ end }
-    requires few { N ≤ 64 }
-    requires some { 0 < N }
+fn alike_blocks(a: &[u8], b: &[u8], end: usize) -> usize
     requires first { end ≤ length a.now }
     requires second { end ≤ length b.now }
     ensures within { result ≤ end }
     ensures same { AreAlikeBelow a.now b.now result }
 {
     let mut at = 0;
+    while end - at >= BLOCK && are_alike(a, b, at) {
+        at += BLOCK;
+    }
+    at
+}
+
+/// The same, by N at once from an index on before which all are alike; the last N are looked at
+/// together, also where some were before.
+#[inline(always)]
+fn shared_by<const N: usize>(a: &[u8], b: &[u8], from: usize, end: usize) -> usize
+    requires room { N ≤ end }
+    requires few { N ≤ 64 }
+    requires some { 0 < N }
+    requires inside { from ≤ end }
+    requires before { AreAlikeBelow a.now b.now from }
+    requires first { end ≤ length a.now }
+    requires second { end ≤ length b.now }
+    ensures within { result ≤ end }
+    ensures same { AreAlikeBelow a.now b.now result }
+{
+    let mut at = from;
     while end - at > N {
         let len = alike_len::<N>(a, b, at);
         if len < N {

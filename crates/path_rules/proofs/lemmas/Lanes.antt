@@ -1,6 +1,8 @@
 -- The lanes of a vector before the first that is a certain byte, and those of two that are alike.
-use Rattle.std.proofs.Common.{◌≡◌, ◌<◌, ◌≤◌, ◌%◌, ◌^◌, ℕ, Bool, true, false, cond, List, length, get_or, map, replicate, not, eqb, eqb-true, sym, ap, ◌∙◌, subst, arith, w8}
-use Rattle.std.proofs.lemmas.Bool.{not-true, not-false}
+use Rattle.std.proofs.Common.{◌≡◌, ◌<◌, ◌≤◌, ◌+◌, ◌-◌, ⊎_elim, nat_eq, ◌%◌, ◌^◌, ℕ, Bool, true, false, cond, List, length, get_or, map, replicate, not, eqb, eqb-true, sym, ap, ◌∙◌, subst, arith, w8}
+use Rattle.std.proofs.lemmas.Bool.{not-true, not-false, cases_lt}
+use Rattle.std.proofs.lemmas.Nat.{le_or_l, le_or_r}
+use Rattle.std.specs.Int.Bits.{bit_or}
 use Rattle.std.proofs.lemmas.List.{map-id}
 use Rattle.std.proofs.lemmas.Simd.{bitmask_splat, trailing_mask_l, leading_from_mask_l, tops_compared, mask_l-mod, length-zip2, get_or-zip2}
 use Rattle.std.proofs.lemmas.List.Sums.{prefix_len_passes, prefix_len-le-length}
@@ -65,3 +67,19 @@ module _ (xs ys : List ℕ) (n : ℕ) (p : length xs ≡ n) (q : length ys ≡ n
       let equal : not (not (eqb (get_or xs i 0) (get_or ys i 0))) ≡ true =
       ap not (sym (get_or-zip2 (λ a b. not (eqb a b)) xs ys i 0 0 false (omega (arith, p, below)) (omega (arith, q, below)))) ∙ prefix_len_passes (λ d. not d) differ i false (subst (λ k. i < k) e h) in
       eqb-true _ _ (not-false _ (not-true _ equal))
+
+-- two masks that are tested together
+pub none_of_two : (first second : ℕ) → nat_eq (bit_or first second) 0 ≡ true → (first ≡ 0) × (second ≡ 0)
+none_of_two first second e =
+    let none : bit_or first second ≡ 0 = eqb-true (bit_or first second) 0 e in
+    let left = le_or_l first second in
+    let right = le_or_r first second in
+    (omega (arith, none, left), omega (arith, none, right))
+
+pub alike_twice : (xs ys : List ℕ) (from : ℕ) → ((i : ℕ) → i < 64 → get_or xs (from + i) 0 ≡ get_or ys (from + i) 0) → ((i : ℕ) → i < 64 → get_or xs ((from + 64) + i) 0 ≡ get_or ys ((from + 64) + i) 0)
+    → (i : ℕ) → i < 128 → get_or xs (from + i) 0 ≡ get_or ys (from + i) 0
+alike_twice xs ys from first second i h =
+    ⊎_elim
+    (λ below. first i below)
+    (λ above. (let e : (from + 64) + (i - 64) ≡ from + i = omega (arith, above) in subst (λ m. get_or xs m 0 ≡ get_or ys m 0) e (second (i - 64) (omega (arith, h, above)))))
+    (cases_lt i 64)
