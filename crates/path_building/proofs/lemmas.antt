@@ -6,6 +6,7 @@ pub mod Moves
 pub mod Spelling
 pub mod Resolving
 pub mod Written
+pub mod AsWritten
 pub mod Forms
 pub mod Again
 pub mod FileNames

@@ -15,6 +15,7 @@ use Rattle.path_rules.specs.Reserved.{IsReserved}
 use Rattle.path_building.specs.Normal.{AreNames, AreNormalOf}
 use Rattle.path_building.specs.Normalized.{IsNormalForm}
 use Rattle.path_building.specs.Join.{IsRelativeTo, without_dot}
+use Rattle.path_building.specs.Written.{IsPathOf}
 
 -- a colon comes before the name of a stream
 abbrev pub has_colon : List ℕ → Bool
@@ -65,14 +66,14 @@ abbrev pub IsVerbatimAlone : whose.Style → List ℕ → Type 0
 IsVerbatimAlone style.Unix path = ⊥
 IsVerbatimAlone style.Windows path = (kind : Kind) × (IsPrefixOf path kind [] × (rules_of kind ≡ rules.Verbatim))
 
--- the joined path has the base's components, and then the names
+-- the joined path has the base's components, and then the names, written with the main separator
 pub record IsCheckedJoin (w : whose.Style) (base path joined : List ℕ) : Type 0 where
   pub base_items : List Item
   pub names : List Item
   pub base_are : AreComponents w base base_items
   pub checked : AreCheckedNames w path names
   pub separable : IsVerbatimAlone w base → names ≡ []
-  pub answers : AreComponents w joined (base_items ++ names)
+  pub answers : IsPathOf w (base_items ++ names) joined
 
 -- the normal form begins with that of the base's components, and goes on with names
 pub record BeginsBelow (items normal : List Item) : Type 0 where

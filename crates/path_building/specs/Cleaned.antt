@@ -4,6 +4,7 @@ use Rattle.path_rules.specs.declared.rules.Style.{Style}
 use Rattle.path_rules.specs.Component.{Item, Prefix, RootDir, CurDir, ParentDir, Normal}
 use Rattle.path_rules.specs.Components.{AreComponents}
 use Rattle.path_building.specs.Normalized.{AreVerbatim, IsShielded}
+use Rattle.path_building.specs.Written.{IsPathOf}
 
 -- before a `..` that stays: nothing, a prefix, or another `..`
 abbrev pub StaysAfter : List Item → Type 0
@@ -35,7 +36,7 @@ or_dot (x ∷ xs) = x ∷ xs
 abbrev pub IsCleanForm : List Item → List Item → Type 0
 IsCleanForm items clean = (AreVerbatim items × (clean ≡ items)) ⊎ (¬ (AreVerbatim items) × ((left : List Item) × (CleansTo (reverse items) (reverse left) × (clean ≡ or_dot left))))
 
--- the answer has the clean form of the path's components
+-- the answer has the clean form of the path's components, written with the main separator
 pub record IsCleaned (w : Style) (path answer : List ℕ) : Type 0 where
   pub items : List Item
   pub clean : List Item
@@ -43,4 +44,4 @@ pub record IsCleaned (w : Style) (path answer : List ℕ) : Type 0 where
   pub are : AreComponents w path items
   pub form : IsCleanForm items clean
   pub shielded : IsShielded w clean shown
-  pub answers : AreComponents w answer shown
+  pub answers : IsPathOf w shown answer

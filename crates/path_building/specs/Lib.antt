@@ -1,6 +1,7 @@
 pub mod Normal
 pub mod Resolved
 pub mod Join
+pub mod Written
 pub mod Spelled
 pub mod Normalized
 pub mod Cleaned

@@ -8,6 +8,7 @@ use Rattle.path_rules.specs.Component.{Item, Prefix, RootDir, CurDir, ParentDir,
 use Rattle.path_rules.specs.Components.{AreComponents}
 use Rattle.path_rules.specs.Prefix.{Kind, IsPrefixOf, begins_verbatim}
 use Rattle.path_building.specs.Normal.{AreNormalOf}
+use Rattle.path_building.specs.Written.{IsPathOf}
 
 -- the components of a path whose prefix begins with `\\?\`
 abbrev pub AreVerbatim : List Item → Type 0
@@ -40,7 +41,7 @@ IsShielded w items shown = (BeginsAsPrefix w items × (shown ≡ CurDir ∷ item
 abbrev pub IsNormalForm : List Item → List Item → Type 0
 IsNormalForm items normal = (AreVerbatim items × (normal ≡ items)) ⊎ (¬ (AreVerbatim items) × AreNormalOf items normal)
 
--- the answer has the normal form of the path's components
+-- the answer has the normal form of the path's components, written with the main separator
 pub record IsNormalized (w : Style) (path answer : List ℕ) : Type 0 where
   pub items : List Item
   pub normal : List Item
@@ -48,7 +49,7 @@ pub record IsNormalized (w : Style) (path answer : List ℕ) : Type 0 where
   pub are : AreComponents w path items
   pub form : IsNormalForm items normal
   pub shielded : IsShielded w normal shown
-  pub answers : AreComponents w answer shown
+  pub answers : IsPathOf w shown answer
 
 -- a `..` has no name before it to take
 abbrev pub HasNoNormalForm : Style → List ℕ → Type 0

@@ -8,7 +8,7 @@ use Rattle.path_rules.specs.Root.{IsAbsolute}
 use Rattle.path_rules.specs.Compare.{AreAlike, AreAllAlike}
 use Rattle.path_building.specs.Cleaned.{CleansTo}
 use Rattle.path_building.specs.Normalized.{AreVerbatim, BeginsAsPrefix}
-use Rattle.path_building.specs.Spelled.{joined_names}
+use Rattle.path_building.specs.Written.{joined_names, IsPathOf}
 use Rattle.path_building.specs.Join.{IsJoin, without_dot}
 
 -- what the components of a path are cleaned to, also after `\\?\`
@@ -58,7 +58,7 @@ pub record IsWhole (w : Style) (path r : List ℕ) : Type 0 where
   pub shown : List Item
   pub are : AreComponents w path items
   pub form : (AreVerbatim items × CleansTo (reverse items) (reverse shown)) ⊎ (¬ (AreVerbatim items) × (shown ≡ items))
-  pub answers : AreComponents w r shown
+  pub answers : IsPathOf w shown r
 
 -- what is left of a path and of a base, of which both or neither is absolute
 pub record AreLeft (w : Style) (path base : List ℕ) (us vs : List Item) : Type 0 where

@@ -8,6 +8,7 @@ use Rattle.path_rules.specs.Separators.{IsPlain}
 use Rattle.path_rules.specs.Component.{Item, Prefix, RootDir, CurDir, ParentDir, Normal}
 use Rattle.path_rules.specs.Components.{AreComponents}
 use Rattle.path_building.specs.Normalized.{IsReadAsPrefix}
+use Rattle.path_building.specs.Written.{IsPathOf}
 
 -- the style has the component: it has no prefix of the other, and each name in which none of its separators is; a first name is none that it would read as a prefix
 abbrev pub IsHad : Style → Bool → Item → Type 0
@@ -28,9 +29,9 @@ abbrev pub IsFirstUnlike : Style → Bool → List Item → ℕ → Type 0
 IsFirstUnlike w first [] index = ⊥
 IsFirstUnlike w first (x ∷ xs) index = (¬ (IsHad w first x) × (index ≡ 0)) ⊎ (IsHad w first x × ((rest : ℕ) × ((index ≡ rest + 1) × IsFirstUnlike w false xs rest)))
 
--- both paths have the same components, each by its style's rules; a path of the same style is the path itself
+-- a path of the same style is the path itself; of another, both paths have the same components, each by its style's rules, written as that style writes them
 abbrev pub IsRestyled : Style → Style → List ℕ → List ℕ → Type 0
-IsRestyled from to path made = ((from ≡ to) × (made ≡ path)) ⊎ ((items : List Item) × (AreComponents from path items × AreComponents to made items))
+IsRestyled from to path made = ((from ≡ to) × (made ≡ path)) ⊎ ((from ≢ to) × ((items : List Item) × (AreComponents from path items × IsPathOf to items made)))
 
 -- why there is no path of the style with these components
 abbrev pub IsStyleFault : Style → Style → List ℕ → StyleError → Type 0

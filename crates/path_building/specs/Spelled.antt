@@ -10,15 +10,7 @@ use Rattle.path_rules.specs.declared.rules.Style as whose
 use Rattle.path_rules.specs.declared.rules.Style.TheVariants as style
 use Rattle.path_building.specs.Normalized.{BeginsAsPrefix}
 use Rattle.path_rules.specs.Component.{Item, Prefix, RootDir, CurDir, ParentDir, Normal, named}
-use Rattle.path_rules.specs.Prefix.{Kind, Verbatim, VerbatimUnc, VerbatimDisk, Device, Unc, Disk, IsPrefixOf}
-
--- the part that a component is written as
-abbrev pub spelling : Item → List ℕ
-spelling (Prefix s) = []
-spelling RootDir = []
-spelling CurDir = 0x2E ∷ []
-spelling ParentDir = 0x2E ∷ 0x2E ∷ []
-spelling (Normal s) = s
+use Rattle.path_building.specs.Written.{spelling, joined_names, HasEmptyShare}
 
 -- the part that a component is written as names it
 pub record IsSpelled (r : Rules) (x : Item) : Type 0 where
@@ -27,16 +19,6 @@ pub record IsSpelled (r : Rules) (x : Item) : Type 0 where
 
 abbrev pub AreSpelled : Rules → List Item → Type 0
 AreSpelled r xs = AllByRecursion (IsSpelled r) xs
-
--- names after others, each after a separator
-abbrev pub more_names : ℕ → List Item → List ℕ
-more_names c [] = []
-more_names c (x ∷ xs) = c ∷ (spelling x ++ more_names c xs)
-
--- names with separators between them
-abbrev pub joined_names : ℕ → List Item → List ℕ
-joined_names c [] = []
-joined_names c (x ∷ xs) = spelling x ++ more_names c xs
 
 -- the root, twice after a prefix that would grow
 abbrev pub root_bytes : ℕ → Bool → List ℕ
@@ -55,19 +37,7 @@ start_bytes c Nothing doubled names = []
 abbrev pub after_bytes : ℕ → Start → Bool → List Item → List ℕ
 after_bytes c start doubled names = start_bytes c start doubled names ++ joined_names c names
 
--- the prefix is `\\?\UNC\server`, which a name after one separator would belong to
-abbrev pub LacksShare : Kind → Type 0
-LacksShare (Verbatim name) = ⊥
-LacksShare (VerbatimUnc server share) = share ≡ []
-LacksShare (VerbatimDisk letter) = ⊥
-LacksShare (Device name) = ⊥
-LacksShare (Unc server share) = ⊥
-LacksShare (Disk letter) = ⊥
-
-abbrev pub HasEmptyShare : List ℕ → Type 0
-HasEmptyShare s = (kind : Kind) × ((rest : List ℕ) × (IsPrefixOf s kind rest × LacksShare kind))
-
--- before names the root is written twice after such a prefix, and only there
+-- before names the root is written twice after a prefix without a share, and only there
 abbrev pub DoublesRoot : whose.Style → List ℕ → Bool → Type 0
 DoublesRoot style.Unix path doubled = doubled ≡ false
 DoublesRoot style.Windows path doubled = (doubled ≡ true → HasEmptyShare path) × (HasEmptyShare path → doubled ≡ true)

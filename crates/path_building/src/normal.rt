@@ -4,10 +4,10 @@ ghost use Rattle.std.specs.Option.{option_map};
 ghost use Rattle.path_rules.specs.declared.head.Start.TheVariants.{Root, Dot, Nothing};
 ghost use Rattle.path_rules.specs.declared.rules.Rules.TheVariants.{Verbatim};
 ghost use Rattle.path_rules.specs.Component.{components_in};
-ghost use Rattle.path_rules.specs.Components.{AreComponents};
 ghost use Rattle.path_rules.specs.HeadParts.{IsHead};
 ghost use Rattle.path_rules.specs.Heads.{prefix_items, start_items};
 ghost use Rattle.path_rules.specs.Views.{item_of};
+ghost use Rattle.path_building.specs.Written.{IsPathOf};
 ghost use Rattle.path_building.specs.Spelled.{resolve, cleaned, go_up, cleaned_start, AreSpelled, DoublesRoot, MayStart};
 ghost use Rattle.path_rules.specs.Prefix.{begins_verbatim};
 ghost use Rattle.path_building.specs.Normalized.{IsReadAsPrefix, BeginsAsPrefix, IsShielded, IsNormalized, IsNormalizeFault};
@@ -137,8 +137,9 @@ pub(crate) fn written_as<A: Allocator>(
     requires spelled { AreSpelled head.rules (map item_of names.now) }
     requires none { head.rules ≡ Verbatim → head.start ≡ Nothing → map item_of names.now ≡ [] }
     requires may_start { MayStart style head start (map item_of names.now) }
-    ensures { IfOk result (λ written. AreComponents style written.items
-        (prefix_items head.entry.prefix.now ++ (start_items start ++ map item_of names.now))) }
+    ensures { IfOk result (λ written. IsPathOf style
+        (prefix_items head.entry.prefix.now ++ (start_items start ++ map item_of names.now))
+        written.items) }
 {
     let doubled = has_doubled_root(style, path);
     written(

@@ -2,7 +2,8 @@
 ghost use Rattle.std.specs.Prelude.{◌≡◌, ◌++◌, ◌∷◌, [], ◌↔◌, IsTrue, IfOk, OnOk, map};
 ghost use Rattle.path_rules.specs.PrefixViews.{kind_of};
 ghost use Rattle.path_rules.specs.Views.{item_of};
-ghost use Rattle.path_building.specs.Spelled.{spelling, more_names, joined_names, root_bytes, start_bytes, after_bytes, LacksShare, HasEmptyShare};
+ghost use Rattle.path_building.specs.Written.{spelling, more_names, joined_names, LacksShare, HasEmptyShare};
+ghost use Rattle.path_building.specs.Spelled.{root_bytes, start_bytes, after_bytes};
 
 use path_rules::parts::Start;
 use path_rules::{Component, Prefix, windows_prefix};

@@ -11,6 +11,7 @@ use Rattle.path_building.specs.declared.checked.JoinError.{JoinError}
 use Rattle.path_building.specs.declared.checked.JoinError.TheVariants as error
 use Rattle.path_building.specs.Join.{without_dot}
 use Rattle.path_building.specs.Normal.{AreNormalOf}
+use Rattle.path_building.specs.Written.{IsPathOf}
 use Rattle.path_building.specs.Checked.{AreCheckedNames, AreFree, IsCheckedJoin, IsJoinFault, IsVerbatimAlone, LeadsOut, NameNoStream, NamesReserved, NamesStream}
 use Rattle.test_path_uses.proofs.Joins.{OneList}
 
@@ -42,10 +43,10 @@ module _ (list : OneList) (normal : (items one other : List Item) → AreNormalO
       let forms = normal k.items h.inside.normal k.inside.normal (subst (λ x. AreNormalOf x h.inside.normal) items h.inside.form) k.inside.form in
       h.inside.is ∙ ap without_dot forms ∙ sym k.inside.is
 
-  pub names_follow : (joined : List ℕ) → IsCheckedJoin w base path joined → (items names : List Item) → AreComponents w base items → AreCheckedNames w path names → AreComponents w joined (items ++ names)
+  pub names_follow : (joined : List ℕ) → IsCheckedJoin w base path joined → (items names : List Item) → AreComponents w base items → AreCheckedNames w path names → IsPathOf w (items ++ names) joined
   names_follow joined h items names are checked =
-      subst (λ xs. AreComponents w joined (items ++ xs)) (names_same h.names names h.checked checked)
-      (subst (λ xs. AreComponents w joined (xs ++ h.names)) (list w base h.base_items items h.base_are are) h.answers)
+      subst (λ xs. IsPathOf w (items ++ xs) joined) (names_same h.names names h.checked checked)
+      (subst (λ xs. IsPathOf w (xs ++ h.names) joined) (list w base h.base_items items h.base_are are) h.answers)
 
   pub only_memory : (e : JoinError) → IsJoinFault w base path e → (names : List Item) → AreCheckedNames w path names → ¬ (IsVerbatimAlone w base) → e ≡ error.Memory
   only_memory error.Prefix f names k alone = absurd (k.inside.relative.0 f)

@@ -1,5 +1,6 @@
 pub mod Both
 pub mod Checks
+pub mod Writings
 pub mod Forms
 pub mod HiddenBelow
 pub mod Joins

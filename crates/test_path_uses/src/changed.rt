@@ -1,13 +1,13 @@
 //! Paths that are changed in place; where memory is refused they are as they were.
 ghost use Rattle.std.specs.Prelude.{◌≡◌, ◌≢◌, ◌++◌, ◌∷◌, [], ℕ, List, false, IsTrue, IfOk, OnErr, OnOk};
 ghost use Rattle.platform_str.specs.Strings.{bytes, path_bytes, path_vec_of};
-ghost use Rattle.path_rules.specs.Component.{Item, Normal};
-ghost use Rattle.path_rules.specs.Components.{AreComponents, AreUnixComponents};
+ghost use Rattle.path_rules.specs.Component.{Item};
+ghost use Rattle.path_rules.specs.Components.{AreComponents};
 ghost use Rattle.path_rules.specs.Name.{IsExtensionText};
 ghost use Rattle.path_rules.specs.Parent.{IsBelow, HasFileName};
 ghost use Rattle.os_path.specs.Names.{HasFileStem};
-ghost use Rattle.path_building.specs.FileName.{dotted};
 ghost use Rattle.path_building.specs.Join.{IsJoin};
+ghost use Rattle.test_path_uses.specs.Renamed.{IsRenamed, IsExtendedAfter};
 
 use os_path::{PathStyle, add_extension, pop, push, set_extension, set_file_name};
 use path_building::laws as building;
@@ -48,10 +48,8 @@ pub fn named<A: Allocator + Copy>(
     path: &mut PathBuf<Unix, A>,
     name: OsStr<'_, Unix>,
 ) -> Result<(), AllocError>
-    ensures named { OnOk result ((items : List Item) → (last : List ℕ)
-        → AreUnixComponents (path_vec_of path.old).items (items ++ Normal last ∷ [])
-        → AreUnixComponents (bytes name.entry) (Normal (bytes name.entry) ∷ [])
-        → AreUnixComponents (path_vec_of path.new).items (items ++ Normal (bytes name.entry) ∷ [])) }
+    ensures named { OnOk result (IsRenamed (path_vec_of path.old).items (bytes name.entry)
+        (path_vec_of path.new).items) }
     ensures kept { OnErr result ((path_vec_of path.new).items ≡ (path_vec_of path.old).items) }
 {
     laws::one_list();
@@ -67,9 +65,8 @@ pub fn extended<E: PathStyle, A: Allocator>(
     requires { IsExtensionText E.follows (bytes extension) }
     ensures stem { IfOk result (λ is_set. IsTrue is_set → (stem : List ℕ)
         → HasFileStem E.follows (path_vec_of path.old).items stem
-        → (before : List ℕ) × ((after : List ℕ)
-        × (((path_vec_of path.old).items ≡ before ++ (stem ++ after))
-        × ((path_vec_of path.new).items ≡ before ++ (stem ++ dotted (bytes extension.entry)))))) }
+        → IsExtendedAfter (path_vec_of path.old).items stem (bytes extension.entry)
+        (path_vec_of path.new).items) }
     ensures always { IfOk result (λ is_set. (items : List Item) → (name : List ℕ)
         → AreComponents E.follows (path_vec_of path.old).items items
         → HasFileName E.follows (path_vec_of path.old).items name → IsTrue is_set) }
@@ -89,9 +86,8 @@ pub fn extended_again<E: PathStyle, A: Allocator>(
     requires { IsExtensionText E.follows (bytes extension) }
     ensures name { IfOk result (λ is_added. IsTrue is_added → bytes extension.entry ≢ []
         → (name : List ℕ) → HasFileName E.follows (path_vec_of path.old).items name
-        → (before : List ℕ) × ((after : List ℕ)
-        × (((path_vec_of path.old).items ≡ before ++ (name ++ after))
-        × ((path_vec_of path.new).items ≡ before ++ (name ++ dotted (bytes extension.entry)))))) }
+        → IsExtendedAfter (path_vec_of path.old).items name (bytes extension.entry)
+        (path_vec_of path.new).items) }
     ensures always { IfOk result (λ is_added. (items : List Item) → (name : List ℕ)
         → AreComponents E.follows (path_vec_of path.old).items items
         → HasFileName E.follows (path_vec_of path.old).items name → IsTrue is_added) }

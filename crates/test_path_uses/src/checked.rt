@@ -7,6 +7,7 @@ ghost use Rattle.path_building.specs.Normalized.{IsNormalForm};
 ghost use Rattle.path_rules.specs.Prefix.{IsPrefixed};
 ghost use Rattle.path_rules.specs.Root.{BeginsWithSeparator};
 ghost use Rattle.path_rules.specs.StyleRules.{rules_of_style};
+ghost use Rattle.path_building.specs.Written.{IsPathOf};
 ghost use Rattle.path_building.specs.Checked.{AreCheckedNames, BeginsBelow, IsVerbatimAlone, LeadsOut, NamesReserved, NamesStream};
 
 use os_path::{JoinError, PathExt, PathStyle};
@@ -36,7 +37,8 @@ pub fn below<'a, E: PathStyle + 'a, A: Allocator + Copy>(
 }
 
 /// A path whose names are checked, below a base to whose prefix none of them would belong: it is let
-/// through unless memory is refused, and has the base's components and then these names.
+/// through unless memory is refused, and is the base's components and then these names, written with
+/// the main separator.
 pub fn let_through<'a, E: PathStyle + 'a, A: Allocator + Copy>(
     alloc: A,
     base: Path<'a, E>,
@@ -45,7 +47,7 @@ pub fn let_through<'a, E: PathStyle + 'a, A: Allocator + Copy>(
     ensures ok { IfOk result (λ joined. (items : List Item) → (names : List Item)
         → AreComponents E.follows (path_bytes base.entry) items
         → AreCheckedNames E.follows (path_bytes path.entry) names
-        → AreComponents E.follows (path_vec_of joined).items (items ++ names)) }
+        → IsPathOf E.follows (items ++ names) (path_vec_of joined).items) }
     ensures err { IfErr result (λ error. (names : List Item)
         → AreCheckedNames E.follows (path_bytes path.entry) names
         → ¬ (IsVerbatimAlone E.follows (path_bytes base.entry)) → error ≡ JoinError.Memory) }

@@ -21,3 +21,4 @@ pub mod renamed;
 pub mod reserved;
 pub mod roots;
 pub mod styles;
+pub mod written;

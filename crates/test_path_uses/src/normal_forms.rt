@@ -1,5 +1,5 @@
 //! Normal forms and clean forms of paths, which are their own.
-ghost use Rattle.std.specs.Prelude.{◌↔◌, ℕ, List, IsTrue, IfOk, IfSome};
+ghost use Rattle.std.specs.Prelude.{◌≡◌, ◌↔◌, ℕ, List, IsTrue, IfOk, IfSome};
 ghost use Rattle.platform_str.specs.Strings.{path_bytes, path_vec_of};
 ghost use Rattle.path_rules.specs.Component.{Item};
 ghost use Rattle.path_rules.specs.Components.{AreComponents};
@@ -28,16 +28,15 @@ fn in_form<'a, E: PathStyle + 'a, A: Allocator + Copy>(
     }
 }
 
-/// A path in a form: its components are those of each path that is this one in the form.
+/// A path in a form: it is each path that is this one in the form, byte for byte.
 pub fn formed<'a, E: PathStyle + 'a, A: Allocator + Copy>(
     alloc: A,
     form: Form,
     path: Path<'a, E>,
 ) -> Result<PathBuf<E, A>, NormalizeError>
-    ensures { IfOk result (λ made. (other : List ℕ) → (items : List Item)
+    ensures { IfOk result (λ made. (other : List ℕ)
         → IsForm form E.follows (path_bytes path.entry) other
-        → AreComponents E.follows other items
-        → AreComponents E.follows (path_vec_of made).items items) }
+        → (path_vec_of made).items ≡ other) }
 {
     laws::one_list();
     building::normal_forms();
@@ -45,15 +44,13 @@ pub fn formed<'a, E: PathStyle + 'a, A: Allocator + Copy>(
     in_form(alloc, form, path)
 }
 
-/// A path put into a form once and twice: the same components.
+/// A path put into a form once and twice: the same bytes.
 pub fn formed_twice<'a, E: PathStyle + 'a, A: Allocator + Copy>(
     alloc: A,
     form: Form,
     path: Path<'a, E>,
 ) -> Result<(PathBuf<E, A>, PathBuf<E, A>), NormalizeError>
-    ensures { IfOk result (λ both. (items : List Item)
-        → AreComponents E.follows (path_vec_of both.0).items items
-        → AreComponents E.follows (path_vec_of both.1).items items) }
+    ensures { IfOk result (λ both. (path_vec_of both.1).items ≡ (path_vec_of both.0).items) }
 {
     laws::one_list();
     building::normal_forms();

@@ -1,12 +1,12 @@
 //! Paths with another last name or extension, in new memory.
-ghost use Rattle.std.specs.Prelude.{◌≡◌, ◌≢◌, ◌++◌, ◌∷◌, [], ℕ, List, IfOk};
+ghost use Rattle.std.specs.Prelude.{◌≡◌, ◌≢◌, [], ℕ, List, IfOk};
 ghost use Rattle.platform_str.specs.Strings.{bytes, path_bytes, path_vec_of};
-ghost use Rattle.path_rules.specs.Component.{Item, Normal};
-ghost use Rattle.path_rules.specs.Components.{AreComponents, AreUnixComponents};
+ghost use Rattle.path_rules.specs.Component.{Item};
+ghost use Rattle.path_rules.specs.Components.{AreComponents};
 ghost use Rattle.path_rules.specs.Name.{IsExtensionText};
 ghost use Rattle.path_rules.specs.Parent.{HasFileName, HasNoFileName};
 ghost use Rattle.os_path.specs.Names.{HasFileStem};
-ghost use Rattle.path_building.specs.FileName.{dotted};
+ghost use Rattle.test_path_uses.specs.Renamed.{IsRenamed, IsExtendedAfter};
 
 use os_path::{PathExt, PathStyle};
 use path_building::laws as building;
@@ -20,10 +20,8 @@ pub fn with_name<A: Allocator + Copy>(
     path: Path<'_, Unix>,
     name: OsStr<'_, Unix>,
 ) -> Result<PathBuf<Unix, A>, AllocError>
-    ensures { IfOk result (λ named. (items : List Item) → (last : List ℕ)
-        → AreUnixComponents (path_bytes path.entry) (items ++ Normal last ∷ [])
-        → AreUnixComponents (bytes name.entry) (Normal (bytes name.entry) ∷ [])
-        → AreUnixComponents (path_vec_of named).items (items ++ Normal (bytes name.entry) ∷ [])) }
+    ensures { IfOk result (λ named. IsRenamed (path_bytes path.entry) (bytes name.entry)
+        (path_vec_of named).items) }
 {
     laws::one_list();
     building::join_components();
@@ -41,9 +39,8 @@ pub fn with_extension<'a, E: PathStyle + 'a, A: Allocator + Copy>(
     ensures stem { IfOk result (λ made. (items : List Item) → (stem : List ℕ)
         → AreComponents E.follows (path_bytes path.entry) items
         → HasFileStem E.follows (path_bytes path.entry) stem
-        → (before : List ℕ) × ((after : List ℕ)
-        × ((path_bytes path.entry ≡ before ++ (stem ++ after))
-        × ((path_vec_of made).items ≡ before ++ (stem ++ dotted (bytes extension.entry)))))) }
+        → IsExtendedAfter (path_bytes path.entry) stem (bytes extension.entry)
+        (path_vec_of made).items) }
     ensures kept { IfOk result (λ made. HasNoFileName E.follows (path_bytes path.entry)
         → (path_vec_of made).items ≡ path_bytes path.entry) }
 {
@@ -61,9 +58,8 @@ pub fn with_another<'a, E: PathStyle + 'a, A: Allocator + Copy>(
     ensures name { IfOk result (λ made. (items : List Item) → (name : List ℕ)
         → bytes extension.entry ≢ [] → AreComponents E.follows (path_bytes path.entry) items
         → HasFileName E.follows (path_bytes path.entry) name
-        → (before : List ℕ) × ((after : List ℕ)
-        × ((path_bytes path.entry ≡ before ++ (name ++ after))
-        × ((path_vec_of made).items ≡ before ++ (name ++ dotted (bytes extension.entry)))))) }
+        → IsExtendedAfter (path_bytes path.entry) name (bytes extension.entry)
+        (path_vec_of made).items) }
     ensures kept { IfOk result (λ made. HasNoFileName E.follows (path_bytes path.entry)
         → (path_vec_of made).items ≡ path_bytes path.entry) }
 {

@@ -27,4 +27,4 @@ module _ (formed : List ℕ → Type 0) (units : List ℕ → List ℕ) (laws : 
       let items = h.checked.items in
       let normal = from_reversed formed inside.normal (left_formed formed inside.form (reversed formed items (of_items formed units laws cut_prefix cut_suffix w path items inside.are fp))) in
       let names = subst (AreFormed formed) (sym inside.is) (no_dot_formed formed inside.normal normal) in
-      of_path formed units laws cut_prefix cut_suffix w joined (h.base_items ++ h.names) h.answers (joined_formed formed (cuts formed cut_prefix cut_suffix) h.base_items h.names (of_items formed units laws cut_prefix cut_suffix w base h.base_items h.base_are fb) names)
+      of_path formed units laws cut_prefix cut_suffix w joined (h.base_items ++ h.names) h.answers.0 (joined_formed formed (cuts formed cut_prefix cut_suffix) h.base_items h.names (of_items formed units laws cut_prefix cut_suffix w base h.base_items h.base_are fb) names)

@@ -18,7 +18,7 @@ use Rattle.path_rules.specs.Component.{Item, Prefix, RootDir, CurDir, ParentDir,
 use Rattle.path_rules.specs.Heads.{start_items}
 use Rattle.path_rules.specs.Prefix.{rules_of}
 use Rattle.path_rules.specs.Components.{start_of, after_start, plain_components, root_of, after_root, AreWindowsComponents, prefixed, bare, AreComponents}
-use Rattle.path_building.specs.Spelled.{spelling}
+use Rattle.path_building.specs.Written.{spelling}
 use Rattle.path_rules.proofs.lemmas.Ascii.{ascii_separators}
 use Rattle.path_rules.proofs.lemmas.Edges.{edge_after}
 use Rattle.path_building.proofs.lemmas.Spelling.{named_spelled}

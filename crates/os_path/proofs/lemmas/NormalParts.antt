@@ -73,8 +73,8 @@ module _ (formed : List ℕ → Type 0) (units : List ℕ → List ℕ) (laws : 
 
   pub normalized_formed : (w : Style) (path answer : List ℕ) → IsNormalized w path answer → formed path → formed answer
   normalized_formed w path answer h f =
-      of_path w answer h.shown h.answers (shielded_formed formed w h.normal h.shown h.shielded (normal_formed formed h.items h.normal h.form (of_items w path h.items h.are f)))
+      of_path w answer h.shown h.answers.0 (shielded_formed formed w h.normal h.shown h.shielded (normal_formed formed h.items h.normal h.form (of_items w path h.items h.are f)))
 
   pub cleaned_formed : (w : Style) (path answer : List ℕ) → IsCleaned w path answer → formed path → formed answer
   cleaned_formed w path answer h f =
-      of_path w answer h.shown h.answers (shielded_formed formed w h.clean h.shown h.shielded (clean_formed formed h.items h.clean h.form (of_items w path h.items h.are f)))
+      of_path w answer h.shown h.answers.0 (shielded_formed formed w h.clean h.shown h.shielded (clean_formed formed h.items h.clean h.form (of_items w path h.items h.are f)))

@@ -6,7 +6,7 @@ use Rattle.path_rules.specs.declared.rules.Style.{Style}
 use Rattle.path_rules.specs.declared.rules.Style.TheVariants as style
 use Rattle.path_rules.specs.StyleRules.{main_separator}
 use Rattle.path_rules.specs.Component.{Item, Prefix, RootDir, CurDir, ParentDir, Normal}
-use Rattle.path_building.specs.Spelled.{spelling, more_names, joined_names}
+use Rattle.path_building.specs.Written.{spelling, more_names, joined_names}
 use Rattle.path_building.specs.Relative.{AreApart, up_from, AreWritten, IsWhole, IsCandidate}
 use Rattle.os_path.specs.Formed.{IsFormed, AreFormed}
 use Rattle.os_path.proofs.lemmas.Cuts.{cuts}
@@ -53,7 +53,7 @@ module _ (formed : List ℕ → Type 0) (units : List ℕ → List ℕ) (laws : 
     whole_formed : (w : Style) (path r : List ℕ) → IsWhole w path r → formed path → formed r
     whole_formed w path r h fp =
         let items = of_items formed units laws cut_prefix cut_suffix w path h.items h.are fp in
-        of_path formed units laws cut_prefix cut_suffix w r h.shown h.answers (elim h.form as (λ z. AreFormed formed h.shown) [
+        of_path formed units laws cut_prefix cut_suffix w r h.shown h.answers.0 (elim h.form as (λ z. AreFormed formed h.shown) [
           | inl v ↦ from_reversed formed h.shown (clean_left formed v.1 (reversed formed h.items items))
           | inr n ↦ subst (AreFormed formed) (sym n.1) items
         ])

@@ -76,11 +76,11 @@ form_after xs ns left n (inr h) = inr (
 pub begins_below : (w : Style) (base path joined : List ℕ) → IsCheckedJoin w base path joined → (items more normal : List Item) → AreComponents w base items → AreComponents w joined more → IsNormalForm more normal → BeginsBelow items normal
 begins_below w base path joined h items more normal a b f =
     let first : items ≡ h.base_items = one_components w base items h.base_items a h.base_are in
-    let second : more ≡ h.base_items ++ h.names = one_components w joined more (h.base_items ++ h.names) b h.answers in
+    let second : more ≡ h.base_items ++ h.names = one_components w joined more (h.base_items ++ h.names) b h.answers.0 in
     form_below items h.names normal h.checked.inside.alone (subst (λ z. IsNormalForm z normal) (second ∙ ap (λ z. z ++ h.names) (sym first)) f)
 
 pub stays_below : (w : Style) (base path joined : List ℕ) → IsCheckedJoin w base path joined → (items more left : List Item) → AreComponents w base items → AreComponents w joined more → IsNormalForm items left → (names : List Item) × IsNormalForm more (left ++ names)
 stays_below w base path joined h items more left a b f =
     let first : items ≡ h.base_items = one_components w base items h.base_items a h.base_are in
-    let second : more ≡ h.base_items ++ h.names = one_components w joined more (h.base_items ++ h.names) b h.answers in
+    let second : more ≡ h.base_items ++ h.names = one_components w joined more (h.base_items ++ h.names) b h.answers.0 in
     (h.names, subst (λ z. IsNormalForm z (left ++ h.names)) (ap (λ z. z ++ h.names) first ∙ sym second) (form_after items h.names left h.checked.inside.alone f))

@@ -21,7 +21,8 @@ use Rattle.path_rules.specs.Root.{BeginsWithSeparator}
 use Rattle.path_building.specs.Join.{IsRelativeTo, without_dot}
 use Rattle.path_building.specs.Normal.{AreNames}
 use Rattle.path_building.specs.Normalized.{BeginsAsPrefix}
-use Rattle.path_building.specs.Spelled.{spelling, resolve, AreSpelled, MayStart}
+use Rattle.path_building.specs.Written.{spelling, IsPathOf}
+use Rattle.path_building.specs.Spelled.{resolve, AreSpelled, MayStart}
 use Rattle.path_building.specs.Checked.{has_colon, NamesNoStream, IsFree, NameNoStream, AreFree, LeadsInside, AreCheckedNames, IsVerbatimAlone, IsCheckedJoin, LeadsOut}
 use Rattle.path_rules.proofs.lemmas.Bodies.{one_item, no_item, first_item}
 use Rattle.path_rules.proofs.lemmas.Edges.{edge_or_disk}
@@ -352,7 +353,7 @@ alone_parts style.Windows base head (prefixed_head h) a =
 
 -- the joined path
 pub checked_join : (w : whose.Style) (base path joined : List ℕ) (head : Head) → AreComponents w base (items_of head) → IsHead w base head → (names all : List Item) → AreCheckedNames w path names → (head.rules ≡ rules.Verbatim → head.start ≡ Nothing → names ≡ []) → all ≡ components_in head.rules head.body.now ++ names
-    → AreComponents w joined (prefix_items head.prefix.now ++ (start_items head.start ++ all)) → IsCheckedJoin w base path joined
+    → IsPathOf w (prefix_items head.prefix.now ++ (start_items head.start ++ all)) joined → IsCheckedJoin w base path joined
 checked_join w base path joined head are parts names all checked follows e answers = record {
   base_items = items_of head;
   names = names;
@@ -363,5 +364,5 @@ checked_join w base path joined head are parts names all checked follows e answe
       let p = prefix_items head.prefix.now in
       let s = start_items head.start in
       let xs = components_in head.rules head.body.now in
-      subst (AreComponents w joined) (ap (λ z. p ++ (s ++ z)) e ∙ ap (λ z. p ++ z) (sym (append_assoc s xs names)) ∙ sym (append_assoc p (s ++ xs) names)) answers;
+      subst (λ z. IsPathOf w z joined) (ap (λ z. p ++ (s ++ z)) e ∙ ap (λ z. p ++ z) (sym (append_assoc s xs names)) ∙ sym (append_assoc p (s ++ xs) names)) answers;
 }

@@ -21,6 +21,7 @@ use Rattle.path_building.specs.Normal.{LeadsTo, nowhere, prefix, bare_root, root
 use Rattle.path_building.specs.Normalized.{AreVerbatim, BeginsAsPrefix, IsShielded, IsNormalized, HasNoNormalForm}
 use Rattle.path_building.specs.Cleaned as clean
 use Rattle.path_building.specs.Cleaned.{CleansTo, or_dot, IsCleaned}
+use Rattle.path_building.specs.Written.{IsPathOf}
 use Rattle.path_building.specs.Spelled.{resolve, cleaned, cleaned_start, AreSpelled}
 use Rattle.path_rules.proofs.lemmas.AfterPrefix.{some_of}
 use Rattle.path_rules.proofs.lemmas.OneList.{one_components}
@@ -169,7 +170,7 @@ module _ (w : whose.Style) (path : List ℕ) (head : Head) (are : AreComponents 
   pub kept_some : begins_verbatim head.prefix.now ≡ true → head.prefix.now ≢ []
   kept_some e n = let never : false ≡ true = sym (ap begins_verbatim n) ∙ e in cc
 
-  pub kept_normal : (names : List Item) (answer : List ℕ) → begins_verbatim head.prefix.now ≡ true → names ≡ components_in head.rules head.body.now → AreComponents w answer (prefix_items head.prefix.now ++ (start_items head.start ++ names)) → IsNormalized w path answer
+  pub kept_normal : (names : List Item) (answer : List ℕ) → begins_verbatim head.prefix.now ≡ true → names ≡ components_in head.rules head.body.now → IsPathOf w (prefix_items head.prefix.now ++ (start_items head.start ++ names)) answer → IsNormalized w path answer
   kept_normal names answer e same answers = record {
     items = items_of head;
     normal = items_of head;
@@ -177,10 +178,10 @@ module _ (w : whose.Style) (path : List ℕ) (head : Head) (are : AreComponents 
     are = are;
     form = inl (verbatim_yes head.prefix.now (start_items head.start ++ components_in head.rules head.body.now) e, refl);
     shielded = shielded_after w head.prefix.now head.start (components_in head.rules head.body.now) (kept_some e);
-    answers = subst (λ z. AreComponents w answer (prefix_items head.prefix.now ++ (start_items head.start ++ z))) same answers;
+    answers = subst (λ z. IsPathOf w (prefix_items head.prefix.now ++ (start_items head.start ++ z)) answer) same answers;
   }
 
-  pub kept_clean : (names : List Item) (answer : List ℕ) → begins_verbatim head.prefix.now ≡ true → names ≡ components_in head.rules head.body.now → AreComponents w answer (prefix_items head.prefix.now ++ (start_items head.start ++ names)) → IsCleaned w path answer
+  pub kept_clean : (names : List Item) (answer : List ℕ) → begins_verbatim head.prefix.now ≡ true → names ≡ components_in head.rules head.body.now → IsPathOf w (prefix_items head.prefix.now ++ (start_items head.start ++ names)) answer → IsCleaned w path answer
   kept_clean names answer e same answers = record {
     items = items_of head;
     clean = items_of head;
@@ -188,7 +189,7 @@ module _ (w : whose.Style) (path : List ℕ) (head : Head) (are : AreComponents 
     are = are;
     form = inl (verbatim_yes head.prefix.now (start_items head.start ++ components_in head.rules head.body.now) e, refl);
     shielded = shielded_after w head.prefix.now head.start (components_in head.rules head.body.now) (kept_some e);
-    answers = subst (λ z. AreComponents w answer (prefix_items head.prefix.now ++ (start_items head.start ++ z))) same answers;
+    answers = subst (λ z. IsPathOf w (prefix_items head.prefix.now ++ (start_items head.start ++ z)) answer) same answers;
   }
 
   pub other_verbatim : begins_verbatim head.prefix.now ≡ false → ¬ (AreVerbatim (items_of head))
@@ -205,7 +206,7 @@ module _ (w : whose.Style) (path : List ℕ) (head : Head) (are : AreComponents 
       let q = resolve_leads r rb (top_grounded r p st (dots_left w path head h)) [] xs rb (reverse names) (body_spelled r head.body.now) tt (top_leads p st (no_dot_after w path head h)) e in
       subst (λ z. LeadsTo z (reverse (prefix_items p ++ (start_items st ++ names)))) (onto_is xs rb ∙ sym (reverse_items p st xs)) (subst (LeadsTo (onto xs rb)) (sym (reverse_items p st names)) q)
 
-  pub resolved_normal : (names shown : List Item) (answer : List ℕ) → begins_verbatim head.prefix.now ≡ false → resolve [] (components_in head.rules head.body.now) ≡ Some (reverse names) → IsShielded w (prefix_items head.prefix.now ++ (start_items head.start ++ names)) shown → AreComponents w answer shown → IsNormalized w path answer
+  pub resolved_normal : (names shown : List Item) (answer : List ℕ) → begins_verbatim head.prefix.now ≡ false → resolve [] (components_in head.rules head.body.now) ≡ Some (reverse names) → IsShielded w (prefix_items head.prefix.now ++ (start_items head.start ++ names)) shown → IsPathOf w shown answer → IsNormalized w path answer
   resolved_normal names shown answer v e shield answers = record {
     items = items_of head;
     normal = prefix_items head.prefix.now ++ (start_items head.start ++ names);
@@ -256,7 +257,7 @@ module _ (w : whose.Style) (path : List ℕ) (head : Head) (are : AreComponents 
         let q = cleaned_cleans r rb rooted (clean_stays rooted p st down back) [] xs done (body_spelled r head.body.now) tt (clean_top p st (no_dot_after w path head h)) in
         subst (λ z. CleansTo z (reverse (prefix_items p ++ (cleaned_start st ++ names)))) (onto_is xs done ∙ sym (reverse_items p st xs)) (subst (CleansTo (onto xs done)) (sym (ap (λ z. z ++ rb) e) ∙ sym (reverse_clean p st names)) q)
 
-    pub cleaned_clean : (shown : List Item) (answer : List ℕ) → begins_verbatim head.prefix.now ≡ false → IsShielded w (or_dot (prefix_items head.prefix.now ++ (cleaned_start head.start ++ names))) shown → AreComponents w answer shown → IsCleaned w path answer
+    pub cleaned_clean : (shown : List Item) (answer : List ℕ) → begins_verbatim head.prefix.now ≡ false → IsShielded w (or_dot (prefix_items head.prefix.now ++ (cleaned_start head.start ++ names))) shown → IsPathOf w shown answer → IsCleaned w path answer
     cleaned_clean shown answer v shield answers = record {
       items = items_of head;
       clean = or_dot (prefix_items head.prefix.now ++ (cleaned_start head.start ++ names));

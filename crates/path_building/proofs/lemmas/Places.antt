@@ -13,7 +13,8 @@ use Rattle.path_rules.specs.HeadParts.{IsHead}
 use Rattle.path_rules.specs.Prefix.{begins_verbatim}
 use Rattle.path_rules.specs.Compare.{AreAlike, AreAllAlike}
 use Rattle.path_building.specs.Cleaned.{CleansTo}
-use Rattle.path_building.specs.Spelled.{cleaned, cleaned_start, joined_names, after_bytes}
+use Rattle.path_building.specs.Written.{joined_names, IsPathOf}
+use Rattle.path_building.specs.Spelled.{cleaned, cleaned_start, after_bytes}
 use Rattle.path_building.specs.Relative.{IsPlace, AreOnePlace, AreApart, IsWhole}
 use Rattle.path_building.proofs.lemmas.Again.{one_clean}
 use Rattle.path_building.proofs.lemmas.Forms.{no_dot_after, kept_some, verbatim_yes, other_verbatim, cleaned_leads}
@@ -38,7 +39,7 @@ module _ (w : Style) (path : List ℕ) (head : Head) (are : AreComponents w path
       let same : prefix_items head.prefix.now ++ (cleaned_start head.start ++ names) ≡ all = sym (append_assoc (prefix_items head.prefix.now) (cleaned_start head.start) names) ∙ sym f in
       (items_of head, (are, subst (λ z. CleansTo (reverse (items_of head)) (reverse z)) same (cleaned_leads w path head are h rooted down back names e)))
 
-  pub whole_verbatim : (r : List ℕ) → begins_verbatim head.prefix.now ≡ true → AreComponents w r (prefix_items head.prefix.now ++ (start_items head.start ++ names)) → IsWhole w path r
+  pub whole_verbatim : (r : List ℕ) → begins_verbatim head.prefix.now ≡ true → IsPathOf w (prefix_items head.prefix.now ++ (start_items head.start ++ names)) r → IsWhole w path r
   whole_verbatim r v answers = record {
     items = items_of head;
     shown = prefix_items head.prefix.now ++ (start_items head.start ++ names);
@@ -52,13 +53,13 @@ module _ (w : Style) (path : List ℕ) (head : Head) (are : AreComponents w path
       starts Dot n = absurd (n refl)
       starts Nothing n = refl
 
-pub whole_other : (w : Style) (path : List ℕ) (head : Head) → AreComponents w path (items_of head) → IsHead w path head → (names : List Item) (r : List ℕ) → begins_verbatim head.prefix.now ≡ false → names ≡ components_in head.rules head.body.now → AreComponents w r (prefix_items head.prefix.now ++ (start_items head.start ++ names)) → IsWhole w path r
+pub whole_other : (w : Style) (path : List ℕ) (head : Head) → AreComponents w path (items_of head) → IsHead w path head → (names : List Item) (r : List ℕ) → begins_verbatim head.prefix.now ≡ false → names ≡ components_in head.rules head.body.now → IsPathOf w (prefix_items head.prefix.now ++ (start_items head.start ++ names)) r → IsWhole w path r
 whole_other w path head are h names r v same answers = record {
   items = items_of head;
   shown = items_of head;
   are = are;
   form = inr (other_verbatim w path head are h v, refl);
-  answers = subst (λ z. AreComponents w r (prefix_items head.prefix.now ++ (start_items head.start ++ z))) same answers;
+  answers = subst (λ z. IsPathOf w (prefix_items head.prefix.now ++ (start_items head.start ++ z)) r) same answers;
 }
 
 -- names after no prefix and no start

@@ -9,7 +9,8 @@ use Rattle.path_rules.specs.declared.head.Start.TheVariants.{Root, Dot, Nothing}
 use Rattle.path_rules.specs.Separators.{separates, IsPlain, IsCut, Edge}
 use Rattle.path_rules.specs.Component.{Item, CurDir, ParentDir, Normal, dot, named, components_in}
 use Rattle.path_rules.specs.Components.{start_of}
-use Rattle.path_building.specs.Spelled.{spelling, more_names, joined_names, IsSpelled, AreSpelled}
+use Rattle.path_building.specs.Written.{spelling, more_names, joined_names}
+use Rattle.path_building.specs.Spelled.{IsSpelled, AreSpelled}
 use Rattle.path_rules.proofs.lemmas.Bodies.{one_item, first_item, no_first_item}
 use Rattle.path_rules.proofs.lemmas.Edges.{and_true}
 use Rattle.path_rules.proofs.lemmas.Starts.{same_start}

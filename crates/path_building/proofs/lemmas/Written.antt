@@ -16,7 +16,8 @@ use Rattle.path_rules.specs.Heads.{prefix_items, start_items}
 use Rattle.path_rules.specs.HeadParts.{IsHead, IsBareHead, IsPrefixedHead, bare_head, prefixed_head}
 use Rattle.path_rules.specs.Components.{start_of, plain_components, implied_root, root_of, after_root, ArePrefixed, AreComponents, AreWindowsComponents, prefixed, bare}
 use Rattle.path_building.specs.Normalized.{BeginsAsPrefix}
-use Rattle.path_building.specs.Spelled.{spelling, more_names, joined_names, after_bytes, LacksShare, MayStart, DoublesRoot, AreSpelled}
+use Rattle.path_building.specs.Written.{spelling, more_names, joined_names, LacksShare}
+use Rattle.path_building.specs.Spelled.{after_bytes, MayStart, DoublesRoot, AreSpelled}
 use Rattle.path_rules.proofs.lemmas.AfterPrefix.{after_prefix, some_prefix}
 use Rattle.path_rules.proofs.lemmas.Edges.{edge_or_disk}
 use Rattle.path_building.proofs.lemmas.Moves.{Fits, prefix_moves}
@@ -118,7 +119,7 @@ fits_root (Device n) rest u e l = refl
 fits_root (Unc n m) rest u e l = refl
 fits_root (Disk n) rest u e l = tt
 
-fits_nothing : (kind : Kind) (rest : List ℕ) → Fits kind rest []
+pub fits_nothing : (kind : Kind) (rest : List ℕ) → Fits kind rest []
 fits_nothing (Verbatim n) rest = record { edge = tt; none = λ z. refl }
 fits_nothing (VerbatimUnc n m) rest = (record { edge = tt; none = λ z. refl }, λ z. tt)
 fits_nothing (VerbatimDisk l) rest = record { edge = tt; none = λ z. refl }

@@ -1,7 +1,7 @@
 use Rattle.std.proofs.Common.{◌≡◌, ◌++◌, map, reverse, sym, ap, ◌∙◌, subst}
 use Rattle.path_rules.specs.Views.{item_of}
 use Rattle.path_rules.specs.Heads.{prefix_items, start_items}
-use Rattle.path_rules.specs.Components.{AreComponents}
+use Rattle.path_building.specs.Written.{IsPathOf}
 use Rattle.path_building.specs.Spelled.{AreSpelled}
 use Rattle.path_building.specs.Cleaned.{IsCleaned}
 use Rattle.path_building.proofs.lemmas.Forms.{if_ok, nothing_after, kept_clean, no_dot_after, cleaned_clean, cleaned_names_spelled, cleaned_none}
@@ -22,7 +22,7 @@ pub returns-then-is_verbatim : goal.returns-then-is_verbatim
 returns-then-is_verbatim g c =
     let head = c.head_of-head.result in
     let names = map item_of c.deref.result.now in
-    if_ok (λ z. AreComponents c.args.style z.items (prefix_items head.prefix.now ++ (start_items head.start ++ names))) (λ z. IsCleaned c.args.style c.args.path.now z.items) c.written_as.result
+    if_ok (λ z. IsPathOf c.args.style (prefix_items head.prefix.now ++ (start_items head.start ++ names)) z.items) (λ z. IsCleaned c.args.style c.args.path.now z.items) c.written_as.result
     (λ z a. kept_clean c.args.style c.args.path.now head c.head_of-head.ensures.items c.head_of-head.ensures.parts names z.items (sym c.is_verbatim.ensures ∙ c.if-is_verbatim.true) (ap (map item_of) c.deref.ensures.value ∙ c.in_ok-names.ensures) a) c.written_as.ensures
 
 pub clean_start-start-requires : goal.clean_start-start-requires
@@ -45,5 +45,5 @@ returns g c =
     let names = map item_of c.as_slice-kept.result.now in
     let start = c.clean_start-start.result in
     let same : names ≡ map item_of c.in_ok-names-2.names.items = ap (map item_of) c.as_slice-kept.ensures.value in
-    if_ok (λ z. AreComponents c.args.style z.items (prefix_items head.prefix.now ++ (start_items start ++ names))) (λ z. IsCleaned c.args.style c.args.path.now z.items) c.written_as-2.result
+    if_ok (λ z. IsPathOf c.args.style (prefix_items head.prefix.now ++ (start_items start ++ names)) z.items) (λ z. IsCleaned c.args.style c.args.path.now z.items) c.written_as-2.result
     (λ z a. cleaned_clean c.args.style c.args.path.now head c.head_of-head.ensures.items c.head_of-head.ensures.parts c.is_root.result c.is_root.ensures.0 c.is_root.ensures.1 names (ap reverse same ∙ c.in_ok-names-2.ensures) (prefix_items head.prefix.now ++ (start_items start ++ names)) z.items (sym c.is_verbatim.ensures ∙ c.if-is_verbatim.false) c.clean_start-start.ensures.shield a) c.written_as-2.ensures

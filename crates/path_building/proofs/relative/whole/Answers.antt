@@ -1,5 +1,5 @@
 use Rattle.std.proofs.Common.{◌≡◌, ◌++◌, map, reverse, sym, ap, ◌∙◌, subst}
-use Rattle.path_rules.specs.Components.{AreComponents}
+use Rattle.path_building.specs.Written.{IsPathOf}
 use Rattle.path_rules.specs.Heads.{prefix_items, start_items}
 use Rattle.path_rules.specs.Views.{item_of}
 use Rattle.path_building.specs.Spelled.{AreSpelled}
@@ -28,7 +28,7 @@ returns-then-is_verbatim g c =
     let head = c.head_of-head.result in
     let names = map item_of c.deref.result.now in
     let same : reverse names ≡ reverse (map item_of c.in_ok-names.names.items) = ap (λ z. reverse (map item_of z)) c.deref.ensures.value in
-    if_ok (λ z. AreComponents w z.items (prefix_items head.prefix.now ++ (start_items head.start ++ names))) (λ z. IsWhole w path z.items) c.written_as.result
+    if_ok (λ z. IsPathOf w (prefix_items head.prefix.now ++ (start_items head.start ++ names)) z.items) (λ z. IsWhole w path z.items) c.written_as.result
     (λ z a. whole_verbatim w path head c.head_of-head.ensures.items c.head_of-head.ensures.parts c.is_root.result c.is_root.ensures.0 c.is_root.ensures.1 names (same ∙ c.in_ok-names.ensures) z.items (sym c.is_verbatim.ensures ∙ c.if-is_verbatim.true) a) c.written_as.ensures
 
 pub written_as-requires-2-clause-spelled : goal.written_as-requires-2-clause-spelled
@@ -52,5 +52,5 @@ returns g c =
     let path = c.args.path.now in
     let head = c.head_of-head.result in
     let names = map item_of c.deref-2.result.now in
-    if_ok (λ z. AreComponents w z.items (prefix_items head.prefix.now ++ (start_items head.start ++ names))) (λ z. IsWhole w path z.items) c.written_as-2.result
+    if_ok (λ z. IsPathOf w (prefix_items head.prefix.now ++ (start_items head.start ++ names)) z.items) (λ z. IsWhole w path z.items) c.written_as-2.result
     (λ z a. whole_other w path head c.head_of-head.ensures.items c.head_of-head.ensures.parts names z.items (sym c.is_verbatim.ensures ∙ c.if-is_verbatim.false) (ap (map item_of) c.deref-2.ensures.value ∙ c.in_ok-names-2.ensures) a) c.written_as-2.ensures

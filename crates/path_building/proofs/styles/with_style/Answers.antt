@@ -1,4 +1,4 @@
-use Rattle.std.proofs.Common.{◌≡◌, ◌++◌, true, map, ap, ◌∙◌, subst}
+use Rattle.std.proofs.Common.{◌≡◌, ◌≢◌, ◌++◌, true, map, ap, ◌∙◌, subst}
 use Rattle.path_rules.specs.Heads.{items_of}
 use Rattle.path_rules.specs.Views.{item_of}
 use Rattle.path_building.specs.Restyled.{AreHad}
@@ -15,4 +15,5 @@ returns-clause-ok g c =
     let first : map item_of c.deref.result.now ≡ c.new.result.items = ap (map item_of) c.deref.ensures.value ∙ c.in_ok-add_all.ensures ∙ ap (λ z. map item_of z ++ c.new.result.items) c.new-items.ensures.items in
     let same : c.new.result.items ≡ items_of head = one_components from path c.new.result.items (items_of head) c.new.ensures.items c.head_of-head.ensures.items in
     let had = subst (AreHad to true) (first ∙ same) c.in_default.ensures in
-    restyled from to path head c.head_of-head.ensures.items c.head_of-head.ensures.parts had (map item_of c.deref-2.result.now) c.as_slice-none.result.now c.in_ok-written.field-0.items c.main_separator.result (ap (map item_of) c.deref-2.ensures.value ∙ c.in_ok-names.ensures) c.as_slice-none.ensures c.main_separator.ensures c.in_ok-written.ensures
+    let other : from ≢ to = Prim.search Rattle.std.proofs.Common.rules in
+    restyled from to path head c.head_of-head.ensures.items c.head_of-head.ensures.parts had other (map item_of c.deref-2.result.now) c.as_slice-none.result.now c.in_ok-written.field-0.items c.main_separator.result (ap (map item_of) c.deref-2.ensures.value ∙ c.in_ok-names.ensures) c.as_slice-none.ensures c.main_separator.ensures c.in_ok-written.ensures

@@ -1,6 +1,6 @@
 use Rattle.std.proofs.Common.{subst}
 use Rattle.path_rules.specs.PrefixViews.{kind_of}
-use Rattle.path_building.specs.Spelled.{LacksShare}
+use Rattle.path_building.specs.Written.{LacksShare}
 use Rattle.path_rules.proofs.lemmas.OneList.{one_prefix}
 use Rattle.path_building.proofs.writing.has_empty_share.Goals as goal
 

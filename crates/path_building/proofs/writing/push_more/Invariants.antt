@@ -1,6 +1,6 @@
 use Rattle.std.proofs.Common.{◌≡◌, ◌++◌, map, drop}
 use Rattle.path_rules.specs.Views.{item_of}
-use Rattle.path_building.specs.Spelled.{more_names}
+use Rattle.path_building.specs.Written.{more_names}
 use Rattle.path_building.proofs.writing.push_more.Given as goal
 
 abbrev pub invariant-loop-name : goal.invariant-loop-name

@@ -1,8 +1,8 @@
 use Rattle.std.proofs.Common.{subst}
-use Rattle.platform_str.specs.Strings.{path_bytes}
+use Rattle.platform_str.specs.Strings.{path_bytes, path_vec_of}
 use Rattle.os_path.specs.Converted.{IsConvertFault}
-use Rattle.test_path_uses.proofs.Both.{with_err}
-use Rattle.test_path_uses.proofs.OtherStyle.{one_index}
+use Rattle.test_path_uses.proofs.Both.{with_ok, with_err}
+use Rattle.test_path_uses.proofs.OtherStyle.{one_index, written_anew}
 use Rattle.test_path_uses.proofs.styles.converted.Goals as goal
 
 pub returns-clause-first : goal.returns-clause-first
@@ -11,3 +11,8 @@ returns-clause-first g c =
     let s = path_bytes c.args.path in
     let fault = subst (IsConvertFault g.E.PathStyle.follows g.F.PathStyle.follows g.F.Platform.first_fault s) e h in
     one_index c.one_list.ensures.items g.E.PathStyle.follows g.F.PathStyle.follows s index known items fault.1.0 fault.1.1.0 fault.1.1.1 are first)
+
+pub returns-clause-written : goal.returns-clause-written
+returns-clause-written g c =
+    with_ok c.with_style.result c.with_style.ensures.ok (λ made h items other are.
+    written_anew c.one_list.ensures.items g.E.PathStyle.follows g.F.PathStyle.follows (path_bytes c.args.path) (path_vec_of made).items h items other are)

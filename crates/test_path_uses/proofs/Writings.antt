@@ -1,0 +1,72 @@
+-- How paths of known components are written.
+use Rattle.std.proofs.Common.{◌≡◌, ◌≢◌, inl, inr, ℕ, true, false, List, [], ◌∷◌, ◌++◌, codes, refl, sym, ◌∙◌, subst}
+use Rattle.path_rules.specs.declared.rules.Style as whose
+use Rattle.path_rules.specs.declared.rules.Style.TheVariants as style
+use Rattle.path_rules.specs.Component.{Item, Prefix, RootDir, CurDir, ParentDir, Normal}
+use Rattle.path_rules.specs.Components.{AreComponents, prefixed}
+use Rattle.path_rules.specs.Prefix.{Disk, IsPrefixOf}
+use Rattle.path_building.specs.Normal.{AreNormalOf, root, name, up}
+use Rattle.path_building.specs.Normalized.{IsNormalized}
+use Rattle.path_building.specs.Cleaned as clean
+use Rattle.path_building.specs.Cleaned.{IsCleaned}
+use Rattle.path_building.specs.Written.{LacksShare, HasEmptyShare, IsWritten, IsPathOf}
+
+-- components are written in one way
+pub one_writing : (w : whose.Style) (items : List Item) (one other : List ℕ) → IsWritten w items one → IsWritten w items other → one ≡ other
+one_writing w items one other (inl h) (inl k) = h.1 ∙ sym k.1
+one_writing w items one other (inl h) (inr k) = absurd (k.0 h.0)
+one_writing w items one other (inr h) (inl k) = absurd (h.0 k.0)
+one_writing w items one other (inr h) (inr k) = h.1 ∙ sym k.1
+
+-- a drive has no share
+no_share : ¬ (HasEmptyShare (codes "C:"))
+no_share h = subst LacksShare h.1.1.0.0 h.1.1.1
+
+-- `C:/a/../b`, `C:\b` and their components
+abbrev before : List Item
+before = Prefix (codes "C:") ∷ RootDir ∷ Normal (codes "a") ∷ ParentDir ∷ Normal (codes "b") ∷ []
+
+abbrev after : List Item
+after = Prefix (codes "C:") ∷ RootDir ∷ Normal (codes "b") ∷ []
+
+before_are : AreComponents style.Windows (codes "C:/a/../b") before
+before_are = prefixed (record { kind = Disk 0x43; raw = codes "C:"; rest = codes "/a/../b"; joined = refl; prefix = (refl, refl); are = refl })
+
+after_are : IsPathOf style.Windows after (codes "C:\\b")
+after_are = (prefixed (record { kind = Disk 0x43; raw = codes "C:"; rest = codes "\\b"; joined = refl; prefix = (refl, refl); are = refl }), inr (no_share, refl))
+
+pub normal_form : IsNormalized style.Windows (codes "C:/a/../b") (codes "C:\\b")
+normal_form = record {
+  items = before;
+  normal = after;
+  shown = after;
+  are = before_are;
+  form = inr (λ v. let never : false ≡ true = v in cc, name (up (name root)));
+  shielded = inr (λ b. b, refl);
+  answers = after_are;
+}
+
+pub clean_form : IsCleaned style.Windows (codes "C:/a/../b") (codes "C:\\b")
+clean_form = record {
+  items = before;
+  clean = after;
+  shown = after;
+  are = before_are;
+  form = inr (λ v. let never : false ≡ true = v in cc, (after, (clean.name (clean.up (clean.name clean.root)), refl)));
+  shielded = inr (λ b. b, refl);
+  answers = after_are;
+}
+
+-- `C:/a` and `b/c` below it
+pub base_are : AreComponents style.Windows (codes "C:/a") (Prefix (codes "C:") ∷ RootDir ∷ Normal (codes "a") ∷ [])
+base_are = prefixed (record { kind = Disk 0x43; raw = codes "C:"; rest = codes "/a"; joined = refl; prefix = (refl, refl); are = refl })
+
+pub below_written : IsWritten style.Windows (Prefix (codes "C:") ∷ RootDir ∷ Normal (codes "a") ∷ Normal (codes "b") ∷ Normal (codes "c") ∷ []) (codes "C:\\a\\b\\c")
+below_written = inr (no_share, refl)
+
+-- `/a//b` on Windows
+pub unix_are : AreComponents style.Unix (codes "/a//b") (RootDir ∷ Normal (codes "a") ∷ Normal (codes "b") ∷ [])
+unix_are = refl
+
+pub restyled_written : IsWritten style.Windows (RootDir ∷ Normal (codes "a") ∷ Normal (codes "b") ∷ []) (codes "\\a\\b")
+restyled_written = inr (λ h. h, refl)
