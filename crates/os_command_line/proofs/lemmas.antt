@@ -5,10 +5,13 @@ pub mod ShellBare
 pub mod ShellDollar
 pub mod ShellEachLine
 pub mod ShellForms
+pub mod ShellGaps
 pub mod ShellItems
 pub mod ShellJoining
+pub mod ShellMeaning
 pub mod ShellOneReading
 pub mod ShellOnLine
+pub mod ShellOwnText
 pub mod ShellParts
 pub mod ShellRoundTrip
 pub mod ShellQuoted
@@ -21,7 +24,11 @@ pub mod WindowsLifted
 pub mod WindowsStrings
 pub mod WindowsScan
 pub mod WindowsUnits
+pub mod WindowsRuns
+pub mod WindowsMeaning
+pub mod WindowsAtQuote
 pub mod WindowsPieces
+pub mod WindowsLastPiece
 pub mod WindowsChecks
 pub mod WindowsCuts
 pub mod WindowsWriting

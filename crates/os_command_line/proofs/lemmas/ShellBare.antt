@@ -18,7 +18,7 @@ use Rattle.os_command_line.specs.Shell.Reads.{ends, bare}
 use Rattle.os_command_line.specs.ShellReader.{is_itself, raw_bytes, bytes_left, meant, outcome}
 use Rattle.os_command_line.specs.ShellSteps.{AreItself, BeginsBare, is_bare_form, IsFormOf, IsLineFormOf, IsPlainIfBare}
 use Rattle.os_command_line.specs.ShellWriting.{is_plain, are_plain, is_plain_name, HasNoNul, IsLineText}
-use Rattle.os_command_line.proofs.lemmas.ShellItems.{meant_short}
+use Rattle.os_command_line.proofs.lemmas.ShellMeaning.{meant_short}
 use Rattle.os_command_line.proofs.lemmas.ShellOneReading.{complete, or_false, or_true}
 use Rattle.os_command_line.proofs.lemmas.ShellRoundTrip.{no_dollar, none_of}
 

@@ -7,7 +7,7 @@ use Rattle.os_command_line.specs.Shell.Outcome.{Word}
 use Rattle.os_command_line.specs.Shell.Reads.{ends, single}
 use Rattle.os_command_line.specs.ShellReader.{meant, outcome}
 use Rattle.os_command_line.specs.ShellSteps.{BeginsQuoted}
-use Rattle.os_command_line.proofs.lemmas.ShellItems.{meant_is}
+use Rattle.os_command_line.proofs.lemmas.ShellMeaning.{meant_is}
 use Rattle.os_command_line.proofs.lemmas.ShellOneReading.{complete}
 
 module _ (l : Language) (text quoted rest : List ℕ) (b : BeginsQuoted text quoted rest) where

@@ -11,7 +11,7 @@ use Rattle.os_command_line.specs.Shell.{single_quote, double_quote, backslash, n
 use Rattle.os_command_line.specs.Shell.Outcome.{Word, Fault}
 use Rattle.os_command_line.specs.ShellReader.{is_start, escape_step, bare_step, outside_step, double_escape_step, meaning_step, octal_step, letter_step, dollar_escape_step, step, is_outside, at_end, opened, run, meant, outcome, passed}
 use Rattle.os_command_line.proofs.lemmas.ShellOneReading.{prepend_nothing, prepend_twice, no_text, go, refuse, stop}
-use Rattle.os_command_line.proofs.lemmas.ShellItems.{cut_word}
+use Rattle.os_command_line.proofs.lemmas.ShellMeaning.{cut_word}
 use Rattle.os_command_line.proofs.lemmas.WindowsUnits.{cut_before_end}
 
 -- ---- a step passes over no more bytes than there are

@@ -1,7 +1,7 @@
 use Rattle.std.proofs.Common.{◌∙◌, ap, sym}
 use Rattle.std.proofs.lemmas.List.{nil_from_length}
 use Rattle.os_command_line.specs.ShellReader.{after_gap}
-use Rattle.os_command_line.proofs.lemmas.ShellItems.{gap_blank, gap_joined, gap_over, gap_none}
+use Rattle.os_command_line.proofs.lemmas.ShellGaps.{gap_blank, gap_joined, gap_over, gap_none}
 use Rattle.os_command_line.proofs.shell.scan.skip_gap.Goals as goal
 
 pub loop-first-preserved-then-is_blank : goal.loop-first-preserved-then-is_blank

@@ -2,7 +2,7 @@ use Rattle.std.proofs.Common.{◌∙◌, sym, ap}
 use Rattle.std.specs.Prelude.{Some, None}
 use Rattle.std.proofs.lemmas.List.{nil_from_length}
 use Rattle.os_command_line.specs.declared.shell.step.Step.TheVariants.{Go}
-use Rattle.os_command_line.proofs.lemmas.ShellItems.{meant_go, meant_stop, meant_refuse, meant_end}
+use Rattle.os_command_line.proofs.lemmas.ShellMeaning.{meant_go, meant_stop, meant_refuse, meant_end}
 use Rattle.os_command_line.proofs.lemmas.ShellScan.{go_within}
 use Rattle.os_command_line.proofs.shell.word_bytes.next_marked.Goals as goal
 

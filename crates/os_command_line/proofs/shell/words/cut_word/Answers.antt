@@ -1,7 +1,7 @@
 use Rattle.std.proofs.Common.{◌∙◌, ap, sym, arith, length, length-append}
 use Rattle.os_command_line.specs.Shell.Outcome.{Word}
 use Rattle.os_command_line.proofs.lemmas.ShellBare.{bare_outcome}
-use Rattle.os_command_line.proofs.lemmas.ShellItems.{cut_word}
+use Rattle.os_command_line.proofs.lemmas.ShellMeaning.{cut_word}
 use Rattle.os_command_line.proofs.lemmas.ShellScan.{word_within}
 use Rattle.os_command_line.proofs.shell.words.cut_word.Goals as goal
 

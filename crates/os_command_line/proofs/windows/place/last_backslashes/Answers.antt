@@ -1,4 +1,4 @@
-use Rattle.os_command_line.proofs.lemmas.WindowsPieces.{run_at}
+use Rattle.os_command_line.proofs.lemmas.WindowsAtQuote.{run_at}
 use Rattle.os_command_line.proofs.windows.place.last_backslashes.Goals as goal
 
 pub returns-then-last-ne92 : goal.returns-then-last-ne92

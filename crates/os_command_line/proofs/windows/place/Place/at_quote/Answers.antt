@@ -3,7 +3,7 @@ use Rattle.std.proofs.lemmas.Bool.{eqb-true, true≢false}
 use Rattle.std.proofs.lemmas.List.{nil_from_length}
 use Rattle.os_command_line.specs.WindowsSteps.{IsAtQuote}
 use Rattle.os_command_line.proofs.lemmas.WindowsCuts.{not_empty}
-use Rattle.os_command_line.proofs.lemmas.WindowsPieces.{at_closing, at_name, at_odd, at_even}
+use Rattle.os_command_line.proofs.lemmas.WindowsAtQuote.{at_closing, at_name, at_odd, at_even}
 use Rattle.os_command_line.proofs.windows.place.Place.at_quote.Goals as goal
 use Rattle.os_command_line.proofs.windows.place.Place.at_quote.Goals.{else-self-via-then-self+else-is_empty, else-self-via-else-self}
 
