@@ -1,10 +1,10 @@
 -- Parts of command lines, read or written. Only private contracts name these.
-use Rattle.std.specs.Prelude.{◌≡◌, ◌≢◌, ◌⊎◌, ℕ, ◌+◌, ◌<◌, ◌≤◌, Bool, true, false, List, [], ◌∷◌, ◌++◌, length, nat_eq, if◌then◌else◌}
+use Rattle.std.specs.Prelude.{◌≡◌, ◌≢◌, ◌⊎◌, ℕ, ◌+◌, ◌<◌, ◌≤◌, Bool, true, false, Option, MatchOption, List, [], ◌∷◌, ◌++◌, length, take, drop, nat_eq, if◌then◌else◌}
 use Rattle.std.specs.List.{AllByRecursion}
 use Rattle.wtf8_core.specs.Wtf8.{IsWtf8}
 use Rattle.wtf8_core.specs.UnitsOf.{units_of}
 use Rattle.os_command_line.specs.declared.windows.place.Place.{Place}
-use Rattle.os_command_line.specs.Windows.{backslash, quote, backslashes, IsBlank, Reads, IsNext, ReadsName}
+use Rattle.os_command_line.specs.Windows.{backslash, quote, backslashes, IsBlank, StartsWithNoQuote, Ends, Reads, IsNext, ReadsName}
 use Rattle.os_command_line.specs.WindowsReader.{meant, first_index, name_index, index_at, meant_mark, units_left}
 
 -- from here, after `run` backslashes, the text goes on as from there, where these units of the argument come first
@@ -12,27 +12,28 @@ abbrev pub Leads : Bool → ℕ → List ℕ → List ℕ → Bool → ℕ → L
 Leads inside run text added inside' run' text' =
     (argument after : List ℕ) → Reads after inside' (backslashes run' ++ text') argument → Reads after inside (backslashes run ++ text) (added ++ argument)
 
--- some of an argument was read
-pub record IsStep (inside : Bool) (run : ℕ) (text : List ℕ) (inside' : Bool) (run' : ℕ) (text' : List ℕ) : Type 0 where
-  pub taken : List ℕ
-  pub parts : text ≡ taken ++ text'
-  pub added : List ℕ
-  pub leads : Leads inside run text added inside' run' text'
-  pub within : run' + length text' ≤ run + length text
-  pub shorter : length text' < length text
-
--- some of a program's name was read
-pub record IsNameStep (inside : Bool) (text : List ℕ) (inside' : Bool) (text' : List ℕ) : Type 0 where
-  pub taken : List ℕ
-  pub parts : text ≡ taken ++ text'
-  pub added : List ℕ
-  pub leads : (name after : List ℕ) → ReadsName after inside' text' name → ReadsName after inside text (added ++ name)
-  pub shorter : length text' < length text
-
--- a unit that is no blank and no quotation mark
-pub record IsBare (u : ℕ) : Type 0 where
-  pub no_blank : ¬ (IsBlank u)
+-- a unit of a part: no quotation mark and, outside quotation marks, no blank
+pub record IsInPart (inside : Bool) (u : ℕ) : Type 0 where
   pub no_quote : u ≢ quote
+  pub no_blank : inside ≡ false → ¬ (IsBlank u)
+
+-- a text is cut after a part: before a quotation mark, or where the word ends
+pub record IsPartCut (inside : Bool) (text part rest : List ℕ) : Type 0 where
+  pub joined : text ≡ part ++ rest
+  pub is_part : AllByRecursion (IsInPart inside) part
+  pub end : StartsWithNoQuote rest → Ends inside rest
+
+-- where the part ends with which a text begins, or that all of the text is in it
+abbrev pub IsPartEnd : Bool → List ℕ → Option ℕ → Type 0
+IsPartEnd inside text found = MatchOption found (AllByRecursion (IsInPart inside) text) (λ at. (at < length text) × IsPartCut inside text (take at text) (drop at text))
+
+-- a quotation mark of an argument was read after so many backslashes, or two marks
+pub record IsQuoteStep (inside : Bool) (run : ℕ) (text : List ℕ) (inside' : Bool) (text' : List ℕ) : Type 0 where
+  pub taken : List ℕ
+  pub parts : text ≡ taken ++ text'
+  pub added : List ℕ
+  pub leads : Leads inside run text added inside' 0 text'
+  pub shorter : length text' < length text
 
 -- a text begins with an argument, which has no quotation mark if it is bare, and then comes `rest`
 pub record BeginsArgument (text rest : List ℕ) (bare : Bool) : Type 0 where
@@ -40,7 +41,7 @@ pub record BeginsArgument (text rest : List ℕ) (bare : Bool) : Type 0 where
   pub raw : List ℕ
   pub reads : Reads rest false text argument
   pub joined : text ≡ raw ++ rest
-  pub is_bare : bare ≡ true → AllByRecursion IsBare raw
+  pub is_bare : bare ≡ true → AllByRecursion (IsInPart false) raw
 
 -- a string of Windows after blanks is the text of an argument and the rest, by bytes; the units are read so
 pub record IsArgumentCut (line raw rest : List ℕ) : Type 0 where

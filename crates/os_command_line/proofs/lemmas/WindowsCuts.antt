@@ -6,14 +6,14 @@ use Rattle.wtf8_core.specs.Wtf8.{IsWtf8}
 use Rattle.wtf8_core.specs.UnitsOf.{units_of}
 use Rattle.os_command_line.specs.Windows.{IsBlank, Begins, IsNext, Reads, ReadsName}
 use Rattle.os_command_line.specs.WindowsReader.{argument_kind, meant, first_index}
-use Rattle.os_command_line.specs.WindowsSteps.{IsBare, BeginsArgument, IsArgument, IsNameCut}
+use Rattle.os_command_line.specs.WindowsSteps.{IsInPart, BeginsArgument, IsArgument, IsNameCut}
 use Rattle.os_command_line.specs.WindowsViews.{kind_units}
 use Rattle.os_command_line.proofs.lemmas.WindowsScan.{bare_means_itself}
 use Rattle.os_command_line.proofs.lemmas.WindowsStrings.{cut_name, cut_argument, blank_units, each_unit}
 use Rattle.os_command_line.proofs.lemmas.WindowsUnits.{cut_before_end}
 
-bare_past : (x : ℕ) → 0x80 ≤ x → IsBare x
-bare_past x ge = record { no_blank = λ b. elim b [ inl e ↦ omega (arith, e, ge) | inr e ↦ omega (arith, e, ge) ]; no_quote = λ e. omega (arith, e, ge) }
+bare_past : (x : ℕ) → 0x80 ≤ x → IsInPart false x
+bare_past x ge = record { no_blank = λ _ b. elim b [ inl e ↦ omega (arith, e, ge) | inr e ↦ omega (arith, e, ge) ]; no_quote = λ e. omega (arith, e, ge) }
 
 module _ (line encoded : List ℕ) (w : IsWtf8 line) (same : encoded ≡ line) where
   pub name_cut : (after prefix suffix : List ℕ) → (name : List ℕ) × (raw : List ℕ) × ReadsName after false encoded name × (encoded ≡ raw ++ after) → prefix ≡ take (length encoded - length after) encoded → suffix ≡ drop (length encoded - length after) encoded → IsNameCut line prefix suffix
@@ -30,7 +30,7 @@ module _ (line encoded : List ℕ) (w : IsWtf8 line) (same : encoded ≡ line) w
         let raw = read.raw in
         let cut = cut_before_end text raw after _ read.joined refl in
         let is = cut_argument line gap.0 raw after read.argument w gap.1 (sym same ∙ gap.2 ∙ ap (λ z. gap.0 ++ z) read.joined) (subst Begins read.joined (gap.3 some)) (subst (λ z. Reads after false z read.argument) read.joined read.reads) in
-        let itself : bare ≡ true → meant first_index (units_of raw) ≡ units_of raw = λ e. bare_means_itself (units_of raw) (each_unit IsBare bare_past raw is.raw_formed (read.is_bare e)) in
+        let itself : bare ≡ true → meant first_index (units_of raw) ≡ units_of raw = λ e. bare_means_itself (units_of raw) (each_unit (IsInPart false) bare_past raw is.raw_formed (read.is_bare e)) in
         subst (λ z. IsArgument line z suffix bare) (sym (f ∙ cut.0)) (subst (λ z. IsArgument line raw z bare) (sym (b ∙ cut.1)) (record { cut = is; itself = itself }))
 
     pub only_blanks : text ≡ [] → AllByRecursion IsBlank (units_of line)

@@ -46,7 +46,7 @@ impl Place {
 }
 
 /// With how many backslashes a text ends.
-fn last_backslashes(text: &[u8]) -> usize
+pub(crate) fn last_backslashes(text: &[u8]) -> usize
     ensures { EndsWithRun text.now result }
 {
     let mut count = 0;

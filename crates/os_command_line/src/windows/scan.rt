@@ -1,10 +1,11 @@
 //! How far a program's name and an argument reach, by their bytes.
-ghost use Rattle.std.specs.Prelude.{◌≡◌, ◌≢◌, ◌↔◌, ◌+◌, ◌<◌, ◌^◌, ◌++◌, ◌∷◌, [], false, ℕ, List, length, IsTrue, MatchOption};
+ghost use Rattle.std.specs.Prelude.{◌≡◌, ◌≢◌, ◌↔◌, ◌++◌, ◌∷◌, [], false, ℕ, List, IsTrue, MatchOption};
 ghost use Rattle.std.specs.List.{AllByRecursion};
-ghost use Rattle.os_command_line.specs.Windows.{IsBlank, Begins, Ends, StartsWithNoQuote, Reads, ReadsName};
-ghost use Rattle.os_command_line.specs.WindowsSteps.{BeginsArgument, IsBare, IsStep, IsNameStep};
+ghost use Rattle.os_command_line.specs.Windows.{IsBlank, Begins, StartsWithNoQuote, ReadsName};
+ghost use Rattle.os_command_line.specs.WindowsSteps.{BeginsArgument, IsPartCut, IsPartEnd, IsQuoteStep};
 
-use memchr::memchr3;
+use crate::windows::place::last_backslashes;
+use memchr::{memchr, memchr3};
 
 /// Whether a byte is a space or a tab.
 #[inline(always)]
@@ -29,13 +30,28 @@ pub(crate) fn skip_blanks(line: &[u8]) -> &[u8]
     rest
 }
 
-/// A reader of an argument: inside quotation marks or not, after so many backslashes, before this
-/// text.
-#[derive(Clone, Copy)]
-struct Cursor<'a> {
-    inside: bool,
-    run: usize,
-    text: &'a [u8],
+/// The bytes before the next quotation mark or, outside quotation marks, before the next blank, and
+/// what comes after them.
+#[inline(always)]
+fn cut_part(inside: bool, text: &[u8]) -> (&[u8], &[u8])
+    ensures { IsPartCut inside text.now result.0.now result.1.now }
+{
+    match part_end(inside, text) {
+        Some(at) => text.split_at(at),
+        None => (text, &[]),
+    }
+}
+
+/// Where those bytes end; `None` where they are the whole text.
+#[inline(always)]
+fn part_end(inside: bool, text: &[u8]) -> Option<usize>
+    ensures { IsPartEnd inside text.now result }
+{
+    if inside {
+        memchr(b'"', text)
+    } else {
+        memchr3(b' ', b'\t', b'"', text)
+    }
 }
 
 /// What comes after the argument with which a text begins, and whether it is bare: whether it has no
@@ -43,103 +59,33 @@ struct Cursor<'a> {
 pub(crate) fn after_argument(text: &[u8]) -> (&[u8], bool)
     ensures { BeginsArgument text.now result.0.now result.1 }
 {
-    let rest = after_bare(text);
-    match strip_quote(rest) {
-        Some(_) => (after_marked(text), false),
-        None => (rest, true),
+    let mut inside = false;
+    let mut is_bare = true;
+    let mut cut = cut_part(inside, text);
+    while let Some(after) = strip_quote(cut.1) {
+        let next = after_quote(inside, last_backslashes(cut.0), after);
+        inside = next.0;
+        is_bare = false;
+        cut = cut_part(inside, next.1);
     }
+    (cut.1, is_bare)
 }
 
-/// What comes after the bytes at the start that are no blank and no quotation mark.
-fn after_bare(text: &[u8]) -> &[u8]
-    ensures raw { (raw : List ℕ) × AllByRecursion IsBare raw × (text.now ≡ raw ++ result.now) }
-    ensures end { StartsWithNoQuote result.now → Ends false result.now }
-{
-    let Some(at) = memchr3(b' ', b'\t', b'"', text) else {
-        return &[];
-    };
-    let (_, rest) = text.split_at(at);
-    rest
-}
-
-/// What comes after the argument with which a text begins, which may have quotation marks.
-fn after_marked(text: &[u8]) -> &[u8]
-    ensures { (argument : List ℕ) × (raw : List ℕ) × Reads result.now false text.now argument
-        × (text.now ≡ raw ++ result.now) }
-{
-    let mut cursor = Cursor {
-        inside: false,
-        run: 0,
-        text,
-    };
-    while let Some(next) = step(cursor) {
-        cursor = next;
-    }
-    cursor.text
-}
-
-/// Reads a byte, or a pair of quotation marks; `None` where the argument ends.
+/// Reads a quotation mark after so many backslashes, or two marks within a quoted part: whether it is
+/// inside quotation marks then, and what comes after.
 #[inline(always)]
-fn step(cursor: Cursor<'_>) -> Option<Cursor<'_>>
-    requires { cursor.run + length cursor.text.now < 2 ^ 64 }
-    ensures { MatchOption result (Ends cursor.entry.inside cursor.entry.text.now)
-        (λ to. IsStep cursor.entry.inside cursor.entry.run cursor.entry.text.now to.inside to.run
-        to.text.now) }
-{
-    let Some((first, after)) = cursor.text.split_first() else {
-        return None;
-    };
-    let byte = *first;
-    if byte == b'\\' {
-        return Some(Cursor {
-            inside: cursor.inside,
-            run: cursor.run + 1,
-            text: after,
-        });
-    }
-    if byte == b'"' {
-        return Some(at_quote(cursor.inside, cursor.run, after));
-    }
-    if !cursor.inside && is_blank(byte) {
-        return None;
-    }
-    Some(Cursor {
-        inside: cursor.inside,
-        run: 0,
-        text: after,
-    })
-}
-
-/// Reads a quotation mark, or two of them within a quoted part.
-#[inline(always)]
-fn at_quote(inside: bool, run: usize, after: &[u8]) -> Cursor<'_>
-    ensures { IsStep inside run (0x22 ∷ after.now) result.inside result.run result.text.now }
+fn after_quote(inside: bool, run: usize, after: &[u8]) -> (bool, &[u8])
+    ensures { IsQuoteStep inside run (0x22 ∷ after.now) result.0 result.1.now }
 {
     if run % 2 == 1 {
-        return Cursor {
-            inside,
-            run: 0,
-            text: after,
-        };
+        return (inside, after);
     }
     if !inside {
-        return Cursor {
-            inside: true,
-            run: 0,
-            text: after,
-        };
+        return (true, after);
     }
     match strip_quote(after) {
-        Some(text) => Cursor {
-            inside,
-            run: 0,
-            text,
-        },
-        None => Cursor {
-            inside: false,
-            run: 0,
-            text: after,
-        },
+        Some(text) => (inside, text),
+        None => (false, after),
     }
 }
 
@@ -160,29 +106,10 @@ pub(crate) fn after_name(line: &[u8]) -> &[u8]
         × (line.now ≡ raw ++ result.now) }
 {
     let mut inside = false;
-    let mut rest = line;
-    while let Some((next, after)) = name_step(inside, rest) {
-        inside = next;
-        rest = after;
+    let mut cut = cut_part(inside, line);
+    while let Some(after) = strip_quote(cut.1) {
+        inside = !inside;
+        cut = cut_part(inside, after);
     }
-    rest
-}
-
-/// Reads a byte of the name; `None` where it ends.
-#[inline(always)]
-fn name_step(inside: bool, text: &[u8]) -> Option<(bool, &[u8])>
-    ensures { MatchOption result (Ends inside text.now)
-        (λ to. IsNameStep inside text.now to.0 to.1.now) }
-{
-    let Some((first, after)) = text.split_first() else {
-        return None;
-    };
-    let byte = *first;
-    if byte == b'"' {
-        return Some((!inside, after));
-    }
-    if !inside && is_blank(byte) {
-        return None;
-    }
-    Some((inside, after))
+    cut.1
 }
