@@ -73,10 +73,8 @@ pub data ReadsName (after : List ℕ) : Bool → List ℕ → List ℕ → Type 
   name_unit : (inside : Bool) (u : ℕ) (text name : List ℕ) → u ≢ quote → (inside ≡ false → ¬ (IsBlank u)) → ReadsName after inside text name → ReadsName after inside (u ∷ text) (u ∷ name)
 
 -- the line is this program's name and these arguments
-pub record IsCommandLine (line name : List ℕ) (arguments : List (List ℕ)) : Type 0 where
-  pub rest : List ℕ
-  pub reads : ReadsName rest false line name
-  pub are : AreArguments rest arguments
+unfoldable pub IsCommandLine : List ℕ → List ℕ → List (List ℕ) → Type 0
+IsCommandLine line name arguments = (rest : List ℕ) × ReadsName rest false line name × AreArguments rest arguments
 
 -- whatever ends an argument, the text before it is read as this one
 abbrev pub IsTextOf : List ℕ → List ℕ → Type 0

@@ -83,10 +83,11 @@ letter u s q = record { no_backslash = s; no_quote = q; no_blank = λ e. absurd 
     never e = cc
 
 pub doubled_line : IsCommandLine (codes "E \"a\"\" b\"") (codes "E") (codes "a\" b" ∷ [])
-doubled_line = record {
-  rest = codes " \"a\"\" b\"";
-  reads = name_unit false 0x45 (codes " \"a\"\" b\"") [] (λ e. omega (arith, e)) (λ _ b. elim b [ inl e ↦ omega (arith, e) | inr e ↦ omega (arith, e) ]) (name_ends false (inl refl));
-  are = (
+unfolding IsCommandLine
+doubled_line = (
+  codes " \"a\"\" b\"",
+  name_unit false 0x45 (codes " \"a\"\" b\"") [] (λ e. omega (arith, e)) (λ _ b. elim b [ inl e ↦ omega (arith, e) | inr e ↦ omega (arith, e) ]) (name_ends false (inl refl)),
+  (
     [],
     record {
       blanks = 0x20 ∷ [];
@@ -102,8 +103,8 @@ doubled_line = record {
           (literal true 0 0x62 (codes "\"") [] (letter 0x62 (λ e. omega (arith, e)) (λ e. omega (arith, e))) (closes 0 [] [] tt (ends false 0 tt))))));
     },
     tt,
-  );
-}
+  ),
+)
 
 -- ---- a NUL that is second
 
@@ -156,17 +157,6 @@ no_batch_file dropped _ (later u us h) is = after_first us h (tails is)
 pub is_false : (b : Bool) → (IsTrue b → ⊥) → b ≡ false
 is_false true n = absurd (n refl)
 is_false false n = refl
-
--- ---- two arguments
-
-pub one_is : {x y : List ℕ} {xs ys : List (List ℕ)} → x ∷ xs ≡ y ∷ ys → x ≡ y
-one_is e = cc
-
-pub others_are : {x y : List ℕ} {xs ys : List (List ℕ)} → x ∷ xs ≡ y ∷ ys → xs ≡ ys
-others_are e = cc
-
-pub never_none : {x : List ℕ} {xs : List (List ℕ)} → [] ≡ x ∷ xs → ⊥
-never_none e = cc
 
 -- ---- what comes of a success
 

@@ -1,6 +1,7 @@
 //! Command lines of Windows: what was written is read back.
-ghost use Rattle.std.specs.Prelude.{◌≡◌, ◌⊎◌, ◌∷◌, [], false, IsTrue, IfOk, MatchResult, codes};
+ghost use Rattle.std.specs.Prelude.{◌≡◌, ◌⊎◌, ◌∷◌, [], false, ℕ, List, IsTrue, IfOk, MatchResult, codes};
 ghost use Rattle.platform_str.specs.Strings.{bytes, string_vec_of};
+ghost use Rattle.os_command_line.specs.Windows.{IsCommandLine};
 ghost use Rattle.os_command_line.specs.declared.windows.error.CommandLineError.TheVariants.{Nul, Memory};
 
 use os_command_line::windows::{
@@ -8,6 +9,16 @@ use os_command_line::windows::{
 };
 use platform_str::{OsStr, OsString, Platform, Windows};
 use std::alloc::Allocator;
+
+/// What is read of a line that is one of a name and arguments, as `command_line` writes it: these.
+pub fn all_arguments<'l>(line: OsStr<'l, Windows>) -> Arguments<'l>
+    ensures { (name : List ℕ) → (arguments : List (List ℕ))
+        → IsCommandLine (⟦<Windows as Platform>⟧.units (bytes line.entry)) name arguments
+        → result ≡ (name, arguments) }
+{
+    laws::lines();
+    Arguments::new(line)
+}
 
 /// The program's name again, by way of the command line with these arguments.
 pub fn name_comes_back<A: Allocator + Copy>(

@@ -32,9 +32,10 @@ in_quotes (u ∷ name) after h e = name_unit true u (name ++ quote ∷ after) na
     true_no_false f = cc
 
 pub line_written : (line name text : List ℕ) (arguments : List (List ℕ)) → HasNo quote name → line ≡ (quote ∷ (name ++ quote ∷ [])) ++ text → AreTextOf text arguments → Ends false text → IsCommandLine line name arguments
+unfolding IsCommandLine
 line_written line name text arguments h e p ends =
     let whole : line ≡ quote ∷ (name ++ quote ∷ text) = e ∙ append_assoc (quote ∷ name) (quote ∷ []) text in
-    record { rest = text; reads = subst (λ z. ReadsName text false z name) (sym whole) (name_quote false (name ++ quote ∷ text) name (in_quotes name text h ends)); are = whole_text text arguments p }
+    (text, subst (λ z. ReadsName text false z name) (sym whole) (name_quote false (name ++ quote ∷ text) name (in_quotes name text h ends)), whole_text text arguments p)
 
 pub ends_more : (text one : List ℕ) → Ends false text → Ends false (text ++ 0x20 ∷ one)
 ends_more [] one e = inl refl

@@ -232,7 +232,9 @@ pub one_list : (line : List ℕ) (xs ys : List (List ℕ)) → AreArguments line
 one_list line xs ys p q = sym (complete_list line xs p) ∙ complete_list line ys q
 
 -- and one program's name with them
-pub one_line : (line a b : List ℕ) (xs ys : List (List ℕ)) → IsCommandLine line a xs → IsCommandLine line b ys → (a ≡ b) × (xs ≡ ys)
-one_line line a b xs ys p q =
-    let n = one_name p.rest q.rest line a b p.reads q.reads in
-    (n.0, one_list p.rest xs ys p.are (subst (λ z. AreArguments z ys) (sym n.1) q.are))
+pub one_line : (line : List ℕ) (p : List ℕ × List (List ℕ)) (name : List ℕ) (arguments : List (List ℕ)) → IsCommandLine line p.0 p.1 → IsCommandLine line name arguments → p ≡ (name, arguments)
+unfolding IsCommandLine
+one_line line p name arguments g h =
+    let names = one_name g.0 h.0 line p.0 name g.1 h.1 in
+    let lists = one_list g.0 p.1 arguments g.2 (subst (λ z. AreArguments z arguments) (sym names.1) h.2) in
+    ap (λ a. (a, p.1)) names.0 ∙ ap (λ xs. (name, xs)) lists

@@ -60,4 +60,5 @@ argument_parts line (argument ∷ arguments) h =
     (n.blanks, m.0, h.0, n.joined ∙ ap (λ z. n.blanks ++ z) m.1, n.are_blanks, m.2, argument_parts h.0 arguments h.2)
 
 pub line_parts : (line name : List ℕ) (arguments : List (List ℕ)) → IsCommandLine line name arguments → AreLineParts line name arguments
-line_parts line name arguments h = let m = marked_name h.rest false line name h.reads in record { text = m.0; rest = h.rest; joined = m.1; marked = m.2; parts = argument_parts h.rest arguments h.are }
+unfolding IsCommandLine
+line_parts line name arguments h = let m = marked_name h.0 false line name h.1 in record { text = m.0; rest = h.0; joined = m.1; marked = m.2; parts = argument_parts h.0 arguments h.2 }

@@ -7,10 +7,9 @@ ghost use Rattle.os_command_line.specs.WindowsParts.{AreLineParts};
 pub fn lines()
     ensures some { (line : List ℕ) → (name : List ℕ) × ((arguments : List (List ℕ))
         × IsCommandLine line name arguments) }
-    ensures one_name { (line : List ℕ) → (a : List ℕ) → (b : List ℕ) → (xs : List (List ℕ))
-        → (ys : List (List ℕ)) → IsCommandLine line a xs → IsCommandLine line b ys → a ≡ b }
-    ensures one_list { (line : List ℕ) → (a : List ℕ) → (b : List ℕ) → (xs : List (List ℕ))
-        → (ys : List (List ℕ)) → IsCommandLine line a xs → IsCommandLine line b ys → xs ≡ ys }
+    ensures one_line { (line : List ℕ) → (read : List ℕ × List (List ℕ)) → (name : List ℕ)
+        → (arguments : List (List ℕ)) → IsCommandLine line read.0 read.1
+        → IsCommandLine line name arguments → read ≡ (name, arguments) }
     ensures arguments { (text : List ℕ) → (arguments : List (List ℕ))
         × AreArguments text arguments }
     ensures one { (text : List ℕ) → (xs : List (List ℕ)) → (ys : List (List ℕ))
