@@ -5,8 +5,9 @@ ghost use Rattle.path_building.specs.Checked.{IsCheckedJoin, IsJoinFault};
 ghost use Rattle.path_building.specs.Cleaned.{IsCleaned};
 ghost use Rattle.path_building.specs.Normalized.{IsNormalized, IsNormalizeFault};
 ghost use Rattle.path_building.specs.Relative.{IsRelativeFrom};
+ghost use Rattle.path_building.specs.Restyled.{IsRestyled, IsStyleFault};
 
-use path_building::{JoinError, NormalizeError};
+use path_building::{JoinError, NormalizeError, StyleError};
 use path_rules::Style;
 use std::alloc::{AllocError, Allocator};
 
@@ -57,4 +58,17 @@ pub fn relative_from<A: Allocator + Copy>(
         (option_map (λ v. v.items) way)) }
 {
     path_building::relative_from(alloc, style, path, base)
+}
+
+/// The path of another style with the same components.
+pub fn with_style<A: Allocator + Copy>(
+    alloc: A,
+    from: Style,
+    to: Style,
+    path: &[u8],
+) -> Result<Vec<u8, A>, StyleError>
+    ensures ok { IfOk result (λ made. IsRestyled from to path.now made.items) }
+    ensures err { IfErr result (λ error. IsStyleFault from to path.now error) }
+{
+    path_building::with_style(alloc, from, to, path)
 }
