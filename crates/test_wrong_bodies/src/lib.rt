@@ -8,6 +8,7 @@
 mod built_paths;
 mod checks;
 mod chunks;
+mod command_lines;
 mod cuts;
 mod escapes;
 mod ignored;
@@ -24,6 +25,7 @@ mod words;
 pub use built_paths::{clean, join_checked, normalize, relative_from};
 pub use checks::{check_in_two, check_windows, copied, from_raw_bytes, from_raw_vec};
 pub use chunks::first_chunk;
+pub use command_lines::{argument_text, arguments, line_words, quote};
 pub use cuts::{boundary, cut_off, part_to, parts_at};
 pub use escapes::unescape_unix;
 pub use ignored::{matched, read_ignore};
