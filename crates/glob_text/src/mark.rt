@@ -118,7 +118,7 @@ pub(crate) fn marks<A: Allocator + Copy>(
         (λ marks. AreMarks syntax text.entry.now (map mark_of marks.items))
         (λ fault. IsMarkFault syntax text.entry.now fault)) }
 {
-    let mut marks = Vec::new(alloc);
+    let mut marks = Vec::with_capacity(alloc, text.len())?;
     let mut left = text;
     while let Some((first, rest)) = left.split_first() {
         match read_mark(alloc, syntax, *first, rest)? {

@@ -20,7 +20,7 @@ pub(crate) fn symbols<L: Letters, A: Allocator>(
     requires { L.formed text.now }
     ensures { IfOk result (λ symbols. AreSymbols L.formed L.letters text.now symbols.items) }
 {
-    let mut symbols = Vec::new(alloc);
+    let mut symbols = Vec::with_capacity(alloc, text.len())?;
     let mut left = text;
     while !left.is_empty() {
         let index = text.len() - left.len();
