@@ -1,12 +1,12 @@
 //! One run: the archive read, its names printed.
-ghost use Rattle.std.specs.Prelude.{◌≡◌, false, IfOk, OnOk};
-ghost use Rattle.std.specs.Io.KnownBytes.{Consumes, IsAtEnd};
+ghost use Rattle.std.specs.Prelude.{◌≡◌, false};
 ghost use Rattle.program_frame.specs.Marked.{marked_inner, has_failed};
 ghost use Rattle.example_tar_names.specs.Run.{Reports};
 
 use crate::fault::Fault;
 use crate::report::report;
 use program_frame::fault::Failure;
+use program_frame::input::read_all;
 use program_frame::marked::Marked;
 use program_frame::writing::write_out;
 use std::alloc::Allocator;
@@ -38,22 +38,5 @@ pub fn run<A: Allocator + Copy, R: Read, W: Write>(
         Some(fault) => Err(Fault::Archive(fault)),
         None if refused => Err(Fault::Refused),
         None => Ok(()),
-    }
-}
-
-/// All that the reader has left, read in blocks.
-fn read_all<A: Allocator, R: Read>(alloc: A, reader: &mut Marked<R>) -> Result<Vec<u8, A>, Failure>
-    ensures consumed { IfOk result (λ input. Consumes (R.remaining (marked_inner reader.old))
-        (R.remaining (marked_inner reader.new)) input.items) }
-    ensures end { OnOk result (IsAtEnd (R.remaining (marked_inner reader.new))) }
-{
-    let mut input = Vec::new(alloc);
-    let mut block = [0u8; 8192];
-    loop {
-        match reader.read(&mut block) {
-            Ok(0) => return Ok(input),
-            Ok(count) => input.extend_from_slice(&block[..count])?,
-            Err(_) => return Err(Failure::Read),
-        }
     }
 }

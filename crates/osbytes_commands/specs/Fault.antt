@@ -2,6 +2,8 @@
 use Rattle.std.specs.Prelude.{ℕ, List, ◌++◌, codes, decimal}
 use Rattle.os_str_bytes.specs.FaultText.{fault_text}
 use Rattle.os_quote.specs.ErrorText.{error_text}
+use Rattle.program_frame.specs.declared.fault.Failure.{Failure}
+use Rattle.program_frame.specs.declared.fault.Failure.TheVariants as failure
 use Rattle.osbytes_commands.specs.declared.fault.Fault.{Fault}
 use Rattle.osbytes_commands.specs.declared.fault.Fault.TheVariants.{Refused, BadLine, BadQuote, Usage, Memory, Read, Write}
 
@@ -24,3 +26,9 @@ status_of Usage = 2
 status_of Memory = 3
 status_of Read = 4
 status_of Write = 4
+
+-- the fault of what keeps a run from going on
+abbrev pub fault_of : Failure → Fault
+fault_of failure.Memory = Memory
+fault_of failure.Read = Read
+fault_of failure.Write = Write

@@ -1,11 +1,12 @@
 //! What keeps the program from its output.
 ghost use Rattle.std.specs.Prelude.{◌≡◌, Some};
 ghost use Rattle.osbytes_commands.specs.declared.fault.Fault.TheVariants.{Refused, Memory};
+ghost use Rattle.osbytes_commands.specs.Fault.{fault_of};
 
 use os_quote::QuoteError;
 use os_str_bytes::EncodingError;
 use program_frame::ended::ProgramFault;
-use program_frame::fault::write_number;
+use program_frame::fault::{Failure, write_number};
 use std::alloc::{AllocError, AllocFailed};
 use std::fmt;
 use std::fmt::Display as _;
@@ -110,5 +111,17 @@ impl<T: Drop> From<AllocFailed<T>> for Fault {
 
     fn from(_error: AllocFailed<T>) -> Fault {
         Fault::Memory
+    }
+}
+
+impl From<Failure> for Fault {
+    ghost from_gives = { λ failure fault. fault ≡ fault_of failure };
+
+    fn from(failure: Failure) -> Fault {
+        match failure {
+            Failure::Memory => Fault::Memory,
+            Failure::Read => Fault::Read,
+            Failure::Write => Fault::Write,
+        }
     }
 }

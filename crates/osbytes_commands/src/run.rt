@@ -1,6 +1,6 @@
 //! One run: all input read, the whole output made, the output written.
-ghost use Rattle.std.specs.Prelude.{◌≡◌, ◌≢◌, ◌⊎◌, ◌↔◌, true, false, IfOk, IfErr, OnOk, OnErr};
-ghost use Rattle.std.specs.Io.KnownBytes.{Appends, Consumes, IsAtEnd};
+ghost use Rattle.std.specs.Prelude.{◌≡◌, ◌≢◌, ◌↔◌, true, false, IfErr, OnOk, OnErr};
+ghost use Rattle.std.specs.Io.KnownBytes.{Appends, IsAtEnd};
 ghost use Rattle.osbytes_commands.specs.Command.{IsUnusable};
 ghost use Rattle.program_frame.specs.Marked.{marked_inner, has_failed};
 ghost use Rattle.osbytes_commands.specs.Output.{IsOfInput};
@@ -10,6 +10,7 @@ ghost use Rattle.osbytes_commands.specs.Run.{WritesOutput, WritesBeginning, Refu
 use crate::answer::answer;
 use crate::command::Command;
 use crate::fault::Fault;
+use program_frame::input::read_all;
 use program_frame::marked::Marked;
 use program_frame::writing::write_out;
 use std::alloc::Allocator;
@@ -80,26 +81,5 @@ pub fn run<A: Allocator, R: Read, W: Write>(
     match write_out(writer, &output) {
         Ok(()) => Ok(()),
         Err(_) => Err(Fault::Write),
-    }
-}
-
-/// All that the reader has left.
-fn read_all<A: Allocator, R: Read>(alloc: A, reader: &mut Marked<R>) -> Result<Vec<u8, A>, Fault>
-    requires { has_failed reader.old ≡ false }
-    ensures consumed { IfOk result (λ input. Consumes (R.remaining (marked_inner reader.old))
-        (R.remaining (marked_inner reader.new)) input.items) }
-    ensures end { OnOk result (IsAtEnd (R.remaining (marked_inner reader.new))) }
-    ensures unmarked { OnOk result (has_failed reader.new ≡ false) }
-    ensures fault { IfErr result (λ fault. (fault ≡ Fault.Memory) ⊎ (fault ≡ Fault.Read)) }
-    ensures marked { (result ≡ Err Fault.Read) ↔ (has_failed reader.new ≡ true) }
-{
-    let mut input = Vec::new(alloc);
-    let mut piece = [0u8; 8192];
-    loop {
-        match reader.read(&mut piece) {
-            Ok(0) => return Ok(input),
-            Ok(count) => input.extend_from_slice(&piece[..count])?,
-            Err(_) => return Err(Fault::Read),
-        }
     }
 }

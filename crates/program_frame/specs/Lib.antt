@@ -1,4 +1,5 @@
 pub mod Fault
+pub mod Files
 pub mod Marked
 pub mod Written
 pub mod Os

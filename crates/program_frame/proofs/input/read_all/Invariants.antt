@@ -1,12 +1,12 @@
-use Rattle.std.proofs.Common.{◌≡◌, ◌-◌, ◌^◌, false, vec_len}
+use Rattle.std.proofs.Common.{◌≡◌, ◌-◌, ◌^◌, vec_len}
 use Rattle.std.specs.Io.KnownBytes.{Consumes}
 use Rattle.program_frame.specs.Marked.{marked_inner, has_failed}
-use Rattle.osbytes_commands.proofs.run.read_all.Given as goal
+use Rattle.program_frame.proofs.input.read_all.Given as goal
 
 abbrev pub invariant-loop-input : goal.invariant-loop-input
 invariant-loop-input g l = record {
   consumed : Consumes (g.R.Read.remaining (marked_inner l.fn.reader)) (g.R.Read.remaining (marked_inner l.reader)) l.input.items;
-  unmarked : has_failed l.reader ≡ false;
+  unchanged : has_failed l.reader ≡ has_failed l.fn.reader;
 }
 
 abbrev pub decreases-loop-input : goal.decreases-loop-input
