@@ -1,10 +1,8 @@
 //! The whole program, over ends of any kind.
-ghost use Rattle.std.specs.Prelude.{◌≡◌, ◌↔◌, ◌⊎◌, ◌<◌, ◌+◌, ◌^◌, map, true, false, Err};
+ghost use Rattle.std.specs.Prelude.{◌≡◌, ◌⊎◌, ◌<◌, ◌+◌, ◌^◌, map, false};
 ghost use Rattle.os_str_bytes.specs.Strings.{bytes};
 ghost use Rattle.program_frame.specs.Marked.{marked_inner, has_failed};
-ghost use Rattle.program_frame.specs.declared.fault.Failure.{Failure};
-ghost use Rattle.program_frame.specs.declared.lists.fault.ListFault.{ListFault};
-ghost use Rattle.program_frame.specs.declared.lists.program_fault.Fault.{Fault};
+ghost use Rattle.program_frame.specs.ProgramFault.{BlamesEnds};
 ghost use Rattle.names_commands.specs.Program.{Does, IsOutOfMemory, RunsNames, RunsPatterns, RunsPick, RunsPickOn, RunsTask, fault_of};
 
 use crate::command::{Command, Request, options_of};
@@ -68,10 +66,7 @@ fn run_command<A: Allocator, R: Read, W: Write>(
     ensures run { Does command.entry max (R.remaining (marked_inner reader.old))
         (R.remaining (marked_inner reader.new)) (W.contents (marked_inner writer.old))
         (W.contents (marked_inner writer.new)) result }
-    ensures read { (result ≡ Err (Fault.List (ListFault.Run Failure.Read)))
-        ↔ (has_failed reader.new ≡ true) }
-    ensures write { (result ≡ Err (Fault.List (ListFault.Run Failure.Write)))
-        ↔ (has_failed writer.new ≡ true) }
+    ensures ends { BlamesEnds result (has_failed reader.new) (has_failed writer.new) }
 {
     match command {
         Command::ListNames(os, pick) => {
@@ -128,10 +123,7 @@ fn run_names<A: Allocator, R: Read, W: Write>(
     ensures run { RunsNames os task form pick.entry max (R.remaining (marked_inner reader.old))
         (R.remaining (marked_inner reader.new)) (W.contents (marked_inner writer.old))
         (W.contents (marked_inner writer.new)) result }
-    ensures read { (result ≡ Err (Fault.List (ListFault.Run Failure.Read)))
-        ↔ (has_failed reader.new ≡ true) }
-    ensures write { (result ≡ Err (Fault.List (ListFault.Run Failure.Write)))
-        ↔ (has_failed writer.new ≡ true) }
+    ensures ends { BlamesEnds result (has_failed reader.new) (has_failed writer.new) }
 {
     match pick {
         None => run_on(alloc, os, task, max, reader, writer),
@@ -154,10 +146,7 @@ fn run_pick<A: Allocator, R: Read, W: Write>(
     ensures run { RunsPickOn os form pick.entry max (R.remaining (marked_inner reader.old))
         (R.remaining (marked_inner reader.new)) (W.contents (marked_inner writer.old))
         (W.contents (marked_inner writer.new)) result }
-    ensures read { (result ≡ Err (Fault.List (ListFault.Run Failure.Read)))
-        ↔ (has_failed reader.new ≡ true) }
-    ensures write { (result ≡ Err (Fault.List (ListFault.Run Failure.Write)))
-        ↔ (has_failed writer.new ≡ true) }
+    ensures ends { BlamesEnds result (has_failed reader.new) (has_failed writer.new) }
 {
     let options = options_of(os);
     match os {
@@ -184,10 +173,7 @@ fn run_picked<E: Platform, A: Allocator, R: Read, W: Write>(
     ensures run { RunsPick ⟦<E as Platform>⟧ options form pick.entry max
         (R.remaining (marked_inner reader.old)) (R.remaining (marked_inner reader.new))
         (W.contents (marked_inner writer.old)) (W.contents (marked_inner writer.new)) result }
-    ensures read { (result ≡ Err (Fault.List (ListFault.Run Failure.Read)))
-        ↔ (has_failed reader.new ≡ true) }
-    ensures write { (result ≡ Err (Fault.List (ListFault.Run Failure.Write)))
-        ↔ (has_failed writer.new ≡ true) }
+    ensures ends { BlamesEnds result (has_failed reader.new) (has_failed writer.new) }
 {
     match pick.patterns::<E, &A>(&alloc) {
         Ok(Some(globs)) => {
@@ -217,10 +203,7 @@ fn run_patterns<E: Platform, A: Allocator + Copy, R: Read, W: Write>(
         ⊎ RunsPatterns ⟦<E as Platform>⟧ options form pick.entry max (map bytes globs.now)
         (R.remaining (marked_inner reader.old)) (R.remaining (marked_inner reader.new))
         (W.contents (marked_inner writer.old)) (W.contents (marked_inner writer.new)) result }
-    ensures read { (result ≡ Err (Fault.List (ListFault.Run Failure.Read)))
-        ↔ (has_failed reader.new ≡ true) }
-    ensures write { (result ≡ Err (Fault.List (ListFault.Run Failure.Write)))
-        ↔ (has_failed writer.new ≡ true) }
+    ensures ends { BlamesEnds result (has_failed reader.new) (has_failed writer.new) }
 {
     match GlobSet::<E, A>::new(alloc, options, globs) {
         Ok(set) => run_list(alloc, &Matching::new(&set, form, max), reader, writer),
@@ -256,10 +239,7 @@ fn run_on<A: Allocator, R: Read, W: Write>(
     ensures run { RunsTask os task max (R.remaining (marked_inner reader.old))
         (R.remaining (marked_inner reader.new)) (W.contents (marked_inner writer.old))
         (W.contents (marked_inner writer.new)) result }
-    ensures read { (result ≡ Err (Fault.List (ListFault.Run Failure.Read)))
-        ↔ (has_failed reader.new ≡ true) }
-    ensures write { (result ≡ Err (Fault.List (ListFault.Run Failure.Write)))
-        ↔ (has_failed writer.new ≡ true) }
+    ensures ends { BlamesEnds result (has_failed reader.new) (has_failed writer.new) }
 {
     let settings = Settings { task, max };
     match os {

@@ -1,6 +1,8 @@
 -- The text and the exit status of what keeps a program for lists from its output.
-use Rattle.std.specs.Prelude.{ℕ, List}
+use Rattle.std.specs.Prelude.{◌≡◌, ◌↔◌, ℕ, List, Bool, true, Result, Err, ⊤}
 use Rattle.program_frame.specs.ListFault as list_fault
+use Rattle.program_frame.specs.declared.fault.Failure.TheVariants.{Read, Write}
+use Rattle.program_frame.specs.declared.lists.fault.ListFault.TheVariants.{Run}
 use Rattle.program_frame.specs.declared.lists.program_fault.Fault.{Fault}
 use Rattle.program_frame.specs.declared.lists.program_fault.Fault.TheVariants.{List as OfList, Words}
 
@@ -13,3 +15,7 @@ text_of item reason words (Words why) = words why
 abbrev pub status_of : {F U : Type 0} → Fault F U → ℕ
 status_of (OfList fault) = list_fault.status_of fault
 status_of (Words why) = 2
+
+-- the answer blames a read exactly where the reader's mark is set, and a write exactly where the writer's is
+abbrev pub BlamesEnds : {F U : Type 0} → Result ⊤ (Fault F U) → Bool → Bool → Type 0
+BlamesEnds answer reader writer = ((answer ≡ Err (OfList (Run Read))) ↔ (reader ≡ true)) × ((answer ≡ Err (OfList (Run Write))) ↔ (writer ≡ true))
