@@ -1,5 +1,6 @@
 -- The units of a string, byte by byte: what a byte adds to them depends on the byte before it and the two after it (RFC 3629, section 3; RFC 2781, section 2.1). Only private contracts name these.
 use Rattle.std.specs.Prelude.{ℕ, ◌+◌, ◌*◌, ◌/◌, ◌%◌, ◌||◌, ◌==◌, Bool, not, leb, nat_lt, if◌then◌else◌, List, [], ◌∷◌, ◌++◌, slice_index}
+use Rattle.wtf8_core.specs.Truncated.{IsTruncated}
 
 -- whether a byte adds a unit: a continuation doesn't, but for the one after a lead of four
 abbrev pub adds_unit : ℕ → ℕ → Bool
@@ -35,3 +36,7 @@ abbrev pub chosen : List ℕ → List ℕ → List ℕ
 chosen [] marks = []
 chosen (x ∷ xs) [] = []
 chosen (x ∷ xs) (m ∷ marks) = (if m == 0 then [] else x ∷ []) ++ chosen xs marks
+
+-- units are appended to `count` others in a buffer, as far as there is room, and then there are `len`
+abbrev pub Appends : List ℕ → List ℕ → ℕ → List ℕ → ℕ → Type 0
+Appends units before count after len = (text old : List ℕ) → IsTruncated text old before count → IsTruncated (text ++ units) old after len

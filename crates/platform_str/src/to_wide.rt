@@ -83,7 +83,7 @@ pub(crate) fn unit_marks(bytes: &[u8]) -> [u16; 16]
 
 /// The bytes, of which there are at most 19, and zeros after them.
 #[inline(always)]
-fn padded(bytes: &[u8]) -> [u8; 19]
+pub(crate) fn padded(bytes: &[u8]) -> [u8; 19]
     requires { length bytes.now ≤ 19 }
     ensures { (i : ℕ) → slice_index result i ≡ slice_index bytes.now i }
 {

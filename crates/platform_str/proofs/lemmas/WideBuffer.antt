@@ -1,26 +1,37 @@
--- Counting the units of a string before they are written, and writing as many as a buffer has room for.
-use Rattle.std.proofs.Common.{⊎_elim, false, get_or}
-use Rattle.std.proofs.lemmas.List.{take-append-le}
-use Rattle.platform_str.proofs.Common.{◌≡◌, ℕ, zero, suc, ◌+◌, ◌≤◌, ◌<◌, Bool, true, cond, leb, List, [], ◌∷◌, ◌++◌, length, length-append, take, drop, refl, sym, ap, ◌∙◌, arith, length-take-le, take_all, count_by, sum_by-cons, IsWtf8, HasUnits, units_of}
+-- Units written into a buffer as far as it has room, and bytes up to its end.
+use Rattle.std.proofs.Common.{⊎_elim, ◌-◌, get_or, set}
+use Rattle.std.proofs.lemmas.List.{take-append-le, drop-drop, drop-set, drop-set-lt, drop_more}
+use Rattle.platform_str.proofs.Common.{◌≡◌, ℕ, ◌+◌, ◌≤◌, ◌<◌, List, [], ◌∷◌, ◌++◌, length, length-append, take, drop, refl, sym, ap, ◌∙◌, arith, length-take-le, take_all, HasUnits}
 use Rattle.wtf8_core.proofs.Common.{cases_lt}
-use Rattle.platform_str.specs.ToWide.{adds_unit, unit_at, units_by_neighbours, units_after_first}
-use Rattle.platform_str.proofs.lemmas.ToWide.{no_units}
+use Rattle.wtf8_core.specs.Truncated.{IsTruncated}
+use Rattle.wtf8_core.proofs.lemmas.buffers.Truncated.{whole}
 
--- a mark is 1 where a unit is added
-mark_counts : (t : Bool) (x y : ℕ) → y ≡ cond t 1 0 → length (cond t (x ∷ []) []) ≡ cond (leb 1 y) 1 0
-mark_counts true x y e = rw e refl
-mark_counts false x y e = rw e refl
+-- units are written where there is room for them, and nothing after them is changed
+pub put_after : (text old now new more : List ℕ) (count end : ℕ) → IsTruncated text old now count → take end new ≡ take count now ++ more → drop end new ≡ drop end now → length new ≡ length now → count ≤ end → end ≤ length now
+    → IsTruncated (text ++ more) old new end
+put_after text old now new more count end h written after len from room =
+    let l = h.same_length in
+    let k = h.count_is in
+    let n = length more in
+    let e : end ≡ count + n = omega (arith, ap length written, length-take-le end new (omega (arith, len, room)), length-append (take count now) more, length-take-le count now (omega (arith, from, room))) in
+    let joined = length-append text more in
+    record {
+      same_length = len ∙ l;
+      count_is = omega arith;
+      prefix = take_all (length old) (text ++ more) (omega arith) ∙ ap (λ d. d ++ more) (sym (whole text old now count h (omega arith))) ∙ sym written;
+      after = after ∙ ap (λ m. drop m now) e ∙ sym (drop-drop n count now) ∙ ap (drop n) h.after ∙ drop-drop n count old ∙ ap (λ m. drop m old) (sym e);
+    }
 
--- so marks count what the bytes of a block add
-pub block_counted : (n : ℕ) (w marks : List ℕ) → length marks ≡ n → n < length w
-    → ((i : ℕ) → i < n → get_or marks i 0 ≡ cond (adds_unit (get_or w i 0) (get_or w (suc i) 0)) 1 0)
-    → count_by (leb 1) marks + length (units_after_first (drop n w)) ≡ length (units_after_first w)
-block_counted zero w [] q h m = omega arith
-block_counted (suc n) (a ∷ b ∷ bs) (y ∷ ms) q h m =
-    let adds = units_by_neighbours a b (get_or bs 0 0) (get_or bs 1 0) in
-    let rest = block_counted n (b ∷ bs) ms (omega (arith, q)) (omega (arith, h)) (λ i l. m (suc i) (omega (arith, l))) in
-    omega (arith, rest, mark_counts (adds_unit a b) (unit_at a b (get_or bs 0 0) (get_or bs 1 0)) y (m 0 (omega arith)), sum_by-cons (λ x. cond (leb 1 x) 1 0) y ms, length-append adds (units_after_first (b ∷ bs)))
-block_counted n w marks q h m = absurd (omega (arith, q, h))
+-- what is put back where it was overwritten
+pub put_back : (now new : List ℕ) (end x : ℕ) → drop (end + 1) new ≡ drop (end + 1) now → length new ≡ length now → end < length now → x ≡ get_or now end 0 → drop end (set new end x) ≡ drop end now
+put_back now new end x after len room is = drop-set new end x (omega (arith, len, room)) ∙ ap (λ l. x ∷ l) after ∙ ap (λ y. y ∷ drop (end + 1) now) is ∙ sym (drop_more now end 0 room)
+
+-- an item is overwritten, and what is after it stays
+pub stays : (now new : List ℕ) (end k n x : ℕ) → drop k new ≡ drop k now → end < n → k ≤ n → drop n (set new end x) ≡ drop n now
+stays now new end k n x same past within =
+    let m = n - k in
+    let e : n ≡ k + m = omega (arith, within) in
+    drop-set-lt n new end x past ∙ ap (λ j. drop j new) e ∙ sym (drop-drop m k new) ∙ ap (drop m) same ∙ drop-drop m k now ∙ ap (λ j. drop j now) (sym e)
 
 -- a buffer that is full, or into which all is written, has the first items of all
 pub filled : (end n : ℕ) (buffer rest all : List ℕ) → length buffer ≡ n → end ≤ n → n ≤ length all → take end buffer ++ rest ≡ all → (end < n → rest ≡ []) → buffer ≡ take n all
@@ -31,15 +42,6 @@ filled end n buffer rest all len within enough are last =
     sym (take-append-le n buffer rest (omega (arith, len)) ∙ take_all n buffer (omega (arith, len)))
     ∙ ap (λ x. take n (x ++ rest)) (sym (take_all end buffer (omega (arith, len, full)))) ∙ ap (take n) are)
     (cases_lt end n)
-
-pub none_taken : (buffer all : List ℕ) → length buffer ≡ 0 → buffer ≡ take (length buffer) all
-none_taken [] all h = refl
-none_taken (x ∷ buffer) all h = absurd (omega (arith, h))
-
--- a string that has units has bytes
-pub some_bytes : (s : List ℕ) → IsWtf8 s → 0 < length (units_of s) → 0 < length s
-some_bytes [] w h = absurd (omega (arith, h, ap length (no_units [] w refl)))
-some_bytes (b ∷ bs) w h = omega arith
 
 -- the same of the bytes of units, of which some are left
 pub bytes_filled : (end n : ℕ) (bytes left units : List ℕ) → length bytes ≡ n → end ≤ n → HasUnits (take end bytes ++ left) units → (end < n → left ≡ []) → ((string : List ℕ) → HasUnits string units → n ≤ length string)

@@ -4,5 +4,6 @@ use Rattle.platform_str.proofs.wide_buffer.put_chosen.Given as goal
 
 abbrev pub invariant-loop-i : goal.invariant-loop-i
 invariant-loop-i l =
-    (length l.units ≡ length l.fn.units) × (l.end ≤ l.at + l.i)
+    (length l.units ≡ length l.fn.units) × (l.at ≤ l.end) × (l.end ≤ l.at + l.i)
+    × (drop (l.end + 1) l.units ≡ drop (l.end + 1) l.fn.units) × (drop (l.at + l.i) l.units ≡ drop (l.at + l.i) l.fn.units)
     × (take l.end l.units ++ chosen (drop l.i l.lanes) (drop l.i l.marks) ≡ take l.at l.fn.units ++ chosen l.lanes l.marks)
