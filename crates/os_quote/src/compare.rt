@@ -7,8 +7,9 @@ ghost use Rattle.os_quote.specs.Stripping.{StartsNot};
 
 use crate::form::Form;
 use crate::sink::Sink;
+use crate::token_text::TokenText;
 use crate::walk::write_escape_to;
-use os_str_bytes::{OsStr, Platform};
+use os_str_bytes::{OsStr, OsStrBytesExt, Platform, Unix};
 use std::fmt;
 
 /// What of a text is still to be compared with an escape.
@@ -24,10 +25,20 @@ impl<'a> Sink for Comparison<'a> {
 
     #[inline(always)]
     fn take(&mut self, piece: &str) -> fmt::Result {
-        let Some(rest) = strip(self.rest, piece.as_bytes()) else {
+        let Some(following) = strip_text(self.rest, piece) else {
             return Err(fmt::Error);
         };
-        self.rest = rest;
+        self.rest = following;
+        Ok(())
+    }
+
+    /// Its length is known where it is made, so that it is compared without a call.
+    #[inline(always)]
+    fn take_token(&mut self, token: TokenText) -> fmt::Result {
+        let Some(following) = strip(self.rest, token.as_str().as_bytes()) else {
+            return Err(fmt::Error);
+        };
+        self.rest = following;
         Ok(())
     }
 }
@@ -43,11 +54,24 @@ pub(crate) fn has_escape<E: Platform>(form: Form, string: OsStr<'_, E>, text: &[
     }
 }
 
-/// What comes after these bytes.
+/// What comes after a text.
 #[inline(always)]
-fn strip<'a>(text: &'a [u8], prefix: &[u8]) -> Option<&'a [u8]>
-    ensures { MatchOption result (StartsNot prefix.now text.now)
-        (λ rest. text.now ≡ prefix.now ++ rest.now) }
+fn strip_text<'a>(bytes: &'a [u8], text: &str) -> Option<&'a [u8]>
+    ensures { MatchOption result (StartsNot text.now bytes.now)
+        (λ rest. bytes.now ≡ text.now ++ rest.now) }
 {
-    text.strip_prefix(prefix)
+    let string = OsStr::<Unix>::from_encoded_bytes_unchecked(bytes);
+    let Some(rest) = string.strip_prefix(text) else {
+        return None;
+    };
+    Some(rest.as_encoded_bytes())
+}
+
+/// What comes after a token.
+#[inline(always)]
+fn strip<'a>(text: &'a [u8], token: &[u8]) -> Option<&'a [u8]>
+    ensures { MatchOption result (StartsNot token.now text.now)
+        (λ rest. text.now ≡ token.now ++ rest.now) }
+{
+    text.strip_prefix(token)
 }

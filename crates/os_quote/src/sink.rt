@@ -1,6 +1,7 @@
 //! What takes an escape, piece by piece.
 ghost use Rattle.os_quote.specs.Sinks.{SinkRules, Takes};
 
+use crate::token_text::TokenText;
 use std::fmt;
 
 /// What takes an escape, piece by piece: a formatter, a buffer, or a text that is compared with it.
@@ -11,6 +12,11 @@ pub(crate) trait Sink {
     fn take(&mut self, piece: &str) -> fmt::Result
         requires { rules.has_room self.old piece.now }
         ensures { Takes rules self.old piece.now result self.new };
+
+    /// The same of a token.
+    fn take_token(&mut self, token: TokenText) -> fmt::Result
+        requires { rules.has_room self.old token }
+        ensures { Takes rules self.old token result self.new };
 }
 
 impl<W: fmt::Write> Sink for fmt::Formatter<W> {
@@ -21,5 +27,10 @@ impl<W: fmt::Write> Sink for fmt::Formatter<W> {
     #[inline(always)]
     fn take(&mut self, piece: &str) -> fmt::Result {
         self.write_str(piece)
+    }
+
+    #[inline(always)]
+    fn take_token(&mut self, token: TokenText) -> fmt::Result {
+        self.take(token.as_str())
     }
 }

@@ -4,14 +4,14 @@ ghost use Rattle.platform_str.specs.Strings.{bytes};
 ghost use Rattle.os_str_ext.specs.Parts.{part_bytes};
 ghost use Rattle.os_quote.specs.Buffers.{part_escape, text_escape, token_of};
 ghost use Rattle.os_quote.specs.Escaped.{escape_of};
-ghost use Rattle.os_quote.specs.Item.{item_text, unit_item};
-ghost use Rattle.os_quote.specs.Shown.{shown_by};
+ghost use Rattle.os_quote.specs.Item.{Backslash, item_text, unit_item};
+ghost use Rattle.os_quote.specs.Shown.{is_any, shown_by, stays_on_line};
 ghost use Rattle.os_quote.specs.Sinks.{Takes};
 
 use crate::form::Form;
 use crate::plain::split_plain;
 use crate::sink::Sink;
-use crate::split_token::split_token;
+use crate::split_token::{split_at_backslash, split_at_hidden};
 use crate::token_text::TokenText;
 use os_str_bytes::{NonUnicodeOsStr, OsStr, OsStrBytesExt, Platform};
 use std::fmt;
@@ -68,8 +68,35 @@ fn write_text<S: Sink>(form: Form, text: &str, sink: &mut S) -> fmt::Result
     requires { S.rules.has_room sink.old (text_escape (shown_by form) text.now) }
     ensures { Takes S.rules sink.old (text_escape (shown_by form) text.now) result sink.new }
 {
+    match form {
+        Form::Text => write_shown_text(text, sink),
+        Form::Line => write_line_text(text, sink),
+    }
+}
+
+/// Gives it a text in the form that shows every character.
+#[inline(always)]
+fn write_shown_text<S: Sink>(text: &str, sink: &mut S) -> fmt::Result
+    requires { S.rules.has_room sink.old (text_escape is_any text.now) }
+    ensures { Takes S.rules sink.old (text_escape is_any text.now) result sink.new }
+{
     let mut rest = text;
-    while let Some((prefix, character, following)) = split_token(form, rest) {
+    while let Some((prefix, following)) = split_at_backslash(rest) {
+        sink.take(prefix)?;
+        write_backslash(sink)?;
+        rest = following;
+    }
+    sink.take(rest)
+}
+
+/// Gives it a text in the form for one line.
+#[inline(always)]
+fn write_line_text<S: Sink>(text: &str, sink: &mut S) -> fmt::Result
+    requires { S.rules.has_room sink.old (text_escape stays_on_line text.now) }
+    ensures { Takes S.rules sink.old (text_escape stays_on_line text.now) result sink.new }
+{
+    let mut rest = text;
+    while let Some((prefix, character, following)) = split_at_hidden(rest) {
         write_unchanged(prefix, sink)?;
         write_character(character, sink)?;
         rest = following;
@@ -96,9 +123,9 @@ fn write_unit<S: Sink>(unit: u16, sink: &mut S) -> fmt::Result
     ensures { Takes S.rules sink.old (item_text (unit_item unit)) result sink.new }
 {
     if unit < 0x100 {
-        write_token(TokenText::of_byte(unit as u8), sink)
+        sink.take_token(TokenText::of_byte(unit as u8))
     } else {
-        write_token(TokenText::of_wide(unit), sink)
+        sink.take_token(TokenText::of_wide(unit))
     }
 }
 
@@ -111,19 +138,19 @@ fn write_character<S: Sink>(character: char, sink: &mut S) -> fmt::Result
 {
     let number = character as u32;
     if character == '\\' {
-        write_token(TokenText::of_backslash(), sink)
+        write_backslash(sink)
     } else if number < 0x1_0000 {
-        write_token(TokenText::of_wide(number as u16), sink)
+        sink.take_token(TokenText::of_wide(number as u16))
     } else {
-        write_token(TokenText::of_long(number), sink)
+        sink.take_token(TokenText::of_long(number))
     }
 }
 
-/// Gives it a token.
+/// Gives it the token of a backslash.
 #[inline(always)]
-fn write_token<S: Sink>(token: TokenText, sink: &mut S) -> fmt::Result
-    requires { S.rules.has_room sink.old token }
-    ensures { Takes S.rules sink.old token result sink.new }
+fn write_backslash<S: Sink>(sink: &mut S) -> fmt::Result
+    requires { S.rules.has_room sink.old (item_text Backslash) }
+    ensures { Takes S.rules sink.old (item_text Backslash) result sink.new }
 {
-    sink.take(token.as_str())
+    sink.take_token(TokenText::of_backslash())
 }

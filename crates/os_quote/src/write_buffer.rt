@@ -9,6 +9,7 @@ ghost use Rattle.os_quote.specs.Shown.{shown_by};
 
 use crate::form::Form;
 use crate::sink::Sink;
+use crate::token_text::TokenText;
 use crate::walk::write_escape_to;
 use os_str_bytes::{OsStr, Platform};
 use std::fmt;
@@ -107,5 +108,10 @@ impl<'a> Sink for Buffer<'a> {
     fn take(&mut self, piece: &str) -> fmt::Result {
         self.count = push_truncated(self.bytes, self.count, piece.as_bytes());
         Ok(())
+    }
+
+    #[inline(always)]
+    fn take_token(&mut self, token: TokenText) -> fmt::Result {
+        self.take(token.as_str())
     }
 }
