@@ -9,7 +9,7 @@ pub use Rattle.os_quote.specs.Reading.{HasNoBackslash, HasNoFour, HasNoFive, Has
 pub use Rattle.os_quote.specs.Shown.{is_any, shown_by, stays_on_line}
 pub use Rattle.os_quote.specs.HiddenCharacters.{hidden_ranges, is_in_ranges}
 pub use Rattle.os_quote.specs.Hidden.{AllClear, AreUnchanged, IsCutAtHidden, IsNextSuspect, IsUnchanged, byte_bits, is_suspect, kind_bits, kind_bits_of_two, second_bits, suspect_bits, third_bits}
-pub use Rattle.os_quote.specs.declared.suspect_bits.TheConstants.{FIRST_HIGH, FIRST_LOW, SECOND_HIGH, SECOND_LOW, THIRD_HIGH, THIRD_LOW, OTHER_HIGH, OTHER_LOW}
+pub use Rattle.os_quote.specs.declared.find_tables.TheConstants.{FIRST_HIGH, FIRST_LOW, SECOND_HIGH, SECOND_LOW, THIRD_HIGH, THIRD_LOW, OTHER_HIGH, OTHER_LOW}
 pub use Rattle.os_str_ext.proofs.lemmas.EachChunk.{are_chunks_of}
 pub use Rattle.os_str_ext.specs.Chunks.{IsChunkOf, chunks_of}
 pub use Rattle.os_str_ext.specs.Parts.{part_bytes, unit_number}

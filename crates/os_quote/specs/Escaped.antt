@@ -6,7 +6,7 @@ use Rattle.os_str_ext.specs.Chunks.{chunks_of}
 use Rattle.os_quote.specs.Item.{item_texts}
 use Rattle.os_quote.specs.Shown.{shown_by}
 use Rattle.os_quote.specs.Escape.{items_of}
-use Rattle.os_quote.specs.declared.display.Escaped.{Escaped}
+use Rattle.os_quote.specs.declared.write_display.Escaped.{Escaped}
 
 -- the one escape of the string s in a form
 abbrev pub escape_of : (ℕ → Bool) → (List ℕ → List ℕ) → List ℕ → List ℕ

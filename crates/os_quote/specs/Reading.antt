@@ -6,8 +6,8 @@ use Rattle.std.specs.Str.{IsUtf8}
 use Rattle.wtf8_core.specs.CodePoint.{encode}
 use Rattle.wtf8_core.specs.FaultText.{upper_hex_digit}
 use Rattle.os_quote.specs.Item.{Item, Character, Backslash, ByteUnit, WideUnit, LongCharacter, backslash, wide_digits, long_digits, item_texts, IsLong, HasLongTokens, IsItem}
-use Rattle.os_quote.specs.declared.token.Token.{Token}
-use Rattle.os_quote.specs.declared.token.Token.TheVariants as token
+use Rattle.os_quote.specs.declared.read_token.Token.{Token}
+use Rattle.os_quote.specs.declared.read_token.Token.TheVariants as token
 
 -- the item that a token is
 abbrev pub token_item : Token → Item

@@ -11,35 +11,29 @@
 //! display are written as tokens, too.
 #![tactic(auto)]
 
-mod compare;
-mod decode;
-mod display;
 mod error;
+mod find_hidden;
+mod find_lanes;
+mod find_plain;
+mod find_tables;
 mod form;
-mod hidden;
-mod lanes;
 pub mod laws;
-mod long_token;
-mod plain;
-mod quoting;
-mod reading;
-mod sink;
-mod split_token;
-mod suspect_bits;
-mod suspects;
-mod token;
-mod token_text;
-mod unescaped;
-mod unescaped_bytes;
-mod walk;
+mod read_buffer;
+mod read_string;
+mod read_token;
 mod write_buffer;
+mod write_display;
+mod write_string;
+mod write_token;
+mod write_walk;
 
-pub use display::Escaped;
 pub use error::QuoteError;
+pub use find_hidden::is_on_one_line;
 pub use form::stays_on_line;
-pub use hidden::is_on_one_line;
-pub use quoting::{escape, escape_line, escaped, escaped_line};
-pub use reading::{unescape, unescape_line};
-pub use unescaped::{write_unescaped, write_unescaped_line};
-pub use unescaped_bytes::{write_unescaped_bytes, write_unescaped_line_bytes};
+pub use read_buffer::{
+    write_unescaped, write_unescaped_bytes, write_unescaped_line, write_unescaped_line_bytes,
+};
+pub use read_string::{unescape, unescape_line};
 pub use write_buffer::{write_escape, write_escape_line};
+pub use write_display::Escaped;
+pub use write_string::{escape, escape_line, escaped, escaped_line};

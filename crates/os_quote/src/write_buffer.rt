@@ -8,9 +8,8 @@ ghost use Rattle.os_quote.specs.Escaped.{escape_of};
 ghost use Rattle.os_quote.specs.Shown.{shown_by};
 
 use crate::form::Form;
-use crate::sink::Sink;
-use crate::token_text::TokenText;
-use crate::walk::write_escape_to;
+use crate::write_token::TokenText;
+use crate::write_walk::{Sink, write_escape_to};
 use os_str_bytes::{OsStr, Platform};
 use std::fmt;
 use wtf8_core::push_truncated;

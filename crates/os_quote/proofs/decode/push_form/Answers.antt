@@ -1,5 +1,0 @@
-use Rattle.os_quote.proofs.Common.{arith, form_bounds}
-use Rattle.os_quote.proofs.decode.push_form.Goals as goal
-
-pub write_form-len-requires-clause-room : goal.write_form-len-requires-clause-room
-write_form-len-requires-clause-room c = omega (arith, (form_bounds c.args.code_point).1)

@@ -1,0 +1,25 @@
+use Rattle.os_quote.proofs.Common.{sym, refl, true≢false}
+use Rattle.os_quote.proofs.lemmas.Lines.{unchanged_stays, hidden_leaves, past_backslash, with_backslash, cut_is_shorter}
+use Rattle.os_quote.proofs.find_hidden.is_on_one_line.Goals as goal
+
+pub returns-then-character-ne92 : goal.returns-then-character-ne92
+returns-then-character-ne92 c = (
+  λ no. absurd (true≢false (sym no)),
+  λ all. absurd (hidden_leaves _ _ _ _ c.loop-character.invariant.0 c.in-Some.ensures c.if-character-ne92.true (c.loop-character.invariant.1.1 all)),
+)
+
+pub loop-character-preserved : goal.loop-character-preserved
+loop-character-preserved c =
+    let i = c.loop-character.invariant in (
+      c.in-Some.ensures.after_text,
+      (
+        λ after. i.1.0 (with_backslash _ _ _ _ i.0 c.in-Some.ensures c.if-character-ne92.false after),
+        λ all. past_backslash _ _ _ _ i.0 c.in-Some.ensures (i.1.1 all),
+      ),
+    )
+
+pub loop-character-smaller : goal.loop-character-smaller
+loop-character-smaller c = cut_is_shorter _ _ _ _ c.in-Some.ensures
+
+pub returns : goal.returns
+returns c = (λ _. c.loop-character.invariant.1.0 (unchanged_stays _ c.in_default.ensures), λ _. refl)

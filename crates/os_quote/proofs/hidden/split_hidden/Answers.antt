@@ -1,4 +1,0 @@
-use Rattle.os_quote.proofs.hidden.split_hidden.Goals as goal
-
-pub returns-in-Some : goal.returns-in-Some
-returns-in-Some c = c.in-Some.ensures

@@ -1,9 +1,0 @@
-use Rattle.os_quote.proofs.Common.{arith}
-use Rattle.os_quote.proofs.lemmas.TokenTexts.{byte_text, byte_is_text}
-use Rattle.os_quote.proofs.token_text.TokenText.of_byte.Goals as goal
-
-pub invariant_of-result : goal.invariant_of-result
-invariant_of-result c = (omega arith, byte_is_text c.args.byte c.ranges.byte.fits (byte_text c.args.byte _ _ c.digits-a.ensures.first c.digits-a.ensures.second))
-
-pub returns : goal.returns
-returns c = byte_text c.args.byte _ _ c.digits-a.ensures.first c.digits-a.ensures.second

@@ -1,0 +1,191 @@
+//! How far the escape of a text on one line shows it as it is, by the bytes that may begin a character
+//! that is written as a token: suspects.
+ghost use Rattle.std.specs.Prelude.{◌≡◌, ◌↔◌, [], take, IsTrue, IfSome, MatchOption, ◌+◌, ◌≤◌, ◌<◌, length, slice_index};
+ghost use Rattle.std.specs.Str.{IsCharBoundary};
+ghost use Rattle.os_quote.specs.Hidden.{IsUnchanged, AreUnchanged, IsCutAtHidden, AllClear, IsNextSuspect, is_suspect};
+ghost use Rattle.os_quote.specs.Shown.{IsOnOneLine};
+
+use crate::find_lanes::{BLOCK, clear_len};
+use crate::find_plain::plain_len;
+use crate::find_tables::is_suspect;
+use crate::form::stays_on_line;
+use wtf8_core::vectors::window::put_in_zeros;
+
+/// What comes before the first character that is written as a token, that character, and what comes
+/// after it.
+#[inline(always)]
+pub(crate) fn split_hidden(text: &str) -> Option<(&str, char, &str)>
+    ensures { MatchOption result (AreUnchanged text.now)
+        (λ parts. IsCutAtHidden text.now parts.0.now parts.1 parts.2.now) }
+{
+    if let Some((character, following)) = hidden_start(text) {
+        return Some(("", character, following));
+    }
+    split_after_plain(text)
+}
+
+/// The character of ASCII at the start that is written as a token, and what comes after it: where one
+/// token follows another, no search is begun.
+#[inline(always)]
+fn hidden_start(text: &str) -> Option<(char, &str)>
+    ensures { IfSome result (λ start. IsCutAtHidden text.now [] start.0 start.1.now) }
+{
+    let mut characters = text.chars();
+    let character = characters.next()?;
+    if matches!(character, '\0'..='\x1F' | '\\' | '\x7F') && !is_unchanged(character) {
+        return Some((character, characters.as_str()));
+    }
+    None
+}
+
+/// The same as [`split_hidden`], by a search. Most often the first character that isn't plain is the one
+/// that is searched for.
+fn split_after_plain(text: &str) -> Option<(&str, char, &str)>
+    ensures { MatchOption result (AreUnchanged text.now)
+        (λ parts. IsCutAtHidden text.now parts.0.now parts.1 parts.2.now) }
+{
+    let at = plain_len(text.as_bytes());
+    let rest = &text[at..];
+    if let Some((character, following)) = hidden_start(rest) {
+        return Some((&text[..at], character, following));
+    }
+    split_at_suspect(text, at)
+}
+
+/// The same, from an index on up to which the characters are shown as they are.
+fn split_at_suspect(text: &str, from: usize) -> Option<(&str, char, &str)>
+    requires boundary { IsCharBoundary text.now from }
+    requires unchanged { AreUnchanged (take from text.now) }
+    ensures { MatchOption result (AreUnchanged text.now)
+        (λ parts. IsCutAtHidden text.now parts.0.now parts.1 parts.2.now) }
+{
+    let mut at = from;
+    while let Some(suspect) = first_suspect(text.as_bytes(), at) {
+        let mut characters = text[suspect..].chars();
+        let character = characters.next()?;
+        let rest = characters.as_str();
+        if !is_unchanged(character) {
+            return Some((&text[..suspect], character, rest));
+        }
+        at = text.len() - rest.len();
+    }
+    None
+}
+
+/// Whether a character is shown as it is.
+#[inline(always)]
+fn is_unchanged(character: char) -> bool
+    ensures { IsTrue result ↔ IsUnchanged character }
+{
+    character != '\\' && stays_on_line(character)
+}
+
+/// Whether each character of a text stays on a line ([`stays_on_line`]): whether
+/// [`escape_line`](crate::escape_line) shows the text as it is, but for backslashes. It doesn't
+/// allocate.
+///
+/// ```
+/// use os_quote::is_on_one_line;
+///
+/// assert!(rt; is_on_one_line("a\\b \u{E9}"));
+/// assert!(rt; !is_on_one_line("a\nb"));
+/// ```
+pub fn is_on_one_line(text: &str) -> bool
+    ensures { IsTrue result ↔ IsOnOneLine text.now }
+{
+    let mut rest = text;
+    while let Some((_, character, following)) = split_hidden(rest) {
+        if character != '\\' {
+            return false;
+        }
+        rest = following;
+    }
+    true
+}
+
+/// The fewest bytes of which a copy is looked at.
+const LEAST: usize = 16;
+
+/// The index of the first suspect from an index on, at which one often is.
+pub(crate) fn first_suspect(bytes: &[u8], from: usize) -> Option<usize>
+    requires { from ≤ length bytes.now }
+    ensures { MatchOption result (AllClear bytes.now from (length bytes.now))
+        (λ at. IsNextSuspect bytes.now from at) }
+{
+    if from < bytes.len() && is_suspect_at(bytes, from) {
+        return Some(from);
+    }
+    later_suspect(bytes, from)
+}
+
+/// Whether the byte at an index is a suspect.
+#[inline(always)]
+fn is_suspect_at(bytes: &[u8], at: usize) -> bool
+    requires { at < length bytes.now }
+    ensures { result ≡ is_suspect (slice_index bytes.now at) (slice_index bytes.now (1 + at))
+        (slice_index bytes.now (2 + at)) }
+{
+    is_suspect(bytes[at], byte_at(bytes, at + 1), byte_at(bytes, at + 2))
+}
+
+/// The same as [`first_suspect`], by vectors.
+#[tactic(auto, using(crate::proofs::lemmas::Suspects::suspects))]
+fn later_suspect(bytes: &[u8], from: usize) -> Option<usize>
+    requires { from ≤ length bytes.now }
+    ensures { MatchOption result (AllClear bytes.now from (length bytes.now))
+        (λ at. IsNextSuspect bytes.now from at) }
+{
+    let mut at = from + clear_of_short(bytes, from);
+    while at < bytes.len() {
+        let clear = clear_from(bytes, at);
+        at += clear;
+        if clear == BLOCK {
+            continue;
+        }
+        if is_suspect_at(bytes, at) {
+            return Some(at);
+        }
+        at += 1;
+    }
+    None
+}
+
+/// How many bytes from an index on aren't suspects, as far as one block says. The last byte of all
+/// isn't among them.
+#[inline(always)]
+fn clear_from(bytes: &[u8], at: usize) -> usize
+    requires { at < length bytes.now }
+    ensures within { at + result < length bytes.now }
+    ensures clear { AllClear bytes.now at (at + result) }
+{
+    if bytes.len() - at <= BLOCK + 1 {
+        return 0;
+    }
+    let (_, rest) = bytes.split_at(at);
+    clear_len(rest)
+}
+
+/// How many bytes from an index on aren't suspects, as far as a copy of them says, with zeros after it.
+/// A copy is made if they are few, but not so few that they are looked at as soon one by one.
+#[inline(always)]
+fn clear_of_short(bytes: &[u8], from: usize) -> usize
+    requires { from ≤ length bytes.now }
+    ensures within { from + result ≤ length bytes.now }
+    ensures clear { AllClear bytes.now from (from + result) }
+{
+    let (_, rest) = bytes.split_at(from);
+    if rest.len() < LEAST || rest.len() > BLOCK + 1 {
+        return 0;
+    }
+    let mut block = [0; BLOCK + 2];
+    put_in_zeros(rest, &mut block, 0);
+    clear_len(&block).min(rest.len())
+}
+
+/// The byte at an index, or 0 after the last.
+#[inline(always)]
+fn byte_at(bytes: &[u8], index: usize) -> u8
+    ensures { result ≡ slice_index bytes.now index }
+{
+    if index < bytes.len() { bytes[index] } else { 0 }
+}

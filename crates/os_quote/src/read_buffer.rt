@@ -1,0 +1,255 @@
+//! Strings written into a buffer, from escapes, which may not be UTF-8.
+ghost use Rattle.std.specs.Prelude.{◌≡◌, ◌≢◌, ◌≤◌, length, IfOk, IfErr, IfSome, MatchOption, MatchResult};
+ghost use Rattle.std.specs.Str.{IsUtf8};
+ghost use Rattle.os_quote.specs.Shown.{shown_by};
+ghost use Rattle.os_quote.specs.Escape.{IsQuoteFault, IsLineFault, IsQuoteFaultBy};
+ghost use Rattle.os_quote.specs.Unescaped.{IsUnescaped, IsLineUnescaped, IsUnescapedBy};
+ghost use Rattle.os_quote.specs.declared.error.QuoteError.TheVariants.{Memory};
+ghost use Rattle.os_quote.specs.Reading.{HasNoBackslash};
+
+use crate::error::QuoteError;
+use crate::find_hidden::split_hidden;
+use crate::find_plain::are_plain;
+use crate::form::Form;
+use crate::read_string::{is_unescaped, read};
+use crate::read_token::{cut_backslash, split_backslash};
+use os_str_bytes::Platform;
+use wtf8_core::{is_utf8, push_truncated};
+
+/// Writes the string that has this escape ([`unescape`](crate::unescape)) into a buffer, truncated if
+/// the buffer is too short for it, and returns the length of the whole string. What the string doesn't
+/// reach stays as it is. It doesn't allocate.
+///
+/// A string is never longer than its escape, so a buffer of `text.len()` bytes is always long enough.
+/// If the buffer is too short, it isn't known yet that the text is an escape: each backslash is in a
+/// token, and if a string has this escape, it is this one.
+///
+/// # Errors
+///
+/// [`QuoteError::BadEscape`] and [`QuoteError::NotCanonical`] as in [`unescape`](crate::unescape); the
+/// content of the buffer isn't specified then. The second comes only if the buffer is long enough.
+///
+/// ```
+/// use os_quote::{QuoteError, write_unescaped};
+/// use os_str_bytes::Unix;
+///
+/// let mut buffer = [b'-'; 6];
+/// assert_eq!(rt; write_unescaped::<Unix>("fo\\x80o", &mut buffer), Ok(4));
+/// assert_eq!(rt; buffer.as_slice(), b"fo\x80o--".as_slice());
+/// assert_eq!(rt; write_unescaped::<Unix>("a\\q", &mut buffer), Err(QuoteError::BadEscape(1)));
+/// ```
+pub fn write_unescaped<E: Platform>(text: &str, buffer: &mut [u8]) -> Result<usize, QuoteError>
+    ensures string { IfOk result
+        (λ count. IsUnescaped E.well_formed E.units text.now buffer.old buffer.new count) }
+    ensures fault { IfErr result (λ fault. IsQuoteFault E.well_formed E.units text.now fault) }
+    ensures never_memory { IfErr result (λ fault. fault ≢ Memory) }
+{
+    match split_backslash(text) {
+        None => Ok(push_truncated(buffer, 0, text.as_bytes())),
+        Some(_) => write_by::<E>(Form::Text, text.as_bytes(), buffer),
+    }
+}
+
+/// Writes the string that has this escape on one line ([`unescape_line`](crate::unescape_line)) into a
+/// buffer, as [`write_unescaped`] does.
+///
+/// # Errors
+///
+/// Those of [`write_unescaped`], of the form for one line.
+///
+/// ```
+/// use os_quote::{QuoteError, write_unescaped_line};
+/// use os_str_bytes::Unix;
+///
+/// let mut buffer = [b'-'; 4];
+/// assert_eq!(rt; write_unescaped_line::<Unix>("a\\u000A\\xFF", &mut buffer), Ok(3));
+/// assert_eq!(rt; buffer.as_slice(), b"a\n\xFF-".as_slice());
+/// let refused = write_unescaped_line::<Unix>("a\n", &mut buffer);
+/// assert_eq!(rt; refused, Err(QuoteError::NotCanonical));
+/// ```
+pub fn write_unescaped_line<E: Platform>(text: &str, buffer: &mut [u8]) -> Result<usize, QuoteError>
+    ensures string { IfOk result
+        (λ count. IsLineUnescaped E.well_formed E.units text.now buffer.old buffer.new count) }
+    ensures fault { IfErr result (λ fault. IsLineFault E.well_formed E.units text.now fault) }
+    ensures never_memory { IfErr result (λ fault. fault ≢ Memory) }
+{
+    match split_hidden(text) {
+        None => Ok(push_truncated(buffer, 0, text.as_bytes())),
+        Some(_) => write_by::<E>(Form::Line, text.as_bytes(), buffer),
+    }
+}
+
+/// The same in a form, token by token, of bytes that may not be UTF-8. If they are the escape of a
+/// string for which there is room, that alone says that they are UTF-8; any other answer is right only
+/// if they are.
+pub(crate) fn write_by<E: Platform>(
+    form: Form,
+    escape: &[u8],
+    buffer: &mut [u8],
+) -> Result<usize, QuoteError>
+    ensures string { IsUtf8 escape.now → IfOk result (λ count. IsUnescapedBy (shown_by form)
+        E.well_formed E.units escape.now buffer.old buffer.new count) }
+    ensures room { IfOk result (λ count. count ≤ length buffer.old → IsUtf8 escape.now) }
+    ensures fault { IsUtf8 escape.now → IfErr result
+        (λ fault. IsQuoteFaultBy (shown_by form) E.well_formed E.units escape.now fault) }
+    ensures never_memory { IfErr result (λ fault. fault ≢ Memory) }
+{
+    let count = match read(form, escape, buffer) {
+        Ok(count) => count,
+        Err(index) => return Err(QuoteError::BadEscape(index)),
+    };
+    if count > buffer.len() {
+        return Ok(count);
+    }
+    if is_unescaped::<E>(form, &buffer[..count], escape) {
+        Ok(count)
+    } else {
+        Err(QuoteError::NotCanonical)
+    }
+}
+
+/// Writes the string that has this escape into a buffer, as
+/// [`write_unescaped`](crate::write_unescaped) does, or returns `None` if the escape isn't UTF-8.
+///
+/// It is for callers that have no `str`: most escapes are read once, since whatever is the escape of
+/// a string is UTF-8.
+///
+/// # Errors
+///
+/// Those of [`write_unescaped`](crate::write_unescaped). If it is `None`, the content of the buffer
+/// isn't specified.
+///
+/// ```
+/// use os_quote::write_unescaped_bytes;
+/// use os_str_bytes::Unix;
+///
+/// let mut buffer = [b'-'; 6];
+/// assert_eq!(rt; write_unescaped_bytes::<Unix>(b"fo\\x80o", &mut buffer), Some(Ok(4)));
+/// assert_eq!(rt; buffer.as_slice(), b"fo\x80o--".as_slice());
+/// assert_eq!(rt; write_unescaped_bytes::<Unix>(b"fo\x80o", &mut buffer), None);
+/// ```
+pub fn write_unescaped_bytes<E: Platform>(
+    escape: &[u8],
+    buffer: &mut [u8],
+) -> Option<Result<usize, QuoteError>>
+    ensures utf8 { IfSome result (λ _. IsUtf8 escape.now) }
+    ensures read { MatchOption result (¬ (IsUtf8 escape.now)) (λ read. MatchResult read
+        (λ count. IsUnescaped E.well_formed E.units escape.now buffer.old buffer.new count)
+        (λ fault. IsQuoteFault E.well_formed E.units escape.now fault × (fault ≢ Memory))) }
+{
+    write_bytes_by::<E>(Form::Text, escape, buffer)
+}
+
+/// Writes the string that has this escape on one line into a buffer, as
+/// [`write_unescaped_line`](crate::write_unescaped_line) does, or returns `None` if the escape isn't
+/// UTF-8.
+///
+/// # Errors
+///
+/// Those of [`write_unescaped_bytes`], of the form for one line.
+///
+/// ```
+/// use os_quote::write_unescaped_line_bytes;
+/// use os_str_bytes::Unix;
+///
+/// let mut buffer = [b'-'; 4];
+/// let read = write_unescaped_line_bytes::<Unix>(b"a\\u000A\\xFF", &mut buffer);
+/// assert_eq!(rt; read, Some(Ok(3)));
+/// assert_eq!(rt; buffer.as_slice(), b"a\n\xFF-".as_slice());
+/// ```
+pub fn write_unescaped_line_bytes<E: Platform>(
+    escape: &[u8],
+    buffer: &mut [u8],
+) -> Option<Result<usize, QuoteError>>
+    ensures utf8 { IfSome result (λ _. IsUtf8 escape.now) }
+    ensures read { MatchOption result (¬ (IsUtf8 escape.now)) (λ read. MatchResult read
+        (λ count. IsLineUnescaped E.well_formed E.units escape.now buffer.old buffer.new count)
+        (λ fault. IsLineFault E.well_formed E.units escape.now fault × (fault ≢ Memory))) }
+{
+    write_bytes_by::<E>(Form::Line, escape, buffer)
+}
+
+/// The same in a form. Plain bytes are their own escape.
+fn write_bytes_by<E: Platform>(
+    form: Form,
+    escape: &[u8],
+    buffer: &mut [u8],
+) -> Option<Result<usize, QuoteError>>
+    ensures utf8 { IfSome result (λ _. IsUtf8 escape.now) }
+    ensures read { MatchOption result (¬ (IsUtf8 escape.now)) (λ read. MatchResult read
+        (λ count. IsUnescapedBy (shown_by form) E.well_formed E.units escape.now buffer.old
+        buffer.new count)
+        (λ fault. IsQuoteFaultBy (shown_by form) E.well_formed E.units escape.now fault
+        × (fault ≢ Memory))) }
+{
+    if are_plain(escape) {
+        return Some(Ok(push_truncated(buffer, 0, escape)));
+    }
+    match cut_backslash(escape) {
+        None => write_shown::<E>(form, escape, buffer),
+        Some(_) => write_tokens::<E>(form, escape, buffer),
+    }
+}
+
+/// The same of an escape without a backslash.
+fn write_shown<E: Platform>(
+    form: Form,
+    escape: &[u8],
+    buffer: &mut [u8],
+) -> Option<Result<usize, QuoteError>>
+    requires { HasNoBackslash escape.now }
+    ensures utf8 { IfSome result (λ _. IsUtf8 escape.now) }
+    ensures read { MatchOption result (¬ (IsUtf8 escape.now)) (λ read. MatchResult read
+        (λ count. IsUnescapedBy (shown_by form) E.well_formed E.units escape.now buffer.old
+        buffer.new count)
+        (λ fault. IsQuoteFaultBy (shown_by form) E.well_formed E.units escape.now fault
+        × (fault ≢ Memory))) }
+{
+    let Some(text) = text(escape) else {
+        return None;
+    };
+    match form {
+        Form::Text => Some(Ok(push_truncated(buffer, 0, text.as_bytes()))),
+        Form::Line => Some(write_unescaped_line::<E>(text, buffer)),
+    }
+}
+
+/// The same of an escape with a backslash. It is read first, and whether it is UTF-8 is asked only if it
+/// isn't the escape of a string for which there is room.
+fn write_tokens<E: Platform>(
+    form: Form,
+    escape: &[u8],
+    buffer: &mut [u8],
+) -> Option<Result<usize, QuoteError>>
+    ensures utf8 { IfSome result (λ _. IsUtf8 escape.now) }
+    ensures read { MatchOption result (¬ (IsUtf8 escape.now)) (λ read. MatchResult read
+        (λ count. IsUnescapedBy (shown_by form) E.well_formed E.units escape.now buffer.old
+        buffer.new count)
+        (λ fault. IsQuoteFaultBy (shown_by form) E.well_formed E.units escape.now fault
+        × (fault ≢ Memory))) }
+{
+    let read = write_by::<E>(form, escape, buffer);
+    match read {
+        Ok(count) => {
+            if count <= buffer.len() {
+                return Some(Ok(count));
+            }
+        }
+        Err(_) => {}
+    }
+    match text(escape) {
+        Some(_) => Some(read),
+        None => None,
+    }
+}
+
+/// The text that the bytes are, `None` where they aren't UTF-8.
+fn text(bytes: &[u8]) -> Option<&str>
+    ensures { MatchOption result (¬ (IsUtf8 bytes.now)) (λ text. text.now ≡ bytes.now) }
+{
+    if is_utf8(bytes) {
+        Some(unsafe { str::from_utf8_unchecked(bytes) })
+    } else {
+        None
+    }
+}

@@ -1,0 +1,241 @@
+//! From escapes to strings: what their tokens mean, and whether a text is the escape of that string.
+ghost use Rattle.std.specs.Prelude.{◌≡◌, ◌↔◌, length, IsOk, IfOk, IfErr, IsTrue, ◌+◌, ◌<◌, ◌^◌, ◌++◌, [], ℕ, List, MatchResult, MatchOption};
+ghost use Rattle.platform_str.specs.Strings.{string_vec_of, bytes};
+ghost use Rattle.os_quote.specs.Shown.{shown_by};
+ghost use Rattle.os_quote.specs.Escape.{IsEscape, IsLineEscape, IsEscapeBy, IsQuoteFault, IsLineFault, IsQuoteFaultBy, IsBadEscapeBy};
+ghost use Rattle.std.specs.Str.{IsUtf8};
+ghost use Rattle.wtf8_core.specs.CodePoint.{IsCodePoint, encode};
+ghost use Rattle.wtf8_core.specs.Truncated.{IsTruncated};
+ghost use Rattle.os_quote.specs.Buffers.{Pushes};
+ghost use Rattle.os_quote.specs.Reading.{AreBytesRead, item_bytes, token_item};
+ghost use Rattle.os_quote.specs.Stripping.{StartsNot};
+
+use crate::error::QuoteError;
+use crate::find_hidden::split_hidden;
+use crate::form::Form;
+use crate::read_token::{Token, cut_backslash, first_token, split_backslash};
+use crate::write_token::TokenText;
+use crate::write_walk::{Sink, write_escape_to};
+use os_str_bytes::{OsStr, OsStrBytesExt, OsString, Platform, Unix, laws};
+use std::alloc::Allocator;
+use std::fmt;
+use wtf8_core::{push_truncated, write_form};
+
+/// Returns the string that has this escape ([`escape`](crate::escape)).
+///
+/// On Windows `a\uD800\\` is the escape of the string of the units 61, D800 and 5C (hexadecimal). A
+/// text without a backslash is its own escape.
+///
+/// # Errors
+///
+/// [`QuoteError::BadEscape`] with the byte index of the first backslash that begins no token; else
+/// [`QuoteError::NotCanonical`] if no string of the platform has this escape, as `\xC3\xA9` on
+/// Unix, where these bytes are the text `é`. If an allocation fails, [`QuoteError::Memory`] may come
+/// in place of either. For the empty text nothing is allocated.
+///
+/// ```
+/// use os_quote::{QuoteError, unescape};
+/// use os_str_bytes::{OsString, Unix, Windows};
+///
+/// let string: OsString<Windows> = unescape(alloc, "a\\uD800\\\\")?;
+/// let units = string.as_os_str().to_wide(alloc)?;
+/// assert_eq!(rt; units.as_slice(), [0x61, 0xD800, 0x5C].as_slice());
+///
+/// let refused: Result<OsString<Unix>, QuoteError> = unescape(alloc, "\\xC3\\xA9");
+/// assert_eq!(rt; refused.err(), Some(QuoteError::NotCanonical));
+/// ```
+pub fn unescape<E: Platform, A: Allocator>(
+    alloc: A,
+    text: &str,
+) -> Result<OsString<E, A>, QuoteError>
+    ensures string { IfOk result
+        (λ string. IsEscape E.units (string_vec_of string).items text.now) }
+    ensures fault { IfErr result (λ fault. IsQuoteFault E.well_formed E.units text.now fault) }
+    ensures empty { length text.now ≡ 0 → IsOk result }
+{
+    match split_backslash(text) {
+        None => Ok(OsStr::new(text).to_owned(alloc)?),
+        Some(_) => from_items(Form::Text, alloc, text),
+    }
+}
+
+/// Returns the string that has this escape on one line ([`escape_line`](crate::escape_line)).
+///
+/// # Errors
+///
+/// Those of [`unescape`], where a token is also `\u{`, five or six digits without a leading zero,
+/// and `}`, of a character past U+FFFF. A text with a character that doesn't stay on the line is
+/// [`QuoteError::NotCanonical`] if each backslash is in a token, and so is one with a token of a
+/// character that does, as `\u0041` or `\u{1F600}`. The empty text takes no memory.
+///
+/// ```
+/// use os_quote::unescape_line;
+/// use os_str_bytes::Unix;
+///
+/// let string = unescape_line::<Unix, _>(alloc, "a\\u000A\\xFF")?;
+/// assert_eq!(rt; string.as_os_str().as_encoded_bytes(), b"a\n\xFF".as_slice());
+/// assert!(rt; unescape_line::<Unix, _>(alloc, "a\n").is_err());
+/// ```
+pub fn unescape_line<E: Platform, A: Allocator>(
+    alloc: A,
+    text: &str,
+) -> Result<OsString<E, A>, QuoteError>
+    ensures string { IfOk result
+        (λ string. IsLineEscape E.units (string_vec_of string).items text.now) }
+    ensures fault { IfErr result (λ fault. IsLineFault E.well_formed E.units text.now fault) }
+    ensures empty { length text.now ≡ 0 → IsOk result }
+{
+    match split_hidden(text) {
+        None => Ok(OsStr::new(text).to_owned(alloc)?),
+        Some(_) => from_items(Form::Line, alloc, text),
+    }
+}
+
+/// The same of a form, token by token: the bytes that the text means are a string with this
+/// escape, or no string has it.
+fn from_items<E: Platform, A: Allocator>(
+    form: Form,
+    alloc: A,
+    text: &str,
+) -> Result<OsString<E, A>, QuoteError>
+    ensures string { IfOk result
+        (λ string. IsEscapeBy (shown_by form) E.units (string_vec_of string).items text.now) }
+    ensures fault { IfErr result
+        (λ fault. IsQuoteFaultBy (shown_by form) E.well_formed E.units text.now fault) }
+{
+    let mut encoded = vec![in alloc; 0; text.len()]?;
+    let count = match read(form, text.as_bytes(), encoded.as_mut_slice()) {
+        Ok(count) => count,
+        Err(index) => return Err(QuoteError::BadEscape(index)),
+    };
+    encoded.truncate(count);
+    if is_unescaped::<E>(form, &encoded, text.as_bytes()) {
+        Ok(OsString::from_encoded_bytes_unchecked(encoded))
+    } else {
+        Err(QuoteError::NotCanonical)
+    }
+}
+
+/// Whether the bytes are a string of the platform, and the others are its escape. It isn't inlined, so
+/// that the loop of each caller is the same, whoever else calls it.
+#[inline(never)]
+pub(crate) fn is_unescaped<E: Platform>(form: Form, encoded: &[u8], escape: &[u8]) -> bool
+    ensures { IsTrue result ↔ (E.well_formed encoded.now
+        × IsEscapeBy (shown_by form) E.units encoded.now escape.now) }
+{
+    laws::faults::<E>();
+    match OsStr::<E>::checked(encoded) {
+        Ok(string) => has_escape(form, string, escape),
+        Err(_) => false,
+    }
+}
+
+/// Writes the bytes that an escape means, truncated if the buffer is too short for them, and returns
+/// how many they are; or else the index of the first backslash that begins no token. It doesn't check
+/// whether the escape is UTF-8.
+pub(crate) fn read(form: Form, escape: &[u8], buffer: &mut [u8]) -> Result<usize, usize>
+    ensures { MatchResult result
+        (λ count. (decoded : List ℕ) × AreBytesRead (shown_by form) escape.now decoded []
+        × IsTruncated decoded buffer.old buffer.new count)
+        (λ index. IsUtf8 escape.now → IsBadEscapeBy (shown_by form) escape.now index) }
+{
+    let mut count = 0;
+    let mut rest = escape;
+    while let Some((prefix, following)) = cut_backslash(rest) {
+        let Some((token, after)) = first_token(form, following) else {
+            return Err(escape.len() - following.len() - 1);
+        };
+        count = push_truncated(buffer, count, prefix);
+        count = push_decoded(buffer, count, token);
+        rest = after;
+    }
+    Ok(push_truncated(buffer, count, rest))
+}
+
+/// Appends the bytes that a token means.
+fn push_decoded(buffer: &mut [u8], count: usize, token: Token) -> usize
+    requires { count + length (item_bytes (token_item token)) < 2 ^ 64 }
+    ensures { Pushes (item_bytes (token_item token)) buffer.old count buffer.new result }
+{
+    match token {
+        Token::Backslash => push_truncated(buffer, count, b"\\"),
+        Token::Byte(unit) => push_truncated(buffer, count, &[unit]),
+        Token::Wide(unit) => push_form(buffer, count, u32::from(unit)),
+        Token::Long(character) => push_form(buffer, count, character as u32),
+    }
+}
+
+/// Appends the form of a code point.
+fn push_form(buffer: &mut [u8], count: usize, code_point: u32) -> usize
+    requires code_point { IsCodePoint code_point }
+    requires room { count + length (encode code_point) < 2 ^ 64 }
+    ensures { Pushes (encode code_point) buffer.old count buffer.new result }
+{
+    let mut bytes = [0; 4];
+    let len = write_form(&mut bytes, 0, code_point);
+    push_truncated(buffer, count, &bytes[..len])
+}
+
+/// What of a text is still to be compared with an escape.
+#[derive(Drop)]
+struct Comparison<'a> {
+    rest: &'a [u8],
+}
+
+impl<'a> Sink for Comparison<'a> {
+    ghost use Rattle.os_quote.specs.ComparisonSink.{comparison_rules};
+
+    ghost rules = { comparison_rules };
+
+    #[inline(always)]
+    fn take(&mut self, piece: &str) -> fmt::Result {
+        let Some(following) = strip_text(self.rest, piece) else {
+            return Err(fmt::Error);
+        };
+        self.rest = following;
+        Ok(())
+    }
+
+    /// Its length is known where it is made, so that it is compared without a call.
+    #[inline(always)]
+    fn take_token(&mut self, token: TokenText) -> fmt::Result {
+        let Some(following) = strip(self.rest, token.as_str().as_bytes()) else {
+            return Err(fmt::Error);
+        };
+        self.rest = following;
+        Ok(())
+    }
+}
+
+/// Whether the bytes are the escape of the string in a form.
+pub(crate) fn has_escape<E: Platform>(form: Form, string: OsStr<'_, E>, text: &[u8]) -> bool
+    ensures { IsTrue result ↔ IsEscapeBy (shown_by form) E.units (bytes string.entry) text.now }
+{
+    let mut comparison = Comparison { rest: text };
+    match write_escape_to(form, string, &mut comparison) {
+        Ok(()) => comparison.rest.is_empty(),
+        Err(_) => false,
+    }
+}
+
+/// What comes after a text.
+#[inline(always)]
+fn strip_text<'a>(bytes: &'a [u8], text: &str) -> Option<&'a [u8]>
+    ensures { MatchOption result (StartsNot text.now bytes.now)
+        (λ rest. bytes.now ≡ text.now ++ rest.now) }
+{
+    let string = OsStr::<Unix>::from_encoded_bytes_unchecked(bytes);
+    let Some(rest) = string.strip_prefix(text) else {
+        return None;
+    };
+    Some(rest.as_encoded_bytes())
+}
+
+/// What comes after a token.
+#[inline(always)]
+fn strip<'a>(text: &'a [u8], token: &[u8]) -> Option<&'a [u8]>
+    ensures { MatchOption result (StartsNot token.now text.now)
+        (λ rest. text.now ≡ token.now ++ rest.now) }
+{
+    text.strip_prefix(token)
+}

@@ -1,0 +1,235 @@
+//! Tokens, and the backslashes that begin them.
+ghost use Rattle.std.specs.Prelude.{◌≡◌, ◌≢◌, ◌<◌, ◌∷◌, ◌++◌, ℕ, List, MatchOption, ◌+◌, ◌*◌, ◌/◌, ◌%◌, ◌≤◌};
+ghost use Rattle.wtf8_core.specs.FaultText.{upper_hex_digit};
+ghost use Rattle.os_quote.specs.Item.{backslash, byte_digits, wide_digits, item_text, IsItem, long_digits, IsLong};
+ghost use Rattle.os_quote.specs.Shown.{shown_by};
+ghost use Rattle.os_quote.specs.Escape.{BeginsNoToken};
+ghost use Rattle.os_quote.specs.Reading.{HasNoBackslash, IsCutAtFirst, IsCutAtBackslash, HasNoNumber, token_item, HasNoLong, HasNoFive, HasNoSix, HasNoFour, IsFour, IsFive, IsSix};
+
+use crate::form::Form;
+use memchr::memchr;
+
+/// What a backslash begins.
+#[derive(Clone, Copy)]
+pub(crate) enum Token {
+    /// `\\`, a backslash.
+    Backslash,
+    /// `\xHH`, a unit of two digits.
+    Byte(u8),
+    /// `\uHHHH`, a unit or a character of four digits.
+    Wide(u16),
+    /// `\u{H..}`, a character of five or six digits.
+    Long(char),
+}
+
+/// What comes before the first backslash of a text, and what comes after it.
+pub(crate) fn split_backslash(text: &str) -> Option<(&str, &str)>
+    ensures { MatchOption result (HasNoBackslash text.now)
+        (λ parts. IsCutAtBackslash text.now parts.0.now parts.1.now) }
+{
+    let Some((prefix, following)) = cut_backslash(text.as_bytes()) else {
+        return None;
+    };
+    Some(unsafe {
+        (
+            str::from_utf8_unchecked(prefix),
+            str::from_utf8_unchecked(following),
+        )
+    })
+}
+
+/// The same of bytes, which may not be a text. Where one token follows another, no search is begun.
+pub(crate) fn cut_backslash(bytes: &[u8]) -> Option<(&[u8], &[u8])>
+    ensures { MatchOption result (HasNoBackslash bytes.now)
+        (λ parts. IsCutAtFirst bytes.now parts.0.now parts.1.now) }
+{
+    if let Some((first, following)) = bytes.split_first() {
+        if *first == b'\\' {
+            return Some((&bytes[..0], following));
+        }
+    }
+    let Some(at) = memchr(b'\\', bytes) else {
+        return None;
+    };
+    Some((&bytes[..at], &bytes[at + 1..]))
+}
+
+/// The token of a form that a backslash begins, and what comes after the token; `following` is what
+/// comes after the backslash.
+#[tactic(auto, using(crate::proofs::lemmas::Tokens::tokens))]
+pub(crate) fn first_token(form: Form, following: &[u8]) -> Option<(Token, &[u8])>
+    ensures { MatchOption result (BeginsNoToken (shown_by form) (backslash ∷ following.now))
+        (λ read. IsItem (shown_by form) (token_item read.0)
+        × (backslash ∷ following.now ≡ item_text (token_item read.0) ++ read.1.now)) }
+{
+    let Some((kind, digits)) = following.split_first() else {
+        return None;
+    };
+    if *kind == b'\\' {
+        return Some((Token::Backslash, digits));
+    }
+    if *kind == b'x' {
+        let Some((unit, rest)) = two_digits(digits) else {
+            return None;
+        };
+        return Some((Token::Byte(unit), rest));
+    }
+    if *kind == b'u' {
+        let Some((token, rest)) = number_token(form, digits) else {
+            return None;
+        };
+        return Some((token, rest));
+    }
+    None
+}
+
+/// The token of a form that `\u` begins, and what comes after the token; `digits` is what comes
+/// after `\u`.
+fn number_token(form: Form, digits: &[u8]) -> Option<(Token, &[u8])>
+    ensures { MatchOption result (HasNoNumber (shown_by form) digits.now)
+        (λ read. IsItem (shown_by form) (token_item read.0)
+        × (backslash ∷ 0x75 ∷ digits.now ≡ item_text (token_item read.0) ++ read.1.now)) }
+{
+    if let Some((unit, rest)) = four_digits(digits) {
+        return Some((Token::Wide(unit), rest));
+    }
+    match form {
+        Form::Text => None,
+        Form::Line => {
+            let Some((character, rest)) = long_character(digits) else {
+                return None;
+            };
+            Some((Token::Long(character), rest))
+        }
+    }
+}
+
+/// The number of the four digits at the start, and what comes after them.
+pub(crate) fn four_digits(bytes: &[u8]) -> Option<(u16, &[u8])>
+    ensures { MatchOption result
+        ((u : ℕ) → u < 0x1_0000 → (after : List ℕ) → bytes.now ≢ wide_digits u ++ after)
+        (λ read. bytes.now ≡ wide_digits read.0 ++ read.1.now) }
+{
+    let Some((high, lower)) = two_digits(bytes) else {
+        return None;
+    };
+    let Some((low, rest)) = two_digits(lower) else {
+        return None;
+    };
+    Some((u16::from(high) * 0x100 + u16::from(low), rest))
+}
+
+/// The byte of the two digits at the start, and what comes after them.
+fn two_digits(bytes: &[u8]) -> Option<(u8, &[u8])>
+    ensures { MatchOption result
+        ((b : ℕ) → b < 0x100 → (after : List ℕ) → bytes.now ≢ byte_digits b ++ after)
+        (λ read. bytes.now ≡ byte_digits read.0 ++ read.1.now) }
+{
+    let (first, following) = bytes.split_first()?;
+    let (second, rest) = following.split_first()?;
+    let high = digit(*first)?;
+    let low = digit(*second)?;
+    Some((high * 16 + low, rest))
+}
+
+/// The value of a digit from `0` to `9` or from `A` to `F`.
+pub(crate) fn digit(byte: u8) -> Option<u8>
+    ensures { MatchOption result ((d : ℕ) → d < 16 → upper_hex_digit d ≢ byte)
+        (λ d. (d < 16) × (upper_hex_digit d ≡ byte)) }
+{
+    match byte {
+        b'0'..=b'9' => Some(byte - b'0'),
+        b'A'..=b'F' => Some(byte - b'A' + 10),
+        _ => None,
+    }
+}
+
+/// The character whose number is between braces at the start, in five or six digits without a
+/// leading zero, and what comes after the braces.
+pub(crate) fn long_character(bytes: &[u8]) -> Option<(char, &[u8])>
+    ensures { MatchOption result (HasNoLong bytes.now)
+        (λ read. IsLong read.0 × (bytes.now ≡ 0x7B ∷ (long_digits read.0 ++ 0x7D ∷ read.1.now))) }
+{
+    let Some(digits) = after_byte(bytes, b'{') else {
+        return None;
+    };
+    if let Some((character, rest)) = six_digits(digits) {
+        return Some((character, rest));
+    }
+    let Some((character, rest)) = five_digits(digits) else {
+        return None;
+    };
+    Some((character, rest))
+}
+
+/// The character whose number is six digits before a brace: `10` and four more.
+fn six_digits(digits: &[u8]) -> Option<(char, &[u8])>
+    ensures { MatchOption result (HasNoSix digits.now)
+        (λ read. IsSix digits.now read.0 read.1.now) }
+{
+    let Some(lower) = after_byte(digits, b'1') else {
+        return None;
+    };
+    let Some(low) = after_byte(lower, b'0') else {
+        return None;
+    };
+    let Some((character, rest)) = closed_character(0x10, low) else {
+        return None;
+    };
+    Some((character, rest))
+}
+
+/// The character whose number is five digits before a brace, the first of which isn't `0`.
+fn five_digits(digits: &[u8]) -> Option<(char, &[u8])>
+    ensures { MatchOption result (HasNoFive digits.now)
+        (λ read. IsFive digits.now read.0 read.1.now) }
+{
+    let Some((first, low)) = digits.split_first() else {
+        return None;
+    };
+    let Some(high) = digit(*first) else {
+        return None;
+    };
+    if high == 0 {
+        return None;
+    }
+    let Some((character, rest)) = closed_character(high, low) else {
+        return None;
+    };
+    Some((character, rest))
+}
+
+/// The character whose number has these high digits and then the next four, which a brace follows.
+#[tactic(auto, using(crate::proofs::lemmas::LongTokens::closed_tokens))]
+fn closed_character(high: u8, low: &[u8]) -> Option<(char, &[u8])>
+    requires some { 0 < high }
+    requires within { high ≤ 0x10 }
+    ensures { MatchOption result (HasNoFour low.now)
+        (λ read. IsFour high low.now read.0 read.1.now) }
+{
+    let Some((number, closed)) = four_digits(low) else {
+        return None;
+    };
+    let Some(rest) = after_byte(closed, b'}') else {
+        return None;
+    };
+    let Some(character) = char::from_u32(u32::from(high) * 0x1_0000 + u32::from(number)) else {
+        return None;
+    };
+    Some((character, rest))
+}
+
+/// What comes after a byte at the start.
+fn after_byte(bytes: &[u8], byte: u8) -> Option<&[u8]>
+    ensures { MatchOption result ((after : List ℕ) → bytes.now ≢ byte ∷ after)
+        (λ following. bytes.now ≡ byte ∷ following.now) }
+{
+    let Some((first, following)) = bytes.split_first() else {
+        return None;
+    };
+    if *first == byte {
+        Some(following)
+    } else {
+        None
+    }
+}

@@ -1,0 +1,212 @@
+//! The escape of a string, piece by piece, for whatever takes it.
+ghost use Rattle.os_quote.specs.Sinks.{SinkRules, Takes};
+ghost use Rattle.std.specs.Prelude.{◌≡◌, MatchOption};
+ghost use Rattle.platform_str.specs.Strings.{bytes};
+ghost use Rattle.os_str_ext.specs.Parts.{part_bytes};
+ghost use Rattle.os_quote.specs.Buffers.{part_escape, text_escape, token_of, IsCutAtToken};
+ghost use Rattle.os_quote.specs.Escaped.{escape_of};
+ghost use Rattle.os_quote.specs.Item.{Backslash, item_text, unit_item, backslash};
+ghost use Rattle.os_quote.specs.Shown.{is_any, shown_by, stays_on_line};
+
+use crate::find_hidden::split_hidden;
+use crate::find_plain::split_plain;
+use crate::form::Form;
+use crate::read_token::split_backslash;
+use crate::write_token::TokenText;
+use os_str_bytes::{NonUnicodeOsStr, OsStr, OsStrBytesExt, Platform};
+use std::fmt;
+
+/// What takes an escape, piece by piece: a formatter, a buffer, or a text that is compared with it.
+pub(crate) trait Sink {
+    ghost rules: { SinkRules Self };
+
+    /// Takes a piece, or refuses it, and with it the escape.
+    fn take(&mut self, piece: &str) -> fmt::Result
+        requires { rules.has_room self.old piece.now }
+        ensures { Takes rules self.old piece.now result self.new };
+
+    /// The same of a token.
+    fn take_token(&mut self, token: TokenText) -> fmt::Result
+        requires { rules.has_room self.old token }
+        ensures { Takes rules self.old token result self.new };
+}
+
+impl<W: fmt::Write> Sink for fmt::Formatter<W> {
+    ghost use Rattle.os_quote.specs.FormatterSink.{formatter_rules};
+
+    ghost rules = { formatter_rules W.write_str_gives };
+
+    #[inline(always)]
+    fn take(&mut self, piece: &str) -> fmt::Result {
+        self.write_str(piece)
+    }
+
+    #[inline(always)]
+    fn take_token(&mut self, token: TokenText) -> fmt::Result {
+        self.take(token.as_str())
+    }
+}
+
+/// Gives a sink the escape of a string in a form. Plain bytes at the start are given first: each piece
+/// right after it was looked at, and before the next one is.
+#[inline(always)]
+pub(crate) fn write_escape_to<E: Platform, S: Sink>(
+    form: Form,
+    string: OsStr<'_, E>,
+    sink: &mut S,
+) -> fmt::Result
+    requires { S.rules.has_room sink.old (escape_of (shown_by form) E.units (bytes string)) }
+    ensures { Takes S.rules sink.old (escape_of (shown_by form) E.units (bytes string.entry))
+        result sink.new }
+{
+    let mut rest = string.as_encoded_bytes();
+    while let Some((plain, following)) = split_plain(rest) {
+        sink.take(plain)?;
+        rest = following;
+    }
+    write_chunks(form, OsStr::<E>::from_encoded_bytes_unchecked(rest), sink)
+}
+
+/// Gives it the same chunk by chunk.
+#[inline(always)]
+fn write_chunks<E: Platform, S: Sink>(form: Form, string: OsStr<'_, E>, sink: &mut S) -> fmt::Result
+    requires { S.rules.has_room sink.old (escape_of (shown_by form) E.units (bytes string)) }
+    ensures { Takes S.rules sink.old (escape_of (shown_by form) E.units (bytes string.entry))
+        result sink.new }
+{
+    for (part, text) in string.utf8_chunks() {
+        write_part(part, sink)?;
+        write_text(form, text, sink)?;
+    }
+    Ok(())
+}
+
+/// Gives it the units of a part.
+#[inline(always)]
+fn write_part<'a, E: Platform, S: Sink>(part: NonUnicodeOsStr<'a, E>, sink: &mut S) -> fmt::Result
+    requires { S.rules.has_room sink.old (part_escape E.units (part_bytes part)) }
+    ensures { Takes S.rules sink.old (part_escape E.units (part_bytes part.entry)) result sink.new }
+{
+    for unit in part.os_units() {
+        write_unit(unit.to_u64() as u16, sink)?;
+    }
+    Ok(())
+}
+
+/// Gives it a text in a form.
+#[inline(always)]
+fn write_text<S: Sink>(form: Form, text: &str, sink: &mut S) -> fmt::Result
+    requires { S.rules.has_room sink.old (text_escape (shown_by form) text.now) }
+    ensures { Takes S.rules sink.old (text_escape (shown_by form) text.now) result sink.new }
+{
+    match form {
+        Form::Text => write_shown_text(text, sink),
+        Form::Line => write_line_text(text, sink),
+    }
+}
+
+/// Gives it a text in the form that shows every character.
+#[inline(always)]
+fn write_shown_text<S: Sink>(text: &str, sink: &mut S) -> fmt::Result
+    requires { S.rules.has_room sink.old (text_escape is_any text.now) }
+    ensures { Takes S.rules sink.old (text_escape is_any text.now) result sink.new }
+{
+    let mut rest = text;
+    while let Some((prefix, following)) = split_at_backslash(rest) {
+        sink.take(prefix)?;
+        write_backslash(sink)?;
+        rest = following;
+    }
+    sink.take(rest)
+}
+
+/// Gives it a text in the form for one line.
+#[inline(always)]
+fn write_line_text<S: Sink>(text: &str, sink: &mut S) -> fmt::Result
+    requires { S.rules.has_room sink.old (text_escape stays_on_line text.now) }
+    ensures { Takes S.rules sink.old (text_escape stays_on_line text.now) result sink.new }
+{
+    let mut rest = text;
+    while let Some((prefix, character, following)) = split_at_hidden(rest) {
+        write_unchanged(prefix, sink)?;
+        write_character(character, sink)?;
+        rest = following;
+    }
+    sink.take(rest)
+}
+
+/// Gives it a text as it is, if there is any: where one token follows another, there is none.
+#[inline(always)]
+fn write_unchanged<S: Sink>(text: &str, sink: &mut S) -> fmt::Result
+    requires { S.rules.has_room sink.old text.now }
+    ensures { Takes S.rules sink.old text.now result sink.new }
+{
+    if text.is_empty() {
+        return Ok(());
+    }
+    sink.take(text)
+}
+
+/// Gives it the token of a unit: `\xHH` if it is below 100 (hexadecimal), else `\uHHHH`.
+#[inline(always)]
+fn write_unit<S: Sink>(unit: u16, sink: &mut S) -> fmt::Result
+    requires { S.rules.has_room sink.old (item_text (unit_item unit)) }
+    ensures { Takes S.rules sink.old (item_text (unit_item unit)) result sink.new }
+{
+    if unit < 0x100 {
+        sink.take_token(TokenText::of_byte(unit as u8))
+    } else {
+        sink.take_token(TokenText::of_wide(unit))
+    }
+}
+
+/// Gives it the token of a character that isn't shown, or is the backslash: `\\`, `\uHHHH` where it has
+/// 16 bits, else `\u{H..}`.
+#[inline(always)]
+fn write_character<S: Sink>(character: char, sink: &mut S) -> fmt::Result
+    requires { S.rules.has_room sink.old (item_text (token_of character)) }
+    ensures { Takes S.rules sink.old (item_text (token_of character)) result sink.new }
+{
+    let number = character as u32;
+    if character == '\\' {
+        write_backslash(sink)
+    } else if number < 0x1_0000 {
+        sink.take_token(TokenText::of_wide(number as u16))
+    } else {
+        sink.take_token(TokenText::of_long(number))
+    }
+}
+
+/// Gives it the token of a backslash.
+#[inline(always)]
+fn write_backslash<S: Sink>(sink: &mut S) -> fmt::Result
+    requires { S.rules.has_room sink.old (item_text Backslash) }
+    ensures { Takes S.rules sink.old (item_text Backslash) result sink.new }
+{
+    sink.take_token(TokenText::of_backslash())
+}
+
+/// What comes before the first backslash of a text, and what comes after it.
+#[inline(always)]
+pub(crate) fn split_at_backslash(text: &str) -> Option<(&str, &str)>
+    ensures { MatchOption result (text_escape is_any text.now ≡ text.now)
+        (λ parts. IsCutAtToken is_any text.now parts.0.now backslash parts.1.now) }
+{
+    let Some((prefix, following)) = split_backslash(text) else {
+        return None;
+    };
+    Some((prefix, following))
+}
+
+/// What comes before the first character of a text that is written as a token on one line, that
+/// character, and what comes after it.
+#[inline(always)]
+pub(crate) fn split_at_hidden(text: &str) -> Option<(&str, char, &str)>
+    ensures { MatchOption result (text_escape stays_on_line text.now ≡ text.now)
+        (λ parts. IsCutAtToken stays_on_line text.now parts.0.now parts.1 parts.2.now) }
+{
+    let Some((prefix, character, following)) = split_hidden(text) else {
+        return None;
+    };
+    Some((prefix, character, following))
+}
