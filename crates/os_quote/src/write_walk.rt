@@ -113,7 +113,7 @@ fn write_shown_text<S: Sink>(text: &str, sink: &mut S) -> fmt::Result
 {
     let mut rest = text;
     while let Some((prefix, following)) = split_at_backslash(rest) {
-        sink.take(prefix)?;
+        write_unchanged(prefix, sink)?;
         write_backslash(sink)?;
         rest = following;
     }

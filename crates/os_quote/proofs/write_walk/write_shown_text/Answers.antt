@@ -4,26 +4,26 @@ use Rattle.os_quote.proofs.lemmas.Pushing.{cut_escape}
 use Rattle.os_quote.proofs.lemmas.Taking.{one_taken, last_taken, room_left, none_taken}
 use Rattle.os_quote.proofs.write_walk.write_shown_text.Goals as goal
 
-pub take-requires : goal.take-requires
-take-requires g c = room_left g.S.Sink.rules c.loop-prefix.invariant.1 _ _ c.requires (cut_escape c.in-Some.ensures)
+pub write_unchanged-requires : goal.write_unchanged-requires
+write_unchanged-requires g c = room_left g.S.Sink.rules c.loop-prefix.invariant.1 _ _ c.requires (cut_escape c.in-Some.ensures)
 
 pub write_backslash-requires : goal.write_backslash-requires
 write_backslash-requires g c =
     let sink = g.S.Sink.rules in
-    room_left sink (one_taken sink c.loop-prefix.invariant.1 c.in_ok-take.ensures (cut_escape c.in-Some.ensures)) _ _ c.requires refl
+    room_left sink (one_taken sink c.loop-prefix.invariant.1 c.in_ok-write_unchanged.ensures (cut_escape c.in-Some.ensures)) _ _ c.requires refl
 
 pub loop-prefix-preserved : goal.loop-prefix-preserved
 loop-prefix-preserved g c =
     let sink = g.S.Sink.rules in
-    (c.in-Some.ensures.after_text, one_taken sink (one_taken sink c.loop-prefix.invariant.1 c.in_ok-take.ensures (cut_escape c.in-Some.ensures)) c.in_ok-write_backslash.ensures refl)
+    (c.in-Some.ensures.after_text, one_taken sink (one_taken sink c.loop-prefix.invariant.1 c.in_ok-write_unchanged.ensures (cut_escape c.in-Some.ensures)) c.in_ok-write_backslash.ensures refl)
 
-pub returns-in_err-take : goal.returns-in_err-take
-returns-in_err-take g c = rw (err_from_is_err_and c.from_residual.result c.from_residual.ensures.1).1 (none_taken g.S.Sink.rules c.loop-prefix.invariant.1 _ _ c.in_err-take.ensures (cut_escape c.in-Some.ensures))
+pub returns-in_err-write_unchanged : goal.returns-in_err-write_unchanged
+returns-in_err-write_unchanged g c = rw (err_from_is_err_and c.from_residual.result c.from_residual.ensures.1).1 (none_taken g.S.Sink.rules c.loop-prefix.invariant.1 _ _ c.in_err-write_unchanged.ensures (cut_escape c.in-Some.ensures))
 
 pub returns-in_err-write_backslash : goal.returns-in_err-write_backslash
 returns-in_err-write_backslash g c =
     let sink = g.S.Sink.rules in
-    rw (err_from_is_err_and c.from_residual-in_err-write_backslash.result c.from_residual-in_err-write_backslash.ensures.1).1 (none_taken sink (one_taken sink c.loop-prefix.invariant.1 c.in_ok-take.ensures (cut_escape c.in-Some.ensures)) _ _ c.in_err-write_backslash.ensures refl)
+    rw (err_from_is_err_and c.from_residual-in_err-write_backslash.result c.from_residual-in_err-write_backslash.ensures.1).1 (none_taken sink (one_taken sink c.loop-prefix.invariant.1 c.in_ok-write_unchanged.ensures (cut_escape c.in-Some.ensures)) _ _ c.in_err-write_backslash.ensures refl)
 
 pub returns : goal.returns
-returns g c = last_taken g.S.Sink.rules _ _ c.loop-prefix.invariant.1 c.in_default.ensures c.take-2.result c.take-2.ensures
+returns g c = last_taken g.S.Sink.rules _ _ c.loop-prefix.invariant.1 c.in_default.ensures c.take.result c.take.ensures
