@@ -1,5 +1,5 @@
 -- What the exports answer.
-use Rattle.std.specs.Prelude.{ℕ, List}
+use Rattle.std.specs.Prelude.{◌≡◌, ◌⊎◌, ◌≤◌, ◌<◌, ℕ, List, [], ◌∷◌, length}
 use Rattle.std.specs.declared.cmp.Ordering.{Ordering}
 use Rattle.std.specs.declared.cmp.Ordering.TheVariants.{Less, Equal, Greater}
 use Rattle.wtf8_core.specs.Truncated.{IsTruncated}
@@ -7,6 +7,20 @@ use Rattle.wtf8_core.specs.Truncated.{IsTruncated}
 -- a wanted list is written into the buffer, truncated to the buffer's length, and has so many items
 abbrev pub Writes : (List ℕ → Type 0) → List ℕ → List ℕ → ℕ → Type 0
 Writes Wanted old new count = (list : List ℕ) × (Wanted list × IsTruncated list old new count)
+
+-- with status 0 it was done whole, and with status 2 as far as there is room: `count` is how much room is wanted
+abbrev pub IsDone : ℕ → Type 0 → ℕ → ℕ → Type 0
+IsDone status Done room count = (status ≡ 0 → Done × (count ≤ room)) × (status ≡ 2 → Done × (room < count))
+
+-- with status 0 a wanted list is written into the buffer, and with status 2 as much of it as there is room for
+abbrev pub IsWritten : ℕ → (List ℕ → Type 0) → List ℕ → List ℕ → ℕ → Type 0
+IsWritten status Wanted old new count = IsDone status (Writes Wanted old new count) (length old) count
+
+-- the status is one of these
+abbrev pub IsOneOf : List ℕ → ℕ → Type 0
+IsOneOf [] status = ⊥
+IsOneOf (one ∷ []) status = status ≡ one
+IsOneOf (one ∷ other ∷ others) status = (status ≡ one) ⊎ IsOneOf (other ∷ others) status
 
 -- the number of an order
 abbrev pub order_number : Ordering → ℕ

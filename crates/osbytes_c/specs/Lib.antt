@@ -6,3 +6,4 @@ pub mod PathSpans
 pub mod Platforms
 pub mod Steps
 pub mod Walks
+pub mod Words

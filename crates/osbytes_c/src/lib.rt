@@ -25,6 +25,7 @@ pub mod laws;
 pub mod lossy;
 pub mod part_list;
 mod path_parts;
+mod path_spans;
 pub mod path_tests;
 pub mod paths;
 pub mod prefix;

@@ -1,11 +1,12 @@
 //! What a path has, and how it starts and ends.
-ghost use Rattle.std.specs.Prelude.{◌≡◌, ◌≤◌, ◌<◌, ◌↔◌, ◌⊎◌, MatchOption};
+ghost use Rattle.std.specs.Prelude.{◌≡◌, ◌≤◌, ◌<◌, ◌↔◌, ◌∷◌, [], MatchOption};
 ghost use Rattle.path_rules.specs.Root.{HasRoot, IsAbsolute};
 ghost use Rattle.path_rules.specs.Compare.{StartsWith, EndsWith};
+ghost use Rattle.osbytes_c.specs.Answers.{IsOneOf};
 ghost use Rattle.osbytes_c.specs.PathSpans.{style_on};
 
-use crate::status::{DONE, NO_PLATFORM, NONE};
-use path_rules::Style;
+use crate::status::{NO_PLATFORM, told};
+use path_rules::{Style, ends_with, has_root, is_absolute, starts_with};
 
 /// Whose paths those of a platform are.
 #[inline(always)]
@@ -27,15 +28,11 @@ pub extern "C" fn osb_core_path_has_root(platform: u32, path: &[u8]) -> u32
     ensures is { result ≡ 0 → HasRoot (style_on platform) path.now }
     ensures none { result ≡ 3 → ¬ (HasRoot (style_on platform) path.now) }
     ensures platform { (result ≡ 16) ↔ (2 < platform) }
-    ensures answers { (result ≡ 0) ⊎ ((result ≡ 3) ⊎ (result ≡ 16)) }
+    ensures answers { IsOneOf (0 ∷ 3 ∷ 16 ∷ []) result }
 {
-    let Some(style) = style_of(platform) else {
-        return NO_PLATFORM;
-    };
-    if path_rules::has_root(style, path) {
-        DONE
-    } else {
-        NONE
+    match style_of(platform) {
+        Some(style) => told(has_root(style, path)),
+        None => NO_PLATFORM,
     }
 }
 
@@ -45,15 +42,11 @@ pub extern "C" fn osb_core_path_is_absolute(platform: u32, path: &[u8]) -> u32
     ensures is { result ≡ 0 → IsAbsolute (style_on platform) path.now }
     ensures none { result ≡ 3 → ¬ (IsAbsolute (style_on platform) path.now) }
     ensures platform { (result ≡ 16) ↔ (2 < platform) }
-    ensures answers { (result ≡ 0) ⊎ ((result ≡ 3) ⊎ (result ≡ 16)) }
+    ensures answers { IsOneOf (0 ∷ 3 ∷ 16 ∷ []) result }
 {
-    let Some(style) = style_of(platform) else {
-        return NO_PLATFORM;
-    };
-    if path_rules::is_absolute(style, path) {
-        DONE
-    } else {
-        NONE
+    match style_of(platform) {
+        Some(style) => told(is_absolute(style, path)),
+        None => NO_PLATFORM,
     }
 }
 
@@ -63,15 +56,11 @@ pub extern "C" fn osb_core_path_starts_with(platform: u32, path: &[u8], base: &[
     ensures is { result ≡ 0 → StartsWith (style_on platform) path.now base.now }
     ensures none { result ≡ 3 → ¬ (StartsWith (style_on platform) path.now base.now) }
     ensures platform { (result ≡ 16) ↔ (2 < platform) }
-    ensures answers { (result ≡ 0) ⊎ ((result ≡ 3) ⊎ (result ≡ 16)) }
+    ensures answers { IsOneOf (0 ∷ 3 ∷ 16 ∷ []) result }
 {
-    let Some(style) = style_of(platform) else {
-        return NO_PLATFORM;
-    };
-    if path_rules::starts_with(style, path, base) {
-        DONE
-    } else {
-        NONE
+    match style_of(platform) {
+        Some(style) => told(starts_with(style, path, base)),
+        None => NO_PLATFORM,
     }
 }
 
@@ -81,14 +70,10 @@ pub extern "C" fn osb_core_path_ends_with(platform: u32, path: &[u8], child: &[u
     ensures is { result ≡ 0 → EndsWith (style_on platform) path.now child.now }
     ensures none { result ≡ 3 → ¬ (EndsWith (style_on platform) path.now child.now) }
     ensures platform { (result ≡ 16) ↔ (2 < platform) }
-    ensures answers { (result ≡ 0) ⊎ ((result ≡ 3) ⊎ (result ≡ 16)) }
+    ensures answers { IsOneOf (0 ∷ 3 ∷ 16 ∷ []) result }
 {
-    let Some(style) = style_of(platform) else {
-        return NO_PLATFORM;
-    };
-    if path_rules::ends_with(style, path, child) {
-        DONE
-    } else {
-        NONE
+    match style_of(platform) {
+        Some(style) => told(ends_with(style, path, child)),
+        None => NO_PLATFORM,
     }
 }

@@ -1,11 +1,22 @@
 //! Names as words of a shell.
-ghost use Rattle.std.specs.Prelude.{◌≡◌, ◌⊎◌, ◌≤◌, ◌<◌, ◌↔◌, ◌*◌, ◌+◌, length};
+ghost use Rattle.std.specs.Prelude.{◌≡◌, ◌⊎◌, ◌<◌, ◌↔◌, ◌*◌, ◌+◌, ◌^◌, ◌∷◌, [], length, MatchResult, OnOk};
+ghost use Rattle.wtf8_core.specs.Truncated.{IsTruncated};
 ghost use Rattle.os_command_line.specs.ShellWriting.{quoted_word, IsLineWord, HasNoNul, IsFirstNul};
-ghost use Rattle.osbytes_c.specs.Answers.{Writes};
+ghost use Rattle.osbytes_c.specs.Answers.{IsOneOf, IsWritten, Writes};
+ghost use Rattle.osbytes_c.specs.Words.{IsWordOf};
 
-use crate::status::{DONE, HAS_NUL, NO_ROOM, TOO_LONG};
+use crate::status::{HAS_NUL, TOO_LONG, fits};
 use crate::strings::unix;
-use os_command_line::shell::{write_quoted, write_quoted_line};
+use os_command_line::shell::{NulError, write_quoted, write_quoted_line};
+
+/// Whose word it is.
+#[derive(Clone, Copy)]
+pub(crate) enum Shell {
+    /// That of every POSIX shell.
+    Posix,
+    /// That of the shells that read `$'..'`, on one line.
+    Line,
+}
 
 /// Writes the word of a name in every POSIX shell into `out`, as far as there is room, and counts its
 /// bytes: at most four for each byte of the name, and three. `index` is that of the name's first NUL.
@@ -16,28 +27,14 @@ pub extern "C" fn osb_core_shell_quote(
     count: &mut usize,
     index: &mut usize,
 ) -> u32
-    ensures done { result ≡ 0 → Writes (λ word. word ≡ quoted_word name.now) out.old out.new
-        count.new × (count.new ≤ length out.old) }
-    ensures room { result ≡ 2 → Writes (λ word. word ≡ quoted_word name.now) out.old out.new
-        count.new × (length out.old < count.new) }
+    ensures written { IsWritten result (λ word. word ≡ quoted_word name.now) out.old out.new
+        count.new }
     ensures name { (result ≡ 0) ⊎ (result ≡ 2) → HasNoNul name.now }
     ensures nul { result ≡ 7 → IsFirstNul name.now index.new }
     ensures long { (result ≡ 21) ↔ (usize.MAX < 4 * length name.now + 3) }
-    ensures answers { (result ≡ 0) ⊎ ((result ≡ 2) ⊎ ((result ≡ 7) ⊎ (result ≡ 21))) }
+    ensures answers { IsOneOf (0 ∷ 2 ∷ 7 ∷ 21 ∷ []) result }
 {
-    if name.len() > usize::MAX / 4 {
-        return TOO_LONG;
-    }
-    match write_quoted(unix(name), out) {
-        Ok(written) => {
-            *count = written;
-            if written <= out.len() { DONE } else { NO_ROOM }
-        }
-        Err(fault) => {
-            *index = fault.index;
-            HAS_NUL
-        }
-    }
+    quote(Shell::Posix, name, out, count, index)
 }
 
 /// The same on one line.
@@ -48,26 +45,49 @@ pub extern "C" fn osb_core_shell_quote_line(
     count: &mut usize,
     index: &mut usize,
 ) -> u32
-    ensures done { result ≡ 0 → Writes (IsLineWord name.now) out.old out.new
-        count.new × (count.new ≤ length out.old) }
-    ensures room { result ≡ 2 → Writes (IsLineWord name.now) out.old out.new
-        count.new × (length out.old < count.new) }
+    ensures written { IsWritten result (IsLineWord name.now) out.old out.new count.new }
     ensures name { (result ≡ 0) ⊎ (result ≡ 2) → HasNoNul name.now }
     ensures nul { result ≡ 7 → IsFirstNul name.now index.new }
     ensures long { (result ≡ 21) ↔ (usize.MAX < 4 * length name.now + 3) }
-    ensures answers { (result ≡ 0) ⊎ ((result ≡ 2) ⊎ ((result ≡ 7) ⊎ (result ≡ 21))) }
+    ensures answers { IsOneOf (0 ∷ 2 ∷ 7 ∷ 21 ∷ []) result }
+{
+    quote(Shell::Line, name, out, count, index)
+}
+
+/// Writes the word of a name in a shell.
+fn quote(shell: Shell, name: &[u8], out: &mut [u8], count: &mut usize, index: &mut usize) -> u32
+    ensures written { IsWritten result (IsWordOf shell name.now) out.old out.new count.new }
+    ensures name { (result ≡ 0) ⊎ (result ≡ 2) → HasNoNul name.now }
+    ensures nul { result ≡ 7 → IsFirstNul name.now index.new }
+    ensures long { (result ≡ 21) ↔ (usize.MAX < 4 * length name.now + 3) }
+    ensures answers { IsOneOf (0 ∷ 2 ∷ 7 ∷ 21 ∷ []) result }
 {
     if name.len() > usize::MAX / 4 {
         return TOO_LONG;
     }
-    match write_quoted_line(unix(name), out) {
+    match write_word(shell, name, out) {
         Ok(written) => {
             *count = written;
-            if written <= out.len() { DONE } else { NO_ROOM }
+            fits(written, out.len())
         }
         Err(fault) => {
             *index = fault.index;
             HAS_NUL
         }
+    }
+}
+
+/// Writes the word of a name in a shell, truncated, and counts its bytes.
+#[inline(always)]
+fn write_word(shell: Shell, name: &[u8], out: &mut [u8]) -> Result<usize, NulError>
+    requires { 4 * length name.now + 3 < 2 ^ 64 }
+    ensures word { MatchResult result
+        (λ count. Writes (IsWordOf shell name.now) out.old out.new count)
+        (λ fault. IsFirstNul name.now fault.index) }
+    ensures name { OnOk result (HasNoNul name.now) }
+{
+    match shell {
+        Shell::Posix => write_quoted(unix(name), out),
+        Shell::Line => write_quoted_line(unix(name), out),
     }
 }

@@ -1,4 +1,6 @@
 //! What the exports answer.
+ghost use Rattle.std.specs.Prelude.{◌≡◌, ◌≤◌, ◌<◌, ◌∷◌, [], true, false};
+ghost use Rattle.osbytes_c.specs.Answers.{IsOneOf};
 
 /// The call did what it is for.
 pub const DONE: u32 = 0;
@@ -28,3 +30,23 @@ pub const NO_FAULT: u32 = 19;
 pub const NO_STATE: u32 = 20;
 /// The string is too long for its text's length to be a `usize`.
 pub const TOO_LONG: u32 = 21;
+
+/// Whether what was written is all of it.
+#[inline(always)]
+pub(crate) fn fits(count: usize, room: usize) -> u32
+    ensures done { result ≡ 0 → count ≤ room }
+    ensures room { result ≡ 2 → room < count }
+    ensures answers { IsOneOf (0 ∷ 2 ∷ []) result }
+{
+    if count <= room { DONE } else { NO_ROOM }
+}
+
+/// Whether it is so.
+#[inline(always)]
+pub(crate) fn told(is: bool) -> u32
+    ensures is { result ≡ 0 → is ≡ true }
+    ensures none { result ≡ 3 → is ≡ false }
+    ensures answers { IsOneOf (0 ∷ 3 ∷ []) result }
+{
+    if is { DONE } else { NONE }
+}

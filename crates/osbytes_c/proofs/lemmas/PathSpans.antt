@@ -1,5 +1,5 @@
 -- Parts of a path, by their indices.
-use Rattle.std.proofs.Common.{◌≡◌, ◌⊎◌, inl, inr, ℕ, ◌+◌, ◌-◌, ◌≤◌, List, [], ◌∷◌, ◌++◌, length, take, drop, sym, ap, ◌∙◌, subst, append-nil, append_assoc, length-append, take-take, arith}
+use Rattle.std.proofs.Common.{◌≡◌, inl, inr, ℕ, ◌+◌, ◌-◌, ◌≤◌, List, [], ◌∷◌, ◌++◌, length, take, drop, sym, ap, ◌∙◌, subst, append-nil, append_assoc, length-append, take-take, arith}
 use Rattle.std.proofs.lemmas.List.{drop-take, drop-drop, length-drop, length-take-le}
 use Rattle.std.proofs.Math.Seq.{take-append_seam, drop-append_seam}
 use Rattle.path_rules.specs.declared.rules.Style.{Style}
@@ -7,7 +7,7 @@ use Rattle.path_rules.specs.Name.{IsStem, IsExtension}
 use Rattle.osbytes_c.specs.declared.part_list.Part.{Part}
 use Rattle.osbytes_c.specs.declared.span.Span.{Span}
 use Rattle.osbytes_c.specs.PathParts.{IsLastName}
-use Rattle.osbytes_c.specs.PathSpans.{IsNameSpan, style_on}
+use Rattle.osbytes_c.specs.PathSpans.{IsNameSpan}
 use Rattle.osbytes_c.specs.Steps.{part}
 
 -- what is left at the end, from its index on
@@ -54,7 +54,5 @@ extension_back name stem extension h = h.joined ∙ sym (append_assoc stem (0x2E
 abbrev pub span_of : Part → Span
 span_of p = record { start = p.start; end = p.end }
 
-pub name_span : (platform : ℕ) (path : List ℕ) (w : Style) (p : Part) → w ≡ style_on platform → IsLastName w path p → IsNameSpan platform path (span_of p)
-name_span platform path w p e last =
-    subst (λ v. IsLastName v path (record { kind = 5; start = p.start; end = p.end })) e
-    (subst (λ k. IsLastName w path (record { kind = k; start = p.start; end = p.end })) last.name last)
+pub is_name_span : (style : Style) (path : List ℕ) (p : Part) → IsLastName style path p → IsNameSpan style path (span_of p)
+is_name_span style path p last = subst (λ k. IsLastName style path (record { kind = k; start = p.start; end = p.end })) last.name last

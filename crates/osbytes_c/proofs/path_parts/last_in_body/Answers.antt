@@ -1,4 +1,4 @@
-use Rattle.std.proofs.Common.{◌≡◌, ◌+◌, ◌-◌, ◌≤◌, [], ◌∷◌, ◌++◌, length, take, drop, get_or, subst, sym, ap, ◌∙◌, append_assoc, length-append, arith}
+use Rattle.std.proofs.Common.{◌≡◌, ◌+◌, ◌-◌, [], ◌∷◌, ◌++◌, length, take, drop, get_or, subst, sym, ap, ◌∙◌, append_assoc, length-append, arith}
 use Rattle.std.specs.List.{cons_option}
 use Rattle.path_rules.proofs.lemmas.Fields.{cons_of, nil_of}
 use Rattle.osbytes_c.specs.PathParts.{part_named, parts_in, IsLastOf}

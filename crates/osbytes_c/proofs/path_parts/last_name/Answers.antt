@@ -1,4 +1,4 @@
-use Rattle.std.proofs.Common.{◌≡◌, ◌+◌, ◌-◌, [], ◌∷◌, ◌++◌, length, refl, subst, sym, ap, ◌∙◌, append_assoc, arith}
+use Rattle.std.proofs.Common.{◌-◌, [], ◌∷◌, ◌++◌, length, refl, subst, sym, ap, ◌∙◌, append_assoc, arith}
 use Rattle.std.proofs.lemmas.List.{same_from_push}
 use Rattle.osbytes_c.specs.PathParts.{head_parts, prefix_parts, start_parts, IsNoName}
 use Rattle.osbytes_c.proofs.lemmas.PathParts.{body_within, none_in_head}

@@ -2,7 +2,7 @@ use Rattle.std.proofs.Common.{◌≡◌, drop, subst, sym, ap, ◌∙◌}
 use Rattle.path_rules.specs.Name.{IsStem}
 use Rattle.osbytes_c.specs.Steps.{part}
 use Rattle.osbytes_c.proofs.lemmas.PathSpans.{stem_front, span_front}
-use Rattle.osbytes_c.proofs.paths.stem_in.Goals as goal
+use Rattle.osbytes_c.proofs.path_spans.stem_in.Goals as goal
 
 pub returns-clause-stem : goal.returns-clause-stem
 returns-clause-stem c =

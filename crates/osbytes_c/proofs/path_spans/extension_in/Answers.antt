@@ -2,7 +2,7 @@ use Rattle.std.proofs.Common.{◌≡◌, [], ◌∷◌, ◌++◌, drop, subst, s
 use Rattle.path_rules.specs.Name.{IsExtension}
 use Rattle.osbytes_c.specs.Steps.{part}
 use Rattle.osbytes_c.proofs.lemmas.PathSpans.{extension_back, span_back}
-use Rattle.osbytes_c.proofs.paths.extension_in.Goals as goal
+use Rattle.osbytes_c.proofs.path_spans.extension_in.Goals as goal
 
 pub returns-clause-extension : goal.returns-clause-extension
 returns-clause-extension c =
