@@ -7,12 +7,13 @@ The columns of each kind of file are named in its second line. The status is 1 w
 from __future__ import annotations
 
 import sys
-from ctypes import CDLL, byref, c_int32, c_size_t, c_uint16, create_string_buffer
+from ctypes import CDLL, byref, c_char_p, c_int32, c_size_t, c_uint16, c_void_p, cast, create_string_buffer
 from pathlib import Path
 from typing import Callable, Iterable, Iterator
 
 from smoke import (
     BAD_ESCAPE,
+    BAD_LINE,
     FAULTY,
     HAS_NUL,
     NO_STRING,
@@ -24,6 +25,7 @@ from smoke import (
     Checker,
     Component,
     Fault,
+    LineFault,
     View,
     chunks,
     escape,
@@ -211,10 +213,71 @@ def word(call: Call, room: int, name: bytes) -> str:
     return shown(out.raw[: count.value]) if status == OK else f"nul {index.value}"
 
 
-def words(osb: CDLL, name: str, plain: str, line: str, _fish: str) -> Answers:
+def words(osb: CDLL, name: str, plain: str, line: str, fish: str) -> Answers:
     room = osb.osb_shell_bound(len(raw(name)))
     yield word(osb.osb_shell_quote, room, raw(name)), plain
     yield word(osb.osb_shell_quote_line, room, raw(name)), line
+    yield word(osb.osb_fish_quote, room, raw(name)), fish
+
+
+LINE_FAULTS = dict(enumerate(("unclosed_single", "unclosed_double", "unclosed_dollar", "trailing_backslash", "metacharacter"), 1))
+
+
+def line(osb: CDLL, options: int, text: bytes) -> str:
+    room = osb.osb_words_bound(len(text))
+    out, count, fault = create_string_buffer(room), c_size_t(), LineFault()
+    status = osb.osb_shell_words(options, text, len(text), out, room, byref(count), byref(fault))
+    assert status in (OK, BAD_LINE), status
+    if status == BAD_LINE:
+        return f"{LINE_FAULTS[fault.kind]} {fault.index}"
+    return "ok " + (joined(out.raw[: count.value].split(b"\0")[:-1]) or "none")
+
+
+def lines(osb: CDLL, text: str, refused: str, kept: str) -> Answers:
+    """A line with a NUL, which isn't read here, isn't asked."""
+    if b"\0" not in raw(text):
+        yield line(osb, 0, raw(text)), refused
+        yield line(osb, 1, raw(text)), kept
+
+
+def string_of(osb: CDLL, wide: str) -> bytes:
+    return from_wide(osb, b"".join(raw(wide)[at : at + 2][::-1] for at in range(0, len(raw(wide)), 2)))
+
+
+def wide_answer(call: Call, room: int, *given: object) -> list[int]:
+    out, count = (c_uint16 * room)(), c_size_t()
+    assert call(*given, out, room, byref(count), None, None) == OK
+    return out[: count.value]
+
+
+def wide_text(units: Iterable[int]) -> str:
+    return "".join(f"{unit:04x}" for unit in units) or "-"
+
+
+def windows_split(osb: CDLL, text: str, name: str, arguments: str) -> Answers:
+    given = string_of(osb, text)
+    words: list[list[int]] = [[]]
+    for unit in wide_answer(osb.osb_windows_arguments, osb.osb_words_bound(len(given)), given, len(given)):
+        words.append([]) if unit == 0 else words[-1].append(unit)
+    program, *others, _ = words
+    yield wide_text(program), name
+    yield ",".join(map(wide_text, others)) or "!", arguments
+
+
+def windows_quote(osb: CDLL, argument: str, text: str, _quoted: str) -> Answers:
+    given = string_of(osb, argument)
+    yield wide_text(wide_answer(osb.osb_windows_quote, osb.osb_windows_bound(len(given)), given, len(given))), text
+
+
+def windows_line(osb: CDLL, arguments: str, wanted: str) -> Answers:
+    words = [b"E"] + ([] if arguments == "!" else [string_of(osb, argument) for argument in arguments.split(",")])
+    views = (View * len(words))(*(View(cast(c_char_p(word), c_void_p), len(word)) for word in words))
+    room = sum(osb.osb_windows_bound(len(word)) + 1 for word in words)
+
+    def call(*given: object) -> int:
+        return osb.osb_windows_command_line(views, len(words), *given[:3], None, *given[3:])
+
+    yield wide_text(wide_answer(call, room)), wanted
 
 
 FILES = {
@@ -231,6 +294,10 @@ FILES = {
     "paths": paths,
     "paths_std_tests": paths,
     "posix_quote": words,
+    "posix_words": lines,
+    "windows_split": windows_split,
+    "windows_quote": windows_quote,
+    "windows_line": windows_line,
 }
 
 

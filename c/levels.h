@@ -21,7 +21,9 @@
     each(ends_with_units) each(is_boundary) each(compare) each(cut) each(rcut) each(chunk)         \
     each(symbol) each(path_components) each(path_parent) each(path_prefix) each(path_file_name)    \
     each(path_file_stem) each(path_extension) each(path_has_root) each(path_is_absolute)           \
-    each(path_starts_with) each(path_ends_with) each(shell_quote) each(shell_quote_line)
+    each(path_starts_with) each(path_ends_with) each(shell_quote) each(shell_quote_line)           \
+    each(fish_quote) each(powershell_quote) each(shell_words) each(windows_quote)                  \
+    each(windows_quote_name) each(windows_arguments)
 
 #define DECLARED(name)                                                                             \
     __attribute__((visibility("hidden"))) __typeof__(osb_core_##name) osb_core_##name##_v1,        \
@@ -103,3 +105,9 @@ __attribute__((constructor(101))) static void choose(void) {
 #define osb_core_path_ends_with CHOSEN(path_ends_with)
 #define osb_core_shell_quote CHOSEN(shell_quote)
 #define osb_core_shell_quote_line CHOSEN(shell_quote_line)
+#define osb_core_fish_quote CHOSEN(fish_quote)
+#define osb_core_powershell_quote CHOSEN(powershell_quote)
+#define osb_core_shell_words CHOSEN(shell_words)
+#define osb_core_windows_quote CHOSEN(windows_quote)
+#define osb_core_windows_quote_name CHOSEN(windows_quote_name)
+#define osb_core_windows_arguments CHOSEN(windows_arguments)

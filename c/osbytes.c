@@ -24,6 +24,10 @@ struct core_step {
 struct core_span {
     size_t start, end;
 };
+struct core_line_fault {
+    uint32_t kind;
+    size_t index;
+};
 
 _Static_assert(sizeof(size_t) == 8 && sizeof(bool) == 1, "a 64-bit machine");
 _Static_assert(sizeof(osb_view) == 16 && offsetof(osb_view, len) == 8, "osb_view");
@@ -103,6 +107,18 @@ uint32_t osb_core_shell_quote(const char *at, size_t len, char *out, size_t room
                               size_t *index);
 uint32_t osb_core_shell_quote_line(const char *at, size_t len, char *out, size_t room,
                                    size_t *count, size_t *index);
+uint32_t osb_core_fish_quote(const char *at, size_t len, char *out, size_t room, size_t *count,
+                             size_t *index);
+uint32_t osb_core_powershell_quote(const char *at, size_t len, char *out, size_t room,
+                                   size_t *count, size_t *index);
+uint32_t osb_core_shell_words(uint32_t options, const char *line, size_t len, char *out,
+                              size_t room, size_t *count, struct core_line_fault *fault);
+uint32_t osb_core_windows_quote(const char *at, size_t len, uint16_t *out, size_t room,
+                                size_t *count, size_t *index, osb_fault *fault);
+uint32_t osb_core_windows_quote_name(const char *at, size_t len, uint16_t *out, size_t room,
+                                     size_t *count, size_t *index, osb_fault *fault);
+uint32_t osb_core_windows_arguments(const char *line, size_t len, uint16_t *out, size_t room,
+                                    size_t *count, size_t *index, osb_fault *fault);
 #pragma GCC visibility pop
 
 #ifdef __x86_64__
@@ -155,13 +171,16 @@ const char *osb_status_text(osb_status status) {
     case OSB_ENDED: return "there are no more items";
     case OSB_BAD_ESCAPE: return "a backslash of the escape begins no token";
     case OSB_NO_STRING: return "no string of the platform has this escape";
-    case OSB_HAS_NUL: return "the name has a NUL";
+    case OSB_HAS_NUL: return "there is a NUL";
+    case OSB_BAD_LINE: return "the line isn't words";
+    case OSB_HAS_QUOTE: return "the program's name has a quotation mark";
     case OSB_BAD_PLATFORM: return "there is no such platform";
     case OSB_BAD_PATTERN: return "the text isn't UTF-8, or the pattern is empty";
     case OSB_BAD_INDEX: return "the index is past the end";
     case OSB_BAD_FAULT: return "there is no such fault";
     case OSB_BAD_STATE: return "there is no such state of a checker";
     case OSB_TOO_LONG: return "the string is too long";
+    case OSB_BAD_OPTION: return "there is no such option";
     case OSB_BAD_POINTER: return "a pointer or a length is refused";
     default: return "there is no such status";
     }
@@ -569,7 +588,7 @@ INLINED osb_status write_word(core_word *call, const char *at, size_t len, char 
     osb_status status =
         call(bytes(at), len, room == 0 ? (char *)no_room : out, room, &own, &own_index);
     if (status == OSB_OK || status == OSB_NO_ROOM) *count = own;
-    if (status == OSB_HAS_NUL && index != NULL) *index = own_index;
+    if ((status == OSB_HAS_NUL || status == OSB_FAULTY) && index != NULL) *index = own_index;
     return status;
 }
 
@@ -581,4 +600,116 @@ osb_status osb_shell_quote(const char *at, size_t len, char *out, size_t room, s
 osb_status osb_shell_quote_line(const char *at, size_t len, char *out, size_t room, size_t *count,
                                 size_t *index) {
     return write_word(osb_core_shell_quote_line, at, len, out, room, count, index);
+}
+
+osb_status osb_fish_quote(const char *at, size_t len, char *out, size_t room, size_t *count,
+                          size_t *index) {
+    return write_word(osb_core_fish_quote, at, len, out, room, count, index);
+}
+
+osb_status osb_powershell_quote(const char *at, size_t len, char *out, size_t room, size_t *count,
+                                size_t *index) {
+    return write_word(osb_core_powershell_quote, at, len, out, room, count, index);
+}
+
+size_t osb_words_bound(size_t len) {
+    return len > SIZE_MAX / 2 ? SIZE_MAX : 2 * len + 1;
+}
+
+osb_status osb_shell_words(uint32_t options, const char *line, size_t len, char *out, size_t room,
+                           size_t *count, osb_line_fault *fault) {
+    size_t own = 0;
+    struct core_line_fault own_fault = {0, 0};
+    if (count == NULL || is_bad(line, len) || is_bad(out, room) || do_overlap(line, len, out, room))
+        return OSB_BAD_POINTER;
+    osb_status status = osb_core_shell_words(options, bytes(line), len,
+                                             room == 0 ? (char *)no_room : out, room, &own, &own_fault);
+    if (status == OSB_OK || status == OSB_NO_ROOM) *count = own;
+    if ((status == OSB_BAD_LINE || status == OSB_HAS_NUL) && fault != NULL)
+        *fault = (osb_line_fault){own_fault.kind, own_fault.index};
+    return status;
+}
+
+size_t osb_windows_bound(size_t len) {
+    return len > SIZE_MAX / 2 - 1 ? SIZE_MAX : 2 * len + 2;
+}
+
+/* An export that writes units of a command line, or of what it is read as. */
+typedef uint32_t core_units(const char *at, size_t len, uint16_t *out, size_t room, size_t *count,
+                            size_t *index, osb_fault *fault);
+
+INLINED osb_status write_units(core_units *call, const char *at, size_t len, uint16_t *out,
+                               size_t room, size_t *count, size_t *index, osb_fault *fault) {
+    size_t own = 0, own_index = 0;
+    osb_fault own_fault = {0, 0, 0, 0};
+    if (count == NULL || is_bad(at, len) || are_bad_units(out, room) ||
+        do_overlap(at, len, out, room * sizeof *out))
+        return OSB_BAD_POINTER;
+    osb_status status =
+        call(bytes(at), len, room == 0 ? no_room : out, room, &own, &own_index, &own_fault);
+    if (status == OSB_OK || status == OSB_NO_ROOM) *count = own;
+    if ((status == OSB_HAS_NUL || status == OSB_HAS_QUOTE) && index != NULL) *index = own_index;
+    if (status == OSB_FAULTY && fault != NULL) *fault = own_fault;
+    return status;
+}
+
+osb_status osb_windows_quote(const char *at, size_t len, uint16_t *out, size_t room, size_t *count,
+                             size_t *index, osb_fault *fault) {
+    return write_units(osb_core_windows_quote, at, len, out, room, count, index, fault);
+}
+
+osb_status osb_windows_quote_name(const char *at, size_t len, uint16_t *out, size_t room,
+                                  size_t *count, size_t *index, osb_fault *fault) {
+    return write_units(osb_core_windows_quote_name, at, len, out, room, count, index, fault);
+}
+
+osb_status osb_windows_arguments(const char *line, size_t len, uint16_t *out, size_t room,
+                                 size_t *count, size_t *index, osb_fault *fault) {
+    return write_units(osb_core_windows_arguments, line, len, out, room, count, index, fault);
+}
+
+/* The room after so many units. */
+INLINED size_t room_after(size_t room, size_t count) {
+    return count < room ? room - count : 0;
+}
+
+/* Whether the words can be read, and a buffer written beside them. */
+static bool are_bad_words(const osb_view *words, size_t len, const uint16_t *out, size_t room) {
+    if (len > PTRDIFF_MAX / sizeof *words || is_bad(words, len * sizeof *words) ||
+        (len != 0 && (uintptr_t)words % _Alignof(osb_view) != 0) || are_bad_units(out, room) ||
+        do_overlap(words, len * sizeof *words, out, room * sizeof *out))
+        return true;
+    for (size_t i = 0; i < len; i++)
+        if (is_bad(words[i].at, words[i].len) ||
+            do_overlap(words[i].at, words[i].len, out, room * sizeof *out))
+            return true;
+    return false;
+}
+
+osb_status osb_windows_command_line(const osb_view *words, size_t len, uint16_t *out, size_t room,
+                                    size_t *count, size_t *which, size_t *index, osb_fault *fault) {
+    size_t own = 0;
+    if (count == NULL || are_bad_words(words, len, out, room)) return OSB_BAD_POINTER;
+    for (size_t i = 0; i < len; i++) {
+        size_t left = room_after(room, own), more = 0;
+        if (i != 0) {
+            if (left != 0) {
+                out[own] = ' ';
+                left--;
+            }
+            own++;
+        }
+        core_units *call = i == 0 ? osb_core_windows_quote_name : osb_core_windows_quote;
+        osb_status status = write_units(call, words[i].at, words[i].len, left == 0 ? NULL : out + own,
+                                        left, &more, index, fault);
+        if (status == OSB_OK || status == OSB_NO_ROOM) {
+            if (more > SIZE_MAX - 1 - own) return OSB_TOO_LONG;
+            own += more;
+            continue;
+        }
+        if (which != NULL) *which = i;
+        return status;
+    }
+    *count = own;
+    return own <= room ? OSB_OK : OSB_NO_ROOM;
 }

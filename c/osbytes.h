@@ -61,7 +61,9 @@ enum {
     OSB_ENDED = 4,         /* there are no more items */
     OSB_BAD_ESCAPE = 5,    /* a backslash of an escape begins no token */
     OSB_NO_STRING = 6,     /* no string of the platform has this escape */
-    OSB_HAS_NUL = 7,       /* the name has a NUL, which no word of a shell can have */
+    OSB_HAS_NUL = 7,       /* the name or the line has a NUL, which no word and no argument can have */
+    OSB_BAD_LINE = 8,      /* the line isn't words of a shell */
+    OSB_HAS_QUOTE = 9,     /* the program's name has a quotation mark, which no command line can have there */
     /* from 16 on: an argument is refused, and nothing was written but maybe into a buffer */
     OSB_BAD_PLATFORM = 16, /* there is no such platform */
     OSB_BAD_PATTERN = 17,  /* the pattern or the escape isn't UTF-8, or the pattern is empty where
@@ -70,6 +72,7 @@ enum {
     OSB_BAD_FAULT = 19,    /* there is no such fault */
     OSB_BAD_STATE = 20,    /* no call leaves a checker so */
     OSB_TOO_LONG = 21,     /* what the _bound call says is past SIZE_MAX */
+    OSB_BAD_OPTION = 22,   /* there is no such option */
     OSB_BAD_POINTER = 32   /* null, too long, not aligned, or overlapping */
 };
 
@@ -322,7 +325,7 @@ osb_status osb_path_starts_with(osb_platform platform, const char *at, size_t le
 osb_status osb_path_ends_with(osb_platform platform, const char *at, size_t len, const char *child,
                               size_t child_len);
 
-/* How many bytes the word of a name of so many bytes has at most; SIZE_MAX past that. */
+/* How many bytes the word of a name of so many bytes has at most, in each shell; SIZE_MAX past that. */
 size_t osb_shell_bound(size_t len);
 
 /* Writes a name of Unix as a word that every POSIX shell reads as this name, and as nothing else:
@@ -333,6 +336,77 @@ osb_status osb_shell_quote(const char *at, size_t len, char *out, size_t room, s
 /* The same on one line, for a terminal, as a word of the shells that read $'..' (POSIX.1-2024). */
 osb_status osb_shell_quote_line(const char *at, size_t len, char *out, size_t room, size_t *count,
                                 size_t *index);
+/* The same as a word of fish. */
+osb_status osb_fish_quote(const char *at, size_t len, char *out, size_t room, size_t *count,
+                          size_t *index);
+/* The same of a text (UTF-8) as a single-quoted string of PowerShell; also OSB_FAULTY, with which `*index`
+ * is the index from which on the bytes aren't UTF-8: a Windows string with a lone surrogate is none. */
+osb_status osb_powershell_quote(const char *at, size_t len, char *out, size_t room, size_t *count,
+                                size_t *index);
+
+/* How a line is read. Options are added. */
+enum {
+    OSB_SPECIALS = 1,     /* special characters mean themselves, and are not refused */
+    OSB_DOLLAR_QUOTES = 2 /* $'..' is read, too */
+};
+
+enum {
+    OSB_LINE_SINGLE = 1,    /* a single quote that no other closes */
+    OSB_LINE_DOUBLE = 2,    /* a double quote that no other closes */
+    OSB_LINE_DOLLAR = 3,    /* $' that no single quote closes */
+    OSB_LINE_BACKSLASH = 4, /* a backslash outside quotes, after which nothing comes */
+    OSB_LINE_SPECIAL = 5,   /* a byte that some shell gives a meaning of its own */
+    OSB_LINE_ESCAPE = 6     /* a backslash in $'..' that begins no escape */
+};
+
+/* Why a line isn't words. */
+typedef struct osb_line_fault {
+    uint32_t kind; /* OSB_LINE_.., what begins at the index; 0 a NUL */
+    size_t index;
+} osb_line_fault;
+
+/* How many bytes the words of a line of so many bytes have at most with a 0 after each, and how many
+ * units the program's name and the arguments of a Windows line of so many bytes; SIZE_MAX past that. */
+size_t osb_words_bound(size_t len);
+
+/* Writes the words of a line as a POSIX shell reads it, where nothing is expanded, with a 0 byte after
+ * each: OSB_OK, OSB_NO_ROOM, OSB_BAD_LINE, OSB_HAS_NUL, OSB_TOO_LONG, OSB_BAD_OPTION. `*count` counts
+ * the 0 bytes, too: the words are the strings of C in the first `*count` bytes, one after the other. A byte
+ * by which some shell expands or does something else is refused, unless OSB_SPECIALS is given. `fault`
+ * may be null; it is written with OSB_BAD_LINE and with OSB_HAS_NUL. */
+osb_status osb_shell_words(uint32_t options, const char *line, size_t len, char *out, size_t room,
+                           size_t *count, osb_line_fault *fault);
+
+/* A command line of Windows is 16-bit units, as CreateProcessW takes them, and the calls that write one
+ * count units: `room` and `*count`, too. It is read as the C runtime of 2015 and later reads it. What
+ * goes in are strings of Windows: OSB_FAULTY where they are none. With OSB_HAS_NUL and OSB_HAS_QUOTE
+ * `*index` is the byte index of the first one. `index` and `fault` may be null. */
+
+/* How many units the text of an argument or of a program's name of so many bytes has at most; SIZE_MAX
+ * past that. */
+size_t osb_windows_bound(size_t len);
+
+/* Writes an argument so that it is read as this one, whatever blank or end comes after it: OSB_OK,
+ * OSB_FAULTY, OSB_NO_ROOM, OSB_HAS_NUL, OSB_TOO_LONG. cmd.exe reads lines by other rules. */
+osb_status osb_windows_quote(const char *at, size_t len, uint16_t *out, size_t room, size_t *count,
+                             size_t *index, osb_fault *fault);
+/* Writes a program's name, with which a line begins, in quotation marks; also OSB_HAS_QUOTE. A line is this,
+ * and a space and the text of each argument. */
+osb_status osb_windows_quote_name(const char *at, size_t len, uint16_t *out, size_t room,
+                                  size_t *count, size_t *index, osb_fault *fault);
+/* Writes the line of words, of which the first is the program's name and the others are arguments. `*which`
+ * is the number of the word that `index` and `fault` are about, and may be null. With OSB_NO_ROOM
+ * nothing is refused, but for that a sum past SIZE_MAX is OSB_TOO_LONG. Without words the line is
+ * empty. */
+osb_status osb_windows_command_line(const osb_view *words, size_t len, uint16_t *out, size_t room,
+                                    size_t *count, size_t *which, size_t *index, osb_fault *fault);
+
+/* Writes the program's name and the arguments of a line, with a 0 unit after each: OSB_OK, OSB_FAULTY,
+ * OSB_NO_ROOM, OSB_HAS_NUL, OSB_TOO_LONG. The line is a string (osb_from_wide makes one of units). The
+ * name is always there, if only as the 0: Rust and the C runtime give the running program's for an empty
+ * line. Whatever isn't closed ends with the line. */
+osb_status osb_windows_arguments(const char *line, size_t len, uint16_t *out, size_t room,
+                                 size_t *count, size_t *index, osb_fault *fault);
 
 #ifdef __cplusplus
 }

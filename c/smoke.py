@@ -56,9 +56,13 @@ class Component(Structure):
     _fields_ = [("kind", c_size_t), ("start", c_size_t), ("end", c_size_t)]
 
 
+class LineFault(Structure):
+    _fields_ = [("kind", c_uint32), ("index", c_size_t)]
+
+
 UNIX, WINDOWS, WASM = range(3)
 CHARACTER, UNIT = 1, 2
-OK, FAULTY, NO_ROOM, NONE, ENDED, BAD_ESCAPE, NO_STRING, HAS_NUL = range(8)
+OK, FAULTY, NO_ROOM, NONE, ENDED, BAD_ESCAPE, NO_STRING, HAS_NUL, BAD_LINE, HAS_QUOTE = range(10)
 
 
 def load(name: str) -> CDLL:
@@ -100,7 +104,16 @@ def load(name: str) -> CDLL:
     osb.osb_shell_bound.argtypes = [c_size_t]
     osb.osb_shell_bound.restype = c_size_t
     osb.osb_shell_quote.argtypes = [c_char_p, c_size_t, c_char_p, c_size_t, POINTER(c_size_t), POINTER(c_size_t)]
-    osb.osb_shell_quote_line.argtypes = osb.osb_shell_quote.argtypes
+    osb.osb_shell_quote_line.argtypes = osb.osb_fish_quote.argtypes = osb.osb_shell_quote.argtypes
+    osb.osb_powershell_quote.argtypes = osb.osb_shell_quote.argtypes
+    for bound in (osb.osb_words_bound, osb.osb_windows_bound):
+        bound.argtypes, bound.restype = [c_size_t], c_size_t
+    osb.osb_shell_words.argtypes = [c_uint32, c_char_p, c_size_t, c_char_p, c_size_t, POINTER(c_size_t), POINTER(LineFault)]
+    written = [POINTER(c_uint16), c_size_t, POINTER(c_size_t)]
+    osb.osb_windows_quote.argtypes = [c_char_p, c_size_t, *written, POINTER(c_size_t), POINTER(Fault)]
+    osb.osb_windows_arguments.argtypes = osb.osb_windows_quote.argtypes
+    words = [POINTER(View), c_size_t]
+    osb.osb_windows_command_line.argtypes = [*words, *written, POINTER(c_size_t), POINTER(c_size_t), POINTER(Fault)]
     return osb
 
 

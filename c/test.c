@@ -840,14 +840,14 @@ static void unescapes(void) {
 static void status_texts(void) {
     static const osb_status all[] = {
         OSB_OK, OSB_FAULTY, OSB_NO_ROOM, OSB_NONE, OSB_ENDED, OSB_BAD_ESCAPE, OSB_NO_STRING,
-        OSB_HAS_NUL, OSB_BAD_PLATFORM, OSB_BAD_PATTERN, OSB_BAD_INDEX, OSB_BAD_FAULT, OSB_BAD_STATE, OSB_TOO_LONG,
-        OSB_BAD_POINTER, 8,
+        OSB_HAS_NUL, OSB_BAD_LINE, OSB_HAS_QUOTE, OSB_BAD_PLATFORM, OSB_BAD_PATTERN, OSB_BAD_INDEX,
+        OSB_BAD_FAULT, OSB_BAD_STATE, OSB_TOO_LONG, OSB_BAD_OPTION, OSB_BAD_POINTER, 10,
     };
     size_t count = sizeof all / sizeof *all;
     for (size_t i = 0; i < count; i++)
         for (size_t j = 0; j < count; j++)
             EXPECT((strcmp(osb_status_text(all[i]), osb_status_text(all[j])) == 0) == (i == j));
-    EXPECT(strcmp(osb_status_text(0xFFFFFFFF), osb_status_text(8)) == 0);
+    EXPECT(strcmp(osb_status_text(0xFFFFFFFF), osb_status_text(10)) == 0);
     EXPECT(strcmp(osb_status_text(OSB_TOO_LONG), "the string is too long") == 0);
 }
 
@@ -1059,11 +1059,15 @@ static void bad_words(to_word *quote) {
 }
 
 static void words(void) {
+    to_word *const all[] = {osb_shell_quote, osb_shell_quote_line, osb_fish_quote, osb_powershell_quote};
+    for (size_t i = 0; i < 4; i++) {
+        EXPECT(has_word(all[i], NULL, 0, "''"));
+        EXPECT(has_word(all[i], TEXT("a b"), "'a b'"));
+    }
+    for (size_t i = 0; i < 3; i++) bad_words(all[i]);
     to_word *const calls[] = {osb_shell_quote, osb_shell_quote_line};
     for (size_t i = 0; i < 2; i++) {
-        EXPECT(has_word(calls[i], NULL, 0, "''"));
         EXPECT(has_word(calls[i], TEXT("a/b-c.d"), "a/b-c.d"));
-        EXPECT(has_word(calls[i], TEXT("a b"), "'a b'"));
         EXPECT(has_word(calls[i], TEXT("it's"), "'it'\\''s'"));
         EXPECT(has_word(calls[i], TEXT("'''"), "''\\'''\\'''\\'''"));
         bad_words(calls[i]);
@@ -1071,9 +1075,231 @@ static void words(void) {
     EXPECT(has_word(osb_shell_quote, TEXT("a\n\xFF"), "'a\n\xFF'"));
     EXPECT(has_word(osb_shell_quote_line, TEXT("a\n\xFF'"), "$'a\\n\\377\\''"));
     EXPECT(has_word(osb_shell_quote_line, TEXT("\xE2\x80\xAE"), "$'\\342\\200\\256'"));
+    EXPECT(has_word(osb_fish_quote, TEXT("it's\\\xFF"), "'it\\'s\\\\\xFF'"));
+    EXPECT(has_word(osb_fish_quote, TEXT("a/b-c.d"), "a/b-c.d"));
+    EXPECT(has_word(osb_powershell_quote, TEXT("a/b"), "'a/b'"));
+    EXPECT(has_word(osb_powershell_quote, TEXT("it's $x"), "'it''s $x'"));
+    EXPECT(has_word(osb_powershell_quote, TEXT("\xE2\x80\x99"), "'\xE2\x80\x99\xE2\x80\x99'"));
     EXPECT(osb_shell_bound(0) == 3 && osb_shell_bound(5) == 23);
     EXPECT(osb_shell_bound(SIZE_MAX / 4) == SIZE_MAX && osb_shell_bound(SIZE_MAX / 4 - 1) == SIZE_MAX - 4);
     EXPECT(osb_shell_bound(SIZE_MAX / 4 + 1) == SIZE_MAX && osb_shell_bound(SIZE_MAX) == SIZE_MAX);
+}
+
+/* What isn't UTF-8 is no string of PowerShell. */
+static void no_texts(void) {
+    char out[16] = "abcdefgh";
+    size_t count = 7, index = 7;
+    EXPECT(osb_powershell_quote(TEXT("a\xED\xA0\x80"), out, 8, &count, NULL) == OSB_FAULTY && count == 7);
+    EXPECT(osb_powershell_quote(TEXT("a\xED\xA0\x80"), out, 8, &count, &index) == OSB_FAULTY && index == 1);
+    EXPECT(osb_powershell_quote(TEXT("\0\xFF"), out, 8, &count, &index) == OSB_FAULTY && index == 1);
+    EXPECT(osb_powershell_quote(TEXT("ab\0\0"), out, 8, &count, &index) == OSB_HAS_NUL && index == 2);
+    index = 7;
+    EXPECT(osb_powershell_quote("a", SIZE_MAX / 4 + 1, NULL, 0, &count, &index) == OSB_TOO_LONG);
+    EXPECT(osb_powershell_quote(NULL, 1, out, 8, &count, &index) == OSB_BAD_POINTER);
+    EXPECT(osb_powershell_quote(TEXT("a"), NULL, 8, &count, &index) == OSB_BAD_POINTER);
+    EXPECT(osb_powershell_quote(TEXT("a"), out, 8, NULL, &index) == OSB_BAD_POINTER);
+    EXPECT(osb_powershell_quote(out, 3, out + 2, 8, &count, &index) == OSB_BAD_POINTER);
+    EXPECT(count == 7 && index == 7 && memcmp(out, "abcdefgh", 8) == 0);
+}
+
+/* The words of a line, each with a 0 after it, in every room. */
+static bool has_words(uint32_t options, const char *line, size_t len, const char *wanted, size_t all) {
+    size_t count = 0;
+    osb_line_fault fault = {9, 9};
+    if (osb_words_bound(len) < all) return false;
+    for (size_t room = 0; room < all + 3; room++) {
+        char *out = malloc(room + 1);
+        size_t end = room < all ? room : all;
+        memset(out, 0x55, room + 1);
+        osb_status status = osb_shell_words(options, line, len, room == 0 ? NULL : out, room, &count, &fault);
+        bool right = count == all && status == (room < all ? OSB_NO_ROOM : OSB_OK) && fault.kind == 9 &&
+                     fault.index == 9 && memcmp(out, wanted, end) == 0 && out[end] == 0x55;
+        free(out);
+        if (!right) return false;
+    }
+    return true;
+}
+
+static bool bad_line(uint32_t options, const char *line, size_t len, uint32_t kind, size_t index) {
+    char out[64];
+    size_t count = 7;
+    osb_line_fault fault = {9, 9};
+    osb_status status = osb_shell_words(options, line, len, out, sizeof out, &count, &fault);
+    return status == OSB_BAD_LINE && count == 7 && fault.kind == kind && fault.index == index &&
+           osb_shell_words(options, line, len, NULL, 0, &count, NULL) == OSB_BAD_LINE;
+}
+
+static void shell_lines(void) {
+    EXPECT(has_words(0, NULL, 0, "", 0));
+    EXPECT(has_words(0, TEXT(" \n\t"), "", 0));
+    EXPECT(has_words(0, TEXT("cc -DNAME='a b' \"c d\"e ''"), TEXT("cc\0-DNAME=a b\0c de\0\0")));
+    EXPECT(has_words(OSB_SPECIALS, TEXT("a\\ b $HOME|$'c'"), TEXT("a b\0$HOME|$c\0")));
+    EXPECT(has_words(OSB_DOLLAR_QUOTES, TEXT("$'a\\n\\377' b"), TEXT("a\n\xFF\0b\0")));
+    EXPECT(has_words(OSB_SPECIALS | OSB_DOLLAR_QUOTES, TEXT("*$'c'"), TEXT("*c\0")));
+    EXPECT(bad_line(0, TEXT("a 'b"), OSB_LINE_SINGLE, 2));
+    EXPECT(bad_line(0, TEXT("a b\"c"), OSB_LINE_DOUBLE, 3));
+    EXPECT(bad_line(OSB_DOLLAR_QUOTES, TEXT("a $'b"), OSB_LINE_DOLLAR, 2));
+    EXPECT(bad_line(0, TEXT("a \\"), OSB_LINE_BACKSLASH, 2));
+    EXPECT(bad_line(0, TEXT("a b c*"), OSB_LINE_SPECIAL, 5));
+    EXPECT(bad_line(OSB_DOLLAR_QUOTES, TEXT("$'a\\x41'"), OSB_LINE_ESCAPE, 3));
+    EXPECT(bad_line(OSB_DOLLAR_QUOTES, TEXT("$'a' $b"), OSB_LINE_SPECIAL, 5));
+    char out[16] = "abcdefgh";
+    size_t count = 7;
+    osb_line_fault fault = {9, 9};
+    EXPECT(osb_shell_words(4, TEXT("a"), out, 8, &count, &fault) == OSB_BAD_OPTION);
+    EXPECT(osb_shell_words(0xFFFFFFFF, TEXT("a"), out, 8, &count, &fault) == OSB_BAD_OPTION);
+    EXPECT(osb_shell_words(0, "a", SIZE_MAX / 2 + 1, NULL, 0, &count, &fault) == OSB_BAD_POINTER);
+    EXPECT(osb_shell_words(0, NULL, 1, out, 8, &count, &fault) == OSB_BAD_POINTER);
+    EXPECT(osb_shell_words(0, "a", SIZE_MAX, out, 8, &count, &fault) == OSB_BAD_POINTER);
+    EXPECT(osb_shell_words(0, TEXT("a"), NULL, 8, &count, &fault) == OSB_BAD_POINTER);
+    EXPECT(osb_shell_words(0, TEXT("a"), out, SIZE_MAX, &count, &fault) == OSB_BAD_POINTER);
+    EXPECT(osb_shell_words(0, TEXT("a"), out, 8, NULL, &fault) == OSB_BAD_POINTER);
+    EXPECT(osb_shell_words(0, out, 3, out, 8, &count, &fault) == OSB_BAD_POINTER);
+    EXPECT(osb_shell_words(0, out + 7, 1, out, 8, &count, &fault) == OSB_BAD_POINTER);
+    EXPECT(osb_shell_words(0, out, 3, out + 2, 8, &count, &fault) == OSB_BAD_POINTER);
+    EXPECT(count == 7 && fault.kind == 9 && fault.index == 9 && memcmp(out, "abcdefgh", 8) == 0);
+    EXPECT(osb_shell_words(0, TEXT("'\0\0"), out, 8, &count, NULL) == OSB_HAS_NUL && count == 7);
+    EXPECT(osb_shell_words(0, TEXT("'\0\0"), out, 8, &count, &fault) == OSB_HAS_NUL && count == 7);
+    EXPECT(fault.kind == 0 && fault.index == 1);
+    EXPECT(osb_shell_words(0, out, 3, out + 3, 5, &count, &fault) == OSB_OK && count == 4);
+    EXPECT(memcmp(out + 3, "abc", 4) == 0);
+    EXPECT(osb_words_bound(0) == 1 && osb_words_bound(5) == 11);
+    EXPECT(osb_words_bound(SIZE_MAX / 2) == SIZE_MAX && osb_words_bound(SIZE_MAX / 2 - 1) == SIZE_MAX - 2);
+    EXPECT(osb_words_bound(SIZE_MAX / 2 + 1) == SIZE_MAX && osb_words_bound(SIZE_MAX) == SIZE_MAX);
+}
+
+/* A call that writes units of a command line, or of what it is read as. */
+typedef osb_status to_units(const char *, size_t, uint16_t *, size_t, size_t *, size_t *, osb_fault *);
+
+/* The units, which are given as characters, in every room. */
+static bool has_units(to_units *call, size_t (*bound)(size_t), const char *at, size_t len, const char *wanted,
+                      size_t all) {
+    size_t count = 0, index = 7;
+    osb_fault fault = {9, 9, 9, 9};
+    if (bound(len) < all) return false;
+    for (size_t room = 0; room < all + 3; room++) {
+        uint16_t *out = malloc((room + 1) * sizeof *out);
+        size_t end = room < all ? room : all;
+        memset(out, 0x55, (room + 1) * sizeof *out);
+        osb_status status = call(at, len, room == 0 ? NULL : out, room, &count, &index, &fault);
+        bool right = count == all && status == (room < all ? OSB_NO_ROOM : OSB_OK) && index == 7 &&
+                     fault.kind == 9 && out[end] == 0x5555;
+        for (size_t i = 0; i < end; i++) right = right && out[i] == (uint8_t)wanted[i];
+        free(out);
+        if (!right) return false;
+    }
+    return true;
+}
+
+static void bad_units(to_units *call, size_t (*bound)(size_t)) {
+    uint16_t out[8];
+    size_t count = 7, index = 7;
+    osb_fault fault = {9, 9, 9, 9};
+    memset(out, 0x61, sizeof out);
+    EXPECT(call(NULL, 1, out, 8, &count, &index, &fault) == OSB_BAD_POINTER);
+    EXPECT(call("a", SIZE_MAX, out, 8, &count, &index, &fault) == OSB_BAD_POINTER);
+    EXPECT(call(TEXT("a"), NULL, 8, &count, &index, &fault) == OSB_BAD_POINTER);
+    EXPECT(call(TEXT("a"), out, SIZE_MAX / 2, &count, &index, &fault) == OSB_BAD_POINTER);
+    EXPECT(call(TEXT("a"), out, SIZE_MAX / 2 + 2, &count, &index, &fault) == OSB_BAD_POINTER);
+    EXPECT(call(TEXT("a"), out, 8, NULL, &index, &fault) == OSB_BAD_POINTER);
+    void *odd = (char *)out + 1;
+    EXPECT(call(TEXT("a"), odd, 2, &count, &index, &fault) == OSB_BAD_POINTER);
+    /* overlaps in both halves of the buffer, and input directly after it */
+    EXPECT(call((char *)out + 3, 4, out, 4, &count, &index, &fault) == OSB_BAD_POINTER);
+    EXPECT(call((char *)out + 7, 4, out, 4, &count, &index, &fault) == OSB_BAD_POINTER);
+    EXPECT(call(TEXT("ab\xED\xA0\x80\xED\xB0\x80\0"), out, 8, &count, &index, NULL) == OSB_FAULTY);
+    EXPECT(fault.kind == 9 && fault.index == 9);
+    EXPECT(call(TEXT("ab\xED\xA0\x80\xED\xB0\x80\0"), out, 8, &count, &index, &fault) == OSB_FAULTY);
+    EXPECT(fault.kind == OSB_FAULT_CODE_POINT && fault.value == 0xDC00 && fault.index == 5 && index == 7);
+    fault = (osb_fault){9, 9, 9, 9};
+    EXPECT(call(TEXT("\xC3\xA9\0\""), out, 8, &count, NULL, &fault) == OSB_HAS_NUL);
+    EXPECT(index == 7);
+    EXPECT(call(TEXT("\xC3\xA9\0\""), out, 8, &count, &index, &fault) == OSB_HAS_NUL);
+    EXPECT(index == 2 && fault.kind == 9 && count == 7 && out[0] == 0x6161 && out[7] == 0x6161);
+    EXPECT(call((char *)(out + 4), 4, out, 4, &count, &index, &fault) != OSB_BAD_POINTER && count >= 4);
+    EXPECT(bound(SIZE_MAX) == SIZE_MAX && bound(SIZE_MAX / 2 + 1) == SIZE_MAX);
+}
+
+/* The line of some words, in every room. */
+static bool has_line(const osb_view *words, size_t len, const char *wanted) {
+    size_t all = strlen(wanted), count = 0, which = 7;
+    for (size_t room = 0; room < all + 3; room++) {
+        uint16_t *out = malloc((room + 1) * sizeof *out);
+        size_t end = room < all ? room : all;
+        memset(out, 0x55, (room + 1) * sizeof *out);
+        osb_status status =
+            osb_windows_command_line(words, len, room == 0 ? NULL : out, room, &count, &which, NULL, NULL);
+        bool right = count == all && status == (room < all ? OSB_NO_ROOM : OSB_OK) && which == 7 &&
+                     out[end] == 0x5555;
+        for (size_t i = 0; i < end; i++) right = right && out[i] == (uint8_t)wanted[i];
+        free(out);
+        if (!right) return false;
+    }
+    return true;
+}
+
+static void windows_lines(void) {
+    bad_units(osb_windows_quote, osb_windows_bound);
+    bad_units(osb_windows_quote_name, osb_windows_bound);
+    bad_units(osb_windows_arguments, osb_words_bound);
+    EXPECT(has_units(osb_windows_quote, osb_windows_bound, NULL, 0, TEXT("\"\"")));
+    EXPECT(has_units(osb_windows_quote, osb_windows_bound, TEXT("a\\b\\\\"), TEXT("a\\b\\\\")));
+    EXPECT(has_units(osb_windows_quote, osb_windows_bound, TEXT("a b\\"), TEXT("\"a b\\\\\"")));
+    EXPECT(has_units(osb_windows_quote, osb_windows_bound, TEXT("\t"), TEXT("\"\t\"")));
+    EXPECT(has_units(osb_windows_quote, osb_windows_bound, TEXT("\\\"\""), TEXT("\\\\\\\"\\\"")));
+    EXPECT(has_units(osb_windows_quote, osb_windows_bound, TEXT("\xC3\xA9"), TEXT("\xE9")));
+    EXPECT(has_units(osb_windows_quote_name, osb_windows_bound, NULL, 0, TEXT("\"\"")));
+    EXPECT(has_units(osb_windows_quote_name, osb_windows_bound, TEXT("C:\\a b\\"), TEXT("\"C:\\a b\\\"")));
+    EXPECT(has_units(osb_windows_arguments, osb_words_bound, NULL, 0, TEXT("\0")));
+    EXPECT(has_units(osb_windows_arguments, osb_words_bound, TEXT("E"), TEXT("E\0")));
+    EXPECT(has_units(osb_windows_arguments, osb_words_bound, TEXT("\"my E\" a \"b c\"\t\"\" \\\"d "),
+                     TEXT("my E\0a\0b c\0\0\"d\0")));
+    uint16_t out[8];
+    size_t count = 7, which = 7, index = 7;
+    osb_fault fault = {9, 9, 9, 9};
+    EXPECT(osb_windows_quote(TEXT("a\xED\xA0\xBD\xF0\x9F\x98\x80"), out, 8, &count, NULL, NULL) == OSB_OK);
+    EXPECT(count == 4 && out[0] == 'a' && out[1] == 0xD83D && out[2] == 0xD83D && out[3] == 0xDE00);
+    /* a mark between the halves of a pair goes, and the pair is there */
+    EXPECT(osb_windows_arguments(TEXT("\xED\xA0\xBD\"\xED\xB8\x80"), out, 8, &count, NULL, NULL) == OSB_OK);
+    EXPECT(count == 3 && out[0] == 0xD83D && out[1] == 0xDE00 && out[2] == 0);
+    count = 7;
+    EXPECT(osb_windows_quote_name(TEXT("a\"\""), out, 8, &count, NULL, NULL) == OSB_HAS_QUOTE);
+    EXPECT(osb_windows_quote_name(TEXT("a\"\""), out, 8, &count, &index, NULL) == OSB_HAS_QUOTE && index == 1);
+    EXPECT(osb_windows_quote_name(TEXT("\"\0"), out, 8, &count, &index, NULL) == OSB_HAS_NUL && index == 1);
+    EXPECT(count == 7);
+    EXPECT(osb_windows_bound(0) == 2 && osb_windows_bound(5) == 12);
+    EXPECT(osb_windows_bound(SIZE_MAX / 2 - 1) == SIZE_MAX - 1 && osb_windows_bound(SIZE_MAX / 2) == SIZE_MAX);
+
+    osb_view words[] = {{TEXT("E")}, {TEXT("a b")}, {NULL, 0}, {TEXT("-x")}, {TEXT("\"\\")}};
+    EXPECT(has_line(NULL, 0, ""));
+    EXPECT(has_line(words, 1, "\"E\""));
+    EXPECT(has_line(words, 5, "\"E\" \"a b\" \"\" -x \\\"\\"));
+    osb_view bad[] = {{TEXT("E")}, {TEXT("a")}, {TEXT("b\0")}};
+    EXPECT(osb_windows_command_line(bad, 3, out, 8, &count, &which, &index, &fault) == OSB_HAS_NUL);
+    EXPECT(which == 2 && index == 1 && count == 7 && fault.kind == 9);
+    EXPECT(osb_windows_command_line(bad, 3, out, 8, &count, NULL, NULL, NULL) == OSB_HAS_NUL);
+    bad[1] = (osb_view){TEXT("ab\xC3(")};
+    EXPECT(osb_windows_command_line(bad, 3, NULL, 0, &count, &which, &index, &fault) == OSB_FAULTY);
+    EXPECT(which == 1 && fault.kind == OSB_FAULT_BYTE && fault.value == '(' && fault.index == 2);
+    bad[0] = (osb_view){TEXT("\"")};
+    EXPECT(osb_windows_command_line(bad, 3, out, 8, &count, &which, &index, &fault) == OSB_HAS_QUOTE);
+    EXPECT(which == 0 && index == 0 && count == 7);
+    which = 7;
+    EXPECT(osb_windows_command_line(NULL, 1, out, 8, &count, &which, &index, &fault) == OSB_BAD_POINTER);
+    EXPECT(osb_windows_command_line(words, SIZE_MAX / 16 + 1, out, 8, &count, &which, &index, &fault) == OSB_BAD_POINTER);
+    EXPECT(osb_windows_command_line(words, 5, NULL, 1, &count, &which, &index, &fault) == OSB_BAD_POINTER);
+    EXPECT(osb_windows_command_line(words, 5, out, 8, NULL, &which, &index, &fault) == OSB_BAD_POINTER);
+    EXPECT(osb_windows_command_line(words, 5, (uint16_t *)(words + 4), 8, &count, &which, &index, &fault) ==
+           OSB_BAD_POINTER);
+    void *odd = (char *)words + 4;
+    EXPECT(osb_windows_command_line(odd, 1, out, 8, &count, &which, &index, &fault) == OSB_BAD_POINTER);
+    odd = (char *)out + 1;
+    EXPECT(osb_windows_command_line(words, 1, odd, 1, &count, &which, &index, &fault) == OSB_BAD_POINTER);
+    osb_view beside[] = {{TEXT("E")}, {(char *)(out + 8) - 1, 1}};
+    EXPECT(osb_windows_command_line(beside, 2, out, 8, &count, &which, &index, &fault) == OSB_BAD_POINTER);
+    beside[1] = (osb_view){NULL, 1};
+    EXPECT(osb_windows_command_line(beside, 2, out, 8, &count, &which, &index, &fault) == OSB_BAD_POINTER);
+    EXPECT(count == 7 && which == 7);
 }
 
 int main(void) {
@@ -1101,6 +1327,9 @@ int main(void) {
     path_parts();
     path_tests();
     words();
+    no_texts();
+    shell_lines();
+    windows_lines();
     printf("asked: %d, failed: %d\n", asked, failed);
     return failed != 0;
 }

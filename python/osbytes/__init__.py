@@ -51,8 +51,19 @@ from ._calls import (
     unescape,
     unescape_line,
 )
-from ._errors import BadEscapeError, FaultError, NoStringError, NulError, OsBytesError
+from ._errors import BadEscapeError, FaultError, LineError, NoStringError, NulError, OsBytesError, QuoteError
 from ._library import version
+from ._lines import (
+    LineKind,
+    fish_quote,
+    powershell_quote,
+    shell_quote,
+    shell_quote_line,
+    shell_words,
+    windows_arguments,
+    windows_command_line,
+    windows_quote,
+)
 from ._paths import (
     Component,
     Kind,
@@ -66,8 +77,6 @@ from ._paths import (
     path_parent,
     path_prefix,
     path_starts_with,
-    shell_quote,
-    shell_quote_line,
 )
 
 __all__ = [
@@ -80,10 +89,13 @@ __all__ = [
     "Component",
     "FaultError",
     "Kind",
+    "LineError",
+    "LineKind",
     "NoStringError",
     "NulError",
     "OsBytesError",
     "Platform",
+    "QuoteError",
     "Unit",
     "check",
     "chunks",
@@ -96,6 +108,7 @@ __all__ = [
     "escape",
     "escape_line",
     "find",
+    "fish_quote",
     "from_units",
     "is_boundary",
     "is_string",
@@ -109,10 +122,12 @@ __all__ = [
     "path_parent",
     "path_prefix",
     "path_starts_with",
+    "powershell_quote",
     "rfind",
     "rsplit",
     "shell_quote",
     "shell_quote_line",
+    "shell_words",
     "split",
     "starts_with",
     "symbols",
@@ -120,4 +135,7 @@ __all__ = [
     "unescape",
     "unescape_line",
     "version",
+    "windows_arguments",
+    "windows_command_line",
+    "windows_quote",
 ]

@@ -36,8 +36,25 @@ class NoStringError(OsBytesError):
 
 
 class NulError(OsBytesError):
-    """A name with a NUL, which no word of a shell can have. `index` is that of its first NUL, in its bytes."""
+    """A name or a line with a NUL, which no word and no argument can have. `index` is that of its first NUL, in its bytes."""
 
     def __init__(self, index: int) -> None:
         super().__init__(f"NUL at byte {index}")
+        self.index = index
+
+
+class QuoteError(OsBytesError):
+    """A program's name with a quotation mark, which no command line can have there. `index` is that of the first one."""
+
+    def __init__(self, index: int) -> None:
+        super().__init__(f"quotation mark in the program's name at byte {index}")
+        self.index = index
+
+
+class LineError(OsBytesError):
+    """A line that isn't words of a shell. `kind` is the number of what begins at the byte `index`, as in `LineKind`."""
+
+    def __init__(self, name: str, kind: int, index: int) -> None:
+        super().__init__(f"{name} at byte {index}")
+        self.kind = kind
         self.index = index

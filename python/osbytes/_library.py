@@ -65,7 +65,13 @@ class Part(Structure):
     _fields_ = [("kind", c_size_t), ("start", c_size_t), ("end", c_size_t)]
 
 
-OK, FAULTY, NO_ROOM, NONE, ENDED, BAD_ESCAPE, NO_STRING, HAS_NUL = range(8)
+class LineFault(Structure):
+    """Why a line isn't words."""
+
+    _fields_ = [("kind", c_uint32), ("index", c_size_t)]
+
+
+OK, FAULTY, NO_ROOM, NONE, ENDED, BAD_ESCAPE, NO_STRING, HAS_NUL, BAD_LINE, HAS_QUOTE = range(10)
 CHARACTER = 1
 FAULT_TEXT_ROOM = 129
 
@@ -74,6 +80,9 @@ COUNTED = [c_char_p, c_size_t, POINTER(c_size_t)]
 ESCAPES = [c_uint32, *STRING, *COUNTED, POINTER(Fault)]
 UNESCAPES = [c_uint32, *STRING, *COUNTED, POINTER(c_size_t)]
 PARTS = [c_uint32, *STRING, POINTER(View)]
+WORDS = [*STRING, *COUNTED, POINTER(c_size_t)]
+UNITS = [POINTER(c_uint16), c_size_t, POINTER(c_size_t)]
+LINES = [*STRING, *UNITS, POINTER(c_size_t), POINTER(Fault)]
 
 # The types of what each call takes, beside a status that it answers.
 CALLS: dict[str, list[type]] = {
@@ -82,7 +91,7 @@ CALLS: dict[str, list[type]] = {
     "osb_checker_feed": [POINTER(CheckerState), *STRING, POINTER(Fault)],
     "osb_checker_finish": [POINTER(CheckerState), POINTER(Fault)],
     "osb_fault_text": [POINTER(Fault), *COUNTED],
-    "osb_to_wide": [*STRING, POINTER(c_uint16), c_size_t, POINTER(c_size_t), POINTER(Fault)],
+    "osb_to_wide": [*STRING, *UNITS, POINTER(Fault)],
     "osb_from_wide": [POINTER(c_uint16), c_size_t, *COUNTED],
     "osb_lossy": ESCAPES,
     "osb_escape": ESCAPES,
@@ -114,11 +123,18 @@ CALLS: dict[str, list[type]] = {
     "osb_path_is_absolute": [c_uint32, *STRING],
     "osb_path_starts_with": [c_uint32, *STRING, *STRING],
     "osb_path_ends_with": [c_uint32, *STRING, *STRING],
-    "osb_shell_quote": [*STRING, *COUNTED, POINTER(c_size_t)],
-    "osb_shell_quote_line": [*STRING, *COUNTED, POINTER(c_size_t)],
+    "osb_shell_quote": WORDS,
+    "osb_shell_quote_line": WORDS,
+    "osb_fish_quote": WORDS,
+    "osb_powershell_quote": WORDS,
+    "osb_shell_words": [c_uint32, *STRING, *COUNTED, POINTER(LineFault)],
+    "osb_windows_quote": LINES,
+    "osb_windows_command_line": [POINTER(View), c_size_t, *UNITS, POINTER(c_size_t), POINTER(c_size_t), POINTER(Fault)],
+    "osb_windows_arguments": LINES,
 }
 # What takes and answers lengths.
 BOUNDS = ["osb_wide_bound", "osb_bytes_bound", "osb_lossy_bound", "osb_escape_bound", "osb_unescape_bound", "osb_shell_bound"]
+BOUNDS += ["osb_words_bound", "osb_windows_bound"]
 
 
 def load(name: str) -> CDLL:

@@ -1,14 +1,13 @@
-"""Paths and words of a shell, on `bytes` and `str`."""
+"""Paths, on `bytes` and `str`."""
 
 from __future__ import annotations
 
-from ctypes import byref, c_size_t, create_string_buffer
+from ctypes import byref, c_size_t
 from enum import IntEnum
 from typing import Callable, NamedTuple
 
 from ._calls import UNIX, OsString, Platform, _done, encode
-from ._errors import NulError
-from ._library import HAS_NUL, NONE, OK, Part, View, library
+from ._library import NONE, OK, Part, View, library
 
 
 class Kind(IntEnum):
@@ -136,34 +135,3 @@ def path_ends_with(path: OsString, child: OsString, platform: Platform = UNIX) -
     (True, False)
     """
     return _compared(library.osb_path_ends_with, path, child, platform)
-
-
-def _word(call: Callable[..., int], name: OsString) -> bytes:
-    raw = encode(name)
-    room = library.osb_shell_bound(len(raw))
-    out, count, index = create_string_buffer(room), c_size_t(), c_size_t()
-    status = call(raw, len(raw), out, room, byref(count), byref(index))
-    if status == HAS_NUL:
-        raise NulError(index.value)
-    _done(status)
-    return out.raw[: count.value]
-
-
-def shell_quote(name: OsString) -> bytes:
-    """Returns a name of Unix as a word that every POSIX shell reads as this name.
-
-    Raises `NulError` where it has a NUL.
-
-    >>> shell_quote("it's")
-    b"'it'\\\\''s'"
-    """
-    return _word(library.osb_shell_quote, name)
-
-
-def shell_quote_line(name: OsString) -> bytes:
-    """Returns the same on one line, for shells that read `$'..'`. Raises as `shell_quote` does.
-
-    >>> shell_quote_line("a\\n")
-    b"$'a\\\\n'"
-    """
-    return _word(library.osb_shell_quote_line, name)

@@ -10,7 +10,7 @@ from pathlib import Path
 from typing import Iterable, Iterator
 
 import osbytes
-from osbytes import UNIX, WASM, WINDOWS, BadEscapeError, Checker, FaultError, Kind, NoStringError, NulError
+from osbytes import UNIX, WASM, WINDOWS, BadEscapeError, Checker, FaultError, Kind, LineError, LineKind, NoStringError, NulError
 
 # What was answered, and what a row wants.
 Answers = Iterator[tuple[object, str]]
@@ -51,9 +51,13 @@ def decode(string: str, before: str, _fault: str) -> Answers:
     yield wide(prefix), before
 
 
-def encode(units: str, string: str) -> Answers:
+def string_of(units: str) -> bytes:
     given = raw(units)
-    yield shown(osbytes.from_units([given[at] << 8 | given[at + 1] for at in range(0, len(given), 2)])), string
+    return osbytes.from_units([given[at] << 8 | given[at + 1] for at in range(0, len(given), 2)])
+
+
+def encode(units: str, string: str) -> Answers:
+    yield shown(string_of(units)), string
 
 
 def search(_platform: str, string: str, pattern: str, *wanted: str) -> Answers:
@@ -149,12 +153,46 @@ def paths(platform: str, call: str, path: str, *more: str) -> Answers:
         yield told(COMPARISONS[call](given, raw(more[0]), whose)), more[1]
 
 
-def words(name: str, word: str, line: str, _fish: str) -> Answers:
-    for call, wanted in ((osbytes.shell_quote, word), (osbytes.shell_quote_line, line)):
+def words(name: str, word: str, line: str, fish: str) -> Answers:
+    for call, wanted in ((osbytes.shell_quote, word), (osbytes.shell_quote_line, line), (osbytes.fish_quote, fish)):
         try:
             yield shown(call(raw(name))), wanted
         except NulError as error:
             yield f"nul {error.index}", wanted
+
+
+LINE_FAULTS = {
+    LineKind.SINGLE_QUOTE: "unclosed_single",
+    LineKind.DOUBLE_QUOTE: "unclosed_double",
+    LineKind.BACKSLASH: "trailing_backslash",
+    LineKind.SPECIAL: "metacharacter",
+}
+
+
+def lines(text: str, refused: str, kept: str) -> Answers:
+    """A line with a NUL, which isn't read here, isn't asked."""
+    for specials, wanted in ((False, refused), (True, kept)):
+        try:
+            yield "ok " + (joined(osbytes.shell_words(raw(text), specials=specials)) or "none"), wanted
+        except LineError as error:
+            yield f"{LINE_FAULTS[LineKind(error.kind)]} {error.index}", wanted
+        except NulError:
+            return
+
+
+def windows_split(text: str, name: str, arguments: str) -> Answers:
+    program, *others = osbytes.windows_arguments(string_of(text))
+    yield wide(program), name
+    yield ",".join(map(wide, others)) or "!", arguments
+
+
+def windows_quote(argument: str, text: str, _quoted: str) -> Answers:
+    yield wide(osbytes.windows_quote(string_of(argument))), text
+
+
+def windows_line(arguments: str, wanted: str) -> Answers:
+    given = [] if arguments == "!" else map(string_of, arguments.split(","))
+    yield wide(osbytes.windows_command_line(b"E", given)), wanted
 
 
 FILES = {
@@ -171,6 +209,10 @@ FILES = {
     "paths": paths,
     "paths_std_tests": paths,
     "posix_quote": words,
+    "posix_words": lines,
+    "windows_split": windows_split,
+    "windows_quote": windows_quote,
+    "windows_line": windows_line,
 }
 
 

@@ -13,7 +13,8 @@ import unittest
 from pathlib import PurePosixPath
 
 import osbytes
-from osbytes import UNIX, WASM, WINDOWS, BadEscapeError, Character, Checker, FaultError, Kind, NoStringError, NulError, Unit
+from osbytes import UNIX, WASM, WINDOWS, BadEscapeError, Character, Checker, FaultError, Kind, LineError, LineKind, NoStringError
+from osbytes import NulError, QuoteError, Unit
 
 FORMS = [text.encode("utf-8", "surrogatepass") for text in "a,b\\\n\u00e9\u20ac\u2028\U000e0041\ud800\udc00\U0001f600"]
 FORMS += [b"\xc0", b"\xe2\x82", b"\xed", b"\xf4\x90", b"\x80", b"\0"]
@@ -39,7 +40,7 @@ def is_wtf8_by_python(string: bytes) -> bool:
 
 class Examples(unittest.TestCase):
     def test_examples_of_the_docs(self) -> None:
-        for module in (osbytes, osbytes._calls, osbytes._library, osbytes._paths):
+        for module in (osbytes, osbytes._calls, osbytes._library, osbytes._lines, osbytes._paths):
             failed, tried = doctest.testmod(module, optionflags=doctest.IGNORE_EXCEPTION_DETAIL)
             self.assertEqual(failed, 0, module)
             self.assertGreater(tried, 0, module)
@@ -125,6 +126,35 @@ class BesidePython(unittest.TestCase):
         with self.assertRaises(NulError) as refused:
             osbytes.shell_quote(b"a\0b\0")
         self.assertEqual(refused.exception.index, 1)
+
+    def test_lines(self) -> None:
+        numbers = random.Random(8)
+        for _ in range(2000):
+            names = [made_up(numbers).replace(b"\0", b"'") for _ in range(numbers.randint(0, 3))]
+            line = b" ".join(map(osbytes.shell_quote, names))
+            self.assertEqual(osbytes.shell_words(line), names)
+            shown = b"\t".join(map(osbytes.shell_quote_line, names))
+            self.assertEqual(osbytes.shell_words(shown, dollar_quotes=True), names)
+            program, *words = [name for name in [b"E", *names] if osbytes.is_string(name, WINDOWS)]
+            line = osbytes.windows_command_line(program, words)
+            self.assertEqual(osbytes.windows_arguments(line), [program, *words])
+            self.assertEqual(line, b" ".join([b'"E"', *map(osbytes.windows_quote, words)]))
+        text = "".join(numbers.choice("ab' \"\\") for _ in range(20))
+        self.assertEqual(osbytes.powershell_quote(text), "'" + text.replace("'", "''") + "'")
+
+    def test_refused_lines(self) -> None:
+        with self.assertRaises(LineError) as refused:
+            osbytes.shell_words("a $b")
+        self.assertEqual((refused.exception.kind, refused.exception.index), (LineKind.SPECIAL, 2))
+        self.assertEqual(osbytes.shell_words("a $b", specials=True), [b"a", b"$b"])
+        with self.assertRaises(QuoteError):
+            osbytes.windows_command_line('a"b')
+        with self.assertRaises(FaultError):
+            osbytes.powershell_quote("\ud83d")
+        for call in (osbytes.fish_quote, osbytes.powershell_quote, osbytes.shell_words, osbytes.windows_quote, osbytes.windows_arguments):
+            with self.assertRaises(NulError) as nul:
+                call(b"ab\0")
+            self.assertEqual(nul.exception.index, 2)
 
     def test_symbols(self) -> None:
         self.assertEqual(list(osbytes.symbols(b"a\xff\xc3\xa9")), [Character("a"), Unit(0xFF), Character("\u00e9")])

@@ -1,5 +1,8 @@
+pub mod ArgumentWriting
+pub mod CommandLines
 pub mod Conversions
 pub mod Digits
+pub mod Lines
 pub mod PathParts
 pub mod PathSpans
 pub mod Room

@@ -1,9 +1,13 @@
 pub mod Answers
+pub mod ArgumentWriting
+pub mod CommandLines
 pub mod Faults
+pub mod Lines
 pub mod PartBuffers
 pub mod PathParts
 pub mod PathSpans
 pub mod Platforms
+pub mod Room
 pub mod Steps
 pub mod Walks
 pub mod Words

@@ -1,9 +1,12 @@
 //! The laws of whole walks. Each is the contract of a function that does nothing.
-ghost use Rattle.std.specs.Prelude.{ℕ, List, length};
+ghost use Rattle.std.specs.Prelude.{ℕ, List, length, ◌++◌};
 ghost use Rattle.wtf8_core.specs.Chunks.{Chunk, AreChunks};
 ghost use Rattle.wtf8_core.specs.Pieces.{IsSplit, IsRSplit};
 ghost use Rattle.os_str_ext.specs.Symbols.{AreSymbols};
 ghost use Rattle.os_str_ext.specs.declared.symbols.Symbol.{Symbol};
+ghost use Rattle.os_command_line.specs.Windows.{IsCommandLine, quote};
+ghost use Rattle.os_command_line.specs.WindowsWriting.{HasNo};
+ghost use Rattle.osbytes_c.specs.CommandLines.{AreArgumentTexts, after_name, quoted_name};
 ghost use Rattle.osbytes_c.specs.Platforms.{units_on};
 ghost use Rattle.osbytes_c.specs.Walks.{SplitWalk, RSplitWalk, ChunkWalk, SymbolWalk};
 
@@ -25,4 +28,12 @@ pub fn chunk_walks()
 pub fn symbol_walks()
     ensures { (platform : ℕ) → (s : List ℕ) → (symbols : List Symbol)
         → SymbolWalk platform s 0 symbols → AreSymbols (units_on platform) s symbols }
+{}
+
+/// A program's name in quotation marks, and a space and the text of each argument after it, are the
+/// command line of this program with these arguments.
+pub fn command_lines()
+    ensures { (name : List ℕ) → (arguments : List (List ℕ)) → (texts : List (List ℕ))
+        → HasNo quote name → AreArgumentTexts arguments texts
+        → IsCommandLine (quoted_name name ++ after_name texts) name arguments }
 {}

@@ -4,8 +4,9 @@
 //! [`prefix`] prefixes and suffixes by units, [`boundary`] where strings may be cut, [`compare`]
 //! their order, one step of each iterator: [`split`], [`chunks`] and [`symbols`], and [`paths`] and
 //! [`path_tests`] paths, whose components [`path_parts`] finds and [`part_list`] writes, and
-//! [`shell`] words of a shell. [`laws`] says
-//! what whole walks give, and [`uses`] concludes from it.
+//! [`shell`] and [`powershell`] words of a shell, [`shell_words`] lines of them, and
+//! [`windows_quote`], [`windows_name`] and [`windows_arguments`] command lines of Windows. [`laws`]
+//! says what whole walks and whole lines give, and [`uses`] and [`line_uses`] conclude from it.
 //!
 //! A slice crosses as a pointer and a length. Each export takes any values: a platform, a pattern,
 //! an index or a fault that there isn't is answered by a status ([`status`]), so none has a
@@ -22,15 +23,19 @@ pub mod escapes;
 pub mod fault;
 pub mod fault_text;
 pub mod laws;
+pub mod line_uses;
 pub mod lossy;
 pub mod part_list;
 mod path_parts;
 mod path_spans;
 pub mod path_tests;
 pub mod paths;
+pub mod powershell;
 pub mod prefix;
+mod push_unit;
 pub mod search;
 pub mod shell;
+pub mod shell_words;
 pub mod span;
 pub mod split;
 pub mod status;
@@ -39,3 +44,6 @@ pub mod symbols;
 pub mod unescapes;
 pub mod uses;
 pub mod wide;
+pub mod windows_arguments;
+pub mod windows_name;
+pub mod windows_quote;

@@ -1,13 +1,14 @@
 //! Names as words of a shell.
 ghost use Rattle.std.specs.Prelude.{◌≡◌, ◌⊎◌, ◌<◌, ◌↔◌, ◌*◌, ◌+◌, ◌^◌, ◌∷◌, [], length, MatchResult, OnOk};
 ghost use Rattle.wtf8_core.specs.Truncated.{IsTruncated};
+ghost use Rattle.os_command_line.specs.Fish.{fish_word, IsFishText};
 ghost use Rattle.os_command_line.specs.ShellWriting.{quoted_word, IsLineWord, HasNoNul, IsFirstNul};
 ghost use Rattle.osbytes_c.specs.Answers.{IsOneOf, IsWritten, Writes};
 ghost use Rattle.osbytes_c.specs.Words.{IsWordOf};
 
 use crate::status::{HAS_NUL, TOO_LONG, fits};
 use crate::strings::unix;
-use os_command_line::shell::{NulError, write_quoted, write_quoted_line};
+use os_command_line::shell::{NulError, write_quoted, write_quoted_fish, write_quoted_line};
 
 /// Whose word it is.
 #[derive(Clone, Copy)]
@@ -16,6 +17,8 @@ pub(crate) enum Shell {
     Posix,
     /// That of the shells that read `$'..'`, on one line.
     Line,
+    /// That of fish.
+    Fish,
 }
 
 /// Writes the word of a name in every POSIX shell into `out`, as far as there is room, and counts its
@@ -54,6 +57,25 @@ pub extern "C" fn osb_core_shell_quote_line(
     quote(Shell::Line, name, out, count, index)
 }
 
+/// The same in fish.
+#[unsafe(no_mangle)]
+pub extern "C" fn osb_core_fish_quote(
+    name: &[u8],
+    out: &mut [u8],
+    count: &mut usize,
+    index: &mut usize,
+) -> u32
+    ensures written { IsWritten result
+        (λ word. IsFishText word name.now × (word ≡ fish_word name.now)) out.old out.new
+        count.new }
+    ensures name { (result ≡ 0) ⊎ (result ≡ 2) → HasNoNul name.now }
+    ensures nul { result ≡ 7 → IsFirstNul name.now index.new }
+    ensures long { (result ≡ 21) ↔ (usize.MAX < 4 * length name.now + 3) }
+    ensures answers { IsOneOf (0 ∷ 2 ∷ 7 ∷ 21 ∷ []) result }
+{
+    quote(Shell::Fish, name, out, count, index)
+}
+
 /// Writes the word of a name in a shell.
 fn quote(shell: Shell, name: &[u8], out: &mut [u8], count: &mut usize, index: &mut usize) -> u32
     ensures written { IsWritten result (IsWordOf shell name.now) out.old out.new count.new }
@@ -89,5 +111,6 @@ fn write_word(shell: Shell, name: &[u8], out: &mut [u8]) -> Result<usize, NulErr
     match shell {
         Shell::Posix => write_quoted(unix(name), out),
         Shell::Line => write_quoted_line(unix(name), out),
+        Shell::Fish => write_quoted_fish(unix(name), out),
     }
 }

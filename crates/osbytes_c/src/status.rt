@@ -18,6 +18,10 @@ pub const BAD_ESCAPE: u32 = 5;
 pub const NO_STRING: u32 = 6;
 /// The name has a NUL.
 pub const HAS_NUL: u32 = 7;
+/// The line isn't words.
+pub const BAD_LINE: u32 = 8;
+/// The program's name has a quotation mark.
+pub const HAS_QUOTE: u32 = 9;
 /// There is no such platform.
 pub const NO_PLATFORM: u32 = 16;
 /// The pattern or the escape isn't UTF-8, or the pattern is empty where it may not be.
@@ -30,6 +34,8 @@ pub const NO_FAULT: u32 = 19;
 pub const NO_STATE: u32 = 20;
 /// The string is too long for its text's length to be a `usize`.
 pub const TOO_LONG: u32 = 21;
+/// There is no such option.
+pub const NO_OPTION: u32 = 22;
 
 /// Whether what was written is all of it.
 #[inline(always)]

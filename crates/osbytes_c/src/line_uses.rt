@@ -1,0 +1,108 @@
+//! For trying: what a caller of words and command lines concludes from one call without a buffer, in each
+//! outcome.
+ghost use Rattle.std.specs.Prelude.{◌≡◌, ◌⊎◌, ◌<◌, ◌*◌, ◌+◌, List, ℕ, Option, length, MatchOption};
+ghost use Rattle.std.specs.Str.{chars};
+ghost use Rattle.wtf8_core.specs.UnitsOf.{units_of};
+ghost use Rattle.wtf8_core.specs.Utf8.{IsUtf8Fault};
+ghost use Rattle.os_command_line.specs.Fish.{IsFishText};
+ghost use Rattle.os_command_line.specs.PowerShell.{HasNulAt, IsPowerShellText};
+ghost use Rattle.os_command_line.specs.ShellWriting.{HasNoNul, IsFirstNul, quoted_word};
+ghost use Rattle.os_command_line.specs.Windows.{IsTextOf};
+ghost use Rattle.os_command_line.specs.WindowsWriting.{IsFirstAt};
+ghost use Rattle.osbytes_c.specs.CommandLines.{quoted_name};
+ghost use Rattle.osbytes_c.specs.Faults.{IsWtf8Report};
+
+use crate::fault::Fault;
+use crate::powershell::osb_core_powershell_quote;
+use crate::shell::{osb_core_fish_quote, osb_core_shell_quote};
+use crate::windows_name::osb_core_windows_quote_name;
+use crate::windows_quote::osb_core_windows_quote;
+
+/// How long the word of a name is in a POSIX shell, or `None` if it has a NUL or is too long.
+pub fn word_len(name: &[u8]) -> Option<usize>
+    ensures { MatchOption result
+        (((index : ℕ) × IsFirstNul name.now index) ⊎ (usize.MAX < 4 * length name.now + 3))
+        (λ len. (len ≡ length (quoted_word name.now)) × HasNoNul name.now) }
+{
+    let mut count = 0;
+    let mut index = 0;
+    match osb_core_shell_quote(name, &mut [], &mut count, &mut index) {
+        0 | 2 => Some(count),
+        _ => None,
+    }
+}
+
+/// The same in fish.
+pub fn fish_len(name: &[u8]) -> Option<usize>
+    ensures { MatchOption result
+        (((index : ℕ) × IsFirstNul name.now index) ⊎ (usize.MAX < 4 * length name.now + 3))
+        (λ len. (word : List ℕ) × (IsFishText word name.now × (len ≡ length word))) }
+{
+    let mut count = 0;
+    let mut index = 0;
+    match osb_core_fish_quote(name, &mut [], &mut count, &mut index) {
+        0 | 2 => Some(count),
+        _ => None,
+    }
+}
+
+/// The same in PowerShell, also `None` if it isn't a text.
+pub fn powershell_len(name: &[u8]) -> Option<usize>
+    ensures { MatchOption result
+        (((index : ℕ) × ((len : Option ℕ) × IsUtf8Fault name.now index len))
+        ⊎ (((index : ℕ) × HasNulAt name.now index) ⊎ (usize.MAX < 4 * length name.now + 3)))
+        (λ len. (string : List ℕ) × (IsPowerShellText string (chars name.now)
+        × (len ≡ length string))) }
+{
+    let mut count = 0;
+    let mut index = 0;
+    match osb_core_powershell_quote(name, &mut [], &mut count, &mut index) {
+        0 | 2 => Some(count),
+        _ => None,
+    }
+}
+
+/// How many units the text of an argument has; `None` if it is no string, has a NUL or is too long.
+pub fn argument_len(argument: &[u8]) -> Option<usize>
+    ensures { MatchOption result
+        (((report : Fault) × IsWtf8Report argument.now report)
+        ⊎ (((index : ℕ) × IsFirstNul argument.now index)
+        ⊎ (usize.MAX < 2 * length argument.now + 2)))
+        (λ len. (text : List ℕ) × (IsTextOf text (units_of argument.now) × (len ≡ length text))) }
+{
+    let mut count = 0;
+    let mut index = 0;
+    let mut fault = Fault {
+        kind: 0,
+        value: 0,
+        index: 0,
+        count: 0,
+    };
+    match osb_core_windows_quote(argument, &mut [], &mut count, &mut index, &mut fault) {
+        0 | 2 => Some(count),
+        _ => None,
+    }
+}
+
+/// The same of a program's name, also `None` if it has a quotation mark.
+pub fn name_len(name: &[u8]) -> Option<usize>
+    ensures { MatchOption result
+        (((report : Fault) × IsWtf8Report name.now report)
+        ⊎ (((index : ℕ) × IsFirstNul name.now index)
+        ⊎ (((index : ℕ) × IsFirstAt 0x22 name.now index)
+        ⊎ (usize.MAX < 2 * length name.now + 2))))
+        (λ len. len ≡ length (quoted_name (units_of name.now))) }
+{
+    let mut count = 0;
+    let mut index = 0;
+    let mut fault = Fault {
+        kind: 0,
+        value: 0,
+        index: 0,
+        count: 0,
+    };
+    match osb_core_windows_quote_name(name, &mut [], &mut count, &mut index, &mut fault) {
+        0 | 2 => Some(count),
+        _ => None,
+    }
+}
