@@ -1,17 +1,20 @@
 //! The program `names`: lists of file names, escaped one a line, and back.
 //!
-//! It hands its words and its ends to [`execute`], whose contract says what then is done.
+//! It hands its words, its ends and the files of the disk to [`execute`], whose contract says what then is
+//! done.
 #![tactic(auto)]
 
 use names_commands::fault::Fault;
 use names_commands::program::Names;
 use program_frame::ended::Ended;
+use program_frame::files::Disk;
 use program_frame::lists::program::execute;
 use program_frame::marked::Marked;
 use std::env;
 
 fn main(rt: HostRuntime) -> Ended<Fault> {
-    execute::<Names, _, _, _, _>(
+    execute(
+        &Names::new(Disk::new(&rt)),
         rt.alloc(),
         env::args(&rt),
         &mut Marked::new(rt.reader()),

@@ -1,6 +1,7 @@
 pub mod Lines
 pub mod Back
 pub mod EscapesBack
+pub mod Ignored
 pub mod NoCommand
 pub mod Picked
 pub mod Picks

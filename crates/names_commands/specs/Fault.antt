@@ -1,5 +1,5 @@
 -- The text of each reason why an item or the words are refused.
-use Rattle.std.specs.Prelude.{ℕ, List, ◌++◌, codes}
+use Rattle.std.specs.Prelude.{ℕ, List, ◌++◌, codes, decimal}
 use Rattle.glob_patterns.specs.ErrorText as glob
 use Rattle.glob_patterns.specs.declared.error.GlobError.TheVariants as glob_error
 use Rattle.glob_patterns.specs.declared.set_error.GlobSetError.TheVariants as set_error
@@ -10,7 +10,7 @@ use Rattle.os_str_bytes.specs.FaultText.{fault_text}
 use Rattle.names_commands.specs.declared.fault.Refusal.{Refusal}
 use Rattle.names_commands.specs.declared.fault.Refusal.TheVariants.{NoString, BadEscape, NotCanonical, HasNul, BadWords}
 use Rattle.names_commands.specs.declared.fault.CommandFault.{CommandFault}
-use Rattle.names_commands.specs.declared.fault.CommandFault.TheVariants.{Usage, Pattern, Numbered}
+use Rattle.names_commands.specs.declared.fault.CommandFault.TheVariants.{Usage, Pattern, Numbered, NoFile, Unread}
 
 -- what the program prints of the reason why an item is refused
 abbrev pub refusal_text : Refusal → List ℕ
@@ -25,3 +25,13 @@ abbrev pub words_text : CommandFault → List ℕ
 words_text Usage = codes "usage: names [--max N] list|filter|join|check unix|windows|wasm [GLOB|OPTIONS], list|join --sh unix; names --help tells more"
 words_text (Pattern why) = codes "pattern: " ++ glob.error_text (glob_error.Pattern why)
 words_text (Numbered number why) = glob.set_error_text (set_error.Pattern number why)
+words_text (NoFile number) = codes "ignore file " ++ (decimal number ++ codes ": no such file")
+words_text (Unread number) = codes "ignore file " ++ (decimal number ++ codes ": read failed")
+
+-- the status that the program ends with then
+abbrev pub words_status : CommandFault → ℕ
+words_status Usage = 2
+words_status (Pattern why) = 2
+words_status (Numbered number why) = 2
+words_status (NoFile number) = 4
+words_status (Unread number) = 4

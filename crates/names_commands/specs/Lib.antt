@@ -1,6 +1,8 @@
 pub mod Task
+pub mod Ignoring
 pub mod Matching
 pub mod Fault
+pub mod Files
 pub mod Command
 pub mod Pick
 pub mod Program

@@ -1,6 +1,7 @@
--- What is written for the names that a pattern matches.
-use Rattle.std.specs.Prelude.{◌≡◌, ◌⊎◌, ℕ, List, [], ◌∷◌, ◌++◌, length}
+-- What is written for the names that are picked.
+use Rattle.std.specs.Prelude.{◌≡◌, ◌⊎◌, ℕ, List, [], ◌∷◌, ◌++◌, length, Option, None, Some}
 use Rattle.std.specs.List.{AllByRecursion}
+use denote.Ref.{Bor}
 use Rattle.os_str_bytes.specs.Platform.{Ghosts}
 use Rattle.glob_patterns.specs.Letters.{letters_of}
 use Rattle.glob_patterns.specs.Options.{options_of, syntax_of}
@@ -12,14 +13,20 @@ use Rattle.glob_text.specs.Texts as pattern
 use Rattle.glob_text.specs.Texts.{IsFault}
 use Rattle.glob_text.specs.declared.fault.PatternFault.{PatternFault}
 use Rattle.wildcards.specs.Sets.{IsHit}
+use Rattle.os_ignore.specs.declared.file.File.{File}
 use Rattle.program_frame.specs.Items.{Lacks}
 use Rattle.program_frame.specs.Rules.{ListRules}
 use Rattle.names_commands.specs.declared.fault.Refusal.{Refusal}
 use Rattle.names_commands.specs.declared.fault.Refusal.TheVariants.{NoString, BadEscape, NotCanonical, HasNul, BadWords}
 use Rattle.names_commands.specs.declared.matching.Form.{Form}
 use Rattle.names_commands.specs.declared.matching.Form.TheVariants.{Line, Name, Word}
+use Rattle.names_commands.specs.Ignoring.{IsIgnored}
 use Rattle.names_commands.specs.Task.{IsLine}
 use Rattle.names_commands.specs.Words.{IsWordLine}
+
+-- the name is one of these, and no line of the ignore files ignores it
+abbrev pub IsPicked : {A : Type 0} → (List ℕ → Type 0) → List (File A) → List ℕ → Type 0
+IsPicked Chosen files name = Chosen name × (¬ (IsIgnored files name))
 
 -- on a platform that says this of its strings:
 module _ {E : Type 0} (p : Ghosts E) where
@@ -88,9 +95,23 @@ module _ {E : Type 0} (p : Ghosts E) where
   abbrev pub IsMatchedBy : {A : Type 0} → GlobSet E A → List ℕ → Type 0
   IsMatchedBy set name = (i : ℕ) × IsHit set.set.options set.set.patterns.items (letters_of p.units name) i
 
-  -- what is written then, and what is done with each name
-  abbrev pub IsTextOfMatched : {A : Type 0} → Form → GlobSet E A → List ℕ → List ℕ → Type 0
-  IsTextOfMatched form set = IsTextOfPicked form (IsMatchedBy set)
+  -- the name is chosen: one of the patterns matches it, or there are none
+  abbrev pub IsChosen : GlobOptions → List (List (List Mark)) → List ℕ → Type 0
+  IsChosen o [] name = Unit {0}
+  IsChosen o (w ∷ written) name = IsMatched o (w ∷ written) name
 
-  abbrev pub matching : {A : Type 0} → Form → ℕ → GlobSet E A → ListRules Refusal
-  matching form max set = picking form max (IsMatchedBy set)
+  -- the same of a compiled set, if there is one
+  abbrev pub IsChosenBy : {A : Type 0} → Option (Bor (GlobSet E A)) → List ℕ → Type 0
+  IsChosenBy None name = Unit {0}
+  IsChosenBy (Some set) name = IsMatchedBy set.now name
+
+  -- the name is picked by a set, if there is one, and by ignore files
+  abbrev pub IsPickedBy : {A : Type 0} → Option (Bor (GlobSet E A)) → List (File A) → List ℕ → Type 0
+  IsPickedBy globs files = IsPicked (IsChosenBy globs) files
+
+  -- what is written then, and what is done with each name
+  abbrev pub IsTextOfMatched : {A : Type 0} → Form → Option (Bor (GlobSet E A)) → List (File A) → List ℕ → List ℕ → Type 0
+  IsTextOfMatched form globs files = IsTextOfPicked form (IsPickedBy globs files)
+
+  abbrev pub matching : {A : Type 0} → Form → ℕ → Option (Bor (GlobSet E A)) → List (File A) → ListRules Refusal
+  matching form max globs files = picking form max (IsPickedBy globs files)

@@ -1,9 +1,10 @@
 -- The whole program, from the words after its name to its exit status.
 use Rattle.std.specs.Prelude.{◌≡◌, ◌⊎◌, ◌+◌, ℕ, List, codes, Option, None, Some, Result, Err, ⊤}
 use Rattle.os_str_bytes.specs.Platform.{Ghosts}
-use Rattle.glob_patterns.specs.declared.options.GlobOptions.{GlobOptions}
+use Rattle.os_ignore.specs.declared.file.File.{File}
 use Rattle.glob_text.specs.declared.fault.PatternFault.{PatternFault}
 use Rattle.glob_text.specs.Marks.{Mark}
+use Rattle.program_frame.specs.Files.{KnownFiles}
 use Rattle.program_frame.specs.Strings.{strings}
 use Rattle.program_frame.specs.declared.os.Os.{Os}
 use Rattle.program_frame.specs.declared.os.Os.TheVariants.{Unix}
@@ -17,15 +18,16 @@ use Rattle.program_frame.specs.declared.lists.program_fault.Fault as program_fau
 use Rattle.program_frame.specs.declared.lists.program_fault.Fault.TheVariants.{List as OfList, Words}
 use Rattle.names_commands.specs.declared.fault.Refusal.{Refusal}
 use Rattle.names_commands.specs.declared.fault.CommandFault.{CommandFault}
-use Rattle.names_commands.specs.declared.fault.CommandFault.TheVariants.{Usage, Pattern, Numbered}
+use Rattle.names_commands.specs.declared.fault.CommandFault.TheVariants.{Usage, Pattern, Numbered, NoFile, Unread}
 use Rattle.names_commands.specs.declared.task.Task.{Task}
 use Rattle.names_commands.specs.declared.task.Task.TheVariants as task
 use Rattle.names_commands.specs.declared.matching.Form.{Form}
 use Rattle.names_commands.specs.declared.matching.Form.TheVariants.{Line, Name, Word}
 use Rattle.names_commands.specs.declared.pick.Pick.{Pick}
 use Rattle.names_commands.specs.declared.pick.Pick.TheVariants.{Glob, Options}
-use Rattle.names_commands.specs.Matching.{picking, AreWrittenOut, IsFirstFault, IsMatched}
-use Rattle.names_commands.specs.Pick.{ArePatterns}
+use Rattle.names_commands.specs.Ignoring.{AreRead, IsFirstUnread}
+use Rattle.names_commands.specs.Matching.{picking, AreWrittenOut, IsChosen, IsFirstFault, IsPicked}
+use Rattle.names_commands.specs.Pick.{AreChosen}
 use Rattle.names_commands.specs.declared.command.Request.{Request}
 use Rattle.names_commands.specs.Command.{AsksFor, options_of}
 use Rattle.names_commands.specs.Task.{rules_of}
@@ -47,46 +49,70 @@ abbrev pub fault_of : Pick → ℕ → PatternFault → CommandFault
 fault_of (Glob pattern) index fault = Pattern fault
 fault_of (Options option value rest) index fault = Numbered (index + 1) fault
 
--- on a platform that says this of its strings, where patterns are matched so and a name may have `max` bytes:
-module _ {E : Type 0} (p : Ghosts E) (o : GlobOptions) (form : Form) (pick : Pick) (max : ℕ) where
-  -- the first of the patterns that has a fault is told; or the names that one of them matches are written
-  abbrev pub RunsPatterns : List (List ℕ) → Option (List ℕ) → Option (List ℕ) → Option (List ℕ) → Option (List ℕ) → Result ⊤ Fault → Type 0
-  RunsPatterns globs input left old new answer =
-      ((index : ℕ) × (fault : PatternFault) × IsFirstFault p o globs index fault × (answer ≡ Err (Words (fault_of pick index fault))))
-      ⊎ ((written : List (List (List Mark))) × AreWrittenOut p o globs written × Runs (picking p form max (IsMatched p o written)) OfList input left old new answer)
-
-  -- the answer to what picks names: that it has no patterns, or that memory was refused before anything was read or written, or that to its patterns
-  abbrev pub RunsPick : Option (List ℕ) → Option (List ℕ) → Option (List ℕ) → Option (List ℕ) → Result ⊤ Fault → Type 0
-  RunsPick input left old new answer =
-      (((globs : List (List ℕ)) → ¬ (ArePatterns pick globs)) × (answer ≡ Err (Words Usage)))
-      ⊎ (IsOutOfMemory answer input left old new
-      ⊎ ((globs : List (List ℕ)) × ArePatterns pick globs × RunsPatterns globs input left old new answer))
-
--- on the platform that a command names
-abbrev pub RunsPickOn : Os → Form → Pick → ℕ → Option (List ℕ) → Option (List ℕ) → Option (List ℕ) → Option (List ℕ) → Result ⊤ Fault → Type 0
-RunsPickOn os form pick max input left old new answer = RunsPick (strings os) (options_of os) form pick max input left old new answer
-
 -- what `names --help` writes
 abbrev pub help_text : List ℕ
-help_text = codes "names: lists of file names, escaped one a line, and back\n\nnames list   unix|windows|wasm [GLOB]  names ended by NUL in, the escape of each out, one a line;\n                                       with GLOB of those that it matches\nnames list   --sh unix [GLOB]          the same with words that every POSIX shell reads as the names\nnames list   --sh-line unix [GLOB]     the same, each on one line, for bash, zsh, ksh93, mksh and busybox\nnames filter unix|windows|wasm GLOB    names ended by NUL in, those that GLOB matches out, ended by NUL\nnames list|filter .. OPTIONS           the same for names that one of several patterns matches: OPTIONS are\n                                       --glob GLOB, once or more, in place of GLOB\nnames join   unix|windows|wasm         such lines in, names ended by NUL out\nnames join   --sh unix                 lines of words in, as such a shell reads them, names out\nnames join   .. --unterminated         the same, where the last line may lack its newline\nnames check  unix|windows|wasm         names ended by NUL in, nothing out: the status tells\nnames --help                           this text\nnames --max N ..                       one of these, for names of at most N bytes, not 1048576\n\nThe last name may lack its NUL. A last line without its newline is refused, since a list that was\ncut off ends with one. A line has at most six times as many bytes as a name,\na line of words four times and three more. With --sh a name with a newline has it in its word, and so\ntwo lines; join refuses what some shell would expand.\n\nGLOB matches a whole name, ./ and folders too, component by component: * is any run of symbols, ? one\nsymbol, [a-z] one of these and [!a-z] one of the others, none of them a separator; ** as a whole component\nis any number of components; {a,b} is a or b; \\ quotes the character after it. The separator is /. On\nwindows \\ is one as well, in GLOB too, where it quotes nothing. So **/*.rs matches ./src/a.rs, *.rs doesn't.\n\nStatus: 0, or 1 where a name or line is refused, 2 for other words or a GLOB that is refused, 3 where\nmemory is refused, 4 where a read or write fails. The first refused name is told with its number,\nfrom 1.\n"
+help_text = codes "names: lists of file names, escaped one a line, and back\n\nnames list   unix|windows|wasm [GLOB]  names ended by NUL in, the escape of each out, one a line;\n                                       with GLOB of those that it matches\nnames list   --sh unix [GLOB]          the same with words that every POSIX shell reads as the names\nnames list   --sh-line unix [GLOB]     the same, each on one line, for bash, zsh, ksh93, mksh and busybox\nnames filter unix|windows|wasm GLOB    names ended by NUL in, those that GLOB matches out, ended by NUL\nnames list|filter .. OPTIONS           the same for names that OPTIONS pick, in place of GLOB: each --glob GLOB\n                                       picks those that it matches, each --ignore FILE (unix, wasm) leaves out\n                                       those that the lines of a .gitignore file ignore\nnames join   unix|windows|wasm         such lines in, names ended by NUL out\nnames join   --sh unix                 lines of words in, as such a shell reads them, names out\nnames join   .. --unterminated         the same, where the last line may lack its newline\nnames check  unix|windows|wasm         names ended by NUL in, nothing out: the status tells\nnames --help                           this text\nnames --max N ..                       one of these, for names of at most N bytes, not 1048576\n\nThe last name may lack its NUL. A last line without its newline is refused, since a list that was\ncut off ends with one. A line has at most six times as many bytes as a name,\na line of words four times and three more. With --sh a name with a newline has it in its word, and so\ntwo lines; join refuses what some shell would expand.\n\nGLOB matches a whole name, ./ and folders too, component by component: * is any run of symbols, ? one\nsymbol, [a-z] one of these and [!a-z] one of the others, none of them a separator; ** as a whole component\nis any number of components; {a,b} is a or b; \\ quotes the character after it. The separator is /. On\nwindows \\ is one as well, in GLOB too, where it quotes nothing. So **/*.rs matches ./src/a.rs, *.rs doesn't.\n\nFILE is read as git reads a .gitignore at the top of the tree; a later one decides over those before it. Names\nare paths from there, with or without ./ at the start. A name that ends with / is a directory, another isn't:\nout/ ignores ./out/ and ./out/a, but not ./out.\n\nStatus: 0, or 1 where a name or line is refused, 2 for other words or a GLOB that is refused, 3 where\nmemory is refused, 4 where a read or write fails, or a FILE can't be read. The first refused name is\ntold with its number, from 1.\n"
 
--- the answer of a run over all items, or over the names that are picked, in this form
-abbrev pub RunsNames : Os → Task → Form → Option Pick → ℕ → Option (List ℕ) → Option (List ℕ) → Option (List ℕ) → Option (List ℕ) → Result ⊤ Fault → Type 0
-RunsNames os what form None max input left old new answer = RunsTask os what max input left old new answer
-RunsNames os what form (Some pick) max input left old new answer = RunsPickOn os form pick max input left old new answer
+-- why the ignore file with this number and this name can't be read
+abbrev pub IsFaultOfOne : KnownFiles → ℕ → List ℕ → Fault → Type 0
+IsFaultOfOne known number name fault = (fault ≡ OfList (Run Memory)) ⊎ (((fault ≡ Words (NoFile number)) × known.lacks name) ⊎ (fault ≡ Words (Unread number)))
 
--- what the command does where a name may have `max` bytes
-abbrev pub Does : Command → ℕ → Option (List ℕ) → Option (List ℕ) → Option (List ℕ) → Option (List ℕ) → Result ⊤ Fault → Type 0
-Does (ListNames os pick) max input left old new answer = RunsNames os task.ListAll Line pick max input left old new answer
-Does (ListWords form pick) max input left old new answer = RunsNames Unix (task.ListWords form) (Word form) pick max input left old new answer
-Does (Filter os pick) max input left old new answer = RunsPickOn os Name pick max input left old new answer
-Does (Join os last) max input left old new answer = RunsTask os (task.Join last) max input left old new answer
-Does (JoinWords last) max input left old new answer = RunsTask Unix (task.JoinWords last) max input left old new answer
-Does (Check os) max input left old new answer = RunsTask os task.Check max input left old new answer
-Does Help max input left old new answer = WritesText help_text (OfList (Run Write)) old new answer
+-- where this is known of files, and memory is taken of an allocator of this type:
+module _ (known : KnownFiles) (A : Type 0) where
+  -- why an ignore file can't be read: no file has the name, or it isn't read
+  abbrev pub IsFileFault : List (List ℕ) → CommandFault → Type 0
+  IsFileFault names Usage = ⊥
+  IsFileFault names (Pattern why) = ⊥
+  IsFileFault names (Numbered number why) = ⊥
+  IsFileFault names (NoFile number) = (name : List ℕ) × IsFirstUnread A known names number name × known.lacks name
+  IsFileFault names (Unread number) = (name : List ℕ) × IsFirstUnread A known names number name
 
--- the request that these words make is answered by this; words that make none are refused
-abbrev pub RunsTo : List (List ℕ) → Option (List ℕ) → Option (List ℕ) → Option (List ℕ) → Option (List ℕ) → Result ⊤ Fault → Type 0
-RunsTo words input left old new answer =
-    (((request : Request) → ¬ (AsksFor words request)) × (answer ≡ Err (Words Usage)))
-    ⊎ ((request : Request) × (AsksFor words request × Does request.command request.max input left old new answer))
+  -- why ignore files can't be read: that, or that memory was refused
+  abbrev pub IsFaultOf : List (List ℕ) → Fault → Type 0
+  IsFaultOf names fault = (fault ≡ OfList (Run Memory)) ⊎ ((why : CommandFault) × IsFileFault names why × (fault ≡ Words why))
+
+  -- the first ignore file that can't be read is told; or these names are written, but for those that the files ignore, on a platform that says this of its strings, where a name may have `max` bytes
+  abbrev pub RunsBut : {E : Type 0} → Ghosts E → Form → ℕ → (List ℕ → Type 0) → List (List ℕ) → Option (List ℕ) → Option (List ℕ) → Option (List ℕ) → Option (List ℕ) → Result ⊤ Fault → Type 0
+  RunsBut p form max Chosen names input left old new answer =
+      ((why : CommandFault) × IsFileFault names why × (answer ≡ Err (Words why)))
+      ⊎ ((files : List (File A)) × AreRead known names files × Runs (picking p form max (IsPicked Chosen files)) OfList input left old new answer)
+
+  -- on such a platform:
+  module _ {E : Type 0} (p : Ghosts E) (os : Os) (form : Form) (pick : Pick) (max : ℕ) where
+    -- the first of the patterns that has a fault is told; or the names that one of them matches are written, or all where there are none, but for those that the files ignore
+    abbrev pub RunsPatterns : List (List ℕ) → List (List ℕ) → Option (List ℕ) → Option (List ℕ) → Option (List ℕ) → Option (List ℕ) → Result ⊤ Fault → Type 0
+    RunsPatterns globs names input left old new answer =
+        ((index : ℕ) × (fault : PatternFault) × IsFirstFault p (options_of os) globs index fault × (answer ≡ Err (Words (fault_of pick index fault))))
+        ⊎ ((written : List (List (List Mark))) × AreWrittenOut p (options_of os) globs written × RunsBut p form max (IsChosen p (options_of os) written) names input left old new answer)
+
+    -- the answer to what picks names: that it is neither a pattern nor options, or that memory was refused before anything was read or written, or that to its patterns and ignore files
+    abbrev pub RunsPick : Option (List ℕ) → Option (List ℕ) → Option (List ℕ) → Option (List ℕ) → Result ⊤ Fault → Type 0
+    RunsPick input left old new answer =
+        (((globs names : List (List ℕ)) → ¬ (AreChosen os pick globs names)) × (answer ≡ Err (Words Usage)))
+        ⊎ (IsOutOfMemory answer input left old new
+        ⊎ ((globs : List (List ℕ)) × (names : List (List ℕ)) × AreChosen os pick globs names × RunsPatterns globs names input left old new answer))
+
+  -- on the platform that a command names
+  abbrev pub RunsPickOn : Os → Form → Pick → ℕ → Option (List ℕ) → Option (List ℕ) → Option (List ℕ) → Option (List ℕ) → Result ⊤ Fault → Type 0
+  RunsPickOn os form pick max input left old new answer = RunsPick (strings os) os form pick max input left old new answer
+
+  -- the answer of a run over all items, or over the names that are picked, in this form
+  abbrev pub RunsNames : Os → Task → Form → Option Pick → ℕ → Option (List ℕ) → Option (List ℕ) → Option (List ℕ) → Option (List ℕ) → Result ⊤ Fault → Type 0
+  RunsNames os what form None max input left old new answer = RunsTask os what max input left old new answer
+  RunsNames os what form (Some pick) max input left old new answer = RunsPickOn os form pick max input left old new answer
+
+  -- what the command does where a name may have `max` bytes
+  abbrev pub Does : Command → ℕ → Option (List ℕ) → Option (List ℕ) → Option (List ℕ) → Option (List ℕ) → Result ⊤ Fault → Type 0
+  Does (ListNames os pick) max input left old new answer = RunsNames os task.ListAll Line pick max input left old new answer
+  Does (ListWords form pick) max input left old new answer = RunsNames Unix (task.ListWords form) (Word form) pick max input left old new answer
+  Does (Filter os pick) max input left old new answer = RunsPickOn os Name pick max input left old new answer
+  Does (Join os last) max input left old new answer = RunsTask os (task.Join last) max input left old new answer
+  Does (JoinWords last) max input left old new answer = RunsTask Unix (task.JoinWords last) max input left old new answer
+  Does (Check os) max input left old new answer = RunsTask os task.Check max input left old new answer
+  Does Help max input left old new answer = WritesText help_text (OfList (Run Write)) old new answer
+
+  -- the request that these words make is answered by this; words that make none are refused
+  abbrev pub RunsTo : List (List ℕ) → Option (List ℕ) → Option (List ℕ) → Option (List ℕ) → Option (List ℕ) → Result ⊤ Fault → Type 0
+  RunsTo words input left old new answer =
+      (((request : Request) → ¬ (AsksFor words request)) × (answer ≡ Err (Words Usage)))
+      ⊎ ((request : Request) × (AsksFor words request × Does request.command request.max input left old new answer))

@@ -4,6 +4,7 @@ use glob_patterns::{GlobError, GlobSetError, PatternFault};
 use os_command_line::shell::WordsFault;
 use os_quote::QuoteError;
 use os_str_bytes::EncodingError;
+use program_frame::fault::write_number;
 use program_frame::lists::fault::ItemRefusal;
 use program_frame::lists::program_fault;
 use program_frame::lists::program_fault::WordsRefusal;
@@ -39,6 +40,10 @@ pub enum CommandFault {
     /// Of the patterns of options the one with this number, counted from 1, is the first that is
     /// refused: its first fault.
     Numbered(usize, PatternFault),
+    /// No file has the name of the ignore file with this number, counted from 1.
+    NoFile(usize),
+    /// The ignore file with this number couldn't be read.
+    Unread(usize),
 }
 
 /// The reason why a run of the program ended before its input did.
@@ -68,15 +73,24 @@ impl ItemRefusal for Refusal {
 }
 
 impl WordsRefusal for CommandFault {
-    ghost use Rattle.names_commands.specs.Fault.{words_text};
+    ghost use Rattle.names_commands.specs.Fault.{words_status, words_text};
     ghost use Rattle.names_commands.specs.declared.fault.CommandFault.{CommandFault};
 
     ghost usage = { CommandFault.Usage };
 
     ghost text_of = { words_text };
 
+    ghost status_of = { words_status };
+
     fn usage() -> CommandFault {
         CommandFault::Usage
+    }
+
+    fn status(&self) -> u8 {
+        match self {
+            CommandFault::Usage | CommandFault::Pattern(_) | CommandFault::Numbered(_, _) => 2,
+            CommandFault::NoFile(_) | CommandFault::Unread(_) => 4,
+        }
     }
 
     fn write<W: fmt::Write>(&self, f: &mut fmt::Formatter<W>) -> fmt::Result {
@@ -89,6 +103,16 @@ impl WordsRefusal for CommandFault {
                 GlobError::Pattern(why).fmt(f)
             }
             CommandFault::Numbered(number, why) => GlobSetError::Pattern(number, why).fmt(f),
+            CommandFault::NoFile(number) => {
+                f.write_str("ignore file ")?;
+                write_number(number, f)?;
+                f.write_str(": no such file")
+            }
+            CommandFault::Unread(number) => {
+                f.write_str("ignore file ")?;
+                write_number(number, f)?;
+                f.write_str(": read failed")
+            }
         }
     }
 }

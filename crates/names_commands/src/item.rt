@@ -1,5 +1,6 @@
 //! What is written for one item.
 ghost use Rattle.std.specs.Prelude.{◌≡◌, ◌≤◌, ◌*◌, ◌++◌, ◌∷◌, [], length, ℕ, List, OnOk, OnErr, IfOk, IfErr};
+ghost use Rattle.os_ignore.specs.Ignores.{files_of};
 ghost use Rattle.os_quote.specs.Escape.{IsLineEscape};
 ghost use Rattle.os_str_bytes.specs.Strings.{bytes};
 ghost use Rattle.os_str_bytes.specs.EncodingError.{EncodingError};
@@ -12,10 +13,9 @@ ghost use Rattle.names_commands.specs.Task.{longest_item, rules_of, IsText};
 ghost use Rattle.names_commands.specs.Matching.{matching, IsTextOfMatched};
 
 use crate::fault::Refusal;
-use crate::matching::Form;
+use crate::matching::{Form, Picker};
 use crate::task::{Settings, Task};
 use crate::words::{write_names, write_word};
-use glob_patterns::GlobSet;
 use os_quote::{QuoteError, unescape_line};
 use os_str_bytes::{OsStr, Platform, Wasm};
 use program_frame::lists::fault::ItemFault;
@@ -56,24 +56,27 @@ pub fn write_item<E: Platform, A: Allocator + Copy>(
     }
 }
 
-/// Appends what is written for a name, where patterns pick names.
-pub fn write_matching<E: Platform, A: Allocator, B: Allocator>(
+/// Appends what is written for a name, where some are picked.
+pub fn write_matching<E: Platform, A: Allocator, B: Allocator + Copy>(
     alloc: A,
-    globs: &GlobSet<E, B>,
+    picker: &Picker<'_, E, B>,
     form: Form,
     item: &[u8],
     output: &mut Vec<u8, A>,
 ) -> Result<(), ItemFault<Refusal>>
     ensures ok { OnOk result ((text : List ℕ)
-        × (IsTextOfMatched ⟦<E as Platform>⟧ form globs.now item.now text
-        × (output.new.items ≡ output.old.items ++ text))) }
+        × (IsTextOfMatched ⟦<E as Platform>⟧ form picker.now.globs
+        (files_of picker.now.ignore.now)
+        item.now text × (output.new.items ≡ output.old.items ++ text))) }
     ensures fault { (max : ℕ) → IfErr result (λ fault. IsItemFault
-        (matching ⟦<E as Platform>⟧ form max globs.now) item.now fault) }
+        (matching ⟦<E as Platform>⟧ form max picker.now.globs
+        (files_of picker.now.ignore.now)) item.now
+        fault) }
     ensures unchanged { OnErr result (output.new.items ≡ output.old.items) }
 {
     match named::<E>(item) {
         Ok(name) => {
-            if !globs.is_match(name) {
+            if !picker.picks(name) {
                 return Ok(());
             }
             match form {

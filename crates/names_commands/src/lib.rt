@@ -16,6 +16,7 @@
 
 pub mod command;
 pub mod fault;
+mod ignoring;
 mod item;
 pub mod laws;
 pub mod matching;

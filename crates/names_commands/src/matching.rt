@@ -1,11 +1,16 @@
-//! Names that patterns pick.
-ghost use Rattle.std.specs.Prelude.{◌≡◌};
+//! Names that are picked.
+ghost use Rattle.std.specs.Prelude.{◌≡◌, ◌↔◌, IsTrue};
+ghost use Rattle.os_ignore.specs.Ignores.{files_of};
+ghost use Rattle.os_str_bytes.specs.Strings.{bytes};
+ghost use Rattle.names_commands.specs.Matching.{IsChosenBy, IsPickedBy};
 
 use crate::fault::Refusal;
+use crate::ignoring::is_ignored;
 use crate::item::write_matching;
 use crate::task::WordForm;
 use glob_patterns::GlobSet;
-use os_str_bytes::Platform;
+use os_ignore::Ignore;
+use os_str_bytes::{OsStr, Platform};
 use program_frame::lists::fault::ItemFault;
 use program_frame::lists::task::ListTask;
 use std::alloc::{Allocator, Global};
@@ -21,47 +26,92 @@ pub enum Form {
     Word(WordForm),
 }
 
-/// Each name that a pattern of a set matches is written, and nothing for the others.
+/// Which names are picked.
+#[derive(Clone, Copy)]
+pub struct Picker<'g, E: Platform, A: Allocator = Global> {
+    /// Those that a pattern of this set matches, or all where there is no set,
+    pub globs: Option<&'g GlobSet<E, A>>,
+    /// but for those that the lines of these files ignore. One `./` before a name is left out, and a `/`
+    /// at its end says that it is a directory.
+    pub ignore: &'g Ignore<A>,
+}
+
+impl<'g, E: Platform, A: Allocator + Copy> Picker<'g, E, A> {
+    /// Whether the name is picked.
+    ///
+    /// ```
+    /// use names_commands::matching::Picker;
+    /// use os_ignore::Ignore;
+    /// use os_str_bytes::{OsStr, Unix};
+    ///
+    /// let ignore = Ignore::new(alloc, b"*.o\nout/\n")?;
+    /// let picker = Picker { globs: None, ignore: &ignore };
+    /// assert!(rt; picker.picks(OsStr::<Unix>::new("./a.c")) && !picker.picks(OsStr::new("./a.o")));
+    /// assert!(rt; picker.picks(OsStr::new("out")) && !picker.picks(OsStr::new("out/")));
+    /// ```
+    pub fn picks(&self, name: OsStr<'_, E>) -> bool
+        ensures { IsTrue result ↔ IsPickedBy ⟦<E as Platform>⟧ self.now.globs
+            (files_of self.now.ignore.now) (bytes name.entry) }
+    {
+        is_chosen(self.globs, name) && !is_ignored(self.ignore, name.as_encoded_bytes())
+    }
+}
+
+/// Whether a pattern of a set matches the name, if there is a set.
+fn is_chosen<E: Platform, A: Allocator>(globs: Option<&GlobSet<E, A>>, name: OsStr<'_, E>) -> bool
+    ensures { IsTrue result ↔ IsChosenBy ⟦<E as Platform>⟧ globs.entry (bytes name.entry) }
+{
+    match globs {
+        Some(set) => set.is_match(name),
+        None => true,
+    }
+}
+
+/// Each name that is picked is written, and nothing for the others.
 #[derive(Clone, Copy)]
 pub struct Matching<'g, E: Platform, A: Allocator = Global> {
-    globs: &'g GlobSet<E, A>,
+    picker: Picker<'g, E, A>,
     form: Form,
     max: usize,
 }
 
 impl<'g, E: Platform, A: Allocator> Matching<'g, E, A> {
-    /// The names that a pattern of the set matches, in this form, where a name may have `max` bytes.
+    /// The names that are picked, in this form, where a name may have `max` bytes.
     ///
     /// ```
     /// use glob_patterns::{GlobOptions, GlobSet, GlobSetError, Separators};
-    /// use names_commands::matching::{Form, Matching};
+    /// use names_commands::matching::{Form, Matching, Picker};
+    /// use os_ignore::Ignore;
     /// use os_str_bytes::{OsStr, Unix};
     /// use program_frame::lists::task::ListTask;
     ///
     /// let patterns = [OsStr::<Unix>::new("*.c"), OsStr::new("*.h")];
     /// let globs = GlobSet::new(alloc, GlobOptions::new(Separators::Slash), &patterns)?;
-    /// let names = Matching::new(&globs, Form::Line, 255);
+    /// let ignore = Ignore::new(alloc, b"b.*\n")?;
+    /// let picker = Picker { globs: Some(&globs), ignore: &ignore };
+    /// let names = Matching::new(picker, Form::Line, 255);
     /// let mut output = Vec::new(alloc);
-    /// for name in ["a.c", "a.o", "a.h"] {
+    /// for name in ["a.c", "a.o", "a.h", "b.h"] {
     ///     assert!(rt; names.write_item(alloc, name.as_bytes(), &mut output).is_ok());
     /// }
     /// assert_eq!(rt; output.as_slice(), b"a.c\na.h\n".as_slice());
     /// ```
-    pub fn new(globs: &'g GlobSet<E, A>, form: Form, max: usize) -> Matching<'g, E, A>
-        ensures globs { result.globs.now ≡ globs.now }
+    pub fn new(picker: Picker<'g, E, A>, form: Form, max: usize) -> Matching<'g, E, A>
+        ensures picker { result.picker ≡ picker.entry }
         ensures form { result.form ≡ form }
         ensures max { result.max ≡ max }
     {
-        Matching { globs, form, max }
+        Matching { picker, form, max }
     }
 }
 
-impl<'g, E: Platform, B: Allocator> ListTask for Matching<'g, E, B> {
+impl<'g, E: Platform, B: Allocator + Copy> ListTask for Matching<'g, E, B> {
     ghost use Rattle.names_commands.specs.Matching.{matching};
 
     type Refusal = Refusal;
 
-    ghost rules = { λ m. matching ⟦<E as Platform>⟧ m.form m.max m.globs.now };
+    ghost rules = { λ m. matching ⟦<E as Platform>⟧ m.form m.max m.picker.globs
+        (files_of m.picker.ignore.now) };
 
     fn end(&self) -> u8 {
         0
@@ -85,6 +135,6 @@ impl<'g, E: Platform, B: Allocator> ListTask for Matching<'g, E, B> {
         item: &[u8],
         output: &mut Vec<u8, A>,
     ) -> Result<(), ItemFault<Refusal>> {
-        write_matching::<E, A, B>(alloc, self.globs, self.form, item, output)
+        write_matching::<E, A, B>(alloc, &self.picker, self.form, item, output)
     }
 }

@@ -1,10 +1,12 @@
 //! What picks names: a pattern, or options.
-ghost use Rattle.std.specs.Prelude.{◌≡◌, ◌≢◌, ◌∷◌, ◌++◌, ℕ, List, codes, map, string_bytes, IfOk, MatchBool, MatchOption};
+ghost use Rattle.std.specs.Prelude.{◌≡◌, ◌∷◌, ◌++◌, [], ℕ, List, map, string_bytes, IfOk, IsTrue, MatchBool, MatchOption, ◌↔◌};
 ghost use Rattle.os_str_bytes.specs.Strings.{bytes};
 ghost use Rattle.names_commands.specs.Command.{all_words};
-ghost use Rattle.names_commands.specs.Pick.{AreOptions, ArePatterns};
+ghost use Rattle.names_commands.specs.Ignoring.{text_of};
+ghost use Rattle.names_commands.specs.Pick.{AddsOption, AddsOptions, AreChosen, AreOptions, IsOption, TakesIgnore};
 
 use os_str_bytes::{OsStr, Platform};
+use program_frame::os::Os;
 use std::alloc::{AllocError, Allocator};
 
 /// What picks names.
@@ -13,8 +15,9 @@ pub enum Pick<'a> {
     /// A pattern picks those that it matches.
     Glob(&'a str),
     /// Options pick them: these are their first word, their second, and the others. `--glob` has a
-    /// pattern after it; a name is picked where one of these matches it. Other words are refused
-    /// where the command runs.
+    /// pattern after it, and `--ignore` the name of an ignore file; a name is picked where one of the
+    /// patterns matches it, or there are none, and no line of the files ignores it. Other words are
+    /// refused where the command runs, and `--ignore` on Windows is.
     Options(&'a str, &'a str, &'a [String]),
 }
 
@@ -32,85 +35,122 @@ impl<'a> Pick<'a> {
         }
     }
 
-    /// The patterns, or `None` where the words aren't options.
-    pub(crate) fn patterns<E: Platform, A: Allocator>(
+    /// The patterns and the names of ignore files, or `None` where the words aren't options on this
+    /// platform.
+    pub(crate) fn chosen<E: Platform, A: Allocator + Copy>(
         self,
         alloc: A,
-    ) -> Result<Option<Vec<OsStr<'a, E>, A>>, AllocError>
+        os: Os,
+    ) -> Result<Option<Chosen<'a, E, A>>, AllocError>
         ensures { IfOk result (λ read. MatchOption read
-            ((globs : List (List ℕ)) → ¬ (ArePatterns self.entry globs))
-            (λ globs. ArePatterns self.entry (map bytes globs.items))) }
+            ((globs : List (List ℕ)) → (files : List (List ℕ)) → ¬ (AreChosen os self.entry globs files))
+            (λ chosen. AreChosen os self.entry (map bytes chosen.globs.items)
+            (map text_of chosen.files.items))) }
     {
+        let mut chosen = Chosen {
+            globs: Vec::new(alloc),
+            files: Vec::new(alloc),
+        };
         match self {
             Pick::Glob(pattern) => {
-                let mut globs = Vec::new(alloc);
-                globs.push(OsStr::new(pattern))?;
-                Ok(Some(globs))
+                chosen.globs.push(OsStr::new(pattern))?;
+                Ok(Some(chosen))
             }
             Pick::Options(option, value, rest) => {
-                patterns_of_options::<E, A>(alloc, option, value, rest)
+                if chosen.add_options(os, option, value, rest)? {
+                    Ok(Some(chosen))
+                } else {
+                    Ok(None)
+                }
             }
         }
     }
 }
 
-/// The patterns of options, or `None` where the words aren't such.
-#[tactic(auto, using(crate::proofs::lemmas::Picks::first_option))]
-fn patterns_of_options<'a, E: Platform, A: Allocator>(
-    alloc: A,
-    option: &str,
-    value: &'a str,
-    rest: &'a [String],
-) -> Result<Option<Vec<OsStr<'a, E>, A>>, AllocError>
-    ensures { IfOk result (λ read. MatchOption read
-        ((globs : List (List ℕ))
-        → ¬ (AreOptions (option.now ∷ value.entry.now ∷ map string_bytes rest.entry.now) globs))
-        (λ globs. AreOptions (option.now ∷ value.entry.now ∷ map string_bytes rest.entry.now)
-        (map bytes globs.items))) }
-{
-    let Some(glob) = glob_of::<E>(option, value) else {
-        return Ok(None);
-    };
-    let mut globs = Vec::new(alloc);
-    globs.push(glob)?;
-    if push_patterns(&mut globs, rest)? {
-        Ok(Some(globs))
-    } else {
-        Ok(None)
+/// What options choose.
+#[derive(Drop)]
+pub(crate) struct Chosen<'a, E: Platform + 'a, A: Allocator> {
+    /// The patterns of which one matches a name that is picked, if there are any.
+    pub globs: Vec<OsStr<'a, E>, A>,
+    /// The names of ignore files.
+    pub files: Vec<&'a str, A>,
+}
+
+impl<'a, E: Platform, A: Allocator> Chosen<'a, E, A> {
+    /// Adds what options choose, and answers whether the words are such.
+    #[tactic(auto, using(crate::proofs::lemmas::Picks::first_option, crate::proofs::lemmas::Picks::no_first, crate::proofs::lemmas::Picks::no_more))]
+    fn add_options(
+        &mut self,
+        os: Os,
+        option: &str,
+        value: &'a str,
+        rest: &'a [String],
+    ) -> Result<bool, AllocError>
+        ensures { IfOk result (λ are. MatchBool are
+            (AddsOptions os (option.now ∷ value.entry.now ∷ map string_bytes rest.entry.now)
+            (map bytes self.old.globs.items) (map bytes self.new.globs.items)
+            (map text_of self.old.files.items) (map text_of self.new.files.items))
+            ((globs : List (List ℕ)) → (files : List (List ℕ)) → ¬ (AreOptions os
+            (option.now ∷ value.entry.now ∷ map string_bytes rest.entry.now) globs files))) }
+    {
+        if self.add(os, option, value)? {
+            self.add_rest(os, rest)
+        } else {
+            Ok(false)
+        }
+    }
+
+    /// Adds what two words choose, and answers whether they are an option.
+    fn add(&mut self, os: Os, option: &str, value: &'a str) -> Result<bool, AllocError>
+        ensures { IfOk result (λ is. MatchBool is
+            (AddsOption os option.now value.entry.now
+            (map bytes self.old.globs.items) (map bytes self.new.globs.items)
+            (map text_of self.old.files.items) (map text_of self.new.files.items))
+            ((globs : List (List ℕ)) → (files : List (List ℕ))
+            → ¬ (IsOption os option.now value.entry.now globs files))) }
+    {
+        match option {
+            "--glob" => {
+                self.globs.push(OsStr::new(value))?;
+                Ok(true)
+            }
+            "--ignore" if takes_ignore(os) => {
+                self.files.push(value)?;
+                Ok(true)
+            }
+            _ => Ok(false),
+        }
+    }
+
+    /// Adds what the words of options choose, and answers whether they are such.
+    fn add_rest(&mut self, os: Os, words: &'a [String]) -> Result<bool, AllocError>
+        ensures { IfOk result (λ are. MatchBool are
+            (AddsOptions os (map string_bytes words.entry.now)
+            (map bytes self.old.globs.items) (map bytes self.new.globs.items)
+            (map text_of self.old.files.items) (map text_of self.new.files.items))
+            ((globs : List (List ℕ)) → (files : List (List ℕ))
+            → ¬ (AreOptions os (map string_bytes words.entry.now) globs files))) }
+    {
+        let mut left = words;
+        while let Some((option, after)) = left.split_first() {
+            let Some((value, rest)) = after.split_first() else {
+                return Ok(false);
+            };
+            if !self.add(os, option.as_str(), value.as_str())? {
+                return Ok(false);
+            }
+            left = rest;
+        }
+        Ok(true)
     }
 }
 
-/// The pattern that two words of options say, if the first is `--glob`.
-fn glob_of<'a, E: Platform>(option: &str, value: &'a str) -> Option<OsStr<'a, E>>
-    ensures { MatchOption result (option.now ≢ codes "--glob")
-        (λ glob. (option.now ≡ codes "--glob") × (bytes glob ≡ value.entry.now)) }
+/// Whether ignore files are taken on this platform: they are about names that `/` alone separates.
+fn takes_ignore(os: Os) -> bool
+    ensures { IsTrue result ↔ TakesIgnore os }
 {
-    match option {
-        "--glob" => Some(OsStr::new(value)),
-        _ => None,
+    match os {
+        Os::Unix | Os::Wasm => true,
+        Os::Windows => false,
     }
-}
-
-/// Appends the patterns of options, and answers whether the words are such.
-fn push_patterns<'a, E: Platform, A: Allocator>(
-    globs: &mut Vec<OsStr<'a, E>, A>,
-    words: &'a [String],
-) -> Result<bool, AllocError>
-    ensures { IfOk result (λ are. MatchBool are
-        ((more : List (List ℕ)) × (AreOptions (map string_bytes words.entry.now) more
-        × (map bytes globs.new.items ≡ map bytes globs.old.items ++ more)))
-        ((more : List (List ℕ)) → ¬ (AreOptions (map string_bytes words.entry.now) more))) }
-{
-    let mut left = words;
-    while let Some((option, after)) = left.split_first() {
-        let Some((value, rest)) = after.split_first() else {
-            return Ok(false);
-        };
-        let Some(glob) = glob_of::<E>(option.as_str(), value.as_str()) else {
-            return Ok(false);
-        };
-        globs.push(glob)?;
-        left = rest;
-    }
-    Ok(true)
 }

@@ -11,7 +11,8 @@ use program_frame::marked::Marked;
 use std::env;
 
 fn main(rt: HostRuntime) -> Ended<Fault> {
-    execute::<Paths, _, _, _, _>(
+    execute(
+        &Paths,
         rt.alloc(),
         env::args(&rt),
         &mut Marked::new(rt.reader()),

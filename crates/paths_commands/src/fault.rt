@@ -66,8 +66,14 @@ impl WordsRefusal for Usage {
 
     ghost text_of = { λ _. usage_text };
 
+    ghost status_of = { λ _. 2 };
+
     fn usage() -> Usage {
         Usage
+    }
+
+    fn status(&self) -> u8 {
+        2
     }
 
     fn write<W: fmt::Write>(&self, f: &mut fmt::Formatter<W>) -> fmt::Result {

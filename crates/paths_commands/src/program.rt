@@ -39,13 +39,14 @@ impl ListProgram for Paths {
 
     ghost name = { codes "paths" };
 
-    ghost runs_to = { RunsTo };
+    ghost runs_to = { λ _ _. RunsTo };
 
     fn name() -> &'static str {
         "paths"
     }
 
-    fn run_words<A: Allocator, R: Read, W: Write>(
+    fn run_words<A: Allocator + Copy, R: Read, W: Write>(
+        &self,
         alloc: A,
         words: &[String],
         reader: &mut Marked<R>,

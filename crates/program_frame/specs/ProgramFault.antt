@@ -11,10 +11,10 @@ abbrev pub text_of : {F U : Type 0} → List ℕ → (F → List ℕ) → (U →
 text_of item reason words (OfList fault) = list_fault.text_of item reason fault
 text_of item reason words (Words why) = words why
 
--- the status that the program ends with
-abbrev pub status_of : {F U : Type 0} → Fault F U → ℕ
-status_of (OfList fault) = list_fault.status_of fault
-status_of (Words why) = 2
+-- the status that the program ends with, where refusals of words have these
+abbrev pub status_of : {F U : Type 0} → (U → ℕ) → Fault F U → ℕ
+status_of words (OfList fault) = list_fault.status_of fault
+status_of words (Words why) = words why
 
 -- the answer blames a read exactly where the reader's mark is set, and a write exactly where the writer's is
 abbrev pub BlamesEnds : {F U : Type 0} → Result ⊤ (Fault F U) → Bool → Bool → Type 0

@@ -2,6 +2,7 @@
 ghost use Rattle.std.specs.Prelude.{◌≡◌, ◌≢◌, ◌≤◌, ◌∷◌, ◌++◌, ◌⊎◌, [], ℕ, List, false, IsOk, IfOk, IfErr, OnOk, length, map, string_bytes};
 ghost use Rattle.std.specs.Io.KnownBytes.{Appends};
 ghost use Rattle.os_command_line.specs.ShellWriting.{quoted_word};
+ghost use Rattle.os_ignore.specs.Ignores.{files_of};
 ghost use Rattle.os_quote.specs.Escape.{IsLineEscape};
 ghost use Rattle.os_str_bytes.specs.EncodingError.{EncodingError};
 ghost use Rattle.program_frame.specs.Items.{Lacks};
@@ -11,18 +12,17 @@ ghost use Rattle.program_frame.specs.declared.fault.Failure.TheVariants.{Write a
 ghost use Rattle.program_frame.specs.declared.lists.fault.ListFault.TheVariants.{Refused, Run};
 ghost use Rattle.names_commands.specs.Back.{listing, listing_words, AreFirst, IsCompleted};
 ghost use Rattle.names_commands.specs.Command.{AsksFor};
-ghost use Rattle.names_commands.specs.Matching.{IsMatchedBy};
+ghost use Rattle.names_commands.specs.Matching.{IsPickedBy};
 ghost use Rattle.names_commands.specs.Task.{rules_of};
 ghost use Rattle.names_commands.specs.Words.{AreNamesOf};
 ghost use Rattle.names_commands.specs.declared.command.Request.{Request};
 ghost use Rattle.names_commands.specs.declared.fault.Refusal.{Refusal};
 ghost use Rattle.names_commands.specs.declared.fault.Refusal.TheVariants.{NoString};
 
-use glob_patterns::GlobSet;
 use names_commands::command::Request;
 use names_commands::fault::{Refusal, Usage};
 use names_commands::laws::{names_come_back, names_come_back_from_words};
-use names_commands::matching::{Form, Matching};
+use names_commands::matching::{Form, Matching, Picker};
 use names_commands::task::{LastLine, OnPlatform, Settings, Task, WordForm};
 use os_str_bytes::{Platform, Unix};
 use program_frame::lists::fault::ListFault;
@@ -197,10 +197,10 @@ pub fn unended_line<E: Platform, A: Allocator, W: Write>(
 }
 
 /// Filters one name, which is written with NUL, or not at all.
-pub fn filtered<E: Platform, A: Allocator, B: Allocator, W: Write>(
+pub fn filtered<E: Platform, A: Allocator, B: Allocator + Copy, W: Write>(
     alloc: A,
     max: usize,
-    globs: &GlobSet<E, B>,
+    picker: Picker<'_, E, B>,
     name: &[u8],
     writer: &mut Marked<W>,
 ) -> Result<(), ListFault<Refusal>>
@@ -208,15 +208,17 @@ pub fn filtered<E: Platform, A: Allocator, B: Allocator, W: Write>(
     requires some { name.now ≢ [] }
     requires unmarked { has_failed writer.old ≡ false }
     ensures { OnOk result ((text : List ℕ)
-        × (((IsMatchedBy ⟦<E as Platform>⟧ globs.now name.now × (text ≡ name.now ++ 0 ∷ []))
-        ⊎ ((¬ (IsMatchedBy ⟦<E as Platform>⟧ globs.now name.now)) × (text ≡ [])))
+        × (((IsPickedBy ⟦<E as Platform>⟧ picker.entry.globs (files_of picker.entry.ignore.now) name.now
+        × (text ≡ name.now ++ 0 ∷ []))
+        ⊎ ((¬ (IsPickedBy ⟦<E as Platform>⟧ picker.entry.globs (files_of picker.entry.ignore.now)
+        name.now)) × (text ≡ [])))
         × Appends (W.contents (marked_inner writer.old)) (W.contents (marked_inner writer.new))
         text)) }
 {
     let mut reader = Marked::new(name);
     run(
         alloc,
-        &Matching::new(globs, Form::Name, max),
+        &Matching::new(picker, Form::Name, max),
         &mut reader,
         writer,
     )

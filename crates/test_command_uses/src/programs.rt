@@ -14,6 +14,7 @@ use osbytes_commands::program::execute;
 use paths_commands::program::Paths;
 use program_frame::ended::{Ended, ProgramFault};
 use program_frame::ends::{Messages, Output};
+use program_frame::files::Files;
 use program_frame::lists::fault::ListFault;
 use program_frame::lists::program::execute as execute_list;
 use program_frame::marked::Marked;
@@ -92,7 +93,8 @@ pub fn silent_where_closed<A: Allocator, R: Read, W: Output, E: Messages>(
 }
 
 /// Whether nobody reads the output of the program for names any more; it then has told nothing.
-pub fn names_silent_where_closed<A: Allocator, R: Read, W: Output, E: Messages>(
+pub fn names_silent_where_closed<F: Files, A: Allocator + Copy, R: Read, W: Output, E: Messages>(
+    program: &Names<F>,
     alloc: A,
     arguments: Args,
     reader: &mut Marked<R>,
@@ -103,7 +105,7 @@ pub fn names_silent_where_closed<A: Allocator, R: Read, W: Output, E: Messages>(
     requires writer_unmarked { has_failed writer.old ≡ false }
     ensures { result ≡ true → errors.new ≡ errors.old }
 {
-    let _ = execute_list::<Names, A, R, W, E>(alloc, Ok(arguments), reader, writer, errors);
+    let _ = execute_list(program, alloc, Ok(arguments), reader, writer, errors);
     writer.closed()
 }
 
@@ -116,8 +118,16 @@ pub fn untold<F: ProgramFault, E: Write>(outcome: Result<(), F>, errors: &mut E)
 }
 
 /// The program for names where its arguments can't be had: whether it told why, and its status.
-pub fn names_without_arguments<P: Eprint, A: Allocator, R: Read, W: Output, E: Messages>(
+pub fn names_without_arguments<
+    P: Eprint,
+    F: Files,
+    A: Allocator + Copy,
+    R: Read,
+    W: Output,
+    E: Messages,
+>(
     rt: &P,
+    program: &Names<F>,
     alloc: A,
     reader: &mut Marked<R>,
     writer: &mut Marked<W>,
@@ -130,13 +140,13 @@ pub fn names_without_arguments<P: Eprint, A: Allocator, R: Read, W: Output, E: M
     ensures status { exit_status result.1 ≡ 2 }
 {
     let arguments = Err(io::Error::from(ErrorKind::InvalidInput));
-    let ended = execute_list::<Names, A, R, W, E>(alloc, arguments, reader, writer, errors);
+    let ended = execute_list(program, alloc, arguments, reader, writer, errors);
     let told = ended.told();
     (told, ended.report(rt))
 }
 
 /// The program for paths where its arguments can't be had: whether it told why, and its status.
-pub fn paths_without_arguments<P: Eprint, A: Allocator, R: Read, W: Output, E: Messages>(
+pub fn paths_without_arguments<P: Eprint, A: Allocator + Copy, R: Read, W: Output, E: Messages>(
     rt: &P,
     alloc: A,
     reader: &mut Marked<R>,
@@ -150,7 +160,7 @@ pub fn paths_without_arguments<P: Eprint, A: Allocator, R: Read, W: Output, E: M
     ensures status { exit_status result.1 ≡ 2 }
 {
     let arguments = Err(io::Error::from(ErrorKind::InvalidInput));
-    let ended = execute_list::<Paths, A, R, W, E>(alloc, arguments, reader, writer, errors);
+    let ended = execute_list(&Paths, alloc, arguments, reader, writer, errors);
     let told = ended.told();
     (told, ended.report(rt))
 }

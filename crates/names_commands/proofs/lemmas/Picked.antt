@@ -1,6 +1,7 @@
 -- A run over the names that are picked, where two conditions pick the same names.
-use Rattle.std.proofs.Common.{◌≡◌, ◌↔◌, ⊎_elim, inl, inr, ℕ, zero, suc, List, [], ◌∷◌, Option, Some, None, refl, sym, subst, arith}
-use Rattle.std.specs.Prelude.{Result, Ok, Err, ⊤}
+use Rattle.std.proofs.Common.{◌≡◌, ◌≢◌, ◌↔◌, ⊎_elim, inl, inr, ℕ, zero, suc, List, [], ◌∷◌, map, Option, Some, None, refl, sym, subst, arith}
+use denote.Ref.{Bor}
+use Rattle.std.specs.Prelude.{Result, Ok, Err, ⊤, MatchOption}
 use Rattle.std.specs.List.{AllByRecursion}
 use Rattle.os_str_bytes.specs.Platform.{Ghosts}
 use Rattle.program_frame.specs.Items.{Entry}
@@ -26,9 +27,10 @@ use Rattle.wildcards.specs.Sets.{IsHit}
 use Rattle.wildcards.specs.declared.pattern.Choice.{Choice}
 use Rattle.wildcards.specs.declared.set.Pattern.{Pattern}
 use Rattle.program_frame.specs.declared.lists.program_fault.Fault.TheVariants.{List as OfList}
-use Rattle.names_commands.specs.declared.pick.Pick.{Pick}
-use Rattle.names_commands.specs.Matching.{picking, matching, AreWrittenOut, IsFirstFault, IsMatched, IsMatchedBy, IsPattern, IsTextOfPicked}
-use Rattle.names_commands.specs.Program.{Fault, RunsPatterns}
+use Rattle.os_ignore.specs.declared.file.File.{File}
+use Rattle.program_frame.specs.Files.{KnownFiles}
+use Rattle.names_commands.specs.Matching.{picking, matching, AreWrittenOut, IsChosen, IsChosenBy, IsFirstFault, IsMatched, IsMatchedBy, IsPattern, IsPicked, IsTextOfPicked}
+use Rattle.names_commands.specs.Program.{Fault, RunsBut}
 
 module _ {E : Type 0} (p : Ghosts E) (form : Form) (max : ℕ) (Picked Other : List ℕ → Type 0) (same : (name : List ℕ) → Picked name ↔ Other name) where
   abbrev ours : ListRules Refusal
@@ -82,6 +84,35 @@ module _ {E : Type 0} (p : Ghosts E) (form : Form) (max : ℕ) (Picked Other : L
   pub same_runs : {X : Type 0} (fault : ListFault Refusal → X) (input left old new : Option (List ℕ)) (answer : Result ⊤ X) → Runs ours fault input left old new answer → Runs theirs fault input left old new answer
   same_runs fault input left old new answer r = (r.0, (one_run input left old new r.0 r.1.0, r.1.1))
 
+not_nil : {X : Type 0} {x : X} {xs : List X} → x ∷ xs ≡ [] → ⊥
+not_nil e = cc
+
+-- what there is where there are strings is there where there are their texts
+pub where_texts : {X Y : Type 0} (f : X → List ℕ) (Is : Y → Type 0) (xs : List X) (held : Option Y) → MatchOption held (xs ≡ []) (λ h. (xs ≢ []) × Is h) → MatchOption held (map f xs ≡ []) (λ h. (map f xs ≢ []) × Is h)
+where_texts f Is [] None h = refl
+where_texts f Is (x ∷ xs) None h = absurd (not_nil h)
+where_texts f Is [] (Some y) h = absurd (h.0 refl)
+where_texts f Is (x ∷ xs) (Some y) h = (λ e. not_nil e, h.1)
+
+-- some of the names are picked of those that two conditions choose alike
+picked_alike : {A : Type 0} (Chosen Other : List ℕ → Type 0) (files : List (File A)) → ((name : List ℕ) → Chosen name ↔ Other name) → (name : List ℕ) → IsPicked Chosen files name ↔ IsPicked Other files name
+picked_alike Chosen Other files same name = (λ k. ((same name).0 k.0, k.1), λ k. ((same name).1 k.0, k.1))
+
+pub same_but : {E : Type 0} (known : KnownFiles) (A : Type 0) (p : Ghosts E) (form : Form) (max : ℕ) (Chosen Other : List ℕ → Type 0) → ((name : List ℕ) → Chosen name ↔ Other name)
+    → (names : List (List ℕ)) (input left old new : Option (List ℕ)) (answer : Result ⊤ Fault) → RunsBut known A p form max Chosen names input left old new answer → RunsBut known A p form max Other names input left old new answer
+same_but known A p form max Chosen Other same names input left old new answer (inl fault) = inl fault
+same_but known A p form max Chosen Other same names input left old new answer (inr k) = inr (k.0, k.1, same_runs p form max (IsPicked Chosen k.0) (IsPicked Other k.0) (picked_alike Chosen Other k.0 same) OfList input left old new answer k.2)
+
+-- a run is over the names that are picked by what is equal
+pub matching_runs : {E A : Type 0} (p : Ghosts E) (form its_form : Form) (max its_max : ℕ) (globs its_globs : Option (Bor (GlobSet E A))) (files its_files : List (File A)) (input left old new : Option (List ℕ)) (answer : Result ⊤ Fault)
+    → its_form ≡ form → its_max ≡ max → its_globs ≡ globs → its_files ≡ files
+    → Runs (matching p its_form its_max its_globs its_files) OfList input left old new answer → Runs (matching p form max globs files) OfList input left old new answer
+matching_runs p form its_form max its_max globs its_globs files its_files input left old new answer f n g i run =
+    subst (λ z. Runs (matching p z max globs files) OfList input left old new answer) f
+    (subst (λ z. Runs (matching p its_form z globs files) OfList input left old new answer) n
+    (subst (λ z. Runs (matching p its_form its_max z files) OfList input left old new answer) g
+    (subst (λ z. Runs (matching p its_form its_max its_globs z) OfList input left old new answer) i run)))
+
 module _ {E A : Type 0} (p : Ghosts E) (o : GlobOptions) where
   abbrev AreCompiled : List (List ℕ) → List (Pattern A) → Type 0
   AreCompiled = AreMeanings p.well_formed (letters_of p.units) (syntax_of o) A
@@ -90,12 +121,12 @@ module _ {E A : Type 0} (p : Ghosts E) (o : GlobOptions) where
   one_written text choices m = record { symbols = m.symbols; read = m.read; marks = m.are.marks; marks_are = m.are.read; cased = m.are.cased; are_cased = m.are.are_cased; are = m.are.are.are }
 
   -- the patterns without alternatives that texts stand for
-  abbrev written_of : (texts : List (List ℕ)) (ps : List (Pattern A)) → AreCompiled texts ps → List (List (List Mark))
+  abbrev pub written_of : (texts : List (List ℕ)) (ps : List (Pattern A)) → AreCompiled texts ps → List (List (List Mark))
   written_of [] ps c = []
   written_of (t ∷ texts) [] c = absurd c
   written_of (t ∷ texts) (q ∷ ps) c = c.0.are.are.written_out ∷ written_of texts ps c.1
 
-  are_written : (texts : List (List ℕ)) (ps : List (Pattern A)) (c : AreCompiled texts ps) → AreWrittenOut p o texts (written_of texts ps c)
+  pub are_written : (texts : List (List ℕ)) (ps : List (Pattern A)) (c : AreCompiled texts ps) → AreWrittenOut p o texts (written_of texts ps c)
   are_written [] ps c = refl
   are_written (t ∷ texts) [] c = absurd c
   are_written (t ∷ texts) (q ∷ ps) c = (one_written t q.choices.items c.0, are_written texts ps c.1)
@@ -131,15 +162,16 @@ module _ {E A : Type 0} (p : Ghosts E) (o : GlobOptions) where
           (hit.0, subst (λ z. IsHit z set.set.patterns.items (letters_of p.units name) hit.0) (sym same) hit.1),
     )
 
-    -- so a run over the names that it matches is one over those that its texts do
-    pub matching_runs : (form its_form : Form) (pick : Pick) (max its_max : ℕ) (its_set : GlobSet E A) (input left old new : Option (List ℕ)) (answer : Result ⊤ Fault) → its_form ≡ form → its_max ≡ max → its_set ≡ set
-        → Runs (matching p its_form its_max its_set) OfList input left old new answer → RunsPatterns p o form pick max texts input left old new answer
-    matching_runs form its_form pick max its_max its_set input left old new answer f n g run =
-        let here = subst (λ z. Runs (matching p z max set) OfList input left old new answer) f
-        (subst (λ z. Runs (matching p its_form z set) OfList input left old new answer) n
-        (subst (λ z. Runs (matching p its_form its_max z) OfList input left old new answer) g run)) in
-        let written = written_of texts set.set.patterns.items c in
-        inr (written, are_written texts set.set.patterns.items c, same_runs p form max (IsMatchedBy p set) (IsMatched p o written) matched OfList input left old new answer here)
+    -- so a set that there is where there are texts chooses what the texts do
+    pub chosen : (globs : Option (Bor (GlobSet E A))) → MatchOption globs (texts ≡ []) (λ held. (texts ≢ []) × (held.now ≡ set)) → (name : List ℕ) → IsChosenBy p globs name ↔ IsChosen p o (written_of texts set.set.patterns.items c) name
+    chosen globs held name = by texts set.set.patterns.items c globs held matched
+      where
+        by : (ts : List (List ℕ)) (ps : List (Pattern A)) (d : AreCompiled ts ps) (globs : Option (Bor (GlobSet E A))) → MatchOption globs (ts ≡ []) (λ held. (ts ≢ []) × (held.now ≡ set)) → ((n : List ℕ) → IsMatchedBy p set n ↔ IsMatched p o (written_of ts ps d) n) → IsChosenBy p globs name ↔ IsChosen p o (written_of ts ps d) name
+        by [] ps d None h m = (λ _. tt, λ _. tt)
+        by [] ps d (Some held) h m = absurd (h.0 refl)
+        by (t ∷ ts) ps d None h m = absurd (not_nil h)
+        by (t ∷ ts) [] d (Some held) h m = absurd d
+        by (t ∷ ts) (q ∷ ps) d (Some held) h m = (λ k. (m name).0 (subst (λ z. IsMatchedBy p z name) h.1 k), λ k. subst (λ z. IsMatchedBy p z name) (sym h.1) ((m name).1 k))
 
 -- the first text without a meaning is the first at fault
 module _ {E : Type 0} (A : Type 0) (p : Ghosts E) (o : GlobOptions) (texts : List (List ℕ)) where

@@ -39,9 +39,9 @@ pub trait ListProgram {
     // the program's name
     ghost name: { List ℕ };
 
-    // what is done where the program has these words, its reader these bytes at first and at last, and its writer these contents, and what it answers
-    ghost runs_to: { List (List ℕ) → Option (List ℕ) → Option (List ℕ) → Option (List ℕ)
-        → Option (List ℕ) → Result ⊤ (Fault Self.Refusal Self.Words) → Type 0 };
+    // what is done where the program takes memory of this allocator and has these words, its reader these bytes at first and at last, and its writer these contents, and what it answers
+    ghost runs_to: { Self → (A : Type 0) → List (List ℕ) → Option (List ℕ) → Option (List ℕ)
+        → Option (List ℕ) → Option (List ℕ) → Result ⊤ (Fault Self.Refusal Self.Words) → Type 0 };
 
     /// The program's name.
     ///
@@ -69,10 +69,11 @@ pub trait ListProgram {
     ///
     /// let mut taken = Vec::new(alloc);
     /// let (mut reader, mut writer) = (Marked::new(b"a".as_slice()), Marked::new(&mut taken));
-    /// let ended = Paths::run_words(alloc, &[], &mut reader, &mut writer);
+    /// let ended = Paths.run_words(alloc, &[], &mut reader, &mut writer);
     /// assert!(rt; ended == Err(Fault::Words(Usage)));
     /// ```
-    fn run_words<A: Allocator, R: Read, W: Write>(
+    fn run_words<A: Allocator + Copy, R: Read, W: Write>(
+        &self,
         alloc: A,
         words: &[String],
         reader: &mut Marked<R>,
@@ -80,9 +81,9 @@ pub trait ListProgram {
     ) -> Result<(), Fault<Self::Refusal, Self::Words>>
         requires reader_unmarked { has_failed reader.old ≡ false }
         requires writer_unmarked { has_failed writer.old ≡ false }
-        ensures run { runs_to (map string_bytes words.now) (R.remaining (marked_inner reader.old))
-            (R.remaining (marked_inner reader.new)) (W.contents (marked_inner writer.old))
-            (W.contents (marked_inner writer.new)) result }
+        ensures run { runs_to self.now A (map string_bytes words.now)
+            (R.remaining (marked_inner reader.old)) (R.remaining (marked_inner reader.new))
+            (W.contents (marked_inner writer.old)) (W.contents (marked_inner writer.new)) result }
         ensures read { (result ≡ Err (Fault.List (ListFault.Run Failure.Read)))
             ↔ (has_failed reader.new ≡ true) }
         ensures write { (result ≡ Err (Fault.List (ListFault.Run Failure.Write)))
@@ -99,6 +100,7 @@ pub trait ListProgram {
 ///
 /// ```
 /// use names_commands::program::Names;
+/// use program_frame::files::Disk;
 /// use program_frame::lists::program::execute;
 /// use program_frame::marked::Marked;
 /// use std::process::{ExitCode, Termination};
@@ -108,11 +110,12 @@ pub trait ListProgram {
 ///     words.push(String::from_str(alloc, word)?)?;
 /// }
 /// let (mut input, mut output) = (Marked::new(b"a\0".as_slice()), Marked::new(rt.stdout()));
-/// let words = Ok(words.into_iter());
-/// let ended = execute::<Names, _, _, _, _>(alloc, words, &mut input, &mut output, &mut rt.stderr());
+/// let (names, words) = (Names::new(Disk::new(&rt)), Ok(words.into_iter()));
+/// let ended = execute(&names, alloc, words, &mut input, &mut output, &mut rt.stderr());
 /// assert!(rt; ended.report(&rt) == ExitCode::from(0));
 /// ```
-pub fn execute<P: ListProgram, A: Allocator, R: Read, W: Output, E: Messages>(
+pub fn execute<P: ListProgram, A: Allocator + Copy, R: Read, W: Output, E: Messages>(
+    program: &P,
     alloc: A,
     args: io::Result<Args>,
     reader: &mut Marked<R>,
@@ -129,7 +132,7 @@ pub fn execute<P: ListProgram, A: Allocator, R: Read, W: Output, E: Messages>(
 
     // The run.
     ensures run { IfOk args (λ args. (outcome_of result ≡ Err (Fault.List (ListFault.Run Failure.Memory)))
-        ⊎ P.runs_to (words_after_name args) (R.remaining (marked_inner reader.old))
+        ⊎ P.runs_to program.now A (words_after_name args) (R.remaining (marked_inner reader.old))
         (R.remaining (marked_inner reader.new)) (W.contents (marked_inner writer.old))
         (W.contents (marked_inner writer.new)) (outcome_of result)) }
     ensures read { (outcome_of result ≡ Err (Fault.List (ListFault.Run Failure.Read)))
@@ -147,9 +150,9 @@ pub fn execute<P: ListProgram, A: Allocator, R: Read, W: Output, E: Messages>(
         AppendsBeginning (E.contents errors.old) (E.contents errors.new)
         (message P.name (text_of P.Refusal.item P.Refusal.text_of P.Words.text_of fault))) }
 {
-    match words(&alloc, args) {
+    match words(alloc, args) {
         Ok(words) => {
-            let outcome = P::run_words(&alloc, &words, reader, writer);
+            let outcome = program.run_words(alloc, &words, reader, writer);
             Ended::telling_unless(P::name(), writer.closed(), outcome, errors)
         }
         Err(NoWords::Memory) => Ended::telling(

@@ -15,6 +15,9 @@ pub trait WordsRefusal: Copy {
     // what the program prints of the reason
     ghost text_of: { Self → List ℕ };
 
+    // the status that the program ends with
+    ghost status_of: { Self → ℕ };
+
     /// That the words ask for no command.
     ///
     /// ```
@@ -25,6 +28,17 @@ pub trait WordsRefusal: Copy {
     /// ```
     fn usage() -> Self
         ensures { result ≡ usage };
+
+    /// The status that the program ends with.
+    ///
+    /// ```
+    /// use names_commands::fault::CommandFault;
+    /// use program_frame::lists::program_fault::WordsRefusal;
+    ///
+    /// assert!(rt; CommandFault::Usage.status() == 2 && CommandFault::NoFile(1).status() == 4);
+    /// ```
+    fn status(&self) -> u8
+        ensures { result ≡ status_of self.now };
 
     /// Writes the reason.
     ///
@@ -71,12 +85,12 @@ impl<F: ItemRefusal, U: WordsRefusal> ProgramFault for Fault<F, U> {
 
     ghost text_of = { text_of F.item F.text_of U.text_of };
 
-    ghost status_of = { status_of };
+    ghost status_of = { status_of U.status_of };
 
     ghost printed = { λ _. refl };
 
-    /// The status that the program ends with: 1 for an input that it refuses, 2 for its words, 3
-    /// for want of memory, and 4 for a failed read or write.
+    /// The status that the program ends with: 1 for an input that it refuses, 3 for want of memory, 4
+    /// for a failed read or write, and for its words what their refusal says.
     ///
     /// ```
     /// use paths_commands::fault::{Fault, Usage};
@@ -91,7 +105,7 @@ impl<F: ItemRefusal, U: WordsRefusal> ProgramFault for Fault<F, U> {
     fn status(&self) -> u8 {
         match self {
             Fault::List(fault) => fault.status(),
-            Fault::Words(_) => 2,
+            Fault::Words(why) => why.status(),
         }
     }
 }

@@ -1,42 +1,43 @@
 use Rattle.std.proofs.Common.{inl, inr, ◌++◌, ◌∷◌, [], refl, sym, ◌∙◌, subst, append-nil}
 use Rattle.std.proofs.lemmas.Result.{on_ok_weaker}
+use Rattle.os_ignore.specs.Ignores.{files_of}
 use Rattle.os_quote.specs.Escape.{IsLineEscape}
-use Rattle.names_commands.specs.Matching.{IsInForm, IsMatchedBy}
+use Rattle.names_commands.specs.Matching.{IsInForm, IsPickedBy}
 use Rattle.names_commands.proofs.item.write_matching.Goals as goal
 
-pub returns-then-not-is_match-clause-ok : goal.returns-then-not-is_match-clause-ok
-returns-then-not-is_match-clause-ok g c =
-    let set = c.args.globs.now in
-    let other : ¬ (IsMatchedBy g.E.Platform set c.args.item.now) = λ matches.
-    let matched = c.is_match.ensures.value.1 (subst (IsMatchedBy g.E.Platform set) (sym c.in-Ok.ensures.bytes) matches) in
-    let never = sym matched ∙ c.if-not-is_match.true in cc in
+pub returns-then-not-picks-clause-ok : goal.returns-then-not-picks-clause-ok
+returns-then-not-picks-clause-ok g c =
+    let Picked = IsPickedBy g.E.Platform c.args.picker.now.globs (files_of c.args.picker.now.ignore.now) in
+    let other : ¬ (Picked c.args.item.now) = λ picked.
+    let picks = c.picks.ensures.1 (subst Picked (sym c.in-Ok.ensures.bytes) picked) in
+    let never = sym picks ∙ c.if-not-picks.true in cc in
     ([], ((c.in-Ok.ensures.formed, inr (other, refl)), sym (append-nil c.args.output.now.items)))
 
 pub returns-in-Line-clause-ok : goal.returns-in-Line-clause-ok
 returns-in-Line-clause-ok g c =
     let P = g.E.Platform in
     let name = c.args.item.now in
-    let matched = subst (IsMatchedBy P c.args.globs.now) c.in-Ok.ensures.bytes (c.is_match.ensures.value.0 c.if-not-is_match.false) in
+    let picked = subst (IsPickedBy P c.args.picker.now.globs (files_of c.args.picker.now.ignore.now)) c.in-Ok.ensures.bytes (c.picks.ensures.0 c.if-not-picks.false) in
     on_ok_weaker c.write_line.result
     (λ w.
     let line = subst (λ n. IsLineEscape P.units n w.0) c.in-Ok.ensures.bytes w.1.0 in
-    (w.0 ++ 0x0A ∷ [], ((c.in-Ok.ensures.formed, inl (matched, subst (λ f. IsInForm P f name (w.0 ++ 0x0A ∷ [])) (sym c.in-Line.is) (w.0, line, refl))), w.1.1)))
+    (w.0 ++ 0x0A ∷ [], ((c.in-Ok.ensures.formed, inl (picked, subst (λ f. IsInForm P f name (w.0 ++ 0x0A ∷ [])) (sym c.in-Line.is) (w.0, line, refl))), w.1.1)))
     c.write_line.ensures.line
 
 pub returns-in-Name-clause-ok : goal.returns-in-Name-clause-ok
 returns-in-Name-clause-ok g c =
     let P = g.E.Platform in
     let name = c.args.item.now in
-    let matched = subst (IsMatchedBy P c.args.globs.now) c.in-Ok.ensures.bytes (c.is_match.ensures.value.0 c.if-not-is_match.false) in
+    let picked = subst (IsPickedBy P c.args.picker.now.globs (files_of c.args.picker.now.ignore.now)) c.in-Ok.ensures.bytes (c.picks.ensures.0 c.if-not-picks.false) in
     on_ok_weaker c.push_name.result
-    (λ e. (name ++ 0 ∷ [], ((c.in-Ok.ensures.formed, inl (matched, subst (λ f. IsInForm P f name (name ++ 0 ∷ [])) (sym c.in-Name.is) refl)), e)))
+    (λ e. (name ++ 0 ∷ [], ((c.in-Ok.ensures.formed, inl (picked, subst (λ f. IsInForm P f name (name ++ 0 ∷ [])) (sym c.in-Name.is) refl)), e)))
     c.push_name.ensures.ok
 
 pub returns-in-Word-clause-ok : goal.returns-in-Word-clause-ok
 returns-in-Word-clause-ok g c =
     let P = g.E.Platform in
     let name = c.args.item.now in
-    let matched = subst (IsMatchedBy P c.args.globs.now) c.in-Ok.ensures.bytes (c.is_match.ensures.value.0 c.if-not-is_match.false) in
+    let picked = subst (IsPickedBy P c.args.picker.now.globs (files_of c.args.picker.now.ignore.now)) c.in-Ok.ensures.bytes (c.picks.ensures.0 c.if-not-picks.false) in
     on_ok_weaker c.write_word.result
-    (λ w. (w.0, ((c.in-Ok.ensures.formed, inl (matched, subst (λ f. IsInForm P f name w.0) (sym c.in-Word.is) w.1.0)), w.1.1)))
+    (λ w. (w.0, ((c.in-Ok.ensures.formed, inl (picked, subst (λ f. IsInForm P f name w.0) (sym c.in-Word.is) w.1.0)), w.1.1)))
     c.write_word.ensures.line
