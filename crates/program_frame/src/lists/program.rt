@@ -46,10 +46,10 @@ pub trait ListProgram {
     /// The program's name.
     ///
     /// ```
-    /// use names_commands::program::Names;
+    /// use paths_commands::program::Paths;
     /// use program_frame::lists::program::ListProgram;
     ///
-    /// assert_eq!(rt; Names::name(), "names");
+    /// assert_eq!(rt; Paths::name(), "paths");
     /// ```
     fn name() -> &'static str
         ensures { result.now ≡ name };
