@@ -6,6 +6,7 @@ use crate::table::Bench;
 use globset::{GlobBuilder, GlobSet, GlobSetBuilder};
 use std::collections::HashSet;
 use std::hint::black_box;
+use std::sync::{LazyLock, OnceLock};
 
 const COUNTS: [usize; 4] = [1, 10, 100, 1000];
 
@@ -17,19 +18,25 @@ type Patterns = fn(usize) -> Vec<String>;
 const KINDS: [(&str, Patterns, usize); 3] =
     [("`**/*.ext`", extensions, 100), ("literal paths", literals, 100), ("a mix", mix, 1)];
 
+/// The sets of globset that are asked, of each kind and count. Each is made once, since it takes globset some
+/// ten seconds to make one of 1,000 of a mix.
+static ASKED: [[OnceLock<GlobSet>; COUNTS.len()]; KINDS.len()] =
+    [const { [const { OnceLock::new() }; COUNTS.len()] }; KINDS.len()];
+
 pub fn time(bench: &mut Bench) {
     bench.table("Patterns in sets beside globset", "a path");
-    for (kind, patterns, most) in KINDS {
-        for count in COUNTS {
+    for ((kind, patterns, most), asked) in KINDS.into_iter().zip(&ASKED) {
+        for (count, asked) in COUNTS.into_iter().zip(asked) {
             let input = format!("{kind}, {count}");
             if bench.wants("matches", &input) || bench.wants("is_match", &input) {
-                set(bench, &input, &patterns(count), (most * count / 1000).max(1));
+                let patterns = patterns(count);
+                let theirs = asked.get_or_init(|| compiled(&patterns));
+                set(bench, &input, &patterns, theirs, (most * count / 1000).max(1));
             }
         }
     }
     bench.table("Patterns into sets beside globset", "a pattern");
     for (kind, patterns, _) in KINDS {
-        // globset takes some ten seconds to make one of 1,000 of a mix
         let counts = if kind == "a mix" { [1, 10, 100, 300] } else { COUNTS };
         for count in counts {
             let input = format!("{kind}, {count}");
@@ -104,8 +111,7 @@ fn one(bench: &mut Bench, input: &str, pattern: &str, path: &str) {
     );
 }
 
-fn set(bench: &mut Bench, input: &str, patterns: &[String], times: usize) {
-    let theirs = compiled(patterns);
+fn set(bench: &mut Bench, input: &str, patterns: &[String], theirs: &GlobSet, times: usize) {
     let (all, lens) = (patterns.concat(), patterns.iter().map(String::len).collect::<Vec<_>>());
     let Paths { all: paths, lens: path_lens, ended, .. } = &*PATHS;
     let ours = black_box(ours::set_matches as fn(&str, &[usize], &str, &[usize], usize) -> usize);
@@ -169,26 +175,38 @@ fn is_plain(text: &str) -> bool {
     text.bytes().all(|byte| byte.is_ascii_alphanumeric() || b"/._-+".contains(&byte))
 }
 
-/// Parts of this machine's paths, each once, evenly chosen.
-fn distinct<'a>(parts: impl Iterator<Item = &'a str>, count: usize) -> Vec<&'a str> {
+/// The extensions of this machine's paths, each once, and the same of whole paths and of folders.
+static EXTENSIONS: LazyLock<Vec<&str>> = LazyLock::new(|| {
+    let names = MACHINE.iter().filter_map(|path| Some(path.rsplit_once('/')?.1));
+    distinct(names.filter_map(|name| Some(name.rsplit_once('.')?.1)))
+});
+static LITERALS: LazyLock<Vec<&str>> = LazyLock::new(|| distinct(MACHINE.iter().map(String::as_str)));
+static FOLDERS: LazyLock<Vec<&str>> =
+    LazyLock::new(|| distinct(MACHINE.iter().filter_map(|path| path.split('/').nth(3))));
+
+/// Parts of paths in which nothing means anything in a pattern, each once.
+fn distinct(parts: impl Iterator<Item = &'static str>) -> Vec<&'static str> {
     let mut seen = HashSet::new();
-    let all: Vec<_> = parts.filter(|part| !part.is_empty() && is_plain(part) && seen.insert(*part)).collect();
-    (0..count).map(|index| all[index * all.len() / count]).collect()
+    parts.filter(|part| !part.is_empty() && is_plain(part) && seen.insert(*part)).collect()
+}
+
+/// So many of the parts, evenly chosen.
+fn chosen(parts: &[&'static str], count: usize) -> Vec<&'static str> {
+    (0..count).map(|index| parts[index * parts.len() / count]).collect()
 }
 
 fn extensions(count: usize) -> Vec<String> {
-    let extensions = MACHINE.iter().filter_map(|path| path.rsplit_once('/')?.1.rsplit_once('.').map(|(_, it)| it));
-    distinct(extensions, count).iter().map(|extension| format!("**/*.{extension}")).collect()
+    chosen(&EXTENSIONS, count).iter().map(|extension| format!("**/*.{extension}")).collect()
 }
 
 fn literals(count: usize) -> Vec<String> {
-    distinct(MACHINE.iter().map(String::as_str), count).iter().map(|path| (*path).to_owned()).collect()
+    chosen(&LITERALS, count).iter().map(|path| (*path).to_owned()).collect()
 }
 
 /// As in files of patterns to be ignored: an extension, a folder anywhere, a folder within another, and
 /// an ending of names.
 fn mix(count: usize) -> Vec<String> {
-    let folders = distinct(MACHINE.iter().filter_map(|path| path.split('/').nth(3)), 2 * count);
+    let folders = chosen(&FOLDERS, 2 * count);
     let extensions = extensions(count);
     (0..count)
         .map(|index| {
