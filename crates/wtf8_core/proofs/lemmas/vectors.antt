@@ -1,6 +1,5 @@
 pub mod ComputedTests
 pub mod Lanes
-pub mod LedForms
 pub mod PairBits
 pub mod ScannedIsEncoded
 pub mod Windows

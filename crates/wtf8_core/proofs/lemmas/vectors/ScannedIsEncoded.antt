@@ -1,66 +1,55 @@
 -- Bytes that keep to the pattern are forms of code points.
-use Rattle.wtf8_core.proofs.Common.{◌≡◌, inl, inr, ⊎_elim, ℕ, zero, suc, ◌<◌, ◌≤◌, List, [], ◌∷◌, ◌++◌, length, get_or, refl, sym, ap, ◌∙◌, subst, arith, cases_lt, AllByRecursion, flat_map, IsScalar, low_scalar, IsContinuation, IsHigh, IsLow, encode, Encodes, MayPrecede, last_or, sequence_value, EachMayFollow, Steps, IsBetweenCodePoints}
-use Rattle.wtf8_core.proofs.lemmas.forms.Shapes.{form_ascii, form_two, form_three, form_past}
-use Rattle.wtf8_core.proofs.lemmas.vectors.LedForms.{IsFormOf, two_small, two_form, two_scalar, three_form, three_high, three_low, only_three_high, three_scalar, four_past, four_form, four_scalar}
+use Rattle.wtf8_core.proofs.Common.{◌≡◌, inl, inr, ⊎_elim, ℕ, zero, suc, ◌+◌, ◌/◌, ◌%◌, ◌<◌, ◌≤◌, List, [], ◌∷◌, ◌++◌, length, get_or, refl, sym, ap, ◌∙◌, subst, arith, nat_tests, cases_lt, AllByRecursion, flat_map, IsScalar, IsContinuation, IsHigh, IsSurrogate, IsCodePoint, encode, Encodes, MayPrecede, last_or, needed_continuations, least_value, IsWholeSequence, sequence_value, MayFollow, MayFollowAll, EachMayFollow, Steps, IsBetweenCodePoints}
+use Rattle.wtf8_core.proofs.lemmas.characters.AtIndices.{is_scalar}
+use Rattle.wtf8_core.proofs.lemmas.forms.Ranges.{low_surrogate, not_in_range}
+use Rattle.wtf8_core.proofs.lemmas.forms.Shapes.{form_ascii, form_bounds, form_surrogate, shape_is_form}
 use Rattle.wtf8_core.specs.declared.vectors.Encoding.{Encoding}
 use Rattle.wtf8_core.specs.declared.vectors.Encoding.TheVariants.{Utf8}
 
--- the edge after one more form, of one to four bytes
-module _ (p x y z : ℕ) (edge : IsBetweenCodePoints p x y z) where
-  edge_one : (a : ℕ) → a < 0x80 → IsBetweenCodePoints a y z a
-  edge_one a u = record {
-    closed = record { fourth = omega (arith, edge.closed.third); third = omega (arith, edge.closed.second); second = omega (arith, u) };
-    high = λ g. absurd (omega (arith, g.0, u));
-    only_high = λ g. absurd (omega (arith, g, edge.closed.third));
-  }
+-- the bytes are the form of the code point c
+record IsFormOf (c : ℕ) (bytes : List ℕ) : Type 0 where
+  code_point : IsCodePoint c
+  is : encode c ≡ bytes
 
-  edge_two : (c a b : ℕ) → c < 0x800 → a < 0xE0 → IsContinuation b → IsBetweenCodePoints c z a b
-  edge_two c a b small u k = record {
-    closed = record { fourth = omega (arith, edge.closed.second); third = u; second = omega (arith, k.1) };
-    high = λ g. absurd (omega (arith, g.0, small));
-    only_high = λ g. absurd (omega (arith, g, edge.closed.second));
-  }
+-- a lead and its continuations are one, if the first of them may follow it
+led_value : (a : ℕ) (ks : List ℕ) → IsWholeSequence a ks → MayFollow a (get_or ks 0 0) → (least_value (needed_continuations a) ≤ sequence_value a ks) × IsCodePoint (sequence_value a ks)
+led_value a [] s f = (grind (arith, nat_tests, s.whole), grind (arith, nat_tests, s.whole))
+led_value a (x ∷ y ∷ z ∷ w ∷ ks) s f = (grind (arith, nat_tests, s.whole), grind (arith, nat_tests, s.whole))
+led_value a ks s f =
+    let lead = f.lead (omega (arith, s.begun.lead_is.0)) in (
+      grind (arith, nat_tests, s.whole, lead, s.begun.continued, f.three_long, f.four_long),
+      grind (arith, nat_tests, s.whole, lead, s.begun.continued, f.within),
+    )
 
-edge_three : (c a b d : ℕ) → a < 0xF0 → IsContinuation b → IsContinuation d → (IsHigh c → (a ≡ 0xED) × (0xA0 ≤ b) × (b < 0xB0)) → (a ≡ 0xED → 0xA0 ≤ b → b < 0xB0 → IsHigh c) → IsBetweenCodePoints c a b d
-edge_three c a b d u j k high only = record { closed = record { fourth = u; third = omega (arith, j.1); second = omega (arith, k.1) }; high = high; only_high = only }
-
-edge_four : (c b d g : ℕ) → 0x1_0000 ≤ c → IsContinuation b → IsContinuation d → IsContinuation g → IsBetweenCodePoints c b d g
-edge_four c b d g past i j k = record {
-  closed = record { fourth = omega (arith, i.1); third = omega (arith, j.1); second = omega (arith, k.1) };
-  high = λ v. absurd (omega (arith, v.1, past));
-  only_high = λ v. absurd (omega (arith, v, i.1));
-}
-
--- each form has one of these shapes
-data IsShaped (c : ℕ) : List ℕ → Type 0 where
-  one : c < 0x80 → IsShaped c (c ∷ [])
-  two : (a b : ℕ) → c < 0x800 → a < 0xE0 → IsContinuation b → IsShaped c (a ∷ b ∷ [])
-  three : (a b d : ℕ) → a < 0xF0 → IsContinuation b → IsContinuation d → (IsHigh c → (a ≡ 0xED) × (0xA0 ≤ b) × (b < 0xB0)) → (a ≡ 0xED → 0xA0 ≤ b → b < 0xB0 → IsHigh c) → IsShaped c (a ∷ b ∷ d ∷ [])
-  four : (a b d g : ℕ) → 0x1_0000 ≤ c → IsContinuation b → IsContinuation d → IsContinuation g → IsShaped c (a ∷ b ∷ d ∷ g ∷ [])
-
-shaped : (c : ℕ) → IsShaped c (encode c)
-shaped c =
-    ⊎_elim (λ u. subst (IsShaped c) (sym (form_ascii c u)) (one u)) (λ h. ⊎_elim
-    (λ u. subst (IsShaped c) (sym (form_two c h u)) (two _ _ u (omega arith) (omega arith, omega arith))) (λ h. ⊎_elim
-    (λ u. subst (IsShaped c) (sym (form_three c h u)) (three _ _ _ (omega arith) (omega arith, omega arith) (omega arith, omega arith) (λ g. (omega (arith, g.0, g.1), omega (arith, g.0, g.1), omega (arith, g.0, g.1))) (λ e m n. (omega (arith, e, m), omega (arith, e, n)))))
-    (λ h. subst (IsShaped c) (sym (form_past c h)) (four _ _ _ _ h (omega arith, omega arith) (omega arith, omega arith) (omega arith, omega arith)))
-    (cases_lt c 0x1_0000)) (cases_lt c 0x800)) (cases_lt c 0x80)
+led_form : (a : ℕ) (ks : List ℕ) → IsWholeSequence a ks → MayFollow a (get_or ks 0 0) → IsFormOf (sequence_value a ks) (a ∷ ks)
+led_form a ks s f = let v = led_value a ks s f in record { code_point = v.1; is = shape_is_form a ks s v.0 }
 
 -- the edge after n of the bytes that follow the first four
 abbrev pub IsBetweenCodePointsAt : ℕ → ℕ → List ℕ → Type 0
 IsBetweenCodePointsAt p n l = IsBetweenCodePoints p (get_or l (suc n) 0) (get_or l (suc (suc n)) 0) (get_or l (suc (suc (suc n))) 0)
 
--- the edge after forms
+-- the edge after one more form
+edge_after : (p w x y z c : ℕ) (r : List ℕ) → IsBetweenCodePoints p x y z → IsBetweenCodePointsAt c (length (encode c)) (w ∷ x ∷ y ∷ z ∷ (encode c ++ r))
+unfolding encode
+edge_after p w x y z c r edge = record {
+  closed = record { fourth = grind (arith, nat_tests, edge.closed.third, edge.closed.second); third = grind (arith, nat_tests, edge.closed.second); second = grind (arith, nat_tests) };
+  high = λ h. (grind (arith, nat_tests, h), grind (arith, nat_tests, h), grind (arith, nat_tests, h));
+  only_high = λ e l m. (grind (arith, nat_tests, edge.closed.third, edge.closed.second), grind (arith, nat_tests, edge.closed.third, edge.closed.second));
+}
+
+-- and after forms
 pub edge_of_forms : (p w x y z : ℕ) (cs r : List ℕ) → IsBetweenCodePoints p x y z → IsBetweenCodePointsAt (last_or p cs) (length (flat_map encode cs)) (w ∷ x ∷ y ∷ z ∷ (flat_map encode cs ++ r))
 edge_of_forms p w x y z [] r edge = edge
-edge_of_forms p w x y z (c ∷ cs) r edge = by (encode c) (shaped c) (λ w x y z e. edge_of_forms c w x y z cs r e)
+edge_of_forms p w x y z (c ∷ cs) r edge = by (encode c) (form_bounds c) (edge_after p w x y z c (flat_map encode cs ++ r) edge) (λ w x y z e. edge_of_forms c w x y z cs r e)
   where
-    by : (f : List ℕ) → IsShaped c f → ((w x y z : ℕ) → IsBetweenCodePoints c x y z → IsBetweenCodePointsAt (last_or c cs) (length (flat_map encode cs)) (w ∷ x ∷ y ∷ z ∷ (flat_map encode cs ++ r)))
+    by : (f : List ℕ) → (1 ≤ length f) × (length f ≤ 4) → IsBetweenCodePointsAt c (length f) (w ∷ x ∷ y ∷ z ∷ (f ++ (flat_map encode cs ++ r)))
+        → ((w x y z : ℕ) → IsBetweenCodePoints c x y z → IsBetweenCodePointsAt (last_or c cs) (length (flat_map encode cs)) (w ∷ x ∷ y ∷ z ∷ (flat_map encode cs ++ r)))
         → IsBetweenCodePointsAt (last_or c cs) (length (f ++ flat_map encode cs)) (w ∷ x ∷ y ∷ z ∷ ((f ++ flat_map encode cs) ++ r))
-    by f (one u) more = more x y z c (edge_one p x y z edge c u)
-    by f (two a b small u k) more = more y z a b (edge_two p x y z edge c a b small u k)
-    by f (three a b d u j k high only) more = more z a b d (edge_three c a b d u j k high only)
-    by f (four a b d g past i j k) more = more a b d g (edge_four c b d g past i j k)
+    by (a ∷ []) l e more = more x y z a e
+    by (a ∷ b ∷ []) l e more = more y z a b e
+    by (a ∷ b ∷ d ∷ []) l e more = more z a b d e
+    by (a ∷ b ∷ d ∷ g ∷ []) l e more = more a b d g e
+    by f l e more = absurd (omega (arith, l.0, l.1))
 
 -- bytes encode code points that p may precede
 pub record IsWhole (encoding : Encoding) (p : ℕ) (bytes : List ℕ) : Type 0 where
@@ -69,17 +58,14 @@ pub record IsWhole (encoding : Encoding) (p : ℕ) (bytes : List ℕ) : Type 0 w
   pub free : MayPrecede p code_points
   pub plain : encoding ≡ Utf8 → AllByRecursion IsScalar code_points
 
-one_more : (encoding : Encoding) (p c : ℕ) (prefix bytes : List ℕ) → IsFormOf c prefix → (IsHigh p → IsLow c → ⊥) → (encoding ≡ Utf8 → IsScalar c) → IsWhole encoding c bytes → IsWhole encoding p (prefix ++ bytes)
-one_more encoding p c prefix bytes i free scalar r = record {
-  code_points = c ∷ r.code_points;
-  encoded = record {
-    code_points = (i.code_point, r.encoded.code_points);
-    no_pair = (r.free, r.encoded.no_pair);
-    joined = ap (λ x. x ++ bytes) (sym i.is) ∙ ap (λ x. encode c ++ x) r.encoded.joined;
-  };
-  free = free;
-  plain = λ e. (scalar e, r.plain e);
-}
+-- the bytes of a surrogate
+of_surrogate : (c : ℕ) (f : List ℕ) → IsFormOf c f → IsSurrogate c → (get_or f 0 0 ≡ 0xED) × (get_or f 1 0 ≡ 0x80 + (c / 0x40) % 0x40)
+of_surrogate c f i h =
+    let form = sym i.is ∙ form_surrogate c h in
+    (ap (λ l. get_or l 0 0) form ∙ omega (arith, h.0, h.1), ap (λ l. get_or l 1 0) form)
+
+scalar_form : (c : ℕ) (f : List ℕ) → IsFormOf c f → (get_or f 0 0 ≡ 0xED → get_or f 1 0 < 0xA0) → IsScalar c
+scalar_form c f i plain = is_scalar c i.code_point (not_in_range 0xD800 0xDFFF c (λ h. let o = of_surrogate c f i h in omega (arith, plain o.0, o.1, h.0, h.1)))
 
 -- the pattern by recursion, for some of the bytes and the one after them
 pub steps : (s : Encoding) (w x y z : ℕ) (bs rest : List ℕ) → EachMayFollow s (suc (length bs)) (w ∷ x ∷ y ∷ z ∷ (bs ++ rest)) → Steps s w x y z (bs ++ get_or rest 0 0 ∷ [])
@@ -92,55 +78,61 @@ module _ (s : Encoding) (next : ℕ) (ends : IsContinuation next → ⊥) where
   abbrev Shown : ℕ → Type 0
   Shown n = (p w x y z : ℕ) (bs : List ℕ) → length bs ≤ n → IsBetweenCodePoints p x y z → Steps s w x y z (bs ++ next ∷ []) → IsWhole s p bs
 
-  module _ (n p x y z a : ℕ) (shown : Shown n) (edge : IsBetweenCodePoints p x y z) where
-    one_byte : (bs : List ℕ) → length bs ≤ n → a < 0x80 → Steps s x y z a (bs ++ next ∷ []) → IsWhole s p (a ∷ bs)
-    one_byte bs m u h =
-        one_more s p a (a ∷ []) bs (record { code_point = omega (arith, u); is = form_ascii a u }) (λ _ f. omega (arith, f.0, u)) (λ _. low_scalar a (omega (arith, u))) (shown a x y z a bs m (edge_one p x y z edge a u) h)
+  module _ (n p w x y z : ℕ) (shown : Shown n) (edge : IsBetweenCodePoints p x y z) where
+    -- a form, and then the bytes after it
+    form_read : (c : ℕ) (f bs : List ℕ) → IsFormOf c f → (s ≡ Utf8 → get_or f 0 0 ≡ 0xED → get_or f 1 0 < 0xA0) → (IsHigh p → get_or f 0 0 ≡ 0xED → get_or f 1 0 < 0xB0)
+        → (IsBetweenCodePointsAt c (length f) (w ∷ x ∷ y ∷ z ∷ (f ++ [])) → IsWhole s c bs) → IsWhole s p (f ++ bs)
+    form_read c f bs i plain unpaired more =
+        let r = more (subst (λ f. IsBetweenCodePointsAt c (length f) (w ∷ x ∷ y ∷ z ∷ (f ++ []))) i.is (edge_after p w x y z c [] edge)) in
+        record {
+          code_points = c ∷ r.code_points;
+          encoded = record {
+            code_points = (i.code_point, r.encoded.code_points);
+            no_pair = (r.free, r.encoded.no_pair);
+            joined = ap (λ x. x ++ bs) (sym i.is) ∙ ap (λ x. encode c ++ x) r.encoded.joined;
+          };
+          free = λ g l. let o = of_surrogate c f i (low_surrogate c l) in omega (arith, unpaired g o.0, o.1, l.0, l.1);
+          plain = λ e. (scalar_form c f i (plain e), r.plain e);
+        }
 
-    two_bytes : (bs : List ℕ) → length bs ≤ n → 0xC0 ≤ a → a < 0xE0 → Steps s x y z a (bs ++ next ∷ []) → IsWhole s p (a ∷ bs)
-    two_bytes [] m l u h = absurd (ends (h.0.continues (inr (inr l))))
-    two_bytes (b ∷ bs) m l u h =
-        let k = h.0.continues (inr (inr l)) in
-        let lead = h.0.follows.lead l in
-        let small = two_small a b lead.0 u k in
-        let c = sequence_value a (b ∷ []) in
-        one_more s p c (a ∷ b ∷ []) bs (two_form a b lead.0 u k) (λ g f. omega (arith, f.0, small)) (λ _. two_scalar a b lead.0 u k) (shown c y z a b bs (omega arith) (edge_two p x y z edge c a b small u k) h.1)
+    one_byte : (a : ℕ) (bs : List ℕ) → length bs ≤ n → a < 0x80 → Steps s x y z a (bs ++ next ∷ []) → IsWhole s p (a ∷ bs)
+    one_byte a bs m u h =
+        form_read a (a ∷ []) bs (record { code_point = omega (arith, u); is = form_ascii a u }) (λ _ e. omega (arith, e, u)) (λ _ e. omega (arith, e, u)) (λ e. shown a x y z a bs m e h)
 
-    three_bytes : (bs : List ℕ) → length bs ≤ n → 0xE0 ≤ a → a < 0xF0 → Steps s x y z a (bs ++ next ∷ []) → IsWhole s p (a ∷ bs)
-    three_bytes [] m l u h = absurd (ends (h.0.continues (inr (inr (omega (arith, l))))))
-    three_bytes (b ∷ []) m l u h = absurd (ends (h.1.0.continues (inr (inl l))))
-    three_bytes (b ∷ d ∷ bs) m l u h =
-        let q = h.0 in
-        let j = q.continues (inr (inr (omega (arith, l)))) in
-        let k = h.1.0.continues (inr (inl l)) in
-        let c = sequence_value a (b ∷ d ∷ []) in
-        one_more s p c (a ∷ b ∷ d ∷ []) bs (three_form a b d l u j k q.follows.three_long)
-        (λ g f. let e = edge.high g in let o = three_low a b d l u j k f in omega (arith, q.unpaired e.0 e.1 e.2 o.0, o.1)) (λ e. three_scalar a b d l u j k (q.plain e))
-        (shown c z a b d bs (omega arith) (edge_three c a b d u j k (three_high a b d l u j k) (only_three_high a b d l u j k)) h.1.1)
+    led_read : (a : ℕ) (ks bs : List ℕ) → 0xC0 ≤ a → AllByRecursion IsContinuation ks → length ks ≡ needed_continuations a → MayFollowAll s x y z a (get_or ks 0 0)
+        → (IsBetweenCodePointsAt (sequence_value a ks) (length (a ∷ ks)) (w ∷ x ∷ y ∷ z ∷ ((a ∷ ks) ++ [])) → IsWhole s (sequence_value a ks) bs) → IsWhole s p ((a ∷ ks) ++ bs)
+    led_read a ks bs l continued size q more =
+        let lead = q.follows.lead l in
+        form_read (sequence_value a ks) (a ∷ ks) bs (led_form a ks (record { begun = record { lead_is = (lead.0, omega (arith, lead.1)); continued = continued }; whole = size }) q.follows)
+        (λ e i. q.plain e i) (λ g i. let high = edge.high g in q.unpaired high.0 high.1 high.2 i) more
 
-    four_bytes : (bs : List ℕ) → length bs ≤ n → 0xF0 ≤ a → Steps s x y z a (bs ++ next ∷ []) → IsWhole s p (a ∷ bs)
-    four_bytes [] m l h = absurd (ends (h.0.continues (inr (inr (omega (arith, l))))))
-    four_bytes (b ∷ []) m l h = absurd (ends (h.1.0.continues (inr (inl (omega (arith, l))))))
-    four_bytes (b ∷ d ∷ []) m l h = absurd (ends (h.1.1.0.continues (inl l)))
-    four_bytes (b ∷ d ∷ g ∷ bs) m l h =
-        let q = h.0 in
-        let lead = q.follows.lead (omega (arith, l)) in
-        let i = q.continues (inr (inr (omega (arith, l)))) in
-        let j = h.1.0.continues (inr (inl (omega (arith, l)))) in
-        let k = h.1.1.0.continues (inl l) in
-        let c = sequence_value a (b ∷ d ∷ g ∷ []) in
-        let past : 0x1_0000 ≤ c = four_past a b d g l lead.1 q.follows.four_long q.follows.within i j k in
-        one_more s p c (a ∷ b ∷ d ∷ g ∷ []) bs (four_form a b d g l lead.1 q.follows.four_long q.follows.within i j k) (λ _ f. omega (arith, f.1, past)) (λ _. four_scalar a b d g l lead.1 q.follows.four_long q.follows.within i j k)
-        (shown c a b d g bs (omega arith) (edge_four c b d g past i j k) h.1.1.1)
+    two_bytes : (a : ℕ) (bs : List ℕ) → length bs ≤ n → 0xC0 ≤ a → a < 0xE0 → Steps s x y z a (bs ++ next ∷ []) → IsWhole s p (a ∷ bs)
+    two_bytes a [] m l u h = absurd (ends (h.0.continues (inr (inr l))))
+    two_bytes a (b ∷ bs) m l u h = led_read a (b ∷ []) bs l (h.0.continues (inr (inr l)), tt) (grind (arith, nat_tests)) h.0 (λ e. shown _ y z a b bs (omega arith) e h.1)
+
+    three_bytes : (a : ℕ) (bs : List ℕ) → length bs ≤ n → 0xE0 ≤ a → a < 0xF0 → Steps s x y z a (bs ++ next ∷ []) → IsWhole s p (a ∷ bs)
+    three_bytes a [] m l u h = absurd (ends (h.0.continues (inr (inr (omega (arith, l))))))
+    three_bytes a (b ∷ []) m l u h = absurd (ends (h.1.0.continues (inr (inl l))))
+    three_bytes a (b ∷ d ∷ bs) m l u h =
+        led_read a (b ∷ d ∷ []) bs (omega (arith, l)) (h.0.continues (inr (inr (omega (arith, l)))), (h.1.0.continues (inr (inl l)), tt)) (grind (arith, nat_tests)) h.0
+        (λ e. shown _ z a b d bs (omega arith) e h.1.1)
+
+    four_bytes : (a : ℕ) (bs : List ℕ) → length bs ≤ n → 0xF0 ≤ a → Steps s x y z a (bs ++ next ∷ []) → IsWhole s p (a ∷ bs)
+    four_bytes a [] m l h = absurd (ends (h.0.continues (inr (inr (omega (arith, l))))))
+    four_bytes a (b ∷ []) m l h = absurd (ends (h.1.0.continues (inr (inl (omega (arith, l))))))
+    four_bytes a (b ∷ d ∷ []) m l h = absurd (ends (h.1.1.0.continues (inl l)))
+    four_bytes a (b ∷ d ∷ g ∷ bs) m l h =
+        led_read a (b ∷ d ∷ g ∷ []) bs (omega (arith, l)) (h.0.continues (inr (inr (omega (arith, l)))), (h.1.0.continues (inr (inl (omega (arith, l)))), (h.1.1.0.continues (inl l), tt)))
+        (grind (arith, nat_tests)) h.0 (λ e. shown _ a b d g bs (omega arith) e h.1.1.1)
 
   by_length : (n : ℕ) → Shown n
   by_length n p w x y z [] m edge h = record { code_points = []; encoded = record { code_points = tt; no_pair = tt; joined = refl }; free = tt; plain = λ _. tt }
   by_length zero p w x y z (a ∷ bs) m edge h = absurd (omega (arith, m))
   by_length (suc n) p w x y z (a ∷ bs) m edge h =
       let few : length bs ≤ n = omega (arith, m) in
-      ⊎_elim (λ u. one_byte n p x y z a (by_length n) edge bs few u h.1)
-      (λ l. ⊎_elim (λ u. two_bytes n p x y z a (by_length n) edge bs few l u h.1) (λ k. ⊎_elim
-      (λ u. three_bytes n p x y z a (by_length n) edge bs few k u h.1) (λ v. four_bytes n p x y z a (by_length n) edge bs few v h.1)
+      ⊎_elim (λ u. one_byte n p w x y z (by_length n) edge a bs few u h.1)
+      (λ l. ⊎_elim (λ u. two_bytes n p w x y z (by_length n) edge a bs few l u h.1) (λ k. ⊎_elim
+      (λ u. three_bytes n p w x y z (by_length n) edge a bs few k u h.1) (λ v. four_bytes n p w x y z (by_length n) edge a bs few v h.1)
       (cases_lt a 0xF0)) (cases_lt a 0xE0)) (h.0.begins edge.closed)
 
   -- bytes that keep to the pattern, up to one that is no continuation, are whole
