@@ -2,7 +2,6 @@ pub mod Complete
 pub mod Continuations
 pub mod FaultIndices
 pub mod FirstErr
-pub mod Instances
 pub mod LossyReadings
 pub mod Reading
 pub mod Sound
