@@ -17,7 +17,7 @@ LIST = ROOT / "crates.txt"
 # The comment of crates.txt before the crates that are no part of the product.
 TRYING = "# To try it."
 # Modules that are open for the crates above alone: os_str_bytes doesn't export them, and no user calls them.
-INNER = {("wtf8_core", "vectors")}
+INNER = {("wtf8_core", "first_character"), ("wtf8_core", "vectors")}
 FENCE = "```"
 CRATE = re.compile(r"^(\w+)( staticlib)?:(.*)$", re.M)
 DEFINED = re.compile(r"^pub (?:const |unsafe |extern \"C\" )*(?:fn|struct|enum|trait|type|const|static) (\w+)", re.M)

@@ -15,6 +15,4 @@ pub mod Runs
 pub mod CutUnits
 pub mod SymbolSteps
 pub mod EdgeCharacters
-pub mod FirstItem
 pub mod SymbolBytes
-pub mod FewBytes

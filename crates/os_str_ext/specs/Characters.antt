@@ -21,14 +21,6 @@ SplitsLastChar of s r = MatchOption r (EndsUncovered s) (λ parts. s ≡ of part
 abbrev pub IsCharacterBefore : List ℕ → ℕ → Option ℕ → Type 0
 IsCharacterBefore s i r = MatchOption r ((k : ℕ) → ¬ (WholeCharacter s k i)) (λ n. (n ≤ i) × WholeCharacter s (i - n) i)
 
--- c is the first character of s, and has n bytes
-abbrev pub IsFirstChar : List ℕ → ℕ → ℕ → Type 0
-IsFirstChar s c n = WholeCharacter s 0 (0 + n) × (take n s ≡ encode_utf8 c)
-
--- r is the character with which any bytes begin that begin with xs, and xs are its bytes; or None, and they begin with no character
-abbrev pub IsCharOf : List ℕ → Option ℕ → Type 0
-IsCharOf xs r = (rest : List ℕ) → MatchOption r (StartsWithNoCharacter (xs ++ rest)) (λ c. IsFirstChar (xs ++ rest) c (length xs))
-
 -- the bytes are those of one character
 pub record IsOneCharacter (s : List ℕ) : Type 0 where
   pub char : ℕ

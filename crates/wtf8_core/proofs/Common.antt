@@ -22,7 +22,7 @@ unfoldable pub use Rattle.std.specs.Str.Lossy.{utf8_error_len, utf8_valid_len}
 pub use mathlib.Core.Bool.{Bool-set, beq}
 pub use Rattle.wtf8_core.specs.Boundary.{IsBoundary}
 pub use Rattle.wtf8_core.specs.Byte.{IsByte, IsContinuation, is_continuation, needed_continuations, lead_bits}
-pub use Rattle.wtf8_core.specs.Character.{WholeCharacter, IsCharacterAt}
+pub use Rattle.wtf8_core.specs.Character.{WholeCharacter, IsCharacterAt, IsFirstChar}
 pub use Rattle.wtf8_core.specs.Checker.{IsInState, IsFaulty, Gives, Row, needed, rows, SomeRow, IsOpen, kept_bits, joined_bits, fault_at, is_between, is_plain, OnlyEnds, HasFirstFault, Progress, progress, Describes}
 pub use Rattle.wtf8_core.specs.Chunks.{Chunk, joined, AreChunks}
 pub use Rattle.wtf8_core.specs.CodePoint.{IsCodePoint}

@@ -25,6 +25,7 @@ mod decoder;
 mod digits;
 mod encoder;
 mod fault;
+pub mod first_character;
 mod forms;
 mod halves;
 pub mod laws;

@@ -2,7 +2,7 @@
 ghost use Rattle.std.specs.Prelude.{◌≡◌, ◌≤◌, true, MatchOption};
 ghost use Rattle.wtf8_core.specs.FirstPair.{BeginsPair, BeginsNoPair};
 ghost use Rattle.wtf8_core.specs.CodePoint.{IsCodePoint};
-ghost use Rattle.wtf8_core.specs.Surrogate.{is_high, is_low, is_surrogate, is_pair, high_unit, low_unit, paired};
+ghost use Rattle.wtf8_core.specs.Surrogate.{is_high, is_low, is_pair, high_unit, low_unit, paired};
 
 /// Whether a code point or a unit is a high surrogate.
 #[inline(always)]
@@ -18,14 +18,6 @@ pub(crate) fn is_low(code_point: u32) -> bool
     ensures { result ≡ is_low code_point }
 {
     matches!(code_point, 0xDC00..=0xDFFF)
-}
-
-/// Whether it is a surrogate, high or low.
-#[inline(always)]
-pub(crate) fn is_surrogate(code_point: u32) -> bool
-    ensures { result ≡ is_surrogate code_point }
-{
-    matches!(code_point, 0xD800..=0xDFFF)
 }
 
 /// Whether two units are a pair: a high surrogate and then a low one (RFC 2781, section 2.2; this

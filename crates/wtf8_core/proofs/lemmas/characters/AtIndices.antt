@@ -1,5 +1,5 @@
 -- Whole characters: where the reader finds them, and what their indices are.
-use Rattle.wtf8_core.proofs.Common.{◌≡◌, ℕ, ◌+◌, ◌-◌, ◌<◌, ◌≤◌, true, false, List, ◌∷◌, ◌++◌, length, take, drop, get_or, Option, Some, None, Ok, Err, refl, sym, ap, ◌∙◌, subst, arith, length-append, take-append-drop, IsScalar, needed_continuations, is_surrogate, IsCodePoint, encode, WholeCharacter, IsCharacterAt, first_item, first_split, IsUtf8, IsUtf8-encode, take_at, drop_at, length-take-le, nat_tests, common_steps, low_scalar, EncodingError}
+use Rattle.wtf8_core.proofs.Common.{◌≡◌, ℕ, ◌+◌, ◌-◌, ◌<◌, ◌≤◌, true, false, List, ◌∷◌, ◌++◌, length, take, drop, Ok, Err, refl, sym, ap, ◌∙◌, subst, arith, length-append, take-append-drop, IsScalar, is_surrogate, IsCodePoint, encode, WholeCharacter, first_item, first_split, IsUtf8, IsUtf8-encode, take_at, drop_at, length-take-le, nat_tests, common_steps, low_scalar, EncodingError, encode_utf8, IsFirstChar, StartsWithNoCharacter, take-append_seam}
 use Rattle.wtf8_core.proofs.lemmas.reader.Sound.{split_code_point}
 use Rattle.wtf8_core.proofs.lemmas.forms.Shapes.{form_ascii, form_bounds}
 use Rattle.wtf8_core.proofs.lemmas.forms.ByStd.{form_encode, form_same}
@@ -29,11 +29,6 @@ character_fits s i j w =
     let l : length s ≡ length w.occurs.before + (length (encode w.char) + length w.occurs.after) = ap length w.occurs.joined ∙ length-append w.occurs.before (encode w.char ++ w.occurs.after) ∙ ap (λ n. length w.occurs.before + n) (length-append (encode w.char) w.occurs.after) in
     (omega arith, omega arith, omega arith)
 
--- how many bytes a form of two or more has, by its first
-form_length : (c : ℕ) (rest : List ℕ) → IsCodePoint c → 0x80 ≤ get_or (encode c ++ rest) 0 0 → length (encode c) ≡ 1 + needed_continuations (get_or (encode c ++ rest) 0 0)
-unfolding encode
-form_length c rest p h = grind (arith, nat_tests)
-
 -- the character that begins bytes is their first item
 first_of_char : (b c : ℕ) (bs rest : List ℕ) → IsScalar c → b ∷ bs ≡ encode c ++ rest → first_item false b bs ≡ Ok c
 first_of_char b c bs rest s d = ap (λ s. s.0) (ap (first_split false) d ∙ split_of_form 0 c rest (scalar_point c s) (λ h l. omega (arith, h.0)))
@@ -58,45 +53,45 @@ none_at s i h j w = h w.char w.occurs.after w.scalar (begins_at s i j w)
 pub none_begins : (s : List ℕ) → ((j : ℕ) → WholeCharacter s 0 j → ⊥) → NoChar s
 none_begins s h c rest k e = h _ (whole_at s 0 c rest (omega arith) k e)
 
--- what the reader finds at the start
-pub character_found : (bytes : List ℕ) (b c : ℕ) (bs : List ℕ) → bytes ≡ b ∷ bs → b < 256 → 0x80 ≤ b → first_item false b bs ≡ Ok c → is_surrogate c ≡ false
-    → WholeCharacter bytes 0 (0 + (1 + needed_continuations b))
-character_found bytes b c bs d u l e s =
-    let f = split_code_point b c bs u e in
-    let n : length (encode c) ≡ 1 + needed_continuations b = subst (λ x. length (encode c) ≡ 1 + needed_continuations x) (ap (λ x. get_or x 0 0) (sym f.2)) (form_length c f.0 f.1 (subst (λ x. 0x80 ≤ get_or x 0 0) f.2 l)) in
-    subst (λ n. WholeCharacter bytes 0 (0 + n)) n (whole_at bytes 0 c f.0 (omega arith) (is_scalar c f.1 s) (d ∙ f.2))
+-- a form at the start is that of the first character
+pub char_begins : (s : List ℕ) (c : ℕ) (rest : List ℕ) → IsScalar c → s ≡ encode c ++ rest → IsFirstChar s c (length (encode c))
+char_begins s c rest k e = (whole_at s 0 c rest (omega arith) k e, ap (take (length (encode c))) e ∙ take-append_seam (encode c) rest ∙ form_encode c)
 
--- an ASCII byte is a whole character
-pub ascii_found : (bytes : List ℕ) (b : ℕ) (bs : List ℕ) → bytes ≡ b ∷ bs → b < 0x80 → WholeCharacter bytes 0 (0 + 1)
-ascii_found bytes b bs d h =
+-- a scalar that the reader finds at the start is that character
+pub char_read : (b c : ℕ) (bs : List ℕ) → b < 256 → first_item false b bs ≡ Ok c → IsScalar c → IsFirstChar (b ∷ bs) c (length (encode_utf8 c))
+char_read b c bs u e k = let f = split_code_point b c bs u e in subst (λ x. IsFirstChar (b ∷ bs) c (length x)) (form_encode c) (char_begins (b ∷ bs) c f.0 k f.2)
+
+-- and so is an ASCII byte
+pub ascii_first : (s : List ℕ) (b : ℕ) (bs : List ℕ) → s ≡ b ∷ bs → b < 0x80 → IsFirstChar s b 1
+ascii_first s b bs d h =
     let f = form_ascii b h in
-    subst (λ x. WholeCharacter bytes 0 (0 + length x)) f (whole_at bytes 0 b bs (omega arith) (low_scalar b (omega arith)) (d ∙ ap (λ x. x ++ bs) (sym f)))
+    subst (λ x. IsFirstChar s b (length x)) f (char_begins s b bs (low_scalar b (omega arith)) (d ∙ ap (λ x. x ++ bs) (sym f)))
 
--- none starts at the end or after it, at a surrogate or at a fault
+-- none starts at the end or after it, nor where the reader finds no scalar
 pub none_in_none : (bytes : List ℕ) → length bytes ≡ 0 → (j : ℕ) → WholeCharacter bytes 0 j → ⊥
 none_in_none bytes h j w = let f = character_fits bytes 0 j w in omega arith
-
-pub none_at_surrogate : (bytes : List ℕ) (b c : ℕ) (bs : List ℕ) → bytes ≡ b ∷ bs → first_item false b bs ≡ Ok c → is_surrogate c ≡ true → (j : ℕ) → WholeCharacter bytes 0 j → ⊥
-none_at_surrogate bytes b c bs d e s = none_at bytes 0 (λ a rest k i. let o : Ok c ≡ Ok a = sym e ∙ first_of_char b a bs rest k (sym d ∙ i) in let q : a ≡ c = cc in scalar_no_surrogate c (subst IsScalar q k) s)
-
-pub none_at_fault : (bytes : List ℕ) (b : ℕ) (f : EncodingError) (bs : List ℕ) → bytes ≡ b ∷ bs → first_item false b bs ≡ Err f → (j : ℕ) → WholeCharacter bytes 0 j → ⊥
-none_at_fault bytes b f bs d e = none_at bytes 0 (λ a rest k i. let o : Err f ≡ Ok a = sym e ∙ first_of_char b a bs rest k (sym d ∙ i) in cc)
 
 pub none_past : (s : List ℕ) (i : ℕ) → length s ≤ i → (j : ℕ) → WholeCharacter s i j → ⊥
 none_past s i h j w = let f = character_fits s i j w in omega arith
 
--- the same as code has it, of the bytes from an index on
-pub character_in_rest : (s : List ℕ) (i : ℕ) (r : Option ℕ) → i < length s → IsCharacterAt (take (length s - i) (drop i s)) 0 r → IsCharacterAt s i r
-character_in_rest s i r l h = by r (subst (λ x. IsCharacterAt x 0 r) rest h)
-  where
-    rest : take (length s - i) (drop i s) ≡ drop i s
-    rest = grind (arith, common_steps)
+pub none_at_other : (b c : ℕ) (bs : List ℕ) → first_item false b bs ≡ Ok c → (IsScalar c → ⊥) → (j : ℕ) → WholeCharacter (b ∷ bs) 0 j → ⊥
+none_at_other b c bs e n = none_at (b ∷ bs) 0 (λ a rest k i. let o : Ok c ≡ Ok a = sym e ∙ first_of_char b a bs rest k i in let q : a ≡ c = cc in n (subst IsScalar q k))
 
-    by : (r : Option ℕ) → IsCharacterAt (drop i s) 0 r → IsCharacterAt s i r
-    by None h = none_at s i (none_begins (drop i s) h)
-    by (Some n) h =
-        let e = h.end in
-        subst (λ m. WholeCharacter s i (i + m)) (omega arith) (whole_at s i h.char h.occurs.after (omega arith) h.scalar (begins_at (drop i s) 0 (0 + n) h))
+pub none_at_fault : (b : ℕ) (f : EncodingError) (bs : List ℕ) → first_item false b bs ≡ Err f → (j : ℕ) → WholeCharacter (b ∷ bs) 0 j → ⊥
+none_at_fault b f bs e = none_at (b ∷ bs) 0 (λ a rest k i. let o : Err f ≡ Ok a = sym e ∙ first_of_char b a bs rest k i in cc)
+
+-- the same as code has it, of the bytes from an index on
+rest_is : (s : List ℕ) (i : ℕ) → i < length s → take (length s - i) (drop i s) ≡ drop i s
+rest_is s i l = grind (arith, common_steps)
+
+pub char_in_rest : (s : List ℕ) (i c n : ℕ) → i < length s → IsFirstChar (take (length s - i) (drop i s)) c n → WholeCharacter s i (i + n)
+char_in_rest s i c n l h =
+    let w = subst (λ x. WholeCharacter x 0 (0 + n)) (rest_is s i l) h.0 in
+    let e = w.end in
+    subst (λ m. WholeCharacter s i (i + m)) (omega arith) (whole_at s i w.char w.occurs.after (omega arith) w.scalar (begins_at (drop i s) 0 (0 + n) w))
+
+pub none_in_rest : (s : List ℕ) (i : ℕ) → i < length s → StartsWithNoCharacter (take (length s - i) (drop i s)) → (j : ℕ) → WholeCharacter s i j → ⊥
+none_in_rest s i l h = none_at s i (none_begins (drop i s) (subst StartsWithNoCharacter (rest_is s i l) h))
 
 -- the character that starts at an index has one end
 pub same_end : (s : List ℕ) (i j k : ℕ) → WholeCharacter s i j → WholeCharacter s i k → j ≡ k

@@ -1,11 +1,11 @@
 -- The first four bytes, and the character or the ill-formed part with which they begin.
-use Rattle.wtf8_core.proofs.Common.{◌≡◌, ℕ, ◌+◌, ◌<◌, ◌≤◌, List, ◌∷◌, ◌++◌, length, get_or, Some, true, false, sym, ap, ◌∙◌, subst, arith, refl, drop, [], if◌then◌else◌, cond-true, cond-false, nat_tests, get_or_append_left, IsScalar, is_in_range, utf8_error_len, second_byte_min, second_byte_max, IsContinuation, encode, WholeCharacter, IsUtf8Fault}
-use Rattle.wtf8_core.proofs.lemmas.characters.AtIndices.{whole_at}
+use Rattle.wtf8_core.proofs.Common.{◌≡◌, ℕ, ◌+◌, ◌<◌, ◌≤◌, List, ◌∷◌, ◌++◌, length, get_or, Some, true, false, sym, ap, ◌∙◌, subst, arith, refl, drop, [], if◌then◌else◌, cond-true, cond-false, nat_tests, get_or_append_left, IsScalar, is_in_range, utf8_error_len, second_byte_min, second_byte_max, IsContinuation, encode, IsFirstChar, IsUtf8Fault, ◌*◌, ◌%◌}
+use Rattle.wtf8_core.proofs.lemmas.characters.AtIndices.{char_begins}
 use Rattle.wtf8_core.proofs.lemmas.characters.Overlaps.{form_after}
 use Rattle.wtf8_core.proofs.lemmas.forms.Shapes.{form_bounds}
 use Rattle.wtf8_core.proofs.lemmas.forms.Ranges.{in_range, in_range-true, in_range-false, not_in_range}
 use Rattle.wtf8_core.proofs.lemmas.texts.AreWtf8.{valid_none}
-use Rattle.wtf8_core.proofs.lemmas.texts.StdFaults.{First, Second, Filled, filled, least_continuation, lead_of, second_of, len_of_four, fault_is}
+use Rattle.wtf8_core.proofs.lemmas.texts.StdFaults.{First, Second, Filled, filled_value, filled, least_continuation, lead_of, second_of, len_of_four, fault_is}
 
 -- the length of a form, by its first byte
 pub past_ascii : (c : ℕ) → 0x80 ≤ get_or (encode c) 0 0 → 0x80 ≤ c
@@ -83,24 +83,28 @@ module _ (r : List ℕ) (long : 4 ≤ length r) (high : 0x80 ≤ get_or r 0 0) w
     at_second g = fault 1 (λ w. in_range-false _ _ (get_or r 1 0) g w.second) (std_len ∙ cond-true _ _ _ f ∙ cond-false _ _ _ g)
 
     module _ (g : is_in_range (second_byte_min (get_or r 0 0)) (second_byte_max (get_or r 0 0)) (get_or r 1 0) ≡ true) where
-      -- with as many continuations as the first one needs they are a character
-      with_continuations : (y z : ℕ) → IsContinuation y → IsContinuation z → (prefix rest : List ℕ) → prefix ≡ Filled (get_or r 0 0) (get_or r 1 0) y z → r ≡ prefix ++ rest → WholeCharacter r 0 (0 + length prefix)
-      with_continuations y z h k prefix rest e is =
+      -- with as many continuations as the first one needs they are the character with these bits
+      with_continuations : (y z v : ℕ) → IsContinuation y → IsContinuation z → (prefix rest : List ℕ) → prefix ≡ Filled (get_or r 0 0) (get_or r 1 0) y z → r ≡ prefix ++ rest
+          → filled_value (get_or r 0 0) (get_or r 1 0) y z ≡ v → IsScalar v × IsFirstChar r v (length prefix)
+      with_continuations y z v h k prefix rest e is same =
           let w = filled (get_or r 0 0) (get_or r 1 0) y z (in_range-true 0xC2 0xF4 _ f) (in_range-true _ _ (get_or r 1 0) g) h k in
-          let form_is : encode w.0 ≡ prefix = w.2 ∙ sym e in
-          subst (λ l. WholeCharacter r 0 (0 + length l)) form_is (whole_at r 0 w.0 rest (omega arith) w.1 (is ∙ ap (λ l. l ++ rest) (sym form_is)))
+          let scalar = subst IsScalar same w.0 in
+          let form_is : encode v ≡ prefix = ap encode (sym same) ∙ w.1 ∙ sym e in
+          (scalar, subst (λ l. IsFirstChar r v (length l)) form_is (char_begins r v rest scalar (is ∙ ap (λ l. l ++ rest) (sym form_is))))
 
-      pub two_long : get_or r 0 0 < 0xE0 → WholeCharacter r 0 2
-      two_long l =
-          with_continuations 0x80 0x80 least_continuation least_continuation (get_or r 0 0 ∷ get_or r 1 0 ∷ []) (get_or r 2 0 ∷ get_or r 3 0 ∷ drop 4 r) (two_filled (get_or r 0 0) (get_or r 1 0) (in_range-true 0xC2 0xF4 _ f).0 l) (four_first r long)
+      pub two_long : (v : ℕ) → get_or r 0 0 < 0xE0 → v ≡ get_or r 0 0 % 0x20 * 0x40 + get_or r 1 0 % 0x40 → IsScalar v × IsFirstChar r v 2
+      two_long v l is =
+          with_continuations 0x80 0x80 v least_continuation least_continuation (get_or r 0 0 ∷ get_or r 1 0 ∷ []) (get_or r 2 0 ∷ get_or r 3 0 ∷ drop 4 r) (two_filled (get_or r 0 0) (get_or r 1 0) (in_range-true 0xC2 0xF4 _ f).0 l) (four_first r long) (grind (arith, nat_tests))
 
-      pub three_long : 0xE0 ≤ get_or r 0 0 → get_or r 0 0 < 0xF0 → IsContinuation (get_or r 2 0) → WholeCharacter r 0 3
-      three_long h l y =
-          with_continuations (get_or r 2 0) 0x80 y least_continuation (get_or r 0 0 ∷ get_or r 1 0 ∷ get_or r 2 0 ∷ []) (get_or r 3 0 ∷ drop 4 r) (three_filled (get_or r 0 0) (get_or r 1 0) (get_or r 2 0) h l) (four_first r long)
+      pub three_long : (v : ℕ) → 0xE0 ≤ get_or r 0 0 → get_or r 0 0 < 0xF0 → IsContinuation (get_or r 2 0)
+          → v ≡ get_or r 0 0 % 0x10 * 0x1000 + get_or r 1 0 % 0x40 * 0x40 + get_or r 2 0 % 0x40 → IsScalar v × IsFirstChar r v 3
+      three_long v h l y is =
+          with_continuations (get_or r 2 0) 0x80 v y least_continuation (get_or r 0 0 ∷ get_or r 1 0 ∷ get_or r 2 0 ∷ []) (get_or r 3 0 ∷ drop 4 r) (three_filled (get_or r 0 0) (get_or r 1 0) (get_or r 2 0) h l) (four_first r long) (grind (arith, nat_tests))
 
-      pub four_long : 0xF0 ≤ get_or r 0 0 → IsContinuation (get_or r 2 0) → IsContinuation (get_or r 3 0) → WholeCharacter r 0 4
-      four_long h y z =
-          with_continuations (get_or r 2 0) (get_or r 3 0) y z (get_or r 0 0 ∷ get_or r 1 0 ∷ get_or r 2 0 ∷ get_or r 3 0 ∷ []) (drop 4 r) (four_filled (get_or r 0 0) (get_or r 1 0) (get_or r 2 0) (get_or r 3 0) h) (four_first r long)
+      pub four_long : (v : ℕ) → 0xF0 ≤ get_or r 0 0 → IsContinuation (get_or r 2 0) → IsContinuation (get_or r 3 0)
+          → v ≡ get_or r 0 0 % 0x10 * 0x4_0000 + get_or r 1 0 % 0x40 * 0x1000 + get_or r 2 0 % 0x40 * 0x40 + get_or r 3 0 % 0x40 → IsScalar v × IsFirstChar r v 4
+      four_long v h y z is =
+          with_continuations (get_or r 2 0) (get_or r 3 0) v y z (get_or r 0 0 ∷ get_or r 1 0 ∷ get_or r 2 0 ∷ get_or r 3 0 ∷ []) (drop 4 r) (four_filled (get_or r 0 0) (get_or r 1 0) (get_or r 2 0) (get_or r 3 0) h) (four_first r long) (grind (arith, nat_tests))
 
       pub at_third : 0xE0 ≤ get_or r 0 0 → (IsContinuation (get_or r 2 0) → ⊥) → IsUtf8Fault r 0 (Some 2)
       at_third l n = fault 2 (λ w. n (w.third l)) (std_len ∙ cond-true _ _ _ f ∙ cond-true _ _ _ g ∙ cond-false _ _ _ (not_in_range 0x80 0xBF (get_or r 2 0) n))

@@ -2,7 +2,7 @@
 use Rattle.wtf8_core.proofs.Common.{◌≡◌, ◌⊎◌, inl, inr, ⊎_elim, ℕ, zero, suc, ◌+◌, ◌-◌, ◌<◌, ◌≤◌, true, false, List, [], ◌∷◌, ◌++◌, length, drop, Result, Ok, Err, refl, sym, ap, ◌∙◌, subst, arith, length-append, append_assoc, and_parts, cases_lt, cases_eq, cases_Bool, drop-append_seam, scalar, IsScalar, AllByRecursion, flat_map, IsUtf8, all_scalars, IsByte, is_surrogate, encode, WholeCharacter, IsCovered, CrossesNoCharacter, first_item, EncodingError}
 use Rattle.wtf8_core.proofs.lemmas.forms.Shapes.{form_bounds, form_bytes}
 use Rattle.wtf8_core.proofs.lemmas.forms.ByStd.{forms_encode}
-use Rattle.wtf8_core.proofs.lemmas.characters.AtIndices.{character_fits, same_end, whole_at, begins_at, none_at, none_begins, none_past, none_in_none, none_at_surrogate, none_at_fault, scalar_point, is_scalar}
+use Rattle.wtf8_core.proofs.lemmas.characters.AtIndices.{character_fits, same_end, whole_at, begins_at, none_at, none_begins, none_past, none_in_none, none_at_other, none_at_fault, scalar_no_surrogate, scalar_point, is_scalar}
 use Rattle.wtf8_core.proofs.lemmas.characters.Overlaps.{no_start_inside, in_rest}
 use Rattle.wtf8_core.proofs.lemmas.reader.Sound.{split_code_point}
 
@@ -90,10 +90,10 @@ prefix_or_none (b ∷ bs) =
   where
     by : b < 256 → (r : Result ℕ EncodingError) → first_item false b bs ≡ r → ((j : ℕ) × WholeCharacter (b ∷ bs) 0 j) ⊎ ((j : ℕ) → WholeCharacter (b ∷ bs) 0 j → ⊥)
     by lt (Ok c) e =
-        ⊎_elim (λ t. inr (none_at_surrogate (b ∷ bs) b c bs refl e t))
+        ⊎_elim (λ t. inr (none_at_other b c bs e (λ s. scalar_no_surrogate c s t)))
         (λ f. let p = split_code_point b c bs lt e in inl (0 + length (encode c), whole_at (b ∷ bs) 0 c p.0 (omega arith) (is_scalar c p.1 f) p.2))
         (cases_Bool (is_surrogate c))
-    by lt (Err f) e = inr (none_at_fault (b ∷ bs) b f bs refl e)
+    by lt (Err f) e = inr (none_at_fault b f bs e)
 
 -- the same at an index
 start_or_none : (s : List ℕ) (i : ℕ) → ((j : ℕ) × WholeCharacter s i j) ⊎ ((j : ℕ) → WholeCharacter s i j → ⊥)

@@ -1,7 +1,7 @@
 -- The units of strings in which there is no whole character, and of strings that begin with none.
 use Rattle.wtf8_core.proofs.Common.{◌≡◌, ⊎_elim, ℕ, ◌+◌, ◌<◌, ◌≤◌, true, List, [], ◌∷◌, ◌++◌, length, take, drop, refl, sym, ap, ◌∙◌, subst, arith, length-append, take-append-drop, cases_lt, cases_Bool, lt-ltb, le-ltb, append-nil, drop_at, All-from_recursion, AllByRecursion, flat_map, IsByte, IsSurrogate, is_surrogate, encode, StartsWithNoCharacter, HasNoCharacter, units_of, Encodes, IsWtf8, units}
 use Rattle.wtf8_core.specs.PartUnits.{unit_bytes, AreLoneSurrogates}
-use Rattle.wtf8_core.proofs.lemmas.characters.AtIndices.{ascii_found, whole_at, is_scalar}
+use Rattle.wtf8_core.proofs.lemmas.characters.AtIndices.{ascii_first, whole_at, is_scalar}
 use Rattle.wtf8_core.proofs.lemmas.forms.Shapes.{length-form_surrogate}
 use Rattle.wtf8_core.proofs.lemmas.forms.Ranges.{in_range-true}
 use Rattle.wtf8_core.proofs.lemmas.characters.Seams.{whole_within}
@@ -17,7 +17,7 @@ pub uncovered_bytes : (b : List ℕ) → AllByRecursion IsByte b → HasNoCharac
 uncovered_bytes [] a h = (refl, tt)
 uncovered_bytes (x ∷ b) a h =
     let more = uncovered_bytes b a.1 (uncovered_rest (x ∷ b) 1 h) in
-    let high : 0x80 ≤ x = ⊎_elim (λ lt. absurd (h 0 (0 + 1) (ascii_found (x ∷ b) x b refl lt))) (λ ge. ge) (cases_lt x 0x80) in
+    let high : 0x80 ≤ x = ⊎_elim (λ lt. absurd (h 0 (0 + 1) (ascii_first (x ∷ b) x b refl lt).0)) (λ ge. ge) (cases_lt x 0x80) in
     let one : unit_bytes x ≡ x ∷ [] = rw (lt-ltb x 0x100 a.0) refl in
     (ap (λ l. x ∷ l) more.0 ∙ ap (λ l. l ++ flat_map unit_bytes b) (sym one), (high, more.1))
 

@@ -29,18 +29,18 @@ second_of c s h = grind (arith, nat_tests, s)
 abbrev pub Filled : ℕ → ℕ → ℕ → ℕ → List ℕ
 Filled b x y z = b ∷ take (needed_continuations b) (x ∷ y ∷ z ∷ [])
 
-abbrev pub IsForm : List ℕ → Type 0
-IsForm xs = (c : ℕ) × IsScalar c × (encode c ≡ xs)
+abbrev pub filled_value : ℕ → ℕ → ℕ → ℕ → ℕ
+filled_value b x y z = sequence_value b (take (needed_continuations b) (x ∷ y ∷ z ∷ []))
 
-pub filled : (b x y z : ℕ) → First b → Second b x → IsContinuation y → IsContinuation z → IsForm (Filled b x y z)
+pub filled : (b x y z : ℕ) → First b → Second b x → IsContinuation y → IsContinuation z → IsScalar (filled_value b x y z) × (encode (filled_value b x y z) ≡ Filled b x y z)
 unfolding encode
-filled b x y z l s j k = (sequence_value b (take (needed_continuations b) (x ∷ y ∷ z ∷ [])), grind (arith, nat_tests, s), grind (arith, nat_tests, s))
+filled b x y z l s j k = (grind (arith, nat_tests, s), grind (arith, nat_tests, s))
 
 -- so bytes that begin with no character don't begin with it
 not_filled : (b x y z : ℕ) (r rest : List ℕ) → First b → Second b x → IsContinuation y → IsContinuation z → NoChar r → r ≡ Filled b x y z ++ rest → ⊥
 not_filled b x y z r rest l s j k n e =
     let w = filled b x y z l s j k in
-    n w.0 rest w.1 (e ∙ ap (λ x. x ++ rest) (sym w.2))
+    n _ rest w.0 (e ∙ ap (λ x. x ++ rest) (sym w.1))
 
 -- 80 is a continuation, the least
 pub least_continuation : IsContinuation 0x80
@@ -56,21 +56,21 @@ needs_third b x y t l s k n =
     ⊎_elim (λ h. absurd (not_filled b x y 0x80 _ t l s k least_continuation n (grind (arith, nat_tests)))) (λ h. h) (cases_lt b 0xF0)
 
 -- a prefix of a form, with more after it
-prefix_of : (xs : List ℕ) (k : ℕ) → IsForm xs → k < length xs → IsProperPrefix (take k xs)
-prefix_of xs k w h = record { prefix = record { char = w.0; scalar = w.1; rest = drop k xs; is = w.2 ∙ sym (take-append-drop k xs) }; proper = omega (arith, length-drop k xs) }
+prefix_of : (xs : List ℕ) (c k : ℕ) → IsScalar c × (encode c ≡ xs) → k < length xs → IsProperPrefix (take k xs)
+prefix_of xs c k w h = record { prefix = record { char = c; scalar = w.0; rest = drop k xs; is = w.1 ∙ sym (take-append-drop k xs) }; proper = omega (arith, length-drop k xs) }
 
 one_open : (b : ℕ) → First b → IsProperPrefix (b ∷ [])
-one_open b l = prefix_of (Filled b (second_byte_min b) 0x80 0x80) 1 (filled b (second_byte_min b) 0x80 0x80 l (grind (arith, nat_tests)) least_continuation least_continuation) (grind (arith, nat_tests))
+one_open b l = prefix_of (Filled b (second_byte_min b) 0x80 0x80) _ 1 (filled b (second_byte_min b) 0x80 0x80 l (grind (arith, nat_tests)) least_continuation least_continuation) (grind (arith, nat_tests))
 
 two_open : (b x : ℕ) → First b → Second b x → 0xE0 ≤ b → IsProperPrefix (b ∷ x ∷ [])
 two_open b x l s h =
     let e : take 2 (Filled b x 0x80 0x80) ≡ b ∷ x ∷ [] = grind (arith, nat_tests) in
-    subst IsProperPrefix e (prefix_of (Filled b x 0x80 0x80) 2 (filled b x 0x80 0x80 l s least_continuation least_continuation) (grind (arith, nat_tests)))
+    subst IsProperPrefix e (prefix_of (Filled b x 0x80 0x80) _ 2 (filled b x 0x80 0x80 l s least_continuation least_continuation) (grind (arith, nat_tests)))
 
 three_open : (b x y : ℕ) → First b → Second b x → IsContinuation y → 0xF0 ≤ b → IsProperPrefix (b ∷ x ∷ y ∷ [])
 three_open b x y l s k h =
     let e : take 3 (Filled b x y 0x80) ≡ b ∷ x ∷ y ∷ [] = grind (arith, nat_tests) in
-    subst IsProperPrefix e (prefix_of (Filled b x y 0x80) 3 (filled b x y 0x80 l s k least_continuation) (grind (arith, nat_tests)))
+    subst IsProperPrefix e (prefix_of (Filled b x y 0x80) _ 3 (filled b x y 0x80 l s k least_continuation) (grind (arith, nat_tests)))
 
 -- a prefix of a prefix is a prefix
 cut_prefix : (k : ℕ) (r : List ℕ) → IsPrefixOfCharacter r → IsPrefixOfCharacter (take k r)

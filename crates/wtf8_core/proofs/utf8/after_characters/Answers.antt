@@ -21,7 +21,8 @@ loop-preserved c =
     let i = c.loop.invariant in
     let rest = c.loop.rest.now in
     let len = c.in-Some-Ok.len in
-    let w : WholeCharacter rest 0 len = subst (BeginsWith rest) c.in-Some-Ok.field-0-is c.in-Some-Ok.ensures in
+    let z : 0 + len ≡ len = omega arith in
+    let w = subst (WholeCharacter rest 0) z (subst (BeginsWith rest) c.in-Some-Ok.field-0-is c.in-Some-Ok.ensures).0 in
     let fits = character_fits rest 0 len w in
     let size = ap length i.2 ∙ length-drop i.0 c.args.bytes.now in
     (i.0 + len, omega (arith, fits.2, size, i.1), c.split_at-in-Some-Ok.ensures.back ∙ ap (drop len) i.2 ∙ drop-drop len i.0 c.args.bytes.now, after_prefix c.args.bytes.now i.0 i.1 i.3 len (subst (λ x. IsUtf8 (take len x)) i.2 (text_of_character rest len w)))

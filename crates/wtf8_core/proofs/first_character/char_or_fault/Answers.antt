@@ -1,0 +1,45 @@
+use Rattle.wtf8_core.proofs.Common.{sym, ◌∙◌, subst, false≢true, IsFirstChar, arith}
+use Rattle.wtf8_core.proofs.lemmas.characters.AtIndices.{ascii_first}
+use Rattle.wtf8_core.proofs.lemmas.characters.FourBytes.{four_first, at_first, at_second, at_third, at_fourth, second_of_two, no_second_of_two, two_long, three_long, four_long}
+use Rattle.wtf8_core.proofs.first_character.char_or_fault.Goals as goal
+
+pub returns-then-first-lt128 : goal.returns-then-first-lt128
+returns-then-first-lt128 c =
+    let bytes = c.args.bytes.now in
+    subst (λ x. IsFirstChar bytes x 1) (sym c.from.ensures) (ascii_first bytes _ _ (four_first bytes c.in-len4-up.len_at_least) c.if-first-lt128.true)
+
+pub returns-then-not-is_lead : goal.returns-then-not-is_lead
+returns-then-not-is_lead c = at_first c.args.bytes.now c.in-len4-up.len_at_least c.if-first-lt128.false (sym c.is_lead.ensures ∙ c.if-not-is_lead.true)
+
+pub returns-then-not-is_continuation : goal.returns-then-not-is_continuation
+returns-then-not-is_continuation c =
+    at_second c.args.bytes.now c.in-len4-up.len_at_least c.if-first-lt128.false (sym c.is_lead.ensures ∙ c.if-not-is_lead.false)
+    (no_second_of_two _ _ c.if-first-lt224.true (λ k. false≢true (sym c.if-not-is_continuation.true ∙ c.is_continuation.ensures.1 k)))
+
+pub returns-then-first-lt224 : goal.returns-then-first-lt224
+returns-then-first-lt224 c =
+    (two_long c.args.bytes.now c.in-len4-up.len_at_least c.if-first-lt128.false (sym c.is_lead.ensures ∙ c.if-not-is_lead.false)
+    (second_of_two _ _ c.if-first-lt224.true (c.is_continuation.ensures.0 c.if-not-is_continuation.false)) _ c.if-first-lt224.true (omega arith)).1
+
+pub returns-then-not-is_second : goal.returns-then-not-is_second
+returns-then-not-is_second c = at_second c.args.bytes.now c.in-len4-up.len_at_least c.if-first-lt128.false (sym c.is_lead.ensures ∙ c.if-not-is_lead.false) (sym c.is_second.ensures ∙ c.if-not-is_second.true)
+
+pub returns-then-not-is_continuation-2 : goal.returns-then-not-is_continuation-2
+returns-then-not-is_continuation-2 c =
+    at_third c.args.bytes.now c.in-len4-up.len_at_least c.if-first-lt128.false (sym c.is_lead.ensures ∙ c.if-not-is_lead.false) (sym c.is_second.ensures ∙ c.if-not-is_second.false) c.if-first-lt224.false
+    (λ k. false≢true (sym c.if-not-is_continuation-2.true ∙ c.is_continuation-2.ensures.1 k))
+
+pub returns-then-first-lt240 : goal.returns-then-first-lt240
+returns-then-first-lt240 c =
+    (three_long c.args.bytes.now c.in-len4-up.len_at_least c.if-first-lt128.false (sym c.is_lead.ensures ∙ c.if-not-is_lead.false) (sym c.is_second.ensures ∙ c.if-not-is_second.false)
+    _ c.if-first-lt224.false c.if-first-lt240.true (c.is_continuation-2.ensures.0 c.if-not-is_continuation-2.false) (omega arith)).1
+
+pub returns-then-not-is_continuation-3 : goal.returns-then-not-is_continuation-3
+returns-then-not-is_continuation-3 c =
+    at_fourth c.args.bytes.now c.in-len4-up.len_at_least c.if-first-lt128.false (sym c.is_lead.ensures ∙ c.if-not-is_lead.false) (sym c.is_second.ensures ∙ c.if-not-is_second.false) c.if-first-lt240.false
+    (c.is_continuation-2.ensures.0 c.if-not-is_continuation-2.false) (λ k. false≢true (sym c.if-not-is_continuation-3.true ∙ c.is_continuation-3.ensures.1 k))
+
+pub returns : goal.returns
+returns c =
+    (four_long c.args.bytes.now c.in-len4-up.len_at_least c.if-first-lt128.false (sym c.is_lead.ensures ∙ c.if-not-is_lead.false) (sym c.is_second.ensures ∙ c.if-not-is_second.false)
+    _ c.if-first-lt240.false (c.is_continuation-2.ensures.0 c.if-not-is_continuation-2.false) (c.is_continuation-3.ensures.0 c.if-not-is_continuation-3.false) (omega arith)).1
