@@ -54,6 +54,7 @@ impl<'a> Model for EncodeWide<'a> {
 /// assert_eq!(rt; units.next(), Some(Err(EncodingError::Byte(0xC0))));
 /// assert_eq!(rt; units.next(), Some(Ok(0x41)));
 /// ```
+#[tactic(auto, using(crate::proofs::lemmas::reader::FirstErr::items_are_code_points))]
 #[inline(always)]
 pub fn encode_wide<'a>(bytes: &'a [u8]) -> EncodeWide<'a>
     ensures { AreUnitItems bytes.now result }

@@ -109,6 +109,7 @@ pub fn functions()
 
 /// Any bytes have exactly one lossy text, with a U+FFFD for each maximal ill-formed part: that of
 /// std's `String::from_utf8_lossy`. It is UTF-8, and so is the lossy text of WTF-8 bytes.
+#[tactic(auto, using(crate::proofs::lemmas::texts::AreWtf8::lossy_texts))]
 pub fn lossy_text()
     ensures is_std { (bytes : List ℕ) → IsLossyText bytes (utf8_lossy bytes) }
     ensures only_std { (bytes : List ℕ) → (text : List ℕ) → IsLossyText bytes text
@@ -119,6 +120,7 @@ pub fn lossy_text()
 
 /// Any bytes have exactly one lossy reading, which is WTF-8: the forms of their items joined, with
 /// that of FFFD (hexadecimal) for each fault. WTF-8 bytes are their own lossy reading.
+#[tactic(auto, using(crate::proofs::lemmas::reader::LossyReadings::readings))]
 pub fn lossy_reading()
     ensures some { (bytes : List ℕ) → All IsByte bytes
         → (reading : List ℕ) × IsLossyReading bytes reading }
@@ -190,6 +192,7 @@ pub fn ill_formed_parts()
 /// The laws of occurrences and of joins: a nonempty text occurs in WTF-8 bytes exactly where its
 /// units occur in their units, and what comes before it and after it is WTF-8 again. For any two
 /// strings there are WTF-8 bytes whose units are those of both, joined.
+#[tactic(auto, using(crate::proofs::lemmas::occurrence::Wtf8::wtf8_occurrence))]
 pub fn occurrence()
     ensures { OccurrenceLaws IsWtf8 units_of }
 {}

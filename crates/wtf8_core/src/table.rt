@@ -74,6 +74,7 @@ pub(crate) fn state_index(state: State) -> usize
 }
 
 /// The state with an index in the table, or `None` if there is none.
+#[tactic(auto, unfolding(crate::specs::Table::state_at))]
 pub(crate) fn state_at(index: u8) -> Option<State>
     ensures { MatchOption result (16 ≤ index) (λ state. state ≡ state_at index) }
 {
@@ -95,6 +96,7 @@ fn class_index(class: Class) -> usize
 }
 
 /// The class of a byte.
+#[tactic(auto, unfolding(crate::specs::Table::class_at))]
 #[inline(always)]
 pub(crate) fn class_at(byte: u8) -> Class
     ensures { result ≡ class_at byte }

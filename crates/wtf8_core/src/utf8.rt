@@ -40,6 +40,7 @@ const FEW: usize = 3;
 /// assert_eq!(rt; utf8_fault(b"a\xE2\x82"), Some((1, None)));
 /// assert_eq!(rt; utf8_fault(b"\xC3\xA9"), None);
 /// ```
+#[tactic(auto, using(crate::proofs::lemmas::vectors::Windows::texts))]
 #[inline(always)]
 pub fn utf8_fault(bytes: &[u8]) -> Option<(usize, Option<u8>)>
     ensures { MatchOption result (IsUtf8 bytes.now)
@@ -133,6 +134,7 @@ fn fault_in_short(bytes: &[u8]) -> Option<(usize, Option<u8>)>
 }
 
 /// The first fault of few bytes whose first `at` bytes are UTF-8, by steps.
+#[tactic(auto, using(crate::proofs::lemmas::vectors::Windows::texts))]
 #[inline(always)]
 fn fault_by_short_steps(bytes: &[u8], at: usize) -> Option<(usize, Option<u8>)>
     requires within { at ≤ length bytes.now }
@@ -151,6 +153,7 @@ fn fault_by_short_steps(bytes: &[u8], at: usize) -> Option<(usize, Option<u8>)>
 }
 
 /// Whether the bytes are found to be UTF-8 at once, or by steps. That isn't found of more than 128.
+#[tactic(auto, using(crate::proofs::lemmas::vectors::Windows::texts))]
 #[inline(always)]
 pub(crate) fn is_short_utf8(bytes: &[u8]) -> bool
     ensures { IsTrue result → IsUtf8 bytes.now }
@@ -160,6 +163,7 @@ pub(crate) fn is_short_utf8(bytes: &[u8]) -> bool
 }
 
 /// The same as [`is_utf8`], by blocks.
+#[tactic(auto, using(crate::proofs::lemmas::vectors::Windows::texts))]
 fn is_long_utf8(bytes: &[u8]) -> bool
     ensures { IsTrue result ↔ IsUtf8 bytes.now }
 {
@@ -251,6 +255,7 @@ fn after_characters(bytes: &[u8], from: usize, most: usize) -> Result<usize, (us
 }
 
 /// The first fault of bytes whose first `at` bytes are UTF-8, which is near in most of them.
+#[tactic(auto, using(crate::proofs::lemmas::vectors::Windows::texts))]
 #[inline(always)]
 fn fault_by_steps(bytes: &[u8], at: usize) -> Option<(usize, Option<u8>)>
     requires within { at ≤ length bytes.now }
@@ -268,6 +273,7 @@ fn fault_by_steps(bytes: &[u8], at: usize) -> Option<(usize, Option<u8>)>
 }
 
 /// The first fault of bytes that keep to the pattern of UTF-8 up to index `at`.
+#[tactic(auto, using(crate::proofs::lemmas::vectors::Windows::texts))]
 fn fault_by_blocks(bytes: &[u8], at: usize) -> Option<(usize, Option<u8>)>
     requires within { at ≤ length bytes.now }
     requires kept { KeepsPattern Utf8 bytes.now at }

@@ -19,6 +19,7 @@ use crate::vectors::{BEFORE, BLOCK, Encoding, STEP};
 
 /// The length of a prefix that is of this encoding: all the bytes, or some that end where the next
 /// code point begins.
+#[tactic(auto, using(crate::proofs::lemmas::vectors::Windows::no_pattern))]
 #[inline(always)]
 pub(crate) fn scan(bytes: &[u8], encoding: Encoding) -> usize
     ensures within { result ≤ length bytes.now }
@@ -142,6 +143,7 @@ pub(crate) fn ends_by_step(bytes: &[u8], at: usize) -> bool
 
 /// The length of a prefix of few bytes, which keep to the pattern of UTF-8 up to index `at`, that is
 /// UTF-8: all the bytes, or some that end where the next character begins.
+#[tactic(auto, using(crate::proofs::lemmas::vectors::Windows::ends))]
 #[inline(always)]
 pub(crate) fn scan_short(bytes: &[u8], at: usize) -> usize
     requires from { 4 ≤ length bytes.now }
@@ -291,6 +293,7 @@ fn block_len(bytes: &[u8], at: usize, encoding: Encoding) -> usize
 }
 
 /// The same as [`scan_from`] where fewer than 64 bytes are left after `at`.
+#[tactic(auto, using(crate::proofs::lemmas::vectors::Windows::ends))]
 fn scan_tail(bytes: &[u8], at: usize, encoding: Encoding) -> usize
     requires from { at ≤ length bytes.now }
     requires short { length bytes.now - at < 64 }

@@ -43,6 +43,10 @@ reading_of_items b items (Faulty {rest = rest} {later = later} r l) =
     subst (IsLossyReading b) (sym (ap lossy_forms r.are ∙ faulty_forms b r.code_points r.fault later r.first))
     (replaced r.first (subst (λ x. IsLossyReading x (lossy_forms later)) (sym r.after) (reading_of_items rest later l)))
 
+-- WTF-8 is its own
+pub reading_of_wtf8 : (b : List ℕ) → IsWtf8 b → IsLossyReading b b
+reading_of_wtf8 b w = formed w
+
 -- and each reading is that of the items
 record OfItems (b reading : List ℕ) : Type 0 where
   items : Items
@@ -79,3 +83,5 @@ reading_wtf8 b reading (replaced {cs = cs} {reading = after} f l) =
     let one : Encodes replacement (0xFFFD ∷ []) = subst (λ x. Encodes x (0xFFFD ∷ [])) replacement_is (encodes_one 0xFFFD (omega arith)) in
     let more = encodes_joined replacement after (0xFFFD ∷ []) w.0 one w.1 (may_precede 0xFFFD w.0 (λ h. omega (arith, h.1))) in
     (cs ++ 0xFFFD ∷ w.0, encodes_joined f.before (replacement ++ after) cs (0xFFFD ∷ w.0) f.encoded more (λ h l. omega (arith, l.1)))
+
+pub ruleset readings = (some_reading, one_reading, reading_wtf8, reading_of_wtf8, reading_of_items)

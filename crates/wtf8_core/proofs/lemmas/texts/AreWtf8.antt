@@ -7,7 +7,7 @@ use Rattle.wtf8_core.proofs.lemmas.forms.Shapes.{form_bytes}
 use Rattle.wtf8_core.proofs.lemmas.forms.ByStd.{forms_encode}
 use Rattle.wtf8_core.proofs.lemmas.units.AsFunction.{code_points_in-encoded, has_lossy_text}
 use Rattle.wtf8_core.proofs.lemmas.texts.StdFaults.{fault_is, no_char}
-use Rattle.wtf8_core.proofs.lemmas.texts.LossyTexts.{kept, lossy_step, after_text, one_valid}
+use Rattle.wtf8_core.proofs.lemmas.texts.LossyTexts.{kept, lossy_step, lossy_text_is, after_text, one_valid}
 
 -- scalars are code points, and paired-free
 points_of_scalars : (cs : List ℕ) → all_scalars cs ≡ true → AllByRecursion IsCodePoint cs
@@ -161,3 +161,8 @@ lossy_within (suc n) b h = ⊎_elim
 -- each byte list has a lossy text, which is std's
 pub lossy_text : (b : List ℕ) → IsLossyText b (utf8_lossy b)
 lossy_text b = lossy_within (suc (length b)) b (omega arith)
+
+pub std_is_utf8 : (b : List ℕ) → IsUtf8 (utf8_lossy b)
+std_is_utf8 b = lossy_is_utf8 b (utf8_lossy b) (lossy_text b)
+
+pub ruleset lossy_texts = (lossy_text, lossy_text_is, std_is_utf8, wtf8_lossy_is_utf8)

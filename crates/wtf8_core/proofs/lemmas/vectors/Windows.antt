@@ -1,5 +1,5 @@
 -- From windows to the bytes: which prefix they give.
-use Rattle.wtf8_core.proofs.Common.{Bool, true, false, ◌≡◌, inl, inr, ◌⊎◌, ⊎_elim, ℕ, zero, suc, ◌+◌, ◌-◌, ◌<◌, ◌≤◌, List, [], ◌∷◌, ◌++◌, length, take, drop, get_or, refl, sym, ap, ◌∙◌, subst, arith, min, replicate, get_or-take, get_or-drop, get_or_append_left, get_or-append_right, get_or_past, length-append, length-take, length-take-le, length-drop, take-add, take-take, drop-drop, take-append-drop, cases_lt, and_from, AllByRecursion, IsScalar, low_scalar, scalars, IsUtf8, is_in_range, IsContinuation, is_high, Encodes, last_or, MayFollowAll, EachMayFollow, IsBetweenCodePoints, with_zeros_before, KeepsPattern, IsEncodedPrefix}
+use Rattle.wtf8_core.proofs.Common.{Bool, true, false, ◌≡◌, inl, inr, ◌⊎◌, ⊎_elim, ℕ, zero, suc, ◌+◌, ◌-◌, ◌<◌, ◌≤◌, List, [], ◌∷◌, ◌++◌, length, take, drop, get_or, refl, sym, ap, ◌∙◌, subst, arith, min, replicate, get_or-take, get_or-drop, get_or_append_left, get_or-append_right, get_or_past, length-append, length-take, length-take-le, length-drop, take_all, take-add, take-take, drop-drop, take-append-drop, cases_lt, and_from, AllByRecursion, IsScalar, low_scalar, scalars, IsUtf8, is_in_range, IsContinuation, is_high, Encodes, last_or, MayFollowAll, EachMayFollow, IsBetweenCodePoints, with_zeros_before, KeepsPattern, IsEncodedPrefix}
 use Rattle.std.proofs.lemmas.List.{take_more}
 use borrow.Rule.Slice.PartMut.{put_mid}
 use Rattle.wtf8_core.proofs.lemmas.forms.Ranges.{in_range, in_range-true, in_range-false, not_in_range}
@@ -49,6 +49,14 @@ all_scalars (c ∷ cs) p = and_from _ _ p.0 (all_scalars cs p.1)
 
 pub prefix_is_utf8 : (encoding : Encoding) (bytes : List ℕ) (n : ℕ) → encoding ≡ Utf8 → IsEncodedPrefix encoding bytes n → IsUtf8 (take n bytes)
 prefix_is_utf8 encoding bytes n e f = (f.code_points, (all_scalars f.code_points (f.plain e), sym (f.encoded.joined ∙ forms_encode f.code_points)))
+
+pub text_of_prefix : (bytes : List ℕ) (n : ℕ) → IsEncodedPrefix Utf8 bytes n → IsUtf8 (take n bytes)
+text_of_prefix bytes n f = prefix_is_utf8 Utf8 bytes n refl f
+
+pub whole_text : (bytes : List ℕ) (n : ℕ) → n ≡ length bytes → IsEncodedPrefix Utf8 bytes n → IsUtf8 bytes
+whole_text bytes n e f = subst IsUtf8 (take_all n bytes (omega (arith, e))) (text_of_prefix bytes n f)
+
+pub ruleset texts = (text_of_prefix, whole_text, text_keeps, no_pattern)
 
 -- bytes from index m on, with the four before them
 four_before : (a b c d : ℕ) (l : List ℕ) (m : ℕ) → m ≤ length l
@@ -215,6 +223,8 @@ module _ (encoding : Encoding) (bytes : List ℕ) where
             let b = at_end (suc (suc (suc (suc i)))) (length bytes) (omega (arith, h, l, k.order, long)) ∙ past in
             zero_follows encoding _ _ _ _ _ (record { fourth = omega (arith, x, closed.fourth); third = omega (arith, y, closed.third); second = omega (arith, z, closed.second) }) b) (cases_lt i (length bytes - k.from));
       }
+
+pub ruleset ends = (past_end, ascii_to_end)
 
 -- ASCII at the start is a text
 pub ascii_is_utf8 : (bytes : List ℕ) (n : ℕ) → ((i : ℕ) → i < n → get_or bytes i 0 < 0x80) → n ≤ length bytes → IsUtf8 (take n bytes)
