@@ -141,7 +141,8 @@ fn is_same_start(a: Start, b: Start) -> bool
 
 /// The order of the components of two bodies.
 fn walk_bodies(rules: Rules, a: &[u8], b: &[u8]) -> Ordering
-    ensures { result ≡ keys_cmp (item_keys (components_in rules a.entry.now)) (item_keys (components_in rules b.entry.now)) }
+    ensures { result ≡ keys_cmp (item_keys (components_in rules a.entry.now))
+        (item_keys (components_in rules b.entry.now)) }
 {
     let mut left = a;
     let mut right = b;

@@ -7,18 +7,22 @@ use std::simd::prelude::*;
 /// The bytes of a vector.
 pub(crate) const LANES: usize = 16;
 
+/// The bytes of half a vector.
+pub(crate) const HALF: usize = 8;
+
 /// The bytes that one test of [`are_alike`] is of.
 pub(crate) const BLOCK: usize = 128;
 
-/// How many of the 16 bytes from an index on come before the first that is `value`.
+/// How many of the N bytes from an index on come before the first that is `value`.
 #[inline(always)]
-pub(crate) fn len_before(value: u8, bytes: &[u8], from: usize) -> usize
-    requires { from + 16 ≤ length bytes.now }
-    ensures within { result ≤ 16 }
+pub(crate) fn len_before<const N: usize>(value: u8, bytes: &[u8], from: usize) -> usize
+    requires inside { from + N ≤ length bytes.now }
+    requires few { N ≤ 64 }
+    ensures within { result ≤ N }
     ensures other { (i : ℕ) → i < result
         → nat_eq (slice_index bytes.now (from + i)) value ≡ false }
 {
-    lanes_before(value, load(bytes, from))
+    lanes_before(value, load::<N>(bytes, from))
 }
 
 /// How many of the N bytes from an index on are alike in both, before the first that isn't.
@@ -67,13 +71,14 @@ fn load<const N: usize>(bytes: &[u8], from: usize) -> Simd<u8, N>
 
 /// How many lanes come before the first that is `value`.
 #[inline(always)]
-fn lanes_before(value: u8, lanes: u8x16) -> usize
-    ensures within { result ≤ 16 }
-    ensures other { (i : ℕ) → i < result → nat_eq (slice_index lanes i) value ≡ false }
+fn lanes_before<const N: usize>(value: u8, lanes: Simd<u8, N>) -> usize
+    requires { N ≤ 64 }
+    ensures within { result ≤ N }
+    ensures other { (i : ℕ) → i < result → nat_eq (slice_index lanes.entry i) value ≡ false }
 {
-    let mask = lanes.simd_eq(u8x16::splat(value)).to_bitmask();
+    let mask = lanes.simd_eq(Simd::splat(value)).to_bitmask();
     if mask == 0 {
-        return LANES;
+        return N;
     }
     mask.trailing_zeros() as usize
 }

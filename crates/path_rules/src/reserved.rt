@@ -101,7 +101,8 @@ fn without_spaces(name: &[u8]) -> &[u8]
 /// Whether the letters are those of a word, in upper or lower case.
 #[inline(always)]
 fn is_word(a: u8, b: u8, c: u8, word: &[u8; 3]) -> bool
-    ensures { result ≡ is_word a b c (slice_index word.now 0) (slice_index word.now 1) (slice_index word.now 2) }
+    ensures { result ≡ is_word a b c (slice_index word.now 0) (slice_index word.now 1)
+        (slice_index word.now 2) }
 {
     upper(a) == word[0] && upper(b) == word[1] && upper(c) == word[2]
 }

@@ -3,7 +3,7 @@ ghost use Rattle.std.specs.Prelude.{◌≡◌, ℕ, ◌+◌, ◌≤◌, ◌<◌,
 ghost use Rattle.path_rules.specs.Separators.{separates, IsPlain, IsPlainBelow, IsCut, IsField};
 ghost use Rattle.path_rules.specs.StyleRules.{rules_of_style, main_separator};
 
-use crate::lanes::{LANES, len_before};
+use crate::lanes::{HALF, LANES, len_before};
 
 /// Which bytes separate the components of a path.
 #[derive(Clone, Copy, Debug, PartialEq, Eq)]
@@ -85,7 +85,7 @@ impl Rules {
     }
 
     /// An index up to which no byte separates: of the first separator, or one after which fewer bytes
-    /// than a vector has are left.
+    /// than half a vector has are left.
     #[inline(always)]
     fn skip_lanes(self, path: &[u8]) -> usize
         ensures within { result ≤ length path.now }
@@ -93,27 +93,34 @@ impl Rules {
     {
         let mut at = 0;
         while path.len() - at >= LANES {
-            let len = self.lanes_before(path, at);
+            let len = self.lanes_before::<LANES>(path, at);
             at += len;
             if len < LANES {
                 return at;
             }
         }
-        at
+        if path.len() - at < HALF {
+            return at;
+        }
+        at + self.lanes_before::<HALF>(path, at)
     }
 
-    /// How many of the 16 bytes from an index on come before the first separator.
+    /// How many of the N bytes from an index on come before the first separator.
     #[inline(always)]
-    fn lanes_before(self, path: &[u8], from: usize) -> usize
-        requires { from + 16 ≤ length path.now }
-        ensures within { result ≤ 16 }
+    fn lanes_before<const N: usize>(self, path: &[u8], from: usize) -> usize
+        requires inside { from + N ≤ length path.now }
+        requires few { N ≤ 64 }
+        ensures within { result ≤ N }
         ensures plain { (i : ℕ) → i < result
             → separates self (slice_index path.now (from + i)) ≡ false }
     {
         match self {
-            Rules::Slash => len_before(b'/', path, from),
-            Rules::Either => lesser(len_before(b'/', path, from), len_before(b'\\', path, from)),
-            Rules::Verbatim => len_before(b'\\', path, from),
+            Rules::Slash => len_before::<N>(b'/', path, from),
+            Rules::Either => lesser(
+                len_before::<N>(b'/', path, from),
+                len_before::<N>(b'\\', path, from),
+            ),
+            Rules::Verbatim => len_before::<N>(b'\\', path, from),
         }
     }
 

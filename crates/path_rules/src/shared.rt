@@ -2,7 +2,7 @@
 ghost use Rattle.std.specs.Prelude.{◌≡◌, ◌<◌, ◌≤◌, length, MatchOption};
 ghost use Rattle.path_rules.specs.Shared.{SharesItems, AreAlikeBelow};
 
-use crate::lanes::{BLOCK, alike_len, are_alike};
+use crate::lanes::{BLOCK, LANES, alike_len, are_alike};
 use crate::rules::Rules;
 
 /// What is left of two bodies after the last separator of what they begin with alike; `None` where
@@ -64,8 +64,8 @@ fn alike_blocks(a: &[u8], b: &[u8], end: usize) -> usize
     at
 }
 
-/// The same, by N at once from an index on before which all are alike; the last N are looked at
-/// together, also where some were before.
+/// The same, by N at once from an index on before which all are alike; the last N, or the last 16
+/// where no more are left, are looked at together, also where some were before.
 #[inline(always)]
 fn shared_by<const N: usize>(a: &[u8], b: &[u8], from: usize, end: usize) -> usize
     requires room { N ≤ end }
@@ -86,6 +86,10 @@ fn shared_by<const N: usize>(a: &[u8], b: &[u8], from: usize, end: usize) -> usi
         }
         // not `len`, so that the next vectors are loaded before it is known
         at += N;
+    }
+    if N > LANES && end - at <= LANES {
+        let last = end - LANES;
+        return last + alike_len::<LANES>(a, b, last);
     }
     let last = end - N;
     last + alike_len::<N>(a, b, last)

@@ -12,10 +12,18 @@ loop-at-preserved g c = (
   alike_further c.args.a.now c.args.b.now c.loop-at.at g.row.N c.loop-at.invariant.1 (λ k l. c.alike_len-len.ensures.alike k (omega (arith, l, c.if-len.false))),
 )
 
+pub returns-then-end-at-le-LANES-clause-same : goal.returns-then-end-at-le-LANES-clause-same
+returns-then-end-at-le-LANES-clause-same g c =
+    let a = c.args.a.now in
+    let b = c.args.b.now in
+    let last = c.args.end - 16 in
+    alike_further a b last c.alike_len.result
+    (alike_less a b c.loop-at.at last (omega (arith, c.if-end-at-le-LANES.true, c.loop-at.invariant.0)) c.loop-at.invariant.1) c.alike_len.ensures.alike
+
 pub returns-clause-same : goal.returns-clause-same
 returns-clause-same g c =
     let a = c.args.a.now in
     let b = c.args.b.now in
     let last = c.args.end - g.row.N in
-    alike_further a b last c.alike_len.result
-    (alike_less a b c.loop-at.at last (omega (arith, c.loop-at-test.false, c.requires.room)) c.loop-at.invariant.1) c.alike_len.ensures.alike
+    alike_further a b last c.alike_len-2.result
+    (alike_less a b c.loop-at.at last (omega (arith, c.loop-at-test.false, c.requires.room)) c.loop-at.invariant.1) c.alike_len-2.ensures.alike

@@ -12,3 +12,7 @@ loop-at-preserved c = (
   omega (arith, c.loop-at-test.true, c.loop-at.invariant.0, c.lanes_before-len.ensures.within),
   none_further (separates c.args.self) c.args.path.now c.loop-at.at c.lanes_before-len.result c.loop-at.invariant.1 c.lanes_before-len.ensures.plain,
 )
+
+pub returns-clause-plain : goal.returns-clause-plain
+returns-clause-plain c =
+    none_further (separates c.args.self) c.args.path.now c.loop-at.at c.lanes_before.result c.loop-at.invariant.1 c.lanes_before.ensures.plain
