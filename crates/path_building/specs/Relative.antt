@@ -1,14 +1,13 @@
 -- A path as it is reached from a base (the crate pathdiff's `diff_paths`).
 use Rattle.std.specs.Prelude.{◌≡◌, ◌⊎◌, ◌↔◌, ℕ, List, [], ◌∷◌, ◌++◌, reverse, Option, Some, None}
 use Rattle.path_rules.specs.declared.rules.Style.{Style}
-use Rattle.path_rules.specs.StyleRules.{main_separator}
 use Rattle.path_rules.specs.Component.{Item, Prefix, RootDir, CurDir, ParentDir, Normal}
 use Rattle.path_rules.specs.Components.{AreComponents}
 use Rattle.path_rules.specs.Root.{IsAbsolute}
 use Rattle.path_rules.specs.Compare.{AreAlike, AreAllAlike}
 use Rattle.path_building.specs.Cleaned.{CleansTo}
-use Rattle.path_building.specs.Normalized.{AreVerbatim, BeginsAsPrefix}
-use Rattle.path_building.specs.Written.{joined_names, IsPathOf}
+use Rattle.path_building.specs.Normalized.{AreVerbatim, IsShielded}
+use Rattle.path_building.specs.Written.{IsWritten, IsPathOf}
 use Rattle.path_building.specs.Join.{IsJoin, without_dot}
 
 -- what the components of a path are cleaned to, also after `\\?\`
@@ -48,9 +47,9 @@ BeginsUp (CurDir ∷ xs) = ⊥
 BeginsUp (ParentDir ∷ xs) = Unit {0}
 BeginsUp (Normal s ∷ xs) = ⊥
 
--- components with the main separator between them, after `.` where the first would be read as a prefix
+-- components as they are written, after `.` where the first would be read as a prefix
 abbrev pub AreWritten : Style → List Item → List ℕ → Type 0
-AreWritten w names r = (BeginsAsPrefix w names × (r ≡ 0x2E ∷ main_separator w ∷ joined_names (main_separator w) names)) ⊎ (¬ (BeginsAsPrefix w names) × (r ≡ joined_names (main_separator w) names))
+AreWritten w names r = (shown : List Item) × (IsShielded w names shown × IsWritten w shown r)
 
 -- the path written anew, cleaned if its prefix begins with `\\?\`, as it is where it is joined
 pub record IsWhole (w : Style) (path r : List ℕ) : Type 0 where

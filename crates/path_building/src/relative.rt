@@ -51,7 +51,8 @@ pub fn relative_from<A: Allocator + Clone>(
     path: &[u8],
     base: &[u8],
 ) -> Result<Option<Vec<u8, A>>, AllocError>
-    ensures { IfOk result (λ way. IsRelativeFrom style path.now base.now (option_map (λ v. v.items) way)) }
+    ensures { IfOk result
+        (λ way. IsRelativeFrom style path.now base.now (option_map (λ v. v.items) way)) }
 {
     let Some(way) = candidate(alloc.clone()?, style, path, base)? else {
         return Ok(None);
@@ -70,7 +71,8 @@ fn candidate<A: Allocator + Clone>(
     path: &[u8],
     base: &[u8],
 ) -> Result<Option<Vec<u8, A>>, AllocError>
-    ensures { IfOk result (λ way. IsCandidateOrNone style path.now base.now (option_map (λ v. v.items) way)) }
+    ensures { IfOk result
+        (λ way. IsCandidateOrNone style path.now base.now (option_map (λ v. v.items) way)) }
 {
     if is_one_absolute(style, path, base) {
         if is_absolute(style, path) {
@@ -110,7 +112,8 @@ fn way<A: Allocator + Clone>(
     left: &[Component<&[u8]>],
     wanted: &[Component<&[u8]>],
 ) -> Result<Vec<u8, A>, AllocError>
-    ensures { IfOk result (λ way. IsWay style path.now (map item_of left.now) (map item_of wanted.now) way.items) }
+    ensures { IfOk result
+        (λ way. IsWay style path.now (map item_of left.now) (map item_of wanted.now) way.items) }
 {
     if begins_at_top(left) {
         return whole(alloc, style, path);
@@ -138,12 +141,13 @@ fn whole<A: Allocator + Clone>(
     written_as(alloc, style, path, head, head.start, &names)
 }
 
-/// Components with the main separator between them.
+/// Components below a prefix and a root, as they are written.
 fn names_written<A: Allocator>(
     alloc: A,
     style: Style,
     names: &[Component<&[u8]>],
 ) -> Result<Vec<u8, A>, AllocError>
+    requires { ¬ (BeginsAtTop (map item_of names.now)) }
     ensures { IfOk result (λ way. AreWritten style (map item_of names.now) way.items) }
 {
     let none = b"".as_slice();
@@ -159,7 +163,8 @@ fn add_ups<'a, A: Allocator>(
     names: &mut Vec<Component<&'a [u8]>, A>,
     wanted: &[Component<&[u8]>],
 ) -> Result<(), AllocError>
-    ensures { OnOk result (map item_of names.new.items ≡ map item_of names.old.items ++ up_from (map item_of wanted.now)) }
+    ensures { OnOk result (map item_of names.new.items
+        ≡ map item_of names.old.items ++ up_from (map item_of wanted.now)) }
 {
     let mut rest = wanted;
     while let [_, tail @ ..] = rest {

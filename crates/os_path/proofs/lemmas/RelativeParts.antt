@@ -1,13 +1,14 @@
 -- A path as it is reached from a base is well formed.
-use Rattle.std.proofs.Common.{inl, inr, ◌<◌, ℕ, List, [], ◌∷◌, ◌++◌, take, drop, sym, subst, append-nil, lit<}
+use Rattle.std.proofs.Common.{◌≡◌, inl, inr, ◌<◌, ℕ, List, [], ◌∷◌, ◌++◌, take, drop, sym, ◌∙◌, subst, append-nil, lit<}
 use Rattle.wtf8_core.specs.Boundary.{IsBoundary}
 use Rattle.wtf8_core.specs.OccurrenceLaws.{OccurrenceLaws}
 use Rattle.path_rules.specs.declared.rules.Style.{Style}
 use Rattle.path_rules.specs.declared.rules.Style.TheVariants as style
 use Rattle.path_rules.specs.StyleRules.{main_separator}
 use Rattle.path_rules.specs.Component.{Item, Prefix, RootDir, CurDir, ParentDir, Normal}
-use Rattle.path_building.specs.Written.{spelling, more_names, joined_names}
-use Rattle.path_building.specs.Relative.{AreApart, up_from, AreWritten, IsWhole, IsCandidate}
+use Rattle.path_building.specs.Written.{spelling, more_names, joined_names, IsWritten}
+use Rattle.path_building.specs.Relative.{AreApart, up_from, BeginsAtTop, AreWritten, IsWhole, IsCandidate}
+use Rattle.path_building.proofs.lemmas.Places.{below_top, bare_names}
 use Rattle.os_path.specs.Formed.{IsFormed, AreFormed}
 use Rattle.os_path.proofs.lemmas.Cuts.{cuts}
 use Rattle.os_path.proofs.lemmas.Whole.{joined_formed}
@@ -45,9 +46,18 @@ module _ (formed : List ℕ → Type 0) (units : List ℕ → List ℕ) (laws : 
   names_formed c low [] f = nothing_formed formed units laws
   names_formed c low (x ∷ xs) f = more_formed c low (spelling x) xs (spelled_formed x f.0) f.1
 
-  written_formed : (w : Style) (names : List Item) (r : List ℕ) → AreWritten w names r → AreFormed formed names → formed r
-  written_formed w names r (inl h) f = subst formed (sym h.1) (around formed units laws (0x2E ∷ []) (joined_names (main_separator w) names) (main_separator w) (ascii w) (laws.texts (0x2E ∷ []) (one_text 0x2E (lit< tt))) (names_formed (main_separator w) (ascii w) names f))
-  written_formed w names r (inr h) f = subst formed (sym h.1) (names_formed (main_separator w) (ascii w) names f)
+  written_formed : (w : Style) (names : List Item) (r : List ℕ) → ¬ (BeginsAtTop names) → IsWritten w names r → AreFormed formed names → formed r
+  written_formed w names r n h f =
+      let c = main_separator w in
+      let is = bare_names c names n in
+      let bytes : r ≡ joined_names c names = elim h as (λ z. r ≡ joined_names c names) [ inl a ↦ a.1 ∙ is.1 | inr a ↦ a.1 ∙ is.0 ] in
+      subst formed (sym bytes) (names_formed c (ascii w) names f)
+
+  shown_formed : (w : Style) (names : List Item) (r : List ℕ) → ¬ (BeginsAtTop names) → AreWritten w names r → AreFormed formed names → formed r
+  shown_formed w names r n h f = elim h.1.0 as (λ z. formed r) [
+    | inl a ↦ written_formed w (CurDir ∷ names) r (λ t. t) (subst (λ z. IsWritten w z r) a.1 h.1.1) (tt, f)
+    | inr a ↦ written_formed w names r n (subst (λ z. IsWritten w z r) a.1 h.1.1) f
+  ]
 
   module _ (cut_prefix : (b : List ℕ) (i : ℕ) → formed b → IsBoundary b i → formed (take i b)) (cut_suffix : (b : List ℕ) (i : ℕ) → formed b → IsBoundary b i → formed (drop i b)) where
     whole_formed : (w : Style) (path r : List ℕ) → IsWhole w path r → formed path → formed r
@@ -65,5 +75,5 @@ module _ (formed : List ℕ → Type 0) (units : List ℕ → List ℕ) (laws : 
       | inr n ↦
           let items = of_items formed units laws cut_prefix cut_suffix w path h.left.items h.left.are fp in
           let left = apart_formed formed h.left.items h.left.base_items h.us h.left.left h.left.apart items in
-          written_formed w (up_from h.vs ++ h.us) r n.1 (joined_formed formed (cuts formed cut_prefix cut_suffix) (up_from h.vs) h.us (ups_formed formed h.vs) left)
+          shown_formed w (up_from h.vs ++ h.us) r (below_top h.vs h.us n.0) n.1 (joined_formed formed (cuts formed cut_prefix cut_suffix) (up_from h.vs) h.us (ups_formed formed h.vs) left)
     ]

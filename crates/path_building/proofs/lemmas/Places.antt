@@ -1,21 +1,24 @@
 -- Where paths lead to.
 use Rattle.std.proofs.Common.{◌≡◌, ◌≢◌, ◌↔◌, inl, inr, ℕ, Bool, true, false, IsTrue, List, [], ◌∷◌, ◌++◌, ◌≤◌, get_or, length, map, reverse, arith, refl, sym, ap, ◌∙◌, subst, append_assoc}
 use Rattle.std.proofs.lemmas.List.{reverse-reverse}
+use Rattle.path_rules.specs.declared.rules.Style as whose
 use Rattle.path_rules.specs.declared.rules.Style.{Style}
+use Rattle.path_rules.specs.declared.rules.Style.TheVariants as style
 use Rattle.path_rules.specs.declared.head.Start.{Start}
 use Rattle.path_rules.specs.declared.head.Start.TheVariants.{Root, Dot, Nothing}
 use Rattle.path_rules.specs.declared.head.Head.{Head}
 use Rattle.path_rules.specs.StyleRules.{main_separator}
-use Rattle.path_rules.specs.Component.{Item, components_in}
+use Rattle.path_rules.specs.Component.{Item, Prefix, RootDir, CurDir, ParentDir, Normal, components_in}
 use Rattle.path_rules.specs.Components.{AreComponents}
 use Rattle.path_rules.specs.Heads.{prefix_items, start_items, items_of}
 use Rattle.path_rules.specs.HeadParts.{IsHead}
 use Rattle.path_rules.specs.Prefix.{begins_verbatim}
 use Rattle.path_rules.specs.Compare.{AreAlike, AreAllAlike}
 use Rattle.path_building.specs.Cleaned.{CleansTo}
-use Rattle.path_building.specs.Written.{joined_names, IsPathOf}
+use Rattle.path_building.specs.Normalized.{BeginsAsPrefix}
+use Rattle.path_building.specs.Written.{joined_names, written, written_apart, NamesAShare, IsPathOf}
 use Rattle.path_building.specs.Spelled.{cleaned, cleaned_start, after_bytes}
-use Rattle.path_building.specs.Relative.{IsPlace, AreOnePlace, AreApart, IsWhole}
+use Rattle.path_building.specs.Relative.{IsPlace, AreOnePlace, AreApart, up_from, BeginsAtTop, AreWritten, IsWhole}
 use Rattle.path_building.proofs.lemmas.Again.{one_clean}
 use Rattle.path_building.proofs.lemmas.Forms.{no_dot_after, kept_some, verbatim_yes, other_verbatim, cleaned_leads}
 use Rattle.path_rules.proofs.lemmas.OneList.{one_components}
@@ -62,9 +65,41 @@ whole_other w path head are h names r v same answers = record {
   answers = subst (λ z. IsPathOf w (prefix_items head.prefix.now ++ (start_items head.start ++ z)) r) same answers;
 }
 
--- names after no prefix and no start
-pub bare_names : (w : Style) (names : List Item) (none : List ℕ) (c : ℕ) → none ≡ [] → c ≡ main_separator w → none ++ after_bytes c Nothing false names ≡ joined_names (main_separator w) names
-bare_names w names none c e f = ap (λ z. z ++ after_bytes c Nothing false names) e ∙ ap (λ z. joined_names z names) f
+-- components below a prefix and a root are written with separators between them alone
+pub below_top : (vs us : List Item) → ¬ (BeginsAtTop us) → ¬ (BeginsAtTop (up_from vs ++ us))
+below_top [] us n h = n h
+below_top (v ∷ vs) us n h = h
+
+pub bare_names : (c : ℕ) (names : List Item) → ¬ (BeginsAtTop names) → (written c names ≡ joined_names c names) × (written_apart c names ≡ joined_names c names)
+bare_names c [] n = (refl, refl)
+bare_names c (Prefix s ∷ xs) n = absurd (n tt)
+bare_names c (RootDir ∷ xs) n = absurd (n tt)
+bare_names c (CurDir ∷ xs) n = (refl, refl)
+bare_names c (ParentDir ∷ xs) n = (refl, refl)
+bare_names c (Normal s ∷ xs) n = (refl, refl)
+
+share_none : (w : whose.Style) (names : List Item) → ¬ (BeginsAtTop names) → ¬ (NamesAShare w names)
+share_none style.Unix names n h = h
+share_none style.Windows [] n h = h
+share_none style.Windows (Prefix s ∷ xs) n h = n tt
+share_none style.Windows (RootDir ∷ xs) n h = h
+share_none style.Windows (CurDir ∷ xs) n h = h
+share_none style.Windows (ParentDir ∷ xs) n h = h
+share_none style.Windows (Normal s ∷ xs) n h = h
+
+after_dot : (c : ℕ) (names : List Item) → after_bytes c Dot false names ≡ written c (CurDir ∷ names)
+after_dot c [] = refl
+after_dot c (x ∷ xs) = refl
+
+module _ (w : whose.Style) (names : List Item) (none path : List ℕ) (c : ℕ) (e : none ≡ []) (f : c ≡ main_separator w) where
+  same_bytes : (st : Start) → path ≡ none ++ after_bytes c st false names → path ≡ after_bytes (main_separator w) st false names
+  same_bytes st k = k ∙ ap (λ z. z ++ after_bytes c st false names) e ∙ ap (λ z. after_bytes z st false names) f
+
+  pub names_alone : ¬ (BeginsAtTop names) → ¬ (BeginsAsPrefix w names) → path ≡ none ++ after_bytes c Nothing false names → AreWritten w names path
+  names_alone n b k = (names, (inr (b, refl), inr (share_none w names n, same_bytes Nothing k ∙ sym (bare_names (main_separator w) names n).0)))
+
+  pub names_dotted : BeginsAsPrefix w names → path ≡ none ++ after_bytes c Dot false names → AreWritten w names path
+  names_dotted b k = (CurDir ∷ names, (inl (b, refl), inr (share_none w (CurDir ∷ names) (λ h. h), same_bytes Dot k ∙ after_dot (main_separator w) names)))
 
 -- what is left of lists whose first components aren't alike
 pub unlike_heads : {X Y : Type 0} (f : X → Item) (g : Y → Item) (xs : List X) (ys : List Y) (d : X) (e : Y) → 1 ≤ length xs → 1 ≤ length ys → ¬ (AreAlike (f (get_or xs 0 d)) (g (get_or ys 0 e))) → AreApart (map f xs) (map g ys) (map f xs) (map g ys)
