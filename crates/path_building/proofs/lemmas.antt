@@ -17,3 +17,4 @@ pub mod Places
 pub mod Restyles
 pub mod NameJoins
 pub mod Trailing
+pub mod MainSeparators

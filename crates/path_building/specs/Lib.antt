@@ -10,3 +10,4 @@ pub mod Checked
 pub mod Relative
 pub mod Restyled
 pub mod Trailing
+pub mod MainSeparators

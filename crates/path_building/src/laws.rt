@@ -1,6 +1,6 @@
 //! What holds of paths that are built, whatever a call answers. Each law is the contract of a
 //! function that does nothing.
-ghost use Rattle.std.specs.Prelude.{◌≡◌, ◌≢◌, ◌++◌, ◌∷◌, [], List, ℕ};
+ghost use Rattle.std.specs.Prelude.{◌≡◌, ◌≢◌, ◌++◌, ◌∷◌, [], List, ℕ, Some};
 ghost use Rattle.path_rules.specs.declared.rules.Style as whose;
 ghost use Rattle.path_rules.specs.Component.{Item, Normal};
 ghost use Rattle.path_rules.specs.Components.{AreComponents, AreUnixComponents, IsRelative};
@@ -16,6 +16,10 @@ ghost use Rattle.path_rules.specs.Strip.{IsStripped};
 ghost use Rattle.path_rules.specs.StyleRules.{rules_of_style};
 ghost use Rattle.path_rules.specs.Trailing.{EndsWithSeparator};
 ghost use Rattle.path_building.specs.Trailing.{IsWithTrailingSep};
+ghost use Rattle.path_rules.specs.Root.{IsAbsolute};
+ghost use Rattle.path_building.specs.Written.{IsPathOf};
+ghost use Rattle.path_building.specs.Relative.{IsRelativeFrom};
+ghost use Rattle.path_building.specs.MainSeparators.{HasMainSeparators};
 
 /// A Unix path and a relative one, joined by a separator, have the components of both.
 pub fn unix_join()
@@ -131,4 +135,18 @@ pub fn parent_joined()
         → ¬ (IsVerbatimPath style parent) → IsRelativeTo style name
         → IsJoin style parent name joined → HaveTheSamePrefix style parent joined
         → (items : List Item) → AreComponents style path items → AreComponents style joined items }
+{}
+
+/// In a path that is written anew the main separator alone separates, but in its prefix: a Windows
+/// path has no other `/`, unless its prefix begins with `\\?\`, after which `/` is a part of a name.
+/// So are what [`crate::normalize`], [`crate::clean`] and [`crate::join_checked`] answer, what
+/// [`crate::with_style`] answers for another style, and the way to a path that isn't verbatim
+/// ([`crate::relative_from`]), unless the path is absolute and the base isn't: then the path is
+/// itself the way.
+pub fn main_separators()
+    ensures written { (style : whose.Style) → (items : List Item) → (path : List ℕ)
+        → IsPathOf style items path → HasMainSeparators style path }
+    ensures way { (style : whose.Style) → (path : List ℕ) → (base : List ℕ) → (way : List ℕ)
+        → IsRelativeFrom style path base (Some way) → ¬ (IsVerbatimPath style path)
+        → (IsAbsolute style path → IsAbsolute style base) → HasMainSeparators style way }
 {}

@@ -3,8 +3,9 @@
 //! [`join`] and [`push`] write a path after another, [`join_checked`] one below a base, or it says
 //! what is wrong; [`with_file_name`] and [`with_extension`] change a last name, and
 //! [`set_file_name`] and [`set_extension`] do so in place; [`with_trailing_sep`] writes a separator
-//! at the end of a path, [`relative_from`] how a path is reached from a base, [`with_style`] a path in the other style, [`normalize`] and [`clean`] its
-//! normal form and its clean form. What a path says is in `path_rules`.
+//! at the end of a path, [`relative_from`] how a path is reached from a base, [`with_style`] a path
+//! in the other style, [`normalize`] and [`clean`] its normal form and its clean form. What a path
+//! says is in `path_rules`.
 //!
 //! Paths are bytes here too, in no encoding. `..` is resolved by [`normalize`], [`clean`] and
 //! [`join_checked`] alone, and where a path is joined to one that begins with `\\?\`. Each call

@@ -13,3 +13,4 @@ pub mod LeftParts
 pub mod OtherStyle
 pub mod Stripped
 pub mod Ways
+pub mod MainSeparators

@@ -14,7 +14,7 @@ use platform_str::{Path, PathBuf};
 use std::alloc::Allocator;
 
 /// A path in a form.
-fn in_form<'a, E: PathStyle + 'a, A: Allocator + Copy>(
+pub(crate) fn in_form<'a, E: PathStyle + 'a, A: Allocator + Copy>(
     alloc: A,
     form: Form,
     path: Path<'a, E>,

@@ -1,17 +1,21 @@
 //! The bytes of paths that are built: the main separator alone is written.
-ghost use Rattle.std.specs.Prelude.{◌≡◌, ◌∷◌, [], codes, IfOk};
+ghost use Rattle.std.specs.Prelude.{◌≡◌, ◌≢◌, ◌∷◌, [], codes, IfOk, IfSome};
 ghost use Rattle.platform_str.specs.Strings.{path_bytes, path_vec_of};
 ghost use Rattle.path_rules.specs.Component.{Normal};
 ghost use Rattle.path_rules.specs.declared.rules.Style.TheVariants as style;
+ghost use Rattle.path_rules.specs.Root.{IsAbsolute};
 ghost use Rattle.path_building.specs.Checked.{AreCheckedNames};
+ghost use Rattle.path_building.specs.Join.{IsVerbatimPath};
+ghost use Rattle.path_building.specs.MainSeparators.{HasMainSeparators};
+ghost use Rattle.test_path_uses.specs.Slashes.{HasNoSlash};
 
 use crate::form::Form;
-use crate::normal_forms::formed;
-use os_path::{ConvertError, JoinError, NormalizeError, PathExt};
+use crate::normal_forms::{formed, in_form};
+use os_path::{ConvertError, JoinError, NormalizeError, PathExt, PathStyle};
 use path_building::laws as building;
 use path_rules::laws;
 use platform_str::{Path, PathBuf, Unix, Windows};
-use std::alloc::Allocator;
+use std::alloc::{AllocError, Allocator};
 
 /// `C:/a/../b` in each form is `C:\b`.
 pub fn form_of_slashes<A: Allocator + Copy>(
@@ -51,4 +55,66 @@ pub fn slashes_on_windows<A: Allocator + Copy>(
 {
     laws::one_list();
     path.with_style::<Windows, A>(alloc)
+}
+
+/// A path in a form: the main separator alone separates in it, but in its prefix.
+pub fn separators_of_form<'a, E: PathStyle + 'a, A: Allocator + Copy>(
+    alloc: A,
+    form: Form,
+    path: Path<'a, E>,
+) -> Result<PathBuf<E, A>, NormalizeError>
+    ensures { IfOk result (λ made. HasMainSeparators E.follows (path_vec_of made).items) }
+{
+    building::main_separators();
+    in_form(alloc, form, path)
+}
+
+/// A Windows path in a form has no `/` after its prefix, unless that begins with `\\?\`.
+pub fn form_without_slash<A: Allocator + Copy>(
+    alloc: A,
+    form: Form,
+    path: Path<'_, Windows>,
+) -> Result<PathBuf<Windows, A>, NormalizeError>
+    ensures { IfOk result (λ made. HasNoSlash (path_vec_of made).items) }
+{
+    separators_of_form(alloc, form, path)
+}
+
+/// The same of a path below a base.
+pub fn separators_below<'a, E: PathStyle + 'a, A: Allocator + Copy>(
+    alloc: A,
+    base: Path<'a, E>,
+    path: Path<'a, E>,
+) -> Result<PathBuf<E, A>, JoinError>
+    ensures { IfOk result (λ joined. HasMainSeparators E.follows (path_vec_of joined).items) }
+{
+    building::main_separators();
+    base.join_checked(alloc, path)
+}
+
+/// The same of a path of another style.
+pub fn separators_on<'a, E: PathStyle + 'a, F: PathStyle, A: Allocator + Copy>(
+    alloc: A,
+    path: Path<'a, E>,
+) -> Result<PathBuf<F, A>, ConvertError>
+    ensures { IfOk result (λ made. E.follows ≢ F.follows
+        → HasMainSeparators F.follows (path_vec_of made).items) }
+{
+    building::main_separators();
+    path.with_style::<F, A>(alloc)
+}
+
+/// The same of the way to a path that isn't verbatim, unless the path is absolute and the base isn't.
+pub fn separators_of_way<'a, E: PathStyle + 'a, A: Allocator + Copy>(
+    alloc: A,
+    path: Path<'a, E>,
+    base: Path<'a, E>,
+) -> Result<Option<PathBuf<E, A>>, AllocError>
+    ensures { IfOk result (λ way. ¬ (IsVerbatimPath E.follows (path_bytes path.entry))
+        → (IsAbsolute E.follows (path_bytes path.entry)
+        → IsAbsolute E.follows (path_bytes base.entry))
+        → IfSome way (λ way. HasMainSeparators E.follows (path_vec_of way).items)) }
+{
+    building::main_separators();
+    path.relative_from(alloc, base)
 }
