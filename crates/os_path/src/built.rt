@@ -16,7 +16,8 @@ pub(crate) fn join<E: PathStyle, A: Allocator + Clone>(
     base: OsStr<'_, E>,
     path: OsStr<'_, E>,
 ) -> Result<PathBuf<E, A>, AllocError>
-    ensures { IfOk result (λ joined. IsJoin E.follows (bytes base.entry) (bytes path.entry) (path_vec_of joined).items) }
+    ensures { IfOk result (λ joined. IsJoin E.follows (bytes base.entry) (bytes path.entry)
+        (path_vec_of joined).items) }
 {
     let joined = path_building::join(
         alloc,
@@ -32,7 +33,8 @@ pub(crate) fn with_trailing_sep<E: PathStyle, A: Allocator + Clone>(
     alloc: A,
     path: OsStr<'_, E>,
 ) -> Result<PathBuf<E, A>, AllocError>
-    ensures { IfOk result (λ ended. IsWithTrailingSep E.follows (bytes path.entry) (path_vec_of ended).items) }
+    ensures { IfOk result
+        (λ ended. IsWithTrailingSep E.follows (bytes path.entry) (path_vec_of ended).items) }
 {
     let ended = path_building::with_trailing_sep(alloc, E::style(), path.as_encoded_bytes())?;
     Ok(PathBuf::from(OsString::from_encoded_bytes_unchecked(ended)))
@@ -44,7 +46,8 @@ pub(crate) fn with_file_name<E: PathStyle, A: Allocator + Clone>(
     path: OsStr<'_, E>,
     name: OsStr<'_, E>,
 ) -> Result<PathBuf<E, A>, AllocError>
-    ensures { IfOk result (λ named. IsNamed E.follows (bytes path.entry) (bytes name.entry) (path_vec_of named).items) }
+    ensures { IfOk result (λ named. IsNamed E.follows (bytes path.entry) (bytes name.entry)
+        (path_vec_of named).items) }
 {
     let named = path_building::with_file_name(
         alloc,
@@ -63,7 +66,8 @@ pub(crate) fn with_extension<E: PathStyle, A: Allocator>(
 ) -> Result<PathBuf<E, A>, AllocError>
     requires { IsExtensionText E.follows (bytes extension) }
     ensures { IfOk result (λ made. (is_set : Bool)
-        × IsExtensionSet E.follows (bytes path.entry) (bytes extension.entry) (path_vec_of made).items is_set) }
+        × IsExtensionSet E.follows (bytes path.entry) (bytes extension.entry)
+        (path_vec_of made).items is_set) }
 {
     let made = path_building::with_extension(
         alloc,
@@ -82,7 +86,8 @@ pub(crate) fn with_added_extension<E: PathStyle, A: Allocator>(
 ) -> Result<PathBuf<E, A>, AllocError>
     requires { IsExtensionText E.follows (bytes extension) }
     ensures { IfOk result (λ made. (is_added : Bool)
-        × IsExtensionAdded E.follows (bytes path.entry) (bytes extension.entry) (path_vec_of made).items is_added) }
+        × IsExtensionAdded E.follows (bytes path.entry) (bytes extension.entry)
+        (path_vec_of made).items is_added) }
 {
     let made = path_building::with_added_extension(
         alloc,

@@ -15,7 +15,8 @@ pub(crate) fn pushed<E: PathStyle, A: Allocator + Clone>(
     path: PathBuf<E, A>,
     more: Path<'_, E>,
 ) -> (PathBuf<E, A>, Result<(), AllocError>)
-    ensures ok { OnOk result.1 (IsJoin E.follows (path_vec_of path).items (path_bytes more.entry) (path_vec_of result.0).items) }
+    ensures ok { OnOk result.1 (IsJoin E.follows (path_vec_of path).items (path_bytes more.entry)
+        (path_vec_of result.0).items) }
     ensures err { OnErr result.1 ((path_vec_of result.0).items ≡ (path_vec_of path).items) }
 {
     let mut vec = path.into_os_string().into_encoded_bytes();
@@ -31,8 +32,10 @@ pub(crate) fn popped<E: PathStyle, A: Allocator>(
     path: PathBuf<E, A>,
     _nothing: (),
 ) -> (PathBuf<E, A>, bool)
-    ensures some { IsTrue result.1 → IsParent E.follows (path_vec_of path).items (path_vec_of result.0).items }
-    ensures none { result.1 ≡ false → HasNoParent E.follows (path_vec_of path).items × ((path_vec_of result.0).items ≡ (path_vec_of path).items) }
+    ensures some { IsTrue result.1
+        → IsParent E.follows (path_vec_of path).items (path_vec_of result.0).items }
+    ensures none { result.1 ≡ false → HasNoParent E.follows (path_vec_of path).items
+        × ((path_vec_of result.0).items ≡ (path_vec_of path).items) }
 {
     let mut vec = path.into_os_string().into_encoded_bytes();
     let Some(parent) = path_rules::parent(E::style(), vec.as_slice()) else {
@@ -54,7 +57,8 @@ pub(crate) fn named<E: PathStyle, A: Allocator + Clone>(
     path: PathBuf<E, A>,
     name: OsStr<'_, E>,
 ) -> (PathBuf<E, A>, Result<(), AllocError>)
-    ensures ok { OnOk result.1 (IsNamed E.follows (path_vec_of path).items (bytes name.entry) (path_vec_of result.0).items) }
+    ensures ok { OnOk result.1 (IsNamed E.follows (path_vec_of path).items (bytes name.entry)
+        (path_vec_of result.0).items) }
     ensures err { OnErr result.1 ((path_vec_of result.0).items ≡ (path_vec_of path).items) }
 {
     let mut vec = path.into_os_string().into_encoded_bytes();
@@ -71,7 +75,8 @@ pub(crate) fn with_extension_set<E: PathStyle, A: Allocator>(
     extension: OsStr<'_, E>,
 ) -> (PathBuf<E, A>, Result<bool, AllocError>)
     requires { IsExtensionText E.follows (bytes extension) }
-    ensures ok { IfOk result.1 (λ is_set. IsExtensionSet E.follows (path_vec_of path).items (bytes extension.entry) (path_vec_of result.0).items is_set) }
+    ensures ok { IfOk result.1 (λ is_set. IsExtensionSet E.follows (path_vec_of path).items
+        (bytes extension.entry) (path_vec_of result.0).items is_set) }
     ensures err { OnErr result.1 ((path_vec_of result.0).items ≡ (path_vec_of path).items) }
 {
     let mut vec = path.into_os_string().into_encoded_bytes();
@@ -88,7 +93,8 @@ pub(crate) fn with_extension_added<E: PathStyle, A: Allocator>(
     extension: OsStr<'_, E>,
 ) -> (PathBuf<E, A>, Result<bool, AllocError>)
     requires { IsExtensionText E.follows (bytes extension) }
-    ensures ok { IfOk result.1 (λ is_added. IsExtensionAdded E.follows (path_vec_of path).items (bytes extension.entry) (path_vec_of result.0).items is_added) }
+    ensures ok { IfOk result.1 (λ is_added. IsExtensionAdded E.follows (path_vec_of path).items
+        (bytes extension.entry) (path_vec_of result.0).items is_added) }
     ensures err { OnErr result.1 ((path_vec_of result.0).items ≡ (path_vec_of path).items) }
 {
     let mut vec = path.into_os_string().into_encoded_bytes();

@@ -267,7 +267,8 @@ pub trait PathExt<'a>: Sized + Copy {
     /// assert!(rt; !path.starts_with(Path::new(OsStr::new("/us"))));
     /// ```
     final fn starts_with(self, base: Path<'_, Self::Platform>) -> bool
-        ensures { IsTrue result ↔ StartsWith Self.Platform.follows (bytes_of self) (path_bytes base.entry) }
+        ensures { IsTrue result
+            ↔ StartsWith Self.Platform.follows (bytes_of self) (path_bytes base.entry) }
     {
         path_rules::starts_with(
             Self::Platform::style(),
@@ -287,7 +288,8 @@ pub trait PathExt<'a>: Sized + Copy {
     /// assert!(rt; !path.ends_with(Path::new(OsStr::new("/lib"))));
     /// ```
     final fn ends_with(self, child: Path<'_, Self::Platform>) -> bool
-        ensures { IsTrue result ↔ EndsWith Self.Platform.follows (bytes_of self) (path_bytes child.entry) }
+        ensures { IsTrue result
+            ↔ EndsWith Self.Platform.follows (bytes_of self) (path_bytes child.entry) }
     {
         path_rules::ends_with(
             Self::Platform::style(),
@@ -336,7 +338,8 @@ pub trait PathExt<'a>: Sized + Copy {
     /// assert!(rt; Path::<Unix>::new(OsStr::new("a/")).has_trailing_sep());
     /// ```
     final fn has_trailing_sep(self) -> bool
-        ensures { IsTrue result ↔ EndsWithSeparator (rules_of_style Self.Platform.follows) (bytes_of self) }
+        ensures { IsTrue result
+            ↔ EndsWithSeparator (rules_of_style Self.Platform.follows) (bytes_of self) }
     {
         path_rules::has_trailing_sep(Self::Platform::style(), self.path_bytes())
     }
@@ -510,7 +513,8 @@ pub trait PathExt<'a>: Sized + Copy {
         alloc: A,
         path: Path<'_, Self::Platform>,
     ) -> Result<PathBuf<Self::Platform, A>, AllocError>
-        ensures { IfOk result (λ joined. IsJoin Self.Platform.follows (bytes_of self) (path_bytes path.entry) (path_vec_of joined).items) }
+        ensures { IfOk result (λ joined. IsJoin Self.Platform.follows (bytes_of self)
+            (path_bytes path.entry) (path_vec_of joined).items) }
     {
         let base = OsStr::from_encoded_bytes_unchecked(self.path_bytes());
         built::join(alloc, base, path.as_os_str())
@@ -652,7 +656,8 @@ pub trait PathExt<'a>: Sized + Copy {
         alloc: A,
         name: OsStr<'_, Self::Platform>,
     ) -> Result<PathBuf<Self::Platform, A>, AllocError>
-        ensures { IfOk result (λ named. IsNamed Self.Platform.follows (bytes_of self) (bytes name.entry) (path_vec_of named).items) }
+        ensures { IfOk result (λ named. IsNamed Self.Platform.follows (bytes_of self)
+            (bytes name.entry) (path_vec_of named).items) }
     {
         let path = OsStr::from_encoded_bytes_unchecked(self.path_bytes());
         built::with_file_name(alloc, path, name)
@@ -684,7 +689,8 @@ pub trait PathExt<'a>: Sized + Copy {
     ) -> Result<PathBuf<Self::Platform, A>, AllocError>
         requires { IsExtensionText Self.Platform.follows (bytes extension) }
         ensures { IfOk result (λ made. (is_set : Bool)
-            × IsExtensionSet Self.Platform.follows (bytes_of self) (bytes extension.entry) (path_vec_of made).items is_set) }
+            × IsExtensionSet Self.Platform.follows (bytes_of self) (bytes extension.entry)
+            (path_vec_of made).items is_set) }
     {
         let path = OsStr::from_encoded_bytes_unchecked(self.path_bytes());
         built::with_extension(alloc, path, extension)
@@ -715,7 +721,8 @@ pub trait PathExt<'a>: Sized + Copy {
     ) -> Result<PathBuf<Self::Platform, A>, AllocError>
         requires { IsExtensionText Self.Platform.follows (bytes extension) }
         ensures { IfOk result (λ made. (is_added : Bool)
-            × IsExtensionAdded Self.Platform.follows (bytes_of self) (bytes extension.entry) (path_vec_of made).items is_added) }
+            × IsExtensionAdded Self.Platform.follows (bytes_of self) (bytes extension.entry)
+            (path_vec_of made).items is_added) }
     {
         let path = OsStr::from_encoded_bytes_unchecked(self.path_bytes());
         built::with_added_extension(alloc, path, extension)

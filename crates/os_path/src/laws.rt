@@ -40,5 +40,6 @@ pub fn comparisons<'a, E: Platform>(a: &ByComponents<'a, E>, b: &ByComponents<'a
         ≡ keys_cmp (path_keys a.now) (path_keys b.now) }
     ensures partial_order { ⟦<ByComponents<'a, E> as PartialOrd>⟧.partial_cmp a.now b.now
         ≡ Some (keys_cmp (path_keys a.now) (path_keys b.now)) }
-    ensures hash { ⟦<ByComponents<'a, E> as Hash>⟧.hash_input a.now ≡ keys_writes (path_keys a.now) }
+    ensures hash { ⟦<ByComponents<'a, E> as Hash>⟧.hash_input a.now
+        ≡ keys_writes (path_keys a.now) }
 {}

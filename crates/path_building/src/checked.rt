@@ -100,8 +100,10 @@ fn checked_names<'a, A: Allocator>(
     style: Style,
     path: &'a [u8],
 ) -> Result<Vec<Component<&'a [u8]>, A>, JoinError>
-    ensures ok { IfOk result (λ names. AreCheckedNames style path.entry.now (map item_of names.items)) }
-    ensures spelled { IfOk result (λ names. AreSpelled (rules_of_style style) (map item_of names.items)) }
+    ensures ok { IfOk result
+        (λ names. AreCheckedNames style path.entry.now (map item_of names.items)) }
+    ensures spelled { IfOk result
+        (λ names. AreSpelled (rules_of_style style) (map item_of names.items)) }
     ensures streams { IfOk result (λ names. NameNoStream style (map item_of names.items)) }
     ensures err { IfErr result (λ error. IsNameFault style path.entry.now error) }
 {
@@ -126,8 +128,10 @@ fn checked_names<'a, A: Allocator>(
 
 /// Whether names may follow a path: none may follow a prefix alone after which only `\` separates.
 fn may_follow(head: Head<'_>, names: &[Component<&[u8]>]) -> bool
-    ensures yes { IsTrue result → head.entry.rules ≡ rule.Verbatim → head.entry.start ≡ Nothing → map item_of names.now ≡ [] }
-    ensures no { result ≡ false → (head.entry.rules ≡ rule.Verbatim) × ((head.entry.start ≡ Nothing) × (map item_of names.now ≢ [])) }
+    ensures yes { IsTrue result → head.entry.rules ≡ rule.Verbatim → head.entry.start ≡ Nothing
+        → map item_of names.now ≡ [] }
+    ensures no { result ≡ false → (head.entry.rules ≡ rule.Verbatim)
+        × ((head.entry.start ≡ Nothing) × (map item_of names.now ≢ [])) }
 {
     if names.is_empty() {
         return true;
@@ -143,7 +147,8 @@ pub(crate) fn add_names<'a, A: Allocator>(
     names: &mut Vec<Component<&'a [u8]>, A>,
     more: &[Component<&'a [u8]>],
 ) -> Result<(), AllocError>
-    ensures { OnOk result (map item_of names.new.items ≡ map item_of names.old.items ++ map item_of more.now) }
+    ensures { OnOk result
+        (map item_of names.new.items ≡ map item_of names.old.items ++ map item_of more.now) }
 {
     for name in more {
         names.push(*name)?;

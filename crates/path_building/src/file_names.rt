@@ -89,7 +89,8 @@ pub fn with_extension<A: Allocator>(
     extension: &[u8],
 ) -> Result<Vec<u8, A>, AllocError>
     requires { IsExtensionText style extension.now }
-    ensures { IfOk result (λ made. (is_set : Bool) × IsExtensionSet style path.now extension.now made.items is_set) }
+    ensures { IfOk result (λ made. (is_set : Bool)
+        × IsExtensionSet style path.now extension.now made.items is_set) }
 {
     let Some((end, name)) = last_name(style, path) else {
         return Vec::from_slice(alloc, path);
@@ -126,7 +127,8 @@ pub fn set_extension<A: Allocator>(
     extension: &[u8],
 ) -> Result<bool, AllocError>
     requires { IsExtensionText style extension.now }
-    ensures ok { IfOk result (λ is_set. IsExtensionSet style path.old.items extension.now path.new.items is_set) }
+    ensures ok { IfOk result
+        (λ is_set. IsExtensionSet style path.old.items extension.now path.new.items is_set) }
     ensures err { OnErr result (path.new.items ≡ path.old.items) }
 {
     let Some((end, name)) = last_name(style, path.as_slice()) else {
@@ -162,7 +164,8 @@ pub fn with_added_extension<A: Allocator>(
     extension: &[u8],
 ) -> Result<Vec<u8, A>, AllocError>
     requires { IsExtensionText style extension.now }
-    ensures { IfOk result (λ made. (is_added : Bool) × IsExtensionAdded style path.now extension.now made.items is_added) }
+    ensures { IfOk result (λ made. (is_added : Bool)
+        × IsExtensionAdded style path.now extension.now made.items is_added) }
 {
     let Some((end, _)) = last_name(style, path) else {
         return Vec::from_slice(alloc, path);
@@ -197,7 +200,8 @@ pub fn add_extension<A: Allocator>(
     extension: &[u8],
 ) -> Result<bool, AllocError>
     requires { IsExtensionText style extension.now }
-    ensures ok { IfOk result (λ is_added. IsExtensionAdded style path.old.items extension.now path.new.items is_added) }
+    ensures ok { IfOk result
+        (λ is_added. IsExtensionAdded style path.old.items extension.now path.new.items is_added) }
     ensures err { OnErr result (path.new.items ≡ path.old.items) }
 {
     let Some((end, _)) = last_name(style, path.as_slice()) else {
@@ -213,7 +217,8 @@ pub fn add_extension<A: Allocator>(
 /// What a last name is put after: the parent of a path that ends in a name, else the path.
 fn name_base(style: Style, path: &[u8]) -> &[u8]
     ensures base { IsNameBase style path.now result.now }
-    ensures prefix { (length result.now ≤ length path.now) × (take (length result.now) path.now ≡ result.now) }
+    ensures prefix { (length result.now ≤ length path.now)
+        × (take (length result.now) path.now ≡ result.now) }
 {
     let Some(last) = Components::new(style, path).next_back() else {
         return path;

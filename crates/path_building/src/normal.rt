@@ -331,7 +331,8 @@ fn clean_start(style: Style, head: Head<'_>, names: &[Component<&[u8]>]) -> Star
 
 /// With what a clean path without a prefix and a root starts.
 fn bare_start(style: Style, names: &[Component<&[u8]>]) -> Start
-    ensures shield { IsShielded style (or_dot (map item_of names.now)) (start_items result ++ map item_of names.now) }
+    ensures shield { IsShielded style (or_dot (map item_of names.now))
+        (start_items result ++ map item_of names.now) }
     ensures free { result ≡ Nothing → ¬ (BeginsAsPrefix style (map item_of names.now)) }
 {
     if names.is_empty() {

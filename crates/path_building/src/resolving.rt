@@ -25,7 +25,8 @@ pub(crate) fn add_all<'a, A: Allocator>(
     items: &mut Vec<Component<&'a [u8]>, A>,
     left: Components<'a>,
 ) -> Result<(), AllocError>
-    ensures { OnOk result (map item_of items.new.items ≡ map item_of items.old.items ++ left.entry.items) }
+    ensures { OnOk result
+        (map item_of items.new.items ≡ map item_of items.old.items ++ left.entry.items) }
 {
     for item in left {
         items.push(item)?;
@@ -38,7 +39,8 @@ fn resolve_all<'a, A: Allocator>(
     items: &mut Vec<Component<&'a [u8]>, A>,
     left: Components<'a>,
 ) -> Result<(), AllocError>
-    ensures { OnOk result (map item_of items.new.items ≡ with_items (map item_of items.old.items) left.entry.items) }
+    ensures { OnOk result (map item_of items.new.items
+        ≡ with_items (map item_of items.old.items) left.entry.items) }
 {
     for item in left {
         resolve_one(items, item)?;
@@ -51,7 +53,8 @@ fn resolve_one<'a, A: Allocator>(
     items: &mut Vec<Component<&'a [u8]>, A>,
     item: Component<&'a [u8]>,
 ) -> Result<(), AllocError>
-    ensures { OnOk result (map item_of items.new.items ≡ with_item (map item_of items.old.items) (item_of item.entry)) }
+    ensures { OnOk result (map item_of items.new.items
+        ≡ with_item (map item_of items.old.items) (item_of item.entry)) }
 {
     match item {
         Component::CurDir => Ok(()),
