@@ -1,5 +1,7 @@
+pub mod CharacterForms
 pub mod Fish
 pub mod FishOneReading
+pub mod Lists
 pub mod PowerShell
 pub mod ShellBare
 pub mod ShellDollar
@@ -14,11 +16,11 @@ pub mod ShellOnLine
 pub mod ShellOwnText
 pub mod ShellParts
 pub mod ShellRoundTrip
-pub mod ShellQuoted
 pub mod ShellScan
 pub mod ShellWritten
 pub mod WindowsBatch
 pub mod WindowsOneReading
+pub mod WindowsOwnText
 pub mod WindowsEachLine
 pub mod WindowsLifted
 pub mod WindowsStrings
@@ -28,7 +30,6 @@ pub mod WindowsRuns
 pub mod WindowsMeaning
 pub mod WindowsAtQuote
 pub mod WindowsPieces
-pub mod WindowsLastPiece
 pub mod WindowsChecks
 pub mod WindowsCuts
 pub mod WindowsWriting

@@ -1,5 +1,5 @@
 -- How a Windows program reads its command line (Microsoft, "Parsing C command-line arguments", as the C runtime of 2015 and later does). Lists are of 16-bit units.
-use Rattle.std.specs.Prelude.{◌≡◌, ◌≢◌, ◌⊎◌, ℕ, ◌+◌, ◌*◌, Bool, true, false, not, List, [], ◌∷◌, ◌++◌, replicate}
+use Rattle.std.specs.Prelude.{◌≡◌, ◌≢◌, ◌⊎◌, ℕ, ◌+◌, ◌*◌, nat_eq, Bool, true, false, not, ◌||◌, List, [], ◌∷◌, ◌++◌, replicate}
 use Rattle.std.specs.List.{AllByRecursion}
 
 -- `\` and `"`
@@ -12,6 +12,9 @@ quote = 0x22
 -- a space or a tab
 abbrev pub IsBlank : ℕ → Type 0
 IsBlank u = (u ≡ 0x20) ⊎ (u ≡ 0x09)
+
+abbrev pub is_blank : ℕ → Bool
+is_blank u = nat_eq u 0x20 || nat_eq u 0x09
 
 -- n backslashes
 abbrev pub backslashes : ℕ → List ℕ

@@ -1,9 +1,9 @@
 -- The steps of a reader of command lines. Only views and private contracts name these; `Reads`, `ReadsName` and `AreArguments` say how a line is read.
-use Rattle.std.specs.Prelude.{ℕ, ◌+◌, ◌/◌, ◌%◌, Bool, true, false, not, nat_eq, ◌&&◌, ◌||◌, if◌then◌else◌, List, [], ◌∷◌, ◌++◌}
+use Rattle.std.specs.Prelude.{ℕ, ◌+◌, ◌/◌, ◌%◌, Bool, true, false, not, nat_eq, ◌&&◌, if◌then◌else◌, List, [], ◌∷◌, ◌++◌}
 use Rattle.os_command_line.specs.declared.windows.argument.Kind.{Kind}
 use Rattle.os_command_line.specs.declared.windows.argument.Kind.TheVariants.{Marked, Bare}
 use Rattle.os_command_line.specs.declared.windows.place.Place.{Place}
-use Rattle.os_command_line.specs.Windows.{backslash, quote, backslashes}
+use Rattle.os_command_line.specs.Windows.{backslash, quote, backslashes, is_blank}
 
 -- in a program's name or in an argument, right after a quotation mark that closes a part or not, inside quotation marks or not, and after how many backslashes
 pub record Index : Type 0 where
@@ -11,9 +11,6 @@ pub record Index : Type 0 where
   pub closing : Bool
   pub inside : Bool
   pub run : ℕ
-
-abbrev pub is_blank : ℕ → Bool
-is_blank u = nat_eq u 0x20 || nat_eq u 0x09
 
 abbrev pub index : Bool → Bool → Bool → ℕ → Index
 index name closing inside run = record { in_name = name; closing = closing; inside = inside; run = run }

@@ -1,9 +1,10 @@
 -- Command lines written (std's `append_arg` and `make_command_line`), and what can't be.
-use Rattle.std.specs.Prelude.{◌≡◌, ◌≢◌, ◌⊎◌, ℕ, Bool, false, List, [], ◌∷◌, ◌++◌, length}
+use Rattle.std.specs.Prelude.{◌≡◌, ◌≢◌, ◌⊎◌, ℕ, nat_eq, Bool, true, false, ◌||◌, ◌&&◌, if◌then◌else◌, List, [], ◌∷◌, ◌++◌, length, map}
 use Rattle.std.specs.List.{AllByRecursion}
 use Rattle.os_command_line.specs.declared.windows.error.CommandLineError.{CommandLineError}
 use Rattle.os_command_line.specs.declared.windows.error.CommandLineError.TheVariants as error
-use Rattle.os_command_line.specs.Windows.{quote, backslashes, Begins, Reads}
+use Rattle.os_command_line.specs.ShellWriting.{after_first}
+use Rattle.os_command_line.specs.Windows.{backslash, quote, backslashes, is_blank, IsBlank, Begins}
 
 -- the unit isn't there
 abbrev pub HasNo : ℕ → List ℕ → Type 0
@@ -46,24 +47,51 @@ IsCommandLineFault name arguments fault = IsNameFault name fault ⊎ ((HasNo 0 n
 abbrev pub IsWritableName : List ℕ → Type 0
 IsWritableName name = HasNo 0 name × HasNo quote name
 
--- `prefix`, whose last `run` units are backslashes, is the start of an argument that begins with `taken`, and what comes after it is inside quotation marks or not
-abbrev pub Writes : Bool → List ℕ → ℕ → List ℕ → Type 0
-Writes inside prefix run taken =
-    (tail more after : List ℕ) → Reads after inside (backslashes run ++ tail) (backslashes run ++ more) → Reads after false (prefix ++ tail) (taken ++ more)
+-- from here on there are backslashes, or none, and then a quotation mark: one of the argument's, or the one that closes its text
+abbrev pub leads_to_mark : Bool → List ℕ → Bool
+leads_to_mark closed [] = closed
+leads_to_mark closed (u ∷ us) = nat_eq u quote || (nat_eq u backslash && leads_to_mark closed us)
 
--- with these units the unit is taken too
-abbrev pub Extends : Bool → ℕ → ℕ → List ℕ → ℕ → Type 0
-Extends inside run unit added next = (prefix taken : List ℕ) → Writes inside prefix run taken → Writes inside (prefix ++ added) next (taken ++ unit ∷ [])
+-- the units, with one backslash more before each quotation mark and before each backslash that leads to one
+abbrev pub escaped : Bool → List ℕ → List ℕ
+escaped closed [] = []
+escaped closed (u ∷ us) = if leads_to_mark closed (u ∷ us) then backslash ∷ u ∷ escaped closed us else u ∷ escaped closed us
+
+-- an argument in quotation marks
+abbrev pub in_marks : List ℕ → List ℕ
+in_marks argument = quote ∷ (escaped true argument ++ quote ∷ [])
+
+abbrev pub has_blank : List ℕ → Bool
+has_blank [] = false
+has_blank (u ∷ us) = is_blank u || has_blank us
+
+-- whether an argument is written in quotation marks: it is empty or has a blank
+abbrev pub needs_marks : List ℕ → Bool
+needs_marks [] = true
+needs_marks (u ∷ us) = has_blank (u ∷ us)
+
+-- the text of an argument
+abbrev pub argument_text : List ℕ → List ℕ
+argument_text argument = if needs_marks argument then in_marks argument else escaped false argument
+
+-- the command line of a program's name and arguments: the name in quotation marks, and the text of each argument after a space
+abbrev pub line_text : List ℕ → List (List ℕ) → List ℕ
+line_text name arguments = (quote ∷ (name ++ quote ∷ [])) ++ after_first (map argument_text arguments)
+
+-- what is still to be written from these units on, where `run` backslashes come before them and are written once
+abbrev pub unwritten : Bool → ℕ → List ℕ → List ℕ
+unwritten inside run us = (if leads_to_mark inside us then backslashes run else []) ++ escaped inside us
 
 -- what is added for a unit
 pub record IsAddedFor (inside : Bool) (run unit : ℕ) (added : List ℕ) (next : ℕ) : Type 0 where
-  pub extends : Extends inside run unit added next
-  pub begins : inside ≡ false → Begins added
+  pub spelled : (rest : List ℕ) → unwritten inside run (unit ∷ rest) ≡ added ++ unwritten inside next rest
+  pub no_blank : inside ≡ false → ¬ (IsBlank unit)
   pub plain : unit ≢ quote → added ≡ unit ∷ []
 
--- these units mean those, whatever was written before them
-abbrev pub IsPart : Bool → List ℕ → ℕ → List ℕ → Type 0
-IsPart inside prefix run taken = (start meant : List ℕ) → Writes inside start 0 meant → Writes inside (start ++ prefix) run (meant ++ taken)
+-- `prefix`, whose last `run` units are backslashes, is written of these units, whatever comes after them
+pub record IsPart (inside : Bool) (prefix : List ℕ) (run : ℕ) (taken : List ℕ) : Type 0 where
+  pub spelled : (rest : List ℕ) → escaped inside (taken ++ rest) ≡ prefix ++ unwritten inside run rest
+  pub no_blank : inside ≡ false → AllByRecursion (λ u. ¬ (IsBlank u)) taken
 
 -- units were written that mean those
 pub record IsWritten (inside : Bool) (old new : List ℕ) (run : ℕ) (taken : List ℕ) : Type 0 where

@@ -1,16 +1,15 @@
 -- Names in single quotation marks are read by PowerShell as these names.
-use Rattle.std.proofs.Common.{◌≡◌, ◌≢◌, ℕ, zero, suc, ◌+◌, ◌*◌, ◌<◌, ◌≤◌, Bool, true, false, if◌then◌else◌, List, [], ◌∷◌, ◌++◌, length, take, drop, get_or, refl, sym, ap, ◌∙◌, subst, arith, append_assoc, length-append}
+use Rattle.std.proofs.Common.{◌≡◌, ◌≢◌, ℕ, ◌*◌, ◌<◌, ◌≤◌, Bool, true, false, if◌then◌else◌, Option, None, Some, MatchOption, List, [], ◌∷◌, ◌++◌, length, refl, sym, ap, ◌∙◌, subst, arith, append_assoc, length-append}
 use Rattle.std.specs.List.{AllByRecursion, flat_map}
 use Rattle.std.specs.Char.{encode_utf8}
 use Rattle.std.specs.Str.{IsUtf8, chars}
-use Rattle.std.proofs.lemmas.Bool.{eq-eqb, eqb-true}
-use Rattle.std.proofs.lemmas.List.{drop_more, length-take-le, take-append-drop, take_all}
 use Rattle.wtf8_core.specs.Truncated.{IsTruncated}
-use Rattle.memchr.specs.Find.{NoneBefore, Nowhere, Passes, is_byte}
+use Rattle.memchr.specs.Find.{IsFirstByte, is_byte}
 use Rattle.std.proofs.lemmas.Grind.{flat_map-append}
 use Rattle.std.proofs.lemmas.Str.{chars_past_char, chars-nil, encode_ascii, length-encode, len_utf8_bounds}
 use Rattle.os_command_line.specs.PowerShell.{HasNulAt, is_single_quote, StartsWithNoQuote, ReadsString, IsStringOf, IsPowerShellText, powershell_character, powershell_string}
 use Rattle.os_command_line.specs.PowerShell.ReadsString.{closes, doubled, itself}
+use Rattle.os_command_line.proofs.lemmas.ShellForms.{nul_found}
 
 -- the characters that are written for one
 abbrev twice : ℕ → List ℕ
@@ -53,26 +52,9 @@ is_powershell_text cs = record {
 
 -- ---- the first NUL
 
-no_nul : (x : ℕ) → ¬ (is_byte 0 x ≡ true) → x ≢ 0
-no_nul x n e = n (eq-eqb x 0 e)
-
-none_from : (t : List ℕ) (n : ℕ) → ((k : ℕ) → k < n → ¬ (is_byte 0 (get_or t k 0) ≡ true)) → AllByRecursion (λ b. b ≢ 0) (take n t)
-none_from [] zero h = tt
-none_from (x ∷ t) (suc n) h = (no_nul x (h 0 (omega arith)), none_from t n (λ k lt. h (suc k) (omega arith)))
-none_from t n h = tt
-
-pub nul_at : (t : List ℕ) (i : ℕ) → NoneBefore (Passes (is_byte 0) t) 0 (length t) i × Passes (is_byte 0) t i → HasNulAt t i
-nul_at t i h =
-    let e : get_or t i 0 ≡ 0 = eqb-true _ _ h.1 in record {
-      before = take i t;
-      after = drop (i + 1) t;
-      joined = sym (take-append-drop i t) ∙ ap (λ x. take i t ++ x) (drop_more t i 0 h.0.high ∙ ap (λ x. x ∷ drop (i + 1) t) e);
-      none_before = none_from t i (λ k lt. h.0.before k (omega arith) lt);
-      index_is = sym (length-take-le i t (omega (arith, h.0.high)));
-    }
-
-pub has_no_nul : (t : List ℕ) → Nowhere (Passes (is_byte 0) t) 0 (length t) → AllByRecursion (λ b. b ≢ 0) t
-has_no_nul t h = subst (AllByRecursion (λ b. b ≢ 0)) (take_all (length t) t (omega arith)) (none_from t (length t) (λ k lt. h k (omega arith) lt))
+pub nul_in : (name : List ℕ) (found : Option ℕ) → IsFirstByte (is_byte 0) name found → MatchOption found (AllByRecursion (λ b. b ≢ 0) name) (λ index. HasNulAt name index)
+nul_in name None h = nul_found name None h
+nul_in name (Some i) h = let f = nul_found name (Some i) h in record { before = f.before; after = f.after; joined = f.joined; none_before = f.none_before; index_is = f.index_is }
 
 -- ---- character by character
 

@@ -1,10 +1,8 @@
--- Words each byte of which means itself, and names that need no quotes.
-use Rattle.std.proofs.Common.{◌≡◌, ◌≢◌, ℕ, zero, suc, ◌<◌, ◌≤◌, Bool, true, false, not, ◌||◌, ◌&&◌, eqb, leb, List, [], ◌∷◌, ◌++◌, length, refl, sym, ap, ◌∙◌, subst, arith, append_assoc, Option, MatchOption, inl, inr}
+-- Words each byte of which means itself or that are one text in single quotes, and names that need no quotes.
+use Rattle.std.proofs.Common.{◌≡◌, ◌≢◌, ℕ, zero, ◌<◌, ◌≤◌, Bool, true, false, not, ◌||◌, ◌&&◌, eqb, leb, List, [], ◌∷◌, ◌++◌, length, refl, sym, ap, ◌∙◌, subst, arith, append_assoc, append-nil, Option, MatchOption, inl, inr}
 use Rattle.std.specs.Int.{is_in_range}
 use Rattle.std.specs.List.{AllByRecursion}
-use Rattle.std.specs.Str.{IsAscii, IsUtf8}
 use Rattle.std.proofs.lemmas.Bool.{cases_Bool, true≢false, and_parts, eqb-true, leb-true}
-use Rattle.std.proofs.lemmas.Str.{IsUtf8-from_ascii, chars-IsAscii}
 use Rattle.wtf8_core.proofs.lemmas.vectors.ComputedTests.{all_below, each_below}
 use Rattle.os_quote.specs.Shown.{stays_on_line}
 use Rattle.os_command_line.specs.declared.shell.form.Form.{Form}
@@ -12,15 +10,16 @@ use Rattle.os_command_line.specs.declared.shell.form.Form.TheVariants as form
 use Rattle.os_command_line.specs.declared.shell.language.Language.{Language}
 use Rattle.os_command_line.specs.declared.shell.step.State.{State}
 use Rattle.os_command_line.specs.declared.shell.step.State.TheVariants.{Start}
-use Rattle.os_command_line.specs.Shell.{dollar, is_mark, is_blank, is_special, IsBare, Ends, Reads}
+use Rattle.os_command_line.specs.Shell.{dollar, single_quote, is_mark, is_blank, is_special, IsBare, Ends, Reads}
 use Rattle.os_command_line.specs.Shell.Outcome.{Word}
-use Rattle.os_command_line.specs.Shell.Reads.{ends, bare}
+use Rattle.os_command_line.specs.Shell.Reads.{ends, bare, single}
 use Rattle.os_command_line.specs.ShellReader.{is_itself, raw_bytes, bytes_left, meant, outcome}
-use Rattle.os_command_line.specs.ShellSteps.{AreItself, BeginsBare, is_bare_form, IsFormOf, IsLineFormOf, IsPlainIfBare}
+use Rattle.os_command_line.specs.ShellSteps.{AreItself, BeginsBare, BeginsQuoted, is_bare_form, IsFormOf, IsLineFormOf, IsPlainIfBare}
 use Rattle.os_command_line.specs.ShellWriting.{is_plain, are_plain, is_plain_name, HasNoNul, IsLineText}
-use Rattle.os_command_line.proofs.lemmas.ShellMeaning.{meant_short}
-use Rattle.os_command_line.proofs.lemmas.ShellOneReading.{complete, or_false, or_true}
-use Rattle.os_command_line.proofs.lemmas.ShellRoundTrip.{no_dollar, none_of}
+use Rattle.os_command_line.proofs.lemmas.ShellMeaning.{meant_is, meant_short}
+use Rattle.os_command_line.proofs.lemmas.ShellOneReading.{complete, and_none, or_false, or_true}
+use Rattle.os_command_line.proofs.lemmas.ShellOnLine.{IsShown, ascii}
+use Rattle.os_command_line.proofs.lemmas.ShellRoundTrip.{no_dollar}
 
 -- ---- words
 
@@ -35,7 +34,7 @@ is_bare l first b text h =
     let other = not-false _ h in
     let x = or_false (is_mark b) (is_blank b || is_special first b) other in
     let y = or_false (is_blank b) (is_special first b) x.1 in
-    record { no_mark = x.0; no_blank = y.0; no_dollar = no_dollar l b text (special_dollar first b y.1); no_special = none_of l.refuses_specials (is_special first b) y.1 }
+    record { no_mark = x.0; no_blank = y.0; no_dollar = no_dollar l b text (special_dollar first b y.1); no_special = and_none l.refuses_specials (is_special first b) y.1 }
   where
     not-false : (x : Bool) → not x ≡ true → x ≡ false
     not-false true e = cc
@@ -47,6 +46,16 @@ bare_text l first (b ∷ raw) rest h e = bare first b (raw ++ rest) (Word raw re
 
 pub bare_outcome : (l : Language) (text rest : List ℕ) (b : BeginsBare text rest) → outcome l text ≡ Word b.raw rest
 bare_outcome l text rest b = ap (outcome l) b.joined ∙ complete l true (b.raw ++ rest) (Word b.raw rest) [] (bare_text l true b.raw rest b.are_itself b.ends)
+
+module _ (l : Language) (text quoted rest : List ℕ) (b : BeginsQuoted text quoted rest) where
+  pub quoted_outcome : Ends rest → outcome l text ≡ Word quoted rest
+  quoted_outcome e =
+      ap (outcome l) b.joined
+      ∙ complete l true (single_quote ∷ (quoted ++ single_quote ∷ rest)) (Word (quoted ++ []) rest) [] (single true quoted rest (Word [] rest) b.none (ends false rest e))
+      ∙ ap (λ z. Word z rest) (append-nil quoted)
+
+  pub quoted_meant : rest ≡ [] → meant l Start zero text ≡ quoted
+  quoted_meant e = meant_is l Start [] zero text quoted (subst (λ r. outcome l text ≡ Word quoted r) e (quoted_outcome (subst Ends (sym e) tt)))
 
 pub one_itself : (text rest : List ℕ) (b : ℕ) (after : List ℕ) → (raw : List ℕ) × AreItself false raw × (text ≡ raw ++ rest) → rest ≡ b ∷ after → is_itself false b ≡ true → (raw : List ℕ) × AreItself false raw × (text ≡ raw ++ after)
 one_itself text rest b after so_far e h = (so_far.0 ++ b ∷ [], more so_far.0 so_far.1, so_far.2 ∙ ap (λ z. so_far.0 ++ z) e ∙ sym (append_assoc so_far.0 (b ∷ []) after))
@@ -77,16 +86,17 @@ module _ (l : Language) (bare : Bool) (s next : State) (text rest : List ℕ) (b
 plain_no_nul : (b : ℕ) → is_plain b ≡ true → b ≢ 0
 plain_no_nul b h e = true≢false (sym (subst (λ x. is_plain x ≡ true) e h))
 
-are_no_nul : (name : List ℕ) → are_plain name ≡ true → HasNoNul name
-are_no_nul [] h = tt
-are_no_nul (b ∷ name) h = let p = and_parts (is_plain b) (are_plain name) h in (plain_no_nul b p.0, are_no_nul name p.1)
+-- what holds of each byte that needs no quotes holds of each of a name's
+each_plain : (P : ℕ → Type 0) → ((b : ℕ) → is_plain b ≡ true → P b) → (name : List ℕ) → are_plain name ≡ true → AllByRecursion P name
+each_plain P f [] h = tt
+each_plain P f (b ∷ name) h = let p = and_parts (is_plain b) (are_plain name) h in (f b p.0, each_plain P f name p.1)
 
 are_all : (name : List ℕ) → is_plain_name name ≡ true → are_plain name ≡ true
 are_all [] h = refl
 are_all (b ∷ name) h = h
 
 pub plain_has_no_nul : (name : List ℕ) → is_plain_name name ≡ true → HasNoNul name
-plain_has_no_nul name h = are_no_nul name (are_all name h)
+plain_has_no_nul name h = each_plain (λ b. b ≢ 0) plain_no_nul name (are_all name h)
 
 plain_low : (b : ℕ) → is_plain b ≡ true → b < 0x80
 plain_low b h = elim (or_true (is_in_range 0x2B 0x3A b) (is_in_range 0x40 0x5A b || (eqb b 0x5F || is_in_range 0x61 0x7A b)) h) [
@@ -103,14 +113,6 @@ plain_low b h = elim (or_true (is_in_range 0x2B 0x3A b) (is_in_range 0x40 0x5A b
     at_most : (low high : ℕ) → high < 0x80 → is_in_range low high b ≡ true → b < 0x80
     at_most low high lt e = omega (arith, lt, leb-true b high (and_parts (leb low b) (leb b high) e).1)
 
-are_low : (name : List ℕ) → are_plain name ≡ true → IsAscii name
-are_low [] h i = omega arith
-are_low (b ∷ name) h zero = plain_low b (and_parts (is_plain b) (are_plain name) h).0
-are_low (b ∷ name) h (suc i) = are_low name (and_parts (is_plain b) (are_plain name) h).1 i
-
-pub plain_is_utf8 : (name : List ℕ) → is_plain_name name ≡ true → IsUtf8 name
-plain_is_utf8 name h = IsUtf8-from_ascii name (are_low name (are_all name h))
-
 abbrev stays_if_plain : ℕ → Bool
 stays_if_plain b = not (is_plain b && not (stays_on_line b))
 
@@ -123,12 +125,8 @@ plain_stays b h = elim (cases_Bool (stays_on_line b)) [
   | inr e ↦ absurd (true≢false (sym (each_below stays_if_plain 0x80 b all_stay (plain_low b h)) ∙ rw (h, e) refl))
 ]
 
-are_staying : (name : List ℕ) → are_plain name ≡ true → AllByRecursion (λ c. stays_on_line c ≡ true) name
-are_staying [] h = tt
-are_staying (b ∷ name) h = let p = and_parts (is_plain b) (are_plain name) h in (plain_stays b p.0, are_staying name p.1)
-
 pub plain_is_line_text : (name : List ℕ) → is_plain_name name ≡ true → IsLineText name
-plain_is_line_text name h = (plain_is_utf8 name h, subst (AllByRecursion (λ c. stays_on_line c ≡ true)) (sym (chars-IsAscii name (are_low name (are_all name h)))) (are_staying name (are_all name h)))
+plain_is_line_text name h = ascii name (each_plain IsShown (λ b p. (plain_low b p, plain_stays b p)) name (are_all name h))
 
 pub plain_if_bare : (name : List ℕ) (f : Form) → IsPlainIfBare name f → is_bare_form f ≡ true → is_plain_name name ≡ true
 plain_if_bare name form.Bare h e = h
@@ -139,13 +137,3 @@ pub bare_line_form : (name : List ℕ) (f : Form) → IsFormOf name f → is_bar
 bare_line_form name form.Bare h e = (plain_is_line_text name h, h)
 bare_line_form name form.Single h e = absurd (true≢false (sym e))
 bare_line_form name form.Dollar h e = absurd h
-
-pub plain_of_form : (name : List ℕ) (f : Form) → IsFormOf name f → IsPlainIfBare name f
-plain_of_form name form.Bare h = h
-plain_of_form name form.Single h = tt
-plain_of_form name form.Dollar h = absurd h
-
-pub plain_of_line_form : (name : List ℕ) (f : Form) → IsLineFormOf name f → IsPlainIfBare name f
-plain_of_line_form name form.Bare h = h.1
-plain_of_line_form name form.Single h = tt
-plain_of_line_form name form.Dollar h = tt

@@ -3,12 +3,11 @@ use Rattle.std.proofs.Common.{◌≡◌, ◌≢◌, ℕ, ◌+◌, ◌/◌, ◌%�
 use Rattle.std.specs.Char.{encode_utf8}
 use Rattle.std.specs.List.{All, AllByRecursion, flat_map}
 use Rattle.std.specs.Str.{chars}
-use Rattle.std.proofs.lemmas.Bool.{cases_Bool, cases_lt, eqb-true, ne_eqb, and_parts, lt-ltb}
+use Rattle.std.proofs.lemmas.Bool.{cases_Bool, eqb-true, ne_eqb, and_parts, lt-ltb}
 use Rattle.std.proofs.lemmas.List.Elements.{recursion_from_All}
 use Rattle.std.proofs.lemmas.Str.{encode_ascii}
 use Rattle.wtf8_core.specs.Byte.{IsByte}
 use Rattle.wtf8_core.specs.Chunks.{Chunk, joined}
-use Rattle.wtf8_core.proofs.lemmas.forms.ByStd.{form_encode}
 use Rattle.wtf8_core.proofs.lemmas.vectors.ComputedTests.{all_below, each_below}
 use Rattle.platform_str.specs.PlatformWords.{itself}
 use Rattle.platform_str.specs.platforms.Unix.{unix_laws, unix_parts}
@@ -27,8 +26,9 @@ use Rattle.os_command_line.specs.ShellWriting.{HasNoNul, letter_for, octal_text,
 use Rattle.os_command_line.proofs.lemmas.ShellOneReading.{or_true}
 use Rattle.os_command_line.proofs.lemmas.ShellEachLine.{same}
 use Rattle.os_command_line.proofs.lemmas.ShellRoundTrip.{begins_with}
-use Rattle.os_command_line.proofs.lemmas.WindowsLifted.{AreWide}
-use Rattle.os_command_line.proofs.lemmas.WindowsStrings.{bytes_form}
+use Rattle.os_command_line.proofs.lemmas.CharacterForms.{text_form, each_of}
+use Rattle.os_command_line.proofs.lemmas.Lists.{both_parts}
+use Rattle.os_command_line.proofs.lemmas.ShellWritten.{by_letter}
 
 -- a byte of a name: no NUL
 abbrev IsNameByte : ℕ → Type 0
@@ -80,26 +80,12 @@ itself_leads (b ∷ bytes) h text word r = plain b (bytes ++ text) (bytes ++ wor
 past_itself : (b : ℕ) → 0x80 ≤ b → IsItself b
 past_itself b h = (ne_eqb b 0x27 (λ e. omega (arith, e, h)), ne_eqb b 0x5C (λ e. omega (arith, e, h)))
 
-all_past : (bytes : List ℕ) → AllByRecursion (λ y. 0x80 ≤ y) bytes → AllByRecursion IsItself bytes
-all_past [] h = tt
-all_past (b ∷ bytes) h = (past_itself b h.0, all_past bytes h.1)
-
-wide_itself : (bytes : List ℕ) → AreWide bytes → AllByRecursion IsItself bytes
-wide_itself [] h = absurd h
-wide_itself (b ∷ bytes) h = (past_itself b h.0, all_past bytes h.1)
-
-own_bytes : (c : ℕ) → IsItself c → AllByRecursion IsItself (encode_utf8 c)
-own_bytes c h = elim (cases_lt c 0x80) [
-  | inl lt ↦ subst (AllByRecursion IsItself) (sym (encode_ascii c lt)) (h, tt)
-  | inr ge ↦ wide_itself (encode_utf8 c) (subst AreWide (form_encode c) (bytes_form.wide c ge))
-]
-
 letter_leads : (letter c : ℕ) → c < 0x80 → escape_meaning (letter ∷ []) ≡ Some c → Leads (backslash ∷ letter ∷ []) (encode_utf8 c)
 letter_leads letter c lt m text word r = subst (λ z. Dollared (backslash ∷ letter ∷ text) (z ++ word)) (sym (encode_ascii c lt)) (escape_of (letter ∷ []) c text word m r)
 
 shown_leads : (c : ℕ) → IsItself c → AllByRecursion IsNameByte (encode_utf8 c) → Leads (shown_or_octal c) (encode_utf8 c)
 shown_leads c i h = elim (cases_Bool (stays_on_line c)) [
-  | inl e ↦ subst (λ z. Leads z (encode_utf8 c)) (sym (as_it_is e)) (itself_leads (encode_utf8 c) (own_bytes c i))
+  | inl e ↦ subst (λ z. Leads z (encode_utf8 c)) (sym (as_it_is e)) (itself_leads (encode_utf8 c) (each_of IsItself past_itself encode_utf8 text_form c i))
   | inr e ↦ subst (λ z. Leads z (encode_utf8 c)) (sym (by_bytes e)) (octals_lead (encode_utf8 c) h)
 ]
   where
@@ -109,29 +95,8 @@ shown_leads c i h = elim (cases_Bool (stays_on_line c)) [
     by_bytes : stays_on_line c ≡ false → shown_or_octal c ≡ flat_map octal_text (encode_utf8 c)
     by_bytes e = rw e refl
 
-abbrev CharacterLeads : ℕ → Type 0
-CharacterLeads c = Leads (character_text c (letter_for c)) (encode_utf8 c)
-
-character_leads : (c : ℕ) → AllByRecursion IsNameByte (encode_utf8 c) → CharacterLeads c
-character_leads c h = elim (cases_Bool (eqb c 0x27)) [
-  | inl e ↦ subst CharacterLeads (sym (eqb-true c 0x27 e)) (letter_leads 0x27 0x27 (omega arith) refl)
-  | inr e ↦ elim (cases_Bool (eqb c 0x5C)) [
-    | inl f ↦ subst CharacterLeads (sym (eqb-true c 0x5C f)) (letter_leads 0x5C 0x5C (omega arith) refl)
-    | inr f ↦ elim (cases_Bool (eqb c 0x0A)) [
-      | inl g ↦ subst CharacterLeads (sym (eqb-true c 0x0A g)) (letter_leads 0x6E 0x0A (omega arith) refl)
-      | inr g ↦ elim (cases_Bool (eqb c 0x09)) [
-        | inl i ↦ subst CharacterLeads (sym (eqb-true c 0x09 i)) (letter_leads 0x74 0x09 (omega arith) refl)
-        | inr i ↦ elim (cases_Bool (eqb c 0x0D)) [
-          | inl j ↦ subst CharacterLeads (sym (eqb-true c 0x0D j)) (letter_leads 0x72 0x0D (omega arith) refl)
-          | inr j ↦ subst (λ z. Leads z (encode_utf8 c)) (sym (no_letter e f g i j)) (shown_leads c (e, f) h)
-        ]
-      ]
-    ]
-  ]
-]
-  where
-    no_letter : eqb c 0x27 ≡ false → eqb c 0x5C ≡ false → eqb c 0x0A ≡ false → eqb c 0x09 ≡ false → eqb c 0x0D ≡ false → character_text c (letter_for c) ≡ shown_or_octal c
-    no_letter e f g i j = rw (e, f, g, i, j) refl
+character_leads : (c : ℕ) → AllByRecursion IsNameByte (encode_utf8 c) → Leads (character_text c (letter_for c)) (encode_utf8 c)
+character_leads c h = by_letter (λ x text. Leads text (encode_utf8 x)) c (λ letter x lt m _. letter_leads letter x lt m) (λ q s. shown_leads c (q, s) h)
 
 -- ---- symbols
 
@@ -146,10 +111,6 @@ symbol_leads (symbol.Unit u) lt h =
     let one : symbol_bytes (symbol.Unit u) ≡ n ∷ [] = rw (lt-ltb n 0x100 lt) refl in
     let byte : IsNameByte n = (subst (AllByRecursion IsNameByte) one h).0 in
     λ text word r. subst (λ z. Dollared (octal_text n ++ text) (z ++ word)) (sym one) (escape_of ((0x30 + n / 64 % 8) ∷ (0x30 + n / 8 % 8) ∷ (0x30 + n % 8) ∷ []) n text word (octal_means n byte) r)
-
-both_parts : (P : ℕ → Type 0) (xs ys : List ℕ) → AllByRecursion P (xs ++ ys) → AllByRecursion P xs × AllByRecursion P ys
-both_parts P [] ys h = (tt, h)
-both_parts P (x ∷ xs) ys h = let m = both_parts P xs ys h.1 in ((h.0, m.0), m.1)
 
 symbols_mean : (symbols : List Symbol) → AllByRecursion IsUnixSymbol symbols → AllByRecursion IsNameByte (flat_map symbol_bytes symbols) → Dollared (flat_map symbol_text symbols) (flat_map symbol_bytes symbols)
 symbols_mean [] u h = nothing

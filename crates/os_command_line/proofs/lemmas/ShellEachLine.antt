@@ -12,6 +12,7 @@ use Rattle.os_command_line.specs.Shell.Doubled.{none, plain, escape, joined, kep
 use Rattle.os_command_line.specs.Shell.Dollared.{nothing, itself, escape_of}
 use Rattle.os_command_line.specs.Shell.Reads.{ends, bare, escaped, continued, single, double, dollared, trailing, unclosed, undoubled, unescaped, undollared, unfinished, unknown, special, expands}
 use Rattle.os_command_line.specs.ShellReader.{outside_step, run, outcome}
+use Rattle.os_command_line.proofs.lemmas.Lists.{no_cons, one_more}
 use Rattle.os_command_line.proofs.lemmas.ShellOneReading.{outside, prepend_nothing, prepend_twice, of_blank, of_mark, no_text, go, refuse, pass, pass_all, ended, go_outside, refuse_outside, stop_outside, bare_go, special_refuse, itself_doubled, doubled_go, kept_go, escape_go, escape_meant, no_escape, single_closed, double_closed, dollar_closed, single_opened, double_opened, dollar_opened, escaped_at, joined_at}
 
 -- a reading of equal texts, with equal outcomes
@@ -90,10 +91,6 @@ at_outside l first from (b ∷ text) ih = elim (cases_Bool (is_mark b)) [
 
 -- ---- in quotes
 
-no_quote_more : (quoted : List ℕ) (b : ℕ) → HasNoQuote quoted → eqb b 0x27 ≡ false → HasNoQuote (quoted ++ b ∷ [])
-no_quote_more [] b h n = (n, tt)
-no_quote_more (x ∷ quoted) b h n = (h.0, no_quote_more quoted b h.1 n)
-
 at_in_single : (l : Language) (from text : List ℕ) → AllSound l (length text) → IsSound l Single from text
 at_in_single l from [] ih first quoted h e =
     let f : single_quote ∷ quoted ≡ from = ap (λ z. single_quote ∷ z) (sym (append-nil quoted)) ∙ sym e in
@@ -102,7 +99,7 @@ at_in_single l from (b ∷ text) ih first quoted h e = elim (cases_Bool (eqb b 0
   | inl q ↦ let f = eqb-true b 0x27 q in
       same (ap (λ x. single_quote ∷ (quoted ++ x ∷ text)) (sym f) ∙ sym e) (ap (prepend quoted) (sym (single_closed l from text) ∙ ap (λ x. run l Single from zero (x ∷ text)) (sym f)))
       (single first quoted text (run l Bare from zero text) h (ih Bare from text (omega arith)))
-  | inr q ↦ let more = ih Single from text (omega arith) first (quoted ++ b ∷ []) (no_quote_more quoted b h q) (e ∙ ap (λ z. single_quote ∷ z) (sym (append_assoc quoted (b ∷ []) text))) in
+  | inr q ↦ let more = ih Single from text (omega arith) first (quoted ++ b ∷ []) (one_more (λ x. eqb x single_quote ≡ false) quoted b h q) (e ∙ ap (λ z. single_quote ∷ z) (sym (append_assoc quoted (b ∷ []) text))) in
       same refl (sym (prepend_twice quoted (b ∷ []) (run l Single from zero text)) ∙ ap (prepend quoted) (sym (go l Single from b text (Some b) Single 0 (rw q refl)))) more
 ]
 
@@ -181,11 +178,8 @@ cases_option None = inr refl
 cases_option (Some b) = inl (b, refl)
 
 no_escape_of : (c : ℕ) (text : List ℕ) → letter_meaning c ≡ None → ((d e : ℕ) (after : List ℕ) → text ≡ d ∷ e ∷ after → octal_meaning c d e ≡ None) → BeginsNoEscape (c ∷ text)
-no_escape_of c text h three = record { some = λ e. no_cons e; none = none_of }
+no_escape_of c text h three = record { some = no_cons; none = none_of }
   where
-    no_cons : c ∷ text ≡ [] → ⊥
-    no_cons e = cc
-
     none_of : (letters after : List ℕ) → c ∷ text ≡ letters ++ after → escape_meaning letters ≡ None
     none_of [] after e = refl
     none_of (x ∷ []) after e = let f : c ≡ x = cc in subst (λ z. letter_meaning z ≡ None) f h

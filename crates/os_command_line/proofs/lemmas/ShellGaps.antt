@@ -4,7 +4,7 @@ use Rattle.std.proofs.lemmas.Bool.{eqb-true, cases_Bool, true≢false, and_parts
 use Rattle.os_command_line.specs.Shell.{backslash, newline, is_blank, IsGap, Begins}
 use Rattle.os_command_line.specs.Shell.IsGap.{no_gap, blank, line_joined}
 use Rattle.os_command_line.specs.ShellReader.{after_gap}
-use Rattle.os_command_line.proofs.lemmas.ShellOwnText.{no_cons}
+use Rattle.os_command_line.proofs.lemmas.Lists.{no_cons}
 
 pub gap_blank : (b : ℕ) (text : List ℕ) → is_blank b ≡ true → after_gap (b ∷ text) ≡ after_gap text
 unfolding after_gap

@@ -13,7 +13,7 @@ use Rattle.os_command_line.proofs.lemmas.ShellOneReading.{complete}
 use Rattle.os_command_line.proofs.lemmas.ShellEachLine.{same, some_reading}
 use Rattle.os_command_line.proofs.lemmas.ShellMeaning.{cut_word, fault_within}
 use Rattle.os_command_line.proofs.lemmas.ShellGaps.{IsAfterGap, after_gap_is, gap_passed, begun, only_gap}
-use Rattle.os_command_line.proofs.lemmas.ShellOwnText.{no_cons}
+use Rattle.os_command_line.proofs.lemmas.Lists.{no_cons}
 
 -- a word takes some of the text
 shorter : (l : Language) (text word after : List ℕ) → Begins text → outcome l text ≡ Word word after → length after < length text
@@ -119,17 +119,17 @@ are_items l line = sound_items l (length line) (length line) line (omega arith) 
 pub one_list : (l : Language) (line : List ℕ) (xs ys : List (Result (List ℕ) WordsFault)) → IsRead l line xs → IsRead l line ys → xs ≡ ys
 one_list l line xs ys p q = sym (complete_items l (length line) (length line) line xs (omega arith) p) ∙ complete_items l (length line) (length line) line ys (omega arith) q
 
+text_found : (l : Language) (line text : List ℕ) (o : Outcome) → text ≡ after_gap line → text ≢ [] → outcome l text ≡ o → found l (after_gap line) ≡ Some o
+text_found l line [] o t some e = absurd (some refl)
+text_found l line (c ∷ text) o t some e = ap (found l) (sym t) ∙ ap Some e
+
 -- the first item, and what is left
 pub first_word : (l : Language) (len : ℕ) (line text word rest : List ℕ) → length line ≤ len → text ≡ after_gap line → text ≢ [] → outcome l text ≡ Word word rest → (items_of l len line ≡ Ok word ∷ items_of l len rest) × (length rest ≤ length line)
 first_word l len line text word rest k t some o =
-    let e = text_found text some t o in
+    let e = text_found l line text (Word word rest) t some o in
     let short = next_shorter l line word rest (found_next l line (Word word rest) e) in
     (of_length (length line) refl e short, omega (arith, short))
   where
-    text_found : (text : List ℕ) → text ≢ [] → text ≡ after_gap line → outcome l text ≡ Word word rest → found l (after_gap line) ≡ Some (Word word rest)
-    text_found [] s t o = absurd (s refl)
-    text_found (c ∷ text) s t o = ap (found l) (sym t) ∙ ap Some o
-
     of_length : (n : ℕ) → length line ≡ n → found l (after_gap line) ≡ Some (Word word rest) → length rest < length line → items_within l len n line ≡ Ok word ∷ items_of l len rest
     of_length zero z e short = absurd (omega (arith, z, short))
     of_length (suc n) z e short = item_next l len n line (Word word rest) e ∙ ap (λ x. Ok word ∷ x) (enough l len n rest (omega (arith, z, short)) (omega (arith, k, short)))
@@ -137,14 +137,10 @@ first_word l len line text word rest k t some o =
 pub first_fault : (l : Language) (len : ℕ) (line text : List ℕ) (kind : FaultKind) (left : List ℕ) → length line ≤ len → text ≡ after_gap line → text ≢ [] → outcome l text ≡ Fault kind left
     → (items_of l len line ≡ Err (record { kind = kind; index = len - length left }) ∷ items_of l len []) × (length left ≤ length line)
 first_fault l len line text kind left k t some o =
-    let e = text_found text some t o in
+    let e = text_found l line text (Fault kind left) t some o in
     let n = found_next l line (Fault kind left) e in
     (of_length (length line) (line_some line n) e, next_within l line kind left n)
   where
-    text_found : (text : List ℕ) → text ≢ [] → text ≡ after_gap line → outcome l text ≡ Fault kind left → found l (after_gap line) ≡ Some (Fault kind left)
-    text_found [] s t o = absurd (s refl)
-    text_found (c ∷ text) s t o = ap (found l) (sym t) ∙ ap Some o
-
     line_some : (line : List ℕ) → IsNext l line (Fault kind left) → length line ≢ 0
     line_some line n z = n.begins.some (nil_from_length n.text (omega (arith, z, ap length n.parts, length-append n.gap n.text)))
 

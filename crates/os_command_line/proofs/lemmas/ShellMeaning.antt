@@ -11,9 +11,10 @@ use Rattle.os_command_line.specs.declared.shell.fault.FaultKind.{FaultKind}
 use Rattle.os_command_line.specs.Shell.{Outcome, prepend, Ends}
 use Rattle.os_command_line.specs.Shell.Outcome.{Word, Fault}
 use Rattle.os_command_line.specs.ShellReader.{at_end, opened, step, next_state, passed, after_step, with_step, run, meant, outcome}
-use Rattle.os_command_line.proofs.lemmas.ShellOneReading.{complete}
+use Rattle.os_command_line.proofs.lemmas.ShellOneReading.{complete, no_text, pass}
 use Rattle.os_command_line.proofs.lemmas.ShellEachLine.{some_reading}
-use Rattle.os_command_line.proofs.lemmas.ShellOwnText.{IsAlone, alone, no_cons}
+use Rattle.os_command_line.proofs.lemmas.Lists.{no_cons}
+use Rattle.os_command_line.proofs.lemmas.ShellOwnText.{IsAlone, alone}
 
 meant_none : (l : Language) (s : State) (k : ℕ) → meant l s k [] ≡ []
 unfolding meant
@@ -28,16 +29,7 @@ pub meant_step : (l : Language) (s : State) (b : ℕ) (text : List ℕ) → mean
 unfolding meant
 meant_step l s b text = refl
 
-run_none : (l : Language) (s : State) (from : List ℕ) (k : ℕ) → run l s from k [] ≡ at_end s from
-unfolding run
-run_none l s from zero = refl
-run_none l s from (suc k) = refl
-
-run_pass : (l : Language) (s : State) (from : List ℕ) (k b : ℕ) (text : List ℕ) → run l s from (suc k) (b ∷ text) ≡ run l s from k text
-unfolding run
-run_pass l s from k b text = refl
-
-pub run_step : (l : Language) (s : State) (from : List ℕ) (b : ℕ) (text : List ℕ)
+run_step : (l : Language) (s : State) (from : List ℕ) (b : ℕ) (text : List ℕ)
     → run l s from zero (b ∷ text) ≡ after_step (b ∷ text) (step l s b text) (run l (next_state s (step l s b text)) (opened s from (b ∷ text)) (passed (step l s b text)) text)
 unfolding run
 run_step l s from b text = refl
@@ -77,8 +69,8 @@ step_meant here more text (Go out next k) o h n word e =
     ap (λ z. option_to_list out ++ z) (h p.0 p.1) ∙ p.2
 
 pub meant_is : (l : Language) (s : State) (from : List ℕ) (k : ℕ) (text word : List ℕ) → run l s from k text ≡ Word word [] → meant l s k text ≡ word
-meant_is l s from k [] word e = meant_none l s k ∙ end_word s from word (sym (run_none l s from k) ∙ e)
-meant_is l s from (suc k) (b ∷ text) word e = meant_pass l s k b text ∙ meant_is l s from k text word (sym (run_pass l s from k b text) ∙ e)
+meant_is l s from k [] word e = meant_none l s k ∙ end_word s from word (sym (no_text l s from k) ∙ e)
+meant_is l s from (suc k) (b ∷ text) word e = meant_pass l s k b text ∙ meant_is l s from k text word (sym (pass l s from b text k) ∙ e)
 meant_is l s from zero (b ∷ text) word e =
     let z = step l s b text in
     meant_step l s b text ∙ step_meant (b ∷ text) _ text z _ (λ rest f. meant_is l (next_state s z) (opened s from (b ∷ text)) (passed z) text rest f) no_cons word (sym (run_step l s from b text) ∙ e)

@@ -3,13 +3,12 @@ use Rattle.std.proofs.Common.{◌≡◌, ℕ, zero, suc, ◌+◌, ◌*◌, ◌/�
 use Rattle.std.specs.Char.{IsScalar, encode_utf8}
 use Rattle.std.specs.List.{All, AllByRecursion, flat_map}
 use Rattle.std.specs.Str.{IsAscii, IsUtf8, is_utf8, all_scalars, chars, encode_utf8_all}
-use Rattle.std.proofs.lemmas.Bool.{and_parts, cases_Bool, cases_lt, eqb-true, ne_eqb, true≢false}
+use Rattle.std.proofs.lemmas.Bool.{and_parts, cases_Bool, eqb-true, ne_eqb, true≢false}
 use Rattle.std.proofs.lemmas.Grind.{flat_map-append}
 use Rattle.std.proofs.lemmas.List.Elements.{All-from_recursion, recursion_from_All}
 use Rattle.std.proofs.lemmas.Str.{IsUtf8-nil, IsUtf8-append, IsUtf8-encode, IsUtf8-from_ascii, IsUtf8-from_is_utf8, is_utf8-from_IsUtf8, chars-nil, chars-append, chars-IsAscii, chars_from_encodes, chars_past_char, encode_ascii}
 use Rattle.wtf8_core.specs.Byte.{IsByte}
 use Rattle.wtf8_core.specs.Chunks.{Chunk}
-use Rattle.wtf8_core.proofs.lemmas.forms.ByStd.{form_encode}
 use Rattle.wtf8_core.proofs.lemmas.vectors.ComputedTests.{all_below, each_below}
 use Rattle.platform_str.specs.PlatformWords.{itself}
 use Rattle.platform_str.specs.platforms.Unix.{unix_laws}
@@ -21,32 +20,28 @@ use Rattle.os_str_ext.specs.declared.symbols.Symbol.TheVariants as symbol
 use Rattle.os_str_ext.proofs.lemmas.EachChunk.{are_chunks_of}
 use Rattle.os_quote.specs.Shown.{stays_on_line}
 use Rattle.os_command_line.specs.declared.shell.language.Language.{Language}
-use Rattle.os_command_line.specs.Shell.{single_quote, backslash, dollar, HasNoQuote, IsTextOf, language}
-use Rattle.os_command_line.specs.ShellWriting.{AreBytes, HasNoNul, is_plain_name, single_byte, single_quoted, quoted_word, letter_for, octal_text, shown_or_octal, character_text, symbol_text, IsDollarWord, IsLineText, IsLineWord, IsTextWord}
+use Rattle.os_command_line.specs.Shell.{single_quote, backslash, dollar, IsTextOf, language}
+use Rattle.os_command_line.specs.ShellWriting.{AreBytes, HasNoNul, is_plain_name, single_byte, single_quoted, quoted_word, letter_for, octal_text, shown_or_octal, character_text, symbol_text, IsDollarWord, IsLineText, IsLineWord}
+use Rattle.os_command_line.proofs.lemmas.CharacterForms.{text_form, each_of}
+use Rattle.os_command_line.proofs.lemmas.Lists.{all_joined}
 use Rattle.os_command_line.proofs.lemmas.ShellDollar.{dollar_is}
 use Rattle.os_command_line.proofs.lemmas.ShellRoundTrip.{word_is_text, one_word}
-use Rattle.os_command_line.proofs.lemmas.ShellWritten.{single_plain, single_len, dollar_word_len}
-use Rattle.os_command_line.proofs.lemmas.WindowsLifted.{AreWide}
-use Rattle.os_command_line.proofs.lemmas.WindowsStrings.{bytes_form}
+use Rattle.os_command_line.proofs.lemmas.ShellWritten.{by_letter, single_plain, single_len, dollar_word_len}
 
 -- ---- texts on one line, one after the other
 
 abbrev IsStaying : ℕ → Type 0
 IsStaying c = stays_on_line c ≡ true
 
-all_joined : (xs ys : List ℕ) → AllByRecursion IsStaying xs → AllByRecursion IsStaying ys → AllByRecursion IsStaying (xs ++ ys)
-all_joined [] ys h k = k
-all_joined (x ∷ xs) ys h k = (h.0, all_joined xs ys h.1 k)
-
 both : (a b : List ℕ) → IsLineText a → IsLineText b → IsLineText (a ++ b)
-both a b p q = (IsUtf8-append a b p.0 q.0, subst (AllByRecursion IsStaying) (sym (chars-append a b p.0)) (all_joined (chars a) (chars b) p.1 q.1))
+both a b p q = (IsUtf8-append a b p.0 q.0, subst (AllByRecursion IsStaying) (sym (chars-append a b p.0)) (all_joined IsStaying (chars a) (chars b) p.1 q.1))
 
 no_text : IsLineText []
 no_text = (IsUtf8-nil, subst (AllByRecursion IsStaying) (sym chars-nil) tt)
 
 -- ---- ASCII
 
-abbrev IsShown : ℕ → Type 0
+abbrev pub IsShown : ℕ → Type 0
 IsShown b = (b < 0x80) × (stays_on_line b ≡ true)
 
 are_low : (bs : List ℕ) → AllByRecursion IsShown bs → IsAscii bs
@@ -58,7 +53,7 @@ are_staying : (bs : List ℕ) → AllByRecursion IsShown bs → AllByRecursion I
 are_staying [] h = tt
 are_staying (b ∷ bs) h = (h.0.1, are_staying bs h.1)
 
-ascii : (bs : List ℕ) → AllByRecursion IsShown bs → IsLineText bs
+pub ascii : (bs : List ℕ) → AllByRecursion IsShown bs → IsLineText bs
 ascii bs h = let low = are_low bs h in (IsUtf8-from_ascii bs low, subst (AllByRecursion IsStaying) (sym (chars-IsAscii bs low)) (are_staying bs h))
 
 digits_stay : all_below (λ k. stays_on_line (0x30 + k)) 8 ≡ true
@@ -88,23 +83,6 @@ one_character c s e =
     let one : chars (encode_utf8 c) ≡ c ∷ [] = chars_past_char (encode_utf8 c) [] c u (sym (append-nil (encode_utf8 c))) ∙ ap (λ z. c ∷ z) chars-nil in
     (u, subst (AllByRecursion IsStaying) (sym one) (e, tt))
 
-abbrev IsOther : ℕ → Type 0
-IsOther b = eqb b single_quote ≡ false
-
-all_past : (xs : List ℕ) → AllByRecursion (λ y. 0x80 ≤ y) xs → HasNoQuote xs
-all_past [] h = tt
-all_past (x ∷ xs) h = (ne_eqb x single_quote (λ e. omega (arith, e, h.0)), all_past xs h.1)
-
-wide_other : (xs : List ℕ) → AreWide xs → HasNoQuote xs
-wide_other [] h = absurd h
-wide_other (x ∷ xs) h = all_past (x ∷ xs) h
-
-no_quote : (c : ℕ) → IsOther c → HasNoQuote (encode_utf8 c)
-no_quote c h = elim (cases_lt c 0x80) [
-  | inl lt ↦ subst HasNoQuote (sym (encode_ascii c lt)) (h, tt)
-  | inr ge ↦ wide_other (encode_utf8 c) (subst AreWide (form_encode c) (bytes_form.wide c ge))
-]
-
 abbrev IsSingleOnLine : ℕ → Type 0
 IsSingleOnLine c = IsLineText (flat_map single_byte (encode_utf8 c))
 
@@ -114,7 +92,7 @@ single_mark = subst (λ z. IsLineText (flat_map single_byte z)) (sym (encode_asc
 single_character : (c : ℕ) → IsScalar c → stays_on_line c ≡ true → IsSingleOnLine c
 single_character c s e = elim (cases_Bool (eqb c single_quote)) [
   | inl q ↦ subst IsSingleOnLine (sym (eqb-true c single_quote q)) single_mark
-  | inr q ↦ subst IsLineText (sym (single_plain (encode_utf8 c) (no_quote c q))) (one_character c s e)
+  | inr q ↦ subst IsLineText (sym (single_plain (encode_utf8 c) (each_of (λ b. eqb b single_quote ≡ false) (λ b h. ne_eqb b single_quote (λ f. omega (arith, f, h))) encode_utf8 text_form c q))) (one_character c s e)
 ]
 
 single_characters : (cs : List ℕ) → all_scalars cs ≡ true → AllByRecursion IsStaying cs → IsLineText (flat_map single_byte (encode_utf8_all cs))
@@ -159,29 +137,8 @@ shown c s = elim (cases_Bool (stays_on_line c)) [
 letter_text : (letter : ℕ) → IsShown letter → IsLineText (backslash ∷ letter ∷ [])
 letter_text letter h = ascii (backslash ∷ letter ∷ []) (slash, (h, tt))
 
-abbrev IsCharacterOnLine : ℕ → Type 0
-IsCharacterOnLine c = IsLineText (character_text c (letter_for c))
-
-character : (c : ℕ) → IsScalar c → IsCharacterOnLine c
-character c s = elim (cases_Bool (eqb c 0x27)) [
-  | inl e ↦ subst IsCharacterOnLine (sym (eqb-true c 0x27 e)) (letter_text 0x27 (omega arith, refl))
-  | inr e ↦ elim (cases_Bool (eqb c 0x5C)) [
-    | inl f ↦ subst IsCharacterOnLine (sym (eqb-true c 0x5C f)) (letter_text 0x5C (omega arith, refl))
-    | inr f ↦ elim (cases_Bool (eqb c 0x0A)) [
-      | inl g ↦ subst IsCharacterOnLine (sym (eqb-true c 0x0A g)) (letter_text 0x6E (omega arith, refl))
-      | inr g ↦ elim (cases_Bool (eqb c 0x09)) [
-        | inl i ↦ subst IsCharacterOnLine (sym (eqb-true c 0x09 i)) (letter_text 0x74 (omega arith, refl))
-        | inr i ↦ elim (cases_Bool (eqb c 0x0D)) [
-          | inl j ↦ subst IsCharacterOnLine (sym (eqb-true c 0x0D j)) (letter_text 0x72 (omega arith, refl))
-          | inr j ↦ subst IsLineText (sym (no_letter e f g i j)) (shown c s)
-        ]
-      ]
-    ]
-  ]
-]
-  where
-    no_letter : eqb c 0x27 ≡ false → eqb c 0x5C ≡ false → eqb c 0x0A ≡ false → eqb c 0x09 ≡ false → eqb c 0x0D ≡ false → character_text c (letter_for c) ≡ shown_or_octal c
-    no_letter e f g i j = rw (e, f, g, i, j) refl
+character : (c : ℕ) → IsScalar c → IsLineText (character_text c (letter_for c))
+character c s = by_letter (λ x text. IsLineText text) c (λ letter x lt m h. letter_text letter h) (λ _ _. shown c s)
 
 abbrev IsScalarSymbol : Symbol → Type 0
 IsScalarSymbol (symbol.Character c) = IsScalar c
@@ -270,12 +227,6 @@ one_line_name text a b wa na wb nb x y = let l = language true true in one_word 
 
 pub word_reads : (l : Language) (name text : List ℕ) → All IsByte name → text ≡ quoted_word name → IsTextOf l text name
 word_reads l name text w e = subst (λ z. IsTextOf l z name) (sym e) (word_is_text l name (recursion_from_All IsByte name w))
-
-pub text_word_reads : (l : Language) (name text : List ℕ) → l.dollar_quotes ≡ true → All IsByte name → HasNoNul name → IsTextWord name text → IsTextOf l text name
-text_word_reads l name text d w n is = elim (cases_Bool (is_utf8 name)) [
-  | inl e ↦ word_reads l name text w (is.shown (IsUtf8-from_is_utf8 name e))
-  | inr e ↦ dollar_is l name text d w n (is.hidden (λ u. true≢false (sym (is_utf8-from_IsUtf8 name u) ∙ e)))
-]
 
 pub line_word_reads : (l : Language) (name text : List ℕ) → l.dollar_quotes ≡ true → All IsByte name → HasNoNul name → IsLineWord name text → IsTextOf l text name
 line_word_reads l name text d w n is = line_word_is l name text d (recursion_from_All IsByte name w) n is

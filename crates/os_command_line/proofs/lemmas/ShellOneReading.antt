@@ -163,7 +163,7 @@ no_escapable b h =
     let q = or_false (eqb b 0x22) (eqb b 0x5C) p.1 in
     (p.0, q.0, q.1)
 
-and_none : (a b : Bool) → b ≡ false → a && b ≡ false
+pub and_none : (a b : Bool) → b ≡ false → a && b ≡ false
 and_none true b e = e
 and_none false b e = refl
 

@@ -6,9 +6,6 @@ use Rattle.os_command_line.specs.Shell.Outcome.{Word, Fault}
 use Rattle.os_command_line.specs.Shell.Reads.{ends, bare, escaped, continued, single, double, dollared, trailing, unclosed, undoubled, unescaped, undollared, unfinished, unknown, special, expands}
 use Rattle.os_command_line.proofs.lemmas.ShellEachLine.{same}
 
-pub no_cons : {x : ℕ} {xs : List ℕ} → x ∷ xs ≡ [] → ⊥
-no_cons e = cc
-
 -- the text of a word is its own and what comes after it, before which it ends, and its own is read alone; that of a fault is what comes before the fault and the text from it on
 abbrev pub IsAlone : Language → Bool → List ℕ → Outcome → Type 0
 IsAlone l first text (Word word after) = (own : List ℕ) × (text ≡ own ++ after) × Reads l first own (Word word []) × Ends after
@@ -20,10 +17,10 @@ alone_more : (l : Language) (first next : Bool) (taken added text : List ℕ) (o
 alone_more l first next taken added text (Word word after) f a = (taken ++ a.0, ap (λ z. taken ++ z) a.1 ∙ sym (append_assoc taken a.0 after), f a.0 after word a.1 a.2, a.3)
 alone_more l first next taken added text (Fault kind left) f a = (taken ++ a.0, ap (λ z. taken ++ z) a.1 ∙ sym (append_assoc taken a.0 left))
 
-abbrev around : ℕ → List ℕ → ℕ → List ℕ
+abbrev pub around : ℕ → List ℕ → ℕ → List ℕ
 around a quoted b = a ∷ (quoted ++ b ∷ [])
 
-around_is : (a : ℕ) (quoted : List ℕ) (b : ℕ) (text : List ℕ) → around a quoted b ++ text ≡ a ∷ (quoted ++ b ∷ text)
+pub around_is : (a : ℕ) (quoted : List ℕ) (b : ℕ) (text : List ℕ) → around a quoted b ++ text ≡ a ∷ (quoted ++ b ∷ text)
 around_is a quoted b text = ap (λ z. a ∷ z) (append_assoc quoted (b ∷ []) text)
 
 no_dollar_before : (l : Language) (b : ℕ) (own after : List ℕ) → opens_dollar l b (own ++ after) ≡ false → opens_dollar l b own ≡ false

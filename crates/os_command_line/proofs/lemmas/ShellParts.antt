@@ -10,6 +10,7 @@ use Rattle.os_command_line.specs.Shell.Reads.{ends, bare, escaped, continued, si
 use Rattle.os_command_line.specs.ShellParts.{IsMarked, AreLineParts}
 use Rattle.os_command_line.specs.ShellParts.IsMark.{one, opens, joins}
 use Rattle.os_command_line.specs.ShellParts.IsMarked.{nothing, mark, itself, escape}
+use Rattle.os_command_line.proofs.lemmas.ShellOwnText.{around, around_is}
 
 all_itself : (quoted text word : List ℕ) → IsMarked text word → IsMarked (quoted ++ text) (quoted ++ word)
 all_itself [] text word m = m
@@ -40,13 +41,6 @@ marked_more taken added text (Fault kind left) f m = tt
 nothing_first : (text : List ℕ) (o : Outcome) → IsMarkedBefore text (prepend [] o) → IsMarkedBefore text o
 nothing_first text (Word word after) m = m
 nothing_first text (Fault kind left) m = m
-
--- a quoted part between two quotes
-abbrev around : ℕ → List ℕ → ℕ → List ℕ
-around a quoted b = a ∷ (quoted ++ b ∷ [])
-
-around_is : (a : ℕ) (quoted : List ℕ) (b : ℕ) (text : List ℕ) → around a quoted b ++ text ≡ a ∷ (quoted ++ b ∷ text)
-around_is a quoted b text = ap (λ z. a ∷ z) (append_assoc quoted (b ∷ []) text)
 
 marked : (l : Language) (first : Bool) (text : List ℕ) (o : Outcome) → Reads l first text o → IsMarkedBefore text o
 marked l _ _ _ (ends first after e) = ([], refl, nothing)

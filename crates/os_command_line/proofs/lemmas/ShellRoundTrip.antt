@@ -11,7 +11,8 @@ use Rattle.os_command_line.specs.Shell.Outcome.{Word, Fault}
 use Rattle.os_command_line.specs.Shell.IsGap.{no_gap, blank}
 use Rattle.os_command_line.specs.Shell.Reads.{ends, bare, escaped, single}
 use Rattle.os_command_line.specs.ShellWriting.{AreBytes, is_plain, are_plain, is_plain_name, single_byte, single_quoted, quoted_word, after_first, join_words}
-use Rattle.os_command_line.proofs.lemmas.ShellOneReading.{complete, or_false}
+use Rattle.os_command_line.proofs.lemmas.Lists.{no_cons, one_more}
+use Rattle.os_command_line.proofs.lemmas.ShellOneReading.{one_reading, and_none, or_false}
 use Rattle.os_command_line.proofs.lemmas.ShellEachLine.{same}
 
 -- a byte that some shell gives a meaning of its own somewhere
@@ -41,27 +42,20 @@ not_special false b h =
     let y = or_false (is_pattern b) (true && (eqb b 0x23 || eqb b 0x3D)) x.1 in
     rw (x.0, y.0) refl
 
-pub none_of : (a b : Bool) → b ≡ false → a && b ≡ false
-none_of true b e = e
-none_of false b e = refl
-
 pub no_dollar : (l : Language) (b : ℕ) (text : List ℕ) → eqb b dollar ≡ false → opens_dollar l b text ≡ false
 no_dollar l b [] e = refl
-no_dollar l b (c ∷ text) e = none_of l.dollar_quotes (eqb b dollar && eqb c single_quote) (rw e refl)
+no_dollar l b (c ∷ text) e = and_none l.dollar_quotes (eqb b dollar && eqb c single_quote) (rw e refl)
 
 is_bare : (l : Language) (first : Bool) (b : ℕ) (text : List ℕ) → b < 0x100 → is_plain b ≡ true → IsBare l first b text
 is_bare l first b text lt p =
     let h = plain_is b lt p in
-    record { no_mark = h.0; no_blank = h.1; no_dollar = no_dollar l b text h.3; no_special = none_of l.refuses_specials (is_special first b) (not_special first b h.2) }
+    record { no_mark = h.0; no_blank = h.1; no_dollar = no_dollar l b text h.3; no_special = and_none l.refuses_specials (is_special first b) (not_special first b h.2) }
 
 plain_text : (l : Language) (first : Bool) (word after : List ℕ) → AreBytes word → are_plain word ≡ true → Ends after → Reads l first (word ++ after) (Word word after)
 plain_text l first [] after w p e = ends first after e
 plain_text l first (b ∷ word) after w p e =
     let h = and_parts (is_plain b) (are_plain word) p in
     bare first b (word ++ after) (Word word after) (is_bare l first b (word ++ after) w.0 h.0) (plain_text l false word after w.1 h.1 e)
-
-no_cons : {x : ℕ} {xs : List ℕ} → x ∷ xs ≡ [] → ⊥
-no_cons e = cc
 
 -- a word begins with a byte that is no blank and no backslash
 pub begins_with : (b : ℕ) (text : List ℕ) → is_blank b ≡ false → b ≢ backslash → Begins (b ∷ text)
@@ -74,10 +68,6 @@ begins_with b text n s = record {
 plain_begins : (b : ℕ) (text : List ℕ) → b < 0x100 → is_plain b ≡ true → Begins (b ∷ text)
 plain_begins b text lt p = let h = plain_is b lt p in begins_with b text h.1 (λ e. true≢false (sym (subst (λ z. is_mark z ≡ true) (sym e) refl) ∙ h.0))
 
-no_quote_more : (done : List ℕ) (b : ℕ) → HasNoQuote done → eqb b single_quote ≡ false → HasNoQuote (done ++ b ∷ [])
-no_quote_more [] b h n = (n, tt)
-no_quote_more (x ∷ done) b h n = (h.0, no_quote_more done b h.1 n)
-
 -- in single quotes, after some bytes
 single_text : (l : Language) (first : Bool) (done name after : List ℕ) → HasNoQuote done → Ends after → Reads l first (single_quote ∷ (done ++ (flat_map single_byte name ++ single_quote ∷ after))) (Word (done ++ name) after)
 single_text l first done [] after h e = single first done after (Word [] after) h (ends false after e)
@@ -88,7 +78,7 @@ single_text l first done (b ∷ name) after h e = elim (cases_Bool (eqb b single
       subst (λ x. Reads l first (single_quote ∷ (done ++ (flat_map single_byte (x ∷ name) ++ single_quote ∷ after))) (Word (done ++ x ∷ name) after)) (sym f)
       (single first done (backslash ∷ single_quote ∷ single_quote ∷ rest) (Word (single_quote ∷ name) after) h (escaped false single_quote (single_quote ∷ rest) (Word name after) refl again))
   | inr q ↦ let rest = flat_map single_byte name ++ single_quote ∷ after in
-      let more = single_text l first (done ++ b ∷ []) name after (no_quote_more done b h q) e in
+      let more = single_text l first (done ++ b ∷ []) name after (one_more (λ x. eqb x single_quote ≡ false) done b h q) e in
       same (ap (λ z. single_quote ∷ z) (append_assoc done (b ∷ []) rest ∙ ap (λ z. done ++ z) (sym (whole q)))) (ap (λ z. Word z after) (append_assoc done (b ∷ []) name)) more
 ]
   where
@@ -120,9 +110,7 @@ word_is_text l name w = elim (cases_Bool (is_plain_name name)) [
 
 -- a text is that of one word
 pub one_word : (l : Language) (text a b : List ℕ) → IsTextOf l text a → IsTextOf l text b → a ≡ b
-one_word l text a b p q =
-    let e : Word a [] ≡ Word b [] = sym (complete l true (text ++ []) (Word a []) [] (p [] tt).1) ∙ complete l true (text ++ []) (Word b []) [] (q [] tt).1 in
-    ap word_of e
+one_word l text a b p q = ap word_of (one_reading l (text ++ []) (Word a []) (Word b []) (p [] tt).1 (q [] tt).1)
   where
     word_of : Outcome → List ℕ
     word_of (Word word after) = word

@@ -1,5 +1,5 @@
 -- Steps of the reader by bytes.
-use Rattle.std.proofs.Common.{◌≡◌, ℕ, zero, suc, ◌-◌, ◌≤◌, Bool, true, false, cond, ◌&&◌, eqb, List, [], ◌∷◌, ◌++◌, take, drop, length, length-append, refl, sym, ap, ◌∙◌, subst, arith, Option, None, Some}
+use Rattle.std.proofs.Common.{◌≡◌, ℕ, zero, suc, ◌≤◌, Bool, true, false, cond, ◌&&◌, eqb, List, [], ◌∷◌, ◌++◌, drop, length, length-append, refl, sym, ap, ◌∙◌, subst, arith, Option, None, Some}
 use Rattle.std.specs.Prelude.{option_to_list}
 use Rattle.os_command_line.specs.declared.shell.language.Language.{Language}
 use Rattle.os_command_line.specs.declared.shell.step.State.{State}
@@ -9,10 +9,9 @@ use Rattle.os_command_line.specs.declared.shell.step.Step.TheVariants.{End, Go, 
 use Rattle.os_command_line.specs.declared.shell.fault.FaultKind.{FaultKind}
 use Rattle.os_command_line.specs.Shell.{single_quote, double_quote, backslash, newline, is_blank, is_special, is_expansion, is_escapable, opens_dollar, letter_meaning, octal_meaning, prepend}
 use Rattle.os_command_line.specs.Shell.Outcome.{Word, Fault}
-use Rattle.os_command_line.specs.ShellReader.{is_start, escape_step, bare_step, outside_step, double_escape_step, meaning_step, octal_step, letter_step, dollar_escape_step, step, is_outside, at_end, opened, run, meant, outcome, passed}
+use Rattle.os_command_line.specs.ShellReader.{is_start, escape_step, bare_step, outside_step, double_escape_step, meaning_step, octal_step, letter_step, dollar_escape_step, step, is_outside, at_end, opened, run, outcome, passed}
 use Rattle.os_command_line.proofs.lemmas.ShellOneReading.{prepend_nothing, prepend_twice, no_text, go, refuse, stop}
 use Rattle.os_command_line.proofs.lemmas.ShellMeaning.{cut_word}
-use Rattle.os_command_line.proofs.lemmas.WindowsUnits.{cut_before_end}
 
 -- ---- a step passes over no more bytes than there are
 
@@ -144,9 +143,3 @@ module _ (l : Language) (text : List ℕ) (s : State) (from rest : List ℕ) (so
 
 pub word_within : (l : Language) (text after : List ℕ) → (word : List ℕ) × (outcome l text ≡ Word word after) → length after ≤ length text
 word_within l text after w = let c = cut_word l text w.0 after w.1 in omega (arith, ap length c.joined, length-append c.own after)
-
-pub cut_of : (l : Language) (text after prefix suffix : List ℕ) → (word : List ℕ) × (outcome l text ≡ Word word after) → prefix ≡ take (length text - length after) text → suffix ≡ drop (length text - length after) text → outcome l text ≡ Word (meant l Start zero prefix) suffix
-cut_of l text after prefix suffix w p q =
-    let c = cut_word l text w.0 after w.1 in
-    let cut = cut_before_end text c.own after _ c.joined refl in
-    w.1 ∙ ap (λ x. Word x after) (sym c.means ∙ ap (meant l Start zero) (sym (p ∙ cut.0))) ∙ ap (Word (meant l Start zero prefix)) (sym (q ∙ cut.1))

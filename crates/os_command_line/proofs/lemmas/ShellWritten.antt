@@ -1,9 +1,8 @@
 -- Words as they are written, and how long they are.
-use Rattle.std.proofs.Common.{◌≡◌, ℕ, ◌+◌, ◌*◌, ◌<◌, ◌≤◌, eqb, List, [], ◌∷◌, ◌++◌, length, refl, ap, ◌∙◌, arith, length-append, Option, None, Some, inl, inr, ltb}
+use Rattle.std.proofs.Common.{◌≡◌, ℕ, ◌+◌, ◌*◌, ◌<◌, ◌≤◌, true, false, eqb, List, [], ◌∷◌, ◌++◌, length, refl, sym, ap, ◌∙◌, subst, arith, length-append, Option, None, Some, inl, inr, ltb}
 use Rattle.std.specs.Char.{encode_utf8}
 use Rattle.std.specs.List.{All, flat_map}
-use Rattle.std.specs.Str.{IsUtf8}
-use Rattle.std.proofs.lemmas.Bool.{cases_Bool}
+use Rattle.std.proofs.lemmas.Bool.{cases_Bool, eqb-true}
 use Rattle.std.proofs.lemmas.Grind.{flat_map-append}
 use Rattle.std.proofs.lemmas.Str.{length-encode, len_utf8_bounds}
 use Rattle.wtf8_core.specs.Byte.{IsByte}
@@ -19,11 +18,9 @@ use Rattle.wtf8_core.proofs.lemmas.chunks.OneList.{some_chunks}
 use Rattle.os_str_ext.specs.Chunks.{chunks_of}
 use Rattle.os_str_ext.proofs.lemmas.SymbolBytes.{symbols_joined}
 use Rattle.os_quote.specs.Shown.{stays_on_line}
-use Rattle.os_command_line.specs.declared.shell.form.Form.{Form}
-use Rattle.os_command_line.specs.declared.shell.form.Form.TheVariants.{Bare, Single, Dollar}
-use Rattle.os_command_line.specs.Shell.{single_quote, backslash, HasNoQuote}
-use Rattle.os_command_line.specs.ShellSteps.{IsCutAtQuote, form_text, IsFormOf, IsLineFormOf}
-use Rattle.os_command_line.specs.ShellWriting.{single_byte, single_quoted, quoted_word, letter_for, octal_text, shown_or_octal, character_text, symbol_text, dollar_quoted, IsDollarWord, IsLineWord, IsTextWord}
+use Rattle.os_command_line.specs.Shell.{single_quote, backslash, escape_meaning, HasNoQuote}
+use Rattle.os_command_line.specs.ShellSteps.{IsCutAtQuote}
+use Rattle.os_command_line.specs.ShellWriting.{single_byte, single_quoted, letter_for, octal_text, shown_or_octal, character_text, symbol_text, IsDollarWord}
 
 -- ---- single quotes
 
@@ -54,6 +51,31 @@ pub single_len : (name : List ℕ) → length (single_quoted name) ≤ 4 * lengt
 single_len name = omega (arith, bytes_len name, length-append (flat_map single_byte name) (single_quote ∷ []))
 
 -- ---- dollar-single-quotes
+
+-- what holds of each letter after a backslash, and of a character that has none, holds of what means a character
+pub by_letter : (P : ℕ → List ℕ → Type 0) (c : ℕ) → ((letter x : ℕ) → x < 0x80 → escape_meaning (letter ∷ []) ≡ Some x → (letter < 0x80) × (stays_on_line letter ≡ true) → P x (backslash ∷ letter ∷ [])) → (eqb c 0x27 ≡ false → eqb c 0x5C ≡ false → P c (shown_or_octal c)) → P c (character_text c (letter_for c))
+by_letter P c some none = elim (cases_Bool (eqb c 0x27)) [
+  | inl e ↦ is 0x27 e (some 0x27 0x27 (omega arith) refl (omega arith, refl))
+  | inr e ↦ elim (cases_Bool (eqb c 0x5C)) [
+    | inl f ↦ is 0x5C f (some 0x5C 0x5C (omega arith) refl (omega arith, refl))
+    | inr f ↦ elim (cases_Bool (eqb c 0x0A)) [
+      | inl g ↦ is 0x0A g (some 0x6E 0x0A (omega arith) refl (omega arith, refl))
+      | inr g ↦ elim (cases_Bool (eqb c 0x09)) [
+        | inl h ↦ is 0x09 h (some 0x74 0x09 (omega arith) refl (omega arith, refl))
+        | inr h ↦ elim (cases_Bool (eqb c 0x0D)) [
+          | inl i ↦ is 0x0D i (some 0x72 0x0D (omega arith) refl (omega arith, refl))
+          | inr i ↦ subst (P c) (sym (no_letter e f g h i)) (none e f)
+        ]
+      ]
+    ]
+  ]
+]
+  where
+    is : (x : ℕ) → eqb c x ≡ true → P x (character_text x (letter_for x)) → P c (character_text c (letter_for c))
+    is x e p = subst (λ y. P y (character_text y (letter_for y))) (sym (eqb-true c x e)) p
+
+    no_letter : eqb c 0x27 ≡ false → eqb c 0x5C ≡ false → eqb c 0x0A ≡ false → eqb c 0x09 ≡ false → eqb c 0x0D ≡ false → character_text c (letter_for c) ≡ shown_or_octal c
+    no_letter e f g h i = rw (e, f, g, h, i) refl
 
 octals_len : (bytes : List ℕ) → length (flat_map octal_text bytes) ≡ 4 * length bytes
 octals_len [] = refl
@@ -90,43 +112,8 @@ own_bytes name w = symbols_joined itself (All IsByte) unix_parts.encoded unix_la
 pub all_len : (name : List ℕ) → All IsByte name → length (flat_map symbol_text (symbols_of itself name)) ≤ 4 * length name
 all_len name w = omega (arith, symbols_len (symbols_of itself name), ap length (own_bytes name w))
 
-pub dollar_len : (name : List ℕ) → All IsByte name → length (dollar_quoted (symbols_of itself name)) ≤ 4 * length name + 3
-dollar_len name w =
-    let symbols = symbols_of itself name in
-    omega (arith, symbols_len symbols, ap length (own_bytes name w), length-append (flat_map symbol_text symbols) (single_quote ∷ []))
-
 -- the symbols of a name in one way or another
 pub dollar_word_len : (name text : List ℕ) → All IsByte name → IsDollarWord name text → length text ≤ 4 * length name + 3
 dollar_word_len name text w is =
     let joined = symbols_joined itself (All IsByte) unix_parts.encoded unix_laws.cut_prefix unix_laws.cut_suffix name w is.symbols is.are_symbols in
     omega (arith, symbols_len is.symbols, ap length joined, ap length is.text_is, length-append (flat_map symbol_text is.symbols) (single_quote ∷ []))
-
-pub dollar_word : (name : List ℕ) → IsDollarWord name (dollar_quoted (symbols_of itself name))
-dollar_word name = record { symbols = symbols_of itself name; are_symbols = own_symbols name; text_is = refl }
-
--- ---- forms
-
-pub form_word : (name : List ℕ) (form : Form) → IsFormOf name form → form_text form name ≡ quoted_word name
-form_word name Bare f = rw f refl
-form_word name Single f = rw f refl
-form_word name Dollar f = absurd f
-
-pub form_len : (name : List ℕ) (form : Form) → All IsByte name → length (form_text form name) ≤ 4 * length name + 3
-form_len name Bare w = omega arith
-form_len name Single w = single_len name
-form_len name Dollar w = dollar_len name w
-
-pub line_word : (name : List ℕ) (form : Form) → IsLineFormOf name form → IsLineWord name (form_text form name)
-line_word name Bare f = record { shown = λ _. rw f.1 refl; hidden = λ n. absurd (n f.0) }
-line_word name Single f = record { shown = λ _. rw f.1 refl; hidden = λ n. absurd (n f.0) }
-line_word name Dollar f = record { shown = λ l. absurd (f l); hidden = λ _. dollar_word name }
-
--- a name that isn't a text isn't one on a line
-pub other_line_word : (name : List ℕ) → ¬ (IsUtf8 name) → IsLineWord name (form_text Dollar name)
-other_line_word name n = record { shown = λ l. absurd (n l.0); hidden = λ _. dollar_word name }
-
-pub text_word : (name : List ℕ) (form : Form) → IsFormOf name form → IsUtf8 name → IsTextWord name (form_text form name)
-text_word name form f u = record { shown = λ _. form_word name form f; hidden = λ n. absurd (n u) }
-
-pub other_word : (name : List ℕ) → ¬ (IsUtf8 name) → IsTextWord name (form_text Dollar name)
-other_word name n = record { shown = λ u. absurd (n u); hidden = λ _. dollar_word name }

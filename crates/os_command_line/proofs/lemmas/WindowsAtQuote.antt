@@ -6,6 +6,7 @@ use Rattle.os_command_line.specs.declared.windows.place.Place.{Place}
 use Rattle.os_command_line.specs.Windows.{backslash, quote, backslashes}
 use Rattle.os_command_line.specs.WindowsReader.{index, index_at, place, meant}
 use Rattle.os_command_line.specs.WindowsSteps.{last_run, EndsWithRun, IsAtQuote}
+use Rattle.os_command_line.proofs.lemmas.Lists.{no_cons}
 use Rattle.os_command_line.proofs.lemmas.WindowsOneReading.{at}
 use Rattle.os_command_line.proofs.lemmas.WindowsRuns.{run_after}
 use Rattle.os_command_line.proofs.lemmas.WindowsMeaning.{plain_meant, slashes_meant, odd_quote, even_quote, not_closing, closing_quote, name_meant, name_quote}
@@ -14,9 +15,6 @@ use Rattle.os_command_line.proofs.lemmas.WindowsMeaning.{plain_meant, slashes_me
 module _ (text : List ℕ) (count : ℕ) (rest : List ℕ) (e : text ≡ rest ++ backslashes count) where
   pub run_at : (before : List ℕ) (last : ℕ) → rest ≡ before ++ last ∷ [] → last ≢ backslash → EndsWithRun text count
   run_at before last s n = (rest, e, ap (last_run 0) s ∙ run_after 0 before last n)
-
-  pub run_whole : rest ≡ [] → EndsWithRun text count
-  run_whole none = (rest, e, ap (last_run 0) none)
 
 module _ (p : Place) (before : List ℕ) where
   pub at_closing : p.closing ≡ true → before ≡ [] → IsAtQuote p before 0 true (place false false true)
@@ -51,10 +49,7 @@ module _ (p : Place) (before : List ℕ) where
 
     both_empty : (prefix : List ℕ) (run : ℕ) (us : List ℕ) → before ≡ prefix ++ backslashes run → (us ≡ [] → prefix ≡ []) → p.closing ≡ true → us ++ backslashes run ≢ []
     both_empty prefix run [] e same c none = other c (e ∙ ap (λ z. z ++ backslashes run) (same refl) ∙ none)
-    both_empty prefix run (u ∷ us) e same c none = cons_not_nil u (us ++ backslashes run) none
-      where
-        cons_not_nil : (x : ℕ) (xs : List ℕ) → x ∷ xs ≡ [] → ⊥
-        cons_not_nil x xs e = cc
+    both_empty prefix run (u ∷ us) e same c none = no_cons none
 
     pub at_name : p.in_name ≡ true → IsAtQuote p before (length before) false (place true false (not p.inside))
     at_name n = record {

@@ -8,6 +8,7 @@ use Rattle.wtf8_core.specs.UnitsOf.{units_of}
 use Rattle.os_command_line.specs.Windows.{IsBlank}
 use Rattle.os_command_line.specs.WindowsWriting.{HasNo}
 use Rattle.os_command_line.proofs.lemmas.ShellForms.{nowhere}
+use Rattle.os_command_line.proofs.lemmas.WindowsOneReading.{past_blank}
 use Rattle.os_command_line.proofs.lemmas.WindowsStrings.{each_unit, each_byte}
 
 pub not_there : (wanted : ℕ) → wanted < 0x80 → (b : List ℕ) → IsWtf8 b → Nowhere (Passes (is_byte wanted) b) 0 (length b) → HasNo wanted (units_of b)
@@ -15,8 +16,7 @@ not_there wanted lt b w none =
     each_unit (λ u. u ≢ wanted) (λ x ge e. omega (arith, lt, ge, e)) b w (nowhere (is_byte wanted) (λ u. u ≢ wanted) (λ x n e. n (eq-eqb x wanted e)) b none)
 
 blank_past : (x : ℕ) → 0x80 ≤ x → ¬ (IsBlank x)
-blank_past x ge (inl e) = omega (arith, ge, e)
-blank_past x ge (inr e) = omega (arith, ge, e)
+blank_past x ge = past_blank x (omega (arith, ge))
 
 abbrev is_blank_byte : ℕ → Bool
 is_blank_byte = is_byte2 0x20 0x09

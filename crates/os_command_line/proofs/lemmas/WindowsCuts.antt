@@ -1,19 +1,20 @@
 -- A command line cut by its bytes, for answers.
-use Rattle.std.proofs.Common.{◌≡◌, ◌≢◌, ℕ, ◌-◌, ◌≤◌, Bool, true, false, eqb, List, [], ◌++◌, take, drop, length, append-nil, refl, sym, ap, ◌∙◌, subst, arith, inl, inr}
+use Rattle.std.proofs.Common.{◌≡◌, ◌≢◌, ℕ, ◌-◌, ◌≤◌, Bool, true, false, eqb, List, [], ◌++◌, take, drop, length, append-nil, refl, sym, ap, ◌∙◌, subst, arith}
 use Rattle.std.specs.List.{AllByRecursion}
-use Rattle.std.proofs.lemmas.Bool.{eq-eqb}
+use Rattle.std.proofs.lemmas.Bool.{eq-eqb, true≢false}
 use Rattle.wtf8_core.specs.Wtf8.{IsWtf8}
 use Rattle.wtf8_core.specs.UnitsOf.{units_of}
 use Rattle.os_command_line.specs.Windows.{IsBlank, Begins, IsNext, Reads, ReadsName}
 use Rattle.os_command_line.specs.WindowsReader.{argument_kind, meant, first_index}
 use Rattle.os_command_line.specs.WindowsSteps.{IsInPart, BeginsArgument, IsArgument, IsNameCut}
 use Rattle.os_command_line.specs.WindowsViews.{kind_units}
+use Rattle.os_command_line.proofs.lemmas.WindowsOneReading.{past_blank}
 use Rattle.os_command_line.proofs.lemmas.WindowsScan.{bare_means_itself}
 use Rattle.os_command_line.proofs.lemmas.WindowsStrings.{cut_name, cut_argument, blank_units, each_unit}
 use Rattle.os_command_line.proofs.lemmas.WindowsUnits.{cut_before_end}
 
 bare_past : (x : ℕ) → 0x80 ≤ x → IsInPart false x
-bare_past x ge = record { no_blank = λ _ b. elim b [ inl e ↦ omega (arith, e, ge) | inr e ↦ omega (arith, e, ge) ]; no_quote = λ e. omega (arith, e, ge) }
+bare_past x ge = record { no_blank = λ _. past_blank x (omega (arith, ge)); no_quote = λ e. omega (arith, e, ge) }
 
 module _ (line encoded : List ℕ) (w : IsWtf8 line) (same : encoded ≡ line) where
   pub name_cut : (after prefix suffix : List ℕ) → (name : List ℕ) × (raw : List ℕ) × ReadsName after false encoded name × (encoded ≡ raw ++ after) → prefix ≡ take (length encoded - length after) encoded → suffix ≡ drop (length encoded - length after) encoded → IsNameCut line prefix suffix
@@ -37,10 +38,7 @@ module _ (line encoded : List ℕ) (w : IsWtf8 line) (same : encoded ≡ line) w
     only_blanks none = blank_units line gap.0 w gap.1 (sym same ∙ gap.2 ∙ ap (λ z. gap.0 ++ z) none ∙ append-nil gap.0)
 
 pub not_empty : (text : List ℕ) → false ≡ eqb (length text) 0 → text ≢ []
-not_empty text h e = no (sym (eq-eqb (length text) 0 (ap length e)) ∙ sym h)
-  where
-    no : true ≡ false → ⊥
-    no e = cc
+not_empty text h e = true≢false (sym (eq-eqb (length text) 0 (ap length e)) ∙ sym h)
 
 -- the argument of the text that was cut
 pub next_of : (line raw rest : List ℕ) (bare : Bool) → IsArgument line raw rest bare → IsNext (units_of line) (kind_units (argument_kind bare) (units_of raw)) (units_of rest)

@@ -1,16 +1,13 @@
 -- Each line is some arguments: the steps of the reader give what the rules say.
 use Rattle.std.proofs.Common.{◌≡◌, ◌≢◌, ℕ, zero, suc, ◌+◌, ◌*◌, ◌/◌, ◌%◌, ◌<◌, ◌≤◌, Bool, true, false, not, List, [], ◌∷◌, ◌++◌, length, refl, sym, ap, ◌∙◌, subst, arith, append_assoc, length-append, inl, inr, ◌⊎◌}
-use Rattle.std.proofs.lemmas.Bool.{cases_eq}
+use Rattle.std.proofs.lemmas.Bool.{cases_eq, true≢false}
 use Rattle.std.proofs.lemmas.List.{replicate_more}
 use Rattle.os_command_line.specs.Windows.{backslash, quote, IsBlank, backslashes, IsLiteral, Ends, Begins, Reads, AreArguments, ReadsName}
 use Rattle.os_command_line.specs.Windows.Reads.{ends, literal, escaped, opens, closes, doubled}
 use Rattle.os_command_line.specs.Windows.ReadsName.{name_ends, name_quote, name_unit}
 use Rattle.os_command_line.specs.WindowsReader.{index, word_from, first_index, arguments_in}
+use Rattle.os_command_line.proofs.lemmas.WindowsOwnText.{same, alone}
 use Rattle.os_command_line.proofs.lemmas.WindowsOneReading.{at, in_name, slash_at, ends_at, literal_at, escaped_at, opens_at, closes_at, closed_at, doubled_at, quote_at, unit_at, complete_list}
-
--- a reading of equal texts and arguments
-pub same : {after a b x y : List ℕ} {inside : Bool} → a ≡ b → x ≡ y → Reads after inside a x → Reads after inside b y
-same {after} {a} {b} {x} {y} {inside} e f r = subst (λ z. Reads after inside z y) e (subst (λ z. Reads after inside a z) f r)
 
 pub more_backslashes : (n : ℕ) (text : List ℕ) → backslashes (n + 1) ++ text ≡ backslashes n ++ backslash ∷ text
 more_backslashes n text = ap (λ s. s ++ text) (sym (replicate_more n backslash)) ∙ append_assoc (backslashes n) (backslash ∷ []) text
@@ -60,10 +57,7 @@ at_end : (inside : Bool) (n : ℕ) (text : List ℕ) → Ends inside text → Is
 at_end inside n text e = subst (IsRead inside n text) (sym (ends_at false false inside n text e)) (ends inside n e)
 
 at_other : (inside : Bool) (n u : ℕ) (us : List ℕ) → u ≢ backslash → u ≢ quote → IsSound us → IsRead inside n (u ∷ us) (word_from (at inside n) (u ∷ us))
-at_other true n u us s q h = at_literal true n u us (record { no_backslash = s; no_quote = q; no_blank = λ e. absurd (no e) }) h
-  where
-    no : true ≡ false → ⊥
-    no e = cc
+at_other true n u us s q h = at_literal true n u us (record { no_backslash = s; no_quote = q; no_blank = λ e. absurd (true≢false e) }) h
 at_other false n u us s q h = elim (blank_cases u) [
   | inl b ↦ at_end false n (u ∷ us) b
   | inr b ↦ at_literal false n u us (record { no_backslash = s; no_quote = q; no_blank = λ _. b }) h
@@ -110,25 +104,14 @@ some_name (u ∷ us) inside = elim (cases_eq u quote) [
     unit : (i : Bool) → u ≢ quote → (i ≡ false → ¬ (IsBlank u)) → ((j : Bool) → ReadsName (word_from (in_name j) us).1 j us (word_from (in_name j) us).0) → ReadsName (word_from (in_name i) (u ∷ us)).1 i (u ∷ us) (word_from (in_name i) (u ∷ us)).0
     unit i q b h = subst (λ (r : List ℕ × List ℕ). ReadsName r.1 i (u ∷ us) r.0) (sym (unit_at i u us q b)) (name_unit i u us (word_from (in_name i) us).0 q b (h i))
 
-    no : true ≡ false → ⊥
-    no e = cc
-
     other : (i : Bool) → u ≢ quote → ((j : Bool) → ReadsName (word_from (in_name j) us).1 j us (word_from (in_name j) us).0) → ReadsName (word_from (in_name i) (u ∷ us)).1 i (u ∷ us) (word_from (in_name i) (u ∷ us)).0
-    other true q h = unit true q (λ e. absurd (no e)) h
+    other true q h = unit true q (λ e. absurd (true≢false e)) h
     other false q h = elim (blank_cases u) [
       | inl b ↦ subst (λ (r : List ℕ × List ℕ). ReadsName r.1 false (u ∷ us) r.0) (sym (ends_at true false false 0 (u ∷ us) b)) (name_ends false b)
       | inr b ↦ unit false q (λ _. b) h
     ]
 
 -- ---- lists of arguments
-
-no_longer : (after : List ℕ) (inside : Bool) (text argument : List ℕ) → Reads after inside text argument → length after ≤ length text
-no_longer after _ _ _ (ends inside n e) = omega (arith, length-append (backslashes n) after)
-no_longer after _ _ _ (literal inside n u text argument h r) = omega (arith, length-append (backslashes n) (u ∷ text), no_longer after inside text argument r)
-no_longer after _ _ _ (escaped inside n text argument r) = omega (arith, length-append (backslashes (2 * n + 1)) (quote ∷ text), no_longer after inside text argument r)
-no_longer after _ _ _ (opens n text argument r) = omega (arith, length-append (backslashes (2 * n)) (quote ∷ text), no_longer after true text argument r)
-no_longer after _ _ _ (closes n text argument h r) = omega (arith, length-append (backslashes (2 * n)) (quote ∷ text), no_longer after false text argument r)
-no_longer after _ _ _ (doubled n text argument r) = omega (arith, length-append (backslashes (2 * n)) (quote ∷ quote ∷ text), no_longer after true text argument r)
 
 no_end_here : (inside : Bool) (after : List ℕ) → Ends inside after → Begins after → ⊥
 no_end_here inside [] e b = b
@@ -137,13 +120,11 @@ no_end_here false (u ∷ us) e b = b e
 
 -- an argument takes some of the line
 pub shorter : (after : List ℕ) (inside : Bool) (text argument : List ℕ) → Reads after inside text argument → Begins text → length after < length text
-shorter after _ _ _ (ends inside zero e) b = absurd (no_end_here inside after e b)
-shorter after _ _ _ (ends inside (suc n) e) b = omega (arith, length-append (backslashes n) after)
-shorter after _ _ _ (literal inside n u text argument h r) b = omega (arith, length-append (backslashes n) (u ∷ text), no_longer after inside text argument r)
-shorter after _ _ _ (escaped inside n text argument r) b = omega (arith, length-append (backslashes (2 * n + 1)) (quote ∷ text), no_longer after inside text argument r)
-shorter after _ _ _ (opens n text argument r) b = omega (arith, length-append (backslashes (2 * n)) (quote ∷ text), no_longer after true text argument r)
-shorter after _ _ _ (closes n text argument h r) b = omega (arith, length-append (backslashes (2 * n)) (quote ∷ text), no_longer after false text argument r)
-shorter after _ _ _ (doubled n text argument r) b = omega (arith, length-append (backslashes (2 * n)) (quote ∷ quote ∷ text), no_longer after true text argument r)
+shorter after inside text argument r b = let a = alone after inside text argument r in some a.own a.joined a.inside a.ends
+  where
+    some : (own : List ℕ) → text ≡ own ++ after → (i : Bool) → Ends i after → length after < length text
+    some [] j i e = absurd (no_end_here i after e (subst Begins j b))
+    some (u ∷ own) j i e = omega (arith, ap length j, length-append own after)
 
 -- a blank before a line changes nothing
 blank_first : (u : ℕ) (us : List ℕ) (xs : List (List ℕ)) → IsBlank u → AreArguments us xs → AreArguments (u ∷ us) xs

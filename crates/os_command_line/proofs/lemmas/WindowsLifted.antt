@@ -1,84 +1,26 @@
--- Readings of code points give those of their bytes and of their units, and an argument's own text is read alone.
-use Rattle.std.proofs.Common.{◌≡◌, ◌≢◌, ℕ, zero, suc, ◌+◌, ◌*◌, ◌<◌, ◌≤◌, Bool, true, false, not, List, [], ◌∷◌, ◌++◌, refl, sym, ap, ◌∙◌, subst, arith, append_assoc, append-nil, inl, inr, ◌⊎◌}
+-- Readings of code points give those of their bytes and of their units.
+use Rattle.std.proofs.Common.{◌≡◌, ◌≢◌, ℕ, zero, suc, ◌+◌, ◌*◌, ◌<◌, ◌≤◌, Bool, true, false, not, List, [], ◌∷◌, ◌++◌, refl, sym, ap, ◌∙◌, subst, arith, append-nil, inl, inr}
 use Rattle.std.specs.List.{AllByRecursion, flat_map}
+use Rattle.std.proofs.lemmas.Bool.{cases_lt}
 use Rattle.os_command_line.specs.Windows.{backslash, quote, IsBlank, backslashes, IsLiteral, Ends, StartsWithNoQuote, Begins, Reads, ReadsName}
 use Rattle.os_command_line.specs.Windows.Reads.{ends, literal, escaped, opens, closes, doubled}
 use Rattle.os_command_line.specs.Windows.ReadsName.{name_ends, name_quote, name_unit}
-use Rattle.os_command_line.proofs.lemmas.WindowsEachLine.{same}
-
--- ---- an argument's own text
-
--- the text of a reading is what it reads and what comes after it, and the former is read alone
-pub record IsAlone (after : List ℕ) (inside : Bool) (text argument : List ℕ) : Type 0 where
-  pub own : List ℕ
-  pub joined : text ≡ own ++ after
-  pub reads : Reads [] inside own argument
-
-starts_before : (own after : List ℕ) → StartsWithNoQuote (own ++ after) → StartsWithNoQuote own
-starts_before [] after h = tt
-starts_before (u ∷ own) after h = h
-
-pub alone : (after : List ℕ) (inside : Bool) (text argument : List ℕ) → Reads after inside text argument → IsAlone after inside text argument
-alone after _ _ _ (ends inside n e) = record { own = backslashes n; joined = refl; reads = same (append-nil (backslashes n)) refl (ends inside n tt) }
-alone after _ _ _ (literal inside n u text argument h r) =
-    let a = alone after inside text argument r in
-    record { own = backslashes n ++ u ∷ a.own; joined = ap (λ z. backslashes n ++ u ∷ z) a.joined ∙ sym (append_assoc (backslashes n) (u ∷ a.own) after); reads = literal inside n u a.own argument h a.reads }
-alone after _ _ _ (escaped inside n text argument r) =
-    let a = alone after inside text argument r in
-    record { own = backslashes (2 * n + 1) ++ quote ∷ a.own; joined = ap (λ z. backslashes (2 * n + 1) ++ quote ∷ z) a.joined ∙ sym (append_assoc (backslashes (2 * n + 1)) (quote ∷ a.own) after); reads = escaped inside n a.own argument a.reads }
-alone after _ _ _ (opens n text argument r) =
-    let a = alone after true text argument r in
-    record { own = backslashes (2 * n) ++ quote ∷ a.own; joined = ap (λ z. backslashes (2 * n) ++ quote ∷ z) a.joined ∙ sym (append_assoc (backslashes (2 * n)) (quote ∷ a.own) after); reads = opens n a.own argument a.reads }
-alone after _ _ _ (closes n text argument h r) =
-    let a = alone after false text argument r in
-    record {
-      own = backslashes (2 * n) ++ quote ∷ a.own;
-      joined = ap (λ z. backslashes (2 * n) ++ quote ∷ z) a.joined ∙ sym (append_assoc (backslashes (2 * n)) (quote ∷ a.own) after);
-      reads = closes n a.own argument (starts_before a.own after (subst StartsWithNoQuote a.joined h)) a.reads;
-    }
-alone after _ _ _ (doubled n text argument r) =
-    let a = alone after true text argument r in
-    record { own = backslashes (2 * n) ++ quote ∷ quote ∷ a.own; joined = ap (λ z. backslashes (2 * n) ++ quote ∷ quote ∷ z) a.joined ∙ sym (append_assoc (backslashes (2 * n)) (quote ∷ quote ∷ a.own) after); reads = doubled n a.own argument a.reads }
-
--- the same of the program's name
-pub record IsNameAlone (after : List ℕ) (inside : Bool) (text name : List ℕ) : Type 0 where
-  pub own : List ℕ
-  pub joined : text ≡ own ++ after
-  pub reads : ReadsName [] inside own name
-
-pub name_alone : (after : List ℕ) (inside : Bool) (text name : List ℕ) → ReadsName after inside text name → IsNameAlone after inside text name
-name_alone after _ _ _ (name_ends inside e) = record { own = []; joined = refl; reads = name_ends inside tt }
-name_alone after _ _ _ (name_quote inside text name r) =
-    let a = name_alone after (not inside) text name r in
-    record { own = quote ∷ a.own; joined = ap (λ z. quote ∷ z) a.joined; reads = name_quote inside a.own name a.reads }
-name_alone after _ _ _ (name_unit inside u text name q b r) =
-    let a = name_alone after inside text name r in
-    record { own = u ∷ a.own; joined = ap (λ z. u ∷ z) a.joined; reads = name_unit inside u a.own name q b a.reads }
-
--- ---- code points, and what each is written as
-
--- some numbers past ASCII
-abbrev pub AreWide : List ℕ → Type 0
-AreWide [] = ⊥
-AreWide (x ∷ xs) = (0x80 ≤ x) × AllByRecursion (λ y. 0x80 ≤ y) xs
-
--- each code point of ASCII is written as itself, each other one past ASCII
-pub record IsForm (f : ℕ → List ℕ) : Type 0 where
-  pub ascii : (c : ℕ) → c < 0x80 → f c ≡ c ∷ []
-  pub wide : (c : ℕ) → 0x80 ≤ c → AreWide (f c)
+use Rattle.os_command_line.proofs.lemmas.CharacterForms.{AreWide, IsForm, all_wide}
+use Rattle.os_command_line.proofs.lemmas.WindowsOneReading.{past_blank}
+use Rattle.os_command_line.proofs.lemmas.WindowsOwnText.{same}
 
 literal_past : (inside : Bool) (x : ℕ) → 0x80 ≤ x → IsLiteral inside x
-literal_past inside x h = record { no_backslash = λ e. omega (arith, e, h); no_quote = λ e. omega (arith, e, h); no_blank = λ _ b. elim b [ inl e ↦ omega (arith, e, h) | inr e ↦ omega (arith, e, h) ] }
+literal_past inside x h = record { no_backslash = λ e. omega (arith, e, h); no_quote = λ e. omega (arith, e, h); no_blank = λ _. past_blank x (omega (arith, h)) }
 
 module _ (f : ℕ → List ℕ) (form : IsForm f) where
   pub run_form : (n : ℕ) (xs : List ℕ) → flat_map f (backslashes n ++ xs) ≡ backslashes n ++ flat_map f xs
   run_form zero xs = refl
   run_form (suc n) xs = ap (λ z. z ++ flat_map f (backslashes n ++ xs)) (form.ascii backslash (omega arith)) ∙ ap (λ z. backslash ∷ z) (run_form n xs)
 
-  quote_form : (xs : List ℕ) → flat_map f (quote ∷ xs) ≡ quote ∷ flat_map f xs
+  pub quote_form : (xs : List ℕ) → flat_map f (quote ∷ xs) ≡ quote ∷ flat_map f xs
   quote_form xs = ap (λ z. z ++ flat_map f xs) (form.ascii quote (omega arith))
 
-  slashes_form : (n : ℕ) → flat_map f (backslashes n) ≡ backslashes n
+  pub slashes_form : (n : ℕ) → flat_map f (backslashes n) ≡ backslashes n
   slashes_form n = ap (flat_map f) (sym (append-nil (backslashes n))) ∙ run_form n [] ∙ append-nil (backslashes n)
 
   blank_form : (u : ℕ) (us : List ℕ) → IsBlank u → flat_map f (u ∷ us) ≡ u ∷ flat_map f us
@@ -95,14 +37,11 @@ module _ (f : ℕ → List ℕ) (form : IsForm f) where
   ends_form false (u ∷ us) h = subst (Ends false) (sym (blank_form u us h)) h
 
   first_form : (P : List ℕ → Type 0) (c : ℕ) (cs : List ℕ) → (c < 0x80 → P (c ∷ flat_map f cs)) → ((x : ℕ) (xs : List ℕ) → 0x80 ≤ x → P (x ∷ xs)) → P (flat_map f (c ∷ cs))
-  first_form P c cs a w = elim (below c) [
+  first_form P c cs a w = elim (cases_lt c 0x80) [
     | inl lt ↦ subst P (sym (ap (λ z. z ++ flat_map f cs) (form.ascii c lt))) (a lt)
     | inr ge ↦ past (f c) (form.wide c ge)
   ]
     where
-      below : (c : ℕ) → (c < 0x80) ⊎ (0x80 ≤ c)
-      below c = grind arith
-
       past : (xs : List ℕ) → AreWide xs → P (xs ++ flat_map f cs)
       past [] h = absurd h
       past (x ∷ xs) h = w x (xs ++ flat_map f cs) h.0
@@ -113,7 +52,7 @@ module _ (f : ℕ → List ℕ) (form : IsForm f) where
 
   pub begins_form : (text : List ℕ) → Begins text → Begins (flat_map f text)
   begins_form [] h = absurd h
-  begins_form (c ∷ cs) h = first_form Begins c cs (λ _. h) (λ x xs ge b. elim b [ inl e ↦ omega (arith, e, ge) | inr e ↦ omega (arith, e, ge) ])
+  begins_form (c ∷ cs) h = first_form Begins c cs (λ _. h) (λ x xs ge. past_blank x (omega (arith, ge)))
 
   -- and back
   pub form_begins : (text : List ℕ) → Begins (flat_map f text) → Begins text
@@ -129,13 +68,10 @@ module _ (f : ℕ → List ℕ) (form : IsForm f) where
   some_literals after inside n (x ∷ xs) text argument h r = literal inside n x (xs ++ text) (xs ++ argument) (literal_past inside x h.0) (literals after inside xs text argument h.1 r)
 
   literal_form : (after : List ℕ) (inside : Bool) (n c : ℕ) (text argument : List ℕ) → IsLiteral inside c → Reads after inside text argument → Reads after inside (backslashes n ++ (f c ++ text)) (backslashes n ++ (f c ++ argument))
-  literal_form after inside n c text argument l r = elim (below c) [
+  literal_form after inside n c text argument l r = elim (cases_lt c 0x80) [
     | inl lt ↦ subst (λ z. Reads after inside (backslashes n ++ (z ++ text)) (backslashes n ++ (z ++ argument))) (sym (form.ascii c lt)) (literal inside n c text argument l r)
     | inr ge ↦ some_literals after inside n (f c) text argument (form.wide c ge) r
   ]
-    where
-      below : (c : ℕ) → (c < 0x80) ⊎ (0x80 ≤ c)
-      below c = grind arith
 
   -- a reading of code points is one of what they are written as
   pub lift : (after : List ℕ) (inside : Bool) (text argument : List ℕ) → Reads after inside text argument → Reads (flat_map f after) inside (flat_map f text) (flat_map f argument)
@@ -161,18 +97,11 @@ module _ (f : ℕ → List ℕ) (form : IsForm f) where
       let l = literal_past inside x h.0 in
       name_unit inside x (xs ++ text) (xs ++ name) l.no_quote l.no_blank (units_of_name after inside xs text name h.1 r)
 
-  all_wide : (xs : List ℕ) → AreWide xs → AllByRecursion (λ y. 0x80 ≤ y) xs
-  all_wide [] h = absurd h
-  all_wide (x ∷ xs) h = h
-
   name_unit_form : (after : List ℕ) (inside : Bool) (c : ℕ) (text name : List ℕ) → c ≢ quote → (inside ≡ false → ¬ (IsBlank c)) → ReadsName after inside text name → ReadsName after inside (f c ++ text) (f c ++ name)
-  name_unit_form after inside c text name q b r = elim (below c) [
+  name_unit_form after inside c text name q b r = elim (cases_lt c 0x80) [
     | inl lt ↦ subst (λ z. ReadsName after inside (z ++ text) (z ++ name)) (sym (form.ascii c lt)) (name_unit inside c text name q b r)
-    | inr ge ↦ units_of_name after inside (f c) text name (all_wide (f c) (form.wide c ge)) r
+    | inr ge ↦ units_of_name after inside (f c) text name (all_wide (λ y. 0x80 ≤ y) (λ x h. h) (f c) (form.wide c ge)) r
   ]
-    where
-      below : (c : ℕ) → (c < 0x80) ⊎ (0x80 ≤ c)
-      below c = grind arith
 
   pub lift_name : (after : List ℕ) (inside : Bool) (text name : List ℕ) → ReadsName after inside text name → ReadsName (flat_map f after) inside (flat_map f text) (flat_map f name)
   lift_name after _ _ _ (name_ends inside e) = name_ends inside (ends_form inside after e)

@@ -1,16 +1,20 @@
 -- A line is read in one way: what the rules say is what the steps of the reader give.
-use Rattle.std.proofs.Common.{◌≡◌, ◌≢◌, ℕ, zero, suc, ◌+◌, ◌*◌, ◌/◌, ◌%◌, Bool, true, false, not, ◌&&◌, eqb, List, [], ◌∷◌, ◌++◌, refl, sym, ap, ◌∙◌, subst, arith, append_assoc, inl, inr}
+use Rattle.std.proofs.Common.{◌≡◌, ◌≢◌, ℕ, zero, suc, ◌+◌, ◌*◌, ◌/◌, ◌%◌, ◌<◌, Bool, true, false, not, ◌&&◌, eqb, List, [], ◌∷◌, ◌++◌, refl, sym, ap, ◌∙◌, subst, arith, append_assoc, inl, inr}
 use Rattle.std.specs.List.{AllByRecursion}
 use Rattle.std.proofs.lemmas.Bool.{ne_eqb, eq-eqb}
-use Rattle.os_command_line.specs.Windows.{backslash, quote, IsBlank, backslashes, IsLiteral, Ends, StartsWithNoQuote, Begins, Reads, IsNext, AreArguments, ReadsName, IsCommandLine}
+use Rattle.os_command_line.specs.Windows.{backslash, quote, IsBlank, is_blank, backslashes, IsLiteral, Ends, StartsWithNoQuote, Begins, Reads, IsNext, AreArguments, ReadsName, IsCommandLine}
 use Rattle.os_command_line.specs.Windows.Reads.{ends, literal, escaped, opens, closes, doubled}
 use Rattle.os_command_line.specs.Windows.ReadsName.{name_ends, name_quote, name_unit}
-use Rattle.os_command_line.specs.WindowsReader.{Index, is_blank, index, is_end, output, step, prepend, word_from, meant, first_index, name_index, arguments_from, arguments_in}
+use Rattle.os_command_line.specs.WindowsReader.{Index, index, is_end, output, step, prepend, word_from, meant, first_index, name_index, arguments_from, arguments_in}
 use Rattle.os_command_line.specs.WindowsReader.Mode.{Within}
 
 -- in an argument
 abbrev pub at : Bool → ℕ → Index
 at inside run = index false false inside run
+
+pub past_blank : (u : ℕ) → 0x20 < u → ¬ (IsBlank u)
+past_blank u h (inl e) = omega (arith, h, e)
+past_blank u h (inr e) = omega (arith, h, e)
 
 pub not_blank : (u : ℕ) → ¬ (IsBlank u) → is_blank u ≡ false
 not_blank u h = rw (ne_eqb u 0x20 (λ e. h (inl e)), ne_eqb u 0x09 (λ e. h (inr e))) refl

@@ -1,6 +1,7 @@
 -- A text cut into pieces that mean themselves, by units.
-use Rattle.std.proofs.Common.{◌≡◌, ◌≢◌, ℕ, ◌+◌, ◌-◌, ◌<◌, ◌≤◌, Bool, false, List, [], ◌∷◌, ◌++◌, take, length, refl, sym, ap, ◌∙◌, subst, arith, append_assoc, append-nil, length-append}
+use Rattle.std.proofs.Common.{◌≡◌, ◌≢◌, ◌⊎◌, inl, inr, ℕ, ◌+◌, ◌-◌, ◌<◌, ◌≤◌, Bool, true, false, List, [], ◌∷◌, ◌++◌, take, length, refl, sym, ap, ◌∙◌, subst, arith, append_assoc, append-nil, length-append}
 use Rattle.std.specs.List.{AllByRecursion, flat_map}
+use Rattle.std.proofs.lemmas.Bool.{true≢false}
 use Rattle.std.proofs.lemmas.Grind.{flat_map-append}
 use Rattle.std.proofs.Math.Seq.{take-append_seam}
 use Rattle.std.proofs.lemmas.List.{length-replicate, replicate-append-replicate}
@@ -12,12 +13,14 @@ use Rattle.wtf8_core.proofs.lemmas.units.Cuts.{encodes_prefix, encodes_suffix}
 use Rattle.wtf8_core.proofs.lemmas.units.AsFunction.{code_points_in-encoded}
 use Rattle.os_command_line.specs.declared.windows.place.Place.{Place}
 use Rattle.os_command_line.specs.Windows.{backslash, quote, backslashes}
-use Rattle.os_command_line.specs.WindowsReader.{index_at, meant, meant_mark}
+use Rattle.os_command_line.specs.WindowsReader.{index_at, meant, meant_mark, units_left}
 use Rattle.os_command_line.specs.WindowsSteps.{last_run, IsCutAtQuote, IsAtQuote, IsPieceCut}
-use Rattle.os_command_line.proofs.lemmas.WindowsLifted.{IsForm, run_form}
+use Rattle.os_command_line.proofs.lemmas.CharacterForms.{IsForm, bytes_form, units_form}
+use Rattle.os_command_line.proofs.lemmas.Lists.{both_parts}
+use Rattle.os_command_line.proofs.lemmas.WindowsLifted.{run_form, quote_form, slashes_form}
 use Rattle.os_command_line.proofs.lemmas.WindowsOneReading.{meant_end}
-use Rattle.os_command_line.proofs.lemmas.WindowsStrings.{bytes_form, units_form, each_unit, no_units, no_bytes}
-use Rattle.os_command_line.proofs.lemmas.WindowsRuns.{run_is, quote_is, run_alone}
+use Rattle.os_command_line.proofs.lemmas.WindowsStrings.{each_unit, no_units, no_bytes}
+use Rattle.os_command_line.proofs.lemmas.WindowsRuns.{run_is}
 use Rattle.os_command_line.proofs.lemmas.WindowsMeaning.{none_meant}
 
 -- backslashes, cut in two
@@ -60,7 +63,7 @@ cut_by_units text prefix run kept after w e within none =
     let ps = found.prefix in
     let vs = found.suffix in
     let cut : w.0 ≡ (ps ++ backslashes kept) ++ (more ++ vs) = found.cut ∙ ap (λ z. ps ++ (z ++ vs)) halves ∙ regroup ps (backslashes kept) more vs in
-    let piece_is : flat_map encode (ps ++ backslashes kept) ≡ prefix ++ backslashes kept = flat_map-append encode ps (backslashes kept) ∙ ap (λ z. z ++ flat_map encode (backslashes kept)) found.prefix_is ∙ ap (λ z. prefix ++ z) (run_alone encode bytes_form kept) in
+    let piece_is : flat_map encode (ps ++ backslashes kept) ≡ prefix ++ backslashes kept = flat_map-append encode ps (backslashes kept) ∙ ap (λ z. z ++ flat_map encode (backslashes kept)) found.prefix_is ∙ ap (λ z. prefix ++ z) (slashes_form encode bytes_form kept) in
     let points = subst (AllByRecursion IsCodePoint) cut w.1.code_points in
     let pairs = subst HasNoSurrogatePair cut w.1.no_pair in
     let own = encodes_prefix (ps ++ backslashes kept) (more ++ vs) points pairs in
@@ -74,7 +77,7 @@ cut_by_units text prefix run kept after w e within none =
       piece_formed = subst IsWtf8 piece_is (ps ++ backslashes kept, own);
       after_formed = subst IsWtf8 found.suffix_is (vs, last);
       own = units ps;
-      no_quote = subst (AllByRecursion (λ u. u ≢ quote)) alone_units (each_unit (λ u. u ≢ quote) no_quote_past prefix prefix_formed (all_before prefix (backslashes run) none));
+      no_quote = subst (AllByRecursion (λ u. u ≢ quote)) alone_units (each_unit (λ u. u ≢ quote) no_quote_past prefix prefix_formed (both_parts (λ u. u ≢ quote) prefix (backslashes run) none).0);
       same_run = run_is encode_utf16 units_form 0 ps ∙ sym (run_is encode bytes_form 0 ps) ∙ ap (last_run 0) found.prefix_is;
       same_empty = (λ n. no_bytes prefix prefix_formed (alone_units ∙ n), λ n. sym alone_units ∙ no_units prefix prefix_formed n);
       units_are =
@@ -85,24 +88,20 @@ cut_by_units text prefix run kept after w e within none =
           ap units_of (sym piece_is)
           ∙ ap units (code_points_in-encoded _ (ps ++ backslashes kept) own)
           ∙ flat_map-append encode_utf16 ps (backslashes kept)
-          ∙ ap (λ z. units ps ++ z) (run_alone encode_utf16 units_form kept);
+          ∙ ap (λ z. units ps ++ z) (slashes_form encode_utf16 units_form kept);
     }
   where
     some : 0 < length (backslashes run ++ quote ∷ [])
     some = omega (arith, length-append (backslashes run) (quote ∷ []))
 
     marks_form : (f : ℕ → List ℕ) (form : IsForm f) (n : ℕ) → flat_map f (backslashes n ++ quote ∷ []) ≡ backslashes n ++ quote ∷ []
-    marks_form f form n = run_form f form n (quote ∷ []) ∙ ap (λ z. backslashes n ++ z) (quote_is f form [])
+    marks_form f form n = run_form f form n (quote ∷ []) ∙ ap (λ z. backslashes n ++ z) (quote_form f form [])
 
     halves : backslashes run ++ quote ∷ [] ≡ backslashes kept ++ (backslashes (run - kept) ++ quote ∷ [])
     halves = ap (λ z. z ++ quote ∷ []) (cut_in_two run kept within) ∙ append_assoc (backslashes kept) (backslashes (run - kept)) (quote ∷ [])
 
     regroup : (a b c d : List ℕ) → a ++ ((b ++ c) ++ d) ≡ (a ++ b) ++ (c ++ d)
     regroup a b c d = ap (λ z. a ++ z) (append_assoc b c d) ∙ sym (append_assoc a b (c ++ d))
-
-    all_before : (xs ys : List ℕ) → AllByRecursion (λ u. u ≢ quote) (xs ++ ys) → AllByRecursion (λ u. u ≢ quote) xs
-    all_before [] ys h = tt
-    all_before (x ∷ xs) ys h = (h.0, all_before xs ys h.1)
 
 -- a text cut before a quotation mark, as it was read there
 module _ (p : Place) (text before after : List ℕ) (w : IsWtf8 text) (k : IsCutAtQuote text before after) (len : ℕ) (mark : Bool) (to : Place) (a : IsAtQuote p before len mark to) where
@@ -132,3 +131,18 @@ module _ (p : Place) (text before after : List ℕ) (w : IsWtf8 text) (k : IsCut
 
   pub rest_formed : IsWtf8 after
   rest_formed = by_units.after_formed
+
+-- ---- after the last piece nothing is left, or a mark is next
+
+pub ended : (mark : Bool) (p : Place) (text us : List ℕ) → IsWtf8 text → us ≡ [] → mark ≡ false → (mark ≡ true) ⊎ (text ≡ []) → units_left us mark p (units_of text) ≡ []
+ended mark p text us w e f h = elim h [
+  | inl t ↦ absurd (true≢false (sym t ∙ f))
+  | inr n ↦
+      ap (λ z. z ++ (meant_mark mark ++ meant (index_at p) (units_of text))) e
+      ∙ ap (λ m. meant_mark m ++ meant (index_at p) (units_of text)) f
+      ∙ ap (meant (index_at p)) (no_units text w n)
+      ∙ meant_end (index_at p)
+]
+
+pub marked : (mark : Bool) (p : Place) (rest us : List ℕ) → us ≡ [] → mark ≡ true → units_left [] mark p rest ≡ quote ∷ units_left us false p rest
+marked mark p rest us e t = ap (λ m. meant_mark m ++ meant (index_at p) rest) t ∙ ap (λ z. quote ∷ (z ++ meant (index_at p) rest)) (sym e)

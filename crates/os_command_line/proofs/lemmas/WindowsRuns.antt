@@ -1,10 +1,10 @@
 -- The backslashes with which a text ends, by bytes and by units.
-use Rattle.std.proofs.Common.{◌≡◌, ◌≢◌, ◌⊎◌, inl, inr, ℕ, ◌+◌, ◌<◌, ◌≤◌, eqb, cond, List, [], ◌∷◌, ◌++◌, refl, sym, ap, ◌∙◌, arith, append-nil}
+use Rattle.std.proofs.Common.{◌≡◌, ◌≢◌, inl, inr, ℕ, ◌+◌, ◌≤◌, eqb, cond, List, [], ◌∷◌, ◌++◌, refl, sym, ap, ◌∙◌, arith}
 use Rattle.std.specs.List.{AllByRecursion, flat_map}
-use Rattle.std.proofs.lemmas.Bool.{ne_eqb, eq-eqb}
-use Rattle.os_command_line.specs.Windows.{backslash, quote, backslashes}
+use Rattle.std.proofs.lemmas.Bool.{cases_lt, ne_eqb, eq-eqb}
+use Rattle.os_command_line.specs.Windows.{backslash}
 use Rattle.os_command_line.specs.WindowsSteps.{last_run}
-use Rattle.os_command_line.proofs.lemmas.WindowsLifted.{IsForm, AreWide, run_form}
+use Rattle.os_command_line.proofs.lemmas.CharacterForms.{IsForm, AreWide}
 
 abbrev pub one_more : ℕ → ℕ → ℕ
 one_more n u = cond (eqb u backslash) (n + 1) 0
@@ -32,16 +32,7 @@ run_wide n (x ∷ xs) ys h = ap (λ m. last_run m (xs ++ ys)) (more_is n x (λ e
 module _ (f : ℕ → List ℕ) (form : IsForm f) where
   pub run_is : (n : ℕ) (cs : List ℕ) → last_run n (flat_map f cs) ≡ last_run n cs
   run_is n [] = refl
-  run_is n (c ∷ cs) = elim (below c) [
+  run_is n (c ∷ cs) = elim (cases_lt c 0x80) [
     | inl lt ↦ ap (λ z. last_run n (z ++ flat_map f cs)) (form.ascii c lt) ∙ run_is (one_more n c) cs
     | inr ge ↦ run_wide n (f c) (flat_map f cs) (form.wide c ge) ∙ run_is 0 cs ∙ ap (λ m. last_run m cs) (sym (more_is n c (λ e. omega (arith, e, ge))))
   ]
-    where
-      below : (c : ℕ) → (c < 0x80) ⊎ (0x80 ≤ c)
-      below c = grind arith
-
-  pub quote_is : (xs : List ℕ) → flat_map f (quote ∷ xs) ≡ quote ∷ flat_map f xs
-  quote_is xs = ap (λ z. z ++ flat_map f xs) (form.ascii quote (omega arith))
-
-  pub run_alone : (n : ℕ) → flat_map f (backslashes n) ≡ backslashes n
-  run_alone n = ap (flat_map f) (sym (append-nil (backslashes n))) ∙ run_form f form n [] ∙ append-nil (backslashes n)

@@ -9,8 +9,10 @@ use Rattle.os_command_line.specs.Windows.Reads.{ends, literal, escaped, opens, c
 use Rattle.os_command_line.specs.Windows.ReadsName.{name_ends, name_quote, name_unit}
 use Rattle.os_command_line.specs.WindowsReader.{meant, first_index}
 use Rattle.os_command_line.specs.WindowsSteps.{IsInPart, IsPartCut, IsPartEnd, BeginsArgument, EndsWithRun, last_run, Leads, IsQuoteStep}
-use Rattle.os_command_line.proofs.lemmas.WindowsEachLine.{same, more_backslashes}
+use Rattle.os_command_line.proofs.lemmas.WindowsOwnText.{same}
+use Rattle.os_command_line.proofs.lemmas.WindowsEachLine.{more_backslashes}
 use Rattle.os_command_line.proofs.lemmas.WindowsRuns.{more_is, slash_more}
+use Rattle.os_command_line.proofs.lemmas.Lists.{both_parts, one_more}
 use Rattle.os_command_line.proofs.lemmas.ShellForms.{nowhere, before_first}
 use Rattle.os_command_line.proofs.lemmas.WindowsOneReading.{complete_alone}
 
@@ -99,12 +101,8 @@ bare_means_itself us h = complete_alone us us (same (append-nil us) refl (part_f
 part_before : (inside : Bool) (part rest : List ℕ) (run : ℕ) → AllByRecursion (IsInPart inside) part → EndsWithRun part run → (added : List ℕ) × Leads inside 0 (part ++ rest) added inside run rest
 part_before inside part rest run h last =
     let parts = subst (AllByRecursion (IsInPart inside)) last.1 h in
-    let read = part_leads inside (backslashes run ++ rest) last.0 0 (in_front last.0 (backslashes run) parts) in
+    let read = part_leads inside (backslashes run ++ rest) last.0 0 (both_parts (IsInPart inside) last.0 (backslashes run) parts).0 in
     (read.0, λ argument after r. same (sym (append_assoc last.0 (backslashes run) rest) ∙ ap (λ z. z ++ rest) (sym last.1)) refl (read.1 argument after (same (ap (λ m. backslashes m ++ (backslashes run ++ rest)) (sym last.2)) refl r)))
-  where
-    in_front : (xs ys : List ℕ) → AllByRecursion (IsInPart inside) (xs ++ ys) → AllByRecursion (IsInPart inside) xs
-    in_front [] ys h = tt
-    in_front (x ∷ xs) ys h = (h.0, in_front xs ys h.1)
 
 -- ---- the search for its end
 
@@ -154,10 +152,7 @@ bare_end text None h = nowhere is_stop (IsInPart false) stop_other text h
 bare_end text (Some at) h = part_to false is_stop text at stop_other (λ u us is n. stop_blank u is n) h
 
 pub whole_part : (inside : Bool) (text : List ℕ) → AllByRecursion (IsInPart inside) text → IsPartCut inside text text []
-whole_part inside text h = record { joined = sym (append-nil text); is_part = h; end = λ _. any_end inside }
-  where
-    any_end : (inside : Bool) → Ends inside []
-    any_end inside = tt
+whole_part inside text h = record { joined = sym (append-nil text); is_part = h; end = λ _. tt }
 
 -- ---- an argument
 
@@ -237,8 +232,4 @@ last_of_name line inside rest so_far n = (so_far.added ++ [], so_far.taken, so_f
 pub blank_passed : (line rest : List ℕ) (unit : ℕ) (after : List ℕ) → (blanks : List ℕ) × AllByRecursion IsBlank blanks × (line ≡ blanks ++ rest) → rest ≡ unit ∷ after → IsBlank unit
     → (blanks : List ℕ) × AllByRecursion IsBlank blanks × (line ≡ blanks ++ after)
 blank_passed line rest unit after so_far e b =
-    (so_far.0 ++ unit ∷ [], are_blanks so_far.0 so_far.1, so_far.2 ∙ ap (λ z. so_far.0 ++ z) e ∙ sym (append_assoc so_far.0 (unit ∷ []) after))
-  where
-    are_blanks : (bs : List ℕ) → AllByRecursion IsBlank bs → AllByRecursion IsBlank (bs ++ unit ∷ [])
-    are_blanks [] h = (b, tt)
-    are_blanks (x ∷ bs) h = (h.0, are_blanks bs h.1)
+    (so_far.0 ++ unit ∷ [], one_more IsBlank so_far.0 unit so_far.1 b, so_far.2 ∙ ap (λ z. so_far.0 ++ z) e ∙ sym (append_assoc so_far.0 (unit ∷ []) after))

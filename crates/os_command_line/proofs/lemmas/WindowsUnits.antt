@@ -1,5 +1,5 @@
 -- Texts cut before an end, and units compared, for answers.
-use Rattle.std.proofs.Common.{◌≡◌, ◌≢◌, ℕ, ◌-◌, false, true, List, [], ◌∷◌, ◌++◌, take, drop, length, refl, sym, ap, ◌∙◌, arith, append_assoc, length-append}
+use Rattle.std.proofs.Common.{◌≡◌, ◌≢◌, ℕ, ◌-◌, false, List, [], ◌∷◌, ◌++◌, take, drop, length, refl, sym, ap, ◌∙◌, arith, append_assoc, length-append}
 use Rattle.std.proofs.Math.Seq.{take-append_seam, drop-append_seam}
 use Rattle.std.specs.Prelude.{IsTrue}
 use Rattle.wtf8_core.proofs.lemmas.forms.Appending.{append_same}
@@ -15,9 +15,6 @@ cut_before_end text raw rest n e k =
 module _ (mine other prefix m w : List ℕ) (a : mine ≡ prefix ++ m) (b : other ≡ prefix ++ w) where
   pub never_equal : (m ≡ w → ⊥) → (IsTrue false → mine ≡ other) × (mine ≡ other → IsTrue false)
   never_equal n = never (mine ≡ other) (λ e. n (append_same prefix m prefix w (sym a ∙ e ∙ b) refl).1)
-
-  pub are_equal : m ≡ [] → w ≡ [] → (IsTrue true → mine ≡ other) × (mine ≡ other → IsTrue true)
-  are_equal e f = (λ _. a ∙ ap (λ z. prefix ++ z) (e ∙ sym f) ∙ sym b, λ _. refl)
 
 pub not_nil : (xs ys : List ℕ) (y : ℕ) (zs : List ℕ) → xs ≡ [] → ys ≡ y ∷ zs → xs ≡ ys → ⊥
 not_nil xs ys y zs e f g = let h : [] ≡ y ∷ zs = sym e ∙ g ∙ f in cc

@@ -81,6 +81,7 @@ pub struct FishQuoted<'a> {
 /// let refused = quoted_fish(OsStr::<Unix>::from_encoded_bytes_unchecked(b"a\xFF"));
 /// assert_eq!(rt; refused.err(), Some(FishError::NotText(1)));
 /// ```
+#[tactic(auto, using(crate::proofs::lemmas::Fish::is_fish_text))]
 pub fn quoted_fish(name: OsStr<'_, Unix>) -> Result<FishQuoted<'_>, FishError>
     ensures text { IfOk result (λ quoted. IsFishText (fish_text quoted) (bytes name.entry)) }
     ensures word { IfOk result (λ quoted. fish_text quoted ≡ fish_word (bytes name.entry)) }
@@ -120,6 +121,7 @@ pub fn quoted_fish(name: OsStr<'_, Unix>) -> Result<FishQuoted<'_>, FishError>
 /// assert_eq!(rt; write_quoted_fish(name, &mut buffer), Ok(6));
 /// assert_eq!(rt; buffer.as_slice(), b"'a\\'\xFF'--".as_slice());
 /// ```
+#[tactic(auto, using(crate::proofs::lemmas::Fish::is_fish_text))]
 pub fn write_quoted_fish(name: OsStr<'_, Unix>, buffer: &mut [u8]) -> Result<usize, NulError>
     requires { 2 * length (bytes name) + 2 < 2 ^ 64 }
     ensures text { OnOk result (IsFishText (fish_word (bytes name.entry)) (bytes name.entry)) }
@@ -234,6 +236,7 @@ fn write_quoted<W: fmt::Write>(text: &str, f: &mut fmt::Formatter<W>) -> fmt::Re
 }
 
 /// Writes a character in single quotes.
+#[tactic(auto, using(crate::proofs::lemmas::Fish::plain_character))]
 fn write_character<W: fmt::Write>(character: char, f: &mut fmt::Formatter<W>) -> fmt::Result
     ensures { WritesStyledOnOk W.write_str_gives f.old result
         (flat_map fish_byte (encode_utf8 character)) f.new }

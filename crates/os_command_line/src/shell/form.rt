@@ -35,6 +35,7 @@ impl Form {
 }
 
 /// The form of a name in every POSIX shell.
+#[tactic(auto, using(crate::proofs::lemmas::ShellBare::plain_has_no_nul))]
 pub(crate) fn form_of(name: OsStr<'_, Unix>) -> Result<Form, NulError>
     ensures form { MatchResult result (λ form. IsFormOf (bytes name.entry) form)
         (λ fault. IsFirstNul (bytes name.entry) fault.index) }
@@ -50,6 +51,7 @@ pub(crate) fn form_of(name: OsStr<'_, Unix>) -> Result<Form, NulError>
 }
 
 /// The form of a name on one line.
+#[tactic(auto, using(crate::proofs::lemmas::ShellBare::bare_line_form))]
 pub(crate) fn line_form_of(name: OsStr<'_, Unix>) -> Result<Form, NulError>
     ensures form { MatchResult result (λ form. IsLineFormOf (bytes name.entry) form)
         (λ fault. IsFirstNul (bytes name.entry) fault.index) }
@@ -77,6 +79,7 @@ pub(crate) fn is_line_text(name: OsStr<'_, Unix>) -> bool
 }
 
 /// The index of the first NUL.
+#[tactic(auto, using(crate::proofs::lemmas::ShellForms::nul_found))]
 pub(crate) fn first_nul(name: &[u8]) -> Option<usize>
     ensures { MatchOption result (HasNoNul name.now) (λ index. IsFirstNul name.now index) }
 {

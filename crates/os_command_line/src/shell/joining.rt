@@ -1,9 +1,10 @@
 //! Words joined into a line.
 ghost use Rattle.std.specs.Prelude.{◌≡◌, ◌++◌, ◌∷◌, ◌+◌, ◌<◌, [], map, drop, length, IfOk, IfErr, IfSome, OnOk, MatchOption};
+ghost use Rattle.std.specs.List.{AllByRecursion};
 ghost use Rattle.platform_str.specs.Strings.{bytes, string_vec_of};
 ghost use Rattle.os_command_line.specs.Shell.{AreWords};
 ghost use Rattle.os_command_line.specs.declared.shell.language.Language.{Language};
-ghost use Rattle.os_command_line.specs.ShellWriting.{IsFirstNameFault, after_first, join_words, quoted_word};
+ghost use Rattle.os_command_line.specs.ShellWriting.{HasNoNul, IsFirstNameFault, after_first, join_words, quoted_word};
 
 use crate::shell::error::ShellError;
 use crate::shell::owned::{push_word, unix_string};
@@ -11,7 +12,8 @@ use platform_str::{OsStr, OsString, Unix};
 use std::alloc::{AllocError, Allocator};
 
 /// Returns a line of the words of these names ([`quote`](crate::shell::quote)), a space between them:
-/// what a shell reads from it is these names. The line of no name is empty.
+/// what a shell reads from it is these names. The line of no name is empty. (Of texts, `join` of the
+/// crates shlex and shell-words.)
 ///
 /// # Errors
 ///
@@ -34,6 +36,7 @@ pub fn join<A: Allocator>(
         ≡ join_words (map quoted_word (map bytes names.now))) }
     ensures read { IfOk result (λ line. (l : Language)
         → AreWords l (string_vec_of line).items (map bytes names.now)) }
+    ensures no_nul { OnOk result (AllByRecursion HasNoNul (map bytes names.now)) }
     ensures fault { IfErr result (λ fault. IsFirstNameFault (map bytes names.now) fault) }
 {
     let mut line = Vec::new(alloc);
@@ -57,6 +60,7 @@ fn push_after<A: Allocator>(
 ) -> Result<(), ShellError>
     ensures line { OnOk result (line.new.items
         ≡ line.old.items ++ after_first (map quoted_word (map bytes names.now))) }
+    ensures no_nul { OnOk result (AllByRecursion HasNoNul (map bytes names.now)) }
     ensures fault { IfErr result (λ fault. IsFirstNameFault (map bytes names.now) fault) }
 {
     let mut index = 0;

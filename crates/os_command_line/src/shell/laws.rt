@@ -20,6 +20,7 @@ pub fn lines()
 {}
 
 /// Each byte of a line belongs to a gap, to a mark or to a word, up to the fault if the line has one.
+#[tactic(auto, using(crate::proofs::lemmas::ShellParts::line_parts))]
 pub fn parts()
     ensures { (l : Language) → (line : List ℕ) → (items : List (Result (List ℕ) WordsFault))
         → IsRead l line items → AreLineParts line items }

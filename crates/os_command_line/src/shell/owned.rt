@@ -13,7 +13,8 @@ use platform_str::{OsStr, OsString, Unix};
 use std::alloc::{AllocError, Allocator};
 
 /// Returns the word that every POSIX shell reads as this name: the bytes that
-/// [`write_quoted`](crate::shell::write_quoted) writes. It makes one request, of the word's length.
+/// [`write_quoted`](crate::shell::write_quoted) writes (of a text, `quote` of the crates shlex and
+/// shell-words). It makes one request, of the word's length.
 ///
 /// # Errors
 ///
@@ -31,6 +32,7 @@ pub fn quote<A: Allocator>(alloc: A, name: OsStr<'_, Unix>) -> Result<OsString<U
         (λ word. (string_vec_of word).items ≡ quoted_word (bytes name.entry)) }
     ensures read { IfOk result (λ word. (l : Language)
         → IsTextOf l (string_vec_of word).items (bytes name.entry)) }
+    ensures no_nul { OnOk result (HasNoNul (bytes name.entry)) }
     ensures fault { IfErr result (λ fault. IsNameFault (bytes name.entry) fault) }
 {
     let mut word = Vec::new(alloc);
@@ -61,6 +63,7 @@ pub fn quote_line<A: Allocator>(
     ensures read { IfOk result (λ word. (l : Language) → l.dollar_quotes ≡ true
         → IsTextOf l (string_vec_of word).items (bytes name.entry)) }
     ensures stays { IfOk result (λ word. IsLineText (string_vec_of word).items) }
+    ensures no_nul { OnOk result (HasNoNul (bytes name.entry)) }
     ensures fault { IfErr result (λ fault. IsNameFault (bytes name.entry) fault) }
 {
     let mut word = Vec::new(alloc);

@@ -81,9 +81,12 @@ pub struct PowerShellQuoted<'a> {
 /// let refused = quoted_powershell(OsStr::<Windows>::new("a\0"));
 /// assert_eq!(rt; refused.err(), Some(PowerShellError::Nul(1)));
 /// ```
+#[tactic(auto, using(crate::proofs::lemmas::PowerShell::is_powershell_text))]
 pub fn quoted_powershell(name: OsStr<'_, Windows>) -> Result<PowerShellQuoted<'_>, PowerShellError>
     ensures text { IfOk result
         (λ quoted. IsPowerShellText (powershell_text quoted) (chars (bytes name.entry))) }
+    ensures string { IfOk result
+        (λ quoted. powershell_text quoted ≡ powershell_string (chars (bytes name.entry))) }
     ensures name { OnOk result (IsPowerShellName (bytes name.entry)) }
     ensures fault { IfErr result (λ fault. IsPowerShellFault (bytes name.entry) fault) }
 {
@@ -121,6 +124,8 @@ pub fn write_quoted_powershell(
     ensures text { IfOk result (λ len. (text : List ℕ)
         × (IsPowerShellText text (chars (bytes name.entry))
         × IsTruncated text buffer.old buffer.new len)) }
+    ensures string { IfOk result (λ len. IsTruncated (powershell_string (chars (bytes name.entry)))
+        buffer.old buffer.new len) }
     ensures name { OnOk result (IsPowerShellName (bytes name.entry)) }
     ensures fault { IfErr result (λ fault. IsPowerShellFault (bytes name.entry) fault
         × (buffer.new ≡ buffer.old)) }

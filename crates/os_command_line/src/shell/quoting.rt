@@ -16,7 +16,8 @@ use platform_str::{OsStr, Unix};
 ///
 /// A name that isn't empty and has only `A-Z a-z 0-9 _ @ + : , . / -` prints as it is, any other in
 /// single quotes, a single quote as `'\''`. Nothing in it is expanded, also not by an interactive
-/// shell. A name can still be read as an option by a program, as `-x` is.
+/// shell. A name can still be read as an option by a program, as `-x` is. (POSIX.1-2024, Shell Command
+/// Language, 2.2.2; the crate shlex has `quote`, of a text.)
 ///
 /// What is printed is text, so a name that isn't UTF-8 is printed as by [`quoted_line`];
 /// [`write_quoted`](crate::shell::write_quoted) and [`quote`](crate::shell::quote) write its bytes.

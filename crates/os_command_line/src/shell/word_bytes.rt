@@ -52,6 +52,7 @@ impl<'a> Iterator for WordBytes<'a> {
 }
 
 /// The next byte that is meant, where the reader is then, and what is left.
+#[tactic(auto, using(crate::proofs::lemmas::ShellBare::left_bare, crate::proofs::lemmas::ShellBare::left_marked))]
 #[inline(always)]
 fn next_byte(
     language: Language,

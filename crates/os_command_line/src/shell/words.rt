@@ -41,7 +41,8 @@ impl<'a> Model for Words<'a> {
 
 impl<'a> Words<'a> {
     /// The words of a line as `sh` reads it, where nothing is expanded (POSIX.1-2024, Shell Command
-    /// Language, 2.2 and 2.3). Quotes and what escapes a byte aren't part of a word.
+    /// Language, 2.2 and 2.3; of a text, the crates shlex and shell-words have `split`). Quotes and what
+    /// escapes a byte aren't part of a word.
     ///
     /// - Words are separated by spaces, tabs and newlines outside quotes.
     /// - In single quotes each byte means itself.
@@ -101,6 +102,7 @@ impl<'a> Words<'a> {
     }
 
     /// The words of a line in a language.
+    #[tactic(auto, using(crate::proofs::lemmas::ShellItems::are_items))]
     fn read(language: Language, line: OsStr<'a, Unix>) -> Self
         ensures { IsRead language (bytes line.entry) result }
     {

@@ -25,6 +25,7 @@ pub(crate) fn cut_name(line: OsStr<'_, Windows>) -> (OsStr<'_, Windows>, OsStr<'
 }
 
 /// The next argument, and the rest of the line; `None` where only blanks are left.
+#[tactic(auto, using(crate::proofs::lemmas::WindowsCuts::next_of))]
 pub(crate) fn cut_argument(line: OsStr<'_, Windows>) -> Option<(Argument<'_>, OsStr<'_, Windows>)>
     ensures { MatchOption result (AllByRecursion IsBlank (units_of (bytes line.entry)))
         (λ cut. IsNext (units_of (bytes line.entry)) (argument_units cut.0)

@@ -17,6 +17,7 @@ pub fn lines()
 {}
 
 /// Each unit of a line is a blank between arguments, a mark, or one of the name or of an argument.
+#[tactic(auto, using(crate::proofs::lemmas::WindowsParts::line_parts))]
 pub fn parts()
     ensures { (line : List ℕ) → (name : List ℕ) → (arguments : List (List ℕ))
         → IsCommandLine line name arguments → AreLineParts line name arguments }

@@ -32,6 +32,7 @@ pub(crate) fn skip_blanks(line: &[u8]) -> &[u8]
 
 /// The bytes before the next quotation mark or, outside quotation marks, before the next blank, and
 /// what comes after them.
+#[tactic(auto, using(crate::proofs::lemmas::WindowsScan::whole_part))]
 #[inline(always)]
 fn cut_part(inside: bool, text: &[u8]) -> (&[u8], &[u8])
     ensures { IsPartCut inside text.now result.0.now result.1.now }
@@ -43,6 +44,7 @@ fn cut_part(inside: bool, text: &[u8]) -> (&[u8], &[u8])
 }
 
 /// Where those bytes end; `None` where they are the whole text.
+#[tactic(auto, using(crate::proofs::lemmas::WindowsScan::quoted_end, crate::proofs::lemmas::WindowsScan::bare_end))]
 #[inline(always)]
 fn part_end(inside: bool, text: &[u8]) -> Option<usize>
     ensures { IsPartEnd inside text.now result }
@@ -73,6 +75,7 @@ pub(crate) fn after_argument(text: &[u8]) -> (&[u8], bool)
 
 /// Reads a quotation mark after so many backslashes, or two marks within a quoted part: whether it is
 /// inside quotation marks then, and what comes after.
+#[tactic(auto, using(crate::proofs::lemmas::WindowsScan::step_escaped, crate::proofs::lemmas::WindowsScan::step_opens, crate::proofs::lemmas::WindowsScan::step_closes, crate::proofs::lemmas::WindowsScan::step_doubled))]
 #[inline(always)]
 fn after_quote(inside: bool, run: usize, after: &[u8]) -> (bool, &[u8])
     ensures { IsQuoteStep inside run (0x22 ∷ after.now) result.0 result.1.now }

@@ -1,10 +1,10 @@
 //! Command lines, written.
-ghost use Rattle.std.specs.Prelude.{◌≡◌, ◌≢◌, ◌+◌, ◌<◌, ◌≤◌, ◌^◌, ◌++◌, ◌∷◌, false, [], ℕ, List, map, drop, length, IfSome, MatchOption, IsTrue, IsOk, OnOk, OnErr, IfOk, IfErr};
+ghost use Rattle.std.specs.Prelude.{◌≡◌, ◌+◌, ◌<◌, ◌≤◌, ◌^◌, ◌++◌, ◌∷◌, false, [], ℕ, List, map, drop, length, IfSome, MatchOption, IsTrue, IsOk, OnOk, OnErr, IfOk, IfErr};
 ghost use Rattle.std.specs.List.{AllByRecursion};
 ghost use Rattle.wtf8_core.specs.UnitsOf.{units_of};
 ghost use Rattle.platform_str.specs.Strings.{bytes};
 ghost use Rattle.os_command_line.specs.Windows.{IsBlank, backslashes, IsPlain, IsTextOf, IsCommandLine};
-ghost use Rattle.os_command_line.specs.WindowsWriting.{HasNo, IsAddedFor, IsWritten, IsArgumentFault, IsCommandLineFault, IsWritableName};
+ghost use Rattle.os_command_line.specs.WindowsWriting.{HasNo, IsAddedFor, IsWritten, IsArgumentFault, IsCommandLineFault, IsWritableName, argument_text, escaped, in_marks, line_text};
 
 use crate::windows::checks::{first_at, has_no_blank};
 use crate::windows::error::CommandLineError;
@@ -45,10 +45,13 @@ const SPACE: u16 = 0x20;
 /// let fault = push_argument(&mut line, OsStr::<Windows>::new("a\0"));
 /// assert_eq!(rt; fault, Err(CommandLineError::Nul(1)));
 /// ```
+#[tactic(auto, using(crate::proofs::lemmas::WindowsWriting::plain_text, crate::proofs::lemmas::WindowsWriting::text_is))]
 pub fn push_argument<A: Allocator>(
     line: &mut Vec<u16, A>,
     argument: OsStr<'_, Windows>,
 ) -> Result<(), CommandLineError>
+    ensures written { OnOk result (line.new.items ≡ line.old.items
+        ++ argument_text (⟦<Windows as Platform>⟧.units (bytes argument.entry))) }
     ensures text { OnOk result ((text : List ℕ) × (line.new.items ≡ line.old.items ++ text)
         × IsTextOf text (⟦<Windows as Platform>⟧.units (bytes argument.entry))) }
     ensures plain { OnOk result (IsPlain (⟦<Windows as Platform>⟧.units (bytes argument.entry))
@@ -96,6 +99,9 @@ pub fn command_line<A: Allocator>(
     program: OsStr<'_, Windows>,
     arguments: &[OsStr<'_, Windows>],
 ) -> Result<Vec<u16, A>, CommandLineError>
+    ensures written { IfOk result (λ line. line.items
+        ≡ line_text (⟦<Windows as Platform>⟧.units (bytes program.entry))
+        (map (λ a. ⟦<Windows as Platform>⟧.units (bytes a)) arguments.now)) }
     ensures line { IfOk result (λ line. IsCommandLine line.items
         (⟦<Windows as Platform>⟧.units (bytes program.entry))
         (map (λ a. ⟦<Windows as Platform>⟧.units (bytes a)) arguments.now)) }
@@ -160,10 +166,8 @@ fn push_text<A: Allocator>(
     line: &mut Vec<u16, A>,
     argument: OsStr<'_, Windows>,
 ) -> Result<(), AllocError>
-    ensures text { OnOk result ((text : List ℕ) × (line.new.items ≡ line.old.items ++ text)
-        × IsTextOf text (units_of (bytes argument.entry))) }
-    ensures plain { OnOk result (IsPlain (units_of (bytes argument.entry))
-        → line.new.items ≡ line.old.items ++ units_of (bytes argument.entry)) }
+    ensures written { OnOk result
+        (line.new.items ≡ line.old.items ++ argument_text (units_of (bytes argument.entry))) }
     ensures grows { (more : List ℕ) × (line.new.items ≡ line.old.items ++ more) }
 {
     line.reserve(argument.len().saturating_add(2))?;
@@ -184,8 +188,8 @@ fn push_quoted<A: Allocator>(
     line: &mut Vec<u16, A>,
     argument: OsStr<'_, Windows>,
 ) -> Result<(), AllocError>
-    ensures text { OnOk result ((text : List ℕ) × (line.new.items ≡ line.old.items ++ text)
-        × IsTextOf text (units_of (bytes argument.entry))) }
+    ensures written { OnOk result
+        (line.new.items ≡ line.old.items ++ in_marks (units_of (bytes argument.entry))) }
     ensures grows { (more : List ℕ) × (line.new.items ≡ line.old.items ++ more) }
 {
     push_one(line, QUOTE)?;
@@ -196,16 +200,14 @@ fn push_quoted<A: Allocator>(
 }
 
 /// Appends an argument without quotation marks around it.
+#[tactic(auto, using(crate::proofs::lemmas::WindowsWriting::bare_new))]
 fn push_bare<A: Allocator>(
     line: &mut Vec<u16, A>,
     argument: OsStr<'_, Windows>,
 ) -> Result<(), AllocError>
-    requires some { units_of (bytes argument) ≢ [] }
-    requires no_blank { AllByRecursion (λ u. ¬ (IsBlank u)) (units_of (bytes argument)) }
-    ensures text { OnOk result ((text : List ℕ) × (line.new.items ≡ line.old.items ++ text)
-        × IsTextOf text (units_of (bytes argument.entry))) }
-    ensures plain { OnOk result (IsPlain (units_of (bytes argument.entry))
-        → line.new.items ≡ line.old.items ++ units_of (bytes argument.entry)) }
+    requires { AllByRecursion (λ u. ¬ (IsBlank u)) (units_of (bytes argument)) }
+    ensures written { OnOk result
+        (line.new.items ≡ line.old.items ++ escaped false (units_of (bytes argument.entry))) }
     ensures grows { (more : List ℕ) × (line.new.items ≡ line.old.items ++ more) }
 {
     push_units(line, false, argument)?;

@@ -1,7 +1,8 @@
 use Rattle.std.proofs.Common.{◌≡◌, [], map, ap, sym, ◌∙◌, subst, rules}
+use Rattle.std.specs.List.{AllByRecursion}
 use Rattle.std.proofs.lemmas.List.{nil_from_length}
 use Rattle.platform_str.specs.Strings.{bytes, string_vec_of}
-use Rattle.os_command_line.specs.ShellWriting.{IsFirstNameFault, join_words, quoted_word}
+use Rattle.os_command_line.specs.ShellWriting.{HasNoNul, IsFirstNameFault, join_words, quoted_word}
 use Rattle.os_command_line.proofs.lemmas.ShellJoining.{later_fault}
 use Rattle.os_command_line.proofs.lemmas.ShellRoundTrip.{are_names, joined_names}
 use Rattle.os_command_line.proofs.shell.joining.join.Goals as goal
@@ -33,3 +34,9 @@ returns-in-Ok-push_after-clause-read g c l =
     let names = map bytes c.args.names.now in
     let line : (string_vec_of c.unix_string-in-Ok-push_after.result).items ≡ join_words (map quoted_word names) = search rules in
     joined_names l names (string_vec_of c.unix_string-in-Ok-push_after.result).items (are_names bytes (λ name. name.ok) c.args.names.now) line
+
+pub returns-in_default-clause-no_nul : goal.returns-in_default-clause-no_nul
+returns-in_default-clause-no_nul g c = subst (AllByRecursion HasNoNul) (sym (ap (map bytes) (nil_from_length c.args.names.now c.in_default.ensures.cases))) tt
+
+pub returns-in-Ok-push_after-clause-no_nul : goal.returns-in-Ok-push_after-clause-no_nul
+returns-in-Ok-push_after-clause-no_nul g c = subst (AllByRecursion HasNoNul) (sym (ap (map bytes) c.in-Some.ensures.cases.0)) (c.in-Ok.ensures.no_nul, c.in-Ok-push_after.ensures.no_nul)

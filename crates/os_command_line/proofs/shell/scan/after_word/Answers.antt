@@ -1,4 +1,4 @@
-use Rattle.os_command_line.proofs.lemmas.ShellQuoted.{quoted_outcome}
+use Rattle.os_command_line.proofs.lemmas.ShellBare.{quoted_outcome}
 use Rattle.os_command_line.proofs.shell.scan.after_word.Goals as goal
 
 pub returns-in-Some : goal.returns-in-Some

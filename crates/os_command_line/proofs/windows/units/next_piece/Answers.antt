@@ -1,7 +1,7 @@
 use Rattle.std.proofs.Common.{◌≡◌, ◌∙◌, [], refl}
 use Rattle.wtf8_core.specs.UnitsOf.{units_of}
 use Rattle.platform_str.specs.Strings.{bytes}
-use Rattle.os_command_line.proofs.lemmas.WindowsLastPiece.{ended, marked}
+use Rattle.os_command_line.proofs.lemmas.WindowsPieces.{ended, marked}
 use Rattle.os_command_line.proofs.lemmas.WindowsStrings.{no_units}
 use Rattle.os_command_line.proofs.windows.units.next_piece.Goals as goal
 

@@ -1,11 +1,29 @@
-use Rattle.std.proofs.Common.{◌∙◌, sym}
+use Rattle.std.proofs.Common.{◌≡◌, ◌++◌, ◌∙◌, ap, rules, sym}
 use Rattle.std.proofs.lemmas.Bool.{true≢false}
+use Rattle.wtf8_core.specs.UnitsOf.{units_of}
 use Rattle.platform_str.specs.Strings.{bytes}
+use Rattle.os_command_line.specs.WindowsWriting.{argument_text}
 use Rattle.os_command_line.proofs.lemmas.WindowsStrings.{no_units, no_bytes}
+use Rattle.os_command_line.proofs.lemmas.WindowsWriting.{text_bare, text_in_marks}
 use Rattle.os_command_line.proofs.windows.writing.push_text.Goals as goal
 
-pub returns-then-is_empty-clause-plain : goal.returns-then-is_empty-clause-plain
-returns-then-is_empty-clause-plain g c = λ plain. absurd (plain.some (no_units (bytes c.args.argument) c.args.argument.ok (c.is_empty.ensures.0 c.if-is_empty.true)))
+pub returns-then-is_empty-clause-written : goal.returns-then-is_empty-clause-written
+returns-then-is_empty-clause-written g c =
+    let us = units_of (bytes c.args.argument) in
+    let same : c.reserve.new.self.items ≡ c.args.line.now.items = search rules in
+    let text = text_in_marks us (λ some _. some (no_units (bytes c.args.argument) c.args.argument.ok (c.is_empty.ensures.0 c.if-is_empty.true))) in
+    c.in_ok-push_quoted.ensures.written ∙ ap (λ z. c.reserve.new.self.items ++ z) (sym text) ∙ ap (λ z. z ++ argument_text us) same
 
-pub push_bare-requires-clause-some : goal.push_bare-requires-clause-some
-push_bare-requires-clause-some g c = λ none. true≢false (sym (c.is_empty.ensures.1 (no_bytes (bytes c.args.argument) c.args.argument.ok none)) ∙ c.if-is_empty.false)
+pub returns-then-has_no_blank-clause-written : goal.returns-then-has_no_blank-clause-written
+returns-then-has_no_blank-clause-written g c =
+    let us = units_of (bytes c.args.argument) in
+    let same : c.reserve.new.self.items ≡ c.args.line.now.items = search rules in
+    let text = text_bare us (λ none. true≢false (sym (c.is_empty.ensures.1 (no_bytes (bytes c.args.argument) c.args.argument.ok none)) ∙ c.if-is_empty.false)) (c.has_no_blank.ensures.0 c.if-has_no_blank.true) in
+    c.in_ok-push_bare.ensures.written ∙ ap (λ z. c.reserve.new.self.items ++ z) (sym text) ∙ ap (λ z. z ++ argument_text us) same
+
+pub returns-clause-written : goal.returns-clause-written
+returns-clause-written g c =
+    let us = units_of (bytes c.args.argument) in
+    let same : c.reserve.new.self.items ≡ c.args.line.now.items = search rules in
+    let text = text_in_marks us (λ _ none. true≢false (sym (c.has_no_blank.ensures.1 none) ∙ c.if-has_no_blank.false)) in
+    c.in_ok-push_quoted-2.ensures.written ∙ ap (λ z. c.reserve.new.self.items ++ z) (sym text) ∙ ap (λ z. z ++ argument_text us) same

@@ -2,7 +2,7 @@ use Rattle.std.proofs.Common.{◌∙◌, sym, ap, arith, if◌then◌else◌}
 use Rattle.std.proofs.lemmas.List.{nil_from_length}
 use Rattle.os_command_line.specs.ShellReader.{meant}
 use Rattle.os_command_line.specs.declared.shell.step.State.TheVariants.{Start}
-use Rattle.os_command_line.proofs.lemmas.ShellQuoted.{quoted_meant}
+use Rattle.os_command_line.proofs.lemmas.ShellBare.{quoted_meant}
 use Rattle.os_command_line.proofs.shell.word.Word.read_text.Goals as goal
 
 pub returns-in-Some-default-empty : goal.returns-in-Some-default-empty
