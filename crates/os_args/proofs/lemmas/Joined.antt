@@ -15,9 +15,6 @@ record Joins (all left ts : List (List ℕ)) : Type 0 where
   pub joined : pieces_joined pieces left ≡ all
   pub texts : piece_texts pieces ≡ ts
 
-tails : {A : Type 0} {a b : A} {x y : List A} → a ∷ x ≡ b ∷ y → x ≡ y
-tails e = cc
-
 -- pieces one after the other
 joined_append : (ps qs : List Piece) (left : List (List ℕ)) → pieces_joined (ps ++ qs) left ≡ pieces_joined ps (pieces_joined qs left)
 joined_append [] qs left = refl
@@ -39,17 +36,20 @@ joins_both all between left ts us a b = record {
   texts = texts_append a.pieces b.pieces ∙ ap (λ x. x ++ piece_texts b.pieces) a.texts ∙ ap (λ x. ts ++ x) b.texts;
 }
 
--- of the word s a mark and a text are taken, and a rest is left
-taken : (m : Mark) (s t rest : List ℕ) (words : List (List ℕ)) → s ≡ mark_bytes m ++ (t ++ rest) → Joins (s ∷ words) (with_pending rest words) (t ∷ [])
-taken m s t [] words e = record {
-  pieces = Last m t ∷ [];
-  joined = ap (λ x. x ∷ words) (ap (λ x. mark_bytes m ++ x) (sym (append-nil t)) ∙ sym e);
-  texts = refl;
+-- of the word s a text is taken, and a rest is left, which is less
+record TakesOff (s text rest : List ℕ) (words : List (List ℕ)) : Type 0 where
+  joins : Joins (s ∷ words) (with_pending rest words) (text ∷ [])
+  less : weight (with_pending rest words) < weight (s ∷ words)
+
+taken : (m : Mark) (s t rest : List ℕ) (words : List (List ℕ)) → s ≡ mark_bytes m ++ (t ++ rest) → (rest ≡ []) ⊎ (0 < length (mark_bytes m ++ t)) → TakesOff s t rest words
+taken m s t [] words e some = record {
+  joins = record { pieces = Last m t ∷ []; joined = ap (λ x. x ∷ words) (ap (λ x. mark_bytes m ++ x) (sym (append-nil t)) ∙ sym e); texts = refl };
+  less = omega arith;
 }
-taken m s t (b ∷ rest) words e = record {
-  pieces = Inner m t ∷ [];
-  joined = ap (λ x. x ∷ words) (append_assoc (mark_bytes m) t (b ∷ rest) ∙ sym e);
-  texts = refl;
+taken m s t (b ∷ rest) words e (inl none) = let never = none in cc
+taken m s t (b ∷ rest) words e (inr some) = record {
+  joins = record { pieces = Inner m t ∷ []; joined = ap (λ x. x ∷ words) (append_assoc (mark_bytes m) t (b ∷ rest) ∙ sym e); texts = refl };
+  less = omega (arith, some, ap length (e ∙ sym (append_assoc (mark_bytes m) t (b ∷ rest))), length-append (mark_bytes m ++ t) (b ∷ rest));
 }
 
 some_pending : (s : List ℕ) (words : List (List ℕ)) → s ≢ [] → with_pending s words ≡ s ∷ words
@@ -67,24 +67,24 @@ of_words : (before : Reading) (left texts : List (List ℕ)) → before.pending 
 of_words before left texts none h = subst (λ x. Joins x left texts) (sym (none_pending before.pending (words_left before) none)) h
 
 -- a flag
-flag : (m : Mark) (s flags : List ℕ) (kind : Kind) (rest : List ℕ) (words : List (List ℕ)) → s ≡ mark_bytes m ++ flags → IsFlag flags kind rest → Joins (s ∷ words) (with_pending rest words) (kind_text kind ∷ [])
+flag : (m : Mark) (s flags : List ℕ) (kind : Kind) (rest : List ℕ) (words : List (List ℕ)) → s ≡ mark_bytes m ++ flags → IsFlag flags kind rest → TakesOff s (kind_text kind) rest words
 flag m s flags (Long n) rest words e h = absurd h
 flag m s flags (LongBytes n) rest words e h = absurd h
-flag m s flags (Short c) rest words e h = taken m s (encode_utf8 c) rest words (e ∙ ap (λ x. mark_bytes m ++ x) h.1)
-flag m s flags (ShortBytes all) rest words e h = taken m s all rest words (e ∙ ap (λ x. mark_bytes m ++ x) (sym h.0 ∙ sym (append-nil all) ∙ ap (λ x. all ++ x) (sym h.1.1.1)))
+flag m s flags (Short c) rest words e h = taken m s (encode_utf8 c) rest words (e ∙ ap (λ x. mark_bytes m ++ x) h.1) (inr (omega (arith, length-append (mark_bytes m) (encode_utf8 c), (char_has_bytes c).0 tt)))
+flag m s flags (ShortBytes all) rest words e h = taken m s all rest words (e ∙ ap (λ x. mark_bytes m ++ x) (sym h.0 ∙ sym (append-nil all) ∙ ap (λ x. all ++ x) (sym h.1.1.1))) (inl h.1.1.1)
 flag m s flags (Value v) rest words e h = absurd h
 
-named : (s text : List ℕ) (kind : Kind) (rest : List ℕ) (words : List (List ℕ)) → s ≡ dashes ++ text → IsNamed text kind rest → Joins (s ∷ words) (with_pending rest words) (kind_text kind ∷ [])
-named s text (Long n) rest words e h = taken Dashes s n rest words (e ∙ ap (λ x. dashes ++ x) h.1.joined)
-named s text (LongBytes n) rest words e h = taken Dashes s n rest words (e ∙ ap (λ x. dashes ++ x) h.1.joined)
+named : (s text : List ℕ) (kind : Kind) (rest : List ℕ) (words : List (List ℕ)) → s ≡ dashes ++ text → IsNamed text kind rest → TakesOff s (kind_text kind) rest words
+named s text (Long n) rest words e h = taken Dashes s n rest words (e ∙ ap (λ x. dashes ++ x) h.1.joined) (inr (omega arith))
+named s text (LongBytes n) rest words e h = taken Dashes s n rest words (e ∙ ap (λ x. dashes ++ x) h.1.joined) (inr (omega arith))
 named s text (Short c) rest words e h = absurd h
 named s text (ShortBytes all) rest words e h = absurd h
 named s text (Value v) rest words e h = absurd h
 
-whole : (s : List ℕ) (kind : Kind) (rest : List ℕ) (words : List (List ℕ)) → kind ≡ Value s → rest ≡ [] → Joins (s ∷ words) (with_pending rest words) (kind_text kind ∷ [])
-whole s kind rest words k e = subst (λ x. Joins (s ∷ words) (with_pending rest words) (kind_text x ∷ [])) (sym k) (taken Unmarked s s rest words (sym (append-nil s) ∙ ap (λ x. s ++ x) (sym e)))
+whole : (s : List ℕ) (kind : Kind) (rest : List ℕ) (words : List (List ℕ)) → kind ≡ Value s → rest ≡ [] → TakesOff s (kind_text kind) rest words
+whole s kind rest words k e = subst (λ x. TakesOff s (kind_text x) rest words) (sym k) (taken Unmarked s s rest words (sym (append-nil s) ∙ ap (λ x. s ++ x) (sym e)) (inl e))
 
-word_read : (ended numbers : Bool) (s : List ℕ) (kind : Kind) (rest : List ℕ) (words : List (List ℕ)) → IsReadIn ended numbers s kind rest → Joins (s ∷ words) (with_pending rest words) (kind_text kind ∷ [])
+word_read : (ended numbers : Bool) (s : List ℕ) (kind : Kind) (rest : List ℕ) (words : List (List ℕ)) → IsReadIn ended numbers s kind rest → TakesOff s (kind_text kind) rest words
 word_read true numbers s kind rest words h = whole s kind rest words h.0 h.1
 word_read false numbers s kind rest words (inl h) = named s h.text kind rest words h.joined h.named
 word_read false numbers s kind rest words (inr (inl h)) = flag Dash s h.flags kind rest words h.joined h.flag
@@ -108,11 +108,11 @@ value_left : (before after : Reading) (value : List ℕ) → before.pending ≢ 
 value_left before after value some (inl e) left none =
     of_pending before (all_left after) (value ∷ []) some
     (subst (λ ws. Joins (before.pending ∷ words_left before) (with_pending after.pending ws) (value ∷ [])) (sym left)
-    (taken Equals before.pending value after.pending (words_left before) (e ∙ ap (λ x. equals ++ x) (sym (append-nil value) ∙ ap (λ x. value ++ x) (sym none)))))
+    (taken Equals before.pending value after.pending (words_left before) (e ∙ ap (λ x. equals ++ x) (sym (append-nil value) ∙ ap (λ x. value ++ x) (sym none))) (inl none)).joins)
 value_left before after value some (inr h) left none =
     of_pending before (all_left after) (value ∷ []) some
     (subst (λ ws. Joins (before.pending ∷ words_left before) (with_pending after.pending ws) (value ∷ [])) (sym left)
-    (taken Unmarked before.pending value after.pending (words_left before) (sym h.1 ∙ sym (append-nil value) ∙ ap (λ x. value ++ x) (sym none))))
+    (taken Unmarked before.pending value after.pending (words_left before) (sym h.1 ∙ sym (append-nil value) ∙ ap (λ x. value ++ x) (sym none)) (inl none)).joins)
 
 pending_taken : (before : Reading) (value : List ℕ) (after : Reading) → TakesPending before value after → Joins (all_left before) (all_left after) (value ∷ [])
 pending_taken before value after h = value_left before after value h.some h.is_value (ap words_left h.same) (ap (λ (x : Reading). x.pending) h.same)
@@ -133,13 +133,13 @@ flag_taken : (before : Reading) (kind : Kind) (after : Reading) → TakesFlag be
 flag_taken before kind after h =
     of_pending before (all_left after) (kind_text kind ∷ []) h.some
     (subst (λ ws. Joins (before.pending ∷ words_left before) (with_pending after.pending ws) (kind_text kind ∷ [])) (sym (ap words_left h.same))
-    (flag Unmarked before.pending before.pending kind after.pending (words_left before) refl h.flag))
+    (flag Unmarked before.pending before.pending kind after.pending (words_left before) refl h.flag).joins)
 
 next_taken : (before : Reading) (kind : Kind) (after : Reading) → TakesNext before kind after → Joins (all_left before) (all_left after) (kind_text kind ∷ [])
 next_taken before kind after h =
     let left : words_left after ≡ h.more = ap words_left h.same ∙ one_more h.between.index h.word h.between.given h.more h.next in
     let read : Joins (h.word ∷ h.more) (all_left after) (kind_text kind ∷ []) =
-    subst (λ ws. Joins (h.word ∷ h.more) (with_pending after.pending ws) (kind_text kind ∷ [])) (sym left) (word_read h.between.ended h.between.numbers h.word kind after.pending h.more h.read) in
+    subst (λ ws. Joins (h.word ∷ h.more) (with_pending after.pending ws) (kind_text kind ∷ [])) (sym left) (word_read h.between.ended h.between.numbers h.word kind after.pending h.more h.read).joins in
     of_words before (all_left after) (kind_text kind ∷ []) h.none_pending
     (joins_both (words_left before) (words_left h.between) (all_left after) [] (kind_text kind ∷ [])
     (skipped before h.between h.skips)
@@ -233,49 +233,18 @@ pub never_more : (before : Reading) (step : Step) (after : Reading) → IsStep b
 never_more before step after h = joins_weight (all_left before) (all_left after) (step_texts step) (one_step before step after h)
 
 -- what is read leaves less
-shorter : (s prefix rest : List ℕ) (words : List (List ℕ)) → s ≡ prefix ++ rest → ((rest ≡ []) ⊎ (0 < length prefix)) → weight (with_pending rest words) < weight (s ∷ words)
-shorter s prefix [] words e h = omega arith
-shorter s prefix (b ∷ rest) words e (inl h) = let never = h in cc
-shorter s prefix (b ∷ rest) words e (inr h) = omega (arith, h, ap length e, length-append prefix (b ∷ rest))
-
-flag_shorter : (m : Mark) (s flags : List ℕ) (kind : Kind) (rest : List ℕ) (words : List (List ℕ)) → s ≡ mark_bytes m ++ flags → IsFlag flags kind rest → weight (with_pending rest words) < weight (s ∷ words)
-flag_shorter m s flags (Long n) rest words e h = absurd h
-flag_shorter m s flags (LongBytes n) rest words e h = absurd h
-flag_shorter m s flags (Short c) rest words e h =
-    shorter s (mark_bytes m ++ encode_utf8 c) rest words (e ∙ ap (λ x. mark_bytes m ++ x) h.1 ∙ sym (append_assoc (mark_bytes m) (encode_utf8 c) rest))
-    (inr (omega (arith, length-append (mark_bytes m) (encode_utf8 c), (char_has_bytes c).0 tt)))
-flag_shorter m s flags (ShortBytes all) rest words e h =
-    shorter s s rest words (sym (append-nil s) ∙ ap (λ x. s ++ x) (sym h.1.1.1)) (inl h.1.1.1)
-flag_shorter m s flags (Value v) rest words e h = absurd h
-
-named_shorter : (s text : List ℕ) (kind : Kind) (rest : List ℕ) (words : List (List ℕ)) → s ≡ dashes ++ text → IsNamed text kind rest → weight (with_pending rest words) < weight (s ∷ words)
-named_shorter s text (Long n) rest words e h = shorter s (dashes ++ n) rest words (e ∙ ap (λ x. dashes ++ x) h.1.joined) (inr (omega arith))
-named_shorter s text (LongBytes n) rest words e h = shorter s (dashes ++ n) rest words (e ∙ ap (λ x. dashes ++ x) h.1.joined) (inr (omega arith))
-named_shorter s text (Short c) rest words e h = absurd h
-named_shorter s text (ShortBytes all) rest words e h = absurd h
-named_shorter s text (Value v) rest words e h = absurd h
-
-whole_shorter : (s rest : List ℕ) (words : List (List ℕ)) → rest ≡ [] → weight (with_pending rest words) < weight (s ∷ words)
-whole_shorter s rest words e = shorter s s rest words (sym (append-nil s) ∙ ap (λ x. s ++ x) (sym e)) (inl e)
-
-read_shorter : (ended numbers : Bool) (s : List ℕ) (kind : Kind) (rest : List ℕ) (words : List (List ℕ)) → IsReadIn ended numbers s kind rest → weight (with_pending rest words) < weight (s ∷ words)
-read_shorter true numbers s kind rest words h = whole_shorter s rest words h.1
-read_shorter false numbers s kind rest words (inl h) = named_shorter s h.text kind rest words h.joined h.named
-read_shorter false numbers s kind rest words (inr (inl h)) = flag_shorter Dash s h.flags kind rest words h.joined h.flag
-read_shorter false numbers s kind rest words (inr (inr h)) = whole_shorter s rest words h.whole
-
 pub less_left : (before : Reading) (kind : Kind) (after : Reading) → TakesWord before (Ok (Some kind)) after → weight (all_left after) < weight (all_left before)
 less_left before kind after (inl h) =
     omega (
       arith,
-      flag_shorter Unmarked before.pending before.pending kind after.pending (words_left before) refl h.flag,
+      (flag Unmarked before.pending before.pending kind after.pending (words_left before) refl h.flag).less,
       ap (λ ws. weight (with_pending after.pending ws)) (ap words_left h.same),
       ap weight (some_pending before.pending (words_left before) h.some),
     )
 less_left before kind after (inr h) =
     omega (
       arith,
-      read_shorter h.between.ended h.between.numbers h.word kind after.pending h.more h.read,
+      (word_read h.between.ended h.between.numbers h.word kind after.pending h.more h.read).less,
       ap (λ ws. weight (with_pending after.pending ws)) (ap words_left h.same ∙ one_more h.between.index h.word h.between.given h.more h.next),
       ap weight h.next,
       joins_weight (words_left before) (words_left h.between) [] (skipped before h.between h.skips),

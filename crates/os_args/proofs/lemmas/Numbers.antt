@@ -2,12 +2,7 @@
 use Rattle.std.proofs.Common.{◌≡◌, ◌⊎◌, ℕ, List, [], ◌∷◌, ◌++◌, sym, ◌∙◌, arith, subst}
 use Rattle.wtf8_core.specs.Occurrence.{IsPrefix}
 use Rattle.os_args.specs.Word.{dash, point, StartsWithDigit, StartsWithFraction, StartsAsNegative}
-
-tails : {a b : ℕ} {x y : List ℕ} → a ∷ x ≡ b ∷ y → x ≡ y
-tails e = cc
-
-heads : {a b : ℕ} {x y : List ℕ} → a ∷ x ≡ b ∷ y → a ≡ b
-heads e = cc
+use Rattle.os_args.proofs.lemmas.OneReading.{heads, tails}
 
 pub no_digit : (s : List ℕ) → s ≡ [] → ¬ (StartsWithDigit s)
 no_digit s e h = let never = sym e ∙ h.joined in cc

@@ -2,13 +2,7 @@
 use Rattle.std.proofs.Common.{◌≡◌, inl, inr, ℕ, ◌+◌, Bool, true, false, List, [], ◌∷◌, Option, Some, None, Result, Ok, Err, refl, sym, ap, ◌∙◌, subst}
 use Rattle.os_args.specs.Word.{Kind, IsValueOf}
 use Rattle.os_args.specs.Reading.{Fault, UnexpectedValue, Reading, words_left, having_read, SkipsDashes, IsReadIn, TakesFlag, TakesNext, TakesNone, TakesWhole, DropsValue, TakesWord, TakesPending, LacksValue, TakesValue, TakesOptionalValue, TakesRest}
-use Rattle.os_args.proofs.lemmas.OneReading.{one_flag, one_reading}
-
-heads : {A : Type 0} {a b : A} {x y : List A} → a ∷ x ≡ b ∷ y → a ≡ b
-heads e = cc
-
-tails : {A : Type 0} {a b : A} {x y : List A} → a ∷ x ≡ b ∷ y → x ≡ y
-tails e = cc
+use Rattle.os_args.proofs.lemmas.OneReading.{heads, tails, one_flag, one_reading}
 
 one_skip : (r a b : Reading) → SkipsDashes r a → SkipsDashes r b → a ≡ b
 one_skip r a b (inl h) (inl k) = h.1 ∙ sym k.1
