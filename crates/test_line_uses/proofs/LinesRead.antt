@@ -7,10 +7,13 @@ use Rattle.os_command_line.specs.declared.windows.error.CommandLineError.{Comman
 use Rattle.os_command_line.specs.declared.windows.error.CommandLineError.TheVariants.{Nul, Quote, Memory}
 use Rattle.os_command_line.specs.PowerShell.{IsPowerShellText}
 use Rattle.os_command_line.specs.PowerShell.ReadsString.{doubled as string_doubled, closes as string_closes}
+use Rattle.os_command_line.specs.declared.shell.error.ShellError.{ShellError}
+use Rattle.os_command_line.specs.declared.shell.error.ShellError.TheVariants as name_error
 use Rattle.os_command_line.specs.Shell.{language, is_blank, Begins, IsRead}
 use Rattle.os_command_line.specs.Shell.IsGap.{no_gap, blank, line_joined}
 use Rattle.os_command_line.specs.Shell.Outcome.{Word}
 use Rattle.os_command_line.specs.Shell.Reads.{bare as word_bare, ends as word_ends, unclosed}
+use Rattle.os_command_line.specs.ShellWriting.{IsFirstNul, IsNameFault}
 use Rattle.os_command_line.specs.Windows.{IsLiteral, IsCommandLine}
 use Rattle.os_command_line.specs.Windows.Reads.{ends, literal, opens, closes, doubled}
 use Rattle.os_command_line.specs.Windows.ReadsName.{name_ends, name_unit}
@@ -108,22 +111,27 @@ doubled_line = (
 
 -- ---- a NUL that is second
 
-second_index : (i : ℕ) → IsFirstAt 0 (0x61 ∷ 0 ∷ []) i → i ≡ 1
-second_index i f = by_prefix f.before f.joined f.none_before f.index
-  where
-    by_prefix : (before : List ℕ) → 0x61 ∷ 0 ∷ [] ≡ before ++ 0 ∷ f.after → AllByRecursion (λ u. u ≢ 0) before → i ≡ length before → i ≡ 1
-    by_prefix [] e h n = omega (arith, heads e)
-    by_prefix (x ∷ []) e h n = n
-    by_prefix (x ∷ y ∷ xs) e h n = absurd (h.1.0 (sym (heads (tails e))))
+second_index : (before after : List ℕ) (i : ℕ) → 0x61 ∷ 0 ∷ [] ≡ before ++ 0 ∷ after → AllByRecursion (λ u. u ≢ 0) before → i ≡ length before → i ≡ 1
+second_index [] after i e h n = omega (arith, heads e)
+second_index (x ∷ []) after i e h n = n
+second_index (x ∷ y ∷ xs) after i e h n = absurd (h.1.0 (sym (heads (tails e))))
 
 pub second_fault : (us : List ℕ) (fault : CommandLineError) → us ≡ 0x61 ∷ 0 ∷ [] → IsArgumentFault us fault → (fault ≡ Nul 1) ⊎ (fault ≡ Memory)
-second_fault us (Nul i) e h = inl (ap Nul (second_index i (subst (λ z. IsFirstAt 0 z i) e h)))
+second_fault us (Nul i) e h = let f = subst (λ z. IsFirstAt 0 z i) e h in inl (ap Nul (second_index f.before f.after i f.joined f.none_before f.index))
 second_fault us (Quote i) e h = absurd h
 second_fault us Memory e h = inr refl
 
 pub second_refused : {A : Type 0} (us : List ℕ) (result : Result A CommandLineError) → us ≡ 0x61 ∷ 0 ∷ [] → OnOk result (AllByRecursion (λ u. u ≢ 0) us) → IfErr result (λ fault. IsArgumentFault us fault) → MatchResult result (λ _. ⊥) (λ fault. (fault ≡ Nul 1) ⊎ (fault ≡ Memory))
 second_refused us (Ok x) e none fault = let has : AllByRecursion (λ u. u ≢ 0) (0x61 ∷ 0 ∷ []) = subst (AllByRecursion (λ u. u ≢ 0)) e none in has.1.0 refl
 second_refused us (Err f) e none fault = second_fault us f e fault
+
+second_name_fault : (name : List ℕ) (fault : ShellError) → name ≡ 0x61 ∷ 0 ∷ [] → IsNameFault name fault → (fault ≡ name_error.Nul 1) ⊎ (fault ≡ name_error.Memory)
+second_name_fault name (name_error.Nul i) e h = let f = subst (λ z. IsFirstNul z i) e h in inl (ap name_error.Nul (second_index f.before f.after i f.joined f.none_before f.index_is))
+second_name_fault name name_error.Memory e h = inr refl
+
+pub second_name_refused : {A : Type 0} (name : List ℕ) (result : Result A ShellError) → name ≡ 0x61 ∷ 0 ∷ [] → OnOk result (AllByRecursion (λ u. u ≢ 0) name) → IfErr result (λ fault. IsNameFault name fault) → MatchResult result (λ _. ⊥) (λ fault. (fault ≡ name_error.Nul 1) ⊎ (fault ≡ name_error.Memory))
+second_name_refused name (Ok x) e none fault = let has : AllByRecursion (λ u. u ≢ 0) (0x61 ∷ 0 ∷ []) = subst (AllByRecursion (λ u. u ≢ 0)) e none in has.1.0 refl
+second_name_refused name (Err f) e none fault = second_name_fault name f e fault
 
 -- ---- batch files
 

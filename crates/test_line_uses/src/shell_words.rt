@@ -1,5 +1,5 @@
 //! Words of a shell: what was written of names is read as these names, and nothing else.
-ghost use Rattle.std.specs.Prelude.{◌≡◌, ◌≢◌, ◌∷◌, ◌++◌, [], false, true, Ok, Err, ℕ, List, IfOk, codes, map, string_bytes};
+ghost use Rattle.std.specs.Prelude.{◌≡◌, ◌≢◌, ◌⊎◌, ◌∷◌, ◌++◌, [], false, true, Ok, Err, ℕ, List, IfOk, MatchResult, codes, map, string_bytes};
 ghost use Rattle.std.specs.Char.{encode_utf8};
 ghost use Rattle.std.specs.List.{flat_map};
 ghost use Rattle.std.specs.Str.{chars};
@@ -7,6 +7,7 @@ ghost use Rattle.platform_str.specs.Strings.{bytes, string_vec_of};
 ghost use Rattle.os_command_line.specs.Shell.{AreWords, IsTextOf, language};
 ghost use Rattle.os_command_line.specs.ShellViews.{is_refused};
 ghost use Rattle.os_command_line.specs.ShellWriting.{IsLineText};
+ghost use Rattle.os_command_line.specs.declared.shell.error.ShellError.TheVariants.{Nul, Memory};
 ghost use Rattle.test_line_uses.specs.Faults.{unclosed_at};
 
 use os_command_line::shell::{
@@ -107,6 +108,17 @@ pub fn word_of_plain<A: Allocator>(alloc: A) -> Result<OsString<Unix, A>, ShellE
     quote(alloc, OsStr::new("a_z"))
 }
 
+/// The word of a name whose second byte is NUL: it is refused with that index.
+pub fn word_with_nul<A: Allocator>(
+    alloc: A,
+    name: OsStr<'_, Unix>,
+) -> Result<OsString<Unix, A>, ShellError>
+    ensures { bytes name.entry ≡ 0x61 ∷ 0 ∷ []
+        → MatchResult result (λ _. ⊥) (λ fault. (fault ≡ Nul 1) ⊎ (fault ≡ Memory)) }
+{
+    quote(alloc, name)
+}
+
 /// The words of a line that ends within single quotes: the one before them, and a fault at their index.
 pub fn words_before_fault<'l>(line: OsStr<'l, Unix>) -> Words<'l>
     ensures { bytes line.entry ≡ codes "a 'b"
@@ -122,6 +134,17 @@ pub fn words_of_joined_line<'l>(line: OsStr<'l, Unix>, specials: Specials) -> Wo
 {
     laws::lines();
     Words::new(line, specials)
+}
+
+/// A string of PowerShell of a text with a single quotation mark, byte by byte.
+pub fn string_of_quote(alloc: Global, name: OsStr<'_, Windows>) -> Result<String, AllocError>
+    ensures { IfOk result (λ text. chars (bytes name.entry) ≡ codes "a'b"
+        → string_bytes text ≡ codes "'a''b'") }
+{
+    match quoted_powershell(name) {
+        Ok(quoted) => quoted.to_string(alloc),
+        Err(_) => Err(AllocError),
+    }
 }
 
 /// A string of PowerShell of two typographic quotation marks: not these in quotation marks, where the

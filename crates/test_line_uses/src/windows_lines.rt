@@ -97,6 +97,39 @@ pub fn second_is_nul(
     push_argument(line, argument)
 }
 
+/// The text of an argument, unit by unit: in quotation marks, before which backslashes are doubled, and
+/// so where it is empty; without them where a mark of its own is all that is special.
+pub fn text_of_argument<A: Allocator>(
+    alloc: A,
+    argument: OsStr<'_, Windows>,
+) -> Result<Vec<u16, A>, CommandLineError>
+    ensures blank { IfOk result (λ text.
+        ⟦<Windows as Platform>⟧.units (bytes argument.entry) ≡ codes "a b\\"
+        → text.items ≡ codes "\"a b\\\\\"") }
+    ensures empty { IfOk result (λ text. ⟦<Windows as Platform>⟧.units (bytes argument.entry) ≡ []
+        → text.items ≡ codes "\"\"") }
+    ensures mark { IfOk result (λ text.
+        ⟦<Windows as Platform>⟧.units (bytes argument.entry) ≡ codes "a\\\"b"
+        → text.items ≡ codes "a\\\\\\\"b") }
+{
+    let mut text = Vec::new(alloc);
+    push_argument(&mut text, argument)?;
+    Ok(text)
+}
+
+/// The command line of a program's name and one argument, unit by unit.
+pub fn line_of_one<A: Allocator>(
+    alloc: A,
+    program: OsStr<'_, Windows>,
+    argument: OsStr<'_, Windows>,
+) -> Result<Vec<u16, A>, CommandLineError>
+    ensures { IfOk result (λ line. ⟦<Windows as Platform>⟧.units (bytes program.entry) ≡ codes "E F"
+        → ⟦<Windows as Platform>⟧.units (bytes argument.entry) ≡ codes "-x"
+        → line.items ≡ codes "\"E F\" -x") }
+{
+    command_line(alloc, program, &[argument])
+}
+
 /// Whether Windows starts cmd.exe for a program: for a batch file in capital letters, also before full
 /// stops, and not for a program.
 pub fn batch_files(program: OsStr<'_, Windows>) -> bool
