@@ -13,8 +13,8 @@ ghost use Rattle.osbytes_c.specs.Room.{arguments_room};
 
 use crate::fault::Fault;
 use crate::push_unit::push_unit;
-use crate::status::{FAULTY, HAS_NUL, TOO_LONG, fits};
-use crate::strings::{first_nul, windows};
+use crate::status::fits;
+use crate::strings::windows_word;
 use os_command_line::windows::{Argument, Arguments};
 
 /// Writes the units of a line's program's name and of its arguments into `out`, with a 0 after each, as
@@ -36,19 +36,14 @@ pub extern "C" fn osb_core_windows_arguments(
     ensures long { (result ≡ 21) ↔ (usize.MAX < 2 * length line.now + 1) }
     ensures answers { IsOneOf (0 ∷ 1 ∷ 2 ∷ 7 ∷ 21 ∷ []) result }
 {
-    if line.len() > usize::MAX / 2 {
-        return TOO_LONG;
+    match windows_word(line, usize::MAX / 2, index, fault) {
+        Ok(string) => {
+            let written = write_arguments(Arguments::new(string), out);
+            *count = written;
+            fits(written, out.len())
+        }
+        Err(status) => status,
     }
-    let Some(string) = windows(line, fault) else {
-        return FAULTY;
-    };
-    if let Some(at) = first_nul(line) {
-        *index = at;
-        return HAS_NUL;
-    }
-    let written = write_arguments(Arguments::new(string), out);
-    *count = written;
-    fits(written, out.len())
 }
 
 /// Writes the units of a program's name and of arguments with a 0 after each, truncated, and counts

@@ -13,8 +13,8 @@ ghost use Rattle.osbytes_c.specs.Faults.{IsWtf8Report};
 
 use crate::fault::Fault;
 use crate::push_unit::push_unit;
-use crate::status::{FAULTY, HAS_NUL, HAS_QUOTE, TOO_LONG, fits};
-use crate::strings::{first_nul, windows};
+use crate::status::{HAS_QUOTE, fits};
+use crate::strings::windows_word;
 use memchr::memchr;
 use platform_str::{OsStr, Windows};
 
@@ -42,16 +42,10 @@ pub extern "C" fn osb_core_windows_quote_name(
     ensures long { (result ≡ 21) ↔ (usize.MAX < 2 * length name.now + 2) }
     ensures answers { IsOneOf (0 ∷ 1 ∷ 2 ∷ 7 ∷ 9 ∷ 21 ∷ []) result }
 {
-    if name.len() > usize::MAX / 2 - 1 {
-        return TOO_LONG;
-    }
-    let Some(string) = windows(name, fault) else {
-        return FAULTY;
+    let string = match windows_word(name, usize::MAX / 2 - 1, index, fault) {
+        Ok(string) => string,
+        Err(status) => return status,
     };
-    if let Some(at) = first_nul(name) {
-        *index = at;
-        return HAS_NUL;
-    }
     if let Some(at) = first_quote(name) {
         *index = at;
         return HAS_QUOTE;

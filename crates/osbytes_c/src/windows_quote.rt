@@ -15,8 +15,8 @@ ghost use Rattle.osbytes_c.specs.Faults.{IsWtf8Report};
 
 use crate::fault::Fault;
 use crate::push_unit::push_unit;
-use crate::status::{FAULTY, HAS_NUL, TOO_LONG, fits};
-use crate::strings::{first_nul, windows};
+use crate::status::fits;
+use crate::strings::windows_word;
 use memchr::memchr2;
 use platform_str::{OsStr, Windows};
 
@@ -43,19 +43,14 @@ pub extern "C" fn osb_core_windows_quote(
     ensures long { (result ≡ 21) ↔ (usize.MAX < 2 * length argument.now + 2) }
     ensures answers { IsOneOf (0 ∷ 1 ∷ 2 ∷ 7 ∷ 21 ∷ []) result }
 {
-    if argument.len() > usize::MAX / 2 - 1 {
-        return TOO_LONG;
+    match windows_word(argument, usize::MAX / 2 - 1, index, fault) {
+        Ok(string) => {
+            let written = write_argument(string, out);
+            *count = written;
+            fits(written, out.len())
+        }
+        Err(status) => status,
     }
-    let Some(string) = windows(argument, fault) else {
-        return FAULTY;
-    };
-    if let Some(at) = first_nul(argument) {
-        *index = at;
-        return HAS_NUL;
-    }
-    let written = write_argument(string, out);
-    *count = written;
-    fits(written, out.len())
 }
 
 /// Writes the text of an argument, truncated, and counts its units.

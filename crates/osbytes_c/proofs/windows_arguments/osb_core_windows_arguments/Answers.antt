@@ -5,4 +5,4 @@ use Rattle.osbytes_c.proofs.windows_arguments.osb_core_windows_arguments.Goals a
 
 pub write_arguments-written-requires : goal.write_arguments-written-requires
 write_arguments-written-requires c =
-    omega (arith, line_fits (bytes c.in-Some.string) c.new.result.0 c.new.result.1 c.in-Some.string.ok c.new.ensures, ap length c.in-Some.ensures.bytes, c.if-line.false)
+    omega (arith, line_fits (bytes c.in-Ok.string) c.new.result.0 c.new.result.1 c.in-Ok.string.ok c.new.ensures, ap length c.in-Ok.ensures.bytes, c.in-Ok.ensures.short)

@@ -5,5 +5,5 @@ use Rattle.osbytes_c.proofs.windows_name.osb_core_windows_quote_name.Goals as go
 
 pub returns-clause-name : goal.returns-clause-name
 returns-clause-name c = λ written.
-    let wtf8 = c.in-Some.ensures.string in
-    (wtf8, (c.in_default-first_nul.ensures, each_unit (λ u. u ≢ quote) (λ x past e. omega (arith, past, e)) c.args.name.now wtf8 c.in_default-first_quote.ensures))
+    let word = c.in-Ok.ensures.string in
+    (word.0, (word.1, each_unit (λ u. u ≢ quote) (λ x past e. omega (arith, past, e)) c.args.name.now word.0 c.in_default.ensures))
