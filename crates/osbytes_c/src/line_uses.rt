@@ -1,20 +1,24 @@
 //! For trying: what a caller of words and command lines concludes from one call without a buffer, in each
 //! outcome.
-ghost use Rattle.std.specs.Prelude.{◌≡◌, ◌⊎◌, ◌<◌, ◌*◌, ◌+◌, List, ℕ, Option, length, MatchOption};
+ghost use Rattle.std.specs.Prelude.{◌≡◌, ◌⊎◌, ◌<◌, ◌*◌, ◌+◌, ◌∷◌, List, ℕ, Option, length, MatchOption};
 ghost use Rattle.std.specs.Str.{chars};
 ghost use Rattle.wtf8_core.specs.UnitsOf.{units_of};
 ghost use Rattle.wtf8_core.specs.Utf8.{IsUtf8Fault};
 ghost use Rattle.os_command_line.specs.Fish.{IsFishText};
 ghost use Rattle.os_command_line.specs.PowerShell.{HasNulAt, IsPowerShellText};
+ghost use Rattle.os_command_line.specs.Shell.{AreWords};
 ghost use Rattle.os_command_line.specs.ShellWriting.{HasNoNul, IsFirstNul, quoted_word};
-ghost use Rattle.os_command_line.specs.Windows.{IsTextOf};
+ghost use Rattle.os_command_line.specs.Windows.{IsCommandLine, IsTextOf};
 ghost use Rattle.os_command_line.specs.WindowsWriting.{IsFirstAt};
 ghost use Rattle.osbytes_c.specs.CommandLines.{quoted_name};
 ghost use Rattle.osbytes_c.specs.Faults.{IsWtf8Report};
+ghost use Rattle.osbytes_c.specs.Lines.{IsFaultOf, ended, language_of};
 
 use crate::fault::Fault;
 use crate::powershell::osb_core_powershell_quote;
 use crate::shell::{osb_core_fish_quote, osb_core_shell_quote};
+use crate::shell_words::{LineFault, osb_core_shell_words};
+use crate::windows_arguments::osb_core_windows_arguments;
 use crate::windows_name::osb_core_windows_quote_name;
 use crate::windows_quote::osb_core_windows_quote;
 
@@ -102,6 +106,48 @@ pub fn name_len(name: &[u8]) -> Option<usize>
         count: 0,
     };
     match osb_core_windows_quote_name(name, &mut [], &mut count, &mut index, &mut fault) {
+        0 | 2 => Some(count),
+        _ => None,
+    }
+}
+
+/// How many bytes the words of a line have with a 0 after each; `None` if there are no such options, the
+/// line has a NUL, isn't words or is too long.
+pub fn words_len(options: u32, line: &[u8]) -> Option<usize>
+    ensures { MatchOption result
+        ((3 < options) ⊎ (((fault : LineFault) × IsFaultOf (language_of options) line.now fault)
+        ⊎ (((index : ℕ) × IsFirstNul line.now index) ⊎ (usize.MAX < 2 * length line.now + 1))))
+        (λ len. ((words : List (List ℕ)) × (AreWords (language_of options) line.now words
+        × (len ≡ length (ended words)))) × HasNoNul line.now) }
+{
+    let mut count = 0;
+    let mut fault = LineFault { kind: 0, index: 0 };
+    match osb_core_shell_words(options, line, &mut [], &mut count, &mut fault) {
+        0 | 2 => Some(count),
+        _ => None,
+    }
+}
+
+/// How many units a line's program's name and its arguments have with a 0 after each; `None` if the line is
+/// no string, has a NUL or is too long.
+pub fn arguments_len(line: &[u8]) -> Option<usize>
+    ensures { MatchOption result
+        (((report : Fault) × IsWtf8Report line.now report)
+        ⊎ (((index : ℕ) × IsFirstNul line.now index)
+        ⊎ (usize.MAX < 2 * length line.now + 1)))
+        (λ len. (name : List ℕ) × ((arguments : List (List ℕ))
+        × (IsCommandLine (units_of line.now) name arguments
+        × (len ≡ length (ended (name ∷ arguments)))))) }
+{
+    let mut count = 0;
+    let mut index = 0;
+    let mut fault = Fault {
+        kind: 0,
+        value: 0,
+        index: 0,
+        count: 0,
+    };
+    match osb_core_windows_arguments(line, &mut [], &mut count, &mut index, &mut fault) {
         0 | 2 => Some(count),
         _ => None,
     }
