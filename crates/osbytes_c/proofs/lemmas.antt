@@ -3,6 +3,7 @@ pub mod CommandLines
 pub mod Conversions
 pub mod Digits
 pub mod Lines
+pub mod Options
 pub mod PathParts
 pub mod PathSpans
 pub mod Room

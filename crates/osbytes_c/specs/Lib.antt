@@ -3,6 +3,7 @@ pub mod ArgumentWriting
 pub mod CommandLines
 pub mod Faults
 pub mod Lines
+pub mod Options
 pub mod PartBuffers
 pub mod PathParts
 pub mod PathSpans

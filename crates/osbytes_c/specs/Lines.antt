@@ -1,5 +1,5 @@
 -- Lines of a shell and of Windows, read: words and arguments one after the other.
-use Rattle.std.specs.Prelude.{◌≡◌, ◌+◌, ℕ, zero, suc, true, false, List, [], ◌∷◌, ◌++◌, map, length, Result, Ok, Err}
+use Rattle.std.specs.Prelude.{◌≡◌, ℕ, zero, suc, true, false, List, [], ◌∷◌, ◌++◌, map, Ok, Err}
 use Rattle.std.specs.List.{flat_map}
 use Rattle.os_command_line.specs.Shell.{AreWords, IsRead, language}
 use Rattle.os_command_line.specs.Windows.{IsCommandLine}

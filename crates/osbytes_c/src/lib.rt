@@ -4,9 +4,10 @@
 //! [`prefix`] prefixes and suffixes by units, [`boundary`] where strings may be cut, [`compare`]
 //! their order, one step of each iterator: [`split`], [`chunks`] and [`symbols`], and [`paths`] and
 //! [`path_tests`] paths, whose components [`path_parts`] finds and [`part_list`] writes, and
-//! [`shell`] and [`powershell`] words of a shell, [`shell_words`] lines of them, and
-//! [`windows_quote`], [`windows_name`] and [`windows_arguments`] command lines of Windows. [`laws`]
-//! says what whole walks and whole lines give, and [`uses`] and [`line_uses`] conclude from it.
+//! [`shell`] and [`powershell`] words of a shell, [`shell_words`] lines of them,
+//! [`windows_quote`], [`windows_name`] and [`windows_arguments`] command lines of Windows, and
+//! [`options`] options and operands. [`laws`] says what whole walks and whole lines give, and
+//! [`uses`] and [`line_uses`] conclude from it.
 //!
 //! A slice crosses as a pointer and a length. Each export takes any values: a platform, a pattern,
 //! an index or a fault that there isn't is answered by a status ([`status`]), so none has a
@@ -25,6 +26,7 @@ pub mod fault_text;
 pub mod laws;
 pub mod line_uses;
 pub mod lossy;
+pub mod options;
 pub mod part_list;
 mod path_parts;
 mod path_spans;

@@ -1,12 +1,22 @@
-//! What a path has, and how it starts and ends.
-ghost use Rattle.std.specs.Prelude.{◌≡◌, ◌≤◌, ◌<◌, ◌↔◌, ◌∷◌, [], MatchOption};
+//! What a path has, how it starts and ends, and what follows a start.
+ghost use Rattle.std.specs.Prelude.{◌≡◌, ◌≤◌, ◌<◌, ◌↔◌, ◌∷◌, [], List, MatchOption};
 ghost use Rattle.path_rules.specs.Root.{HasRoot, IsAbsolute};
 ghost use Rattle.path_rules.specs.Compare.{StartsWith, EndsWith};
+ghost use Rattle.path_rules.specs.Component.{Item};
+ghost use Rattle.path_rules.specs.Strip.{IsStripped};
 ghost use Rattle.osbytes_c.specs.Answers.{IsOneOf};
 ghost use Rattle.osbytes_c.specs.PathSpans.{style_on};
 
-use crate::status::{NO_PLATFORM, told};
-use path_rules::{Style, ends_with, has_root, is_absolute, starts_with};
+use crate::status::{DONE, NO_PLATFORM, NONE, told};
+use path_rules::{Style, ends_with, has_root, is_absolute, starts_with, strip_prefix};
+
+/// A part of a string, as a pointer and a length.
+#[repr(C)]
+#[derive(Clone, Copy)]
+pub struct Bytes<'a> {
+    /// Where it is.
+    pub bytes: &'a [u8],
+}
 
 /// Whose paths those of a platform are.
 #[inline(always)]
@@ -76,4 +86,28 @@ pub extern "C" fn osb_core_path_ends_with(platform: u32, path: &[u8], child: &[u
         Some(style) => told(ends_with(style, path, child)),
         None => NO_PLATFORM,
     }
+}
+
+/// What of a path follows the components of a base, as a part of the path.
+#[unsafe(no_mangle)]
+pub extern "C" fn osb_core_path_strip_prefix<'a>(
+    platform: u32,
+    path: &'a [u8],
+    base: &[u8],
+    rest: &mut Bytes<'a>,
+) -> u32
+    ensures rest { result ≡ 0 → (more : List Item)
+        × IsStripped (style_on platform) path.entry.now base.now rest.new.bytes.now more }
+    ensures none { result ≡ 3 → ¬ (StartsWith (style_on platform) path.entry.now base.now) }
+    ensures platform { (result ≡ 16) ↔ (2 < platform) }
+    ensures answers { IsOneOf (0 ∷ 3 ∷ 16 ∷ []) result }
+{
+    let Some(style) = style_of(platform) else {
+        return NO_PLATFORM;
+    };
+    let Some(bytes) = strip_prefix(style, path, base) else {
+        return NONE;
+    };
+    *rest = Bytes { bytes };
+    DONE
 }

@@ -1,6 +1,5 @@
 -- Words and arguments of lines, and how much room they want.
-use Rattle.std.proofs.Common.{◌≡◌, ℕ, zero, suc, ◌+◌, ◌*◌, ◌^◌, ◌≤◌, ◌<◌, Bool, true, false, List, [], ◌∷◌, ◌++◌, length, map, Result, Ok, Err, refl, sym, ap, ◌∙◌, subst, arith, append_assoc, append-nil, length-append}
-use Rattle.std.proofs.lemmas.Grind.{flat_map-append}
+use Rattle.std.proofs.Common.{◌≡◌, ℕ, ◌+◌, ◌*◌, ◌^◌, ◌≤◌, ◌<◌, Bool, true, false, List, [], ◌∷◌, ◌++◌, length, map, Result, Ok, Err, refl, sym, ap, ◌∙◌, subst, arith, append_assoc, append-nil, length-append}
 use Rattle.wtf8_core.specs.Truncated.{IsTruncated}
 use Rattle.wtf8_core.proofs.lemmas.buffers.Truncated.{none_yet}
 use Rattle.os_quote.specs.Buffers.{Pushes}
@@ -11,7 +10,7 @@ use Rattle.os_command_line.specs.Shell as shell
 use Rattle.os_command_line.specs.Shell.{AreItems, IsRead}
 use Rattle.os_command_line.specs.Shell.Outcome.{Word}
 use Rattle.os_command_line.specs.declared.shell.step.State.TheVariants.{Start}
-use Rattle.os_command_line.specs.Windows.{quote, backslashes, Reads, ReadsName, IsNext, AreArguments, IsCommandLine}
+use Rattle.os_command_line.specs.Windows.{quote, backslashes, Reads, ReadsName, AreArguments, IsCommandLine}
 use Rattle.os_command_line.specs.Windows.Reads.{ends, literal, escaped, opens, closes, doubled}
 use Rattle.os_command_line.specs.Windows.ReadsName.{name_ends, name_quote, name_unit}
 use Rattle.os_command_line.specs.declared.shell.fault.WordsFault.{WordsFault}
