@@ -7,9 +7,9 @@ The columns of each kind of file are named in its second line. The status is 1 w
 from __future__ import annotations
 
 import sys
-from ctypes import CDLL, byref, c_char_p, c_int32, c_size_t, c_uint16, c_void_p, cast, create_string_buffer
+from ctypes import CDLL, Array, byref, c_char_p, c_int32, c_size_t, c_uint16, c_void_p, cast, create_string_buffer
 from pathlib import Path
-from typing import Callable, Iterable, Iterator
+from typing import Callable, Iterable, Iterator, Sequence
 
 from smoke import (
     BAD_ESCAPE,
@@ -204,6 +204,11 @@ def paths(osb: CDLL, platform: str, call: str, path: str, *more: str) -> Answers
     elif call in ("starts_with", "ends_with"):
         other = raw(more[0])
         yield told(getattr(osb, f"osb_path_{call}")(whose, string, len(string), other, len(other))), more[1]
+    elif call == "strip_prefix":
+        base = raw(more[0])
+        status = osb.osb_path_strip_prefix(whose, string, len(string), base, len(base), byref(part))
+        assert status in (OK, NONE), status
+        yield shown(bytes(part)) if status == OK else "!", more[1]
 
 
 def word(call: Call, room: int, name: bytes) -> str:
@@ -213,11 +218,23 @@ def word(call: Call, room: int, name: bytes) -> str:
     return shown(out.raw[: count.value]) if status == OK else f"nul {index.value}"
 
 
+def views_of(words: Sequence[bytes]) -> Array[View]:
+    return (View * len(words))(*(View(cast(c_char_p(word), c_void_p), len(word)) for word in words))
+
+
+def line_of(osb: CDLL, *names: bytes) -> bytes:
+    room = sum(osb.osb_shell_bound(len(name)) + 1 for name in names)
+    out, count = create_string_buffer(room), c_size_t()
+    assert osb.osb_shell_join(views_of(names), len(names), out, room, byref(count), None, None) == OK
+    return out.raw[: count.value]
+
+
 def words(osb: CDLL, name: str, plain: str, line: str, fish: str) -> Answers:
     room = osb.osb_shell_bound(len(raw(name)))
     yield word(osb.osb_shell_quote, room, raw(name)), plain
     yield word(osb.osb_shell_quote_line, room, raw(name)), line
     yield word(osb.osb_fish_quote, room, raw(name)), fish
+    yield line_of(osb, raw(name), b"a b", raw(name)), raw(plain) + b" 'a b' " + raw(plain)
 
 
 LINE_FAULTS = dict(enumerate(("unclosed_single", "unclosed_double", "unclosed_dollar", "trailing_backslash", "metacharacter"), 1))
@@ -271,7 +288,7 @@ def windows_quote(osb: CDLL, argument: str, text: str, _quoted: str) -> Answers:
 
 def windows_line(osb: CDLL, arguments: str, wanted: str) -> Answers:
     words = [b"E"] + ([] if arguments == "!" else [string_of(osb, argument) for argument in arguments.split(",")])
-    views = (View * len(words))(*(View(cast(c_char_p(word), c_void_p), len(word)) for word in words))
+    views = views_of(words)
     room = sum(osb.osb_windows_bound(len(word)) + 1 for word in words)
 
     def call(*given: object) -> int:

@@ -21,9 +21,9 @@
     each(ends_with_units) each(is_boundary) each(compare) each(cut) each(rcut) each(chunk)         \
     each(symbol) each(path_components) each(path_parent) each(path_prefix) each(path_file_name)    \
     each(path_file_stem) each(path_extension) each(path_has_root) each(path_is_absolute)           \
-    each(path_starts_with) each(path_ends_with) each(shell_quote) each(shell_quote_line)           \
-    each(fish_quote) each(powershell_quote) each(shell_words) each(windows_quote)                  \
-    each(windows_quote_name) each(windows_arguments)
+    each(path_starts_with) each(path_ends_with) each(path_strip_prefix) each(shell_quote)          \
+    each(shell_quote_line) each(fish_quote) each(powershell_quote) each(shell_words)               \
+    each(windows_quote) each(windows_quote_name) each(windows_arguments) each(option) each(flag)
 
 #define DECLARED(name)                                                                             \
     __attribute__((visibility("hidden"))) __typeof__(osb_core_##name) osb_core_##name##_v1,        \
@@ -103,6 +103,7 @@ __attribute__((constructor(101))) static void choose(void) {
 #define osb_core_path_is_absolute CHOSEN(path_is_absolute)
 #define osb_core_path_starts_with CHOSEN(path_starts_with)
 #define osb_core_path_ends_with CHOSEN(path_ends_with)
+#define osb_core_path_strip_prefix CHOSEN(path_strip_prefix)
 #define osb_core_shell_quote CHOSEN(shell_quote)
 #define osb_core_shell_quote_line CHOSEN(shell_quote_line)
 #define osb_core_fish_quote CHOSEN(fish_quote)
@@ -111,3 +112,5 @@ __attribute__((constructor(101))) static void choose(void) {
 #define osb_core_windows_quote CHOSEN(windows_quote)
 #define osb_core_windows_quote_name CHOSEN(windows_quote_name)
 #define osb_core_windows_arguments CHOSEN(windows_arguments)
+#define osb_core_option CHOSEN(option)
+#define osb_core_flag CHOSEN(flag)

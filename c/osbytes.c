@@ -28,6 +28,10 @@ struct core_line_fault {
     uint32_t kind;
     size_t index;
 };
+struct core_option {
+    uint32_t kind, value;
+    size_t start, end;
+};
 
 _Static_assert(sizeof(size_t) == 8 && sizeof(bool) == 1, "a 64-bit machine");
 _Static_assert(sizeof(osb_view) == 16 && offsetof(osb_view, len) == 8, "osb_view");
@@ -45,6 +49,10 @@ _Static_assert(sizeof(osb_symbol) == 24 && offsetof(osb_symbol, bytes) == 8, "os
 _Static_assert(sizeof(osb_component) == 24 && offsetof(osb_component, kind) == 0, "osb_component");
 _Static_assert(offsetof(osb_component, start) == 8 && offsetof(osb_component, end) == 16,
                "osb_component");
+_Static_assert(sizeof(osb_options) == 40 && offsetof(osb_options, taken) == 16, "osb_options");
+_Static_assert(offsetof(osb_options, at) == 24 && offsetof(osb_options, flags) == 32,
+               "osb_options");
+_Static_assert(sizeof(osb_option) == 24 && offsetof(osb_option, text) == 8, "osb_option");
 
 #pragma GCC visibility push(hidden)
 uint32_t osb_core_check(uint32_t platform, const char *at, size_t len, osb_fault *fault);
@@ -103,6 +111,8 @@ uint32_t osb_core_path_starts_with(uint32_t platform, const char *at, size_t len
                                    size_t base_len);
 uint32_t osb_core_path_ends_with(uint32_t platform, const char *at, size_t len, const char *child,
                                  size_t child_len);
+uint32_t osb_core_path_strip_prefix(uint32_t platform, const char *at, size_t len,
+                                    const char *base, size_t base_len, osb_view *rest);
 uint32_t osb_core_shell_quote(const char *at, size_t len, char *out, size_t room, size_t *count,
                               size_t *index);
 uint32_t osb_core_shell_quote_line(const char *at, size_t len, char *out, size_t room,
@@ -119,6 +129,8 @@ uint32_t osb_core_windows_quote_name(const char *at, size_t len, uint16_t *out, 
                                      size_t *count, size_t *index, osb_fault *fault);
 uint32_t osb_core_windows_arguments(const char *line, size_t len, uint16_t *out, size_t room,
                                     size_t *count, size_t *index, osb_fault *fault);
+uint32_t osb_core_option(uint32_t options, const char *word, size_t len, struct core_option *read);
+uint32_t osb_core_flag(const char *word, size_t len, size_t at, struct core_option *read);
 #pragma GCC visibility pop
 
 #ifdef __x86_64__
@@ -174,6 +186,7 @@ const char *osb_status_text(osb_status status) {
     case OSB_HAS_NUL: return "there is a NUL";
     case OSB_BAD_LINE: return "the line isn't words";
     case OSB_HAS_QUOTE: return "the program's name has a quotation mark";
+    case OSB_UNEXPECTED: return "an option has a value that nothing took";
     case OSB_BAD_PLATFORM: return "there is no such platform";
     case OSB_BAD_PATTERN: return "the text isn't UTF-8, or the pattern is empty";
     case OSB_BAD_INDEX: return "the index is past the end";
@@ -572,6 +585,17 @@ osb_status osb_path_ends_with(osb_platform platform, const char *at, size_t len,
     return osb_core_path_ends_with(platform, bytes(at), len, bytes(child), child_len);
 }
 
+osb_status osb_path_strip_prefix(osb_platform platform, const char *at, size_t len,
+                                 const char *base, size_t base_len, osb_view *rest) {
+    osb_view own = {(const char *)nothing, 0};
+    if (rest == NULL || is_bad(at, len) || is_bad(base, base_len)) return OSB_BAD_POINTER;
+    at = bytes(at);
+    osb_status status =
+        osb_core_path_strip_prefix(platform, at, len, bytes(base), base_len, &own);
+    if (status == OSB_OK) *rest = own.len == 0 ? (osb_view){at + len, 0} : own;
+    return status;
+}
+
 size_t osb_shell_bound(size_t len) {
     return len > SIZE_MAX / 4 ? SIZE_MAX : 4 * len + 3;
 }
@@ -610,6 +634,57 @@ osb_status osb_fish_quote(const char *at, size_t len, char *out, size_t room, si
 osb_status osb_powershell_quote(const char *at, size_t len, char *out, size_t room, size_t *count,
                                 size_t *index) {
     return write_word(osb_core_powershell_quote, at, len, out, room, count, index);
+}
+
+static bool are_bad_views(const osb_view *at, size_t len) {
+    return len > PTRDIFF_MAX / sizeof *at || is_bad(at, len * sizeof *at) ||
+           (len != 0 && (uintptr_t)at % _Alignof(osb_view) != 0);
+}
+
+/* Whether the words can be read, and a buffer of so many bytes written beside them. */
+static bool are_bad_words(const osb_view *words, size_t len, const void *out, size_t size) {
+    if (are_bad_views(words, len) || do_overlap(words, len * sizeof *words, out, size)) return true;
+    for (size_t i = 0; i < len; i++)
+        if (is_bad(words[i].at, words[i].len) || do_overlap(words[i].at, words[i].len, out, size))
+            return true;
+    return false;
+}
+
+/* The room after so many items. */
+INLINED size_t room_after(size_t room, size_t count) {
+    return count < room ? room - count : 0;
+}
+
+/* Adds the length of a word to that of a line. */
+INLINED osb_status add_word(osb_status status, size_t more, size_t *count) {
+    if (status != OSB_OK && status != OSB_NO_ROOM) return status;
+    if (more >= SIZE_MAX - *count) return OSB_TOO_LONG;
+    *count += more;
+    return OSB_OK;
+}
+
+osb_status osb_shell_join(const osb_view *names, size_t len, char *out, size_t room, size_t *count,
+                          size_t *which, size_t *index) {
+    size_t own = 0;
+    if (count == NULL || is_bad(out, room) || are_bad_words(names, len, out, room))
+        return OSB_BAD_POINTER;
+    for (size_t i = 0; i < len; i++) {
+        size_t more = 0;
+        if (i != 0) {
+            if (own < room) out[own] = ' ';
+            own++;
+        }
+        size_t left = room_after(room, own);
+        osb_status status = osb_shell_quote(names[i].at, names[i].len, left == 0 ? NULL : out + own,
+                                            left, &more, index);
+        status = add_word(status, more, &own);
+        if (status != OSB_OK) {
+            if (which != NULL) *which = i;
+            return status;
+        }
+    }
+    *count = own;
+    return own <= room ? OSB_OK : OSB_NO_ROOM;
 }
 
 size_t osb_words_bound(size_t len) {
@@ -668,48 +743,126 @@ osb_status osb_windows_arguments(const char *line, size_t len, uint16_t *out, si
     return write_units(osb_core_windows_arguments, line, len, out, room, count, index, fault);
 }
 
-/* The room after so many units. */
-INLINED size_t room_after(size_t room, size_t count) {
-    return count < room ? room - count : 0;
-}
-
-/* Whether the words can be read, and a buffer written beside them. */
-static bool are_bad_words(const osb_view *words, size_t len, const uint16_t *out, size_t room) {
-    if (len > PTRDIFF_MAX / sizeof *words || is_bad(words, len * sizeof *words) ||
-        (len != 0 && (uintptr_t)words % _Alignof(osb_view) != 0) || are_bad_units(out, room) ||
-        do_overlap(words, len * sizeof *words, out, room * sizeof *out))
-        return true;
-    for (size_t i = 0; i < len; i++)
-        if (is_bad(words[i].at, words[i].len) ||
-            do_overlap(words[i].at, words[i].len, out, room * sizeof *out))
-            return true;
-    return false;
-}
-
 osb_status osb_windows_command_line(const osb_view *words, size_t len, uint16_t *out, size_t room,
                                     size_t *count, size_t *which, size_t *index, osb_fault *fault) {
     size_t own = 0;
-    if (count == NULL || are_bad_words(words, len, out, room)) return OSB_BAD_POINTER;
+    if (count == NULL || are_bad_units(out, room) ||
+        are_bad_words(words, len, out, room * sizeof *out))
+        return OSB_BAD_POINTER;
     for (size_t i = 0; i < len; i++) {
-        size_t left = room_after(room, own), more = 0;
+        size_t more = 0;
         if (i != 0) {
-            if (left != 0) {
-                out[own] = ' ';
-                left--;
-            }
+            if (own < room) out[own] = ' ';
             own++;
         }
+        size_t left = room_after(room, own);
         core_units *call = i == 0 ? osb_core_windows_quote_name : osb_core_windows_quote;
         osb_status status = write_units(call, words[i].at, words[i].len, left == 0 ? NULL : out + own,
                                         left, &more, index, fault);
-        if (status == OSB_OK || status == OSB_NO_ROOM) {
-            if (more > SIZE_MAX - 1 - own) return OSB_TOO_LONG;
-            own += more;
-            continue;
+        status = add_word(status, more, &own);
+        if (status != OSB_OK) {
+            if (which != NULL) *which = i;
+            return status;
         }
-        if (which != NULL) *which = i;
-        return status;
     }
     *count = own;
     return own <= room ? OSB_OK : OSB_NO_ROOM;
+}
+
+osb_status osb_options_start(osb_options *options, const osb_view *words, size_t len,
+                             uint32_t flags) {
+    struct core_option own = {0, 0, 0, 0};
+    if (options == NULL || are_bad_words(words, len, NULL, 0)) return OSB_BAD_POINTER;
+    osb_status status = osb_core_option(flags, (const char *)nothing, 0, &own);
+    if (status == OSB_OK) *options = (osb_options){words, len, 0, 0, flags, 0};
+    return status;
+}
+
+/* A word by its number. */
+static osb_status word_at(const osb_options *options, size_t number, osb_view *word) {
+    if (number >= options->len) return OSB_BAD_INDEX;
+    *word = (osb_view){bytes(options->words[number].at), options->words[number].len};
+    return is_bad(options->words[number].at, word->len) ? OSB_BAD_POINTER : OSB_OK;
+}
+
+/* What is left of the last word that was taken: a flag, or OSB_NONE and a value after `=`. */
+static osb_status read_left(const osb_options *options, osb_view *word, struct core_option *read) {
+    osb_status status = word_at(options, options->taken - 1, word);
+    return status != OSB_OK ? status : osb_core_flag(word->at, word->len, options->at, read);
+}
+
+/* What the next word is read as; OSB_NONE if it is `--` and ends the options. */
+static osb_status read_word(const osb_options *options, osb_view *word, struct core_option *read) {
+    if (options->taken == options->len) return OSB_ENDED;
+    osb_status status = word_at(options, options->taken, word);
+    if (status != OSB_OK) return status;
+    *read = (struct core_option){OSB_OPERAND, 0, 0, word->len};
+    if (options->ended != 0) return OSB_OK;
+    return osb_core_option(options->flags, word->at, word->len, read);
+}
+
+osb_status osb_options_next(osb_options *options, osb_option *option) {
+    struct core_option own = {0, 0, 0, 0};
+    osb_view word = {(const char *)nothing, 0};
+    if (options == NULL || option == NULL || are_bad_views(options->words, options->len))
+        return OSB_BAD_POINTER;
+    bool is_left = options->at != 0;
+    osb_status status =
+        is_left ? read_left(options, &word, &own) : read_word(options, &word, &own);
+    if (is_left && status == OSB_NONE) {
+        own = (struct core_option){0, 0, options->at + 1, word.len};
+        status = OSB_UNEXPECTED;
+    }
+    if (status == OSB_NONE) {
+        options->taken++;
+        options->ended = 1;
+        status = read_word(options, &word, &own);
+    }
+    if (status != OSB_OK && status != OSB_UNEXPECTED) return status;
+    *option = (osb_option){own.kind, own.value, {word.at + own.start, own.end - own.start}};
+    options->at = own.end < word.len ? own.end : 0;
+    options->taken += !is_left;
+    return status;
+}
+
+osb_status osb_options_optional_value(osb_options *options, osb_view *value) {
+    struct core_option own = {0, 0, 0, 0};
+    osb_view word = {(const char *)nothing, 0};
+    if (options == NULL || value == NULL || are_bad_views(options->words, options->len))
+        return OSB_BAD_POINTER;
+    if (options->at == 0) return OSB_NONE;
+    osb_status status = read_left(options, &word, &own);
+    if (status != OSB_OK && status != OSB_NONE) return status;
+    size_t start = options->at + (status == OSB_NONE);
+    *value = (osb_view){word.at + start, word.len - start};
+    options->at = 0;
+    return OSB_OK;
+}
+
+osb_status osb_options_value(osb_options *options, osb_view *value) {
+    osb_status status = osb_options_optional_value(options, value);
+    if (status != OSB_NONE || options->taken == options->len) return status;
+    osb_view word;
+    status = word_at(options, options->taken, &word);
+    if (status != OSB_OK) return status;
+    *value = word;
+    options->taken++;
+    return OSB_OK;
+}
+
+/* Whether a text is a string that is ended by a 0. */
+static bool is_name(osb_view text, const char *name) {
+    for (size_t i = 0; i < text.len; i++)
+        if (name[i] == 0 || name[i] != text.at[i]) return false;
+    return name[text.len] == 0;
+}
+
+osb_status osb_option_is(const osb_option *option, uint32_t character, const char *name) {
+    if (option == NULL || is_bad(option->text.at, option->text.len)) return OSB_BAD_POINTER;
+    switch (option->kind) {
+    case OSB_SHORT:
+        return character != 0 && option->value == character ? OSB_OK : OSB_NONE;
+    case OSB_LONG: return name != NULL && is_name(option->text, name) ? OSB_OK : OSB_NONE;
+    default: return OSB_NONE;
+    }
 }

@@ -64,6 +64,7 @@ enum {
     OSB_HAS_NUL = 7,       /* the name or the line has a NUL, which no word and no argument can have */
     OSB_BAD_LINE = 8,      /* the line isn't words of a shell */
     OSB_HAS_QUOTE = 9,     /* the program's name has a quotation mark, which no command line can have there */
+    OSB_UNEXPECTED = 10,   /* an option has a value that nothing took */
     /* from 16 on: an argument is refused, and nothing was written but maybe into a buffer */
     OSB_BAD_PLATFORM = 16, /* there is no such platform */
     OSB_BAD_PATTERN = 17,  /* the pattern or the escape isn't UTF-8, or the pattern is empty where
@@ -325,6 +326,12 @@ osb_status osb_path_starts_with(osb_platform platform, const char *at, size_t le
 osb_status osb_path_ends_with(osb_platform platform, const char *at, size_t len, const char *child,
                               size_t child_len);
 
+/* What of a path follows the components of a base, up to the end of its last component: OSB_OK, OSB_NONE
+ * (its first components aren't those of the base, and nothing is written), OSB_BAD_PLATFORM. It begins with
+ * the next component, or with the root if the base is a prefix alone, as C:, and is empty if none follows. */
+osb_status osb_path_strip_prefix(osb_platform platform, const char *at, size_t len,
+                                 const char *base, size_t base_len, osb_view *rest);
+
 /* How many bytes the word of a name of so many bytes has at most, in each shell; SIZE_MAX past that. */
 size_t osb_shell_bound(size_t len);
 
@@ -343,6 +350,14 @@ osb_status osb_fish_quote(const char *at, size_t len, char *out, size_t room, si
  * is the index from which on the bytes aren't UTF-8: a Windows string with a lone surrogate is none. */
 osb_status osb_powershell_quote(const char *at, size_t len, char *out, size_t room, size_t *count,
                                 size_t *index);
+
+/* Writes the words of names (osb_shell_quote) with a space between them, a line that every POSIX shell reads
+ * as these names: OSB_OK, OSB_NO_ROOM, OSB_HAS_NUL, OSB_TOO_LONG. With OSB_HAS_NUL `*which` is the number of
+ * the first name that has a NUL, and `*index` the index of its first one; both may be null. A sum past
+ * SIZE_MAX is OSB_TOO_LONG, too. Without names the line is empty. A bound is that of each name, and one more
+ * for each. */
+osb_status osb_shell_join(const osb_view *names, size_t len, char *out, size_t room, size_t *count,
+                          size_t *which, size_t *index);
 
 /* How a line is read. Options are added. */
 enum {
@@ -407,6 +422,52 @@ osb_status osb_windows_command_line(const osb_view *words, size_t len, uint16_t 
  * line. Whatever isn't closed ends with the line. */
 osb_status osb_windows_arguments(const char *line, size_t len, uint16_t *out, size_t room,
                                  size_t *count, size_t *index, osb_fault *fault);
+
+/* The options and operands of a command line, without the program's name. The fields are the library's, but
+ * that `taken` words were taken so far may be read. It holds no memory, and a copy of it goes on by
+ * itself. The words may be strings of any platform. */
+typedef struct osb_options {
+    const osb_view *words;
+    size_t len;
+    size_t taken;
+    size_t at;
+    uint32_t flags;
+    uint32_t ended;
+} osb_options;
+
+enum {
+    OSB_NUMBERS = 1 /* a word that begins with - or -. and a digit is an operand */
+};
+
+enum {
+    OSB_LONG = 1,        /* --name, and --name=value: the name, which ends at the first = */
+    OSB_LONG_BYTES = 2,  /* the same where the name isn't UTF-8 */
+    OSB_SHORT = 3,       /* one character of -abc, in turn */
+    OSB_SHORT_BYTES = 4, /* what is left of -abc where no character is first: all of it */
+    OSB_OPERAND = 5      /* any other word, - and the empty one too, and each word after -- */
+};
+
+typedef struct osb_option {
+    uint32_t kind;  /* OSB_LONG, OSB_SHORT .. */
+    uint32_t value; /* OSB_SHORT: the character; else 0 */
+    osb_view text;  /* without dashes, and without a value */
+} osb_option;
+
+/* OSB_OK, OSB_BAD_OPTION. `flags` is OSB_NUMBERS or 0. The words and their array stay the caller's. */
+osb_status osb_options_start(osb_options *options, const osb_view *words, size_t len,
+                             uint32_t flags);
+/* OSB_OK with the next option or operand, OSB_ENDED after the last. OSB_UNEXPECTED if =value is left of the
+ * last option's word, since nothing took it: `text` is the value, the kind is 0, and the next call goes on
+ * after it. Of a struct that isn't as a call left it, OSB_BAD_INDEX or OSB_BAD_OPTION. */
+osb_status osb_options_next(osb_options *options, osb_option *option);
+/* Takes the value of the option that was read last: the rest of its word without the = that it begins
+ * with, or else the whole next word, whatever that is: OSB_OK, OSB_NONE if no word is left. */
+osb_status osb_options_value(osb_options *options, osb_view *value);
+/* The same if it is in the option's own word, else OSB_NONE, and the next word stays. */
+osb_status osb_options_optional_value(osb_options *options, osb_view *value);
+/* Whether an option is this character or has this name, which is ended by a 0: OSB_OK, OSB_NONE. Without a
+ * character it is 0, and without a name null. */
+osb_status osb_option_is(const osb_option *option, uint32_t character, const char *name);
 
 #ifdef __cplusplus
 }

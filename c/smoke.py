@@ -101,6 +101,7 @@ def load(name: str) -> CDLL:
         getattr(osb, f"osb_path_{part}").argtypes = [c_uint32, c_char_p, c_size_t, POINTER(View)]
     osb.osb_path_has_root.argtypes = osb.osb_path_is_absolute.argtypes = [c_uint32, c_char_p, c_size_t]
     osb.osb_path_starts_with.argtypes = osb.osb_path_ends_with.argtypes = osb.osb_starts_with_units.argtypes
+    osb.osb_path_strip_prefix.argtypes = [*osb.osb_starts_with_units.argtypes, POINTER(View)]
     osb.osb_shell_bound.argtypes = [c_size_t]
     osb.osb_shell_bound.restype = c_size_t
     osb.osb_shell_quote.argtypes = [c_char_p, c_size_t, c_char_p, c_size_t, POINTER(c_size_t), POINTER(c_size_t)]
@@ -114,6 +115,7 @@ def load(name: str) -> CDLL:
     osb.osb_windows_arguments.argtypes = osb.osb_windows_quote.argtypes
     words = [POINTER(View), c_size_t]
     osb.osb_windows_command_line.argtypes = [*words, *written, POINTER(c_size_t), POINTER(c_size_t), POINTER(Fault)]
+    osb.osb_shell_join.argtypes = [*words, c_char_p, c_size_t, POINTER(c_size_t), POINTER(c_size_t), POINTER(c_size_t)]
     return osb
 
 

@@ -840,14 +840,14 @@ static void unescapes(void) {
 static void status_texts(void) {
     static const osb_status all[] = {
         OSB_OK, OSB_FAULTY, OSB_NO_ROOM, OSB_NONE, OSB_ENDED, OSB_BAD_ESCAPE, OSB_NO_STRING,
-        OSB_HAS_NUL, OSB_BAD_LINE, OSB_HAS_QUOTE, OSB_BAD_PLATFORM, OSB_BAD_PATTERN, OSB_BAD_INDEX,
-        OSB_BAD_FAULT, OSB_BAD_STATE, OSB_TOO_LONG, OSB_BAD_OPTION, OSB_BAD_POINTER, 10,
+        OSB_HAS_NUL, OSB_BAD_LINE, OSB_HAS_QUOTE, OSB_UNEXPECTED, OSB_BAD_PLATFORM, OSB_BAD_PATTERN,
+        OSB_BAD_INDEX, OSB_BAD_FAULT, OSB_BAD_STATE, OSB_TOO_LONG, OSB_BAD_OPTION, OSB_BAD_POINTER, 11,
     };
     size_t count = sizeof all / sizeof *all;
     for (size_t i = 0; i < count; i++)
         for (size_t j = 0; j < count; j++)
             EXPECT((strcmp(osb_status_text(all[i]), osb_status_text(all[j])) == 0) == (i == j));
-    EXPECT(strcmp(osb_status_text(0xFFFFFFFF), osb_status_text(10)) == 0);
+    EXPECT(strcmp(osb_status_text(0xFFFFFFFF), osb_status_text(11)) == 0);
     EXPECT(strcmp(osb_status_text(OSB_TOO_LONG), "the string is too long") == 0);
 }
 
@@ -1016,6 +1016,48 @@ static void path_tests(void) {
     EXPECT(osb_path_ends_with(OSB_UNIX, TEXT("a"), "a", SIZE_MAX) == OSB_BAD_POINTER);
 }
 
+/* The rest of a path after a base, at this index of the path itself. */
+static bool rest_is(osb_platform platform, const char *at, size_t len, const char *base, size_t base_len,
+                    size_t index, const char *wanted) {
+    osb_view rest = {NULL, 99};
+    if (osb_path_strip_prefix(platform, at, len, base, base_len, &rest) != OSB_OK) return false;
+    return is(rest, wanted, strlen(wanted)) && (at == NULL || rest.at == at + index);
+}
+
+static bool no_rest(osb_platform platform, const char *at, size_t len, const char *base, size_t base_len) {
+    osb_view rest = {NULL, 99};
+    return osb_path_strip_prefix(platform, at, len, base, base_len, &rest) == OSB_NONE && rest.at == NULL &&
+           rest.len == 99;
+}
+
+static void path_rests(void) {
+    EXPECT(rest_is(OSB_UNIX, TEXT("/usr//lib/a/."), TEXT("/usr/"), 6, "lib/a"));
+    EXPECT(rest_is(OSB_UNIX, TEXT("a/a"), TEXT("a"), 2, "a"));
+    EXPECT(rest_is(OSB_UNIX, TEXT("/usr/"), TEXT("/usr"), 5, ""));
+    EXPECT(rest_is(OSB_UNIX, TEXT("/"), NULL, 0, 0, "/"));
+    EXPECT(rest_is(OSB_UNIX, TEXT("./a/b//"), NULL, 0, 0, "./a/b"));
+    EXPECT(rest_is(OSB_UNIX, NULL, 0, NULL, 0, 0, ""));
+    EXPECT(rest_is(OSB_UNIX, TEXT("\xFF/\xFF"), TEXT("\xFF"), 2, "\xFF"));
+    EXPECT(rest_is(OSB_WINDOWS, TEXT("C:\\a\\b"), TEXT("c:/a"), 5, "b"));
+    EXPECT(rest_is(OSB_WINDOWS, TEXT("C:\\a"), TEXT("C:"), 2, "\\a"));
+    EXPECT(rest_is(OSB_WINDOWS, TEXT("\\\\s\\h\\a"), TEXT("\\\\s\\h"), 6, "a"));
+    EXPECT(rest_is(OSB_WASM, TEXT("C:\\a/b"), TEXT("C:\\a"), 5, "b"));
+    EXPECT(no_rest(OSB_UNIX, TEXT("/usr/lib"), TEXT("/us")));
+    EXPECT(no_rest(OSB_UNIX, TEXT("/usr"), TEXT("/usr/lib")));
+    EXPECT(no_rest(OSB_UNIX, TEXT("/usr"), TEXT("usr")));
+    EXPECT(no_rest(OSB_WASM, TEXT("C:\\a\\b"), TEXT("c:/a")));
+    EXPECT(no_rest(OSB_UNIX, NULL, 0, TEXT("a")));
+    osb_view rest = {NULL, 99};
+    EXPECT(osb_path_strip_prefix(3, TEXT("a/b"), TEXT("a"), &rest) == OSB_BAD_PLATFORM);
+    EXPECT(osb_path_strip_prefix(0xFFFFFFFF, TEXT("a/b"), TEXT("a"), &rest) == OSB_BAD_PLATFORM);
+    EXPECT(osb_path_strip_prefix(OSB_UNIX, NULL, 1, TEXT("a"), &rest) == OSB_BAD_POINTER);
+    EXPECT(osb_path_strip_prefix(OSB_UNIX, "a/b", SIZE_MAX, TEXT("a"), &rest) == OSB_BAD_POINTER);
+    EXPECT(osb_path_strip_prefix(OSB_UNIX, TEXT("a/b"), NULL, 1, &rest) == OSB_BAD_POINTER);
+    EXPECT(osb_path_strip_prefix(OSB_UNIX, TEXT("a/b"), "a", SIZE_MAX, &rest) == OSB_BAD_POINTER);
+    EXPECT(osb_path_strip_prefix(OSB_UNIX, TEXT("a/b"), TEXT("a"), NULL) == OSB_BAD_POINTER);
+    EXPECT(rest.at == NULL && rest.len == 99);
+}
+
 /* A call that writes a word of a shell. */
 typedef osb_status to_word(const char *, size_t, char *, size_t, size_t *, size_t *);
 
@@ -1100,6 +1142,65 @@ static void no_texts(void) {
     EXPECT(osb_powershell_quote(TEXT("a"), out, 8, NULL, &index) == OSB_BAD_POINTER);
     EXPECT(osb_powershell_quote(out, 3, out + 2, 8, &count, &index) == OSB_BAD_POINTER);
     EXPECT(count == 7 && index == 7 && memcmp(out, "abcdefgh", 8) == 0);
+}
+
+/* The line of some names, in every room. */
+static bool has_names(const osb_view *names, size_t len, const char *wanted) {
+    size_t all = strlen(wanted), count = 0, which = 7, index = 7;
+    for (size_t room = 0; room < all + 3; room++) {
+        char *out = malloc(room + 1);
+        size_t end = room < all ? room : all;
+        memset(out, 0x55, room + 1);
+        osb_status status = osb_shell_join(names, len, room == 0 ? NULL : out, room, &count, &which, &index);
+        bool right = count == all && status == (room < all ? OSB_NO_ROOM : OSB_OK) && which == 7 && index == 7 &&
+                     memcmp(out, wanted, end) == 0 && out[end] == 0x55;
+        free(out);
+        if (!right) return false;
+    }
+    return true;
+}
+
+static void joins(void) {
+    osb_view names[] = {{TEXT("cp")}, {TEXT("a b")}, {NULL, 0}, {TEXT("it's\xFF")}, {TEXT("-x")}};
+    EXPECT(has_names(NULL, 0, ""));
+    EXPECT(has_names(names, 1, "cp"));
+    EXPECT(has_names(names + 2, 1, "''"));
+    EXPECT(has_names(names, 5, "cp 'a b' '' 'it'\\''s\xFF' -x"));
+    char out[8] = "abcdefg";
+    size_t count = 7, which = 7, index = 7;
+    osb_view bad[] = {{TEXT("a")}, {TEXT("b\0\0")}, {TEXT("\0")}};
+    EXPECT(osb_shell_join(bad, 3, out, 8, &count, NULL, NULL) == OSB_HAS_NUL);
+    EXPECT(osb_shell_join(bad, 3, NULL, 0, &count, &which, &index) == OSB_HAS_NUL);
+    EXPECT(which == 1 && index == 1 && count == 7);
+    bad[1] = (osb_view){"a", SIZE_MAX / 4 + 1};
+    EXPECT(osb_shell_join(bad, 2, NULL, 0, &count, &which, &index) == OSB_TOO_LONG && which == 1);
+    bad[0] = (osb_view){"a", SIZE_MAX / 4 + 1};
+    EXPECT(osb_shell_join(bad, 2, NULL, 0, &count, &which, &index) == OSB_TOO_LONG && which == 0);
+    which = index = 7;
+    memcpy(out, "abcdefg", 8);
+    EXPECT(osb_shell_join(NULL, 1, out, 8, &count, &which, &index) == OSB_BAD_POINTER);
+    EXPECT(osb_shell_join(names, SIZE_MAX / 16 + 1, out, 8, &count, &which, &index) == OSB_BAD_POINTER);
+    /* so many that their bytes, counted, wrap to few */
+    EXPECT(osb_shell_join(names, SIZE_MAX / 16 + 2, out, 8, &count, &which, &index) == OSB_BAD_POINTER);
+    EXPECT(osb_shell_join(names, 5, NULL, 1, &count, &which, &index) == OSB_BAD_POINTER);
+    EXPECT(osb_shell_join(names, 5, out, SIZE_MAX, &count, &which, &index) == OSB_BAD_POINTER);
+    EXPECT(osb_shell_join(names, 5, out, 8, NULL, &which, &index) == OSB_BAD_POINTER);
+    void *odd = (char *)names + 4;
+    EXPECT(osb_shell_join(odd, 1, out, 8, &count, &which, &index) == OSB_BAD_POINTER);
+    /* a buffer over the views, and over a name at each end */
+    EXPECT(osb_shell_join(names, 5, (char *)(names + 4), 8, &count, &which, &index) == OSB_BAD_POINTER);
+    osb_view beside[] = {{TEXT("a")}, {out + 7, 1}};
+    EXPECT(osb_shell_join(beside, 2, out, 8, &count, &which, &index) == OSB_BAD_POINTER);
+    beside[1] = (osb_view){out, 1};
+    EXPECT(osb_shell_join(beside, 2, out, 8, &count, &which, &index) == OSB_BAD_POINTER);
+    beside[1] = (osb_view){NULL, 1};
+    EXPECT(osb_shell_join(beside, 2, out, 8, &count, &which, &index) == OSB_BAD_POINTER);
+    beside[1] = (osb_view){"a", SIZE_MAX};
+    EXPECT(osb_shell_join(beside, 2, out, 8, &count, &which, &index) == OSB_BAD_POINTER);
+    EXPECT(count == 7 && which == 7 && index == 7 && memcmp(out, "abcdefg", 8) == 0);
+    beside[1] = (osb_view){out + 5, 2};
+    EXPECT(osb_shell_join(beside, 2, out, 5, &count, &which, &index) == OSB_OK && count == 4);
+    EXPECT(memcmp(out, "a fgefg", 8) == 0);
 }
 
 /* The words of a line, each with a 0 after it, in every room. */
@@ -1302,6 +1403,147 @@ static void windows_lines(void) {
     EXPECT(count == 7 && which == 7);
 }
 
+/* Words as views, in memory of their own. */
+static osb_view *views_of(const char *const *words, size_t *count) {
+    osb_view *views = malloc(17 * sizeof *views);
+    for (*count = 0; words[*count] != NULL; ++*count)
+        views[*count] = (osb_view){words[*count], strlen(words[*count])};
+    return views;
+}
+
+static char *add_text(char *to, const char *mark, osb_view text) {
+    return to + sprintf(to, "%s%.*s", mark, (int)text.len, text.at);
+}
+
+/* What is read of words, as "L:name S:c O:operand ". `-o` and `--foo` take a value, `-p` one in its own word. */
+static bool reads(const char *const *words, uint32_t flags, const char *wanted) {
+    static const char *const marks[] = {"!", "L:", "LB:", "S:", "SB:", "O:"};
+    size_t count;
+    osb_view *views = views_of(words, &count), value;
+    osb_options options;
+    osb_option option;
+    osb_status status = osb_options_start(&options, views, count, flags);
+    char text[300], *to = text;
+    while (status == OSB_OK || status == OSB_UNEXPECTED) {
+        status = osb_options_next(&options, &option);
+        if (status != OSB_OK && status != OSB_UNEXPECTED) break;
+        if ((status == OSB_UNEXPECTED) != (option.kind == 0)) break;
+        if ((option.value != 0) != (option.kind == OSB_SHORT)) break;
+        to = add_text(to, marks[option.kind], option.text);
+        if (osb_option_is(&option, 'o', "foo") == OSB_OK) {
+            if (osb_options_value(&options, &value) == OSB_OK) to = add_text(to, "=", value);
+            else to += sprintf(to, "=?");
+        } else if (osb_option_is(&option, 'p', NULL) == OSB_OK)
+            if (osb_options_optional_value(&options, &value) == OSB_OK) to = add_text(to, "[", value);
+        to += sprintf(to, " ");
+    }
+    *to = 0;
+    bool right = status == OSB_ENDED && strcmp(text, wanted) == 0 && options.taken == count &&
+                 osb_options_next(&options, &option) == OSB_ENDED;
+    if (!right) printf("  %s\n", text);
+    free(views);
+    return right;
+}
+#define WORDS(...) ((const char *const[]){__VA_ARGS__, NULL})
+
+static void options(void) {
+    EXPECT(reads(WORDS(NULL), 0, ""));
+    EXPECT(reads(WORDS("a", "", "-", "a=b", "a--"), 0, "O:a O: O:- O:a=b O:a-- "));
+    EXPECT(reads(WORDS("-abc", "-d", "e"), 0, "S:a S:b S:c S:d O:e "));
+    EXPECT(reads(WORDS("-\xC3\xA9\xF0\x9F\x98\x80", "-="), 0, "S:\xC3\xA9 S:\xF0\x9F\x98\x80 S:= "));
+    EXPECT(reads(WORDS("-a\xFF" "b=c", "-\xC3"), 0, "S:a SB:\xFF" "b=c SB:\xC3 "));
+    EXPECT(reads(WORDS("--name", "--n\xFF=v", "---", "--="), 0, "L:name LB:n\xFF !v L:- L: ! "));
+    EXPECT(reads(WORDS("--foo=bar", "--foo", "bar", "--foo="), 0, "L:foo=bar L:foo=bar L:foo= "));
+    EXPECT(reads(WORDS("-obar", "-o=bar", "-vo", "bar", "-o==", "-oa=b"), 0,
+                 "S:o=bar S:o=bar S:v S:o=bar S:o== S:o=a=b "));
+    EXPECT(reads(WORDS("-o", "--", "-o", "-a", "--", "-b", "--", "--c"), 0, "S:o=-- S:o=-a O:-b O:-- O:--c "));
+    EXPECT(reads(WORDS("--foo"), 0, "L:foo=? "));
+    EXPECT(reads(WORDS("-pa", "-p=a", "-p", "a", "-p="), 0, "S:p[a S:p[a S:p O:a S:p[ "));
+    EXPECT(reads(WORDS("-v=1", "a", "--bar=x=y", "-vw=2"), 0, "S:v !1 O:a L:bar !x=y S:v S:w !2 "));
+    EXPECT(reads(WORDS("--", "--", "-a"), 0, "O:-- O:-a "));
+    EXPECT(reads(WORDS("-5", "-.5", "-a5", "-x"), 0, "S:5 S:. S:5 S:a S:5 S:x "));
+    EXPECT(reads(WORDS("-5", "-.5", "-.", "-a5"), OSB_NUMBERS, "O:-5 O:-.5 S:. S:a S:5 "));
+}
+
+static void bad_options(void) {
+    osb_view words[] = {{TEXT("-ab")}, {NULL, 0}, {TEXT("-c")}};
+    osb_options options = {words, 3, 1, 2, 0, 0}, same = options;
+    osb_option option = {9, 9, {NULL, 99}};
+    osb_view value = {NULL, 99};
+    EXPECT(osb_options_start(&options, words, 3, 2) == OSB_BAD_OPTION);
+    EXPECT(osb_options_start(&options, words, 3, 0xFFFFFFFF) == OSB_BAD_OPTION);
+    EXPECT(osb_options_start(NULL, words, 3, 0) == OSB_BAD_POINTER);
+    EXPECT(osb_options_start(&options, NULL, 1, 0) == OSB_BAD_POINTER);
+    EXPECT(osb_options_start(&options, words, SIZE_MAX / 16 + 1, 0) == OSB_BAD_POINTER);
+    EXPECT(osb_options_start(&options, words, SIZE_MAX / 16 + 2, 0) == OSB_BAD_POINTER);
+    void *odd = (char *)words + 4;
+    EXPECT(osb_options_start(&options, odd, 1, 0) == OSB_BAD_POINTER);
+    osb_view bad[] = {{TEXT("a")}, {NULL, 1}};
+    EXPECT(osb_options_start(&options, bad, 2, 0) == OSB_BAD_POINTER);
+    bad[1] = (osb_view){"a", SIZE_MAX};
+    EXPECT(osb_options_start(&options, bad, 2, 0) == OSB_BAD_POINTER);
+    EXPECT(memcmp(&options, &same, sizeof same) == 0);
+    EXPECT(osb_options_next(NULL, &option) == OSB_BAD_POINTER);
+    EXPECT(osb_options_next(&options, NULL) == OSB_BAD_POINTER);
+    EXPECT(osb_options_value(NULL, &value) == OSB_BAD_POINTER);
+    EXPECT(osb_options_value(&options, NULL) == OSB_BAD_POINTER);
+    EXPECT(osb_options_optional_value(NULL, &value) == OSB_BAD_POINTER);
+    EXPECT(osb_options_optional_value(&options, NULL) == OSB_BAD_POINTER);
+    EXPECT(memcmp(&options, &same, sizeof same) == 0);
+    /* fields that no call left so */
+    static const struct {
+        size_t len, taken, at;
+        uint32_t flags;
+        osb_status next, value;
+    } made[] = {
+        {3, 4, 0, 0, OSB_BAD_INDEX, OSB_BAD_INDEX}, {3, SIZE_MAX, 0, 0, OSB_BAD_INDEX, OSB_BAD_INDEX},
+        {3, 0, 1, 0, OSB_BAD_INDEX, OSB_BAD_INDEX}, {3, 5, 1, 0, OSB_BAD_INDEX, OSB_BAD_INDEX},
+        {3, 1, 3, 0, OSB_BAD_INDEX, OSB_BAD_INDEX}, {3, 1, SIZE_MAX, 0, OSB_BAD_INDEX, OSB_BAD_INDEX},
+        {3, 0, 0, 2, OSB_BAD_OPTION, OSB_OK},
+    };
+    for (size_t i = 0; i < sizeof made / sizeof *made; i++) {
+        options = same = (osb_options){words, made[i].len, made[i].taken, made[i].at, made[i].flags, 0};
+        EXPECT(osb_options_next(&options, &option) == made[i].next && option.kind == 9);
+        EXPECT(memcmp(&options, &same, sizeof same) == 0);
+        EXPECT(osb_options_value(&options, &value) == made[i].value);
+    }
+    value = (osb_view){NULL, 99};
+    options = (osb_options){NULL, 1, 0, 0, 0, 0};
+    EXPECT(osb_options_next(&options, &option) == OSB_BAD_POINTER);
+    EXPECT(osb_options_value(&options, &value) == OSB_BAD_POINTER);
+    options = (osb_options){bad, 2, 1, 0, 0, 0};
+    EXPECT(osb_options_next(&options, &option) == OSB_BAD_POINTER);
+    EXPECT(osb_options_value(&options, &value) == OSB_BAD_POINTER);
+    options = (osb_options){bad, 2, 2, 1, 0, 0};
+    EXPECT(osb_options_next(&options, &option) == OSB_BAD_POINTER);
+    EXPECT(osb_options_optional_value(&options, &value) == OSB_BAD_POINTER);
+    EXPECT(option.kind == 9 && option.text.len == 99 && value.at == NULL && value.len == 99);
+    options = (osb_options){NULL, 0, 0, 0, 0, 0};
+    EXPECT(osb_options_next(&options, &option) == OSB_ENDED && option.kind == 9);
+    EXPECT(osb_options_value(&options, &value) == OSB_NONE && value.len == 99);
+    /* each view is of the caller's word, the empty ones too, and a copy goes on by itself */
+    EXPECT(osb_options_start(&options, words, 3, 0) == OSB_OK);
+    EXPECT(osb_options_next(&options, &option) == OSB_OK && option.text.at == words[0].at + 1);
+    same = options;
+    EXPECT(osb_options_next(&options, &option) == OSB_OK && option.text.at == words[0].at + 2);
+    EXPECT(osb_options_next(&options, &option) == OSB_OK && option.text.at != NULL && option.text.len == 0);
+    EXPECT(osb_options_value(&same, &value) == OSB_OK && value.at == words[0].at + 2 && value.len == 1);
+    EXPECT(osb_options_value(&same, &value) == OSB_OK && value.at != NULL && value.len == 0);
+    EXPECT(osb_options_value(&same, &value) == OSB_OK && value.at == words[2].at && same.taken == 3);
+    EXPECT(osb_options_value(&same, &value) == OSB_NONE && same.taken == 3);
+    option = (osb_option){OSB_LONG, 0, {TEXT("foo")}};
+    EXPECT(osb_option_is(&option, 0, "foo") == OSB_OK && osb_option_is(&option, 'f', NULL) == OSB_NONE);
+    EXPECT(osb_option_is(&option, 0, "fo") == OSB_NONE && osb_option_is(&option, 0, "fooo") == OSB_NONE);
+    option.text = (osb_view){TEXT("f\0")};
+    EXPECT(osb_option_is(&option, 0, "f") == OSB_NONE);
+    option.kind = OSB_LONG_BYTES;
+    EXPECT(osb_option_is(&option, 0, "f") == OSB_NONE);
+    option = (osb_option){OSB_SHORT, 0, {TEXT("\0")}};
+    EXPECT(osb_option_is(&option, 0, "f") == OSB_NONE && osb_option_is(NULL, 'f', "f") == OSB_BAD_POINTER);
+    option = (osb_option){OSB_LONG, 0, {NULL, 1}};
+    EXPECT(osb_option_is(&option, 'f', "f") == OSB_BAD_POINTER);
+}
+
 int main(void) {
     checks();
     escapes();
@@ -1326,10 +1568,14 @@ int main(void) {
     components();
     path_parts();
     path_tests();
+    path_rests();
     words();
     no_texts();
+    joins();
     shell_lines();
     windows_lines();
+    options();
+    bad_options();
     printf("asked: %d, failed: %d\n", asked, failed);
     return failed != 0;
 }

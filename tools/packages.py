@@ -106,6 +106,7 @@ def library_entries(built: Path) -> dict[str, Entry]:
         "lib/pkgconfig/osbytes.pc": Entry(pkg_config().encode()),
         "share/doc/osbytes/C.md": Entry((ROOT / "docs" / "C.md").read_bytes()),
         "share/doc/osbytes/names.c": Entry((ROOT / "c" / "names.c").read_bytes()),
+        "share/doc/osbytes/below.c": Entry((ROOT / "c" / "below.c").read_bytes()),
     }
     for name, text in man_pages().items():
         entries[f"share/man/man3/{name}.3"] = Entry(text.encode())

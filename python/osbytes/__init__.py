@@ -51,12 +51,23 @@ from ._calls import (
     unescape,
     unescape_line,
 )
-from ._errors import BadEscapeError, FaultError, LineError, NoStringError, NulError, OsBytesError, QuoteError
+from ._errors import (
+    BadEscapeError,
+    FaultError,
+    LineError,
+    MissingValueError,
+    NoStringError,
+    NulError,
+    OsBytesError,
+    QuoteError,
+    UnexpectedValueError,
+)
 from ._library import version
 from ._lines import (
     LineKind,
     fish_quote,
     powershell_quote,
+    shell_join,
     shell_quote,
     shell_quote_line,
     shell_words,
@@ -64,6 +75,7 @@ from ._lines import (
     windows_command_line,
     windows_quote,
 )
+from ._options import Option, OptionKind, Options
 from ._paths import (
     Component,
     Kind,
@@ -77,6 +89,7 @@ from ._paths import (
     path_parent,
     path_prefix,
     path_starts_with,
+    path_strip_prefix,
 )
 
 __all__ = [
@@ -91,11 +104,16 @@ __all__ = [
     "Kind",
     "LineError",
     "LineKind",
+    "MissingValueError",
     "NoStringError",
     "NulError",
+    "Option",
+    "OptionKind",
+    "Options",
     "OsBytesError",
     "Platform",
     "QuoteError",
+    "UnexpectedValueError",
     "Unit",
     "check",
     "chunks",
@@ -122,9 +140,11 @@ __all__ = [
     "path_parent",
     "path_prefix",
     "path_starts_with",
+    "path_strip_prefix",
     "powershell_quote",
     "rfind",
     "rsplit",
+    "shell_join",
     "shell_quote",
     "shell_quote_line",
     "shell_words",

@@ -51,6 +51,21 @@ class QuoteError(OsBytesError):
         self.index = index
 
 
+class UnexpectedValueError(OsBytesError):
+    """An option with a `value`, its bytes, that nothing took: `--name=value` where the option takes none."""
+
+    def __init__(self, value: bytes) -> None:
+        super().__init__(f"unexpected value {value!r}")
+        self.value = value
+
+
+class MissingValueError(OsBytesError):
+    """No word is left where the value of an option was asked for."""
+
+    def __init__(self) -> None:
+        super().__init__("missing value")
+
+
 class LineError(OsBytesError):
     """A line that isn't words of a shell. `kind` is the number of what begins at the byte `index`, as in `LineKind`."""
 

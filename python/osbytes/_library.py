@@ -4,7 +4,7 @@ from __future__ import annotations
 
 import ctypes
 import os
-from ctypes import CDLL, POINTER, Structure, c_char_p, c_int32, c_size_t, c_uint16, c_uint32, c_void_p
+from ctypes import CDLL, POINTER, Array, Structure, c_char_p, c_int32, c_size_t, c_uint16, c_uint32, c_void_p, cast
 from pathlib import Path
 
 
@@ -71,7 +71,31 @@ class LineFault(Structure):
     _fields_ = [("kind", c_uint32), ("index", c_size_t)]
 
 
-OK, FAULTY, NO_ROOM, NONE, ENDED, BAD_ESCAPE, NO_STRING, HAS_NUL, BAD_LINE, HAS_QUOTE = range(10)
+class OptionsState(Structure):
+    """How far the words of a command line are taken."""
+
+    _fields_ = [
+        ("words", POINTER(View)),
+        ("len", c_size_t),
+        ("taken", c_size_t),
+        ("at", c_size_t),
+        ("flags", c_uint32),
+        ("ended", c_uint32),
+    ]
+
+
+class OptionRead(Structure):
+    """An option or an operand."""
+
+    _fields_ = [("kind", c_uint32), ("value", c_uint32), ("text", View)]
+
+
+def views_of(strings: list[bytes]) -> Array[View]:
+    """Returns views of strings, which have to be kept as long as these."""
+    return (View * len(strings))(*(View(cast(c_char_p(string), c_void_p), len(string)) for string in strings))
+
+
+OK, FAULTY, NO_ROOM, NONE, ENDED, BAD_ESCAPE, NO_STRING, HAS_NUL, BAD_LINE, HAS_QUOTE, UNEXPECTED = range(11)
 CHARACTER = 1
 FAULT_TEXT_ROOM = 129
 
@@ -123,14 +147,20 @@ CALLS: dict[str, list[type]] = {
     "osb_path_is_absolute": [c_uint32, *STRING],
     "osb_path_starts_with": [c_uint32, *STRING, *STRING],
     "osb_path_ends_with": [c_uint32, *STRING, *STRING],
+    "osb_path_strip_prefix": [c_uint32, *STRING, *STRING, POINTER(View)],
     "osb_shell_quote": WORDS,
     "osb_shell_quote_line": WORDS,
     "osb_fish_quote": WORDS,
     "osb_powershell_quote": WORDS,
+    "osb_shell_join": [POINTER(View), c_size_t, *COUNTED, POINTER(c_size_t), POINTER(c_size_t)],
     "osb_shell_words": [c_uint32, *STRING, *COUNTED, POINTER(LineFault)],
     "osb_windows_quote": LINES,
     "osb_windows_command_line": [POINTER(View), c_size_t, *UNITS, POINTER(c_size_t), POINTER(c_size_t), POINTER(Fault)],
     "osb_windows_arguments": LINES,
+    "osb_options_start": [POINTER(OptionsState), POINTER(View), c_size_t, c_uint32],
+    "osb_options_next": [POINTER(OptionsState), POINTER(OptionRead)],
+    "osb_options_value": [POINTER(OptionsState), POINTER(View)],
+    "osb_options_optional_value": [POINTER(OptionsState), POINTER(View)],
 }
 # What takes and answers lengths.
 BOUNDS = ["osb_wide_bound", "osb_bytes_bound", "osb_lossy_bound", "osb_escape_bound", "osb_unescape_bound", "osb_shell_bound"]

@@ -2,13 +2,13 @@
 
 from __future__ import annotations
 
-from ctypes import byref, c_char_p, c_size_t, c_uint16, c_void_p, cast, create_string_buffer
+from ctypes import byref, c_size_t, c_uint16, create_string_buffer
 from enum import IntEnum
 from typing import Callable, Iterable
 
 from ._calls import WINDOWS, OsString, _bytes_of, _done, encode, from_units
 from ._errors import FaultError, LineError, NulError, QuoteError
-from ._library import BAD_LINE, FAULTY, HAS_NUL, HAS_QUOTE, Fault, LineFault, View, library
+from ._library import BAD_LINE, FAULTY, HAS_NUL, HAS_QUOTE, Fault, LineFault, library, views_of
 
 
 class LineKind(IntEnum):
@@ -75,6 +75,24 @@ def powershell_quote(name: OsString) -> str:
     return _word(library.osb_powershell_quote, raw).decode()
 
 
+def shell_join(names: Iterable[OsString]) -> bytes:
+    """Returns a line of the words of names of Unix, a space between them: what a shell reads from it is these names.
+
+    Raises `NulError` where a name has a NUL.
+
+    >>> shell_join(["cp", "a b", ""])
+    b"cp 'a b' ''"
+    """
+    words = [encode(name) for name in names]
+    room = sum(library.osb_shell_bound(len(word)) + 1 for word in words)
+    out, count, index = create_string_buffer(max(room, 1)), c_size_t(), c_size_t()
+    status = library.osb_shell_join(views_of(words), len(words), out, room, byref(count), None, byref(index))
+    if status == HAS_NUL:
+        raise NulError(index.value)
+    _done(status)
+    return out.raw[: count.value]
+
+
 def shell_words(line: OsString, *, specials: bool = False, dollar_quotes: bool = False) -> list[bytes]:
     """Returns the words of a line as a POSIX shell reads it, where nothing is expanded.
 
@@ -131,7 +149,7 @@ def windows_command_line(program: OsString, arguments: Iterable[OsString] = ()) 
     b'"E" "a b" "" -x'
     """
     words = [encode(word, WINDOWS) for word in (program, *arguments)]
-    views = (View * len(words))(*(View(cast(c_char_p(word), c_void_p), len(word)) for word in words))
+    views = views_of(words)
     room = sum(library.osb_windows_bound(len(word)) + 1 for word in words)
 
     def call(out: object, room: int, count: object, index: object, fault: object) -> int:

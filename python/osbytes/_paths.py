@@ -135,3 +135,17 @@ def path_ends_with(path: OsString, child: OsString, platform: Platform = UNIX) -
     (True, False)
     """
     return _compared(library.osb_path_ends_with, path, child, platform)
+
+
+def path_strip_prefix(path: OsString, base: OsString, platform: Platform = UNIX) -> bytes | None:
+    """Returns what of a path follows the components of a base, or None where these aren't its first components.
+
+    >>> path_strip_prefix("/usr//lib/a/", "/usr"), path_strip_prefix("/usr/lib", "/us")
+    (b'lib/a', None)
+    """
+    raw, prefix, rest = encode(path, platform), encode(base, platform), View()
+    status = library.osb_path_strip_prefix(platform, raw, len(raw), prefix, len(prefix), byref(rest))
+    if status == NONE:
+        return None
+    _done(status)
+    return bytes(rest)

@@ -151,6 +151,8 @@ def paths(platform: str, call: str, path: str, *more: str) -> Answers:
         yield told(TESTS[call](given, whose)), more[0]
     elif call in COMPARISONS:
         yield told(COMPARISONS[call](given, raw(more[0]), whose)), more[1]
+    elif call == "strip_prefix":
+        yield part(osbytes.path_strip_prefix(given, raw(more[0]), whose)), more[1]
 
 
 def words(name: str, word: str, line: str, fish: str) -> Answers:
@@ -159,6 +161,7 @@ def words(name: str, word: str, line: str, fish: str) -> Answers:
             yield shown(call(raw(name))), wanted
         except NulError as error:
             yield f"nul {error.index}", wanted
+    yield osbytes.shell_join([raw(name), b"a b", raw(name)]), raw(word) + b" 'a b' " + raw(word)
 
 
 LINE_FAULTS = {

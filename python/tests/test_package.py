@@ -4,6 +4,7 @@ from __future__ import annotations
 
 import codecs
 import doctest
+import getopt
 import os
 import random
 import shlex
@@ -14,7 +15,7 @@ from pathlib import PurePosixPath
 
 import osbytes
 from osbytes import UNIX, WASM, WINDOWS, BadEscapeError, Character, Checker, FaultError, Kind, LineError, LineKind, NoStringError
-from osbytes import NulError, QuoteError, Unit
+from osbytes import MissingValueError, NulError, Option, OptionKind, Options, QuoteError, UnexpectedValueError, Unit
 
 FORMS = [text.encode("utf-8", "surrogatepass") for text in "a,b\\\n\u00e9\u20ac\u2028\U000e0041\ud800\udc00\U0001f600"]
 FORMS += [b"\xc0", b"\xe2\x82", b"\xed", b"\xf4\x90", b"\x80", b"\0"]
@@ -38,9 +39,22 @@ def is_wtf8_by_python(string: bytes) -> bool:
     return wide.decode("utf-16-le", "surrogatepass").encode("utf-8", "surrogatepass") == string
 
 
+def read_options(words: list[str]) -> tuple[list[tuple[str, str]], list[str]]:
+    """Reads words as `getopt.gnu_getopt` does, where `-b` and `--by` take a value."""
+    options, read, operands = Options(words), [], []
+    for option in options:
+        if option.name in ("-b", "--by"):
+            read.append((option.name, osbytes.decode(options.value())))
+        elif option.kind == OptionKind.OPERAND:
+            operands.append(osbytes.decode(option.bytes))
+        else:
+            read.append((option.name, ""))
+    return read, operands
+
+
 class Examples(unittest.TestCase):
     def test_examples_of_the_docs(self) -> None:
-        for module in (osbytes, osbytes._calls, osbytes._library, osbytes._lines, osbytes._paths):
+        for module in (osbytes, osbytes._calls, osbytes._library, osbytes._lines, osbytes._options, osbytes._paths):
             failed, tried = doctest.testmod(module, optionflags=doctest.IGNORE_EXCEPTION_DETAIL)
             self.assertEqual(failed, 0, module)
             self.assertGreater(tried, 0, module)
@@ -114,6 +128,11 @@ class BesidePython(unittest.TestCase):
                 self.assertEqual(PurePosixPath((parent or b"").decode() or "."), python.parent)
                 self.assertTrue(osbytes.path_starts_with(path, parent or b""))
                 self.assertTrue(osbytes.path_ends_with(path, parts[-1].bytes))
+                self.assertEqual(osbytes.path_strip_prefix(path, parent or b""), parts[-1].bytes)
+            base = numbers.choice([python, *python.parents])
+            rest = osbytes.path_strip_prefix(path, "" if base == PurePosixPath() else str(base))
+            self.assertEqual(PurePosixPath((rest or b"").decode()), python.relative_to(base))
+            self.assertIsNone(osbytes.path_strip_prefix(path, path + "/c"))
 
     def test_words(self) -> None:
         numbers = random.Random(7)
@@ -133,6 +152,7 @@ class BesidePython(unittest.TestCase):
             names = [made_up(numbers).replace(b"\0", b"'") for _ in range(numbers.randint(0, 3))]
             line = b" ".join(map(osbytes.shell_quote, names))
             self.assertEqual(osbytes.shell_words(line), names)
+            self.assertEqual(osbytes.shell_join(names), line)
             shown = b"\t".join(map(osbytes.shell_quote_line, names))
             self.assertEqual(osbytes.shell_words(shown, dollar_quotes=True), names)
             program, *words = [name for name in [b"E", *names] if osbytes.is_string(name, WINDOWS)]
@@ -155,6 +175,33 @@ class BesidePython(unittest.TestCase):
             with self.assertRaises(NulError) as nul:
                 call(b"ab\0")
             self.assertEqual(nul.exception.index, 2)
+
+    def test_options(self) -> None:
+        numbers = random.Random(9)
+        words = ["-a", "-b", "-abv", "-b-", "--all", "--by=v", "--by=", "--by", "--", "-", "v", "", "\udcff"]
+        for _ in range(5000):
+            given = [numbers.choice(words) for _ in range(numbers.randint(0, 5))]
+            try:
+                wanted = getopt.gnu_getopt(given, "ab:", ["all", "by="])
+            except getopt.GetoptError:
+                with self.assertRaises(MissingValueError):
+                    read_options(given)
+            else:
+                self.assertEqual(read_options(given), wanted)
+
+    def test_refused_options(self) -> None:
+        options = Options(["-v=1", "--n\udcff", "-a\udcffb", "-5"])
+        self.assertEqual(next(options), Option(OptionKind.SHORT, b"v"))
+        with self.assertRaises(UnexpectedValueError) as refused:
+            next(options)
+        self.assertEqual(refused.exception.value, b"1")
+        read = [(option.kind, option.bytes, option.name) for option in options]
+        self.assertEqual(read[0], (OptionKind.LONG_BYTES, b"n\xff", None))
+        self.assertEqual(read[2], (OptionKind.SHORT_BYTES, b"\xffb", None))
+        self.assertEqual(read[3], (OptionKind.SHORT, b"5", "-5"))
+        self.assertEqual(next(Options(["-5"], numbers=True)), Option(OptionKind.OPERAND, b"-5"))
+        options = Options(["-n\ud83d"], WINDOWS)
+        self.assertEqual((next(options).name, options.optional_value()), ("-n", b"\xed\xa0\xbd"))
 
     def test_symbols(self) -> None:
         self.assertEqual(list(osbytes.symbols(b"a\xff\xc3\xa9")), [Character("a"), Unit(0xFF), Character("\u00e9")])
