@@ -1,6 +1,6 @@
 -- A buffer that may be too short as a sink.
 use Rattle.std.specs.Prelude.{◌≡◌, ℕ, ◌+◌, ◌<◌, ◌^◌, List, [], ◌++◌, length}
-use Rattle.std.proofs.Common.{refl, sym, ◌∙◌, ap, subst, arith, append_assoc, append-nil, length-append}
+use Rattle.std.proofs.Common.{refl, sym, ◌∙◌, subst, arith, append_assoc, append-nil, length-append}
 use Rattle.wtf8_core.specs.Truncated.{IsTruncated}
 use Rattle.os_quote.specs.Buffers.{Pushes}
 use Rattle.os_quote.specs.Sinks.{SinkRules}

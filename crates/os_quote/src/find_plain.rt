@@ -102,6 +102,7 @@ fn end_by_bytes(bytes: &[u8], from: usize) -> usize
 }
 
 /// How many of the next 16 bytes are plain before the first that isn't.
+#[tactic(auto, using(crate::proofs::lemmas::PlainLanes::plain_lane))]
 #[inline(always)]
 fn lanes_len(bytes: &[u8], at: usize) -> usize
     requires { at + 16 ≤ length bytes.now }
@@ -167,6 +168,7 @@ fn greatest(a: u8x16, b: u8x16) -> u8x16
 }
 
 /// Whether no lane is below a value.
+#[tactic(auto, using(crate::proofs::lemmas::PlainLanes::none_below))]
 #[inline(always)]
 fn are_at_least(lanes: u8x16, value: u8) -> bool
     ensures { IsTrue result → (i : ℕ) → i < 16 → value ≤ slice_index lanes i }

@@ -85,6 +85,7 @@ pub(crate) fn first_token(form: Form, following: &[u8]) -> Option<(Token, &[u8])
 
 /// The token of a form that `\u` begins, and what comes after the token; `digits` is what comes
 /// after `\u`.
+#[tactic(auto, using(crate::proofs::lemmas::Tokens::numbers))]
 fn number_token(form: Form, digits: &[u8]) -> Option<(Token, &[u8])>
     ensures { MatchOption result (HasNoNumber (shown_by form) digits.now)
         (λ read. IsItem (shown_by form) (token_item read.0)
@@ -105,6 +106,7 @@ fn number_token(form: Form, digits: &[u8]) -> Option<(Token, &[u8])>
 }
 
 /// The number of the four digits at the start, and what comes after them.
+#[tactic(auto, using(crate::proofs::lemmas::Tokens::no_wide))]
 pub(crate) fn four_digits(bytes: &[u8]) -> Option<(u16, &[u8])>
     ensures { MatchOption result
         ((u : ℕ) → u < 0x1_0000 → (after : List ℕ) → bytes.now ≢ wide_digits u ++ after)
@@ -163,6 +165,7 @@ pub(crate) fn long_character(bytes: &[u8]) -> Option<(char, &[u8])>
 }
 
 /// The character whose number is six digits before a brace: `10` and four more.
+#[tactic(auto, using(crate::proofs::lemmas::Items::tails))]
 fn six_digits(digits: &[u8]) -> Option<(char, &[u8])>
     ensures { MatchOption result (HasNoSix digits.now)
         (λ read. IsSix digits.now read.0 read.1.now) }
@@ -180,6 +183,7 @@ fn six_digits(digits: &[u8]) -> Option<(char, &[u8])>
 }
 
 /// The character whose number is five digits before a brace, the first of which isn't `0`.
+#[tactic(auto, using(crate::proofs::lemmas::LongTokens::five_tokens))]
 fn five_digits(digits: &[u8]) -> Option<(char, &[u8])>
     ensures { MatchOption result (HasNoFive digits.now)
         (λ read. IsFive digits.now read.0 read.1.now) }

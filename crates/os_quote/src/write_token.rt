@@ -34,6 +34,7 @@ impl TokenText {
     }
 
     /// `\\`.
+    #[tactic(auto, using(crate::proofs::lemmas::Readings::item_is_text))]
     #[inline(always)]
     pub(crate) fn of_backslash() -> TokenText
         ensures { result ≡ item_text Backslash }

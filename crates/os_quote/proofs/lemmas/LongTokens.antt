@@ -71,3 +71,5 @@ pub is_scalar : {T : Type 0} (high number code : ℕ) → 0 < high → high ≤ 
 is_scalar high number code some within fits e out = absurd (⊎_elim (λ (r : IsInRange 0xD800 0xDFFF code). let a = r.0 in let b = r.1 in omega arith) (λ (r : 0x11_0000 ≤ code). omega arith) out)
 
 pub ruleset closed_tokens = (closed, is_scalar)
+
+pub ruleset five_tokens = (no_bytes, no_first, zero_first, not_closed, five_closed)

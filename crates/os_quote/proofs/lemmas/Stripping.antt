@@ -1,5 +1,5 @@
 -- Texts that are compared with an escape.
-use Rattle.os_quote.proofs.Common.{◌≡◌, ℕ, Bool, List, [], ◌++◌, sym, ◌∙◌, subst, append-nil, IsEscapeBy, escape_of}
+use Rattle.os_quote.proofs.Common.{◌≡◌, ℕ, Bool, List, [], sym, ◌∙◌, subst, append-nil, IsEscapeBy, escape_of}
 use Rattle.os_quote.specs.Stripping.{StartsNot}
 use Rattle.os_quote.proofs.lemmas.Escapes.{one_escape, escape_of_is}
 

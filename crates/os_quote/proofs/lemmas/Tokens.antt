@@ -65,6 +65,10 @@ no_low_digits digits lower high two never u h after e =
     let s = byte_same high (u / 0x100) lower (byte_digits (u % 0x100) ++ after) (sym two ∙ e) in
     never (u % 0x100) (omega arith) after s.1
 
+pub ruleset numbers = (no_long_tokens, long_token, line_has_long)
+
+pub ruleset no_wide = (no_high_digits, no_low_digits)
+
 -- `\u` and what number_token reads after it
 pub number_found : (following digits whole : List ℕ) (kind : ℕ) → following ≡ kind ∷ digits → kind ≡ 0x75 → backslash ∷ 0x75 ∷ digits ≡ whole → backslash ∷ following ≡ whole
 number_found following digits whole kind is k e = ap (λ x. backslash ∷ x) (is ∙ ap (λ x. x ∷ digits) k) ∙ e

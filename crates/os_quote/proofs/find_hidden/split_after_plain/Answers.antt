@@ -1,4 +1,4 @@
-use Rattle.os_quote.proofs.Common.{◌≡◌, ◌++◌, ◌<◌, ℕ, List, take, drop, sym, ap, ◌∙◌, subst, get_or, take-append-drop, sub-zero, IsCharBoundary, IsCharBoundary-from_take, IsUtf8, IsPlain, IsPlainUpTo, AreUnchanged}
+use Rattle.os_quote.proofs.Common.{◌≡◌, ◌++◌, ℕ, List, take, drop, sym, ap, ◌∙◌, subst, take-append-drop, sub-zero, IsCharBoundary, IsCharBoundary-from_take, IsUtf8, IsPlainUpTo, AreUnchanged}
 use Rattle.os_quote.proofs.lemmas.PlainBytes.{plain_prefix, plain_is_text, plain_unchanged}
 use Rattle.os_quote.proofs.find_hidden.split_after_plain.Goals as goal
 

@@ -1,4 +1,4 @@
-use Rattle.os_quote.proofs.Common.{[], append-nil, ◌∙◌, ap, refl, sym, arith, length, length-append, subst, IsUtf8-nil, shown_by, escape_of}
+use Rattle.os_quote.proofs.Common.{[], append-nil, ◌∙◌, ap, sym, arith, length, length-append, IsUtf8-nil, shown_by, escape_of}
 use Rattle.std.proofs.lemmas.Result.{err_from_is_err_and}
 use Rattle.os_quote.proofs.lemmas.Escapes.{no_units_of_none}
 use Rattle.os_quote.proofs.lemmas.Prefixes.{rest_formed, plain_first}
