@@ -95,11 +95,13 @@ fn run_on<A: Allocator, R: Read, W: Write>(
 ) -> Result<(), Fault>
     requires reader_unmarked { has_failed reader.old ≡ false }
     requires writer_unmarked { has_failed writer.old ≡ false }
-    ensures run { Runs (rules_of (strings os) (style_of os) task.entry longest_path) OfList (R.remaining (marked_inner reader.old))
-        (R.remaining (marked_inner reader.new)) (W.contents (marked_inner writer.old))
-        (W.contents (marked_inner writer.new)) result }
-    ensures read { (result ≡ Err (Fault.List (ListFault.Run Failure.Read))) ↔ (has_failed reader.new ≡ true) }
-    ensures write { (result ≡ Err (Fault.List (ListFault.Run Failure.Write))) ↔ (has_failed writer.new ≡ true) }
+    ensures run { Runs (rules_of (strings os) (style_of os) task.entry longest_path) OfList
+        (R.remaining (marked_inner reader.old)) (R.remaining (marked_inner reader.new))
+        (W.contents (marked_inner writer.old)) (W.contents (marked_inner writer.new)) result }
+    ensures read { (result ≡ Err (Fault.List (ListFault.Run Failure.Read)))
+        ↔ (has_failed reader.new ≡ true) }
+    ensures write { (result ≡ Err (Fault.List (ListFault.Run Failure.Write)))
+        ↔ (has_failed writer.new ≡ true) }
 {
     match os {
         Os::Unix => run_list(
