@@ -1,14 +1,12 @@
 -- What clauses see of the words of a command line, and of what a step gives.
-use Rattle.std.specs.Prelude.{ℕ, List, map, Option, Result, Ok, Err}
+use Rattle.std.specs.Prelude.{map, Result, Ok, Err}
 use Rattle.std.specs.Option.{option_map}
 use Rattle.platform_str.specs.declared.platform.Platform.{Ghosts}
 use Rattle.platform_str.specs.declared.os_str.OsStr.{OsStr}
 use Rattle.platform_str.specs.Strings.{bytes}
-use Rattle.os_args.specs.declared.word.Word.{Word}
 use Rattle.os_args.specs.declared.error.ArgumentError.{ArgumentError}
 use Rattle.os_args.specs.declared.error.ArgumentError.TheVariants as error
 use Rattle.os_args.specs.declared.arguments.Arguments.{Arguments}
-use Rattle.os_args.specs.Word.{Kind}
 use Rattle.os_args.specs.Kinds.{kind_of}
 use Rattle.os_args.specs.Reading.{Fault, UnexpectedValue, MissingValue, UnexpectedArgument, Reading}
 

@@ -1,5 +1,5 @@
 -- Which words start as numbers.
-use Rattle.std.proofs.Common.{◌≡◌, ◌⊎◌, ℕ, List, [], ◌∷◌, ◌++◌, sym, ◌∙◌, arith, subst}
+use Rattle.std.proofs.Common.{◌≡◌, ◌⊎◌, ℕ, List, [], ◌++◌, sym, ◌∙◌, arith, subst}
 use Rattle.wtf8_core.specs.Occurrence.{IsPrefix}
 use Rattle.os_args.specs.Word.{dash, point, StartsWithDigit, StartsWithFraction, StartsAsNegative}
 use Rattle.os_args.proofs.lemmas.OneReading.{heads, tails}

@@ -1,5 +1,5 @@
 -- A step has one outcome, and leaves one reading.
-use Rattle.std.proofs.Common.{◌≡◌, inl, inr, ℕ, ◌+◌, Bool, true, false, List, [], ◌∷◌, Option, Some, None, Result, Ok, Err, refl, sym, ap, ◌∙◌, subst}
+use Rattle.std.proofs.Common.{◌≡◌, inl, inr, ℕ, ◌+◌, Bool, true, false, List, [], Option, Some, None, Result, Ok, Err, refl, sym, ap, ◌∙◌, subst}
 use Rattle.os_args.specs.Word.{Kind, IsValueOf}
 use Rattle.os_args.specs.Reading.{Fault, UnexpectedValue, Reading, words_left, having_read, SkipsDashes, IsReadIn, TakesFlag, TakesNext, TakesNone, TakesWhole, DropsValue, TakesWord, TakesPending, LacksValue, TakesValue, TakesOptionalValue, TakesRest}
 use Rattle.os_args.proofs.lemmas.OneReading.{heads, tails, one_flag, one_reading}

@@ -1,5 +1,5 @@
 -- Steps, from what is known of their parts.
-use Rattle.std.proofs.Common.{◌≡◌, inl, inr, ℕ, ◌+◌, true, false, List, [], ◌∷◌, Option, refl, sym, ap, ◌∙◌}
+use Rattle.std.proofs.Common.{◌≡◌, inl, inr, ℕ, ◌+◌, true, false, List, [], ◌∷◌, Option, sym, ap, ◌∙◌}
 use Rattle.os_args.specs.Word.{Kind, dashes}
 use Rattle.os_args.specs.Reading.{Reading, words_left, without_word, last_option, SkipsDashes, IsReadIn, TakesNext, TakesWhole}
 
