@@ -43,7 +43,8 @@ pub trait Files {
         ensures no_file { result ≡ Err FileFault.NoFile → (known self.now).lacks name.now };
 }
 
-/// The files of the runtime. Of these no proof knows anything: a file may have any bytes.
+/// The files of the runtime. Of these no proof knows anything: a name may have a file or none, at one time
+/// and at another, and the file may have any bytes. So what it answers is claimed nowhere, as the world is.
 #[derive(Clone, Copy)]
 pub struct Disk<'r, R> {
     rt: &'r R,

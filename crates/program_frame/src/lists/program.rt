@@ -129,9 +129,14 @@ pub fn execute<P: ListProgram, A: Allocator + Copy, R: Read, W: Output, E: Messa
     ensures ok { OnOk (outcome_of result) (IsOk args) }
     ensures no_words { IfErr args (λ error. error_kind error ≢ ErrorKind.OutOfMemory
         → outcome_of result ≡ Err (Fault.Words P.Words.usage)) }
+    ensures no_memory { IfErr args (λ error. error_kind error ≡ ErrorKind.OutOfMemory
+        → outcome_of result ≡ Err (Fault.List (ListFault.Run Failure.Memory))) }
+    ensures untouched { IfErr args (λ _. (reader.new ≡ reader.old) × (writer.new ≡ writer.old)) }
 
     // The run.
-    ensures run { IfOk args (λ args. (outcome_of result ≡ Err (Fault.List (ListFault.Run Failure.Memory)))
+    ensures run { IfOk args (λ args.
+        ((outcome_of result ≡ Err (Fault.List (ListFault.Run Failure.Memory)))
+        × ((reader.new ≡ reader.old) × (writer.new ≡ writer.old)))
         ⊎ P.runs_to program.now A (words_after_name args) (R.remaining (marked_inner reader.old))
         (R.remaining (marked_inner reader.new)) (W.contents (marked_inner writer.old))
         (W.contents (marked_inner writer.new)) (outcome_of result)) }
