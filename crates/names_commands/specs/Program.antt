@@ -5,6 +5,8 @@ use Rattle.os_ignore.specs.declared.file.File.{File}
 use Rattle.glob_text.specs.declared.fault.PatternFault.{PatternFault}
 use Rattle.glob_text.specs.Marks.{Mark}
 use Rattle.program_frame.specs.Files.{KnownFiles}
+use Rattle.program_frame.specs.Marked.{marked_inner}
+use Rattle.program_frame.specs.declared.marked.Marked.{Marked}
 use Rattle.program_frame.specs.Strings.{strings}
 use Rattle.program_frame.specs.declared.os.Os.{Os}
 use Rattle.program_frame.specs.declared.os.Os.TheVariants.{Unix}
@@ -36,12 +38,24 @@ use Rattle.names_commands.specs.Task.{rules_of}
 abbrev pub Fault : Type 0
 Fault = program_fault.Fault Refusal CommandFault
 
--- memory was refused before anything was read or written
-abbrev pub IsOutOfMemory : Result ⊤ Fault → Option (List ℕ) → Option (List ℕ) → Option (List ℕ) → Option (List ℕ) → Type 0
-IsOutOfMemory answer input left old new = (answer ≡ Err (OfList (Run Memory))) × ((left ≡ input) × (new ≡ old))
+-- what is done: of the bytes that a reader had left and has left, of what a writer held and holds, as far as they are known, and of the answer
+abbrev pub Doing : Type 1
+Doing = Option (List ℕ) → Option (List ℕ) → Option (List ℕ) → Option (List ℕ) → Result ⊤ Fault → Type 0
+
+-- this is done between these states of a reader and a writer, of whose bytes this is known
+abbrev pub Did : {R W : Type 0} → (R → Option (List ℕ)) → (W → Option (List ℕ)) → Doing → Marked R → Marked R → Marked W → Marked W → Result ⊤ Fault → Type 0
+Did remaining contents Done reader read writer written answer = Done (remaining (marked_inner reader)) (remaining (marked_inner read)) (contents (marked_inner writer)) (contents (marked_inner written)) answer
+
+-- the program ends with this fault before anything is read or written
+abbrev pub EndsAtOnce : Fault → Doing
+EndsAtOnce fault input left old new answer = (answer ≡ Err fault) × ((left ≡ input) × (new ≡ old))
+
+-- so it ends where memory is refused, or else this is done
+abbrev pub UnlessOutOfMemory : Doing → Doing
+UnlessOutOfMemory Done input left old new answer = EndsAtOnce (OfList (Run Memory)) input left old new answer ⊎ Done input left old new answer
 
 -- the answer of a run over all items
-abbrev pub RunsTask : Os → Task → ℕ → Option (List ℕ) → Option (List ℕ) → Option (List ℕ) → Option (List ℕ) → Result ⊤ Fault → Type 0
+abbrev pub RunsTask : Os → Task → ℕ → Doing
 RunsTask os what max input left old new answer = Runs (rules_of (strings os) (record { task = what; max = max })) OfList input left old new answer
 
 -- the fault of the pattern that comes after so many others
@@ -72,37 +86,40 @@ module _ (known : KnownFiles) (A : Type 0) where
   IsFaultOf names fault = (fault ≡ OfList (Run Memory)) ⊎ ((why : CommandFault) × IsFileFault names why × (fault ≡ Words why))
 
   -- the first ignore file that can't be read is told; or these names are written, but for those that the files ignore, on a platform that says this of its strings, where a name may have `max` bytes
-  abbrev pub RunsBut : {E : Type 0} → Ghosts E → Form → ℕ → (List ℕ → Type 0) → List (List ℕ) → Option (List ℕ) → Option (List ℕ) → Option (List ℕ) → Option (List ℕ) → Result ⊤ Fault → Type 0
+  abbrev pub RunsBut : {E : Type 0} → Ghosts E → Form → ℕ → (List ℕ → Type 0) → List (List ℕ) → Doing
   RunsBut p form max Chosen names input left old new answer =
-      ((why : CommandFault) × IsFileFault names why × (answer ≡ Err (Words why)))
+      ((why : CommandFault) × IsFileFault names why × EndsAtOnce (Words why) input left old new answer)
       ⊎ ((files : List (File A)) × AreRead known names files × Runs (picking p form max (IsPicked Chosen files)) OfList input left old new answer)
 
   -- on such a platform:
   module _ {E : Type 0} (p : Ghosts E) (os : Os) (form : Form) (pick : Pick) (max : ℕ) where
     -- the first of the patterns that has a fault is told; or the names that one of them matches are written, or all where there are none, but for those that the files ignore
-    abbrev pub RunsPatterns : List (List ℕ) → List (List ℕ) → Option (List ℕ) → Option (List ℕ) → Option (List ℕ) → Option (List ℕ) → Result ⊤ Fault → Type 0
+    abbrev pub RunsPatterns : List (List ℕ) → List (List ℕ) → Doing
     RunsPatterns globs names input left old new answer =
-        ((index : ℕ) × (fault : PatternFault) × IsFirstFault p (options_of os) globs index fault × (answer ≡ Err (Words (fault_of pick index fault))))
+        ((index : ℕ) × (fault : PatternFault) × IsFirstFault p (options_of os) globs index fault × EndsAtOnce (Words (fault_of pick index fault)) input left old new answer)
         ⊎ ((written : List (List (List Mark))) × AreWrittenOut p (options_of os) globs written × RunsBut p form max (IsChosen p (options_of os) written) names input left old new answer)
 
-    -- the answer to what picks names: that it is neither a pattern nor options, or that memory was refused before anything was read or written, or that to its patterns and ignore files
-    abbrev pub RunsPick : Option (List ℕ) → Option (List ℕ) → Option (List ℕ) → Option (List ℕ) → Result ⊤ Fault → Type 0
+    -- the answer to the patterns and the ignore files that pick names
+    abbrev pub RunsChosen : Doing
+    RunsChosen input left old new answer = (globs : List (List ℕ)) × (names : List (List ℕ)) × AreChosen os pick globs names × RunsPatterns globs names input left old new answer
+
+    -- the answer to what picks names: that it is neither a pattern nor options, or that to its patterns and ignore files, unless memory is refused first
+    abbrev pub RunsPick : Doing
     RunsPick input left old new answer =
-        (((globs names : List (List ℕ)) → ¬ (AreChosen os pick globs names)) × (answer ≡ Err (Words Usage)))
-        ⊎ (IsOutOfMemory answer input left old new
-        ⊎ ((globs : List (List ℕ)) × (names : List (List ℕ)) × AreChosen os pick globs names × RunsPatterns globs names input left old new answer))
+        (((globs names : List (List ℕ)) → ¬ (AreChosen os pick globs names)) × EndsAtOnce (Words Usage) input left old new answer)
+        ⊎ UnlessOutOfMemory RunsChosen input left old new answer
 
   -- on the platform that a command names
-  abbrev pub RunsPickOn : Os → Form → Pick → ℕ → Option (List ℕ) → Option (List ℕ) → Option (List ℕ) → Option (List ℕ) → Result ⊤ Fault → Type 0
+  abbrev pub RunsPickOn : Os → Form → Pick → ℕ → Doing
   RunsPickOn os form pick max input left old new answer = RunsPick (strings os) os form pick max input left old new answer
 
   -- the answer of a run over all items, or over the names that are picked, in this form
-  abbrev pub RunsNames : Os → Task → Form → Option Pick → ℕ → Option (List ℕ) → Option (List ℕ) → Option (List ℕ) → Option (List ℕ) → Result ⊤ Fault → Type 0
+  abbrev pub RunsNames : Os → Task → Form → Option Pick → ℕ → Doing
   RunsNames os what form None max input left old new answer = RunsTask os what max input left old new answer
   RunsNames os what form (Some pick) max input left old new answer = RunsPickOn os form pick max input left old new answer
 
   -- what the command does where a name may have `max` bytes
-  abbrev pub Does : Command → ℕ → Option (List ℕ) → Option (List ℕ) → Option (List ℕ) → Option (List ℕ) → Result ⊤ Fault → Type 0
+  abbrev pub Does : Command → ℕ → Doing
   Does (ListNames os pick) max input left old new answer = RunsNames os task.ListAll Line pick max input left old new answer
   Does (ListWords form pick) max input left old new answer = RunsNames Unix (task.ListWords form) (Word form) pick max input left old new answer
   Does (Filter os pick) max input left old new answer = RunsPickOn os Name pick max input left old new answer
@@ -112,7 +129,7 @@ module _ (known : KnownFiles) (A : Type 0) where
   Does Help max input left old new answer = WritesText help_text (OfList (Run Write)) old new answer
 
   -- the request that these words make is answered by this; words that make none are refused
-  abbrev pub RunsTo : List (List ℕ) → Option (List ℕ) → Option (List ℕ) → Option (List ℕ) → Option (List ℕ) → Result ⊤ Fault → Type 0
+  abbrev pub RunsTo : List (List ℕ) → Doing
   RunsTo words input left old new answer =
-      (((request : Request) → ¬ (AsksFor words request)) × (answer ≡ Err (Words Usage)))
+      (((request : Request) → ¬ (AsksFor words request)) × EndsAtOnce (Words Usage) input left old new answer)
       ⊎ ((request : Request) × (AsksFor words request × Does request.command request.max input left old new answer))

@@ -1,11 +1,11 @@
 //! The whole program, over ends of any kind.
-ghost use Rattle.std.specs.Prelude.{◌≡◌, ◌≢◌, ◌⊎◌, ◌<◌, ◌+◌, ◌^◌, [], map, false, MatchOption};
+ghost use Rattle.std.specs.Prelude.{◌≡◌, ◌≢◌, ◌<◌, ◌+◌, ◌^◌, [], map, false, MatchOption};
 ghost use Rattle.os_str_bytes.specs.Strings.{bytes};
-ghost use Rattle.program_frame.specs.Marked.{marked_inner, has_failed};
+ghost use Rattle.program_frame.specs.Marked.{has_failed};
 ghost use Rattle.program_frame.specs.ProgramFault.{BlamesEnds};
 ghost use Rattle.names_commands.specs.Ignoring.{text_of};
 ghost use Rattle.names_commands.specs.Matching.{IsChosenBy};
-ghost use Rattle.names_commands.specs.Program.{Does, IsOutOfMemory, RunsBut, RunsNames, RunsPatterns, RunsPick, RunsPickOn, RunsTask, fault_of};
+ghost use Rattle.names_commands.specs.Program.{Did, Does, RunsBut, RunsNames, RunsPatterns, RunsPick, RunsPickOn, RunsTask, UnlessOutOfMemory, fault_of};
 
 use crate::command::{Command, Request, options_of};
 use crate::fault::{CommandFault, Fault, Refusal};
@@ -105,9 +105,8 @@ fn run_command<F: Files, A: Allocator + Copy, R: Read, W: Write>(
 ) -> Result<(), Fault>
     requires reader_unmarked { has_failed reader.old ≡ false }
     requires writer_unmarked { has_failed writer.old ≡ false }
-    ensures run { Does (F.known files.now) A command.entry max (R.remaining (marked_inner reader.old))
-        (R.remaining (marked_inner reader.new)) (W.contents (marked_inner writer.old))
-        (W.contents (marked_inner writer.new)) result }
+    ensures run { Did R.remaining W.contents (Does (F.known files.now) A command.entry max)
+        reader.old reader.new writer.old writer.new result }
     ensures ends { BlamesEnds result (has_failed reader.new) (has_failed writer.new) }
 {
     match command {
@@ -167,9 +166,9 @@ fn run_names<F: Files, A: Allocator + Copy, R: Read, W: Write>(
 ) -> Result<(), Fault>
     requires reader_unmarked { has_failed reader.old ≡ false }
     requires writer_unmarked { has_failed writer.old ≡ false }
-    ensures run { RunsNames (F.known files.now) A os task form pick.entry max
-        (R.remaining (marked_inner reader.old)) (R.remaining (marked_inner reader.new)) (W.contents (marked_inner writer.old))
-        (W.contents (marked_inner writer.new)) result }
+    ensures run { Did R.remaining W.contents
+        (RunsNames (F.known files.now) A os task form pick.entry max)
+        reader.old reader.new writer.old writer.new result }
     ensures ends { BlamesEnds result (has_failed reader.new) (has_failed writer.new) }
 {
     match pick {
@@ -191,9 +190,8 @@ fn run_pick<F: Files, A: Allocator + Copy, R: Read, W: Write>(
 ) -> Result<(), Fault>
     requires reader_unmarked { has_failed reader.old ≡ false }
     requires writer_unmarked { has_failed writer.old ≡ false }
-    ensures run { RunsPickOn (F.known files.now) A os form pick.entry max
-        (R.remaining (marked_inner reader.old)) (R.remaining (marked_inner reader.new)) (W.contents (marked_inner writer.old))
-        (W.contents (marked_inner writer.new)) result }
+    ensures run { Did R.remaining W.contents (RunsPickOn (F.known files.now) A os form pick.entry max)
+        reader.old reader.new writer.old writer.new result }
     ensures ends { BlamesEnds result (has_failed reader.new) (has_failed writer.new) }
 {
     match os {
@@ -222,9 +220,9 @@ fn run_picked<E: Platform, F: Files, A: Allocator + Copy, R: Read, W: Write>(
 ) -> Result<(), Fault>
     requires reader_unmarked { has_failed reader.old ≡ false }
     requires writer_unmarked { has_failed writer.old ≡ false }
-    ensures run { RunsPick (F.known files.now) A ⟦<E as Platform>⟧ os form pick.entry max
-        (R.remaining (marked_inner reader.old)) (R.remaining (marked_inner reader.new))
-        (W.contents (marked_inner writer.old)) (W.contents (marked_inner writer.new)) result }
+    ensures run { Did R.remaining W.contents
+        (RunsPick (F.known files.now) A ⟦<E as Platform>⟧ os form pick.entry max)
+        reader.old reader.new writer.old writer.new result }
     ensures ends { BlamesEnds result (has_failed reader.new) (has_failed writer.new) }
 {
     match pick.chosen::<E, A>(alloc, os) {
@@ -262,13 +260,10 @@ fn run_chosen<E: Platform, F: Files, A: Allocator + Copy, R: Read, W: Write>(
 ) -> Result<(), Fault>
     requires reader_unmarked { has_failed reader.old ≡ false }
     requires writer_unmarked { has_failed writer.old ≡ false }
-    ensures run { IsOutOfMemory result (R.remaining (marked_inner reader.old))
-        (R.remaining (marked_inner reader.new)) (W.contents (marked_inner writer.old))
-        (W.contents (marked_inner writer.new))
-        ⊎ RunsPatterns (F.known files.now) A ⟦<E as Platform>⟧ os form pick.entry max
-        (map bytes globs.now) (map text_of names.now)
-        (R.remaining (marked_inner reader.old)) (R.remaining (marked_inner reader.new))
-        (W.contents (marked_inner writer.old)) (W.contents (marked_inner writer.new)) result }
+    ensures run { Did R.remaining W.contents (UnlessOutOfMemory
+        (RunsPatterns (F.known files.now) A ⟦<E as Platform>⟧ os form pick.entry max
+        (map bytes globs.now) (map text_of names.now)))
+        reader.old reader.new writer.old writer.new result }
     ensures ends { BlamesEnds result (has_failed reader.new) (has_failed writer.new) }
 {
     match GlobSet::<E, A>::new(alloc, options_of(os), globs) {
@@ -308,13 +303,10 @@ fn run_but<E: Platform, F: Files, A: Allocator + Copy, R: Read, W: Write>(
 ) -> Result<(), Fault>
     requires reader_unmarked { has_failed reader.old ≡ false }
     requires writer_unmarked { has_failed writer.old ≡ false }
-    ensures run { IsOutOfMemory result (R.remaining (marked_inner reader.old))
-        (R.remaining (marked_inner reader.new)) (W.contents (marked_inner writer.old))
-        (W.contents (marked_inner writer.new))
-        ⊎ RunsBut (F.known files.now) A ⟦<E as Platform>⟧ form max
-        (IsChosenBy ⟦<E as Platform>⟧ globs.entry) (map text_of names.now)
-        (R.remaining (marked_inner reader.old)) (R.remaining (marked_inner reader.new))
-        (W.contents (marked_inner writer.old)) (W.contents (marked_inner writer.new)) result }
+    ensures run { Did R.remaining W.contents (UnlessOutOfMemory
+        (RunsBut (F.known files.now) A ⟦<E as Platform>⟧ form max
+        (IsChosenBy ⟦<E as Platform>⟧ globs.entry) (map text_of names.now)))
+        reader.old reader.new writer.old writer.new result }
     ensures ends { BlamesEnds result (has_failed reader.new) (has_failed writer.new) }
 {
     match read_ignore(alloc, files, names) {
@@ -351,9 +343,8 @@ fn run_on<A: Allocator, R: Read, W: Write>(
 ) -> Result<(), Fault>
     requires reader_unmarked { has_failed reader.old ≡ false }
     requires writer_unmarked { has_failed writer.old ≡ false }
-    ensures run { RunsTask os task max (R.remaining (marked_inner reader.old))
-        (R.remaining (marked_inner reader.new)) (W.contents (marked_inner writer.old))
-        (W.contents (marked_inner writer.new)) result }
+    ensures run { Did R.remaining W.contents (RunsTask os task max)
+        reader.old reader.new writer.old writer.new result }
     ensures ends { BlamesEnds result (has_failed reader.new) (has_failed writer.new) }
 {
     let settings = Settings { task, max };

@@ -1,4 +1,4 @@
-use Rattle.std.proofs.Common.{◌≡◌, ⊎_elim, inl, inr, map, subst}
+use Rattle.std.proofs.Common.{◌≡◌, ⊎_elim, inl, inr, map, refl, subst}
 use Rattle.os_str_bytes.specs.Strings.{bytes}
 use Rattle.glob_patterns.specs.GlobSets.{AreMeanings, IsSetError}
 use Rattle.glob_patterns.specs.Letters.{letters_of}
@@ -36,4 +36,4 @@ returns-in-Err-Pattern-clause-run g c =
     let told = c.fault_of.ensures in
     let index = c.in-Err-Pattern.index-is in
     let fault = c.in-Err-Pattern.fault-is in
-    inr (inl (c.in-Err-Pattern.index, c.in-Err-Pattern.fault, first, cc))
+    inr (inl (c.in-Err-Pattern.index, c.in-Err-Pattern.fault, first, (cc, (refl, refl))))
