@@ -5,6 +5,7 @@
 //! or a private word of the crates below, so that a contract that says too little breaks a caller.
 #![tactic(auto)]
 
+mod ignoring;
 mod marks;
 mod names;
 mod paths;
@@ -13,6 +14,7 @@ mod programs;
 mod runs;
 mod words;
 
+pub use ignoring::{OneFile, left_out, unread};
 pub use marks::{closed_by_a_flush, closed_by_a_write, closed_by_no_bytes, marked_by_no_bytes};
 pub use names::{
     check_one, filtered, first_names_again, known_request, line_before, line_of, names_again,

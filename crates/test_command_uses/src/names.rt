@@ -96,7 +96,8 @@ pub fn names_again_of_words<A: Allocator, W: Write>(
     lines: &[u8],
     writer: &mut Marked<W>,
 ) -> Result<(), ListFault<Refusal>>
-    requires listed { IsOutput (rules_of ⟦<Unix as Platform>⟧ (listing_words max)) names.now lines.now }
+    requires listed { IsOutput (rules_of ⟦<Unix as Platform>⟧ (listing_words max)) names.now
+        lines.now }
     requires unmarked { has_failed writer.old ≡ false }
     ensures { OnOk result ((back : List ℕ) × (IsCompleted names.now back
         × Appends (W.contents (marked_inner writer.old)) (W.contents (marked_inner writer.new))

@@ -37,7 +37,8 @@ pub fn run_once<A: Allocator, R: Read, W: Write>(
 ) -> Result<(), Fault>
     requires reader_unmarked { has_failed reader.old ≡ false }
     requires writer_unmarked { has_failed writer.old ≡ false }
-    ensures written { OnOk result (WritesOutput command.entry (R.remaining (marked_inner reader.old))
+    ensures written { OnOk result (WritesOutput command.entry
+        (R.remaining (marked_inner reader.old))
         (W.contents (marked_inner writer.old)) (W.contents (marked_inner writer.new))) }
     ensures kept { IfErr result (λ fault. fault ≢ Fault.Write → writer.new ≡ writer.old) }
 {
