@@ -1,13 +1,15 @@
-//! For trying: what a caller of words and command lines concludes from one call without a buffer, in each
-//! outcome.
-ghost use Rattle.std.specs.Prelude.{◌≡◌, ◌⊎◌, ◌<◌, ◌*◌, ◌+◌, ◌∷◌, List, ℕ, Option, length, MatchOption};
+//! For trying: what a caller of words, command lines and options concludes from one call without a buffer,
+//! in each outcome.
+ghost use Rattle.std.specs.Prelude.{◌≡◌, ◌⊎◌, ◌≤◌, ◌<◌, ◌*◌, ◌+◌, ◌∷◌, false, List, ℕ, Option, drop, length, MatchOption};
 ghost use Rattle.std.specs.Str.{chars};
+ghost use Rattle.wtf8_core.specs.Occurrence.{IsPrefix};
 ghost use Rattle.wtf8_core.specs.UnitsOf.{units_of};
 ghost use Rattle.wtf8_core.specs.Utf8.{IsUtf8Fault};
+ghost use Rattle.os_args.specs.Word.{Kind, dashes, equals, IsFlag, IsReadAs};
 ghost use Rattle.os_command_line.specs.Fish.{IsFishText};
 ghost use Rattle.os_command_line.specs.PowerShell.{HasNulAt, IsPowerShellText};
 ghost use Rattle.os_command_line.specs.Shell.{AreWords};
-ghost use Rattle.os_command_line.specs.ShellWriting.{HasNoNul, IsFirstNul, quoted_word};
+ghost use Rattle.os_command_line.specs.ShellWriting.{HasNoNul, IsFirstNul, IsLineWord, quoted_word};
 ghost use Rattle.os_command_line.specs.Windows.{IsCommandLine, IsTextOf};
 ghost use Rattle.os_command_line.specs.WindowsWriting.{IsFirstAt};
 ghost use Rattle.osbytes_c.specs.CommandLines.{quoted_name};
@@ -15,8 +17,9 @@ ghost use Rattle.osbytes_c.specs.Faults.{IsWtf8Report};
 ghost use Rattle.osbytes_c.specs.Lines.{IsFaultOf, ended, language_of};
 
 use crate::fault::Fault;
+use crate::options::{OptionSpan, osb_core_flag, osb_core_option};
 use crate::powershell::osb_core_powershell_quote;
-use crate::shell::{osb_core_fish_quote, osb_core_shell_quote};
+use crate::shell::{osb_core_fish_quote, osb_core_shell_quote, osb_core_shell_quote_line};
 use crate::shell_words::{LineFault, osb_core_shell_words};
 use crate::windows_arguments::osb_core_windows_arguments;
 use crate::windows_name::osb_core_windows_quote_name;
@@ -31,6 +34,20 @@ pub fn word_len(name: &[u8]) -> Option<usize>
     let mut count = 0;
     let mut index = 0;
     match osb_core_shell_quote(name, &mut [], &mut count, &mut index) {
+        0 | 2 => Some(count),
+        _ => None,
+    }
+}
+
+/// The same on one line.
+pub fn line_word_len(name: &[u8]) -> Option<usize>
+    ensures { MatchOption result
+        (((index : ℕ) × IsFirstNul name.now index) ⊎ (usize.MAX < 4 * length name.now + 3))
+        (λ len. (word : List ℕ) × (IsLineWord name.now word × (len ≡ length word))) }
+{
+    let mut count = 0;
+    let mut index = 0;
+    match osb_core_shell_quote_line(name, &mut [], &mut count, &mut index) {
         0 | 2 => Some(count),
         _ => None,
     }
@@ -149,6 +166,40 @@ pub fn arguments_len(line: &[u8]) -> Option<usize>
     };
     match osb_core_windows_arguments(line, &mut [], &mut count, &mut index, &mut fault) {
         0 | 2 => Some(count),
+        _ => None,
+    }
+}
+
+/// Where what is first read of a word ends; `None` if the word is `--`.
+pub fn option_end(word: &[u8]) -> Option<usize>
+    ensures { MatchOption result (word.now ≡ dashes)
+        (λ end. (kind : Kind) × IsReadAs false word.now kind (drop end word.now)) }
+{
+    let mut span = OptionSpan {
+        kind: 0,
+        value: 0,
+        start: 0,
+        end: 0,
+    };
+    match osb_core_option(0, word, &mut span) {
+        0 => Some(span.end),
+        _ => None,
+    }
+}
+
+/// Where the flag ends that begins at an index of a word; `None` if a value is there, or nothing.
+pub fn flag_end(word: &[u8], at: usize) -> Option<usize>
+    ensures { MatchOption result (IsPrefix equals (drop at word.now) ⊎ (length word.now ≤ at))
+        (λ end. (kind : Kind) × IsFlag (drop at word.now) kind (drop end word.now)) }
+{
+    let mut span = OptionSpan {
+        kind: 0,
+        value: 0,
+        start: 0,
+        end: 0,
+    };
+    match osb_core_flag(word, at, &mut span) {
+        0 => Some(span.end),
         _ => None,
     }
 }

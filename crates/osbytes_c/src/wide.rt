@@ -13,7 +13,7 @@ use platform_str::{OsStr, Windows};
 use std::simd::prelude::*;
 use wtf8_core::{DecodeWide, EncodingError, encode_wide};
 
-/// From so many bytes on they are checked, counted and then written in blocks, and from so few on if
+/// From so many bytes on they are checked and then written in blocks, and from so few on if
 /// the first 16 are ASCII, of which most then are.
 const LONG: usize = 128;
 
