@@ -78,31 +78,34 @@ module _ {A : Type 0} where
   pub asks_suffix : (f : Filter A) (k : Kind) (n : ℕ) → k ≡ kind.Suffix → Has f.lengths.items n → Asks f k n
   asks_suffix f k n e h = subst (λ z. Asks f z n) (sym e) h
 
-  pub more_lengths : (f : Filter A) (v : Vec ℕ A) (n : ℕ) → v.items ≡ f.lengths.items ++ n ∷ [] → Grows f (record { buckets = f.buckets; others = f.others; paths = f.paths; names = f.names; components = f.components; lengths = v })
+  pub more_lengths : (f : Filter A) (v : Vec ℕ A) (n : ℕ) → v.items ≡ f.lengths.items ++ n ∷ [] → Grows f (record { buckets = f.buckets; others = f.others; paths = f.paths; names = f.names; components = f.components; extensions = f.extensions; lengths = v })
   more_lengths f v n e = record { others = λ i h. h; listed = λ key i h. h; asked = asked }
     where
-      asked : (k : Kind) (m : ℕ) → Asks f k m → Asks (record { buckets = f.buckets; others = f.others; paths = f.paths; names = f.names; components = f.components; lengths = v }) k m
+      asked : (k : Kind) (m : ℕ) → Asks f k m → Asks (record { buckets = f.buckets; others = f.others; paths = f.paths; names = f.names; components = f.components; extensions = f.extensions; lengths = v }) k m
       asked kind.Path m h = h
       asked kind.Name m h = h
       asked kind.Component m h = h
+      asked kind.Extension m h = h
       asked kind.Suffix m h = subst (λ z. Has z m) (sym e) (has_more f.lengths.items n m h)
 
-  pub more_others : (f : Filter A) (v : Vec ℕ A) (n : ℕ) → v.items ≡ f.others.items ++ n ∷ [] → Grows f (record { buckets = f.buckets; others = v; paths = f.paths; names = f.names; components = f.components; lengths = f.lengths })
+  pub more_others : (f : Filter A) (v : Vec ℕ A) (n : ℕ) → v.items ≡ f.others.items ++ n ∷ [] → Grows f (record { buckets = f.buckets; others = v; paths = f.paths; names = f.names; components = f.components; extensions = f.extensions; lengths = f.lengths })
   more_others f v n e = record { others = λ i h. subst (λ z. Has z i) (sym e) (has_more f.others.items n i h); listed = λ key i h. h; asked = asked }
     where
-      asked : (k : Kind) (m : ℕ) → Asks f k m → Asks (record { buckets = f.buckets; others = v; paths = f.paths; names = f.names; components = f.components; lengths = f.lengths }) k m
+      asked : (k : Kind) (m : ℕ) → Asks f k m → Asks (record { buckets = f.buckets; others = v; paths = f.paths; names = f.names; components = f.components; extensions = f.extensions; lengths = f.lengths }) k m
       asked kind.Path m h = h
       asked kind.Name m h = h
       asked kind.Component m h = h
+      asked kind.Extension m h = h
       asked kind.Suffix m h = h
 
-  pub more_listed : (f : Filter A) (v : Vec (Vec ℕ A) A) → ((key : List ℕ) (i : ℕ) → Has (bucket f.buckets.items key) i → Has (bucket v.items key) i) → Grows f (record { buckets = v; others = f.others; paths = f.paths; names = f.names; components = f.components; lengths = f.lengths })
+  pub more_listed : (f : Filter A) (v : Vec (Vec ℕ A) A) → ((key : List ℕ) (i : ℕ) → Has (bucket f.buckets.items key) i → Has (bucket v.items key) i) → Grows f (record { buckets = v; others = f.others; paths = f.paths; names = f.names; components = f.components; extensions = f.extensions; lengths = f.lengths })
   more_listed f v more = record { others = λ i h. h; listed = more; asked = asked }
     where
-      asked : (k : Kind) (m : ℕ) → Asks f k m → Asks (record { buckets = v; others = f.others; paths = f.paths; names = f.names; components = f.components; lengths = f.lengths }) k m
+      asked : (k : Kind) (m : ℕ) → Asks f k m → Asks (record { buckets = v; others = f.others; paths = f.paths; names = f.names; components = f.components; extensions = f.extensions; lengths = f.lengths }) k m
       asked kind.Path m h = h
       asked kind.Name m h = h
       asked kind.Component m h = h
+      asked kind.Extension m h = h
       asked kind.Suffix m h = h
 
   -- a key is noted, and then its index listed

@@ -6,13 +6,14 @@ use Rattle.std.proofs.lemmas.List.Elements.{All-from_get_or}
 use Rattle.wildcards.specs.declared.options.Options.{Options}
 use Rattle.wildcards.specs.declared.separators.Separators.{Separators}
 use Rattle.wildcards.specs.declared.separators.Separators.TheVariants as separators
+use Rattle.wildcards.specs.declared.key.Kind.{Kind}
 use Rattle.wildcards.specs.declared.key.Kind.TheVariants as kind
 use Rattle.wildcards.specs.declared.part.Part.{Part}
 use Rattle.wildcards.specs.declared.piece.Item.{Item}
 use Rattle.wildcards.specs.declared.piece.Piece.{Piece}
 use Rattle.wildcards.specs.declared.piece.Piece.TheVariants.{Many, One}
 use Rattle.wildcards.specs.Components.{components, separates}
-use Rattle.wildcards.specs.Keys.{IsNeeded, AreTexts, AreJoinedTexts, joins_by_slash, slash_before}
+use Rattle.wildcards.specs.Keys.{IsNeeded, IsOfEnd, AreTexts, AreJoinedTexts, joins_by_slash, slash_before}
 use Rattle.wildcards.specs.Literals.{spells}
 use Rattle.wildcards.specs.Match.{Fits, TakesLetter, TakesComponent, FitsComponent, MatchesParts, Matches}
 use Rattle.wildcards.specs.Wild.{Wild}
@@ -144,3 +145,24 @@ module _ {A : Type 0} where
             let same : ends.after ≡ text = only_text _ own text ends.after is ends.matched in
             (ends.before, (h.parts_before, h.joined ∙ ap (λ z. h.parts_before ++ z ∷ h.parts_after) (ends.joined ∙ ap (λ z. ends.before ++ z) same) ∙ ap (λ z. h.parts_before ++ (ends.before ++ text) ∷ z) nothing));
       }
+
+  -- a part that ends with a text needs the key of that end
+  pub end_needed : (o : Options) (pieces : List (Piece (Part A))) (text key : List ℕ) (k : Kind) → IsNeeded o pieces kind.Suffix text → IsOfEnd text k key → IsNeeded o pieces k key
+  end_needed o pieces text key kind.Path h e = absurd e
+  end_needed o pieces text key kind.Name h e = absurd e
+  end_needed o pieces text key kind.Component h e = absurd e
+  end_needed o pieces text key kind.Extension h e =
+      let same = subst (IsNeeded o pieces kind.Suffix) e.1 h in
+      record { ascii = same.ascii.1; needed = λ path m. (e.0, same.needed path m) }
+  end_needed o pieces text key kind.Suffix h e =
+      let same = subst (IsNeeded o pieces kind.Suffix) e.1 h in
+      record {
+        ascii = after e.0 same.ascii;
+        needed = λ path m.
+            let s = same.needed path m in
+            (s.0 ++ e.0, (s.1.0, s.1.1 ∙ ap (λ z. s.1.0 ++ z ∷ []) (sym (append_assoc s.0 e.0 key))));
+      }
+    where
+      after : (before : List ℕ) → AllByRecursion (λ b. b < 0x80) (before ++ key) → AllByRecursion (λ b. b < 0x80) key
+      after [] h = h
+      after (b ∷ before) h = after before h.1

@@ -10,6 +10,7 @@ pub mod Hits
 pub mod Keys
 pub mod Ascending
 pub mod Covers
+pub mod Extensions
 pub mod Queries
 pub mod Adding
 pub mod Orders

@@ -1,7 +1,8 @@
 -- A path is matched with each pattern whose key it has.
 use Rattle.std.proofs.Common.{◌≡◌, ◌⊎◌, inl, inr, ◌<◌, ◌+◌, ◌-◌, ℕ, zero, suc, true, false, Bool, List, [], ◌∷◌, ◌++◌, map, length, drop, refl, sym, ap, ◌∙◌, subst, arith, length-append, append-nil}
 use Rattle.std.specs.List.{AllByRecursion, HoldsAt}
-use Rattle.std.specs.Prelude.{slice_index_or, if◌then◌else◌}
+use Rattle.std.specs.Prelude.{slice_index_or, if◌then◌else◌, Option, None, Some, MatchOption}
+use denote.Ref.{Bor}
 use Rattle.std.proofs.lemmas.List.{same_from_push, drop_at}
 use Rattle.std.proofs.lemmas.List.Elements.{All-from_recursion}
 use Rattle.wildcards.specs.declared.candidates.Query.{Query}
@@ -15,7 +16,7 @@ use Rattle.wildcards.specs.declared.pattern.Choice.{Choice}
 use Rattle.wildcards.specs.declared.piece.Piece.{Piece}
 use Rattle.wildcards.specs.declared.separators.Separators.{Separators}
 use Rattle.wildcards.specs.declared.set.Pattern.{Pattern}
-use Rattle.wildcards.specs.Candidates.{OneHas, IsQuery, in_bucket, suffix_lists, part_lists, part_lists_if, left_lists}
+use Rattle.wildcards.specs.Candidates.{OneHas, IsQuery, end_lists, extension_list, in_bucket, suffix_lists, part_lists, part_lists_if, left_lists}
 use Rattle.wildcards.specs.Components.{components, separates}
 use Rattle.wildcards.specs.Cuts.{IsPlain, IsCut}
 use Rattle.wildcards.specs.Filters.{Asks, IsCovered, AreCovered, CoversAll}
@@ -25,6 +26,7 @@ use Rattle.wildcards.specs.Reading.{LetterLaws}
 use Rattle.wildcards.specs.Sets.{Has, MatchesChoice, IsHit}
 use Rattle.wildcards.specs.Tables.{bucket}
 use Rattle.wildcards.proofs.Ascending.{has_or_not}
+use Rattle.wildcards.proofs.Extensions.{its_extension}
 use Rattle.wildcards.proofs.Parts.{one_component, first_component}
 use Rattle.wildcards.proofs.Readings.{whole, first_of, cut_letters}
 
@@ -143,9 +145,13 @@ module _ {A : Type 0} (q : Query A) (i : ℕ) where
       go [] = inl h
       go (p ∷ ps) = inr (go ps)
 
-  suffix_in_parts : (asked : Bool) → OneHas (suffix_lists q q.filter.now.lengths.items) i → OneHas (part_lists_if q asked) i
-  suffix_in_parts false h = h
-  suffix_in_parts true h = one_before (map (in_bucket q) (components q.separators q.path.now)) ([] ∷ suffix_lists q q.filter.now.lengths.items) i (inr h)
+  end_in_parts : (asked : Bool) → OneHas (end_lists q) i → OneHas (part_lists_if q asked) i
+  end_in_parts false h = h
+  end_in_parts true h = one_before (map (in_bucket q) (components q.separators q.path.now)) ([] ∷ end_lists q) i (inr h)
+
+  of_extension : (extension : Option (Bor (List ℕ))) → MatchOption extension ⊥ (λ after. Has (in_bucket q after.now) i) → Has (extension_list q extension) i
+  of_extension None h = absurd h
+  of_extension (Some after) h = h
 
   if_asked : (asked : Bool) (xs : List ℕ) → asked ≡ true → Has xs i → Has (if asked then xs else []) i
   if_asked true xs e h = h
@@ -184,10 +190,17 @@ module _ {A : Type 0} (formed : List ℕ → Type 0) (letters : List ℕ → Lis
           let h = part_itself formed letters laws o.separators (components o.separators path) e.0 e.1.0 key reading.formed_each ascii (sym reading.are ∙ e.1.1) in
           let parts : components q.separators q.path.now ≡ h.0 ++ key ∷ h.1.0 = ap (λ z. components z q.path.now) is.separators_are ∙ ap (components o.separators) is.path_is ∙ h.1.1 in
           inr (inr (inr (parts_asked q i q.filter.now.components a (of_part q i (components q.separators q.path.now) h.0 h.1.0 key parts here))))
+      by_kind kind.Extension a e =
+          let n = name_read e.1.1.0 (e.1.0 ++ 0x2E ∷ key) e.1.1.1 in
+          let low : 0x2E < 0x80 = omega arith in
+          let ends = ends_itself formed letters laws o.separators q.name.now e.1.0 (0x2E ∷ key) n.0 (low, ascii) n.1 in
+          let known = is.extension_is (subst (λ z. z.extensions ≡ true) is.filter_is a) in
+          let found = its_extension (λ z. Has (in_bucket q z) i) q.name.now ends.0 key q.extension known ends.1 e.0 here in
+          inr (inr (inr (end_in_parts q i q.filter.now.components (inl (of_extension q i q.extension found)))))
       by_kind kind.Suffix a e =
           let n = name_read e.1.0 (e.0 ++ key) e.1.1 in
           let ends = ends_itself formed letters laws o.separators q.name.now e.0 key n.0 ascii n.1 in
-          inr (inr (inr (suffix_in_parts q i q.filter.now.components (of_suffix q i q.filter.now.lengths.items (length key) ends.0 key ends.1 refl a here))))
+          inr (inr (inr (end_in_parts q i q.filter.now.components (inr (of_suffix q i q.filter.now.lengths.items (length key) ends.0 key ends.1 refl a here)))))
 
   of_choice : (pieces : List (Piece (Part A))) → IsCovered o filter i pieces → Matches o pieces (letters path) → OneHas (left_lists q stage.Others) i
   of_choice pieces (inl h) m = inl (subst (λ z. Has z.others.items i) (sym is.filter_is) h)

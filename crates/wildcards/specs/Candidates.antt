@@ -1,11 +1,13 @@
 -- The lists of indices that a path is matched with: only private contracts name this.
-use Rattle.std.specs.Prelude.{◌≡◌, ◌-◌, ◌⊎◌, ℕ, Bool, List, [], ◌∷◌, ◌++◌, map, length, drop, if◌then◌else◌, Some, None}
+use Rattle.std.specs.Prelude.{◌≡◌, ◌-◌, ◌⊎◌, ℕ, Bool, List, [], ◌∷◌, ◌++◌, map, length, drop, if◌then◌else◌, true, Option, Some, None, MatchOption}
+use denote.Ref.{Bor}
 use Rattle.wildcards.specs.declared.candidates.Query.{Query}
 use Rattle.wildcards.specs.declared.candidates.Stage.{Stage}
 use Rattle.wildcards.specs.declared.candidates.Stage.TheVariants as stage
 use Rattle.wildcards.specs.declared.filter.Filter.{Filter}
 use Rattle.wildcards.specs.declared.separators.Separators.{Separators}
 use Rattle.wildcards.specs.Components.{components}
+use Rattle.wildcards.specs.Extensions.{LacksDot, IsAfterDot}
 use Rattle.wildcards.specs.Keys.{EndsIn}
 use Rattle.wildcards.specs.Sets.{Has}
 use Rattle.wildcards.specs.Tables.{bucket}
@@ -22,6 +24,7 @@ module _ {A : Type 0} where
     pub separators_are : q.separators ≡ s
     pub path_is : q.path.now ≡ path
     pub name_is : EndsIn (components s path) q.name.now
+    pub extension_is : filter.extensions ≡ true → MatchOption q.extension (LacksDot q.name.now) (λ after. IsAfterDot q.name.now after.now)
 
   module _ (q : Query A) where
     -- the list of a key
@@ -33,12 +36,20 @@ module _ {A : Type 0} where
     suffix_lists [] = []
     suffix_lists (n ∷ ns) = in_bucket (drop (length q.name.now - n) q.name.now) ∷ suffix_lists ns
 
-    -- those of components, and of all suffixes
+    -- those of the extension, and of all suffixes
+    abbrev pub extension_list : Option (Bor (List ℕ)) → List ℕ
+    extension_list None = []
+    extension_list (Some extension) = in_bucket extension.now
+
+    abbrev pub end_lists : List (List ℕ)
+    end_lists = extension_list q.extension ∷ suffix_lists q.filter.now.lengths.items
+
+    -- those of components, and of ends
     abbrev pub part_lists : List (List ℕ) → List (List ℕ)
-    part_lists parts = map in_bucket parts ++ [] ∷ suffix_lists q.filter.now.lengths.items
+    part_lists parts = map in_bucket parts ++ [] ∷ end_lists
 
     abbrev pub part_lists_if : Bool → List (List ℕ)
-    part_lists_if asked = if asked then part_lists (components q.separators q.path.now) else suffix_lists q.filter.now.lengths.items
+    part_lists_if asked = if asked then part_lists (components q.separators q.path.now) else end_lists
 
     abbrev pub name_lists : List (List ℕ)
     name_lists = (if q.filter.now.names then in_bucket q.name.now else []) ∷ part_lists_if q.filter.now.components
@@ -53,4 +64,5 @@ module _ {A : Type 0} where
     left_lists stage.Name = name_lists
     left_lists (stage.Component None) = part_lists []
     left_lists (stage.Component (Some rest)) = part_lists (components q.separators rest.now)
+    left_lists stage.End = end_lists
     left_lists (stage.Suffix lengths) = suffix_lists lengths.now

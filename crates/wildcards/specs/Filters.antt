@@ -19,6 +19,7 @@ module _ {A : Type 0} where
   Asks f kind.Path n = f.paths ≡ true
   Asks f kind.Name n = f.names ≡ true
   Asks f kind.Component n = f.components ≡ true
+  Asks f kind.Extension n = f.extensions ≡ true
   Asks f kind.Suffix n = Has f.lengths.items n
 
   -- the index is in the bucket of a key that the pieces need

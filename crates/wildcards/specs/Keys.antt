@@ -10,6 +10,7 @@ use Rattle.wildcards.specs.declared.part.Part.{Part}
 use Rattle.wildcards.specs.declared.piece.Piece.{Piece}
 use Rattle.wildcards.specs.declared.piece.Piece.TheVariants.{Many, One}
 use Rattle.wildcards.specs.Components.{components}
+use Rattle.wildcards.specs.Extensions.{LacksDot}
 use Rattle.wildcards.specs.Literals.{spells}
 use Rattle.wildcards.specs.Match.{Matches}
 
@@ -37,7 +38,16 @@ abbrev pub HasKey : Options → Kind → List ℕ → List ℕ → Type 0
 HasKey o kind.Path path key = path ≡ key
 HasKey o kind.Name path key = EndsIn (components o.separators path) key
 HasKey o kind.Component path key = HasPart (components o.separators path) key
+HasKey o kind.Extension path key = LacksDot key × ((start : List ℕ) × EndsIn (components o.separators path) (start ++ 0x2E ∷ key))
 HasKey o kind.Suffix path key = (start : List ℕ) × EndsIn (components o.separators path) (start ++ key)
+
+-- a component that ends with the text has the key
+abbrev pub IsOfEnd : List ℕ → Kind → List ℕ → Type 0
+IsOfEnd text kind.Path key = ⊥
+IsOfEnd text kind.Name key = ⊥
+IsOfEnd text kind.Component key = ⊥
+IsOfEnd text kind.Extension key = LacksDot key × (text ≡ 0x2E ∷ key)
+IsOfEnd text kind.Suffix key = (before : List ℕ) × (text ≡ before ++ key)
 
 module _ {A : Type 0} where
   -- each path that the pieces match has the key, which is ASCII

@@ -13,6 +13,7 @@ pub mod PathSteps
 pub mod Sets
 pub mod Ascending
 pub mod Tables
+pub mod Extensions
 pub mod Keys
 pub mod Filters
 pub mod Candidates

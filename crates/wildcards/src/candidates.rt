@@ -1,8 +1,9 @@
 //! The patterns of a set that a path may match, list by list.
-ghost use Rattle.std.specs.Prelude.{◌≡◌, ◌∷◌, [], MatchOption};
+ghost use Rattle.std.specs.Prelude.{◌≡◌, ◌∷◌, [], true, MatchOption};
+ghost use Rattle.wildcards.specs.Extensions.{LacksDot, IsAfterDot};
 ghost use Rattle.wildcards.specs.Candidates.{left_lists, IsQuery};
 
-use crate::component::{split_first, split_last};
+use crate::component::{after_last_dot, split_first, split_last};
 use crate::filter::Filter;
 use crate::letters::Bytes;
 use crate::separators::Separators;
@@ -17,8 +18,10 @@ pub(crate) enum Stage<'s, 'p> {
     Path,
     /// Those of keys that aren't the whole path.
     Name,
-    /// Those of these components, and of suffixes.
+    /// Those of these components, and of ends.
     Component(Option<&'p [u8]>),
+    /// Those of ends: of the extension, and of suffixes.
+    End,
     /// Those of suffixes of these lengths.
     Suffix(&'s [usize]),
 }
@@ -31,6 +34,17 @@ pub(crate) struct Query<'s, 'p, A: Allocator> {
     path: &'p [u8],
     // the last component
     name: &'p [u8],
+    // its extension, if there are patterns that need one
+    extension: Option<&'p [u8]>,
+}
+
+/// What comes after the last dot of a name, if that is asked for.
+#[inline(always)]
+fn extension_if(asked: bool, name: &[u8]) -> Option<&[u8]>
+    ensures { asked ≡ true → MatchOption result (LacksDot name.now)
+        (λ after. IsAfterDot name.now after.now) }
+{
+    if asked { after_last_dot(name) } else { None }
 }
 
 impl<'s, 'p, A: Allocator> Query<'s, 'p, A> {
@@ -43,6 +57,7 @@ impl<'s, 'p, A: Allocator> Query<'s, 'p, A> {
             separators,
             path,
             name,
+            extension: extension_if(filter.extensions, name),
         }
     }
 
@@ -64,7 +79,7 @@ impl<'s, 'p, A: Allocator> Query<'s, 'p, A> {
                 let stage = if self.filter.components {
                     Stage::Component(Some(self.path))
                 } else {
-                    Stage::Suffix(&self.filter.lengths)
+                    Stage::End
                 };
                 if self.filter.names {
                     return Some((self.filter.bucket(self.name), stage));
@@ -73,10 +88,17 @@ impl<'s, 'p, A: Allocator> Query<'s, 'p, A> {
             }
             Stage::Component(rest) => {
                 let Some(path) = rest else {
-                    return Some((&[], Stage::Suffix(&self.filter.lengths)));
+                    return Some((&[], Stage::End));
                 };
                 let (component, more) = split_first::<Bytes>(self.separators, path);
                 Some((self.filter.bucket(component), Stage::Component(more)))
+            }
+            Stage::End => {
+                let suffixes = Stage::Suffix(&self.filter.lengths);
+                match self.extension {
+                    Some(extension) => Some((self.filter.bucket(extension), suffixes)),
+                    None => Some((&[], suffixes)),
+                }
             }
             Stage::Suffix(lengths) => {
                 let Some((length, more)) = lengths.split_first() else {

@@ -3,6 +3,7 @@ ghost use Rattle.std.specs.Prelude.{◌≡◌, ◌∷◌, ◌<◌, ◌++◌, [],
 ghost use Rattle.memchr.specs.Find.{IsFirstByte, IsLastByte};
 ghost use Rattle.wildcards.specs.Components.{components, separates};
 ghost use Rattle.wildcards.specs.declared.separators.Separators.{Separators};
+ghost use Rattle.wildcards.specs.Extensions.{LacksDot, IsAfterDot};
 ghost use Rattle.wildcards.specs.Cuts.{IsPlain, IsCut, BeginsWith, BeginsOther, left_components, left_size, IsLeftFormed};
 
 use crate::letters::Letters;
@@ -90,6 +91,19 @@ fn cut_last(separators: Separators, path: &[u8]) -> Option<(&[u8], &[u8])>
     let (before, rest) = path.split_at(at);
     let (_, last) = rest.split_at(1);
     Some((before, last))
+}
+
+/// What comes after the last dot.
+#[inline(always)]
+pub(crate) fn after_last_dot(name: &[u8]) -> Option<&[u8]>
+    ensures { MatchOption result (LacksDot name.now) (λ after. IsAfterDot name.now after.now) }
+{
+    let Some(at) = memrchr(b'.', name) else {
+        return None;
+    };
+    let (_, rest) = name.split_at(at);
+    let (_, after) = rest.split_at(1);
+    Some(after)
 }
 
 /// The first component of what is left of a path, and what is left then.

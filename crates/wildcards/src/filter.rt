@@ -22,6 +22,7 @@ pub(crate) struct Filter<A: Allocator> {
     pub paths: bool,
     pub names: bool,
     pub components: bool,
+    pub extensions: bool,
     /// The lengths of the suffixes.
     pub lengths: Vec<usize, A>,
 }
@@ -55,6 +56,7 @@ impl<A: Allocator> Filter<A> {
             paths: false,
             names: false,
             components: false,
+            extensions: false,
             lengths: Vec::new(alloc),
         })
     }
@@ -81,6 +83,7 @@ impl<A: Allocator> Filter<A> {
             Kind::Path => self.paths = true,
             Kind::Name => self.names = true,
             Kind::Component => self.components = true,
+            Kind::Extension => self.extensions = true,
             Kind::Suffix => {
                 if !has(&self.lengths, length) {
                     self.lengths.push(length)?;

@@ -1,7 +1,9 @@
 //! What a path needs to be matched by a pattern.
 ghost use Rattle.std.specs.Prelude.{◌≡◌, ◌≤◌, ◌++◌, length, IfOk, IfSome, OnOk};
-ghost use Rattle.wildcards.specs.Keys.{IsNeeded, AreJoinedTexts, joins_by_slash, slash_before};
+ghost use Rattle.wildcards.specs.Keys.{IsNeeded, IsOfEnd, AreJoinedTexts, joins_by_slash, slash_before};
+ghost use Rattle.wildcards.specs.declared.key.Kind.TheVariants.{Suffix};
 
+use crate::component::after_last_dot;
 use crate::literal::literal_text;
 use crate::options::Options;
 use crate::part::Part;
@@ -18,6 +20,8 @@ pub(crate) enum Kind {
     Name,
     /// A component.
     Component,
+    /// What comes after the last dot of the last component.
+    Extension,
     /// A suffix of the last component.
     Suffix,
 }
@@ -98,13 +102,12 @@ fn longest_text<A: Allocator>(pieces: &[Piece<Part<A>>]) -> usize
     longest
 }
 
-/// The index of the literals of ASCII at the end of pieces, at most four: so there are suffixes of
-/// three lengths, each of which is asked for.
+/// The index of the literals of ASCII at the end of pieces.
 fn literal_suffix<A: Allocator>(pieces: &[Piece<Item<A>>]) -> usize
     ensures { result ≤ length pieces.now }
 {
     let mut at = pieces.len();
-    while at > 0 && pieces.len() - at < 4 {
+    while at > 0 {
         match &pieces[at - 1] {
             Piece::One(Item::Literal(letter)) => {
                 if *letter >= 0x80 {
@@ -118,14 +121,15 @@ fn literal_suffix<A: Allocator>(pieces: &[Piece<Item<A>>]) -> usize
     at
 }
 
-/// The suffix of each last component that the last part matches, if it has one of two letters.
-fn suffix_key<A: Allocator + Copy>(
+/// The literals of ASCII with which each last component ends that the last part matches, if that isn't
+/// a text itself.
+fn literal_end<A: Allocator + Copy>(
     alloc: A,
     options: Options,
     pieces: &[Piece<Part<A>>],
-) -> Result<Option<Key<A>>, AllocError>
-    ensures { IfOk result (λ key. IfSome key (λ key. IsNeeded options pieces.entry.now key.kind
-        key.text.items)) }
+) -> Result<Option<Vec<u8, A>>, AllocError>
+    ensures { IfOk result (λ text. IfSome text (λ text. IsNeeded options pieces.entry.now Suffix
+        text.items)) }
 {
     let Some((last, _)) = pieces.split_last() else {
         return Ok(None);
@@ -133,18 +137,59 @@ fn suffix_key<A: Allocator + Copy>(
     let Piece::One(part) = last else {
         return Ok(None);
     };
-    let own = part.pieces();
-    let (_, suffix) = own.split_at(literal_suffix(own));
-    if suffix.len() < 2 || suffix.len() == own.len() {
+    if part.text().is_some() {
         return Ok(None);
     }
+    let own = part.pieces();
+    let (_, suffix) = own.split_at(literal_suffix(own));
     let Some(text) = literal_text(alloc, suffix)? else {
         return Ok(None);
     };
+    Ok(Some(text))
+}
+
+/// The key of each last component that ends with a text: its extension, if the text is a dot and that, and
+/// else a suffix of four letters at most, so that there are suffixes of three lengths, each of which is
+/// asked for.
+fn key_of_end<A: Allocator>(alloc: A, text: &[u8]) -> Result<Option<Key<A>>, AllocError>
+    ensures { IfOk result (λ key. IfSome key (λ key. IsOfEnd text.now key.kind key.text.items)) }
+{
+    if let Some((b'.', extension)) = text.split_first() {
+        if after_last_dot(extension).is_none() {
+            let own = Vec::from_slice(alloc, extension)?;
+            return Ok(Some(Key {
+                kind: Kind::Extension,
+                text: own,
+            }));
+        }
+    }
+    let (_, suffix) = text.split_at(text.len().saturating_sub(4));
+    if suffix.len() < 2 {
+        return Ok(None);
+    }
+    let own = Vec::from_slice(alloc, suffix)?;
     Ok(Some(Key {
         kind: Kind::Suffix,
-        text,
+        text: own,
     }))
+}
+
+/// The key of the last component, by the literals with which it ends.
+fn end_key<A: Allocator + Copy>(
+    alloc: A,
+    options: Options,
+    pieces: &[Piece<Part<A>>],
+) -> Result<Option<Key<A>>, AllocError>
+    ensures { IfOk result (λ key. IfSome key (λ key. IsNeeded options pieces.entry.now key.kind
+        key.text.items)) }
+{
+    let Some(text) = literal_end(alloc, options, pieces)? else {
+        return Ok(None);
+    };
+    let Some(key) = key_of_end(alloc, &text)? else {
+        return Ok(None);
+    };
+    Ok(Some(key))
 }
 
 /// The longest component that a path needs.
@@ -197,7 +242,7 @@ pub(crate) fn key_of<A: Allocator + Copy>(
             }));
         }
     }
-    if let Some(key) = suffix_key(alloc, options, pieces)? {
+    if let Some(key) = end_key(alloc, options, pieces)? {
         return Ok(Some(key));
     }
     component_key(alloc, options, pieces)

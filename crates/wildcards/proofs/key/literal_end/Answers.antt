@@ -1,7 +1,7 @@
 use Rattle.std.proofs.Common.{◌∷◌, [], ◌++◌, ◌∙◌, ap, sym, refl}
 use Rattle.wildcards.specs.Literals.{spells_some}
 use Rattle.wildcards.proofs.Keys.{suffix_needed}
-use Rattle.wildcards.proofs.key.suffix_key.Goals as goal
+use Rattle.wildcards.proofs.key.literal_end.Goals as goal
 
 pub returns : goal.returns
 returns g c =
