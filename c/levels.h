@@ -21,7 +21,10 @@
     each(ends_with_units) each(is_boundary) each(compare) each(cut) each(rcut) each(chunk)         \
     each(symbol) each(path_components) each(path_parent) each(path_prefix) each(path_file_name)    \
     each(path_file_stem) each(path_extension) each(path_has_root) each(path_is_absolute)           \
-    each(path_starts_with) each(path_ends_with) each(path_strip_prefix) each(shell_quote)          \
+    each(path_starts_with) each(path_ends_with) each(path_strip_prefix) each(path_join)            \
+    each(path_join_checked) each(path_relative) each(path_normalize) each(path_clean)              \
+    each(path_convert) each(path_with_file_name) each(path_with_extension)                         \
+    each(path_with_added_extension) each(shell_quote)                                              \
     each(shell_quote_line) each(fish_quote) each(powershell_quote) each(shell_words)               \
     each(windows_quote) each(windows_quote_name) each(windows_arguments) each(option) each(flag)
 
@@ -104,6 +107,15 @@ __attribute__((constructor(101))) static void choose(void) {
 #define osb_core_path_starts_with CHOSEN(path_starts_with)
 #define osb_core_path_ends_with CHOSEN(path_ends_with)
 #define osb_core_path_strip_prefix CHOSEN(path_strip_prefix)
+#define osb_core_path_join CHOSEN(path_join)
+#define osb_core_path_join_checked CHOSEN(path_join_checked)
+#define osb_core_path_relative CHOSEN(path_relative)
+#define osb_core_path_normalize CHOSEN(path_normalize)
+#define osb_core_path_clean CHOSEN(path_clean)
+#define osb_core_path_convert CHOSEN(path_convert)
+#define osb_core_path_with_file_name CHOSEN(path_with_file_name)
+#define osb_core_path_with_extension CHOSEN(path_with_extension)
+#define osb_core_path_with_added_extension CHOSEN(path_with_added_extension)
 #define osb_core_shell_quote CHOSEN(shell_quote)
 #define osb_core_shell_quote_line CHOSEN(shell_quote_line)
 #define osb_core_fish_quote CHOSEN(fish_quote)

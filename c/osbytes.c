@@ -2,6 +2,8 @@
  * which a slice is never null, aligned, and apart from what is written. Nothing here is proved. */
 #include "osbytes.h"
 
+#include <stdlib.h>
+
 /* The exports of the crate osbytes_c, and what they take by a pointer. */
 struct core_fault {
     uint32_t kind, value;
@@ -33,7 +35,14 @@ struct core_option {
     size_t start, end;
 };
 
+/* What a request for memory is answered by: the block, if there is one. */
+struct core_block {
+    bool is;
+    void *at;
+};
+
 _Static_assert(sizeof(size_t) == 8 && sizeof(bool) == 1, "a 64-bit machine");
+_Static_assert(sizeof(struct core_block) == 16 && _Alignof(max_align_t) >= 16, "core_block");
 _Static_assert(sizeof(osb_view) == 16 && offsetof(osb_view, len) == 8, "osb_view");
 _Static_assert(sizeof(osb_fault) == 24 && sizeof(struct core_fault) == 24, "osb_fault");
 _Static_assert(offsetof(osb_fault, kind) == 0 && offsetof(osb_fault, value) == 4, "osb_fault");
@@ -113,6 +122,28 @@ uint32_t osb_core_path_ends_with(uint32_t platform, const char *at, size_t len, 
                                  size_t child_len);
 uint32_t osb_core_path_strip_prefix(uint32_t platform, const char *at, size_t len,
                                     const char *base, size_t base_len, osb_view *rest);
+uint32_t osb_core_path_join(uint32_t platform, const char *base, size_t base_len, const char *at,
+                            size_t len, char *out, size_t room, size_t *count);
+uint32_t osb_core_path_join_checked(uint32_t platform, const char *base, size_t base_len,
+                                    const char *at, size_t len, char *out, size_t room,
+                                    size_t *count, uint32_t *reason);
+uint32_t osb_core_path_relative(uint32_t platform, const char *at, size_t len, const char *base,
+                                size_t base_len, char *out, size_t room, size_t *count);
+uint32_t osb_core_path_normalize(uint32_t platform, const char *at, size_t len, char *out,
+                                 size_t room, size_t *count);
+uint32_t osb_core_path_clean(uint32_t platform, const char *at, size_t len, char *out, size_t room,
+                             size_t *count);
+uint32_t osb_core_path_convert(uint32_t from, uint32_t to, const char *at, size_t len, char *out,
+                               size_t room, size_t *count, size_t *index, osb_fault *fault);
+uint32_t osb_core_path_with_file_name(uint32_t platform, const char *at, size_t len,
+                                      const char *name, size_t name_len, char *out, size_t room,
+                                      size_t *count);
+uint32_t osb_core_path_with_extension(uint32_t platform, const char *at, size_t len,
+                                      const char *extension, size_t extension_len, char *out,
+                                      size_t room, size_t *count);
+uint32_t osb_core_path_with_added_extension(uint32_t platform, const char *at, size_t len,
+                                            const char *extension, size_t extension_len, char *out,
+                                            size_t room, size_t *count);
 uint32_t osb_core_shell_quote(const char *at, size_t len, char *out, size_t room, size_t *count,
                               size_t *index);
 uint32_t osb_core_shell_quote_line(const char *at, size_t len, char *out, size_t room,
@@ -131,6 +162,9 @@ uint32_t osb_core_windows_arguments(const char *line, size_t len, uint16_t *out,
                                     size_t *count, size_t *index, osb_fault *fault);
 uint32_t osb_core_option(uint32_t options, const char *word, size_t len, struct core_option *read);
 uint32_t osb_core_flag(const char *word, size_t len, size_t at, struct core_option *read);
+struct core_block rattle_alloc(size_t len, size_t align);
+struct core_block rattle_realloc(void *at, size_t kept, size_t len, size_t align);
+void rattle_dealloc(void *at);
 #pragma GCC visibility pop
 
 #ifdef __x86_64__
@@ -170,6 +204,26 @@ static const char *bytes(const char *at) {
     return at == NULL ? (const char *)nothing : at;
 }
 
+/* The memory of the exports that build something, which they free before they answer. They ask for no
+ * alignment past 16, and a pointer to a block is never null: none of no bytes is asked of malloc, and
+ * one that isn't there is where there are no units. */
+INLINED struct core_block block_at(void *at) {
+    return (struct core_block){at != NULL, at == NULL ? no_room : at};
+}
+
+struct core_block rattle_alloc(size_t len, size_t align) {
+    return block_at(malloc(len == 0 ? align : len));
+}
+
+struct core_block rattle_realloc(void *at, size_t kept, size_t len, size_t align) {
+    (void)kept;
+    return block_at(realloc(at, len == 0 ? align : len));
+}
+
+void rattle_dealloc(void *at) {
+    free(at);
+}
+
 uint32_t osb_version(void) {
     return OSB_VERSION;
 }
@@ -187,6 +241,8 @@ const char *osb_status_text(osb_status status) {
     case OSB_BAD_LINE: return "the line isn't words";
     case OSB_HAS_QUOTE: return "the program's name has a quotation mark";
     case OSB_UNEXPECTED: return "an option has a value that nothing took";
+    case OSB_NO_MEMORY: return "there is no memory";
+    case OSB_BAD_PATH: return "the path is refused";
     case OSB_BAD_PLATFORM: return "there is no such platform";
     case OSB_BAD_PATTERN: return "the text isn't UTF-8, or the pattern is empty";
     case OSB_BAD_INDEX: return "the index is past the end";
@@ -194,6 +250,7 @@ const char *osb_status_text(osb_status status) {
     case OSB_BAD_STATE: return "there is no such state of a checker";
     case OSB_TOO_LONG: return "the string is too long";
     case OSB_BAD_OPTION: return "there is no such option";
+    case OSB_BAD_EXTENSION: return "the extension has a separator";
     case OSB_BAD_POINTER: return "a pointer or a length is refused";
     default: return "there is no such status";
     }
@@ -594,6 +651,114 @@ osb_status osb_path_strip_prefix(osb_platform platform, const char *at, size_t l
         osb_core_path_strip_prefix(platform, at, len, bytes(base), base_len, &own);
     if (status == OSB_OK) *rest = own.len == 0 ? (osb_view){at + len, 0} : own;
     return status;
+}
+
+/* Whether two strings can't be read, or a buffer can't be written beside them. */
+static bool are_bad_strings(const char *a, size_t a_len, const char *b, size_t b_len, char *out,
+                            size_t room) {
+    return is_bad(a, a_len) || is_bad(b, b_len) || is_bad(out, room) ||
+           do_overlap(a, a_len, out, room) || do_overlap(b, b_len, out, room);
+}
+
+/* An export that builds a path of a string. */
+typedef uint32_t core_one(uint32_t platform, const char *at, size_t len, char *out, size_t room,
+                          size_t *count);
+
+INLINED osb_status build_of_one(core_one *call, osb_platform platform, const char *at, size_t len,
+                                char *out, size_t room, size_t *count) {
+    size_t own = 0;
+    if (count == NULL || are_bad_strings(at, len, NULL, 0, out, room)) return OSB_BAD_POINTER;
+    osb_status status =
+        call(platform, bytes(at), len, room == 0 ? (char *)no_room : out, room, &own);
+    if (status == OSB_OK || status == OSB_NO_ROOM) *count = own;
+    return status;
+}
+
+/* One that builds a path of two. */
+typedef uint32_t core_two(uint32_t platform, const char *a, size_t a_len, const char *b,
+                          size_t b_len, char *out, size_t room, size_t *count);
+
+INLINED osb_status build_of_two(core_two *call, osb_platform platform, const char *a, size_t a_len,
+                                const char *b, size_t b_len, char *out, size_t room,
+                                size_t *count) {
+    size_t own = 0;
+    if (count == NULL || are_bad_strings(a, a_len, b, b_len, out, room)) return OSB_BAD_POINTER;
+    osb_status status = call(platform, bytes(a), a_len, bytes(b), b_len,
+                             room == 0 ? (char *)no_room : out, room, &own);
+    if (status == OSB_OK || status == OSB_NO_ROOM) *count = own;
+    return status;
+}
+
+osb_status osb_path_join(osb_platform platform, const char *base, size_t base_len, const char *at,
+                         size_t len, char *out, size_t room, size_t *count) {
+    return build_of_two(osb_core_path_join, platform, base, base_len, at, len, out, room, count);
+}
+
+osb_status osb_path_join_checked(osb_platform platform, const char *base, size_t base_len,
+                                 const char *at, size_t len, char *out, size_t room, size_t *count,
+                                 uint32_t *reason) {
+    size_t own = 0;
+    uint32_t own_reason = 0;
+    if (count == NULL || are_bad_strings(base, base_len, at, len, out, room))
+        return OSB_BAD_POINTER;
+    osb_status status =
+        osb_core_path_join_checked(platform, bytes(base), base_len, bytes(at), len,
+                                   room == 0 ? (char *)no_room : out, room, &own, &own_reason);
+    if (status == OSB_OK || status == OSB_NO_ROOM) *count = own;
+    if (status == OSB_BAD_PATH && reason != NULL) *reason = own_reason;
+    return status;
+}
+
+osb_status osb_path_relative(osb_platform platform, const char *at, size_t len, const char *base,
+                             size_t base_len, char *out, size_t room, size_t *count) {
+    return build_of_two(osb_core_path_relative, platform, at, len, base, base_len, out, room,
+                        count);
+}
+
+osb_status osb_path_normalize(osb_platform platform, const char *at, size_t len, char *out,
+                              size_t room, size_t *count) {
+    return build_of_one(osb_core_path_normalize, platform, at, len, out, room, count);
+}
+
+osb_status osb_path_clean(osb_platform platform, const char *at, size_t len, char *out, size_t room,
+                          size_t *count) {
+    return build_of_one(osb_core_path_clean, platform, at, len, out, room, count);
+}
+
+osb_status osb_path_convert(osb_platform from, osb_platform to, const char *at, size_t len,
+                            char *out, size_t room, size_t *count, size_t *index,
+                            osb_fault *fault) {
+    size_t own = 0, own_index = 0;
+    osb_fault own_fault = {0, 0, 0, 0};
+    if (count == NULL || are_bad_strings(at, len, NULL, 0, out, room)) return OSB_BAD_POINTER;
+    osb_status status =
+        osb_core_path_convert(from, to, bytes(at), len, room == 0 ? (char *)no_room : out, room,
+                              &own, &own_index, &own_fault);
+    if (status == OSB_OK || status == OSB_NO_ROOM) *count = own;
+    if (status == OSB_BAD_PATH && index != NULL) *index = own_index;
+    if (status == OSB_FAULTY && fault != NULL) *fault = own_fault;
+    return status;
+}
+
+osb_status osb_path_with_file_name(osb_platform platform, const char *at, size_t len,
+                                   const char *name, size_t name_len, char *out, size_t room,
+                                   size_t *count) {
+    return build_of_two(osb_core_path_with_file_name, platform, at, len, name, name_len, out, room,
+                        count);
+}
+
+osb_status osb_path_with_extension(osb_platform platform, const char *at, size_t len,
+                                   const char *extension, size_t extension_len, char *out,
+                                   size_t room, size_t *count) {
+    return build_of_two(osb_core_path_with_extension, platform, at, len, extension, extension_len,
+                        out, room, count);
+}
+
+osb_status osb_path_with_added_extension(osb_platform platform, const char *at, size_t len,
+                                         const char *extension, size_t extension_len, char *out,
+                                         size_t room, size_t *count) {
+    return build_of_two(osb_core_path_with_added_extension, platform, at, len, extension,
+                        extension_len, out, room, count);
 }
 
 size_t osb_shell_bound(size_t len) {

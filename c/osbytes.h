@@ -8,9 +8,10 @@
  * the processor has (those of x86-64-v2 and x86-64-v3), which it asks once, before main or while it is
  * loaded.
  *
- * No call keeps state, allocates memory or writes anything but what its arguments say. So every
- * call may run in any thread, and in a signal handler too, if no other thread writes to what it
- * reads or touches what it writes.
+ * No call keeps state or writes anything but what its arguments say. So every call may run in any
+ * thread, if no other thread writes to what it reads or touches what it writes; and in a signal handler
+ * too, but for those that build paths (osb_path_join to osb_path_with_added_extension): these take
+ * memory by malloc, and free it before they return. No other call takes memory.
  *
  * What a caller owes, since no call can test it:
  *   - (at, len) is len readable bytes, (out, room) is room writable items, for the whole call;
@@ -65,6 +66,8 @@ enum {
     OSB_BAD_LINE = 8,      /* the line isn't words of a shell */
     OSB_HAS_QUOTE = 9,     /* the program's name has a quotation mark, which no command line can have there */
     OSB_UNEXPECTED = 10,   /* an option has a value that nothing took */
+    OSB_NO_MEMORY = 11,    /* there is no memory for what is built */
+    OSB_BAD_PATH = 12,     /* a path leaves its base, or has a component that the platform can't have */
     /* from 16 on: an argument is refused, and nothing was written but maybe into a buffer */
     OSB_BAD_PLATFORM = 16, /* there is no such platform */
     OSB_BAD_PATTERN = 17,  /* the pattern or the escape isn't UTF-8, or the pattern is empty where
@@ -74,6 +77,7 @@ enum {
     OSB_BAD_STATE = 20,    /* no call leaves a checker so */
     OSB_TOO_LONG = 21,     /* what the _bound call says is past SIZE_MAX */
     OSB_BAD_OPTION = 22,   /* there is no such option */
+    OSB_BAD_EXTENSION = 23, /* the extension has a separator */
     OSB_BAD_POINTER = 32   /* null, too long, not aligned, or overlapping */
 };
 
@@ -331,6 +335,73 @@ osb_status osb_path_ends_with(osb_platform platform, const char *at, size_t len,
  * the next component, or with the root if the base is a prefix alone, as C:, and is empty if none follows. */
 osb_status osb_path_strip_prefix(osb_platform platform, const char *at, size_t len,
                                  const char *base, size_t base_len, osb_view *rest);
+
+/* Paths that are built of others. Their bytes aren't checked: of strings of a platform the path is one, too.
+ * No call says how much room is enough but itself, with room 0. Each takes memory by malloc while it runs,
+ * and answers OSB_NO_MEMORY if there is none, which none lists; then nothing is written. */
+
+/* Writes a path after a base, as std's Path::join does: OSB_OK, OSB_NO_ROOM, OSB_BAD_PLATFORM. A path with a
+ * prefix replaces the base, one with a root all but the base's prefix; any other follows the base, after a
+ * separator unless the base is empty, ends with one, or is a drive alone, as C:. After a base that
+ * begins with \\?\ `.` is left out, and `..` takes the name before it away. */
+osb_status osb_path_join(osb_platform platform, const char *base, size_t base_len, const char *at,
+                         size_t len, char *out, size_t room, size_t *count);
+
+/* Why a path isn't below a base: the first of these that holds. */
+enum {
+    OSB_JOIN_PREFIX = 1,   /* the path has a prefix */
+    OSB_JOIN_ROOT = 2,     /* it has a root */
+    OSB_JOIN_LEAVES = 3,   /* a `..` has no name of the path before it to take away */
+    OSB_JOIN_STREAM = 4,   /* a name of a Windows path has a colon */
+    OSB_JOIN_RESERVED = 5, /* a name of a Windows path is reserved, as nul.txt */
+    OSB_JOIN_BASE = 6      /* the base is a prefix alone that begins with \\?\, as \\?\C: */
+};
+
+/* Writes a path below a base, for names out of an archive or a request: the base's components, and after
+ * them the names of the path, in which `.` and `..` are resolved. OSB_OK, OSB_NO_ROOM,
+ * OSB_BAD_PLATFORM, and OSB_BAD_PATH, with which `*reason` says why there is none; `reason` may be null. */
+osb_status osb_path_join_checked(osb_platform platform, const char *base, size_t base_len,
+                                 const char *at, size_t len, char *out, size_t room, size_t *count,
+                                 uint32_t *reason);
+
+/* Writes how a path is reached from a base, without a file system: OSB_OK, OSB_NO_ROOM, OSB_NONE (it isn't),
+ * OSB_BAD_PLATFORM. A path that is the base's own is empty. */
+osb_status osb_path_relative(osb_platform platform, const char *at, size_t len, const char *base,
+                             size_t base_len, char *out, size_t room, size_t *count);
+
+/* Writes the normal form of a path: without `.` but at the start, and without each `..` and the name before
+ * it. OSB_OK, OSB_NO_ROOM, OSB_NONE (a `..` has no name before it), OSB_BAD_PLATFORM. A path that begins
+ * with \\?\ keeps all its components. */
+osb_status osb_path_normalize(osb_platform platform, const char *at, size_t len, char *out,
+                              size_t room, size_t *count);
+/* Writes the path cleaned, as Go's filepath.Clean and Python's normpath do: also without a `.` at the start
+ * and a `..` at a root, and each other `..` without a name before it stays. The empty path is `.`.
+ * OSB_OK, OSB_NO_ROOM, OSB_BAD_PLATFORM. */
+osb_status osb_path_clean(osb_platform platform, const char *at, size_t len, char *out, size_t room,
+                          size_t *count);
+
+/* Writes the path of another platform with the same components: OSB_OK, OSB_NO_ROOM, OSB_FAULTY (the
+ * bytes aren't a string of platform `to`), OSB_BAD_PATH, OSB_BAD_PLATFORM. With OSB_BAD_PATH `*index` is
+ * the number of the first component that paths of `to` can't have: a prefix, a name with one of their
+ * separators, or a first name that would be a prefix. `index` and `fault` may be null. */
+osb_status osb_path_convert(osb_platform from, osb_platform to, const char *at, size_t len,
+                            char *out, size_t room, size_t *count, size_t *index,
+                            osb_fault *fault);
+
+/* Writes a path with another last name, which is joined to its parent, or to the path itself if that
+ * doesn't end in a name: OSB_OK, OSB_NO_ROOM, OSB_BAD_PLATFORM. */
+osb_status osb_path_with_file_name(osb_platform platform, const char *at, size_t len,
+                                   const char *name, size_t name_len, char *out, size_t room,
+                                   size_t *count);
+/* Writes a path with this extension of its last name, without a dot: in the place of its own, or after it. An
+ * empty one takes the name's away, or adds nothing. A path that doesn't end in a name stays as it is. OSB_OK,
+ * OSB_NO_ROOM, OSB_BAD_EXTENSION (it has a separator), OSB_BAD_PLATFORM. */
+osb_status osb_path_with_extension(osb_platform platform, const char *at, size_t len,
+                                   const char *extension, size_t extension_len, char *out,
+                                   size_t room, size_t *count);
+osb_status osb_path_with_added_extension(osb_platform platform, const char *at, size_t len,
+                                         const char *extension, size_t extension_len, char *out,
+                                         size_t room, size_t *count);
 
 /* How many bytes the word of a name of so many bytes has at most, in each shell; SIZE_MAX past that. */
 size_t osb_shell_bound(size_t len);

@@ -17,6 +17,41 @@ static void expect(bool holds, const char *what, int line) {
 }
 #define EXPECT(holds) expect(holds, #holds, __LINE__)
 
+/* How many blocks of memory there are, where the program is linked so that this is asked for each. */
+static size_t blocks;
+
+#ifdef OSB_WRAPPED
+/* How many requests are answered before the others are refused. */
+static size_t left = SIZE_MAX;
+
+void *__real_malloc(size_t len);
+void *__real_realloc(void *at, size_t len);
+void __real_free(void *at);
+
+static bool is_refused(void) {
+    if (left == 0) return true;
+    if (left != SIZE_MAX) left--;
+    return false;
+}
+
+void *__wrap_malloc(size_t len) {
+    void *at = is_refused() ? NULL : __real_malloc(len);
+    blocks += at != NULL;
+    return at;
+}
+
+void *__wrap_realloc(void *old, size_t len) {
+    void *at = is_refused() ? NULL : __real_realloc(old, len);
+    blocks += at != NULL && old == NULL;
+    return at;
+}
+
+void __wrap_free(void *at) {
+    blocks -= at != NULL;
+    __real_free(at);
+}
+#endif
+
 /* A string literal, as a pointer and a length. */
 #define TEXT(s) (s), sizeof(s) - 1
 
@@ -840,14 +875,14 @@ static void unescapes(void) {
 static void status_texts(void) {
     static const osb_status all[] = {
         OSB_OK, OSB_FAULTY, OSB_NO_ROOM, OSB_NONE, OSB_ENDED, OSB_BAD_ESCAPE, OSB_NO_STRING,
-        OSB_HAS_NUL, OSB_BAD_LINE, OSB_HAS_QUOTE, OSB_UNEXPECTED, OSB_BAD_PLATFORM, OSB_BAD_PATTERN,
-        OSB_BAD_INDEX, OSB_BAD_FAULT, OSB_BAD_STATE, OSB_TOO_LONG, OSB_BAD_OPTION, OSB_BAD_POINTER, 11,
+        OSB_HAS_NUL, OSB_BAD_LINE, OSB_HAS_QUOTE, OSB_UNEXPECTED, OSB_NO_MEMORY, OSB_BAD_PATH, OSB_BAD_PLATFORM, OSB_BAD_PATTERN,
+        OSB_BAD_INDEX, OSB_BAD_FAULT, OSB_BAD_STATE, OSB_TOO_LONG, OSB_BAD_OPTION, OSB_BAD_EXTENSION, OSB_BAD_POINTER, 15,
     };
     size_t count = sizeof all / sizeof *all;
     for (size_t i = 0; i < count; i++)
         for (size_t j = 0; j < count; j++)
             EXPECT((strcmp(osb_status_text(all[i]), osb_status_text(all[j])) == 0) == (i == j));
-    EXPECT(strcmp(osb_status_text(0xFFFFFFFF), osb_status_text(11)) == 0);
+    EXPECT(strcmp(osb_status_text(0xFFFFFFFF), osb_status_text(15)) == 0);
     EXPECT(strcmp(osb_status_text(OSB_TOO_LONG), "the string is too long") == 0);
 }
 
@@ -1056,6 +1091,235 @@ static void path_rests(void) {
     EXPECT(osb_path_strip_prefix(OSB_UNIX, TEXT("a/b"), "a", SIZE_MAX, &rest) == OSB_BAD_POINTER);
     EXPECT(osb_path_strip_prefix(OSB_UNIX, TEXT("a/b"), TEXT("a"), NULL) == OSB_BAD_POINTER);
     EXPECT(rest.at == NULL && rest.len == 99);
+}
+
+/* A call that builds a path of two. */
+typedef osb_status to_path(osb_platform, const char *, size_t, const char *, size_t, char *, size_t, size_t *);
+
+/* What is built, in every room, and that nothing is written where memory is refused, whichever request it is. */
+static bool builds(to_path *call, osb_platform platform, const char *a, size_t a_len, const char *b,
+                   size_t b_len, const char *wanted) {
+    size_t all = strlen(wanted), count = 7;
+    for (size_t room = 0; room < all + 3; room++) {
+        char *out = malloc(room + 1);
+        size_t end = room < all ? room : all, before = blocks;
+        memset(out, 0x55, room + 1);
+        osb_status status = call(platform, a, a_len, b, b_len, room == 0 ? NULL : out, room, &count);
+        bool right = count == all && status == (room < all ? OSB_NO_ROOM : OSB_OK) &&
+                     memcmp(out, wanted, end) == 0 && out[end] == 0x55 && blocks == before;
+        if (!right) printf("  %.*s\n", (int)end, out);
+        free(out);
+        if (!right) return false;
+    }
+#ifdef OSB_WRAPPED
+    char out[64];
+    for (size_t given = 0;; given++) {
+        size_t before = blocks;
+        count = 7;
+        left = given;
+        osb_status status = call(platform, a, a_len, b, b_len, out, sizeof out, &count);
+        left = SIZE_MAX;
+        if (blocks != before) return false;
+        if (status == OSB_OK) return count == all && (given != 0 || all == 0);
+        if (status != OSB_NO_MEMORY || count != 7) return false;
+    }
+#endif
+    return true;
+}
+
+/* What a call that builds answers to bad arguments. */
+static void bad_paths(to_path *call) {
+    char out[16] = "abcdefgh";
+    size_t count = 7;
+    EXPECT(call(3, TEXT("a"), TEXT("b"), out, 8, &count) == OSB_BAD_PLATFORM);
+    EXPECT(call(0xFFFFFFFF, TEXT("a"), TEXT("b"), out, 8, &count) == OSB_BAD_PLATFORM);
+    EXPECT(call(OSB_UNIX, NULL, 1, TEXT("b"), out, 8, &count) == OSB_BAD_POINTER);
+    EXPECT(call(OSB_UNIX, "a", SIZE_MAX, TEXT("b"), out, 8, &count) == OSB_BAD_POINTER);
+    EXPECT(call(OSB_UNIX, TEXT("a"), NULL, 1, out, 8, &count) == OSB_BAD_POINTER);
+    EXPECT(call(OSB_UNIX, TEXT("a"), "b", (size_t)PTRDIFF_MAX + 1, out, 8, &count) == OSB_BAD_POINTER);
+    EXPECT(call(OSB_UNIX, TEXT("a"), TEXT("b"), NULL, 8, &count) == OSB_BAD_POINTER);
+    EXPECT(call(OSB_UNIX, TEXT("a"), TEXT("b"), out, SIZE_MAX, &count) == OSB_BAD_POINTER);
+    EXPECT(call(OSB_UNIX, TEXT("a"), TEXT("b"), out, 8, NULL) == OSB_BAD_POINTER);
+    EXPECT(call(OSB_UNIX, out, 3, TEXT("b"), out + 2, 8, &count) == OSB_BAD_POINTER);
+    EXPECT(call(OSB_UNIX, TEXT("a"), out + 7, 1, out, 8, &count) == OSB_BAD_POINTER);
+    EXPECT(count == 7 && memcmp(out, "abcdefgh", 8) == 0);
+    /* what is read may be beside the buffer, and twice the same */
+    EXPECT(call(OSB_UNIX, out + 5, 3, out + 5, 3, out, 5, &count) != OSB_BAD_POINTER);
+    EXPECT(call(OSB_UNIX, out, 3, out, 3, out + 3, 5, &count) != OSB_BAD_POINTER);
+    EXPECT(memcmp(out + 8, "\0\0\0\0\0\0\0", 8) == 0);
+}
+
+static void path_joins(void) {
+    EXPECT(builds(osb_path_join, OSB_UNIX, TEXT("/usr"), TEXT("lib"), "/usr/lib"));
+    EXPECT(builds(osb_path_join, OSB_UNIX, TEXT("/usr/"), TEXT("lib/"), "/usr/lib/"));
+    EXPECT(builds(osb_path_join, OSB_UNIX, TEXT("/usr"), TEXT("/lib"), "/lib"));
+    EXPECT(builds(osb_path_join, OSB_UNIX, NULL, 0, TEXT("a"), "a"));
+    EXPECT(builds(osb_path_join, OSB_UNIX, TEXT("a"), NULL, 0, "a/"));
+    EXPECT(builds(osb_path_join, OSB_UNIX, NULL, 0, NULL, 0, ""));
+    EXPECT(builds(osb_path_join, OSB_UNIX, TEXT("\xFF"), TEXT("\xFE"), "\xFF/\xFE"));
+    EXPECT(builds(osb_path_join, OSB_WINDOWS, TEXT("C:\\a"), TEXT("b/c"), "C:\\a\\b/c"));
+    EXPECT(builds(osb_path_join, OSB_WINDOWS, TEXT("C:"), TEXT("a"), "C:a"));
+    EXPECT(builds(osb_path_join, OSB_WINDOWS, TEXT("C:\\a"), TEXT("/b"), "C:/b"));
+    EXPECT(builds(osb_path_join, OSB_WINDOWS, TEXT("C:\\a"), TEXT("D:b"), "D:b"));
+    EXPECT(builds(osb_path_join, OSB_WINDOWS, TEXT("\\\\?\\C:\\a"), TEXT("..\\./b"), "\\\\?\\C:\\b"));
+    EXPECT(builds(osb_path_join, OSB_WASM, TEXT("C:\\a"), TEXT("b"), "C:\\a/b"));
+    bad_paths(osb_path_join);
+}
+
+static uint32_t reason;
+
+static osb_status checked(osb_platform platform, const char *base, size_t base_len, const char *at, size_t len,
+                          char *out, size_t room, size_t *count) {
+    return osb_path_join_checked(platform, base, base_len, at, len, out, room, count, &reason);
+}
+
+/* No path is below the base, for this reason. */
+static bool leaves(osb_platform platform, const char *base, const char *at, uint32_t why) {
+    char out[64] = "";
+    size_t count = 7;
+    reason = 9;
+    return osb_path_join_checked(platform, base, strlen(base), at, strlen(at), out, 64, &count, NULL) == OSB_BAD_PATH &&
+           checked(platform, base, strlen(base), at, strlen(at), out, 64, &count) == OSB_BAD_PATH &&
+           reason == why && count == 7;
+}
+
+static void path_joins_checked(void) {
+    reason = 9;
+    EXPECT(builds(checked, OSB_UNIX, TEXT("/srv/files"), TEXT("./a/../b//c"), "/srv/files/b/c"));
+    EXPECT(builds(checked, OSB_UNIX, NULL, 0, TEXT("a"), "a"));
+    EXPECT(builds(checked, OSB_UNIX, TEXT("a"), NULL, 0, "a"));
+    EXPECT(builds(checked, OSB_WINDOWS, TEXT("C:/a"), TEXT("b/c"), "C:\\a\\b\\c"));
+    EXPECT(builds(checked, OSB_WASM, TEXT("a"), TEXT("nul:b\\c"), "a/nul:b\\c"));
+    EXPECT(reason == 9);
+    EXPECT(leaves(OSB_WINDOWS, "C:\\a", "D:b", OSB_JOIN_PREFIX));
+    EXPECT(leaves(OSB_UNIX, "/srv", "/etc", OSB_JOIN_ROOT));
+    EXPECT(leaves(OSB_UNIX, "/srv", "a/../../etc", OSB_JOIN_LEAVES));
+    EXPECT(leaves(OSB_WASM, "/srv", "..", OSB_JOIN_LEAVES));
+    EXPECT(leaves(OSB_WINDOWS, "C:\\a", "b\\c:d", OSB_JOIN_STREAM));
+    EXPECT(leaves(OSB_WINDOWS, "C:\\a", "b\\NUL.txt", OSB_JOIN_RESERVED));
+    EXPECT(leaves(OSB_WINDOWS, "\\\\?\\C:", "b", OSB_JOIN_BASE));
+    bad_paths(checked);
+}
+
+static void path_ways(void) {
+    EXPECT(builds(osb_path_relative, OSB_UNIX, TEXT("/usr/lib/a"), TEXT("/usr/bin"), "../lib/a"));
+    EXPECT(builds(osb_path_relative, OSB_UNIX, TEXT("/usr/bin"), TEXT("/usr/lib/a"), "../../bin"));
+    EXPECT(builds(osb_path_relative, OSB_UNIX, TEXT("a//b"), TEXT("a/b/."), ""));
+    EXPECT(builds(osb_path_relative, OSB_UNIX, TEXT("/a"), TEXT("b"), "/a"));
+    EXPECT(builds(osb_path_relative, OSB_WINDOWS, TEXT("C:\\a"), TEXT("c:\\b\\c"), "..\\..\\a"));
+    EXPECT(builds(osb_path_relative, OSB_WASM, TEXT("a\\b"), TEXT("a\\c"), "../a\\b"));
+    char out[8] = "";
+    size_t count = 7;
+    EXPECT(osb_path_relative(OSB_UNIX, TEXT("a"), TEXT("/usr"), out, 8, &count) == OSB_NONE && count == 7);
+    EXPECT(osb_path_relative(OSB_UNIX, TEXT("a"), TEXT(".."), NULL, 0, &count) == OSB_NONE && count == 7);
+    bad_paths(osb_path_relative);
+}
+
+/* Calls of one path, which take no other. */
+static osb_status normal(osb_platform platform, const char *at, size_t len, const char *no, size_t none, char *out,
+                         size_t room, size_t *count) {
+    (void)no, (void)none;
+    return osb_path_normalize(platform, at, len, out, room, count);
+}
+
+static osb_status clean(osb_platform platform, const char *at, size_t len, const char *no, size_t none, char *out,
+                        size_t room, size_t *count) {
+    (void)no, (void)none;
+    return osb_path_clean(platform, at, len, out, room, count);
+}
+
+static osb_platform wanted = OSB_WINDOWS;
+
+static osb_status converted(osb_platform platform, const char *at, size_t len, const char *no, size_t none, char *out,
+                            size_t room, size_t *count) {
+    (void)no, (void)none;
+    return osb_path_convert(platform, wanted, at, len, out, room, count, NULL, NULL);
+}
+
+/* What each of these answers to bad arguments. */
+static void bad_path(to_path *call) {
+    char out[16] = "abcdefgh";
+    size_t count = 7;
+    EXPECT(call(3, TEXT("a"), NULL, 0, out, 8, &count) == OSB_BAD_PLATFORM);
+    EXPECT(call(0xFFFFFFFF, TEXT("a"), NULL, 0, out, 8, &count) == OSB_BAD_PLATFORM);
+    EXPECT(call(OSB_UNIX, NULL, 1, NULL, 0, out, 8, &count) == OSB_BAD_POINTER);
+    EXPECT(call(OSB_UNIX, "a", SIZE_MAX, NULL, 0, out, 8, &count) == OSB_BAD_POINTER);
+    EXPECT(call(OSB_UNIX, TEXT("a"), NULL, 0, NULL, 8, &count) == OSB_BAD_POINTER);
+    EXPECT(call(OSB_UNIX, TEXT("a"), NULL, 0, out, (size_t)PTRDIFF_MAX + 1, &count) == OSB_BAD_POINTER);
+    EXPECT(call(OSB_UNIX, TEXT("a"), NULL, 0, out, 8, NULL) == OSB_BAD_POINTER);
+    EXPECT(call(OSB_UNIX, out, 3, NULL, 0, out + 2, 8, &count) == OSB_BAD_POINTER);
+    EXPECT(call(OSB_UNIX, out + 7, 1, NULL, 0, out, 8, &count) == OSB_BAD_POINTER);
+    EXPECT(count == 7 && memcmp(out, "abcdefgh", 8) == 0);
+    EXPECT(call(OSB_UNIX, out + 5, 3, NULL, 0, out, 5, &count) == OSB_OK && count == 3);
+    EXPECT(call(OSB_UNIX, out, 3, NULL, 0, out + 3, 5, &count) == OSB_OK && count == 3);
+}
+
+static void path_forms(void) {
+    EXPECT(builds(normal, OSB_UNIX, TEXT("/usr//./lib/../bin/"), NULL, 0, "/usr/bin"));
+    EXPECT(builds(normal, OSB_UNIX, TEXT("./a"), NULL, 0, "./a"));
+    EXPECT(builds(normal, OSB_UNIX, NULL, 0, NULL, 0, ""));
+    EXPECT(builds(normal, OSB_WINDOWS, TEXT("a\\..\\C:"), NULL, 0, ".\\C:"));
+    EXPECT(builds(normal, OSB_WASM, TEXT("a\\b/../c"), NULL, 0, "c"));
+    char out[8] = "";
+    size_t count = 7, index = 7;
+    EXPECT(osb_path_normalize(OSB_UNIX, TEXT("a/../.."), out, 8, &count) == OSB_NONE && count == 7);
+    EXPECT(osb_path_normalize(OSB_WINDOWS, TEXT("C:\\.."), NULL, 0, &count) == OSB_NONE && count == 7);
+    bad_path(normal);
+    EXPECT(builds(clean, OSB_UNIX, TEXT("./../a//b/.."), NULL, 0, "../a"));
+    EXPECT(builds(clean, OSB_UNIX, TEXT("/.."), NULL, 0, "/"));
+    EXPECT(builds(clean, OSB_UNIX, NULL, 0, NULL, 0, "."));
+    EXPECT(builds(clean, OSB_WINDOWS, TEXT("C:/.."), NULL, 0, "C:\\"));
+    EXPECT(builds(clean, OSB_WASM, TEXT("a/b\\..\\.."), NULL, 0, "a/b\\..\\.."));
+    bad_path(clean);
+    EXPECT(builds(converted, OSB_UNIX, TEXT("/usr//lib/.."), NULL, 0, "\\usr\\lib\\.."));
+    EXPECT(builds(converted, OSB_WINDOWS, TEXT("C:/a//"), NULL, 0, "C:/a//"));
+    EXPECT(builds(converted, OSB_WASM, NULL, 0, NULL, 0, ""));
+    bad_path(converted);
+    wanted = OSB_UNIX;
+    EXPECT(builds(converted, OSB_WINDOWS, TEXT(".\\a\\\xED\xA0\x80"), NULL, 0, "./a/\xED\xA0\x80"));
+    bad_path(converted);
+    osb_fault fault = {9, 9, 9, 9};
+    EXPECT(osb_path_convert(OSB_WINDOWS, OSB_UNIX, TEXT("C:\\a"), out, 8, &count, &index, &fault) == OSB_BAD_PATH);
+    EXPECT(index == 0 && count == 7 && fault.kind == 9);
+    EXPECT(osb_path_convert(OSB_UNIX, OSB_WINDOWS, TEXT("/a/b\\c"), out, 8, &count, &index, NULL) == OSB_BAD_PATH);
+    EXPECT(index == 2 && count == 7);
+    EXPECT(osb_path_convert(OSB_UNIX, OSB_WINDOWS, TEXT("C:"), NULL, 0, &count, NULL, NULL) == OSB_BAD_PATH);
+    index = 7;
+    EXPECT(osb_path_convert(OSB_UNIX, OSB_WINDOWS, TEXT("a/\xC0"), out, 8, &count, &index, &fault) == OSB_FAULTY);
+    EXPECT(fault.kind == OSB_FAULT_BYTE && fault.value == 0xC0 && fault.index == 2 && fault.count == 1);
+    EXPECT(osb_path_convert(OSB_WINDOWS, OSB_WASM, TEXT("\xED\xA0\x80"), out, 8, &count, NULL, &fault) == OSB_FAULTY);
+    EXPECT(fault.kind == OSB_FAULT_UTF8 && fault.index == 0);
+    EXPECT(osb_path_convert(OSB_UNIX, OSB_WASM, TEXT("\xFF"), out, 8, &count, NULL, NULL) == OSB_FAULTY);
+    EXPECT(osb_path_convert(OSB_UNIX, 3, TEXT("a"), out, 8, &count, &index, &fault) == OSB_BAD_PLATFORM);
+    EXPECT(index == 7 && count == 7);
+}
+
+static void path_names(void) {
+    EXPECT(builds(osb_path_with_file_name, OSB_UNIX, TEXT("/tmp/a.txt"), TEXT("b"), "/tmp/b"));
+    EXPECT(builds(osb_path_with_file_name, OSB_UNIX, TEXT("/"), TEXT("b"), "/b"));
+    EXPECT(builds(osb_path_with_file_name, OSB_UNIX, TEXT("a/.."), TEXT("b"), "a/../b"));
+    EXPECT(builds(osb_path_with_file_name, OSB_WINDOWS, TEXT("C:a"), TEXT("b"), "C:b"));
+    EXPECT(builds(osb_path_with_file_name, OSB_WASM, TEXT("a\\b"), TEXT("c"), "c"));
+    bad_paths(osb_path_with_file_name);
+    EXPECT(builds(osb_path_with_extension, OSB_UNIX, TEXT("a/b.txt/"), TEXT("rs"), "a/b.rs"));
+    EXPECT(builds(osb_path_with_extension, OSB_UNIX, TEXT("a/b.txt"), NULL, 0, "a/b"));
+    EXPECT(builds(osb_path_with_extension, OSB_UNIX, TEXT("a/.."), TEXT("rs"), "a/.."));
+    EXPECT(builds(osb_path_with_extension, OSB_WINDOWS, TEXT("a\\b.c"), TEXT("d.e"), "a\\b.d.e"));
+    EXPECT(builds(osb_path_with_extension, OSB_WASM, TEXT("a.b"), TEXT("c\\d"), "a.c\\d"));
+    bad_paths(osb_path_with_extension);
+    EXPECT(builds(osb_path_with_added_extension, OSB_UNIX, TEXT("a/b.txt/"), TEXT("gz"), "a/b.txt.gz"));
+    EXPECT(builds(osb_path_with_added_extension, OSB_UNIX, TEXT("a/b/"), NULL, 0, "a/b/"));
+    EXPECT(builds(osb_path_with_added_extension, OSB_UNIX, TEXT("/"), TEXT("gz"), "/"));
+    EXPECT(builds(osb_path_with_added_extension, OSB_WINDOWS, TEXT("a\\.b"), TEXT("c"), "a\\.b.c"));
+    bad_paths(osb_path_with_added_extension);
+    to_path *const calls[] = {osb_path_with_extension, osb_path_with_added_extension};
+    char out[8] = "";
+    size_t count = 7;
+    for (size_t i = 0; i < 2; i++) {
+        EXPECT(calls[i](OSB_UNIX, TEXT("a"), TEXT("b/c"), out, 8, &count) == OSB_BAD_EXTENSION);
+        EXPECT(calls[i](OSB_WINDOWS, TEXT(".."), TEXT("b\\"), NULL, 0, &count) == OSB_BAD_EXTENSION);
+        EXPECT(calls[i](OSB_WINDOWS, TEXT("a"), TEXT("/"), out, 8, &count) == OSB_BAD_EXTENSION && count == 7);
+    }
 }
 
 /* A call that writes a word of a shell. */
@@ -1569,6 +1833,11 @@ int main(void) {
     path_parts();
     path_tests();
     path_rests();
+    path_joins();
+    path_joins_checked();
+    path_ways();
+    path_forms();
+    path_names();
     words();
     no_texts();
     joins();

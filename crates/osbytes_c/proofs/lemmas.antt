@@ -1,4 +1,5 @@
 pub mod ArgumentWriting
+pub mod Built
 pub mod CommandLines
 pub mod Conversions
 pub mod Digits

@@ -5,6 +5,7 @@ pub mod Faults
 pub mod Lines
 pub mod Options
 pub mod PartBuffers
+pub mod PathBuilding
 pub mod PathParts
 pub mod PathSpans
 pub mod Platforms

@@ -3,11 +3,12 @@
 //! [`lossy`] lossy texts, [`escapes`] and [`unescapes`] escapes and back, [`search`] searches,
 //! [`prefix`] prefixes and suffixes by units, [`boundary`] where strings may be cut, [`compare`]
 //! their order, one step of each iterator: [`split`], [`chunks`] and [`symbols`], and [`paths`] and
-//! [`path_tests`] paths, whose components [`path_parts`] finds and [`part_list`] writes, and
-//! [`shell`] and [`powershell`] words of a shell, [`shell_words`] lines of them,
-//! [`windows_quote`], [`windows_name`] and [`windows_arguments`] command lines of Windows, and
-//! [`options`] options and operands. [`laws`] says what whole walks and whole lines give, and
-//! [`uses`] and [`line_uses`] conclude from it.
+//! [`path_tests`] paths, whose components [`path_parts`] finds and [`part_list`] writes,
+//! [`path_joins`], [`path_forms`] and [`path_names`] paths that are built of others, and [`shell`]
+//! and [`powershell`] words of a shell, [`shell_words`] lines of them, [`windows_quote`],
+//! [`windows_name`] and [`windows_arguments`] command lines of Windows, and [`options`] options and
+//! operands. [`laws`] says what whole walks and whole lines give, and
+//! [`uses`], [`line_uses`] and [`path_uses`] conclude from it.
 //!
 //! A slice crosses as a pointer and a length. Each export takes any values: a platform, a pattern,
 //! an index or a fault that there isn't is answered by a status ([`status`]), so none has a
@@ -16,6 +17,7 @@
 #![tactic(auto)]
 
 pub mod boundary;
+mod built;
 pub mod check;
 pub mod checker;
 pub mod chunks;
@@ -28,9 +30,13 @@ pub mod line_uses;
 pub mod lossy;
 pub mod options;
 pub mod part_list;
+pub mod path_forms;
+pub mod path_joins;
+pub mod path_names;
 mod path_parts;
 mod path_spans;
 pub mod path_tests;
+pub mod path_uses;
 pub mod paths;
 pub mod powershell;
 pub mod prefix;

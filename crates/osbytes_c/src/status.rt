@@ -22,6 +22,10 @@ pub const HAS_NUL: u32 = 7;
 pub const BAD_LINE: u32 = 8;
 /// The program's name has a quotation mark.
 pub const HAS_QUOTE: u32 = 9;
+/// Memory was refused.
+pub const NO_MEMORY: u32 = 11;
+/// A path is refused.
+pub const BAD_PATH: u32 = 12;
 /// There is no such platform.
 pub const NO_PLATFORM: u32 = 16;
 /// The pattern or the escape isn't UTF-8, or the pattern is empty where it may not be.
@@ -36,6 +40,8 @@ pub const NO_STATE: u32 = 20;
 pub const TOO_LONG: u32 = 21;
 /// There is no such option.
 pub const NO_OPTION: u32 = 22;
+/// An extension has a separator.
+pub const NO_EXTENSION: u32 = 23;
 
 /// Whether what was written is all of it.
 #[inline(always)]
