@@ -16,6 +16,7 @@ from smoke import (
     BAD_LINE,
     FAULTY,
     HAS_NUL,
+    NO_ROOM,
     NO_STRING,
     NONE,
     OK,
@@ -187,6 +188,29 @@ def components(osb: CDLL, platform: int, path: bytes) -> str:
     return ",".join("?PRCUN"[part.kind] + name for part, name in names) or "!"
 
 
+# What builds a path, by the column for it, and the same in place, whose answer begins with whether it was done.
+BUILT = {"join": "join", "relative_from": "relative", "normalize_lexically": "normalize", "clean": "clean"}
+BUILT |= {name: name for name in ("with_file_name", "with_extension")} | {"set_file_name": "with_file_name"}
+IN_PLACE = {"set_extension": "with_extension", "add_extension": "with_added_extension"}
+
+
+def built(call: Call, platform: int, *strings: bytes) -> str:
+    given = [argument for string in strings for argument in (string, len(string))]
+    room = sum(map(len, strings)) + 4
+    out, count = create_string_buffer(room), c_size_t()
+    if call(platform, *given, out, room, byref(count)) == NO_ROOM:
+        room = count.value
+        out = create_string_buffer(room)
+    status = call(platform, *given, out, room, byref(count))
+    assert status in (OK, NONE), status
+    return shown(out.raw[: count.value]) if status == OK else "!"
+
+
+def is_lost(path: str, extension: str, wanted: str) -> bool:
+    """Whether with_extension of std loses the extension, since `..` is left of the name. Its set_extension doesn't."""
+    return extension != "-" and wanted != path and raw(wanted).endswith(b"\\..")
+
+
 def paths(osb: CDLL, platform: str, call: str, path: str, *more: str) -> Answers:
     """A row of a call that the library doesn't have isn't asked."""
     string, whose, part = raw(path), PLATFORMS[platform], View()
@@ -209,6 +233,11 @@ def paths(osb: CDLL, platform: str, call: str, path: str, *more: str) -> Answers
         status = osb.osb_path_strip_prefix(whose, string, len(string), base, len(base), byref(part))
         assert status in (OK, NONE), status
         yield shown(bytes(part)) if status == OK else "!", more[1]
+    elif call in BUILT:
+        lost = more[0] if call == "with_extension" and is_lost(path, *more) else ""
+        yield built(getattr(osb, f"osb_path_{BUILT[call]}"), whose, string, *map(raw, more[:-1])), more[-1] + lost
+    elif call in IN_PLACE:
+        yield built(getattr(osb, f"osb_path_{IN_PLACE[call]}"), whose, string, raw(more[0])), more[1].partition(":")[2]
 
 
 def word(call: Call, room: int, name: bytes) -> str:

@@ -337,8 +337,8 @@ osb_status osb_path_strip_prefix(osb_platform platform, const char *at, size_t l
                                  const char *base, size_t base_len, osb_view *rest);
 
 /* Paths that are built of others. Their bytes aren't checked: of strings of a platform the path is one, too.
- * No call says how much room is enough but itself, with room 0. Each takes memory by malloc while it runs,
- * and answers OSB_NO_MEMORY if there is none, which none lists; then nothing is written. */
+ * How much room is enough each says itself, with room 0. Each takes memory by malloc while it runs,
+ * and answers OSB_NO_MEMORY if there is none, which none lists. */
 
 /* Writes a path after a base, as std's Path::join does: OSB_OK, OSB_NO_ROOM, OSB_BAD_PLATFORM. A path with a
  * prefix replaces the base, one with a root all but the base's prefix; any other follows the base, after a

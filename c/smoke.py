@@ -102,6 +102,10 @@ def load(name: str) -> CDLL:
     osb.osb_path_has_root.argtypes = osb.osb_path_is_absolute.argtypes = [c_uint32, c_char_p, c_size_t]
     osb.osb_path_starts_with.argtypes = osb.osb_path_ends_with.argtypes = osb.osb_starts_with_units.argtypes
     osb.osb_path_strip_prefix.argtypes = [*osb.osb_starts_with_units.argtypes, POINTER(View)]
+    built = [c_char_p, c_size_t, POINTER(c_size_t)]
+    for name in ("join", "relative", "with_file_name", "with_extension", "with_added_extension"):
+        getattr(osb, f"osb_path_{name}").argtypes = [c_uint32, c_char_p, c_size_t, c_char_p, c_size_t, *built]
+    osb.osb_path_normalize.argtypes = osb.osb_path_clean.argtypes = [c_uint32, c_char_p, c_size_t, *built]
     osb.osb_shell_bound.argtypes = [c_size_t]
     osb.osb_shell_bound.restype = c_size_t
     osb.osb_shell_quote.argtypes = [c_char_p, c_size_t, c_char_p, c_size_t, POINTER(c_size_t), POINTER(c_size_t)]

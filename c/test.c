@@ -1260,6 +1260,7 @@ static void path_forms(void) {
     EXPECT(builds(normal, OSB_UNIX, NULL, 0, NULL, 0, ""));
     EXPECT(builds(normal, OSB_WINDOWS, TEXT("a\\..\\C:"), NULL, 0, ".\\C:"));
     EXPECT(builds(normal, OSB_WASM, TEXT("a\\b/../c"), NULL, 0, "c"));
+    EXPECT(builds(normal, OSB_UNIX, TEXT("a/b/c/d/e/f/g/h/i/j/k/../l"), NULL, 0, "a/b/c/d/e/f/g/h/i/j/l"));
     char out[8] = "";
     size_t count = 7, index = 7;
     EXPECT(osb_path_normalize(OSB_UNIX, TEXT("a/../.."), out, 8, &count) == OSB_NONE && count == 7);

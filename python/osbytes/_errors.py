@@ -35,6 +35,29 @@ class NoStringError(OsBytesError):
         super().__init__("no string of the platform has this escape")
 
 
+class JoinError(OsBytesError):
+    """A path that isn't below its base. `reason` is the number of the reason, as in `JoinReason`."""
+
+    def __init__(self, name: str, reason: int) -> None:
+        super().__init__(f"the path isn't below the base: {name}")
+        self.reason = reason
+
+
+class ConvertError(OsBytesError):
+    """A path that no path of the other platform can be. `index` is the number of the first component that none has."""
+
+    def __init__(self, index: int) -> None:
+        super().__init__(f"no path of the platform has component {index}")
+        self.index = index
+
+
+class ExtensionError(OsBytesError):
+    """An extension with a separator."""
+
+    def __init__(self) -> None:
+        super().__init__("the extension has a separator")
+
+
 class NulError(OsBytesError):
     """A name or a line with a NUL, which no word and no argument can have. `index` is that of its first NUL, in its bytes."""
 

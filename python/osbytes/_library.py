@@ -96,6 +96,8 @@ def views_of(strings: list[bytes]) -> Array[View]:
 
 
 OK, FAULTY, NO_ROOM, NONE, ENDED, BAD_ESCAPE, NO_STRING, HAS_NUL, BAD_LINE, HAS_QUOTE, UNEXPECTED = range(11)
+NO_MEMORY, BAD_PATH = 11, 12
+BAD_EXTENSION = 23
 CHARACTER = 1
 FAULT_TEXT_ROOM = 129
 
@@ -104,6 +106,7 @@ COUNTED = [c_char_p, c_size_t, POINTER(c_size_t)]
 ESCAPES = [c_uint32, *STRING, *COUNTED, POINTER(Fault)]
 UNESCAPES = [c_uint32, *STRING, *COUNTED, POINTER(c_size_t)]
 PARTS = [c_uint32, *STRING, POINTER(View)]
+PATHS = [c_uint32, *STRING, *STRING, *COUNTED]
 WORDS = [*STRING, *COUNTED, POINTER(c_size_t)]
 UNITS = [POINTER(c_uint16), c_size_t, POINTER(c_size_t)]
 LINES = [*STRING, *UNITS, POINTER(c_size_t), POINTER(Fault)]
@@ -148,6 +151,15 @@ CALLS: dict[str, list[type]] = {
     "osb_path_starts_with": [c_uint32, *STRING, *STRING],
     "osb_path_ends_with": [c_uint32, *STRING, *STRING],
     "osb_path_strip_prefix": [c_uint32, *STRING, *STRING, POINTER(View)],
+    "osb_path_join": PATHS,
+    "osb_path_join_checked": [*PATHS, POINTER(c_uint32)],
+    "osb_path_relative": PATHS,
+    "osb_path_normalize": [c_uint32, *STRING, *COUNTED],
+    "osb_path_clean": [c_uint32, *STRING, *COUNTED],
+    "osb_path_convert": [c_uint32, c_uint32, *STRING, *COUNTED, POINTER(c_size_t), POINTER(Fault)],
+    "osb_path_with_file_name": PATHS,
+    "osb_path_with_extension": PATHS,
+    "osb_path_with_added_extension": PATHS,
     "osb_shell_quote": WORDS,
     "osb_shell_quote_line": WORDS,
     "osb_fish_quote": WORDS,

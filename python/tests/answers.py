@@ -136,6 +136,21 @@ PARTS = {
 }
 TESTS = {"has_root": osbytes.path_has_root, "is_absolute": osbytes.path_is_absolute}
 COMPARISONS = {"starts_with": osbytes.path_starts_with, "ends_with": osbytes.path_ends_with}
+BUILT_OF_TWO = {
+    "join": osbytes.path_join,
+    "relative_from": osbytes.path_relative,
+    "with_file_name": osbytes.path_with_file_name,
+    "set_file_name": osbytes.path_with_file_name,
+    "with_extension": osbytes.path_with_extension,
+}
+BUILT_OF_ONE = {"normalize_lexically": osbytes.path_normalize, "clean": osbytes.path_clean}
+# In place: the answer begins with whether it was done.
+IN_PLACE = {"set_extension": osbytes.path_with_extension, "add_extension": osbytes.path_with_added_extension}
+
+
+def is_lost(path: str, extension: str, wanted: str) -> bool:
+    """Whether with_extension of std loses the extension, since `..` is left of the name. Its set_extension doesn't."""
+    return extension != "-" and wanted != path and raw(wanted).endswith(b"\\..")
 
 
 def paths(platform: str, call: str, path: str, *more: str) -> Answers:
@@ -153,6 +168,13 @@ def paths(platform: str, call: str, path: str, *more: str) -> Answers:
         yield told(COMPARISONS[call](given, raw(more[0]), whose)), more[1]
     elif call == "strip_prefix":
         yield part(osbytes.path_strip_prefix(given, raw(more[0]), whose)), more[1]
+    elif call in BUILT_OF_TWO:
+        lost = more[0] if call == "with_extension" and is_lost(path, *more) else ""
+        yield part(BUILT_OF_TWO[call](given, raw(more[0]), whose)), more[1] + lost
+    elif call in BUILT_OF_ONE:
+        yield part(BUILT_OF_ONE[call](given, whose)), more[0]
+    elif call in IN_PLACE:
+        yield part(IN_PLACE[call](given, raw(more[0]), whose)), more[1].partition(":")[2]
 
 
 def words(name: str, word: str, line: str, fish: str) -> Answers:

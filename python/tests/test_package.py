@@ -5,17 +5,20 @@ from __future__ import annotations
 import codecs
 import doctest
 import getopt
+import ntpath
 import os
+import posixpath
 import random
 import shlex
 import subprocess
 import sys
 import unittest
-from pathlib import PurePosixPath
+from pathlib import PurePosixPath, PureWindowsPath
 
 import osbytes
 from osbytes import UNIX, WASM, WINDOWS, BadEscapeError, Character, Checker, FaultError, Kind, LineError, LineKind, NoStringError
-from osbytes import MissingValueError, NulError, Option, OptionKind, Options, QuoteError, UnexpectedValueError, Unit
+from osbytes import ConvertError, ExtensionError, JoinError, JoinReason, MissingValueError, NulError, Option, OptionKind, Options
+from osbytes import QuoteError, UnexpectedValueError, Unit
 
 FORMS = [text.encode("utf-8", "surrogatepass") for text in "a,b\\\n\u00e9\u20ac\u2028\U000e0041\ud800\udc00\U0001f600"]
 FORMS += [b"\xc0", b"\xe2\x82", b"\xed", b"\xf4\x90", b"\x80", b"\0"]
@@ -54,7 +57,8 @@ def read_options(words: list[str]) -> tuple[list[tuple[str, str]], list[str]]:
 
 class Examples(unittest.TestCase):
     def test_examples_of_the_docs(self) -> None:
-        for module in (osbytes, osbytes._calls, osbytes._library, osbytes._lines, osbytes._options, osbytes._paths):
+        paths = (osbytes._paths, osbytes._path_building)
+        for module in (osbytes, osbytes._calls, osbytes._library, osbytes._lines, osbytes._options, *paths):
             failed, tried = doctest.testmod(module, optionflags=doctest.IGNORE_EXCEPTION_DETAIL)
             self.assertEqual(failed, 0, module)
             self.assertGreater(tried, 0, module)
@@ -133,6 +137,83 @@ class BesidePython(unittest.TestCase):
             rest = osbytes.path_strip_prefix(path, "" if base == PurePosixPath() else str(base))
             self.assertEqual(PurePosixPath((rest or b"").decode()), python.relative_to(base))
             self.assertIsNone(osbytes.path_strip_prefix(path, path + "/c"))
+
+    def test_built_paths(self) -> None:
+        """Beside `posixpath` and `ntpath`, where these mean the same: no path but a root ends with a separator, none begins
+        with two, and each of Windows that has a drive has a root."""
+        numbers = random.Random(8)
+        names = ["a", "b.txt", ".x", "..", ".", "x.tar.gz", "\u00e9", "no dot"]
+        for platform, module, roots in ((UNIX, posixpath, ["", "/"]), (WINDOWS, ntpath, ["", "C:\\", "c:/"])):
+
+            def made() -> str:
+                below = (numbers.choice(names) for _ in range(numbers.randint(1, 5)))
+                return numbers.choice(roots) + numbers.choice(module.sep + (module.altsep or "")).join(below)
+
+            for _ in range(5000):
+                path, other = made(), made()
+                decoded = osbytes.decode(osbytes.path_clean(path, platform), platform)
+                self.assertEqual(decoded, module.normpath(path))
+                if not module.splitdrive(other)[0]:
+                    joined = osbytes.path_join(path, other, platform)
+                    self.assertEqual(osbytes.decode(joined, platform), module.join(path, other))
+                normal = osbytes.path_normalize(path, platform)
+                if normal is not None:
+                    kept = osbytes.decode(osbytes.path_clean(normal, platform), platform)
+                    self.assertEqual(kept, module.normpath(path))
+                if not module.isabs(other):
+                    try:
+                        below = osbytes.path_join_checked(roots[-1], other, platform)
+                    except JoinError:
+                        self.assertIn("..", other)
+                        continue
+                    wanted = module.normpath(module.join(roots[-1], other))
+                    self.assertEqual(osbytes.decode(osbytes.path_clean(below, platform), platform), wanted)
+
+    def test_path_names(self) -> None:
+        numbers = random.Random(9)
+        for _ in range(2000):
+            path = "/".join(numbers.choice(["a", "b.txt", ".x", "x.tar.gz", "no dot"]) for _ in range(numbers.randint(1, 4)))
+            for platform, python in ((UNIX, PurePosixPath(path)), (WINDOWS, PureWindowsPath(path))):
+                name = osbytes.path_with_file_name(path, "c", platform)
+                self.assertEqual(type(python)(name.decode()), python.with_name("c"))
+                for extension in ("", "rs"):
+                    made = osbytes.path_with_extension(path, extension, platform)
+                    self.assertEqual(type(python)(made.decode()), python.with_suffix(extension and "." + extension))
+                added = osbytes.path_with_added_extension(path, "gz", platform)
+                self.assertEqual(type(python)(added.decode()), python.with_name(python.name + ".gz"))
+                base = numbers.choice([python, *python.parents])
+                way = osbytes.path_relative(path, "" if str(base) == "." else str(base), platform)
+                self.assertEqual(type(python)((way or b"").decode()), python.relative_to(base))
+            windows = osbytes.path_convert(path, WINDOWS)
+            self.assertEqual(windows.decode(), str(PureWindowsPath(path)))
+            self.assertEqual(osbytes.path_convert(windows, UNIX, WINDOWS).decode(), path)
+
+    def test_refused_paths(self) -> None:
+        for path, reason in (("C:a", JoinReason.PREFIX), ("/a", JoinReason.ROOT), ("a/../..", JoinReason.LEAVES)):
+            with self.assertRaises(JoinError) as refused:
+                osbytes.path_join_checked("b", path, WINDOWS)
+            self.assertEqual(refused.exception.reason, reason)
+        for base, path, reason in (("b", "aa:b", JoinReason.STREAM), ("b", "nul.txt", JoinReason.RESERVED)):
+            with self.assertRaises(JoinError) as refused:
+                osbytes.path_join_checked(base, path, WINDOWS)
+            self.assertEqual(refused.exception.reason, reason)
+        with self.assertRaises(JoinError) as refused:
+            osbytes.path_join_checked("\\\\?\\C:", "a", WINDOWS)
+        self.assertEqual(refused.exception.reason, JoinReason.BASE)
+        self.assertEqual(osbytes.path_join_checked("b", "nul.txt"), b"b/nul.txt")
+        with self.assertRaises(ConvertError) as unlike:
+            osbytes.path_convert("/a/b\\c", WINDOWS)
+        self.assertEqual(unlike.exception.index, 2)
+        with self.assertRaises(FaultError) as fault:
+            osbytes.path_convert(b"a/\xc0", WINDOWS)
+        self.assertEqual(fault.exception.index, 2)
+        for call in (osbytes.path_with_extension, osbytes.path_with_added_extension):
+            with self.assertRaises(ExtensionError):
+                call("a", "b/c")
+        self.assertIsNone(osbytes.path_relative("a", "/b"))
+        self.assertIsNone(osbytes.path_normalize(".."))
+        long = "a/" * 50000
+        self.assertEqual(len(osbytes.path_join(long, long)), 4 * 50000)
 
     def test_words(self) -> None:
         numbers = random.Random(7)

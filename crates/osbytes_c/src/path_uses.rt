@@ -89,8 +89,10 @@ pub fn normalize_in(
     path: &[u8],
     buffer: &mut [u8],
 ) -> Result<usize, u32>
-    ensures ok { IfOk result (λ len. IsNormalized (style_on platform) path.now (take len buffer.new)) }
-    ensures err { IfErr result (λ status. status ≡ 3 → HasNoNormalForm (style_on platform) path.now) }
+    ensures ok { IfOk result
+        (λ len. IsNormalized (style_on platform) path.now (take len buffer.new)) }
+    ensures err { IfErr result
+        (λ status. status ≡ 3 → HasNoNormalForm (style_on platform) path.now) }
 {
     let mut len = 0;
     match osb_core_path_normalize(alloc, platform, path, buffer, &mut len) {
