@@ -337,13 +337,12 @@ osb_status osb_path_strip_prefix(osb_platform platform, const char *at, size_t l
                                  const char *base, size_t base_len, osb_view *rest);
 
 /* Paths that are built of others. Their bytes aren't checked: of strings of a platform the path is one, too.
- * How much room is enough each says itself, with room 0. Each takes memory by malloc while it runs,
- * and answers OSB_NO_MEMORY if there is none, which none lists. */
+ * How much room is enough each says itself, with room 0. Each takes memory by malloc while it runs. */
 
-/* Writes a path after a base, as std's Path::join does: OSB_OK, OSB_NO_ROOM, OSB_BAD_PLATFORM. A path with a
- * prefix replaces the base, one with a root all but the base's prefix; any other follows the base, after a
- * separator unless the base is empty, ends with one, or is a drive alone, as C:. After a base that
- * begins with \\?\ `.` is left out, and `..` takes the name before it away. */
+/* Writes a path after a base, as std's Path::join does: OSB_OK, OSB_NO_ROOM, OSB_NO_MEMORY,
+ * OSB_BAD_PLATFORM. A path with a prefix replaces the base, one with a root all but the base's prefix; any
+ * other follows the base, after a separator unless the base is empty, ends with one, or is a drive alone,
+ * as C:. After a base that begins with \\?\ `.` is left out, and `..` takes the name before it away. */
 osb_status osb_path_join(osb_platform platform, const char *base, size_t base_len, const char *at,
                          size_t len, char *out, size_t room, size_t *count);
 
@@ -358,44 +357,45 @@ enum {
 };
 
 /* Writes a path below a base, for names out of an archive or a request: the base's components, and after
- * them the names of the path, in which `.` and `..` are resolved. OSB_OK, OSB_NO_ROOM,
- * OSB_BAD_PLATFORM, and OSB_BAD_PATH, with which `*reason` says why there is none; `reason` may be null. */
+ * them the names of the path, in which `.` and `..` are resolved. OSB_OK, OSB_NO_ROOM, OSB_NO_MEMORY,
+ * OSB_BAD_PLATFORM, and OSB_BAD_PATH, with which `*reason` says why there is none, as OSB_JOIN_LEAVES;
+ * `reason` may be null. */
 osb_status osb_path_join_checked(osb_platform platform, const char *base, size_t base_len,
                                  const char *at, size_t len, char *out, size_t room, size_t *count,
                                  uint32_t *reason);
 
-/* Writes how a path is reached from a base, without a file system: OSB_OK, OSB_NO_ROOM, OSB_NONE (it isn't),
- * OSB_BAD_PLATFORM. A path that is the base's own is empty. */
+/* Writes how a path is reached from a base, without a file system: OSB_OK, OSB_NO_ROOM, OSB_NO_MEMORY,
+ * OSB_NONE (it isn't), OSB_BAD_PLATFORM. The base itself is reached by the empty path. */
 osb_status osb_path_relative(osb_platform platform, const char *at, size_t len, const char *base,
                              size_t base_len, char *out, size_t room, size_t *count);
 
 /* Writes the normal form of a path: without `.` but at the start, and without each `..` and the name before
- * it. OSB_OK, OSB_NO_ROOM, OSB_NONE (a `..` has no name before it), OSB_BAD_PLATFORM. A path that begins
- * with \\?\ keeps all its components. */
+ * it. OSB_OK, OSB_NO_ROOM, OSB_NO_MEMORY, OSB_NONE (a `..` has no name before it), OSB_BAD_PLATFORM. A path
+ * that begins with \\?\ keeps all its components. */
 osb_status osb_path_normalize(osb_platform platform, const char *at, size_t len, char *out,
                               size_t room, size_t *count);
 /* Writes the path cleaned, as Go's filepath.Clean and Python's normpath do: also without a `.` at the start
  * and a `..` at a root, and each other `..` without a name before it stays. The empty path is `.`.
- * OSB_OK, OSB_NO_ROOM, OSB_BAD_PLATFORM. */
+ * OSB_OK, OSB_NO_ROOM, OSB_NO_MEMORY, OSB_BAD_PLATFORM. */
 osb_status osb_path_clean(osb_platform platform, const char *at, size_t len, char *out, size_t room,
                           size_t *count);
 
-/* Writes the path of another platform with the same components: OSB_OK, OSB_NO_ROOM, OSB_FAULTY (the
- * bytes aren't a string of platform `to`), OSB_BAD_PATH, OSB_BAD_PLATFORM. With OSB_BAD_PATH `*index` is
- * the number of the first component that paths of `to` can't have: a prefix, a name with one of their
- * separators, or a first name that would be a prefix. `index` and `fault` may be null. */
+/* Writes the path of another platform with the same components: OSB_OK, OSB_NO_ROOM, OSB_NO_MEMORY,
+ * OSB_FAULTY (the bytes aren't a string of platform `to`), OSB_BAD_PATH, OSB_BAD_PLATFORM. With OSB_BAD_PATH
+ * `*index` is the number, from 0 on, of the first component that paths of `to` can't have: a prefix, a name
+ * with one of their separators, or a first name that would be a prefix. `index` and `fault` may be null. */
 osb_status osb_path_convert(osb_platform from, osb_platform to, const char *at, size_t len,
                             char *out, size_t room, size_t *count, size_t *index,
                             osb_fault *fault);
 
 /* Writes a path with another last name, which is joined to its parent, or to the path itself if that
- * doesn't end in a name: OSB_OK, OSB_NO_ROOM, OSB_BAD_PLATFORM. */
+ * doesn't end in a name: OSB_OK, OSB_NO_ROOM, OSB_NO_MEMORY, OSB_BAD_PLATFORM. */
 osb_status osb_path_with_file_name(osb_platform platform, const char *at, size_t len,
                                    const char *name, size_t name_len, char *out, size_t room,
                                    size_t *count);
 /* Writes a path with this extension of its last name, without a dot: in the place of its own, or after it. An
  * empty one takes the name's away, or adds nothing. A path that doesn't end in a name stays as it is. OSB_OK,
- * OSB_NO_ROOM, OSB_BAD_EXTENSION (it has a separator), OSB_BAD_PLATFORM. */
+ * OSB_NO_ROOM, OSB_NO_MEMORY, OSB_BAD_EXTENSION (it has a separator), OSB_BAD_PLATFORM. */
 osb_status osb_path_with_extension(osb_platform platform, const char *at, size_t len,
                                    const char *extension, size_t extension_len, char *out,
                                    size_t room, size_t *count);
