@@ -204,9 +204,9 @@ static const char *bytes(const char *at) {
     return at == NULL ? (const char *)nothing : at;
 }
 
-/* The memory of the exports that build something, which they free before they answer. They ask for no
- * alignment past 16, and a pointer to a block is never null: none of no bytes is asked of malloc, and
- * one that isn't there is where there are no units. */
+/* The memory of the exports that build something, which is malloc's. They free it before they answer,
+ * and ask for no alignment past 16. A block of no bytes has as many as its alignment, since malloc may
+ * answer null for none; and where there is no block, the pointer is another than null. */
 INLINED struct core_block block_at(void *at) {
     return (struct core_block){at != NULL, at == NULL ? no_room : at};
 }

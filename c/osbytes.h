@@ -67,7 +67,7 @@ enum {
     OSB_HAS_QUOTE = 9,     /* the program's name has a quotation mark, which no command line can have there */
     OSB_UNEXPECTED = 10,   /* an option has a value that nothing took */
     OSB_NO_MEMORY = 11,    /* there is no memory for what is built */
-    OSB_BAD_PATH = 12,     /* a path leaves its base, or has a component that the platform can't have */
+    OSB_BAD_PATH = 12,     /* a path isn't below its base, or none of the other platform */
     /* from 16 on: an argument is refused, and nothing was written but maybe into a buffer */
     OSB_BAD_PLATFORM = 16, /* there is no such platform */
     OSB_BAD_PATTERN = 17,  /* the pattern or the escape isn't UTF-8, or the pattern is empty where

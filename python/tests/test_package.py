@@ -189,17 +189,12 @@ class BesidePython(unittest.TestCase):
             self.assertEqual(osbytes.path_convert(windows, UNIX, WINDOWS).decode(), path)
 
     def test_refused_paths(self) -> None:
-        for path, reason in (("C:a", JoinReason.PREFIX), ("/a", JoinReason.ROOT), ("a/../..", JoinReason.LEAVES)):
-            with self.assertRaises(JoinError) as refused:
-                osbytes.path_join_checked("b", path, WINDOWS)
-            self.assertEqual(refused.exception.reason, reason)
-        for base, path, reason in (("b", "aa:b", JoinReason.STREAM), ("b", "nul.txt", JoinReason.RESERVED)):
+        refusals = [("b", "C:a", JoinReason.PREFIX), ("b", "/a", JoinReason.ROOT), ("b", "a/../..", JoinReason.LEAVES)]
+        refusals += [("b", "aa:b", JoinReason.STREAM), ("b", "nul.txt", JoinReason.RESERVED), ("\\\\?\\C:", "a", JoinReason.BASE)]
+        for base, path, reason in refusals:
             with self.assertRaises(JoinError) as refused:
                 osbytes.path_join_checked(base, path, WINDOWS)
             self.assertEqual(refused.exception.reason, reason)
-        with self.assertRaises(JoinError) as refused:
-            osbytes.path_join_checked("\\\\?\\C:", "a", WINDOWS)
-        self.assertEqual(refused.exception.reason, JoinReason.BASE)
         self.assertEqual(osbytes.path_join_checked("b", "nul.txt"), b"b/nul.txt")
         with self.assertRaises(ConvertError) as unlike:
             osbytes.path_convert("/a/b\\c", WINDOWS)
