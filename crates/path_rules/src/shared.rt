@@ -39,7 +39,7 @@ fn shared_len(a: &[u8], b: &[u8]) -> usize
 {
     let end = a.len().min(b.len());
     if end >= 64 {
-        shared_by::<64>(a, b, alike_blocks(a, b, end), end)
+        shared_by_blocks(a, b, end)
     } else if end >= 16 {
         shared_by::<16>(a, b, 0, end)
     } else if end >= 8 {
@@ -49,15 +49,34 @@ fn shared_len(a: &[u8], b: &[u8]) -> usize
     }
 }
 
-/// The same of so many bytes, in whole blocks.
+/// The same, the first 64 bytes by themselves, so that slices that soon differ cost no more, then by
+/// blocks.
 #[inline(always)]
-fn alike_blocks(a: &[u8], b: &[u8], end: usize) -> usize
+fn shared_by_blocks(a: &[u8], b: &[u8], end: usize) -> usize
+    requires room { 64 ≤ end }
     requires first { end ≤ length a.now }
     requires second { end ≤ length b.now }
     ensures within { result ≤ end }
     ensures same { AreAlikeBelow a.now b.now result }
 {
-    let mut at = 0;
+    let len = alike_len::<64>(a, b, 0);
+    if len < 64 {
+        return len;
+    }
+    shared_by::<64>(a, b, alike_blocks(a, b, 64, end), end)
+}
+
+/// An index up to which whole blocks are alike, from one on before which all bytes are.
+#[inline(always)]
+fn alike_blocks(a: &[u8], b: &[u8], from: usize, end: usize) -> usize
+    requires inside { from ≤ end }
+    requires before { AreAlikeBelow a.now b.now from }
+    requires first { end ≤ length a.now }
+    requires second { end ≤ length b.now }
+    ensures within { result ≤ end }
+    ensures same { AreAlikeBelow a.now b.now result }
+{
+    let mut at = from;
     while end - at >= BLOCK && are_alike(a, b, at) {
         at += BLOCK;
     }
