@@ -65,6 +65,8 @@ module _ (run : ℕ) (text : List ℕ) where
           shorter = omega arith;
         }))
 
+pub ruleset quote_steps = (step_escaped, step_opens, step_closes, step_doubled)
+
 -- ---- a part
 
 part_literal : (inside : Bool) (u : ℕ) → IsInPart inside u → u ≢ backslash → IsLiteral inside u
@@ -150,6 +152,8 @@ stop_blank u h n = elim (cases_eq u 0x20) [
 pub bare_end : (text : List ℕ) (found : Option ℕ) → IsFirstByte is_stop text found → IsPartEnd false text found
 bare_end text None h = nowhere is_stop (IsInPart false) stop_other text h
 bare_end text (Some at) h = part_to false is_stop text at stop_other (λ u us is n. stop_blank u is n) h
+
+pub ruleset part_ends = (quoted_end, bare_end)
 
 pub whole_part : (inside : Bool) (text : List ℕ) → AllByRecursion (IsInPart inside) text → IsPartCut inside text text []
 whole_part inside text h = record { joined = sym (append-nil text); is_part = h; end = λ _. tt }

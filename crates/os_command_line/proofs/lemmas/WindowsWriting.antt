@@ -173,6 +173,8 @@ itself (u ∷ us) h = ap (λ m. if m then backslash ∷ u ∷ escaped false us e
 pub plain_text : (argument : List ℕ) → IsPlain argument → argument_text argument ≡ argument
 plain_text argument p = text_bare argument p.some p.no_blank ∙ itself argument p.no_quote
 
+pub ruleset written_texts = (plain_text, text_is)
+
 -- ---- as it is written
 
 pub marked_new : (old one two three new : List ℕ) (run : ℕ) (argument : List ℕ) → one ≡ old ++ quote ∷ [] → IsWritten true one two run argument → three ≡ two ++ backslashes run → new ≡ three ++ quote ∷ [] → new ≡ old ++ in_marks argument

@@ -44,7 +44,7 @@ fn cut_part(inside: bool, text: &[u8]) -> (&[u8], &[u8])
 }
 
 /// Where those bytes end; `None` where they are the whole text.
-#[tactic(auto, using(crate::proofs::lemmas::WindowsScan::quoted_end, crate::proofs::lemmas::WindowsScan::bare_end))]
+#[tactic(auto, using(crate::proofs::lemmas::WindowsScan::part_ends))]
 #[inline(always)]
 fn part_end(inside: bool, text: &[u8]) -> Option<usize>
     ensures { IsPartEnd inside text.now result }
@@ -75,7 +75,7 @@ pub(crate) fn after_argument(text: &[u8]) -> (&[u8], bool)
 
 /// Reads a quotation mark after so many backslashes, or two marks within a quoted part: whether it is
 /// inside quotation marks then, and what comes after.
-#[tactic(auto, using(crate::proofs::lemmas::WindowsScan::step_escaped, crate::proofs::lemmas::WindowsScan::step_opens, crate::proofs::lemmas::WindowsScan::step_closes, crate::proofs::lemmas::WindowsScan::step_doubled))]
+#[tactic(auto, using(crate::proofs::lemmas::WindowsScan::quote_steps))]
 #[inline(always)]
 fn after_quote(inside: bool, run: usize, after: &[u8]) -> (bool, &[u8])
     ensures { IsQuoteStep inside run (0x22 ∷ after.now) result.0 result.1.now }
