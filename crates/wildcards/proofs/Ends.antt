@@ -2,6 +2,7 @@
 use Rattle.std.proofs.Common.{◌≡◌, ℕ, Bool, true, false, List, [], ◌∷◌, ◌++◌, refl, ap, ◌∙◌, subst}
 use Rattle.std.proofs.lemmas.List.Splits.{slice_split-cons_yes, slice_split-cons_no}
 use Rattle.std.specs.List.{onto_first}
+use Rattle.std.proofs.lemmas.List.Elements.{All-from_recursion}
 use Rattle.wildcards.specs.declared.options.Options.{Options}
 use Rattle.wildcards.specs.declared.part.Part.{Part}
 use Rattle.wildcards.specs.declared.piece.Piece.{Piece}
@@ -13,7 +14,7 @@ use Rattle.wildcards.specs.Match.{Fits, TakesLetter, TakesComponent, FitsCompone
 use Rattle.wildcards.specs.PathSteps.{FirstDiffers}
 use Rattle.wildcards.specs.Wild.{Wild}
 use Rattle.wildcards.proofs.Fitting.{by_letters}
-use Rattle.wildcards.proofs.Parts.{split_append, some_component}
+use Rattle.wildcards.proofs.Parts.{split_append, some_component, last_ends}
 use Rattle.wildcards.proofs.Wilds.{no_place, one_place, none_last, last_one}
 
 module _ (formed : List ℕ → Type 0) (letters : List ℕ → List ℕ) {A : Type 0} (o : Options) (part : Part A) (path : List ℕ) (h : BeginsOtherwise part.pieces.items (letters path)) where
@@ -44,25 +45,6 @@ module _ (formed : List ℕ → Type 0) (letters : List ℕ → List ℕ) {A : T
       }
       cases false e = onto e (components s h.rest) refl
 
--- the last component ends with the letter
-record LastEnds (s : Separators) (letters : List ℕ) (letter : ℕ) : Type 0 where
-  before : List (List ℕ)
-  start : List ℕ
-  parts : components s letters ≡ before ++ (start ++ letter ∷ []) ∷ []
-
-module _ (s : Separators) (letter : ℕ) (no : separates s letter ≡ false) where
-  last_ends : (front : List ℕ) → LastEnds s (front ++ letter ∷ []) letter
-  last_ends [] = record { before = []; start = []; parts = slice_split-cons_no (separates s) letter [] no }
-  last_ends (x ∷ front) = cases (separates s x) refl (last_ends front)
-    where
-      onto : separates s x ≡ false → (cs : List (List ℕ)) (start : List ℕ) → components s (front ++ letter ∷ []) ≡ cs ++ (start ++ letter ∷ []) ∷ [] → LastEnds s (x ∷ (front ++ letter ∷ [])) letter
-      onto e [] start f = record { before = []; start = x ∷ start; parts = slice_split-cons_no (separates s) x (front ++ letter ∷ []) e ∙ ap (onto_first x) f }
-      onto e (c ∷ cs) start f = record { before = (x ∷ c) ∷ cs; start = start; parts = slice_split-cons_no (separates s) x (front ++ letter ∷ []) e ∙ ap (onto_first x) f }
-
-      cases : (v : Bool) → separates s x ≡ v → LastEnds s (front ++ letter ∷ []) letter → LastEnds s (x ∷ (front ++ letter ∷ [])) letter
-      cases true e rest = record { before = [] ∷ rest.before; start = rest.start; parts = slice_split-cons_yes (separates s) x (front ++ letter ∷ []) e ∙ ap (λ z. [] ∷ z) rest.parts }
-      cases false e rest = onto e rest.before rest.start rest.parts
-
 module _ {A : Type 0} (pattern before : List (Piece (Part A))) (part : Part A) (e : pattern ≡ before ++ One part ∷ []) (letters : List ℕ) (h : EndsOtherwise part.pieces.items letters) where
   module _ (o : Options) (m : Matches o pattern letters) where
     abbrev own_s : Separators
@@ -76,7 +58,7 @@ module _ {A : Type 0} (pattern before : List (Piece (Part A))) (part : Part A) (
 
     not_that : separates own_s h.letter ≡ false → ⊥
     not_that t =
-        let last = last_ends own_s h.letter t h.start in
+        let last = last_ends own_s (h.letter ∷ []) (All-from_recursion (λ b. separates own_s b ≡ false) (h.letter ∷ []) (t, tt)) h.start in
         h.differs (last_one TakesLetter Fits part.pieces.items h.pieces h.item h.pieces_are (last.start ++ h.letter ∷ []) last.start h.letter refl (last_fits last.before (last.start ++ h.letter ∷ []) (ap (components own_s) h.letters_are ∙ last.parts))).0
 
     pub never_ends : ⊥

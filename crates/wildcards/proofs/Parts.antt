@@ -56,3 +56,22 @@ module _ (o : Separators) where
   last_of_cut s front back c h =
       ap (components o) c.joined ∙ split_append (separates o) front c.separator back c.parts
       ∙ ap (λ z. components o front ++ z) (one_component back h)
+
+-- the last component ends with the tail
+pub record LastEnds (s : Separators) (letters tail : List ℕ) : Type 0 where
+  pub before : List (List ℕ)
+  pub start : List ℕ
+  pub parts : components s letters ≡ before ++ (start ++ tail) ∷ []
+
+module _ (s : Separators) (tail : List ℕ) (plain : IsPlain s tail) where
+  pub last_ends : (front : List ℕ) → LastEnds s (front ++ tail) tail
+  last_ends [] = record { before = []; start = []; parts = one_component s tail plain }
+  last_ends (x ∷ front) = cases (separates s x) refl (last_ends front)
+    where
+      onto : separates s x ≡ false → (cs : List (List ℕ)) (start : List ℕ) → components s (front ++ tail) ≡ cs ++ (start ++ tail) ∷ [] → LastEnds s (x ∷ (front ++ tail)) tail
+      onto e [] start f = record { before = []; start = x ∷ start; parts = slice_split-cons_no (separates s) x (front ++ tail) e ∙ ap (onto_first x) f }
+      onto e (c ∷ cs) start f = record { before = (x ∷ c) ∷ cs; start = start; parts = slice_split-cons_no (separates s) x (front ++ tail) e ∙ ap (onto_first x) f }
+
+      cases : (v : Bool) → separates s x ≡ v → LastEnds s (front ++ tail) tail → LastEnds s (x ∷ (front ++ tail)) tail
+      cases true e rest = record { before = [] ∷ rest.before; start = rest.start; parts = slice_split-cons_yes (separates s) x (front ++ tail) e ∙ ap (λ z. [] ∷ z) rest.parts }
+      cases false e rest = onto e rest.before rest.start rest.parts

@@ -16,9 +16,10 @@ use Rattle.wildcards.specs.declared.pattern.Choice.{Choice}
 use Rattle.wildcards.specs.declared.piece.Piece.{Piece}
 use Rattle.wildcards.specs.declared.separators.Separators.{Separators}
 use Rattle.wildcards.specs.declared.set.Pattern.{Pattern}
-use Rattle.wildcards.specs.Candidates.{OneHas, IsQuery, end_lists, extension_list, in_bucket, suffix_lists, part_lists, part_lists_if, left_lists}
+use Rattle.wildcards.specs.Candidates.{OneHas, IsQuery, in_bucket, with_list, extension_lists, end_lists, suffix_lists, part_lists, left_lists}
 use Rattle.wildcards.specs.Components.{components, separates}
 use Rattle.wildcards.specs.Cuts.{IsPlain, IsCut}
+use Rattle.wildcards.specs.Extensions.{LacksDot, IsExtension, LacksExtension}
 use Rattle.wildcards.specs.Filters.{Asks, IsCovered, AreCovered, CoversAll}
 use Rattle.wildcards.specs.Keys.{HasPart, HasKey}
 use Rattle.wildcards.specs.Match.{Matches}
@@ -26,7 +27,7 @@ use Rattle.wildcards.specs.Reading.{LetterLaws}
 use Rattle.wildcards.specs.Sets.{Has, MatchesChoice, IsHit}
 use Rattle.wildcards.specs.Tables.{bucket}
 use Rattle.wildcards.proofs.Ascending.{has_or_not}
-use Rattle.wildcards.proofs.Extensions.{its_extension}
+use Rattle.wildcards.proofs.Extensions.{has_dot, one_extension}
 use Rattle.wildcards.proofs.Parts.{one_component, first_component}
 use Rattle.wildcards.proofs.Readings.{whole, first_of, cut_letters}
 
@@ -145,62 +146,91 @@ module _ {A : Type 0} (q : Query A) (i : ℕ) where
       go [] = inl h
       go (p ∷ ps) = inr (go ps)
 
-  end_in_parts : (asked : Bool) → OneHas (end_lists q) i → OneHas (part_lists_if q asked) i
-  end_in_parts false h = h
-  end_in_parts true h = one_before (map (in_bucket q) (components q.separators q.path.now)) ([] ∷ end_lists q) i (inr h)
+  of_extension : (extension : Option (Bor (List ℕ))) (lists : List (List ℕ)) → MatchOption extension ⊥ (λ text. Has (in_bucket q text.now) i) → OneHas (extension_lists q extension lists) i
+  of_extension None lists h = absurd h
+  of_extension (Some text) lists h = inl h
 
-  of_extension : (extension : Option (Bor (List ℕ))) → MatchOption extension ⊥ (λ after. Has (in_bucket q after.now) i) → Has (extension_list q extension) i
-  of_extension None h = absurd h
-  of_extension (Some after) h = h
+  after_extension : (extension : Option (Bor (List ℕ))) (lists : List (List ℕ)) → OneHas lists i → OneHas (extension_lists q extension lists) i
+  after_extension None lists h = h
+  after_extension (Some text) lists h = inr h
 
-  if_asked : (asked : Bool) (xs : List ℕ) → asked ≡ true → Has xs i → Has (if asked then xs else []) i
-  if_asked true xs e h = h
-  if_asked false xs e h = let never : false ≡ true = e in absurd (cc)
+  list_asked : (asked : Bool) (list : List ℕ) (lists : List (List ℕ)) → asked ≡ true → Has list i → OneHas (with_list asked list lists) i
+  list_asked true list lists e h = inl h
+  list_asked false list lists e h = let never : false ≡ true = e in absurd (cc)
 
-  parts_asked : (asked : Bool) → asked ≡ true → OneHas (part_lists q (components q.separators q.path.now)) i → OneHas (part_lists_if q asked) i
+  after_list : (asked : Bool) (list : List ℕ) (lists : List (List ℕ)) → OneHas lists i → OneHas (with_list asked list lists) i
+  after_list true list lists h = inr h
+  after_list false list lists h = h
+
+  abbrev all_parts : List (List ℕ)
+  all_parts = part_lists q (components q.separators q.path.now)
+
+  parts_asked : (asked : Bool) → asked ≡ true → OneHas all_parts i → OneHas (if asked then all_parts else end_lists q) i
   parts_asked true e h = h
   parts_asked false e h = let never : false ≡ true = e in absurd (cc)
+
+  after_parts : (asked : Bool) → OneHas (end_lists q) i → OneHas (if asked then all_parts else end_lists q) i
+  after_parts true h = one_before (map (in_bucket q) (components q.separators q.path.now)) (end_lists q) i h
+  after_parts false h = h
+
+  abbrev of_parts : List (List ℕ)
+  of_parts = if q.filter.now.components then all_parts else end_lists q
+
+  of_names : OneHas of_parts i → OneHas (left_lists q stage.Others) i
+  of_names h = inr (after_list q.filter.now.paths (in_bucket q q.path.now) (with_list q.filter.now.names (in_bucket q q.name.now) of_parts) (after_list q.filter.now.names (in_bucket q q.name.now) of_parts h))
 
 module _ {A : Type 0} (formed : List ℕ → Type 0) (letters : List ℕ → List ℕ) (laws : LetterLaws formed letters) (o : Options) (q : Query A) (filter : Filter A) (path : List ℕ) (is : IsQuery q filter o.separators path) (f : formed path) (i : ℕ) where
   reading : AreRead formed letters laws o.separators path
   reading = read_parts formed letters laws o.separators (length path + 1) path (omega arith) f
 
-  name_read : (before : List (List ℕ)) (last : List ℕ) → components o.separators (letters path) ≡ before ++ last ∷ [] → formed q.name.now × (letters q.name.now ≡ last)
-  name_read before last e =
-      let ends = is.name_is in
-      let each = subst (AllByRecursion formed) ends.1 reading.formed_each in
-      last_read formed letters laws o.separators ends.0 before q.name.now last each (ap (map letters) (sym ends.1) ∙ sym reading.are ∙ e)
+  name_read : (front : List (List ℕ)) (name : List ℕ) → components o.separators path ≡ front ++ name ∷ [] → (before : List (List ℕ)) (last : List ℕ) → components o.separators (letters path) ≡ before ++ last ∷ [] → formed name × (letters name ≡ last)
+  name_read front name parts before last e =
+      let each = subst (AllByRecursion formed) parts reading.formed_each in
+      last_read formed letters laws o.separators front before name last each (ap (map letters) (sym parts) ∙ sym reading.are ∙ e)
 
   -- the list of the key is among them
   of_key : (k : Kind) (key : List ℕ) → AllByRecursion (λ b. b < 0x80) key → Asks filter k (length key) → HasKey o k (letters path) key → Has (bucket filter.buckets.items key) i → OneHas (left_lists q stage.Others) i
-  of_key k key ascii asked has listed = by_kind k (subst (λ z. Asks z k (length key)) (sym is.filter_is) asked) has
+  of_key k key ascii asked has listed = by_kind k asked (subst (λ z. Asks z k (length key)) (sym is.filter_is) asked) has
     where
       here : Has (in_bucket q key) i
       here = subst (λ z. Has (bucket z.buckets.items key) i) (sym is.filter_is) listed
 
-      by_kind : (k : Kind) → Asks q.filter.now k (length key) → HasKey o k (letters path) key → OneHas (left_lists q stage.Others) i
-      by_kind kind.Path a e =
+      -- a name that ends so has this suffix
+      suffix : (front : List (List ℕ)) (name : List ℕ) → components o.separators path ≡ front ++ name ∷ [] → (start end : List ℕ) → AllByRecursion (λ b. b < 0x80) end → (before : List (List ℕ)) → components o.separators (letters path) ≡ before ++ (start ++ end) ∷ [] → (first : List ℕ) × (name ≡ first ++ end)
+      suffix front name parts start end low before e =
+          let n = name_read front name parts before (start ++ end) e in
+          ends_itself formed letters laws o.separators name start end n.0 low n.1
+
+      its_extension : (start : List ℕ) (before : List (List ℕ)) → components o.separators (letters path) ≡ before ++ (start ++ 0x2E ∷ key) ∷ [] → LacksDot key → filter.extensions ≡ true → (extension : Option (Bor (List ℕ))) → MatchOption extension (filter.extensions ≡ true → LacksExtension (components o.separators path)) (λ text. IsExtension (components o.separators path) text.now) → MatchOption extension ⊥ (λ text. Has (in_bucket q text.now) i)
+      its_extension start before e lacks a None m =
+          let low : 0x2E < 0x80 = omega arith in
+          let none = m a in
+          let ends = suffix none.before none.name none.joined start (0x2E ∷ key) (low, ascii) before e in
+          has_dot ends.0 key (subst LacksDot ends.1 none.lacks)
+      its_extension start before e lacks a (Some text) m =
+          let low : 0x2E < 0x80 = omega arith in
+          let ends = suffix m.before (m.start ++ 0x2E ∷ text.now) m.joined start (0x2E ∷ key) (low, ascii) before e in
+          subst (λ z. Has (in_bucket q z) i) (sym (one_extension m.start ends.0 text.now key ends.1 m.lacks lacks)) here
+
+      by_kind : (k : Kind) → Asks filter k (length key) → Asks q.filter.now k (length key) → HasKey o k (letters path) key → OneHas (left_lists q stage.Others) i
+      by_kind kind.Path asks a e =
           let same : q.path.now ≡ key = is.path_is ∙ itself formed letters laws o.separators path key f ascii e in
-          inr (inl (if_asked q i q.filter.now.paths (in_bucket q q.path.now) a (subst (λ z. Has (in_bucket q z) i) (sym same) here)))
-      by_kind kind.Name a e =
-          let n = name_read e.0 key e.1 in
+          inr (list_asked q i q.filter.now.paths (in_bucket q q.path.now) (with_list q.filter.now.names (in_bucket q q.name.now) (of_parts q i)) a (subst (λ z. Has (in_bucket q z) i) (sym same) here))
+      by_kind kind.Name asks a e =
+          let last = is.name_is (inl asks) in
+          let n = name_read last.0 q.name.now last.1 e.0 key e.1 in
           let same : q.name.now ≡ key = itself formed letters laws o.separators q.name.now key n.0 ascii n.1 in
-          inr (inr (inl (if_asked q i q.filter.now.names (in_bucket q q.name.now) a (subst (λ z. Has (in_bucket q z) i) (sym same) here))))
-      by_kind kind.Component a e =
+          inr (after_list q i q.filter.now.paths (in_bucket q q.path.now) (with_list q.filter.now.names (in_bucket q q.name.now) (of_parts q i)) (list_asked q i q.filter.now.names (in_bucket q q.name.now) (of_parts q i) a (subst (λ z. Has (in_bucket q z) i) (sym same) here)))
+      by_kind kind.Component asks a e =
           let h = part_itself formed letters laws o.separators (components o.separators path) e.0 e.1.0 key reading.formed_each ascii (sym reading.are ∙ e.1.1) in
           let parts : components q.separators q.path.now ≡ h.0 ++ key ∷ h.1.0 = ap (λ z. components z q.path.now) is.separators_are ∙ ap (components o.separators) is.path_is ∙ h.1.1 in
-          inr (inr (inr (parts_asked q i q.filter.now.components a (of_part q i (components q.separators q.path.now) h.0 h.1.0 key parts here))))
-      by_kind kind.Extension a e =
-          let n = name_read e.1.1.0 (e.1.0 ++ 0x2E ∷ key) e.1.1.1 in
-          let low : 0x2E < 0x80 = omega arith in
-          let ends = ends_itself formed letters laws o.separators q.name.now e.1.0 (0x2E ∷ key) n.0 (low, ascii) n.1 in
-          let known = is.extension_is (subst (λ z. z.extensions ≡ true) is.filter_is a) in
-          let found = its_extension (λ z. Has (in_bucket q z) i) q.name.now ends.0 key q.extension known ends.1 e.0 here in
-          inr (inr (inr (end_in_parts q i q.filter.now.components (inl (of_extension q i q.extension found)))))
-      by_kind kind.Suffix a e =
-          let n = name_read e.1.0 (e.0 ++ key) e.1.1 in
-          let ends = ends_itself formed letters laws o.separators q.name.now e.0 key n.0 ascii n.1 in
-          inr (inr (inr (end_in_parts q i q.filter.now.components (inr (of_suffix q i q.filter.now.lengths.items (length key) ends.0 key ends.1 refl a here)))))
+          of_names q i (parts_asked q i q.filter.now.components a (of_part q i (components q.separators q.path.now) h.0 h.1.0 key parts here))
+      by_kind kind.Extension asks a e =
+          of_names q i (after_parts q i q.filter.now.components (of_extension q i q.extension (suffix_lists q q.filter.now.lengths.items) (its_extension e.1.0 e.1.1.0 e.1.1.1 e.0 asks q.extension is.extension_is)))
+      by_kind kind.Suffix asks a e =
+          let last = is.name_is (inr (length key, asks)) in
+          let ends = suffix last.0 q.name.now last.1 e.0 key ascii e.1.0 e.1.1 in
+          of_names q i (after_parts q i q.filter.now.components (after_extension q i q.extension (suffix_lists q q.filter.now.lengths.items) (of_suffix q i q.filter.now.lengths.items (length key) ends.0 key ends.1 refl a here)))
 
   of_choice : (pieces : List (Piece (Part A))) → IsCovered o filter i pieces → Matches o pieces (letters path) → OneHas (left_lists q stage.Others) i
   of_choice pieces (inl h) m = inl (subst (λ z. Has z.others.items i) (sym is.filter_is) h)

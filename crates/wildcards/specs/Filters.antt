@@ -22,6 +22,10 @@ module _ {A : Type 0} where
   Asks f kind.Extension n = f.extensions ≡ true
   Asks f kind.Suffix n = Has f.lengths.items n
 
+  -- the last component is asked for, or suffixes of it
+  abbrev pub AsksName : Filter A → Type 0
+  AsksName f = (f.names ≡ true) ⊎ ((n : ℕ) × Has f.lengths.items n)
+
   -- the index is in the bucket of a key that the pieces need
   pub record IsListed (o : Options) (f : Filter A) (i : ℕ) (pieces : List (Piece (Part A))) : Type 0 where
     pub kind : Kind

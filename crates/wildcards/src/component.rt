@@ -3,7 +3,7 @@ ghost use Rattle.std.specs.Prelude.{◌≡◌, ◌∷◌, ◌<◌, ◌++◌, [],
 ghost use Rattle.memchr.specs.Find.{IsFirstByte, IsLastByte};
 ghost use Rattle.wildcards.specs.Components.{components, separates};
 ghost use Rattle.wildcards.specs.declared.separators.Separators.{Separators};
-ghost use Rattle.wildcards.specs.Extensions.{LacksDot, IsAfterDot};
+ghost use Rattle.wildcards.specs.Extensions.{LacksExtension, IsExtension};
 ghost use Rattle.wildcards.specs.Cuts.{IsPlain, IsCut, BeginsWith, BeginsOther, left_components, left_size, IsLeftFormed};
 
 use crate::letters::Letters;
@@ -93,17 +93,25 @@ fn cut_last(separators: Separators, path: &[u8]) -> Option<(&[u8], &[u8])>
     Some((before, last))
 }
 
-/// What comes after the last dot.
+/// What comes after the last dot of the last component; `None` where that has none. It is sought byte by
+/// byte from the end, near which it mostly is.
 #[inline(always)]
-pub(crate) fn after_last_dot(name: &[u8]) -> Option<&[u8]>
-    ensures { MatchOption result (LacksDot name.now) (λ after. IsAfterDot name.now after.now) }
+pub(crate) fn extension(separators: Separators, path: &[u8]) -> Option<&[u8]>
+    ensures { MatchOption result (LacksExtension (components separators path.entry.now))
+        (λ text. IsExtension (components separators path.entry.now) text.now) }
 {
-    let Some(at) = memrchr(b'.', name) else {
-        return None;
-    };
-    let (_, rest) = name.split_at(at);
-    let (_, after) = rest.split_at(1);
-    Some(after)
+    let mut left = path;
+    while let Some((last, before)) = left.split_last() {
+        if *last == b'.' {
+            let (_, after) = path.split_at(left.len());
+            return Some(after);
+        }
+        if separators.contains(u32::from(*last)) {
+            return None;
+        }
+        left = before;
+    }
+    None
 }
 
 /// The first component of what is left of a path, and what is left then.

@@ -1,8 +1,8 @@
 //! Which patterns of a set a path may match, by the keys that they need.
-ghost use Rattle.std.specs.Prelude.{◌≡◌, ◌⊎◌, length, OnOk, IfOk};
+ghost use Rattle.std.specs.Prelude.{◌≡◌, ◌⊎◌, true, length, OnOk, IfOk};
 ghost use Rattle.wildcards.specs.Tables.{slot_of, bucket};
 ghost use Rattle.wildcards.specs.Sets.{Has};
-ghost use Rattle.wildcards.specs.Filters.{Asks, Grows, IsCovered};
+ghost use Rattle.wildcards.specs.Filters.{Asks, AsksName, Grows, IsCovered};
 
 use crate::digest::digest;
 use crate::indices::has;
@@ -72,6 +72,17 @@ impl<A: Allocator> Filter<A> {
             return buckets[slot].as_slice();
         }
         &[]
+    }
+
+    /// Whether the last component is asked for: as a key, or for suffixes.
+    #[inline(always)]
+    pub fn asks_name(&self) -> bool
+        ensures { AsksName self.now → result ≡ true }
+    {
+        if self.names {
+            return true;
+        }
+        !self.lengths.is_empty()
     }
 
     /// Notes that there are keys of this kind and length.

@@ -1,14 +1,15 @@
 //! What a path needs to be matched by a pattern.
-ghost use Rattle.std.specs.Prelude.{◌≡◌, ◌≤◌, ◌++◌, length, IfOk, IfSome, OnOk};
+ghost use Rattle.std.specs.Prelude.{◌≡◌, ◌≤◌, ◌++◌, length, IsTrue, IfOk, IfSome, OnOk};
+ghost use Rattle.wildcards.specs.Extensions.{LacksDot};
 ghost use Rattle.wildcards.specs.Keys.{IsNeeded, IsOfEnd, AreJoinedTexts, joins_by_slash, slash_before};
 ghost use Rattle.wildcards.specs.declared.key.Kind.TheVariants.{Suffix};
 
-use crate::component::after_last_dot;
 use crate::literal::literal_text;
 use crate::options::Options;
 use crate::part::Part;
 use crate::piece::{Item, Piece};
 use crate::separators::Separators;
+use memchr::memchr;
 use std::alloc::{AllocError, Allocator};
 
 /// What a key is of a path.
@@ -148,6 +149,13 @@ fn literal_end<A: Allocator + Copy>(
     Ok(Some(text))
 }
 
+/// Whether no dot is in a text.
+fn lacks_dot(text: &[u8]) -> bool
+    ensures { IsTrue result → LacksDot text.now }
+{
+    memchr(b'.', text).is_none()
+}
+
 /// The key of each last component that ends with a text: its extension, if the text is a dot and that, and
 /// else a suffix of four letters at most, so that there are suffixes of three lengths, each of which is
 /// asked for.
@@ -155,7 +163,7 @@ fn key_of_end<A: Allocator>(alloc: A, text: &[u8]) -> Result<Option<Key<A>>, All
     ensures { IfOk result (λ key. IfSome key (λ key. IsOfEnd text.now key.kind key.text.items)) }
 {
     if let Some((b'.', extension)) = text.split_first() {
-        if after_last_dot(extension).is_none() {
+        if lacks_dot(extension) {
             let own = Vec::from_slice(alloc, extension)?;
             return Ok(Some(Key {
                 kind: Kind::Extension,
