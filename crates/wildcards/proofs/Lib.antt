@@ -12,6 +12,7 @@ pub mod Ascending
 pub mod Covers
 pub mod Extensions
 pub mod Queries
+pub mod AnyWith
 pub mod Adding
 pub mod Orders
 pub mod Beginnings

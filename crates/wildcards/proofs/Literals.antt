@@ -59,6 +59,10 @@ module _ (A : Type 0) where
   pub only_text : (pieces : List (Piece (Item A))) (bytes letters : List ℕ) → spells pieces bytes ≡ true → Wild TakesLetter Fits pieces letters → letters ≡ bytes
   only_text pieces bytes letters e m = text_only bytes letters (subst (λ z. Wild TakesLetter Fits z letters) (spelled pieces bytes e).are m)
 
+  -- pieces that are a text match it
+  pub matches_itself : (pieces : List (Piece (Item A))) (bytes : List ℕ) → spells pieces bytes ≡ true → Wild TakesLetter Fits pieces bytes
+  matches_itself pieces bytes e = subst (λ z. Wild TakesLetter Fits z bytes) (sym (spelled pieces bytes e).are) (text_itself bytes)
+
   pub spelled_ascii : (pieces : List (Piece (Item A))) (bytes : List ℕ) → spells pieces bytes ≡ true → AllByRecursion (λ b. b < 0x80) bytes
   spelled_ascii pieces bytes e = (spelled pieces bytes e).ascii
 

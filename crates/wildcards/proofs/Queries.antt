@@ -49,11 +49,11 @@ first_cut o (b ∷ s) = by_first (separates o b) refl (first_cut o s)
 
 module _ (formed : List ℕ → Type 0) (letters : List ℕ → List ℕ) (laws : LetterLaws formed letters) (o : Separators) where
   -- the components of the letters are the letters of the components, each of which is read
-  record AreRead (s : List ℕ) : Type 0 where
-    are : components o (letters s) ≡ map letters (components o s)
-    formed_each : AllByRecursion formed (components o s)
+  pub record AreRead (s : List ℕ) : Type 0 where
+    pub are : components o (letters s) ≡ map letters (components o s)
+    pub formed_each : AllByRecursion formed (components o s)
 
-  read_parts : (n : ℕ) (s : List ℕ) → length s < n → formed s → AreRead s
+  pub read_parts : (n : ℕ) (s : List ℕ) → length s < n → formed s → AreRead s
   read_parts zero s l f = absurd (omega (arith, l))
   read_parts (suc n) s l f = by_cut (read_parts n) (first_cut o s)
     where

@@ -15,5 +15,6 @@ pub mod Ascending
 pub mod Tables
 pub mod Extensions
 pub mod Keys
+pub mod Enough
 pub mod Filters
 pub mod Candidates

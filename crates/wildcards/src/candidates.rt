@@ -36,7 +36,7 @@ pub(crate) struct Query<'s, 'p, A: Allocator> {
     // the last component, if there are patterns that need it or a suffix of it
     name: &'p [u8],
     // its extension, if there are patterns that need one
-    extension: Option<&'p [u8]>,
+    pub extension: Option<&'p [u8]>,
 }
 
 /// The last component, if that is asked for.

@@ -6,7 +6,7 @@ ghost use Rattle.wildcards.specs.Filters.{Asks, AsksName, Grows, IsCovered};
 
 use crate::digest::digest;
 use crate::indices::has;
-use crate::key::{Kind, key_of};
+use crate::key::{Key, Kind, key_of};
 use crate::options::Options;
 use crate::part::Part;
 use crate::piece::Piece;
@@ -36,6 +36,14 @@ fn slot<A: Allocator>(buckets: &[Vec<usize, A>], key: &[u8]) -> usize
         return 0;
     }
     digest(key) as usize & (buckets.len() - 1)
+}
+
+/// The text of a key, if that is an extension.
+fn if_extension<A: Allocator>(key: Key<A>) -> Option<Vec<u8, A>> {
+    match key.kind {
+        Kind::Extension => Some(key.text),
+        _ => None,
+    }
 }
 
 impl<A: Allocator> Filter<A> {
@@ -119,14 +127,15 @@ impl<A: Allocator> Filter<A> {
         Ok(())
     }
 
-    /// Adds the index of a pattern, one of whose choices has these pieces.
+    /// Adds the index of a pattern, one of whose choices has these pieces; the extension by which they
+    /// are listed, if they are by one.
     pub fn add(
         &mut self,
         alloc: A,
         options: Options,
         pieces: &[Piece<Part<A>>],
         index: usize,
-    ) -> Result<(), AllocError>
+    ) -> Result<Option<Vec<u8, A>>, AllocError>
     where
         A: Copy,
         ensures covered { OnOk result (IsCovered options self.new index pieces.now) }
@@ -134,11 +143,11 @@ impl<A: Allocator> Filter<A> {
     {
         let Some(key) = key_of(alloc, options, pieces)? else {
             self.others.push(index)?;
-            return Ok(());
+            return Ok(None);
         };
         let text = key.text.as_slice();
         self.note(key.kind, text.len())?;
         self.list(text, index)?;
-        Ok(())
+        Ok(if_extension(key))
     }
 }

@@ -12,6 +12,7 @@ mod candidates;
 mod class;
 mod component;
 mod digest;
+mod enough;
 mod filter;
 mod hidden;
 mod indices;

@@ -11,14 +11,14 @@ loop-indices-init g c i hit =
 
 pub returns-then-any_hit : goal.returns-then-any_hit
 returns-then-any_hit g c =
-    (λ e. let h = c.any_hit.ensures.0 c.if-any_hit.true in (h.0, subst (λ z. IsHit c.args.self.now.options z (g.L.Letters.letters c.args.path.now) h.0) c.deref.ensures.value h.1.1), λ m. refl)
+    (λ e. let h = c.any_hit.ensures.0 c.if-any_hit.true in (h.0, h.1.1), λ m. refl)
 
 pub loop-indices-preserved : goal.loop-indices-preserved
 loop-indices-preserved g c i hit =
     let no : ¬ (false ≡ true) = λ e. cc in
     let path = g.L.Letters.letters c.args.path.now in
     not_first_list (IsHit c.args.self.now.options c.args.self.now.patterns.items path) _ _ _ c.in-Some.ensures
-    (λ h. no (sym c.if-any_hit.false ∙ c.any_hit.ensures.1 (h.0, (h.1.0, subst (λ z. IsHit c.args.self.now.options z path h.0) (sym c.deref.ensures.value) h.1.1))))
+    (λ h. no (sym c.if-any_hit.false ∙ c.any_hit.ensures.1 h))
     i hit (c.loop-indices.invariant i hit)
 
 pub returns : goal.returns

@@ -1,5 +1,3 @@
-use Rattle.std.proofs.Common.{subst}
-use Rattle.wildcards.specs.Filters.{AddsHits}
 use Rattle.wildcards.proofs.Adding.{none_found, list_found}
 use Rattle.wildcards.proofs.Queries.{of_hit}
 use Rattle.wildcards.proofs.pattern_set.PatternSet.matches.Goals as goal
@@ -12,4 +10,4 @@ loop-indices-init g c =
 pub loop-indices-preserved : goal.loop-indices-preserved
 loop-indices-preserved g c =
     list_found c.args.self.now.options c.args.self.now.patterns.items (g.L.Letters.letters c.args.path.now) _ _ c.in-Some.indices.now c.loop-indices.found.items c.add_hits.new.found.items c.in-Some.ensures c.loop-indices.invariant c.in_ok-add_hits.ensures.ascends
-    (subst (λ z. AddsHits c.args.self.now.options z (g.L.Letters.letters c.args.path.now) c.in-Some.indices.now c.loop-indices.found.items c.add_hits.new.found.items) c.deref.ensures.value c.in_ok-add_hits.ensures.has)
+    c.in_ok-add_hits.ensures.has

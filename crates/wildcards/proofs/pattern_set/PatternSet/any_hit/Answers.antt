@@ -1,7 +1,7 @@
 use Rattle.std.proofs.Common.{◌≡◌, ◌∙◌, inl, inr, true, false, refl, sym, subst}
 use Rattle.wildcards.specs.Sets.{Has, IsHit}
 use Rattle.wildcards.proofs.Adding.{not_first}
-use Rattle.wildcards.proofs.pattern_set.any_hit.Goals as goal
+use Rattle.wildcards.proofs.pattern_set.PatternSet.any_hit.Goals as goal
 
 pub returns-then-is_hit : goal.returns-then-is_hit
 returns-then-is_hit g c =
@@ -11,5 +11,5 @@ pub loop-index-preserved : goal.loop-index-preserved
 loop-index-preserved g c =
     let no : ¬ (false ≡ true) = λ e. cc in (
       λ i h. c.loop-index.invariant.0 i (subst (λ z. Has z i) (sym c.in-Some.ensures.cases.0) (inr h)),
-      λ i h hit. not_first (IsHit c.args.options c.args.patterns.now (g.L.Letters.letters c.args.path.now)) _ _ _ c.in-Some.ensures.cases.0 (λ hit. no (sym c.if-is_hit.false ∙ c.is_hit.ensures.1 hit)) i hit (c.loop-index.invariant.1 i h hit),
+      λ i h hit. not_first (IsHit c.args.self.now.options c.args.self.now.patterns.items (g.L.Letters.letters c.args.path.now)) _ _ _ c.in-Some.ensures.cases.0 (λ hit. no (sym c.if-is_hit.false ∙ c.is_hit.ensures.1 hit)) i hit (c.loop-index.invariant.1 i h hit),
     )
