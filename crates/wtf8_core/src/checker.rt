@@ -123,6 +123,7 @@ impl Checker {
     /// assert_eq!(rt; checker.feed(b"\xE2\x82"), Ok(()));
     /// assert_eq!(rt; checker.finish(), Err(EncodingError::End));
     /// ```
+    #[tactic(auto, using(crate::proofs::lemmas::table::Pieces::whole, crate::proofs::lemmas::table::Pieces::ends, crate::proofs::lemmas::table::Pieces::open_progress))]
     pub fn finish(self) -> Result<(), EncodingError>
         ensures { (fed : List ℕ) → Describes self fed
             → MatchResult result (λ _. IsWtf8 fed) (λ fault. HasFirstFault fed fault) }
@@ -149,6 +150,7 @@ impl Checker {
     ///     assert_eq!(rt; restored.feed(b"A"), Err(EncodingError::Byte(0x41)));
     /// }
     /// ```
+    #[tactic(auto, using(crate::proofs::lemmas::table::Entries::at_index))]
     pub fn save(&self) -> SavedChecker
         ensures saved { saved_progress result ≡ self.now }
         ensures state { result.state < 16 }
@@ -223,6 +225,7 @@ fn is_plain(state: State) -> bool
 }
 
 /// The state and the bits after one more byte, or its fault.
+#[tactic(auto, using(crate::proofs::lemmas::table::Pieces::read_on))]
 #[inline(always)]
 fn read_byte(state: State, bits: u32, byte: u8) -> Result<(State, u32), EncodingError>
     ensures { (fed : List ℕ) → IsInState state bits fed

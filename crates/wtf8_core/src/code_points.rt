@@ -57,6 +57,7 @@ impl<'a> CodePoints<'a> {
     /// assert_eq!(rt; items.next(), Some(Ok(0xDC00)));
     /// assert_eq!(rt; items.next(), None);
     /// ```
+    #[tactic(auto, using(crate::proofs::lemmas::reader::Sound::items_sound))]
     #[inline(always)]
     pub fn new(bytes: &'a [u8]) -> CodePoints<'a>
         ensures { AreItems bytes.now result }

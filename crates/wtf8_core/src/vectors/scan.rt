@@ -53,6 +53,7 @@ pub(crate) fn scan_from(bytes: &[u8], at: usize, encoding: Encoding) -> usize
 }
 
 /// How many of the 64 bytes from index `at` on keep to the pattern, up to the first that doesn't.
+#[tactic(auto, using(crate::proofs::lemmas::vectors::Windows::no_prefix, crate::proofs::lemmas::vectors::Windows::prefix_keeps, crate::proofs::lemmas::vectors::Windows::more_ascii))]
 #[inline(always)]
 fn first_len(bytes: &[u8], at: usize, encoding: Encoding) -> usize
     requires { at + 64 ≤ length bytes.now }
@@ -226,6 +227,7 @@ fn ends_closed(bytes: &[u8]) -> bool
 }
 
 /// Whether the first `at` bytes, if they are such a prefix of WTF-8, end with a high surrogate.
+#[tactic(auto, using(crate::proofs::lemmas::vectors::Windows::near_start, crate::proofs::lemmas::vectors::Windows::other_lead, crate::proofs::lemmas::vectors::Windows::by_second))]
 #[inline(always)]
 pub(crate) fn ends_with_high_surrogate(bytes: &[u8], at: usize) -> bool
     requires { at ≤ length bytes.now }
@@ -313,6 +315,7 @@ fn scan_tail(bytes: &[u8], at: usize, encoding: Encoding) -> usize
 
 /// The last index before `end` at which a code point begins, if the bytes keep to the pattern up to
 /// `end`.
+#[tactic(auto, using(crate::proofs::lemmas::vectors::Windows::no_prefix))]
 #[inline(always)]
 fn start_before(bytes: &[u8], end: usize) -> usize
     requires { end ≤ length bytes.now }

@@ -12,6 +12,7 @@ use std::simd::prelude::*;
 
 /// The length of a prefix of WTF-8 that is UTF-8, if no surrogate begins before index `from`. A
 /// surrogate or the end follows it within a block and three bytes.
+#[tactic(auto, using(crate::proofs::lemmas::texts::WithoutSurrogates::prefix_without))]
 pub(crate) fn text_from(bytes: &[u8], from: usize) -> usize
     requires formed { IsWtf8 bytes.now }
     requires within { from < length bytes.now }

@@ -5,6 +5,7 @@ ghost use Rattle.std.specs.Prelude.{◌≡◌, ◌+◌, ◌≤◌, ◌<◌, ℕ,
 ///
 /// Few bytes are copied by their two ends, which may overlap: vectors that read the copy at once wait
 /// for fewer stores than a call of `memcpy` makes.
+#[tactic(auto, using(crate::proofs::lemmas::vectors::Windows::all_copied))]
 #[inline(always)]
 pub fn put_in_zeros(bytes: &[u8], window: &mut [u8], from: usize)
     requires zeros { (i : ℕ) → slice_index window.old i ≡ 0 }

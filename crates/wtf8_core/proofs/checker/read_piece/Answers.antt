@@ -1,6 +1,5 @@
 use Rattle.wtf8_core.proofs.Common.{◌≡◌, [], ◌∷◌, ◌++◌, MatchResult, sym, ap, ◌∙◌, subst, append_assoc, IsInState, IsFaulty}
-use Rattle.wtf8_core.proofs.lemmas.table.Pieces.{extends}
-use Rattle.wtf8_core.proofs.lemmas.table.Entries.{is_plain-true}
+use Rattle.wtf8_core.proofs.lemmas.table.{Pieces.extends, Entries.is_plain-true}
 use Rattle.wtf8_core.proofs.checker.read_piece.Goals as goal
 
 pub loop-state-preserved : goal.loop-state-preserved

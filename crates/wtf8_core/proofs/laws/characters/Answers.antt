@@ -1,5 +1,4 @@
-use Rattle.wtf8_core.proofs.lemmas.characters.AtIndices.{character_fits}
-use Rattle.wtf8_core.proofs.lemmas.characters.Overlaps.{apart}
+use Rattle.wtf8_core.proofs.lemmas.characters.{AtIndices.character_fits, Overlaps.apart}
 use Rattle.wtf8_core.proofs.laws.characters.Goals as goal
 
 pub returns-clause-fits : goal.returns-clause-fits

@@ -1,5 +1,4 @@
-use Rattle.wtf8_core.proofs.lemmas.reader.Sound.{either}
-use Rattle.wtf8_core.proofs.lemmas.reader.Complete.{never_both}
+use Rattle.wtf8_core.proofs.lemmas.reader.{Sound.either, Complete.never_both}
 use Rattle.wtf8_core.proofs.laws.encoded_or_faulty.Goals as goal
 
 pub returns-clause-either : goal.returns-clause-either

@@ -2,8 +2,7 @@
 use Rattle.std.proofs.Common.{◌≡◌, ℕ, ◌+◌, ◌<◌, ◌≤◌, List, [], ◌∷◌, ◌++◌, length, take, drop, set, refl, sym, ap, ◌∙◌, arith}
 use borrow.Rule.Slice.PartMut.{put_mid}
 use Rattle.std.proofs.Math.Seq.{take-append-add}
-use Rattle.std.proofs.lemmas.List.{take_more_set, drop-set-lt, drop-drop, length-set, length-append, length-take-le, length-drop, take_all, drop_all, take-append-le}
-use Rattle.std.proofs.lemmas.Slice.{take-put_mid, drop-put_mid}
+use Rattle.std.proofs.lemmas.{List.take_more_set, List.drop-set-lt, List.drop-drop, List.length-set, List.length-append, List.length-take-le, List.length-drop, List.take_all, List.drop_all, List.take-append-le, Slice.take-put_mid, Slice.drop-put_mid}
 use Rattle.wtf8_core.specs.Truncated.{IsTruncated}
 
 pub none_yet : (old : List ℕ) → IsTruncated [] old old 0

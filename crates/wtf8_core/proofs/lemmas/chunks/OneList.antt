@@ -41,10 +41,6 @@ joined_size c cs = simp length-append (omega arith)
 size : (c : Chunk) → length (c.0 ++ c.1) ≡ length c.0 + length c.1
 size c = length-append c.0 c.1
 
--- chunks of one part and one text
-same_chunk : (c d : Chunk) → c.0 ≡ d.0 → c.1 ≡ d.1 → c ≡ d
-same_chunk c d p t = ap (λ x. (x, c.1)) p ∙ ap (λ x. (d.0, x)) t
-
 module _ (s : List ℕ) where
   -- the byte after a part is covered, unless nothing follows
   part_not_longer : (i : ℕ) (f g : Type 0) (c d : Chunk) (cs ds : List Chunk) → IsGroup (Uncovered s) (Covered s) i f c (cs ≡ []) → IsGroup (Uncovered s) (Covered s) i g d (ds ≡ []) → joined (c ∷ cs) ≡ joined (d ∷ ds) → length c.0 < length d.0 → ⊥
@@ -74,7 +70,7 @@ module _ (s : List ℕ) where
       let texts : length c.1 ≡ length d.1 =
       ⊎_elim (λ lt. absurd (text_not_longer i f g c d cs ds h k.0 e parts lt)) (λ ge. ⊎_elim (λ lt. absurd (text_not_longer i g f d c ds cs k h.0 (sym e) (sym parts) lt)) (λ le. omega arith) (cases_lt (length d.1) (length c.1))) (cases_lt (length c.1) (length d.1)) in
       let t = append_same c.1 (joined cs) d.1 (joined ds) p.1 texts in
-      let same : c ≡ d = same_chunk c d p.0 t.0 in
+      let same : c ≡ d = ap (λ x. (x, c.1)) p.0 ∙ ap (λ x. (d.0, x)) t.0 in
       let rest : cs ≡ ds = one_list (i + length (c.0 ++ c.1)) ⊥ ⊥ cs ds h.1 (subst (λ x. AreChunksFrom s (i + length (x.0 ++ x.1)) ⊥ ds) (sym same) k.1) t.1 in
       ap (λ x. x ∷ cs) same ∙ ap (λ x. d ∷ x) rest
 

@@ -1,11 +1,8 @@
 -- The reader gives what the definitions say, whatever the bytes begin with: so bytes have one list of items.
 use Rattle.wtf8_core.proofs.Common.{◌≡◌, inl, inr, ⊎_elim, ℕ, suc, ◌⊎◌, ◌<◌, ◌≤◌, Bool, false, List, [], ◌∷◌, ◌++◌, length, map, Result, Ok, Err, refl, sym, ap, ◌∙◌, subst, arith, append_assoc, append-nil, cases_lt, nat_tests, AllByRecursion, flat_map, needed_continuations, IsHigh, IsLow, is_high, IsCodePoint, encode, HasNoSurrogatePair, last_or, Encodes, IsWholeSequence, sequence_value, IsIncomplete, IsBadSequence, IsRefused, BeginsFault, IsFirstFault, lead_bits, least_value, checked_value, items_skipping, items_after, first_split, split_within, items_from, true, ◌-◌, length-append, AreItems, EncodingError, Byte, CodePoint, End, Utf8}
 use Rattle.wtf8_core.specs.Items.AreItems.{Whole, Faulty}
-use Rattle.wtf8_core.proofs.lemmas.reader.FirstErr.{same_oks, no_err, same_faulty}
-use Rattle.wtf8_core.proofs.lemmas.reader.Reading.{split-ascii, split-stray, split-lead, within-broken, within-end, within-whole, items-split}
-use Rattle.wtf8_core.proofs.lemmas.forms.Ranges.{in_range, in_range-true}
-use Rattle.wtf8_core.proofs.lemmas.forms.Shapes.{form_ascii, form_bounds, form_parts, shape_is_form, long_shape, long_value}
-use Rattle.wtf8_core.proofs.lemmas.reader.Continuations.{within_all}
+use Rattle.wtf8_core.proofs.lemmas.reader.{FirstErr.same_oks, FirstErr.no_err, FirstErr.same_faulty, Reading.split-ascii, Reading.split-stray, Reading.split-lead, Reading.within-broken, Reading.within-end, Reading.within-whole, Reading.items-split, Continuations.within_all}
+use Rattle.wtf8_core.proofs.lemmas.forms.{Ranges.in_range, Ranges.in_range-true, Shapes.form_ascii, Shapes.form_bounds, Shapes.form_parts, Shapes.shape_is_form, Shapes.long_shape, Shapes.long_value}
 
 -- what the reader says of a value
 pub when_good : (h : Bool) (n v : ℕ) → least_value n ≤ v → v ≤ 0x10_FFFF → (h ≡ true → IsLow v → ⊥) → checked_value h n v ≡ Ok v

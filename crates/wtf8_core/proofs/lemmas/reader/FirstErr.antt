@@ -1,7 +1,6 @@
 -- What a caller that stops at the first `Err` knows. None of these statements is about what comes after that `Err`.
 use Rattle.wtf8_core.proofs.Common.{◌≡◌, ℕ, List, [], ◌∷◌, ◌++◌, map, Result, Ok, Err, refl, sym, ap, ◌∙◌, subst, append_assoc, AllByRecursion, flat_map, append-nil, map-append, IsCodePoint, encode_utf16, HasUnits, units, Encodes, IsFirstFault, AreItems, AreUnitItems, unit_items, ok_values, EncodingError}
-use Rattle.wtf8_core.specs.Items.AreItems.{Whole, Faulty}
-use Rattle.wtf8_core.specs.Encoder.{IsCodePointItem}
+use Rattle.wtf8_core.specs.{Items.AreItems.Whole, Items.AreItems.Faulty, Encoder.IsCodePointItem}
 
 -- an item of bytes
 abbrev Item : Type 0

@@ -1,11 +1,7 @@
 -- The lossy reading of bytes is the forms of their items, with FFFD for each fault.
 use Rattle.wtf8_core.proofs.Common.{◌≡◌, ℕ, suc, List, [], ◌∷◌, ◌++◌, map, length, Result, Err, refl, sym, ap, ◌∙◌, subst, arith, flat_map-append, append-nil, All, flat_map, IsByte, encode, Encodes, IsWtf8, IsFirstFault, AreItems, replacement, EncodingError}
-use Rattle.wtf8_core.specs.Items.AreItems.{Whole, Faulty}
-use Rattle.wtf8_core.specs.LossyReading.{IsLossyReading, lossy_code_point, lossy_forms}
-use Rattle.wtf8_core.specs.LossyReading.IsLossyReading.{formed, replaced}
-use Rattle.wtf8_core.proofs.lemmas.reader.Complete.{one_list_of_items}
-use Rattle.wtf8_core.proofs.lemmas.reader.FirstErr.{oks}
-use Rattle.wtf8_core.proofs.lemmas.reader.Sound.{some_items}
+use Rattle.wtf8_core.specs.{Items.AreItems.Whole, Items.AreItems.Faulty, LossyReading.IsLossyReading, LossyReading.lossy_code_point, LossyReading.lossy_forms, LossyReading.IsLossyReading.formed, LossyReading.IsLossyReading.replaced}
+use Rattle.wtf8_core.proofs.lemmas.reader.{Complete.one_list_of_items, FirstErr.oks, Sound.some_items}
 use Rattle.wtf8_core.proofs.lemmas.forms.Appending.{encodes_one, encodes_joined}
 use Rattle.wtf8_core.proofs.lemmas.units.OneToOne.{may_precede}
 
@@ -22,12 +18,9 @@ points_of_oks : (cs : List ℕ) (items : Items) → map lossy_code_point (oks cs
 points_of_oks [] items = refl
 points_of_oks (c ∷ cs) items = ap (λ l. c ∷ l) (points_of_oks cs items)
 
-whole_points : (cs : List ℕ) → map lossy_code_point (oks cs) ≡ cs
-whole_points cs = ap (map lossy_code_point) (sym (append-nil (oks cs))) ∙ points_of_oks cs [] ∙ append-nil cs
-
 -- the forms of items that are all Ok, and of items up to a fault and after it
 whole_forms : (b cs : List ℕ) → Encodes b cs → lossy_forms (oks cs) ≡ b
-whole_forms b cs s = ap (flat_map encode) (whole_points cs) ∙ sym s.joined
+whole_forms b cs s = ap (flat_map encode) (ap (map lossy_code_point) (sym (append-nil (oks cs))) ∙ points_of_oks cs [] ∙ append-nil cs) ∙ sym s.joined
 
 faulty_forms : (b cs : List ℕ) (fault : EncodingError) (later : Items) → (f : IsFirstFault b cs fault) → lossy_forms (oks cs ++ Err fault ∷ later) ≡ f.before ++ (replacement ++ lossy_forms later)
 faulty_forms b cs fault later f =

@@ -1,7 +1,6 @@
 -- What the tables say, by a test of each of their entries.
 use Rattle.wtf8_core.proofs.Common.{◌≡◌, ◌⊎◌, inl, inr, ⊎_elim, ℕ, suc, ◌+◌, ◌-◌, ◌*◌, ◌≤◌, Bool, true, false, leb, eqb, ◌&&◌, ◌||◌, List, [], ◌∷◌, map, ◌<◌, get_or, refl, sym, ap, ◌∙◌, and_parts, or_cases, leb-true, eqb-true, beq, needed_continuations, lead_bits, least_value, class_at, next_at, Row, needed, rows, SomeRow, is_plain, State, Between, AfterHigh, BadFourth, Refused, BadThird, Class, state_index}
-use Rattle.wtf8_core.specs.Table.{state_at, class_index}
-use Rattle.wtf8_core.specs.declared.table.Class.TheVariants.{Ascii}
+use Rattle.wtf8_core.specs.{Table.state_at, Table.class_index, declared.table.Class.TheVariants.Ascii}
 use Rattle.wtf8_core.proofs.lemmas.vectors.ComputedTests.{each_below}
 
 -- a test that computes

@@ -2,10 +2,7 @@
 use Rattle.wtf8_core.proofs.Common.{◌≡◌, ◌≢◌, ◌⊎◌, refl, HasFirstFault, inl, inr, ⊎_elim, ℕ, suc, ◌+◌, ◌*◌, ◌-◌, ◌%◌, ◌<◌, ◌≤◌, Bool, true, false, List, [], ◌∷◌, ◌++◌, map, Result, Ok, Err, sym, ap, ◌∙◌, subst, arith, nat_tests, append_assoc, append-nil, map-append, cond_both, cond-true, cond-false, All, All-append, All-from_recursion, IsByte, IsContinuation, needed_continuations, is_high, lead_bits, checked_value, first_split, split_within, items_from, items_after, AreItems, class_at, next_at, Gives, Row, needed, rows, SomeRow, IsOpen, IsInState, IsFaulty, kept_bits, joined_bits, fault_at, is_continuation, cond, EncodingError, Byte, CodePoint, End, State, Between, AfterHigh, BadFourth, Refused, BadThird}
 use Rattle.wtf8_core.specs.Checker.{value_fault}
 use Rattle.wtf8_core.proofs.lemmas.forms.Ranges.{in_range, not_in_range}
-use Rattle.wtf8_core.proofs.lemmas.reader.Complete.{when_good, when_bad}
-use Rattle.wtf8_core.proofs.lemmas.reader.FirstErr.{items_first_err}
-use Rattle.wtf8_core.proofs.lemmas.reader.Reading.{items-split, split-ascii, split-stray, split-lead, within-more, within-broken, within-whole}
-use Rattle.wtf8_core.proofs.lemmas.reader.Sound.{items_of_bytes}
+use Rattle.wtf8_core.proofs.lemmas.reader.{Complete.when_good, Complete.when_bad, FirstErr.items_first_err, Reading.items-split, Reading.split-ascii, Reading.split-stray, Reading.split-lead, Reading.within-more, Reading.within-broken, Reading.within-whole, Sound.items_of_bytes}
 use Rattle.wtf8_core.proofs.lemmas.table.Entries.{Holds, some_from, some_with, in_class, classed, begins, between_entry, least_after, most_after, goes_on, open_entry, entered}
 
 -- the bits of a lead that needs two continuations or more, and of one more continuation

@@ -1,10 +1,7 @@
 -- std's answer on bytes that aren't UTF-8, by the definitions.
 use Rattle.wtf8_core.proofs.Common.{◌≡◌, ⊎_elim, ℕ, suc, ◌+◌, ◌<◌, ◌≤◌, List, [], ◌∷◌, ◌++◌, length, take, drop, get_or, length-append, length-drop, append_assoc, take-append-drop, Option, Some, sym, ap, ◌∙◌, subst, arith, if◌then◌else◌, IsScalar, is_in_range, IsInRange, MatchOption, IsUtf8, IsValidUpTo, utf8_error_len, second_byte_min, second_byte_max, cond_both, cases_lt, nat_tests, take-take, get_or_append_left, IsUtf8-append, IsUtf8-encode, take-add, take-append_seam, IsContinuation, needed_continuations, encode, sequence_value, IsPrefixOfCharacter, IsProperPrefix, IsIllFormed, IsUtf8Fault}
-use Rattle.wtf8_core.proofs.lemmas.characters.AtIndices.{NoChar}
-use Rattle.wtf8_core.proofs.lemmas.forms.Shapes.{form_ascii, form_bounds}
-use Rattle.wtf8_core.proofs.lemmas.forms.ByStd.{form_encode}
-use Rattle.wtf8_core.proofs.lemmas.characters.Overlaps.{form_after}
-use Rattle.wtf8_core.proofs.lemmas.forms.Ranges.{in_range-true, in_range-false}
+use Rattle.wtf8_core.proofs.lemmas.characters.{AtIndices.NoChar, Overlaps.form_after}
+use Rattle.wtf8_core.proofs.lemmas.forms.{Shapes.form_ascii, Shapes.form_bounds, ByStd.form_encode, Ranges.in_range-true, Ranges.in_range-false}
 
 -- what std answers of the rest r
 abbrev Part : List ℕ → Option ℕ → Type 0
@@ -58,9 +55,6 @@ needs_third b x y t l s k n =
 -- a prefix of a form, with more after it
 prefix_of : (xs : List ℕ) (c k : ℕ) → IsScalar c × (encode c ≡ xs) → k < length xs → IsProperPrefix (take k xs)
 prefix_of xs c k w h = record { prefix = record { char = c; scalar = w.0; rest = drop k xs; is = w.1 ∙ sym (take-append-drop k xs) }; proper = omega (arith, length-drop k xs) }
-
-one_open : (b : ℕ) → First b → IsProperPrefix (b ∷ [])
-one_open b l = prefix_of (Filled b (second_byte_min b) 0x80 0x80) _ 1 (filled b (second_byte_min b) 0x80 0x80 l (grind (arith, nat_tests)) least_continuation least_continuation) (grind (arith, nat_tests))
 
 two_open : (b x : ℕ) → First b → Second b x → 0xE0 ≤ b → IsProperPrefix (b ∷ x ∷ [])
 two_open b x l s h =
@@ -127,7 +121,7 @@ len_of_four b x y z t = grind (arith, nat_tests)
 part : (r : List ℕ) → 0 < length r → NoChar r → Part r (utf8_error_len r)
 unfolding utf8_error_len
 part [] h n = absurd (omega arith)
-part (b ∷ []) h n = by_first b [] _ n (one_open b)
+part (b ∷ []) h n = by_first b [] _ n (λ l. prefix_of (Filled b (second_byte_min b) 0x80 0x80) _ 1 (filled b (second_byte_min b) 0x80 0x80 l (grind (arith, nat_tests)) least_continuation least_continuation) (grind (arith, nat_tests)))
 part (b ∷ x ∷ []) h n = by_first b _ _ n (λ l. by_second b x _ _ n (λ s. two_open b x l s (needs_second b x [] l s n)))
 part (b ∷ x ∷ y ∷ []) h n = by_first b _ _ n (λ l. by_second b x _ _ n (λ s. by_third b x y _ _ (two_open b x l s (needs_second b x _ l s n)) (λ k. three_open b x y l s k (needs_third b x y [] l s k n))))
 part (b ∷ x ∷ y ∷ z ∷ t) h n = subst (Part (b ∷ x ∷ y ∷ z ∷ t)) (sym (len_of_four b x y z t))

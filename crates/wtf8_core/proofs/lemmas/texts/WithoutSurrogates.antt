@@ -3,10 +3,7 @@ use Rattle.wtf8_core.proofs.Common.{◌≡◌, ⊎_elim, ℕ, zero, suc, ◌+◌
 use Rattle.std.proofs.lemmas.List.{drop_more, get_or-append-add}
 use Rattle.wtf8_core.specs.Surrogate.{IsSurrogateAt}
 use Rattle.wtf8_core.proofs.lemmas.characters.AtIndices.{is_scalar}
-use Rattle.wtf8_core.proofs.lemmas.forms.ByStd.{forms_encode}
-use Rattle.wtf8_core.proofs.lemmas.forms.Cuts.{cut_before, encodes_parts}
-use Rattle.wtf8_core.proofs.lemmas.forms.Ranges.{in_range-true}
-use Rattle.wtf8_core.proofs.lemmas.forms.Shapes.{form_surrogate}
+use Rattle.wtf8_core.proofs.lemmas.forms.{ByStd.forms_encode, Cuts.cut_before, Cuts.encodes_parts, Ranges.in_range-true, Shapes.form_surrogate}
 
 -- before a byte that is no continuation both parts of WTF-8 are WTF-8
 pub cut_at_lead : (b : List ℕ) (i : ℕ) → i < length b → IsWtf8 b → (IsContinuation (get_or b i 0) → ⊥) → IsWtf8 (take i b) × IsWtf8 (drop i b)

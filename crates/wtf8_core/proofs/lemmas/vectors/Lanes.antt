@@ -1,8 +1,6 @@
 -- The operations on vectors, lane by lane.
 use Rattle.wtf8_core.proofs.Common.{◌≡◌, inl, inr, ◌⊎◌, ⊎_elim, ℕ, zero, suc, ◌+◌, ◌-◌, ◌%◌, ◌^◌, ◌<◌, ◌≤◌, Bool, true, false, cond, ltb, List, [], ◌∷◌, ◌++◌, map, length, length-append, get_or, bit_or, replicate, not, refl, sym, ap, ◌∙◌, subst, arith, w8, Fits, eqb, eqb-true, length-map, length-replicate, get_or-map, get_or_append_left, range_with_len, not-true, not-false, cases_lt, nat_tests}
-use Rattle.std.proofs.lemmas.Simd.{Each1-get_or, get_or-chunk, get_or-zip2, pick_l-range_with_len, get_or-replicate, tops_compared, zip2_splat, zip2_splat_left, length-sel_l, get_or-sel_l, mask_l-mod, bitmask_splat, trailing_mask_l}
-use Rattle.std.proofs.lemmas.List.Sums.{prefix_len_passes}
-use Rattle.std.proofs.lemmas.Nat.{trailing_le, le_or_l, le_or_r}
+use Rattle.std.proofs.lemmas.{Simd.Each1-get_or, Simd.get_or-chunk, Simd.get_or-zip2, Simd.pick_l-range_with_len, Simd.get_or-replicate, Simd.tops_compared, Simd.zip2_splat, Simd.zip2_splat_left, Simd.length-sel_l, Simd.get_or-sel_l, Simd.mask_l-mod, Simd.bitmask_splat, Simd.trailing_mask_l, List.Sums.prefix_len_passes, Nat.trailing_le, Nat.le_or_l, Nat.le_or_r}
 use Rattle.std.specs.Int.Count.{count_trailing_zeros}
 use lib.Lanes.{zip2, pick_l, sel_l, mask_l, top, Each1}
 

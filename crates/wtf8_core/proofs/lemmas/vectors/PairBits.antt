@@ -1,18 +1,12 @@
 -- Bytes whose bits say that nothing is wrong may follow those before them.
 use Rattle.wtf8_core.proofs.Common.{List, get_or, ◌≡◌, ◌≢◌, ◌⊎◌, inl, inr, ⊎_elim, ℕ, ◌+◌, ◌-◌, ◌*◌, ◌/◌, ◌^◌, max, ◌<◌, ◌≤◌, Bool, true, eqb, bit_and, bit_or, bit_xor, refl, sym, ap, ◌∙◌, subst, arith, eq-eqb, cases_lt, bit_at, IsContinuation, MayFollow, MayFollowAll, EachMayFollow}
 use Rattle.std.proofs.lemmas.Nat.Bits.{and_pow, and_high_mask, bit_at_or}
-use Rattle.wtf8_core.specs.PairBits.{pair_bits, continuation_due, error_bits, surrogate_pair_difference}
+use Rattle.wtf8_core.specs.{PairBits.pair_bits, PairBits.continuation_due, PairBits.error_bits, PairBits.surrogate_pair_difference, declared.vectors.Encoding.Encoding, declared.vectors.Encoding.TheVariants.Utf8}
 use Rattle.wtf8_core.proofs.lemmas.vectors.ComputedTests.{fails}
-use Rattle.wtf8_core.specs.declared.vectors.Encoding.{Encoding}
-use Rattle.wtf8_core.specs.declared.vectors.Encoding.TheVariants.{Utf8}
 
 -- bit 80 is the greater of the two bits 80
 later_is : (x y : ℕ) → continuation_due x y ≡ max (bit_at (x - 0x70) 7) (bit_at (y - 0x60) 7) * 2 ^ 7
 later_is x y = and_pow (bit_or (x - 0x70) (y - 0x60)) 7 ∙ ap (λ t. t * 2 ^ 7) (bit_at_or (x - 0x70) (y - 0x60) 7)
-
--- it isn't set after bytes that aren't leads of three or four
-not_later : (x y : ℕ) → x < 0xF0 → y < 0xE0 → continuation_due x y ≡ 0
-not_later x y p q = omega (arith, later_is x y, p, q)
 
 -- and is set if one of them is
 is_later : (x y : ℕ) → x < 256 → y < 256 → (0xF0 ≤ x) ⊎ (0xE0 ≤ y) → continuation_due x y ≡ 0x80
@@ -124,7 +118,7 @@ module _ (s : Encoding) (w x y z b : ℕ) (ux : x < 256) (uy : y < 256) (uz : z 
   may_follow_all : MayFollowAll s w x y z b
   may_follow_all =
       let late : (0xF0 ≤ x) ⊎ (0xE0 ≤ y) → MayFollowAll s w x y z b = λ p. when_late p (is_later x y ux uy p) in
-      ⊎_elim (λ p. ⊎_elim (λ q. when_early p q (not_later x y p q)) (λ q. late (inr q)) (cases_lt y 0xE0)) (λ p. late (inl p)) (cases_lt x 0xF0)
+      ⊎_elim (λ p. ⊎_elim (λ q. when_early p q (omega (arith, later_is x y, p, q))) (λ q. late (inr q)) (cases_lt y 0xE0)) (λ p. late (inl p)) (cases_lt x 0xF0)
 
 -- what holds of five numbers holds of equal ones
 pub same_five : (P : ℕ → ℕ → ℕ → ℕ → ℕ → Type 0) {v w x y z a b c d e : ℕ} → v ≡ a → w ≡ b → x ≡ c → y ≡ d → z ≡ e → P v w x y z → P a b c d e

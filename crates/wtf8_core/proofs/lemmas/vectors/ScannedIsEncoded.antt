@@ -1,10 +1,8 @@
 -- Bytes that keep to the pattern are forms of code points.
 use Rattle.wtf8_core.proofs.Common.{◌≡◌, inl, inr, ⊎_elim, ℕ, zero, suc, ◌+◌, ◌/◌, ◌%◌, ◌<◌, ◌≤◌, List, [], ◌∷◌, ◌++◌, length, get_or, refl, sym, ap, ◌∙◌, subst, arith, nat_tests, cases_lt, AllByRecursion, flat_map, IsScalar, IsContinuation, IsHigh, IsSurrogate, IsCodePoint, encode, Encodes, MayPrecede, last_or, needed_continuations, least_value, IsWholeSequence, sequence_value, MayFollow, MayFollowAll, EachMayFollow, Steps, IsBetweenCodePoints}
 use Rattle.wtf8_core.proofs.lemmas.characters.AtIndices.{is_scalar}
-use Rattle.wtf8_core.proofs.lemmas.forms.Ranges.{low_surrogate, not_in_range}
-use Rattle.wtf8_core.proofs.lemmas.forms.Shapes.{form_ascii, form_bounds, form_surrogate, shape_is_form}
-use Rattle.wtf8_core.specs.declared.vectors.Encoding.{Encoding}
-use Rattle.wtf8_core.specs.declared.vectors.Encoding.TheVariants.{Utf8}
+use Rattle.wtf8_core.proofs.lemmas.forms.{Ranges.low_surrogate, Ranges.not_in_range, Shapes.form_ascii, Shapes.form_bounds, Shapes.form_surrogate, Shapes.shape_is_form}
+use Rattle.wtf8_core.specs.declared.vectors.Encoding.{Encoding, TheVariants.Utf8}
 
 -- the bytes are the form of the code point c
 record IsFormOf (c : ℕ) (bytes : List ℕ) : Type 0 where
@@ -64,9 +62,6 @@ of_surrogate c f i h =
     let form = sym i.is ∙ form_surrogate c h in
     (ap (λ l. get_or l 0 0) form ∙ omega (arith, h.0, h.1), ap (λ l. get_or l 1 0) form)
 
-scalar_form : (c : ℕ) (f : List ℕ) → IsFormOf c f → (get_or f 0 0 ≡ 0xED → get_or f 1 0 < 0xA0) → IsScalar c
-scalar_form c f i plain = is_scalar c i.code_point (not_in_range 0xD800 0xDFFF c (λ h. let o = of_surrogate c f i h in omega (arith, plain o.0, o.1, h.0, h.1)))
-
 -- the pattern by recursion, for some of the bytes and the one after them
 pub steps : (s : Encoding) (w x y z : ℕ) (bs rest : List ℕ) → EachMayFollow s (suc (length bs)) (w ∷ x ∷ y ∷ z ∷ (bs ++ rest)) → Steps s w x y z (bs ++ get_or rest 0 0 ∷ [])
 steps s w x y z [] rest h = (h 0 (omega arith), tt)
@@ -92,7 +87,7 @@ module _ (s : Encoding) (next : ℕ) (ends : IsContinuation next → ⊥) where
             joined = ap (λ x. x ++ bs) (sym i.is) ∙ ap (λ x. encode c ++ x) r.encoded.joined;
           };
           free = λ g l. let o = of_surrogate c f i (low_surrogate c l) in omega (arith, unpaired g o.0, o.1, l.0, l.1);
-          plain = λ e. (scalar_form c f i (plain e), r.plain e);
+          plain = λ e. (is_scalar c i.code_point (not_in_range 0xD800 0xDFFF c (λ h. let o = of_surrogate c f i h in omega (arith, plain e o.0, o.1, h.0, h.1))), r.plain e);
         }
 
     one_byte : (a : ℕ) (bs : List ℕ) → length bs ≤ n → a < 0x80 → Steps s x y z a (bs ++ next ∷ []) → IsWhole s p (a ∷ bs)

@@ -2,19 +2,12 @@
 use Rattle.wtf8_core.proofs.Common.{Bool, true, false, ◌≡◌, inl, inr, ◌⊎◌, ⊎_elim, ℕ, zero, suc, ◌+◌, ◌-◌, ◌<◌, ◌≤◌, List, [], ◌∷◌, ◌++◌, length, take, drop, get_or, refl, sym, ap, ◌∙◌, subst, arith, min, replicate, get_or-take, get_or-drop, get_or_append_left, get_or-append_right, get_or_past, length-append, length-take, length-take-le, length-drop, take_all, take-add, take-take, drop-drop, take-append-drop, cases_lt, and_from, AllByRecursion, IsScalar, low_scalar, scalars, IsUtf8, is_in_range, IsContinuation, is_high, Encodes, last_or, MayFollowAll, EachMayFollow, IsBetweenCodePoints, with_zeros_before, KeepsPattern, IsEncodedPrefix}
 use Rattle.std.proofs.lemmas.List.{take_more}
 use borrow.Rule.Slice.PartMut.{put_mid}
-use Rattle.wtf8_core.proofs.lemmas.forms.Ranges.{in_range, in_range-true, in_range-false, not_in_range}
-use Rattle.wtf8_core.proofs.lemmas.forms.Shapes.{form_ascii}
-use Rattle.wtf8_core.proofs.lemmas.forms.ByStd.{forms_encode}
-use Rattle.wtf8_core.proofs.lemmas.forms.Appending.{all_joined, encodes_joined, encodes_more}
-use Rattle.wtf8_core.proofs.lemmas.forms.Cuts.{all_parts, cut_before, encodes_parts}
+use Rattle.wtf8_core.proofs.lemmas.forms.{Ranges.in_range, Ranges.in_range-true, Ranges.in_range-false, Ranges.not_in_range, Shapes.form_ascii, ByStd.forms_encode, Appending.all_joined, Appending.encodes_joined, Appending.encodes_more, Cuts.all_parts, Cuts.cut_before, Cuts.encodes_parts}
 use Rattle.wtf8_core.proofs.lemmas.characters.Seams.{scalars_are}
 use Rattle.wtf8_core.proofs.lemmas.texts.AreWtf8.{text_encodes}
 use Rattle.wtf8_core.proofs.lemmas.buffers.Truncated.{put_length}
-use Rattle.wtf8_core.proofs.lemmas.vectors.PairBits.{same_five}
-use Rattle.wtf8_core.proofs.lemmas.vectors.ScannedIsEncoded.{IsBetweenCodePointsAt, edge_of_forms, steps, whole}
-use Rattle.wtf8_core.specs.Neighbours.{IsClosed}
-use Rattle.wtf8_core.specs.declared.vectors.Encoding.{Encoding}
-use Rattle.wtf8_core.specs.declared.vectors.Encoding.TheVariants.{Utf8, Wtf8}
+use Rattle.wtf8_core.proofs.lemmas.vectors.{PairBits.same_five, ScannedIsEncoded.IsBetweenCodePointsAt, ScannedIsEncoded.edge_of_forms, ScannedIsEncoded.steps, ScannedIsEncoded.whole}
+use Rattle.wtf8_core.specs.{Neighbours.IsClosed, declared.vectors.Encoding.Encoding, declared.vectors.Encoding.TheVariants.Utf8, declared.vectors.Encoding.TheVariants.Wtf8}
 
 -- where a prefix that encodes code points ends, the next code point begins
 edge_at : (bytes cs : List ℕ) (n : ℕ) → n ≤ length bytes → Encodes (take n bytes) cs → IsBetweenCodePointsAt (last_or 0 cs) n (with_zeros_before bytes)
@@ -241,9 +234,6 @@ pub before_bytes : (bytes : List ℕ) (m : ℕ) → m < 4 → get_or (with_zeros
 before_bytes bytes (suc (suc (suc (suc m)))) h = absurd (omega (arith, h))
 before_bytes bytes m h = refl
 
-past_bytes : (bytes : List ℕ) (m : ℕ) → 4 + length bytes ≤ m → get_or (with_zeros_before bytes) m 0 ≡ 0
-past_bytes bytes m h = get_or_past (with_zeros_before bytes) m 0 (omega (arith, h))
-
 -- zeros
 pub zeros : (n i : ℕ) → ◌≡◌ {A = ℕ} (get_or (replicate n 0) i 0) 0
 zeros (suc n) (suc i) = zeros n i
@@ -312,7 +302,7 @@ module _ (w bytes : List ℕ) (at b n : ℕ) (within : at ≤ length bytes) (few
       let target : suc (suc (suc (suc ((at - b) + k)))) ≡ at + i = omega (arith, few, l) in
       ap (λ x. get_or w x 0) (sym index) ∙ copy k ∙ ⊎_elim
       (λ m. get_or-take (at + n - (at - b)) (drop (at - b) bytes) k 0 (omega (arith, few, m)) ∙ get_or-drop (at - b) bytes k 0 ∙ ap (λ x. get_or (with_zeros_before bytes) x 0) target)
-      (λ m. get_or_past (take (at + n - (at - b)) (drop (at - b) bytes)) k 0 (omega (arith, few, m, length-take (at + n - (at - b)) (drop (at - b) bytes))) ∙ sym (past_bytes bytes (at + i) (omega (arith, few, most, m, h, l, within))))
+      (λ m. get_or_past (take (at + n - (at - b)) (drop (at - b) bytes)) k 0 (omega (arith, few, m, length-take (at + n - (at - b)) (drop (at - b) bytes))) ∙ sym (get_or_past (with_zeros_before bytes) (at + i) 0 (omega (arith, few, most, m, h, l, within))))
       (cases_lt k (n + b)))
       (cases_lt i (4 - b))
 

@@ -2,9 +2,6 @@ use Rattle.wtf8_core.proofs.Common.{◌+◌, ◌-◌, length, arith, cases_lt, �
 use Rattle.wtf8_core.proofs.lemmas.vectors.Windows.{ascii_at, ascii_is_utf8}
 use Rattle.wtf8_core.proofs.utf8.short_ascii_len.Goals as goal
 
-pub loop-at-init : goal.loop-at-init
-loop-at-init c = (omega arith, λ i h. omega (arith, h))
-
 pub returns-then-count-lt-STEP-clause-text : goal.returns-then-count-lt-STEP-clause-text
 returns-then-count-lt-STEP-clause-text c =
     let bytes = c.args.bytes.now in

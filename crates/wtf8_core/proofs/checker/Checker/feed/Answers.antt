@@ -1,29 +1,7 @@
-use Rattle.wtf8_core.proofs.Common.{sym, subst, ◌++◌}
-use Rattle.wtf8_core.specs.Checker.{Describes, progress}
-use Rattle.wtf8_core.proofs.lemmas.table.Pieces.{only_ends, extends, open_progress, faulted_progress, faulted_stays}
+use Rattle.wtf8_core.proofs.Common.{◌++◌}
+use Rattle.wtf8_core.proofs.lemmas.table.Pieces.{only_ends, open_progress}
 use Rattle.wtf8_core.proofs.checker.Checker.feed.Goals as goal
-
-pub returns-in-Some-clause-describes : goal.returns-in-Some-clause-describes
-returns-in-Some-clause-describes c b h =
-    faulted_stays c.self.inside.state c.self.inside.bits c.self.inside.fault c.args.self.now b c.args.piece.now c.in-Some.fault c.self.view_is c.in-Some.is h
-
-pub returns-in-Some-clause-answer : goal.returns-in-Some-clause-answer
-returns-in-Some-clause-answer c b h =
-    extends b c.args.piece.now c.in-Some.fault (faulted_progress c.self.inside.state c.self.inside.bits c.self.inside.fault c.args.self.now b c.in-Some.fault c.self.view_is c.in-Some.is h)
-
-pub returns-in-Ok-clause-describes : goal.returns-in-Ok-clause-describes
-returns-in-Ok-clause-describes c b h =
-    subst (λ fault. Describes (progress c.in-Ok.state c.in-Ok.bits fault) (b ++ c.args.piece.now)) (sym c.in_default.is)
-    (c.in-Ok.ensures b (open_progress c.self.inside.state c.self.inside.bits c.self.inside.fault c.args.self.now b c.self.view_is c.in_default.is h))
 
 pub returns-in-Ok-clause-answer : goal.returns-in-Ok-clause-answer
 returns-in-Ok-clause-answer c b h f g =
     only_ends c.in-Ok.state c.in-Ok.bits (b ++ c.args.piece.now) (c.in-Ok.ensures b (open_progress c.self.inside.state c.self.inside.bits c.self.inside.fault c.args.self.now b c.self.view_is c.in_default.is h)) f g
-
-pub returns-in-Err-clause-describes : goal.returns-in-Err-clause-describes
-returns-in-Err-clause-describes c b h =
-    c.in-Err.ensures b (open_progress c.self.inside.state c.self.inside.bits c.self.inside.fault c.args.self.now b c.self.view_is c.in_default.is h)
-
-pub returns-in-Err-clause-answer : goal.returns-in-Err-clause-answer
-returns-in-Err-clause-answer c b h =
-    c.in-Err.ensures b (open_progress c.self.inside.state c.self.inside.bits c.self.inside.fault c.args.self.now b c.self.view_is c.in_default.is h)

@@ -1,10 +1,7 @@
 use Rattle.wtf8_core.proofs.Common.{arith}
-use Rattle.wtf8_core.proofs.lemmas.vectors.Windows.{more_from_start, window_from_start, zeros}
+use Rattle.wtf8_core.proofs.lemmas.vectors.Windows.{more_from_start, window_from_start}
 use Rattle.wtf8_core.specs.declared.vectors.Encoding.TheVariants.{Utf8}
 use Rattle.wtf8_core.proofs.vectors.scan.scan_first_steps.Goals as goal
-
-pub put_in_zeros-requires-clause-zeros : goal.put_in_zeros-requires-clause-zeros
-put_in_zeros-requires-clause-zeros c = zeros 20
 
 pub returns-then-kept-lt-STEP-clause-prefix : goal.returns-then-kept-lt-STEP-clause-prefix
 returns-then-kept-lt-STEP-clause-prefix c =

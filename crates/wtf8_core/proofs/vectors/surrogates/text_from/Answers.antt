@@ -1,6 +1,5 @@
 use Rattle.wtf8_core.proofs.Common.{◌≡◌, ⊎_elim, ◌+◌, ◌-◌, subst, sym, arith, cases_lt}
 use Rattle.wtf8_core.specs.Surrogate.{IsSurrogateAt}
-use Rattle.wtf8_core.proofs.lemmas.texts.WithoutSurrogates.{prefix_without}
 use Rattle.wtf8_core.proofs.vectors.surrogates.text_from.Goals as goal
 
 pub loop-at-preserved : goal.loop-at-preserved
@@ -11,8 +10,3 @@ loop-at-preserved c =
           let same : at + (i - at) ≡ i = omega (arith, ge) in
           c.is_clear.ensures c.if-is_clear.true (i - at) (omega (arith, ge, h)) (subst (IsSurrogateAt c.args.bytes.now) (sym same) k)) (cases_lt i at),
     )
-
-pub returns-else-is_continuation-clause-text : goal.returns-else-is_continuation-clause-text
-returns-else-is_continuation-clause-text c =
-    let before = c.loop-at-2.invariant in
-    prefix_without c.args.bytes.now _ before.0 c.requires.formed (λ some k. let b = c.if-is_continuation.ensures.1 k in cc) before.1
