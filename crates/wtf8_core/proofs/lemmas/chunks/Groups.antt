@@ -1,5 +1,5 @@
 -- Lists of pairs that alternate between two kinds of elements, as chunks do over bytes and runs over code points.
-use Rattle.wtf8_core.proofs.Common.{◌≡◌, ◌⊎◌, ⊎_elim, ℕ, ◌+◌, ◌<◌, List, [], ◌∷◌, ◌++◌, length, refl, sym, ap, ◌∙◌, subst, arith, length-append, append_assoc, Chunk, joined}
+use Rattle.wtf8_core.proofs.Common.{nat_tests, common_steps, ◌≡◌, ◌⊎◌, ⊎_elim, ℕ, ◌+◌, ◌<◌, List, [], ◌∷◌, ◌++◌, length, refl, sym, ap, ◌∙◌, subst, arith, length-append, append_assoc, Chunk, joined}
 
 -- the pair c is at index i; a pair without a part comes first, and one without a text comes last
 pub record IsGroup (IsPart IsText : ℕ → List ℕ → Type 0) (i : ℕ) (First : Type 0) (c : Chunk) (Last : Type 0) : Type 0 where
@@ -41,11 +41,7 @@ module _ (IsPart IsText : ℕ → List ℕ → Type 0) where
       → IsGroup IsPart IsText (i + length (joined before)) (First × (before ≡ [])) c (after ≡ [])
   each_of i First [] [] after c g e = cc
   each_of i First [] (b ∷ before) after c g e = cc
-  each_of i First (x ∷ cs) [] after c g e =
-      let p : x ≡ c = cc in
-      let q : cs ≡ after = cc in
-      let z : i ≡ i + 0 = omega arith in
-      with_first (λ _ f. (f, refl)) (subst (λ n. IsGroup IsPart IsText n First c (after ≡ [])) z (subst (λ l. IsGroup IsPart IsText i First c (l ≡ [])) q (subst (λ y. IsGroup IsPart IsText i First y (cs ≡ [])) p g.0)))
+  each_of i First (x ∷ cs) [] after c g e = grind (arith, nat_tests, common_steps, with_first)
   each_of i First (x ∷ cs) (b ∷ before) after c g e =
       let p : x ≡ b = cc in
       let q : cs ≡ before ++ c ∷ after = cc in
@@ -72,54 +68,32 @@ module _ (IsPart IsText : ℕ → List ℕ → Type 0) (OfPart OfText : ℕ → 
   with_part : (i x : ℕ) (xs : List ℕ) → OfPart i x → Grouped (i + 1) xs → Grouped i (x ∷ xs)
   with_part i x xs h g = by g.0 g.1 g.2
     where
+      before : (c : Chunk) (cs : List Chunk) → IsPart (i + 1) c.0 → IsText (i + length (x ∷ c.0)) c.1 → (c.1 ≡ [] → cs ≡ []) → AreGroups IsPart IsText (i + length (x ∷ (c.0 ++ c.1))) ⊥ cs → joined (c ∷ cs) ≡ xs → Grouped i (x ∷ xs)
+      before c cs p t last k e = ((x ∷ c.0, c.1) ∷ cs, (record { some = omega arith; part = part_more i x c.0 h p; text = t; part_first = λ none. cc; text_last = last }, k), ap (λ l. x ∷ l) e)
+
       by : (cs : List Chunk) → AreGroups IsPart IsText (i + 1) (Unit {0}) cs → joined cs ≡ xs → Grouped i (x ∷ xs)
-      by [] k e = (
-        (x ∷ [], []) ∷ [],
-        (record { some = omega arith; part = part_more i x [] h (part_none (i + 1)); text = text_none _; part_first = λ none. cc; text_last = λ _. refl }, tt),
-        ap (λ l. x ∷ l) e,
-      )
+      by [] k e = before ([], []) [] (part_none (i + 1)) (text_none _) (λ _. refl) tt e
       by (c ∷ cs) k e =
           let z : i + 1 + length c.0 ≡ i + length (x ∷ c.0) = omega arith in
-          let y : i + 1 + length (c.0 ++ c.1) ≡ i + length (x ∷ (c.0 ++ c.1)) = omega arith in (
-            (x ∷ c.0, c.1) ∷ cs,
-            (
-              record { some = omega arith; part = part_more i x c.0 h k.0.part; text = subst (λ n. IsText n c.1) z k.0.text; part_first = λ none. cc; text_last = k.0.text_last },
-              subst (λ n. AreGroups IsPart IsText n ⊥ cs) y k.1,
-            ),
-            ap (λ l. x ∷ l) e,
-          )
+          let y : i + 1 + length (c.0 ++ c.1) ≡ i + length (x ∷ (c.0 ++ c.1)) = omega arith in
+          before c cs k.0.part (subst (λ n. IsText n c.1) z k.0.text) k.0.text_last (subst (λ n. AreGroups IsPart IsText n ⊥ cs) y k.1) e
 
   -- one more element of a text
   with_text : (i x : ℕ) (xs : List ℕ) → OfText i x → Grouped (i + 1) xs → Grouped i (x ∷ xs)
   with_text i x xs h g = by g.0 g.1 g.2
     where
-      prefix : (t : List ℕ) → IsText (i + 1) t → IsText (i + 0) (x ∷ t)
-      prefix t k = let z : i ≡ i + 0 = omega arith in subst (λ n. IsText n (x ∷ t)) z (text_more i x t h k)
+      before : (t : List ℕ) (cs : List Chunk) → IsText (i + 1) t → AreGroups IsPart IsText (i + length (x ∷ t)) ⊥ cs → t ++ joined cs ≡ xs → Grouped i (x ∷ xs)
+      before t cs p k e =
+          let z : i ≡ i + 0 = omega arith in
+          (([], x ∷ t) ∷ cs, (record { some = omega arith; part = part_none i; text = subst (λ n. IsText n (x ∷ t)) z (text_more i x t h p); part_first = λ _. tt; text_last = λ none. cc }, k), ap (λ l. x ∷ l) e)
 
       by : (cs : List Chunk) → AreGroups IsPart IsText (i + 1) (Unit {0}) cs → joined cs ≡ xs → Grouped i (x ∷ xs)
-      by [] k e = (
-        ([], x ∷ []) ∷ [],
-        (record { some = omega arith; part = part_none i; text = prefix [] (text_none (i + 1)); part_first = λ _. tt; text_last = λ none. cc }, tt),
-        ap (λ l. x ∷ l) e,
-      )
+      by [] k e = before [] [] (text_none (i + 1)) tt e
       by (([], t) ∷ cs) k e =
           let z : i + 1 + 0 ≡ i + 1 = omega arith in
-          let y : i + 1 + length t ≡ i + length (x ∷ t) = omega arith in (
-            ([], x ∷ t) ∷ cs,
-            (
-              record { some = omega arith; part = part_none i; text = prefix t (subst (λ n. IsText n t) z k.0.text); part_first = λ _. tt; text_last = λ none. cc },
-              subst (λ n. AreGroups IsPart IsText n ⊥ cs) y k.1,
-            ),
-            ap (λ l. x ∷ l) e,
-          )
-      by ((p ∷ ps, t) ∷ cs) k e = (
-        ([], x ∷ []) ∷ (p ∷ ps, t) ∷ cs,
-        (
-          record { some = omega arith; part = part_none i; text = prefix [] (text_none (i + 1)); part_first = λ _. tt; text_last = λ none. cc },
-          not_first IsPart IsText (i + 1) ⊥ (p ∷ ps, t) cs (λ none. cc) k,
-        ),
-        ap (λ l. x ∷ l) e,
-      )
+          let y : i + 1 + length t ≡ i + length (x ∷ t) = omega arith in
+          before t cs (subst (λ n. IsText n t) z k.0.text) (subst (λ n. AreGroups IsPart IsText n ⊥ cs) y k.1) e
+      by ((p ∷ ps, t) ∷ cs) k e = before [] ((p ∷ ps, t) ∷ cs) (text_none (i + 1)) (not_first IsPart IsText (i + 1) ⊥ (p ∷ ps, t) cs (λ none. cc) k) e
 
   abbrev pub EachIsOfOne : ℕ → List ℕ → Type 0
   EachIsOfOne i [] = Unit {0}

@@ -1,5 +1,5 @@
 -- A string has exactly one list of chunks.
-use Rattle.wtf8_core.proofs.Common.{◌≡◌, ⊎_elim, ℕ, ◌+◌, ◌-◌, ◌<◌, List, [], ◌∷◌, ◌++◌, length, refl, sym, ap, ◌∙◌, subst, arith, length-append, append_assoc, cases_lt, cases_eq, append-nil, nil_from_length, IsCovered, CrossesNoCharacter, Chunk, joined, AreChunks}
+use Rattle.wtf8_core.proofs.Common.{nat_tests, common_steps, ◌≡◌, ⊎_elim, ℕ, ◌+◌, ◌-◌, ◌<◌, List, [], ◌∷◌, ◌++◌, length, refl, sym, ap, ◌∙◌, subst, arith, length-append, append_assoc, cases_lt, cases_eq, append-nil, nil_from_length, IsCovered, CrossesNoCharacter, Chunk, joined, AreChunks}
 use Rattle.wtf8_core.proofs.lemmas.forms.Appending.{append_same}
 use Rattle.wtf8_core.proofs.lemmas.characters.Seams.{Uncovered, Covered, over_none, over_first, uncovered_or_covered, covered_within, covered_after}
 use Rattle.wtf8_core.proofs.lemmas.chunks.Groups.{IsGroup, AreGroups, groups_from_each, each_from_groups, EachIsOfOne, grouped, not_first}
@@ -38,31 +38,27 @@ some_bytes xs h = ⊎_elim (λ e. absurd (h (nil_from_length xs e))) (λ ne. ome
 joined_size : (c : Chunk) (cs : List Chunk) → length (joined (c ∷ cs)) ≡ length c.0 + length c.1 + length (joined cs)
 joined_size c cs = simp length-append (omega arith)
 
-size : (c : Chunk) → length (c.0 ++ c.1) ≡ length c.0 + length c.1
-size c = length-append c.0 c.1
+-- chunks of one part and one text
+same_chunk : (c d : Chunk) → c.0 ≡ d.0 → c.1 ≡ d.1 → c ≡ d
+same_chunk c d p t = ap (λ x. (x, c.1)) p ∙ ap (λ x. (d.0, x)) t
 
 module _ (s : List ℕ) where
   -- the byte after a part is covered, unless nothing follows
   part_not_longer : (i : ℕ) (f g : Type 0) (c d : Chunk) (cs ds : List Chunk) → IsGroup (Uncovered s) (Covered s) i f c (cs ≡ []) → IsGroup (Uncovered s) (Covered s) i g d (ds ≡ []) → joined (c ∷ cs) ≡ joined (d ∷ ds) → length c.0 < length d.0 → ⊥
-  part_not_longer i f g c d cs ds h k same lt =
-      let l = sym (joined_size c cs) ∙ ap length same ∙ joined_size d ds in
-      ⊎_elim
-      (λ e. let none : length (joined cs) ≡ 0 = ap (λ x. length (joined x)) (h.text_last (nil_from_length c.1 e)) in omega arith)
-      (λ ne. k.part (i + length c.0) (omega arith) (omega arith) (h.text (i + length c.0) (omega arith) (omega arith)))
-      (cases_eq (length c.1) 0)
+  part_not_longer i f g c d cs ds h k same lt = grind (arith, nat_tests, common_steps, joined_size, nil_from_length)
 
   -- the byte after a text is uncovered, unless nothing follows
   text_not_longer : (i : ℕ) (f g : Type 0) (c d : Chunk) (cs ds : List Chunk) → AreChunksFrom s i f (c ∷ cs) → IsGroup (Uncovered s) (Covered s) i g d (ds ≡ []) → joined (c ∷ cs) ≡ joined (d ∷ ds) → length c.0 ≡ length d.0 → length c.1 < length d.1 → ⊥
   text_not_longer i f g c d [] ds h k same e lt = let l = sym (joined_size c []) ∙ ap length same ∙ joined_size d ds in omega arith
   text_not_longer i f g c d (x ∷ cs) ds h k same e lt =
-      let n = size c in
+      let n = length-append c.0 c.1 in
       let some = some_bytes x.0 h.1.0.part_first in
       h.1.0.part (i + length (c.0 ++ c.1)) (omega arith) (omega arith) (k.text (i + length (c.0 ++ c.1)) (omega arith) (omega arith))
 
   one_list : (i : ℕ) (f g : Type 0) (cs ds : List Chunk) → AreChunksFrom s i f cs → AreChunksFrom s i g ds → joined cs ≡ joined ds → cs ≡ ds
   one_list i f g [] [] h k e = refl
-  one_list i f g [] (d ∷ ds) h k e = let l = ap length e ∙ joined_size d ds in let n = size d in let some = k.0.some in absurd (omega arith)
-  one_list i f g (c ∷ cs) [] h k e = let l = ap length (sym e) ∙ joined_size c cs in let n = size c in let some = h.0.some in absurd (omega arith)
+  one_list i f g [] (d ∷ ds) h k e = let l = ap length e ∙ joined_size d ds in let n = length-append d.0 d.1 in let some = k.0.some in absurd (omega arith)
+  one_list i f g (c ∷ cs) [] h k e = let l = ap length (sym e) ∙ joined_size c cs in let n = length-append c.0 c.1 in let some = h.0.some in absurd (omega arith)
   one_list i f g (c ∷ cs) (d ∷ ds) h k e =
       let parts : length c.0 ≡ length d.0 =
       ⊎_elim (λ lt. absurd (part_not_longer i f g c d cs ds h.0 k.0 e lt)) (λ ge. ⊎_elim (λ lt. absurd (part_not_longer i g f d c ds cs k.0 h.0 (sym e) lt)) (λ le. omega arith) (cases_lt (length d.0) (length c.0))) (cases_lt (length c.0) (length d.0)) in
@@ -70,7 +66,7 @@ module _ (s : List ℕ) where
       let texts : length c.1 ≡ length d.1 =
       ⊎_elim (λ lt. absurd (text_not_longer i f g c d cs ds h k.0 e parts lt)) (λ ge. ⊎_elim (λ lt. absurd (text_not_longer i g f d c ds cs k h.0 (sym e) (sym parts) lt)) (λ le. omega arith) (cases_lt (length d.1) (length c.1))) (cases_lt (length c.1) (length d.1)) in
       let t = append_same c.1 (joined cs) d.1 (joined ds) p.1 texts in
-      let same : c ≡ d = ap (λ x. (x, c.1)) p.0 ∙ ap (λ x. (d.0, x)) t.0 in
+      let same : c ≡ d = same_chunk c d p.0 t.0 in
       let rest : cs ≡ ds = one_list (i + length (c.0 ++ c.1)) ⊥ ⊥ cs ds h.1 (subst (λ x. AreChunksFrom s (i + length (x.0 ++ x.1)) ⊥ ds) (sym same) k.1) t.1 in
       ap (λ x. x ∷ cs) same ∙ ap (λ x. d ∷ x) rest
 
@@ -100,7 +96,7 @@ module _ (s x r : List ℕ) (is : s ≡ x ++ r) (seam : CrossesNoCharacter s (le
 pub one_more_chunk : (s p t r : List ℕ) (cs : List Chunk) → s ≡ p ++ (t ++ r) → 0 < length s → Uncovered s 0 p → Covered s (length p) t → CrossesNoCharacter s (length (p ++ t)) → (t ≡ [] → r ≡ []) → (0 < length r → ¬ (IsCovered s (length (p ++ t)))) → AreChunks r cs → AreChunks s ((p, t) ∷ cs)
 one_more_chunk s p t r cs e some uncovered covered seam last ended h = are_chunks s ((p, t) ∷ cs) (ap (λ x. p ++ (t ++ x)) h.joins ∙ sym e) (
   record {
-    some = ⊎_elim (λ z. let none = last (nil_from_length t z) in omega (arith, size (p, t), ap length none, long)) (λ ne. omega (arith, size (p, t))) (cases_eq (length t) 0);
+    some = ⊎_elim (λ z. let none = last (nil_from_length t z) in omega (arith, length-append p t, ap length none, long)) (λ ne. omega (arith, length-append p t)) (cases_eq (length t) 0);
     part = uncovered;
     text = λ k low high. covered k (omega arith) (omega arith);
     part_first = λ _. tt;
@@ -117,12 +113,12 @@ one_more_chunk s p t r cs e some uncovered covered seam last ended h = are_chunk
 
     no_more : (cs : List Chunk) → joined cs ≡ [] → AreChunksFrom r 0 (Unit {0}) cs → cs ≡ []
     no_more [] j g = refl
-    no_more (d ∷ ds) j g = let l = sym (joined_size d ds) ∙ ap length j in let n = size d in let some = g.0.some in absurd (omega arith)
+    no_more (d ∷ ds) j g = let l = sym (joined_size d ds) ∙ ap length j in let n = length-append d.0 d.1 in let some = g.0.some in absurd (omega arith)
 
     after : (cs : List Chunk) → joined cs ≡ r → AreChunksFrom s (0 + length (p ++ t)) (Unit {0}) cs → AreChunksFrom s (0 + length (p ++ t)) ⊥ cs
     after [] j g = tt
     after (d ∷ ds) j g =
         let l = sym (joined_size d ds) ∙ ap length j in
-        let n = size d in
+        let n = length-append d.0 d.1 in
         let some = g.0.some in
         not_first (Uncovered s) (Covered s) (0 + length (p ++ t)) ⊥ d ds (λ none. ended (omega arith) (g.0.text (length (p ++ t)) (omega (arith, ap length none)) (omega (arith, ap length none)))) g

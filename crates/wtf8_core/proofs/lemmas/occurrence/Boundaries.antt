@@ -16,11 +16,8 @@ starts p s i u some h = by u.0 u.1.0 (forms_encode u.0 ∙ u.1.1)
 -- no whole character extends across its start, so none extends across its end, and the one around its last byte ends there
 pub edges_of_text : (p s : List ℕ) (i : ℕ) → IsUtf8 p → 0 < length p → OccursAt p s i → IsBoundary s i × IsBoundary s (i + length p)
 edges_of_text p s i u some h =
-    let index = h.index in
     let w = starts p s i u some h in
     let t = text_covered s h.before p h.after h.joined u (λ a b v low high. no_start_inside s a b i w.0 v w.1 (omega arith) (omega arith)) in
     let c = t.0 (i + length p - 1) (omega arith) (omega arith) in
-    let from = c.from in
-    let below = c.below in
     let end : c.end ≡ i + length p = ⊎_elim (λ past. absurd (t.1 c.start c.end c.whole (omega arith) past)) (λ le. omega arith) (cases_lt (length h.before + length p) c.end) in
     (record { is = inr (inr (inl w)) }, record { is = inr (inr (inr (c.start, subst (WholeCharacter s c.start) end c.whole))) })

@@ -1,5 +1,5 @@
 -- From the laws of occurrences alone: what holds of indices in bytes holds of indices in units.
-use Rattle.wtf8_core.proofs.Common.{◌≡◌, ⊎_elim, ℕ, ◌+◌, ◌<◌, ◌≤◌, List, [], ◌∷◌, ◌++◌, length, Option, Some, None, refl, sym, ap, ◌∙◌, subst, arith, append-nil, length-append, cases_lt, append_cancel_left, nil_from_length, IsUtf8, OccursAt, OccursNowhere, IsFirstIndex, IsLastIndex, Finds, IsByteIndex, IsUnitIndexOf, FindsInUnits, OccurrenceLaws}
+use Rattle.wtf8_core.proofs.Common.{nat_tests, common_steps, ◌≡◌, ⊎_elim, ℕ, ◌+◌, ◌<◌, ◌≤◌, List, [], ◌∷◌, ◌++◌, length, Option, Some, None, refl, sym, ap, ◌∙◌, subst, arith, append-nil, length-append, cases_lt, append_cancel_left, nil_from_length, IsUtf8, OccursAt, OccursNowhere, IsFirstIndex, IsLastIndex, Finds, IsByteIndex, IsUnitIndexOf, FindsInUnits, OccurrenceLaws}
 
 -- of two prefixes of a list one is a prefix of the other
 pub shorter_prefix : (x y z w : List ℕ) → x ++ z ≡ y ++ w → length x ≤ length y → (v : List ℕ) × (y ≡ x ++ v) × (z ≡ v ++ w)
@@ -130,10 +130,7 @@ module _ (wf : List ℕ → Type 0) (units : List ℕ → List ℕ) (laws : Occu
   }
 
   pub no_units_last : (us : List ℕ) → IsLastIndex (units []) us (length us)
-  no_units_last us = record {
-    occurs = record { before = us; after = []; joined = sym (append-nil us) ∙ ap (λ z. us ++ (z ++ [])) (sym no_units); index = refl };
-    greatest = λ k b st. absurd (omega (arith, b, st.index, ap length st.joined, length-append st.before (units [] ++ st.after)));
-  }
+  no_units_last us = grind (arith, nat_tests, common_steps, append-nil, no_units, greatest, length-append)
 
   first_of_none : (s : List ℕ) (j : ℕ) → wf s → IsFirstIndex [] s j → IsUnitIndexOf IsFirstIndex wf units [] s j
   first_of_none s j w l = record {

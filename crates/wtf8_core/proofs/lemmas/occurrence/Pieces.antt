@@ -1,5 +1,5 @@
 -- From the laws of occurrences alone: pieces, strips and trims in units.
-use Rattle.wtf8_core.proofs.Common.{◌≡◌, ℕ, zero, suc, ◌<◌, List, [], ◌∷◌, ◌++◌, length, map, Option, Some, None, refl, sym, ap, ◌∙◌, subst, arith, append_assoc, append-nil, length-append, append_cancel_left, nil_from_length, repeat, IsUtf8, IsFirstIndex, IsLastIndex, IsPrefix, IsSuffix, IsByteIndex, IsUnitIndexOf, OccurrenceLaws}
+use Rattle.wtf8_core.proofs.Common.{nat_tests, common_steps, ◌≡◌, ℕ, zero, suc, ◌<◌, List, [], ◌∷◌, ◌++◌, length, map, Option, Some, None, refl, sym, ap, ◌∙◌, subst, arith, append_assoc, append-nil, length-append, append_cancel_left, nil_from_length, repeat, IsUtf8, IsFirstIndex, IsLastIndex, IsPrefix, IsSuffix, IsUnitIndexOf, OccurrenceLaws}
 use Rattle.wtf8_core.proofs.lemmas.forms.Appending.{append_same}
 use Rattle.wtf8_core.specs.Pieces.{SplitsAt, IsSplit, IsRSplit, IsStartTrim, IsEndTrim, IsTrim, StripsPrefix, StripsSuffix, SplitsOnce, SplitsInto.whole, SplitsInto.cut}
 use Rattle.wtf8_core.proofs.lemmas.occurrence.Indices.{no_units, nothing, around, least, greatest, nowhere, nowhere_in_units, none_first, none_last, no_units_first, no_units_last}
@@ -7,10 +7,7 @@ use Rattle.wtf8_core.proofs.lemmas.occurrence.Indices.{no_units, nothing, around
 module _ (wf : List ℕ → Type 0) (units : List ℕ → List ℕ) (laws : OccurrenceLaws wf units) where
   -- one cut
   cut_by : (Is : List ℕ → List ℕ → ℕ → Type 0) (p s prefix suffix : List ℕ) → IsUtf8 p → 0 < length p → wf s → s ≡ prefix ++ (p ++ suffix) → IsUnitIndexOf Is wf units p s (length prefix) → SplitsAt Is (units p) (units s) (units prefix) (units suffix)
-  cut_by Is p s prefix suffix t h w e l = record {
-    joined = (around wf units laws p s prefix suffix t h w e).2;
-    found = subst (λ i. Is (units p) (units s) i) (sym l.byte_index.many ∙ ap (λ z. length (units z)) (append_same l.byte_index.prefix l.byte_index.rest prefix (p ++ suffix) (sym l.byte_index.joined ∙ e) l.byte_index.index).0) l.is;
-  }
+  cut_by Is p s prefix suffix t h w e l = grind (arith, nat_tests, common_steps, around, append_same)
 
   first_cut : (p s prefix suffix : List ℕ) → IsUtf8 p → 0 < length p → wf s → SplitsAt IsFirstIndex p s prefix suffix → SplitsAt IsFirstIndex (units p) (units s) (units prefix) (units suffix)
   first_cut p s prefix suffix t h w c = cut_by IsFirstIndex p s prefix suffix t h w c.joined (least wf units laws p s (length prefix) t h w c.found)

@@ -1,5 +1,5 @@
 -- The laws of occurrences and of joins for WTF-8.
-use Rattle.wtf8_core.proofs.Common.{◌≡◌, ⊎_elim, ℕ, ◌<◌, true, List, [], ◌∷◌, ◌++◌, length, sym, ap, ◌∙◌, subst, arith, append-nil, append_assoc, and_parts, flat_map-append, AllByRecursion, flat_map, IsScalar, IsUtf8, all_scalars, scalar, scalar_cases, IsHigh, IsLow, IsCodePoint, encode, encode_utf16, HasNoSurrogatePair, MayPrecede, last_or, units, Encodes, IsWtf8, units_of, IsCutAround, OccurrenceLaws}
+use Rattle.wtf8_core.proofs.Common.{◌≡◌, ⊎_elim, ℕ, ◌<◌, true, List, [], ◌∷◌, ◌++◌, length, sym, ap, ◌∙◌, subst, arith, append-nil, append_assoc, and_parts, flat_map-append, AllByRecursion, flat_map, IsScalar, IsUtf8, all_scalars, scalar, scalar_cases, IsHigh, IsCodePoint, encode, encode_utf16, HasNoSurrogatePair, MayPrecede, last_or, units, Encodes, IsWtf8, units_of, IsCutAround, OccurrenceLaws}
 use Rattle.wtf8_core.proofs.lemmas.forms.{Cuts.all_parts, Cuts.paired_suffix, Cuts.bytes_found, ByStd.forms_prefix, Appending.all_joined}
 use Rattle.wtf8_core.proofs.lemmas.characters.AtIndices.{scalar_point}
 use Rattle.wtf8_core.proofs.lemmas.units.{OneToOne.precedes_wide, OneToOne.IsUnit, OneToOne.units_encoded, OneToOne.may_precede, AsFunction.code_points_in-encoded, AsFunction.units_of-is, AsFunction.one_encoding, Cuts.encodes_prefix, Cuts.encodes_suffix, Cuts.units_fit, Cuts.cut_at_units, Cuts.last_unit, Cuts.units_prefix}
@@ -14,6 +14,10 @@ last_scalar : (u : ℕ) (ps : List ℕ) → (IsHigh u → ⊥) → all_scalars p
 last_scalar u [] n a h = n h
 last_scalar u (p ∷ ps) n a h = let b = and_parts (scalar p) (all_scalars ps) a in last_scalar p ps (λ l. ⊎_elim (λ h. omega (arith, l.0)) (λ h. omega (arith, h.0, l.1)) (scalar_cases p b.0)) b.1 h
 
+-- anything may precede the units of a scalar
+precedes_scalar : (c p : ℕ) (ps vs : List ℕ) → IsScalar p → MayPrecede c (units (p ∷ ps) ++ vs)
+precedes_scalar c p ps vs s = subst (MayPrecede c) (sym (append_assoc (encode_utf16 p) (units ps) vs)) (precedes_wide c p (units ps ++ vs) (scalar_point p s) (λ i l. ⊎_elim (λ h. omega (arith, l.0)) (λ h. omega (arith, h.0, l.1)) (scalar_cases p s)))
+
 -- code points whose units are us, then those of ps, then vs
 record AreUnitsFound (cs us vs ps : List ℕ) : Type 0 where
   prefix : List ℕ
@@ -26,7 +30,7 @@ units_found : (cs us vs ps : List ℕ) → AllByRecursion IsCodePoint cs → Has
 units_found cs us vs [] a f b p g h e = absurd (omega arith)
 units_found cs us vs (p ∷ ps) a f b k g h e =
     let s = and_parts (scalar p) (all_scalars ps) b in
-    let c = cut_at_units cs us (units (p ∷ ps) ++ vs) a f e (subst (MayPrecede (last_or 0 us)) (sym (append_assoc (encode_utf16 p) (units ps) vs)) (precedes_wide (last_or 0 us) p (units ps ++ vs) (scalar_point p s.0) (λ i l. ⊎_elim (λ h. omega (arith, l.0)) (λ h. omega (arith, h.0, l.1)) (scalar_cases p s.0)))) in
+    let c = cut_at_units cs us (units (p ∷ ps) ++ vs) a f e (precedes_scalar (last_or 0 us) p ps vs s.0) in
     let a' = (all_parts IsCodePoint c.prefix c.suffix (subst (AllByRecursion IsCodePoint) c.cut a)).1 in
     let f' = paired_suffix c.prefix c.suffix (subst HasNoSurrogatePair c.cut f) in
     let n = last_unit 0 (p ∷ ps) (last_scalar 0 (p ∷ ps) (λ l. omega (arith, l.0)) b) in

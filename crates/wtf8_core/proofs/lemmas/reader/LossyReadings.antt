@@ -3,15 +3,11 @@ use Rattle.wtf8_core.proofs.Common.{◌≡◌, ℕ, suc, List, [], ◌∷◌, �
 use Rattle.wtf8_core.specs.{Items.AreItems.Whole, Items.AreItems.Faulty, LossyReading.IsLossyReading, LossyReading.lossy_code_point, LossyReading.lossy_forms, LossyReading.IsLossyReading.formed, LossyReading.IsLossyReading.replaced}
 use Rattle.wtf8_core.proofs.lemmas.reader.{Complete.one_list_of_items, FirstErr.oks, Sound.some_items}
 use Rattle.wtf8_core.proofs.lemmas.forms.Appending.{encodes_one, encodes_joined}
+use Rattle.wtf8_core.proofs.lemmas.texts.LossyTexts.{form_fffd}
 use Rattle.wtf8_core.proofs.lemmas.units.OneToOne.{may_precede}
 
 abbrev Items : Type 0
 Items = List (Result ℕ EncodingError)
-
--- the form of FFFD
-replacement_is : encode 0xFFFD ≡ replacement
-unfolding encode
-replacement_is = refl
 
 -- the code points that items give, with FFFD for a fault
 points_of_oks : (cs : List ℕ) (items : Items) → map lossy_code_point (oks cs ++ items) ≡ cs ++ map lossy_code_point items
@@ -27,7 +23,7 @@ faulty_forms b cs fault later f =
     ap (flat_map encode) (points_of_oks cs (Err fault ∷ later))
     ∙ flat_map-append encode cs (0xFFFD ∷ map lossy_code_point later)
     ∙ ap (λ x. x ++ (encode 0xFFFD ++ lossy_forms later)) (sym f.encoded.joined)
-    ∙ ap (λ x. f.before ++ (x ++ lossy_forms later)) replacement_is
+    ∙ ap (λ x. f.before ++ (x ++ lossy_forms later)) form_fffd
 
 -- the forms of the items are the reading
 pub reading_of_items : (b : List ℕ) (items : List (Result ℕ EncodingError)) → AreItems b items → IsLossyReading b (lossy_forms items)
@@ -35,10 +31,6 @@ reading_of_items b items (Whole r) = subst (IsLossyReading b) (sym (ap lossy_for
 reading_of_items b items (Faulty {rest = rest} {later = later} r l) =
     subst (IsLossyReading b) (sym (ap lossy_forms r.are ∙ faulty_forms b r.code_points r.fault later r.first))
     (replaced r.first (subst (λ x. IsLossyReading x (lossy_forms later)) (sym r.after) (reading_of_items rest later l)))
-
--- WTF-8 is its own
-pub reading_of_wtf8 : (b : List ℕ) → IsWtf8 b → IsLossyReading b b
-reading_of_wtf8 b w = formed w
 
 -- and each reading is that of the items
 record OfItems (b reading : List ℕ) : Type 0 where
@@ -73,8 +65,8 @@ pub reading_wtf8 : (b reading : List ℕ) → IsLossyReading b reading → IsWtf
 reading_wtf8 b reading (formed w) = w
 reading_wtf8 b reading (replaced {cs = cs} {reading = after} f l) =
     let w = reading_wtf8 f.begins.rest after l in
-    let one : Encodes replacement (0xFFFD ∷ []) = subst (λ x. Encodes x (0xFFFD ∷ [])) replacement_is (encodes_one 0xFFFD (omega arith)) in
+    let one : Encodes replacement (0xFFFD ∷ []) = subst (λ x. Encodes x (0xFFFD ∷ [])) form_fffd (encodes_one 0xFFFD (omega arith)) in
     let more = encodes_joined replacement after (0xFFFD ∷ []) w.0 one w.1 (may_precede 0xFFFD w.0 (λ h. omega (arith, h.1))) in
     (cs ++ 0xFFFD ∷ w.0, encodes_joined f.before (replacement ++ after) cs (0xFFFD ∷ w.0) f.encoded more (λ h l. omega (arith, l.1)))
 
-pub ruleset readings = (some_reading, one_reading, reading_wtf8, reading_of_wtf8, reading_of_items)
+pub ruleset readings = (some_reading, one_reading, reading_wtf8, formed, reading_of_items)

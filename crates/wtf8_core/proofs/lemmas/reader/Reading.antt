@@ -1,5 +1,5 @@
 -- The reader's definitions, one step at a time.
-use Rattle.wtf8_core.proofs.Common.{◌≡◌, ℕ, zero, suc, ◌+◌, ◌-◌, ◌*◌, ◌%◌, ◌<◌, ◌≤◌, Bool, true, false, cond, ltb, List, [], ◌∷◌, length, drop, Result, Ok, Err, refl, sym, ap, ◌∙◌, arith, sub-one, nat_tests, is_in_range, is_high, with_continuations, first_item, and_then_checked, continuations, after_item, items_skipping, then_items, lead_bits, IsFirstItem, needed_continuations, cond-false, le-ltb, EncodingError, Byte, End, IsInRange, IsContinuation, checked_value, first_split, split_within, items_from, is_high_item}
+use Rattle.wtf8_core.proofs.Common.{common_steps, ◌≡◌, ℕ, zero, suc, ◌+◌, ◌-◌, ◌*◌, ◌%◌, ◌<◌, ◌≤◌, Bool, true, false, cond, List, [], ◌∷◌, length, drop, Result, Ok, Err, refl, sym, ap, ◌∙◌, arith, sub-one, nat_tests, is_in_range, is_high, with_continuations, first_item, and_then_checked, continuations, after_item, items_skipping, then_items, lead_bits, IsFirstItem, needed_continuations, cond-false, le-ltb, EncodingError, Byte, End, IsInRange, IsContinuation, checked_value, first_split, split_within, items_from, is_high_item}
 
 pub with_continuations-none : (v n : ℕ) (bs : List ℕ) → n ≡ 0 → with_continuations v n bs ≡ Ok v
 unfolding with_continuations
@@ -50,12 +50,7 @@ and_then_whole h n c bs (Err f) k e = cc
 -- continuations after a lead belong to it if all that it needs are there
 pub after_code_point : (h : Bool) (b c : ℕ) (bs : List ℕ) → 0x80 ≤ b → first_item h b bs ≡ Ok c → after_item b bs ≡ needed_continuations b
 unfolding first_item after_item
-after_code_point h b c bs l e =
-    let n = needed_continuations b in
-    let r = with_continuations (lead_bits b) n bs in
-    let P : Bool → Type 0 = λ t. cond t (Err (Byte b)) (and_then_checked h n r) ≡ Ok c → cond t 0 (continuations n bs) ≡ n in
-    elim (ltb b 0xC2) as P [ true ↦ λ k. cc | false ↦ λ k. and_then_whole h n c bs r (λ v. whole_count (lead_bits b) n v bs) k ]
-    (sym (cond-false _ _ _ (le-ltb b 0x80 l)) ∙ e)
+after_code_point h b c bs l e = grind (arith, nat_tests, common_steps, and_then_whole, whole_count, cond-false, le-ltb)
 
 pub first_ascii : (h : Bool) (b : ℕ) (bs : List ℕ) → b < 0x80 → first_item h b bs ≡ Ok b
 unfolding first_item
@@ -138,11 +133,6 @@ split_of_first h bs rest item i =
     ap (first_split h) i.is ∙ ap (λ r. (r, drop (after_item i.first i.after) i.after)) i.item_is ∙ ap (λ l. (item, l)) (sym i.rest_is)
 
 pub items_of_step : (h t : Bool) (bs rest : List ℕ) (item : Result ℕ EncodingError) → IsFirstItem h bs item rest → t ≡ is_high_item item → items_skipping 0 h bs ≡ item ∷ items_skipping 0 t rest
-items_of_step h t bs rest item i e =
-    items-split h bs (let l = ap length i.is in omega arith) ∙ ap items_from (split_of_first h bs rest item i) ∙ by item ∙ ap (λ t. item ∷ items_skipping 0 t rest) (sym e)
-  where
-    by : (r : Result ℕ EncodingError) → items_from (r, rest) ≡ r ∷ items_skipping 0 (is_high_item r) rest
-    by (Ok c) = refl
-    by (Err f) = refl
+items_of_step h t bs rest item i e = grind (arith, nat_tests, common_steps, items-split, split_of_first)
 
 pub ruleset items_of_first = (items_of_step, items-nil)

@@ -1,5 +1,5 @@
 -- Pieces, one after the other.
-use Rattle.wtf8_core.proofs.Common.{◌≡◌, ◌≢◌, inl, inr, ⊎_elim, ℕ, ◌+◌, ◌<◌, Bool, true, false, List, [], ◌∷◌, ◌++◌, map, length, take, drop, get_or, take-append-drop, Option, None, Some, Ok, refl, sym, ap, ◌∙◌, subst, append_assoc, append-nil, All, All-from_recursion, IsByte, IsCodePoint, encode, IsWtf8, last_or, IsRefused, AreItems, items_after, items_from, class_at, next_at, Gives, Row, needed, SomeRow, IsOpen, rows, IsInState, IsFaulty, OnlyEnds, HasFirstFault, joined_bits, fault_at, Progress, progress, Describes, is_between, is_high, IsEncodedPrefix, EncodingError, Byte, CodePoint, End, Utf8, State, Between, AfterHigh, Refused, Class, cases_Bool}
+use Rattle.wtf8_core.proofs.Common.{arith, nat_tests, common_steps, ◌≡◌, ◌≢◌, inl, inr, ⊎_elim, ℕ, ◌+◌, ◌<◌, Bool, true, false, List, [], ◌∷◌, ◌++◌, map, length, take, drop, get_or, take-append-drop, Option, None, Some, Ok, refl, sym, ap, ◌∙◌, subst, append_assoc, append-nil, All, All-from_recursion, IsByte, IsCodePoint, encode, IsWtf8, last_or, IsRefused, AreItems, items_after, items_from, class_at, next_at, Gives, Row, needed, SomeRow, IsOpen, rows, IsInState, IsFaulty, OnlyEnds, HasFirstFault, joined_bits, fault_at, Progress, progress, Describes, is_between, is_high, IsEncodedPrefix, EncodingError, Byte, CodePoint, End, Utf8, State, Between, AfterHigh, Refused, Class, cases_Bool}
 use Rattle.std.proofs.lemmas.List.{take_more}
 use Rattle.wtf8_core.proofs.lemmas.forms.{Appending.all_flat_map, Shapes.form_bytes}
 use Rattle.wtf8_core.proofs.lemmas.reader.{Complete.never_both, Complete.one_fault, Complete.items_of_encoded, Complete.after_zero, FirstErr.items_all_ok, Reading.items-nil, Reading.within-end, Sound.items_of_bytes}
@@ -106,6 +106,4 @@ pub faulted_progress : (s : State) (bits : ℕ) (f : Option EncodingError) (p : 
 faulted_progress s bits f p b e q n h = subst (λ z. Describes (progress s bits z) b) n (subst (λ z. Describes z b) (sym q) h)
 
 pub faulted_stays : (s : State) (bits : ℕ) (f : Option EncodingError) (p : Progress) (b more : List ℕ) (e : EncodingError) → progress s bits f ≡ p → f ≡ Some e → Describes p b → Describes p (b ++ more)
-faulted_stays s bits f p b more e q n h =
-    subst (λ z. Describes z (b ++ more)) q
-    (subst (λ z. Describes (progress s bits z) (b ++ more)) (sym n) (extends b more e (faulted_progress s bits f p b e q n h)))
+faulted_stays s bits f p b more e q n h = grind (arith, nat_tests, common_steps, extends, faulted_progress)

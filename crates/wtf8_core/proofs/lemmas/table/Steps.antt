@@ -1,5 +1,5 @@
 -- One more byte in the table is one more byte of the reader.
-use Rattle.wtf8_core.proofs.Common.{◌≡◌, ◌≢◌, ◌⊎◌, refl, HasFirstFault, inl, inr, ⊎_elim, ℕ, suc, ◌+◌, ◌*◌, ◌-◌, ◌%◌, ◌<◌, ◌≤◌, Bool, true, false, List, [], ◌∷◌, ◌++◌, map, Result, Ok, Err, sym, ap, ◌∙◌, subst, arith, nat_tests, append_assoc, append-nil, map-append, cond_both, cond-true, cond-false, All, All-append, All-from_recursion, IsByte, IsContinuation, needed_continuations, is_high, lead_bits, checked_value, first_split, split_within, items_from, items_after, AreItems, class_at, next_at, Gives, Row, needed, rows, SomeRow, IsOpen, IsInState, IsFaulty, kept_bits, joined_bits, fault_at, is_continuation, cond, EncodingError, Byte, CodePoint, End, State, Between, AfterHigh, BadFourth, Refused, BadThird}
+use Rattle.wtf8_core.proofs.Common.{common_steps, ◌≡◌, ◌≢◌, ◌⊎◌, refl, HasFirstFault, inl, inr, ⊎_elim, ℕ, suc, ◌+◌, ◌*◌, ◌-◌, ◌%◌, ◌<◌, ◌≤◌, Bool, true, false, List, [], ◌∷◌, ◌++◌, map, Result, Ok, Err, sym, ap, ◌∙◌, subst, arith, nat_tests, append_assoc, append-nil, map-append, cond_both, cond-true, cond-false, All, All-append, All-from_recursion, IsByte, IsContinuation, needed_continuations, is_high, lead_bits, checked_value, first_split, split_within, items_from, items_after, AreItems, class_at, next_at, Gives, Row, needed, rows, SomeRow, IsOpen, IsInState, IsFaulty, kept_bits, joined_bits, fault_at, is_continuation, cond, EncodingError, Byte, CodePoint, End, State, Between, AfterHigh, BadFourth, Refused, BadThird}
 use Rattle.wtf8_core.specs.Checker.{value_fault}
 use Rattle.wtf8_core.proofs.lemmas.forms.Ranges.{in_range, not_in_range}
 use Rattle.wtf8_core.proofs.lemmas.reader.{Complete.when_good, Complete.when_bad, FirstErr.items_first_err, Reading.items-split, Reading.split-ascii, Reading.split-stray, Reading.split-lead, Reading.within-more, Reading.within-broken, Reading.within-whole, Sound.items_of_bytes}
@@ -59,10 +59,7 @@ module _ (s t : State) (bits : ℕ) (b : List ℕ) (x : ℕ) (u : x < 256) where
   k = classed x u
 
   rows_step : SomeRow (IsOpen (joined_bits bits x) (b ++ x ∷ [])) (rows t) → StepsTo s bits b x t
-  rows_step r = record {
-    on = λ _. opened_of_rows t (joined_bits bits x) (b ++ x ∷ []) r;
-    off = λ e. absurd (subst (λ z. SomeRow (IsOpen (joined_bits bits x) (b ++ x ∷ [])) (rows z)) e r);
-  }
+  rows_step r = grind (arith, nat_tests, common_steps, opened_of_rows)
 
   module _ {after : List ℕ → List (Result ℕ EncodingError)} (g : Gives b after) where
     -- the byte ends a code point

@@ -49,15 +49,11 @@ wtf8_lossy_is_utf8 b w =
     let cs = map without_surrogate l.code_points in
     (cs, (lossy_scalars l.code_points l.encoded.code_points, sym (forms_encode cs) ∙ sym l.are))
 
--- a list of bytes
-abbrev Bytes : List ℕ → Type 0
-Bytes b = All IsByte b
-
 -- forms are bytes, and so are WTF-8 and texts
-pub wtf8_bytes : (b : List ℕ) → IsWtf8 b → Bytes b
-wtf8_bytes b w = subst Bytes (sym w.1.joined) (all_flat_map IsCodePoint IsByte encode (λ c h. All-from_recursion IsByte (encode c) (form_bytes c h)) w.0 w.1.code_points)
+pub wtf8_bytes : (b : List ℕ) → IsWtf8 b → All IsByte b
+wtf8_bytes b w = subst (All IsByte) (sym w.1.joined) (all_flat_map IsCodePoint IsByte encode (λ c h. All-from_recursion IsByte (encode c) (form_bytes c h)) w.0 w.1.code_points)
 
-pub text_bytes : (b : List ℕ) → IsUtf8 b → Bytes b
+pub text_bytes : (b : List ℕ) → IsUtf8 b → All IsByte b
 text_bytes b u = wtf8_bytes b (wtf8_of_text b u)
 
 -- what follows a text at the start
@@ -151,7 +147,6 @@ lossy_within zero b h = absurd (omega arith)
 lossy_within (suc n) b h = ⊎_elim
     (λ e. let u = IsUtf8-from_is_utf8 b e in subst (IsLossyText b) (sym (utf8_lossy-IsUtf8 b u)) (text u))
     (λ e. let v = valid_up_to b (λ u. false≢true (sym e ∙ is_utf8-from_IsUtf8 b u)) in
-    let s = v.short in
     faulty_text b (utf8_valid_len b) v (λ m k. lossy_within n (drop (utf8_valid_len b + m) b) (omega (arith, length-drop (utf8_valid_len b + m) b))))
     (cases_Bool (is_utf8 b))
 

@@ -46,7 +46,6 @@ part_len r m (Some k) p (inr q) = one_part r k m p q
 pub lossy_step : (b : List ℕ) (n m : ℕ) → IsValidUpTo b n → IsIllFormedPart (drop n b) m → utf8_lossy b ≡ take n b ++ (replacement ++ utf8_lossy (drop (n + m) b))
 lossy_step b n m v p =
     let e = utf8_valid_len-IsValidUpTo b n v in
-    let s = v.short in
     let l : utf8_invalid_len (drop n b) ≡ m = part_len (drop n b) m (utf8_error_len (drop n b)) (fault_is b n (utf8_error_len (drop n b)) v refl).part p in
     utf8_lossy_step b (λ f. omega arith)
     ∙ ap (λ k. take k b ++ (replacement ++ utf8_lossy (drop (k + utf8_invalid_len (drop k b)) b))) e
@@ -85,7 +84,7 @@ wtf8_lossy_prefix b n w u =
     ∙ ap (λ l. take n b ++ ws l) (sym (code_points_in-encoded (drop n b) t.0 t.2))
 
 -- the form of U+FFFD
-form_fffd : encode 0xFFFD ≡ replacement
+pub form_fffd : encode 0xFFFD ≡ replacement
 unfolding encode
 form_fffd = refl
 

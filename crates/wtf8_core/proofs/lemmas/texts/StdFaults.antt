@@ -1,5 +1,5 @@
 -- std's answer on bytes that aren't UTF-8, by the definitions.
-use Rattle.wtf8_core.proofs.Common.{◌≡◌, ⊎_elim, ℕ, suc, ◌+◌, ◌<◌, ◌≤◌, List, [], ◌∷◌, ◌++◌, length, take, drop, get_or, length-append, length-drop, append_assoc, take-append-drop, Option, Some, sym, ap, ◌∙◌, subst, arith, if◌then◌else◌, IsScalar, is_in_range, IsInRange, MatchOption, IsUtf8, IsValidUpTo, utf8_error_len, second_byte_min, second_byte_max, cond_both, cases_lt, nat_tests, take-take, get_or_append_left, IsUtf8-append, IsUtf8-encode, take-add, take-append_seam, IsContinuation, needed_continuations, encode, sequence_value, IsPrefixOfCharacter, IsProperPrefix, IsIllFormed, IsUtf8Fault}
+use Rattle.wtf8_core.proofs.Common.{common_steps, ◌≡◌, ⊎_elim, ℕ, suc, ◌+◌, ◌<◌, ◌≤◌, List, [], ◌∷◌, ◌++◌, length, take, drop, get_or, length-append, length-drop, append_assoc, take-append-drop, Option, Some, sym, ap, ◌∙◌, subst, arith, if◌then◌else◌, IsScalar, is_in_range, IsInRange, MatchOption, IsUtf8, IsValidUpTo, utf8_error_len, second_byte_min, second_byte_max, cond_both, cases_lt, nat_tests, take-take, get_or_append_left, IsUtf8-append, IsUtf8-encode, take-add, take-append_seam, IsContinuation, needed_continuations, encode, sequence_value, IsPrefixOfCharacter, IsProperPrefix, IsIllFormed, IsUtf8Fault}
 use Rattle.wtf8_core.proofs.lemmas.characters.{AtIndices.NoChar, Overlaps.form_after}
 use Rattle.wtf8_core.proofs.lemmas.forms.{Shapes.form_ascii, Shapes.form_bounds, ByStd.form_encode, Ranges.in_range-true, Ranges.in_range-false}
 
@@ -84,7 +84,6 @@ ill r k some within prefix none = record {
 long_prefix : (b : ℕ) (t u : List ℕ) → NoChar (b ∷ t) → (w : IsPrefixOfCharacter (b ∷ u)) → 0x80 ≤ w.char
 long_prefix b t u n w = ⊎_elim
     (λ h. let f = form_ascii w.char h in
-    let e : b ∷ u ++ w.rest ≡ w.char ∷ [] = sym w.is ∙ f in
     let q : b ≡ w.char = cc in
     absurd (n w.char t w.scalar (ap (λ x. x ∷ t) q ∙ ap (λ x. x ++ t) (sym f))))
     (λ h. h)
@@ -92,9 +91,7 @@ long_prefix b t u n w = ⊎_elim
 
 -- the bytes after the first one in a prefix of a character are continuations
 pub after_prefix : (xs : List ℕ) → IsPrefixOfCharacter xs → (m : ℕ) → 0 < m → m < length xs → IsContinuation (get_or xs m 0)
-after_prefix xs w m low high =
-    let l : length (encode w.char) ≡ length xs + length w.rest = ap length w.is ∙ length-append xs w.rest in
-    subst IsContinuation (ap (λ x. get_or x m 0) w.is ∙ get_or_append_left xs w.rest 0 m high) (form_after w.char m low (omega arith))
+after_prefix xs w m low high = grind (arith, nat_tests, common_steps, length-append, get_or_append_left, form_after)
 
 -- the part, by the first byte, by the second, and by the third
 by_first : (b : ℕ) (t : List ℕ) (o : Option ℕ) → NoChar (b ∷ t) → (First b → Part (b ∷ t) o) → Part (b ∷ t) (if is_in_range 0xC2 0xF4 b then o else Some 1)

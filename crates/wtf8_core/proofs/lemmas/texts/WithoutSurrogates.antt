@@ -1,5 +1,5 @@
 -- WTF-8 in which no surrogate begins is UTF-8, and where WTF-8 may be cut before a byte.
-use Rattle.wtf8_core.proofs.Common.{◌≡◌, ⊎_elim, ℕ, zero, suc, ◌+◌, ◌<◌, ◌≤◌, true, List, [], ◌∷◌, ◌++◌, length, take, drop, get_or, refl, sym, ap, ◌∙◌, subst, arith, take-append-drop, get_or-take, get_or_past, length-take-le, cases_lt, cases_Bool, scalar, all_scalars, AllByRecursion, flat_map, IsUtf8, IsUtf8-nil, IsContinuation, IsCodePoint, IsSurrogate, is_surrogate, encode, IsWtf8}
+use Rattle.wtf8_core.proofs.Common.{nat_tests, common_steps, ◌≡◌, ⊎_elim, ℕ, zero, suc, ◌+◌, ◌<◌, ◌≤◌, true, List, [], ◌∷◌, ◌++◌, length, take, drop, get_or, refl, sym, ap, ◌∙◌, subst, arith, take-append-drop, get_or-take, get_or_past, length-take-le, cases_lt, cases_Bool, scalar, all_scalars, AllByRecursion, flat_map, IsUtf8, IsUtf8-nil, IsContinuation, IsCodePoint, IsSurrogate, is_surrogate, encode, IsWtf8}
 use Rattle.std.proofs.lemmas.List.{drop_more, get_or-append-add}
 use Rattle.wtf8_core.specs.Surrogate.{IsSurrogateAt}
 use Rattle.wtf8_core.proofs.lemmas.characters.AtIndices.{is_scalar}
@@ -15,9 +15,7 @@ cut_at_lead b i lt w n =
 
 -- a surrogate in the second of two lists
 later : (x y : List ℕ) (i : ℕ) → IsSurrogateAt y i → IsSurrogateAt (x ++ y) (length x + i)
-later x y i h =
-    let next : length x + (i + 1) ≡ length x + i + 1 = omega arith in
-    (get_or-append-add x y i 0 ∙ h.0, subst (λ n. 0xA0 ≤ n) (sym (get_or-append-add x y (i + 1) 0) ∙ ap (λ k. get_or (x ++ y) k 0) next) h.1)
+later x y i h = grind (arith, nat_tests, common_steps, get_or-append-add)
 
 -- a surrogate's form begins with one
 begins : (c : ℕ) (r : List ℕ) → IsSurrogate c → IsSurrogateAt (encode c ++ r) 0
@@ -32,9 +30,7 @@ all_text (c ∷ cs) a n =
     rw (first, more) refl
 
 pub text_without : (b : List ℕ) → IsWtf8 b → ((i : ℕ) → IsSurrogateAt b i → ⊥) → IsUtf8 b
-text_without b w n =
-    let joined = w.1.joined in
-    (w.0, (all_text w.0 w.1.code_points (λ i h. n i (subst (λ x. IsSurrogateAt x i) (sym joined) h)), sym (forms_encode w.0) ∙ sym joined))
+text_without b w n = grind (arith, nat_tests, common_steps, all_text, forms_encode)
 
 -- the same of a prefix before a byte that is no continuation
 pub prefix_without : (b : List ℕ) (n : ℕ) → n < length b → IsWtf8 b → (0 < n → IsContinuation (get_or b n 0) → ⊥) → ((i : ℕ) → i < n → IsSurrogateAt b i → ⊥) → IsUtf8 (take n b)

@@ -1,6 +1,6 @@
 -- The operations on vectors, lane by lane.
-use Rattle.wtf8_core.proofs.Common.{◌≡◌, inl, inr, ◌⊎◌, ⊎_elim, ℕ, zero, suc, ◌+◌, ◌-◌, ◌%◌, ◌^◌, ◌<◌, ◌≤◌, Bool, true, false, cond, ltb, List, [], ◌∷◌, ◌++◌, map, length, length-append, get_or, bit_or, replicate, not, refl, sym, ap, ◌∙◌, subst, arith, w8, Fits, eqb, eqb-true, length-map, length-replicate, get_or-map, get_or_append_left, range_with_len, not-true, not-false, cases_lt, nat_tests}
-use Rattle.std.proofs.lemmas.{Simd.Each1-get_or, Simd.get_or-chunk, Simd.get_or-zip2, Simd.pick_l-range_with_len, Simd.get_or-replicate, Simd.tops_compared, Simd.zip2_splat, Simd.zip2_splat_left, Simd.length-sel_l, Simd.get_or-sel_l, Simd.mask_l-mod, Simd.bitmask_splat, Simd.trailing_mask_l, List.Sums.prefix_len_passes, Nat.trailing_le, Nat.le_or_l, Nat.le_or_r}
+use Rattle.wtf8_core.proofs.Common.{common_steps, ◌≡◌, ⊎_elim, ℕ, zero, suc, ◌+◌, ◌-◌, ◌%◌, ◌^◌, ◌<◌, ◌≤◌, Bool, true, false, cond, ltb, List, [], ◌∷◌, ◌++◌, map, length, length-append, get_or, bit_or, replicate, not, refl, sym, ap, ◌∙◌, subst, arith, w8, Fits, eqb, eqb-true, length-map, length-replicate, get_or-map, get_or_append_left, range_with_len, not-true, not-false, cases_lt, nat_tests}
+use Rattle.std.proofs.lemmas.{Simd.get_or-chunk, Simd.get_or-zip2, Simd.pick_l-range_with_len, Simd.get_or-replicate, Simd.tops_compared, Simd.zip2_splat, Simd.zip2_splat_left, Simd.length-sel_l, Simd.get_or-sel_l, Simd.mask_l-mod, Simd.bitmask_splat, Simd.trailing_mask_l, List.Sums.prefix_len_passes, Nat.trailing_le, Nat.le_or_l, Nat.le_or_r}
 use Rattle.std.specs.Int.Count.{count_trailing_zeros}
 use lib.Lanes.{zip2, pick_l, sel_l, mask_l, top, Each1}
 
@@ -23,27 +23,17 @@ greater xs n y p i h =
     ∙ rw (get_or-map (λ x. ltb x y) xs i 0 false (omega (arith, p, h)), get_or-replicate n i y 0 h) refl)
 
 length-greater : (xs : List ℕ) (n y : ℕ) → length xs ≡ n → length (sel_l (map (top 7) (zip2 (λ a b. cond (ltb a b) 255 0) xs (replicate n y))) (replicate n y) xs) ≡ n
-length-greater xs n y p =
-    let below : List Bool = map (λ x. ltb x y) xs in
-    let many : length below ≡ n = length-map xs (λ x. ltb x y) ∙ p in
-    rw (tops_compared w8 ltb xs (replicate n y), zip2_splat ltb xs n y p) (length-sel_l below (replicate n y) xs (many ∙ sym (length-replicate n y)) (many ∙ sym p) ∙ many)
+length-greater xs n y p = grind (arith, nat_tests, common_steps, length-map, tops_compared, zip2_splat, length-sel_l, length-replicate)
 
 -- `saturating_sub` of one value
 pub lane_above : (xs : List ℕ) (n y : ℕ) → length xs ≡ n → Each1 (Fits w8) xs → y < 256 → (i : ℕ) → i < n
     → get_or (zip2 (λ a b. (a + (2 ^ 8 - b)) % 2 ^ 8) (sel_l (map (top 7) (zip2 (λ a b. cond (ltb a b) 255 0) xs (replicate n y))) (replicate n y) xs) (replicate n y)) i 0 ≡ get_or xs i 0 - y
-lane_above xs n y p fits u i h =
-    lane_with (λ a b. (a + (2 ^ 8 - b)) % 2 ^ 8) _ n y (length-greater xs n y p) i h
-    ∙ ap (λ g. (g + (2 ^ 8 - y)) % 2 ^ 8) (greater xs n y p i h)
-    ∙ lifted (get_or xs i 0) y (Each1-get_or (Fits w8) xs i 0 (omega (arith, p, h)) fits).fits u
+lane_above xs n y p fits u i h = grind (arith, nat_tests, common_steps, lane_with, length-greater, greater, lifted)
 
 -- a mask with no bit set
 pub none_set : (test : ℕ → Bool) (xs : List ℕ) → mask_l (map test xs) ≡ 0 → (i d : ℕ) → i < length xs → test (get_or xs i d) ≡ false
 none_set test [] e i d h = absurd (omega (arith, h))
-none_set test (x ∷ xs) e zero d h = go (test x) refl (omega (arith, e))
-  where
-    go : (t : Bool) → test x ≡ t → ◌≡◌ {A = ℕ} (cond (test x) 1 0) 0 → test x ≡ false
-    go true p q = absurd (omega (arith, rw p at q))
-    go false p q = p
+none_set test (x ∷ xs) e zero d h = grind (arith, nat_tests, common_steps)
 none_set test (x ∷ xs) e (suc i) d h = none_set test xs (omega (arith, e)) i d (omega (arith, h))
 
 none_passes : (t : ℕ → ℕ → Bool) (xs : List ℕ) (k y : ℕ) → k ≤ 64 → length xs ≡ k → eqb (mask_l (map (top 7) (zip2 (λ a b. cond (t a b) 255 0) xs (replicate k y))) % 2 ^ 64) 0 ≡ true
@@ -78,15 +68,7 @@ no_bit_of_both xs p e i h =
 
 -- before the first bit that is set no lane passes
 none_before : (test : ℕ → Bool) (xs : List ℕ) → length xs ≤ 64 → (i : ℕ) → i < length xs → i < count_trailing_zeros 64 (mask_l (map test xs)) → test (get_or xs i 0) ≡ false
-none_before test xs p i l h =
-    ⊎_elim
-    (λ e. none_set test xs e i 0 l)
-    (λ s. not-true _ (prefix_len_passes (λ x. not (test x)) xs i 0 (omega (arith, h, trailing_mask_l test 64 xs p s))))
-    (cases_zero (mask_l (map test xs)))
-  where
-    cases_zero : (n : ℕ) → (n ≡ 0) ⊎ (0 < n)
-    cases_zero zero = inl refl
-    cases_zero (suc n) = inr (omega arith)
+none_before test xs p i l h = grind (arith, nat_tests, common_steps, none_set, not-true, prefix_len_passes, trailing_mask_l)
 
 pub none_passes_before : (t : ℕ → ℕ → Bool) (xs : List ℕ) (k y n : ℕ) → k ≤ 64 → length xs ≡ k → n ≡ count_trailing_zeros 64 (mask_l (map (top 7) (zip2 (λ a b. cond (t a b) 255 0) xs (replicate k y))) % 2 ^ 64)
     → (i : ℕ) → i < n → i < k → t (get_or xs i 0) y ≡ false

@@ -1,5 +1,5 @@
 -- Bytes whose bits say that nothing is wrong may follow those before them.
-use Rattle.wtf8_core.proofs.Common.{List, get_or, ◌≡◌, ◌≢◌, ◌⊎◌, inl, inr, ⊎_elim, ℕ, ◌+◌, ◌-◌, ◌*◌, ◌/◌, ◌^◌, max, ◌<◌, ◌≤◌, Bool, true, eqb, bit_and, bit_or, bit_xor, refl, sym, ap, ◌∙◌, subst, arith, eq-eqb, cases_lt, bit_at, IsContinuation, MayFollow, MayFollowAll, EachMayFollow}
+use Rattle.wtf8_core.proofs.Common.{nat_tests, common_steps, List, get_or, ◌≡◌, ◌≢◌, ◌⊎◌, inl, inr, ⊎_elim, ℕ, ◌+◌, ◌-◌, ◌*◌, ◌/◌, ◌^◌, max, ◌<◌, ◌≤◌, Bool, true, eqb, bit_and, bit_or, bit_xor, refl, sym, ap, ◌∙◌, subst, arith, eq-eqb, cases_lt, bit_at, IsContinuation, MayFollow, MayFollowAll, EachMayFollow}
 use Rattle.std.proofs.lemmas.Nat.Bits.{and_pow, and_high_mask, bit_at_or}
 use Rattle.wtf8_core.specs.{PairBits.pair_bits, PairBits.continuation_due, PairBits.error_bits, PairBits.surrogate_pair_difference, declared.vectors.Encoding.Encoding, declared.vectors.Encoding.TheVariants.Utf8}
 use Rattle.wtf8_core.proofs.lemmas.vectors.ComputedTests.{fails}
@@ -116,9 +116,7 @@ module _ (s : Encoding) (w x y z b : ℕ) (ux : x < 256) (uy : y < 256) (uz : z 
       }
 
   may_follow_all : MayFollowAll s w x y z b
-  may_follow_all =
-      let late : (0xF0 ≤ x) ⊎ (0xE0 ≤ y) → MayFollowAll s w x y z b = λ p. when_late p (is_later x y ux uy p) in
-      ⊎_elim (λ p. ⊎_elim (λ q. when_early p q (omega (arith, later_is x y, p, q))) (λ q. late (inr q)) (cases_lt y 0xE0)) (λ p. late (inl p)) (cases_lt x 0xF0)
+  may_follow_all = grind (arith, nat_tests, common_steps, when_late, is_later, when_early, later_is)
 
 -- what holds of five numbers holds of equal ones
 pub same_five : (P : ℕ → ℕ → ℕ → ℕ → ℕ → Type 0) {v w x y z a b c d e : ℕ} → v ≡ a → w ≡ b → x ≡ c → y ≡ d → z ≡ e → P v w x y z → P a b c d e

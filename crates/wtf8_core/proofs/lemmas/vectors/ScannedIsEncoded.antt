@@ -1,5 +1,5 @@
 -- Bytes that keep to the pattern are forms of code points.
-use Rattle.wtf8_core.proofs.Common.{◌≡◌, inl, inr, ⊎_elim, ℕ, zero, suc, ◌+◌, ◌/◌, ◌%◌, ◌<◌, ◌≤◌, List, [], ◌∷◌, ◌++◌, length, get_or, refl, sym, ap, ◌∙◌, subst, arith, nat_tests, cases_lt, AllByRecursion, flat_map, IsScalar, IsContinuation, IsHigh, IsSurrogate, IsCodePoint, encode, Encodes, MayPrecede, last_or, needed_continuations, least_value, IsWholeSequence, sequence_value, MayFollow, MayFollowAll, EachMayFollow, Steps, IsBetweenCodePoints}
+use Rattle.wtf8_core.proofs.Common.{common_steps, ◌≡◌, inl, inr, ⊎_elim, ℕ, zero, suc, ◌+◌, ◌/◌, ◌%◌, ◌<◌, ◌≤◌, List, [], ◌∷◌, ◌++◌, length, get_or, refl, sym, ap, ◌∙◌, subst, arith, nat_tests, cases_lt, AllByRecursion, flat_map, IsScalar, IsContinuation, IsHigh, IsSurrogate, IsCodePoint, encode, Encodes, MayPrecede, last_or, needed_continuations, least_value, IsWholeSequence, sequence_value, MayFollow, MayFollowAll, EachMayFollow, Steps, IsBetweenCodePoints}
 use Rattle.wtf8_core.proofs.lemmas.characters.AtIndices.{is_scalar}
 use Rattle.wtf8_core.proofs.lemmas.forms.{Ranges.low_surrogate, Ranges.not_in_range, Shapes.form_ascii, Shapes.form_bounds, Shapes.form_surrogate, Shapes.shape_is_form}
 use Rattle.wtf8_core.specs.declared.vectors.Encoding.{Encoding, TheVariants.Utf8}
@@ -29,11 +29,7 @@ IsBetweenCodePointsAt p n l = IsBetweenCodePoints p (get_or l (suc n) 0) (get_or
 -- the edge after one more form
 edge_after : (p w x y z c : ℕ) (r : List ℕ) → IsBetweenCodePoints p x y z → IsBetweenCodePointsAt c (length (encode c)) (w ∷ x ∷ y ∷ z ∷ (encode c ++ r))
 unfolding encode
-edge_after p w x y z c r edge = record {
-  closed = record { fourth = grind (arith, nat_tests, edge.closed.third, edge.closed.second); third = grind (arith, nat_tests, edge.closed.second); second = grind (arith, nat_tests) };
-  high = λ h. (grind (arith, nat_tests, h), grind (arith, nat_tests, h), grind (arith, nat_tests, h));
-  only_high = λ e l m. (grind (arith, nat_tests, edge.closed.third, edge.closed.second), grind (arith, nat_tests, edge.closed.third, edge.closed.second));
-}
+edge_after p w x y z c r edge = grind (arith, nat_tests, common_steps)
 
 -- and after forms
 pub edge_of_forms : (p w x y z : ℕ) (cs r : List ℕ) → IsBetweenCodePoints p x y z → IsBetweenCodePointsAt (last_or p cs) (length (flat_map encode cs)) (w ∷ x ∷ y ∷ z ∷ (flat_map encode cs ++ r))
@@ -58,9 +54,7 @@ pub record IsWhole (encoding : Encoding) (p : ℕ) (bytes : List ℕ) : Type 0 w
 
 -- the bytes of a surrogate
 of_surrogate : (c : ℕ) (f : List ℕ) → IsFormOf c f → IsSurrogate c → (get_or f 0 0 ≡ 0xED) × (get_or f 1 0 ≡ 0x80 + (c / 0x40) % 0x40)
-of_surrogate c f i h =
-    let form = sym i.is ∙ form_surrogate c h in
-    (ap (λ l. get_or l 0 0) form ∙ omega (arith, h.0, h.1), ap (λ l. get_or l 1 0) form)
+of_surrogate c f i h = grind (arith, nat_tests, common_steps, form_surrogate)
 
 -- the pattern by recursion, for some of the bytes and the one after them
 pub steps : (s : Encoding) (w x y z : ℕ) (bs rest : List ℕ) → EachMayFollow s (suc (length bs)) (w ∷ x ∷ y ∷ z ∷ (bs ++ rest)) → Steps s w x y z (bs ++ get_or rest 0 0 ∷ [])

@@ -1,5 +1,5 @@
 -- From windows to the bytes: which prefix they give.
-use Rattle.wtf8_core.proofs.Common.{Bool, true, false, ◌≡◌, inl, inr, ◌⊎◌, ⊎_elim, ℕ, zero, suc, ◌+◌, ◌-◌, ◌<◌, ◌≤◌, List, [], ◌∷◌, ◌++◌, length, take, drop, get_or, refl, sym, ap, ◌∙◌, subst, arith, min, replicate, get_or-take, get_or-drop, get_or_append_left, get_or-append_right, get_or_past, length-append, length-take, length-take-le, length-drop, take_all, take-add, take-take, drop-drop, take-append-drop, cases_lt, and_from, AllByRecursion, IsScalar, low_scalar, scalars, IsUtf8, is_in_range, IsContinuation, is_high, Encodes, last_or, MayFollowAll, EachMayFollow, IsBetweenCodePoints, with_zeros_before, KeepsPattern, IsEncodedPrefix}
+use Rattle.wtf8_core.proofs.Common.{nat_tests, common_steps, true, false, ◌≡◌, inl, inr, ◌⊎◌, ⊎_elim, ℕ, zero, suc, ◌+◌, ◌-◌, ◌<◌, ◌≤◌, List, [], ◌∷◌, ◌++◌, length, take, drop, get_or, refl, sym, ap, ◌∙◌, subst, arith, min, replicate, get_or-take, get_or-drop, get_or_append_left, get_or-append_right, get_or_past, length-append, length-take, length-take-le, length-drop, take_all, take-add, take-take, drop-drop, take-append-drop, cases_lt, and_from, AllByRecursion, IsScalar, low_scalar, scalars, IsUtf8, is_in_range, IsContinuation, is_high, Encodes, last_or, MayFollowAll, EachMayFollow, IsBetweenCodePoints, with_zeros_before, KeepsPattern, IsEncodedPrefix}
 use Rattle.std.proofs.lemmas.List.{take_more}
 use borrow.Rule.Slice.PartMut.{put_mid}
 use Rattle.wtf8_core.proofs.lemmas.forms.{Ranges.in_range, Ranges.in_range-true, Ranges.in_range-false, Ranges.not_in_range, Shapes.form_ascii, ByStd.forms_encode, Appending.all_joined, Appending.encodes_joined, Appending.encodes_more, Cuts.all_parts, Cuts.cut_before, Cuts.encodes_parts}
@@ -60,18 +60,7 @@ four_before a b c d (x ∷ l) (suc m) h = four_before b c d x l m (omega (arith,
 
 -- a zero may follow where no form continues
 zero_follows : (encoding : Encoding) (w x y z b : ℕ) → IsClosed x y z → b ≡ 0 → MayFollowAll encoding w x y z b
-zero_follows encoding w x y z b closed is = record {
-  begins = λ _. inl (omega (arith, is));
-  continues = λ goes. absurd (⊎_elim (λ h. omega (arith, h, closed.fourth)) (λ r. ⊎_elim (λ h. omega (arith, h, closed.third)) (λ h. omega (arith, h, closed.second)) r) goes);
-  follows = record {
-    lead = λ h. absurd (omega (arith, h, closed.second));
-    three_long = λ h. absurd (omega (arith, h, closed.second));
-    four_long = λ h. absurd (omega (arith, h, closed.second));
-    within = λ h. absurd (omega (arith, h, closed.second));
-  };
-  unpaired = λ _ _ _ h. absurd (omega (arith, h, closed.second));
-  plain = λ _ h. absurd (omega (arith, h, closed.second));
-}
+zero_follows encoding w x y z b closed is = grind (arith, nat_tests, common_steps)
 
 module _ (encoding : Encoding) (bytes : List ℕ) where
   -- a prefix may be cut before a byte that begins a code point
@@ -318,11 +307,7 @@ window_from_start w bytes before copy i h = before i (omega arith)
 
 -- whether the code point at an edge is a high surrogate, by the bytes before it
 edge_high : (p x y z : ℕ) → IsBetweenCodePoints p x y z → x ≡ 0xED → is_in_range 0xA0 0xAF y ≡ is_high p
-edge_high p x y z edge e = go (is_in_range 0xA0 0xAF y) refl
-  where
-    go : (t : Bool) → is_in_range 0xA0 0xAF y ≡ t → is_in_range 0xA0 0xAF y ≡ is_high p
-    go true k = let r = in_range-true 0xA0 0xAF y k in k ∙ sym (in_range 0xD800 0xDBFF p (edge.only_high e r.0 (omega (arith, r.1))))
-    go false k = k ∙ sym (not_in_range 0xD800 0xDBFF p (λ h. let q = edge.high h in in_range-false 0xA0 0xAF y k (q.1, omega (arith, q.2))))
+edge_high p x y z edge e = grind (arith, nat_tests, common_steps, in_range-true, in_range, edge, not_in_range, in_range-false)
 
 edge_not_high : (p x y z : ℕ) → IsBetweenCodePoints p x y z → (x ≡ 0xED → ⊥) → false ≡ is_high p
 edge_not_high p x y z edge n = sym (not_in_range 0xD800 0xDBFF p (λ h. n (edge.high h).0))
