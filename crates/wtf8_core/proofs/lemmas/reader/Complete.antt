@@ -1,5 +1,5 @@
 -- The reader gives what the definitions say, whatever the bytes begin with: so bytes have one list of items.
-use Rattle.wtf8_core.proofs.Common.{◌≡◌, inl, inr, ⊎_elim, ℕ, suc, ◌⊎◌, ◌<◌, ◌≤◌, Bool, false, List, [], ◌∷◌, ◌++◌, length, map, Result, Ok, Err, refl, sym, ap, ◌∙◌, subst, arith, append_assoc, append-nil, cases_lt, nat_tests, AllByRecursion, flat_map, needed_continuations, IsHigh, IsLow, is_high, IsCodePoint, encode, HasNoSurrogatePair, last_or, Encodes, IsWholeSequence, sequence_value, IsIncomplete, IsBadSequence, IsRefused, BeginsFault, IsFirstFault, lead_bits, least_value, checked_value, items_skipping, items_after, first_split, split_within, items_from, true, ◌-◌, length-append, AreItems, EncodingError, Byte, CodePoint, End, Utf8}
+use Rattle.wtf8_core.proofs.Common.{common_steps, ◌≡◌, inl, inr, ⊎_elim, ℕ, suc, ◌⊎◌, ◌<◌, ◌≤◌, Bool, false, List, [], ◌∷◌, ◌++◌, length, map, Result, Ok, Err, refl, sym, ap, ◌∙◌, subst, arith, append_assoc, append-nil, cases_lt, nat_tests, AllByRecursion, flat_map, needed_continuations, IsHigh, IsLow, is_high, IsCodePoint, encode, HasNoSurrogatePair, last_or, Encodes, IsWholeSequence, sequence_value, IsIncomplete, IsBadSequence, IsRefused, BeginsFault, IsFirstFault, lead_bits, least_value, checked_value, items_skipping, items_after, first_split, split_within, items_from, true, ◌-◌, length-append, AreItems, EncodingError, Byte, CodePoint, End, Utf8}
 use Rattle.wtf8_core.specs.Items.AreItems.{Whole, Faulty}
 use Rattle.wtf8_core.proofs.lemmas.reader.{FirstErr.same_oks, FirstErr.no_err, FirstErr.same_faulty, Reading.split-ascii, Reading.split-stray, Reading.split-lead, Reading.within-broken, Reading.within-end, Reading.within-whole, Reading.items-split, Continuations.within_all}
 use Rattle.wtf8_core.proofs.lemmas.forms.{Ranges.in_range, Ranges.in_range-true, Shapes.form_ascii, Shapes.form_bounds, Shapes.form_parts, Shapes.shape_is_form, Shapes.long_shape, Shapes.long_value}
@@ -35,9 +35,7 @@ split_of_form p c rest k free =
     (cases_lt c 0x80)
 
 pub item_of_form : (p c : ℕ) (rest : List ℕ) → IsCodePoint c → (IsHigh p → IsLow c → ⊥) → items_skipping 0 (is_high p) (encode c ++ rest) ≡ Ok c ∷ items_skipping 0 (is_high c) rest
-item_of_form p c rest k free =
-    let l = form_bounds c in
-    items-split (is_high p) (encode c ++ rest) (omega (arith, length-append (encode c) rest)) ∙ ap items_from (split_of_form p c rest k free)
+item_of_form p c rest k free = grind (arith, nat_tests, common_steps, form_bounds, items-split, length-append, split_of_form)
 
 -- the items of forms that come before a rest
 pub items_of_encoded : (p : ℕ) (cs rest : List ℕ) → AllByRecursion IsCodePoint cs → HasNoSurrogatePair (p ∷ cs)

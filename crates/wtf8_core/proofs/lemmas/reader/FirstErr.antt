@@ -1,5 +1,5 @@
 -- What a caller that stops at the first `Err` knows. None of these statements is about what comes after that `Err`.
-use Rattle.wtf8_core.proofs.Common.{◌≡◌, ℕ, List, [], ◌∷◌, ◌++◌, map, Result, Ok, Err, refl, sym, ap, ◌∙◌, subst, append_assoc, AllByRecursion, flat_map, append-nil, map-append, IsCodePoint, encode_utf16, HasUnits, units, Encodes, IsFirstFault, AreItems, AreUnitItems, unit_items, ok_values, EncodingError}
+use Rattle.wtf8_core.proofs.Common.{arith, nat_tests, common_steps, ◌≡◌, ℕ, List, [], ◌∷◌, ◌++◌, map, Result, Ok, Err, refl, sym, ap, ◌∙◌, subst, append_assoc, AllByRecursion, flat_map, append-nil, map-append, IsCodePoint, encode_utf16, HasUnits, units, Encodes, IsFirstFault, AreItems, AreUnitItems, unit_items, ok_values, EncodingError}
 use Rattle.wtf8_core.specs.{Items.AreItems.Whole, Items.AreItems.Faulty, Encoder.IsCodePointItem}
 
 -- an item of bytes
@@ -43,9 +43,7 @@ items_all_ok bytes cs (Faulty {later = later} r l) = absurd (no_err cs r.code_po
 -- the first Err is the first fault
 pub items_first_err : (bytes cs : List ℕ) (f : EncodingError) (rest : List (Result ℕ EncodingError)) → AreItems bytes (oks cs ++ Err f ∷ rest) → IsFirstFault bytes cs f
 items_first_err bytes cs f rest (Whole r) = absurd (no_err r.code_points cs f rest (sym r.are))
-items_first_err bytes cs f rest (Faulty {later = later} r l) =
-    let s = same_faulty cs r.code_points f r.fault rest later r.are in
-    subst (λ x. IsFirstFault bytes cs x) (sym s.1) (subst (λ x. IsFirstFault bytes x r.fault) (sym s.0) r.first)
+items_first_err bytes cs f rest (Faulty {later = later} r l) = grind (arith, nat_tests, common_steps, same_faulty)
 
 -- the same for units
 units_of_oks : (cs : List ℕ) (rest : List Item) → flat_map unit_items (oks cs ++ rest) ≡ oks (units cs) ++ flat_map unit_items rest
@@ -61,8 +59,7 @@ units_whole cs items e = ap (flat_map unit_items) (e ∙ sym (append-nil (oks cs
 
 units_all : (bytes us : List ℕ) (items : List Item) → AreItems bytes items → oks us ≡ flat_map unit_items items → HasUnits bytes us
 units_all bytes us items (Whole r) e = record { code_points = r.code_points; encoded = r.encoded; are = same_oks us (units r.code_points) (e ∙ units_whole r.code_points items r.are) }
-units_all bytes us items (Faulty {later = later} r l) e =
-    absurd (no_err us (units r.code_points) r.fault (flat_map unit_items later) (e ∙ ap (flat_map unit_items) r.are ∙ units_of_oks r.code_points (Err r.fault ∷ later)))
+units_all bytes us items (Faulty {later = later} r l) e = grind (arith, nat_tests, common_steps, no_err, units_of_oks)
 
 -- bytes whose unit items are all Ok have these units
 pub units_all_ok : (bytes us : List ℕ) → AreUnitItems bytes (oks us) → HasUnits bytes us
@@ -76,9 +73,7 @@ pub record UnitsBefore (bytes us : List ℕ) (f : EncodingError) : Type 0 where
 
 units_err : (bytes us : List ℕ) (f : EncodingError) (rest items : List Item) → AreItems bytes items → oks us ++ Err f ∷ rest ≡ flat_map unit_items items → UnitsBefore bytes us f
 units_err bytes us f rest items (Whole r) e = absurd (no_err (units r.code_points) us f rest (sym (e ∙ units_whole r.code_points items r.are)))
-units_err bytes us f rest items (Faulty {later = later} r l) e =
-    let s = same_faulty us (units r.code_points) f r.fault rest (flat_map unit_items later) (e ∙ ap (flat_map unit_items) r.are ∙ units_of_oks r.code_points (Err r.fault ∷ later)) in
-    record { code_points = r.code_points; first = subst (IsFirstFault bytes r.code_points) (sym s.1) r.first; are = s.0 }
+units_err bytes us f rest items (Faulty {later = later} r l) e = grind (arith, nat_tests, common_steps, same_faulty, units_of_oks)
 
 -- the units before the first Err, and its fault
 pub units_first_err : (bytes us : List ℕ) (f : EncodingError) (rest : List (Result ℕ EncodingError)) → AreUnitItems bytes (oks us ++ Err f ∷ rest) → UnitsBefore bytes us f

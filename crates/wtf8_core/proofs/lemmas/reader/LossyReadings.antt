@@ -1,5 +1,5 @@
 -- The lossy reading of bytes is the forms of their items, with FFFD for each fault.
-use Rattle.wtf8_core.proofs.Common.{◌≡◌, ℕ, suc, List, [], ◌∷◌, ◌++◌, map, length, Result, Err, refl, sym, ap, ◌∙◌, subst, arith, flat_map-append, append-nil, All, flat_map, IsByte, encode, Encodes, IsWtf8, IsFirstFault, AreItems, replacement, EncodingError}
+use Rattle.wtf8_core.proofs.Common.{nat_tests, common_steps, ◌≡◌, ℕ, suc, List, [], ◌∷◌, ◌++◌, map, length, Result, Err, refl, sym, ap, ◌∙◌, subst, arith, flat_map-append, append-nil, All, flat_map, IsByte, encode, Encodes, IsWtf8, IsFirstFault, AreItems, replacement, EncodingError}
 use Rattle.wtf8_core.specs.{Items.AreItems.Whole, Items.AreItems.Faulty, LossyReading.IsLossyReading, LossyReading.lossy_code_point, LossyReading.lossy_forms, LossyReading.IsLossyReading.formed, LossyReading.IsLossyReading.replaced}
 use Rattle.wtf8_core.proofs.lemmas.reader.{Complete.one_list_of_items, FirstErr.oks, Sound.some_items}
 use Rattle.wtf8_core.proofs.lemmas.forms.Appending.{encodes_one, encodes_joined}
@@ -19,11 +19,7 @@ whole_forms : (b cs : List ℕ) → Encodes b cs → lossy_forms (oks cs) ≡ b
 whole_forms b cs s = ap (flat_map encode) (ap (map lossy_code_point) (sym (append-nil (oks cs))) ∙ points_of_oks cs [] ∙ append-nil cs) ∙ sym s.joined
 
 faulty_forms : (b cs : List ℕ) (fault : EncodingError) (later : Items) → (f : IsFirstFault b cs fault) → lossy_forms (oks cs ++ Err fault ∷ later) ≡ f.before ++ (replacement ++ lossy_forms later)
-faulty_forms b cs fault later f =
-    ap (flat_map encode) (points_of_oks cs (Err fault ∷ later))
-    ∙ flat_map-append encode cs (0xFFFD ∷ map lossy_code_point later)
-    ∙ ap (λ x. x ++ (encode 0xFFFD ++ lossy_forms later)) (sym f.encoded.joined)
-    ∙ ap (λ x. f.before ++ (x ++ lossy_forms later)) form_fffd
+faulty_forms b cs fault later f = grind (arith, nat_tests, common_steps, points_of_oks, flat_map-append, form_fffd)
 
 -- the forms of the items are the reading
 pub reading_of_items : (b : List ℕ) (items : List (Result ℕ EncodingError)) → AreItems b items → IsLossyReading b (lossy_forms items)
@@ -50,10 +46,7 @@ items_of_reading b reading (replaced {cs = cs} {reading = after} {fault = fault}
 
 -- so bytes have one reading
 pub one_reading : (b reading other : List ℕ) → IsLossyReading b reading → IsLossyReading b other → reading ≡ other
-one_reading b reading other r s =
-    let w = items_of_reading b reading r in
-    let v = items_of_reading b other s in
-    w.is ∙ ap lossy_forms (one_list_of_items b w.items v.items w.are v.are) ∙ sym v.is
+one_reading b reading other r s = grind (arith, nat_tests, common_steps, items_of_reading, one_list_of_items)
 
 pub some_reading : (b : List ℕ) → All IsByte b → (reading : List ℕ) × IsLossyReading b reading
 some_reading b a =

@@ -38,8 +38,7 @@ items_skipping-drop n h bs = refl
 -- what follows a fault
 pub items-step-err : (h : Bool) (b : ℕ) (f : EncodingError) (bs rest : List ℕ) → first_item h b bs ≡ Err f → rest ≡ drop (after_item b bs) bs
     → items_skipping 0 h (b ∷ bs) ≡ Err f ∷ items_skipping 0 false rest
-items-step-err h b f bs rest e d =
-    items-err h b f bs e ∙ ap (λ r. Err f ∷ r) (items_skipping-drop (after_item b bs) false bs ∙ ap (items_skipping 0 false) (sym d))
+items-step-err h b f bs rest e d = grind (arith, nat_tests, common_steps, items-err, items_skipping-drop)
 
 and_then_whole : (h : Bool) (n c : ℕ) (bs : List ℕ) (r : Result ℕ EncodingError) → ((v : ℕ) → r ≡ Ok v → continuations n bs ≡ n)
     → and_then_checked h n r ≡ Ok c → continuations n bs ≡ n
@@ -129,8 +128,7 @@ items-split h (b ∷ bs) l = by (first_item h b bs) refl
 
 -- and so the items are those of the first and of what follows it
 pub split_of_first : (h : Bool) (bs rest : List ℕ) (item : Result ℕ EncodingError) → IsFirstItem h bs item rest → first_split h bs ≡ (item, rest)
-split_of_first h bs rest item i =
-    ap (first_split h) i.is ∙ ap (λ r. (r, drop (after_item i.first i.after) i.after)) i.item_is ∙ ap (λ l. (item, l)) (sym i.rest_is)
+split_of_first h bs rest item i = grind (arith, nat_tests, common_steps)
 
 pub items_of_step : (h t : Bool) (bs rest : List ℕ) (item : Result ℕ EncodingError) → IsFirstItem h bs item rest → t ≡ is_high_item item → items_skipping 0 h bs ≡ item ∷ items_skipping 0 t rest
 items_of_step h t bs rest item i e = grind (arith, nat_tests, common_steps, items-split, split_of_first)

@@ -72,8 +72,7 @@ module _ (z b : ℕ) (u : z < 256) (v : b < 256) (e : is_late z (b / 16) ≡ tru
 
 -- the second byte of a surrogate has bit 40
 no_surrogate : (b : ℕ) → b < 0xC0 → bit_xor (pair_bits 0xED b) 0 ≡ 0 → b < 0xA0
-no_surrogate b u e =
-    ⊎_elim (λ l. l) (λ l. absurd (fails is_clear 0xED 1 10 2 refl 0xED (b / 16) (omega arith) (omega arith) (omega (arith, l)) (omega (arith, u)) (eq-eqb _ _ (ap (λ n. bit_xor n 0) (same_half 0xED b) ∙ e)))) (cases_lt b 0xA0)
+no_surrogate b u e = grind (arith, nat_tests, common_steps, fails, eq-eqb, same_half)
 
 -- if a low surrogate begins after a high one, this is 0
 pair_is : (w x z b : ℕ) → x < 256 → b < 256 → w ≡ 0xED → 0xA0 ≤ x → x < 0xB0 → z ≡ 0xED → 0xB0 ≤ b → b < 0xC0 → surrogate_pair_difference w x z b ≡ 0
@@ -120,8 +119,7 @@ module _ (s : Encoding) (w x y z b : ℕ) (ux : x < 256) (uy : y < 256) (uz : z 
 
 -- what holds of five numbers holds of equal ones
 pub same_five : (P : ℕ → ℕ → ℕ → ℕ → ℕ → Type 0) {v w x y z a b c d e : ℕ} → v ≡ a → w ≡ b → x ≡ c → y ≡ d → z ≡ e → P v w x y z → P a b c d e
-same_five P {v} {w} {x} {y} {z} {a} {b} {c} {d} {e} p q r s t h =
-    subst (λ k. P k b c d e) p (subst (λ k. P v k c d e) q (subst (λ k. P v w k d e) r (subst (λ k. P v w x k e) s (subst (λ k. P v w x y k) t h))))
+same_five P {v} {w} {x} {y} {z} {a} {b} {c} {d} {e} p q r s t h = grind (arith, nat_tests, common_steps)
 
 -- what is wrong with each byte after the first four, if its bits are these
 module _ (s : Encoding) (n : ℕ) (ws wrong : List ℕ) (fits : (k : ℕ) → get_or ws k 0 < 256)
