@@ -116,6 +116,7 @@ pub(crate) fn scan_steps(bytes: &[u8], at: usize) -> Result<usize, usize>
 }
 
 /// How many of the next 16 bytes keep to the pattern of UTF-8, up to the first that doesn't.
+#[tactic(auto, using(crate::proofs::lemmas::vectors::Windows::more_inside, std::proofs::lemmas::List::take_rest))]
 #[inline(always)]
 fn step_len(bytes: &[u8], at: usize) -> usize
     requires from { 4 ≤ at }
@@ -283,6 +284,7 @@ fn is_amid_ascii(bytes: &[u8], at: usize) -> bool
 }
 
 /// How many of the next 64 bytes keep to the pattern, up to the first that doesn't.
+#[tactic(auto, using(crate::proofs::lemmas::vectors::Windows::more_inside, std::proofs::lemmas::List::take_rest))]
 #[inline(always)]
 fn block_len(bytes: &[u8], at: usize, encoding: Encoding) -> usize
     requires from { 4 ≤ at }

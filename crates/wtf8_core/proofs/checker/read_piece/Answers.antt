@@ -1,4 +1,4 @@
-use Rattle.wtf8_core.proofs.Common.{◌≡◌, [], ◌∷◌, ◌++◌, MatchResult, sym, ap, ◌∙◌, subst, append_assoc, IsInState, IsFaulty}
+use Rattle.wtf8_core.proofs.Common.{arith, ◌≡◌, [], ◌∷◌, ◌++◌, sym, ap, ◌∙◌, subst, append_assoc, IsInState, IsFaulty}
 use Rattle.wtf8_core.proofs.lemmas.table.{Pieces.extends, Entries.is_plain-true}
 use Rattle.wtf8_core.proofs.checker.read_piece.Goals as goal
 
@@ -21,7 +21,4 @@ returns-in-Err c b h =
     subst (λ z. IsFaulty z c.in-Err.fault) e (extends _ after c.in-Err.fault (c.in-Err.ensures (b ++ m.prefix) (m.occurs b h)))
 
 pub returns : goal.returns
-returns c b h =
-    let m = c.loop-state.invariant in
-    subst (λ x. MatchResult c.read_between.result (λ r. IsInState r.0 r.1 x) (λ fault. IsFaulty x fault)) (append_assoc b m.prefix c.loop-state.rest.now ∙ ap (λ l. b ++ l) (sym m.is))
-    (c.read_between.ensures (b ++ m.prefix) (subst (λ s. IsInState s c.loop-state.bits (b ++ m.prefix)) (is_plain-true c.loop-state.state (sym c.is_plain.ensures ∙ c.loop-state-test.false)) (m.occurs b h)))
+returns c b h = grind (arith, append_assoc, is_plain-true)

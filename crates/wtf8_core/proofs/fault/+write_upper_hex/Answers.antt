@@ -1,4 +1,4 @@
-use Rattle.wtf8_core.proofs.Common.{◌≡◌, ℕ, zero, suc, ◌-◌, ◌<◌, ◌/◌, ◌%◌, [], ◌∷◌, ◌++◌, true, refl, sym, ap, ◌∙◌, arith, rules, sub-one, encode_ascii, common_steps, upper_hex, upper_hex_digit}
+use Rattle.wtf8_core.proofs.Common.{◌≡◌, ℕ, zero, suc, ◌-◌, ◌<◌, ◌/◌, ◌%◌, [], ◌∷◌, ◌++◌, refl, arith, rules, sub-one, encode_ascii, common_steps, upper_hex, upper_hex_digit}
 use Rattle.std.proofs.Output.{has_written_styled_append, has_written_styled_of_eq}
 use Rattle.wtf8_core.proofs.fault.+write_upper_hex.Goals as goal
 
@@ -16,9 +16,4 @@ pub returns-then-digits-eq0 : goal.returns-then-digits-eq0
 returns-then-digits-eq0 g t c = search (rules, common_steps, upper_hex-none)
 
 pub returns : goal.returns
-returns g t c = λ p ok.
-    let e = upper_hex-more c.args.digits c.args.value (omega arith) in
-    let d = encode_ascii c.upper_hex_digit.result c.upper_hex_digit.ensures.ascii in
-    let first = c.in_ok-write_upper_hex.ensures p (refl {a = true}) in
-    let last = c.write_char.ensures.styled first.flush ok in
-    has_written_styled_of_eq _ _ _ _ _ (sym e) (has_written_styled_append _ _ _ _ _ _ first (has_written_styled_of_eq _ _ _ _ _ (d ∙ ap (λ x. x ∷ []) c.upper_hex_digit.ensures.value) last))
+returns g t c = grind (arith, upper_hex-more, encode_ascii, upper_hex_digit, has_written_styled_of_eq, has_written_styled_append)

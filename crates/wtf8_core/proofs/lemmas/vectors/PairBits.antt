@@ -1,5 +1,5 @@
 -- Bytes whose bits say that nothing is wrong may follow those before them.
-use Rattle.wtf8_core.proofs.Common.{nat_tests, common_steps, List, get_or, ◌≡◌, ◌≢◌, ◌⊎◌, inl, inr, ⊎_elim, ℕ, ◌+◌, ◌-◌, ◌*◌, ◌/◌, ◌^◌, max, ◌<◌, ◌≤◌, Bool, true, eqb, bit_and, bit_or, bit_xor, refl, sym, ap, ◌∙◌, subst, arith, eq-eqb, cases_lt, bit_at, IsContinuation, MayFollow, MayFollowAll, EachMayFollow}
+use Rattle.wtf8_core.proofs.Common.{nat_tests, common_steps, List, get_or, ◌≡◌, ◌≢◌, ◌⊎◌, inl, inr, ⊎_elim, ℕ, ◌+◌, ◌-◌, ◌*◌, ◌/◌, ◌^◌, max, ◌<◌, ◌≤◌, Bool, true, eqb, bit_and, bit_or, bit_xor, refl, sym, ap, ◌∙◌, arith, eq-eqb, cases_lt, bit_at, IsContinuation, MayFollow, MayFollowAll, EachMayFollow}
 use Rattle.std.proofs.lemmas.Nat.Bits.{and_pow, and_high_mask, bit_at_or}
 use Rattle.wtf8_core.specs.{PairBits.pair_bits, PairBits.continuation_due, PairBits.error_bits, PairBits.surrogate_pair_difference, declared.vectors.Encoding.Encoding, declared.vectors.Encoding.TheVariants.Utf8}
 use Rattle.wtf8_core.proofs.lemmas.vectors.ComputedTests.{fails}

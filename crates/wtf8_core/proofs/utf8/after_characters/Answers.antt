@@ -1,4 +1,4 @@
-use Rattle.wtf8_core.proofs.Common.{List, ℕ, ◌+◌, ◌-◌, ◌≡◌, ◌≤◌, Some, length, take, drop, length-drop, drop-drop, ap, ◌∙◌, subst, arith, IsUtf8, IsUtf8Fault, BeginsWith, WholeCharacter}
+use Rattle.wtf8_core.proofs.Common.{List, ℕ, ◌+◌, ◌-◌, ◌≡◌, ◌≤◌, Some, length, drop, length-drop, drop-drop, ap, subst, arith, IsUtf8Fault, BeginsWith}
 use Rattle.wtf8_core.proofs.lemmas.characters.AtIndices.{character_fits, text_of_character}
 use Rattle.wtf8_core.proofs.lemmas.texts.LossyTexts.{after_prefix, fault_in_rest}
 use Rattle.wtf8_core.proofs.utf8.after_characters.Goals as goal
@@ -17,12 +17,4 @@ returns-in-Some-Err-clause-read c =
     (fault_in_rest c.args.bytes.now i.0 i.1 i.3 0 (Some len) (subst (λ x. IsUtf8Fault x 0 (Some len)) i.2 w))
 
 pub loop-preserved : goal.loop-preserved
-loop-preserved c =
-    let i = c.loop.invariant in
-    let rest = c.loop.rest.now in
-    let len = c.in-Some-Ok.len in
-    let z : 0 + len ≡ len = omega arith in
-    let w = subst (WholeCharacter rest 0) z (subst (BeginsWith rest) c.in-Some-Ok.field-0-is c.in-Some-Ok.ensures).0 in
-    let fits = character_fits rest 0 len w in
-    let size = ap length i.2 ∙ length-drop i.0 c.args.bytes.now in
-    (i.0 + len, omega (arith, fits.2, size, i.1), c.split_at-in-Some-Ok.ensures.back ∙ ap (drop len) i.2 ∙ drop-drop len i.0 c.args.bytes.now, after_prefix c.args.bytes.now i.0 i.1 i.3 len (subst (λ x. IsUtf8 (take len x)) i.2 (text_of_character rest len w)))
+loop-preserved c = grind (arith, character_fits, length-drop, drop-drop, after_prefix, text_of_character)

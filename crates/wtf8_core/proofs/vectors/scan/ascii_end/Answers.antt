@@ -9,7 +9,4 @@ loop-end-init c =
     (omega arith, room, λ s k. more_ascii s bytes c.args.at 64 room (c.if-not-is_ascii_at.ensures refl) (prefix_after_ascii s bytes c.args.at c.requires.some c.requires.within (c.if-not-is_amid_ascii.ensures refl) k))
 
 pub loop-end-preserved : goal.loop-end-preserved
-loop-end-preserved c =
-    let i = c.loop-end.invariant in
-    let room : c.loop-end.end + 64 ≤ length c.args.bytes.now = omega (arith, c.loop-end-test.true, i.1) in
-    (omega (arith, i.0), room, λ s k. more_ascii s c.args.bytes.now c.loop-end.end 64 room (c.if-is_ascii_at.ensures refl) (i.2 s k))
+loop-end-preserved c = grind (arith, more_ascii)

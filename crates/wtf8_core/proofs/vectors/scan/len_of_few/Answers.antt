@@ -1,4 +1,4 @@
-use Rattle.wtf8_core.proofs.Common.{◌+◌, arith, get_or, get_or-drop, ap, ◌∙◌}
+use Rattle.wtf8_core.proofs.Common.{common_steps, rules, ◌+◌, arith, get_or, get_or-drop, ap, ◌∙◌}
 use Rattle.wtf8_core.proofs.lemmas.vectors.Windows.{more, more_from_start, zeros, zeros_before}
 use Rattle.wtf8_core.specs.declared.vectors.Encoding.TheVariants.{Utf8}
 use Rattle.wtf8_core.proofs.vectors.scan.len_of_few.Goals as goal
@@ -7,10 +7,7 @@ pub put_in_zeros-requires-clause-zeros : goal.put_in_zeros-requires-clause-zeros
 put_in_zeros-requires-clause-zeros c = zeros 36
 
 pub returns-then-kept-lt-STEP : goal.returns-then-kept-lt-STEP
-returns-then-kept-lt-STEP c =
-    let bytes = c.args.bytes.now in
-    let put = c.put_in_zeros.ensures in
-    more_from_start Utf8 bytes _ c.allowed_in_step-kept.result (λ i _. zeros_before _ bytes put.before put.copied i) c.allowed_in_step-kept.ensures.pattern
+returns-then-kept-lt-STEP c = search (rules, common_steps, more_from_start, zeros_before)
 
 pub returns : goal.returns
 returns c =
