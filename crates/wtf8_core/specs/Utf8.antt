@@ -3,7 +3,7 @@ use Rattle.std.specs.Prelude.{◌≡◌, ◌⊎◌, ℕ, ◌+◌, ◌<◌, ◌�
 use Rattle.std.specs.Char.{IsScalar}
 use Rattle.std.specs.Str.{IsValidUpTo}
 use Rattle.wtf8_core.specs.CodePoint.{encode}
-use Rattle.wtf8_core.specs.Character.{IsFirstChar}
+use Rattle.wtf8_core.specs.Character.{WholeCharacter}
 
 -- xs is a prefix of some character's form
 pub record IsPrefixOfCharacter (xs : List ℕ) : Type 0 where
@@ -34,9 +34,9 @@ pub record IsUtf8Fault (bytes : List ℕ) (valid_up_to : ℕ) (error_len : Optio
   pub valid : IsValidUpTo bytes valid_up_to
   pub part : MatchOption error_len (IsProperPrefix (drop valid_up_to bytes)) (IsIllFormed (drop valid_up_to bytes))
 
--- the bytes begin with this character of this length (Ok), or with an ill-formed part of this length (Err)
-abbrev pub BeginsWith : List ℕ → Result (ℕ × ℕ) ℕ → Type 0
-BeginsWith bytes first = MatchResult first (λ char. IsFirstChar bytes char.0 char.1) (λ n. IsUtf8Fault bytes 0 (Some n))
+-- the bytes begin with a character of this length (Ok), or with an ill-formed part of this length (Err)
+abbrev pub BeginsWith : List ℕ → Result ℕ ℕ → Type 0
+BeginsWith bytes first = MatchResult first (λ n. WholeCharacter bytes 0 (0 + n)) (λ n. IsUtf8Fault bytes 0 (Some n))
 
 -- the index after the ill-formed part of a fault
 abbrev pub part_end : List ℕ → ℕ → Option ℕ → ℕ

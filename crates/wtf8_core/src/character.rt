@@ -1,7 +1,7 @@
 //! Whole characters in any bytes.
 ghost use Rattle.wtf8_core.specs.Character.{IsCharacterAt};
 
-use crate::first_character::first_char;
+use crate::first_character::first_char_len;
 
 /// The length in bytes, one to four, of the whole character that starts at index `at`, or `None` if
 /// none starts there.
@@ -26,10 +26,7 @@ pub fn char_at(bytes: &[u8], at: usize) -> Option<usize>
     ensures { IsCharacterAt bytes.now at result }
 {
     if at < bytes.len() {
-        match first_char(&bytes[at..]) {
-            Some((_, len)) => Some(len),
-            None => None,
-        }
+        first_char_len(&bytes[at..])
     } else {
         None
     }

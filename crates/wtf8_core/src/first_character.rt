@@ -1,14 +1,18 @@
 //! The character with which bytes begin, or the ill-formed part. No public contract names anything
 //! in this module; crates above use [`first_char`].
-ghost use Rattle.std.specs.Prelude.{◌≡◌, ◌∷◌, ◌%◌, IfSome, MatchOption};
+ghost use Rattle.std.specs.Prelude.{◌≡◌, ◌∷◌, ◌%◌, ◌<◌, ◌≤◌, ℕ, List, IfSome, MatchOption};
 ghost use Rattle.std.specs.Int.{is_in_range};
 ghost use Rattle.std.specs.Str.Lossy.{second_byte_min, second_byte_max};
-ghost use Rattle.wtf8_core.specs.Character.{IsFirstChar};
+ghost use Rattle.wtf8_core.specs.Byte.{IsContinuation};
+ghost use Rattle.wtf8_core.specs.Character.{IsCharacterAt, IsFirstChar};
 ghost use Rattle.wtf8_core.specs.Covered.{StartsWithNoCharacter};
 ghost use Rattle.wtf8_core.specs.Utf8.{BeginsWith};
 
 use crate::byte::is_continuation;
 use crate::code_points::first_item;
+
+/// The least byte with which a form of two bytes or more begins.
+const LEAST_LEAD: u8 = 0xC2;
 
 /// The character with which the bytes begin, and its length in bytes; `None` if they begin with none.
 #[inline(always)]
@@ -16,11 +20,10 @@ pub fn first_char(bytes: &[u8]) -> Option<(char, usize)>
     ensures { MatchOption result (StartsWithNoCharacter bytes.now)
         (λ first. IsFirstChar bytes.now first.0 first.1) }
 {
-    match char_or_fault(bytes) {
-        Some(Ok(first)) => Some(first),
-        Some(Err(_)) => None,
-        None => first_char_of_few(bytes),
-    }
+    let [first, second, third, fourth, ..] = bytes else {
+        return first_char_of_few(bytes);
+    };
+    char_of_four(*first, *second, *third, *fourth)
 }
 
 /// The same, also of fewer than four bytes.
@@ -54,17 +57,100 @@ fn read_first_char(first: u8, after: &[u8]) -> Option<(char, usize)>
     }
 }
 
-/// The character at the start and its length (`Ok`), or else the length of the maximal ill-formed
-/// part there (`Err`), by the first four bytes; `None` if there are fewer.
+/// The character with which these bytes begin, and its length.
+///
+/// Jumps take most of the time: a length is one comparison, since bytes below the least lead wrap
+/// around, continuations are tested together, and the code point tells whether it has that length.
 #[inline(always)]
-pub(crate) fn char_or_fault(bytes: &[u8]) -> Option<Result<(char, usize), u8>>
+fn char_of_four(first: u8, second: u8, third: u8, fourth: u8) -> Option<(char, usize)>
+    ensures { (rest : List ℕ) → let bytes = first ∷ second ∷ third ∷ fourth ∷ rest in
+        MatchOption result (StartsWithNoCharacter bytes)
+        (λ char. IsFirstChar bytes char.0 char.1) }
+{
+    if first < 0x80 {
+        return Some((char::from(first), 1));
+    }
+    let lead = first.wrapping_sub(LEAST_LEAD);
+    if lead <= 0xDF - LEAST_LEAD {
+        let low = low_bits(second);
+        if low >= 0x40 {
+            return None;
+        }
+        let two = unsafe { char::from_u32_unchecked(u32::from(first % 0x20) * 0x40 + low) };
+        return Some((two, 2));
+    }
+    if lead <= 0xEF - LEAST_LEAD {
+        let high = low_bits(second);
+        let low = low_bits(third);
+        if (high >= 0x40) | (low >= 0x40) {
+            return None;
+        }
+        let code_point = u32::from(first % 0x10) * 0x1000 + high * 0x40 + low;
+        if code_point < 0x800 {
+            return None;
+        }
+        return match char::from_u32(code_point) {
+            Some(three) => Some((three, 3)),
+            None => None,
+        };
+    }
+    if lead > 0xF4 - LEAST_LEAD {
+        return None;
+    }
+    let high = low_bits(second);
+    let middle = low_bits(third);
+    let low = low_bits(fourth);
+    if (high >= 0x40) | (middle >= 0x40) | (low >= 0x40) {
+        return None;
+    }
+    let code_point = u32::from(first % 0x10) * 0x4_0000 + high * 0x1000 + middle * 0x40 + low;
+    if code_point < 0x1_0000 {
+        return None;
+    }
+    match char::from_u32(code_point) {
+        Some(four) => Some((four, 4)),
+        None => None,
+    }
+}
+
+/// The six low bits of a continuation: those of a code point that it has. Of any other byte it is
+/// 40 (hexadecimal) or more.
+#[inline(always)]
+fn low_bits(byte: u8) -> u32
+    ensures bits { result < 0x40 → IsContinuation byte × (result ≡ byte % 0x40) }
+    ensures none { 0x40 ≤ result → ¬ (IsContinuation byte) }
+{
+    u32::from(byte).wrapping_sub(0x80)
+}
+
+/// The length of the character with which the bytes begin; `None` if they begin with none.
+#[inline(always)]
+pub(crate) fn first_char_len(bytes: &[u8]) -> Option<usize>
+    ensures { IsCharacterAt bytes.now 0 result }
+{
+    match len_or_fault(bytes) {
+        Some(Ok(len)) => Some(len),
+        Some(Err(_)) => None,
+        None => match first_char_of_few(bytes) {
+            Some((_, len)) => Some(len),
+            None => None,
+        },
+    }
+}
+
+/// The length of the character at the start (`Ok`), or else of the maximal ill-formed part there
+/// (`Err`), by the first four bytes; `None` if there are fewer.
+///
+/// A length needs no code point, and by ranges of bytes it is found faster.
+#[inline(always)]
+pub(crate) fn len_or_fault(bytes: &[u8]) -> Option<Result<usize, u8>>
     ensures { IfSome result (BeginsWith bytes.now) }
 {
     let [first, second, third, fourth, ..] = bytes else {
         return None;
     };
     if *first < 0x80 {
-        return Some(Ok((char::from(*first), 1)));
+        return Some(Ok(1));
     }
     if !is_lead(*first) {
         return Some(Err(1));
@@ -73,9 +159,7 @@ pub(crate) fn char_or_fault(bytes: &[u8]) -> Option<Result<(char, usize), u8>>
         if !is_continuation(*second) {
             return Some(Err(1));
         }
-        let code_point = u32::from(*first % 0x20) * 0x40 + low_bits(*second);
-        let two = unsafe { char::from_u32_unchecked(code_point) };
-        return Some(Ok((two, 2)));
+        return Some(Ok(2));
     }
     if !is_second(*first, *second) {
         return Some(Err(1));
@@ -84,29 +168,12 @@ pub(crate) fn char_or_fault(bytes: &[u8]) -> Option<Result<(char, usize), u8>>
         return Some(Err(2));
     }
     if *first < 0xF0 {
-        let code_point = u32::from(*first % 0x10) * 0x1000
-            + low_bits(*second) * 0x40
-            + low_bits(*third);
-        let three = unsafe { char::from_u32_unchecked(code_point) };
-        return Some(Ok((three, 3)));
+        return Some(Ok(3));
     }
     if !is_continuation(*fourth) {
         return Some(Err(3));
     }
-    let code_point = u32::from(*first % 0x10) * 0x4_0000
-        + low_bits(*second) * 0x1000
-        + low_bits(*third) * 0x40
-        + low_bits(*fourth);
-    let four = unsafe { char::from_u32_unchecked(code_point) };
-    Some(Ok((four, 4)))
-}
-
-/// The six low bits of a byte: those of a code point that a continuation has.
-#[inline(always)]
-fn low_bits(byte: u8) -> u32
-    ensures { result ≡ byte % 0x40 }
-{
-    u32::from(byte % 0x40)
+    Some(Ok(4))
 }
 
 /// Whether some character of two to four bytes begins with this byte.

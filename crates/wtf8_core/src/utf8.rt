@@ -6,7 +6,7 @@ ghost use Rattle.wtf8_core.specs.declared.vectors.Encoding.TheVariants.{Utf8};
 ghost use Rattle.wtf8_core.specs.Utf8.{IsUtf8Fault};
 ghost use Rattle.wtf8_core.specs.Wtf8.{IsWtf8};
 
-use crate::first_character::char_or_fault;
+use crate::first_character::len_or_fault;
 use crate::vectors::ascii::{ascii_len_at, is_ascii_at, is_ascii_to_end};
 use crate::vectors::scan::{scan, scan_from, scan_short, scan_steps};
 use crate::vectors::surrogates::text_from;
@@ -242,8 +242,8 @@ fn after_characters(bytes: &[u8], from: usize, most: usize) -> Result<usize, (us
 {
     let (_, mut rest) = bytes.split_at(from);
     for _ in 0..most {
-        match char_or_fault(rest) {
-            Some(Ok((_, len))) => {
+        match len_or_fault(rest) {
+            Some(Ok(len)) => {
                 let (_, after) = rest.split_at(len);
                 rest = after;
             }

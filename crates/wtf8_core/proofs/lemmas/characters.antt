@@ -1,4 +1,5 @@
 pub mod AtIndices
+pub mod ByValue
 pub mod FourBytes
 pub mod IllFormedParts
 pub mod Overlaps

@@ -1,9 +1,9 @@
-use Rattle.wtf8_core.proofs.Common.{Some, subst, IsUtf8Fault, BeginsWith}
-use Rattle.wtf8_core.proofs.lemmas.characters.AtIndices.{none_at}
-use Rattle.wtf8_core.proofs.lemmas.texts.StdFaults.{no_char}
+use Rattle.wtf8_core.proofs.Common.{MatchOption, drop, subst, sym, IsFirstChar, StartsWithNoCharacter}
+use Rattle.wtf8_core.proofs.lemmas.characters.FourBytes.{four_first}
 use Rattle.wtf8_core.proofs.first_character.first_char.Goals as goal
 
-pub returns-in-Some-Err : goal.returns-in-Some-Err
-returns-in-Some-Err c =
-    let w : IsUtf8Fault c.args.bytes.now 0 (Some c.in-Some-Err.field-0-0) = subst (BeginsWith c.args.bytes.now) c.in-Some-Err.field-0-is c.in-Some-Err.ensures in
-    none_at c.args.bytes.now 0 (no_char c.args.bytes.now 0 w.valid)
+pub returns : goal.returns
+returns c =
+    let bytes = c.args.bytes.now in
+    subst (λ l. MatchOption c.char_of_four.result (StartsWithNoCharacter l) (λ first. IsFirstChar l first.0 first.1))
+    (sym (four_first bytes c.in-len4-up.len_at_least)) (c.char_of_four.ensures (drop 4 bytes))

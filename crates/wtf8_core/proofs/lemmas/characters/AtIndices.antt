@@ -1,5 +1,5 @@
 -- Whole characters: where the reader finds them, and what their indices are.
-use Rattle.wtf8_core.proofs.Common.{◌≡◌, ℕ, ◌+◌, ◌-◌, ◌<◌, ◌≤◌, true, false, List, ◌∷◌, ◌++◌, length, take, drop, Ok, Err, refl, sym, ap, ◌∙◌, subst, arith, length-append, take-append-drop, IsScalar, is_surrogate, IsCodePoint, encode, WholeCharacter, first_item, first_split, IsUtf8, IsUtf8-encode, take_at, drop_at, length-take-le, nat_tests, common_steps, low_scalar, EncodingError, encode_utf8, IsFirstChar, StartsWithNoCharacter, take-append_seam}
+use Rattle.wtf8_core.proofs.Common.{◌≡◌, ℕ, ◌+◌, ◌-◌, ◌<◌, ◌≤◌, true, false, List, ◌∷◌, ◌++◌, length, take, drop, Option, Some, None, Ok, Err, refl, sym, ap, ◌∙◌, subst, arith, length-append, take-append-drop, IsScalar, is_surrogate, IsCodePoint, encode, WholeCharacter, IsCharacterAt, first_item, first_split, IsUtf8, IsUtf8-encode, take_at, drop_at, length-take-le, nat_tests, common_steps, low_scalar, EncodingError, encode_utf8, IsFirstChar, take-append_seam}
 use Rattle.wtf8_core.proofs.lemmas.reader.Sound.{split_code_point}
 use Rattle.wtf8_core.proofs.lemmas.forms.Shapes.{form_ascii, form_bounds}
 use Rattle.wtf8_core.proofs.lemmas.forms.ByStd.{form_encode, form_same}
@@ -81,17 +81,17 @@ pub none_at_fault : (b : ℕ) (f : EncodingError) (bs : List ℕ) → first_item
 none_at_fault b f bs e = none_at (b ∷ bs) 0 (λ a rest k i. let o : Err f ≡ Ok a = sym e ∙ first_of_char b a bs rest k i in cc)
 
 -- the same as code has it, of the bytes from an index on
-rest_is : (s : List ℕ) (i : ℕ) → i < length s → take (length s - i) (drop i s) ≡ drop i s
-rest_is s i l = grind (arith, common_steps)
+pub character_in_rest : (s : List ℕ) (i : ℕ) (r : Option ℕ) → i < length s → IsCharacterAt (take (length s - i) (drop i s)) 0 r → IsCharacterAt s i r
+character_in_rest s i r l h = by r (subst (λ x. IsCharacterAt x 0 r) rest h)
+  where
+    rest : take (length s - i) (drop i s) ≡ drop i s
+    rest = grind (arith, common_steps)
 
-pub char_in_rest : (s : List ℕ) (i c n : ℕ) → i < length s → IsFirstChar (take (length s - i) (drop i s)) c n → WholeCharacter s i (i + n)
-char_in_rest s i c n l h =
-    let w = subst (λ x. WholeCharacter x 0 (0 + n)) (rest_is s i l) h.0 in
-    let e = w.end in
-    subst (λ m. WholeCharacter s i (i + m)) (omega arith) (whole_at s i w.char w.occurs.after (omega arith) w.scalar (begins_at (drop i s) 0 (0 + n) w))
-
-pub none_in_rest : (s : List ℕ) (i : ℕ) → i < length s → StartsWithNoCharacter (take (length s - i) (drop i s)) → (j : ℕ) → WholeCharacter s i j → ⊥
-none_in_rest s i l h = none_at s i (none_begins (drop i s) (subst StartsWithNoCharacter (rest_is s i l) h))
+    by : (r : Option ℕ) → IsCharacterAt (drop i s) 0 r → IsCharacterAt s i r
+    by None h = none_at s i (none_begins (drop i s) h)
+    by (Some n) h =
+        let e = h.end in
+        subst (λ m. WholeCharacter s i (i + m)) (omega arith) (whole_at s i h.char h.occurs.after (omega arith) h.scalar (begins_at (drop i s) 0 (0 + n) h))
 
 -- the character that starts at an index has one end
 pub same_end : (s : List ℕ) (i j k : ℕ) → WholeCharacter s i j → WholeCharacter s i k → j ≡ k

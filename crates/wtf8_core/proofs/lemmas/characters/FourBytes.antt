@@ -48,13 +48,13 @@ no_second_of_two b x l n = grind (arith, nat_tests, l) ∙ not_in_range 0x80 0xB
 
 module _ (r : List ℕ) (long : 4 ≤ length r) (high : 0x80 ≤ get_or r 0 0) where
   -- what the first four bytes are if a character begins there
-  record IsSequenceStart : Type 0 where
-    first : First (get_or r 0 0)
-    second : Second (get_or r 0 0) (get_or r 1 0)
-    third : 0xE0 ≤ get_or r 0 0 → IsContinuation (get_or r 2 0)
-    fourth : 0xF0 ≤ get_or r 0 0 → IsContinuation (get_or r 3 0)
+  pub record IsSequenceStart : Type 0 where
+    pub first : First (get_or r 0 0)
+    pub second : Second (get_or r 0 0) (get_or r 1 0)
+    pub third : 0xE0 ≤ get_or r 0 0 → IsContinuation (get_or r 2 0)
+    pub fourth : 0xF0 ≤ get_or r 0 0 → IsContinuation (get_or r 3 0)
 
-  begun : (c : ℕ) (rest : List ℕ) → IsScalar c → r ≡ encode c ++ rest → IsSequenceStart
+  pub begun : (c : ℕ) (rest : List ℕ) → IsScalar c → r ≡ encode c ++ rest → IsSequenceStart
   begun c rest s e =
       let at : (i : ℕ) → i < length (encode c) → get_or r i 0 ≡ get_or (encode c) i 0 = λ i h. ap (λ l. get_or l i 0) e ∙ get_or_append_left (encode c) rest 0 i h in
       let b_is = at 0 (form_bounds c).0 in

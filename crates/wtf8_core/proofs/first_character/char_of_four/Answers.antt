@@ -1,0 +1,97 @@
+use Rattle.wtf8_core.proofs.Common.{◌≡◌, ◌≤◌, ◌+◌, ◌*◌, ◌∙◌, sym, subst, refl, ◌∷◌, IsScalar, IsFirstChar, arith, nat_tests}
+use Rattle.wtf8_core.proofs.lemmas.characters.AtIndices.{ascii_first}
+use Rattle.wtf8_core.proofs.lemmas.characters.ByValue.{value_of_three, value_of_four, none_by_lead, none_of_two, none_of_three, none_of_four, char_of_two, char_of_three, char_of_four, second_of_three, second_of_four, none_by_three, none_by_four}
+use Rattle.wtf8_core.proofs.first_character.char_of_four.Goals as goal
+
+pub returns-then-first-lt128 : goal.returns-then-first-lt128
+returns-then-first-lt128 c rest =
+    let a = c.args in
+    let bytes = a.first ∷ a.second ∷ a.third ∷ a.fourth ∷ rest in
+    subst (λ x. IsFirstChar bytes x 1) (sym c.from.ensures) (ascii_first bytes _ _ refl c.if-first-lt128.true)
+
+pub returns-then-low-ge64 : goal.returns-then-low-ge64
+returns-then-low-ge64 c rest =
+    let a = c.args in
+    none_of_two a.first a.second a.third a.fourth rest c.if-first-lt128.false (c.low_bits-low.ensures.none (omega arith))
+
+pub returns-then-lead : goal.returns-then-lead
+returns-then-lead c rest =
+    let a = c.args in
+    (char_of_two a.first a.second a.third a.fourth rest c.if-first-lt128.false _ (grind (arith, nat_tests), grind (arith, nat_tests)) (grind (arith, nat_tests))
+    (grind (arith, nat_tests, c.low_bits-low.ensures.bits)) (grind (arith, nat_tests, c.low_bits-low.ensures.bits))).1
+
+pub returns-then-high-low : goal.returns-then-high-low
+returns-then-high-low c rest =
+    let a = c.args in
+    none_of_three a.first a.second a.third a.fourth rest c.if-first-lt128.false (grind (arith, nat_tests))
+    (grind (arith, nat_tests, c.low_bits-high.ensures.none, c.low_bits-low-then-lead-2.ensures.none))
+
+pub returns-then-code_point-lt2048 : goal.returns-then-code_point-lt2048
+returns-then-code_point-lt2048 c rest =
+    let a = c.args in
+    let k = c.low_bits-high.ensures.bits (grind (arith, nat_tests)) in
+    let l = c.low_bits-low-then-lead-2.ensures.bits (grind (arith, nat_tests)) in
+    none_by_three a.first a.second a.third a.fourth rest c.if-first-lt128.false (grind (arith, nat_tests)) (grind (arith, nat_tests))
+    (λ h _. grind (arith, nat_tests, h, k, l, c.if-code_point-lt2048.true))
+
+pub returns-in-Some : goal.returns-in-Some
+returns-in-Some c rest =
+    let a = c.args in
+    let k = c.low_bits-high.ensures.bits (grind (arith, nat_tests)) in
+    let l = c.low_bits-low-then-lead-2.ensures.bits (grind (arith, nat_tests)) in
+    let v = c.in-Some.ensures.value in
+    let is : c.in-Some.three ≡ value_of_three a.first a.second a.third = v.1 ∙ grind (arith, nat_tests, k, l) in
+    (char_of_three a.first a.second a.third a.fourth rest c.if-first-lt128.false _ (grind (arith, nat_tests)) (grind (arith, nat_tests))
+    (second_of_three a.first a.second a.third (grind (arith, nat_tests)) (grind (arith, nat_tests)) k.0 (subst (λ v. 0x800 ≤ v) is (omega (arith, v.1, c.if-code_point-lt2048.false))) (subst IsScalar (sym v.1 ∙ is) v.0))
+    l.0 is).1
+
+pub returns-in-None : goal.returns-in-None
+returns-in-None c rest =
+    let a = c.args in
+    let k = c.low_bits-high.ensures.bits (grind (arith, nat_tests)) in
+    let l = c.low_bits-low-then-lead-2.ensures.bits (grind (arith, nat_tests)) in
+    let is : value_of_three a.first a.second a.third ≡ c.from-then-lead-2.result * 0x1000 + c.low_bits-high.result * 0x40 + c.low_bits-low-then-lead-2.result = grind (arith, nat_tests, k, l) in
+    none_by_three a.first a.second a.third a.fourth rest c.if-first-lt128.false (grind (arith, nat_tests)) (grind (arith, nat_tests))
+    (λ _ s. c.in-None.ensures.value (subst IsScalar is s))
+
+pub returns-then-lead-3 : goal.returns-then-lead-3
+returns-then-lead-3 c rest =
+    let a = c.args in
+    none_by_lead a.first a.second a.third a.fourth rest c.if-first-lt128.false (λ f. grind (arith, nat_tests, f))
+
+pub returns-then-high-middle : goal.returns-then-high-middle
+returns-then-high-middle c rest =
+    let a = c.args in
+    none_of_four a.first a.second a.third a.fourth rest c.if-first-lt128.false (grind (arith, nat_tests))
+    (grind (arith, nat_tests, c.low_bits-high-2.ensures.none, c.low_bits-middle.ensures.none, c.low_bits-low-2.ensures.none))
+
+pub returns-then-code_point-lt65536 : goal.returns-then-code_point-lt65536
+returns-then-code_point-lt65536 c rest =
+    let a = c.args in
+    let k = c.low_bits-high-2.ensures.bits (grind (arith, nat_tests)) in
+    let m = c.low_bits-middle.ensures.bits (grind (arith, nat_tests)) in
+    let l = c.low_bits-low-2.ensures.bits (grind (arith, nat_tests)) in
+    none_by_four a.first a.second a.third a.fourth rest c.if-first-lt128.false (grind (arith, nat_tests)) (grind (arith, nat_tests))
+    (λ h _. grind (arith, nat_tests, h, k, m, l, c.if-code_point-lt65536.true))
+
+pub returns-in-Some-from_u32 : goal.returns-in-Some-from_u32
+returns-in-Some-from_u32 c rest =
+    let a = c.args in
+    let k = c.low_bits-high-2.ensures.bits (grind (arith, nat_tests)) in
+    let m = c.low_bits-middle.ensures.bits (grind (arith, nat_tests)) in
+    let l = c.low_bits-low-2.ensures.bits (grind (arith, nat_tests)) in
+    let v = c.in-Some-from_u32.ensures.value in
+    let is : c.in-Some-from_u32.four ≡ value_of_four a.first a.second a.third a.fourth = v.1 ∙ grind (arith, nat_tests, k, m, l) in
+    (char_of_four a.first a.second a.third a.fourth rest c.if-first-lt128.false _ (grind (arith, nat_tests)) (grind (arith, nat_tests))
+    (second_of_four a.first a.second a.third a.fourth (grind (arith, nat_tests)) (grind (arith, nat_tests)) k.0 (subst (λ v. 0x1_0000 ≤ v) is (omega (arith, v.1, c.if-code_point-lt65536.false))) (subst IsScalar (sym v.1 ∙ is) v.0))
+    m.0 l.0 is).1
+
+pub returns-in-None-from_u32 : goal.returns-in-None-from_u32
+returns-in-None-from_u32 c rest =
+    let a = c.args in
+    let k = c.low_bits-high-2.ensures.bits (grind (arith, nat_tests)) in
+    let m = c.low_bits-middle.ensures.bits (grind (arith, nat_tests)) in
+    let l = c.low_bits-low-2.ensures.bits (grind (arith, nat_tests)) in
+    let is : value_of_four a.first a.second a.third a.fourth ≡ c.from-2.result * 0x4_0000 + c.low_bits-high-2.result * 0x1000 + c.low_bits-middle.result * 0x40 + c.low_bits-low-2.result = grind (arith, nat_tests, k, m, l) in
+    none_by_four a.first a.second a.third a.fourth rest c.if-first-lt128.false (grind (arith, nat_tests)) (grind (arith, nat_tests))
+    (λ _ s. c.in-None-from_u32.ensures.value (subst IsScalar is s))
