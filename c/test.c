@@ -17,12 +17,13 @@ static void expect(bool holds, const char *what, int line) {
 }
 #define EXPECT(holds) expect(holds, #holds, __LINE__)
 
-/* How many blocks of memory there are, where the program is linked so that this is asked for each. */
-static size_t blocks;
+/* How many blocks of memory there are, where the program is linked so that this is asked for each. A compiler takes it
+ * that malloc changes nothing that a program sees. */
+static volatile size_t blocks;
 
 #ifdef OSB_WRAPPED
 /* How many requests are answered before the others are refused. */
-static size_t left = SIZE_MAX;
+static volatile size_t left = SIZE_MAX;
 
 void *__real_malloc(size_t len);
 void *__real_realloc(void *at, size_t len);
