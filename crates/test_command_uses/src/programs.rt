@@ -1,16 +1,22 @@
 //! The whole programs, with arguments and without, and how they end.
-ghost use Rattle.std.specs.Prelude.{◌≡◌, ◌<◌, true, false, OnOk, IsOk, codes, length};
+ghost use Rattle.std.specs.Prelude.{◌≡◌, ◌≢◌, ◌<◌, ◌⊎◌, true, false, OnOk, IsOk, Err, codes, length};
 ghost use Rattle.std.specs.Io.KnownBytes.{Appends};
 ghost use Rattle.std.specs.Process.{exit_status};
 ghost use Rattle.osbytes_commands.specs.Program.{AreNoCommand};
 ghost use Rattle.program_frame.specs.Ended.{message};
-ghost use Rattle.program_frame.specs.Marked.{has_failed};
+ghost use Rattle.program_frame.specs.Marked.{has_failed, marked_inner};
 ghost use Rattle.program_frame.specs.Words.{words_after_name};
+ghost use Rattle.program_frame.specs.declared.fault.Failure.{Failure};
+ghost use Rattle.program_frame.specs.declared.lists.program_fault.Fault.TheVariants.{List as OfList, Words};
+ghost use Rattle.paths_commands.specs.Command.{words_of};
+ghost use Rattle.paths_commands.specs.Fault.{usage};
+ghost use Rattle.paths_commands.specs.declared.command.Command.{Command};
 
 use names_commands::fault::Fault as NamesFault;
 use names_commands::program::Names;
 use osbytes_commands::fault::Fault;
 use osbytes_commands::program::execute;
+use paths_commands::fault::Fault as PathsFault;
 use paths_commands::program::Paths;
 use program_frame::ended::{Ended, ProgramFault};
 use program_frame::ends::{Messages, Output};
@@ -138,6 +144,8 @@ pub fn names_without_arguments<
     ensures told { result.0 ≡ true → Appends (E.contents errors.old) (E.contents errors.new)
         (codes "names: usage: names [--max N] list|filter|join|check unix|windows|wasm [GLOB|OPTIONS], list|join --sh unix; names --help tells more\n") }
     ensures status { exit_status result.1 ≡ 2 }
+    ensures unread { reader.new ≡ reader.old }
+    ensures kept { writer.new ≡ writer.old }
 {
     let arguments = Err(io::Error::from(ErrorKind::InvalidInput));
     let ended = execute_list(program, alloc, arguments, reader, writer, errors);
@@ -158,11 +166,32 @@ pub fn paths_without_arguments<P: Eprint, A: Allocator + Copy, R: Read, W: Outpu
     ensures told { result.0 ≡ true → Appends (E.contents errors.old) (E.contents errors.new)
         (codes "paths: usage: paths components|parent|name|stem|extension|normalize|clean|join|relative|convert unix|windows|wasm [BASE|PLATFORM]; paths --help tells more\n") }
     ensures status { exit_status result.1 ≡ 2 }
+    ensures unread { reader.new ≡ reader.old }
+    ensures kept { writer.new ≡ writer.old }
 {
     let arguments = Err(io::Error::from(ErrorKind::InvalidInput));
     let ended = execute_list(&Paths, alloc, arguments, reader, writer, errors);
     let told = ended.told();
     (told, ended.report(rt))
+}
+
+/// The program for paths with words that no command has: nothing is read or written.
+pub fn paths_refused<A: Allocator + Copy, R: Read, W: Output, E: Messages>(
+    alloc: A,
+    arguments: Args,
+    reader: &mut Marked<R>,
+    writer: &mut Marked<W>,
+    errors: &mut E,
+) -> Result<(), PathsFault>
+    requires words { (command : Command) → words_after_name arguments ≢ words_of command }
+    requires reader_unmarked { has_failed reader.old ≡ false }
+    requires writer_unmarked { has_failed writer.old ≡ false }
+    ensures refused { (result ≡ Err (Words usage))
+        ⊎ (result ≡ Err (OfList (ListFault.Run Failure.Memory))) }
+    ensures unread { R.remaining (marked_inner reader.new) ≡ R.remaining (marked_inner reader.old) }
+    ensures kept { W.contents (marked_inner writer.new) ≡ W.contents (marked_inner writer.old) }
+{
+    execute_list(&Paths, alloc, Ok(arguments), reader, writer, errors).outcome()
 }
 
 /// The end of a program after a fault: whether it told it, and its status.
