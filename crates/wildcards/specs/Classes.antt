@@ -6,4 +6,4 @@ use Rattle.wildcards.specs.Ranges.{permits}
 module _ {A : Type 0} where
   -- the class permits the letter
   abbrev pub permitted : Class A → ℕ → Bool
-  permitted class letter = permits class.negated class.ranges.items letter
+  permitted class letter = permits class.table.value.negated class.table.value.ranges.items letter

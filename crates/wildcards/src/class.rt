@@ -4,16 +4,23 @@ ghost use Rattle.wildcards.specs.Ranges.{AreOrdered, IsTable};
 use crate::range::{Range, in_order, is_in};
 use std::alloc::{AllocError, Allocator, Global};
 
-/// A class: the letters of its ranges or, if it is negated, all other letters.
+/// What a class is made of.
 #[derive(Drop)]
-pub struct Class<A: Allocator = Global> {
+struct Table<A: Allocator> {
     negated: bool,
     // Their first and last letters ascend.
     ranges: Vec<Range, A>,
     // Whether it permits each letter of ASCII.
-    ascii: Box<[bool; 128], A>,
+    ascii: [bool; 128],
     ghost ordered: { AreOrdered ranges.items },
-    ghost table: { IsTable negated ranges.items ascii.value },
+    ghost table: { IsTable negated ranges.items ascii },
+}
+
+/// A class: the letters of its ranges or, if it is negated, all other letters. It is in one box, so that
+/// a pattern of literals, which has as much room for each letter, takes less memory.
+#[derive(Drop)]
+pub struct Class<A: Allocator = Global> {
+    table: Box<Table<A>, A>,
 }
 
 impl<A: Allocator> Class<A> {
@@ -45,11 +52,13 @@ impl<A: Allocator> Class<A> {
             ascii[at] = is_in(&ordered, at as u32) != negated;
             at += 1;
         }
-        let ascii = Box::new(alloc, ascii)?;
-        Ok(Class {
+        let table = Table {
             negated,
             ranges: ordered,
             ascii,
+        };
+        Ok(Class {
+            table: Box::new(alloc, table)?,
         })
     }
 
@@ -68,8 +77,8 @@ impl<A: Allocator> Class<A> {
         ensures { result ≡ permitted self.now letter }
     {
         if letter < 128 {
-            return self.ascii[letter as usize];
+            return self.table.ascii[letter as usize];
         }
-        is_in(&self.ranges, letter) != self.negated
+        is_in(&self.table.ranges, letter) != self.table.negated
     }
 }
