@@ -1,6 +1,8 @@
 -- What a pattern matches has its keys.
 use Rattle.std.proofs.Common.{◌≡◌, ◌<◌, Bool, true, false, ℕ, List, [], ◌∷◌, ◌++◌, refl, sym, ap, ◌∙◌, subst, arith, append_assoc, append-nil}
 use Rattle.std.specs.List.{AllByRecursion, join_with_byte}
+use Rattle.std.specs.Prelude.{Option, None, Some, IfSome}
+use Rattle.std.specs.declared.vec.Vec.{Vec}
 use Rattle.std.proofs.lemmas.List.Splits.{join_with_byte-slice_split}
 use Rattle.std.proofs.lemmas.List.Elements.{All-from_get_or}
 use Rattle.wildcards.specs.declared.options.Options.{Options}
@@ -14,7 +16,7 @@ use Rattle.wildcards.specs.declared.piece.Piece.{Piece}
 use Rattle.wildcards.specs.declared.piece.Piece.TheVariants.{Many, One}
 use Rattle.wildcards.specs.Components.{components, separates}
 use Rattle.wildcards.specs.Keys.{IsNeeded, IsOfEnd, AreTexts, AreJoinedTexts, joins_by_slash, slash_before}
-use Rattle.wildcards.specs.Literals.{spells}
+use Rattle.wildcards.specs.Literals.{spells, spells_some}
 use Rattle.wildcards.specs.Match.{Fits, TakesLetter, TakesComponent, FitsComponent, MatchesParts, Matches}
 use Rattle.wildcards.specs.Wild.{Wild}
 use Rattle.wildcards.proofs.Literals.{only_text, spelled_ascii}
@@ -166,3 +168,12 @@ module _ {A : Type 0} where
       after : (before : List ℕ) → AllByRecursion (λ b. b < 0x80) (before ++ key) → AllByRecursion (λ b. b < 0x80) key
       after [] h = h
       after (b ∷ before) h = after before h.1
+
+pub some_weaker : {X : Type 0} (P Q : X → Type 0) (value : Option X) → ((x : X) → P x → Q x) → IfSome value P → IfSome value Q
+some_weaker P Q None f h = h
+some_weaker P Q (Some x) f h = f x h
+
+-- what holds of each text that pieces spell holds of theirs, if there is one
+pub of_some_text : {A : Type 0} (P : List ℕ → Type 0) (pieces : List (Piece (Item A))) (text : Option (Vec ℕ A)) → spells_some pieces text ≡ true → ((own : List ℕ) → spells pieces own ≡ true → P own) → IfSome text (λ own. P own.items)
+of_some_text P pieces None e f = tt
+of_some_text P pieces (Some own) e f = f own.items e

@@ -63,7 +63,8 @@ pub(crate) fn is_text<A: Allocator>(
     index: usize,
     extension: Option<&[u8]>,
 ) -> bool
-    ensures { IsTrue result → MatchOption extension.entry ⊥ (λ text. HasText texts.now index text.now) }
+    ensures { IsTrue result → MatchOption extension.entry ⊥ (λ text. HasText texts.now index
+        text.now) }
 {
     let Some(text) = extension else {
         return false;

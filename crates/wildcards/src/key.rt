@@ -132,10 +132,7 @@ fn literal_end<A: Allocator + Copy>(
     ensures { IfOk result (λ text. IfSome text (λ text. IsNeeded options pieces.entry.now Suffix
         text.items)) }
 {
-    let Some((last, _)) = pieces.split_last() else {
-        return Ok(None);
-    };
-    let Piece::One(part) = last else {
+    let Some((Piece::One(part), _)) = pieces.split_last() else {
         return Ok(None);
     };
     if part.text().is_some() {
@@ -143,10 +140,7 @@ fn literal_end<A: Allocator + Copy>(
     }
     let own = part.pieces();
     let (_, suffix) = own.split_at(literal_suffix(own));
-    let Some(text) = literal_text(alloc, suffix)? else {
-        return Ok(None);
-    };
-    Ok(Some(text))
+    literal_text(alloc, suffix)
 }
 
 /// Whether no dot is in a text.
@@ -194,10 +188,7 @@ fn end_key<A: Allocator + Copy>(
     let Some(text) = literal_end(alloc, options, pieces)? else {
         return Ok(None);
     };
-    let Some(key) = key_of_end(alloc, &text)? else {
-        return Ok(None);
-    };
-    Ok(Some(key))
+    key_of_end(alloc, &text)
 }
 
 /// The longest component that a path needs.
@@ -210,27 +201,19 @@ fn component_key<A: Allocator>(
         key.text.items)) }
 {
     let (_, rest) = pieces.split_at(longest_text(pieces));
-    let Some((piece, after)) = rest.split_first() else {
-        return Ok(None);
-    };
-    let Piece::One(part) = piece else {
+    let Some((Piece::One(part), after)) = rest.split_first() else {
         return Ok(None);
     };
     let Some(own) = part.text() else {
         return Ok(None);
     };
-    let mut text = Vec::new(alloc);
-    text.extend_from_slice(own)?;
-    if after.is_empty() {
-        return Ok(Some(Key {
-            kind: Kind::Name,
-            text,
-        }));
-    }
-    Ok(Some(Key {
-        kind: Kind::Component,
-        text,
-    }))
+    let kind = if after.is_empty() {
+        Kind::Name
+    } else {
+        Kind::Component
+    };
+    let text = Vec::from_slice(alloc, own)?;
+    Ok(Some(Key { kind, text }))
 }
 
 /// The key of a pattern, if it has one.

@@ -21,7 +21,8 @@ pub struct Part<A: Allocator = Global> {
     // The text that it matches alone, if it is one of ASCII, without `/` and `\`.
     literal: Option<Vec<u8, A>>,
     ghost text: { spells_some pieces.items literal ≡ true },
-    ghost plain: { (text : Vec ℕ A) → literal ≡ Some text → (o : Separators) → IsPlain o text.items },
+    ghost plain: { (text : Vec ℕ A) → literal ≡ Some text → (o : Separators)
+        → IsPlain o text.items },
 }
 
 impl<A: Allocator> Part<A> {

@@ -104,7 +104,8 @@ fn match_last<'p, 'a, L: Letters, A: Allocator>(
     path: Option<&'a [u8]>,
 ) -> Option<(&'p [Piece<Part<A>>], Option<&'a [u8]>)>
     requires { IsLeftFormed L.formed path }
-    ensures { MatchOption result (NeverMatches L.formed L.letters options pieces.entry.now path.entry)
+    ensures { MatchOption result
+        (NeverMatches L.formed L.letters options pieces.entry.now path.entry)
         (λ left. AreLastComponentsMatched L.formed L.letters options pieces.entry.now path.entry
         left.0.now left.1) }
 {

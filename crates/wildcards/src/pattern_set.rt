@@ -17,7 +17,7 @@ use crate::set::{Pattern, is_hit};
 use std::alloc::{AllocError, Allocator, Global};
 
 /// A set of patterns. A path is matched only with those whose literal parts it has: each is listed
-/// by its whole text, by a component or by the suffix of its last component.
+/// by its whole text, by a component, or by the extension or a suffix of its last component.
 #[derive(Drop)]
 pub struct PatternSet<A: Allocator = Global> {
     options: Options,
