@@ -19,7 +19,8 @@ fn split_first(separator: u8, text: &[u8]) -> Option<(&[u8], &[u8])>
 /// The first piece between separators, and what is left after it.
 #[inline(always)]
 pub fn split_piece(separator: u8, rest: &[u8]) -> (&[u8], Option<&[u8]>)
-    ensures parts { pieces separator rest.entry.now ≡ result.0.now ∷ left_pieces separator result.1 }
+    ensures parts { pieces separator rest.entry.now
+        ≡ result.0.now ∷ left_pieces separator result.1 }
     ensures shorter { left_size result.1 < left_size (Some rest.entry) }
 {
     match split_first(separator, rest) {

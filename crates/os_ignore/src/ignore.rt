@@ -73,7 +73,8 @@ impl<A: Allocator + Copy> Ignore<A> {
     /// assert_eq!(rt; ignore.matched(b"doc/b.txt", false), Verdict::Ignored { file: 1, line: 1 });
     /// ```
     pub fn add(&mut self, alloc: A, directory: &[u8], file: &[u8]) -> Result<(), AllocError>
-        ensures added { OnOk result (IsAdded directory.now file.now (files_of self.old) (files_of self.new)) }
+        ensures added { OnOk result (IsAdded directory.now file.now (files_of self.old)
+            (files_of self.new)) }
         ensures unchanged { OnErr result (files_of self.new ≡ files_of self.old) }
     {
         let lines = read_lines(alloc, file)?;

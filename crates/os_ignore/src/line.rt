@@ -92,7 +92,8 @@ fn read_literal<A: Allocator>(
     alloc: A,
     letters: &[Letter],
 ) -> Result<(Vec<u8, A>, &[Letter]), AllocError>
-    ensures { IfOk result (λ p. (p.0.items ≡ literal_prefix letters.entry.now) × (p.1.now ≡ after_literal letters.entry.now)) }
+    ensures { IfOk result (λ p. (p.0.items ≡ literal_prefix letters.entry.now)
+        × (p.1.now ≡ after_literal letters.entry.now)) }
 {
     let mut literal = Vec::new(alloc);
     let mut left = letters;

@@ -116,7 +116,8 @@ fn push_group<A: Allocator>(
     part: Part<A>,
     joined: bool,
 ) -> Result<(), AllocError>
-    ensures { IfOk result (λ _. pattern.new.items ≡ pattern.old.items ++ group (is_deep part.pieces.items) joined part) }
+    ensures { IfOk result (λ _. pattern.new.items
+        ≡ pattern.old.items ++ group (is_deep part.pieces.items) joined part) }
 {
     if !is_deep(&part.pieces) {
         pattern.push(Piece::One(part))?;
