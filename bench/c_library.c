@@ -266,6 +266,42 @@ static size_t c_symbols(const struct input *it) {
 }
 TIMED(r_symbols, port_symbols(STRING))
 
+/* The same walks by arrays of so many items. */
+enum { FILLED = 256 };
+static size_t c_split_fill(const struct input *it) {
+    osb_split split;
+    osb_view pieces[FILLED];
+    size_t number = 0;
+    osb_split_start(&split, STRING, "/", 1);
+    while (osb_split_fill(&split, pieces, FILLED, &count) == OSB_OK) number += count;
+    return number;
+}
+static size_t c_rsplit_fill(const struct input *it) {
+    osb_split split;
+    osb_view pieces[FILLED];
+    size_t number = 0;
+    osb_rsplit_start(&split, STRING, "/", 1);
+    while (osb_rsplit_fill(&split, pieces, FILLED, &count) == OSB_OK) number += count;
+    return number;
+}
+static size_t c_chunks_fill(const struct input *it) {
+    osb_chunks chunks;
+    osb_chunk filled[FILLED];
+    size_t number = 0;
+    osb_chunks_start(&chunks, STRING);
+    while (osb_chunks_fill(&chunks, filled, FILLED, &count) == OSB_OK) number += count;
+    return number;
+}
+static size_t c_symbols_fill(const struct input *it) {
+    osb_symbols symbols;
+    osb_symbol filled[FILLED];
+    size_t sum = 0;
+    osb_symbols_start(&symbols, OSB_UNIX, STRING, NULL);
+    while (osb_symbols_fill(&symbols, filled, FILLED, &count) == OSB_OK)
+        for (size_t i = 0; i < count; i++) sum += filled[i].value;
+    return sum;
+}
+
 /* How many calls of C are timed together. */
 static size_t one(const struct input *it) {
     (void)it;
@@ -281,6 +317,15 @@ static size_t for_chunks(const struct input *it) { return c_chunks(it) + 2; }
 static size_t for_symbols(const struct input *it) {
     c_symbols(it);
     return symbol_count + 2;
+}
+
+/* A walk by arrays makes so many calls, for so many items. */
+static size_t for_arrays(size_t items) { return items / FILLED + 3; }
+static size_t for_piece_arrays(const struct input *it) { return for_arrays(c_split(it)); }
+static size_t for_chunk_arrays(const struct input *it) { return for_arrays(c_chunks(it)); }
+static size_t for_symbol_arrays(const struct input *it) {
+    c_symbols(it);
+    return for_arrays(symbol_count);
 }
 
 /* The pairs: on the strings of which platforms they are timed, whether the calls search for a
@@ -359,6 +404,14 @@ static const struct pair {
      OF_STR},
     {"`osb_chunks_start`, `_next`", "`utf8_chunks`", c_chunks, r_chunks, for_chunks, ANY, 0},
     {"`osb_symbols_start`, `_next`", "`symbols`", c_symbols, r_symbols, for_symbols, ANY, 0},
+    {"`osb_split_start`, `_fill`", "`is_utf8`, `split`", c_split_fill, r_checked_split,
+     for_piece_arrays, ANY, 0},
+    {"`osb_rsplit_start`, `_fill`", "`is_utf8`, `rsplit`", c_rsplit_fill, r_checked_rsplit,
+     for_piece_arrays, ANY, 0},
+    {"`osb_chunks_start`, `_fill`", "`utf8_chunks`", c_chunks_fill, r_chunks, for_chunk_arrays, ANY,
+     0},
+    {"`osb_symbols_start`, `_fill`", "`symbols`", c_symbols_fill, r_symbols, for_symbol_arrays, ANY,
+     0},
 };
 enum { PAIR_COUNT = sizeof PAIRS / sizeof *PAIRS };
 static bool searches(const struct pair *pair) { return (pair->traits & SEARCHES) != 0; }

@@ -26,7 +26,8 @@
     each(path_convert) each(path_with_file_name) each(path_with_extension)                         \
     each(path_with_added_extension) each(shell_quote)                                              \
     each(shell_quote_line) each(fish_quote) each(powershell_quote) each(shell_words)               \
-    each(windows_quote) each(windows_quote_name) each(windows_arguments) each(option) each(flag)
+    each(windows_quote) each(windows_quote_name) each(windows_arguments) each(option) each(flag)    \
+    each(split_fill) each(rsplit_fill) each(chunks_fill) each(symbols_fill)
 
 #define DECLARED(name)                                                                             \
     __attribute__((visibility("hidden"))) __typeof__(osb_core_##name) osb_core_##name##_v1,        \
@@ -126,3 +127,7 @@ __attribute__((constructor(101))) static void choose(void) {
 #define osb_core_windows_arguments CHOSEN(windows_arguments)
 #define osb_core_option CHOSEN(option)
 #define osb_core_flag CHOSEN(flag)
+#define osb_core_split_fill CHOSEN(split_fill)
+#define osb_core_rsplit_fill CHOSEN(rsplit_fill)
+#define osb_core_chunks_fill CHOSEN(chunks_fill)
+#define osb_core_symbols_fill CHOSEN(symbols_fill)

@@ -34,6 +34,10 @@ struct core_option {
     uint32_t kind, value;
     size_t start, end;
 };
+struct core_filled {
+    size_t count, next;
+    bool ended;
+};
 
 /* What a request for memory is answered by: the block, if there is one. */
 struct core_block {
@@ -165,6 +169,19 @@ uint32_t osb_core_flag(const char *word, size_t len, size_t at, struct core_opti
 struct core_block rattle_alloc(size_t len, size_t align);
 struct core_block rattle_realloc(void *at, size_t kept, size_t len, size_t align);
 void rattle_dealloc(void *at);
+/* Those that fill an array take the address at which the string begins as a number, too, and write views of it. */
+_Static_assert(sizeof(uintptr_t) == sizeof(size_t), "an address is a size_t");
+uint32_t osb_core_split_fill(const char *at, size_t len, const char *pattern, size_t pattern_len,
+                             size_t from, size_t address, osb_view *out, size_t room,
+                             struct core_filled *filled);
+uint32_t osb_core_rsplit_fill(const char *at, size_t len, const char *pattern, size_t pattern_len,
+                              size_t to, size_t address, osb_view *out, size_t room,
+                              struct core_filled *filled);
+uint32_t osb_core_chunks_fill(const char *at, size_t len, size_t from, size_t address,
+                              osb_chunk *out, size_t room, struct core_filled *filled);
+uint32_t osb_core_symbols_fill(uint32_t platform, const char *at, size_t len, size_t from,
+                               size_t address, osb_symbol *out, size_t room,
+                               struct core_filled *filled);
 #pragma GCC visibility pop
 
 #ifdef __x86_64__
@@ -1030,4 +1047,75 @@ osb_status osb_option_is(const osb_option *option, uint32_t character, const cha
     case OSB_LONG: return name != NULL && is_name(option->text, name) ? OSB_OK : OSB_NONE;
     default: return OSB_NONE;
     }
+}
+
+/* Whether an array that is filled can be written beside a string. */
+static bool is_bad_array(const void *out, size_t room, size_t size, size_t align, osb_view string) {
+    return room > PTRDIFF_MAX / size || is_bad(out, room * size) ||
+           (room != 0 && (uintptr_t)out % align != 0) ||
+           do_overlap(out, room * size, string.at, string.len);
+}
+
+/* An export that fills an array with pieces. */
+typedef uint32_t core_pieces(const char *at, size_t len, const char *pattern, size_t pattern_len,
+                             size_t from, size_t address, osb_view *out, size_t room,
+                             struct core_filled *filled);
+
+INLINED osb_status fill_split(core_pieces *call, osb_split *split, osb_view *pieces, size_t room,
+                              size_t *count) {
+    struct core_filled own = {0, 0, false};
+    osb_view none;
+    if (count == NULL || is_bad_split(split) ||
+        is_bad_array(pieces, room, sizeof none, _Alignof(osb_view), split->string) ||
+        do_overlap(pieces, room * sizeof none, split->pattern.at, split->pattern.len))
+        return OSB_BAD_POINTER;
+    if (split->ended != 0) return OSB_ENDED;
+    osb_status status =
+        call(split->string.at, split->string.len, split->pattern.at, split->pattern.len, split->next,
+             (uintptr_t)split->string.at, room == 0 ? &none : pieces, room, &own);
+    if (status != OSB_OK) return status;
+    *count = own.count;
+    split->next = own.next;
+    split->ended = own.ended;
+    return OSB_OK;
+}
+
+osb_status osb_split_fill(osb_split *split, osb_view *pieces, size_t room, size_t *count) {
+    return fill_split(osb_core_split_fill, split, pieces, room, count);
+}
+
+osb_status osb_rsplit_fill(osb_split *split, osb_view *pieces, size_t room, size_t *count) {
+    return fill_split(osb_core_rsplit_fill, split, pieces, room, count);
+}
+
+osb_status osb_chunks_fill(osb_chunks *chunks, osb_chunk *out, size_t room, size_t *count) {
+    struct core_filled own = {0, 0, false};
+    osb_chunk none;
+    if (count == NULL || chunks == NULL || chunks->string.at == NULL ||
+        is_bad(chunks->string.at, chunks->string.len) ||
+        is_bad_array(out, room, sizeof none, _Alignof(osb_chunk), chunks->string))
+        return OSB_BAD_POINTER;
+    osb_status status =
+        osb_core_chunks_fill(chunks->string.at, chunks->string.len, chunks->next,
+                             (uintptr_t)chunks->string.at, room == 0 ? &none : out, room, &own);
+    if (status != OSB_OK) return status;
+    *count = own.count;
+    chunks->next = own.next;
+    return OSB_OK;
+}
+
+osb_status osb_symbols_fill(osb_symbols *symbols, osb_symbol *out, size_t room, size_t *count) {
+    struct core_filled own = {0, 0, false};
+    osb_symbol none;
+    if (count == NULL || symbols == NULL || symbols->string.at == NULL ||
+        is_bad(symbols->string.at, symbols->string.len) ||
+        is_bad_array(out, room, sizeof none, _Alignof(osb_symbol), symbols->string))
+        return OSB_BAD_POINTER;
+    osb_status status = osb_core_symbols_fill(
+        symbols->platform, symbols->string.at, symbols->string.len, symbols->next,
+        (uintptr_t)symbols->string.at, room == 0 ? &none : out, room, &own);
+    if (status != OSB_OK) return status;
+    *count = own.count;
+    symbols->next = own.next;
+    return OSB_OK;
 }

@@ -237,6 +237,12 @@ osb_status osb_rsplit_start(osb_split *split, const char *at, size_t len, const 
 osb_status osb_split_next(osb_split *split, osb_view *piece);
 osb_status osb_rsplit_next(osb_split *split, osb_view *piece);
 
+/* The same for many at once, in a fraction of the time: writes the next pieces, as many as there is room for,
+ * and goes on after them. OSB_OK with how many they are, OSB_ENDED after the last, with which nothing is
+ * written; else as osb_split_next. With room 0 nothing is read. The array overlaps neither string. */
+osb_status osb_split_fill(osb_split *split, osb_view *pieces, size_t room, size_t *count);
+osb_status osb_rsplit_fill(osb_split *split, osb_view *pieces, size_t room, size_t *count);
+
 /* The chunks of a string of any platform: each a part without whole characters, and the text
  * (UTF-8) after it. osb_to_wide gives the units of a part of a Windows string. */
 typedef struct osb_chunks {
@@ -254,6 +260,8 @@ osb_status osb_chunks_start(osb_chunks *chunks, const char *at, size_t len);
 /* OSB_OK with the next chunk, OSB_ENDED after the last. Of an iterator that isn't as a call left it,
  * OSB_BAD_INDEX. */
 osb_status osb_chunks_next(osb_chunks *chunks, osb_chunk *chunk);
+/* The same for many at once, as osb_split_fill. */
+osb_status osb_chunks_fill(osb_chunks *chunks, osb_chunk *out, size_t room, size_t *count);
 
 /* The symbols of a string: its whole characters, and the units of what isn't text. The fields are
  * the library's. It holds no memory, and a copy of it goes on by itself. */
@@ -280,6 +288,8 @@ osb_status osb_symbols_start(osb_symbols *symbols, osb_platform platform, const 
 /* OSB_OK with the next symbol, OSB_ENDED after the last. Of an iterator that isn't as a call left
  * it, or whose string has changed, OSB_BAD_INDEX, OSB_BAD_PLATFORM or OSB_FAULTY. */
 osb_status osb_symbols_next(osb_symbols *symbols, osb_symbol *symbol);
+/* The same for many at once, as osb_split_fill. */
+osb_status osb_symbols_fill(osb_symbols *symbols, osb_symbol *out, size_t room, size_t *count);
 
 /* Paths are taken apart as Rust's std::path does it, without a file system: those of OSB_UNIX and
  * OSB_WASM by the rules of POSIX, those of OSB_WINDOWS by the rules of Windows. Their bytes aren't

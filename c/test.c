@@ -1810,11 +1810,188 @@ static void bad_options(void) {
     EXPECT(osb_option_is(&option, 'f', "f") == OSB_BAD_POINTER);
 }
 
+/* Filled arrays: the items are those of the calls that step, whatever room there is, and what is beyond
+ * them stays. */
+static bool same_view(osb_view a, osb_view b) { return a.at == b.at && a.len == b.len; }
+
+/* A call that steps a split, and the one that fills an array from it. */
+typedef osb_status to_start(osb_split *, const char *, size_t, const char *, size_t);
+typedef osb_status to_step(osb_split *, osb_view *);
+typedef osb_status to_fill(osb_split *, osb_view *, size_t, size_t *);
+
+static void fill_pieces(to_start *start, to_step *step, to_fill *fill, const char *text, size_t len,
+                        const char *pattern, size_t room) {
+    osb_split stepped, filled;
+    osb_view piece, pieces[9];
+    size_t count = 99;
+    EXPECT(start(&stepped, text, len, pattern, strlen(pattern)) == OSB_OK);
+    filled = stepped;
+    for (size_t i = 0; i < 9; i++) pieces[i] = (osb_view){"stays", 77};
+    for (size_t turns = 0; turns < 40 && fill(&filled, pieces, room, &count) == OSB_OK; turns++) {
+        EXPECT(count > 0 && count <= room);
+        for (size_t i = 0; i < count; i++)
+            EXPECT(step(&stepped, &piece) == OSB_OK && same_view(piece, pieces[i]));
+        EXPECT(pieces[room].len == 77 && filled.ended == stepped.ended);
+        EXPECT(filled.ended != 0 || (count == room && filled.next == stepped.next));
+        count = 99;
+    }
+    EXPECT(count == 99 && fill(&filled, pieces, room, &count) == OSB_ENDED);
+    EXPECT(step(&stepped, &piece) == OSB_ENDED);
+}
+
+static void fill_chunks(const char *text, size_t len, size_t room) {
+    osb_chunks stepped, filled;
+    osb_chunk chunk, out[9];
+    size_t count = 99;
+    EXPECT(osb_chunks_start(&stepped, text, len) == OSB_OK);
+    filled = stepped;
+    for (size_t i = 0; i < 9; i++) out[i].text.len = 77;
+    for (size_t turns = 0; turns < 40 && osb_chunks_fill(&filled, out, room, &count) == OSB_OK; turns++) {
+        EXPECT(count > 0 && count <= room && out[room].text.len == 77);
+        for (size_t i = 0; i < count; i++)
+            EXPECT(osb_chunks_next(&stepped, &chunk) == OSB_OK && same_view(chunk.part, out[i].part) &&
+                   same_view(chunk.text, out[i].text));
+        EXPECT(filled.next == stepped.next && (count == room || filled.next == len));
+        count = 99;
+    }
+    EXPECT(count == 99 && filled.next == len && osb_chunks_next(&stepped, &chunk) == OSB_ENDED);
+}
+
+static void fill_symbols(osb_platform platform, const char *text, size_t len, size_t room) {
+    osb_symbols stepped, filled;
+    osb_symbol symbol, out[9];
+    size_t count = 99;
+    EXPECT(osb_symbols_start(&stepped, platform, text, len, NULL) == OSB_OK);
+    filled = stepped;
+    for (size_t i = 0; i < 9; i++) out[i].value = 77;
+    for (size_t turns = 0; turns < 40 && osb_symbols_fill(&filled, out, room, &count) == OSB_OK; turns++) {
+        EXPECT(count > 0 && count <= room && out[room].value == 77);
+        for (size_t i = 0; i < count; i++) {
+            EXPECT(osb_symbols_next(&stepped, &symbol) == OSB_OK && symbol.kind == out[i].kind);
+            EXPECT(symbol.value == out[i].value && same_view(symbol.bytes, out[i].bytes));
+        }
+        EXPECT(filled.next == stepped.next && (count == room || filled.next == len));
+        count = 99;
+    }
+    EXPECT(count == 99 && filled.next == len && osb_symbols_next(&stepped, &symbol) == OSB_ENDED);
+}
+
+static void filled_arrays(void) {
+    static const char text[] = ",a,,\xFF" "b\xC3\xA9\xFF,\xF0\x9F\x98\x80,,c";
+    static const char wide[] = "a\xED\xA0\xBD\xC3\xA9\xED\xB0\x80z";
+    for (size_t room = 1; room < 9; room++) {
+        for (size_t len = 0; len < sizeof text; len++) {
+            fill_pieces(osb_split_start, osb_split_next, osb_split_fill, text, len, ",", room);
+            fill_pieces(osb_split_start, osb_split_next, osb_split_fill, text, len, ",,", room);
+            fill_pieces(osb_rsplit_start, osb_rsplit_next, osb_rsplit_fill, text, len, ",", room);
+            fill_pieces(osb_rsplit_start, osb_rsplit_next, osb_rsplit_fill, text, len, ",,", room);
+            fill_chunks(text, len, room);
+            fill_symbols(OSB_UNIX, text, len, room);
+        }
+        fill_symbols(OSB_WINDOWS, wide, sizeof wide - 1, room);
+        fill_symbols(OSB_WASM, TEXT("a\xC3\xA9"), room);
+    }
+    fill_pieces(osb_split_start, osb_split_next, osb_split_fill, NULL, 0, ",", 1);
+    fill_pieces(osb_rsplit_start, osb_rsplit_next, osb_rsplit_fill, NULL, 0, ",", 1);
+    fill_chunks(NULL, 0, 1);
+    fill_symbols(OSB_WASM, NULL, 0, 1);
+}
+
+/* What is refused: nothing is written, and nothing is stepped. */
+static void bad_piece_arrays(to_start *start, to_fill *fill) {
+    union {
+        char text[64];
+        osb_view views[4];
+    } both = {"a,b,c"};
+    static const osb_view pattern[1];
+    osb_view pieces[2] = {{NULL, 77}, {NULL, 77}};
+    osb_split split, left;
+    size_t count = 99;
+    EXPECT(start(&split, both.text, 64, TEXT(",")) == OSB_OK);
+    left = split;
+    EXPECT(fill(&split, pieces, 0, &count) == OSB_OK && count == 0);
+    EXPECT(fill(&split, NULL, 0, &count) == OSB_OK && count == 0);
+    count = 99;
+    EXPECT(fill(&split, NULL, 1, &count) == OSB_BAD_POINTER);
+    EXPECT(fill(&split, pieces, 2, NULL) == OSB_BAD_POINTER);
+    EXPECT(fill(NULL, pieces, 2, &count) == OSB_BAD_POINTER);
+    EXPECT(fill(&split, pieces, PTRDIFF_MAX / sizeof *pieces + 1, &count) == OSB_BAD_POINTER);
+    EXPECT(fill(&split, (osb_view *)((char *)pieces + 1), 1, &count) == OSB_BAD_POINTER);
+    EXPECT(fill(&split, both.views + 3, 1, &count) == OSB_BAD_POINTER);
+    EXPECT(fill(&split, both.views + 3, 0, &count) == OSB_OK && count == 0);
+    count = 99;
+    EXPECT(memcmp(&split, &left, sizeof split) == 0 && pieces[0].len == 77 && both.text[0] == 'a');
+    split.pattern = (osb_view){(const char *)pattern, sizeof pattern};
+    EXPECT(fill(&split, (osb_view *)(uintptr_t)pattern, 1, &count) == OSB_BAD_POINTER);
+    split = (osb_split){{NULL, 0}, {NULL, 0}, 0, 0};
+    EXPECT(fill(&split, pieces, 2, &count) == OSB_BAD_POINTER);
+    split = (osb_split){{"a", 1}, {",", 1}, 2, 0};
+    EXPECT(fill(&split, pieces, 2, &count) == OSB_BAD_INDEX && split.next == 2);
+    split = (osb_split){{"a", 1}, {"\xFF", 1}, 0, 0};
+    EXPECT(fill(&split, pieces, 2, &count) == OSB_BAD_PATTERN && split.ended == 0);
+    split = (osb_split){{"a", 1}, {"", 0}, 0, 0};
+    EXPECT(fill(&split, pieces, 2, &count) == OSB_BAD_PATTERN);
+    EXPECT(count == 99 && pieces[0].len == 77);
+}
+
+static void bad_arrays(void) {
+    union {
+        char text[96];
+        osb_chunk chunks[3];
+        osb_symbol symbols[4];
+    } both = {"a"};
+    osb_chunks chunks;
+    osb_chunk chunk[2];
+    osb_symbols symbols;
+    osb_symbol symbol[2];
+    size_t count = 99;
+    bad_piece_arrays(osb_split_start, osb_split_fill);
+    bad_piece_arrays(osb_rsplit_start, osb_rsplit_fill);
+    EXPECT(osb_chunks_start(&chunks, both.text, 96) == OSB_OK);
+    EXPECT(osb_chunks_fill(&chunks, NULL, 1, &count) == OSB_BAD_POINTER);
+    EXPECT(osb_chunks_fill(&chunks, chunk, 2, NULL) == OSB_BAD_POINTER);
+    EXPECT(osb_chunks_fill(NULL, chunk, 2, &count) == OSB_BAD_POINTER);
+    EXPECT(osb_chunks_fill(&chunks, (osb_chunk *)((char *)chunk + 1), 1, &count) == OSB_BAD_POINTER);
+    EXPECT(osb_chunks_fill(&chunks, both.chunks + 2, 1, &count) == OSB_BAD_POINTER);
+    EXPECT(osb_chunks_fill(&chunks, chunk, SIZE_MAX, &count) == OSB_BAD_POINTER);
+    EXPECT(count == 99 && osb_chunks_fill(&chunks, NULL, 0, &count) == OSB_OK && count == 0);
+    chunks = (osb_chunks){{NULL, 0}, 0};
+    EXPECT(osb_chunks_fill(&chunks, chunk, 2, &count) == OSB_BAD_POINTER);
+    chunks = (osb_chunks){{"a", SIZE_MAX}, 0};
+    EXPECT(osb_chunks_fill(&chunks, chunk, 2, &count) == OSB_BAD_POINTER);
+    chunks = (osb_chunks){{"a", 1}, 2};
+    EXPECT(osb_chunks_fill(&chunks, chunk, 2, &count) == OSB_BAD_INDEX);
+    EXPECT(osb_symbols_start(&symbols, OSB_UNIX, both.text, 96, NULL) == OSB_OK);
+    count = 99;
+    EXPECT(osb_symbols_fill(&symbols, NULL, 1, &count) == OSB_BAD_POINTER);
+    EXPECT(osb_symbols_fill(&symbols, symbol, 2, NULL) == OSB_BAD_POINTER);
+    EXPECT(osb_symbols_fill(NULL, symbol, 2, &count) == OSB_BAD_POINTER);
+    EXPECT(osb_symbols_fill(&symbols, (osb_symbol *)((char *)symbol + 1), 1, &count) ==
+           OSB_BAD_POINTER);
+    EXPECT(osb_symbols_fill(&symbols, both.symbols + 3, 1, &count) == OSB_BAD_POINTER);
+    EXPECT(osb_symbols_fill(&symbols, symbol, SIZE_MAX, &count) == OSB_BAD_POINTER);
+    EXPECT(count == 99 && osb_symbols_fill(&symbols, NULL, 0, &count) == OSB_OK && count == 0);
+    count = 99;
+    symbols = (osb_symbols){{NULL, 0}, 0, OSB_UNIX};
+    EXPECT(osb_symbols_fill(&symbols, symbol, 2, &count) == OSB_BAD_POINTER);
+    symbols = (osb_symbols){{"a", SIZE_MAX}, 0, OSB_UNIX};
+    EXPECT(osb_symbols_fill(&symbols, symbol, 2, &count) == OSB_BAD_POINTER);
+    symbols = (osb_symbols){{"a", 1}, 2, OSB_UNIX};
+    EXPECT(osb_symbols_fill(&symbols, symbol, 2, &count) == OSB_BAD_INDEX);
+    symbols = (osb_symbols){{"a", 1}, 0, 3};
+    EXPECT(osb_symbols_fill(&symbols, symbol, 2, &count) == OSB_BAD_PLATFORM);
+    symbols = (osb_symbols){{"a\xED\xA0", 3}, 0, OSB_WINDOWS};
+    EXPECT(osb_symbols_fill(&symbols, symbol, 2, &count) == OSB_FAULTY && symbols.next == 0);
+    EXPECT(osb_symbols_fill(&symbols, symbol, 1, &count) == OSB_OK && count == 1);
+}
+
 int main(void) {
     checks();
     escapes();
     unescapes();
     symbols();
+    filled_arrays();
+    bad_arrays();
     views();
     bounds();
     status_texts();

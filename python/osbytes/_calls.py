@@ -3,9 +3,9 @@
 from __future__ import annotations
 
 from array import array
-from ctypes import byref, c_int32, c_size_t, c_uint16, create_string_buffer
+from ctypes import Structure, byref, c_int32, c_size_t, c_uint16, create_string_buffer
 from enum import IntEnum
-from typing import Callable, Iterator, NamedTuple, Union
+from typing import Callable, Iterator, NamedTuple, TypeVar, Union
 
 from ._errors import BadEscapeError, FaultError, NoStringError, OsBytesError
 from ._library import (
@@ -13,6 +13,7 @@ from ._library import (
     CHARACTER,
     FAULT_TEXT_ROOM,
     FAULTY,
+    FILLED,
     NO_STRING,
     OK,
     CheckerState,
@@ -328,13 +329,22 @@ def compare(a: bytes, b: bytes) -> int:
     return order.value
 
 
-def _pieces(start: Callable[..., int], step: Callable[..., int], string: bytes, pattern: str) -> Iterator[bytes]:
-    text, left, piece = _text_of(pattern), Split(), View()
+Item = TypeVar("Item", bound=Structure)
+
+
+def _filled(fill: Callable[..., int], left: Structure, item: type[Item]) -> Iterator[Item]:
+    """Iterates over what an iterator of the library has left, by an array that it fills again and again."""
+    items, count = (item * FILLED)(), c_size_t()
+    while fill(byref(left), items, FILLED, byref(count)) == OK:
+        yield from items[: count.value]
+
+
+def _pieces(start: Callable[..., int], fill: Callable[..., int], string: bytes, pattern: str) -> list[bytes]:
+    text, left = _text_of(pattern), Split()
     if not text:
         raise ValueError("empty separator")
     _done(start(byref(left), string, len(string), text, len(text)))
-    while step(byref(left), byref(piece)) == OK:
-        yield bytes(piece)
+    return [bytes(piece) for piece in _filled(fill, left, View)]
 
 
 def split(string: bytes, pattern: str) -> list[bytes]:
@@ -345,7 +355,7 @@ def split(string: bytes, pattern: str) -> list[bytes]:
     >>> split(b"a,\\xff,,b", ",")
     [b'a', b'\\xff', b'', b'b']
     """
-    return list(_pieces(library.osb_split_start, library.osb_split_next, string, pattern))
+    return _pieces(library.osb_split_start, library.osb_split_fill, string, pattern)
 
 
 def rsplit(string: bytes, pattern: str) -> list[bytes]:
@@ -354,7 +364,7 @@ def rsplit(string: bytes, pattern: str) -> list[bytes]:
     >>> rsplit(b"a,b", ",")
     [b'b', b'a']
     """
-    return list(_pieces(library.osb_rsplit_start, library.osb_rsplit_next, string, pattern))
+    return _pieces(library.osb_rsplit_start, library.osb_rsplit_fill, string, pattern)
 
 
 def chunks(string: bytes) -> Iterator[tuple[bytes, str]]:
@@ -363,9 +373,9 @@ def chunks(string: bytes) -> Iterator[tuple[bytes, str]]:
     >>> list(chunks(b"ab\\xffc"))
     [(b'', 'ab'), (b'\\xff', 'c')]
     """
-    left, chunk = Chunks(), Chunk()
+    left = Chunks()
     _done(library.osb_chunks_start(byref(left), string, len(string)))
-    while library.osb_chunks_next(byref(left), byref(chunk)) == OK:
+    for chunk in _filled(library.osb_chunks_fill, left, Chunk):
         yield bytes(chunk.part), bytes(chunk.text).decode()
 
 
@@ -387,7 +397,7 @@ def symbols(string: OsString, platform: Platform = UNIX) -> Iterator[Character |
     >>> list(symbols(b"a\\xff"))
     [Character(text='a'), Unit(value=255)]
     """
-    raw, left, symbol = encode(string, platform), Symbols(), Symbol()
+    raw, left = encode(string, platform), Symbols()
     _done(library.osb_symbols_start(byref(left), platform, raw, len(raw), None))
-    while library.osb_symbols_next(byref(left), byref(symbol)) == OK:
+    for symbol in _filled(library.osb_symbols_fill, left, Symbol):
         yield Character(chr(symbol.value)) if symbol.kind == CHARACTER else Unit(symbol.value)

@@ -100,6 +100,8 @@ NO_MEMORY, BAD_PATH = 11, 12
 BAD_EXTENSION = 23
 CHARACTER = 1
 FAULT_TEXT_ROOM = 129
+# How many items of an iterator are read at once.
+FILLED = 256
 
 STRING = [c_char_p, c_size_t]
 COUNTED = [c_char_p, c_size_t, POINTER(c_size_t)]
@@ -134,12 +136,12 @@ CALLS: dict[str, list[type]] = {
     "osb_compare": [*STRING, *STRING, POINTER(c_int32)],
     "osb_split_start": [POINTER(Split), *STRING, *STRING],
     "osb_rsplit_start": [POINTER(Split), *STRING, *STRING],
-    "osb_split_next": [POINTER(Split), POINTER(View)],
-    "osb_rsplit_next": [POINTER(Split), POINTER(View)],
+    "osb_split_fill": [POINTER(Split), POINTER(View), c_size_t, POINTER(c_size_t)],
+    "osb_rsplit_fill": [POINTER(Split), POINTER(View), c_size_t, POINTER(c_size_t)],
     "osb_chunks_start": [POINTER(Chunks), *STRING],
-    "osb_chunks_next": [POINTER(Chunks), POINTER(Chunk)],
+    "osb_chunks_fill": [POINTER(Chunks), POINTER(Chunk), c_size_t, POINTER(c_size_t)],
     "osb_symbols_start": [POINTER(Symbols), c_uint32, *STRING, POINTER(Fault)],
-    "osb_symbols_next": [POINTER(Symbols), POINTER(Symbol)],
+    "osb_symbols_fill": [POINTER(Symbols), POINTER(Symbol), c_size_t, POINTER(c_size_t)],
     "osb_path_components": [c_uint32, *STRING, POINTER(Part), c_size_t, POINTER(c_size_t)],
     "osb_path_parent": PARTS,
     "osb_path_prefix": PARTS,

@@ -1,13 +1,16 @@
 pub mod ArgumentWriting
 pub mod Built
+pub mod ChunkFills
 pub mod CommandLines
 pub mod Conversions
 pub mod Digits
+pub mod Fills
 pub mod Lines
 pub mod Options
 pub mod PathParts
 pub mod PathSpans
 pub mod Room
 pub mod Steps
+pub mod SymbolFills
 pub mod Symbols
 pub mod Walks

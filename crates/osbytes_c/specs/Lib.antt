@@ -1,7 +1,9 @@
 pub mod Answers
 pub mod ArgumentWriting
+pub mod ChunkFills
 pub mod CommandLines
 pub mod Faults
+pub mod Fills
 pub mod Lines
 pub mod Options
 pub mod PartBuffers
@@ -11,5 +13,6 @@ pub mod PathSpans
 pub mod Platforms
 pub mod Room
 pub mod Steps
+pub mod SymbolFills
 pub mod Walks
 pub mod Words

@@ -1,5 +1,5 @@
 -- One step of an iterator, which knows only an index.
-use Rattle.std.specs.Prelude.{◌≡◌, ◌⊎◌, ℕ, zero, suc, ◌≤◌, ◌<◌, true, false, List, [], ◌∷◌, length, take, drop}
+use Rattle.std.specs.Prelude.{◌≡◌, ◌⊎◌, ◌+◌, ℕ, zero, suc, ◌≤◌, ◌<◌, true, false, List, [], ◌∷◌, length, take, drop}
 use Rattle.std.specs.Str.{IsUtf8}
 use Rattle.wtf8_core.specs.Occurrence.{OccursNowhere, IsFirstIndex, IsLastIndex}
 use Rattle.wtf8_core.specs.Pieces.{SplitsAt}
@@ -25,6 +25,14 @@ part s i j = drop i (take j s)
 abbrev pub IsNoPattern : List ℕ → Type 0
 IsNoPattern p = (¬ (IsUtf8 p)) ⊎ (p ≡ [])
 
+-- after index `at` the first piece of s ends at index `edge`, where p occurs for the first time
+abbrev pub IsFirstCut : List ℕ → List ℕ → ℕ → ℕ → Type 0
+IsFirstCut p s at edge = SplitsAt IsFirstIndex p (drop at s) (part s at edge) (drop (edge + length p) s)
+
+-- before index `at` the last piece of s starts at index `edge`, and what is before p, which occurs there for the last time, ends at index `rest`
+abbrev pub IsLastCut : List ℕ → List ℕ → ℕ → ℕ → ℕ → Type 0
+IsLastCut p s at edge rest = SplitsAt IsLastIndex p (take at s) (take rest s) (part s edge at)
+
 -- after index `at` s has this first piece: all of it, if p doesn't occur there; or what comes before the first occurrence of p, after which the rest starts
 abbrev pub IsFirstPiece : List ℕ → List ℕ → ℕ → Piece → Type 0
 IsFirstPiece p s at piece =
@@ -38,7 +46,7 @@ abbrev pub IsLastPiece : List ℕ → List ℕ → ℕ → Piece → Type 0
 IsLastPiece p s at piece =
     elim piece.last [
       | true ↦ OccursNowhere p (take at s) × (piece.edge ≡ 0)
-      | false ↦ SplitsAt IsLastIndex p (take at s) (take piece.rest s) (part s piece.edge at)
+      | false ↦ IsLastCut p s at piece.edge piece.rest
     ]
 
 -- after index `at` s has this first chunk, and after it those of the rest

@@ -1,5 +1,5 @@
 //! One chunk of a string.
-ghost use Rattle.std.specs.Prelude.{◌≡◌, ◌<◌, ◌↔◌, ◌⊎◌, length};
+ghost use Rattle.std.specs.Prelude.{◌≡◌, ◌<◌, ◌≤◌, ◌↔◌, ◌⊎◌, length, MatchOption, IfSome};
 ghost use Rattle.osbytes_c.specs.Steps.{IsChunkAt};
 
 use crate::status::{DONE, ENDED, NO_INDEX};
@@ -27,17 +27,31 @@ pub extern "C" fn osb_core_chunk(bytes: &[u8], at: usize, ends: &mut Ends) -> u3
     if at > bytes.len() {
         return NO_INDEX;
     }
-    if at == bytes.len() {
+    let Some(found) = chunk_after(bytes, at) else {
         return ENDED;
+    };
+    *ends = found;
+    DONE
+}
+
+/// The first chunk of what comes after an index, or `None` at the end.
+#[inline(always)]
+pub(crate) fn chunk_after(bytes: &[u8], at: usize) -> Option<Ends>
+    requires { at ≤ length bytes.now }
+    ensures chunk { MatchOption result (at ≡ length bytes.now)
+        (λ ends. IsChunkAt bytes.now at ends) }
+    ensures ended { IfSome result (λ _. at < length bytes.now) }
+{
+    if at == bytes.len() {
+        return None;
     }
     let (_, rest) = bytes.split_at(at);
     let mut chunks = unix(rest).utf8_chunks();
     let Some((part, _)) = chunks.next() else {
-        return ENDED;
+        return None;
     };
-    *ends = Ends {
+    Some(Ends {
         part: at + part.as_os_str().len(),
         text: bytes.len() - chunks.rest().len(),
-    };
-    DONE
+    })
 }

@@ -2,13 +2,14 @@
 //! and in pieces, [`fault_text`] the text of a fault, [`wide`] bytes to 16-bit units and back,
 //! [`lossy`] lossy texts, [`escapes`] and [`unescapes`] escapes and back, [`search`] searches,
 //! [`prefix`] prefixes and suffixes by units, [`boundary`] where strings may be cut, [`compare`]
-//! their order, one step of each iterator: [`split`], [`chunks`] and [`symbols`], and [`paths`] and
-//! [`path_tests`] paths, whose components [`path_parts`] finds and [`part_list`] writes,
-//! [`path_joins`], [`path_forms`] and [`path_names`] paths that are built of others, and [`shell`]
-//! and [`powershell`] words of a shell, [`shell_words`] lines of them, [`windows_quote`],
-//! [`windows_name`] and [`windows_arguments`] command lines of Windows, and [`options`] options and
-//! operands. [`laws`] says what whole walks and whole lines give, and
-//! [`uses`], [`line_uses`] and [`path_uses`] conclude from it.
+//! their order, one step of each iterator: [`split`], [`chunks`] and [`symbols`], and many at once:
+//! [`split_fill`], [`chunks_fill`] and [`symbols_fill`], [`paths`] and [`path_tests`] paths, whose
+//! components [`path_parts`] finds and [`part_list`] writes, [`path_joins`], [`path_forms`] and
+//! [`path_names`] paths that are built of others, and [`shell`] and [`powershell`] words of a shell,
+//! [`shell_words`] lines of them, [`windows_quote`], [`windows_name`] and [`windows_arguments`]
+//! command lines of Windows, and [`options`] options and operands. [`laws`] says what whole walks and
+//! whole lines give, [`fill_laws`] what filled arrays hold, and [`uses`], [`fill_uses`],
+//! [`line_uses`] and [`path_uses`] conclude from it.
 //!
 //! A slice crosses as a pointer and a length. Each export takes any values: a platform, a pattern,
 //! an index or a fault that there isn't is answered by a status ([`status`]), so none has a
@@ -21,10 +22,13 @@ mod built;
 pub mod check;
 pub mod checker;
 pub mod chunks;
+pub mod chunks_fill;
 pub mod compare;
 pub mod escapes;
 pub mod fault;
 pub mod fault_text;
+pub mod fill_laws;
+pub mod fill_uses;
 pub mod laws;
 pub mod line_uses;
 pub mod lossy;
@@ -46,11 +50,14 @@ pub mod shell;
 pub mod shell_words;
 pub mod span;
 pub mod split;
+pub mod split_fill;
 pub mod status;
 mod strings;
 pub mod symbols;
+pub mod symbols_fill;
 pub mod unescapes;
 pub mod uses;
+pub mod view;
 pub mod wide;
 pub mod windows_arguments;
 pub mod windows_name;

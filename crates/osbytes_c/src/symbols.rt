@@ -4,6 +4,7 @@ ghost use Rattle.std.specs.Char.{encode_utf8};
 ghost use Rattle.wtf8_core.specs.Covered.{StartsWithNoCharacter};
 ghost use Rattle.wtf8_core.specs.Wtf8.{IsWtf8};
 ghost use Rattle.osbytes_c.specs.Faults.{IsString, IsUnstring};
+ghost use Rattle.osbytes_c.specs.SymbolFills.{IsSymbolStep};
 ghost use Rattle.osbytes_c.specs.Steps.{IsSymbolAt, IsFirstOf, IsSurrogatePrefix, StartsWithNoSymbol};
 
 use crate::status::{DONE, ENDED, FAULTY, NO_INDEX, NO_PLATFORM};
@@ -48,19 +49,36 @@ pub extern "C" fn osb_core_symbol(platform: u32, bytes: &[u8], at: usize, symbol
     if at == bytes.len() {
         return ENDED;
     }
-    let (_, rest) = bytes.split_at(at);
-    let Some(first) = first_symbol(platform, rest) else {
+    let Some(step) = symbol_after(platform, bytes, at) else {
         return FAULTY;
     };
-    *symbol = Step {
-        kind: first.kind,
-        value: first.value,
-        end: at + first.end,
-    };
+    *symbol = step;
     DONE
 }
 
+/// The first symbol of what comes after an index, or `None` if that isn't a string of the platform.
+#[inline(always)]
+pub(crate) fn symbol_after(platform: u32, bytes: &[u8], at: usize) -> Option<Step>
+    requires known { platform ≤ 2 }
+    requires within { at < length bytes.now }
+    ensures symbol { MatchOption result (IsUnstring platform (drop at bytes.now))
+        (λ step. IsSymbolStep platform bytes.now at step) }
+    ensures none { MatchOption result (StartsWithNoSymbol platform (drop at bytes.now))
+        (λ _. ¬ (StartsWithNoSymbol platform (drop at bytes.now))) }
+{
+    let (_, rest) = bytes.split_at(at);
+    let Some(first) = first_symbol(platform, rest) else {
+        return None;
+    };
+    Some(Step {
+        kind: first.kind,
+        value: first.value,
+        end: at + first.end,
+    })
+}
+
 /// The first symbol of bytes, or `None` if they aren't a string of the platform.
+#[inline(always)]
 fn first_symbol(platform: u32, bytes: &[u8]) -> Option<Step>
     requires known { platform ≤ 2 }
     requires some { 0 < length bytes.now }
@@ -94,6 +112,7 @@ fn first_symbol(platform: u32, bytes: &[u8]) -> Option<Step>
 }
 
 /// The step to a character with which bytes begin.
+#[inline(always)]
 fn character_step(bytes: &[u8], character: char, rest: &[u8]) -> Step
     requires { bytes.now ≡ encode_utf8 character ++ rest.now }
     ensures first { (platform : ℕ) → IsString platform bytes.now
@@ -110,6 +129,7 @@ fn character_step(bytes: &[u8], character: char, rest: &[u8]) -> Step
 
 /// The surrogate with whose form bytes begin, which begin with no whole character; `None` if they
 /// aren't WTF-8.
+#[inline(never)]
 fn first_surrogate(bytes: &[u8]) -> Option<u32>
     requires some { 0 < length bytes.now }
     requires uncovered { StartsWithNoCharacter bytes.now }

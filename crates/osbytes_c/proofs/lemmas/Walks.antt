@@ -23,7 +23,7 @@ later A B C true f more = more
 later A B C false f more = f more
 
 -- one step of a split, by whether it is the last
-split_step : (p s : List ℕ) (at edge rest : ℕ) (last : Bool) (piece : List ℕ) (pieces : List (List ℕ)) → IsFirstPiece p s at (record { edge = edge; rest = rest; last = last }) → piece ≡ part s at edge
+pub split_step : (p s : List ℕ) (at edge rest : ℕ) (last : Bool) (piece : List ℕ) (pieces : List (List ℕ)) → IsFirstPiece p s at (record { edge = edge; rest = rest; last = last }) → piece ≡ part s at edge
     → elim last as (λ b. Type 0) [ true ↦ pieces ≡ [] | false ↦ IsSplit p (drop rest s) pieces ] → IsSplit p (drop at s) (piece ∷ pieces)
 split_step p s at edge rest true piece pieces h e more =
     let all : piece ≡ drop at s = e ∙ ap (λ k. drop at (take k s)) h.1 ∙ ap (drop at) (take_all (length s) s (omega arith)) in
@@ -36,7 +36,7 @@ split_walk p s at [] w = absurd w
 split_walk p s at (piece ∷ pieces) w = split_step p s at w.0.edge w.0.rest w.0.last piece pieces w.1.0 w.1.1.0 (later (SplitWalk p s w.0.rest pieces) (IsSplit p (drop w.0.rest s) pieces) (pieces ≡ []) w.0.last (split_walk p s w.0.rest pieces) w.1.1.1)
 
 -- the same from the end
-rsplit_step : (p s : List ℕ) (at edge rest : ℕ) (last : Bool) (piece : List ℕ) (pieces : List (List ℕ)) → IsLastPiece p s at (record { edge = edge; rest = rest; last = last }) → piece ≡ part s edge at
+pub rsplit_step : (p s : List ℕ) (at edge rest : ℕ) (last : Bool) (piece : List ℕ) (pieces : List (List ℕ)) → IsLastPiece p s at (record { edge = edge; rest = rest; last = last }) → piece ≡ part s edge at
     → elim last as (λ b. Type 0) [ true ↦ pieces ≡ [] | false ↦ IsRSplit p (take rest s) pieces ] → IsRSplit p (take at s) (piece ∷ pieces)
 rsplit_step p s at edge rest true piece pieces h e more =
     let all : piece ≡ take at s = e ∙ ap (λ k. drop k (take at s)) h.1 in

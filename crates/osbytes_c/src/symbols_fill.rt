@@ -1,0 +1,97 @@
+//! Many symbols of a string at once.
+ghost use Rattle.std.specs.Prelude.{◌≡◌, ◌≤◌, ◌<◌, ◌+◌, ◌^◌, ◌↔◌, ◌∷◌, [], length, drop, MatchOption};
+ghost use Rattle.osbytes_c.specs.Answers.{IsOneOf};
+ghost use Rattle.osbytes_c.specs.Faults.{IsUnstring};
+ghost use Rattle.osbytes_c.specs.Fills.{Fills, IsOutside};
+ghost use Rattle.osbytes_c.specs.SymbolFills.{SymbolViews};
+
+use crate::status::{DONE, ENDED, FAULTY, NO_INDEX, NO_PLATFORM};
+use crate::symbols::symbol_after;
+use crate::view::{Filled, View, is_outside};
+
+/// A symbol, and where it is.
+#[repr(C)]
+#[derive(Clone, Copy)]
+pub struct SymbolView {
+    /// 1 a character, 2 a unit of what isn't text.
+    pub kind: u32,
+    /// The character, or the unit's number.
+    pub value: u32,
+    /// Its bytes.
+    pub bytes: View,
+}
+
+/// Fills `out` with the next symbols of a string that begins at this address: those of what comes after
+/// an index, as many as there is room for, if that is a string of the platform.
+#[unsafe(no_mangle)]
+pub extern "C" fn osb_core_symbols_fill(
+    platform: u32,
+    bytes: &[u8],
+    at: usize,
+    address: usize,
+    out: &mut [SymbolView],
+    filled: &mut Filled,
+) -> u32
+    ensures symbols { result ≡ 0 → Fills (SymbolViews platform bytes.now address at) out.old
+        out.new filled.new }
+    ensures fault { result ≡ 1 → IsUnstring platform (drop at bytes.now) }
+    ensures index { (result ≡ 18) ↔ ((platform ≤ 2) × IsOutside address at bytes.now) }
+    ensures ended { (result ≡ 4) ↔ ((platform ≤ 2) × ((¬ (IsOutside address at bytes.now))
+        × (at ≡ length bytes.now))) }
+    ensures platform { (result ≡ 16) ↔ (2 < platform) }
+    ensures answers { IsOneOf (0 ∷ 1 ∷ 18 ∷ 4 ∷ 16 ∷ []) result }
+{
+    if platform > 2 {
+        return NO_PLATFORM;
+    }
+    if is_outside(bytes, at, address) {
+        return NO_INDEX;
+    }
+    if at == bytes.len() {
+        return ENDED;
+    }
+    let Some(all) = fill_symbols(platform, bytes, at, address, out) else {
+        return FAULTY;
+    };
+    *filled = all;
+    DONE
+}
+
+/// Fills `out` with the symbols after an index; `None` if that is no string of the platform.
+#[inline(always)]
+fn fill_symbols(
+    platform: u32,
+    bytes: &[u8],
+    at: usize,
+    address: usize,
+    out: &mut [SymbolView],
+) -> Option<Filled>
+    requires known { platform ≤ 2 }
+    requires within { at ≤ length bytes.now }
+    requires address { address + length bytes.now < 2 ^ 64 }
+    ensures { MatchOption result (IsUnstring platform (drop at bytes.now))
+        (λ filled. Fills (SymbolViews platform bytes.now address at) out.old out.new filled) }
+{
+    let mut next = at;
+    let mut count = 0;
+    while count < out.len() && next < bytes.len() {
+        let Some(step) = symbol_after(platform, bytes, next) else {
+            return None;
+        };
+        out[count] = SymbolView {
+            kind: step.kind,
+            value: step.value,
+            bytes: View {
+                at: address + next,
+                len: step.end - next,
+            },
+        };
+        count += 1;
+        next = step.end;
+    }
+    Some(Filled {
+        count,
+        next,
+        ended: next == bytes.len(),
+    })
+}
