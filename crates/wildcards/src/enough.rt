@@ -21,7 +21,7 @@ fn is_star_and<A: Allocator>(pieces: &[Piece<Item<A>>], text: &[u8]) -> bool
     *letter == 0x2E && spells(more, text)
 }
 
-/// Whether there is one choice, which is `**` and a part of `*`, a dot and a text.
+/// Whether the first choice is `**` and a part of `*`, a dot and a text.
 fn has_any_with<A: Allocator>(choices: &[Choice<A>], text: &[u8]) -> bool
     ensures { IsTrue result → has_any_with choices.now text.now ≡ true }
 {
