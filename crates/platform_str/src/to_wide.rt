@@ -10,13 +10,13 @@ use std::alloc::{AllocError, Allocator};
 use std::simd::prelude::*;
 use wtf8_core::vectors::window::put_in_zeros;
 
-/// Whether all 16 bytes are ASCII.
+/// Whether each of 16 bytes is below a bound.
 #[inline(always)]
-fn is_ascii_block(block: [u8; 16]) -> bool
-    ensures { result ≡ true → All (λ b. b < 0x80) block }
+fn are_below(block: [u8; 16], bound: u8) -> bool
+    ensures { result ≡ true → All (λ b. b < bound) block }
 {
     u8x16::from_array(block)
-        .simd_ge(u8x16::splat(0x80))
+        .simd_ge(u8x16::splat(bound))
         .to_bitmask()
         == 0
 }
@@ -39,7 +39,21 @@ fn lanes(bytes: &[u8], from: usize) -> u16x16
     u8x16::from_slice(&bytes[from..]).cast::<u16>()
 }
 
-/// The unit that each of 16 bytes after the first adds, if it adds one.
+/// Whether no lead of four bytes is among the first 17 bytes: those after the first add no half of a
+/// surrogate pair then.
+#[inline(always)]
+fn have_no_pair(bytes: &[u8]) -> bool
+    requires { 17 ≤ length bytes.now }
+    ensures before { result ≡ true → All (λ b. b < 0xF0) (take 16 bytes.now) }
+    ensures first { result ≡ true → All (λ b. b < 0xF0) (take 16 (drop 1 bytes.now)) }
+{
+    let before = u8x16::from_slice(bytes).to_array();
+    let first = u8x16::from_slice(&bytes[1..]).to_array();
+    are_below(before, 0xF0) & are_below(first, 0xF0)
+}
+
+/// The unit that each of 16 bytes after the first adds, if it adds one. Halves of pairs are computed
+/// only where there may be some: a tenth of the time of short strings of other characters.
 #[inline(always)]
 pub(crate) fn unit_lanes(bytes: &[u8]) -> [u16; 16]
     requires { 19 ≤ length bytes.now }
@@ -51,16 +65,17 @@ pub(crate) fn unit_lanes(bytes: &[u8]) -> [u16; 16]
     let first = lanes(bytes, 1);
     let two = first * u16x16::splat(0x40) + lanes(bytes, 2) % u16x16::splat(0x40);
     let three = two * u16x16::splat(0x40) + lanes(bytes, 3) % u16x16::splat(0x40);
-    let high = three / u16x16::splat(0x10) + u16x16::splat(0xD7C0);
-    let low = three % u16x16::splat(0x400) + u16x16::splat(0xDC00);
     let unit = two % u16x16::splat(0x800);
     let unit = first.simd_ge(u16x16::splat(0xE0)).select(three, unit);
+    let ascii = first.simd_lt(u16x16::splat(0x80));
+    if have_no_pair(bytes) {
+        return ascii.select(first, unit).to_array();
+    }
+    let high = three / u16x16::splat(0x10) + u16x16::splat(0xD7C0);
+    let low = three % u16x16::splat(0x400) + u16x16::splat(0xDC00);
     let unit = first.simd_ge(u16x16::splat(0xF0)).select(high, unit);
     let unit = before.simd_ge(u16x16::splat(0xF0)).select(low, unit);
-    first
-        .simd_lt(u16x16::splat(0x80))
-        .select(first, unit)
-        .to_array()
+    ascii.select(first, unit).to_array()
 }
 
 /// For each of 16 bytes after the first, 1 if it adds a unit, and else 0.
@@ -235,7 +250,7 @@ pub(crate) fn goes_on_in_ascii(bytes: &[u8]) -> bool
     ensures room { result ≡ true → 16 < length bytes.now }
     ensures ascii { result ≡ true → All (λ b. b < 0x80) (take 16 (drop 1 bytes.now)) }
 {
-    bytes.len() > 16 && is_ascii_block(u8x16::from_slice(&bytes[1..]).to_array())
+    bytes.len() > 16 && are_below(u8x16::from_slice(&bytes[1..]).to_array(), 0x80)
 }
 
 /// Appends what the bytes after the first add.

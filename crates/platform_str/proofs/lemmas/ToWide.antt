@@ -1,5 +1,6 @@
 -- The units of a string, byte by byte.
 use Rattle.std.proofs.Common.{◌≡◌, ⊎_elim, ℕ, zero, suc, Bool, true, false, ◌+◌, ◌*◌, ◌/◌, ◌%◌, ◌^◌, ◌<◌, ◌≤◌, cond, ltb, leb, eqb, not, refl, sym, ap, ◌∙◌, subst, arith, List, [], ◌∷◌, ◌++◌, get_or, length, drop, take}
+use Rattle.std.proofs.lemmas.Bool.{cond-false}
 use Rattle.wtf8_core.proofs.Common.{cases_lt}
 use Rattle.wtf8_core.proofs.lemmas.units.OneToOne.{wide_pair}
 use Rattle.platform_str.proofs.Common.{nat_tests, take_all, length-take-le, get_or-take, wide_single, form_ascii, form_two, form_three, form_past, encode, encode_utf16, IsCodePoint, units, flat_map, IsWtf8, HasUnits, units_of, has_units_of, code_points_in-encoded, AllByRecursion, append_assoc}
@@ -33,6 +34,13 @@ pub lane_is_unit : (b f s t : ℕ) → f < 2 ^ 8
     (two_lanes f s % 0x800)))) ≡ unit_at b f s t
 lane_is_unit b f s t h =
     rw (low_exact (three_lanes f s t), high_exact (three_lanes f s t) (omega arith), three_exact f s t h, two_exact f s h) refl
+
+-- where no lead of four is beside a byte, two choices fewer do
+pub lane_without_pair : (b f s t : ℕ) → f < 2 ^ 8 → b < 0xF0 → f < 0xF0
+    → cond (ltb f 0x80) f (cond (leb 0xE0 f) (three_lanes f s t) (two_lanes f s % 0x800)) ≡ unit_at b f s t
+lane_without_pair b f s t h l m =
+    let none : (x : ℕ) → x < 0xF0 → leb 0xF0 x ≡ false = λ x k. grind (arith, nat_tests, k) in
+    ap (cond (ltb f 0x80) f) (sym (cond-false (leb 0xF0 b) _ _ (none b l) ∙ cond-false (leb 0xF0 f) _ _ (none f m))) ∙ lane_is_unit b f s t h
 
 -- and what they compute is 1 where a unit is added
 pub lane_is_mark : (b f : ℕ) → ◌≡◌ {A = ℕ} (cond (leb 0xF0 b) 1 (cond (not (eqb (f / 0x40) 2)) 1 0)) (cond (adds_unit b f) 1 0)

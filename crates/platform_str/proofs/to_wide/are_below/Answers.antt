@@ -1,6 +1,6 @@
 use Rattle.platform_str.proofs.Common.{w8, arith}
 use Rattle.platform_str.proofs.lemmas.LaneTests.{all_below_splat}
-use Rattle.platform_str.proofs.to_wide.is_ascii_block.Goals as goal
+use Rattle.platform_str.proofs.to_wide.are_below.Goals as goal
 
 pub returns : goal.returns
-returns c = all_below_splat w8 0x80 16 c.args.block (search) (omega arith)
+returns c = all_below_splat w8 c.args.bound 16 c.args.block (search) (omega arith)
