@@ -123,7 +123,7 @@ impl Checker {
     /// assert_eq!(rt; checker.feed(b"\xE2\x82"), Ok(()));
     /// assert_eq!(rt; checker.finish(), Err(EncodingError::End));
     /// ```
-    #[tactic(auto, using(crate::proofs::lemmas::table::Pieces::whole, crate::proofs::lemmas::table::Pieces::ends, crate::proofs::lemmas::table::Pieces::open_progress))]
+    #[tactic(auto, using(crate::proofs::lemmas::table::Pieces::finished))]
     pub fn finish(self) -> Result<(), EncodingError>
         ensures { (fed : List ℕ) → Describes self fed
             → MatchResult result (λ _. IsWtf8 fed) (λ fault. HasFirstFault fed fault) }
@@ -279,6 +279,7 @@ fn read_between(bits: u32, bytes: &[u8]) -> Result<(State, u32), EncodingError>
 }
 
 /// The length of a prefix that is WTF-8: all of a short text, or what blocks find.
+#[tactic(auto, using(crate::proofs::lemmas::vectors::Windows::whole_prefixes))]
 #[inline(always)]
 fn prefix_of_piece(bytes: &[u8]) -> usize
     ensures within { result ≤ length bytes.now }

@@ -199,7 +199,7 @@ pub fn occurrence()
 
 /// A string has exactly one list of chunks. If it is WTF-8, its chunks are the bytes of the maximal
 /// runs of surrogates among the code points that it encodes, each with the scalar values after it.
-#[tactic(auto, using(crate::proofs::lemmas::chunks::OneList::some_chunks, crate::proofs::lemmas::chunks::OneList::chunks_once))]
+#[tactic(auto, using(crate::proofs::lemmas::chunks::OneList::one_list_of_chunks))]
 pub fn chunks()
     ensures some { (s : List ℕ) → (chunks : List Chunk) × AreChunks s chunks }
     ensures once { (s : List ℕ) → (chunks : List Chunk) → (others : List Chunk) → AreChunks s chunks

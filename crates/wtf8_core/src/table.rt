@@ -105,6 +105,7 @@ pub(crate) fn class_at(byte: u8) -> Class
 }
 
 /// The state after a byte of a class.
+#[tactic(auto, unfolding(crate::specs::Table::next_at))]
 #[inline(always)]
 pub(crate) fn next_at(state: State, class: Class) -> State
     ensures { result ≡ next_at state class }

@@ -97,6 +97,7 @@ pub fn is_utf8(bytes: &[u8]) -> bool
 /// assert_eq!(rt; surrogate_fault(b"a\xED\xA0\x80"), Some((1, Some(1))));
 /// assert_eq!(rt; surrogate_fault(b"\xED\x95\x9C"), None);
 /// ```
+#[tactic(auto, using(crate::proofs::lemmas::texts::WithoutSurrogates::without))]
 pub fn surrogate_fault(bytes: &[u8]) -> Option<(usize, Option<u8>)>
     requires { IsWtf8 bytes.now }
     ensures { MatchOption result (IsUtf8 bytes.now)

@@ -53,7 +53,7 @@ pub(crate) fn scan_from(bytes: &[u8], at: usize, encoding: Encoding) -> usize
 }
 
 /// How many of the 64 bytes from index `at` on keep to the pattern, up to the first that doesn't.
-#[tactic(auto, using(crate::proofs::lemmas::vectors::Windows::no_prefix, crate::proofs::lemmas::vectors::Windows::prefix_keeps, crate::proofs::lemmas::vectors::Windows::more_ascii))]
+#[tactic(auto, using(crate::proofs::lemmas::vectors::Windows::first_ascii))]
 #[inline(always)]
 fn first_len(bytes: &[u8], at: usize, encoding: Encoding) -> usize
     requires { at + 64 ≤ length bytes.now }
@@ -116,7 +116,7 @@ pub(crate) fn scan_steps(bytes: &[u8], at: usize) -> Result<usize, usize>
 }
 
 /// How many of the next 16 bytes keep to the pattern of UTF-8, up to the first that doesn't.
-#[tactic(auto, using(crate::proofs::lemmas::vectors::Windows::more_inside, std::proofs::lemmas::List::take_rest))]
+#[tactic(auto, using(crate::proofs::lemmas::vectors::Windows::inside))]
 #[inline(always)]
 fn step_len(bytes: &[u8], at: usize) -> usize
     requires from { 4 ≤ at }
@@ -228,7 +228,7 @@ fn ends_closed(bytes: &[u8]) -> bool
 }
 
 /// Whether the first `at` bytes, if they are such a prefix of WTF-8, end with a high surrogate.
-#[tactic(auto, using(crate::proofs::lemmas::vectors::Windows::near_start, crate::proofs::lemmas::vectors::Windows::other_lead, crate::proofs::lemmas::vectors::Windows::by_second))]
+#[tactic(auto, using(crate::proofs::lemmas::vectors::Windows::high_edges))]
 #[inline(always)]
 pub(crate) fn ends_with_high_surrogate(bytes: &[u8], at: usize) -> bool
     requires { at ≤ length bytes.now }
@@ -284,7 +284,7 @@ fn is_amid_ascii(bytes: &[u8], at: usize) -> bool
 }
 
 /// How many of the next 64 bytes keep to the pattern, up to the first that doesn't.
-#[tactic(auto, using(crate::proofs::lemmas::vectors::Windows::more_inside, std::proofs::lemmas::List::take_rest))]
+#[tactic(auto, using(crate::proofs::lemmas::vectors::Windows::inside))]
 #[inline(always)]
 fn block_len(bytes: &[u8], at: usize, encoding: Encoding) -> usize
     requires from { 4 ≤ at }

@@ -27,7 +27,7 @@ pub fn put_in_zeros(bytes: &[u8], window: &mut [u8], from: usize)
 }
 
 /// The same of N bytes or more, and at most twice as many.
-#[tactic(auto, using(crate::proofs::lemmas::vectors::Windows::ends_copied, std::proofs::lemmas::List::take_rest))]
+#[tactic(auto, using(crate::proofs::lemmas::vectors::Windows::copies))]
 #[inline(always)]
 fn put_ends<const N: usize>(bytes: &[u8], window: &mut [u8], from: usize)
     requires zeros { (i : ℕ) → slice_index window.old i ≡ 0 }

@@ -74,6 +74,8 @@ module _ (s : List ℕ) where
 pub chunks_once : (s : List ℕ) (cs ds : List Chunk) → AreChunks s cs → AreChunks s ds → cs ≡ ds
 chunks_once s cs ds h k = one_list s 0 (Unit {0}) (Unit {0}) cs ds (chunks_from_start s cs h) (chunks_from_start s ds k) (h.joins ∙ sym k.joins)
 
+pub ruleset one_list_of_chunks = (some_chunks, chunks_once)
+
 -- the chunks of what follows a seam are chunks of s
 module _ (s x r : List ℕ) (is : s ≡ x ++ r) (seam : CrossesNoCharacter s (length x)) where
   pub after_seam : (i : ℕ) (First : Type 0) (cs : List Chunk) → AreChunksFrom r i First cs → AreChunksFrom s (length x + i) First cs

@@ -107,3 +107,5 @@ faulted_progress s bits f p b e q n h = subst (λ z. Describes (progress s bits 
 
 pub faulted_stays : (s : State) (bits : ℕ) (f : Option EncodingError) (p : Progress) (b more : List ℕ) (e : EncodingError) → progress s bits f ≡ p → f ≡ Some e → Describes p b → Describes p (b ++ more)
 faulted_stays s bits f p b more e q n h = grind (arith, nat_tests, common_steps, extends, faulted_progress)
+
+pub ruleset finished = (whole, ends, open_progress)

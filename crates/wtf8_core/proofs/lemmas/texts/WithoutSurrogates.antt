@@ -1,5 +1,5 @@
 -- WTF-8 in which no surrogate begins is UTF-8, and where WTF-8 may be cut before a byte.
-use Rattle.wtf8_core.proofs.Common.{nat_tests, common_steps, ◌≡◌, ⊎_elim, ℕ, zero, suc, ◌+◌, ◌<◌, ◌≤◌, true, List, [], ◌∷◌, ◌++◌, length, take, drop, get_or, refl, sym, ap, ◌∙◌, subst, arith, take-append-drop, get_or-take, get_or_past, length-take-le, cases_lt, cases_Bool, scalar, all_scalars, AllByRecursion, flat_map, IsUtf8, IsUtf8-nil, IsContinuation, IsCodePoint, IsSurrogate, is_surrogate, encode, IsWtf8}
+use Rattle.wtf8_core.proofs.Common.{eq-eqb, nat_tests, common_steps, ◌≡◌, ⊎_elim, ℕ, zero, suc, ◌+◌, ◌<◌, ◌≤◌, true, List, [], ◌∷◌, ◌++◌, length, take, drop, get_or, refl, sym, ap, ◌∙◌, subst, arith, take-append-drop, get_or-take, get_or_past, length-take-le, cases_lt, cases_Bool, scalar, all_scalars, AllByRecursion, flat_map, IsUtf8, IsUtf8-nil, IsContinuation, IsCodePoint, IsSurrogate, is_surrogate, encode, IsWtf8}
 use Rattle.std.proofs.lemmas.List.{drop_more, get_or-append-add}
 use Rattle.wtf8_core.specs.Surrogate.{IsSurrogateAt}
 use Rattle.wtf8_core.proofs.lemmas.characters.AtIndices.{is_scalar}
@@ -31,6 +31,8 @@ all_text (c ∷ cs) a n =
 
 pub text_without : (b : List ℕ) → IsWtf8 b → ((i : ℕ) → IsSurrogateAt b i → ⊥) → IsUtf8 b
 text_without b w n = grind (arith, nat_tests, common_steps, all_text, forms_encode)
+
+pub ruleset without = (text_without, get_or_past, eq-eqb)
 
 -- the same of a prefix before a byte that is no continuation
 pub prefix_without : (b : List ℕ) (n : ℕ) → n < length b → IsWtf8 b → (0 < n → IsContinuation (get_or b n 0) → ⊥) → ((i : ℕ) → i < n → IsSurrogateAt b i → ⊥) → IsUtf8 (take n b)

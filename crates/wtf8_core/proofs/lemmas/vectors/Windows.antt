@@ -1,5 +1,5 @@
 -- From windows to the bytes: which prefix they give.
-use Rattle.wtf8_core.proofs.Common.{nat_tests, common_steps, true, false, ◌≡◌, inl, inr, ◌⊎◌, ⊎_elim, ℕ, zero, suc, ◌+◌, ◌-◌, ◌<◌, ◌≤◌, List, [], ◌∷◌, ◌++◌, length, take, drop, get_or, refl, sym, ap, ◌∙◌, subst, arith, min, replicate, get_or-take, get_or-drop, get_or_append_left, get_or-append_right, get_or_past, length-append, length-take, length-take-le, length-drop, take_all, take-add, take-take, drop-drop, take-append-drop, cases_lt, and_from, AllByRecursion, IsScalar, low_scalar, scalars, IsUtf8, is_in_range, IsContinuation, is_high, Encodes, last_or, MayFollowAll, EachMayFollow, IsBetweenCodePoints, with_zeros_before, KeepsPattern, IsEncodedPrefix}
+use Rattle.wtf8_core.proofs.Common.{take_rest, take-length, nat_tests, common_steps, true, false, ◌≡◌, inl, inr, ◌⊎◌, ⊎_elim, ℕ, zero, suc, ◌+◌, ◌-◌, ◌<◌, ◌≤◌, List, [], ◌∷◌, ◌++◌, length, take, drop, get_or, refl, sym, ap, ◌∙◌, subst, arith, min, replicate, get_or-take, get_or-drop, get_or_append_left, get_or-append_right, get_or_past, length-append, length-take, length-take-le, length-drop, take_all, take-add, take-take, drop-drop, take-append-drop, cases_lt, and_from, AllByRecursion, IsScalar, low_scalar, scalars, IsUtf8, is_in_range, IsContinuation, is_high, Encodes, last_or, MayFollowAll, EachMayFollow, IsBetweenCodePoints, with_zeros_before, KeepsPattern, IsEncodedPrefix}
 use Rattle.std.proofs.lemmas.List.{take_more}
 use borrow.Rule.Slice.PartMut.{put_mid}
 use Rattle.wtf8_core.proofs.lemmas.forms.{Ranges.in_range, Ranges.in_range-true, Ranges.in_range-false, Ranges.not_in_range, Shapes.form_ascii, ByStd.forms_encode, Appending.all_joined, Appending.encodes_joined, Appending.encodes_more, Cuts.all_parts, Cuts.cut_before, Cuts.encodes_parts}
@@ -330,3 +330,13 @@ module _ (bytes : List ℕ) (at : ℕ) (f : IsEncodedPrefix Wtf8 bytes at) where
 
   pub by_second : 3 ≤ at → get_or bytes (at - 3) 0 ≡ 0xED → is_in_range 0xA0 0xAF (get_or bytes (at - 2) 0) ≡ is_high (last_or 0 f.code_points)
   by_second l e = ap (λ y. is_in_range 0xA0 0xAF y) (sym (second_before l)) ∙ edge_high _ _ _ _ edge (third_before l ∙ e)
+
+pub ruleset high_edges = (near_start, other_lead, by_second)
+
+pub ruleset copies = (ends_copied, take_rest)
+
+pub ruleset inside = (more_inside, take_rest)
+
+pub ruleset first_ascii = (no_prefix, prefix_keeps, more_ascii)
+
+pub ruleset whole_prefixes = (text_prefix, take-length)
