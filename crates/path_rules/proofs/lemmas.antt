@@ -19,6 +19,7 @@ pub mod Trims
 pub mod Lanes
 pub mod Tails
 pub mod Strips
+pub mod ParentBodies
 pub mod Begins
 pub mod KeyLists
 pub mod Shared

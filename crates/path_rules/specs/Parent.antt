@@ -1,10 +1,11 @@
 -- A path without its last component, and its last name (std's `Path::parent` and `Path::file_name`).
-use Rattle.std.specs.Prelude.{◌≡◌, ℕ, List, [], ◌∷◌, ◌++◌}
+use Rattle.std.specs.Prelude.{◌≡◌, ◌⊎◌, ℕ, List, [], ◌∷◌, ◌++◌}
+use Rattle.path_rules.specs.declared.rules.Rules.{Rules}
 use Rattle.path_rules.specs.declared.rules.Style.{Style}
 use Rattle.path_rules.specs.Component.{Item, Prefix, RootDir, CurDir, ParentDir, Normal}
 use Rattle.path_rules.specs.Components.{AreComponents}
 use Rattle.path_rules.specs.Cut.{IsAsciiCut}
-use Rattle.path_rules.specs.Body.{EndsTight}
+use Rattle.path_rules.specs.Body.{EndsTight, HasBody}
 
 -- a prefix or a root
 abbrev pub IsTop : Item → Type 0
@@ -22,7 +23,16 @@ IsBelow CurDir = Unit {0}
 IsBelow ParentDir = Unit {0}
 IsBelow (Normal s) = Unit {0}
 
--- the path goes on where the parent ends, with its own last component, and has one component more, which is neither a prefix nor a root
+-- the path's body is the parent's and what comes after it, so that the parent has the separator of its root: that of `\\server\share\a` is `\\server\share\`
+pub record HasBodyAfter (style : Style) (path parent after : List ℕ) : Type 0 where
+  pub rules : Rules
+  pub body : List ℕ
+  pub left : List ℕ
+  pub has : HasBody style path rules body
+  pub has_left : HasBody style parent rules left
+  pub joined : body ≡ left ++ after
+
+-- the path goes on where the parent ends, with its own last component, and has one component more, which is neither a prefix nor a root; unless that is `.` at the start, what comes after the parent is in the path's body
 pub record IsParent (style : Style) (path parent : List ℕ) : Type 0 where
   pub after : List ℕ
   pub joined : path ≡ parent ++ after
@@ -33,6 +43,7 @@ pub record IsParent (style : Style) (path parent : List ℕ) : Type 0 where
   pub whole : AreComponents style path (items ++ last ∷ [])
   pub below : IsBelow last
   pub tight : EndsTight style parent
+  pub within : HasBodyAfter style path parent after ⊎ ((items ≡ []) × (last ≡ CurDir))
 
 -- the path has no component, or its last one is a prefix or a root
 abbrev pub HasNoParent : Style → List ℕ → Type 0

@@ -11,8 +11,8 @@ use crate::rules::Style;
 /// or if its last one is a prefix or a root.
 ///
 /// The parent is a part of the path's bytes. It ends where its own last component ends, so
-/// separators and `.` between the two components go with the last one. `..` is a component like
-/// any other: the parent of `a/..` is `a`.
+/// separators and `.` between the two components go with the last one, but the separator of a root
+/// stays. `..` is a component like any other: the parent of `a/..` is `a`.
 ///
 /// ```
 /// use path_rules::{Style, parent};
@@ -21,6 +21,8 @@ use crate::rules::Style;
 /// assert_eq!(rt; parent(Style::Unix, b"a"), Some(b"".as_slice()));
 /// assert_eq!(rt; parent(Style::Unix, b"/"), None);
 /// assert_eq!(rt; parent(Style::Windows, br"C:\\a/b"), Some(br"C:\\a".as_slice()));
+/// let below = parent(Style::Windows, br"\\server\share\a");
+/// assert_eq!(rt; below, Some(br"\\server\share\".as_slice()));
 /// assert_eq!(rt; parent(Style::Windows, br"\\server\share\"), None);
 /// ```
 pub fn parent(style: Style, path: &[u8]) -> Option<&[u8]>

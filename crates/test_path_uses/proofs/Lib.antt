@@ -7,6 +7,7 @@ pub mod Joins
 pub mod Names
 pub mod PathEnds
 pub mod PathParts
+pub mod ParentRoots
 pub mod LastNames
 pub mod KnownPrefix
 pub mod LeftParts

@@ -1,19 +1,19 @@
 -- A path up to what comes before its last component.
-use Rattle.std.proofs.Common.{◌≡◌, ◌⊎◌, inl, inr, ◌≤◌, ◌+◌, ◌-◌, ℕ, Bool, true, false, if◌then◌else◌, List, [], ◌∷◌, ◌++◌, length, take, refl, sym, ap, ◌∙◌, subst, arith, append_assoc, append-nil, length-append, lit<}
-use Rattle.std.proofs.lemmas.List.{take_at, same_from_push, append_cancel_right}
+use Rattle.std.proofs.Common.{◌≡◌, ◌⊎◌, inl, inr, ◌≤◌, ◌+◌, ◌-◌, ℕ, Bool, true, false, if◌then◌else◌, List, [], ◌∷◌, ◌++◌, length, refl, sym, ap, ◌∙◌, subst, arith, append_assoc, append-nil, length-append, lit<}
+use Rattle.std.proofs.lemmas.List.{same_from_push, append_cancel_right}
 use Rattle.path_rules.specs.declared.rules.Rules.{Rules}
 use Rattle.path_rules.specs.declared.rules.Rules.TheVariants as rules
 use Rattle.path_rules.specs.declared.head.Start.{Start}
 use Rattle.path_rules.specs.declared.head.Start.TheVariants.{Root, Dot, Nothing}
 use Rattle.path_rules.specs.declared.head.Head.{Head}
 use Rattle.path_rules.specs.Separators.{separates, Edge}
-use Rattle.path_rules.specs.Component.{Item, Prefix, RootDir, CurDir, components_in, EndsNamed}
+use Rattle.path_rules.specs.Component.{Item, Prefix, RootDir, CurDir, components_in}
 use Rattle.path_rules.specs.Body.{HasBody, EndsTight}
 use Rattle.path_rules.specs.Heads.{prefix_items, start_items, items_of}
 use Rattle.path_rules.specs.Prefix.{Kind, Verbatim, VerbatimUnc, VerbatimDisk, Device, Unc, Disk, rules_of}
 use Rattle.path_rules.specs.Components.{start_of, after_start, implied_root, root_of, after_root, plain_components, IsStartOf, prefixed, bare, AreComponents}
 use Rattle.path_rules.specs.HeadParts.{IsUnixHead, IsBareHead, IsPrefixedHead, IsWindowsHead, bare_head, prefixed_head, IsHead}
-use Rattle.path_rules.specs.Parent.{IsParent, IsTop, IsBelow}
+use Rattle.path_rules.specs.Parent.{IsParent, IsTop}
 use Rattle.path_rules.specs.Cut.{IsAsciiCut, at_start, at_end, after_ascii}
 use Rattle.path_rules.proofs.lemmas.Ascii.{ascii_separators, edge_cut}
 use Rattle.path_rules.proofs.lemmas.Edges.{edge_after}
@@ -246,24 +246,6 @@ module _ (path : List ℕ) (head : Head) (rest : List ℕ) (xs : List Item) (end
   pub body_inside : (w : whose.Style) → IsHead w path head → length head.body.now ≤ length path
   body_inside w h = (shorter_of w h).short
 
-pub is_parent : (path : List ℕ) (head : Head) (rest : List ℕ) (x : Item) (ends : Ends head.rules head.body.now rest) (named : components_in head.rules head.body.now ≡ components_in head.rules rest ++ x ∷ []) (w : whose.Style) → IsHead w path head → IsBelow x → EndsNamed head.rules rest → IsParent w path (take (length path - length head.body.now + length rest) path)
-is_parent path head rest x ends named w h low tight =
-    let f = shorter_of path head rest (x ∷ []) ends named w h in
-    let n = length path - length head.body.now + length rest in
-    let long : length f.before ≡ n = let l = f.long in let s = f.short in omega arith in
-    let before : take n path ≡ f.before = ap (take n) f.joined ∙ take_at f.before f.more n long in
-    record {
-      after = f.more;
-      joined = f.joined ∙ ap (λ y. y ++ f.more) (sym before);
-      cut = subst (λ y. IsAsciiCut y f.more) (sym before) f.beside;
-      items = f.items;
-      last = x;
-      are = subst (λ y. AreComponents w y f.items) (sym before) f.are;
-      whole = f.whole;
-      below = low;
-      tight = subst (EndsTight w) (sym before) (record { rules = head.rules; body = rest; has = f.has; named = tight });
-    }
-
 -- a path that is `.` alone
 pub no_dot : (k : Kind) (rest : List ℕ) → root_of k rest ≡ Dot → ⊥
 no_dot k [] e = implied k e
@@ -323,6 +305,7 @@ parent_of_dot w path none head n d empty h = record {
   whole = dot_whole w path head d empty h;
   below = tt;
   tight = empty_tight w none n;
+  within = inr (refl, refl);
 }
 
 -- a path of a prefix and a root alone, or of nothing

@@ -2,7 +2,8 @@ use Rattle.std.proofs.Common.{◌∷◌, ◌++◌, [], sym, ap, ◌∙◌, subst
 use Rattle.path_rules.specs.Views.{item_of}
 use Rattle.path_rules.specs.Parent.{IsParent}
 use Rattle.path_rules.proofs.lemmas.UpTo.{up_to_again}
-use Rattle.path_rules.proofs.lemmas.Parents.{inside, body_inside, is_parent, parent_of_dot, no_parent}
+use Rattle.path_rules.proofs.lemmas.ParentBodies.{is_parent}
+use Rattle.path_rules.proofs.lemmas.Parents.{inside, body_inside, parent_of_dot, no_parent}
 use Rattle.path_rules.proofs.parents.parent.Goals as goal
 
 pub split_at-requires : goal.split_at-requires
