@@ -220,7 +220,8 @@ impl<'a> Command<'a> {
         rest: &'a [String],
     ) -> Result<Command<'a>, Usage>
         ensures command { IfOk result (λ command.
-            name.now ∷ form_word form ∷ os_word Unix ∷ map string_bytes rest.now ≡ words_of command) }
+            name.now ∷ form_word form ∷ os_word Unix ∷ map string_bytes rest.now
+            ≡ words_of command) }
         ensures no_command { OnErr result ((command : Command)
             → name.now ∷ form_word form ∷ os_word Unix ∷ map string_bytes rest.now
             ≢ words_of command) }

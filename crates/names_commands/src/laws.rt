@@ -42,7 +42,8 @@ pub fn names_come_back_from_words()
         → IsCompleted names suffix }
     ensures cut { (max : ℕ) → (other : ℕ) → (names : List ℕ) → (lines : List ℕ)
         → (prefix : List ℕ) → (rest : List ℕ) → (suffix : List ℕ)
-        → IsOutput (rules_of (strings Unix) (listing_words max)) names lines → lines ≡ prefix ++ rest
+        → IsOutput (rules_of (strings Unix) (listing_words max)) names lines
+        → lines ≡ prefix ++ rest
         → IsOutput (rules_of (strings Unix) (joining_words MustEnd other)) prefix suffix
         → AreFirst names suffix }
 {}

@@ -43,7 +43,8 @@ impl<'a> Pick<'a> {
         os: Os,
     ) -> Result<Option<Chosen<'a, E, A>>, AllocError>
         ensures { IfOk result (λ read. MatchOption read
-            ((globs : List (List ℕ)) → (files : List (List ℕ)) → ¬ (AreChosen os self.entry globs files))
+            ((globs : List (List ℕ)) → (files : List (List ℕ))
+            → ¬ (AreChosen os self.entry globs files))
             (λ chosen. AreChosen os self.entry (map bytes chosen.globs.items)
             (map text_of chosen.files.items))) }
     {

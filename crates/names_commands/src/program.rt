@@ -190,7 +190,8 @@ fn run_pick<F: Files, A: Allocator + Copy, R: Read, W: Write>(
 ) -> Result<(), Fault>
     requires reader_unmarked { has_failed reader.old ≡ false }
     requires writer_unmarked { has_failed writer.old ≡ false }
-    ensures run { Did R.remaining W.contents (RunsPickOn (F.known files.now) A os form pick.entry max)
+    ensures run { Did R.remaining W.contents
+        (RunsPickOn (F.known files.now) A os form pick.entry max)
         reader.old reader.new writer.old writer.new result }
     ensures ends { BlamesEnds result (has_failed reader.new) (has_failed writer.new) }
 {
