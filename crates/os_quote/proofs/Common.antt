@@ -20,6 +20,7 @@ pub use Rattle.std.proofs.Math.Nat.{sub-zero}
 pub use Rattle.std.proofs.Math.Utf8.{scalar, scalar_cases}
 pub use Rattle.std.proofs.lemmas.Bool.{and_parts, cases_Bool, cases_eq, cases_lt, le-ltb, lt-ltb, ltb-false, ne_eqb, not-false, true≢false}
 pub use Rattle.std.proofs.lemmas.Bool.Decides.{nat_tests}
+pub use Rattle.std.proofs.lemmas.Grind.{common_steps}
 pub use Rattle.std.proofs.lemmas.Grind.{flat_map-append}
 pub use Rattle.std.proofs.lemmas.List.{append_cancel_right, drop_at, drop_more, length-map, length-take-le, map-append, nil_from_length, take_all, take_at}
 pub use Rattle.std.proofs.lemmas.List.Elements.{All-from_recursion, recursion_from_All}

@@ -1,7 +1,6 @@
 -- How long the text of an item is, beside the bytes that it means.
-use Rattle.os_quote.proofs.Common.{⊎_elim, ℕ, ◌*◌, ◌<◌, ◌≤◌, Bool, List, [], ◌∷◌, length, refl, ap, arith, length-append, encode_utf8, AllByRecursion, flat_map, cases_lt, length-encode, len_utf8_bounds, form_encode, form_bounds, form_past, Item, Character, Backslash, ByteUnit, WideUnit, LongCharacter, long_digits, item_text, item_texts, IsItem, Chunk, AreChunks, some_chunks, PartLaws, IsChunkOf, chunks_of, IsEscapeBy, items_of, escape_of, item_bytes}
-use Rattle.os_quote.proofs.lemmas.Escapes.{escape_is_items}
-use Rattle.os_quote.proofs.lemmas.Items.{five_digits, six_digits}
+use Rattle.os_quote.proofs.Common.{ℕ, ◌*◌, ◌<◌, ◌≤◌, Bool, List, [], ◌∷◌, length, refl, ap, arith, length-append, encode_utf8, AllByRecursion, flat_map, length-encode, len_utf8_bounds, form_encode, form_bounds, form_past, Item, Character, Backslash, ByteUnit, WideUnit, LongCharacter, long_digits, item_text, item_texts, IsItem, Chunk, AreChunks, some_chunks, PartLaws, IsChunkOf, chunks_of, IsEscapeBy, items_of, escape_of, item_bytes}
+use Rattle.os_quote.proofs.lemmas.{Escapes.escape_is_items, Items.five_digits, Items.six_digits}
 
 -- a text of at most ten bytes, six for each that it means, and none for no byte
 pub record IsShort (text decoded : List ℕ) : Type 0 where
@@ -13,11 +12,7 @@ encoded_length : (c : ℕ) → (0 < length (encode_utf8 c)) × (length (encode_u
 encoded_length c = let n = length-encode c in let b = len_utf8_bounds c in (omega (arith, n, b.0), omega (arith, n, b.1))
 
 pub digits_length : (c : ℕ) → (5 ≤ length (long_digits c)) × (length (long_digits c) ≤ 6)
-digits_length c =
-    ⊎_elim
-    (λ l. let e = ap length (five_digits c l) in (omega (arith, e), omega (arith, e)))
-    (λ l. let e = ap length (six_digits c l) in (omega (arith, e), omega (arith, e)))
-    (cases_lt c 0x10_0000)
+digits_length c = grind (arith, five_digits, six_digits)
 
 module _ (shows : ℕ → Bool) where
   pub item_is_short : (i : Item) → IsItem shows i → IsShort (item_text i) (item_bytes i)

@@ -1,5 +1,5 @@
 -- Items and their texts, one to one: a text is read in one way.
-use Rattle.os_quote.proofs.Common.{◌≡◌, ◌≢◌, ◌⊎◌, inl, inr, ⊎_elim, ℕ, ◌+◌, ◌/◌, ◌%◌, ◌<◌, ◌≤◌, Bool, List, [], ◌∷◌, ◌++◌, length, refl, sym, ap, ◌∙◌, arith, append_assoc, length-append, encode_utf8, AllByRecursion, lt-ltb, le-ltb, cases_lt, encode_same, encode_ascii, length-encode, len_utf8_bounds, upper_hex_digit, Item, Character, Backslash, ByteUnit, WideUnit, LongCharacter, backslash, byte_digits, wide_digits, long_digits, item_text, item_texts, IsItem, BeginsNoToken}
+use Rattle.os_quote.proofs.Common.{common_steps, nat_tests, ◌≡◌, ◌≢◌, ◌⊎◌, inl, inr, ⊎_elim, ℕ, ◌+◌, ◌/◌, ◌%◌, ◌<◌, ◌≤◌, Bool, List, [], ◌∷◌, ◌++◌, length, refl, sym, ap, ◌∙◌, arith, append_assoc, length-append, encode_utf8, AllByRecursion, lt-ltb, le-ltb, cases_lt, encode_same, encode_ascii, length-encode, len_utf8_bounds, upper_hex_digit, Item, Character, Backslash, ByteUnit, WideUnit, LongCharacter, backslash, byte_digits, wide_digits, long_digits, item_text, item_texts, IsItem, BeginsNoToken}
 
 -- the digits below 10 and from 10 on
 pub digit_low : (d : ℕ) → d < 10 → upper_hex_digit d ≡ 48 + d
@@ -13,32 +13,18 @@ digit_cases d = ⊎_elim (λ h. inl (h, digit_low d h)) (λ h. inr (h, digit_hig
 
 -- a digit has one value
 pub digit_same : (d e : ℕ) → upper_hex_digit d ≡ upper_hex_digit e → d ≡ e
-digit_same d e h =
-    ⊎_elim
-    (λ (x : (d < 10) × (upper_hex_digit d ≡ 48 + d)). ⊎_elim (λ (y : (e < 10) × (upper_hex_digit e ≡ 48 + e)). omega (arith, x.1, y.1, h)) (λ (y : (10 ≤ e) × (upper_hex_digit e ≡ 55 + e)). omega (arith, x.0, x.1, y.0, y.1, h)) (digit_cases e))
-    (λ (x : (10 ≤ d) × (upper_hex_digit d ≡ 55 + d)). ⊎_elim (λ (y : (e < 10) × (upper_hex_digit e ≡ 48 + e)). omega (arith, x.0, x.1, y.0, y.1, h)) (λ (y : (10 ≤ e) × (upper_hex_digit e ≡ 55 + e)). omega (arith, x.1, y.1, h)) (digit_cases e))
-    (digit_cases d)
+digit_same d e h = grind (arith, upper_hex_digit, digit_cases)
 
 pub tails : {a b : ℕ} {x y : List ℕ} → a ∷ x ≡ b ∷ y → (a ≡ b) × (x ≡ y)
 tails {a} {b} {x} {y} e = (cc, cc)
 
 -- two digits have one value
 pub byte_same : (a b : ℕ) (x y : List ℕ) → byte_digits a ++ x ≡ byte_digits b ++ y → (a ≡ b) × (x ≡ y)
-byte_same a b x y e =
-    let first = tails e in
-    let second = tails first.1 in
-    let high = digit_same (a / 0x10) (b / 0x10) first.0 in
-    let low = digit_same (a % 0x10) (b % 0x10) second.0 in
-    (omega arith, second.1)
+byte_same a b x y e = grind (arith, tails, digit_same)
 
 -- four digits have one value
 pub wide_same : (u v : ℕ) (x y : List ℕ) → wide_digits u ++ x ≡ wide_digits v ++ y → (u ≡ v) × (x ≡ y)
-wide_same u v x y e =
-    let s = byte_same (u / 0x100) (v / 0x100) (byte_digits (u % 0x100) ++ x) (byte_digits (v % 0x100) ++ y) e in
-    let t = byte_same (u % 0x100) (v % 0x100) x y s.1 in
-    let p : u / 0x100 ≡ v / 0x100 = s.0 in
-    let q : u % 0x100 ≡ v % 0x100 = t.0 in
-    (omega arith, t.1)
+wide_same u v x y e = grind (arith, nat_tests, common_steps, byte_same, byte_digits)
 
 -- no digit is a brace
 pub no_brace : (d : ℕ) → d < 16 → upper_hex_digit d < 0x7B
@@ -53,34 +39,11 @@ six_digits c h = rw (le-ltb (c / 0x1_0000) 0x10 (omega arith)) refl
 
 -- five digits and a brace aren't six
 five_or_six : (b c : ℕ) (x y : List ℕ) → (upper_hex_digit (b / 0x1_0000) ∷ wide_digits (b % 0x1_0000)) ++ 0x7D ∷ x ≡ (byte_digits (c / 0x1_0000) ++ wide_digits (c % 0x1_0000)) ++ 0x7D ∷ y → ⊥
-five_or_six b c x y e =
-    let t = tails (tails (tails (tails (tails (tails e).1).1).1).1).1 in
-    let n = no_brace (c % 0x1_0000 % 0x100 % 0x10) (omega arith) in
-    omega (arith, t.0, n)
+five_or_six b c x y e = grind (arith, tails, no_brace)
 
 -- the digits of a code point past FFFF have one value
 pub long_same : (b c : ℕ) (x y : List ℕ) → long_digits b ++ 0x7D ∷ x ≡ long_digits c ++ 0x7D ∷ y → (b ≡ c) × (x ≡ y)
-long_same b c x y e =
-    ⊎_elim
-    (λ (h : b < 0x10_0000). ⊎_elim
-    (λ (k : c < 0x10_0000).
-    let f = tails (ap (λ l. l ++ 0x7D ∷ x) (sym (five_digits b h)) ∙ e ∙ ap (λ l. l ++ 0x7D ∷ y) (five_digits c k)) in
-    let w = wide_same (b % 0x1_0000) (c % 0x1_0000) (0x7D ∷ x) (0x7D ∷ y) f.1 in
-    let p : b / 0x1_0000 ≡ c / 0x1_0000 = digit_same (b / 0x1_0000) (c / 0x1_0000) f.0 in
-    let q : b % 0x1_0000 ≡ c % 0x1_0000 = w.0 in
-    (omega arith, (tails w.1).1))
-    (λ (k : 0x10_0000 ≤ c). absurd (five_or_six b c x y (ap (λ l. l ++ 0x7D ∷ x) (sym (five_digits b h)) ∙ e ∙ ap (λ l. l ++ 0x7D ∷ y) (six_digits c k))))
-    (cases_lt c 0x10_0000))
-    (λ (h : 0x10_0000 ≤ b). ⊎_elim
-    (λ (k : c < 0x10_0000). absurd (five_or_six c b y x (ap (λ l. l ++ 0x7D ∷ y) (sym (five_digits c k)) ∙ sym e ∙ ap (λ l. l ++ 0x7D ∷ x) (six_digits b h))))
-    (λ (k : 0x10_0000 ≤ c).
-    let f = byte_same (b / 0x1_0000) (c / 0x1_0000) (wide_digits (b % 0x1_0000) ++ 0x7D ∷ x) (wide_digits (c % 0x1_0000) ++ 0x7D ∷ y) (ap (λ l. l ++ 0x7D ∷ x) (sym (six_digits b h)) ∙ e ∙ ap (λ l. l ++ 0x7D ∷ y) (six_digits c k)) in
-    let w = wide_same (b % 0x1_0000) (c % 0x1_0000) (0x7D ∷ x) (0x7D ∷ y) f.1 in
-    let p : b / 0x1_0000 ≡ c / 0x1_0000 = f.0 in
-    let q : b % 0x1_0000 ≡ c % 0x1_0000 = w.0 in
-    (omega arith, (tails w.1).1))
-    (cases_lt c 0x10_0000))
-    (cases_lt b 0x10_0000)
+long_same b c x y e = grind (arith, tails, five_digits, wide_same, digit_same, five_or_six, six_digits, byte_same, wide_digits)
 
 -- a character that is no backslash doesn't begin as a token does
 no_slash : (c : ℕ) (x y : List ℕ) → c ≢ backslash → encode_utf8 c ++ x ≡ backslash ∷ y → ⊥
@@ -91,10 +54,7 @@ second {a} {b} {c} {d} {x} {y} e = (tails (tails e).1).0
 
 -- four digits don't begin as a long token does
 wide_or_long : (u : ℕ) (x y : List ℕ) → u < 0x1_0000 → item_text (WideUnit u) ++ x ≡ backslash ∷ 0x75 ∷ 0x7B ∷ y → ⊥
-wide_or_long u x y h e =
-    let t = (tails (tails (tails e).1).1).0 in
-    let n = no_brace (u / 0x100 / 0x10) (omega arith) in
-    omega (arith, t, n)
+wide_or_long u x y h e = grind (arith, tails, no_brace)
 
 module _ (shows : ℕ → Bool) where
   -- an item at the start is the only one
@@ -107,9 +67,7 @@ module _ (shows : ℕ → Bool) where
   item_same (WideUnit u) (WideUnit v) x y h k e = let s = wide_same u v x y (tails (tails e).1).1 in (ap WideUnit s.0, s.1)
   item_same (WideUnit u) (LongCharacter c) x y h k e = absurd (wide_or_long u x _ h e)
   item_same (LongCharacter b) (WideUnit u) x y h k e = absurd (wide_or_long u y _ k (sym e))
-  item_same (LongCharacter b) (LongCharacter c) x y h k e =
-      let s = long_same b c x y (sym (append_assoc (long_digits b) (0x7D ∷ []) x) ∙ (tails (tails (tails e).1).1).1 ∙ append_assoc (long_digits c) (0x7D ∷ []) y) in
-      (ap LongCharacter s.0, s.1)
+  item_same (LongCharacter b) (LongCharacter c) x y h k e = grind (arith, long_same, append_assoc, long_digits, tails)
   item_same i j x y h k e = let n = second e in absurd (omega arith)
 
 -- an item's text isn't empty

@@ -1,10 +1,6 @@
 -- That an escape on one line stays there.
 use Rattle.os_quote.proofs.Common.{◌≡◌, ◌≢◌, ⊎_elim, ℕ, ◌/◌, ◌%◌, ◌<◌, true, List, [], ◌∷◌, ◌++◌, map, length, IsTrue, refl, sym, ap, ◌∙◌, subst, arith, append_assoc, append-nil, length-append, encode_utf8, All, AllByRecursion, IsUtf8, chars, encode_utf8_all, cases_lt, cases_eq, cases_Bool, ne_eqb, lt-ltb, le-ltb, All-from_recursion, chars-append, chars-nil, chars_past_char, chars-IsAscii, IsUtf8-encode, IsUtf8-nil, encodes-chars, length-encode, len_utf8_bounds, Chunk, AreChunks, upper_hex_digit, PartLaws, Item, Character, Backslash, ByteUnit, WideUnit, LongCharacter, backslash, wide_digits, long_digits, item_text, item_texts, IsLong, IsItem, unit_item, hidden_item, character_item, stays_on_line, IsUnchanged, AreUnchanged, IsCutAtHidden, chunk_items, items_of, IsLineEscape, IsChunkOf, flat_map-append, map-append}
-use Rattle.os_quote.proofs.lemmas.Items.{digit_low, digit_high, five_digits, six_digits}
-use Rattle.os_quote.proofs.lemmas.Shown.{ascii_stays}
-use Rattle.os_quote.proofs.lemmas.Texts.{text_items, text_escape, text_after}
-use Rattle.os_quote.proofs.lemmas.Escapes.{all-append, escape_is_items}
-use Rattle.os_quote.proofs.lemmas.Readings.{ascii_all, ascii_byte_unit, ascii_wide_unit, ascii_long_character, item_is_text}
+use Rattle.os_quote.proofs.lemmas.{Items.digit_low, Items.digit_high, Items.five_digits, Items.six_digits, Shown.ascii_stays, Texts.text_items, Texts.text_escape, Texts.text_after, Escapes.all-append, Escapes.escape_is_items, Readings.ascii_all, Readings.ascii_byte_unit, Readings.ascii_wide_unit, Readings.ascii_long_character, Readings.item_is_text}
 
 -- the characters stay on the line
 abbrev AllStay : List ℕ → Type 0
@@ -40,11 +36,7 @@ chunks_stay units (c ∷ cs) =
 
 -- a digit stays
 digit_stays : (d : ℕ) → d < 16 → stays_on_line (upper_hex_digit d) ≡ true
-digit_stays d h =
-    ⊎_elim
-    (λ l. let e = digit_low d l in ascii_stays (upper_hex_digit d) (omega (arith, e)) (omega (arith, e)))
-    (λ l. let e = digit_high d l in ascii_stays (upper_hex_digit d) (omega (arith, e)) (omega (arith, e)))
-    (cases_lt d 10)
+digit_stays d h = grind (arith, digit_low, ascii_stays, upper_hex_digit, digit_high)
 
 -- the characters of an item
 ascii_item : (bs : List ℕ) → AllByRecursion (λ b. b < 128) bs → AllStay bs → AllStay (chars bs)
@@ -54,14 +46,7 @@ wide_stay : (u : ℕ) (after : List ℕ) → u < 0x1_0000 → AllStay after → 
 wide_stay u after h a = (digit_stays (u / 0x100 / 0x10) (omega arith), (digit_stays (u / 0x100 % 0x10) (omega arith), (digit_stays (u % 0x100 / 0x10) (omega arith), (digit_stays (u % 0x100 % 0x10) (omega arith), a))))
 
 long_stay : (c : ℕ) → IsLong c → AllStay (long_digits c ++ 0x7D ∷ [])
-long_stay c h =
-    let low = h.0 in
-    let high = h.1 in
-    let P : List ℕ → Type 0 = λ l. AllStay (l ++ 0x7D ∷ []) in
-    ⊎_elim
-    (λ l. subst P (sym (five_digits c l)) (digit_stays (c / 0x1_0000) (omega arith), wide_stay (c % 0x1_0000) (0x7D ∷ []) (omega arith) (refl, tt)))
-    (λ l. subst P (sym (six_digits c l)) (digit_stays (c / 0x1_0000 / 0x10) (omega arith), (digit_stays (c / 0x1_0000 % 0x10) (omega arith), wide_stay (c % 0x1_0000) (0x7D ∷ []) (omega arith) (refl, tt))))
-    (cases_lt c 0x10_0000)
+long_stay c h = grind (arith, five_digits, digit_stays, wide_stay, six_digits)
 
 item_stays : (i : Item) → IsItem stays_on_line i → Stays i → AllStay (chars (item_text i))
 item_stays (Character c) h s =
@@ -91,10 +76,7 @@ escape_is_on_line well_formed units part_units parts each s text w e =
 -- a text of which each character is unchanged
 unchanged_texts : (cs : List ℕ) → AllByRecursion IsUnchanged cs → item_texts (map (character_item stays_on_line) cs) ≡ encode_utf8_all cs
 unchanged_texts [] a = refl
-unchanged_texts (c ∷ cs) a =
-    let s = a.0.1 in
-    let item : character_item stays_on_line c ≡ Character c = rw (ne_eqb c backslash a.0.0) (rw s refl) in
-    ap (λ i. item_text i ++ item_texts (map (character_item stays_on_line) cs)) item ∙ ap (λ x. encode_utf8 c ++ x) (unchanged_texts cs a.1)
+unchanged_texts (c ∷ cs) a = grind (arith, character_item, stays_on_line, ne_eqb, backslash, item_text, item_texts, unchanged_texts cs a.1)
 
 pub unchanged_text : (t : List ℕ) → IsUtf8 t → AreUnchanged t → text_escape stays_on_line t ≡ t
 unchanged_text t u a = unchanged_texts (chars t) a ∙ encodes-chars t u

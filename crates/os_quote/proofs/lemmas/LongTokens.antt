@@ -1,12 +1,10 @@
 -- Digits between braces.
-use Rattle.os_quote.proofs.Common.{◌≡◌, ◌≢◌, ⊎_elim, ℕ, ◌+◌, ◌*◌, ◌/◌, ◌%◌, ◌<◌, ◌≤◌, List, [], ◌∷◌, ◌++◌, sym, ap, ◌∙◌, arith, OutOfScalarRange, IsInRange, cases_lt, upper_hex_digit, byte_digits, wide_digits, long_digits, IsLong, HasNoWide, HasNoLong, HasNoFour, HasNoFive, HasNoSix, IsFour, IsFive, IsSix}
+use Rattle.os_quote.proofs.Common.{common_steps, nat_tests, ◌≡◌, ◌≢◌, ⊎_elim, ℕ, ◌+◌, ◌*◌, ◌/◌, ◌%◌, ◌<◌, ◌≤◌, List, [], ◌∷◌, ◌++◌, sym, ap, ◌∙◌, arith, OutOfScalarRange, IsInRange, cases_lt, upper_hex_digit, byte_digits, wide_digits, long_digits, IsLong, HasNoWide, HasNoLong, HasNoFour, HasNoFive, HasNoSix, IsFour, IsFive, IsSix}
 use Rattle.os_quote.proofs.lemmas.Items.{tails, digit_same, wide_same, five_digits, six_digits}
 
 -- a code point past FFFF has five digits or six
 pub no_long : (bytes digits : List ℕ) → bytes ≡ 0x7B ∷ digits → HasNoSix digits → HasNoFive digits → HasNoLong bytes
 no_long bytes digits is six five c h after e =
-    let low = h.0 in
-    let high = h.1 in
     let t : digits ≡ long_digits c ++ 0x7D ∷ after = (tails (sym is ∙ e)).1 in
     ⊎_elim
     (λ l. five (c / 0x1_0000) (omega arith) (omega arith) (c % 0x1_0000) (omega arith) after (t ∙ ap (λ x. x ++ 0x7D ∷ after) (five_digits c l)))
@@ -16,30 +14,17 @@ no_long bytes digits is six five c h after e =
     (cases_lt c 0x10_0000)
 
 pub long_of_six : (bytes digits : List ℕ) (c : ℕ) (rest : List ℕ) → bytes ≡ 0x7B ∷ digits → IsSix digits c rest → IsLong c × (bytes ≡ 0x7B ∷ (long_digits c ++ 0x7D ∷ rest))
-long_of_six bytes digits c rest is k =
-    let ten : c / 0x1_0000 ≡ 0x10 = k.0 in
-    let past : 0x10_0000 ≤ c = omega arith in (
-      (omega arith, omega arith),
-      is ∙ ap (λ x. 0x7B ∷ x) (k.1 ∙ ap (λ x. x ++ 0x7D ∷ rest) (sym (six_digits c past ∙ ap (λ n. byte_digits n ++ wide_digits (c % 0x1_0000)) ten))),
-    )
+long_of_six bytes digits c rest is k = grind (arith, nat_tests, common_steps, six_digits, byte_digits, wide_digits)
 
 pub long_of_five : (bytes digits : List ℕ) (c : ℕ) (rest : List ℕ) → bytes ≡ 0x7B ∷ digits → IsFive digits c rest → IsLong c × (bytes ≡ 0x7B ∷ (long_digits c ++ 0x7D ∷ rest))
-long_of_five bytes digits c rest is k =
-    let some : 0 < c / 0x1_0000 = k.0 in
-    let within : c / 0x1_0000 < 16 = k.1.0 in
-    let below : c < 0x10_0000 = omega arith in (
-      (omega arith, omega arith),
-      is ∙ ap (λ x. 0x7B ∷ x) (k.1.1 ∙ ap (λ x. x ++ 0x7D ∷ rest) (sym (five_digits c below))),
-    )
+long_of_five bytes digits c rest is k = grind (arith, five_digits)
 
 -- no five digits and a brace are there, since the last four or the brace are missing, or the first is no digit or is 0
 pub not_closed : (digits low : List ℕ) (first : ℕ) → digits ≡ first ∷ low → HasNoFour low → HasNoFive digits
 not_closed digits low first is none h some within u fits after e = none u fits after (tails (sym is ∙ e)).1
 
 pub zero_first : (digits low : List ℕ) (first d : ℕ) → digits ≡ first ∷ low → upper_hex_digit d ≡ first → d ≡ 0 → HasNoFive digits
-zero_first digits low first d is same z h some within u fits after e =
-    let k = digit_same d h (same ∙ (tails (sym is ∙ e)).0) in
-    omega arith
+zero_first digits low first d is same z h some within u fits after e = grind (arith, digit_same, tails)
 
 pub no_first : (digits low : List ℕ) (first : ℕ) → digits ≡ first ∷ low → ((d : ℕ) → d < 16 → upper_hex_digit d ≢ first) → HasNoFive digits
 no_first digits low first is none h some within u fits after e = none h within (sym (tails (sym is ∙ e)).0)
@@ -49,9 +34,7 @@ no_bytes digits n h some within u fits after e = let f = sym n ∙ e in cc
 
 -- these five digits and a brace are there
 pub five_closed : (digits low : List ℕ) (first high c : ℕ) (rest : List ℕ) → digits ≡ first ∷ low → upper_hex_digit high ≡ first → high < 16 → 0 < high → IsFour high low c rest → IsFive digits c rest
-five_closed digits low first high c rest is same within some k =
-    let h : c / 0x1_0000 ≡ high = k.0 in
-    (omega arith, (omega arith, is ∙ ap (λ x. x ∷ low) (sym same) ∙ ap (λ n. upper_hex_digit n ∷ low) (sym h) ∙ ap (λ x. upper_hex_digit (c / 0x1_0000) ∷ x) k.1))
+five_closed digits low first high c rest is same within some k = grind (arith, upper_hex_digit)
 
 -- no four digits, or no brace after them
 pub no_closed_digits : (bytes : List ℕ) → HasNoWide bytes → HasNoFour bytes
@@ -62,9 +45,7 @@ no_closing bytes following number is none u h after e = none after (wide_same nu
 
 -- the number that these digits say
 pub closed : (bytes following rest : List ℕ) (high number code : ℕ) → number < 0x1_0000 → bytes ≡ wide_digits number ++ following → following ≡ 0x7D ∷ rest → code ≡ high * 0x1_0000 + number → IsFour high bytes code rest
-closed bytes following rest high number code fits is brace e =
-    let low : code % 0x1_0000 ≡ number = omega arith in
-    (omega arith, is ∙ ap (λ x. wide_digits number ++ x) brace ∙ ap (λ n. wide_digits n ++ 0x7D ∷ rest) (sym low))
+closed bytes following rest high number code fits is brace e = grind (arith, wide_digits)
 
 -- that number is a character's
 pub is_scalar : {T : Type 0} (high number code : ℕ) → 0 < high → high ≤ 0x10 → number < 0x1_0000 → code ≡ high * 0x1_0000 + number → OutOfScalarRange code → T

@@ -1,10 +1,8 @@
 -- Plain bytes: texts that both forms show unchanged.
-use Rattle.os_quote.proofs.Common.{◌≡◌, ◌⊎◌, ⊎_elim, ℕ, zero, suc, ◌+◌, ◌-◌, ◌<◌, ◌≤◌, true, List, [], ◌∷◌, ◌++◌, map, length, take, get_or, refl, sym, ap, ◌∙◌, subst, arith, append_assoc, AllByRecursion, IsUtf8, cases_lt, ne_eqb, chars-IsAscii, encode_ascii, IsUtf8-from_ascii, Character, backslash, item_text, item_texts, character_item, shown_by, IsPlain, IsPlainUpTo, IsAfterPlain, AreUnchanged, IsUnchanged}
+use Rattle.os_quote.proofs.Common.{◌≡◌, ◌⊎◌, ⊎_elim, ℕ, zero, suc, ◌+◌, ◌-◌, ◌<◌, ◌≤◌, true, List, [], ◌∷◌, ◌++◌, map, length, take, get_or, refl, sym, ap, ◌∙◌, subst, arith, append_assoc, AllByRecursion, IsUtf8, cases_lt, ne_eqb, chars-IsAscii, encode_ascii, IsUtf8-from_ascii, backslash, item_text, item_texts, character_item, shown_by, IsPlain, IsPlainUpTo, IsAfterPlain, AreUnchanged, IsUnchanged}
 use Rattle.os_quote.specs.declared.form.Form.{Form}
 use Rattle.os_quote.specs.declared.form.Form.TheVariants.{Text, Line}
-use Rattle.os_quote.proofs.lemmas.Readings.{ascii_all}
-use Rattle.os_quote.proofs.lemmas.Shown.{ascii_stays}
-use Rattle.os_quote.proofs.lemmas.Texts.{text_escape}
+use Rattle.os_quote.proofs.lemmas.{Readings.ascii_all, Shown.ascii_stays, Texts.text_escape}
 
 plain_ascii : (bs : List ℕ) → AllByRecursion IsPlain bs → AllByRecursion (λ b. b < 128) bs
 plain_ascii [] a = tt
@@ -19,13 +17,7 @@ plain_is_shown Line b p = let high = p.0.1 in ascii_stays b p.0.0 (omega arith)
 
 own_bytes : (form : Form) (bs : List ℕ) → AllByRecursion IsPlain bs → item_texts (map (character_item (shown_by form)) bs) ≡ bs
 own_bytes form [] a = refl
-own_bytes form (b ∷ bs) a =
-    let high = a.0.0.1 in
-    let shown = plain_is_shown form b a.0 in
-    let item : character_item (shown_by form) b ≡ Character b = rw (ne_eqb b backslash a.0.1) (rw shown refl) in
-    ap (λ i. item_text i ++ item_texts (map (character_item (shown_by form)) bs)) item
-    ∙ ap (λ x. x ++ item_texts (map (character_item (shown_by form)) bs)) (encode_ascii b (omega arith))
-    ∙ ap (λ x. b ∷ x) (own_bytes form bs a.1)
+own_bytes form (b ∷ bs) a = grind (arith, plain_is_shown, character_item, shown_by, ne_eqb, backslash, item_text, item_texts, encode_ascii, own_bytes form bs a.1)
 
 pub plain_is_own : (form : Form) (bs : List ℕ) → AllByRecursion IsPlain bs → text_escape (shown_by form) bs ≡ bs
 plain_is_own form bs a = ap (λ cs. item_texts (map (character_item (shown_by form)) cs)) (chars-IsAscii bs (ascii_all bs (plain_ascii bs a))) ∙ own_bytes form bs a
@@ -76,9 +68,6 @@ all_plain [] ys a b = b
 all_plain (x ∷ xs) ys a b = (a.0, all_plain xs ys a.1 b)
 
 pub after_more : (bs prefix rest more following : List ℕ) → IsAfterPlain bs prefix rest → IsAfterPlain rest more following → IsAfterPlain bs (prefix ++ more) following
-after_more bs prefix rest more following a b = record {
-  plain = all_plain prefix more a.plain b.plain;
-  joined = a.joined ∙ ap (λ x. prefix ++ x) b.joined ∙ sym (append_assoc prefix more following);
-}
+after_more bs prefix rest more following a b = grind (arith, all_plain, append_assoc)
 
 pub ruleset plain_bytes = (none_plain, more_plain, one_plain)

@@ -1,9 +1,8 @@
 -- Escapes of strings that begin with a text of which each character is unchanged.
 use Rattle.os_quote.proofs.Common.{◌≡◌, ⊎_elim, ℕ, ◌+◌, ◌-◌, ◌<◌, Bool, List, [], ◌∷◌, ◌++◌, map, length, refl, sym, ap, ◌∙◌, subst, arith, append_assoc, length-append, IsUtf8, chars, cases_lt, chars-append, IsCovered, CrossesNoCharacter, Chunk, joined, AreChunks, AreChunksFrom, chunks_from_start, are_chunks, some_chunks, chunks_once, one_more_chunk, Covered, over_none, covered_after, seam_at_start, text_covered, chunks_of, Item, item_texts, unit_item, character_item, items_of, escape_of, item_text, flat_map-append, map-append, take, drop, take_at, drop_at, IsAfterPlain, shown_by}
 use Rattle.os_quote.specs.declared.form.Form.{Form}
-use Rattle.os_quote.proofs.lemmas.PlainBytes.{plain_is_text, plain_is_own}
+use Rattle.os_quote.proofs.lemmas.{PlainBytes.plain_is_text, PlainBytes.plain_is_own, Texts.text_items, Texts.text_escape}
 use Rattle.wtf8_core.proofs.lemmas.chunks.OneList.{after_seam}
-use Rattle.os_quote.proofs.lemmas.Texts.{text_items, text_escape}
 
 module _ (p r : List ℕ) (u : IsUtf8 p) (some : 0 < length p) where
   -- what is known of the text at the start
@@ -60,22 +59,11 @@ module _ (p r : List ℕ) (u : IsUtf8 p) (some : 0 < length p) where
   module _ (shows : ℕ → Bool) (units : List ℕ → List ℕ) (no_units : units [] ≡ []) (own : text_escape shows p ≡ p) where
     -- their items
     after_prefix : (items : List Item) → item_texts ((map unit_item (units []) ++ text_items shows p) ++ items) ≡ p ++ item_texts items
-    after_prefix items =
-        ap (λ us. item_texts ((map unit_item us ++ text_items shows p) ++ items)) no_units
-        ∙ flat_map-append item_text (text_items shows p) items
-        ∙ ap (λ x. x ++ item_texts items) own
+    after_prefix items = grind (arith, item_texts, unit_item, text_items, flat_map-append, item_text)
 
     grown_items : (q t : List ℕ) (ds : List Chunk) → item_texts (items_of shows units (grown q t ds)) ≡ p ++ item_texts (items_of shows units ((q, t) ∷ ds))
     grown_items (x ∷ q) t ds = after_prefix (items_of shows units ((x ∷ q, t) ∷ ds))
-    grown_items [] t ds =
-        let rest = items_of shows units ds in
-        ap (λ us. item_texts ((map unit_item us ++ text_items shows (p ++ t)) ++ rest)) no_units
-        ∙ ap (λ cs. item_texts (map (character_item shows) cs ++ rest)) (chars-append p t u)
-        ∙ ap (λ items. item_texts (items ++ rest)) (map-append (character_item shows) (chars p) (chars t))
-        ∙ ap item_texts (append_assoc (text_items shows p) (text_items shows t) rest)
-        ∙ flat_map-append item_text (text_items shows p) (text_items shows t ++ rest)
-        ∙ ap (λ x. x ++ item_texts (text_items shows t ++ rest)) own
-        ∙ ap (λ us. p ++ item_texts ((map unit_item us ++ text_items shows t) ++ rest)) (sym no_units)
+    grown_items [] t ds = grind (arith, items_of, item_texts, unit_item, text_items, character_item, chars-append, map-append, chars, append_assoc, flat_map-append, item_text)
 
     prefix_items : (cs : List Chunk) → item_texts (items_of shows units (first_chunks cs)) ≡ p ++ item_texts (items_of shows units cs)
     prefix_items [] = after_prefix []

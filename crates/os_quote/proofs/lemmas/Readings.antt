@@ -1,9 +1,7 @@
 -- How far a text has been read.
 use Rattle.os_quote.proofs.Common.{get_or, take_at, encode_ascii, IsUtf8-take, IsCharBoundary-before_ascii, IsCutAtFirst, ◌≡◌, ⊎_elim, inl, inr, ℕ, zero, suc, Bool, ◌-◌, ◌<◌, ◌/◌, ◌%◌, List, [], ◌∷◌, ◌++◌, length, refl, sym, ap, ◌∙◌, subst, arith, append_assoc, append-nil, length-append, AllByRecursion, flat_map, IsUtf8, IsAscii, cases_lt, IsUtf8-nil, IsUtf8-append, IsUtf8-encode, IsUtf8-from_ascii, Chunk, AreChunks, PartLaws, upper_hex_digit, Item, Character, Backslash, ByteUnit, WideUnit, LongCharacter, backslash, wide_digits, long_digits, item_text, item_texts, IsLong, IsItem, is_any, BeginsNoToken, IsBadEscapeBy, IsEscapeBy, items_of, HasNoBackslash, IsCutAtBackslash, IsRead, item_bytes, IsChunkOf, flat_map-append}
 use Rattle.std.proofs.Math.Seq.{get_or-append_seam}
-use Rattle.os_quote.proofs.lemmas.Items.{digit_low, digit_high, five_digits, six_digits, some_bytes, same_items}
-use Rattle.os_quote.proofs.lemmas.Texts.{text_items, text_is_items, own_text, slash_after, text_after}
-use Rattle.os_quote.proofs.lemmas.Escapes.{all-append, one_reading, escape_is_items}
+use Rattle.os_quote.proofs.lemmas.{Items.digit_low, Items.digit_high, Items.five_digits, Items.six_digits, Items.some_bytes, Items.same_items, Texts.text_items, Texts.text_is_items, Texts.own_text, Texts.slash_after, Texts.text_after, Escapes.all-append, Escapes.one_reading, Escapes.escape_is_items}
 
 -- the first backslash of a text is between two texts
 pub cut_of_text : (t prefix following : List ℕ) → IsUtf8 t → IsCutAtFirst t prefix following → IsCutAtBackslash t prefix following
@@ -35,14 +33,7 @@ ascii_wide : (u : ℕ) (after : List ℕ) → u < 0x1_0000 → AllByRecursion (�
 ascii_wide u after h a = (ascii_digit (u / 0x100 / 0x10) (omega arith), (ascii_digit (u / 0x100 % 0x10) (omega arith), (ascii_digit (u % 0x100 / 0x10) (omega arith), (ascii_digit (u % 0x100 % 0x10) (omega arith), a))))
 
 ascii_long : (c : ℕ) → IsLong c → AllByRecursion (λ b. b < 128) (long_digits c ++ 0x7D ∷ [])
-ascii_long c h =
-    let low = h.0 in
-    let high = h.1 in
-    let P : List ℕ → Type 0 = λ l. AllByRecursion (λ b. b < 128) (l ++ 0x7D ∷ []) in
-    ⊎_elim
-    (λ l. subst P (sym (five_digits c l)) (ascii_digit (c / 0x1_0000) (omega arith), ascii_wide (c % 0x1_0000) (0x7D ∷ []) (omega arith) (omega arith, tt)))
-    (λ l. subst P (sym (six_digits c l)) (ascii_digit (c / 0x1_0000 / 0x10) (omega arith), (ascii_digit (c / 0x1_0000 % 0x10) (omega arith), ascii_wide (c % 0x1_0000) (0x7D ∷ []) (omega arith) (omega arith, tt))))
-    (cases_lt c 0x10_0000)
+ascii_long c h = grind (arith, five_digits, ascii_digit, ascii_wide, six_digits)
 
 -- a token's bytes are ASCII
 abbrev pub IsAsciiItem : Item → Type 0
@@ -82,13 +73,7 @@ module _ (shows : ℕ → Bool) where
 
   -- some items more
   read_items : (text out rest : List ℕ) (items : List Item) (after : List ℕ) → IsRead shows text out rest → AllByRecursion (IsItem shows) items → rest ≡ item_texts items ++ after → IsUtf8 after → IsRead shows text (out ++ flat_map item_bytes items) after
-  read_items text out rest items after r a e u = record {
-    items = r.items ++ items;
-    are = all-append (IsItem shows) r.items items r.are a;
-    joined = r.joined ∙ ap (λ x. item_texts r.items ++ x) e ∙ sym (append_assoc (item_texts r.items) (item_texts items) after) ∙ ap (λ x. x ++ after) (sym (flat_map-append item_text r.items items));
-    bytes_are = ap (λ x. x ++ flat_map item_bytes items) r.bytes_are ∙ sym (flat_map-append item_bytes r.items items);
-    text_left = u;
-  }
+  read_items text out rest items after r a e u = grind (arith, all-append, item_texts, append_assoc, flat_map-append, item_text, item_bytes)
 
   -- the items of the form that shows every character are items of each form
   shown_item : (i : Item) → IsItem is_any i → IsItem shows i
@@ -129,7 +114,6 @@ module _ (shows : ℕ → Bool) where
   pub read_no_bad : (text out : List ℕ) (n : ℕ) → IsRead shows text out [] → ¬ (IsBadEscapeBy shows text n)
   read_no_bad text out n r b =
       let q = same_items shows r.items b.items [] b.rest r.are b.are (inl refl) (inr b.bad) (sym r.joined ∙ b.joined) in
-      let c : ◌≡◌ {A = List ℕ} [] (backslash ∷ b.bad.following) = q.1 ∙ b.bad.first in
       cc
 
   -- if the bytes that a text means aren't a string with this escape, the text, which has been read whole, is the escape of no string

@@ -1,6 +1,6 @@
 -- Texts: the backslashes in them, and the items of their characters.
-use Rattle.os_quote.proofs.Common.{◌≡◌, ◌≢◌, ⊎_elim, ℕ, zero, suc, ◌+◌, ◌<◌, ◌≤◌, Bool, true, false, List, [], ◌∷◌, ◌++◌, map, length, take, drop, get_or, refl, sym, ap, ◌∙◌, subst, arith, take-append-drop, length-append, IsScalar, encode_utf8, AllByRecursion, flat_map, IsUtf8, chars, all_scalars, encode_utf8_all, drop_more, take_at, drop_at, IsCharBoundary-from_take, IsUtf8-drop, encode_ascii, chars-append, chars_past_char, encodes-chars, scalars-chars, scalar, scalar_cases, NoneBefore, Passes, is_byte, form_encode, Item, backslash, item_text, item_texts, IsItem, hidden_item, character_item, is_any, HasNoBackslash, IsCutAtFirst, item_bytes, flat_map-append, map-append}
-use Rattle.std.proofs.lemmas.Bool.{and_parts, cases_eq, cases_lt, cases_Bool, lt-ltb, le-ltb, ne_eqb, eq-eqb, eqb-true}
+use Rattle.os_quote.proofs.Common.{◌≡◌, ◌≢◌, ⊎_elim, ℕ, zero, suc, ◌+◌, ◌<◌, Bool, true, false, List, [], ◌∷◌, ◌++◌, map, length, take, drop, get_or, refl, sym, ap, ◌∙◌, subst, arith, take-append-drop, length-append, IsScalar, encode_utf8, AllByRecursion, flat_map, IsUtf8, chars, all_scalars, encode_utf8_all, drop_more, take_at, drop_at, IsCharBoundary-from_take, IsUtf8-drop, encode_ascii, chars-append, chars_past_char, encodes-chars, scalars-chars, scalar, scalar_cases, NoneBefore, Passes, is_byte, form_encode, Item, backslash, item_text, item_texts, IsItem, hidden_item, character_item, is_any, HasNoBackslash, IsCutAtFirst, item_bytes, flat_map-append, map-append}
+use Rattle.std.proofs.lemmas.Bool.{and_parts, cases_eq, cases_Bool, lt-ltb, le-ltb, ne_eqb, eq-eqb, eqb-true}
 
 -- the test of the search for a backslash
 abbrev pub IsBackslashAt : List ℕ → ℕ → Type 0
@@ -16,11 +16,7 @@ none_from t n h = tt
 
 -- if it finds one, that is the first
 pub first_backslash : (t : List ℕ) (i : ℕ) → NoneBefore (IsBackslashAt t) 0 (length t) i × IsBackslashAt t i → IsCutAtFirst t (take i t) (drop (i + 1) t)
-first_backslash t i h =
-    let e : get_or t i 0 ≡ backslash = eqb-true _ _ h.1 in record {
-      none_before = none_from t i (λ k lt. h.0.before k (omega arith) lt);
-      joined = sym (take-append-drop i t) ∙ ap (λ x. take i t ++ x) (drop_more t i 0 h.0.high ∙ ap (λ x. x ∷ drop (i + 1) t) e);
-    }
+first_backslash t i h = grind (arith, backslash, eqb-true, none_from, take-append-drop, drop_more)
 
 -- an ASCII character at the start
 slash_before : (following : List ℕ) → backslash ∷ following ≡ encode_utf8 backslash ++ following
@@ -47,11 +43,7 @@ scalar_below c h = ⊎_elim (λ l. omega (arith, l)) (λ p. p.1) (scalar_cases c
 
 -- a character that isn't shown is an item, too
 hidden_is_item : (shows : ℕ → Bool) (c : ℕ) → IsScalar c → shows c ≡ false → IsItem shows (hidden_item c) × (item_bytes (hidden_item c) ≡ encode_utf8 c)
-hidden_is_item shows c h hidden =
-    ⊎_elim
-    (λ (l : c < 0x1_0000). rw (lt-ltb c 0x1_0000 l) (l, form_encode c))
-    (λ (l : 0x1_0000 ≤ c). rw (le-ltb c 0x1_0000 l) ((record { character = c; past = l; hidden = hidden }, (l, scalar_below c h)), refl))
-    (cases_lt c 0x1_0000)
+hidden_is_item shows c h hidden = grind (arith, lt-ltb, form_encode, le-ltb, scalar_below)
 
 module _ (shows : ℕ → Bool) where
   -- a character's item is one of the form's, and means the character

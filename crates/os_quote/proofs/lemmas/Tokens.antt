@@ -35,9 +35,7 @@ module _ (shows : ℕ → Bool) where
 
   -- `\x` and no two digits
   pub no_digits : (following digits : List ℕ) (kind : ℕ) → following ≡ kind ∷ digits → kind ≡ 0x78 → HasNoByte digits → BeginsNoToken shows (backslash ∷ following)
-  no_digits following digits kind is k never =
-      no_token following (λ after e. let t = tails (sym is ∙ e) in omega (arith, k, t.0)) (λ v h after e. never v h after (tails (sym is ∙ e)).1)
-      (λ v h after e. let t = tails (sym is ∙ e) in omega (arith, k, t.0)) (λ l c h after e. let t = tails (sym is ∙ e) in omega (arith, k, t.0))
+  no_digits following digits kind is k never = grind (arith, no_token, tails)
 
   -- `\u` and no four digits, nor, if the form has long tokens, digits between braces
   pub no_number : (following digits : List ℕ) (kind : ℕ) → following ≡ kind ∷ digits → kind ≡ 0x75 → HasNoNumber shows digits → BeginsNoToken shows (backslash ∷ following)
@@ -61,9 +59,7 @@ pub no_high_digits : (digits : List ℕ) → HasNoByte digits → HasNoWide digi
 no_high_digits digits never u h after e = never (u / 0x100) (omega arith) (byte_digits (u % 0x100) ++ after) e
 
 pub no_low_digits : (digits lower : List ℕ) (high : ℕ) → digits ≡ byte_digits high ++ lower → HasNoByte lower → HasNoWide digits
-no_low_digits digits lower high two never u h after e =
-    let s = byte_same high (u / 0x100) lower (byte_digits (u % 0x100) ++ after) (sym two ∙ e) in
-    never (u % 0x100) (omega arith) after s.1
+no_low_digits digits lower high two never u h after e = grind (arith, byte_same, byte_digits)
 
 pub ruleset numbers = (no_long_tokens, long_token, line_has_long)
 

@@ -4,9 +4,7 @@ use Rattle.std.proofs.Common.{Result, Ok, Err, IfOk, IfErr, MatchResult}
 use Rattle.wtf8_core.specs.Truncated.{IsTruncated}
 use Rattle.wtf8_core.proofs.lemmas.buffers.Truncated.{whole}
 use Rattle.os_quote.specs.Unescaped.{IsUnescapedBy}
-use Rattle.os_quote.proofs.lemmas.ItemLengths.{item_is_short, items_are_short}
-use Rattle.os_quote.proofs.lemmas.Escapes.{one_reading, one_string, never_bad}
-use Rattle.os_quote.proofs.lemmas.Readings.{cut_of_text, read_all, read_bad, read_more, read_no_bad}
+use Rattle.os_quote.proofs.lemmas.{ItemLengths.item_is_short, ItemLengths.items_are_short, Escapes.one_reading, Escapes.one_string, Escapes.never_bad, Readings.cut_of_text, Readings.read_all, Readings.read_bad, Readings.read_more, Readings.read_no_bad}
 
 -- what is known of a result, and two things of each error
 pub with_both : {A B : Type 0} (P : A → Type 0) (Q S : B → Type 0) (r : Result A B) → IfOk r P → IfErr r Q → IfErr r S → MatchResult r P (λ e. Q e × S e)
@@ -38,10 +36,7 @@ module _ (shows : ℕ → Bool) where
   }
 
   pub all_bytes_read : (bytes decoded rest : List ℕ) → AreBytesRead shows bytes decoded rest → HasNoBackslash rest → AreBytesRead shows bytes (decoded ++ rest) []
-  all_bytes_read bytes decoded rest r none = record {
-    short = omega (arith, r.short, length-append decoded rest);
-    read = λ u. read_all shows bytes decoded rest (decoded ++ rest) (r.read u) none refl;
-  }
+  all_bytes_read bytes decoded rest r none = grind (arith, length-append, read_all)
 
   pub bad_bytes_read : (bytes decoded rest prefix following : List ℕ) → AreBytesRead shows bytes decoded rest → IsCutAtFirst rest prefix following → BeginsNoToken shows (backslash ∷ following) → IsUtf8 bytes → IsBadEscapeBy shows bytes (length bytes - length following - 1)
   bad_bytes_read bytes decoded rest prefix following r cut none u = let q = r.read u in read_bad shows bytes decoded rest prefix following q (cut_of_text rest prefix following q.text_left cut) none

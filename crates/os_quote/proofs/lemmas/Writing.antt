@@ -1,5 +1,5 @@
 -- How far a text has been written.
-use Rattle.os_quote.proofs.Common.{◌≡◌, ℕ, List, [], ◌++◌, append_assoc, append-nil, rules, refl, sym, ap, ◌∙◌, HasWrittenStyled, IsFlush, Formatter, true≢false}
+use Rattle.os_quote.proofs.Common.{arith, ◌≡◌, ℕ, List, [], ◌++◌, append_assoc, append-nil, rules, refl, sym, ap, ◌∙◌, HasWrittenStyled, IsFlush, Formatter, true≢false}
 use Rattle.std.proofs.Common.{Result, Ok, Err}
 use Rattle.std.specs.Fmt.{WritesStyledOnOk}
 use Rattle.std.specs.declared.fmt.Error.{Error}
@@ -21,9 +21,7 @@ module _ {W : Type 0} (took : W → List ℕ → W → Type 0) where
       (s.0 ++ now, has_written_styled_append _ _ _ _ _ _ s.1 (next s.1.flush), append_assoc s.0 now rest ∙ ap (λ x. s.0 ++ x) (sym e) ∙ s.2)
 
   pub all_written : (f g : Formatter W) (left all : List ℕ) → WritesRest took f g left all → left ≡ [] → IsFlush f → HasWrittenStyled took f all g
-  all_written f g left all so_far e flush =
-      let s = so_far flush in
-      has_written_styled_of_eq _ _ _ _ _ (sym (append-nil s.0) ∙ ap (λ x. s.0 ++ x) (sym e) ∙ s.2) s.1
+  all_written f g left all so_far e flush = grind (arith, has_written_styled_of_eq, append-nil)
 
   -- what is left is written at once
   pub last_written : (f g h : Formatter W) (left now all : List ℕ) → WritesRest took f g left all → (IsFlush g → HasWrittenStyled took g now h) → left ≡ now → IsFlush f → HasWrittenStyled took f all h

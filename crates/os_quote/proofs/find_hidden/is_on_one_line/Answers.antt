@@ -1,12 +1,9 @@
-use Rattle.os_quote.proofs.Common.{sym, refl, true≢false}
+use Rattle.os_quote.proofs.Common.{arith, refl, true≢false}
 use Rattle.os_quote.proofs.lemmas.Lines.{unchanged_stays, hidden_leaves, past_backslash, with_backslash, cut_is_shorter}
 use Rattle.os_quote.proofs.find_hidden.is_on_one_line.Goals as goal
 
 pub returns-then-character-ne92 : goal.returns-then-character-ne92
-returns-then-character-ne92 c = (
-  λ no. absurd (true≢false (sym no)),
-  λ all. absurd (hidden_leaves _ _ _ _ c.loop-character.invariant.0 c.in-Some.ensures c.if-character-ne92.true (c.loop-character.invariant.1.1 all)),
-)
+returns-then-character-ne92 c = grind (arith, true≢false, hidden_leaves)
 
 pub loop-character-preserved : goal.loop-character-preserved
 loop-character-preserved c =

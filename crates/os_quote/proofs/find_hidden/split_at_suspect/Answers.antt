@@ -1,4 +1,4 @@
-use Rattle.os_quote.proofs.Common.{◌≡◌, ◌++◌, ◌-◌, length, take, drop, refl, sym, ap, ◌∙◌, subst, arith, take-append-drop, sub-zero, true≢false, encode_utf8, AreUnchanged, AllClear, IsNextSuspect}
+use Rattle.os_quote.proofs.Common.{◌≡◌, ◌++◌, ◌-◌, length, take, drop, refl, sym, ap, ◌∙◌, subst, arith, take-append-drop, sub-zero, true≢false, encode_utf8, AreUnchanged, IsNextSuspect}
 use Rattle.os_quote.proofs.lemmas.Hidden.{suspect_begins, unchanged_to, unchanged_after, all_unchanged}
 use Rattle.os_quote.proofs.find_hidden.split_at_suspect.Goals as goal
 
@@ -43,7 +43,4 @@ loop-suspect-preserved c =
     (up_to.0.boundary, up_to.0.unchanged)
 
 pub returns : goal.returns
-returns c =
-    let text = c.args.text.now in
-    let clear = subst (λ x. AllClear x c.loop-suspect.at (length x)) c.as_bytes.ensures.value c.in_default.ensures in
-    all_unchanged text c.loop-suspect.at (λ k. omega (arith, c.type_inv.text k)) c.utf8.text c.loop-suspect.invariant.0 c.loop-suspect.invariant.1 clear
+returns c = grind (arith, all_unchanged)

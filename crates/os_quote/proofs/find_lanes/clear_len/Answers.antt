@@ -3,14 +3,10 @@ use Rattle.os_quote.proofs.lemmas.SuspectLanes.{pair_of, suspect_of, none_by_bit
 use Rattle.os_quote.proofs.find_lanes.clear_len.Goals as goal
 
 pub returns-then-are_zero-clause-clear : goal.returns-then-are_zero-clause-clear
-returns-then-are_zero-clause-clear c i h =
-    let lead = c.kind_bits-leads.ensures i h ∙ ap kind_bits (c.load.ensures i h) in
-    none_by_lead (get_or c.args.bytes.now (0 + i) 0) (get_or c.args.bytes.now (1 + i) 0) (get_or c.args.bytes.now (2 + i) 0) (sym lead ∙ c.are_zero.ensures c.if-are_zero.true i h)
+returns-then-are_zero-clause-clear c i h = grind (arith, kind_bits, none_by_lead)
 
 pub returns-then-are_zero-2-clause-clear : goal.returns-then-are_zero-2-clause-clear
-returns-then-are_zero-2-clause-clear c i h =
-    let pair = c.and-pairs.ensures i h ∙ pair_of (get_or c.args.bytes.now (0 + i) 0) (get_or c.args.bytes.now (1 + i) 0) _ _ (c.kind_bits-leads.ensures i h ∙ ap kind_bits (c.load.ensures i h)) (c.second_bits.ensures i h ∙ ap second_bits (c.load-2.ensures i h)) in
-    none_by_pair (get_or c.args.bytes.now (0 + i) 0) (get_or c.args.bytes.now (1 + i) 0) (get_or c.args.bytes.now (2 + i) 0) (sym pair ∙ c.are_zero-2.ensures c.if-are_zero-2.true i h)
+returns-then-are_zero-2-clause-clear c i h = grind (arith, pair_of, kind_bits, second_bits, none_by_pair)
 
 pub returns-then-are_zero-3-clause-clear : goal.returns-then-are_zero-3-clause-clear
 returns-then-are_zero-3-clause-clear c i h =

@@ -1,6 +1,5 @@
 use Rattle.os_quote.proofs.Common.{are_chunks_of, is_any}
-use Rattle.os_quote.proofs.lemmas.Escapes.{some_escape, one_escape, one_string}
-use Rattle.os_quote.proofs.lemmas.Readings.{escape_is_text}
+use Rattle.os_quote.proofs.lemmas.{Escapes.some_escape, Escapes.one_escape, Escapes.one_string, Readings.escape_is_text}
 use Rattle.os_quote.proofs.laws.escapes.Goals as goal
 
 pub returns-clause-some : goal.returns-clause-some

@@ -1,7 +1,5 @@
 use Rattle.os_quote.proofs.Common.{are_chunks_of, stays_on_line}
-use Rattle.os_quote.proofs.lemmas.Escapes.{some_escape, one_escape, one_string, never_bad, one_bad_index}
-use Rattle.os_quote.proofs.lemmas.Lines.{escape_is_on_line}
-use Rattle.os_quote.proofs.lemmas.Readings.{escape_is_text}
+use Rattle.os_quote.proofs.lemmas.{Escapes.some_escape, Escapes.one_escape, Escapes.one_string, Escapes.never_bad, Escapes.one_bad_index, Lines.escape_is_on_line, Readings.escape_is_text}
 use Rattle.os_quote.proofs.laws.line_escapes.Goals as goal
 
 pub returns-clause-some : goal.returns-clause-some

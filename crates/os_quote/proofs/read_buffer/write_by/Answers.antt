@@ -1,6 +1,5 @@
 use Rattle.os_quote.proofs.Common.{◌≡◌, true, false, sym, ◌∙◌, subst, arith, shown_by, IsEscapeBy, are_chunks_of}
-use Rattle.os_quote.proofs.lemmas.Readings.{escape_is_text, no_escape}
-use Rattle.os_quote.proofs.lemmas.Unescaping.{read_fits, unescaped}
+use Rattle.os_quote.proofs.lemmas.{Readings.escape_is_text, Readings.no_escape, Unescaping.read_fits, Unescaping.unescaped}
 use Rattle.os_quote.proofs.read_buffer.write_by.Goals as goal
 
 pub returns-then-count-buffer-clause-string : goal.returns-then-count-buffer-clause-string
@@ -26,11 +25,7 @@ returns-then-is_unescaped-clause-string g c = λ is_text.
     (λ fits. subst (λ x. P.well_formed x × IsEscapeBy shows P.units x escape) same (c.is_unescaped.ensures.0 c.if-is_unescaped.true))
 
 pub returns-then-is_unescaped-clause-room : goal.returns-then-is_unescaped-clause-room
-returns-then-is_unescaped-clause-room g c = λ fits.
-    let P = g.E.Platform in
-    let laws = g.met.E.Platform.laws in
-    let is = c.is_unescaped.ensures.0 c.if-is_unescaped.true in
-    escape_is_text (shown_by c.args.form) P.well_formed P.units P.part_units g.met.E.Platform.parts (are_chunks_of P.well_formed laws.cut_prefix laws.cut_suffix) _ c.args.escape.now is.0 is.1
+returns-then-is_unescaped-clause-room g c = grind (arith, escape_is_text, shown_by, are_chunks_of)
 
 pub returns-else-is_unescaped-clause-fault : goal.returns-else-is_unescaped-clause-fault
 returns-else-is_unescaped-clause-fault g c = λ is_text.

@@ -1,8 +1,6 @@
 use Rattle.os_quote.proofs.Common.{[], IsUtf8-nil, shown_by, are_chunks_of}
 use Rattle.wtf8_core.proofs.lemmas.buffers.Truncated.{none_yet}
-use Rattle.os_quote.proofs.lemmas.Escapes.{own_escape}
-use Rattle.os_quote.proofs.lemmas.PlainBytes.{plain_is_own, plain_is_text}
-use Rattle.os_quote.proofs.lemmas.Unescaping.{own_unescaped}
+use Rattle.os_quote.proofs.lemmas.{Escapes.own_escape, PlainBytes.plain_is_own, PlainBytes.plain_is_text, Unescaping.own_unescaped}
 use Rattle.os_quote.proofs.read_buffer.write_bytes_by.Goals as goal
 
 pub returns-then-are_plain-clause-read : goal.returns-then-are_plain-clause-read

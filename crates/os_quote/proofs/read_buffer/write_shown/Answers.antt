@@ -5,9 +5,7 @@ use Rattle.wtf8_core.proofs.lemmas.buffers.Truncated.{none_yet}
 use Rattle.os_quote.specs.Escape.{IsQuoteFaultBy}
 use Rattle.os_quote.specs.Unescaped.{IsUnescapedBy}
 use Rattle.os_quote.specs.declared.error.QuoteError.TheVariants.{Memory}
-use Rattle.os_quote.proofs.lemmas.Escapes.{own_escape}
-use Rattle.os_quote.proofs.lemmas.Texts.{own_text}
-use Rattle.os_quote.proofs.lemmas.Unescaping.{own_unescaped, with_both}
+use Rattle.os_quote.proofs.lemmas.{Escapes.own_escape, Texts.own_text, Unescaping.own_unescaped, Unescaping.with_both}
 use Rattle.os_quote.proofs.read_buffer.write_shown.Goals as goal
 
 pub returns-in-Text-clause-read : goal.returns-in-Text-clause-read

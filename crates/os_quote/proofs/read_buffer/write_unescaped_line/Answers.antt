@@ -1,12 +1,9 @@
-use Rattle.os_quote.proofs.Common.{[], sym, subst, IsUtf8, IsUtf8-nil, stays_on_line, are_chunks_of}
-use Rattle.std.specs.Prelude.{IfOk, IfErr}
+use Rattle.os_quote.proofs.Common.{arith, [], sym, subst, IsUtf8, IsUtf8-nil, stays_on_line, are_chunks_of}
+use Rattle.std.specs.Prelude.{IfErr}
 use Rattle.os_quote.specs.Escape.{IsQuoteFaultBy}
-use Rattle.os_quote.specs.Unescaped.{IsUnescapedBy}
 use Rattle.wtf8_core.specs.Truncated.{IsTruncated}
 use Rattle.wtf8_core.proofs.lemmas.buffers.Truncated.{none_yet}
-use Rattle.os_quote.proofs.lemmas.Lines.{unchanged_text}
-use Rattle.os_quote.proofs.lemmas.Escapes.{own_escape}
-use Rattle.os_quote.proofs.lemmas.Unescaping.{own_unescaped}
+use Rattle.os_quote.proofs.lemmas.{Lines.unchanged_text, Escapes.own_escape, Unescaping.own_unescaped}
 use Rattle.os_quote.proofs.read_buffer.write_unescaped_line.Goals as goal
 
 pub returns-in-None-clause-string : goal.returns-in-None-clause-string
@@ -20,10 +17,7 @@ returns-in-None-clause-string g c =
     (subst (λ x. IsTruncated x c.args.buffer.now c.push_truncated.new.buffer c.push_truncated.result) c.as_bytes.ensures.value written)
 
 pub returns-in-Some-clause-string : goal.returns-in-Some-clause-string
-returns-in-Some-clause-string g c =
-    let P = g.E.Platform in
-    let is_text = subst IsUtf8 (sym c.as_bytes-in-Some.ensures.value) c.utf8.text in
-    subst (λ x. IfOk c.write_by.result (λ count. IsUnescapedBy stays_on_line P.well_formed P.units x c.args.buffer.now c.write_by.new.buffer count)) c.as_bytes-in-Some.ensures.value (c.write_by.ensures.string is_text)
+returns-in-Some-clause-string g c = grind (arith, stays_on_line)
 
 pub returns-in-Some-clause-fault : goal.returns-in-Some-clause-fault
 returns-in-Some-clause-fault g c =

@@ -1,6 +1,5 @@
 use Rattle.os_quote.proofs.Common.{◌≡◌, ◌≤◌, true, false, [], length, take, drop, take_at, sym, ap, ◌∙◌, subst, arith, IsUtf8, shown_by, IsEscapeBy, IsRead, are_chunks_of}
-use Rattle.os_quote.proofs.lemmas.Readings.{no_escape}
-use Rattle.os_quote.proofs.lemmas.Unescaping.{read_is_short, read_fits}
+use Rattle.os_quote.proofs.lemmas.{Readings.no_escape, Unescaping.read_is_short, Unescaping.read_fits}
 use Rattle.os_quote.proofs.read_string.from_items.Goals as goal
 
 pub returns-else-is_unescaped-clause-fault : goal.returns-else-is_unescaped-clause-fault

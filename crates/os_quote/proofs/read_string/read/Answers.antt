@@ -1,17 +1,12 @@
-use Rattle.os_quote.proofs.Common.{◌++◌, arith, shown_by, item_bytes, token_item}
+use Rattle.os_quote.proofs.Common.{common_steps, nat_tests, ◌++◌, arith, shown_by, item_bytes, token_item}
 use Rattle.os_quote.proofs.lemmas.Unescaping.{room_for_prefix, room_for_token, more_bytes_read, all_bytes_read, bad_bytes_read}
 use Rattle.os_quote.proofs.read_string.read.Goals as goal
 
 pub returns-in_default-first_token : goal.returns-in_default-first_token
-returns-in_default-first_token c =
-    let so_far = c.loop-prefix.invariant in
-    bad_bytes_read (shown_by c.args.form) _ so_far.0 _ _ _ so_far.1 c.in-Some.ensures c.in_default-first_token.ensures
+returns-in_default-first_token c = grind (arith, bad_bytes_read, shown_by)
 
 pub push_truncated-count-requires : goal.push_truncated-count-requires
-push_truncated-count-requires c =
-    let so_far = c.loop-prefix.invariant in
-    let room = room_for_prefix (shown_by c.args.form) _ so_far.0 _ _ _ c.loop-prefix.count so_far.1 c.in-Some.ensures so_far.2.count_is in
-    omega (arith, room)
+push_truncated-count-requires c = grind (arith, room_for_prefix, shown_by)
 
 pub push_decoded-count-requires : goal.push_decoded-count-requires
 push_decoded-count-requires c =
@@ -37,16 +32,7 @@ loop-prefix-preserved c =
     )
 
 pub push_truncated-requires : goal.push_truncated-requires
-push_truncated-requires c =
-    let so_far = c.loop-prefix.invariant in
-    omega (arith, so_far.1.short, so_far.2.count_is)
+push_truncated-requires c = grind (arith, nat_tests, common_steps)
 
 pub returns : goal.returns
-returns c =
-    let so_far = c.loop-prefix.invariant in
-    let decoded = so_far.0 in
-    let rest = c.loop-prefix.rest.now in (
-      decoded ++ rest,
-      all_bytes_read (shown_by c.args.form) _ decoded rest so_far.1 c.in_default.ensures,
-      c.push_truncated.ensures.written decoded c.args.buffer.now so_far.2,
-    )
+returns c = grind (arith, all_bytes_read, shown_by)

@@ -1,6 +1,5 @@
 use Rattle.os_quote.proofs.Common.{[], ◌∙◌, sym, subst, IsUtf8-nil, IsEscape, is_any}
-use Rattle.os_quote.proofs.lemmas.Texts.{own_text}
-use Rattle.os_quote.proofs.lemmas.Escapes.{own_escape}
+use Rattle.os_quote.proofs.lemmas.{Texts.own_text, Escapes.own_escape}
 use Rattle.os_quote.proofs.read_string.unescape.Goals as goal
 
 pub returns-in_ok-to_owned-in-None-clause-string : goal.returns-in_ok-to_owned-in-None-clause-string

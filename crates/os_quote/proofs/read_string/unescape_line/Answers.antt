@@ -1,6 +1,5 @@
 use Rattle.os_quote.proofs.Common.{[], ◌∙◌, sym, subst, arith, IsUtf8-nil, IsLineEscape, stays_on_line}
-use Rattle.os_quote.proofs.lemmas.Lines.{unchanged_text, cut_is_shorter}
-use Rattle.os_quote.proofs.lemmas.Escapes.{own_escape}
+use Rattle.os_quote.proofs.lemmas.{Lines.unchanged_text, Lines.cut_is_shorter, Escapes.own_escape}
 use Rattle.os_quote.proofs.read_string.unescape_line.Goals as goal
 
 pub returns-in_ok-to_owned-in-None-clause-string : goal.returns-in_ok-to_owned-in-None-clause-string

@@ -1,4 +1,4 @@
-use Rattle.os_quote.proofs.Common.{sym, subst, IsCutAtFirst, IsCutAtBackslash}
+use Rattle.os_quote.proofs.Common.{arith, subst, IsCutAtFirst}
 use Rattle.os_quote.proofs.lemmas.Readings.{cut_of_text}
 use Rattle.os_quote.proofs.read_token.split_backslash.Goals as goal
 
@@ -15,10 +15,4 @@ from_utf8_unchecked-requires-2 c =
     (cut_of_text c.args.text.now prefix following c.utf8.text (subst (λ x. IsCutAtFirst x prefix following) c.as_bytes.ensures.value c.in-Some.ensures)).after_text
 
 pub returns : goal.returns
-returns c =
-    let text = c.args.text.now in
-    let prefix = c.in-Some.prefix.now in
-    let following = c.in-Some.following.now in
-    let cut = cut_of_text text prefix following c.utf8.text (subst (λ x. IsCutAtFirst x prefix following) c.as_bytes.ensures.value c.in-Some.ensures) in
-    subst (λ x. IsCutAtBackslash text x c.from_utf8_unchecked-2.result.now) (sym c.from_utf8_unchecked.ensures)
-    (subst (IsCutAtBackslash text prefix) (sym c.from_utf8_unchecked-2.ensures) cut)
+returns c = grind (arith, cut_of_text)

@@ -1,6 +1,5 @@
 use Rattle.os_quote.proofs.Common.{◌++◌, ◌∙◌, ap, text_escape, item_text, stays_on_line}
-use Rattle.os_quote.proofs.lemmas.Pushing.{hidden_token}
-use Rattle.os_quote.proofs.lemmas.Lines.{unchanged_text, up_to_hidden, cut_is_shorter}
+use Rattle.os_quote.proofs.lemmas.{Pushing.hidden_token, Lines.unchanged_text, Lines.up_to_hidden, Lines.cut_is_shorter}
 use Rattle.os_quote.proofs.write_walk.split_at_hidden.Goals as goal
 
 pub returns-in_default : goal.returns-in_default

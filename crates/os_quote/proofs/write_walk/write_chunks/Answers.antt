@@ -1,7 +1,6 @@
 use Rattle.os_quote.proofs.Common.{ap, ◌∙◌, refl, item_texts, shown_by, items_of}
 use Rattle.std.proofs.lemmas.Result.{err_from_is_err_and}
-use Rattle.os_quote.proofs.lemmas.Escapes.{next_text}
-use Rattle.os_quote.proofs.lemmas.Taking.{nothing_taken, one_taken, all_taken, room_left, none_taken}
+use Rattle.os_quote.proofs.lemmas.{Escapes.next_text, Taking.nothing_taken, Taking.one_taken, Taking.all_taken, Taking.room_left, Taking.none_taken}
 use Rattle.os_quote.proofs.write_walk.write_chunks.Goals as goal
 
 pub loop-part-init : goal.loop-part-init

@@ -1,15 +1,10 @@
 use Rattle.os_quote.proofs.Common.{[], append-nil, ◌∙◌, ap, sym, arith, length, length-append, IsUtf8-nil, shown_by, escape_of}
 use Rattle.std.proofs.lemmas.Result.{err_from_is_err_and}
-use Rattle.os_quote.proofs.lemmas.Escapes.{no_units_of_none}
-use Rattle.os_quote.proofs.lemmas.Prefixes.{rest_formed, plain_first}
-use Rattle.os_quote.proofs.lemmas.Taking.{nothing_taken, one_taken, last_taken, room_left, none_taken}
+use Rattle.os_quote.proofs.lemmas.{Escapes.no_units_of_none, Prefixes.rest_formed, Prefixes.plain_first, Taking.nothing_taken, Taking.one_taken, Taking.last_taken, Taking.room_left, Taking.none_taken}
 use Rattle.os_quote.proofs.write_walk.write_escape_to.Goals as goal
 
 pub loop-plain-init : goal.loop-plain-init
-loop-plain-init g c = (
-  c.as_encoded_bytes-rest.ensures.formed,
-  nothing_taken g.S.Sink.rules _ _ _ (ap (escape_of (shown_by c.args.form) g.E.Platform.units) c.as_encoded_bytes-rest.ensures.value),
-)
+loop-plain-init g c = grind (arith, nothing_taken, escape_of, shown_by)
 
 pub take-requires : goal.take-requires
 take-requires g c =

@@ -1,7 +1,6 @@
 use Rattle.os_quote.proofs.Common.{refl}
 use Rattle.std.proofs.lemmas.Result.{err_from_is_err_and}
-use Rattle.os_quote.proofs.lemmas.Pushing.{cut_escape}
-use Rattle.os_quote.proofs.lemmas.Taking.{one_taken, last_taken, room_left, none_taken}
+use Rattle.os_quote.proofs.lemmas.{Pushing.cut_escape, Taking.one_taken, Taking.last_taken, Taking.room_left, Taking.none_taken}
 use Rattle.os_quote.proofs.write_walk.write_shown_text.Goals as goal
 
 pub write_unchanged-requires : goal.write_unchanged-requires

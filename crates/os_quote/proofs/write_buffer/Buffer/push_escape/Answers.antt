@@ -1,14 +1,9 @@
 use Rattle.os_quote.proofs.Common.{arith, bytes, shown_by, are_chunks_of}
-use Rattle.os_quote.proofs.lemmas.ItemLengths.{escape_is_short}
-use Rattle.os_quote.proofs.lemmas.Pushing.{all_pushed_to}
+use Rattle.os_quote.proofs.lemmas.{ItemLengths.escape_is_short, Pushing.all_pushed_to}
 use Rattle.os_quote.proofs.write_buffer.Buffer.push_escape.Goals as goal
 
 pub write_escape_to-requires : goal.write_escape_to-requires
-write_escape_to-requires g c =
-    let P = g.E.Platform in
-    let laws = g.met.E.Platform.laws in
-    let short = escape_is_short (shown_by c.args.form) P.well_formed P.units P.part_units g.met.E.Platform.parts (are_chunks_of P.well_formed laws.cut_prefix laws.cut_suffix) (bytes c.args.string) c.args.string.ok in
-    omega (arith, short, c.requires)
+write_escape_to-requires g c = grind (arith, escape_is_short, shown_by, are_chunks_of, bytes)
 
 pub returns-clause-same_reference : goal.returns-clause-same_reference
 returns-clause-same_reference g c = (all_pushed_to c.args.self.now c.write_escape_to.new.sink _ c.write_escape_to.result c.write_escape_to.ensures).0
