@@ -14,6 +14,7 @@ from typing import Callable, Iterable, Iterator, Sequence
 from smoke import (
     BAD_ESCAPE,
     BAD_LINE,
+    BAD_PATTERN,
     FAULTY,
     HAS_NUL,
     NO_ROOM,
@@ -326,6 +327,17 @@ def windows_line(osb: CDLL, arguments: str, wanted: str) -> Answers:
     yield wide_text(wide_answer(call, room)), wanted
 
 
+def glob(
+    osb: CDLL, pattern: str, path: str, separators: str, dot: str, escapes: str, ignore_case: str, answer: str
+) -> Answers:
+    options = (0, 1, 3)[int(separators)] + 4 * int(dot) + 8 * int(escapes) + 32 * int(ignore_case)
+    patterns, paths, told, count = raw(pattern) + b"\0", raw(path) + b"\0", create_string_buffer(1), c_size_t()
+    given = patterns, len(patterns), paths, len(paths)
+    status = osb.osb_glob_matches(UNIX, options, *given, told, 1, byref(count), None)
+    assert status in (OK, BAD_PATTERN) and (status != OK or count.value == 1), status
+    yield str(told.raw[0]) if status == OK else "error", answer
+
+
 FILES = {
     "windows_decode": decode,
     "windows_encode": encode,
@@ -344,6 +356,8 @@ FILES = {
     "windows_split": windows_split,
     "windows_quote": windows_quote,
     "windows_line": windows_line,
+    "glob": glob,
+    "glob-symbols": glob,
 }
 
 

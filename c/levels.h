@@ -27,7 +27,8 @@
     each(path_with_added_extension) each(shell_quote)                                              \
     each(shell_quote_line) each(fish_quote) each(powershell_quote) each(shell_words)               \
     each(windows_quote) each(windows_quote_name) each(windows_arguments) each(option) each(flag)    \
-    each(split_fill) each(rsplit_fill) each(chunks_fill) each(symbols_fill)
+    each(split_fill) each(rsplit_fill) each(chunks_fill) each(symbols_fill)             \
+    each(glob_matches)
 
 #define DECLARED(name)                                                                             \
     __attribute__((visibility("hidden"))) __typeof__(osb_core_##name) osb_core_##name##_v1,        \
@@ -131,3 +132,4 @@ __attribute__((constructor(101))) static void choose(void) {
 #define osb_core_rsplit_fill CHOSEN(rsplit_fill)
 #define osb_core_chunks_fill CHOSEN(chunks_fill)
 #define osb_core_symbols_fill CHOSEN(symbols_fill)
+#define osb_core_glob_matches CHOSEN(glob_matches)

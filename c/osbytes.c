@@ -65,6 +65,9 @@ _Static_assert(offsetof(osb_component, start) == 8 && offsetof(osb_component, en
 _Static_assert(sizeof(osb_options) == 40 && offsetof(osb_options, taken) == 16, "osb_options");
 _Static_assert(offsetof(osb_options, at) == 24 && offsetof(osb_options, flags) == 32,
                "osb_options");
+_Static_assert(sizeof(osb_glob_fault) == 24 && offsetof(osb_glob_fault, index) == 8 &&
+                   offsetof(osb_glob_fault, kind) == 16,
+               "osb_glob_fault");
 _Static_assert(sizeof(osb_option) == 24 && offsetof(osb_option, text) == 8, "osb_option");
 
 #pragma GCC visibility push(hidden)
@@ -169,6 +172,9 @@ uint32_t osb_core_flag(const char *word, size_t len, size_t at, struct core_opti
 struct core_block rattle_alloc(size_t len, size_t align);
 struct core_block rattle_realloc(void *at, size_t kept, size_t len, size_t align);
 void rattle_dealloc(void *at);
+uint32_t osb_core_glob_matches(uint32_t platform, uint32_t options, const char *patterns,
+                               size_t patterns_len, const char *paths, size_t paths_len,
+                               uint8_t *matched, size_t room, size_t *count, osb_glob_fault *fault);
 /* Those that fill an array take the address at which the string begins as a number, too, and write views of it. */
 _Static_assert(sizeof(uintptr_t) == sizeof(size_t), "an address is a size_t");
 uint32_t osb_core_split_fill(const char *at, size_t len, const char *pattern, size_t pattern_len,
@@ -1118,4 +1124,21 @@ osb_status osb_symbols_fill(osb_symbols *symbols, osb_symbol *out, size_t room, 
     *count = own.count;
     symbols->next = own.next;
     return OSB_OK;
+}
+
+osb_status osb_glob_matches(osb_platform platform, uint32_t options, const char *patterns,
+                            size_t patterns_len, const char *paths, size_t paths_len,
+                            uint8_t *matched, size_t room, size_t *count, osb_glob_fault *fault) {
+    size_t own = 0;
+    osb_glob_fault own_fault = {0, 0, 0};
+    if (count == NULL || is_bad(patterns, patterns_len) || is_bad(paths, paths_len) ||
+        is_bad(matched, room) || do_overlap(patterns, patterns_len, matched, room) ||
+        do_overlap(paths, paths_len, matched, room))
+        return OSB_BAD_POINTER;
+    osb_status status = osb_core_glob_matches(
+        platform, options, bytes(patterns), patterns_len, bytes(paths), paths_len,
+        room == 0 ? (uint8_t *)no_room : matched, room, &own, &own_fault);
+    if (status == OSB_OK || status == OSB_NO_ROOM) *count = own;
+    if (status == OSB_BAD_PATTERN && fault != NULL) *fault = own_fault;
+    return status;
 }

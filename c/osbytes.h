@@ -71,7 +71,7 @@ enum {
     /* from 16 on: an argument is refused, and nothing was written but maybe into a buffer */
     OSB_BAD_PLATFORM = 16, /* there is no such platform */
     OSB_BAD_PATTERN = 17,  /* the pattern or the escape isn't UTF-8, or the pattern is empty where
-                            * it may not be */
+                            * it may not be; a path pattern has a fault */
     OSB_BAD_INDEX = 18,    /* the index is past the end */
     OSB_BAD_FAULT = 19,    /* there is no such fault */
     OSB_BAD_STATE = 20,    /* no call leaves a checker so */
@@ -412,6 +412,42 @@ osb_status osb_path_with_extension(osb_platform platform, const char *at, size_t
 osb_status osb_path_with_added_extension(osb_platform platform, const char *at, size_t len,
                                          const char *extension, size_t extension_len, char *out,
                                          size_t room, size_t *count);
+
+/* How path patterns are read and matched. Options are added. */
+enum {
+    OSB_GLOB_SLASH = 1,          /* a / separates, which only a / or a component ** matches */
+    OSB_GLOB_BACKSLASH = 2,      /* a \ separates, too; with OSB_GLOB_SLASH alone */
+    OSB_GLOB_LITERAL_DOT = 4,    /* a dot that begins a component is matched by a dot alone */
+    OSB_GLOB_ESCAPES = 8,        /* a \ quotes the next character, if it doesn't separate */
+    OSB_GLOB_CLASS_ESCAPES = 16, /* and in a class, too */
+    OSB_GLOB_ANY_CASE = 32       /* characters that differ in case alone are one */
+};
+
+enum {
+    OSB_GLOB_UNCLOSED_CLASS = 1, /* the index is that of its [ */
+    OSB_GLOB_REVERSED_RANGE = 2, /* as in [z-a]: that of its first letter */
+    OSB_GLOB_UNKNOWN_CLASS = 3,  /* as in [[:foo:]]: that of the [ before the : */
+    OSB_GLOB_DANGLING_ESCAPE = 4,
+    OSB_GLOB_UNCLOSED_BRACE = 5, /* that of the outermost { that isn't closed */
+    OSB_GLOB_UNOPENED_BRACE = 6,
+    OSB_GLOB_TOO_MANY = 7        /* the alternatives are more than 1024 patterns; 0 */
+};
+
+/* The first pattern that has a fault: its number, and the kind and the byte index of its first fault. */
+typedef struct osb_glob_fault {
+    size_t which;
+    size_t index;
+    size_t kind; /* OSB_GLOB_UNCLOSED_CLASS .. */
+} osb_glob_fault;
+
+/* Tells of each path of a list whether one of the patterns of another list matches it: 1, or else 0. In both
+ * lists a 0 byte comes after each item, which the last may lack, as in "*.c\0*.h". OSB_OK, OSB_NO_ROOM,
+ * OSB_NO_MEMORY, OSB_BAD_PATTERN, OSB_FAULTY (a pattern or a path is no string of the platform),
+ * OSB_BAD_OPTION, OSB_BAD_PLATFORM. `*count` is how many paths there are. The patterns are compiled in each
+ * call, so many paths are asked at once. `fault` may be null; it is written with OSB_BAD_PATTERN. */
+osb_status osb_glob_matches(osb_platform platform, uint32_t options, const char *patterns,
+                            size_t patterns_len, const char *paths, size_t paths_len,
+                            uint8_t *matched, size_t room, size_t *count, osb_glob_fault *fault);
 
 /* How many bytes the word of a name of so many bytes has at most, in each shell; SIZE_MAX past that. */
 size_t osb_shell_bound(size_t len);

@@ -63,6 +63,7 @@ class LineFault(Structure):
 UNIX, WINDOWS, WASM = range(3)
 CHARACTER, UNIT = 1, 2
 OK, FAULTY, NO_ROOM, NONE, ENDED, BAD_ESCAPE, NO_STRING, HAS_NUL, BAD_LINE, HAS_QUOTE = range(10)
+BAD_PATTERN = 17
 
 
 def load(name: str) -> CDLL:
@@ -91,6 +92,8 @@ def load(name: str) -> CDLL:
     osb.osb_ends_with_units.argtypes = osb.osb_starts_with_units.argtypes
     osb.osb_compare.argtypes = [c_char_p, c_size_t, c_char_p, c_size_t, POINTER(c_int32)]
     osb.osb_is_boundary.argtypes = [c_char_p, c_size_t, c_size_t]
+    given = [c_char_p, c_size_t]
+    osb.osb_glob_matches.argtypes = [c_uint32, c_uint32, *given, *given, c_char_p, c_size_t, POINTER(c_size_t), c_void_p]
     osb.osb_rsplit_start.argtypes = osb.osb_split_start.argtypes
     osb.osb_rsplit_next.argtypes = osb.osb_split_next.argtypes
     osb.osb_checker_start.argtypes = [POINTER(Checker)]

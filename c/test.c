@@ -1985,6 +1985,102 @@ static void bad_arrays(void) {
     EXPECT(osb_symbols_fill(&symbols, symbol, 1, &count) == OSB_OK && count == 1);
 }
 
+/* What patterns tell of paths, as `wanted`, in every room; and with each request for memory refused. */
+static bool tells(osb_platform platform, uint32_t options, const char *patterns, size_t patterns_len,
+                  const char *paths, size_t paths_len, const char *wanted) {
+    size_t all = strlen(wanted), count = 99;
+    for (size_t room = 0; room < all + 2; room++) {
+        uint8_t told[20] = {77, 77, 77, 77, 77, 77, 77, 77, 77, 77, 77, 77, 77, 77, 77};
+        size_t before = blocks;
+        osb_status status = osb_glob_matches(platform, options, patterns, patterns_len, paths, paths_len,
+                                             room == 0 ? NULL : told, room, &count, NULL);
+        if (count != all || status != (room < all ? OSB_NO_ROOM : OSB_OK) || blocks != before) return false;
+        for (size_t i = 0; i < all && i < room; i++)
+            if (told[i] != wanted[i] - '0') return false;
+        if (told[room < all ? room : all] != 77) return false;
+    }
+#ifdef OSB_WRAPPED
+    uint8_t out[20];
+    for (size_t given = 0;; given++) {
+        size_t before = blocks;
+        count = 99;
+        left = given;
+        osb_status status = osb_glob_matches(platform, options, patterns, patterns_len, paths, paths_len,
+                                             out, sizeof out, &count, NULL);
+        left = SIZE_MAX;
+        if (blocks != before) return false;
+        if (status == OSB_OK) return count == all;
+        if (status != OSB_NO_MEMORY || count != 99) return false;
+    }
+#endif
+    return true;
+}
+#define LIST(s) (s), sizeof(s)
+
+static void globs(void) {
+    const uint32_t usual = OSB_GLOB_SLASH | OSB_GLOB_ESCAPES;
+    EXPECT(tells(OSB_UNIX, usual, TEXT("*.c\0*.h"), TEXT("a.c\0b/a.c\0b.h\0c"), "1010"));
+    EXPECT(tells(OSB_UNIX, usual, LIST("*.c\0*.h"), LIST("a.c\0b/a.c\0b.h\0c"), "1010"));
+    EXPECT(tells(OSB_UNIX, usual, TEXT("**/*.c"), TEXT("a.c\0b/a.c\0\0b.h"), "1100"));
+    EXPECT(tells(OSB_UNIX, usual, NULL, 0, TEXT("a\0"), "0"));
+    EXPECT(tells(OSB_UNIX, usual, TEXT("\0"), TEXT("\0a"), "10"));
+    EXPECT(tells(OSB_UNIX, usual, TEXT("a"), NULL, 0, ""));
+    EXPECT(tells(OSB_UNIX, usual, TEXT("?\0\\*"), TEXT("\xFF\0\xC3\xA9\0*\0ab"), "1110"));
+    EXPECT(tells(OSB_UNIX, OSB_GLOB_ESCAPES, TEXT("*.c"), TEXT("b/a.c"), "1"));
+    EXPECT(tells(OSB_UNIX, OSB_GLOB_SLASH, TEXT("\\*"), TEXT("*\0\\a"), "01"));
+    EXPECT(tells(OSB_UNIX, usual, TEXT("*"), TEXT(".a"), "1"));
+    EXPECT(tells(OSB_UNIX, usual | OSB_GLOB_LITERAL_DOT, TEXT("*"), TEXT(".a"), "0"));
+    EXPECT(tells(OSB_UNIX, usual, TEXT("[\\]]"), TEXT("]\0\\]"), "01"));
+    EXPECT(tells(OSB_UNIX, usual | OSB_GLOB_CLASS_ESCAPES, TEXT("[\\]]"), TEXT("]\0\\]"), "10"));
+    EXPECT(tells(OSB_UNIX, usual, TEXT("a"), TEXT("A"), "0"));
+    EXPECT(tells(OSB_UNIX, usual | OSB_GLOB_ANY_CASE, TEXT("a"), TEXT("A"), "1"));
+    EXPECT(tells(OSB_WINDOWS, OSB_GLOB_SLASH | OSB_GLOB_BACKSLASH, TEXT("a/?"),
+                 TEXT("a\\\xED\xA0\xBD\0a/b\0a"), "110"));
+    EXPECT(tells(OSB_WASM, usual, TEXT("[\xC3\xA9]"), TEXT("\xC3\xA9"), "1"));
+}
+
+static void bad_globs(void) {
+    const uint32_t usual = OSB_GLOB_SLASH | OSB_GLOB_ESCAPES;
+    uint8_t told[4] = {77, 77, 77, 77};
+    char both[16] = "a";
+    size_t count = 99;
+    osb_glob_fault fault = {9, 9, 9};
+#define GLOB(platform, options, ...)                                                               \
+    osb_glob_matches(platform, options, __VA_ARGS__, told, 4, &count, &fault)
+    EXPECT(GLOB(OSB_WINDOWS, usual, TEXT("\xFF"), TEXT("a")) == OSB_FAULTY);
+    EXPECT(GLOB(OSB_WINDOWS, usual, TEXT("a"), TEXT("a\0\xFF")) == OSB_FAULTY);
+    EXPECT(GLOB(OSB_WASM, usual, TEXT("a"), TEXT("\xED\xA0\x80")) == OSB_FAULTY);
+    EXPECT(GLOB(3, usual, TEXT("a"), TEXT("a")) == OSB_BAD_PLATFORM);
+    EXPECT(GLOB(OSB_UNIX, OSB_GLOB_BACKSLASH, TEXT("a"), TEXT("a")) == OSB_BAD_OPTION);
+    EXPECT(GLOB(OSB_UNIX, 64, TEXT("a"), TEXT("a")) == OSB_BAD_OPTION);
+    EXPECT(GLOB(OSB_UNIX, usual, NULL, 1, TEXT("a")) == OSB_BAD_POINTER);
+    EXPECT(GLOB(OSB_UNIX, usual, TEXT("a"), "a", SIZE_MAX) == OSB_BAD_POINTER);
+    EXPECT(osb_glob_matches(0, usual, TEXT("a"), TEXT("a"), NULL, 1, &count, &fault) == OSB_BAD_POINTER);
+    EXPECT(osb_glob_matches(0, usual, TEXT("a"), TEXT("a"), told, 4, NULL, &fault) == OSB_BAD_POINTER);
+    EXPECT(osb_glob_matches(0, usual, both, 4, TEXT("a"), (uint8_t *)both + 3, 4, &count, &fault) ==
+           OSB_BAD_POINTER);
+    EXPECT(osb_glob_matches(0, usual, TEXT("a"), both, 4, (uint8_t *)both + 3, 4, &count, &fault) ==
+           OSB_BAD_POINTER);
+    EXPECT(count == 99 && told[0] == 77 && fault.which == 9 && fault.index == 9 && fault.kind == 9);
+    static const struct {
+        const char *patterns;
+        size_t len, which, index, kind;
+    } FAULTS[] = {
+        {TEXT("a\0b[c"), 1, 1, OSB_GLOB_UNCLOSED_CLASS}, {TEXT("[z-a]\0["), 0, 1, OSB_GLOB_REVERSED_RANGE},
+        {TEXT("[[:foo:]]"), 0, 1, OSB_GLOB_UNKNOWN_CLASS}, {TEXT("a\0b\0\\"), 2, 0, OSB_GLOB_DANGLING_ESCAPE},
+        {TEXT("a{b"), 0, 1, OSB_GLOB_UNCLOSED_BRACE},       {TEXT("a}"), 0, 1, OSB_GLOB_UNOPENED_BRACE},
+        {TEXT("{a,b}{a,b}{a,b}{a,b}{a,b}{a,b}{a,b}{a,b}{a,b}{a,b}{a,b}"), 0, 0, OSB_GLOB_TOO_MANY},
+    };
+    for (size_t i = 0; i < sizeof FAULTS / sizeof *FAULTS; i++) {
+        EXPECT(GLOB(OSB_UNIX, usual, FAULTS[i].patterns, FAULTS[i].len, TEXT("a")) == OSB_BAD_PATTERN);
+        EXPECT(fault.which == FAULTS[i].which && fault.index == FAULTS[i].index && fault.kind == FAULTS[i].kind);
+        EXPECT(osb_glob_matches(0, usual, FAULTS[i].patterns, FAULTS[i].len, TEXT("a"), told, 4, &count, NULL) ==
+               OSB_BAD_PATTERN);
+    }
+    EXPECT(count == 99 && told[0] == 77);
+#undef GLOB
+}
+
 int main(void) {
     checks();
     escapes();
@@ -1992,6 +2088,8 @@ int main(void) {
     symbols();
     filled_arrays();
     bad_arrays();
+    globs();
+    bad_globs();
     views();
     bounds();
     status_texts();

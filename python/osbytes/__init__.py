@@ -56,6 +56,7 @@ from ._errors import (
     ConvertError,
     ExtensionError,
     FaultError,
+    GlobError,
     JoinError,
     LineError,
     MissingValueError,
@@ -65,6 +66,7 @@ from ._errors import (
     QuoteError,
     UnexpectedValueError,
 )
+from ._globs import Glob, GlobFaultKind, GlobFlag, GlobSet
 from ._library import version
 from ._lines import (
     LineKind,
@@ -118,6 +120,11 @@ __all__ = [
     "ConvertError",
     "ExtensionError",
     "FaultError",
+    "Glob",
+    "GlobError",
+    "GlobFaultKind",
+    "GlobFlag",
+    "GlobSet",
     "JoinError",
     "JoinReason",
     "Kind",

@@ -58,6 +58,17 @@ class ExtensionError(OsBytesError):
         super().__init__("the extension has a separator")
 
 
+class GlobError(OsBytesError):
+    """A path pattern with a fault. `which` is how many patterns come before it, and `kind` the number of what is wrong
+    at the byte `index`, as in `GlobFaultKind`."""
+
+    def __init__(self, name: str, kind: int, which: int, index: int) -> None:
+        super().__init__(f"pattern {which}: {name} at byte {index}")
+        self.kind = kind
+        self.which = which
+        self.index = index
+
+
 class NulError(OsBytesError):
     """A name or a line with a NUL, which no word and no argument can have. `index` is that of its first NUL, in its bytes."""
 

@@ -65,6 +65,12 @@ class Part(Structure):
     _fields_ = [("kind", c_size_t), ("start", c_size_t), ("end", c_size_t)]
 
 
+class GlobFault(Structure):
+    """The first pattern that has a fault."""
+
+    _fields_ = [("which", c_size_t), ("index", c_size_t), ("kind", c_size_t)]
+
+
 class LineFault(Structure):
     """Why a line isn't words."""
 
@@ -97,7 +103,7 @@ def views_of(strings: list[bytes]) -> Array[View]:
 
 OK, FAULTY, NO_ROOM, NONE, ENDED, BAD_ESCAPE, NO_STRING, HAS_NUL, BAD_LINE, HAS_QUOTE, UNEXPECTED = range(11)
 NO_MEMORY, BAD_PATH = 11, 12
-BAD_EXTENSION = 23
+BAD_PATTERN, BAD_EXTENSION = 17, 23
 CHARACTER = 1
 FAULT_TEXT_ROOM = 129
 # How many items of an iterator are read at once.
@@ -162,6 +168,7 @@ CALLS: dict[str, list[type]] = {
     "osb_path_with_file_name": PATHS,
     "osb_path_with_extension": PATHS,
     "osb_path_with_added_extension": PATHS,
+    "osb_glob_matches": [c_uint32, c_uint32, *STRING, *STRING, *COUNTED, POINTER(GlobFault)],
     "osb_shell_quote": WORDS,
     "osb_shell_quote_line": WORDS,
     "osb_fish_quote": WORDS,

@@ -220,6 +220,14 @@ def windows_line(arguments: str, wanted: str) -> Answers:
     yield wide(osbytes.windows_command_line(b"E", given)), wanted
 
 
+def glob(pattern: str, path: str, separators: str, dot: str, escapes: str, ignore_case: str, answer: str) -> Answers:
+    flags = (0, 1, 3)[int(separators)] + 4 * int(dot) + 8 * int(escapes) + 32 * int(ignore_case)
+    try:
+        yield str(int(osbytes.Glob(raw(pattern), flags).is_match(raw(path)))), answer
+    except osbytes.GlobError:
+        yield "error", answer
+
+
 FILES = {
     "windows_decode": decode,
     "windows_encode": encode,
@@ -238,6 +246,8 @@ FILES = {
     "windows_split": windows_split,
     "windows_quote": windows_quote,
     "windows_line": windows_line,
+    "glob": glob,
+    "glob-symbols": glob,
 }
 
 

@@ -4,6 +4,7 @@ from __future__ import annotations
 
 import codecs
 import doctest
+import fnmatch
 import getopt
 import ntpath
 import os
@@ -18,7 +19,7 @@ from pathlib import PurePosixPath, PureWindowsPath
 import osbytes
 from osbytes import UNIX, WASM, WINDOWS, BadEscapeError, Character, Checker, FaultError, Kind, LineError, LineKind, NoStringError
 from osbytes import ConvertError, ExtensionError, JoinError, JoinReason, MissingValueError, NulError, Option, OptionKind, Options
-from osbytes import QuoteError, UnexpectedValueError, Unit
+from osbytes import Glob, GlobError, GlobFaultKind, GlobFlag, GlobSet, QuoteError, UnexpectedValueError, Unit
 
 FORMS = [text.encode("utf-8", "surrogatepass") for text in "a,b\\\n\u00e9\u20ac\u2028\U000e0041\ud800\udc00\U0001f600"]
 FORMS += [b"\xc0", b"\xe2\x82", b"\xed", b"\xf4\x90", b"\x80", b"\0"]
@@ -278,6 +279,27 @@ class BesidePython(unittest.TestCase):
         self.assertEqual(next(Options(["-5"], numbers=True)), Option(OptionKind.OPERAND, b"-5"))
         options = Options(["-n\ud83d"], WINDOWS)
         self.assertEqual((next(options).name, options.optional_value()), ("-n", b"\xed\xa0\xbd"))
+
+    def test_globs(self) -> None:
+        numbers = random.Random(65)
+        for _ in range(300):
+            pattern = "".join(numbers.choice(["a", "b", "*", "?", "[ab]", "[!a]", "."]) for _ in range(numbers.randint(0, 6)))
+            names = ["".join(numbers.choice("abc./") for _ in range(numbers.randint(0, 6))) for _ in range(20)]
+            wanted = [fnmatch.fnmatchcase(name, pattern) for name in names]
+            self.assertEqual(Glob(pattern, 0).matches(names), wanted, (pattern, names))
+            self.assertEqual(GlobSet(["aaaaaaa", pattern], 0).matches(names), wanted)
+        self.assertEqual(Glob("a/?", platform=WINDOWS).matches(["a\\\ud83d", "a/b", "ab"]), [True, True, False])
+        self.assertEqual(Glob("a", GlobFlag.ANY_CASE).matches([b"A", b""]), [True, False])
+        self.assertEqual((GlobSet([]).matches(["", "a"]), Glob("").matches([""])), ([False, False], [True]))
+        with self.assertRaises(GlobError) as raised:
+            GlobSet(["a", "b[c"])
+        error = raised.exception
+        self.assertEqual((error.which, error.index, error.kind), (1, 1, GlobFaultKind.UNCLOSED_CLASS))
+        for wrong in (lambda: Glob(b"a\0"), lambda: Glob("a").matches([b"\0"])):
+            self.assertRaises(NulError, wrong)
+        for wrong in (lambda: Glob(b"\xff", platform=WASM), lambda: Glob("a", platform=WINDOWS).is_match(b"\xff")):
+            self.assertRaises(FaultError, wrong)
+        self.assertRaises(ValueError, lambda: Glob("a", GlobFlag.BACKSLASH))
 
     def test_symbols(self) -> None:
         self.assertEqual(list(osbytes.symbols(b"a\xff\xc3\xa9")), [Character("a"), Unit(0xFF), Character("\u00e9")])

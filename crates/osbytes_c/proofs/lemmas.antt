@@ -5,6 +5,8 @@ pub mod CommandLines
 pub mod Conversions
 pub mod Digits
 pub mod Fills
+pub mod Globs
+pub mod ItemLists
 pub mod Lines
 pub mod Options
 pub mod PathParts

@@ -4,6 +4,8 @@ pub mod ChunkFills
 pub mod CommandLines
 pub mod Faults
 pub mod Fills
+pub mod Globs
+pub mod ItemLists
 pub mod Lines
 pub mod Options
 pub mod PartBuffers

@@ -1,0 +1,96 @@
+-- Which paths of a list a pattern of another list matches.
+use Rattle.std.specs.Prelude.{◌≡◌, ◌⊎◌, ◌<◌, ◌/◌, ◌%◌, nat_eq, ℕ, zero, suc, List, [], ◌∷◌}
+use Rattle.std.specs.declared.alloc.Global.{Global}
+use Rattle.wildcards.specs.Sets.{IsHit}
+use Rattle.wildcards.specs.declared.options.Options.{Options}
+use Rattle.wildcards.specs.declared.set.Pattern.{Pattern}
+use Rattle.wildcards.specs.declared.separators.Separators.{Separators}
+use Rattle.wildcards.specs.declared.separators.Separators.TheVariants as separators
+use Rattle.glob_text.specs.declared.fault.FaultKind.{FaultKind}
+use Rattle.glob_text.specs.declared.fault.FaultKind.TheVariants.{UnclosedClass, ReversedRange, UnknownClassName, DanglingEscape, UnclosedAlternatives, UnopenedAlternatives, TooManyChoices}
+use Rattle.glob_text.specs.declared.fault.PatternFault.{PatternFault}
+use Rattle.glob_patterns.specs.GlobSets.{AreMeanings, IsFirstFault}
+use Rattle.glob_patterns.specs.Letters.{letters_of}
+use Rattle.glob_patterns.specs.Options.{options_of, syntax_of}
+use Rattle.glob_patterns.specs.declared.options.GlobOptions.{GlobOptions}
+use Rattle.osbytes_c.specs.declared.globs.GlobFault.{GlobFault}
+use Rattle.osbytes_c.specs.declared.globs.Refusal.{Refusal}
+use Rattle.osbytes_c.specs.declared.globs.Refusal.TheVariants.{Memory, Faulty, Fault}
+use Rattle.osbytes_c.specs.ItemLists.{AreItems, HasOther}
+
+-- the separators with this number: 0 none, 1 `/`, 3 `/` and `\`
+abbrev pub separators_on : ℕ → Separators
+separators_on zero = separators.None
+separators_on (suc zero) = separators.Slash
+separators_on (suc (suc n)) = separators.SlashAndBackslash
+
+-- the options with this number: that of the separators, 4 for a literal leading dot, 8 for a `\` that quotes, 16 for one that does so in a class, 32 for letters without case
+abbrev pub glob_options : ℕ → GlobOptions
+glob_options n = record {
+  separators = separators_on (n % 4);
+  literal_leading_dot = nat_eq (n / 4 % 2) 1;
+  escapes = nat_eq (n / 8 % 2) 1;
+  class_escapes = nat_eq (n / 16 % 2) 1;
+  case_insensitive = nat_eq (n / 32 % 2) 1;
+}
+
+-- there are no such options
+abbrev pub AreNoOptions : ℕ → Type 0
+AreNoOptions n = (63 < n) ⊎ (n % 4 ≡ 2)
+
+-- the number of what is wrong with a pattern
+abbrev pub fault_number : FaultKind → ℕ
+fault_number UnclosedClass = 1
+fault_number ReversedRange = 2
+fault_number UnknownClassName = 3
+fault_number DanglingEscape = 4
+fault_number UnclosedAlternatives = 5
+fault_number UnopenedAlternatives = 6
+fault_number TooManyChoices = 7
+
+-- it is told whether it is so: 1 it is, 0 it isn't
+abbrev pub IsTold : Type 0 → ℕ → Type 0
+IsTold Is answer = (Is × (answer ≡ 1)) ⊎ ((¬ Is) × (answer ≡ 0))
+
+-- the same of each item
+abbrev pub AreTold : (List ℕ → Type 0) → List (List ℕ) → List ℕ → Type 0
+AreTold Is [] [] = Unit {0}
+AreTold Is [] (answer ∷ answers) = ⊥
+AreTold Is (item ∷ items) [] = ⊥
+AreTold Is (item ∷ items) (answer ∷ answers) = IsTold (Is item) answer × AreTold Is items answers
+
+-- a path is matched by one of the compiled patterns
+abbrev pub IsMatched : (List ℕ → List ℕ) → Options → List (Pattern Global) → List ℕ → Type 0
+IsMatched units matching compiled path = (i : ℕ) × IsHit matching compiled (letters_of units path) i
+
+module _ (formed : List ℕ → Type 0) (units : List ℕ → List ℕ) (o : GlobOptions) (patterns : List ℕ) where
+  -- of each path of the list it is told whether one of the patterns of the other matches it
+  pub record AreMatchesTold (paths answers : List ℕ) : Type 0 where
+    pub texts : List (List ℕ)
+    pub are_texts : AreItems patterns texts
+    pub compiled : List (Pattern Global)
+    pub meanings : AreMeanings formed (letters_of units) (syntax_of o) Global texts compiled
+    pub names : List (List ℕ)
+    pub are_names : AreItems paths names
+    pub told : AreTold (IsMatched units (options_of o) compiled) names answers
+
+  -- the first pattern of the list that has a fault, by its number, and its first fault
+  pub record IsGlobFault (fault : GlobFault) : Type 0 where
+    pub texts : List (List ℕ)
+    pub are_texts : AreItems patterns texts
+    pub first : PatternFault
+    pub is : IsFirstFault formed (letters_of units) (syntax_of o) Global texts fault.which first
+    pub kind : fault.kind ≡ fault_number first.kind
+    pub index : fault.index ≡ first.index
+
+  -- why nothing is told: memory was refused, an item is no string, or a pattern has a fault
+  abbrev pub IsRefusal : List ℕ → Refusal → Type 0
+  IsRefusal paths Memory = Unit {0}
+  IsRefusal paths Faulty = HasOther formed patterns ⊎ HasOther formed paths
+  IsRefusal paths (Fault fault) = IsGlobFault fault
+
+-- why a list isn't read: memory was refused, or an item is no string
+abbrev pub IsListRefusal : (List ℕ → Type 0) → List ℕ → Refusal → Type 0
+IsListRefusal formed list Memory = Unit {0}
+IsListRefusal formed list Faulty = HasOther formed list
+IsListRefusal formed list (Fault fault) = ⊥

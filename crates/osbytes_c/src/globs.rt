@@ -1,0 +1,212 @@
+//! Which paths of a list a pattern of another list matches.
+ghost use Rattle.std.specs.Prelude.{◌≡◌, ◌⊎◌, ◌<◌, ◌↔◌, ◌∷◌, [], ℕ, List, map, MatchOption, MatchResult};
+ghost use Rattle.platform_str.specs.Strings.{bytes};
+ghost use Rattle.osbytes_c.specs.Answers.{IsOneOf, IsWritten};
+ghost use Rattle.osbytes_c.specs.Globs.{AreMatchesTold, AreNoOptions, AreTold, IsGlobFault, IsListRefusal, IsMatched, IsRefusal, IsTold, fault_number, glob_options};
+ghost use Rattle.osbytes_c.specs.ItemLists.{AreItems, HasOther};
+ghost use Rattle.osbytes_c.specs.Platforms.{formed_on, units_on};
+
+use crate::built::write_list;
+use crate::item_list::first_item;
+use crate::status::{FAULTY, NO_MEMORY, NO_OPTION, NO_PATTERN, NO_PLATFORM};
+use glob_patterns::{FaultKind, GlobOptions, GlobSet, GlobSetError, Separators};
+use platform_str::{OsStr, Platform, Unix, Wasm, Windows};
+use std::alloc::Global;
+
+/// The first pattern that has a fault, and what is wrong with it.
+#[repr(C)]
+#[derive(Clone, Copy)]
+pub struct GlobFault {
+    /// How many patterns are before it.
+    pub which: usize,
+    /// The byte index in the pattern.
+    pub index: usize,
+    /// 1 a class isn't closed, 2 a range is reversed, 3 the name of a class isn't known, 4 nothing
+    /// comes after a `\`, 5 alternatives aren't closed, 6 a `}` closes none, 7 they are too many.
+    pub kind: usize,
+}
+
+/// Why no answer is given.
+enum Refusal {
+    /// Memory was refused.
+    Memory,
+    /// A pattern or a path is no string of the platform.
+    Faulty,
+    /// A pattern has a fault.
+    Fault(GlobFault),
+}
+
+/// Tells of each path whether a pattern matches it, compiled for the time of the call. Both lists have
+/// a 0 after each item, which the last may lack.
+#[unsafe(no_mangle)]
+pub extern "C" fn osb_core_glob_matches(
+    alloc: Global,
+    platform: u32,
+    options: u32,
+    patterns: &[u8],
+    paths: &[u8],
+    matched: &mut [u8],
+    count: &mut usize,
+    fault: &mut GlobFault,
+) -> u32
+    ensures written { IsWritten result (AreMatchesTold (formed_on platform) (units_on platform)
+        (glob_options options) patterns.now paths.now) matched.old matched.new count.new }
+    ensures strings { result ≡ 1 → HasOther (formed_on platform) patterns.now
+        ⊎ HasOther (formed_on platform) paths.now }
+    ensures pattern { result ≡ 17 → IsGlobFault (formed_on platform) (units_on platform)
+        (glob_options options) patterns.now fault.new }
+    ensures options { (result ≡ 22) ↔ AreNoOptions options }
+    ensures platform { (result ≡ 16) ↔ ((¬ (AreNoOptions options)) × (2 < platform)) }
+    ensures answers { IsOneOf (0 ∷ 2 ∷ 1 ∷ 11 ∷ 17 ∷ 22 ∷ 16 ∷ []) result }
+{
+    let Some(options) = options_of(options) else {
+        return NO_OPTION;
+    };
+    match platform {
+        0 => matches_on::<Unix>(alloc, options, patterns, paths, matched, count, fault),
+        1 => matches_on::<Windows>(alloc, options, patterns, paths, matched, count, fault),
+        2 => matches_on::<Wasm>(alloc, options, patterns, paths, matched, count, fault),
+        _ => NO_PLATFORM,
+    }
+}
+
+/// The options with this number.
+fn options_of(options: u32) -> Option<GlobOptions>
+    ensures options { MatchOption result (AreNoOptions options)
+        (λ read. read ≡ glob_options options) }
+    ensures none { MatchOption result (AreNoOptions options) (λ _. ¬ (AreNoOptions options)) }
+{
+    if options > 63 {
+        return None;
+    }
+    let separators = match options % 4 {
+        0 => Separators::None,
+        1 => Separators::Slash,
+        2 => return None,
+        _ => Separators::SlashAndBackslash,
+    };
+    Some(GlobOptions {
+        separators,
+        literal_leading_dot: options / 4 % 2 == 1,
+        escapes: options / 8 % 2 == 1,
+        class_escapes: options / 16 % 2 == 1,
+        case_insensitive: options / 32 % 2 == 1,
+    })
+}
+
+/// The same on one platform.
+fn matches_on<E: Platform>(
+    alloc: Global,
+    options: GlobOptions,
+    patterns: &[u8],
+    paths: &[u8],
+    matched: &mut [u8],
+    count: &mut usize,
+    fault: &mut GlobFault,
+) -> u32
+    ensures written { IsWritten result (AreMatchesTold E.well_formed E.units options patterns.now
+        paths.now) matched.old matched.new count.new }
+    ensures strings { result ≡ 1 → HasOther E.well_formed patterns.now
+        ⊎ HasOther E.well_formed paths.now }
+    ensures pattern { result ≡ 17 → IsGlobFault E.well_formed E.units options patterns.now
+        fault.new }
+    ensures answers { IsOneOf (0 ∷ 2 ∷ 1 ∷ 11 ∷ 17 ∷ []) result }
+{
+    match told_on::<E>(alloc, options, patterns, paths) {
+        Ok(answers) => write_list(&answers, matched, count),
+        Err(Refusal::Memory) => NO_MEMORY,
+        Err(Refusal::Faulty) => FAULTY,
+        Err(Refusal::Fault(found)) => {
+            *fault = found;
+            NO_PATTERN
+        }
+    }
+}
+
+/// What is told of each path.
+fn told_on<E: Platform>(
+    alloc: Global,
+    options: GlobOptions,
+    patterns: &[u8],
+    paths: &[u8],
+) -> Result<Vec<u8>, Refusal>
+    ensures { MatchResult result
+        (λ answers. AreMatchesTold E.well_formed E.units options patterns.now paths.now
+        answers.items)
+        (λ refusal. IsRefusal E.well_formed E.units options patterns.now paths.now refusal) }
+{
+    let texts = strings_of::<E>(alloc, patterns)?;
+    match GlobSet::new(alloc, options, &texts) {
+        Ok(set) => told_of(alloc, &set, paths),
+        Err(GlobSetError::Memory) => Err(Refusal::Memory),
+        Err(GlobSetError::Pattern(which, fault)) => Err(Refusal::Fault(GlobFault {
+            which,
+            index: fault.index,
+            kind: number_of(fault.kind),
+        })),
+    }
+}
+
+/// The strings that the items of a list are.
+fn strings_of<'a, E: Platform>(alloc: Global, list: &'a [u8]) -> Result<Vec<OsStr<'a, E>>, Refusal>
+    ensures { MatchResult result (λ strings. AreItems list.now (map bytes strings.items))
+        (λ refusal. IsListRefusal E.well_formed list.now refusal) }
+{
+    let mut strings = Vec::new(alloc);
+    let mut left = list;
+    while let Some((item, rest)) = first_item(left) {
+        let Ok(string) = OsStr::<E>::checked(item) else {
+            return Err(Refusal::Faulty);
+        };
+        let Ok(()) = strings.push(string) else {
+            return Err(Refusal::Memory);
+        };
+        left = rest;
+    }
+    Ok(strings)
+}
+
+/// What a set tells of each path of a list.
+fn told_of<E: Platform>(alloc: Global, set: &GlobSet<E>, paths: &[u8]) -> Result<Vec<u8>, Refusal>
+    ensures { MatchResult result
+        (λ answers. (names : List (List ℕ)) × (AreItems paths.now names
+        × AreTold (IsMatched E.units set.now.set.options set.now.set.patterns.items) names
+        answers.items))
+        (λ refusal. IsListRefusal E.well_formed paths.now refusal) }
+{
+    let mut answers = Vec::new(alloc);
+    let mut left = paths;
+    while let Some((item, rest)) = first_item(left) {
+        let Ok(path) = OsStr::<E>::checked(item) else {
+            return Err(Refusal::Faulty);
+        };
+        let Ok(()) = answers.push(answer_of(set, path)) else {
+            return Err(Refusal::Memory);
+        };
+        left = rest;
+    }
+    Ok(answers)
+}
+
+/// What a set tells of a path: 1 a pattern matches it, 0 none does.
+fn answer_of<E: Platform>(set: &GlobSet<E>, path: OsStr<'_, E>) -> u8
+    ensures { IsTold (IsMatched E.units set.now.set.options set.now.set.patterns.items
+        (bytes path.entry)) result }
+{
+    if set.is_match(path) { 1 } else { 0 }
+}
+
+/// The number of what is wrong with a pattern.
+fn number_of(kind: FaultKind) -> usize
+    ensures { result ≡ fault_number kind }
+{
+    match kind {
+        FaultKind::UnclosedClass => 1,
+        FaultKind::ReversedRange => 2,
+        FaultKind::UnknownClassName => 3,
+        FaultKind::DanglingEscape => 4,
+        FaultKind::UnclosedAlternatives => 5,
+        FaultKind::UnopenedAlternatives => 6,
+        FaultKind::TooManyChoices => 7,
+    }
+}
