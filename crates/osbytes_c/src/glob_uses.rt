@@ -21,12 +21,12 @@ pub fn told_in(
 ) -> Result<usize, u32>
     ensures told { IfOk result (λ count. AreMatchesTold (formed_on platform) (units_on platform)
         (glob_options options) patterns.now paths.now (take count buffer.new)) }
-    ensures pattern { IfErr result (λ status. status ≡ 17 → IsGlobFault (formed_on platform)
+    ensures pattern { IfErr result (λ code. code ≡ 17 → IsGlobFault (formed_on platform)
         (units_on platform) (glob_options options) patterns.now fault.new) }
-    ensures strings { IfErr result (λ status. status ≡ 1 → HasOther (formed_on platform) patterns.now
+    ensures strings { IfErr result (λ code. code ≡ 1 → HasOther (formed_on platform) patterns.now
         ⊎ HasOther (formed_on platform) paths.now) }
-    ensures options { IfErr result (λ status. status ≡ 22 → AreNoOptions options) }
-    ensures platform { IfErr result (λ status. status ≡ 16 → 2 < platform) }
+    ensures options { IfErr result (λ code. code ≡ 22 → AreNoOptions options) }
+    ensures platform { IfErr result (λ code. code ≡ 16 → 2 < platform) }
 {
     let mut count = 0;
     match osb_core_glob_matches(
