@@ -28,6 +28,7 @@ from smoke import (
     Component,
     Fault,
     LineFault,
+    Verdict,
     View,
     chunks,
     escape,
@@ -338,6 +339,13 @@ def glob(
     yield str(told.raw[0]) if status == OK else "error", answer
 
 
+def ignore(osb: CDLL, file: str, path: str, is_dir: str, answer: str) -> Answers:
+    lines, paths, flags, told, count = raw(file), raw(path) + b"\0", bytes([int(is_dir)]), Verdict(), c_size_t()
+    given = lines, len(lines), paths, len(paths), flags, 1
+    assert osb.osb_ignore_matches(*given, byref(told), 1, byref(count)) == OK and count.value == 1
+    yield "-iw"[told.kind] + str(told.line or ""), answer
+
+
 FILES = {
     "windows_decode": decode,
     "windows_encode": encode,
@@ -358,6 +366,7 @@ FILES = {
     "windows_line": windows_line,
     "glob": glob,
     "glob-symbols": glob,
+    "ignore": ignore,
 }
 
 

@@ -28,7 +28,7 @@
     each(shell_quote_line) each(fish_quote) each(powershell_quote) each(shell_words)               \
     each(windows_quote) each(windows_quote_name) each(windows_arguments) each(option) each(flag)    \
     each(split_fill) each(rsplit_fill) each(chunks_fill) each(symbols_fill)             \
-    each(glob_matches)
+    each(glob_matches) each(ignore_matches)
 
 #define DECLARED(name)                                                                             \
     __attribute__((visibility("hidden"))) __typeof__(osb_core_##name) osb_core_##name##_v1,        \
@@ -133,3 +133,4 @@ __attribute__((constructor(101))) static void choose(void) {
 #define osb_core_chunks_fill CHOSEN(chunks_fill)
 #define osb_core_symbols_fill CHOSEN(symbols_fill)
 #define osb_core_glob_matches CHOSEN(glob_matches)
+#define osb_core_ignore_matches CHOSEN(ignore_matches)

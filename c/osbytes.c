@@ -65,6 +65,7 @@ _Static_assert(offsetof(osb_component, start) == 8 && offsetof(osb_component, en
 _Static_assert(sizeof(osb_options) == 40 && offsetof(osb_options, taken) == 16, "osb_options");
 _Static_assert(offsetof(osb_options, at) == 24 && offsetof(osb_options, flags) == 32,
                "osb_options");
+_Static_assert(sizeof(osb_verdict) == 16 && offsetof(osb_verdict, line) == 8, "osb_verdict");
 _Static_assert(sizeof(osb_glob_fault) == 24 && offsetof(osb_glob_fault, index) == 8 &&
                    offsetof(osb_glob_fault, kind) == 16,
                "osb_glob_fault");
@@ -175,6 +176,9 @@ void rattle_dealloc(void *at);
 uint32_t osb_core_glob_matches(uint32_t platform, uint32_t options, const char *patterns,
                                size_t patterns_len, const char *paths, size_t paths_len,
                                uint8_t *matched, size_t room, size_t *count, osb_glob_fault *fault);
+uint32_t osb_core_ignore_matches(const char *file, size_t file_len, const char *paths,
+                                 size_t paths_len, const char *dirs, size_t dirs_len,
+                                 osb_verdict *out, size_t room, size_t *count);
 /* Those that fill an array take the address at which the string begins as a number, too, and write views of it. */
 _Static_assert(sizeof(uintptr_t) == sizeof(size_t), "an address is a size_t");
 uint32_t osb_core_split_fill(const char *at, size_t len, const char *pattern, size_t pattern_len,
@@ -1140,5 +1144,23 @@ osb_status osb_glob_matches(osb_platform platform, uint32_t options, const char 
         room == 0 ? (uint8_t *)no_room : matched, room, &own, &own_fault);
     if (status == OSB_OK || status == OSB_NO_ROOM) *count = own;
     if (status == OSB_BAD_PATTERN && fault != NULL) *fault = own_fault;
+    return status;
+}
+
+osb_status osb_ignore_matches(const char *file, size_t file_len, const char *paths,
+                              size_t paths_len, const uint8_t *dirs, size_t dirs_len,
+                              osb_verdict *out, size_t room, size_t *count) {
+    size_t own = 0;
+    osb_verdict none;
+    if (count == NULL || is_bad(file, file_len) || is_bad(paths, paths_len) ||
+        is_bad(dirs, dirs_len) ||
+        is_bad_array(out, room, sizeof none, _Alignof(osb_verdict), (osb_view){file, file_len}) ||
+        do_overlap(out, room * sizeof none, paths, paths_len) ||
+        do_overlap(out, room * sizeof none, dirs, dirs_len))
+        return OSB_BAD_POINTER;
+    osb_status status =
+        osb_core_ignore_matches(bytes(file), file_len, bytes(paths), paths_len,
+                                bytes((const char *)dirs), dirs_len, room == 0 ? &none : out, room, &own);
+    if (status == OSB_OK || status == OSB_NO_ROOM) *count = own;
     return status;
 }

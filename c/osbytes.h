@@ -449,6 +449,26 @@ osb_status osb_glob_matches(osb_platform platform, uint32_t options, const char 
                             size_t patterns_len, const char *paths, size_t paths_len,
                             uint8_t *matched, size_t room, size_t *count, osb_glob_fault *fault);
 
+enum {
+    OSB_NEITHER = 0,
+    OSB_IGNORED = 1, /* also by what is above it */
+    OSB_TAKEN_IN = 2 /* by a line with a ! */
+};
+
+/* What an ignore file says of a path. */
+typedef struct osb_verdict {
+    uint32_t kind; /* OSB_NEITHER, OSB_IGNORED, OSB_TAKEN_IN */
+    size_t line;   /* which line says it, from 1; 0 if none does */
+} osb_verdict;
+
+/* Writes what a file .gitignore at the top of a tree says of each path of a list, as git does: OSB_OK,
+ * OSB_NO_ROOM, OSB_NO_MEMORY. No line is a fault. Paths are bytes from the top of the tree, with a 0 after
+ * each, which the last may lack. A path is a directory if its byte of `dirs`, which may be fewer, isn't 0.
+ * `room` and `*count` count paths. The lines are compiled in each call, so many paths are asked at once. */
+osb_status osb_ignore_matches(const char *file, size_t file_len, const char *paths,
+                              size_t paths_len, const uint8_t *dirs, size_t dirs_len,
+                              osb_verdict *out, size_t room, size_t *count);
+
 /* How many bytes the word of a name of so many bytes has at most, in each shell; SIZE_MAX past that. */
 size_t osb_shell_bound(size_t len);
 

@@ -56,6 +56,10 @@ class Component(Structure):
     _fields_ = [("kind", c_size_t), ("start", c_size_t), ("end", c_size_t)]
 
 
+class Verdict(Structure):
+    _fields_ = [("kind", c_uint32), ("line", c_size_t)]
+
+
 class LineFault(Structure):
     _fields_ = [("kind", c_uint32), ("index", c_size_t)]
 
@@ -93,6 +97,7 @@ def load(name: str) -> CDLL:
     osb.osb_compare.argtypes = [c_char_p, c_size_t, c_char_p, c_size_t, POINTER(c_int32)]
     osb.osb_is_boundary.argtypes = [c_char_p, c_size_t, c_size_t]
     given = [c_char_p, c_size_t]
+    osb.osb_ignore_matches.argtypes = [*given, *given, *given, POINTER(Verdict), c_size_t, POINTER(c_size_t)]
     osb.osb_glob_matches.argtypes = [c_uint32, c_uint32, *given, *given, c_char_p, c_size_t, POINTER(c_size_t), c_void_p]
     osb.osb_rsplit_start.argtypes = osb.osb_split_start.argtypes
     osb.osb_rsplit_next.argtypes = osb.osb_split_next.argtypes

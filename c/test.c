@@ -2081,6 +2081,70 @@ static void bad_globs(void) {
 #undef GLOB
 }
 
+/* What a file says of paths, of which the directories are flagged: a letter and the line of each, in every room. */
+static bool ignores(const char *file, size_t file_len, const char *paths, size_t paths_len, const char *dirs,
+                    const char *wanted) {
+    size_t all = strlen(wanted) / 2, count = 99, dirs_len = strlen(dirs);
+    uint8_t flags[9] = {0};
+    osb_verdict out[9];
+    for (size_t i = 0; i < dirs_len; i++) flags[i] = (uint8_t)(dirs[i] - '0');
+    for (size_t room = 0; room < all + 2; room++) {
+        size_t before = blocks;
+        for (size_t i = 0; i < 9; i++) out[i].line = 77;
+        osb_status status = osb_ignore_matches(file, file_len, paths, paths_len, flags, dirs_len,
+                                               room == 0 ? NULL : out, room, &count);
+        if (count != all || status != (room < all ? OSB_NO_ROOM : OSB_OK) || blocks != before) return false;
+        for (size_t i = 0; i < all && i < room; i++)
+            if (out[i].kind != (uint32_t)(wanted[2 * i] == '-' ? 0 : wanted[2 * i] == 'i' ? 1 : 2) ||
+                out[i].line != (size_t)(wanted[2 * i + 1] - '0'))
+                return false;
+        if (out[room < all ? room : all].line != 77) return false;
+    }
+#ifdef OSB_WRAPPED
+    for (size_t given = 0;; given++) {
+        size_t before = blocks;
+        count = 99;
+        left = given;
+        osb_status status =
+            osb_ignore_matches(file, file_len, paths, paths_len, flags, dirs_len, out, 9, &count);
+        left = SIZE_MAX;
+        if (blocks != before) return false;
+        if (status == OSB_OK) return count == all;
+        if (status != OSB_NO_MEMORY || count != 99) return false;
+    }
+#endif
+    return true;
+}
+
+static void ignore_files(void) {
+    EXPECT(ignores(TEXT("*.log\ntarget/\n!keep.log\n"), TEXT("a/b.log\0target\0target\0target/keep.log\0keep.log\0c"),
+                   "001", "i1-0i2i2w3-0"));
+    EXPECT(ignores(TEXT("/build\n!build/out\ndoc/**\n!doc/*/"), TEXT("build/out\0doc/a\0doc/a\0doc/a/b\0"), "010",
+                   "i1w4i3i3"));
+    EXPECT(ignores(NULL, 0, TEXT("a\0b"), "", "-0-0"));
+    EXPECT(ignores(TEXT("a"), NULL, 0, "1", ""));
+    EXPECT(ignores(TEXT("\xFF*"), TEXT("\xFF" "a\0\0a"), "", "i1-0-0"));
+    union {
+        char text[32];
+        osb_verdict verdicts[2];
+    } both = {"a"};
+    osb_verdict out[2] = {{9, 77}, {9, 77}};
+    size_t count = 99;
+    const uint8_t *dirs = (const uint8_t *)both.text;
+    EXPECT(osb_ignore_matches(NULL, 1, TEXT("a"), NULL, 0, out, 2, &count) == OSB_BAD_POINTER);
+    EXPECT(osb_ignore_matches(TEXT("a"), NULL, 1, NULL, 0, out, 2, &count) == OSB_BAD_POINTER);
+    EXPECT(osb_ignore_matches(TEXT("a"), TEXT("a"), NULL, 1, out, 2, &count) == OSB_BAD_POINTER);
+    EXPECT(osb_ignore_matches(TEXT("a"), TEXT("a"), NULL, 0, NULL, 1, &count) == OSB_BAD_POINTER);
+    EXPECT(osb_ignore_matches(TEXT("a"), TEXT("a"), NULL, 0, out, 2, NULL) == OSB_BAD_POINTER);
+    EXPECT(osb_ignore_matches(TEXT("a"), TEXT("a"), NULL, 0, out, SIZE_MAX, &count) == OSB_BAD_POINTER);
+    EXPECT(osb_ignore_matches(TEXT("a"), TEXT("a"), NULL, 0, (osb_verdict *)((char *)out + 4), 1, &count) ==
+           OSB_BAD_POINTER);
+    EXPECT(osb_ignore_matches(both.text, 32, TEXT("a"), NULL, 0, both.verdicts, 1, &count) == OSB_BAD_POINTER);
+    EXPECT(osb_ignore_matches(TEXT("a"), both.text, 32, NULL, 0, both.verdicts, 1, &count) == OSB_BAD_POINTER);
+    EXPECT(osb_ignore_matches(TEXT("a"), TEXT("a"), dirs, 32, both.verdicts, 1, &count) == OSB_BAD_POINTER);
+    EXPECT(count == 99 && out[0].line == 77 && both.text[0] == 'a');
+}
+
 int main(void) {
     checks();
     escapes();
@@ -2090,6 +2154,7 @@ int main(void) {
     bad_arrays();
     globs();
     bad_globs();
+    ignore_files();
     views();
     bounds();
     status_texts();

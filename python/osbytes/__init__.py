@@ -67,6 +67,7 @@ from ._errors import (
     UnexpectedValueError,
 )
 from ._globs import Glob, GlobFaultKind, GlobFlag, GlobSet
+from ._ignore import Ignore, Verdict, VerdictKind
 from ._library import version
 from ._lines import (
     LineKind,
@@ -125,6 +126,7 @@ __all__ = [
     "GlobFaultKind",
     "GlobFlag",
     "GlobSet",
+    "Ignore",
     "JoinError",
     "JoinReason",
     "Kind",
@@ -141,6 +143,8 @@ __all__ = [
     "QuoteError",
     "UnexpectedValueError",
     "Unit",
+    "Verdict",
+    "VerdictKind",
     "check",
     "chunks",
     "compare",

@@ -71,6 +71,12 @@ class GlobFault(Structure):
     _fields_ = [("which", c_size_t), ("index", c_size_t), ("kind", c_size_t)]
 
 
+class VerdictRead(Structure):
+    """What an ignore file says of a path."""
+
+    _fields_ = [("kind", c_uint32), ("line", c_size_t)]
+
+
 class LineFault(Structure):
     """Why a line isn't words."""
 
@@ -169,6 +175,7 @@ CALLS: dict[str, list[type]] = {
     "osb_path_with_extension": PATHS,
     "osb_path_with_added_extension": PATHS,
     "osb_glob_matches": [c_uint32, c_uint32, *STRING, *STRING, *COUNTED, POINTER(GlobFault)],
+    "osb_ignore_matches": [*STRING, *STRING, *STRING, POINTER(VerdictRead), c_size_t, POINTER(c_size_t)],
     "osb_shell_quote": WORDS,
     "osb_shell_quote_line": WORDS,
     "osb_fish_quote": WORDS,

@@ -228,6 +228,11 @@ def glob(pattern: str, path: str, separators: str, dot: str, escapes: str, ignor
         yield "error", answer
 
 
+def ignore(file: str, path: str, is_dir: str, answer: str) -> Answers:
+    kind, line = osbytes.Ignore(raw(file)).matched([raw(path) + b"/" * int(is_dir)])[0]
+    yield "-iw"[kind] + str(line or ""), answer
+
+
 FILES = {
     "windows_decode": decode,
     "windows_encode": encode,
@@ -248,6 +253,7 @@ FILES = {
     "windows_line": windows_line,
     "glob": glob,
     "glob-symbols": glob,
+    "ignore": ignore,
 }
 
 

@@ -19,7 +19,7 @@ from pathlib import PurePosixPath, PureWindowsPath
 import osbytes
 from osbytes import UNIX, WASM, WINDOWS, BadEscapeError, Character, Checker, FaultError, Kind, LineError, LineKind, NoStringError
 from osbytes import ConvertError, ExtensionError, JoinError, JoinReason, MissingValueError, NulError, Option, OptionKind, Options
-from osbytes import Glob, GlobError, GlobFaultKind, GlobFlag, GlobSet, QuoteError, UnexpectedValueError, Unit
+from osbytes import Glob, GlobError, GlobFaultKind, GlobFlag, GlobSet, Ignore, QuoteError, UnexpectedValueError, Unit
 
 FORMS = [text.encode("utf-8", "surrogatepass") for text in "a,b\\\n\u00e9\u20ac\u2028\U000e0041\ud800\udc00\U0001f600"]
 FORMS += [b"\xc0", b"\xe2\x82", b"\xed", b"\xf4\x90", b"\x80", b"\0"]
@@ -300,6 +300,14 @@ class BesidePython(unittest.TestCase):
         for wrong in (lambda: Glob(b"\xff", platform=WASM), lambda: Glob("a", platform=WINDOWS).is_match(b"\xff")):
             self.assertRaises(FaultError, wrong)
         self.assertRaises(ValueError, lambda: Glob("a", GlobFlag.BACKSLASH))
+
+    def test_ignore_files(self) -> None:
+        ignore = Ignore(b"*.log\n\xff/\n!keep.log\n")
+        asked = ["a/b.log", b"\xff", b"\xff/", b"\xff/keep.log", "keep.log", ""]
+        self.assertEqual([tuple(verdict) for verdict in ignore.matched(asked)], [(1, 1), (0, 0), (1, 2), (1, 2), (2, 3), (0, 0)])
+        self.assertTrue(ignore.is_ignored("a.log") and not ignore.is_ignored("keep.log"))
+        self.assertEqual(ignore.matched([]), [])
+        self.assertRaises(NulError, lambda: ignore.is_ignored(b"\0"))
 
     def test_symbols(self) -> None:
         self.assertEqual(list(osbytes.symbols(b"a\xff\xc3\xa9")), [Character("a"), Unit(0xFF), Character("\u00e9")])

@@ -6,6 +6,7 @@ pub mod Conversions
 pub mod Digits
 pub mod Fills
 pub mod Globs
+pub mod Ignores
 pub mod ItemLists
 pub mod Lines
 pub mod Options

@@ -5,6 +5,7 @@ pub mod CommandLines
 pub mod Faults
 pub mod Fills
 pub mod Globs
+pub mod Ignores
 pub mod ItemLists
 pub mod Lines
 pub mod Options

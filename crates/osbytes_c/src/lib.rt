@@ -5,11 +5,12 @@
 //! their order, one step of each iterator: [`split`], [`chunks`] and [`symbols`], and many at once:
 //! [`split_fill`], [`chunks_fill`] and [`symbols_fill`], [`paths`] and [`path_tests`] paths, whose
 //! components [`path_parts`] finds and [`part_list`] writes, [`path_joins`], [`path_forms`] and
-//! [`path_names`] paths that are built of others, [`globs`] path patterns, and [`shell`] and
-//! [`powershell`] words of a shell, [`shell_words`] lines of them, [`windows_quote`],
-//! [`windows_name`] and [`windows_arguments`] command lines of Windows, and [`options`] options and
-//! operands. [`laws`] says what whole walks and whole lines give, [`fill_laws`] what filled arrays
-//! hold, and [`uses`], [`fill_uses`], [`line_uses`], [`path_uses`] and [`glob_uses`] conclude from it.
+//! [`path_names`] paths that are built of others, [`globs`] path patterns, [`ignores`] ignore files,
+//! and [`shell`] and [`powershell`] words of a shell, [`shell_words`] lines of them,
+//! [`windows_quote`], [`windows_name`] and [`windows_arguments`] command lines of Windows, and
+//! [`options`] options and operands. [`laws`] says what whole walks and whole lines give,
+//! [`fill_laws`] what filled arrays hold, and [`uses`], [`fill_uses`], [`line_uses`], [`path_uses`],
+//! [`glob_uses`] and [`ignore_uses`] conclude from it.
 //!
 //! A slice crosses as a pointer and a length. Each export takes any values: a platform, a pattern,
 //! an index or a fault that there isn't is answered by a status ([`status`]), so none has a
@@ -31,6 +32,8 @@ pub mod fill_laws;
 pub mod fill_uses;
 pub mod glob_uses;
 pub mod globs;
+pub mod ignore_uses;
+pub mod ignores;
 mod item_list;
 pub mod laws;
 pub mod line_uses;

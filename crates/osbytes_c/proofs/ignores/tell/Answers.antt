@@ -1,0 +1,42 @@
+use Rattle.std.proofs.Common.{[], ◌∷◌, ◌++◌, arith, length-append}
+use Rattle.os_ignore.specs.Ignores.{files_of}
+use Rattle.osbytes_c.specs.Ignores.{IsPathTold}
+use Rattle.osbytes_c.proofs.lemmas.Ignores.{one_more_path}
+use Rattle.osbytes_c.proofs.lemmas.ItemLists.{one_more_item}
+use Rattle.osbytes_c.proofs.ignores.tell.Goals as goal
+
+pub loop-path-preserved : goal.loop-path-preserved
+loop-path-preserved c =
+    let inv = c.loop-path.invariant in
+    let names = inv.0 in
+    let told = inv.1.0 in
+    let path = c.in-Some.path.now in
+    let one = c.told_of-told.result in
+    let flags = c.args.flags.now in
+    let count = c.loop-path.count in
+    let is : IsPathTold (files_of c.args.ignore.now) flags count path one = record {
+      is_dir = c.flag_at.result;
+      flag = c.flag_at.ensures;
+      verdict = c.matched.result;
+      is = c.matched.ensures;
+      tells = c.told_of-told.ensures;
+    } in
+    let more = length-append names (path ∷ []) in (
+      names ++ path ∷ [],
+      (
+        told ++ one ∷ [],
+        (
+          one_more_item c.args.paths.now names c.loop-path.left.now path c.in-Some.rest.now inv.1.1.0 c.in-Some.ensures.first,
+          (
+            one_more_path (files_of c.args.ignore.now) flags 0 count names told path one inv.1.1.1.0 (omega (arith, inv.1.1.1.1.1.0)) is,
+            (
+              c.push-count.ensures.pushes told c.args.out.now inv.1.1.1.1.0,
+              (
+                omega (arith, c.push-count.ensures.count, inv.1.1.1.1.1.0, more),
+                omega (arith, c.push-count.ensures.count, inv.1.1.1.1.1.1, c.in-Some.ensures.shorter),
+              ),
+            ),
+          ),
+        ),
+      ),
+    )

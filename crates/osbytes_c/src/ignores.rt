@@ -1,0 +1,88 @@
+//! Which line of an ignore file decides each path of a list.
+ghost use Rattle.std.specs.Prelude.{◌≡◌, ◌≢◌, ◌↔◌, ◌+◌, ◌<◌, ◌^◌, ◌∷◌, [], length, true, get_or};
+ghost use Rattle.os_ignore.specs.Ignores.{files_of};
+ghost use Rattle.osbytes_c.specs.Answers.{IsDone, IsOneOf};
+ghost use Rattle.osbytes_c.specs.Ignores.{AreToldIn, IsIgnoreTold, PushesTold, Tells};
+
+use crate::item_list::first_item;
+use crate::status::{NO_MEMORY, fits};
+use os_ignore::{Ignore, Verdict};
+use std::alloc::Global;
+
+/// What an ignore file says of a path.
+#[repr(C)]
+#[derive(Clone, Copy)]
+pub struct Told {
+    /// 0 nothing, 1 it is ignored, 2 it is taken in.
+    pub kind: u32,
+    /// The line that decides it, from 1; 0 if none does.
+    pub line: usize,
+}
+
+/// Writes what the lines of a file at the top of a tree say of each path of a list, as far as there
+/// is room, and counts the paths. After each path a 0 comes, which the last may lack. A path is a
+/// directory if its flag is there and isn't 0.
+#[unsafe(no_mangle)]
+pub extern "C" fn osb_core_ignore_matches(
+    alloc: Global,
+    file: &[u8],
+    paths: &[u8],
+    flags: &[u8],
+    out: &mut [Told],
+    count: &mut usize,
+) -> u32
+    ensures written { IsDone result (IsIgnoreTold file.now flags.now paths.now out.old out.new
+        count.new) (length out.old) count.new }
+    ensures answers { IsOneOf (0 ∷ 2 ∷ 11 ∷ []) result }
+{
+    let Ok(ignore) = Ignore::new(alloc, file) else {
+        return NO_MEMORY;
+    };
+    let told = tell(&ignore, paths, flags, out);
+    *count = told;
+    fits(told, out.len())
+}
+
+/// Writes what the files say of each path, as far as there is room, and counts the paths.
+fn tell(ignore: &Ignore, paths: &[u8], flags: &[u8], out: &mut [Told]) -> usize
+    ensures { AreToldIn (files_of ignore.now) flags.now paths.now out.old out.new result }
+{
+    let mut count = 0;
+    let mut left = paths;
+    while let Some((path, rest)) = first_item(left) {
+        let told = told_of(ignore.matched(path, flag_at(flags, count)));
+        count = push(out, count, told);
+        left = rest;
+    }
+    count
+}
+
+/// Whether the flag of this number is there and isn't 0.
+fn flag_at(flags: &[u8], number: usize) -> bool
+    ensures { (result ≡ true) ↔ (get_or flags.now number 0 ≢ 0) }
+{
+    number < flags.len() && flags[number] != 0
+}
+
+/// What is told of a verdict.
+fn told_of(verdict: Verdict) -> Told
+    ensures { Tells verdict result }
+{
+    match verdict {
+        Verdict::Neither => Told { kind: 0, line: 0 },
+        Verdict::Ignored { file: _, line } => Told { kind: 1, line },
+        Verdict::TakenIn { file: _, line } => Told { kind: 2, line },
+    }
+}
+
+/// Appends to an array of so many, as far as there is room.
+fn push(out: &mut [Told], count: usize, told: Told) -> usize
+    requires { count + 1 < 2 ^ 64 }
+    ensures pushes { PushesTold (told ∷ []) out.old count out.new result }
+    ensures count { result ≡ count + 1 }
+{
+    if count < out.len() {
+        out[count] = told;
+    }
+    count + 1
+}
