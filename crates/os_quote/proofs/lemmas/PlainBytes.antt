@@ -67,7 +67,4 @@ pub all_plain : (xs ys : List ℕ) → AllByRecursion IsPlain xs → AllByRecurs
 all_plain [] ys a b = b
 all_plain (x ∷ xs) ys a b = (a.0, all_plain xs ys a.1 b)
 
-pub after_more : (bs prefix rest more following : List ℕ) → IsAfterPlain bs prefix rest → IsAfterPlain rest more following → IsAfterPlain bs (prefix ++ more) following
-after_more bs prefix rest more following a b = grind (arith, all_plain, append_assoc)
-
 pub ruleset plain_bytes = (none_plain, more_plain, one_plain)
