@@ -10,8 +10,9 @@
  *
  * No call keeps state or writes anything but what its arguments say. So every call may run in any
  * thread, if no other thread writes to what it reads or touches what it writes; and in a signal handler
- * too, but for those that build paths (osb_path_join to osb_path_with_added_extension): these take
- * memory by malloc, and free it before they return. No other call takes memory.
+ * too, but for those that build paths (osb_path_join to osb_path_with_added_extension),
+ * osb_glob_matches and osb_ignore_matches: these take memory by malloc, and free it before they
+ * return. No other call takes memory.
  *
  * What a caller owes, since no call can test it:
  *   - (at, len) is len readable bytes, (out, room) is room writable items, for the whole call;
