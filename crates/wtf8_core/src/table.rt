@@ -144,6 +144,17 @@ static CLASSES: [Class; 256] = [
     LeadF5,
 ];
 
+/// A row of the table for a state in which a sequence is open: the states after a continuation from
+/// 80, 90, A0 and B0 on. Any other byte is refused.
+macro_rules! open {
+    ($low80:ident, $low90:ident, $low_a0:ident, $low_b0:ident) => {
+        [
+            Refused, $low80, $low90, $low_a0, $low_b0, Refused, Refused, Refused, Refused, Refused,
+            Refused, Refused, Refused, Refused, Refused, Refused,
+        ]
+    };
+}
+
 /// The state after a byte. Its row is that of the state before the byte, named in the comment above
 /// the row; its column is that of the byte's class, in the order of [`Class`]. The last column
 /// belongs to no class, and makes a row 16 long.
@@ -159,73 +170,31 @@ static NEXT: [[State; 16]; 16] = [
         HighThenEd, TwoMore, AfterF0, AfterF1, AfterF4, AfterF5, Refused,
     ],
     // OneMore
-    [
-        Refused, Between, Between, Between, Between, Refused, Refused, Refused, Refused, Refused,
-        Refused, Refused, Refused, Refused, Refused, Refused,
-    ],
+    open!(Between, Between, Between, Between),
     // TwoMore
-    [
-        Refused, OneMore, OneMore, OneMore, OneMore, Refused, Refused, Refused, Refused, Refused,
-        Refused, Refused, Refused, Refused, Refused, Refused,
-    ],
+    open!(OneMore, OneMore, OneMore, OneMore),
     // AfterE0
-    [
-        Refused, BadThird, BadThird, OneMore, OneMore, Refused, Refused, Refused, Refused, Refused,
-        Refused, Refused, Refused, Refused, Refused, Refused,
-    ],
+    open!(BadThird, BadThird, OneMore, OneMore),
     // AfterEd
-    [
-        Refused, OneMore, OneMore, LastOfHigh, OneMore, Refused, Refused, Refused, Refused,
-        Refused, Refused, Refused, Refused, Refused, Refused, Refused,
-    ],
+    open!(OneMore, OneMore, LastOfHigh, OneMore),
     // HighThenEd
-    [
-        Refused, OneMore, OneMore, LastOfHigh, BadThird, Refused, Refused, Refused, Refused,
-        Refused, Refused, Refused, Refused, Refused, Refused, Refused,
-    ],
+    open!(OneMore, OneMore, LastOfHigh, BadThird),
     // LastOfHigh
-    [
-        Refused, AfterHigh, AfterHigh, AfterHigh, AfterHigh, Refused, Refused, Refused, Refused,
-        Refused, Refused, Refused, Refused, Refused, Refused, Refused,
-    ],
+    open!(AfterHigh, AfterHigh, AfterHigh, AfterHigh),
     // AfterF0
-    [
-        Refused, BadLastTwo, TwoMore, TwoMore, TwoMore, Refused, Refused, Refused, Refused,
-        Refused, Refused, Refused, Refused, Refused, Refused, Refused,
-    ],
+    open!(BadLastTwo, TwoMore, TwoMore, TwoMore),
     // AfterF1
-    [
-        Refused, TwoMore, TwoMore, TwoMore, TwoMore, Refused, Refused, Refused, Refused, Refused,
-        Refused, Refused, Refused, Refused, Refused, Refused,
-    ],
+    open!(TwoMore, TwoMore, TwoMore, TwoMore),
     // AfterF4
-    [
-        Refused, TwoMore, BadLastTwo, BadLastTwo, BadLastTwo, Refused, Refused, Refused, Refused,
-        Refused, Refused, Refused, Refused, Refused, Refused, Refused,
-    ],
+    open!(TwoMore, BadLastTwo, BadLastTwo, BadLastTwo),
     // AfterF5
-    [
-        Refused, BadLastTwo, BadLastTwo, BadLastTwo, BadLastTwo, Refused, Refused, Refused,
-        Refused, Refused, Refused, Refused, Refused, Refused, Refused, Refused,
-    ],
+    open!(BadLastTwo, BadLastTwo, BadLastTwo, BadLastTwo),
     // BadLastTwo
-    [
-        Refused, BadFourth, BadFourth, BadFourth, BadFourth, Refused, Refused, Refused, Refused,
-        Refused, Refused, Refused, Refused, Refused, Refused, Refused,
-    ],
+    open!(BadFourth, BadFourth, BadFourth, BadFourth),
     // BadFourth
-    [
-        Refused, Refused, Refused, Refused, Refused, Refused, Refused, Refused, Refused, Refused,
-        Refused, Refused, Refused, Refused, Refused, Refused,
-    ],
+    open!(Refused, Refused, Refused, Refused),
     // Refused
-    [
-        Refused, Refused, Refused, Refused, Refused, Refused, Refused, Refused, Refused, Refused,
-        Refused, Refused, Refused, Refused, Refused, Refused,
-    ],
+    open!(Refused, Refused, Refused, Refused),
     // BadThird
-    [
-        Refused, Refused, Refused, Refused, Refused, Refused, Refused, Refused, Refused, Refused,
-        Refused, Refused, Refused, Refused, Refused, Refused,
-    ],
+    open!(Refused, Refused, Refused, Refused),
 ];

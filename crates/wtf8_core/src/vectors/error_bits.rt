@@ -5,6 +5,7 @@ ghost use Rattle.wtf8_core.specs.PairBits.{continuation_due, error_bits, pair_bi
 ghost use Rattle.wtf8_core.specs.Neighbours.{EachMayFollow};
 ghost use Rattle.wtf8_core.specs.declared.vectors.Encoding.TheVariants.{Utf8, Wtf8};
 
+use crate::four_copies;
 use crate::vectors::lanes::{
     above, and, are_zero, entries, entries_of_16, high_halves, leading_nonzero, leading_zero, load,
     masked, or, xor, xor_with,
@@ -16,29 +17,18 @@ use std::simd::prelude::*;
 // ("Validating UTF-8 in less than one instruction per byte"). A fault is there if all three tables
 // have its bit. 01: a lead before no continuation; 02: a continuation after ASCII; 04, 08 and 10:
 // overlong of two, three and four bytes, or a lead past F4; 20: past the last code point; 40: a
-// surrogate; 80: a continuation after a continuation. Each table is repeated four times.
+// surrogate; 80: a continuation after a continuation.
 
 /// By the high half of the first byte.
-const FIRST_HIGH: [u8; 64] = [
-    2, 2, 2, 2, 2, 2, 2, 2, 128, 128, 128, 128, 5, 1, 73, 49, 2, 2, 2, 2, 2, 2, 2, 2, 128, 128,
-    128, 128, 5, 1, 73, 49, 2, 2, 2, 2, 2, 2, 2, 2, 128, 128, 128, 128, 5, 1, 73, 49, 2, 2, 2, 2,
-    2, 2, 2, 2, 128, 128, 128, 128, 5, 1, 73, 49,
-];
+const FIRST_HIGH: [u8; 64] = four_copies!(2, 2, 2, 2, 2, 2, 2, 2, 128, 128, 128, 128, 5, 1, 73, 49);
 
 /// By its low half.
-const FIRST_LOW: [u8; 64] = [
-    159, 135, 131, 131, 163, 179, 179, 179, 179, 179, 179, 179, 179, 243, 179, 179, 159, 135, 131,
-    131, 163, 179, 179, 179, 179, 179, 179, 179, 179, 243, 179, 179, 159, 135, 131, 131, 163, 179,
-    179, 179, 179, 179, 179, 179, 179, 243, 179, 179, 159, 135, 131, 131, 163, 179, 179, 179, 179,
-    179, 179, 179, 179, 243, 179, 179,
-];
+const FIRST_LOW: [u8; 64] = four_copies!(
+    159, 135, 131, 131, 163, 179, 179, 179, 179, 179, 179, 179, 179, 243, 179, 179
+);
 
 /// By the high half of the second byte.
-const SECOND_HIGH: [u8; 64] = [
-    1, 1, 1, 1, 1, 1, 1, 1, 158, 174, 230, 230, 1, 1, 1, 1, 1, 1, 1, 1, 1, 1, 1, 1, 158, 174, 230,
-    230, 1, 1, 1, 1, 1, 1, 1, 1, 1, 1, 1, 1, 158, 174, 230, 230, 1, 1, 1, 1, 1, 1, 1, 1, 1, 1, 1,
-    1, 158, 174, 230, 230, 1, 1, 1, 1,
-];
+const SECOND_HIGH: [u8; 64] = four_copies!(1, 1, 1, 1, 1, 1, 1, 1, 158, 174, 230, 230, 1, 1, 1, 1);
 
 /// What is wrong with each second byte after its first.
 #[inline(always)]

@@ -74,6 +74,14 @@ pub fn above<const N: usize>(bytes: Simd<u8, N>, value: u8) -> Simd<u8, N>
     bytes.saturating_sub(Simd::splat(value))
 }
 
+/// A table of 16 entries as [`entries`] has it: four copies.
+#[macro_export]
+macro_rules! four_copies {
+    ($($entry:literal),*) => {
+        [$($entry,)* $($entry,)* $($entry,)* $($entry,)*]
+    };
+}
+
 /// The entries of a table, four copies of 16, at these indices.
 #[inline(always)]
 pub fn entries(table: [u8; 64], indices: u8x64) -> u8x64
