@@ -250,13 +250,7 @@ fn read_bytes(state: State, bits: u32, bytes: &[u8]) -> Result<(State, u32), Enc
     let mut state = state;
     let mut bits = bits;
     for byte in bytes {
-        match read_byte(state, bits, *byte) {
-            Ok((next, joined)) => {
-                state = next;
-                bits = joined;
-            }
-            Err(fault) => return Err(fault),
-        }
+        (state, bits) = read_byte(state, bits, *byte)?;
     }
     Ok((state, bits))
 }

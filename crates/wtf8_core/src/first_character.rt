@@ -32,9 +32,7 @@ fn first_char_of_few(bytes: &[u8]) -> Option<(char, usize)>
     ensures { MatchOption result (StartsWithNoCharacter bytes.now)
         (λ first. IsFirstChar bytes.now first.0 first.1) }
 {
-    let Some((first, after)) = bytes.split_first() else {
-        return None;
-    };
+    let (first, after) = bytes.split_first()?;
     if *first < 0x80 {
         return Some((char::from(*first), 1));
     }
@@ -49,10 +47,10 @@ fn read_first_char(first: u8, after: &[u8]) -> Option<(char, usize)>
         (λ read. IsFirstChar (first ∷ after.now) read.0 read.1) }
 {
     match first_item(false, first, after) {
-        Ok(code_point) => match char::from_u32(code_point) {
-            Some(character) => Some((character, character.len_utf8())),
-            None => None,
-        },
+        Ok(code_point) => {
+            let character = char::from_u32(code_point)?;
+            Some((character, character.len_utf8()))
+        }
         Err(_) => None,
     }
 }
@@ -89,10 +87,7 @@ fn char_of_four(first: u8, second: u8, third: u8, fourth: u8) -> Option<(char, u
         if code_point < 0x800 {
             return None;
         }
-        return match char::from_u32(code_point) {
-            Some(three) => Some((three, 3)),
-            None => None,
-        };
+        return Some((char::from_u32(code_point)?, 3));
     }
     if lead > 0xF4 - LEAST_LEAD {
         return None;
@@ -107,10 +102,7 @@ fn char_of_four(first: u8, second: u8, third: u8, fourth: u8) -> Option<(char, u
     if code_point < 0x1_0000 {
         return None;
     }
-    match char::from_u32(code_point) {
-        Some(four) => Some((four, 4)),
-        None => None,
-    }
+    Some((char::from_u32(code_point)?, 4))
 }
 
 /// The six low bits of a continuation: those of a code point that it has. Of any other byte it is
@@ -131,10 +123,10 @@ pub(crate) fn first_char_len(bytes: &[u8]) -> Option<usize>
     match len_or_fault(bytes) {
         Some(Ok(len)) => Some(len),
         Some(Err(_)) => None,
-        None => match first_char_of_few(bytes) {
-            Some((_, len)) => Some(len),
-            None => None,
-        },
+        None => {
+            let (_, len) = first_char_of_few(bytes)?;
+            Some(len)
+        }
     }
 }
 

@@ -80,12 +80,8 @@ pub fn pair_between(string: &[u8], more: &[u8]) -> Option<u32>
     ensures { MatchOption result ((c : ℕ) → ¬ (IsPairBetween string.now more.now c))
         (λ c. IsPairBetween string.now more.now c) }
 {
-    let Some((low, _)) = split_first_low(more) else {
-        return None;
-    };
-    let Some((_, high)) = split_last_high(string) else {
-        return None;
-    };
+    let (low, _) = split_first_low(more)?;
+    let (_, high) = split_last_high(string)?;
     Some(paired(high, low))
 }
 
@@ -108,13 +104,8 @@ fn split_last_surrogate(string: &[u8]) -> Option<(&[u8], u16)>
         ((prefix : List ℕ) → (c : ℕ) → IsSurrogate c → string.now ≡ prefix ++ encode c → ⊥)
         (λ r. IsSurrogate r.1 × (string.now ≡ r.0.now ++ encode r.1)) }
 {
-    let Some((prefix, last)) = string.split_last_chunk::<3>() else {
-        return None;
-    };
-    let Some(c) = surrogate(last) else {
-        return None;
-    };
-    Some((prefix, c))
+    let (prefix, last) = string.split_last_chunk::<3>()?;
+    Some((prefix, surrogate(last)?))
 }
 
 /// Splits off the high surrogate with which the bytes end: the bytes before it, and the surrogate.
@@ -124,9 +115,7 @@ fn split_last_high(string: &[u8]) -> Option<(&[u8], u16)>
         ((prefix : List ℕ) → (c : ℕ) → IsHigh c → string.now ≡ prefix ++ encode c → ⊥)
         (λ r. IsHigh r.1 × (string.now ≡ r.0.now ++ encode r.1)) }
 {
-    let Some((prefix, c)) = split_last_surrogate(string) else {
-        return None;
-    };
+    let (prefix, c) = split_last_surrogate(string)?;
     if is_high(u32::from(c)) {
         Some((prefix, c))
     } else {
@@ -141,12 +130,8 @@ fn split_first_low(string: &[u8]) -> Option<(u16, &[u8])>
         ((c : ℕ) → (rest : List ℕ) → IsLow c → string.now ≡ encode c ++ rest → ⊥)
         (λ r. IsLow r.0 × (string.now ≡ encode r.0 ++ r.1.now)) }
 {
-    let Some((first, rest)) = string.split_first_chunk::<3>() else {
-        return None;
-    };
-    let Some(c) = surrogate(first) else {
-        return None;
-    };
+    let (first, rest) = string.split_first_chunk::<3>()?;
+    let c = surrogate(first)?;
     if is_low(u32::from(c)) {
         Some((c, rest))
     } else {
@@ -173,9 +158,7 @@ fn last_half(string: &[u8]) -> Option<u16>
         ((prefix : List ℕ) → (c : ℕ) → 0x1_0000 ≤ c → string.now ≡ prefix ++ encode c → ⊥)
         (λ low. (us : List ℕ) × (units_of string.now ≡ us ++ low ∷ [])) }
 {
-    let Some((_, last)) = string.split_last_chunk::<4>() else {
-        return None;
-    };
+    let (_, last) = string.split_last_chunk::<4>()?;
     let [lead, _, third, fourth] = *last;
     if lead < 0xF0 {
         return None;

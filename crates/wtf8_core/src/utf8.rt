@@ -308,10 +308,8 @@ fn fault_in_rest(bytes: &[u8], at: usize) -> Option<(usize, Option<u8>)>
         (λ fault. IsUtf8Fault bytes.now fault.0 fault.1) }
 {
     let (_, rest) = bytes.split_at(at);
-    match fault_by_std(rest) {
-        Some((valid_up_to, error_len)) => Some((at + valid_up_to, error_len)),
-        None => None,
-    }
+    let (valid_up_to, error_len) = fault_by_std(rest)?;
+    Some((at + valid_up_to, error_len))
 }
 
 /// The first fault, by std's reader.

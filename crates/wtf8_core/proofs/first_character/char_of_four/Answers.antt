@@ -34,25 +34,26 @@ returns-then-code_point-lt2048 c rest =
     none_by_three a.first a.second a.third a.fourth rest c.if-first-lt128.false (grind (arith, nat_tests)) (grind (arith, nat_tests))
     (λ h _. grind (arith, nat_tests, h, k, l, c.if-code_point-lt2048.true))
 
-pub returns-in-Some : goal.returns-in-Some
-returns-in-Some c rest =
+pub returns-then-lead-2 : goal.returns-then-lead-2
+returns-then-lead-2 c rest =
     let a = c.args in
     let k = c.low_bits-high.ensures.bits (grind (arith, nat_tests)) in
     let l = c.low_bits-low-then-lead-2.ensures.bits (grind (arith, nat_tests)) in
-    let v = c.in-Some.ensures.value in
-    let is : c.in-Some.three ≡ value_of_three a.first a.second a.third = v.1 ∙ grind (arith, nat_tests, k, l) in
+    let v = c.in_ok-from_u32.ensures.value in
+    let is : c.in_ok-from_u32.field-0 ≡ value_of_three a.first a.second a.third = v.1 ∙ grind (arith, nat_tests, k, l) in
     (char_of_three a.first a.second a.third a.fourth rest c.if-first-lt128.false _ (grind (arith, nat_tests)) (grind (arith, nat_tests))
     (second_of_three a.first a.second a.third (grind (arith, nat_tests)) (grind (arith, nat_tests)) k.0 (subst (λ v. 0x800 ≤ v) is (omega (arith, v.1, c.if-code_point-lt2048.false))) (subst IsScalar (sym v.1 ∙ is) v.0))
     l.0 is).1
 
-pub returns-in-None : goal.returns-in-None
-returns-in-None c rest =
+pub returns-in_err-from_u32 : goal.returns-in_err-from_u32
+returns-in_err-from_u32 c rest =
     let a = c.args in
     let k = c.low_bits-high.ensures.bits (grind (arith, nat_tests)) in
     let l = c.low_bits-low-then-lead-2.ensures.bits (grind (arith, nat_tests)) in
     let is : value_of_three a.first a.second a.third ≡ c.from-then-lead-2.result * 0x1000 + c.low_bits-high.result * 0x40 + c.low_bits-low-then-lead-2.result = grind (arith, nat_tests, k, l) in
-    none_by_three a.first a.second a.third a.fourth rest c.if-first-lt128.false (grind (arith, nat_tests)) (grind (arith, nat_tests))
-    (λ _ s. c.in-None.ensures.value (subst IsScalar is s))
+    rw (c.from_residual.ensures)
+    (none_by_three a.first a.second a.third a.fourth rest c.if-first-lt128.false (grind (arith, nat_tests)) (grind (arith, nat_tests))
+    (λ _ s. c.in_err-from_u32.ensures.value (subst IsScalar is s)))
 
 pub returns-then-lead-3 : goal.returns-then-lead-3
 returns-then-lead-3 c rest =
@@ -74,24 +75,25 @@ returns-then-code_point-lt65536 c rest =
     none_by_four a.first a.second a.third a.fourth rest c.if-first-lt128.false (grind (arith, nat_tests)) (grind (arith, nat_tests))
     (λ h _. grind (arith, nat_tests, h, k, m, l, c.if-code_point-lt65536.true))
 
-pub returns-in-Some-from_u32 : goal.returns-in-Some-from_u32
-returns-in-Some-from_u32 c rest =
+pub returns : goal.returns
+returns c rest =
     let a = c.args in
     let k = c.low_bits-high-2.ensures.bits (grind (arith, nat_tests)) in
     let m = c.low_bits-middle.ensures.bits (grind (arith, nat_tests)) in
     let l = c.low_bits-low-2.ensures.bits (grind (arith, nat_tests)) in
-    let v = c.in-Some-from_u32.ensures.value in
-    let is : c.in-Some-from_u32.four ≡ value_of_four a.first a.second a.third a.fourth = v.1 ∙ grind (arith, nat_tests, k, m, l) in
+    let v = c.in_ok-from_u32-2.ensures.value in
+    let is : c.in_ok-from_u32-2.field-0 ≡ value_of_four a.first a.second a.third a.fourth = v.1 ∙ grind (arith, nat_tests, k, m, l) in
     (char_of_four a.first a.second a.third a.fourth rest c.if-first-lt128.false _ (grind (arith, nat_tests)) (grind (arith, nat_tests))
     (second_of_four a.first a.second a.third a.fourth (grind (arith, nat_tests)) (grind (arith, nat_tests)) k.0 (subst (λ v. 0x1_0000 ≤ v) is (omega (arith, v.1, c.if-code_point-lt65536.false))) (subst IsScalar (sym v.1 ∙ is) v.0))
     m.0 l.0 is).1
 
-pub returns-in-None-from_u32 : goal.returns-in-None-from_u32
-returns-in-None-from_u32 c rest =
+pub returns-in_err-from_u32-2 : goal.returns-in_err-from_u32-2
+returns-in_err-from_u32-2 c rest =
     let a = c.args in
     let k = c.low_bits-high-2.ensures.bits (grind (arith, nat_tests)) in
     let m = c.low_bits-middle.ensures.bits (grind (arith, nat_tests)) in
     let l = c.low_bits-low-2.ensures.bits (grind (arith, nat_tests)) in
     let is : value_of_four a.first a.second a.third a.fourth ≡ c.from-2.result * 0x4_0000 + c.low_bits-high-2.result * 0x1000 + c.low_bits-middle.result * 0x40 + c.low_bits-low-2.result = grind (arith, nat_tests, k, m, l) in
-    none_by_four a.first a.second a.third a.fourth rest c.if-first-lt128.false (grind (arith, nat_tests)) (grind (arith, nat_tests))
-    (λ _ s. c.in-None-from_u32.ensures.value (subst IsScalar is s))
+    rw (c.from_residual-in_err-from_u32-2.ensures)
+    (none_by_four a.first a.second a.third a.fourth rest c.if-first-lt128.false (grind (arith, nat_tests)) (grind (arith, nat_tests))
+    (λ _ s. c.in_err-from_u32-2.ensures.value (subst IsScalar is s)))

@@ -4,11 +4,11 @@ use Rattle.wtf8_core.proofs.lemmas.forms.Shapes.{length-form_surrogate}
 use Rattle.wtf8_core.proofs.lemmas.forms.LastForms.{form_at_start, too_short, same_first, split_off}
 use Rattle.wtf8_core.proofs.halves.split_first_low.Goals as goal
 
-pub returns-in_default : goal.returns-in_default
-returns-in_default c = λ d rest l e. too_short c.args.string.now _ rest 3 c.in_default.ensures.cases (inl (length-form_surrogate d (low_surrogate d l))) e
+pub returns-in_err-first : goal.returns-in_err-first
+returns-in_err-first c = rw (c.from_residual.ensures) (λ d rest l e. too_short c.args.string.now _ rest 3 c.in_err-first.ensures.cases (inl (length-form_surrogate d (low_surrogate d l))) e)
 
-pub returns-in_default-surrogate : goal.returns-in_default-surrogate
-returns-in_default-surrogate c = λ d rest l e. c.in_default-surrogate.ensures d (low_surrogate d l) (form_at_start c.args.string.now c.in-Some.first.now rest d c.in-Some.ensures.cases.0 (length-form_surrogate d (low_surrogate d l)) e)
+pub returns-in_err-c : goal.returns-in_err-c
+returns-in_err-c c = rw (c.from_residual-in_err-c.ensures) (λ d rest l e. c.in_err-c.ensures d (low_surrogate d l) (form_at_start c.args.string.now c.in_ok-first.first.now rest d c.in_ok-first.ensures.cases.0 (length-form_surrogate d (low_surrogate d l)) e))
 
 pub returns-else-is_low : goal.returns-else-is_low
-returns-else-is_low c = λ d rest l e. let q = same_first c.args.string.now _ rest c.in-Some-surrogate.c d (split_off c.args.string.now c.in-Some.first.now c.in-Some.rest.now _ c.in-Some.ensures.cases.0 c.in-Some.ensures.cases.1 c.in-Some-surrogate.ensures.1) e in in_range-false _ _ _ (sym c.is_low.ensures ∙ c.if-is_low.false) (subst IsLow (sym (c.from.ensures ∙ q)) l)
+returns-else-is_low c = λ d rest l e. let q = same_first c.args.string.now _ rest c.in_ok-c.c d (split_off c.args.string.now c.in_ok-first.first.now c.in_ok-first.rest.now _ c.in_ok-first.ensures.cases.0 c.in_ok-first.ensures.cases.1 c.in_ok-c.ensures.1) e in in_range-false _ _ _ (sym c.is_low.ensures ∙ c.if-is_low.false) (subst IsLow (sym (c.from.ensures ∙ q)) l)
