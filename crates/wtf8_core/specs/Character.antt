@@ -1,8 +1,7 @@
 -- Whole characters: the forms before and after which std's `OsStr::slice_encoded_bytes` allows a cut (a valid UTF-8 substring that isn't empty).
 use Rattle.std.specs.Prelude.{◌≡◌, ℕ, ◌+◌, List, length, take, Option, MatchOption}
 use Rattle.std.specs.Char.{IsScalar, encode_utf8}
-use Rattle.wtf8_core.specs.CodePoint.{encode}
-use Rattle.wtf8_core.specs.Occurrence.{OccursAt}
+use Rattle.wtf8_core.specs.{CodePoint.encode, Occurrence.OccursAt}
 
 -- the bytes of s from index i up to index j are a whole character: the form of a scalar value (a code point that is no surrogate)
 pub record WholeCharacter (s : List ℕ) (i j : ℕ) : Type 0 where

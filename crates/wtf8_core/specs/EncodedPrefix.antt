@@ -1,11 +1,8 @@
 -- A prefix of bytes that encodes code points: what vectors find. No contract of another crate names it.
 use Rattle.std.specs.Prelude.{Bool, ◌≡◌, ℕ, ◌-◌, ◌≤◌, List, ◌∷◌, ◌++◌, length, take, drop}
-use Rattle.std.specs.List.{AllByRecursion}
-use Rattle.std.specs.Char.{IsScalar}
-use Rattle.wtf8_core.specs.Surrogate.{is_high}
+use Rattle.std.specs.{List.AllByRecursion, Char.IsScalar}
+use Rattle.wtf8_core.specs.{Surrogate.is_high, Neighbours.EachMayFollow, declared.vectors.Encoding.Encoding}
 use Rattle.wtf8_core.specs.Wtf8.{Encodes, last_or}
-use Rattle.wtf8_core.specs.Neighbours.{EachMayFollow}
-use Rattle.wtf8_core.specs.declared.vectors.Encoding.{Encoding}
 use Rattle.wtf8_core.specs.declared.vectors.Encoding.TheVariants.{Utf8}
 
 -- the bytes before the rest encode code points, of which the last is a high surrogate or not, as `after_high` says

@@ -2,10 +2,7 @@
 use Rattle.std.specs.Prelude.{◌≡◌, ℕ, ◌+◌, if◌then◌else◌, List, [], ◌∷◌, ◌++◌, take, drop, map}
 use Rattle.std.specs.List.{flat_map}
 use Rattle.std.specs.Str.{IsUtf8, IsValidUpTo}
-use Rattle.wtf8_core.specs.Surrogate.{is_surrogate}
-use Rattle.wtf8_core.specs.CodePoint.{encode}
-use Rattle.wtf8_core.specs.Wtf8.{Encodes}
-use Rattle.wtf8_core.specs.Utf8.{IsIllFormedPart}
+use Rattle.wtf8_core.specs.{Surrogate.is_surrogate, CodePoint.encode, Wtf8.Encodes, Utf8.IsIllFormedPart}
 
 -- the bytes of U+FFFD
 abbrev pub replacement : List ℕ

@@ -1,9 +1,7 @@
 -- Units of parts, the strings in which there is no whole character (this project's own).
 use Rattle.std.specs.Prelude.{ℕ, nat_lt, if◌then◌else◌, List, [], ◌∷◌}
 use Rattle.std.specs.List.{All}
-use Rattle.wtf8_core.specs.Surrogate.{IsSurrogate}
-use Rattle.wtf8_core.specs.CodePoint.{encode}
-use Rattle.wtf8_core.specs.Wtf8.{HasNoSurrogatePair}
+use Rattle.wtf8_core.specs.{Surrogate.IsSurrogate, CodePoint.encode, Wtf8.HasNoSurrogatePair}
 
 -- the bytes of a unit of a part: a unit below 100 (hexadecimal) is a byte itself, any other is a surrogate
 abbrev pub unit_bytes : ℕ → List ℕ

@@ -2,8 +2,7 @@
 use Rattle.std.specs.Prelude.{◌≡◌, ℕ, ◌<◌, List, [], ◌∷◌, ◌++◌, length}
 use Rattle.std.specs.Char.{IsScalar}
 use Rattle.std.specs.List.{flat_map, AllByRecursion}
-use Rattle.wtf8_core.specs.Surrogate.{IsSurrogate}
-use Rattle.wtf8_core.specs.CodePoint.{encode}
+use Rattle.wtf8_core.specs.{Surrogate.IsSurrogate, CodePoint.encode}
 use Rattle.wtf8_core.specs.Chunks.{Chunk, joined}
 
 -- a run of surrogates and the scalar values after it, between these others: no two runs are adjacent, so each is maximal

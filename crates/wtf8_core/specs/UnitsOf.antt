@@ -1,10 +1,7 @@
 -- The code points, the units and the lossy text of bytes as functions. `laws::functions` says which relation each of them meets.
 use Rattle.std.specs.Prelude.{ℕ, false, List, [], ◌∷◌, map, Result, Ok, Err}
 use Rattle.std.specs.List.{flat_map}
-use Rattle.wtf8_core.specs.CodePoint.{encode}
-use Rattle.wtf8_core.specs.Wtf8.{units}
-use Rattle.wtf8_core.specs.Lossy.{without_surrogate}
-use Rattle.wtf8_core.specs.Reader.{items_after}
+use Rattle.wtf8_core.specs.{CodePoint.encode, Wtf8.units, Lossy.without_surrogate, Reader.items_after}
 use Rattle.wtf8_core.specs.declared.fault.EncodingError.{EncodingError}
 
 -- the code points among items

@@ -1,9 +1,7 @@
 -- The first fault of bytes that aren't UTF-8 (RFC 3629, section 4), and the maximal ill-formed part (a maximal subpart; Unicode, section 3.9, and std's `Utf8Error`).
 use Rattle.std.specs.Prelude.{◌≡◌, ◌⊎◌, ℕ, ◌+◌, ◌<◌, ◌≤◌, List, ◌++◌, length, take, drop, Option, Some, None, MatchOption, Result, MatchResult}
-use Rattle.std.specs.Char.{IsScalar}
-use Rattle.std.specs.Str.{IsValidUpTo}
-use Rattle.wtf8_core.specs.CodePoint.{encode}
-use Rattle.wtf8_core.specs.Character.{WholeCharacter}
+use Rattle.std.specs.{Char.IsScalar, Str.IsValidUpTo}
+use Rattle.wtf8_core.specs.{CodePoint.encode, Character.WholeCharacter}
 
 -- xs is a prefix of some character's form
 pub record IsPrefixOfCharacter (xs : List ℕ) : Type 0 where

@@ -1,9 +1,7 @@
 //! The code points that bytes encode.
 ghost use Rattle.std.specs.Prelude.{◌≡◌, ℕ, suc, ◌∷◌, ◌+◌, ◌*◌, ◌<◌, ◌≤◌, ◌^◌, [], Ok, Err, drop, IfOk, IfSome, MatchOption, MatchResult};
-ghost use Rattle.wtf8_core.specs.Byte.{needed_continuations};
+ghost use Rattle.wtf8_core.specs.{Byte.needed_continuations, Items.AreItems, Surrogate.is_high};
 ghost use Rattle.std.specs.Iterator.{YieldsFirst, item_count};
-ghost use Rattle.wtf8_core.specs.Items.{AreItems};
-ghost use Rattle.wtf8_core.specs.Surrogate.{is_high};
 ghost use Rattle.wtf8_core.specs.Reader.{with_continuations, continuations, after_item, first_item, is_high_item, IsFirstItem};
 
 use crate::byte::{is_continuation, needed_continuations};

@@ -1,8 +1,7 @@
 //! From 16-bit units to bytes.
 ghost use Rattle.std.specs.Prelude.{◌≡◌, ◌∷◌, ◌<◌, ◌^◌, ◌/◌, ◌%◌, [], drop, MatchOption};
 ghost use Rattle.std.specs.Iterator.{YieldsFirst, item_count};
-ghost use Rattle.wtf8_core.specs.Wtf8.{HasUnits};
-ghost use Rattle.wtf8_core.specs.Decoder.{decoder_bytes};
+ghost use Rattle.wtf8_core.specs.{Wtf8.HasUnits, Decoder.decoder_bytes};
 
 use crate::forms::packed_form;
 use crate::surrogate::{is_pair, paired};

@@ -3,10 +3,8 @@
 ghost use Rattle.std.specs.Prelude.{◌≡◌, ◌∷◌, ◌%◌, ◌<◌, ◌≤◌, ℕ, List, IfSome, MatchOption};
 ghost use Rattle.std.specs.Int.{is_in_range};
 ghost use Rattle.std.specs.Str.Lossy.{second_byte_min, second_byte_max};
-ghost use Rattle.wtf8_core.specs.Byte.{IsContinuation};
+ghost use Rattle.wtf8_core.specs.{Byte.IsContinuation, Covered.StartsWithNoCharacter, Utf8.BeginsWith};
 ghost use Rattle.wtf8_core.specs.Character.{IsCharacterAt, IsFirstChar};
-ghost use Rattle.wtf8_core.specs.Covered.{StartsWithNoCharacter};
-ghost use Rattle.wtf8_core.specs.Utf8.{BeginsWith};
 
 use crate::byte::is_continuation;
 use crate::code_points::first_item;

@@ -1,11 +1,8 @@
 //! Prefixes, suffixes and joins of WTF-8 by units, where half of a surrogate pair counts.
 ghost use Rattle.std.specs.Prelude.{◌≡◌, ◌∷◌, ◌++◌, ◌≤◌, ◌↔◌, ℕ, List, [], IsTrue, MatchOption};
 ghost use Rattle.wtf8_core.specs.Surrogate.{IsHigh, IsLow, IsSurrogate};
-ghost use Rattle.wtf8_core.specs.CodePoint.{encode};
-ghost use Rattle.wtf8_core.specs.Wtf8.{IsWtf8};
-ghost use Rattle.wtf8_core.specs.UnitsOf.{units_of};
+ghost use Rattle.wtf8_core.specs.{CodePoint.encode, Wtf8.IsWtf8, UnitsOf.units_of, Join.IsPairBetween};
 ghost use Rattle.wtf8_core.specs.Occurrence.{IsPrefix, IsSuffix};
-ghost use Rattle.wtf8_core.specs.Join.{IsPairBetween};
 
 use crate::byte::is_continuation;
 use crate::encoder::encode_wide;

@@ -4,22 +4,13 @@
 //! law known there. The laws are about lists of numbers: bytes, code points (`cs`, `ds`) and units
 //! (`us`, `vs`). Indices count bytes.
 ghost use Rattle.std.specs.Prelude.{◌≡◌, ◌↔◌, ◌⊎◌, ◌+◌, ◌-◌, ◌<◌, ◌≤◌, ◌^◌, ◌++◌, length, take, drop, map, ℕ, List, Option, Result, IsTrue};
-ghost use Rattle.std.specs.List.{All};
-ghost use Rattle.std.specs.Char.{encode_utf8};
-ghost use Rattle.std.specs.Ordering.{nat_cmp};
-ghost use Rattle.std.specs.Cmp.Lexicographic.{slice_cmp};
+ghost use Rattle.std.specs.{List.All, Char.encode_utf8, Ordering.nat_cmp, Cmp.Lexicographic.slice_cmp};
 ghost use Rattle.std.specs.Str.{IsUtf8, IsCharBoundary};
 ghost use Rattle.std.specs.Str.Lossy.{utf8_lossy};
-ghost use Rattle.wtf8_core.specs.Byte.{IsByte};
-ghost use Rattle.wtf8_core.specs.CodePoint.{encode};
+ghost use Rattle.wtf8_core.specs.{Byte.IsByte, CodePoint.encode, Checker.IsFaulty, Items.AreItems, Occurrence.OccursAt};
 ghost use Rattle.wtf8_core.specs.Wtf8.{Encodes, IsWtf8, HasUnits};
 ghost use Rattle.wtf8_core.specs.Fault.{IsFirstFault, IsFaultAt};
-ghost use Rattle.wtf8_core.specs.Checker.{IsFaulty};
-ghost use Rattle.wtf8_core.specs.Items.{AreItems};
-ghost use Rattle.wtf8_core.specs.Occurrence.{OccursAt};
-ghost use Rattle.wtf8_core.specs.OccurrenceLaws.{OccurrenceLaws};
-ghost use Rattle.wtf8_core.specs.Character.{WholeCharacter};
-ghost use Rattle.wtf8_core.specs.Boundary.{IsBoundary};
+ghost use Rattle.wtf8_core.specs.{OccurrenceLaws.OccurrenceLaws, Character.WholeCharacter, Boundary.IsBoundary};
 ghost use Rattle.wtf8_core.specs.Chunks.{Chunk, AreChunks};
 ghost use Rattle.wtf8_core.specs.Runs.{AreRuns, form_chunk};
 ghost use Rattle.wtf8_core.specs.Utf8.{IsUtf8Fault, part_end};

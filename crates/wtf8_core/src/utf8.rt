@@ -1,10 +1,8 @@
 //! The first fault of bytes that aren't UTF-8.
 ghost use Rattle.std.specs.Prelude.{◌≡◌, ◌+◌, ◌≤◌, ◌<◌, ◌↔◌, ℕ, MatchOption, MatchResult, IfOk, IsTrue, Some, length, slice_index, take};
 ghost use Rattle.std.specs.Str.{IsUtf8};
-ghost use Rattle.wtf8_core.specs.EncodedPrefix.{KeepsPattern};
-ghost use Rattle.wtf8_core.specs.declared.vectors.Encoding.TheVariants.{Utf8};
+ghost use Rattle.wtf8_core.specs.{EncodedPrefix.KeepsPattern, declared.vectors.Encoding.TheVariants.Utf8, Wtf8.IsWtf8};
 ghost use Rattle.wtf8_core.specs.Utf8.{IsUtf8Fault};
-ghost use Rattle.wtf8_core.specs.Wtf8.{IsWtf8};
 
 use crate::first_character::len_or_fault;
 use crate::vectors::ascii::{ascii_len_at, is_ascii_at, is_ascii_to_end};

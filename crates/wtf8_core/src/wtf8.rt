@@ -1,8 +1,6 @@
 //! The first fault of bytes that aren't WTF-8, and how many bytes are refused with it.
 ghost use Rattle.std.specs.Prelude.{MatchOption};
-ghost use Rattle.wtf8_core.specs.Wtf8.{IsWtf8};
-ghost use Rattle.wtf8_core.specs.Fault.{IsFaultAt};
-ghost use Rattle.wtf8_core.specs.EncodedPrefix.{IsReadUpTo};
+ghost use Rattle.wtf8_core.specs.{Wtf8.IsWtf8, Fault.IsFaultAt, EncodedPrefix.IsReadUpTo};
 
 use crate::code_points::next_item;
 use crate::vectors::Encoding;

@@ -4,9 +4,7 @@
 //! must not rely on its length.
 ghost use Rattle.std.specs.Prelude.{◌≡◌, ◌∷◌, ℕ, suc, ◌+◌, ◌-◌, ◌≤◌, ◌<◌, length, IsTrue, MatchResult, slice_index};
 ghost use Rattle.std.specs.Int.{is_in_range};
-ghost use Rattle.wtf8_core.specs.Wtf8.{last_or};
-ghost use Rattle.wtf8_core.specs.Surrogate.{is_high};
-ghost use Rattle.wtf8_core.specs.declared.vectors.Encoding.{Encoding};
+ghost use Rattle.wtf8_core.specs.{Wtf8.last_or, Surrogate.is_high, declared.vectors.Encoding.Encoding};
 ghost use Rattle.wtf8_core.specs.declared.vectors.Encoding.TheVariants.{Utf8, Wtf8};
 ghost use Rattle.wtf8_core.specs.EncodedPrefix.{IsEncodedPrefix, KeepsPattern};
 ghost use Rattle.wtf8_core.specs.Neighbours.{IsClosed};

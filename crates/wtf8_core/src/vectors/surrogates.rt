@@ -2,8 +2,7 @@
 ghost use Rattle.std.specs.Prelude.{◌≡◌, ℕ, ◌+◌, ◌≤◌, ◌<◌, take, length, slice_index, nat_eq, IsTrue};
 ghost use Rattle.std.specs.Bool.{if◌then◌else◌};
 ghost use Rattle.std.specs.Str.{IsUtf8};
-ghost use Rattle.wtf8_core.specs.Surrogate.{IsSurrogateAt};
-ghost use Rattle.wtf8_core.specs.Wtf8.{IsWtf8};
+ghost use Rattle.wtf8_core.specs.{Surrogate.IsSurrogateAt, Wtf8.IsWtf8};
 
 use crate::byte::is_continuation;
 use crate::vectors::BLOCK;

@@ -1,6 +1,5 @@
 use Rattle.wtf8_core.proofs.Common.{common_steps, rules, ◌≡◌, ℕ, ◌+◌, ◌<◌, [], ◌∷◌, ap, ◌∙◌, arith, encode_ascii, encode_utf8}
-use Rattle.std.proofs.Output.{has_written_styled_append, has_written_styled_of_eq}
-use Rattle.std.proofs.lemmas.Fmt.{decimal_digit, decimal_step}
+use Rattle.std.proofs.{Output.has_written_styled_append, Output.has_written_styled_of_eq, lemmas.Fmt.decimal_digit, lemmas.Fmt.decimal_step}
 use Rattle.wtf8_core.proofs.fault.+write_decimal.Goals as goal
 
 -- a digit's character is one byte

@@ -1,6 +1,5 @@
 use Rattle.wtf8_core.proofs.Common.{◌≡◌, ◌≤◌, ◌+◌, ◌*◌, ◌∙◌, sym, subst, refl, ◌∷◌, IsScalar, IsFirstChar, arith, nat_tests}
-use Rattle.wtf8_core.proofs.lemmas.characters.AtIndices.{ascii_first}
-use Rattle.wtf8_core.proofs.lemmas.characters.ByValue.{value_of_three, value_of_four, none_by_lead, none_of_two, none_of_three, none_of_four, char_of_two, char_of_three, char_of_four, second_of_three, second_of_four, none_by_three, none_by_four}
+use Rattle.wtf8_core.proofs.lemmas.characters.{AtIndices.ascii_first, ByValue.value_of_three, ByValue.value_of_four, ByValue.none_by_lead, ByValue.none_of_two, ByValue.none_of_three, ByValue.none_of_four, ByValue.char_of_two, ByValue.char_of_three, ByValue.char_of_four, ByValue.second_of_three, ByValue.second_of_four, ByValue.none_by_three, ByValue.none_by_four}
 use Rattle.wtf8_core.proofs.first_character.char_of_four.Goals as goal
 
 pub returns-then-first-lt128 : goal.returns-then-first-lt128
@@ -11,8 +10,7 @@ returns-then-first-lt128 c rest =
 
 pub returns-then-low-ge64 : goal.returns-then-low-ge64
 returns-then-low-ge64 c rest =
-    let a = c.args in
-    none_of_two a.first a.second a.third a.fourth rest c.if-first-lt128.false (c.low_bits-low.ensures.none (omega arith))
+    none_of_two c.args.first c.args.second c.args.third c.args.fourth rest c.if-first-lt128.false (c.low_bits-low.ensures.none (omega arith))
 
 pub returns-then-lead : goal.returns-then-lead
 returns-then-lead c rest =
@@ -22,8 +20,7 @@ returns-then-lead c rest =
 
 pub returns-then-high-low : goal.returns-then-high-low
 returns-then-high-low c rest =
-    let a = c.args in
-    none_of_three a.first a.second a.third a.fourth rest c.if-first-lt128.false (grind (arith, nat_tests))
+    none_of_three c.args.first c.args.second c.args.third c.args.fourth rest c.if-first-lt128.false (grind (arith, nat_tests))
     (grind (arith, nat_tests, c.low_bits-high.ensures.none, c.low_bits-low-then-lead-2.ensures.none))
 
 pub returns-then-code_point-lt2048 : goal.returns-then-code_point-lt2048
@@ -57,13 +54,11 @@ returns-in_err-from_u32 c rest =
 
 pub returns-then-lead-3 : goal.returns-then-lead-3
 returns-then-lead-3 c rest =
-    let a = c.args in
-    none_by_lead a.first a.second a.third a.fourth rest c.if-first-lt128.false (λ f. grind (arith, nat_tests, f))
+    none_by_lead c.args.first c.args.second c.args.third c.args.fourth rest c.if-first-lt128.false (λ f. grind (arith, nat_tests, f))
 
 pub returns-then-high-middle : goal.returns-then-high-middle
 returns-then-high-middle c rest =
-    let a = c.args in
-    none_of_four a.first a.second a.third a.fourth rest c.if-first-lt128.false (grind (arith, nat_tests))
+    none_of_four c.args.first c.args.second c.args.third c.args.fourth rest c.if-first-lt128.false (grind (arith, nat_tests))
     (grind (arith, nat_tests, c.low_bits-high-2.ensures.none, c.low_bits-middle.ensures.none, c.low_bits-low-2.ensures.none))
 
 pub returns-then-code_point-lt65536 : goal.returns-then-code_point-lt65536

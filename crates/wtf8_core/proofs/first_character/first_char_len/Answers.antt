@@ -1,6 +1,5 @@
 use Rattle.wtf8_core.proofs.Common.{Some, subst, IsUtf8Fault, BeginsWith}
-use Rattle.wtf8_core.proofs.lemmas.characters.AtIndices.{none_at}
-use Rattle.wtf8_core.proofs.lemmas.texts.StdFaults.{no_char}
+use Rattle.wtf8_core.proofs.lemmas.{characters.AtIndices.none_at, texts.StdFaults.no_char}
 use Rattle.wtf8_core.proofs.first_character.first_char_len.Goals as goal
 
 pub returns-in-Some-Err : goal.returns-in-Some-Err

@@ -1,6 +1,5 @@
 use Rattle.wtf8_core.proofs.Common.{sym, ◌∙◌, refl, false≢true}
-use Rattle.wtf8_core.proofs.lemmas.characters.AtIndices.{ascii_first}
-use Rattle.wtf8_core.proofs.lemmas.characters.FourBytes.{four_first, at_first, at_second, at_third, at_fourth, second_of_two, no_second_of_two, two_long, three_long, four_long}
+use Rattle.wtf8_core.proofs.lemmas.characters.{AtIndices.ascii_first, FourBytes.four_first, FourBytes.at_first, FourBytes.at_second, FourBytes.at_third, FourBytes.at_fourth, FourBytes.second_of_two, FourBytes.no_second_of_two, FourBytes.two_long, FourBytes.three_long, FourBytes.four_long}
 use Rattle.wtf8_core.proofs.first_character.len_or_fault.Goals as goal
 
 pub returns-then-first-lt128 : goal.returns-then-first-lt128

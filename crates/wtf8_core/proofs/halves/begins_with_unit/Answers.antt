@@ -1,5 +1,4 @@
-use Rattle.wtf8_core.proofs.lemmas.units.PrefixTests.{never}
-use Rattle.wtf8_core.proofs.lemmas.units.FirstAndLast.{no_first_item, first_item_err, first_item_ok}
+use Rattle.wtf8_core.proofs.lemmas.units.{PrefixTests.never, FirstAndLast.no_first_item, FirstAndLast.first_item_err, FirstAndLast.first_item_ok}
 use Rattle.wtf8_core.proofs.halves.begins_with_unit.Goals as goal
 
 pub returns-in-None : goal.returns-in-None

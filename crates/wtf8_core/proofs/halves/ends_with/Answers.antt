@@ -1,5 +1,4 @@
-use Rattle.wtf8_core.proofs.lemmas.units.PrefixTests.{never, stripped_suffix, not_stripped_suffix, end_tested}
-use Rattle.wtf8_core.proofs.lemmas.units.PrefixesAndSuffixes.{plain_end, end_plain, low_suffix, low_before}
+use Rattle.wtf8_core.proofs.lemmas.units.{PrefixTests.never, PrefixTests.stripped_suffix, PrefixTests.not_stripped_suffix, PrefixTests.end_tested, PrefixesAndSuffixes.plain_end, PrefixesAndSuffixes.end_plain, PrefixesAndSuffixes.low_suffix, PrefixesAndSuffixes.low_before}
 use Rattle.wtf8_core.proofs.halves.ends_with.Goals as goal
 
 pub returns-in_default : goal.returns-in_default

@@ -1,6 +1,5 @@
 use Rattle.wtf8_core.proofs.Common.{eqb-true, eq-eqb}
-use Rattle.wtf8_core.proofs.lemmas.units.PrefixTests.{never}
-use Rattle.wtf8_core.proofs.lemmas.units.FirstAndLast.{one_last, surrogate_last, no_low_suffix}
+use Rattle.wtf8_core.proofs.lemmas.units.{PrefixTests.never, FirstAndLast.one_last, FirstAndLast.surrogate_last, FirstAndLast.no_low_suffix}
 use Rattle.wtf8_core.proofs.halves.ends_with_low.Goals as goal
 
 pub returns-in-Some : goal.returns-in-Some

@@ -1,7 +1,5 @@
 use Rattle.wtf8_core.proofs.Common.{inr, ap, arith, length}
-use Rattle.wtf8_core.proofs.lemmas.units.FirstAndLast.{no_past_form, half_of}
-use Rattle.wtf8_core.proofs.lemmas.forms.LastForms.{too_short}
-use Rattle.wtf8_core.proofs.lemmas.forms.Shapes.{form_past}
+use Rattle.wtf8_core.proofs.lemmas.{units.FirstAndLast.no_past_form, units.FirstAndLast.half_of, forms.LastForms.too_short, forms.Shapes.form_past}
 use Rattle.wtf8_core.proofs.halves.last_half.Goals as goal
 
 pub returns-in_err-last : goal.returns-in_err-last

@@ -1,7 +1,5 @@
 use Rattle.wtf8_core.proofs.Common.{inl, subst, sym, ◌∙◌, IsLow}
-use Rattle.wtf8_core.proofs.lemmas.forms.Ranges.{in_range-false, low_surrogate}
-use Rattle.wtf8_core.proofs.lemmas.forms.Shapes.{length-form_surrogate}
-use Rattle.wtf8_core.proofs.lemmas.forms.LastForms.{form_at_start, too_short, same_first, split_off}
+use Rattle.wtf8_core.proofs.lemmas.forms.{Ranges.in_range-false, Ranges.low_surrogate, Shapes.length-form_surrogate, LastForms.form_at_start, LastForms.too_short, LastForms.same_first, LastForms.split_off}
 use Rattle.wtf8_core.proofs.halves.split_first_low.Goals as goal
 
 pub returns-in_err-first : goal.returns-in_err-first

@@ -1,7 +1,5 @@
 use Rattle.wtf8_core.proofs.Common.{◌∙◌, subst, sym, IsHigh}
-use Rattle.wtf8_core.proofs.lemmas.forms.Ranges.{in_range-false, high_surrogate}
-use Rattle.wtf8_core.proofs.lemmas.forms.Shapes.{length-form_surrogate}
-use Rattle.wtf8_core.proofs.lemmas.forms.LastForms.{same_last}
+use Rattle.wtf8_core.proofs.lemmas.forms.{Ranges.in_range-false, Ranges.high_surrogate, Shapes.length-form_surrogate, LastForms.same_last}
 use Rattle.wtf8_core.proofs.halves.split_last_high.Goals as goal
 
 pub returns-else-is_high : goal.returns-else-is_high

@@ -1,6 +1,5 @@
 use Rattle.wtf8_core.proofs.Common.{inr}
-use Rattle.wtf8_core.proofs.lemmas.forms.Shapes.{length-form_surrogate}
-use Rattle.wtf8_core.proofs.lemmas.forms.LastForms.{form_at_end, too_short}
+use Rattle.wtf8_core.proofs.lemmas.forms.{Shapes.length-form_surrogate, LastForms.form_at_end, LastForms.too_short}
 use Rattle.wtf8_core.proofs.halves.split_last_surrogate.Goals as goal
 
 pub returns-in_err-prefix : goal.returns-in_err-prefix

@@ -1,5 +1,4 @@
-use Rattle.wtf8_core.proofs.lemmas.units.PrefixTests.{never, stripped_prefix, not_stripped_prefix, prefix_tested}
-use Rattle.wtf8_core.proofs.lemmas.units.PrefixesAndSuffixes.{plain_prefix, prefix_plain, high_prefix, high_next}
+use Rattle.wtf8_core.proofs.lemmas.units.{PrefixTests.never, PrefixTests.stripped_prefix, PrefixTests.not_stripped_prefix, PrefixTests.prefix_tested, PrefixesAndSuffixes.plain_prefix, PrefixesAndSuffixes.prefix_plain, PrefixesAndSuffixes.high_prefix, PrefixesAndSuffixes.high_next}
 use Rattle.wtf8_core.proofs.halves.starts_with.Goals as goal
 
 pub returns-in_default : goal.returns-in_default

@@ -1,6 +1,4 @@
-use Rattle.wtf8_core.proofs.lemmas.forms.Cuts.{char_boundary, boundary_of_str}
-use Rattle.wtf8_core.proofs.lemmas.occurrence.Boundaries.{edges_of_text}
-use Rattle.wtf8_core.proofs.lemmas.characters.Overlaps.{boundary_in_prefix, boundary_in_rest}
+use Rattle.wtf8_core.proofs.lemmas.{forms.Cuts.char_boundary, forms.Cuts.boundary_of_str, occurrence.Boundaries.edges_of_text, characters.Overlaps.boundary_in_prefix, characters.Overlaps.boundary_in_rest}
 use Rattle.wtf8_core.proofs.laws.boundaries.Goals as goal
 
 pub returns-clause-edges : goal.returns-clause-edges

@@ -1,5 +1,4 @@
-use Rattle.wtf8_core.proofs.lemmas.forms.Cuts.{wtf8_cut, utf8_cut}
-use Rattle.wtf8_core.proofs.lemmas.units.AsFunction.{units_cut}
+use Rattle.wtf8_core.proofs.lemmas.{forms.Cuts.wtf8_cut, forms.Cuts.utf8_cut, units.AsFunction.units_cut}
 use Rattle.wtf8_core.proofs.laws.cuts.Goals as goal
 
 pub returns-clause-parts : goal.returns-clause-parts

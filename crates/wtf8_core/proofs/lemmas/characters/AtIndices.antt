@@ -1,9 +1,6 @@
 -- Whole characters: where the reader finds them, and what their indices are.
 use Rattle.wtf8_core.proofs.Common.{◌≡◌, ℕ, ◌+◌, ◌-◌, ◌<◌, ◌≤◌, true, false, List, ◌∷◌, ◌++◌, length, take, drop, Option, Some, None, Ok, Err, refl, sym, ap, ◌∙◌, subst, arith, length-append, take-append-drop, IsScalar, is_surrogate, IsCodePoint, encode, WholeCharacter, IsCharacterAt, first_item, first_split, IsUtf8, IsUtf8-encode, take_at, drop_at, length-take-le, nat_tests, common_steps, low_scalar, EncodingError, encode_utf8, IsFirstChar, take-append_seam}
-use Rattle.wtf8_core.proofs.lemmas.reader.Sound.{split_code_point}
-use Rattle.wtf8_core.proofs.lemmas.forms.Shapes.{form_ascii, form_bounds}
-use Rattle.wtf8_core.proofs.lemmas.forms.ByStd.{form_encode, form_same}
-use Rattle.wtf8_core.proofs.lemmas.reader.Complete.{split_of_form}
+use Rattle.wtf8_core.proofs.lemmas.{reader.Sound.split_code_point, forms.Shapes.form_ascii, forms.Shapes.form_bounds, forms.ByStd.form_encode, forms.ByStd.form_same, reader.Complete.split_of_form}
 
 -- no character begins the bytes
 abbrev pub NoChar : List ℕ → Type 0

@@ -1,9 +1,6 @@
 -- The character with which four bytes begin, by the code point that their bits are.
 use Rattle.wtf8_core.proofs.Common.{◌≡◌, ◌⊎◌, ⊎_elim, ℕ, ◌+◌, ◌<◌, ◌≤◌, List, ◌∷◌, length, arith, refl, nat_tests, IsScalar, IsContinuation, IsFirstChar, StartsWithNoCharacter, ◌*◌, ◌%◌}
-use Rattle.wtf8_core.proofs.lemmas.characters.AtIndices.{none_at}
-use Rattle.wtf8_core.proofs.lemmas.characters.FourBytes.{IsSequenceStart, begun, second_of_two, two_long, three_long, four_long}
-use Rattle.wtf8_core.proofs.lemmas.forms.Ranges.{in_range}
-use Rattle.wtf8_core.proofs.lemmas.texts.StdFaults.{First, Second}
+use Rattle.wtf8_core.proofs.lemmas.{characters.AtIndices.none_at, characters.FourBytes.IsSequenceStart, characters.FourBytes.begun, characters.FourBytes.second_of_two, characters.FourBytes.two_long, characters.FourBytes.three_long, characters.FourBytes.four_long, forms.Ranges.in_range, texts.StdFaults.First, texts.StdFaults.Second}
 
 -- what follows a lead is a continuation
 continues : (b x : ℕ) → First b → Second b x → IsContinuation x

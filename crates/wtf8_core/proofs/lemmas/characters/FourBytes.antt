@@ -1,11 +1,6 @@
 -- The first four bytes, and the character or the ill-formed part with which they begin.
 use Rattle.wtf8_core.proofs.Common.{◌≡◌, ℕ, ◌+◌, ◌<◌, ◌≤◌, List, ◌∷◌, ◌++◌, length, get_or, Some, true, false, sym, ap, ◌∙◌, subst, arith, refl, drop, [], if◌then◌else◌, cond-true, cond-false, nat_tests, get_or_append_left, IsScalar, is_in_range, utf8_error_len, second_byte_min, second_byte_max, IsContinuation, encode, IsFirstChar, IsUtf8Fault, ◌*◌, ◌%◌}
-use Rattle.wtf8_core.proofs.lemmas.characters.AtIndices.{char_begins}
-use Rattle.wtf8_core.proofs.lemmas.characters.Overlaps.{form_after}
-use Rattle.wtf8_core.proofs.lemmas.forms.Shapes.{form_bounds}
-use Rattle.wtf8_core.proofs.lemmas.forms.Ranges.{in_range, in_range-true, in_range-false, not_in_range}
-use Rattle.wtf8_core.proofs.lemmas.texts.AreWtf8.{valid_none}
-use Rattle.wtf8_core.proofs.lemmas.texts.StdFaults.{First, Second, Filled, filled_value, filled, least_continuation, lead_of, second_of, len_of_four, fault_is}
+use Rattle.wtf8_core.proofs.lemmas.{characters.AtIndices.char_begins, characters.Overlaps.form_after, forms.Shapes.form_bounds, forms.Ranges.in_range, forms.Ranges.in_range-true, forms.Ranges.in_range-false, forms.Ranges.not_in_range, texts.AreWtf8.valid_none, texts.StdFaults.First, texts.StdFaults.Second, texts.StdFaults.Filled, texts.StdFaults.filled_value, texts.StdFaults.filled, texts.StdFaults.least_continuation, texts.StdFaults.lead_of, texts.StdFaults.second_of, texts.StdFaults.len_of_four, texts.StdFaults.fault_is}
 
 -- the length of a form, by its first byte
 pub past_ascii : (c : ℕ) → 0x80 ≤ get_or (encode c) 0 0 → 0x80 ≤ c

@@ -1,9 +1,6 @@
 -- No whole character starts or ends inside a maximal ill-formed part, and none extends across its start or end.
 use Rattle.wtf8_core.proofs.Common.{◌≡◌, ◌⊎◌, inl, inr, ⊎_elim, ℕ, ◌+◌, ◌-◌, ◌<◌, ◌≤◌, List, [], length, take, drop, get_or, Option, Some, None, sym, ap, ◌∙◌, subst, arith, length-drop, take-append-drop, take-length, cases_lt, cases_eq, get_or-drop, get_or-take, length-take-le, MatchOption, IsUtf8, IsContinuation, WholeCharacter, CrossesNoCharacter, IsPrefixOfCharacter, IsProperPrefix, IsIllFormed, IsUtf8Fault, part_end}
-use Rattle.wtf8_core.proofs.lemmas.characters.AtIndices.{none_at, character_fits}
-use Rattle.wtf8_core.proofs.lemmas.characters.Overlaps.{no_start}
-use Rattle.wtf8_core.proofs.lemmas.characters.Seams.{seam_at_start, text_covered}
-use Rattle.wtf8_core.proofs.lemmas.texts.StdFaults.{no_char, after_prefix}
+use Rattle.wtf8_core.proofs.lemmas.{characters.AtIndices.none_at, characters.AtIndices.character_fits, characters.Overlaps.no_start, characters.Seams.seam_at_start, characters.Seams.text_covered, texts.StdFaults.no_char, texts.StdFaults.after_prefix}
 
 -- no whole character extends across the end of a text at the start
 pub seam_after_text : (s : List ℕ) (v : ℕ) → v ≤ length s → IsUtf8 (take v s) → CrossesNoCharacter s v

@@ -1,7 +1,6 @@
 -- Whole characters don't overlap, so a boundary stays one in a part that ends or starts at a boundary.
 use Rattle.wtf8_core.proofs.Common.{◌≡◌, ◌⊎◌, inl, inr, ⊎_elim, ℕ, zero, suc, ◌+◌, ◌-◌, ◌<◌, ◌≤◌, List, ◌++◌, length, take, drop, get_or, sym, ap, ◌∙◌, subst, arith, length-drop, take-append-add, cases_lt, cases_eq, drop-drop, drop-take, length-take-le, get_or-drop, get_or_append_left, IsContinuation, encode, WholeCharacter, IsBoundary, All-from_recursion, All-get_or}
-use Rattle.wtf8_core.proofs.lemmas.forms.Shapes.{form_bounds, form_parts}
-use Rattle.wtf8_core.proofs.lemmas.characters.AtIndices.{begins_at, whole_at, character_fits, same_end}
+use Rattle.wtf8_core.proofs.lemmas.{forms.Shapes.form_bounds, forms.Shapes.form_parts, characters.AtIndices.begins_at, characters.AtIndices.whole_at, characters.AtIndices.character_fits, characters.AtIndices.same_end}
 
 -- the bytes of a form after the first are continuations, and the first is none
 pub form_after : (c m : ℕ) → 0 < m → m < length (encode c) → IsContinuation (get_or (encode c) m 0)

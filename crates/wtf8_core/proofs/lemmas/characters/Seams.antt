@@ -1,10 +1,6 @@
 -- Bytes in whole characters and in none, and the indices across which no whole character extends.
 use Rattle.wtf8_core.proofs.Common.{◌≡◌, ◌⊎◌, inl, inr, ⊎_elim, ℕ, zero, suc, ◌+◌, ◌-◌, ◌<◌, ◌≤◌, true, false, List, [], ◌∷◌, ◌++◌, length, drop, Result, Ok, Err, refl, sym, ap, ◌∙◌, subst, arith, length-append, append_assoc, and_parts, cases_lt, cases_eq, cases_Bool, drop-append_seam, scalar, IsScalar, AllByRecursion, flat_map, IsUtf8, all_scalars, IsByte, is_surrogate, encode, WholeCharacter, IsCovered, CrossesNoCharacter, first_item, EncodingError}
-use Rattle.wtf8_core.proofs.lemmas.forms.Shapes.{form_bounds, form_bytes}
-use Rattle.wtf8_core.proofs.lemmas.forms.ByStd.{forms_encode}
-use Rattle.wtf8_core.proofs.lemmas.characters.AtIndices.{character_fits, same_end, whole_at, begins_at, none_at, none_begins, none_past, none_in_none, none_at_other, none_at_fault, scalar_no_surrogate, scalar_point, is_scalar}
-use Rattle.wtf8_core.proofs.lemmas.characters.Overlaps.{no_start_inside, in_rest}
-use Rattle.wtf8_core.proofs.lemmas.reader.Sound.{split_code_point}
+use Rattle.wtf8_core.proofs.lemmas.{forms.Shapes.form_bounds, forms.Shapes.form_bytes, forms.ByStd.forms_encode, characters.AtIndices.character_fits, characters.AtIndices.same_end, characters.AtIndices.whole_at, characters.AtIndices.begins_at, characters.AtIndices.none_at, characters.AtIndices.none_begins, characters.AtIndices.none_past, characters.AtIndices.none_in_none, characters.AtIndices.none_at_other, characters.AtIndices.none_at_fault, characters.AtIndices.scalar_no_surrogate, characters.AtIndices.scalar_point, characters.AtIndices.is_scalar, characters.Overlaps.no_start_inside, characters.Overlaps.in_rest, reader.Sound.split_code_point}
 
 -- P holds of each index of xs, counted from i on
 abbrev pub Over : (ℕ → Type 0) → ℕ → List ℕ → Type 0

@@ -1,8 +1,6 @@
 -- A string has exactly one list of chunks.
 use Rattle.wtf8_core.proofs.Common.{nat_tests, common_steps, ◌≡◌, ⊎_elim, ℕ, ◌+◌, ◌-◌, ◌<◌, List, [], ◌∷◌, ◌++◌, length, refl, sym, ap, ◌∙◌, subst, arith, length-append, append_assoc, cases_lt, cases_eq, append-nil, nil_from_length, IsCovered, CrossesNoCharacter, Chunk, joined, AreChunks}
-use Rattle.wtf8_core.proofs.lemmas.forms.Appending.{append_same}
-use Rattle.wtf8_core.proofs.lemmas.characters.Seams.{Uncovered, Covered, over_none, over_first, uncovered_or_covered, covered_within, covered_after}
-use Rattle.wtf8_core.proofs.lemmas.chunks.Groups.{IsGroup, AreGroups, groups_from_each, each_from_groups, EachIsOfOne, grouped, not_first}
+use Rattle.wtf8_core.proofs.lemmas.{forms.Appending.append_same, characters.Seams.Uncovered, characters.Seams.Covered, characters.Seams.over_none, characters.Seams.over_first, characters.Seams.uncovered_or_covered, characters.Seams.covered_within, characters.Seams.covered_after, chunks.Groups.IsGroup, chunks.Groups.AreGroups, chunks.Groups.groups_from_each, chunks.Groups.each_from_groups, chunks.Groups.EachIsOfOne, chunks.Groups.grouped, chunks.Groups.not_first}
 
 -- the chunks of s one after the other, from index i on
 abbrev pub AreChunksFrom : List ℕ → ℕ → Type 0 → List Chunk → Type 0

@@ -1,9 +1,7 @@
 -- The units of strings in which there is no whole character, and of strings that begin with none.
 use Rattle.wtf8_core.proofs.Common.{◌≡◌, ⊎_elim, ℕ, ◌+◌, ◌<◌, ◌≤◌, true, List, [], ◌∷◌, ◌++◌, length, take, drop, refl, sym, ap, ◌∙◌, subst, arith, length-append, take-append-drop, cases_lt, cases_Bool, lt-ltb, le-ltb, append-nil, drop_at, All-from_recursion, AllByRecursion, flat_map, IsByte, IsSurrogate, is_surrogate, encode, StartsWithNoCharacter, HasNoCharacter, units_of, Encodes, IsWtf8, units}
 use Rattle.wtf8_core.specs.PartUnits.{unit_bytes, AreLoneSurrogates}
-use Rattle.wtf8_core.proofs.lemmas.characters.{AtIndices.ascii_first, AtIndices.whole_at, AtIndices.is_scalar, Seams.whole_within}
-use Rattle.wtf8_core.proofs.lemmas.forms.{Shapes.length-form_surrogate, Ranges.in_range-true}
-use Rattle.wtf8_core.proofs.lemmas.units.{OneToOne.wide_single, AsFunction.code_points_in-encoded}
+use Rattle.wtf8_core.proofs.lemmas.{characters.AtIndices.ascii_first, characters.AtIndices.whole_at, characters.AtIndices.is_scalar, characters.Seams.whole_within, forms.Shapes.length-form_surrogate, forms.Ranges.in_range-true, units.OneToOne.wide_single, units.AsFunction.code_points_in-encoded}
 
 -- rests of uncovered bytes are uncovered
 pub uncovered_rest : (b : List ℕ) (n : ℕ) → HasNoCharacter b → HasNoCharacter (drop n b)

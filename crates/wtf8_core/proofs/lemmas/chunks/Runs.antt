@@ -1,9 +1,7 @@
 -- The chunks of WTF-8 are the forms of its runs of surrogates, each with the scalar values after it.
 use Rattle.wtf8_core.proofs.Common.{nil_from_length, ◌≡◌, inl, inr, ⊎_elim, ℕ, ◌+◌, ◌-◌, ◌≤◌, List, [], ◌∷◌, ◌++◌, map, length, drop, get_or, refl, sym, ap, ◌∙◌, subst, arith, length-append, append_assoc, drop-append_seam, cases_eq, cases_Bool, flat_map-append, get_or-drop, get_or_append_left, IsScalar, AllByRecursion, IsContinuation, IsSurrogate, is_surrogate, IsCodePoint, encode, IsCovered, CrossesNoCharacter, Chunk, joined, AreChunks, Encodes}
 use Rattle.wtf8_core.specs.Runs.{AreRuns, form_chunk}
-use Rattle.wtf8_core.proofs.lemmas.forms.{Ranges.in_range-true, Ranges.in_range, Shapes.form_bounds, ByStd.form_same}
-use Rattle.wtf8_core.proofs.lemmas.characters.{AtIndices.begins_at, AtIndices.is_scalar, AtIndices.scalar_no_surrogate, Overlaps.form_after, Overlaps.no_start, Seams.Uncovered, Seams.uncovered_run, Seams.seam_at_start, Seams.Forms, Seams.forms_over, Seams.scalar_covered}
-use Rattle.wtf8_core.proofs.lemmas.chunks.{Groups.AreGroups, Groups.each_from_groups, Groups.EachIsOfOne, Groups.grouped, OneList.AreChunksFrom, OneList.are_chunks, OneList.chunks_once}
+use Rattle.wtf8_core.proofs.lemmas.{forms.Ranges.in_range-true, forms.Ranges.in_range, forms.Shapes.form_bounds, forms.ByStd.form_same, characters.AtIndices.begins_at, characters.AtIndices.is_scalar, characters.AtIndices.scalar_no_surrogate, characters.Overlaps.form_after, characters.Overlaps.no_start, characters.Seams.Uncovered, characters.Seams.uncovered_run, characters.Seams.seam_at_start, characters.Seams.Forms, characters.Seams.forms_over, characters.Seams.scalar_covered, chunks.Groups.AreGroups, chunks.Groups.each_from_groups, chunks.Groups.EachIsOfOne, chunks.Groups.grouped, chunks.OneList.AreChunksFrom, chunks.OneList.are_chunks, chunks.OneList.chunks_once}
 
 -- the bytes of a surrogate aren't in any whole character
 surrogate_uncovered : (s x r : List ℕ) (i c : ℕ) → s ≡ x ++ (encode c ++ r) → length x ≡ i → IsSurrogate c → CrossesNoCharacter s i → Uncovered s i (encode c) × CrossesNoCharacter s (i + length (encode c))

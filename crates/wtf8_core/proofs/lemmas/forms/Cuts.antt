@@ -1,9 +1,6 @@
 -- Where strings of forms are cut.
 use Rattle.wtf8_core.proofs.Common.{◌≡◌, inl, inr, ⊎_elim, ℕ, ◌+◌, ◌<◌, true, List, [], ◌∷◌, ◌++◌, length, take, drop, refl, sym, ap, ◌∙◌, subst, arith, length-append, length-drop, append_assoc, scalar, and_parts, cases_lt, drop_all, append-nil, take_at, drop_at, flat_map-append, IsCharBoundary-from_drop, IsCharBoundary-from_take, IsUtf8-drop, IsUtf8-nil, AllByRecursion, flat_map, IsUtf8, IsCharBoundary, all_scalars, IsContinuation, IsCodePoint, encode, HasNoSurrogatePair, Encodes, IsWtf8, WholeCharacter, IsBoundary}
-use Rattle.wtf8_core.proofs.lemmas.characters.AtIndices.{whole_at}
-use Rattle.wtf8_core.proofs.lemmas.forms.Shapes.{form_parts}
-use Rattle.wtf8_core.proofs.lemmas.forms.ByStd.{forms_encode, forms_prefix}
-use Rattle.wtf8_core.proofs.lemmas.characters.Overlaps.{boundary_within}
+use Rattle.wtf8_core.proofs.lemmas.{characters.AtIndices.whole_at, forms.Shapes.form_parts, forms.ByStd.forms_encode, forms.ByStd.forms_prefix, characters.Overlaps.boundary_within}
 
 -- what holds of each element holds of those of both parts
 pub all_parts : (P : ℕ → Type 0) (ds es : List ℕ) → AllByRecursion P (ds ++ es) → AllByRecursion P ds × AllByRecursion P es

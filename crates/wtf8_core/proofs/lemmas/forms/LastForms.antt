@@ -1,8 +1,6 @@
 -- The code point, and the units, with which a string ends; and forms at the start and the end of bytes.
 use Rattle.wtf8_core.proofs.Common.{◌⊎◌, ⊎_elim, ◌≡◌, ℕ, ◌-◌, ◌<◌, List, [], ◌∷◌, ◌++◌, length, take, drop, refl, sym, ap, ◌∙◌, arith, append-nil, length-append, take-append-drop, drop-append_seam, take-append_seam, flat_map-append, flat_map, IsHigh, encode, encode_utf16, last_or, units}
-use Rattle.wtf8_core.proofs.lemmas.forms.Shapes.{form_bounds}
-use Rattle.wtf8_core.proofs.lemmas.forms.ByStd.{form_same}
-use Rattle.wtf8_core.proofs.lemmas.forms.Cuts.{bytes_found}
+use Rattle.wtf8_core.proofs.lemmas.forms.{Shapes.form_bounds, ByStd.form_same, Cuts.bytes_found}
 
 -- the last bytes of a list
 pub at_end : (s x y : List ℕ) → s ≡ x ++ y → drop (length s - length y) s ≡ y

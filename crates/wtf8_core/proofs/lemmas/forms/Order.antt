@@ -1,9 +1,6 @@
 -- The order of bytes is that of the code points that they encode.
 use Rattle.wtf8_core.proofs.Common.{◌≡◌, ⊎_elim, ℕ, ◌<◌, List, [], ◌∷◌, ◌++◌, refl, sym, ap, ◌∙◌, arith, slice_cmp, nat_list_cmp_total, flat_map, cases_order, nat_tests, encode, Encodes}
-use Rattle.std.specs.Ordering.{nat_cmp, ordering_then, ordering_reverse}
-use Rattle.std.specs.Cmp.{nat_cmp_is}
-use Rattle.std.specs.declared.cmp.Ordering.{Ordering}
-use Rattle.std.specs.declared.cmp.Ordering.TheVariants.{Less, Equal, Greater}
+use Rattle.std.specs.{Ordering.nat_cmp, Ordering.ordering_then, Ordering.ordering_reverse, Cmp.nat_cmp_is, declared.cmp.Ordering.Ordering, declared.cmp.Ordering.TheVariants.Less, declared.cmp.Ordering.TheVariants.Equal, declared.cmp.Ordering.TheVariants.Greater}
 
 -- the lexicographic order
 abbrev Cmp : List ℕ → List ℕ → Ordering

@@ -1,8 +1,6 @@
 -- A form written byte by byte over others.
 use Rattle.wtf8_core.proofs.Common.{◌≡◌, ℕ, ◌+◌, ◌≤◌, ◌<◌, List, [], ◌∷◌, ◌++◌, length, take, drop, set, refl, ap, ◌∙◌, arith, append_assoc}
-use Rattle.std.proofs.Math.ListN.{length-set}
-use Rattle.std.proofs.lemmas.List.{drop-set-lt}
-use Rattle.std.proofs.lemmas.Grind.{take-set_at}
+use Rattle.std.proofs.{Math.ListN.length-set, lemmas.List.drop-set-lt, lemmas.Grind.take-set_at}
 
 -- one byte, two, three, and four
 pub one_put : (s : List ℕ) (i a : ℕ) → i + 1 ≤ length s → take (i + 1) (set s i a) ≡ take i s ++ a ∷ []

@@ -1,7 +1,6 @@
 -- Where a text that isn't empty occurs in a string, the string may be cut before and after it.
 use Rattle.wtf8_core.proofs.Common.{◌≡◌, inl, inr, ⊎_elim, ℕ, ◌+◌, ◌-◌, ◌<◌, true, List, [], ◌∷◌, ◌++◌, length, refl, sym, ap, ◌∙◌, subst, arith, append_assoc, scalar, and_parts, cases_lt, flat_map, IsUtf8, all_scalars, encode, OccursAt, WholeCharacter, IsBoundary}
-use Rattle.wtf8_core.proofs.lemmas.forms.ByStd.{forms_encode}
-use Rattle.wtf8_core.proofs.lemmas.characters.{Overlaps.no_start_inside, Seams.text_covered}
+use Rattle.wtf8_core.proofs.lemmas.{forms.ByStd.forms_encode, characters.Overlaps.no_start_inside, characters.Seams.text_covered}
 
 -- a whole character starts there
 starts : (p s : List ℕ) (i : ℕ) → IsUtf8 p → 0 < length p → OccursAt p s i → (j : ℕ) × WholeCharacter s i j

@@ -1,9 +1,6 @@
 -- The laws of occurrences and of joins for WTF-8.
 use Rattle.wtf8_core.proofs.Common.{◌≡◌, ⊎_elim, ℕ, ◌<◌, true, List, [], ◌∷◌, ◌++◌, length, sym, ap, ◌∙◌, subst, arith, append-nil, append_assoc, and_parts, flat_map-append, AllByRecursion, flat_map, IsScalar, IsUtf8, all_scalars, scalar, scalar_cases, IsHigh, IsCodePoint, encode, encode_utf16, HasNoSurrogatePair, MayPrecede, last_or, units, Encodes, IsWtf8, units_of, IsCutAround, OccurrenceLaws}
-use Rattle.wtf8_core.proofs.lemmas.forms.{Cuts.all_parts, Cuts.paired_suffix, Cuts.bytes_found, ByStd.forms_prefix, Appending.all_joined}
-use Rattle.wtf8_core.proofs.lemmas.characters.AtIndices.{scalar_point}
-use Rattle.wtf8_core.proofs.lemmas.units.{OneToOne.precedes_wide, OneToOne.IsUnit, OneToOne.units_encoded, OneToOne.may_precede, AsFunction.code_points_in-encoded, AsFunction.units_of-is, AsFunction.one_encoding, Cuts.encodes_prefix, Cuts.encodes_suffix, Cuts.units_fit, Cuts.cut_at_units, Cuts.last_unit, Cuts.units_prefix}
-use Rattle.wtf8_core.proofs.lemmas.texts.AreWtf8.{text_encodes, wtf8_of_text}
+use Rattle.wtf8_core.proofs.lemmas.{forms.Cuts.all_parts, forms.Cuts.paired_suffix, forms.Cuts.bytes_found, forms.ByStd.forms_prefix, forms.Appending.all_joined, characters.AtIndices.scalar_point, units.OneToOne.precedes_wide, units.OneToOne.IsUnit, units.OneToOne.units_encoded, units.OneToOne.may_precede, units.AsFunction.code_points_in-encoded, units.AsFunction.units_of-is, units.AsFunction.one_encoding, units.Cuts.encodes_prefix, units.Cuts.encodes_suffix, units.Cuts.units_fit, units.Cuts.cut_at_units, units.Cuts.last_unit, units.Cuts.units_prefix, texts.AreWtf8.text_encodes, texts.AreWtf8.wtf8_of_text}
 
 -- the units of what code points encode
 pub units_of_encoded : (b cs : List ℕ) → Encodes b cs → units_of b ≡ units cs

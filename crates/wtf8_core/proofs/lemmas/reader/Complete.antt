@@ -1,8 +1,7 @@
 -- The reader gives what the definitions say, whatever the bytes begin with: so bytes have one list of items.
 use Rattle.wtf8_core.proofs.Common.{common_steps, ◌≡◌, inl, inr, ⊎_elim, ℕ, suc, ◌⊎◌, ◌<◌, ◌≤◌, Bool, false, List, [], ◌∷◌, ◌++◌, length, map, Result, Ok, Err, refl, sym, ap, ◌∙◌, subst, arith, append_assoc, append-nil, cases_lt, nat_tests, AllByRecursion, flat_map, needed_continuations, IsHigh, IsLow, is_high, IsCodePoint, encode, HasNoSurrogatePair, last_or, Encodes, IsWholeSequence, sequence_value, IsIncomplete, IsBadSequence, IsRefused, BeginsFault, IsFirstFault, lead_bits, least_value, checked_value, items_skipping, items_after, first_split, split_within, items_from, true, ◌-◌, length-append, AreItems, EncodingError, Byte, CodePoint, End, Utf8}
 use Rattle.wtf8_core.specs.Items.AreItems.{Whole, Faulty}
-use Rattle.wtf8_core.proofs.lemmas.reader.{FirstErr.same_oks, FirstErr.no_err, FirstErr.same_faulty, Reading.split-ascii, Reading.split-stray, Reading.split-lead, Reading.within-broken, Reading.within-end, Reading.within-whole, Reading.items-split, Continuations.within_all}
-use Rattle.wtf8_core.proofs.lemmas.forms.{Ranges.in_range, Ranges.in_range-true, Shapes.form_ascii, Shapes.form_bounds, Shapes.form_parts, Shapes.shape_is_form, Shapes.long_shape, Shapes.long_value}
+use Rattle.wtf8_core.proofs.lemmas.{reader.FirstErr.same_oks, reader.FirstErr.no_err, reader.FirstErr.same_faulty, reader.Reading.split-ascii, reader.Reading.split-stray, reader.Reading.split-lead, reader.Reading.within-broken, reader.Reading.within-end, reader.Reading.within-whole, reader.Reading.items-split, reader.Continuations.within_all, forms.Ranges.in_range, forms.Ranges.in_range-true, forms.Shapes.form_ascii, forms.Shapes.form_bounds, forms.Shapes.form_parts, forms.Shapes.shape_is_form, forms.Shapes.long_shape, forms.Shapes.long_value}
 
 -- what the reader says of a value
 pub when_good : (h : Bool) (n v : ℕ) → least_value n ≤ v → v ≤ 0x10_FFFF → (h ≡ true → IsLow v → ⊥) → checked_value h n v ≡ Ok v

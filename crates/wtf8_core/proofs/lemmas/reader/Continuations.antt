@@ -1,7 +1,6 @@
 -- Where the continuations of a lead stop, and what the reader makes of them.
 use Rattle.wtf8_core.proofs.Common.{◌≡◌, ⊎_elim, ℕ, zero, suc, ◌+◌, ◌*◌, ◌%◌, ◌<◌, Bool, List, [], ◌∷◌, ◌++◌, length, refl, ap, ◌∙◌, arith, AllByRecursion, fold, IsContinuation, split_within}
-use Rattle.wtf8_core.proofs.lemmas.forms.Ranges.{range_cases}
-use Rattle.wtf8_core.proofs.lemmas.reader.Reading.{within-more}
+use Rattle.wtf8_core.proofs.lemmas.{forms.Ranges.range_cases, reader.Reading.within-more}
 
 -- why n continuations stop: they are all there, the bytes end, or a byte is none
 pub data Stops (n : ℕ) : List ℕ → List ℕ → Type 0 where

@@ -1,7 +1,6 @@
 -- The index of the first fault: bytes that have been read up to it.
 use Rattle.wtf8_core.proofs.Common.{◌≡◌, ℕ, ◌-◌, Bool, List, [], ◌∷◌, ◌++◌, length, drop, Result, Ok, Err, refl, sym, ap, ◌∙◌, subst, arith, append_assoc, Fits, w8, get_or, length-append, drop-append_seam, All, All-drop, All-from_get_or, IsByte, is_high, encode, last_or, BeginsFault, IsFaultAt, first_split, is_high_item, IsFirstItem, IsReadUpTo, EncodingError, flat_map}
-use Rattle.wtf8_core.proofs.lemmas.reader.{Complete.split_of_fault, Complete.one_fault, Sound.Begins, Sound.begins_item}
-use Rattle.wtf8_core.proofs.lemmas.forms.Appending.{last_append, encodes_more}
+use Rattle.wtf8_core.proofs.lemmas.{reader.Complete.split_of_fault, reader.Complete.one_fault, reader.Sound.Begins, reader.Sound.begins_item, forms.Appending.last_append, forms.Appending.encodes_more}
 
 module _ {bytes : List ℕ} {h : Bool} {rest later : List ℕ} {item : Result ℕ EncodingError} (fits : (i : ℕ) → Fits w8 (get_or bytes i 0)) (r : IsReadUpTo bytes h rest) (i : IsFirstItem h rest item later) where
   abbrev p : ℕ

@@ -1,10 +1,7 @@
 -- The lossy reading of bytes is the forms of their items, with FFFD for each fault.
 use Rattle.wtf8_core.proofs.Common.{nat_tests, common_steps, ◌≡◌, ℕ, suc, List, [], ◌∷◌, ◌++◌, map, length, Result, Err, refl, sym, ap, ◌∙◌, subst, arith, flat_map-append, append-nil, All, flat_map, IsByte, encode, Encodes, IsWtf8, IsFirstFault, AreItems, replacement, EncodingError}
 use Rattle.wtf8_core.specs.{Items.AreItems.Whole, Items.AreItems.Faulty, LossyReading.IsLossyReading, LossyReading.lossy_code_point, LossyReading.lossy_forms, LossyReading.IsLossyReading.formed, LossyReading.IsLossyReading.replaced}
-use Rattle.wtf8_core.proofs.lemmas.reader.{Complete.one_list_of_items, FirstErr.oks, Sound.some_items}
-use Rattle.wtf8_core.proofs.lemmas.forms.Appending.{encodes_one, encodes_joined}
-use Rattle.wtf8_core.proofs.lemmas.texts.LossyTexts.{form_fffd}
-use Rattle.wtf8_core.proofs.lemmas.units.OneToOne.{may_precede}
+use Rattle.wtf8_core.proofs.lemmas.{reader.Complete.one_list_of_items, reader.FirstErr.oks, reader.Sound.some_items, forms.Appending.encodes_one, forms.Appending.encodes_joined, texts.LossyTexts.form_fffd, units.OneToOne.may_precede}
 
 abbrev Items : Type 0
 Items = List (Result ℕ EncodingError)

@@ -1,8 +1,7 @@
 -- Any bytes are forms up to their end or a fault, so the reader's items are those of the definitions.
 use Rattle.wtf8_core.proofs.Common.{◌≡◌, ◌⊎◌, inl, inr, ⊎_elim, ℕ, zero, suc, ◌+◌, ◌<◌, ◌≤◌, false, List, [], ◌∷◌, ◌++◌, length, drop, map, Result, Ok, Err, refl, sym, ap, ◌∙◌, subst, arith, append_assoc, length-append, Fits, w8, get_or, drop-append_seam, cases_lt, append-nil, All-drop, All-from_get_or, All, AllByRecursion, flat_map, IsByte, needed_continuations, IsHigh, IsLow, is_high, IsCodePoint, encode, HasNoSurrogatePair, last_or, IsWtf8, IsSequenceStart, IsWholeSequence, sequence_value, BeginsFault, IsFirstFault, AreItems, least_value, after_item, first_item, first_split, IsFirstItem, items_after, EncodingError, Byte, CodePoint, End}
 use Rattle.wtf8_core.specs.Items.AreItems.{Whole, Faulty}
-use Rattle.wtf8_core.proofs.lemmas.forms.{Ranges.range_cases, Shapes.form_ascii, Shapes.form_bounds, Shapes.shape_is_form, Shapes.no_form}
-use Rattle.wtf8_core.proofs.lemmas.reader.{Continuations.Stops, Continuations.split, Reading.split_of_first, Complete.split_of_form, Complete.split_of_fault, Complete.items_if, Continuations.Stops.whole, Continuations.Stops.ends, Continuations.Stops.breaks}
+use Rattle.wtf8_core.proofs.lemmas.{forms.Ranges.range_cases, forms.Shapes.form_ascii, forms.Shapes.form_bounds, forms.Shapes.shape_is_form, forms.Shapes.no_form, reader.Continuations.Stops, reader.Continuations.split, reader.Reading.split_of_first, reader.Complete.split_of_form, reader.Complete.split_of_fault, reader.Complete.items_if, reader.Continuations.Stops.whole, reader.Continuations.Stops.ends, reader.Continuations.Stops.breaks}
 pub use Rattle.wtf8_core.proofs.lemmas.reader.Complete.{refused_some}
 
 -- after the code point p the bytes begin with a form

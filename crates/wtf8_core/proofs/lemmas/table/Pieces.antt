@@ -1,9 +1,7 @@
 -- Pieces, one after the other.
 use Rattle.wtf8_core.proofs.Common.{arith, nat_tests, common_steps, ◌≡◌, ◌≢◌, inl, inr, ⊎_elim, ℕ, ◌+◌, ◌<◌, Bool, true, false, List, [], ◌∷◌, ◌++◌, map, length, take, drop, get_or, take-append-drop, Option, None, Some, Ok, refl, sym, ap, ◌∙◌, subst, append_assoc, append-nil, All, All-from_recursion, IsByte, IsCodePoint, encode, IsWtf8, last_or, IsRefused, AreItems, items_after, items_from, class_at, next_at, Gives, Row, needed, SomeRow, IsOpen, rows, IsInState, IsFaulty, OnlyEnds, HasFirstFault, joined_bits, fault_at, Progress, progress, Describes, is_between, is_high, IsEncodedPrefix, EncodingError, Byte, CodePoint, End, Utf8, State, Between, AfterHigh, Refused, Class, cases_Bool}
 use Rattle.std.proofs.lemmas.List.{take_more}
-use Rattle.wtf8_core.proofs.lemmas.forms.{Appending.all_flat_map, Shapes.form_bytes}
-use Rattle.wtf8_core.proofs.lemmas.reader.{Complete.never_both, Complete.one_fault, Complete.items_of_encoded, Complete.after_zero, FirstErr.items_all_ok, Reading.items-nil, Reading.within-end, Sound.items_of_bytes}
-use Rattle.wtf8_core.proofs.lemmas.table.Steps.{items_now, gives_more, first_fault, goes}
+use Rattle.wtf8_core.proofs.lemmas.{forms.Appending.all_flat_map, forms.Shapes.form_bytes, reader.Complete.never_both, reader.Complete.one_fault, reader.Complete.items_of_encoded, reader.Complete.after_zero, reader.FirstErr.items_all_ok, reader.Reading.items-nil, reader.Reading.within-end, reader.Sound.items_of_bytes, table.Steps.items_now, table.Steps.gives_more, table.Steps.first_fault, table.Steps.goes}
 use Rattle.wtf8_core.specs.declared.vectors.Encoding.TheVariants.{Wtf8}
 
 refused_extends : (last : ℕ) (refused rest p : List ℕ) (f : EncodingError) → f ≢ End → IsRefused last refused rest f → IsRefused last refused (rest ++ p) f

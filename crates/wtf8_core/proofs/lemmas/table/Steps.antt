@@ -1,9 +1,7 @@
 -- One more byte in the table is one more byte of the reader.
 use Rattle.wtf8_core.proofs.Common.{common_steps, ◌≡◌, ◌≢◌, ◌⊎◌, refl, HasFirstFault, inl, inr, ⊎_elim, ℕ, suc, ◌+◌, ◌*◌, ◌-◌, ◌%◌, ◌<◌, ◌≤◌, Bool, true, false, List, [], ◌∷◌, ◌++◌, map, Result, Ok, Err, sym, ap, ◌∙◌, subst, arith, nat_tests, append_assoc, append-nil, map-append, cond_both, cond-true, cond-false, All, All-append, All-from_recursion, IsByte, IsContinuation, needed_continuations, is_high, lead_bits, checked_value, first_split, split_within, items_from, items_after, AreItems, class_at, next_at, Gives, Row, needed, rows, SomeRow, IsOpen, IsInState, IsFaulty, kept_bits, joined_bits, fault_at, is_continuation, cond, EncodingError, Byte, CodePoint, End, State, Between, AfterHigh, BadFourth, Refused, BadThird}
 use Rattle.wtf8_core.specs.Checker.{value_fault}
-use Rattle.wtf8_core.proofs.lemmas.forms.Ranges.{in_range, not_in_range}
-use Rattle.wtf8_core.proofs.lemmas.reader.{Complete.when_good, Complete.when_bad, FirstErr.items_first_err, Reading.items-split, Reading.split-ascii, Reading.split-stray, Reading.split-lead, Reading.within-more, Reading.within-broken, Reading.within-whole, Sound.items_of_bytes}
-use Rattle.wtf8_core.proofs.lemmas.table.Entries.{Holds, some_from, some_with, in_class, classed, begins, between_entry, least_after, most_after, goes_on, open_entry, entered}
+use Rattle.wtf8_core.proofs.lemmas.{forms.Ranges.in_range, forms.Ranges.not_in_range, reader.Complete.when_good, reader.Complete.when_bad, reader.FirstErr.items_first_err, reader.Reading.items-split, reader.Reading.split-ascii, reader.Reading.split-stray, reader.Reading.split-lead, reader.Reading.within-more, reader.Reading.within-broken, reader.Reading.within-whole, reader.Sound.items_of_bytes, table.Entries.Holds, table.Entries.some_from, table.Entries.some_with, table.Entries.in_class, table.Entries.classed, table.Entries.begins, table.Entries.between_entry, table.Entries.least_after, table.Entries.most_after, table.Entries.goes_on, table.Entries.open_entry, table.Entries.entered}
 
 -- the bits of a lead that needs two continuations or more, and of one more continuation
 lead_kept : (bits x : ℕ) → 2 ≤ needed_continuations x → kept_bits 0 (joined_bits bits x) ≡ lead_bits x

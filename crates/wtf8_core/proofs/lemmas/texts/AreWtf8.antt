@@ -1,10 +1,7 @@
 -- Texts are WTF-8, and what texts are.
 use Rattle.wtf8_core.proofs.Common.{◌≡◌, inl, inr, ⊎_elim, ℕ, zero, suc, ◌+◌, ◌<◌, ◌≤◌, true, List, [], ◌∷◌, ◌++◌, length, take, drop, map, Option, Some, None, refl, sym, ap, ◌∙◌, subst, arith, length-drop, drop-drop, take-append-drop, append_assoc, encode_utf8, MatchOption, unwrap_or, All, AllByRecursion, flat_map, IsUtf8, IsValidUpTo, all_scalars, is_utf8, utf8_lossy, utf8_error_len, utf8_invalid_len, utf8_valid_len, valid_len_up_to, cases_lt, and_parts, cond_both, cases_Bool, false≢true, nat_tests, All-from_recursion, length-take, take_all, IsUtf8-append, IsUtf8-nil, IsUtf8-from_is_utf8, is_utf8-from_IsUtf8, utf8_lossy-IsUtf8, IsByte, IsCodePoint, encode, HasNoSurrogatePair, Encodes, IsWtf8, IsProperPrefix, IsIllFormed, IsUtf8Fault, IsIllFormedPart, wtf8_lossy, replacement, IsLossyText, without_surrogate, scalar}
 use Rattle.wtf8_core.specs.Lossy.IsLossyText.{text, replaced}
-use Rattle.wtf8_core.proofs.lemmas.forms.{Appending.all_flat_map, Shapes.form_bytes, ByStd.forms_encode}
-use Rattle.wtf8_core.proofs.lemmas.characters.AtIndices.{NoChar, scalar_point}
-use Rattle.wtf8_core.proofs.lemmas.units.AsFunction.{code_points_in-encoded, has_lossy_text}
-use Rattle.wtf8_core.proofs.lemmas.texts.{StdFaults.fault_is, StdFaults.no_char, LossyTexts.kept, LossyTexts.lossy_step, LossyTexts.lossy_text_is, LossyTexts.after_text, LossyTexts.one_valid}
+use Rattle.wtf8_core.proofs.lemmas.{forms.Appending.all_flat_map, forms.Shapes.form_bytes, forms.ByStd.forms_encode, characters.AtIndices.NoChar, characters.AtIndices.scalar_point, units.AsFunction.code_points_in-encoded, units.AsFunction.has_lossy_text, texts.StdFaults.fault_is, texts.StdFaults.no_char, texts.LossyTexts.kept, texts.LossyTexts.lossy_step, texts.LossyTexts.lossy_text_is, texts.LossyTexts.after_text, texts.LossyTexts.one_valid}
 
 -- scalars are code points, and paired-free
 points_of_scalars : (cs : List ℕ) → all_scalars cs ≡ true → AllByRecursion IsCodePoint cs

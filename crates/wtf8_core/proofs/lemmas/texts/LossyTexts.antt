@@ -1,11 +1,7 @@
 -- One fault, and lossy texts.
 use Rattle.wtf8_core.proofs.Common.{◌≡◌, inl, inr, ⊎_elim, ℕ, ◌+◌, ◌<◌, ◌≤◌, true, false, List, [], ◌∷◌, ◌++◌, length, take, drop, map, Option, Some, None, refl, sym, ap, ◌∙◌, subst, arith, take-append-drop, MatchOption, unwrap_or, flat_map, IsUtf8, IsValidUpTo, all_scalars, utf8_lossy, utf8_error_len, utf8_invalid_len, take-length, cases_lt, cases_Bool, and_parts, cond-true, cond-false, map-append, flat_map-append, utf8_lossy_step, utf8_lossy-IsUtf8, utf8_valid_len-IsValidUpTo, is_surrogate, encode, Encodes, IsWtf8, IsProperPrefix, IsIllFormed, IsUtf8Fault, IsIllFormedPart, wtf8_lossy, replacement, IsLossyText, without_surrogate, scalar, ◌-◌, take-add, length-drop, take-take, drop-drop, drop-take, IsUtf8-append}
 use Rattle.wtf8_core.specs.Lossy.IsLossyText.{text, replaced}
-use Rattle.wtf8_core.proofs.lemmas.characters.AtIndices.{NoChar, none_at, scalar_no_surrogate}
-use Rattle.wtf8_core.proofs.lemmas.forms.{ByStd.forms_encode, ByStd.forms_prefix, Cuts.encodes_parts, Cuts.utf8_after, Ranges.in_range}
-use Rattle.wtf8_core.proofs.lemmas.units.AsFunction.{code_points_in-encoded}
-use Rattle.wtf8_core.proofs.lemmas.chunks.PartUnits.{begins_surrogate}
-use Rattle.wtf8_core.proofs.lemmas.texts.StdFaults.{fault_is}
+use Rattle.wtf8_core.proofs.lemmas.{characters.AtIndices.NoChar, characters.AtIndices.none_at, characters.AtIndices.scalar_no_surrogate, forms.ByStd.forms_encode, forms.ByStd.forms_prefix, forms.Cuts.encodes_parts, forms.Cuts.utf8_after, forms.Ranges.in_range, units.AsFunction.code_points_in-encoded, chunks.PartUnits.begins_surrogate, texts.StdFaults.fault_is}
 
 -- bytes with a fault are no text
 pub no_text : (b : List ℕ) (n : ℕ) → IsValidUpTo b n → IsUtf8 b → ⊥

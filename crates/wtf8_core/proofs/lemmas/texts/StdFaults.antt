@@ -1,7 +1,6 @@
 -- std's answer on bytes that aren't UTF-8, by the definitions.
 use Rattle.wtf8_core.proofs.Common.{common_steps, ◌≡◌, ⊎_elim, ℕ, suc, ◌+◌, ◌<◌, ◌≤◌, List, [], ◌∷◌, ◌++◌, length, take, drop, get_or, length-append, length-drop, append_assoc, take-append-drop, Option, Some, sym, ap, ◌∙◌, subst, arith, if◌then◌else◌, IsScalar, is_in_range, IsInRange, MatchOption, IsUtf8, IsValidUpTo, utf8_error_len, second_byte_min, second_byte_max, cond_both, cases_lt, nat_tests, take-take, get_or_append_left, IsUtf8-append, IsUtf8-encode, take-add, take-append_seam, IsContinuation, needed_continuations, encode, sequence_value, IsPrefixOfCharacter, IsProperPrefix, IsIllFormed, IsUtf8Fault}
-use Rattle.wtf8_core.proofs.lemmas.characters.{AtIndices.NoChar, Overlaps.form_after}
-use Rattle.wtf8_core.proofs.lemmas.forms.{Shapes.form_ascii, Shapes.form_bounds, ByStd.form_encode, Ranges.in_range-true, Ranges.in_range-false}
+use Rattle.wtf8_core.proofs.lemmas.{characters.AtIndices.NoChar, characters.Overlaps.form_after, forms.Shapes.form_ascii, forms.Shapes.form_bounds, forms.ByStd.form_encode, forms.Ranges.in_range-true, forms.Ranges.in_range-false}
 
 -- what std answers of the rest r
 abbrev Part : List ℕ → Option ℕ → Type 0

@@ -2,8 +2,7 @@
 use Rattle.wtf8_core.proofs.Common.{eq-eqb, nat_tests, common_steps, ◌≡◌, ⊎_elim, ℕ, zero, suc, ◌+◌, ◌<◌, ◌≤◌, true, List, [], ◌∷◌, ◌++◌, length, take, drop, get_or, refl, sym, ap, ◌∙◌, subst, arith, take-append-drop, get_or-take, get_or_past, length-take-le, cases_lt, cases_Bool, scalar, all_scalars, AllByRecursion, flat_map, IsUtf8, IsUtf8-nil, IsContinuation, IsCodePoint, IsSurrogate, is_surrogate, encode, IsWtf8}
 use Rattle.std.proofs.lemmas.List.{drop_more, get_or-append-add}
 use Rattle.wtf8_core.specs.Surrogate.{IsSurrogateAt}
-use Rattle.wtf8_core.proofs.lemmas.characters.AtIndices.{is_scalar}
-use Rattle.wtf8_core.proofs.lemmas.forms.{ByStd.forms_encode, Cuts.cut_before, Cuts.encodes_parts, Ranges.in_range-true, Shapes.form_surrogate}
+use Rattle.wtf8_core.proofs.lemmas.{characters.AtIndices.is_scalar, forms.ByStd.forms_encode, forms.Cuts.cut_before, forms.Cuts.encodes_parts, forms.Ranges.in_range-true, forms.Shapes.form_surrogate}
 
 -- before a byte that is no continuation both parts of WTF-8 are WTF-8
 pub cut_at_lead : (b : List ℕ) (i : ℕ) → i < length b → IsWtf8 b → (IsContinuation (get_or b i 0) → ⊥) → IsWtf8 (take i b) × IsWtf8 (drop i b)

@@ -1,10 +1,6 @@
 -- The function and the relation of units, and units of parts.
 use Rattle.wtf8_core.proofs.Common.{◌≡◌, ◌↔◌, ℕ, ◌<◌, ◌^◌, List, ◌++◌, take, drop, map, sym, ap, ◌∙◌, subst, flat_map-append, All, flat_map, All-from_recursion, recursion_from_All, IsCodePoint, encode, encode_utf16, Encodes, IsWtf8, HasUnits, units, IsWtf8LossyText, without_surrogate, ok_values, code_points_in, units_of, wtf8_lossy, IsBoundary}
-use Rattle.wtf8_core.proofs.lemmas.reader.Complete.{items_if_encoded}
-use Rattle.wtf8_core.proofs.lemmas.reader.FirstErr.{ok_values_of_oks}
-use Rattle.wtf8_core.proofs.lemmas.forms.Appending.{all_flat_map}
-use Rattle.wtf8_core.proofs.lemmas.units.OneToOne.{wide_units, IsUnit, units_once, units_encoded}
-use Rattle.wtf8_core.proofs.lemmas.forms.Cuts.{boundary_cut, encodes_parts}
+use Rattle.wtf8_core.proofs.lemmas.{reader.Complete.items_if_encoded, reader.FirstErr.ok_values_of_oks, forms.Appending.all_flat_map, units.OneToOne.wide_units, units.OneToOne.IsUnit, units.OneToOne.units_once, units.OneToOne.units_encoded, forms.Cuts.boundary_cut, forms.Cuts.encodes_parts}
 
 -- the function of code points gives those that are encoded
 pub code_points_in-encoded : (b cs : List ℕ) → Encodes b cs → code_points_in b ≡ cs

@@ -1,8 +1,6 @@
 -- Where the units of code points may be cut, and lists of code points joined.
 use Rattle.wtf8_core.proofs.Common.{◌≡◌, ⊎_elim, ℕ, Bool, true, false, cond, List, [], ◌∷◌, ◌++◌, refl, sym, ap, ◌∙◌, subst, arith, cases_lt, AllByRecursion, flat_map, IsCodePoint, encode, encode_utf16, HasNoSurrogatePair, MayPrecede, last_or, units, Encodes, IsHigh, low_unit, paired, is_pair, code_points_of}
-use Rattle.wtf8_core.proofs.lemmas.forms.Cuts.{all_parts, paired_prefix, paired_suffix}
-use Rattle.wtf8_core.proofs.lemmas.forms.Appending.{all_joined}
-use Rattle.wtf8_core.proofs.lemmas.units.OneToOne.{wide_single, wide_pair, wide_units, read_single, reads_units, may_precede, IsUnit, reading}
+use Rattle.wtf8_core.proofs.lemmas.{forms.Cuts.all_parts, forms.Cuts.paired_prefix, forms.Cuts.paired_suffix, forms.Appending.all_joined, units.OneToOne.wide_single, units.OneToOne.wide_pair, units.OneToOne.wide_units, units.OneToOne.read_single, units.OneToOne.reads_units, units.OneToOne.may_precede, units.OneToOne.IsUnit, units.OneToOne.reading}
 
 -- the parts of an encoded list are encoded
 pub encodes_prefix : (cs ds : List ℕ) → AllByRecursion IsCodePoint (cs ++ ds) → HasNoSurrogatePair (cs ++ ds) → Encodes (flat_map encode cs) cs

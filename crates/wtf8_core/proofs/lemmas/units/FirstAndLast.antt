@@ -1,15 +1,7 @@
 -- The first and the last unit of a string.
 use Rattle.wtf8_core.proofs.Common.{drop_all, ◌≡◌, ⊎_elim, ℕ, ◌+◌, ◌-◌, ◌*◌, ◌/◌, ◌%◌, ◌<◌, ◌≤◌, List, [], ◌∷◌, ◌++◌, length, take, drop, map, Result, Ok, Err, refl, sym, ap, ◌∙◌, subst, arith, append_assoc, length-append, length-drop, take-append-drop, get_or, eqb, cases_lt, eqb-true, eq-eqb, nat_tests, IsTrue, flat_map, IsLow, IsSurrogate, high_unit, low_unit, encode, encode_utf16, units, IsWtf8, units_of, AreItems, AreUnitItems, unit_items, IsPrefix, IsSuffix, EncodingError}
 use Rattle.wtf8_core.specs.Items.AreItems.{Whole, Faulty}
-use Rattle.wtf8_core.proofs.lemmas.forms.Shapes.{form_past}
-use Rattle.wtf8_core.proofs.lemmas.forms.Ranges.{low_surrogate}
-use Rattle.wtf8_core.proofs.lemmas.reader.Complete.{never_both}
-use Rattle.wtf8_core.proofs.lemmas.reader.FirstErr.{units_whole}
-use Rattle.wtf8_core.proofs.lemmas.units.OneToOne.{wide_single, wide_pair}
-use Rattle.wtf8_core.proofs.lemmas.characters.FourBytes.{four_first}
-use Rattle.wtf8_core.proofs.lemmas.forms.Cuts.{cut_before}
-use Rattle.wtf8_core.proofs.lemmas.occurrence.Wtf8.{units_of_encoded}
-use Rattle.wtf8_core.proofs.lemmas.forms.LastForms.{at_end, at_last, form_at_end, no_points, last_point, forms_last, units_last}
+use Rattle.wtf8_core.proofs.lemmas.{forms.Shapes.form_past, forms.Ranges.low_surrogate, reader.Complete.never_both, reader.FirstErr.units_whole, units.OneToOne.wide_single, units.OneToOne.wide_pair, characters.FourBytes.four_first, forms.Cuts.cut_before, occurrence.Wtf8.units_of_encoded, forms.LastForms.at_end, forms.LastForms.at_last, forms.LastForms.form_at_end, forms.LastForms.no_points, forms.LastForms.last_point, forms.LastForms.forms_last, forms.LastForms.units_last}
 
 -- the last unit, by the last code point
 last_is : (xs ys : List ℕ) (a b : ℕ) → xs ++ a ∷ [] ≡ ys ++ b ∷ [] → a ≡ b

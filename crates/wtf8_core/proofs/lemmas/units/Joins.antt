@@ -1,14 +1,7 @@
 -- Strings joined, by units: the same as by bytes, unless a high surrogate is followed by a low one.
 use Rattle.wtf8_core.proofs.Common.{◌≡◌, ℕ, ◌+◌, ◌-◌, ◌/◌, ◌%◌, ◌≤◌, List, [], ◌∷◌, ◌++◌, length, take, drop, refl, sym, ap, ◌∙◌, subst, arith, append_assoc, append-nil, length-append, take-append_seam, drop-append-add, flat_map-append, AllByRecursion, flat_map, IsCodePoint, encode, encode_utf16, HasNoSurrogatePair, MayPrecede, last_or, units, Encodes, IsWtf8, units_of, paired}
 use Rattle.wtf8_core.specs.Join.{IsJoin, IsPairBetween}
-use Rattle.wtf8_core.proofs.lemmas.forms.Ranges.{high_surrogate, low_surrogate}
-use Rattle.wtf8_core.proofs.lemmas.forms.Shapes.{form_surrogate}
-use Rattle.wtf8_core.proofs.lemmas.forms.ByStd.{forms_prefix}
-use Rattle.wtf8_core.proofs.lemmas.units.OneToOne.{wide_single, may_precede, paired_units}
-use Rattle.wtf8_core.proofs.lemmas.units.Cuts.{encodes_prefix, encodes_suffix}
-use Rattle.wtf8_core.proofs.lemmas.forms.Appending.{encodes_one, encodes_joined}
-use Rattle.wtf8_core.proofs.lemmas.occurrence.Wtf8.{units_of_encoded}
-use Rattle.wtf8_core.proofs.lemmas.forms.LastForms.{last_point, split_at_last, forms_last, units_last}
+use Rattle.wtf8_core.proofs.lemmas.{forms.Ranges.high_surrogate, forms.Ranges.low_surrogate, forms.Shapes.form_surrogate, forms.ByStd.forms_prefix, units.OneToOne.wide_single, units.OneToOne.may_precede, units.OneToOne.paired_units, units.Cuts.encodes_prefix, units.Cuts.encodes_suffix, forms.Appending.encodes_one, forms.Appending.encodes_joined, occurrence.Wtf8.units_of_encoded, forms.LastForms.last_point, forms.LastForms.split_at_last, forms.LastForms.forms_last, forms.LastForms.units_last}
 
 -- where no pair arises, the bytes joined
 pub plain_join : (a b : List ℕ) → IsWtf8 a → IsWtf8 b → ((c : ℕ) → IsPairBetween a b c → ⊥) → IsJoin IsWtf8 units_of a b (a ++ b)

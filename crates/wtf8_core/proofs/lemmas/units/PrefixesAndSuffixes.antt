@@ -1,10 +1,6 @@
 -- Prefixes and suffixes of WTF-8 by units: by bytes, but where a half of a pair is at the edge.
 use Rattle.wtf8_core.proofs.Common.{◌≡◌, ℕ, List, [], ◌∷◌, ◌++◌, refl, sym, ap, ◌∙◌, subst, arith, append_assoc, flat_map-append, append_cancel_left, append_cancel_right, AllByRecursion, flat_map, IsHigh, IsLow, IsCodePoint, encode, encode_utf16, HasNoSurrogatePair, MayPrecede, last_or, units, Encodes, IsWtf8, units_of, IsPrefix, IsSuffix}
-use Rattle.wtf8_core.proofs.lemmas.forms.Appending.{last_append, encodes_one}
-use Rattle.wtf8_core.proofs.lemmas.units.OneToOne.{wide_single, precedes_wide, may_precede}
-use Rattle.wtf8_core.proofs.lemmas.units.Cuts.{encodes_prefix, units_prefix, units_suffix, last_unit}
-use Rattle.wtf8_core.proofs.lemmas.occurrence.Wtf8.{units_of_encoded, wtf8_occurrence}
-use Rattle.wtf8_core.proofs.lemmas.forms.LastForms.{last_point, split_at_last, forms_last, units_last}
+use Rattle.wtf8_core.proofs.lemmas.{forms.Appending.last_append, forms.Appending.encodes_one, units.OneToOne.wide_single, units.OneToOne.precedes_wide, units.OneToOne.may_precede, units.Cuts.encodes_prefix, units.Cuts.units_prefix, units.Cuts.units_suffix, units.Cuts.last_unit, occurrence.Wtf8.units_of_encoded, occurrence.Wtf8.wtf8_occurrence, forms.LastForms.last_point, forms.LastForms.split_at_last, forms.LastForms.forms_last, forms.LastForms.units_last}
 
 -- what is a prefix of the code points is one of the bytes
 prefix_of_bytes : (s p cs ps es : List ℕ) → s ≡ flat_map encode cs → p ≡ flat_map encode ps → cs ≡ ps ++ es → IsPrefix p s

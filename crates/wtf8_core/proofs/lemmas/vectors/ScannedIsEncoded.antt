@@ -1,7 +1,6 @@
 -- Bytes that keep to the pattern are forms of code points.
 use Rattle.wtf8_core.proofs.Common.{common_steps, ◌≡◌, inl, inr, ⊎_elim, ℕ, zero, suc, ◌+◌, ◌/◌, ◌%◌, ◌<◌, ◌≤◌, List, [], ◌∷◌, ◌++◌, length, get_or, refl, sym, ap, ◌∙◌, subst, arith, nat_tests, cases_lt, AllByRecursion, flat_map, IsScalar, IsContinuation, IsHigh, IsSurrogate, IsCodePoint, encode, Encodes, MayPrecede, last_or, needed_continuations, least_value, IsWholeSequence, sequence_value, MayFollow, MayFollowAll, EachMayFollow, Steps, IsBetweenCodePoints}
-use Rattle.wtf8_core.proofs.lemmas.characters.AtIndices.{is_scalar}
-use Rattle.wtf8_core.proofs.lemmas.forms.{Ranges.low_surrogate, Ranges.not_in_range, Shapes.form_ascii, Shapes.form_bounds, Shapes.form_surrogate, Shapes.shape_is_form}
+use Rattle.wtf8_core.proofs.lemmas.{characters.AtIndices.is_scalar, forms.Ranges.low_surrogate, forms.Ranges.not_in_range, forms.Shapes.form_ascii, forms.Shapes.form_bounds, forms.Shapes.form_surrogate, forms.Shapes.shape_is_form}
 use Rattle.wtf8_core.specs.declared.vectors.Encoding.{Encoding, TheVariants.Utf8}
 
 -- the bytes are the form of the code point c

@@ -2,11 +2,7 @@
 use Rattle.wtf8_core.proofs.Common.{take_rest, take-length, nat_tests, common_steps, true, false, ◌≡◌, inl, inr, ◌⊎◌, ⊎_elim, ℕ, zero, suc, ◌+◌, ◌-◌, ◌<◌, ◌≤◌, List, [], ◌∷◌, ◌++◌, length, take, drop, get_or, refl, sym, ap, ◌∙◌, subst, arith, min, replicate, get_or-take, get_or-drop, get_or_append_left, get_or-append_right, get_or_past, length-append, length-take, length-take-le, length-drop, take_all, take-add, take-take, drop-drop, take-append-drop, cases_lt, and_from, AllByRecursion, IsScalar, low_scalar, scalars, IsUtf8, is_in_range, IsContinuation, is_high, Encodes, last_or, MayFollowAll, EachMayFollow, IsBetweenCodePoints, with_zeros_before, KeepsPattern, IsEncodedPrefix}
 use Rattle.std.proofs.lemmas.List.{take_more}
 use borrow.Rule.Slice.PartMut.{put_mid}
-use Rattle.wtf8_core.proofs.lemmas.forms.{Ranges.in_range, Ranges.in_range-true, Ranges.in_range-false, Ranges.not_in_range, Shapes.form_ascii, ByStd.forms_encode, Appending.all_joined, Appending.encodes_joined, Appending.encodes_more, Cuts.all_parts, Cuts.cut_before, Cuts.encodes_parts}
-use Rattle.wtf8_core.proofs.lemmas.characters.Seams.{scalars_are}
-use Rattle.wtf8_core.proofs.lemmas.texts.AreWtf8.{text_encodes}
-use Rattle.wtf8_core.proofs.lemmas.buffers.Truncated.{put_length}
-use Rattle.wtf8_core.proofs.lemmas.vectors.{PairBits.same_five, ScannedIsEncoded.IsBetweenCodePointsAt, ScannedIsEncoded.edge_of_forms, ScannedIsEncoded.steps, ScannedIsEncoded.whole}
+use Rattle.wtf8_core.proofs.lemmas.{forms.Ranges.in_range, forms.Ranges.in_range-true, forms.Ranges.in_range-false, forms.Ranges.not_in_range, forms.Shapes.form_ascii, forms.ByStd.forms_encode, forms.Appending.all_joined, forms.Appending.encodes_joined, forms.Appending.encodes_more, forms.Cuts.all_parts, forms.Cuts.cut_before, forms.Cuts.encodes_parts, characters.Seams.scalars_are, texts.AreWtf8.text_encodes, buffers.Truncated.put_length, vectors.PairBits.same_five, vectors.ScannedIsEncoded.IsBetweenCodePointsAt, vectors.ScannedIsEncoded.edge_of_forms, vectors.ScannedIsEncoded.steps, vectors.ScannedIsEncoded.whole}
 use Rattle.wtf8_core.specs.{Neighbours.IsClosed, declared.vectors.Encoding.Encoding, declared.vectors.Encoding.TheVariants.Utf8, declared.vectors.Encoding.TheVariants.Wtf8}
 
 -- where a prefix that encodes code points ends, the next code point begins

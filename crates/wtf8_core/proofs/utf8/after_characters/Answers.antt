@@ -1,6 +1,5 @@
 use Rattle.wtf8_core.proofs.Common.{List, ℕ, ◌+◌, ◌-◌, ◌≡◌, ◌≤◌, Some, length, drop, length-drop, drop-drop, ap, subst, arith, IsUtf8Fault, BeginsWith}
-use Rattle.wtf8_core.proofs.lemmas.characters.AtIndices.{character_fits, text_of_character}
-use Rattle.wtf8_core.proofs.lemmas.texts.LossyTexts.{after_prefix, fault_in_rest}
+use Rattle.wtf8_core.proofs.lemmas.{characters.AtIndices.character_fits, characters.AtIndices.text_of_character, texts.LossyTexts.after_prefix, texts.LossyTexts.fault_in_rest}
 use Rattle.wtf8_core.proofs.utf8.after_characters.Goals as goal
 
 -- the index that the length of the rest gives

@@ -1,7 +1,5 @@
 use Rattle.wtf8_core.proofs.Common.{refl}
-use Rattle.wtf8_core.proofs.lemmas.vectors.Windows.{whole_text}
-use Rattle.wtf8_core.proofs.lemmas.texts.LossyTexts.{no_text}
-use Rattle.wtf8_core.proofs.lemmas.units.PrefixTests.{never}
+use Rattle.wtf8_core.proofs.lemmas.{vectors.Windows.whole_text, texts.LossyTexts.no_text, units.PrefixTests.never}
 use Rattle.wtf8_core.proofs.utf8.is_long_utf8.Goals as goal
 
 pub returns-in-Some : goal.returns-in-Some

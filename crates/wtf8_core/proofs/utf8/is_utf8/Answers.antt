@@ -1,5 +1,4 @@
-use Rattle.wtf8_core.proofs.lemmas.texts.LossyTexts.{no_text}
-use Rattle.wtf8_core.proofs.lemmas.units.PrefixTests.{never}
+use Rattle.wtf8_core.proofs.lemmas.{texts.LossyTexts.no_text, units.PrefixTests.never}
 use Rattle.wtf8_core.proofs.utf8.is_utf8.Goals as goal
 
 pub returns-in-Some : goal.returns-in-Some
